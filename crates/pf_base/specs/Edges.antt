@@ -1,0 +1,60 @@
+-- Graphs with costs: `edges x` lists the edges of x, each as a node and the whole number that the edge costs.
+use Rattle.std.specs.Prelude.{◌≡◌, ◌⊎◌, ◌≤ℤ◌, ◌+ℤ◌, ℤ, pos, Bool, true, List, [], ◌∷◌}
+use Rattle.pf_base.specs.Walks.{IsGoalWalk, IsGoalPath, IsReachable}
+
+-- one of the edges leads to x and costs z
+abbrev pub HasEdge : {N : Type 0} → (N → N → Bool) → List (N × ℤ) → N → ℤ → Type 0
+HasEdge eq [] x z = ⊥
+HasEdge eq (e ∷ es) x z = ((eq e.0 x ≡ true) × (e.1 ≡ z)) ⊎ HasEdge eq es x z
+
+module _ {N : Type 0} (eq : N → N → Bool) (edges : N → List (N × ℤ)) where
+  -- some edge leads from a to b
+  abbrev pub IsSuccessor : N → N → Type 0
+  IsSuccessor a b = (z : ℤ) × HasEdge eq (edges a) b z
+
+  -- the step from a to b costs z: the cheapest of the parallel edges does
+  pub record StepCosts (a b : N) (z : ℤ) : Type 0 where
+    pub edge : HasEdge eq (edges a) b z
+    pub cheapest : (y : ℤ) → HasEdge eq (edges a) b y → z ≤ℤ y
+
+  -- the steps from a along w cost t in all
+  abbrev pub StepsCost : N → List N → ℤ → Type 0
+  StepsCost a [] t = t ≡ pos 0
+  StepsCost a (b ∷ w) t = (z : ℤ) × (u : ℤ) × StepCosts a b z × StepsCost b w u × (t ≡ z +ℤ u)
+
+  -- a walk costs the sum of its steps
+  abbrev pub WalkCosts : List N → ℤ → Type 0
+  WalkCosts [] t = ⊥
+  WalkCosts (a ∷ w) t = StepsCost a w t
+
+  module _ (starts : List N) where
+    -- some walk leads from a start to x
+    abbrev pub InReach : N → Type 0
+    InReach = IsReachable eq IsSuccessor starts
+
+    -- no edge of a node in reach costs less than 0
+    pub record HasNoNegativeCost : Type 0 where
+      pub from_zero : (a b : N) (z : ℤ) → InReach a → HasEdge eq (edges a) b z → pos 0 ≤ℤ z
+
+    module _ (test : N → Bool) where
+      -- no walk from a start to a node that passes the test costs less than t
+      abbrev pub NoGoalWalkCostsLess : ℤ → Type 0
+      NoGoalWalkCostsLess t = (walk : List N) (u : ℤ) → IsGoalWalk eq IsSuccessor starts test walk → WalkCosts walk u → t ≤ℤ u
+
+      -- a path from a start to a node that passes the test, which costs t, and no walk from a start to such a node costs less
+      pub record IsBestGoalPath (path : List N) (t : ℤ) : Type 0 where
+        pub goes : IsGoalPath eq IsSuccessor starts test path
+        pub costs : WalkCosts path t
+        pub best : NoGoalWalkCostsLess t
+
+  -- A cheapest path to some node and one step more do not fit, and no node that passes the test is cheaper than that node.
+  pub record IsPastRange (starts : List N) (test : N → Bool) (fits : ℤ → Type 0) : Type 0 where
+    pub node : N
+    pub path : List N
+    pub cost : ℤ
+    pub cheapest : IsBestGoalPath starts (λ y. eq y node) path cost
+    pub next : N
+    pub price : ℤ
+    pub step : StepCosts node next price
+    pub past : ¬ (fits (cost +ℤ price))
+    pub none_cheaper : NoGoalWalkCostsLess starts test cost

@@ -1,0 +1,4 @@
+pub mod Costs
+pub mod Walks
+pub mod Edges
+pub mod Answers

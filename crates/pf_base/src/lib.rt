@@ -1,0 +1,10 @@
+//! What the crates of the library share: costs, refusals, and what contracts say of functions.
+#![tactic(auto)]
+
+pub mod cost;
+pub mod error;
+pub mod functions;
+
+pub use crate::cost::{Cost, SignedCost};
+pub use crate::error::PathError;
+pub use crate::functions::{EdgeFunction, NodeTest};
