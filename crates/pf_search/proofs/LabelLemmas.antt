@@ -1,0 +1,307 @@
+-- Lemmas on labels.
+use Rattle.std.proofs.Common.{rules, ℕ, zero, suc, ◌+◌, ◌<◌, ◌≤◌, ◌≡◌, refl, sym, ◌∙◌, ap, subst, arith, Bool, true, false, List, [], ◌∷◌, ◌++◌, length, get_or, take, cond, inl, inr, ℤ, Option, Some, None, true≢false, replicate}
+use Rattle.std.specs.Prelude.{slice_get, slice_set, Contains, MatchBool, MatchOption, not, ◌≤ℤ◌, ◌<ℤ◌, ◌+ℤ◌, ◌⊎◌}
+use Rattle.std.proofs.lemmas.Int.{ints}
+use Rattle.std.proofs.lemmas.List.Sums.{sum_by-append}
+use Rattle.std.proofs.lemmas.List.Folds.{sum_by-replicate}
+use Rattle.std.proofs.lemmas.Option.{slice_get_within}
+use Rattle.pf_search.specs.declared.labels.Label.{Label}
+use Rattle.pf_search.specs.Labels.{Labels, HasLabel, is_settled, settled_count, depth_of, AllSettled, IsTree, IsWithin, Settles, Lowered, ComesFrom, Covers, Stepped, Relaxed, Widened}
+use Rattle.pf_search.proofs.ListLemmas.{nat_dec, bool_dec, get_set, none_in, get-append, count_by-set, count_by-set_more, Contains-take_more, Contains-take, Contains-take_here}
+
+pub HasLabel-inside : {C : Type 0} (labels : Labels C) (k : ℕ) (l : Label C) → HasLabel labels k l → k < length labels
+HasLabel-inside labels k l h = slice_get_within labels k (Some l) h
+
+-- a number has one label
+pub label_is : {C : Type 0} (labels : Labels C) (k : ℕ) (l m : Label C) → HasLabel labels k l → HasLabel labels k m → l ≡ m
+label_is labels k l m h g = let e : Some (Some l) ≡ Some (Some m) = sym h ∙ g in cc
+
+pub none_has_none : {C : Type 0} (labels : Labels C) (n : ℕ) → slice_get labels n ≡ Some None → (m : Label C) → ¬ (HasLabel labels n m)
+none_has_none labels n h m k = let e : Some None ≡ Some (Some m) = sym h ∙ k in cc
+
+-- what holds of the label of a number holds of each label that it has
+pub of_label : {C : Type 0} (P : Label C → Type 0) (labels : Labels C) (k : ℕ) (l : Label C) → HasLabel labels k l → P l → (m : Label C) → HasLabel labels k m → P m
+of_label P labels k l h p m g = subst P (label_is labels k l m h g) p
+
+pub depth_is : {C : Type 0} (labels : Labels C) (k : ℕ) (l : Label C) → HasLabel labels k l → depth_of (slice_get labels k) ≡ l.depth
+depth_is labels k l h = ap depth_of h
+
+module _ {C : Type 0} (value : C → ℤ) where
+  module _ (labels : Labels C) (next : ℕ) (new : Label C) (opened : new.settled ≡ false) where
+    -- nothing changes where the label that is there is settled or costs no more
+    pub Lowered-none : (l : Label C) → HasLabel labels next l → IsWithin value l (value new.cost) → Lowered value next new labels labels
+    Lowered-none l h w = record {
+      len = refl;
+      reached = (l, h, w);
+      others = λ k m i. inl i;
+      from = λ k m i. inl i;
+      count = refl;
+    }
+
+    module _ (inside : next < length labels) (less : (l : Label C) → HasLabel labels next l → (l.settled ≡ false) × (value new.cost <ℤ value l.cost)) where
+      after : Labels C
+      after = slice_set labels next (Some new)
+
+      there : HasLabel (slice_set labels next (Some new)) next new
+      there = elim (get_set labels next next (Some new) inside) as (λ _. HasLabel (slice_set labels next (Some new)) next new) [ inl r ↦ r.1 | inr r ↦ absurd (r.0 refl) ]
+
+      same_count : (o : Option (Option (Label C))) → slice_get labels next ≡ o → settled_count (slice_set labels next (Some new)) ≡ settled_count labels
+      same_count None h = absurd (past labels next h inside)
+        where
+          past : (xs : Labels C) (k : ℕ) → slice_get xs k ≡ None → k < length xs → ⊥
+          past [] k e l = omega (arith, l)
+          past (x ∷ xs) zero e l = cc
+          past (x ∷ xs) (suc k) e l = past xs k e (omega (arith, l))
+      same_count (Some None) h = count_by-set is_settled labels next (Some new) None h opened
+      same_count (Some (Some l)) h = count_by-set is_settled labels next (Some new) (Some l) h (opened ∙ sym (less l h).0)
+
+      pub Lowered-set : Lowered value next new labels (slice_set labels next (Some new))
+      Lowered-set = record {
+        len = search rules;
+        reached = (new, there, inr (omega (arith, ints)));
+        others = λ k l h. elim (get_set labels next k (Some new) inside) as (λ _. HasLabel (slice_set labels next (Some new)) k l ⊎ ((k ≡ next) × (l.settled ≡ false) × (value new.cost <ℤ value l.cost))) [
+          | inl r ↦ let q = less l (subst (λ i. HasLabel labels i l) r.0 h) in inr (r.0, q.0, q.1)
+          | inr r ↦ inl (r.1 ∙ h)
+        ];
+        from = λ k m h. elim (get_set labels next k (Some new) inside) as (λ _. HasLabel labels k m ⊎ ((k ≡ next) × (m ≡ new))) [
+          | inl r ↦ inr (r.0, let e : Some (Some new) ≡ Some (Some m) = sym r.1 ∙ h in cc)
+          | inr r ↦ inl (sym r.1 ∙ h)
+        ];
+        count = same_count (slice_get labels next) refl;
+      }
+
+  module _ (fits : ℤ → Type 0) (parent : ℕ) (l : Label C) where
+    pub Stepped-none : (next : ℕ) (price : C) (labels : Labels C) → ¬ (fits (value l.cost +ℤ value price)) → Stepped value fits parent l next price labels labels
+    Stepped-none next price labels never = record { len = refl; reached = λ f. absurd (never f); others = λ k m h. inl h; from = λ k m h. inl h; count = refl }
+
+    pub Stepped-from : (next : ℕ) (price total : C) (labels labels' : Labels C) → fits (value l.cost +ℤ value price) → value total ≡ value l.cost +ℤ value price
+        → Lowered value next (record { cost = total; parent = parent; depth = l.depth + 1; settled = false }) labels labels' → Stepped value fits parent l next price labels labels'
+    Stepped-from next price total labels labels' f e low = record {
+      len = low.len;
+      reached = λ _. (low.reached.0, low.reached.1, subst (λ z. IsWithin value low.reached.0 z) e low.reached.2);
+      others = λ k m h. elim (low.others k m h) as (λ _. HasLabel labels' k m ⊎ ((k ≡ next) × (m.settled ≡ false) × ((value l.cost +ℤ value price) <ℤ value m.cost) × fits (value l.cost +ℤ value price))) [
+        | inl i ↦ inl i
+        | inr i ↦ inr (i.0, i.1, subst (λ z. z <ℤ value m.cost) e i.2, f)
+      ];
+      from = λ k m h. elim (low.from k m h) as (λ _. HasLabel labels k m ⊎ ((k ≡ next) × ComesFrom value parent l price m)) [
+        | inl i ↦ inl i
+        | inr i ↦ inr (
+          i.0,
+          record {
+            before = ap (λ (n : Label C). n.parent) i.1;
+            deeper = ap (λ (n : Label C). n.depth) i.1;
+            opened = ap (λ (n : Label C). n.settled) i.1;
+            sum = ap (λ (n : Label C). value n.cost) i.1 ∙ e;
+          },
+        )
+      ];
+      count = low.count;
+    }
+
+    pub Relaxed-start : (row : List (ℕ × C)) (labels : Labels C) → Relaxed value parent l row labels labels
+    Relaxed-start row labels = record { len = refl; others = λ k m h. inl h; from = λ k m h. inl h; count = refl }
+
+    module _ (next : ℕ) (price : C) (row row' : List (ℕ × C)) (more : (x : ℕ × C) → Contains row x → Contains row' x) (here : Contains row' (next, price))
+        (labels mid labels' : Labels C) (step : Stepped value fits parent l next price mid labels') where
+      pub Relaxed-more : Relaxed value parent l row labels mid → Relaxed value parent l row' labels labels'
+      Relaxed-more rel = record {
+        len = step.len ∙ rel.len;
+        others = λ k m h. elim (rel.others k m h) as (λ _. HasLabel labels' k m ⊎ ((m.settled ≡ false) × ((c : C) × Contains row' (k, c) × ((value l.cost +ℤ value c) <ℤ value m.cost)))) [
+          | inl i ↦ elim (step.others k m i) as (λ _. HasLabel labels' k m ⊎ ((m.settled ≡ false) × ((c : C) × Contains row' (k, c) × ((value l.cost +ℤ value c) <ℤ value m.cost)))) [
+            | inl j ↦ inl j
+            | inr j ↦ inr (j.1, (price, subst (λ (n : ℕ). Contains row' (n, price)) (sym j.0) here, j.2))
+          ]
+          | inr i ↦ inr (i.0, (i.1.0, more _ i.1.1, i.1.2))
+        ];
+        from = λ k m h. elim (step.from k m h) as (λ _. HasLabel labels k m ⊎ ((c : C) × Contains row' (k, c) × ComesFrom value parent l c m)) [
+          | inl i ↦ elim (rel.from k m i) as (λ _. HasLabel labels k m ⊎ ((c : C) × Contains row' (k, c) × ComesFrom value parent l c m)) [
+            | inl j ↦ inl j
+            | inr j ↦ inr (j.0, more _ j.1, j.2)
+          ]
+          | inr i ↦ inr (price, subst (λ (n : ℕ). Contains row' (n, price)) (sym i.0) here, i.1)
+        ];
+        count = step.count ∙ rel.count;
+      }
+
+      -- a label that covers a step still does, or the label that took its place
+      pub Covers-stays : (j : ℕ) (c : C) → Covers value l mid j c → Covers value l labels' j c
+      Covers-stays j c cov = elim (step.others j cov.0 cov.1) as (λ _. Covers value l labels' j c) [
+        | inl i ↦ (cov.0, i, cov.2)
+        | inr i ↦ let r = step.reached i.3 in (
+          r.0,
+          subst (λ n. HasLabel labels' n r.0) (sym i.0) r.1,
+          elim r.2 as (λ _. IsWithin value r.0 (value l.cost +ℤ value c)) [
+            | inl t ↦ inl t
+            | inr low ↦ elim cov.2 as (λ _. IsWithin value r.0 (value l.cost +ℤ value c)) [
+              | inl t ↦ absurd (true≢false (sym t ∙ i.1))
+              | inr was ↦ inr (omega (arith, ints, low, was, i.2))
+            ]
+          ],
+        )
+      ]
+
+      pub Covers-here : (j : ℕ) (c : C) → ◌≡◌ {A = ℕ × C} (next, price) (j, c) → fits (value l.cost +ℤ value c) → Covers value l labels' j c
+      Covers-here j c e f =
+          let a : next ≡ j = ap (λ (x : ℕ × C). x.0) e in
+          let b : price ≡ c = ap (λ (x : ℕ × C). x.1) e in
+          let r = step.reached (subst (λ (p : C). fits (value l.cost +ℤ value p)) (sym b) f) in
+          (r.0, subst (λ n. HasLabel labels' n r.0) a r.1, subst (λ (p : C). IsWithin value r.0 (value l.cost +ℤ value p)) b r.2)
+
+  module _ (fits : ℤ → Type 0) (parent : ℕ) (l : Label C) (row : List (ℕ × C)) (i : ℕ) (item : ℕ × C) (is : item ≡ get_or row i item) (inside : i < length row)
+      (mid labels' : Labels C) (step : Stepped value fits parent l item.0 item.1 mid labels') where
+    pub reached_more : ((j : ℕ) (c : C) → Contains (take i row) (j, c) → fits (value l.cost +ℤ value c) → Covers value l mid j c)
+        → (j : ℕ) (c : C) → Contains (take (i + 1) row) (j, c) → fits (value l.cost +ℤ value c) → Covers value l labels' j c
+    reached_more before j c k f = elim (Contains-take_more row i item (j, c) k) as (λ _. Covers value l labels' j c) [
+      | inl b ↦ Covers-stays fits parent l item.0 item.1 (take i row) (take (i + 1) row) (λ x h. Contains-take row i x h) (Contains-take_here row i item inside is) mid mid labels' step j c (before j c b f)
+      | inr e ↦ Covers-here fits parent l item.0 item.1 (take i row) (take (i + 1) row) (λ x h. Contains-take row i x h) (Contains-take_here row i item inside is) mid mid labels' step j c (is ∙ e) f
+    ]
+
+  -- an open label of least cost is settled
+  module _ (labels : Labels C) (k : ℕ) (l : Label C) (at : HasLabel labels k l) (opened : l.settled ≡ false) where
+    abbrev done : Label C
+    done = record l { settled = true }
+
+    inside_l : k < length labels
+    inside_l = HasLabel-inside labels k l at
+
+    pub Settles-set : ((j : ℕ) (m : Label C) → HasLabel labels j m → m.settled ≡ false → value l.cost ≤ℤ value m.cost) → Settles value k l labels (slice_set labels k (Some (record l { settled = true })))
+    Settles-set least = record {
+      len = search rules;
+      was = at;
+      opened = opened;
+      now = elim (get_set labels k k (Some done) inside_l) as (λ _. HasLabel (slice_set labels k (Some done)) k done) [ inl r ↦ r.1 | inr r ↦ absurd (r.0 refl) ];
+      others = λ j m ne h. elim (get_set labels k j (Some done) inside_l) as (λ _. HasLabel (slice_set labels k (Some done)) j m) [ inl r ↦ absurd (ne r.0) | inr r ↦ r.1 ∙ h ];
+      from = λ j m ne h. elim (get_set labels k j (Some done) inside_l) as (λ _. HasLabel labels j m) [ inl r ↦ absurd (ne r.0) | inr r ↦ sym r.1 ∙ h ];
+      least = least;
+      count = count_by-set_more is_settled labels k (Some done) (Some l) at opened refl;
+    }
+
+module _ {C : Type 0} (value : C → ℤ) (fits : ℤ → Type 0) (labels : Labels C) (row : List (ℕ × C)) (i : ℕ) (item : ℕ × C) (is : item ≡ get_or row i item) where
+  pub covers_more : ((j : ℕ) (c : C) → Contains (take i row) (j, c) → (m : Label C) × HasLabel labels j m × fits (value m.cost)) → (l : Label C) → HasLabel labels item.0 l → fits (value l.cost)
+      → (j : ℕ) (c : C) → Contains (take (i + 1) row) (j, c) → (m : Label C) × HasLabel labels j m × fits (value m.cost)
+  covers_more before l h f j c k = elim (Contains-take_more row i item (j, c) k) as (λ _. (m : Label C) × HasLabel labels j m × fits (value m.cost)) [
+    | inl b ↦ before j c b
+    | inr e ↦ (l, subst (λ (x : ℕ × C). HasLabel labels x.0 l) (is ∙ e) h, f)
+  ]
+
+module _ {C : Type 0} where
+  -- entries of nothing add no label
+  from_wider : (labels : Labels C) (n k : ℕ) (l : Label C) → HasLabel (labels ++ replicate n None) k l → HasLabel labels k l
+  from_wider [] zero k l h = absurd (none_in k (Some l) h)
+  from_wider [] (suc n) zero l h = let e : Some None ≡ Some (Some l) = h in cc
+  from_wider [] (suc n) (suc k) l h = absurd (none_in k (Some l) (from_wider [] n k l h))
+  from_wider (x ∷ xs) n zero l h = h
+  from_wider (x ∷ xs) n (suc k) l h = from_wider xs n k l h
+
+  pub Widened-more : (labels labels' : Labels C) (n m : ℕ) → labels' ≡ labels ++ replicate m None → length labels' ≡ n → Widened n labels labels'
+  Widened-more labels labels' n m e len = record {
+    len = len;
+    stays = λ k l h. subst (λ (xs : Labels C). HasLabel xs k l) (sym e) (get-append labels (replicate m None) k (Some l) h);
+    from = λ k l h. from_wider labels m k l (subst (λ (xs : Labels C). HasLabel xs k l) e h);
+    count =
+        let f : Option (Label C) → ℕ = λ o. cond (is_settled o) 1 0 in
+        omega (arith, ap settled_count e, sum_by-append f labels (replicate m None), sum_by-replicate f m None);
+  }
+
+-- what the search for the least open label has seen of the first n
+abbrev pub IsLeastOpen : {C : Type 0} → (C → ℤ) → Labels C → ℕ → Option (ℕ × Label C) → Type 0
+IsLeastOpen {C} value labels n least = MatchOption least
+    ((j : ℕ) (m : Label C) → j < n → HasLabel labels j m → m.settled ≡ true)
+    (λ r. HasLabel labels r.0 r.1 × (r.1.settled ≡ false)
+    × ((j : ℕ) (m : Label C) → j < n → HasLabel labels j m → m.settled ≡ false → value r.1.cost ≤ℤ value m.cost))
+
+module _ {C : Type 0} (value : C → ℤ) (labels : Labels C) (n : ℕ) where
+  up_to : (j : ℕ) → j < n + 1 → (j < n) ⊎ (j ≡ n)
+  up_to j h = elim (nat_dec j n) as (λ _. (j < n) ⊎ (j ≡ n)) [ inl e ↦ inr e | inr e ↦ inl (omega (arith, e)) ]
+
+  -- one more label, which is the least so far
+  pub IsLeastOpen-new : (least : Option (ℕ × Label C)) (l : Label C) → IsLeastOpen value labels n least → HasLabel labels n l → l.settled ≡ false
+      → MatchOption least (true ≡ true) (λ r. value l.cost <ℤ value r.1.cost) → IsLeastOpen value labels (n + 1) (Some (n, l))
+  IsLeastOpen-new None l i h o b = (
+    h,
+    o,
+    λ j m lt g t. elim (up_to j lt) as (λ _. value l.cost ≤ℤ value m.cost) [
+      | inl e ↦ absurd (true≢false (sym (i j m e g) ∙ t))
+      | inr e ↦ subst (λ (k : Label C). value l.cost ≤ℤ value k.cost) (label_is labels n l m h (subst (λ (k : ℕ). HasLabel labels k m) e g)) (omega (arith, ints))
+    ],
+  )
+  IsLeastOpen-new (Some r) l i h o b = (
+    h,
+    o,
+    λ j m lt g t. elim (up_to j lt) as (λ _. value l.cost ≤ℤ value m.cost) [
+      | inl e ↦ let low = i.2 j m e g t in omega (arith, ints, b)
+      | inr e ↦ subst (λ (k : Label C). value l.cost ≤ℤ value k.cost) (label_is labels n l m h (subst (λ (k : ℕ). HasLabel labels k m) e g)) (omega (arith, ints))
+    ],
+  )
+
+  -- one more place, whose label, if there is one, changes nothing
+  IsLeastOpen-same : (least : Option (ℕ × Label C)) → IsLeastOpen value labels n least
+      → ((m : Label C) → HasLabel labels n m → m.settled ≡ false → MatchOption least (false ≡ true) (λ r. value r.1.cost ≤ℤ value m.cost)) → IsLeastOpen value labels (n + 1) least
+  IsLeastOpen-same None i b = λ j m lt g. elim (up_to j lt) as (λ _. m.settled ≡ true) [
+    | inl e ↦ i j m e g
+    | inr e ↦ elim (bool_dec m.settled) as (λ _. m.settled ≡ true) [
+      | inl t ↦ t
+      | inr f ↦ absurd (true≢false (sym (b m (subst (λ (k : ℕ). HasLabel labels k m) e g) f)))
+    ]
+  ]
+  IsLeastOpen-same (Some r) i b = (
+    i.0,
+    i.1,
+    λ j m lt g t. elim (up_to j lt) as (λ _. value r.1.cost ≤ℤ value m.cost) [
+      | inl e ↦ i.2 j m e g t
+      | inr e ↦ b m (subst (λ (k : ℕ). HasLabel labels k m) e g) t
+    ],
+  )
+
+  -- an open label that is not below the least so far
+  pub IsLeastOpen-above : (least : Option (ℕ × Label C)) (l : Label C) → IsLeastOpen value labels n least → HasLabel labels n l → MatchOption least (false ≡ true) (λ r. value r.1.cost ≤ℤ value l.cost) → IsLeastOpen value labels (n + 1) least
+  IsLeastOpen-above None l i h b = absurd (true≢false (sym b))
+  IsLeastOpen-above (Some r) l i h b = IsLeastOpen-same (Some r) i (λ m g o. subst (λ (k : Label C). value r.1.cost ≤ℤ value k.cost) (label_is labels n l m h g) b)
+
+  pub IsLeastOpen-settled : (least : Option (ℕ × Label C)) (l : Label C) → IsLeastOpen value labels n least → HasLabel labels n l → l.settled ≡ true → IsLeastOpen value labels (n + 1) least
+  IsLeastOpen-settled least l i h t = IsLeastOpen-same least i (λ m g o. absurd (true≢false (sym t ∙ ap (λ (k : Label C). k.settled) (label_is labels n l m h g) ∙ o)))
+
+  pub IsLeastOpen-none : (least : Option (ℕ × Label C)) → IsLeastOpen value labels n least → slice_get labels n ≡ Some None → IsLeastOpen value labels (n + 1) least
+  IsLeastOpen-none least i h = IsLeastOpen-same least i (λ m g o. absurd (none_has_none labels n h m g))
+
+-- what it has seen of all
+pub IsLeastOpen-all : {C : Type 0} (value : C → ℤ) (labels : Labels C) (n : ℕ) (least : Option (ℕ × Label C)) → length labels ≤ n → IsLeastOpen value labels n least
+    → MatchOption least (AllSettled labels) (λ r. HasLabel labels r.0 r.1 × (r.1.settled ≡ false) × ((j : ℕ) (m : Label C) → HasLabel labels j m → m.settled ≡ false → value r.1.cost ≤ℤ value m.cost))
+IsLeastOpen-all value labels n None all i = λ j m h. i j m (omega (arith, HasLabel-inside labels j m h, all)) h
+IsLeastOpen-all value labels n (Some r) all i = (i.0, i.1, λ j m h. i.2 j m (omega (arith, HasLabel-inside labels j m h, all)) h)
+
+module _ {C : Type 0} (value : C → ℤ) (labels : Labels C) (next : ℕ) (label : Label C) (total : C) (at : HasLabel labels next label) where
+  -- what the comparison with an open label says
+  pub improves_at : (r : Bool) → label.settled ≡ false → MatchBool r (value total <ℤ value label.cost) (value label.cost ≤ℤ value total)
+      → MatchBool r ((l : Label C) → HasLabel labels next l → (l.settled ≡ false) × (value total <ℤ value l.cost)) ((l : Label C) × HasLabel labels next l × IsWithin value l (value total))
+  improves_at true o h = of_label (λ l. (l.settled ≡ false) × (value total <ℤ value l.cost)) labels next label at (o, h)
+  improves_at false o h = (label, at, inr h)
+
+  -- a settled label stays
+  pub settled_stays : label.settled ≡ true → MatchBool (not label.settled) ((l : Label C) → HasLabel labels next l → (l.settled ≡ false) × (value total <ℤ value l.cost)) ((l : Label C) × HasLabel labels next l × IsWithin value l (value total))
+  settled_stays t = subst (λ b. MatchBool b ((l : Label C) → HasLabel labels next l → (l.settled ≡ false) × (value total <ℤ value l.cost)) ((l : Label C) × HasLabel labels next l × IsWithin value l (value total))) (sym (ap not t)) (label, at, inl t)
+
+-- the parent of a label that is not the first has a settled label, which is one less deep
+pub parent_labelled : {C : Type 0} (labels : Labels C) → IsTree labels → (k : ℕ) (l : Label C) → HasLabel labels k l → 0 < l.depth → (m : Label C) × HasLabel labels l.parent m × (m.settled ≡ true) × (l.depth ≡ m.depth + 1)
+parent_labelled labels tree k l h deep = elim (tree.linked k l h) as (λ _. (m : Label _) × HasLabel labels l.parent m × (m.settled ≡ true) × (l.depth ≡ m.depth + 1)) [
+  | inl r ↦ absurd (omega (arith, deep, r.1))
+  | inr r ↦ r
+]
+
+-- labels of one number alone
+module _ {C : Type 0} (labels : Labels C) (first : Label C) (e : labels ≡ Some first ∷ []) where
+  pub only : (k : ℕ) (l : Label C) → HasLabel labels k l → (k ≡ 0) × (l ≡ first)
+  only k l h = by k (subst (λ (xs : Labels C). HasLabel xs k l) e h)
+    where
+      by : (k : ℕ) → HasLabel (Some first ∷ []) k l → (k ≡ 0) × (l ≡ first)
+      by zero g = let q : Some (Some first) ≡ Some (Some l) = g in let r : first ≡ l = cc in (refl, sym r)
+      by (suc k) g = absurd (none_in k (Some l) g)
+
+  pub first_is : HasLabel labels 0 first
+  first_is = subst (λ (xs : Labels C). HasLabel xs 0 first) (sym e) refl
+
+  pub tree_start : first.depth ≡ 0 → IsTree labels
+  tree_start flat = record { linked = λ k l h. let o = only k l h in inl (o.0, ap (λ (m : Label C). m.depth) o.1 ∙ flat) }
+
+  pub deep_start : first.depth ≡ 0 → (n : ℕ) (k : ℕ) (l : Label C) → HasLabel labels k l → l.depth ≤ n
+  deep_start flat n k l h = let o = only k l h in omega (arith, ap (λ (m : Label C). m.depth) o.1, flat)

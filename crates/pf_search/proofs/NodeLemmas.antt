@@ -1,0 +1,281 @@
+-- Lemmas on nodes and their numbers.
+use Rattle.std.proofs.Common.{◌≡◌, ℕ, zero, suc, ◌<◌, ◌≤◌, Bool, true, false, Option, Some, List, [], ◌∷◌, ◌++◌, ◌∙◌, slice_get, length, take, refl, sym, ap, subst, arith, length-append, Bor, inl, inr, ℤ}
+use Rattle.std.specs.Prelude.{Contains, ◌⊎◌}
+use Rattle.std.specs.Cmp.{IsEquivalence}
+use Rattle.std.specs.Iterator.{Count, Drains, IsFiniteIterable}
+use Rattle.std.specs.Fn.{Called, Mut}
+use Rattle.std.specs.List.{IsDistinct, AllByRecursion}
+use Rattle.std.proofs.iter.runs.Made.{run, to_end, seen}
+use Rattle.std.proofs.lemmas.List.{take-append-le}
+use Rattle.std.proofs.lemmas.List.Elements.{Contains-append_left, Contains-push}
+use Rattle.std.proofs.lemmas.Option.{slice_get_within}
+use Rattle.pf_base.specs.Walks.{HasNode, Follows, IsWalk, end_of, BeginsAt, EndsAt}
+use Rattle.pf_base.specs.Edges.{HasEdge, IsSuccessor, InReach}
+use Rattle.pf_base.specs.Answers.{ListsEdges, Gives, Answers, AnswersGraph, AnswersTest}
+use Rattle.pf_search.specs.Numbered.{ListsSteps, Grows}
+use Rattle.pf_search.specs.Nodes.{NodeGraph, StandsFor, IsStep, AddsNode, NumbersItems, AddedFrom, Explores}
+use Rattle.pf_search.proofs.ListLemmas.{Contains-head, Contains-tail, Contains-cases, get-append_cases, take_get, get_take, none_in}
+use Rattle.pf_search.proofs.FrontierLemmas.{end_more}
+
+module _ {F N R : Type 0} (g : Mut F (Bor N × Unit {0}) R) (within : N → Type 0) (gives : N → R → Type 0) where
+  pub Answers-takes : {f : F} → Answers g within gives f → (x : Bor N) → within x.now → g.pre f (x, tt)
+  Answers-takes h x w = (h.at (x ∷ []) w).0
+
+  pub Answers-gives : {f : F} → Answers g within gives f → (x : Bor N) → within x.now → (r : R) (f' : F) → Called g f (x, tt) r f' → gives x.now r
+  Answers-gives h x w r f' k = ((h.at (x ∷ []) w).1 r f' k).0
+
+  pub Answers-on : {f : F} → Answers g within gives f → (x : Bor N) → within x.now → (r : R) (f' : F) → Called g f (x, tt) r f' → Answers g within gives f'
+  Answers-on h x w r f' k = record { at = λ xs. ((h.at (x ∷ xs) w).1 r f' k).1 }
+
+-- what is drained from an answer is what it gives
+pub Gives-drains : {I S A : Type 0} (becomes : I → S → Type 0) (can : S → Type 0) (left : S → Count) (steps : S → Option A → S → Type 0) (P : List A → Type 0) (r : I) → Gives becomes can left steps P r
+    → (it : S) (xs : List A) → becomes r it → Drains steps it xs → P xs
+Gives-drains becomes can left steps P r g it xs b d = g.items it b (run steps it xs true (to_end steps it xs d)) (seen (length xs)) refl refl
+
+pub Gives-ends : {I S A : Type 0} (becomes : I → S → Type 0) (can : S → Type 0) (left : S → Count) (steps : S → Option A → S → Type 0) (P : List A → Type 0) (r : I) → Gives becomes can left steps P r → IsFiniteIterable becomes can left r
+Gives-ends becomes can left steps P r g it b = (g.can_next it b, g.finite it b)
+
+-- the list with one more element at its end
+module _ {N : Type 0} (eq : N → N → Bool) where
+  none_by : (xs : List N) (x : N) → ((k : ℕ) (m : N) → slice_get xs k ≡ Some m → eq m x ≡ false) → AllByRecursion (λ y. eq y x ≡ false) xs
+  none_by [] x h = tt
+  none_by (y ∷ ys) x h = (h 0 y refl, none_by ys x (λ k m g. h (suc k) m g))
+
+  all_push : (P : N → Type 0) (xs : List N) (x : N) → AllByRecursion P xs → P x → AllByRecursion P (xs ++ x ∷ [])
+  all_push P [] x a p = (p, tt)
+  all_push P (y ∷ ys) x a p = (a.0, all_push P ys x a.1 p)
+
+  distinct_push : (xs : List N) (x : N) → IsDistinct eq xs → AllByRecursion (λ y. eq y x ≡ false) xs → IsDistinct eq (xs ++ x ∷ [])
+  unfolding IsDistinct
+  distinct_push [] x d n = (tt, tt)
+  distinct_push (y ∷ ys) x d n = (all_push (λ z. eq y z ≡ false) ys x d.0 n.0, distinct_push ys x d.1 n.1)
+
+  pub AddsNode-new : (keys keys' : List N) (x : N) → keys' ≡ keys ++ x ∷ [] → ((k : ℕ) (m : N) → slice_get keys k ≡ Some m → eq m x ≡ false) → AddsNode eq x keys keys'
+  AddsNode-new keys keys' x e new = subst (AddsNode eq x keys) (sym e) (record {
+    longer = omega (arith, length-append keys (x ∷ []));
+    kept = take-append-le (length keys) keys (x ∷ []) (omega arith) ∙ take_same keys;
+    from = λ k m h. elim (get-append_cases keys x k m h) as (λ _. slice_get keys k ≡ Some m ⊎ (m ≡ x)) [ inl i ↦ inl i | inr i ↦ inr (sym i) ];
+    distinct = λ d. distinct_push keys x d (none_by keys x new);
+  })
+    where
+      take_same : (xs : List N) → take (length xs) xs ≡ xs
+      take_same [] = refl
+      take_same (y ∷ ys) = ap (λ zs. y ∷ zs) (take_same ys)
+
+  pub AddsNode-old : (keys : List N) (x : N) → AddsNode eq x keys keys
+  AddsNode-old keys x = record { longer = omega arith; kept = take_same keys; from = λ k m h. inl h; distinct = λ d. d }
+    where
+      take_same : (xs : List N) → take (length xs) xs ≡ xs
+      take_same [] = refl
+      take_same (y ∷ ys) = ap (λ zs. y ∷ zs) (take_same ys)
+
+  pub get_last : (xs : List N) (x : N) → slice_get (xs ++ x ∷ []) (length xs) ≡ Some x
+  get_last [] x = refl
+  get_last (y ∷ ys) x = get_last ys x
+
+  pub AddsNode-stays : (x : N) (keys keys' : List N) → AddsNode eq x keys keys' → (k : ℕ) (m : N) → slice_get keys k ≡ Some m → slice_get keys' k ≡ Some m
+  AddsNode-stays x keys keys' a k m h = take_get (length keys) keys' k m (subst (λ (zs : List N). slice_get zs k ≡ Some m) (sym a.kept) h)
+
+  -- a longer list keeps what a shorter one kept
+  pub take_longer : (n : ℕ) (keys keys' : List N) → n ≤ length keys → take (length keys) keys' ≡ keys → take n keys' ≡ take n keys
+  take_longer n keys keys' l h = sym (take_both n keys keys' l h)
+    where
+      take_both : (n : ℕ) (xs ys : List N) → n ≤ length xs → take (length xs) ys ≡ xs → take n xs ≡ take n ys
+      take_both zero [] [] l h = refl
+      take_both zero [] (y ∷ ys) l h = refl
+      take_both zero (x ∷ xs) [] l h = refl
+      take_both zero (x ∷ xs) (y ∷ ys) l h = refl
+      take_both (suc n) [] ys l h = absurd (omega (arith, l))
+      take_both (suc n) (x ∷ xs) [] l h = cc
+      take_both (suc n) (x ∷ xs) (y ∷ ys) l h = let a : y ≡ x = cc in let b : take (length xs) ys ≡ xs = cc in ap (λ (z : N). z ∷ take n xs) (sym a) ∙ ap (λ zs. y ∷ zs) (take_both n xs ys (omega (arith, l)) b)
+
+  module _ (laws : IsEquivalence eq) where
+    pub eq-sym : (x y : N) → eq x y ≡ true → eq y x ≡ true
+    eq-sym x y h = laws.symm y x ∙ h
+
+    pub eq-trans : (x y z : N) → eq x y ≡ true → eq y z ≡ true → eq x z ≡ true
+    eq-trans x y z h k = laws.congr x y z h ∙ k
+
+    pub StandsFor-same : (keys : List N) (k : ℕ) (x y : N) → StandsFor eq keys k x → eq x y ≡ true → StandsFor eq keys k y
+    StandsFor-same keys k x y s e = (s.0, s.1, eq-trans s.0 x y s.2 e)
+
+  module _ {C : Type 0} where
+    pub Numbers-grow : (ks ks' : List N) (row : List (ℕ × C)) (xs : List (N × C)) → ((k : ℕ) (m : N) → slice_get ks k ≡ Some m → slice_get ks' k ≡ Some m) → NumbersItems eq ks row xs → NumbersItems eq ks' row xs
+    Numbers-grow ks ks' [] [] more h = tt
+    Numbers-grow ks ks' [] (x ∷ xs) more h = absurd h
+    Numbers-grow ks ks' (r ∷ row) [] more h = absurd h
+    Numbers-grow ks ks' (r ∷ row) (x ∷ xs) more h = (((h.0.0.0, more r.0 h.0.0.0 h.0.0.1, h.0.0.2), h.0.1), Numbers-grow ks ks' row xs more h.1)
+
+    pub Numbers-push : (ks : List N) (row : List (ℕ × C)) (xs : List (N × C)) (j : ℕ) (c : C) (x : N) → NumbersItems eq ks row xs → StandsFor eq ks j x → NumbersItems eq ks (row ++ (j, c) ∷ []) (xs ++ (x, c) ∷ [])
+    Numbers-push ks [] [] j c x h s = ((s, refl), tt)
+    Numbers-push ks [] (y ∷ ys) j c x h s = absurd h
+    Numbers-push ks (q ∷ row) [] j c x h s = absurd h
+    Numbers-push ks (q ∷ row) (y ∷ ys) j c x h s = (h.0, Numbers-push ks row ys j c x h.1 s)
+
+    pub AddedFrom-push : (start ks ks' : List N) (xs : List (N × C)) (c : C) (x : N) → AddsNode eq x ks ks' → AddedFrom eq xs start ks → AddedFrom eq (xs ++ (x, c) ∷ []) start ks'
+    AddedFrom-push start ks ks' xs c x e a k m h = elim (e.from k m h) as (λ _. slice_get start k ≡ Some m ⊎ ((d : C) × Contains (xs ++ (x, c) ∷ []) (m, d))) [
+      | inl g ↦ elim (a k m g) as (λ _. slice_get start k ≡ Some m ⊎ ((d : C) × Contains (xs ++ (x, c) ∷ []) (m, d))) [ inl b ↦ inl b | inr b ↦ inr (b.0, Contains-append_left xs ((x, c) ∷ []) (m, b.0) b.1) ]
+      | inr g ↦ inr (c, subst (λ (n : N). Contains (xs ++ (x, c) ∷ []) (n, c)) (sym g) (Contains-push xs (x, c)))
+    ]
+
+distinct_one_node : {N : Type 0} (eq : N → N → Bool) (x : N) → IsDistinct eq (x ∷ [])
+unfolding IsDistinct
+distinct_one_node eq x = (tt, tt)
+
+-- graphs, up to node equality
+module _ {N : Type 0} (eq : N → N → Bool) (laws : IsEquivalence eq) where
+  pub HasEdge-alike : (xs ys : List (N × ℤ)) (b : N) (z : ℤ) → ListsEdges eq (λ z. z) xs ys → HasEdge eq xs b z → HasEdge eq ys b z
+  HasEdge-alike [] [] b z s h = h
+  HasEdge-alike [] (y ∷ ys) b z s h = absurd h
+  HasEdge-alike (x ∷ xs) [] b z s h = absurd s
+  HasEdge-alike (x ∷ xs) (y ∷ ys) b z s (inl h) = inl (sym (laws.congr x.0 y.0 b s.0.0) ∙ h.0, sym s.0.1 ∙ h.1)
+  HasEdge-alike (x ∷ xs) (y ∷ ys) b z s (inr h) = inr (HasEdge-alike xs ys b z s.1 h)
+
+  pub HasEdge-same : (xs : List (N × ℤ)) (a b : N) (z : ℤ) → eq a b ≡ true → HasEdge eq xs a z → HasEdge eq xs b z
+  HasEdge-same [] a b z e h = h
+  HasEdge-same (x ∷ xs) a b z e (inl h) = inl (eq-trans eq laws x.0 a b h.0 e, h.1)
+  HasEdge-same (x ∷ xs) a b z e (inr h) = inr (HasEdge-same xs a b z e h)
+
+  Lists-sym : (xs ys : List (N × ℤ)) → ListsEdges eq (λ z. z) xs ys → ListsEdges eq (λ z. z) ys xs
+  Lists-sym [] [] s = tt
+  Lists-sym [] (y ∷ ys) s = absurd s
+  Lists-sym (x ∷ xs) [] s = absurd s
+  Lists-sym (x ∷ xs) (y ∷ ys) s = ((eq-sym eq laws x.0 y.0 s.0.0, sym s.0.1), Lists-sym xs ys s.1)
+
+  follows_more : (step : N → N → Type 0) (w : List N) (a b : N) → Follows step a w → step (end_of a w) b → Follows step a (w ++ b ∷ [])
+  follows_more step [] a b h k = (k, tt)
+  follows_more step (c ∷ w) a b h k = (h.0, follows_more step w c b h.1 k)
+
+  module _ (edges : N → List (N × ℤ)) (starts : List N) where
+    pub InReach-same : (x y : N) → InReach eq edges starts x → eq x y ≡ true → InReach eq edges starts y
+    InReach-same x y r e = record { walk = r.walk; goes = record { walks = r.goes.walks; begins = r.goes.begins; ends = ends r.walk r.goes.ends } }
+      where
+        ends : (w : List N) → EndsAt eq (λ z. eq z x) w → EndsAt eq (λ z. eq z y) w
+        ends [] h = h
+        ends (a ∷ w) h = eq-trans eq laws (end_of a w) x y h e
+
+    pub InReach-start : (s x : N) → HasNode eq starts s → eq s x ≡ true → InReach eq edges starts x
+    InReach-start s x h e = record { walk = s ∷ []; goes = record { walks = tt; begins = h; ends = e } }
+
+    -- what follows a walk from a start is in reach
+    pub InReach-after : (a : N) (w : List N) → Follows (IsSuccessor eq edges) a w → HasNode eq starts a → InReach eq edges starts (end_of a w)
+    InReach-after a w f h = record { walk = a ∷ w; goes = record { walks = f; begins = h; ends = laws.refl (end_of a w) } }
+
+    module _ (alike : (x y : N) → InReach eq edges starts x → eq x y ≡ true → ListsEdges eq (λ z. z) (edges x) (edges y)) where
+      -- the edges of equal nodes in reach
+      pub edge_of_same : (x y b : N) (z : ℤ) → InReach eq edges starts x → eq x y ≡ true → HasEdge eq (edges x) b z → HasEdge eq (edges y) b z
+      edge_of_same x y b z r e h = HasEdge-alike (edges x) (edges y) b z (alike x y r e) h
+
+      pub edge_of_same_back : (x y b : N) (z : ℤ) → InReach eq edges starts x → eq x y ≡ true → HasEdge eq (edges y) b z → HasEdge eq (edges x) b z
+      edge_of_same_back x y b z r e h = HasEdge-alike (edges y) (edges x) b z (Lists-sym (edges x) (edges y) (alike x y r e)) h
+
+      pub InReach-more : (x b : N) (z : ℤ) → InReach eq edges starts x → HasEdge eq (edges x) b z → InReach eq edges starts b
+      InReach-more x b z r h = by r.walk r.goes.walks r.goes.begins r.goes.ends
+        where
+          by : (w : List N) → IsWalk (IsSuccessor eq edges) w → BeginsAt eq starts w → EndsAt eq (λ y. eq y x) w → InReach eq edges starts b
+          by [] f s e = absurd f
+          by (a ∷ w) f s e =
+              let last = end_of a w in
+              let edge : HasEdge eq (edges last) b z = edge_of_same_back last x b z (InReach-after a w f s) e h in
+              InReach-same b b (subst (InReach eq edges starts) (end_more w a b) (InReach-after a (w ++ b ∷ []) (follows_more (IsSuccessor eq edges) w a b f (z, edge)) s)) (laws.refl b)
+
+      module _ {C : Type 0} (value : C → ℤ) where
+        -- each edge of the answer is in the row, and each place of the row is an edge
+        row_of_edge : (ks : List N) (row : List (ℕ × C)) (xs : List (N × C)) (es : List (N × ℤ)) (b : N) (z : ℤ) → NumbersItems eq ks row xs → ListsEdges eq value xs es → HasEdge eq es b z → (j : ℕ) × (c : C) × Contains row (j, c) × (value c ≡ z) × StandsFor eq ks j b
+        row_of_edge ks [] [] [] b z n l h = absurd h
+        row_of_edge ks [] [] (e ∷ es) b z n l h = absurd l
+        row_of_edge ks [] (x ∷ xs) es b z n l h = absurd n
+        row_of_edge ks (r ∷ row) [] es b z n l h = absurd n
+        row_of_edge ks (r ∷ row) (x ∷ xs) [] b z n l h = absurd l
+        row_of_edge ks (r ∷ row) (x ∷ xs) (e ∷ es) b z n l (inl h) =
+            let s = n.0.0 in
+            (r.0, r.1, Contains-head row r, ap value n.0.1 ∙ l.0.1 ∙ h.1, (s.0, s.1, eq-trans eq laws s.0 e.0 b (eq-trans eq laws s.0 x.0 e.0 s.2 l.0.0) h.0))
+        row_of_edge ks (r ∷ row) (x ∷ xs) (e ∷ es) b z n l (inr h) = let q = row_of_edge ks row xs es b z n.1 l.1 h in (q.0, q.1, Contains-tail row r (q.0, q.1) q.2, q.3, q.4)
+
+        edge_of_row : (ks : List N) (row : List (ℕ × C)) (xs : List (N × C)) (es : List (N × ℤ)) (j : ℕ) (c : C) → NumbersItems eq ks row xs → ListsEdges eq value xs es → Contains row (j, c) → (b : N) × HasEdge eq es b (value c) × StandsFor eq ks j b
+        edge_of_row ks [] xs es j c n l h = absurd (omega (arith, h.1))
+        edge_of_row ks (r ∷ row) [] es j c n l h = absurd n
+        edge_of_row ks (r ∷ row) (x ∷ xs) [] j c n l h = absurd l
+        edge_of_row ks (r ∷ row) (x ∷ xs) (e ∷ es) j c n l h = elim (Contains-cases row r (j, c) h) as (λ _. (b : N) × HasEdge eq (e ∷ es) b (value c) × StandsFor eq ks j b) [
+          | inl q ↦
+              let s = n.0.0 in
+              (e.0, inl (laws.refl e.0, sym l.0.1 ∙ ap value (sym n.0.1 ∙ ap (λ (p : ℕ × C). p.1) q)), subst (λ (i : ℕ). StandsFor eq ks i e.0) (ap (λ (p : ℕ × C). p.0) q) (s.0, s.1, eq-trans eq laws s.0 x.0 e.0 s.2 l.0.0))
+          | inr k ↦ let q = edge_of_row ks row xs es j c n.1 l.1 k in (q.0, inr q.1, q.2)
+        ]
+
+        -- an item of the answer is an edge
+        edge_of_item : (xs : List (N × C)) (es : List (N × ℤ)) (m : N) (c : C) → ListsEdges eq value xs es → Contains xs (m, c) → HasEdge eq es m (value c)
+        edge_of_item [] es m c l h = absurd (omega (arith, h.1))
+        edge_of_item (x ∷ xs) [] m c l h = absurd l
+        edge_of_item (x ∷ xs) (e ∷ es) m c l h = elim (Contains-cases xs x (m, c) h) as (λ _. HasEdge eq (e ∷ es) m (value c)) [
+          | inl q ↦ inl (eq-sym eq laws m e.0 (subst (λ (n : N). eq n e.0 ≡ true) (ap (λ (p : N × C). p.0) q) l.0.0), sym l.0.1 ∙ ap (λ (p : N × C). value p.1) q)
+          | inr k ↦ inr (edge_of_item xs es m c l.1 k)
+        ]
+
+        -- the nodes found after an answer are in reach
+        pub reached_added : (keys keys' : List N) (here : N) (xs : List (N × C)) → InReach eq edges starts here → ListsEdges eq value xs (edges here) → AddedFrom eq xs keys keys' → ((k : ℕ) (x : N) → slice_get keys k ≡ Some x → InReach eq edges starts x)
+            → (k : ℕ) (x : N) → slice_get keys' k ≡ Some x → InReach eq edges starts x
+        reached_added keys keys' here xs r l added before k x h = elim (added k x h) as (λ _. InReach eq edges starts x) [
+          | inl b ↦ before k x b
+          | inr b ↦ InReach-more here x (value b.0) r (edge_of_item xs (edges here) x b.0 l b.1)
+        ]
+
+  -- the row lists the steps of each node that the number stands for
+  pub Lists-from : {C : Type 0} (value : C → ℤ) (g : NodeGraph N) (alike : (x y : N) → InReach eq g.edges g.starts x → eq x y ≡ true → ListsEdges eq (λ z. z) (g.edges x) (g.edges y))
+      (keys keys' : List N) (k : ℕ) (here : N) (row : List (ℕ × C)) (xs : List (N × C)) → slice_get keys k ≡ Some here → InReach eq g.edges g.starts here → NumbersItems eq keys' row xs → ListsEdges eq value xs (g.edges here)
+      → ((i j : ℕ) (x : N) → StandsFor eq keys' i x → StandsFor eq keys' j x → i ≡ j) → (x : N) → StandsFor eq keys k x → ListsSteps value (IsStep eq g) (StandsFor eq keys') x row
+  Lists-from value g alike keys keys' k here row xs at reach n l one x s =
+      let same : s.0 ≡ here = (let e : Some s.0 ≡ Some here = sym s.1 ∙ at in cc) in
+      let h : eq here x ≡ true = subst (λ (m : N). eq m x ≡ true) same s.2 in
+      let rx : InReach eq g.edges g.starts x = InReach-same g.edges g.starts here x reach h in
+      record {
+        numbered = λ z y e. let r = row_of_edge g.edges g.starts alike value keys' row xs (g.edges here) y z n l (edge_of_same_back g.edges g.starts alike here x y z reach h e.1) in (r.0, r.4);
+        complete = λ z y j e t.
+            let r = row_of_edge g.edges g.starts alike value keys' row xs (g.edges here) y z n l (edge_of_same_back g.edges g.starts alike here x y z reach h e.1) in
+            (r.1, subst (λ (i : ℕ). Contains row (i, r.1)) (one r.0 j y r.4 t) r.2, r.3);
+        sound = λ j c m. let r = edge_of_row g.edges g.starts alike value keys' row xs (g.edges here) j c n l m in (r.0, (rx, edge_of_same g.edges g.starts alike here x r.0 (value c) reach h r.1), r.2);
+      }
+
+pub test_at : {N : Type 0} (eq : N → N → Bool) (within : N → Type 0) (test : N → Bool) → ((x y : N) → within x → eq x y ≡ true → test x ≡ test y) → (keys : List N) (k : ℕ) (here x : N) → within here → slice_get keys k ≡ Some here → StandsFor eq keys k x → test here ≡ test x
+test_at eq within test same keys k here x w at s =
+    let e : Some s.0 ≡ Some here = sym s.1 ∙ at in
+    let f : s.0 ≡ here = cc in
+    same here x w (subst (λ m. eq m x ≡ true) f s.2)
+
+pub Grows-from_take : {N : Type 0} (eq : N → N → Bool) (ks ks' : List N) → length ks ≤ length ks' → take (length ks) ks' ≡ ks → Grows (length ks) (length ks') (StandsFor eq ks) (StandsFor eq ks')
+Grows-from_take eq ks ks' l t = record {
+  more = l;
+  stays = λ k x s. (s.0, take_get (length ks) ks' k s.0 (subst (λ (ys : List _). slice_get ys k ≡ Some s.0) (sym t) s.1), s.2);
+  back = λ k x h s. (s.0, subst (λ (ys : List _). slice_get ys k ≡ Some s.0) t (get_take (length ks) ks' k s.0 h s.1), s.2);
+}
+
+pub inside_of : {N C : Type 0} (eq : N → N → Bool) (keys : List N) (row : List (ℕ × C)) (xs : List (N × C)) → NumbersItems eq keys row xs → (j : ℕ) (c : C) → Contains row (j, c) → j < length keys
+inside_of eq keys [] xs n j c h = absurd (omega (arith, h.1))
+inside_of eq keys (r ∷ row) [] n j c h = absurd n
+inside_of eq keys (r ∷ row) (x ∷ xs) n j c h = elim (Contains-cases row r (j, c) h) as (λ _. j < length keys) [
+  | inl e ↦ subst (λ (p : ℕ × _). p.0 < length keys) e (slice_get_within keys r.0 n.0.0.0 n.0.0.1)
+  | inr k ↦ inside_of eq keys row xs n.1 j c k
+]
+
+module _ {N C : Type 0} (eq : N → N → Bool) (laws : IsEquivalence eq) (value : C → ℤ) {I S F P : Type 0} (becomes : I → S → Type 0) (can : S → Type 0) (left : S → Count) (next : S → Option (N × C) → S → Type 0) (f_calls : Mut F (Bor N × Unit {0}) I) (p_calls : Mut P (Bor N × Unit {0}) Bool) where
+  -- a discovery begins with a clone of the start alone
+  pub Explores-start : (g : NodeGraph N) (start first : N) (keys : List N) (f : F) (p : P) → keys ≡ first ∷ [] → eq start first ≡ true → g.starts ≡ start ∷ []
+      → AnswersGraph f_calls becomes can left next eq value f (InReach eq g.edges g.starts) g.edges → AnswersTest p_calls eq p (InReach eq g.edges g.starts) g.test → Explores eq value becomes can left next f_calls p_calls g keys f p
+  Explores-start g start first keys f p e same s a t = record {
+    graph = a;
+    tests = t;
+    distinct = subst (IsDistinct eq) (sym e) (distinct_one_node eq first);
+    reached = λ k x h. at k x (subst (λ (ks : List N). slice_get ks k ≡ Some x) e h);
+  }
+    where
+      begins : HasNode eq g.starts start
+      begins = subst (λ (ss : List N). HasNode eq ss start) (sym s) (inl (laws.refl start))
+
+      at : (k : ℕ) (x : N) → slice_get (first ∷ []) k ≡ Some x → InReach eq g.edges g.starts x
+      at zero x h = let q : Some first ≡ Some x = h in let r : first ≡ x = cc in InReach-start eq laws g.edges g.starts start x begins (subst (λ (y : N). eq start y ≡ true) r same)
+      at (suc k) x h = absurd (none_in k x h)
+
+  -- after a call
+  pub Explores-called : (g : NodeGraph N) (keys : List N) (f f' : F) (p : P) (x : Bor N) (r : I) → Explores eq value becomes can left next f_calls p_calls g keys f p → InReach eq g.edges g.starts x.now → Called f_calls f (x, tt) r f'
+      → AnswersGraph f_calls becomes can left next eq value f' (InReach eq g.edges g.starts) g.edges
+  Explores-called g keys f f' p x r e w c = record { alike = e.graph.alike; answers = Answers-on _ _ _ e.graph.answers x w r f' c }

@@ -1,0 +1,22 @@
+use Rattle.std.proofs.Common.{◌∙◌, sym, subst, arith, [], ◌∷◌, ◌++◌}
+use Rattle.pf_search.specs.Nodes.{NumbersItems}
+use Rattle.pf_search.proofs.NodeLemmas.{take_longer, Numbers-grow, Numbers-push, AddedFrom-push, AddsNode-stays}
+use Rattle.pf_search.proofs.discovery.number_all.Goals as goal
+
+pub items-preserved : goal.items-preserved
+items-preserved g c =
+    let eq = g.N.PartialEq.eq in
+    let i = c.items.invariant in
+    let a = c.in_default.ensures.added in
+    let n = c.in_default.ensures.numbered in
+    let keys = c.items.nodes.items in
+    let keys' = c.number_edge.new.nodes.items in
+    record {
+      long = i.long;
+      longer = omega (arith, i.longer, a.longer);
+      kept = take_longer eq c.len-len.result keys keys' i.longer a.kept ∙ i.kept;
+      numbered = subst (λ row. NumbersItems eq keys' row (c.items.yielded ++ (c.in-Some.node, c.in-Some.cost) ∷ [])) (sym n.2)
+          (Numbers-push eq keys' c.items.row.items c.items.yielded n.0 c.in-Some.cost c.in-Some.node (Numbers-grow eq keys keys' c.items.row.items c.items.yielded (AddsNode-stays eq c.in-Some.node keys keys' a) i.numbered) n.1);
+      added = AddedFrom-push eq c.args.nodes.now.items keys keys' c.items.yielded c.in-Some.cost c.in-Some.node a i.added;
+      distinct = a.distinct i.distinct;
+    }

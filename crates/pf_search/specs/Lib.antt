@@ -1,0 +1,6 @@
+pub mod Numbered
+pub mod Steps
+pub mod Frontier
+pub mod Labels
+pub mod Nodes
+pub mod NodeLaws

@@ -1,0 +1,15 @@
+-- What numbers say of a graph: the steps that a row lists, and that numbers stay.
+use Rattle.std.specs.Prelude.{◌≡◌, ◌<◌, ◌≤◌, ℤ, ℕ, List, Contains}
+
+module _ {X C : Type 0} (value : C → ℤ) (step : X → ℤ → X → Type 0) (stands : ℕ → X → Type 0) where
+  -- the row lists the steps from x, each with the number that stands for its end
+  pub record ListsSteps (x : X) (row : List (ℕ × C)) : Type 0 where
+    pub numbered : (z : ℤ) (y : X) → step x z y → (j : ℕ) × stands j y
+    pub complete : (z : ℤ) (y : X) (j : ℕ) → step x z y → stands j y → (c : C) × Contains row (j, c) × (value c ≡ z)
+    pub sound : (j : ℕ) (c : C) → Contains row (j, c) → (y : X) × step x (value c) y × stands j y
+
+-- nodes are only added: each number stands for what it stood for
+pub record Grows {X : Type 0} (found found' : ℕ) (stands stands' : ℕ → X → Type 0) : Type 0 where
+  pub more : found ≤ found'
+  pub stays : (k : ℕ) (x : X) → stands k x → stands' k x
+  pub back : (k : ℕ) (x : X) → k < found → stands' k x → stands k x

@@ -1,0 +1,51 @@
+//! The search for a cheapest path, over numbers.
+
+ghost use Rattle.std.specs.Prelude.{◌≡◌, ◌<◌, ◌⊎◌, ℕ, Contains, IfOk, IfErr, IfSome, MatchOption};
+ghost use Rattle.pf_search.specs.Steps.{IsPositive, NoGoal, IsBestNumbered, IsTooDear};
+
+use crate::labels::{Label, covers, path_to, relax, settle_next, widen};
+use crate::numbered::NumberedGraph;
+use pf_base::{Cost, PathError};
+use std::alloc::Allocator;
+
+/// The numbers on a cheapest path from the node of number 0 to a goal, and its cost. The answer is
+/// `None` exactly where no walk leads to a goal.
+pub fn cheapest_path<C: Cost, G: NumberedGraph<C>, A: Allocator + Copy>(
+    alloc: A,
+    graph: &mut G,
+) -> Result<Option<(Vec<usize, A>, C)>, PathError>
+    requires one { G.found graph.old ≡ 1 }
+    requires graph { (g : G.Graph) × G.explores graph.old g }
+    ensures graph { (g : G.Graph) → G.explores graph.old g → G.explores graph.new g }
+    ensures inside { IfOk result (λ answer. IfSome answer (λ r. (k : ℕ) → Contains r.0.items k → k < G.found graph.new)) }
+    ensures best { (g : G.Graph) (s : G.Node) → G.explores graph.old g → G.stands graph.old 0 s → IsPositive (G.step g)
+        → IfOk result (λ answer. MatchOption answer (NoGoal (G.step g) (G.passes g) s)
+        (λ r. IsBestNumbered (G.step g) (G.passes g) s (G.stands graph.new) r.0.items (C.value r.1))) }
+    ensures overflow { (g : G.Graph) (s : G.Node) → G.explores graph.old g → G.stands graph.old 0 s → IsPositive (G.step g)
+        → result ≡ Err PathError.CostOverflow → IsTooDear (G.step g) (G.passes g) s (G.stands graph.new) C.fits }
+    ensures errors { IfErr result (λ e. (e ≡ PathError.OutOfMemory) ⊎ (e ≡ PathError.CostOverflow)) }
+{
+    let mut labels: Vec<Option<Label<C>>, A> = Vec::new(alloc);
+    let mut row: Vec<(usize, C), A> = Vec::new(alloc);
+    labels.push(Some(Label {
+        cost: C::zero(),
+        parent: 0,
+        depth: 0,
+        settled: false,
+    }))?;
+    'turns: while let Some(next) = settle_next(&mut labels) {
+        let (node, label) = next;
+        label.cost.known();
+        if graph.is_goal(node) {
+            let numbers = path_to(alloc, &labels, node)?;
+            return Ok(Some((numbers, label.cost)));
+        }
+        graph.expand(node, &mut row)?;
+        widen(&mut labels, graph.found())?;
+        relax(&mut labels, node, label, &row);
+        if !covers(&labels, &row) {
+            return Err(PathError::CostOverflow);
+        }
+    }
+    Ok(None)
+}

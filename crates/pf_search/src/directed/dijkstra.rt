@@ -1,0 +1,74 @@
+//! Cheapest paths (Dijkstra 1959).
+
+ghost use Rattle.std.specs.Prelude.{◌≡◌, ◌⊎◌, List, [], ◌∷◌, Bool, ℤ, IfOk, IfErr, MatchOption};
+ghost use Rattle.pf_base.specs.Walks.{HasNoGoalWalk};
+ghost use Rattle.pf_base.specs.Edges.{IsSuccessor, InReach, HasNoNegativeCost, IsBestGoalPath, IsPastRange};
+ghost use Rattle.pf_base.specs.Answers.{IsLawfulClone};
+
+use crate::cheapest::cheapest_path;
+use crate::discovery::Discovery;
+use pf_base::{Cost, EdgeFunction, NodeTest, PathError};
+use std::alloc::Allocator;
+
+/// A cheapest path from `start` to a node that passes `success`, with its cost, or `None` exactly
+/// where no walk leads from `start` to such a node.
+///
+/// `successors` lists the edges of a node, each as the node that it leads to and its cost; where
+/// several edges lead to one node, a step costs what the cheapest of them costs. It must answer alike
+/// for equal nodes at every call, and no cost in reach of `start` may be negative; `success` must
+/// answer alike too. Both are asked of nodes in reach alone. The path is a list of clones of nodes,
+/// from `start` on, and contains no node twice. Which of several cheapest paths is answered is open.
+///
+/// # Errors
+///
+/// - `CostOverflow`: only where a cheapest path to some node and one step more, by the cheapest of the
+///   parallel edges, cost more than `C` can hold, and no node that passes is cheaper than that node.
+/// - `OutOfMemory`: a request for memory was refused.
+///
+/// The algorithm is Dijkstra's (E. W. Dijkstra, "A note on two problems in connexion with graphs",
+/// 1959), over plain lists: its time grows with the square of the number of nodes in reach.
+pub fn dijkstra<N, C, IN, FN, FS, A>(
+    alloc: A,
+    start: &N,
+    successors: FN,
+    success: FS,
+) -> Result<Option<(Vec<N, A>, C)>, PathError>
+where
+    N: Eq + Clone + Drop,
+    C: Cost,
+    IN: IntoIterator<Item = (N, C)>,
+    FN: FnMut(&N) -> IN,
+    FS: FnMut(&N) -> bool,
+    A: Allocator + Copy,
+    requires clones { IsLawfulClone N.eq N.is_clone }
+    requires graph { (edges : N → List (N × ℤ)) × (test : N → Bool)
+        × ⟦<FN as EdgeFunction<N, C>>⟧.answers successors (InReach N.eq edges (start.now ∷ [])) edges
+        × ⟦<FS as NodeTest<N>>⟧.answers success (InReach N.eq edges (start.now ∷ [])) test
+        × HasNoNegativeCost N.eq edges (start.now ∷ []) }
+
+    ensures best { (edges : N → List (N × ℤ)) (test : N → Bool)
+        → ⟦<FN as EdgeFunction<N, C>>⟧.answers successors (InReach N.eq edges (start.now ∷ [])) edges
+        → ⟦<FS as NodeTest<N>>⟧.answers success (InReach N.eq edges (start.now ∷ [])) test
+        → HasNoNegativeCost N.eq edges (start.now ∷ [])
+        → IfOk result (λ answer. MatchOption answer
+        (HasNoGoalWalk N.eq (IsSuccessor N.eq edges) (start.now ∷ []) test)
+        (λ found. IsBestGoalPath N.eq edges (start.now ∷ []) test found.0.items (C.value found.1))) }
+
+    ensures overflow { (edges : N → List (N × ℤ)) (test : N → Bool)
+        → ⟦<FN as EdgeFunction<N, C>>⟧.answers successors (InReach N.eq edges (start.now ∷ [])) edges
+        → ⟦<FS as NodeTest<N>>⟧.answers success (InReach N.eq edges (start.now ∷ [])) test
+        → HasNoNegativeCost N.eq edges (start.now ∷ [])
+        → result ≡ Err PathError.CostOverflow
+        → IsPastRange N.eq edges (start.now ∷ []) test C.fits }
+
+    ensures errors { IfErr result (λ e. (e ≡ PathError.OutOfMemory) ⊎ (e ≡ PathError.CostOverflow)) }
+{
+    let mut graph = Discovery::new(alloc, start, successors, success)?;
+    match cheapest_path(alloc, &mut graph)? {
+        None => Ok(None),
+        Some((numbers, cost)) => {
+            let path = graph.nodes_at(alloc, &numbers)?;
+            Ok(Some((path, cost)))
+        }
+    }
+}

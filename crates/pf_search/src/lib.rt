@@ -1,0 +1,12 @@
+//! Searches on graphs that functions answer.
+//!
+//! A search has two layers. `discovery` asks the functions that are handed in and numbers the nodes
+//! in the order in which they are found; the algorithms go over numbers, generic over
+//! `NumberedGraph`.
+#![tactic(auto)]
+
+mod cheapest;
+pub mod directed;
+mod discovery;
+mod labels;
+mod numbered;
