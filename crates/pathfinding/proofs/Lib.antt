@@ -1,0 +1,11 @@
+pub mod Runs
+pub mod Lines
+pub mod Costs
+pub mod FirstLine
+pub mod Numbering
+pub mod Counting
+pub mod Naming
+pub mod Callers
+pub mod Rows
+pub mod NameGraph
+pub mod Networks

@@ -1,0 +1,42 @@
+-- What a network's searches say of the edges that it stands for.
+use Rattle.std.proofs.Common.{◌≡◌, ℕ, ℤ, pos, zero, suc, ◌<◌, ◌==◌, nat_eq, List, [], ◌∷◌, map, length, sym, ap, ◌∙◌, arith, subst}
+use Rattle.std.specs.Prelude.{All}
+use Rattle.std.specs.Str.{bytes_eq}
+use Rattle.pathfinding.specs.EdgeText.{Edge}
+use Rattle.pathfinding.specs.Roads.{HasNoWalk, IsCheapestPath, HasCostOverflow}
+use Rattle.pathfinding.specs.Graph.{row_of, node_count}
+use Rattle.pathfinding.specs.Links.{name_at, edges_between, steps_from}
+use Rattle.pathfinding.specs.Numbers.{HasNoNumberedWalk, IsCheapestNumberedPath, HasNumberedOverflow}
+use Rattle.pathfinding.specs.Network.{StandsFor}
+use Rattle.pathfinding.specs.declared.routes.network.Network.{Network}
+use Rattle.pathfinding.proofs.Naming.{AllNodes}
+use Rattle.pathfinding.proofs.NameGraph.{targets-below, no_walk, cheapest, overflow, path-known}
+
+all_of : (count : ℕ) (xs : List ℕ) → AllNodes (λ n. n < count) xs → All (λ n. n < count) xs
+all_of count [] all k d lt = absurd (omega (arith, lt))
+all_of count (x ∷ xs) all zero d lt = all.0
+all_of count (x ∷ xs) all (suc k) d lt = all_of count xs all.1 k d (omega (arith, lt))
+
+module _ {A : Type 0} (network : Network A) (edges : List Edge) (from to : List ℕ) (s : StandsFor network edges from to) where
+  -- each step leads to a node
+  pub targets : (n : ℕ) → n < node_count network.graph → All (λ (p : ℕ × ℕ). p.0 < node_count network.graph) (row_of network.graph n)
+  targets n lt =
+      let row = sym (s.rows n (omega (arith, lt, s.count))) in
+      subst (λ c. All (λ (p : ℕ × ℕ). p.0 < c) (row_of network.graph n)) (sym s.count) (subst (All (λ (p : ℕ × ℕ). p.0 < length network.names.keys)) row (targets-below (length network.names.keys) s.links s.below n))
+
+  pub has_no_walk : HasNoNumberedWalk network.graph network.from network.to → HasNoWalk edges from to
+  has_no_walk h = subst (λ es. HasNoWalk es from to) (sym s.spelled)
+      (no_walk network.names.keys s.distinct s.links s.below (row_of network.graph) s.rows from to network.from network.to s.from_within s.to_within s.from_named s.to_named h)
+
+  pub is_cheapest : (path : List ℕ) (cost : ℕ) → IsCheapestNumberedPath network.graph network.from network.to path cost → IsCheapestPath edges from to (map (name_at network.names.keys) path) cost
+  is_cheapest path cost h = subst (λ es. IsCheapestPath es from to (map (name_at network.names.keys) path) cost) (sym s.spelled)
+      (cheapest network.names.keys s.distinct s.links s.below (row_of network.graph) s.rows from to network.from network.to s.from_within s.to_within s.from_named s.to_named path cost h)
+
+  pub has_overflow : HasNumberedOverflow network.graph network.from network.to → HasCostOverflow edges from to
+  has_overflow h = subst (λ es. HasCostOverflow es from to) (sym s.spelled)
+      (overflow network.names.keys s.distinct s.links s.below (row_of network.graph) s.rows from to network.from network.to s.from_within s.to_within s.from_named s.to_named h)
+
+  -- each node of a path has a name
+  pub path-below : (path : List ℕ) (cost : ℕ) → IsCheapestNumberedPath network.graph network.from network.to path cost → All (λ n. n < length network.names.keys) path
+  path-below path cost h = all_of (length network.names.keys) path
+      (path-known network.names.keys s.distinct s.links s.below (row_of network.graph) s.rows from to network.from network.to s.from_within s.to_within s.from_named s.to_named path h.goes.goes)

@@ -1,0 +1,12 @@
+use Rattle.std.proofs.Common.{drop, sym, ap, ◌∙◌}
+use Rattle.std.proofs.lemmas.List.{drop_all}
+use Rattle.std.proofs.Common.{le_refl}
+use Rattle.pathfinding.specs.EdgeText.{is_gap}
+use Rattle.pathfinding.proofs.Runs.{behind-drop, behind-found, behind-none}
+use Rattle.pathfinding.proofs.routes.text.skip_gap.Goals as goal
+
+pub returns-in-Some : goal.returns-in-Some
+returns-in-Some c = c.split_at.ensures.back ∙ sym (behind-found is_gap c.args.text.now c.in-Some.end (sym c.in-Some.ensures))
+
+pub returns-in-None : goal.returns-in-None
+returns-in-None c = sym (behind-none is_gap c.args.text.now (sym c.in-None.ensures))

@@ -1,0 +1,14 @@
+-- The bytes before `at` are written.
+use Rattle.std.proofs.Common.{length, ◌-◌, ◌≤◌, take}
+use Rattle.std.specs.Io.KnownBytes.{Appends}
+use Rattle.pathfinding.specs.Noted.{device}
+use Rattle.pathfinding.proofs.routes.writing.write_whole.Given as goal
+
+abbrev pub invariant-loop-at : goal.invariant-loop-at
+invariant-loop-at g l = record {
+  within : l.at ≤ length l.bytes;
+  written : Appends (g.O.Write.contents (device l.initial.output)) (g.O.Write.contents (device l.output)) (take l.at l.bytes);
+}
+
+abbrev pub decreases-loop-at : goal.decreases-loop-at
+decreases-loop-at g l = length l.bytes - l.at

@@ -1,0 +1,35 @@
+-- What answers a command.
+use Rattle.std.specs.Prelude.{◌≡◌, ◌⊎◌, ℕ, List, [], ◌∷◌, ◌++◌, string_bytes, codes}
+use Rattle.std.specs.List.{flat_map}
+use Rattle.std.specs.Fmt.{decimal}
+use Rattle.pathfinding.specs.EdgeText.{Edge}
+use Rattle.pathfinding.specs.Roads.{HasNoWalk, IsCheapestPath, HasCostOverflow}
+use Rattle.pathfinding.specs.declared.routes.commands.Command.{Command}
+use Rattle.pathfinding.specs.declared.routes.commands.Command.TheVariants.{Dijkstra}
+
+-- that there is no path
+abbrev pub none_line : List ℕ
+none_line = codes "none" ++ 10 ∷ []
+
+-- a number and names, as `11: A B`
+abbrev pub path_line : ℕ → List (List ℕ) → List ℕ
+path_line number names = decimal number ++ codes ":" ++ flat_map (λ name. 32 ∷ name) names ++ 10 ∷ []
+
+-- the line of some cheapest path
+pub record IsPathLine (edges : List Edge) (from to text : List ℕ) : Type 0 where
+  pub path : List (List ℕ)
+  pub cost : ℕ
+  pub cheapest : IsCheapestPath edges from to path cost
+  pub written : text ≡ path_line cost path
+
+-- the line of some cheapest path, or that there is none
+abbrev pub IsPathAnswer : List Edge → List ℕ → List ℕ → List ℕ → Type 0
+IsPathAnswer edges from to text = (HasNoWalk edges from to × (text ≡ none_line)) ⊎ IsPathLine edges from to text
+
+-- the text answers the command, asked of these edges
+abbrev pub IsAnswer : Command → List Edge → List ℕ → Type 0
+IsAnswer (Dijkstra from to) edges text = IsPathAnswer edges (string_bytes from) (string_bytes to) text
+
+-- a sum of costs may be refused
+abbrev pub Overflows : Command → List Edge → Type 0
+Overflows (Dijkstra from to) edges = HasCostOverflow edges (string_bytes from) (string_bytes to)

@@ -1,0 +1,17 @@
+pub use Rattle.pf_base.specs.Costs
+pub use Rattle.pf_base.specs.Walks
+pub use Rattle.pf_base.specs.Edges
+pub use Rattle.pf_base.specs.Answers
+pub mod EdgeText
+pub mod Roads
+pub mod Words
+pub mod AnswerText
+pub mod Noted
+pub mod Written
+pub mod Run
+pub mod Fields
+pub mod Parsed
+pub mod Links
+pub mod Graph
+pub mod Numbers
+pub mod Network

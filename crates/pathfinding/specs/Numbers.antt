@@ -1,0 +1,24 @@
+-- The graph of numbered nodes that links stand for.
+use Rattle.std.specs.Prelude.{ℕ, ℤ, pos, Bool, nat_eq, List, [], ◌∷◌, map, ◌==◌}
+use Rattle.pf_base.specs.Walks.{HasNoGoalWalk}
+use Rattle.pf_base.specs.Edges.{IsSuccessor, IsBestGoalPath, IsPastRange}
+use Rattle.std.specs.Int.{FitsUnsignedBits}
+use Rattle.pathfinding.specs.Graph.{row_of}
+use Rattle.pathfinding.specs.declared.routes.graph.Graph.{Graph}
+
+-- steps as edges
+abbrev pub edges_of : List (ℕ × ℕ) → List (ℕ × ℤ)
+edges_of steps = map (λ (s : ℕ × ℕ). (s.0, pos s.1)) steps
+
+module _ {A : Type 0} (graph : Graph A) (from to : ℕ) where
+  abbrev pub numbered_edges : ℕ → List (ℕ × ℤ)
+  numbered_edges n = edges_of (row_of graph n)
+
+  abbrev pub HasNoNumberedWalk : Type 0
+  HasNoNumberedWalk = HasNoGoalWalk nat_eq (IsSuccessor nat_eq numbered_edges) (from ∷ []) (λ n. n == to)
+
+  abbrev pub IsCheapestNumberedPath : List ℕ → ℕ → Type 0
+  IsCheapestNumberedPath path cost = IsBestGoalPath nat_eq numbered_edges (from ∷ []) (λ n. n == to) path (pos cost)
+
+  abbrev pub HasNumberedOverflow : Type 0
+  HasNumberedOverflow = IsPastRange nat_eq numbered_edges (from ∷ []) (λ n. n == to) (FitsUnsignedBits 64)

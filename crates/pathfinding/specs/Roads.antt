@@ -1,0 +1,24 @@
+-- The graph over names that a list of edges stands for. Names are strings of bytes, the same where their bytes are.
+use Rattle.std.specs.Prelude.{ℕ, ℤ, pos, Bool, List, ◌∷◌, [], filter, map}
+use Rattle.std.specs.Str.{bytes_eq}
+use Rattle.pf_base.specs.Walks.{HasNoGoalWalk}
+use Rattle.pf_base.specs.Edges.{IsSuccessor, IsBestGoalPath, IsPastRange}
+use Rattle.std.specs.Int.{FitsUnsignedBits}
+use Rattle.pathfinding.specs.EdgeText.{Edge}
+
+-- the edges that leave a name, in order, each as the name that it leads to and its cost
+abbrev pub edges_from : List Edge → List ℕ → List (List ℕ × ℤ)
+edges_from edges name = map (λ e. (e.to, pos e.cost)) (filter (λ e. bytes_eq e.from name) edges)
+
+module _ (edges : List Edge) (from to : List ℕ) where
+  -- no walk leads from one name to the other
+  abbrev pub HasNoWalk : Type 0
+  HasNoWalk = HasNoGoalWalk bytes_eq (IsSuccessor bytes_eq (edges_from edges)) (from ∷ []) (λ name. bytes_eq name to)
+
+  -- a path from one name to the other that costs this, and no walk costs less
+  abbrev pub IsCheapestPath : List (List ℕ) → ℕ → Type 0
+  IsCheapestPath path cost = IsBestGoalPath bytes_eq (edges_from edges) (from ∷ []) (λ name. bytes_eq name to) path (pos cost)
+
+  -- a cheapest path and one step more cost 2^64 or more, and no walk from one name to the other is cheaper than that path
+  abbrev pub HasCostOverflow : Type 0
+  HasCostOverflow = IsPastRange bytes_eq (edges_from edges) (from ∷ []) (λ name. bytes_eq name to) (FitsUnsignedBits 64)

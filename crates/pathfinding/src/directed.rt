@@ -1,0 +1,3 @@
+//! Searches and other algorithms on directed graphs.
+
+pub use pf_search::directed::dijkstra;

@@ -1,0 +1,6 @@
+//! Paths in graphs: the public paths of the Rust crate `pathfinding`, and the program `routes` as a library.
+#![tactic(auto)]
+
+pub mod directed;
+pub mod prelude;
+pub mod routes;

@@ -1,0 +1,25 @@
+//! The program `routes` as a library: edges as text in, an answer as text out.
+
+mod answers;
+mod bytes;
+mod commands;
+mod engine;
+mod error;
+mod graph;
+mod links;
+mod network;
+mod noting;
+mod reading;
+mod search;
+mod steps;
+#[cfg(test)]
+mod tests;
+mod text;
+mod words;
+mod writing;
+
+pub use commands::Command;
+pub use engine::run;
+pub use error::RouteError;
+pub use noting::Noted;
+pub use words::command;

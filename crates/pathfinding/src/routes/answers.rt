@@ -1,0 +1,70 @@
+//! Answers as text.
+
+ghost use Rattle.std.specs.Prelude.{◌≡◌, ◌<◌, ℕ, List, All, IfOk, IfErr, length, map};
+ghost use Rattle.pathfinding.specs.AnswerText.{IsAnswer, IsPathAnswer, Overflows, path_line};
+ghost use Rattle.pathfinding.specs.EdgeText.{Edge};
+ghost use Rattle.pathfinding.specs.Links.{name_at};
+ghost use Rattle.pathfinding.specs.Parsed.{HoldsOfEdges, RefusesAnswer};
+ghost use Rattle.pathfinding.specs.Roads.{HasCostOverflow};
+
+use crate::routes::commands::Command;
+use crate::routes::error::RouteError;
+use crate::routes::links::Names;
+use crate::routes::network::Network;
+use crate::routes::search::cheapest_path;
+use std::alloc::{AllocError, Allocator};
+
+/// A number and names on a line, as `11: A B`.
+fn write_path<A: Allocator + Copy>(
+    alloc: A,
+    number: u64,
+    names: &Names<'_, A>,
+    path: &[usize],
+) -> Result<Vec<u8, A>, AllocError>
+    requires { All (λ n. n < length names.now.keys) path.now }
+    ensures { IfOk result (λ line. line.items ≡ path_line number (map (name_at names.now.keys) path.now)) }
+{
+    let digits = number.to_string(alloc)?;
+    let mut line = Vec::new(alloc);
+    line.extend_from_slice(digits.as_bytes())?;
+    line.push(b':')?;
+    for node in path {
+        line.push(b' ')?;
+        line.extend_from_slice(names[*node])?;
+    }
+    line.push(b'\n')?;
+    Ok(line)
+}
+
+/// The line of a cheapest path between two names, or that there is none.
+fn cheapest_line<A: Allocator + Copy>(
+    alloc: A,
+    from: &[u8],
+    to: &[u8],
+    text: &[u8],
+) -> Result<Vec<u8, A>, RouteError>
+    ensures ok { IfOk result (λ line. HoldsOfEdges text.now (λ edges. IsPathAnswer edges from.now to.now line.items)) }
+    ensures err { IfErr result (λ e. RefusesAnswer (λ edges. HasCostOverflow edges from.now to.now) e text.now) }
+{
+    let network = Network::read(alloc, from, to, text)?;
+    match cheapest_path(alloc, &network.graph, network.from, network.to)? {
+        None => Ok(Vec::from_slice(alloc, b"none\n")?),
+        Some((path, cost)) => Ok(write_path(alloc, cost, &network.names, path.as_slice())?),
+    }
+}
+
+/// The text of an answer to the command about the edges of a text.
+pub(crate) fn answer_to<A: Allocator + Copy>(
+    alloc: A,
+    command: &Command,
+    text: &[u8],
+) -> Result<Vec<u8, A>, RouteError>
+    ensures ok { IfOk result (λ answer. HoldsOfEdges text.now (λ edges. IsAnswer command.now edges answer.items)) }
+    ensures err { IfErr result (λ e. RefusesAnswer (Overflows command.now) e text.now) }
+{
+    match command {
+        Command::Dijkstra { from, to } => {
+            cheapest_line(alloc, from.as_bytes(), to.as_bytes(), text)
+        }
+    }
+}

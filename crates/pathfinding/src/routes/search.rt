@@ -1,0 +1,32 @@
+//! Searches on a graph of numbered nodes.
+
+ghost use Rattle.std.specs.Prelude.{◌≡◌, ◌⊎◌, ℕ, ◌<◌, IfOk, IfErr, MatchOption, All};
+ghost use Rattle.pathfinding.specs.Graph.{row_of, node_count};
+ghost use Rattle.pathfinding.specs.Numbers.{HasNoNumberedWalk, IsCheapestNumberedPath, HasNumberedOverflow};
+
+use crate::routes::error::RouteError;
+use crate::routes::graph::Graph;
+use pf_base::PathError;
+use pf_search::directed::dijkstra::dijkstra;
+use std::alloc::Allocator;
+
+/// A cheapest path between two numbers, and its cost.
+pub(crate) fn cheapest_path<A: Allocator + Copy>(
+    alloc: A,
+    graph: &Graph<A>,
+    from: usize,
+    to: usize,
+) -> Result<Option<(Vec<usize, A>, u64)>, RouteError>
+    requires start { from < node_count graph.now }
+    requires targets { (n : ℕ) → n < node_count graph.now → All (λ s. s.0 < node_count graph.now) (row_of graph.now n) }
+    ensures ok { IfOk result (λ answer. MatchOption answer (HasNoNumberedWalk graph.now from to)
+        (λ found. IsCheapestNumberedPath graph.now from to found.0.items found.1)) }
+    ensures err { IfErr result (λ e. (e ≡ RouteError.OutOfMemory) ⊎ ((e ≡ RouteError.CostOverflow) × HasNumberedOverflow graph.now from to)) }
+{
+    let successors = |node: &usize| graph.steps(*node).iter().copied();
+    match dijkstra(alloc, &from, successors, |node: &usize| *node == to) {
+        Ok(answer) => Ok(answer),
+        Err(PathError::CostOverflow) => Err(RouteError::CostOverflow),
+        Err(_) => Err(RouteError::OutOfMemory),
+    }
+}
