@@ -1,0 +1,15 @@
+use Rattle.std.proofs.Common.{rules, ◌≡◌, ◌∙◌, ℕ, pos, ◌==◌, List, ◌∷◌, [], nat_eq}
+use Rattle.pf_base.proofs.Callers.{nat_graph_by, nat_test}
+use Rattle.pf_base.proofs.Sources.{gives_chain, YieldsList-from_array}
+use Rattle.pf_base.proofs.Reach.{unsigned_cost}
+use Rattle.pf_tests.proofs.tests.kinds.by_lent_counter.Goals as goal
+
+pub dijkstra-requires-clause-graph : goal.dijkstra-requires-clause-graph
+dijkstra-requires-clause-graph g c =
+    let listed : ℕ → List (ℕ × ℕ) = λ n. (98, 1) ∷ [] in (
+      (λ n. (98, pos 1) ∷ []),
+      (λ n. n == 99),
+      nat_graph_by listed (λ s. Unit {0}) tt (λ s x j w. search rules) (λ s x r t j w k. let is : r ≡ listed x.now = search rules in (tt, gives_chain (λ it b. (tt, tt, YieldsList-from_array (listed x.now) (b.0 ∙ is))))),
+      nat_test (λ n. n == 99) (λ x w. search rules) (λ x r t w k. (search rules, search rules)),
+      unsigned_cost nat_eq listed (97 ∷ []),
+    )

@@ -1,0 +1,18 @@
+use Rattle.std.proofs.Common.{rules, arith, ◌≡◌, ◌∙◌, ℕ, ℤ, pos, ◌<◌, ◌+◌, ◌*◌, ◌%◌, ◌==◌, List, ◌∷◌, [], nat_eq}
+use Rattle.pf_base.specs.Edges.{InReach}
+use Rattle.pf_base.proofs.Callers.{nat_graph, nat_test}
+use Rattle.pf_base.proofs.Sources.{gives_chain, YieldsList-from_array}
+use Rattle.pf_base.proofs.Reach.{nat_reach_keeps, unsigned_cost}
+use Rattle.pf_tests.proofs.tests.refusals.doubling.Goals as goal
+
+pub dijkstra-requires-clause-graph : goal.dijkstra-requires-clause-graph
+dijkstra-requires-clause-graph g c =
+    let listed : ℕ → List (ℕ × ℕ) = λ n. ((n + 1) % 60, 2) ∷ (n * 2 % 60, 3) ∷ [] in
+    let edges : ℕ → List (ℕ × ℤ) = λ n. ((n + 1) % 60, pos 2) ∷ (n * 2 % 60, pos 3) ∷ [] in
+    let below : (n : ℕ) → InReach nat_eq edges (1 ∷ []) n → n < 60 = nat_reach_keeps (λ z. pos z) listed (λ n. n < 60) 1 (omega arith) (λ n p. (omega arith, (omega arith, tt))) in (
+      edges,
+      (λ n. n == 59),
+      nat_graph listed (λ x w. let l = below x.now w in search rules) (λ x r t w k. let is : r ≡ listed x.now = search rules in (search rules, gives_chain (λ it b. (tt, tt, YieldsList-from_array (listed x.now) (b.0 ∙ is))))),
+      nat_test (λ n. n == 59) (λ x w. search rules) (λ x r t w k. (search rules, search rules)),
+      unsigned_cost nat_eq listed (1 ∷ []),
+    )

@@ -1,0 +1,8 @@
+//! Tests of the library's calls, and callers that show how they are proved.
+#![tactic(auto)]
+
+pub mod callers;
+pub mod minutes;
+pub mod no_case;
+#[cfg(test)]
+mod tests;

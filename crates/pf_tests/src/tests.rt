@@ -1,0 +1,6 @@
+mod costs;
+mod errors;
+mod every_small_graph;
+mod kinds;
+mod refusals;
+mod rows;
