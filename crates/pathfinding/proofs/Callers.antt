@@ -1,6 +1,5 @@
 -- How a caller of a search shows that its closures on numbers answer a graph and a test.
-use Rattle.std.proofs.Common.{◌≡◌, ℕ, ℤ, pos, zero, suc, ◌<◌, Bool, true, List, [], ◌∷◌, length, refl, sym, ap, ◌∙◌, subst, inl, inr, arith, nat_eq, Option, Bor, eq-eqb}
-use Rattle.std.specs.Prelude.{◌≤ℤ◌}
+use Rattle.std.proofs.Common.{◌≡◌, ℕ, ℤ, Bool, true, List, [], ◌∷◌, refl, sym, ap, subst, inl, inr, nat_eq, Option, Bor, eq-eqb}
 use borrow.Author.Tests.{eqb-true}
 use Rattle.std.specs.Fn.{Mut, Called}
 use Rattle.std.specs.Iterator.{Count}

@@ -1,5 +1,5 @@
 -- The graph of numbered nodes stands for the graph over their names.
-use Rattle.std.proofs.Common.{◌≡◌, ℕ, ℤ, pos, zero, suc, ◌+◌, ◌<◌, ◌≤◌, ◌==◌, nat_eq, nat_lt, Bool, true, false, cond, List, [], ◌∷◌, map, filter, length, refl, sym, ap, ◌∙◌, arith, subst, Bor, eq-eqb, true≢false, Some, None}
+use Rattle.std.proofs.Common.{◌≡◌, ℕ, ℤ, pos, zero, suc, ◌<◌, ◌==◌, nat_eq, nat_lt, Bool, true, false, cond, List, [], ◌∷◌, map, filter, length, refl, sym, ap, ◌∙◌, arith, subst, Bor, eq-eqb, true≢false}
 use Rattle.std.specs.Prelude.{All}
 use Rattle.std.specs.List.{IsDistinct, AllByRecursion}
 use Rattle.std.specs.Str.{bytes_eq}
@@ -15,7 +15,7 @@ use Rattle.pathfinding.specs.declared.routes.links.Link.{Link}
 use Rattle.pf_base.specs.Walks.{HasNoGoalWalk, IsGoalWalk}
 use Rattle.pf_base.specs.Edges.{IsSuccessor, IsBestGoalPath, IsPastRange}
 use Rattle.pathfinding.proofs.Callers.{nat_same}
-use Rattle.pathfinding.proofs.Naming.{AllNodes, AllTargets, goal_known, IsNaming, named_edges, none_named, best_named, past_named}
+use Rattle.pathfinding.proofs.Naming.{AllNodes, AllTargets, goal_known, IsNaming, none_named, best_named, past_named}
 use Rattle.pathfinding.proofs.Numbering.{below-tail}
 
 abbrev same_key : Bor (List ℕ) → Bor (List ℕ) → Bool

@@ -1,7 +1,7 @@
 -- One graph stands for another: each known node has a name, and its edges are those of its name. Then cheapest paths are, too.
-use Rattle.std.proofs.Common.{◌≡◌, ℤ, Bool, true, List, [], ◌∷◌, map, refl, sym, ap, ◌∙◌, subst, inl, inr, ◌⊎◌}
-use Rattle.std.specs.Prelude.{◌≤ℤ◌, ◌+ℤ◌, ⊤}
-use Rattle.pf_base.specs.Walks.{HasNode, NoRepeats, end_of, Follows, IsGoalWalk, IsGoalPath, HasNoGoalWalk, BeginsAt, EndsAt}
+use Rattle.std.proofs.Common.{◌≡◌, ℤ, Bool, true, List, [], ◌∷◌, map, refl, sym, ap, ◌∙◌, subst, inl, inr}
+use Rattle.std.specs.Prelude.{⊤}
+use Rattle.pf_base.specs.Walks.{HasNode, NoRepeats, end_of, Follows, IsGoalWalk, HasNoGoalWalk}
 use Rattle.pf_base.specs.Edges.{HasEdge, IsSuccessor, StepCosts, StepsCost, WalkCosts, NoGoalWalkCostsLess, IsBestGoalPath, IsPastRange}
 
 -- each of some nodes is known

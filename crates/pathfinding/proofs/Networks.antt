@@ -1,11 +1,10 @@
 -- What a network's searches say of the edges that it stands for.
-use Rattle.std.proofs.Common.{◌≡◌, ℕ, ℤ, pos, zero, suc, ◌<◌, ◌==◌, nat_eq, List, [], ◌∷◌, map, length, sym, ap, ◌∙◌, arith, subst}
+use Rattle.std.proofs.Common.{ℕ, zero, suc, ◌<◌, List, [], ◌∷◌, map, length, sym, arith, subst}
 use Rattle.std.specs.Prelude.{All}
-use Rattle.std.specs.Str.{bytes_eq}
 use Rattle.pathfinding.specs.EdgeText.{Edge}
 use Rattle.pathfinding.specs.Roads.{HasNoWalk, IsCheapestPath, HasCostOverflow}
 use Rattle.pathfinding.specs.Graph.{row_of, node_count}
-use Rattle.pathfinding.specs.Links.{name_at, edges_between, steps_from}
+use Rattle.pathfinding.specs.Links.{name_at}
 use Rattle.pathfinding.specs.Numbers.{HasNoNumberedWalk, IsCheapestNumberedPath, HasNumberedOverflow}
 use Rattle.pathfinding.specs.Network.{StandsFor}
 use Rattle.pathfinding.specs.declared.routes.network.Network.{Network}

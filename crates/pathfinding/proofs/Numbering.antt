@@ -1,10 +1,10 @@
 -- Names by their numbers, and the lines that links stand for.
-use Rattle.std.proofs.Common.{◌≡◌, ℕ, zero, suc, ◌+◌, ◌<◌, ◌≤◌, List, [], ◌∷◌, ◌++◌, map, length, get_or, refl, sym, ap, ◌∙◌, arith, Option, Some, None, Result, Ok, Err, Bor, append_assoc, append-nil, subst, length-append}
+use Rattle.std.proofs.Common.{◌≡◌, ℕ, zero, suc, ◌+◌, ◌<◌, ◌≤◌, List, [], ◌∷◌, ◌++◌, map, length, refl, sym, ap, ◌∙◌, arith, Option, Some, None, Result, Ok, Err, Bor, append_assoc, append-nil}
 use Rattle.std.specs.Prelude.{slice_get, IfSome}
 use Rattle.std.specs.List.{position_from, filter_map}
 use Rattle.std.proofs.lemmas.Iterator.Adapters.{position_from-zero}
 use Rattle.std.proofs.lemmas.List.{map-append}
-use Rattle.pathfinding.specs.EdgeText.{Edge, Line, Blank, Holds, Bad, line_of, lines_of, said_by, is_bad, edge_in, first_bad_or, edge_text}
+use Rattle.pathfinding.specs.EdgeText.{Edge, Line, Blank, Holds, Bad, line_of, said_by, is_bad, edge_in, first_bad_or, edge_text}
 use Rattle.pathfinding.specs.Fields.{lines_left}
 use Rattle.pathfinding.specs.Links.{name_at, edge_between, edges_between, AllBelow, KeepsNames}
 use Rattle.pathfinding.specs.declared.routes.links.Link.{Link}

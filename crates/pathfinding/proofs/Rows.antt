@@ -1,5 +1,5 @@
 -- Steps as edges.
-use Rattle.std.proofs.Common.{◌≡◌, ℕ, ℤ, pos, zero, suc, ◌<◌, Bool, true, List, [], ◌∷◌, map, length, refl, sym, ap, ◌∙◌, subst, inl, inr, arith, nat_eq, eq-eqb}
+use Rattle.std.proofs.Common.{◌≡◌, ℕ, ℤ, pos, suc, ◌<◌, List, [], ◌∷◌, refl, sym, subst, inl, inr, arith, nat_eq, eq-eqb}
 use Rattle.std.specs.Prelude.{◌≤ℤ◌, All}
 use Rattle.std.proofs.lemmas.Int.{ints}
 use Rattle.pf_base.specs.Edges.{HasEdge}

@@ -1,5 +1,5 @@
 -- The fields of a line, from the front.
-use Rattle.std.proofs.Common.{◌≡◌, ℕ, zero, suc, ◌+◌, ◌<◌, ◌≤◌, ◌-◌, Bool, true, false, cond, not, ◌&&◌, ◌||◌, ◌==◌, nat_lt, nat_le, List, [], ◌∷◌, Some, None, length, take, drop, refl, sym, ap, ◌∙◌, arith, lt-ltb, ltb-true, ltb-false, subst, take_all}
+use Rattle.std.proofs.Common.{◌≡◌, ℕ, zero, suc, ◌+◌, ◌<◌, ◌≤◌, Bool, true, false, cond, not, ◌&&◌, ◌||◌, nat_lt, List, [], ◌∷◌, Some, None, length, take, drop, refl, sym, ap, ◌∙◌, arith, lt-ltb, ltb-true, ltb-false, subst, take_all}
 use Rattle.std.specs.Prelude.{filter, position}
 use Rattle.std.specs.List.{slice_split, onto_first, list_all, position_or_len}
 use Rattle.std.proofs.lemmas.List.Splits.{slice_split-cons_yes, slice_split-cons_no}
@@ -7,7 +7,7 @@ use Rattle.std.proofs.lemmas.List.Sums.{prefix_len-le-length}
 use Rattle.std.proofs.lemmas.Bool.Decides.{nat_tests}
 use Rattle.std.proofs.lemmas.Option.{cond_some}
 use Rattle.std.proofs.lemmas.List.{drop_all}
-use Rattle.pathfinding.specs.EdgeText.{is_gap, is_visible, fields_of, line_of, line_of_fields, Line, Blank, Bad}
+use Rattle.pathfinding.specs.EdgeText.{is_gap, is_visible, fields_of, line_of, line_of_fields, Blank, Bad}
 use Rattle.pathfinding.specs.Fields.{front, behind, field_of, behind_field}
 
 -- a byte that may stand on a line of an edge

@@ -1,5 +1,5 @@
 -- The graph of numbered nodes that links stand for.
-use Rattle.std.specs.Prelude.{ℕ, ℤ, pos, Bool, nat_eq, List, [], ◌∷◌, map, ◌==◌}
+use Rattle.std.specs.Prelude.{ℕ, ℤ, pos, nat_eq, List, [], ◌∷◌, map, ◌==◌}
 use Rattle.pf_base.specs.Walks.{HasNoGoalWalk}
 use Rattle.pf_base.specs.Edges.{IsSuccessor, IsBestGoalPath, IsPastRange}
 use Rattle.std.specs.Int.{FitsUnsignedBits}

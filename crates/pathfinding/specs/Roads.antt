@@ -1,5 +1,5 @@
 -- The graph over names that a list of edges stands for. Names are strings of bytes, the same where their bytes are.
-use Rattle.std.specs.Prelude.{ℕ, ℤ, pos, Bool, List, ◌∷◌, [], filter, map}
+use Rattle.std.specs.Prelude.{ℕ, ℤ, pos, List, ◌∷◌, [], filter, map}
 use Rattle.std.specs.Str.{bytes_eq}
 use Rattle.pf_base.specs.Walks.{HasNoGoalWalk}
 use Rattle.pf_base.specs.Edges.{IsSuccessor, IsBestGoalPath, IsPastRange}

@@ -26,7 +26,7 @@ impl Read for Broken<'_> {
     }
 }
 
-/// Takes one byte a call, and then, past its room, fails or takes nothing.
+/// Takes one byte a call, and then, past its room, fails or takes nothing. Its flush fails as well.
 #[derive(Drop)]
 struct Narrow {
     taken: Vec<u8>,
@@ -47,6 +47,9 @@ impl Write for Narrow {
     }
 
     fn flush(&mut self) -> io::Result<()> {
+        if self.fails {
+            return Err(Error::from(ErrorKind::BrokenPipe));
+        }
         Ok(())
     }
 }
@@ -177,6 +180,20 @@ fn narrow_writers_take_a_beginning(rt: HostRuntime) -> Result<(), Fail> {
         assert_eq!(rt; run(rt.alloc(), &command, &mut input, &mut output), want);
         assert_eq!(rt; output.failed(), want.is_err());
         assert_eq!(rt; output.into_inner().taken.as_slice(), written);
+    }
+    Ok(())
+}
+
+#[test]
+fn a_failed_flush_is_noted(rt: HostRuntime) -> Result<(), Fail> {
+    for fails in [false, true] {
+        let mut output = Noted::new(Narrow {
+            taken: Vec::new(rt.alloc()),
+            room: 0,
+            fails,
+        });
+        assert_eq!(rt; output.flush().is_err(), fails);
+        assert_eq!(rt; output.failed(), fails);
     }
     Ok(())
 }

@@ -1,12 +1,11 @@
-use Rattle.std.proofs.Common.{rules, ◌≡◌, ◌⊎◌, ℕ, List, ◌<◌, ap, ◌∙◌, inl, inr, Ok, Err, Result, arith, map, length, sym, subst, refl, Option, Some, None}
+use Rattle.std.proofs.Common.{◌≡◌, ◌⊎◌, ℕ, List, ◌<◌, ap, ◌∙◌, inl, inr, Ok, Err, Result, map, length, sym, subst, Option, Some, None}
 use Rattle.std.specs.Prelude.{All, IfErr, MatchOption}
 use Rattle.std.specs.Result.{IsErrAnd}
 use Rattle.pathfinding.specs.EdgeText.{Edge}
 use Rattle.pathfinding.specs.Links.{name_at}
-use Rattle.pathfinding.specs.AnswerText.{path_line, none_line}
+use Rattle.pathfinding.specs.AnswerText.{path_line}
 use Rattle.pathfinding.specs.Parsed.{RefusesAnswer, HoldsOfEdges}
 use Rattle.pathfinding.specs.Roads.{HasCostOverflow}
-use Rattle.pathfinding.specs.Network.{StandsFor}
 use Rattle.pathfinding.specs.declared.routes.error.RouteError.{RouteError}
 use Rattle.pathfinding.specs.declared.routes.error.RouteError.TheVariants.{OutOfMemory, CostOverflow}
 use Rattle.pathfinding.proofs.Networks.{targets, has_no_walk, is_cheapest, has_overflow, path-below}

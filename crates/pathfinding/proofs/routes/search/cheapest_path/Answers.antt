@@ -1,4 +1,4 @@
-use Rattle.std.proofs.Common.{rules, arith, ◌<◌, ◌==◌, ℕ, map, subst, nat_eq, inl, inr, refl, ap, Err}
+use Rattle.std.proofs.Common.{rules, arith, ◌<◌, ◌==◌, subst, nat_eq, inr, refl, ap, Err}
 use Rattle.std.proofs.lemmas.Grind.{common_steps}
 use Rattle.pathfinding.specs.Graph.{row_of, node_count}
 use Rattle.pathfinding.specs.Numbers.{numbered_edges}

@@ -1,4 +1,4 @@
-use Rattle.std.proofs.Common.{rules, ◌≡◌, ◌==◌, ℕ, ℤ, pos, Bool, true, List, [], ◌∷◌, ◌+◌, ◌%◌, ◌^◌, nat_eq, arith, subst, sym, refl, inl, inr, eq-eqb}
+use Rattle.std.proofs.Common.{rules, ◌≡◌, ◌==◌, ℕ, ℤ, pos, List, [], ◌∷◌, ◌+◌, ◌%◌, ◌^◌, nat_eq, arith, subst, sym, refl, inl, inr, eq-eqb}
 use Rattle.std.specs.Prelude.{◌≤ℤ◌}
 use Rattle.std.proofs.lemmas.Int.{ints}
 use Rattle.std.proofs.lemmas.Grind.{common_steps}

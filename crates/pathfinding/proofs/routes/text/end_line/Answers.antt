@@ -1,4 +1,4 @@
-use Rattle.std.proofs.Common.{rules, arith, ◌<◌, length, ◌≡◌, get_or, false, ◌==◌, length-drop}
+use Rattle.std.proofs.Common.{arith}
 use Rattle.std.proofs.lemmas.Bool.Decides.{nat_tests}
 use Rattle.pathfinding.proofs.Lines.{begins_other, begins_return}
 use Rattle.pathfinding.proofs.routes.text.end_line.Goals as goal

@@ -1,8 +1,6 @@
-use Rattle.std.proofs.Common.{drop, sym, ap, ◌∙◌}
-use Rattle.std.proofs.lemmas.List.{drop_all}
-use Rattle.std.proofs.Common.{le_refl}
+use Rattle.std.proofs.Common.{sym, ◌∙◌}
 use Rattle.pathfinding.specs.EdgeText.{is_gap}
-use Rattle.pathfinding.proofs.Runs.{behind-drop, behind-found, behind-none}
+use Rattle.pathfinding.proofs.Runs.{behind-found, behind-none}
 use Rattle.pathfinding.proofs.routes.text.skip_gap.Goals as goal
 
 pub returns-in-Some : goal.returns-in-Some

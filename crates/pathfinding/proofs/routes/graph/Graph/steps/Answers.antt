@@ -1,4 +1,4 @@
-use Rattle.std.proofs.Common.{◌≡◌, ℕ, ◌+◌, ◌-◌, ◌<◌, List, length, take, drop, get_or, sym, ap, ◌∙◌, arith}
+use Rattle.std.proofs.Common.{◌≡◌, ℕ, ◌+◌, ◌-◌, List, take, drop, get_or, ap, ◌∙◌, arith}
 use Rattle.pathfinding.specs.Graph.{row_of}
 use Rattle.pathfinding.proofs.Counting.{read_is}
 use Rattle.pathfinding.proofs.routes.graph.Graph.steps.Goals as goal
