@@ -1,11 +1,11 @@
 -- How a caller of a search shows that its closures on numbers answer a graph and a test.
-use Rattle.std.proofs.Common.{◌≡◌, ℕ, ℤ, Bool, true, List, [], ◌∷◌, refl, sym, ap, subst, inl, inr, nat_eq, Option, Bor, eq-eqb}
+use Rattle.std.proofs.Common.{◌≡◌, ℕ, ℤ, Bool, true, List, [], ◌∷◌, refl, sym, ap, ◌∙◌, subst, inl, inr, nat_eq, Option, Bor, eq-eqb}
 use borrow.Author.Tests.{eqb-true}
 use Rattle.std.specs.Fn.{Mut, Called}
 use Rattle.std.specs.Iterator.{Count}
 use Rattle.pf_base.specs.Walks.{HasNode, end_of, Follows, IsGoalWalk}
 use Rattle.pf_base.specs.Edges.{HasEdge, IsSuccessor, InReach}
-use Rattle.pf_base.specs.Answers.{ListsEdges, Gives, Answers, AnswersEach, AnswersGraph, AnswersTest}
+use Rattle.pf_base.specs.Answers.{ListsEdges, SameNodes, Gives, Answers, AnswersEach, AnswersGraph, AnswersSuccessors, AnswersTest}
 
 -- what holds of the start, of equal nodes and of each successor holds of each node in reach
 module _ {N : Type 0} (eq : N → N → Bool) (edges : N → List (N × ℤ)) (P : N → Type 0) (equal : (a b : N) → P a → eq a b ≡ true → P b)
@@ -54,6 +54,24 @@ module _ {F C I S : Type 0} (calls : Mut F (Bor ℕ × Unit {0}) I) (becomes : I
     answers = answers_by calls within _ (λ s. s ≡ f)
         (λ s x e w. subst (λ (q : F). calls.pre q (x, tt)) (sym e) (takes x w))
         (λ s x r f' e w k. let h = gave x r f' w (subst (λ (q : F). Called calls q (x, tt) r f') e k) in (h.1, h.0)) f refl;
+  }
+
+same_itself : (ns : List ℕ) → SameNodes nat_eq ns ns
+same_itself [] = tt
+same_itself (n ∷ ns) = (eq-eqb n n refl, same_itself ns)
+
+-- the same of a closure whose answers list exactly these successors
+module _ {F I S : Type 0} (calls : Mut F (Bor ℕ × Unit {0}) I) (becomes : I → S → Type 0) (can : S → Type 0) (left : S → Count) (steps : S → Option ℕ → S → Type 0) where
+  pub nat_successors : (within : ℕ → Type 0) (listed next : ℕ → List ℕ) (f : F) → ((n : ℕ) → listed n ≡ next n)
+      → ((x : Bor ℕ) → within x.now → calls.pre f (x, tt))
+      → ((x : Bor ℕ) (r : I) (f' : F) → within x.now → Called calls f (x, tt) r f' → (f' ≡ f) × Gives becomes can left steps (λ xs. xs ≡ listed x.now) r)
+      → AnswersSuccessors calls becomes can left steps nat_eq f within next
+  nat_successors within listed next f lists takes gave = record {
+    alike = λ x y w e. subst (λ ns. SameNodes nat_eq (next x) ns) (ap next (nat_same x y e)) (same_itself (next x));
+    answers = answers_by calls within _ (λ s. s ≡ f)
+        (λ s x e w. subst (λ (q : F). calls.pre q (x, tt)) (sym e) (takes x w))
+        (λ s x r f' e w k. let h = gave x r f' w (subst (λ (q : F). Called calls q (x, tt) r f') e k) in
+        (record { can_next = h.1.can_next; finite = h.1.finite; items = λ it b p t o u. subst (λ xs. SameNodes nat_eq xs (next x.now)) (sym (h.1.items it b p t o u ∙ lists x.now)) (same_itself (next x.now)) }, h.0)) f refl;
   }
 
 -- the same of a test

@@ -4,8 +4,10 @@ pub mod Costs
 pub mod FirstLine
 pub mod Numbering
 pub mod Counting
+pub mod Costless
 pub mod Naming
 pub mod Callers
 pub mod Rows
 pub mod NameGraph
 pub mod Networks
+pub mod Outcomes

@@ -1,8 +1,11 @@
--- One graph stands for another: each known node has a name, and its edges are those of its name. Then cheapest paths are, too.
-use Rattle.std.proofs.Common.{◌≡◌, ℤ, Bool, true, List, [], ◌∷◌, map, refl, sym, ap, ◌∙◌, subst, inl, inr}
+-- One graph stands for another: each known node has a name, and its edges are those of its name. Then cheapest paths and paths with fewest edges are, too.
+use Rattle.std.proofs.Common.{◌≡◌, ℤ, Bool, true, List, [], ◌∷◌, map, length, refl, sym, ap, ◌∙◌, subst, inl, inr, arith}
+use Rattle.std.proofs.lemmas.List.{length-map}
 use Rattle.std.specs.Prelude.{⊤}
 use Rattle.pf_base.specs.Walks.{HasNode, NoRepeats, end_of, Follows, IsGoalWalk, HasNoGoalWalk}
 use Rattle.pf_base.specs.Edges.{HasEdge, IsSuccessor, StepCosts, StepsCost, WalkCosts, NoGoalWalkCostsLess, IsBestGoalPath, IsPastRange}
+use Rattle.pf_base.specs.Successors.{IsShortestGoalPath}
+use Rattle.pathfinding.proofs.Costless.{targets_of, goal_costed, goal_costless}
 
 -- each of some nodes is known
 abbrev pub AllNodes : {M : Type 0} → (M → Type 0) → List M → Type 0
@@ -200,6 +203,18 @@ module _ {M N : Type 0} (eqM : M → M → Bool) (eqN : N → N → Bool) (name 
             goes = record { goes = goal_in path b.goes.goes; distinct = repeats_in path all b.goes.distinct };
             costs = costs_in path t all b.costs;
             best = least_named t b.best;
+          }
+
+      -- the names of a path with fewest edges are one
+      pub shortest_named : (path : List M) → IsShortestGoalPath eqM (λ a. targets_of (edgesM a)) (start ∷ []) testM path → IsShortestGoalPath eqN (λ x. targets_of (edgesN x)) (name start ∷ []) testN (map name path)
+      shortest_named path s =
+          let goal = goal_costed eqM edgesM (start ∷ []) testM path s.goes.goes in
+          record {
+            goes = record { goes = goal_costless eqN edgesN (name start ∷ []) testN (map name path) (goal_in path goal); distinct = repeats_in path (goal_known path goal) s.goes.distinct };
+            shortest = λ walk g.
+                let l = goal_lifted walk (goal_costed eqN edgesN (name start ∷ []) testN walk g) in
+                let least = s.shortest l.nodes (goal_costless eqM edgesM (start ∷ []) testM l.nodes l.goal) in
+                omega (arith, least, length-map path name, length-map l.nodes name, ap length l.names);
           }
 
     -- where a walk from a known node ends

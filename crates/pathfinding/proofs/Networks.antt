@@ -1,15 +1,16 @@
 -- What a network's searches say of the edges that it stands for.
-use Rattle.std.proofs.Common.{ℕ, zero, suc, ◌<◌, List, [], ◌∷◌, map, length, sym, arith, subst}
+use Rattle.std.proofs.Common.{ℕ, zero, suc, ◌<◌, ◌==◌, nat_eq, List, [], ◌∷◌, map, length, sym, arith, subst}
 use Rattle.std.specs.Prelude.{All}
 use Rattle.pathfinding.specs.EdgeText.{Edge}
-use Rattle.pathfinding.specs.Roads.{HasNoWalk, IsCheapestPath, HasCostOverflow}
+use Rattle.pathfinding.specs.Roads.{HasNoWalk, IsCheapestPath, HasCostOverflow, IsShortestPath}
 use Rattle.pathfinding.specs.Graph.{row_of, node_count}
 use Rattle.pathfinding.specs.Links.{name_at}
-use Rattle.pathfinding.specs.Numbers.{HasNoNumberedWalk, IsCheapestNumberedPath, HasNumberedOverflow}
+use Rattle.pathfinding.specs.Numbers.{numbered_edges, HasNoNumberedWalk, IsCheapestNumberedPath, HasNumberedOverflow, IsShortestNumberedPath}
 use Rattle.pathfinding.specs.Network.{StandsFor}
 use Rattle.pathfinding.specs.declared.routes.network.Network.{Network}
+use Rattle.pathfinding.proofs.Costless.{goal_costed}
 use Rattle.pathfinding.proofs.Naming.{AllNodes}
-use Rattle.pathfinding.proofs.NameGraph.{targets-below, no_walk, cheapest, overflow, path-known}
+use Rattle.pathfinding.proofs.NameGraph.{targets-below, no_walk, cheapest, shortest, overflow, path-known}
 
 all_of : (count : ℕ) (xs : List ℕ) → AllNodes (λ n. n < count) xs → All (λ n. n < count) xs
 all_of count [] all k d lt = absurd (omega (arith, lt))
@@ -31,6 +32,10 @@ module _ {A : Type 0} (network : Network A) (edges : List Edge) (from to : List 
   is_cheapest path cost h = subst (λ es. IsCheapestPath es from to (map (name_at network.names.keys) path) cost) (sym s.spelled)
       (cheapest network.names.keys s.distinct s.links s.below (row_of network.graph) s.rows from to network.from network.to s.from_within s.to_within s.from_named s.to_named path cost h)
 
+  pub is_shortest : (path : List ℕ) → IsShortestNumberedPath network.graph network.from network.to path → IsShortestPath edges from to (map (name_at network.names.keys) path)
+  is_shortest path h = subst (λ es. IsShortestPath es from to (map (name_at network.names.keys) path)) (sym s.spelled)
+      (shortest network.names.keys s.distinct s.links s.below (row_of network.graph) s.rows from to network.from network.to s.from_within s.to_within s.from_named s.to_named path h)
+
   pub has_overflow : HasNumberedOverflow network.graph network.from network.to → HasCostOverflow edges from to
   has_overflow h = subst (λ es. HasCostOverflow es from to) (sym s.spelled)
       (overflow network.names.keys s.distinct s.links s.below (row_of network.graph) s.rows from to network.from network.to s.from_within s.to_within s.from_named s.to_named h)
@@ -39,3 +44,13 @@ module _ {A : Type 0} (network : Network A) (edges : List Edge) (from to : List 
   pub path-below : (path : List ℕ) (cost : ℕ) → IsCheapestNumberedPath network.graph network.from network.to path cost → All (λ n. n < length network.names.keys) path
   path-below path cost h = all_of (length network.names.keys) path
       (path-known network.names.keys s.distinct s.links s.below (row_of network.graph) s.rows from to network.from network.to s.from_within s.to_within s.from_named s.to_named path h.goes.goes)
+
+  pub shortest-below : (path : List ℕ) → IsShortestNumberedPath network.graph network.from network.to path → All (λ n. n < length network.names.keys) path
+  shortest-below path h =
+      let goal = goal_costed nat_eq (numbered_edges network.graph network.from network.to) (network.from ∷ []) (λ n. n == network.to) path h.goes.goes in
+      all_of (length network.names.keys) path (path-known network.names.keys s.distinct s.links s.below (row_of network.graph) s.rows from to network.from network.to s.from_within s.to_within s.from_named s.to_named path goal)
+
+  -- a path has a node
+  pub shortest-some : (path : List ℕ) → IsShortestNumberedPath network.graph network.from network.to path → 0 < length path
+  shortest-some [] h = absurd h.goes.goes.walks
+  shortest-some (n ∷ path) h = omega arith

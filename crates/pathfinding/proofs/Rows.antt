@@ -1,5 +1,5 @@
 -- Steps as edges.
-use Rattle.std.proofs.Common.{◌≡◌, ℕ, ℤ, pos, suc, ◌<◌, List, [], ◌∷◌, refl, sym, subst, inl, inr, arith, nat_eq, eq-eqb}
+use Rattle.std.proofs.Common.{◌≡◌, ℕ, ℤ, pos, suc, ◌<◌, List, [], ◌∷◌, map, refl, sym, ap, subst, inl, inr, arith, nat_eq, eq-eqb}
 use Rattle.std.specs.Prelude.{◌≤ℤ◌, All}
 use Rattle.std.proofs.lemmas.Int.{ints}
 use Rattle.pf_base.specs.Edges.{HasEdge}
@@ -24,3 +24,8 @@ pub target-below : (count : ℕ) (steps : List (ℕ × ℕ)) (b : ℕ) (z : ℤ)
 target-below count [] b z all h = absurd h
 target-below count (s ∷ steps) b z all (inl h) = subst (λ n. n < count) (nat_same s.0 b h.0) (all 0 s (omega arith))
 target-below count (s ∷ steps) b z all (inr h) = target-below count steps b z (λ k d lt. all (suc k) d (omega (arith, lt))) h
+
+-- the nodes that steps lead to
+pub targets_of-steps : (steps : List (ℕ × ℕ)) → map (λ (s : ℕ × ℕ). s.0) steps ≡ map (λ (e : ℕ × ℤ). e.0) (edges_of steps)
+targets_of-steps [] = refl
+targets_of-steps (s ∷ steps) = ap (λ ns. s.0 ∷ ns) (targets_of-steps steps)

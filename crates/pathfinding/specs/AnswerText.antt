@@ -1,11 +1,11 @@
 -- What answers a command.
-use Rattle.std.specs.Prelude.{◌≡◌, ◌⊎◌, ℕ, List, [], ◌∷◌, ◌++◌, string_bytes, codes}
+use Rattle.std.specs.Prelude.{◌≡◌, ◌⊎◌, ◌+◌, ℕ, List, [], ◌∷◌, ◌++◌, length, string_bytes, codes}
 use Rattle.std.specs.List.{flat_map}
 use Rattle.std.specs.Fmt.{decimal}
 use Rattle.pathfinding.specs.EdgeText.{Edge}
-use Rattle.pathfinding.specs.Roads.{HasNoWalk, IsCheapestPath, HasCostOverflow}
+use Rattle.pathfinding.specs.Roads.{HasNoWalk, IsCheapestPath, HasCostOverflow, IsShortestPath}
 use Rattle.pathfinding.specs.declared.routes.commands.Command.{Command}
-use Rattle.pathfinding.specs.declared.routes.commands.Command.TheVariants.{Dijkstra}
+use Rattle.pathfinding.specs.declared.routes.commands.Command.TheVariants.{Dijkstra, Bfs}
 
 -- that there is no path
 abbrev pub none_line : List ℕ
@@ -26,10 +26,24 @@ pub record IsPathLine (edges : List Edge) (from to text : List ℕ) : Type 0 whe
 abbrev pub IsPathAnswer : List Edge → List ℕ → List ℕ → List ℕ → Type 0
 IsPathAnswer edges from to text = (HasNoWalk edges from to × (text ≡ none_line)) ⊎ IsPathLine edges from to text
 
+-- the line of some path with fewest edges, and their number: a path has one name more than edges
+pub record IsFewestEdgesLine (edges : List Edge) (from to text : List ℕ) : Type 0 where
+  pub path : List (List ℕ)
+  pub edge_count : ℕ
+  pub shortest : IsShortestPath edges from to path
+  pub counted : length path ≡ edge_count + 1
+  pub written : text ≡ path_line edge_count path
+
+-- the line of some path with fewest edges, or that there is none
+abbrev pub IsFewestEdgesAnswer : List Edge → List ℕ → List ℕ → List ℕ → Type 0
+IsFewestEdgesAnswer edges from to text = (HasNoWalk edges from to × (text ≡ none_line)) ⊎ IsFewestEdgesLine edges from to text
+
 -- the text answers the command, asked of these edges
 abbrev pub IsAnswer : Command → List Edge → List ℕ → Type 0
 IsAnswer (Dijkstra from to) edges text = IsPathAnswer edges (string_bytes from) (string_bytes to) text
+IsAnswer (Bfs from to) edges text = IsFewestEdgesAnswer edges (string_bytes from) (string_bytes to) text
 
 -- a sum of costs may be refused
 abbrev pub Overflows : Command → List Edge → Type 0
 Overflows (Dijkstra from to) edges = HasCostOverflow edges (string_bytes from) (string_bytes to)
+Overflows (Bfs from to) edges = ⊥

@@ -2,6 +2,8 @@ pub use Rattle.pf_base.specs.Costs
 pub use Rattle.pf_base.specs.Walks
 pub use Rattle.pf_base.specs.Edges
 pub use Rattle.pf_base.specs.Answers
+pub use Rattle.pf_base.specs.Successors
+pub use Rattle.pf_base.specs.NodeRefs
 pub mod EdgeText
 pub mod Roads
 pub mod Words

@@ -2,6 +2,7 @@
 use Rattle.std.specs.Prelude.{ℕ, ℤ, pos, nat_eq, List, [], ◌∷◌, map, ◌==◌}
 use Rattle.pf_base.specs.Walks.{HasNoGoalWalk}
 use Rattle.pf_base.specs.Edges.{IsSuccessor, IsBestGoalPath, IsPastRange}
+use Rattle.pf_base.specs.Successors.{IsShortestGoalPath}
 use Rattle.std.specs.Int.{FitsUnsignedBits}
 use Rattle.pathfinding.specs.Graph.{row_of}
 use Rattle.pathfinding.specs.declared.routes.graph.Graph.{Graph}
@@ -14,6 +15,9 @@ module _ {A : Type 0} (graph : Graph A) (from to : ℕ) where
   abbrev pub numbered_edges : ℕ → List (ℕ × ℤ)
   numbered_edges n = edges_of (row_of graph n)
 
+  abbrev pub numbered_successors : ℕ → List ℕ
+  numbered_successors n = map (λ (e : ℕ × ℤ). e.0) (numbered_edges n)
+
   abbrev pub HasNoNumberedWalk : Type 0
   HasNoNumberedWalk = HasNoGoalWalk nat_eq (IsSuccessor nat_eq numbered_edges) (from ∷ []) (λ n. n == to)
 
@@ -22,3 +26,6 @@ module _ {A : Type 0} (graph : Graph A) (from to : ℕ) where
 
   abbrev pub HasNumberedOverflow : Type 0
   HasNumberedOverflow = IsPastRange nat_eq numbered_edges (from ∷ []) (λ n. n == to) (FitsUnsignedBits 64)
+
+  abbrev pub IsShortestNumberedPath : List ℕ → Type 0
+  IsShortestNumberedPath path = IsShortestGoalPath nat_eq numbered_successors (from ∷ []) (λ n. n == to) path

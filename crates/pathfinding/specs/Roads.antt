@@ -3,12 +3,17 @@ use Rattle.std.specs.Prelude.{ℕ, ℤ, pos, List, ◌∷◌, [], filter, map}
 use Rattle.std.specs.Str.{bytes_eq}
 use Rattle.pf_base.specs.Walks.{HasNoGoalWalk}
 use Rattle.pf_base.specs.Edges.{IsSuccessor, IsBestGoalPath, IsPastRange}
+use Rattle.pf_base.specs.Successors.{IsShortestGoalPath}
 use Rattle.std.specs.Int.{FitsUnsignedBits}
 use Rattle.pathfinding.specs.EdgeText.{Edge}
 
 -- the edges that leave a name, in order, each as the name that it leads to and its cost
 abbrev pub edges_from : List Edge → List ℕ → List (List ℕ × ℤ)
 edges_from edges name = map (λ e. (e.to, pos e.cost)) (filter (λ e. bytes_eq e.from name) edges)
+
+-- the names that those edges lead to, in the same order
+abbrev pub targets_from : List Edge → List ℕ → List (List ℕ)
+targets_from edges name = map (λ (e : List ℕ × ℤ). e.0) (edges_from edges name)
 
 module _ (edges : List Edge) (from to : List ℕ) where
   -- no walk leads from one name to the other
@@ -22,3 +27,7 @@ module _ (edges : List Edge) (from to : List ℕ) where
   -- a cheapest path and one step more cost 2^64 or more, and no walk from one name to the other is cheaper than that path
   abbrev pub HasCostOverflow : Type 0
   HasCostOverflow = IsPastRange bytes_eq (edges_from edges) (from ∷ []) (λ name. bytes_eq name to) (FitsUnsignedBits 64)
+
+  -- a path from one name to the other, and no walk has fewer edges
+  abbrev pub IsShortestPath : List (List ℕ) → Type 0
+  IsShortestPath path = IsShortestGoalPath bytes_eq (targets_from edges) (from ∷ []) (λ name. bytes_eq name to) path

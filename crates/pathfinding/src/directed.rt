@@ -1,3 +1,3 @@
 //! Searches and other algorithms on directed graphs.
 
-pub use pf_search::directed::dijkstra;
+pub use pf_search::directed::{bfs, dijkstra};

@@ -4,3 +4,5 @@
 pub mod directed;
 pub mod prelude;
 pub mod routes;
+
+pub use pf_base::NodeRefs;

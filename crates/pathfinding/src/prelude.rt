@@ -1,4 +1,5 @@
 //! All that the crate exports.
 
-pub use pf_base::{Cost, PathError, SignedCost};
+pub use pf_base::{Cost, NodeRefs, PathError, SignedCost};
+pub use pf_search::directed::bfs::bfs;
 pub use pf_search::directed::dijkstra::dijkstra;

@@ -1,11 +1,11 @@
--- How a caller shows that its functions answer a graph and a test.
+-- How a caller shows that its functions answer a graph, successors and a test.
 -- A search asks for a graph and a proof that the given function answers it. A caller says what its function lists at each node, with costs as the code has them, and shows two facts of a call: that it may be made, and that it gives this list. `graph_by` makes the proof of that, and `nat_graph` does it for nodes that are numbers.
 use Rattle.std.proofs.Common.{◌≡◌, ℕ, ℤ, refl, sym, ap, subst, Bool, true, List, [], ◌∷◌, map, Option, nat_eq, eq-eqb}
 use Rattle.std.specs.Borrow.{Bor}
 use Rattle.std.specs.Fn.{Mut, Called}
 use Rattle.std.specs.Iterator.{Count}
 use borrow.Author.Tests.{eqb-true}
-use Rattle.pf_base.specs.Answers.{Answers, AnswersEach, AnswersGraph, AnswersTest, Gives, ListsEdges}
+use Rattle.pf_base.specs.Answers.{Answers, AnswersEach, AnswersGraph, AnswersSuccessors, AnswersTest, Gives, ListsEdges, SameNodes}
 
 -- the edges, each with the whole number that it costs
 abbrev pub valued : {N C : Type 0} → (C → ℤ) → List (N × C) → List (N × ℤ)
@@ -53,6 +53,35 @@ module _ {F N C I S : Type 0} {calls : Mut F (Bor N × Unit {0}) I} {becomes : I
       → ((x : Bor N) (r : I) (t : F) → within x.now → Called calls f (x, tt) r t → (t ≡ f) × Gives becomes can left steps (λ xs. xs ≡ listed x.now) r)
       → AnswersGraph calls becomes can left steps eq value f within edges
   graph_of listed edges {f} lists alike takes keeps = graph_by listed edges (λ s. s ≡ f) refl lists alike
+      (λ s x e w. subst (λ (q : F). calls.pre q (x, tt)) (sym e) (takes x w))
+      (λ s x r t e w k. keeps x r t w (subst (λ (q : F). Called calls q (x, tt) r t) e k))
+
+pub SameNodes-refl : {N : Type 0} (eq : N → N → Bool) → ((x : N) → eq x x ≡ true) → (xs : List N) → SameNodes eq xs xs
+SameNodes-refl eq same [] = tt
+SameNodes-refl eq same (x ∷ xs) = (same x, SameNodes-refl eq same xs)
+
+-- The same without costs: a function that lists `listed x` at each node x within.
+module _ {F N I S : Type 0} {calls : Mut F (Bor N × Unit {0}) I} {becomes : I → S → Type 0} {can : S → Type 0} {left : S → Count} {steps : S → Option N → S → Type 0} {eq : N → N → Bool} {within : N → Type 0} where
+  pub successors_by : (listed successors : N → List N) (J : F → Type 0) {f : F} → J f
+      → ((x : N) → within x → SameNodes eq (listed x) (successors x))
+      → ((x y : N) → within x → eq x y ≡ true → SameNodes eq (successors x) (successors y))
+      → ((s : F) (x : Bor N) → J s → within x.now → calls.pre s (x, tt))
+      → ((s : F) (x : Bor N) (r : I) (t : F) → J s → within x.now → Called calls s (x, tt) r t → J t × Gives becomes can left steps (λ xs. xs ≡ listed x.now) r)
+      → AnswersSuccessors calls becomes can left steps eq f within successors
+  successors_by listed successors J {f} j lists alike takes keeps = record {
+    alike = alike;
+    answers = answers_by _ _ _ J takes (λ s x r t i w k. let h = keeps s x r t i w k in
+        (h.0, record { can_next = h.1.can_next; finite = h.1.finite; items = λ it b p g o u. subst (λ xs. SameNodes eq xs (successors x.now)) (sym (h.1.items it b p g o u)) (lists x.now w) })) f j;
+  }
+
+  -- the same of a function that its calls leave as it was
+  pub successors_of : (listed successors : N → List N) {f : F}
+      → ((x : N) → within x → SameNodes eq (listed x) (successors x))
+      → ((x y : N) → within x → eq x y ≡ true → SameNodes eq (successors x) (successors y))
+      → ((x : Bor N) → within x.now → calls.pre f (x, tt))
+      → ((x : Bor N) (r : I) (t : F) → within x.now → Called calls f (x, tt) r t → (t ≡ f) × Gives becomes can left steps (λ xs. xs ≡ listed x.now) r)
+      → AnswersSuccessors calls becomes can left steps eq f within successors
+  successors_of listed successors {f} lists alike takes keeps = successors_by listed successors (λ s. s ≡ f) refl lists alike
       (λ s x e w. subst (λ (q : F). calls.pre q (x, tt)) (sym e) (takes x w))
       (λ s x r t e w k. keeps x r t w (subst (λ (q : F). Called calls q (x, tt) r t) e k))
 

@@ -1,3 +1,4 @@
 pub mod Callers
 pub mod Sources
 pub mod Reach
+pub mod NodeRefsLemmas

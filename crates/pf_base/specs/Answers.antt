@@ -10,6 +10,10 @@ use Rattle.std.specs.Iterator.Runs.{Run, Trigger}
 abbrev pub IsLawfulClone : {N : Type 0} → (N → N → Bool) → (N → N → Type 0) → Type 0
 IsLawfulClone {N} eq is_clone = (x y : N) → is_clone x y → eq x y ≡ true
 
+-- the same nodes, place by place
+abbrev pub SameNodes : {N : Type 0} → (N → N → Bool) → List N → List N → Type 0
+SameNodes {N} eq = AllZip (λ (x y : N). eq x y ≡ true)
+
 -- the same nodes at the same costs, place by place
 abbrev pub ListsEdges : {N C : Type 0} → (N → N → Bool) → (C → ℤ) → List (N × C) → List (N × ℤ) → Type 0
 ListsEdges {N} {C} eq value = AllZip (λ (x : N × C) (e : N × ℤ). (eq x.0 e.0 ≡ true) × (value x.1 ≡ e.1))
@@ -36,6 +40,12 @@ module _ {F N C I S : Type 0} (calls : Mut F (Bor N × Unit {0}) I) (becomes : I
   pub record AnswersGraph (f : F) (within : N → Type 0) (edges : N → List (N × ℤ)) : Type 0 where
     pub alike : (x y : N) → within x → eq x y ≡ true → ListsEdges eq (λ z. z) (edges x) (edges y)
     pub answers : Answers calls within (λ x r. Gives becomes can left steps (λ xs. ListsEdges eq value xs (edges x)) r) f
+
+module _ {F N I S : Type 0} (calls : Mut F (Bor N × Unit {0}) I) (becomes : I → S → Type 0) (can : S → Type 0) (left : S → Count) (steps : S → Option N → S → Type 0) (eq : N → N → Bool) where
+  -- At each node within, now and after any calls, f may be called and lists the successors of this graph. Equal nodes have the same successors.
+  pub record AnswersSuccessors (f : F) (within : N → Type 0) (successors : N → List N) : Type 0 where
+    pub alike : (x y : N) → within x → eq x y ≡ true → SameNodes eq (successors x) (successors y)
+    pub answers : Answers calls within (λ x r. Gives becomes can left steps (λ xs. SameNodes eq xs (successors x)) r) f
 
 module _ {F N : Type 0} (calls : Mut F (Bor N × Unit {0}) Bool) (eq : N → N → Bool) where
   -- At each node within, now and after any calls, f may be called and answers this test. Equal nodes have the same answer.

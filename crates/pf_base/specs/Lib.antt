@@ -2,3 +2,5 @@ pub mod Costs
 pub mod Walks
 pub mod Edges
 pub mod Answers
+pub mod Successors
+pub mod NodeRefs

@@ -1,7 +1,7 @@
 //! What contracts say of functions that are handed in.
 
 ghost use Rattle.std.specs.Prelude.{List, ℤ, Bool};
-ghost use Rattle.pf_base.specs.Answers.{AnswersGraph, AnswersTest};
+ghost use Rattle.pf_base.specs.Answers.{AnswersGraph, AnswersSuccessors, AnswersTest};
 
 use crate::cost::Cost;
 
@@ -25,6 +25,27 @@ where
     ghost answers = { AnswersGraph FN.FnMut IN.into_iter_gives IN.IntoIter.can_next IN.IntoIter.remaining IN.IntoIter.next_gives N.eq C.value };
 
     fn as_edge_function(&self) {}
+}
+
+/// A function from a node to its successors. Every function of that type is one.
+pub trait SuccessorFunction<N> {
+    // At each node of the given sort, now and after any calls, the function may be called and lists
+    // the successors of this graph, in order, up to node equality. Equal nodes have the same ones.
+    ghost answers: { Self → (N → Type 0) → (N → List N) → Type 0 };
+
+    /// Does nothing: a trait with a ghost member has a function.
+    fn as_successor_function(&self);
+}
+
+impl<N, IN, FN> SuccessorFunction<N> for FN
+where
+    N: Eq,
+    IN: IntoIterator<Item = N>,
+    FN: FnMut(&N) -> IN,
+{
+    ghost answers = { AnswersSuccessors FN.FnMut IN.into_iter_gives IN.IntoIter.can_next IN.IntoIter.remaining IN.IntoIter.next_gives N.eq };
+
+    fn as_successor_function(&self) {}
 }
 
 /// A test of a node. Every function of that type is one.

@@ -4,7 +4,9 @@
 pub mod cost;
 pub mod error;
 pub mod functions;
+pub mod noderefs;
 
 pub use crate::cost::{Cost, SignedCost};
 pub use crate::error::PathError;
-pub use crate::functions::{EdgeFunction, NodeTest};
+pub use crate::functions::{EdgeFunction, NodeTest, SuccessorFunction};
+pub use crate::noderefs::{NodeRefs, NodeRefsIntoIter, NodeRefsIter};

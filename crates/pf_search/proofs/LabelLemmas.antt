@@ -6,7 +6,7 @@ use Rattle.std.proofs.lemmas.List.Sums.{sum_by-append}
 use Rattle.std.proofs.lemmas.List.Folds.{sum_by-replicate}
 use Rattle.std.proofs.lemmas.Option.{slice_get_within}
 use Rattle.pf_search.specs.declared.labels.Label.{Label}
-use Rattle.pf_search.specs.Labels.{Labels, HasLabel, is_settled, settled_count, depth_of, AllSettled, IsTree, IsWithin, Settles, Lowered, ComesFrom, Covers, Stepped, Relaxed, Widened}
+use Rattle.pf_search.specs.Labels.{Labels, HasLabel, by_cost, cost_of, is_settled, settled_count, depth_of, AllSettled, IsTree, IsWithin, Settles, Lowered, ComesFrom, Covers, Stepped, Relaxed, Widened}
 use Rattle.pf_search.proofs.ListLemmas.{nat_dec, bool_dec, get_set, none_in, get-append, count_by-set, count_by-set_more, Contains-take_more, Contains-take, Contains-take_here}
 
 pub HasLabel-inside : {C : Type 0} (labels : Labels C) (k : ℕ) (l : Label C) → HasLabel labels k l → k < length labels
@@ -26,10 +26,10 @@ of_label P labels k l h p m g = subst P (label_is labels k l m h g) p
 pub depth_is : {C : Type 0} (labels : Labels C) (k : ℕ) (l : Label C) → HasLabel labels k l → depth_of (slice_get labels k) ≡ l.depth
 depth_is labels k l h = ap depth_of h
 
-module _ {C : Type 0} (value : C → ℤ) where
+module _ {C : Type 0} (measure : C → ℕ → ℤ) where
   module _ (labels : Labels C) (next : ℕ) (new : Label C) (opened : new.settled ≡ false) where
     -- nothing changes where the label that is there is settled or costs no more
-    pub Lowered-none : (l : Label C) → HasLabel labels next l → IsWithin value l (value new.cost) → Lowered value next new labels labels
+    pub Lowered-none : (l : Label C) → HasLabel labels next l → IsWithin measure l (cost_of measure new) → Lowered measure next new labels labels
     Lowered-none l h w = record {
       len = refl;
       reached = (l, h, w);
@@ -38,7 +38,7 @@ module _ {C : Type 0} (value : C → ℤ) where
       count = refl;
     }
 
-    module _ (inside : next < length labels) (less : (l : Label C) → HasLabel labels next l → (l.settled ≡ false) × (value new.cost <ℤ value l.cost)) where
+    module _ (inside : next < length labels) (less : (l : Label C) → HasLabel labels next l → (l.settled ≡ false) × (cost_of measure new <ℤ cost_of measure l)) where
       after : Labels C
       after = slice_set labels next (Some new)
 
@@ -55,11 +55,11 @@ module _ {C : Type 0} (value : C → ℤ) where
       same_count (Some None) h = count_by-set is_settled labels next (Some new) None h opened
       same_count (Some (Some l)) h = count_by-set is_settled labels next (Some new) (Some l) h (opened ∙ sym (less l h).0)
 
-      pub Lowered-set : Lowered value next new labels (slice_set labels next (Some new))
+      pub Lowered-set : Lowered measure next new labels (slice_set labels next (Some new))
       Lowered-set = record {
         len = search rules;
         reached = (new, there, inr (omega (arith, ints)));
-        others = λ k l h. elim (get_set labels next k (Some new) inside) as (λ _. HasLabel (slice_set labels next (Some new)) k l ⊎ ((k ≡ next) × (l.settled ≡ false) × (value new.cost <ℤ value l.cost))) [
+        others = λ k l h. elim (get_set labels next k (Some new) inside) as (λ _. HasLabel (slice_set labels next (Some new)) k l ⊎ ((k ≡ next) × (l.settled ≡ false) × (cost_of measure new <ℤ cost_of measure l))) [
           | inl r ↦ let q = less l (subst (λ i. HasLabel labels i l) r.0 h) in inr (r.0, q.0, q.1)
           | inr r ↦ inl (r.1 ∙ h)
         ];
@@ -70,20 +70,20 @@ module _ {C : Type 0} (value : C → ℤ) where
         count = same_count (slice_get labels next) refl;
       }
 
-  module _ (fits : ℤ → Type 0) (parent : ℕ) (l : Label C) where
-    pub Stepped-none : (next : ℕ) (price : C) (labels : Labels C) → ¬ (fits (value l.cost +ℤ value price)) → Stepped value fits parent l next price labels labels
+  module _ (worth : C → ℤ) (fits : ℤ → Type 0) (parent : ℕ) (l : Label C) where
+    pub Stepped-none : (next : ℕ) (price : C) (labels : Labels C) → ¬ (fits (cost_of measure l +ℤ worth price)) → Stepped measure worth fits parent l next price labels labels
     Stepped-none next price labels never = record { len = refl; reached = λ f. absurd (never f); others = λ k m h. inl h; from = λ k m h. inl h; count = refl }
 
-    pub Stepped-from : (next : ℕ) (price total : C) (labels labels' : Labels C) → fits (value l.cost +ℤ value price) → value total ≡ value l.cost +ℤ value price
-        → Lowered value next (record { cost = total; parent = parent; depth = l.depth + 1; settled = false }) labels labels' → Stepped value fits parent l next price labels labels'
+    pub Stepped-from : (next : ℕ) (price total : C) (labels labels' : Labels C) → fits (cost_of measure l +ℤ worth price) → measure total (l.depth + 1) ≡ cost_of measure l +ℤ worth price
+        → Lowered measure next (record { cost = total; parent = parent; depth = l.depth + 1; settled = false }) labels labels' → Stepped measure worth fits parent l next price labels labels'
     Stepped-from next price total labels labels' f e low = record {
       len = low.len;
-      reached = λ _. (low.reached.0, low.reached.1, subst (λ z. IsWithin value low.reached.0 z) e low.reached.2);
-      others = λ k m h. elim (low.others k m h) as (λ _. HasLabel labels' k m ⊎ ((k ≡ next) × (m.settled ≡ false) × ((value l.cost +ℤ value price) <ℤ value m.cost) × fits (value l.cost +ℤ value price))) [
+      reached = λ _. (low.reached.0, low.reached.1, subst (λ z. IsWithin measure low.reached.0 z) e low.reached.2);
+      others = λ k m h. elim (low.others k m h) as (λ _. HasLabel labels' k m ⊎ ((k ≡ next) × (m.settled ≡ false) × ((cost_of measure l +ℤ worth price) <ℤ cost_of measure m) × fits (cost_of measure l +ℤ worth price))) [
         | inl i ↦ inl i
-        | inr i ↦ inr (i.0, i.1, subst (λ z. z <ℤ value m.cost) e i.2, f)
+        | inr i ↦ inr (i.0, i.1, subst (λ z. z <ℤ cost_of measure m) e i.2, f)
       ];
-      from = λ k m h. elim (low.from k m h) as (λ _. HasLabel labels k m ⊎ ((k ≡ next) × ComesFrom value parent l price m)) [
+      from = λ k m h. elim (low.from k m h) as (λ _. HasLabel labels k m ⊎ ((k ≡ next) × ComesFrom measure worth parent l price m)) [
         | inl i ↦ inl i
         | inr i ↦ inr (
           i.0,
@@ -91,30 +91,30 @@ module _ {C : Type 0} (value : C → ℤ) where
             before = ap (λ (n : Label C). n.parent) i.1;
             deeper = ap (λ (n : Label C). n.depth) i.1;
             opened = ap (λ (n : Label C). n.settled) i.1;
-            sum = ap (λ (n : Label C). value n.cost) i.1 ∙ e;
+            sum = ap (λ (n : Label C). cost_of measure n) i.1 ∙ e;
           },
         )
       ];
       count = low.count;
     }
 
-    pub Relaxed-start : (row : List (ℕ × C)) (labels : Labels C) → Relaxed value parent l row labels labels
+    pub Relaxed-start : (row : List (ℕ × C)) (labels : Labels C) → Relaxed measure worth parent l row labels labels
     Relaxed-start row labels = record { len = refl; others = λ k m h. inl h; from = λ k m h. inl h; count = refl }
 
     module _ (next : ℕ) (price : C) (row row' : List (ℕ × C)) (more : (x : ℕ × C) → Contains row x → Contains row' x) (here : Contains row' (next, price))
-        (labels mid labels' : Labels C) (step : Stepped value fits parent l next price mid labels') where
-      pub Relaxed-more : Relaxed value parent l row labels mid → Relaxed value parent l row' labels labels'
+        (labels mid labels' : Labels C) (step : Stepped measure worth fits parent l next price mid labels') where
+      pub Relaxed-more : Relaxed measure worth parent l row labels mid → Relaxed measure worth parent l row' labels labels'
       Relaxed-more rel = record {
         len = step.len ∙ rel.len;
-        others = λ k m h. elim (rel.others k m h) as (λ _. HasLabel labels' k m ⊎ ((m.settled ≡ false) × ((c : C) × Contains row' (k, c) × ((value l.cost +ℤ value c) <ℤ value m.cost)))) [
-          | inl i ↦ elim (step.others k m i) as (λ _. HasLabel labels' k m ⊎ ((m.settled ≡ false) × ((c : C) × Contains row' (k, c) × ((value l.cost +ℤ value c) <ℤ value m.cost)))) [
+        others = λ k m h. elim (rel.others k m h) as (λ _. HasLabel labels' k m ⊎ ((m.settled ≡ false) × ((c : C) × Contains row' (k, c) × ((cost_of measure l +ℤ worth c) <ℤ cost_of measure m)))) [
+          | inl i ↦ elim (step.others k m i) as (λ _. HasLabel labels' k m ⊎ ((m.settled ≡ false) × ((c : C) × Contains row' (k, c) × ((cost_of measure l +ℤ worth c) <ℤ cost_of measure m)))) [
             | inl j ↦ inl j
             | inr j ↦ inr (j.1, (price, subst (λ (n : ℕ). Contains row' (n, price)) (sym j.0) here, j.2))
           ]
           | inr i ↦ inr (i.0, (i.1.0, more _ i.1.1, i.1.2))
         ];
-        from = λ k m h. elim (step.from k m h) as (λ _. HasLabel labels k m ⊎ ((c : C) × Contains row' (k, c) × ComesFrom value parent l c m)) [
-          | inl i ↦ elim (rel.from k m i) as (λ _. HasLabel labels k m ⊎ ((c : C) × Contains row' (k, c) × ComesFrom value parent l c m)) [
+        from = λ k m h. elim (step.from k m h) as (λ _. HasLabel labels k m ⊎ ((c : C) × Contains row' (k, c) × ComesFrom measure worth parent l c m)) [
+          | inl i ↦ elim (rel.from k m i) as (λ _. HasLabel labels k m ⊎ ((c : C) × Contains row' (k, c) × ComesFrom measure worth parent l c m)) [
             | inl j ↦ inl j
             | inr j ↦ inr (j.0, more _ j.1, j.2)
           ]
@@ -124,15 +124,15 @@ module _ {C : Type 0} (value : C → ℤ) where
       }
 
       -- a label that covers a step still does, or the label that took its place
-      pub Covers-stays : (j : ℕ) (c : C) → Covers value l mid j c → Covers value l labels' j c
-      Covers-stays j c cov = elim (step.others j cov.0 cov.1) as (λ _. Covers value l labels' j c) [
+      pub Covers-stays : (j : ℕ) (c : C) → Covers measure worth l mid j c → Covers measure worth l labels' j c
+      Covers-stays j c cov = elim (step.others j cov.0 cov.1) as (λ _. Covers measure worth l labels' j c) [
         | inl i ↦ (cov.0, i, cov.2)
         | inr i ↦ let r = step.reached i.3 in (
           r.0,
           subst (λ n. HasLabel labels' n r.0) (sym i.0) r.1,
-          elim r.2 as (λ _. IsWithin value r.0 (value l.cost +ℤ value c)) [
+          elim r.2 as (λ _. IsWithin measure r.0 (cost_of measure l +ℤ worth c)) [
             | inl t ↦ inl t
-            | inr low ↦ elim cov.2 as (λ _. IsWithin value r.0 (value l.cost +ℤ value c)) [
+            | inr low ↦ elim cov.2 as (λ _. IsWithin measure r.0 (cost_of measure l +ℤ worth c)) [
               | inl t ↦ absurd (true≢false (sym t ∙ i.1))
               | inr was ↦ inr (omega (arith, ints, low, was, i.2))
             ]
@@ -140,20 +140,20 @@ module _ {C : Type 0} (value : C → ℤ) where
         )
       ]
 
-      pub Covers-here : (j : ℕ) (c : C) → ◌≡◌ {A = ℕ × C} (next, price) (j, c) → fits (value l.cost +ℤ value c) → Covers value l labels' j c
+      pub Covers-here : (j : ℕ) (c : C) → ◌≡◌ {A = ℕ × C} (next, price) (j, c) → fits (cost_of measure l +ℤ worth c) → Covers measure worth l labels' j c
       Covers-here j c e f =
           let a : next ≡ j = ap (λ (x : ℕ × C). x.0) e in
           let b : price ≡ c = ap (λ (x : ℕ × C). x.1) e in
-          let r = step.reached (subst (λ (p : C). fits (value l.cost +ℤ value p)) (sym b) f) in
-          (r.0, subst (λ n. HasLabel labels' n r.0) a r.1, subst (λ (p : C). IsWithin value r.0 (value l.cost +ℤ value p)) b r.2)
+          let r = step.reached (subst (λ (p : C). fits (cost_of measure l +ℤ worth p)) (sym b) f) in
+          (r.0, subst (λ n. HasLabel labels' n r.0) a r.1, subst (λ (p : C). IsWithin measure r.0 (cost_of measure l +ℤ worth p)) b r.2)
 
-  module _ (fits : ℤ → Type 0) (parent : ℕ) (l : Label C) (row : List (ℕ × C)) (i : ℕ) (item : ℕ × C) (is : item ≡ get_or row i item) (inside : i < length row)
-      (mid labels' : Labels C) (step : Stepped value fits parent l item.0 item.1 mid labels') where
-    pub reached_more : ((j : ℕ) (c : C) → Contains (take i row) (j, c) → fits (value l.cost +ℤ value c) → Covers value l mid j c)
-        → (j : ℕ) (c : C) → Contains (take (i + 1) row) (j, c) → fits (value l.cost +ℤ value c) → Covers value l labels' j c
-    reached_more before j c k f = elim (Contains-take_more row i item (j, c) k) as (λ _. Covers value l labels' j c) [
-      | inl b ↦ Covers-stays fits parent l item.0 item.1 (take i row) (take (i + 1) row) (λ x h. Contains-take row i x h) (Contains-take_here row i item inside is) mid mid labels' step j c (before j c b f)
-      | inr e ↦ Covers-here fits parent l item.0 item.1 (take i row) (take (i + 1) row) (λ x h. Contains-take row i x h) (Contains-take_here row i item inside is) mid mid labels' step j c (is ∙ e) f
+  module _ (worth : C → ℤ) (fits : ℤ → Type 0) (parent : ℕ) (l : Label C) (row : List (ℕ × C)) (i : ℕ) (item : ℕ × C) (is : item ≡ get_or row i item) (inside : i < length row)
+      (mid labels' : Labels C) (step : Stepped measure worth fits parent l item.0 item.1 mid labels') where
+    pub reached_more : ((j : ℕ) (c : C) → Contains (take i row) (j, c) → fits (cost_of measure l +ℤ worth c) → Covers measure worth l mid j c)
+        → (j : ℕ) (c : C) → Contains (take (i + 1) row) (j, c) → fits (cost_of measure l +ℤ worth c) → Covers measure worth l labels' j c
+    reached_more before j c k f = elim (Contains-take_more row i item (j, c) k) as (λ _. Covers measure worth l labels' j c) [
+      | inl b ↦ Covers-stays worth fits parent l item.0 item.1 (take i row) (take (i + 1) row) (λ x h. Contains-take row i x h) (Contains-take_here row i item inside is) mid mid labels' step j c (before j c b f)
+      | inr e ↦ Covers-here worth fits parent l item.0 item.1 (take i row) (take (i + 1) row) (λ x h. Contains-take row i x h) (Contains-take_here row i item inside is) mid mid labels' step j c (is ∙ e) f
     ]
 
   -- an open label of least cost is settled
@@ -164,7 +164,7 @@ module _ {C : Type 0} (value : C → ℤ) where
     inside_l : k < length labels
     inside_l = HasLabel-inside labels k l at
 
-    pub Settles-set : ((j : ℕ) (m : Label C) → HasLabel labels j m → m.settled ≡ false → value l.cost ≤ℤ value m.cost) → Settles value k l labels (slice_set labels k (Some (record l { settled = true })))
+    pub Settles-set : ((j : ℕ) (m : Label C) → HasLabel labels j m → m.settled ≡ false → cost_of measure l ≤ℤ cost_of measure m) → Settles measure k l labels (slice_set labels k (Some (record l { settled = true })))
     Settles-set least = record {
       len = search rules;
       was = at;
@@ -273,18 +273,18 @@ IsLeastOpen-all value labels n (Some r) all i = (i.0, i.1, λ j m h. i.2 j m (om
 module _ {C : Type 0} (value : C → ℤ) (labels : Labels C) (next : ℕ) (label : Label C) (total : C) (at : HasLabel labels next label) where
   -- what the comparison with an open label says
   pub improves_at : (r : Bool) → label.settled ≡ false → MatchBool r (value total <ℤ value label.cost) (value label.cost ≤ℤ value total)
-      → MatchBool r ((l : Label C) → HasLabel labels next l → (l.settled ≡ false) × (value total <ℤ value l.cost)) ((l : Label C) × HasLabel labels next l × IsWithin value l (value total))
+      → MatchBool r ((l : Label C) → HasLabel labels next l → (l.settled ≡ false) × (value total <ℤ value l.cost)) ((l : Label C) × HasLabel labels next l × IsWithin (by_cost value) l (value total))
   improves_at true o h = of_label (λ l. (l.settled ≡ false) × (value total <ℤ value l.cost)) labels next label at (o, h)
   improves_at false o h = (label, at, inr h)
 
   -- a settled label stays
-  pub settled_stays : label.settled ≡ true → MatchBool (not label.settled) ((l : Label C) → HasLabel labels next l → (l.settled ≡ false) × (value total <ℤ value l.cost)) ((l : Label C) × HasLabel labels next l × IsWithin value l (value total))
-  settled_stays t = subst (λ b. MatchBool b ((l : Label C) → HasLabel labels next l → (l.settled ≡ false) × (value total <ℤ value l.cost)) ((l : Label C) × HasLabel labels next l × IsWithin value l (value total))) (sym (ap not t)) (label, at, inl t)
+  pub settled_stays : label.settled ≡ true → MatchBool (not label.settled) ((l : Label C) → HasLabel labels next l → (l.settled ≡ false) × (value total <ℤ value l.cost)) ((l : Label C) × HasLabel labels next l × IsWithin (by_cost value) l (value total))
+  settled_stays t = subst (λ b. MatchBool b ((l : Label C) → HasLabel labels next l → (l.settled ≡ false) × (value total <ℤ value l.cost)) ((l : Label C) × HasLabel labels next l × IsWithin (by_cost value) l (value total))) (sym (ap not t)) (label, at, inl t)
 
 -- the parent of a label that is not the first has a settled label, which is one less deep
 pub parent_labelled : {C : Type 0} (labels : Labels C) → IsTree labels → (k : ℕ) (l : Label C) → HasLabel labels k l → 0 < l.depth → (m : Label C) × HasLabel labels l.parent m × (m.settled ≡ true) × (l.depth ≡ m.depth + 1)
 parent_labelled labels tree k l h deep = elim (tree.linked k l h) as (λ _. (m : Label _) × HasLabel labels l.parent m × (m.settled ≡ true) × (l.depth ≡ m.depth + 1)) [
-  | inl r ↦ absurd (omega (arith, deep, r.1))
+  | inl r ↦ absurd (omega (arith, deep, r))
   | inr r ↦ r
 ]
 
@@ -301,7 +301,7 @@ module _ {C : Type 0} (labels : Labels C) (first : Label C) (e : labels ≡ Some
   first_is = subst (λ (xs : Labels C). HasLabel xs 0 first) (sym e) refl
 
   pub tree_start : first.depth ≡ 0 → IsTree labels
-  tree_start flat = record { linked = λ k l h. let o = only k l h in inl (o.0, ap (λ (m : Label C). m.depth) o.1 ∙ flat) }
+  tree_start flat = record { linked = λ k l h. let o = only k l h in inl (ap (λ (m : Label C). m.depth) o.1 ∙ flat) }
 
   pub deep_start : first.depth ≡ 0 → (n : ℕ) (k : ℕ) (l : Label C) → HasLabel labels k l → l.depth ≤ n
   deep_start flat n k l h = let o = only k l h in omega (arith, ap (λ (m : Label C). m.depth) o.1, flat)

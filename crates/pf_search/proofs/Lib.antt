@@ -6,3 +6,6 @@ pub mod SearchLemmas
 pub mod TurnLemmas
 pub mod NodeLemmas
 pub mod WalkLemmas
+pub mod HopLemmas
+pub mod UnitLemmas
+pub mod LawLemmas

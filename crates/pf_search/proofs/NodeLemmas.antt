@@ -13,6 +13,7 @@ use Rattle.pf_base.specs.Walks.{HasNode, Follows, IsWalk, end_of, BeginsAt, Ends
 use Rattle.pf_base.specs.Edges.{HasEdge, IsSuccessor, InReach}
 use Rattle.pf_base.specs.Answers.{ListsEdges, Gives, Answers, AnswersGraph, AnswersTest}
 use Rattle.pf_search.specs.Numbered.{ListsSteps, Grows}
+use Rattle.pf_search.specs.NodeLaws.{StandsFor-one}
 use Rattle.pf_search.specs.Nodes.{NodeGraph, StandsFor, IsStep, AddsNode, NumbersItems, AddedFrom, Explores}
 use Rattle.pf_search.proofs.ListLemmas.{Contains-head, Contains-tail, Contains-cases, get-append_cases, take_get, get_take, none_in}
 use Rattle.pf_search.proofs.FrontierLemmas.{end_more}
@@ -279,3 +280,29 @@ module _ {N C : Type 0} (eq : N → N → Bool) (laws : IsEquivalence eq) (value
   pub Explores-called : (g : NodeGraph N) (keys : List N) (f f' : F) (p : P) (x : Bor N) (r : I) → Explores eq value becomes can left next f_calls p_calls g keys f p → InReach eq g.edges g.starts x.now → Called f_calls f (x, tt) r f'
       → AnswersGraph f_calls becomes can left next eq value f' (InReach eq g.edges g.starts) g.edges
   Explores-called g keys f f' p x r e w c = record { alike = e.graph.alike; answers = Answers-on _ _ _ e.graph.answers x w r f' c }
+
+-- a number that is new is in the row
+module _ {N C : Type 0} (eq : N → N → Bool) (laws : IsEquivalence eq) (keys keys' : List N) (distinct : IsDistinct eq keys') where
+  number_in_row : (row : List (ℕ × C)) (xs : List (N × C)) (m : N) (d : C) (j : ℕ) → NumbersItems eq keys' row xs → Contains xs (m, d) → StandsFor eq keys' j m → (c : C) × Contains row (j, c)
+  number_in_row row [] m d j n h s = absurd (omega (arith, h.1))
+  number_in_row [] (x ∷ xs) m d j n h s = absurd n
+  number_in_row (r ∷ row) (x ∷ xs) m d j n h s = elim (Contains-cases xs x (m, d) h) as (λ _. (c : C) × Contains (r ∷ row) (j, c)) [
+    | inl e ↦
+        let same : x.0 ≡ m = ap (λ (p : N × C). p.0) e in
+        let k : r.0 ≡ j = StandsFor-one eq laws keys' distinct r.0 j m (subst (λ (y : N). StandsFor eq keys' r.0 y) same n.0.0) s in
+        (r.1, subst (λ (i : ℕ). Contains (r ∷ row) (i, r.1)) k (Contains-head row r))
+    | inr k ↦ let q = number_in_row row xs m d j n.1 k s in (q.0, Contains-tail row r (j, q.0) q.1)
+  ]
+
+  pub fresh_number : (row : List (ℕ × C)) (xs : List (N × C)) → NumbersItems eq keys' row xs → AddedFrom eq xs keys keys' → (j : ℕ) → length keys ≤ j → j < length keys' → (c : C) × Contains row (j, c)
+  fresh_number row xs n a j low high =
+      let m = get_below keys' j high in
+      elim (a j m.0 m.1) as (λ _. (c : C) × Contains row (j, c)) [
+        | inl old ↦ absurd (omega (arith, slice_get_within keys j m.0 old, low))
+        | inr new ↦ number_in_row row xs m.0 new.0 j n new.1 (m.0, m.1, laws.refl m.0)
+      ]
+    where
+      get_below : (ks : List N) (j : ℕ) → j < length ks → (m : N) × (slice_get ks j ≡ Some m)
+      get_below [] j h = absurd (omega (arith, h))
+      get_below (k ∷ ks) zero h = (k, refl)
+      get_below (k ∷ ks) (suc j) h = get_below ks j (omega (arith, h))

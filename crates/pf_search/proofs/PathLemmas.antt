@@ -6,7 +6,7 @@ use borrow.Author.Tests.{eqb-true}
 use Rattle.pf_base.specs.Walks.{end_of, HasNode, NoRepeats}
 use Rattle.pf_search.specs.Steps.{GoesAlong, IsNumberedPath}
 use Rattle.pf_search.specs.declared.labels.Label.{Label}
-use Rattle.pf_search.specs.Labels.{Labels, HasLabel, IsTree, Climbs, IsChain, Settles, Widened, Relaxed, settled_count}
+use Rattle.pf_search.specs.Labels.{Labels, HasLabel, cost_of, IsTree, Climbs, IsChain, Settles, Widened, Relaxed, settled_count}
 use Rattle.pf_search.proofs.ListLemmas.{nat_dec, reverse-cons}
 use Rattle.pf_search.proofs.LabelLemmas.{label_is, parent_labelled}
 use Rattle.pf_search.proofs.FrontierLemmas.{goes_more, end_more}
@@ -51,25 +51,28 @@ module _ {C : Type 0} (labels : Labels C) (tree : IsTree labels) where
       let up = climb_from d l.parent m.0 m.1 (omega (arith, m.3)) in
       (l.parent ∷ up.0, (l, h, refl, deep, up.1))
 
-  module _ {X : Type 0} (value : C → ℤ) (step : X → ℤ → X → Type 0) (s : X) (stands : ℕ → X → Type 0) (begins : stands 0 s)
-      (rooted : (k : ℕ) (l : Label C) → HasLabel labels k l → l.depth ≡ 0 → value l.cost ≡ pos 0)
-      (linked : (k : ℕ) (l m : Label C) → HasLabel labels k l → 0 < l.depth → HasLabel labels l.parent m → (x : X) → stands l.parent x → (y : X) × (z : ℤ) × step x z y × stands k y × (value l.cost ≡ value m.cost +ℤ z)) where
+  module _ {X : Type 0} (measure : C → ℕ → ℤ) (step : X → ℤ → X → Type 0) (starts : X → Type 0) (stands : ℕ → X → Type 0)
+      (rooted : (k : ℕ) (l : Label C) → HasLabel labels k l → l.depth ≡ 0 → (s : X) × starts s × stands k s × (cost_of measure l ≡ pos 0))
+      (linked : (k : ℕ) (l m : Label C) → HasLabel labels k l → 0 < l.depth → HasLabel labels l.parent m → (x : X) → stands l.parent x → (y : X) × (z : ℤ) × step x z y × stands k y × (cost_of measure l ≡ cost_of measure m +ℤ z)) where
     -- the numbers stand for a path to what k stands for, at the cost of its label, and none of them has a deeper label
     pub record PathUp (k : ℕ) (l : Label C) (numbers : List ℕ) : Type 0 where
+      pub first : X
+      pub is_start : starts first
       pub nodes : List X
-      pub path : IsNumberedPath step stands s numbers nodes (value l.cost)
-      pub here : stands k (end_of s nodes)
+      pub path : IsNumberedPath step stands first numbers nodes (cost_of measure l)
+      pub here : stands k (end_of first nodes)
       pub below : (j : ℕ) → HasNode nat_eq numbers j → (m : Label C) × HasLabel labels j m × (m.depth ≤ l.depth)
 
     pub climb_path : (above : List ℕ) (k : ℕ) (l : Label C) → HasLabel labels k l → Climbs labels k above → PathUp k l (reverse (k ∷ above))
     climb_path [] k l h c =
         let flat : l.depth ≡ 0 = ap (λ (m : Label C). m.depth) (label_is labels k l c.0 h c.1) ∙ c.2 in
-        let root : k ≡ 0 = elim (tree.linked k l h) as (λ _. k ≡ 0) [ inl r ↦ r.0 | inr r ↦ absurd (omega (arith, r.3, flat)) ] in
-        let at : stands k s = subst (λ (n : ℕ). stands n s) (sym root) begins in
+        let root = rooted k l h flat in
         record {
+          first = root.0;
+          is_start = root.1;
           nodes = [];
-          path = record { numbered = (at, tt); goes = rooted k l h flat; distinct = ((λ e. e), tt) };
-          here = at;
+          path = record { numbered = (root.2, tt); goes = root.3; distinct = ((λ e. e), tt) };
+          here = root.2;
           below = λ j e. elim e as (λ _. (m : Label C) × HasLabel labels j m × (m.depth ≤ l.depth)) [
             | inl q ↦ (l, subst (λ (n : ℕ). HasLabel labels n l) (eqb-true k j q) h, omega arith)
             | inr q ↦ absurd q
@@ -82,18 +85,20 @@ module _ {C : Type 0} (labels : Labels C) (tree : IsTree labels) where
         let m = parent_labelled labels tree k l h deep in
         let at : HasLabel labels p m.0 = subst (λ (n : ℕ). HasLabel labels n m.0) before m.1 in
         let up = climb_path ps p m.0 at c.4 in
-        let next = linked k l m.0 h deep m.1 (end_of s up.nodes) (subst (λ (n : ℕ). stands n (end_of s up.nodes)) (sym before) up.here) in
-        let last : end_of s (up.nodes ++ next.0 ∷ []) ≡ next.0 = end_more up.nodes s next.0 in
+        let next = linked k l m.0 h deep m.1 (end_of up.first up.nodes) (subst (λ (n : ℕ). stands n (end_of up.first up.nodes)) (sym before) up.here) in
+        let last : end_of up.first (up.nodes ++ next.0 ∷ []) ≡ next.0 = end_more up.nodes up.first next.0 in
         let fresh : ¬ (HasNode nat_eq (reverse (p ∷ ps)) k) = λ e.
         let n = up.below k e in
         let q : n.0 ≡ l = label_is labels k n.0 l n.1 h in
         let d : n.0.depth ≡ l.depth = ap (λ (m : Label C). m.depth) q in
         omega (arith, n.2, m.3, d) in
         let path' : PathUp k l (reverse (p ∷ ps) ++ k ∷ []) = record {
+          first = up.first;
+          is_start = up.is_start;
           nodes = up.nodes ++ next.0 ∷ [];
           path = record {
-            numbered = AllZip-append stands (reverse (p ∷ ps)) (s ∷ up.nodes) k next.0 up.path.numbered next.3;
-            goes = subst (GoesAlong step s (up.nodes ++ next.0 ∷ [])) (sym next.4) (goes_more step up.nodes s next.0 (value m.0.cost) next.1 up.path.goes next.2);
+            numbered = AllZip-append stands (reverse (p ∷ ps)) (up.first ∷ up.nodes) k next.0 up.path.numbered next.3;
+            goes = subst (GoesAlong step up.first (up.nodes ++ next.0 ∷ [])) (sym next.4) (goes_more step up.nodes up.first next.0 (cost_of measure m.0) next.1 up.path.goes next.2);
             distinct = NoRepeats-append nat_eq nat_symm (reverse (p ∷ ps)) k up.path.distinct fresh;
           };
           here = subst (stands k) (sym last) next.3;
@@ -111,7 +116,7 @@ module _ {C : Type 0} (labels : Labels C) (tree : IsTree labels) where
     pub chain_path : (numbers : List ℕ) (k : ℕ) (l : Label C) → HasLabel labels k l → IsChain labels k numbers → PathUp k l numbers
     chain_path numbers k l h c = subst (PathUp k l) (sym c.is) (climb_path c.above k l h c.climbs)
 
-module _ {C : Type 0} (value : C → ℤ) (k : ℕ) (l : Label C) (labels labels1 : Labels C) (z : Settles value k l labels labels1) where
+module _ {C : Type 0} (measure : C → ℕ → ℤ) (k : ℕ) (l : Label C) (labels labels1 : Labels C) (z : Settles measure k l labels labels1) where
   -- a label after k was settled is one from before, but for the mark
   pub was_label : (j : ℕ) (m : Label C) → HasLabel labels1 j m → ((j ≡ k) × (m ≡ record l { settled = true })) ⊎ ((j ≢ k) × HasLabel labels j m)
   was_label j m h = elim (nat_dec j k) as (λ _. ((j ≡ k) × (m ≡ record l { settled = true })) ⊎ ((j ≢ k) × HasLabel labels j m)) [
@@ -131,10 +136,10 @@ module _ {C : Type 0} (value : C → ℤ) (k : ℕ) (l : Label C) (labels labels
 
   pub IsTree-settle : IsTree labels → IsTree labels1
   IsTree-settle t = record {
-    linked = λ j m h. elim (was_label j m h) as (λ _. ((j ≡ 0) × (m.depth ≡ 0)) ⊎ ((n : Label C) × HasLabel labels1 m.parent n × (n.settled ≡ true) × (m.depth ≡ n.depth + 1))) [
-      | inl e ↦ subst (λ (m : Label C). ((j ≡ 0) × (m.depth ≡ 0)) ⊎ ((n : Label C) × HasLabel labels1 m.parent n × (n.settled ≡ true) × (m.depth ≡ n.depth + 1))) (sym e.1)
-          (elim (t.linked k l z.was) as (λ _. ((j ≡ 0) × (l.depth ≡ 0)) ⊎ ((n : Label C) × HasLabel labels1 l.parent n × (n.settled ≡ true) × (l.depth ≡ n.depth + 1))) [ inl r ↦ inl (e.0 ∙ r.0, r.1) | inr r ↦ inr (linked_1 l r) ])
-      | inr e ↦ elim (t.linked j m e.1) as (λ _. ((j ≡ 0) × (m.depth ≡ 0)) ⊎ ((n : Label C) × HasLabel labels1 m.parent n × (n.settled ≡ true) × (m.depth ≡ n.depth + 1))) [ inl r ↦ inl r | inr r ↦ inr (linked_1 m r) ]
+    linked = λ j m h. elim (was_label j m h) as (λ _. (m.depth ≡ 0) ⊎ ((n : Label C) × HasLabel labels1 m.parent n × (n.settled ≡ true) × (m.depth ≡ n.depth + 1))) [
+      | inl e ↦ subst (λ (m : Label C). (m.depth ≡ 0) ⊎ ((n : Label C) × HasLabel labels1 m.parent n × (n.settled ≡ true) × (m.depth ≡ n.depth + 1))) (sym e.1)
+          (elim (t.linked k l z.was) as (λ _. (l.depth ≡ 0) ⊎ ((n : Label C) × HasLabel labels1 l.parent n × (n.settled ≡ true) × (l.depth ≡ n.depth + 1))) [ inl r ↦ inl r | inr r ↦ inr (linked_1 l r) ])
+      | inr e ↦ elim (t.linked j m e.1) as (λ _. (m.depth ≡ 0) ⊎ ((n : Label C) × HasLabel labels1 m.parent n × (n.settled ≡ true) × (m.depth ≡ n.depth + 1))) [ inl r ↦ inl r | inr r ↦ inr (linked_1 m r) ]
     ];
   }
 
@@ -152,15 +157,15 @@ module _ {C : Type 0} (value : C → ℤ) (k : ℕ) (l : Label C) (labels labels
   pub IsChain-settle : (numbers : List ℕ) (j : ℕ) → IsChain labels1 j numbers → IsChain labels j numbers
   IsChain-settle numbers j c = record { above = c.above; climbs = Climbs-settle c.above j c.climbs; is = c.is }
 
-  module _ (n : ℕ) (labels2 : Labels C) (wide : Widened n labels1 labels2) (row : List (ℕ × C)) (labels3 : Labels C) (rel : Relaxed value k l row labels2 labels3) where
+  module _ (n : ℕ) (labels2 : Labels C) (wide : Widened n labels1 labels2) (worth : C → ℤ) (row : List (ℕ × C)) (labels3 : Labels C) (rel : Relaxed measure worth k l row labels2 labels3) where
     -- what is settled after the node of number k was settled is so after its steps
     pub settled_stays_3 : (j : ℕ) (m : Label C) → HasLabel labels1 j m → m.settled ≡ true → HasLabel labels3 j m
     settled_stays_3 j m h t = elim (rel.others j m (wide.stays j m h)) as (λ _. HasLabel labels3 j m) [ inl i ↦ i | inr i ↦ absurd (true≢false (sym t ∙ i.0)) ]
 
     pub IsTree-turn : IsTree labels1 → IsTree labels3
     IsTree-turn t = record {
-      linked = λ j m h. elim (rel.from j m h) as (λ _. ((j ≡ 0) × (m.depth ≡ 0)) ⊎ ((n : Label C) × HasLabel labels3 m.parent n × (n.settled ≡ true) × (m.depth ≡ n.depth + 1))) [
-        | inl i ↦ elim (t.linked j m (wide.from j m i)) as (λ _. ((j ≡ 0) × (m.depth ≡ 0)) ⊎ ((n : Label C) × HasLabel labels3 m.parent n × (n.settled ≡ true) × (m.depth ≡ n.depth + 1))) [
+      linked = λ j m h. elim (rel.from j m h) as (λ _. (m.depth ≡ 0) ⊎ ((n : Label C) × HasLabel labels3 m.parent n × (n.settled ≡ true) × (m.depth ≡ n.depth + 1))) [
+        | inl i ↦ elim (t.linked j m (wide.from j m i)) as (λ _. (m.depth ≡ 0) ⊎ ((n : Label C) × HasLabel labels3 m.parent n × (n.settled ≡ true) × (m.depth ≡ n.depth + 1))) [
           | inl r ↦ inl r
           | inr r ↦ inr (r.0, settled_stays_3 m.parent r.0 r.1 r.2, r.2, r.3)
         ]

@@ -1,6 +1,6 @@
 -- From what a search says of numbers to walks over nodes.
 use Rattle.std.proofs.Common.{◌≡◌, ℕ, Bool, true, true≢false, List, [], ◌∷◌, ◌∙◌, refl, sym, subst, arith, inl, inr, ℤ, pos, nat_eq, eq-eqb, Some}
-use Rattle.std.specs.Prelude.{◌⊎◌, ◌≤ℤ◌, ◌+ℤ◌}
+use Rattle.std.specs.Prelude.{◌⊎◌, ◌↔◌, ◌≤ℤ◌, ◌+ℤ◌}
 use Rattle.std.specs.Cmp.{IsEquivalence}
 use Rattle.std.specs.List.{AllZip}
 use Rattle.std.proofs.lemmas.Int.{ints}
@@ -15,10 +15,6 @@ use Rattle.pf_search.proofs.NodeLemmas.{eq-sym, eq-trans, StandsFor-same, HasEdg
 module _ {N : Type 0} (eq : N → N → Bool) (laws : IsEquivalence eq) where
   abbrev SameNodes : List N → List N → Type 0
   SameNodes = AllZip (λ x y. eq x y ≡ true)
-
-  same_refl : (xs : List N) → SameNodes xs xs
-  same_refl [] = tt
-  same_refl (x ∷ xs) = (laws.refl x, same_refl xs)
 
   -- nodes that the same numbers stand for
   same_of : (keys : List N) (ks : List ℕ) (xs ys : List N) → AllZip (StandsFor eq keys) ks xs → AllZip (StandsFor eq keys) ks ys → SameNodes xs ys
@@ -39,6 +35,11 @@ module _ {N : Type 0} (eq : N → N → Bool) (laws : IsEquivalence eq) where
   end_same [] (y ∷ v) a b e s = absurd s
   end_same (x ∷ w) [] a b e s = absurd s
   end_same (x ∷ w) (y ∷ v) a b e s = end_same w v x y s.0 s.1
+
+  HasNode-same : (xs : List N) (a b : N) → eq a b ≡ true → HasNode eq xs a → HasNode eq xs b
+  HasNode-same [] a b e h = h
+  HasNode-same (x ∷ xs) a b e (inl h) = inl (eq-trans eq laws x a b h e)
+  HasNode-same (x ∷ xs) a b e (inr h) = inr (HasNode-same xs a b e h)
 
   -- distinct numbers stand for distinct nodes
   module _ (keys : List N) (one : (i j : ℕ) (x : N) → StandsFor eq keys i x → StandsFor eq keys j x → i ≡ j) where
@@ -114,89 +115,70 @@ module _ {N : Type 0} (eq : N → N → Bool) (laws : IsEquivalence eq) where
         let edge = HasEdge-same eq laws (g.edges b) x y h.0 s.0 (edge_of_same eq laws g.edges g.starts alike a b x h.0 h.2.0 e h.2.1) in
         (h.0, h.1, (InReach-same eq laws g.edges g.starts a b h.2.0 e, edge), goes_same w v x y h.1 s.0 s.1 h.3, h.4)
 
-    module _ (start : N) (from : g.starts ≡ start ∷ []) where
-      start_of : (a : N) → HasNode eq g.starts a → eq start a ≡ true
-      start_of a h = by (subst (λ (ss : List N). HasNode eq ss a) from h)
-        where
-          by : HasNode eq (start ∷ []) a → eq start a ≡ true
-          by (inl e) = e
-          by (inr e) = absurd e
-
-      start_in : (a : N) → eq start a ≡ true → HasNode eq g.starts a
-      start_in a e = subst (λ (ss : List N). HasNode eq ss a) (sym from) (inl e)
-
+    -- the starts of the search are those of the graph
+    module _ (starts : N → Type 0) (all : (a : N) → HasNode eq g.starts a → starts a) (only : (a : N) → starts a → HasNode eq g.starts a) where
       reach_start : (a : N) → HasNode eq g.starts a → InReach eq g.edges g.starts a
       reach_start a h = InReach-start eq laws g.edges g.starts a a h (laws.refl a)
 
-      -- a walk from a start goes along steps from the start
-      from_start : (a : N) (w : List N) (u : ℤ) → HasNode eq g.starts a → GoesAlong (IsStep eq g) a w u → GoesAlong (IsStep eq g) start w u × (eq (end_of a w) (end_of start w) ≡ true)
-      from_start a w u h goes = let e = eq-sym eq laws start a (start_of a h) in (goes_same w w a start u e (same_refl w) goes, end_same w w a start e (same_refl w))
+      -- what no walk along steps undercuts, no walk over nodes does
+      none_less : (test : N → Bool) (t : ℤ) → NoGoalBelow (IsStep eq g) test starts t → NoGoalWalkCostsLess eq g.edges g.starts test t
+      none_less test t low [] u walk costs = absurd costs
+      none_less test t low (a ∷ w) u walk costs = low a (all a walk.begins) w u (goes_of_costs w a u (reach_start a walk.begins) costs) walk.ends
 
-      module _ (test : N → Bool) (same_test : (x y : N) → InReach eq g.edges g.starts x → eq x y ≡ true → test x ≡ test y) where
-        -- what no walk along steps undercuts, no walk over nodes does
-        pub none_less : (t : ℤ) → NoGoalBelow (IsStep eq g) test start t → NoGoalWalkCostsLess eq g.edges g.starts test t
-        none_less t low [] u walk costs = absurd costs
-        none_less t low (a ∷ w) u walk costs =
-            let r = reach_start a walk.begins in
-            let goes = goes_of_costs w a u r costs in
-            let q = from_start a w u walk.begins goes in
-            let reach = InReach-after eq laws g.edges g.starts a w walk.walks walk.begins in
-            low w u q.0 (sym (same_test (end_of a w) (end_of start w) reach q.1) ∙ walk.ends)
+      pub no_walk : (test : N → Bool) → NoGoal (IsStep eq g) test starts → HasNoGoalWalk eq (IsSuccessor eq g.edges) g.starts test
+      no_walk test none [] walk = walk.walks
+      no_walk test none (a ∷ w) walk = let goes = goes_of_walk w a (reach_start a walk.begins) walk.walks in none a (all a walk.begins) w goes.0 goes.1 walk.ends
 
-        pub no_walk : NoGoal (IsStep eq g) test start → HasNoGoalWalk eq (IsSuccessor eq g.edges) g.starts test
-        no_walk none [] walk = walk.walks
-        no_walk none (a ∷ w) walk =
-            let goes = goes_of_walk w a (reach_start a walk.begins) walk.walks in
-            let q = from_start a w goes.0 walk.begins goes.1 in
-            let reach = InReach-after eq laws g.edges g.starts a w walk.walks walk.begins in
-            none w goes.0 q.0 (sym (same_test (end_of a w) (end_of start w) reach q.1) ∙ walk.ends)
+      -- a path along steps that nothing undercuts
+      best_path : (test : N → Bool) (keys : List N) (one : (i j : ℕ) (x : N) → StandsFor eq keys i x → StandsFor eq keys j x → i ≡ j) (ks : List ℕ) (a : N) (w : List N) (t : ℤ)
+          → AllZip (StandsFor eq keys) ks (a ∷ w) → NoRepeats nat_eq ks → HasNode eq g.starts a → GoesAlong (IsStep eq g) a w t → test (end_of a w) ≡ true → NoGoalBelow (IsStep eq g) test starts t
+          → IsBestGoalPath eq g.edges g.starts test (a ∷ w) t
+      best_path test keys one ks a w t numbered distinct begins goes good low =
+          let c = costs_of_goes w a t goes in
+          let least : t ≤ℤ c.0 = low a (all a begins) w c.0 c.3 good in
+          let same : c.0 ≡ t = omega (arith, ints, least, c.2) in
+          record {
+            goes = record { goes = record { walks = walk_of_goes w a t goes; begins = begins; ends = good }; distinct = distinct_nodes keys one ks (a ∷ w) numbered distinct };
+            costs = subst (StepsCost eq g.edges a w) same c.1;
+            best = none_less test t low;
+          }
 
-        -- a path along steps that nothing undercuts
-        best_path : (keys : List N) (one : (i j : ℕ) (x : N) → StandsFor eq keys i x → StandsFor eq keys j x → i ≡ j) (ks : List ℕ) (a : N) (w : List N) (t : ℤ)
-            → AllZip (StandsFor eq keys) ks (a ∷ w) → NoRepeats nat_eq ks → eq start a ≡ true → GoesAlong (IsStep eq g) a w t → test (end_of a w) ≡ true → NoGoalBelow (IsStep eq g) test start t
-            → IsBestGoalPath eq g.edges g.starts test (a ∷ w) t
-        best_path keys one ks a w t numbered distinct e goes good low =
-            let begins = start_in a e in
-            let walks = walk_of_goes w a t goes in
-            let reach = InReach-after eq laws g.edges g.starts a w walks begins in
-            let c = costs_of_goes w a t goes in
-            let q = from_start a w c.0 begins c.3 in
-            let least : t ≤ℤ c.0 = low w c.0 q.0 (sym (same_test (end_of a w) (end_of start w) reach q.1) ∙ good) in
-            let same : c.0 ≡ t = omega (arith, ints, least, c.2) in
-            record {
-              goes = record { goes = record { walks = walks; begins = begins; ends = good }; distinct = distinct_nodes keys one ks (a ∷ w) numbered distinct };
-              costs = subst (StepsCost eq g.edges a w) same c.1;
-              best = none_less t low;
-            }
-
-        -- the nodes that are answered for the numbers of a best path
-        pub best_answer : (keys : List N) (one : (i j : ℕ) (x : N) → StandsFor eq keys i x → StandsFor eq keys j x → i ≡ j) (ks : List ℕ) (path : List N) (t : ℤ)
-            → IsBestNumbered (IsStep eq g) test start (StandsFor eq keys) ks t → AllZip (StandsFor eq keys) ks path → IsBestGoalPath eq g.edges g.starts test path t
-        best_answer keys one ks [] t b z = absurd (same_of keys ks (start ∷ b.nodes) [] b.path.numbered z)
-        best_answer keys one ks (a ∷ w) t b z =
-            let s = same_of keys ks (start ∷ b.nodes) (a ∷ w) b.path.numbered z in
-            let goes = goes_same b.nodes w start a t s.0 s.1 b.path.goes in
-            let ends = end_same b.nodes w start a s.0 s.1 in
-            let begins = start_in start (laws.refl start) in
-            let reach = InReach-after eq laws g.edges g.starts start b.nodes (walk_of_goes b.nodes start t b.path.goes) begins in
-            best_path keys one ks a w t z b.path.distinct s.0 goes (sym (same_test (end_of start b.nodes) (end_of a w) reach ends) ∙ b.good) b.best
+      -- the nodes that are answered for the numbers of a best path
+      pub best_answer : (test : N → Bool) → ((x y : N) → InReach eq g.edges g.starts x → eq x y ≡ true → test x ≡ test y) → (keys : List N) (one : (i j : ℕ) (x : N) → StandsFor eq keys i x → StandsFor eq keys j x → i ≡ j) (ks : List ℕ) (path : List N) (t : ℤ)
+          → IsBestNumbered (IsStep eq g) test starts (StandsFor eq keys) ks t → AllZip (StandsFor eq keys) ks path → IsBestGoalPath eq g.edges g.starts test path t
+      best_answer test same_test keys one ks [] t b z = absurd (same_of keys ks (b.first ∷ b.nodes) [] b.path.numbered z)
+      best_answer test same_test keys one ks (a ∷ w) t b z =
+          let s = same_of keys ks (b.first ∷ b.nodes) (a ∷ w) b.path.numbered z in
+          let begins = only b.first b.is_start in
+          let reach = InReach-after eq laws g.edges g.starts b.first b.nodes (walk_of_goes b.nodes b.first t b.path.goes) begins in
+          best_path test keys one ks a w t z b.path.distinct (HasNode-same g.starts b.first a s.0 begins) (goes_same b.nodes w b.first a t s.0 s.1 b.path.goes)
+          (sym (same_test (end_of b.first b.nodes) (end_of a w) reach (end_same b.nodes w b.first a s.0 s.1)) ∙ b.good) b.best
 
       -- a sum that does not fit
-      pub past_range : (test : N → Bool) → ((x y : N) → InReach eq g.edges g.starts x → eq x y ≡ true → test x ≡ test y) → (fits : ℤ → Type 0) (keys : List N) (one : (i j : ℕ) (x : N) → StandsFor eq keys i x → StandsFor eq keys j x → i ≡ j)
-          → IsTooDear (IsStep eq g) test start (StandsFor eq keys) fits → IsPastRange eq g.edges g.starts test fits
-      past_range test same_test fits keys one d =
-          let node = end_of start d.nodes in
+      pub past_range : (test : N → Bool) (fits : ℤ → Type 0) (keys : List N) (one : (i j : ℕ) (x : N) → StandsFor eq keys i x → StandsFor eq keys j x → i ≡ j)
+          → IsTooDear (IsStep eq g) test starts (StandsFor eq keys) fits → IsPastRange eq g.edges g.starts test fits
+      past_range test fits keys one d =
+          let node = end_of d.first d.nodes in
           let c = cheapest_edge g.edges node d.next d.price d.edge.1 in
           let s = c.1 in
           record {
             node = node;
-            path = start ∷ d.nodes;
+            path = d.first ∷ d.nodes;
             cost = d.cost;
-            cheapest = best_path (λ y. eq y node) (λ x y r e. laws.congr x y node e) keys one d.numbers start d.nodes d.cost d.path.numbered d.path.distinct (laws.refl start) d.path.goes (laws.refl node)
-                (λ w u goes at. d.cheapest w u goes (StandsFor-same eq laws keys d.number node (end_of start w) d.here (eq-sym eq laws (end_of start w) node at)));
+            cheapest = best_path (λ y. eq y node) keys one d.numbers d.first d.nodes d.cost d.path.numbered d.path.distinct (only d.first d.is_start) d.path.goes (laws.refl node)
+                (λ a is w u goes at. d.cheapest a is w u goes (StandsFor-same eq laws keys d.number node (end_of a w) d.here (eq-sym eq laws (end_of a w) node at)));
             next = d.next;
             price = c.0;
             step = s;
             past = d.too_dear c.0 (d.edge.0, s.edge);
-            none_cheaper = none_less test same_test d.cost d.none_cheaper;
+            none_cheaper = none_less test d.cost d.none_cheaper;
           }
+
+-- one start
+module _ {N : Type 0} (eq : N → N → Bool) (start : N) (starts : N → Type 0) (begins : (x : N) → starts x ↔ (eq start x ≡ true)) where
+  pub all_starts : (a : N) → HasNode eq (start ∷ []) a → starts a
+  all_starts a (inl e) = (begins a).1 e
+  all_starts a (inr h) = absurd h
+
+  pub only_starts : (a : N) → starts a → HasNode eq (start ∷ []) a
+  only_starts a h = inl ((begins a).0 h)

@@ -4,3 +4,5 @@ pub mod Frontier
 pub mod Labels
 pub mod Nodes
 pub mod NodeLaws
+pub mod Hops
+pub mod Laws

@@ -13,3 +13,7 @@ pub record Grows {X : Type 0} (found found' : ℕ) (stands stands' : ℕ → X �
   pub more : found ≤ found'
   pub stays : (k : ℕ) (x : X) → stands k x → stands' k x
   pub back : (k : ℕ) (x : X) → k < found → stands' k x → stands k x
+
+-- one of the first numbers stands for x
+abbrev pub StandsBelow : {X : Type 0} → ℕ → (ℕ → X → Type 0) → X → Type 0
+StandsBelow found stands x = (k : ℕ) × (k < found) × stands k x

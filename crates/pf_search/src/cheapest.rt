@@ -15,14 +15,15 @@ pub fn cheapest_path<C: Cost, G: NumberedGraph<C>, A: Allocator + Copy>(
     graph: &mut G,
 ) -> Result<Option<(Vec<usize, A>, C)>, PathError>
     requires one { G.found graph.old ≡ 1 }
+    requires begins { (s : G.Node) × G.stands graph.old 0 s }
     requires graph { (g : G.Graph) × G.explores graph.old g }
     ensures graph { (g : G.Graph) → G.explores graph.old g → G.explores graph.new g }
     ensures inside { IfOk result (λ answer. IfSome answer (λ r. (k : ℕ) → Contains r.0.items k → k < G.found graph.new)) }
-    ensures best { (g : G.Graph) (s : G.Node) → G.explores graph.old g → G.stands graph.old 0 s → IsPositive (G.step g)
-        → IfOk result (λ answer. MatchOption answer (NoGoal (G.step g) (G.passes g) s)
-        (λ r. IsBestNumbered (G.step g) (G.passes g) s (G.stands graph.new) r.0.items (C.value r.1))) }
-    ensures overflow { (g : G.Graph) (s : G.Node) → G.explores graph.old g → G.stands graph.old 0 s → IsPositive (G.step g)
-        → result ≡ Err PathError.CostOverflow → IsTooDear (G.step g) (G.passes g) s (G.stands graph.new) C.fits }
+    ensures best { (g : G.Graph) → G.explores graph.old g → IsPositive (G.step g)
+        → IfOk result (λ answer. MatchOption answer (NoGoal (G.step g) (G.passes g) (G.stands graph.old 0))
+        (λ r. IsBestNumbered (G.step g) (G.passes g) (G.stands graph.old 0) (G.stands graph.new) r.0.items (C.value r.1))) }
+    ensures overflow { (g : G.Graph) → G.explores graph.old g → IsPositive (G.step g)
+        → result ≡ Err PathError.CostOverflow → IsTooDear (G.step g) (G.passes g) (G.stands graph.old 0) (G.stands graph.new) C.fits }
     ensures errors { IfErr result (λ e. (e ≡ PathError.OutOfMemory) ⊎ (e ≡ PathError.CostOverflow)) }
 {
     let mut labels: Vec<Option<Label<C>>, A> = Vec::new(alloc);

@@ -1,3 +1,4 @@
 //! Directed graphs.
 
+pub mod bfs;
 pub mod dijkstra;

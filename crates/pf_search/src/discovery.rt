@@ -1,6 +1,6 @@
 //! The nodes that were found, numbered in the order in which they are found.
 
-ghost use Rattle.std.specs.Prelude.{◌≡◌, ◌≤◌, ◌<◌, ℕ, [], ◌∷◌, ◌++◌, List, true, false, Contains, IfOk, IfErr, OnOk, OnErr, MatchOption, take, length, slice_get};
+ghost use Rattle.std.specs.Prelude.{◌≡◌, ◌↔◌, ◌≤◌, ◌<◌, ℕ, [], ◌∷◌, ◌++◌, List, true, false, Contains, IfOk, IfErr, OnOk, OnErr, MatchOption, take, length, slice_get};
 ghost use Rattle.std.specs.Iterator.{IsFiniteIterable, Drains};
 ghost use Rattle.std.specs.List.{IsDistinct, AllZip};
 ghost use Rattle.pf_base.specs.Edges.{InReach};
@@ -93,7 +93,7 @@ fn number<N: Eq + Drop, A: Allocator + Copy>(
 }
 
 /// Numbers the node of an edge, and puts the edge at the end of the row.
-fn number_edge<N, C, A, B>(
+pub(crate) fn number_edge<N, C, A, B>(
     nodes: &mut Vec<N, A>,
     row: &mut Vec<(usize, C), B>,
     node: N,
@@ -146,6 +146,28 @@ where
     Ok(())
 }
 
+/// Clones of the nodes that the numbers stand for.
+pub(crate) fn clones_at<N, A>(
+    alloc: A,
+    nodes: &[N],
+    numbers: &[usize],
+) -> Result<Vec<N, A>, PathError>
+where
+    N: Eq + Clone + Drop,
+    A: Allocator + Copy,
+    requires inside { (k : ℕ) → Contains numbers.now k → k < length nodes.now }
+    requires clones { IsLawfulClone N.eq N.is_clone }
+    ensures nodes { IfOk result (λ path. AllZip (StandsFor N.eq nodes.now) numbers.now path.items) }
+    ensures refused { IfErr result (λ e. e ≡ PathError.OutOfMemory) }
+{
+    let mut path = Vec::with_capacity(alloc, numbers.len())?;
+    'numbers: for number in numbers {
+        let node = nodes[*number].clone()?;
+        path.push(node)?;
+    }
+    Ok(path)
+}
+
 impl<N, IN, FN, FS, A> Discovery<N, IN, FN, FS, A>
 where
     N: Eq + Clone + Drop,
@@ -160,7 +182,7 @@ where
         FS: FnMut(&N) -> bool,
         requires clones { IsLawfulClone N.eq N.is_clone }
         ensures one { IfOk result (λ d. ⟦<Discovery<N, IN, FN, FS, A> as NumberedGraph<C>>⟧.found d ≡ 1) }
-        ensures begins { IfOk result (λ d. (x : N) → N.eq start.now x ≡ true → ⟦<Discovery<N, IN, FN, FS, A> as NumberedGraph<C>>⟧.stands d 0 x) }
+        ensures begins { IfOk result (λ d. (x : N) → ⟦<Discovery<N, IN, FN, FS, A> as NumberedGraph<C>>⟧.stands d 0 x ↔ (N.eq start.now x ≡ true)) }
         ensures graph { IfOk result (λ d. (g : NodeGraph N) → g.starts ≡ start.now ∷ []
             → ⟦<FN as EdgeFunction<N, C>>⟧.answers successors (InReach N.eq g.edges g.starts) g.edges
             → ⟦<FS as NodeTest<N>>⟧.answers success (InReach N.eq g.edges g.starts) g.test
@@ -185,11 +207,6 @@ where
         ensures nodes { IfOk result (λ nodes. AllZip (StandsFor N.eq self.now.nodes.items) numbers.now nodes.items) }
         ensures refused { IfErr result (λ e. e ≡ PathError.OutOfMemory) }
     {
-        let mut path = Vec::with_capacity(alloc, numbers.len())?;
-        'numbers: for number in numbers {
-            let node = self.nodes[*number].clone()?;
-            path.push(node)?;
-        }
-        Ok(path)
+        clones_at(alloc, &self.nodes, numbers)
     }
 }

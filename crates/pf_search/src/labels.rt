@@ -2,7 +2,7 @@
 
 ghost use Rattle.std.specs.Prelude.{◌≡◌, ◌<◌, ◌≤◌, ◌≤ℤ◌, ◌<ℤ◌, ◌+ℤ◌, ◌+◌, ◌^◌, ◌⊎◌, ℕ, ℤ, true, false, List, OnOk, IfOk, IfErr, Contains, MatchOption, MatchBool, length};
 ghost use Rattle.pf_search.specs.declared.labels.Label.{Label};
-ghost use Rattle.pf_search.specs.Labels.{HasLabel, AllSettled, IsTree, IsChain, IsWithin, Settles, Lowered, ComesFrom, Covers, Stepped, Relaxed, Widened};
+ghost use Rattle.pf_search.specs.Labels.{HasLabel, by_cost, AllSettled, IsTree, IsChain, IsWithin, Settles, Lowered, ComesFrom, Covers, Stepped, Relaxed, Widened};
 
 use pf_base::{Cost, PathError};
 use std::alloc::Allocator;
@@ -49,7 +49,7 @@ pub fn settle_next<C: Cost, A: Allocator>(
     labels: &mut Vec<Option<Label<C>>, A>,
 ) -> Option<(usize, Label<C>)>
     ensures { MatchOption result (AllSettled labels.old.items)
-        (λ r. Settles C.value r.0 r.1 labels.old.items labels.new.items) }
+        (λ r. Settles (by_cost C.value) r.0 r.1 labels.old.items labels.new.items) }
 {
     let (number, label) = least_open(labels)?;
     labels[number] = Some(Label {
@@ -64,7 +64,7 @@ fn improves<C: Cost>(labels: &[Option<Label<C>>], next: usize, total: C) -> bool
     requires { next < length labels.now }
     ensures { MatchBool result
         ((l : Label C) → HasLabel labels.now next l → (l.settled ≡ false) × (C.value total <ℤ C.value l.cost))
-        ((l : Label C) × HasLabel labels.now next l × IsWithin C.value l (C.value total)) }
+        ((l : Label C) × HasLabel labels.now next l × IsWithin (by_cost C.value) l (C.value total)) }
 {
     match labels[next] {
         Some(label) => !label.settled && total < label.cost,
@@ -76,7 +76,7 @@ fn improves<C: Cost>(labels: &[Option<Label<C>>], next: usize, total: C) -> bool
 fn lower<C: Cost, A: Allocator>(labels: &mut Vec<Option<Label<C>>, A>, next: usize, new: Label<C>)
     requires inside { next < length labels.old.items }
     requires opened { new.settled ≡ false }
-    ensures { Lowered C.value next new labels.old.items labels.new.items }
+    ensures { Lowered (by_cost C.value) next new labels.old.items labels.new.items }
 {
     if improves(labels, next, new.cost) {
         labels[next] = Some(new);
@@ -93,7 +93,7 @@ fn take_step<C: Cost, A: Allocator>(
 )
     requires inside { next < length labels.old.items }
     requires deep { label.depth + 1 < 2 ^ 64 }
-    ensures { Stepped C.value C.fits parent label next price labels.old.items labels.new.items }
+    ensures { Stepped (by_cost C.value) C.value C.fits parent label next price labels.old.items labels.new.items }
 {
     if let Some(cost) = label.cost.checked_add(&price) {
         lower(
@@ -118,8 +118,8 @@ pub fn relax<C: Cost, A: Allocator>(
 )
     requires inside { (j : ℕ) (c : C) → Contains row.now (j, c) → j < length labels.old.items }
     requires deep { label.depth + 1 < 2 ^ 64 }
-    ensures relaxed { Relaxed C.value parent label row.now labels.old.items labels.new.items }
-    ensures reached { (j : ℕ) (c : C) → Contains row.now (j, c) → C.fits (C.value label.cost +ℤ C.value c) → Covers C.value label labels.new.items j c }
+    ensures relaxed { Relaxed (by_cost C.value) C.value parent label row.now labels.old.items labels.new.items }
+    ensures reached { (j : ℕ) (c : C) → Contains row.now (j, c) → C.fits (C.value label.cost +ℤ C.value c) → Covers (by_cost C.value) C.value label labels.new.items j c }
 {
     'steps: for (next, price) in row {
         take_step(labels, parent, label, *next, *price);
@@ -156,7 +156,7 @@ pub fn widen<C: Cost, A: Allocator>(
 }
 
 /// The number before this one on its path, or `None` where the path begins with it.
-fn parent_of<C: Cost>(labels: &[Option<Label<C>>], number: usize) -> Option<usize>
+fn parent_of<C: Copy>(labels: &[Option<Label<C>>], number: usize) -> Option<usize>
     requires { number < length labels.now }
     ensures { MatchOption result
         ((l : Label C) → HasLabel labels.now number l → l.depth ≡ 0)
@@ -175,7 +175,7 @@ fn parent_of<C: Cost>(labels: &[Option<Label<C>>], number: usize) -> Option<usiz
 }
 
 /// The numbers on the path to `last`, from number 0 on.
-pub fn path_to<C: Cost, A: Allocator + Copy>(
+pub fn path_to<C: Copy, A: Allocator + Copy>(
     alloc: A,
     labels: &[Option<Label<C>>],
     last: usize,

@@ -1,6 +1,6 @@
 //! Graphs whose nodes are numbered in the order in which they are found.
 
-ghost use Rattle.std.specs.Prelude.{◌≡◌, ◌<◌, ℕ, ℤ, List, Bool, OnOk, IfErr, Contains};
+ghost use Rattle.std.specs.Prelude.{◌≡◌, ◌<◌, ◌≤◌, ℕ, ℤ, List, Bool, OnOk, IfErr, Contains};
 ghost use Rattle.pf_search.specs.Numbered.{ListsSteps, Grows};
 
 use pf_base::{Cost, PathError};
@@ -52,6 +52,7 @@ pub trait NumberedGraph<C: Cost> {
         requires graph { (g : Graph) × explores self.old g }
         ensures grows { Grows (found self.old) (found self.new) (stands self.old) (stands self.new) }
         ensures inside { OnOk result ((j : ℕ) (c : C) → Contains row.new.items (j, c) → j < found self.new) }
+        ensures fresh { OnOk result ((j : ℕ) → found self.old ≤ j → j < found self.new → (c : C) × Contains row.new.items (j, c)) }
         ensures graph { (g : Graph) → explores self.old g → explores self.new g
             × OnOk result ((x : Node) → stands self.old node x → ListsSteps C.value (step g) (stands self.new) x row.new.items) }
         ensures refused { IfErr result (λ e. (e ≡ PathError.OutOfMemory) × (found self.new ≡ found self.old)) };

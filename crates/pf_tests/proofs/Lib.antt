@@ -1,1 +1,2 @@
 mod ListEdges
+pub mod PairLemmas

@@ -1,3 +1,4 @@
 pub mod Lists
 pub mod MinuteLaws
 pub mod Rows
+pub mod Pairs

@@ -2,6 +2,7 @@
 #![tactic(auto)]
 
 pub mod callers;
+pub mod fewest;
 pub mod minutes;
 pub mod no_case;
 #[cfg(test)]

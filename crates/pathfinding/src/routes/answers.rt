@@ -1,17 +1,17 @@
 //! Answers as text.
 
 ghost use Rattle.std.specs.Prelude.{◌≡◌, ◌<◌, ℕ, List, All, IfOk, IfErr, length, map};
-ghost use Rattle.pathfinding.specs.AnswerText.{IsAnswer, IsPathAnswer, Overflows, path_line};
+ghost use Rattle.pathfinding.specs.AnswerText.{IsAnswer, IsFewestEdgesAnswer, IsPathAnswer, Overflows, path_line};
 ghost use Rattle.pathfinding.specs.EdgeText.{Edge};
 ghost use Rattle.pathfinding.specs.Links.{name_at};
-ghost use Rattle.pathfinding.specs.Parsed.{HoldsOfEdges, RefusesAnswer};
+ghost use Rattle.pathfinding.specs.Parsed.{HoldsOfEdges, RefusesAnswer, RefusesText};
 ghost use Rattle.pathfinding.specs.Roads.{HasCostOverflow};
 
 use crate::routes::commands::Command;
 use crate::routes::error::RouteError;
 use crate::routes::links::Names;
 use crate::routes::network::Network;
-use crate::routes::search::cheapest_path;
+use crate::routes::search::{cheapest_path, fewest_edges_path};
 use std::alloc::{AllocError, Allocator};
 
 /// A number and names on a line, as `11: A B`.
@@ -53,6 +53,26 @@ fn cheapest_line<A: Allocator + Copy>(
     }
 }
 
+/// The line of a path with fewest edges between two names, or that there is none.
+fn fewest_edges_line<A: Allocator + Copy>(
+    alloc: A,
+    from: &[u8],
+    to: &[u8],
+    text: &[u8],
+) -> Result<Vec<u8, A>, RouteError>
+    ensures ok { IfOk result (λ line. HoldsOfEdges text.now (λ edges. IsFewestEdgesAnswer edges from.now to.now line.items)) }
+    ensures err { IfErr result (λ e. RefusesText e text.now) }
+{
+    let network = Network::read(alloc, from, to, text)?;
+    match fewest_edges_path(alloc, &network.graph, network.from, network.to)? {
+        None => Ok(Vec::from_slice(alloc, b"none\n")?),
+        Some(path) => {
+            let edge_count = path.len() - 1;
+            Ok(write_path(alloc, edge_count as u64, &network.names, path.as_slice())?)
+        }
+    }
+}
+
 /// The text of an answer to the command about the edges of a text.
 pub(crate) fn answer_to<A: Allocator + Copy>(
     alloc: A,
@@ -65,6 +85,9 @@ pub(crate) fn answer_to<A: Allocator + Copy>(
     match command {
         Command::Dijkstra { from, to } => {
             cheapest_line(alloc, from.as_bytes(), to.as_bytes(), text)
+        }
+        Command::Bfs { from, to } => {
+            fewest_edges_line(alloc, from.as_bytes(), to.as_bytes(), text)
         }
     }
 }

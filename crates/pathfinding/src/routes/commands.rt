@@ -10,4 +10,11 @@ pub enum Command {
         /// The name of the last node.
         to: String,
     },
+    /// A path with fewest edges from one name to another.
+    Bfs {
+        /// The name of the first node.
+        from: String,
+        /// The name of the last node.
+        to: String,
+    },
 }

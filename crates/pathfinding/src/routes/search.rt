@@ -2,11 +2,12 @@
 
 ghost use Rattle.std.specs.Prelude.{◌≡◌, ◌⊎◌, ℕ, ◌<◌, IfOk, IfErr, MatchOption, All};
 ghost use Rattle.pathfinding.specs.Graph.{row_of, node_count};
-ghost use Rattle.pathfinding.specs.Numbers.{HasNoNumberedWalk, IsCheapestNumberedPath, HasNumberedOverflow};
+ghost use Rattle.pathfinding.specs.Numbers.{HasNoNumberedWalk, IsCheapestNumberedPath, HasNumberedOverflow, IsShortestNumberedPath};
 
 use crate::routes::error::RouteError;
 use crate::routes::graph::Graph;
-use pf_base::PathError;
+use pf_base::{NodeRefs, PathError};
+use pf_search::directed::bfs::bfs;
 use pf_search::directed::dijkstra::dijkstra;
 use std::alloc::Allocator;
 
@@ -27,6 +28,30 @@ pub(crate) fn cheapest_path<A: Allocator + Copy>(
     match dijkstra(alloc, &from, successors, |node: &usize| *node == to) {
         Ok(answer) => Ok(answer),
         Err(PathError::CostOverflow) => Err(RouteError::CostOverflow),
+        Err(_) => Err(RouteError::OutOfMemory),
+    }
+}
+
+/// A path with fewest edges between two numbers. The costs are not used.
+pub(crate) fn fewest_edges_path<A: Allocator + Copy>(
+    alloc: A,
+    graph: &Graph<A>,
+    from: usize,
+    to: usize,
+) -> Result<Option<Vec<usize, A>>, RouteError>
+    requires start { from < node_count graph.now }
+    requires targets { (n : ℕ) → n < node_count graph.now → All (λ s. s.0 < node_count graph.now) (row_of graph.now n) }
+    ensures ok { IfOk result (λ answer. MatchOption answer (HasNoNumberedWalk graph.now from to)
+        (λ path. IsShortestNumberedPath graph.now from to path.items)) }
+    ensures err { IfErr result (λ e. e ≡ RouteError.OutOfMemory) }
+{
+    // Neither call has another error than want of memory.
+    let Ok(starts) = NodeRefs::from_one(alloc, &from) else {
+        return Err(RouteError::OutOfMemory);
+    };
+    let successors = |node: &usize| graph.steps(*node).iter().map(|step| step.0);
+    match bfs(alloc, &starts, successors, |node: &usize| *node == to) {
+        Ok(answer) => Ok(answer),
         Err(_) => Err(RouteError::OutOfMemory),
     }
 }

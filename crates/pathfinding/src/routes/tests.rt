@@ -79,13 +79,24 @@ fn run_over(alloc: Global, command: &Command, text: &[u8]) -> (Result<(), RouteE
 
 #[test]
 fn answers_are_written(rt: HostRuntime) -> Result<(), Fail> {
-    let cases: [(&str, &[u8], &[u8]); 6] = [
+    let cases: [(&str, &[u8], &[u8]); 13] = [
         ("dijkstra A E", SEVEN, b"11: A B D E\n"),
         ("dijkstra A A", b"", b"0: A\n"),
         ("dijkstra a c", b"", b"none\n"),
         ("dijkstra a b", b"\r\n\n a\tb 007 \r\n", b"7: a b\n"),
         ("dijkstra a b", b"a b 2\na b 1\r", b"1: a b\n"),
         ("dijkstra b a", b"a b 1", b"none\n"),
+        ("bfs A E", SEVEN, b"2: A C E\n"),
+        ("bfs A D", SEVEN, b"2: A B D\n"),
+        ("bfs a a", b"", b"0: a\n"),
+        ("bfs a a", b"a a 1", b"0: a\n"),
+        ("bfs a c", b"", b"none\n"),
+        ("bfs b a", b"a b 1", b"none\n"),
+        (
+            "bfs a c",
+            b"a b 18446744073709551615\nb c 1\n",
+            b"2: a b c\n",
+        ),
     ];
     for (line, text, want) in cases {
         let command = asked(rt.alloc(), line)?.ok_or("no command")?;
@@ -129,7 +140,11 @@ fn faults_write_nothing(rt: HostRuntime) -> Result<(), Fail> {
 fn wrong_words_are_no_command(rt: HostRuntime) -> Result<(), Fail> {
     let wrong = [
         "walk",
-        "bfs a b",
+        "walk a b",
+        "bfs a",
+        "bfs a b c",
+        "BFS a b",
+        "bfs a b\u{7f}",
         "dijkstra a",
         "dijkstra a b c",
         "Dijkstra a b",
@@ -143,6 +158,7 @@ fn wrong_words_are_no_command(rt: HostRuntime) -> Result<(), Fail> {
     }
     assert!(rt; command(Vec::new(rt.alloc())).is_none());
     assert!(rt; asked(rt.alloc(), "dijkstra ! ~")?.is_some());
+    assert!(rt; asked(rt.alloc(), "bfs ! ~")?.is_some());
     Ok(())
 }
 
@@ -236,5 +252,36 @@ fn the_prelude_has_the_search(rt: HostRuntime) -> Result<(), Fail> {
     let (path, cost) = found.ok_or("no path")?;
     assert_eq!(rt; path.as_slice(), [1, 2, 3].as_slice());
     assert_eq!(rt; cost, 10);
+    Ok(())
+}
+
+#[test]
+fn bfs_reads_the_costs(rt: HostRuntime) -> Result<(), Fail> {
+    let command = asked(rt.alloc(), "bfs a c")?.ok_or("no command")?;
+    let cases: [(&[u8], RouteError); 2] = [
+        (b"a c 18446744073709551616\n", RouteError::BadEdge(1)),
+        (b"a b 1\nb c\n", RouteError::BadEdge(2)),
+    ];
+    for (text, want) in cases {
+        let (result, written) = run_over(rt.alloc(), &command, text);
+        assert_eq!(rt; result, Err(want));
+        assert!(rt; written.is_empty());
+    }
+    Ok(())
+}
+
+#[test]
+fn the_prelude_has_bfs(rt: HostRuntime) -> Result<(), Fail> {
+    let starts = prelude::NodeRefs::from_one(rt.alloc(), &1u8)?;
+    let found = prelude::bfs(
+        rt.alloc(),
+        &starts,
+        |n: &u8| -> [u8; 1]
+            ensures { result ≡ (n.now + 1) % 2 ^ 8 ∷ [] }
+        { [n.wrapping_add(1)] },
+        |n: &u8| *n == 3,
+    )?;
+    let path = found.ok_or("no path")?;
+    assert_eq!(rt; path.as_slice(), [1, 2, 3].as_slice());
     Ok(())
 }

@@ -13,7 +13,7 @@ fn is_name(text: &str) -> bool
     !text.is_empty() && are_visible(text.as_bytes())
 }
 
-/// The command that the words after the program's name spell, as `dijkstra A B`.
+/// The command that the words after the program's name spell, as `dijkstra A B` or `bfs A B`.
 ///
 /// `None` means wrong words: too few or too many of them, an unknown command, or a name that is not
 /// one or more of the bytes `!` to `~`. No memory is taken.
@@ -30,9 +30,12 @@ pub fn command(words: Vec<String>) -> Option<Command>
     ) else {
         return None;
     };
-    if name.as_str() == "dijkstra" && is_name(from.as_str()) && is_name(to.as_str()) {
-        Some(Command::Dijkstra { from, to })
-    } else {
-        None
+    if !is_name(from.as_str()) || !is_name(to.as_str()) {
+        return None;
+    }
+    match name.as_str() {
+        "dijkstra" => Some(Command::Dijkstra { from, to }),
+        "bfs" => Some(Command::Bfs { from, to }),
+        _ => None,
     }
 }

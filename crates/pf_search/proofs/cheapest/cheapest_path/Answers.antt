@@ -1,7 +1,7 @@
 use Rattle.std.proofs.Common.{rules, ◌≡◌, ◌<◌, ◌^◌, ◌∙◌, sym, subst, [], ◌∷◌, ℕ, arith, length, ap, true, false, Some, refl}
 use Rattle.std.proofs.lemmas.List.Sums.{count_by-le-length}
 use Rattle.pf_search.specs.declared.labels.Label.{Label}
-use Rattle.pf_search.specs.Labels.{is_settled}
+use Rattle.pf_search.specs.Labels.{by_cost, is_settled}
 use Rattle.pf_search.proofs.LabelLemmas.{HasLabel-inside, tree_start, deep_start}
 use Rattle.pf_search.proofs.PathLemmas.{IsTree-settle, IsTree-turn, deep_turn}
 use Rattle.pf_search.proofs.SearchLemmas.{search_start, best, no_goal, best_grows}
@@ -17,14 +17,14 @@ turns-init g c =
       tree = tree_start c.push.new.self.items first e refl;
       deep = deep_start c.push.new.self.items first e refl _;
       explored = λ h x. x;
-      search = λ h s x here p. search_start g.C.Number.value (g.G.NumberedGraph.step h) (g.G.NumberedGraph.passes h) s c.push.new.self.items first e refl refl _ (ap g.C.Number.value c.zero.ensures ∙ g.met.C.Zero.zero_law g.met.C.Integral.exact_law) here;
+      search = λ h x p. search_start (by_cost g.C.Number.value) (g.G.NumberedGraph.step h) (g.G.NumberedGraph.passes h) _ c.push.new.self.items first e refl refl _ (ap g.C.Number.value c.zero.ensures ∙ g.met.C.Zero.zero_law g.met.C.Integral.exact_law) (λ s k. k) c.requires.begins;
     }
 
 pub is_goal-requires-clause-inside : goal.is_goal-requires-clause-inside
 is_goal-requires-clause-inside g c = subst (λ (n : ℕ). c.in-Some.next.0 < n) c.turns.invariant.len (HasLabel-inside _ _ _ c.in-Some.ensures.was)
 
 pub path_to-requires-clause-tree : goal.path_to-requires-clause-tree
-path_to-requires-clause-tree g c = rw c.deref.ensures.value (IsTree-settle g.C.Number.value _ _ _ _ c.in-Some.ensures c.turns.invariant.tree)
+path_to-requires-clause-tree g c = rw c.deref.ensures.value (IsTree-settle (by_cost g.C.Number.value) _ _ _ _ c.in-Some.ensures c.turns.invariant.tree)
 
 pub path_to-requires-clause-labelled : goal.path_to-requires-clause-labelled
 path_to-requires-clause-labelled g c = rw c.deref.ensures.value (record c.in-Some.next.1 { settled = true }, c.in-Some.ensures.now)
@@ -35,12 +35,12 @@ returns-then-is_goal-clause-inside g c = λ k h.
     subst (λ (n : ℕ). k < n) (ap length c.deref.ensures.value ∙ c.in-Some.ensures.len ∙ c.turns.invariant.len ∙ sym c.is_goal.ensures.same) l
 
 pub returns-then-is_goal-clause-best : goal.returns-then-is_goal-clause-best
-returns-then-is_goal-clause-best g c = λ h s x here p.
-    let i = c.turns.invariant.search h s x here p in
+returns-then-is_goal-clause-best g c = λ h x p.
+    let i = c.turns.invariant.search h x p in
     let t = (c.is_goal.ensures.graph h (c.turns.invariant.explored h x)).1 in
     let numbers = c.in_ok-numbers.numbers.items in
-    best_grows (g.G.NumberedGraph.step h) (g.G.NumberedGraph.passes h) s _ _ _ _ c.is_goal.ensures.grows numbers (g.C.Number.value c.in-Some.next.1.cost)
-    (best g.C.Number.value (g.G.NumberedGraph.step h) (g.G.NumberedGraph.passes h) s p _ _ i c.turns.invariant.tree _ _ _ c.in-Some.ensures numbers (rw c.deref.ensures.value at c.in_ok-numbers.ensures.chain) (λ y k. sym (t y k) ∙ c.if-is_goal.true))
+    best_grows (g.G.NumberedGraph.step h) (g.G.NumberedGraph.passes h) (g.G.NumberedGraph.stands c.args.graph.now 0) _ _ _ _ c.is_goal.ensures.grows numbers (g.C.Number.value c.in-Some.next.1.cost)
+    (best (by_cost g.C.Number.value) (g.G.NumberedGraph.step h) (g.G.NumberedGraph.passes h) (g.G.NumberedGraph.stands c.args.graph.now 0) p _ _ i c.turns.invariant.tree _ _ _ c.in-Some.ensures numbers (rw c.deref.ensures.value at c.in_ok-numbers.ensures.chain) (λ y k. sym (t y k) ∙ c.if-is_goal.true))
 
 pub expand-requires-clause-inside : goal.expand-requires-clause-inside
 expand-requires-clause-inside g c = subst (λ (n : ℕ). c.in-Some.next.0 < n) (c.turns.invariant.len ∙ sym c.is_goal.ensures.same) (HasLabel-inside _ _ _ c.in-Some.ensures.was)
@@ -62,12 +62,12 @@ covers-requires g c = λ j d h.
     rw c.deref-in-Some-2.ensures.value (subst (λ (n : ℕ). j < n) (sym (c.relax.ensures.relaxed.len ∙ c.in_ok-widen.ensures.widened.len)) (rw c.found.ensures (c.in_ok-expand.ensures.inside j d (rw c.deref-in-Some-3.ensures.value at h))))
 
 pub returns-then-not-covers-clause-overflow : goal.returns-then-not-covers-clause-overflow
-returns-then-not-covers-clause-overflow g c = λ h s x here p e.
-    let i = c.turns.invariant.search h s x here p in
+returns-then-not-covers-clause-overflow g c = λ h x p e.
+    let i = c.turns.invariant.search h x p in
     let z = c.in-Some.ensures in
     let x1 = (c.is_goal.ensures.graph h (c.turns.invariant.explored h x)).0 in
     let x2 = c.in_ok-expand.ensures.graph h x1 in
-    dear g.C.Number.value g.C.Number.fits (λ a b d. g.C.Number.between_law a b d g.met.C.Integral.exact_law) (g.G.NumberedGraph.step h) (g.G.NumberedGraph.passes h) s p _ _ i c.turns.invariant.tree _ _ _ z
+    dear g.C.Number.value g.C.Number.fits (λ a b d. g.C.Number.between_law a b d g.met.C.Integral.exact_law) (g.G.NumberedGraph.step h) (g.G.NumberedGraph.passes h) (g.G.NumberedGraph.stands c.args.graph.now 0) p _ _ i c.turns.invariant.tree _ _ _ z
     _ _ _ _ _ c.is_goal.ensures.grows c.in_ok-expand.ensures.grows c.turns.invariant.len _ x2.1 _ _ (rw c.found.ensures at c.in_ok-widen.ensures.widened)
     (rw c.deref-in-Some.ensures.value at c.relax.ensures.relaxed) (rw c.deref-in-Some.ensures.value at c.relax.ensures.reached) c.known.ensures
     (g.met.G.NumberedGraph.one_law _ h (c.turns.invariant.explored h x)) (subst (λ (n : ℕ). c.in-Some.next.0 < n) c.turns.invariant.len (HasLabel-inside _ _ _ z.was)) (rw (c.deref-in-Some-2.ensures.value, c.deref-in-Some-3.ensures.value) at c.if-not-covers.ensures)
@@ -79,19 +79,22 @@ turns-preserved g c =
     let rel = rw c.deref-in-Some.ensures.value at c.relax.ensures.relaxed in
     record {
       len = c.relax.ensures.relaxed.len ∙ c.in_ok-widen.ensures.widened.len ∙ c.found.ensures;
-      tree = IsTree-turn g.C.Number.value _ _ _ _ z _ _ wide _ _ rel (IsTree-settle g.C.Number.value _ _ _ _ z c.turns.invariant.tree);
-      deep = deep_turn g.C.Number.value _ _ _ _ z _ _ wide _ _ rel c.turns.invariant.deep;
+      tree = IsTree-turn (by_cost g.C.Number.value) _ _ _ _ z _ _ wide g.C.Number.value _ _ rel (IsTree-settle (by_cost g.C.Number.value) _ _ _ _ z c.turns.invariant.tree);
+      deep = deep_turn (by_cost g.C.Number.value) _ _ _ _ z _ _ wide g.C.Number.value _ _ rel c.turns.invariant.deep;
       explored = λ h x. (c.in_ok-expand.ensures.graph h (c.is_goal.ensures.graph h (c.turns.invariant.explored h x)).0).0;
-      search = λ h s x here p.
-          let i = c.turns.invariant.search h s x here p in
+      search = λ h x p.
+          let i = c.turns.invariant.search h x p in
           let x1 = c.is_goal.ensures.graph h (c.turns.invariant.explored h x) in
           let x2 = c.in_ok-expand.ensures.graph h x1.0 in
-          turned g.C.Number.value g.C.Number.fits (λ a b d. g.C.Number.between_law a b d g.met.C.Integral.exact_law) (g.G.NumberedGraph.step h) (g.G.NumberedGraph.passes h) s p _ _ i c.turns.invariant.tree _ _ _ z
+          turned g.C.Number.value g.C.Number.fits (λ a b d. g.C.Number.between_law a b d g.met.C.Integral.exact_law) (g.G.NumberedGraph.step h) (g.G.NumberedGraph.passes h) (g.G.NumberedGraph.stands c.args.graph.now 0) p _ _ i c.turns.invariant.tree _ _ _ z
           _ _ _ _ _ c.is_goal.ensures.grows c.in_ok-expand.ensures.grows c.turns.invariant.len _ x2.1 _ _ wide
           rel (rw c.deref-in-Some.ensures.value at c.relax.ensures.reached) c.known.ensures
           (λ y t. sym (x1.1 y t) ∙ c.if-is_goal.false) (rw (c.deref-in-Some-2.ensures.value, c.deref-in-Some-3.ensures.value) at c.if-not-covers.ensures);
     }
 
 pub returns-clause-best : goal.returns-clause-best
-returns-clause-best g c = λ h s x here p.
-    no_goal g.C.Number.value (g.G.NumberedGraph.step h) (g.G.NumberedGraph.passes h) s p _ _ (c.turns.invariant.search h s x here p) c.in_default.ensures
+returns-clause-best g c = λ h x p.
+    no_goal (by_cost g.C.Number.value) (g.G.NumberedGraph.step h) (g.G.NumberedGraph.passes h) (g.G.NumberedGraph.stands c.args.graph.now 0) p _ _ (c.turns.invariant.search h x p) c.in_default.ensures
+
+pub returns-then-not-covers-clause-graph : goal.returns-then-not-covers-clause-graph
+returns-then-not-covers-clause-graph g c = λ h x. (c.in_ok-expand.ensures.graph h (c.is_goal.ensures.graph h (c.turns.invariant.explored h x)).0).0

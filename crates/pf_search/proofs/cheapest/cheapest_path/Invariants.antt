@@ -1,7 +1,7 @@
 use Rattle.std.proofs.Common.{◌≡◌, ◌≤◌, ◌-◌, ◌^◌, ℕ, length}
 use Rattle.pf_search.specs.declared.labels.Label.{Label}
 use Rattle.pf_search.specs.Steps.{IsPositive}
-use Rattle.pf_search.specs.Labels.{HasLabel, IsTree, settled_count}
+use Rattle.pf_search.specs.Labels.{HasLabel, by_cost, IsTree, settled_count}
 use Rattle.pf_search.proofs.SearchLemmas.{IsSearch}
 use Rattle.pf_search.proofs.cheapest.cheapest_path.Given as goal
 
@@ -11,8 +11,8 @@ invariant-turns g l = record {
   tree : IsTree l.labels.items;
   deep : (k : ℕ) (m : Label g.row.C.Denot) → HasLabel l.labels.items k m → m.depth ≤ settled_count l.labels.items;
   explored : (h : g.G.NumberedGraph.Graph) → g.G.NumberedGraph.explores l.fn.graph h → g.G.NumberedGraph.explores l.graph h;
-  search : (h : g.G.NumberedGraph.Graph) (s : g.G.NumberedGraph.Node) → g.G.NumberedGraph.explores l.fn.graph h → g.G.NumberedGraph.stands l.fn.graph 0 s → IsPositive (g.G.NumberedGraph.step h)
-      → IsSearch g.C.Number.value (g.G.NumberedGraph.step h) (g.G.NumberedGraph.passes h) s (g.G.NumberedGraph.stands l.graph) l.labels.items;
+  search : (h : g.G.NumberedGraph.Graph) → g.G.NumberedGraph.explores l.fn.graph h → IsPositive (g.G.NumberedGraph.step h)
+      → IsSearch (by_cost g.C.Number.value) (g.G.NumberedGraph.step h) (g.G.NumberedGraph.passes h) (g.G.NumberedGraph.stands l.fn.graph 0) (g.G.NumberedGraph.stands l.graph) l.labels.items;
 }
 
 abbrev pub decreases-turns : goal.decreases-turns

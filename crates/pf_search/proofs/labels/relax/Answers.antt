@@ -1,6 +1,7 @@
 use Rattle.std.proofs.Common.{ℕ, ◌<◌, subst, sym}
 use Rattle.pf_search.proofs.ListLemmas.{Contains-take, Contains-take_all, Contains-take_here, Contains-here}
 use Rattle.pf_search.proofs.LabelLemmas.{Relaxed-more, reached_more}
+use Rattle.pf_search.specs.Labels.{by_cost}
 use Rattle.pf_search.proofs.labels.relax.Goals as goal
 
 pub take_step-requires-clause-inside : goal.take_step-requires-clause-inside
@@ -9,8 +10,8 @@ take_step-requires-clause-inside g c =
 
 pub steps-preserved : goal.steps-preserved
 steps-preserved g c = record {
-  relaxed = Relaxed-more g.C.Number.value g.C.Number.fits c.args.parent c.args.label c.steps-item.result.0 c.steps-item.result.1 _ _ (λ x h. Contains-take c.args.row.now c.steps.next-index x h) (Contains-take_here c.args.row.now c.steps.next-index c.steps-item.result c.steps-test.true c.steps-item.is) _ _ _ c.take_step.ensures c.steps.invariant.relaxed;
-  reached = reached_more g.C.Number.value g.C.Number.fits c.args.parent c.args.label c.args.row.now c.steps.next-index c.steps-item.result c.steps-item.is c.steps-test.true _ _ c.take_step.ensures c.steps.invariant.reached;
+  relaxed = Relaxed-more (by_cost g.C.Number.value) g.C.Number.value g.C.Number.fits c.args.parent c.args.label c.steps-item.result.0 c.steps-item.result.1 _ _ (λ x h. Contains-take c.args.row.now c.steps.next-index x h) (Contains-take_here c.args.row.now c.steps.next-index c.steps-item.result c.steps-test.true c.steps-item.is) _ _ _ c.take_step.ensures c.steps.invariant.relaxed;
+  reached = reached_more (by_cost g.C.Number.value) g.C.Number.value g.C.Number.fits c.args.parent c.args.label c.args.row.now c.steps.next-index c.steps-item.result c.steps-item.is c.steps-test.true _ _ c.take_step.ensures c.steps.invariant.reached;
 }
 
 pub returns-clause-reached : goal.returns-clause-reached

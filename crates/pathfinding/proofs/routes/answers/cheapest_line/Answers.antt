@@ -1,6 +1,5 @@
-use Rattle.std.proofs.Common.{◌≡◌, ◌⊎◌, ℕ, List, ◌<◌, ap, ◌∙◌, inl, inr, Ok, Err, Result, map, length, sym, subst, Option, Some, None}
-use Rattle.std.specs.Prelude.{All, IfErr, MatchOption}
-use Rattle.std.specs.Result.{IsErrAnd}
+use Rattle.std.proofs.Common.{◌≡◌, ◌⊎◌, ℕ, List, ◌<◌, ap, ◌∙◌, inl, inr, map, length, sym, subst}
+use Rattle.std.specs.Prelude.{All}
 use Rattle.pathfinding.specs.EdgeText.{Edge}
 use Rattle.pathfinding.specs.Links.{name_at}
 use Rattle.pathfinding.specs.AnswerText.{path_line}
@@ -9,12 +8,8 @@ use Rattle.pathfinding.specs.Roads.{HasCostOverflow}
 use Rattle.pathfinding.specs.declared.routes.error.RouteError.{RouteError}
 use Rattle.pathfinding.specs.declared.routes.error.RouteError.TheVariants.{OutOfMemory, CostOverflow}
 use Rattle.pathfinding.proofs.Networks.{targets, has_no_walk, is_cheapest, has_overflow, path-below}
+use Rattle.pathfinding.proofs.Outcomes.{refused_by, at_some, at_none}
 use Rattle.pathfinding.proofs.routes.answers.cheapest_line.Goals as goal
-
--- what holds of the error
-refused_by : {X : Type 0} (Q P : RouteError → Type 0) (r : Result X RouteError) → ((e : RouteError) → Q e → P e) → IsErrAnd r Q → IfErr r P
-refused_by Q P (Ok x) h k = tt
-refused_by Q P (Err e) h k = h e k
 
 no_memory : (overflows : List Edge → Type 0) (text : List ℕ) (e : RouteError) → e ≡ OutOfMemory → RefusesAnswer overflows e text
 no_memory overflows text e h = subst (λ x. RefusesAnswer overflows x text) (sym h) tt
@@ -25,12 +20,6 @@ passed_on overflows text e (inr h) = subst (λ x. RefusesAnswer overflows x text
 
 same_refusal : (overflows : List Edge → Type 0) (text : List ℕ) (d e : RouteError) → RefusesAnswer overflows d text → e ≡ d → RefusesAnswer overflows e text
 same_refusal overflows text d e h k = subst (λ x. RefusesAnswer overflows x text) (sym k) h
-
-at_some : {X : Type 0} (P : Type 0) (Q : X → Type 0) (o : Option X) (x : X) → o ≡ Some x → MatchOption o P Q → Q x
-at_some P Q o x e h = subst (λ o. MatchOption o P Q) e h
-
-at_none : {X : Type 0} (P : Type 0) (Q : X → Type 0) (o : Option X) → o ≡ None → MatchOption o P Q → P
-at_none P Q o e h = subst (λ o. MatchOption o P Q) e h
 
 pub cheapest_path-requires-clause-targets : goal.cheapest_path-requires-clause-targets
 cheapest_path-requires-clause-targets g c = let h = c.in_ok-network.ensures.ok in targets c.in_ok-network.network h.0 _ _ h.2

@@ -3,8 +3,11 @@ use Rattle.std.specs.Prelude.{Err}
 use Rattle.pf_base.specs.declared.error.PathError.TheVariants.{CostOverflow}
 use Rattle.pf_search.specs.Nodes.{NodeGraph}
 use Rattle.pf_search.specs.NodeLaws.{StandsFor-one}
-use Rattle.pf_search.proofs.WalkLemmas.{positive, no_walk, best_answer, past_range}
+use Rattle.pf_search.proofs.WalkLemmas.{all_starts, only_starts, positive, no_walk, best_answer, past_range}
 use Rattle.pf_search.proofs.directed.dijkstra.dijkstra.Goals as goal
+
+pub cheapest_path-requires-clause-begins : goal.cheapest_path-requires-clause-begins
+cheapest_path-requires-clause-begins g c = (c.args.start.now, (c.in_ok-graph.ensures.begins c.args.start.now).1 (g.met.N.Eq.laws.refl c.args.start.now))
 
 pub cheapest_path-requires-clause-graph : goal.cheapest_path-requires-clause-graph
 cheapest_path-requires-clause-graph g c =
@@ -22,8 +25,8 @@ returns-in_err-cheapest_path-clause-overflow g c = λ edges test a t p e.
     let keys = c.cheapest_path.new.graph.nodes.items in
     let y = c.in_err-cheapest_path.ensures.graph h x in
     let f : c.in_err-cheapest_path.field-0.0 ≡ CostOverflow = search rules in
-    let d = c.in_err-cheapest_path.ensures.overflow h start x (c.in_ok-graph.ensures.begins start (laws.refl start)) (positive eq laws h a.alike p) (ap Err f) in
-    past_range eq laws h a.alike start refl test t.alike g.C.Number.fits keys (StandsFor-one eq laws keys y.distinct) d
+    let d = c.in_err-cheapest_path.ensures.overflow h x (positive eq laws h a.alike p) (ap Err f) in
+    past_range eq laws h a.alike _ (all_starts eq start _ c.in_ok-graph.ensures.begins) (only_starts eq start _ c.in_ok-graph.ensures.begins) test g.C.Number.fits keys (StandsFor-one eq laws keys y.distinct) d
 
 pub returns-in-None-clause-best : goal.returns-in-None-clause-best
 returns-in-None-clause-best g c = λ edges test a t p.
@@ -32,8 +35,8 @@ returns-in-None-clause-best g c = λ edges test a t p.
     let start = c.args.start.now in
     let h : NodeGraph g.row.N.Denot = record { starts = start ∷ []; edges = edges; test = test } in
     let x = c.in_ok-graph.ensures.graph h refl a t in
-    let b = rw c.in-None.is at (c.in_ok-cheapest_path.ensures.best h start x (c.in_ok-graph.ensures.begins start (laws.refl start)) (positive eq laws h a.alike p)) in
-    no_walk eq laws h a.alike start refl test t.alike b
+    let b = rw c.in-None.is at (c.in_ok-cheapest_path.ensures.best h x (positive eq laws h a.alike p)) in
+    no_walk eq laws h a.alike _ (all_starts eq start _ c.in_ok-graph.ensures.begins) (only_starts eq start _ c.in_ok-graph.ensures.begins) test b
 
 pub nodes_at-requires-clause-inside : goal.nodes_at-requires-clause-inside
 nodes_at-requires-clause-inside g c = λ k h. (rw c.in-Some.is at c.in_ok-cheapest_path.ensures.inside) k (rw c.deref.ensures.value at h)
@@ -47,5 +50,5 @@ returns-clause-best g c = λ edges test a t p.
     let x = c.in_ok-graph.ensures.graph h refl a t in
     let keys = c.cheapest_path.new.graph.nodes.items in
     let y = c.in_ok-cheapest_path.ensures.graph h x in
-    let b = rw c.in-Some.is at (c.in_ok-cheapest_path.ensures.best h start x (c.in_ok-graph.ensures.begins start (laws.refl start)) (positive eq laws h a.alike p)) in
-    best_answer eq laws h a.alike start refl test t.alike keys (StandsFor-one eq laws keys y.distinct) c.in-Some.numbers.items c.in_ok-path-in-Some.path.items (g.C.Number.value c.in-Some.cost) b (rw c.deref.ensures.value at c.in_ok-path-in-Some.ensures.nodes)
+    let b = rw c.in-Some.is at (c.in_ok-cheapest_path.ensures.best h x (positive eq laws h a.alike p)) in
+    best_answer eq laws h a.alike _ (all_starts eq start _ c.in_ok-graph.ensures.begins) (only_starts eq start _ c.in_ok-graph.ensures.begins) test t.alike keys (StandsFor-one eq laws keys y.distinct) c.in-Some.numbers.items c.in_ok-path-in-Some.path.items (g.C.Number.value c.in-Some.cost) b (rw c.deref.ensures.value at c.in_ok-path-in-Some.ensures.nodes)

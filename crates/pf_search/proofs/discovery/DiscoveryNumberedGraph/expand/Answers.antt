@@ -2,7 +2,7 @@ use Rattle.std.proofs.Common.{rules, ◌≡◌, sym, subst, Some, Bor, slice_get
 use Rattle.pf_base.specs.Edges.{InReach}
 use Rattle.pf_search.specs.NodeLaws.{StandsFor-one}
 use Rattle.pf_search.proofs.ListLemmas.{at_place, on_ok, ok_or_err}
-use Rattle.pf_search.proofs.NodeLemmas.{Answers-takes, Answers-gives, Explores-called, Gives-ends, Gives-drains, Grows-from_take, inside_of, Lists-from, reached_added}
+use Rattle.pf_search.proofs.NodeLemmas.{fresh_number, Answers-takes, Answers-gives, Explores-called, Gives-ends, Gives-drains, Grows-from_take, inside_of, Lists-from, reached_added}
 use Rattle.pf_search.proofs.discovery.DiscoveryNumberedGraph.expand.Goals as goal
 
 pub successors-items-requires : goal.successors-items-requires
@@ -47,3 +47,7 @@ returns-clause-graph g c = λ h x.
       },
       on_ok c.number_all.result c.number_all.ensures.numbered (λ n y s. Lists-from eq laws g.C.Number.value h x.graph.alike keys keys' c.args.node here _ n.1 at reach n.4 (Gives-drains _ _ _ _ _ _ gives n.0 n.1 n.2 n.3) (λ i j z. StandsFor-one eq laws keys' c.number_all.ensures.distinct i j z) y s),
     )
+
+pub returns-clause-fresh : goal.returns-clause-fresh
+returns-clause-fresh g c = on_ok c.number_all.result c.number_all.ensures.numbered (λ n j low high.
+    fresh_number g.N.PartialEq.eq g.met.N.Eq.laws c.args.self.now.nodes.items c.number_all.new.nodes.items c.number_all.ensures.distinct _ n.1 n.4 n.5 j low high)

@@ -1,0 +1,51 @@
+use Rattle.std.proofs.Common.{◌≡◌, ℕ, List, ◌<◌, ◌-◌, arith, ap, ◌∙◌, inl, inr, map, length, sym, subst}
+use Rattle.std.specs.Prelude.{All}
+use Rattle.std.proofs.lemmas.List.{length-map}
+use Rattle.pathfinding.specs.Links.{name_at}
+use Rattle.pathfinding.specs.AnswerText.{path_line}
+use Rattle.pathfinding.specs.Parsed.{RefusesText}
+use Rattle.pathfinding.specs.declared.routes.error.RouteError.{RouteError}
+use Rattle.pathfinding.specs.declared.routes.error.RouteError.TheVariants.{OutOfMemory}
+use Rattle.pathfinding.proofs.Networks.{targets, has_no_walk, is_shortest, shortest-below, shortest-some}
+use Rattle.pathfinding.proofs.Outcomes.{refused_by, at_some, at_none}
+use Rattle.pathfinding.proofs.routes.answers.fewest_edges_line.Goals as goal
+
+no_memory : (text : List ℕ) (e : RouteError) → e ≡ OutOfMemory → RefusesText e text
+no_memory text e h = subst (λ x. RefusesText x text) (sym h) tt
+
+pub fewest_edges_path-requires-clause-targets : goal.fewest_edges_path-requires-clause-targets
+fewest_edges_path-requires-clause-targets g c = let h = c.in_ok-network.ensures.ok in targets c.in_ok-network.network h.0 _ _ h.2
+
+pub returns-in_err-from_slice-in-None-clause-err : goal.returns-in_err-from_slice-in-None-clause-err
+returns-in_err-from_slice-in-None-clause-err g c = refused_by _ _ c.from_residual-in_err-from_slice-in-None.result (no_memory c.args.text.now) c.from_residual-in_err-from_slice-in-None.ensures.1
+
+pub returns-in-None-clause-ok : goal.returns-in-None-clause-ok
+returns-in-None-clause-ok g c =
+    let h = c.in_ok-network.ensures.ok in
+    let found = at_none _ _ _ c.in-None.is c.in_ok-fewest_edges_path.ensures.ok in
+    (h.0, h.1, inl (has_no_walk c.in_ok-network.network h.0 _ _ h.2 found, c.in_ok-from_slice-in-None.ensures.items))
+
+pub write_path-requires : goal.write_path-requires
+write_path-requires g c =
+    let h = c.in_ok-network.ensures.ok in
+    let found = at_some _ _ _ _ c.in-Some.is c.in_ok-fewest_edges_path.ensures.ok in
+    subst (All (λ n. n < length c.in_ok-network.network.names.keys)) (sym c.as_slice.ensures.value) (shortest-below c.in_ok-network.network h.0 _ _ h.2 c.in-Some.path.items found)
+
+pub returns-in_err-write_path-in-Some-clause-err : goal.returns-in_err-write_path-in-Some-clause-err
+returns-in_err-write_path-in-Some-clause-err g c = refused_by _ _ c.from_residual-in_err-write_path-in-Some.result (no_memory c.args.text.now) c.from_residual-in_err-write_path-in-Some.ensures.1
+
+pub returns-clause-ok : goal.returns-clause-ok
+returns-clause-ok g c =
+    let h = c.in_ok-network.ensures.ok in
+    let found = at_some _ _ _ _ c.in-Some.is c.in_ok-fewest_edges_path.ensures.ok in
+    let keys = c.in_ok-network.network.names.keys in (
+      h.0,
+      h.1,
+      inr (record {
+        path = map (name_at keys) c.in-Some.path.items;
+        edge_count = c.len-edge_count.result - 1;
+        shortest = is_shortest c.in_ok-network.network h.0 _ _ h.2 c.in-Some.path.items found;
+        counted = omega (arith, shortest-some c.in_ok-network.network h.0 _ _ h.2 c.in-Some.path.items found, length-map c.in-Some.path.items (name_at keys), c.len-edge_count.ensures, c.in-Some.path.ok.0);
+        written = c.in_ok-write_path-in-Some.ensures ∙ ap (λ l. path_line (c.len-edge_count.result - 1) (map (name_at keys) l)) c.as_slice.ensures.value;
+      }),
+    )

@@ -1,0 +1,180 @@
+-- Lemmas on graphs in which each edge costs 1.
+use Rattle.std.proofs.Common.{◌≡◌, ℕ, zero, suc, ◌<◌, ◌≤◌, Bool, true, false, Option, Some, List, [], ◌∷◌, ◌++◌, length, refl, sym, subst, arith, Bor, inl, inr, ℤ, pos}
+use Rattle.std.specs.Prelude.{◌↔◌, ◌≤ℤ◌, map}
+use Rattle.std.specs.Cmp.{IsEquivalence}
+use Rattle.std.specs.Iterator.{Count}
+use Rattle.std.specs.Fn.{Mut}
+use Rattle.std.specs.List.{IsDistinct, AllByRecursion}
+use Rattle.std.proofs.lemmas.Int.{ints}
+use Rattle.std.proofs.lemmas.List.{map-append}
+use Rattle.pf_base.specs.Walks.{HasNode, NoRepeats, Follows, IsGoalWalk, HasNoGoalWalk, IsReachable}
+use Rattle.pf_base.specs.Edges.{HasEdge, IsSuccessor, StepCosts, StepsCost, InReach, IsBestGoalPath}
+use Rattle.pf_base.specs.Successors.{Precedes, IsShortestGoalPath}
+use Rattle.pf_base.specs.Answers.{SameNodes, ListsEdges, Answers, AnswersEach, AnswersSuccessors, AnswersTest}
+use Rattle.pf_search.specs.Numbered.{StandsBelow}
+use Rattle.pf_search.specs.Steps.{IsHop}
+use Rattle.pf_search.specs.Nodes.{StandsFor, IsStep, NumbersItems, AddedFrom, AddsNode}
+use Rattle.pf_search.specs.Hops.{HopGraph, unit_edges, unit_graph, with_ones, ExploresHops}
+use Rattle.pf_search.proofs.ListLemmas.{bool_dec, none_in}
+use Rattle.pf_search.proofs.NodeLemmas.{eq-sym, eq-trans, InReach-start, Numbers-push, AddedFrom-push}
+
+-- what holds within a sort of nodes holds within any smaller one
+module _ {F N R : Type 0} (calls : Mut F (Bor N × Unit {0}) R) (within within' : N → Type 0) (less : (x : N) → within' x → within x) (gives : N → R → Type 0) where
+  each_less : (f : F) (xs : List (Bor N)) → AnswersEach calls within gives f xs → AnswersEach calls within' gives f xs
+  each_less f [] h = tt
+  each_less f (x ∷ xs) h = λ w. let q = h (less x.now w) in (q.0, λ r f' k. let n = q.1 r f' k in (n.0, each_less f' xs n.1))
+
+  pub answers_less : (f : F) → Answers calls within gives f → Answers calls within' gives f
+  answers_less f h = record { at = λ xs. each_less f xs (h.at xs) }
+
+module _ {N : Type 0} (eq : N → N → Bool) where
+  edge_of_next : (xs : List N) (b : N) → HasNode eq xs b → HasEdge eq (map (λ y. (y, pos 1)) xs) b (pos 1)
+  edge_of_next [] b h = h
+  edge_of_next (x ∷ xs) b (inl h) = inl (h, refl)
+  edge_of_next (x ∷ xs) b (inr h) = inr (edge_of_next xs b h)
+
+  next_of_edge : (xs : List N) (b : N) (z : ℤ) → HasEdge eq (map (λ y. (y, pos 1)) xs) b z → HasNode eq xs b × (z ≡ pos 1)
+  next_of_edge [] b z h = absurd h
+  next_of_edge (x ∷ xs) b z (inl h) = (inl h.0, sym h.1)
+  next_of_edge (x ∷ xs) b z (inr h) = let q = next_of_edge xs b z h in (inr q.0, q.1)
+
+  pub lists_unit : (xs ys : List N) → SameNodes eq xs ys → ListsEdges eq (λ z. z) (map (λ y. (y, pos 1)) xs) (map (λ y. (y, pos 1)) ys)
+  lists_unit [] [] s = tt
+  lists_unit [] (y ∷ ys) s = absurd s
+  lists_unit (x ∷ xs) [] s = absurd s
+  lists_unit (x ∷ xs) (y ∷ ys) s = ((s.0, refl), lists_unit xs ys s.1)
+
+  pub lists_ones : (value : ℕ → ℤ) → value 1 ≡ pos 1 → (xs ys : List N) → SameNodes eq xs ys → ListsEdges eq value (with_ones xs) (map (λ y. (y, pos 1)) ys)
+  lists_ones value one [] [] s = tt
+  lists_ones value one [] (y ∷ ys) s = absurd s
+  lists_ones value one (x ∷ xs) [] s = absurd s
+  lists_ones value one (x ∷ xs) (y ∷ ys) s = ((s.0, one), lists_ones value one xs ys s.1)
+
+  pub is_hop : (g : HopGraph N) → IsHop (IsStep eq (unit_graph g))
+  is_hop g = record { one = λ a z b s. (next_of_edge (g.next a) b z s.1).1 }
+
+  pub Ones-push : (ks : List N) (row : List (ℕ × ℕ)) (xs : List N) (j : ℕ) (x : N) → NumbersItems eq ks row (with_ones xs) → StandsFor eq ks j x → NumbersItems eq ks (row ++ (j, 1) ∷ []) (with_ones (xs ++ x ∷ []))
+  Ones-push ks row xs j x n s = subst (NumbersItems eq ks (row ++ (j, 1) ∷ [])) (sym (map-append (λ y. (y, 1)) xs (x ∷ []))) (Numbers-push eq ks row (with_ones xs) j 1 x n s)
+
+  pub AddedOnes-push : (start ks ks' : List N) (xs : List N) (x : N) → AddsNode eq x ks ks' → AddedFrom eq (with_ones xs) start ks → AddedFrom eq (with_ones (xs ++ x ∷ [])) start ks'
+  AddedOnes-push start ks ks' xs x e a = subst (λ ys. AddedFrom eq ys start ks') (sym (map-append (λ y. (y, 1)) xs (x ∷ []))) (AddedFrom-push eq start ks ks' (with_ones xs) 1 x e a)
+
+  module _ (next : N → List N) where
+    step_costs : (a b : N) (z : ℤ) → HasEdge eq (unit_edges next a) b z → StepCosts eq (unit_edges next) a b (pos 1)
+    step_costs a b z h = record {
+      edge = edge_of_next (next a) b (next_of_edge (next a) b z h).0;
+      cheapest = λ y k. subst (λ (u : ℤ). pos 1 ≤ℤ u) (sym (next_of_edge (next a) b y k).1) (omega (arith, ints));
+    }
+
+    follows_edges : (w : List N) (a : N) → Follows (Precedes eq next) a w → Follows (IsSuccessor eq (unit_edges next)) a w
+    follows_edges [] a f = tt
+    follows_edges (b ∷ w) a f = ((pos 1, edge_of_next (next a) b f.0), follows_edges w b f.1)
+
+    follows_next : (w : List N) (a : N) → Follows (IsSuccessor eq (unit_edges next)) a w → Follows (Precedes eq next) a w
+    follows_next [] a f = tt
+    follows_next (b ∷ w) a f = ((next_of_edge (next a) b f.0.0 f.0.1).0, follows_next w b f.1)
+
+    -- a walk costs as much as it has edges
+    costs_length : (w : List N) (a : N) → Follows (IsSuccessor eq (unit_edges next)) a w → StepsCost eq (unit_edges next) a w (pos (length w))
+    costs_length [] a f = refl
+    costs_length (b ∷ w) a f = (pos 1, pos (length w), step_costs a b f.0.0 f.0.1, costs_length w b f.1, omega (arith, ints))
+
+    length_costs : (w : List N) (a : N) (u : ℤ) → StepsCost eq (unit_edges next) a w u → u ≡ pos (length w)
+    length_costs [] a u h = h
+    length_costs (b ∷ w) a u h =
+        let s = h.2 in
+        let one = (next_of_edge (next a) b h.0 s.edge).1 in
+        let rest = length_costs w b h.1 h.3 in
+        omega (arith, ints, one, rest, h.4)
+
+    module _ (starts : List N) where
+      walk_edges : (test : N → Bool) (w : List N) → IsGoalWalk eq (Precedes eq next) starts test w → IsGoalWalk eq (IsSuccessor eq (unit_edges next)) starts test w
+      walk_edges test [] h = absurd h.walks
+      walk_edges test (a ∷ w) h = record { walks = follows_edges w a h.walks; begins = h.begins; ends = h.ends }
+
+      walk_next : (test : N → Bool) (w : List N) → IsGoalWalk eq (IsSuccessor eq (unit_edges next)) starts test w → IsGoalWalk eq (Precedes eq next) starts test w
+      walk_next test [] h = absurd h.walks
+      walk_next test (a ∷ w) h = record { walks = follows_next w a h.walks; begins = h.begins; ends = h.ends }
+
+      pub reach_next : (x : N) → InReach eq (unit_edges next) starts x → IsReachable eq (Precedes eq next) starts x
+      reach_next x r = record { walk = r.walk; goes = walk_next (λ y. eq y x) r.walk r.goes }
+
+      pub no_next_walk : (test : N → Bool) → HasNoGoalWalk eq (IsSuccessor eq (unit_edges next)) starts test → HasNoGoalWalk eq (Precedes eq next) starts test
+      no_next_walk test none w h = none w (walk_edges test w h)
+
+      pub shortest_of_best : (test : N → Bool) (path : List N) (t : ℤ) → IsBestGoalPath eq (unit_edges next) starts test path t → IsShortestGoalPath eq next starts test path
+      shortest_of_best test [] t b = absurd b.costs
+      shortest_of_best test (a ∷ w) t b = record {
+        goes = record { goes = walk_next test (a ∷ w) b.goes.goes; distinct = b.goes.distinct };
+        shortest = shorter;
+      }
+        where
+          shorter : (walk : List N) → IsGoalWalk eq (Precedes eq next) starts test walk → length (a ∷ w) ≤ length walk
+          shorter [] h = absurd h.walks
+          shorter (c ∷ v) h =
+              let k = walk_edges test (c ∷ v) h in
+              let low = b.best (c ∷ v) (pos (length v)) k (costs_length v c k.walks) in
+              let same = length_costs w a t b.costs in
+              omega (arith, ints, low, same)
+
+  module _ (laws : IsEquivalence eq) where
+    -- clones of the starts stand for the starts
+    stands_of : (ss keys : List N) (x : N) → SameNodes eq ss keys → HasNode eq ss x → StandsBelow (length keys) (StandsFor eq keys) x
+    stands_of [] keys x s h = absurd h
+    stands_of (a ∷ ss) [] x s h = absurd s
+    stands_of (a ∷ ss) (k ∷ keys) x s (inl h) = (0, omega arith, (k, refl, eq-trans eq laws k a x (eq-sym eq laws a k s.0) h))
+    stands_of (a ∷ ss) (k ∷ keys) x s (inr h) = let q = stands_of ss keys x s.1 h in (suc q.0, omega (arith, q.1), q.2)
+
+    start_of : (ss keys : List N) (k : ℕ) (x : N) → SameNodes eq ss keys → StandsFor eq keys k x → HasNode eq ss x
+    start_of [] [] k x s h = absurd (none_in k h.0 h.1)
+    start_of [] (m ∷ keys) k x s h = absurd s
+    start_of (a ∷ ss) [] k x s h = absurd s
+    start_of (a ∷ ss) (m ∷ keys) zero x s h =
+        let e : Some m ≡ Some h.0 = h.1 in
+        let f : m ≡ h.0 = cc in
+        inl (eq-trans eq laws a m x s.0 (subst (λ (y : N). eq y x ≡ true) (sym f) h.2))
+    start_of (a ∷ ss) (m ∷ keys) (suc k) x s h = inr (start_of ss keys k x s.1 (h.0, h.1, h.2))
+
+    pub starts_stand : (ss keys : List N) → SameNodes eq ss keys → (x : N) → StandsBelow (length keys) (StandsFor eq keys) x ↔ HasNode eq ss x
+    starts_stand ss keys s x = (λ h. start_of ss keys h.0 x s h.2, λ h. stands_of ss keys x s h)
+
+    none_same : (a m : N) (ss keys : List N) → eq a m ≡ true → ¬ (HasNode eq ss a) → SameNodes eq ss keys → AllByRecursion (λ y. eq m y ≡ false) keys
+    none_same a m [] [] e n s = tt
+    none_same a m [] (y ∷ keys) e n s = absurd s
+    none_same a m (b ∷ ss) [] e n s = absurd s
+    none_same a m (b ∷ ss) (y ∷ keys) e n s = (
+      elim (bool_dec (eq m y)) as (λ _. eq m y ≡ false) [
+        | inl t ↦ absurd (n (inl (eq-trans eq laws b y a s.0 (eq-sym eq laws a y (eq-trans eq laws a m y e t)))))
+        | inr f ↦ f
+      ],
+      none_same a m ss keys e (λ h. n (inr h)) s.1,
+    )
+
+    clones_distinct : (ss keys : List N) → NoRepeats eq ss → SameNodes eq ss keys → IsDistinct eq keys
+    unfolding IsDistinct
+    clones_distinct [] [] n s = tt
+    clones_distinct [] (k ∷ keys) n s = absurd s
+    clones_distinct (a ∷ ss) [] n s = absurd s
+    clones_distinct (a ∷ ss) (k ∷ keys) n s = (none_same a k ss keys s.0 n.0 s.1, clones_distinct ss keys n.1 s.1)
+
+    module _ {I S F P : Type 0} (becomes : I → S → Type 0) (can : S → Type 0) (left : S → Count) (steps : S → Option N → S → Type 0) (f_calls : Mut F (Bor N × Unit {0}) I) (p_calls : Mut P (Bor N × Unit {0}) Bool) where
+      -- a discovery begins with clones of the starts
+      pub ExploresHops-start : (g : HopGraph N) (ss keys : List N) (f : F) (p : P) → NoRepeats eq ss → SameNodes eq ss keys → g.starts ≡ ss
+          → AnswersSuccessors f_calls becomes can left steps eq f (IsReachable eq (Precedes eq g.next) g.starts) g.next → AnswersTest p_calls eq p (IsReachable eq (Precedes eq g.next) g.starts) g.test
+          → ExploresHops eq becomes can left steps f_calls p_calls g keys f p
+      ExploresHops-start g ss keys f p once s same a t = record {
+        graph = record { alike = λ x y r e. a.alike x y (reach_next g.next g.starts x r) e; answers = answers_less f_calls _ _ (reach_next g.next g.starts) _ f a.answers };
+        tests = record { alike = λ x y r e. t.alike x y (reach_next g.next g.starts x r) e; answers = answers_less p_calls _ _ (reach_next g.next g.starts) _ p t.answers };
+        distinct = clones_distinct ss keys once s;
+        reached = λ k x h. InReach-start eq laws (unit_edges g.next) g.starts x x (subst (λ (xs : List N). HasNode eq xs x) (sym same) (start_of ss keys k x s (x, h, laws.refl x))) (laws.refl x);
+      }
+
+    -- equal nodes in reach have the same edges
+    pub hops_alike : (g : HopGraph N) → ((x y : N) → InReach eq (unit_edges g.next) g.starts x → eq x y ≡ true → SameNodes eq (g.next x) (g.next y)) → (x y : N) → InReach eq (unit_edges g.next) g.starts x → eq x y ≡ true → ListsEdges eq (λ z. z) (unit_edges g.next x) (unit_edges g.next y)
+    hops_alike g alike x y r e = lists_unit (g.next x) (g.next y) (alike x y r e)
+
+    -- each number below stands for some node
+    pub begins_all : (keys : List N) (k : ℕ) → k < length keys → (s : N) × StandsFor eq keys k s
+    begins_all [] k l = absurd (omega (arith, l))
+    begins_all (m ∷ keys) zero l = (m, (m, refl, laws.refl m))
+    begins_all (m ∷ keys) (suc k) l = let q = begins_all keys k (omega (arith, l)) in (q.0, (q.1.0, q.1.1, q.1.2))

@@ -1,7 +1,0 @@
-use Rattle.std.proofs.Common.{take}
-use Rattle.std.specs.List.{AllZip}
-use Rattle.pf_search.specs.Nodes.{StandsFor}
-use Rattle.pf_search.proofs.discovery.Discovery.nodes_at.Given as goal
-
-abbrev pub invariant-numbers : goal.invariant-numbers
-invariant-numbers g l = AllZip (StandsFor g.N.PartialEq.eq l.self.nodes.items) (take l.number-index l.numbers) l.path.items

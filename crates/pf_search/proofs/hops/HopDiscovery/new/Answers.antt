@@ -1,0 +1,9 @@
+use Rattle.pf_search.proofs.UnitLemmas.{ExploresHops-start, starts_stand}
+use Rattle.pf_search.proofs.hops.HopDiscovery.new.Goals as goal
+
+pub returns-clause-begins : goal.returns-clause-begins
+returns-clause-begins g c = starts_stand g.N.PartialEq.eq g.met.N.Eq.laws c.args.starts.now c.in_ok-nodes.nodes.items c.in_ok-nodes.ensures.all
+
+pub returns-clause-graph : goal.returns-clause-graph
+returns-clause-graph g c = λ h s a t.
+    ExploresHops-start g.N.PartialEq.eq g.met.N.Eq.laws _ _ _ _ _ _ h c.args.starts.now c.in_ok-nodes.nodes.items _ _ c.in_ok-nodes.ensures.once c.in_ok-nodes.ensures.all s a t

@@ -1,0 +1,64 @@
+//! Paths with fewest edges (breadth-first search).
+
+ghost use Rattle.std.specs.Prelude.{◌≡◌, List, Bool, IfOk, IfErr, MatchOption};
+ghost use Rattle.pf_base.specs.Walks.{HasNoGoalWalk, IsReachable};
+ghost use Rattle.pf_base.specs.Successors.{Precedes, IsShortestGoalPath};
+ghost use Rattle.pf_base.specs.Answers.{IsLawfulClone};
+
+use crate::fewest::fewest_edges_path;
+use crate::hops::HopDiscovery;
+use pf_base::{NodeRefs, NodeTest, PathError, SuccessorFunction};
+use std::alloc::Allocator;
+use std::hash::Hash;
+
+/// A path with fewest edges from one of the `starts` to a node that passes `success`, or `None`
+/// exactly where no walk leads from a start to such a node.
+///
+/// `successors` lists the nodes that follow a node. It must answer alike for equal nodes at every
+/// call, and `success` must answer alike too; both are asked of nodes in reach of the starts alone.
+/// The path is a list of clones of nodes, from a start on, and contains no node twice; a start that
+/// passes is a path alone. Which of several such paths is answered is open. With no starts the answer
+/// is `None`.
+///
+/// # Errors
+///
+/// `OutOfMemory`: a request for memory was refused.
+///
+/// The algorithm is breadth-first search (E. F. Moore, "The shortest path through a maze", 1959),
+/// over plain lists: its time grows with the square of the number of nodes in reach.
+pub fn bfs<N, IN, FN, FS, A, B>(
+    alloc: A,
+    starts: &NodeRefs<'_, N, B>,
+    successors: FN,
+    success: FS,
+) -> Result<Option<Vec<N, A>>, PathError>
+where
+    N: Eq + Hash + Clone + Drop,
+    IN: IntoIterator<Item = N>,
+    FN: FnMut(&N) -> IN,
+    FS: FnMut(&N) -> bool,
+    A: Allocator + Copy,
+    B: Allocator,
+    requires clones { IsLawfulClone N.eq N.is_clone }
+    requires graph { (next : N → List N) × (test : N → Bool)
+        × ⟦<FN as SuccessorFunction<N>>⟧.answers successors (IsReachable N.eq (Precedes N.eq next) starts.now) next
+        × ⟦<FS as NodeTest<N>>⟧.answers success (IsReachable N.eq (Precedes N.eq next) starts.now) test }
+
+    ensures best { (next : N → List N) (test : N → Bool)
+        → ⟦<FN as SuccessorFunction<N>>⟧.answers successors (IsReachable N.eq (Precedes N.eq next) starts.now) next
+        → ⟦<FS as NodeTest<N>>⟧.answers success (IsReachable N.eq (Precedes N.eq next) starts.now) test
+        → IfOk result (λ answer. MatchOption answer
+        (HasNoGoalWalk N.eq (Precedes N.eq next) starts.now test)
+        (λ path. IsShortestGoalPath N.eq next starts.now test path.items)) }
+
+    ensures errors { IfErr result (λ e. e ≡ PathError.OutOfMemory) }
+{
+    let mut graph = HopDiscovery::new(alloc, starts, successors, success)?;
+    match fewest_edges_path(alloc, &mut graph)? {
+        None => Ok(None),
+        Some(numbers) => {
+            let path = graph.nodes_at(alloc, &numbers)?;
+            Ok(Some(path))
+        }
+    }
+}

@@ -1,0 +1,168 @@
+//! The nodes that were found, as in `discovery`, where successors have no costs: each step costs 1.
+
+ghost use Rattle.std.specs.Prelude.{◌≡◌, ◌↔◌, ◌≤◌, ◌<◌, ℕ, [], List, Bool, Contains, IfOk, IfErr, OnOk, OnErr, take, length};
+ghost use Rattle.std.specs.Iterator.{IsFiniteIterable, Drains};
+ghost use Rattle.std.specs.List.{IsDistinct, AllZip};
+ghost use Rattle.pf_base.specs.Walks.{HasNode, NoRepeats, IsReachable};
+ghost use Rattle.pf_base.specs.Successors.{Precedes};
+ghost use Rattle.pf_base.specs.Answers.{IsLawfulClone, SameNodes};
+ghost use Rattle.pf_search.specs.Numbered.{StandsBelow};
+ghost use Rattle.pf_search.specs.Nodes.{IsStep, StandsFor, NumbersItems, AddedFrom};
+ghost use Rattle.pf_search.specs.Hops.{HopGraph, unit_graph, with_ones, ExploresHops, ExploresHops-one};
+
+use crate::discovery::{clones_at, number_edge};
+use crate::numbered::NumberedGraph;
+use pf_base::{NodeRefs, NodeTest, PathError, SuccessorFunction};
+use std::alloc::Allocator;
+use std::hash::Hash;
+use std::marker::PhantomData;
+
+/// The nodes found so far, and the functions that answer for them.
+#[derive(Drop)]
+pub struct HopDiscovery<N, IN, FN, FS, A: Allocator> {
+    nodes: Vec<N, A>,
+    successors: FN,
+    success: FS,
+    answer: PhantomData<IN>,
+}
+
+impl<N, IN, FN, FS, A> NumberedGraph<u8> for HopDiscovery<N, IN, FN, FS, A>
+where
+    N: Eq + Drop,
+    IN: IntoIterator<Item = N>,
+    FN: FnMut(&N) -> IN,
+    FS: FnMut(&N) -> bool,
+    A: Allocator + Copy,
+{
+    ghost Node = { N };
+
+    ghost Graph = { HopGraph N };
+
+    ghost step = { λ g. IsStep N.eq (unit_graph g) };
+
+    ghost passes = { λ g x. g.test x };
+
+    ghost found = { λ s. length s.nodes.items };
+
+    ghost stands = { λ s. StandsFor N.eq s.nodes.items };
+
+    ghost explores = { λ s g. ExploresHops N.eq IN.into_iter_gives IN.IntoIter.can_next IN.IntoIter.remaining IN.IntoIter.next_gives FN.FnMut FS.FnMut g s.nodes.items s.successors s.success };
+
+    fn found(&self) -> usize {
+        self.nodes.len()
+    }
+
+    fn is_goal(&mut self, node: usize) -> bool {
+        (self.success)(&self.nodes[node])
+    }
+
+    fn expand<B: Allocator + Copy>(
+        &mut self,
+        node: usize,
+        row: &mut Vec<(usize, u8), B>,
+    ) -> Result<(), PathError> {
+        row.clear();
+        let items = (self.successors)(&self.nodes[node]);
+        number_hops(&mut self.nodes, items, row)
+    }
+
+    ghost one_law = { λ s g e i j x. ExploresHops-one N.Eq.laws e i j x };
+}
+
+/// Numbers the nodes of an answer, each at the cost 1. Where memory is refused, the nodes stay as
+/// they were.
+fn number_hops<N, IN, A, B>(
+    nodes: &mut Vec<N, A>,
+    items: IN,
+    row: &mut Vec<(usize, u8), B>,
+) -> Result<(), PathError>
+where
+    N: Eq + Drop,
+    IN: IntoIterator<Item = N>,
+    A: Allocator + Copy,
+    B: Allocator + Copy,
+    requires ends { IsFiniteIterable IN.into_iter_gives IN.IntoIter.can_next IN.IntoIter.remaining items }
+    requires empty { row.old.items ≡ [] }
+    requires distinct { IsDistinct N.eq nodes.old.items }
+    ensures numbered { OnOk result ((it : IN.IntoIter) × (xs : List N) × IN.into_iter_gives items it × Drains IN.IntoIter.next_gives it xs
+        × NumbersItems N.eq nodes.new.items row.new.items (with_ones xs) × AddedFrom N.eq (with_ones xs) nodes.old.items nodes.new.items) }
+    ensures distinct { IsDistinct N.eq nodes.new.items }
+    ensures longer { length nodes.old.items ≤ length nodes.new.items }
+    ensures kept { take (length nodes.old.items) nodes.new.items ≡ nodes.old.items }
+    ensures stays { OnErr result (nodes.new.items ≡ nodes.old.items) }
+    ensures refused { IfErr result (λ e. e ≡ PathError.OutOfMemory) }
+{
+    let len = nodes.len();
+    'items: for node in items {
+        if let Err(refusal) = number_edge(nodes, row, node, 1) {
+            nodes.truncate(len);
+            return Err(refusal);
+        }
+    }
+    Ok(())
+}
+
+/// Clones of the nodes of a set, in the order of the set.
+fn clones_of<N, A, B>(alloc: A, starts: &NodeRefs<'_, N, B>) -> Result<Vec<N, A>, PathError>
+where
+    N: Eq + Hash + Clone + Drop,
+    A: Allocator + Copy,
+    B: Allocator,
+    requires clones { IsLawfulClone N.eq N.is_clone }
+    ensures all { IfOk result (λ nodes. SameNodes N.eq starts.now nodes.items) }
+    ensures once { NoRepeats N.eq starts.now }
+    ensures refused { IfErr result (λ e. e ≡ PathError.OutOfMemory) }
+{
+    let mut nodes = Vec::new(alloc);
+    'starts: for start in starts.iter() {
+        let node = start.clone()?;
+        nodes.push(node)?;
+    }
+    Ok(nodes)
+}
+
+impl<N, IN, FN, FS, A> HopDiscovery<N, IN, FN, FS, A>
+where
+    N: Eq + Clone + Drop,
+    A: Allocator + Copy,
+{
+    /// The starts alone are found.
+    pub fn new<B>(
+        alloc: A,
+        starts: &NodeRefs<'_, N, B>,
+        successors: FN,
+        success: FS,
+    ) -> Result<Self, PathError>
+    where
+        N: Hash,
+        IN: IntoIterator<Item = N>,
+        FN: FnMut(&N) -> IN,
+        FS: FnMut(&N) -> bool,
+        B: Allocator,
+        requires clones { IsLawfulClone N.eq N.is_clone }
+        ensures begins { IfOk result (λ d. (x : N) → StandsBelow (length d.nodes.items) (StandsFor N.eq d.nodes.items) x ↔ HasNode N.eq starts.now x) }
+        ensures graph { IfOk result (λ d. (g : HopGraph N) → g.starts ≡ starts.now
+            → ⟦<FN as SuccessorFunction<N>>⟧.answers successors (IsReachable N.eq (Precedes N.eq g.next) g.starts) g.next
+            → ⟦<FS as NodeTest<N>>⟧.answers success (IsReachable N.eq (Precedes N.eq g.next) g.starts) g.test
+            → ⟦<HopDiscovery<N, IN, FN, FS, A> as NumberedGraph<u8>>⟧.explores d g) }
+        ensures refused { IfErr result (λ e. e ≡ PathError.OutOfMemory) }
+    {
+        let nodes = clones_of(alloc, starts)?;
+        Ok(HopDiscovery {
+            nodes,
+            successors,
+            success,
+            answer: PhantomData,
+        })
+    }
+
+    /// Clones of the nodes that the numbers stand for.
+    pub fn nodes_at(&self, alloc: A, numbers: &[usize]) -> Result<Vec<N, A>, PathError>
+        requires inside { (k : ℕ) → Contains numbers.now k → k < length self.now.nodes.items }
+        requires clones { IsLawfulClone N.eq N.is_clone }
+        ensures nodes { IfOk result (λ nodes. AllZip (StandsFor N.eq self.now.nodes.items) numbers.now nodes.items) }
+        ensures refused { IfErr result (λ e. e ≡ PathError.OutOfMemory) }
+    {
+        clones_at(alloc, &self.nodes, numbers)
+    }
+}

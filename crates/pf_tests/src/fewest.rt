@@ -1,0 +1,49 @@
+//! A caller of `bfs` with a contract of its own.
+
+ghost use Rattle.std.specs.Prelude.{◌≡◌, IfOk, IfErr, MatchOption};
+ghost use Rattle.pf_base.specs.Answers.{IsLawfulClone};
+ghost use Rattle.pf_base.specs.Successors.{Precedes, IsShortestGoalPath};
+ghost use Rattle.pf_base.specs.Walks.{HasNoGoalWalk};
+ghost use Rattle.pf_tests.specs.Pairs.{nodes_after, is_among};
+
+use pf_base::{NodeRefs, PathError};
+use pf_search::directed::bfs::bfs;
+use std::alloc::Allocator;
+use std::hash::Hash;
+
+/// Whether a node is one of some nodes.
+fn is_one_of<N: Eq>(nodes: &[N], node: &N) -> bool
+    ensures { result ≡ is_among N.eq nodes.now node.now }
+{
+    nodes.iter().any(|known| *known == *node)
+}
+
+/// A path with fewest edges in a graph that is given as a list of edges (from, to), from one of the
+/// starts to one of the goals, or `None` exactly where no walk leads from a start to a goal.
+pub fn fewest_in_pairs<N, A>(
+    alloc: A,
+    edges: &[(N, N)],
+    starts: &NodeRefs<'_, N>,
+    goals: &[N],
+) -> Result<Option<Vec<N, A>>, PathError>
+where
+    N: Eq + Hash + Copy,
+    A: Allocator + Copy,
+    requires clones { IsLawfulClone N.eq N.is_clone }
+    ensures best { IfOk result (λ answer. MatchOption answer
+        (HasNoGoalWalk N.eq (Precedes N.eq (nodes_after N.eq edges.now)) starts.now (is_among N.eq goals.now))
+        (λ path. IsShortestGoalPath N.eq (nodes_after N.eq edges.now) starts.now (is_among N.eq goals.now) path.items)) }
+    ensures errors { IfErr result (λ e. e ≡ PathError.OutOfMemory) }
+{
+    bfs(
+        alloc,
+        starts,
+        |n| {
+            let node = *n;
+            edges
+                .iter()
+                .filter_map(move |e| if e.0 == node { Some(e.1) } else { None })
+        },
+        |n| is_one_of(goals, n),
+    )
+}
