@@ -4,3 +4,4 @@ pub mod Edges
 pub mod Answers
 pub mod Successors
 pub mod NodeRefs
+pub mod Tallies

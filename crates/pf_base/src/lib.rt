@@ -5,6 +5,7 @@ pub mod cost;
 pub mod error;
 pub mod functions;
 pub mod noderefs;
+pub mod utils;
 
 pub use crate::cost::{Cost, SignedCost};
 pub use crate::error::PathError;

@@ -1,15 +1,17 @@
 -- Lemmas on nodes and their numbers.
-use Rattle.std.proofs.Common.{◌≡◌, ℕ, zero, suc, ◌<◌, ◌≤◌, Bool, true, false, Option, Some, List, [], ◌∷◌, ◌++◌, ◌∙◌, slice_get, length, take, refl, sym, ap, subst, arith, length-append, Bor, inl, inr, ℤ}
-use Rattle.std.specs.Prelude.{Contains, ◌⊎◌}
+use Rattle.std.proofs.Common.{◌≡◌, ℕ, zero, suc, ◌<◌, ◌≤◌, Bool, true, false, Option, Some, List, [], ◌∷◌, ◌++◌, ◌∙◌, slice_get, length, take, refl, sym, ap, subst, arith, length-append, Bor, inl, inr, ℤ, ◌||◌, true≢false, if◌then◌else◌}
+use Rattle.std.specs.Prelude.{Contains, ◌⊎◌, ◌↔◌}
 use Rattle.std.specs.Cmp.{IsEquivalence}
 use Rattle.std.specs.Iterator.{Count, Drains, IsFiniteIterable}
 use Rattle.std.specs.Fn.{Called, Mut}
-use Rattle.std.specs.List.{IsDistinct, AllByRecursion}
+use Rattle.std.specs.List.{IsDistinct, AllByRecursion, list_any}
+use Rattle.indexmap.specs.IndexSet.{insert_key}
 use Rattle.std.proofs.iter.runs.Made.{run, to_end, seen}
 use Rattle.std.proofs.lemmas.List.{take-append-le}
 use Rattle.std.proofs.lemmas.List.Elements.{Contains-append_left, Contains-push}
 use Rattle.std.proofs.lemmas.Option.{slice_get_within}
 use Rattle.pf_base.specs.Walks.{HasNode, Follows, IsWalk, end_of, BeginsAt, EndsAt}
+use Rattle.pf_base.specs.NodeRefs.{HasSameNodes}
 use Rattle.pf_base.specs.Edges.{HasEdge, IsSuccessor, InReach}
 use Rattle.pf_base.specs.Answers.{ListsEdges, Gives, Answers, AnswersGraph, AnswersTest}
 use Rattle.pf_search.specs.Numbered.{ListsSteps, Grows}
@@ -35,6 +37,18 @@ Gives-drains becomes can left steps P r g it xs b d = g.items it b (run steps it
 
 pub Gives-ends : {I S A : Type 0} (becomes : I → S → Type 0) (can : S → Type 0) (left : S → Count) (steps : S → Option A → S → Type 0) (P : List A → Type 0) (r : I) → Gives becomes can left steps P r → IsFiniteIterable becomes can left r
 Gives-ends becomes can left steps P r g it b = (g.can_next it b, g.finite it b)
+
+or_left : (a b : Bool) → a || b ≡ false → a ≡ false
+or_left true b h = absurd (true≢false h)
+or_left false b h = refl
+
+or_right : (a b : Bool) → a || b ≡ false → b ≡ false
+or_right true b h = absurd (true≢false h)
+or_right false b h = h
+
+or_cases : (a b : Bool) → a || b ≡ true → (a ≡ true) ⊎ (b ≡ true)
+or_cases true b h = inl refl
+or_cases false b h = inr h
 
 -- the list with one more element at its end
 module _ {N : Type 0} (eq : N → N → Bool) where
@@ -70,9 +84,56 @@ module _ {N : Type 0} (eq : N → N → Bool) where
       take_same [] = refl
       take_same (y ∷ ys) = ap (λ zs. y ∷ zs) (take_same ys)
 
-  pub get_last : (xs : List N) (x : N) → slice_get (xs ++ x ∷ []) (length xs) ≡ Some x
-  get_last [] x = refl
-  get_last (y ∷ ys) x = get_last ys x
+  -- a node was put into the set
+  pub AddsNode-insert : IsEquivalence eq → (keys keys' : List N) (x : N) → keys' ≡ insert_key eq keys x → AddsNode eq x keys keys'
+  AddsNode-insert laws keys keys' x e = by (list_any (eq x) keys) refl
+    where
+      none_at : (ks : List N) → list_any (eq x) ks ≡ false → (k : ℕ) (m : N) → slice_get ks k ≡ Some m → eq m x ≡ false
+      none_at [] h k m g = absurd (none_in k m g)
+      none_at (y ∷ ys) h zero m g =
+          let q : Some y ≡ Some m = g in
+          let r : y ≡ m = cc in
+          laws.symm m x ∙ subst (λ (z : N). eq x z ≡ false) r (or_left (eq x y) (list_any (eq x) ys) h)
+      none_at (y ∷ ys) h (suc k) m g = none_at ys (or_right (eq x y) (list_any (eq x) ys) h) k m g
+
+      by : (b : Bool) → list_any (eq x) keys ≡ b → AddsNode eq x keys keys'
+      by true h = subst (AddsNode eq x keys) (sym (e ∙ ap (λ (b : Bool). if b then keys else keys ++ x ∷ []) h)) (AddsNode-old keys x)
+      by false h = AddsNode-new keys keys' x (e ∙ ap (λ (b : Bool). if b then keys else keys ++ x ∷ []) h) (none_at keys h)
+
+  module _ (laws : IsEquivalence eq) where
+    has_pushed : (ys : List N) (s x : N) → HasNode eq (ys ++ s ∷ []) x ↔ (HasNode eq ys x ⊎ (eq s x ≡ true))
+    has_pushed [] s x = (λ h. elim h [ inl e ↦ inr e | inr n ↦ absurd n ], λ h. elim h [ inl n ↦ absurd n | inr e ↦ inl e ])
+    has_pushed (y ∷ ys) s x = let rest = has_pushed ys s x in (
+      λ h. elim h [ inl e ↦ inl (inl e) | inr n ↦ elim (rest.0 n) [ inl m ↦ inl (inr m) | inr e ↦ inr e ] ],
+      λ h. elim h [ inl n ↦ elim n [ inl e ↦ inl e | inr m ↦ inr (rest.1 (inl m)) ] | inr e ↦ inr (rest.1 (inr e)) ],
+    )
+
+    has_found : (ks : List N) (x y : N) → list_any (eq x) ks ≡ true → eq x y ≡ true → HasNode eq ks y
+    has_found [] x y h e = absurd (true≢false (sym h))
+    has_found (k ∷ ks) x y h e = elim (or_cases (eq x k) (list_any (eq x) ks) h) as (λ _. HasNode eq (k ∷ ks) y) [
+      | inl f ↦ inl (sym (laws.congr x k y f) ∙ e)
+      | inr f ↦ inr (has_found ks x y f e)
+    ]
+
+    has_inserted : (ks : List N) (x y : N) → HasNode eq (insert_key eq ks x) y ↔ (HasNode eq ks y ⊎ (eq x y ≡ true))
+    has_inserted ks x y = by (list_any (eq x) ks) refl
+      where
+        by : (b : Bool) → list_any (eq x) ks ≡ b → HasNode eq (if b then ks else ks ++ x ∷ []) y ↔ (HasNode eq ks y ⊎ (eq x y ≡ true))
+        by true found = (λ h. inl h, λ h. elim h [ inl n ↦ n | inr e ↦ has_found ks x y found e ])
+        by false found = has_pushed ks x y
+
+    -- a set with the nodes of a list, and one node more, the same as the list's next
+    pub HasSameNodes-insert : (ys keys keys' : List N) (s x : N) → HasSameNodes eq keys ys → eq s x ≡ true → keys' ≡ insert_key eq keys x → HasSameNodes eq keys' (ys ++ s ∷ [])
+    HasSameNodes-insert ys keys keys' s x h e q = subst (λ ks. HasSameNodes eq ks (ys ++ s ∷ [])) (sym q) (λ y. (
+      λ k. elim ((has_inserted keys x y).0 k) as (λ _. HasNode eq (ys ++ s ∷ []) y) [
+        | inl n ↦ (has_pushed ys s y).1 (inl ((h y).0 n))
+        | inr f ↦ (has_pushed ys s y).1 (inr (laws.congr s x y e ∙ f))
+      ],
+      λ k. elim ((has_pushed ys s y).0 k) as (λ _. HasNode eq (insert_key eq keys x) y) [
+        | inl n ↦ (has_inserted keys x y).1 (inl ((h y).1 n))
+        | inr f ↦ (has_inserted keys x y).1 (inr (sym (laws.congr s x y e) ∙ f))
+      ],
+    ))
 
   pub AddsNode-stays : (x : N) (keys keys' : List N) → AddsNode eq x keys keys' → (k : ℕ) (m : N) → slice_get keys k ≡ Some m → slice_get keys' k ≡ Some m
   AddsNode-stays x keys keys' a k m h = take_get (length keys) keys' k m (subst (λ (zs : List N). slice_get zs k ≡ Some m) (sym a.kept) h)

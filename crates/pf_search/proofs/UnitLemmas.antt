@@ -8,6 +8,7 @@ use Rattle.std.specs.List.{IsDistinct, AllByRecursion}
 use Rattle.std.proofs.lemmas.Int.{ints}
 use Rattle.std.proofs.lemmas.List.{map-append}
 use Rattle.pf_base.specs.Walks.{HasNode, NoRepeats, Follows, IsGoalWalk, HasNoGoalWalk, IsReachable}
+use Rattle.pf_base.specs.NodeRefs.{HasSameNodes}
 use Rattle.pf_base.specs.Edges.{HasEdge, IsSuccessor, StepCosts, StepsCost, InReach, IsBestGoalPath}
 use Rattle.pf_base.specs.Successors.{Precedes, IsShortestGoalPath}
 use Rattle.pf_base.specs.Answers.{SameNodes, ListsEdges, Answers, AnswersEach, AnswersSuccessors, AnswersTest}
@@ -118,55 +119,33 @@ module _ {N : Type 0} (eq : N → N → Bool) where
               omega (arith, ints, low, same)
 
   module _ (laws : IsEquivalence eq) where
-    -- clones of the starts stand for the starts
-    stands_of : (ss keys : List N) (x : N) → SameNodes eq ss keys → HasNode eq ss x → StandsBelow (length keys) (StandsFor eq keys) x
-    stands_of [] keys x s h = absurd h
-    stands_of (a ∷ ss) [] x s h = absurd s
-    stands_of (a ∷ ss) (k ∷ keys) x s (inl h) = (0, omega arith, (k, refl, eq-trans eq laws k a x (eq-sym eq laws a k s.0) h))
-    stands_of (a ∷ ss) (k ∷ keys) x s (inr h) = let q = stands_of ss keys x s.1 h in (suc q.0, omega (arith, q.1), q.2)
+    -- a set with the nodes of the starts stands for the starts
+    stands_of : (keys : List N) (x : N) → HasNode eq keys x → StandsBelow (length keys) (StandsFor eq keys) x
+    stands_of [] x h = absurd h
+    stands_of (k ∷ keys) x (inl h) = (0, omega arith, (k, refl, h))
+    stands_of (k ∷ keys) x (inr h) = let q = stands_of keys x h in (suc q.0, omega (arith, q.1), q.2)
 
-    start_of : (ss keys : List N) (k : ℕ) (x : N) → SameNodes eq ss keys → StandsFor eq keys k x → HasNode eq ss x
-    start_of [] [] k x s h = absurd (none_in k h.0 h.1)
-    start_of [] (m ∷ keys) k x s h = absurd s
-    start_of (a ∷ ss) [] k x s h = absurd s
-    start_of (a ∷ ss) (m ∷ keys) zero x s h =
+    node_of : (keys : List N) (k : ℕ) (x : N) → StandsFor eq keys k x → HasNode eq keys x
+    node_of [] k x h = absurd (none_in k h.0 h.1)
+    node_of (m ∷ keys) zero x h =
         let e : Some m ≡ Some h.0 = h.1 in
         let f : m ≡ h.0 = cc in
-        inl (eq-trans eq laws a m x s.0 (subst (λ (y : N). eq y x ≡ true) (sym f) h.2))
-    start_of (a ∷ ss) (m ∷ keys) (suc k) x s h = inr (start_of ss keys k x s.1 (h.0, h.1, h.2))
+        inl (subst (λ (y : N). eq y x ≡ true) (sym f) h.2)
+    node_of (m ∷ keys) (suc k) x h = inr (node_of keys k x (h.0, h.1, h.2))
 
-    pub starts_stand : (ss keys : List N) → SameNodes eq ss keys → (x : N) → StandsBelow (length keys) (StandsFor eq keys) x ↔ HasNode eq ss x
-    starts_stand ss keys s x = (λ h. start_of ss keys h.0 x s h.2, λ h. stands_of ss keys x s h)
-
-    none_same : (a m : N) (ss keys : List N) → eq a m ≡ true → ¬ (HasNode eq ss a) → SameNodes eq ss keys → AllByRecursion (λ y. eq m y ≡ false) keys
-    none_same a m [] [] e n s = tt
-    none_same a m [] (y ∷ keys) e n s = absurd s
-    none_same a m (b ∷ ss) [] e n s = absurd s
-    none_same a m (b ∷ ss) (y ∷ keys) e n s = (
-      elim (bool_dec (eq m y)) as (λ _. eq m y ≡ false) [
-        | inl t ↦ absurd (n (inl (eq-trans eq laws b y a s.0 (eq-sym eq laws a y (eq-trans eq laws a m y e t)))))
-        | inr f ↦ f
-      ],
-      none_same a m ss keys e (λ h. n (inr h)) s.1,
-    )
-
-    clones_distinct : (ss keys : List N) → NoRepeats eq ss → SameNodes eq ss keys → IsDistinct eq keys
-    unfolding IsDistinct
-    clones_distinct [] [] n s = tt
-    clones_distinct [] (k ∷ keys) n s = absurd s
-    clones_distinct (a ∷ ss) [] n s = absurd s
-    clones_distinct (a ∷ ss) (k ∷ keys) n s = (none_same a k ss keys s.0 n.0 s.1, clones_distinct ss keys n.1 s.1)
+    pub starts_stand : (ss keys : List N) → HasSameNodes eq keys ss → (x : N) → StandsBelow (length keys) (StandsFor eq keys) x ↔ HasNode eq ss x
+    starts_stand ss keys s x = (λ h. (s x).0 (node_of keys h.0 x h.2), λ h. stands_of keys x ((s x).1 h))
 
     module _ {I S F P : Type 0} (becomes : I → S → Type 0) (can : S → Type 0) (left : S → Count) (steps : S → Option N → S → Type 0) (f_calls : Mut F (Bor N × Unit {0}) I) (p_calls : Mut P (Bor N × Unit {0}) Bool) where
       -- a discovery begins with clones of the starts
-      pub ExploresHops-start : (g : HopGraph N) (ss keys : List N) (f : F) (p : P) → NoRepeats eq ss → SameNodes eq ss keys → g.starts ≡ ss
+      pub ExploresHops-start : (g : HopGraph N) (ss keys : List N) (f : F) (p : P) → IsDistinct eq keys → HasSameNodes eq keys ss → g.starts ≡ ss
           → AnswersSuccessors f_calls becomes can left steps eq f (IsReachable eq (Precedes eq g.next) g.starts) g.next → AnswersTest p_calls eq p (IsReachable eq (Precedes eq g.next) g.starts) g.test
           → ExploresHops eq becomes can left steps f_calls p_calls g keys f p
       ExploresHops-start g ss keys f p once s same a t = record {
         graph = record { alike = λ x y r e. a.alike x y (reach_next g.next g.starts x r) e; answers = answers_less f_calls _ _ (reach_next g.next g.starts) _ f a.answers };
         tests = record { alike = λ x y r e. t.alike x y (reach_next g.next g.starts x r) e; answers = answers_less p_calls _ _ (reach_next g.next g.starts) _ p t.answers };
-        distinct = clones_distinct ss keys once s;
-        reached = λ k x h. InReach-start eq laws (unit_edges g.next) g.starts x x (subst (λ (xs : List N). HasNode eq xs x) (sym same) (start_of ss keys k x s (x, h, laws.refl x))) (laws.refl x);
+        distinct = once;
+        reached = λ k x h. InReach-start eq laws (unit_edges g.next) g.starts x x (subst (λ (xs : List N). HasNode eq xs x) (sym same) ((s x).0 (node_of keys k x (x, h, laws.refl x)))) (laws.refl x);
       }
 
     -- equal nodes in reach have the same edges

@@ -1,6 +1,6 @@
 //! The nodes that were found, numbered in the order in which they are found.
 
-ghost use Rattle.std.specs.Prelude.{◌≡◌, ◌↔◌, ◌≤◌, ◌<◌, ℕ, [], ◌∷◌, ◌++◌, List, true, false, Contains, IfOk, IfErr, OnOk, OnErr, MatchOption, take, length, slice_get};
+ghost use Rattle.std.specs.Prelude.{◌≡◌, ◌↔◌, ◌≤◌, ◌<◌, ℕ, [], ◌∷◌, ◌++◌, List, true, Contains, IfOk, IfErr, OnOk, OnErr, take, length};
 ghost use Rattle.std.specs.Iterator.{IsFiniteIterable, Drains};
 ghost use Rattle.std.specs.List.{IsDistinct, AllZip};
 ghost use Rattle.pf_base.specs.Edges.{InReach};
@@ -9,14 +9,19 @@ ghost use Rattle.pf_search.specs.Nodes.{NodeGraph, IsStep, StandsFor, AddsNode, 
 ghost use Rattle.pf_search.specs.NodeLaws.{Explores-one};
 
 use crate::numbered::NumberedGraph;
+use indexmap::IndexSet;
 use pf_base::{Cost, EdgeFunction, NodeTest, PathError};
 use std::alloc::Allocator;
+use std::hash::{BuildHasherDefault, FoldHasher, Hash};
 use std::marker::PhantomData;
+
+/// Nodes in the order in which they were found; the place of a node is its number.
+pub(crate) type Nodes<N, A> = IndexSet<N, BuildHasherDefault<FoldHasher>, A>;
 
 /// The nodes found so far, and the functions that answer for them.
 #[derive(Drop)]
-pub struct Discovery<N, IN, FN, FS, A: Allocator> {
-    nodes: Vec<N, A>,
+pub struct Discovery<N: Eq + Hash, IN, FN, FS, A: Allocator> {
+    nodes: Nodes<N, A>,
     successors: FN,
     success: FS,
     answer: PhantomData<IN>,
@@ -24,7 +29,7 @@ pub struct Discovery<N, IN, FN, FS, A: Allocator> {
 
 impl<N, C, IN, FN, FS, A> NumberedGraph<C> for Discovery<N, IN, FN, FS, A>
 where
-    N: Eq + Drop,
+    N: Eq + Hash + Drop,
     C: Cost,
     IN: IntoIterator<Item = (N, C)>,
     FN: FnMut(&N) -> IN,
@@ -39,18 +44,18 @@ where
 
     ghost passes = { λ g x. g.test x };
 
-    ghost found = { λ s. length s.nodes.items };
+    ghost found = { λ s. length s.nodes.keys };
 
-    ghost stands = { λ s. StandsFor N.eq s.nodes.items };
+    ghost stands = { λ s. StandsFor N.eq s.nodes.keys };
 
-    ghost explores = { λ s g. Explores N.eq C.value IN.into_iter_gives IN.IntoIter.can_next IN.IntoIter.remaining IN.IntoIter.next_gives FN.FnMut FS.FnMut g s.nodes.items s.successors s.success };
+    ghost explores = { λ s g. Explores N.eq C.value IN.into_iter_gives IN.IntoIter.can_next IN.IntoIter.remaining IN.IntoIter.next_gives FN.FnMut FS.FnMut g s.nodes.keys s.successors s.success };
 
     fn found(&self) -> usize {
         self.nodes.len()
     }
 
     fn is_goal(&mut self, node: usize) -> bool {
-        (self.success)(&self.nodes[node])
+        (self.success)(&self.nodes.as_slice()[node])
     }
 
     fn expand<B: Allocator + Copy>(
@@ -59,81 +64,55 @@ where
         row: &mut Vec<(usize, C), B>,
     ) -> Result<(), PathError> {
         row.clear();
-        let items = (self.successors)(&self.nodes[node]);
+        let items = (self.successors)(&self.nodes.as_slice()[node]);
         number_all(&mut self.nodes, items, row)
     }
 
     ghost one_law = { λ s g e i j x. Explores-one N.Eq.laws e i j x };
 }
 
-/// The number of a node among those that were found, by walking the list.
-fn number_of<N: Eq>(nodes: &[N], node: &N) -> Option<usize>
-    ensures { MatchOption result
-        ((k : ℕ) (m : N) → slice_get nodes.now k ≡ Some m → N.eq m node.now ≡ false)
-        (λ k. StandsFor N.eq nodes.now k node.now) }
-{
-    nodes.iter().position(|known| *known == *node)
-}
-
-/// The number of a node, which is put at the end of the list where it is new.
-fn number<N: Eq + Drop, A: Allocator + Copy>(
-    nodes: &mut Vec<N, A>,
-    node: N,
-) -> Result<usize, PathError>
-    ensures added { AddsNode N.eq node nodes.old.items nodes.new.items }
-    ensures stands { IfOk result (λ k. StandsFor N.eq nodes.new.items k node) }
-    ensures refused { IfErr result (λ e. e ≡ PathError.OutOfMemory) }
-{
-    if let Some(number) = number_of(nodes, &node) {
-        return Ok(number);
-    }
-    let number = nodes.len();
-    nodes.push(node)?;
-    Ok(number)
-}
-
 /// Numbers the node of an edge, and puts the edge at the end of the row.
 pub(crate) fn number_edge<N, C, A, B>(
-    nodes: &mut Vec<N, A>,
+    nodes: &mut Nodes<N, A>,
     row: &mut Vec<(usize, C), B>,
     node: N,
     cost: C,
 ) -> Result<(), PathError>
 where
-    N: Eq + Drop,
+    N: Eq + Hash + Drop,
     C: Cost,
     A: Allocator + Copy,
     B: Allocator + Copy,
-    ensures added { AddsNode N.eq node nodes.old.items nodes.new.items }
-    ensures numbered { OnOk result ((k : ℕ) × StandsFor N.eq nodes.new.items k node × (row.new.items ≡ row.old.items ++ (k, cost) ∷ [])) }
+    ensures added { AddsNode N.eq node nodes.old.keys nodes.new.keys }
+    ensures numbered { OnOk result ((k : ℕ) × StandsFor N.eq nodes.new.keys k node × (row.new.items ≡ row.old.items ++ (k, cost) ∷ [])) }
     ensures refused { IfErr result (λ e. e ≡ PathError.OutOfMemory) }
 {
-    let number = number(nodes, node)?;
+    let (number, _) = nodes.insert_full(node)?;
     row.push((number, cost))?;
     Ok(())
 }
 
 /// Numbers the nodes of an answer. Where memory is refused, the nodes stay as they were.
 fn number_all<N, C, IN, A, B>(
-    nodes: &mut Vec<N, A>,
+    nodes: &mut Nodes<N, A>,
     items: IN,
     row: &mut Vec<(usize, C), B>,
 ) -> Result<(), PathError>
 where
-    N: Eq + Drop,
+    N: Eq + Hash + Drop,
     C: Cost,
     IN: IntoIterator<Item = (N, C)>,
     A: Allocator + Copy,
     B: Allocator + Copy,
     requires ends { IsFiniteIterable IN.into_iter_gives IN.IntoIter.can_next IN.IntoIter.remaining items }
     requires empty { row.old.items ≡ [] }
-    requires distinct { IsDistinct N.eq nodes.old.items }
+    requires distinct { IsDistinct N.eq nodes.old.keys }
     ensures numbered { OnOk result ((it : IN.IntoIter) × (xs : List (N × C)) × IN.into_iter_gives items it × Drains IN.IntoIter.next_gives it xs
-        × NumbersItems N.eq nodes.new.items row.new.items xs × AddedFrom N.eq xs nodes.old.items nodes.new.items) }
-    ensures distinct { IsDistinct N.eq nodes.new.items }
-    ensures longer { length nodes.old.items ≤ length nodes.new.items }
-    ensures kept { take (length nodes.old.items) nodes.new.items ≡ nodes.old.items }
-    ensures stays { OnErr result (nodes.new.items ≡ nodes.old.items) }
+        × NumbersItems N.eq nodes.new.keys row.new.items xs × AddedFrom N.eq xs nodes.old.keys nodes.new.keys) }
+    ensures distinct { IsDistinct N.eq nodes.new.keys }
+    ensures longer { length nodes.old.keys ≤ length nodes.new.keys }
+    ensures kept { take (length nodes.old.keys) nodes.new.keys ≡ nodes.old.keys }
+    ensures stays { OnErr result (nodes.new.keys ≡ nodes.old.keys) }
     ensures refused { IfErr result (λ e. e ≡ PathError.OutOfMemory) }
 {
     let len = nodes.len();
@@ -170,7 +149,7 @@ where
 
 impl<N, IN, FN, FS, A> Discovery<N, IN, FN, FS, A>
 where
-    N: Eq + Clone + Drop,
+    N: Eq + Hash + Clone + Drop,
     A: Allocator + Copy,
 {
     /// The start alone is found.
@@ -189,9 +168,9 @@ where
             → ⟦<Discovery<N, IN, FN, FS, A> as NumberedGraph<C>>⟧.explores d g) }
         ensures refused { IfErr result (λ e. e ≡ PathError.OutOfMemory) }
     {
-        let mut nodes = Vec::new(alloc);
+        let mut nodes = IndexSet::new(alloc);
         let first = start.clone()?;
-        nodes.push(first)?;
+        nodes.insert(first)?;
         Ok(Discovery {
             nodes,
             successors,
@@ -202,11 +181,11 @@ where
 
     /// Clones of the nodes that the numbers stand for.
     pub fn nodes_at(&self, alloc: A, numbers: &[usize]) -> Result<Vec<N, A>, PathError>
-        requires inside { (k : ℕ) → Contains numbers.now k → k < length self.now.nodes.items }
+        requires inside { (k : ℕ) → Contains numbers.now k → k < length self.now.nodes.keys }
         requires clones { IsLawfulClone N.eq N.is_clone }
-        ensures nodes { IfOk result (λ nodes. AllZip (StandsFor N.eq self.now.nodes.items) numbers.now nodes.items) }
+        ensures nodes { IfOk result (λ nodes. AllZip (StandsFor N.eq self.now.nodes.keys) numbers.now nodes.items) }
         ensures refused { IfErr result (λ e. e ≡ PathError.OutOfMemory) }
     {
-        clones_at(alloc, &self.nodes, numbers)
+        clones_at(alloc, self.nodes.as_slice(), numbers)
     }
 }

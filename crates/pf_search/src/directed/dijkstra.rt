@@ -9,6 +9,7 @@ use crate::cheapest::cheapest_path;
 use crate::discovery::Discovery;
 use pf_base::{Cost, EdgeFunction, NodeTest, PathError};
 use std::alloc::Allocator;
+use std::hash::Hash;
 
 /// A cheapest path from `start` to a node that passes `success`, with its cost, or `None` exactly
 /// where no walk leads from `start` to such a node.
@@ -34,7 +35,7 @@ pub fn dijkstra<N, C, IN, FN, FS, A>(
     success: FS,
 ) -> Result<Option<(Vec<N, A>, C)>, PathError>
 where
-    N: Eq + Clone + Drop,
+    N: Eq + Hash + Clone + Drop,
     C: Cost,
     IN: IntoIterator<Item = (N, C)>,
     FN: FnMut(&N) -> IN,

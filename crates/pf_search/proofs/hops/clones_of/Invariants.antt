@@ -1,7 +1,7 @@
-use Rattle.pf_base.specs.Answers.{SameNodes}
-use Rattle.pf_base.specs.NodeRefs.{nodes_of}
+use Rattle.std.specs.List.{IsDistinct}
+use Rattle.pf_base.specs.NodeRefs.{HasSameNodes, nodes_of}
 use Rattle.pf_search.proofs.hops.clones_of.Given as goal
 
--- each start so far has its clone
+-- the clones of the starts so far, each once
 abbrev pub invariant-starts : goal.invariant-starts
-invariant-starts g l = SameNodes g.N.PartialEq.eq (nodes_of l.yielded) l.nodes.items
+invariant-starts g l = HasSameNodes g.N.PartialEq.eq l.nodes.keys (nodes_of l.yielded) × IsDistinct g.N.PartialEq.eq l.nodes.keys

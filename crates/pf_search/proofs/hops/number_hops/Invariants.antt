@@ -6,10 +6,10 @@ use Rattle.pf_search.proofs.hops.number_hops.Given as goal
 
 abbrev pub invariant-items : goal.invariant-items
 invariant-items g l = record {
-  long : l.len ≡ length l.fn.nodes.items;
-  longer : l.len ≤ length l.nodes.items;
-  kept : take l.len l.nodes.items ≡ l.fn.nodes.items;
-  numbered : NumbersItems g.N.PartialEq.eq l.nodes.items l.row.items (with_ones l.yielded);
-  added : AddedFrom g.N.PartialEq.eq (with_ones l.yielded) l.fn.nodes.items l.nodes.items;
-  distinct : IsDistinct g.N.PartialEq.eq l.nodes.items;
+  long : l.len ≡ length l.fn.nodes.keys;
+  longer : l.len ≤ length l.nodes.keys;
+  kept : take l.len l.nodes.keys ≡ l.fn.nodes.keys;
+  numbered : NumbersItems g.N.PartialEq.eq l.nodes.keys l.row.items (with_ones l.yielded);
+  added : AddedFrom g.N.PartialEq.eq (with_ones l.yielded) l.fn.nodes.keys l.nodes.keys;
+  distinct : IsDistinct g.N.PartialEq.eq l.nodes.keys;
 }

@@ -12,7 +12,7 @@ fewest_edges_path-requires-clause-graph g c =
     (h, c.in_ok-graph.ensures.graph h refl r.2 r.3)
 
 pub fewest_edges_path-requires-clause-begins : goal.fewest_edges_path-requires-clause-begins
-fewest_edges_path-requires-clause-begins g c = λ k l. begins_all g.N.PartialEq.eq g.met.N.Eq.laws c.in_ok-graph.graph.nodes.items k l
+fewest_edges_path-requires-clause-begins g c = λ k l. begins_all g.N.PartialEq.eq g.met.N.Eq.laws c.in_ok-graph.graph.nodes.keys k l
 
 pub returns-in-None-clause-best : goal.returns-in-None-clause-best
 returns-in-None-clause-best g c = λ next test a t.
@@ -34,7 +34,7 @@ returns-clause-best g c = λ next test a t.
     let starts = c.args.starts.now in
     let h : HopGraph g.row.N.Denot = record { starts = starts; next = next; test = test } in
     let x = c.in_ok-graph.ensures.graph h refl a t in
-    let keys = c.fewest_edges_path.new.graph.nodes.items in
+    let keys = c.fewest_edges_path.new.graph.nodes.keys in
     let y = c.in_ok-fewest_edges_path.ensures.graph h x in
     let b = rw c.in-Some.is at (c.in_ok-fewest_edges_path.ensures.best h x (is_hop eq h)) in
     let path = c.in_ok-path-in-Some.path.items in

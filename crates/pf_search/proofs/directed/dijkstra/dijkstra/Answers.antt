@@ -22,7 +22,7 @@ returns-in_err-cheapest_path-clause-overflow g c = λ edges test a t p e.
     let start = c.args.start.now in
     let h : NodeGraph g.row.N.Denot = record { starts = start ∷ []; edges = edges; test = test } in
     let x = c.in_ok-graph.ensures.graph h refl a t in
-    let keys = c.cheapest_path.new.graph.nodes.items in
+    let keys = c.cheapest_path.new.graph.nodes.keys in
     let y = c.in_err-cheapest_path.ensures.graph h x in
     let f : c.in_err-cheapest_path.field-0.0 ≡ CostOverflow = search rules in
     let d = c.in_err-cheapest_path.ensures.overflow h x (positive eq laws h a.alike p) (ap Err f) in
@@ -48,7 +48,7 @@ returns-clause-best g c = λ edges test a t p.
     let start = c.args.start.now in
     let h : NodeGraph g.row.N.Denot = record { starts = start ∷ []; edges = edges; test = test } in
     let x = c.in_ok-graph.ensures.graph h refl a t in
-    let keys = c.cheapest_path.new.graph.nodes.items in
+    let keys = c.cheapest_path.new.graph.nodes.keys in
     let y = c.in_ok-cheapest_path.ensures.graph h x in
     let b = rw c.in-Some.is at (c.in_ok-cheapest_path.ensures.best h x (positive eq laws h a.alike p)) in
     best_answer eq laws h a.alike _ (all_starts eq start _ c.in_ok-graph.ensures.begins) (only_starts eq start _ c.in_ok-graph.ensures.begins) test t.alike keys (StandsFor-one eq laws keys y.distinct) c.in-Some.numbers.items c.in_ok-path-in-Some.path.items (g.C.Number.value c.in-Some.cost) b (rw c.deref.ensures.value at c.in_ok-path-in-Some.ensures.nodes)

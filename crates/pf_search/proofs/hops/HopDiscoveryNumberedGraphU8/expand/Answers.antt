@@ -11,20 +11,20 @@ use Rattle.pf_search.proofs.hops.HopDiscoveryNumberedGraphU8.expand.Goals as goa
 pub successors-items-requires : goal.successors-items-requires
 successors-items-requires g c =
     let r = c.requires.graph in
-    let at : slice_get c.args.self.now.nodes.items c.args.node ≡ Some c.index.result.now = at_place _ _ _ _ c.requires.inside (sym c.index.ensures) in
-    let reach = r.1.reached c.args.node c.index.result.now at in
-    let may : (p : Bor g.row.N.Denot) → p.now ≡ c.index.result.now → g.FN.FnMut.pre c.args.self.now.successors (p, tt) = λ p e. Answers-takes _ _ _ r.1.graph.answers p (subst (InReach g.N.PartialEq.eq (unit_edges r.0.next) r.0.starts) (sym e) reach) in
+    let at : slice_get c.args.self.now.nodes.keys c.args.node ≡ Some c.index-as_slice-node.result = at_place _ _ _ _ c.requires.inside (sym (rw c.as_slice.ensures.keys at c.index-as_slice-node.is)) in
+    let reach = r.1.reached c.args.node c.index-as_slice-node.result at in
+    let may : (p : Bor g.row.N.Denot) → p.now ≡ c.index-as_slice-node.result → g.FN.FnMut.pre c.args.self.now.successors (p, tt) = λ p e. Answers-takes _ _ _ r.1.graph.answers p (subst (InReach g.N.PartialEq.eq (unit_edges r.0.next) r.0.starts) (sym e) reach) in
     search (rules, may)
 
 pub number_hops-requires-clause-ends : goal.number_hops-requires-clause-ends
 number_hops-requires-clause-ends g c =
     let r = c.requires.graph in
-    let at : slice_get c.args.self.now.nodes.items c.args.node ≡ Some c.index.result.now = at_place _ _ _ _ c.requires.inside (sym c.index.ensures) in
-    let reach = r.1.reached c.args.node c.index.result.now at in
+    let at : slice_get c.args.self.now.nodes.keys c.args.node ≡ Some c.index-as_slice-node.result = at_place _ _ _ _ c.requires.inside (sym (rw c.as_slice.ensures.keys at c.index-as_slice-node.is)) in
+    let reach = r.1.reached c.args.node c.index-as_slice-node.result at in
     Gives-ends _ _ _ _ _ _ (Answers-gives _ _ _ r.1.graph.answers _ reach c.successors-items.result c.successors-items.new.self c.successors-items.ensures)
 
 pub returns-clause-grows : goal.returns-clause-grows
-returns-clause-grows g c = Grows-from_take g.N.PartialEq.eq c.args.self.now.nodes.items c.number_hops.new.nodes.items c.number_hops.ensures.longer c.number_hops.ensures.kept
+returns-clause-grows g c = Grows-from_take g.N.PartialEq.eq c.args.self.now.nodes.keys c.number_hops.new.nodes.keys c.number_hops.ensures.longer c.number_hops.ensures.kept
 
 pub returns-clause-inside : goal.returns-clause-inside
 returns-clause-inside g c = on_ok c.number_hops.result c.number_hops.ensures.numbered (λ n. inside_of g.N.PartialEq.eq _ _ _ n.4)
@@ -33,10 +33,10 @@ pub returns-clause-graph : goal.returns-clause-graph
 returns-clause-graph g c = λ h x.
     let eq = g.N.PartialEq.eq in
     let laws = g.met.N.Eq.laws in
-    let keys = c.args.self.now.nodes.items in
-    let keys' = c.number_hops.new.nodes.items in
-    let here = c.index.result.now in
-    let at : slice_get keys c.args.node ≡ Some here = at_place _ _ _ _ c.requires.inside (sym c.index.ensures) in
+    let keys = c.args.self.now.nodes.keys in
+    let keys' = c.number_hops.new.nodes.keys in
+    let here = c.index-as_slice-node.result in
+    let at : slice_get keys c.args.node ≡ Some here = at_place _ _ _ _ c.requires.inside (sym (rw c.as_slice.ensures.keys at c.index-as_slice-node.is)) in
     let reach = x.reached c.args.node here at in
     let alike = hops_alike eq laws h x.graph.alike in
     let gives = Answers-gives _ _ _ x.graph.answers _ reach c.successors-items.result c.successors-items.new.self c.successors-items.ensures in (
@@ -54,4 +54,4 @@ returns-clause-graph g c = λ h x.
 
 pub returns-clause-fresh : goal.returns-clause-fresh
 returns-clause-fresh g c = on_ok c.number_hops.result c.number_hops.ensures.numbered (λ n j low high.
-    fresh_number g.N.PartialEq.eq g.met.N.Eq.laws c.args.self.now.nodes.items c.number_hops.new.nodes.items c.number_hops.ensures.distinct _ (with_ones n.1) n.4 n.5 j low high)
+    fresh_number g.N.PartialEq.eq g.met.N.Eq.laws c.args.self.now.nodes.keys c.number_hops.new.nodes.keys c.number_hops.ensures.distinct _ (with_ones n.1) n.4 n.5 j low high)

@@ -8,15 +8,15 @@ use Rattle.pf_search.proofs.hops.HopDiscoveryNumberedGraphU8.is_goal.Goals as go
 pub success-requires : goal.success-requires
 success-requires g c =
     let r = c.requires.graph in
-    let at : slice_get c.args.self.now.nodes.items c.args.node ≡ Some c.index.result.now = at_place _ _ _ _ c.requires.inside (sym c.index.ensures) in
-    let reach = r.1.reached c.args.node c.index.result.now at in
-    let may : (p : Bor g.row.N.Denot) → p.now ≡ c.index.result.now → g.FS.FnMut.pre c.args.self.now.success (p, tt) = λ p e. Answers-takes _ _ _ r.1.tests.answers p (subst (InReach g.N.PartialEq.eq (unit_edges r.0.next) r.0.starts) (sym e) reach) in
+    let at : slice_get c.args.self.now.nodes.keys c.args.node ≡ Some c.index-as_slice-node.result = at_place _ _ _ _ c.requires.inside (sym (rw c.as_slice.ensures.keys at c.index-as_slice-node.is)) in
+    let reach = r.1.reached c.args.node c.index-as_slice-node.result at in
+    let may : (p : Bor g.row.N.Denot) → p.now ≡ c.index-as_slice-node.result → g.FS.FnMut.pre c.args.self.now.success (p, tt) = λ p e. Answers-takes _ _ _ r.1.tests.answers p (subst (InReach g.N.PartialEq.eq (unit_edges r.0.next) r.0.starts) (sym e) reach) in
     search (rules, may)
 
 pub returns-clause-graph : goal.returns-clause-graph
 returns-clause-graph g c = λ h x.
-    let at : slice_get c.args.self.now.nodes.items c.args.node ≡ Some c.index.result.now = at_place _ _ _ _ c.requires.inside (sym c.index.ensures) in
-    let reach = x.reached c.args.node c.index.result.now at in (
+    let at : slice_get c.args.self.now.nodes.keys c.args.node ≡ Some c.index-as_slice-node.result = at_place _ _ _ _ c.requires.inside (sym (rw c.as_slice.ensures.keys at c.index-as_slice-node.is)) in
+    let reach = x.reached c.args.node c.index-as_slice-node.result at in (
       record { graph = x.graph; tests = record { alike = x.tests.alike; answers = Answers-on _ _ _ x.tests.answers _ reach c.success.result c.success.new.self c.success.ensures }; distinct = x.distinct; reached = x.reached },
-      λ y s. Answers-gives _ _ _ x.tests.answers _ reach c.success.result c.success.new.self c.success.ensures ∙ test_at g.N.PartialEq.eq _ h.test x.tests.alike c.args.self.now.nodes.items c.args.node c.index.result.now y reach at s,
+      λ y s. Answers-gives _ _ _ x.tests.answers _ reach c.success.result c.success.new.self c.success.ensures ∙ test_at g.N.PartialEq.eq _ h.test x.tests.alike c.args.self.now.nodes.keys c.args.node c.index-as_slice-node.result y reach at s,
     )
