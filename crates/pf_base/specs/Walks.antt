@@ -1,5 +1,5 @@
 -- Walks, paths and reach. A relation `step` says which node follows which, and nodes are the same where `eq` says so.
-use Rattle.std.specs.Prelude.{◌≡◌, ◌⊎◌, Bool, true, List, [], ◌∷◌, ⊤}
+use Rattle.std.specs.Prelude.{◌≡◌, ◌⊎◌, ◌≤◌, ℕ, Bool, true, List, [], ◌∷◌, length, ⊤}
 
 -- some node of the list is the same as x
 abbrev pub HasNode : {N : Type 0} → (N → N → Bool) → List N → N → Type 0
@@ -10,6 +10,10 @@ HasNode eq (y ∷ ys) x = (eq y x ≡ true) ⊎ HasNode eq ys x
 abbrev pub NoRepeats : {N : Type 0} → (N → N → Bool) → List N → Type 0
 NoRepeats eq [] = ⊤
 NoRepeats eq (x ∷ xs) = ¬ (HasNode eq xs x) × NoRepeats eq xs
+
+-- n is at most the number of nodes of which P holds: each list that has them all is as long at least
+abbrev pub IsAtMostNumberOf : {N : Type 0} → (N → N → Bool) → (N → Type 0) → ℕ → Type 0
+IsAtMostNumberOf {N} eq P n = (nodes : List N) → ((x : N) → P x → HasNode eq nodes x) → n ≤ length nodes
 
 -- the last node of a and w
 abbrev pub end_of : {N : Type 0} → N → List N → N

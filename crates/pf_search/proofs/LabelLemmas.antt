@@ -203,73 +203,6 @@ module _ {C : Type 0} where
         omega (arith, ap settled_count e, sum_by-append f labels (replicate m None), sum_by-replicate f m None);
   }
 
--- what the search for the least open label has seen of the first n
-abbrev pub IsLeastOpen : {C : Type 0} → (C → ℤ) → Labels C → ℕ → Option (ℕ × Label C) → Type 0
-IsLeastOpen {C} value labels n least = MatchOption least
-    ((j : ℕ) (m : Label C) → j < n → HasLabel labels j m → m.settled ≡ true)
-    (λ r. HasLabel labels r.0 r.1 × (r.1.settled ≡ false)
-    × ((j : ℕ) (m : Label C) → j < n → HasLabel labels j m → m.settled ≡ false → value r.1.cost ≤ℤ value m.cost))
-
-module _ {C : Type 0} (value : C → ℤ) (labels : Labels C) (n : ℕ) where
-  up_to : (j : ℕ) → j < n + 1 → (j < n) ⊎ (j ≡ n)
-  up_to j h = elim (nat_dec j n) as (λ _. (j < n) ⊎ (j ≡ n)) [ inl e ↦ inr e | inr e ↦ inl (omega (arith, e)) ]
-
-  -- one more label, which is the least so far
-  pub IsLeastOpen-new : (least : Option (ℕ × Label C)) (l : Label C) → IsLeastOpen value labels n least → HasLabel labels n l → l.settled ≡ false
-      → MatchOption least (true ≡ true) (λ r. value l.cost <ℤ value r.1.cost) → IsLeastOpen value labels (n + 1) (Some (n, l))
-  IsLeastOpen-new None l i h o b = (
-    h,
-    o,
-    λ j m lt g t. elim (up_to j lt) as (λ _. value l.cost ≤ℤ value m.cost) [
-      | inl e ↦ absurd (true≢false (sym (i j m e g) ∙ t))
-      | inr e ↦ subst (λ (k : Label C). value l.cost ≤ℤ value k.cost) (label_is labels n l m h (subst (λ (k : ℕ). HasLabel labels k m) e g)) (omega (arith, ints))
-    ],
-  )
-  IsLeastOpen-new (Some r) l i h o b = (
-    h,
-    o,
-    λ j m lt g t. elim (up_to j lt) as (λ _. value l.cost ≤ℤ value m.cost) [
-      | inl e ↦ let low = i.2 j m e g t in omega (arith, ints, b)
-      | inr e ↦ subst (λ (k : Label C). value l.cost ≤ℤ value k.cost) (label_is labels n l m h (subst (λ (k : ℕ). HasLabel labels k m) e g)) (omega (arith, ints))
-    ],
-  )
-
-  -- one more place, whose label, if there is one, changes nothing
-  IsLeastOpen-same : (least : Option (ℕ × Label C)) → IsLeastOpen value labels n least
-      → ((m : Label C) → HasLabel labels n m → m.settled ≡ false → MatchOption least (false ≡ true) (λ r. value r.1.cost ≤ℤ value m.cost)) → IsLeastOpen value labels (n + 1) least
-  IsLeastOpen-same None i b = λ j m lt g. elim (up_to j lt) as (λ _. m.settled ≡ true) [
-    | inl e ↦ i j m e g
-    | inr e ↦ elim (bool_dec m.settled) as (λ _. m.settled ≡ true) [
-      | inl t ↦ t
-      | inr f ↦ absurd (true≢false (sym (b m (subst (λ (k : ℕ). HasLabel labels k m) e g) f)))
-    ]
-  ]
-  IsLeastOpen-same (Some r) i b = (
-    i.0,
-    i.1,
-    λ j m lt g t. elim (up_to j lt) as (λ _. value r.1.cost ≤ℤ value m.cost) [
-      | inl e ↦ i.2 j m e g t
-      | inr e ↦ b m (subst (λ (k : ℕ). HasLabel labels k m) e g) t
-    ],
-  )
-
-  -- an open label that is not below the least so far
-  pub IsLeastOpen-above : (least : Option (ℕ × Label C)) (l : Label C) → IsLeastOpen value labels n least → HasLabel labels n l → MatchOption least (false ≡ true) (λ r. value r.1.cost ≤ℤ value l.cost) → IsLeastOpen value labels (n + 1) least
-  IsLeastOpen-above None l i h b = absurd (true≢false (sym b))
-  IsLeastOpen-above (Some r) l i h b = IsLeastOpen-same (Some r) i (λ m g o. subst (λ (k : Label C). value r.1.cost ≤ℤ value k.cost) (label_is labels n l m h g) b)
-
-  pub IsLeastOpen-settled : (least : Option (ℕ × Label C)) (l : Label C) → IsLeastOpen value labels n least → HasLabel labels n l → l.settled ≡ true → IsLeastOpen value labels (n + 1) least
-  IsLeastOpen-settled least l i h t = IsLeastOpen-same least i (λ m g o. absurd (true≢false (sym t ∙ ap (λ (k : Label C). k.settled) (label_is labels n l m h g) ∙ o)))
-
-  pub IsLeastOpen-none : (least : Option (ℕ × Label C)) → IsLeastOpen value labels n least → slice_get labels n ≡ Some None → IsLeastOpen value labels (n + 1) least
-  IsLeastOpen-none least i h = IsLeastOpen-same least i (λ m g o. absurd (none_has_none labels n h m g))
-
--- what it has seen of all
-pub IsLeastOpen-all : {C : Type 0} (value : C → ℤ) (labels : Labels C) (n : ℕ) (least : Option (ℕ × Label C)) → length labels ≤ n → IsLeastOpen value labels n least
-    → MatchOption least (AllSettled labels) (λ r. HasLabel labels r.0 r.1 × (r.1.settled ≡ false) × ((j : ℕ) (m : Label C) → HasLabel labels j m → m.settled ≡ false → value r.1.cost ≤ℤ value m.cost))
-IsLeastOpen-all value labels n None all i = λ j m h. i j m (omega (arith, HasLabel-inside labels j m h, all)) h
-IsLeastOpen-all value labels n (Some r) all i = (i.0, i.1, λ j m h. i.2 j m (omega (arith, HasLabel-inside labels j m h, all)) h)
-
 module _ {C : Type 0} (value : C → ℤ) (labels : Labels C) (next : ℕ) (label : Label C) (total : C) (at : HasLabel labels next label) where
   -- what the comparison with an open label says
   pub improves_at : (r : Bool) → label.settled ≡ false → MatchBool r (value total <ℤ value label.cost) (value label.cost ≤ℤ value total)
@@ -305,3 +238,6 @@ module _ {C : Type 0} (labels : Labels C) (first : Label C) (e : labels ≡ Some
 
   pub deep_start : first.depth ≡ 0 → (n : ℕ) (k : ℕ) (l : Label C) → HasLabel labels k l → l.depth ≤ n
   deep_start flat n k l h = let o = only k l h in omega (arith, ap (λ (m : Label C). m.depth) o.1, flat)
+
+  pub count_start : first.settled ≡ false → settled_count labels ≡ 0
+  count_start f = subst (λ (xs : Labels C). settled_count xs ≡ 0) (sym e) (let h : ◌≡◌ {A = ℕ} (cond first.settled 1 0) 0 = ap (λ b. cond b 1 0) f in omega (arith, h))

@@ -1,5 +1,6 @@
 pub mod ListLemmas
 pub mod LabelLemmas
+pub mod QueueLemmas
 pub mod FrontierLemmas
 pub mod PathLemmas
 pub mod SearchLemmas

@@ -1,5 +1,5 @@
 -- Lemmas on nodes and their numbers.
-use Rattle.std.proofs.Common.{◌≡◌, ℕ, zero, suc, ◌<◌, ◌≤◌, Bool, true, false, Option, Some, List, [], ◌∷◌, ◌++◌, ◌∙◌, slice_get, length, take, refl, sym, ap, subst, arith, length-append, Bor, inl, inr, ℤ, ◌||◌, true≢false, if◌then◌else◌}
+use Rattle.std.proofs.Common.{◌≡◌, ℕ, zero, suc, ◌<◌, ◌≤◌, ◌+◌, ◌-◌, Bool, true, false, Option, Some, List, [], ◌∷◌, ◌++◌, ◌∙◌, slice_get, length, take, refl, sym, ap, subst, arith, length-append, Bor, inl, inr, ℤ, ◌||◌, true≢false, if◌then◌else◌}
 use Rattle.std.specs.Prelude.{Contains, ◌⊎◌, ◌↔◌}
 use Rattle.std.specs.Cmp.{IsEquivalence}
 use Rattle.std.specs.Iterator.{Count, Drains, IsFiniteIterable}
@@ -10,7 +10,9 @@ use Rattle.std.proofs.iter.runs.Made.{run, to_end, seen}
 use Rattle.std.proofs.lemmas.List.{take-append-le}
 use Rattle.std.proofs.lemmas.List.Elements.{Contains-append_left, Contains-push}
 use Rattle.std.proofs.lemmas.Option.{slice_get_within}
-use Rattle.pf_base.specs.Walks.{HasNode, Follows, IsWalk, end_of, BeginsAt, EndsAt}
+use Rattle.std.specs.Set.{is_member}
+use Rattle.std.proofs.lemmas.Map.Made.{length-le_from_is_member}
+use Rattle.pf_base.specs.Walks.{HasNode, IsAtMostNumberOf, Follows, IsWalk, end_of, BeginsAt, EndsAt}
 use Rattle.pf_base.specs.NodeRefs.{HasSameNodes}
 use Rattle.pf_base.specs.Edges.{HasEdge, IsSuccessor, InReach}
 use Rattle.pf_base.specs.Answers.{ListsEdges, Gives, Answers, AnswersGraph, AnswersTest}
@@ -45,6 +47,10 @@ or_left false b h = refl
 or_right : (a b : Bool) → a || b ≡ false → b ≡ false
 or_right true b h = absurd (true≢false h)
 or_right false b h = h
+
+or_true : (a b : Bool) → b ≡ true → a || b ≡ true
+or_true true b h = refl
+or_true false b h = h
 
 or_cases : (a b : Bool) → a || b ≡ true → (a ≡ true) ⊎ (b ≡ true)
 or_cases true b h = inl refl
@@ -367,3 +373,27 @@ module _ {N C : Type 0} (eq : N → N → Bool) (laws : IsEquivalence eq) (keys 
       get_below [] j h = absurd (omega (arith, h))
       get_below (k ∷ ks) zero h = (k, refl)
       get_below (k ∷ ks) (suc j) h = get_below ks j (omega (arith, h))
+
+-- there are at most as many distinct nodes of a sort as there are nodes of that sort
+module _ {N : Type 0} (eq : N → N → Bool) (laws : IsEquivalence eq) (P : N → Type 0) (keys : List N) (distinct : IsDistinct eq keys) (all : (k : ℕ) (x : N) → slice_get keys k ≡ Some x → P x) where
+  member_of : (xs : List N) (q : N) → HasNode eq xs q → is_member eq xs q ≡ true
+  member_of [] q h = absurd h
+  member_of (x ∷ xs) q (inl e) = ap (λ b. b || is_member eq xs q) (eq-sym eq laws x q e)
+  member_of (x ∷ xs) q (inr h) = or_true (eq q x) (is_member eq xs q) (member_of xs q h)
+
+  place_of : (xs : List N) (q : N) → is_member eq xs q ≡ true → (k : ℕ) × (x : N) × (slice_get xs k ≡ Some x) × (eq q x ≡ true)
+  place_of [] q h = absurd (true≢false (sym h))
+  place_of (x ∷ xs) q h = elim (or_cases (eq q x) (is_member eq xs q) h) as (λ _. (k : ℕ) × (y : N) × (slice_get (x ∷ xs) k ≡ Some y) × (eq q y ≡ true)) [
+    | inl e ↦ (0, x, refl, e)
+    | inr r ↦ let p = place_of xs q r in (suc p.0, p.1, p.2, p.3)
+  ]
+
+  HasNode-same : (nodes : List N) (x y : N) → HasNode eq nodes x → eq x y ≡ true → HasNode eq nodes y
+  HasNode-same [] x y h e = h
+  HasNode-same (n ∷ nodes) x y (inl h) e = inl (eq-trans eq laws n x y h e)
+  HasNode-same (n ∷ nodes) x y (inr h) e = inr (HasNode-same nodes x y h e)
+
+  pub at_most : (before after : ℕ) → after ≤ before + length keys → IsAtMostNumberOf eq P (after - before)
+  at_most before after l nodes has =
+      let short = length-le_from_is_member laws keys nodes distinct (λ q m. let p = place_of keys q m in member_of nodes q (HasNode-same nodes p.1 q (has p.1 (all p.0 p.1 p.2)) (eq-sym eq laws q p.1 p.3))) in
+      omega (arith, l, short)

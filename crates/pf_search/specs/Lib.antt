@@ -2,6 +2,7 @@ pub mod Numbered
 pub mod Steps
 pub mod Frontier
 pub mod Labels
+pub mod Queue
 pub mod Nodes
 pub mod NodeLaws
 pub mod Hops

@@ -1,8 +1,8 @@
 //! What a search by rising cost knows of the nodes that were found: their labels, by number.
 
-ghost use Rattle.std.specs.Prelude.{◌≡◌, ◌<◌, ◌≤◌, ◌≤ℤ◌, ◌<ℤ◌, ◌+ℤ◌, ◌+◌, ◌^◌, ◌⊎◌, ℕ, ℤ, true, false, List, OnOk, IfOk, IfErr, Contains, MatchOption, MatchBool, length};
+ghost use Rattle.std.specs.Prelude.{◌≡◌, ◌<◌, ◌≤◌, ◌<ℤ◌, ℕ, true, false, Some, OnOk, IfOk, IfErr, Contains, MatchOption, MatchBool, length, slice_set};
 ghost use Rattle.pf_search.specs.declared.labels.Label.{Label};
-ghost use Rattle.pf_search.specs.Labels.{HasLabel, by_cost, AllSettled, IsTree, IsChain, IsWithin, Settles, Lowered, ComesFrom, Covers, Stepped, Relaxed, Widened};
+ghost use Rattle.pf_search.specs.Labels.{HasLabel, by_cost, IsTree, IsChain, IsWithin, Widened};
 
 use pf_base::{Cost, PathError};
 use std::alloc::Allocator;
@@ -17,50 +17,29 @@ pub struct Label<C> {
     pub settled: bool,
 }
 
-/// The number of an open label of least cost, with the label, or `None` where all are settled.
-fn least_open<C: Cost>(labels: &[Option<Label<C>>]) -> Option<(usize, Label<C>)>
-    ensures { MatchOption result (AllSettled labels.now)
-        (λ r. HasLabel labels.now r.0 r.1 × (r.1.settled ≡ false)
-        × ((j : ℕ) (m : Label C) → HasLabel labels.now j m → m.settled ≡ false → C.value r.1.cost ≤ℤ C.value m.cost)) }
-{
-    let mut least: Option<(usize, Label<C>)> = None;
-    'labels: for (number, entry) in labels.iter().enumerate() {
-        if let Some(label) = entry {
-            if !label.settled && is_less(label.cost, least) {
-                least = Some((number, *label));
-            }
-        }
-    }
-    least
-}
-
-/// Is the cost less than that of the label, if there is one?
-fn is_less<C: Cost>(cost: C, least: Option<(usize, Label<C>)>) -> bool
-    ensures { MatchOption least (result ≡ true) (λ r. MatchBool result (C.value cost <ℤ C.value r.1.cost) (C.value r.1.cost ≤ℤ C.value cost)) }
-{
-    match least {
-        Some((_, label)) => cost < label.cost,
-        None => true,
-    }
-}
-
-/// Settles an open label of least cost. The answer is its number and the label as it was.
-pub fn settle_next<C: Cost, A: Allocator>(
+/// Settles the label of a number, if it has one that is open, and answers the label as it was.
+pub fn settle<C: Cost, A: Allocator>(
     labels: &mut Vec<Option<Label<C>>, A>,
-) -> Option<(usize, Label<C>)>
-    ensures { MatchOption result (AllSettled labels.old.items)
-        (λ r. Settles (by_cost C.value) r.0 r.1 labels.old.items labels.new.items) }
+    number: usize,
+) -> Option<Label<C>>
+    requires { number < length labels.old.items }
+    ensures { MatchOption result
+        ((labels.new.items ≡ labels.old.items) × ((l : Label C) → HasLabel labels.old.items number l → l.settled ≡ true))
+        (λ l. HasLabel labels.old.items number l × (l.settled ≡ false) × (labels.new.items ≡ slice_set labels.old.items number (Some (record l { settled = true })))) }
 {
-    let (number, label) = least_open(labels)?;
+    let label = labels[number]?;
+    if label.settled {
+        return None;
+    }
     labels[number] = Some(Label {
         settled: true,
         ..label
     });
-    Some((number, label))
+    Some(label)
 }
 
 /// Would a label of this cost change what is known of the number?
-fn improves<C: Cost>(labels: &[Option<Label<C>>], next: usize, total: C) -> bool
+pub fn improves<C: Cost>(labels: &[Option<Label<C>>], next: usize, total: C) -> bool
     requires { next < length labels.now }
     ensures { MatchBool result
         ((l : Label C) → HasLabel labels.now next l → (l.settled ≡ false) × (C.value total <ℤ C.value l.cost))
@@ -69,60 +48,6 @@ fn improves<C: Cost>(labels: &[Option<Label<C>>], next: usize, total: C) -> bool
     match labels[next] {
         Some(label) => !label.settled && total < label.cost,
         None => true,
-    }
-}
-
-/// Puts in the label, if none is there or it costs less than the open one that is there.
-fn lower<C: Cost, A: Allocator>(labels: &mut Vec<Option<Label<C>>, A>, next: usize, new: Label<C>)
-    requires inside { next < length labels.old.items }
-    requires opened { new.settled ≡ false }
-    ensures { Lowered (by_cost C.value) next new labels.old.items labels.new.items }
-{
-    if improves(labels, next, new.cost) {
-        labels[next] = Some(new);
-    }
-}
-
-/// Takes one step from the number `parent`, whose label is `label`, where the sum of the costs fits.
-fn take_step<C: Cost, A: Allocator>(
-    labels: &mut Vec<Option<Label<C>>, A>,
-    parent: usize,
-    label: Label<C>,
-    next: usize,
-    price: C,
-)
-    requires inside { next < length labels.old.items }
-    requires deep { label.depth + 1 < 2 ^ 64 }
-    ensures { Stepped (by_cost C.value) C.value C.fits parent label next price labels.old.items labels.new.items }
-{
-    if let Some(cost) = label.cost.checked_add(&price) {
-        lower(
-            labels,
-            next,
-            Label {
-                cost,
-                parent,
-                depth: label.depth + 1,
-                settled: false,
-            },
-        );
-    }
-}
-
-/// Takes the steps of a row from the number `parent`, whose label is `label`.
-pub fn relax<C: Cost, A: Allocator>(
-    labels: &mut Vec<Option<Label<C>>, A>,
-    parent: usize,
-    label: Label<C>,
-    row: &[(usize, C)],
-)
-    requires inside { (j : ℕ) (c : C) → Contains row.now (j, c) → j < length labels.old.items }
-    requires deep { label.depth + 1 < 2 ^ 64 }
-    ensures relaxed { Relaxed (by_cost C.value) C.value parent label row.now labels.old.items labels.new.items }
-    ensures reached { (j : ℕ) (c : C) → Contains row.now (j, c) → C.fits (C.value label.cost +ℤ C.value c) → Covers (by_cost C.value) C.value label labels.new.items j c }
-{
-    'steps: for (next, price) in row {
-        take_step(labels, parent, label, *next, *price);
     }
 }
 

@@ -13,3 +13,4 @@ mod hops;
 mod labels;
 pub mod laws;
 mod numbered;
+mod queue;

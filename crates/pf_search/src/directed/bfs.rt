@@ -24,8 +24,8 @@ use std::hash::Hash;
 ///
 /// `OutOfMemory`: a request for memory was refused.
 ///
-/// The algorithm is breadth-first search (E. F. Moore, "The shortest path through a maze", 1959),
-/// over plain lists: its time grows with the square of the number of nodes in reach.
+/// The algorithm is breadth-first search (E. F. Moore, "The shortest path through a maze", 1959): its
+/// time is of the order of the number of nodes and edges in reach.
 pub fn bfs<N, IN, FN, FS, A, B>(
     alloc: A,
     starts: &NodeRefs<'_, N, B>,

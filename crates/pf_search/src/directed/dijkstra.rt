@@ -1,12 +1,13 @@
 //! Cheapest paths (Dijkstra 1959).
 
-ghost use Rattle.std.specs.Prelude.{◌≡◌, ◌⊎◌, List, [], ◌∷◌, Bool, ℤ, IfOk, IfErr, MatchOption};
-ghost use Rattle.pf_base.specs.Walks.{HasNoGoalWalk};
+ghost use Rattle.std.specs.Prelude.{◌≡◌, ◌⊎◌, ◌≤◌, ◌-◌, List, [], ◌∷◌, Bool, ℤ, IfOk, IfErr, MatchOption};
+ghost use Rattle.pf_base.specs.Walks.{HasNoGoalWalk, IsAtMostNumberOf};
 ghost use Rattle.pf_base.specs.Edges.{IsSuccessor, InReach, HasNoNegativeCost, IsBestGoalPath, IsPastRange};
 ghost use Rattle.pf_base.specs.Answers.{IsLawfulClone};
 
 use crate::cheapest::cheapest_path;
 use crate::discovery::Discovery;
+use pf_base::utils::Tally;
 use pf_base::{Cost, EdgeFunction, NodeTest, PathError};
 use std::alloc::Allocator;
 use std::hash::Hash;
@@ -27,7 +28,8 @@ use std::hash::Hash;
 /// - `OutOfMemory`: a request for memory was refused.
 ///
 /// The algorithm is Dijkstra's (E. W. Dijkstra, "A note on two problems in connexion with graphs",
-/// 1959), over plain lists: its time grows with the square of the number of nodes in reach.
+/// 1959), with a binary heap: over n nodes and m edges in reach it takes time of the order of
+/// (n + m) log (n + m). `successors` is asked once at most for each node in reach.
 pub fn dijkstra<N, C, IN, FN, FS, A>(
     alloc: A,
     start: &N,
@@ -64,8 +66,62 @@ where
 
     ensures errors { IfErr result (λ e. (e ≡ PathError.OutOfMemory) ⊎ (e ≡ PathError.CostOverflow)) }
 {
+    let mut tally = Tally::new();
+    dijkstra_tallied(alloc, start, successors, success, &mut tally)
+}
+
+/// The same as `dijkstra`, with one tick of `tally` for each node whose successors are asked for: at
+/// most as many as there are nodes in reach of `start`.
+///
+/// # Errors
+///
+/// As those of `dijkstra`.
+pub fn dijkstra_tallied<N, C, IN, FN, FS, A>(
+    alloc: A,
+    start: &N,
+    successors: FN,
+    success: FS,
+    tally: &mut Tally,
+) -> Result<Option<(Vec<N, A>, C)>, PathError>
+where
+    N: Eq + Hash + Clone + Drop,
+    C: Cost,
+    IN: IntoIterator<Item = (N, C)>,
+    FN: FnMut(&N) -> IN,
+    FS: FnMut(&N) -> bool,
+    A: Allocator + Copy,
+    requires clones { IsLawfulClone N.eq N.is_clone }
+    requires graph { (edges : N → List (N × ℤ)) × (test : N → Bool)
+        × ⟦<FN as EdgeFunction<N, C>>⟧.answers successors (InReach N.eq edges (start.now ∷ [])) edges
+        × ⟦<FS as NodeTest<N>>⟧.answers success (InReach N.eq edges (start.now ∷ [])) test
+        × HasNoNegativeCost N.eq edges (start.now ∷ []) }
+
+    ensures best { (edges : N → List (N × ℤ)) (test : N → Bool)
+        → ⟦<FN as EdgeFunction<N, C>>⟧.answers successors (InReach N.eq edges (start.now ∷ [])) edges
+        → ⟦<FS as NodeTest<N>>⟧.answers success (InReach N.eq edges (start.now ∷ [])) test
+        → HasNoNegativeCost N.eq edges (start.now ∷ [])
+        → IfOk result (λ answer. MatchOption answer
+        (HasNoGoalWalk N.eq (IsSuccessor N.eq edges) (start.now ∷ []) test)
+        (λ found. IsBestGoalPath N.eq edges (start.now ∷ []) test found.0.items (C.value found.1))) }
+
+    ensures overflow { (edges : N → List (N × ℤ)) (test : N → Bool)
+        → ⟦<FN as EdgeFunction<N, C>>⟧.answers successors (InReach N.eq edges (start.now ∷ [])) edges
+        → ⟦<FS as NodeTest<N>>⟧.answers success (InReach N.eq edges (start.now ∷ [])) test
+        → HasNoNegativeCost N.eq edges (start.now ∷ [])
+        → result ≡ Err PathError.CostOverflow
+        → IsPastRange N.eq edges (start.now ∷ []) test C.fits }
+
+    ensures asked { (edges : N → List (N × ℤ)) (test : N → Bool)
+        → ⟦<FN as EdgeFunction<N, C>>⟧.answers successors (InReach N.eq edges (start.now ∷ [])) edges
+        → ⟦<FS as NodeTest<N>>⟧.answers success (InReach N.eq edges (start.now ∷ [])) test
+        → IsAtMostNumberOf N.eq (InReach N.eq edges (start.now ∷ [])) (tally.new - tally.old) }
+
+    ensures ticked { tally.old ≤ tally.new }
+
+    ensures errors { IfErr result (λ e. (e ≡ PathError.OutOfMemory) ⊎ (e ≡ PathError.CostOverflow)) }
+{
     let mut graph = Discovery::new(alloc, start, successors, success)?;
-    match cheapest_path(alloc, &mut graph)? {
+    match cheapest_path(alloc, &mut graph, tally)? {
         None => Ok(None),
         Some((numbers, cost)) => {
             let path = graph.nodes_at(alloc, &numbers)?;

@@ -2,7 +2,8 @@ use Rattle.std.proofs.Common.{rules, ◌≡◌, ◌<◌, ◌^◌, ◌∙◌, sym
 use Rattle.std.proofs.lemmas.List.Sums.{count_by-le-length}
 use Rattle.pf_search.specs.declared.labels.Label.{Label}
 use Rattle.pf_search.specs.Labels.{by_cost, is_settled}
-use Rattle.pf_search.proofs.LabelLemmas.{HasLabel-inside, tree_start, deep_start}
+use Rattle.pf_search.proofs.LabelLemmas.{HasLabel-inside, tree_start, deep_start, count_start}
+use Rattle.pf_search.proofs.QueueLemmas.{IsQueue-start, IsQueue-widen}
 use Rattle.pf_search.proofs.PathLemmas.{IsTree-settle, IsTree-turn, deep_turn}
 use Rattle.pf_search.proofs.SearchLemmas.{search_start, best, no_goal, best_grows}
 use Rattle.pf_search.proofs.TurnLemmas.{turned, dear}
@@ -10,29 +11,32 @@ use Rattle.pf_search.proofs.cheapest.cheapest_path.Goals as goal
 
 pub turns-init : goal.turns-init
 turns-init g c =
-    let first : Label g.row.C.Denot = record { cost = c.zero.result; parent = 0; depth = 0; settled = false } in
+    let first : Label g.row.C.Denot = record { cost = c.zero-nothing.result; parent = 0; depth = 0; settled = false } in
     let e : c.push.new.self.items ≡ Some first ∷ [] = search rules in
     record {
+      ordered = search rules;
+      queue = IsQueue-start g.C.Number.value c.push.new.self.items first e _ _ c.new-queue.ensures.items c.in_ok-push-2.ensures.permutation;
+      asked = omega (arith, count_start c.push.new.self.items first e refl);
       len = ap length e ∙ sym c.requires.one;
       tree = tree_start c.push.new.self.items first e refl;
       deep = deep_start c.push.new.self.items first e refl _;
       explored = λ h x. x;
-      search = λ h x p. search_start (by_cost g.C.Number.value) (g.G.NumberedGraph.step h) (g.G.NumberedGraph.passes h) _ c.push.new.self.items first e refl refl _ (ap g.C.Number.value c.zero.ensures ∙ g.met.C.Zero.zero_law g.met.C.Integral.exact_law) (λ s k. k) c.requires.begins;
+      search = λ h x p. search_start (by_cost g.C.Number.value) (g.G.NumberedGraph.step h) (g.G.NumberedGraph.passes h) _ c.push.new.self.items first e refl refl _ (ap g.C.Number.value c.zero-nothing.ensures ∙ g.met.C.Zero.zero_law g.met.C.Integral.exact_law) (λ s k. k) c.requires.begins;
     }
 
 pub is_goal-requires-clause-inside : goal.is_goal-requires-clause-inside
-is_goal-requires-clause-inside g c = subst (λ (n : ℕ). c.in-Some.next.0 < n) c.turns.invariant.len (HasLabel-inside _ _ _ c.in-Some.ensures.was)
+is_goal-requires-clause-inside g c = subst (λ (n : ℕ). c.in-Some.next.0 < n) c.turns.invariant.len (HasLabel-inside _ _ _ c.in-Some.ensures.settled.was)
 
 pub path_to-requires-clause-tree : goal.path_to-requires-clause-tree
-path_to-requires-clause-tree g c = rw c.deref.ensures.value (IsTree-settle (by_cost g.C.Number.value) _ _ _ _ c.in-Some.ensures c.turns.invariant.tree)
+path_to-requires-clause-tree g c = rw c.deref.ensures.value (IsTree-settle (by_cost g.C.Number.value) _ _ _ _ c.in-Some.ensures.settled c.turns.invariant.tree)
 
 pub path_to-requires-clause-labelled : goal.path_to-requires-clause-labelled
-path_to-requires-clause-labelled g c = rw c.deref.ensures.value (record c.in-Some.next.1 { settled = true }, c.in-Some.ensures.now)
+path_to-requires-clause-labelled g c = rw c.deref.ensures.value (record c.in-Some.next.1 { settled = true }, c.in-Some.ensures.settled.now)
 
 pub returns-then-is_goal-clause-inside : goal.returns-then-is_goal-clause-inside
 returns-then-is_goal-clause-inside g c = λ k h.
     let l = c.in_ok-numbers.ensures.inside k h in
-    subst (λ (n : ℕ). k < n) (ap length c.deref.ensures.value ∙ c.in-Some.ensures.len ∙ c.turns.invariant.len ∙ sym c.is_goal.ensures.same) l
+    subst (λ (n : ℕ). k < n) (ap length c.deref.ensures.value ∙ c.in-Some.ensures.settled.len ∙ c.turns.invariant.len ∙ sym c.is_goal.ensures.same) l
 
 pub returns-then-is_goal-clause-best : goal.returns-then-is_goal-clause-best
 returns-then-is_goal-clause-best g c = λ h x p.
@@ -40,18 +44,21 @@ returns-then-is_goal-clause-best g c = λ h x p.
     let t = (c.is_goal.ensures.graph h (c.turns.invariant.explored h x)).1 in
     let numbers = c.in_ok-numbers.numbers.items in
     best_grows (g.G.NumberedGraph.step h) (g.G.NumberedGraph.passes h) (g.G.NumberedGraph.stands c.args.graph.now 0) _ _ _ _ c.is_goal.ensures.grows numbers (g.C.Number.value c.in-Some.next.1.cost)
-    (best (by_cost g.C.Number.value) (g.G.NumberedGraph.step h) (g.G.NumberedGraph.passes h) (g.G.NumberedGraph.stands c.args.graph.now 0) p _ _ i c.turns.invariant.tree _ _ _ c.in-Some.ensures numbers (rw c.deref.ensures.value at c.in_ok-numbers.ensures.chain) (λ y k. sym (t y k) ∙ c.if-is_goal.true))
+    (best (by_cost g.C.Number.value) (g.G.NumberedGraph.step h) (g.G.NumberedGraph.passes h) (g.G.NumberedGraph.stands c.args.graph.now 0) p _ _ i c.turns.invariant.tree _ _ _ c.in-Some.ensures.settled numbers (rw c.deref.ensures.value at c.in_ok-numbers.ensures.chain) (λ y k. sym (t y k) ∙ c.if-is_goal.true))
 
 pub expand-requires-clause-inside : goal.expand-requires-clause-inside
-expand-requires-clause-inside g c = subst (λ (n : ℕ). c.in-Some.next.0 < n) (c.turns.invariant.len ∙ sym c.is_goal.ensures.same) (HasLabel-inside _ _ _ c.in-Some.ensures.was)
+expand-requires-clause-inside g c = subst (λ (n : ℕ). c.in-Some.next.0 < n) (c.turns.invariant.len ∙ sym c.is_goal.ensures.same) (HasLabel-inside _ _ _ c.in-Some.ensures.settled.was)
 
 pub relax-requires-clause-inside : goal.relax-requires-clause-inside
 relax-requires-clause-inside g c = λ j d h.
     subst (λ (n : ℕ). j < n) (sym c.in_ok-widen.ensures.widened.len) (rw c.found.ensures (c.in_ok-expand.ensures.inside j d (rw c.deref-in-Some.ensures.value at h)))
 
+pub relax-requires-clause-queue : goal.relax-requires-clause-queue
+relax-requires-clause-queue g c = IsQueue-widen g.C.Number.value _ _ _ _ c.in_ok-widen.ensures.widened c.in-Some.ensures.queue
+
 pub relax-requires-clause-deep : goal.relax-requires-clause-deep
 relax-requires-clause-deep g c =
-    let z = c.in-Some.ensures in
+    let z = c.in-Some.ensures.settled in
     let deep = c.turns.invariant.deep c.in-Some.next.0 c.in-Some.next.1 z.was in
     let most = count_by-le-length is_settled c.settle_next.new.labels.items in
     let short : length c.settle_next.new.labels.items < 2 ^ 64 = search rules in
@@ -59,26 +66,29 @@ relax-requires-clause-deep g c =
 
 pub covers-requires : goal.covers-requires
 covers-requires g c = λ j d h.
-    rw c.deref-in-Some-2.ensures.value (subst (λ (n : ℕ). j < n) (sym (c.relax.ensures.relaxed.len ∙ c.in_ok-widen.ensures.widened.len)) (rw c.found.ensures (c.in_ok-expand.ensures.inside j d (rw c.deref-in-Some-3.ensures.value at h))))
+    rw c.deref-in-Some-2.ensures.value (subst (λ (n : ℕ). j < n) (sym (c.in_ok-relax.ensures.relaxed.len ∙ c.in_ok-widen.ensures.widened.len)) (rw c.found.ensures (c.in_ok-expand.ensures.inside j d (rw c.deref-in-Some-3.ensures.value at h))))
 
 pub returns-then-not-covers-clause-overflow : goal.returns-then-not-covers-clause-overflow
 returns-then-not-covers-clause-overflow g c = λ h x p e.
     let i = c.turns.invariant.search h x p in
-    let z = c.in-Some.ensures in
+    let z = c.in-Some.ensures.settled in
     let x1 = (c.is_goal.ensures.graph h (c.turns.invariant.explored h x)).0 in
     let x2 = c.in_ok-expand.ensures.graph h x1 in
     dear g.C.Number.value g.C.Number.fits (λ a b d. g.C.Number.between_law a b d g.met.C.Integral.exact_law) (g.G.NumberedGraph.step h) (g.G.NumberedGraph.passes h) (g.G.NumberedGraph.stands c.args.graph.now 0) p _ _ i c.turns.invariant.tree _ _ _ z
     _ _ _ _ _ c.is_goal.ensures.grows c.in_ok-expand.ensures.grows c.turns.invariant.len _ x2.1 _ _ (rw c.found.ensures at c.in_ok-widen.ensures.widened)
-    (rw c.deref-in-Some.ensures.value at c.relax.ensures.relaxed) (rw c.deref-in-Some.ensures.value at c.relax.ensures.reached) c.known.ensures
+    (rw c.deref-in-Some.ensures.value at c.in_ok-relax.ensures.relaxed) (rw c.deref-in-Some.ensures.value at c.in_ok-relax.ensures.reached) c.known.ensures
     (g.met.G.NumberedGraph.one_law _ h (c.turns.invariant.explored h x)) (subst (λ (n : ℕ). c.in-Some.next.0 < n) c.turns.invariant.len (HasLabel-inside _ _ _ z.was)) (rw (c.deref-in-Some-2.ensures.value, c.deref-in-Some-3.ensures.value) at c.if-not-covers.ensures)
 
 pub turns-preserved : goal.turns-preserved
 turns-preserved g c =
-    let z = c.in-Some.ensures in
+    let z = c.in-Some.ensures.settled in
     let wide = rw c.found.ensures at c.in_ok-widen.ensures.widened in
-    let rel = rw c.deref-in-Some.ensures.value at c.relax.ensures.relaxed in
+    let rel = rw c.deref-in-Some.ensures.value at c.in_ok-relax.ensures.relaxed in
     record {
-      len = c.relax.ensures.relaxed.len ∙ c.in_ok-widen.ensures.widened.len ∙ c.found.ensures;
+      ordered = c.in_ok-relax.ensures.ordered;
+      queue = c.in_ok-relax.ensures.queue;
+      asked = omega (arith, c.tick.ensures, c.turns.invariant.asked, z.count, wide.count, rel.count);
+      len = c.in_ok-relax.ensures.relaxed.len ∙ c.in_ok-widen.ensures.widened.len ∙ c.found.ensures;
       tree = IsTree-turn (by_cost g.C.Number.value) _ _ _ _ z _ _ wide g.C.Number.value _ _ rel (IsTree-settle (by_cost g.C.Number.value) _ _ _ _ z c.turns.invariant.tree);
       deep = deep_turn (by_cost g.C.Number.value) _ _ _ _ z _ _ wide g.C.Number.value _ _ rel c.turns.invariant.deep;
       explored = λ h x. (c.in_ok-expand.ensures.graph h (c.is_goal.ensures.graph h (c.turns.invariant.explored h x)).0).0;
@@ -88,13 +98,34 @@ turns-preserved g c =
           let x2 = c.in_ok-expand.ensures.graph h x1.0 in
           turned g.C.Number.value g.C.Number.fits (λ a b d. g.C.Number.between_law a b d g.met.C.Integral.exact_law) (g.G.NumberedGraph.step h) (g.G.NumberedGraph.passes h) (g.G.NumberedGraph.stands c.args.graph.now 0) p _ _ i c.turns.invariant.tree _ _ _ z
           _ _ _ _ _ c.is_goal.ensures.grows c.in_ok-expand.ensures.grows c.turns.invariant.len _ x2.1 _ _ wide
-          rel (rw c.deref-in-Some.ensures.value at c.relax.ensures.reached) c.known.ensures
+          rel (rw c.deref-in-Some.ensures.value at c.in_ok-relax.ensures.reached) c.known.ensures
           (λ y t. sym (x1.1 y t) ∙ c.if-is_goal.false) (rw (c.deref-in-Some-2.ensures.value, c.deref-in-Some-3.ensures.value) at c.if-not-covers.ensures);
     }
 
 pub returns-clause-best : goal.returns-clause-best
 returns-clause-best g c = λ h x p.
-    no_goal (by_cost g.C.Number.value) (g.G.NumberedGraph.step h) (g.G.NumberedGraph.passes h) (g.G.NumberedGraph.stands c.args.graph.now 0) p _ _ (c.turns.invariant.search h x p) c.in_default.ensures
+    no_goal (by_cost g.C.Number.value) (g.G.NumberedGraph.step h) (g.G.NumberedGraph.passes h) (g.G.NumberedGraph.stands c.args.graph.now 0) p _ _ (c.turns.invariant.search h x p) c.in_default.ensures.settled
 
 pub returns-then-not-covers-clause-graph : goal.returns-then-not-covers-clause-graph
 returns-then-not-covers-clause-graph g c = λ h x. (c.in_ok-expand.ensures.graph h (c.is_goal.ensures.graph h (c.turns.invariant.explored h x)).0).0
+
+pub is_goal-requires-clause-graph : goal.is_goal-requires-clause-graph
+is_goal-requires-clause-graph g c = let r = c.requires.graph in (r.0, c.turns.invariant.explored r.0 r.1)
+
+pub returns-in_err-numbers-clause-graph : goal.returns-in_err-numbers-clause-graph
+returns-in_err-numbers-clause-graph g c = λ h x. (c.is_goal.ensures.graph h (c.turns.invariant.explored h x)).0
+
+pub returns-then-is_goal-clause-graph : goal.returns-then-is_goal-clause-graph
+returns-then-is_goal-clause-graph g c = λ h x. (c.is_goal.ensures.graph h (c.turns.invariant.explored h x)).0
+
+pub expand-requires-clause-graph : goal.expand-requires-clause-graph
+expand-requires-clause-graph g c = let r = c.requires.graph in (r.0, (c.is_goal.ensures.graph r.0 (c.turns.invariant.explored r.0 r.1)).0)
+
+pub returns-in_err-expand-clause-graph : goal.returns-in_err-expand-clause-graph
+returns-in_err-expand-clause-graph g c = λ h x. (c.in_err-expand.ensures.graph h (c.is_goal.ensures.graph h (c.turns.invariant.explored h x)).0).0
+
+pub returns-in_err-widen-clause-graph : goal.returns-in_err-widen-clause-graph
+returns-in_err-widen-clause-graph g c = λ h x. (c.in_ok-expand.ensures.graph h (c.is_goal.ensures.graph h (c.turns.invariant.explored h x)).0).0
+
+pub returns-in_err-relax-clause-graph : goal.returns-in_err-relax-clause-graph
+returns-in_err-relax-clause-graph g c = λ h x. (c.in_ok-expand.ensures.graph h (c.is_goal.ensures.graph h (c.turns.invariant.explored h x)).0).0

@@ -1,12 +1,17 @@
-use Rattle.std.proofs.Common.{◌≡◌, ◌≤◌, ◌-◌, ◌^◌, ℕ, length}
+use Rattle.std.proofs.Common.{◌≡◌, ◌≤◌, ◌-◌, ◌+◌, ◌^◌, ℕ, length}
+use Rattle.std.specs.BinaryHeap.{IsHeap, heap_items}
 use Rattle.pf_search.specs.declared.labels.Label.{Label}
 use Rattle.pf_search.specs.Steps.{IsPositive}
 use Rattle.pf_search.specs.Labels.{HasLabel, by_cost, IsTree, settled_count}
+use Rattle.pf_search.specs.Queue.{entry_cmp, IsQueue}
 use Rattle.pf_search.proofs.SearchLemmas.{IsSearch}
 use Rattle.pf_search.proofs.cheapest.cheapest_path.Given as goal
 
 abbrev pub invariant-turns : goal.invariant-turns
 invariant-turns g l = record {
+  ordered : IsHeap (entry_cmp g.C.Ord.cmp) (heap_items l.queue);
+  queue : IsQueue g.C.Number.value l.labels.items (heap_items l.queue);
+  asked : l.tally ≡ l.fn.tally + settled_count l.labels.items;
   len : length l.labels.items ≡ g.G.NumberedGraph.found l.graph;
   tree : IsTree l.labels.items;
   deep : (k : ℕ) (m : Label g.row.C.Denot) → HasLabel l.labels.items k m → m.depth ≤ settled_count l.labels.items;

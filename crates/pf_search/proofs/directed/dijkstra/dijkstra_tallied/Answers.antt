@@ -4,7 +4,8 @@ use Rattle.pf_base.specs.declared.error.PathError.TheVariants.{CostOverflow}
 use Rattle.pf_search.specs.Nodes.{NodeGraph}
 use Rattle.pf_search.specs.NodeLaws.{StandsFor-one}
 use Rattle.pf_search.proofs.WalkLemmas.{all_starts, only_starts, positive, no_walk, best_answer, past_range}
-use Rattle.pf_search.proofs.directed.dijkstra.dijkstra.Goals as goal
+use Rattle.pf_search.proofs.NodeLemmas.{at_most}
+use Rattle.pf_search.proofs.directed.dijkstra.dijkstra_tallied.Goals as goal
 
 pub cheapest_path-requires-clause-begins : goal.cheapest_path-requires-clause-begins
 cheapest_path-requires-clause-begins g c = (c.args.start.now, (c.in_ok-graph.ensures.begins c.args.start.now).1 (g.met.N.Eq.laws.refl c.args.start.now))
@@ -52,3 +53,27 @@ returns-clause-best g c = λ edges test a t p.
     let y = c.in_ok-cheapest_path.ensures.graph h x in
     let b = rw c.in-Some.is at (c.in_ok-cheapest_path.ensures.best h x (positive eq laws h a.alike p)) in
     best_answer eq laws h a.alike _ (all_starts eq start _ c.in_ok-graph.ensures.begins) (only_starts eq start _ c.in_ok-graph.ensures.begins) test t.alike keys (StandsFor-one eq laws keys y.distinct) c.in-Some.numbers.items c.in_ok-path-in-Some.path.items (g.C.Number.value c.in-Some.cost) b (rw c.deref.ensures.value at c.in_ok-path-in-Some.ensures.nodes)
+
+pub returns-in_err-path-in-Some-clause-asked : goal.returns-in_err-path-in-Some-clause-asked
+returns-in_err-path-in-Some-clause-asked g c = λ edges test a t.
+    let h : NodeGraph g.row.N.Denot = record { starts = c.args.start.now ∷ []; edges = edges; test = test } in
+    let y = c.in_ok-cheapest_path.ensures.graph h (c.in_ok-graph.ensures.graph h refl a t) in
+    at_most g.N.PartialEq.eq g.met.N.Eq.laws _ c.cheapest_path.new.graph.nodes.keys y.distinct y.reached _ _ c.in_ok-cheapest_path.ensures.asked
+
+pub returns-in_err-cheapest_path-clause-asked : goal.returns-in_err-cheapest_path-clause-asked
+returns-in_err-cheapest_path-clause-asked g c = λ edges test a t.
+    let h : NodeGraph g.row.N.Denot = record { starts = c.args.start.now ∷ []; edges = edges; test = test } in
+    let y = c.in_err-cheapest_path.ensures.graph h (c.in_ok-graph.ensures.graph h refl a t) in
+    at_most g.N.PartialEq.eq g.met.N.Eq.laws _ c.cheapest_path.new.graph.nodes.keys y.distinct y.reached _ _ c.in_err-cheapest_path.ensures.asked
+
+pub returns-in-None-clause-asked : goal.returns-in-None-clause-asked
+returns-in-None-clause-asked g c = λ edges test a t.
+    let h : NodeGraph g.row.N.Denot = record { starts = c.args.start.now ∷ []; edges = edges; test = test } in
+    let y = c.in_ok-cheapest_path.ensures.graph h (c.in_ok-graph.ensures.graph h refl a t) in
+    at_most g.N.PartialEq.eq g.met.N.Eq.laws _ c.cheapest_path.new.graph.nodes.keys y.distinct y.reached _ _ c.in_ok-cheapest_path.ensures.asked
+
+pub returns-clause-asked : goal.returns-clause-asked
+returns-clause-asked g c = λ edges test a t.
+    let h : NodeGraph g.row.N.Denot = record { starts = c.args.start.now ∷ []; edges = edges; test = test } in
+    let y = c.in_ok-cheapest_path.ensures.graph h (c.in_ok-graph.ensures.graph h refl a t) in
+    at_most g.N.PartialEq.eq g.met.N.Eq.laws _ c.cheapest_path.new.graph.nodes.keys y.distinct y.reached _ _ c.in_ok-cheapest_path.ensures.asked

@@ -1,0 +1,134 @@
+-- Lemmas on what waits.
+use Rattle.std.proofs.Common.{rules, ℕ, ◌<◌, ◌≡◌, ◌≢◌, refl, sym, ◌∙◌, ap, subst, arith, true, false, [], ◌∷◌, length, inl, inr, ℤ, Option, Some, None, true≢false}
+use Rattle.std.specs.Prelude.{slice_get, slice_set, Contains, IsPermutation, ◌≤ℤ◌, ◌<ℤ◌, ◌⊎◌}
+use Rattle.std.specs.declared.cmp.Reverse.{Reverse}
+use Rattle.std.proofs.lemmas.Int.{ints}
+use Rattle.std.proofs.lemmas.List.Sorted.{Contains-permutation, IsPermutation-sym}
+use Rattle.pf_search.specs.declared.labels.Label.{Label}
+use Rattle.pf_search.specs.Labels.{Labels, HasLabel, by_cost, AllSettled, Settles, Widened}
+use Rattle.pf_search.specs.Queue.{Entries, IsQueue}
+use Rattle.pf_search.proofs.ListLemmas.{bool_dec, get_set, Contains-head, Contains-tail, Contains-cases}
+use Rattle.pf_search.proofs.LabelLemmas.{HasLabel-inside, label_is, none_has_none, Lowered-set, Settles-set, only, first_is}
+
+abbrev entry : {C : Type 0} → C → ℕ → Reverse (C × ℕ)
+entry c k = record { 0 = (c, k) }
+
+module _ {C : Type 0} (value : C → ℤ) where
+  -- ---- a label is lowered, and its entry is put in
+  module _ (labels : Labels C) (next : ℕ) (new : Label C) (opened : new.settled ≡ false) (inside : next < length labels)
+      (less : (l : Label C) → HasLabel labels next l → (l.settled ≡ false) × (value new.cost <ℤ value l.cost)) where
+    there : HasLabel (slice_set labels next (Some new)) next new
+    there = elim (get_set labels next next (Some new) inside) as (λ _. HasLabel (slice_set labels next (Some new)) next new) [ inl r ↦ r.1 | inr r ↦ absurd (r.0 refl) ]
+
+    same_entry : (k : ℕ) (l : Label C) → k ≡ next → l ≡ new → entry new.cost next ≡ entry l.cost k
+    same_entry k l p q = sym (ap (λ (i : ℕ). entry l.cost i) p ∙ ap (λ (m : Label C). entry m.cost next) q)
+
+    pub IsQueue-lower : (entries entries' : Entries C) → IsQueue value labels entries → IsPermutation (record { 0 = (new.cost, next) } ∷ entries) entries' → IsQueue value (slice_set labels next (Some new)) entries'
+    IsQueue-lower entries entries' q p =
+        let low = Lowered-set (by_cost value) labels next new opened inside less in
+        record {
+          labelled = λ e h. elim (Contains-cases entries (entry new.cost next) e (Contains-permutation entries' (entry new.cost next ∷ entries) e (IsPermutation-sym _ _ p) h)) as (λ _. (l : Label C) × HasLabel (slice_set labels next (Some new)) e.0.1 l × (value l.cost ≤ℤ value e.0.0)) [
+            | inl s ↦ subst (λ (f : Reverse (C × ℕ)). (l : Label C) × HasLabel (slice_set labels next (Some new)) f.0.1 l × (value l.cost ≤ℤ value f.0.0)) s (new, there, omega (arith, ints))
+            | inr i ↦
+                let r = q.labelled e i in
+                elim (low.others e.0.1 r.0 r.1) as (λ _. (l : Label C) × HasLabel (slice_set labels next (Some new)) e.0.1 l × (value l.cost ≤ℤ value e.0.0)) [
+                  | inl o ↦ (r.0, o, r.2)
+                  | inr o ↦ (new, subst (λ i. HasLabel (slice_set labels next (Some new)) i new) (sym o.0) there, omega (arith, ints, o.2, r.2))
+                ]
+          ];
+          queued = λ k l h u. Contains-permutation (entry new.cost next ∷ entries) entries' (entry l.cost k) p (elim (low.from k l h) as (λ _. Contains (entry new.cost next ∷ entries) (entry l.cost k)) [
+            | inl o ↦ Contains-tail entries (entry new.cost next) (entry l.cost k) (q.queued k l o u)
+            | inr o ↦ subst (λ (f : Reverse (C × ℕ)). Contains (entry new.cost next ∷ entries) f) (same_entry k l o.0 o.1) (Contains-head entries (entry new.cost next))
+          ]);
+        }
+
+  -- ---- an entry is taken out
+  module _ (labels : Labels C) (entries entries' : Entries C) (e : Reverse (C × ℕ)) (q : IsQueue value labels entries) (p : IsPermutation entries (e ∷ entries')) where
+    rest_in : (f : Reverse (C × ℕ)) → Contains entries' f → Contains entries f
+    rest_in f h = Contains-permutation (e ∷ entries') entries f (IsPermutation-sym _ _ p) (Contains-tail entries' e f h)
+
+    was_in : Contains entries e
+    was_in = Contains-permutation (e ∷ entries') entries e (IsPermutation-sym _ _ p) (Contains-head entries' e)
+
+    pub popped_inside : e.0.1 < length labels
+    popped_inside = let r = q.labelled e was_in in HasLabel-inside labels e.0.1 r.0 r.1
+
+    -- of a number that has no open label
+    pub IsQueue-skip : ((l : Label C) → HasLabel labels e.0.1 l → l.settled ≡ true) → IsQueue value labels entries'
+    IsQueue-skip stale = record {
+      labelled = λ f h. q.labelled f (rest_in f h);
+      queued = λ k l h u. elim (Contains-cases entries' e (entry l.cost k) (Contains-permutation entries (e ∷ entries') (entry l.cost k) p (q.queued k l h u))) as (λ _. Contains entries' (entry l.cost k)) [
+        | inl s ↦ absurd (true≢false (sym (stale l (subst (λ (n : ℕ). HasLabel labels n l) (sym (ap (λ (f : Reverse (C × ℕ)). f.0.1) s)) h)) ∙ u))
+        | inr i ↦ i
+      ];
+    }
+
+    -- of a number whose label was open, and is settled now
+    module _ (l : Label C) (at : HasLabel labels e.0.1 l) (opened : l.settled ≡ false) (labels' : Labels C) (is : labels' ≡ slice_set labels e.0.1 (Some (record l { settled = true }))) where
+      abbrev done : Label C
+      done = record l { settled = true }
+
+      after : (k : ℕ) → ((k ≡ e.0.1) × (slice_get (slice_set labels e.0.1 (Some done)) k ≡ Some (Some done))) ⊎ ((k ≢ e.0.1) × (slice_get (slice_set labels e.0.1 (Some done)) k ≡ slice_get labels k))
+      after k = get_set labels e.0.1 k (Some done) (HasLabel-inside labels e.0.1 l at)
+
+      settled_queue : IsQueue value (slice_set labels e.0.1 (Some (record l { settled = true }))) entries'
+      settled_queue = record {
+        labelled = λ f h.
+            let r = q.labelled f (rest_in f h) in
+            elim (after f.0.1) as (λ _. (m : Label C) × HasLabel (slice_set labels e.0.1 (Some done)) f.0.1 m × (value m.cost ≤ℤ value f.0.0)) [
+              | inl s ↦ (done, s.1, subst (λ (m : Label C). value m.cost ≤ℤ value f.0.0) (label_is labels e.0.1 r.0 l (subst (λ (n : ℕ). HasLabel labels n r.0) s.0 r.1) at) r.2)
+              | inr s ↦ (r.0, s.1 ∙ r.1, r.2)
+            ];
+        queued = λ k m h u. elim (after k) as (λ _. Contains entries' (entry m.cost k)) [
+          | inl s ↦ let f : Some (Some done) ≡ Some (Some m) = sym s.1 ∙ h in let g : done ≡ m = cc in absurd (true≢false (ap (λ (n : Label C). n.settled) g ∙ u))
+          | inr s ↦ elim (Contains-cases entries' e (entry m.cost k) (Contains-permutation entries (e ∷ entries') (entry m.cost k) p (q.queued k m (sym s.1 ∙ h) u))) as (λ _. Contains entries' (entry m.cost k)) [
+            | inl t ↦ absurd (s.0 (sym (ap (λ (f : Reverse (C × ℕ)). f.0.1) t)))
+            | inr i ↦ i
+          ]
+        ];
+      }
+
+      pub IsQueue-settle : IsQueue value labels' entries'
+      IsQueue-settle = subst (λ xs. IsQueue value xs entries') (sym is) settled_queue
+
+      -- the label was one of the cheapest
+      pub Settles-popped : (start : Labels C) → labels ≡ start → ((f : Reverse (C × ℕ)) → Contains entries f → value e.0.0 ≤ℤ value f.0.0) → Settles (by_cost value) e.0.1 l start labels'
+      Settles-popped start same least =
+          subst (λ xs. Settles (by_cost value) e.0.1 l xs labels') same
+          (subst (λ xs. Settles (by_cost value) e.0.1 l labels xs) (sym is)
+          (Settles-set (by_cost value) labels e.0.1 l at opened (λ j m h u.
+              let r = q.labelled e was_in in
+              let low : value l.cost ≤ℤ value e.0.0 = subst (λ (n : Label C). value n.cost ≤ℤ value e.0.0) (label_is labels e.0.1 r.0 l r.1 at) r.2 in
+              let more : value e.0.0 ≤ℤ value m.cost = least (entry m.cost j) (q.queued j m h u) in
+              omega (arith, ints, low, more))))
+
+  -- where nothing waits, each label is settled
+  pub all_settled : (labels start : Labels C) (entries : Entries C) → IsQueue value labels entries → entries ≡ [] → labels ≡ start → AllSettled start
+  all_settled labels start entries q e same = subst AllSettled same (λ k l h. elim (bool_dec l.settled) as (λ _. l.settled ≡ true) [
+    | inl t ↦ t
+    | inr f ↦ let i = subst (λ (xs : Entries C). Contains xs (entry l.cost k)) e (q.queued k l h f) in absurd (omega (arith, i.1))
+  ])
+
+  pub IsQueue-widen : (n : ℕ) (labels labels' : Labels C) (entries : Entries C) → Widened n labels labels' → IsQueue value labels entries → IsQueue value labels' entries
+  IsQueue-widen n labels labels' entries w q = record {
+    labelled = λ e h. let r = q.labelled e h in (r.0, w.stays e.0.1 r.0 r.1, r.2);
+    queued = λ k l h u. q.queued k l (w.from k l h) u;
+  }
+
+  -- one label, and its entry
+  pub IsQueue-start : (labels : Labels C) (first : Label C) → labels ≡ Some first ∷ [] → (entries entries' : Entries C) → entries ≡ [] → IsPermutation (record { 0 = (first.cost, 0) } ∷ entries) entries' → IsQueue value labels entries'
+  IsQueue-start labels first is entries entries' e p = record {
+    labelled = λ f h. elim (Contains-cases entries (entry first.cost 0) f (Contains-permutation entries' (entry first.cost 0 ∷ entries) f (IsPermutation-sym _ _ p) h)) as (λ _. (l : Label C) × HasLabel labels f.0.1 l × (value l.cost ≤ℤ value f.0.0)) [
+      | inl s ↦ subst (λ (f : Reverse (C × ℕ)). (l : Label C) × HasLabel labels f.0.1 l × (value l.cost ≤ℤ value f.0.0)) s (first, first_is labels first is, omega (arith, ints))
+      | inr i ↦ let j = subst (λ (xs : Entries C). Contains xs f) e i in absurd (omega (arith, j.1))
+    ];
+    queued = λ k l h u.
+        let o = only labels first is k l h in
+        subst (λ (n : ℕ). Contains entries' (entry l.cost n)) (sym o.0)
+        (subst (λ (m : Label C). Contains entries' (entry m.cost 0)) (sym o.1) (Contains-permutation (entry first.cost 0 ∷ entries) entries' (entry first.cost 0) p (Contains-head entries (entry first.cost 0))));
+  }
+
+module _ {C : Type 0} (labels : Labels C) (number : ℕ) where
+  -- a number without a label has no open one
+  pub none_open : slice_get labels number ≡ Some None → (l : Label C) → HasLabel labels number l → l.settled ≡ true
+  none_open h l k = absurd (none_has_none labels number h l k)

@@ -1,0 +1,14 @@
+use Rattle.std.proofs.Common.{◌≡◌}
+use Rattle.std.specs.BinaryHeap.{IsHeap, heap_items, heap_len}
+use Rattle.pf_search.specs.Queue.{entry_cmp, IsQueue}
+use Rattle.pf_search.proofs.queue.settle_next.Given as goal
+
+abbrev pub invariant-entries : goal.invariant-entries
+invariant-entries g l = record {
+  ordered : IsHeap (entry_cmp g.C.Ord.cmp) (heap_items l.queue);
+  same : l.labels.items ≡ l.fn.labels.items;
+  queue : IsQueue g.C.Number.value l.labels.items (heap_items l.queue);
+}
+
+abbrev pub decreases-entries : goal.decreases-entries
+decreases-entries g l = heap_len l.queue
