@@ -97,10 +97,10 @@ module _ {C : Type 0} (value : C → ℤ) where
           subst (λ xs. Settles (by_cost value) e.0.1 l xs labels') same
           (subst (λ xs. Settles (by_cost value) e.0.1 l labels xs) (sym is)
           (Settles-set (by_cost value) labels e.0.1 l at opened (λ j m h u.
-              let r = q.labelled e was_in in
-              let low : value l.cost ≤ℤ value e.0.0 = subst (λ (n : Label C). value n.cost ≤ℤ value e.0.0) (label_is labels e.0.1 r.0 l r.1 at) r.2 in
-              let more : value e.0.0 ≤ℤ value m.cost = least (entry m.cost j) (q.queued j m h u) in
-              omega (arith, ints, low, more))))
+          let r = q.labelled e was_in in
+          let low : value l.cost ≤ℤ value e.0.0 = subst (λ (n : Label C). value n.cost ≤ℤ value e.0.0) (label_is labels e.0.1 r.0 l r.1 at) r.2 in
+          let more : value e.0.0 ≤ℤ value m.cost = least (entry m.cost j) (q.queued j m h u) in
+          omega (arith, ints, low, more))))
 
   -- where nothing waits, each label is settled
   pub all_settled : (labels start : Labels C) (entries : Entries C) → IsQueue value labels entries → entries ≡ [] → labels ≡ start → AllSettled start
