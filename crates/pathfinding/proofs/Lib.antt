@@ -11,3 +11,4 @@ pub mod Rows
 pub mod NameGraph
 pub mod Networks
 pub mod Outcomes
+pub mod Tables

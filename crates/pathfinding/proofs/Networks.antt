@@ -1,10 +1,11 @@
 -- What a network's searches say of the edges that it stands for.
-use Rattle.std.proofs.Common.{ℕ, zero, suc, ◌<◌, ◌==◌, nat_eq, List, [], ◌∷◌, map, length, sym, arith, subst}
+use Rattle.std.proofs.Common.{◌≡◌, ℕ, zero, suc, ◌<◌, ◌==◌, nat_eq, List, [], ◌∷◌, map, length, refl, sym, arith, subst}
 use Rattle.std.specs.Prelude.{All}
 use Rattle.pathfinding.specs.EdgeText.{Edge}
 use Rattle.pathfinding.specs.Roads.{HasNoWalk, IsCheapestPath, HasCostOverflow, IsShortestPath}
 use Rattle.pathfinding.specs.Graph.{row_of, node_count}
 use Rattle.pathfinding.specs.Links.{name_at}
+use Rattle.pathfinding.specs.NameTable.{name_in, table_len}
 use Rattle.pathfinding.specs.Numbers.{numbered_edges, HasNoNumberedWalk, IsCheapestNumberedPath, HasNumberedOverflow, IsShortestNumberedPath}
 use Rattle.pathfinding.specs.Network.{StandsFor}
 use Rattle.pathfinding.specs.declared.routes.network.Network.{Network}
@@ -22,35 +23,43 @@ module _ {A : Type 0} (network : Network A) (edges : List Edge) (from to : List 
   pub targets : (n : ℕ) → n < node_count network.graph → All (λ (p : ℕ × ℕ). p.0 < node_count network.graph) (row_of network.graph n)
   targets n lt =
       let row = sym (s.rows n (omega (arith, lt, s.count))) in
-      subst (λ c. All (λ (p : ℕ × ℕ). p.0 < c) (row_of network.graph n)) (sym s.count) (subst (All (λ (p : ℕ × ℕ). p.0 < length network.names.keys)) row (targets-below (length network.names.keys) s.links s.below n))
+      subst (λ c. All (λ (p : ℕ × ℕ). p.0 < c) (row_of network.graph n)) (sym s.count) (subst (All (λ (p : ℕ × ℕ). p.0 < length s.names)) row (targets-below (length s.names) s.links s.below n))
 
   pub has_no_walk : HasNoNumberedWalk network.graph network.from network.to → HasNoWalk edges from to
   has_no_walk h = subst (λ es. HasNoWalk es from to) (sym s.spelled)
-      (no_walk network.names.keys s.distinct s.links s.below (row_of network.graph) s.rows from to network.from network.to s.from_within s.to_within s.from_named s.to_named h)
+      (no_walk s.names s.distinct s.links s.below (row_of network.graph) s.rows from to network.from network.to s.from_within s.to_within s.from_named s.to_named h)
 
-  pub is_cheapest : (path : List ℕ) (cost : ℕ) → IsCheapestNumberedPath network.graph network.from network.to path cost → IsCheapestPath edges from to (map (name_at network.names.keys) path) cost
-  is_cheapest path cost h = subst (λ es. IsCheapestPath es from to (map (name_at network.names.keys) path) cost) (sym s.spelled)
-      (cheapest network.names.keys s.distinct s.links s.below (row_of network.graph) s.rows from to network.from network.to s.from_within s.to_within s.from_named s.to_named path cost h)
+  pub is_cheapest : (path : List ℕ) (cost : ℕ) → IsCheapestNumberedPath network.graph network.from network.to path cost → IsCheapestPath edges from to (map (name_at s.names) path) cost
+  is_cheapest path cost h = subst (λ es. IsCheapestPath es from to (map (name_at s.names) path) cost) (sym s.spelled)
+      (cheapest s.names s.distinct s.links s.below (row_of network.graph) s.rows from to network.from network.to s.from_within s.to_within s.from_named s.to_named path cost h)
 
-  pub is_shortest : (path : List ℕ) → IsShortestNumberedPath network.graph network.from network.to path → IsShortestPath edges from to (map (name_at network.names.keys) path)
-  is_shortest path h = subst (λ es. IsShortestPath es from to (map (name_at network.names.keys) path)) (sym s.spelled)
-      (shortest network.names.keys s.distinct s.links s.below (row_of network.graph) s.rows from to network.from network.to s.from_within s.to_within s.from_named s.to_named path h)
+  pub is_shortest : (path : List ℕ) → IsShortestNumberedPath network.graph network.from network.to path → IsShortestPath edges from to (map (name_at s.names) path)
+  is_shortest path h = subst (λ es. IsShortestPath es from to (map (name_at s.names) path)) (sym s.spelled)
+      (shortest s.names s.distinct s.links s.below (row_of network.graph) s.rows from to network.from network.to s.from_within s.to_within s.from_named s.to_named path h)
 
   pub has_overflow : HasNumberedOverflow network.graph network.from network.to → HasCostOverflow edges from to
   has_overflow h = subst (λ es. HasCostOverflow es from to) (sym s.spelled)
-      (overflow network.names.keys s.distinct s.links s.below (row_of network.graph) s.rows from to network.from network.to s.from_within s.to_within s.from_named s.to_named h)
+      (overflow s.names s.distinct s.links s.below (row_of network.graph) s.rows from to network.from network.to s.from_within s.to_within s.from_named s.to_named h)
 
   -- each node of a path has a name
-  pub path-below : (path : List ℕ) (cost : ℕ) → IsCheapestNumberedPath network.graph network.from network.to path cost → All (λ n. n < length network.names.keys) path
-  path-below path cost h = all_of (length network.names.keys) path
-      (path-known network.names.keys s.distinct s.links s.below (row_of network.graph) s.rows from to network.from network.to s.from_within s.to_within s.from_named s.to_named path h.goes.goes)
+  pub path-below : (path : List ℕ) (cost : ℕ) → IsCheapestNumberedPath network.graph network.from network.to path cost → All (λ n. n < length s.names) path
+  path-below path cost h = all_of (length s.names) path
+      (path-known s.names s.distinct s.links s.below (row_of network.graph) s.rows from to network.from network.to s.from_within s.to_within s.from_named s.to_named path h.goes.goes)
 
-  pub shortest-below : (path : List ℕ) → IsShortestNumberedPath network.graph network.from network.to path → All (λ n. n < length network.names.keys) path
+  pub shortest-below : (path : List ℕ) → IsShortestNumberedPath network.graph network.from network.to path → All (λ n. n < length s.names) path
   shortest-below path h =
       let goal = goal_costed nat_eq (numbered_edges network.graph network.from network.to) (network.from ∷ []) (λ n. n == network.to) path h.goes.goes in
-      all_of (length network.names.keys) path (path-known network.names.keys s.distinct s.links s.below (row_of network.graph) s.rows from to network.from network.to s.from_within s.to_within s.from_named s.to_named path goal)
+      all_of (length s.names) path (path-known s.names s.distinct s.links s.below (row_of network.graph) s.rows from to network.from network.to s.from_within s.to_within s.from_named s.to_named path goal)
 
   -- a path has a node
   pub shortest-some : (path : List ℕ) → IsShortestNumberedPath network.graph network.from network.to path → 0 < length path
   shortest-some [] h = absurd h.goes.goes.walks
   shortest-some (n ∷ path) h = omega arith
+
+  -- the names of a path are those that the table has
+  pub path_named : (path : List ℕ) → All (λ n. n < length s.names) path → map (name_in network.names) path ≡ map (name_at s.names) path
+  path_named [] all = refl
+  path_named (n ∷ path) all = λ i. s.kept.same n (all 0 n (omega arith)) i ∷ path_named path (λ k d lt. all (suc k) d (omega (arith, lt))) i
+
+  pub in_table : (path : List ℕ) → All (λ n. n < length s.names) path → All (λ n. n < table_len network.names) path
+  in_table path all = subst (λ k. All (λ n. n < k) path) (sym s.kept.count) all

@@ -14,6 +14,7 @@ pub mod Run
 pub mod Fields
 pub mod Parsed
 pub mod Links
+pub mod NameTable
 pub mod Graph
 pub mod Numbers
 pub mod Network

@@ -1,15 +1,15 @@
 //! Answers as text.
 
-ghost use Rattle.std.specs.Prelude.{◌≡◌, ◌<◌, ℕ, List, All, IfOk, IfErr, length, map};
+ghost use Rattle.std.specs.Prelude.{◌≡◌, ◌<◌, ℕ, List, All, IfOk, IfErr, map};
 ghost use Rattle.pathfinding.specs.AnswerText.{IsAnswer, IsFewestEdgesAnswer, IsPathAnswer, Overflows, path_line};
 ghost use Rattle.pathfinding.specs.EdgeText.{Edge};
-ghost use Rattle.pathfinding.specs.Links.{name_at};
+ghost use Rattle.pathfinding.specs.NameTable.{name_in, table_len};
 ghost use Rattle.pathfinding.specs.Parsed.{HoldsOfEdges, RefusesAnswer, RefusesText};
 ghost use Rattle.pathfinding.specs.Roads.{HasCostOverflow};
 
 use crate::routes::commands::Command;
 use crate::routes::error::RouteError;
-use crate::routes::links::Names;
+use crate::routes::name_table::NameTable;
 use crate::routes::network::Network;
 use crate::routes::search::{cheapest_path, fewest_edges_path};
 use std::alloc::{AllocError, Allocator};
@@ -18,11 +18,11 @@ use std::alloc::{AllocError, Allocator};
 fn write_path<A: Allocator + Copy>(
     alloc: A,
     number: u64,
-    names: &Names<'_, A>,
+    names: &NameTable<A>,
     path: &[usize],
 ) -> Result<Vec<u8, A>, AllocError>
-    requires { All (λ n. n < length names.now.keys) path.now }
-    ensures { IfOk result (λ line. line.items ≡ path_line number (map (name_at names.now.keys) path.now)) }
+    requires { All (λ n. n < table_len names.now) path.now }
+    ensures { IfOk result (λ line. line.items ≡ path_line number (map (name_in names.now) path.now)) }
 {
     let digits = number.to_string(alloc)?;
     let mut line = Vec::new(alloc);
@@ -30,7 +30,7 @@ fn write_path<A: Allocator + Copy>(
     line.push(b':')?;
     for node in path {
         line.push(b' ')?;
-        line.extend_from_slice(names[*node])?;
+        line.extend_from_slice(names.name(*node))?;
     }
     line.push(b'\n')?;
     Ok(line)
@@ -41,10 +41,10 @@ fn cheapest_line<A: Allocator + Copy>(
     alloc: A,
     from: &[u8],
     to: &[u8],
-    text: &[u8],
+    text: Vec<u8, A>,
 ) -> Result<Vec<u8, A>, RouteError>
-    ensures ok { IfOk result (λ line. HoldsOfEdges text.now (λ edges. IsPathAnswer edges from.now to.now line.items)) }
-    ensures err { IfErr result (λ e. RefusesAnswer (λ edges. HasCostOverflow edges from.now to.now) e text.now) }
+    ensures ok { IfOk result (λ line. HoldsOfEdges text.items (λ edges. IsPathAnswer edges from.now to.now line.items)) }
+    ensures err { IfErr result (λ e. RefusesAnswer (λ edges. HasCostOverflow edges from.now to.now) e text.items) }
 {
     let network = Network::read(alloc, from, to, text)?;
     match cheapest_path(alloc, &network.graph, network.from, network.to)? {
@@ -58,10 +58,10 @@ fn fewest_edges_line<A: Allocator + Copy>(
     alloc: A,
     from: &[u8],
     to: &[u8],
-    text: &[u8],
+    text: Vec<u8, A>,
 ) -> Result<Vec<u8, A>, RouteError>
-    ensures ok { IfOk result (λ line. HoldsOfEdges text.now (λ edges. IsFewestEdgesAnswer edges from.now to.now line.items)) }
-    ensures err { IfErr result (λ e. RefusesText e text.now) }
+    ensures ok { IfOk result (λ line. HoldsOfEdges text.items (λ edges. IsFewestEdgesAnswer edges from.now to.now line.items)) }
+    ensures err { IfErr result (λ e. RefusesText e text.items) }
 {
     let network = Network::read(alloc, from, to, text)?;
     match fewest_edges_path(alloc, &network.graph, network.from, network.to)? {
@@ -77,10 +77,10 @@ fn fewest_edges_line<A: Allocator + Copy>(
 pub(crate) fn answer_to<A: Allocator + Copy>(
     alloc: A,
     command: &Command,
-    text: &[u8],
+    text: Vec<u8, A>,
 ) -> Result<Vec<u8, A>, RouteError>
-    ensures ok { IfOk result (λ answer. HoldsOfEdges text.now (λ edges. IsAnswer command.now edges answer.items)) }
-    ensures err { IfErr result (λ e. RefusesAnswer (Overflows command.now) e text.now) }
+    ensures ok { IfOk result (λ answer. HoldsOfEdges text.items (λ edges. IsAnswer command.now edges answer.items)) }
+    ensures err { IfErr result (λ e. RefusesAnswer (Overflows command.now) e text.items) }
 {
     match command {
         Command::Dijkstra { from, to } => {

@@ -32,6 +32,6 @@ pub fn run<I: Read, O: Write, A: Allocator + Copy>(
         (O.contents (device output.old)) (O.contents (device output.new)) (has_failed output.new)) }
 {
     let text = read_whole(alloc, input)?;
-    let answer = answer_to(alloc, command, text.as_slice())?;
+    let answer = answer_to(alloc, command, text)?;
     write_whole(output, answer.as_slice())
 }

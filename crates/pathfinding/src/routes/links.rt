@@ -1,6 +1,6 @@
 //! Edges as links between numbered names.
 
-ghost use Rattle.std.specs.Prelude.{◌≡◌, ◌<◌, ◌≤◌, length, Ok, IfOk, OnOk, IfErr};
+ghost use Rattle.std.specs.Prelude.{◌≡◌, ◌<◌, ◌≤◌, length, Ok, IfOk, OnOk, IfErr, IsTrue};
 ghost use Rattle.pathfinding.specs.EdgeText.{edge_text};
 ghost use Rattle.pathfinding.specs.Links.{name_at, edges_between, AllBelow, KeepsNames};
 ghost use Rattle.pathfinding.specs.Parsed.{RefusesText};
@@ -35,20 +35,32 @@ pub(crate) fn number<'a, A: Allocator + Copy>(
     Ok(n)
 }
 
-/// The same, where the number is likely to be this one.
+/// Has the name of this number these bytes?
+fn is_named<A: Allocator + Copy>(names: &Names<'_, A>, number: usize, name: &[u8]) -> bool
+    ensures { IsTrue result → (number < length names.now.keys) × (name_at names.now.keys number ≡ name.now) }
+{
+    match names.get_index(number) {
+        Some(known) => *known == name,
+        None => false,
+    }
+}
+
+/// The same as `number`, where the number is likely to be one of these two.
 fn number_near<'a, A: Allocator + Copy>(
     names: &mut Names<'a, A>,
     name: &'a [u8],
-    near: usize,
+    first: usize,
+    second: usize,
 ) -> Result<usize, AllocFailed<&'a [u8]>>
     ensures within { IfOk result (λ n. n < length names.new.keys) }
     ensures named { IfOk result (λ n. name_at names.new.keys n ≡ name.now) }
     ensures kept { OnOk result (KeepsNames names.old.keys names.new.keys) }
 {
-    if let Some(known) = names.get_index(near) {
-        if *known == name {
-            return Ok(near);
-        }
+    if is_named(names, first, name) {
+        return Ok(first);
+    }
+    if is_named(names, second, name) {
+        return Ok(second);
     }
     number(names, name)
 }
@@ -67,6 +79,7 @@ pub(crate) fn read_links<'a, A: Allocator + Copy>(
     let mut links = Vec::new(alloc);
     let mut line = 0u64;
     let mut source = 0;
+    let mut target = 0;
     let mut rest = Some(text);
     while let Some(here) = rest {
         line += 1;
@@ -74,9 +87,10 @@ pub(crate) fn read_links<'a, A: Allocator + Copy>(
             return Err(RouteError::BadEdge(line));
         };
         if let Some(edge) = read.edge {
-            // An edge often leaves the node that the one before it left.
-            source = number_near(names, edge.from, source)?;
-            let target = number(names, edge.to)?;
+            // Often an edge leaves the node that the one before it led to or left, and leads back.
+            let before = source;
+            source = number_near(names, edge.from, target, before)?;
+            target = number_near(names, edge.to, before, target)?;
             let cost = edge.cost;
             links.push(Link {
                 source,

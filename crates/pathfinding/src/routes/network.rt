@@ -5,36 +5,73 @@ ghost use Rattle.pathfinding.specs.Parsed.{HoldsOfEdges, RefusesText};
 
 use crate::routes::error::RouteError;
 use crate::routes::graph::Graph;
-use crate::routes::links::{Names, number, read_links};
+use crate::routes::links::{Link, number, read_links};
+use crate::routes::name_table::NameTable;
 use indexmap::IndexSet;
 use std::alloc::Allocator;
 
-/// Names, the graph of their numbers, and the numbers of the two names that a command asks about.
+/// Names, the links between their numbers, and the numbers of the two names that a command asks about.
 #[derive(Drop)]
-pub(crate) struct Network<'a, A: Allocator + Copy> {
-    pub(crate) names: Names<'a, A>,
-    pub(crate) graph: Graph<A>,
-    pub(crate) from: usize,
-    pub(crate) to: usize,
+struct Numbered<A: Allocator + Copy> {
+    names: NameTable<A>,
+    links: Vec<Link, A>,
+    from: usize,
+    to: usize,
 }
 
-impl<'a, A: Allocator + Copy> Network<'a, A> {
-    ghost use Rattle.pathfinding.specs.Network.{StandsFor};
+impl<A: Allocator + Copy> Numbered<A> {
+    ghost use Rattle.pathfinding.specs.Network.{NumbersEdges};
 
-    /// The network of the edges of a text.
-    pub(crate) fn read(
-        alloc: A,
-        from: &'a [u8],
-        to: &'a [u8],
-        text: &'a [u8],
-    ) -> Result<Self, RouteError>
-        ensures ok { IfOk result (λ network. HoldsOfEdges text.now (λ edges. StandsFor network edges from.now to.now)) }
+    /// The edges of a text, by the numbers of their names.
+    fn read(alloc: A, from: &[u8], to: &[u8], text: &[u8]) -> Result<Self, RouteError>
+        ensures ok { IfOk result (λ numbered. HoldsOfEdges text.now (λ edges. NumbersEdges numbered edges from.now to.now)) }
         ensures err { IfErr result (λ e. RefusesText e text.now) }
     {
         let mut names = IndexSet::new(alloc);
         let from = number(&mut names, from)?;
         let to = number(&mut names, to)?;
         let links = read_links(alloc, &mut names, text)?;
+        let names = NameTable::of(alloc, names.as_slice())?;
+        Ok(Numbered {
+            names,
+            links,
+            from,
+            to,
+        })
+    }
+}
+
+/// Names, the graph of their numbers, and the numbers of the two names that a command asks about.
+#[derive(Drop)]
+pub(crate) struct Network<A: Allocator + Copy> {
+    pub(crate) names: NameTable<A>,
+    pub(crate) graph: Graph<A>,
+    pub(crate) from: usize,
+    pub(crate) to: usize,
+}
+
+impl<A: Allocator + Copy> Network<A> {
+    ghost use Rattle.pathfinding.specs.Network.{StandsFor};
+
+    /// The network of the edges of a text.
+    pub(crate) fn read(
+        alloc: A,
+        from: &[u8],
+        to: &[u8],
+        text: Vec<u8, A>,
+    ) -> Result<Self, RouteError>
+        ensures ok { IfOk result (λ network. HoldsOfEdges text.items (λ edges. StandsFor network edges from.now to.now)) }
+        ensures err { IfErr result (λ e. RefusesText e text.items) }
+    {
+        let numbered = Numbered::read(alloc, from, to, text.as_slice())?;
+        // The text is given back before the graph takes its memory.
+        drop(text);
+        let Numbered {
+            names,
+            links,
+            from,
+            to,
+        } = numbered;
         let graph = Graph::new(alloc, names.len(), links.as_slice())?;
         Ok(Network {
             names,

@@ -1,13 +1,14 @@
-use Rattle.std.proofs.Common.{◌≡◌, ◌⊎◌, ℕ, List, ◌<◌, ap, ◌∙◌, inl, inr, map, length, sym, subst}
+use Rattle.std.proofs.Common.{◌≡◌, ◌⊎◌, ℕ, List, ◌<◌, ap, ◌∙◌, inl, inr, map, sym, subst}
 use Rattle.std.specs.Prelude.{All}
 use Rattle.pathfinding.specs.EdgeText.{Edge}
 use Rattle.pathfinding.specs.Links.{name_at}
+use Rattle.pathfinding.specs.NameTable.{name_in, table_len}
 use Rattle.pathfinding.specs.AnswerText.{path_line}
 use Rattle.pathfinding.specs.Parsed.{RefusesAnswer, HoldsOfEdges}
 use Rattle.pathfinding.specs.Roads.{HasCostOverflow}
 use Rattle.pathfinding.specs.declared.routes.error.RouteError.{RouteError}
 use Rattle.pathfinding.specs.declared.routes.error.RouteError.TheVariants.{OutOfMemory, CostOverflow}
-use Rattle.pathfinding.proofs.Networks.{targets, has_no_walk, is_cheapest, has_overflow, path-below}
+use Rattle.pathfinding.proofs.Networks.{targets, has_no_walk, is_cheapest, has_overflow, path-below, in_table, path_named}
 use Rattle.pathfinding.proofs.Outcomes.{refused_by, at_some, at_none}
 use Rattle.pathfinding.proofs.routes.answers.cheapest_line.Goals as goal
 
@@ -28,7 +29,7 @@ pub write_path-requires : goal.write_path-requires
 write_path-requires g c =
     let h = c.in_ok-network.ensures.ok in
     let found = at_some _ _ _ _ c.in-Some.is c.in_ok-cheapest_path.ensures.ok in
-    subst (All (λ n. n < length c.in_ok-network.network.names.keys)) (sym c.as_slice.ensures.value) (path-below c.in_ok-network.network h.0 _ _ h.2 c.in-Some.path.items c.in-Some.cost found)
+    subst (All (λ n. n < table_len c.in_ok-network.network.names)) (sym c.as_slice.ensures.value) (in_table c.in_ok-network.network h.0 _ _ h.2 c.in-Some.path.items (path-below c.in_ok-network.network h.0 _ _ h.2 c.in-Some.path.items c.in-Some.cost found))
 
 pub returns-in-None-clause-ok : goal.returns-in-None-clause-ok
 returns-in-None-clause-ok g c =
@@ -40,14 +41,15 @@ pub returns-clause-ok : goal.returns-clause-ok
 returns-clause-ok g c =
     let h = c.in_ok-network.ensures.ok in
     let found = at_some _ _ _ _ c.in-Some.is c.in_ok-cheapest_path.ensures.ok in
-    let names = map (name_at c.in_ok-network.network.names.keys) c.in-Some.path.items in (
+    let names = map (name_at h.2.names) c.in-Some.path.items in
+    let named = path_named c.in_ok-network.network h.0 _ _ h.2 c.in-Some.path.items (path-below c.in_ok-network.network h.0 _ _ h.2 c.in-Some.path.items c.in-Some.cost found) in (
       h.0,
       h.1,
       inr (record {
         path = names;
         cost = c.in-Some.cost;
         cheapest = is_cheapest c.in_ok-network.network h.0 _ _ h.2 c.in-Some.path.items c.in-Some.cost found;
-        written = c.in_ok-write_path-in-Some.ensures ∙ ap (λ l. path_line c.in-Some.cost (map (name_at c.in_ok-network.network.names.keys) l)) c.as_slice.ensures.value;
+        written = c.in_ok-write_path-in-Some.ensures ∙ ap (λ l. path_line c.in-Some.cost (map (name_in c.in_ok-network.network.names) l)) c.as_slice.ensures.value ∙ ap (path_line c.in-Some.cost) named;
       }),
     )
 
@@ -55,15 +57,15 @@ pub returns-in_err-cheapest_path-clause-err : goal.returns-in_err-cheapest_path-
 returns-in_err-cheapest_path-clause-err g c =
     let h = c.in_ok-network.ensures.ok in
     let overflows = λ (edges : List Edge). HasCostOverflow edges c.args.from.now c.args.to.now in
-    let told = elim c.in_err-cheapest_path.ensures.err as (λ _. (c.in_err-cheapest_path.field-0.0 ≡ OutOfMemory) ⊎ ((c.in_err-cheapest_path.field-0.0 ≡ CostOverflow) × HoldsOfEdges c.args.text.now overflows)) [
+    let told = elim c.in_err-cheapest_path.ensures.err as (λ _. (c.in_err-cheapest_path.field-0.0 ≡ OutOfMemory) ⊎ ((c.in_err-cheapest_path.field-0.0 ≡ CostOverflow) × HoldsOfEdges c.args.text.items overflows)) [
       | inl a ↦ inl a
       | inr b ↦ inr (b.0, (h.0, h.1, has_overflow c.in_ok-network.network h.0 _ _ h.2 b.1))
     ] in
-    let told_here = passed_on overflows c.args.text.now c.in_err-cheapest_path.field-0.0 told in
-    refused_by _ _ c.from_residual-in_err-cheapest_path.result (λ e k. same_refusal overflows c.args.text.now c.in_err-cheapest_path.field-0.0 e told_here k) c.from_residual-in_err-cheapest_path.ensures.1
+    let told_here = passed_on overflows c.args.text.items c.in_err-cheapest_path.field-0.0 told in
+    refused_by _ _ c.from_residual-in_err-cheapest_path.result (λ e k. same_refusal overflows c.args.text.items c.in_err-cheapest_path.field-0.0 e told_here k) c.from_residual-in_err-cheapest_path.ensures.1
 
 pub returns-in_err-from_slice-in-None-clause-err : goal.returns-in_err-from_slice-in-None-clause-err
-returns-in_err-from_slice-in-None-clause-err g c = refused_by _ _ c.from_residual-in_err-from_slice-in-None.result (no_memory _ c.args.text.now) c.from_residual-in_err-from_slice-in-None.ensures.1
+returns-in_err-from_slice-in-None-clause-err g c = refused_by _ _ c.from_residual-in_err-from_slice-in-None.result (no_memory _ c.args.text.items) c.from_residual-in_err-from_slice-in-None.ensures.1
 
 pub returns-in_err-write_path-in-Some-clause-err : goal.returns-in_err-write_path-in-Some-clause-err
-returns-in_err-write_path-in-Some-clause-err g c = refused_by _ _ c.from_residual-in_err-write_path-in-Some.result (no_memory _ c.args.text.now) c.from_residual-in_err-write_path-in-Some.ensures.1
+returns-in_err-write_path-in-Some-clause-err g c = refused_by _ _ c.from_residual-in_err-write_path-in-Some.result (no_memory _ c.args.text.items) c.from_residual-in_err-write_path-in-Some.ensures.1

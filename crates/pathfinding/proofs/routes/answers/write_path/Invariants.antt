@@ -3,8 +3,8 @@ use Rattle.std.proofs.Common.{◌≡◌, ◌∷◌, ◌++◌, map, take}
 use Rattle.std.specs.Prelude.{codes}
 use Rattle.std.specs.List.{flat_map}
 use Rattle.std.specs.Fmt.{decimal}
-use Rattle.pathfinding.specs.Links.{name_at}
+use Rattle.pathfinding.specs.NameTable.{name_in}
 use Rattle.pathfinding.proofs.routes.answers.write_path.Given as goal
 
 abbrev pub invariant-loop-node : goal.invariant-loop-node
-invariant-loop-node g l = l.line.items ≡ decimal l.fn.number ++ codes ":" ++ flat_map (λ name. 32 ∷ name) (map (name_at l.names.keys) (take l.node-index l.path))
+invariant-loop-node g l = l.line.items ≡ decimal l.fn.number ++ codes ":" ++ flat_map (λ name. 32 ∷ name) (map (name_in l.names) (take l.node-index l.path))

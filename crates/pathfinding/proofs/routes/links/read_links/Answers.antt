@@ -33,12 +33,12 @@ loop-rest-preserved g c =
           let second = w.in_ok-target in
           let kept = keeps-trans _ _ _ first.ensures.kept second.ensures.kept in
           let link : Link = record { source = first.source; target = second.target; cost = e.cost } in
-          let source_below : first.source < length w.number.new.names.keys = omega (arith, first.ensures.within, second.ensures.kept.longer) in
-          let found = edges-push c.loop-rest.names.keys w.number.new.names.keys c.loop-rest.links.items link (edge_read e) kept inv.below (second.ensures.kept.same first.source first.ensures.within ∙ first.ensures.named) second.ensures.named refl in
+          let source_below : first.source < length w.number_near-in-Some-edge.new.names.keys = omega (arith, first.ensures.within, second.ensures.kept.longer) in
+          let found = edges-push c.loop-rest.names.keys w.number_near-in-Some-edge.new.names.keys c.loop-rest.links.items link (edge_read e) kept inv.below (second.ensures.kept.same first.source first.ensures.within ∙ first.ensures.named) second.ensures.named refl in
           rw (w.names-is, w.links-is, w.in_ok-push.ensures.items) (record {
             says = ap (λ es. text_from (c.loop-rest.line + 1) es (said_left read.rest)) found
                 ∙ says-edge c.loop-rest.line (edges_between c.loop-rest.names.keys c.loop-rest.links.items) (edge_read e) c.loop-rest.rest read.rest here (line_read read) (edge_text c.args.text.now) c.in-Some.is c.in-Some-read_line.ensures.says (ap line_holding w.in-Some-edge.is) inv.says;
-            below = below-push (length w.number.new.names.keys) c.loop-rest.links.items link (below-more (length c.loop-rest.names.keys) (length w.number.new.names.keys) c.loop-rest.links.items kept.longer inv.below) source_below second.ensures.within;
+            below = below-push (length w.number_near-in-Some-edge.new.names.keys) c.loop-rest.links.items link (below-more (length c.loop-rest.names.keys) (length w.number_near-in-Some-edge.new.names.keys) c.loop-rest.links.items kept.longer inv.below) source_below second.ensures.within;
             kept = keeps-trans _ _ _ inv.kept kept;
             counts = omega (arith, less, inv.counts);
           })
