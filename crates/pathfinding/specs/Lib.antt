@@ -13,6 +13,7 @@ pub mod Written
 pub mod Run
 pub mod Fields
 pub mod Parsed
+pub mod Heads
 pub mod Links
 pub mod NameTable
 pub mod Graph

@@ -7,6 +7,7 @@ mod engine;
 mod error;
 mod graph;
 mod links;
+mod name;
 mod name_table;
 mod network;
 mod noting;

@@ -6,13 +6,14 @@ ghost use Rattle.pathfinding.specs.Links.{name_at, edges_between, AllBelow, Keep
 ghost use Rattle.pathfinding.specs.Parsed.{RefusesText};
 
 use crate::routes::error::RouteError;
+use crate::routes::name::Name;
 use crate::routes::text::read_line;
 use indexmap::IndexSet;
 use std::alloc::{AllocFailed, Allocator};
 use std::hash::{BuildHasherDefault, FoldHasher};
 
 /// Names, each once. The number of a name is its place.
-pub(crate) type Names<'a, A> = IndexSet<&'a [u8], BuildHasherDefault<FoldHasher>, A>;
+pub(crate) type Names<'a, A> = IndexSet<Name<'a>, BuildHasherDefault<FoldHasher>, A>;
 
 /// An edge between two numbers.
 #[derive(Clone, Copy, Debug)]
@@ -26,12 +27,12 @@ pub(crate) struct Link {
 pub(crate) fn number<'a, A: Allocator + Copy>(
     names: &mut Names<'a, A>,
     name: &'a [u8],
-) -> Result<usize, AllocFailed<&'a [u8]>>
+) -> Result<usize, AllocFailed<Name<'a>>>
     ensures within { IfOk result (λ n. n < length names.new.keys) }
     ensures named { IfOk result (λ n. name_at names.new.keys n ≡ name.now) }
     ensures kept { OnOk result (KeepsNames names.old.keys names.new.keys) }
 {
-    let (n, _) = names.insert_full(name)?;
+    let (n, _) = names.insert_full(Name::new(name))?;
     Ok(n)
 }
 
@@ -40,7 +41,7 @@ fn is_named<A: Allocator + Copy>(names: &Names<'_, A>, number: usize, name: &[u8
     ensures { IsTrue result → (number < length names.now.keys) × (name_at names.now.keys number ≡ name.now) }
 {
     match names.get_index(number) {
-        Some(known) => *known == name,
+        Some(known) => known.bytes() == name,
         None => false,
     }
 }
@@ -51,7 +52,7 @@ fn number_near<'a, A: Allocator + Copy>(
     name: &'a [u8],
     first: usize,
     second: usize,
-) -> Result<usize, AllocFailed<&'a [u8]>>
+) -> Result<usize, AllocFailed<Name<'a>>>
     ensures within { IfOk result (λ n. n < length names.new.keys) }
     ensures named { IfOk result (λ n. name_at names.new.keys n ≡ name.now) }
     ensures kept { OnOk result (KeepsNames names.old.keys names.new.keys) }

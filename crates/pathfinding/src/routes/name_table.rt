@@ -2,6 +2,7 @@
 
 ghost use Rattle.std.specs.Prelude.{◌≡◌, ℕ, ◌+◌, ◌<◌, ◌≤◌, IfOk, vec_len, slice_index};
 
+use crate::routes::name::Name;
 use std::alloc::{AllocError, Allocator};
 
 /// The bytes of all names, one name behind the other, and where each begins.
@@ -21,14 +22,14 @@ impl<A: Allocator + Copy> NameTable<A> {
     ghost use Rattle.pathfinding.specs.NameTable.{HoldsNames, name_in, table_len};
 
     /// The table of these names.
-    pub(crate) fn of(alloc: A, names: &[&[u8]]) -> Result<Self, AllocError>
+    pub(crate) fn of(alloc: A, names: &[Name<'_>]) -> Result<Self, AllocError>
         ensures { IfOk result (λ table. HoldsNames table names.now) }
     {
         let mut bytes = Vec::new(alloc);
         let mut offsets = Vec::new(alloc);
         offsets.push(0)?;
         'names: for name in names {
-            bytes.extend_from_slice(name)?;
+            bytes.extend_from_slice(name.bytes())?;
             offsets.push(bytes.len())?;
         }
         Ok(NameTable { bytes, offsets })

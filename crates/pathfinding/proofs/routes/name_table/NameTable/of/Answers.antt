@@ -19,7 +19,7 @@ names-preserved g c =
     let i = c.names.name-index in
     let row : List ℕ = get_or all i [] in
     let lt : i < length all = omega (arith, c.names-test.true, length-map c.args.names.now (λ (k : Bor (List ℕ)). k.now)) in
-    let added : c.extend_from_slice.new.self.items ≡ c.names.bytes.items ++ row = c.in_ok-extend_from_slice.ensures.items ∙ ap (λ xs. c.names.bytes.items ++ xs) (sym (row_is c.args.names.now i _ c.names-test.true)) in
+    let added : c.extend_from_slice.new.self.items ≡ c.names.bytes.items ++ row = c.in_ok-extend_from_slice.ensures.items ∙ ap (λ xs. c.names.bytes.items ++ xs) (ap (λ (b : Bor (List ℕ)). b.now) (c.bytes.ensures ∙ c.name-item.is) ∙ sym (row_is c.args.names.now i c.name-item.result c.names-test.true)) in
     let count : c.len.result ≡ length c.names.bytes.items + length row = omega (arith, c.len.ensures, c.extend_from_slice.new.self.ok.0, ap length added, length-append c.names.bytes.items row) in
     let placed : c.push-in-names.new.self.items ≡ c.names.offsets.items ++ (length c.names.bytes.items + length row) ∷ [] = c.in_ok-push-2.ensures.items ∙ ap (λ n. c.names.offsets.items ++ n ∷ []) count in
     subst (λ os. IsTable os c.extend_from_slice.new.self.items (take (i + 1) all)) (sym placed)
