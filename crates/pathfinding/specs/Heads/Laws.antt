@@ -1,56 +1,36 @@
 -- Laws of the first bytes of names.
-use Rattle.std.proofs.Common.{◌≡◌, ℕ, zero, suc, ◌≤◌, Bool, true, false, true≢false, List, [], ◌∷◌, ◌++◌, take, drop, length, replicate, inl, inr, refl, sym, ap, ◌∙◌, arith}
-use Rattle.std.specs.Prelude.{◌⊎◌}
+use Rattle.std.proofs.Common.{◌≡◌, ℕ, ◌≤◌, Bool, true, false, true≢false, List, [], ◌∷◌, take, length, refl, sym, ap, ◌∙◌, subst, arith}
+use Rattle.std.specs.Int.Digits.{AllBelowBase, number_from_digits_after}
 use Rattle.std.specs.Str.{bytes_eq}
-use Rattle.std.proofs.lemmas.List.{take-append-le}
+use Rattle.std.proofs.lemmas.List.{take_all}
 use Rattle.std.proofs.lemmas.Slice.Eq.{bytes_eq-Decides}
-use Rattle.std.proofs.Math.Seq.{take-length}
 use Rattle.pathfinding.specs.Heads.{head_of, name_input}
 
-take_take : (n m : ℕ) (xs : List ℕ) → n ≤ m → take n (take m xs) ≡ take n xs
-take_take zero m xs l = refl
-take_take (suc n) zero xs l = absurd (omega (arith, l))
-take_take (suc n) (suc m) [] l = refl
-take_take (suc n) (suc m) (x ∷ xs) l = ap (λ ys. x ∷ ys) (take_take n m xs (omega (arith, l)))
+-- numbers are the same where their digits are, and as many
+same_digits : (xs ys : List ℕ) (m n : ℕ) → length xs ≡ length ys → AllBelowBase 256 xs → AllBelowBase 256 ys → number_from_digits_after 256 m xs ≡ number_from_digits_after 256 n ys → (m ≡ n) × (xs ≡ ys)
+same_digits [] [] m n l a b e = (e, refl)
+same_digits [] (y ∷ ys) m n l a b e = absurd (omega (arith, l))
+same_digits (x ∷ xs) [] m n l a b e = absurd (omega (arith, l))
+same_digits (x ∷ xs) (y ∷ ys) m n l a b e =
+    let q = same_digits xs ys _ _ (omega (arith, l)) a.1 b.1 e in
+    let first : x ≡ y = omega (arith, q.0, a.0, b.0) in
+    (omega (arith, q.0, a.0, b.0), ap (λ z. z ∷ xs) first ∙ ap (λ zs. y ∷ zs) q.1)
 
--- a short name is the front of its head
-pub short_in_head : (bytes : List ℕ) → length bytes ≤ 8 → take (length bytes) (head_of bytes) ≡ bytes
-short_in_head bytes l = take_take (length bytes) 8 (bytes ++ 0 ∷ 0 ∷ 0 ∷ 0 ∷ 0 ∷ 0 ∷ 0 ∷ 0 ∷ []) l ∙ take-append-le (length bytes) bytes (0 ∷ 0 ∷ 0 ∷ 0 ∷ 0 ∷ 0 ∷ 0 ∷ 0 ∷ []) (omega arith) ∙ take-length bytes
-
--- short names with one length and one head are the same
-pub same_short : (a b : List ℕ) → head_of a ≡ head_of b → length a ≡ length b → length a ≤ 8 → a ≡ b
-same_short a b h l s = sym (short_in_head a s) ∙ ap (take (length a)) h ∙ ap (λ n. take n (head_of b)) l ∙ short_in_head b (omega (arith, l, s))
+-- short names of one length and one head are the same
+pub same_short : (a b : List ℕ) → AllBelowBase 256 (take 8 a) → AllBelowBase 256 (take 8 b) → head_of a ≡ head_of b → length a ≡ length b → length a ≤ 8 → a ≡ b
+same_short a b p q h l s =
+    let one : take 8 a ≡ a = take_all 8 a s in
+    let two : take 8 b ≡ b = take_all 8 b (omega (arith, l, s)) in
+    sym one ∙ (same_digits (take 8 a) (take 8 b) 0 0 (ap length one ∙ l ∙ sym (ap length two)) p q h).1 ∙ two
 
 pub same_input : (a b : List ℕ) → bytes_eq a b ≡ true → name_input a ≡ name_input b
 same_input a b e = ap name_input ((bytes_eq-Decides a b).0 e)
 
-abbrev zeros : ℕ → List ℕ
-zeros n = replicate n 0
-
-take_zeros : (n m : ℕ) → n ≤ m → take n (zeros m) ≡ zeros n
-take_zeros zero m l = refl
-take_zeros (suc n) zero l = absurd (omega (arith, l))
-take_zeros (suc n) (suc m) l = ap (λ (xs : List ℕ). 0 ∷ xs) (take_zeros n m (omega (arith, l)))
-
--- bytes that are written over zeros
-pub front_over : (n m : ℕ) (xs : List ℕ) (len : ℕ) → len ≤ n → len ≤ length xs → (n ≤ len) ⊎ (length xs ≤ len) → n ≤ m → take len xs ++ drop len (zeros n) ≡ take n (xs ++ zeros m)
-front_over zero m xs zero a b c l = refl
-front_over zero m xs (suc len) a b c l = absurd (omega (arith, a))
-front_over (suc n) m [] zero a b c l = sym (take_zeros (suc n) m l)
-front_over (suc n) m [] (suc len) a b c l = absurd (omega (arith, b))
-front_over (suc n) m (x ∷ xs) zero a b (inl c) l = absurd (omega (arith, c))
-front_over (suc n) m (x ∷ xs) zero a b (inr c) l = absurd (omega (arith, c))
-front_over (suc n) m (x ∷ xs) (suc len) a b (inl c) l = ap (λ (ys : List ℕ). x ∷ ys) (front_over n m xs len (omega (arith, a)) (omega (arith, b)) (inl (omega (arith, c))) (omega (arith, l)))
-front_over (suc n) m (x ∷ xs) (suc len) a b (inr c) l = ap (λ (ys : List ℕ). x ∷ ys) (front_over n m xs len (omega (arith, a)) (omega (arith, b)) (inr (omega (arith, c))) (omega (arith, l)))
-
 -- of short names of one length, the heads are compared
-pub heads_decide : (a b : List ℕ) (r : Bool) → r ≡ bytes_eq (head_of a) (head_of b) → length a ≡ length b → length a ≤ 8 → r ≡ bytes_eq a b
-heads_decide a b r e l s = by (bytes_eq a b) refl
+pub heads_decide : (a b : List ℕ) (r : Bool) → AllBelowBase 256 (take 8 a) → AllBelowBase 256 (take 8 b) → (r ≡ true → head_of a ≡ head_of b) → (head_of a ≡ head_of b → r ≡ true) → length a ≡ length b → length a ≤ 8 → r ≡ bytes_eq a b
+heads_decide a b true p q same back l s = sym ((bytes_eq-Decides a b).1 (same_short a b p q (same refl) l s))
+heads_decide a b false p q same back l s = by (bytes_eq a b) refl
   where
-    by : (t : Bool) → bytes_eq a b ≡ t → r ≡ t
-    by true h = e ∙ (bytes_eq-Decides (head_of a) (head_of b)).1 (ap head_of ((bytes_eq-Decides a b).0 h))
-    by false h = apart r refl
-      where
-        apart : (q : Bool) → r ≡ q → r ≡ false
-        apart false k = k
-        apart true k = absurd (true≢false (sym ((bytes_eq-Decides a b).1 (same_short a b ((bytes_eq-Decides (head_of a) (head_of b)).0 (sym e ∙ k)) l s)) ∙ h))
+    by : (t : Bool) → bytes_eq a b ≡ t → false ≡ bytes_eq a b
+    by true h = absurd (true≢false (sym (back (ap head_of ((bytes_eq-Decides a b).0 h)))))
+    by false h = sym h

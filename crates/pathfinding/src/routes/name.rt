@@ -1,7 +1,8 @@
 //! Names as keys of a set.
 
-ghost use Rattle.std.specs.Prelude.{◌≡◌};
+ghost use Rattle.std.specs.Prelude.{◌≡◌, take};
 ghost use Rattle.std.specs.Cmp.Rules.{comparing};
+ghost use Rattle.std.specs.Int.Digits.{AllBelowBase};
 ghost use Rattle.std.specs.Str.{bytes_eq};
 ghost use Rattle.std.specs.Ordering.{on};
 ghost use Rattle.std.proofs.Common.{rules};
@@ -20,11 +21,12 @@ const HEAD: usize = 8;
 /// in the processor's caches. A contract sees the bytes of the name.
 pub(crate) struct Name<'a> {
     bytes: &'a [u8],
-    head: [u8; HEAD],
+    head: u64,
 }
 
 impl<'a> Model for Name<'a> {
-    ghost use Rattle.std.specs.Prelude.{◌≡◌, ℕ, List};
+    ghost use Rattle.std.specs.Prelude.{◌≡◌, ℕ, List, take};
+    ghost use Rattle.std.specs.Int.Digits.{AllBelowBase};
     ghost use Rattle.std.specs.Borrow.{Bor};
     ghost use Rattle.pathfinding.specs.Heads.{head_of};
 
@@ -32,7 +34,7 @@ impl<'a> Model for Name<'a> {
 
     ghost view = { λ n. n.bytes };
 
-    ghost invariant = { λ n. n.head ≡ head_of n.bytes.now };
+    ghost invariant = { λ n. (n.head ≡ head_of n.bytes.now) × AllBelowBase 256 (take 8 n.bytes.now) };
 }
 
 impl<'a> Drop for Name<'a> {
@@ -41,13 +43,16 @@ impl<'a> Drop for Name<'a> {
     }
 }
 
-/// The first bytes, and zeros where there are no more.
-fn head_of(bytes: &[u8]) -> [u8; HEAD]
-    ensures { result ≡ head_of bytes.now }
+/// The first bytes as the digits of a number.
+fn head_of(bytes: &[u8]) -> u64
+    ensures head { result ≡ head_of bytes.now }
+    ensures digits { AllBelowBase 256 (take 8 bytes.now) }
 {
-    let mut head = [0; HEAD];
-    let len = bytes.len().min(HEAD);
-    head[..len].copy_from_slice(&bytes[..len]);
+    let front = &bytes[..bytes.len().min(HEAD)];
+    let mut head = 0;
+    'front: for byte in front {
+        head = head * 256 + u64::from(*byte);
+    }
     head
 }
 
@@ -96,7 +101,7 @@ impl Hash for Name<'_> {
         if self.bytes.len() > HEAD {
             self.bytes.hash(state);
         } else {
-            state.write_u64(u64::from_be_bytes(self.head));
+            state.write_u64(self.head);
         }
     }
 }
