@@ -36,12 +36,12 @@ pub(crate) fn number<'a, A: Allocator + Copy>(
     Ok(n)
 }
 
-/// Has the name of this number these bytes?
-fn is_named<A: Allocator + Copy>(names: &Names<'_, A>, number: usize, name: &[u8]) -> bool
-    ensures { IsTrue result → (number < length names.now.keys) × (name_at names.now.keys number ≡ name.now) }
+/// Is this the name of the number?
+fn is_named<A: Allocator + Copy>(names: &Names<'_, A>, number: usize, name: &Name<'_>) -> bool
+    ensures { IsTrue result → (number < length names.now.keys) × (name_at names.now.keys number ≡ name.now.now) }
 {
     match names.get_index(number) {
-        Some(known) => known.bytes() == name,
+        Some(known) => *known == *name,
         None => false,
     }
 }
@@ -57,13 +57,15 @@ fn number_near<'a, A: Allocator + Copy>(
     ensures named { IfOk result (λ n. name_at names.new.keys n ≡ name.now) }
     ensures kept { OnOk result (KeepsNames names.old.keys names.new.keys) }
 {
-    if is_named(names, first, name) {
+    let name = Name::new(name);
+    if is_named(names, first, &name) {
         return Ok(first);
     }
-    if is_named(names, second, name) {
+    if is_named(names, second, &name) {
         return Ok(second);
     }
-    number(names, name)
+    let (n, _) = names.insert_full(name)?;
+    Ok(n)
 }
 
 /// A link for each edge of the text, between the numbers of its names.
