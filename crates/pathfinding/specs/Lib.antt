@@ -4,6 +4,7 @@ pub use Rattle.pf_base.specs.Edges
 pub use Rattle.pf_base.specs.Answers
 pub use Rattle.pf_base.specs.Successors
 pub use Rattle.pf_base.specs.NodeRefs
+pub use Rattle.pf_base.specs.Tallies
 pub mod EdgeText
 pub mod Roads
 pub mod Words

@@ -5,4 +5,4 @@ pub mod directed;
 pub mod prelude;
 pub mod routes;
 
-pub use pf_base::NodeRefs;
+pub use pf_base::{NodeRefs, utils};
