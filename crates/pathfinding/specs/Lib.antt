@@ -5,6 +5,7 @@ pub use Rattle.pf_base.specs.Answers
 pub use Rattle.pf_base.specs.Successors
 pub use Rattle.pf_base.specs.NodeRefs
 pub use Rattle.pf_base.specs.Tallies
+pub use Rattle.pf_base.specs.Moves
 pub mod EdgeText
 pub mod Roads
 pub mod Words

@@ -1,6 +1,8 @@
 //! All that the crate exports.
 
-pub use pf_base::utils::Tally;
+pub use pf_base::utils::{
+    InDirection, Tally, constrain, in_direction, move_in_direction, uint_sqrt,
+};
 pub use pf_base::{Cost, NodeRefs, PathError, SignedCost};
 pub use pf_search::directed::bfs::bfs;
 pub use pf_search::directed::dijkstra::{dijkstra, dijkstra_tallied};

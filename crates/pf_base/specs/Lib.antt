@@ -5,3 +5,4 @@ pub mod Answers
 pub mod Successors
 pub mod NodeRefs
 pub mod Tallies
+pub mod Moves

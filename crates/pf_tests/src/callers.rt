@@ -11,6 +11,7 @@ use num_traits::Number;
 use pf_base::{Cost, PathError};
 use pf_search::directed::dijkstra::dijkstra;
 use std::alloc::Allocator;
+use std::hash::Hash;
 
 /// Whether each edge of a row leads below `bound`.
 fn leads_below(row: &[(usize, u32)], bound: usize) -> bool
@@ -57,7 +58,7 @@ pub fn cheapest_in_list<N, C, A>(
     to: N,
 ) -> Result<Option<(Vec<N, A>, C)>, PathError>
 where
-    N: Eq + Copy,
+    N: Eq + Hash + Copy,
     C: Cost,
     A: Allocator + Copy,
     requires clones { IsLawfulClone N.eq N.is_clone }

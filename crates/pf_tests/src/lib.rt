@@ -2,8 +2,12 @@
 #![tactic(auto)]
 
 pub mod callers;
+pub mod compact;
 pub mod fewest;
+pub mod grid;
 pub mod minutes;
 pub mod no_case;
+#[cfg(test)]
+mod plain;
 #[cfg(test)]
 mod tests;

@@ -1,7 +1,11 @@
+mod calls;
+mod compact;
 mod costs;
 mod errors;
 mod every_small_graph;
 mod fewest;
+mod grid;
 mod kinds;
+mod larger_graphs;
 mod refusals;
 mod rows;

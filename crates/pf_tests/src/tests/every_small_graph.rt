@@ -1,10 +1,14 @@
 //! Every graph of three nodes with at most four edges of costs 0 to 2, given as every list of such
 //! edges: parallel edges and edges from a node to itself are among them, in every order. The
-//! answer of `dijkstra` is compared with one that tries every walk.
+//! answer of `dijkstra` is compared with one that tries every walk, and those of `dijkstra` and
+//! `bfs` with the plain slow programs.
 
 ghost use Rattle.std.specs.Prelude.{◌≤ℤ◌, All, pos};
 
 use crate::callers::cheapest_in_list;
+use crate::fewest::fewest_in_pairs;
+use crate::plain::{least_cost, least_edges};
+use pf_base::NodeRefs;
 use std::alloc::{AllocError, Global};
 use std::process::Abort;
 use std::test::Fail;
@@ -67,10 +71,37 @@ fn is_distinct(path: &[u8]) -> bool {
     (0..3u8).all(|node| path.iter().filter(|n| **n == node).count() < 2)
 }
 
-/// Compares the answers from the first node to each of the three.
-fn compare(rt: &impl Abort, alloc: Global, edges: &[Edge]) -> Result<(), Fail> {
+/// The rows of the three nodes.
+fn rows_of(alloc: Global, edges: &[Edge]) -> Result<Vec<Vec<(usize, u32)>>, AllocError> {
+    let mut rows = Vec::new(alloc);
+    for node in 0..3u8 {
+        let mut row = Vec::new(alloc);
+        for edge in edges {
+            if edge.0 == node {
+                row.push((usize::from(edge.1), edge.2))?;
+            }
+        }
+        rows.push(row)?;
+    }
+    Ok(rows)
+}
+
+/// The edges without their costs.
+fn pairs_of(alloc: Global, edges: &[Edge]) -> Result<Vec<(u8, u8)>, AllocError> {
+    let mut pairs = Vec::new(alloc);
+    for edge in edges {
+        pairs.push((edge.0, edge.1))?;
+    }
+    Ok(pairs)
+}
+
+/// Compares the answers of `dijkstra` from the first node to each of the three.
+fn compare_costs(rt: &impl Abort, alloc: Global, edges: &[Edge]) -> Result<(), Fail> {
+    let rows = rows_of(alloc, edges)?;
     for to in 0..3u8 {
         let best = cheapest_walk(edges, 0, to, 3);
+        let plain = least_cost(alloc, &rows, 0, usize::from(to))?;
+        assert_eq!(rt; plain, best, "{edges:?} to {to}");
         match cheapest_in_list(alloc, edges, 0, to)? {
             None => assert_eq!(rt; best, None, "{edges:?} to {to}"),
             Some((path, cost)) => {
@@ -85,13 +116,48 @@ fn compare(rt: &impl Abort, alloc: Global, edges: &[Edge]) -> Result<(), Fail> {
     Ok(())
 }
 
+/// Compares the answers of `bfs` from the first node to each of the three.
+fn compare_edges(rt: &impl Abort, alloc: Global, edges: &[Edge]) -> Result<(), Fail> {
+    let rows = rows_of(alloc, edges)?;
+    let pairs = pairs_of(alloc, edges)?;
+    let start = 0u8;
+    let starts = NodeRefs::from_one(alloc, &start)?;
+    for to in 0..3u8 {
+        let plain = least_edges(alloc, &rows, 0, usize::from(to))?;
+        match fewest_in_pairs(alloc, &pairs, &starts, &[to])? {
+            None => assert_eq!(rt; plain, None, "{edges:?} to {to}"),
+            Some(path) => {
+                assert_eq!(rt; plain, path.len().checked_sub(1), "{edges:?} to {to}");
+                assert_eq!(rt; path.first().copied(), Some(0));
+                assert_eq!(rt; path.last().copied(), Some(to));
+                assert!(rt; is_distinct(&path), "{edges:?} to {to}");
+                assert!(rt; path_cost(edges, &path).is_some(), "{edges:?} to {to}");
+            }
+        }
+    }
+    Ok(())
+}
+
 #[test]
-fn agrees_with_every_walk(rt: HostRuntime) -> Result<(), Fail> {
+fn costs_agree_with_every_walk(rt: HostRuntime) -> Result<(), Fail> {
     let mut lists = 1u32;
     for len in 0..5usize {
         for code in 0..lists {
             let edges = list_of(rt.alloc(), code, len)?;
-            compare(&rt, rt.alloc(), &edges)?;
+            compare_costs(&rt, rt.alloc(), &edges)?;
+        }
+        lists = lists.saturating_mul(EDGES);
+    }
+    Ok(())
+}
+
+#[test]
+fn edges_agree_with_the_plain_program(rt: HostRuntime) -> Result<(), Fail> {
+    let mut lists = 1u32;
+    for len in 0..5usize {
+        for code in 0..lists {
+            let edges = list_of(rt.alloc(), code, len)?;
+            compare_edges(&rt, rt.alloc(), &edges)?;
         }
         lists = lists.saturating_mul(EDGES);
     }

@@ -1,21 +1,21 @@
-use Rattle.std.proofs.Common.{rules, arith, ℕ, pos, ◌<◌, ◌==◌, List, ◌∷◌, [], length, nat_eq, Vec}
+use Rattle.std.proofs.Common.{rules, arith, ℕ, pos, ◌==◌, List, ◌∷◌, [], nat_eq, Vec}
 use Rattle.std.specs.declared.alloc.Global.{Global}
 use Rattle.std.proofs.lemmas.Grind.{common_steps}
-use Rattle.pf_base.proofs.Callers.{nat_graph, nat_test}
-use Rattle.pf_base.proofs.Reach.{row_at, row_at-index, nat_reach_keeps, row_all, unsigned_cost}
+use Rattle.pf_base.proofs.Callers.{nat_test}
+use Rattle.pf_base.proofs.Reach.{row_at, row_at-index, unsigned_cost}
+use Rattle.pf_base.proofs.Tables.{rows_graph}
 use Rattle.pf_tests.specs.Rows.{edges_of}
 use Rattle.pf_tests.proofs.callers.cheapest_in_rows.Goals as goal
 
 pub dijkstra-requires-clause-graph : goal.dijkstra-requires-clause-graph
 dijkstra-requires-clause-graph g c =
-    let rows : List (Vec (ℕ × ℕ) Global) = c.args.rows.now in
-    let listed : ℕ → List (ℕ × ℕ) = row_at (λ (row : Vec (ℕ × ℕ) Global). row.items) rows in
-    let below = nat_reach_keeps (λ z. pos z) listed (λ n. n < length rows) c.args.from c.requires.inside (λ n p. row_all (λ (e : ℕ × ℕ). e.0 < length rows) (λ (row : Vec (ℕ × ℕ) Global). row.items) rows c.requires.in_range n) in (
-      edges_of rows,
+    let items : Vec (ℕ × ℕ) Global → List (ℕ × ℕ) = λ row. row.items in (
+      edges_of c.args.rows.now,
       (λ n. n == c.args.to),
-      nat_graph listed (λ x w. let l = below x.now w in search rules) (λ x r t w k. let l = below x.now w in (search rules, record { can_next = λ it b. search rules; finite = λ it b. search rules; items = λ it b p t o u. grind (arith, common_steps, row_at-index) })),
+      rows_graph (λ z. pos z) items c.args.rows.now c.args.from c.requires.inside c.requires.in_range
+          (λ x l. search rules) (λ x r t l k. (search rules, grind (arith, common_steps, row_at-index))),
       nat_test (λ n. n == c.args.to) (λ x w. search rules) (λ x r t w k. (search rules, search rules)),
-      unsigned_cost nat_eq listed (c.args.from ∷ []),
+      unsigned_cost nat_eq (row_at items c.args.rows.now) (c.args.from ∷ []),
     )
 
 pub returns : goal.returns

@@ -1,4 +1,4 @@
-use Rattle.std.proofs.Common.{rules, subst, ◌∷◌, []}
+use Rattle.std.proofs.Common.{rules, subst}
 use Rattle.std.specs.Prelude.{if◌then◌else◌, Some, None}
 use borrow.Author.Tests.{tests}
 use Rattle.std.proofs.lemmas.Iterator.{YieldsList-from_slice}

@@ -1,0 +1,39 @@
+//! How often the successors are asked for.
+
+ghost use Rattle.std.specs.Prelude.{◌<◌, All, length};
+
+use pf_base::PathError;
+use pf_search::directed::dijkstra::dijkstra;
+use std::alloc::Allocator;
+use std::cell::Cell;
+use std::test::Fail;
+
+/// Whether there is no path from the node 0 to a node that passes no test, and how often the
+/// successors were asked for.
+fn calls_without_success<A>(alloc: A, rows: &[&[(usize, u32)]]) -> Result<(bool, u64), PathError>
+where
+    A: Allocator + Copy,
+    requires inside { 0 < length rows.now }
+    requires in_range { All (λ row. All (λ e. e.0 < length rows.now) row.now) rows.now }
+{
+    let calls = Cell::new(0u64);
+    let answer = dijkstra(
+        alloc,
+        &0usize,
+        |n| {
+            calls.set(calls.get().wrapping_add(1));
+            rows[*n].iter().copied()
+        },
+        |_n| false,
+    )?;
+    Ok((answer.is_none(), calls.get()))
+}
+
+#[test]
+fn asks_each_node_at_most_once(rt: HostRuntime) -> Result<(), Fail> {
+    // s: a5 b1, a: t9, b: a1, as the nodes 0 to 3
+    let rows: [&[(usize, u32)]; 4] = [&[(1, 5), (2, 1)], &[(3, 9)], &[(1, 1)], &[]];
+    let (none, calls) = calls_without_success(rt.alloc(), &rows)?;
+    assert!(rt; none && calls <= 4);
+    Ok(())
+}
