@@ -4,5 +4,9 @@ pub use pf_base::utils::{
     InDirection, Tally, constrain, in_direction, move_in_direction, uint_sqrt,
 };
 pub use pf_base::{Cost, NodeRefs, PathError, SignedCost};
+pub use pf_matrix::{
+    ColumnIterator, Items, ItemsMut, Keys, Matrix, MatrixFormatError, Neighbours, RowIterator,
+    directions,
+};
 pub use pf_search::directed::bfs::bfs;
 pub use pf_search::directed::dijkstra::{dijkstra, dijkstra_tallied};

@@ -1,0 +1,56 @@
+-- One arrangement after another.
+use Rattle.std.proofs.Common.{◌≡◌, ℕ, ◌-◌, ◌<◌, refl, sym, subst, arith}
+use Rattle.pf_matrix.specs.Tables.{Table, IsMatrix, value_at}
+use Rattle.pf_matrix.specs.Arrange.{IsArranged, itself, IsTransposed, IsFlippedLr, IsFlippedUd, IsTurnedRight, IsTurnedLeft, IsTurnedTwice, IsCopied}
+
+module _ {C : Type 0} (like : C → C → Type 0) where
+  -- what is arranged once more
+  pub arranged_then : (h w h' w' : ℕ) (f g k : ℕ → ℕ → ℕ × ℕ) (m n o : Table C) → IsArranged like h w f m n → IsArranged itself h' w' g n o
+      → ((r c : ℕ) → r < h' → c < w' → ((g r c).0 < h) × ((g r c).1 < w) × (f (g r c).0 (g r c).1 ≡ k r c)) → IsArranged like h' w' k m o
+  arranged_then h w h' w' f g k m n o a b in_range = record {
+    rows = b.rows;
+    columns = b.columns;
+    values = λ r c d p q.
+        let at = in_range r c p q in
+        let step : like (value_at m (k r c).0 (k r c).1 d) (value_at n (g r c).0 (g r c).1 d) =
+        subst (λ (x : ℕ × ℕ). like (value_at m x.0 x.1 d) (value_at n (g r c).0 (g r c).1 d)) at.2 (a.values (g r c).0 (g r c).1 d at.0 at.1) in
+        subst (λ y. like (value_at m (k r c).0 (k r c).1 d) y) (sym (b.values r c d p q)) step;
+    matrix = b.matrix;
+  }
+
+  -- the same sizes by other names
+  pub arranged_sizes : (h w h' w' : ℕ) (f : ℕ → ℕ → ℕ × ℕ) (m n : Table C) → h ≡ h' → w ≡ w' → IsArranged like h w f m n → IsArranged like h' w' f m n
+  arranged_sizes h w h' w' f m n e k a = subst (λ x. IsArranged like x w' f m n) e (subst (λ y. IsArranged like h y f m n) k a)
+
+  pub turned_right : (m n o : Table C) → IsTransposed like m n → IsFlippedLr itself n o → IsTurnedRight like m o
+  turned_right m n o a b =
+      arranged_sizes n.rows n.columns m.columns m.rows (λ r c. (m.rows - 1 - c, r)) m o a.rows a.columns
+      (arranged_then m.columns m.rows n.rows n.columns (λ r c. (c, r)) (λ r c. (r, n.columns - 1 - c)) (λ r c. (m.rows - 1 - c, r)) m n o a b
+      (λ r c p q. (omega (arith, a.rows), omega (arith, a.columns), λ i. (a.columns i - 1 - c, r))))
+
+  pub turned_left : (m n o : Table C) → IsTransposed like m n → IsFlippedUd itself n o → IsTurnedLeft like m o
+  turned_left m n o a b =
+      arranged_sizes n.rows n.columns m.columns m.rows (λ r c. (c, m.columns - 1 - r)) m o a.rows a.columns
+      (arranged_then m.columns m.rows n.rows n.columns (λ r c. (c, r)) (λ r c. (n.rows - 1 - r, c)) (λ r c. (c, m.columns - 1 - r)) m n o a b
+      (λ r c p q. (omega (arith, a.rows), omega (arith, a.columns), λ i. (c, a.rows i - 1 - r))))
+
+  pub copied_twice : (m n o : Table C) → IsCopied like m n → IsTurnedTwice itself n o → IsTurnedTwice like m o
+  copied_twice m n o a b =
+      arranged_sizes n.rows n.columns m.rows m.columns (λ r c. (m.rows - 1 - r, m.columns - 1 - c)) m o a.rows a.columns
+      (arranged_then m.rows m.columns n.rows n.columns (λ r c. (r, c)) (λ r c. (n.rows - 1 - r, n.columns - 1 - c)) (λ r c. (m.rows - 1 - r, m.columns - 1 - c)) m n o a b
+      (λ r c p q. (omega (arith, a.rows), omega (arith, a.columns), λ i. (a.rows i - 1 - r, a.columns i - 1 - c))))
+
+  pub copied_lr : (m n o : Table C) → IsCopied like m n → IsFlippedLr itself n o → IsFlippedLr like m o
+  copied_lr m n o a b =
+      arranged_sizes n.rows n.columns m.rows m.columns (λ r c. (r, m.columns - 1 - c)) m o a.rows a.columns
+      (arranged_then m.rows m.columns n.rows n.columns (λ r c. (r, c)) (λ r c. (r, n.columns - 1 - c)) (λ r c. (r, m.columns - 1 - c)) m n o a b
+      (λ r c p q. (omega (arith, a.rows), omega (arith, a.columns), λ i. (r, a.columns i - 1 - c))))
+
+  pub copied_ud : (m n o : Table C) → IsCopied like m n → IsFlippedUd itself n o → IsFlippedUd like m o
+  copied_ud m n o a b =
+      arranged_sizes n.rows n.columns m.rows m.columns (λ r c. (m.rows - 1 - r, c)) m o a.rows a.columns
+      (arranged_then m.rows m.columns n.rows n.columns (λ r c. (r, c)) (λ r c. (n.rows - 1 - r, c)) (λ r c. (m.rows - 1 - r, c)) m n o a b
+      (λ r c p q. (omega (arith, a.rows), omega (arith, a.columns), λ i. (a.rows i - 1 - r, c))))
+
+pub copied_itself : {C : Type 0} (m : Table C) → IsMatrix m → IsCopied itself m m
+copied_itself m ok = record { rows = refl; columns = refl; values = λ r c d p q. refl; matrix = ok }

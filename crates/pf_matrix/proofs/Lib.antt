@@ -1,0 +1,11 @@
+pub mod Ends
+pub mod LineLemmas
+pub mod PositionLemmas
+pub mod SliceLemmas
+pub mod SquareLemmas
+pub mod TableLemmas
+pub mod ArrangeLemmas
+pub mod FillLemmas
+pub mod TakeLemmas
+pub mod TableLaws
+pub mod RowLemmas

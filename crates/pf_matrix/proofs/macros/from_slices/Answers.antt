@@ -1,0 +1,29 @@
+use Rattle.std.proofs.Common.{◌≡◌, ◌+◌, ap, sym, ◌∙◌, arith, length, [], take, drop, inl, inr}
+use Rattle.std.specs.Prelude.{◌≢◌}
+use Rattle.std.proofs.lemmas.Bool.{cases_eq}
+use Rattle.std.proofs.lemmas.List.{nil_from_length}
+use Rattle.pf_matrix.specs.Rows.{joined, first_length}
+use Rattle.pf_matrix.proofs.RowLemmas.{AllZip-append, joined_more, refusal_next, refusal_fits}
+use Rattle.pf_matrix.proofs.macros.from_slices.Goals as goal
+
+pub loop-row-preserved : goal.loop-row-preserved
+loop-row-preserved g c =
+    let rows = c.args.rows.now in
+    let i = c.loop-row.row-index in
+    let row = c.row-item.result in
+    let inv = c.loop-row.invariant in
+    let put = c.in_ok-extend.ensures.extended in
+    let full : row.now ≢ [] = λ e. (let h = c.in_ok-extend.ensures.empty_row.1 e in cc) in
+    let some : length row.now ≢ 0 = λ e. full (nil_from_length row.now e) in
+    let same : length row.now ≡ first_length rows = elim (cases_eq (length row.now) (first_length rows)) [
+      | inl e ↦ e
+      | inr n ↦ (let h = c.in_ok-extend.ensures.wrong_length.1 (full, λ e. n (e ∙ inv.columns)) in cc)
+    ] in
+    record {
+      matrix = put.matrix;
+      rows = put.rows ∙ ap (λ n. n + 1) inv.rows;
+      columns = put.columns ∙ inv.columns;
+      values = rw (put.values.1, joined_more rows i row (omega arith) c.row-item.is)
+          (AllZip-append g.C.Clone.is_clone (joined (take i rows)) row.now c.loop-row.matrix.values put.values.0 inv.values put.values.2);
+      rest = sym (refusal_fits (first_length rows) row (drop (i + 1) rows) some same) ∙ sym (refusal_next rows i (first_length rows) row (omega arith) c.row-item.is) ∙ inv.rest;
+    }

@@ -1,0 +1,24 @@
+use Rattle.std.proofs.Common.{◌≡◌, ap, sym, ◌∙◌, arith, map, [], ◌∷◌, ◌++◌}
+use Rattle.std.specs.Borrow.{Bor}
+use Rattle.std.proofs.lemmas.List.{map_push}
+use Rattle.std.proofs.lemmas.Nat.{mul-add-lt}
+use Rattle.pf_matrix.proofs.LineLemmas.{column_more, column_none}
+use Rattle.pf_matrix.proofs.matrix.Matrix.column.Goals as goal
+
+pub loop-row-init : goal.loop-row-init
+loop-row-init g c =
+    ap (map (λ (x : Bor g.row.C.Denot). x.now)) c.in_ok-refs.ensures.items ∙ sym (column_none c.self.inside.columns c.args.column c.as_slice-values.result.now)
+
+pub loop-row-preserved : goal.loop-row-preserved
+loop-row-preserved g c =
+    let now = λ (x : Bor g.row.C.Denot). x.now in
+    let s = c.self.inside in
+    let values = c.as_slice-values.result.now in
+    let row = c.loop-row.row in
+    let x = c.index-values-row.result in
+    let columns : c.args.self.now.columns ≡ s.columns = sym (ap (λ t. t.columns) c.self.view_is) in
+    let below = mul-add-lt row s.columns c.args.column s.rows (omega arith) (omega arith) in
+    ap (map now) c.in_ok-push.ensures.items
+    ∙ map_push now c.loop-row.refs.items _
+    ∙ (λ i. c.loop-row.invariant i ++ c.index-values-row.is i ∷ [])
+    ∙ sym (column_more row s.columns c.args.column values x (omega (arith, below)))

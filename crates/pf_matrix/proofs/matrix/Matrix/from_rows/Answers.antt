@@ -1,0 +1,72 @@
+use Rattle.std.proofs.Common.{◌≡◌, ◌*◌, ◌<◌, ap, sym, refl, ◌∙◌, arith, length, [], ◌∷◌, ◌++◌}
+use Rattle.std.proofs.iter.Next.{Yields-more}
+use Rattle.pf_matrix.specs.Rows.{GivesAll}
+use Rattle.pf_matrix.proofs.RowLemmas.{AllZip-append, flat_more, length-flat, grown, other_width, rows_matrix}
+use Rattle.pf_matrix.proofs.matrix.Matrix.from_rows.Goals as goal
+
+pub push_all-requires : goal.push_all-requires
+push_all-requires g c = c.requires.rows_end.at c.into_iter-row-iterator.result c.loop-row.yielded c.loop-row.row-iterator c.in-Some.row c.next.new.self
+    c.into_iter-row-iterator.ensures.into_iter_gives c.loop-row.yielded_by c.in-Some.ensures.steps
+
+pub loop-row-preserved : goal.loop-row-preserved
+loop-row-preserved g c =
+    let i = c.loop-row.invariant in
+    let p = c.in_ok-length.ensures.given in
+    let gives = GivesAll g.IC.IntoIterator.into_iter_gives g.IC.IntoIter.Iterator.next_gives in (
+      i.0 ++ p.0 ∷ [],
+      AllZip-append gives c.loop-row.yielded (c.in-Some.row ∷ []) i.0 (p.0 ∷ []) i.1 (p.1, tt),
+      p.2 ∙ ap (λ z. z ++ p.0) i.2 ∙ sym (flat_more i.0 p.0),
+      grown c.loop-row.width i.0 p.0 c.in_ok-length.length p.3 i.3 (sym c.unwrap_or.ensures ∙ c.if-unwrap_or-length.false),
+    )
+
+pub returns-then-unwrap_or-length-clause-wrong_length : goal.returns-then-unwrap_or-length-clause-wrong_length
+returns-then-unwrap_or-length-clause-wrong_length g c = λ _.
+    let i = c.loop-row.invariant in
+    let p = c.in_ok-length.ensures.given in
+    let gives = GivesAll g.IC.IntoIterator.into_iter_gives g.IC.IntoIter.Iterator.next_gives in
+    let o = other_width c.loop-row.width i.0 c.in_ok-length.length i.3 (λ e. c.if-unwrap_or-length.true (c.unwrap_or.ensures ∙ e)) in
+    record {
+      iterator = c.into_iter-row-iterator.result;
+      left = c.next.new.self;
+      given = c.loop-row.yielded ++ c.in-Some.row ∷ [];
+      lists = i.0 ++ p.0 ∷ [];
+      made = c.into_iter-row-iterator.ensures.into_iter_gives;
+      yields = Yields-more g.IR.IntoIter.Iterator.next_gives c.into_iter-row-iterator.result c.loop-row.yielded c.loop-row.row-iterator c.in-Some.row c.next.new.self c.loop-row.yielded_by c.in-Some.ensures.steps;
+      values = AllZip-append gives c.loop-row.yielded (c.in-Some.row ∷ []) i.0 (p.0 ∷ []) i.1 (p.1, tt);
+      holds = record { before = i.0; last = p.0; width = o.0; is = refl; some = o.1; same = o.2; differs = λ e. o.3 (sym e ∙ sym p.3) };
+    }
+
+pub invariant_of-result : goal.invariant_of-result
+invariant_of-result g c =
+    let i = c.loop-row.invariant in
+    let w = c.in-Some-width.columns in
+    let shape = rw c.in-Some-width.is at i.3 in
+    let wide : 0 < w = omega (arith, c.if-columns-eq0.false) in
+    let n : c.len.result ≡ length c.loop-row.values.items = c.len.ensures ∙ c.loop-row.values.ok.0 in
+    let rows = rows_matrix i.0 c.loop-row.values.items c.len.result w wide n i.2 shape.1 in
+    record { sized = ap length i.2 ∙ length-flat w i.0 shape.1 ∙ ap (λ k. k * w) (sym rows); filled = λ _. wide }
+
+pub returns-clause-matrix : goal.returns-clause-matrix
+returns-clause-matrix g c = invariant_of-result g c
+
+pub returns-clause-made : goal.returns-clause-made
+returns-clause-made g c =
+    let i = c.loop-row.invariant in
+    let w = c.in-Some-width.columns in
+    let shape = rw c.in-Some-width.is at i.3 in
+    let wide : 0 < w = omega (arith, c.if-columns-eq0.false) in
+    let n : c.len.result ≡ length c.loop-row.values.items = c.len.ensures ∙ c.loop-row.values.ok.0 in
+    record {
+      iterator = c.into_iter-row-iterator.result;
+      given = c.loop-row.yielded;
+      lists = i.0;
+      made = c.into_iter-row-iterator.ensures.into_iter_gives;
+      drains = (c.next.new.self, (c.loop-row.row-iterator, c.loop-row.yielded_by, c.in-None.ensures.steps));
+      values = i.1;
+      holds = record {
+        rows = rows_matrix i.0 c.loop-row.values.items c.len.result w wide n i.2 shape.1;
+        columns = shape.1;
+        values = i.2;
+        none = λ e. absurd (omega (arith, ap length e, shape.0));
+      };
+    }

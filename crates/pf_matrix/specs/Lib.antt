@@ -1,0 +1,9 @@
+pub mod Tables
+pub mod Arrange
+pub mod Calls
+pub mod Equality
+pub mod ItemsMut
+pub mod Lends
+pub mod Lines
+pub mod Positions
+pub mod Rows

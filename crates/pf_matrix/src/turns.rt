@@ -1,0 +1,88 @@
+//! A matrix that is flipped, turned or transposed in place.
+
+ghost use Rattle.std.specs.Prelude.{◌≡◌};
+ghost use Rattle.pf_matrix.specs.Tables.{IsInside};
+ghost use Rattle.pf_matrix.specs.Arrange.{IsExchanged, IsFlippedLr, IsFlippedUd, IsRotatedCw, IsRotatedCcw, IsTransposed, IsTurnedLeft, IsTurnedRight, IsTurnedTwice, itself};
+
+use crate::matrix::Matrix;
+use crate::slices::{exchange_rows, reverse_rows, transpose_square};
+use std::alloc::Allocator;
+
+impl<C, A: Allocator> Matrix<C, A> {
+    /// Exchanges the values at two positions inside.
+    pub fn swap(&mut self, a: (usize, usize), b: (usize, usize))
+        requires a_inside { IsInside self.old a.0 a.1 }
+        requires b_inside { IsInside self.old b.0 b.1 }
+        ensures { IsExchanged a b self.old self.new }
+    {
+        let first = self.idx(a);
+        let second = self.idx(b);
+        self.values.as_mut_slice().swap(first, second);
+    }
+
+    /// Exchanges left and right.
+    pub fn flip_lr(&mut self)
+        ensures { IsFlippedLr itself self.old self.new }
+    {
+        reverse_rows(self.values.as_mut_slice(), self.rows, self.columns);
+    }
+
+    /// Exchanges up and down.
+    pub fn flip_ud(&mut self)
+        ensures { IsFlippedUd itself self.old self.new }
+    {
+        exchange_rows(self.values.as_mut_slice(), self.rows, self.columns);
+    }
+
+    pub(crate) fn turn_twice(&mut self)
+        ensures { IsTurnedTwice itself self.old self.new }
+    {
+        self.values.as_mut_slice().reverse();
+    }
+
+    pub(crate) fn transpose_in_place(&mut self)
+        requires { self.old.rows ≡ self.old.columns }
+        ensures { IsTransposed itself self.old self.new }
+    {
+        transpose_square(self.values.as_mut_slice(), self.rows);
+    }
+
+    fn turn_right(&mut self)
+        requires { self.old.rows ≡ self.old.columns }
+        ensures { IsTurnedRight itself self.old self.new }
+    {
+        self.transpose_in_place();
+        self.flip_lr();
+    }
+
+    fn turn_left(&mut self)
+        requires { self.old.rows ≡ self.old.columns }
+        ensures { IsTurnedLeft itself self.old self.new }
+    {
+        self.transpose_in_place();
+        self.flip_ud();
+    }
+
+    /// Turns a square to the right, by this many quarter turns.
+    pub fn rotate_cw(&mut self, times: usize)
+        requires { self.old.rows ≡ self.old.columns }
+        ensures { IsRotatedCw itself self.old self.new times }
+    {
+        // Tells the proof that the matrix is one, also where nothing is done.
+        let _ = &self.values;
+        match times % 4 {
+            0 => {}
+            1 => self.turn_right(),
+            2 => self.turn_twice(),
+            _ => self.turn_left(),
+        }
+    }
+
+    /// Turns a square to the left, by this many quarter turns.
+    pub fn rotate_ccw(&mut self, times: usize)
+        requires { self.old.rows ≡ self.old.columns }
+        ensures { IsRotatedCcw itself self.old self.new times }
+    {
+        self.rotate_cw(3 * (times % 4));
+    }
+}

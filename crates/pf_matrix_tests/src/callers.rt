@@ -1,0 +1,18 @@
+//! A caller that knows matrices by their contracts alone.
+
+ghost use Rattle.std.specs.Prelude.{◌≡◌, IfOk, slice_index_or};
+ghost use Rattle.pf_matrix.specs.Arrange.{CanTurn, IsRotatedCw, itself};
+
+use pf_matrix::{Matrix, MatrixFormatError};
+use std::alloc::Allocator;
+
+/// The numbers of a board that is turned to the right once. The copy has the very numbers, since a
+/// clone of a number is the number.
+pub fn turned_board<A: Allocator + Copy>(
+    board: &Matrix<u8, A>,
+) -> Result<Matrix<u8, A>, MatrixFormatError>
+    requires { CanTurn board.now }
+    ensures { IfOk result (λ turned. IsRotatedCw itself board.now turned 1) }
+{
+    board.rotated_cw(1)
+}

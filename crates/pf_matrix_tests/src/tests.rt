@@ -1,0 +1,33 @@
+//! Each call once with ample memory, the worked values, and each growth refused in turn.
+
+ghost use Rattle.std.specs.Prelude.{◌≡◌, IfOk};
+
+mod copies;
+mod errors;
+mod iterators;
+mod makers;
+mod readers;
+mod refusals;
+mod writers;
+
+use pf_matrix::{Matrix, MatrixFormatError, matrix};
+use std::alloc::Allocator;
+
+/// [[1, 2, 3], [4, 5, 6]]
+fn six<A: Allocator + Copy>(alloc: A) -> Result<Matrix<u8, A>, MatrixFormatError>
+    ensures { IfOk result (λ m. (m.rows ≡ 2) × (m.columns ≡ 3)) }
+{
+    matrix![in alloc; [1u8, 2, 3], [4, 5, 6]]
+}
+
+/// [[1, 2], [3, 4]]
+fn four<A: Allocator + Copy>(alloc: A) -> Result<Matrix<u8, A>, MatrixFormatError>
+    ensures { IfOk result (λ m. (m.rows ≡ 2) × (m.columns ≡ 2)) }
+{
+    matrix![in alloc; 1u8, 2; 3, 4]
+}
+
+/// Whether a matrix has these sizes and these values.
+fn shows<A: Allocator>(matrix: &Matrix<u8, A>, rows: usize, columns: usize, values: &[u8]) -> bool {
+    matrix.rows() == rows && matrix.columns() == columns && matrix.as_slice() == values
+}

@@ -1,0 +1,370 @@
+//! Each growth refused in turn: a call answers want of memory and leaves what it was lent as it was,
+//! until no request is refused and it answers as it does with ample memory.
+
+ghost use Rattle.std.specs.Prelude.{◌≡◌};
+
+use super::{four, shows, six};
+use pf_matrix::{Matrix, MatrixFormatError, matrix};
+use refusing_allocator::Refusing;
+use std::alloc::{Allocator, Global};
+use std::process::Abort;
+use std::test::Fail;
+
+/// How a call ended.
+#[derive(Clone, Copy, Debug, PartialEq, Eq)]
+enum Outcome {
+    /// It answered want of memory.
+    OutOfMemory,
+    /// It answered as it does with ample memory.
+    Answered,
+    /// It did neither.
+    Wrong,
+}
+
+/// Runs a call with growth 0, 1, 2, .. refused alone, until a run meets no refusal, and answers how
+/// many growths that run made. Each run before it has to answer want of memory.
+fn refuse_each_growth<F>(rt: &impl Abort, alloc: Global, mut call: F) -> u64
+where
+    F: FnMut(&Refusing<Global>, u64) -> Outcome,
+    requires { F.IsAlwaysCallable call }
+{
+    for growth in 0..1_000u64 {
+        let heap = Refusing::new(alloc);
+        let outcome = call(&heap, growth);
+        if heap.pending() > 0 {
+            assert_eq!(rt; outcome, Outcome::Answered, "with no refusal");
+            return growth;
+        }
+        assert_eq!(rt; outcome, Outcome::OutOfMemory, "growth {growth}");
+    }
+    panic!(rt; "every run met a refusal")
+}
+
+/// How a maker or a copy ended that is to show these values.
+fn outcome_of<A: Allocator>(
+    answer: Result<Matrix<u8, A>, MatrixFormatError>,
+    rows: usize,
+    columns: usize,
+    values: &[u8],
+) -> Outcome {
+    match answer {
+        Ok(matrix) if shows(&matrix, rows, columns, values) => Outcome::Answered,
+        Err(MatrixFormatError::OutOfMemory) => Outcome::OutOfMemory,
+        _ => Outcome::Wrong,
+    }
+}
+
+/// The outcome of a copy, where the matrix is still [[1, 2, 3], [4, 5, 6]].
+fn kept<A: Allocator>(matrix: &Matrix<u8, A>, outcome: Outcome) -> Outcome {
+    if shows(matrix, 2, 3, &[1, 2, 3, 4, 5, 6]) {
+        outcome
+    } else {
+        Outcome::Wrong
+    }
+}
+
+/// How a mutator ended after which the matrix is to show these values, and else what it showed.
+fn outcome_in_place<A: Allocator>(
+    matrix: &Matrix<u8, A>,
+    answer: Result<(), MatrixFormatError>,
+    rows: usize,
+    columns: usize,
+    values: &[u8],
+) -> Outcome {
+    match answer {
+        Ok(()) if shows(matrix, rows, columns, values) => Outcome::Answered,
+        Err(MatrixFormatError::OutOfMemory) => kept(matrix, Outcome::OutOfMemory),
+        _ => Outcome::Wrong,
+    }
+}
+
+fn made_of_one_value(heap: &Refusing<Global>, growth: u64) -> Outcome {
+    heap.refuse(growth, 1);
+    outcome_of(Matrix::new(heap, 2, 2, 7u8), 2, 2, &[7, 7, 7, 7])
+}
+
+fn made_square(heap: &Refusing<Global>, growth: u64) -> Outcome {
+    heap.refuse(growth, 1);
+    outcome_of(Matrix::new_square(heap, 2, 7u8), 2, 2, &[7, 7, 7, 7])
+}
+
+fn made_of_a_function(heap: &Refusing<Global>, growth: u64) -> Outcome {
+    heap.refuse(growth, 1);
+    outcome_of(
+        Matrix::from_fn(heap, 2, 2, |_position: (usize, usize)| 7u8),
+        2,
+        2,
+        &[7, 7, 7, 7],
+    )
+}
+
+fn made_by_the_macro(heap: &Refusing<Global>, growth: u64) -> Outcome {
+    heap.refuse(growth, 1);
+    outcome_of(matrix![in heap; [1u8, 2], [3, 4]], 2, 2, &[1, 2, 3, 4])
+}
+
+fn made_of_rows(heap: &Refusing<Global>, growth: u64) -> Outcome {
+    heap.refuse(growth, 1);
+    outcome_of(
+        Matrix::from_rows(heap, [[1u8, 2], [3, 4]]),
+        2,
+        2,
+        &[1, 2, 3, 4],
+    )
+}
+
+fn sliced(heap: &Refusing<Global>, growth: u64) -> Outcome {
+    let Ok(matrix) = six(heap) else {
+        return Outcome::Wrong;
+    };
+    heap.refuse(growth, 1);
+    kept(&matrix, outcome_of(matrix.slice(0..2, 1..2), 2, 1, &[2, 5]))
+}
+
+fn turned(heap: &Refusing<Global>, growth: u64) -> Outcome {
+    let Ok(matrix) = six(heap) else {
+        return Outcome::Wrong;
+    };
+    heap.refuse(growth, 1);
+    kept(
+        &matrix,
+        outcome_of(matrix.rotated_cw(1), 3, 2, &[4, 1, 5, 2, 6, 3]),
+    )
+}
+
+fn turned_back(heap: &Refusing<Global>, growth: u64) -> Outcome {
+    let Ok(matrix) = six(heap) else {
+        return Outcome::Wrong;
+    };
+    heap.refuse(growth, 1);
+    kept(
+        &matrix,
+        outcome_of(matrix.rotated_ccw(1), 3, 2, &[3, 6, 2, 5, 1, 4]),
+    )
+}
+
+fn turned_about(heap: &Refusing<Global>, growth: u64) -> Outcome {
+    let Ok(matrix) = six(heap) else {
+        return Outcome::Wrong;
+    };
+    heap.refuse(growth, 1);
+    kept(
+        &matrix,
+        outcome_of(matrix.rotated_cw(2), 2, 3, &[6, 5, 4, 3, 2, 1]),
+    )
+}
+
+fn flipped_lr(heap: &Refusing<Global>, growth: u64) -> Outcome {
+    let Ok(matrix) = six(heap) else {
+        return Outcome::Wrong;
+    };
+    heap.refuse(growth, 1);
+    kept(
+        &matrix,
+        outcome_of(matrix.flipped_lr(), 2, 3, &[3, 2, 1, 6, 5, 4]),
+    )
+}
+
+fn flipped_ud(heap: &Refusing<Global>, growth: u64) -> Outcome {
+    let Ok(matrix) = six(heap) else {
+        return Outcome::Wrong;
+    };
+    heap.refuse(growth, 1);
+    kept(
+        &matrix,
+        outcome_of(matrix.flipped_ud(), 2, 3, &[4, 5, 6, 1, 2, 3]),
+    )
+}
+
+fn transposed(heap: &Refusing<Global>, growth: u64) -> Outcome {
+    let Ok(matrix) = six(heap) else {
+        return Outcome::Wrong;
+    };
+    heap.refuse(growth, 1);
+    kept(
+        &matrix,
+        outcome_of(matrix.transposed(), 3, 2, &[1, 4, 2, 5, 3, 6]),
+    )
+}
+
+fn filled(heap: &Refusing<Global>, growth: u64) -> Outcome {
+    let Ok(mut matrix) = six(heap) else {
+        return Outcome::Wrong;
+    };
+    heap.refuse(growth, 1);
+    let answer = matrix.fill(7);
+    outcome_in_place(&matrix, answer, 2, 3, &[7, 7, 7, 7, 7, 7])
+}
+
+fn extended(heap: &Refusing<Global>, growth: u64) -> Outcome {
+    let Ok(mut matrix) = six(heap) else {
+        return Outcome::Wrong;
+    };
+    heap.refuse(growth, 1);
+    let answer = matrix.extend(&[7, 8, 9]);
+    outcome_in_place(&matrix, answer, 3, 3, &[1, 2, 3, 4, 5, 6, 7, 8, 9])
+}
+
+fn transposed_in_place(heap: &Refusing<Global>, growth: u64) -> Outcome {
+    let Ok(mut matrix) = six(heap) else {
+        return Outcome::Wrong;
+    };
+    heap.refuse(growth, 1);
+    let answer = matrix.transpose();
+    outcome_in_place(&matrix, answer, 3, 2, &[1, 4, 2, 5, 3, 6])
+}
+
+fn mapped(heap: &Refusing<Global>, growth: u64) -> Outcome {
+    let Ok(matrix) = six(heap) else {
+        return Outcome::Wrong;
+    };
+    heap.refuse(growth, 1);
+    outcome_of(matrix.map(|value: u8| value % 2), 2, 3, &[1, 0, 1, 0, 1, 0])
+}
+
+fn cloned(heap: &Refusing<Global>, growth: u64) -> Outcome {
+    let Ok(matrix) = six(heap) else {
+        return Outcome::Wrong;
+    };
+    heap.refuse(growth, 1);
+    match matrix.clone() {
+        Ok(same) if same == matrix => Outcome::Answered,
+        Ok(_) => Outcome::Wrong,
+        Err(_) => kept(&matrix, Outcome::OutOfMemory),
+    }
+}
+
+#[test]
+fn makers_refuse_each_growth(rt: HostRuntime) {
+    assert!(rt;
+        refuse_each_growth(
+            &rt,
+            rt.alloc(),
+            |heap, growth| made_of_one_value(heap, growth)
+        ) > 0
+    );
+    assert!(rt; refuse_each_growth(&rt, rt.alloc(), |heap, growth| made_square(heap, growth)) > 0);
+    assert!(rt;
+        refuse_each_growth(
+            &rt,
+            rt.alloc(),
+            |heap, growth| made_of_a_function(heap, growth)
+        ) > 0
+    );
+    assert!(rt;
+        refuse_each_growth(
+            &rt,
+            rt.alloc(),
+            |heap, growth| made_by_the_macro(heap, growth)
+        ) > 0
+    );
+    assert!(rt; refuse_each_growth(&rt, rt.alloc(), |heap, growth| made_of_rows(heap, growth)) > 0);
+}
+
+#[test]
+fn copies_refuse_each_growth(rt: HostRuntime) {
+    assert!(rt; refuse_each_growth(&rt, rt.alloc(), |heap, growth| sliced(heap, growth)) > 0);
+    assert!(rt; refuse_each_growth(&rt, rt.alloc(), |heap, growth| turned(heap, growth)) > 0);
+    assert!(rt; refuse_each_growth(&rt, rt.alloc(), |heap, growth| turned_back(heap, growth)) > 0);
+    assert!(rt; refuse_each_growth(&rt, rt.alloc(), |heap, growth| turned_about(heap, growth)) > 0);
+}
+
+#[test]
+fn flipped_copies_refuse_each_growth(rt: HostRuntime) {
+    assert!(rt; refuse_each_growth(&rt, rt.alloc(), |heap, growth| flipped_lr(heap, growth)) > 0);
+    assert!(rt; refuse_each_growth(&rt, rt.alloc(), |heap, growth| flipped_ud(heap, growth)) > 0);
+    assert!(rt; refuse_each_growth(&rt, rt.alloc(), |heap, growth| transposed(heap, growth)) > 0);
+    assert!(rt; refuse_each_growth(&rt, rt.alloc(), |heap, growth| mapped(heap, growth)) > 0);
+    assert!(rt; refuse_each_growth(&rt, rt.alloc(), |heap, growth| cloned(heap, growth)) > 0);
+}
+
+#[test]
+fn mutators_refuse_each_growth(rt: HostRuntime) {
+    assert!(rt; refuse_each_growth(&rt, rt.alloc(), |heap, growth| filled(heap, growth)) > 0);
+    assert!(rt; refuse_each_growth(&rt, rt.alloc(), |heap, growth| extended(heap, growth)) > 0);
+    assert!(rt;
+        refuse_each_growth(
+            &rt,
+            rt.alloc(),
+            |heap, growth| transposed_in_place(heap, growth)
+        ) > 0
+    );
+}
+
+#[test]
+fn a_refused_column_leaves_the_others(rt: HostRuntime) -> Result<(), Fail> {
+    let heap = Refusing::new(rt.alloc());
+    let matrix = four(&heap)?;
+    heap.refuse(0, 1);
+    let mut columns = matrix.column_iter();
+    let refused = columns.next().ok_or("no column")?;
+    assert_eq!(rt; refused.err(), Some(MatrixFormatError::OutOfMemory));
+    let second = columns.next().ok_or("no column")??;
+    assert_eq!(rt; second.last().map(|x| **x), Some(4));
+    assert!(rt; columns.next().is_none());
+    Ok(())
+}
+
+#[test]
+fn readers_take_no_memory(rt: HostRuntime) -> Result<(), Fail> {
+    let heap = Refusing::new(rt.alloc());
+    let matrix = four(&heap)?;
+    heap.refuse(0, u64::MAX);
+    let empty: Matrix<u8, &Refusing<Global>> = Matrix::new_empty(&heap, 3);
+    assert!(rt; empty.is_empty() && matrix.is_square());
+    assert_eq!(rt; matrix.keys().last(), Some((1, 1)));
+    assert!(rt; matrix.items().last().is_some() && matrix.values().last().is_some());
+    assert!(rt; matrix.iter().next().is_some() && matrix.neighbours((0, 0), true).next().is_some());
+    assert!(rt; matrix == matrix && heap.pending() == u64::MAX);
+    Ok(())
+}
+
+#[test]
+fn writers_in_place_take_no_memory(rt: HostRuntime) -> Result<(), Fail> {
+    let heap = Refusing::new(rt.alloc());
+    let mut matrix = four(&heap)?;
+    heap.refuse(0, u64::MAX);
+    matrix.transpose()?;
+    assert!(rt; shows(&matrix, 2, 2, &[1, 3, 2, 4]));
+    matrix.flip_lr();
+    matrix.flip_ud();
+    assert!(rt; shows(&matrix, 2, 2, &[4, 2, 3, 1]));
+    assert!(rt; heap.pending() == u64::MAX);
+    Ok(())
+}
+
+#[test]
+fn turns_in_place_take_no_memory(rt: HostRuntime) -> Result<(), Fail> {
+    let heap = Refusing::new(rt.alloc());
+    let mut matrix = four(&heap)?;
+    heap.refuse(0, u64::MAX);
+    matrix.rotate_cw(1);
+    assert!(rt; shows(&matrix, 2, 2, &[3, 1, 4, 2]));
+    assert!(rt; heap.pending() == u64::MAX);
+    Ok(())
+}
+
+#[test]
+fn lists_become_matrices_without_memory(rt: HostRuntime) -> Result<(), Fail> {
+    let heap = Refusing::new(rt.alloc());
+    let values = vec![in &heap; 1u8, 2, 3, 4]?;
+    let others = vec![in &heap; 1u8, 2, 3, 4]?;
+    heap.refuse(0, u64::MAX);
+    assert!(rt; Matrix::from_vec(2, 2, values)? == Matrix::square_from_vec(others)?);
+    assert!(rt; heap.pending() == u64::MAX);
+    Ok(())
+}
+
+#[test]
+fn writes_at_positions_take_no_memory(rt: HostRuntime) -> Result<(), Fail> {
+    let heap = Refusing::new(rt.alloc());
+    let mut matrix = four(&heap)?;
+    let part = four(&heap)?;
+    heap.refuse(0, u64::MAX);
+    matrix.swap((0, 0), (1, 1));
+    matrix.set_slice((1, 1), &part);
+    matrix[(0, 1)] = 9;
+    assert!(rt; shows(&matrix, 2, 2, &[4, 9, 3, 1]));
+    assert!(rt; heap.pending() == u64::MAX);
+    Ok(())
+}
