@@ -3,7 +3,8 @@
 ghost use Rattle.std.specs.Prelude.{◌<◌, All, length};
 
 use pf_base::PathError;
-use pf_search::directed::dijkstra::dijkstra;
+use pf_base::utils::Tally;
+use pf_search::directed::dijkstra::{dijkstra, dijkstra_tallied};
 use std::alloc::Allocator;
 use std::cell::Cell;
 use std::test::Fail;
@@ -29,11 +30,37 @@ where
     Ok((answer.is_none(), calls.get()))
 }
 
+/// A cheapest path from the node 0 to the node 3, by the call that counts for its contract.
+fn tallied<A>(alloc: A, rows: &[&[(usize, u32)]]) -> Result<Option<(Vec<usize, A>, u32)>, PathError>
+where
+    A: Allocator + Copy,
+    requires inside { 0 < length rows.now }
+    requires in_range { All (λ row. All (λ e. e.0 < length rows.now) row.now) rows.now }
+{
+    let mut tally = Tally::new();
+    dijkstra_tallied(
+        alloc,
+        &0usize,
+        |n| rows[*n].iter().copied(),
+        |n| *n == 3,
+        &mut tally,
+    )
+}
+
 #[test]
 fn asks_each_node_at_most_once(rt: HostRuntime) -> Result<(), Fail> {
     // s: a5 b1, a: t9, b: a1, as the nodes 0 to 3
     let rows: [&[(usize, u32)]; 4] = [&[(1, 5), (2, 1)], &[(3, 9)], &[(1, 1)], &[]];
     let (none, calls) = calls_without_success(rt.alloc(), &rows)?;
     assert!(rt; none && calls <= 4);
+    Ok(())
+}
+
+#[test]
+fn the_tallied_call_answers(rt: HostRuntime) -> Result<(), Fail> {
+    let rows: [&[(usize, u32)]; 4] = [&[(1, 5), (2, 1)], &[(3, 9)], &[(1, 1)], &[]];
+    let (path, cost) = tallied(rt.alloc(), &rows)?.ok_or("no path")?;
+    assert_eq!(rt; path.as_slice(), [0, 2, 1, 3].as_slice());
+    assert_eq!(rt; cost, 11);
     Ok(())
 }

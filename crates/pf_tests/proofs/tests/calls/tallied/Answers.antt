@@ -1,0 +1,17 @@
+use Rattle.std.proofs.Common.{rules, arith, ℕ, pos, List, ◌∷◌, [], ◌==◌, nat_eq, Bor}
+use Rattle.std.proofs.lemmas.Grind.{common_steps}
+use Rattle.pf_base.proofs.Callers.{nat_test, valued}
+use Rattle.pf_base.proofs.Reach.{row_at, row_at-index, unsigned_cost}
+use Rattle.pf_base.proofs.Tables.{rows_graph}
+use Rattle.pf_tests.proofs.tests.calls.tallied.Goals as goal
+
+pub dijkstra_tallied-requires-clause-graph : goal.dijkstra_tallied-requires-clause-graph
+dijkstra_tallied-requires-clause-graph g c =
+    let items : Bor (List (ℕ × ℕ)) → List (ℕ × ℕ) = λ row. row.now in (
+      (λ n. valued (λ z. pos z) (row_at items c.args.rows.now n)),
+      (λ n. n == 3),
+      rows_graph (λ z. pos z) items c.args.rows.now 0 c.requires.inside c.requires.in_range
+          (λ x l. search rules) (λ x r t l k. (search rules, grind (arith, common_steps, row_at-index))),
+      nat_test (λ n. n == 3) (λ x w. search rules) (λ x r t w k. (search rules, search rules)),
+      unsigned_cost nat_eq (row_at items c.args.rows.now) (0 ∷ []),
+    )
