@@ -6,7 +6,7 @@ use std::test::Fail;
 
 #[test]
 fn cheapest_and_fewest(rt: HostRuntime) -> Result<(), Fail> {
-    // A: B4 C2, B: C1 D5, C: D8 E10, D: E2, as the nodes 0 to 4
+    // a: b4 c2, b: c1 d5, c: d8 e10, d: e2, as the nodes 0 to 4
     let offsets = [0usize, 2, 4, 6, 7, 7];
     let targets = [
         (1usize, 4u32),
