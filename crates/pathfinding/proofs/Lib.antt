@@ -10,5 +10,6 @@ pub mod Callers
 pub mod Rows
 pub mod NameGraph
 pub mod Networks
+pub mod SpanningLemmas
 pub mod Outcomes
 pub mod Tables

@@ -2,6 +2,7 @@
 use Rattle.std.proofs.Common.{◌≡◌, ℕ, ℤ, pos, zero, suc, ◌<◌, ◌==◌, nat_eq, nat_lt, Bool, true, false, cond, List, [], ◌∷◌, map, filter, length, refl, sym, ap, ◌∙◌, arith, subst, Bor, eq-eqb, true≢false}
 use Rattle.std.specs.Prelude.{All}
 use Rattle.std.specs.List.{IsDistinct, AllByRecursion}
+use Rattle.std.specs.Cmp.{IsEquivalence}
 use Rattle.std.specs.Str.{bytes_eq}
 use Rattle.std.specs.Int.{FitsUnsignedBits}
 use Rattle.std.proofs.lemmas.Slice.Eq.{bytes_eq-Decides}
@@ -42,9 +43,20 @@ differs x y apart = by (bytes_eq y x) refl
     by false e = refl
     by true e = absurd (true≢false (sym ((bytes_eq-Decides x y).1 (sym ((bytes_eq-Decides y x).0 e))) ∙ apart))
 
+same_either_way : (x y : List ℕ) (b : Bool) → bytes_eq x y ≡ b → bytes_eq x y ≡ bytes_eq y x
+same_either_way x y true e = e ∙ sym ((bytes_eq-Decides y x).1 (sym ((bytes_eq-Decides x y).0 e)))
+same_either_way x y false e = e ∙ sym (differs x y e)
+
+pub names-equivalence : IsEquivalence bytes_eq
+names-equivalence = record {
+  refl = λ x. (bytes_eq-Decides x x).1 refl;
+  symm = λ x y. same_either_way x y (bytes_eq x y) refl;
+  congr = λ x y z e. ap (λ w. bytes_eq w z) ((bytes_eq-Decides x y).0 e);
+}
+
 module _ (keys : List (Bor (List ℕ))) (distinct : IsDistinct same_key keys) where
   -- numbers are equal where their names are
-  names-same : (a b : ℕ) → a < length keys → b < length keys → nat_eq a b ≡ bytes_eq (name_at keys a) (name_at keys b)
+  pub names-same : (a b : ℕ) → a < length keys → b < length keys → nat_eq a b ≡ bytes_eq (name_at keys a) (name_at keys b)
   names-same a b la lb = by (nat_lt a b) (nat_lt b a) refl refl
     where
       by : (s t : Bool) → nat_lt a b ≡ s → nat_lt b a ≡ t → nat_eq a b ≡ bytes_eq (name_at keys a) (name_at keys b)

@@ -3,9 +3,10 @@ use Rattle.std.specs.Prelude.{◌≡◌, ◌⊎◌, ◌+◌, ℕ, List, [], ◌�
 use Rattle.std.specs.List.{flat_map}
 use Rattle.std.specs.Fmt.{decimal}
 use Rattle.pathfinding.specs.EdgeText.{Edge}
+use Rattle.pathfinding.specs.SpanningText.{AreSpanningLines}
 use Rattle.pathfinding.specs.Roads.{HasNoWalk, IsCheapestPath, HasCostOverflow, IsShortestPath}
 use Rattle.pathfinding.specs.declared.routes.commands.Command.{Command}
-use Rattle.pathfinding.specs.declared.routes.commands.Command.TheVariants.{Dijkstra, Bfs}
+use Rattle.pathfinding.specs.declared.routes.commands.Command.TheVariants.{Dijkstra, Bfs, Kruskal}
 
 -- that there is no path
 abbrev pub none_line : List ℕ
@@ -42,8 +43,10 @@ IsFewestEdgesAnswer edges from to text = (HasNoWalk edges from to × (text ≡ n
 abbrev pub IsAnswer : Command → List Edge → List ℕ → Type 0
 IsAnswer (Dijkstra from to) edges text = IsPathAnswer edges (string_bytes from) (string_bytes to) text
 IsAnswer (Bfs from to) edges text = IsFewestEdgesAnswer edges (string_bytes from) (string_bytes to) text
+IsAnswer Kruskal edges text = AreSpanningLines edges text
 
 -- a sum of costs may be refused
 abbrev pub Overflows : Command → List Edge → Type 0
 Overflows (Dijkstra from to) edges = HasCostOverflow edges (string_bytes from) (string_bytes to)
 Overflows (Bfs from to) edges = ⊥
+Overflows Kruskal edges = ⊥

@@ -6,9 +6,13 @@ pub use Rattle.pf_base.specs.Successors
 pub use Rattle.pf_base.specs.NodeRefs
 pub use Rattle.pf_base.specs.Tallies
 pub use Rattle.pf_base.specs.Moves
+pub use Rattle.pf_graph.specs.Joined
+pub use Rattle.pf_graph.specs.Spanning
+pub use Rattle.pf_graph.specs.Components
 pub mod EdgeText
 pub mod Roads
 pub mod Words
+pub mod SpanningText
 pub mod AnswerText
 pub mod Noted
 pub mod Written

@@ -8,8 +8,17 @@ use Rattle.pathfinding.specs.Graph.{row_of, node_count}
 use Rattle.pathfinding.specs.Links.{name_at, edges_between, AllBelow, steps_from}
 use Rattle.pathfinding.specs.NameTable.{HoldsNames}
 use Rattle.pathfinding.specs.declared.routes.links.Link.{Link}
+use Rattle.pathfinding.specs.declared.routes.network.Linked.{Linked}
 use Rattle.pathfinding.specs.declared.routes.network.Numbered.{Numbered}
 use Rattle.pathfinding.specs.declared.routes.network.Network.{Network}
+
+-- the links are these edges, between the numbers of names that the table has
+pub record LinksEdges {A : Type 0} (linked : Linked A) (edges : List Edge) : Type 0 where
+  pub names : List (Bor (List ℕ))
+  pub kept : HoldsNames linked.names names
+  pub spelled : edges ≡ edges_between names linked.links.items
+  pub below : AllBelow (length names) linked.links.items
+  pub distinct : IsDistinct (λ a b. bytes_eq a.now b.now) names
 
 -- the links are these edges, between the numbers of names that the table has, and the two numbers are those of these names
 pub record NumbersEdges {A : Type 0} (numbered : Numbered A) (edges : List Edge) (from to : List ℕ) : Type 0 where

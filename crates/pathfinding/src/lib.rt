@@ -5,5 +5,6 @@ pub mod directed;
 pub mod matrix;
 pub mod prelude;
 pub mod routes;
+pub mod undirected;
 
 pub use pf_base::{NodeRefs, utils};

@@ -4,6 +4,12 @@ pub use pf_base::utils::{
     InDirection, Tally, constrain, in_direction, move_in_direction, uint_sqrt,
 };
 pub use pf_base::{Cost, NodeRefs, PathError, SignedCost};
+pub use pf_graph::undirected::connected_components::{
+    ConnectedComponents, component_index, components, connected_components, separate_components,
+};
+pub use pf_graph::undirected::kruskal::{
+    Kruskal, KruskalIndices, kruskal, kruskal_indices, spanning_weight,
+};
 pub use pf_matrix::{
     ColumnIterator, Items, ItemsMut, Keys, Matrix, MatrixFormatError, Neighbours, RowIterator,
     directions,

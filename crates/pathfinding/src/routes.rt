@@ -13,6 +13,7 @@ mod network;
 mod noting;
 mod reading;
 mod search;
+mod spanning;
 mod steps;
 #[cfg(test)]
 mod tests;

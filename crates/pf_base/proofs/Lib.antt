@@ -1,3 +1,4 @@
+pub mod Asking
 pub mod Callers
 pub mod Sources
 pub mod Reach

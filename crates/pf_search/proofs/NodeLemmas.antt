@@ -2,11 +2,10 @@
 use Rattle.std.proofs.Common.{◌≡◌, ℕ, zero, suc, ◌<◌, ◌≤◌, ◌+◌, ◌-◌, Bool, true, false, Option, Some, List, [], ◌∷◌, ◌++◌, ◌∙◌, slice_get, length, take, refl, sym, ap, subst, arith, length-append, Bor, inl, inr, ℤ, ◌||◌, true≢false, if◌then◌else◌}
 use Rattle.std.specs.Prelude.{Contains, ◌⊎◌, ◌↔◌}
 use Rattle.std.specs.Cmp.{IsEquivalence}
-use Rattle.std.specs.Iterator.{Count, Drains, IsFiniteIterable}
+use Rattle.std.specs.Iterator.{Count}
 use Rattle.std.specs.Fn.{Called, Mut}
 use Rattle.std.specs.List.{IsDistinct, AllByRecursion, list_any}
 use Rattle.indexmap.specs.IndexSet.{insert_key}
-use Rattle.std.proofs.iter.runs.Made.{run, to_end, seen}
 use Rattle.std.proofs.lemmas.List.{take-append-le}
 use Rattle.std.proofs.lemmas.List.Elements.{Contains-append_left, Contains-push}
 use Rattle.std.proofs.lemmas.Option.{slice_get_within}
@@ -15,30 +14,13 @@ use Rattle.std.proofs.lemmas.Map.Made.{length-le_from_is_member}
 use Rattle.pf_base.specs.Walks.{HasNode, IsAtMostNumberOf, Follows, IsWalk, end_of, BeginsAt, EndsAt}
 use Rattle.pf_base.specs.NodeRefs.{HasSameNodes}
 use Rattle.pf_base.specs.Edges.{HasEdge, IsSuccessor, InReach}
-use Rattle.pf_base.specs.Answers.{ListsEdges, Gives, Answers, AnswersGraph, AnswersTest}
+use Rattle.pf_base.specs.Answers.{ListsEdges, AnswersGraph, AnswersTest}
+use Rattle.pf_base.proofs.Asking.{Answers-on}
 use Rattle.pf_search.specs.Numbered.{ListsSteps, Grows}
 use Rattle.pf_search.specs.NodeLaws.{StandsFor-one}
 use Rattle.pf_search.specs.Nodes.{NodeGraph, StandsFor, IsStep, AddsNode, NumbersItems, AddedFrom, Explores}
 use Rattle.pf_search.proofs.ListLemmas.{Contains-head, Contains-tail, Contains-cases, get-append_cases, take_get, get_take, none_in}
 use Rattle.pf_search.proofs.FrontierLemmas.{end_more}
-
-module _ {F N R : Type 0} (g : Mut F (Bor N × Unit {0}) R) (within : N → Type 0) (gives : N → R → Type 0) where
-  pub Answers-takes : {f : F} → Answers g within gives f → (x : Bor N) → within x.now → g.pre f (x, tt)
-  Answers-takes h x w = (h.at (x ∷ []) w).0
-
-  pub Answers-gives : {f : F} → Answers g within gives f → (x : Bor N) → within x.now → (r : R) (f' : F) → Called g f (x, tt) r f' → gives x.now r
-  Answers-gives h x w r f' k = ((h.at (x ∷ []) w).1 r f' k).0
-
-  pub Answers-on : {f : F} → Answers g within gives f → (x : Bor N) → within x.now → (r : R) (f' : F) → Called g f (x, tt) r f' → Answers g within gives f'
-  Answers-on h x w r f' k = record { at = λ xs. ((h.at (x ∷ xs) w).1 r f' k).1 }
-
--- what is drained from an answer is what it gives
-pub Gives-drains : {I S A : Type 0} (becomes : I → S → Type 0) (can : S → Type 0) (left : S → Count) (steps : S → Option A → S → Type 0) (P : List A → Type 0) (r : I) → Gives becomes can left steps P r
-    → (it : S) (xs : List A) → becomes r it → Drains steps it xs → P xs
-Gives-drains becomes can left steps P r g it xs b d = g.items it b (run steps it xs true (to_end steps it xs d)) (seen (length xs)) refl refl
-
-pub Gives-ends : {I S A : Type 0} (becomes : I → S → Type 0) (can : S → Type 0) (left : S → Count) (steps : S → Option A → S → Type 0) (P : List A → Type 0) (r : I) → Gives becomes can left steps P r → IsFiniteIterable becomes can left r
-Gives-ends becomes can left steps P r g it b = (g.can_next it b, g.finite it b)
 
 or_left : (a b : Bool) → a || b ≡ false → a ≡ false
 or_left true b h = absurd (true≢false h)

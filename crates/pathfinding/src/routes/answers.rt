@@ -12,6 +12,7 @@ use crate::routes::error::RouteError;
 use crate::routes::name_table::NameTable;
 use crate::routes::network::Network;
 use crate::routes::search::{cheapest_path, fewest_edges_path};
+use crate::routes::spanning::spanning_lines;
 use std::alloc::{AllocError, Allocator};
 
 /// A number and names on a line, as `11: A B`.
@@ -89,5 +90,6 @@ pub(crate) fn answer_to<A: Allocator + Copy>(
         Command::Bfs { from, to } => {
             fewest_edges_line(alloc, from.as_bytes(), to.as_bytes(), text)
         }
+        Command::Kruskal => spanning_lines(alloc, text),
     }
 }

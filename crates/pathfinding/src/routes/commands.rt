@@ -17,4 +17,6 @@ pub enum Command {
         /// The name of the last node.
         to: String,
     },
+    /// Spanning edges of least weight.
+    Kruskal,
 }

@@ -10,6 +10,28 @@ use crate::routes::name_table::NameTable;
 use indexmap::IndexSet;
 use std::alloc::Allocator;
 
+/// Names, and the links between their numbers.
+#[derive(Drop)]
+pub(crate) struct Linked<A: Allocator + Copy> {
+    pub(crate) names: NameTable<A>,
+    pub(crate) links: Vec<Link, A>,
+}
+
+impl<A: Allocator + Copy> Linked<A> {
+    ghost use Rattle.pathfinding.specs.Network.{LinksEdges};
+
+    /// The edges of a text, by the numbers of their names.
+    pub(crate) fn read(alloc: A, text: &[u8]) -> Result<Self, RouteError>
+        ensures ok { IfOk result (λ linked. HoldsOfEdges text.now (λ edges. LinksEdges linked edges)) }
+        ensures err { IfErr result (λ e. RefusesText e text.now) }
+    {
+        let mut names = IndexSet::new(alloc);
+        let links = read_links(alloc, &mut names, text)?;
+        let names = NameTable::of(alloc, names.as_slice())?;
+        Ok(Linked { names, links })
+    }
+}
+
 /// Names, the links between their numbers, and the numbers of the two names that a command asks about.
 #[derive(Drop)]
 struct Numbered<A: Allocator + Copy> {

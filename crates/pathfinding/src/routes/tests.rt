@@ -79,7 +79,7 @@ fn run_over(alloc: Global, command: &Command, text: &[u8]) -> (Result<(), RouteE
 
 #[test]
 fn answers_are_written(rt: HostRuntime) -> Result<(), Fail> {
-    let cases: [(&str, &[u8], &[u8]); 13] = [
+    let cases: [(&str, &[u8], &[u8]); 16] = [
         ("dijkstra A E", SEVEN, b"11: A B D E\n"),
         ("dijkstra A A", b"", b"0: A\n"),
         ("dijkstra a c", b"", b"none\n"),
@@ -97,6 +97,13 @@ fn answers_are_written(rt: HostRuntime) -> Result<(), Fail> {
             b"a b 18446744073709551615\nb c 1\n",
             b"2: a b c\n",
         ),
+        (
+            "kruskal",
+            b"a b 3\na e 1\nb c 5\nb e 4\nc d 2\nc e 6\nd e 7\n",
+            b"a e 1\nc d 2\na b 3\nb c 5\n",
+        ),
+        ("kruskal", b"", b""),
+        ("kruskal", b"a a 1\n", b""),
     ];
     for (line, text, want) in cases {
         let command = asked(rt.alloc(), line)?.ok_or("no command")?;
@@ -151,6 +158,9 @@ fn wrong_words_are_no_command(rt: HostRuntime) -> Result<(), Fail> {
         "dijkstra a ",
         "dijkstra a\tb c",
         "dijkstra a b\u{7f}",
+        "kruskal a",
+        "kruskal a b",
+        "Kruskal",
         "",
     ];
     for line in wrong {

@@ -1,6 +1,6 @@
 //! Commands from the words of a command line.
 
-ghost use Rattle.std.specs.Prelude.{◌≡◌, ◌↔◌, ◌&&◌, Bool, map, string_bytes, IsTrue, IsSome, IfSome};
+ghost use Rattle.std.specs.Prelude.{◌≡◌, ◌↔◌, ◌&&◌, ◌∷◌, [], Bool, map, string_bytes, IsTrue, IsSome, IfSome};
 ghost use Rattle.pathfinding.specs.Words.{is_field, is_command, words_of};
 
 use crate::routes::bytes::are_visible;
@@ -13,7 +13,34 @@ fn is_name(text: &str) -> bool
     !text.is_empty() && are_visible(text.as_bytes())
 }
 
-/// The command that the words after the program's name spell, as `dijkstra A B` or `bfs A B`.
+/// The command of this name about no names of nodes.
+fn plain_command(name: &str) -> Option<Command>
+    ensures spelled { IsSome result ↔ IsTrue (is_command (name.now ∷ [])) }
+    ensures words { IfSome result (λ c. words_of c ≡ name.now ∷ []) }
+{
+    match name {
+        "kruskal" => Some(Command::Kruskal),
+        _ => None,
+    }
+}
+
+/// The command of this name about two names of nodes.
+fn path_command(name: &str, from: String, to: String) -> Option<Command>
+    ensures spelled { IsSome result ↔ IsTrue (is_command (name.now ∷ string_bytes from ∷ string_bytes to ∷ [])) }
+    ensures words { IfSome result (λ c. words_of c ≡ name.now ∷ string_bytes from ∷ string_bytes to ∷ []) }
+{
+    if !is_name(from.as_str()) || !is_name(to.as_str()) {
+        return None;
+    }
+    match name {
+        "dijkstra" => Some(Command::Dijkstra { from, to }),
+        "bfs" => Some(Command::Bfs { from, to }),
+        _ => None,
+    }
+}
+
+/// The command that the words after the program's name spell, as `dijkstra A B`, `bfs A B` or
+/// `kruskal`.
 ///
 /// `None` means wrong words: too few or too many of them, an unknown command, or a name that is not
 /// one or more of the bytes `!` to `~`. No memory is taken.
@@ -22,20 +49,9 @@ pub fn command(words: Vec<String>) -> Option<Command>
     ensures words { IfSome result (λ c. words_of c ≡ map string_bytes words.items) }
 {
     let mut words = words.into_iter();
-    let (Some(name), Some(from), Some(to), None) = (
-        words.next(),
-        words.next(),
-        words.next(),
-        words.next(),
-    ) else {
-        return None;
-    };
-    if !is_name(from.as_str()) || !is_name(to.as_str()) {
-        return None;
-    }
-    match name.as_str() {
-        "dijkstra" => Some(Command::Dijkstra { from, to }),
-        "bfs" => Some(Command::Bfs { from, to }),
+    match (words.next(), words.next(), words.next(), words.next()) {
+        (Some(name), None, _, _) => plain_command(name.as_str()),
+        (Some(name), Some(from), Some(to), None) => path_command(name.as_str(), from, to),
         _ => None,
     }
 }

@@ -2,7 +2,8 @@ use Rattle.std.proofs.Common.{rules, ◌≡◌, sym, subst, Some, Bor, slice_get
 use Rattle.pf_base.specs.Edges.{InReach}
 use Rattle.pf_search.specs.NodeLaws.{StandsFor-one}
 use Rattle.pf_search.proofs.ListLemmas.{at_place, on_ok, ok_or_err}
-use Rattle.pf_search.proofs.NodeLemmas.{fresh_number, Answers-takes, Answers-gives, Explores-called, Gives-ends, Gives-drains, Grows-from_take, inside_of, Lists-from, reached_added}
+use Rattle.pf_base.proofs.Asking.{Answers-takes, Answers-gives, Gives-ends, Gives-drains}
+use Rattle.pf_search.proofs.NodeLemmas.{fresh_number, Explores-called, Grows-from_take, inside_of, Lists-from, reached_added}
 use Rattle.pf_search.proofs.discovery.DiscoveryNumberedGraph.expand.Goals as goal
 
 pub successors-items-requires : goal.successors-items-requires

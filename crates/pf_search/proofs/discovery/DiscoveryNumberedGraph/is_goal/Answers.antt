@@ -1,7 +1,8 @@
 use Rattle.std.proofs.Common.{rules, ◌≡◌, ◌∙◌, sym, subst, Some, Bor, slice_get}
 use Rattle.pf_base.specs.Edges.{InReach}
 use Rattle.pf_search.proofs.ListLemmas.{at_place}
-use Rattle.pf_search.proofs.NodeLemmas.{Answers-takes, Answers-gives, Answers-on, test_at}
+use Rattle.pf_base.proofs.Asking.{Answers-takes, Answers-gives, Answers-on}
+use Rattle.pf_search.proofs.NodeLemmas.{test_at}
 use Rattle.pf_search.proofs.discovery.DiscoveryNumberedGraph.is_goal.Goals as goal
 
 pub success-requires : goal.success-requires

@@ -4,7 +4,8 @@ use Rattle.pf_search.specs.NodeLaws.{StandsFor-one}
 use Rattle.pf_search.specs.Hops.{unit_edges, unit_graph, with_ones}
 use Rattle.std.specs.Prelude.{pos}
 use Rattle.pf_search.proofs.ListLemmas.{at_place, on_ok, ok_or_err}
-use Rattle.pf_search.proofs.NodeLemmas.{fresh_number, Answers-takes, Answers-gives, Answers-on, Gives-ends, Gives-drains, Grows-from_take, inside_of, Lists-from, reached_added}
+use Rattle.pf_base.proofs.Asking.{Answers-takes, Answers-gives, Answers-on, Gives-ends, Gives-drains}
+use Rattle.pf_search.proofs.NodeLemmas.{fresh_number, Grows-from_take, inside_of, Lists-from, reached_added}
 use Rattle.pf_search.proofs.UnitLemmas.{hops_alike, lists_ones}
 use Rattle.pf_search.proofs.hops.HopDiscoveryNumberedGraphU8.expand.Goals as goal
 

@@ -2,7 +2,8 @@ use Rattle.std.proofs.Common.{rules, ◌≡◌, ◌∙◌, sym, subst, Some, Bor
 use Rattle.pf_base.specs.Edges.{InReach}
 use Rattle.pf_search.specs.Hops.{unit_edges}
 use Rattle.pf_search.proofs.ListLemmas.{at_place}
-use Rattle.pf_search.proofs.NodeLemmas.{Answers-takes, Answers-gives, Answers-on, test_at}
+use Rattle.pf_base.proofs.Asking.{Answers-takes, Answers-gives, Answers-on}
+use Rattle.pf_search.proofs.NodeLemmas.{test_at}
 use Rattle.pf_search.proofs.hops.HopDiscoveryNumberedGraphU8.is_goal.Goals as goal
 
 pub success-requires : goal.success-requires

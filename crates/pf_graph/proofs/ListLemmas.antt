@@ -1,0 +1,98 @@
+-- Lemmas on lists.
+use Rattle.std.proofs.Common.{ℕ, zero, suc, ◌<◌, ◌≡◌, ◌≢◌, refl, ◌∙◌, ap, subst, arith, Bool, true, false, List, [], ◌∷◌, ◌++◌, length, inl, inr, Some}
+use Rattle.std.specs.List.{AllZip}
+use Rattle.std.proofs.lemmas.Option.{slice_get-get_or, slice_get_within, get_or_from_slice_get}
+use Rattle.std.specs.Prelude.{slice_get, slice_set, Contains, ◌⊎◌}
+
+pub nat_dec : (j k : ℕ) → (j ≡ k) ⊎ (j ≢ k)
+nat_dec zero zero = inl refl
+nat_dec zero (suc k) = inr (omega arith)
+nat_dec (suc j) zero = inr (omega arith)
+nat_dec (suc j) (suc k) = elim (nat_dec j k) as (λ _. (suc j ≡ suc k) ⊎ (suc j ≢ suc k)) [ inl e ↦ inl (ap suc e) | inr e ↦ inr (omega (arith, e)) ]
+
+pub bool_dec : (b : Bool) → (b ≡ true) ⊎ (b ≡ false)
+bool_dec true = inl refl
+bool_dec false = inr refl
+
+pub none_in : {A : Type 0} (k : ℕ) (m : A) → slice_get [] k ≡ Some m → ⊥
+none_in zero m h = cc
+none_in (suc k) m h = cc
+
+-- the element at i after a write at n
+pub get_set : {A : Type 0} (xs : List A) (n i : ℕ) (v : A) → n < length xs → ((i ≡ n) × (slice_get (slice_set xs n v) i ≡ Some v)) ⊎ ((i ≢ n) × (slice_get (slice_set xs n v) i ≡ slice_get xs i))
+get_set [] n i v h = absurd (omega arith)
+get_set (x ∷ xs) zero zero v h = inl (refl, refl)
+get_set (x ∷ xs) zero (suc i) v h = inr (omega arith, refl)
+get_set (x ∷ xs) (suc n) zero v h = inr (omega arith, refl)
+get_set (x ∷ xs) (suc n) (suc i) v h = elim (get_set xs n i v (omega arith)) as (λ _. ((suc i ≡ suc n) × (slice_get (slice_set (x ∷ xs) (suc n) v) (suc i) ≡ Some v)) ⊎ ((suc i ≢ suc n) × (slice_get (slice_set (x ∷ xs) (suc n) v) (suc i) ≡ slice_get (x ∷ xs) (suc i)))) [
+  | inl r ↦ inl (ap suc r.0, r.1)
+  | inr r ↦ inr (omega (arith, r.0), r.1)
+]
+
+-- the element at i after one more is put at the end
+pub get_push : {A : Type 0} (xs : List A) (x : A) (i : ℕ) (m : A) → slice_get (xs ++ x ∷ []) i ≡ Some m → (slice_get xs i ≡ Some m) ⊎ ((i ≡ length xs) × (x ≡ m))
+get_push [] x zero m h = inr (refl, (cc))
+get_push [] x (suc i) m h = absurd (none_in i m h)
+get_push (y ∷ ys) x zero m h = inl h
+get_push (y ∷ ys) x (suc i) m h = elim (get_push ys x i m h) as (λ _. (slice_get (y ∷ ys) (suc i) ≡ Some m) ⊎ ((suc i ≡ length (y ∷ ys)) × (x ≡ m))) [ inl e ↦ inl e | inr e ↦ inr (ap suc e.0, e.1) ]
+
+pub get_append : {A : Type 0} (xs ys : List A) (k : ℕ) (m : A) → slice_get xs k ≡ Some m → slice_get (xs ++ ys) k ≡ Some m
+get_append [] ys k m h = absurd (none_in k m h)
+get_append (x ∷ xs) ys zero m h = h
+get_append (x ∷ xs) ys (suc k) m h = get_append xs ys k m h
+
+pub get_at_end : {A : Type 0} (xs : List A) (x : A) → slice_get (xs ++ x ∷ []) (length xs) ≡ Some x
+get_at_end [] x = refl
+get_at_end (y ∷ ys) x = get_at_end ys x
+
+pub get_within : {A : Type 0} (xs : List A) (i : ℕ) → i < length xs → (m : A) × (slice_get xs i ≡ Some m)
+get_within [] i h = absurd (omega arith)
+get_within (x ∷ xs) zero h = (x, refl)
+get_within (x ∷ xs) (suc i) h = get_within xs i (omega arith)
+
+-- ---- two lists place by place
+
+module _ {A B : Type 0} (R : A → B → Type 0) where
+  pub zip_push : (xs : List A) (ys : List B) (x : A) (y : B) → AllZip R xs ys → R x y → AllZip R (xs ++ x ∷ []) (ys ++ y ∷ [])
+  zip_push [] [] x y z r = (r, z)
+  zip_push [] (b ∷ qs) x y z r = absurd z
+  zip_push (a ∷ ps) [] x y z r = absurd z
+  zip_push (a ∷ ps) (b ∷ qs) x y z r = (z.0, zip_push ps qs x y z.1 r)
+
+  pub zip_get : (xs : List A) (ys : List B) (i : ℕ) (y : B) → AllZip R xs ys → slice_get ys i ≡ Some y → (x : A) × (slice_get xs i ≡ Some x) × R x y
+  zip_get [] [] i y z h = absurd (none_in i y h)
+  zip_get [] (b ∷ qs) i y z h = absurd z
+  zip_get (a ∷ ps) [] i y z h = absurd z
+  zip_get (a ∷ ps) (b ∷ qs) zero y z h = let e : Some b ≡ Some y = h in let f : b ≡ y = cc in (a, refl, subst (λ u. R a u) f z.0)
+  zip_get (a ∷ ps) (b ∷ qs) (suc i) y z h = zip_get ps qs i y z.1 h
+
+  pub zip_get_left : (xs : List A) (ys : List B) (i : ℕ) (x : A) → AllZip R xs ys → slice_get xs i ≡ Some x → (y : B) × (slice_get ys i ≡ Some y) × R x y
+  zip_get_left [] [] i x z h = absurd (none_in i x h)
+  zip_get_left [] (b ∷ qs) i x z h = absurd z
+  zip_get_left (a ∷ ps) [] i x z h = absurd z
+  zip_get_left (a ∷ ps) (b ∷ qs) zero x z h = let e : Some a ≡ Some x = h in let f : a ≡ x = cc in (b, refl, subst (λ u. R u b) f z.0)
+  zip_get_left (a ∷ ps) (b ∷ qs) (suc i) x z h = zip_get_left ps qs i x z.1 h
+
+  pub zip_append : (xs us : List A) (ys vs : List B) → AllZip R xs ys → AllZip R us vs → AllZip R (xs ++ us) (ys ++ vs)
+  zip_append [] us [] vs z w = w
+  zip_append [] us (b ∷ qs) vs z w = absurd z
+  zip_append (a ∷ ps) us [] vs z w = absurd z
+  zip_append (a ∷ ps) us (b ∷ qs) vs z w = (z.0, zip_append ps us qs vs z.1 w)
+
+  pub zip_split : (xs : List A) (before : List B) (y : B) (after : List B) → AllZip R xs (before ++ y ∷ after) → (front : List A) × (x : A) × (back : List A) × (xs ≡ front ++ x ∷ back) × AllZip R front before × R x y × AllZip R back after
+  zip_split [] [] y after z = absurd z
+  zip_split [] (b ∷ qs) y after z = absurd z
+  zip_split (a ∷ ps) [] y after z = ([], a, ps, refl, tt, z.0, z.1)
+  zip_split (a ∷ ps) (b ∷ qs) y after z = let r = zip_split ps qs y after z.1 in (a ∷ r.0, r.1, r.2, ap (λ us. a ∷ us) r.3, (z.0, r.4), r.5, r.6)
+
+  pub zip_length : (xs : List A) (ys : List B) → AllZip R xs ys → length xs ≡ length ys
+  zip_length [] [] z = refl
+  zip_length [] (b ∷ qs) z = absurd z
+  zip_length (a ∷ ps) [] z = absurd z
+  zip_length (a ∷ ps) (b ∷ qs) z = ap suc (zip_length ps qs z.1)
+
+pub get_contains : {A : Type 0} (xs : List A) (i : ℕ) (x : A) → slice_get xs i ≡ Some x → Contains xs x
+get_contains xs i x h = (i, slice_get_within xs i x h, get_or_from_slice_get xs i x x h)
+
+pub contains_get : {A : Type 0} (xs : List A) (x : A) → Contains xs x → (i : ℕ) × (slice_get xs i ≡ Some x)
+contains_get xs x h = (h.0, slice_get-get_or xs h.0 x h.1 ∙ ap Some h.2)

@@ -1,0 +1,9 @@
+use Rattle.pf_graph.specs.UnionFind.{IsSound}
+use Rattle.pf_graph.proofs.KruskalLemmas.{Grown}
+use Rattle.pf_graph.proofs.undirected.spanning.choose_edges.Given as goal
+
+abbrev pub invariant-edges : goal.invariant-edges
+invariant-edges g l = record {
+  sound : IsSound l.vertices;
+  grown : Grown g.C.Ord.cmp l.yielded l.chosen.items l.vertices;
+}

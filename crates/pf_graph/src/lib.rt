@@ -1,0 +1,4 @@
+//! Orders, components, spanning edges, flows and matchings.
+#![tactic(auto)]
+
+pub mod undirected;

@@ -1,0 +1,23 @@
+//! Laws of the definitions of undirected graphs, for proofs about programs that use them.
+//!
+//! A call adds its law to what the caller's proof knows. It does nothing when it runs.
+
+ghost use Rattle.std.specs.Prelude.{◌≡◌, ◌≤ℤ◌, List};
+ghost use Rattle.pf_graph.specs.Spanning.{IsForest, IsLeastUnderEveryBound, AreChosenFrom, JoinTheSame, weight_sum};
+
+use pf_base::Cost;
+use std::marker::PhantomData;
+
+/// A forest that is least under every weight bound weighs at most as much as every forest of the
+/// given edges that joins the same nodes.
+///
+/// So the edges of `kruskal` and `kruskal_indices` have least total weight, where the weights are
+/// costs. Only forests are compared: where weights are below zero, a choice with cycles could weigh
+/// less.
+pub fn least_total_weight<N: Eq, C: Cost>(_of: PhantomData<(N, C)>)
+    ensures { (edges chosen other : List (N × N × C))
+        → IsForest N.eq chosen → IsLeastUnderEveryBound N.eq C.cmp edges chosen
+        → IsForest N.eq other → AreChosenFrom (λ w u. u ≡ w) edges other
+        → JoinTheSame N.eq chosen other
+        → weight_sum C.value chosen ≤ℤ weight_sum C.value other }
+{}

@@ -1,0 +1,44 @@
+//! Edges between named nodes, numbered.
+
+ghost use Rattle.std.specs.Prelude.{◌≡◌, List, length, IfOk, IfErr};
+ghost use Rattle.std.specs.Borrow.{Bor};
+ghost use Rattle.pf_base.specs.declared.error.PathError.TheVariants.{OutOfMemory};
+ghost use Rattle.pf_graph.specs.Numbered.{IsNumbered};
+
+use crate::undirected::weighed::Weighed;
+use indexmap::IndexSet;
+use pf_base::PathError;
+use std::alloc::Allocator;
+use std::hash::Hash;
+
+/// The number of nodes that edges stand between, and the edges, each with the numbers of its ends.
+#[derive(Drop)]
+pub struct Numbered<'a, N, C, A: Allocator> {
+    pub count: usize,
+    pub edges: Vec<(usize, usize, Weighed<'a, N, C>), A>,
+}
+
+/// Numbers the ends of edges from 0 on, in the order in which they first stand. A node is looked up
+/// once for each edge end.
+pub fn number_edges<'a, N, C, A>(
+    alloc: A,
+    edges: &'a [(N, N, C)],
+) -> Result<Numbered<'a, N, C, A>, PathError>
+where
+    N: Eq + Hash,
+    A: Allocator + Copy,
+    ensures numbered { IfOk result (λ r. (nodes : List (Bor N)) × (length nodes ≡ r.count) × IsNumbered N.eq nodes edges.now r.edges.items) }
+    ensures refused { IfErr result (λ e. e ≡ OutOfMemory) }
+{
+    let mut nodes = IndexSet::new(alloc);
+    let mut numbered = Vec::with_capacity(alloc, edges.len())?;
+    for edge in edges {
+        let from = nodes.insert_full(&edge.0)?.0;
+        let to = nodes.insert_full(&edge.1)?.0;
+        numbered.push((from, to, Weighed { edge }))?;
+    }
+    Ok(Numbered {
+        count: nodes.len(),
+        edges: numbered,
+    })
+}

@@ -1,0 +1,90 @@
+//! A forest of edges between numbered vertices that is least under every weight bound.
+
+ghost use Rattle.std.specs.Prelude.{◌≡◌, ◌↔◌, ℕ, [], Contains, IfOk, IfErr, OnOk, IsTrue, nat_eq, length};
+ghost use Rattle.std.specs.List.Sorted.{IsSorted};
+ghost use Rattle.pf_base.specs.declared.error.PathError.TheVariants.{OutOfMemory};
+ghost use Rattle.pf_graph.specs.Spanning.{IsForest, IsLeastUnderEveryBound, HoldsCopies, AreBelow};
+ghost use Rattle.pf_graph.specs.UnionFind.{IsSound, IsLabelling};
+
+use crate::undirected::union_find::{Vertex, apart, unite};
+use pf_base::PathError;
+use std::alloc::Allocator;
+
+/// Whether both ends of each edge are below `count`.
+pub fn are_below<C>(count: usize, edges: &[(usize, usize, C)]) -> bool
+    ensures { IsTrue result ↔ AreBelow count edges.now }
+{
+    edges.iter().all(|edge| edge.0 < count && edge.1 < count)
+}
+
+/// A copy of the edges, by rising weight.
+pub fn sorted_by_weight<C, A>(
+    alloc: A,
+    edges: &[(usize, usize, C)],
+) -> Result<Vec<(usize, usize, C), A>, PathError>
+where
+    C: Clone + Ord,
+    A: Allocator + Copy,
+    ensures copies { IfOk result (λ sorted. HoldsCopies C.is_clone edges.now sorted.items) }
+    ensures sorted { IfOk result (λ sorted. IsSorted (λ e f. C.cmp e.2 f.2) sorted.items) }
+    ensures refused { IfErr result (λ e. e ≡ OutOfMemory) }
+{
+    let mut sorted = Vec::with_capacity(alloc, edges.len())?;
+    for edge in edges {
+        sorted.push((edge.0, edge.1, edge.2.clone()?))?;
+    }
+    sorted.sort_unstable_by(|one, other| one.2.cmp(&other.2));
+    Ok(sorted)
+}
+
+/// Puts the edges of `sorted` whose ends no edges before them join to the end of `chosen`, and makes
+/// one part of the parts of their ends.
+fn choose_edges<C, A>(
+    vertices: &mut [Vertex],
+    sorted: Vec<(usize, usize, C), A>,
+    chosen: &mut Vec<(usize, usize, C), A>,
+) -> Result<(), PathError>
+where
+    C: Ord + Drop,
+    A: Allocator + Copy,
+    requires sound { IsSound vertices.old }
+    requires apart { IsLabelling (λ x. x) vertices.old }
+    requires below { AreBelow (length vertices.old) sorted.items }
+    requires sorted { IsSorted (λ e f. C.cmp e.2 f.2) sorted.items }
+    requires none { chosen.old.items ≡ [] }
+    ensures forest { OnOk result (IsForest nat_eq chosen.new.items) }
+    ensures least { OnOk result (IsLeastUnderEveryBound nat_eq C.cmp sorted.items chosen.new.items) }
+    ensures given { OnOk result ((e : ℕ × ℕ × C) → Contains chosen.new.items e → Contains sorted.items e) }
+    ensures sorted { OnOk result (IsSorted (λ e f. C.cmp e.2 f.2) chosen.new.items) }
+    ensures refused { IfErr result (λ e. e ≡ OutOfMemory) }
+{
+    'edges: for edge in sorted {
+        if unite(vertices, edge.0, edge.1) {
+            chosen.push(edge)?;
+        }
+    }
+    Ok(())
+}
+
+/// The edges of `sorted` whose ends no edges before them join (Kruskal 1956).
+pub fn spanning_forest<C, A>(
+    alloc: A,
+    number_of_nodes: usize,
+    sorted: Vec<(usize, usize, C), A>,
+) -> Result<Vec<(usize, usize, C), A>, PathError>
+where
+    C: Ord + Drop,
+    A: Allocator + Copy,
+    requires below { AreBelow number_of_nodes sorted.items }
+    requires sorted { IsSorted (λ e f. C.cmp e.2 f.2) sorted.items }
+    ensures forest { IfOk result (λ chosen. IsForest nat_eq chosen.items) }
+    ensures least { IfOk result (λ chosen. IsLeastUnderEveryBound nat_eq C.cmp sorted.items chosen.items) }
+    ensures given { IfOk result (λ chosen. (e : ℕ × ℕ × C) → Contains chosen.items e → Contains sorted.items e) }
+    ensures sorted { IfOk result (λ chosen. IsSorted (λ e f. C.cmp e.2 f.2) chosen.items) }
+    ensures refused { IfErr result (λ e. e ≡ OutOfMemory) }
+{
+    let mut vertices = apart(alloc, number_of_nodes)?;
+    let mut chosen = Vec::with_capacity(alloc, number_of_nodes.min(sorted.len()))?;
+    choose_edges(&mut vertices, sorted, &mut chosen)?;
+    Ok(chosen)
+}

@@ -1,0 +1,3 @@
+mod around;
+mod refusals;
+mod rows;

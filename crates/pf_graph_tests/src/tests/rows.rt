@@ -1,0 +1,148 @@
+//! Worked examples of components and spanning edges.
+
+use pf_base::PathError;
+use pf_graph::undirected::connected_components::{
+    ConnectedComponents, MapIn, component_index, components, separate_components,
+};
+use pf_graph::undirected::kruskal::{kruskal, kruskal_indices, spanning_weight};
+use std::alloc::Global;
+use std::collections::HashSet;
+use std::test::Fail;
+
+const SEVEN: [(char, char, u32); 7] = [
+    ('a', 'b', 3),
+    ('a', 'e', 1),
+    ('b', 'c', 5),
+    ('b', 'e', 4),
+    ('c', 'd', 2),
+    ('c', 'e', 6),
+    ('d', 'e', 7),
+];
+
+#[test]
+fn chooses_four_of_seven_edges(rt: HostRuntime) -> Result<(), Fail> {
+    let edges = SEVEN;
+    let mut chosen = kruskal(rt.alloc(), &edges)?;
+    assert_eq!(rt; chosen.next(), Some((&'a', &'e', 1)));
+    assert_eq!(rt; chosen.next(), Some((&'c', &'d', 2)));
+    assert_eq!(rt; chosen.next(), Some((&'a', &'b', 3)));
+    assert_eq!(rt; chosen.next(), Some((&'b', &'c', 5)));
+    assert_eq!(rt; chosen.next(), None);
+    assert_eq!(rt; chosen.next(), None);
+    assert_eq!(rt; spanning_weight(rt.alloc(), &edges)?, 11);
+    Ok(())
+}
+
+#[test]
+fn chooses_nothing_of_no_edges_and_of_a_self_edge(rt: HostRuntime) -> Result<(), Fail> {
+    let none: [(char, char, u32); 0] = [];
+    assert_eq!(rt; kruskal(rt.alloc(), &none)?.next(), None);
+    assert_eq!(rt; spanning_weight(rt.alloc(), &none)?, 0);
+    assert_eq!(rt; kruskal(rt.alloc(), &[('a', 'a', 1u32)])?.next(), None);
+    Ok(())
+}
+
+#[test]
+fn refuses_an_unknown_vertex(rt: HostRuntime) -> Result<(), Fail> {
+    let answer = kruskal_indices(rt.alloc(), 2, &[(0, 2, 1u8)]);
+    assert!(rt; matches!(answer, Err(PathError::UnknownVertex)));
+    let mut chosen = kruskal_indices(rt.alloc(), 3, &[(0, 2, 2u8), (2, 0, 1), (1, 1, 0)])?;
+    assert_eq!(rt; chosen.next(), Some((2, 0, 1)));
+    assert_eq!(rt; chosen.next(), None);
+    Ok(())
+}
+
+#[test]
+fn adds_weights_of_either_sign(rt: HostRuntime) -> Result<(), Fail> {
+    let edges = [('a', 'b', 5u32), ('c', 'a', 1)];
+    assert_eq!(rt; spanning_weight(rt.alloc(), &edges)?, 6);
+    let edges = [('a', 'b', -100i8), ('b', 'c', -100), ('c', 'd', 127)];
+    assert_eq!(rt; spanning_weight(rt.alloc(), &edges)?, -73);
+    let edges = [('a', 'b', 200u8), ('b', 'c', 100)];
+    let answer = spanning_weight(rt.alloc(), &edges);
+    assert!(rt; matches!(answer, Err(PathError::CostOverflow)));
+    let edges = [('a', 'a', -5i32), ('a', 'b', 2), ('b', 'a', 1)];
+    assert_eq!(rt; spanning_weight(rt.alloc(), &edges)?, 1);
+    Ok(())
+}
+
+fn id_of(of_vertex: &MapIn<&u32, usize, Global>, vertex: &u32) -> Option<usize> {
+    of_vertex.get(&vertex).copied()
+}
+
+#[test]
+fn separates_groups(rt: HostRuntime) -> Result<(), Fail> {
+    let alloc = rt.alloc();
+    let groups = [
+        vec![in alloc; 1u32, 2]?,
+        vec![in alloc; 3, 4]?,
+        Vec::new(alloc),
+        vec![in alloc; 1, 4]?,
+    ];
+    let (of_vertex, ids) = separate_components(alloc, &groups)?;
+    assert_eq!(rt; ids.len(), 4);
+    assert!(rt; ids[0] < 4);
+    assert_eq!(rt; ids[1], ids[0]);
+    assert_eq!(rt; ids[2], usize::MAX);
+    assert_eq!(rt; ids[3], ids[0]);
+    assert_eq!(rt; of_vertex.len(), 4);
+    let vertices = [1u32, 2, 3, 4];
+    for vertex in &vertices {
+        assert_eq!(rt; id_of(&of_vertex, vertex), Some(ids[0]));
+    }
+    Ok(())
+}
+
+#[test]
+fn collects_the_parts_of_groups(rt: HostRuntime) -> Result<(), Fail> {
+    let alloc = rt.alloc();
+    let groups = [
+        vec![in alloc; 1u32, 2]?,
+        vec![in alloc; 3, 4]?,
+        Vec::new(alloc),
+        vec![in alloc; 1, 4]?,
+        vec![in alloc; 5, 5]?,
+    ];
+    let sets = components(alloc, &groups)?;
+    assert_eq!(rt; sets.len(), 2);
+    let of_node = component_index(alloc, &sets)?;
+    assert_eq!(rt; of_node.len(), 5);
+    assert_eq!(rt; sets[0].len() + sets[1].len(), 5);
+    let vertices = [1u32, 2, 3, 4];
+    for vertex in &vertices {
+        assert_eq!(rt; of_node.get(vertex), of_node.get(&1));
+    }
+    assert_ne!(rt; of_node.get(&5), of_node.get(&1));
+    Ok(())
+}
+
+#[test]
+fn names_the_last_set_of_a_node(rt: HostRuntime) -> Result<(), Fail> {
+    let alloc = rt.alloc();
+    let mut one = HashSet::new(alloc);
+    one.insert(1u32)?;
+    one.insert(2)?;
+    let mut other = HashSet::new(alloc);
+    other.insert(2u32)?;
+    other.insert(3)?;
+    let of_node = component_index(alloc, &[one, other])?;
+    assert_eq!(rt; of_node.len(), 3);
+    assert_eq!(rt; of_node.get(&1), Some(&0));
+    assert_eq!(rt; of_node.get(&2), Some(&1));
+    assert_eq!(rt; of_node.get(&3), Some(&1));
+    Ok(())
+}
+
+#[test]
+fn answers_by_the_type_of_nodes(rt: HostRuntime) -> Result<(), Fail> {
+    let alloc = rt.alloc();
+    let groups = [vec![in alloc; 'a', 'b']?, vec![in alloc; 'b']?];
+    let (of_vertex, ids) = ConnectedComponents::<char>::separate_components(alloc, &groups)?;
+    assert_eq!(rt; of_vertex.len(), 2);
+    assert_eq!(rt; ids.len(), 2);
+    let sets = ConnectedComponents::<char>::components(alloc, &groups)?;
+    assert_eq!(rt; sets.len(), 1);
+    let of_node = ConnectedComponents::<char>::component_index(alloc, &sets)?;
+    assert_eq!(rt; of_node.get(&'b'), Some(&0));
+    Ok(())
+}
