@@ -1,6 +1,7 @@
 //! The positions of a matrix with their values, for writing.
 
 ghost use Rattle.std.specs.Prelude.{◌≡◌};
+ghost use Rattle.std.specs.Borrow.{sem};
 ghost use Rattle.std.specs.Iterator.{YieldsFirstBy, item_count};
 ghost use Rattle.std.specs.Slice.Iter.{iter_mut_rest};
 ghost use Rattle.pf_matrix.specs.Positions.{items_of};
@@ -18,11 +19,12 @@ pub struct ItemsMut<'a, C> {
 }
 
 impl<C, A: Allocator> Matrix<C, A> {
-    ghost use Rattle.pf_matrix.specs.ItemsMut.{items_mut_rest};
+    ghost use Rattle.pf_matrix.specs.ItemsMut.{items_mut_rest, lends_items};
 
     /// Each position with a `&mut` to its value, the first row first.
     pub fn items_mut(&mut self) -> ItemsMut<'_, C>
-        ensures { items_mut_rest result ≡ items_of self.old }
+        ensures* writes_back { sem 𝓛 (lends_items C.row A.row A.Allocator self.entry result) }
+        ensures items { items_mut_rest result ≡ items_of self.old }
     {
         ItemsMut {
             keys: self.keys(),

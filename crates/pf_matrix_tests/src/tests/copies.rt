@@ -15,6 +15,15 @@ fn turns_copies(rt: HostRuntime) -> Result<(), Fail> {
 }
 
 #[test]
+fn copies_of_even_turns(rt: HostRuntime) -> Result<(), Fail> {
+    let m = six(rt.alloc())?;
+    assert!(rt; shows(&m.rotated_cw(4)?, 2, 3, &[1, 2, 3, 4, 5, 6]));
+    assert!(rt; shows(&m.rotated_ccw(0)?, 2, 3, &[1, 2, 3, 4, 5, 6]));
+    assert!(rt; shows(&m.rotated_ccw(2)?, 2, 3, &[6, 5, 4, 3, 2, 1]));
+    Ok(())
+}
+
+#[test]
 fn flips_copies(rt: HostRuntime) -> Result<(), Fail> {
     let m = six(rt.alloc())?;
     assert!(rt; shows(&m.flipped_lr()?, 2, 3, &[3, 2, 1, 6, 5, 4]));

@@ -1,6 +1,7 @@
 //! The texts of the refusals.
 
 use pf_matrix::MatrixFormatError;
+use std::alloc::AllocError;
 use std::test::Fail;
 
 #[test]
@@ -20,4 +21,12 @@ fn refusals_have_their_texts(rt: HostRuntime) -> Result<(), Fail> {
         assert_eq!(rt; format!(in rt.alloc(); "{error}")?.as_str(), text);
     }
     Ok(())
+}
+
+#[test]
+fn want_of_memory_is_named(rt: HostRuntime) {
+    assert_eq!(rt;
+        MatrixFormatError::from(AllocError),
+        MatrixFormatError::OutOfMemory
+    );
 }

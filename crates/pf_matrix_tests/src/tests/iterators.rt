@@ -1,6 +1,6 @@
 //! Iteration, from both ends.
 
-use super::{four, six};
+use super::{four, shows_column, six};
 use pf_matrix::{Matrix, matrix};
 use std::test::Fail;
 
@@ -57,6 +57,17 @@ fn columns_from_both_ends(rt: HostRuntime) -> Result<(), Fail> {
     assert_eq!(rt; last.last().map(|x| **x), Some(4));
     assert!(rt; columns.next().is_none());
     assert!(rt; columns.next_back().is_none());
+    Ok(())
+}
+
+#[test]
+fn columns_in_order(rt: HostRuntime) -> Result<(), Fail> {
+    let m = six(rt.alloc())?;
+    let mut columns = m.column_iter();
+    assert!(rt; shows_column(&columns.next().ok_or("no column")??, &[1, 4]));
+    assert!(rt; shows_column(&columns.next().ok_or("no column")??, &[2, 5]));
+    assert!(rt; shows_column(&columns.next().ok_or("no column")??, &[3, 6]));
+    assert!(rt; columns.next().is_none() && columns.next_back().is_none());
     Ok(())
 }
 

@@ -1,7 +1,7 @@
 //! How matrices are made.
 
 use super::shows;
-use pf_matrix::{Matrix, MatrixFormatError, matrix};
+use pf_matrix::{Matrix, MatrixFormatError, from_slices, matrix};
 use std::test::Fail;
 
 #[test]
@@ -80,6 +80,8 @@ fn refuses_rows_of_another_length(rt: HostRuntime) -> Result<(), Fail> {
     let rows = vec![in rt.alloc(); vec![in rt.alloc(); 1u8, 2]?, vec![in rt.alloc(); 3]?]?;
     let answer = Matrix::from_rows(rt.alloc(), rows);
     assert_eq!(rt; answer.err(), Some(MatrixFormatError::WrongLength));
+    let empty = Matrix::from_rows(rt.alloc(), [[0u8; 0]; 2]);
+    assert_eq!(rt; empty.err(), Some(MatrixFormatError::EmptyRow));
     Ok(())
 }
 
@@ -89,6 +91,7 @@ fn macro_makes_of_rows(rt: HostRuntime) -> Result<(), Fail> {
     assert!(rt; shows(&m, 2, 2, &[1, 2, 3, 4]));
     assert!(rt; m == matrix![in rt.alloc(); 1, 2,; 3, 4;]?);
     assert!(rt; shows(&matrix![in rt.alloc()]?, 0, 0, &[]));
+    assert!(rt; m == from_slices(rt.alloc(), &[&[1, 2], &[3, 4]])?);
     Ok(())
 }
 

@@ -1,9 +1,8 @@
 //! What a matrix is asked.
 
-use super::{four, six};
+use super::{four, hash_of, six};
 use pf_matrix::Matrix;
 use pf_matrix::directions::{DIRECTIONS_4, DIRECTIONS_8, SE};
-use std::hash::{DefaultHasher, Hash, Hasher};
 use std::test::Fail;
 
 #[test]
@@ -79,12 +78,6 @@ fn negates(rt: HostRuntime) -> Result<(), Fail> {
     let m = -Matrix::from_vec(1, 2, vec![in rt.alloc(); 1i8, -2]?)?;
     assert_eq!(rt; m.as_slice(), [-1, 2].as_slice());
     Ok(())
-}
-
-fn hash_of<T: Hash>(value: &T) -> u64 {
-    let mut state = DefaultHasher::new();
-    value.hash(&mut state);
-    state.finish()
 }
 
 #[test]

@@ -3,16 +3,15 @@
 
 ghost use Rattle.std.specs.Prelude.{◌≡◌};
 
-use super::{four, shows, six};
+use super::{shows, six};
 use pf_matrix::{Matrix, MatrixFormatError, matrix};
 use refusing_allocator::Refusing;
 use std::alloc::{Allocator, Global};
 use std::process::Abort;
-use std::test::Fail;
 
 /// How a call ended.
 #[derive(Clone, Copy, Debug, PartialEq, Eq)]
-enum Outcome {
+pub(super) enum Outcome {
     /// It answered want of memory.
     OutOfMemory,
     /// It answered as it does with ample memory.
@@ -23,7 +22,7 @@ enum Outcome {
 
 /// Runs a call with growth 0, 1, 2, .. refused alone, until a run meets no refusal, and answers how
 /// many growths that run made. Each run before it has to answer want of memory.
-fn refuse_each_growth<F>(rt: &impl Abort, alloc: Global, mut call: F) -> u64
+pub(super) fn refuse_each_growth<F>(rt: &impl Abort, alloc: Global, mut call: F) -> u64
 where
     F: FnMut(&Refusing<Global>, u64) -> Outcome,
     requires { F.IsAlwaysCallable call }
@@ -54,8 +53,8 @@ fn outcome_of<A: Allocator>(
     }
 }
 
-/// The outcome of a copy, where the matrix is still [[1, 2, 3], [4, 5, 6]].
-fn kept<A: Allocator>(matrix: &Matrix<u8, A>, outcome: Outcome) -> Outcome {
+/// The outcome of a call, where the matrix is still [[1, 2, 3], [4, 5, 6]].
+pub(super) fn kept<A: Allocator>(matrix: &Matrix<u8, A>, outcome: Outcome) -> Outcome {
     if shows(matrix, 2, 3, &[1, 2, 3, 4, 5, 6]) {
         outcome
     } else {
@@ -234,6 +233,22 @@ fn cloned(heap: &Refusing<Global>, growth: u64) -> Outcome {
     }
 }
 
+fn copied(heap: &Refusing<Global>, growth: u64) -> Outcome {
+    let Ok(matrix) = six(heap) else {
+        return Outcome::Wrong;
+    };
+    heap.refuse(growth, 1);
+    kept(
+        &matrix,
+        outcome_of(matrix.rotated_ccw(4), 2, 3, &[1, 2, 3, 4, 5, 6]),
+    )
+}
+
+fn made_of_long_rows(heap: &Refusing<Global>, growth: u64) -> Outcome {
+    heap.refuse(growth, 1);
+    outcome_of(Matrix::from_rows(heap, [[7u8; 40]; 2]), 2, 40, &[7; 80])
+}
+
 #[test]
 fn makers_refuse_each_growth(rt: HostRuntime) {
     assert!(rt;
@@ -259,6 +274,13 @@ fn makers_refuse_each_growth(rt: HostRuntime) {
         ) > 0
     );
     assert!(rt; refuse_each_growth(&rt, rt.alloc(), |heap, growth| made_of_rows(heap, growth)) > 0);
+    assert!(rt;
+        refuse_each_growth(
+            &rt,
+            rt.alloc(),
+            |heap, growth| made_of_long_rows(heap, growth)
+        ) > 1
+    );
 }
 
 #[test]
@@ -267,6 +289,7 @@ fn copies_refuse_each_growth(rt: HostRuntime) {
     assert!(rt; refuse_each_growth(&rt, rt.alloc(), |heap, growth| turned(heap, growth)) > 0);
     assert!(rt; refuse_each_growth(&rt, rt.alloc(), |heap, growth| turned_back(heap, growth)) > 0);
     assert!(rt; refuse_each_growth(&rt, rt.alloc(), |heap, growth| turned_about(heap, growth)) > 0);
+    assert!(rt; refuse_each_growth(&rt, rt.alloc(), |heap, growth| copied(heap, growth)) > 0);
 }
 
 #[test]
@@ -289,82 +312,4 @@ fn mutators_refuse_each_growth(rt: HostRuntime) {
             |heap, growth| transposed_in_place(heap, growth)
         ) > 0
     );
-}
-
-#[test]
-fn a_refused_column_leaves_the_others(rt: HostRuntime) -> Result<(), Fail> {
-    let heap = Refusing::new(rt.alloc());
-    let matrix = four(&heap)?;
-    heap.refuse(0, 1);
-    let mut columns = matrix.column_iter();
-    let refused = columns.next().ok_or("no column")?;
-    assert_eq!(rt; refused.err(), Some(MatrixFormatError::OutOfMemory));
-    let second = columns.next().ok_or("no column")??;
-    assert_eq!(rt; second.last().map(|x| **x), Some(4));
-    assert!(rt; columns.next().is_none());
-    Ok(())
-}
-
-#[test]
-fn readers_take_no_memory(rt: HostRuntime) -> Result<(), Fail> {
-    let heap = Refusing::new(rt.alloc());
-    let matrix = four(&heap)?;
-    heap.refuse(0, u64::MAX);
-    let empty: Matrix<u8, &Refusing<Global>> = Matrix::new_empty(&heap, 3);
-    assert!(rt; empty.is_empty() && matrix.is_square());
-    assert_eq!(rt; matrix.keys().last(), Some((1, 1)));
-    assert!(rt; matrix.items().last().is_some() && matrix.values().last().is_some());
-    assert!(rt; matrix.iter().next().is_some() && matrix.neighbours((0, 0), true).next().is_some());
-    assert!(rt; matrix == matrix && heap.pending() == u64::MAX);
-    Ok(())
-}
-
-#[test]
-fn writers_in_place_take_no_memory(rt: HostRuntime) -> Result<(), Fail> {
-    let heap = Refusing::new(rt.alloc());
-    let mut matrix = four(&heap)?;
-    heap.refuse(0, u64::MAX);
-    matrix.transpose()?;
-    assert!(rt; shows(&matrix, 2, 2, &[1, 3, 2, 4]));
-    matrix.flip_lr();
-    matrix.flip_ud();
-    assert!(rt; shows(&matrix, 2, 2, &[4, 2, 3, 1]));
-    assert!(rt; heap.pending() == u64::MAX);
-    Ok(())
-}
-
-#[test]
-fn turns_in_place_take_no_memory(rt: HostRuntime) -> Result<(), Fail> {
-    let heap = Refusing::new(rt.alloc());
-    let mut matrix = four(&heap)?;
-    heap.refuse(0, u64::MAX);
-    matrix.rotate_cw(1);
-    assert!(rt; shows(&matrix, 2, 2, &[3, 1, 4, 2]));
-    assert!(rt; heap.pending() == u64::MAX);
-    Ok(())
-}
-
-#[test]
-fn lists_become_matrices_without_memory(rt: HostRuntime) -> Result<(), Fail> {
-    let heap = Refusing::new(rt.alloc());
-    let values = vec![in &heap; 1u8, 2, 3, 4]?;
-    let others = vec![in &heap; 1u8, 2, 3, 4]?;
-    heap.refuse(0, u64::MAX);
-    assert!(rt; Matrix::from_vec(2, 2, values)? == Matrix::square_from_vec(others)?);
-    assert!(rt; heap.pending() == u64::MAX);
-    Ok(())
-}
-
-#[test]
-fn writes_at_positions_take_no_memory(rt: HostRuntime) -> Result<(), Fail> {
-    let heap = Refusing::new(rt.alloc());
-    let mut matrix = four(&heap)?;
-    let part = four(&heap)?;
-    heap.refuse(0, u64::MAX);
-    matrix.swap((0, 0), (1, 1));
-    matrix.set_slice((1, 1), &part);
-    matrix[(0, 1)] = 9;
-    assert!(rt; shows(&matrix, 2, 2, &[4, 9, 3, 1]));
-    assert!(rt; heap.pending() == u64::MAX);
-    Ok(())
 }

@@ -1,6 +1,7 @@
 //! Writes in place.
 
 use super::{four, shows, six};
+use crate::callers::clear_first_column;
 use pf_matrix::{Matrix, MatrixFormatError, matrix};
 use std::test::Fail;
 
@@ -30,6 +31,14 @@ fn writes_all_values(rt: HostRuntime) -> Result<(), Fail> {
     }
     m.as_mut_slice().reverse();
     assert!(rt; shows(&m, 2, 2, &[5, 6, 5, 5]));
+    Ok(())
+}
+
+#[test]
+fn a_caller_clears_a_column(rt: HostRuntime) -> Result<(), Fail> {
+    let mut m = six(rt.alloc())?;
+    clear_first_column(&mut m);
+    assert!(rt; shows(&m, 2, 3, &[0, 2, 3, 0, 5, 6]));
     Ok(())
 }
 
