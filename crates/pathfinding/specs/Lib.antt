@@ -8,6 +8,7 @@ pub use Rattle.pf_base.specs.Tallies
 pub use Rattle.pf_base.specs.Moves
 pub use Rattle.pf_graph.specs.Joined
 pub use Rattle.pf_graph.specs.Spanning
+pub use Rattle.pf_graph.specs.GrownTree
 pub use Rattle.pf_graph.specs.Components
 pub mod EdgeText
 pub mod Roads

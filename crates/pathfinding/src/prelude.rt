@@ -10,6 +10,7 @@ pub use pf_graph::undirected::connected_components::{
 pub use pf_graph::undirected::kruskal::{
     Kruskal, KruskalIndices, kruskal, kruskal_indices, spanning_weight,
 };
+pub use pf_graph::undirected::prim::prim;
 pub use pf_matrix::{
     ColumnIterator, Items, ItemsMut, Keys, Matrix, MatrixFormatError, Neighbours, RowIterator,
     directions,

@@ -1,3 +1,3 @@
 //! Algorithms on undirected graphs.
 
-pub use pf_graph::undirected::{connected_components, kruskal, laws};
+pub use pf_graph::undirected::{connected_components, kruskal, laws, prim};

@@ -9,7 +9,7 @@ use Rattle.pf_graph.specs.Spanning.{Links, JoinedBy, IsForest}
 use Rattle.pf_graph.proofs.JoinedLemmas.{Joined-more, Joined-split}
 
 -- an element of a list with one more at its end is in the list or is that one
-split_push : {E : Type 0} (xs before after : List E) (x e : E) → xs ++ x ∷ [] ≡ before ++ e ∷ after
+pub split_push : {E : Type 0} (xs before after : List E) (x e : E) → xs ++ x ∷ [] ≡ before ++ e ∷ after
     → ((xs ≡ before) × (x ≡ e) × (after ≡ [])) ⊎ ((rest : List E) × (xs ≡ before ++ e ∷ rest) × (after ≡ rest ++ x ∷ []))
 split_push [] [] after x e h = let k : x ∷ [] ≡ e ∷ after = h in inl (refl, (cc), (cc))
 split_push [] (b ∷ []) after x e h = let k : x ∷ [] ≡ b ∷ e ∷ after = h in absurd (cc)

@@ -9,23 +9,13 @@ use Rattle.std.proofs.lemmas.Cmp.{int_ranked}
 use Rattle.std.proofs.lemmas.List.{append-nil}
 use Rattle.std.proofs.lemmas.List.Elements.{Contains-append_left, Contains-append_right, Contains-append_cases}
 use Rattle.pf_graph.specs.Joined.{same, linked, back, chain}
-use Rattle.pf_graph.specs.Spanning.{Links, LinksUnder, JoinedBy, IsForest, IsLeastUnderEveryBound, AreChosenFrom, JoinTheSame, weight_sum}
-use Rattle.pf_graph.proofs.ListLemmas.{bool_dec}
+use Rattle.pf_graph.specs.Spanning.{Links, LinksUnder, JoinedBy, JoinedUnder, IsForest, IsLeastUnderEveryBound, AreChosenFrom, JoinTheSame, weight_sum}
+use Rattle.pf_graph.proofs.ListLemmas.{bool_dec, contains_here, contains_later, contains_cons}
 use Rattle.pf_graph.proofs.JoinedLemmas.{Joined-by, Joined-more, Joined-split}
 use Rattle.pf_graph.proofs.ForestLemmas.{link_of, JoinedBy-more}
 use Rattle.pf_graph.proofs.OrderLemmas.{gt_false, not_gt}
 
 -- ---- lists
-
-contains_here : {A : Type 0} (x : A) (xs : List A) → Contains (x ∷ xs) x
-contains_here x xs = (0, omega arith, refl)
-
-contains_later : {A : Type 0} (x y : A) (xs : List A) → Contains xs y → Contains (x ∷ xs) y
-contains_later x y xs h = (suc h.0, omega (arith, h.1), h.2)
-
-contains_cons : {A : Type 0} (x y : A) (xs : List A) → Contains (x ∷ xs) y → (x ≡ y) ⊎ Contains xs y
-contains_cons x y xs (zero, l, e) = inl e
-contains_cons x y xs (suc k, l, e) = inr (k, omega (arith, l), e)
 
 contains_middle : {A : Type 0} (xs : List A) (x : A) (ys : List A) → Contains (xs ++ x ∷ ys) x
 contains_middle xs x ys = Contains-append_right xs (x ∷ ys) x (contains_here x ys)
@@ -329,17 +319,15 @@ module _ {N C : Type 0} {eq : N → N → Bool} (laws : IsEquivalence eq) {cmp :
     | inr d ↦ let r = value_in es z d in (r.0, contains_later e r.0 es r.1, r.2)
   ]
 
-  pub least_total : (edges chosen other : List (N × N × C)) → IsForest eq chosen → IsLeastUnderEveryBound eq cmp edges chosen → IsForest eq other → AreChosenFrom (λ (w u : C). u ≡ w) edges other → JoinTheSame eq chosen other
+  -- a forest whose edges within each bound join the ends of another forest's edges within it
+  pub least_by : (chosen other : List (N × N × C)) → IsForest eq chosen → IsForest eq other → ((w : C) (f : N × N × C) → Contains other f → cmp f.2 w ≢ Greater → JoinedUnder eq cmp w chosen f.0 f.1) → JoinTheSame eq chosen other
       → weight_sum value chosen ≤ℤ weight_sum value other
-  least_total edges chosen other forest least forest' given alike =
-      let in_edges : (f : N × N × C) → Contains other f → Links edges f.0 f.1 = λ f c. let r = given.as_written f c in (r.0, r.1, r.2, r.3) in
+  least_by chosen other forest forest' joins alike =
       let under : (w : C) (f : N × N × C) → Contains (light w other) f → JoinedBy eq (light w chosen) f.0 f.1 = λ w f c.
       let p = filter_in (λ (e : N × N × C). not (is_gt (cmp e.2 w))) other f c in
-      let r = given.as_written f p.0 in
       let low_f : cmp f.2 w ≢ Greater = not_gt (cmp f.2 w) (not_true (is_gt (cmp f.2 w)) p.1) in
-      let low_g : cmp r.0.2 w ≢ Greater = subst (λ (u : C). cmp u w ≢ Greater) r.4 low_f in
       Joined-more (λ (a b : N) (l : LinksUnder cmp w chosen a b). (l.0, in_filter (λ (e : N × N × C). not (is_gt (cmp e.2 w))) chosen l.0 l.1 (within (cmp l.0.2 w) l.2), l.3, l.4))
-      (least.joins w f.0 f.1 (linked (r.0, r.1, low_g, r.2, r.3))) in
+      (joins w f p.0 low_f) in
       let counts : (w : C) → length (light w other) ≤ length (light w chosen) = λ w. no_longer laws (light w other) (light w chosen) (acyclic_filter laws (λ (e : N × N × C). not (is_gt (cmp e.2 w))) other (acyclic_forest laws other forest')) (under w) in
       let as_long : length chosen ≤ length other = no_longer laws chosen other (acyclic_forest laws chosen forest) (λ f c. (alike.same_nodes f.0 f.1).0 (linked (link_of chosen f c))) in
       let as_short : length other ≤ length chosen = no_longer laws other chosen (acyclic_forest laws other forest') (λ f c. (alike.same_nodes f.0 f.1).1 (linked (link_of other f c))) in
@@ -352,3 +340,9 @@ module _ {N C : Type 0} {eq : N → N → Bool} (laws : IsEquivalence eq) {cmp :
       let k = light_length e.0.2 chosen in
       subst (λ (z : ℤ). low z (values other) ≤ low z (values chosen)) e.2 (omega (arith, n, l, k))) in
       subst (λ (z : ℤ). z ≤ℤ weight_sum value other) (sym (sum_is chosen)) (subst (λ (z : ℤ). total (values chosen) ≤ℤ z) (sym (sum_is other)) d)
+
+  pub least_total : (edges chosen other : List (N × N × C)) → IsForest eq chosen → IsLeastUnderEveryBound eq cmp edges chosen → IsForest eq other → AreChosenFrom (λ (w u : C). u ≡ w) edges other → JoinTheSame eq chosen other
+      → weight_sum value chosen ≤ℤ weight_sum value other
+  least_total edges chosen other forest least forest' given alike = least_by chosen other forest forest' (λ w f c low.
+      let r = given.as_written f c in
+      least.joins w f.0 f.1 (linked (r.0, r.1, subst (λ (u : C). cmp u w ≢ Greater) r.4 low, r.2, r.3))) alike

@@ -17,3 +17,9 @@ pub mod WeightLemmas
 pub mod IndexLemmas
 pub mod CollectLemmas
 pub mod AroundLemmas
+pub mod TreeLemmas
+pub mod FrontierLemmas
+pub mod StepLemmas
+pub mod GrowLemmas
+pub mod PrimLemmas
+pub mod TreeLawLemmas

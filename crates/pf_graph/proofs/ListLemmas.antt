@@ -1,5 +1,5 @@
 -- Lemmas on lists.
-use Rattle.std.proofs.Common.{ℕ, zero, suc, ◌<◌, ◌≡◌, ◌≢◌, refl, ◌∙◌, ap, subst, arith, Bool, true, false, List, [], ◌∷◌, ◌++◌, length, inl, inr, Some}
+use Rattle.std.proofs.Common.{ℕ, zero, suc, ◌<◌, ◌≡◌, ◌≢◌, refl, sym, ◌∙◌, ap, subst, arith, Bool, true, false, List, [], ◌∷◌, ◌++◌, length, take, replicate, ◌-◌, get_or, inl, inr, Some}
 use Rattle.std.specs.List.{AllZip}
 use Rattle.std.proofs.lemmas.Option.{slice_get-get_or, slice_get_within, get_or_from_slice_get}
 use Rattle.std.specs.Prelude.{slice_get, slice_set, Contains, ◌⊎◌}
@@ -96,3 +96,25 @@ get_contains xs i x h = (i, slice_get_within xs i x h, get_or_from_slice_get xs 
 
 pub contains_get : {A : Type 0} (xs : List A) (x : A) → Contains xs x → (i : ℕ) × (slice_get xs i ≡ Some x)
 contains_get xs x h = (h.0, slice_get-get_or xs h.0 x h.1 ∙ ap Some h.2)
+
+pub contains_here : {A : Type 0} (x : A) (xs : List A) → Contains (x ∷ xs) x
+contains_here x xs = (0, omega arith, refl)
+
+pub contains_later : {A : Type 0} (x y : A) (xs : List A) → Contains xs y → Contains (x ∷ xs) y
+contains_later x y xs h = (suc h.0, omega (arith, h.1), h.2)
+
+pub contains_cons : {A : Type 0} (x y : A) (xs : List A) → Contains (x ∷ xs) y → (x ≡ y) ⊎ Contains xs y
+contains_cons x y xs (zero, l, e) = inl e
+contains_cons x y xs (suc k, l, e) = inr (k, omega (arith, l), e)
+
+-- the element that is read at i
+pub get_here : {A : Type 0} (xs : List A) (i : ℕ) (x : A) → i < length xs → x ≡ get_or xs i x → slice_get xs i ≡ Some x
+get_here xs i x h e = slice_get-get_or xs i x h ∙ ap Some (sym e)
+
+take_none : {A : Type 0} (n : ℕ) → ◌≡◌ {A = List A} (take n []) []
+take_none zero = refl
+take_none (suc n) = refl
+
+-- what fills up an empty list
+pub resized : {A : Type 0} (n : ℕ) (xs after : List A) (m : ℕ) (v : A) → xs ≡ [] → m ≡ 0 → after ≡ take n xs ++ replicate (n - m) v → after ≡ replicate n v
+resized n xs after m v e f h = h ∙ ap (λ ys. take n ys ++ replicate (n - m) v) e ∙ ap (λ ys. ys ++ replicate (n - m) v) (take_none n) ∙ ap (λ (k : ℕ). replicate k v) (omega (arith, f))

@@ -5,3 +5,5 @@ pub mod Numbered
 pub mod Components
 pub mod Around
 pub mod Parts
+pub mod GrownTree
+pub mod Frontier

@@ -1,3 +1,4 @@
 mod around;
+mod prim;
 mod refusals;
 mod rows;

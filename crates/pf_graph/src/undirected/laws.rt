@@ -3,6 +3,7 @@
 //! A call adds its law to what the caller's proof knows. It does nothing when it runs.
 
 ghost use Rattle.std.specs.Prelude.{◌≡◌, ◌≤ℤ◌, List};
+ghost use Rattle.pf_graph.specs.GrownTree.{GrowsByLeast, IsLeastAround, AreChosenEitherWay};
 ghost use Rattle.pf_graph.specs.Spanning.{IsForest, IsLeastUnderEveryBound, AreChosenFrom, JoinTheSame, weight_sum};
 
 use pf_base::Cost;
@@ -20,4 +21,17 @@ pub fn least_total_weight<N: Eq, C: Cost>(_of: PhantomData<(N, C)>)
         → IsForest N.eq other → AreChosenFrom (λ w u. u ≡ w) edges other
         → JoinTheSame N.eq chosen other
         → weight_sum C.value chosen ≤ℤ weight_sum C.value other }
+{}
+
+/// A tree that is grown from a start by the least edge that leaves it, as `prim` grows it, weighs at
+/// most as much as every forest of the given edges that joins the same nodes.
+///
+/// Only forests are compared, as in `least_total_weight`.
+pub fn least_tree_weight<N: Eq + Ord, C: Cost>(_of: PhantomData<(N, C)>)
+    ensures { (edges tree other : List (N × N × C)) (start : N)
+        → GrowsByLeast N.eq N.cmp C.cmp edges start tree → IsForest N.eq tree
+        → IsLeastAround N.eq C.cmp edges start tree → AreChosenEitherWay C.is_clone edges tree
+        → IsForest N.eq other → AreChosenFrom (λ w u. u ≡ w) edges other
+        → JoinTheSame N.eq tree other
+        → weight_sum C.value tree ≤ℤ weight_sum C.value other }
 {}

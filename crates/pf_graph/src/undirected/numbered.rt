@@ -1,6 +1,6 @@
 //! Edges between named nodes, numbered.
 
-ghost use Rattle.std.specs.Prelude.{◌≡◌, List, length, IfOk, IfErr};
+ghost use Rattle.std.specs.Prelude.{◌≡◌, List, length, map, IfOk, IfErr};
 ghost use Rattle.std.specs.Borrow.{Bor};
 ghost use Rattle.pf_base.specs.declared.error.PathError.TheVariants.{OutOfMemory};
 ghost use Rattle.pf_graph.specs.Numbered.{IsNumbered};
@@ -28,6 +28,7 @@ where
     N: Eq + Hash,
     A: Allocator + Copy,
     ensures numbered { IfOk result (λ r. (nodes : List (Bor N)) × (length nodes ≡ r.count) × IsNumbered N.eq nodes edges.now r.edges.items) }
+    ensures in_order { IfOk result (λ r. map (λ e. e.2.edge.now) r.edges.items ≡ edges.now) }
     ensures refused { IfErr result (λ e. e ≡ OutOfMemory) }
 {
     let mut nodes = IndexSet::new(alloc);

@@ -7,6 +7,7 @@ use pf_graph::undirected::connected_components::{
     component_index, components, separate_components,
 };
 use pf_graph::undirected::kruskal::{kruskal, kruskal_indices, spanning_weight};
+use pf_graph::undirected::prim::prim;
 use refusing_allocator::Refusing;
 use std::alloc::{Allocator, Global};
 use std::process::Abort;
@@ -89,6 +90,20 @@ fn weight_outcome<A: Allocator + Copy>(alloc: A) -> Outcome {
     }
 }
 
+fn tree_outcome<A: Allocator + Copy>(alloc: A) -> Outcome {
+    match prim(alloc, &EDGES) {
+        Ok(tree) => {
+            if tree.as_slice() == [(&0, &2, 3), (&2, &1, 1)].as_slice() {
+                Outcome::Answered
+            } else {
+                Outcome::Wrong
+            }
+        }
+        Err(PathError::OutOfMemory) => Outcome::OutOfMemory,
+        Err(_) => Outcome::Wrong,
+    }
+}
+
 fn groups_outcome<A: Allocator + Copy>(alloc: A, groups: &[Vec<u32>]) -> Outcome {
     match separate_components(alloc, groups) {
         Ok((of_vertex, ids)) if of_vertex.len() == 4 && ids.len() == 4 => Outcome::Answered,
@@ -118,6 +133,13 @@ fn spanning_edges_refuse_each_growth(rt: HostRuntime) -> Result<(), Fail> {
     assert!(rt; refuse_each_growth(&rt, rt.alloc(), |heap| indices_outcome(heap)) > 2);
     assert!(rt; refuse_each_growth(&rt, rt.alloc(), |heap| names_outcome(heap)) > 4);
     assert!(rt; refuse_each_growth(&rt, rt.alloc(), |heap| weight_outcome(heap)) > 4);
+    Ok(())
+}
+
+#[test]
+fn a_grown_tree_refuses_each_growth(rt: HostRuntime) -> Result<(), Fail> {
+    assert_eq!(rt; tree_outcome(rt.alloc()), Outcome::Answered);
+    assert!(rt; refuse_each_growth(&rt, rt.alloc(), |heap| tree_outcome(heap)) > 8);
     Ok(())
 }
 

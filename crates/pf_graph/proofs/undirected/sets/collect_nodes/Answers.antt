@@ -1,17 +1,10 @@
-use Rattle.std.proofs.Common.{◌≡◌, sym, subst, ap, ◌∙◌, [], None, length, replicate, ◌-◌, ◌++◌, ℕ, zero, suc, List, take, arith, refl}
+use Rattle.std.proofs.Common.{◌≡◌, sym, subst, ap, ◌∙◌, [], None, length, replicate}
 use Rattle.std.specs.HashSet.{contains}
 use Rattle.std.proofs.lemmas.List.{length-replicate}
 use Rattle.pf_graph.specs.Parts.{IsCollected}
+use Rattle.pf_graph.proofs.ListLemmas.{resized}
 use Rattle.pf_graph.proofs.CollectLemmas.{IsCollected-none, no_place}
 use Rattle.pf_graph.proofs.undirected.sets.collect_nodes.Goals as goal
-
-take_none : {A : Type 0} (n : ℕ) → ◌≡◌ {A = List A} (take n []) []
-take_none zero = refl
-take_none (suc n) = refl
-
--- what fills up an empty list
-resized : {A : Type 0} (n : ℕ) (xs after : List A) (m : ℕ) (v : A) → xs ≡ [] → m ≡ 0 → after ≡ take n xs ++ replicate (n - m) v → after ≡ replicate n v
-resized n xs after m v e f h = h ∙ ap (λ ys. take n ys ++ replicate (n - m) v) e ∙ ap (λ ys. ys ++ replicate (n - m) v) (take_none n) ∙ ap (λ (k : ℕ). replicate k v) (omega (arith, f))
 
 pub collect_into-requires-clause-below : goal.collect_into-requires-clause-below
 collect_into-requires-clause-below g c = λ k d l id e.

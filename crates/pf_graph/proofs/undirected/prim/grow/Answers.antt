@@ -1,0 +1,62 @@
+use Rattle.std.proofs.Common.{◌<◌, ◌∙◌, sym, ap, subst, ℕ, length, length-set, true}
+use Rattle.std.specs.Prelude.{map, slice_set}
+use Rattle.std.specs.BinaryHeap.{heap_items}
+use Rattle.std.proofs.lemmas.List.{map-append}
+use Rattle.pf_graph.specs.Numbered.{shown}
+use Rattle.pf_graph.specs.Frontier.{WaitsSave, IsGrown}
+use Rattle.pf_graph.proofs.FrontierLemmas.{open_count, open_less, WaitsSave-start, WaitsSave-taken}
+use Rattle.pf_graph.proofs.GrowLemmas.{IsGrown-start, IsGrown-push, IsGrown-end}
+use Rattle.pf_graph.proofs.undirected.prim.grow.Goals as goal
+
+pub cover-requires-clause-waits : goal.cover-requires-clause-waits
+cover-requires-clause-waits g c = subst (λ q. WaitsSave c.args.rows.now c.args.covered.now c.args.start q) (sym c.new-queue.ensures.items) (WaitsSave-start c.args.rows.now c.args.covered.now c.args.start c.requires.none)
+
+pub turns-init : goal.turns-init
+turns-init g c =
+    let e = c.in_ok-cover.ensures in
+    record {
+      len = ap length e.covered ∙ length-set c.args.covered.now c.args.start true ∙ c.requires.len;
+      ordered = e.ordered;
+      waits = e.waits;
+      grown = λ nodes edges x r at.
+          subst (λ bs. IsGrown g.N.PartialEq.eq g.N.Ord.cmp g.C.Ord.cmp g.C.Clone.is_clone nodes edges x bs (map shown c.new-tree.result.items)) (sym e.covered)
+          (subst (λ es. IsGrown g.N.PartialEq.eq g.N.Ord.cmp g.C.Ord.cmp g.C.Clone.is_clone nodes edges x (slice_set c.args.covered.now c.args.start true) (map shown es)) (sym c.new-tree.ensures.items)
+          (IsGrown-start g.met.N.Eq.laws nodes g.met.C.Ord.total edges c.args.rows.now r x c.args.covered.now c.args.start (subst (λ (n : ℕ). c.args.start < n) (sym c.requires.len) c.requires.inside) c.requires.none at));
+    }
+
+pub next_leaving-requires-clause-inside : goal.next_leaving-requires-clause-inside
+next_leaving-requires-clause-inside g c = λ r h.
+    let w = c.turns.invariant.waits.from r h in
+    subst (λ (n : ℕ). r.0.number < n) (sym c.turns.invariant.len) (c.requires.steps w.0 r.0 w.2)
+
+pub cover-requires-in-Some-clause-inside : goal.cover-requires-in-Some-clause-inside
+cover-requires-in-Some-clause-inside g c =
+    let w = c.turns.invariant.waits.from (record { 0 = c.in-Some.step }) c.in-Some.ensures.taken.waited in
+    c.requires.steps w.0 c.in-Some.step w.2
+
+pub cover-requires-in-Some-clause-waits : goal.cover-requires-in-Some-clause-waits
+cover-requires-in-Some-clause-waits g c = WaitsSave-taken c.args.rows.now g.N.Ord.cmp g.C.Ord.cmp c.turns.covered (heap_items c.turns.queue) (heap_items c.next_leaving.new.queue) c.in-Some.step c.turns.invariant.waits c.in-Some.ensures.taken
+
+pub turns-smaller : goal.turns-smaller
+turns-smaller g c = subst (λ bs. open_count bs < open_count c.turns.covered) (sym c.in_ok-cover-2.ensures.covered) (open_less c.turns.covered c.in-Some.step.number c.in-Some.ensures.taken.new)
+
+pub turns-preserved : goal.turns-preserved
+turns-preserved g c =
+    let i = c.turns.invariant in
+    let e = c.in_ok-cover-2.ensures in
+    let s = c.in-Some.step in
+    record {
+      len = ap length e.covered ∙ length-set c.turns.covered s.number true ∙ i.len;
+      ordered = e.ordered;
+      waits = e.waits;
+      grown = λ nodes edges x r at.
+          subst (λ bs. IsGrown g.N.PartialEq.eq g.N.Ord.cmp g.C.Ord.cmp g.C.Clone.is_clone nodes edges x bs (map shown c.push.new.self.items)) (sym e.covered)
+          (subst (λ es. IsGrown g.N.PartialEq.eq g.N.Ord.cmp g.C.Ord.cmp g.C.Clone.is_clone nodes edges x (slice_set c.turns.covered s.number true) es) (sym (ap (map shown) c.in_ok-push.ensures.items ∙ map-append shown c.turns.tree.items _))
+          (IsGrown-push g.met.N.Eq.laws nodes g.met.C.Ord.total edges c.args.rows.now r x c.turns.covered i.len (heap_items c.turns.queue) i.waits (map shown c.turns.tree.items) (i.grown nodes edges x r at)
+          g.met.C.Ord.matches_eq c.requires.clones (heap_items c.next_leaving.new.queue) s c.in-Some.ensures.taken _ c.in_ok-clone.ensures.cases));
+    }
+
+pub returns-clause-grown : goal.returns-clause-grown
+returns-clause-grown g c = λ nodes edges x r at.
+    let i = c.turns.invariant in
+    IsGrown-end g.met.N.Eq.laws nodes g.met.C.Ord.total edges c.args.rows.now r x c.turns.covered i.len (heap_items c.turns.queue) i.waits (map shown c.turns.tree.items) (i.grown nodes edges x r at) c.in_default.ensures.taken

@@ -1,0 +1,103 @@
+use Rattle.std.proofs.Common.{◌≡◌, ◌<◌, ◌∙◌, sym, ap, subst, ℕ, length, true, false, Some}
+use Rattle.std.specs.Prelude.{map, slice_get}
+use Rattle.std.proofs.lemmas.List.{length-replicate}
+use Rattle.pf_graph.specs.Numbered.{shown}
+use Rattle.pf_graph.specs.Frontier.{HasStep, HoldSteps, AreRows, IsMarked}
+use Rattle.pf_graph.specs.GrownTree.{GrowsByLeast, IsLeastAround}
+use Rattle.pf_graph.specs.Spanning.{AreBelow}
+use Rattle.pf_graph.proofs.ListLemmas.{resized}
+use Rattle.pf_graph.proofs.NameLemmas.{numbered_below}
+use Rattle.pf_graph.proofs.PrimLemmas.{if_ok, no_mark, start_is, are_rows, steps_inside, first_stands, first_inside}
+use Rattle.pf_graph.proofs.TreeLemmas.{grown_forest, grown_least}
+use Rattle.pf_graph.proofs.undirected.prim.prim.Goals as goal
+
+pub rows_of-requires : goal.rows_of-requires
+rows_of-requires g c =
+    let n = c.in_ok-numbered.ensures.numbered in
+    let below = numbered_below n.0 c.args.edges.now c.in_ok-numbered.numbered.edges.items n.2 c.in_ok-numbered.numbered.count n.1 in
+    record { below = subst (λ es. AreBelow c.in_ok-numbered.numbered.count es) (sym c.deref-2.ensures.value) below }
+
+pub grow-requires-clause-inside : goal.grow-requires-clause-inside
+grow-requires-clause-inside g c =
+    let edges = c.args.edges.now in
+    let numbered = c.in_ok-numbered.numbered.edges.items in
+    let in_order = c.in_ok-numbered.ensures.in_order in
+    let n = c.in_ok-numbered.ensures.numbered in
+    let first = c.in-Some.first.now in
+    let at = subst (λ es. slice_get es 0 ≡ Some first) c.deref.ensures.value (sym c.in-Some.ensures.value) in
+    let steps = subst (λ es. HoldSteps es c.in_ok-rows.rows.items) c.deref-2.ensures.value c.in_ok-rows.ensures.steps in
+    let len = c.in_ok-rows.ensures.len ∙ sym n.1 in
+    subst (λ rs. first.0 < length rs) (sym c.deref-3.ensures.value) (first_inside edges numbered in_order n.0 n.2 c.in_ok-rows.rows.items steps len first at)
+
+pub grow-requires-clause-len : goal.grow-requires-clause-len
+grow-requires-clause-len g c =
+    let marks = c.deref_mut.ensures.value ∙ resized c.in_ok-numbered.numbered.count c.new-covered.result.items c.resize.new.self.items _ false c.new-covered.ensures.items c.new-covered.ensures.len c.in_ok-resize.ensures.items in
+    ap length marks ∙ length-replicate c.in_ok-numbered.numbered.count false ∙ sym (ap length c.deref-3.ensures.value ∙ c.in_ok-rows.ensures.len)
+
+pub grow-requires-clause-none : goal.grow-requires-clause-none
+grow-requires-clause-none g c =
+    let marks = c.deref_mut.ensures.value ∙ resized c.in_ok-numbered.numbered.count c.new-covered.result.items c.resize.new.self.items _ false c.new-covered.ensures.items c.new-covered.ensures.len c.in_ok-resize.ensures.items in
+    λ k m. no_mark c.in_ok-numbered.numbered.count k (subst (λ bs. IsMarked true bs k) marks m)
+
+pub grow-requires-clause-steps : goal.grow-requires-clause-steps
+grow-requires-clause-steps g c =
+    let n = c.in_ok-numbered.ensures.numbered in
+    let steps = subst (λ es. HoldSteps es c.in_ok-rows.rows.items) c.deref-2.ensures.value c.in_ok-rows.ensures.steps in
+    subst (λ rs. (k : ℕ) (s : _) → HasStep rs k s → s.number < length rs) (sym c.deref-3.ensures.value)
+    (steps_inside c.args.edges.now c.in_ok-numbered.numbered.edges.items c.in_ok-numbered.ensures.in_order n.0 n.2 c.in_ok-rows.rows.items steps (c.in_ok-rows.ensures.len ∙ sym n.1))
+
+pub returns-clause-grown : goal.returns-clause-grown
+returns-clause-grown g c =
+    let edges = c.args.edges.now in
+    let numbered = c.in_ok-numbered.numbered.edges.items in
+    let in_order = c.in_ok-numbered.ensures.in_order in
+    let n = c.in_ok-numbered.ensures.numbered in
+    let first = c.in-Some.first.now in
+    let at = subst (λ es. slice_get es 0 ≡ Some first) c.deref.ensures.value (sym c.in-Some.ensures.value) in
+    let steps = subst (λ es. HoldSteps es c.in_ok-rows.rows.items) c.deref-2.ensures.value c.in_ok-rows.ensures.steps in
+    let len = c.in_ok-rows.ensures.len ∙ sym n.1 in
+    let rows = subst (λ rs. AreRows g.N.PartialEq.eq n.0 edges rs) (sym c.deref-3.ensures.value) (are_rows edges numbered in_order n.0 n.2 c.in_ok-rows.rows.items steps len) in
+    let stands = first_stands edges numbered in_order n.0 n.2 c.in_ok-rows.rows.items steps len first at in
+    if_ok c.grow.result (λ tree p. let q = p n.0 edges first.2.edge.now.0 rows stands in λ start s. subst (λ z. GrowsByLeast g.N.PartialEq.eq g.N.Ord.cmp g.C.Ord.cmp edges z (map shown tree.items)) (start_is edges numbered in_order first at start s) q.0) c.grow.ensures.grown
+
+pub returns-clause-forest : goal.returns-clause-forest
+returns-clause-forest g c =
+    let edges = c.args.edges.now in
+    let numbered = c.in_ok-numbered.numbered.edges.items in
+    let in_order = c.in_ok-numbered.ensures.in_order in
+    let n = c.in_ok-numbered.ensures.numbered in
+    let first = c.in-Some.first.now in
+    let at = subst (λ es. slice_get es 0 ≡ Some first) c.deref.ensures.value (sym c.in-Some.ensures.value) in
+    let steps = subst (λ es. HoldSteps es c.in_ok-rows.rows.items) c.deref-2.ensures.value c.in_ok-rows.ensures.steps in
+    let len = c.in_ok-rows.ensures.len ∙ sym n.1 in
+    let rows = subst (λ rs. AreRows g.N.PartialEq.eq n.0 edges rs) (sym c.deref-3.ensures.value) (are_rows edges numbered in_order n.0 n.2 c.in_ok-rows.rows.items steps len) in
+    let stands = first_stands edges numbered in_order n.0 n.2 c.in_ok-rows.rows.items steps len first at in
+    if_ok c.grow.result (λ tree p. let q = p n.0 edges first.2.edge.now.0 rows stands in grown_forest g.met.N.Eq.laws first.2.edge.now.0 g.met.C.Ord.total edges g.met.C.Ord.matches_eq c.requires.clones (map shown tree.items) q.0 q.1) c.grow.ensures.grown
+
+pub returns-clause-least : goal.returns-clause-least
+returns-clause-least g c =
+    let edges = c.args.edges.now in
+    let numbered = c.in_ok-numbered.numbered.edges.items in
+    let in_order = c.in_ok-numbered.ensures.in_order in
+    let n = c.in_ok-numbered.ensures.numbered in
+    let first = c.in-Some.first.now in
+    let at = subst (λ es. slice_get es 0 ≡ Some first) c.deref.ensures.value (sym c.in-Some.ensures.value) in
+    let steps = subst (λ es. HoldSteps es c.in_ok-rows.rows.items) c.deref-2.ensures.value c.in_ok-rows.ensures.steps in
+    let len = c.in_ok-rows.ensures.len ∙ sym n.1 in
+    let rows = subst (λ rs. AreRows g.N.PartialEq.eq n.0 edges rs) (sym c.deref-3.ensures.value) (are_rows edges numbered in_order n.0 n.2 c.in_ok-rows.rows.items steps len) in
+    let stands = first_stands edges numbered in_order n.0 n.2 c.in_ok-rows.rows.items steps len first at in
+    if_ok c.grow.result (λ tree p. let q = p n.0 edges first.2.edge.now.0 rows stands in λ start s. subst (λ z. IsLeastAround g.N.PartialEq.eq g.C.Ord.cmp edges z (map shown tree.items)) (start_is edges numbered in_order first at start s) (grown_least g.met.N.Eq.laws first.2.edge.now.0 g.met.C.Ord.total edges g.met.C.Ord.matches_eq c.requires.clones (map shown tree.items) q.0 q.1)) c.grow.ensures.grown
+
+pub returns-clause-as_written : goal.returns-clause-as_written
+returns-clause-as_written g c =
+    let edges = c.args.edges.now in
+    let numbered = c.in_ok-numbered.numbered.edges.items in
+    let in_order = c.in_ok-numbered.ensures.in_order in
+    let n = c.in_ok-numbered.ensures.numbered in
+    let first = c.in-Some.first.now in
+    let at = subst (λ es. slice_get es 0 ≡ Some first) c.deref.ensures.value (sym c.in-Some.ensures.value) in
+    let steps = subst (λ es. HoldSteps es c.in_ok-rows.rows.items) c.deref-2.ensures.value c.in_ok-rows.ensures.steps in
+    let len = c.in_ok-rows.ensures.len ∙ sym n.1 in
+    let rows = subst (λ rs. AreRows g.N.PartialEq.eq n.0 edges rs) (sym c.deref-3.ensures.value) (are_rows edges numbered in_order n.0 n.2 c.in_ok-rows.rows.items steps len) in
+    let stands = first_stands edges numbered in_order n.0 n.2 c.in_ok-rows.rows.items steps len first at in
+    if_ok c.grow.result (λ tree p. let q = p n.0 edges first.2.edge.now.0 rows stands in q.1) c.grow.ensures.grown

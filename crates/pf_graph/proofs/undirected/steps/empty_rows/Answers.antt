@@ -1,0 +1,12 @@
+use Rattle.std.proofs.Common.{◌+◌, ◌∙◌, ◌∷◌, [], sym, ap, subst, length, ℕ}
+use Rattle.std.proofs.lemmas.List.{length-append}
+use Rattle.pf_graph.specs.declared.undirected.steps.Step.{Step}
+use Rattle.pf_graph.specs.Frontier.{HasStep}
+use Rattle.pf_graph.proofs.StepLemmas.{empty_more}
+use Rattle.pf_graph.proofs.undirected.steps.empty_rows.Goals as goal
+
+pub loop-preserved : goal.loop-preserved
+loop-preserved g c = record {
+  len = ap length c.in_ok-push.ensures.items ∙ length-append c.loop.rows.items (c.new.result ∷ []) ∙ ap (λ (n : ℕ). n + 1) c.loop.invariant.len;
+  empty = subst (λ rows. (k : ℕ) (s : Step g.row.N.Denot g.row.C.Denot) → ¬ (HasStep rows k s)) (sym c.in_ok-push.ensures.items) (empty_more c.loop.rows.items c.new.result c.new.ensures.items c.loop.invariant.empty);
+}

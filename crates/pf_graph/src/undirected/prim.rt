@@ -1,0 +1,92 @@
+//! A tree of least weight around a node, which grows by an edge at a time (Jarník 1930, Prim 1957).
+
+ghost use Rattle.std.specs.Prelude.{◌≡◌, ◌<◌, ℕ, true, List, [], IfOk, IfErr, map, length};
+ghost use Rattle.std.specs.Borrow.{Bor};
+ghost use Rattle.pf_base.specs.Answers.{IsLawfulClone};
+ghost use Rattle.pf_base.specs.declared.error.PathError.TheVariants.{OutOfMemory};
+ghost use Rattle.pf_graph.specs.declared.undirected.steps.Step.{Step};
+ghost use Rattle.pf_graph.specs.Frontier.{AreRows, HasStep, IsMarked};
+ghost use Rattle.pf_graph.specs.Numbered.{shown, StandsFor};
+ghost use Rattle.pf_graph.specs.GrownTree.{StartsAt, GrowsByLeast, IsLeastAround, AreChosenEitherWay};
+ghost use Rattle.pf_graph.specs.Spanning.{IsForest};
+
+use crate::undirected::frontier::{cover, next_leaving};
+use crate::undirected::numbered::number_edges;
+use crate::undirected::steps::{Step, rows_of};
+use pf_base::PathError;
+use std::alloc::Allocator;
+use std::collections::BinaryHeap;
+use std::hash::Hash;
+
+/// Grows a tree from the number `start` by the least step that leaves it, until none does. No number
+/// is covered before.
+fn grow<'a, N, C, A>(
+    alloc: A,
+    rows: &[Vec<Step<'a, N, C>, A>],
+    covered: &mut [bool],
+    start: usize,
+) -> Result<Vec<(&'a N, &'a N, C), A>, PathError>
+where
+    N: Ord,
+    C: Clone + Ord,
+    A: Allocator + Copy,
+    requires clones { IsLawfulClone C.eq C.is_clone }
+    requires inside { start < length rows.now }
+    requires len { length covered.old ≡ length rows.now }
+    requires none { (k : ℕ) → ¬ (IsMarked true covered.old k) }
+    requires steps { (k : ℕ) (s : Step N C) → HasStep rows.now k s → s.number < length rows.now }
+    ensures grown { IfOk result (λ tree. (nodes : List (Bor N)) (edges : List (N × N × C)) (x : N) → AreRows N.eq nodes edges rows.now → StandsFor N.eq nodes start x
+        → GrowsByLeast N.eq N.cmp C.cmp edges x (map shown tree.items) × AreChosenEitherWay C.is_clone edges (map shown tree.items)) }
+    ensures refused { IfErr result (λ e. e ≡ OutOfMemory) }
+{
+    let mut queue = BinaryHeap::new(alloc);
+    let mut tree = Vec::new(alloc);
+    cover(covered, &mut queue, rows, start)?;
+    'turns: while let Some(step) = next_leaving(covered, &mut queue) {
+        tree.push((step.covered, step.new, step.weight.clone()?))?;
+        cover(covered, &mut queue, rows, step.number)?;
+    }
+    Ok(tree)
+}
+
+/// A tree of least weight over the nodes that edges join to the first node of the first edge
+/// (Jarník 1930, Prim 1957).
+///
+/// An edge is its two ends and its weight, and may be taken in both directions; edges may be
+/// parallel, and both ends may be one node. Equal nodes are one node. The tree grows from the first
+/// node of the first edge: each new edge is the least of those that lead from a node that the tree
+/// covers to one that it does not, by weight, then by the covered node, then by the new node. The
+/// answer has the edges in the order in which they are chosen, each as (covered node, new node,
+/// weight), with references to the nodes and a clone of the weight. They hold no cycle, and under
+/// every weight bound they join those of the tree's nodes that all edges within that bound join.
+/// Edges that are not joined to the first node are left out, and no edges give an empty tree.
+/// Weights need an order alone; where they are costs, no forest of the edges that joins the same
+/// nodes weighs less, by the law `least_tree_weight`.
+///
+/// It is refused only for want of memory.
+pub fn prim<'a, N, C, A>(
+    alloc: A,
+    edges: &'a [(N, N, C)],
+) -> Result<Vec<(&'a N, &'a N, C), A>, PathError>
+where
+    N: Eq + Hash + Ord,
+    C: Clone + Ord,
+    A: Allocator + Copy,
+    requires clones { IsLawfulClone C.eq C.is_clone }
+    ensures none { edges.now ≡ [] → IfOk result (λ tree. tree.items ≡ []) }
+    ensures grown { IfOk result (λ tree. (start : N) → StartsAt edges.now start → GrowsByLeast N.eq N.cmp C.cmp edges.now start (map shown tree.items)) }
+    ensures forest { IfOk result (λ tree. IsForest N.eq (map shown tree.items)) }
+    ensures least { IfOk result (λ tree. (start : N) → StartsAt edges.now start → IsLeastAround N.eq C.cmp edges.now start (map shown tree.items)) }
+    ensures as_written { IfOk result (λ tree. AreChosenEitherWay C.is_clone edges.now (map shown tree.items)) }
+    ensures refused { IfErr result (λ e. e ≡ OutOfMemory) }
+{
+    let numbered = number_edges(alloc, edges)?;
+    let Some(first) = numbered.edges.first() else {
+        return Ok(Vec::new(alloc));
+    };
+    let start = first.0;
+    let rows = rows_of(alloc, numbered.count, &numbered.edges)?;
+    let mut covered = Vec::new(alloc);
+    covered.resize(numbered.count, false)?;
+    grow(alloc, &rows, &mut covered, start)
+}
