@@ -10,6 +10,7 @@ pub use Rattle.pf_graph.specs.Joined
 pub use Rattle.pf_graph.specs.Spanning
 pub use Rattle.pf_graph.specs.GrownTree
 pub use Rattle.pf_graph.specs.Components
+pub use Rattle.pf_graph.specs.Assignments
 pub mod EdgeText
 pub mod Roads
 pub mod Words

@@ -8,3 +8,4 @@ pub mod routes;
 pub mod undirected;
 
 pub use pf_base::{NodeRefs, utils};
+pub use pf_graph::kuhn_munkres;

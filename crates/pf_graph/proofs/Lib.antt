@@ -23,3 +23,12 @@ pub mod StepLemmas
 pub mod GrowLemmas
 pub mod PrimLemmas
 pub mod TreeLawLemmas
+pub mod MatchingNumbers
+pub mod MatchingTree
+pub mod MatchingScan
+pub mod MatchingWeights
+pub mod MatchingTurn
+pub mod MatchingCount
+pub mod MatchingBounds
+pub mod MatchingRaise
+pub mod MatchingBest

@@ -7,3 +7,5 @@ pub mod Around
 pub mod Parts
 pub mod GrownTree
 pub mod Frontier
+pub mod Assignments
+pub mod AssignmentSteps

@@ -1,4 +1,5 @@
 //! Orders, components, spanning edges, flows and matchings.
 #![tactic(auto)]
 
+pub mod kuhn_munkres;
 pub mod undirected;

@@ -1,4 +1,5 @@
 mod around;
+mod assignments;
 mod prim;
 mod refusals;
 mod rows;

@@ -192,5 +192,11 @@ fn run_refuses_each_growth(rt: HostRuntime) -> Result<(), Fail> {
         String::from_str(rt.alloc(), "E")?,
     );
     refuse_each_growth_of(&rt, rt.alloc(), &Command::Bfs { from, to }, b"2: A C E\n");
+    refuse_each_growth_of(
+        &rt,
+        rt.alloc(),
+        &Command::Kruskal,
+        b"B C 1\nA C 2\nD E 2\nB D 5\n",
+    );
     Ok(())
 }

@@ -1,0 +1,14 @@
+use Rattle.std.proofs.Common.{◌<◌, arith, ap, sym, subst, length, ◌*◌}
+use Rattle.std.specs.Prelude.{neg_ℤ}
+use Rattle.pf_graph.specs.Assignments.{number}
+use Rattle.pf_graph.proofs.MatchingWeights.{position_of}
+use Rattle.pf_graph.proofs.kuhn_munkres.weights.MatrixWeights.neg.Goals as goal
+
+pub write_negations-requires-clause-fits : goal.write_negations-requires-clause-fits
+write_negations-requires-clause-fits g c = λ k h.
+    let m = c.args.self.now in
+    let v = c.as_slice.ensures.values in
+    let l : k < m.rows * m.columns = omega (arith, ap length v, c.as_slice.ensures.matrix.sized) in
+    let p = position_of m.rows m.columns k l in
+    subst (λ xs. g.C.Number.fits (neg_ℤ (number g.C.Number.value xs k))) (sym v)
+    (subst (λ j. g.C.Number.fits (neg_ℤ (number g.C.Number.value m.values j))) (sym p.4) (c.requires p.0 p.1 p.2 p.3))

@@ -1,0 +1,218 @@
+//! Rows that are matched to columns of their own, under potentials.
+
+ghost use Rattle.std.specs.Prelude.{◌≡◌, ◌≢◌, ◌≤◌, ◌<◌, ◌+◌, ◌+ℤ◌, ◌-ℤ◌, ℕ, pos, neg_ℤ, true, None, OnOk, IfOk, IfErr, length, slice_index};
+ghost use Rattle.pf_base.specs.declared.error.PathError.TheVariants.{OutOfMemory};
+ghost use Rattle.pf_graph.specs.Assignments.{number, NumberTable, WeightsFit};
+ghost use Rattle.pf_graph.specs.AssignmentSteps.{holder, flag, raised, IsMatching, IsMatched, IsNext, IsTreeOf, IsNearest, IsRooted, IsTurned};
+
+use crate::kuhn_munkres::numbers::plus;
+use crate::kuhn_munkres::tree::{Tree, grow};
+use crate::kuhn_munkres::weights::Weights;
+use pf_base::utils::Tally;
+use pf_base::{PathError, SignedCost};
+use std::alloc::Allocator;
+
+/// The rows that were matched so far, one after another, and potentials of rows and columns. The
+/// potentials of a row and a column are together at least the weight, and equal to it where the two
+/// are matched; a column that no row has has potential zero, and none has a lower one.
+#[derive(Drop)]
+pub struct Matching<C, A: Allocator> {
+    /// The column of each row that is matched.
+    pub column_of: Vec<usize, A>,
+    /// The row of each column, if it has one.
+    pub row_of: Vec<Option<usize>, A>,
+    /// The potentials of the rows.
+    pub row_potentials: Vec<C, A>,
+    /// The potentials of the columns.
+    pub column_potentials: Vec<C, A>,
+}
+
+impl<C: SignedCost, A: Allocator + Copy> Matching<C, A> {
+    /// No row is matched to any of so many columns.
+    pub fn new(alloc: A, columns: usize) -> Result<Self, PathError>
+        ensures rows { IfOk result (λ m. length m.column_of.items ≡ 0) }
+        ensures row_potentials { IfOk result (λ m. length m.row_potentials.items ≡ 0) }
+        ensures row_of { IfOk result (λ m. length m.row_of.items ≡ columns) }
+        ensures column_potentials { IfOk result (λ m. length m.column_potentials.items ≡ columns) }
+        ensures free { IfOk result (λ m. (j : ℕ) → holder m.row_of.items j ≡ None) }
+        ensures zero { IfOk result (λ m. (j : ℕ) → number C.value m.column_potentials.items j ≡ pos 0) }
+        ensures refused { IfErr result (λ e. e ≡ OutOfMemory) }
+    {
+        let mut matching = Matching {
+            column_of: Vec::new(alloc),
+            row_of: Vec::new(alloc),
+            row_potentials: Vec::new(alloc),
+            column_potentials: Vec::new(alloc),
+        };
+        for _column in 0..columns {
+            matching.row_of.push(None)?;
+            matching.column_potentials.push(C::zero())?;
+        }
+        Ok(matching)
+    }
+}
+
+/// Raises the potentials of the columns that were visited, each by as much as the depth is above its
+/// distance.
+fn raise_columns<C: SignedCost>(potentials: &mut [C], visited: &[bool], distances: &[C], depth: C)
+    requires visited { length visited.now ≡ length potentials.old }
+    requires distances { length distances.now ≡ length potentials.old }
+    requires difference { (j : ℕ) → j < length potentials.old → flag visited.now j ≡ true → C.fits (C.value depth -ℤ number C.value distances.now j) }
+    requires negation { (j : ℕ) → j < length potentials.old → flag visited.now j ≡ true → C.fits (neg_ℤ (C.value depth -ℤ number C.value distances.now j)) }
+    requires sum { (j : ℕ) → j < length potentials.old → flag visited.now j ≡ true → C.fits (number C.value potentials.old j +ℤ (C.value depth -ℤ number C.value distances.now j)) }
+    ensures { (j : ℕ) → j < length potentials.old → number C.value potentials.new j ≡ raised (flag visited.now j) (number C.value potentials.old j) (C.value depth -ℤ number C.value distances.now j) }
+{
+    for column in 0..potentials.len() {
+        if visited[column] {
+            let by = depth.minus(distances[column]);
+            potentials[column] = plus(potentials[column], by);
+        }
+    }
+}
+
+/// Lowers the potentials of the rows whose columns were visited, each by as much as the depth is
+/// above its distance.
+fn lower_rows<C: SignedCost>(
+    potentials: &mut [C],
+    column_of: &[usize],
+    visited: &[bool],
+    distances: &[C],
+    depth: C,
+)
+    requires rows { length column_of.now ≤ length potentials.old }
+    requires columns { (i : ℕ) → i < length column_of.now → slice_index column_of.now i < length visited.now }
+    requires distances { length distances.now ≡ length visited.now }
+    requires difference { (j : ℕ) → j < length visited.now → flag visited.now j ≡ true → C.fits (C.value depth -ℤ number C.value distances.now j) }
+    requires rest { (i : ℕ) → i < length column_of.now → flag visited.now (slice_index column_of.now i) ≡ true → C.fits (number C.value potentials.old i -ℤ (C.value depth -ℤ number C.value distances.now (slice_index column_of.now i))) }
+    ensures matched { (i : ℕ) → i < length column_of.now → number C.value potentials.new i ≡ raised (flag visited.now (slice_index column_of.now i)) (number C.value potentials.old i) (neg_ℤ (C.value depth -ℤ number C.value distances.now (slice_index column_of.now i))) }
+{
+    for row in 0..column_of.len() {
+        let column = column_of[row];
+        if visited[column] {
+            let by = depth.minus(distances[column]);
+            potentials[row] = potentials[row].minus(by);
+        }
+    }
+}
+
+/// Matches the rows on the way back from a column to the columns from which they were reached, and
+/// answers the column that is left for the root.
+fn turn(
+    column_of: &mut [usize],
+    row_of: &mut [Option<usize>],
+    rows: &[usize],
+    places: &[usize],
+    column: usize,
+) -> usize
+    requires matching { IsMatching (length column_of.old) (length row_of.old) (slice_index column_of.old) (holder row_of.old) }
+    requires rooted { IsRooted (length column_of.old) (length row_of.old) (length rows.now) (slice_index column_of.old) (slice_index rows.now) (slice_index places.now) }
+    requires places { length places.now ≡ length row_of.old }
+    requires inside { column < length row_of.old }
+    requires free { holder row_of.old column ≡ None }
+    ensures turned { IsTurned (length column_of.old) (length row_of.old) (length rows.now) column (slice_index column_of.old) (holder row_of.old) (slice_index rows.now) (slice_index places.now) (slice_index column_of.new) (holder row_of.new) result }
+    ensures root { slice_index places.now result ≡ 0 }
+{
+    let mut column = column;
+    let mut place = places[column];
+    'rows: while place > 0 {
+        let row = rows[place];
+        let previous = column_of[row];
+        column_of[row] = column;
+        row_of[column] = Some(row);
+        column = previous;
+        place = places[column];
+    }
+    column
+}
+
+/// Raises and lowers the potentials along the tree whose nearest column is this free one, and
+/// matches the root of the tree, the next row.
+fn augment<C, W, A>(
+    weights: &W,
+    matching: &mut Matching<C, A>,
+    tree: &Tree<C, A>,
+    column: usize,
+) -> Result<(), PathError>
+where
+    C: SignedCost,
+    W: Weights<C>,
+    A: Allocator + Copy,
+    requires shape { (W.table weights.now).rows ≤ (W.table weights.now).columns }
+    requires fit { WeightsFit C.fits (W.table weights.now) }
+    requires next { IsNext C.value (W.table weights.now) matching.old.column_of.items matching.old.row_of.items matching.old.row_potentials.items matching.old.column_potentials.items }
+    requires tree { IsTreeOf C.value (W.table weights.now) matching.old.column_of.items matching.old.row_of.items matching.old.row_potentials.items matching.old.column_potentials.items tree.now.rows.items tree.now.visited.items tree.now.distances.items tree.now.places.items }
+    requires nearest { IsNearest (W.table weights.now).columns (flag tree.now.visited.items) (number C.value tree.now.distances.items) column }
+    requires free { holder matching.old.row_of.items column ≡ None }
+    ensures matched { OnOk result (IsMatched C.value (W.table weights.now) matching.new.column_of.items matching.new.row_of.items matching.new.row_potentials.items matching.new.column_potentials.items) }
+    ensures rows { OnOk result (length matching.new.column_of.items ≡ length matching.old.column_of.items + 1) }
+    ensures row_potentials { OnOk result (length matching.new.row_potentials.items ≡ length matching.old.row_potentials.items) }
+    ensures refused { IfErr result (λ e. e ≡ OutOfMemory) }
+{
+    let depth = tree.distances[column];
+    raise_columns(
+        &mut matching.column_potentials,
+        &tree.visited,
+        &tree.distances,
+        depth,
+    );
+    lower_rows(
+        &mut matching.row_potentials,
+        &matching.column_of,
+        &tree.visited,
+        &tree.distances,
+        depth,
+    );
+    let root = matching.column_of.len();
+    matching.row_potentials[root] = depth.negated();
+    let left = turn(
+        &mut matching.column_of,
+        &mut matching.row_of,
+        &tree.rows,
+        &tree.places,
+        column,
+    );
+    matching.row_of[left] = Some(root);
+    matching.column_of.push(left)?;
+    Ok(())
+}
+
+/// Matches the next row, with at most a tick for each row up to it.
+pub fn match_row<C, W, A>(
+    weights: &W,
+    matching: &mut Matching<C, A>,
+    tree: &mut Tree<C, A>,
+    tally: &mut Tally,
+) -> Result<(), PathError>
+where
+    C: SignedCost,
+    W: Weights<C>,
+    A: Allocator + Copy,
+    requires shape { (W.table weights.now).rows ≤ (W.table weights.now).columns }
+    requires fit { WeightsFit C.fits (W.table weights.now) }
+    requires matched { IsMatched C.value (W.table weights.now) matching.old.column_of.items matching.old.row_of.items matching.old.row_potentials.items matching.old.column_potentials.items }
+    requires left { length matching.old.column_of.items < (W.table weights.now).rows }
+    requires row_potentials { length matching.old.row_potentials.items ≡ length matching.old.column_of.items }
+    requires visited { length tree.old.visited.items ≡ (W.table weights.now).columns }
+    requires distances { length tree.old.distances.items ≡ (W.table weights.now).columns }
+    requires places { length tree.old.places.items ≡ (W.table weights.now).columns }
+    ensures matched { OnOk result (IsMatched C.value (W.table weights.now) matching.new.column_of.items matching.new.row_of.items matching.new.row_potentials.items matching.new.column_potentials.items) }
+    ensures rows { OnOk result (length matching.new.column_of.items ≡ length matching.old.column_of.items + 1) }
+    ensures row_potentials { OnOk result (length matching.new.row_potentials.items ≡ length matching.new.column_of.items) }
+    ensures visited { length tree.new.visited.items ≡ (W.table weights.now).columns }
+    ensures distances { length tree.new.distances.items ≡ (W.table weights.now).columns }
+    ensures places { length tree.new.places.items ≡ (W.table weights.now).columns }
+    ensures refused { IfErr result (λ e. e ≡ OutOfMemory) }
+    ensures ticked { tally.new ≤ tally.old + (W.table weights.now).rows }
+{
+    matching.row_potentials.push(C::zero())?;
+    let column = grow(
+        weights,
+        matching,
+        &mut tree.rows,
+        &mut tree.visited,
+        &mut tree.distances,
+        &mut tree.places,
+        tally,
+    )?;
+    augment(weights, matching, tree, column)
+}

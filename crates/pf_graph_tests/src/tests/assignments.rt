@@ -1,0 +1,292 @@
+//! Best assignments: worked values, a table of one's own whose reads are counted, and each growth
+//! refused in turn.
+
+ghost use Rattle.std.specs.Prelude.{◌≤◌, ◌<◌};
+
+use pf_base::PathError;
+use pf_base::utils::Tally;
+use pf_graph::kuhn_munkres::{
+    Weights, kuhn_munkres, kuhn_munkres_min, kuhn_munkres_tallied, weights_fit,
+};
+use pf_matrix::{Matrix, MatrixFormatError, matrix};
+use refusing_allocator::Refusing;
+use std::alloc::{Allocator, Global};
+use std::cell::Cell;
+use std::process::Abort;
+use std::test::Fail;
+
+/// The greatest total and the columns, where the table is one that `kuhn_munkres` takes.
+fn greatest<A: Allocator + Copy>(
+    rt: &impl Abort,
+    alloc: A,
+    weights: &Matrix<i32, A>,
+) -> Result<(i32, Vec<usize, A>), PathError> {
+    assert!(rt; weights.rows() <= weights.columns());
+    assert!(rt; weights_fit(weights));
+    kuhn_munkres(alloc, weights)
+}
+
+/// The least total and the columns, where the table is one that `kuhn_munkres_min` takes.
+fn least<A: Allocator + Copy>(
+    rt: &impl Abort,
+    alloc: A,
+    weights: &Matrix<i32, A>,
+) -> Result<(i32, Vec<usize, A>), PathError> {
+    assert!(rt; weights.rows() <= weights.columns());
+    assert!(rt; weights_fit(weights));
+    kuhn_munkres_min(alloc, weights)
+}
+
+#[test]
+fn finds_the_greatest(rt: HostRuntime) -> Result<(), Fail> {
+    let alloc = rt.alloc();
+    let wide = matrix![in alloc;
+        [62, 78, 50, 101, 82],
+        [71, 84, 61, 73, 59],
+        [87, 92, 111, 71, 81],
+        [48, 64, 87, 77, 80]
+    ]?;
+    let (total, columns) = greatest(&rt, alloc, &wide)?;
+    assert_eq!(rt; total, 376);
+    assert_eq!(rt; columns.as_slice(), [3usize, 1, 2, 4].as_slice());
+    let square = matrix![in alloc; [100, 110, 90], [95, 130, 75], [95, 140, 65]]?;
+    let (total, columns) = greatest(&rt, alloc, &square)?;
+    assert_eq!(rt; total, 325);
+    assert_eq!(rt; columns.as_slice(), [2usize, 0, 1].as_slice());
+    let negative = matrix![in alloc; [-1, -2, -3], [-6, -5, -4], [-1, -1, -1]]?;
+    let (total, columns) = greatest(&rt, alloc, &negative)?;
+    assert_eq!(rt; total, -6);
+    assert_eq!(rt; columns.as_slice(), [0usize, 2, 1].as_slice());
+    Ok(())
+}
+
+#[test]
+fn finds_the_least(rt: HostRuntime) -> Result<(), Fail> {
+    let alloc = rt.alloc();
+    let costs = matrix![in alloc;
+        [90, 75, 75, 80],
+        [35, 85, 55, 65],
+        [125, 95, 90, 105],
+        [45, 110, 95, 115]
+    ]?;
+    let (total, columns) = least(&rt, alloc, &costs)?;
+    assert_eq!(rt; total, 275);
+    assert_eq!(rt; columns.len(), 4);
+    Ok(())
+}
+
+#[test]
+fn assigns_no_rows(rt: HostRuntime) -> Result<(), Fail> {
+    let alloc = rt.alloc();
+    let empty = Matrix::<i32, Global>::new_empty(alloc, 0);
+    let (total, columns) = greatest(&rt, alloc, &empty)?;
+    assert_eq!(rt; total, 0);
+    assert!(rt; columns.is_empty());
+    let (total, columns) = least(&rt, alloc, &empty)?;
+    assert_eq!(rt; total, 0);
+    assert!(rt; columns.is_empty());
+    Ok(())
+}
+
+#[test]
+fn weights_fit_up_to_a_sixth(rt: HostRuntime) -> Result<(), Fail> {
+    let alloc = rt.alloc();
+    let highest = matrix![in alloc; [21i8]]?;
+    assert!(rt; weights_fit(&highest));
+    let lowest = matrix![in alloc; [-21i8]]?;
+    assert!(rt; weights_fit(&lowest));
+    assert!(rt; lowest.rows() <= lowest.columns());
+    let (total, columns) = kuhn_munkres(alloc, &lowest)?;
+    assert_eq!(rt; total, -21);
+    assert_eq!(rt; columns.as_slice(), [0usize].as_slice());
+    let above = matrix![in alloc; [22i8]]?;
+    assert!(rt; !weights_fit(&above));
+    let least = matrix![in alloc; [-128i8]]?;
+    assert!(rt; !weights_fit(&least));
+    Ok(())
+}
+
+/// A square table of row times column, or of the negations of that. Each read of a weight is counted
+/// in a cell that it shares with its negation.
+#[derive(Drop)]
+struct Products<'c> {
+    size: usize,
+    negated: bool,
+    reads: &'c Cell<u64>,
+    ghost small: { size ≤ 1000 },
+}
+
+impl Weights<i64> for Products<'_> {
+    ghost use Rattle.pf_graph_tests.specs.AssignmentProducts.{product_table};
+
+    ghost table = { λ p. product_table p.negated p.size };
+
+    fn rows(&self) -> usize {
+        self.size
+    }
+
+    fn columns(&self) -> usize {
+        self.size
+    }
+
+    fn at(&self, row: usize, column: usize) -> i64 {
+        self.reads.set(self.reads.get().wrapping_add(1));
+        let product = (row * column) as i64;
+        if self.negated { -product } else { product }
+    }
+
+    fn neg(&self) -> Result<Self, PathError> {
+        Ok(Products {
+            size: self.size,
+            negated: !self.negated,
+            reads: self.reads,
+        })
+    }
+}
+
+/// As many rows as there can be, and no column.
+struct NoColumns;
+
+impl Weights<i64> for NoColumns {
+    ghost use Rattle.std.specs.Prelude.{pos};
+
+    ghost table = { λ _. record { rows = 18446744073709551615; columns = 0; at = λ r c. pos 0 } };
+
+    fn rows(&self) -> usize {
+        usize::MAX
+    }
+
+    fn columns(&self) -> usize {
+        0
+    }
+
+    fn at(&self, _row: usize, _column: usize) -> i64 {
+        0
+    }
+
+    fn neg(&self) -> Result<Self, PathError> {
+        Ok(NoColumns)
+    }
+}
+
+#[test]
+fn weights_fit_where_there_are_none(rt: HostRuntime) {
+    assert!(rt; weights_fit(&NoColumns));
+}
+
+#[test]
+fn assigns_a_table_of_ones_own(rt: HostRuntime) -> Result<(), Fail> {
+    let alloc = rt.alloc();
+    let reads = Cell::new(0u64);
+    let small = Products {
+        size: 3,
+        negated: false,
+        reads: &reads,
+    };
+    assert!(rt; weights_fit(&small));
+    let (total, columns) = kuhn_munkres(alloc, &small)?;
+    assert_eq!(rt; total, 5);
+    assert_eq!(rt; columns.as_slice(), [0usize, 1, 2].as_slice());
+    let (total, columns) = kuhn_munkres_min(alloc, &small)?;
+    assert_eq!(rt; total, 1);
+    assert_eq!(rt; columns.as_slice(), [2usize, 1, 0].as_slice());
+    Ok(())
+}
+
+#[test]
+fn reads_few_weights(rt: HostRuntime) -> Result<(), Fail> {
+    let alloc = rt.alloc();
+    let reads = Cell::new(0u64);
+    let large = Products {
+        size: 24,
+        negated: false,
+        reads: &reads,
+    };
+    assert!(rt; weights_fit(&large));
+    let mut tally = Tally::new();
+    let (total, columns) = kuhn_munkres_tallied(alloc, &large, &mut tally)?;
+    assert_eq!(rt; total, 4324);
+    assert_eq!(rt; columns.len(), 24);
+    for (row, column) in columns.iter().enumerate() {
+        assert_eq!(rt; row, *column);
+    }
+    let (total, columns) = kuhn_munkres_min(alloc, &large)?;
+    assert_eq!(rt; total, 2024);
+    assert_eq!(rt; columns.len(), 24);
+    assert!(rt; reads.get() <= 20_000, "{}", reads.get());
+    Ok(())
+}
+
+/// How a call ended.
+#[derive(Clone, Copy, Debug, PartialEq, Eq)]
+enum Outcome {
+    /// It answered want of memory.
+    OutOfMemory,
+    /// It answered as it does with ample memory.
+    Answered,
+    /// It did neither.
+    Wrong,
+}
+
+/// How a search for a total of these columns ended.
+fn outcome_of<A: Allocator>(
+    answer: Result<(i32, Vec<usize, A>), PathError>,
+    expected: i32,
+) -> Outcome {
+    match answer {
+        Ok((total, columns)) if total == expected && columns.len() == 3 => Outcome::Answered,
+        Err(PathError::OutOfMemory) => Outcome::OutOfMemory,
+        _ => Outcome::Wrong,
+    }
+}
+
+fn weights<A: Allocator + Copy>(alloc: A) -> Result<Matrix<i32, A>, MatrixFormatError> {
+    matrix![in alloc; [100, 110, 90], [95, 130, 75], [95, 140, 65]]
+}
+
+#[test]
+fn refuses_each_growth(rt: HostRuntime) -> Result<(), Fail> {
+    let mut growths = 0u64;
+    for growth in 0..1_000u64 {
+        let heap = Refusing::new(rt.alloc());
+        let table = weights(&heap)?;
+        heap.refuse(growth, 1);
+        let outcome = outcome_of(greatest(&rt, &heap, &table), 325);
+        if heap.pending() > 0 {
+            assert_eq!(rt; outcome, Outcome::Answered, "with no refusal");
+            growths = growth;
+            break;
+        }
+        assert_eq!(rt; outcome, Outcome::OutOfMemory, "growth {growth}");
+    }
+    assert!(rt; growths > 7);
+    Ok(())
+}
+
+#[test]
+fn the_least_refuses_each_growth(rt: HostRuntime) -> Result<(), Fail> {
+    let mut growths = 0u64;
+    for growth in 0..1_000u64 {
+        let heap = Refusing::new(rt.alloc());
+        let table = weights(&heap)?;
+        heap.refuse(growth, 1);
+        let outcome = outcome_of(least(&rt, &heap, &table), 270);
+        if heap.pending() > 0 {
+            assert_eq!(rt; outcome, Outcome::Answered, "with no refusal");
+            growths = growth;
+            break;
+        }
+        assert_eq!(rt; outcome, Outcome::OutOfMemory, "growth {growth}");
+    }
+    assert!(rt; growths > 8);
+    Ok(())
+}
+
+#[test]
+fn the_test_takes_no_memory(rt: HostRuntime) -> Result<(), Fail> {
+    let heap = Refusing::new(rt.alloc());
+    let table = weights(&heap)?;
+    heap.refuse(0, u64::MAX);
+    assert!(rt; weights_fit(&table));
+    Ok(())
+}
