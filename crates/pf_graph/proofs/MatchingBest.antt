@@ -173,24 +173,6 @@ module _ {C : Type 0} {value : C → ℤ} {t : NumberTable} {column_of : List �
       length_one [] x = refl
       length_one (y ∷ ys) x = omega (arith, length_one ys x)
 
--- no row is matched
-pub matched_none : {C : Type 0} (value : C → ℤ) (t : NumberTable) (column_of : List ℕ) (row_of : List (Option ℕ)) (us vs : List C) → length column_of ≡ 0 → ((j : ℕ) → holder row_of j ≡ None) → ((j : ℕ) → number value vs j ≡ pos 0) → length row_of ≡ t.columns → length vs ≡ t.columns → IsMatched value t column_of row_of us vs
-matched_none value t column_of row_of us vs empty free zeros wide columns = record {
-  matching = record {
-    inside = λ i h. absurd (omega (arith, h, empty));
-    back = λ i h. absurd (omega (arith, h, empty));
-    from = λ i j h. absurd (let e : Some i ≡ None = sym h ∙ free j in cc);
-  };
-  potential = record {
-    above = λ i j h g. absurd (omega (arith, h, empty));
-    tight = λ i h. absurd (omega (arith, h, empty));
-    positive = λ j h. let z = zeros j in omega (arith, ints, z);
-    free = λ j h e. zeros j;
-  };
-  wide = wide;
-  columns = columns;
-}
-
 -- the negated table
 module _ (t n : NumberTable) (negated : IsNegatedTable t n) where
   pub greatest_negated : (w : ℕ) → IsGreatestWeight t w → IsGreatestWeight n w

@@ -1,6 +1,6 @@
 -- Lemmas on the numbers of a list of costs, and on places in lists.
 use Rattle.std.proofs.Common.{ℕ, zero, suc, ◌+◌, ◌<◌, ◌≡◌, ◌≢◌, refl, sym, ◌∙◌, ap, arith, Bool, true, false, List, [], ◌∷◌, ◌++◌, length, get_or, take, drop, inl, inr, ℤ, Option, None, true≢false}
-use Rattle.std.specs.Prelude.{slice_set, slice_index_or, MatchBool, not, ◌⊎◌, ◌≤ℤ◌, ◌+ℤ◌, pos}
+use Rattle.std.specs.Prelude.{slice_set, slice_index_or, MatchBool, ◌⊎◌, ◌≤ℤ◌, ◌+ℤ◌, pos}
 use Rattle.pf_graph.specs.Assignments.{number}
 use Rattle.pf_graph.specs.AssignmentSteps.{holder, raised}
 
@@ -13,14 +13,6 @@ same_or_not (suc j) (suc k) = elim (same_or_not j k) as (λ _. (suc j ≡ suc k)
 pub true_or_false : (b : Bool) → (b ≡ true) ⊎ (b ≡ false)
 true_or_false true = inl refl
 true_or_false false = inr refl
-
-pub not_true : (b : Bool) → not b ≡ true → b ≡ false
-not_true true h = absurd (true≢false (sym h))
-not_true false h = refl
-
-pub not_false : (b : Bool) → not b ≡ false → b ≡ true
-not_false true h = refl
-not_false false h = absurd (true≢false h)
 
 pub below_or_last : (p n : ℕ) → p < n + 1 → (p < n) ⊎ (p ≡ n)
 below_or_last p n h = elim (same_or_not p n) as (λ _. (p < n) ⊎ (p ≡ n)) [ inl e ↦ inr e | inr e ↦ inl (omega (arith, e)) ]
@@ -79,12 +71,6 @@ module _ {A : Type 0} where
   at_push_other [] x d j h = absurd (omega (arith, h))
   at_push_other (y ∷ xs) x d zero h = refl
   at_push_other (y ∷ xs) x d (suc j) h = at_push_other xs x d j (omega (arith, h))
-
-  -- any default will do inside
-  pub at_inside : (xs : List A) (j : ℕ) (d e : A) → j < length xs → slice_index_or xs j d ≡ slice_index_or xs j e
-  at_inside [] j d e h = absurd (omega (arith, h))
-  at_inside (y ∷ xs) zero d e h = refl
-  at_inside (y ∷ xs) (suc j) d e h = at_inside xs j d e (omega (arith, h))
 
 -- what was x at each place below k is so at k too, once it was written there
 pub below_set : {A : Type 0} (f f' : ℕ → A) (x : A) (k : ℕ) → f k ≡ x → ((j : ℕ) → j ≢ k → f j ≡ f' j) → ((j : ℕ) → j < k → f' j ≡ x) → (j : ℕ) → j < k + 1 → f j ≡ x

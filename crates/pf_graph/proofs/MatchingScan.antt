@@ -1,6 +1,6 @@
 -- How far a scan of the columns has come.
-use Rattle.std.proofs.Common.{rules, ℕ, ◌+◌, ◌<◌, ◌≤◌, ◌≡◌, ◌≢◌, refl, sym, ◌∙◌, ap, subst, arith, Bool, true, false, inl, inr, ℤ, Option, Some, None, true≢false}
-use Rattle.std.specs.Prelude.{◌⊎◌, ◌≤ℤ◌, IsSome}
+use Rattle.std.proofs.Common.{ℕ, ◌+◌, ◌<◌, ◌≤◌, ◌≡◌, ◌≢◌, refl, sym, ◌∙◌, ap, subst, arith, Bool, true, false, inl, inr, ℤ, Option, Some, None, true≢false}
+use Rattle.std.specs.Prelude.{◌⊎◌, ◌≤ℤ◌}
 use Rattle.std.proofs.lemmas.Int.{ints}
 use Rattle.pf_graph.specs.AssignmentSteps.{IsNearest, IsRelaxed}
 use Rattle.pf_graph.proofs.MatchingNumbers.{below_or_last}
@@ -14,15 +14,6 @@ pub record IsScannedTo (i : ℕ) (through : ℕ → ℤ) (by : ℕ) (visited : �
   pub some : (c : ℕ) → nearest ≡ Some c → (c < i) × (visited c ≡ false) × ((j : ℕ) → j < i → visited j ≡ false → d' c ≤ℤ d' j)
 
 module _ (through : ℕ → ℤ) (by : ℕ) (visited : ℕ → Bool) (d : ℕ → ℤ) (place : ℕ → ℕ) where
-  pub scan_begins : IsScannedTo 0 through by visited d place d place None
-  scan_begins = record {
-    relaxed = λ j h. absurd (omega (arith, h));
-    distances = λ j h. refl;
-    places = λ j h. refl;
-    none = λ e j h. absurd (omega (arith, h));
-    some = λ c e. absurd (let f : Some c ≡ None = sym e in cc);
-  }
-
   module _ (i : ℕ) (d' : ℕ → ℤ) (place' : ℕ → ℕ) (nearest : Option ℕ) (so : IsScannedTo i through by visited d place d' place' nearest) where
     pub scan_skips : visited i ≡ true → IsScannedTo (i + 1) through by visited d place d' place' nearest
     scan_skips t = record {
@@ -80,10 +71,6 @@ module _ (through : ℕ → ℤ) (by : ℕ) (visited : ℕ → Bool) (d : ℕ �
               λ j h g. elim (below_or_last j i h) as (λ _. d'' r ≤ℤ d'' j) [ inl k ↦ least nearest refl j k g | inr k ↦ subst (λ m. d'' r ≤ℤ d'' m) (sym k) below ],
             );
       }
-
-pub scan_finds : (through : ℕ → ℤ) (by : ℕ) (visited : ℕ → Bool) (d : ℕ → ℤ) (place : ℕ → ℕ) (i : ℕ) (d' : ℕ → ℤ) (place' : ℕ → ℕ) (nearest : Option ℕ) (so : IsScannedTo i through by visited d place d' place' nearest) → (f : ℕ) → f < i → visited f ≡ false → IsSome nearest
-scan_finds through by visited d place i d' place' None so f h g = absurd (true≢false (sym (so.none refl f h) ∙ g))
-scan_finds through by visited d place i d' place' (Some c) so f h g = search rules
 
 pub scan_nearest : (through : ℕ → ℤ) (by : ℕ) (visited : ℕ → Bool) (d : ℕ → ℤ) (place : ℕ → ℕ) (i : ℕ) (d' : ℕ → ℤ) (place' : ℕ → ℕ) (nearest : Option ℕ) (so : IsScannedTo i through by visited d place d' place' nearest) → (c : ℕ) → nearest ≡ Some c → IsNearest i visited d' c
 scan_nearest through by visited d place i d' place' nearest so c e = let s = so.some c e in record { inside = s.0; outside = s.1; least = s.2 }

@@ -35,19 +35,11 @@ not_below (negsuc n) h = absurd (omega (arith, ints, h))
 pub multiple_more : (r w : ℕ) (total weight more : ℤ) → total ≡ pos ((2 * r + 4) * w) → weight ≡ pos w → more ≡ total +ℤ weight +ℤ weight → more ≡ pos ((2 * (r + 1) + 4) * w)
 multiple_more r w total weight more e f h = omega (arith, ints, e, f, h)
 
-pub multiple_four : (w : ℕ) (weight total : ℤ) → weight ≡ pos w → total ≡ weight +ℤ weight +ℤ weight +ℤ weight → total ≡ pos ((2 * 0 + 4) * w)
-multiple_four w weight total e f = omega (arith, ints, e, f)
-
 -- where a multiple does not fit, no greater one does
 pub multiple_fails : (fits : ℤ → Type 0) → IsInterval fits → fits (pos 0) → (r rows : ℕ) → r < rows → (w : ℕ) (total weight : ℤ) → total ≡ pos ((2 * r + 4) * w) → weight ≡ pos w → fits (pos ((2 * rows + 4) * w)) → ¬ (fits (total +ℤ weight +ℤ weight)) → ⊥
 multiple_fails fits interval z r rows l w total weight e f g out =
     let m : (2 * (r + 1) + 4) * w ≤ (2 * rows + 4) * w = mul-le-mul_right w (omega (arith, l)) in
     out (interval (pos 0) _ (pos ((2 * rows + 4) * w)) z g (omega (arith, ints, e, f)) (omega (arith, ints, e, f, m)))
-
-pub four_fails : (fits : ℤ → Type 0) → IsInterval fits → fits (pos 0) → (rows w : ℕ) (weight : ℤ) → weight ≡ pos w → fits (pos ((2 * rows + 4) * w)) → ¬ (fits (weight +ℤ weight +ℤ weight +ℤ weight)) → ⊥
-four_fails fits interval z rows w weight f g out =
-    let m : 4 * w ≤ (2 * rows + 4) * w = mul-le-mul_right w (omega arith) in
-    out (interval (pos 0) _ (pos ((2 * rows + 4) * w)) z g (omega (arith, ints, f)) (omega (arith, ints, f, m)))
 
 -- the least of all weights and their negations is the negation of the greatest absolute weight
 pub least_is_greatest : (t : NumberTable) (z : ℤ) → z ≤ℤ pos 0 → ((r c : ℕ) → r < t.rows → c < t.columns → IsBeyond z (t.at r c)) → (z ≡ pos 0) ⊎ ((r : ℕ) × (c : ℕ) × (r < t.rows) × (c < t.columns) × IsEither z (t.at r c)) → (w : ℕ) × IsGreatestWeight t w × (z ≡ neg_ℤ (pos w))
@@ -125,8 +117,3 @@ position_of (suc rows) columns k h = elim (le_or_above (rows * columns) k) as (�
     le_or_above zero b = inl (omega arith)
     le_or_above (suc a) zero = inr (omega arith)
     le_or_above (suc a) (suc b) = elim (le_or_above a b) as (λ _. (suc a ≤ suc b) ⊎ (suc b < suc a)) [ inl h ↦ inl (omega (arith, h)) | inr h ↦ inr (omega (arith, h)) ]
-
-pub place_inside : (rows columns r c : ℕ) → r < rows → c < columns → r * columns + c < rows * columns
-place_inside rows columns r c h l =
-    let m : suc r * columns ≤ rows * columns = mul-le-mul_right columns (omega (arith, h)) in
-    omega (arith, m, l)

@@ -1,6 +1,6 @@
 -- What the search for a best assignment keeps true: rows matched one after another, potentials that
 -- bound the weights from above, and a tree of shortest ways from the row that is matched next.
-use Rattle.std.specs.Prelude.{◌≡◌, ◌≤ℤ◌, ◌<ℤ◌, ◌+ℤ◌, ◌-ℤ◌, ◌⊎◌, ℕ, zero, suc, ◌+◌, ◌<◌, ◌≢◌, ℤ, pos, neg_ℤ, Bool, true, false, List, [], ◌∷◌, length, Option, Some, None, slice_index, slice_index_or}
+use Rattle.std.specs.Prelude.{◌≡◌, ◌≤ℤ◌, ◌<ℤ◌, ◌+ℤ◌, ◌-ℤ◌, ◌⊎◌, ℕ, zero, suc, ◌+◌, ◌<◌, ◌≢◌, ℤ, pos, neg_ℤ, Bool, true, false, List, length, Option, Some, None, slice_index, slice_index_or}
 use Rattle.pf_graph.specs.Assignments.{number, NumberTable}
 
 -- the row that has column j, if one has it
