@@ -144,20 +144,24 @@ impl Weights<i64> for Products<'_> {
     }
 }
 
-/// As many rows as there can be, and no column.
-struct NoColumns;
+/// So many rows and columns of zeros.
+#[derive(Drop)]
+struct Zeros {
+    rows: usize,
+    columns: usize,
+}
 
-impl Weights<i64> for NoColumns {
+impl Weights<i64> for Zeros {
     ghost use Rattle.std.specs.Prelude.{pos};
 
-    ghost table = { λ _. record { rows = 18446744073709551615; columns = 0; at = λ r c. pos 0 } };
+    ghost table = { λ s. record { rows = s.rows; columns = s.columns; at = λ r c. pos 0 } };
 
     fn rows(&self) -> usize {
-        usize::MAX
+        self.rows
     }
 
     fn columns(&self) -> usize {
-        0
+        self.columns
     }
 
     fn at(&self, _row: usize, _column: usize) -> i64 {
@@ -165,13 +169,23 @@ impl Weights<i64> for NoColumns {
     }
 
     fn neg(&self) -> Result<Self, PathError> {
-        Ok(NoColumns)
+        Ok(Zeros {
+            rows: self.rows,
+            columns: self.columns,
+        })
     }
 }
 
 #[test]
 fn weights_fit_where_there_are_none(rt: HostRuntime) {
-    assert!(rt; weights_fit(&NoColumns));
+    let rows = usize::MAX;
+    assert!(rt; weights_fit(&Zeros { rows, columns: 0 }));
+    assert!(rt;
+        weights_fit(&Zeros {
+            rows: 2,
+            columns: 3
+        })
+    );
 }
 
 #[test]

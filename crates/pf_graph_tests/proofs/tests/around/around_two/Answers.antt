@@ -1,4 +1,4 @@
-use Rattle.std.proofs.Common.{rules, ◌≡◌, ◌∙◌, ap, subst, ℕ, ◌==◌, ◌%◌, List, ◌∷◌, [], nat_eq, if◌then◌else◌}
+use Rattle.std.proofs.Common.{rules, ◌≡◌, ◌∙◌, subst, ℕ, ◌==◌, ◌%◌, List, ◌∷◌, [], nat_eq, if◌then◌else◌}
 use Rattle.pf_base.specs.Answers.{SameNodes}
 use Rattle.pf_base.proofs.Callers.{successors_by, SameNodes-refl, nat_refl, nat_same}
 use Rattle.pf_base.proofs.Sources.{gives_chain, YieldsList-from_array}
