@@ -1,4 +1,4 @@
-//! Orders, components, spanning edges, flows and matchings.
+//! Components and spanning edges of undirected graphs, and best assignments.
 #![tactic(auto)]
 
 pub mod kuhn_munkres;
