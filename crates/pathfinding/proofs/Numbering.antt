@@ -1,13 +1,16 @@
 -- Names by their numbers, and the lines that links stand for.
-use Rattle.std.proofs.Common.{◌≡◌, ℕ, zero, suc, ◌+◌, ◌<◌, ◌≤◌, List, [], ◌∷◌, ◌++◌, map, length, refl, sym, ap, ◌∙◌, arith, Option, Some, None, Result, Ok, Err, Bor, append_assoc, append-nil}
+use Rattle.std.proofs.Common.{◌≡◌, ℕ, zero, suc, ◌+◌, ◌<◌, ◌≤◌, List, [], ◌∷◌, ◌++◌, map, length, refl, sym, ap, ◌∙◌, subst, arith, take, get_or, Option, Some, None, Result, Ok, Err, Bor, append_assoc, append-nil}
 use Rattle.std.specs.Prelude.{slice_get, IfSome}
-use Rattle.std.specs.List.{position_from, filter_map}
+use Rattle.std.specs.List.{position_from, filter_map, AllZip}
 use Rattle.std.proofs.lemmas.Iterator.Adapters.{position_from-zero}
-use Rattle.std.proofs.lemmas.List.{map-append}
+use Rattle.std.proofs.lemmas.List.{map-append, take_more}
 use Rattle.pathfinding.specs.EdgeText.{Edge, Line, Blank, Holds, Bad, line_of, said_by, is_bad, edge_in, first_bad_or, edge_text}
 use Rattle.pathfinding.specs.Fields.{lines_left}
-use Rattle.pathfinding.specs.Links.{name_at, edge_between, edges_between, AllBelow, KeepsNames}
+use Rattle.pathfinding.specs.Links.{name_at, edge_between, edges_between, AllBelow, KeepsNames, IsNumberOf}
+use Rattle.pathfinding.specs.Parsed.{edge_read, edges_taken, AreEndsOf}
 use Rattle.pathfinding.specs.declared.routes.links.Link.{Link}
+use Rattle.pathfinding.specs.declared.routes.links.Ends.{Ends}
+use Rattle.pathfinding.specs.declared.routes.text.NamedEdge.{NamedEdge}
 
 some_of : {X : Type 0} (x y : X) → Some x ≡ Some y → x ≡ y
 some_of x y e = ap (value_or x) e
@@ -92,6 +95,40 @@ edges-push old new links l e kept below from to cost =
     ∙ ap (λ (f : List ℕ). edges_between old links ++ record { from = f; to = name_at new l.target; cost = l.cost } ∷ []) from
     ∙ ap (λ (f : List ℕ). edges_between old links ++ record { from = e.from; to = f; cost = l.cost } ∷ []) to
     ∙ ap (λ (f : ℕ). edges_between old links ++ record { from = e.from; to = e.to; cost = f } ∷ []) cost
+
+pub taken-more : (edges : List NamedEdge) (i : ℕ) (e : NamedEdge) → i < length edges → e ≡ get_or edges i e → map edge_read (take (i + 1) edges) ≡ map edge_read (take i edges) ++ edge_read e ∷ []
+taken-more edges i e lt is =
+    ap (map edge_read) (take_more edges i e lt) ∙ map-append edge_read (take i edges) (get_or edges i e ∷ [])
+    ∙ ap (λ (x : NamedEdge). map edge_read (take i edges) ++ edge_read x ∷ []) (sym is)
+
+-- numbers stay those of their names where more names have numbers
+pub number-kept : (old new : List (Bor (List ℕ))) (name : List ℕ) (o : Option ℕ) → KeepsNames old new → IsNumberOf old name o → IsNumberOf new name o
+number-kept old new name None kept h = tt
+number-kept old new name (Some n) kept h = (omega (arith, h.0, kept.longer), kept.same n h.0 ∙ h.1)
+
+module _ (names : List (Bor (List ℕ))) where
+  pub ends-push : (edges : List NamedEdge) (ends : List Ends) (e : NamedEdge) (k : Ends) → AllZip (AreEndsOf names) edges ends → AreEndsOf names e k → AllZip (AreEndsOf names) (edges ++ e ∷ []) (ends ++ k ∷ [])
+  ends-push [] [] e k z h = (h, tt)
+  ends-push [] (y ∷ ys) e k z h = absurd z
+  ends-push (x ∷ xs) [] e k z h = absurd z
+  ends-push (x ∷ xs) (y ∷ ys) e k z h = (z.0, ends-push xs ys e k z.1 h)
+
+  pub ends-length : (edges : List NamedEdge) (ends : List Ends) → AllZip (AreEndsOf names) edges ends → length ends ≡ length edges
+  ends-length [] [] z = refl
+  ends-length [] (y ∷ ys) z = absurd z
+  ends-length (x ∷ xs) [] z = absurd z
+  ends-length (x ∷ xs) (y ∷ ys) z = ap suc (ends-length xs ys z.1)
+
+  pub ends-at : (edges : List NamedEdge) (ends : List Ends) (i : ℕ) (e : NamedEdge) (k : Ends) → AllZip (AreEndsOf names) edges ends → i < length edges → e ≡ get_or edges i e → k ≡ get_or ends i k → AreEndsOf names e k
+  ends-at [] ends i e k z lt ei ki = absurd (omega (arith, lt))
+  ends-at (x ∷ xs) [] i e k z lt ei ki = absurd z
+  ends-at (x ∷ xs) (y ∷ ys) zero e k z lt ei ki = subst (λ f. AreEndsOf names f k) (sym ei) (subst (AreEndsOf names x) (sym ki) z.0)
+  ends-at (x ∷ xs) (y ∷ ys) (suc i) e k z lt ei ki = ends-at xs ys i e k z.1 (omega (arith, lt)) ei ki
+
+-- one more that waits stands behind the others
+pub taken-push : (names : List (Bor (List ℕ))) (links : List Link) (waiting : List NamedEdge) (e : NamedEdge) → edges_taken names links (waiting ++ e ∷ []) ≡ edges_taken names links waiting ++ edge_read e ∷ []
+taken-push names links waiting e =
+    ap (λ es. edges_between names links ++ es) (map-append edge_read waiting (e ∷ [])) ∙ sym (append_assoc (edges_between names links) (map edge_read waiting) (edge_read e ∷ []))
 
 -- the line here, and those behind it
 reads : (rest next : Option (Bor (List ℕ))) (here : Bor (List ℕ)) (s : Line) → rest ≡ Some here → said_by here.now ≡ s ∷ said_left next → said_left rest ≡ s ∷ said_left next

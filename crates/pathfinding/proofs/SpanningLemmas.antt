@@ -1,11 +1,9 @@
 -- Edges chosen between the numbers of names, as edges of the text.
-use Rattle.std.proofs.Common.{◌≡◌, ℕ, zero, suc, ◌<◌, ◌+◌, List, [], ◌∷◌, ◌++◌, map, length, get_or, refl, sym, ap, ◌∙◌, subst, arith, true, false, nat_eq}
+use Rattle.std.proofs.Common.{◌≡◌, ℕ, zero, suc, ◌<◌, ◌+◌, List, [], ◌∷◌, ◌++◌, map, length, get_or, refl, sym, ap, ◌∙◌, subst, arith, true, nat_eq}
 use Rattle.std.specs.Prelude.{All, Contains}
-use Rattle.std.specs.Borrow.{Bor}
-use Rattle.std.specs.List.{IsDistinct, flat_map}
+use Rattle.std.specs.List.{flat_map}
 use Rattle.std.specs.List.Sorted.{IsSorted}
 use Rattle.std.specs.Ordering.{nat_cmp, is_lt}
-use Rattle.std.specs.Cmp.{IsEquivalence}
 use Rattle.std.specs.Str.{bytes_eq}
 use Rattle.std.proofs.lemmas.List.{get_or-map, length-map}
 use Rattle.std.proofs.lemmas.List.Elements.{Contains-get_or}
@@ -13,12 +11,10 @@ use Rattle.std.proofs.lemmas.Bool.Decides.{nat_tests}
 use Rattle.pf_graph.specs.Spanning.{IsForest, IsLeastUnderEveryBound, AreChosenFrom, AreBelow, AreNamedApart, named}
 use Rattle.pf_graph.proofs.Renaming.{forest_named, least_named}
 use Rattle.pathfinding.specs.EdgeText.{Edge}
-use Rattle.pathfinding.specs.Links.{name_at, edge_between, edges_between, AllBelow}
-use Rattle.pathfinding.specs.NameTable.{name_in, table_len}
+use Rattle.pathfinding.specs.Links.{name_at, edge_between, edges_between}
 use Rattle.pathfinding.specs.Network.{LinksEdges}
 use Rattle.pathfinding.specs.SpanningText.{weighed_edge, weighed_link, edge_line, numbered_line, AreInTable, AreSpanningLines}
 use Rattle.pathfinding.specs.declared.routes.links.Link.{Link}
-use Rattle.pathfinding.specs.declared.routes.name_table.NameTable.{NameTable}
 use Rattle.pathfinding.specs.declared.routes.network.Linked.{Linked}
 use Rattle.pathfinding.proofs.NameGraph.{names-same, names-equivalence}
 

@@ -1,5 +1,5 @@
 -- Links between numbered names.
-use Rattle.std.specs.Prelude.{◌≡◌, ℕ, ◌<◌, ◌≤◌, ◌==◌, nat_lt, List, [], filter, map, length, All, slice_index_or}
+use Rattle.std.specs.Prelude.{◌≡◌, ℕ, ◌<◌, ◌≤◌, ◌==◌, nat_lt, List, [], filter, map, length, All, slice_index_or, Option, IfSome}
 use Rattle.std.specs.Borrow.{Bor}
 use Rattle.pathfinding.specs.EdgeText.{Edge}
 use Rattle.pathfinding.specs.declared.routes.links.Link.{Link}
@@ -27,6 +27,10 @@ AllBelow count links = All (λ l. (l.source < count) × (l.target < count)) link
 pub record KeepsNames (old new : List (Bor (List ℕ))) : Type 0 where
   pub longer : length old ≤ length new
   pub same : (n : ℕ) → n < length old → name_at new n ≡ name_at old n
+
+-- the number, where there is one, is that of the name
+abbrev pub IsNumberOf : List (Bor (List ℕ)) → List ℕ → Option ℕ → Type 0
+IsNumberOf names name number = IfSome number (λ n. (n < length names) × (name_at names n ≡ name))
 
 -- the links that leave the node of this number, in their order
 abbrev pub links_from : ℕ → List Link → List Link

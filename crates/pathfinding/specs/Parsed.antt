@@ -1,5 +1,9 @@
 -- What the code's own types say, in the words of the text.
-use Rattle.std.specs.Prelude.{◌≡◌, ℕ, List, Option, Some, None, Ok, Err, ⊤}
+use Rattle.std.specs.Prelude.{◌≡◌, ℕ, List, ◌++◌, map, Option, Some, None, Ok, Err, ⊤}
+use Rattle.std.specs.Borrow.{Bor}
+use Rattle.pathfinding.specs.Links.{edges_between, IsNumberOf}
+use Rattle.pathfinding.specs.declared.routes.links.Link.{Link}
+use Rattle.pathfinding.specs.declared.routes.links.Ends.{Ends}
 use Rattle.pathfinding.specs.EdgeText.{Edge, Line, Blank, Holds, edge_text}
 use Rattle.pathfinding.specs.declared.routes.error.RouteError.{RouteError}
 use Rattle.pathfinding.specs.declared.routes.error.RouteError.TheVariants.{BadEdge, CostOverflow, OutOfMemory, ReadFailed, WriteFailed}
@@ -15,6 +19,14 @@ line_holding (Some e) = Holds (edge_read e)
 
 abbrev pub line_read : ReadLine → Line
 line_read r = line_holding r.edge
+
+-- the numbers, where there are any, are those of the names of the edge
+abbrev pub AreEndsOf : List (Bor (List ℕ)) → NamedEdge → Ends → Type 0
+AreEndsOf names edge ends = IsNumberOf names edge.from.now ends.from × IsNumberOf names edge.to.now ends.to
+
+-- the edges of the links, and behind them those that wait for the numbers of their names
+abbrev pub edges_taken : List (Bor (List ℕ)) → List Link → List NamedEdge → List Edge
+edges_taken names links waiting = edges_between names links ++ map edge_read waiting
 
 -- why a text gave no edges: its first bad line, or no memory
 abbrev pub RefusesText : RouteError → List ℕ → Type 0

@@ -67,6 +67,16 @@ impl<'a> Name<'a> {
         }
     }
 
+    /// The same name once more.
+    pub(crate) fn copied(&self) -> Self
+        ensures { result ≡ self.now }
+    {
+        Name {
+            bytes: self.bytes,
+            head: self.head,
+        }
+    }
+
     /// The bytes of the name.
     pub(crate) fn bytes(&self) -> &'a [u8]
         ensures { result ≡ self.now }

@@ -11,17 +11,18 @@ ghost use Rattle.pathfinding.specs.Fields.{front, behind, field_of, behind_field
 ghost use Rattle.pathfinding.specs.Parsed.{line_read};
 
 use crate::routes::bytes::{is_gap_byte, is_visible_byte};
+use crate::routes::name::Name;
 
 /// An edge whose names lie in the text that it was read from.
-#[derive(Clone, Copy, Debug)]
+#[derive(Drop)]
 pub(crate) struct NamedEdge<'a> {
-    pub(crate) from: &'a [u8],
-    pub(crate) to: &'a [u8],
+    pub(crate) from: Name<'a>,
+    pub(crate) to: Name<'a>,
     pub(crate) cost: u64,
 }
 
 /// A line that is an edge or blank, and what follows its line feed, where it has one.
-#[derive(Clone, Copy, Debug)]
+#[derive(Drop)]
 pub(crate) struct ReadLine<'a> {
     pub(crate) edge: Option<NamedEdge<'a>>,
     pub(crate) rest: Option<&'a [u8]>,
@@ -134,6 +135,11 @@ pub(crate) fn read_line(text: &[u8]) -> Option<ReadLine<'_>>
         return None;
     }
     let cost = cost_of(field)?;
-    let edge = Some(NamedEdge { from, to, cost });
+    let edge = NamedEdge {
+        from: Name::new(from),
+        to: Name::new(to),
+        cost,
+    };
+    let edge = Some(edge);
     Some(ReadLine { edge, rest })
 }

@@ -1,13 +1,14 @@
--- The links found and the lines left say what the text does, whatever names follow.
+-- The edges taken and the lines left say what the text does, whatever names follow.
 use Rattle.std.proofs.Common.{◌≡◌, ◌+◌, ◌≤◌, length}
 use Rattle.pathfinding.specs.EdgeText.{edge_text}
-use Rattle.pathfinding.specs.Links.{edges_between, AllBelow, KeepsNames}
+use Rattle.pathfinding.specs.Links.{AllBelow, KeepsNames}
+use Rattle.pathfinding.specs.Parsed.{edges_taken}
 use Rattle.pathfinding.proofs.Numbering.{left_len, said_left, text_from}
 use Rattle.pathfinding.proofs.routes.links.read_links.Given as goal
 
 abbrev pub invariant-loop-rest : goal.invariant-loop-rest
 invariant-loop-rest g l = record {
-  says : text_from l.line (edges_between l.names.keys l.links.items) (said_left l.rest) ≡ edge_text l.text;
+  says : text_from l.line (edges_taken l.names.keys l.links.items l.waiting.items) (said_left l.rest) ≡ edge_text l.text;
   below : AllBelow (length l.names.keys) l.links.items;
   kept : KeepsNames l.fn.names.keys l.names.keys;
   counts : l.line + left_len l.rest ≤ length l.text + 1;

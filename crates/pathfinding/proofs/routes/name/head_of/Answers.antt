@@ -1,4 +1,4 @@
-use Rattle.std.proofs.Common.{rules, ◌≡◌, ◌<◌, ◌≤◌, ◌+◌, ◌*◌, ◌^◌, ℕ, suc, arith, Fits, w64, length, min}
+use Rattle.std.proofs.Common.{rules, ◌<◌, ◌≤◌, ◌+◌, ◌*◌, ◌^◌, ℕ, arith}
 use Rattle.std.proofs.Math.Nat.{pow-le-pow_right}
 use Rattle.pathfinding.proofs.routes.name.head_of.Goals as goal
 

@@ -65,7 +65,7 @@ returns-clause-says c =
     let h2 = c.is_empty-2.ensures in
     let k2 = c.if-is_empty-2.false in
     let all = says-three _ _ _ _ _ t _ c.in_ok-rest.ensures.lines (grind (arith, nat_tests)) (grind (arith, nat_tests)) in
-    all ∙ ap (λ l. l ∷ map line_of (lines_left c.in_ok-rest.rest)) (three-some c.split_field.result.0.now c.split_field-2.result.0.now c.split_field-3.result.0.now c.in_ok-cost.cost (sym c.in_ok-cost.ensures))
+    rw (c.new.ensures, c.new-2.ensures) (all ∙ ap (λ l. l ∷ map line_of (lines_left c.in_ok-rest.rest)) (three-some c.split_field.result.0.now c.split_field-2.result.0.now c.split_field-3.result.0.now c.in_ok-cost.cost (sym c.in_ok-cost.ensures)))
 
 pub returns-clause-shorter : goal.returns-clause-shorter
 returns-clause-shorter c = shorter c.args.text.now c.split_field.result.1.now c.split_field-2.result.1.now c.split_field-3.result.1.now c.skip_gap.result.now _
