@@ -7,7 +7,7 @@ use Rattle.std.proofs.lemmas.List.{map-append, take_more}
 use Rattle.pathfinding.specs.EdgeText.{Edge, Line, Blank, Holds, Bad, line_of, said_by, is_bad, edge_in, first_bad_or, edge_text}
 use Rattle.pathfinding.specs.Fields.{lines_left}
 use Rattle.pathfinding.specs.Links.{name_at, edge_between, edges_between, AllBelow, KeepsNames, IsNumberOf}
-use Rattle.pathfinding.specs.Parsed.{edge_read, edges_taken, AreEndsOf}
+use Rattle.pathfinding.specs.Parsed.{edge_read, AreEndsOf}
 use Rattle.pathfinding.specs.declared.routes.links.Link.{Link}
 use Rattle.pathfinding.specs.declared.routes.links.Ends.{Ends}
 use Rattle.pathfinding.specs.declared.routes.text.NamedEdge.{NamedEdge}
@@ -96,6 +96,7 @@ edges-push old new links l e kept below from to cost =
     ∙ ap (λ (f : List ℕ). edges_between old links ++ record { from = e.from; to = f; cost = l.cost } ∷ []) to
     ∙ ap (λ (f : ℕ). edges_between old links ++ record { from = e.from; to = e.to; cost = f } ∷ []) cost
 
+-- the edges up to a place, and the one there
 pub taken-more : (edges : List NamedEdge) (i : ℕ) (e : NamedEdge) → i < length edges → e ≡ get_or edges i e → map edge_read (take (i + 1) edges) ≡ map edge_read (take i edges) ++ edge_read e ∷ []
 taken-more edges i e lt is =
     ap (map edge_read) (take_more edges i e lt) ∙ map-append edge_read (take i edges) (get_or edges i e ∷ [])
@@ -124,11 +125,6 @@ module _ (names : List (Bor (List ℕ))) where
   ends-at (x ∷ xs) [] i e k z lt ei ki = absurd z
   ends-at (x ∷ xs) (y ∷ ys) zero e k z lt ei ki = subst (λ f. AreEndsOf names f k) (sym ei) (subst (AreEndsOf names x) (sym ki) z.0)
   ends-at (x ∷ xs) (y ∷ ys) (suc i) e k z lt ei ki = ends-at xs ys i e k z.1 (omega (arith, lt)) ei ki
-
--- one more that waits stands behind the others
-pub taken-push : (names : List (Bor (List ℕ))) (links : List Link) (waiting : List NamedEdge) (e : NamedEdge) → edges_taken names links (waiting ++ e ∷ []) ≡ edges_taken names links waiting ++ edge_read e ∷ []
-taken-push names links waiting e =
-    ap (λ es. edges_between names links ++ es) (map-append edge_read waiting (e ∷ [])) ∙ sym (append_assoc (edges_between names links) (map edge_read waiting) (edge_read e ∷ []))
 
 -- the line here, and those behind it
 reads : (rest next : Option (Bor (List ℕ))) (here : Bor (List ℕ)) (s : Line) → rest ≡ Some here → said_by here.now ≡ s ∷ said_left next → said_left rest ≡ s ∷ said_left next
