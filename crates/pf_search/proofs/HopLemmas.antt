@@ -1,6 +1,6 @@
 -- A search by number of edges: numbers in the order found are visited in turn.
-use Rattle.std.proofs.Common.{rules, ℕ, zero, suc, ◌+◌, ◌-◌, ◌<◌, ◌≤◌, ◌≡◌, ◌≢◌, refl, sym, ◌∙◌, ap, subst, arith, Bool, true, false, List, [], ◌∷◌, ◌++◌, length, length-append, inl, inr, ℤ, pos, Option, Some, None, true≢false, replicate, cond, map, take, take_all}
-use Rattle.std.specs.Prelude.{slice_get, slice_set, Contains, ◌≤ℤ◌, ◌+ℤ◌, ◌⊎◌}
+use Rattle.std.proofs.Common.{ℕ, zero, suc, ◌+◌, ◌-◌, ◌<◌, ◌≤◌, ◌≡◌, refl, sym, ◌∙◌, ap, subst, arith, Bool, true, false, List, [], ◌∷◌, ◌++◌, length, length-append, inl, inr, ℤ, pos, Option, Some, None, true≢false, replicate, cond, map}
+use Rattle.std.specs.Prelude.{slice_get, slice_set, Contains, ◌≤ℤ◌, ◌⊎◌}
 use Rattle.std.proofs.lemmas.Int.{ints}
 use Rattle.std.proofs.lemmas.List.Sums.{sum_by-append}
 use Rattle.std.proofs.lemmas.List.Folds.{sum_by-replicate}
@@ -12,7 +12,7 @@ use Rattle.pf_base.specs.Walks.{end_of}
 use Rattle.pf_search.proofs.PathLemmas.{was_label, chain_path, IsTree-turn, IsTree-settle}
 use Rattle.pf_search.proofs.SearchLemmas.{IsSearch, Grows-trans, goal_above, turn}
 use Rattle.pf_search.proofs.ListLemmas.{nat_dec, get-append, none_in, Contains-head, Contains-tail, Contains-cases}
-use Rattle.pf_search.proofs.LabelLemmas.{HasLabel-inside, label_is, Settles-set, Widened-more}
+use Rattle.pf_search.proofs.LabelLemmas.{HasLabel-inside, Settles-set, Widened-more}
 
 abbrev pub Hops : Type 0
 Hops = Unit {0}
@@ -47,11 +47,17 @@ breadth_least n labels l b at j m h o = elim (le_or_less n j) as (λ _. pos l.de
 pub breadth_done : (n : ℕ) (labels : Labels Hops) → IsBreadth n labels → length labels ≤ n → AllSettled labels
 breadth_done n labels b all k l h = b.done k l h (omega (arith, HasLabel-inside labels k l h, all))
 
+-- the first labels were put into an empty list
+pub started : (labels0 labels : Labels Hops) (found n : ℕ) (v : Option (Label Hops)) → labels0 ≡ [] → labels ≡ labels0 ++ replicate (found - length labels0) v → v ≡ Some (reached_from 0 0) → found ≡ n → labels ≡ replicate n (Some (reached_from 0 0))
+started labels0 labels found n v nil e is q =
+    let none : length labels0 ≡ 0 = ap length nil in
+    let more : found - length labels0 ≡ n = omega (arith, none, q) in
+    e ∙ ap (λ xs. xs ++ replicate (found - length labels0) v) nil ∙ ap (λ i. replicate i v) more ∙ ap (λ x. replicate n x) is
+
 -- more of one label were put behind the others
-pub resized : (labels1 labels3 : Labels Hops) (found more parent depth deep : ℕ) (v : Option (Label Hops)) → labels3 ≡ take found labels1 ++ replicate more v → length labels1 ≤ found → v ≡ Some (reached_from parent deep) → deep ≡ depth
-    → labels3 ≡ labels1 ++ replicate more (Some (reached_from parent depth))
-resized labels1 labels3 found more parent depth deep v e le is d =
-    e ∙ ap (λ xs. xs ++ replicate more v) (take_all found labels1 le) ∙ ap (λ x. labels1 ++ replicate more x) (is ∙ ap (λ i. Some (reached_from parent i)) d)
+pub resized : (labels1 labels3 : Labels Hops) (more parent depth deep : ℕ) (v : Option (Label Hops)) → labels3 ≡ labels1 ++ replicate more v → v ≡ Some (reached_from parent (deep + 1)) → deep ≡ depth
+    → labels3 ≡ labels1 ++ replicate more (Some (reached_from parent (depth + 1)))
+resized labels1 labels3 more parent depth deep v e is d = e ∙ ap (λ x. labels1 ++ replicate more x) (is ∙ ap (λ i. Some (reached_from parent (i + 1))) d)
 
 -- ---- labels of one kind alone, and behind others
 

@@ -1,13 +1,13 @@
 -- Lemmas on labels.
-use Rattle.std.proofs.Common.{rules, ℕ, zero, suc, ◌+◌, ◌<◌, ◌≤◌, ◌≡◌, refl, sym, ◌∙◌, ap, subst, arith, Bool, true, false, List, [], ◌∷◌, ◌++◌, length, get_or, take, cond, inl, inr, ℤ, Option, Some, None, true≢false, replicate}
-use Rattle.std.specs.Prelude.{slice_get, slice_set, Contains, MatchBool, MatchOption, not, ◌≤ℤ◌, ◌<ℤ◌, ◌+ℤ◌, ◌⊎◌}
+use Rattle.std.proofs.Common.{rules, ℕ, zero, suc, ◌+◌, ◌<◌, ◌≡◌, refl, sym, ◌∙◌, ap, subst, arith, Bool, true, false, List, [], ◌∷◌, ◌++◌, length, get_or, take, cond, inl, inr, ℤ, Option, Some, None, true≢false, replicate}
+use Rattle.std.specs.Prelude.{slice_get, slice_set, Contains, MatchBool, MatchOption, ◌≤ℤ◌, ◌<ℤ◌, ◌+ℤ◌, ◌⊎◌}
 use Rattle.std.proofs.lemmas.Int.{ints}
 use Rattle.std.proofs.lemmas.List.Sums.{sum_by-append}
 use Rattle.std.proofs.lemmas.List.Folds.{sum_by-replicate}
 use Rattle.std.proofs.lemmas.Option.{slice_get_within}
 use Rattle.pf_search.specs.declared.labels.Label.{Label}
-use Rattle.pf_search.specs.Labels.{Labels, HasLabel, by_cost, cost_of, is_settled, settled_count, depth_of, AllSettled, IsTree, IsWithin, Settles, Lowered, ComesFrom, Covers, Stepped, Relaxed, Widened}
-use Rattle.pf_search.proofs.ListLemmas.{nat_dec, bool_dec, get_set, none_in, get-append, count_by-set, count_by-set_more, Contains-take_more, Contains-take, Contains-take_here}
+use Rattle.pf_search.specs.Labels.{Labels, HasLabel, by_cost, cost_of, is_settled, settled_count, depth_of, IsTree, IsWithin, Settles, Lowered, ComesFrom, Covers, Stepped, Relaxed, Widened}
+use Rattle.pf_search.proofs.ListLemmas.{at_place, get_set, none_in, get-append, count_by-set, count_by-set_more, Contains-take_more, Contains-take, Contains-take_here}
 
 pub HasLabel-inside : {C : Type 0} (labels : Labels C) (k : ℕ) (l : Label C) → HasLabel labels k l → k < length labels
 HasLabel-inside labels k l h = slice_get_within labels k (Some l) h
@@ -210,9 +210,12 @@ module _ {C : Type 0} (value : C → ℤ) (labels : Labels C) (next : ℕ) (labe
   improves_at true o h = of_label (λ l. (l.settled ≡ false) × (value total <ℤ value l.cost)) labels next label at (o, h)
   improves_at false o h = (label, at, inr h)
 
-  -- a settled label stays
-  pub settled_stays : label.settled ≡ true → MatchBool (not label.settled) ((l : Label C) → HasLabel labels next l → (l.settled ≡ false) × (value total <ℤ value l.cost)) ((l : Label C) × HasLabel labels next l × IsWithin (by_cost value) l (value total))
-  settled_stays t = subst (λ b. MatchBool b ((l : Label C) → HasLabel labels next l → (l.settled ≡ false) × (value total <ℤ value l.cost)) ((l : Label C) × HasLabel labels next l × IsWithin (by_cost value) l (value total))) (sym (ap not t)) (label, at, inl t)
+-- what the place of a number tells of its parent
+pub parent_there : {C : Type 0} (labels : Labels C) (number : ℕ) → number < length labels → (o : Option (Label C)) → o ≡ get_or labels number o → (r : Option ℕ)
+    → MatchOption r ((l : Label C) → o ≡ Some l → l.depth ≡ 0) (λ p. (l : Label C) × (o ≡ Some l) × (l.parent ≡ p) × (0 < l.depth))
+    → MatchOption r ((l : Label C) → HasLabel labels number l → l.depth ≡ 0) (λ p. (l : Label C) × HasLabel labels number l × (l.parent ≡ p) × (0 < l.depth))
+parent_there labels number h o is None m = λ l k. m l (let e : Some o ≡ Some (Some l) = sym (at_place labels number o o h (sym is)) ∙ k in cc)
+parent_there labels number h o is (Some p) m = (m.0, at_place labels number o o h (sym is) ∙ ap Some m.1, m.2, m.3)
 
 -- the parent of a label that is not the first has a settled label, which is one less deep
 pub parent_labelled : {C : Type 0} (labels : Labels C) → IsTree labels → (k : ℕ) (l : Label C) → HasLabel labels k l → 0 < l.depth → (m : Label C) × HasLabel labels l.parent m × (m.settled ≡ true) × (l.depth ≡ m.depth + 1)
@@ -235,9 +238,6 @@ module _ {C : Type 0} (labels : Labels C) (first : Label C) (e : labels ≡ Some
 
   pub tree_start : first.depth ≡ 0 → IsTree labels
   tree_start flat = record { linked = λ k l h. let o = only k l h in inl (ap (λ (m : Label C). m.depth) o.1 ∙ flat) }
-
-  pub deep_start : first.depth ≡ 0 → (n : ℕ) (k : ℕ) (l : Label C) → HasLabel labels k l → l.depth ≤ n
-  deep_start flat n k l h = let o = only k l h in omega (arith, ap (λ (m : Label C). m.depth) o.1, flat)
 
   pub count_start : first.settled ≡ false → settled_count labels ≡ 0
   count_start f = subst (λ (xs : Labels C). settled_count xs ≡ 0) (sym e) (let h : ◌≡◌ {A = ℕ} (cond first.settled 1 0) 0 = ap (λ b. cond b 1 0) f in omega (arith, h))

@@ -1,5 +1,5 @@
 -- A walk along edges is a walk along the nodes that they lead to.
-use Rattle.std.proofs.Common.{◌≡◌, ◌≤◌, Bool, true, List, [], ◌∷◌, length, inl, inr, ℤ}
+use Rattle.std.proofs.Common.{◌≤◌, Bool, List, [], ◌∷◌, length, inl, inr, ℤ}
 use Rattle.pf_base.specs.Walks.{HasNode, Follows}
 use Rattle.pf_base.specs.Edges.{HasEdge, IsSuccessor, IsBestGoalPath}
 use Rattle.pf_base.specs.Successors.{Precedes, IsShortestGoalPath}

@@ -1,4 +1,5 @@
 pub mod ListLemmas
+pub mod SlotLemmas
 pub mod LabelLemmas
 pub mod QueueLemmas
 pub mod FrontierLemmas

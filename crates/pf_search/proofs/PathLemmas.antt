@@ -6,7 +6,7 @@ use borrow.Author.Tests.{eqb-true}
 use Rattle.pf_base.specs.Walks.{end_of, HasNode, NoRepeats}
 use Rattle.pf_search.specs.Steps.{GoesAlong, IsNumberedPath}
 use Rattle.pf_search.specs.declared.labels.Label.{Label}
-use Rattle.pf_search.specs.Labels.{Labels, HasLabel, cost_of, IsTree, Climbs, IsChain, Settles, Widened, Relaxed, settled_count}
+use Rattle.pf_search.specs.Labels.{Labels, HasLabel, cost_of, IsTree, Climbs, IsChain, Settles, Widened, Relaxed}
 use Rattle.pf_search.proofs.ListLemmas.{nat_dec, reverse-cons}
 use Rattle.pf_search.proofs.LabelLemmas.{label_is, parent_labelled}
 use Rattle.pf_search.proofs.FrontierLemmas.{goes_more, end_more}
@@ -172,16 +172,3 @@ module _ {C : Type 0} (measure : C → ℕ → ℤ) (k : ℕ) (l : Label C) (lab
         | inr i ↦ let from = i.2 in inr (record l { settled = true }, subst (λ (n : ℕ). HasLabel labels3 n (record l { settled = true })) (sym from.before) (settled_stays_3 k (record l { settled = true }) z.now refl), refl, from.deeper)
       ];
     }
-
-    pub count_turn : settled_count labels3 ≡ settled_count labels + 1
-    count_turn = rel.count ∙ wide.count ∙ z.count
-
-    -- no label is deeper than the number of settled ones
-    pub deep_turn : ((j : ℕ) (m : Label C) → HasLabel labels j m → m.depth ≤ settled_count labels) → (j : ℕ) (m : Label C) → HasLabel labels3 j m → m.depth ≤ settled_count labels3
-    deep_turn deep j m h = elim (rel.from j m h) as (λ _. m.depth ≤ settled_count labels3) [
-      | inl i ↦ elim (was_label j m (wide.from j m i)) as (λ _. m.depth ≤ settled_count labels3) [
-        | inl e ↦ let d : m.depth ≡ l.depth = ap (λ (n : Label C). n.depth) e.1 in omega (arith, deep k l z.was, d, count_turn)
-        | inr e ↦ omega (arith, deep j m e.1, count_turn)
-      ]
-      | inr i ↦ let from = i.2 in omega (arith, from.deeper, deep k l z.was, count_turn)
-    ]

@@ -1,5 +1,5 @@
 -- Lemmas on what waits.
-use Rattle.std.proofs.Common.{rules, ℕ, ◌<◌, ◌≡◌, ◌≢◌, refl, sym, ◌∙◌, ap, subst, arith, true, false, [], ◌∷◌, length, inl, inr, ℤ, Option, Some, None, true≢false}
+use Rattle.std.proofs.Common.{ℕ, ◌<◌, ◌≡◌, ◌≢◌, refl, sym, ◌∙◌, ap, subst, arith, true, false, [], ◌∷◌, length, inl, inr, ℤ, Some, None, true≢false}
 use Rattle.std.specs.Prelude.{slice_get, slice_set, Contains, IsPermutation, ◌≤ℤ◌, ◌<ℤ◌, ◌⊎◌}
 use Rattle.std.specs.declared.cmp.Reverse.{Reverse}
 use Rattle.std.proofs.lemmas.Int.{ints}

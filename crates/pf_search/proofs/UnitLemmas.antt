@@ -1,13 +1,13 @@
 -- Lemmas on graphs in which each edge costs 1.
-use Rattle.std.proofs.Common.{◌≡◌, ℕ, zero, suc, ◌<◌, ◌≤◌, Bool, true, false, Option, Some, List, [], ◌∷◌, ◌++◌, length, refl, sym, subst, arith, Bor, inl, inr, ℤ, pos}
+use Rattle.std.proofs.Common.{◌≡◌, ℕ, zero, suc, ◌<◌, ◌≤◌, Bool, true, Option, Some, List, [], ◌∷◌, ◌++◌, length, refl, sym, subst, arith, Bor, inl, inr, ℤ, pos}
 use Rattle.std.specs.Prelude.{◌↔◌, ◌≤ℤ◌, map}
 use Rattle.std.specs.Cmp.{IsEquivalence}
 use Rattle.std.specs.Iterator.{Count}
 use Rattle.std.specs.Fn.{Mut}
-use Rattle.std.specs.List.{IsDistinct, AllByRecursion}
+use Rattle.std.specs.List.{IsDistinct}
 use Rattle.std.proofs.lemmas.Int.{ints}
 use Rattle.std.proofs.lemmas.List.{map-append}
-use Rattle.pf_base.specs.Walks.{HasNode, NoRepeats, Follows, IsGoalWalk, HasNoGoalWalk, IsReachable}
+use Rattle.pf_base.specs.Walks.{HasNode, Follows, IsGoalWalk, HasNoGoalWalk, IsReachable}
 use Rattle.pf_base.specs.NodeRefs.{HasSameNodes}
 use Rattle.pf_base.specs.Edges.{HasEdge, IsSuccessor, StepCosts, StepsCost, InReach, IsBestGoalPath}
 use Rattle.pf_base.specs.Successors.{Precedes, IsShortestGoalPath}
@@ -16,8 +16,8 @@ use Rattle.pf_search.specs.Numbered.{StandsBelow}
 use Rattle.pf_search.specs.Steps.{IsHop}
 use Rattle.pf_search.specs.Nodes.{StandsFor, IsStep, NumbersItems, AddedFrom, AddsNode}
 use Rattle.pf_search.specs.Hops.{HopGraph, unit_edges, unit_graph, with_ones, ExploresHops}
-use Rattle.pf_search.proofs.ListLemmas.{bool_dec, none_in}
-use Rattle.pf_search.proofs.NodeLemmas.{eq-sym, eq-trans, InReach-start, Numbers-push, AddedFrom-push}
+use Rattle.pf_search.proofs.ListLemmas.{none_in}
+use Rattle.pf_search.proofs.NodeLemmas.{InReach-start, Numbers-push, AddedFrom-push}
 
 -- what holds within a sort of nodes holds within any smaller one
 module _ {F N R : Type 0} (calls : Mut F (Bor N × Unit {0}) R) (within within' : N → Type 0) (less : (x : N) → within' x → within x) (gives : N → R → Type 0) where

@@ -3,9 +3,10 @@
 ghost use Rattle.std.specs.Prelude.{◌≡◌, ◌<◌, ◌≤◌, ◌+◌, ◌⊎◌, ℕ, Contains, IfOk, IfErr, IfSome, MatchOption};
 ghost use Rattle.pf_search.specs.Steps.{IsPositive, NoGoal, IsBestNumbered, IsTooDear};
 
-use crate::labels::{Label, covers, path_to, widen};
+use crate::labels::{covers, path_to, widen};
 use crate::numbered::NumberedGraph;
 use crate::queue::{Queue, relax, settle_next};
+use crate::slot::Slot;
 use pf_base::utils::Tally;
 use pf_base::{Cost, PathError};
 use std::alloc::Allocator;
@@ -33,16 +34,11 @@ pub fn cheapest_path<C: Cost, G: NumberedGraph<C>, A: Allocator + Copy>(
     ensures asked { tally.new ≤ tally.old + G.found graph.new }
     ensures errors { IfErr result (λ e. (e ≡ PathError.OutOfMemory) ⊎ (e ≡ PathError.CostOverflow)) }
 {
-    let mut labels: Vec<Option<Label<C>>, A> = Vec::new(alloc);
+    let mut labels: Vec<Slot<C>, A> = Vec::new(alloc);
     let mut queue: Queue<C, A> = BinaryHeap::new(alloc);
     let mut row: Vec<(usize, C), A> = Vec::new(alloc);
     let nothing = C::zero();
-    labels.push(Some(Label {
-        cost: nothing,
-        parent: 0,
-        depth: 0,
-        settled: false,
-    }))?;
+    labels.push(Slot::first(nothing))?;
     queue.push(Reverse((nothing, 0)))?;
     'turns: while let Some(next) = settle_next(&mut labels, &mut queue) {
         let (node, label) = next;
@@ -54,7 +50,7 @@ pub fn cheapest_path<C: Cost, G: NumberedGraph<C>, A: Allocator + Copy>(
         tally.tick();
         graph.expand(node, &mut row)?;
         widen(&mut labels, graph.found())?;
-        relax(&mut labels, &mut queue, node, label, &row)?;
+        relax(&mut labels, &mut queue, node, &label, &row)?;
         if !covers(&labels, &row) {
             return Err(PathError::CostOverflow);
         }

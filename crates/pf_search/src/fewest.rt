@@ -6,34 +6,22 @@ ghost use Rattle.pf_search.specs.Labels.{HasLabel, by_depth, Settles};
 ghost use Rattle.pf_search.specs.Steps.{IsHop, NoGoal, IsBestNumbered};
 ghost use Rattle.pf_search.specs.Numbered.{StandsBelow};
 
-use crate::labels::{Label, path_to};
+use crate::depth::Depth;
+use crate::labels::{fill, path_to};
 use crate::numbered::NumberedGraph;
+use crate::slot::Slot;
 use pf_base::{Cost, PathError};
 use std::alloc::Allocator;
 
-/// The label of a node that was reached in so many steps from the node of number `parent`.
-fn reached(parent: usize, depth: usize) -> Option<Label<()>>
-    ensures { result ≡ Some (record { cost = tt; parent = parent; depth = depth; settled = false }) }
-{
-    Some(Label {
-        cost: (),
-        parent,
-        depth,
-        settled: false,
-    })
-}
-
 /// Settles the label of a number, and answers its depth.
-fn settle<A: Allocator>(labels: &mut Vec<Option<Label<()>>, A>, number: usize) -> usize
+fn settle<A: Allocator>(labels: &mut Vec<Slot<()>, A>, number: usize) -> Depth
     requires { (l : Label (Unit {0})) × HasLabel labels.old.items number l }
     ensures { (l : Label (Unit {0})) → HasLabel labels.old.items number l → (result ≡ l.depth) × (labels.new.items ≡ slice_set labels.old.items number (Some (record l { settled = true }))) }
 {
-    match labels[number] {
+    let slot = &mut labels[number];
+    match slot.label() {
         Some(label) => {
-            labels[number] = Some(Label {
-                settled: true,
-                ..label
-            });
+            slot.settle();
             label.depth
         }
         None => unreachable!(),
@@ -55,9 +43,9 @@ pub fn fewest_edges_path<C: Cost, G: NumberedGraph<C>, A: Allocator + Copy>(
         (λ numbers. (t : ℤ) × IsBestNumbered (G.step g) (G.passes g) (StandsBelow (G.found graph.old) (G.stands graph.old)) (G.stands graph.new) numbers.items t)) }
     ensures errors { IfErr result (λ e. e ≡ PathError.OutOfMemory) }
 {
-    let mut labels: Vec<Option<Label<()>>, A> = Vec::new(alloc);
+    let mut labels: Vec<Slot<()>, A> = Vec::new(alloc);
     let mut row: Vec<(usize, C), A> = Vec::new(alloc);
-    labels.resize(graph.found(), reached(0, 0))?;
+    fill(&mut labels, graph.found(), Slot::first(()))?;
     let mut node = 0;
     'nodes: while node < labels.len() {
         if graph.is_goal(node) {
@@ -66,7 +54,7 @@ pub fn fewest_edges_path<C: Cost, G: NumberedGraph<C>, A: Allocator + Copy>(
         }
         graph.expand(node, &mut row)?;
         let depth = settle(&mut labels, node);
-        labels.resize(graph.found(), reached(node, depth + 1))?;
+        fill(&mut labels, graph.found(), Slot::behind(node, &depth, ()))?;
         node += 1;
     }
     Ok(None)

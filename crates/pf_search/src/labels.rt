@@ -1,25 +1,28 @@
 //! What a search by rising cost knows of the nodes that were found: their labels, by number.
 
-ghost use Rattle.std.specs.Prelude.{◌≡◌, ◌<◌, ◌≤◌, ◌<ℤ◌, ℕ, true, false, Some, OnOk, IfOk, IfErr, Contains, MatchOption, MatchBool, length, slice_set};
+ghost use Rattle.std.specs.Prelude.{◌≡◌, ◌<◌, ◌≤◌, ◌<ℤ◌, ◌-◌, ◌^◌, ◌++◌, replicate, ℕ, true, false, Some, OnOk, IfOk, IfErr, Contains, MatchOption, MatchBool, length, slice_set};
 ghost use Rattle.pf_search.specs.declared.labels.Label.{Label};
 ghost use Rattle.pf_search.specs.Labels.{HasLabel, by_cost, IsTree, IsChain, IsWithin, Widened};
 
+use crate::depth::Depth;
+use crate::slot::Slot;
 use pf_base::{Cost, PathError};
 use std::alloc::Allocator;
 
 /// What is known of a node: the cost of a path to it, the number before it on that path, how many
-/// steps the path has, and whether the label is settled, and so will not change.
-#[derive(Clone, Copy)]
+/// steps the path has (which contracts alone see), and whether the label is settled, and so will not
+/// change. A search stores labels in `Slot`s.
+#[derive(Drop)]
 pub struct Label<C> {
     pub cost: C,
     pub parent: usize,
-    pub depth: usize,
+    pub depth: Depth,
     pub settled: bool,
 }
 
 /// Settles the label of a number, if it has one that is open, and answers the label as it was.
 pub fn settle<C: Cost, A: Allocator>(
-    labels: &mut Vec<Option<Label<C>>, A>,
+    labels: &mut Vec<Slot<C>, A>,
     number: usize,
 ) -> Option<Label<C>>
     requires { number < length labels.old.items }
@@ -27,39 +30,40 @@ pub fn settle<C: Cost, A: Allocator>(
         ((labels.new.items ≡ labels.old.items) × ((l : Label C) → HasLabel labels.old.items number l → l.settled ≡ true))
         (λ l. HasLabel labels.old.items number l × (l.settled ≡ false) × (labels.new.items ≡ slice_set labels.old.items number (Some (record l { settled = true })))) }
 {
-    let label = labels[number]?;
+    let label = labels[number].label()?;
     if label.settled {
         return None;
     }
-    labels[number] = Some(Label {
-        settled: true,
-        ..label
-    });
+    let slot = &mut labels[number];
+    slot.settle();
     Some(label)
 }
 
 /// Would a label of this cost change what is known of the number?
-pub fn improves<C: Cost>(labels: &[Option<Label<C>>], next: usize, total: C) -> bool
+pub fn improves<C: Cost>(labels: &[Slot<C>], next: usize, total: C) -> bool
     requires { next < length labels.now }
     ensures { MatchBool result
         ((l : Label C) → HasLabel labels.now next l → (l.settled ≡ false) × (C.value total <ℤ C.value l.cost))
         ((l : Label C) × HasLabel labels.now next l × IsWithin (by_cost C.value) l (C.value total)) }
 {
-    match labels[next] {
-        Some(label) => !label.settled && total < label.cost,
-        None => true,
+    let Some(label) = labels[next].label() else {
+        return true;
+    };
+    if label.settled {
+        return false;
     }
+    total < label.cost
 }
 
 /// Has the end of each step of the row a label?
-pub fn covers<C: Cost>(labels: &[Option<Label<C>>], row: &[(usize, C)]) -> bool
+pub fn covers<C: Cost>(labels: &[Slot<C>], row: &[(usize, C)]) -> bool
     requires { (j : ℕ) (c : C) → Contains row.now (j, c) → j < length labels.now }
     ensures { MatchBool result
         ((j : ℕ) (c : C) → Contains row.now (j, c) → (m : Label C) × HasLabel labels.now j m × C.fits (C.value m.cost))
         ((j : ℕ) × (c : C) × Contains row.now (j, c) × ((m : Label C) → ¬ (HasLabel labels.now j m))) }
 {
     'steps: for (next, _) in row {
-        match labels[*next] {
+        match labels[*next].label() {
             None => return false,
             Some(label) => label.cost.known(),
         }
@@ -67,42 +71,54 @@ pub fn covers<C: Cost>(labels: &[Option<Label<C>>], row: &[(usize, C)]) -> bool
     true
 }
 
+/// As many nodes as labels can name. So many labels are more than any memory has.
+const MOST: usize = 0x4000_0000_0000_0000;
+
+/// Gives each of the nodes that were found since the last time the same label, or none.
+pub fn fill<C: Copy, A: Allocator>(
+    labels: &mut Vec<Slot<C>, A>,
+    found: usize,
+    slot: Slot<C>,
+) -> Result<(), PathError>
+    requires { length labels.old.items ≤ found }
+    ensures filled { OnOk result (labels.new.items ≡ labels.old.items ++ replicate (found - length labels.old.items) slot) }
+    ensures few { OnOk result (found ≤ 2 ^ 62) }
+    ensures refused { IfErr result (λ e. e ≡ PathError.OutOfMemory) }
+{
+    if found > MOST {
+        return Err(PathError::OutOfMemory);
+    }
+    labels.resize(found, slot)?;
+    Ok(())
+}
+
 /// Makes room for the labels of the nodes that were found.
 pub fn widen<C: Cost, A: Allocator>(
-    labels: &mut Vec<Option<Label<C>>, A>,
+    labels: &mut Vec<Slot<C>, A>,
     found: usize,
 ) -> Result<(), PathError>
     requires { length labels.old.items ≤ found }
     ensures widened { OnOk result (Widened found labels.old.items labels.new.items) }
+    ensures few { OnOk result (found ≤ 2 ^ 62) }
     ensures refused { IfErr result (λ e. e ≡ PathError.OutOfMemory) }
 {
-    labels.resize(found, None)?;
-    Ok(())
+    fill(labels, found, Slot::none(C::zero()))
 }
 
 /// The number before this one on its path, or `None` where the path begins with it.
-fn parent_of<C: Copy>(labels: &[Option<Label<C>>], number: usize) -> Option<usize>
+fn parent_of<C: Copy>(labels: &[Slot<C>], number: usize) -> Option<usize>
     requires { number < length labels.now }
     ensures { MatchOption result
         ((l : Label C) → HasLabel labels.now number l → l.depth ≡ 0)
         (λ parent. (l : Label C) × HasLabel labels.now number l × (l.parent ≡ parent) × (0 < l.depth)) }
 {
-    match labels[number] {
-        Some(label) => {
-            if label.depth > 0 {
-                Some(label.parent)
-            } else {
-                None
-            }
-        }
-        None => None,
-    }
+    labels[number].parent()
 }
 
 /// The numbers on the path to `last`, from number 0 on.
 pub fn path_to<C: Copy, A: Allocator + Copy>(
     alloc: A,
-    labels: &[Option<Label<C>>],
+    labels: &[Slot<C>],
     last: usize,
 ) -> Result<Vec<usize, A>, PathError>
     requires tree { IsTree labels.now }

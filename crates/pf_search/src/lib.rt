@@ -6,6 +6,7 @@
 #![tactic(auto)]
 
 mod cheapest;
+mod depth;
 pub mod directed;
 mod discovery;
 mod fewest;
@@ -14,3 +15,4 @@ mod labels;
 pub mod laws;
 mod numbered;
 mod queue;
+mod slot;

@@ -11,6 +11,7 @@ ghost use Rattle.pf_search.specs.Labels.{by_cost, AllSettled, Settles, Lowered, 
 ghost use Rattle.pf_search.specs.Queue.{entry_cmp, IsQueue};
 
 use crate::labels::{Label, improves, settle};
+use crate::slot::Slot;
 use pf_base::{Cost, PathError};
 use std::alloc::Allocator;
 use std::cmp::Reverse;
@@ -34,7 +35,7 @@ fn pop_least<C: Cost, A: Allocator>(queue: &mut Queue<C, A>) -> Option<Reverse<(
 /// Settles an open label of least cost. The answer is its number and the label as it was, or `None`
 /// where all labels are settled.
 pub fn settle_next<C: Cost, A: Allocator>(
-    labels: &mut Vec<Option<Label<C>>, A>,
+    labels: &mut Vec<Slot<C>, A>,
     queue: &mut Queue<C, A>,
 ) -> Option<(usize, Label<C>)>
     requires ordered { IsHeap (entry_cmp C.cmp) (heap_items queue.old) }
@@ -53,76 +54,73 @@ pub fn settle_next<C: Cost, A: Allocator>(
     None
 }
 
-/// Puts in the label, if none is there or it costs less than the open one that is there.
+/// Puts in the label of the path that goes on from the number `parent`, whose label is `label`, at
+/// this cost, if none is there or it costs less than the open one that is there.
 fn lower<C: Cost, A: Allocator>(
-    labels: &mut Vec<Option<Label<C>>, A>,
+    labels: &mut Vec<Slot<C>, A>,
     queue: &mut Queue<C, A>,
+    parent: usize,
+    label: &Label<C>,
     next: usize,
-    new: Label<C>,
+    cost: C,
 ) -> Result<(), PathError>
     requires inside { next < length labels.old.items }
-    requires opened { new.settled ≡ false }
+    requires few { parent < 2 ^ 62 }
     requires ordered { IsHeap (entry_cmp C.cmp) (heap_items queue.old) }
     requires queue { IsQueue C.value labels.old.items (heap_items queue.old) }
     ensures ordered { OnOk result (IsHeap (entry_cmp C.cmp) (heap_items queue.new)) }
     ensures queue { OnOk result (IsQueue C.value labels.new.items (heap_items queue.new)) }
-    ensures lowered { OnOk result (Lowered (by_cost C.value) next new labels.old.items labels.new.items) }
+    ensures lowered { OnOk result (Lowered (by_cost C.value) next (record { cost = cost; parent = parent; depth = label.now.depth + 1; settled = false }) labels.old.items labels.new.items) }
     ensures refused { IfErr result (λ e. e ≡ PathError.OutOfMemory) }
 {
-    if !improves(labels, next, new.cost) {
+    if !improves(labels, next, cost) {
         return Ok(());
     }
-    queue.push(Reverse((new.cost, next)))?;
-    labels[next] = Some(new);
+    queue.push(Reverse((cost, next)))?;
+    labels[next] = Slot::behind(parent, &label.depth, cost);
     Ok(())
 }
 
 /// Takes one step from the number `parent`, whose label is `label`, where the sum of the costs fits.
 fn take_step<C: Cost, A: Allocator>(
-    labels: &mut Vec<Option<Label<C>>, A>,
+    labels: &mut Vec<Slot<C>, A>,
     queue: &mut Queue<C, A>,
     parent: usize,
-    label: Label<C>,
+    label: &Label<C>,
     next: usize,
     price: C,
 ) -> Result<(), PathError>
     requires inside { next < length labels.old.items }
-    requires deep { label.depth + 1 < 2 ^ 64 }
+    requires few { parent < 2 ^ 62 }
     requires ordered { IsHeap (entry_cmp C.cmp) (heap_items queue.old) }
     requires queue { IsQueue C.value labels.old.items (heap_items queue.old) }
     ensures ordered { OnOk result (IsHeap (entry_cmp C.cmp) (heap_items queue.new)) }
     ensures queue { OnOk result (IsQueue C.value labels.new.items (heap_items queue.new)) }
-    ensures stepped { OnOk result (Stepped (by_cost C.value) C.value C.fits parent label next price labels.old.items labels.new.items) }
+    ensures stepped { OnOk result (Stepped (by_cost C.value) C.value C.fits parent label.now next price labels.old.items labels.new.items) }
     ensures refused { IfErr result (λ e. e ≡ PathError.OutOfMemory) }
 {
     let Some(cost) = label.cost.checked_add(&price) else {
         return Ok(());
     };
-    let reached = Label {
-        cost,
-        parent,
-        depth: label.depth + 1,
-        settled: false,
-    };
-    lower(labels, queue, next, reached)
+    lower(labels, queue, parent, label, next, cost)
 }
 
 /// Takes the steps of a row from the number `parent`, whose label is `label`.
 pub fn relax<C: Cost, A: Allocator>(
-    labels: &mut Vec<Option<Label<C>>, A>,
+    labels: &mut Vec<Slot<C>, A>,
     queue: &mut Queue<C, A>,
     parent: usize,
-    label: Label<C>,
+    label: &Label<C>,
     row: &[(usize, C)],
 ) -> Result<(), PathError>
     requires inside { (j : ℕ) (c : C) → Contains row.now (j, c) → j < length labels.old.items }
-    requires deep { label.depth + 1 < 2 ^ 64 }
+    requires few { parent < 2 ^ 62 }
     requires ordered { IsHeap (entry_cmp C.cmp) (heap_items queue.old) }
     requires queue { IsQueue C.value labels.old.items (heap_items queue.old) }
     ensures ordered { OnOk result (IsHeap (entry_cmp C.cmp) (heap_items queue.new)) }
     ensures queue { OnOk result (IsQueue C.value labels.new.items (heap_items queue.new)) }
-    ensures relaxed { OnOk result (Relaxed (by_cost C.value) C.value parent label row.now labels.old.items labels.new.items) }
-    ensures reached { OnOk result ((j : ℕ) (c : C) → Contains row.now (j, c) → C.fits (C.value label.cost +ℤ C.value c) → Covers (by_cost C.value) C.value label labels.new.items j c) }
+    ensures relaxed { OnOk result (Relaxed (by_cost C.value) C.value parent label.now row.now labels.old.items labels.new.items) }
+    ensures reached { OnOk result ((j : ℕ) (c : C) → Contains row.now (j, c) → C.fits (C.value label.now.cost +ℤ C.value c) → Covers (by_cost C.value) C.value label.now labels.new.items j c) }
     ensures refused { IfErr result (λ e. e ≡ PathError.OutOfMemory) }
 {
     'steps: for (next, price) in row {

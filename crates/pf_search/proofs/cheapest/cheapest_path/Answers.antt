@@ -1,10 +1,9 @@
-use Rattle.std.proofs.Common.{rules, ◌≡◌, ◌<◌, ◌^◌, ◌∙◌, sym, subst, [], ◌∷◌, ℕ, arith, length, ap, true, false, Some, refl}
-use Rattle.std.proofs.lemmas.List.Sums.{count_by-le-length}
+use Rattle.std.proofs.Common.{rules, ◌≡◌, ◌<◌, ◌∙◌, sym, subst, [], ◌∷◌, ℕ, arith, length, ap, true, false, Some, refl}
 use Rattle.pf_search.specs.declared.labels.Label.{Label}
-use Rattle.pf_search.specs.Labels.{by_cost, is_settled}
-use Rattle.pf_search.proofs.LabelLemmas.{HasLabel-inside, tree_start, deep_start, count_start}
+use Rattle.pf_search.specs.Labels.{by_cost}
+use Rattle.pf_search.proofs.LabelLemmas.{HasLabel-inside, tree_start, count_start}
 use Rattle.pf_search.proofs.QueueLemmas.{IsQueue-start, IsQueue-widen}
-use Rattle.pf_search.proofs.PathLemmas.{IsTree-settle, IsTree-turn, deep_turn}
+use Rattle.pf_search.proofs.PathLemmas.{IsTree-settle, IsTree-turn}
 use Rattle.pf_search.proofs.SearchLemmas.{search_start, best, no_goal, best_grows}
 use Rattle.pf_search.proofs.TurnLemmas.{turned, dear}
 use Rattle.pf_search.proofs.cheapest.cheapest_path.Goals as goal
@@ -19,7 +18,6 @@ turns-init g c =
       asked = omega (arith, count_start c.push.new.self.items first e refl);
       len = ap length e ∙ sym c.requires.one;
       tree = tree_start c.push.new.self.items first e refl;
-      deep = deep_start c.push.new.self.items first e refl _;
       explored = λ h x. x;
       search = λ h x p. search_start (by_cost g.C.Number.value) (g.G.NumberedGraph.step h) (g.G.NumberedGraph.passes h) _ c.push.new.self.items first e refl refl _ (ap g.C.Number.value c.zero-nothing.ensures ∙ g.met.C.Zero.zero_law g.met.C.Integral.exact_law) (λ s k. k) c.requires.begins;
     }
@@ -56,13 +54,10 @@ relax-requires-clause-inside g c = λ j d h.
 pub relax-requires-clause-queue : goal.relax-requires-clause-queue
 relax-requires-clause-queue g c = IsQueue-widen g.C.Number.value _ _ _ _ c.in_ok-widen.ensures.widened c.in-Some.ensures.queue
 
-pub relax-requires-clause-deep : goal.relax-requires-clause-deep
-relax-requires-clause-deep g c =
-    let z = c.in-Some.ensures.settled in
-    let deep = c.turns.invariant.deep c.in-Some.next.0 c.in-Some.next.1 z.was in
-    let most = count_by-le-length is_settled c.settle_next.new.labels.items in
-    let short : length c.settle_next.new.labels.items < 2 ^ 64 = search rules in
-    omega (arith, deep, most, z.count, short)
+pub relax-requires-clause-few : goal.relax-requires-clause-few
+relax-requires-clause-few g c =
+    let inside = subst (λ (n : ℕ). c.in-Some.next.0 < n) (c.turns.invariant.len ∙ sym c.is_goal.ensures.same) (HasLabel-inside _ _ _ c.in-Some.ensures.settled.was) in
+    omega (arith, inside, c.in_ok-expand.ensures.grows.more, c.found.ensures, c.in_ok-widen.ensures.few)
 
 pub covers-requires : goal.covers-requires
 covers-requires g c = λ j d h.
@@ -90,7 +85,6 @@ turns-preserved g c =
       asked = omega (arith, c.tick.ensures, c.turns.invariant.asked, z.count, wide.count, rel.count);
       len = c.in_ok-relax.ensures.relaxed.len ∙ c.in_ok-widen.ensures.widened.len ∙ c.found.ensures;
       tree = IsTree-turn (by_cost g.C.Number.value) _ _ _ _ z _ _ wide g.C.Number.value _ _ rel (IsTree-settle (by_cost g.C.Number.value) _ _ _ _ z c.turns.invariant.tree);
-      deep = deep_turn (by_cost g.C.Number.value) _ _ _ _ z _ _ wide g.C.Number.value _ _ rel c.turns.invariant.deep;
       explored = λ h x. (c.in_ok-expand.ensures.graph h (c.is_goal.ensures.graph h (c.turns.invariant.explored h x)).0).0;
       search = λ h x p.
           let i = c.turns.invariant.search h x p in

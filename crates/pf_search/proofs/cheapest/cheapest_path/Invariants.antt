@@ -1,8 +1,7 @@
-use Rattle.std.proofs.Common.{◌≡◌, ◌≤◌, ◌-◌, ◌+◌, ◌^◌, ℕ, length}
+use Rattle.std.proofs.Common.{◌≡◌, ◌-◌, ◌+◌, ◌^◌, length}
 use Rattle.std.specs.BinaryHeap.{IsHeap, heap_items}
-use Rattle.pf_search.specs.declared.labels.Label.{Label}
 use Rattle.pf_search.specs.Steps.{IsPositive}
-use Rattle.pf_search.specs.Labels.{HasLabel, by_cost, IsTree, settled_count}
+use Rattle.pf_search.specs.Labels.{by_cost, IsTree, settled_count}
 use Rattle.pf_search.specs.Queue.{entry_cmp, IsQueue}
 use Rattle.pf_search.proofs.SearchLemmas.{IsSearch}
 use Rattle.pf_search.proofs.cheapest.cheapest_path.Given as goal
@@ -14,7 +13,6 @@ invariant-turns g l = record {
   asked : l.tally ≡ l.fn.tally + settled_count l.labels.items;
   len : length l.labels.items ≡ g.G.NumberedGraph.found l.graph;
   tree : IsTree l.labels.items;
-  deep : (k : ℕ) (m : Label g.row.C.Denot) → HasLabel l.labels.items k m → m.depth ≤ settled_count l.labels.items;
   explored : (h : g.G.NumberedGraph.Graph) → g.G.NumberedGraph.explores l.fn.graph h → g.G.NumberedGraph.explores l.graph h;
   search : (h : g.G.NumberedGraph.Graph) → g.G.NumberedGraph.explores l.fn.graph h → IsPositive (g.G.NumberedGraph.step h)
       → IsSearch (by_cost g.C.Number.value) (g.G.NumberedGraph.step h) (g.G.NumberedGraph.passes h) (g.G.NumberedGraph.stands l.fn.graph 0) (g.G.NumberedGraph.stands l.graph) l.labels.items;

@@ -1,4 +1,4 @@
-use Rattle.std.proofs.Common.{◌≡◌, ◌-◌, ◌^◌, length}
+use Rattle.std.proofs.Common.{◌≡◌, ◌≤◌, ◌-◌, ◌^◌, length}
 use Rattle.pf_search.specs.Steps.{IsHop}
 use Rattle.pf_search.specs.Labels.{by_depth, IsTree}
 use Rattle.pf_search.specs.Numbered.{StandsBelow}
@@ -9,6 +9,7 @@ use Rattle.pf_search.proofs.fewest.fewest_edges_path.Given as goal
 abbrev pub invariant-nodes : goal.invariant-nodes
 invariant-nodes g l = record {
   len : length l.labels.items ≡ g.G.NumberedGraph.found l.graph;
+  few : length l.labels.items ≤ 2 ^ 62;
   breadth : IsBreadth l.node l.labels.items;
   tree : IsTree l.labels.items;
   explored : (h : g.G.NumberedGraph.Graph) → g.G.NumberedGraph.explores l.fn.graph h → g.G.NumberedGraph.explores l.graph h;

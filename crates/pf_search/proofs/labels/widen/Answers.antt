@@ -1,9 +1,16 @@
-use Rattle.std.proofs.Common.{rules, ◌≡◌, ◌∙◌, ap, ◌++◌, take_all, replicate, None, length, ◌-◌, vec_len}
+use Rattle.std.proofs.Common.{◌∙◌, ap, arith, ◌-◌, ◌++◌, length, length-append, replicate, None}
+use Rattle.std.proofs.lemmas.List.{length-replicate}
+use Rattle.std.specs.Prelude.{Option}
+use Rattle.pf_search.specs.declared.labels.Label.{Label}
+use Rattle.pf_search.proofs.ListLemmas.{on_ok}
 use Rattle.pf_search.proofs.LabelLemmas.{Widened-more}
 use Rattle.pf_search.proofs.labels.widen.Goals as goal
 
 pub returns-clause-widened : goal.returns-clause-widened
 returns-clause-widened g c =
-    let e = c.in_ok-resize.ensures in
-    let long : length c.resize.new.self.items ≡ c.args.found = search rules in
-    Widened-more c.args.labels.now.items c.resize.new.self.items c.args.found (c.args.found - vec_len c.args.labels.now) (e.items ∙ ap (λ xs. xs ++ replicate (c.args.found - vec_len c.args.labels.now) None) (take_all c.args.found c.args.labels.now.items c.requires)) long
+    let old = c.args.labels.now.items in
+    let more = c.args.found - length old in
+    on_ok c.fill.result c.fill.ensures.filled (λ e.
+    let is = e ∙ ap (λ (x : Option (Label g.row.C.Denot)). old ++ replicate more x) c.none.ensures in
+    let none : Option (Label g.row.C.Denot) = None in
+    Widened-more old c.fill.new.labels.items c.args.found more is (omega (arith, ap length is, length-append old (replicate more none), length-replicate more none, c.requires)))

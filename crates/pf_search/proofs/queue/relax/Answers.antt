@@ -14,8 +14,8 @@ steps-preserved g c =
     record {
       ordered = e.ordered;
       queue = e.queue;
-      relaxed = Relaxed-more (by_cost g.C.Number.value) g.C.Number.value g.C.Number.fits c.args.parent c.args.label c.steps-item.result.0 c.steps-item.result.1 _ _ (λ x h. Contains-take c.args.row.now c.steps.next-index x h) (Contains-take_here c.args.row.now c.steps.next-index c.steps-item.result c.steps-test.true c.steps-item.is) _ _ _ e.stepped c.steps.invariant.relaxed;
-      reached = reached_more (by_cost g.C.Number.value) g.C.Number.value g.C.Number.fits c.args.parent c.args.label c.args.row.now c.steps.next-index c.steps-item.result c.steps-item.is c.steps-test.true _ _ e.stepped c.steps.invariant.reached;
+      relaxed = Relaxed-more (by_cost g.C.Number.value) g.C.Number.value g.C.Number.fits c.args.parent c.args.label.now c.steps-item.result.0 c.steps-item.result.1 _ _ (λ x h. Contains-take c.args.row.now c.steps.next-index x h) (Contains-take_here c.args.row.now c.steps.next-index c.steps-item.result c.steps-test.true c.steps-item.is) _ _ _ e.stepped c.steps.invariant.relaxed;
+      reached = reached_more (by_cost g.C.Number.value) g.C.Number.value g.C.Number.fits c.args.parent c.args.label.now c.args.row.now c.steps.next-index c.steps-item.result c.steps-item.is c.steps-test.true _ _ e.stepped c.steps.invariant.reached;
     }
 
 pub returns-clause-reached : goal.returns-clause-reached

@@ -1,4 +1,4 @@
-use Rattle.std.proofs.Common.{rules, ◌∙◌, sym, subst}
+use Rattle.std.proofs.Common.{◌∙◌, sym, subst}
 use Rattle.std.specs.BinaryHeap.{heap_items}
 use Rattle.pf_search.specs.Queue.{IsQueue}
 use Rattle.pf_search.proofs.QueueLemmas.{popped_inside, IsQueue-skip, IsQueue-settle, Settles-popped, all_settled}

@@ -6,9 +6,9 @@ use Rattle.pf_search.proofs.queue.take_step.Goals as goal
 
 pub returns-in_default-clause-stepped : goal.returns-in_default-clause-stepped
 returns-in_default-clause-stepped g c =
-    Stepped-none (by_cost g.C.Number.value) g.C.Number.value g.C.Number.fits c.args.parent c.args.label c.args.next c.args.price c.args.labels.now.items (g.met.C.CheckedAdd.checked_add_law c.args.label.cost c.args.price None c.in_default.ensures)
+    Stepped-none (by_cost g.C.Number.value) g.C.Number.value g.C.Number.fits c.args.parent c.args.label.now c.args.next c.args.price c.args.labels.now.items (g.met.C.CheckedAdd.checked_add_law c.args.label.now.cost c.args.price None c.in_default.ensures)
 
 pub returns-clause-stepped : goal.returns-clause-stepped
 returns-clause-stepped g c =
-    let w = g.met.C.CheckedAdd.checked_add_law c.args.label.cost c.args.price (Some c.in-Some.cost) c.in-Some.ensures in
-    on_ok c.lower.result c.lower.ensures.lowered (λ h. Stepped-from (by_cost g.C.Number.value) g.C.Number.value g.C.Number.fits c.args.parent c.args.label c.args.next c.args.price c.in-Some.cost _ _ w.0 w.1 h)
+    let w = g.met.C.CheckedAdd.checked_add_law c.args.label.now.cost c.args.price (Some c.in-Some.cost) c.in-Some.ensures in
+    on_ok c.lower.result c.lower.ensures.lowered (λ h. Stepped-from (by_cost g.C.Number.value) g.C.Number.value g.C.Number.fits c.args.parent c.args.label.now c.args.next c.args.price c.in-Some.cost _ _ w.0 w.1 h)
