@@ -22,11 +22,12 @@ const BLOCK: usize = 64;
 /// Names, each once. The number of a name is its place.
 pub(crate) type Names<'a, A> = IndexSet<Name<'a>, BuildHasherDefault<FoldHasher>, A>;
 
-/// An edge between two numbers.
+/// An edge between two numbers. An `IndexSet` gives no number that 32 bits do not hold, and a text has
+/// many edges.
 #[derive(Clone, Copy, Debug)]
 pub(crate) struct Link {
-    pub(crate) source: usize,
-    pub(crate) target: usize,
+    pub(crate) source: u32,
+    pub(crate) target: u32,
     pub(crate) cost: u64,
 }
 
@@ -151,6 +152,21 @@ fn number_unless_known<'a, A: Allocator + Copy>(
     }
 }
 
+/// The edge between two numbers.
+fn link_of(source: usize, target: usize, cost: u64) -> Result<Link, RouteError>
+    ensures link { IfOk result (λ l. l ≡ record { source = source; target = target; cost = cost }) }
+    ensures refused { IfErr result (λ e. e ≡ RouteError.OutOfMemory) }
+{
+    match (u32::try_from(source), u32::try_from(target)) {
+        (Ok(source), Ok(target)) => Ok(Link {
+            source,
+            target,
+            cost,
+        }),
+        _ => Err(RouteError::OutOfMemory),
+    }
+}
+
 /// Adds a link for each of the edges, between the numbers of its names.
 fn link_all<'a, A: Allocator + Copy>(
     alloc: A,
@@ -174,12 +190,8 @@ fn link_all<'a, A: Allocator + Copy>(
         let before = source;
         source = number_unless_known(names, &edge.from, known.from, target, before)?;
         target = number_unless_known(names, &edge.to, known.to, before, target)?;
-        let cost = edge.cost;
-        links.push(Link {
-            source,
-            target,
-            cost,
-        })?;
+        let link = link_of(source, target, edge.cost)?;
+        links.push(link)?;
     }
     Ok(())
 }

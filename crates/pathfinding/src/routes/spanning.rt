@@ -22,7 +22,7 @@ fn weigh<A: Allocator + Copy>(alloc: A, links: &[Link]) -> Result<Vec<WeighedEdg
 {
     let mut edges = Vec::with_capacity(alloc, links.len())?;
     for link in links {
-        edges.push((link.source, link.target, link.cost))?;
+        edges.push((link.source as usize, link.target as usize, link.cost))?;
     }
     Ok(edges)
 }

@@ -37,7 +37,7 @@ edges-preserved g c =
     let link : Link = record { source = first.source; target = second.target; cost = e.cost } in
     let before = edges_between c.args.names.now.keys c.args.links.now.items in
     let source_below : first.source < length new = omega (arith, first.ensures.within, second.ensures.kept.longer) in
-    rw c.in_ok-push.ensures.items (record {
+    rw (c.in_ok-push.ensures.items, c.in_ok-link.ensures.link) (record {
       edges = edges-push old new c.edges.links.items link (edge_read e) kept inv.below (second.ensures.kept.same first.source first.ensures.within ∙ first.ensures.named) second.ensures.named refl
           ∙ ap (λ es. es ++ edge_read e ∷ []) inv.edges
           ∙ append_assoc before (map edge_read (take c.edges.place c.args.edges.now)) (edge_read e ∷ [])
