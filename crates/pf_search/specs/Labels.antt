@@ -111,3 +111,10 @@ module _ {C : Type 0} where
     pub stays : (k : ℕ) (l : Label C) → HasLabel labels k l → HasLabel labels' k l
     pub from : (k : ℕ) (l : Label C) → HasLabel labels' k l → HasLabel labels k l
     pub count : settled_count labels' ≡ settled_count labels
+
+-- The labels after the nodes of a row were found and its steps taken, from the number `parent`, whose label is l.
+pub record Follows {C : Type 0} (value : C → ℤ) (fits : ℤ → Type 0) (found parent : ℕ) (l : Label C) (row : List (ℕ × C)) (labels labels' : Labels C) : Type 0 where
+  pub wider : Labels C
+  pub wide : Widened found labels wider
+  pub relaxed : Relaxed (by_cost value) value parent l row wider labels'
+  pub reached : (j : ℕ) (c : C) → Contains row (j, c) → fits (value l.cost +ℤ value c) → Covers (by_cost value) value l labels' j c

@@ -1,9 +1,13 @@
 //! The search for a cheapest path, over numbers.
 
-ghost use Rattle.std.specs.Prelude.{◌≡◌, ◌<◌, ◌≤◌, ◌+◌, ◌⊎◌, ℕ, Contains, IfOk, IfErr, IfSome, MatchOption};
+ghost use Rattle.std.specs.BinaryHeap.{IsHeap, heap_items};
+ghost use Rattle.std.specs.Prelude.{◌≡◌, ◌<◌, ◌≤◌, ◌+◌, ◌⊎◌, ℕ, Contains, IfOk, IfErr, IfSome, MatchOption, OnOk, length};
+ghost use Rattle.pf_search.specs.declared.labels.Label.{Label};
+ghost use Rattle.pf_search.specs.Labels.{HasLabel, Follows};
+ghost use Rattle.pf_search.specs.Queue.{entry_cmp, IsQueue};
 ghost use Rattle.pf_search.specs.Steps.{IsPositive, NoGoal, IsBestNumbered, IsTooDear};
 
-use crate::labels::{covers, path_to, widen};
+use crate::labels::{Label, covers, path_to, widen};
 use crate::numbered::NumberedGraph;
 use crate::queue::{Queue, relax, settle_next};
 use crate::slot::Slot;
@@ -12,6 +16,39 @@ use pf_base::{Cost, PathError};
 use std::alloc::Allocator;
 use std::cmp::Reverse;
 use std::collections::BinaryHeap;
+
+/// Takes the steps of a row from the number `parent`, whose label is `label`, once `found` nodes were
+/// found. A cost overflow is answered where the end of a step is left without a label, since no sum to
+/// it fits.
+fn follow<C: Cost, A: Allocator>(
+    labels: &mut Vec<Slot<C>, A>,
+    queue: &mut Queue<C, A>,
+    found: usize,
+    parent: usize,
+    label: &Label<C>,
+    row: &[(usize, C)],
+) -> Result<(), PathError>
+    requires wide { length labels.old.items ≤ found }
+    requires inside { parent < found }
+    requires ends { (j : ℕ) (c : C) → Contains row.now (j, c) → j < found }
+    requires ordered { IsHeap (entry_cmp C.cmp) (heap_items queue.old) }
+    requires queue { IsQueue C.value labels.old.items (heap_items queue.old) }
+    ensures ordered { OnOk result (IsHeap (entry_cmp C.cmp) (heap_items queue.new)) }
+    ensures queue { OnOk result (IsQueue C.value labels.new.items (heap_items queue.new)) }
+    ensures followed { OnOk result (Follows C.value C.fits found parent label.now row.now labels.old.items labels.new.items) }
+    ensures labelled { OnOk result ((j : ℕ) (c : C) → Contains row.now (j, c) → (m : Label C) × HasLabel labels.new.items j m × C.fits (C.value m.cost)) }
+    ensures overflow { result ≡ Err PathError.CostOverflow → Follows C.value C.fits found parent label.now row.now labels.old.items labels.new.items
+        × ((j : ℕ) × (c : C) × Contains row.now (j, c) × ((m : Label C) → ¬ (HasLabel labels.new.items j m))) }
+    ensures errors { IfErr result (λ e. (e ≡ PathError.OutOfMemory) ⊎ (e ≡ PathError.CostOverflow)) }
+{
+    widen(labels, found)?;
+    relax(labels, queue, parent, label, row)?;
+    if covers(labels, row) {
+        Ok(())
+    } else {
+        Err(PathError::CostOverflow)
+    }
+}
 
 /// The numbers on a cheapest path from the node of number 0 to a goal, and its cost. The answer is
 /// `None` exactly where no walk leads to a goal. Each node that is expanded is one tick.
@@ -49,11 +86,7 @@ pub fn cheapest_path<C: Cost, G: NumberedGraph<C>, A: Allocator + Copy>(
         }
         tally.tick();
         graph.expand(node, &mut row)?;
-        widen(&mut labels, graph.found())?;
-        relax(&mut labels, &mut queue, node, &label, &row)?;
-        if !covers(&labels, &row) {
-            return Err(PathError::CostOverflow);
-        }
+        follow(&mut labels, &mut queue, graph.found(), node, &label, &row)?;
     }
     Ok(None)
 }

@@ -1,8 +1,8 @@
-use Rattle.std.proofs.Common.{rules, ◌≡◌, ◌<◌, ◌∙◌, sym, subst, [], ◌∷◌, ℕ, arith, length, ap, true, false, Some, refl}
+use Rattle.std.proofs.Common.{rules, ◌≡◌, ◌<◌, ◌∙◌, sym, subst, [], ◌∷◌, ℕ, arith, length, ap, true, false, Some, Err, refl}
 use Rattle.pf_search.specs.declared.labels.Label.{Label}
 use Rattle.pf_search.specs.Labels.{by_cost}
 use Rattle.pf_search.proofs.LabelLemmas.{HasLabel-inside, tree_start, count_start}
-use Rattle.pf_search.proofs.QueueLemmas.{IsQueue-start, IsQueue-widen}
+use Rattle.pf_search.proofs.QueueLemmas.{IsQueue-start}
 use Rattle.pf_search.proofs.PathLemmas.{IsTree-settle, IsTree-turn}
 use Rattle.pf_search.proofs.SearchLemmas.{search_start, best, no_goal, best_grows}
 use Rattle.pf_search.proofs.TurnLemmas.{turned, dear}
@@ -47,43 +47,40 @@ returns-then-is_goal-clause-best g c = λ h x p.
 pub expand-requires-clause-inside : goal.expand-requires-clause-inside
 expand-requires-clause-inside g c = subst (λ (n : ℕ). c.in-Some.next.0 < n) (c.turns.invariant.len ∙ sym c.is_goal.ensures.same) (HasLabel-inside _ _ _ c.in-Some.ensures.settled.was)
 
-pub relax-requires-clause-inside : goal.relax-requires-clause-inside
-relax-requires-clause-inside g c = λ j d h.
-    subst (λ (n : ℕ). j < n) (sym c.in_ok-widen.ensures.widened.len) (rw c.found.ensures (c.in_ok-expand.ensures.inside j d (rw c.deref-in-Some.ensures.value at h)))
+pub follow-requires-clause-wide : goal.follow-requires-clause-wide
+follow-requires-clause-wide g c = omega (arith, c.in-Some.ensures.settled.len, c.turns.invariant.len, c.is_goal.ensures.same, c.in_ok-expand.ensures.grows.more, c.found.ensures)
 
-pub relax-requires-clause-queue : goal.relax-requires-clause-queue
-relax-requires-clause-queue g c = IsQueue-widen g.C.Number.value _ _ _ _ c.in_ok-widen.ensures.widened c.in-Some.ensures.queue
-
-pub relax-requires-clause-few : goal.relax-requires-clause-few
-relax-requires-clause-few g c =
+pub follow-requires-clause-inside : goal.follow-requires-clause-inside
+follow-requires-clause-inside g c =
     let inside = subst (λ (n : ℕ). c.in-Some.next.0 < n) (c.turns.invariant.len ∙ sym c.is_goal.ensures.same) (HasLabel-inside _ _ _ c.in-Some.ensures.settled.was) in
-    omega (arith, inside, c.in_ok-expand.ensures.grows.more, c.found.ensures, c.in_ok-widen.ensures.few)
+    omega (arith, inside, c.in_ok-expand.ensures.grows.more, c.found.ensures)
 
-pub covers-requires : goal.covers-requires
-covers-requires g c = λ j d h.
-    rw c.deref-in-Some-2.ensures.value (subst (λ (n : ℕ). j < n) (sym (c.in_ok-relax.ensures.relaxed.len ∙ c.in_ok-widen.ensures.widened.len)) (rw c.found.ensures (c.in_ok-expand.ensures.inside j d (rw c.deref-in-Some-3.ensures.value at h))))
+pub follow-requires-clause-ends : goal.follow-requires-clause-ends
+follow-requires-clause-ends g c = λ j d h. rw c.found.ensures (c.in_ok-expand.ensures.inside j d (rw c.deref-in-Some.ensures.value at h))
 
-pub returns-then-not-covers-clause-overflow : goal.returns-then-not-covers-clause-overflow
-returns-then-not-covers-clause-overflow g c = λ h x p e.
+pub returns-in_err-follow-clause-overflow : goal.returns-in_err-follow-clause-overflow
+returns-in_err-follow-clause-overflow g c = λ h x p e.
     let i = c.turns.invariant.search h x p in
     let z = c.in-Some.ensures.settled in
     let x1 = (c.is_goal.ensures.graph h (c.turns.invariant.explored h x)).0 in
     let x2 = c.in_ok-expand.ensures.graph h x1 in
+    let q = rw (c.found.ensures, c.deref-in-Some.ensures.value) at (c.in_err-follow.ensures.overflow (ap Err (sym (rw e at c.from_residual-in_err-follow.ensures.1)))) in
+    let f = q.0 in
     dear g.C.Number.value g.C.Number.fits (λ a b d. g.C.Number.between_law a b d g.met.C.Integral.exact_law) (g.G.NumberedGraph.step h) (g.G.NumberedGraph.passes h) (g.G.NumberedGraph.stands c.args.graph.now 0) p _ _ i c.turns.invariant.tree _ _ _ z
-    _ _ _ _ _ c.is_goal.ensures.grows c.in_ok-expand.ensures.grows c.turns.invariant.len _ x2.1 _ _ (rw c.found.ensures at c.in_ok-widen.ensures.widened)
-    (rw c.deref-in-Some.ensures.value at c.in_ok-relax.ensures.relaxed) (rw c.deref-in-Some.ensures.value at c.in_ok-relax.ensures.reached) c.known.ensures
-    (g.met.G.NumberedGraph.one_law _ h (c.turns.invariant.explored h x)) (subst (λ (n : ℕ). c.in-Some.next.0 < n) c.turns.invariant.len (HasLabel-inside _ _ _ z.was)) (rw (c.deref-in-Some-2.ensures.value, c.deref-in-Some-3.ensures.value) at c.if-not-covers.ensures)
+    _ _ _ _ _ c.is_goal.ensures.grows c.in_ok-expand.ensures.grows c.turns.invariant.len _ x2.1 _ _ f.wide f.relaxed f.reached c.known.ensures
+    (g.met.G.NumberedGraph.one_law _ h (c.turns.invariant.explored h x)) (subst (λ (n : ℕ). c.in-Some.next.0 < n) c.turns.invariant.len (HasLabel-inside _ _ _ z.was)) q.1
 
 pub turns-preserved : goal.turns-preserved
 turns-preserved g c =
     let z = c.in-Some.ensures.settled in
-    let wide = rw c.found.ensures at c.in_ok-widen.ensures.widened in
-    let rel = rw c.deref-in-Some.ensures.value at c.in_ok-relax.ensures.relaxed in
+    let f = rw (c.found.ensures, c.deref-in-Some.ensures.value) at c.in_ok-follow.ensures.followed in
+    let wide = f.wide in
+    let rel = f.relaxed in
     record {
-      ordered = c.in_ok-relax.ensures.ordered;
-      queue = c.in_ok-relax.ensures.queue;
+      ordered = c.in_ok-follow.ensures.ordered;
+      queue = c.in_ok-follow.ensures.queue;
       asked = omega (arith, c.tick.ensures, c.turns.invariant.asked, z.count, wide.count, rel.count);
-      len = c.in_ok-relax.ensures.relaxed.len ∙ c.in_ok-widen.ensures.widened.len ∙ c.found.ensures;
+      len = rel.len ∙ wide.len;
       tree = IsTree-turn (by_cost g.C.Number.value) _ _ _ _ z _ _ wide g.C.Number.value _ _ rel (IsTree-settle (by_cost g.C.Number.value) _ _ _ _ z c.turns.invariant.tree);
       explored = λ h x. (c.in_ok-expand.ensures.graph h (c.is_goal.ensures.graph h (c.turns.invariant.explored h x)).0).0;
       search = λ h x p.
@@ -92,16 +89,13 @@ turns-preserved g c =
           let x2 = c.in_ok-expand.ensures.graph h x1.0 in
           turned g.C.Number.value g.C.Number.fits (λ a b d. g.C.Number.between_law a b d g.met.C.Integral.exact_law) (g.G.NumberedGraph.step h) (g.G.NumberedGraph.passes h) (g.G.NumberedGraph.stands c.args.graph.now 0) p _ _ i c.turns.invariant.tree _ _ _ z
           _ _ _ _ _ c.is_goal.ensures.grows c.in_ok-expand.ensures.grows c.turns.invariant.len _ x2.1 _ _ wide
-          rel (rw c.deref-in-Some.ensures.value at c.in_ok-relax.ensures.reached) c.known.ensures
-          (λ y t. sym (x1.1 y t) ∙ c.if-is_goal.false) (rw (c.deref-in-Some-2.ensures.value, c.deref-in-Some-3.ensures.value) at c.if-not-covers.ensures);
+          rel f.reached c.known.ensures
+          (λ y t. sym (x1.1 y t) ∙ c.if-is_goal.false) (rw c.deref-in-Some.ensures.value at c.in_ok-follow.ensures.labelled);
     }
 
 pub returns-clause-best : goal.returns-clause-best
 returns-clause-best g c = λ h x p.
     no_goal (by_cost g.C.Number.value) (g.G.NumberedGraph.step h) (g.G.NumberedGraph.passes h) (g.G.NumberedGraph.stands c.args.graph.now 0) p _ _ (c.turns.invariant.search h x p) c.in_default.ensures.settled
-
-pub returns-then-not-covers-clause-graph : goal.returns-then-not-covers-clause-graph
-returns-then-not-covers-clause-graph g c = λ h x. (c.in_ok-expand.ensures.graph h (c.is_goal.ensures.graph h (c.turns.invariant.explored h x)).0).0
 
 pub is_goal-requires-clause-graph : goal.is_goal-requires-clause-graph
 is_goal-requires-clause-graph g c = let r = c.requires.graph in (r.0, c.turns.invariant.explored r.0 r.1)
@@ -118,8 +112,5 @@ expand-requires-clause-graph g c = let r = c.requires.graph in (r.0, (c.is_goal.
 pub returns-in_err-expand-clause-graph : goal.returns-in_err-expand-clause-graph
 returns-in_err-expand-clause-graph g c = λ h x. (c.in_err-expand.ensures.graph h (c.is_goal.ensures.graph h (c.turns.invariant.explored h x)).0).0
 
-pub returns-in_err-widen-clause-graph : goal.returns-in_err-widen-clause-graph
-returns-in_err-widen-clause-graph g c = λ h x. (c.in_ok-expand.ensures.graph h (c.is_goal.ensures.graph h (c.turns.invariant.explored h x)).0).0
-
-pub returns-in_err-relax-clause-graph : goal.returns-in_err-relax-clause-graph
-returns-in_err-relax-clause-graph g c = λ h x. (c.in_ok-expand.ensures.graph h (c.is_goal.ensures.graph h (c.turns.invariant.explored h x)).0).0
+pub returns-in_err-follow-clause-graph : goal.returns-in_err-follow-clause-graph
+returns-in_err-follow-clause-graph g c = λ h x. (c.in_ok-expand.ensures.graph h (c.is_goal.ensures.graph h (c.turns.invariant.explored h x)).0).0
