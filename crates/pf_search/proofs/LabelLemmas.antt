@@ -6,7 +6,7 @@ use Rattle.std.proofs.lemmas.List.Sums.{sum_by-append}
 use Rattle.std.proofs.lemmas.List.Folds.{sum_by-replicate}
 use Rattle.std.proofs.lemmas.Option.{slice_get_within}
 use Rattle.pf_search.specs.declared.labels.Label.{Label}
-use Rattle.pf_search.specs.Labels.{Labels, HasLabel, by_cost, cost_of, is_settled, settled_count, depth_of, IsTree, IsWithin, Settles, Lowered, ComesFrom, Covers, Stepped, Relaxed, Widened}
+use Rattle.pf_search.specs.Labels.{Labels, HasLabel, by_cost, cost_of, is_settled, settled_count, IsTree, IsWithin, Settles, Lowered, ComesFrom, Covers, Stepped, Relaxed, Widened}
 use Rattle.pf_search.proofs.ListLemmas.{at_place, get_set, none_in, get-append, count_by-set, count_by-set_more, Contains-take_more, Contains-take, Contains-take_here}
 
 pub HasLabel-inside : {C : Type 0} (labels : Labels C) (k : ℕ) (l : Label C) → HasLabel labels k l → k < length labels
@@ -22,9 +22,6 @@ none_has_none labels n h m k = let e : Some None ≡ Some (Some m) = sym h ∙ k
 -- what holds of the label of a number holds of each label that it has
 pub of_label : {C : Type 0} (P : Label C → Type 0) (labels : Labels C) (k : ℕ) (l : Label C) → HasLabel labels k l → P l → (m : Label C) → HasLabel labels k m → P m
 of_label P labels k l h p m g = subst P (label_is labels k l m h g) p
-
-pub depth_is : {C : Type 0} (labels : Labels C) (k : ℕ) (l : Label C) → HasLabel labels k l → depth_of (slice_get labels k) ≡ l.depth
-depth_is labels k l h = ap depth_of h
 
 module _ {C : Type 0} (measure : C → ℕ → ℤ) where
   module _ (labels : Labels C) (next : ℕ) (new : Label C) (opened : new.settled ≡ false) where
@@ -97,9 +94,6 @@ module _ {C : Type 0} (measure : C → ℕ → ℤ) where
       ];
       count = low.count;
     }
-
-    pub Relaxed-start : (row : List (ℕ × C)) (labels : Labels C) → Relaxed measure worth parent l row labels labels
-    Relaxed-start row labels = record { len = refl; others = λ k m h. inl h; from = λ k m h. inl h; count = refl }
 
     module _ (next : ℕ) (price : C) (row row' : List (ℕ × C)) (more : (x : ℕ × C) → Contains row x → Contains row' x) (here : Contains row' (next, price))
         (labels mid labels' : Labels C) (step : Stepped measure worth fits parent l next price mid labels') where

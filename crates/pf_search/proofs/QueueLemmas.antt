@@ -1,5 +1,5 @@
 -- Lemmas on what waits.
-use Rattle.std.proofs.Common.{ℕ, ◌<◌, ◌≡◌, ◌≢◌, refl, sym, ◌∙◌, ap, subst, arith, true, false, [], ◌∷◌, length, inl, inr, ℤ, Some, None, true≢false}
+use Rattle.std.proofs.Common.{ℕ, ◌<◌, ◌≡◌, ◌≢◌, refl, sym, ◌∙◌, ap, subst, arith, true, false, [], ◌∷◌, length, inl, inr, ℤ, Some, true≢false}
 use Rattle.std.specs.Prelude.{slice_get, slice_set, Contains, IsPermutation, ◌≤ℤ◌, ◌<ℤ◌, ◌⊎◌}
 use Rattle.std.specs.declared.cmp.Reverse.{Reverse}
 use Rattle.std.proofs.lemmas.Int.{ints}
@@ -8,7 +8,7 @@ use Rattle.pf_search.specs.declared.labels.Label.{Label}
 use Rattle.pf_search.specs.Labels.{Labels, HasLabel, by_cost, AllSettled, Settles, Widened}
 use Rattle.pf_search.specs.Queue.{Entries, IsQueue}
 use Rattle.pf_search.proofs.ListLemmas.{bool_dec, get_set, Contains-head, Contains-tail, Contains-cases}
-use Rattle.pf_search.proofs.LabelLemmas.{HasLabel-inside, label_is, none_has_none, Lowered-set, Settles-set, only, first_is}
+use Rattle.pf_search.proofs.LabelLemmas.{HasLabel-inside, label_is, Lowered-set, Settles-set, only, first_is}
 
 abbrev entry : {C : Type 0} → C → ℕ → Reverse (C × ℕ)
 entry c k = record { 0 = (c, k) }
@@ -127,8 +127,3 @@ module _ {C : Type 0} (value : C → ℤ) where
         subst (λ (n : ℕ). Contains entries' (entry l.cost n)) (sym o.0)
         (subst (λ (m : Label C). Contains entries' (entry m.cost 0)) (sym o.1) (Contains-permutation (entry first.cost 0 ∷ entries) entries' (entry first.cost 0) p (Contains-head entries (entry first.cost 0))));
   }
-
-module _ {C : Type 0} (labels : Labels C) (number : ℕ) where
-  -- a number without a label has no open one
-  pub none_open : slice_get labels number ≡ Some None → (l : Label C) → HasLabel labels number l → l.settled ≡ true
-  none_open h l k = absurd (none_has_none labels number h l k)

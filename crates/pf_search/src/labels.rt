@@ -72,7 +72,7 @@ pub fn covers<C: Cost>(labels: &[Slot<C>], row: &[(usize, C)]) -> bool
 }
 
 /// As many nodes as labels can name. So many labels are more than any memory has.
-const MOST: usize = 0x4000_0000_0000_0000;
+const MOST_NODES: usize = 0x4000_0000_0000_0000;
 
 /// Gives each of the nodes that were found since the last time the same label, or none.
 pub fn fill<C: Copy, A: Allocator>(
@@ -85,7 +85,7 @@ pub fn fill<C: Copy, A: Allocator>(
     ensures few { OnOk result (found ≤ 2 ^ 62) }
     ensures refused { IfErr result (λ e. e ≡ PathError.OutOfMemory) }
 {
-    if found > MOST {
+    if found > MOST_NODES {
         return Err(PathError::OutOfMemory);
     }
     labels.resize(found, slot)?;

@@ -6,7 +6,6 @@ ghost use Rattle.pf_search.specs.declared.labels.Label.{Label};
 use crate::depth::Depth;
 use crate::labels::Label;
 use std::alloc::AllocError;
-use std::clone::Clone;
 use std::marker::Model;
 
 /// What the word of a settled label has more than that of an open one.
