@@ -115,6 +115,17 @@ module _ {F : Type 0} {calls : Mut F (Bor ℕ × Unit {0}) (Copied (Iter ℕ))} 
       let row : (n : ℕ) → n + 1 < length offsets → HasRow offsets targets n = λ n l. record { node = l; rising = rising n (n + 1) 0 (omega arith) l; within = within (n + 1) 0 l } in
       nat_successors next (λ x w. takes x (row x.now (node x.now w))) (λ x r t w k. let h = gives x r t (row x.now (node x.now w)) k in (h.0, gives_copied (next x.now) h.1))
 
+-- a table of rows without costs: the closure copies the row at n
+module _ {F X : Type 0} {calls : Mut F (Bor ℕ × Unit {0}) (Copied (Iter ℕ))} (items : X → List ℕ) (rows : List X) (starts : List ℕ) where
+  pub rows_successors : {f : F} → All (λ n. n < length rows) starts → All (λ row. All (λ n. n < length rows) (items row)) rows
+      → ((x : Bor ℕ) → x.now < length rows → calls.pre f (x, tt))
+      → ((x : Bor ℕ) (r : Copied (Iter ℕ)) (t : F) → x.now < length rows → Called calls f (x, tt) r t → (t ≡ f) × (iter_rest (copied_source r) ≡ row_at items rows x.now))
+      → AnswersSuccessors calls (λ s t. t ≡ s) (λ s. ⊤) copies_left (copied_steps iter_steps) nat_eq f (IsReachable nat_eq (Precedes nat_eq (row_at items rows)) starts) (row_at items rows)
+  rows_successors {f} inside in_range takes gives =
+      let P : ℕ → Type 0 = λ n. n < length rows in
+      let below = successors_keep nat_eq (row_at items rows) P (λ a b e p. subst P (eqb-true a b e) p) (λ n p. row_all P items rows in_range n) starts (recursion_from_All P starts inside) in
+      nat_successors (row_at items rows) (λ x w. takes x (below x.now w)) (λ x r t w k. let h = gives x r t (below x.now w) k in (h.0, gives_copied (row_at items rows x.now) h.1))
+
 -- ---- the steps of a node in given directions: the closure asks for each direction where the step leads
 
 abbrev pub steps_left : {D G : Type 0} {n : ℕ} → FilterMap (IntoIter D n) G → Count

@@ -221,6 +221,3 @@ impl<'a, N, A: Allocator> Iterator for NodeRefsIntoIter<'a, N, A> {
         self.left.next()
     }
 }
-
-#[cfg(test)]
-mod tests;

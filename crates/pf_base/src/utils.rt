@@ -9,6 +9,3 @@ pub use crate::utils::directions::{InDirection, in_direction, move_in_direction}
 pub use crate::utils::remainder::constrain;
 pub use crate::utils::square_root::uint_sqrt;
 pub use crate::utils::tally::Tally;
-
-#[cfg(test)]
-mod tests;

@@ -3,8 +3,8 @@ use Rattle.std.proofs.Common.{ℕ, ◌≡◌, refl, ap, arith, List, [], ◌∷�
 use Rattle.std.specs.Prelude.{◌≤ℤ◌, ◌+ℤ◌, ◌⊎◌}
 use Rattle.std.proofs.lemmas.Int.{ints}
 use Rattle.pf_base.specs.Walks.{end_of}
-use Rattle.pf_search.specs.Steps.{GoesAlong, IsPositive}
-use Rattle.pf_search.specs.Frontier.{IsFound, IsCut, EndsSettled, MeetsWaiting}
+use Rattle.pf_search.specs.Internal.Steps.{GoesAlong, IsPositive}
+use Rattle.pf_search.specs.Internal.Frontier.{IsFound, IsCut, EndsSettled, MeetsWaiting}
 
 module _ {X : Type 0} (step : X → ℤ → X → Type 0) (stands : ℕ → X → Type 0) (settled waiting : ℕ → ℤ → Type 0) (cut : IsCut step stands settled waiting) where
   -- along any walk from a found number: its end is settled at no more than its cost, or a waiting number stands on it

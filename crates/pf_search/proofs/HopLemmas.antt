@@ -5,9 +5,9 @@ use Rattle.std.proofs.lemmas.Int.{ints}
 use Rattle.std.proofs.lemmas.List.Sums.{sum_by-append}
 use Rattle.std.proofs.lemmas.List.Folds.{sum_by-replicate}
 use Rattle.pf_search.specs.declared.labels.Label.{Label}
-use Rattle.pf_search.specs.Labels.{Labels, HasLabel, by_depth, is_settled, settled_count, AllSettled, IsTree, IsChain, Settles, Widened, Relaxed, ComesFrom, Covers}
-use Rattle.pf_search.specs.Steps.{IsHop, IsPositive, IsBestNumbered}
-use Rattle.pf_search.specs.Numbered.{ListsSteps, Grows, StandsBelow}
+use Rattle.pf_search.specs.Internal.Labels.{Labels, HasLabel, by_depth, is_settled, settled_count, AllSettled, IsTree, IsChain, Settles, Widened, Relaxed, ComesFrom, Covers}
+use Rattle.pf_search.specs.Internal.Steps.{IsHop, IsPositive, IsBestNumbered}
+use Rattle.pf_search.specs.Internal.Numbered.{ListsSteps, Grows, StandsBelow}
 use Rattle.pf_base.specs.Walks.{end_of}
 use Rattle.pf_search.proofs.PathLemmas.{was_label, chain_path, IsTree-turn, IsTree-settle}
 use Rattle.pf_search.proofs.SearchLemmas.{IsSearch, Grows-trans, goal_above, turn}

@@ -6,7 +6,7 @@ use Rattle.std.proofs.lemmas.List.Sums.{sum_by-append}
 use Rattle.std.proofs.lemmas.List.Folds.{sum_by-replicate}
 use Rattle.std.proofs.lemmas.Option.{slice_get_within}
 use Rattle.pf_search.specs.declared.labels.Label.{Label}
-use Rattle.pf_search.specs.Labels.{Labels, HasLabel, by_cost, cost_of, is_settled, settled_count, IsTree, IsWithin, Settles, Lowered, ComesFrom, Covers, Stepped, Relaxed, Widened}
+use Rattle.pf_search.specs.Internal.Labels.{Labels, HasLabel, by_cost, cost_of, is_settled, settled_count, IsTree, IsWithin, Settles, Lowered, ComesFrom, Covers, Stepped, Relaxed, Widened}
 use Rattle.pf_search.proofs.ListLemmas.{at_place, get_set, none_in, get-append, count_by-set, count_by-set_more, Contains-take_more, Contains-take, Contains-take_here}
 
 pub HasLabel-inside : {C : Type 0} (labels : Labels C) (k : ℕ) (l : Label C) → HasLabel labels k l → k < length labels

@@ -16,9 +16,9 @@ use Rattle.pf_base.specs.NodeRefs.{HasSameNodes}
 use Rattle.pf_base.specs.Edges.{HasEdge, IsSuccessor, InReach}
 use Rattle.pf_base.specs.Answers.{ListsEdges, AnswersGraph, AnswersTest}
 use Rattle.pf_base.proofs.Asking.{Answers-on}
-use Rattle.pf_search.specs.Numbered.{ListsSteps, Grows}
-use Rattle.pf_search.specs.NodeLaws.{StandsFor-one}
-use Rattle.pf_search.specs.Nodes.{NodeGraph, StandsFor, IsStep, AddsNode, NumbersItems, AddedFrom, Explores}
+use Rattle.pf_search.specs.Internal.Numbered.{ListsSteps, Grows}
+use Rattle.pf_search.specs.Internal.NodeLaws.{StandsFor-one}
+use Rattle.pf_search.specs.Internal.Nodes.{NodeGraph, StandsFor, IsStep, AddsNode, NumbersItems, AddedFrom, Explores}
 use Rattle.pf_search.proofs.ListLemmas.{Contains-head, Contains-tail, Contains-cases, get-append_cases, take_get, get_take, none_in}
 use Rattle.pf_search.proofs.FrontierLemmas.{end_more}
 

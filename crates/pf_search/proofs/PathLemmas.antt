@@ -4,9 +4,9 @@ use Rattle.std.specs.Prelude.{◌+ℤ◌, ◌⊎◌, reverse}
 use Rattle.std.specs.List.{AllZip}
 use borrow.Author.Tests.{eqb-true}
 use Rattle.pf_base.specs.Walks.{end_of, HasNode, NoRepeats}
-use Rattle.pf_search.specs.Steps.{GoesAlong, IsNumberedPath}
+use Rattle.pf_search.specs.Internal.Steps.{GoesAlong, IsNumberedPath}
 use Rattle.pf_search.specs.declared.labels.Label.{Label}
-use Rattle.pf_search.specs.Labels.{Labels, HasLabel, cost_of, IsTree, Climbs, IsChain, Settles, Widened, Relaxed}
+use Rattle.pf_search.specs.Internal.Labels.{Labels, HasLabel, cost_of, IsTree, Climbs, IsChain, Settles, Widened, Relaxed}
 use Rattle.pf_search.proofs.ListLemmas.{nat_dec, reverse-cons}
 use Rattle.pf_search.proofs.LabelLemmas.{label_is, parent_labelled}
 use Rattle.pf_search.proofs.FrontierLemmas.{goes_more, end_more}

@@ -5,8 +5,8 @@ use Rattle.std.specs.declared.cmp.Reverse.{Reverse}
 use Rattle.std.proofs.lemmas.Int.{ints}
 use Rattle.std.proofs.lemmas.List.Sorted.{Contains-permutation, IsPermutation-sym}
 use Rattle.pf_search.specs.declared.labels.Label.{Label}
-use Rattle.pf_search.specs.Labels.{Labels, HasLabel, by_cost, AllSettled, Settles, Widened}
-use Rattle.pf_search.specs.Queue.{Entries, IsQueue}
+use Rattle.pf_search.specs.Internal.Labels.{Labels, HasLabel, by_cost, AllSettled, Settles, Widened}
+use Rattle.pf_search.specs.Internal.Queue.{Entries, IsQueue}
 use Rattle.pf_search.proofs.ListLemmas.{bool_dec, get_set, Contains-head, Contains-tail, Contains-cases}
 use Rattle.pf_search.proofs.LabelLemmas.{HasLabel-inside, label_is, Lowered-set, Settles-set, only, first_is}
 

@@ -4,10 +4,10 @@ use Rattle.std.specs.Prelude.{Contains, ◌≤ℤ◌, ◌+ℤ◌, ◌⊎◌}
 use Rattle.std.proofs.lemmas.Int.{ints}
 use Rattle.pf_base.specs.Walks.{end_of}
 use Rattle.pf_search.specs.declared.labels.Label.{Label}
-use Rattle.pf_search.specs.Labels.{Labels, HasLabel, cost_of, IsTree, IsChain, Relaxed, Covers, Settles, Widened, AllSettled}
-use Rattle.pf_search.specs.Steps.{GoesAlong, IsNumberedPath, IsPositive, NoGoal, NoGoalBelow, IsBestNumbered}
-use Rattle.pf_search.specs.Numbered.{ListsSteps, Grows}
-use Rattle.pf_search.specs.Frontier.{IsFound, IsCut}
+use Rattle.pf_search.specs.Internal.Labels.{Labels, HasLabel, cost_of, IsTree, IsChain, Relaxed, Covers, Settles, Widened, AllSettled}
+use Rattle.pf_search.specs.Internal.Steps.{GoesAlong, IsNumberedPath, IsPositive, NoGoal, NoGoalBelow, IsBestNumbered}
+use Rattle.pf_search.specs.Internal.Numbered.{ListsSteps, Grows}
+use Rattle.pf_search.specs.Internal.Frontier.{IsFound, IsCut}
 use Rattle.pf_search.proofs.ListLemmas.{bool_dec, nat_dec}
 use Rattle.pf_search.proofs.LabelLemmas.{HasLabel-inside, label_is, parent_labelled, only, first_is}
 use Rattle.pf_search.proofs.FrontierLemmas.{frontier, walk_positive}

@@ -4,7 +4,7 @@ use Rattle.std.specs.Prelude.{◌⊎◌}
 use Rattle.std.proofs.lemmas.Bool.{lt-ltb, le-ltb}
 use Rattle.std.specs.List.{AllClonesOf, AppendsClonesOf}
 use Rattle.pf_search.specs.declared.labels.Label.{Label}
-use Rattle.pf_search.specs.Slots.{placed, label_in}
+use Rattle.pf_search.specs.Internal.Slots.{placed, label_in}
 
 module _ {C : Type 0} (cost : C) where
   -- a word behind the first two is that of a number

@@ -4,9 +4,9 @@ use Rattle.std.specs.Prelude.{Contains, ◌≤ℤ◌, ◌+ℤ◌}
 use Rattle.std.proofs.lemmas.Int.{ints}
 use Rattle.pf_base.specs.Walks.{end_of}
 use Rattle.pf_search.specs.declared.labels.Label.{Label}
-use Rattle.pf_search.specs.Labels.{Labels, HasLabel, by_cost, IsTree, Relaxed, Covers, Settles, Widened}
-use Rattle.pf_search.specs.Steps.{IsPositive, IsTooDear}
-use Rattle.pf_search.specs.Numbered.{ListsSteps, Grows}
+use Rattle.pf_search.specs.Internal.Labels.{Labels, HasLabel, by_cost, IsTree, Relaxed, Covers, Settles, Widened}
+use Rattle.pf_search.specs.Internal.Steps.{IsPositive, IsTooDear}
+use Rattle.pf_search.specs.Internal.Numbered.{ListsSteps, Grows}
 use Rattle.pf_search.proofs.ListLemmas.{int_dec}
 use Rattle.pf_search.proofs.SearchLemmas.{IsSearch, Grows-trans, path_grows, settled_path, cheapest, goal_above, turn}
 

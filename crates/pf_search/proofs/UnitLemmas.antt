@@ -12,10 +12,10 @@ use Rattle.pf_base.specs.NodeRefs.{HasSameNodes}
 use Rattle.pf_base.specs.Edges.{HasEdge, IsSuccessor, StepCosts, StepsCost, InReach, IsBestGoalPath}
 use Rattle.pf_base.specs.Successors.{Precedes, IsShortestGoalPath}
 use Rattle.pf_base.specs.Answers.{SameNodes, ListsEdges, Answers, AnswersEach, AnswersSuccessors, AnswersTest}
-use Rattle.pf_search.specs.Numbered.{StandsBelow}
-use Rattle.pf_search.specs.Steps.{IsHop}
-use Rattle.pf_search.specs.Nodes.{StandsFor, IsStep, NumbersItems, AddedFrom, AddsNode}
-use Rattle.pf_search.specs.Hops.{HopGraph, unit_edges, unit_graph, with_ones, ExploresHops}
+use Rattle.pf_search.specs.Internal.Numbered.{StandsBelow}
+use Rattle.pf_search.specs.Internal.Steps.{IsHop}
+use Rattle.pf_search.specs.Internal.Nodes.{StandsFor, IsStep, NumbersItems, AddedFrom, AddsNode}
+use Rattle.pf_search.specs.Internal.Hops.{HopGraph, unit_edges, unit_graph, with_ones, ExploresHops}
 use Rattle.pf_search.proofs.ListLemmas.{none_in}
 use Rattle.pf_search.proofs.NodeLemmas.{InReach-start, Numbers-push, AddedFrom-push}
 

@@ -7,8 +7,8 @@ use Rattle.std.proofs.lemmas.Int.{ints}
 use Rattle.pf_base.specs.Walks.{HasNode, NoRepeats, Follows, end_of, HasNoGoalWalk}
 use Rattle.pf_base.specs.Edges.{HasEdge, IsSuccessor, StepCosts, StepsCost, InReach, HasNoNegativeCost, NoGoalWalkCostsLess, IsBestGoalPath, IsPastRange}
 use Rattle.pf_base.specs.Answers.{ListsEdges}
-use Rattle.pf_search.specs.Steps.{GoesAlong, IsPositive, NoGoal, NoGoalBelow, IsBestNumbered, IsTooDear}
-use Rattle.pf_search.specs.Nodes.{NodeGraph, StandsFor, IsStep}
+use Rattle.pf_search.specs.Internal.Steps.{GoesAlong, IsPositive, NoGoal, NoGoalBelow, IsBestNumbered, IsTooDear}
+use Rattle.pf_search.specs.Internal.Nodes.{NodeGraph, StandsFor, IsStep}
 use Rattle.pf_search.proofs.ListLemmas.{bool_dec, int_dec}
 use Rattle.pf_search.proofs.NodeLemmas.{eq-sym, eq-trans, StandsFor-same, HasEdge-same, InReach-same, InReach-start, InReach-after, InReach-more, edge_of_same}
 

@@ -3,9 +3,9 @@
 ghost use Rattle.std.specs.BinaryHeap.{IsHeap, heap_items};
 ghost use Rattle.std.specs.Prelude.{◌≡◌, ◌<◌, ◌≤◌, ◌+◌, ◌⊎◌, ℕ, Contains, IfOk, IfErr, IfSome, MatchOption, OnOk, length};
 ghost use Rattle.pf_search.specs.declared.labels.Label.{Label};
-ghost use Rattle.pf_search.specs.Labels.{HasLabel, Follows};
-ghost use Rattle.pf_search.specs.Queue.{entry_cmp, IsQueue};
-ghost use Rattle.pf_search.specs.Steps.{IsPositive, NoGoal, IsBestNumbered, IsTooDear};
+ghost use Rattle.pf_search.specs.Internal.Labels.{HasLabel, Follows};
+ghost use Rattle.pf_search.specs.Internal.Queue.{entry_cmp, IsQueue};
+ghost use Rattle.pf_search.specs.Internal.Steps.{IsPositive, NoGoal, IsBestNumbered, IsTooDear};
 
 use crate::labels::{Label, covers, path_to, widen};
 use crate::numbered::NumberedGraph;

@@ -21,7 +21,7 @@ pub struct Depth {
 
 impl Model for Depth {
     ghost use Rattle.std.specs.Prelude.{ℕ};
-    ghost use Rattle.pf_search.specs.Depths.{depth_of_steps};
+    ghost use Rattle.pf_search.specs.Internal.Depths.{depth_of_steps};
 
     ghost Value = { ℕ };
 

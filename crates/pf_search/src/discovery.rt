@@ -5,8 +5,8 @@ ghost use Rattle.std.specs.Iterator.{IsFiniteIterable, Drains};
 ghost use Rattle.std.specs.List.{IsDistinct, AllZip};
 ghost use Rattle.pf_base.specs.Edges.{InReach};
 ghost use Rattle.pf_base.specs.Answers.{IsLawfulClone};
-ghost use Rattle.pf_search.specs.Nodes.{NodeGraph, IsStep, StandsFor, AddsNode, NumbersItems, AddedFrom, Explores};
-ghost use Rattle.pf_search.specs.NodeLaws.{Explores-one};
+ghost use Rattle.pf_search.specs.Internal.Nodes.{NodeGraph, IsStep, StandsFor, AddsNode, NumbersItems, AddedFrom, Explores};
+ghost use Rattle.pf_search.specs.Internal.NodeLaws.{Explores-one};
 
 use crate::numbered::NumberedGraph;
 use indexmap::IndexSet;

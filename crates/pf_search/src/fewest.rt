@@ -2,9 +2,9 @@
 
 ghost use Rattle.std.specs.Prelude.{◌≡◌, ◌<◌, ◌≤◌, ◌+◌, ℕ, ℤ, true, false, Contains, IfOk, IfErr, IfSome, MatchOption, length, slice_set, Some};
 ghost use Rattle.pf_search.specs.declared.labels.Label.{Label};
-ghost use Rattle.pf_search.specs.Labels.{HasLabel, by_depth, Settles};
-ghost use Rattle.pf_search.specs.Steps.{IsHop, NoGoal, IsBestNumbered};
-ghost use Rattle.pf_search.specs.Numbered.{StandsBelow};
+ghost use Rattle.pf_search.specs.Internal.Labels.{HasLabel, by_depth, Settles};
+ghost use Rattle.pf_search.specs.Internal.Steps.{IsHop, NoGoal, IsBestNumbered};
+ghost use Rattle.pf_search.specs.Internal.Numbered.{StandsBelow};
 
 use crate::depth::Depth;
 use crate::labels::{fill, path_to};

@@ -7,9 +7,9 @@ ghost use Rattle.pf_base.specs.Walks.{HasNode, IsReachable};
 ghost use Rattle.pf_base.specs.NodeRefs.{HasSameNodes};
 ghost use Rattle.pf_base.specs.Successors.{Precedes};
 ghost use Rattle.pf_base.specs.Answers.{IsLawfulClone};
-ghost use Rattle.pf_search.specs.Numbered.{StandsBelow};
-ghost use Rattle.pf_search.specs.Nodes.{IsStep, StandsFor, NumbersItems, AddedFrom};
-ghost use Rattle.pf_search.specs.Hops.{HopGraph, unit_graph, with_ones, ExploresHops, ExploresHops-one};
+ghost use Rattle.pf_search.specs.Internal.Numbered.{StandsBelow};
+ghost use Rattle.pf_search.specs.Internal.Nodes.{IsStep, StandsFor, NumbersItems, AddedFrom};
+ghost use Rattle.pf_search.specs.Internal.Hops.{HopGraph, unit_graph, with_ones, ExploresHops, ExploresHops-one};
 
 use crate::discovery::{Nodes, clones_at, number_edge};
 use crate::numbered::NumberedGraph;

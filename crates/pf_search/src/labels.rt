@@ -2,7 +2,7 @@
 
 ghost use Rattle.std.specs.Prelude.{◌≡◌, ◌<◌, ◌≤◌, ◌<ℤ◌, ◌-◌, ◌^◌, ◌++◌, replicate, ℕ, true, false, Some, OnOk, IfOk, IfErr, Contains, MatchOption, MatchBool, length, slice_set};
 ghost use Rattle.pf_search.specs.declared.labels.Label.{Label};
-ghost use Rattle.pf_search.specs.Labels.{HasLabel, by_cost, IsTree, IsChain, IsWithin, Widened};
+ghost use Rattle.pf_search.specs.Internal.Labels.{HasLabel, by_cost, IsTree, IsChain, IsWithin, Widened};
 
 use crate::depth::Depth;
 use crate::slot::Slot;

@@ -1,7 +1,7 @@
 //! Graphs whose nodes are numbered in the order in which they are found.
 
 ghost use Rattle.std.specs.Prelude.{◌≡◌, ◌<◌, ◌≤◌, ℕ, ℤ, List, Bool, OnOk, IfErr, Contains};
-ghost use Rattle.pf_search.specs.Numbered.{ListsSteps, Grows};
+ghost use Rattle.pf_search.specs.Internal.Numbered.{ListsSteps, Grows};
 
 use pf_base::{Cost, PathError};
 use std::alloc::Allocator;

@@ -7,8 +7,8 @@ ghost use Rattle.std.specs.declared.cmp.Reverse.{Reverse};
 ghost use Rattle.std.specs.BinaryHeap.{IsHeap, heap_items, heap_len};
 ghost use Rattle.std.specs.Prelude.{◌≡◌, ◌<◌, ◌≤ℤ◌, ◌+ℤ◌, ◌+◌, ◌^◌, ℕ, [], ◌∷◌, false, OnOk, OnSome, IfErr, Contains, IsPermutation, MatchOption, length};
 ghost use Rattle.pf_search.specs.declared.labels.Label.{Label};
-ghost use Rattle.pf_search.specs.Labels.{by_cost, AllSettled, Settles, Lowered, Covers, Stepped, Relaxed};
-ghost use Rattle.pf_search.specs.Queue.{entry_cmp, IsQueue};
+ghost use Rattle.pf_search.specs.Internal.Labels.{by_cost, AllSettled, Settles, Lowered, Covers, Stepped, Relaxed};
+ghost use Rattle.pf_search.specs.Internal.Queue.{entry_cmp, IsQueue};
 
 use crate::labels::{Label, improves, settle};
 use crate::slot::Slot;

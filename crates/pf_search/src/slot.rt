@@ -30,7 +30,7 @@ impl<C> Model for Slot<C> {
 
     ghost Value = { Option (Label C) };
 
-    ghost use Rattle.pf_search.specs.Slots.{label_in};
+    ghost use Rattle.pf_search.specs.Internal.Slots.{label_in};
 
     ghost view = { λ s. label_in s.cost s.word s.above };
 }

@@ -7,5 +7,8 @@ mod fewest;
 mod grid;
 mod kinds;
 mod larger_graphs;
+mod noderefs;
 mod refusals;
+mod refusing;
 mod rows;
+mod utils;

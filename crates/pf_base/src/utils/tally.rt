@@ -50,15 +50,3 @@ impl Tally {
         self.count = Snapshot::of(&next);
     }
 }
-
-#[cfg(test)]
-mod tests {
-    use super::*;
-
-    #[test]
-    fn has_no_size(rt: HostRuntime) {
-        let mut tally = Tally::new();
-        tally.tick();
-        assert_eq!(rt; mem::size_of::<Tally>(), 0);
-    }
-}

@@ -1,6 +1,6 @@
 use Rattle.std.proofs.Common.{rules, ◌≡◌, ◌<◌, ◌∙◌, sym, subst, [], ◌∷◌, ℕ, arith, length, ap, true, false, Some, Err, refl}
 use Rattle.pf_search.specs.declared.labels.Label.{Label}
-use Rattle.pf_search.specs.Labels.{by_cost}
+use Rattle.pf_search.specs.Internal.Labels.{by_cost}
 use Rattle.pf_search.proofs.LabelLemmas.{HasLabel-inside, tree_start, count_start}
 use Rattle.pf_search.proofs.QueueLemmas.{IsQueue-start}
 use Rattle.pf_search.proofs.PathLemmas.{IsTree-settle, IsTree-turn}

@@ -1,8 +1,8 @@
 use Rattle.std.proofs.Common.{◌≡◌, ◌-◌, ◌+◌, ◌^◌, length}
 use Rattle.std.specs.BinaryHeap.{IsHeap, heap_items}
-use Rattle.pf_search.specs.Steps.{IsPositive}
-use Rattle.pf_search.specs.Labels.{by_cost, IsTree, settled_count}
-use Rattle.pf_search.specs.Queue.{entry_cmp, IsQueue}
+use Rattle.pf_search.specs.Internal.Steps.{IsPositive}
+use Rattle.pf_search.specs.Internal.Labels.{by_cost, IsTree, settled_count}
+use Rattle.pf_search.specs.Internal.Queue.{entry_cmp, IsQueue}
 use Rattle.pf_search.proofs.SearchLemmas.{IsSearch}
 use Rattle.pf_search.proofs.cheapest.cheapest_path.Given as goal
 

@@ -1,7 +1,7 @@
 use Rattle.std.proofs.Common.{rules, ◌≡◌, ◌<◌, sym, subst, Some, slice_get, take, length, get_or, [], ◌∷◌, ◌++◌}
 use Rattle.std.specs.List.{AllZip}
 use Rattle.std.proofs.lemmas.List.{take_more}
-use Rattle.pf_search.specs.Nodes.{StandsFor}
+use Rattle.pf_search.specs.Internal.Nodes.{StandsFor}
 use Rattle.pf_search.proofs.ListLemmas.{at_place, Contains-index}
 use Rattle.pf_search.proofs.PathLemmas.{AllZip-append}
 use Rattle.pf_search.proofs.discovery.clones_at.Goals as goal

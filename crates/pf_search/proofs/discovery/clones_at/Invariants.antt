@@ -1,6 +1,6 @@
 use Rattle.std.proofs.Common.{take}
 use Rattle.std.specs.List.{AllZip}
-use Rattle.pf_search.specs.Nodes.{StandsFor}
+use Rattle.pf_search.specs.Internal.Nodes.{StandsFor}
 use Rattle.pf_search.proofs.discovery.clones_at.Given as goal
 
 abbrev pub invariant-numbers : goal.invariant-numbers

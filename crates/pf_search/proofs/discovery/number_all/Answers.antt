@@ -1,5 +1,5 @@
 use Rattle.std.proofs.Common.{◌∙◌, sym, subst, arith, [], ◌∷◌, ◌++◌}
-use Rattle.pf_search.specs.Nodes.{NumbersItems}
+use Rattle.pf_search.specs.Internal.Nodes.{NumbersItems}
 use Rattle.pf_search.proofs.NodeLemmas.{take_longer, Numbers-grow, Numbers-push, AddedFrom-push, AddsNode-stays}
 use Rattle.pf_search.proofs.discovery.number_all.Goals as goal
 

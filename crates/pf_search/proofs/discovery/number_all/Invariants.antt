@@ -1,6 +1,6 @@
 use Rattle.std.proofs.Common.{◌≡◌, ◌≤◌, length, take}
 use Rattle.std.specs.List.{IsDistinct}
-use Rattle.pf_search.specs.Nodes.{NumbersItems, AddedFrom}
+use Rattle.pf_search.specs.Internal.Nodes.{NumbersItems, AddedFrom}
 use Rattle.pf_search.proofs.discovery.number_all.Given as goal
 
 abbrev pub invariant-items : goal.invariant-items

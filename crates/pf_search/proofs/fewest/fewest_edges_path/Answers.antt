@@ -1,8 +1,8 @@
 use Rattle.std.proofs.Common.{◌-◌, length-append, ◌≡◌, ◌<◌, ◌≤◌, ◌+◌, ◌∙◌, sym, subst, ℕ, arith, length, ap, Some, pos, replicate}
 use Rattle.std.specs.Prelude.{Contains}
 use Rattle.std.proofs.lemmas.List.{length-replicate}
-use Rattle.pf_search.specs.Numbered.{StandsBelow}
-use Rattle.pf_search.specs.Labels.{by_depth}
+use Rattle.pf_search.specs.Internal.Numbered.{StandsBelow}
+use Rattle.pf_search.specs.Internal.Labels.{by_depth}
 use Rattle.pf_search.proofs.SearchLemmas.{no_goal, best_grows}
 use Rattle.pf_search.proofs.HopLemmas.{breadth_start, breadth_done, breadth_turn, hop_tree_start, hop_search_start, hop_best, hop_tree, hop_turned, hop_positive, hop_len, reached_from, started, resized}
 use Rattle.pf_search.proofs.fewest.fewest_edges_path.Goals as goal

@@ -1,7 +1,7 @@
 use Rattle.std.proofs.Common.{◌≡◌, ◌≤◌, ◌-◌, ◌^◌, length}
-use Rattle.pf_search.specs.Steps.{IsHop}
-use Rattle.pf_search.specs.Labels.{by_depth, IsTree}
-use Rattle.pf_search.specs.Numbered.{StandsBelow}
+use Rattle.pf_search.specs.Internal.Steps.{IsHop}
+use Rattle.pf_search.specs.Internal.Labels.{by_depth, IsTree}
+use Rattle.pf_search.specs.Internal.Numbered.{StandsBelow}
 use Rattle.pf_search.proofs.SearchLemmas.{IsSearch}
 use Rattle.pf_search.proofs.HopLemmas.{IsBreadth}
 use Rattle.pf_search.proofs.fewest.fewest_edges_path.Given as goal

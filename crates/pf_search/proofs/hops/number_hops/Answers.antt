@@ -1,6 +1,6 @@
 use Rattle.std.proofs.Common.{◌∙◌, sym, subst, arith, [], ◌∷◌, ◌++◌}
-use Rattle.pf_search.specs.Nodes.{NumbersItems}
-use Rattle.pf_search.specs.Hops.{with_ones}
+use Rattle.pf_search.specs.Internal.Nodes.{NumbersItems}
+use Rattle.pf_search.specs.Internal.Hops.{with_ones}
 use Rattle.pf_search.proofs.NodeLemmas.{take_longer, Numbers-grow, AddsNode-stays}
 use Rattle.pf_search.proofs.UnitLemmas.{Ones-push, AddedOnes-push}
 use Rattle.pf_search.proofs.hops.number_hops.Goals as goal

@@ -1,7 +1,7 @@
 use Rattle.std.proofs.Common.{◌≡◌, ◌≤◌, length, take}
 use Rattle.std.specs.List.{IsDistinct}
-use Rattle.pf_search.specs.Nodes.{NumbersItems, AddedFrom}
-use Rattle.pf_search.specs.Hops.{with_ones}
+use Rattle.pf_search.specs.Internal.Nodes.{NumbersItems, AddedFrom}
+use Rattle.pf_search.specs.Internal.Hops.{with_ones}
 use Rattle.pf_search.proofs.hops.number_hops.Given as goal
 
 abbrev pub invariant-items : goal.invariant-items

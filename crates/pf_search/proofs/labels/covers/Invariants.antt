@@ -1,7 +1,7 @@
 use Rattle.std.proofs.Common.{ℕ, take}
 use Rattle.std.specs.Prelude.{Contains}
 use Rattle.pf_search.specs.declared.labels.Label.{Label}
-use Rattle.pf_search.specs.Labels.{HasLabel}
+use Rattle.pf_search.specs.Internal.Labels.{HasLabel}
 use Rattle.pf_search.proofs.labels.covers.Given as goal
 
 abbrev pub invariant-steps : goal.invariant-steps

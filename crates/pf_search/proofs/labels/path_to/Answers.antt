@@ -1,7 +1,7 @@
 use Rattle.std.proofs.Common.{arith, ◌∙◌, ap, sym, subst, ℕ, ◌<◌, [], ◌∷◌, ◌++◌, length, inl, inr}
 use Rattle.std.specs.Prelude.{reverse, Contains}
 use Rattle.std.proofs.lemmas.List.{append-nil, append_assoc}
-use Rattle.pf_search.specs.Labels.{HasLabel}
+use Rattle.pf_search.specs.Internal.Labels.{HasLabel}
 use Rattle.pf_search.proofs.ListLemmas.{Contains-append_one, Contains-reverse}
 use Rattle.pf_search.proofs.LabelLemmas.{HasLabel-inside, parent_labelled}
 use Rattle.pf_search.proofs.labels.path_to.Goals as goal

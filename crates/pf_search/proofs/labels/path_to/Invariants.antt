@@ -1,7 +1,7 @@
 use Rattle.std.proofs.Common.{◌≡◌, ◌<◌, ℕ, List, ◌++◌, ◌∷◌, length}
 use Rattle.std.specs.Prelude.{slice_get, Contains}
 use Rattle.pf_search.specs.declared.labels.Label.{Label}
-use Rattle.pf_search.specs.Labels.{HasLabel, Climbs, depth_of}
+use Rattle.pf_search.specs.Internal.Labels.{HasLabel, Climbs, depth_of}
 use Rattle.pf_search.proofs.labels.path_to.Given as goal
 
 -- whatever leads on from `at` to number 0 leads, behind the numbers so far, there from `last`

@@ -2,8 +2,8 @@ use Rattle.std.proofs.Common.{◌+◌, false, refl, sym, subst}
 use Rattle.std.specs.Prelude.{slice_set, Option}
 use Rattle.std.specs.BinaryHeap.{heap_items}
 use Rattle.pf_search.specs.declared.labels.Label.{Label}
-use Rattle.pf_search.specs.Labels.{by_cost, Lowered}
-use Rattle.pf_search.specs.Queue.{IsQueue}
+use Rattle.pf_search.specs.Internal.Labels.{by_cost, Lowered}
+use Rattle.pf_search.specs.Internal.Queue.{IsQueue}
 use Rattle.pf_search.proofs.LabelLemmas.{Lowered-none, Lowered-set}
 use Rattle.pf_search.proofs.QueueLemmas.{IsQueue-lower}
 use Rattle.pf_search.proofs.queue.lower.Goals as goal

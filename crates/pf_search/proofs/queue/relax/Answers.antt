@@ -1,7 +1,7 @@
 use Rattle.std.proofs.Common.{ℕ, ◌<◌, subst, sym}
 use Rattle.pf_search.proofs.ListLemmas.{Contains-take, Contains-take_all, Contains-take_here, Contains-here}
 use Rattle.pf_search.proofs.LabelLemmas.{Relaxed-more, reached_more}
-use Rattle.pf_search.specs.Labels.{by_cost}
+use Rattle.pf_search.specs.Internal.Labels.{by_cost}
 use Rattle.pf_search.proofs.queue.relax.Goals as goal
 
 pub take_step-requires-clause-inside : goal.take_step-requires-clause-inside

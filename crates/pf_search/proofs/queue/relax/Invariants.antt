@@ -1,9 +1,9 @@
 use Rattle.std.proofs.Common.{ℕ, take}
 use Rattle.std.specs.Prelude.{Contains, ◌+ℤ◌}
 use Rattle.std.specs.BinaryHeap.{IsHeap, heap_items}
-use Rattle.pf_search.specs.Labels.{Relaxed, Covers}
-use Rattle.pf_search.specs.Labels.{by_cost}
-use Rattle.pf_search.specs.Queue.{entry_cmp, IsQueue}
+use Rattle.pf_search.specs.Internal.Labels.{Relaxed, Covers}
+use Rattle.pf_search.specs.Internal.Labels.{by_cost}
+use Rattle.pf_search.specs.Internal.Queue.{entry_cmp, IsQueue}
 use Rattle.pf_search.proofs.queue.relax.Given as goal
 
 abbrev pub invariant-steps : goal.invariant-steps

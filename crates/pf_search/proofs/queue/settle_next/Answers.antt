@@ -1,6 +1,6 @@
 use Rattle.std.proofs.Common.{◌∙◌, sym, subst}
 use Rattle.std.specs.BinaryHeap.{heap_items}
-use Rattle.pf_search.specs.Queue.{IsQueue}
+use Rattle.pf_search.specs.Internal.Queue.{IsQueue}
 use Rattle.pf_search.proofs.QueueLemmas.{popped_inside, IsQueue-skip, IsQueue-settle, Settles-popped, all_settled}
 use Rattle.pf_search.proofs.queue.settle_next.Goals as goal
 

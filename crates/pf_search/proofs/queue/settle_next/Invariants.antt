@@ -1,6 +1,6 @@
 use Rattle.std.proofs.Common.{◌≡◌}
 use Rattle.std.specs.BinaryHeap.{IsHeap, heap_items, heap_len}
-use Rattle.pf_search.specs.Queue.{entry_cmp, IsQueue}
+use Rattle.pf_search.specs.Internal.Queue.{entry_cmp, IsQueue}
 use Rattle.pf_search.proofs.queue.settle_next.Given as goal
 
 abbrev pub invariant-entries : goal.invariant-entries

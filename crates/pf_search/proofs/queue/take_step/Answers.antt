@@ -1,5 +1,5 @@
 use Rattle.std.specs.Prelude.{None, Some}
-use Rattle.pf_search.specs.Labels.{by_cost}
+use Rattle.pf_search.specs.Internal.Labels.{by_cost}
 use Rattle.pf_search.proofs.ListLemmas.{on_ok}
 use Rattle.pf_search.proofs.LabelLemmas.{Stepped-none, Stepped-from}
 use Rattle.pf_search.proofs.queue.take_step.Goals as goal

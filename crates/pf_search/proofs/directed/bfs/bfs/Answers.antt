@@ -1,6 +1,6 @@
 use Rattle.std.proofs.Common.{refl}
-use Rattle.pf_search.specs.NodeLaws.{StandsFor-one}
-use Rattle.pf_search.specs.Hops.{HopGraph, unit_graph}
+use Rattle.pf_search.specs.Internal.NodeLaws.{StandsFor-one}
+use Rattle.pf_search.specs.Internal.Hops.{HopGraph, unit_graph}
 use Rattle.pf_search.proofs.WalkLemmas.{no_walk, best_answer}
 use Rattle.pf_search.proofs.UnitLemmas.{hops_alike, is_hop, no_next_walk, shortest_of_best, begins_all}
 use Rattle.pf_search.proofs.directed.bfs.bfs.Goals as goal

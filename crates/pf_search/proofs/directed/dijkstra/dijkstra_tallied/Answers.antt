@@ -1,8 +1,8 @@
 use Rattle.std.proofs.Common.{rules, ◌≡◌, [], ◌∷◌, refl, ap}
 use Rattle.std.specs.Prelude.{Err}
 use Rattle.pf_base.specs.declared.error.PathError.TheVariants.{CostOverflow}
-use Rattle.pf_search.specs.Nodes.{NodeGraph}
-use Rattle.pf_search.specs.NodeLaws.{StandsFor-one}
+use Rattle.pf_search.specs.Internal.Nodes.{NodeGraph}
+use Rattle.pf_search.specs.Internal.NodeLaws.{StandsFor-one}
 use Rattle.pf_search.proofs.WalkLemmas.{all_starts, only_starts, positive, no_walk, best_answer, past_range}
 use Rattle.pf_search.proofs.NodeLemmas.{at_most}
 use Rattle.pf_search.proofs.directed.dijkstra.dijkstra_tallied.Goals as goal

@@ -1,6 +1,6 @@
 use Rattle.std.proofs.Common.{rules, ◌≡◌, sym, subst, Some, Bor, slice_get, ℕ, inl, inr}
 use Rattle.pf_base.specs.Edges.{InReach}
-use Rattle.pf_search.specs.NodeLaws.{StandsFor-one}
+use Rattle.pf_search.specs.Internal.NodeLaws.{StandsFor-one}
 use Rattle.pf_search.proofs.ListLemmas.{at_place, on_ok, ok_or_err}
 use Rattle.pf_base.proofs.Asking.{Answers-takes, Answers-gives, Gives-ends, Gives-drains}
 use Rattle.pf_search.proofs.NodeLemmas.{fresh_number, Explores-called, Grows-from_take, inside_of, Lists-from, reached_added}

@@ -1,7 +1,7 @@
 use Rattle.std.proofs.Common.{rules, ◌≡◌, sym, subst, refl, Some, Bor, slice_get, ℕ, inl, inr}
 use Rattle.pf_base.specs.Edges.{InReach}
-use Rattle.pf_search.specs.NodeLaws.{StandsFor-one}
-use Rattle.pf_search.specs.Hops.{unit_edges, unit_graph, with_ones}
+use Rattle.pf_search.specs.Internal.NodeLaws.{StandsFor-one}
+use Rattle.pf_search.specs.Internal.Hops.{unit_edges, unit_graph, with_ones}
 use Rattle.std.specs.Prelude.{pos}
 use Rattle.pf_search.proofs.ListLemmas.{at_place, on_ok, ok_or_err}
 use Rattle.pf_base.proofs.Asking.{Answers-takes, Answers-gives, Answers-on, Gives-ends, Gives-drains}

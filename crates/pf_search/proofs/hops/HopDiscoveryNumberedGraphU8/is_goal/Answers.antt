@@ -1,6 +1,6 @@
 use Rattle.std.proofs.Common.{rules, ◌≡◌, ◌∙◌, sym, subst, Some, Bor, slice_get}
 use Rattle.pf_base.specs.Edges.{InReach}
-use Rattle.pf_search.specs.Hops.{unit_edges}
+use Rattle.pf_search.specs.Internal.Hops.{unit_edges}
 use Rattle.pf_search.proofs.ListLemmas.{at_place}
 use Rattle.pf_base.proofs.Asking.{Answers-takes, Answers-gives, Answers-on}
 use Rattle.pf_search.proofs.NodeLemmas.{test_at}

@@ -1,20 +1,14 @@
-//! Callers that are proved, and the calls with ample memory.
+//! Sets of nodes: proved callers, and the calls with ample memory.
 
 ghost use Rattle.std.specs.Prelude.{◌≡◌, IfOk, IfErr, length};
-ghost use Rattle.std.specs.Char.{to_ascii_lowercase};
-ghost use Rattle.std.specs.Ordering.{on};
-ghost use Rattle.std.specs.Prelude.{nat_eq};
-ghost use Rattle.std.specs.Cmp.Rules.{comparing, hashing};
-ghost use Rattle.std.specs.Hash as fed;
-ghost use Rattle.std.proofs.Common.{rules};
 ghost use Rattle.pf_base.specs.Answers.{IsLawfulClone, SameNodes};
 ghost use Rattle.pf_base.specs.NodeRefs.{HasSameNodes};
 ghost use Rattle.pf_base.specs.declared.error.PathError.TheVariants.{OutOfMemory};
 
-use super::NodeRefs;
-use crate::error::PathError;
+use crate::no_case::NoCase;
+use pf_base::{NodeRefs, PathError};
 use std::alloc::Allocator;
-use std::hash::{Hash, Hasher};
+use std::hash::Hash;
 use std::test::Fail;
 
 /// Clones of the nodes, in the order of the set.
@@ -52,57 +46,23 @@ fn count_of<N: Eq + Hash, A: Allocator>(nodes: NodeRefs<'_, N, A>) -> usize
     nodes.into_iter().count()
 }
 
-/// A letter, whose case tells no two letters apart.
-#[derive(Clone, Copy, Debug)]
-struct Letter {
-    letter: u8,
-}
-
-impl PartialEq for Letter {
-    ghost eq = { on (λ l. to_ascii_lowercase l.letter) nat_eq };
-
-    ghost laws = { Prim.search (comparing, rules) };
-
-    fn eq(&self, other: &Letter) -> bool {
-        self.letter.eq_ignore_ascii_case(&other.letter)
-    }
-}
-
-impl Eq for Letter {
-    ghost laws = { Prim.search (comparing, rules) };
-}
-
-impl Hash for Letter {
-    ghost hash_input = { λ l. fed.u8 (to_ascii_lowercase l.letter) };
-
-    ghost respects_eq = { Prim.search (hashing, rules) };
-
-    fn hash<H: Hasher>(&self, state: &mut H) {
-        state.write_u8(self.letter.to_ascii_lowercase());
-    }
-}
-
 #[test]
 fn equal_nodes_are_one(rt: HostRuntime) -> Result<(), Fail> {
-    let letters = [Letter { letter: b'A' }, Letter { letter: b'a' }];
+    let letters = [NoCase { name: "A" }, NoCase { name: "a" }];
     let nodes = NodeRefs::from_nodes(rt.alloc(), &letters)?;
     assert_eq!(rt; nodes.len(), 1);
     assert!(rt; nodes.contains(&letters[0]) && nodes.contains(&letters[1]));
-    assert!(rt; !nodes.contains(&Letter { letter: b'b' }));
+    assert!(rt; !nodes.contains(&NoCase { name: "b" }));
     assert!(rt; nodes == NodeRefs::from_one(rt.alloc(), &letters[1])?);
     Ok(())
 }
 
 #[test]
-fn one_node(rt: HostRuntime) -> Result<(), Fail> {
+fn sets_of_one_and_of_no_node(rt: HostRuntime) -> Result<(), Fail> {
     let nodes = NodeRefs::from_one(rt.alloc(), &7u32)?;
     assert!(rt; !nodes.is_empty() && nodes.len() == 1);
     assert!(rt; nodes.contains(&7) && !nodes.contains(&8));
-    Ok(())
-}
-
-#[test]
-fn no_nodes(rt: HostRuntime) -> Result<(), Fail> {
+    assert_eq!(rt; format!(in rt.alloc(); "{nodes:?}")?.as_str(), "{7}");
     let nodes = set_of(rt.alloc(), &[0u32; 0])?;
     assert!(rt; nodes.is_empty() && nodes.len() == 0);
     assert!(rt; nodes.iter().next().is_none());
@@ -141,12 +101,5 @@ fn equal_sets_may_differ_in_order(rt: HostRuntime) -> Result<(), Fail> {
     let copy = nodes.clone()?;
     assert!(rt; copy == nodes);
     assert_eq!(rt; count_of(copy), 3);
-    Ok(())
-}
-
-#[test]
-fn shows_its_nodes(rt: HostRuntime) -> Result<(), Fail> {
-    let nodes = NodeRefs::from_one(rt.alloc(), &7u32)?;
-    assert_eq!(rt; format!(in rt.alloc(); "{nodes:?}")?.as_str(), "{7}");
     Ok(())
 }

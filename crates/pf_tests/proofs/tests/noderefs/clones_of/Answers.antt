@@ -2,7 +2,7 @@ use Rattle.std.proofs.Common.{◌≡◌, true}
 use Rattle.std.proofs.lemmas.List.{map-append}
 use Rattle.std.proofs.lemmas.List.Elements.{AllZip-push}
 use Rattle.pf_base.specs.NodeRefs.{nodes_of}
-use Rattle.pf_base.proofs.noderefs.tests.clones_of.Goals as goal
+use Rattle.pf_tests.proofs.tests.noderefs.clones_of.Goals as goal
 
 pub loop-start-preserved : goal.loop-start-preserved
 loop-start-preserved g c =

@@ -4,7 +4,7 @@ use Rattle.std.specs.Ordering.{ordering_then, nat_cmp}
 use Rattle.std.specs.declared.cmp.Ordering.{Ordering}
 use Rattle.std.specs.declared.cmp.Reverse.{Reverse}
 use Rattle.pf_search.specs.declared.labels.Label.{Label}
-use Rattle.pf_search.specs.Labels.{Labels, HasLabel}
+use Rattle.pf_search.specs.Internal.Labels.{Labels, HasLabel}
 
 abbrev pub Entries : Type 0 → Type 0
 Entries C = List (Reverse (C × ℕ))

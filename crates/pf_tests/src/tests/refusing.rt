@@ -1,4 +1,6 @@
-use crate::Refusing;
+//! Which requests the allocator for tests refuses.
+
+use refusing_allocator::Refusing;
 use std::alloc::Allocator;
 use std::test::Fail;
 

@@ -6,8 +6,8 @@ use Rattle.std.specs.Iterator.{Count}
 use Rattle.std.specs.List.{IsDistinct}
 use Rattle.pf_base.specs.Edges.{InReach}
 use Rattle.pf_base.specs.Answers.{AnswersSuccessors, AnswersTest}
-use Rattle.pf_search.specs.Nodes.{NodeGraph, StandsFor}
-use Rattle.pf_search.specs.NodeLaws.{StandsFor-one}
+use Rattle.pf_search.specs.Internal.Nodes.{NodeGraph, StandsFor}
+use Rattle.pf_search.specs.Internal.NodeLaws.{StandsFor-one}
 use Rattle.std.specs.Cmp.{IsEquivalence}
 
 -- starts, the nodes that follow each node, and which nodes are goals

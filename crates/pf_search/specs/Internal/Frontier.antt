@@ -1,7 +1,7 @@
 -- The frontier of a search: what is closed, what is open, and that no walk passes by the open numbers.
 use Rattle.std.specs.Prelude.{◌≡◌, ◌≤ℤ◌, ◌+ℤ◌, ◌⊎◌, ℤ, ℕ, List, ◌++◌}
 use Rattle.pf_base.specs.Walks.{end_of}
-use Rattle.pf_search.specs.Steps.{GoesAlong}
+use Rattle.pf_search.specs.Internal.Steps.{GoesAlong}
 
 module _ {X : Type 0} (step : X → ℤ → X → Type 0) (stands : ℕ → X → Type 0) (settled waiting : ℕ → ℤ → Type 0) where
   -- the number j has the label e, settled or not

@@ -6,7 +6,7 @@ use Rattle.std.specs.Iterator.{Count}
 use Rattle.std.specs.Cmp.{IsEquivalence}
 use Rattle.std.specs.List.{IsDistinct, AllByRecursion}
 use Rattle.std.specs.Prelude.{List, slice_get}
-use Rattle.pf_search.specs.Nodes.{NodeGraph, StandsFor, Explores}
+use Rattle.pf_search.specs.Internal.Nodes.{NodeGraph, StandsFor, Explores}
 
 at_get : {N : Type 0} (P : N → Type 0) (xs : List N) (i : ℕ) (x : N) → AllByRecursion P xs → slice_get xs i ≡ Some x → P x
 at_get P [] zero x a h = cc

@@ -1,0 +1,10 @@
+pub mod Numbered
+pub mod Steps
+pub mod Frontier
+pub mod Depths
+pub mod Labels
+pub mod Slots
+pub mod Queue
+pub mod Nodes
+pub mod NodeLaws
+pub mod Hops
