@@ -19,7 +19,7 @@ use std::{fmt, slice};
 ///
 /// Equal nodes are one node, also where they lie at two places; which of the references to them is
 /// kept is open, and so is the order. A contract sees the list of the nodes. Only the makers and
-/// `clone` take memory, and want of it is their only error.
+/// `clone` take memory, and out of memory is their only error.
 pub struct NodeRefs<'a, N: Eq + Hash, A: Allocator = Global> {
     nodes: IndexSet<&'a N, BuildHasherDefault<FoldHasher>, A>,
 }
@@ -43,7 +43,7 @@ impl<'a, N: Eq + Hash, A: Allocator> Drop for NodeRefs<'a, N, A> {
 }
 
 impl<'a, N: Eq + Hash, A: Allocator + Copy> NodeRefs<'a, N, A> {
-    /// The set of one node. The only error is want of memory.
+    /// The set of one node. The only error is out of memory.
     pub fn from_one(alloc: A, node: &'a N) -> Result<Self, PathError>
         ensures one { IfOk result (λ s. s ≡ node.now ∷ []) }
         ensures refused { IfErr result (λ e. e ≡ OutOfMemory) }
@@ -54,7 +54,7 @@ impl<'a, N: Eq + Hash, A: Allocator + Copy> NodeRefs<'a, N, A> {
     }
 
     /// The set of the nodes that `nodes` gives, each once: a slice of nodes, or any other iterable
-    /// of references that ends. The only error is want of memory.
+    /// of references that ends. The only error is out of memory.
     pub fn from_nodes<I: IntoIterator<Item = &'a N>>(alloc: A, nodes: I) -> Result<Self, PathError>
         requires ends { IsFiniteIterable I.into_iter_gives I.IntoIter.can_next I.IntoIter.remaining nodes }
         ensures given { IfOk result (HasNodesGivenBy N.eq I.into_iter_gives I.IntoIter.next_gives nodes) }

@@ -1,13 +1,14 @@
 //! Tests of the library's calls, and callers that show how they are proved.
 #![tactic(auto)]
 
-pub mod callers;
 pub mod compact;
 pub mod fewest;
 pub mod grid;
+pub mod list;
 pub mod minutes;
 pub mod no_case;
 #[cfg(test)]
 mod plain;
+pub mod rows;
 #[cfg(test)]
 mod tests;

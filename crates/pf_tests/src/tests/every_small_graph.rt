@@ -5,8 +5,8 @@
 
 ghost use Rattle.std.specs.Prelude.{◌≤ℤ◌, All, pos};
 
-use crate::callers::cheapest_in_list;
 use crate::fewest::fewest_in_pairs;
+use crate::list::cheapest_in_list;
 use crate::plain::{least_cost, least_edges};
 use pf_base::NodeRefs;
 use std::alloc::{AllocError, Global};

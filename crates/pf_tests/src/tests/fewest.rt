@@ -1,7 +1,10 @@
 //! Worked examples of paths with fewest edges.
 
+ghost use Rattle.std.specs.Prelude.{◌<◌, All, length, IsTrue};
+
 use crate::fewest::fewest_in_pairs;
 use crate::no_case::NoCase;
+use crate::rows::fewest_in_rows;
 use pf_base::NodeRefs;
 use std::alloc::{AllocError, Global};
 use std::test::Fail;
@@ -75,5 +78,27 @@ fn equal_nodes_are_one_start(rt: HostRuntime) -> Result<(), Fail> {
     let goal = NoCase { name: "c" };
     let path = fewest_in_pairs(rt.alloc(), &edges, &starts, &[goal])?.ok_or("no path")?;
     assert_eq!(rt; path.len(), 3);
+    Ok(())
+}
+
+/// Whether each node of a table is one of its rows.
+fn leads_inside(rows: &[Vec<usize>]) -> bool
+    ensures { IsTrue result → All (λ row. All (λ n. n < length rows.now) row.items) rows.now }
+{
+    rows.iter().all(|row| row.iter().all(|n| *n < rows.len()))
+}
+
+#[test]
+fn fewest_edges_in_a_table(rt: HostRuntime) -> Result<(), Fail> {
+    let mut rows = Vec::new(rt.alloc());
+    for row in [[1usize, 2], [2, 3], [3, 4], [4, 4], [4, 4]] {
+        rows.push(Vec::from_array(rt.alloc(), row)?)?;
+    }
+    let start = 0usize;
+    let starts = NodeRefs::from_one(rt.alloc(), &start)?;
+    assert!(rt; rows.len() > 4 && leads_inside(&rows));
+    let path = fewest_in_rows(rt.alloc(), &rows, &starts, 4)?.ok_or("no path")?;
+    assert_eq!(rt; path.as_slice(), [0, 2, 4].as_slice());
+    assert!(rt; fewest_in_rows(rt.alloc(), &rows, &starts, 5)?.is_none());
     Ok(())
 }

@@ -2,7 +2,7 @@
 
 ghost use Rattle.std.specs.Prelude.{◌≡◌, ◌<◌, ◌+◌, ◌*◌, ◌%◌, ◌∷◌, [], All, length, not, pos, IsTrue};
 
-use crate::callers::{cheapest_in_rows, leads_to_rows};
+use crate::rows::{cheapest_in_rows, leads_to_rows};
 use pf_base::PathError;
 use pf_search::directed::dijkstra::dijkstra;
 use std::alloc::Allocator;

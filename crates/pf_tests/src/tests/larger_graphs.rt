@@ -3,9 +3,9 @@
 
 ghost use Rattle.std.specs.Prelude.{◌<◌};
 
-use crate::callers::{cheapest_in_rows, leads_to_rows};
 use crate::fewest::fewest_in_pairs;
 use crate::plain::{least_cost, least_edges};
+use crate::rows::{cheapest_in_rows, leads_to_rows};
 use pf_base::NodeRefs;
 use std::alloc::{AllocError, Global};
 use std::process::Abort;

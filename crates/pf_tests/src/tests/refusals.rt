@@ -1,4 +1,4 @@
-//! Each growth refused in turn: a call answers want of memory and nothing else, until no request is
+//! Each growth refused in turn: a call answers out of memory and nothing else, until no request is
 //! refused and it answers as it does with ample memory.
 
 ghost use Rattle.std.specs.Prelude.{◌≡◌, ◌<◌, ◌+◌, ◌*◌, ◌%◌, ◌∷◌, []};
@@ -15,7 +15,7 @@ use std::test::Fail;
 /// How a call ended.
 #[derive(Clone, Copy, Debug, PartialEq, Eq)]
 enum Outcome {
-    /// It answered want of memory.
+    /// It answered out of memory.
     OutOfMemory,
     /// It answered as it does with ample memory.
     Answered,
@@ -24,7 +24,7 @@ enum Outcome {
 }
 
 /// Runs a call with growth 0, 1, 2, .. refused alone, until a run meets no refusal, and answers how
-/// many growths that run made. Each run before it has to answer want of memory.
+/// many growths that run made. Each run before it has to answer out of memory.
 fn refuse_each_growth<F>(rt: &impl Abort, alloc: Global, mut call: F) -> u64
 where
     F: FnMut(&Refusing<Global>) -> Outcome,

@@ -2,7 +2,7 @@
 
 ghost use Rattle.std.specs.Prelude.{◌≤ℤ◌, All, pos};
 
-use crate::callers::cheapest_in_list;
+use crate::list::cheapest_in_list;
 use crate::minutes::Minutes;
 use crate::no_case::NoCase;
 use pf_base::PathError;

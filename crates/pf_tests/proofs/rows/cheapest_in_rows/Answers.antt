@@ -5,7 +5,7 @@ use Rattle.pf_base.proofs.Callers.{nat_test}
 use Rattle.pf_base.proofs.Reach.{row_at, row_at-index, unsigned_cost}
 use Rattle.pf_base.proofs.Tables.{rows_graph}
 use Rattle.pf_tests.specs.Rows.{edges_of}
-use Rattle.pf_tests.proofs.callers.cheapest_in_rows.Goals as goal
+use Rattle.pf_tests.proofs.rows.cheapest_in_rows.Goals as goal
 
 pub dijkstra-requires-clause-graph : goal.dijkstra-requires-clause-graph
 dijkstra-requires-clause-graph g c =

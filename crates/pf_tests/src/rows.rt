@@ -1,17 +1,16 @@
-//! Callers of `dijkstra` with contracts of their own.
+//! Callers over tables in which each node has a row.
 
-ghost use Rattle.std.specs.Prelude.{◌≡◌, ◌⊎◌, ◌<◌, ◌≤ℤ◌, ◌↔◌, ◌==◌, ◌∷◌, [], All, length, nat_eq, pos, IsTrue, IfOk, IfErr, MatchOption};
-ghost use Rattle.pf_base.specs.Answers.{IsLawfulClone};
+ghost use Rattle.std.specs.Prelude.{◌≡◌, ◌⊎◌, ◌<◌, ◌↔◌, ◌==◌, ◌∷◌, [], All, length, nat_eq, pos, IsTrue, IfOk, IfErr, MatchOption};
 ghost use Rattle.pf_base.specs.Edges.{IsSuccessor, IsBestGoalPath, IsPastRange};
+ghost use Rattle.pf_base.specs.Successors.{Precedes, IsShortestGoalPath};
 ghost use Rattle.pf_base.specs.Walks.{HasNoGoalWalk};
-ghost use Rattle.pf_tests.specs.Lists.{edges_from};
-ghost use Rattle.pf_tests.specs.Rows.{edges_of};
+ghost use Rattle.pf_tests.specs.Rows.{edges_of, nodes_after};
 
 use num_traits::Number;
-use pf_base::{Cost, PathError};
+use pf_base::{NodeRefs, PathError};
+use pf_search::directed::bfs::bfs;
 use pf_search::directed::dijkstra::dijkstra;
 use std::alloc::Allocator;
-use std::hash::Hash;
 
 /// Whether each edge of a row leads below `bound`.
 fn leads_below(row: &[(usize, u32)], bound: usize) -> bool
@@ -49,36 +48,22 @@ where
     dijkstra(alloc, &from, |n| rows[*n].iter().copied(), |n| *n == to)
 }
 
-/// A cheapest path in a graph that is given as a list of edges (from, to, cost), with its cost, or
-/// `None` exactly where no walk leads from `from` to `to`.
-pub fn cheapest_in_list<N, C, A>(
+/// A path with fewest edges in a table, from one of the starts to `to`, or `None` exactly where no
+/// walk leads from a start to `to`. Each row lists the nodes after its node.
+pub fn fewest_in_rows<A>(
     alloc: A,
-    edges: &[(N, N, C)],
-    from: N,
-    to: N,
-) -> Result<Option<(Vec<N, A>, C)>, PathError>
+    rows: &[Vec<usize>],
+    starts: &NodeRefs<'_, usize>,
+    to: usize,
+) -> Result<Option<Vec<usize, A>>, PathError>
 where
-    N: Eq + Hash + Copy,
-    C: Cost,
     A: Allocator + Copy,
-    requires clones { IsLawfulClone N.eq N.is_clone }
-    requires from_zero { All (λ e. pos 0 ≤ℤ C.value e.2) edges.now }
+    requires inside { All (λ n. n < length rows.now) starts.now }
+    requires in_range { All (λ row. All (λ n. n < length rows.now) row.items) rows.now }
     ensures best { IfOk result (λ answer. MatchOption answer
-        (HasNoGoalWalk N.eq (IsSuccessor N.eq (edges_from N.eq edges.now C.value)) (from ∷ []) (λ n. N.eq n to))
-        (λ found. IsBestGoalPath N.eq (edges_from N.eq edges.now C.value) (from ∷ []) (λ n. N.eq n to) found.0.items (C.value found.1))) }
-    ensures overflow { result ≡ Err PathError.CostOverflow
-        → IsPastRange N.eq (edges_from N.eq edges.now C.value) (from ∷ []) (λ n. N.eq n to) C.fits }
-    ensures errors { IfErr result (λ e. (e ≡ PathError.OutOfMemory) ⊎ (e ≡ PathError.CostOverflow)) }
+        (HasNoGoalWalk nat_eq (Precedes nat_eq (nodes_after rows.now)) starts.now (λ n. n == to))
+        (λ path. IsShortestGoalPath nat_eq (nodes_after rows.now) starts.now (λ n. n == to) path.items)) }
+    ensures errors { IfErr result (λ e. e ≡ PathError.OutOfMemory) }
 {
-    dijkstra(
-        alloc,
-        &from,
-        |n| {
-            let node = *n;
-            edges
-                .iter()
-                .filter_map(move |e| if e.0 == node { Some((e.1, e.2)) } else { None })
-        },
-        |n| *n == to,
-    )
+    bfs(alloc, starts, |n| rows[*n].iter().copied(), |n| *n == to)
 }

@@ -8,7 +8,7 @@ use Rattle.pf_base.proofs.Callers.{graph_of, test_of, valued, ListsEdges-valued,
 use Rattle.pf_base.proofs.Sources.{gives_chain}
 use Rattle.pf_tests.proofs.ListEdges.{list_from_zero, ends_from-same}
 use Rattle.pf_tests.specs.Lists.{ends_from, edges_from}
-use Rattle.pf_tests.proofs.callers.cheapest_in_list.Goals as goal
+use Rattle.pf_tests.proofs.list.cheapest_in_list.Goals as goal
 
 pub dijkstra-requires-clause-graph : goal.dijkstra-requires-clause-graph
 dijkstra-requires-clause-graph g c =
