@@ -5,6 +5,7 @@ pub mod SliceLemmas
 pub mod SquareLemmas
 pub mod TableLemmas
 pub mod ArrangeLemmas
+pub mod CallLemmas
 pub mod FillLemmas
 pub mod TakeLemmas
 pub mod TableLaws

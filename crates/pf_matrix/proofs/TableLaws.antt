@@ -4,7 +4,8 @@ use Rattle.std.proofs.lemmas.List.{same_lists}
 use Rattle.std.proofs.lemmas.Nat.{div-add-mod', div_below, mod_below}
 use Rattle.pf_matrix.specs.Tables.{Table, IsMatrix, value_at}
 use Rattle.pf_matrix.specs.Arrange.{IsArranged, itself, IsFaithful, IsCopied, IsTransposed, IsFlippedLr, IsFlippedUd, IsTurnedRight, IsTurnedLeft, IsTurnedTwice, IsTurnedBy, IsRotatedCw, IsRotatedCcw}
-use Rattle.pf_matrix.proofs.ArrangeLemmas.{arranged_then, arranged_sizes}
+use Rattle.pf_matrix.proofs.ArrangeLemmas.{arranged_then, arranged_sizes, copied_twice}
+use Rattle.pf_matrix.proofs.PositionLemmas.{wide_at}
 
 module _ {C : Type 0} where
   -- where a clone is its original, copies are what happens in place
@@ -28,16 +29,12 @@ module _ {C : Type 0} where
       by : (k : ℕ) (d : C) → k < length n.values → get_or n.values k d ≡ get_or m.values k d
       by k d h =
           let all : k < m.rows * m.columns = omega (arith, a.matrix.sized, ap (λ r. r * n.columns) a.rows, ap (λ c. m.rows * c) a.columns) in
-          let wide : 0 < m.columns = positive m.rows m.columns k all in
+          let wide = wide_at m.rows m.columns k all in
           let r = k / m.columns in
           let c = k % m.columns in
           let place : r * m.columns + c ≡ k = div-add-mod' k m.columns in
           let there : r * n.columns + c ≡ k = ap (λ w. r * w + c) a.columns ∙ place in
           ap (λ i. get_or n.values i d) (sym there) ∙ a.values r c d (div_below k m.columns m.rows wide all) (mod_below k m.columns wide) ∙ ap (λ i. get_or m.values i d) place
-        where
-          positive : (h w i : ℕ) → i < h * w → 0 < w
-          positive h zero i b = absurd (omega (arith, b))
-          positive h (suc w) i b = omega arith
 
   -- each value at its own position: the same table
   pub same_table : (m n : Table C) → IsMatrix m → IsCopied itself m n → n ≡ m
@@ -66,6 +63,12 @@ module _ {C : Type 0} where
       arranged_sizes itself n.columns n.rows m.rows m.columns (λ r c. (m.rows - 1 - r, m.columns - 1 - c)) m o a.columns a.rows
       (arranged_then itself m.columns m.rows n.columns n.rows (λ r c. (m.rows - 1 - c, r)) (λ r c. (n.rows - 1 - c, r)) (λ r c. (m.rows - 1 - r, m.columns - 1 - c)) m n o a b
       (λ r c p q. (omega (arith, a.rows), omega (arith, a.columns), λ i. (m.rows - 1 - r, a.rows i - 1 - c))))
+
+  two_left : (m n o : Table C) → IsTurnedLeft itself m n → IsTurnedLeft itself n o → IsTurnedTwice itself m o
+  two_left m n o a b =
+      arranged_sizes itself n.columns n.rows m.rows m.columns (λ r c. (m.rows - 1 - r, m.columns - 1 - c)) m o a.columns a.rows
+      (arranged_then itself m.columns m.rows n.columns n.rows (λ r c. (c, m.columns - 1 - r)) (λ r c. (c, n.columns - 1 - r)) (λ r c. (m.rows - 1 - r, m.columns - 1 - c)) m n o a b
+      (λ r c p q. (omega (arith, a.rows), omega (arith, a.columns), λ i. (a.columns i - 1 - r, m.columns - 1 - c))))
 
   two_twice : (m n o : Table C) → IsTurnedTwice itself m n → IsTurnedTwice itself n o → IsCopied itself m o
   two_twice m n o a b =
@@ -98,24 +101,21 @@ module _ {C : Type 0} where
         let e : m.columns - 1 - (n.rows - 1 - c) ≡ c = omega (arith, a.rows) in λ i. (r, e i),
       )))
 
-  two_copies : (m n o : Table C) → IsCopied itself m n → IsCopied itself n o → IsCopied itself m o
-  two_copies m n o a b =
-      arranged_sizes itself n.rows n.columns m.rows m.columns (λ r c. (r, c)) m o a.rows a.columns
-      (arranged_then itself m.rows m.columns n.rows n.columns (λ r c. (r, c)) (λ r c. (r, c)) (λ r c. (r, c)) m n o a b
-      (λ r c p q. (omega (arith, a.rows), omega (arith, a.columns), refl)))
-
   pub four_right : (m n o p q : Table C) → IsMatrix m → IsTurnedRight itself m n → IsTurnedRight itself n o → IsTurnedRight itself o p → IsTurnedRight itself p q → q ≡ m
   four_right m n o p q ok a b c d = same_table m q ok (two_twice m o q (two_right m n o a b) (two_right o p q c d))
 
+  pub four_left : (m n o p q : Table C) → IsMatrix m → IsTurnedLeft itself m n → IsTurnedLeft itself n o → IsTurnedLeft itself o p → IsTurnedLeft itself p q → q ≡ m
+  four_left m n o p q ok a b c d = same_table m q ok (two_twice m o q (two_left m n o a b) (two_left o p q c d))
+
   undone : (m n o : Table C) (k : ℕ) → k < 4 → IsTurnedBy itself m n k → IsTurnedBy itself n o (3 * k % 4) → IsCopied itself m o
-  undone m n o zero h a b = two_copies m n o a b
+  undone m n o zero h a b = copied_twice itself m n o a b
   undone m n o (suc zero) h a b = right_left m n o a b
   undone m n o (suc (suc zero)) h a b = two_twice m n o a b
   undone m n o (suc (suc (suc zero))) h a b = left_right m n o a b
   undone m n o (suc (suc (suc (suc k)))) h a b = absurd (omega arith)
 
   undone_back : (m n o : Table C) (k : ℕ) → k < 4 → IsTurnedBy itself m n (3 * k % 4) → IsTurnedBy itself n o k → IsCopied itself m o
-  undone_back m n o zero h a b = two_copies m n o a b
+  undone_back m n o zero h a b = copied_twice itself m n o a b
   undone_back m n o (suc zero) h a b = left_right m n o a b
   undone_back m n o (suc (suc zero)) h a b = two_twice m n o a b
   undone_back m n o (suc (suc (suc zero))) h a b = right_left m n o a b

@@ -26,5 +26,5 @@ module _ {C : Type 0} where
         second = λ d. ap (λ zs. get_or zs j d) e ∙ swap_second m.values i j i_in j_in d;
         others = λ r c d h k n o. ap (λ zs. get_or zs (r * m.columns + c) d) e
             ∙ swap_other m.values i j i_in j_in (r * m.columns + c) d (apart r c a.0 a.1 m.columns k a_in.1 n) (apart r c b.0 b.1 m.columns k b_in.1 o);
-        matrix = record { sized = ap length e ∙ length-swap m.values i j ∙ ok.sized; filled = ok.filled };
+        matrix = record { sized = ap length e ∙ length-swap m.values i j ∙ ok.sized; filled = ok.filled; fits = ok.fits };
       }

@@ -1,11 +1,9 @@
 -- Equal tables: the same sizes, and equal values.
 use Rattle.std.specs.Prelude.{◌≡◌, ℕ, ◌<◌, ℤ, neg_ℤ, Bool, ◌&&◌, ◌++◌, nat_eq}
-use Rattle.std.specs.Cmp.{IsPartialEquivalence, IsEquivalence, on_per, on_equiv, and_per, and_equiv, nat_eq_equiv, partial_equiv_from_equiv}
-use Rattle.std.specs.Cmp.Lexicographic.{pointwise, lists_per, lists_equiv}
+use Rattle.std.specs.Cmp.Lexicographic.{pointwise}
 use Rattle.std.specs.Hash as fed
-use Rattle.std.specs.Hash.{HashWrites, Alike, and-Alike, same_Alike, on_Alike, items_Alike}
+use Rattle.std.specs.Hash.{HashWrites}
 use Rattle.std.specs.List.{AllZip}
-use Rattle.std.specs.Cmp.{unsigned_Decides}
 use Rattle.pf_matrix.specs.Tables.{Table, IsMatrix, value_at}
 
 -- the same sizes, and equal values
@@ -21,6 +19,7 @@ pub record IsCopyOf {C D : Type 0} (like : C → D → Type 0) (m : Table C) (n 
   pub rows : n.rows ≡ m.rows
   pub columns : n.columns ≡ m.columns
   pub values : AllZip like m.values n.values
+  pub matrix : IsMatrix n
 
 -- the same sizes, and the number of each value is the negation of that of its own
 pub record IsNegationOf {C : Type 0} (value : C → ℤ) (m n : Table C) : Type 0 where
@@ -28,19 +27,3 @@ pub record IsNegationOf {C : Type 0} (value : C → ℤ) (m n : Table C) : Type 
   pub columns : n.columns ≡ m.columns
   pub values : (r c : ℕ) (d : C) → r < m.rows → c < m.columns → value (value_at n r c d) ≡ neg_ℤ (value (value_at m r c d))
   pub matrix : IsMatrix n
-
-module _ {C : Type 0} {eq : C → C → Bool} where
-  pub tables_per : IsPartialEquivalence eq → IsPartialEquivalence (same_tables eq)
-  tables_per laws =
-      let sizes = partial_equiv_from_equiv nat_eq_equiv in
-      and_per (on_per (λ (m : Table C). m.rows) sizes) (and_per (on_per (λ (m : Table C). m.columns) sizes) (on_per (λ (m : Table C). m.values) (lists_per laws)))
-
-  pub tables_equiv : IsEquivalence eq → IsEquivalence (same_tables eq)
-  tables_equiv laws =
-      and_equiv (on_equiv (λ (m : Table C). m.rows) nat_eq_equiv) (and_equiv (on_equiv (λ (m : Table C). m.columns) nat_eq_equiv) (on_equiv (λ (m : Table C). m.values) (lists_equiv laws)))
-
-  -- equal tables are hashed by the same writes
-  pub tables_alike : {hash_input : C → HashWrites} → Alike eq hash_input → Alike (same_tables eq) (table_writes hash_input)
-  tables_alike alike =
-      let sizes = same_Alike fed.usize unsigned_Decides in
-      and-Alike (on_Alike (λ (m : Table C). m.rows) sizes) (and-Alike (on_Alike (λ (m : Table C). m.columns) sizes) (on_Alike (λ (m : Table C). m.values) (items_Alike alike)))

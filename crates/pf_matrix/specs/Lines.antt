@@ -30,7 +30,7 @@ columns_from m c (suc n) = column_of m c ∷ columns_from m (suc c) n
 abbrev pub columns_of : {C : Type 0} → Table C → List (List C)
 columns_of m = columns_from m 0 m.columns
 
--- an item of a column iterator: the references to the values of the column, or want of memory
+-- an item of a column iterator: the references to the values of the column, or out of memory
 abbrev pub ShowsColumn : {C Refs E : Type 0} → (Refs → List (Bor C)) → E → Result Refs E → List C → Type 0
 ShowsColumn {C} items memory item column = MatchResult item (λ refs. map (λ (x : Bor C). x.now) (items refs) ≡ column) (λ e. e ≡ memory)
 

@@ -1,5 +1,5 @@
 -- Positions of a table: all of them by rows, and those around one.
-use Rattle.std.specs.Prelude.{◌≡◌, ℕ, ◌+◌, ◌-◌, ◌*◌, ◌/◌, ◌%◌, Bool, true, false, ◌&&◌, ◌||◌, nat_lt, not, Option, Some, None, if◌then◌else◌, List, [], ◌∷◌, map, ◌<◌, ◌≤◌}
+use Rattle.std.specs.Prelude.{ℕ, ◌+◌, ◌-◌, ◌*◌, ◌/◌, ◌%◌, Bool, true, false, ◌&&◌, ◌||◌, nat_lt, not, Option, Some, None, if◌then◌else◌, List, [], ◌∷◌, map}
 use Rattle.std.specs.List.{range_with_len, zip, filter_map}
 use Rattle.pf_matrix.specs.Tables.{Table}
 use Rattle.pf_matrix.specs.declared.neighbours.Shift.{Shift}
@@ -45,9 +45,3 @@ around = (Before, Before) ∷ (Before, Same) ∷ (Before, After) ∷ (Same, Befo
 -- the positions around (r, c), by rows; none around a position outside
 abbrev pub neighbours_of : ℕ → ℕ → ℕ → ℕ → Bool → List (ℕ × ℕ)
 neighbours_of rows columns r c diagonals = if nat_lt r rows && nat_lt c columns then filter_map (neighbour_at rows columns r c diagonals) around else []
-
--- where an iterator over the positions stands: at a position inside, or at the beginning of the row past the last
-pub record IsAtKey (r c rows columns : ℕ) : Type 0 where
-  pub row : r ≤ rows
-  pub inside : r < rows → c < columns
-  pub past : r ≡ rows → c ≡ 0

@@ -1,11 +1,11 @@
 //! Copies of a matrix, whole, in part, flipped, turned or transposed.
 //!
 //! A copy has clones of the values, and takes its memory from the allocator of the matrix. The only
-//! error of a copy is want of memory, where its text names no other. The matrix stays as it was.
+//! error of a copy is out of memory, where its text names no other. The matrix stays as it was.
 
 ghost use Rattle.std.specs.Prelude.{◌≡◌, ◌⊎◌, ◌↔◌, ◌+◌, ◌*◌, ◌%◌, ◌<◌, ◌≤◌, IfOk, IfErr, IsErrOf};
-ghost use Rattle.pf_matrix.specs.Arrange.{CanTurn, IsArranged, IsCopied, IsFlippedLr, IsFlippedUd, IsPart, IsRotatedCcw, IsRotatedCw, IsTransposed, IsTurnedLeft, IsTurnedRight, IsTurnedTwice, IsWithin};
-ghost use Rattle.pf_matrix.specs.Calls.{GivesInTurn};
+ghost use Rattle.pf_matrix.specs.Arrange.{CanTurn, IsArranged, IsFlippedLr, IsFlippedUd, IsPart, IsRotatedCcw, IsRotatedCw, IsTransposed, IsWithin};
+ghost use Rattle.pf_matrix.specs.Calls.{CallableInTurn, GivesInTurn};
 ghost use Rattle.pf_matrix.specs.Tables.{IsMatrix};
 ghost use Rattle.pf_matrix.specs.declared.error.MatrixFormatError.TheVariants.{EmptyRow, WrongIndex, OutOfMemory};
 
@@ -72,24 +72,12 @@ impl<C: Clone + Drop, A: Allocator + Copy> Matrix<C, A> {
         })
     }
 
-    fn copied(&self) -> Result<Self, MatrixFormatError>
-        ensures copied { IfOk result (IsCopied C.is_clone self.now) }
-        ensures refused { IfErr result (λ e. e ≡ OutOfMemory) }
-    {
-        let values = Vec::from_clones(*self.values.allocator(), self.values.as_slice())?;
-        Ok(Matrix {
-            rows: self.rows,
-            columns: self.columns,
-            values,
-        })
-    }
-
     /// A copy with left and right exchanged.
     pub fn flipped_lr(&self) -> Result<Self, MatrixFormatError>
         ensures flipped { IfOk result (IsFlippedLr C.is_clone self.now) }
         ensures refused { IfErr result (λ e. e ≡ OutOfMemory) }
     {
-        let mut flipped = self.copied()?;
+        let mut flipped = self.clone()?;
         flipped.flip_lr();
         Ok(flipped)
     }
@@ -99,7 +87,7 @@ impl<C: Clone + Drop, A: Allocator + Copy> Matrix<C, A> {
         ensures flipped { IfOk result (IsFlippedUd C.is_clone self.now) }
         ensures refused { IfErr result (λ e. e ≡ OutOfMemory) }
     {
-        let mut flipped = self.copied()?;
+        let mut flipped = self.clone()?;
         flipped.flip_ud();
         Ok(flipped)
     }
@@ -126,12 +114,13 @@ impl<C: Clone + Drop, A: Allocator + Copy> Matrix<C, A> {
         ensures rotated { IfOk result (λ m. IsRotatedCw C.is_clone self.now m times) }
         ensures refused { IfErr result (λ e. e ≡ OutOfMemory) }
     {
-        match times % 4 {
-            0 => self.copied(),
-            1 => self.turned_right(),
-            2 => self.turned_twice(),
-            _ => self.turned_left(),
-        }
+        let mut turned = if times % 2 == 0 {
+            self.clone()?
+        } else {
+            self.transposed()?
+        };
+        turned.flip_for(times);
+        Ok(turned)
     }
 
     /// A copy that is turned to the left, by this many quarter turns. For an odd number a matrix
@@ -143,42 +132,13 @@ impl<C: Clone + Drop, A: Allocator + Copy> Matrix<C, A> {
     {
         self.rotated_cw(3 * (times % 4))
     }
-
-    fn turned_right(&self) -> Result<Self, MatrixFormatError>
-        requires { CanTurn self.now }
-        ensures turned { IfOk result (IsTurnedRight C.is_clone self.now) }
-        ensures refused { IfErr result (λ e. e ≡ OutOfMemory) }
-    {
-        let mut turned = self.transposed()?;
-        turned.flip_lr();
-        Ok(turned)
-    }
-
-    fn turned_left(&self) -> Result<Self, MatrixFormatError>
-        requires { CanTurn self.now }
-        ensures turned { IfOk result (IsTurnedLeft C.is_clone self.now) }
-        ensures refused { IfErr result (λ e. e ≡ OutOfMemory) }
-    {
-        let mut turned = self.transposed()?;
-        turned.flip_ud();
-        Ok(turned)
-    }
-
-    fn turned_twice(&self) -> Result<Self, MatrixFormatError>
-        ensures turned { IfOk result (IsTurnedTwice C.is_clone self.now) }
-        ensures refused { IfErr result (λ e. e ≡ OutOfMemory) }
-    {
-        let mut turned = self.copied()?;
-        turned.turn_twice();
-        Ok(turned)
-    }
 }
 
 impl<C: Drop, A: Allocator + Copy> Matrix<C, A> {
-    /// The matrix of what `f` answers at each value, called first row first, once a position. Its
-    /// only error is want of memory, and the values are used up.
+    /// The matrix of what `f` answers at each value, called first row first, once a position. It has
+    /// to be callable at each in turn. The only error is out of memory, and the values are used up.
     pub fn map<O: Drop, F: FnMut(C) -> O>(self, mut f: F) -> Result<Matrix<O, A>, MatrixFormatError>
-        requires { F.IsAlwaysCallable f }
+        requires { CallableInTurn F.pre F.step f self.values }
         ensures rows { IfOk result (λ m. m.rows ≡ self.rows) }
         ensures columns { IfOk result (λ m. m.columns ≡ self.columns) }
         ensures values { IfOk result (λ m. GivesInTurn F.step f self.values m.values) }

@@ -20,7 +20,8 @@ pub struct Keys {
 
 impl Model for Keys {
     ghost use Rattle.std.specs.Prelude.{◌≡◌, ℕ, ◌+◌, ◌*◌, ◌<◌, ◌≤◌, List, drop};
-    ghost use Rattle.pf_matrix.specs.Positions.{positions, IsAtKey};
+    ghost use Rattle.pf_matrix.specs.Internal.AtKey.{IsAtKey};
+    ghost use Rattle.pf_matrix.specs.Positions.{positions};
 
     ghost Value = { List (ℕ × ℕ) };
 

@@ -29,10 +29,12 @@ pub fn two_transpositions<C: Clone>(_of: PhantomData<C>)
     ensures copies { (m n o : Table C) → IsFaithful C.is_clone → IsMatrix m → IsTransposed C.is_clone m n → IsTransposed C.is_clone n o → o ≡ m }
 {}
 
-/// Four quarter turns to the right give the same matrix back.
+/// Four quarter turns to one side give the same matrix back.
 pub fn four_quarter_turns<C: Clone>(_of: PhantomData<C>)
     ensures in_place { (m n o p q : Table C) → IsMatrix m → IsRotatedCw itself m n 1 → IsRotatedCw itself n o 1 → IsRotatedCw itself o p 1 → IsRotatedCw itself p q 1 → q ≡ m }
+    ensures in_place_back { (m n o p q : Table C) → IsMatrix m → IsRotatedCcw itself m n 1 → IsRotatedCcw itself n o 1 → IsRotatedCcw itself o p 1 → IsRotatedCcw itself p q 1 → q ≡ m }
     ensures copies { (m n o p q : Table C) → IsFaithful C.is_clone → IsMatrix m → IsRotatedCw C.is_clone m n 1 → IsRotatedCw C.is_clone n o 1 → IsRotatedCw C.is_clone o p 1 → IsRotatedCw C.is_clone p q 1 → q ≡ m }
+    ensures copies_back { (m n o p q : Table C) → IsFaithful C.is_clone → IsMatrix m → IsRotatedCcw C.is_clone m n 1 → IsRotatedCcw C.is_clone n o 1 → IsRotatedCcw C.is_clone o p 1 → IsRotatedCcw C.is_clone p q 1 → q ≡ m }
 {}
 
 /// Turns to the left undo as many turns to the right, and the other way round.

@@ -2,7 +2,7 @@
 
 ghost use Rattle.std.specs.Prelude.{◌≡◌, ◌≢◌, ℕ, ◌*◌, ◌<◌, ◌^◌, ◌⊎◌, [], IsOk, IsErrOf, IfOk, IfErr, OnErr, vec_len, ◌↔◌};
 ghost use Rattle.std.specs.List.{AllClonesOf};
-ghost use Rattle.pf_matrix.specs.Calls.{GivesInTurn};
+ghost use Rattle.pf_matrix.specs.Calls.{CallableInTurn, GivesInTurn};
 ghost use Rattle.pf_matrix.specs.Positions.{positions};
 ghost use Rattle.pf_matrix.specs.Tables.{IsMatrix};
 ghost use Rattle.pf_matrix.specs.declared.error.MatrixFormatError.TheVariants.{EmptyRow, WrongLength, OutOfMemory};
@@ -80,7 +80,7 @@ impl<C: Drop, A: Allocator> Matrix<C, A> {
 }
 
 impl<C: Clone + Drop, A: Allocator> Matrix<C, A> {
-    /// A matrix with `value`, or a clone of it, at each position. Its only error is want of memory.
+    /// A matrix with `value`, or a clone of it, at each position. The only error is out of memory.
     pub fn new(alloc: A, rows: usize, columns: usize, value: C) -> Result<Self, MatrixFormatError>
         requires fits { rows * columns < 2 ^ 64 }
         requires filled { 0 < rows → 0 < columns }
@@ -98,7 +98,7 @@ impl<C: Clone + Drop, A: Allocator> Matrix<C, A> {
         })
     }
 
-    /// A square matrix with `value`, or a clone of it, at each position. Its only error is want of
+    /// A square matrix with `value`, or a clone of it, at each position. The only error is out of
     /// memory.
     pub fn new_square(alloc: A, size: usize, value: C) -> Result<Self, MatrixFormatError>
         requires { size * size < 2 ^ 64 }
@@ -113,8 +113,8 @@ impl<C: Clone + Drop, A: Allocator> Matrix<C, A> {
 }
 
 impl<C: Drop, A: Allocator> Matrix<C, A> {
-    /// The matrix of what `cb` answers at each position, called first row first, once a position.
-    /// Its only error is want of memory.
+    /// The matrix of what `cb` answers at each position, called first row first, once a position. It
+    /// has to be callable at each in turn. The only error is out of memory.
     pub fn from_fn<F: FnMut((usize, usize)) -> C>(
         alloc: A,
         rows: usize,
@@ -123,7 +123,7 @@ impl<C: Drop, A: Allocator> Matrix<C, A> {
     ) -> Result<Self, MatrixFormatError>
         requires fits { rows * columns < 2 ^ 64 }
         requires filled { 0 < rows → 0 < columns }
-        requires callable { F.IsAlwaysCallable cb }
+        requires callable { CallableInTurn F.pre F.step cb (positions rows columns) }
         ensures rows { IfOk result (λ m. m.rows ≡ rows) }
         ensures columns { IfOk result (λ m. m.columns ≡ columns) }
         ensures values { IfOk result (λ m. GivesInTurn F.step cb (positions rows columns) m.values) }

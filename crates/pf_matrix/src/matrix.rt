@@ -17,7 +17,8 @@ pub struct Matrix<C, A: Allocator = Global> {
 }
 
 impl<C, A: Allocator> Model for Matrix<C, A> {
-    ghost use Rattle.pf_matrix.specs.Tables.{Table, IsMatrix, table_code};
+    ghost use Rattle.pf_matrix.specs.Internal.TableCode.{table_code};
+    ghost use Rattle.pf_matrix.specs.Tables.{Table, IsMatrix};
 
     ghost Value = { Table C };
 

@@ -2,7 +2,8 @@
 
 ghost use Rattle.std.specs.Prelude.{◌≡◌, ℕ, ◌<◌, neg_ℤ, length, slice_index_or};
 ghost use Rattle.std.specs.List.{All};
-ghost use Rattle.pf_matrix.specs.Equality.{same_tables, table_writes, IsCopyOf, IsNegationOf, tables_per, tables_equiv, tables_alike};
+ghost use Rattle.pf_matrix.specs.Equality.{same_tables, table_writes, IsCopyOf, IsNegationOf};
+ghost use Rattle.pf_matrix.specs.Internal.EqualityLaws.{tables_per, tables_equiv, tables_alike};
 
 use crate::matrix::Matrix;
 use pf_base::SignedCost;

@@ -12,7 +12,7 @@ use std::mem;
 impl<C: Drop, A: Allocator + Copy> Matrix<C, A> {
     /// Exchanges rows and columns. A matrix with columns has to have rows.
     ///
-    /// A square takes no memory. Else the only error is want of memory, and then the matrix stays as
+    /// A square takes no memory. Else the only error is out of memory, and then the matrix stays as
     /// it was.
     pub fn transpose(&mut self) -> Result<(), MatrixFormatError>
         requires { CanTurn self.old }

@@ -1,8 +1,9 @@
 //! A matrix that is flipped, turned or transposed in place.
 
-ghost use Rattle.std.specs.Prelude.{◌≡◌};
+ghost use Rattle.std.specs.Prelude.{◌≡◌, ◌%◌};
 ghost use Rattle.pf_matrix.specs.Tables.{IsInside};
-ghost use Rattle.pf_matrix.specs.Arrange.{IsExchanged, IsFlippedLr, IsFlippedUd, IsRotatedCw, IsRotatedCcw, IsTransposed, IsTurnedLeft, IsTurnedRight, IsTurnedTwice, itself};
+ghost use Rattle.pf_matrix.specs.Arrange.{IsExchanged, IsFlippedLr, IsFlippedUd, IsRotatedCw, IsRotatedCcw, IsTransposed, IsTurnedTwice, itself};
+ghost use Rattle.pf_matrix.specs.Internal.Turning.{IsFlippedFor};
 
 use crate::matrix::Matrix;
 use crate::slices::{exchange_rows, reverse_rows, transpose_square};
@@ -34,12 +35,6 @@ impl<C, A: Allocator> Matrix<C, A> {
         exchange_rows(self.values.as_mut_slice(), self.rows, self.columns);
     }
 
-    pub(crate) fn turn_twice(&mut self)
-        ensures { IsTurnedTwice itself self.old self.new }
-    {
-        self.values.as_mut_slice().reverse();
-    }
-
     pub(crate) fn transpose_in_place(&mut self)
         requires { self.old.rows ≡ self.old.columns }
         ensures { IsTransposed itself self.old self.new }
@@ -47,20 +42,25 @@ impl<C, A: Allocator> Matrix<C, A> {
         transpose_square(self.values.as_mut_slice(), self.rows);
     }
 
-    fn turn_right(&mut self)
-        requires { self.old.rows ≡ self.old.columns }
-        ensures { IsTurnedRight itself self.old self.new }
+    fn turn_twice(&mut self)
+        ensures { IsTurnedTwice itself self.old self.new }
     {
-        self.transpose_in_place();
-        self.flip_lr();
+        self.values.as_mut_slice().reverse();
     }
 
-    fn turn_left(&mut self)
-        requires { self.old.rows ≡ self.old.columns }
-        ensures { IsTurnedLeft itself self.old self.new }
+    /// Completes that many quarter turns to the right. Where their number is odd, rows and columns
+    /// are exchanged already.
+    pub(crate) fn flip_for(&mut self, times: usize)
+        ensures { IsFlippedFor self.old self.new (times % 4) }
     {
-        self.transpose_in_place();
-        self.flip_ud();
+        // Tells the proof that the matrix is one, also where nothing is done.
+        let _ = &self.values;
+        match times % 4 {
+            0 => {}
+            1 => self.flip_lr(),
+            2 => self.turn_twice(),
+            _ => self.flip_ud(),
+        }
     }
 
     /// Turns a square to the right, by this many quarter turns.
@@ -68,14 +68,12 @@ impl<C, A: Allocator> Matrix<C, A> {
         requires { self.old.rows ≡ self.old.columns }
         ensures { IsRotatedCw itself self.old self.new times }
     {
-        // Tells the proof that the matrix is one, also where nothing is done.
+        // Tells the proof that the matrix is one, also where nothing is exchanged.
         let _ = &self.values;
-        match times % 4 {
-            0 => {}
-            1 => self.turn_right(),
-            2 => self.turn_twice(),
-            _ => self.turn_left(),
+        if times % 2 == 1 {
+            self.transpose_in_place();
         }
+        self.flip_for(times);
     }
 
     /// Turns a square to the left, by this many quarter turns.

@@ -10,7 +10,7 @@ use crate::slices::copy_part;
 use std::alloc::Allocator;
 
 impl<C: Clone + Drop, A: Allocator + Copy> Matrix<C, A> {
-    /// Writes `value`, or a clone of it, to each position. The only error is want of memory, and then
+    /// Writes `value`, or a clone of it, to each position. The only error is out of memory, and then
     /// the matrix stays as it was.
     pub fn fill(&mut self, value: C) -> Result<(), MatrixFormatError>
         ensures filled { OnOk result (IsFilled C.is_clone value self.old self.new) }

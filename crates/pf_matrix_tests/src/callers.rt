@@ -1,7 +1,7 @@
-//! A caller that knows matrices by their contracts alone.
+//! Callers that know matrices by their contracts alone.
 
-ghost use Rattle.std.specs.Prelude.{◌≡◌, IfOk, slice_index_or};
-ghost use Rattle.pf_matrix.specs.Arrange.{CanTurn, IsRotatedCw, itself};
+ghost use Rattle.std.specs.Prelude.{◌≡◌, ◌/◌, ◌<◌, map, All, IfOk, slice_index_or};
+ghost use Rattle.pf_matrix.specs.Arrange.{CanTurn, IsCopied, IsRotatedCw, itself};
 
 use pf_matrix::{Matrix, MatrixFormatError};
 use std::alloc::Allocator;
@@ -27,4 +27,29 @@ pub fn clear_first_column<A: Allocator>(board: &mut Matrix<u8, A>)
             *value = 0;
         }
     }
+}
+
+/// A copy of a board that is made position by position.
+pub fn copied_board<A: Allocator + Copy>(
+    alloc: A,
+    board: &Matrix<u8, A>,
+) -> Result<Matrix<u8, A>, MatrixFormatError>
+    ensures { IfOk result (IsCopied itself board.now) }
+{
+    Matrix::from_fn(
+        alloc,
+        board.rows(),
+        board.columns(),
+        |position: (usize, usize)| board[position],
+    )
+}
+
+/// 100 divided by each number of a board, on which no number is 0.
+pub fn hundred_divided<A: Allocator + Copy>(
+    board: Matrix<u8, A>,
+) -> Result<Matrix<u8, A>, MatrixFormatError>
+    requires { All (λ x. 0 < x) board.values }
+    ensures { IfOk result (λ m. m ≡ record board { values = map (λ x. 100 / x) board.values }) }
+{
+    board.map(|value: u8| 100 / value)
 }

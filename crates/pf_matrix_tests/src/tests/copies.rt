@@ -1,6 +1,7 @@
 //! Copies.
 
 use super::{shows, six};
+use crate::callers::{copied_board, hundred_divided};
 use pf_matrix::{Matrix, MatrixFormatError};
 use std::test::Fail;
 
@@ -36,6 +37,15 @@ fn flips_copies(rt: HostRuntime) -> Result<(), Fail> {
 fn maps(rt: HostRuntime) -> Result<(), Fail> {
     let mapped = six(rt.alloc())?.map(|value: u8| value % 2)?;
     assert!(rt; shows(&mapped, 2, 3, &[1, 0, 1, 0, 1, 0]));
+    Ok(())
+}
+
+#[test]
+fn callers_copy_and_divide(rt: HostRuntime) -> Result<(), Fail> {
+    let m = six(rt.alloc())?;
+    assert!(rt; shows(&copied_board(rt.alloc(), &m)?, 2, 3, &[1, 2, 3, 4, 5, 6]));
+    let sevens = Matrix::new(rt.alloc(), 1, 2, 7u8)?;
+    assert!(rt; shows(&hundred_divided(sevens)?, 1, 2, &[14, 14]));
     Ok(())
 }
 

@@ -35,6 +35,26 @@ fn makes_of_a_function(rt: HostRuntime) -> Result<(), Fail> {
 }
 
 #[test]
+fn asks_once_a_position(rt: HostRuntime) -> Result<(), Fail> {
+    for (rows, columns, positions) in [(0usize, 2usize, 0u64), (1, 1, 1), (2, 3, 6)] {
+        let mut calls = 0u64;
+        let m = Matrix::from_fn(rt.alloc(), rows, columns, |position: (usize, usize)| {
+            calls = calls.saturating_add(1);
+            position.0
+        })?;
+        assert_eq!(rt; calls, positions, "{rows} times {columns}");
+        let mut calls = 0u64;
+        let mapped = m.map(|row: usize| {
+            calls = calls.saturating_add(1);
+            row
+        })?;
+        assert_eq!(rt; calls, positions, "{rows} times {columns}, mapped");
+        assert!(rt; mapped.rows() == rows && mapped.columns() == columns);
+    }
+    Ok(())
+}
+
+#[test]
 fn makes_of_a_list(rt: HostRuntime) -> Result<(), Fail> {
     let m = Matrix::from_vec(2, 2, vec![in rt.alloc(); 1u8, 2, 3, 4]?)?;
     assert!(rt; shows(&m, 2, 2, &[1, 2, 3, 4]));

@@ -2,7 +2,7 @@
 
 use super::{four, hash_of, six};
 use pf_matrix::Matrix;
-use pf_matrix::directions::{DIRECTIONS_4, DIRECTIONS_8, SE};
+use pf_matrix::directions::{DIRECTIONS_4, DIRECTIONS_8, E, N, NE, NW, S, SE, SW, W};
 use std::test::Fail;
 
 #[test]
@@ -49,6 +49,22 @@ fn moves_inside(rt: HostRuntime) -> Result<(), Fail> {
     assert_eq!(rt; ray.next(), Some((1, 1)));
     assert_eq!(rt; ray.next(), None);
     Ok(())
+}
+
+#[test]
+fn each_direction_has_its_step(rt: HostRuntime) {
+    for (name, direction, step) in [
+        ("E", E, (0isize, 1isize)),
+        ("S", S, (1, 0)),
+        ("W", W, (0, -1)),
+        ("N", N, (-1, 0)),
+        ("NE", NE, (-1, 1)),
+        ("SE", SE, (1, 1)),
+        ("NW", NW, (-1, -1)),
+        ("SW", SW, (1, -1)),
+    ] {
+        assert_eq!(rt; direction, step, "{name}");
+    }
 }
 
 #[test]

@@ -1,7 +1,7 @@
-//! Each growth refused in turn: a call answers want of memory and leaves what it was lent as it was,
+//! Each growth refused in turn: a call answers out of memory and leaves what it was lent as it was,
 //! until no request is refused and it answers as it does with ample memory.
 
-ghost use Rattle.std.specs.Prelude.{◌≡◌};
+ghost use Rattle.std.specs.Prelude.{◌≡◌, IfOk};
 
 use super::{shows, six};
 use pf_matrix::{Matrix, MatrixFormatError, matrix};
@@ -12,7 +12,7 @@ use std::process::Abort;
 /// How a call ended.
 #[derive(Clone, Copy, Debug, PartialEq, Eq)]
 pub(super) enum Outcome {
-    /// It answered want of memory.
+    /// It answered out of memory.
     OutOfMemory,
     /// It answered as it does with ample memory.
     Answered,
@@ -21,22 +21,35 @@ pub(super) enum Outcome {
 }
 
 /// Runs a call with growth 0, 1, 2, .. refused alone, until a run meets no refusal, and answers how
-/// many growths that run made. Each run before it has to answer want of memory.
+/// many growths that run made. Each run before it has to answer out of memory. An `Err` of the call
+/// says that what it needs could not be made.
 pub(super) fn refuse_each_growth<F>(rt: &impl Abort, alloc: Global, mut call: F) -> u64
 where
-    F: FnMut(&Refusing<Global>, u64) -> Outcome,
+    F: FnMut(&Refusing<Global>, u64) -> Result<Outcome, MatrixFormatError>,
     requires { F.IsAlwaysCallable call }
 {
     for growth in 0..1_000u64 {
         let heap = Refusing::new(alloc);
         let outcome = call(&heap, growth);
         if heap.pending() > 0 {
-            assert_eq!(rt; outcome, Outcome::Answered, "with no refusal");
+            assert_eq!(rt; outcome, Ok(Outcome::Answered), "with no refusal");
             return growth;
         }
-        assert_eq!(rt; outcome, Outcome::OutOfMemory, "growth {growth}");
+        assert_eq!(rt; outcome, Ok(Outcome::OutOfMemory), "growth {growth}");
     }
     panic!(rt; "every run met a refusal")
+}
+
+/// [[1, 2, 3], [4, 5, 6]], with this growth after it refused.
+pub(super) fn six_refusing(
+    heap: &Refusing<Global>,
+    growth: u64,
+) -> Result<Matrix<u8, &Refusing<Global>>, MatrixFormatError>
+    ensures { IfOk result (λ m. (m.rows ≡ 2) × (m.columns ≡ 3)) }
+{
+    let matrix = six(heap)?;
+    heap.refuse(growth, 1);
+    Ok(matrix)
 }
 
 /// How a maker or a copy ended that is to show these values.
@@ -77,176 +90,137 @@ fn outcome_in_place<A: Allocator>(
     }
 }
 
-fn made_of_one_value(heap: &Refusing<Global>, growth: u64) -> Outcome {
+fn made_of_one_value(heap: &Refusing<Global>, growth: u64) -> Result<Outcome, MatrixFormatError> {
     heap.refuse(growth, 1);
-    outcome_of(Matrix::new(heap, 2, 2, 7u8), 2, 2, &[7, 7, 7, 7])
+    Ok(outcome_of(Matrix::new(heap, 2, 2, 7u8), 2, 2, &[7, 7, 7, 7]))
 }
 
-fn made_square(heap: &Refusing<Global>, growth: u64) -> Outcome {
+fn made_square(heap: &Refusing<Global>, growth: u64) -> Result<Outcome, MatrixFormatError> {
     heap.refuse(growth, 1);
-    outcome_of(Matrix::new_square(heap, 2, 7u8), 2, 2, &[7, 7, 7, 7])
+    Ok(outcome_of(Matrix::new_square(heap, 2, 7u8), 2, 2, &[7, 7, 7, 7]))
 }
 
-fn made_of_a_function(heap: &Refusing<Global>, growth: u64) -> Outcome {
+fn made_of_a_function(heap: &Refusing<Global>, growth: u64) -> Result<Outcome, MatrixFormatError> {
     heap.refuse(growth, 1);
-    outcome_of(
+    Ok(outcome_of(
         Matrix::from_fn(heap, 2, 2, |_position: (usize, usize)| 7u8),
         2,
         2,
         &[7, 7, 7, 7],
-    )
+    ))
 }
 
-fn made_by_the_macro(heap: &Refusing<Global>, growth: u64) -> Outcome {
+fn made_by_the_macro(heap: &Refusing<Global>, growth: u64) -> Result<Outcome, MatrixFormatError> {
     heap.refuse(growth, 1);
-    outcome_of(matrix![in heap; [1u8, 2], [3, 4]], 2, 2, &[1, 2, 3, 4])
+    Ok(outcome_of(matrix![in heap; [1u8, 2], [3, 4]], 2, 2, &[1, 2, 3, 4]))
 }
 
-fn made_of_rows(heap: &Refusing<Global>, growth: u64) -> Outcome {
+fn made_of_rows(heap: &Refusing<Global>, growth: u64) -> Result<Outcome, MatrixFormatError> {
     heap.refuse(growth, 1);
-    outcome_of(
+    Ok(outcome_of(
         Matrix::from_rows(heap, [[1u8, 2], [3, 4]]),
         2,
         2,
         &[1, 2, 3, 4],
-    )
+    ))
 }
 
-fn sliced(heap: &Refusing<Global>, growth: u64) -> Outcome {
-    let Ok(matrix) = six(heap) else {
-        return Outcome::Wrong;
-    };
-    heap.refuse(growth, 1);
-    kept(&matrix, outcome_of(matrix.slice(0..2, 1..2), 2, 1, &[2, 5]))
+fn sliced(heap: &Refusing<Global>, growth: u64) -> Result<Outcome, MatrixFormatError> {
+    let matrix = six_refusing(heap, growth)?;
+    Ok(kept(&matrix, outcome_of(matrix.slice(0..2, 1..2), 2, 1, &[2, 5])))
 }
 
-fn turned(heap: &Refusing<Global>, growth: u64) -> Outcome {
-    let Ok(matrix) = six(heap) else {
-        return Outcome::Wrong;
-    };
-    heap.refuse(growth, 1);
-    kept(
+fn turned(heap: &Refusing<Global>, growth: u64) -> Result<Outcome, MatrixFormatError> {
+    let matrix = six_refusing(heap, growth)?;
+    Ok(kept(
         &matrix,
         outcome_of(matrix.rotated_cw(1), 3, 2, &[4, 1, 5, 2, 6, 3]),
-    )
+    ))
 }
 
-fn turned_back(heap: &Refusing<Global>, growth: u64) -> Outcome {
-    let Ok(matrix) = six(heap) else {
-        return Outcome::Wrong;
-    };
-    heap.refuse(growth, 1);
-    kept(
+fn turned_back(heap: &Refusing<Global>, growth: u64) -> Result<Outcome, MatrixFormatError> {
+    let matrix = six_refusing(heap, growth)?;
+    Ok(kept(
         &matrix,
         outcome_of(matrix.rotated_ccw(1), 3, 2, &[3, 6, 2, 5, 1, 4]),
-    )
+    ))
 }
 
-fn turned_about(heap: &Refusing<Global>, growth: u64) -> Outcome {
-    let Ok(matrix) = six(heap) else {
-        return Outcome::Wrong;
-    };
-    heap.refuse(growth, 1);
-    kept(
+fn turned_about(heap: &Refusing<Global>, growth: u64) -> Result<Outcome, MatrixFormatError> {
+    let matrix = six_refusing(heap, growth)?;
+    Ok(kept(
         &matrix,
         outcome_of(matrix.rotated_cw(2), 2, 3, &[6, 5, 4, 3, 2, 1]),
-    )
+    ))
 }
 
-fn flipped_lr(heap: &Refusing<Global>, growth: u64) -> Outcome {
-    let Ok(matrix) = six(heap) else {
-        return Outcome::Wrong;
-    };
-    heap.refuse(growth, 1);
-    kept(
+fn flipped_lr(heap: &Refusing<Global>, growth: u64) -> Result<Outcome, MatrixFormatError> {
+    let matrix = six_refusing(heap, growth)?;
+    Ok(kept(
         &matrix,
         outcome_of(matrix.flipped_lr(), 2, 3, &[3, 2, 1, 6, 5, 4]),
-    )
+    ))
 }
 
-fn flipped_ud(heap: &Refusing<Global>, growth: u64) -> Outcome {
-    let Ok(matrix) = six(heap) else {
-        return Outcome::Wrong;
-    };
-    heap.refuse(growth, 1);
-    kept(
+fn flipped_ud(heap: &Refusing<Global>, growth: u64) -> Result<Outcome, MatrixFormatError> {
+    let matrix = six_refusing(heap, growth)?;
+    Ok(kept(
         &matrix,
         outcome_of(matrix.flipped_ud(), 2, 3, &[4, 5, 6, 1, 2, 3]),
-    )
+    ))
 }
 
-fn transposed(heap: &Refusing<Global>, growth: u64) -> Outcome {
-    let Ok(matrix) = six(heap) else {
-        return Outcome::Wrong;
-    };
-    heap.refuse(growth, 1);
-    kept(
+fn transposed(heap: &Refusing<Global>, growth: u64) -> Result<Outcome, MatrixFormatError> {
+    let matrix = six_refusing(heap, growth)?;
+    Ok(kept(
         &matrix,
         outcome_of(matrix.transposed(), 3, 2, &[1, 4, 2, 5, 3, 6]),
-    )
+    ))
 }
 
-fn filled(heap: &Refusing<Global>, growth: u64) -> Outcome {
-    let Ok(mut matrix) = six(heap) else {
-        return Outcome::Wrong;
-    };
-    heap.refuse(growth, 1);
+fn filled(heap: &Refusing<Global>, growth: u64) -> Result<Outcome, MatrixFormatError> {
+    let mut matrix = six_refusing(heap, growth)?;
     let answer = matrix.fill(7);
-    outcome_in_place(&matrix, answer, 2, 3, &[7, 7, 7, 7, 7, 7])
+    Ok(outcome_in_place(&matrix, answer, 2, 3, &[7, 7, 7, 7, 7, 7]))
 }
 
-fn extended(heap: &Refusing<Global>, growth: u64) -> Outcome {
-    let Ok(mut matrix) = six(heap) else {
-        return Outcome::Wrong;
-    };
-    heap.refuse(growth, 1);
+fn extended(heap: &Refusing<Global>, growth: u64) -> Result<Outcome, MatrixFormatError> {
+    let mut matrix = six_refusing(heap, growth)?;
     let answer = matrix.extend(&[7, 8, 9]);
-    outcome_in_place(&matrix, answer, 3, 3, &[1, 2, 3, 4, 5, 6, 7, 8, 9])
+    Ok(outcome_in_place(&matrix, answer, 3, 3, &[1, 2, 3, 4, 5, 6, 7, 8, 9]))
 }
 
-fn transposed_in_place(heap: &Refusing<Global>, growth: u64) -> Outcome {
-    let Ok(mut matrix) = six(heap) else {
-        return Outcome::Wrong;
-    };
-    heap.refuse(growth, 1);
+fn transposed_in_place(heap: &Refusing<Global>, growth: u64) -> Result<Outcome, MatrixFormatError> {
+    let mut matrix = six_refusing(heap, growth)?;
     let answer = matrix.transpose();
-    outcome_in_place(&matrix, answer, 3, 2, &[1, 4, 2, 5, 3, 6])
+    Ok(outcome_in_place(&matrix, answer, 3, 2, &[1, 4, 2, 5, 3, 6]))
 }
 
-fn mapped(heap: &Refusing<Global>, growth: u64) -> Outcome {
-    let Ok(matrix) = six(heap) else {
-        return Outcome::Wrong;
-    };
-    heap.refuse(growth, 1);
-    outcome_of(matrix.map(|value: u8| value % 2), 2, 3, &[1, 0, 1, 0, 1, 0])
+fn mapped(heap: &Refusing<Global>, growth: u64) -> Result<Outcome, MatrixFormatError> {
+    let matrix = six_refusing(heap, growth)?;
+    Ok(outcome_of(matrix.map(|value: u8| value % 2), 2, 3, &[1, 0, 1, 0, 1, 0]))
 }
 
-fn cloned(heap: &Refusing<Global>, growth: u64) -> Outcome {
-    let Ok(matrix) = six(heap) else {
-        return Outcome::Wrong;
-    };
-    heap.refuse(growth, 1);
-    match matrix.clone() {
+fn cloned(heap: &Refusing<Global>, growth: u64) -> Result<Outcome, MatrixFormatError> {
+    let matrix = six_refusing(heap, growth)?;
+    Ok(match matrix.clone() {
         Ok(same) if same == matrix => Outcome::Answered,
         Ok(_) => Outcome::Wrong,
         Err(_) => kept(&matrix, Outcome::OutOfMemory),
-    }
+    })
 }
 
-fn copied(heap: &Refusing<Global>, growth: u64) -> Outcome {
-    let Ok(matrix) = six(heap) else {
-        return Outcome::Wrong;
-    };
-    heap.refuse(growth, 1);
-    kept(
+fn copied(heap: &Refusing<Global>, growth: u64) -> Result<Outcome, MatrixFormatError> {
+    let matrix = six_refusing(heap, growth)?;
+    Ok(kept(
         &matrix,
         outcome_of(matrix.rotated_ccw(4), 2, 3, &[1, 2, 3, 4, 5, 6]),
-    )
+    ))
 }
 
-fn made_of_long_rows(heap: &Refusing<Global>, growth: u64) -> Outcome {
+fn made_of_long_rows(heap: &Refusing<Global>, growth: u64) -> Result<Outcome, MatrixFormatError> {
     heap.refuse(growth, 1);
-    outcome_of(Matrix::from_rows(heap, [[7u8; 40]; 2]), 2, 40, &[7; 80])
+    Ok(outcome_of(Matrix::from_rows(heap, [[7u8; 40]; 2]), 2, 40, &[7; 80]))
 }
 
 #[test]

@@ -21,6 +21,15 @@ fn words(heap: &Refusing<Global>) -> Result<Words<'_>, MatrixFormatError>
     Matrix::from_vec(1, 2, values)
 }
 
+/// [["a", "b"]], with this growth after it refused.
+fn words_refusing(heap: &Refusing<Global>, growth: u64) -> Result<Words<'_>, MatrixFormatError>
+    ensures { IfOk result (λ m. (m.rows ≡ 1) × (m.columns ≡ 2)) }
+{
+    let matrix = words(heap)?;
+    heap.refuse(growth, 1);
+    Ok(matrix)
+}
+
 /// Whether a matrix has these sizes and these values, which are words of one letter.
 fn shows_letters(matrix: &Words<'_>, rows: usize, columns: usize, letters: &[u8]) -> bool {
     matrix.rows() == rows
@@ -50,53 +59,37 @@ fn outcome_of(
     }
 }
 
-fn made(heap: &Refusing<Global>, growth: u64) -> Outcome {
-    let Ok(matrix) = words(heap) else {
-        return Outcome::Wrong;
-    };
-    let Ok(value) = vec![in heap; b'c'] else {
-        return Outcome::Wrong;
-    };
+fn made(heap: &Refusing<Global>, growth: u64) -> Result<Outcome, MatrixFormatError> {
+    let matrix = words(heap)?;
+    let value = vec![in heap; b'c']?;
     heap.refuse(growth, 1);
-    outcome_of(&matrix, Matrix::new(heap, 1, 3, value), 1, 3, b"ccc")
+    Ok(outcome_of(&matrix, Matrix::new(heap, 1, 3, value), 1, 3, b"ccc"))
 }
 
-fn cloned(heap: &Refusing<Global>, growth: u64) -> Outcome {
-    let Ok(matrix) = words(heap) else {
-        return Outcome::Wrong;
-    };
-    heap.refuse(growth, 1);
-    outcome_of(
+fn cloned(heap: &Refusing<Global>, growth: u64) -> Result<Outcome, MatrixFormatError> {
+    let matrix = words_refusing(heap, growth)?;
+    Ok(outcome_of(
         &matrix,
         matrix.clone().map_err(|_e| MatrixFormatError::OutOfMemory),
         1,
         2,
         b"ab",
-    )
+    ))
 }
 
-fn sliced(heap: &Refusing<Global>, growth: u64) -> Outcome {
-    let Ok(matrix) = words(heap) else {
-        return Outcome::Wrong;
-    };
-    heap.refuse(growth, 1);
-    outcome_of(&matrix, matrix.slice(0..1, 0..2), 1, 2, b"ab")
+fn sliced(heap: &Refusing<Global>, growth: u64) -> Result<Outcome, MatrixFormatError> {
+    let matrix = words_refusing(heap, growth)?;
+    Ok(outcome_of(&matrix, matrix.slice(0..1, 0..2), 1, 2, b"ab"))
 }
 
-fn flipped(heap: &Refusing<Global>, growth: u64) -> Outcome {
-    let Ok(matrix) = words(heap) else {
-        return Outcome::Wrong;
-    };
-    heap.refuse(growth, 1);
-    outcome_of(&matrix, matrix.flipped_lr(), 1, 2, b"ba")
+fn flipped(heap: &Refusing<Global>, growth: u64) -> Result<Outcome, MatrixFormatError> {
+    let matrix = words_refusing(heap, growth)?;
+    Ok(outcome_of(&matrix, matrix.flipped_lr(), 1, 2, b"ba"))
 }
 
-fn transposed(heap: &Refusing<Global>, growth: u64) -> Outcome {
-    let Ok(matrix) = words(heap) else {
-        return Outcome::Wrong;
-    };
-    heap.refuse(growth, 1);
-    outcome_of(&matrix, matrix.transposed(), 2, 1, b"ab")
+fn transposed(heap: &Refusing<Global>, growth: u64) -> Result<Outcome, MatrixFormatError> {
+    let matrix = words_refusing(heap, growth)?;
+    Ok(outcome_of(&matrix, matrix.transposed(), 2, 1, b"ab"))
 }
 
 /// How a mutator ended after which the matrix is to show these words, and else [["a", "b"]].
@@ -115,28 +108,20 @@ fn outcome_in_place(
     }
 }
 
-fn filled(heap: &Refusing<Global>, growth: u64) -> Outcome {
-    let Ok(mut matrix) = words(heap) else {
-        return Outcome::Wrong;
-    };
-    let Ok(value) = vec![in heap; b'c'] else {
-        return Outcome::Wrong;
-    };
+fn filled(heap: &Refusing<Global>, growth: u64) -> Result<Outcome, MatrixFormatError> {
+    let mut matrix = words(heap)?;
+    let value = vec![in heap; b'c']?;
     heap.refuse(growth, 1);
     let answer = matrix.fill(value);
-    outcome_in_place(&matrix, answer, 1, b"cc")
+    Ok(outcome_in_place(&matrix, answer, 1, b"cc"))
 }
 
-fn extended(heap: &Refusing<Global>, growth: u64) -> Outcome {
-    let Ok(mut matrix) = words(heap) else {
-        return Outcome::Wrong;
-    };
-    let Ok(row) = words(heap) else {
-        return Outcome::Wrong;
-    };
+fn extended(heap: &Refusing<Global>, growth: u64) -> Result<Outcome, MatrixFormatError> {
+    let mut matrix = words(heap)?;
+    let row = words(heap)?;
     heap.refuse(growth, 1);
     let answer = matrix.extend(row.as_slice());
-    outcome_in_place(&matrix, answer, 2, b"abab")
+    Ok(outcome_in_place(&matrix, answer, 2, b"abab"))
 }
 
 #[test]

@@ -1,10 +1,10 @@
-//! Each growth of a walk by columns refused in turn: the column is answered want of memory in its
+//! Each growth of a walk by columns refused in turn: the column is answered out of memory in its
 //! place, and the others are given.
 
 ghost use Rattle.std.specs.Prelude.{◌≡◌};
 
-use super::refusals::{Outcome, kept, refuse_each_growth};
-use super::{four, shows_column, six};
+use super::refusals::{Outcome, kept, refuse_each_growth, six_refusing};
+use super::{four, shows_column};
 use pf_matrix::MatrixFormatError;
 use refusing_allocator::Refusing;
 use std::alloc::{Allocator, Global};
@@ -22,7 +22,7 @@ fn outcome_of_column<A: Allocator>(
     }
 }
 
-/// The outcome of three calls of which at most one may answer want of memory.
+/// The outcome of three calls of which at most one may answer out of memory.
 fn with_one_refusal(outcomes: [Outcome; 3]) -> Outcome {
     let mut whole = Outcome::Answered;
     for outcome in outcomes {
@@ -35,11 +35,8 @@ fn with_one_refusal(outcomes: [Outcome; 3]) -> Outcome {
     whole
 }
 
-fn columns_in_order(heap: &Refusing<Global>, growth: u64) -> Outcome {
-    let Ok(matrix) = six(heap) else {
-        return Outcome::Wrong;
-    };
-    heap.refuse(growth, 1);
+fn columns_in_order(heap: &Refusing<Global>, growth: u64) -> Result<Outcome, MatrixFormatError> {
+    let matrix = six_refusing(heap, growth)?;
     let mut columns = matrix.column_iter();
     let outcome = with_one_refusal([
         outcome_of_column(columns.next(), &[1, 4]),
@@ -47,16 +44,13 @@ fn columns_in_order(heap: &Refusing<Global>, growth: u64) -> Outcome {
         outcome_of_column(columns.next(), &[3, 6]),
     ]);
     if columns.next().is_some() {
-        return Outcome::Wrong;
+        return Ok(Outcome::Wrong);
     }
-    kept(&matrix, outcome)
+    Ok(kept(&matrix, outcome))
 }
 
-fn columns_from_both_ends(heap: &Refusing<Global>, growth: u64) -> Outcome {
-    let Ok(matrix) = six(heap) else {
-        return Outcome::Wrong;
-    };
-    heap.refuse(growth, 1);
+fn columns_from_both_ends(heap: &Refusing<Global>, growth: u64) -> Result<Outcome, MatrixFormatError> {
+    let matrix = six_refusing(heap, growth)?;
     let mut columns = matrix.column_iter();
     let outcome = with_one_refusal([
         outcome_of_column(columns.next_back(), &[3, 6]),
@@ -64,9 +58,9 @@ fn columns_from_both_ends(heap: &Refusing<Global>, growth: u64) -> Outcome {
         outcome_of_column(columns.next_back(), &[2, 5]),
     ]);
     if columns.next_back().is_some() {
-        return Outcome::Wrong;
+        return Ok(Outcome::Wrong);
     }
-    kept(&matrix, outcome)
+    Ok(kept(&matrix, outcome))
 }
 
 #[test]

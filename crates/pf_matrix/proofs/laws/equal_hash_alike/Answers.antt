@@ -1,4 +1,4 @@
-use Rattle.pf_matrix.specs.Equality.{tables_alike}
+use Rattle.pf_matrix.specs.Internal.EqualityLaws.{tables_alike}
 use Rattle.pf_matrix.proofs.laws.equal_hash_alike.Goals as goal
 
 pub returns : goal.returns

@@ -1,6 +1,7 @@
 use Rattle.std.proofs.Common.{◌≡◌, ap, ◌∙◌, of_calls, arith, length, [], ◌∷◌, append_assoc, length-append}
 use Rattle.std.proofs.lemmas.List.{append-nil}
 use Rattle.pf_matrix.specs.Positions.{positions}
+use Rattle.pf_matrix.proofs.CallLemmas.{callable_first, callable_rest}
 use Rattle.pf_matrix.proofs.PositionLemmas.{length-positions}
 use Rattle.pf_matrix.proofs.matrix.Matrix.from_fn.Goals as goal
 
@@ -8,16 +9,19 @@ pub loop-position-init : goal.loop-position-init
 loop-position-init g c =
     let all : c.into_iter-position-iterator.result ≡ positions c.args.rows c.args.columns = c.into_iter-position-iterator.ensures.into_iter_gives ∙ c.of-position-items.ensures in
     record {
-      callable = c.requires.callable;
+      callable = rw all c.requires.callable;
       count = omega (arith, ap length c.in_ok-values.ensures.items, ap length all, length-positions c.args.rows c.args.columns);
       calls = λ ys h. rw (c.in_ok-values.ensures.items, ← all) h;
     }
+
+pub cb-requires : goal.cb-requires
+cb-requires g c = callable_first c.loop-position.cb c.in-Some.position c.next.new.self (rw c.in-Some.ensures.steps at c.loop-position.invariant.callable)
 
 pub loop-position-preserved : goal.loop-position-preserved
 loop-position-preserved g c =
     let steps = c.in-Some.ensures.steps in
     record {
-      callable = search of_calls;
+      callable = callable_rest c.loop-position.cb c.cb.new.self c.in-Some.position c.cb.result c.next.new.self (search of_calls) (rw steps at c.loop-position.invariant.callable);
       count = omega (arith, c.loop-position.invariant.count, ap length steps, simp length-append at (ap length c.in_ok-push.ensures.items));
       calls = λ ys h. rw (c.in_ok-push.ensures.items, append_assoc) (c.loop-position.invariant.calls (c.cb.result ∷ ys) (rw steps (c.cb.new.self, search of_calls, h)));
     }

@@ -44,7 +44,8 @@ invariant_of-result g c =
     let wide : 0 < w = omega (arith, c.if-columns-eq0.false) in
     let n : c.len.result ≡ length c.loop-row.values.items = c.len.ensures ∙ c.loop-row.values.ok.0 in
     let rows = rows_matrix i.0 c.loop-row.values.items c.len.result w wide n i.2 shape.1 in
-    record { sized = ap length i.2 ∙ length-flat w i.0 shape.1 ∙ ap (λ k. k * w) (sym rows); filled = λ _. wide }
+    let sized = ap length i.2 ∙ length-flat w i.0 shape.1 ∙ ap (λ k. k * w) (sym rows) in
+    record { sized = sized; filled = λ _. wide; fits = omega (arith, sized, n) }
 
 pub returns-clause-matrix : goal.returns-clause-matrix
 returns-clause-matrix g c = invariant_of-result g c
