@@ -3,7 +3,7 @@ use Rattle.std.proofs.Common.{◌≡◌, ℕ, zero, suc, ◌+◌, ◌*◌, ◌/�
 use Rattle.std.specs.List.{All, AllZip, FoldsTo}
 use Rattle.std.proofs.lemmas.List.{get_or_at}
 use Rattle.std.proofs.lemmas.Nat.{div_below, mod_below, mul-add-lt}
-use Rattle.pf_matrix.specs.Calls.{CallableInTurn, GivesInTurn}
+use Rattle.pf_matrix.specs.Calls.{CallableInTurn, GivesEach, GivesInTurn}
 use Rattle.pf_matrix.specs.Positions.{positions}
 use Rattle.pf_matrix.proofs.PositionLemmas.{length-positions, get_or-positions, position_at, wide_at}
 
@@ -39,14 +39,13 @@ callable_at_positions {pre = pre} f rows columns leaves may = callable_at_each f
     let wide = wide_at rows columns k below in
     subst (pre f) (sym (position_at rows columns k d below)) (may (k / columns) (k % columns) (div_below k columns rows wide below) (mod_below k columns wide)))
 
--- what the calls gave, where each leaves the function as it was and gives what P says
-pub given_by_each : {F X Y : Type 0} (step : F → X → Y → F → Type 0) (P : X → Y → Type 0) (f : F) (xs : List X) (ys : List Y)
-    → ((x : X) (y : Y) (g : F) → step f x y g → (g ≡ f) × P x y) → GivesInTurn step f xs ys → AllZip P xs ys
-given_by_each step P f [] [] each given = tt
-given_by_each step P f [] (y ∷ ys) each given = absurd given
-given_by_each step P f (x ∷ xs) [] each given = absurd given
-given_by_each step P f (x ∷ xs) (y ∷ ys) each given =
-    let e = each x y given.0 given.1 in (e.1, given_by_each step P f xs ys each (subst (λ p. GivesInTurn step p xs ys) e.0 given.2))
+gives_each : {F X Y : Type 0} (step : F → X → Y → F → Type 0) (P : X → Y → Type 0) (f : F) (xs : List X) (ys : List Y)
+    → ((x : X) (y : Y) (g : F) → step f x y g → (g ≡ f) × P x y) → GivesEach step f xs ys → AllZip P xs ys
+gives_each step P f [] [] each given = tt
+gives_each step P f [] (y ∷ ys) each given = absurd given
+gives_each step P f (x ∷ xs) [] each given = absurd given
+gives_each step P f (x ∷ xs) (y ∷ ys) each given =
+    let e = each x y given.0 given.1 in (e.1, gives_each step P f xs ys each (subst (λ p. GivesEach step p xs ys) e.0 given.2))
 
 AllZip-at : {X Y : Type 0} (P : X → Y → Type 0) (xs : List X) (ys : List Y) (k : ℕ) (d : X) (e : Y) → AllZip P xs ys → k < length xs → P (get_or xs k d) (get_or ys k e)
 AllZip-at P [] ys k d e all h = absurd (omega arith)
@@ -54,10 +53,15 @@ AllZip-at P (x ∷ xs) [] k d e all h = absurd all
 AllZip-at P (x ∷ xs) (y ∷ ys) zero d e all h = all.0
 AllZip-at P (x ∷ xs) (y ∷ ys) (suc k) d e all h = AllZip-at P xs ys k d e all.1 (omega arith)
 
+-- what the calls gave, where each leaves the function as it was and gives what P says
+pub given_at_each : {F X Y : Type 0} {step : F → X → Y → F → Type 0} {f : F} {xs : List X} {ys : List Y} (P : X → Y → Type 0)
+    → GivesInTurn step f xs ys → ((x : X) (y : Y) (g : F) → step f x y g → (g ≡ f) × P x y) → AllZip P xs ys
+given_at_each {step = step} {f = f} {xs = xs} {ys = ys} P given each = gives_each step P f xs ys each given.each
+
 -- and at each position of a table
-pub given_at_positions : {F Y : Type 0} (step : F → ℕ × ℕ → Y → F → Type 0) (P : ℕ × ℕ → Y → Type 0) (f : F) (rows columns : ℕ) (ys : List Y)
-    → ((p : ℕ × ℕ) (y : Y) (g : F) → step f p y g → (g ≡ f) × P p y) → GivesInTurn step f (positions rows columns) ys
+pub given_at_positions : {F Y : Type 0} {step : F → ℕ × ℕ → Y → F → Type 0} {f : F} {rows columns : ℕ} {ys : List Y} (P : ℕ × ℕ → Y → Type 0)
+    → GivesInTurn step f (positions rows columns) ys → ((p : ℕ × ℕ) (y : Y) (g : F) → step f p y g → (g ≡ f) × P p y)
     → (r c : ℕ) (d : Y) → r < rows → c < columns → P (r, c) (get_or ys (r * columns + c) d)
-given_at_positions step P f rows columns ys each given r c d h k =
+given_at_positions {rows = rows} {columns = columns} {ys = ys} P given each r c d h k =
     subst (λ p. P p (get_or ys (r * columns + c) d)) (get_or-positions rows columns r c (r, c) h k)
-    (AllZip-at P (positions rows columns) ys (r * columns + c) (r, c) d (given_by_each step P f (positions rows columns) ys each given) (omega (arith, length-positions rows columns, mul-add-lt r columns c rows h k)))
+    (AllZip-at P (positions rows columns) ys (r * columns + c) (r, c) d (given_at_each P given each) (omega (arith, length-positions rows columns, mul-add-lt r columns c rows h k)))

@@ -7,8 +7,12 @@ pub record CallableInTurn {F X Y : Type 0} (pre : F → X → Type 0) (step : F 
   pub at : (before after : List X) (x : X) (g : F) → xs ≡ before ++ x ∷ after → FoldsTo (λ p z q. (y : Y) × step p z y q) f before g → pre g x
 
 -- the calls of f at xs, one after another, gave ys
-abbrev pub GivesInTurn : {F X Y : Type 0} → (F → X → Y → F → Type 0) → F → List X → List Y → Type 0
-GivesInTurn step f [] [] = ⊤
-GivesInTurn step f [] (y ∷ ys) = ⊥
-GivesInTurn step f (x ∷ xs) [] = ⊥
-GivesInTurn {F} step f (x ∷ xs) (y ∷ ys) = (g : F) × step f x y g × GivesInTurn step g xs ys
+abbrev pub GivesEach : {F X Y : Type 0} → (F → X → Y → F → Type 0) → F → List X → List Y → Type 0
+GivesEach step f [] [] = ⊤
+GivesEach step f [] (y ∷ ys) = ⊥
+GivesEach step f (x ∷ xs) [] = ⊥
+GivesEach {F} step f (x ∷ xs) (y ∷ ys) = (g : F) × step f x y g × GivesEach step g xs ys
+
+-- the same, as a fact that shows a lemma its arguments
+pub record GivesInTurn {F X Y : Type 0} (step : F → X → Y → F → Type 0) (f : F) (xs : List X) (ys : List Y) : Type 0 where
+  pub each : GivesEach step f xs ys

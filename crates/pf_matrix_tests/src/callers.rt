@@ -36,12 +36,13 @@ pub fn copied_board<A: Allocator + Copy>(
 ) -> Result<Matrix<u8, A>, MatrixFormatError>
     ensures { IfOk result (IsCopied itself board.now) }
 {
-    Matrix::from_fn(
+    let copy = Matrix::from_fn(
         alloc,
         board.rows(),
         board.columns(),
         |position: (usize, usize)| board[position],
-    )
+    )?;
+    Ok(copy)
 }
 
 /// 100 divided by each number of a board, on which no number is 0.
@@ -49,7 +50,9 @@ pub fn hundred_divided<A: Allocator + Copy>(
     board: Matrix<u8, A>,
 ) -> Result<Matrix<u8, A>, MatrixFormatError>
     requires { All (λ x. 0 < x) board.values }
-    ensures { IfOk result (λ m. m ≡ record board { values = map (λ x. 100 / x) board.values }) }
+    ensures rows { IfOk result (λ divided. divided.rows ≡ board.rows) }
+    ensures columns { IfOk result (λ divided. divided.columns ≡ board.columns) }
+    ensures values { IfOk result (λ divided. divided.values ≡ map (λ x. 100 / x) board.values) }
 {
     board.map(|value: u8| 100 / value)
 }

@@ -28,4 +28,4 @@ loop-position-preserved g c =
 
 pub returns-clause-values : goal.returns-clause-values
 returns-clause-values g c =
-    simp append-nil at (c.loop-position.invariant.calls [] (rw c.in-None.ensures.steps.0 tt))
+    record { each = simp append-nil at (c.loop-position.invariant.calls [] (rw c.in-None.ensures.steps.0 tt)) }

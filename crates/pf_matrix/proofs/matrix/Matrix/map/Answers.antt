@@ -31,4 +31,4 @@ loop-value-preserved g c =
 pub returns-clause-values : goal.returns-clause-values
 returns-clause-values g c =
     let none : into_iter_items c.loop-value.value-iterator ≡ [] = nil_from_length (into_iter_items c.loop-value.value-iterator) (omega (arith, c.loop-value.invariant.len, c.in-None.ensures.steps.0)) in
-    simp append-nil at (c.loop-value.invariant.calls [] (rw none tt))
+    record { each = simp append-nil at (c.loop-value.invariant.calls [] (rw none tt)) }
