@@ -9,7 +9,7 @@ use Rattle.pf_base.specs.Walks.{HasNode}
 use Rattle.pf_base.specs.Answers.{SameNodes}
 use Rattle.pf_graph.specs.Joined.{Joined}
 use Rattle.pf_graph.specs.Components.{InGroup, IsAround, ShareBy, AreChainedBy, AreComponentsOf, IsComponents, IsComponentsAround}
-use Rattle.pf_graph.specs.Around.{IsGroupAround, AreGroupsAround}
+use Rattle.pf_graph.specs.Internal.Around.{IsGroupAround, AreGroupsAround}
 use Rattle.pf_graph.proofs.ListLemmas.{zip_push, zip_get, zip_get_left}
 use Rattle.pf_graph.proofs.JoinedLemmas.{Joined-more}
 

@@ -8,7 +8,7 @@ use Rattle.std.proofs.Math.ListN.{length-set}
 use Rattle.std.proofs.lemmas.Option.{same_Some, none-some, slice_get_within}
 use Rattle.std.proofs.lemmas.List.Elements.{Contains-append_left, Contains-push, Contains-push_cases}
 use Rattle.pf_graph.specs.declared.undirected.union_find.Vertex.{Vertex}
-use Rattle.pf_graph.specs.Parts.{IsCollected, AreDone, IsGathered, Identifies, pairs_from}
+use Rattle.pf_graph.specs.Internal.Parts.{IsCollected, AreDone, IsGathered, Identifies, pairs_from}
 use Rattle.pf_graph.specs.Components.{InGroup, IsComponents}
 use Rattle.pf_graph.proofs.ListLemmas.{none_in, get_set, get_push, get_at_end, get_within, bool_dec, nat_dec}
 use Rattle.pf_graph.proofs.NumberLemmas.{distinct_one}

@@ -10,7 +10,8 @@ use Rattle.std.specs.declared.cmp.Ordering.TheVariants.{Equal}
 use Rattle.std.specs.Ordering.{is_eq}
 use Rattle.std.specs.Cmp.{IsTotalOrder}
 use Rattle.pf_base.specs.Answers.{IsLawfulClone}
-use Rattle.pf_graph.specs.Spanning.{HoldsCopies, AreBelow, AreChosenFrom, LinksUnder, IsLeastUnderEveryBound}
+use Rattle.pf_graph.specs.Spanning.{AreBelow, AreChosenFrom, LinksUnder, IsLeastUnderEveryBound}
+use Rattle.pf_graph.specs.Internal.SpanningSteps.{HoldsCopies}
 use Rattle.pf_graph.proofs.JoinedLemmas.{Joined-more}
 use Rattle.pf_graph.proofs.OrderLemmas.{equal_is, le_equal}
 

@@ -7,7 +7,7 @@ use Rattle.std.specs.declared.cmp.Ordering.TheVariants.{Greater}
 use Rattle.std.proofs.lemmas.List.Elements.{Contains-push, Contains-push_cases, Contains-append_left}
 use Rattle.std.proofs.lemmas.List.Sorted.{Contains-permutation, IsPermutation-sym}
 use Rattle.pf_graph.specs.declared.undirected.steps.Step.{Step}
-use Rattle.pf_graph.specs.Frontier.{step_order, IsMarked, HasStep, WaitsSave, Waits, Gains, TakesLeast, waiting}
+use Rattle.pf_graph.specs.Internal.Frontier.{step_order, IsMarked, HasStep, WaitsSave, Waits, Gains, TakesLeast, waiting}
 use Rattle.pf_graph.proofs.ListLemmas.{bool_dec, get_set, get_within, none_in, contains_here, contains_later, contains_cons}
 
 -- what holds where a call answered `Ok`

@@ -10,9 +10,9 @@ use Rattle.std.proofs.lemmas.List.Elements.{Contains-push_cases}
 use Rattle.std.proofs.lemmas.Option.{slice_get_within}
 use Rattle.pf_base.specs.Answers.{IsLawfulClone}
 use Rattle.pf_graph.specs.declared.undirected.steps.Step.{Step}
-use Rattle.pf_graph.specs.Numbered.{StandsFor}
+use Rattle.pf_graph.specs.Internal.NumberedEdges.{StandsFor}
 use Rattle.pf_graph.specs.GrownTree.{RunsBetween, edge_order, Covers, LeavesByLeast, GrowsByLeast, AreChosenEitherWay}
-use Rattle.pf_graph.specs.Frontier.{step_order, IsMarked, HasStep, Leads, AreRows, Waits, TakesLeast, NoneLeaves, IsGrown, waiting}
+use Rattle.pf_graph.specs.Internal.Frontier.{step_order, IsMarked, HasStep, Leads, AreRows, Waits, TakesLeast, NoneLeaves, IsGrown, waiting}
 use Rattle.pf_graph.proofs.ListLemmas.{get_set}
 use Rattle.pf_graph.proofs.ForestLemmas.{split_push}
 use Rattle.pf_graph.proofs.NumberLemmas.{numbers_alike, distinct_one}

@@ -12,7 +12,7 @@ use Rattle.std.proofs.lemmas.List.Kept.{IsSortedBy-push}
 use Rattle.std.proofs.lemmas.List.Elements.{Contains-append_left, Contains-push, Contains-push_cases, Contains-get_or}
 use Rattle.std.proofs.lemmas.Bool.Decides.{nat_tests}
 use Rattle.pf_graph.specs.declared.undirected.union_find.Vertex.{Vertex}
-use Rattle.pf_graph.specs.UnionFind.{IsLabelling, Merges}
+use Rattle.pf_graph.specs.Internal.UnionFind.{IsLabelling, Merges}
 use Rattle.pf_graph.specs.Joined.{same, linked, back, chain}
 use Rattle.pf_graph.specs.Spanning.{Links, LinksUnder, JoinedBy, JoinedUnder, IsForest}
 use Rattle.pf_graph.proofs.JoinedLemmas.{Joined-by, Joined-more, Joined-split}

@@ -3,7 +3,7 @@ use Rattle.std.proofs.Common.{ℕ, zero, suc, ◌+◌, ◌*◌, ◌<◌, ◌≡�
 use Rattle.std.specs.Prelude.{◌⊎◌, ◌≤ℤ◌, ◌+ℤ◌, pos, neg_ℤ, slice_index}
 use Rattle.std.proofs.lemmas.Int.{ints}
 use Rattle.pf_graph.specs.Assignments.{number, NumberTable, sum_to, IsAssignment, assignment_total, IsBestAssignment, IsLeastAssignment, IsNegatedTable, IsGreatestWeight, WeightsFit}
-use Rattle.pf_graph.specs.AssignmentSteps.{holder, IsMatching, IsPotential, IsMatched, IsNext}
+use Rattle.pf_graph.specs.Internal.AssignmentSteps.{holder, IsMatching, IsPotential, IsMatched, IsNext}
 use Rattle.pf_graph.proofs.MatchingNumbers.{same_or_not, below_or_last, number-push_last, number-push_other}
 use Rattle.pf_graph.proofs.MatchingWeights.{IsInterval, room, sum_to-bound}
 

@@ -4,7 +4,7 @@ use Rattle.std.specs.Prelude.{◌≤ℤ◌, ◌+ℤ◌, ◌-ℤ◌, pos, neg_ℤ
 use Rattle.std.proofs.lemmas.Int.{ints}
 use Rattle.pf_base.specs.Costs.{LiesBetween}
 use Rattle.pf_graph.specs.Assignments.{number, NumberTable, WeightsFit}
-use Rattle.pf_graph.specs.AssignmentSteps.{holder, flag, IsNearest, IsNext, IsTreeOf}
+use Rattle.pf_graph.specs.Internal.AssignmentSteps.{holder, flag, IsNearest, IsNext, IsTreeOf}
 use Rattle.pf_graph.proofs.MatchingNumbers.{true_or_false}
 use Rattle.pf_graph.proofs.MatchingWeights.{IsInterval, room_six}
 use Rattle.pf_graph.proofs.MatchingCount.{free_column}

@@ -1,7 +1,7 @@
 -- How many rows and columns there are: numbers below a bound, no two equal.
 use Rattle.std.proofs.Common.{ℕ, zero, suc, ◌<◌, ◌≤◌, ◌≡◌, ◌≢◌, refl, sym, ◌∙◌, ap, subst, arith, inl, inr, Option, Some, None}
 use Rattle.std.specs.Prelude.{◌⊎◌}
-use Rattle.pf_graph.specs.AssignmentSteps.{IsMatching}
+use Rattle.pf_graph.specs.Internal.AssignmentSteps.{IsMatching}
 use Rattle.pf_graph.proofs.MatchingNumbers.{same_or_not, below_or_last}
 
 -- y in place of x where x is m

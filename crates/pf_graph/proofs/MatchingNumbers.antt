@@ -2,7 +2,7 @@
 use Rattle.std.proofs.Common.{ℕ, zero, suc, ◌+◌, ◌<◌, ◌≡◌, ◌≢◌, refl, sym, ◌∙◌, ap, arith, Bool, true, false, List, [], ◌∷◌, ◌++◌, length, get_or, take, drop, inl, inr, ℤ, Option, None, true≢false}
 use Rattle.std.specs.Prelude.{slice_set, slice_index_or, MatchBool, ◌⊎◌, ◌≤ℤ◌, ◌+ℤ◌, pos}
 use Rattle.pf_graph.specs.Assignments.{number}
-use Rattle.pf_graph.specs.AssignmentSteps.{holder, raised}
+use Rattle.pf_graph.specs.Internal.AssignmentSteps.{holder, raised}
 
 pub same_or_not : (j k : ℕ) → (j ≡ k) ⊎ (j ≢ k)
 same_or_not zero zero = inl refl

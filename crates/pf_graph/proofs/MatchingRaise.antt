@@ -3,7 +3,7 @@ use Rattle.std.proofs.Common.{List, length, ◌++◌, ◌∷◌, [], ℕ, zero, 
 use Rattle.std.specs.Prelude.{◌≤ℤ◌, ◌+ℤ◌, ◌-ℤ◌, pos, neg_ℤ, slice_index, slice_set}
 use Rattle.std.proofs.lemmas.Int.{ints}
 use Rattle.pf_graph.specs.Assignments.{number, NumberTable}
-use Rattle.pf_graph.specs.AssignmentSteps.{holder, flag, IsMatched, IsNext, IsTreeOf, IsRooted, IsMatching, IsPotential, IsTree, IsNearest, IsOnTree, IsTurned, reach, raised}
+use Rattle.pf_graph.specs.Internal.AssignmentSteps.{holder, flag, IsMatched, IsNext, IsTreeOf, IsRooted, IsMatching, IsPotential, IsTree, IsNearest, IsOnTree, IsTurned, reach, raised}
 use Rattle.pf_graph.proofs.MatchingNumbers.{same_or_not, true_or_false, below_or_last, raised_true, raised_false, number-set_same, number-set_other, at_set_same, at_set_other, at_push_last, at_push_other}
 use Rattle.pf_graph.proofs.MatchingTurn.{turn_ends}
 

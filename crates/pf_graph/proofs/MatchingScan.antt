@@ -2,7 +2,7 @@
 use Rattle.std.proofs.Common.{ℕ, ◌+◌, ◌<◌, ◌≤◌, ◌≡◌, ◌≢◌, refl, sym, ◌∙◌, ap, subst, arith, Bool, true, false, inl, inr, ℤ, Option, Some, None, true≢false}
 use Rattle.std.specs.Prelude.{◌⊎◌, ◌≤ℤ◌}
 use Rattle.std.proofs.lemmas.Int.{ints}
-use Rattle.pf_graph.specs.AssignmentSteps.{IsNearest, IsRelaxed}
+use Rattle.pf_graph.specs.Internal.AssignmentSteps.{IsNearest, IsRelaxed}
 use Rattle.pf_graph.proofs.MatchingNumbers.{below_or_last}
 
 -- the columns below i are up to date, the others as they were, and the nearest of those is known

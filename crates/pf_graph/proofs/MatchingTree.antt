@@ -3,7 +3,7 @@ use Rattle.std.proofs.Common.{List, length, ◌++◌, ◌∷◌, [], ℕ, zero, 
 use Rattle.std.specs.Prelude.{◌⊎◌, ◌≤ℤ◌, ◌<ℤ◌, ◌+ℤ◌, ◌-ℤ◌, pos, neg_ℤ, slice_index, slice_set}
 use Rattle.std.proofs.lemmas.Int.{ints}
 use Rattle.pf_graph.specs.Assignments.{number, NumberTable}
-use Rattle.pf_graph.specs.AssignmentSteps.{holder, flag, IsNext, IsTreeOf, IsMatching, IsPotential, IsTree, IsNearest, IsRelaxed, IsScanned, IsFresh, reach}
+use Rattle.pf_graph.specs.Internal.AssignmentSteps.{holder, flag, IsNext, IsTreeOf, IsMatching, IsPotential, IsTree, IsNearest, IsRelaxed, IsScanned, IsFresh, reach}
 use Rattle.pf_graph.proofs.MatchingCount.{injective_le}
 use Rattle.pf_graph.proofs.MatchingNumbers.{same_or_not, true_or_false, below_or_last, at_set_same, at_set_other, at_push_last, at_push_other}
 

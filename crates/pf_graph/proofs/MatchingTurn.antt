@@ -1,7 +1,7 @@
 -- How the rows on the way back from a column are matched again.
 use Rattle.std.proofs.Common.{ℕ, ◌+◌, ◌<◌, ◌≤◌, ◌≡◌, ◌≢◌, refl, sym, ◌∙◌, ap, subst, arith, inl, inr, Option, Some, None}
 use Rattle.std.specs.Prelude.{◌⊎◌}
-use Rattle.pf_graph.specs.AssignmentSteps.{IsMatching, IsRooted, IsOnTree, IsTurned}
+use Rattle.pf_graph.specs.Internal.AssignmentSteps.{IsMatching, IsRooted, IsOnTree, IsTurned}
 use Rattle.pf_graph.proofs.MatchingNumbers.{same_or_not, below_or_last}
 
 pub turn_begins : (n columns count c : ℕ) (col : ℕ → ℕ) (held : ℕ → Option ℕ) (rows place : ℕ → ℕ) → IsMatching n columns col held → c < columns → held c ≡ None → IsTurned n columns count c col held rows place col held c

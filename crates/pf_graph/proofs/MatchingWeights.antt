@@ -5,7 +5,7 @@ use Rattle.std.proofs.lemmas.Int.{ints}
 use Rattle.std.proofs.Math.Nat.{mul-le-mul_right}
 use Rattle.pf_base.specs.Costs.{LiesBetween}
 use Rattle.pf_graph.specs.Assignments.{NumberTable, IsGreatestWeight, WeightsFit, sum_to}
-use Rattle.pf_graph.specs.AssignmentSteps.{IsBeyond, IsEither}
+use Rattle.pf_graph.specs.Internal.AssignmentSteps.{IsBeyond, IsEither}
 
 -- between two numbers that fit, each fits
 abbrev pub IsInterval : (ℤ → Type 0) → Type 0

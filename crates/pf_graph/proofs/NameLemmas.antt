@@ -14,7 +14,7 @@ use Rattle.pf_base.specs.Answers.{IsLawfulClone}
 use Rattle.pf_graph.specs.declared.undirected.weighed.Weighed.{Weighed}
 use Rattle.pf_graph.specs.Joined.{same, linked}
 use Rattle.pf_graph.specs.Spanning.{Links, LinksUnder, IsForest, IsLeastUnderEveryBound, AreChosenFrom, AreBelow}
-use Rattle.pf_graph.specs.Numbered.{StandsFor, IsNumbered, IsWritten}
+use Rattle.pf_graph.specs.Internal.NumberedEdges.{StandsFor, IsNumbered, IsWritten}
 use Rattle.pf_graph.proofs.ListLemmas.{zip_get, zip_get_left, zip_append, zip_split, zip_length, get_contains, contains_get}
 use Rattle.pf_graph.proofs.ForestLemmas.{link_of}
 use Rattle.pf_graph.proofs.CarryLemmas.{Joined-carried_some, Joined-carried}

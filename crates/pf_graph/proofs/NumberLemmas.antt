@@ -9,7 +9,7 @@ use Rattle.std.proofs.lemmas.List.Elements.{Contains-append_left, Contains-push,
 use Rattle.std.proofs.lemmas.Bool.Decides.{nat_tests}
 use Rattle.indexmap.specs.IndexSet.{insert_key}
 use Rattle.pf_graph.specs.declared.undirected.weighed.Weighed.{Weighed}
-use Rattle.pf_graph.specs.Numbered.{StandsFor, IsNumbered}
+use Rattle.pf_graph.specs.Internal.NumberedEdges.{StandsFor, IsNumbered}
 use Rattle.pf_graph.proofs.ListLemmas.{none_in, get_append}
 use Rattle.pf_graph.proofs.CarryLemmas.{StandsAlike}
 

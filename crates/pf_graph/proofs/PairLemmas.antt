@@ -11,8 +11,8 @@ use Rattle.std.proofs.lemmas.Option.{same_Some, slice_get-map, slice_get-get_or}
 use Rattle.pf_base.specs.Walks.{HasNode}
 use Rattle.pf_graph.specs.declared.undirected.union_find.Vertex.{Vertex}
 use Rattle.pf_graph.specs.Joined.{Joined}
-use Rattle.pf_graph.specs.Parts.{pair_with, pairs_from, PairsLink, IsGathered, IsIdOf, Identifies, MapsByFirst}
-use Rattle.pf_graph.specs.Components.{InGroup, Linked, AreChained, AreIdentified, MapsVertices}
+use Rattle.pf_graph.specs.Internal.Parts.{pair_with, pairs_from, PairsLink, IsGathered, IsIdOf, Identifies, MapsByFirst}
+use Rattle.pf_graph.specs.Components.{InGroup, ShareBy, AreChained, AreIdentified, MapsVertices}
 use Rattle.pf_graph.proofs.ListLemmas.{none_in, get_contains, contains_get, get_within}
 use Rattle.pf_graph.proofs.JoinedLemmas.{Joined-more}
 use Rattle.pf_graph.proofs.NumberLemmas.{distinct_one}
@@ -78,7 +78,7 @@ module _ {N A : Type 0} {eq : N → N → Bool} (laws : IsEquivalence eq) (group
   chained i j h = Joined-more (λ (a b : ℕ) (l : PairsLink eq (pairs_from 0 groups) a b). (l.0.1, subst (λ n. InGroup eq groups n l.0.1) l.4 (in_group l.0 l.0.1 l.2 (laws.refl l.0.1)), subst (λ n. InGroup eq groups n l.0.1) l.5 (in_group l.1 l.0.1 l.3 (laws.symm l.1.1 l.0.1 ∙ l.6)))) h
 
   by_pairs : (i j : ℕ) → AreChained eq groups i j → Joined nat_eq (PairsLink eq (pairs_from 0 groups)) i j
-  by_pairs i j h = Joined-more (λ (a b : ℕ) (l : Linked eq groups a b).
+  by_pairs i j h = Joined-more (λ (a b : ℕ) (l : ShareBy (InGroup eq groups) a b).
       let p = pair_of a l.0 l.1 in
       let q = pair_of b l.0 l.2 in
       ((a, p.0), (b, q.0), p.1, q.1, refl, refl, laws.congr p.0 l.0 q.0 p.2 ∙ laws.symm l.0 q.0 ∙ q.2)) h

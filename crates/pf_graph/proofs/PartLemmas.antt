@@ -13,8 +13,8 @@ use Rattle.std.proofs.lemmas.Bool.Decides.{nat_tests}
 use Rattle.indexmap.specs.IndexSet.{insert_key}
 use Rattle.pf_graph.specs.declared.undirected.union_find.Vertex.{Vertex}
 use Rattle.pf_graph.specs.Joined.{Joined, same, linked, back, chain}
-use Rattle.pf_graph.specs.UnionFind.{IsSound, IsLabelling, Merges}
-use Rattle.pf_graph.specs.Parts.{PairsLink, IsGathered, IsIdOf, Identifies, MapsByFirst}
+use Rattle.pf_graph.specs.Internal.UnionFind.{IsSound, IsLabelling, Merges}
+use Rattle.pf_graph.specs.Internal.Parts.{PairsLink, IsGathered, IsIdOf, Identifies, MapsByFirst}
 use Rattle.pf_graph.proofs.ListLemmas.{none_in, get_push, get_append, get_at_end}
 use Rattle.pf_graph.proofs.JoinedLemmas.{Joined-more}
 use Rattle.pf_graph.proofs.NumberLemmas.{distinct_one}

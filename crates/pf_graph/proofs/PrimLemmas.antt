@@ -7,9 +7,9 @@ use Rattle.std.specs.Option.{option_map}
 use Rattle.std.proofs.lemmas.Option.{slice_get-map, slice_get_within}
 use Rattle.pf_graph.specs.declared.undirected.steps.Step.{Step}
 use Rattle.pf_graph.specs.declared.undirected.weighed.Weighed.{Weighed}
-use Rattle.pf_graph.specs.Numbered.{StandsFor, IsNumbered}
+use Rattle.pf_graph.specs.Internal.NumberedEdges.{StandsFor, IsNumbered}
 use Rattle.pf_graph.specs.GrownTree.{StartsAt}
-use Rattle.pf_graph.specs.Frontier.{IsMarked, HasStep, HoldSteps, AreRows}
+use Rattle.pf_graph.specs.Internal.Frontier.{IsMarked, HasStep, HoldSteps, AreRows}
 use Rattle.pf_graph.proofs.ListLemmas.{get_contains, none_in}
 use Rattle.pf_graph.proofs.StepLemmas.{AreRows-numbered}
 

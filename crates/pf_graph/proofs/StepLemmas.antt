@@ -7,9 +7,9 @@ use Rattle.std.proofs.lemmas.List.Elements.{Contains-push, Contains-push_cases, 
 use Rattle.std.proofs.lemmas.Option.{slice_get_within}
 use Rattle.pf_graph.specs.declared.undirected.steps.Step.{Step}
 use Rattle.pf_graph.specs.declared.undirected.weighed.Weighed.{Weighed}
-use Rattle.pf_graph.specs.Numbered.{StandsFor, IsNumbered}
+use Rattle.pf_graph.specs.Internal.NumberedEdges.{StandsFor, IsNumbered}
 use Rattle.pf_graph.specs.GrownTree.{RunsBetween}
-use Rattle.pf_graph.specs.Frontier.{Leads, HasStep, HoldSteps, AreRows}
+use Rattle.pf_graph.specs.Internal.Frontier.{Leads, HasStep, HoldSteps, AreRows}
 use Rattle.pf_graph.proofs.ListLemmas.{get_push, get_set}
 
 module _ {N C A : Type 0} where

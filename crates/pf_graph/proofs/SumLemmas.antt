@@ -9,7 +9,7 @@ use Rattle.std.proofs.lemmas.Int.{ints}
 use Rattle.std.proofs.lemmas.Cmp.{int_ranked}
 use Rattle.std.proofs.lemmas.List.Sorted.{sorted_far, ranks_by}
 use Rattle.std.proofs.lemmas.Option.{slice_get_within, get_or_from_slice_get}
-use Rattle.pf_graph.specs.Spanning.{IsTaken, values_sum}
+use Rattle.pf_graph.specs.Internal.SpanningSteps.{IsTaken, values_sum}
 use Rattle.pf_graph.proofs.ListLemmas.{get_append, get_at_end}
 use Rattle.pf_graph.proofs.OrderLemmas.{at_most}
 

@@ -5,7 +5,7 @@ use Rattle.std.proofs.Math.ListN.{length-set}
 use Rattle.std.proofs.lemmas.Option.{slice_get_within, same_Some}
 use Rattle.std.proofs.lemmas.Bool.Decides.{nat_tests}
 use Rattle.pf_graph.specs.declared.undirected.union_find.Vertex.{Vertex}
-use Rattle.pf_graph.specs.UnionFind.{parent_or, parent_of, size_of, IsRoot, root_sizes, IsSound, IsLabelling, Merges}
+use Rattle.pf_graph.specs.Internal.UnionFind.{parent_or, parent_of, size_of, IsRoot, root_sizes, IsSound, IsLabelling, Merges}
 use Rattle.pf_graph.proofs.ListLemmas.{nat_dec, get_set, get_push, get_within, none_in}
 
 -- ---- parents

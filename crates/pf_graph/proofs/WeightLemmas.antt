@@ -10,8 +10,9 @@ use Rattle.std.specs.List.Sorted.{IsSorted}
 use Rattle.std.proofs.lemmas.Option.{slice_get-map, get_or_from_slice_get}
 use Rattle.pf_base.specs.Answers.{IsLawfulClone}
 use Rattle.pf_graph.specs.declared.undirected.weighed.Weighed.{Weighed}
-use Rattle.pf_graph.specs.Spanning.{IsForest, IsLeastUnderEveryBound, AreChosenFrom, IsLeastForest, weight_sum, values_sum}
-use Rattle.pf_graph.specs.Numbered.{IsNumbered, IsWritten}
+use Rattle.pf_graph.specs.Spanning.{IsForest, IsLeastUnderEveryBound, AreChosenFrom, IsLeastForest, weight_sum}
+use Rattle.pf_graph.specs.Internal.SpanningSteps.{values_sum}
+use Rattle.pf_graph.specs.Internal.NumberedEdges.{IsNumbered, IsWritten}
 use Rattle.pf_graph.proofs.ListLemmas.{get_within}
 use Rattle.pf_graph.proofs.NameLemmas.{written_forest, written_least, written_given}
 

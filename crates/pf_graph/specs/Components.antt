@@ -19,10 +19,6 @@ module _ {N A : Type 0} (eq : N → N → Bool) (groups : List (Vec N A)) where
   abbrev pub InGroup : ℕ → N → Type 0
   InGroup i x = (g : Vec N A) × (slice_get groups i ≡ Some g) × HasNode eq g.items x
 
-  -- groups i and j share a vertex
-  abbrev pub Linked : ℕ → ℕ → Type 0
-  Linked = ShareBy InGroup
-
   -- a chain of shared vertices leads from group i to group j
   abbrev pub AreChained : ℕ → ℕ → Type 0
   AreChained = AreChainedBy InGroup

@@ -1,11 +1,7 @@
 pub mod Joined
 pub mod Spanning
-pub mod UnionFind
 pub mod Numbered
 pub mod Components
-pub mod Around
-pub mod Parts
 pub mod GrownTree
-pub mod Frontier
 pub mod Assignments
-pub mod AssignmentSteps
+pub mod Internal

@@ -1,5 +1,5 @@
 -- Edges of an undirected graph: each is written as its two ends and its weight. Nodes are the same where `eq` says so.
-use Rattle.std.specs.Prelude.{◌≡◌, ◌≢◌, ◌<◌, ◌+ℤ◌, ◌↔◌, ℕ, ℤ, pos, Bool, true, false, List, [], ◌∷◌, ◌++◌, All, Contains, map}
+use Rattle.std.specs.Prelude.{◌≡◌, ◌≢◌, ◌<◌, ◌+ℤ◌, ◌↔◌, ℕ, ℤ, pos, Bool, true, List, [], ◌∷◌, ◌++◌, All, Contains, map}
 use Rattle.std.specs.declared.cmp.Ordering.{Ordering}
 use Rattle.std.specs.declared.cmp.Ordering.TheVariants.{Greater}
 use Rattle.pf_graph.specs.Joined.{Joined}
@@ -37,11 +37,6 @@ pub record AreChosenFrom {N C : Type 0} (is_clone : C → C → Type 0) (edges c
 abbrev pub AreBelow : {C : Type 0} → ℕ → List (ℕ × ℕ × C) → Type 0
 AreBelow n edges = All (λ e. (e.0 < n) × (e.1 < n)) edges
 
--- the edges in some order, with clones of their weights
-pub record HoldsCopies {N C : Type 0} (is_clone : C → C → Type 0) (edges copies : List (N × N × C)) : Type 0 where
-  pub from : (e : N × N × C) → Contains copies e → (g : N × N × C) × Contains edges g × (g.0 ≡ e.0) × (g.1 ≡ e.1) × is_clone g.2 e.2
-  pub all : (g : N × N × C) → Contains edges g → (e : N × N × C) × Contains copies e × (g.0 ≡ e.0) × (g.1 ≡ e.1) × is_clone g.2 e.2
-
 -- the sum of the values of the edges' weights
 abbrev pub weight_sum : {N C : Type 0} → (C → ℤ) → List (N × N × C) → ℤ
 weight_sum value [] = pos 0
@@ -56,16 +51,6 @@ pub record IsLeastForest {N C : Type 0} (eq : N → N → Bool) (cmp : C → C �
   pub no_cycle : IsForest eq forest
   pub least : IsLeastUnderEveryBound eq cmp edges forest
   pub given : AreChosenFrom (λ (w u : C). u ≡ w) edges forest
-
--- the sum of the values of weights
-abbrev pub values_sum : {C : Type 0} → (C → ℤ) → List C → ℤ
-values_sum value [] = pos 0
-values_sum value (w ∷ ws) = value w +ℤ values_sum value ws
-
--- weight and what else there is of some weights: their last one, or their first
-abbrev pub IsTaken : {C : Type 0} → Bool → C → List C → List C → Type 0
-IsTaken true weight rest weights = weights ≡ rest ++ weight ∷ []
-IsTaken false weight rest weights = weights ≡ weight ∷ rest
 
 -- the edges with nodes for their numbers
 abbrev pub named : {N C : Type 0} → (ℕ → N) → List (ℕ × ℕ × C) → List (N × N × C)

@@ -21,7 +21,7 @@ use std::alloc::Allocator;
 /// The greatest total of an assignment, and the column of each row, with one tick for each round.
 ///
 /// It is `kuhn_munkres`; a round is the choice of one more column, and reads at most one row of the
-/// table. There are at most as many rounds as the square of the number of rows.
+/// table. There are at most as many rounds as the square of the number of rows. The tally never falls.
 pub fn kuhn_munkres_tallied<C, W, A>(
     alloc: A,
     weights: &W,
@@ -37,7 +37,8 @@ where
     ensures total { IfOk result (λ answer. C.value answer.0 ≡ assignment_total (W.table weights.now) answer.1.items) }
     ensures best { IfOk result (λ answer. IsBestAssignment (W.table weights.now) answer.1.items) }
     ensures refused { IfErr result (λ e. e ≡ OutOfMemory) }
-    ensures ticked { tally.new ≤ tally.old + (W.table weights.now).rows * (W.table weights.now).rows }
+    ensures ticked { tally.old ≤ tally.new }
+    ensures rounds { tally.new ≤ tally.old + (W.table weights.now).rows * (W.table weights.now).rows }
 {
     let columns = weights.columns();
     let mut matching = Matching::new(alloc, columns)?;
@@ -56,7 +57,7 @@ where
 /// at its column, and no assignment of the rows to columns has a greater one. Which of several best
 /// assignments is answered is open. Of a table without rows the answer is zero and no columns.
 ///
-/// It is refused only for want of memory; beside the table it takes memory for the rows and columns.
+/// The only error is `OutOfMemory`. Beside the table it takes memory for the rows and columns.
 ///
 /// The rows are matched one after another by shortest augmenting paths over potentials (Kuhn 1955;
 /// Munkres 1957; the form with shortest paths is Jonker and Volgenant 1987).

@@ -3,7 +3,7 @@
 ghost use Rattle.std.specs.Prelude.{◌≡◌, ◌≢◌, ◌≤◌, ◌<◌, ◌+◌, ◌+ℤ◌, ◌-ℤ◌, ℕ, pos, neg_ℤ, true, None, OnOk, IfOk, IfErr, length, slice_index};
 ghost use Rattle.pf_base.specs.declared.error.PathError.TheVariants.{OutOfMemory};
 ghost use Rattle.pf_graph.specs.Assignments.{number, NumberTable, WeightsFit};
-ghost use Rattle.pf_graph.specs.AssignmentSteps.{holder, flag, raised, IsMatching, IsMatched, IsNext, IsTreeOf, IsNearest, IsRooted, IsTurned};
+ghost use Rattle.pf_graph.specs.Internal.AssignmentSteps.{holder, flag, raised, IsMatching, IsMatched, IsNext, IsTreeOf, IsNearest, IsRooted, IsTurned};
 
 use crate::kuhn_munkres::numbers::plus;
 use crate::kuhn_munkres::tree::{Tree, grow};
@@ -202,7 +202,8 @@ where
     ensures distances { length tree.new.distances.items ≡ (W.table weights.now).columns }
     ensures places { length tree.new.places.items ≡ (W.table weights.now).columns }
     ensures refused { IfErr result (λ e. e ≡ OutOfMemory) }
-    ensures ticked { tally.new ≤ tally.old + (W.table weights.now).rows }
+    ensures ticked { tally.old ≤ tally.new }
+    ensures rounds { tally.new ≤ tally.old + (W.table weights.now).rows }
 {
     matching.row_potentials.push(C::zero())?;
     let column = grow(

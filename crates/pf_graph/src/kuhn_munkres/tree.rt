@@ -3,7 +3,7 @@
 ghost use Rattle.std.specs.Prelude.{◌≡◌, ◌≤◌, ◌<◌, ◌+◌, ◌+ℤ◌, ◌-ℤ◌, ◌≤ℤ◌, ◌≢◌, ◌⊎◌, ℕ, ℤ, pos, neg_ℤ, true, false, Some, None, IfOk, OnOk, IfErr, MatchBool, MatchOption, length, slice_index};
 ghost use Rattle.pf_base.specs.declared.error.PathError.TheVariants.{OutOfMemory};
 ghost use Rattle.pf_graph.specs.Assignments.{number, NumberTable, WeightsFit};
-ghost use Rattle.pf_graph.specs.AssignmentSteps.{holder, flag, IsNext, IsTreeOf, IsNearest, IsRelaxed, IsScanned, IsFresh};
+ghost use Rattle.pf_graph.specs.Internal.AssignmentSteps.{holder, flag, IsNext, IsTreeOf, IsNearest, IsRelaxed, IsScanned, IsFresh};
 
 use crate::kuhn_munkres::matching::Matching;
 use crate::kuhn_munkres::numbers::{is_below, plus};
@@ -285,7 +285,8 @@ where
     ensures nearest { IfOk result (IsNearest (W.table weights.now).columns (flag visited.new) (number C.value distances.new)) }
     ensures free { IfOk result (λ column. holder matching.now.row_of.items column ≡ None) }
     ensures refused { IfErr result (λ e. e ≡ OutOfMemory) }
-    ensures ticked { tally.new ≤ tally.old + length matching.now.column_of.items + 1 }
+    ensures ticked { tally.old ≤ tally.new }
+    ensures rounds { tally.new ≤ tally.old + length matching.now.column_of.items + 1 }
 {
     let mut column = begin(weights, matching, rows, visited, distances, places)?;
     tally.tick();

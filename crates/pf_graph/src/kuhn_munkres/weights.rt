@@ -3,7 +3,7 @@
 ghost use Rattle.std.specs.Prelude.{◌≡◌, ◌⊎◌, ◌↔◌, ◌<◌, ◌*◌, ◌+◌, ◌+ℤ◌, ◌≤ℤ◌, ℕ, ℤ, pos, neg_ℤ, IsTrue, IfOk, IfErr, length};
 ghost use Rattle.pf_base.specs.declared.error.PathError.TheVariants.{OutOfMemory};
 ghost use Rattle.pf_graph.specs.Assignments.{number, NumberTable, IsNegatedTable, IsGreatestWeight, WeightsFit};
-ghost use Rattle.pf_graph.specs.AssignmentSteps.{IsBeyond, IsEither, IsExact};
+ghost use Rattle.pf_graph.specs.Internal.AssignmentSteps.{IsBeyond, IsEither, IsExact};
 
 use crate::kuhn_munkres::numbers::is_below;
 use pf_base::{PathError, SignedCost};
@@ -31,7 +31,7 @@ pub trait Weights<C: SignedCost>: Sized {
         requires column { column < (table self.now).columns }
         ensures { C.value result ≡ (table self.now).at row column };
 
-    /// The table of the negations, each of which has to fit. It is refused only for want of memory.
+    /// The table of the negations, each of which has to fit. The only error is `OutOfMemory`.
     fn neg(&self) -> Result<Self, PathError>
         requires { (r c : ℕ) → r < (table self.now).rows → c < (table self.now).columns → C.fits (neg_ℤ ((table self.now).at r c)) }
         ensures negated { IfOk result (λ negated. IsNegatedTable (table self.now) (table negated)) }

@@ -30,7 +30,7 @@ pub type MapIn<K, V, A> = HashMap<K, V, BuildHasherDefault<FoldHasher>, A>;
 /// Vertices in one group are connected, and equal vertices are one. The identifier of a group is
 /// below the number of groups, and two groups have the same one exactly where a chain of shared
 /// vertices joins them; an empty group has `usize::MAX`. The map has exactly the vertices, each with
-/// the identifier of its groups. The only error is want of memory.
+/// the identifier of its groups. The only error is `OutOfMemory`.
 pub fn separate_components<'a, N, A, B>(
     alloc: A,
     groups: &'a [Vec<N, B>],
@@ -74,8 +74,8 @@ where
 
 /// The index of the set that a node is in, for all nodes of the sets.
 ///
-/// The map holds clones of exactly the nodes of the sets. A node in several sets has the greatest of
-/// their indices. The only error is want of memory.
+/// The map has exactly the nodes of the sets, as keys that are equal to them. A node in several sets
+/// has the greatest of their indices. The only error is `OutOfMemory`.
 pub fn component_index<N, S, A, B>(
     alloc: A,
     components: &[HashSet<N, S, B>],
@@ -98,9 +98,9 @@ where
 
 /// The sets of vertices that chains of groups with shared vertices join.
 ///
-/// Each set holds clones of exactly the vertices of the groups that such chains join, and each vertex
-/// is in one set; empty groups give none. The order of the sets is open. The only error is want of
-/// memory.
+/// Each set has exactly the vertices of the groups that such chains join, as nodes that are equal to
+/// them, and each vertex is in one set; empty groups give none. The order of the sets is open. The
+/// only error is `OutOfMemory`.
 pub fn components<N, A, B>(alloc: A, groups: &[Vec<N, B>]) -> Result<Vec<SetIn<N, A>, A>, PathError>
 where
     N: Eq + Hash + Clone,
@@ -121,10 +121,11 @@ where
 /// The sets of nodes that are connected around some starts.
 ///
 /// Each start is connected with the nodes that `adjacent` lists for it, and all that is connected with
-/// one node is connected. Each set holds clones of exactly the nodes of one such class, and each start
-/// and each node that is listed for one is in one set. `adjacent` must answer alike for equal nodes at
-/// every call, and is called on the starts alone, once on each: what it would list for other nodes
-/// connects nothing. The order of the sets is open. The only error is want of memory.
+/// one node is connected. Each set has exactly the nodes of one such class, as nodes that are equal to
+/// them, and each start and each node that is listed for one is in one set. `adjacent` must answer
+/// alike for equal nodes at every call, and is called on the starts alone, once on each: what it would
+/// list for other nodes connects nothing. The order of the sets is open. The only error is
+/// `OutOfMemory`.
 pub fn connected_components<N, IN, FN, A>(
     alloc: A,
     starts: &[N],

@@ -6,7 +6,8 @@ ghost use Rattle.std.specs.List.Sorted.{IsSorted};
 ghost use Rattle.pf_base.specs.Answers.{IsLawfulClone};
 ghost use Rattle.pf_base.specs.declared.error.PathError.TheVariants.{OutOfMemory, UnknownVertex, CostOverflow};
 ghost use Rattle.pf_graph.specs.Spanning.{IsForest, IsLeastUnderEveryBound, AreChosenFrom, AreBelow, IsLeastForest, weight_sum};
-ghost use Rattle.pf_graph.specs.Numbered.{shown, IsWritten};
+ghost use Rattle.pf_graph.specs.Numbered.{shown};
+ghost use Rattle.pf_graph.specs.Internal.NumberedEdges.{IsWritten};
 
 use crate::undirected::exact_sum::exact_sum;
 use crate::undirected::numbered::number_edges;
@@ -27,7 +28,7 @@ use std::hash::Hash;
 /// `least_total_weight`.
 ///
 /// It is refused with `UnknownVertex` exactly where a node of some edge is not below
-/// `number_of_nodes`, which is tested first, and else only for want of memory. All memory is taken
+/// `number_of_nodes`, which is tested first, and else only with `OutOfMemory`. All memory is taken
 /// here: the iterator takes none.
 pub fn kruskal_indices<C, A>(
     alloc: A,
@@ -83,7 +84,7 @@ where
 /// weight is chosen is open. Weights need an order alone; where they are costs, no forest of the edges
 /// that joins the same nodes weighs less, by the law `least_total_weight`.
 ///
-/// It is refused only for want of memory. All memory is taken here: the iterator takes none.
+/// The only error is `OutOfMemory`. All memory is taken here: the iterator takes none.
 pub fn kruskal<'a, N, C, A>(
     alloc: A,
     edges: &'a [(N, N, C)],
@@ -128,7 +129,7 @@ where
 /// The sum of the weights of the edges that `kruskal` chooses.
 ///
 /// It is refused with `CostOverflow` exactly where that whole sum does not fit, never because a sum
-/// on the way would not, and else only for want of memory. No edges give zero. By the law
+/// on the way would not, and else only with `OutOfMemory`. No edges give zero. By the law
 /// `least_total_weight` no forest of the edges that joins the same nodes weighs less, so the sum does
 /// not depend on which of several edges of equal weight are chosen.
 pub fn spanning_weight<N, C, A>(alloc: A, edges: &[(N, N, C)]) -> Result<C, PathError>

@@ -3,7 +3,7 @@
 ghost use Rattle.std.specs.Prelude.{◌≡◌, List, length, map, IfOk, IfErr};
 ghost use Rattle.std.specs.Borrow.{Bor};
 ghost use Rattle.pf_base.specs.declared.error.PathError.TheVariants.{OutOfMemory};
-ghost use Rattle.pf_graph.specs.Numbered.{IsNumbered};
+ghost use Rattle.pf_graph.specs.Internal.NumberedEdges.{IsNumbered};
 
 use crate::undirected::weighed::Weighed;
 use indexmap::IndexSet;

@@ -2,8 +2,8 @@
 
 ghost use Rattle.std.specs.Prelude.{◌≡◌, ◌<◌, ◌∷◌, ◌++◌, [], ℕ, List, All, length, map, IfOk, IfErr, OnOk};
 ghost use Rattle.pf_base.specs.declared.error.PathError.TheVariants.{OutOfMemory};
-ghost use Rattle.pf_graph.specs.Parts.{IsGathered, IsIdOf, Identifies, IsParted, MapsByFirst, pair_with, pairs_from};
-ghost use Rattle.pf_graph.specs.UnionFind.{IsSound, IsLabelling};
+ghost use Rattle.pf_graph.specs.Internal.Parts.{IsGathered, IsIdOf, Identifies, IsParted, MapsByFirst, pair_with, pairs_from};
+ghost use Rattle.pf_graph.specs.Internal.UnionFind.{IsSound, IsLabelling};
 
 use crate::undirected::union_find::{Vertex, find, unite};
 use indexmap::IndexSet;

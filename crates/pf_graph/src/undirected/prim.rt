@@ -5,8 +5,9 @@ ghost use Rattle.std.specs.Borrow.{Bor};
 ghost use Rattle.pf_base.specs.Answers.{IsLawfulClone};
 ghost use Rattle.pf_base.specs.declared.error.PathError.TheVariants.{OutOfMemory};
 ghost use Rattle.pf_graph.specs.declared.undirected.steps.Step.{Step};
-ghost use Rattle.pf_graph.specs.Frontier.{AreRows, HasStep, IsMarked};
-ghost use Rattle.pf_graph.specs.Numbered.{shown, StandsFor};
+ghost use Rattle.pf_graph.specs.Internal.Frontier.{AreRows, HasStep, IsMarked};
+ghost use Rattle.pf_graph.specs.Numbered.{shown};
+ghost use Rattle.pf_graph.specs.Internal.NumberedEdges.{StandsFor};
 ghost use Rattle.pf_graph.specs.GrownTree.{StartsAt, GrowsByLeast, IsLeastAround, AreChosenEitherWay};
 ghost use Rattle.pf_graph.specs.Spanning.{IsForest};
 
@@ -63,7 +64,7 @@ where
 /// Weights need an order alone; where they are costs, no forest of the edges that joins the same
 /// nodes weighs less, by the law `least_tree_weight`.
 ///
-/// It is refused only for want of memory.
+/// The only error is `OutOfMemory`.
 pub fn prim<'a, N, C, A>(
     alloc: A,
     edges: &'a [(N, N, C)],

@@ -4,7 +4,7 @@ ghost use Rattle.std.specs.Prelude.{◌≡◌, ◌<◌, ◌∷◌, ◌++◌, [],
 ghost use Rattle.std.specs.HashSet.{contains};
 ghost use Rattle.pf_base.specs.Answers.{IsLawfulClone};
 ghost use Rattle.pf_base.specs.declared.error.PathError.TheVariants.{OutOfMemory};
-ghost use Rattle.pf_graph.specs.Parts.{IsCollected, AreDone};
+ghost use Rattle.pf_graph.specs.Internal.Parts.{IsCollected, AreDone};
 
 use pf_base::PathError;
 use std::alloc::Allocator;

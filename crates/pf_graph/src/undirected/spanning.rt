@@ -3,8 +3,9 @@
 ghost use Rattle.std.specs.Prelude.{◌≡◌, ◌↔◌, ℕ, [], Contains, IfOk, IfErr, OnOk, IsTrue, nat_eq, length};
 ghost use Rattle.std.specs.List.Sorted.{IsSorted};
 ghost use Rattle.pf_base.specs.declared.error.PathError.TheVariants.{OutOfMemory};
-ghost use Rattle.pf_graph.specs.Spanning.{IsForest, IsLeastUnderEveryBound, HoldsCopies, AreBelow};
-ghost use Rattle.pf_graph.specs.UnionFind.{IsSound, IsLabelling};
+ghost use Rattle.pf_graph.specs.Spanning.{IsForest, IsLeastUnderEveryBound, AreBelow};
+ghost use Rattle.pf_graph.specs.Internal.SpanningSteps.{HoldsCopies};
+ghost use Rattle.pf_graph.specs.Internal.UnionFind.{IsSound, IsLabelling};
 
 use crate::undirected::union_find::{Vertex, apart, unite};
 use pf_base::PathError;

@@ -2,7 +2,7 @@
 //! (van Leeuwen and van der Weide 1977). Only the maker takes memory.
 
 ghost use Rattle.std.specs.Prelude.{◌≡◌, ◌≢◌, ◌<◌, ℕ, length, IfOk, IfErr, MatchBool};
-ghost use Rattle.pf_graph.specs.UnionFind.{IsSound, IsLabelling, IsRoot, Merges};
+ghost use Rattle.pf_graph.specs.Internal.UnionFind.{IsSound, IsLabelling, IsRoot, Merges};
 ghost use Rattle.pf_base.specs.declared.error.PathError.TheVariants.{OutOfMemory};
 
 use pf_base::PathError;

@@ -1,5 +1,5 @@
 use Rattle.std.proofs.Common.{◌≡◌, ◌≤◌, ◌+◌, ◌*◌, length}
-use Rattle.pf_graph.specs.AssignmentSteps.{IsMatched}
+use Rattle.pf_graph.specs.Internal.AssignmentSteps.{IsMatched}
 use Rattle.pf_graph.proofs.kuhn_munkres.kuhn_munkres_tallied.Given as goal
 
 -- the rows so far are matched, each with at most as many ticks as there are rows
@@ -11,5 +11,6 @@ invariant-loop-row g l = record {
   visited : length l.tree.visited.items ≡ (g.W.Weights.table l.weights).columns;
   distances : length l.tree.distances.items ≡ (g.W.Weights.table l.weights).columns;
   places : length l.tree.places.items ≡ (g.W.Weights.table l.weights).columns;
-  ticked : l.tally ≤ l.fn.tally + l._row * (g.W.Weights.table l.weights).rows;
+  ticked : l.fn.tally ≤ l.tally;
+  rounds : l.tally ≤ l.fn.tally + l._row * (g.W.Weights.table l.weights).rows;
 }

@@ -1,7 +1,7 @@
 use Rattle.std.proofs.Common.{rules, ◌≡◌, ◌<◌, ◌++◌, ◌∷◌, [], arith, ap, sym, subst, ◌∙◌, ℕ, length, true, Some, take, drop}
 use Rattle.std.specs.Prelude.{neg_ℤ, ◌+ℤ◌, ◌-ℤ◌, slice_index, slice_set}
 use Rattle.pf_graph.specs.Assignments.{number}
-use Rattle.pf_graph.specs.AssignmentSteps.{holder, flag, raised, IsMatched, IsRooted, IsTurned}
+use Rattle.pf_graph.specs.Internal.AssignmentSteps.{holder, flag, raised, IsMatched, IsRooted, IsTurned}
 use Rattle.pf_graph.proofs.MatchingNumbers.{number-at, refilled}
 use Rattle.pf_graph.proofs.MatchingBounds.{step_difference, step_negation, step_sum, step_rest, depth_negation}
 use Rattle.pf_graph.proofs.MatchingRaise.{rooted_of, augment_lists}

@@ -1,7 +1,7 @@
 use Rattle.std.proofs.Common.{rules, ◌≡◌, ◌++◌, ap, sym, subst, ◌∙◌, length, take, drop}
 use Rattle.std.specs.Prelude.{pos}
 use Rattle.pf_graph.specs.Assignments.{number}
-use Rattle.pf_graph.specs.AssignmentSteps.{flag, IsNext, IsNearest}
+use Rattle.pf_graph.specs.Internal.AssignmentSteps.{flag, IsNext, IsNearest}
 use Rattle.pf_graph.proofs.MatchingNumbers.{refilled}
 use Rattle.pf_graph.proofs.MatchingBest.{next_of}
 use Rattle.pf_graph.proofs.kuhn_munkres.matching.match_row.Goals as goal

@@ -1,6 +1,6 @@
 use Rattle.std.proofs.Common.{rules, refl, ◌≡◌, ◌≢◌, ◌<◌, ◌≤◌, arith, sym, subst, ℕ, length, Some, None}
 use Rattle.std.specs.Prelude.{slice_index, slice_set}
-use Rattle.pf_graph.specs.AssignmentSteps.{holder, IsTurned}
+use Rattle.pf_graph.specs.Internal.AssignmentSteps.{holder, IsTurned}
 use Rattle.pf_graph.proofs.MatchingNumbers.{at_set_same, at_set_other}
 use Rattle.pf_graph.proofs.MatchingTurn.{turn_begins, turn_more, turn_before}
 use Rattle.pf_graph.proofs.kuhn_munkres.matching.turn.Goals as goal

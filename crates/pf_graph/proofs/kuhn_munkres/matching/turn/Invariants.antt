@@ -1,6 +1,6 @@
 use Rattle.std.proofs.Common.{◌≡◌, ℕ, ◌<◌, ◌≤◌, length}
 use Rattle.std.specs.Prelude.{slice_index}
-use Rattle.pf_graph.specs.AssignmentSteps.{holder, IsTurned}
+use Rattle.pf_graph.specs.Internal.AssignmentSteps.{holder, IsTurned}
 use Rattle.pf_graph.proofs.kuhn_munkres.matching.turn.Given as goal
 
 -- the rows behind `place` are matched again, and those before it are as they were

@@ -1,7 +1,7 @@
 use Rattle.std.proofs.Common.{◌<◌, arith, ap, ◌∙◌, length, false}
 use Rattle.std.specs.Prelude.{slice_set, slice_index}
 use Rattle.pf_graph.specs.Assignments.{number}
-use Rattle.pf_graph.specs.AssignmentSteps.{flag}
+use Rattle.pf_graph.specs.Internal.AssignmentSteps.{flag}
 use Rattle.pf_graph.proofs.MatchingNumbers.{below_set, number-set_same, number-set_other, at_set_same, at_set_other}
 use Rattle.pf_graph.proofs.kuhn_munkres.tree.clear.Goals as goal
 

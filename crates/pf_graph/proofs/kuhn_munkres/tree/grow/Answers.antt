@@ -2,9 +2,9 @@ use Rattle.std.proofs.Common.{arith}
 use Rattle.pf_graph.proofs.MatchingTree.{tree_count}
 use Rattle.pf_graph.proofs.kuhn_munkres.tree.grow.Goals as goal
 
-pub returns-in_err-column-2-clause-ticked : goal.returns-in_err-column-2-clause-ticked
-returns-in_err-column-2-clause-ticked g c =
-    let t = c.visits.invariant.ticked in
+pub returns-in_err-column-2-clause-rounds : goal.returns-in_err-column-2-clause-rounds
+returns-in_err-column-2-clause-rounds g c =
+    let t = c.visits.invariant.rounds in
     let k = tree_count c.requires.next c.visits.invariant.tree in
     omega (arith, t, k)
 
@@ -15,8 +15,8 @@ visits-smaller g c =
     let m = c.in_ok-column-2.ensures.more in
     omega (arith, l, m)
 
-pub returns-clause-ticked : goal.returns-clause-ticked
-returns-clause-ticked g c =
-    let t = c.visits.invariant.ticked in
+pub returns-clause-rounds : goal.returns-clause-rounds
+returns-clause-rounds g c =
+    let t = c.visits.invariant.rounds in
     let k = tree_count c.requires.next c.visits.invariant.tree in
     omega (arith, t, k)

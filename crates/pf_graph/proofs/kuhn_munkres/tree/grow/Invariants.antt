@@ -1,6 +1,6 @@
 use Rattle.std.proofs.Common.{◌≤◌, ◌+◌, ◌-◌, length}
 use Rattle.pf_graph.specs.Assignments.{number}
-use Rattle.pf_graph.specs.AssignmentSteps.{flag, IsTreeOf, IsNearest}
+use Rattle.pf_graph.specs.Internal.AssignmentSteps.{flag, IsTreeOf, IsNearest}
 use Rattle.pf_graph.proofs.kuhn_munkres.tree.grow.Given as goal
 
 -- the tree so far, the column to be visited next, and the ticks
@@ -8,7 +8,8 @@ abbrev pub invariant-visits : goal.invariant-visits
 invariant-visits g l = record {
   tree : IsTreeOf g.C.Number.value (g.W.Weights.table l.weights) l.matching.column_of.items l.matching.row_of.items l.matching.row_potentials.items l.matching.column_potentials.items l.rows.items l.visited l.distances l.places;
   nearest : IsNearest (g.W.Weights.table l.weights).columns (flag l.visited) (number g.C.Number.value l.distances) l.column;
-  ticked : l.tally ≤ l.fn.tally + length l.rows.items;
+  ticked : l.fn.tally ≤ l.tally;
+  rounds : l.tally ≤ l.fn.tally + length l.rows.items;
 }
 
 abbrev pub decreases-visits : goal.decreases-visits

@@ -1,7 +1,7 @@
 use Rattle.std.proofs.Common.{rules, ℕ, ◌≡◌, ◌+◌, sym, subst, arith, ap, ◌∙◌, false, true}
 use Rattle.std.specs.Prelude.{slice_index, ◌+ℤ◌, ◌-ℤ◌, neg_ℤ}
 use Rattle.pf_graph.specs.Assignments.{number}
-use Rattle.pf_graph.specs.AssignmentSteps.{flag, IsRelaxed, IsNearest}
+use Rattle.pf_graph.specs.Internal.AssignmentSteps.{flag, IsRelaxed, IsNearest}
 use Rattle.pf_graph.proofs.MatchingNumbers.{number-at}
 use Rattle.pf_graph.proofs.MatchingScan.{IsScannedTo, scan_skips, scan_relaxes, scan_nearest}
 use Rattle.pf_graph.proofs.kuhn_munkres.tree.scan.Goals as goal

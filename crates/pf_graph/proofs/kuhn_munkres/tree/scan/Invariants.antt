@@ -1,6 +1,6 @@
 use Rattle.std.specs.Prelude.{slice_index, ◌+ℤ◌, ◌-ℤ◌}
 use Rattle.pf_graph.specs.Assignments.{number}
-use Rattle.pf_graph.specs.AssignmentSteps.{flag}
+use Rattle.pf_graph.specs.Internal.AssignmentSteps.{flag}
 use Rattle.pf_graph.proofs.MatchingScan.{IsScannedTo}
 use Rattle.pf_graph.proofs.kuhn_munkres.tree.scan.Given as goal
 

@@ -1,7 +1,7 @@
 use Rattle.std.proofs.Common.{◌≡◌, sym, subst, ap, ◌∙◌, ◌<◌, length, ℕ, All, Some}
 use Rattle.std.specs.Prelude.{slice_get}
 use Rattle.std.proofs.lemmas.Option.{slice_get-get_or}
-use Rattle.pf_graph.specs.Parts.{AreDone}
+use Rattle.pf_graph.specs.Internal.Parts.{AreDone}
 use Rattle.pf_graph.proofs.PairLemmas.{first_id_below}
 use Rattle.pf_graph.proofs.CollectLemmas.{are_components}
 use Rattle.pf_graph.proofs.undirected.connected_components.components.Goals as goal

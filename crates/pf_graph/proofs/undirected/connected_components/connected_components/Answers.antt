@@ -1,6 +1,6 @@
 use Rattle.std.proofs.Common.{sym, subst, List}
 use Rattle.std.proofs.lemmas.Result.{IfOk-weaker}
-use Rattle.pf_graph.specs.Around.{AreGroupsAround}
+use Rattle.pf_graph.specs.Internal.Around.{AreGroupsAround}
 use Rattle.pf_graph.proofs.AroundLemmas.{components_around}
 use Rattle.pf_graph.proofs.undirected.connected_components.connected_components.Goals as goal
 

@@ -1,6 +1,6 @@
 use Rattle.std.proofs.Common.{◌≡◌, sym, subst, ap, ◌∙◌, ◌<◌, length, ℕ, All}
 use Rattle.std.proofs.lemmas.Option.{slice_get-get_or}
-use Rattle.pf_graph.specs.Parts.{MapsByFirst}
+use Rattle.pf_graph.specs.Internal.Parts.{MapsByFirst}
 use Rattle.pf_graph.proofs.PairLemmas.{are_identified, maps_vertices}
 use Rattle.pf_graph.proofs.undirected.connected_components.separate_components.Goals as goal
 

@@ -1,6 +1,6 @@
 use Rattle.std.proofs.Common.{◌≡◌, length}
 use Rattle.std.specs.Prelude.{◌+ℤ◌}
-use Rattle.pf_graph.specs.Spanning.{values_sum}
+use Rattle.pf_graph.specs.Internal.SpanningSteps.{values_sum}
 use Rattle.pf_graph.proofs.SumLemmas.{Rises}
 use Rattle.pf_graph.proofs.undirected.exact_sum.exact_sum.Given as goal
 

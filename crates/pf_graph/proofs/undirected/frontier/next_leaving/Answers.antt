@@ -3,7 +3,7 @@ use Rattle.std.specs.BinaryHeap.{heap_items}
 use Rattle.std.specs.declared.cmp.Reverse.{Reverse}
 use Rattle.std.proofs.lemmas.Option.{slice_get-get_or}
 use Rattle.pf_graph.specs.declared.undirected.steps.Step.{Step}
-use Rattle.pf_graph.specs.Frontier.{IsMarked}
+use Rattle.pf_graph.specs.Internal.Frontier.{IsMarked}
 use Rattle.pf_graph.proofs.FrontierLemmas.{was_in, rest_in, still_in, one_mark, TakesLeast-popped}
 use Rattle.pf_graph.proofs.undirected.frontier.next_leaving.Goals as goal
 

@@ -2,7 +2,8 @@ use Rattle.std.proofs.Common.{[], ◌∷◌, ◌++◌, sym, ap, subst, ◌∙◌
 use Rattle.std.specs.Prelude.{map}
 use Rattle.std.specs.List.{AllZip}
 use Rattle.std.proofs.lemmas.List.{append_assoc, append-nil, map-append}
-use Rattle.pf_graph.specs.Numbered.{shown, IsWritten}
+use Rattle.pf_graph.specs.Numbered.{shown}
+use Rattle.pf_graph.specs.Internal.NumberedEdges.{IsWritten}
 use Rattle.pf_graph.proofs.ListLemmas.{zip_push}
 use Rattle.pf_graph.proofs.undirected.kruskal.as_written.Goals as goal
 

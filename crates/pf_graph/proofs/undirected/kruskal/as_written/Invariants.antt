@@ -2,7 +2,8 @@ use Rattle.std.proofs.Common.{◌≡◌, ℕ, List, ◌++◌}
 use Rattle.std.specs.Prelude.{map}
 use Rattle.std.specs.List.{AllZip}
 use Rattle.pf_graph.specs.declared.undirected.weighed.Weighed.{Weighed}
-use Rattle.pf_graph.specs.Numbered.{shown, IsWritten}
+use Rattle.pf_graph.specs.Numbered.{shown}
+use Rattle.pf_graph.specs.Internal.NumberedEdges.{IsWritten}
 use Rattle.pf_graph.proofs.undirected.kruskal.as_written.Given as goal
 
 -- the edges so far are written

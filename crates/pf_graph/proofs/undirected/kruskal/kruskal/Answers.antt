@@ -1,7 +1,8 @@
 use Rattle.std.proofs.Common.{◌≡◌, inl, inr, sym, subst, rules}
 use Rattle.std.specs.Prelude.{map}
 use Rattle.std.specs.List.Sorted.{IsSorted}
-use Rattle.pf_graph.specs.Numbered.{shown, IsNumbered}
+use Rattle.pf_graph.specs.Numbered.{shown}
+use Rattle.pf_graph.specs.Internal.NumberedEdges.{IsNumbered}
 use Rattle.pf_graph.specs.Spanning.{IsForest, IsLeastUnderEveryBound, AreChosenFrom}
 use Rattle.pf_base.specs.declared.error.PathError.TheVariants.{OutOfMemory}
 use Rattle.pf_graph.proofs.NameLemmas.{numbered_below, written_forest, written_least, written_given, written_sorted}

@@ -3,7 +3,7 @@ use Rattle.std.specs.Prelude.{map}
 use Rattle.std.specs.List.Sorted.{IsSorted}
 use Rattle.pf_base.specs.declared.error.PathError.TheVariants.{OutOfMemory}
 use Rattle.pf_graph.specs.declared.undirected.weighed.Weighed.{Weighed}
-use Rattle.pf_graph.specs.Numbered.{IsNumbered}
+use Rattle.pf_graph.specs.Internal.NumberedEdges.{IsNumbered}
 use Rattle.pf_graph.proofs.NameLemmas.{numbered_below}
 use Rattle.pf_graph.proofs.WeightLemmas.{edge_of, sorted_keys, least_forest, sum_of_forest}
 use Rattle.pf_graph.proofs.undirected.kruskal.spanning_weight.Goals as goal

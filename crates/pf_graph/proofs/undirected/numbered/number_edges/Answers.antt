@@ -1,7 +1,7 @@
 use Rattle.std.proofs.Common.{◌≡◌, [], ◌∷◌, ◌++◌, sym, subst, ap, take, take_all, ◌∙◌, ◌+◌}
 use Rattle.std.specs.Prelude.{map}
 use Rattle.std.proofs.lemmas.List.{map-append, take_more}
-use Rattle.pf_graph.specs.Numbered.{IsNumbered}
+use Rattle.pf_graph.specs.Internal.NumberedEdges.{IsNumbered}
 use Rattle.pf_graph.proofs.NumberLemmas.{IsNumbered-none, IsNumbered-more}
 use Rattle.pf_graph.proofs.undirected.numbered.number_edges.Goals as goal
 

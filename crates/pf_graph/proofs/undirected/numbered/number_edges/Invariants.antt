@@ -1,6 +1,6 @@
 use Rattle.std.proofs.Common.{◌≡◌, take}
 use Rattle.std.specs.Prelude.{map}
-use Rattle.pf_graph.specs.Numbered.{IsNumbered}
+use Rattle.pf_graph.specs.Internal.NumberedEdges.{IsNumbered}
 use Rattle.pf_graph.proofs.undirected.numbered.number_edges.Given as goal
 
 abbrev pub invariant-loop-edge : goal.invariant-loop-edge

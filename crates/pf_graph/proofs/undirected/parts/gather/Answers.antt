@@ -1,6 +1,6 @@
 use Rattle.std.proofs.Common.{subst, ap, ◌∙◌, ◌++◌, take}
 use Rattle.std.specs.Prelude.{map}
-use Rattle.pf_graph.specs.Parts.{IsGathered, pair_with, pairs_from}
+use Rattle.pf_graph.specs.Internal.Parts.{IsGathered, pair_with, pairs_from}
 use Rattle.pf_graph.proofs.PairLemmas.{pairs_from-more}
 use Rattle.pf_graph.proofs.undirected.parts.gather.Goals as goal
 

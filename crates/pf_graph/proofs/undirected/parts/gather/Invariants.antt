@@ -1,5 +1,5 @@
 use Rattle.std.proofs.Common.{take}
-use Rattle.pf_graph.specs.Parts.{IsGathered, pairs_from}
+use Rattle.pf_graph.specs.Internal.Parts.{IsGathered, pairs_from}
 use Rattle.pf_graph.proofs.undirected.parts.gather.Given as goal
 
 abbrev pub invariant-loop-group : goal.invariant-loop-group

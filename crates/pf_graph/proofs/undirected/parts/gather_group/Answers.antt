@@ -1,6 +1,6 @@
 use Rattle.std.proofs.Common.{subst, ◌++◌, take, take_all}
 use Rattle.std.specs.Prelude.{map}
-use Rattle.pf_graph.specs.Parts.{IsGathered, pair_with}
+use Rattle.pf_graph.specs.Internal.Parts.{IsGathered, pair_with}
 use Rattle.pf_graph.proofs.PairLemmas.{pairs_more}
 use Rattle.pf_graph.proofs.undirected.parts.gather_group.Goals as goal
 

@@ -1,6 +1,6 @@
 use Rattle.std.proofs.Common.{ℕ, List, ◌++◌, take}
 use Rattle.std.specs.Prelude.{map}
-use Rattle.pf_graph.specs.Parts.{IsGathered, pair_with}
+use Rattle.pf_graph.specs.Internal.Parts.{IsGathered, pair_with}
 use Rattle.pf_graph.proofs.undirected.parts.gather_group.Given as goal
 
 abbrev pub invariant-loop-node : goal.invariant-loop-node

@@ -2,7 +2,7 @@ use Rattle.std.proofs.Common.{◌≡◌, sym, subst, ◌∙◌, ◌∷◌, ◌++
 use Rattle.std.specs.Borrow.{Bor}
 use Rattle.std.specs.List.{IsDistinct}
 use Rattle.std.proofs.lemmas.Option.{slice_get_read, slice_get_within}
-use Rattle.pf_graph.specs.Parts.{IsGathered}
+use Rattle.pf_graph.specs.Internal.Parts.{IsGathered}
 use Rattle.std.specs.Prelude.{slice_get, Some}
 use Rattle.pf_graph.proofs.PartLemmas.{added_new, added_known, merged_anyway, gathered_again, gathered_new}
 use Rattle.pf_graph.proofs.undirected.parts.gather_node.Goals as goal

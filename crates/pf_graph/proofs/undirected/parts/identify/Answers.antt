@@ -1,5 +1,5 @@
 use Rattle.std.proofs.Common.{sym, subst, ◌∙◌, ap, ℕ, length, take, take_all, ◌+◌, arith, length-append}
-use Rattle.pf_graph.specs.Parts.{IsIdOf, Identifies}
+use Rattle.pf_graph.specs.Internal.Parts.{IsIdOf, Identifies}
 use Rattle.pf_graph.proofs.PartLemmas.{Identifies-more}
 use Rattle.pf_graph.proofs.undirected.parts.identify.Goals as goal
 

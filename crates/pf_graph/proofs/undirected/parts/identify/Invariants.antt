@@ -1,6 +1,6 @@
 use Rattle.std.proofs.Common.{◌≡◌, ℕ, length, take}
-use Rattle.pf_graph.specs.UnionFind.{IsSound, IsLabelling}
-use Rattle.pf_graph.specs.Parts.{Identifies}
+use Rattle.pf_graph.specs.Internal.UnionFind.{IsSound, IsLabelling}
+use Rattle.pf_graph.specs.Internal.Parts.{Identifies}
 use Rattle.pf_graph.proofs.undirected.parts.identify.Given as goal
 
 abbrev pub invariant-loop-group : goal.invariant-loop-group

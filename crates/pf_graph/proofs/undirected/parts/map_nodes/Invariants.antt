@@ -1,5 +1,5 @@
 use Rattle.std.proofs.Common.{take}
-use Rattle.pf_graph.specs.Parts.{MapsByFirst}
+use Rattle.pf_graph.specs.Internal.Parts.{MapsByFirst}
 use Rattle.pf_graph.proofs.undirected.parts.map_nodes.Given as goal
 
 abbrev pub invariant-loop-place : goal.invariant-loop-place

@@ -1,5 +1,5 @@
 use Rattle.std.proofs.Common.{sym, subst, ◌∙◌, []}
-use Rattle.pf_graph.specs.Parts.{IsGathered}
+use Rattle.pf_graph.specs.Internal.Parts.{IsGathered}
 use Rattle.pf_graph.proofs.PartLemmas.{IsGathered-none}
 use Rattle.pf_graph.proofs.undirected.parts.part_groups.Goals as goal
 

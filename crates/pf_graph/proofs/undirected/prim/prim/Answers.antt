@@ -2,7 +2,7 @@ use Rattle.std.proofs.Common.{◌≡◌, ◌<◌, ◌∙◌, sym, ap, subst, ℕ
 use Rattle.std.specs.Prelude.{map, slice_get}
 use Rattle.std.proofs.lemmas.List.{length-replicate}
 use Rattle.pf_graph.specs.Numbered.{shown}
-use Rattle.pf_graph.specs.Frontier.{HasStep, HoldSteps, AreRows, IsMarked}
+use Rattle.pf_graph.specs.Internal.Frontier.{HasStep, HoldSteps, AreRows, IsMarked}
 use Rattle.pf_graph.specs.GrownTree.{GrowsByLeast, IsLeastAround}
 use Rattle.pf_graph.specs.Spanning.{AreBelow}
 use Rattle.pf_graph.proofs.ListLemmas.{resized}

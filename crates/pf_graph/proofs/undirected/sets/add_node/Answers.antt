@@ -2,7 +2,7 @@ use Rattle.std.proofs.Common.{◌≡◌, ℕ, sym, ap, subst, ◌∙◌, refl, r
 use Rattle.std.specs.HashSet.{contains}
 use Rattle.std.specs.List.{list_any}
 use Rattle.std.proofs.lemmas.Option.{slice_get-get_or, slice_get_read}
-use Rattle.pf_graph.specs.Parts.{IsCollected}
+use Rattle.pf_graph.specs.Internal.Parts.{IsCollected}
 use Rattle.pf_graph.proofs.CollectLemmas.{collected_again, collected_new}
 use Rattle.pf_graph.proofs.undirected.sets.add_node.Goals as goal
 

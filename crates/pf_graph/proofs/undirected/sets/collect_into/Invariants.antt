@@ -1,6 +1,6 @@
 use Rattle.std.proofs.Common.{ℕ, List}
 use Rattle.std.specs.HashSet.{contains}
-use Rattle.pf_graph.specs.Parts.{IsCollected, AreDone}
+use Rattle.pf_graph.specs.Internal.Parts.{IsCollected, AreDone}
 use Rattle.pf_graph.proofs.undirected.sets.collect_into.Given as goal
 
 abbrev pub invariant-loop-number : goal.invariant-loop-number

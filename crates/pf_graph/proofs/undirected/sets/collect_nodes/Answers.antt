@@ -1,7 +1,7 @@
 use Rattle.std.proofs.Common.{◌≡◌, sym, subst, ap, ◌∙◌, [], None, length, replicate}
 use Rattle.std.specs.HashSet.{contains}
 use Rattle.std.proofs.lemmas.List.{length-replicate}
-use Rattle.pf_graph.specs.Parts.{IsCollected}
+use Rattle.pf_graph.specs.Internal.Parts.{IsCollected}
 use Rattle.pf_graph.proofs.ListLemmas.{resized}
 use Rattle.pf_graph.proofs.CollectLemmas.{IsCollected-none, no_place}
 use Rattle.pf_graph.proofs.undirected.sets.collect_nodes.Goals as goal

@@ -1,4 +1,4 @@
-use Rattle.pf_graph.specs.UnionFind.{IsSound}
+use Rattle.pf_graph.specs.Internal.UnionFind.{IsSound}
 use Rattle.pf_graph.proofs.KruskalLemmas.{Grown}
 use Rattle.pf_graph.proofs.undirected.spanning.choose_edges.Given as goal
 

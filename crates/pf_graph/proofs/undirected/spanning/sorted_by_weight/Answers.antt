@@ -1,7 +1,7 @@
 use Rattle.std.proofs.Common.{sym, subst, refl, rules, take, take_all, ◌+◌}
 use Rattle.std.specs.Ordering.{is_lt}
 use Rattle.std.proofs.lemmas.List.Sorted.{ranks_by, answers_always}
-use Rattle.pf_graph.specs.Spanning.{HoldsCopies}
+use Rattle.pf_graph.specs.Internal.SpanningSteps.{HoldsCopies}
 use Rattle.pf_graph.proofs.CopyLemmas.{HoldsCopies-more, HoldsCopies-permuted}
 use Rattle.pf_graph.proofs.undirected.spanning.sorted_by_weight.Goals as goal
 

@@ -1,7 +1,7 @@
 use Rattle.std.proofs.Common.{◌+◌, ◌∙◌, ◌∷◌, [], sym, ap, subst, length, ℕ}
 use Rattle.std.proofs.lemmas.List.{length-append}
 use Rattle.pf_graph.specs.declared.undirected.steps.Step.{Step}
-use Rattle.pf_graph.specs.Frontier.{HasStep}
+use Rattle.pf_graph.specs.Internal.Frontier.{HasStep}
 use Rattle.pf_graph.proofs.StepLemmas.{empty_more}
 use Rattle.pf_graph.proofs.undirected.steps.empty_rows.Goals as goal
 

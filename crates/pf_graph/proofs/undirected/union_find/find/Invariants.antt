@@ -1,6 +1,6 @@
 use Rattle.std.proofs.Common.{◌≡◌, ◌<◌, ◌-◌, ℕ, length}
 use Rattle.std.specs.Prelude.{slice_get}
-use Rattle.pf_graph.specs.UnionFind.{IsSound, IsLabelling, IsRoot, size_of}
+use Rattle.pf_graph.specs.Internal.UnionFind.{IsSound, IsLabelling, IsRoot, size_of}
 use Rattle.pf_graph.proofs.undirected.union_find.find.Given as goal
 
 abbrev pub invariant-climb : goal.invariant-climb

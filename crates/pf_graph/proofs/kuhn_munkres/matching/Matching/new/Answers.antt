@@ -1,7 +1,7 @@
 use Rattle.std.proofs.Common.{rules, ◌≡◌, ap, sym, subst, ◌∙◌, ℕ, None}
 use Rattle.std.specs.Prelude.{pos}
 use Rattle.pf_graph.specs.Assignments.{number}
-use Rattle.pf_graph.specs.AssignmentSteps.{holder}
+use Rattle.pf_graph.specs.Internal.AssignmentSteps.{holder}
 use Rattle.pf_graph.proofs.MatchingNumbers.{holder-push_none, number-push_zero}
 use Rattle.pf_graph.proofs.kuhn_munkres.matching.Matching.new.Goals as goal
 

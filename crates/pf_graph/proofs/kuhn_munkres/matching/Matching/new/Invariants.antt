@@ -1,7 +1,7 @@
 use Rattle.std.proofs.Common.{◌≡◌, ℕ, length, None}
 use Rattle.std.specs.Prelude.{pos}
 use Rattle.pf_graph.specs.Assignments.{number}
-use Rattle.pf_graph.specs.AssignmentSteps.{holder}
+use Rattle.pf_graph.specs.Internal.AssignmentSteps.{holder}
 use Rattle.pf_graph.proofs.kuhn_munkres.matching.Matching.new.Given as goal
 
 -- the columns so far have no row and potential zero

@@ -5,8 +5,8 @@ use Rattle.std.specs.HashMap.{HashMap, get}
 use Rattle.std.specs.List.{IsDistinct}
 use Rattle.pf_graph.specs.declared.undirected.union_find.Vertex.{Vertex}
 use Rattle.pf_graph.specs.Joined.{Joined}
-use Rattle.pf_graph.specs.Numbered.{StandsFor}
-use Rattle.pf_graph.specs.UnionFind.{IsSound, IsLabelling}
+use Rattle.pf_graph.specs.Internal.NumberedEdges.{StandsFor}
+use Rattle.pf_graph.specs.Internal.UnionFind.{IsSound, IsLabelling}
 
 abbrev pub pair_with : {N : Type 0} → ℕ → N → ℕ × N
 pair_with k x = (k, x)
