@@ -241,3 +241,24 @@ negation_fits fits interval t fit r c h l =
     let b0 = b.0 in
     let b1 = b.1 in
     room fits interval t fit 1 (omega arith) _ (omega (arith, ints, b1)) (omega (arith, ints, b0))
+
+-- no row is matched yet
+pub matched_none : {C : Type 0} (value : C → ℤ) (t : NumberTable) (column_of : List ℕ) (row_of : List (Option ℕ)) (us vs : List C) → length column_of ≡ 0 → length row_of ≡ t.columns → length vs ≡ t.columns → ((j : ℕ) → holder row_of j ≡ None) → ((j : ℕ) → number value vs j ≡ pos 0) → IsMatched value t column_of row_of us vs
+matched_none value t column_of row_of us vs none wide long free zero_at = record {
+  matching = record {
+    inside = λ i h. absurd (omega arith);
+    back = λ i h. absurd (omega arith);
+    from = λ i j e. absurd (none_some i (sym (free j) ∙ e));
+  };
+  potential = record {
+    above = λ i j h l. absurd (omega arith);
+    tight = λ i h. absurd (omega arith);
+    positive = λ j h. let z = zero_at j in omega (arith, ints, z);
+    free = λ j h e. zero_at j;
+  };
+  wide = wide;
+  columns = long;
+}
+  where
+    none_some : (i : ℕ) → None ≡ Some i → ⊥
+    none_some i e = cc

@@ -1,8 +1,8 @@
 -- Lemmas on the numbers of a list of costs, and on places in lists.
-use Rattle.std.proofs.Common.{ℕ, zero, suc, ◌+◌, ◌<◌, ◌≡◌, ◌≢◌, refl, sym, ◌∙◌, ap, arith, Bool, true, false, List, [], ◌∷◌, ◌++◌, length, get_or, take, drop, inl, inr, ℤ, Option, None, true≢false}
-use Rattle.std.specs.Prelude.{slice_set, slice_index_or, MatchBool, ◌⊎◌, ◌≤ℤ◌, ◌+ℤ◌, pos}
+use Rattle.std.proofs.Common.{ℕ, zero, suc, ◌+◌, ◌<◌, ◌≡◌, ◌≢◌, refl, sym, ◌∙◌, ap, arith, Bool, true, false, List, [], ◌∷◌, ◌++◌, length, get_or, take, drop, inl, inr, ℤ, true≢false}
+use Rattle.std.specs.Prelude.{slice_set, slice_index_or, MatchBool, ◌⊎◌, ◌≤ℤ◌, ◌+ℤ◌}
 use Rattle.pf_graph.specs.Assignments.{number}
-use Rattle.pf_graph.specs.Internal.AssignmentSteps.{holder, raised}
+use Rattle.pf_graph.specs.Internal.AssignmentSteps.{raised}
 
 pub same_or_not : (j k : ℕ) → (j ≡ k) ⊎ (j ≢ k)
 same_or_not zero zero = inl refl
@@ -87,19 +87,6 @@ raised_true false x by h = absurd (true≢false (sym h))
 pub raised_false : (b : Bool) (x by : ℤ) → b ≡ false → raised b x by ≡ x
 raised_false true x by h = absurd (true≢false h)
 raised_false false x by h = refl
-
--- a write at the end of what is none or zero throughout
-pub holder-push_none : (xs : List (Option ℕ)) → ((j : ℕ) → holder xs j ≡ None) → (j : ℕ) → holder (xs ++ None ∷ []) j ≡ None
-holder-push_none [] h zero = refl
-holder-push_none [] h (suc j) = refl
-holder-push_none (x ∷ xs) h zero = h 0
-holder-push_none (x ∷ xs) h (suc j) = holder-push_none xs (λ k. h (suc k)) j
-
-pub number-push_zero : {C : Type 0} (value : C → ℤ) (xs : List C) (x : C) → value x ≡ pos 0 → ((j : ℕ) → number value xs j ≡ pos 0) → (j : ℕ) → number value (xs ++ x ∷ []) j ≡ pos 0
-number-push_zero value [] x e h zero = e
-number-push_zero value [] x e h (suc j) = refl
-number-push_zero value (y ∷ xs) x e h zero = h 0
-number-push_zero value (y ∷ xs) x e h (suc j) = number-push_zero value xs x e (λ k. h (suc k)) j
 
 -- what a list holds once a slice of its full length was written
 pub refilled : {A : Type 0} (n : ℕ) (ys xs : List A) → length ys ≡ n → length xs ≡ n → take n (ys ++ drop (length ys) xs) ≡ ys

@@ -38,17 +38,16 @@ impl<C: SignedCost, A: Allocator + Copy> Matching<C, A> {
         ensures zero { IfOk result (λ m. (j : ℕ) → number C.value m.column_potentials.items j ≡ pos 0) }
         ensures refused { IfErr result (λ e. e ≡ OutOfMemory) }
     {
-        let mut matching = Matching {
+        let mut row_of = Vec::new(alloc);
+        row_of.resize(columns, None)?;
+        let mut column_potentials = Vec::new(alloc);
+        column_potentials.resize(columns, C::zero())?;
+        Ok(Matching {
             column_of: Vec::new(alloc),
-            row_of: Vec::new(alloc),
+            row_of,
             row_potentials: Vec::new(alloc),
-            column_potentials: Vec::new(alloc),
-        };
-        for _column in 0..columns {
-            matching.row_of.push(None)?;
-            matching.column_potentials.push(C::zero())?;
-        }
-        Ok(matching)
+            column_potentials,
+        })
     }
 }
 

@@ -36,18 +36,18 @@ impl<C: SignedCost, A: Allocator + Copy> Tree<C, A> {
         ensures places { IfOk result (λ tree. length tree.places.items ≡ columns) }
         ensures refused { IfErr result (λ e. e ≡ OutOfMemory) }
     {
-        let mut tree = Tree {
+        let mut visited = Vec::new(alloc);
+        visited.resize(columns, false)?;
+        let mut distances = Vec::new(alloc);
+        distances.resize(columns, C::zero())?;
+        let mut places = Vec::new(alloc);
+        places.resize(columns, 0)?;
+        Ok(Tree {
             rows: Vec::new(alloc),
-            visited: Vec::new(alloc),
-            distances: Vec::new(alloc),
-            places: Vec::new(alloc),
-        };
-        for _column in 0..columns {
-            tree.visited.push(false)?;
-            tree.distances.push(C::zero())?;
-            tree.places.push(0)?;
-        }
-        Ok(tree)
+            visited,
+            distances,
+            places,
+        })
     }
 }
 

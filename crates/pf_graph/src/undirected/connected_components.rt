@@ -14,8 +14,6 @@ use crate::undirected::around::groups_around;
 use crate::undirected::parts::{map_nodes, part_groups};
 pub use crate::undirected::sets::SetIn;
 use crate::undirected::sets::collect_nodes;
-use crate::undirected::union_find::apart;
-use indexmap::IndexSet;
 use pf_base::{PathError, SuccessorFunction};
 use std::alloc::Allocator;
 use std::collections::{HashMap, HashSet};
@@ -43,12 +41,9 @@ where
     ensures mapped { IfOk result (λ r. MapsVertices N.eq groups.now r.1.items r.0) }
     ensures refused { IfErr result (λ e. e ≡ OutOfMemory) }
 {
-    let mut nodes = IndexSet::new(alloc);
-    let mut first = Vec::new(alloc);
-    let mut vertices = apart(alloc, groups.len())?;
-    let ids = part_groups(alloc, &mut nodes, &mut first, &mut vertices, groups)?;
-    let of_vertex = map_nodes(alloc, nodes.as_slice(), &first, &ids)?;
-    Ok((of_vertex, ids))
+    let parted = part_groups(alloc, groups)?;
+    let of_vertex = map_nodes(alloc, parted.nodes.as_slice(), &parted.first, &parted.ids)?;
+    Ok((of_vertex, parted.ids))
 }
 
 /// Puts the nodes of a set into the map, with the index of the set.
@@ -110,11 +105,8 @@ where
     ensures components { IfOk result (λ sets. IsComponents N.eq groups.now sets.items) }
     ensures refused { IfErr result (λ e. e ≡ OutOfMemory) }
 {
-    let mut nodes = IndexSet::new(alloc);
-    let mut first = Vec::new(alloc);
-    let mut vertices = apart(alloc, groups.len())?;
-    let ids = part_groups(alloc, &mut nodes, &mut first, &mut vertices, groups)?;
-    let sets = collect_nodes(alloc, nodes.as_slice(), &first, &ids)?;
+    let parted = part_groups(alloc, groups)?;
+    let sets = collect_nodes(alloc, parted.nodes.as_slice(), &parted.first, &parted.ids)?;
     Ok(sets)
 }
 

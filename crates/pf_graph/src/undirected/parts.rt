@@ -5,7 +5,7 @@ ghost use Rattle.pf_base.specs.declared.error.PathError.TheVariants.{OutOfMemory
 ghost use Rattle.pf_graph.specs.Internal.Parts.{IsGathered, IsIdOf, Identifies, IsParted, MapsByFirst, pair_with, pairs_from};
 ghost use Rattle.pf_graph.specs.Internal.UnionFind.{IsSound, IsLabelling};
 
-use crate::undirected::union_find::{Vertex, find, unite};
+use crate::undirected::union_find::{Vertex, apart, find, unite};
 use indexmap::IndexSet;
 use pf_base::PathError;
 use std::alloc::Allocator;
@@ -123,8 +123,35 @@ where
     Ok(ids)
 }
 
-/// Gathers the groups into parts, and answers their identifiers.
+/// The nodes of groups, the first group that each node stands in, and the identifiers of the groups.
+#[derive(Drop)]
+pub struct Parted<'a, N: Eq + Hash, A: Allocator> {
+    pub nodes: Nodes<'a, N, A>,
+    pub first: Vec<usize, A>,
+    pub ids: Vec<usize, A>,
+}
+
+/// Gathers groups into parts.
 pub fn part_groups<'a, N, A, B>(
+    alloc: A,
+    groups: &'a [Vec<N, B>],
+) -> Result<Parted<'a, N, A>, PathError>
+where
+    N: Eq + Hash,
+    A: Allocator + Copy,
+    B: Allocator,
+    ensures parted { IfOk result (λ parted. IsParted N.eq groups.now parted.nodes.keys parted.first.items parted.ids.items) }
+    ensures refused { IfErr result (λ e. e ≡ OutOfMemory) }
+{
+    let mut nodes = IndexSet::new(alloc);
+    let mut first = Vec::new(alloc);
+    let mut vertices = apart(alloc, groups.len())?;
+    let ids = gather_and_identify(alloc, &mut nodes, &mut first, &mut vertices, groups)?;
+    Ok(Parted { nodes, first, ids })
+}
+
+/// Notes the nodes of all groups, and answers the identifiers of the groups.
+fn gather_and_identify<'a, N, A, B>(
     alloc: A,
     nodes: &mut Nodes<'a, N, A>,
     first: &mut Vec<usize, A>,

@@ -1,5 +1,19 @@
-use Rattle.pf_graph.proofs.UnionFindLemmas.{IsSound-apart}
+use Rattle.std.proofs.Common.{refl, sym, subst, rules}
+use Rattle.pf_graph.specs.declared.undirected.union_find.Vertex.{Vertex}
+use Rattle.pf_graph.proofs.UnionFindLemmas.{IsApart, IsApart-push, IsSound-apart, IsLabelling-apart}
 use Rattle.pf_graph.proofs.undirected.union_find.apart.Goals as goal
+
+pub loop-parent-preserved : goal.loop-parent-preserved
+loop-parent-preserved g c =
+    let i = c.loop-parent.invariant in
+    let v : Vertex = record { parent = c.loop-parent.parent; size = 1 } in
+    record {
+      len = search rules;
+      apart = subst IsApart (sym c.in_ok-push.ensures.items) (IsApart-push c.loop-parent.vertices.items v i.apart (sym i.len) refl);
+    }
 
 pub returns-clause-sound : goal.returns-clause-sound
 returns-clause-sound g c = IsSound-apart c.loop-parent.vertices.items c.loop-parent.invariant.apart
+
+pub returns-clause-labels : goal.returns-clause-labels
+returns-clause-labels g c = IsLabelling-apart c.loop-parent.vertices.items c.loop-parent.invariant.apart

@@ -1,7 +1,7 @@
 use Rattle.std.proofs.Common.{sym, subst, ◌∙◌, []}
 use Rattle.pf_graph.specs.Internal.Parts.{IsGathered}
 use Rattle.pf_graph.proofs.PartLemmas.{IsGathered-none}
-use Rattle.pf_graph.proofs.undirected.parts.part_groups.Goals as goal
+use Rattle.pf_graph.proofs.undirected.parts.gather_and_identify.Goals as goal
 
 pub gather-requires-clause-none : goal.gather-requires-clause-none
 gather-requires-clause-none g c =
