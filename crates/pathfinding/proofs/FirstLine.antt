@@ -2,7 +2,7 @@
 use Rattle.std.proofs.Common.{◌≡◌, ℕ, ◌<◌, List, [], ◌∷◌, map, length, refl, sym, ap, ◌∙◌, arith, true, false, Bool, cond, Some, None, Option}
 use Rattle.std.specs.Str.Parse.{digits_value}
 use Rattle.pathfinding.specs.EdgeText.{Line, Blank, Holds, Bad, Edge, is_gap, is_cost, lines_of, line_of, line_of_fields, said_by}
-use Rattle.pathfinding.specs.Fields.{behind, field_of, behind_field, BeginsWithLine}
+use Rattle.pathfinding.specs.Internal.Fields.{behind, field_of, behind_field, BeginsWithLine}
 use Rattle.pathfinding.proofs.Runs.{end_of_three, line_of-more, line_of-blank, line_of-short, line_of-three}
 use Rattle.pathfinding.proofs.Lines.{has_lines, field_run, gap_run}
 

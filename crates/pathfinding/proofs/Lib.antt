@@ -6,8 +6,6 @@ pub mod Numbering
 pub mod Counting
 pub mod Costless
 pub mod Naming
-pub mod Callers
-pub mod Rows
 pub mod NameGraph
 pub mod Networks
 pub mod SpanningLemmas

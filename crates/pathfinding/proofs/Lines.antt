@@ -5,7 +5,7 @@ use Rattle.std.specs.Str.Lines.{strip_carriage_return}
 use Rattle.std.proofs.lemmas.List.Splits.{slice_split-cons_yes, slice_split-cons_no}
 use Rattle.std.proofs.lemmas.Bool.Decides.{nat_tests}
 use Rattle.pathfinding.specs.EdgeText.{lines_of, is_gap, is_visible}
-use Rattle.pathfinding.specs.Fields.{front, behind, field_of, behind_field, BeginsWithLine}
+use Rattle.pathfinding.specs.Internal.Fields.{front, behind, field_of, behind_field, BeginsWithLine}
 use Rattle.pathfinding.proofs.Runs.{front-yes, front-no, behind-yes, behind-no}
 
 abbrev is_feed : ℕ → Bool

@@ -8,15 +8,15 @@ use Rattle.std.specs.Int.{FitsUnsignedBits}
 use Rattle.std.proofs.lemmas.Slice.Eq.{bytes_eq-Decides}
 use Rattle.std.proofs.lemmas.Map.Keys.{IsDistinct-head, IsDistinct-tail}
 use Rattle.std.proofs.lemmas.Bool.Decides.{nat_tests}
+use borrow.Author.Tests.{eqb-true}
 use Rattle.pathfinding.specs.EdgeText.{Edge}
 use Rattle.pathfinding.specs.Roads.{edges_from, HasNoWalk, IsCheapestPath, HasCostOverflow, IsShortestPath}
-use Rattle.pathfinding.specs.Links.{name_at, edge_between, edges_between, AllBelow, links_from, steps_from}
-use Rattle.pathfinding.specs.Numbers.{edges_of}
+use Rattle.pathfinding.specs.Internal.Links.{name_at, edge_between, edges_between, AllBelow, links_from, steps_from}
+use Rattle.pathfinding.specs.Internal.Numbers.{edges_of}
 use Rattle.pathfinding.specs.declared.routes.links.Link.{Link}
 use Rattle.pf_base.specs.Walks.{HasNoGoalWalk, IsGoalWalk}
 use Rattle.pf_base.specs.Edges.{IsSuccessor, IsBestGoalPath, IsPastRange}
 use Rattle.pf_base.specs.Successors.{IsShortestGoalPath}
-use Rattle.pathfinding.proofs.Callers.{nat_same}
 use Rattle.pathfinding.proofs.Costless.{targets_of}
 use Rattle.pathfinding.proofs.Naming.{AllNodes, AllTargets, goal_known, IsNaming, none_named, best_named, shortest_named, past_named}
 use Rattle.pathfinding.proofs.Numbering.{below-tail}
@@ -111,7 +111,7 @@ module _ (keys : List (Bor (List ℕ))) (distinct : IsDistinct same_key keys) (l
   naming : IsNaming nat_eq bytes_eq (name_at keys) (λ n. n < length keys) numbered (edges_from (edges_between keys links))
   naming = record {
     same = names-same keys distinct;
-    spread = λ a b p h. subst (λ n. n < length keys) (nat_same a b h) p;
+    spread = λ a b p h. subst (λ n. n < length keys) (eqb-true a b h) p;
     decides = λ x y. (bytes_eq-Decides x y).0;
     targets = λ a lt. subst (λ l. AllTargets (λ n. n < length keys) (edges_of l)) (sym (rows a lt)) (all-targets (length keys) (steps_from a links) (targets-below (length keys) links below a));
     carried = λ a lt. carried-links keys distinct links below a lt ∙ sym (ap (λ l. map (λ (e : ℕ × ℤ). (name_at keys e.0, e.1)) (edges_of l)) (rows a lt));

@@ -3,11 +3,11 @@ use Rattle.std.proofs.Common.{◌≡◌, ℕ, zero, suc, ◌<◌, ◌==◌, nat_
 use Rattle.std.specs.Prelude.{All}
 use Rattle.pathfinding.specs.EdgeText.{Edge}
 use Rattle.pathfinding.specs.Roads.{HasNoWalk, IsCheapestPath, HasCostOverflow, IsShortestPath}
-use Rattle.pathfinding.specs.Graph.{row_of, node_count}
-use Rattle.pathfinding.specs.Links.{name_at}
-use Rattle.pathfinding.specs.NameTable.{name_in, table_len}
-use Rattle.pathfinding.specs.Numbers.{numbered_edges, HasNoNumberedWalk, IsCheapestNumberedPath, HasNumberedOverflow, IsShortestNumberedPath}
-use Rattle.pathfinding.specs.Network.{StandsFor}
+use Rattle.pathfinding.specs.Internal.Graph.{row_of, node_count}
+use Rattle.pathfinding.specs.Internal.Links.{name_at}
+use Rattle.pathfinding.specs.Internal.NameTable.{name_in, table_len}
+use Rattle.pathfinding.specs.Internal.Numbers.{numbered_edges, HasNoNumberedWalk, IsCheapestNumberedPath, HasNumberedOverflow, IsShortestNumberedPath}
+use Rattle.pathfinding.specs.Internal.Network.{StandsFor}
 use Rattle.pathfinding.specs.declared.routes.network.Network.{Network}
 use Rattle.pathfinding.proofs.Costless.{goal_costed}
 use Rattle.pathfinding.proofs.Naming.{AllNodes}

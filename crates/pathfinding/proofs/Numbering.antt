@@ -5,9 +5,9 @@ use Rattle.std.specs.List.{position_from, filter_map, AllZip}
 use Rattle.std.proofs.lemmas.Iterator.Adapters.{position_from-zero}
 use Rattle.std.proofs.lemmas.List.{map-append, take_more}
 use Rattle.pathfinding.specs.EdgeText.{Edge, Line, Blank, Holds, Bad, line_of, said_by, is_bad, edge_in, first_bad_or, edge_text}
-use Rattle.pathfinding.specs.Fields.{lines_left}
-use Rattle.pathfinding.specs.Links.{name_at, edge_between, edges_between, AllBelow, KeepsNames, IsNumberOf}
-use Rattle.pathfinding.specs.Parsed.{edge_read, AreEndsOf}
+use Rattle.pathfinding.specs.Internal.Fields.{lines_left}
+use Rattle.pathfinding.specs.Internal.Links.{name_at, edge_between, edges_between, AllBelow, KeepsNames, IsNumberOf}
+use Rattle.pathfinding.specs.Internal.Parsed.{edge_read, AreEndsOf}
 use Rattle.pathfinding.specs.declared.routes.links.Link.{Link}
 use Rattle.pathfinding.specs.declared.routes.links.Ends.{Ends}
 use Rattle.pathfinding.specs.declared.routes.text.NamedEdge.{NamedEdge}

@@ -8,7 +8,7 @@ use Rattle.std.proofs.lemmas.Bool.Decides.{nat_tests}
 use Rattle.std.proofs.lemmas.Option.{cond_some}
 use Rattle.std.proofs.lemmas.List.{drop_all}
 use Rattle.pathfinding.specs.EdgeText.{is_gap, is_visible, fields_of, line_of, line_of_fields, Blank, Bad}
-use Rattle.pathfinding.specs.Fields.{front, behind, field_of, behind_field}
+use Rattle.pathfinding.specs.Internal.Fields.{front, behind, field_of, behind_field}
 
 -- a byte that may stand on a line of an edge
 abbrev pub is_plain : ℕ → Bool

@@ -11,9 +11,10 @@ use Rattle.std.proofs.lemmas.Bool.Decides.{nat_tests}
 use Rattle.pf_graph.specs.Spanning.{IsForest, IsLeastUnderEveryBound, AreChosenFrom, AreBelow, AreNamedApart, named}
 use Rattle.pf_graph.proofs.Renaming.{forest_named, least_named}
 use Rattle.pathfinding.specs.EdgeText.{Edge}
-use Rattle.pathfinding.specs.Links.{name_at, edge_between, edges_between}
-use Rattle.pathfinding.specs.Network.{LinksEdges}
-use Rattle.pathfinding.specs.SpanningText.{weighed_edge, weighed_link, edge_line, numbered_line, AreInTable, AreSpanningLines}
+use Rattle.pathfinding.specs.Internal.Links.{name_at, edge_between, edges_between}
+use Rattle.pathfinding.specs.Internal.Network.{LinksEdges}
+use Rattle.pathfinding.specs.SpanningText.{weighed_edge, edge_line, AreSpanningLines}
+use Rattle.pathfinding.specs.Internal.NumberedLines.{weighed_link, numbered_line, AreInTable}
 use Rattle.pathfinding.specs.declared.routes.links.Link.{Link}
 use Rattle.pathfinding.specs.declared.routes.network.Linked.{Linked}
 use Rattle.pathfinding.proofs.NameGraph.{names-same, names-equivalence}

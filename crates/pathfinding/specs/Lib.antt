@@ -19,11 +19,4 @@ pub mod AnswerText
 pub mod Noted
 pub mod Written
 pub mod Run
-pub mod Fields
-pub mod Parsed
-pub mod Heads
-pub mod Links
-pub mod NameTable
-pub mod Graph
-pub mod Numbers
-pub mod Network
+pub mod Internal

@@ -2,10 +2,11 @@
 #![tactic(auto)]
 
 pub mod directed;
+mod macros;
 pub mod matrix;
 pub mod prelude;
 pub mod routes;
 pub mod undirected;
 
-pub use pf_base::{NodeRefs, utils};
+pub use pf_base::{NodeRefs, cost, error, functions, noderefs, utils};
 pub use pf_graph::kuhn_munkres;

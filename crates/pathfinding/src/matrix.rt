@@ -2,5 +2,5 @@
 
 pub use pf_matrix::{
     ColumnIterator, Items, ItemsMut, Keys, Matrix, MatrixFormatError, Neighbours, RowIterator,
-    directions, laws,
+    directions, from_slices, laws,
 };

@@ -13,16 +13,16 @@ mod network;
 mod noting;
 mod reading;
 mod search;
+mod sink;
+mod source;
 mod spanning;
 mod steps;
-#[cfg(test)]
-mod tests;
 mod text;
 mod words;
 mod writing;
 
 pub use commands::Command;
-pub use engine::run;
+pub use engine::{run, run_with_hasher};
 pub use error::RouteError;
 pub use noting::Noted;
 pub use words::command;

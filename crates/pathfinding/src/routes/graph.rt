@@ -1,7 +1,7 @@
 //! A graph of numbered nodes in two vectors.
 
 ghost use Rattle.std.specs.Prelude.{◌≡◌, ℕ, ◌^◌, ◌+◌, ◌<◌, ◌≤◌, IfOk, vec_len, slice_index};
-ghost use Rattle.pathfinding.specs.Links.{AllBelow, steps_from};
+ghost use Rattle.pathfinding.specs.Internal.Links.{AllBelow, steps_from};
 
 use crate::routes::links::Link;
 use crate::routes::steps::{Step, offsets_of, place_steps};
@@ -18,7 +18,7 @@ pub(crate) struct Graph<A: Allocator + Copy> {
 }
 
 impl<A: Allocator + Copy> Graph<A> {
-    ghost use Rattle.pathfinding.specs.Graph.{row_of, node_count};
+    ghost use Rattle.pathfinding.specs.Internal.Graph.{row_of, node_count};
 
     /// The graph of these links between nodes below `count`.
     pub(crate) fn new(alloc: A, count: usize, links: &[Link]) -> Result<Self, AllocError>

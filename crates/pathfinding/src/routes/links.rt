@@ -3,15 +3,15 @@
 ghost use Rattle.std.specs.Prelude.{◌≡◌, ◌<◌, ◌≤◌, [], ◌∷◌, ◌++◌, map, length, Ok, IfOk, OnOk, IfErr, IsTrue};
 ghost use Rattle.std.specs.List.{AllZip};
 ghost use Rattle.pathfinding.specs.EdgeText.{edge_text};
-ghost use Rattle.pathfinding.specs.Links.{name_at, edges_between, AllBelow, KeepsNames, IsNumberOf};
-ghost use Rattle.pathfinding.specs.Parsed.{RefusesText, edge_read, edges_taken, AreEndsOf};
+ghost use Rattle.pathfinding.specs.Internal.Links.{name_at, edges_between, AllBelow, KeepsNames, IsNumberOf};
+ghost use Rattle.pathfinding.specs.Internal.Parsed.{RefusesText, edge_read, edges_taken, AreEndsOf};
 
 use crate::routes::error::RouteError;
 use crate::routes::name::Name;
 use crate::routes::text::{NamedEdge, ReadLine, read_line};
 use indexmap::IndexSet;
 use std::alloc::{AllocError, AllocFailed, Allocator};
-use std::hash::{BuildHasherDefault, FoldHasher};
+use std::hash::BuildHasher;
 
 /// How many edges are read before their names are numbered.
 ///
@@ -20,7 +20,7 @@ use std::hash::{BuildHasherDefault, FoldHasher};
 const BLOCK: usize = 64;
 
 /// Names, each once. The number of a name is its place.
-pub(crate) type Names<'a, A> = IndexSet<Name<'a>, BuildHasherDefault<FoldHasher>, A>;
+pub(crate) type Names<'a, S, A> = IndexSet<Name<'a>, S, A>;
 
 /// An edge between two numbers. An `IndexSet` gives no number that 32 bits do not hold, and a text has
 /// many edges.
@@ -32,8 +32,8 @@ pub(crate) struct Link {
 }
 
 /// The number of a name, which is added if it is new.
-pub(crate) fn number<'a, A: Allocator + Copy>(
-    names: &mut Names<'a, A>,
+pub(crate) fn number<'a, S: BuildHasher, A: Allocator + Copy>(
+    names: &mut Names<'a, S, A>,
     name: &'a [u8],
 ) -> Result<usize, AllocFailed<Name<'a>>>
     ensures within { IfOk result (λ n. n < length names.new.keys) }
@@ -52,7 +52,10 @@ struct Ends {
 }
 
 /// The number of a name, where it has one.
-fn known_number<A: Allocator + Copy>(names: &Names<'_, A>, name: &Name<'_>) -> Option<usize>
+fn known_number<S: BuildHasher, A: Allocator + Copy>(
+    names: &Names<'_, S, A>,
+    name: &Name<'_>,
+) -> Option<usize>
     ensures { IsNumberOf names.now.keys name.now.now result }
 {
     names.get_index_of(name)
@@ -68,8 +71,8 @@ fn meets(edge: &NamedEdge<'_>, before: &NamedEdge<'_>) -> bool {
 
 /// The numbers that the names of an edge have so far. None is told where it meets the edge before it,
 /// by which it is soon numbered.
-fn ends_unless_near<A: Allocator + Copy>(
-    names: &Names<'_, A>,
+fn ends_unless_near<S: BuildHasher, A: Allocator + Copy>(
+    names: &Names<'_, S, A>,
     edge: &NamedEdge<'_>,
     before: &NamedEdge<'_>,
 ) -> Ends
@@ -87,9 +90,9 @@ fn ends_unless_near<A: Allocator + Copy>(
 }
 
 /// The numbers that the names of the edges have so far, of each edge that does not meet the one before.
-fn known_ends<A: Allocator + Copy>(
+fn known_ends<S: BuildHasher, A: Allocator + Copy>(
     alloc: A,
-    names: &Names<'_, A>,
+    names: &Names<'_, S, A>,
     edges: &[NamedEdge<'_>],
 ) -> Result<Vec<Ends, A>, AllocError>
     ensures { IfOk result (λ ends. AllZip (AreEndsOf names.now.keys) edges.now ends.items) }
@@ -103,7 +106,11 @@ fn known_ends<A: Allocator + Copy>(
 }
 
 /// Is this the name of the number?
-fn is_named<A: Allocator + Copy>(names: &Names<'_, A>, number: usize, name: &Name<'_>) -> bool
+fn is_named<S: BuildHasher, A: Allocator + Copy>(
+    names: &Names<'_, S, A>,
+    number: usize,
+    name: &Name<'_>,
+) -> bool
     ensures { IsTrue result → (number < length names.now.keys) × (name_at names.now.keys number ≡ name.now.now) }
 {
     match names.get_index(number) {
@@ -113,8 +120,8 @@ fn is_named<A: Allocator + Copy>(names: &Names<'_, A>, number: usize, name: &Nam
 }
 
 /// The number of a name, which is added if it is new. The number is likely to be one of these two.
-fn number_near<'a, A: Allocator + Copy>(
-    names: &mut Names<'a, A>,
+fn number_near<'a, S: BuildHasher, A: Allocator + Copy>(
+    names: &mut Names<'a, S, A>,
     name: &Name<'a>,
     first: usize,
     second: usize,
@@ -134,8 +141,8 @@ fn number_near<'a, A: Allocator + Copy>(
 }
 
 /// The same as `number_near`, where the number may be known.
-fn number_unless_known<'a, A: Allocator + Copy>(
-    names: &mut Names<'a, A>,
+fn number_unless_known<'a, S: BuildHasher, A: Allocator + Copy>(
+    names: &mut Names<'a, S, A>,
     name: &Name<'a>,
     known: Option<usize>,
     first: usize,
@@ -168,9 +175,9 @@ fn link_of(source: usize, target: usize, cost: u64) -> Result<Link, RouteError>
 }
 
 /// Adds a link for each of the edges, between the numbers of its names.
-fn link_all<'a, A: Allocator + Copy>(
+fn link_all<'a, S: BuildHasher, A: Allocator + Copy>(
     alloc: A,
-    names: &mut Names<'a, A>,
+    names: &mut Names<'a, S, A>,
     links: &mut Vec<Link, A>,
     edges: &[NamedEdge<'a>],
 ) -> Result<(), RouteError>
@@ -197,9 +204,9 @@ fn link_all<'a, A: Allocator + Copy>(
 }
 
 /// Puts an edge behind those that wait, and adds the links of all that wait once they are a block.
-fn take_edge<'a, A: Allocator + Copy>(
+fn take_edge<'a, S: BuildHasher, A: Allocator + Copy>(
     alloc: A,
-    names: &mut Names<'a, A>,
+    names: &mut Names<'a, S, A>,
     links: &mut Vec<Link, A>,
     waiting: &mut Vec<NamedEdge<'a>, A>,
     edge: NamedEdge<'a>,
@@ -220,9 +227,9 @@ fn take_edge<'a, A: Allocator + Copy>(
 }
 
 /// A link for each edge of the text, between the numbers of its names.
-pub(crate) fn read_links<'a, A: Allocator + Copy>(
+pub(crate) fn read_links<'a, S: BuildHasher, A: Allocator + Copy>(
     alloc: A,
-    names: &mut Names<'a, A>,
+    names: &mut Names<'a, S, A>,
     text: &'a [u8],
 ) -> Result<Vec<Link, A>, RouteError>
     ensures edges { IfOk result (λ links. edge_text text.now ≡ Ok (edges_between names.new.keys links.items)) }

@@ -6,8 +6,8 @@ ghost use Rattle.std.specs.Int.Digits.{AllBelowBase};
 ghost use Rattle.std.specs.Str.{bytes_eq};
 ghost use Rattle.std.specs.Ordering.{on};
 ghost use Rattle.std.proofs.Common.{rules};
-ghost use Rattle.pathfinding.specs.Heads.{head_of, name_input};
-ghost use Rattle.pathfinding.specs.Heads.Laws.{same_input};
+ghost use Rattle.pathfinding.specs.Internal.Heads.{head_of, name_input};
+ghost use Rattle.pathfinding.specs.Internal.Heads.Laws.{same_input};
 
 use std::hash::{Hash, Hasher};
 use std::marker::Model;
@@ -28,7 +28,7 @@ impl<'a> Model for Name<'a> {
     ghost use Rattle.std.specs.Prelude.{◌≡◌, ℕ, List, take};
     ghost use Rattle.std.specs.Int.Digits.{AllBelowBase};
     ghost use Rattle.std.specs.Borrow.{Bor};
-    ghost use Rattle.pathfinding.specs.Heads.{head_of};
+    ghost use Rattle.pathfinding.specs.Internal.Heads.{head_of};
 
     ghost Value = { Bor (List ℕ) };
 

@@ -19,7 +19,7 @@ pub(crate) struct NameTable<A: Allocator + Copy> {
 }
 
 impl<A: Allocator + Copy> NameTable<A> {
-    ghost use Rattle.pathfinding.specs.NameTable.{HoldsNames, name_in, table_len};
+    ghost use Rattle.pathfinding.specs.Internal.NameTable.{HoldsNames, name_in, table_len};
 
     /// The table of these names.
     pub(crate) fn of(alloc: A, names: &[Name<'_>]) -> Result<Self, AllocError>

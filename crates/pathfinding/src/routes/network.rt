@@ -1,7 +1,7 @@
 //! Edges as a graph of numbered names.
 
 ghost use Rattle.std.specs.Prelude.{IfOk, IfErr};
-ghost use Rattle.pathfinding.specs.Parsed.{HoldsOfEdges, RefusesText};
+ghost use Rattle.pathfinding.specs.Internal.Parsed.{HoldsOfEdges, RefusesText};
 
 use crate::routes::error::RouteError;
 use crate::routes::graph::Graph;
@@ -9,6 +9,7 @@ use crate::routes::links::{Link, number, read_links};
 use crate::routes::name_table::NameTable;
 use indexmap::IndexSet;
 use std::alloc::Allocator;
+use std::hash::BuildHasher;
 
 /// Names, and the links between their numbers.
 #[derive(Drop)]
@@ -18,14 +19,18 @@ pub(crate) struct Linked<A: Allocator + Copy> {
 }
 
 impl<A: Allocator + Copy> Linked<A> {
-    ghost use Rattle.pathfinding.specs.Network.{LinksEdges};
+    ghost use Rattle.pathfinding.specs.Internal.Network.{LinksEdges};
 
     /// The edges of a text, by the numbers of their names.
-    pub(crate) fn read(alloc: A, text: &[u8]) -> Result<Self, RouteError>
+    pub(crate) fn read<S: BuildHasher + Drop>(
+        alloc: A,
+        text: &[u8],
+        hash_builder: S,
+    ) -> Result<Self, RouteError>
         ensures ok { IfOk result (λ linked. HoldsOfEdges text.now (λ edges. LinksEdges linked edges)) }
         ensures err { IfErr result (λ e. RefusesText e text.now) }
     {
-        let mut names = IndexSet::new(alloc);
+        let mut names = IndexSet::with_hasher(alloc, hash_builder);
         let links = read_links(alloc, &mut names, text)?;
         let names = NameTable::of(alloc, names.as_slice())?;
         Ok(Linked { names, links })
@@ -42,14 +47,20 @@ struct Numbered<A: Allocator + Copy> {
 }
 
 impl<A: Allocator + Copy> Numbered<A> {
-    ghost use Rattle.pathfinding.specs.Network.{NumbersEdges};
+    ghost use Rattle.pathfinding.specs.Internal.Network.{NumbersEdges};
 
     /// The edges of a text, by the numbers of their names.
-    fn read(alloc: A, from: &[u8], to: &[u8], text: &[u8]) -> Result<Self, RouteError>
+    fn read<S: BuildHasher + Drop>(
+        alloc: A,
+        from: &[u8],
+        to: &[u8],
+        text: &[u8],
+        hash_builder: S,
+    ) -> Result<Self, RouteError>
         ensures ok { IfOk result (λ numbered. HoldsOfEdges text.now (λ edges. NumbersEdges numbered edges from.now to.now)) }
         ensures err { IfErr result (λ e. RefusesText e text.now) }
     {
-        let mut names = IndexSet::new(alloc);
+        let mut names = IndexSet::with_hasher(alloc, hash_builder);
         let from = number(&mut names, from)?;
         let to = number(&mut names, to)?;
         let links = read_links(alloc, &mut names, text)?;
@@ -73,19 +84,20 @@ pub(crate) struct Network<A: Allocator + Copy> {
 }
 
 impl<A: Allocator + Copy> Network<A> {
-    ghost use Rattle.pathfinding.specs.Network.{StandsFor};
+    ghost use Rattle.pathfinding.specs.Internal.Network.{StandsFor};
 
     /// The network of the edges of a text.
-    pub(crate) fn read(
+    pub(crate) fn read<S: BuildHasher + Drop>(
         alloc: A,
         from: &[u8],
         to: &[u8],
         text: Vec<u8, A>,
+        hash_builder: S,
     ) -> Result<Self, RouteError>
         ensures ok { IfOk result (λ network. HoldsOfEdges text.items (λ edges. StandsFor network edges from.now to.now)) }
         ensures err { IfErr result (λ e. RefusesText e text.items) }
     {
-        let numbered = Numbered::read(alloc, from, to, text.as_slice())?;
+        let numbered = Numbered::read(alloc, from, to, text.as_slice(), hash_builder)?;
         // The text is given back before the graph takes its memory.
         drop(text);
         let Numbered {

@@ -1,8 +1,8 @@
 //! Searches on a graph of numbered nodes.
 
 ghost use Rattle.std.specs.Prelude.{◌≡◌, ◌⊎◌, ℕ, ◌<◌, IfOk, IfErr, MatchOption, All};
-ghost use Rattle.pathfinding.specs.Graph.{row_of, node_count};
-ghost use Rattle.pathfinding.specs.Numbers.{HasNoNumberedWalk, IsCheapestNumberedPath, HasNumberedOverflow, IsShortestNumberedPath};
+ghost use Rattle.pathfinding.specs.Internal.Graph.{row_of, node_count};
+ghost use Rattle.pathfinding.specs.Internal.Numbers.{HasNoNumberedWalk, IsCheapestNumberedPath, HasNumberedOverflow, IsShortestNumberedPath};
 
 use crate::routes::error::RouteError;
 use crate::routes::graph::Graph;
@@ -45,7 +45,7 @@ pub(crate) fn fewest_edges_path<A: Allocator + Copy>(
         (λ path. IsShortestNumberedPath graph.now from to path.items)) }
     ensures err { IfErr result (λ e. e ≡ RouteError.OutOfMemory) }
 {
-    // Neither call has another error than want of memory.
+    // Neither call has another error than out of memory.
     let Ok(starts) = NodeRefs::from_one(alloc, &from) else {
         return Err(RouteError::OutOfMemory);
     };

@@ -2,9 +2,10 @@
 
 ghost use Rattle.std.specs.Prelude.{◌≡◌, ◌++◌, ◌<◌, map, IfOk, IfErr, OnOk};
 ghost use Rattle.std.specs.List.{flat_map};
-ghost use Rattle.pathfinding.specs.NameTable.{table_len};
-ghost use Rattle.pathfinding.specs.Parsed.{HoldsOfEdges, RefusesText};
-ghost use Rattle.pathfinding.specs.SpanningText.{AreInTable, AreSpanningLines, numbered_line, weighed_link};
+ghost use Rattle.pathfinding.specs.Internal.NameTable.{table_len};
+ghost use Rattle.pathfinding.specs.Internal.Parsed.{HoldsOfEdges, RefusesText};
+ghost use Rattle.pathfinding.specs.SpanningText.{AreSpanningLines};
+ghost use Rattle.pathfinding.specs.Internal.NumberedLines.{AreInTable, numbered_line, weighed_link};
 
 use crate::routes::error::RouteError;
 use crate::routes::links::Link;
@@ -12,6 +13,7 @@ use crate::routes::name_table::NameTable;
 use crate::routes::network::Linked;
 use pf_graph::undirected::kruskal::{KruskalIndices, kruskal_indices};
 use std::alloc::{AllocError, Allocator};
+use std::hash::BuildHasher;
 
 /// An edge between two numbers, and its weight.
 type WeighedEdge = (usize, usize, u64);
@@ -65,19 +67,20 @@ fn write_edges<A: Allocator + Copy>(
 }
 
 /// The lines of spanning edges of least weight, by rising weight.
-pub(crate) fn spanning_lines<A: Allocator + Copy>(
+pub(crate) fn spanning_lines<S: BuildHasher + Drop, A: Allocator + Copy>(
     alloc: A,
     text: Vec<u8, A>,
+    hash_builder: S,
 ) -> Result<Vec<u8, A>, RouteError>
     ensures ok { IfOk result (λ lines. HoldsOfEdges text.items (λ edges. AreSpanningLines edges lines.items)) }
     ensures err { IfErr result (λ e. RefusesText e text.items) }
 {
-    let Linked { names, links } = Linked::read(alloc, text.as_slice())?;
+    let Linked { names, links } = Linked::read(alloc, text.as_slice(), hash_builder)?;
     // What is not needed any more is given back before the next table is made.
     drop(text);
     let edges = weigh(alloc, links.as_slice())?;
     drop(links);
-    // All ends are numbers of names, so the only refusal is want of memory.
+    // All ends are numbers of names, so the only refusal is out of memory.
     let Ok(chosen) = kruskal_indices(alloc, names.len(), edges.as_slice()) else {
         return Err(RouteError::OutOfMemory);
     };

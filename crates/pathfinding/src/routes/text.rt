@@ -7,8 +7,8 @@ ghost use Rattle.std.specs.Prelude.{position, not, ◌≡◌, ℕ, ◌+◌, ◌*
 ghost use Rattle.std.specs.Char.{is_ascii_digit, digit_value};
 ghost use Rattle.std.specs.Str.Parse.{digits_value};
 ghost use Rattle.pathfinding.specs.EdgeText.{Line, is_gap, is_visible, is_cost, lines_of, line_of, said_by, Bad};
-ghost use Rattle.pathfinding.specs.Fields.{front, behind, field_of, behind_field, lines_left, BeginsWithLine};
-ghost use Rattle.pathfinding.specs.Parsed.{line_read};
+ghost use Rattle.pathfinding.specs.Internal.Fields.{front, behind, field_of, behind_field, lines_left, BeginsWithLine};
+ghost use Rattle.pathfinding.specs.Internal.Parsed.{line_read};
 
 use crate::routes::bytes::{is_gap_byte, is_visible_byte};
 use crate::routes::name::Name;

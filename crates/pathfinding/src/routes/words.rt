@@ -42,7 +42,7 @@ fn path_command(name: &str, from: String, to: String) -> Option<Command>
 /// The command that the words after the program's name spell, as `dijkstra A B`, `bfs A B` or
 /// `kruskal`.
 ///
-/// `None` means wrong words: too few or too many of them, an unknown command, or a name that is not
+/// `None` means a usage error: too few or too many words, an unknown command, or a name that is not
 /// one or more of the bytes `!` to `~`. No memory is taken.
 pub fn command(words: Vec<String>) -> Option<Command>
     ensures spelled { IsSome result ↔ IsTrue (is_command (map string_bytes words.items)) }

@@ -1,10 +1,10 @@
 use Rattle.std.proofs.Common.{◌≡◌, ◌⊎◌, ℕ, List, ◌<◌, ap, ◌∙◌, inl, inr, map, sym, subst}
 use Rattle.std.specs.Prelude.{All}
 use Rattle.pathfinding.specs.EdgeText.{Edge}
-use Rattle.pathfinding.specs.Links.{name_at}
-use Rattle.pathfinding.specs.NameTable.{name_in, table_len}
+use Rattle.pathfinding.specs.Internal.Links.{name_at}
+use Rattle.pathfinding.specs.Internal.NameTable.{name_in, table_len}
 use Rattle.pathfinding.specs.AnswerText.{path_line}
-use Rattle.pathfinding.specs.Parsed.{RefusesAnswer, HoldsOfEdges}
+use Rattle.pathfinding.specs.Internal.Parsed.{RefusesAnswer, HoldsOfEdges}
 use Rattle.pathfinding.specs.Roads.{HasCostOverflow}
 use Rattle.pathfinding.specs.declared.routes.error.RouteError.{RouteError}
 use Rattle.pathfinding.specs.declared.routes.error.RouteError.TheVariants.{OutOfMemory, CostOverflow}

@@ -1,10 +1,10 @@
 use Rattle.std.proofs.Common.{◌≡◌, ℕ, List, ◌<◌, ◌-◌, arith, ap, ◌∙◌, inl, inr, map, sym, subst}
 use Rattle.std.specs.Prelude.{All}
 use Rattle.std.proofs.lemmas.List.{length-map}
-use Rattle.pathfinding.specs.Links.{name_at}
-use Rattle.pathfinding.specs.NameTable.{name_in, table_len}
+use Rattle.pathfinding.specs.Internal.Links.{name_at}
+use Rattle.pathfinding.specs.Internal.NameTable.{name_in, table_len}
 use Rattle.pathfinding.specs.AnswerText.{path_line}
-use Rattle.pathfinding.specs.Parsed.{RefusesText}
+use Rattle.pathfinding.specs.Internal.Parsed.{RefusesText}
 use Rattle.pathfinding.specs.declared.routes.error.RouteError.{RouteError}
 use Rattle.pathfinding.specs.declared.routes.error.RouteError.TheVariants.{OutOfMemory}
 use Rattle.pathfinding.proofs.Networks.{targets, has_no_walk, is_shortest, shortest-below, shortest-some, in_table, path_named}

@@ -4,7 +4,7 @@ use Rattle.std.specs.List.{flat_map}
 use Rattle.std.specs.Fmt.{decimal}
 use Rattle.std.proofs.lemmas.List.{map-append, take_more}
 use Rattle.std.proofs.lemmas.Grind.{flat_map-append}
-use Rattle.pathfinding.specs.NameTable.{name_in}
+use Rattle.pathfinding.specs.Internal.NameTable.{name_in}
 use Rattle.pathfinding.proofs.routes.answers.write_path.Goals as goal
 
 abbrev spaced : List (List ℕ) → List ℕ

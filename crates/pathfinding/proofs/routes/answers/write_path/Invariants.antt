@@ -3,7 +3,7 @@ use Rattle.std.proofs.Common.{◌≡◌, ◌∷◌, ◌++◌, map, take}
 use Rattle.std.specs.Prelude.{codes}
 use Rattle.std.specs.List.{flat_map}
 use Rattle.std.specs.Fmt.{decimal}
-use Rattle.pathfinding.specs.NameTable.{name_in}
+use Rattle.pathfinding.specs.Internal.NameTable.{name_in}
 use Rattle.pathfinding.proofs.routes.answers.write_path.Given as goal
 
 abbrev pub invariant-loop-node : goal.invariant-loop-node

@@ -1,7 +1,7 @@
 use Rattle.std.proofs.Common.{◌∙◌, ◌++◌, ◌∷◌, [], subst, sym, ap, take}
 use Rattle.std.specs.List.{AllZip}
 use Rattle.std.proofs.lemmas.List.{take_more}
-use Rattle.pathfinding.specs.Parsed.{AreEndsOf}
+use Rattle.pathfinding.specs.Internal.Parsed.{AreEndsOf}
 use Rattle.pathfinding.specs.declared.routes.text.NamedEdge.{NamedEdge}
 use Rattle.pathfinding.proofs.Numbering.{ends-push}
 use Rattle.pathfinding.proofs.routes.links.known_ends.Goals as goal

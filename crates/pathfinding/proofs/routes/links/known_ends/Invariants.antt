@@ -1,6 +1,6 @@
 use Rattle.std.proofs.Common.{take}
 use Rattle.std.specs.List.{AllZip}
-use Rattle.pathfinding.specs.Parsed.{AreEndsOf}
+use Rattle.pathfinding.specs.Internal.Parsed.{AreEndsOf}
 use Rattle.pathfinding.proofs.routes.links.known_ends.Given as goal
 
 abbrev pub invariant-edges : goal.invariant-edges

@@ -4,7 +4,7 @@ use Rattle.std.proofs.lemmas.Option.{slice_get-get_or}
 use Rattle.std.proofs.lemmas.Slice.Eq.{bytes_eq-Decides}
 use Rattle.std.specs.Prelude.{position}
 use Rattle.std.specs.Str.{bytes_eq}
-use Rattle.pathfinding.specs.Links.{IsNumberOf}
+use Rattle.pathfinding.specs.Internal.Links.{IsNumberOf}
 use Rattle.pathfinding.proofs.Numbering.{name_at-key}
 use Rattle.pathfinding.proofs.routes.links.known_number.Goals as goal
 

@@ -1,6 +1,6 @@
 use Rattle.std.proofs.Common.{◌<◌, refl, sym, ap, ◌∙◌, arith, length, map, ◌++◌, ◌∷◌, take, [], append-nil, append_assoc}
-use Rattle.pathfinding.specs.Links.{edges_between}
-use Rattle.pathfinding.specs.Parsed.{edge_read}
+use Rattle.pathfinding.specs.Internal.Links.{edges_between}
+use Rattle.pathfinding.specs.Internal.Parsed.{edge_read}
 use Rattle.pathfinding.specs.declared.routes.links.Link.{Link}
 use Rattle.pathfinding.proofs.Numbering.{keeps-refl, keeps-trans, edges-push, below-more, below-push, taken-more, number-kept, ends-at, ends-length}
 use Rattle.pathfinding.proofs.routes.links.link_all.Goals as goal

@@ -1,7 +1,7 @@
 -- The links stand for the edges so far, behind those of the links before.
 use Rattle.std.proofs.Common.{◌≡◌, ◌++◌, map, take, length}
-use Rattle.pathfinding.specs.Links.{edges_between, AllBelow, KeepsNames}
-use Rattle.pathfinding.specs.Parsed.{edge_read}
+use Rattle.pathfinding.specs.Internal.Links.{edges_between, AllBelow, KeepsNames}
+use Rattle.pathfinding.specs.Internal.Parsed.{edge_read}
 use Rattle.pathfinding.proofs.routes.links.link_all.Given as goal
 
 abbrev pub invariant-edges : goal.invariant-edges

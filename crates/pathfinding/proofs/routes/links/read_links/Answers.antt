@@ -1,7 +1,7 @@
 use Rattle.std.proofs.Common.{◌+◌, ap, ◌∙◌, arith, length, map, ◌++◌}
 use Rattle.pathfinding.specs.EdgeText.{said_by, edge_text}
-use Rattle.pathfinding.specs.Links.{edges_between}
-use Rattle.pathfinding.specs.Parsed.{edge_read, line_read, line_holding, edges_taken}
+use Rattle.pathfinding.specs.Internal.Links.{edges_between}
+use Rattle.pathfinding.specs.Internal.Parsed.{edge_read, line_read, line_holding, edges_taken}
 use Rattle.pathfinding.proofs.Numbering.{keeps-refl, keeps-trans, left_len-next, said_left, text_from, text_from-start, says-edge}
 use Rattle.pathfinding.proofs.routes.links.read_links.Goals as goal
 

@@ -1,8 +1,8 @@
 -- The edges taken and the lines left say what the text does, whatever names follow.
 use Rattle.std.proofs.Common.{◌≡◌, ◌+◌, ◌≤◌, length}
 use Rattle.pathfinding.specs.EdgeText.{edge_text}
-use Rattle.pathfinding.specs.Links.{AllBelow, KeepsNames}
-use Rattle.pathfinding.specs.Parsed.{edges_taken}
+use Rattle.pathfinding.specs.Internal.Links.{AllBelow, KeepsNames}
+use Rattle.pathfinding.specs.Internal.Parsed.{edges_taken}
 use Rattle.pathfinding.proofs.Numbering.{left_len, said_left, text_from}
 use Rattle.pathfinding.proofs.routes.links.read_links.Given as goal
 

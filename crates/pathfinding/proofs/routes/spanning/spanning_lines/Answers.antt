@@ -1,8 +1,9 @@
 use Rattle.std.proofs.Common.{◌≡◌, ℕ, ap, subst, ◌∙◌, nat_eq, map}
 use Rattle.std.specs.Ordering.{nat_cmp}
 use Rattle.pf_graph.specs.Spanning.{IsLeastUnderEveryBound, AreChosenFrom}
-use Rattle.pathfinding.specs.Parsed.{HoldsOfEdges}
-use Rattle.pathfinding.specs.SpanningText.{weighed_link, AreSpanningLines}
+use Rattle.pathfinding.specs.Internal.Parsed.{HoldsOfEdges}
+use Rattle.pathfinding.specs.SpanningText.{AreSpanningLines}
+use Rattle.pathfinding.specs.Internal.NumberedLines.{weighed_link}
 use Rattle.pathfinding.proofs.SpanningLemmas.{chosen_in_table, spanning_written}
 use Rattle.pathfinding.proofs.routes.spanning.spanning_lines.Goals as goal
 

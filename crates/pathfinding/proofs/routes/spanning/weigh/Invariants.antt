@@ -1,5 +1,5 @@
 use Rattle.std.proofs.Common.{◌≡◌, map, take}
-use Rattle.pathfinding.specs.SpanningText.{weighed_link}
+use Rattle.pathfinding.specs.Internal.NumberedLines.{weighed_link}
 use Rattle.pathfinding.proofs.routes.spanning.weigh.Given as goal
 
 abbrev pub invariant-loop-link : goal.invariant-loop-link

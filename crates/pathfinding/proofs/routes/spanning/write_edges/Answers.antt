@@ -4,8 +4,8 @@ use Rattle.std.specs.List.{flat_map}
 use Rattle.std.proofs.lemmas.List.{append_assoc, append-nil}
 use Rattle.std.proofs.lemmas.Grind.{flat_map-append}
 use Rattle.std.proofs.lemmas.List.Elements.{Contains-append_right}
-use Rattle.pathfinding.specs.NameTable.{table_len}
-use Rattle.pathfinding.specs.SpanningText.{numbered_line}
+use Rattle.pathfinding.specs.Internal.NameTable.{table_len}
+use Rattle.pathfinding.specs.Internal.NumberedLines.{numbered_line}
 use Rattle.pathfinding.proofs.SpanningLemmas.{of_all}
 use Rattle.pathfinding.proofs.routes.spanning.write_edges.Goals as goal
 

@@ -1,6 +1,6 @@
 use Rattle.std.proofs.Common.{◌≡◌, ℕ, List, ◌++◌}
 use Rattle.std.specs.List.{flat_map}
-use Rattle.pathfinding.specs.SpanningText.{numbered_line}
+use Rattle.pathfinding.specs.Internal.NumberedLines.{numbered_line}
 use Rattle.pathfinding.proofs.routes.spanning.write_edges.Given as goal
 
 -- the lines of the edges so far

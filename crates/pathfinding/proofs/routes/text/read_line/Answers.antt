@@ -2,7 +2,7 @@ use Rattle.std.proofs.Common.{◌≡◌, ℕ, ◌<◌, ◌≤◌, List, ◌∷�
 use Rattle.std.specs.Prelude.{IfSome}
 use Rattle.std.proofs.lemmas.Bool.Decides.{nat_tests}
 use Rattle.pathfinding.specs.EdgeText.{line_of, is_gap, is_visible}
-use Rattle.pathfinding.specs.Fields.{lines_left, behind, behind_field}
+use Rattle.pathfinding.specs.Internal.Fields.{lines_left, behind, behind_field}
 use Rattle.pathfinding.proofs.Runs.{behind-length}
 use Rattle.pathfinding.proofs.FirstLine.{takes_three, says-more, says-blank, says-short, says-three, three-none, three-some}
 use Rattle.pathfinding.proofs.routes.text.read_line.Goals as goal

@@ -1,5 +1,5 @@
 use Rattle.std.proofs.Common.{◌≡◌, ◌+◌, ◌-◌, ◌<◌, length, get_or, ap, arith}
-use Rattle.pathfinding.specs.Graph.{row_of}
+use Rattle.pathfinding.specs.Internal.Graph.{row_of}
 use Rattle.pathfinding.proofs.Counting.{degree, start_of-next, start_of-bound, start_of-mono}
 use Rattle.pathfinding.proofs.routes.graph.Graph.new.Goals as goal
 

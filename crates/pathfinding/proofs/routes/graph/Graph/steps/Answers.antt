@@ -1,5 +1,5 @@
 use Rattle.std.proofs.Common.{◌≡◌, ℕ, ◌+◌, ◌-◌, List, take, drop, get_or, ap, ◌∙◌, arith}
-use Rattle.pathfinding.specs.Graph.{row_of}
+use Rattle.pathfinding.specs.Internal.Graph.{row_of}
 use Rattle.pathfinding.proofs.Counting.{read_is}
 use Rattle.pathfinding.proofs.routes.graph.Graph.steps.Goals as goal
 

@@ -1,6 +1,6 @@
 use Rattle.std.proofs.Common.{rules, ◌≡◌, ◌≤◌, ℕ, nat_eq, arith, length, true, sym, ◌∙◌}
 use Rattle.std.specs.Str.{bytes_eq}
-use Rattle.pathfinding.specs.Heads.Laws.{heads_decide}
+use Rattle.pathfinding.specs.Internal.Heads.Laws.{heads_decide}
 use Rattle.pathfinding.proofs.routes.name.NamePartialEq.eq.Goals as goal
 
 nat_same : (m n : ℕ) → nat_eq m n ≡ true → m ≡ n

@@ -1,5 +1,5 @@
 use Rattle.std.proofs.Common.{◌≡◌, ℕ, ◌+◌, ◌-◌, List, take, drop, get_or, ap, ◌∙◌, arith}
-use Rattle.pathfinding.specs.NameTable.{name_in}
+use Rattle.pathfinding.specs.Internal.NameTable.{name_in}
 use Rattle.pathfinding.proofs.Counting.{read_is}
 use Rattle.pathfinding.proofs.routes.name_table.NameTable.name.Goals as goal
 

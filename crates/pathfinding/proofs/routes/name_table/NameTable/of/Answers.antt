@@ -1,7 +1,7 @@
 use Rattle.std.proofs.Common.{rules, ◌≡◌, ◌<◌, ◌+◌, ℕ, zero, suc, List, [], ◌∷◌, ◌++◌, take, take_all, length, get_or, refl, sym, ap, ◌∙◌, subst, arith, length-append, Bor}
 use Rattle.std.proofs.lemmas.List.{take_more, length-map}
-use Rattle.pathfinding.specs.Links.{bytes_of}
-use Rattle.pathfinding.specs.NameTable.{name_in}
+use Rattle.pathfinding.specs.Internal.Links.{bytes_of}
+use Rattle.pathfinding.specs.Internal.NameTable.{name_in}
 use Rattle.pathfinding.proofs.Tables.{IsTable, no_rows, row_added}
 use Rattle.pathfinding.proofs.routes.name_table.NameTable.of.Goals as goal
 

@@ -1,5 +1,5 @@
 use Rattle.std.proofs.Common.{take}
-use Rattle.pathfinding.specs.Links.{bytes_of}
+use Rattle.pathfinding.specs.Internal.Links.{bytes_of}
 use Rattle.pathfinding.proofs.Tables.{IsTable}
 use Rattle.pathfinding.proofs.routes.name_table.NameTable.of.Given as goal
 

@@ -4,9 +4,9 @@ use Rattle.std.specs.Borrow.{Bor}
 use Rattle.std.specs.List.{IsDistinct}
 use Rattle.std.specs.Str.{bytes_eq}
 use Rattle.pathfinding.specs.EdgeText.{Edge}
-use Rattle.pathfinding.specs.Graph.{row_of, node_count}
-use Rattle.pathfinding.specs.Links.{name_at, edges_between, AllBelow, steps_from}
-use Rattle.pathfinding.specs.NameTable.{HoldsNames}
+use Rattle.pathfinding.specs.Internal.Graph.{row_of, node_count}
+use Rattle.pathfinding.specs.Internal.Links.{name_at, edges_between, AllBelow, steps_from}
+use Rattle.pathfinding.specs.Internal.NameTable.{HoldsNames}
 use Rattle.pathfinding.specs.declared.routes.links.Link.{Link}
 use Rattle.pathfinding.specs.declared.routes.network.Linked.{Linked}
 use Rattle.pathfinding.specs.declared.routes.network.Numbered.{Numbered}

@@ -4,7 +4,7 @@ use Rattle.pf_base.specs.Walks.{HasNoGoalWalk}
 use Rattle.pf_base.specs.Edges.{IsSuccessor, IsBestGoalPath, IsPastRange}
 use Rattle.pf_base.specs.Successors.{IsShortestGoalPath}
 use Rattle.std.specs.Int.{FitsUnsignedBits}
-use Rattle.pathfinding.specs.Graph.{row_of}
+use Rattle.pathfinding.specs.Internal.Graph.{row_of}
 use Rattle.pathfinding.specs.declared.routes.graph.Graph.{Graph}
 
 -- steps as edges

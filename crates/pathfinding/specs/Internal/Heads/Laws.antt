@@ -4,7 +4,7 @@ use Rattle.std.specs.Int.Digits.{AllBelowBase, number_from_digits_after}
 use Rattle.std.specs.Str.{bytes_eq}
 use Rattle.std.proofs.lemmas.List.{take_all}
 use Rattle.std.proofs.lemmas.Slice.Eq.{bytes_eq-Decides}
-use Rattle.pathfinding.specs.Heads.{head_of, name_input}
+use Rattle.pathfinding.specs.Internal.Heads.{head_of, name_input}
 
 -- numbers are the same where their digits are, and as many
 same_digits : (xs ys : List ℕ) (m n : ℕ) → length xs ≡ length ys → AllBelowBase 256 xs → AllBelowBase 256 ys → number_from_digits_after 256 m xs ≡ number_from_digits_after 256 n ys → (m ≡ n) × (xs ≡ ys)

@@ -1,7 +1,7 @@
 -- What a table of names shows.
 use Rattle.std.specs.Prelude.{◌≡◌, ℕ, ◌<◌, ◌+◌, ◌-◌, List, take, drop, length, vec_len, slice_index}
 use Rattle.std.specs.Borrow.{Bor}
-use Rattle.pathfinding.specs.Links.{name_at}
+use Rattle.pathfinding.specs.Internal.Links.{name_at}
 use Rattle.pathfinding.specs.declared.routes.name_table.NameTable.{NameTable}
 
 abbrev pub table_len : {A : Type 0} → NameTable A → ℕ

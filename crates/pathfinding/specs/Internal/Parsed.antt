@@ -1,7 +1,7 @@
 -- What the code's own types say, in the words of the text.
 use Rattle.std.specs.Prelude.{◌≡◌, ℕ, List, ◌++◌, map, Option, Some, None, Ok, Err, ⊤}
 use Rattle.std.specs.Borrow.{Bor}
-use Rattle.pathfinding.specs.Links.{edges_between, IsNumberOf}
+use Rattle.pathfinding.specs.Internal.Links.{edges_between, IsNumberOf}
 use Rattle.pathfinding.specs.declared.routes.links.Link.{Link}
 use Rattle.pathfinding.specs.declared.routes.links.Ends.{Ends}
 use Rattle.pathfinding.specs.EdgeText.{Edge, Line, Blank, Holds, edge_text}
