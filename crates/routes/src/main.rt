@@ -1,15 +1,18 @@
 //! Reads edge lines from standard input and answers a command about them.
 #![tactic(auto)]
 
-use pathfinding::routes::{Command, Noted, RouteError, command, run};
+mod keyed;
+
+use crate::keyed::Keys;
+use pathfinding::routes::{Command, Noted, RouteError, command, run_with_hasher};
 use std::io::{ErrorKind, Write};
 use std::process::ExitCode;
 use std::{env, io};
 
 const USAGE: &str = "usage: routes COMMAND ..";
 
-/// The command that the words after the program's name spell, or `None` where they are wrong words,
-/// as where one of them is not UTF-8.
+/// The command that the words after the program's name spell, or `None` for a usage error, as where
+/// one of them is not UTF-8.
 fn asked(rt: &HostRuntime) -> Result<Option<Command>, RouteError> {
     match env::args(rt) {
         Ok(args) => {
@@ -26,9 +29,11 @@ fn asked(rt: &HostRuntime) -> Result<Option<Command>, RouteError> {
 
 /// Answers the command over the standard streams.
 fn answer(rt: &HostRuntime, command: &Command) -> Result<(), RouteError> {
+    // The text may come from a stranger, who is not to foresee which names collide.
+    let keys = Keys::new(rt).map_err(|_| RouteError::ReadFailed)?;
     let mut input = Noted::new(rt.reader());
     let mut output = Noted::new(io::writer(rt));
-    run(rt.alloc(), command, &mut input, &mut output)?;
+    run_with_hasher(rt.alloc(), command, &mut input, &mut output, keys)?;
     output.flush().map_err(|_| RouteError::WriteFailed)
 }
 
