@@ -1,0 +1,33 @@
+-- The steps of the inputs: over a square board of heights, which stand row by row in one list, and in rows of edges.
+use Rattle.std.specs.Prelude.{◌+◌, ◌-◌, ◌*◌, ◌+ℤ◌, ◌==◌, ◌&&◌, Bool, ℕ, ℤ, pos, negsuc, List, [], ◌∷◌, Option, map, take, drop, slice_index}
+use Rattle.std.specs.List.{filter_map}
+use Rattle.std.specs.Option.{option_map}
+use Rattle.pf_base.specs.Moves.{below_size, pair_of}
+
+-- whether two cells are one
+abbrev pub same_cell : ℕ × ℕ → ℕ × ℕ → Bool
+same_cell a b = a.0 == b.0 && a.1 == b.1
+
+-- right, down, left, up
+abbrev pub four_directions : List (ℤ × ℤ)
+four_directions = (pos 0, pos 1) ∷ (pos 1, pos 0) ∷ (pos 0, negsuc 0) ∷ (negsuc 0, pos 0) ∷ []
+
+-- the cell that a step leads to, where it is on the board
+abbrev pub entered_cell : ℕ → ℕ × ℕ → ℤ × ℤ → Option (ℕ × ℕ)
+entered_cell size from direction = pair_of (below_size (pos from.0 +ℤ direction.0) size) (below_size (pos from.1 +ℤ direction.1) size)
+
+-- the same cell, with its height
+abbrev pub entered : List ℕ → ℕ → ℕ × ℕ → ℤ × ℤ → Option ((ℕ × ℕ) × ℕ)
+entered heights size from direction = option_map (λ (to : ℕ × ℕ). (to, slice_index heights (to.0 * size + to.1))) (entered_cell size from direction)
+
+-- the steps from a cell, each with what it costs
+abbrev pub steps_from : List ℕ → ℕ → ℕ × ℕ → List ((ℕ × ℕ) × ℤ)
+steps_from heights size cell = map (λ (e : (ℕ × ℕ) × ℕ). (e.0, pos e.1)) (filter_map (entered heights size cell) four_directions)
+
+-- the cells that they lead to
+abbrev pub cells_from : ℕ → ℕ × ℕ → List (ℕ × ℕ)
+cells_from size cell = filter_map (entered_cell size cell) four_directions
+
+-- what stands between the offsets of a node
+abbrev pub row_of : List ℕ → List (ℕ × ℕ) → ℕ → List (ℕ × ℕ)
+row_of offsets edges n = take (slice_index offsets (n + 1) - slice_index offsets n) (drop (slice_index offsets n) edges)

@@ -1,0 +1,35 @@
+//! The inputs of the jobs. Each begins with fresh draws, and makes them in the order in which it has
+//! the numbers.
+
+ghost use Rattle.std.specs.Prelude.{◌≡◌, IfOk, length};
+
+mod board;
+mod edges;
+mod groups;
+mod rows;
+mod table;
+
+use crate::error::BenchError;
+pub use crate::inputs::board::{Board, Cell, Direction};
+pub use crate::inputs::edges::{WeightedEdge, edges, edges_from_first};
+pub use crate::inputs::groups::groups;
+pub use crate::inputs::rows::Rows;
+pub use crate::inputs::table::table;
+use std::alloc::Global;
+
+/// So many values, drawn one after another.
+fn drawn<T: Drop, F: FnMut() -> T>(
+    alloc: Global,
+    count: usize,
+    mut draw: F,
+) -> Result<Vec<T>, BenchError>
+where
+    requires { F.IsAlwaysCallable draw }
+    ensures { IfOk result (λ values. length values.items ≡ count) }
+{
+    let mut values = Vec::with_capacity(alloc, count)?;
+    for place in 0..count {
+        values.push(draw())?;
+    }
+    Ok(values)
+}

@@ -1,0 +1,72 @@
+//! A square board of heights.
+
+ghost use Rattle.std.specs.Prelude.{◌≡◌, ◌<◌, ◌*◌, ◌+ℤ◌, pos, length, IfSome};
+ghost use Rattle.pf_base.specs.Moves.{below_size};
+
+use crate::draw::Draws;
+use crate::error::BenchError;
+use crate::inputs::drawn;
+use std::alloc::Global;
+
+/// Row and column.
+pub type Cell = (usize, usize);
+
+/// Steps down and to the right.
+pub type Direction = (isize, isize);
+
+/// A square of heights, row by row. A step costs the height of the cell that it enters.
+#[derive(Drop)]
+pub struct Board {
+    size: usize,
+    heights: Vec<u8>,
+    ghost from_one: { 0 < size },
+    ghost square: { length heights.items ≡ size * size },
+}
+
+/// The coordinate that a step leads to, where it is below `size`.
+fn moved(from: usize, step: isize, size: usize) -> Option<usize>
+    ensures found { result ≡ below_size (pos from +ℤ step) size }
+    ensures below { IfSome result (λ to. to < size) }
+{
+    let to = from.checked_add_signed(step)?;
+    if to < size { Some(to) } else { None }
+}
+
+impl Board {
+    ghost use Rattle.pf_bench.specs.Steps.{entered, entered_cell};
+
+    /// A board with heights from 1 to 9.
+    pub fn random(alloc: Global, size: usize) -> Result<Board, BenchError>
+        requires { 0 < size }
+    {
+        let Some(cells) = size.checked_mul(size) else {
+            return Err(BenchError::TooLarge);
+        };
+        let mut draws = Draws::new();
+        let heights = drawn(alloc, cells, || 1 + draws.below(9) as u8)?;
+        Ok(Board { size, heights })
+    }
+
+    /// The last cell of the last row.
+    pub fn last_cell(&self) -> Cell {
+        (self.size - 1, self.size - 1)
+    }
+
+    /// The cell that a step leads to, where it is on the board.
+    pub fn enter_cell(&self, from: Cell, direction: Direction) -> Option<Cell>
+        ensures found { result ≡ entered_cell self.now.size from direction }
+        ensures inside { IfSome result (λ to. (to.0 < self.now.size) × (to.1 < self.now.size)) }
+    {
+        let row = moved(from.0, direction.0, self.size)?;
+        let column = moved(from.1, direction.1, self.size)?;
+        Some((row, column))
+    }
+
+    /// The same cell, with its height.
+    pub fn enter(&self, from: Cell, direction: Direction) -> Option<(Cell, u32)>
+        ensures { result ≡ entered self.now.heights.items self.now.size from direction }
+    {
+        let to = self.enter_cell(from, direction)?;
+        Some((to, u32::from(self.heights[to.0 * self.size + to.1])))
+    }
+}

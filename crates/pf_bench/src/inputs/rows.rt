@@ -1,0 +1,61 @@
+//! A directed graph in compact form.
+
+ghost use Rattle.std.specs.Prelude.{◌≡◌, ◌<◌, ◌≤◌, ◌+◌, All, length};
+ghost use Rattle.std.specs.List.Sorted.{IsNonDecreasing};
+
+use crate::draw::Draws;
+use crate::error::BenchError;
+use std::alloc::Global;
+
+/// How many edges are drawn for a node.
+const EDGES: usize = 5;
+
+/// A directed graph on the nodes from 0 on. The edges from node n are those from place `offsets[n]`
+/// up to place `offsets[n + 1]`, each its target and its cost.
+#[derive(Drop)]
+pub struct Rows {
+    offsets: Vec<usize>,
+    edges: Vec<(usize, u32)>,
+    ghost has_a_node: { 1 < length offsets.items },
+    ghost rising: { IsNonDecreasing offsets.items },
+    ghost within: { All (λ o. o ≤ length edges.items) offsets.items },
+    ghost in_range: { All (λ e. e.0 + 1 < length offsets.items) edges.items },
+}
+
+impl Rows {
+    ghost use Rattle.pf_bench.specs.Steps.{row_of};
+
+    /// Each node has 5 edges. Loops and parallel edges occur.
+    pub fn random(alloc: Global, size: usize) -> Result<Rows, BenchError>
+        requires { 0 < size }
+    {
+        let Some(count) = size.checked_mul(EDGES) else {
+            return Err(BenchError::TooLarge);
+        };
+        let mut draws = Draws::new();
+        let mut offsets = Vec::new(alloc);
+        offsets.push(0)?;
+        let mut edges = Vec::with_capacity(alloc, count)?;
+        for node in 0..size {
+            for _edge in 0..EDGES {
+                let target = draws.below(size);
+                edges.push((target, draws.cost()))?;
+            }
+            offsets.push(edges.len())?;
+        }
+        Ok(Rows { offsets, edges })
+    }
+
+    /// The node with the greatest number.
+    pub fn last_node(&self) -> usize {
+        self.offsets.len() - 2
+    }
+
+    /// The edges from a node.
+    pub fn edges_from(&self, node: usize) -> &[(usize, u32)]
+        requires { node + 1 < length self.now.offsets.items }
+        ensures { result.now ≡ row_of self.now.offsets.items self.now.edges.items node }
+    {
+        &self.edges[self.offsets[node]..self.offsets[node + 1]]
+    }
+}
