@@ -26,7 +26,7 @@ impl Keys {
         let both = u128::from_le_bytes(bytes);
         Ok(Keys {
             state: (both & 0xFFFF_FFFF_FFFF_FFFF) as u64,
-            // Only an odd factor keeps apart all numbers that differ.
+            // A factor of 0 would make all numbers collide.
             factor: (both >> 64) as u64 | 1,
         })
     }
