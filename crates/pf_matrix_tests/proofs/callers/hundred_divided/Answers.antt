@@ -1,5 +1,5 @@
 use Rattle.std.proofs.Common.{◌≡◌, ℕ, ◌/◌, rules}
-use Rattle.std.proofs.lemmas.Result.{IfOk-weaker}
+use Rattle.std.proofs.lemmas.Result.{MatchResult-weaker}
 use Rattle.std.proofs.lemmas.Slice.Zip.{AllZip-map}
 use Rattle.pf_matrix.proofs.CallLemmas.{callable_at_each, given_at_each}
 use Rattle.pf_matrix_tests.proofs.callers.hundred_divided.Goals as goal
@@ -9,4 +9,5 @@ map-requires g c = callable_at_each _ _ (λ x y f k. search rules) (λ k d h. se
 
 pub returns-clause-values : goal.returns-clause-values
 returns-clause-values g c =
-    IfOk-weaker _ _ _ (λ divided given. AllZip-map (λ (x : ℕ). 100 / x) _ _ (given_at_each (λ (x y : ℕ). y ≡ 100 / x) given (λ x y f k. search rules))) c.map.ensures.values
+    MatchResult-weaker c.map.result c.map.ensures.values
+    (λ divided given. AllZip-map (λ (x : ℕ). 100 / x) _ _ (given_at_each (λ (x y : ℕ). y ≡ 100 / x) given (λ x y f k. search rules))) (λ e t. tt)
