@@ -1,10 +1,11 @@
 //! Edges between named nodes, numbered.
 
-ghost use Rattle.std.specs.Prelude.{◌≡◌, List, length, map, IfOk, IfErr};
+ghost use Rattle.std.specs.Prelude.{◌≡◌, [], List, length, map, IfOk, OnOk, IfErr};
 ghost use Rattle.std.specs.Borrow.{Bor};
 ghost use Rattle.pf_base.specs.declared.error.PathError.TheVariants.{OutOfMemory};
 ghost use Rattle.pf_graph.specs.Internal.NumberedEdges.{IsNumbered};
 
+use crate::undirected::parts::Nodes;
 use crate::undirected::weighed::Weighed;
 use indexmap::IndexSet;
 use pf_base::PathError;
@@ -16,6 +17,28 @@ use std::hash::Hash;
 pub struct Numbered<'a, N, C, A: Allocator> {
     pub count: usize,
     pub edges: Vec<(usize, usize, Weighed<'a, N, C>), A>,
+}
+
+/// Numbers the ends of edges, where no node and no edge is numbered yet.
+fn number_into<'a, N, C, A>(
+    nodes: &mut Nodes<'a, N, A>,
+    numbered: &mut Vec<(usize, usize, Weighed<'a, N, C>), A>,
+    edges: &'a [(N, N, C)],
+) -> Result<(), PathError>
+where
+    N: Eq + Hash,
+    A: Allocator + Copy,
+    requires none { (nodes.old.keys ≡ []) × (numbered.old.items ≡ []) }
+    ensures numbered { OnOk result (IsNumbered N.eq nodes.new.keys edges.now numbered.new.items) }
+    ensures in_order { OnOk result (map (λ e. e.2.edge.now) numbered.new.items ≡ edges.now) }
+    ensures refused { IfErr result (λ e. e ≡ OutOfMemory) }
+{
+    for edge in edges {
+        let from = nodes.insert_full(&edge.0)?.0;
+        let to = nodes.insert_full(&edge.1)?.0;
+        numbered.push((from, to, Weighed { edge }))?;
+    }
+    Ok(())
 }
 
 /// Numbers the ends of edges from 0 on, in the order in which they first stand. A node is looked up
@@ -33,11 +56,7 @@ where
 {
     let mut nodes = IndexSet::new(alloc);
     let mut numbered = Vec::with_capacity(alloc, edges.len())?;
-    for edge in edges {
-        let from = nodes.insert_full(&edge.0)?.0;
-        let to = nodes.insert_full(&edge.1)?.0;
-        numbered.push((from, to, Weighed { edge }))?;
-    }
+    number_into(&mut nodes, &mut numbered, edges)?;
     Ok(Numbered {
         count: nodes.len(),
         edges: numbered,

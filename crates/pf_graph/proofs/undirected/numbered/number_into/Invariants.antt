@@ -1,7 +1,7 @@
 use Rattle.std.proofs.Common.{◌≡◌, take}
 use Rattle.std.specs.Prelude.{map}
 use Rattle.pf_graph.specs.Internal.NumberedEdges.{IsNumbered}
-use Rattle.pf_graph.proofs.undirected.numbered.number_edges.Given as goal
+use Rattle.pf_graph.proofs.undirected.numbered.number_into.Given as goal
 
 abbrev pub invariant-loop-edge : goal.invariant-loop-edge
 invariant-loop-edge g l = record {

@@ -1,0 +1,37 @@
+use Rattle.std.proofs.Common.{◌≡◌, [], ◌∷◌, ◌++◌, sym, subst, ap, take, take_all, ◌∙◌, ◌+◌}
+use Rattle.std.specs.Prelude.{map}
+use Rattle.std.proofs.lemmas.List.{map-append, take_more}
+use Rattle.pf_graph.specs.Internal.NumberedEdges.{IsNumbered}
+use Rattle.pf_graph.proofs.NumberLemmas.{IsNumbered-none, IsNumbered-more}
+use Rattle.pf_graph.proofs.undirected.numbered.number_into.Goals as goal
+
+pub loop-edge-init : goal.loop-edge-init
+loop-edge-init g c = record {
+  numbered =
+      let e : c.args.nodes.now.keys ≡ [] = c.requires.none.0 in
+      subst (λ ns. IsNumbered g.N.PartialEq.eq ns [] c.args.numbered.now.items) (sym e) (subst (λ xs. IsNumbered g.N.PartialEq.eq [] [] xs) (sym c.requires.none.1) (IsNumbered-none g.N.PartialEq.eq));
+  in_order = ap (map (λ e. e.2.edge.now)) c.requires.none.1;
+}
+
+pub loop-edge-preserved : goal.loop-edge-preserved
+loop-edge-preserved g c =
+    let laws = g.met.N.Eq.laws in
+    let from = c.in_ok-from.ensures.stored in
+    let to = c.in_ok-to.ensures.stored in
+    record {
+      numbered = subst (λ xs. IsNumbered g.N.PartialEq.eq c.insert_full-in-loop-edge.new.self.keys (take (c.loop-edge.edge-index + 1) c.args.edges.now) xs) (sym c.in_ok-push.ensures.items)
+          (IsNumbered-more laws c.loop-edge.nodes.keys c.insert_full.new.self.keys c.insert_full-in-loop-edge.new.self.keys c.args.edges.now c.loop-edge.numbered.items c.loop-edge.edge-index _ _ _ c.loop-edge-test.true c.edge-item.is
+          c.in_ok-from.ensures.keys c.in_ok-to.ensures.keys
+          (from.0, from.1, laws.symm _ _ ∙ from.2) (to.0, to.1, laws.symm _ _ ∙ to.2) c.insert_full-in-loop-edge.ensures.unique c.loop-edge.invariant.numbered);
+      in_order = ap (map (λ e. e.2.edge.now)) c.in_ok-push.ensures.items
+          ∙ map-append (λ e. e.2.edge.now) c.loop-edge.numbered.items _
+          ∙ ap (λ xs. xs ++ c.edge-item.result ∷ []) c.loop-edge.invariant.in_order
+          ∙ sym (take_more c.args.edges.now c.loop-edge.edge-index c.edge-item.result c.loop-edge-test.true ∙ ap (λ x. take c.loop-edge.edge-index c.args.edges.now ++ x ∷ []) (sym c.edge-item.is));
+    }
+
+pub returns-clause-numbered : goal.returns-clause-numbered
+returns-clause-numbered g c =
+    subst (λ xs. IsNumbered g.N.PartialEq.eq c.loop-edge.nodes.keys xs c.loop-edge.numbered.items) (take_all c.loop-edge.edge-index c.args.edges.now c.loop-edge-test.false) c.loop-edge.invariant.numbered
+
+pub returns-clause-in_order : goal.returns-clause-in_order
+returns-clause-in_order g c = c.loop-edge.invariant.in_order ∙ take_all c.loop-edge.edge-index c.args.edges.now c.loop-edge-test.false
