@@ -1,1 +1,2 @@
 pub mod AssignmentProducts
+pub mod Scores

@@ -24,11 +24,8 @@ where
     ensures forest { IfOk result (λ chosen. IsForest nat_eq chosen.items) }
     ensures least { IfOk result (λ chosen. IsLeastUnderEveryBound nat_eq nat_cmp offers.now chosen.items) }
 {
-    let mut chosen = Vec::new(alloc);
     let cables = kruskal_indices(alloc, houses, offers)?;
-    for cable in cables {
-        chosen.push(cable)?;
-    }
+    let chosen: Vec<(usize, usize, u64), A> = cables.collect(alloc)?;
     Ok(chosen)
 }
 

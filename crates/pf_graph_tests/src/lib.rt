@@ -1,6 +1,7 @@
-//! Tests of the calls of `pf_graph`, and a caller that shows how they are proved.
+//! Tests of the calls of `pf_graph`, and callers that show how they are proved.
 #![tactic(auto)]
 
 pub mod callers;
+pub mod lineup;
 #[cfg(test)]
 mod tests;

@@ -1,8 +1,10 @@
-//! Best assignments: worked values, a table of one's own whose reads are counted, and each growth
+//! Best assignments: worked values, tables of one's own, one of which counts its reads, and each growth
 //! refused in turn.
 
 ghost use Rattle.std.specs.Prelude.{◌≤◌, ◌<◌};
 
+use crate::lineup::{Scores, best_lineup};
+use crate::tests::growths::{Outcome, refuse_each_growth};
 use pf_base::PathError;
 use pf_base::utils::Tally;
 use pf_graph::kuhn_munkres::{
@@ -46,17 +48,18 @@ fn finds_the_greatest(rt: HostRuntime) -> Result<(), Fail> {
         [87, 92, 111, 71, 81],
         [48, 64, 87, 77, 80]
     ]?;
-    let (total, columns) = greatest(&rt, alloc, &wide)?;
-    assert_eq!(rt; total, 376);
-    assert_eq!(rt; columns.as_slice(), [3usize, 1, 2, 4].as_slice());
-    let square = matrix![in alloc; [100, 110, 90], [95, 130, 75], [95, 140, 65]]?;
-    let (total, columns) = greatest(&rt, alloc, &square)?;
-    assert_eq!(rt; total, 325);
-    assert_eq!(rt; columns.as_slice(), [2usize, 0, 1].as_slice());
     let negative = matrix![in alloc; [-1, -2, -3], [-6, -5, -4], [-1, -1, -1]]?;
-    let (total, columns) = greatest(&rt, alloc, &negative)?;
-    assert_eq!(rt; total, -6);
-    assert_eq!(rt; columns.as_slice(), [0usize, 2, 1].as_slice());
+    let cases = [
+        (wide, 376, [3usize, 1, 2, 4].as_slice()),
+        (square(alloc)?, 325, [2, 0, 1].as_slice()),
+        (negative, -6, [0, 2, 1].as_slice()),
+        (Matrix::new_empty(alloc, 0), 0, [].as_slice()),
+    ];
+    for (table, expected, chosen) in &cases {
+        let (total, columns) = greatest(&rt, alloc, table)?;
+        assert_eq!(rt; total, *expected);
+        assert_eq!(rt; columns.as_slice(), *chosen);
+    }
     Ok(())
 }
 
@@ -69,40 +72,28 @@ fn finds_the_least(rt: HostRuntime) -> Result<(), Fail> {
         [125, 95, 90, 105],
         [45, 110, 95, 115]
     ]?;
-    let (total, columns) = least(&rt, alloc, &costs)?;
-    assert_eq!(rt; total, 275);
-    assert_eq!(rt; columns.len(), 4);
-    Ok(())
-}
-
-#[test]
-fn assigns_no_rows(rt: HostRuntime) -> Result<(), Fail> {
-    let alloc = rt.alloc();
-    let empty = Matrix::<i32, Global>::new_empty(alloc, 0);
-    let (total, columns) = greatest(&rt, alloc, &empty)?;
-    assert_eq!(rt; total, 0);
-    assert!(rt; columns.is_empty());
-    let (total, columns) = least(&rt, alloc, &empty)?;
-    assert_eq!(rt; total, 0);
-    assert!(rt; columns.is_empty());
+    let cases = [(costs, 275, 4), (Matrix::new_empty(alloc, 0), 0, 0usize)];
+    for (table, expected, rows) in &cases {
+        let (total, columns) = least(&rt, alloc, table)?;
+        assert_eq!(rt; total, *expected);
+        assert_eq!(rt; columns.len(), *rows);
+    }
     Ok(())
 }
 
 #[test]
 fn weights_fit_up_to_a_sixth(rt: HostRuntime) -> Result<(), Fail> {
     let alloc = rt.alloc();
-    let highest = matrix![in alloc; [21i8]]?;
-    assert!(rt; weights_fit(&highest));
+    for (weight, fits) in [(21i8, true), (-21, true), (22, false), (-128, false)] {
+        let table = matrix![in alloc; [weight]]?;
+        assert_eq!(rt; weights_fit(&table), fits);
+    }
     let lowest = matrix![in alloc; [-21i8]]?;
-    assert!(rt; weights_fit(&lowest));
     assert!(rt; lowest.rows() <= lowest.columns());
+    assert!(rt; weights_fit(&lowest));
     let (total, columns) = kuhn_munkres(alloc, &lowest)?;
     assert_eq!(rt; total, -21);
     assert_eq!(rt; columns.as_slice(), [0usize].as_slice());
-    let above = matrix![in alloc; [22i8]]?;
-    assert!(rt; !weights_fit(&above));
-    let least = matrix![in alloc; [-128i8]]?;
-    assert!(rt; !weights_fit(&least));
     Ok(())
 }
 
@@ -208,6 +199,24 @@ fn assigns_a_table_of_ones_own(rt: HostRuntime) -> Result<(), Fail> {
 }
 
 #[test]
+fn lines_up_players(rt: HostRuntime) -> Result<(), Fail> {
+    let scores = Scores {
+        rows: &[[3, 1, 2], [5, 7, 1]],
+        negated: false,
+    };
+    let lineup = best_lineup(rt.alloc(), &scores)?;
+    assert!(rt;
+        matches!(&lineup, Some((10, positions)) if positions.as_slice() == [0usize, 1].as_slice())
+    );
+    let many = Scores {
+        rows: &[[0; 3]; 4],
+        negated: false,
+    };
+    assert!(rt; best_lineup(rt.alloc(), &many)?.is_none());
+    Ok(())
+}
+
+#[test]
 fn reads_few_weights(rt: HostRuntime) -> Result<(), Fail> {
     let alloc = rt.alloc();
     let reads = Cell::new(0u64);
@@ -231,15 +240,8 @@ fn reads_few_weights(rt: HostRuntime) -> Result<(), Fail> {
     Ok(())
 }
 
-/// How a call ended.
-#[derive(Clone, Copy, Debug, PartialEq, Eq)]
-enum Outcome {
-    /// It answered want of memory.
-    OutOfMemory,
-    /// It answered as it does with ample memory.
-    Answered,
-    /// It did neither.
-    Wrong,
+fn square<A: Allocator + Copy>(alloc: A) -> Result<Matrix<i32, A>, MatrixFormatError> {
+    matrix![in alloc; [100, 110, 90], [95, 130, 75], [95, 140, 65]]
 }
 
 /// How a search for a total of these columns ended.
@@ -254,52 +256,37 @@ fn outcome_of<A: Allocator>(
     }
 }
 
-fn weights<A: Allocator + Copy>(alloc: A) -> Result<Matrix<i32, A>, MatrixFormatError> {
-    matrix![in alloc; [100, 110, 90], [95, 130, 75], [95, 140, 65]]
+/// How the making of a table and a search for its greatest total ended.
+fn greatest_outcome<A: Allocator + Copy>(rt: &impl Abort, alloc: A) -> Outcome {
+    match square(alloc) {
+        Ok(table) => outcome_of(greatest(rt, alloc, &table), 325),
+        Err(MatrixFormatError::OutOfMemory) => Outcome::OutOfMemory,
+        Err(_) => Outcome::Wrong,
+    }
+}
+
+/// How the making of a table and a search for its least total ended.
+fn least_outcome<A: Allocator + Copy>(rt: &impl Abort, alloc: A) -> Outcome {
+    match square(alloc) {
+        Ok(table) => outcome_of(least(rt, alloc, &table), 270),
+        Err(MatrixFormatError::OutOfMemory) => Outcome::OutOfMemory,
+        Err(_) => Outcome::Wrong,
+    }
 }
 
 #[test]
 fn refuses_each_growth(rt: HostRuntime) -> Result<(), Fail> {
-    let mut growths = 0u64;
-    for growth in 0..1_000u64 {
-        let heap = Refusing::new(rt.alloc());
-        let table = weights(&heap)?;
-        heap.refuse(growth, 1);
-        let outcome = outcome_of(greatest(&rt, &heap, &table), 325);
-        if heap.pending() > 0 {
-            assert_eq!(rt; outcome, Outcome::Answered, "with no refusal");
-            growths = growth;
-            break;
-        }
-        assert_eq!(rt; outcome, Outcome::OutOfMemory, "growth {growth}");
-    }
-    assert!(rt; growths > 7);
-    Ok(())
-}
-
-#[test]
-fn the_least_refuses_each_growth(rt: HostRuntime) -> Result<(), Fail> {
-    let mut growths = 0u64;
-    for growth in 0..1_000u64 {
-        let heap = Refusing::new(rt.alloc());
-        let table = weights(&heap)?;
-        heap.refuse(growth, 1);
-        let outcome = outcome_of(least(&rt, &heap, &table), 270);
-        if heap.pending() > 0 {
-            assert_eq!(rt; outcome, Outcome::Answered, "with no refusal");
-            growths = growth;
-            break;
-        }
-        assert_eq!(rt; outcome, Outcome::OutOfMemory, "growth {growth}");
-    }
-    assert!(rt; growths > 8);
+    let growths = refuse_each_growth(&rt, rt.alloc(), |heap| greatest_outcome(&rt, heap));
+    assert!(rt; growths > 8, "{growths}");
+    let growths = refuse_each_growth(&rt, rt.alloc(), |heap| least_outcome(&rt, heap));
+    assert!(rt; growths > 9, "{growths}");
     Ok(())
 }
 
 #[test]
 fn the_test_takes_no_memory(rt: HostRuntime) -> Result<(), Fail> {
     let heap = Refusing::new(rt.alloc());
-    let table = weights(&heap)?;
+    let table = square(&heap)?;
     heap.refuse(0, u64::MAX);
     assert!(rt; weights_fit(&table));
     Ok(())

@@ -15,60 +15,45 @@ const SEVEN: [(char, char, u32); 7] = [
 ];
 
 #[test]
-fn grows_over_four_of_seven_edges(rt: HostRuntime) -> Result<(), Fail> {
-    let edges = SEVEN;
-    let tree = prim(rt.alloc(), &edges)?;
-    let expected = [
-        (&'a', &'e', 1),
-        (&'a', &'b', 3),
-        (&'b', &'c', 5),
-        (&'c', &'d', 2),
+fn grows_by_the_least_edge(rt: HostRuntime) -> Result<(), Fail> {
+    let cases = [
+        (
+            SEVEN.as_slice(),
+            [
+                ('a', 'e', 1u32),
+                ('a', 'b', 3),
+                ('b', 'c', 5),
+                ('c', 'd', 2),
+            ]
+            .as_slice(),
+        ),
+        // An edge is taken in the other direction.
+        (
+            &[('a', 'b', 5), ('c', 'a', 1)],
+            &[('a', 'c', 1), ('a', 'b', 5)],
+        ),
+        // What is not joined to the start is left out.
+        (&[('b', 'c', 1), ('d', 'e', 2)], &[('b', 'c', 1)]),
+        (&[], &[]),
+        (&[('a', 'a', 1)], &[]),
+        // After b, the edges from a and from b to other nodes weigh the same: a is less.
+        (
+            &[('b', 'a', 1), ('b', 'c', 2), ('a', 'd', 2)],
+            &[('b', 'a', 1), ('a', 'd', 2), ('b', 'c', 2)],
+        ),
+        // Three edges from a weigh the same: the least new end comes first.
+        (
+            &[('a', 'd', 2), ('c', 'a', 2), ('a', 'b', 2)],
+            &[('a', 'b', 2), ('a', 'c', 2), ('a', 'd', 2)],
+        ),
     ];
-    assert_eq!(rt; tree.as_slice(), expected.as_slice());
-    Ok(())
-}
-
-#[test]
-fn takes_an_edge_in_the_other_direction(rt: HostRuntime) -> Result<(), Fail> {
-    let edges = [('a', 'b', 5u32), ('c', 'a', 1)];
-    let tree = prim(rt.alloc(), &edges)?;
-    let expected = [(&'a', &'c', 1), (&'a', &'b', 5)];
-    assert_eq!(rt; tree.as_slice(), expected.as_slice());
-    Ok(())
-}
-
-#[test]
-fn leaves_out_what_is_not_joined_to_the_start(rt: HostRuntime) -> Result<(), Fail> {
-    let edges = [('b', 'c', 1u32), ('d', 'e', 2)];
-    let tree = prim(rt.alloc(), &edges)?;
-    assert_eq!(rt; tree.as_slice(), [(&'b', &'c', 1)].as_slice());
-    Ok(())
-}
-
-#[test]
-fn grows_nothing_of_no_edges_and_of_a_self_edge(rt: HostRuntime) -> Result<(), Fail> {
-    let none: [(char, char, u32); 0] = [];
-    assert!(rt; prim(rt.alloc(), &none)?.is_empty());
-    assert!(rt; prim(rt.alloc(), &[('a', 'a', 1u32)])?.is_empty());
-    Ok(())
-}
-
-#[test]
-fn takes_the_least_covered_end_first(rt: HostRuntime) -> Result<(), Fail> {
-    // After b, the edges from a and from b to other nodes weigh the same.
-    let edges = [('b', 'a', 1u32), ('b', 'c', 2), ('a', 'd', 2)];
-    let tree = prim(rt.alloc(), &edges)?;
-    let expected = [(&'b', &'a', 1), (&'a', &'d', 2), (&'b', &'c', 2)];
-    assert_eq!(rt; tree.as_slice(), expected.as_slice());
-    Ok(())
-}
-
-#[test]
-fn takes_the_least_new_end_first(rt: HostRuntime) -> Result<(), Fail> {
-    let edges = [('a', 'd', 2u32), ('c', 'a', 2), ('a', 'b', 2)];
-    let tree = prim(rt.alloc(), &edges)?;
-    let expected = [(&'a', &'b', 2), (&'a', &'c', 2), (&'a', &'d', 2)];
-    assert_eq!(rt; tree.as_slice(), expected.as_slice());
+    for (edges, expected) in cases {
+        let tree = prim(rt.alloc(), edges)?;
+        assert_eq!(rt; tree.len(), expected.len());
+        for (edge, wanted) in tree.iter().zip(expected) {
+            assert_eq!(rt; *edge, (&wanted.0, &wanted.1, wanted.2));
+        }
+    }
     Ok(())
 }
 

@@ -1,7 +1,8 @@
-//! Each growth refused in turn: a call answers want of memory and nothing else, until no request is
-//! refused and it answers as it does with ample memory.
+//! Each growth refused in turn: a call answers that it was out of memory and nothing else, until no
+//! request is refused and it answers as it does with ample memory.
 
 use crate::tests::around::around_two;
+use crate::tests::growths::{Outcome, refuse_each_growth};
 use pf_base::PathError;
 use pf_graph::undirected::connected_components::{
     component_index, components, separate_components,
@@ -9,40 +10,8 @@ use pf_graph::undirected::connected_components::{
 use pf_graph::undirected::kruskal::{kruskal, kruskal_indices, spanning_weight};
 use pf_graph::undirected::prim::prim;
 use refusing_allocator::Refusing;
-use std::alloc::{Allocator, Global};
-use std::process::Abort;
+use std::alloc::Allocator;
 use std::test::Fail;
-
-/// How a call ended.
-#[derive(Clone, Copy, Debug, PartialEq, Eq)]
-enum Outcome {
-    /// It answered want of memory.
-    OutOfMemory,
-    /// It answered as it does with ample memory.
-    Answered,
-    /// It did neither.
-    Wrong,
-}
-
-/// Runs a call with growth 0, 1, 2, .. refused alone, until a run meets no refusal, and answers how
-/// many growths that run made. Each run before it has to answer want of memory.
-fn refuse_each_growth<F>(rt: &impl Abort, alloc: Global, mut call: F) -> u64
-where
-    F: FnMut(&Refusing<Global>) -> Outcome,
-    requires { F.IsAlwaysCallable call }
-{
-    for growth in 0..100_000u64 {
-        let heap = Refusing::new(alloc);
-        heap.refuse(growth, 1);
-        let outcome = call(&heap);
-        if heap.pending() > 0 {
-            assert_eq!(rt; outcome, Outcome::Answered, "with no refusal");
-            return growth;
-        }
-        assert_eq!(rt; outcome, Outcome::OutOfMemory, "growth {growth}");
-    }
-    panic!(rt; "every run met a refusal")
-}
 
 const EDGES: [(usize, usize, u32); 5] = [(0, 1, 4), (1, 2, 1), (2, 0, 3), (3, 4, 9), (3, 3, 0)];
 

@@ -20,25 +20,31 @@ const SEVEN: [(char, char, u32); 7] = [
 ];
 
 #[test]
-fn chooses_four_of_seven_edges(rt: HostRuntime) -> Result<(), Fail> {
-    let edges = SEVEN;
-    let mut chosen = kruskal(rt.alloc(), &edges)?;
-    assert_eq!(rt; chosen.next(), Some((&'a', &'e', 1)));
-    assert_eq!(rt; chosen.next(), Some((&'c', &'d', 2)));
-    assert_eq!(rt; chosen.next(), Some((&'a', &'b', 3)));
-    assert_eq!(rt; chosen.next(), Some((&'b', &'c', 5)));
-    assert_eq!(rt; chosen.next(), None);
-    assert_eq!(rt; chosen.next(), None);
-    assert_eq!(rt; spanning_weight(rt.alloc(), &edges)?, 11);
-    Ok(())
-}
-
-#[test]
-fn chooses_nothing_of_no_edges_and_of_a_self_edge(rt: HostRuntime) -> Result<(), Fail> {
-    let none: [(char, char, u32); 0] = [];
-    assert_eq!(rt; kruskal(rt.alloc(), &none)?.next(), None);
-    assert_eq!(rt; spanning_weight(rt.alloc(), &none)?, 0);
-    assert_eq!(rt; kruskal(rt.alloc(), &[('a', 'a', 1u32)])?.next(), None);
+fn chooses_by_rising_weight(rt: HostRuntime) -> Result<(), Fail> {
+    let cases = [
+        (
+            SEVEN.as_slice(),
+            [
+                ('a', 'e', 1u32),
+                ('c', 'd', 2),
+                ('a', 'b', 3),
+                ('b', 'c', 5),
+            ]
+            .as_slice(),
+            11,
+        ),
+        (&[], &[], 0),
+        (&[('a', 'a', 1)], &[], 0),
+    ];
+    for (edges, expected, total) in cases {
+        let mut chosen = kruskal(rt.alloc(), edges)?;
+        for edge in expected {
+            assert_eq!(rt; chosen.next(), Some((&edge.0, &edge.1, edge.2)));
+        }
+        assert_eq!(rt; chosen.next(), None);
+        assert_eq!(rt; chosen.next(), None);
+        assert_eq!(rt; spanning_weight(rt.alloc(), edges)?, total);
+    }
     Ok(())
 }
 
