@@ -22,3 +22,6 @@ returns-clause-best g c =
     let r = c.loop-row.invariant.rows in
     let e : length c.loop-row.matching.column_of.items ≡ (g.W.Weights.table c.args.weights.now).rows = omega (arith, r) in
     best_of c.loop-row.invariant.matched e
+
+pub returns-clause-ticked : goal.returns-clause-ticked
+returns-clause-ticked g c = c.loop-row.invariant.ticked
