@@ -1,8 +1,9 @@
 -- The steps of the inputs: over a square board of heights, which stand row by row in one list, and in rows of edges.
-use Rattle.std.specs.Prelude.{◌+◌, ◌-◌, ◌*◌, ◌+ℤ◌, ◌==◌, ◌&&◌, Bool, ℕ, ℤ, pos, negsuc, List, [], ◌∷◌, Option, map, take, drop, slice_index}
+use Rattle.std.specs.Prelude.{◌+◌, ◌-◌, ◌*◌, ◌%◌, ◌^◌, ◌==◌, ◌&&◌, if◌then◌else◌, Bool, ℕ, ℤ, pos, negsuc, List, [], ◌∷◌, Option, Some, None, map, nat_lt, take, drop, slice_index}
+use Rattle.std.specs.Int.{cast_unsigned, w64}
 use Rattle.std.specs.List.{filter_map}
 use Rattle.std.specs.Option.{option_map}
-use Rattle.pf_base.specs.Moves.{below_size, pair_of}
+use Rattle.pf_base.specs.Moves.{pair_of}
 
 -- whether two cells are one
 abbrev pub same_cell : ℕ × ℕ → ℕ × ℕ → Bool
@@ -12,9 +13,13 @@ same_cell a b = a.0 == b.0 && a.1 == b.1
 abbrev pub four_directions : List (ℤ × ℤ)
 four_directions = (pos 0, pos 1) ∷ (pos 1, pos 0) ∷ (pos 0, negsuc 0) ∷ (negsuc 0, pos 0) ∷ []
 
+-- the coordinate that a step leads to, modulo 2 ^ 64, where it is below the size
+abbrev pub moved_to : ℕ → ℤ → ℕ → Option ℕ
+moved_to from step size = let to = (from + cast_unsigned w64 step) % 2 ^ 64 in if nat_lt to size then Some to else None
+
 -- the cell that a step leads to, where it is on the board
 abbrev pub entered_cell : ℕ → ℕ × ℕ → ℤ × ℤ → Option (ℕ × ℕ)
-entered_cell size from direction = pair_of (below_size (pos from.0 +ℤ direction.0) size) (below_size (pos from.1 +ℤ direction.1) size)
+entered_cell size from direction = pair_of (moved_to from.0 direction.0 size) (moved_to from.1 direction.1 size)
 
 -- the same cell, with its height
 abbrev pub entered : List ℕ → ℕ → ℕ × ℕ → ℤ × ℤ → Option ((ℕ × ℕ) × ℕ)

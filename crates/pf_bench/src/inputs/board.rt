@@ -1,7 +1,7 @@
 //! A square board of heights.
 
-ghost use Rattle.std.specs.Prelude.{◌≡◌, ◌<◌, ◌*◌, ◌+ℤ◌, pos, length, IfSome};
-ghost use Rattle.pf_base.specs.Moves.{below_size};
+ghost use Rattle.std.specs.Prelude.{◌≡◌, ◌<◌, ◌*◌, length, IfSome};
+ghost use Rattle.pf_bench.specs.Steps.{moved_to};
 
 use crate::draw::Draws;
 use crate::error::BenchError;
@@ -23,12 +23,13 @@ pub struct Board {
     ghost square: { length heights.items ≡ size * size },
 }
 
-/// The coordinate that a step leads to, where it is below `size`.
+/// The coordinate that a step leads to, where it is below `size`. A step off the board at 0 wraps, and
+/// is not below it.
 fn moved(from: usize, step: isize, size: usize) -> Option<usize>
-    ensures found { result ≡ below_size (pos from +ℤ step) size }
+    ensures found { result ≡ moved_to from step size }
     ensures below { IfSome result (λ to. to < size) }
 {
-    let to = from.checked_add_signed(step)?;
+    let to = from.wrapping_add_signed(step);
     if to < size { Some(to) } else { None }
 }
 
