@@ -1,6 +1,7 @@
 //! The calls of the library, each on its input, and what they print.
 
 pub mod board;
+mod checks;
 pub mod edges;
 pub mod groups;
 pub mod rows;

@@ -2,6 +2,7 @@
 
 ghost use Rattle.std.specs.Prelude.{◌<◌};
 
+use crate::callers::checks::{cost_of, edges_of};
 use crate::error::BenchError;
 use crate::inputs::{Board, Cell, Direction};
 use crate::repeats::{Check, Repeats};
@@ -56,10 +57,7 @@ pub fn bfs_board(alloc: Global, size: usize, repeats: Repeats) -> Result<Check, 
     requires { 0 < size }
 {
     let board = Board::random(alloc, size)?;
-    repeats.check(
-        || fewest(alloc, &board),
-        |path| path.map(|cells| (cells.len() as u64).saturating_sub(1)),
-    )
+    repeats.check(|| fewest(alloc, &board), edges_of)
 }
 
 /// The cost of the path.
@@ -67,8 +65,5 @@ pub fn dijkstra_board(alloc: Global, size: usize, repeats: Repeats) -> Result<Ch
     requires { 0 < size }
 {
     let board = Board::random(alloc, size)?;
-    repeats.check(
-        || cheapest(alloc, &board),
-        |found| found.map(|(_, cost)| u64::from(cost)),
-    )
+    repeats.check(|| cheapest(alloc, &board), cost_of)
 }

@@ -28,7 +28,7 @@ fn weight(alloc: Global, edges: &[WeightedEdge]) -> Result<u64, PathError> {
     Ok(sum)
 }
 
-/// The sum of the weights.
+/// The weight of the edges.
 pub fn kruskal_indices_edges(
     alloc: Global,
     size: usize,
@@ -40,7 +40,7 @@ pub fn kruskal_indices_edges(
     repeats.check(|| weight_by_number(alloc, size, &edges), Some)
 }
 
-/// The sum of the weights.
+/// The weight of the edges.
 pub fn kruskal_edges(alloc: Global, size: usize, repeats: Repeats) -> Result<Check, BenchError>
     requires { 0 < size }
 {
@@ -48,15 +48,19 @@ pub fn kruskal_edges(alloc: Global, size: usize, repeats: Repeats) -> Result<Che
     repeats.check(|| weight(alloc, &edges), Some)
 }
 
-/// The sum of the tree's weights.
+/// The weight of the tree that `prim` answers.
+fn tree_weight(tree: Vec<(&usize, &usize, u32)>) -> Check {
+    let mut sum = 0u64;
+    for edge in &tree {
+        sum = sum.wrapping_add(u64::from(edge.2));
+    }
+    Some(sum)
+}
+
+/// The weight of the tree.
 pub fn prim_edges(alloc: Global, size: usize, repeats: Repeats) -> Result<Check, BenchError>
     requires { 0 < size }
 {
     let edges = edges_from_first(alloc, size)?;
-    repeats.check(
-        || prim(alloc, &edges),
-        |tree| {
-            Some(tree.iter().fold(0, |sum: u64, edge| { sum.wrapping_add(u64::from(edge.2)) }))
-        },
-    )
+    repeats.check(|| prim(alloc, &edges), tree_weight)
 }

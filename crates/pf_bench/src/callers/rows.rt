@@ -2,6 +2,7 @@
 
 ghost use Rattle.std.specs.Prelude.{◌<◌};
 
+use crate::callers::checks::cost_of;
 use crate::error::BenchError;
 use crate::inputs::Rows;
 use crate::repeats::{Check, Repeats};
@@ -25,8 +26,5 @@ pub fn dijkstra_rows(alloc: Global, size: usize, repeats: Repeats) -> Result<Che
     requires { 0 < size }
 {
     let rows = Rows::random(alloc, size)?;
-    repeats.check(
-        || cheapest(alloc, &rows),
-        |found| found.map(|(_, cost)| u64::from(cost)),
-    )
+    repeats.check(|| cheapest(alloc, &rows), cost_of)
 }

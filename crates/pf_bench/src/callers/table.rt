@@ -2,21 +2,12 @@
 
 ghost use Rattle.std.specs.Prelude.{◌<◌};
 
+use crate::callers::checks::{first_row, total_of};
 use crate::error::BenchError;
 use crate::inputs::table;
 use crate::repeats::{Check, Repeats};
 use pf_graph::kuhn_munkres::{kuhn_munkres, kuhn_munkres_min, weights_fit};
-use pf_matrix::Matrix;
 use std::alloc::Global;
-
-/// The sum of the first row.
-fn first_row(table: Matrix<i64>) -> Check {
-    let row = table.iter().next()?;
-    let sum = row
-        .iter()
-        .fold(0, |sum: i64, value| sum.wrapping_add(*value));
-    u64::try_from(sum).ok()
-}
 
 /// The total.
 pub fn kuhn_munkres_table(alloc: Global, size: usize, repeats: Repeats) -> Result<Check, BenchError>
@@ -26,10 +17,7 @@ pub fn kuhn_munkres_table(alloc: Global, size: usize, repeats: Repeats) -> Resul
     if !weights_fit(&table) {
         return Err(BenchError::TooLarge);
     }
-    repeats.check(
-        || kuhn_munkres(alloc, &table),
-        |(total, _)| u64::try_from(total).ok(),
-    )
+    repeats.check(|| kuhn_munkres(alloc, &table), total_of)
 }
 
 /// The total.
@@ -44,10 +32,7 @@ pub fn kuhn_munkres_min_table(
     if !weights_fit(&table) {
         return Err(BenchError::TooLarge);
     }
-    repeats.check(
-        || kuhn_munkres_min(alloc, &table),
-        |(total, _)| u64::try_from(total).ok(),
-    )
+    repeats.check(|| kuhn_munkres_min(alloc, &table), total_of)
 }
 
 /// The sum of the first row.
