@@ -10,5 +10,7 @@ mod larger_graphs;
 mod noderefs;
 mod refusals;
 mod refusing;
+mod routes;
+mod routes_surface;
 mod rows;
 mod utils;

@@ -1,0 +1,371 @@
+//! Runs of `routes` over memory, and over devices that fail.
+
+ghost use Rattle.std.specs.Prelude.{◌≡◌, [], ℕ, List, Ok, Err, OnOk};
+ghost use Rattle.pathfinding.specs.AnswerText.{IsAnswer, Overflows};
+ghost use Rattle.pathfinding.specs.EdgeText.{Edge, edge_text};
+
+use pathfinding::routes::{Command, Noted, RouteError, command, run, run_with_hasher};
+use std::alloc::{AllocError, Global};
+use std::hash::{BuildHasher, Hasher, RandomState};
+use std::io;
+use std::io::{Error, ErrorKind, Read, Write};
+use std::test::Fail;
+
+/// Gives these bytes, one a call, until it has given as many as it was made with. Then it fails: once,
+/// where it recovers, and else at each call.
+#[derive(Drop)]
+struct Broken<'a> {
+    left: &'a [u8],
+    until_failure: usize,
+    recovers: bool,
+    has_failed: bool,
+}
+
+impl Read for Broken<'_> {
+    fn read(&mut self, buf: &mut [u8]) -> io::Result<usize> {
+        if self.until_failure == 0 && !(self.recovers && self.has_failed) {
+            self.has_failed = true;
+            return Err(Error::from(ErrorKind::ConnectionReset));
+        }
+        self.until_failure = self.until_failure.saturating_sub(1);
+        match (self.left, buf) {
+            ([first, rest @ ..], [place, ..]) => {
+                *place = *first;
+                self.left = rest;
+                Ok(1)
+            }
+            _ => Ok(0),
+        }
+    }
+}
+
+/// Takes one byte a call. Once its room is full it fails, or takes nothing: once, where it recovers, and
+/// else at each call. Its flush fails where its writes do.
+#[derive(Drop)]
+struct Narrow {
+    taken: Vec<u8>,
+    room: usize,
+    fails: bool,
+    recovers: bool,
+    has_failed: bool,
+}
+
+impl Write for Narrow {
+    fn write(&mut self, buf: &[u8]) -> io::Result<usize> {
+        let recovered = self.recovers && self.has_failed;
+        match buf {
+            [first, ..] if self.taken.len() < self.room || recovered => {
+                self.taken.push(*first)?;
+                Ok(1)
+            }
+            _ => {
+                self.has_failed = true;
+                if self.fails {
+                    return Err(Error::from(ErrorKind::BrokenPipe));
+                }
+                Ok(0)
+            }
+        }
+    }
+
+    fn flush(&mut self) -> io::Result<()> {
+        if self.fails {
+            return Err(Error::from(ErrorKind::BrokenPipe));
+        }
+        Ok(())
+    }
+}
+
+impl Narrow {
+    fn new(alloc: Global, room: usize, fails: bool, recovers: bool) -> Narrow {
+        Narrow {
+            taken: Vec::new(alloc),
+            room,
+            fails,
+            recovers,
+            has_failed: false,
+        }
+    }
+}
+
+/// A hasher under which all names collide.
+#[derive(Clone, Copy)]
+struct OneHash;
+
+impl Hasher for OneHash {
+    ghost write = { λ h bytes. h };
+
+    ghost finish = { λ h. 7 };
+
+    fn finish(&self) -> u64 {
+        7
+    }
+
+    fn write(&mut self, _bytes: &[u8]) {}
+}
+
+impl BuildHasher for OneHash {
+    type Hasher = OneHash;
+
+    ghost build_hasher = { λ h. h };
+
+    fn build_hasher(&self) -> OneHash {
+        *self
+    }
+}
+
+const SEVEN: &[u8] = b"A B 4\nA C 2\nB C 1\nB D 5\nC D 8\nC E 10\nD E 2\n";
+
+/// The command that words parted by spaces spell.
+fn asked(alloc: Global, line: &str) -> Result<Option<Command>, AllocError> {
+    let mut words = Vec::new(alloc);
+    for word in line.split(' ') {
+        words.push(String::from_str(alloc, word)?)?;
+    }
+    Ok(command(words))
+}
+
+/// What a run over memory answers, and all that it wrote.
+fn run_over(alloc: Global, command: &Command, text: &[u8]) -> (Result<(), RouteError>, Vec<u8>)
+    ensures answer { OnOk result.0 ((edges : List Edge) × (edge_text text.now ≡ Ok edges) × IsAnswer command.now edges result.1.items) }
+    ensures bad_edge { (line : ℕ) → result.0 ≡ Err (RouteError.BadEdge line) → (edge_text text.now ≡ Err line) × (result.1.items ≡ []) }
+    ensures overflow { result.0 ≡ Err RouteError.CostOverflow → ((edges : List Edge) × (edge_text text.now ≡ Ok edges) × Overflows command.now edges) × (result.1.items ≡ []) }
+{
+    let mut input = Noted::new(text);
+    let mut output = Noted::new(Vec::new(alloc));
+    let result = run(alloc, command, &mut input, &mut output);
+    (result, output.into_inner())
+}
+
+#[test]
+fn answers_are_written(rt: HostRuntime) -> Result<(), Fail> {
+    let cases: [(&str, &[u8], &[u8]); 16] = [
+        ("dijkstra A E", SEVEN, b"11: A B D E\n"),
+        ("dijkstra A A", b"", b"0: A\n"),
+        ("dijkstra a c", b"", b"none\n"),
+        ("dijkstra a b", b"\r\n\n a\tb 007 \r\n", b"7: a b\n"),
+        ("dijkstra a b", b"a b 2\na b 1\r", b"1: a b\n"),
+        ("dijkstra b a", b"a b 1", b"none\n"),
+        ("bfs A E", SEVEN, b"2: A C E\n"),
+        ("bfs A D", SEVEN, b"2: A B D\n"),
+        ("bfs a a", b"", b"0: a\n"),
+        ("bfs a a", b"a a 1", b"0: a\n"),
+        ("bfs a c", b"", b"none\n"),
+        ("bfs b a", b"a b 1", b"none\n"),
+        (
+            "bfs a c",
+            b"a b 18446744073709551615\nb c 1\n",
+            b"2: a b c\n",
+        ),
+        (
+            "kruskal",
+            b"a b 3\na e 1\nb c 5\nb e 4\nc d 2\nc e 6\nd e 7\n",
+            b"a e 1\nc d 2\na b 3\nb c 5\n",
+        ),
+        ("kruskal", b"", b""),
+        ("kruskal", b"a a 1\n", b""),
+    ];
+    for (line, text, want) in cases {
+        let command = asked(rt.alloc(), line)?.ok_or("no command")?;
+        let (result, written) = run_over(rt.alloc(), &command, text);
+        assert_eq!(rt; result, Ok(()), "{line}");
+        assert_eq!(rt; written.as_slice(), want, "{line}");
+    }
+    Ok(())
+}
+
+#[test]
+fn faults_write_nothing(rt: HostRuntime) -> Result<(), Fail> {
+    let cases: [(&str, &[u8], RouteError); 12] = [
+        ("dijkstra a c", b"a b 1\nb c x\n", RouteError::BadEdge(2)),
+        (
+            "dijkstra a c",
+            b"a b 18446744073709551615\nb c 1\n",
+            RouteError::CostOverflow,
+        ),
+        (
+            "dijkstra a c",
+            b"a b 18446744073709551615\nb c 1\nb c",
+            RouteError::BadEdge(3),
+        ),
+        (
+            "dijkstra a c",
+            b"a b 18446744073709551616\n",
+            RouteError::BadEdge(1),
+        ),
+        ("dijkstra a c", b"a b", RouteError::BadEdge(1)),
+        ("dijkstra a c", b"a b 1\r\r\n", RouteError::BadEdge(1)),
+        ("dijkstra a c", b"a b +1", RouteError::BadEdge(1)),
+        ("dijkstra a c", b"a b 1 x", RouteError::BadEdge(1)),
+        (
+            "dijkstra a c",
+            b"\n\na b 1\na\x7f b 1",
+            RouteError::BadEdge(4),
+        ),
+        ("dijkstra a c", b"a b 1\n\0", RouteError::BadEdge(2)),
+        // A search by edges alone reads the costs too.
+        (
+            "bfs a c",
+            b"a c 18446744073709551616\n",
+            RouteError::BadEdge(1),
+        ),
+        ("bfs a c", b"a b 1\nb c\n", RouteError::BadEdge(2)),
+    ];
+    for (line, text, want) in cases {
+        let command = asked(rt.alloc(), line)?.ok_or("no command")?;
+        let (result, written) = run_over(rt.alloc(), &command, text);
+        assert_eq!(rt; result, Err(want));
+        assert!(rt; written.is_empty());
+    }
+    Ok(())
+}
+
+#[test]
+fn wrong_words_are_no_command(rt: HostRuntime) -> Result<(), Fail> {
+    let wrong = [
+        "walk",
+        "walk a b",
+        "bfs a",
+        "bfs a b c",
+        "BFS a b",
+        "bfs a b\u{7f}",
+        "dijkstra a",
+        "dijkstra a b c",
+        "Dijkstra a b",
+        "dijkstra a ",
+        "dijkstra a\tb c",
+        "dijkstra a b\u{7f}",
+        "kruskal a",
+        "kruskal a b",
+        "Kruskal",
+        "",
+    ];
+    for line in wrong {
+        assert!(rt; asked(rt.alloc(), line)?.is_none(), "{line}");
+    }
+    assert!(rt; command(Vec::new(rt.alloc())).is_none());
+    assert!(rt; asked(rt.alloc(), "dijkstra ! ~")?.is_some());
+    assert!(rt; asked(rt.alloc(), "bfs ! ~")?.is_some());
+    Ok(())
+}
+
+/// What a run over the seven edges writes, by the hasher.
+fn written_with<S: BuildHasher + Drop>(
+    alloc: Global,
+    command: &Command,
+    hash_builder: S,
+) -> Result<Vec<u8>, RouteError> {
+    let mut input = Noted::new(SEVEN);
+    let mut output = Noted::new(Vec::new(alloc));
+    run_with_hasher(alloc, command, &mut input, &mut output, hash_builder)?;
+    Ok(output.into_inner())
+}
+
+#[test]
+fn any_hasher_gives_the_same_answers(rt: HostRuntime) -> Result<(), Fail> {
+    let seeds = RandomState::new(&rt)?;
+    let cases: [(&str, &[u8]); 3] = [
+        ("dijkstra A E", b"11: A B D E\n"),
+        ("bfs A E", b"2: A C E\n"),
+        ("kruskal", b"B C 1\nA C 2\nD E 2\nB D 5\n"),
+    ];
+    for (line, want) in cases {
+        let command = asked(rt.alloc(), line)?.ok_or("no command")?;
+        let seeded = written_with(rt.alloc(), &command, seeds)?;
+        assert_eq!(rt; seeded.as_slice(), want, "{line}");
+        let collided = written_with(rt.alloc(), &command, OneHash)?;
+        assert_eq!(rt; collided.as_slice(), want, "{line}");
+    }
+    Ok(())
+}
+
+#[test]
+fn a_run_ends_at_the_first_failed_read(rt: HostRuntime) -> Result<(), Fail> {
+    let command = asked(rt.alloc(), "dijkstra a b")?.ok_or("no command")?;
+    // In mid-stream, at the end, and before a bad edge.
+    let cases: [(&[u8], usize); 4] = [
+        (b"a b 1\na b 2\n", 0),
+        (b"a b 1\na b 2\n", 6),
+        (b"a b 1\na b 2\n", 12),
+        (b"a b x\n", 6),
+    ];
+    for (text, until_failure) in cases {
+        for recovers in [false, true] {
+            let mut input = Noted::new(Broken {
+                left: text,
+                until_failure,
+                recovers,
+                has_failed: false,
+            });
+            let mut output = Noted::new(Vec::new(rt.alloc()));
+            assert!(rt; !input.failed());
+            let result = run(rt.alloc(), &command, &mut input, &mut output);
+            assert_eq!(rt; result, Err(RouteError::ReadFailed));
+            assert!(rt; input.failed());
+            assert!(rt; !output.failed());
+            assert_eq!(rt; input.into_inner().left, &text[until_failure..]);
+            assert!(rt; output.into_inner().is_empty());
+        }
+    }
+    Ok(())
+}
+
+#[test]
+fn a_run_ends_at_the_first_failed_write(rt: HostRuntime) -> Result<(), Fail> {
+    let command = asked(rt.alloc(), "dijkstra A E")?.ok_or("no command")?;
+    let answer = b"11: A B D E\n";
+    for fails in [false, true] {
+        for recovers in [false, true] {
+            for room in [0, 3, 11, 100] {
+                let want = if room < answer.len() {
+                    Err(RouteError::WriteFailed)
+                } else {
+                    Ok(())
+                };
+                let mut input = Noted::new(SEVEN);
+                let mut output = Noted::new(Narrow::new(rt.alloc(), room, fails, recovers));
+                let result = run(rt.alloc(), &command, &mut input, &mut output);
+                assert_eq!(rt; result, want);
+                assert_eq!(rt; output.failed(), want.is_err());
+                let taken = output.into_inner().taken;
+                assert_eq!(rt; taken.as_slice(), &answer[..answer.len().min(room)]);
+            }
+        }
+    }
+    Ok(())
+}
+
+#[test]
+fn a_failed_flush_is_noted(rt: HostRuntime) -> Result<(), Fail> {
+    for fails in [false, true] {
+        let mut output = Noted::new(Narrow::new(rt.alloc(), 0, fails, false));
+        assert_eq!(rt; output.flush().is_err(), fails);
+        assert_eq!(rt; output.failed(), fails);
+    }
+    Ok(())
+}
+
+#[test]
+fn a_short_read_is_noted(rt: HostRuntime) -> Result<(), Fail> {
+    let mut input = Noted::new(b"ab".as_slice());
+    let mut buf = [0u8; 3];
+    assert!(rt; input.read_exact(&mut buf).is_err());
+    assert!(rt; input.failed());
+    Ok(())
+}
+
+#[test]
+fn fault_texts(rt: HostRuntime) -> Result<(), Fail> {
+    let cases = [
+        (RouteError::BadEdge(12), "line 12: bad edge"),
+        (RouteError::CostOverflow, "cost overflow"),
+        (RouteError::OutOfMemory, "out of memory"),
+        (RouteError::ReadFailed, "read failed"),
+        (RouteError::WriteFailed, "write failed"),
+    ];
+    for (fault, want) in cases {
+        let text = fault.to_string(rt.alloc())?;
+        assert_eq!(rt; text.as_str(), want);
+    }
+    Ok(())
+}
