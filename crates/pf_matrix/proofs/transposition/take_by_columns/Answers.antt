@@ -28,3 +28,18 @@ pub returns-clause-values : goal.returns-clause-values
 returns-clause-values g c = λ r k d p q.
     let end : c.loop-column.column ≡ c.args.columns = omega arith in
     c.loop-column.invariant.taking.done.values r k None d q (rw end (omega (arith, mul-add-lt r c.args.rows k c.args.columns p q)))
+
+pub overflow_mul-row : goal.overflow_mul-row
+overflow_mul-row g c =
+    let below = mul-add-lt c.loop-row.row c.args.columns c.loop-column.column c.args.rows (omega arith) (omega arith) in
+    omega (arith, below, c.requires.size)
+
+pub overflow_add-row : goal.overflow_add-row
+overflow_add-row g c =
+    let below = mul-add-lt c.loop-row.row c.args.columns c.loop-column.column c.args.rows (omega arith) (omega arith) in
+    omega (arith, below, c.requires.size)
+
+pub take_at-requires : goal.take_at-requires
+take_at-requires g c =
+    let below = mul-add-lt c.loop-row.row c.args.columns c.loop-column.column c.args.rows (omega arith) (omega arith) in
+    omega (arith, below, c.requires.size)
