@@ -49,7 +49,10 @@ fn columns_in_order(heap: &Refusing<Global>, growth: u64) -> Result<Outcome, Mat
     Ok(kept(&matrix, outcome))
 }
 
-fn columns_from_both_ends(heap: &Refusing<Global>, growth: u64) -> Result<Outcome, MatrixFormatError> {
+fn columns_from_both_ends(
+    heap: &Refusing<Global>,
+    growth: u64,
+) -> Result<Outcome, MatrixFormatError> {
     let matrix = six_refusing(heap, growth)?;
     let mut columns = matrix.column_iter();
     let outcome = with_one_refusal([
