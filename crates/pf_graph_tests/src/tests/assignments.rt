@@ -277,9 +277,9 @@ fn least_outcome<A: Allocator + Copy>(rt: &impl Abort, alloc: A) -> Outcome {
 #[test]
 fn refuses_each_growth(rt: HostRuntime) -> Result<(), Fail> {
     let growths = refuse_each_growth(&rt, rt.alloc(), |heap| greatest_outcome(&rt, heap));
-    assert!(rt; growths > 8, "{growths}");
+    assert!(rt; growths > 10, "{growths}");
     let growths = refuse_each_growth(&rt, rt.alloc(), |heap| least_outcome(&rt, heap));
-    assert!(rt; growths > 9, "{growths}");
+    assert!(rt; growths > 11, "{growths}");
     Ok(())
 }
 
