@@ -1,6 +1,7 @@
 //! Tests of matrices, and a caller that shows how their contracts are used.
 #![tactic(auto)]
 
-pub mod callers;
+#[cfg(test)]
+mod callers;
 #[cfg(test)]
 mod tests;

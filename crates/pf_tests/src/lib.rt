@@ -1,14 +1,22 @@
-//! Tests of the library's calls, and callers that show how they are proved.
+//! Tests of the calls of the library, and callers that show how they are proved. All of it is read for
+//! the tests alone, so that it is proved once.
 #![tactic(auto)]
 
-pub mod compact;
-pub mod fewest;
-pub mod grid;
-pub mod list;
-pub mod minutes;
-pub mod no_case;
+#[cfg(test)]
+mod compact;
+#[cfg(test)]
+mod fewest;
+#[cfg(test)]
+mod grid;
+#[cfg(test)]
+mod list;
+#[cfg(test)]
+mod minutes;
+#[cfg(test)]
+mod no_case;
 #[cfg(test)]
 mod plain;
-pub mod rows;
+#[cfg(test)]
+mod rows;
 #[cfg(test)]
 mod tests;
