@@ -1,70 +1,122 @@
 //! Copies.
 
-use super::{shows, six};
+ghost use Rattle.pf_matrix.specs.Arrange.{CanTurn};
+
+use super::calls::Call;
+use super::refusals::{Growths, Outcome, kept, outcome_of, refuse_each_growth};
+use super::{Answer, SIX, Shape, matrix_of, shows};
 use crate::callers::{copied_board, hundred_divided};
 use pf_matrix::{Matrix, MatrixFormatError};
+use refusing_allocator::Refusing;
+use std::alloc::{Allocator, Global};
 use std::test::Fail;
 
-#[test]
-fn turns_copies(rt: HostRuntime) -> Result<(), Fail> {
-    let m = six(rt.alloc())?;
-    assert!(rt; shows(&m.rotated_cw(1)?, 3, 2, &[4, 1, 5, 2, 6, 3]));
-    assert!(rt; shows(&m.rotated_cw(usize::MAX)?, 3, 2, &[3, 6, 2, 5, 1, 4]));
-    assert!(rt; shows(&m.rotated_cw(2)?, 2, 3, &[6, 5, 4, 3, 2, 1]));
-    assert!(rt; shows(&m.rotated_ccw(1)?, 3, 2, &[3, 6, 2, 5, 1, 4]));
-    Ok(())
+/// A square of ones.
+const ONES: Shape<'static> = Shape(4, 4, &[1; 16]);
+
+/// A call that copies a matrix.
+#[derive(Clone, Copy)]
+pub(super) enum Copied {
+    Clone,
+    /// The part from these rows to those, and from these columns to those.
+    Slice(Span, Span),
+    FlippedLr,
+    FlippedUd,
+    Transposed,
+    RotatedCw(usize),
+    RotatedCcw(usize),
+}
+
+/// The numbers from the first on that are below the second.
+type Span = (usize, usize);
+
+/// The copy that this call makes.
+pub(super) fn copy_of<C: Clone + Drop, A: Allocator + Copy>(
+    matrix: &Matrix<C, A>,
+    copied: &Copied,
+) -> Result<Matrix<C, A>, MatrixFormatError>
+    requires { CanTurn matrix.now }
+{
+    match *copied {
+        Copied::Clone => Ok(matrix.clone()?),
+        Copied::Slice(rows, columns) => matrix.slice(rows.0..rows.1, columns.0..columns.1),
+        Copied::FlippedLr => matrix.flipped_lr(),
+        Copied::FlippedUd => matrix.flipped_ud(),
+        Copied::Transposed => matrix.transposed(),
+        Copied::RotatedCw(times) => matrix.rotated_cw(times),
+        Copied::RotatedCcw(times) => matrix.rotated_ccw(times),
+    }
+}
+
+/// How a copy of a matrix of this shape ends, where this growth of it is refused.
+pub(super) fn outcome_of_copy(
+    heap: &Refusing<Global>,
+    growth: u64,
+    shape: Shape<'_>,
+    copied: &Copied,
+    answer: Answer<'_>,
+) -> Result<Outcome, MatrixFormatError> {
+    let matrix = matrix_of(heap, shape)?;
+    if matrix.is_empty() {
+        return Ok(Outcome::Wrong);
+    }
+    heap.refuse(growth, 1);
+    let outcome = outcome_of(copy_of(&matrix, copied), answer);
+    Ok(kept(&matrix, shape, outcome))
 }
 
 #[test]
-fn copies_of_even_turns(rt: HostRuntime) -> Result<(), Fail> {
-    let m = six(rt.alloc())?;
-    assert!(rt; shows(&m.rotated_cw(4)?, 2, 3, &[1, 2, 3, 4, 5, 6]));
-    assert!(rt; shows(&m.rotated_ccw(0)?, 2, 3, &[1, 2, 3, 4, 5, 6]));
-    assert!(rt; shows(&m.rotated_ccw(2)?, 2, 3, &[6, 5, 4, 3, 2, 1]));
-    Ok(())
+fn copies_refuse_each_growth(rt: HostRuntime) {
+    let to_the_right = Ok(Shape(3, 2, &[4, 1, 5, 2, 6, 3]));
+    let to_the_left = Ok(Shape(3, 2, &[3, 6, 2, 5, 1, 4]));
+    let about = Ok(Shape(2, 3, &[6, 5, 4, 3, 2, 1]));
+    let calls = [
+        Call::Copy(SIX, Copied::Clone, Ok(SIX)),
+        Call::Copy(SIX, Copied::FlippedLr, Ok(Shape(2, 3, &[3, 2, 1, 6, 5, 4]))),
+        Call::Copy(SIX, Copied::FlippedUd, Ok(Shape(2, 3, &[4, 5, 6, 1, 2, 3]))),
+        Call::Copy(
+            SIX,
+            Copied::Transposed,
+            Ok(Shape(3, 2, &[1, 4, 2, 5, 3, 6])),
+        ),
+        Call::Copy(SIX, Copied::RotatedCw(1), to_the_right),
+        Call::Copy(SIX, Copied::RotatedCw(2), about),
+        Call::Copy(SIX, Copied::RotatedCw(4), Ok(SIX)),
+        Call::Copy(SIX, Copied::RotatedCw(usize::MAX), to_the_left),
+        Call::Copy(SIX, Copied::RotatedCcw(0), Ok(SIX)),
+        Call::Copy(SIX, Copied::RotatedCcw(1), to_the_left),
+        Call::Copy(SIX, Copied::RotatedCcw(2), about),
+        Call::Copy(SIX, Copied::RotatedCcw(4), Ok(SIX)),
+        Call::Copy(SIX, Copied::Slice((0, 2), (1, 2)), Ok(Shape(2, 1, &[2, 5]))),
+        Call::Copy(
+            ONES,
+            Copied::Slice((1, 3), (2, 4)),
+            Ok(Shape(2, 2, &[1; 4])),
+        ),
+    ];
+    refuse_each_growth(&rt, rt.alloc(), Growths::AtLeast(1), &calls);
 }
 
 #[test]
-fn flips_copies(rt: HostRuntime) -> Result<(), Fail> {
-    let m = six(rt.alloc())?;
-    assert!(rt; shows(&m.flipped_lr()?, 2, 3, &[3, 2, 1, 6, 5, 4]));
-    assert!(rt; shows(&m.flipped_ud()?, 2, 3, &[4, 5, 6, 1, 2, 3]));
-    assert!(rt; shows(&m.transposed()?, 3, 2, &[1, 4, 2, 5, 3, 6]));
-    Ok(())
-}
-
-#[test]
-fn maps(rt: HostRuntime) -> Result<(), Fail> {
-    let mapped = six(rt.alloc())?.map(|value: u8| value % 2)?;
-    assert!(rt; shows(&mapped, 2, 3, &[1, 0, 1, 0, 1, 0]));
-    Ok(())
+fn parts_without_values_take_no_memory(rt: HostRuntime) {
+    let no_columns = Err(MatrixFormatError::EmptyRow);
+    let outside = Err(MatrixFormatError::WrongIndex);
+    let calls = [
+        Call::Copy(ONES, Copied::Slice((0, 0), (0, 2)), Ok(Shape(0, 2, &[]))),
+        Call::Copy(ONES, Copied::Slice((1, 3), (2, 2)), no_columns),
+        Call::Copy(ONES, Copied::Slice((3, 1), (0, 2)), outside),
+        Call::Copy(ONES, Copied::Slice((0, 2), (3, 5)), outside),
+        Call::Copy(SIX, Copied::Slice((0, 3), (0, 1)), outside),
+        Call::Copy(SIX, Copied::Slice((0, 1), (1, 1)), no_columns),
+    ];
+    refuse_each_growth(&rt, rt.alloc(), Growths::Exactly(0), &calls);
 }
 
 #[test]
 fn callers_copy_and_divide(rt: HostRuntime) -> Result<(), Fail> {
-    let m = six(rt.alloc())?;
-    assert!(rt; shows(&copied_board(rt.alloc(), &m)?, 2, 3, &[1, 2, 3, 4, 5, 6]));
+    let m = matrix_of(rt.alloc(), SIX)?;
+    assert!(rt; shows(&copied_board(rt.alloc(), &m)?, SIX));
     let sevens = Matrix::new(rt.alloc(), 1, 2, 7u8)?;
-    assert!(rt; shows(&hundred_divided(sevens)?, 1, 2, &[14, 14]));
-    Ok(())
-}
-
-#[test]
-fn slices(rt: HostRuntime) -> Result<(), Fail> {
-    let m = Matrix::new_square(rt.alloc(), 4, 1u8)?;
-    assert!(rt; shows(&m.slice(1..3, 2..4)?, 2, 2, &[1, 1, 1, 1]));
-    assert!(rt; shows(&m.slice(0..0, 0..2)?, 0, 2, &[]));
-    assert_eq!(rt;
-        m.slice(1..3, 2..2).err(),
-        Some(MatrixFormatError::EmptyRow)
-    );
-    assert_eq!(rt;
-        m.slice(3..1, 0..2).err(),
-        Some(MatrixFormatError::WrongIndex)
-    );
-    assert_eq!(rt;
-        m.slice(0..2, 3..5).err(),
-        Some(MatrixFormatError::WrongIndex)
-    );
+    assert!(rt; shows(&hundred_divided(sevens)?, Shape(1, 2, &[14, 14])));
     Ok(())
 }

@@ -1,11 +1,11 @@
-//! The texts of the refusals.
+//! The texts of the refusals, and the name of want of memory.
 
 use pf_matrix::MatrixFormatError;
 use std::alloc::AllocError;
 use std::test::Fail;
 
 #[test]
-fn refusals_have_their_texts(rt: HostRuntime) -> Result<(), Fail> {
+fn refusals_have_their_texts_and_names(rt: HostRuntime) -> Result<(), Fail> {
     for (error, text) in [
         (MatrixFormatError::EmptyRow, "matrix rows cannot be empty"),
         (
@@ -20,13 +20,9 @@ fn refusals_have_their_texts(rt: HostRuntime) -> Result<(), Fail> {
     ] {
         assert_eq!(rt; format!(in rt.alloc(); "{error}")?.as_str(), text);
     }
-    Ok(())
-}
-
-#[test]
-fn want_of_memory_is_named(rt: HostRuntime) {
     assert_eq!(rt;
         MatrixFormatError::from(AllocError),
         MatrixFormatError::OutOfMemory
     );
+    Ok(())
 }

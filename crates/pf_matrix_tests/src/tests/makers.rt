@@ -1,37 +1,181 @@
 //! How matrices are made.
 
-use super::shows;
+use super::calls::Call;
+use super::refusals::{Growths, Outcome, outcome_of, refuse_each_growth};
+use super::{FOUR, Refused, SIX, Shape, matrix_of};
 use pf_matrix::{Matrix, MatrixFormatError, from_slices, matrix};
+use refusing_allocator::Refusing;
+use std::alloc::Global;
 use std::test::Fail;
 
-#[test]
-fn makes_of_one_value(rt: HostRuntime) -> Result<(), Fail> {
-    assert!(rt;
-        shows(
-            &Matrix::new(rt.alloc(), 2, 3, 7u8)?,
-            2,
-            3,
-            &[7, 7, 7, 7, 7, 7]
-        )
-    );
-    assert!(rt;
-        shows(
-            &Matrix::new_square(rt.alloc(), 2, 7u8)?,
-            2,
-            2,
-            &[7, 7, 7, 7]
-        )
-    );
-    Ok(())
+/// A call that makes a matrix.
+#[derive(Clone, Copy)]
+pub(super) enum Maker<'a> {
+    /// `from_vec` of these sizes.
+    List(usize, usize, &'a [u8]),
+    /// `square_from_vec`.
+    SquareList(&'a [u8]),
+    /// `map` of [[1, 2, 3], [4, 5, 6]], by the remainder by 2.
+    Mapped,
+    /// A call on sizes.
+    Sizes(SizeMaker),
+    /// A call on rows.
+    Rows(RowMaker),
+}
+
+/// A call that makes a matrix of sizes.
+#[derive(Clone, Copy)]
+pub(super) enum SizeMaker {
+    /// `new_empty`, of 5 columns.
+    Empty,
+    /// `new`, of 2 rows and 3 columns of sevens.
+    Sevens,
+    /// `new_square`, of 2 rows of sevens.
+    SquareOfSevens,
+    /// `from_fn`, of 2 rows and 3 columns, with 1 where row and column are the same.
+    Function,
+}
+
+/// A call that makes a matrix of rows.
+#[derive(Clone, Copy)]
+pub(super) enum RowMaker {
+    /// `matrix!` of no rows.
+    Nothing,
+    /// `matrix!` of [1, 2] and [3, 4].
+    Lists,
+    /// `matrix!` of 1, 2 and 3, 4.
+    Values,
+    /// The same with a `,` and a `;` at the ends.
+    EndedValues,
+    /// `matrix!` of [1, 2] and [3].
+    Uneven,
+    /// `matrix!` of [].
+    EmptyRow,
+    /// `from_slices` of [1, 2] and [3, 4].
+    Slices,
+    /// `from_rows` of [1, 2] and [3, 4].
+    Arrays,
+    /// `from_rows` of two rows of 40 sevens.
+    LongArrays,
+    /// `from_rows` of two empty rows.
+    EmptyArrays,
+}
+
+/// The matrix that a call makes, where this growth of it is refused.
+pub(super) fn made<'h>(
+    heap: &'h Refusing<Global>,
+    growth: u64,
+    maker: &Maker<'_>,
+) -> Result<Refused<'h>, MatrixFormatError> {
+    match *maker {
+        Maker::List(rows, columns, values) => {
+            let list = values.to_vec(heap)?;
+            heap.refuse(growth, 1);
+            Matrix::from_vec(rows, columns, list)
+        }
+        Maker::SquareList(values) => {
+            let list = values.to_vec(heap)?;
+            heap.refuse(growth, 1);
+            Matrix::square_from_vec(list)
+        }
+        Maker::Mapped => {
+            let matrix = matrix_of(heap, SIX)?;
+            heap.refuse(growth, 1);
+            matrix.map(|value: u8| value % 2)
+        }
+        Maker::Sizes(maker) => {
+            heap.refuse(growth, 1);
+            made_of_sizes(heap, maker)
+        }
+        Maker::Rows(maker) => {
+            heap.refuse(growth, 1);
+            made_of_rows(heap, maker)
+        }
+    }
+}
+
+/// The matrix that a call makes of sizes.
+fn made_of_sizes(
+    heap: &Refusing<Global>,
+    maker: SizeMaker,
+) -> Result<Refused<'_>, MatrixFormatError> {
+    match maker {
+        SizeMaker::Empty => Ok(Matrix::new_empty(heap, 5)),
+        SizeMaker::Sevens => Matrix::new(heap, 2, 3, 7),
+        SizeMaker::SquareOfSevens => Matrix::new_square(heap, 2, 7),
+        SizeMaker::Function => Matrix::from_fn(heap, 2, 3, |position: (usize, usize)| {
+            if position.0 == position.1 { 1u8 } else { 0 }
+        }),
+    }
+}
+
+/// The matrix that a call makes of rows.
+fn made_of_rows(
+    heap: &Refusing<Global>,
+    maker: RowMaker,
+) -> Result<Refused<'_>, MatrixFormatError> {
+    match maker {
+        RowMaker::Nothing => matrix![in heap],
+        RowMaker::Lists => matrix![in heap; [1u8, 2], [3, 4],],
+        RowMaker::Values => matrix![in heap; 1u8, 2; 3, 4],
+        RowMaker::EndedValues => matrix![in heap; 1u8, 2,; 3, 4;],
+        RowMaker::Uneven => matrix![in heap; [1u8, 2], [3]],
+        RowMaker::EmptyRow => matrix![in heap; []],
+        RowMaker::Slices => from_slices(heap, &[&[1, 2], &[3, 4]]),
+        RowMaker::Arrays => Matrix::from_rows(heap, [[1u8, 2], [3, 4]]),
+        RowMaker::LongArrays => Matrix::from_rows(heap, [[7u8; 40]; 2]),
+        RowMaker::EmptyArrays => Matrix::from_rows(heap, [[0u8; 0]; 2]),
+    }
 }
 
 #[test]
-fn makes_of_a_function(rt: HostRuntime) -> Result<(), Fail> {
-    let m = Matrix::from_fn(rt.alloc(), 2, 3, |position: (usize, usize)| {
-        if position.0 == position.1 { 1u8 } else { 0 }
-    })?;
-    assert!(rt; shows(&m, 2, 3, &[1, 0, 0, 0, 1, 0]));
-    Ok(())
+fn makers_refuse_each_growth(rt: HostRuntime) {
+    let uneven = Err(MatrixFormatError::WrongLength);
+    let calls = [
+        Call::Make(Maker::Sizes(SizeMaker::Sevens), Ok(Shape(2, 3, &[7; 6]))),
+        Call::Make(
+            Maker::Sizes(SizeMaker::SquareOfSevens),
+            Ok(Shape(2, 2, &[7; 4])),
+        ),
+        Call::Make(
+            Maker::Sizes(SizeMaker::Function),
+            Ok(Shape(2, 3, &[1, 0, 0, 0, 1, 0])),
+        ),
+        Call::Make(Maker::Mapped, Ok(Shape(2, 3, &[1, 0, 1, 0, 1, 0]))),
+        Call::Make(Maker::Rows(RowMaker::Lists), Ok(FOUR)),
+        Call::Make(Maker::Rows(RowMaker::Values), Ok(FOUR)),
+        Call::Make(Maker::Rows(RowMaker::EndedValues), Ok(FOUR)),
+        Call::Make(Maker::Rows(RowMaker::Slices), Ok(FOUR)),
+        Call::Make(Maker::Rows(RowMaker::Arrays), Ok(FOUR)),
+        Call::Make(Maker::Rows(RowMaker::Uneven), uneven),
+    ];
+    refuse_each_growth(&rt, rt.alloc(), Growths::AtLeast(1), &calls);
+    let long = Call::Make(
+        Maker::Rows(RowMaker::LongArrays),
+        Ok(Shape(2, 40, &[7; 80])),
+    );
+    refuse_each_growth(&rt, rt.alloc(), Growths::AtLeast(2), &[long]);
+}
+
+#[test]
+fn makers_take_no_memory(rt: HostRuntime) {
+    let empty_row = Err(MatrixFormatError::EmptyRow);
+    let another_length = Err(MatrixFormatError::WrongLength);
+    let calls = [
+        Call::Make(Maker::Sizes(SizeMaker::Empty), Ok(Shape(0, 5, &[]))),
+        Call::Make(Maker::List(2, 2, FOUR.2), Ok(FOUR)),
+        Call::Make(Maker::List(2, 2, &[1, 2, 3]), another_length),
+        Call::Make(Maker::List(2, 0, &[]), empty_row),
+        Call::Make(Maker::List(usize::MAX, 2, &[]), another_length),
+        Call::Make(Maker::List(usize::MAX, 0, &[]), empty_row),
+        Call::Make(Maker::SquareList(FOUR.2), Ok(FOUR)),
+        Call::Make(Maker::SquareList(&[1, 2, 3]), another_length),
+        Call::Make(Maker::SquareList(&[]), Ok(Shape(0, 0, &[]))),
+        Call::Make(Maker::Rows(RowMaker::Nothing), Ok(Shape(0, 0, &[]))),
+        Call::Make(Maker::Rows(RowMaker::EmptyRow), empty_row),
+        Call::Make(Maker::Rows(RowMaker::EmptyArrays), empty_row),
+    ];
+    refuse_each_growth(&rt, rt.alloc(), Growths::Exactly(0), &calls);
 }
 
 #[test]
@@ -55,70 +199,14 @@ fn asks_once_a_position(rt: HostRuntime) -> Result<(), Fail> {
 }
 
 #[test]
-fn makes_of_a_list(rt: HostRuntime) -> Result<(), Fail> {
-    let m = Matrix::from_vec(2, 2, vec![in rt.alloc(); 1u8, 2, 3, 4]?)?;
-    assert!(rt; shows(&m, 2, 2, &[1, 2, 3, 4]));
-    let square = Matrix::square_from_vec(vec![in rt.alloc(); 1u8, 2, 3, 4]?)?;
-    assert!(rt; square == m);
-    assert!(rt; shows(&Matrix::new_empty(rt.alloc(), 5), 0, 5, &[]));
+fn makes_of_lists_of_rows(rt: HostRuntime) -> Result<(), Fail> {
+    for (last, answer) in [
+        ([3, 4].as_slice(), Ok(FOUR)),
+        (&[3], Err(MatrixFormatError::WrongLength)),
+    ] {
+        let rows = vec![in rt.alloc(); vec![in rt.alloc(); 1u8, 2]?, last.to_vec(rt.alloc())?]?;
+        let made = Matrix::from_rows(rt.alloc(), rows);
+        assert_eq!(rt; outcome_of(made, answer), Outcome::Answered);
+    }
     Ok(())
-}
-
-#[test]
-fn refuses_lists_of_another_length(rt: HostRuntime) -> Result<(), Fail> {
-    let none = || -> Vec<u8> { Vec::new(rt.alloc()) };
-    assert_eq!(rt;
-        Matrix::from_vec(2, 0, none()).err(),
-        Some(MatrixFormatError::EmptyRow)
-    );
-    assert_eq!(rt;
-        Matrix::from_vec(usize::MAX, 2, none()).err(),
-        Some(MatrixFormatError::WrongLength)
-    );
-    assert_eq!(rt;
-        Matrix::from_vec(usize::MAX, 0, none()).err(),
-        Some(MatrixFormatError::EmptyRow)
-    );
-    let three = vec![in rt.alloc(); 1u8, 2, 3]?;
-    assert_eq!(rt;
-        Matrix::square_from_vec(three).err(),
-        Some(MatrixFormatError::WrongLength)
-    );
-    assert!(rt; shows(&Matrix::square_from_vec(none())?, 0, 0, &[]));
-    Ok(())
-}
-
-#[test]
-fn makes_of_rows(rt: HostRuntime) -> Result<(), Fail> {
-    let rows = vec![in rt.alloc(); vec![in rt.alloc(); 1u8, 2]?, vec![in rt.alloc(); 3, 4]?]?;
-    assert!(rt; shows(&Matrix::from_rows(rt.alloc(), rows)?, 2, 2, &[1, 2, 3, 4]));
-    Ok(())
-}
-
-#[test]
-fn refuses_rows_of_another_length(rt: HostRuntime) -> Result<(), Fail> {
-    let rows = vec![in rt.alloc(); vec![in rt.alloc(); 1u8, 2]?, vec![in rt.alloc(); 3]?]?;
-    let answer = Matrix::from_rows(rt.alloc(), rows);
-    assert_eq!(rt; answer.err(), Some(MatrixFormatError::WrongLength));
-    let empty = Matrix::from_rows(rt.alloc(), [[0u8; 0]; 2]);
-    assert_eq!(rt; empty.err(), Some(MatrixFormatError::EmptyRow));
-    Ok(())
-}
-
-#[test]
-fn macro_makes_of_rows(rt: HostRuntime) -> Result<(), Fail> {
-    let m = matrix![in rt.alloc(); [1u8, 2], [3, 4],]?;
-    assert!(rt; shows(&m, 2, 2, &[1, 2, 3, 4]));
-    assert!(rt; m == matrix![in rt.alloc(); 1, 2,; 3, 4;]?);
-    assert!(rt; shows(&matrix![in rt.alloc()]?, 0, 0, &[]));
-    assert!(rt; m == from_slices(rt.alloc(), &[&[1, 2], &[3, 4]])?);
-    Ok(())
-}
-
-#[test]
-fn macro_refuses_rows(rt: HostRuntime) {
-    let uneven: Result<Matrix<u8>, MatrixFormatError> = matrix![in rt.alloc(); [1, 2], [3]];
-    assert_eq!(rt; uneven.err(), Some(MatrixFormatError::WrongLength));
-    let empty: Result<Matrix<u8>, MatrixFormatError> = matrix![in rt.alloc(); []];
-    assert_eq!(rt; empty.err(), Some(MatrixFormatError::EmptyRow));
 }
