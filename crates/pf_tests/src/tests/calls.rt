@@ -2,12 +2,12 @@
 
 ghost use Rattle.std.specs.Prelude.{◌<◌, All, length};
 
+use crate::tests::answers::is_path_at;
 use pf_base::PathError;
 use pf_base::utils::Tally;
 use pf_search::directed::dijkstra::{dijkstra, dijkstra_tallied};
 use std::alloc::Allocator;
 use std::cell::Cell;
-use std::test::Fail;
 
 /// Whether there is no path from the node 0 to a node that passes no test, and how often the
 /// successors were asked for.
@@ -48,19 +48,16 @@ where
 }
 
 #[test]
-fn asks_each_node_at_most_once(rt: HostRuntime) -> Result<(), Fail> {
+fn counted_calls_answer(rt: HostRuntime) {
     // s: a5 b1, a: t9, b: a1, as the nodes 0 to 3
     let rows: [&[(usize, u32)]; 4] = [&[(1, 5), (2, 1)], &[(3, 9)], &[(1, 1)], &[]];
-    let (none, calls) = calls_without_success(rt.alloc(), &rows)?;
-    assert!(rt; none && calls <= 4);
-    Ok(())
-}
-
-#[test]
-fn the_tallied_call_answers(rt: HostRuntime) -> Result<(), Fail> {
-    let rows: [&[(usize, u32)]; 4] = [&[(1, 5), (2, 1)], &[(3, 9)], &[(1, 1)], &[]];
-    let (path, cost) = tallied(rt.alloc(), &rows)?.ok_or("no path")?;
-    assert_eq!(rt; path.as_slice(), [0, 2, 1, 3].as_slice());
-    assert_eq!(rt; cost, 11);
-    Ok(())
+    let counted = calls_without_success(rt.alloc(), &rows);
+    assert!(rt;
+        matches!(counted, Ok((true, calls)) if calls <= 4),
+        "each node at most once"
+    );
+    assert!(rt;
+        is_path_at(tallied(rt.alloc(), &rows), &[0, 2, 1, 3], 11),
+        "tallied"
+    );
 }

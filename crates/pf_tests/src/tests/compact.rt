@@ -1,6 +1,7 @@
 //! The callers over tables in compact form, at numbers.
 
 use crate::compact::{cheapest_in_compact, fewest_in_compact, is_compact};
+use crate::tests::answers::{is_no_path, is_path, is_path_at};
 use pf_base::NodeRefs;
 use std::test::Fail;
 
@@ -18,23 +19,28 @@ fn cheapest_and_fewest(rt: HostRuntime) -> Result<(), Fail> {
         (4, 2),
     ];
     let nodes = [1usize, 2, 2, 3, 3, 4, 4];
+    assert!(rt; is_compact(&offsets, &targets) && targets.iter().all(|e| e.0 + 1 < offsets.len()));
+    let path = cheapest_in_compact(rt.alloc(), &offsets, &targets, 0, 4);
+    assert!(rt; is_path_at(path, &[0, 1, 3, 4], 11));
+    let path = cheapest_in_compact(rt.alloc(), &offsets, &targets, 4, 0);
+    assert!(rt; is_no_path(path));
+    assert!(rt; is_compact(&offsets, &nodes) && nodes.iter().all(|n| n + 1 < offsets.len()));
     let start = 0usize;
     let starts = NodeRefs::from_one(rt.alloc(), &start)?;
-    assert!(rt; is_compact(&offsets, &targets) && targets.iter().all(|e| e.0 + 1 < offsets.len()));
-    let (path, cost) = cheapest_in_compact(rt.alloc(), &offsets, &targets, 0, 4)?.ok_or("no path")?;
-    assert_eq!(rt; path.as_slice(), [0, 1, 3, 4].as_slice());
-    assert_eq!(rt; cost, 11);
-    assert!(rt; cheapest_in_compact(rt.alloc(), &offsets, &targets, 4, 0)?.is_none());
-    assert!(rt; is_compact(&offsets, &nodes) && nodes.iter().all(|n| n + 1 < offsets.len()));
-    let path = fewest_in_compact(rt.alloc(), &offsets, &nodes, &starts, 4)?.ok_or("no path")?;
-    assert_eq!(rt; path.as_slice(), [0, 2, 4].as_slice());
+    let path = fewest_in_compact(rt.alloc(), &offsets, &nodes, &starts, 4);
+    assert!(rt; is_path(path, &[0, 2, 4]));
     Ok(())
 }
 
 #[test]
 fn offsets_that_are_not_compact(rt: HostRuntime) {
-    assert!(rt; is_compact(&[0, 1, 1, 2], &[7, 8]));
-    assert!(rt; !is_compact(&[0, 2, 1, 2], &[7, 8]));
-    assert!(rt; !is_compact(&[0, 1, 3], &[7, 8]));
-    assert!(rt; is_compact(&[], &[0u8; 0]));
+    let cases: [(&[usize], &[u8], bool); 4] = [
+        (&[0, 1, 1, 2], &[7, 8], true),
+        (&[0, 2, 1, 2], &[7, 8], false),
+        (&[0, 1, 3], &[7, 8], false),
+        (&[], &[], true),
+    ];
+    for (offsets, targets, compact) in cases {
+        assert_eq!(rt; is_compact(offsets, targets), compact, "{offsets:?}");
+    }
 }

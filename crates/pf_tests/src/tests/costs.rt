@@ -3,34 +3,33 @@
 use crate::minutes::Minutes;
 use pf_base::{Cost, SignedCost};
 
+/// Whether these are the ends of the costs.
+fn has_ends<C: Cost>(least: C, greatest: C) -> bool {
+    C::least() == least && C::greatest() == greatest
+}
+
 #[test]
 fn costs_lie_between_least_and_greatest(rt: HostRuntime) {
-    assert_eq!(rt; (u8::least(), u8::greatest()), (0, 255));
-    assert_eq!(rt; (u16::least(), u16::greatest()), (0, 65_535));
-    assert_eq!(rt; (u32::least(), u32::greatest()), (0, 4_294_967_295));
-    assert_eq!(rt;
-        (u64::least(), u64::greatest()),
-        (0, 18_446_744_073_709_551_615)
-    );
-    assert_eq!(rt;
-        (usize::least(), usize::greatest()),
-        (0, 18_446_744_073_709_551_615)
-    );
-    assert_eq!(rt; (u128::least(), u128::greatest()), (0, u128::MAX));
-    assert_eq!(rt; (i8::least(), i8::greatest()), (-128, 127));
-    assert_eq!(rt; (i16::least(), i16::greatest()), (-32_768, 32_767));
-    assert_eq!(rt;
-        (i32::least(), i32::greatest()),
-        (-2_147_483_648, 2_147_483_647)
-    );
-    assert_eq!(rt; (i64::least(), i64::greatest()), (i64::MIN, i64::MAX));
-    assert_eq!(rt;
-        (isize::least(), isize::greatest()),
-        (isize::MIN, isize::MAX)
-    );
-    assert_eq!(rt; (i128::least(), i128::greatest()), (i128::MIN, i128::MAX));
-    assert_eq!(rt; Minutes::least().minutes, 0);
-    assert_eq!(rt; Minutes::greatest().minutes, 1439);
+    for (costs, holds) in [
+        ("u8", has_ends(0u8, 255)),
+        ("u16", has_ends(0u16, 65_535)),
+        ("u32", has_ends(0u32, 4_294_967_295)),
+        ("u64", has_ends(0u64, 18_446_744_073_709_551_615)),
+        ("usize", has_ends(0usize, 18_446_744_073_709_551_615)),
+        ("u128", has_ends(0, u128::MAX)),
+        ("i8", has_ends(-128i8, 127)),
+        ("i16", has_ends(-32_768i16, 32_767)),
+        ("i32", has_ends(-2_147_483_648i32, 2_147_483_647)),
+        ("i64", has_ends(i64::MIN, i64::MAX)),
+        ("isize", has_ends(isize::MIN, isize::MAX)),
+        ("i128", has_ends(i128::MIN, i128::MAX)),
+        (
+            "Minutes",
+            has_ends(Minutes { minutes: 0 }, Minutes { minutes: 1439 }),
+        ),
+    ] {
+        assert!(rt; holds, "{costs}");
+    }
 }
 
 #[test]

@@ -1,5 +1,6 @@
 //! The texts of the refusals.
 
+use pathfinding::routes::RouteError;
 use pf_base::PathError;
 use std::test::Fail;
 
@@ -13,6 +14,15 @@ fn refusals_have_their_texts(rt: HostRuntime) -> Result<(), Fail> {
         (PathError::NegativeCapacity, "negative capacity"),
     ] {
         assert_eq!(rt; format!(in rt.alloc(); "{error}")?.as_str(), text);
+    }
+    for (fault, text) in [
+        (RouteError::BadEdge(12), "line 12: bad edge"),
+        (RouteError::CostOverflow, "cost overflow"),
+        (RouteError::OutOfMemory, "out of memory"),
+        (RouteError::ReadFailed, "read failed"),
+        (RouteError::WriteFailed, "write failed"),
+    ] {
+        assert_eq!(rt; fault.to_string(rt.alloc())?.as_str(), text);
     }
     Ok(())
 }

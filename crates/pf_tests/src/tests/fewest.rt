@@ -1,10 +1,8 @@
 //! Worked examples of paths with fewest edges.
 
-ghost use Rattle.std.specs.Prelude.{◌<◌, All, length, IsTrue};
-
 use crate::fewest::fewest_in_pairs;
 use crate::no_case::NoCase;
-use crate::rows::fewest_in_rows;
+use crate::tests::answers::{is_no_path, is_path};
 use pf_base::NodeRefs;
 use std::alloc::{AllocError, Global};
 use std::test::Fail;
@@ -20,10 +18,10 @@ fn knight_moves(alloc: Global) -> Result<Vec<(Field, Field)>, AllocError> {
             for (right, up) in [(1, 2), (2, 1)] {
                 let (far, high) = (x + right, y + up);
                 if far < 8 && high < 8 {
-                    moves.push(((x, y), (far, high)))?;
-                    moves.push(((far, high), (x, y)))?;
-                    moves.push(((far, y), (x, high)))?;
-                    moves.push(((x, high), (far, y)))?;
+                    for (from, to) in [((x, y), (far, high)), ((far, y), (x, high))] {
+                        moves.push((from, to))?;
+                        moves.push((to, from))?;
+                    }
                 }
             }
         }
@@ -46,23 +44,23 @@ fn a_knight_needs_four_moves(rt: HostRuntime) -> Result<(), Fail> {
 #[test]
 fn the_nearest_start_and_goal_are_taken(rt: HostRuntime) -> Result<(), Fail> {
     let chain = [('a', 'b'), ('b', 'c'), ('c', 'd'), ('d', 'e')];
-    let nodes = ['a', 'b'];
-    let starts = NodeRefs::from_nodes(rt.alloc(), &nodes)?;
-    let path = fewest_in_pairs(rt.alloc(), &chain, &starts, &['d', 'e'])?.ok_or("no path")?;
-    assert_eq!(rt; path.as_slice(), ['b', 'c', 'd'].as_slice());
-    // A start that is a goal is a path alone.
-    let path = fewest_in_pairs(rt.alloc(), &chain, &starts, &['e', 'b'])?.ok_or("no path")?;
-    assert_eq!(rt; path.as_slice(), ['b'].as_slice());
-    let none = fewest_in_pairs(rt.alloc(), &chain, &starts, &['f'])?;
-    assert!(rt; none.is_none());
-    Ok(())
-}
-
-#[test]
-fn no_starts_have_no_path(rt: HostRuntime) -> Result<(), Fail> {
-    let starts = NodeRefs::from_nodes(rt.alloc(), &[])?;
-    let none = fewest_in_pairs(rt.alloc(), &[('a', 'b')], &starts, &['a', 'b'])?;
-    assert!(rt; none.is_none());
+    let cases: [(&[char], &[char], Option<&[char]>); 4] = [
+        (&['a', 'b'], &['d', 'e'], Some(&['b', 'c', 'd'])),
+        // A start that is a goal is a path alone.
+        (&['a', 'b'], &['e', 'b'], Some(&['b'])),
+        (&['a', 'b'], &['f'], None),
+        // No starts have no path.
+        (&[], &['a', 'b'], None),
+    ];
+    for (starts, goals, want) in cases {
+        let starts = NodeRefs::from_nodes(rt.alloc(), starts)?;
+        let answer = fewest_in_pairs(rt.alloc(), &chain, &starts, goals);
+        let holds = match want {
+            Some(path) => is_path(answer, path),
+            None => is_no_path(answer),
+        };
+        assert!(rt; holds, "{goals:?}");
+    }
     Ok(())
 }
 
@@ -76,29 +74,7 @@ fn equal_nodes_are_one_start(rt: HostRuntime) -> Result<(), Fail> {
         (NoCase { name: "b" }, NoCase { name: "C" }),
     ];
     let goal = NoCase { name: "c" };
-    let path = fewest_in_pairs(rt.alloc(), &edges, &starts, &[goal])?.ok_or("no path")?;
-    assert_eq!(rt; path.len(), 3);
-    Ok(())
-}
-
-/// Whether each node of a table is one of its rows.
-fn leads_inside(rows: &[Vec<usize>]) -> bool
-    ensures { IsTrue result → All (λ row. All (λ n. n < length rows.now) row.items) rows.now }
-{
-    rows.iter().all(|row| row.iter().all(|n| *n < rows.len()))
-}
-
-#[test]
-fn fewest_edges_in_a_table(rt: HostRuntime) -> Result<(), Fail> {
-    let mut rows = Vec::new(rt.alloc());
-    for row in [[1usize, 2], [2, 3], [3, 4], [4, 4], [4, 4]] {
-        rows.push(Vec::from_array(rt.alloc(), row)?)?;
-    }
-    let start = 0usize;
-    let starts = NodeRefs::from_one(rt.alloc(), &start)?;
-    assert!(rt; rows.len() > 4 && leads_inside(&rows));
-    let path = fewest_in_rows(rt.alloc(), &rows, &starts, 4)?.ok_or("no path")?;
-    assert_eq!(rt; path.as_slice(), [0, 2, 4].as_slice());
-    assert!(rt; fewest_in_rows(rt.alloc(), &rows, &starts, 5)?.is_none());
+    let answer = fewest_in_pairs(rt.alloc(), &edges, &starts, &[goal]);
+    assert!(rt; matches!(&answer, Ok(Some(path)) if path.len() == 3));
     Ok(())
 }

@@ -1,26 +1,28 @@
 //! One caller for each common kind of function that lists edges.
 
-ghost use Rattle.std.specs.Prelude.{◌≡◌, ◌<◌, ◌+◌, ◌*◌, ◌%◌, ◌∷◌, [], All, length, not, pos, IsTrue};
+ghost use Rattle.std.specs.Prelude.{◌≡◌, ◌<◌, ◌≤◌, ◌+◌, ◌*◌, ◌%◌, ◌∷◌, [], All, length, not, pos};
 
-use crate::rows::{cheapest_in_rows, leads_to_rows};
+use crate::tests::answers::{is_no_path, is_path_at};
 use pf_base::PathError;
 use pf_search::directed::dijkstra::dijkstra;
 use std::alloc::Allocator;
-use std::test::Fail;
 
-/// The answer is an array.
-fn by_array<A>(alloc: A) -> Result<Option<(Vec<u32, A>, u32)>, PathError>
+/// The answer is an array: of `count` nodes in a ring, the one after a node and its double.
+pub fn by_array<A>(alloc: A, count: u32, goal: u32) -> Result<Option<(Vec<u32, A>, u32)>, PathError>
 where
     A: Allocator + Copy,
+    requires some { 0 < count }
+    requires few { count ≤ 100 }
 {
     dijkstra(
         alloc,
         &1u32,
         |n: &u32| -> [(u32, u32); 2]
-            requires { n.now < 100 }
-            ensures { result ≡ ((n.now + 1) % 100, 2) ∷ (n.now * 2 % 100, 3) ∷ [] }
-        { [((*n + 1) % 100, 2), (*n * 2 % 100, 3)] },
-        |n| *n == 10,
+            requires below { n.now < 100 }
+            requires some { 0 < count }
+            ensures { result ≡ ((n.now + 1) % count, 2) ∷ (n.now * 2 % count, 3) ∷ [] }
+        { [((*n + 1) % count, 2), (*n * 2 % count, 3)] },
+        |n| *n == goal,
     )
 }
 
@@ -51,15 +53,8 @@ where
     )
 }
 
-/// Whether each edge of the table leads to one of its rows.
-fn leads_inside(rows: &[&[(usize, u32)]]) -> bool
-    ensures { IsTrue result → All (λ row. All (λ e. e.0 < length rows.now) row.now) rows.now }
-{
-    rows.iter().all(|row| row.iter().all(|e| e.0 < rows.len()))
-}
-
 /// The answer is a row of a table of vectors.
-fn by_rows<A>(
+pub fn by_rows<A>(
     alloc: A,
     rows: &Vec<Vec<(usize, u32)>>,
 ) -> Result<Option<(Vec<usize, A>, u32)>, PathError>
@@ -126,36 +121,32 @@ where
 }
 
 #[test]
-fn answers_by_each_kind_of_function(rt: HostRuntime) -> Result<(), Fail> {
-    let (path, cost) = by_array(rt.alloc())?.ok_or("no path")?;
-    assert_eq!(rt; path.as_slice(), [1, 2, 4, 5, 10].as_slice());
-    assert_eq!(rt; cost, 10);
-    let (path, cost) = by_range(rt.alloc())?.ok_or("no path")?;
-    assert_eq!(rt; path.as_slice(), [3, 7].as_slice());
-    assert_eq!(rt; cost, 5);
+fn answers_by_each_kind_of_function(rt: HostRuntime) {
+    let alloc = rt.alloc();
+    assert!(rt;
+        is_path_at(by_array(alloc, 100, 10), &[1, 2, 4, 5, 10], 10),
+        "an array"
+    );
+    assert!(rt; is_path_at(by_range(alloc), &[3, 7], 5), "a range");
     let rows: [&[(usize, u32)]; 3] = [&[(2, 9), (1, 3)], &[(2, 4), (0, 0)], &[]];
-    assert!(rt; leads_inside(&rows));
-    let (path, cost) = by_filter(rt.alloc(), &rows, 5)?.ok_or("no path")?;
-    assert_eq!(rt; path.as_slice(), [0, 1, 2].as_slice());
-    assert_eq!(rt; cost, 7);
-    assert!(rt; by_filter(rt.alloc(), &rows, 4)?.is_none());
-    let mut rows = Vec::new(rt.alloc());
-    for row in [[(2usize, 9u32), (1, 3)], [(2, 4), (0, 0)], [(2, 0), (2, 1)]] {
-        rows.push(Vec::from_array(rt.alloc(), row)?)?;
-    }
-    assert!(rt; rows.len() > 2 && leads_to_rows(&rows));
-    let (path, cost) = by_rows(rt.alloc(), &rows)?.ok_or("no path")?;
-    assert_eq!(rt; path.as_slice(), [0, 1, 2].as_slice());
-    assert_eq!(rt; cost, 7);
-    let (path, cost) = cheapest_in_rows(rt.alloc(), &rows, 1, 2)?.ok_or("no path")?;
-    assert_eq!(rt; path.as_slice(), [1, 2].as_slice());
-    assert_eq!(rt; cost, 4);
-    let (path, cost) = by_signed(rt.alloc())?.ok_or("no path")?;
-    assert_eq!(rt; path.as_slice(), [false, true].as_slice());
-    assert_eq!(rt; cost, 3);
-    let (path, cost) = by_counter(rt.alloc())?.ok_or("no path")?;
-    assert_eq!(rt; path.as_slice(), ['a', 'b'].as_slice());
-    assert_eq!(rt; cost, 1);
-    assert_eq!(rt; by_lent_counter(rt.alloc())?, 2);
-    Ok(())
+    assert!(rt;
+        is_path_at(by_filter(alloc, &rows, 5), &[0, 1, 2], 7),
+        "a row, filtered"
+    );
+    assert!(rt;
+        is_no_path(by_filter(alloc, &rows, 4)),
+        "a row, filtered more"
+    );
+    assert!(rt;
+        is_path_at(by_signed(alloc), &[false, true], 3),
+        "signed costs"
+    );
+    assert!(rt;
+        is_path_at(by_counter(alloc), &['a', 'b'], 1),
+        "a counter of its own"
+    );
+    assert!(rt;
+        matches!(by_lent_counter(alloc), Ok(2)),
+        "a counter of the caller"
+    );
 }

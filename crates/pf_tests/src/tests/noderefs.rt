@@ -46,60 +46,82 @@ fn count_of<N: Eq + Hash, A: Allocator>(nodes: NodeRefs<'_, N, A>) -> usize
     nodes.into_iter().count()
 }
 
-#[test]
-fn equal_nodes_are_one(rt: HostRuntime) -> Result<(), Fail> {
-    let letters = [NoCase { name: "A" }, NoCase { name: "a" }];
-    let nodes = NodeRefs::from_nodes(rt.alloc(), &letters)?;
-    assert_eq!(rt; nodes.len(), 1);
-    assert!(rt; nodes.contains(&letters[0]) && nodes.contains(&letters[1]));
-    assert!(rt; !nodes.contains(&NoCase { name: "b" }));
-    assert!(rt; nodes == NodeRefs::from_one(rt.alloc(), &letters[1])?);
-    Ok(())
-}
-
-#[test]
-fn sets_of_one_and_of_no_node(rt: HostRuntime) -> Result<(), Fail> {
-    let nodes = NodeRefs::from_one(rt.alloc(), &7u32)?;
-    assert!(rt; !nodes.is_empty() && nodes.len() == 1);
-    assert!(rt; nodes.contains(&7) && !nodes.contains(&8));
-    assert_eq!(rt; format!(in rt.alloc(); "{nodes:?}")?.as_str(), "{7}");
-    let nodes = set_of(rt.alloc(), &[0u32; 0])?;
-    assert!(rt; nodes.is_empty() && nodes.len() == 0);
-    assert!(rt; nodes.iter().next().is_none());
-    Ok(())
-}
-
-#[test]
-fn gives_each_node_once(rt: HostRuntime) -> Result<(), Fail> {
-    let given = [3u32, 1, 3, 2, 1];
-    let nodes = set_of(rt.alloc(), &given)?;
-    assert_eq!(rt; nodes.len(), 3);
-    let mut lent = clones_of(rt.alloc(), &nodes)?;
-    lent.sort()?;
-    assert_eq!(rt; lent.as_slice(), [1, 2, 3].as_slice());
+/// The sum of the nodes, by a loop over a set that is lent.
+fn sum_of(nodes: &NodeRefs<'_, u32>) -> u32 {
     let mut sum = 0u32;
-    for node in &nodes {
+    for node in nodes {
         sum = sum.saturating_add(*node);
     }
-    assert_eq!(rt; sum, 6);
+    sum
+}
+
+/// The product of the nodes, by a loop over a set that is used up, and whether it gives no more.
+fn product_of(nodes: NodeRefs<'_, u32>) -> (u32, bool) {
     let mut all = nodes.into_iter();
     let mut product = 1u32;
     for node in &mut all {
         product = product.saturating_mul(*node);
     }
-    assert_eq!(rt; product, 6);
-    assert!(rt; all.next().is_none());
+    (product, all.next().is_none())
+}
+
+/// What `==` and `!=` answer about the sets of two lists of nodes.
+fn compared<A>(alloc: A, left: &[u32], right: &[u32]) -> Result<(bool, bool), PathError>
+where
+    A: Allocator + Copy,
+{
+    let left = set_of(alloc, left)?;
+    let right = set_of(alloc, right)?;
+    Ok((left == right, left != right))
+}
+
+#[test]
+fn equal_nodes_are_one(rt: HostRuntime) -> Result<(), Fail> {
+    let letters = [NoCase { name: "A" }, NoCase { name: "a" }];
+    let nodes = NodeRefs::from_nodes(rt.alloc(), &letters)?;
+    assert!(rt; nodes.len() == 1 && nodes == NodeRefs::from_one(rt.alloc(), &letters[1])?);
+    for (name, is_node) in [("A", true), ("a", true), ("b", false)] {
+        assert_eq!(rt; nodes.contains(&NoCase { name }), is_node, "{name}");
+    }
+    Ok(())
+}
+
+#[test]
+fn sets_of_one_and_of_no_node(rt: HostRuntime) -> Result<(), Fail> {
+    let one = NodeRefs::from_one(rt.alloc(), &7u32)?;
+    assert!(rt; !one.is_empty() && one.len() == 1 && one.contains(&7) && !one.contains(&8));
+    assert_eq!(rt; format!(in rt.alloc(); "{one:?}")?.as_str(), "{7}");
+    let none = set_of(rt.alloc(), &[0u32; 0])?;
+    assert!(rt; none.is_empty() && none.len() == 0 && none.iter().next().is_none());
+    Ok(())
+}
+
+#[test]
+fn gives_each_node_once(rt: HostRuntime) -> Result<(), Fail> {
+    let nodes = set_of(rt.alloc(), &[3u32, 1, 3, 2, 1])?;
+    let mut clones = clones_of(rt.alloc(), &nodes)?;
+    clones.sort()?;
+    assert!(rt; nodes.len() == 3 && clones.as_slice() == [1, 2, 3].as_slice());
+    assert!(rt; sum_of(&nodes) == 6 && product_of(nodes) == (6, true));
     Ok(())
 }
 
 #[test]
 fn equal_sets_may_differ_in_order(rt: HostRuntime) -> Result<(), Fail> {
+    let cases: [(&[u32], &[u32], bool); 3] = [
+        (&[1, 2, 3], &[3, 2, 1, 2], true),
+        (&[1, 2, 3], &[1, 2], false),
+        (&[1, 2], &[1, 2, 3], false),
+    ];
+    for (left, right, equal) in cases {
+        assert_eq!(rt;
+            compared(rt.alloc(), left, right)?,
+            (equal, !equal),
+            "{left:?}, {right:?}"
+        );
+    }
     let nodes = set_of(rt.alloc(), &[1u32, 2, 3])?;
-    assert!(rt; nodes == set_of(rt.alloc(), &[3, 2, 1, 2])?);
-    assert!(rt; nodes != set_of(rt.alloc(), &[1, 2])?);
-    assert!(rt; set_of(rt.alloc(), &[1, 2])? != nodes);
     let copy = nodes.clone()?;
-    assert!(rt; copy == nodes);
-    assert_eq!(rt; count_of(copy), 3);
+    assert!(rt; copy == nodes && count_of(copy) == 3);
     Ok(())
 }

@@ -1,83 +1,85 @@
 //! Which requests the allocator for tests refuses.
 
+use crate::tests::refusals::{Outcome, numbers_below, refuse_each_growth};
 use refusing_allocator::Refusing;
-use std::alloc::Allocator;
+use std::alloc::Global;
 use std::test::Fail;
 
+/// Whether the allocator grants a request.
+fn grants(heap: &Refusing<Global>) -> bool {
+    Box::new(heap, 1u8).is_ok()
+}
+
 #[test]
-fn refuses_the_third_request_alone(rt: HostRuntime) -> Result<(), Fail> {
-    let heap = Refusing::new(rt.alloc());
-    heap.refuse(2, 1);
-    for (request, granted) in [(0u8, true), (1, true), (2, false), (3, true), (4, true)] {
-        assert_eq!(rt;
-            Box::new(&heap, request).is_ok(),
-            granted,
-            "request {request}"
-        );
+fn counts_down_to_the_refusals_and_through_them(rt: HostRuntime) {
+    // How many requests are granted, how many are refused after those, and of each request whether
+    // it is granted and the two numbers after it.
+    for (granted, refused, requests) in [
+        (
+            2,
+            1,
+            [
+                (true, 1, 1),
+                (true, 0, 1),
+                (false, 0, 0),
+                (true, 0, 0),
+                (true, 0, 0),
+            ],
+        ),
+        (
+            1,
+            2,
+            [
+                (true, 0, 2),
+                (false, 0, 1),
+                (false, 0, 0),
+                (true, 0, 0),
+                (true, 0, 0),
+            ],
+        ),
+    ] {
+        let heap = Refusing::new(rt.alloc());
+        assert!(rt; heap.granted() == 0 && heap.pending() == 0 && grants(&heap));
+        heap.refuse(granted, refused);
+        assert!(rt; heap.granted() == granted && heap.pending() == refused);
+        for (is_granted, granted, pending) in requests {
+            assert_eq!(rt;
+                (grants(&heap), heap.granted(), heap.pending()),
+                (is_granted, granted, pending)
+            );
+        }
     }
-    Ok(())
 }
 
 #[test]
-fn counts_down_to_the_refusals_and_through_them(rt: HostRuntime) -> Result<(), Fail> {
-    let heap = Refusing::new(rt.alloc());
-    assert_eq!(rt; (heap.granted(), heap.pending()), (0, 0));
-    assert!(rt; Box::new(&heap, 1u8).is_ok());
-    heap.refuse(1, 2);
-    assert_eq!(rt; (heap.granted(), heap.pending()), (1, 2));
-    assert!(rt; Box::new(&heap, 2u8).is_ok());
-    assert_eq!(rt; (heap.granted(), heap.pending()), (0, 2));
-    assert!(rt; Box::new(&heap, 3u8).is_err());
-    assert!(rt; Box::new(&heap, 4u8).is_err());
-    assert_eq!(rt; (heap.granted(), heap.pending()), (0, 0));
-    assert!(rt; Box::new(&heap, 5u8).is_ok());
-    Ok(())
-}
-
-#[test]
-fn refuses_every_request_until_told_otherwise(rt: HostRuntime) -> Result<(), Fail> {
+fn refuses_every_request_until_told_otherwise(rt: HostRuntime) {
     let heap = Refusing::new(rt.alloc());
     heap.refuse(0, u64::MAX);
     for request in 0..100u8 {
-        assert!(rt; Box::new(&heap, request).is_err(), "request {request}");
+        assert!(rt; !grants(&heap), "request {request}");
     }
     heap.refuse(0, 0);
-    assert!(rt; Box::new(&heap, 0u8).is_ok());
-    Ok(())
-}
-
-/// The numbers below `count`, in a vector that grows as it is filled.
-fn numbers_below<A>(alloc: A, count: u32) -> Result<Vec<u32, A>, &'static str>
-where
-    A: Allocator + Copy,
-{
-    let mut numbers = Vec::new(alloc);
-    for number in 0..count {
-        if numbers.push(number).is_err() {
-            return Err("refused");
-        }
-    }
-    Ok(numbers)
+    assert!(rt; grants(&heap));
 }
 
 /// What was granted before a refusal keeps its contents, and goes back to the inner allocator.
 #[test]
-fn a_refused_growth_leaves_the_rest_as_it_was(rt: HostRuntime) -> Result<(), Fail> {
-    for growth in 0..100u64 {
-        let heap = Refusing::new(rt.alloc());
-        let kept = Box::new(&heap, 7u64)?;
-        heap.refuse(growth, 1);
-        let answer = numbers_below(&heap, 100);
-        assert_eq!(rt; *kept, 7);
-        if heap.pending() > 0 {
-            assert!(rt; growth > 1);
-            let numbers = answer?;
-            assert!(rt; numbers.iter().copied().eq(0..100));
-            return Ok(());
+fn a_refused_growth_leaves_the_rest_as_it_was(rt: HostRuntime) {
+    let growths = refuse_each_growth(&rt, rt.alloc(), |heap| {
+        let Ok(kept) = Box::new(heap, 7u64) else {
+            return Outcome::OutOfMemory;
+        };
+        let answer = numbers_below(heap, 100);
+        if *kept != 7 {
+            return Outcome::Wrong;
         }
-        assert!(rt; answer.is_err(), "growth {growth}");
-    }
-    Err("every run met a refusal")?
+        match answer {
+            Ok(numbers) if numbers.iter().copied().eq(0..100) => Outcome::Answered,
+            Ok(_) => Outcome::Wrong,
+            Err(_) => Outcome::OutOfMemory,
+        }
+    });
+    assert!(rt; growths > 2);
 }
 
 /// A `shrink_to_fit` that is refused says nothing, and leaves the vector as it was.
@@ -88,7 +90,6 @@ fn a_refused_shrink_is_silent(rt: HostRuntime) -> Result<(), Fail> {
     items.push(1u8)?;
     heap.refuse(0, 1);
     items.shrink_to_fit();
-    assert_eq!(rt; heap.pending(), 0);
-    assert_eq!(rt; items.capacity(), 10);
+    assert!(rt; heap.pending() == 0 && items.capacity() == 10);
     Ok(())
 }

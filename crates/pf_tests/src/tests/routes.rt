@@ -114,10 +114,83 @@ impl BuildHasher for OneHash {
     }
 }
 
-const SEVEN: &[u8] = b"A B 4\nA C 2\nB C 1\nB D 5\nC D 8\nC E 10\nD E 2\n";
+/// Seven edges between five nodes.
+pub const SEVEN: &[u8] = b"A B 4\nA C 2\nB C 1\nB D 5\nC D 8\nC E 10\nD E 2\n";
+
+/// A command of each kind about the seven edges, and what is written for it.
+pub const SEVEN_ANSWERS: [(&str, &[u8]); 3] = [
+    ("dijkstra A E", b"11: A B D E\n"),
+    ("bfs A E", b"2: A C E\n"),
+    ("kruskal", b"B C 1\nA C 2\nD E 2\nB D 5\n"),
+];
+
+/// Commands, edges, and what is written for them.
+const ANSWERS: [(&str, &[u8], &[u8]); 16] = [
+    ("dijkstra A E", SEVEN, b"11: A B D E\n"),
+    ("dijkstra A A", b"", b"0: A\n"),
+    ("dijkstra a c", b"", b"none\n"),
+    ("dijkstra a b", b"\r\n\n a\tb 007 \r\n", b"7: a b\n"),
+    ("dijkstra a b", b"a b 2\na b 1\r", b"1: a b\n"),
+    ("dijkstra b a", b"a b 1", b"none\n"),
+    ("bfs A E", SEVEN, b"2: A C E\n"),
+    ("bfs A D", SEVEN, b"2: A B D\n"),
+    ("bfs a a", b"", b"0: a\n"),
+    ("bfs a a", b"a a 1", b"0: a\n"),
+    ("bfs a c", b"", b"none\n"),
+    ("bfs b a", b"a b 1", b"none\n"),
+    (
+        "bfs a c",
+        b"a b 18446744073709551615\nb c 1\n",
+        b"2: a b c\n",
+    ),
+    (
+        "kruskal",
+        b"a b 3\na e 1\nb c 5\nb e 4\nc d 2\nc e 6\nd e 7\n",
+        b"a e 1\nc d 2\na b 3\nb c 5\n",
+    ),
+    ("kruskal", b"", b""),
+    ("kruskal", b"a a 1\n", b""),
+];
+
+/// Commands, edges, and the fault that they have.
+const FAULTS: [(&str, &[u8], RouteError); 12] = [
+    ("dijkstra a c", b"a b 1\nb c x\n", RouteError::BadEdge(2)),
+    (
+        "dijkstra a c",
+        b"a b 18446744073709551615\nb c 1\n",
+        RouteError::CostOverflow,
+    ),
+    (
+        "dijkstra a c",
+        b"a b 18446744073709551615\nb c 1\nb c",
+        RouteError::BadEdge(3),
+    ),
+    (
+        "dijkstra a c",
+        b"a b 18446744073709551616\n",
+        RouteError::BadEdge(1),
+    ),
+    ("dijkstra a c", b"a b", RouteError::BadEdge(1)),
+    ("dijkstra a c", b"a b 1\r\r\n", RouteError::BadEdge(1)),
+    ("dijkstra a c", b"a b +1", RouteError::BadEdge(1)),
+    ("dijkstra a c", b"a b 1 x", RouteError::BadEdge(1)),
+    (
+        "dijkstra a c",
+        b"\n\na b 1\na\x7f b 1",
+        RouteError::BadEdge(4),
+    ),
+    ("dijkstra a c", b"a b 1\n\0", RouteError::BadEdge(2)),
+    // A search by edges alone reads the costs too.
+    (
+        "bfs a c",
+        b"a c 18446744073709551616\n",
+        RouteError::BadEdge(1),
+    ),
+    ("bfs a c", b"a b 1\nb c\n", RouteError::BadEdge(2)),
+];
 
 /// The command that words parted by spaces spell.
-fn asked(alloc: Global, line: &str) -> Result<Option<Command>, AllocError> {
+pub fn asked(alloc: Global, line: &str) -> Result<Option<Command>, AllocError> {
     let mut words = Vec::new(alloc);
     for word in line.split(' ') {
         words.push(String::from_str(alloc, word)?)?;
@@ -137,85 +210,37 @@ fn run_over(alloc: Global, command: &Command, text: &[u8]) -> (Result<(), RouteE
     (result, output.into_inner())
 }
 
-#[test]
-fn answers_are_written(rt: HostRuntime) -> Result<(), Fail> {
-    let cases: [(&str, &[u8], &[u8]); 16] = [
-        ("dijkstra A E", SEVEN, b"11: A B D E\n"),
-        ("dijkstra A A", b"", b"0: A\n"),
-        ("dijkstra a c", b"", b"none\n"),
-        ("dijkstra a b", b"\r\n\n a\tb 007 \r\n", b"7: a b\n"),
-        ("dijkstra a b", b"a b 2\na b 1\r", b"1: a b\n"),
-        ("dijkstra b a", b"a b 1", b"none\n"),
-        ("bfs A E", SEVEN, b"2: A C E\n"),
-        ("bfs A D", SEVEN, b"2: A B D\n"),
-        ("bfs a a", b"", b"0: a\n"),
-        ("bfs a a", b"a a 1", b"0: a\n"),
-        ("bfs a c", b"", b"none\n"),
-        ("bfs b a", b"a b 1", b"none\n"),
-        (
-            "bfs a c",
-            b"a b 18446744073709551615\nb c 1\n",
-            b"2: a b c\n",
-        ),
-        (
-            "kruskal",
-            b"a b 3\na e 1\nb c 5\nb e 4\nc d 2\nc e 6\nd e 7\n",
-            b"a e 1\nc d 2\na b 3\nb c 5\n",
-        ),
-        ("kruskal", b"", b""),
-        ("kruskal", b"a a 1\n", b""),
-    ];
-    for (line, text, want) in cases {
-        let command = asked(rt.alloc(), line)?.ok_or("no command")?;
-        let (result, written) = run_over(rt.alloc(), &command, text);
-        assert_eq!(rt; result, Ok(()), "{line}");
-        assert_eq!(rt; written.as_slice(), want, "{line}");
+/// Whether a run over memory writes this and answers Ok, or writes nothing and answers this fault.
+fn is_answered(
+    alloc: Global,
+    command: &Command,
+    text: &[u8],
+    want: Result<&[u8], RouteError>,
+) -> bool {
+    let (result, written) = run_over(alloc, command, text);
+    match (result, want) {
+        (Ok(()), Ok(bytes)) => written.as_slice() == bytes,
+        (Err(fault), Err(wanted)) => fault == wanted && written.is_empty(),
+        _ => false,
     }
-    Ok(())
 }
 
 #[test]
-fn faults_write_nothing(rt: HostRuntime) -> Result<(), Fail> {
-    let cases: [(&str, &[u8], RouteError); 12] = [
-        ("dijkstra a c", b"a b 1\nb c x\n", RouteError::BadEdge(2)),
-        (
-            "dijkstra a c",
-            b"a b 18446744073709551615\nb c 1\n",
-            RouteError::CostOverflow,
-        ),
-        (
-            "dijkstra a c",
-            b"a b 18446744073709551615\nb c 1\nb c",
-            RouteError::BadEdge(3),
-        ),
-        (
-            "dijkstra a c",
-            b"a b 18446744073709551616\n",
-            RouteError::BadEdge(1),
-        ),
-        ("dijkstra a c", b"a b", RouteError::BadEdge(1)),
-        ("dijkstra a c", b"a b 1\r\r\n", RouteError::BadEdge(1)),
-        ("dijkstra a c", b"a b +1", RouteError::BadEdge(1)),
-        ("dijkstra a c", b"a b 1 x", RouteError::BadEdge(1)),
-        (
-            "dijkstra a c",
-            b"\n\na b 1\na\x7f b 1",
-            RouteError::BadEdge(4),
-        ),
-        ("dijkstra a c", b"a b 1\n\0", RouteError::BadEdge(2)),
-        // A search by edges alone reads the costs too.
-        (
-            "bfs a c",
-            b"a c 18446744073709551616\n",
-            RouteError::BadEdge(1),
-        ),
-        ("bfs a c", b"a b 1\nb c\n", RouteError::BadEdge(2)),
-    ];
-    for (line, text, want) in cases {
-        let command = asked(rt.alloc(), line)?.ok_or("no command")?;
-        let (result, written) = run_over(rt.alloc(), &command, text);
-        assert_eq!(rt; result, Err(want));
-        assert!(rt; written.is_empty());
+fn answers_are_written_and_faults_write_nothing(rt: HostRuntime) -> Result<(), Fail> {
+    let alloc = rt.alloc();
+    for (line, text, want) in ANSWERS {
+        let command = asked(alloc, line)?.ok_or("no command")?;
+        assert!(rt;
+            is_answered(alloc, &command, text, Ok(want)),
+            "{line} of {text:?}"
+        );
+    }
+    for (line, text, want) in FAULTS {
+        let command = asked(alloc, line)?.ok_or("no command")?;
+        assert!(rt;
+            is_answered(alloc, &command, text, Err(want)),
+            "{line} of {text:?}"
+        );
     }
     Ok(())
 }
@@ -244,45 +269,62 @@ fn wrong_words_are_no_command(rt: HostRuntime) -> Result<(), Fail> {
         assert!(rt; asked(rt.alloc(), line)?.is_none(), "{line}");
     }
     assert!(rt; command(Vec::new(rt.alloc())).is_none());
-    assert!(rt; asked(rt.alloc(), "dijkstra ! ~")?.is_some());
-    assert!(rt; asked(rt.alloc(), "bfs ! ~")?.is_some());
+    for line in ["dijkstra ! ~", "bfs ! ~"] {
+        assert!(rt; asked(rt.alloc(), line)?.is_some(), "{line}");
+    }
     Ok(())
 }
 
-/// What a run over the seven edges writes, by the hasher.
-fn written_with<S: BuildHasher + Drop>(
+/// Whether a run over the seven edges writes this, by the hasher.
+fn writes<S: BuildHasher + Drop>(
     alloc: Global,
     command: &Command,
     hash_builder: S,
-) -> Result<Vec<u8>, RouteError> {
+    want: &[u8],
+) -> bool {
     let mut input = Noted::new(SEVEN);
     let mut output = Noted::new(Vec::new(alloc));
-    run_with_hasher(alloc, command, &mut input, &mut output, hash_builder)?;
-    Ok(output.into_inner())
+    let result = run_with_hasher(alloc, command, &mut input, &mut output, hash_builder);
+    result.is_ok() && output.into_inner().as_slice() == want
 }
 
 #[test]
 fn any_hasher_gives_the_same_answers(rt: HostRuntime) -> Result<(), Fail> {
     let seeds = RandomState::new(&rt)?;
-    let cases: [(&str, &[u8]); 3] = [
-        ("dijkstra A E", b"11: A B D E\n"),
-        ("bfs A E", b"2: A C E\n"),
-        ("kruskal", b"B C 1\nA C 2\nD E 2\nB D 5\n"),
-    ];
-    for (line, want) in cases {
+    for (line, want) in SEVEN_ANSWERS {
         let command = asked(rt.alloc(), line)?.ok_or("no command")?;
-        let seeded = written_with(rt.alloc(), &command, seeds)?;
-        assert_eq!(rt; seeded.as_slice(), want, "{line}");
-        let collided = written_with(rt.alloc(), &command, OneHash)?;
-        assert_eq!(rt; collided.as_slice(), want, "{line}");
+        assert!(rt;
+            writes(rt.alloc(), &command, seeds, want),
+            "{line}, by a random seed"
+        );
+        assert!(rt;
+            writes(rt.alloc(), &command, OneHash, want),
+            "{line}, all colliding"
+        );
     }
     Ok(())
+}
+
+/// Whether a run ends with the first failed read, reads no further, and writes nothing.
+fn ends_at_failed_read(alloc: Global, command: &Command, device: Broken<'_>, left: &[u8]) -> bool {
+    let mut input = Noted::new(device);
+    let mut output = Noted::new(Vec::new(alloc));
+    let is_fresh = !input.failed();
+    let result = run(alloc, command, &mut input, &mut output);
+    let is_noted = input.failed() && !output.failed();
+    let written = output.into_inner();
+    result == Err(RouteError::ReadFailed)
+        && is_fresh
+        && is_noted
+        && input.into_inner().left == left
+        && written.is_empty()
 }
 
 #[test]
 fn a_run_ends_at_the_first_failed_read(rt: HostRuntime) -> Result<(), Fail> {
     let command = asked(rt.alloc(), "dijkstra a b")?.ok_or("no command")?;
-    // In mid-stream, at the end, and before a bad edge.
+    // What is read before the failure, and what is left: in mid-stream, at the end, and before a
+    // bad edge.
     let cases: [(&[u8], usize); 4] = [
         (b"a b 1\na b 2\n", 0),
         (b"a b 1\na b 2\n", 6),
@@ -291,81 +333,64 @@ fn a_run_ends_at_the_first_failed_read(rt: HostRuntime) -> Result<(), Fail> {
     ];
     for (text, until_failure) in cases {
         for recovers in [false, true] {
-            let mut input = Noted::new(Broken {
+            let device = Broken {
                 left: text,
                 until_failure,
                 recovers,
                 has_failed: false,
-            });
-            let mut output = Noted::new(Vec::new(rt.alloc()));
-            assert!(rt; !input.failed());
-            let result = run(rt.alloc(), &command, &mut input, &mut output);
-            assert_eq!(rt; result, Err(RouteError::ReadFailed));
-            assert!(rt; input.failed());
-            assert!(rt; !output.failed());
-            assert_eq!(rt; input.into_inner().left, &text[until_failure..]);
-            assert!(rt; output.into_inner().is_empty());
+            };
+            let left = &text[until_failure..];
+            assert!(rt;
+                ends_at_failed_read(rt.alloc(), &command, device, left),
+                "{until_failure}, {recovers}"
+            );
         }
     }
     Ok(())
+}
+
+/// Whether a run writes a beginning of the answer that has the room, notes a failure where that is
+/// not all, and writes no further.
+fn ends_at_failed_write(alloc: Global, command: &Command, device: Narrow, answer: &[u8]) -> bool {
+    let room = answer.len().min(device.room);
+    let mut input = Noted::new(SEVEN);
+    let mut output = Noted::new(device);
+    let result = run(alloc, command, &mut input, &mut output);
+    let want = if room < answer.len() {
+        Err(RouteError::WriteFailed)
+    } else {
+        Ok(())
+    };
+    let is_noted = output.failed() == want.is_err();
+    let taken = output.into_inner().taken;
+    result == want && is_noted && taken.as_slice() == &answer[..room]
 }
 
 #[test]
 fn a_run_ends_at_the_first_failed_write(rt: HostRuntime) -> Result<(), Fail> {
     let command = asked(rt.alloc(), "dijkstra A E")?.ok_or("no command")?;
-    let answer = b"11: A B D E\n";
-    for fails in [false, true] {
-        for recovers in [false, true] {
-            for room in [0, 3, 11, 100] {
-                let want = if room < answer.len() {
-                    Err(RouteError::WriteFailed)
-                } else {
-                    Ok(())
-                };
-                let mut input = Noted::new(SEVEN);
-                let mut output = Noted::new(Narrow::new(rt.alloc(), room, fails, recovers));
-                let result = run(rt.alloc(), &command, &mut input, &mut output);
-                assert_eq!(rt; result, want);
-                assert_eq!(rt; output.failed(), want.is_err());
-                let taken = output.into_inner().taken;
-                assert_eq!(rt; taken.as_slice(), &answer[..answer.len().min(room)]);
-            }
+    for (fails, recovers) in [(false, false), (false, true), (true, false), (true, true)] {
+        for room in [0, 3, 11, 100] {
+            let device = Narrow::new(rt.alloc(), room, fails, recovers);
+            assert!(rt;
+                ends_at_failed_write(rt.alloc(), &command, device, b"11: A B D E\n"),
+                "{fails}, {recovers}, {room}"
+            );
         }
     }
     Ok(())
 }
 
 #[test]
-fn a_failed_flush_is_noted(rt: HostRuntime) -> Result<(), Fail> {
+fn failed_flushes_and_short_reads_are_noted(rt: HostRuntime) {
     for fails in [false, true] {
         let mut output = Noted::new(Narrow::new(rt.alloc(), 0, fails, false));
-        assert_eq!(rt; output.flush().is_err(), fails);
-        assert_eq!(rt; output.failed(), fails);
+        assert!(rt;
+            output.flush().is_err() == fails && output.failed() == fails,
+            "{fails}"
+        );
     }
-    Ok(())
-}
-
-#[test]
-fn a_short_read_is_noted(rt: HostRuntime) -> Result<(), Fail> {
     let mut input = Noted::new(b"ab".as_slice());
     let mut buf = [0u8; 3];
-    assert!(rt; input.read_exact(&mut buf).is_err());
-    assert!(rt; input.failed());
-    Ok(())
-}
-
-#[test]
-fn fault_texts(rt: HostRuntime) -> Result<(), Fail> {
-    let cases = [
-        (RouteError::BadEdge(12), "line 12: bad edge"),
-        (RouteError::CostOverflow, "cost overflow"),
-        (RouteError::OutOfMemory, "out of memory"),
-        (RouteError::ReadFailed, "read failed"),
-        (RouteError::WriteFailed, "write failed"),
-    ];
-    for (fault, want) in cases {
-        let text = fault.to_string(rt.alloc())?;
-        assert_eq!(rt; text.as_str(), want);
-    }
-    Ok(())
+    assert!(rt; input.read_exact(&mut buf).is_err() && input.failed());
 }

@@ -6,6 +6,15 @@ use std::mem;
 #[test]
 fn square_roots(rt: HostRuntime) {
     for (n, root) in [
+        (0u8, Some(0u8)),
+        (1, Some(1)),
+        (2, None),
+        (225, Some(15)),
+        (255, None),
+    ] {
+        assert_eq!(rt; uint_sqrt(n), root, "the root of {n}");
+    }
+    for (n, root) in [
         (0u64, Some(0u64)),
         (1, Some(1)),
         (2, None),
@@ -18,15 +27,12 @@ fn square_roots(rt: HostRuntime) {
     ] {
         assert_eq!(rt; uint_sqrt(n), root, "the root of {n}");
     }
-    assert_eq!(rt; (uint_sqrt(225u8), uint_sqrt(u8::MAX)), (Some(15), None));
-    assert_eq!(rt; uint_sqrt(65025u16), Some(255));
-    assert_eq!(rt; uint_sqrt(152399025u32), Some(12345));
-    assert_eq!(rt; uint_sqrt(49usize), Some(7));
-    assert_eq!(rt;
-        uint_sqrt(340282366920938463426481119284349108225u128),
-        Some(18446744073709551615)
-    );
-    assert_eq!(rt; uint_sqrt(u128::MAX), None);
+    assert!(rt; uint_sqrt(65025u16) == Some(255));
+    assert!(rt; uint_sqrt(152399025u32) == Some(12345));
+    assert!(rt; uint_sqrt(49usize) == Some(7));
+    let square = 340282366920938463426481119284349108225u128;
+    assert!(rt; uint_sqrt(square) == Some(18446744073709551615));
+    assert!(rt; uint_sqrt(u128::MAX).is_none());
 }
 
 #[test]
@@ -65,19 +71,31 @@ fn moves(rt: HostRuntime) {
 
 #[test]
 fn rays(rt: HostRuntime) {
-    let mut ray = in_direction((1, 1), (1, 3), (8, 8));
-    for target in [Some((2, 4)), Some((3, 7)), None, None] {
-        assert_eq!(rt; ray.next(), target);
-    }
-    assert!(rt; in_direction((1, 1), (0, 0), (8, 8)).next().is_none());
-    assert!(rt; in_direction((8, 1), (-1, 0), (8, 8)).next().is_none());
-    let mut ray = in_direction((0, 0), (0, isize::MAX), (1, usize::MAX));
-    for target in [
-        Some((0, 9223372036854775807)),
-        Some((0, 18446744073709551614)),
-        None,
-    ] {
-        assert_eq!(rt; ray.next(), target);
+    let cases: [(
+        (usize, usize),
+        (isize, isize),
+        (usize, usize),
+        &[(usize, usize)],
+    ); 4] = [
+        ((1, 1), (1, 3), (8, 8), &[(2, 4), (3, 7)]),
+        ((1, 1), (0, 0), (8, 8), &[]),
+        ((8, 1), (-1, 0), (8, 8), &[]),
+        (
+            (0, 0),
+            (0, isize::MAX),
+            (1, usize::MAX),
+            &[(0, 9223372036854775807), (0, 18446744073709551614)],
+        ),
+    ];
+    for (start, direction, dimensions, targets) in cases {
+        let mut ray = in_direction(start, direction, dimensions);
+        for target in targets {
+            assert_eq!(rt; ray.next(), Some(*target));
+        }
+        assert!(rt;
+            ray.next().is_none() && ray.next().is_none(),
+            "{start:?} to {direction:?}"
+        );
     }
     let mut rows = 0usize;
     for (row, column) in in_direction((0, 0), (1, 1), (8, 9)) {
