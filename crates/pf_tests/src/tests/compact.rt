@@ -2,11 +2,43 @@
 
 use crate::compact::{cheapest_in_compact, fewest_in_compact, is_compact};
 use crate::tests::answers::{is_no_path, is_path, is_path_at};
-use pf_base::NodeRefs;
-use std::test::Fail;
+use pf_base::{NodeRefs, PathError};
+use std::alloc::Global;
+use std::process::Abort;
+
+/// A cheapest path in a graph in compact form, after the test that it is one.
+fn cheapest(
+    rt: &impl Abort,
+    alloc: Global,
+    offsets: &[usize],
+    targets: &[(usize, u32)],
+    from: usize,
+    to: usize,
+) -> Result<Option<(Vec<usize>, u32)>, PathError> {
+    let count = offsets.len().saturating_sub(1);
+    assert!(rt; is_compact(offsets, targets) && targets.iter().all(|edge| edge.0 < count));
+    assert!(rt; from < count);
+    cheapest_in_compact(alloc, offsets, targets, from, to)
+}
+
+/// A path with fewest edges from the node 0, after the same test.
+fn fewest(
+    rt: &impl Abort,
+    alloc: Global,
+    offsets: &[usize],
+    targets: &[usize],
+    to: usize,
+) -> Result<Option<Vec<usize>>, PathError> {
+    let count = offsets.len().saturating_sub(1);
+    assert!(rt; is_compact(offsets, targets) && targets.iter().all(|node| *node < count));
+    assert!(rt; 0 < count);
+    let start = 0usize;
+    let starts = NodeRefs::from_one(alloc, &start)?;
+    fewest_in_compact(alloc, offsets, targets, &starts, to)
+}
 
 #[test]
-fn cheapest_and_fewest(rt: HostRuntime) -> Result<(), Fail> {
+fn cheapest_and_fewest(rt: HostRuntime) {
     // a: b4 c2, b: c1 d5, c: d8 e10, d: e2, as the nodes 0 to 4
     let offsets = [0usize, 2, 4, 6, 7, 7];
     let targets = [
@@ -19,17 +51,12 @@ fn cheapest_and_fewest(rt: HostRuntime) -> Result<(), Fail> {
         (4, 2),
     ];
     let nodes = [1usize, 2, 2, 3, 3, 4, 4];
-    assert!(rt; is_compact(&offsets, &targets) && targets.iter().all(|e| e.0 + 1 < offsets.len()));
-    let path = cheapest_in_compact(rt.alloc(), &offsets, &targets, 0, 4);
+    let path = cheapest(&rt, rt.alloc(), &offsets, &targets, 0, 4);
     assert!(rt; is_path_at(path, &[0, 1, 3, 4], 11));
-    let path = cheapest_in_compact(rt.alloc(), &offsets, &targets, 4, 0);
+    let path = cheapest(&rt, rt.alloc(), &offsets, &targets, 4, 0);
     assert!(rt; is_no_path(path));
-    assert!(rt; is_compact(&offsets, &nodes) && nodes.iter().all(|n| n + 1 < offsets.len()));
-    let start = 0usize;
-    let starts = NodeRefs::from_one(rt.alloc(), &start)?;
-    let path = fewest_in_compact(rt.alloc(), &offsets, &nodes, &starts, 4);
+    let path = fewest(&rt, rt.alloc(), &offsets, &nodes, 4);
     assert!(rt; is_path(path, &[0, 2, 4]));
-    Ok(())
 }
 
 #[test]

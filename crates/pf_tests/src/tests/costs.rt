@@ -34,10 +34,14 @@ fn costs_lie_between_least_and_greatest(rt: HostRuntime) {
 
 #[test]
 fn signed_costs_are_subtracted_and_negated(rt: HostRuntime) {
-    assert_eq!(rt; (3i8.minus(5), 127i8.negated()), (-2, -127));
-    assert_eq!(rt; (3i16.minus(5), 7i16.negated()), (-2, -7));
-    assert_eq!(rt; (3i32.minus(5), 7i32.negated()), (-2, -7));
-    assert_eq!(rt; (3i64.minus(5), 7i64.negated()), (-2, -7));
-    assert_eq!(rt; (3isize.minus(5), 7isize.negated()), (-2, -7));
-    assert_eq!(rt; (3i128.minus(5), 7i128.negated()), (-2, -7));
+    for (costs, holds) in [
+        ("i8", 3i8.minus(5) == -2 && 127i8.negated() == -127),
+        ("i16", 3i16.minus(5) == -2 && 7i16.negated() == -7),
+        ("i32", 3i32.minus(5) == -2 && 7i32.negated() == -7),
+        ("i64", 3i64.minus(5) == -2 && 7i64.negated() == -7),
+        ("isize", 3isize.minus(5) == -2 && 7isize.negated() == -7),
+        ("i128", 3i128.minus(5) == -2 && 7i128.negated() == -7),
+    ] {
+        assert!(rt; holds, "{costs}");
+    }
 }

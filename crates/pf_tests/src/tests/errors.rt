@@ -2,10 +2,16 @@
 
 use pathfinding::routes::RouteError;
 use pf_base::PathError;
-use std::test::Fail;
+use std::alloc::Global;
+use std::fmt::Display;
+
+/// Whether an error is printed as this text.
+fn is_printed<E: Display>(alloc: Global, error: &E, text: &str) -> bool {
+    matches!(&error.to_string(alloc), Ok(printed) if printed.as_str() == text)
+}
 
 #[test]
-fn refusals_have_their_texts(rt: HostRuntime) -> Result<(), Fail> {
+fn refusals_have_their_texts(rt: HostRuntime) {
     for (error, text) in [
         (PathError::OutOfMemory, "out of memory"),
         (PathError::CostOverflow, "cost overflow"),
@@ -13,7 +19,7 @@ fn refusals_have_their_texts(rt: HostRuntime) -> Result<(), Fail> {
         (PathError::StepOverflow, "step count overflow"),
         (PathError::NegativeCapacity, "negative capacity"),
     ] {
-        assert_eq!(rt; format!(in rt.alloc(); "{error}")?.as_str(), text);
+        assert!(rt; is_printed(rt.alloc(), &error, text), "{text}");
     }
     for (fault, text) in [
         (RouteError::BadEdge(12), "line 12: bad edge"),
@@ -22,7 +28,6 @@ fn refusals_have_their_texts(rt: HostRuntime) -> Result<(), Fail> {
         (RouteError::ReadFailed, "read failed"),
         (RouteError::WriteFailed, "write failed"),
     ] {
-        assert_eq!(rt; fault.to_string(rt.alloc())?.as_str(), text);
+        assert!(rt; is_printed(rt.alloc(), &fault, text), "{text}");
     }
-    Ok(())
 }

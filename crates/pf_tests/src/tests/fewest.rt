@@ -29,15 +29,21 @@ fn knight_moves(alloc: Global) -> Result<Vec<(Field, Field)>, AllocError> {
     Ok(moves)
 }
 
+/// Whether as many fields as `count` lead from one field to another.
+fn is_way(fields: &[Field], from: Field, to: Field, count: usize) -> bool {
+    fields.len() == count
+        && fields.first().copied() == Some(from)
+        && fields.last().copied() == Some(to)
+}
+
 #[test]
 fn a_knight_needs_four_moves(rt: HostRuntime) -> Result<(), Fail> {
     let moves = knight_moves(rt.alloc())?;
-    assert_eq!(rt; moves.len(), 336);
     let (from, to) = ((1, 1), (4, 6));
     let starts = NodeRefs::from_one(rt.alloc(), &from)?;
-    let path = fewest_in_pairs(rt.alloc(), moves.as_slice(), &starts, &[to])?.ok_or("no path")?;
-    assert_eq!(rt; path.len(), 5);
-    assert_eq!(rt; (path.first(), path.last()), (Some(&from), Some(&to)));
+    let answer = fewest_in_pairs(rt.alloc(), &moves, &starts, &[to]);
+    assert!(rt; moves.len() == 336);
+    assert!(rt; matches!(&answer, Ok(Some(path)) if is_way(path, from, to, 5)));
     Ok(())
 }
 
@@ -68,13 +74,12 @@ fn the_nearest_start_and_goal_are_taken(rt: HostRuntime) -> Result<(), Fail> {
 fn equal_nodes_are_one_start(rt: HostRuntime) -> Result<(), Fail> {
     let names = [NoCase { name: "a" }, NoCase { name: "A" }];
     let starts = NodeRefs::from_nodes(rt.alloc(), &names)?;
-    assert_eq!(rt; starts.len(), 1);
     let edges = [
         (NoCase { name: "a" }, NoCase { name: "B" }),
         (NoCase { name: "b" }, NoCase { name: "C" }),
     ];
     let goal = NoCase { name: "c" };
     let answer = fewest_in_pairs(rt.alloc(), &edges, &starts, &[goal]);
-    assert!(rt; matches!(&answer, Ok(Some(path)) if path.len() == 3));
+    assert!(rt; starts.len() == 1 && matches!(&answer, Ok(Some(path)) if path.len() == 3));
     Ok(())
 }

@@ -65,6 +65,15 @@ fn product_of(nodes: NodeRefs<'_, u32>) -> (u32, bool) {
     (product, all.next().is_none())
 }
 
+/// Whether a set of no nodes has none, by each call that tells it.
+fn is_empty_without_nodes<A>(alloc: A) -> Result<bool, PathError>
+where
+    A: Allocator + Copy,
+{
+    let none = set_of(alloc, &[0u32; 0])?;
+    Ok(none.is_empty() && none.len() == 0 && none.iter().next().is_none())
+}
+
 /// What `==` and `!=` answer about the sets of two lists of nodes.
 fn compared<A>(alloc: A, left: &[u32], right: &[u32]) -> Result<(bool, bool), PathError>
 where
@@ -75,13 +84,24 @@ where
     Ok((left == right, left != right))
 }
 
+/// Whether a clone of the set of these nodes is equal to that set, and gives as many.
+pub fn is_cloned<A>(alloc: A, nodes: &[u32]) -> Result<bool, PathError>
+where
+    A: Allocator + Copy,
+{
+    let set = set_of(alloc, nodes)?;
+    let copy = set.clone()?;
+    Ok(copy == set && count_of(copy) == nodes.len())
+}
+
 #[test]
 fn equal_nodes_are_one(rt: HostRuntime) -> Result<(), Fail> {
     let letters = [NoCase { name: "A" }, NoCase { name: "a" }];
     let nodes = NodeRefs::from_nodes(rt.alloc(), &letters)?;
-    assert!(rt; nodes.len() == 1 && nodes == NodeRefs::from_one(rt.alloc(), &letters[1])?);
+    let one = NodeRefs::from_one(rt.alloc(), &letters[1])?;
+    assert!(rt; nodes.len() == 1 && nodes == one);
     for (name, is_node) in [("A", true), ("a", true), ("b", false)] {
-        assert_eq!(rt; nodes.contains(&NoCase { name }), is_node, "{name}");
+        assert!(rt; nodes.contains(&NoCase { name }) == is_node, "{name}");
     }
     Ok(())
 }
@@ -90,9 +110,9 @@ fn equal_nodes_are_one(rt: HostRuntime) -> Result<(), Fail> {
 fn sets_of_one_and_of_no_node(rt: HostRuntime) -> Result<(), Fail> {
     let one = NodeRefs::from_one(rt.alloc(), &7u32)?;
     assert!(rt; !one.is_empty() && one.len() == 1 && one.contains(&7) && !one.contains(&8));
-    assert_eq!(rt; format!(in rt.alloc(); "{one:?}")?.as_str(), "{7}");
-    let none = set_of(rt.alloc(), &[0u32; 0])?;
-    assert!(rt; none.is_empty() && none.len() == 0 && none.iter().next().is_none());
+    let text = format!(in rt.alloc(); "{one:?}")?;
+    assert_eq!(rt; text.as_str(), "{7}");
+    assert!(rt; is_empty_without_nodes(rt.alloc())?);
     Ok(())
 }
 
@@ -114,14 +134,9 @@ fn equal_sets_may_differ_in_order(rt: HostRuntime) -> Result<(), Fail> {
         (&[1, 2], &[1, 2, 3], false),
     ];
     for (left, right, equal) in cases {
-        assert_eq!(rt;
-            compared(rt.alloc(), left, right)?,
-            (equal, !equal),
-            "{left:?}, {right:?}"
-        );
+        let answers = compared(rt.alloc(), left, right)?;
+        assert!(rt; answers == (equal, !equal), "{left:?}, {right:?}");
     }
-    let nodes = set_of(rt.alloc(), &[1u32, 2, 3])?;
-    let copy = nodes.clone()?;
-    assert!(rt; copy == nodes && count_of(copy) == 3);
+    assert!(rt; is_cloned(rt.alloc(), &[1, 2, 3])?);
     Ok(())
 }

@@ -4,7 +4,8 @@
 use crate::fewest::fewest_in_pairs;
 use crate::tests::answers::{is_path, is_path_at};
 use crate::tests::kinds::by_array;
-use crate::tests::routes::{SEVEN, SEVEN_ANSWERS, asked};
+use crate::tests::noderefs::is_cloned;
+use crate::tests::routes::{SEVEN, SEVEN_ANSWERS, spelled};
 use pathfinding::routes::{Command, Noted, RouteError, run};
 use pf_base::{NodeRefs, PathError};
 use refusing_allocator::Refusing;
@@ -67,8 +68,10 @@ enum Call {
     CheapestPath,
     /// A path with fewest edges.
     FewestEdges,
-    /// A set of one node, a set of many, and a clone of that.
-    Sets,
+    /// A set of one node.
+    SetOfOne,
+    /// A set of many nodes, and a clone of it.
+    SetOfMany,
 }
 
 /// Whether a call answers the only right answer. What it is asked about lies in ample memory.
@@ -84,11 +87,10 @@ fn is_right(heap: &Refusing<Global>, ample: Global, call: Call) -> Result<bool, 
             let found = fewest_in_pairs(heap, &edges, &starts, &[6])?;
             Ok(is_path(Ok(found), &[1, 4, 5, 6]))
         }
-        Call::Sets => {
+        Call::SetOfOne => Ok(NodeRefs::from_one(heap, &7)?.len() == 1),
+        Call::SetOfMany => {
             let nodes = numbers_below(ample, 100)?;
-            let one = NodeRefs::from_one(heap, &7)?;
-            let many = NodeRefs::from_nodes(heap, &nodes)?;
-            Ok(one.len() == 1 && many.clone()? == many)
+            is_cloned(heap, &nodes)
         }
     }
 }
@@ -108,7 +110,8 @@ fn searches_and_sets_refuse_each_growth(rt: HostRuntime) {
     for (call, least) in [
         (Call::CheapestPath, 2),
         (Call::FewestEdges, 2),
-        (Call::Sets, 3),
+        (Call::SetOfOne, 1),
+        (Call::SetOfMany, 2),
     ] {
         let growths = refuse_each_growth(&rt, ample, |heap| outcome_of(heap, ample, call));
         assert!(rt; growths >= least, "{call:?}");
@@ -138,7 +141,7 @@ fn run_outcome(
 fn run_refuses_each_growth(rt: HostRuntime) -> Result<(), Fail> {
     let ample = rt.alloc();
     for (line, answer) in SEVEN_ANSWERS {
-        let command = asked(ample, line)?.ok_or("no command")?;
+        let command = spelled(ample, line)?;
         let growths = refuse_each_growth(
             &rt,
             ample,

@@ -43,10 +43,8 @@ fn counts_down_to_the_refusals_and_through_them(rt: HostRuntime) {
         heap.refuse(granted, refused);
         assert!(rt; heap.granted() == granted && heap.pending() == refused);
         for (is_granted, granted, pending) in requests {
-            assert_eq!(rt;
-                (grants(&heap), heap.granted(), heap.pending()),
-                (is_granted, granted, pending)
-            );
+            assert!(rt; grants(&heap) == is_granted, "{granted}, {pending}");
+            assert!(rt; heap.granted() == granted && heap.pending() == pending);
         }
     }
 }

@@ -12,7 +12,7 @@ fn square_roots(rt: HostRuntime) {
         (225, Some(15)),
         (255, None),
     ] {
-        assert_eq!(rt; uint_sqrt(n), root, "the root of {n}");
+        assert!(rt; uint_sqrt(n) == root, "the root of {n}");
     }
     for (n, root) in [
         (0u64, Some(0u64)),
@@ -25,7 +25,7 @@ fn square_roots(rt: HostRuntime) {
         (18446744065119617026, None),
         (u64::MAX, None),
     ] {
-        assert_eq!(rt; uint_sqrt(n), root, "the root of {n}");
+        assert!(rt; uint_sqrt(n) == root, "the root of {n}");
     }
     assert!(rt; uint_sqrt(65025u16) == Some(255));
     assert!(rt; uint_sqrt(152399025u32) == Some(12345));
@@ -90,7 +90,7 @@ fn rays(rt: HostRuntime) {
     for (start, direction, dimensions, targets) in cases {
         let mut ray = in_direction(start, direction, dimensions);
         for target in targets {
-            assert_eq!(rt; ray.next(), Some(*target));
+            assert!(rt; ray.next() == Some(*target), "{start:?} to {direction:?}");
         }
         assert!(rt;
             ray.next().is_none() && ray.next().is_none(),
