@@ -1,11 +1,29 @@
 //! Worked examples of paths with fewest edges.
 
+ghost use Rattle.pf_base.specs.Answers.{IsLawfulClone};
+
 use crate::fewest::fewest_in_pairs;
 use crate::no_case::NoCase;
 use crate::tests::answers::{is_no_path, is_path};
-use pf_base::NodeRefs;
+use pf_base::{NodeRefs, PathError};
 use std::alloc::{AllocError, Global};
+use std::hash::Hash;
 use std::test::Fail;
+
+/// A path with fewest edges from one of these starts to one of these goals.
+fn fewest_from<N>(
+    alloc: Global,
+    edges: &[(N, N)],
+    starts: &[N],
+    goals: &[N],
+) -> Result<Option<Vec<N>>, PathError>
+where
+    N: Eq + Hash + Copy,
+    requires clones { IsLawfulClone N.eq N.is_clone }
+{
+    let starts = NodeRefs::from_nodes(alloc, starts)?;
+    fewest_in_pairs(alloc, edges, &starts, goals)
+}
 
 /// A field of a chess board.
 type Field = (u8, u8);
@@ -40,15 +58,14 @@ fn is_way(fields: &[Field], from: Field, to: Field, count: usize) -> bool {
 fn a_knight_needs_four_moves(rt: HostRuntime) -> Result<(), Fail> {
     let moves = knight_moves(rt.alloc())?;
     let (from, to) = ((1, 1), (4, 6));
-    let starts = NodeRefs::from_one(rt.alloc(), &from)?;
-    let answer = fewest_in_pairs(rt.alloc(), &moves, &starts, &[to]);
+    let answer = fewest_from(rt.alloc(), &moves, &[from], &[to]);
     assert!(rt; moves.len() == 336);
     assert!(rt; matches!(&answer, Ok(Some(path)) if is_way(path, from, to, 5)));
     Ok(())
 }
 
 #[test]
-fn the_nearest_start_and_goal_are_taken(rt: HostRuntime) -> Result<(), Fail> {
+fn the_nearest_start_and_goal_are_taken(rt: HostRuntime) {
     let chain = [('a', 'b'), ('b', 'c'), ('c', 'd'), ('d', 'e')];
     let cases: [(&[char], &[char], Option<&[char]>); 4] = [
         (&['a', 'b'], &['d', 'e'], Some(&['b', 'c', 'd'])),
@@ -59,27 +76,24 @@ fn the_nearest_start_and_goal_are_taken(rt: HostRuntime) -> Result<(), Fail> {
         (&[], &['a', 'b'], None),
     ];
     for (starts, goals, want) in cases {
-        let starts = NodeRefs::from_nodes(rt.alloc(), starts)?;
-        let answer = fewest_in_pairs(rt.alloc(), &chain, &starts, goals);
+        let answer = fewest_from(rt.alloc(), &chain, starts, goals);
         let holds = match want {
             Some(path) => is_path(answer, path),
             None => is_no_path(answer),
         };
         assert!(rt; holds, "{goals:?}");
     }
-    Ok(())
 }
 
 #[test]
-fn equal_nodes_are_one_start(rt: HostRuntime) -> Result<(), Fail> {
+fn equal_nodes_are_one_start(rt: HostRuntime) {
     let names = [NoCase { name: "a" }, NoCase { name: "A" }];
-    let starts = NodeRefs::from_nodes(rt.alloc(), &names)?;
+    let starts = NodeRefs::from_nodes(rt.alloc(), &names);
+    assert!(rt; matches!(&starts, Ok(starts) if starts.len() == 1));
     let edges = [
         (NoCase { name: "a" }, NoCase { name: "B" }),
         (NoCase { name: "b" }, NoCase { name: "C" }),
     ];
-    let goal = NoCase { name: "c" };
-    let answer = fewest_in_pairs(rt.alloc(), &edges, &starts, &[goal]);
-    assert!(rt; starts.len() == 1 && matches!(&answer, Ok(Some(path)) if path.len() == 3));
-    Ok(())
+    let answer = fewest_from(rt.alloc(), &edges, &names, &[NoCase { name: "c" }]);
+    assert!(rt; matches!(&answer, Ok(Some(path)) if path.len() == 3));
 }

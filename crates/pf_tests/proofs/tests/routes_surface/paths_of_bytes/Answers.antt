@@ -1,4 +1,4 @@
-use Rattle.std.proofs.Common.{rules, ◌≡◌, ◌∙◌, ℕ, ℤ, pos, ◌+◌, ◌%◌, ◌^◌, ◌==◌, List, [], ◌∷◌, nat_eq}
+use Rattle.std.proofs.Common.{rules, ◌≡◌, ◌∙◌, ℕ, pos, ◌+◌, ◌%◌, ◌^◌, ◌==◌, List, [], ◌∷◌, nat_eq}
 use Rattle.pf_base.proofs.Callers.{nat_graph, nat_test}
 use Rattle.pf_base.proofs.Reach.{unsigned_cost}
 use Rattle.pf_base.proofs.Sources.{gives_chain, YieldsList-from_array}
