@@ -77,6 +77,7 @@ impl Write for Narrow {
 }
 
 impl Narrow {
+    /// A writer that has taken nothing yet.
     fn new(alloc: Global, room: usize, fails: bool, recovers: bool) -> Narrow {
         Narrow {
             taken: Vec::new(alloc),
