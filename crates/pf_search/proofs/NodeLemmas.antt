@@ -3,10 +3,10 @@ use Rattle.std.proofs.Common.{◌≡◌, ℕ, zero, suc, ◌<◌, ◌≤◌, ◌
 use Rattle.std.specs.Prelude.{Contains, ◌⊎◌, ◌↔◌}
 use Rattle.std.specs.Cmp.{IsEquivalence}
 use Rattle.std.specs.Iterator.{Count}
-use Rattle.std.specs.Fn.{Called, Mut}
+use Rattle.std.specs.Fn.{Mut}
 use Rattle.std.specs.List.{IsDistinct, AllByRecursion, list_any}
 use Rattle.indexmap.specs.IndexSet.{insert_key}
-use Rattle.std.proofs.lemmas.List.{take-append-le}
+use Rattle.std.proofs.lemmas.List.{take-append-le, map-id}
 use Rattle.std.proofs.lemmas.List.Elements.{Contains-append_left, Contains-push}
 use Rattle.std.proofs.lemmas.Option.{slice_get_within}
 use Rattle.std.specs.Set.{is_member}
@@ -14,11 +14,10 @@ use Rattle.std.proofs.lemmas.Map.Made.{length-le_from_is_member}
 use Rattle.pf_base.specs.Walks.{HasNode, IsAtMostNumberOf, Follows, IsWalk, end_of, BeginsAt, EndsAt}
 use Rattle.pf_base.specs.NodeRefs.{HasSameNodes}
 use Rattle.pf_base.specs.Edges.{HasEdge, IsSuccessor, InReach}
-use Rattle.pf_base.specs.Answers.{ListsEdges, AnswersGraph, AnswersTest}
-use Rattle.pf_base.proofs.Asking.{Answers-on}
+use Rattle.pf_base.specs.Answers.{ListsEdges, Gives, Answers, AnswersEach, AnswersGraph}
 use Rattle.pf_search.specs.Internal.Numbered.{ListsSteps, Grows}
 use Rattle.pf_search.specs.Internal.NodeLaws.{StandsFor-one}
-use Rattle.pf_search.specs.Internal.Nodes.{NodeGraph, StandsFor, IsStep, AddsNode, NumbersItems, AddedFrom, Explores}
+use Rattle.pf_search.specs.Internal.Nodes.{NodeGraph, StandsFor, IsStep, AddsNode, NumbersItems, AddedFrom, SaysEdges, Explores}
 use Rattle.pf_search.proofs.ListLemmas.{Contains-head, Contains-tail, Contains-cases, get-append_cases, take_get, get_take, none_in}
 use Rattle.pf_search.proofs.FrontierLemmas.{end_more}
 
@@ -168,10 +167,6 @@ module _ {N : Type 0} (eq : N → N → Bool) where
       | inr g ↦ inr (c, subst (λ (n : N). Contains (xs ++ (x, c) ∷ []) (n, c)) (sym g) (Contains-push xs (x, c)))
     ]
 
-distinct_one_node : {N : Type 0} (eq : N → N → Bool) (x : N) → IsDistinct eq (x ∷ [])
-unfolding IsDistinct
-distinct_one_node eq x = (tt, tt)
-
 -- graphs, up to node equality
 module _ {N : Type 0} (eq : N → N → Bool) (laws : IsEquivalence eq) where
   pub HasEdge-alike : (xs ys : List (N × ℤ)) (b : N) (z : ℤ) → ListsEdges eq (λ z. z) xs ys → HasEdge eq xs b z → HasEdge eq ys b z
@@ -307,28 +302,42 @@ inside_of eq keys (r ∷ row) (x ∷ xs) n j c h = elim (Contains-cases row r (j
   | inr k ↦ inside_of eq keys row xs n.1 j c k
 ]
 
-module _ {N C : Type 0} (eq : N → N → Bool) (laws : IsEquivalence eq) (value : C → ℤ) {I S F P : Type 0} (becomes : I → S → Type 0) (can : S → Type 0) (left : S → Count) (next : S → Option (N × C) → S → Type 0) (f_calls : Mut F (Bor N × Unit {0}) I) (p_calls : Mut P (Bor N × Unit {0}) Bool) where
-  -- a discovery begins with a clone of the start alone
-  pub Explores-start : (g : NodeGraph N) (start first : N) (keys : List N) (f : F) (p : P) → keys ≡ first ∷ [] → eq start first ≡ true → g.starts ≡ start ∷ []
-      → AnswersGraph f_calls becomes can left next eq value f (InReach eq g.edges g.starts) g.edges → AnswersTest p_calls eq p (InReach eq g.edges g.starts) g.test → Explores eq value becomes can left next f_calls p_calls g keys f p
-  Explores-start g start first keys f p e same s a t = record {
-    graph = a;
-    tests = t;
-    distinct = subst (IsDistinct eq) (sym e) (distinct_one_node eq first);
-    reached = λ k x h. at k x (subst (λ (ks : List N). slice_get ks k ≡ Some x) e h);
+-- a discovery begins with a set of the starts
+module _ {N T C : Type 0} (eq : N → N → Bool) (laws : IsEquivalence eq) (value : C → ℤ) (edge : T → N × C) {I S F : Type 0} (becomes : I → S → Type 0) (can : S → Type 0) (left : S → Count) (next : S → Option T → S → Type 0) (calls : Mut F (Bor N × Unit {0}) I) where
+  node_of : (keys : List N) (k : ℕ) (x : N) → slice_get keys k ≡ Some x → HasNode eq keys x
+  node_of [] k x h = absurd (none_in k x h)
+  node_of (m ∷ keys) zero x h = let e : Some m ≡ Some x = h in let f : m ≡ x = cc in inl (subst (λ (y : N). eq m y ≡ true) f (laws.refl m))
+  node_of (m ∷ keys) (suc k) x h = inr (node_of keys k x h)
+
+  pub Explores-start : (g : NodeGraph N) (keys : List N) (f : F) → IsDistinct eq keys → HasSameNodes eq keys g.starts
+      → ((x y : N) → InReach eq g.edges g.starts x → eq x y ≡ true → ListsEdges eq (λ z. z) (g.edges x) (g.edges y)) → Answers calls (InReach eq g.edges g.starts) (SaysEdges eq value edge becomes can left next calls g.edges) f
+      → Explores eq value edge becomes can left next calls g keys f
+  Explores-start g keys f once same alike answers = record {
+    alike = alike;
+    answers = answers;
+    distinct = once;
+    reached = λ k x h. InReach-start eq laws g.edges g.starts x x ((same x).0 (node_of keys k x h)) (laws.refl x);
   }
-    where
-      begins : HasNode eq g.starts start
-      begins = subst (λ (ss : List N). HasNode eq ss start) (sym s) (inl (laws.refl start))
 
-      at : (k : ℕ) (x : N) → slice_get (first ∷ []) k ≡ Some x → InReach eq g.edges g.starts x
-      at zero x h = let q : Some first ≡ Some x = h in let r : first ≡ x = cc in InReach-start eq laws g.edges g.starts start x begins (subst (λ (y : N). eq start y ≡ true) r same)
-      at (suc k) x h = absurd (none_in k x h)
+-- what answers say, said in another way
+module _ {F N R : Type 0} (calls : Mut F (Bor N × Unit {0}) R) (within within' : N → Type 0) (less : (x : N) → within' x → within x) (gives gives' : N → R → Type 0) (said : (x : N) (r : R) → gives x r → gives' x r) where
+  each_weaker : (f : F) (xs : List (Bor N)) → AnswersEach calls within gives f xs → AnswersEach calls within' gives' f xs
+  each_weaker f [] h = tt
+  each_weaker f (x ∷ xs) h = λ w. let q = h (less x.now w) in (q.0, λ r f' k. let n = q.1 r f' k in (said x.now r n.0, each_weaker f' xs n.1))
 
-  -- after a call
-  pub Explores-called : (g : NodeGraph N) (keys : List N) (f f' : F) (p : P) (x : Bor N) (r : I) → Explores eq value becomes can left next f_calls p_calls g keys f p → InReach eq g.edges g.starts x.now → Called f_calls f (x, tt) r f'
-      → AnswersGraph f_calls becomes can left next eq value f' (InReach eq g.edges g.starts) g.edges
-  Explores-called g keys f f' p x r e w c = record { alike = e.graph.alike; answers = Answers-on _ _ _ e.graph.answers x w r f' c }
+  pub Answers-weaker : (f : F) → Answers calls within gives f → Answers calls within' gives' f
+  Answers-weaker f h = record { at = λ xs. each_weaker f xs (h.at xs) }
+
+pub Gives-weaker : {I S A : Type 0} (becomes : I → S → Type 0) (can : S → Type 0) (left : S → Count) (steps : S → Option A → S → Type 0) (P Q : List A → Type 0) → ((xs : List A) → P xs → Q xs) → (r : I) → Gives becomes can left steps P r → Gives becomes can left steps Q r
+Gives-weaker becomes can left steps P Q f r g = record { can_next = g.can_next; finite = g.finite; items = λ it b p t e w. f p.items (g.items it b p t e w) }
+
+-- a discovery of a function that lists edges begins with a set of the starts
+module _ {N C : Type 0} (eq : N → N → Bool) (laws : IsEquivalence eq) (value : C → ℤ) {I S F : Type 0} (becomes : I → S → Type 0) (can : S → Type 0) (left : S → Count) (next : S → Option (N × C) → S → Type 0) (calls : Mut F (Bor N × Unit {0}) I) where
+  pub Explores-edges : (g : NodeGraph N) (keys : List N) (f : F) → IsDistinct eq keys → HasSameNodes eq keys g.starts → AnswersGraph calls becomes can left next eq value f (InReach eq g.edges g.starts) g.edges
+      → Explores eq value (λ e. e) becomes can left next calls g keys f
+  Explores-edges g keys f once same a =
+      Explores-start eq laws value (λ e. e) becomes can left next calls g keys f once same a.alike
+      (Answers-weaker calls _ _ (λ x w. w) _ _ (λ x r h. Gives-weaker becomes can left next _ _ (λ xs l. subst (λ (ys : List (N × C)). ListsEdges eq value ys (g.edges x)) (sym (map-id xs)) l) r h) f a.answers)
 
 -- a number that is new is in the row
 module _ {N C : Type 0} (eq : N → N → Bool) (laws : IsEquivalence eq) (keys keys' : List N) (distinct : IsDistinct eq keys') where

@@ -1,32 +1,22 @@
 -- Lemmas on graphs in which each edge costs 1.
-use Rattle.std.proofs.Common.{◌≡◌, ℕ, zero, suc, ◌<◌, ◌≤◌, Bool, true, Option, Some, List, [], ◌∷◌, ◌++◌, length, refl, sym, subst, arith, Bor, inl, inr, ℤ, pos}
+use Rattle.std.proofs.Common.{◌≡◌, ℕ, zero, suc, ◌<◌, ◌≤◌, Bool, true, Option, Some, List, [], ◌∷◌, length, refl, sym, subst, arith, Bor, inl, inr, ℤ, pos}
 use Rattle.std.specs.Prelude.{◌↔◌, ◌≤ℤ◌, map}
 use Rattle.std.specs.Cmp.{IsEquivalence}
 use Rattle.std.specs.Iterator.{Count}
 use Rattle.std.specs.Fn.{Mut}
 use Rattle.std.specs.List.{IsDistinct}
 use Rattle.std.proofs.lemmas.Int.{ints}
-use Rattle.std.proofs.lemmas.List.{map-append}
 use Rattle.pf_base.specs.Walks.{HasNode, Follows, IsGoalWalk, HasNoGoalWalk, IsReachable}
 use Rattle.pf_base.specs.NodeRefs.{HasSameNodes}
 use Rattle.pf_base.specs.Edges.{HasEdge, IsSuccessor, StepCosts, StepsCost, InReach, IsBestGoalPath}
 use Rattle.pf_base.specs.Successors.{Precedes, IsShortestGoalPath}
-use Rattle.pf_base.specs.Answers.{SameNodes, ListsEdges, Answers, AnswersEach, AnswersSuccessors, AnswersTest}
+use Rattle.pf_base.specs.Answers.{SameNodes, ListsEdges, AnswersSuccessors, AnswersTest}
 use Rattle.pf_search.specs.Internal.Numbered.{StandsBelow}
 use Rattle.pf_search.specs.Internal.Steps.{IsHop}
-use Rattle.pf_search.specs.Internal.Nodes.{StandsFor, IsStep, NumbersItems, AddedFrom, AddsNode}
-use Rattle.pf_search.specs.Internal.Hops.{HopGraph, unit_edges, unit_graph, with_ones, ExploresHops}
+use Rattle.pf_search.specs.Internal.Nodes.{StandsFor, IsStep, Explores}
+use Rattle.pf_search.specs.Internal.Hops.{unit_edges}
 use Rattle.pf_search.proofs.ListLemmas.{none_in}
-use Rattle.pf_search.proofs.NodeLemmas.{InReach-start, Numbers-push, AddedFrom-push}
-
--- what holds within a sort of nodes holds within any smaller one
-module _ {F N R : Type 0} (calls : Mut F (Bor N × Unit {0}) R) (within within' : N → Type 0) (less : (x : N) → within' x → within x) (gives : N → R → Type 0) where
-  each_less : (f : F) (xs : List (Bor N)) → AnswersEach calls within gives f xs → AnswersEach calls within' gives f xs
-  each_less f [] h = tt
-  each_less f (x ∷ xs) h = λ w. let q = h (less x.now w) in (q.0, λ r f' k. let n = q.1 r f' k in (n.0, each_less f' xs n.1))
-
-  pub answers_less : (f : F) → Answers calls within gives f → Answers calls within' gives f
-  answers_less f h = record { at = λ xs. each_less f xs (h.at xs) }
+use Rattle.pf_search.proofs.NodeLemmas.{Explores-start, Answers-weaker, Gives-weaker}
 
 module _ {N : Type 0} (eq : N → N → Bool) where
   edge_of_next : (xs : List N) (b : N) → HasNode eq xs b → HasEdge eq (map (λ y. (y, pos 1)) xs) b (pos 1)
@@ -45,20 +35,15 @@ module _ {N : Type 0} (eq : N → N → Bool) where
   lists_unit (x ∷ xs) [] s = absurd s
   lists_unit (x ∷ xs) (y ∷ ys) s = ((s.0, refl), lists_unit xs ys s.1)
 
-  pub lists_ones : (value : ℕ → ℤ) → value 1 ≡ pos 1 → (xs ys : List N) → SameNodes eq xs ys → ListsEdges eq value (with_ones xs) (map (λ y. (y, pos 1)) ys)
-  lists_ones value one [] [] s = tt
-  lists_ones value one [] (y ∷ ys) s = absurd s
-  lists_ones value one (x ∷ xs) [] s = absurd s
-  lists_ones value one (x ∷ xs) (y ∷ ys) s = ((s.0, one), lists_ones value one xs ys s.1)
+  -- each node with the cost 1
+  pub lists_ones : (xs ys : List N) → SameNodes eq xs ys → ListsEdges eq pos (map (λ y. (y, 1)) xs) (map (λ y. (y, pos 1)) ys)
+  lists_ones [] [] s = tt
+  lists_ones [] (y ∷ ys) s = absurd s
+  lists_ones (x ∷ xs) [] s = absurd s
+  lists_ones (x ∷ xs) (y ∷ ys) s = ((s.0, refl), lists_ones xs ys s.1)
 
-  pub is_hop : (g : HopGraph N) → IsHop (IsStep eq (unit_graph g))
-  is_hop g = record { one = λ a z b s. (next_of_edge (g.next a) b z s.1).1 }
-
-  pub Ones-push : (ks : List N) (row : List (ℕ × ℕ)) (xs : List N) (j : ℕ) (x : N) → NumbersItems eq ks row (with_ones xs) → StandsFor eq ks j x → NumbersItems eq ks (row ++ (j, 1) ∷ []) (with_ones (xs ++ x ∷ []))
-  Ones-push ks row xs j x n s = subst (NumbersItems eq ks (row ++ (j, 1) ∷ [])) (sym (map-append (λ y. (y, 1)) xs (x ∷ []))) (Numbers-push eq ks row (with_ones xs) j 1 x n s)
-
-  pub AddedOnes-push : (start ks ks' : List N) (xs : List N) (x : N) → AddsNode eq x ks ks' → AddedFrom eq (with_ones xs) start ks → AddedFrom eq (with_ones (xs ++ x ∷ [])) start ks'
-  AddedOnes-push start ks ks' xs x e a = subst (λ ys. AddedFrom eq ys start ks') (sym (map-append (λ y. (y, 1)) xs (x ∷ []))) (AddedFrom-push eq start ks ks' (with_ones xs) 1 x e a)
+  pub is_hop : (starts : List N) (next : N → List N) → IsHop (IsStep eq (record { starts = starts; edges = unit_edges next }))
+  is_hop starts next = record { one = λ a z b s. (next_of_edge (next a) b z s.1).1 }
 
   module _ (next : N → List N) where
     step_costs : (a b : N) (z : ℤ) → HasEdge eq (unit_edges next a) b z → StepCosts eq (unit_edges next) a b (pos 1)
@@ -118,6 +103,10 @@ module _ {N : Type 0} (eq : N → N → Bool) where
               let same = length_costs w a t b.costs in
               omega (arith, ints, low, same)
 
+  -- the test is asked in reach of the starts
+  pub tests_in_reach : {P : Type 0} (p_calls : Mut P (Bor N × Unit {0}) Bool) (starts : List N) (next : N → List N) (test : N → Bool) (p : P) → AnswersTest p_calls eq p (IsReachable eq (Precedes eq next) starts) test → AnswersTest p_calls eq p (InReach eq (unit_edges next) starts) test
+  tests_in_reach p_calls starts next test p t = record { alike = λ x y r e. t.alike x y (reach_next next starts x r) e; answers = Answers-weaker p_calls _ _ (reach_next next starts) _ _ (λ x r g. g) p t.answers }
+
   module _ (laws : IsEquivalence eq) where
     -- a set with the nodes of the starts stands for the starts
     stands_of : (keys : List N) (x : N) → HasNode eq keys x → StandsBelow (length keys) (StandsFor eq keys) x
@@ -136,21 +125,14 @@ module _ {N : Type 0} (eq : N → N → Bool) where
     pub starts_stand : (ss keys : List N) → HasSameNodes eq keys ss → (x : N) → StandsBelow (length keys) (StandsFor eq keys) x ↔ HasNode eq ss x
     starts_stand ss keys s x = (λ h. (s x).0 (node_of keys h.0 x h.2), λ h. stands_of keys x ((s x).1 h))
 
-    module _ {I S F P : Type 0} (becomes : I → S → Type 0) (can : S → Type 0) (left : S → Count) (steps : S → Option N → S → Type 0) (f_calls : Mut F (Bor N × Unit {0}) I) (p_calls : Mut P (Bor N × Unit {0}) Bool) where
-      -- a discovery begins with clones of the starts
-      pub ExploresHops-start : (g : HopGraph N) (ss keys : List N) (f : F) (p : P) → IsDistinct eq keys → HasSameNodes eq keys ss → g.starts ≡ ss
-          → AnswersSuccessors f_calls becomes can left steps eq f (IsReachable eq (Precedes eq g.next) g.starts) g.next → AnswersTest p_calls eq p (IsReachable eq (Precedes eq g.next) g.starts) g.test
-          → ExploresHops eq becomes can left steps f_calls p_calls g keys f p
-      ExploresHops-start g ss keys f p once s same a t = record {
-        graph = record { alike = λ x y r e. a.alike x y (reach_next g.next g.starts x r) e; answers = answers_less f_calls _ _ (reach_next g.next g.starts) _ f a.answers };
-        tests = record { alike = λ x y r e. t.alike x y (reach_next g.next g.starts x r) e; answers = answers_less p_calls _ _ (reach_next g.next g.starts) _ p t.answers };
-        distinct = once;
-        reached = λ k x h. InReach-start eq laws (unit_edges g.next) g.starts x x (subst (λ (xs : List N). HasNode eq xs x) (sym same) ((s x).0 (node_of keys k x (x, h, laws.refl x)))) (laws.refl x);
-      }
-
-    -- equal nodes in reach have the same edges
-    pub hops_alike : (g : HopGraph N) → ((x y : N) → InReach eq (unit_edges g.next) g.starts x → eq x y ≡ true → SameNodes eq (g.next x) (g.next y)) → (x y : N) → InReach eq (unit_edges g.next) g.starts x → eq x y ≡ true → ListsEdges eq (λ z. z) (unit_edges g.next x) (unit_edges g.next y)
-    hops_alike g alike x y r e = lists_unit (g.next x) (g.next y) (alike x y r e)
+    module _ {I S F : Type 0} (becomes : I → S → Type 0) (can : S → Type 0) (left : S → Count) (steps : S → Option N → S → Type 0) (calls : Mut F (Bor N × Unit {0}) I) where
+      -- a discovery of a function that lists successors begins with a set of the starts
+      pub Explores-successors : (starts keys : List N) (next : N → List N) (f : F) → IsDistinct eq keys → HasSameNodes eq keys starts → AnswersSuccessors calls becomes can left steps eq f (IsReachable eq (Precedes eq next) starts) next
+          → Explores eq pos (λ y. (y, 1)) becomes can left steps calls (record { starts = starts; edges = unit_edges next }) keys f
+      Explores-successors starts keys next f once same a =
+          Explores-start eq laws pos (λ y. (y, 1)) becomes can left steps calls (record { starts = starts; edges = unit_edges next }) keys f once same
+          (λ x y r e. lists_unit (next x) (next y) (a.alike x y (reach_next next starts x r) e))
+          (Answers-weaker calls _ _ (reach_next next starts) _ _ (λ x r g. Gives-weaker becomes can left steps _ _ (λ xs h. lists_ones xs (next x) h) r g) f a.answers)
 
     -- each number below stands for some node
     pub begins_all : (keys : List N) (k : ℕ) → k < length keys → (s : N) × StandsFor eq keys k s

@@ -8,7 +8,7 @@ ghost use Rattle.pf_search.specs.Internal.Queue.{entry_cmp, IsQueue};
 ghost use Rattle.pf_search.specs.Internal.Steps.{IsPositive, NoGoal, IsBestNumbered, IsTooDear};
 
 use crate::labels::{Label, covers, path_to, widen};
-use crate::numbered::NumberedGraph;
+use crate::numbered::GoalGraph;
 use crate::queue::{Queue, relax, settle_next};
 use crate::slot::Slot;
 use pf_base::utils::Tally;
@@ -52,7 +52,7 @@ fn follow<C: Cost, A: Allocator>(
 
 /// The numbers on a cheapest path from the node of number 0 to a goal, and its cost. The answer is
 /// `None` exactly where no walk leads to a goal. Each node that is expanded is one tick.
-pub fn cheapest_path<C: Cost, G: NumberedGraph<C>, A: Allocator + Copy>(
+pub fn cheapest_path<C: Cost, G: GoalGraph<C>, A: Allocator + Copy>(
     alloc: A,
     graph: &mut G,
     tally: &mut Tally,

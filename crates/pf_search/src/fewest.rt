@@ -8,7 +8,8 @@ ghost use Rattle.pf_search.specs.Internal.Numbered.{StandsBelow};
 
 use crate::depth::Depth;
 use crate::labels::{fill, path_to};
-use crate::numbered::NumberedGraph;
+use crate::numbered::GoalGraph;
+use crate::row::NoRow;
 use crate::slot::Slot;
 use pf_base::{Cost, PathError};
 use std::alloc::Allocator;
@@ -30,7 +31,7 @@ fn settle<A: Allocator>(labels: &mut Vec<Slot<()>, A>, number: usize) -> Depth
 
 /// The numbers on a path with fewest edges from one of the nodes found before to a goal, where each
 /// step costs 1. The answer is `None` exactly where no walk leads to a goal.
-pub fn fewest_edges_path<C: Cost, G: NumberedGraph<C>, A: Allocator + Copy>(
+pub fn fewest_edges_path<C: Cost, G: GoalGraph<C>, A: Allocator + Copy>(
     alloc: A,
     graph: &mut G,
 ) -> Result<Option<Vec<usize, A>>, PathError>
@@ -44,7 +45,6 @@ pub fn fewest_edges_path<C: Cost, G: NumberedGraph<C>, A: Allocator + Copy>(
     ensures errors { IfErr result (λ e. e ≡ PathError.OutOfMemory) }
 {
     let mut labels: Vec<Slot<()>, A> = Vec::new(alloc);
-    let mut row: Vec<(usize, C), A> = Vec::new(alloc);
     fill(&mut labels, graph.found(), Slot::first(()))?;
     let mut node = 0;
     'nodes: while node < labels.len() {
@@ -52,7 +52,7 @@ pub fn fewest_edges_path<C: Cost, G: NumberedGraph<C>, A: Allocator + Copy>(
             let numbers = path_to(alloc, &labels, node)?;
             return Ok(Some(numbers));
         }
-        graph.expand(node, &mut row)?;
+        graph.expand(node, &mut NoRow)?;
         let depth = settle(&mut labels, node);
         fill(&mut labels, graph.found(), Slot::behind(node, &depth, ()))?;
         node += 1;

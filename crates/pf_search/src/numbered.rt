@@ -3,8 +3,8 @@
 ghost use Rattle.std.specs.Prelude.{◌≡◌, ◌<◌, ◌≤◌, ℕ, ℤ, List, Bool, OnOk, IfErr, Contains};
 ghost use Rattle.pf_search.specs.Internal.Numbered.{ListsSteps, Grows};
 
+use crate::row::Row;
 use pf_base::{Cost, PathError};
-use std::alloc::Allocator;
 
 /// A graph that is asked node by node. A number stands for a node, and stays with it.
 pub trait NumberedGraph<C: Cost> {
@@ -17,7 +17,7 @@ pub trait NumberedGraph<C: Cost> {
     // A step of a graph, from a node to a node, at a cost.
     ghost step: { Graph → Node → ℤ → Node → Type 0 };
 
-    // Whether a node is a goal.
+    // Whether a node is a goal, where the graph has goals.
     ghost passes: { Graph → Node → Bool };
 
     // How many nodes were found.
@@ -33,30 +33,31 @@ pub trait NumberedGraph<C: Cost> {
     fn found(&self) -> usize
         ensures { result ≡ found self.now };
 
-    /// Is the node a goal?
-    fn is_goal(&mut self, node: usize) -> bool
+    /// Numbers the ends of the steps from a node, and fills `row` with the steps. Where memory is
+    /// refused, the nodes stay as they were.
+    fn expand<R: Row<C>>(&mut self, node: usize, row: &mut R) -> Result<(), PathError>
         requires inside { node < found self.old }
         requires graph { (g : Graph) × explores self.old g }
         ensures grows { Grows (found self.old) (found self.new) (stands self.old) (stands self.new) }
-        ensures same { found self.new ≡ found self.old }
-        ensures graph { (g : Graph) → explores self.old g → explores self.new g
-            × ((x : Node) → stands self.old node x → result ≡ passes g x) };
-
-    /// Fills `row` with the steps from a node. Where memory is refused, the nodes stay as they were.
-    fn expand<A: Allocator + Copy>(
-        &mut self,
-        node: usize,
-        row: &mut Vec<(usize, C), A>,
-    ) -> Result<(), PathError>
-        requires inside { node < found self.old }
-        requires graph { (g : Graph) × explores self.old g }
-        ensures grows { Grows (found self.old) (found self.new) (stands self.old) (stands self.new) }
-        ensures inside { OnOk result ((j : ℕ) (c : C) → Contains row.new.items (j, c) → j < found self.new) }
-        ensures fresh { OnOk result ((j : ℕ) → found self.old ≤ j → j < found self.new → (c : C) × Contains row.new.items (j, c)) }
-        ensures graph { (g : Graph) → explores self.old g → explores self.new g
-            × OnOk result ((x : Node) → stands self.old node x → ListsSteps C.value (step g) (stands self.new) x row.new.items) }
+        ensures graph { (g : Graph) → explores self.old g → explores self.new g }
+        ensures listed { OnOk result ((entries : List (ℕ × C)) × R.holds row.new entries
+            × ((j : ℕ) (c : C) → Contains entries (j, c) → j < found self.new)
+            × ((j : ℕ) → found self.old ≤ j → j < found self.new → (c : C) × Contains entries (j, c))
+            × ((g : Graph) → explores self.old g → (x : Node) → stands self.old node x → ListsSteps C.value (step g) (stands self.new) x entries)) }
         ensures refused { IfErr result (λ e. (e ≡ PathError.OutOfMemory) × (found self.new ≡ found self.old)) };
 
     // No two numbers stand for one node.
     ghost one_law: { (s : Self) (g : Graph) → explores s g → (i j : ℕ) (x : Node) → stands s i x → stands s j x → i ≡ j };
+}
+
+/// A graph some of whose nodes are goals.
+pub trait GoalGraph<C: Cost>: NumberedGraph<C> {
+    /// Is the node a goal?
+    fn is_goal(&mut self, node: usize) -> bool
+        requires inside { node < Self.found self.old }
+        requires graph { (g : Self.Graph) × Self.explores self.old g }
+        ensures grows { Grows (Self.found self.old) (Self.found self.new) (Self.stands self.old) (Self.stands self.new) }
+        ensures same { Self.found self.new ≡ Self.found self.old }
+        ensures graph { (g : Self.Graph) → Self.explores self.old g → Self.explores self.new g
+            × ((x : Self.Node) → Self.stands self.old node x → result ≡ Self.passes g x) };
 }

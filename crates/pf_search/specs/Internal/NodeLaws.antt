@@ -32,6 +32,6 @@ module _ {N : Type 0} (eq : N → N → Bool) (laws : IsEquivalence eq) where
   pub StandsFor-one : (keys : List N) → IsDistinct eq keys → (i j : ℕ) (x : N) → StandsFor eq keys i x → StandsFor eq keys j x → i ≡ j
   StandsFor-one keys d i j x a b = distinct_one keys d i j a.0 b.0 a.1 b.1 (laws.congr a.0 x b.0 a.2 ∙ laws.symm x b.0 ∙ b.2)
 
-pub Explores-one : {N C : Type 0} {eq : N → N → Bool} {value : C → ℤ} {I S F P : Type 0} {becomes : I → S → Type 0} {can : S → Type 0} {left : S → Count} {next : S → Option (N × C) → S → Type 0} {f_calls : Mut F (Bor N × Unit {0}) I} {p_calls : Mut P (Bor N × Unit {0}) Bool}
-    {g : NodeGraph N} {keys : List N} {f : F} {p : P} → IsEquivalence eq → Explores eq value becomes can left next f_calls p_calls g keys f p → (i j : ℕ) (x : N) → StandsFor eq keys i x → StandsFor eq keys j x → i ≡ j
+pub Explores-one : {N T C : Type 0} {eq : N → N → Bool} {value : C → ℤ} {edge : T → N × C} {I S F : Type 0} {becomes : I → S → Type 0} {can : S → Type 0} {left : S → Count} {next : S → Option T → S → Type 0} {calls : Mut F (Bor N × Unit {0}) I}
+    {g : NodeGraph N} {keys : List N} {f : F} → IsEquivalence eq → Explores eq value edge becomes can left next calls g keys f → (i j : ℕ) (x : N) → StandsFor eq keys i x → StandsFor eq keys j x → i ≡ j
 Explores-one {eq = eq} {keys = keys} laws e i j x a b = StandsFor-one eq laws keys e.distinct i j x a b

@@ -1,16 +1,20 @@
 -- The nodes that numbers stand for, and the functions that answer for them.
-use Rattle.std.specs.Prelude.{◌≡◌, ◌⊎◌, ◌≤◌, ℕ, ℤ, Bool, true, List, Option, Some, slice_get, Contains, take, length}
+use Rattle.std.specs.Prelude.{◌≡◌, ◌⊎◌, ◌≤◌, ℕ, ℤ, Bool, true, List, Option, Some, slice_get, Contains, map, take, length}
 use Rattle.std.specs.Borrow.{Bor}
 use Rattle.std.specs.Fn.{Mut}
 use Rattle.std.specs.Iterator.{Count}
 use Rattle.std.specs.List.{IsDistinct, AllZip}
 use Rattle.pf_base.specs.Edges.{HasEdge, InReach}
-use Rattle.pf_base.specs.Answers.{AnswersGraph, AnswersTest}
+use Rattle.pf_base.specs.Answers.{ListsEdges, Gives, Answers}
 
--- starts, the edges of each node, and which nodes are goals
+-- starts, and the edges of each node
 pub record NodeGraph (N : Type 0) : Type 0 where
   pub starts : List N
   pub edges : N → List (N × ℤ)
+
+-- a graph, and which nodes are goals
+pub record TestedGraph (N : Type 0) : Type 0 where
+  pub graph : NodeGraph N
   pub test : N → Bool
 
 module _ {N : Type 0} (eq : N → N → Bool) where
@@ -38,10 +42,14 @@ module _ {N : Type 0} (eq : N → N → Bool) where
     abbrev pub AddedFrom : List (N × C) → List N → List N → Type 0
     AddedFrom xs keys keys' = (k : ℕ) (m : N) → slice_get keys' k ≡ Some m → slice_get keys k ≡ Some m ⊎ ((c : C) × Contains xs (m, c))
 
-module _ {N C : Type 0} (eq : N → N → Bool) (value : C → ℤ) {I S F P : Type 0} (becomes : I → S → Type 0) (can : S → Type 0) (left : S → Count) (next : S → Option (N × C) → S → Type 0) (f_calls : Mut F (Bor N × Unit {0}) I) (p_calls : Mut P (Bor N × Unit {0}) Bool) where
-  -- the functions answer this graph and its test at each node in reach, now and after any calls, and the nodes found are in reach
-  pub record Explores (g : NodeGraph N) (keys : List N) (f : F) (p : P) : Type 0 where
-    pub graph : AnswersGraph f_calls becomes can left next eq value f (InReach eq g.edges g.starts) g.edges
-    pub tests : AnswersTest p_calls eq p (InReach eq g.edges g.starts) g.test
+module _ {N T C : Type 0} (eq : N → N → Bool) (value : C → ℤ) (edge : T → N × C) {I S F : Type 0} (becomes : I → S → Type 0) (can : S → Type 0) (left : S → Count) (next : S → Option T → S → Type 0) (calls : Mut F (Bor N × Unit {0}) I) where
+  -- the items of an answer say the edges of x
+  abbrev pub SaysEdges : (N → List (N × ℤ)) → N → I → Type 0
+  SaysEdges edges x r = Gives becomes can left next (λ items. ListsEdges eq value (map edge items) (edges x)) r
+
+  -- the function answers this graph at each node in reach, now and after any calls, and the nodes found are in reach
+  pub record Explores (g : NodeGraph N) (keys : List N) (f : F) : Type 0 where
+    pub alike : (x y : N) → InReach eq g.edges g.starts x → eq x y ≡ true → ListsEdges eq (λ z. z) (g.edges x) (g.edges y)
+    pub answers : Answers calls (InReach eq g.edges g.starts) (SaysEdges g.edges) f
     pub distinct : IsDistinct eq keys
     pub reached : (k : ℕ) (x : N) → slice_get keys k ≡ Some x → InReach eq g.edges g.starts x

@@ -5,11 +5,13 @@ ghost use Rattle.pf_base.specs.Walks.{HasNoGoalWalk, IsReachable};
 ghost use Rattle.pf_base.specs.Successors.{Precedes, IsShortestGoalPath};
 ghost use Rattle.pf_base.specs.Answers.{IsLawfulClone};
 
+use crate::discovery::{Discovery, Unweighted, clones_of};
 use crate::fewest::fewest_edges_path;
-use crate::hops::HopDiscovery;
+use crate::tested::Tested;
 use pf_base::{NodeRefs, NodeTest, PathError, SuccessorFunction};
 use std::alloc::Allocator;
 use std::hash::Hash;
+use std::marker::PhantomData;
 
 /// A path with fewest edges from one of the `starts` to a node that passes `success`, or `None`
 /// exactly where no walk leads from a start to such a node.
@@ -53,8 +55,13 @@ where
 
     ensures errors { IfErr result (λ e. e ≡ PathError.OutOfMemory) }
 {
-    let mut graph = HopDiscovery::new(alloc, starts, successors, success)?;
-    match fewest_edges_path(alloc, &mut graph)? {
+    let discovery = Discovery {
+        nodes: clones_of(alloc, starts)?,
+        successors,
+        form: PhantomData,
+    };
+    let mut graph: Tested<N, Unweighted, IN, FN, FS, A> = Tested { discovery, success };
+    match fewest_edges_path::<u8, _, _>(alloc, &mut graph)? {
         None => Ok(None),
         Some(numbers) => {
             let path = graph.nodes_at(alloc, &numbers)?;

@@ -6,11 +6,13 @@ ghost use Rattle.pf_base.specs.Edges.{IsSuccessor, InReach, HasNoNegativeCost, I
 ghost use Rattle.pf_base.specs.Answers.{IsLawfulClone};
 
 use crate::cheapest::cheapest_path;
-use crate::discovery::Discovery;
+use crate::discovery::{Discovery, Weighted, clone_of};
+use crate::tested::Tested;
 use pf_base::utils::Tally;
 use pf_base::{Cost, EdgeFunction, NodeTest, PathError};
 use std::alloc::Allocator;
 use std::hash::Hash;
+use std::marker::PhantomData;
 
 /// A cheapest path from `start` to a node that passes `success`, with its cost, or `None` exactly
 /// where no walk leads from `start` to such a node.
@@ -121,7 +123,12 @@ where
 
     ensures errors { IfErr result (λ e. (e ≡ PathError.OutOfMemory) ⊎ (e ≡ PathError.CostOverflow)) }
 {
-    let mut graph = Discovery::new(alloc, start, successors, success)?;
+    let discovery = Discovery {
+        nodes: clone_of(alloc, start)?,
+        successors,
+        form: PhantomData,
+    };
+    let mut graph: Tested<N, Weighted, IN, FN, FS, A> = Tested { discovery, success };
     match cheapest_path(alloc, &mut graph, tally)? {
         None => Ok(None),
         Some((numbers, cost)) => {

@@ -56,24 +56,25 @@ follow-requires-clause-inside g c =
     omega (arith, inside, c.in_ok-expand.ensures.grows.more, c.found.ensures)
 
 pub follow-requires-clause-ends : goal.follow-requires-clause-ends
-follow-requires-clause-ends g c = λ j d h. rw c.found.ensures (c.in_ok-expand.ensures.inside j d (rw c.deref-in-Some.ensures.value at h))
+follow-requires-clause-ends g c = let row = c.in_ok-expand.ensures.listed in λ j d h. rw c.found.ensures (row.2 j d (rw (c.deref-in-Some.ensures.value, row.1) at h))
 
 pub returns-in_err-follow-clause-overflow : goal.returns-in_err-follow-clause-overflow
 returns-in_err-follow-clause-overflow g c = λ h x p e.
     let i = c.turns.invariant.search h x p in
     let z = c.in-Some.ensures.settled in
     let x1 = (c.is_goal.ensures.graph h (c.turns.invariant.explored h x)).0 in
-    let x2 = c.in_ok-expand.ensures.graph h x1 in
-    let q = rw (c.found.ensures, c.deref-in-Some.ensures.value) at (c.in_err-follow.ensures.overflow (ap Err (sym (rw e at c.from_residual-in_err-follow.ensures.1)))) in
+    let row = c.in_ok-expand.ensures.listed in
+    let q = rw (c.found.ensures, c.deref-in-Some.ensures.value, row.1) at (c.in_err-follow.ensures.overflow (ap Err (sym (rw e at c.from_residual-in_err-follow.ensures.1)))) in
     let f = q.0 in
     dear g.C.Number.value g.C.Number.fits (λ a b d. g.C.Number.between_law a b d g.met.C.Integral.exact_law) (g.G.NumberedGraph.step h) (g.G.NumberedGraph.passes h) (g.G.NumberedGraph.stands c.args.graph.now 0) p _ _ i c.turns.invariant.tree _ _ _ z
-    _ _ _ _ _ c.is_goal.ensures.grows c.in_ok-expand.ensures.grows c.turns.invariant.len _ x2.1 _ _ f.wide f.relaxed f.reached c.known.ensures
+    _ _ _ _ _ c.is_goal.ensures.grows c.in_ok-expand.ensures.grows c.turns.invariant.len _ (row.4 h x1) _ _ f.wide f.relaxed f.reached c.known.ensures
     (g.met.G.NumberedGraph.one_law _ h (c.turns.invariant.explored h x)) (subst (λ (n : ℕ). c.in-Some.next.0 < n) c.turns.invariant.len (HasLabel-inside _ _ _ z.was)) q.1
 
 pub turns-preserved : goal.turns-preserved
 turns-preserved g c =
     let z = c.in-Some.ensures.settled in
-    let f = rw (c.found.ensures, c.deref-in-Some.ensures.value) at c.in_ok-follow.ensures.followed in
+    let row = c.in_ok-expand.ensures.listed in
+    let f = rw (c.found.ensures, c.deref-in-Some.ensures.value, row.1) at c.in_ok-follow.ensures.followed in
     let wide = f.wide in
     let rel = f.relaxed in
     record {
@@ -82,15 +83,14 @@ turns-preserved g c =
       asked = omega (arith, c.tick.ensures, c.turns.invariant.asked, z.count, wide.count, rel.count);
       len = rel.len ∙ wide.len;
       tree = IsTree-turn (by_cost g.C.Number.value) _ _ _ _ z _ _ wide g.C.Number.value _ _ rel (IsTree-settle (by_cost g.C.Number.value) _ _ _ _ z c.turns.invariant.tree);
-      explored = λ h x. (c.in_ok-expand.ensures.graph h (c.is_goal.ensures.graph h (c.turns.invariant.explored h x)).0).0;
+      explored = λ h x. c.in_ok-expand.ensures.graph h (c.is_goal.ensures.graph h (c.turns.invariant.explored h x)).0;
       search = λ h x p.
           let i = c.turns.invariant.search h x p in
           let x1 = c.is_goal.ensures.graph h (c.turns.invariant.explored h x) in
-          let x2 = c.in_ok-expand.ensures.graph h x1.0 in
           turned g.C.Number.value g.C.Number.fits (λ a b d. g.C.Number.between_law a b d g.met.C.Integral.exact_law) (g.G.NumberedGraph.step h) (g.G.NumberedGraph.passes h) (g.G.NumberedGraph.stands c.args.graph.now 0) p _ _ i c.turns.invariant.tree _ _ _ z
-          _ _ _ _ _ c.is_goal.ensures.grows c.in_ok-expand.ensures.grows c.turns.invariant.len _ x2.1 _ _ wide
+          _ _ _ _ _ c.is_goal.ensures.grows c.in_ok-expand.ensures.grows c.turns.invariant.len _ (row.4 h x1.0) _ _ wide
           rel f.reached c.known.ensures
-          (λ y t. sym (x1.1 y t) ∙ c.if-is_goal.false) (rw c.deref-in-Some.ensures.value at c.in_ok-follow.ensures.labelled);
+          (λ y t. sym (x1.1 y t) ∙ c.if-is_goal.false) (rw (c.deref-in-Some.ensures.value, row.1) at c.in_ok-follow.ensures.labelled);
     }
 
 pub returns-clause-best : goal.returns-clause-best
@@ -110,7 +110,7 @@ pub expand-requires-clause-graph : goal.expand-requires-clause-graph
 expand-requires-clause-graph g c = let r = c.requires.graph in (r.0, (c.is_goal.ensures.graph r.0 (c.turns.invariant.explored r.0 r.1)).0)
 
 pub returns-in_err-expand-clause-graph : goal.returns-in_err-expand-clause-graph
-returns-in_err-expand-clause-graph g c = λ h x. (c.in_err-expand.ensures.graph h (c.is_goal.ensures.graph h (c.turns.invariant.explored h x)).0).0
+returns-in_err-expand-clause-graph g c = λ h x. c.in_err-expand.ensures.graph h (c.is_goal.ensures.graph h (c.turns.invariant.explored h x)).0
 
 pub returns-in_err-follow-clause-graph : goal.returns-in_err-follow-clause-graph
-returns-in_err-follow-clause-graph g c = λ h x. (c.in_ok-expand.ensures.graph h (c.is_goal.ensures.graph h (c.turns.invariant.explored h x)).0).0
+returns-in_err-follow-clause-graph g c = λ h x. c.in_ok-expand.ensures.graph h (c.is_goal.ensures.graph h (c.turns.invariant.explored h x)).0

@@ -43,7 +43,7 @@ pub expand-requires-clause-graph : goal.expand-requires-clause-graph
 expand-requires-clause-graph g c = let r = c.requires.graph in (r.0, (c.is_goal.ensures.graph r.0 (c.nodes.invariant.explored r.0 r.1)).0)
 
 pub returns-in_err-fill-2-clause-graph : goal.returns-in_err-fill-2-clause-graph
-returns-in_err-fill-2-clause-graph g c = λ h x. (c.in_ok-expand.ensures.graph h (c.is_goal.ensures.graph h (c.nodes.invariant.explored h x)).0).0
+returns-in_err-fill-2-clause-graph g c = λ h x. c.in_ok-expand.ensures.graph h (c.is_goal.ensures.graph h (c.nodes.invariant.explored h x)).0
 
 pub behind-requires : goal.behind-requires
 behind-requires g c = omega (arith, c.nodes-test.true, c.len.ensures, c.nodes.invariant.few)
@@ -70,19 +70,19 @@ nodes-preserved g c =
     let within : length labels1 ≤ c.found-in-nodes.result = omega (arith, hop_len c.nodes.node l.0 labels labels1 b l.1 s.1, c.nodes.invariant.len, c.is_goal.ensures.same, grown, c.found-in-nodes.ensures) in
     let long : length labels3 ≡ c.found-in-nodes.result = omega (arith, ap length e3, length-append labels1 (replicate (c.found-in-nodes.result - length labels1) (Some (reached_from c.nodes.node (l.0.depth + 1)))), length-replicate (c.found-in-nodes.result - length labels1) (Some (reached_from c.nodes.node (l.0.depth + 1))), within) in
     let len3 : length labels3 ≡ g.G.NumberedGraph.found c.expand.new.self = long ∙ c.found-in-nodes.ensures in
-    let fresh : (k : ℕ) → length labels ≤ k → k < g.G.NumberedGraph.found c.expand.new.self → (d : g.row.C.Denot) × Contains c.expand.new.row.items (k, d) = λ k le lt. c.in_ok-expand.ensures.fresh k (omega (arith, le, c.nodes.invariant.len, c.is_goal.ensures.same)) lt in
+    let row = c.in_ok-expand.ensures.listed in
+    let fresh : (k : ℕ) → length labels ≤ k → k < g.G.NumberedGraph.found c.expand.new.self → (d : g.row.C.Denot) × Contains row.0 (k, d) = λ k le lt. row.3 k (omega (arith, le, c.nodes.invariant.len, c.is_goal.ensures.same)) lt in
     record {
       len = len3;
       few = omega (arith, long, c.in_ok-fill-2.ensures.few);
       breadth = breadth_turn c.nodes.node l.0 labels labels1 labels3 b l.1 s.1 _ e3;
-      tree = hop_tree c.nodes.node l.0 labels labels1 labels3 b l.1 s.1 _ e3 c.expand.new.row.items _ len3 fresh c.nodes.invariant.tree;
-      explored = λ h x. (c.in_ok-expand.ensures.graph h (c.is_goal.ensures.graph h (c.nodes.invariant.explored h x)).0).0;
+      tree = hop_tree c.nodes.node l.0 labels labels1 labels3 b l.1 s.1 _ e3 row.0 _ len3 fresh c.nodes.invariant.tree;
+      explored = λ h x. c.in_ok-expand.ensures.graph h (c.is_goal.ensures.graph h (c.nodes.invariant.explored h x)).0;
       search = λ h x p.
           let i = c.nodes.invariant.search h x p in
           let x1 = c.is_goal.ensures.graph h (c.nodes.invariant.explored h x) in
-          let x2 = c.in_ok-expand.ensures.graph h x1.0 in
-          hop_turned c.nodes.node l.0 labels labels1 labels3 b l.1 s.1 _ e3 c.expand.new.row.items _ len3 fresh (g.G.NumberedGraph.step h) (g.G.NumberedGraph.passes h) _ p _ i c.nodes.invariant.tree
-          _ _ _ _ c.is_goal.ensures.grows c.in_ok-expand.ensures.grows c.nodes.invariant.len g.C.Number.value x2.1 c.in_ok-expand.ensures.inside (λ y t. sym (x1.1 y t) ∙ c.if-is_goal.false);
+          hop_turned c.nodes.node l.0 labels labels1 labels3 b l.1 s.1 _ e3 row.0 _ len3 fresh (g.G.NumberedGraph.step h) (g.G.NumberedGraph.passes h) _ p _ i c.nodes.invariant.tree
+          _ _ _ _ c.is_goal.ensures.grows c.in_ok-expand.ensures.grows c.nodes.invariant.len g.C.Number.value (row.4 h x1.0) row.2 (λ y t. sym (x1.1 y t) ∙ c.if-is_goal.false);
     }
 
 pub returns-clause-best : goal.returns-clause-best

@@ -1,43 +1,50 @@
-use Rattle.std.proofs.Common.{rules, ◌≡◌, [], ◌∷◌, refl, ap}
+use Rattle.std.proofs.Common.{rules, ◌≡◌, [], ◌∷◌, List, ℤ, Bool, ap}
 use Rattle.std.specs.Prelude.{Err}
 use Rattle.pf_base.specs.declared.error.PathError.TheVariants.{CostOverflow}
-use Rattle.pf_search.specs.Internal.Nodes.{NodeGraph}
+use Rattle.pf_search.specs.Internal.Nodes.{TestedGraph}
 use Rattle.pf_search.specs.Internal.NodeLaws.{StandsFor-one}
 use Rattle.pf_search.proofs.WalkLemmas.{all_starts, only_starts, positive, no_walk, best_answer, past_range}
-use Rattle.pf_search.proofs.NodeLemmas.{at_most}
+use Rattle.pf_search.proofs.NodeLemmas.{Explores-edges, at_most}
 use Rattle.pf_search.proofs.directed.dijkstra.dijkstra_tallied.Goals as goal
 
+-- the graph that these functions answer
+abbrev tested : {N : Type 0} → N → (N → List (N × ℤ)) → (N → Bool) → TestedGraph N
+tested start edges test = record { graph = record { starts = start ∷ []; edges = edges }; test = test }
+
 pub cheapest_path-requires-clause-begins : goal.cheapest_path-requires-clause-begins
-cheapest_path-requires-clause-begins g c = (c.args.start.now, (c.in_ok-graph.ensures.begins c.args.start.now).1 (g.met.N.Eq.laws.refl c.args.start.now))
+cheapest_path-requires-clause-begins g c = (c.args.start.now, (c.in_ok-clone_of.ensures.begins c.args.start.now).1 (g.met.N.Eq.laws.refl c.args.start.now))
 
 pub cheapest_path-requires-clause-graph : goal.cheapest_path-requires-clause-graph
 cheapest_path-requires-clause-graph g c =
     let r = c.requires.graph in
-    let h : NodeGraph g.row.N.Denot = record { starts = c.args.start.now ∷ []; edges = r.0; test = r.1 } in
-    (h, c.in_ok-graph.ensures.graph h refl r.2 r.3)
+    let found = c.in_ok-clone_of in
+    let h = tested c.args.start.now r.0 r.1 in
+    (h, (Explores-edges g.N.PartialEq.eq g.met.N.Eq.laws _ _ _ _ _ _ h.graph found.field-0.keys _ found.ensures.distinct found.ensures.same r.2, r.3))
 
 pub returns-in_err-cheapest_path-clause-overflow : goal.returns-in_err-cheapest_path-clause-overflow
 returns-in_err-cheapest_path-clause-overflow g c = λ edges test a t p e.
     let eq = g.N.PartialEq.eq in
     let laws = g.met.N.Eq.laws in
     let start = c.args.start.now in
-    let h : NodeGraph g.row.N.Denot = record { starts = start ∷ []; edges = edges; test = test } in
-    let x = c.in_ok-graph.ensures.graph h refl a t in
-    let keys = c.cheapest_path.new.graph.nodes.keys in
-    let y = c.in_err-cheapest_path.ensures.graph h x in
+    let found = c.in_ok-clone_of in
+    let h = tested start edges test in
+    let x = Explores-edges eq laws _ _ _ _ _ _ h.graph found.field-0.keys _ found.ensures.distinct found.ensures.same a in
+    let keys = c.cheapest_path.new.graph.discovery.nodes.keys in
+    let y = c.in_err-cheapest_path.ensures.graph h (x, t) in
     let f : c.in_err-cheapest_path.field-0.0 ≡ CostOverflow = search rules in
-    let d = c.in_err-cheapest_path.ensures.overflow h x (positive eq laws h a.alike p) (ap Err f) in
-    past_range eq laws h a.alike _ (all_starts eq start _ c.in_ok-graph.ensures.begins) (only_starts eq start _ c.in_ok-graph.ensures.begins) test g.C.Number.fits keys (StandsFor-one eq laws keys y.distinct) d
+    let d = c.in_err-cheapest_path.ensures.overflow h (x, t) (positive eq laws h.graph a.alike p) (ap Err f) in
+    past_range eq laws h.graph a.alike _ (all_starts eq start _ found.ensures.begins) (only_starts eq start _ found.ensures.begins) test g.C.Number.fits keys (StandsFor-one eq laws keys y.0.distinct) d
 
 pub returns-in-None-clause-best : goal.returns-in-None-clause-best
 returns-in-None-clause-best g c = λ edges test a t p.
     let eq = g.N.PartialEq.eq in
     let laws = g.met.N.Eq.laws in
     let start = c.args.start.now in
-    let h : NodeGraph g.row.N.Denot = record { starts = start ∷ []; edges = edges; test = test } in
-    let x = c.in_ok-graph.ensures.graph h refl a t in
-    let b = rw c.in-None.is at (c.in_ok-cheapest_path.ensures.best h x (positive eq laws h a.alike p)) in
-    no_walk eq laws h a.alike _ (all_starts eq start _ c.in_ok-graph.ensures.begins) (only_starts eq start _ c.in_ok-graph.ensures.begins) test b
+    let found = c.in_ok-clone_of in
+    let h = tested start edges test in
+    let x = Explores-edges eq laws _ _ _ _ _ _ h.graph found.field-0.keys _ found.ensures.distinct found.ensures.same a in
+    let b = rw c.in-None.is at (c.in_ok-cheapest_path.ensures.best h (x, t) (positive eq laws h.graph a.alike p)) in
+    no_walk eq laws h.graph a.alike _ (all_starts eq start _ found.ensures.begins) (only_starts eq start _ found.ensures.begins) test b
 
 pub nodes_at-requires-clause-inside : goal.nodes_at-requires-clause-inside
 nodes_at-requires-clause-inside g c = λ k h. (rw c.in-Some.is at c.in_ok-cheapest_path.ensures.inside) k (rw c.deref.ensures.value at h)
@@ -47,33 +54,38 @@ returns-clause-best g c = λ edges test a t p.
     let eq = g.N.PartialEq.eq in
     let laws = g.met.N.Eq.laws in
     let start = c.args.start.now in
-    let h : NodeGraph g.row.N.Denot = record { starts = start ∷ []; edges = edges; test = test } in
-    let x = c.in_ok-graph.ensures.graph h refl a t in
-    let keys = c.cheapest_path.new.graph.nodes.keys in
-    let y = c.in_ok-cheapest_path.ensures.graph h x in
-    let b = rw c.in-Some.is at (c.in_ok-cheapest_path.ensures.best h x (positive eq laws h a.alike p)) in
-    best_answer eq laws h a.alike _ (all_starts eq start _ c.in_ok-graph.ensures.begins) (only_starts eq start _ c.in_ok-graph.ensures.begins) test t.alike keys (StandsFor-one eq laws keys y.distinct) c.in-Some.numbers.items c.in_ok-path-in-Some.path.items (g.C.Number.value c.in-Some.cost) b (rw c.deref.ensures.value at c.in_ok-path-in-Some.ensures.nodes)
+    let found = c.in_ok-clone_of in
+    let h = tested start edges test in
+    let x = Explores-edges eq laws _ _ _ _ _ _ h.graph found.field-0.keys _ found.ensures.distinct found.ensures.same a in
+    let keys = c.cheapest_path.new.graph.discovery.nodes.keys in
+    let y = c.in_ok-cheapest_path.ensures.graph h (x, t) in
+    let b = rw c.in-Some.is at (c.in_ok-cheapest_path.ensures.best h (x, t) (positive eq laws h.graph a.alike p)) in
+    best_answer eq laws h.graph a.alike _ (all_starts eq start _ found.ensures.begins) (only_starts eq start _ found.ensures.begins) test t.alike keys (StandsFor-one eq laws keys y.0.distinct) c.in-Some.numbers.items c.in_ok-path-in-Some.path.items (g.C.Number.value c.in-Some.cost) b (rw c.deref.ensures.value at c.in_ok-path-in-Some.ensures.nodes)
 
 pub returns-in_err-path-in-Some-clause-asked : goal.returns-in_err-path-in-Some-clause-asked
 returns-in_err-path-in-Some-clause-asked g c = λ edges test a t.
-    let h : NodeGraph g.row.N.Denot = record { starts = c.args.start.now ∷ []; edges = edges; test = test } in
-    let y = c.in_ok-cheapest_path.ensures.graph h (c.in_ok-graph.ensures.graph h refl a t) in
-    at_most g.N.PartialEq.eq g.met.N.Eq.laws _ c.cheapest_path.new.graph.nodes.keys y.distinct y.reached _ _ c.in_ok-cheapest_path.ensures.asked
+    let found = c.in_ok-clone_of in
+    let h = tested c.args.start.now edges test in
+    let y = c.in_ok-cheapest_path.ensures.graph h (Explores-edges g.N.PartialEq.eq g.met.N.Eq.laws _ _ _ _ _ _ h.graph found.field-0.keys _ found.ensures.distinct found.ensures.same a, t) in
+    at_most g.N.PartialEq.eq g.met.N.Eq.laws _ c.cheapest_path.new.graph.discovery.nodes.keys y.0.distinct y.0.reached _ _ c.in_ok-cheapest_path.ensures.asked
 
 pub returns-in_err-cheapest_path-clause-asked : goal.returns-in_err-cheapest_path-clause-asked
 returns-in_err-cheapest_path-clause-asked g c = λ edges test a t.
-    let h : NodeGraph g.row.N.Denot = record { starts = c.args.start.now ∷ []; edges = edges; test = test } in
-    let y = c.in_err-cheapest_path.ensures.graph h (c.in_ok-graph.ensures.graph h refl a t) in
-    at_most g.N.PartialEq.eq g.met.N.Eq.laws _ c.cheapest_path.new.graph.nodes.keys y.distinct y.reached _ _ c.in_err-cheapest_path.ensures.asked
+    let found = c.in_ok-clone_of in
+    let h = tested c.args.start.now edges test in
+    let y = c.in_err-cheapest_path.ensures.graph h (Explores-edges g.N.PartialEq.eq g.met.N.Eq.laws _ _ _ _ _ _ h.graph found.field-0.keys _ found.ensures.distinct found.ensures.same a, t) in
+    at_most g.N.PartialEq.eq g.met.N.Eq.laws _ c.cheapest_path.new.graph.discovery.nodes.keys y.0.distinct y.0.reached _ _ c.in_err-cheapest_path.ensures.asked
 
 pub returns-in-None-clause-asked : goal.returns-in-None-clause-asked
 returns-in-None-clause-asked g c = λ edges test a t.
-    let h : NodeGraph g.row.N.Denot = record { starts = c.args.start.now ∷ []; edges = edges; test = test } in
-    let y = c.in_ok-cheapest_path.ensures.graph h (c.in_ok-graph.ensures.graph h refl a t) in
-    at_most g.N.PartialEq.eq g.met.N.Eq.laws _ c.cheapest_path.new.graph.nodes.keys y.distinct y.reached _ _ c.in_ok-cheapest_path.ensures.asked
+    let found = c.in_ok-clone_of in
+    let h = tested c.args.start.now edges test in
+    let y = c.in_ok-cheapest_path.ensures.graph h (Explores-edges g.N.PartialEq.eq g.met.N.Eq.laws _ _ _ _ _ _ h.graph found.field-0.keys _ found.ensures.distinct found.ensures.same a, t) in
+    at_most g.N.PartialEq.eq g.met.N.Eq.laws _ c.cheapest_path.new.graph.discovery.nodes.keys y.0.distinct y.0.reached _ _ c.in_ok-cheapest_path.ensures.asked
 
 pub returns-clause-asked : goal.returns-clause-asked
 returns-clause-asked g c = λ edges test a t.
-    let h : NodeGraph g.row.N.Denot = record { starts = c.args.start.now ∷ []; edges = edges; test = test } in
-    let y = c.in_ok-cheapest_path.ensures.graph h (c.in_ok-graph.ensures.graph h refl a t) in
-    at_most g.N.PartialEq.eq g.met.N.Eq.laws _ c.cheapest_path.new.graph.nodes.keys y.distinct y.reached _ _ c.in_ok-cheapest_path.ensures.asked
+    let found = c.in_ok-clone_of in
+    let h = tested c.args.start.now edges test in
+    let y = c.in_ok-cheapest_path.ensures.graph h (Explores-edges g.N.PartialEq.eq g.met.N.Eq.laws _ _ _ _ _ _ h.graph found.field-0.keys _ found.ensures.distinct found.ensures.same a, t) in
+    at_most g.N.PartialEq.eq g.met.N.Eq.laws _ c.cheapest_path.new.graph.discovery.nodes.keys y.0.distinct y.0.reached _ _ c.in_ok-cheapest_path.ensures.asked

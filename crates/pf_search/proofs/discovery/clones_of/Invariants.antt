@@ -1,6 +1,6 @@
 use Rattle.std.specs.List.{IsDistinct}
 use Rattle.pf_base.specs.NodeRefs.{HasSameNodes, nodes_of}
-use Rattle.pf_search.proofs.hops.clones_of.Given as goal
+use Rattle.pf_search.proofs.discovery.clones_of.Given as goal
 
 -- the clones of the starts so far, each once
 abbrev pub invariant-starts : goal.invariant-starts

@@ -4,7 +4,7 @@ use Rattle.std.proofs.lemmas.Iterator.Consumers.{YieldsList-from_first}
 use Rattle.std.proofs.lemmas.List.{map-append}
 use Rattle.pf_base.specs.NodeRefs.{HasSameNodes, nodes_of}
 use Rattle.pf_search.proofs.NodeLemmas.{HasSameNodes-insert}
-use Rattle.pf_search.proofs.hops.clones_of.Goals as goal
+use Rattle.pf_search.proofs.discovery.clones_of.Goals as goal
 
 pub starts-preserved : goal.starts-preserved
 starts-preserved g c =
