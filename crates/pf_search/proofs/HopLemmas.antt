@@ -1,16 +1,17 @@
 -- A search by number of edges: numbers in the order found are visited in turn.
 use Rattle.std.proofs.Common.{ℕ, zero, suc, ◌+◌, ◌-◌, ◌<◌, ◌≤◌, ◌≡◌, refl, sym, ◌∙◌, ap, subst, arith, Bool, true, false, List, [], ◌∷◌, ◌++◌, length, length-append, inl, inr, ℤ, pos, Option, Some, None, true≢false, replicate, cond, map}
-use Rattle.std.specs.Prelude.{slice_get, slice_set, Contains, ◌≤ℤ◌, ◌⊎◌}
+use Rattle.std.specs.Prelude.{slice_get, slice_set, Contains, nat_lt, ◌↔◌, ◌≤ℤ◌, ◌⊎◌}
+use Rattle.std.proofs.lemmas.Bool.{lt-ltb, ltb-true}
 use Rattle.std.proofs.lemmas.Int.{ints}
 use Rattle.std.proofs.lemmas.List.Sums.{sum_by-append}
 use Rattle.std.proofs.lemmas.List.Folds.{sum_by-replicate}
 use Rattle.pf_search.specs.declared.labels.Label.{Label}
-use Rattle.pf_search.specs.Internal.Labels.{Labels, HasLabel, by_depth, is_settled, settled_count, AllSettled, IsTree, IsChain, Settles, Widened, Relaxed, ComesFrom, Covers}
-use Rattle.pf_search.specs.Internal.Steps.{IsHop, IsPositive, IsBestNumbered}
+use Rattle.pf_search.specs.Internal.Labels.{Labels, HasLabel, by_depth, is_settled, settled_count, AllSettled, IsTree, Settles, Widened, Relaxed, ComesFrom, Covers}
+use Rattle.pf_search.specs.Internal.Steps.{IsHop, IsPositive}
 use Rattle.pf_search.specs.Internal.Numbered.{ListsSteps, Grows, StandsBelow}
-use Rattle.pf_base.specs.Walks.{end_of}
-use Rattle.pf_search.proofs.PathLemmas.{was_label, chain_path, IsTree-turn, IsTree-settle}
-use Rattle.pf_search.proofs.SearchLemmas.{IsSearch, Grows-trans, goal_above, turn}
+use Rattle.pf_search.proofs.PathLemmas.{was_label, IsTree-turn, IsTree-settle}
+use Rattle.pf_search.specs.Internal.Search.{IsLeast, IsSearch, StandsRoot}
+use Rattle.pf_search.proofs.SearchLemmas.{search_start, turn}
 use Rattle.pf_search.proofs.ListLemmas.{nat_dec, get-append, none_in, Contains-head, Contains-tail, Contains-cases}
 use Rattle.pf_search.proofs.LabelLemmas.{HasLabel-inside, Settles-set, Widened-more}
 
@@ -284,34 +285,37 @@ module _ (n : ℕ) (l : Label Hops) (labels labels1 labels3 : Labels Hops) (b : 
 
 -- ---- the search
 
-module _ {X : Type 0} (step : X → ℤ → X → Type 0) (passes : X → Bool) (found : ℕ) (stands : ℕ → X → Type 0) (labels : Labels Hops) (e : labels ≡ replicate found (Some (reached_from 0 0))) (len : length labels ≡ found) where
-  pub hop_search_start : ((k : ℕ) → k < found → (s : X) × stands k s) → IsSearch by_depth step passes (StandsBelow found stands) stands labels
-  hop_search_start begins = record {
-    start = λ s h. (h.0, reached_from 0 0, start_at found labels e len h.0 h.1, omega (arith, ints), h.2);
-    rooted = λ k l h d.
-        let inside : k < found = omega (arith, HasLabel-inside labels k l h, len) in
-        let s = begins k inside in
-        (s.0, (k, inside, s.1), s.1, ap pos d);
-    linked = λ k l m h d. let o = ap (λ (n : Label Hops). n.depth) (at_start found labels e len k l h) in absurd (omega (arith, d, o));
-    cut = record { along = λ k d x a. absurd (true≢false (sym a.2 ∙ ap (λ (n : Label Hops). n.settled) (at_start found labels e len k a.0 a.1))) };
-    failed = λ k l x h t. absurd (true≢false (sym t ∙ ap (λ (n : Label Hops). n.settled) (at_start found labels e len k l h)));
-    low = λ k j l m h t. absurd (true≢false (sym t ∙ ap (λ (n : Label Hops). n.settled) (at_start found labels e len k l h)));
-  }
+-- the numbers below are the roots
+abbrev pub below : ℕ → ℕ → Bool
+below found k = nat_lt k found
 
-module _ {X : Type 0} (step : X → ℤ → X → Type 0) (passes : X → Bool) (starts : X → Type 0) (hop : IsHop step) (stands : ℕ → X → Type 0) (labels : Labels Hops) (i : IsSearch by_depth step passes starts stands labels) (tree : IsTree labels)
-    (n : ℕ) (b : IsBreadth n labels) (l : Label Hops) (at : HasLabel labels n l) where
-  -- a goal that is visited is best, along the chain of its parents
-  pub hop_best : (numbers : List ℕ) → IsChain labels n numbers → ((x : X) → stands n x → passes x ≡ true) → IsBestNumbered step passes starts stands numbers (pos l.depth)
-  hop_best numbers c good =
-      let up = chain_path labels tree by_depth step starts stands i.rooted i.linked numbers n l at c in
+pub roots_below : {X : Type 0} (a b : ℕ) (p q : ℕ → X → Type 0) → Grows a b p q → (x : X) → StandsRoot (below a) q x ↔ StandsBelow a p x
+roots_below a b p q g x = (
+  λ h. let inside : h.0 < a = ltb-true h.0 a h.1 in (h.0, inside, g.back h.0 x inside h.2),
+  λ h. (h.0, lt-ltb h.0 a h.1, g.stays h.0 x h.2),
+)
+
+module _ {X : Type 0} (step : X → ℤ → X → Type 0) (found : ℕ) (stands : ℕ → X → Type 0) (labels : Labels Hops) (e : labels ≡ replicate found (Some (reached_from 0 0))) (len : length labels ≡ found) where
+  pub hop_search_start : ((k : ℕ) → k < found → (s : X) × stands k s) → IsSearch by_depth step (below found) stands labels
+  hop_search_start begins = search_start by_depth step (below found) stands labels
+      (λ k r. (reached_from 0 0, start_at found labels e len k (ltb-true k found r)))
+      (λ k l h.
+      let first = at_start found labels e len k l h in
+      let inside : k < found = omega (arith, HasLabel-inside labels k l h, len) in
       record {
-        first = up.first;
-        is_start = up.is_start;
-        nodes = up.nodes;
-        path = up.path;
-        good = good (end_of up.first up.nodes) up.here;
-        best = goal_above by_depth step passes starts (hop_positive step hop) stands labels i (pos l.depth) (breadth_least n labels l b at);
-      }
+        opened = ap (λ (n : Label Hops). n.settled) first;
+        flat = ap (λ (n : Label Hops). n.depth) first;
+        nothing = ap (λ (n : Label Hops). pos n.depth) first;
+        is_root = lt-ltb k found inside;
+        here = begins k inside;
+      })
+
+  pub none_settled : (k : ℕ) (l : Label Hops) → HasLabel labels k l → ¬ (l.settled ≡ true)
+  none_settled k l h t = true≢false (sym t ∙ ap (λ (n : Label Hops). n.settled) (at_start found labels e len k l h))
+
+-- the number that is visited has a label of least depth
+pub hop_least : (n : ℕ) (labels : Labels Hops) → IsBreadth n labels → (l : Label Hops) → HasLabel labels n l → IsLeast by_depth labels n l
+hop_least n labels b l at = record { at = at; opened = b.opened n l at (omega arith); least = breadth_least n labels l b at }
 
 module _ (n : ℕ) (l : Label Hops) (labels labels1 labels3 : Labels Hops) (b : IsBreadth n labels) (at : HasLabel labels n l)
     (e1 : labels1 ≡ slice_set labels n (Some (record l { settled = true }))) (more : ℕ) (e3 : labels3 ≡ labels1 ++ replicate more (Some (reached_from n (l.depth + 1))))
@@ -328,11 +332,18 @@ module _ (n : ℕ) (l : Label Hops) (labels labels1 labels3 : Labels Hops) (b : 
   pub hop_tree : IsTree labels → IsTree labels3
   hop_tree tree = IsTree-turn by_depth n l labels labels1 settles found' (labels1 ++ replicate more None) widens one_each (hops_of row) labels3 relaxes (IsTree-settle by_depth n l labels labels1 settles tree)
 
-  module _ {X : Type 0} (step : X → ℤ → X → Type 0) (passes : X → Bool) (starts : X → Type 0) (hop : IsHop step) (stands : ℕ → X → Type 0) (i : IsSearch by_depth step passes starts stands labels) (tree : IsTree labels)
-      (found found1 : ℕ) (stands1 stands' : ℕ → X → Type 0) (grow1 : Grows found found1 stands stands1) (grow2 : Grows found1 found' stands1 stands') (len : length labels ≡ found)
-      (value : C → ℤ) (lists : (x : X) → stands1 n x → ListsSteps value step stands' x row) (within : (k : ℕ) (c : C) → Contains row (k, c) → k < found') where
-    pub hop_turned : ((x : X) → stands n x → passes x ≡ false) → IsSearch by_depth step passes starts stands' labels3
-    hop_turned fails =
-        turn by_depth step passes starts (hop_positive step hop) stands labels i tree n l labels1 settles found found' stands' (Grows-trans found found1 found' stands stands1 stands' grow1 grow2) (omega (arith, len)) fails
-        one_each (hops_of row) (λ x h. hops-list value step hop stands' x row (lists x (grow1.stays n x h))) (labels1 ++ replicate more None) labels3 widens relaxes
+  -- what is settled now, was so or is the number that was visited
+  pub hop_from : (j : ℕ) (m : Label Hops) → HasLabel labels3 j m → m.settled ≡ true → (j ≡ n) ⊎ HasLabel labels j m
+  hop_from j m h t = elim (old_or_new n l labels labels1 labels3 b at e1 more e3 j m h) as (λ _. (j ≡ n) ⊎ HasLabel labels j m) [
+    | inl q ↦ elim (was_label by_depth n l labels labels1 settles j m q) as (λ _. (j ≡ n) ⊎ HasLabel labels j m) [ inl r ↦ inl r.0 | inr r ↦ inr r.1 ]
+    | inr q ↦ absurd (true≢false (sym t ∙ ap (λ (x : Label Hops). x.settled) q.1))
+  ]
+
+  module _ {X : Type 0} (step : X → ℤ → X → Type 0) (root : ℕ → Bool) (hop : IsHop step) (stands : ℕ → X → Type 0) (i : IsSearch by_depth step root stands labels) (tree : IsTree labels)
+      (found : ℕ) (stands' : ℕ → X → Type 0) (grow : Grows found found' stands stands') (len : length labels ≡ found)
+      (value : C → ℤ) (lists : (x : X) → stands n x → ListsSteps value step stands' x row) (within : (k : ℕ) (c : C) → Contains row (k, c) → k < found') where
+    pub hop_turned : IsSearch by_depth step root stands' labels3
+    hop_turned =
+        turn by_depth step root (hop_positive step hop) stands labels i tree n l labels1 settles found found' stands' grow (omega (arith, len))
+        one_each (hops_of row) (λ x h. hops-list value step hop stands' x row (lists x h)) (labels1 ++ replicate more None) labels3 widens relaxes
         (hop_covers n l labels labels1 labels3 b at e1 more e3 (hops_of row) (λ k c h. let q = hops-from row k h in omega (arith, within k q.0 q.1, len3)))

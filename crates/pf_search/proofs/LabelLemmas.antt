@@ -204,6 +204,17 @@ module _ {C : Type 0} (value : C → ℤ) (labels : Labels C) (next : ℕ) (labe
   improves_at true o h = of_label (λ l. (l.settled ≡ false) × (value total <ℤ value l.cost)) labels next label at (o, h)
   improves_at false o h = (label, at, inr h)
 
+-- nothing has a label where there is room alone
+pub none_widened : {C : Type 0} (n : ℕ) (labels wider : Labels C) → labels ≡ [] → Widened n labels wider → (k : ℕ) (l : Label C) → ¬ (HasLabel wider k l)
+none_widened n labels wider e w k l h = none_in k (Some l) (subst (λ (xs : Labels _). HasLabel xs k l) e (w.from k l h))
+
+-- what the place of a number tells of whether its label is open
+pub open_there : {C : Type 0} (labels : Labels C) (number : ℕ) → number < length labels → (o : Option (Label C)) → o ≡ get_or labels number o → (r : Bool)
+    → MatchBool r ((l : Label C) × (o ≡ Some l) × (l.settled ≡ false)) ((l : Label C) → o ≡ Some l → l.settled ≡ true)
+    → MatchBool r ((l : Label C) × HasLabel labels number l × (l.settled ≡ false)) ((l : Label C) → HasLabel labels number l → l.settled ≡ true)
+open_there labels number h o is true m = (m.0, at_place labels number o o h (sym is) ∙ ap Some m.1, m.2)
+open_there labels number h o is false m = λ l k. m l (let e : Some o ≡ Some (Some l) = sym (at_place labels number o o h (sym is)) ∙ k in cc)
+
 -- what the place of a number tells of its parent
 pub parent_there : {C : Type 0} (labels : Labels C) (number : ℕ) → number < length labels → (o : Option (Label C)) → o ≡ get_or labels number o → (r : Option ℕ)
     → MatchOption r ((l : Label C) → o ≡ Some l → l.depth ≡ 0) (λ p. (l : Label C) × (o ≡ Some l) × (l.parent ≡ p) × (0 < l.depth))
@@ -218,20 +229,16 @@ parent_labelled labels tree k l h deep = elim (tree.linked k l h) as (λ _. (m :
   | inr r ↦ r
 ]
 
--- labels of one number alone
-module _ {C : Type 0} (labels : Labels C) (first : Label C) (e : labels ≡ Some first ∷ []) where
-  pub only : (k : ℕ) (l : Label C) → HasLabel labels k l → (k ≡ 0) × (l ≡ first)
-  only k l h = by k (subst (λ (xs : Labels C). HasLabel xs k l) e h)
-    where
-      by : (k : ℕ) → HasLabel (Some first ∷ []) k l → (k ≡ 0) × (l ≡ first)
-      by zero g = let q : Some (Some first) ≡ Some (Some l) = g in let r : first ≡ l = cc in (refl, sym r)
-      by (suc k) g = absurd (none_in k (Some l) g)
+-- the label of one number alone
+module _ {C : Type 0} (labels : Labels C) (none : (k : ℕ) (l : Label C) → ¬ (HasLabel labels k l)) (n : ℕ) (first : Label C) (inside : n < length labels) where
+  pub first_there : HasLabel (slice_set labels n (Some first)) n first
+  first_there = elim (get_set labels n n (Some first) inside) as (λ _. HasLabel (slice_set labels n (Some first)) n first) [ inl r ↦ r.1 | inr r ↦ absurd (r.0 refl) ]
 
-  pub first_is : HasLabel labels 0 first
-  first_is = subst (λ (xs : Labels C). HasLabel xs 0 first) (sym e) refl
+  pub only_first : (k : ℕ) (l : Label C) → HasLabel (slice_set labels n (Some first)) k l → (k ≡ n) × (l ≡ first)
+  only_first k l h = elim (get_set labels n k (Some first) inside) as (λ _. (k ≡ n) × (l ≡ first)) [
+    | inl r ↦ let q : Some (Some first) ≡ Some (Some l) = sym r.1 ∙ h in let e : first ≡ l = cc in (r.0, sym e)
+    | inr r ↦ absurd (none k l (sym r.1 ∙ h))
+  ]
 
-  pub tree_start : first.depth ≡ 0 → IsTree labels
-  tree_start flat = record { linked = λ k l h. let o = only k l h in inl (ap (λ (m : Label C). m.depth) o.1 ∙ flat) }
-
-  pub count_start : first.settled ≡ false → settled_count labels ≡ 0
-  count_start f = subst (λ (xs : Labels C). settled_count xs ≡ 0) (sym e) (let h : ◌≡◌ {A = ℕ} (cond first.settled 1 0) 0 = ap (λ b. cond b 1 0) f in omega (arith, h))
+  pub tree_start : first.depth ≡ 0 → IsTree (slice_set labels n (Some first))
+  tree_start flat = record { linked = λ k l h. inl (ap (λ (m : Label C). m.depth) (only_first k l h).1 ∙ flat) }

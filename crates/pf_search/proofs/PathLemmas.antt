@@ -143,20 +143,6 @@ module _ {C : Type 0} (measure : C → ℕ → ℤ) (k : ℕ) (l : Label C) (lab
     ];
   }
 
-  -- a chain after k was settled is one from before
-  pub Climbs-settle : (above : List ℕ) (j : ℕ) → Climbs labels1 j above → Climbs labels j above
-  Climbs-settle [] j c = elim (was_label j c.0 c.1) as (λ _. Climbs labels j []) [
-    | inl e ↦ (l, subst (λ (n : ℕ). HasLabel labels n l) (sym e.0) z.was, subst (λ (m : Label C). m.depth ≡ 0) e.1 c.2)
-    | inr e ↦ (c.0, e.1, c.2)
-  ]
-  Climbs-settle (p ∷ ps) j c = elim (was_label j c.0 c.1) as (λ _. Climbs labels j (p ∷ ps)) [
-    | inl e ↦ (l, subst (λ (n : ℕ). HasLabel labels n l) (sym e.0) z.was, subst (λ (m : Label C). m.parent ≡ p) e.1 c.2, subst (λ (m : Label C). 0 < m.depth) e.1 c.3, Climbs-settle ps p c.4)
-    | inr e ↦ (c.0, e.1, c.2, c.3, Climbs-settle ps p c.4)
-  ]
-
-  pub IsChain-settle : (numbers : List ℕ) (j : ℕ) → IsChain labels1 j numbers → IsChain labels j numbers
-  IsChain-settle numbers j c = record { above = c.above; climbs = Climbs-settle c.above j c.climbs; is = c.is }
-
   module _ (n : ℕ) (labels2 : Labels C) (wide : Widened n labels1 labels2) (worth : C → ℤ) (row : List (ℕ × C)) (labels3 : Labels C) (rel : Relaxed measure worth k l row labels2 labels3) where
     -- what is settled after the node of number k was settled is so after its steps
     pub settled_stays_3 : (j : ℕ) (m : Label C) → HasLabel labels1 j m → m.settled ≡ true → HasLabel labels3 j m

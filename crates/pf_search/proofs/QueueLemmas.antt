@@ -1,14 +1,15 @@
 -- Lemmas on what waits.
-use Rattle.std.proofs.Common.{ℕ, ◌<◌, ◌≡◌, ◌≢◌, refl, sym, ◌∙◌, ap, subst, arith, true, false, [], ◌∷◌, length, inl, inr, ℤ, Some, true≢false}
-use Rattle.std.specs.Prelude.{slice_get, slice_set, Contains, IsPermutation, ◌≤ℤ◌, ◌<ℤ◌, ◌⊎◌}
+use Rattle.std.proofs.Common.{ℕ, ◌<◌, ◌≡◌, refl, sym, ◌∙◌, ap, subst, arith, true, false, [], ◌∷◌, length, inl, inr, ℤ, Some, true≢false}
+use Rattle.std.specs.Prelude.{slice_set, Contains, IsPermutation, ◌≤ℤ◌, ◌<ℤ◌}
 use Rattle.std.specs.declared.cmp.Reverse.{Reverse}
 use Rattle.std.proofs.lemmas.Int.{ints}
 use Rattle.std.proofs.lemmas.List.Sorted.{Contains-permutation, IsPermutation-sym}
 use Rattle.pf_search.specs.declared.labels.Label.{Label}
 use Rattle.pf_search.specs.Internal.Labels.{Labels, HasLabel, by_cost, AllSettled, Settles, Widened}
 use Rattle.pf_search.specs.Internal.Queue.{Entries, IsQueue}
-use Rattle.pf_search.proofs.ListLemmas.{bool_dec, get_set, Contains-head, Contains-tail, Contains-cases}
-use Rattle.pf_search.proofs.LabelLemmas.{HasLabel-inside, label_is, Lowered-set, Settles-set, only, first_is}
+use Rattle.pf_search.specs.Internal.Search.{IsLeast}
+use Rattle.pf_search.proofs.ListLemmas.{bool_dec, nat_dec, get_set, Contains-head, Contains-tail, Contains-cases}
+use Rattle.pf_search.proofs.LabelLemmas.{HasLabel-inside, label_is, Lowered-set}
 
 abbrev entry : {C : Type 0} → C → ℕ → Reverse (C × ℕ)
 entry c k = record { 0 = (c, k) }
@@ -50,9 +51,6 @@ module _ {C : Type 0} (value : C → ℤ) where
     was_in : Contains entries e
     was_in = Contains-permutation (e ∷ entries') entries e (IsPermutation-sym _ _ p) (Contains-head entries' e)
 
-    pub popped_inside : e.0.1 < length labels
-    popped_inside = let r = q.labelled e was_in in HasLabel-inside labels e.0.1 r.0 r.1
-
     -- of a number that has no open label
     pub IsQueue-skip : ((l : Label C) → HasLabel labels e.0.1 l → l.settled ≡ true) → IsQueue value labels entries'
     IsQueue-skip stale = record {
@@ -63,51 +61,44 @@ module _ {C : Type 0} (value : C → ℤ) where
       ];
     }
 
-    -- of a number whose label was open, and is settled now
-    module _ (l : Label C) (at : HasLabel labels e.0.1 l) (opened : l.settled ≡ false) (labels' : Labels C) (is : labels' ≡ slice_set labels e.0.1 (Some (record l { settled = true }))) where
-      abbrev done : Label C
-      done = record l { settled = true }
+  -- ---- an entry of least cost
+  module _ (labels : Labels C) (entries : Entries C) (e : Reverse (C × ℕ)) (q : IsQueue value labels entries) (h : Contains entries e) where
+    pub entry_inside : e.0.1 < length labels
+    entry_inside = let r = q.labelled e h in HasLabel-inside labels e.0.1 r.0 r.1
 
-      after : (k : ℕ) → ((k ≡ e.0.1) × (slice_get (slice_set labels e.0.1 (Some done)) k ≡ Some (Some done))) ⊎ ((k ≢ e.0.1) × (slice_get (slice_set labels e.0.1 (Some done)) k ≡ slice_get labels k))
-      after k = get_set labels e.0.1 k (Some done) (HasLabel-inside labels e.0.1 l at)
-
-      settled_queue : IsQueue value (slice_set labels e.0.1 (Some (record l { settled = true }))) entries'
-      settled_queue = record {
-        labelled = λ f h.
-            let r = q.labelled f (rest_in f h) in
-            elim (after f.0.1) as (λ _. (m : Label C) × HasLabel (slice_set labels e.0.1 (Some done)) f.0.1 m × (value m.cost ≤ℤ value f.0.0)) [
-              | inl s ↦ (done, s.1, subst (λ (m : Label C). value m.cost ≤ℤ value f.0.0) (label_is labels e.0.1 r.0 l (subst (λ (n : ℕ). HasLabel labels n r.0) s.0 r.1) at) r.2)
-              | inr s ↦ (r.0, s.1 ∙ r.1, r.2)
-            ];
-        queued = λ k m h u. elim (after k) as (λ _. Contains entries' (entry m.cost k)) [
-          | inl s ↦ let f : Some (Some done) ≡ Some (Some m) = sym s.1 ∙ h in let g : done ≡ m = cc in absurd (true≢false (ap (λ (n : Label C). n.settled) g ∙ u))
-          | inr s ↦ elim (Contains-cases entries' e (entry m.cost k) (Contains-permutation entries (e ∷ entries') (entry m.cost k) p (q.queued k m (sym s.1 ∙ h) u))) as (λ _. Contains entries' (entry m.cost k)) [
-            | inl t ↦ absurd (s.0 (sym (ap (λ (f : Reverse (C × ℕ)). f.0.1) t)))
-            | inr i ↦ i
-          ]
-        ];
-      }
-
-      pub IsQueue-settle : IsQueue value labels' entries'
-      IsQueue-settle = subst (λ xs. IsQueue value xs entries') (sym is) settled_queue
-
-      -- the label was one of the cheapest
-      pub Settles-popped : (start : Labels C) → labels ≡ start → ((f : Reverse (C × ℕ)) → Contains entries f → value e.0.0 ≤ℤ value f.0.0) → Settles (by_cost value) e.0.1 l start labels'
-      Settles-popped start same least =
-          subst (λ xs. Settles (by_cost value) e.0.1 l xs labels') same
-          (subst (λ xs. Settles (by_cost value) e.0.1 l labels xs) (sym is)
-          (Settles-set (by_cost value) labels e.0.1 l at opened (λ j m h u.
-          let r = q.labelled e was_in in
+    pub least_entry : ((f : Reverse (C × ℕ)) → Contains entries f → value e.0.0 ≤ℤ value f.0.0) → (l : Label C) → HasLabel labels e.0.1 l → l.settled ≡ false → IsLeast (by_cost value) labels e.0.1 l
+    least_entry least l at opened = record {
+      at = at;
+      opened = opened;
+      least = λ j m k u.
+          let r = q.labelled e h in
           let low : value l.cost ≤ℤ value e.0.0 = subst (λ (n : Label C). value n.cost ≤ℤ value e.0.0) (label_is labels e.0.1 r.0 l r.1 at) r.2 in
-          let more : value e.0.0 ≤ℤ value m.cost = least (entry m.cost j) (q.queued j m h u) in
-          omega (arith, ints, low, more))))
+          omega (arith, ints, low, least (entry m.cost j) (q.queued j m k u));
+    }
+
+  -- ---- a label is settled
+  pub IsQueue-settle : (k : ℕ) (l : Label C) (labels labels' : Labels C) (entries : Entries C) → Settles (by_cost value) k l labels labels' → IsQueue value labels entries → IsQueue value labels' entries
+  IsQueue-settle k l labels labels' entries z q = record {
+    labelled = λ e h.
+        let r = q.labelled e h in
+        elim (nat_dec e.0.1 k) as (λ _. (m : Label C) × HasLabel labels' e.0.1 m × (value m.cost ≤ℤ value e.0.0)) [
+          | inl s ↦
+              let same : r.0 ≡ l = label_is labels k r.0 l (subst (λ (n : ℕ). HasLabel labels n r.0) s r.1) z.was in
+              (record l { settled = true }, subst (λ (n : ℕ). HasLabel labels' n (record l { settled = true })) (sym s) z.now, subst (λ (m : Label C). value m.cost ≤ℤ value e.0.0) same r.2)
+          | inr s ↦ (r.0, z.others e.0.1 r.0 s r.1, r.2)
+        ];
+    queued = λ j m h u. elim (nat_dec j k) as (λ _. Contains entries (entry m.cost j)) [
+      | inl s ↦ absurd (true≢false (sym (ap (λ (n : Label C). n.settled) (label_is labels' k m (record l { settled = true }) (subst (λ (n : ℕ). HasLabel labels' n m) s h) z.now)) ∙ u))
+      | inr s ↦ q.queued j m (z.from j m s h) u
+    ];
+  }
 
   -- where nothing waits, each label is settled
-  pub all_settled : (labels start : Labels C) (entries : Entries C) → IsQueue value labels entries → entries ≡ [] → labels ≡ start → AllSettled start
-  all_settled labels start entries q e same = subst AllSettled same (λ k l h. elim (bool_dec l.settled) as (λ _. l.settled ≡ true) [
+  pub all_settled : (labels : Labels C) (entries : Entries C) → IsQueue value labels entries → entries ≡ [] → AllSettled labels
+  all_settled labels entries q e = λ k l h. elim (bool_dec l.settled) as (λ _. l.settled ≡ true) [
     | inl t ↦ t
     | inr f ↦ let i = subst (λ (xs : Entries C). Contains xs (entry l.cost k)) e (q.queued k l h f) in absurd (omega (arith, i.1))
-  ])
+  ]
 
   pub IsQueue-widen : (n : ℕ) (labels labels' : Labels C) (entries : Entries C) → Widened n labels labels' → IsQueue value labels entries → IsQueue value labels' entries
   IsQueue-widen n labels labels' entries w q = record {
@@ -115,15 +106,9 @@ module _ {C : Type 0} (value : C → ℤ) where
     queued = λ k l h u. q.queued k l (w.from k l h) u;
   }
 
-  -- one label, and its entry
-  pub IsQueue-start : (labels : Labels C) (first : Label C) → labels ≡ Some first ∷ [] → (entries entries' : Entries C) → entries ≡ [] → IsPermutation (record { 0 = (first.cost, 0) } ∷ entries) entries' → IsQueue value labels entries'
-  IsQueue-start labels first is entries entries' e p = record {
-    labelled = λ f h. elim (Contains-cases entries (entry first.cost 0) f (Contains-permutation entries' (entry first.cost 0 ∷ entries) f (IsPermutation-sym _ _ p) h)) as (λ _. (l : Label C) × HasLabel labels f.0.1 l × (value l.cost ≤ℤ value f.0.0)) [
-      | inl s ↦ subst (λ (f : Reverse (C × ℕ)). (l : Label C) × HasLabel labels f.0.1 l × (value l.cost ≤ℤ value f.0.0)) s (first, first_is labels first is, omega (arith, ints))
-      | inr i ↦ let j = subst (λ (xs : Entries C). Contains xs f) e i in absurd (omega (arith, j.1))
-    ];
-    queued = λ k l h u.
-        let o = only labels first is k l h in
-        subst (λ (n : ℕ). Contains entries' (entry l.cost n)) (sym o.0)
-        (subst (λ (m : Label C). Contains entries' (entry m.cost 0)) (sym o.1) (Contains-permutation (entry first.cost 0 ∷ entries) entries' (entry first.cost 0) p (Contains-head entries (entry first.cost 0))));
+  -- no label, and no entry
+  pub IsQueue-none : (labels : Labels C) (entries : Entries C) → entries ≡ [] → ((k : ℕ) (l : Label C) → ¬ (HasLabel labels k l)) → IsQueue value labels entries
+  IsQueue-none labels entries e none = record {
+    labelled = λ f h. let i = subst (λ (xs : Entries C). Contains xs f) e h in absurd (omega (arith, i.1));
+    queued = λ k l h u. absurd (none k l h);
   }

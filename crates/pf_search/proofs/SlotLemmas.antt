@@ -1,6 +1,6 @@
 -- What words tell of labels.
-use Rattle.std.proofs.Common.{ℕ, zero, suc, ◌+◌, ◌-◌, ◌^◌, ◌<◌, ◌≤◌, ◌≡◌, refl, sym, ◌∙◌, ap, arith, Bool, true, false, Option, Some, List, [], ◌∷◌, ◌++◌, length, length-append, replicate, take, take_all, inl, inr, if◌then◌else◌}
-use Rattle.std.specs.Prelude.{◌⊎◌}
+use Rattle.std.proofs.Common.{not, subst, ℕ, zero, suc, ◌+◌, ◌-◌, ◌^◌, ◌<◌, ◌≤◌, ◌≡◌, refl, sym, ◌∙◌, ap, arith, Bool, true, false, Option, Some, List, [], ◌∷◌, ◌++◌, length, length-append, replicate, take, take_all, inl, inr, if◌then◌else◌}
+use Rattle.std.specs.Prelude.{◌⊎◌, MatchBool}
 use Rattle.std.proofs.lemmas.Bool.{lt-ltb, le-ltb}
 use Rattle.std.specs.List.{AllClonesOf, AppendsClonesOf}
 use Rattle.pf_search.specs.declared.labels.Label.{Label}
@@ -47,3 +47,8 @@ filled xs ys n x h a len =
     let e : ys ≡ xs ++ a.0 = a.1 ∙ ap (λ zs. zs ++ a.0) (take_all n xs h) in
     let more : length a.0 ≡ n - length xs = omega (arith, ap length e, length-append xs a.0, len) in
     e ∙ ap (λ zs. xs ++ zs) (all_clones x a.0 a.2 ∙ ap (λ m. replicate m x) more)
+
+-- a label is open where it is not settled
+pub is_open_there : {C : Type 0} (o : Option (Label C)) (l : Label C) → o ≡ Some l → (b : Bool) → l.settled ≡ b → MatchBool (not b) ((m : Label C) × (o ≡ Some m) × (m.settled ≡ false)) ((m : Label C) → o ≡ Some m → m.settled ≡ true)
+is_open_there o l h true s = λ m k. let e : Some l ≡ Some m = sym h ∙ k in let f : l ≡ m = cc in subst (λ (n : Label _). n.settled ≡ true) f s
+is_open_there o l h false s = (l, h, s)

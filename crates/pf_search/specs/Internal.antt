@@ -5,6 +5,7 @@ pub mod Depths
 pub mod Labels
 pub mod Slots
 pub mod Queue
+pub mod Search
 pub mod Nodes
 pub mod NodeLaws
 pub mod Hops

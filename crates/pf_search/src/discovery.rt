@@ -6,7 +6,7 @@ ghost use Rattle.std.specs.List.{IsDistinct, AllZip};
 ghost use Rattle.pf_base.specs.NodeRefs.{HasSameNodes};
 ghost use Rattle.pf_base.specs.Answers.{IsLawfulClone};
 ghost use Rattle.pf_search.specs.Internal.Nodes.{NodeGraph, IsStep, StandsFor, AddsNode, NumbersItems, AddedFrom, Explores};
-ghost use Rattle.pf_search.specs.Internal.NodeLaws.{Explores-one};
+ghost use Rattle.pf_search.specs.Internal.NodeLaws.{Explores-one, StandsFor-inside};
 
 use crate::numbered::NumberedGraph;
 use crate::row::Row;
@@ -82,6 +82,8 @@ where
 
     ghost explores = { λ s g. Explores N.eq C.value K.edge IN.into_iter_gives IN.IntoIter.can_next IN.IntoIter.remaining IN.IntoIter.next_gives FN.FnMut g s.nodes.keys s.successors };
 
+    ghost can_forget = { λ s k. k ≤ length s.nodes.keys };
+
     fn found(&self) -> usize {
         self.nodes.len()
     }
@@ -91,6 +93,12 @@ where
         let items = (self.successors)(&self.nodes.as_slice()[node]);
         number_all::<N, T, C, K, IN, A, R>(&mut self.nodes, items, row)
     }
+
+    fn forget(&mut self, first: usize) {
+        self.nodes.truncate(first);
+    }
+
+    ghost inside_law = { λ s k x h. StandsFor-inside N.eq s.nodes.keys k x h };
 
     ghost one_law = { λ s g e i j x. Explores-one N.Eq.laws e i j x };
 }

@@ -1,8 +1,8 @@
 //! What a search by rising cost knows of the nodes that were found: their labels, by number.
 
-ghost use Rattle.std.specs.Prelude.{◌≡◌, ◌<◌, ◌≤◌, ◌<ℤ◌, ◌-◌, ◌^◌, ◌++◌, replicate, ℕ, true, false, Some, OnOk, IfOk, IfErr, Contains, MatchOption, MatchBool, length, slice_set};
+ghost use Rattle.std.specs.Prelude.{◌≡◌, ◌<◌, ◌≤◌, ◌<ℤ◌, ◌+ℤ◌, ◌-◌, ◌^◌, ◌++◌, replicate, ℕ, true, false, Some, OnOk, OnErr, IfOk, IfErr, Contains, MatchOption, MatchBool, length, slice_set};
 ghost use Rattle.pf_search.specs.declared.labels.Label.{Label};
-ghost use Rattle.pf_search.specs.Internal.Labels.{HasLabel, by_cost, IsTree, IsChain, IsWithin, Widened};
+ghost use Rattle.pf_search.specs.Internal.Labels.{HasLabel, by_cost, IsTree, IsChain, IsReached, IsWithin, Widened};
 
 use crate::depth::Depth;
 use crate::slot::Slot;
@@ -20,23 +20,34 @@ pub struct Label<C> {
     pub settled: bool,
 }
 
-/// Settles the label of a number, if it has one that is open, and answers the label as it was.
-pub fn settle<C: Cost, A: Allocator>(
-    labels: &mut Vec<Slot<C>, A>,
-    number: usize,
-) -> Option<Label<C>>
-    requires { number < length labels.old.items }
-    ensures { MatchOption result
-        ((labels.new.items ≡ labels.old.items) × ((l : Label C) → HasLabel labels.old.items number l → l.settled ≡ true))
-        (λ l. HasLabel labels.old.items number l × (l.settled ≡ false) × (labels.new.items ≡ slice_set labels.old.items number (Some (record l { settled = true })))) }
+/// The label of a number that has one.
+pub fn label_of<C: Cost, A: Allocator>(labels: &Vec<Slot<C>, A>, number: usize) -> Label<C>
+    requires { (l : Label C) × HasLabel labels.now.items number l }
+    ensures { HasLabel labels.now.items number result }
 {
-    let label = labels[number].label()?;
-    if label.settled {
-        return None;
+    match labels[number].label() {
+        Some(label) => label,
+        None => unreachable!(),
     }
+}
+
+/// Settles the label of a number.
+pub fn settle<C: Copy, A: Allocator>(labels: &mut Vec<Slot<C>, A>, number: usize)
+    requires { (l : Label C) × HasLabel labels.old.items number l }
+    ensures { (l : Label C) → HasLabel labels.old.items number l → labels.new.items ≡ slice_set labels.old.items number (Some (record l { settled = true })) }
+{
     let slot = &mut labels[number];
     slot.settle();
-    Some(label)
+}
+
+/// Has the number a label that is open?
+pub fn is_open<C: Cost>(labels: &[Slot<C>], number: usize) -> bool
+    requires { number < length labels.now }
+    ensures { MatchBool result
+        ((l : Label C) × HasLabel labels.now number l × (l.settled ≡ false))
+        ((l : Label C) → HasLabel labels.now number l → l.settled ≡ true) }
+{
+    labels[number].is_open()
 }
 
 /// Would a label of this cost change what is known of the number?
@@ -55,17 +66,59 @@ pub fn improves<C: Cost>(labels: &[Slot<C>], next: usize, total: C) -> bool
     total < label.cost
 }
 
-/// Has the end of each step of the row a label?
-pub fn covers<C: Cost>(labels: &[Slot<C>], row: &[(usize, C)]) -> bool
-    requires { (j : ℕ) (c : C) → Contains row.now (j, c) → j < length labels.now }
+/// Does the number have a label?
+fn is_labelled<C: Cost>(labels: &[Slot<C>], number: usize) -> bool
     ensures { MatchBool result
-        ((j : ℕ) (c : C) → Contains row.now (j, c) → (m : Label C) × HasLabel labels.now j m × C.fits (C.value m.cost))
-        ((j : ℕ) × (c : C) × Contains row.now (j, c) × ((m : Label C) → ¬ (HasLabel labels.now j m))) }
+        ((m : Label C) × HasLabel labels.now number m × C.fits (C.value m.cost))
+        ((m : Label C) → ¬ (HasLabel labels.now number m)) }
 {
-    'steps: for (next, _) in row {
-        match labels[*next].label() {
-            None => return false,
-            Some(label) => label.cost.known(),
+    if number >= labels.len() {
+        return false;
+    }
+    match labels[number].label() {
+        None => false,
+        Some(label) => {
+            label.cost.known();
+            true
+        }
+    }
+}
+
+/// Does the sum of two costs fit?
+fn fits<C: Cost>(cost: C, price: C) -> bool
+    ensures { MatchBool result (C.fits (C.value cost +ℤ C.value price)) (¬ (C.fits (C.value cost +ℤ C.value price))) }
+{
+    cost.checked_add(&price).is_some()
+}
+
+/// Is there a step of the row to this number whose sum fits?
+fn has_fitting_step<C: Cost>(row: &[(usize, C)], number: usize, cost: C) -> bool
+    ensures { MatchBool result
+        ((c : C) × Contains row.now (number, c) × C.fits (C.value cost +ℤ C.value c))
+        ((c : C) → Contains row.now (number, c) → ¬ (C.fits (C.value cost +ℤ C.value c))) }
+{
+    'steps: for (next, price) in row {
+        if *next == number && fits(cost, *price) {
+            return true;
+        }
+    }
+    false
+}
+
+/// Whether the end of each step of the row has a label, or the sum of this cost and that of some step
+/// to it fits.
+pub fn sums_fit<C: Cost>(labels: &[Slot<C>], row: &[(usize, C)], cost: C) -> bool
+    ensures { MatchBool result
+        ((j : ℕ) (c : C) → Contains row.now (j, c) → IsReached C.value C.fits labels.now row.now (C.value cost) j)
+        ((j : ℕ) × (c : C) × Contains row.now (j, c) × ((m : Label C) → ¬ (HasLabel labels.now j m))
+        × ((d : C) → Contains row.now (j, d) → ¬ (C.fits (C.value cost +ℤ C.value d)))) }
+{
+    'steps: for (next, price) in row {
+        if !fits(cost, *price)
+            && !is_labelled(labels, *next)
+            && !has_fitting_step(row, *next, cost)
+        {
+            return false;
         }
     }
     true
@@ -82,6 +135,7 @@ pub fn fill<C: Copy, A: Allocator>(
 ) -> Result<(), PathError>
     requires { length labels.old.items ≤ found }
     ensures filled { OnOk result (labels.new.items ≡ labels.old.items ++ replicate (found - length labels.old.items) slot) }
+    ensures kept { OnErr result (labels.new.items ≡ labels.old.items) }
     ensures few { OnOk result (found ≤ 2 ^ 62) }
     ensures refused { IfErr result (λ e. e ≡ PathError.OutOfMemory) }
 {
@@ -99,6 +153,7 @@ pub fn widen<C: Cost, A: Allocator>(
 ) -> Result<(), PathError>
     requires { length labels.old.items ≤ found }
     ensures widened { OnOk result (Widened found labels.old.items labels.new.items) }
+    ensures kept { OnErr result (labels.new.items ≡ labels.old.items) }
     ensures few { OnOk result (found ≤ 2 ^ 62) }
     ensures refused { IfErr result (λ e. e ≡ PathError.OutOfMemory) }
 {

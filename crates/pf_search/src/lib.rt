@@ -14,5 +14,6 @@ pub mod laws;
 mod numbered;
 mod queue;
 mod row;
+mod search;
 mod slot;
 mod tested;

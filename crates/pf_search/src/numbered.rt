@@ -29,6 +29,9 @@ pub trait NumberedGraph<C: Cost> {
     // This graph is the one that is explored, now and after any calls.
     ghost explores: { Self → Graph → Type 0 };
 
+    // The numbers from k on can be taken out again.
+    ghost can_forget: { Self → ℕ → Type 0 };
+
     /// The number of nodes that were found.
     fn found(&self) -> usize
         ensures { result ≡ found self.now };
@@ -39,12 +42,23 @@ pub trait NumberedGraph<C: Cost> {
         requires inside { node < found self.old }
         requires graph { (g : Graph) × explores self.old g }
         ensures grows { Grows (found self.old) (found self.new) (stands self.old) (stands self.new) }
+        ensures back { can_forget self.new (found self.old) }
         ensures graph { (g : Graph) → explores self.old g → explores self.new g }
         ensures listed { OnOk result ((entries : List (ℕ × C)) × R.holds row.new entries
             × ((j : ℕ) (c : C) → Contains entries (j, c) → j < found self.new)
             × ((j : ℕ) → found self.old ≤ j → j < found self.new → (c : C) × Contains entries (j, c))
             × ((g : Graph) → explores self.old g → (x : Node) → stands self.old node x → ListsSteps C.value (step g) (stands self.new) x entries)) }
         ensures refused { IfErr result (λ e. (e ≡ PathError.OutOfMemory) × (found self.new ≡ found self.old)) };
+
+    /// Takes the numbers from `first` on out again.
+    fn forget(&mut self, first: usize)
+        requires { can_forget self.old first }
+        ensures left { found self.new ≡ first }
+        ensures shrinks { Grows (found self.new) (found self.old) (stands self.new) (stands self.old) }
+        ensures graph { (g : Graph) → explores self.old g → explores self.new g };
+
+    // A number that stands for a node is one of those that were found.
+    ghost inside_law: { (s : Self) (k : ℕ) (x : Node) → stands s k x → k < found s };
 
     // No two numbers stand for one node.
     ghost one_law: { (s : Self) (g : Graph) → explores s g → (i j : ℕ) (x : Node) → stands s i x → stands s j x → i ≡ j };

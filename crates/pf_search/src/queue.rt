@@ -4,15 +4,16 @@
 //! settles it, as the cheapest; the others are stale by then, and are passed over.
 
 ghost use Rattle.std.specs.declared.cmp.Reverse.{Reverse};
-ghost use Rattle.std.specs.BinaryHeap.{IsHeap, heap_items, heap_len};
-ghost use Rattle.std.specs.Prelude.{◌≡◌, ◌<◌, ◌≤ℤ◌, ◌+ℤ◌, ◌+◌, ◌^◌, ℕ, [], ◌∷◌, false, OnOk, OnSome, IfErr, Contains, IsPermutation, MatchOption, length};
+ghost use Rattle.std.specs.BinaryHeap.{IsHeap, heap_items, heap_len, heap_capacity};
+ghost use Rattle.std.specs.Prelude.{◌≡◌, ◌<◌, ◌≤◌, ◌≤ℤ◌, ◌+ℤ◌, ◌+◌, ◌^◌, ℕ, [], ◌∷◌, false, IfSome, Contains, IsPermutation, MatchOption, length, slice_index_or};
 ghost use Rattle.pf_search.specs.declared.labels.Label.{Label};
-ghost use Rattle.pf_search.specs.Internal.Labels.{by_cost, AllSettled, Settles, Lowered, Covers, Stepped, Relaxed};
+ghost use Rattle.pf_search.specs.Internal.Labels.{by_cost, AllSettled, Lowered, Covers, Stepped, Relaxed};
+ghost use Rattle.pf_search.specs.Internal.Search.{IsLeast};
 ghost use Rattle.pf_search.specs.Internal.Queue.{entry_cmp, IsQueue};
 
-use crate::labels::{Label, improves, settle};
+use crate::labels::{Label, improves, is_open};
 use crate::slot::Slot;
-use pf_base::{Cost, PathError};
+use pf_base::Cost;
 use std::alloc::Allocator;
 use std::cmp::Reverse;
 use std::collections::BinaryHeap;
@@ -20,38 +21,64 @@ use std::collections::BinaryHeap;
 /// The costs of labels with their numbers. Of equal costs the lower number comes first.
 pub type Queue<C, A> = BinaryHeap<Reverse<(C, usize)>, A>;
 
-/// Takes out an entry of least cost.
-fn pop_least<C: Cost, A: Allocator>(queue: &mut Queue<C, A>) -> Option<Reverse<(C, usize)>>
-    requires { IsHeap (entry_cmp C.cmp) (heap_items queue.old) }
-    ensures ordered { IsHeap (entry_cmp C.cmp) (heap_items queue.new) }
-    ensures least { MatchOption result ((heap_items queue.old ≡ []) × (heap_items queue.new ≡ []))
-        (λ e. IsPermutation (heap_items queue.old) (e ∷ heap_items queue.new)
-        × ((f : Reverse (C × ℕ)) → Contains (heap_items queue.old) f → C.value e.0.0 ≤ℤ C.value f.0.0)) }
-    ensures len { OnSome result (heap_len queue.new + 1 ≡ heap_len queue.old) }
+/// The first entry, which costs least.
+fn peek_least<C: Cost, A: Allocator>(queue: &Queue<C, A>) -> Option<Reverse<(C, usize)>>
+    requires { IsHeap (entry_cmp C.cmp) (heap_items queue.now) }
+    ensures first { IfSome result (λ e. e ≡ slice_index_or (heap_items queue.now) 0 e) }
+    ensures least { MatchOption result (heap_items queue.now ≡ [])
+        (λ e. Contains (heap_items queue.now) e × ((f : Reverse (C × ℕ)) → Contains (heap_items queue.now) f → C.value e.0.0 ≤ℤ C.value f.0.0)) }
 {
-    queue.pop()
+    queue.peek().copied()
 }
 
-/// Settles an open label of least cost. The answer is its number and the label as it was, or `None`
-/// where all labels are settled.
-pub fn settle_next<C: Cost, A: Allocator>(
-    labels: &mut Vec<Slot<C>, A>,
-    queue: &mut Queue<C, A>,
-) -> Option<(usize, Label<C>)>
+/// Takes out the first entry, which is `entry`.
+fn take_out<C: Cost, A: Allocator>(queue: &mut Queue<C, A>, entry: Reverse<(C, usize)>)
     requires ordered { IsHeap (entry_cmp C.cmp) (heap_items queue.old) }
-    requires queue { IsQueue C.value labels.old.items (heap_items queue.old) }
+    requires first { entry ≡ slice_index_or (heap_items queue.old) 0 entry }
+    requires there { Contains (heap_items queue.old) entry }
     ensures ordered { IsHeap (entry_cmp C.cmp) (heap_items queue.new) }
-    ensures queue { IsQueue C.value labels.new.items (heap_items queue.new) }
-    ensures settled { MatchOption result (AllSettled labels.old.items)
-        (λ r. Settles (by_cost C.value) r.0 r.1 labels.old.items labels.new.items) }
+    ensures rest { IsPermutation (heap_items queue.old) (entry ∷ heap_items queue.new) }
+    ensures len { heap_len queue.new + 1 ≡ heap_len queue.old }
 {
-    'entries: while let Some(entry) = pop_least(queue) {
+    if queue.pop().is_none() {
+        unreachable!();
+    }
+}
+
+/// The number of an open label that costs least, or `None` where all labels are settled. Entries of
+/// settled labels are taken out.
+pub fn least_open<C: Cost, A: Allocator>(
+    labels: &Vec<Slot<C>, A>,
+    queue: &mut Queue<C, A>,
+) -> Option<usize>
+    requires ordered { IsHeap (entry_cmp C.cmp) (heap_items queue.old) }
+    requires queue { IsQueue C.value labels.now.items (heap_items queue.old) }
+    ensures ordered { IsHeap (entry_cmp C.cmp) (heap_items queue.new) }
+    ensures queue { IsQueue C.value labels.now.items (heap_items queue.new) }
+    ensures least { MatchOption result (AllSettled labels.now.items) (λ k. (l : Label C) × IsLeast (by_cost C.value) labels.now.items k l) }
+{
+    'entries: while let Some(entry) = peek_least(queue) {
         let number = entry.0.1;
-        if let Some(label) = settle(labels, number) {
-            return Some((number, label));
+        if is_open(labels, number) {
+            return Some(number);
         }
+        take_out(queue, entry);
     }
     None
+}
+
+/// Puts in an entry, for which there is room.
+fn push_entry<C: Cost, A: Allocator>(queue: &mut Queue<C, A>, cost: C, number: usize)
+    requires room { heap_len queue.old < heap_capacity queue.old }
+    requires ordered { IsHeap (entry_cmp C.cmp) (heap_items queue.old) }
+    ensures ordered { IsHeap (entry_cmp C.cmp) (heap_items queue.new) }
+    ensures added { IsPermutation (record { 0 = (cost, number) } ∷ heap_items queue.old) (heap_items queue.new) }
+    ensures len { heap_len queue.new ≡ heap_len queue.old + 1 }
+    ensures capacity { heap_capacity queue.old ≤ heap_capacity queue.new }
+{
+    if queue.push(Reverse((cost, number))).is_err() {
+        unreachable!();
+    }
 }
 
 /// Puts in the label of the path that goes on from the number `parent`, whose label is `label`, at
@@ -63,22 +90,22 @@ fn lower<C: Cost, A: Allocator>(
     label: &Label<C>,
     next: usize,
     cost: C,
-) -> Result<(), PathError>
+)
+    requires room { heap_len queue.old < heap_capacity queue.old }
     requires inside { next < length labels.old.items }
     requires few { parent < 2 ^ 62 }
     requires ordered { IsHeap (entry_cmp C.cmp) (heap_items queue.old) }
     requires queue { IsQueue C.value labels.old.items (heap_items queue.old) }
-    ensures ordered { OnOk result (IsHeap (entry_cmp C.cmp) (heap_items queue.new)) }
-    ensures queue { OnOk result (IsQueue C.value labels.new.items (heap_items queue.new)) }
-    ensures lowered { OnOk result (Lowered (by_cost C.value) next (record { cost = cost; parent = parent; depth = label.now.depth + 1; settled = false }) labels.old.items labels.new.items) }
-    ensures refused { IfErr result (λ e. e ≡ PathError.OutOfMemory) }
+    ensures ordered { IsHeap (entry_cmp C.cmp) (heap_items queue.new) }
+    ensures queue { IsQueue C.value labels.new.items (heap_items queue.new) }
+    ensures lowered { Lowered (by_cost C.value) next (record { cost = cost; parent = parent; depth = label.now.depth + 1; settled = false }) labels.old.items labels.new.items }
+    ensures len { heap_len queue.new ≤ heap_len queue.old + 1 }
+    ensures capacity { heap_capacity queue.old ≤ heap_capacity queue.new }
 {
-    if !improves(labels, next, cost) {
-        return Ok(());
+    if improves(labels, next, cost) {
+        push_entry(queue, cost, next);
+        labels[next] = Slot::behind(parent, &label.depth, cost);
     }
-    queue.push(Reverse((cost, next)))?;
-    labels[next] = Slot::behind(parent, &label.depth, cost);
-    Ok(())
 }
 
 /// Takes one step from the number `parent`, whose label is `label`, where the sum of the costs fits.
@@ -89,42 +116,43 @@ fn take_step<C: Cost, A: Allocator>(
     label: &Label<C>,
     next: usize,
     price: C,
-) -> Result<(), PathError>
+)
+    requires room { heap_len queue.old < heap_capacity queue.old }
     requires inside { next < length labels.old.items }
     requires few { parent < 2 ^ 62 }
     requires ordered { IsHeap (entry_cmp C.cmp) (heap_items queue.old) }
     requires queue { IsQueue C.value labels.old.items (heap_items queue.old) }
-    ensures ordered { OnOk result (IsHeap (entry_cmp C.cmp) (heap_items queue.new)) }
-    ensures queue { OnOk result (IsQueue C.value labels.new.items (heap_items queue.new)) }
-    ensures stepped { OnOk result (Stepped (by_cost C.value) C.value C.fits parent label.now next price labels.old.items labels.new.items) }
-    ensures refused { IfErr result (λ e. e ≡ PathError.OutOfMemory) }
+    ensures ordered { IsHeap (entry_cmp C.cmp) (heap_items queue.new) }
+    ensures queue { IsQueue C.value labels.new.items (heap_items queue.new) }
+    ensures stepped { Stepped (by_cost C.value) C.value C.fits parent label.now next price labels.old.items labels.new.items }
+    ensures len { heap_len queue.new ≤ heap_len queue.old + 1 }
+    ensures capacity { heap_capacity queue.old ≤ heap_capacity queue.new }
 {
-    let Some(cost) = label.cost.checked_add(&price) else {
-        return Ok(());
-    };
-    lower(labels, queue, parent, label, next, cost)
+    if let Some(cost) = label.cost.checked_add(&price) {
+        lower(labels, queue, parent, label, next, cost);
+    }
 }
 
-/// Takes the steps of a row from the number `parent`, whose label is `label`.
+/// Takes the steps of a row from the number `parent`, whose label is `label`. There is room for the
+/// entries.
 pub fn relax<C: Cost, A: Allocator>(
     labels: &mut Vec<Slot<C>, A>,
     queue: &mut Queue<C, A>,
     parent: usize,
     label: &Label<C>,
     row: &[(usize, C)],
-) -> Result<(), PathError>
+)
+    requires room { heap_len queue.old + length row.now ≤ heap_capacity queue.old }
     requires inside { (j : ℕ) (c : C) → Contains row.now (j, c) → j < length labels.old.items }
     requires few { parent < 2 ^ 62 }
     requires ordered { IsHeap (entry_cmp C.cmp) (heap_items queue.old) }
     requires queue { IsQueue C.value labels.old.items (heap_items queue.old) }
-    ensures ordered { OnOk result (IsHeap (entry_cmp C.cmp) (heap_items queue.new)) }
-    ensures queue { OnOk result (IsQueue C.value labels.new.items (heap_items queue.new)) }
-    ensures relaxed { OnOk result (Relaxed (by_cost C.value) C.value parent label.now row.now labels.old.items labels.new.items) }
-    ensures reached { OnOk result ((j : ℕ) (c : C) → Contains row.now (j, c) → C.fits (C.value label.now.cost +ℤ C.value c) → Covers (by_cost C.value) C.value label.now labels.new.items j c) }
-    ensures refused { IfErr result (λ e. e ≡ PathError.OutOfMemory) }
+    ensures ordered { IsHeap (entry_cmp C.cmp) (heap_items queue.new) }
+    ensures queue { IsQueue C.value labels.new.items (heap_items queue.new) }
+    ensures relaxed { Relaxed (by_cost C.value) C.value parent label.now row.now labels.old.items labels.new.items }
+    ensures reached { (j : ℕ) (c : C) → Contains row.now (j, c) → C.fits (C.value label.now.cost +ℤ C.value c) → Covers (by_cost C.value) C.value label.now labels.new.items j c }
 {
     'steps: for (next, price) in row {
-        take_step(labels, queue, parent, label, *next, *price)?;
+        take_step(labels, queue, parent, label, *next, *price);
     }
-    Ok(())
 }

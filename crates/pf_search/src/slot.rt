@@ -1,6 +1,6 @@
 //! Labels as a search stores them: a cost and one word each.
 
-ghost use Rattle.std.specs.Prelude.{◌≡◌, ◌+◌, ◌<◌, ◌^◌, ⊤, None, Some, false, true, MatchOption};
+ghost use Rattle.std.specs.Prelude.{◌≡◌, ◌+◌, ◌<◌, ◌^◌, ⊤, None, Some, false, true, MatchBool, MatchOption};
 ghost use Rattle.pf_search.specs.declared.labels.Label.{Label};
 
 use crate::depth::Depth;
@@ -97,6 +97,16 @@ impl<C: Copy> Slot<C> {
             depth: self.above.deeper(),
             settled,
         })
+    }
+
+    /// Is there a label, and is it open?
+    pub fn is_open(&self) -> bool
+        ensures { MatchBool result ((l : Label C) × (self.now ≡ Some l) × (l.settled ≡ false)) ((l : Label C) → self.now ≡ Some l → l.settled ≡ true) }
+    {
+        match self.label() {
+            Some(label) => !label.settled,
+            None => false,
+        }
     }
 
     /// The number before, or `None` where the path begins here or there is no label.

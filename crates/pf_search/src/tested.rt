@@ -1,11 +1,11 @@
 //! A discovery with a test that says which nodes are goals.
 
-ghost use Rattle.std.specs.Prelude.{◌≡◌, ◌<◌, ℕ, Contains, IfOk, IfErr, length};
+ghost use Rattle.std.specs.Prelude.{◌≡◌, ◌<◌, ◌≤◌, ℕ, Contains, IfOk, IfErr, length};
 ghost use Rattle.std.specs.List.{AllZip};
 ghost use Rattle.pf_base.specs.Answers.{IsLawfulClone, AnswersTest};
 ghost use Rattle.pf_base.specs.Edges.{InReach};
 ghost use Rattle.pf_search.specs.Internal.Nodes.{TestedGraph, IsStep, StandsFor, Explores};
-ghost use Rattle.pf_search.specs.Internal.NodeLaws.{Explores-one};
+ghost use Rattle.pf_search.specs.Internal.NodeLaws.{Explores-one, StandsFor-inside};
 
 use crate::discovery::{Discovery, EdgeForm, clones_at};
 use crate::numbered::{GoalGraph, NumberedGraph};
@@ -46,6 +46,8 @@ where
     ghost explores = { λ s g. Explores N.eq C.value K.edge IN.into_iter_gives IN.IntoIter.can_next IN.IntoIter.remaining IN.IntoIter.next_gives FN.FnMut g.graph s.discovery.nodes.keys s.discovery.successors
         × AnswersTest FS.FnMut N.eq s.success (InReach N.eq g.graph.edges g.graph.starts) g.test };
 
+    ghost can_forget = { λ s k. k ≤ length s.discovery.nodes.keys };
+
     fn found(&self) -> usize {
         self.discovery.nodes.len()
     }
@@ -53,6 +55,12 @@ where
     fn expand<R: Row<C>>(&mut self, node: usize, row: &mut R) -> Result<(), PathError> {
         self.discovery.expand(node, row)
     }
+
+    fn forget(&mut self, first: usize) {
+        self.discovery.forget(first);
+    }
+
+    ghost inside_law = { λ s k x h. StandsFor-inside N.eq s.discovery.nodes.keys k x h };
 
     ghost one_law = { λ s g e i j x. Explores-one N.Eq.laws e.0 i j x };
 }

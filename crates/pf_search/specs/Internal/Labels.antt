@@ -112,9 +112,18 @@ module _ {C : Type 0} where
     pub from : (k : ℕ) (l : Label C) → HasLabel labels' k l → HasLabel labels k l
     pub count : settled_count labels' ≡ settled_count labels
 
--- The labels after the nodes of a row were found and its steps taken, from the number `parent`, whose label is l.
-pub record Follows {C : Type 0} (value : C → ℤ) (fits : ℤ → Type 0) (found parent : ℕ) (l : Label C) (row : List (ℕ × C)) (labels labels' : Labels C) : Type 0 where
-  pub wider : Labels C
-  pub wide : Widened found labels wider
-  pub relaxed : Relaxed (by_cost value) value parent l row wider labels'
-  pub reached : (j : ℕ) (c : C) → Contains row (j, c) → fits (value l.cost +ℤ value c) → Covers (by_cost value) value l labels' j c
+module _ {C : Type 0} (value : C → ℤ) (fits : ℤ → Type 0) where
+  -- the number has a label, or the sum of t and some step of the row to it fits
+  abbrev pub IsReached : Labels C → List (ℕ × C) → ℤ → ℕ → Type 0
+  IsReached labels row t j = ((m : Label C) × HasLabel labels j m × fits (value m.cost)) ⊎ ((c : C) × Contains row (j, c) × fits (t +ℤ value c))
+
+  -- The labels after the node of a number was settled, whose label is l, the nodes of its row were found, and its steps taken.
+  pub record Follows (found number : ℕ) (l : Label C) (row : List (ℕ × C)) (labels labels' : Labels C) : Type 0 where
+    pub done : Labels C
+    pub settles : Settles (by_cost value) number l labels done
+    pub wider : Labels C
+    pub wide : Widened found done wider
+    pub relaxed : Relaxed (by_cost value) value number l row wider labels'
+    pub reached : (j : ℕ) (c : C) → Contains row (j, c) → fits (value l.cost +ℤ value c) → Covers (by_cost value) value l labels' j c
+    pub ends : (j : ℕ) (c : C) → Contains row (j, c) → IsReached labels row (value l.cost) j
+    pub fit : fits (value l.cost)

@@ -1,5 +1,6 @@
 -- That no two numbers stand for one node.
-use Rattle.std.proofs.Common.{◌≡◌, ℕ, zero, suc, ℤ, Bool, true, false, Option, Some, sym, ◌∙◌, ap, subst, refl, true≢false, [], ◌∷◌}
+use Rattle.std.proofs.Common.{◌≡◌, ◌<◌, length, ℕ, zero, suc, ℤ, Bool, true, false, Option, Some, sym, ◌∙◌, ap, subst, refl, true≢false, [], ◌∷◌}
+use Rattle.std.proofs.lemmas.Option.{slice_get_within}
 use Rattle.std.specs.Borrow.{Bor}
 use Rattle.std.specs.Fn.{Mut}
 use Rattle.std.specs.Iterator.{Count}
@@ -31,6 +32,9 @@ module _ {N : Type 0} (eq : N → N → Bool) (laws : IsEquivalence eq) where
 
   pub StandsFor-one : (keys : List N) → IsDistinct eq keys → (i j : ℕ) (x : N) → StandsFor eq keys i x → StandsFor eq keys j x → i ≡ j
   StandsFor-one keys d i j x a b = distinct_one keys d i j a.0 b.0 a.1 b.1 (laws.congr a.0 x b.0 a.2 ∙ laws.symm x b.0 ∙ b.2)
+
+pub StandsFor-inside : {N : Type 0} (eq : N → N → Bool) (keys : List N) (k : ℕ) (x : N) → StandsFor eq keys k x → k < length keys
+StandsFor-inside eq keys k x h = slice_get_within keys k h.0 h.1
 
 pub Explores-one : {N T C : Type 0} {eq : N → N → Bool} {value : C → ℤ} {edge : T → N × C} {I S F : Type 0} {becomes : I → S → Type 0} {can : S → Type 0} {left : S → Count} {next : S → Option T → S → Type 0} {calls : Mut F (Bor N × Unit {0}) I}
     {g : NodeGraph N} {keys : List N} {f : F} → IsEquivalence eq → Explores eq value edge becomes can left next calls g keys f → (i j : ℕ) (x : N) → StandsFor eq keys i x → StandsFor eq keys j x → i ≡ j

@@ -129,7 +129,7 @@ where
         form: PhantomData,
     };
     let mut graph: Tested<N, Weighted, IN, FN, FS, A> = Tested { discovery, success };
-    match cheapest_path(alloc, &mut graph, tally)? {
+    match cheapest_path(alloc, &mut graph, 0, tally)? {
         None => Ok(None),
         Some((numbers, cost)) => {
             let path = graph.nodes_at(alloc, &numbers)?;

@@ -1,10 +1,9 @@
 use Rattle.std.proofs.Common.{◌-◌, length-append, ◌≡◌, ◌<◌, ◌≤◌, ◌+◌, ◌∙◌, sym, subst, ℕ, arith, length, ap, Some, pos, replicate}
 use Rattle.std.specs.Prelude.{Contains}
 use Rattle.std.proofs.lemmas.List.{length-replicate}
-use Rattle.pf_search.specs.Internal.Numbered.{StandsBelow}
 use Rattle.pf_search.specs.Internal.Labels.{by_depth}
-use Rattle.pf_search.proofs.SearchLemmas.{no_goal, best_grows}
-use Rattle.pf_search.proofs.HopLemmas.{breadth_start, breadth_done, breadth_turn, hop_tree_start, hop_search_start, hop_best, hop_tree, hop_turned, hop_positive, hop_len, reached_from, started, resized}
+use Rattle.pf_search.proofs.SearchLemmas.{Grows-trans, no_goal, best, best_grows, failed_turned}
+use Rattle.pf_search.proofs.HopLemmas.{breadth_start, breadth_done, breadth_turn, hop_tree_start, hop_search_start, none_settled, hop_least, hop_tree, hop_turned, hop_from, hop_positive, hop_len, below, roots_below, reached_from, started, resized}
 use Rattle.pf_search.proofs.fewest.fewest_edges_path.Goals as goal
 
 pub nodes-init : goal.nodes-init
@@ -16,8 +15,10 @@ nodes-init g c =
       few = omega (arith, len, c.found.ensures, c.in_ok-fill.ensures.few);
       breadth = breadth_start _ c.fill.new.labels.items e len;
       tree = hop_tree_start _ c.fill.new.labels.items e len;
+      grown = record { more = omega arith; stays = λ k x h. h; back = λ k x i h. h };
       explored = λ h x. x;
-      search = λ h x p. hop_search_start (g.G.NumberedGraph.step h) (g.G.NumberedGraph.passes h) _ (g.G.NumberedGraph.stands c.args.graph.now) c.fill.new.labels.items e len c.requires.begins;
+      search = λ h x p. hop_search_start (g.G.NumberedGraph.step h) _ (g.G.NumberedGraph.stands c.args.graph.now) c.fill.new.labels.items e len c.requires.begins;
+      failed = λ h x k m y at t here. absurd (none_settled (g.G.NumberedGraph.step h) _ (g.G.NumberedGraph.stands c.args.graph.now) c.fill.new.labels.items e len k m at t);
     }
 
 pub path_to-requires-clause-labelled : goal.path_to-requires-clause-labelled
@@ -30,13 +31,16 @@ returns-then-is_goal-clause-inside g c = λ k h.
 
 pub returns-then-is_goal-clause-best : goal.returns-then-is_goal-clause-best
 returns-then-is_goal-clause-best g c = λ h x p.
-    let i = c.nodes.invariant.search h x p in
-    let t = (c.is_goal.ensures.graph h (c.nodes.invariant.explored h x)).1 in
-    let l = c.nodes.invariant.breadth.full c.nodes.node (omega (arith, c.nodes-test.true, c.len.ensures)) in
+    let v = c.nodes.invariant in
+    let step = g.G.NumberedGraph.step h in
+    let passes = g.G.NumberedGraph.passes h in
+    let t = (c.is_goal.ensures.graph h (v.explored h x)).1 in
+    let l = v.breadth.full c.nodes.node (omega (arith, c.nodes-test.true, c.len.ensures)) in
     let numbers = c.in_ok-numbers.numbers.items in (
       pos l.0.depth,
-      best_grows (g.G.NumberedGraph.step h) (g.G.NumberedGraph.passes h) (StandsBelow (g.G.NumberedGraph.found c.args.graph.now) (g.G.NumberedGraph.stands c.args.graph.now)) _ _ _ _ c.is_goal.ensures.grows numbers (pos l.0.depth)
-          (hop_best (g.G.NumberedGraph.step h) (g.G.NumberedGraph.passes h) _ p _ _ i c.nodes.invariant.tree c.nodes.node c.nodes.invariant.breadth l.0 l.1 numbers (rw c.deref.ensures.value at c.in_ok-numbers.ensures.chain) (λ y k. sym (t y k) ∙ c.if-is_goal.true)),
+      best_grows step passes _ _ (roots_below _ _ _ _ v.grown) _ _ _ _ c.is_goal.ensures.grows numbers (pos l.0.depth)
+          (best by_depth step (below (g.G.NumberedGraph.found c.args.graph.now)) (hop_positive step p) _ c.nodes.labels.items (v.search h x p) v.tree c.nodes.node l.0 (hop_least c.nodes.node c.nodes.labels.items v.breadth l.0 l.1) passes (v.failed h x) numbers
+          (rw c.deref.ensures.value at c.in_ok-numbers.ensures.chain) (λ y k. sym (t y k) ∙ c.if-is_goal.true)),
     )
 
 pub expand-requires-clause-graph : goal.expand-requires-clause-graph
@@ -64,8 +68,8 @@ nodes-preserved g c =
     let labels = c.nodes.labels.items in
     let labels1 = c.settle-depth.new.labels.items in
     let labels3 = c.fill-in-nodes.new.labels.items in
-    let grow = c.in_ok-expand.ensures.grows in
-    let grown = grow.more in
+    let grown = c.in_ok-expand.ensures.grows.more in
+    let turned = Grows-trans _ _ _ _ _ _ c.is_goal.ensures.grows c.in_ok-expand.ensures.grows in
     let e3 = resized labels1 labels3 _ c.nodes.node l.0.depth c.settle-depth.result c.behind.result c.in_ok-fill-2.ensures.filled c.behind.ensures s.0 in
     let within : length labels1 ≤ c.found-in-nodes.result = omega (arith, hop_len c.nodes.node l.0 labels labels1 b l.1 s.1, c.nodes.invariant.len, c.is_goal.ensures.same, grown, c.found-in-nodes.ensures) in
     let long : length labels3 ≡ c.found-in-nodes.result = omega (arith, ap length e3, length-append labels1 (replicate (c.found-in-nodes.result - length labels1) (Some (reached_from c.nodes.node (l.0.depth + 1)))), length-replicate (c.found-in-nodes.result - length labels1) (Some (reached_from c.nodes.node (l.0.depth + 1))), within) in
@@ -78,13 +82,21 @@ nodes-preserved g c =
       breadth = breadth_turn c.nodes.node l.0 labels labels1 labels3 b l.1 s.1 _ e3;
       tree = hop_tree c.nodes.node l.0 labels labels1 labels3 b l.1 s.1 _ e3 row.0 _ len3 fresh c.nodes.invariant.tree;
       explored = λ h x. c.in_ok-expand.ensures.graph h (c.is_goal.ensures.graph h (c.nodes.invariant.explored h x)).0;
+      grown = Grows-trans _ _ _ _ _ _ c.nodes.invariant.grown turned;
       search = λ h x p.
-          let i = c.nodes.invariant.search h x p in
           let x1 = c.is_goal.ensures.graph h (c.nodes.invariant.explored h x) in
-          hop_turned c.nodes.node l.0 labels labels1 labels3 b l.1 s.1 _ e3 row.0 _ len3 fresh (g.G.NumberedGraph.step h) (g.G.NumberedGraph.passes h) _ p _ i c.nodes.invariant.tree
-          _ _ _ _ c.is_goal.ensures.grows c.in_ok-expand.ensures.grows c.nodes.invariant.len g.C.Number.value (row.4 h x1.0) row.2 (λ y t. sym (x1.1 y t) ∙ c.if-is_goal.false);
+          hop_turned c.nodes.node l.0 labels labels1 labels3 b l.1 s.1 _ e3 row.0 _ len3 fresh (g.G.NumberedGraph.step h) (below (g.G.NumberedGraph.found c.args.graph.now)) p _ (c.nodes.invariant.search h x p) c.nodes.invariant.tree
+          _ _ turned c.nodes.invariant.len g.C.Number.value (λ y k. row.4 h x1.0 y (c.is_goal.ensures.grows.stays c.nodes.node y k)) row.2;
+      failed = λ h x.
+          let x1 = c.is_goal.ensures.graph h (c.nodes.invariant.explored h x) in
+          failed_turned (g.G.NumberedGraph.passes h) _ _ _ _ turned labels labels3 (omega (arith, c.nodes.invariant.len)) c.nodes.node (omega (arith, inside, c.nodes.invariant.len))
+          (hop_from c.nodes.node l.0 labels labels1 labels3 b l.1 s.1 _ e3 row.0 _ len3 fresh) (λ y k. sym (x1.1 y k) ∙ c.if-is_goal.false) (c.nodes.invariant.failed h x);
     }
 
 pub returns-clause-best : goal.returns-clause-best
 returns-clause-best g c = λ h x p.
-    no_goal by_depth (g.G.NumberedGraph.step h) (g.G.NumberedGraph.passes h) _ (hop_positive (g.G.NumberedGraph.step h) p) _ _ (c.nodes.invariant.search h x p) (breadth_done c.nodes.node _ c.nodes.invariant.breadth (omega (arith, c.nodes-test.false, c.len.ensures)))
+    let v = c.nodes.invariant in
+    let root = roots_below _ _ _ _ v.grown in
+    let none = no_goal by_depth (g.G.NumberedGraph.step h) (below (g.G.NumberedGraph.found c.args.graph.now)) (hop_positive (g.G.NumberedGraph.step h) p) _ _ (v.search h x p) (g.G.NumberedGraph.passes h) (v.failed h x)
+    (breadth_done c.nodes.node _ v.breadth (omega (arith, c.nodes-test.false, c.len.ensures))) in
+    λ s is. none s ((root s).1 is)

@@ -1,4 +1,4 @@
-use Rattle.std.proofs.Common.{ℕ, ◌<◌, subst, sym}
+use Rattle.std.proofs.Common.{arith, ℕ, ◌<◌, subst, sym}
 use Rattle.pf_search.proofs.ListLemmas.{Contains-take, Contains-take_all, Contains-take_here, Contains-here}
 use Rattle.pf_search.proofs.LabelLemmas.{Relaxed-more, reached_more}
 use Rattle.pf_search.specs.Internal.Labels.{by_cost}
@@ -10,8 +10,9 @@ take_step-requires-clause-inside g c =
 
 pub steps-preserved : goal.steps-preserved
 steps-preserved g c =
-    let e = c.in_ok-take_step.ensures in
+    let e = c.take_step.ensures in
     record {
+      room = omega (arith, c.steps.invariant.room, c.steps-test.true, e.len, e.capacity);
       ordered = e.ordered;
       queue = e.queue;
       relaxed = Relaxed-more (by_cost g.C.Number.value) g.C.Number.value g.C.Number.fits c.args.parent c.args.label.now c.steps-item.result.0 c.steps-item.result.1 _ _ (λ x h. Contains-take c.args.row.now c.steps.next-index x h) (Contains-take_here c.args.row.now c.steps.next-index c.steps-item.result c.steps-test.true c.steps-item.is) _ _ _ e.stepped c.steps.invariant.relaxed;
@@ -20,3 +21,6 @@ steps-preserved g c =
 
 pub returns-clause-reached : goal.returns-clause-reached
 returns-clause-reached g c = λ j p h f. c.steps.invariant.reached j p (Contains-take_all _ _ _ c.steps-test.false h) f
+
+pub take_step-requires-clause-room : goal.take_step-requires-clause-room
+take_step-requires-clause-room g c = omega (arith, c.steps.invariant.room, c.steps-test.true)

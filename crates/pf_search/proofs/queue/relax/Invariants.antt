@@ -1,6 +1,6 @@
-use Rattle.std.proofs.Common.{ℕ, take}
+use Rattle.std.proofs.Common.{ℕ, ◌+◌, ◌-◌, ◌≤◌, length, take}
 use Rattle.std.specs.Prelude.{Contains, ◌+ℤ◌}
-use Rattle.std.specs.BinaryHeap.{IsHeap, heap_items}
+use Rattle.std.specs.BinaryHeap.{IsHeap, heap_items, heap_len, heap_capacity}
 use Rattle.pf_search.specs.Internal.Labels.{Relaxed, Covers}
 use Rattle.pf_search.specs.Internal.Labels.{by_cost}
 use Rattle.pf_search.specs.Internal.Queue.{entry_cmp, IsQueue}
@@ -8,6 +8,7 @@ use Rattle.pf_search.proofs.queue.relax.Given as goal
 
 abbrev pub invariant-steps : goal.invariant-steps
 invariant-steps g l = record {
+  room : heap_len l.queue + (length l.row - l.next-index) ≤ heap_capacity l.queue;
   ordered : IsHeap (entry_cmp g.C.Ord.cmp) (heap_items l.queue);
   queue : IsQueue g.C.Number.value l.labels.items (heap_items l.queue);
   relaxed : Relaxed (by_cost g.C.Number.value) g.C.Number.value l.parent l.label (take l.next-index l.row) l.fn.labels.items l.labels.items;

@@ -1,6 +1,5 @@
 use Rattle.std.specs.Prelude.{None, Some}
 use Rattle.pf_search.specs.Internal.Labels.{by_cost}
-use Rattle.pf_search.proofs.ListLemmas.{on_ok}
 use Rattle.pf_search.proofs.LabelLemmas.{Stepped-none, Stepped-from}
 use Rattle.pf_search.proofs.queue.take_step.Goals as goal
 
@@ -8,7 +7,7 @@ pub returns-in_default-clause-stepped : goal.returns-in_default-clause-stepped
 returns-in_default-clause-stepped g c =
     Stepped-none (by_cost g.C.Number.value) g.C.Number.value g.C.Number.fits c.args.parent c.args.label.now c.args.next c.args.price c.args.labels.now.items (g.met.C.CheckedAdd.checked_add_law c.args.label.now.cost c.args.price None c.in_default.ensures)
 
-pub returns-clause-stepped : goal.returns-clause-stepped
-returns-clause-stepped g c =
+pub returns-in-Some-clause-stepped : goal.returns-in-Some-clause-stepped
+returns-in-Some-clause-stepped g c =
     let w = g.met.C.CheckedAdd.checked_add_law c.args.label.now.cost c.args.price (Some c.in-Some.cost) c.in-Some.ensures in
-    on_ok c.lower.result c.lower.ensures.lowered (λ h. Stepped-from (by_cost g.C.Number.value) g.C.Number.value g.C.Number.fits c.args.parent c.args.label.now c.args.next c.args.price c.in-Some.cost _ _ w.0 w.1 h)
+    Stepped-from (by_cost g.C.Number.value) g.C.Number.value g.C.Number.fits c.args.parent c.args.label.now c.args.next c.args.price c.in-Some.cost _ _ w.0 w.1 c.lower.ensures.lowered

@@ -1,12 +1,10 @@
-use Rattle.std.proofs.Common.{◌≡◌}
 use Rattle.std.specs.BinaryHeap.{IsHeap, heap_items, heap_len}
 use Rattle.pf_search.specs.Internal.Queue.{entry_cmp, IsQueue}
-use Rattle.pf_search.proofs.queue.settle_next.Given as goal
+use Rattle.pf_search.proofs.queue.least_open.Given as goal
 
 abbrev pub invariant-entries : goal.invariant-entries
 invariant-entries g l = record {
   ordered : IsHeap (entry_cmp g.C.Ord.cmp) (heap_items l.queue);
-  same : l.labels.items ≡ l.fn.labels.items;
   queue : IsQueue g.C.Number.value l.labels.items (heap_items l.queue);
 }
 
