@@ -1,6 +1,7 @@
 pub mod ListLemmas
 pub mod SlotLemmas
 pub mod LabelLemmas
+pub mod SumLemmas
 pub mod QueueLemmas
 pub mod FrontierLemmas
 pub mod PathLemmas

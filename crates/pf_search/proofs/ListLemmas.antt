@@ -1,5 +1,5 @@
 -- Lemmas on lists and whole numbers.
-use Rattle.std.proofs.Common.{ℕ, zero, suc, ◌+◌, ◌<◌, ◌≤◌, ◌≡◌, ◌≢◌, refl, sym, ◌∙◌, ap, subst, arith, Bool, true, false, List, [], ◌∷◌, ◌++◌, length, get_or, take, take_all, cond, add-one, inl, inr, ℤ, Some, true≢false}
+use Rattle.std.proofs.Common.{ℕ, zero, suc, ◌+◌, ◌<◌, ◌≤◌, ◌≡◌, ◌≢◌, refl, sym, ◌∙◌, ap, subst, arith, Bool, true, false, List, [], ◌∷◌, ◌++◌, length, get_or, take, take_all, cond, ◌||◌, add-one, inl, inr, ℤ, Some, true≢false}
 use Rattle.std.specs.Prelude.{slice_get, slice_set, Contains, Result, Ok, Err, OnOk, OnErr, IfErr, MatchBool, count_by, reverse, ◌≤ℤ◌, ◌<ℤ◌, ◌⊎◌}
 use Rattle.std.specs.Ordering.{int_cmp, is_lt, MatchOrdering}
 use Rattle.std.specs.Cmp.{int_ranks}
@@ -19,6 +19,22 @@ nat_dec (suc j) (suc k) = elim (nat_dec j k) as (λ _. (suc j ≡ suc k) ⊎ (su
 pub bool_dec : (b : Bool) → (b ≡ true) ⊎ (b ≡ false)
 bool_dec true = inl refl
 bool_dec false = inr refl
+
+pub or_left : (a b : Bool) → a || b ≡ false → a ≡ false
+or_left true b h = absurd (true≢false h)
+or_left false b h = refl
+
+pub or_right : (a b : Bool) → a || b ≡ false → b ≡ false
+or_right true b h = absurd (true≢false h)
+or_right false b h = h
+
+pub or_true : (a b : Bool) → b ≡ true → a || b ≡ true
+or_true true b h = refl
+or_true false b h = h
+
+pub or_cases : (a b : Bool) → a || b ≡ true → (a ≡ true) ⊎ (b ≡ true)
+or_cases true b h = inl refl
+or_cases false b h = inr h
 
 -- what the test of an order of whole numbers says
 pub lt_means : (x y : ℤ) (r : Bool) → r ≡ is_lt (int_cmp x y) → MatchBool r (x <ℤ y) (y ≤ℤ x)

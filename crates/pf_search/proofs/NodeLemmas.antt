@@ -18,24 +18,8 @@ use Rattle.pf_base.specs.Answers.{ListsEdges, Gives, Answers, AnswersEach, Answe
 use Rattle.pf_search.specs.Internal.Numbered.{ListsSteps, Grows}
 use Rattle.pf_search.specs.Internal.NodeLaws.{StandsFor-one}
 use Rattle.pf_search.specs.Internal.Nodes.{NodeGraph, StandsFor, IsStep, AddsNode, NumbersItems, AddedFrom, SaysEdges, Explores}
-use Rattle.pf_search.proofs.ListLemmas.{Contains-head, Contains-tail, Contains-cases, get-append_cases, take_get, get_take, none_in}
+use Rattle.pf_search.proofs.ListLemmas.{or_left, or_right, or_true, or_cases, Contains-head, Contains-tail, Contains-cases, get-append_cases, take_get, get_take, none_in}
 use Rattle.pf_search.proofs.FrontierLemmas.{end_more}
-
-or_left : (a b : Bool) → a || b ≡ false → a ≡ false
-or_left true b h = absurd (true≢false h)
-or_left false b h = refl
-
-or_right : (a b : Bool) → a || b ≡ false → b ≡ false
-or_right true b h = absurd (true≢false h)
-or_right false b h = h
-
-or_true : (a b : Bool) → b ≡ true → a || b ≡ true
-or_true true b h = refl
-or_true false b h = h
-
-or_cases : (a b : Bool) → a || b ≡ true → (a ≡ true) ⊎ (b ≡ true)
-or_cases true b h = inl refl
-or_cases false b h = inr h
 
 -- the list with one more element at its end
 module _ {N : Type 0} (eq : N → N → Bool) where

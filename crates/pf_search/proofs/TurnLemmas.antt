@@ -1,10 +1,10 @@
 -- The parts of a turn of the search put together.
 use Rattle.std.proofs.Common.{ℕ, ◌≡◌, ◌<◌, refl, sym, ◌∙◌, ap, subst, arith, Bool, true, false, true≢false, List, length, inl, inr, ℤ, pos, Some}
-use Rattle.std.specs.Prelude.{Contains, slice_set, ◌↔◌, ◌≤ℤ◌, ◌+ℤ◌, ◌⊎◌}
+use Rattle.std.specs.Prelude.{Contains, slice_set, ◌↔◌, ◌<ℤ◌, ◌≤ℤ◌, ◌+ℤ◌, ◌⊎◌}
 use Rattle.std.proofs.lemmas.Int.{ints}
 use Rattle.pf_base.specs.Walks.{end_of}
 use Rattle.pf_search.specs.declared.labels.Label.{Label}
-use Rattle.pf_search.specs.Internal.Labels.{Labels, HasLabel, by_cost, IsTree, IsReached, IsWithin, Covers, Settles, Widened, Relaxed, Follows}
+use Rattle.pf_search.specs.Internal.Labels.{Labels, HasLabel, by_cost, IsTree, IsReached, IsWithin, Covers, Settles, Widened, ComesFrom, Relaxed, Follows}
 use Rattle.pf_search.specs.Internal.Steps.{IsPositive, IsTooDear}
 use Rattle.pf_search.specs.Internal.Numbered.{ListsSteps, Grows}
 use Rattle.pf_search.specs.Internal.Queue.{Entries, IsQueue}
@@ -132,6 +132,35 @@ module _ {C : Type 0} (value : C → ℤ) (fits : ℤ → Type 0) (between : (x 
       let x = end_of up.first up.nodes in
       let price : (j : ℕ) (c : C) → Contains row (j, c) → pos 0 ≤ℤ value c = λ j c h. let q = (lists x up.here).sound j c h in p.positive x (value c) q.0 q.1 in
       turn (by_cost value) step root p stands labels i tree k l f.done z before found stands' grow (omega (arith, len)) value row lists f.wider labels' f.wide f.relaxed (cover price)
+
+-- the same of a row with the same steps in another order
+pub follows_row : {C : Type 0} (value : C → ℤ) (fits : ℤ → Type 0) (found k : ℕ) (l : Label C) (row row' : List (ℕ × C)) → ((x : ℕ × C) → Contains row x ↔ Contains row' x) → (labels labels' : Labels C) → Follows value fits found k l row labels labels' → Follows value fits found k l row' labels labels'
+follows_row value fits found k l row row' same labels labels' f =
+    let rel = f.relaxed in
+    record {
+      done = f.done;
+      settles = f.settles;
+      wider = f.wider;
+      wide = f.wide;
+      relaxed = record {
+        len = rel.len;
+        others = λ j m h. elim (rel.others j m h) as (λ _. HasLabel labels' j m ⊎ ((m.settled ≡ false) × ((c : _) × Contains row' (j, c) × ((value l.cost +ℤ value c) <ℤ value m.cost)))) [
+          | inl o ↦ inl o
+          | inr o ↦ inr (o.0, (o.1.0, (same (j, o.1.0)).0 o.1.1, o.1.2))
+        ];
+        from = λ j m h. elim (rel.from j m h) as (λ _. HasLabel f.wider j m ⊎ ((c : _) × Contains row' (j, c) × ComesFrom (by_cost value) value k l c m)) [
+          | inl o ↦ inl o
+          | inr o ↦ inr (o.0, (same (j, o.0)).0 o.1, o.2)
+        ];
+        count = rel.count;
+      };
+      reached = λ j c h. f.reached j c ((same (j, c)).1 h);
+      ends = λ j c h. elim (f.ends j c ((same (j, c)).1 h)) as (λ _. IsReached value fits labels row' (value l.cost) j) [
+        | inl m ↦ inl m
+        | inr d ↦ inr (d.0, (same (j, d.0)).0 d.1, d.2)
+      ];
+      fit = f.fit;
+    }
 
 -- a step whose end has no label, and to which no sum fits
 pub dear_step : {X C : Type 0} (value : C → ℤ) (fits : ℤ → Type 0) (step : X → ℤ → X → Type 0) (stands : ℕ → X → Type 0) (x : X) (t : ℤ) (row : List (ℕ × C)) → ListsSteps value step stands x row

@@ -6,6 +6,7 @@ pub mod Labels
 pub mod Slots
 pub mod Queue
 pub mod Search
+pub mod Sums
 pub mod Nodes
 pub mod NodeLaws
 pub mod Hops

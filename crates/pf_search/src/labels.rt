@@ -1,8 +1,8 @@
 //! What a search by rising cost knows of the nodes that were found: their labels, by number.
 
-ghost use Rattle.std.specs.Prelude.{◌≡◌, ◌<◌, ◌≤◌, ◌<ℤ◌, ◌+ℤ◌, ◌-◌, ◌^◌, ◌++◌, replicate, ℕ, true, false, Some, OnOk, OnErr, IfOk, IfErr, Contains, MatchOption, MatchBool, length, slice_set};
+ghost use Rattle.std.specs.Prelude.{◌≡◌, ◌<◌, ◌≤◌, ◌<ℤ◌, ◌-◌, ◌^◌, ◌++◌, replicate, ℕ, true, false, Some, OnOk, OnErr, IfOk, IfErr, Contains, MatchOption, MatchBool, length, slice_set};
 ghost use Rattle.pf_search.specs.declared.labels.Label.{Label};
-ghost use Rattle.pf_search.specs.Internal.Labels.{HasLabel, by_cost, IsTree, IsChain, IsReached, IsWithin, Widened};
+ghost use Rattle.pf_search.specs.Internal.Labels.{HasLabel, by_cost, IsTree, IsChain, IsWithin, Widened};
 
 use crate::depth::Depth;
 use crate::slot::Slot;
@@ -64,64 +64,6 @@ pub fn improves<C: Cost>(labels: &[Slot<C>], next: usize, total: C) -> bool
         return false;
     }
     total < label.cost
-}
-
-/// Does the number have a label?
-fn is_labelled<C: Cost>(labels: &[Slot<C>], number: usize) -> bool
-    ensures { MatchBool result
-        ((m : Label C) × HasLabel labels.now number m × C.fits (C.value m.cost))
-        ((m : Label C) → ¬ (HasLabel labels.now number m)) }
-{
-    if number >= labels.len() {
-        return false;
-    }
-    match labels[number].label() {
-        None => false,
-        Some(label) => {
-            label.cost.known();
-            true
-        }
-    }
-}
-
-/// Does the sum of two costs fit?
-fn fits<C: Cost>(cost: C, price: C) -> bool
-    ensures { MatchBool result (C.fits (C.value cost +ℤ C.value price)) (¬ (C.fits (C.value cost +ℤ C.value price))) }
-{
-    cost.checked_add(&price).is_some()
-}
-
-/// Is there a step of the row to this number whose sum fits?
-fn has_fitting_step<C: Cost>(row: &[(usize, C)], number: usize, cost: C) -> bool
-    ensures { MatchBool result
-        ((c : C) × Contains row.now (number, c) × C.fits (C.value cost +ℤ C.value c))
-        ((c : C) → Contains row.now (number, c) → ¬ (C.fits (C.value cost +ℤ C.value c))) }
-{
-    'steps: for (next, price) in row {
-        if *next == number && fits(cost, *price) {
-            return true;
-        }
-    }
-    false
-}
-
-/// Whether the end of each step of the row has a label, or the sum of this cost and that of some step
-/// to it fits.
-pub fn sums_fit<C: Cost>(labels: &[Slot<C>], row: &[(usize, C)], cost: C) -> bool
-    ensures { MatchBool result
-        ((j : ℕ) (c : C) → Contains row.now (j, c) → IsReached C.value C.fits labels.now row.now (C.value cost) j)
-        ((j : ℕ) × (c : C) × Contains row.now (j, c) × ((m : Label C) → ¬ (HasLabel labels.now j m))
-        × ((d : C) → Contains row.now (j, d) → ¬ (C.fits (C.value cost +ℤ C.value d)))) }
-{
-    'steps: for (next, price) in row {
-        if !fits(cost, *price)
-            && !is_labelled(labels, *next)
-            && !has_fitting_step(row, *next, cost)
-        {
-            return false;
-        }
-    }
-    true
 }
 
 /// As many nodes as labels can name. So many labels are more than any memory has.

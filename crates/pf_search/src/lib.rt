@@ -16,4 +16,5 @@ mod queue;
 mod row;
 mod search;
 mod slot;
+mod sums;
 mod tested;

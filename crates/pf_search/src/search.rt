@@ -9,10 +9,11 @@ ghost use Rattle.pf_search.specs.Internal.Queue.{entry_cmp, IsQueue};
 ghost use Rattle.pf_search.specs.Internal.Steps.{IsPositive};
 ghost use Rattle.pf_search.specs.Internal.Search.{IsSound, IsLeast, IsSearch, Turned, HasDearStep};
 
-use crate::labels::{label_of, settle, sums_fit, widen};
+use crate::labels::{label_of, settle, widen};
 use crate::numbered::NumberedGraph;
 use crate::queue::{Queue, least_open, relax};
 use crate::slot::Slot;
+use crate::sums::sums_fit;
 use pf_base::{Cost, PathError};
 use std::alloc::Allocator;
 use std::cmp::Reverse;
@@ -115,7 +116,7 @@ impl<C: Cost, A: Allocator + Copy> Search<C, A> {
     {
         let label = label_of(&self.labels, number);
         label.cost.known();
-        if !sums_fit(&self.labels, &self.row, label.cost) {
+        if !sums_fit(&self.labels, &mut self.row, label.cost) {
             return Err(PathError::CostOverflow);
         }
         self.queue.reserve(self.row.len())?;
