@@ -1,8 +1,8 @@
 //! The search for a path with fewest edges, over numbers.
 
-ghost use Rattle.std.specs.Prelude.{◌≡◌, ◌<◌, ◌≤◌, ◌+◌, ℕ, ℤ, true, false, Contains, IfOk, IfErr, IfSome, MatchOption, length, slice_set, Some};
+ghost use Rattle.std.specs.Prelude.{◌≡◌, ◌<◌, ◌+◌, ℕ, ℤ, true, Contains, IfOk, IfErr, IfSome, MatchOption, slice_set, Some};
 ghost use Rattle.pf_search.specs.declared.labels.Label.{Label};
-ghost use Rattle.pf_search.specs.Internal.Labels.{HasLabel, by_depth, Settles};
+ghost use Rattle.pf_search.specs.Internal.Labels.{HasLabel, Settles};
 ghost use Rattle.pf_search.specs.Internal.Steps.{IsHop, NoGoal, IsBestNumbered};
 ghost use Rattle.pf_search.specs.Internal.Numbered.{StandsBelow};
 

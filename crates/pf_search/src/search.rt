@@ -1,11 +1,10 @@
 //! A search by rising cost, over numbers.
 
-ghost use Rattle.std.specs.BinaryHeap.{IsHeap, heap_items, heap_len, heap_capacity};
-ghost use Rattle.std.specs.Prelude.{◌≡◌, ◌<◌, ◌≤◌, ◌+◌, ◌+ℤ◌, ◌^◌, ◌⊎◌, ℕ, Bool, false, Err, Contains, IfOk, IfErr, MatchOption, OnOk, OnErr, length};
+ghost use Rattle.std.specs.BinaryHeap.{heap_items};
+ghost use Rattle.std.specs.Prelude.{◌≡◌, ◌<◌, ◌≤◌, ◌+◌, ◌+ℤ◌, ◌⊎◌, ℕ, Bool, false, Err, Contains, IfOk, IfErr, MatchOption, OnOk, OnErr, length};
 ghost use Rattle.pf_search.specs.declared.labels.Label.{Label};
 ghost use Rattle.pf_search.specs.Internal.Labels.{HasLabel, by_cost, AllSettled, Follows, settled_count};
 ghost use Rattle.pf_search.specs.Internal.Numbered.{Grows};
-ghost use Rattle.pf_search.specs.Internal.Queue.{entry_cmp, IsQueue};
 ghost use Rattle.pf_search.specs.Internal.Steps.{IsPositive};
 ghost use Rattle.pf_search.specs.Internal.Search.{IsSound, IsLeast, IsSearch, Turned, HasDearStep};
 

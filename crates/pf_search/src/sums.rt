@@ -1,6 +1,6 @@
 //! Whether the sums of a row fit: where an end is left without a label, a cost overflow is answered.
 
-ghost use Rattle.std.specs.Prelude.{◌≡◌, ◌≤◌, ◌+ℤ◌, ◌↔◌, ◌⊎◌, ⊤, ℕ, Contains, MatchBool, length};
+ghost use Rattle.std.specs.Prelude.{◌≡◌, ◌+ℤ◌, ◌↔◌, ◌⊎◌, ⊤, ℕ, Contains, MatchBool, length};
 ghost use Rattle.std.specs.List.Sorted.{IsNonDecreasingBy};
 ghost use Rattle.pf_search.specs.declared.labels.Label.{Label};
 ghost use Rattle.pf_search.specs.Internal.Labels.{HasLabel, IsReached};
