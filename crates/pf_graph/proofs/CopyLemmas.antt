@@ -1,9 +1,9 @@
 -- Copies of edges.
-use Rattle.std.proofs.Common.{ℕ, ◌+◌, ◌<◌, ◌≡◌, sym, ◌∙◌, ap, subst, arith, List, [], ◌∷◌, ◌++◌, length, get_or, take, inl, inr, Ordering, Bool}
+use Rattle.std.proofs.Common.{ℕ, ◌+◌, ◌<◌, ◌≡◌, sym, ◌∙◌, ap, subst, List, [], ◌∷◌, ◌++◌, length, get_or, take, inl, inr, Ordering, Bool}
 use Rattle.std.specs.Prelude.{Contains}
 use Rattle.std.specs.List.Sorted.{IsPermutation}
 use Rattle.std.proofs.lemmas.List.{take_more}
-use Rattle.std.proofs.lemmas.List.Sorted.{Contains-permutation, IsPermutation-sym}
+use Rattle.std.proofs.lemmas.List.Sorted.{Contains-permutation}
 use Rattle.std.proofs.lemmas.List.Elements.{Contains-append_left, Contains-push, Contains-push_cases}
 use Rattle.std.proofs.lemmas.List.Elements.{Contains-get_or}
 use Rattle.std.specs.declared.cmp.Ordering.TheVariants.{Equal}
@@ -16,9 +16,6 @@ use Rattle.pf_graph.proofs.JoinedLemmas.{Joined-more}
 use Rattle.pf_graph.proofs.OrderLemmas.{equal_is, le_equal}
 
 module _ {N C : Type 0} (is_clone : C → C → Type 0) where
-  pub HoldsCopies-none : HoldsCopies {N = N} is_clone [] []
-  HoldsCopies-none = record { from = λ e h. absurd (omega (arith, h.1)); all = λ g h. absurd (omega (arith, h.1)) }
-
   pub HoldsCopies-more : (edges copies : List (N × N × C)) (i : ℕ) (g e : N × N × C) → i < length edges → g ≡ get_or edges i g → g.0 ≡ e.0 → g.1 ≡ e.1 → is_clone g.2 e.2 → HoldsCopies is_clone (take i edges) copies → HoldsCopies is_clone (take (i + 1) edges) (copies ++ e ∷ [])
   HoldsCopies-more edges copies i g e inside at first second clone h =
       let more : take (i + 1) edges ≡ take i edges ++ g ∷ [] = take_more edges i g inside ∙ ap (λ x. take i edges ++ x ∷ []) (sym at) in
@@ -33,12 +30,6 @@ module _ {N C : Type 0} (is_clone : C → C → Type 0) where
         ];
       }
 
-  pub HoldsCopies-permuted : (edges copies sorted : List (N × N × C)) → IsPermutation copies sorted → HoldsCopies is_clone edges copies → HoldsCopies is_clone edges sorted
-  HoldsCopies-permuted edges copies sorted p h = record {
-    from = λ e k. h.from e (Contains-permutation sorted copies e (IsPermutation-sym copies sorted p) k);
-    all = λ g k. let r = h.all g k in (r.0, Contains-permutation copies sorted r.0 p r.1, r.2, r.3, r.4);
-  }
-
   module _ {eq : C → C → Bool} {cmp : C → C → Ordering} (total : IsTotalOrder cmp) (agree : (x y : C) → eq x y ≡ is_eq (cmp x y)) (lawful : IsLawfulClone eq is_clone) (same_node : N → N → Bool) where
     pub least_of_copies : (edges copies chosen : List (N × N × C)) → HoldsCopies is_clone edges copies → IsLeastUnderEveryBound same_node cmp copies chosen → IsLeastUnderEveryBound same_node cmp edges chosen
     least_of_copies edges copies chosen h l = record {
@@ -50,6 +41,12 @@ module _ {N C : Type 0} (is_clone : C → C → Type 0) where
 
   pub chosen_of_copies : (edges copies chosen : List (N × N × C)) → HoldsCopies is_clone edges copies → ((e : N × N × C) → Contains chosen e → Contains copies e) → AreChosenFrom is_clone edges chosen
   chosen_of_copies edges copies chosen h f = record { as_written = λ e k. h.from e (f e k) }
+
+-- what is least does not depend on the order of the edges
+pub least_of_permutation : {N C : Type 0} {same_node : N → N → Bool} {cmp : C → C → Ordering} (edges sorted chosen : List (N × N × C)) → IsPermutation edges sorted → IsLeastUnderEveryBound same_node cmp sorted chosen → IsLeastUnderEveryBound same_node cmp edges chosen
+least_of_permutation {N} {C} {cmp = cmp} edges sorted chosen p l = record {
+  joins = λ w x y j. l.joins w x y (Joined-more (λ (a b : N) (k : LinksUnder cmp w edges a b). (k.0, Contains-permutation edges sorted k.0 p k.1, k.2, k.3, k.4)) j);
+}
 
 pub below_copies : {C : Type 0} (is_clone : C → C → Type 0) (n : ℕ) (edges copies : List (ℕ × ℕ × C)) → HoldsCopies is_clone edges copies → AreBelow n edges → AreBelow n copies
 below_copies {C} is_clone n edges copies h b = λ k d inside.

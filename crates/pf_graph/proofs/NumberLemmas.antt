@@ -60,13 +60,13 @@ module _ {N : Type 0} {eq : N → N → Bool} (laws : IsEquivalence eq) where
       by false = (s.0, get_append nodes (r ∷ []) k s.0 s.1, s.2)
 
   -- the numbered edges, after one more
-  pub IsNumbered-more : {C : Type 0} (nodes between after : List (Bor N)) (edges : List (N × N × C)) (numbered : List (ℕ × ℕ × Weighed N C)) (i : ℕ) (e : ℕ × ℕ × Weighed N C) (p q : Bor N)
+  pub IsNumbered-more : {C W : Type 0} (nodes between after : List (Bor N)) (edges : List (N × N × C)) (numbered : List (ℕ × ℕ × Weighed N C W)) (i : ℕ) (e : ℕ × ℕ × Weighed N C W) (p q : Bor N)
       → i < length edges → e.2.edge.now ≡ get_or edges i e.2.edge.now
       → between ≡ insert_key (λ (a b : Bor N). eq a.now b.now) nodes p → after ≡ insert_key (λ (a b : Bor N). eq a.now b.now) between q
       → StandsFor eq between e.0 e.2.edge.now.0 → StandsFor eq after e.1 e.2.edge.now.1
       → IsDistinct (λ (a b : Bor N). eq a.now b.now) after
       → IsNumbered eq nodes (take i edges) numbered → IsNumbered eq after (take (i + 1) edges) (numbered ++ e ∷ [])
-  IsNumbered-more {C} nodes between after edges numbered i e p q inside at first second from to apart h =
+  IsNumbered-more {C} {W} nodes between after edges numbered i e p q inside at first second from to apart h =
       let more : take (i + 1) edges ≡ take i edges ++ e.2.edge.now ∷ [] = take_more edges i e.2.edge.now inside ∙ ap (λ x. take i edges ++ x ∷ []) (sym at) in
       let later : (k : ℕ) (x : N) → StandsFor eq between k x → StandsFor eq after k x = λ k x s. subst (λ ns. StandsFor eq ns k x) (sym second) (StandsFor-kept between q k x s) in
       let kept : (k : ℕ) (x : N) → StandsFor eq nodes k x → StandsFor eq after k x = λ k x s. later k x (subst (λ ns. StandsFor eq ns k x) (sym first) (StandsFor-kept nodes p k x s)) in
@@ -74,7 +74,7 @@ module _ {N : Type 0} {eq : N → N → Bool} (laws : IsEquivalence eq) where
         apart = apart;
         from = λ f c. elim (Contains-push_cases numbered e f c) [
           | inl l ↦ let r = h.from f l in (subst (λ xs. Contains xs f.2.edge.now) (sym more) (Contains-append_left (take i edges) (e.2.edge.now ∷ []) f.2.edge.now r.0), kept f.0 f.2.edge.now.0 r.1, kept f.1 f.2.edge.now.1 r.2)
-          | inr l ↦ subst (λ (d : ℕ × ℕ × Weighed N C). Contains (take (i + 1) edges) d.2.edge.now × StandsFor eq after d.0 d.2.edge.now.0 × StandsFor eq after d.1 d.2.edge.now.1) l
+          | inr l ↦ subst (λ (d : ℕ × ℕ × Weighed N C W). Contains (take (i + 1) edges) d.2.edge.now × StandsFor eq after d.0 d.2.edge.now.0 × StandsFor eq after d.1 d.2.edge.now.1) l
               (subst (λ xs. Contains xs e.2.edge.now) (sym more) (Contains-push (take i edges) e.2.edge.now), later e.0 e.2.edge.now.0 from, to)
         ];
         all = λ f c. elim (Contains-push_cases (take i edges) e.2.edge.now f (subst (λ xs. Contains xs f) more c)) [
@@ -83,6 +83,6 @@ module _ {N : Type 0} {eq : N → N → Bool} (laws : IsEquivalence eq) where
         ];
       }
 
-pub IsNumbered-none : {N C : Type 0} (eq : N → N → Bool) → IsNumbered {N = N} eq {C = C} [] [] []
+pub IsNumbered-none : {N C W : Type 0} (eq : N → N → Bool) → IsNumbered {N = N} eq {C = C} {W = W} [] [] []
 unfolding IsDistinct
 IsNumbered-none eq = record { apart = tt; from = λ e h. absurd (omega (arith, h.1)); all = λ f h. absurd (omega (arith, h.1)) }

@@ -24,12 +24,12 @@ no_mark zero k m = none_in k true m
 no_mark (suc n) zero m = let e : Some false ≡ Some true = m in cc
 no_mark (suc n) (suc k) m = no_mark n k m
 
-module _ {N C : Type 0} (edges : List (N × N × C)) (numbered : List (ℕ × ℕ × Weighed N C)) (in_order : map (λ (e : ℕ × ℕ × Weighed N C). e.2.edge.now) numbered ≡ edges) where
+module _ {N C W : Type 0} (edges : List (N × N × C)) (numbered : List (ℕ × ℕ × Weighed N C W)) (in_order : map (λ (e : ℕ × ℕ × Weighed N C W). e.2.edge.now) numbered ≡ edges) where
   -- the first of the edges
-  first_is : (first : ℕ × ℕ × Weighed N C) → slice_get numbered 0 ≡ Some first → slice_get edges 0 ≡ Some first.2.edge.now
-  first_is first at = subst (λ es. slice_get es 0 ≡ Some first.2.edge.now) in_order (slice_get-map (λ (e : ℕ × ℕ × Weighed N C). e.2.edge.now) numbered 0 ∙ ap (option_map (λ (e : ℕ × ℕ × Weighed N C). e.2.edge.now)) at)
+  first_is : (first : ℕ × ℕ × Weighed N C W) → slice_get numbered 0 ≡ Some first → slice_get edges 0 ≡ Some first.2.edge.now
+  first_is first at = subst (λ es. slice_get es 0 ≡ Some first.2.edge.now) in_order (slice_get-map (λ (e : ℕ × ℕ × Weighed N C W). e.2.edge.now) numbered 0 ∙ ap (option_map (λ (e : ℕ × ℕ × Weighed N C W). e.2.edge.now)) at)
 
-  pub start_is : (first : ℕ × ℕ × Weighed N C) → slice_get numbered 0 ≡ Some first → (start : N) → StartsAt edges start → first.2.edge.now.0 ≡ start
+  pub start_is : (first : ℕ × ℕ × Weighed N C W) → slice_get numbered 0 ≡ Some first → (start : N) → StartsAt edges start → first.2.edge.now.0 ≡ start
   start_is first at start s =
       let same : Some first.2.edge.now ≡ Some s.0 = sym (first_is first at) ∙ s.1 in
       let e : first.2.edge.now ≡ s.0 = cc in
@@ -38,7 +38,7 @@ module _ {N C : Type 0} (edges : List (N × N × C)) (numbered : List (ℕ × �
   -- where no edge is numbered there is no start
   pub no_start : slice_get numbered 0 ≡ None → (start : N) → ¬ (StartsAt edges start)
   no_start none start s =
-      let e : slice_get edges 0 ≡ None = subst (λ es. slice_get es 0 ≡ None) in_order (slice_get-map (λ (e : ℕ × ℕ × Weighed N C). e.2.edge.now) numbered 0 ∙ ap (option_map (λ (e : ℕ × ℕ × Weighed N C). e.2.edge.now)) none) in
+      let e : slice_get edges 0 ≡ None = subst (λ es. slice_get es 0 ≡ None) in_order (slice_get-map (λ (e : ℕ × ℕ × Weighed N C W). e.2.edge.now) numbered 0 ∙ ap (option_map (λ (e : ℕ × ℕ × Weighed N C W). e.2.edge.now)) none) in
       let f : Some s.0 ≡ None = sym s.1 ∙ e in
       cc
 
@@ -49,7 +49,7 @@ module _ {N C : Type 0} (edges : List (N × N × C)) (numbered : List (ℕ × �
     pub steps_inside : (k : ℕ) (s : Step N C) → HasStep rows k s → s.number < length rows
     steps_inside k s c = subst (λ (n : ℕ). s.number < n) (sym len) (let r = are_rows.from k s c in slice_get_within nodes s.number r.1.0 r.1.1)
 
-    module _ (first : ℕ × ℕ × Weighed N C) (at : slice_get numbered 0 ≡ Some first) where
+    module _ (first : ℕ × ℕ × Weighed N C W) (at : slice_get numbered 0 ≡ Some first) where
       pub first_stands : StandsFor eq nodes first.0 first.2.edge.now.0
       first_stands = (h.from first (get_contains numbered 0 first at)).1
 

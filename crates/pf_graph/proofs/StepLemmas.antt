@@ -57,16 +57,16 @@ module _ {N C A : Type 0} where
         λ h. elim h as (λ _. HasStep (slice_set rows from row') k s) [ inl i ↦ (i.0, e.1 ∙ i.1, i.2) | inr i ↦ absurd (e.0 i.0) ],
       )
 
-  pub HoldSteps-none : (rows : List (Vec (Step N C) A)) → ((k : ℕ) (s : Step N C) → ¬ (HasStep rows k s)) → HoldSteps [] rows
+  pub HoldSteps-none : {W : Type 0} (rows : List (Vec (Step N C) A)) → ((k : ℕ) (s : Step N C) → ¬ (HasStep rows k s)) → HoldSteps {W = W} [] rows
   HoldSteps-none rows none = record { from = λ k s h. absurd (none k s h); all = λ e c. absurd (omega (arith, c.1)) }
 
   -- the steps over one edge more
-  pub HoldSteps-more : (edges : List (ℕ × ℕ × Weighed N C)) (i : ℕ) (e : ℕ × ℕ × Weighed N C) (onward backward : Step N C) (rows between after : List (Vec (Step N C) A))
+  pub HoldSteps-more : {W : Type 0} (edges : List (ℕ × ℕ × Weighed N C W)) (i : ℕ) (e : ℕ × ℕ × Weighed N C W) (onward backward : Step N C) (rows between after : List (Vec (Step N C) A))
       → i < length edges → e ≡ get_or edges i e
       → Leads onward e.2.edge.now.0 e.2.edge.now.1 e.2.edge.now.2 e.1 → Leads backward e.2.edge.now.1 e.2.edge.now.0 e.2.edge.now.2 e.0
       → AddsStep e.0 onward rows between → AddsStep e.1 backward between after
       → HoldSteps (take i edges) rows → HoldSteps (take (i + 1) edges) after
-  HoldSteps-more edges i e onward backward rows between after inside at to back first second h = record {
+  HoldSteps-more {W} edges i e onward backward rows between after inside at to back first second h = record {
     from = λ k s c. elim ((second k s).0 c) as (λ _. From k s) [
       | inl b ↦ elim ((first k s).0 b) as (λ _. From k s) [
         | inl a ↦ let r = h.from k s a in (r.0, wider r.0 r.1, r.2)
@@ -86,21 +86,21 @@ module _ {N C A : Type 0} where
       here : Contains (take (i + 1) edges) e
       here = subst (λ xs. Contains xs e) (sym more) (Contains-push (take i edges) e)
 
-      wider : (f : ℕ × ℕ × Weighed N C) → Contains (take i edges) f → Contains (take (i + 1) edges) f
+      wider : (f : ℕ × ℕ × Weighed N C W) → Contains (take i edges) f → Contains (take (i + 1) edges) f
       wider f c = subst (λ xs. Contains xs f) (sym more) (Contains-append_left (take i edges) (e ∷ []) f c)
 
       kept : (k : ℕ) (s : Step N C) → HasStep rows k s → HasStep after k s
       kept k s c = (second k s).1 (inl ((first k s).1 (inl c)))
 
       From : ℕ → Step N C → Type 0
-      From k s = (f : ℕ × ℕ × Weighed N C) × Contains (take (i + 1) edges) f
+      From k s = (f : ℕ × ℕ × Weighed N C W) × Contains (take (i + 1) edges) f
           × (((k ≡ f.0) × Leads s f.2.edge.now.0 f.2.edge.now.1 f.2.edge.now.2 f.1) ⊎ ((k ≡ f.1) × Leads s f.2.edge.now.1 f.2.edge.now.0 f.2.edge.now.2 f.0))
 
-      Both : ℕ × ℕ × Weighed N C → Type 0
+      Both : ℕ × ℕ × Weighed N C W → Type 0
       Both f = ((s : Step N C) × HasStep after f.0 s × Leads s f.2.edge.now.0 f.2.edge.now.1 f.2.edge.now.2 f.1) × ((s : Step N C) × HasStep after f.1 s × Leads s f.2.edge.now.1 f.2.edge.now.0 f.2.edge.now.2 f.0)
 
   -- the rows of numbered edges are those of the edges
-  module _ {eq : N → N → Bool} (nodes : List (Bor N)) (edges : List (N × N × C)) (numbered : List (ℕ × ℕ × Weighed N C)) (rows : List (Vec (Step N C) A)) (n : IsNumbered eq nodes edges numbered) (h : HoldSteps numbered rows) where
+  module _ {W : Type 0} {eq : N → N → Bool} (nodes : List (Bor N)) (edges : List (N × N × C)) (numbered : List (ℕ × ℕ × Weighed N C W)) (rows : List (Vec (Step N C) A)) (n : IsNumbered eq nodes edges numbered) (h : HoldSteps numbered rows) where
     -- an edge from x to y that a step leads over, onward or backward
     runs_onward : (s : Step N C) (f : N × N × C) (i : ℕ) → Contains edges f → Leads s f.0 f.1 f.2 i → RunsBetween edges s.covered.now s.new.now s.weight.now
     runs_onward s f i c l = inl (subst (λ (d : N × N × C). Contains edges d) (λ j. (sym l.0 j, sym l.1 j, sym l.2 j)) c)

@@ -28,10 +28,10 @@ abbrev pub HasStep : {N C A : Type 0} → List (Vec (Step N C) A) → ℕ → St
 HasStep {N} {C} {A} rows k s = (row : Vec (Step N C) A) × (slice_get rows k ≡ Some row) × Contains row.items s
 
 -- each edge gives a step to the row of each of its ends, and the rows have no other steps
-pub record HoldSteps {N C A : Type 0} (numbered : List (ℕ × ℕ × Weighed N C)) (rows : List (Vec (Step N C) A)) : Type 0 where
-  pub from : (k : ℕ) (s : Step N C) → HasStep rows k s → (e : ℕ × ℕ × Weighed N C) × Contains numbered e
+pub record HoldSteps {N C W A : Type 0} (numbered : List (ℕ × ℕ × Weighed N C W)) (rows : List (Vec (Step N C) A)) : Type 0 where
+  pub from : (k : ℕ) (s : Step N C) → HasStep rows k s → (e : ℕ × ℕ × Weighed N C W) × Contains numbered e
       × (((k ≡ e.0) × Leads s e.2.edge.now.0 e.2.edge.now.1 e.2.edge.now.2 e.1) ⊎ ((k ≡ e.1) × Leads s e.2.edge.now.1 e.2.edge.now.0 e.2.edge.now.2 e.0))
-  pub all : (e : ℕ × ℕ × Weighed N C) → Contains numbered e
+  pub all : (e : ℕ × ℕ × Weighed N C W) → Contains numbered e
       → ((s : Step N C) × HasStep rows e.0 s × Leads s e.2.edge.now.0 e.2.edge.now.1 e.2.edge.now.2 e.1)
       × ((s : Step N C) × HasStep rows e.1 s × Leads s e.2.edge.now.1 e.2.edge.now.0 e.2.edge.now.2 e.0)
 

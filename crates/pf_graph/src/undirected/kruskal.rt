@@ -11,7 +11,7 @@ ghost use Rattle.pf_graph.specs.Internal.NumberedEdges.{IsWritten};
 
 use crate::undirected::exact_sum::exact_sum;
 use crate::undirected::numbered::number_edges;
-use crate::undirected::spanning::{are_below, sorted_by_weight, spanning_forest};
+use crate::undirected::spanning::{are_below, copies_of, spanning_forest};
 pub use crate::undirected::spanning_edges::{Kruskal, KruskalIndices};
 use crate::undirected::weighed::Weighed;
 use pf_base::{Cost, PathError};
@@ -49,28 +49,28 @@ where
     if !are_below(number_of_nodes, edges) {
         return Err(PathError::UnknownVertex);
     }
-    let sorted = sorted_by_weight(alloc, edges)?;
-    let chosen = spanning_forest(alloc, number_of_nodes, sorted)?;
+    let copies = copies_of(alloc, edges)?;
+    let chosen = spanning_forest(alloc, number_of_nodes, copies)?;
     Ok(KruskalIndices {
         left: chosen.into_iter(),
     })
 }
 
-/// Numbered edges as they are written, with clones of their weights.
+/// Numbered edges as they are written, with the weights that they are weighed by.
 fn as_written<'a, N, C, A>(
     alloc: A,
-    chosen: KruskalIndices<Weighed<'a, N, C>, A>,
+    chosen: Vec<(usize, usize, Weighed<'a, N, C, C>), A>,
 ) -> Result<Vec<(&'a N, &'a N, C), A>, PathError>
 where
-    C: Clone,
+    C: Drop,
     A: Allocator + Copy,
-    ensures written { IfOk result (λ edges. AllZip (IsWritten C.is_clone) chosen.entry (map shown edges.items)) }
+    ensures written { IfOk result (λ edges. AllZip IsWritten chosen.entry.items (map shown edges.items)) }
     ensures refused { IfErr result (λ e. e ≡ OutOfMemory) }
 {
-    let mut edges = Vec::new(alloc);
+    let mut edges = Vec::with_capacity(alloc, chosen.len())?;
     for numbered in chosen {
-        let edge = numbered.2.edge;
-        edges.push((&edge.0, &edge.1, edge.2.clone()?))?;
+        let Weighed { edge, weight } = numbered.2;
+        edges.push((&edge.0, &edge.1, weight))?;
     }
     Ok(edges)
 }
@@ -100,28 +100,28 @@ where
     ensures sorted { IfOk result (IsSorted (λ e f. C.cmp e.2 f.2)) }
     ensures refused { IfErr result (λ e. e ≡ OutOfMemory) }
 {
-    let numbered = number_edges(alloc, edges)?;
-    let chosen = kruskal_indices(alloc, numbered.count, &numbered.edges)?;
+    let numbered = number_edges(alloc, edges, |weight| weight.clone())?;
+    let chosen = spanning_forest(alloc, numbered.count, numbered.edges)?;
     let written = as_written(alloc, chosen)?;
     Ok(Kruskal {
         left: written.into_iter(),
     })
 }
 
-/// The weights of numbered edges.
+/// What numbered edges are weighed by.
 fn weights_of<N, C, A>(
     alloc: A,
-    chosen: KruskalIndices<Weighed<'_, N, C>, A>,
+    chosen: &[(usize, usize, Weighed<'_, N, C, C>)],
 ) -> Result<Vec<C, A>, PathError>
 where
     C: Copy,
     A: Allocator + Copy,
-    ensures weights { IfOk result (λ weights. weights.items ≡ map (λ e. e.2.edge.now.2) chosen.entry) }
+    ensures weights { IfOk result (λ weights. weights.items ≡ map (λ e. e.2.weight) chosen.now) }
     ensures refused { IfErr result (λ e. e ≡ OutOfMemory) }
 {
-    let mut weights = Vec::new(alloc);
+    let mut weights = Vec::with_capacity(alloc, chosen.len())?;
     for numbered in chosen {
-        weights.push(numbered.2.edge.2)?;
+        weights.push(numbered.2.weight)?;
     }
     Ok(weights)
 }
@@ -141,9 +141,9 @@ where
     ensures overflow { result ≡ Err CostOverflow → (forest : List (N × N × C)) × IsLeastForest N.eq C.cmp edges.now forest × ¬ (C.fits (weight_sum C.value forest)) }
     ensures refused { IfErr result (λ e. (e ≡ OutOfMemory) ⊎ (e ≡ CostOverflow)) }
 {
-    let numbered = number_edges(alloc, edges)?;
-    let chosen = kruskal_indices(alloc, numbered.count, &numbered.edges)?;
-    let weights = weights_of(alloc, chosen)?;
+    let numbered = number_edges(alloc, edges, |weight| Ok(*weight))?;
+    let chosen = spanning_forest(alloc, numbered.count, numbered.edges)?;
+    let weights = weights_of(alloc, &chosen)?;
     match exact_sum(&weights) {
         Some(total) => Ok(total),
         None => Err(PathError::CostOverflow),

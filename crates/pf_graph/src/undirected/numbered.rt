@@ -1,62 +1,73 @@
 //! Edges between named nodes, numbered.
 
-ghost use Rattle.std.specs.Prelude.{◌≡◌, [], List, length, map, IfOk, OnOk, IfErr};
+ghost use Rattle.std.specs.Prelude.{◌≡◌, [], List, All, length, map, IfOk, OnOk, IfErr};
 ghost use Rattle.std.specs.Borrow.{Bor};
 ghost use Rattle.pf_base.specs.declared.error.PathError.TheVariants.{OutOfMemory};
-ghost use Rattle.pf_graph.specs.Internal.NumberedEdges.{IsNumbered};
+ghost use Rattle.pf_graph.specs.Internal.NumberedEdges.{IsNumbered, IsWeighed};
 
 use crate::undirected::parts::Nodes;
 use crate::undirected::weighed::Weighed;
 use indexmap::IndexSet;
 use pf_base::PathError;
-use std::alloc::Allocator;
+use std::alloc::{AllocError, Allocator};
 use std::hash::Hash;
 
 /// The number of nodes that edges stand between, and the edges, each with the numbers of its ends.
 #[derive(Drop)]
-pub struct Numbered<'a, N, C, A: Allocator> {
+pub struct Numbered<'a, N, C, W, A: Allocator> {
     pub count: usize,
-    pub edges: Vec<(usize, usize, Weighed<'a, N, C>), A>,
+    pub edges: Vec<(usize, usize, Weighed<'a, N, C, W>), A>,
 }
 
-/// Numbers the ends of edges, where no node and no edge is numbered yet.
-fn number_into<'a, N, C, A>(
+/// Numbers the ends of edges and weighs the edges, where no node and no edge is numbered yet.
+fn number_into<'a, N, C, W, F, A>(
     nodes: &mut Nodes<'a, N, A>,
-    numbered: &mut Vec<(usize, usize, Weighed<'a, N, C>), A>,
+    numbered: &mut Vec<(usize, usize, Weighed<'a, N, C, W>), A>,
     edges: &'a [(N, N, C)],
+    weigh: F,
 ) -> Result<(), PathError>
 where
     N: Eq + Hash,
+    W: Drop,
+    F: Fn(&C) -> Result<W, AllocError>,
     A: Allocator + Copy,
+    requires weighs { F.IsAlwaysCallable weigh }
     requires none { (nodes.old.keys ≡ []) × (numbered.old.items ≡ []) }
     ensures numbered { OnOk result (IsNumbered N.eq nodes.new.keys edges.now numbered.new.items) }
     ensures in_order { OnOk result (map (λ e. e.2.edge.now) numbered.new.items ≡ edges.now) }
+    ensures weighed { OnOk result (All (IsWeighed F.Fn weigh) numbered.new.items) }
     ensures refused { IfErr result (λ e. e ≡ OutOfMemory) }
 {
     for edge in edges {
         let from = nodes.insert_full(&edge.0)?.0;
         let to = nodes.insert_full(&edge.1)?.0;
-        numbered.push((from, to, Weighed { edge }))?;
+        let weight = weigh(&edge.2)?;
+        numbered.push((from, to, Weighed { edge, weight }))?;
     }
     Ok(())
 }
 
-/// Numbers the ends of edges from 0 on, in the order in which they first stand. A node is looked up
-/// once for each edge end.
-pub fn number_edges<'a, N, C, A>(
+/// Numbers the ends of edges from 0 on, in the order in which they first stand, and weighs each edge
+/// by what `weigh` makes of its weight. A node is looked up once for each edge end.
+pub fn number_edges<'a, N, C, W, F, A>(
     alloc: A,
     edges: &'a [(N, N, C)],
-) -> Result<Numbered<'a, N, C, A>, PathError>
+    weigh: F,
+) -> Result<Numbered<'a, N, C, W, A>, PathError>
 where
     N: Eq + Hash,
+    W: Drop,
+    F: Fn(&C) -> Result<W, AllocError>,
     A: Allocator + Copy,
+    requires weighs { F.IsAlwaysCallable weigh }
     ensures numbered { IfOk result (λ r. (nodes : List (Bor N)) × (length nodes ≡ r.count) × IsNumbered N.eq nodes edges.now r.edges.items) }
     ensures in_order { IfOk result (λ r. map (λ e. e.2.edge.now) r.edges.items ≡ edges.now) }
+    ensures weighed { IfOk result (λ r. All (IsWeighed F.Fn weigh) r.edges.items) }
     ensures refused { IfErr result (λ e. e ≡ OutOfMemory) }
 {
     let mut nodes = IndexSet::new(alloc);
     let mut numbered = Vec::with_capacity(alloc, edges.len())?;
-    number_into(&mut nodes, &mut numbered, edges)?;
+    number_into(&mut nodes, &mut numbered, edges, weigh)?;
     Ok(Numbered {
         count: nodes.len(),
         edges: numbered,

@@ -81,7 +81,8 @@ where
     ensures as_written { IfOk result (λ tree. AreChosenEitherWay C.is_clone edges.now (map shown tree.items)) }
     ensures refused { IfErr result (λ e. e ≡ OutOfMemory) }
 {
-    let numbered = number_edges(alloc, edges)?;
+    // Steps refer to the weights where they stand, so none is kept beside the numbers.
+    let numbered = number_edges(alloc, edges, |_| Ok(()))?;
     let Some(first) = numbered.edges.first() else {
         return Ok(Vec::new(alloc));
     };

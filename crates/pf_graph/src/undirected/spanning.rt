@@ -18,24 +18,22 @@ pub fn are_below<C>(count: usize, edges: &[(usize, usize, C)]) -> bool
     edges.iter().all(|edge| edge.0 < count && edge.1 < count)
 }
 
-/// A copy of the edges, by rising weight.
-pub fn sorted_by_weight<C, A>(
+/// A copy of the edges, with clones of their weights.
+pub fn copies_of<C, A>(
     alloc: A,
     edges: &[(usize, usize, C)],
 ) -> Result<Vec<(usize, usize, C), A>, PathError>
 where
-    C: Clone + Ord,
+    C: Clone,
     A: Allocator + Copy,
-    ensures copies { IfOk result (λ sorted. HoldsCopies C.is_clone edges.now sorted.items) }
-    ensures sorted { IfOk result (λ sorted. IsSorted (λ e f. C.cmp e.2 f.2) sorted.items) }
+    ensures copies { IfOk result (λ copies. HoldsCopies C.is_clone edges.now copies.items) }
     ensures refused { IfErr result (λ e. e ≡ OutOfMemory) }
 {
-    let mut sorted = Vec::with_capacity(alloc, edges.len())?;
+    let mut copies = Vec::with_capacity(alloc, edges.len())?;
     for edge in edges {
-        sorted.push((edge.0, edge.1, edge.2.clone()?))?;
+        copies.push((edge.0, edge.1, edge.2.clone()?))?;
     }
-    sorted.sort_unstable_by(|one, other| one.2.cmp(&other.2));
-    Ok(sorted)
+    Ok(copies)
 }
 
 /// Puts the edges of `sorted` whose ends no edges before them join to the end of `chosen`, and makes
@@ -67,25 +65,25 @@ where
     Ok(())
 }
 
-/// The edges of `sorted` whose ends no edges before them join (Kruskal 1956).
+/// The edges, taken by rising weight, whose ends no edges taken before them join (Kruskal 1956).
 pub fn spanning_forest<C, A>(
     alloc: A,
     number_of_nodes: usize,
-    sorted: Vec<(usize, usize, C), A>,
+    mut edges: Vec<(usize, usize, C), A>,
 ) -> Result<Vec<(usize, usize, C), A>, PathError>
 where
     C: Ord + Drop,
     A: Allocator + Copy,
-    requires below { AreBelow number_of_nodes sorted.items }
-    requires sorted { IsSorted (λ e f. C.cmp e.2 f.2) sorted.items }
+    requires below { AreBelow number_of_nodes edges.items }
     ensures forest { IfOk result (λ chosen. IsForest nat_eq chosen.items) }
-    ensures least { IfOk result (λ chosen. IsLeastUnderEveryBound nat_eq C.cmp sorted.items chosen.items) }
-    ensures given { IfOk result (λ chosen. (e : ℕ × ℕ × C) → Contains chosen.items e → Contains sorted.items e) }
+    ensures least { IfOk result (λ chosen. IsLeastUnderEveryBound nat_eq C.cmp edges.items chosen.items) }
+    ensures given { IfOk result (λ chosen. (e : ℕ × ℕ × C) → Contains chosen.items e → Contains edges.items e) }
     ensures sorted { IfOk result (λ chosen. IsSorted (λ e f. C.cmp e.2 f.2) chosen.items) }
     ensures refused { IfErr result (λ e. e ≡ OutOfMemory) }
 {
+    edges.sort_unstable_by(|one, other| one.2.cmp(&other.2));
     let mut vertices = apart(alloc, number_of_nodes)?;
-    let mut chosen = Vec::with_capacity(alloc, number_of_nodes.min(sorted.len()))?;
-    choose_edges(&mut vertices, sorted, &mut chosen)?;
+    let mut chosen = Vec::with_capacity(alloc, number_of_nodes.min(edges.len()))?;
+    choose_edges(&mut vertices, edges, &mut chosen)?;
     Ok(chosen)
 }

@@ -1,18 +1,17 @@
-use Rattle.std.proofs.Common.{subst, sym}
+use Rattle.std.proofs.Common.{subst, sym, nat_eq}
 use Rattle.pf_graph.proofs.CopyLemmas.{below_copies, least_of_copies, chosen_of_copies}
 use Rattle.pf_graph.specs.Spanning.{IsLeastUnderEveryBound, AreChosenFrom}
-use Rattle.std.proofs.Common.{nat_eq}
 use Rattle.pf_graph.proofs.undirected.kruskal.kruskal_indices.Goals as goal
 
-pub spanning_forest-requires-clause-below : goal.spanning_forest-requires-clause-below
-spanning_forest-requires-clause-below g c = below_copies g.C.Clone.is_clone c.args.number_of_nodes c.args.edges.now c.in_ok-sorted.sorted.items c.in_ok-sorted.ensures.copies (c.are_below.ensures.0 c.if-not-are_below.false)
+pub spanning_forest-requires : goal.spanning_forest-requires
+spanning_forest-requires g c = record { below = below_copies g.C.Clone.is_clone c.args.number_of_nodes c.args.edges.now c.in_ok-copies.copies.items c.in_ok-copies.ensures.copies (c.are_below.ensures.0 c.if-not-are_below.false) }
 
 pub returns-clause-least : goal.returns-clause-least
 returns-clause-least g c =
     subst (λ xs. IsLeastUnderEveryBound nat_eq g.C.Ord.cmp c.args.edges.now xs) (sym c.into_iter.ensures.rest)
-    (least_of_copies g.C.Clone.is_clone g.met.C.Ord.total g.met.C.Ord.matches_eq c.requires.clones nat_eq c.args.edges.now c.in_ok-sorted.sorted.items c.in_ok-chosen.chosen.items c.in_ok-sorted.ensures.copies c.in_ok-chosen.ensures.least)
+    (least_of_copies g.C.Clone.is_clone g.met.C.Ord.total g.met.C.Ord.matches_eq c.requires.clones nat_eq c.args.edges.now c.in_ok-copies.copies.items c.in_ok-chosen.chosen.items c.in_ok-copies.ensures.copies c.in_ok-chosen.ensures.least)
 
 pub returns-clause-as_written : goal.returns-clause-as_written
 returns-clause-as_written g c =
     subst (λ xs. AreChosenFrom g.C.Clone.is_clone c.args.edges.now xs) (sym c.into_iter.ensures.rest)
-    (chosen_of_copies g.C.Clone.is_clone c.args.edges.now c.in_ok-sorted.sorted.items c.in_ok-chosen.chosen.items c.in_ok-sorted.ensures.copies c.in_ok-chosen.ensures.given)
+    (chosen_of_copies g.C.Clone.is_clone c.args.edges.now c.in_ok-copies.copies.items c.in_ok-chosen.chosen.items c.in_ok-copies.ensures.copies c.in_ok-chosen.ensures.given)

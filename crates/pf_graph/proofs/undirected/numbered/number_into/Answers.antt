@@ -1,7 +1,8 @@
-use Rattle.std.proofs.Common.{◌≡◌, [], ◌∷◌, ◌++◌, sym, subst, ap, take, take_all, ◌∙◌, ◌+◌}
+use Rattle.std.proofs.Common.{◌≡◌, [], ◌∷◌, ◌++◌, refl, sym, subst, ap, take, take_all, ◌∙◌, ◌+◌}
 use Rattle.std.specs.Prelude.{map}
 use Rattle.std.proofs.lemmas.List.{map-append, take_more}
-use Rattle.pf_graph.specs.Internal.NumberedEdges.{IsNumbered}
+use Rattle.std.proofs.lemmas.List.Elements.{All-nil, All-push, All-same}
+use Rattle.pf_graph.specs.Internal.NumberedEdges.{IsNumbered, IsWeighed}
 use Rattle.pf_graph.proofs.NumberLemmas.{IsNumbered-none, IsNumbered-more}
 use Rattle.pf_graph.proofs.undirected.numbered.number_into.Goals as goal
 
@@ -11,6 +12,7 @@ loop-edge-init g c = record {
       let e : c.args.nodes.now.keys ≡ [] = c.requires.none.0 in
       subst (λ ns. IsNumbered g.N.PartialEq.eq ns [] c.args.numbered.now.items) (sym e) (subst (λ xs. IsNumbered g.N.PartialEq.eq [] [] xs) (sym c.requires.none.1) (IsNumbered-none g.N.PartialEq.eq));
   in_order = ap (map (λ e. e.2.edge.now)) c.requires.none.1;
+  weighed = All-same (IsWeighed g.F.Fn c.args.weigh) _ _ c.requires.none.1 (All-nil (IsWeighed g.F.Fn c.args.weigh));
 }
 
 pub loop-edge-preserved : goal.loop-edge-preserved
@@ -27,6 +29,7 @@ loop-edge-preserved g c =
           ∙ map-append (λ e. e.2.edge.now) c.loop-edge.numbered.items _
           ∙ ap (λ xs. xs ++ c.edge-item.result ∷ []) c.loop-edge.invariant.in_order
           ∙ sym (take_more c.args.edges.now c.loop-edge.edge-index c.edge-item.result c.loop-edge-test.true ∙ ap (λ x. take c.loop-edge.edge-index c.args.edges.now ++ x ∷ []) (sym c.edge-item.is));
+      weighed = All-same (IsWeighed g.F.Fn c.args.weigh) _ _ c.in_ok-push.ensures.items (All-push (IsWeighed g.F.Fn c.args.weigh) c.loop-edge.numbered.items _ c.loop-edge.invariant.weighed (record { shown = _; shows = refl; says = record { met = c.in_ok-weight.ensures } }));
     }
 
 pub returns-clause-numbered : goal.returns-clause-numbered

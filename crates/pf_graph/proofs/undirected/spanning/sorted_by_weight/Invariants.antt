@@ -1,6 +1,0 @@
-use Rattle.std.proofs.Common.{take}
-use Rattle.pf_graph.specs.Internal.SpanningSteps.{HoldsCopies}
-use Rattle.pf_graph.proofs.undirected.spanning.sorted_by_weight.Given as goal
-
-abbrev pub invariant-loop-edge : goal.invariant-loop-edge
-invariant-loop-edge g l = HoldsCopies g.C.Clone.is_clone (take l.edge-index l.edges) l.sorted.items

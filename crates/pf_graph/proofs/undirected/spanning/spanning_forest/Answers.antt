@@ -1,0 +1,24 @@
+use Rattle.std.proofs.Common.{◌<◌, ◌∙◌, sym, ap, subst, rules, length}
+use Rattle.std.specs.Ordering.{is_lt}
+use Rattle.std.proofs.lemmas.List.Sorted.{All-permutation, Contains-permutation, IsPermutation-sym, ranks_by, answers_always}
+use Rattle.pf_graph.specs.Spanning.{AreBelow}
+use Rattle.pf_graph.proofs.CopyLemmas.{least_of_permutation}
+use Rattle.pf_graph.proofs.undirected.spanning.spanning_forest.Goals as goal
+
+pub choose_edges-requires-clause-below : goal.choose_edges-requires-clause-below
+choose_edges-requires-clause-below g c =
+    let len = ap length c.deref_mut.ensures.value ∙ c.in_ok-vertices.ensures.len in
+    subst (λ n. AreBelow n c.sort_unstable_by.new.self.items) (sym len)
+    (All-permutation (λ e. (e.0 < c.args.number_of_nodes) × (e.1 < c.args.number_of_nodes)) c.args.edges.items c.sort_unstable_by.new.self.items c.sort_unstable_by.ensures.permutation c.requires.below)
+
+pub choose_edges-requires-clause-sorted : goal.choose_edges-requires-clause-sorted
+choose_edges-requires-clause-sorted g c =
+    c.sort_unstable_by.ensures.sorted (λ e f. is_lt (g.C.Ord.cmp e.2 f.2)) (ranks_by g.met.C.Ord.total (λ e. e.2)) (answers_always _ _ _ (λ f a r f' k. search rules))
+
+pub returns-clause-least : goal.returns-clause-least
+returns-clause-least g c =
+    least_of_permutation c.args.edges.items c.sort_unstable_by.new.self.items c.choose_edges.new.chosen.items c.sort_unstable_by.ensures.permutation c.in_ok-choose_edges.ensures.least
+
+pub returns-clause-given : goal.returns-clause-given
+returns-clause-given g c = λ e h.
+    Contains-permutation c.sort_unstable_by.new.self.items c.args.edges.items e (IsPermutation-sym c.args.edges.items c.sort_unstable_by.new.self.items c.sort_unstable_by.ensures.permutation) (c.in_ok-choose_edges.ensures.given e h)
