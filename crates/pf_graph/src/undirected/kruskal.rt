@@ -84,7 +84,8 @@ where
 /// weight is chosen is open. Weights need an order alone; where they are costs, no forest of the edges
 /// that joins the same nodes weighs less, by the law `least_total_weight`.
 ///
-/// The only error is `OutOfMemory`. All memory is taken here: the iterator takes none.
+/// The weight of every edge is cloned once, and edges are sorted by these clones. The only error is
+/// `OutOfMemory`. All memory is taken here: the iterator takes none.
 pub fn kruskal<'a, N, C, A>(
     alloc: A,
     edges: &'a [(N, N, C)],
