@@ -1,6 +1,5 @@
 mod around;
 mod assignments;
-mod growths;
 mod prim;
 mod refusals;
 mod rows;

@@ -11,7 +11,7 @@ use std::test::Fail;
 
 /// The sets around 1 and 4, where even numbers have the first four even ones next to them, and odd
 /// numbers the first four odd ones, and how often the function was called.
-pub(crate) fn around_two<A>(alloc: A) -> Result<(Vec<SetIn<u32, A>, A>, u64), PathError>
+fn around_two<A>(alloc: A) -> Result<(Vec<SetIn<u32, A>, A>, u64), PathError>
 where
     A: Allocator + Copy,
 {
@@ -47,27 +47,33 @@ where
     )
 }
 
-#[test]
-fn connects_each_start_with_its_answer(rt: HostRuntime) -> Result<(), Fail> {
-    let (sets, calls) = around_two(rt.alloc())?;
-    assert_eq!(rt; calls, 2);
-    assert_eq!(rt; sets.len(), 2);
-    let of = |n: &u32| sets.iter().position(|set| set.contains(n));
-    for n in [3u32, 5, 7] {
-        assert_eq!(rt; of(&n), of(&1));
+/// Whether a set is that of these four numbers.
+fn is_set_of<A: Allocator>(set: &SetIn<u32, A>, numbers: [u32; 4]) -> bool {
+    let mut all = set.len() == 4;
+    for number in &numbers {
+        all = all && set.contains(number);
     }
-    for n in [4u32, 6, 8] {
-        assert_eq!(rt; of(&n), of(&2));
+    all
+}
+
+/// Whether the sets around 1 and 4 are those of the odd and of the even numbers, in either order,
+/// by two calls of the function.
+pub(crate) fn is_around_two<A: Allocator + Copy>(alloc: A) -> Result<bool, PathError> {
+    let (sets, calls) = around_two(alloc)?;
+    if calls != 2 || sets.len() != 2 {
+        return Ok(false);
     }
-    assert!(rt; of(&1).is_some() && of(&2).is_some());
-    assert_eq!(rt; sets[0].len() + sets[1].len(), 8);
-    Ok(())
+    let (odd, even) = if sets[0].contains(&1) {
+        (&sets[0], &sets[1])
+    } else {
+        (&sets[1], &sets[0])
+    };
+    Ok(is_set_of(odd, [1, 3, 5, 7]) && is_set_of(even, [2, 4, 6, 8]))
 }
 
 #[test]
 fn connects_starts_by_a_shared_node(rt: HostRuntime) -> Result<(), Fail> {
     let sets = around_a_shared_node(rt.alloc())?;
-    assert_eq!(rt; sets.len(), 1);
-    assert_eq!(rt; sets[0].len(), 3);
+    assert!(rt; sets.len() == 1 && sets[0].len() == 3);
     Ok(())
 }

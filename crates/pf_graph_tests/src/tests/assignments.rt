@@ -1,10 +1,8 @@
-//! Best assignments: worked values, tables of one's own, one of which counts its reads, and each growth
-//! refused in turn.
+//! Best assignments: worked values, and tables of one's own, one of which counts its reads.
 
 ghost use Rattle.std.specs.Prelude.{◌≤◌, ◌<◌};
 
 use crate::lineup::{Scores, best_lineup};
-use crate::tests::growths::{Outcome, refuse_each_growth};
 use pf_base::PathError;
 use pf_base::utils::Tally;
 use pf_graph::kuhn_munkres::{
@@ -12,35 +10,37 @@ use pf_graph::kuhn_munkres::{
 };
 use pf_matrix::{Matrix, MatrixFormatError, matrix};
 use refusing_allocator::Refusing;
-use std::alloc::{Allocator, Global};
+use std::alloc::Allocator;
 use std::cell::Cell;
 use std::process::Abort;
 use std::test::Fail;
 
-/// The greatest total and the columns, where the table is one that `kuhn_munkres` takes.
-fn greatest<A: Allocator + Copy>(
-    rt: &impl Abort,
-    alloc: A,
-    weights: &Matrix<i32, A>,
-) -> Result<(i32, Vec<usize, A>), PathError> {
-    assert!(rt; weights.rows() <= weights.columns());
-    assert!(rt; weights_fit(weights));
-    kuhn_munkres(alloc, weights)
+/// Which total a search is for.
+#[derive(Clone, Copy)]
+pub(crate) enum Best {
+    /// The greatest, by `kuhn_munkres`.
+    Greatest,
+    /// The least, by `kuhn_munkres_min`.
+    Least,
 }
 
-/// The least total and the columns, where the table is one that `kuhn_munkres_min` takes.
-fn least<A: Allocator + Copy>(
+/// The best total and the columns, where the table is one that both searches take.
+fn assigned<A: Allocator + Copy>(
     rt: &impl Abort,
     alloc: A,
     weights: &Matrix<i32, A>,
+    best: Best,
 ) -> Result<(i32, Vec<usize, A>), PathError> {
     assert!(rt; weights.rows() <= weights.columns());
     assert!(rt; weights_fit(weights));
-    kuhn_munkres_min(alloc, weights)
+    match best {
+        Best::Greatest => kuhn_munkres(alloc, weights),
+        Best::Least => kuhn_munkres_min(alloc, weights),
+    }
 }
 
 #[test]
-fn finds_the_greatest(rt: HostRuntime) -> Result<(), Fail> {
+fn finds_the_best(rt: HostRuntime) -> Result<(), Fail> {
     let alloc = rt.alloc();
     let wide = matrix![in alloc;
         [62, 78, 50, 101, 82],
@@ -49,34 +49,31 @@ fn finds_the_greatest(rt: HostRuntime) -> Result<(), Fail> {
         [48, 64, 87, 77, 80]
     ]?;
     let negative = matrix![in alloc; [-1, -2, -3], [-6, -5, -4], [-1, -1, -1]]?;
-    let cases = [
-        (wide, 376, [3usize, 1, 2, 4].as_slice()),
-        (square(alloc)?, 325, [2, 0, 1].as_slice()),
-        (negative, -6, [0, 2, 1].as_slice()),
-        (Matrix::new_empty(alloc, 0), 0, [].as_slice()),
-    ];
-    for (table, expected, chosen) in &cases {
-        let (total, columns) = greatest(&rt, alloc, table)?;
-        assert_eq!(rt; total, *expected);
-        assert_eq!(rt; columns.as_slice(), *chosen);
-    }
-    Ok(())
-}
-
-#[test]
-fn finds_the_least(rt: HostRuntime) -> Result<(), Fail> {
-    let alloc = rt.alloc();
     let costs = matrix![in alloc;
         [90, 75, 75, 80],
         [35, 85, 55, 65],
         [125, 95, 90, 105],
         [45, 110, 95, 115]
     ]?;
-    let cases = [(costs, 275, 4), (Matrix::new_empty(alloc, 0), 0, 0usize)];
-    for (table, expected, rows) in &cases {
-        let (total, columns) = least(&rt, alloc, table)?;
+    // The columns of the least total of the costs are not the only ones: none are named.
+    let cases = [
+        (
+            Best::Greatest,
+            wide,
+            376,
+            Some([3usize, 1, 2, 4].as_slice()),
+        ),
+        (Best::Greatest, square(alloc)?, 325, Some(&[2, 0, 1])),
+        (Best::Greatest, negative, -6, Some(&[0, 2, 1])),
+        (Best::Greatest, Matrix::new_empty(alloc, 0), 0, Some(&[])),
+        (Best::Least, costs, 275, None),
+        (Best::Least, Matrix::new_empty(alloc, 0), 0, None),
+    ];
+    for (best, table, expected, chosen) in &cases {
+        let (total, columns) = assigned(&rt, alloc, table, *best)?;
         assert_eq!(rt; total, *expected);
-        assert_eq!(rt; columns.len(), *rows);
+        assert_eq!(rt; columns.len(), table.rows());
+        assert!(rt; chosen.is_none() || *chosen == Some(columns.as_slice()));
     }
     Ok(())
 }
@@ -86,14 +83,14 @@ fn weights_fit_up_to_a_sixth(rt: HostRuntime) -> Result<(), Fail> {
     let alloc = rt.alloc();
     for (weight, fits) in [(21i8, true), (-21, true), (22, false), (-128, false)] {
         let table = matrix![in alloc; [weight]]?;
-        assert_eq!(rt; weights_fit(&table), fits);
+        assert!(rt; table.rows() <= table.columns());
+        let as_found = weights_fit(&table);
+        assert_eq!(rt; as_found, fits, "{weight}");
+        if as_found {
+            let (total, columns) = kuhn_munkres(alloc, &table)?;
+            assert!(rt; total == weight && columns.as_slice() == [0usize].as_slice());
+        }
     }
-    let lowest = matrix![in alloc; [-21i8]]?;
-    assert!(rt; lowest.rows() <= lowest.columns());
-    assert!(rt; weights_fit(&lowest));
-    let (total, columns) = kuhn_munkres(alloc, &lowest)?;
-    assert_eq!(rt; total, -21);
-    assert_eq!(rt; columns.as_slice(), [0usize].as_slice());
     Ok(())
 }
 
@@ -190,11 +187,9 @@ fn assigns_a_table_of_ones_own(rt: HostRuntime) -> Result<(), Fail> {
     };
     assert!(rt; weights_fit(&small));
     let (total, columns) = kuhn_munkres(alloc, &small)?;
-    assert_eq!(rt; total, 5);
-    assert_eq!(rt; columns.as_slice(), [0usize, 1, 2].as_slice());
+    assert!(rt; total == 5 && columns.as_slice() == [0usize, 1, 2].as_slice());
     let (total, columns) = kuhn_munkres_min(alloc, &small)?;
-    assert_eq!(rt; total, 1);
-    assert_eq!(rt; columns.as_slice(), [2usize, 1, 0].as_slice());
+    assert!(rt; total == 1 && columns.as_slice() == [2usize, 1, 0].as_slice());
     Ok(())
 }
 
@@ -244,43 +239,20 @@ fn square<A: Allocator + Copy>(alloc: A) -> Result<Matrix<i32, A>, MatrixFormatE
     matrix![in alloc; [100, 110, 90], [95, 130, 75], [95, 140, 65]]
 }
 
-/// How a search for a total of these columns ended.
-fn outcome_of<A: Allocator>(
-    answer: Result<(i32, Vec<usize, A>), PathError>,
+/// Whether a search over the square table, made of the same memory, finds this total.
+pub(crate) fn is_assigned<A: Allocator + Copy>(
+    rt: &impl Abort,
+    alloc: A,
+    best: Best,
     expected: i32,
-) -> Outcome {
-    match answer {
-        Ok((total, columns)) if total == expected && columns.len() == 3 => Outcome::Answered,
-        Err(PathError::OutOfMemory) => Outcome::OutOfMemory,
-        _ => Outcome::Wrong,
-    }
-}
-
-/// How the making of a table and a search for its greatest total ended.
-fn greatest_outcome<A: Allocator + Copy>(rt: &impl Abort, alloc: A) -> Outcome {
-    match square(alloc) {
-        Ok(table) => outcome_of(greatest(rt, alloc, &table), 325),
-        Err(MatrixFormatError::OutOfMemory) => Outcome::OutOfMemory,
-        Err(_) => Outcome::Wrong,
-    }
-}
-
-/// How the making of a table and a search for its least total ended.
-fn least_outcome<A: Allocator + Copy>(rt: &impl Abort, alloc: A) -> Outcome {
-    match square(alloc) {
-        Ok(table) => outcome_of(least(rt, alloc, &table), 270),
-        Err(MatrixFormatError::OutOfMemory) => Outcome::OutOfMemory,
-        Err(_) => Outcome::Wrong,
-    }
-}
-
-#[test]
-fn refuses_each_growth(rt: HostRuntime) -> Result<(), Fail> {
-    let growths = refuse_each_growth(&rt, rt.alloc(), |heap| greatest_outcome(&rt, heap));
-    assert!(rt; growths > 10, "{growths}");
-    let growths = refuse_each_growth(&rt, rt.alloc(), |heap| least_outcome(&rt, heap));
-    assert!(rt; growths > 11, "{growths}");
-    Ok(())
+) -> Result<bool, PathError> {
+    let table = match square(alloc) {
+        Ok(table) => table,
+        Err(MatrixFormatError::OutOfMemory) => return Err(PathError::OutOfMemory),
+        Err(_) => return Ok(false),
+    };
+    let (total, columns) = assigned(rt, alloc, &table, best)?;
+    Ok(total == expected && columns.len() == 3)
 }
 
 #[test]

@@ -1,11 +1,8 @@
 //! Worked examples of components and spanning edges.
 
 use pf_base::PathError;
-use pf_graph::undirected::connected_components::{
-    ConnectedComponents, MapIn, component_index, components, separate_components,
-};
+use pf_graph::undirected::connected_components::{ConnectedComponents, component_index};
 use pf_graph::undirected::kruskal::{kruskal, kruskal_indices, spanning_weight};
-use std::alloc::Global;
 use std::collections::HashSet;
 use std::test::Fail;
 
@@ -72,56 +69,6 @@ fn adds_weights_of_either_sign(rt: HostRuntime) -> Result<(), Fail> {
     Ok(())
 }
 
-fn id_of(of_vertex: &MapIn<&u32, usize, Global>, vertex: &u32) -> Option<usize> {
-    of_vertex.get(&vertex).copied()
-}
-
-#[test]
-fn separates_groups(rt: HostRuntime) -> Result<(), Fail> {
-    let alloc = rt.alloc();
-    let groups = [
-        vec![in alloc; 1u32, 2]?,
-        vec![in alloc; 3, 4]?,
-        Vec::new(alloc),
-        vec![in alloc; 1, 4]?,
-    ];
-    let (of_vertex, ids) = separate_components(alloc, &groups)?;
-    assert_eq!(rt; ids.len(), 4);
-    assert!(rt; ids[0] < 4);
-    assert_eq!(rt; ids[1], ids[0]);
-    assert_eq!(rt; ids[2], usize::MAX);
-    assert_eq!(rt; ids[3], ids[0]);
-    assert_eq!(rt; of_vertex.len(), 4);
-    let vertices = [1u32, 2, 3, 4];
-    for vertex in &vertices {
-        assert_eq!(rt; id_of(&of_vertex, vertex), Some(ids[0]));
-    }
-    Ok(())
-}
-
-#[test]
-fn collects_the_parts_of_groups(rt: HostRuntime) -> Result<(), Fail> {
-    let alloc = rt.alloc();
-    let groups = [
-        vec![in alloc; 1u32, 2]?,
-        vec![in alloc; 3, 4]?,
-        Vec::new(alloc),
-        vec![in alloc; 1, 4]?,
-        vec![in alloc; 5, 5]?,
-    ];
-    let sets = components(alloc, &groups)?;
-    assert_eq!(rt; sets.len(), 2);
-    let of_node = component_index(alloc, &sets)?;
-    assert_eq!(rt; of_node.len(), 5);
-    assert_eq!(rt; sets[0].len() + sets[1].len(), 5);
-    let vertices = [1u32, 2, 3, 4];
-    for vertex in &vertices {
-        assert_eq!(rt; of_node.get(vertex), of_node.get(&1));
-    }
-    assert_ne!(rt; of_node.get(&5), of_node.get(&1));
-    Ok(())
-}
-
 #[test]
 fn names_the_last_set_of_a_node(rt: HostRuntime) -> Result<(), Fail> {
     let alloc = rt.alloc();
@@ -133,9 +80,9 @@ fn names_the_last_set_of_a_node(rt: HostRuntime) -> Result<(), Fail> {
     other.insert(3)?;
     let of_node = component_index(alloc, &[one, other])?;
     assert_eq!(rt; of_node.len(), 3);
-    assert_eq!(rt; of_node.get(&1), Some(&0));
-    assert_eq!(rt; of_node.get(&2), Some(&1));
-    assert_eq!(rt; of_node.get(&3), Some(&1));
+    for (node, set) in [(1u32, 0usize), (2, 1), (3, 1)] {
+        assert_eq!(rt; of_node.get(&node), Some(&set));
+    }
     Ok(())
 }
 
