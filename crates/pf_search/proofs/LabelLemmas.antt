@@ -16,9 +16,6 @@ HasLabel-inside labels k l h = slice_get_within labels k (Some l) h
 pub label_is : {C : Type 0} (labels : Labels C) (k : ℕ) (l m : Label C) → HasLabel labels k l → HasLabel labels k m → l ≡ m
 label_is labels k l m h g = let e : Some (Some l) ≡ Some (Some m) = sym h ∙ g in cc
 
-pub none_has_none : {C : Type 0} (labels : Labels C) (n : ℕ) → slice_get labels n ≡ Some None → (m : Label C) → ¬ (HasLabel labels n m)
-none_has_none labels n h m k = let e : Some None ≡ Some (Some m) = sym h ∙ k in cc
-
 -- what holds of the label of a number holds of each label that it has
 pub of_label : {C : Type 0} (P : Label C → Type 0) (labels : Labels C) (k : ℕ) (l : Label C) → HasLabel labels k l → P l → (m : Label C) → HasLabel labels k m → P m
 of_label P labels k l h p m g = subst P (label_is labels k l m h g) p
@@ -169,14 +166,6 @@ module _ {C : Type 0} (measure : C → ℕ → ℤ) where
       least = least;
       count = count_by-set_more is_settled labels k (Some done) (Some l) at opened refl;
     }
-
-module _ {C : Type 0} (value : C → ℤ) (fits : ℤ → Type 0) (labels : Labels C) (row : List (ℕ × C)) (i : ℕ) (item : ℕ × C) (is : item ≡ get_or row i item) where
-  pub covers_more : ((j : ℕ) (c : C) → Contains (take i row) (j, c) → (m : Label C) × HasLabel labels j m × fits (value m.cost)) → (l : Label C) → HasLabel labels item.0 l → fits (value l.cost)
-      → (j : ℕ) (c : C) → Contains (take (i + 1) row) (j, c) → (m : Label C) × HasLabel labels j m × fits (value m.cost)
-  covers_more before l h f j c k = elim (Contains-take_more row i item (j, c) k) as (λ _. (m : Label C) × HasLabel labels j m × fits (value m.cost)) [
-    | inl b ↦ before j c b
-    | inr e ↦ (l, subst (λ (x : ℕ × C). HasLabel labels x.0 l) (is ∙ e) h, f)
-  ]
 
 module _ {C : Type 0} where
   -- entries of nothing add no label

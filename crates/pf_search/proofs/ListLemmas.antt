@@ -1,6 +1,6 @@
 -- Lemmas on lists and whole numbers.
 use Rattle.std.proofs.Common.{ℕ, zero, suc, ◌+◌, ◌<◌, ◌≤◌, ◌≡◌, ◌≢◌, refl, sym, ◌∙◌, ap, subst, arith, Bool, true, false, List, [], ◌∷◌, ◌++◌, length, get_or, take, take_all, cond, ◌||◌, add-one, inl, inr, ℤ, Some, true≢false}
-use Rattle.std.specs.Prelude.{slice_get, slice_set, Contains, Result, Ok, Err, OnOk, OnErr, IfErr, MatchBool, count_by, reverse, ◌≤ℤ◌, ◌<ℤ◌, ◌⊎◌}
+use Rattle.std.specs.Prelude.{slice_get, slice_set, Contains, Result, Ok, Err, OnOk, OnErr, MatchBool, count_by, reverse, ◌≤ℤ◌, ◌<ℤ◌, ◌⊎◌}
 use Rattle.std.specs.Ordering.{int_cmp, is_lt, MatchOrdering}
 use Rattle.std.specs.Cmp.{int_ranks}
 use Rattle.std.specs.declared.cmp.Ordering.{Ordering}
@@ -62,10 +62,6 @@ on_ok (Err e) h f = tt
 pub ok_or_err : {A E P Q : Type 0} (r : Result A E) → OnOk r P → OnErr r Q → P ⊎ Q
 ok_or_err (Ok x) p q = inl p
 ok_or_err (Err e) p q = inr q
-
-pub both_err : {A E Q S : Type 0} (P : E → Type 0) (r : Result A E) → IfErr r P → OnErr r Q → (Q → S) → IfErr r (λ e. P e × S)
-both_err P (Ok x) p q f = tt
-both_err P (Err e) p q f = (p, f q)
 
 -- the element at i after a write at n
 pub get_set : {A : Type 0} (xs : List A) (n i : ℕ) (v : A) → n < length xs → ((i ≡ n) × (slice_get (slice_set xs n v) i ≡ Some v)) ⊎ ((i ≢ n) × (slice_get (slice_set xs n v) i ≡ slice_get xs i))

@@ -48,9 +48,6 @@ module _ {C : Type 0} (value : C → ℤ) where
     rest_in : (f : Reverse (C × ℕ)) → Contains entries' f → Contains entries f
     rest_in f h = Contains-permutation (e ∷ entries') entries f (IsPermutation-sym _ _ p) (Contains-tail entries' e f h)
 
-    was_in : Contains entries e
-    was_in = Contains-permutation (e ∷ entries') entries e (IsPermutation-sym _ _ p) (Contains-head entries' e)
-
     -- of a number that has no open label
     pub IsQueue-skip : ((l : Label C) → HasLabel labels e.0.1 l → l.settled ≡ true) → IsQueue value labels entries'
     IsQueue-skip stale = record {

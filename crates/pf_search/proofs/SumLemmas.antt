@@ -198,9 +198,6 @@ module _ {C : Type 0} (value : C → ℤ) (fits : ℤ → Type 0) (labels : Labe
     whole : take i row ≡ row
     whole = take_all i row all
 
-    pub looked_none : last ≡ None → (j : ℕ) (c : C) → Contains row (j, c) → Reached value fits labels row t j
-    looked_none l j c h = absurd (omega (arith, h.1, all, k.nothing l))
-
     pub looked_all : (e : End) → last ≡ Some e → MatchBool e.is_reached ((j : ℕ) (c : C) → Contains row (j, c) → IsReached value fits labels row t j)
         ((j : ℕ) × (c : C) × Contains row (j, c) × ((m : Label C) → ¬ (HasLabel labels j m)) × ((d : C) → Contains row (j, d) → ¬ (fits (t +ℤ value d))))
     looked_all e l = by e.is_reached refl
