@@ -3,14 +3,14 @@ use Rattle.std.proofs.Common.{◌≡◌, ℤ, Bool, List, [], ◌∷◌, map, Op
 use Rattle.std.specs.Prelude.{MatchOption}
 use Rattle.pf_base.specs.Walks.{HasNode, Follows, IsGoalWalk, HasNoGoalWalk, IsReachable}
 use Rattle.pf_base.specs.Edges.{HasEdge, IsSuccessor, InReach}
-use Rattle.pf_base.specs.Successors.{Precedes, IsShortestGoalPath}
+use Rattle.pf_base.specs.Successors.{HasSuccessor, IsFewestEdgesGoalPath}
 
 abbrev pub targets_of : {N : Type 0} → List (N × ℤ) → List N
 targets_of {N} es = map (λ (e : N × ℤ). e.0) es
 
 module _ {N : Type 0} (eq : N → N → Bool) (edges : N → List (N × ℤ)) where
   abbrev pub Leads : N → N → Type 0
-  Leads = Precedes eq (λ x. targets_of (edges x))
+  Leads = HasSuccessor eq (λ x. targets_of (edges x))
 
   edge_to : (es : List (N × ℤ)) (b : N) → HasNode eq (targets_of es) b → (z : ℤ) × HasEdge eq es b z
   edge_to [] b h = absurd h
@@ -46,7 +46,7 @@ module _ {N : Type 0} (eq : N → N → Bool) (edges : N → List (N × ℤ)) wh
 
   -- a search without costs answers that there is no walk with them
   pub answer_costed : {V : Type 0} (items : V → List N) (begins starts : List N) (test : N → Bool) (o : Option V) → begins ≡ starts
-      → MatchOption o (HasNoGoalWalk eq Leads begins test) (λ v. IsShortestGoalPath eq (λ x. targets_of (edges x)) begins test (items v))
-      → MatchOption o (HasNoGoalWalk eq (IsSuccessor eq edges) starts test) (λ v. IsShortestGoalPath eq (λ x. targets_of (edges x)) starts test (items v))
+      → MatchOption o (HasNoGoalWalk eq Leads begins test) (λ v. IsFewestEdgesGoalPath eq (λ x. targets_of (edges x)) begins test (items v))
+      → MatchOption o (HasNoGoalWalk eq (IsSuccessor eq edges) starts test) (λ v. IsFewestEdgesGoalPath eq (λ x. targets_of (edges x)) starts test (items v))
   answer_costed items begins starts test None e h = λ walk g. h walk (goal_costless begins test walk (subst (λ ss. IsGoalWalk eq (IsSuccessor eq edges) ss test walk) (sym e) g))
-  answer_costed items begins starts test (Some v) e h = subst (λ ss. IsShortestGoalPath eq (λ x. targets_of (edges x)) ss test (items v)) e h
+  answer_costed items begins starts test (Some v) e h = subst (λ ss. IsFewestEdgesGoalPath eq (λ x. targets_of (edges x)) ss test (items v)) e h

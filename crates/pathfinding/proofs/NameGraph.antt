@@ -10,15 +10,15 @@ use Rattle.std.proofs.lemmas.Map.Keys.{IsDistinct-head, IsDistinct-tail}
 use Rattle.std.proofs.lemmas.Bool.Decides.{nat_tests}
 use borrow.Author.Tests.{eqb-true}
 use Rattle.pathfinding.specs.EdgeText.{Edge}
-use Rattle.pathfinding.specs.Roads.{edges_from, HasNoWalk, IsCheapestPath, HasCostOverflow, IsShortestPath}
+use Rattle.pathfinding.specs.Roads.{edges_from, HasNoWalk, IsCheapestPath, HasCostOverflow, IsFewestEdgesPath}
 use Rattle.pathfinding.specs.Internal.Links.{name_at, edge_between, edges_between, AllBelow, links_from, steps_from}
 use Rattle.pathfinding.specs.Internal.Numbers.{edges_of}
 use Rattle.pathfinding.specs.declared.routes.links.Link.{Link}
 use Rattle.pf_base.specs.Walks.{HasNoGoalWalk, IsGoalWalk}
-use Rattle.pf_base.specs.Edges.{IsSuccessor, IsBestGoalPath, IsPastRange}
-use Rattle.pf_base.specs.Successors.{IsShortestGoalPath}
+use Rattle.pf_base.specs.Edges.{IsSuccessor, IsCheapestGoalPath, IsPastRange}
+use Rattle.pf_base.specs.Successors.{IsFewestEdgesGoalPath}
 use Rattle.pathfinding.proofs.Costless.{targets_of}
-use Rattle.pathfinding.proofs.Naming.{AllNodes, AllTargets, goal_known, IsNaming, none_named, best_named, shortest_named, past_named}
+use Rattle.pathfinding.proofs.Naming.{AllNodes, AllTargets, goal_known, IsNaming, none_named, best_named, fewest_named, past_named}
 use Rattle.pathfinding.proofs.Numbering.{below-tail}
 
 abbrev same_key : Bor (List ℕ) → Bor (List ℕ) → Bool
@@ -124,13 +124,13 @@ module _ (keys : List (Bor (List ℕ))) (distinct : IsDistinct same_key keys) (l
     pub no_walk : HasNoGoalWalk nat_eq (IsSuccessor nat_eq numbered) (start ∷ []) (λ n. n == goal) → HasNoWalk (edges_between keys links) from to
     no_walk h = subst (λ f. HasNoWalk (edges_between keys links) f to) from_is (none_named _ _ _ _ _ _ naming start within (λ n. n == goal) (λ name. bytes_eq name to) tests h)
 
-    pub cheapest : (path : List ℕ) (cost : ℕ) → IsBestGoalPath nat_eq numbered (start ∷ []) (λ n. n == goal) path (pos cost) → IsCheapestPath (edges_between keys links) from to (map (name_at keys) path) cost
+    pub cheapest : (path : List ℕ) (cost : ℕ) → IsCheapestGoalPath nat_eq numbered (start ∷ []) (λ n. n == goal) path (pos cost) → IsCheapestPath (edges_between keys links) from to (map (name_at keys) path) cost
     cheapest path cost h =
         subst (λ f. IsCheapestPath (edges_between keys links) f to (map (name_at keys) path) cost) from_is (best_named _ _ _ _ _ _ naming start within (λ n. n == goal) (λ name. bytes_eq name to) tests path (pos cost) h)
 
-    pub shortest : (path : List ℕ) → IsShortestGoalPath nat_eq (λ n. targets_of (numbered n)) (start ∷ []) (λ n. n == goal) path → IsShortestPath (edges_between keys links) from to (map (name_at keys) path)
-    shortest path h =
-        subst (λ f. IsShortestPath (edges_between keys links) f to (map (name_at keys) path)) from_is (shortest_named _ _ _ _ _ _ naming start within (λ n. n == goal) (λ name. bytes_eq name to) tests path h)
+    pub fewest : (path : List ℕ) → IsFewestEdgesGoalPath nat_eq (λ n. targets_of (numbered n)) (start ∷ []) (λ n. n == goal) path → IsFewestEdgesPath (edges_between keys links) from to (map (name_at keys) path)
+    fewest path h =
+        subst (λ f. IsFewestEdgesPath (edges_between keys links) f to (map (name_at keys) path)) from_is (fewest_named _ _ _ _ _ _ naming start within (λ n. n == goal) (λ name. bytes_eq name to) tests path h)
 
     pub overflow : IsPastRange nat_eq numbered (start ∷ []) (λ n. n == goal) (FitsUnsignedBits 64) → HasCostOverflow (edges_between keys links) from to
     overflow h = subst (λ f. HasCostOverflow (edges_between keys links) f to) from_is (past_named _ _ _ _ _ _ naming start within (λ n. n == goal) (λ name. bytes_eq name to) tests (FitsUnsignedBits 64) h)

@@ -3,8 +3,8 @@ use Rattle.std.proofs.Common.{◌≡◌, ℤ, Bool, true, List, [], ◌∷◌, m
 use Rattle.std.proofs.lemmas.List.{length-map}
 use Rattle.std.specs.Prelude.{⊤}
 use Rattle.pf_base.specs.Walks.{HasNode, NoRepeats, end_of, Follows, IsGoalWalk, HasNoGoalWalk}
-use Rattle.pf_base.specs.Edges.{HasEdge, IsSuccessor, StepCosts, StepsCost, WalkCosts, NoGoalWalkCostsLess, IsBestGoalPath, IsPastRange}
-use Rattle.pf_base.specs.Successors.{IsShortestGoalPath}
+use Rattle.pf_base.specs.Edges.{HasEdge, IsSuccessor, StepCosts, StepsCost, WalkCosts, NoGoalWalkCostsLess, IsCheapestGoalPath, IsPastRange}
+use Rattle.pf_base.specs.Successors.{IsFewestEdgesGoalPath}
 use Rattle.pathfinding.proofs.Costless.{targets_of, goal_costed, goal_costless}
 
 -- each of some nodes is known
@@ -196,7 +196,7 @@ module _ {M N : Type 0} (eqM : M → M → Bool) (eqN : N → N → Bool) (name 
           least l.nodes u l.goal (costs_out l.nodes u l.all (subst (λ v. WalkCosts eqN edgesN v u) (sym l.names) c))
 
       -- the names of a best path are one
-      pub best_named : (path : List M) (t : ℤ) → IsBestGoalPath eqM edgesM (start ∷ []) testM path t → IsBestGoalPath eqN edgesN (name start ∷ []) testN (map name path) t
+      pub best_named : (path : List M) (t : ℤ) → IsCheapestGoalPath eqM edgesM (start ∷ []) testM path t → IsCheapestGoalPath eqN edgesN (name start ∷ []) testN (map name path) t
       best_named path t b =
           let all = goal_known path b.goes.goes in
           record {
@@ -206,14 +206,14 @@ module _ {M N : Type 0} (eqM : M → M → Bool) (eqN : N → N → Bool) (name 
           }
 
       -- the names of a path with fewest edges are one
-      pub shortest_named : (path : List M) → IsShortestGoalPath eqM (λ a. targets_of (edgesM a)) (start ∷ []) testM path → IsShortestGoalPath eqN (λ x. targets_of (edgesN x)) (name start ∷ []) testN (map name path)
-      shortest_named path s =
+      pub fewest_named : (path : List M) → IsFewestEdgesGoalPath eqM (λ a. targets_of (edgesM a)) (start ∷ []) testM path → IsFewestEdgesGoalPath eqN (λ x. targets_of (edgesN x)) (name start ∷ []) testN (map name path)
+      fewest_named path s =
           let goal = goal_costed eqM edgesM (start ∷ []) testM path s.goes.goes in
           record {
             goes = record { goes = goal_costless eqN edgesN (name start ∷ []) testN (map name path) (goal_in path goal); distinct = repeats_in path (goal_known path goal) s.goes.distinct };
-            shortest = λ walk g.
+            fewest = λ walk g.
                 let l = goal_lifted walk (goal_costed eqN edgesN (name start ∷ []) testN walk g) in
-                let least = s.shortest l.nodes (goal_costless eqM edgesM (start ∷ []) testM l.nodes l.goal) in
+                let least = s.fewest l.nodes (goal_costless eqM edgesM (start ∷ []) testM l.nodes l.goal) in
                 omega (arith, least, length-map path name, length-map l.nodes name, ap length l.names);
           }
 

@@ -2,16 +2,16 @@
 use Rattle.std.proofs.Common.{◌≡◌, ℕ, zero, suc, ◌<◌, ◌==◌, nat_eq, List, [], ◌∷◌, map, length, refl, sym, arith, subst}
 use Rattle.std.specs.Prelude.{All}
 use Rattle.pathfinding.specs.EdgeText.{Edge}
-use Rattle.pathfinding.specs.Roads.{HasNoWalk, IsCheapestPath, HasCostOverflow, IsShortestPath}
+use Rattle.pathfinding.specs.Roads.{HasNoWalk, IsCheapestPath, HasCostOverflow, IsFewestEdgesPath}
 use Rattle.pathfinding.specs.Internal.Graph.{row_of, node_count}
 use Rattle.pathfinding.specs.Internal.Links.{name_at}
 use Rattle.pathfinding.specs.Internal.NameTable.{name_in, table_len}
-use Rattle.pathfinding.specs.Internal.Numbers.{numbered_edges, HasNoNumberedWalk, IsCheapestNumberedPath, HasNumberedOverflow, IsShortestNumberedPath}
+use Rattle.pathfinding.specs.Internal.Numbers.{numbered_edges, HasNoNumberedWalk, IsCheapestNumberedPath, HasNumberedOverflow, IsFewestEdgesNumberedPath}
 use Rattle.pathfinding.specs.Internal.Network.{StandsFor}
 use Rattle.pathfinding.specs.declared.routes.network.Network.{Network}
 use Rattle.pathfinding.proofs.Costless.{goal_costed}
 use Rattle.pathfinding.proofs.Naming.{AllNodes}
-use Rattle.pathfinding.proofs.NameGraph.{targets-below, no_walk, cheapest, shortest, overflow, path-known}
+use Rattle.pathfinding.proofs.NameGraph.{targets-below, no_walk, cheapest, fewest, overflow, path-known}
 
 all_of : (count : ℕ) (xs : List ℕ) → AllNodes (λ n. n < count) xs → All (λ n. n < count) xs
 all_of count [] all k d lt = absurd (omega (arith, lt))
@@ -33,9 +33,9 @@ module _ {A : Type 0} (network : Network A) (edges : List Edge) (from to : List 
   is_cheapest path cost h = subst (λ es. IsCheapestPath es from to (map (name_at s.names) path) cost) (sym s.spelled)
       (cheapest s.names s.distinct s.links s.below (row_of network.graph) s.rows from to network.from network.to s.from_within s.to_within s.from_named s.to_named path cost h)
 
-  pub is_shortest : (path : List ℕ) → IsShortestNumberedPath network.graph network.from network.to path → IsShortestPath edges from to (map (name_at s.names) path)
-  is_shortest path h = subst (λ es. IsShortestPath es from to (map (name_at s.names) path)) (sym s.spelled)
-      (shortest s.names s.distinct s.links s.below (row_of network.graph) s.rows from to network.from network.to s.from_within s.to_within s.from_named s.to_named path h)
+  pub is_fewest : (path : List ℕ) → IsFewestEdgesNumberedPath network.graph network.from network.to path → IsFewestEdgesPath edges from to (map (name_at s.names) path)
+  is_fewest path h = subst (λ es. IsFewestEdgesPath es from to (map (name_at s.names) path)) (sym s.spelled)
+      (fewest s.names s.distinct s.links s.below (row_of network.graph) s.rows from to network.from network.to s.from_within s.to_within s.from_named s.to_named path h)
 
   pub has_overflow : HasNumberedOverflow network.graph network.from network.to → HasCostOverflow edges from to
   has_overflow h = subst (λ es. HasCostOverflow es from to) (sym s.spelled)
@@ -46,15 +46,15 @@ module _ {A : Type 0} (network : Network A) (edges : List Edge) (from to : List 
   path-below path cost h = all_of (length s.names) path
       (path-known s.names s.distinct s.links s.below (row_of network.graph) s.rows from to network.from network.to s.from_within s.to_within s.from_named s.to_named path h.goes.goes)
 
-  pub shortest-below : (path : List ℕ) → IsShortestNumberedPath network.graph network.from network.to path → All (λ n. n < length s.names) path
-  shortest-below path h =
+  pub fewest-below : (path : List ℕ) → IsFewestEdgesNumberedPath network.graph network.from network.to path → All (λ n. n < length s.names) path
+  fewest-below path h =
       let goal = goal_costed nat_eq (numbered_edges network.graph network.from network.to) (network.from ∷ []) (λ n. n == network.to) path h.goes.goes in
       all_of (length s.names) path (path-known s.names s.distinct s.links s.below (row_of network.graph) s.rows from to network.from network.to s.from_within s.to_within s.from_named s.to_named path goal)
 
   -- a path has a node
-  pub shortest-some : (path : List ℕ) → IsShortestNumberedPath network.graph network.from network.to path → 0 < length path
-  shortest-some [] h = absurd h.goes.goes.walks
-  shortest-some (n ∷ path) h = omega arith
+  pub fewest-some : (path : List ℕ) → IsFewestEdgesNumberedPath network.graph network.from network.to path → 0 < length path
+  fewest-some [] h = absurd h.goes.goes.walks
+  fewest-some (n ∷ path) h = omega arith
 
   -- the names of a path are those that the table has
   pub path_named : (path : List ℕ) → All (λ n. n < length s.names) path → map (name_in network.names) path ≡ map (name_at s.names) path

@@ -4,7 +4,7 @@ use Rattle.std.specs.List.{flat_map}
 use Rattle.std.specs.Fmt.{decimal}
 use Rattle.pathfinding.specs.EdgeText.{Edge}
 use Rattle.pathfinding.specs.SpanningText.{AreSpanningLines}
-use Rattle.pathfinding.specs.Roads.{HasNoWalk, IsCheapestPath, HasCostOverflow, IsShortestPath}
+use Rattle.pathfinding.specs.Roads.{HasNoWalk, IsCheapestPath, HasCostOverflow, IsFewestEdgesPath}
 use Rattle.pathfinding.specs.declared.routes.commands.Command.{Command}
 use Rattle.pathfinding.specs.declared.routes.commands.Command.TheVariants.{Dijkstra, Bfs, Kruskal}
 
@@ -31,7 +31,7 @@ IsPathAnswer edges from to text = (HasNoWalk edges from to × (text ≡ none_lin
 pub record IsFewestEdgesLine (edges : List Edge) (from to text : List ℕ) : Type 0 where
   pub path : List (List ℕ)
   pub edge_count : ℕ
-  pub shortest : IsShortestPath edges from to path
+  pub fewest : IsFewestEdgesPath edges from to path
   pub counted : length path ≡ edge_count + 1
   pub written : text ≡ path_line edge_count path
 

@@ -2,8 +2,8 @@
 use Rattle.std.specs.Prelude.{ℕ, ℤ, pos, List, ◌∷◌, [], filter, map}
 use Rattle.std.specs.Str.{bytes_eq}
 use Rattle.pf_base.specs.Walks.{HasNoGoalWalk}
-use Rattle.pf_base.specs.Edges.{IsSuccessor, IsBestGoalPath, IsPastRange}
-use Rattle.pf_base.specs.Successors.{IsShortestGoalPath}
+use Rattle.pf_base.specs.Edges.{IsSuccessor, IsCheapestGoalPath, IsPastRange}
+use Rattle.pf_base.specs.Successors.{IsFewestEdgesGoalPath}
 use Rattle.std.specs.Int.{FitsUnsignedBits}
 use Rattle.pathfinding.specs.EdgeText.{Edge}
 
@@ -22,12 +22,12 @@ module _ (edges : List Edge) (from to : List ℕ) where
 
   -- a path from one name to the other that costs this, and no walk costs less
   abbrev pub IsCheapestPath : List (List ℕ) → ℕ → Type 0
-  IsCheapestPath path cost = IsBestGoalPath bytes_eq (edges_from edges) (from ∷ []) (λ name. bytes_eq name to) path (pos cost)
+  IsCheapestPath path cost = IsCheapestGoalPath bytes_eq (edges_from edges) (from ∷ []) (λ name. bytes_eq name to) path (pos cost)
 
   -- a cheapest path and one step more cost 2^64 or more, and no walk from one name to the other is cheaper than that path
   abbrev pub HasCostOverflow : Type 0
   HasCostOverflow = IsPastRange bytes_eq (edges_from edges) (from ∷ []) (λ name. bytes_eq name to) (FitsUnsignedBits 64)
 
   -- a path from one name to the other, and no walk has fewer edges
-  abbrev pub IsShortestPath : List (List ℕ) → Type 0
-  IsShortestPath path = IsShortestGoalPath bytes_eq (targets_from edges) (from ∷ []) (λ name. bytes_eq name to) path
+  abbrev pub IsFewestEdgesPath : List (List ℕ) → Type 0
+  IsFewestEdgesPath path = IsFewestEdgesGoalPath bytes_eq (targets_from edges) (from ∷ []) (λ name. bytes_eq name to) path

@@ -5,18 +5,18 @@ use Rattle.std.specs.Option.{option_map_or}
 use Rattle.std.proofs.Math.IntN.{suc_ℤ-*ℤ, *ℤ-zero, pos-*ℤ-pos, pos-*ℤ-negsuc}
 use Rattle.std.proofs.lemmas.Int.{ints}
 use Rattle.std.proofs.lemmas.Bool.Decides.{nat_tests}
-use Rattle.pf_base.specs.Moves.{Finds, IsStep, IsInside, IsMove, times, below_size, pair_of, is_zero, is_inside, target_of, first_of_ray, room, ray}
+use Rattle.pf_base.specs.Moves.{Finds, IsCoordinateStep, IsInside, IsMove, times, below_size, pair_of, is_zero, is_inside, target_of, first_of_ray, room, ray}
 
 -- ---- one move
 
-below_size-finds : (from : ℕ) (step : ℤ) (size : ℕ) → Finds (IsStep from step size) (below_size (pos from +ℤ step) size)
+below_size-finds : (from : ℕ) (step : ℤ) (size : ℕ) → Finds (IsCoordinateStep from step size) (below_size (pos from +ℤ step) size)
 below_size-finds from step size = case (pos from +ℤ step) refl
   where
-    test : (n : ℕ) → pos n ≡ pos from +ℤ step → (t : Bool) → nat_lt n size ≡ t → Finds (IsStep from step size) (cond t (Some n) None)
+    test : (n : ℕ) → pos n ≡ pos from +ℤ step → (t : Bool) → nat_lt n size ≡ t → Finds (IsCoordinateStep from step size) (cond t (Some n) None)
     test n e true l = record { sum = e; inside = grind (arith, nat_tests) }
     test n e false l = λ to s. let h : pos n ≡ pos to = e ∙ sym s.sum in let i = s.inside in grind (arith, ints, nat_tests)
 
-    case : (z : ℤ) → z ≡ pos from +ℤ step → Finds (IsStep from step size) (below_size z size)
+    case : (z : ℤ) → z ≡ pos from +ℤ step → Finds (IsCoordinateStep from step size) (below_size z size)
     case (negsuc n) e = λ to s. let h : negsuc n ≡ pos to = e ∙ sym s.sum in cc
     case (pos n) e = test n e (nat_lt n size) refl
 
@@ -48,7 +48,7 @@ of_inside b s h = let u = h.0 in let v = h.1 in
     ap (λ t. t && nat_lt s.1 b.1) x ∙ y
 
 module _ (start : ℕ × ℕ) (direction : ℤ × ℤ) (dimensions : ℕ × ℕ) where
-  pair-finds : direction ≢ (pos 0, pos 0) → IsInside dimensions start → (row column : Option ℕ) → Finds (IsStep start.0 direction.0 dimensions.0) row → Finds (IsStep start.1 direction.1 dimensions.1) column → Finds (IsMove start direction dimensions) (pair_of row column)
+  pair-finds : direction ≢ (pos 0, pos 0) → IsInside dimensions start → (row column : Option ℕ) → Finds (IsCoordinateStep start.0 direction.0 dimensions.0) row → Finds (IsCoordinateStep start.1 direction.1 dimensions.1) column → Finds (IsMove start direction dimensions) (pair_of row column)
   pair-finds t i None column f g = λ x m. f x.0 (record { sum = m.row; inside = m.to_inside.0 })
   pair-finds t i (Some row) None f g = λ x m. g x.1 (record { sum = m.column; inside = m.to_inside.1 })
   pair-finds t i (Some row) (Some column) f g = record { from_inside = i; moves = t; row = f.sum; column = g.sum; to_inside = (f.inside, g.inside) }

@@ -20,7 +20,7 @@ use Rattle.std.proofs.lemmas.List.Elements.{recursion_from_All, All-take, All-dr
 use borrow.Author.Tests.{eqb-true}
 use Rattle.pf_base.specs.Answers.{AnswersGraph, AnswersSuccessors, Gives, ListsEdges, SameNodes}
 use Rattle.pf_base.specs.Edges.{InReach}
-use Rattle.pf_base.specs.Successors.{Precedes}
+use Rattle.pf_base.specs.Successors.{HasSuccessor}
 use Rattle.pf_base.specs.Walks.{HasNode, Follows, IsWalk, BeginsAt, EndsAt, IsReachable, end_of}
 use Rattle.pf_base.proofs.Callers.{graph_of, ListsEdges-valued, ListsEdges-refl, nat_graph, nat_refl, nat_same, SameNodes-refl, successors_of, valued}
 use Rattle.pf_base.proofs.Reach.{nat_reach_keeps, row_at, row_all}
@@ -91,15 +91,15 @@ module _ {N : Type 0} (eq : N → N → Bool) (successors : N → List N) (P : N
   node_keeps (x ∷ xs) b h (inl m) = equal x b m h.0
   node_keeps (x ∷ xs) b h (inr m) = node_keeps xs b h.1 m
 
-  walk_keeps : (a : N) (w : List N) → P a → Follows (Precedes eq successors) a w → P (end_of a w)
+  walk_keeps : (a : N) (w : List N) → P a → Follows (HasSuccessor eq successors) a w → P (end_of a w)
   walk_keeps a [] p h = p
   walk_keeps a (b ∷ w) p h = walk_keeps b w (node_keeps (successors a) b (next a p) h.0) h.1
 
-  end_keeps : (starts w : List N) (x : N) → AllByRecursion P starts → IsWalk (Precedes eq successors) w → BeginsAt eq starts w → EndsAt eq (λ y. eq y x) w → P x
+  end_keeps : (starts w : List N) (x : N) → AllByRecursion P starts → IsWalk (HasSuccessor eq successors) w → BeginsAt eq starts w → EndsAt eq (λ y. eq y x) w → P x
   end_keeps starts [] x p walks begins ends = absurd walks
   end_keeps starts (a ∷ w) x p walks begins ends = equal (end_of a w) x ends (walk_keeps a w (node_keeps starts a p begins) walks)
 
-  pub successors_keep : (starts : List N) → AllByRecursion P starts → (x : N) → IsReachable eq (Precedes eq successors) starts x → P x
+  pub successors_keep : (starts : List N) → AllByRecursion P starts → (x : N) → IsReachable eq (HasSuccessor eq successors) starts x → P x
   successors_keep starts p x r = end_keeps starts r.walk x p r.goes.walks r.goes.begins r.goes.ends
 
 module _ {F : Type 0} {calls : Mut F (Bor ℕ × Unit {0}) (Copied (Iter ℕ))} (offsets targets starts : List ℕ) where
@@ -107,7 +107,7 @@ module _ {F : Type 0} {calls : Mut F (Bor ℕ × Unit {0}) (Copied (Iter ℕ))} 
       → IsNonDecreasing offsets → All (λ o. o ≤ length targets) offsets
       → ((x : Bor ℕ) → HasRow offsets targets x.now → calls.pre f (x, tt))
       → ((x : Bor ℕ) (r : Copied (Iter ℕ)) (t : F) → HasRow offsets targets x.now → Called calls f (x, tt) r t → (t ≡ f) × (iter_rest (copied_source r) ≡ between offsets targets x.now))
-      → AnswersSuccessors calls (λ s t. t ≡ s) (λ s. ⊤) copies_left (copied_steps iter_steps) nat_eq f (IsReachable nat_eq (Precedes nat_eq (between offsets targets)) starts) (between offsets targets)
+      → AnswersSuccessors calls (λ s t. t ≡ s) (λ s. ⊤) copies_left (copied_steps iter_steps) nat_eq f (IsReachable nat_eq (HasSuccessor nat_eq (between offsets targets)) starts) (between offsets targets)
   compact_successors {f} inside in_range rising within takes gives =
       let next = between offsets targets in
       let P : ℕ → Type 0 = λ n. n + 1 < length offsets in
@@ -120,7 +120,7 @@ module _ {F X : Type 0} {calls : Mut F (Bor ℕ × Unit {0}) (Copied (Iter ℕ))
   pub rows_successors : {f : F} → All (λ n. n < length rows) starts → All (λ row. All (λ n. n < length rows) (items row)) rows
       → ((x : Bor ℕ) → x.now < length rows → calls.pre f (x, tt))
       → ((x : Bor ℕ) (r : Copied (Iter ℕ)) (t : F) → x.now < length rows → Called calls f (x, tt) r t → (t ≡ f) × (iter_rest (copied_source r) ≡ row_at items rows x.now))
-      → AnswersSuccessors calls (λ s t. t ≡ s) (λ s. ⊤) copies_left (copied_steps iter_steps) nat_eq f (IsReachable nat_eq (Precedes nat_eq (row_at items rows)) starts) (row_at items rows)
+      → AnswersSuccessors calls (λ s t. t ≡ s) (λ s. ⊤) copies_left (copied_steps iter_steps) nat_eq f (IsReachable nat_eq (HasSuccessor nat_eq (row_at items rows)) starts) (row_at items rows)
   rows_successors {f} inside in_range takes gives =
       let P : ℕ → Type 0 = λ n. n < length rows in
       let below = successors_keep nat_eq (row_at items rows) P (λ a b e p. subst P (eqb-true a b e) p) (λ n p. row_all P items rows in_range n) starts (recursion_from_All P starts inside) in

@@ -36,13 +36,19 @@ module _ {N : Type 0} (eq : N → N → Bool) (edges : N → List (N × ℤ)) wh
     pub record HasNoNegativeCost : Type 0 where
       pub from_zero : (a b : N) (z : ℤ) → InReach a → HasEdge eq (edges a) b z → pos 0 ≤ℤ z
 
+    -- The functions that are handed in answer these edges and this test in reach of the starts, where no edge costs less than 0.
+    pub record IsWeightedSearch (answers : (N → Type 0) → (N → List (N × ℤ)) → Type 0) (tests : (N → Type 0) → (N → Bool) → Type 0) (test : N → Bool) : Type 0 where
+      pub edges_answered : answers InReach edges
+      pub test_answered : tests InReach test
+      pub costs : HasNoNegativeCost
+
     module _ (test : N → Bool) where
       -- no walk from a start to a node that passes the test costs less than t
       abbrev pub NoGoalWalkCostsLess : ℤ → Type 0
       NoGoalWalkCostsLess t = (walk : List N) (u : ℤ) → IsGoalWalk eq IsSuccessor starts test walk → WalkCosts walk u → t ≤ℤ u
 
       -- a path from a start to a node that passes the test, which costs t, and no walk from a start to such a node costs less
-      pub record IsBestGoalPath (path : List N) (t : ℤ) : Type 0 where
+      pub record IsCheapestGoalPath (path : List N) (t : ℤ) : Type 0 where
         pub goes : IsGoalPath eq IsSuccessor starts test path
         pub costs : WalkCosts path t
         pub best : NoGoalWalkCostsLess t
@@ -52,7 +58,7 @@ module _ {N : Type 0} (eq : N → N → Bool) (edges : N → List (N × ℤ)) wh
     pub node : N
     pub path : List N
     pub cost : ℤ
-    pub cheapest : IsBestGoalPath starts (λ y. eq y node) path cost
+    pub cheapest : IsCheapestGoalPath starts (λ y. eq y node) path cost
     pub next : N
     pub price : ℤ
     pub step : StepCosts node next price

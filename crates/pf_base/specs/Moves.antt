@@ -8,7 +8,7 @@ Finds {A} P None = (x : A) → ¬ (P x)
 Finds {A} P (Some x) = P x
 
 -- a step leads from one coordinate to the other, which is below the size
-pub record IsStep (from : ℕ) (step : ℤ) (size to : ℕ) : Type 0 where
+pub record IsCoordinateStep (from : ℕ) (step : ℤ) (size to : ℕ) : Type 0 where
   pub sum : pos to ≡ pos from +ℤ step
   pub inside : to < size
 

@@ -3,7 +3,7 @@ use Rattle.std.proofs.Common.{◌≡◌, ℕ, ◌+◌, ◌*◌, ◌<◌, refl, a
 use Rattle.std.specs.List.{swap}
 use Rattle.std.proofs.lemmas.Nat.{mul-add-lt}
 use Rattle.std.proofs.lemmas.List.Edits.{length-swap}
-use Rattle.pf_matrix.specs.Tables.{Table, IsMatrix, IsInside}
+use Rattle.pf_matrix.specs.Tables.{Table, IsMatrix, HasPosition}
 use Rattle.pf_matrix.specs.Arrange.{IsExchanged}
 use Rattle.pf_matrix.proofs.SquareLemmas.{swap_first, swap_second, swap_other, apart}
 
@@ -12,7 +12,7 @@ module _ {C : Type 0} where
   pub place_in : (m : Table C) → IsMatrix m → (r c : ℕ) → r < m.rows → c < m.columns → r * m.columns + c < length m.values
   place_in m ok r c h k = omega (arith, ok.sized, mul-add-lt r m.columns c m.rows h k)
 
-  pub exchanged_table : (m : Table C) (ws : List C) (a b : ℕ × ℕ) → IsMatrix m → IsInside m a.0 a.1 → IsInside m b.0 b.1
+  pub exchanged_table : (m : Table C) (ws : List C) (a b : ℕ × ℕ) → IsMatrix m → HasPosition m a.0 a.1 → HasPosition m b.0 b.1
       → ws ≡ swap m.values (a.0 * m.columns + a.1) (b.0 * m.columns + b.1) → IsExchanged a b m (record { rows = m.rows; columns = m.columns; values = ws })
   exchanged_table m ws a b ok a_in b_in e =
       let i = a.0 * m.columns + a.1 in

@@ -13,8 +13,8 @@ pub record IsMatrix {C : Type 0} (m : Table C) : Type 0 where
   pub fits : m.rows * m.columns < 2 ^ 64
 
 -- a position inside: a row and a column that the matrix has
-abbrev pub IsInside : {C : Type 0} → Table C → ℕ → ℕ → Type 0
-IsInside m r c = (r < m.rows) × (c < m.columns)
+abbrev pub HasPosition : {C : Type 0} → Table C → ℕ → ℕ → Type 0
+HasPosition m r c = (r < m.rows) × (c < m.columns)
 
 -- the value at row r and column c, or d where there is none
 abbrev pub value_at : {C : Type 0} → Table C → ℕ → ℕ → C → C

@@ -2,7 +2,7 @@
 
 ghost use Rattle.std.specs.Prelude.{◌≡◌};
 ghost use Rattle.std.specs.Borrow.{sem};
-ghost use Rattle.pf_matrix.specs.Tables.{IsInside, value_at};
+ghost use Rattle.pf_matrix.specs.Tables.{HasPosition, value_at};
 ghost use Rattle.pf_matrix.specs.Lends.{lends_at};
 
 use crate::matrix::Matrix;
@@ -12,7 +12,7 @@ use std::ops::{Index, IndexMut};
 impl<C, A: Allocator> Index<(usize, usize)> for Matrix<C, A> {
     type Output = C;
 
-    ghost can_index = { λ m position. IsInside m position.0 position.1 };
+    ghost can_index = { λ m position. HasPosition m position.0 position.1 };
 
     ghost index_gives = { λ m position value. value ≡ value_at m position.0 position.1 value };
 
@@ -23,7 +23,7 @@ impl<C, A: Allocator> Index<(usize, usize)> for Matrix<C, A> {
 
 impl<C, A: Allocator> IndexMut<(usize, usize)> for Matrix<C, A> {
     fn index_mut(&mut self, position: (usize, usize)) -> &mut C
-        requires { IsInside self.old position.0 position.1 }
+        requires { HasPosition self.old position.0 position.1 }
         ensures* writes_back { sem 𝓛 (lends_at C.row A.row A.Allocator self.entry position result) }
         ensures value { result.now ≡ value_at self.old position.0 position.1 result.now }
     {
@@ -35,7 +35,7 @@ impl<C, A: Allocator> IndexMut<(usize, usize)> for Matrix<C, A> {
 impl<'p, C, A: Allocator> Index<&'p (usize, usize)> for Matrix<C, A> {
     type Output = C;
 
-    ghost can_index = { λ m position. IsInside m position.now.0 position.now.1 };
+    ghost can_index = { λ m position. HasPosition m position.now.0 position.now.1 };
 
     ghost index_gives = { λ m position value. value ≡ value_at m position.now.0 position.now.1 value };
 
@@ -46,7 +46,7 @@ impl<'p, C, A: Allocator> Index<&'p (usize, usize)> for Matrix<C, A> {
 
 impl<'p, C, A: Allocator> IndexMut<&'p (usize, usize)> for Matrix<C, A> {
     fn index_mut(&mut self, position: &'p (usize, usize)) -> &mut C
-        requires { IsInside self.old position.now.0 position.now.1 }
+        requires { HasPosition self.old position.now.0 position.now.1 }
         ensures* writes_back { sem 𝓛 (lends_at C.row A.row A.Allocator self.entry position.now result) }
         ensures value { result.now ≡ value_at self.old position.now.0 position.now.1 result.now }
     {

@@ -3,7 +3,7 @@
 ghost use Rattle.std.specs.Prelude.{◌≡◌, ◌↔◌, ◌*◌, ◌<◌, ◌^◌, length, IsSome, IfSome};
 ghost use Rattle.std.specs.Borrow.{sem};
 ghost use Rattle.std.specs.Slice.Iter.{iter_mut_rest};
-ghost use Rattle.pf_matrix.specs.Tables.{IsMatrix, IsInside, value_at};
+ghost use Rattle.pf_matrix.specs.Tables.{IsMatrix, HasPosition, value_at};
 ghost use Rattle.pf_matrix.specs.Lends.{lends_values, lends_iter, lends_get};
 
 use crate::matrix::Matrix;
@@ -14,7 +14,7 @@ impl<C, A: Allocator> Matrix<C, A> {
     /// The value at a position for writing, or `None` outside.
     pub fn get_mut(&mut self, position: (usize, usize)) -> Option<&mut C>
         ensures* writes_back { sem 𝓛 (lends_get C.row A.row A.Allocator self.entry position result) }
-        ensures inside { IsSome result ↔ IsInside self.old position.0 position.1 }
+        ensures inside { IsSome result ↔ HasPosition self.old position.0 position.1 }
         ensures value { IfSome result (λ x. x.now ≡ value_at self.old position.0 position.1 x.now) }
     {
         if self.within_bounds(position) {

@@ -3,7 +3,7 @@
 ghost use Rattle.std.specs.Prelude.{◌≡◌, ◌↔◌, ◌+◌, ◌*◌, ◌<◌, ◌^◌, length, IsTrue, IsSome, IfSome};
 ghost use Rattle.std.specs.Slice.Iter.{iter_rest};
 ghost use Rattle.std.specs.Iterator.Adapters.{IterYieldsInOrder, IterYieldsInReverse};
-ghost use Rattle.pf_matrix.specs.Tables.{IsMatrix, IsInside, value_at};
+ghost use Rattle.pf_matrix.specs.Tables.{IsMatrix, HasPosition, value_at};
 
 use crate::matrix::Matrix;
 use std::alloc::Allocator;
@@ -26,14 +26,14 @@ impl<C, A: Allocator> Matrix<C, A> {
 
     /// Whether the matrix has this row and this column.
     pub fn within_bounds(&self, position: (usize, usize)) -> bool
-        ensures { IsTrue result ↔ IsInside self.now position.0 position.1 }
+        ensures { IsTrue result ↔ HasPosition self.now position.0 position.1 }
     {
         position.0 < self.rows && position.1 < self.columns
     }
 
     /// The place of a position inside among the values by rows.
     pub fn idx(&self, position: (usize, usize)) -> usize
-        requires { IsInside self.now position.0 position.1 }
+        requires { HasPosition self.now position.0 position.1 }
         ensures place { result ≡ position.0 * self.now.columns + position.1 }
         ensures below { result < length self.now.values }
     {
@@ -42,7 +42,7 @@ impl<C, A: Allocator> Matrix<C, A> {
 
     /// The same as `idx`. Nothing is tested, since the position is inside.
     pub fn idx_unchecked(&self, position: (usize, usize)) -> usize
-        requires { IsInside self.now position.0 position.1 }
+        requires { HasPosition self.now position.0 position.1 }
         ensures place { result ≡ position.0 * self.now.columns + position.1 }
         ensures below { result < length self.now.values }
     {
@@ -51,7 +51,7 @@ impl<C, A: Allocator> Matrix<C, A> {
 
     /// The value at a position, or `None` outside.
     pub fn get(&self, position: (usize, usize)) -> Option<&C>
-        ensures inside { IsSome result ↔ IsInside self.now position.0 position.1 }
+        ensures inside { IsSome result ↔ HasPosition self.now position.0 position.1 }
         ensures value { IfSome result (λ x. x.now ≡ value_at self.now position.0 position.1 x.now) }
     {
         if self.within_bounds(position) {

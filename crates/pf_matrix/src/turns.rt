@@ -1,7 +1,7 @@
 //! A matrix that is flipped, turned or transposed in place.
 
 ghost use Rattle.std.specs.Prelude.{◌≡◌, ◌%◌};
-ghost use Rattle.pf_matrix.specs.Tables.{IsInside};
+ghost use Rattle.pf_matrix.specs.Tables.{HasPosition};
 ghost use Rattle.pf_matrix.specs.Arrange.{IsExchanged, IsFlippedLr, IsFlippedUd, IsRotatedCw, IsRotatedCcw, IsTransposed, IsTurnedTwice, itself};
 ghost use Rattle.pf_matrix.specs.Internal.Turning.{IsFlippedFor};
 
@@ -12,8 +12,8 @@ use std::alloc::Allocator;
 impl<C, A: Allocator> Matrix<C, A> {
     /// Exchanges the values at two positions inside.
     pub fn swap(&mut self, a: (usize, usize), b: (usize, usize))
-        requires a_inside { IsInside self.old a.0 a.1 }
-        requires b_inside { IsInside self.old b.0 b.1 }
+        requires a_inside { HasPosition self.old a.0 a.1 }
+        requires b_inside { HasPosition self.old b.0 b.1 }
         ensures { IsExchanged a b self.old self.new }
     {
         let first = self.idx(a);

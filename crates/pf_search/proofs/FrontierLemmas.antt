@@ -3,7 +3,7 @@ use Rattle.std.proofs.Common.{ℕ, ◌≡◌, refl, ap, arith, List, [], ◌∷�
 use Rattle.std.specs.Prelude.{◌≤ℤ◌, ◌+ℤ◌, ◌⊎◌}
 use Rattle.std.proofs.lemmas.Int.{ints}
 use Rattle.pf_base.specs.Walks.{end_of}
-use Rattle.pf_search.specs.Internal.Steps.{GoesAlong, IsPositive}
+use Rattle.pf_search.specs.Internal.Steps.{GoesAlong, IsNonNegative}
 use Rattle.pf_search.specs.Internal.Frontier.{IsFound, IsCut, EndsSettled, MeetsWaiting}
 
 module _ {X : Type 0} (step : X → ℤ → X → Type 0) (stands : ℕ → X → Type 0) (settled waiting : ℕ → ℤ → Type 0) (cut : IsCut step stands settled waiting) where
@@ -48,7 +48,7 @@ module _ {X : Type 0} (step : X → ℤ → X → Type 0) (stands : ℕ → X �
       ]
 
 -- a walk costs no less than 0
-pub walk_positive : {X : Type 0} (step : X → ℤ → X → Type 0) → IsPositive step → (w : List X) (a : X) (t : ℤ) → GoesAlong step a w t → pos 0 ≤ℤ t
+pub walk_positive : {X : Type 0} (step : X → ℤ → X → Type 0) → IsNonNegative step → (w : List X) (a : X) (t : ℤ) → GoesAlong step a w t → pos 0 ≤ℤ t
 walk_positive step p [] a t h = omega (arith, ints, h)
 walk_positive step p (b ∷ w) a t h = omega (arith, ints, p.positive a h.0 b h.2, walk_positive step p w b h.1 h.3, h.4)
 

@@ -7,7 +7,7 @@ use Rattle.std.proofs.lemmas.List.Sums.{sum_by-append}
 use Rattle.std.proofs.lemmas.List.Folds.{sum_by-replicate}
 use Rattle.pf_search.specs.declared.labels.Label.{Label}
 use Rattle.pf_search.specs.Internal.Labels.{Labels, HasLabel, by_depth, is_settled, settled_count, AllSettled, IsTree, Settles, Widened, Relaxed, ComesFrom, Covers}
-use Rattle.pf_search.specs.Internal.Steps.{IsHop, IsPositive}
+use Rattle.pf_search.specs.Internal.Steps.{IsHop, IsNonNegative}
 use Rattle.pf_search.specs.Internal.Numbered.{ListsSteps, Grows, StandsBelow}
 use Rattle.pf_search.proofs.PathLemmas.{was_label, IsTree-turn, IsTree-settle}
 use Rattle.pf_search.specs.Internal.Search.{IsLeast, IsSearch, StandsRoot}
@@ -137,8 +137,8 @@ module _ {C : Type 0} where
     sound = λ j c h. let q = hops-from row j h in let r = l.sound j q.0 q.1 in (r.0, subst (λ (z : ℤ). step x z r.0) (hop.one x (value q.0) r.0 r.1) r.1, r.2);
   }
 
-pub hop_positive : {X : Type 0} (step : X → ℤ → X → Type 0) → IsHop step → IsPositive step
-hop_positive step h = record { positive = λ a z b s. subst (λ (y : ℤ). pos 0 ≤ℤ y) (sym (h.one a z b s)) (omega (arith, ints)) }
+pub hop_positive : {X : Type 0} (step : X → ℤ → X → Type 0) → IsHop step → IsNonNegative step
+hop_positive step h = record { non_negative = λ a z b s. subst (λ (y : ℤ). pos 0 ≤ℤ y) (sym (h.one a z b s)) (omega (arith, ints)) }
 
 pub hop_len : (n : ℕ) (l : Label Hops) (labels labels1 : Labels Hops) → IsBreadth n labels → HasLabel labels n l → labels1 ≡ slice_set labels n (Some (record l { settled = true })) → length labels1 ≡ length labels
 hop_len n l labels labels1 b at e =

@@ -1,8 +1,8 @@
 -- A walk along edges is a walk along the nodes that they lead to.
 use Rattle.std.proofs.Common.{◌≤◌, Bool, List, [], ◌∷◌, length, inl, inr, ℤ}
 use Rattle.pf_base.specs.Walks.{HasNode, Follows}
-use Rattle.pf_base.specs.Edges.{HasEdge, IsSuccessor, IsBestGoalPath}
-use Rattle.pf_base.specs.Successors.{Precedes, IsShortestGoalPath}
+use Rattle.pf_base.specs.Edges.{HasEdge, IsSuccessor, IsCheapestGoalPath}
+use Rattle.pf_base.specs.Successors.{HasSuccessor, IsFewestEdgesGoalPath}
 use Rattle.pf_search.specs.Laws.{targets}
 
 module _ {N : Type 0} (eq : N → N → Bool) (edges : N → List (N × ℤ)) where
@@ -11,12 +11,12 @@ module _ {N : Type 0} (eq : N → N → Bool) (edges : N → List (N × ℤ)) wh
   target_of (e ∷ es) x z (inl h) = inl h.0
   target_of (e ∷ es) x z (inr h) = inr (target_of es x z h)
 
-  follows_targets : (w : List N) (a : N) → Follows (IsSuccessor eq edges) a w → Follows (Precedes eq (targets edges)) a w
+  follows_targets : (w : List N) (a : N) → Follows (IsSuccessor eq edges) a w → Follows (HasSuccessor eq (targets edges)) a w
   follows_targets [] a f = tt
   follows_targets (b ∷ w) a f = (target_of (edges a) b f.0.0 f.0.1, follows_targets w b f.1)
 
-  pub fewest_of_cheapest : (starts : List N) (test : N → Bool) (fewest cheapest : List N) (cost : ℤ) → IsShortestGoalPath eq (targets edges) starts test fewest → IsBestGoalPath eq edges starts test cheapest cost → length fewest ≤ length cheapest
+  pub fewest_of_cheapest : (starts : List N) (test : N → Bool) (fewest cheapest : List N) (cost : ℤ) → IsFewestEdgesGoalPath eq (targets edges) starts test fewest → IsCheapestGoalPath eq edges starts test cheapest cost → length fewest ≤ length cheapest
   fewest_of_cheapest starts test fewest [] cost f b = absurd b.costs
   fewest_of_cheapest starts test fewest (a ∷ w) cost f b =
       let walk = b.goes.goes in
-      f.shortest (a ∷ w) (record { walks = follows_targets w a walk.walks; begins = walk.begins; ends = walk.ends })
+      f.fewest (a ∷ w) (record { walks = follows_targets w a walk.walks; begins = walk.begins; ends = walk.ends })

@@ -6,7 +6,7 @@ use borrow.Author.Tests.{eqb-true}
 use Rattle.pf_base.specs.Walks.{end_of}
 use Rattle.pf_search.specs.declared.labels.Label.{Label}
 use Rattle.pf_search.specs.Internal.Labels.{Labels, HasLabel, by_cost, cost_of, IsTree, IsChain, Relaxed, Covers, Settles, Widened, AllSettled}
-use Rattle.pf_search.specs.Internal.Steps.{GoesAlong, IsNumberedPath, IsPositive, NoGoal, NoGoalBelow, IsBestNumbered}
+use Rattle.pf_search.specs.Internal.Steps.{GoesAlong, IsNumberedPath, IsNonNegative, NoGoal, NoGoalBelow, IsBestNumbered}
 use Rattle.pf_search.specs.Internal.Numbered.{ListsSteps, Grows}
 use Rattle.pf_search.specs.Internal.Frontier.{IsFound}
 use Rattle.pf_search.specs.Internal.Search.{SettledAt, WaitingAt, IsLow, IsLeast, IsSearch, StandsRoot}
@@ -55,7 +55,7 @@ module _ {X C : Type 0} (measure : C → ℕ → ℤ) (step : X → ℤ → X �
     low = λ k j l m h t. let f = only k l h in absurd (true≢false (sym t ∙ f.opened));
   }
 
-  module _ (p : IsPositive step) (stands : ℕ → X → Type 0) (labels : Labels C) (i : IsSearch measure step root stands labels) where
+  module _ (p : IsNonNegative step) (stands : ℕ → X → Type 0) (labels : Labels C) (i : IsSearch measure step root stands labels) where
     abbrev Starts : X → Type 0
     Starts = StandsRoot root stands
 

@@ -5,7 +5,7 @@ use Rattle.std.proofs.lemmas.Int.{ints}
 use Rattle.pf_base.specs.Walks.{end_of}
 use Rattle.pf_search.specs.declared.labels.Label.{Label}
 use Rattle.pf_search.specs.Internal.Labels.{Labels, HasLabel, by_cost, IsTree, IsReached, IsWithin, Covers, Settles, Widened, ComesFrom, Relaxed, Follows}
-use Rattle.pf_search.specs.Internal.Steps.{IsPositive, IsTooDear}
+use Rattle.pf_search.specs.Internal.Steps.{IsNonNegative, IsTooDear}
 use Rattle.pf_search.specs.Internal.Numbered.{ListsSteps, Grows}
 use Rattle.pf_search.specs.Internal.Queue.{Entries, IsQueue}
 use Rattle.pf_search.specs.Internal.Search.{IsLeast, IsSearch, Turned, HasDearStep, StandsRoot}
@@ -124,13 +124,13 @@ module _ {C : Type 0} (value : C → ℤ) (fits : ℤ → Type 0) (between : (x 
       }
 
   -- the search after the turn
-  pub search_followed : {X : Type 0} (step : X → ℤ → X → Type 0) (root : ℕ → Bool) → IsPositive step → (before : ℕ) (stands stands' : ℕ → X → Type 0) → Grows before found stands stands' → length labels ≡ before → ((x : X) → stands k x → ListsSteps value step stands' x row)
+  pub search_followed : {X : Type 0} (step : X → ℤ → X → Type 0) (root : ℕ → Bool) → IsNonNegative step → (before : ℕ) (stands stands' : ℕ → X → Type 0) → Grows before found stands stands' → length labels ≡ before → ((x : X) → stands k x → ListsSteps value step stands' x row)
       → IsTree labels → IsSearch (by_cost value) step root stands labels → IsSearch (by_cost value) step root stands' labels'
   search_followed step root p before stands stands' grow len lists tree i =
       let z = f.settles in
       let up = (least_path (by_cost value) step root p stands labels i tree k l (record { at = z.was; opened = z.opened; least = z.least })).1 in
       let x = end_of up.first up.nodes in
-      let price : (j : ℕ) (c : C) → Contains row (j, c) → pos 0 ≤ℤ value c = λ j c h. let q = (lists x up.here).sound j c h in p.positive x (value c) q.0 q.1 in
+      let price : (j : ℕ) (c : C) → Contains row (j, c) → pos 0 ≤ℤ value c = λ j c h. let q = (lists x up.here).sound j c h in p.non_negative x (value c) q.0 q.1 in
       turn (by_cost value) step root p stands labels i tree k l f.done z before found stands' grow (omega (arith, len)) value row lists f.wider labels' f.wide f.relaxed (cover price)
 
 -- the same of a row with the same steps in another order
@@ -174,7 +174,7 @@ dear_step value fits step stands x t row lists j c h never =
       too_dear = λ v st f. let q = lists.complete v to.0 j st to.2 in never q.0 q.1 (subst (λ (n : ℤ). fits (t +ℤ n)) (sym q.2) f);
     }
 
-module _ {X C : Type 0} (value : C → ℤ) (fits : ℤ → Type 0) (step : X → ℤ → X → Type 0) (root : ℕ → Bool) (p : IsPositive step) (stands : ℕ → X → Type 0) (labels : Labels C) (i : IsSearch (by_cost value) step root stands labels) (tree : IsTree labels)
+module _ {X C : Type 0} (value : C → ℤ) (fits : ℤ → Type 0) (step : X → ℤ → X → Type 0) (root : ℕ → Bool) (p : IsNonNegative step) (stands : ℕ → X → Type 0) (labels : Labels C) (i : IsSearch (by_cost value) step root stands labels) (tree : IsTree labels)
     (k : ℕ) (l : Label C) (z : IsLeast (by_cost value) labels k l) where
   -- where a step from a node of least cost is too dear, a cost overflow may be answered
   pub too_dear : (passes : X → Bool) → ((k : ℕ) (l : Label C) (x : X) → HasLabel labels k l → l.settled ≡ true → stands k x → passes x ≡ false) → ((a b : ℕ) (x : X) → stands a x → stands b x → a ≡ b)

@@ -8,8 +8,8 @@ use Rattle.std.specs.List.{IsDistinct}
 use Rattle.std.proofs.lemmas.Int.{ints}
 use Rattle.pf_base.specs.Walks.{HasNode, Follows, IsGoalWalk, HasNoGoalWalk, IsReachable}
 use Rattle.pf_base.specs.NodeRefs.{HasSameNodes}
-use Rattle.pf_base.specs.Edges.{HasEdge, IsSuccessor, StepCosts, StepsCost, InReach, IsBestGoalPath}
-use Rattle.pf_base.specs.Successors.{Precedes, IsShortestGoalPath}
+use Rattle.pf_base.specs.Edges.{HasEdge, IsSuccessor, StepCosts, StepsCost, InReach, IsCheapestGoalPath}
+use Rattle.pf_base.specs.Successors.{HasSuccessor, IsFewestEdgesGoalPath}
 use Rattle.pf_base.specs.Answers.{SameNodes, ListsEdges, AnswersSuccessors, AnswersTest}
 use Rattle.pf_search.specs.Internal.Numbered.{StandsBelow}
 use Rattle.pf_search.specs.Internal.Steps.{IsHop}
@@ -52,11 +52,11 @@ module _ {N : Type 0} (eq : N → N → Bool) where
       cheapest = λ y k. subst (λ (u : ℤ). pos 1 ≤ℤ u) (sym (next_of_edge (next a) b y k).1) (omega (arith, ints));
     }
 
-    follows_edges : (w : List N) (a : N) → Follows (Precedes eq next) a w → Follows (IsSuccessor eq (unit_edges next)) a w
+    follows_edges : (w : List N) (a : N) → Follows (HasSuccessor eq next) a w → Follows (IsSuccessor eq (unit_edges next)) a w
     follows_edges [] a f = tt
     follows_edges (b ∷ w) a f = ((pos 1, edge_of_next (next a) b f.0), follows_edges w b f.1)
 
-    follows_next : (w : List N) (a : N) → Follows (IsSuccessor eq (unit_edges next)) a w → Follows (Precedes eq next) a w
+    follows_next : (w : List N) (a : N) → Follows (IsSuccessor eq (unit_edges next)) a w → Follows (HasSuccessor eq next) a w
     follows_next [] a f = tt
     follows_next (b ∷ w) a f = ((next_of_edge (next a) b f.0.0 f.0.1).0, follows_next w b f.1)
 
@@ -74,28 +74,28 @@ module _ {N : Type 0} (eq : N → N → Bool) where
         omega (arith, ints, one, rest, h.4)
 
     module _ (starts : List N) where
-      walk_edges : (test : N → Bool) (w : List N) → IsGoalWalk eq (Precedes eq next) starts test w → IsGoalWalk eq (IsSuccessor eq (unit_edges next)) starts test w
+      walk_edges : (test : N → Bool) (w : List N) → IsGoalWalk eq (HasSuccessor eq next) starts test w → IsGoalWalk eq (IsSuccessor eq (unit_edges next)) starts test w
       walk_edges test [] h = absurd h.walks
       walk_edges test (a ∷ w) h = record { walks = follows_edges w a h.walks; begins = h.begins; ends = h.ends }
 
-      walk_next : (test : N → Bool) (w : List N) → IsGoalWalk eq (IsSuccessor eq (unit_edges next)) starts test w → IsGoalWalk eq (Precedes eq next) starts test w
+      walk_next : (test : N → Bool) (w : List N) → IsGoalWalk eq (IsSuccessor eq (unit_edges next)) starts test w → IsGoalWalk eq (HasSuccessor eq next) starts test w
       walk_next test [] h = absurd h.walks
       walk_next test (a ∷ w) h = record { walks = follows_next w a h.walks; begins = h.begins; ends = h.ends }
 
-      pub reach_next : (x : N) → InReach eq (unit_edges next) starts x → IsReachable eq (Precedes eq next) starts x
+      pub reach_next : (x : N) → InReach eq (unit_edges next) starts x → IsReachable eq (HasSuccessor eq next) starts x
       reach_next x r = record { walk = r.walk; goes = walk_next (λ y. eq y x) r.walk r.goes }
 
-      pub no_next_walk : (test : N → Bool) → HasNoGoalWalk eq (IsSuccessor eq (unit_edges next)) starts test → HasNoGoalWalk eq (Precedes eq next) starts test
+      pub no_next_walk : (test : N → Bool) → HasNoGoalWalk eq (IsSuccessor eq (unit_edges next)) starts test → HasNoGoalWalk eq (HasSuccessor eq next) starts test
       no_next_walk test none w h = none w (walk_edges test w h)
 
-      pub shortest_of_best : (test : N → Bool) (path : List N) (t : ℤ) → IsBestGoalPath eq (unit_edges next) starts test path t → IsShortestGoalPath eq next starts test path
-      shortest_of_best test [] t b = absurd b.costs
-      shortest_of_best test (a ∷ w) t b = record {
+      pub fewest_of_best : (test : N → Bool) (path : List N) (t : ℤ) → IsCheapestGoalPath eq (unit_edges next) starts test path t → IsFewestEdgesGoalPath eq next starts test path
+      fewest_of_best test [] t b = absurd b.costs
+      fewest_of_best test (a ∷ w) t b = record {
         goes = record { goes = walk_next test (a ∷ w) b.goes.goes; distinct = b.goes.distinct };
-        shortest = shorter;
+        fewest = shorter;
       }
         where
-          shorter : (walk : List N) → IsGoalWalk eq (Precedes eq next) starts test walk → length (a ∷ w) ≤ length walk
+          shorter : (walk : List N) → IsGoalWalk eq (HasSuccessor eq next) starts test walk → length (a ∷ w) ≤ length walk
           shorter [] h = absurd h.walks
           shorter (c ∷ v) h =
               let k = walk_edges test (c ∷ v) h in
@@ -104,7 +104,7 @@ module _ {N : Type 0} (eq : N → N → Bool) where
               omega (arith, ints, low, same)
 
   -- the test is asked in reach of the starts
-  pub tests_in_reach : {P : Type 0} (p_calls : Mut P (Bor N × Unit {0}) Bool) (starts : List N) (next : N → List N) (test : N → Bool) (p : P) → AnswersTest p_calls eq p (IsReachable eq (Precedes eq next) starts) test → AnswersTest p_calls eq p (InReach eq (unit_edges next) starts) test
+  pub tests_in_reach : {P : Type 0} (p_calls : Mut P (Bor N × Unit {0}) Bool) (starts : List N) (next : N → List N) (test : N → Bool) (p : P) → AnswersTest p_calls eq p (IsReachable eq (HasSuccessor eq next) starts) test → AnswersTest p_calls eq p (InReach eq (unit_edges next) starts) test
   tests_in_reach p_calls starts next test p t = record { alike = λ x y r e. t.alike x y (reach_next next starts x r) e; answers = Answers-weaker p_calls _ _ (reach_next next starts) _ _ (λ x r g. g) p t.answers }
 
   module _ (laws : IsEquivalence eq) where
@@ -127,7 +127,7 @@ module _ {N : Type 0} (eq : N → N → Bool) where
 
     module _ {I S F : Type 0} (becomes : I → S → Type 0) (can : S → Type 0) (left : S → Count) (steps : S → Option N → S → Type 0) (calls : Mut F (Bor N × Unit {0}) I) where
       -- a discovery of a function that lists successors begins with a set of the starts
-      pub Explores-successors : (starts keys : List N) (next : N → List N) (f : F) → IsDistinct eq keys → HasSameNodes eq keys starts → AnswersSuccessors calls becomes can left steps eq f (IsReachable eq (Precedes eq next) starts) next
+      pub Explores-successors : (starts keys : List N) (next : N → List N) (f : F) → IsDistinct eq keys → HasSameNodes eq keys starts → AnswersSuccessors calls becomes can left steps eq f (IsReachable eq (HasSuccessor eq next) starts) next
           → Explores eq pos (λ y. (y, 1)) becomes can left steps calls (record { starts = starts; edges = unit_edges next }) keys f
       Explores-successors starts keys next f once same a =
           Explores-start eq laws pos (λ y. (y, 1)) becomes can left steps calls (record { starts = starts; edges = unit_edges next }) keys f once same

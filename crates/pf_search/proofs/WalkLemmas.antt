@@ -5,9 +5,9 @@ use Rattle.std.specs.Cmp.{IsEquivalence}
 use Rattle.std.specs.List.{AllZip}
 use Rattle.std.proofs.lemmas.Int.{ints}
 use Rattle.pf_base.specs.Walks.{HasNode, NoRepeats, Follows, end_of, HasNoGoalWalk}
-use Rattle.pf_base.specs.Edges.{HasEdge, IsSuccessor, StepCosts, StepsCost, InReach, HasNoNegativeCost, NoGoalWalkCostsLess, IsBestGoalPath, IsPastRange}
+use Rattle.pf_base.specs.Edges.{HasEdge, IsSuccessor, StepCosts, StepsCost, InReach, HasNoNegativeCost, NoGoalWalkCostsLess, IsCheapestGoalPath, IsPastRange}
 use Rattle.pf_base.specs.Answers.{ListsEdges}
-use Rattle.pf_search.specs.Internal.Steps.{GoesAlong, IsPositive, NoGoal, NoGoalBelow, IsBestNumbered, IsTooDear}
+use Rattle.pf_search.specs.Internal.Steps.{GoesAlong, IsNonNegative, NoGoal, NoGoalBelow, IsBestNumbered, IsTooDear}
 use Rattle.pf_search.specs.Internal.Nodes.{NodeGraph, StandsFor, IsStep}
 use Rattle.pf_search.proofs.ListLemmas.{bool_dec, int_dec}
 use Rattle.pf_search.proofs.NodeLemmas.{eq-sym, eq-trans, StandsFor-same, HasEdge-same, InReach-same, InReach-start, InReach-after, InReach-more, edge_of_same}
@@ -80,8 +80,8 @@ module _ {N : Type 0} (eq : N → N → Bool) (laws : IsEquivalence eq) where
   ]
 
   module _ (g : NodeGraph N) (alike : (x y : N) → InReach eq g.edges g.starts x → eq x y ≡ true → ListsEdges eq (λ z. z) (g.edges x) (g.edges y)) where
-    pub positive : HasNoNegativeCost eq g.edges g.starts → IsPositive (IsStep eq g)
-    positive h = record { positive = λ a z b s. h.from_zero a b z s.0 s.1 }
+    pub no_negative : HasNoNegativeCost eq g.edges g.starts → IsNonNegative (IsStep eq g)
+    no_negative h = record { non_negative = λ a z b s. h.from_zero a b z s.0 s.1 }
 
     -- a walk over nodes goes along steps
     goes_of_costs : (w : List N) (a : N) (u : ℤ) → InReach eq g.edges g.starts a → StepsCost eq g.edges a w u → GoesAlong (IsStep eq g) a w u
@@ -132,7 +132,7 @@ module _ {N : Type 0} (eq : N → N → Bool) (laws : IsEquivalence eq) where
       -- a path along steps that nothing undercuts
       best_path : (test : N → Bool) (keys : List N) (one : (i j : ℕ) (x : N) → StandsFor eq keys i x → StandsFor eq keys j x → i ≡ j) (ks : List ℕ) (a : N) (w : List N) (t : ℤ)
           → AllZip (StandsFor eq keys) ks (a ∷ w) → NoRepeats nat_eq ks → HasNode eq g.starts a → GoesAlong (IsStep eq g) a w t → test (end_of a w) ≡ true → NoGoalBelow (IsStep eq g) test starts t
-          → IsBestGoalPath eq g.edges g.starts test (a ∷ w) t
+          → IsCheapestGoalPath eq g.edges g.starts test (a ∷ w) t
       best_path test keys one ks a w t numbered distinct begins goes good low =
           let c = costs_of_goes w a t goes in
           let least : t ≤ℤ c.0 = low a (all a begins) w c.0 c.3 good in
@@ -145,7 +145,7 @@ module _ {N : Type 0} (eq : N → N → Bool) (laws : IsEquivalence eq) where
 
       -- the nodes that are answered for the numbers of a best path
       pub best_answer : (test : N → Bool) → ((x y : N) → InReach eq g.edges g.starts x → eq x y ≡ true → test x ≡ test y) → (keys : List N) (one : (i j : ℕ) (x : N) → StandsFor eq keys i x → StandsFor eq keys j x → i ≡ j) (ks : List ℕ) (path : List N) (t : ℤ)
-          → IsBestNumbered (IsStep eq g) test starts (StandsFor eq keys) ks t → AllZip (StandsFor eq keys) ks path → IsBestGoalPath eq g.edges g.starts test path t
+          → IsBestNumbered (IsStep eq g) test starts (StandsFor eq keys) ks t → AllZip (StandsFor eq keys) ks path → IsCheapestGoalPath eq g.edges g.starts test path t
       best_answer test same_test keys one ks [] t b z = absurd (same_of keys ks (b.first ∷ b.nodes) [] b.path.numbered z)
       best_answer test same_test keys one ks (a ∷ w) t b z =
           let s = same_of keys ks (b.first ∷ b.nodes) (a ∷ w) b.path.numbered z in

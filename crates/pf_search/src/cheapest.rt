@@ -1,7 +1,7 @@
 //! The search for a cheapest path, over numbers.
 
 ghost use Rattle.std.specs.Prelude.{◌≡◌, ◌<◌, ◌≤◌, ◌+◌, ◌⊎◌, ℕ, Err, Contains, IfOk, IfErr, IfSome, MatchOption};
-ghost use Rattle.pf_search.specs.Internal.Steps.{IsPositive, NoGoal, IsBestNumbered, IsTooDear};
+ghost use Rattle.pf_search.specs.Internal.Steps.{IsNonNegative, NoGoal, IsBestNumbered, IsTooDear};
 
 use crate::labels::{label_of, path_to};
 use crate::numbered::GoalGraph;
@@ -23,10 +23,10 @@ pub fn cheapest_path<C: Cost, G: GoalGraph<C>, A: Allocator + Copy>(
     requires graph { (g : G.Graph) × G.explores graph.old g }
     ensures graph { (g : G.Graph) → G.explores graph.old g → G.explores graph.new g }
     ensures inside { IfOk result (λ answer. IfSome answer (λ r. (k : ℕ) → Contains r.0.items k → k < G.found graph.new)) }
-    ensures best { (g : G.Graph) → G.explores graph.old g → IsPositive (G.step g)
+    ensures best { (g : G.Graph) → G.explores graph.old g → IsNonNegative (G.step g)
         → IfOk result (λ answer. MatchOption answer (NoGoal (G.step g) (G.passes g) (G.stands graph.old start))
         (λ r. IsBestNumbered (G.step g) (G.passes g) (G.stands graph.old start) (G.stands graph.new) r.0.items (C.value r.1))) }
-    ensures overflow { (g : G.Graph) → G.explores graph.old g → IsPositive (G.step g)
+    ensures overflow { (g : G.Graph) → G.explores graph.old g → IsNonNegative (G.step g)
         → result ≡ Err PathError.CostOverflow → IsTooDear (G.step g) (G.passes g) (G.stands graph.old start) (G.stands graph.new) C.fits }
     ensures ticked { tally.old ≤ tally.new }
     ensures asked { tally.new ≤ tally.old + G.found graph.new }

@@ -3,8 +3,8 @@
 //! A call adds its law to what the caller's proof knows. It does nothing when it runs.
 
 ghost use Rattle.std.specs.Prelude.{◌≤◌, List, Bool, ℤ, length};
-ghost use Rattle.pf_base.specs.Edges.{IsBestGoalPath};
-ghost use Rattle.pf_base.specs.Successors.{IsShortestGoalPath};
+ghost use Rattle.pf_base.specs.Edges.{IsCheapestGoalPath};
+ghost use Rattle.pf_base.specs.Successors.{IsFewestEdgesGoalPath};
 ghost use Rattle.pf_search.specs.Laws.{targets};
 
 use std::marker::PhantomData;
@@ -14,7 +14,7 @@ use std::marker::PhantomData;
 /// So where both answer, the path of `bfs` is no longer than that of `dijkstra`.
 pub fn fewest_edges_of_cheapest<N: Eq>(_of: PhantomData<N>)
     ensures { (edges : N → List (N × ℤ)) (starts : List N) (test : N → Bool) (fewest cheapest : List N) (cost : ℤ)
-        → IsShortestGoalPath N.eq (targets edges) starts test fewest
-        → IsBestGoalPath N.eq edges starts test cheapest cost
+        → IsFewestEdgesGoalPath N.eq (targets edges) starts test fewest
+        → IsCheapestGoalPath N.eq edges starts test cheapest cost
         → length fewest ≤ length cheapest }
 {}

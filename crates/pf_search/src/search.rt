@@ -5,7 +5,7 @@ ghost use Rattle.std.specs.Prelude.{◌≡◌, ◌<◌, ◌≤◌, ◌+◌, ◌+
 ghost use Rattle.pf_search.specs.declared.labels.Label.{Label};
 ghost use Rattle.pf_search.specs.Internal.Labels.{HasLabel, by_cost, AllSettled, Follows, settled_count};
 ghost use Rattle.pf_search.specs.Internal.Numbered.{Grows};
-ghost use Rattle.pf_search.specs.Internal.Steps.{IsPositive};
+ghost use Rattle.pf_search.specs.Internal.Steps.{IsNonNegative};
 ghost use Rattle.pf_search.specs.Internal.Search.{IsSound, IsLeast, IsSearch, Turned, HasDearStep};
 
 use crate::labels::{label_of, settle, widen};
@@ -79,7 +79,7 @@ impl<C: Cost, A: Allocator + Copy> Search<C, A> {
         ensures grows { Grows (G.found graph.old) (G.found graph.new) (G.stands graph.old) (G.stands graph.new) }
         ensures graph { (g : G.Graph) → G.explores graph.old g → G.explores graph.new g }
         ensures turned { OnOk result ((l : Label C) → HasLabel self.old.labels.items number l → Turned number l self.old.labels.items self.new.labels.items) }
-        ensures search { OnOk result ((g : G.Graph) → G.explores graph.old g → IsPositive (G.step g) → (root : ℕ → Bool)
+        ensures search { OnOk result ((g : G.Graph) → G.explores graph.old g → IsNonNegative (G.step g) → (root : ℕ → Bool)
             → IsSearch (by_cost C.value) (G.step g) root (G.stands graph.old) self.old.labels.items
             → IsSearch (by_cost C.value) (G.step g) root (G.stands graph.new) self.new.labels.items) }
         ensures kept { OnErr result ((G.found graph.new ≡ G.found graph.old)

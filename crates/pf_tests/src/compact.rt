@@ -3,8 +3,8 @@
 
 ghost use Rattle.std.specs.Prelude.{◌≡◌, ◌⊎◌, ◌<◌, ◌≤◌, ◌+◌, ◌==◌, ◌∷◌, [], All, nat_eq, pos, IsTrue, IfOk, IfErr, MatchOption};
 ghost use Rattle.std.specs.List.Sorted.{IsNonDecreasing};
-ghost use Rattle.pf_base.specs.Edges.{IsSuccessor, IsBestGoalPath, IsPastRange};
-ghost use Rattle.pf_base.specs.Successors.{Precedes, IsShortestGoalPath};
+ghost use Rattle.pf_base.specs.Edges.{IsSuccessor, IsCheapestGoalPath, IsPastRange};
+ghost use Rattle.pf_base.specs.Successors.{HasSuccessor, IsFewestEdgesGoalPath};
 ghost use Rattle.pf_base.specs.Walks.{HasNoGoalWalk};
 ghost use Rattle.pf_tests.specs.Compact.{IsCompact, IsNode, edges_in, nodes_in};
 
@@ -52,7 +52,7 @@ where
     requires in_range { All (λ e. IsNode offsets.now e.0) targets.now }
     ensures best { IfOk result (λ answer. MatchOption answer
         (HasNoGoalWalk nat_eq (IsSuccessor nat_eq (edges_in offsets.now targets.now)) (from ∷ []) (λ n. n == to))
-        (λ found. IsBestGoalPath nat_eq (edges_in offsets.now targets.now) (from ∷ []) (λ n. n == to) found.0.items (pos found.1))) }
+        (λ found. IsCheapestGoalPath nat_eq (edges_in offsets.now targets.now) (from ∷ []) (λ n. n == to) found.0.items (pos found.1))) }
     ensures overflow { result ≡ Err PathError.CostOverflow
         → IsPastRange nat_eq (edges_in offsets.now targets.now) (from ∷ []) (λ n. n == to) ⟦<u32 as Number>⟧.fits }
     ensures errors { IfErr result (λ e. (e ≡ PathError.OutOfMemory) ⊎ (e ≡ PathError.CostOverflow)) }
@@ -81,8 +81,8 @@ where
     requires compact { IsCompact offsets.now targets.now }
     requires in_range { All (IsNode offsets.now) targets.now }
     ensures best { IfOk result (λ answer. MatchOption answer
-        (HasNoGoalWalk nat_eq (Precedes nat_eq (nodes_in offsets.now targets.now)) starts.now (λ n. n == to))
-        (λ path. IsShortestGoalPath nat_eq (nodes_in offsets.now targets.now) starts.now (λ n. n == to) path.items)) }
+        (HasNoGoalWalk nat_eq (HasSuccessor nat_eq (nodes_in offsets.now targets.now)) starts.now (λ n. n == to))
+        (λ path. IsFewestEdgesGoalPath nat_eq (nodes_in offsets.now targets.now) starts.now (λ n. n == to) path.items)) }
     ensures errors { IfErr result (λ e. e ≡ PathError.OutOfMemory) }
 {
     bfs(

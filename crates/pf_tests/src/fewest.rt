@@ -2,7 +2,7 @@
 
 ghost use Rattle.std.specs.Prelude.{◌≡◌, IfOk, IfErr, MatchOption};
 ghost use Rattle.pf_base.specs.Answers.{IsLawfulClone};
-ghost use Rattle.pf_base.specs.Successors.{Precedes, IsShortestGoalPath};
+ghost use Rattle.pf_base.specs.Successors.{HasSuccessor, IsFewestEdgesGoalPath};
 ghost use Rattle.pf_base.specs.Walks.{HasNoGoalWalk};
 ghost use Rattle.pf_tests.specs.Pairs.{nodes_after, is_among};
 
@@ -31,8 +31,8 @@ where
     A: Allocator + Copy,
     requires clones { IsLawfulClone N.eq N.is_clone }
     ensures best { IfOk result (λ answer. MatchOption answer
-        (HasNoGoalWalk N.eq (Precedes N.eq (nodes_after N.eq edges.now)) starts.now (is_among N.eq goals.now))
-        (λ path. IsShortestGoalPath N.eq (nodes_after N.eq edges.now) starts.now (is_among N.eq goals.now) path.items)) }
+        (HasNoGoalWalk N.eq (HasSuccessor N.eq (nodes_after N.eq edges.now)) starts.now (is_among N.eq goals.now))
+        (λ path. IsFewestEdgesGoalPath N.eq (nodes_after N.eq edges.now) starts.now (is_among N.eq goals.now) path.items)) }
     ensures errors { IfErr result (λ e. e ≡ PathError.OutOfMemory) }
 {
     bfs(

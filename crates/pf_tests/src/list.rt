@@ -2,7 +2,7 @@
 
 ghost use Rattle.std.specs.Prelude.{◌≡◌, ◌⊎◌, ◌≤ℤ◌, ◌∷◌, [], All, pos, IfOk, IfErr, MatchOption};
 ghost use Rattle.pf_base.specs.Answers.{IsLawfulClone};
-ghost use Rattle.pf_base.specs.Edges.{IsSuccessor, IsBestGoalPath, IsPastRange};
+ghost use Rattle.pf_base.specs.Edges.{IsSuccessor, IsCheapestGoalPath, IsPastRange};
 ghost use Rattle.pf_base.specs.Walks.{HasNoGoalWalk};
 ghost use Rattle.pf_tests.specs.Lists.{edges_from};
 
@@ -27,7 +27,7 @@ where
     requires from_zero { All (λ e. pos 0 ≤ℤ C.value e.2) edges.now }
     ensures best { IfOk result (λ answer. MatchOption answer
         (HasNoGoalWalk N.eq (IsSuccessor N.eq (edges_from N.eq edges.now C.value)) (from ∷ []) (λ n. N.eq n to))
-        (λ found. IsBestGoalPath N.eq (edges_from N.eq edges.now C.value) (from ∷ []) (λ n. N.eq n to) found.0.items (C.value found.1))) }
+        (λ found. IsCheapestGoalPath N.eq (edges_from N.eq edges.now C.value) (from ∷ []) (λ n. N.eq n to) found.0.items (C.value found.1))) }
     ensures overflow { result ≡ Err PathError.CostOverflow
         → IsPastRange N.eq (edges_from N.eq edges.now C.value) (from ∷ []) (λ n. N.eq n to) C.fits }
     ensures errors { IfErr result (λ e. (e ≡ PathError.OutOfMemory) ⊎ (e ≡ PathError.CostOverflow)) }

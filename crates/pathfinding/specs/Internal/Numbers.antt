@@ -1,8 +1,8 @@
 -- The graph of numbered nodes that links stand for.
 use Rattle.std.specs.Prelude.{ℕ, ℤ, pos, nat_eq, List, [], ◌∷◌, map, ◌==◌}
 use Rattle.pf_base.specs.Walks.{HasNoGoalWalk}
-use Rattle.pf_base.specs.Edges.{IsSuccessor, IsBestGoalPath, IsPastRange}
-use Rattle.pf_base.specs.Successors.{IsShortestGoalPath}
+use Rattle.pf_base.specs.Edges.{IsSuccessor, IsCheapestGoalPath, IsPastRange}
+use Rattle.pf_base.specs.Successors.{IsFewestEdgesGoalPath}
 use Rattle.std.specs.Int.{FitsUnsignedBits}
 use Rattle.pathfinding.specs.Internal.Graph.{row_of}
 use Rattle.pathfinding.specs.declared.routes.graph.Graph.{Graph}
@@ -22,10 +22,10 @@ module _ {A : Type 0} (graph : Graph A) (from to : ℕ) where
   HasNoNumberedWalk = HasNoGoalWalk nat_eq (IsSuccessor nat_eq numbered_edges) (from ∷ []) (λ n. n == to)
 
   abbrev pub IsCheapestNumberedPath : List ℕ → ℕ → Type 0
-  IsCheapestNumberedPath path cost = IsBestGoalPath nat_eq numbered_edges (from ∷ []) (λ n. n == to) path (pos cost)
+  IsCheapestNumberedPath path cost = IsCheapestGoalPath nat_eq numbered_edges (from ∷ []) (λ n. n == to) path (pos cost)
 
   abbrev pub HasNumberedOverflow : Type 0
   HasNumberedOverflow = IsPastRange nat_eq numbered_edges (from ∷ []) (λ n. n == to) (FitsUnsignedBits 64)
 
-  abbrev pub IsShortestNumberedPath : List ℕ → Type 0
-  IsShortestNumberedPath path = IsShortestGoalPath nat_eq numbered_successors (from ∷ []) (λ n. n == to) path
+  abbrev pub IsFewestEdgesNumberedPath : List ℕ → Type 0
+  IsFewestEdgesNumberedPath path = IsFewestEdgesGoalPath nat_eq numbered_successors (from ∷ []) (λ n. n == to) path

@@ -2,7 +2,7 @@
 
 ghost use Rattle.std.specs.Prelude.{◌≡◌, ◌⊎◌, ℕ, ◌<◌, IfOk, IfErr, MatchOption, All};
 ghost use Rattle.pathfinding.specs.Internal.Graph.{row_of, node_count};
-ghost use Rattle.pathfinding.specs.Internal.Numbers.{HasNoNumberedWalk, IsCheapestNumberedPath, HasNumberedOverflow, IsShortestNumberedPath};
+ghost use Rattle.pathfinding.specs.Internal.Numbers.{HasNoNumberedWalk, IsCheapestNumberedPath, HasNumberedOverflow, IsFewestEdgesNumberedPath};
 
 use crate::routes::error::RouteError;
 use crate::routes::graph::Graph;
@@ -42,7 +42,7 @@ pub(crate) fn fewest_edges_path<A: Allocator + Copy>(
     requires start { from < node_count graph.now }
     requires targets { (n : ℕ) → n < node_count graph.now → All (λ s. s.0 < node_count graph.now) (row_of graph.now n) }
     ensures ok { IfOk result (λ answer. MatchOption answer (HasNoNumberedWalk graph.now from to)
-        (λ path. IsShortestNumberedPath graph.now from to path.items)) }
+        (λ path. IsFewestEdgesNumberedPath graph.now from to path.items)) }
     ensures err { IfErr result (λ e. e ≡ RouteError.OutOfMemory) }
 {
     // Neither call has another error than out of memory.

@@ -2,7 +2,7 @@
 
 ghost use Rattle.std.specs.Prelude.{◌≡◌, ◌+◌, ℕ, IfSome, IfNone, slice_get, length};
 ghost use Rattle.std.specs.Iterator.{YieldsFirst, item_count};
-ghost use Rattle.pf_base.specs.Moves.{Finds, IsMove, IsStep, times};
+ghost use Rattle.pf_base.specs.Moves.{Finds, IsMove, IsCoordinateStep, times};
 
 use std::marker::Model;
 
@@ -28,7 +28,7 @@ pub fn move_in_direction(
 
 /// The coordinate that is reached by one step, where it is below `size`.
 fn moved(from: usize, step: isize, size: usize) -> Option<usize>
-    ensures { Finds (IsStep from step size) result }
+    ensures { Finds (IsCoordinateStep from step size) result }
 {
     let to = from.checked_add_signed(step)?;
     if to < size { Some(to) } else { None }

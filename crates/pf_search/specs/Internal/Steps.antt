@@ -10,8 +10,8 @@ module _ {X : Type 0} (step : X → ℤ → X → Type 0) where
   GoesAlong a (b ∷ w) t = (z : ℤ) × (u : ℤ) × step a z b × GoesAlong b w u × (t ≡ z +ℤ u)
 
   -- no step costs less than 0
-  pub record IsPositive : Type 0 where
-    pub positive : (a : X) (z : ℤ) (b : X) → step a z b → pos 0 ≤ℤ z
+  pub record IsNonNegative : Type 0 where
+    pub non_negative : (a : X) (z : ℤ) (b : X) → step a z b → pos 0 ≤ℤ z
 
   -- each step costs 1
   pub record IsHop : Type 0 where

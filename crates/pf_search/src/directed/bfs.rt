@@ -1,8 +1,8 @@
 //! Paths with fewest edges (breadth-first search).
 
 ghost use Rattle.std.specs.Prelude.{◌≡◌, List, Bool, IfOk, IfErr, MatchOption};
-ghost use Rattle.pf_base.specs.Walks.{HasNoGoalWalk, IsReachable};
-ghost use Rattle.pf_base.specs.Successors.{Precedes, IsShortestGoalPath};
+ghost use Rattle.pf_base.specs.Walks.{HasNoGoalWalk};
+ghost use Rattle.pf_base.specs.Successors.{HasSuccessor, IsUnweightedSearch, IsFewestEdgesGoalPath};
 ghost use Rattle.pf_base.specs.Answers.{IsLawfulClone};
 
 use crate::discovery::{Discovery, Unweighted, clones_of};
@@ -43,15 +43,13 @@ where
     B: Allocator,
     requires clones { IsLawfulClone N.eq N.is_clone }
     requires graph { (next : N → List N) × (test : N → Bool)
-        × ⟦<FN as SuccessorFunction<N>>⟧.answers successors (IsReachable N.eq (Precedes N.eq next) starts.now) next
-        × ⟦<FS as NodeTest<N>>⟧.answers success (IsReachable N.eq (Precedes N.eq next) starts.now) test }
+        × IsUnweightedSearch N.eq next starts.now (⟦<FN as SuccessorFunction<N>>⟧.answers successors) (⟦<FS as NodeTest<N>>⟧.answers success) test }
 
     ensures best { (next : N → List N) (test : N → Bool)
-        → ⟦<FN as SuccessorFunction<N>>⟧.answers successors (IsReachable N.eq (Precedes N.eq next) starts.now) next
-        → ⟦<FS as NodeTest<N>>⟧.answers success (IsReachable N.eq (Precedes N.eq next) starts.now) test
+        → IsUnweightedSearch N.eq next starts.now (⟦<FN as SuccessorFunction<N>>⟧.answers successors) (⟦<FS as NodeTest<N>>⟧.answers success) test
         → IfOk result (λ answer. MatchOption answer
-        (HasNoGoalWalk N.eq (Precedes N.eq next) starts.now test)
-        (λ path. IsShortestGoalPath N.eq next starts.now test path.items)) }
+        (HasNoGoalWalk N.eq (HasSuccessor N.eq next) starts.now test)
+        (λ path. IsFewestEdgesGoalPath N.eq next starts.now test path.items)) }
 
     ensures errors { IfErr result (λ e. e ≡ PathError.OutOfMemory) }
 {

@@ -2,7 +2,7 @@
 
 ghost use Rattle.std.specs.Prelude.{◌≡◌, ◌⊎◌, ◌≤◌, ◌-◌, List, [], ◌∷◌, Bool, ℤ, IfOk, IfErr, MatchOption};
 ghost use Rattle.pf_base.specs.Walks.{HasNoGoalWalk, IsAtMostNumberOf};
-ghost use Rattle.pf_base.specs.Edges.{IsSuccessor, InReach, HasNoNegativeCost, IsBestGoalPath, IsPastRange};
+ghost use Rattle.pf_base.specs.Edges.{IsSuccessor, InReach, IsWeightedSearch, IsCheapestGoalPath, IsPastRange};
 ghost use Rattle.pf_base.specs.Answers.{IsLawfulClone};
 
 use crate::cheapest::cheapest_path;
@@ -48,22 +48,16 @@ where
     A: Allocator + Copy,
     requires clones { IsLawfulClone N.eq N.is_clone }
     requires graph { (edges : N → List (N × ℤ)) × (test : N → Bool)
-        × ⟦<FN as EdgeFunction<N, C>>⟧.answers successors (InReach N.eq edges (start.now ∷ [])) edges
-        × ⟦<FS as NodeTest<N>>⟧.answers success (InReach N.eq edges (start.now ∷ [])) test
-        × HasNoNegativeCost N.eq edges (start.now ∷ []) }
+        × IsWeightedSearch N.eq edges (start.now ∷ []) (⟦<FN as EdgeFunction<N, C>>⟧.answers successors) (⟦<FS as NodeTest<N>>⟧.answers success) test }
 
     ensures best { (edges : N → List (N × ℤ)) (test : N → Bool)
-        → ⟦<FN as EdgeFunction<N, C>>⟧.answers successors (InReach N.eq edges (start.now ∷ [])) edges
-        → ⟦<FS as NodeTest<N>>⟧.answers success (InReach N.eq edges (start.now ∷ [])) test
-        → HasNoNegativeCost N.eq edges (start.now ∷ [])
+        → IsWeightedSearch N.eq edges (start.now ∷ []) (⟦<FN as EdgeFunction<N, C>>⟧.answers successors) (⟦<FS as NodeTest<N>>⟧.answers success) test
         → IfOk result (λ answer. MatchOption answer
         (HasNoGoalWalk N.eq (IsSuccessor N.eq edges) (start.now ∷ []) test)
-        (λ found. IsBestGoalPath N.eq edges (start.now ∷ []) test found.0.items (C.value found.1))) }
+        (λ found. IsCheapestGoalPath N.eq edges (start.now ∷ []) test found.0.items (C.value found.1))) }
 
     ensures overflow { (edges : N → List (N × ℤ)) (test : N → Bool)
-        → ⟦<FN as EdgeFunction<N, C>>⟧.answers successors (InReach N.eq edges (start.now ∷ [])) edges
-        → ⟦<FS as NodeTest<N>>⟧.answers success (InReach N.eq edges (start.now ∷ [])) test
-        → HasNoNegativeCost N.eq edges (start.now ∷ [])
+        → IsWeightedSearch N.eq edges (start.now ∷ []) (⟦<FN as EdgeFunction<N, C>>⟧.answers successors) (⟦<FS as NodeTest<N>>⟧.answers success) test
         → result ≡ Err PathError.CostOverflow
         → IsPastRange N.eq edges (start.now ∷ []) test C.fits }
 
@@ -95,22 +89,16 @@ where
     A: Allocator + Copy,
     requires clones { IsLawfulClone N.eq N.is_clone }
     requires graph { (edges : N → List (N × ℤ)) × (test : N → Bool)
-        × ⟦<FN as EdgeFunction<N, C>>⟧.answers successors (InReach N.eq edges (start.now ∷ [])) edges
-        × ⟦<FS as NodeTest<N>>⟧.answers success (InReach N.eq edges (start.now ∷ [])) test
-        × HasNoNegativeCost N.eq edges (start.now ∷ []) }
+        × IsWeightedSearch N.eq edges (start.now ∷ []) (⟦<FN as EdgeFunction<N, C>>⟧.answers successors) (⟦<FS as NodeTest<N>>⟧.answers success) test }
 
     ensures best { (edges : N → List (N × ℤ)) (test : N → Bool)
-        → ⟦<FN as EdgeFunction<N, C>>⟧.answers successors (InReach N.eq edges (start.now ∷ [])) edges
-        → ⟦<FS as NodeTest<N>>⟧.answers success (InReach N.eq edges (start.now ∷ [])) test
-        → HasNoNegativeCost N.eq edges (start.now ∷ [])
+        → IsWeightedSearch N.eq edges (start.now ∷ []) (⟦<FN as EdgeFunction<N, C>>⟧.answers successors) (⟦<FS as NodeTest<N>>⟧.answers success) test
         → IfOk result (λ answer. MatchOption answer
         (HasNoGoalWalk N.eq (IsSuccessor N.eq edges) (start.now ∷ []) test)
-        (λ found. IsBestGoalPath N.eq edges (start.now ∷ []) test found.0.items (C.value found.1))) }
+        (λ found. IsCheapestGoalPath N.eq edges (start.now ∷ []) test found.0.items (C.value found.1))) }
 
     ensures overflow { (edges : N → List (N × ℤ)) (test : N → Bool)
-        → ⟦<FN as EdgeFunction<N, C>>⟧.answers successors (InReach N.eq edges (start.now ∷ [])) edges
-        → ⟦<FS as NodeTest<N>>⟧.answers success (InReach N.eq edges (start.now ∷ [])) test
-        → HasNoNegativeCost N.eq edges (start.now ∷ [])
+        → IsWeightedSearch N.eq edges (start.now ∷ []) (⟦<FN as EdgeFunction<N, C>>⟧.answers successors) (⟦<FS as NodeTest<N>>⟧.answers success) test
         → result ≡ Err PathError.CostOverflow
         → IsPastRange N.eq edges (start.now ∷ []) test C.fits }
 

@@ -18,12 +18,14 @@ bfs-requires-clause-graph g c =
     let test = is_among eq c.args.goals.now in (
       next,
       test,
-      successors_of next next
-          (λ x w. SameNodes-refl eq laws.refl (next x))
-          (λ x y w e. subst (λ xs. SameNodes eq (next x) xs) (nodes_after-same eq laws c.args.edges.now x y e) (SameNodes-refl eq laws.refl (next x)))
-          (λ x w. search rules)
-          (λ x r t w k. (search rules, gives_chain (λ it b. (search rules, search rules, YieldsList-from_filter_map _ (λ e. if eq e.0 x.now then Some e.1 else None) {f = record { 0 = x.now }} (YieldsList-from_slice c.args.edges.now (cc)) (cc) (λ e o q l. search (rules, tests)))))),
-      test_of test (λ x y w e. is_among-same eq laws c.args.goals.now x y e) (λ x w. search rules) (λ x r t w k. (search rules, search rules)),
+      record {
+        successors_answered = successors_of next next
+            (λ x w. SameNodes-refl eq laws.refl (next x))
+            (λ x y w e. subst (λ xs. SameNodes eq (next x) xs) (nodes_after-same eq laws c.args.edges.now x y e) (SameNodes-refl eq laws.refl (next x)))
+            (λ x w. search rules)
+            (λ x r t w k. (search rules, gives_chain (λ it b. (search rules, search rules, YieldsList-from_filter_map _ (λ e. if eq e.0 x.now then Some e.1 else None) {f = record { 0 = x.now }} (YieldsList-from_slice c.args.edges.now (cc)) (cc) (λ e o q l. search (rules, tests))))));
+        test_answered = test_of test (λ x y w e. is_among-same eq laws c.args.goals.now x y e) (λ x w. search rules) (λ x r t w k. (search rules, search rules));
+      },
     )
 
 pub returns : goal.returns
@@ -31,4 +33,4 @@ unfolding bfs-requires-clause-graph
 returns g c =
     let p = bfs-requires-clause-graph g c.before in
     let e = c.bfs.ensures in
-    record { best = e.best p.0 p.1 p.2 p.3; errors = e.errors }
+    record { best = e.best p.0 p.1 p.2; errors = e.errors }

@@ -11,9 +11,11 @@ dijkstra-requires-clause-graph g c =
     let step = entered c.args.heights.now c.args.dimensions c.args.bound in (
       steps_from c.args.heights.now c.args.dimensions c.args.bound,
       (λ cell. same_cell cell c.args.to),
-      grid_graph (λ z. pos z) four_directions step pair_refl pair_exact (λ x. search rules) (λ x r t k. (search rules, search rules, λ d. search rules, λ d o q l. (search rules, search rules))),
-      test_of (λ cell. same_cell cell c.args.to) (λ x y w e. ap (λ cell. same_cell cell c.args.to) (pair_exact x y e)) (λ x w. search rules) (λ x r t w k. (search rules, search rules)),
-      unsigned_cost same_cell (λ cell. filter_map (step cell) four_directions) (c.args.from ∷ []),
+      record {
+        edges_answered = grid_graph (λ z. pos z) four_directions step pair_refl pair_exact (λ x. search rules) (λ x r t k. (search rules, search rules, λ d. search rules, λ d o q l. (search rules, search rules)));
+        test_answered = test_of (λ cell. same_cell cell c.args.to) (λ x y w e. ap (λ cell. same_cell cell c.args.to) (pair_exact x y e)) (λ x w. search rules) (λ x r t w k. (search rules, search rules));
+        costs = unsigned_cost same_cell (λ cell. filter_map (step cell) four_directions) (c.args.from ∷ []);
+      },
     )
 
 pub returns : goal.returns
@@ -21,4 +23,4 @@ unfolding dijkstra-requires-clause-graph
 returns g c =
     let p = dijkstra-requires-clause-graph g c.before in
     let e = c.dijkstra.ensures in
-    record { best = e.best p.0 p.1 p.2 p.3 p.4; overflow = e.overflow p.0 p.1 p.2 p.3 p.4; errors = e.errors }
+    record { best = e.best p.0 p.1 p.2; overflow = e.overflow p.0 p.1 p.2; errors = e.errors }

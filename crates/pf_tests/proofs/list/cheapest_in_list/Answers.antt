@@ -18,13 +18,15 @@ dijkstra-requires-clause-graph g c =
     let listed = ends_from eq c.args.edges.now in (
       edges,
       (λ n. eq n c.args.to),
-      graph_of listed edges
-          (λ x w. ListsEdges-valued eq g.C.Number.value laws.refl (listed x))
-          (λ x y w e. subst (λ xs. ListsEdges eq (λ z. z) (edges x) (valued g.C.Number.value xs)) (ends_from-same eq laws c.args.edges.now x y e) (ListsEdges-refl eq laws.refl (edges x)))
-          (λ x w. search rules)
-          (λ x r t w k. (search rules, gives_chain (λ it b. (search rules, search rules, YieldsList-from_filter_map _ (λ e. if eq e.0 x.now then Some (e.1, e.2) else None) {f = record { 0 = x.now }} (YieldsList-from_slice c.args.edges.now (cc)) (cc) (λ e o q l. search (rules, tests)))))),
-      test_of (λ n. eq n c.args.to) (λ x y w e. laws.congr x y c.args.to e) (λ x w. search rules) (λ x r t w k. (search rules, search rules)),
-      list_from_zero eq g.C.Number.value c.args.edges.now (c.args.from ∷ []) c.requires.from_zero,
+      record {
+        edges_answered = graph_of listed edges
+            (λ x w. ListsEdges-valued eq g.C.Number.value laws.refl (listed x))
+            (λ x y w e. subst (λ xs. ListsEdges eq (λ z. z) (edges x) (valued g.C.Number.value xs)) (ends_from-same eq laws c.args.edges.now x y e) (ListsEdges-refl eq laws.refl (edges x)))
+            (λ x w. search rules)
+            (λ x r t w k. (search rules, gives_chain (λ it b. (search rules, search rules, YieldsList-from_filter_map _ (λ e. if eq e.0 x.now then Some (e.1, e.2) else None) {f = record { 0 = x.now }} (YieldsList-from_slice c.args.edges.now (cc)) (cc) (λ e o q l. search (rules, tests))))));
+        test_answered = test_of (λ n. eq n c.args.to) (λ x y w e. laws.congr x y c.args.to e) (λ x w. search rules) (λ x r t w k. (search rules, search rules));
+        costs = list_from_zero eq g.C.Number.value c.args.edges.now (c.args.from ∷ []) c.requires.from_zero;
+      },
     )
 
 pub returns : goal.returns
@@ -32,4 +34,4 @@ unfolding dijkstra-requires-clause-graph
 returns g c =
     let p = dijkstra-requires-clause-graph g c.before in
     let e = c.dijkstra.ensures in
-    record { best = e.best p.0 p.1 p.2 p.3 p.4; overflow = e.overflow p.0 p.1 p.2 p.3 p.4; errors = e.errors }
+    record { best = e.best p.0 p.1 p.2; overflow = e.overflow p.0 p.1 p.2; errors = e.errors }

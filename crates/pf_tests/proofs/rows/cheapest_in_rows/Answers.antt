@@ -12,10 +12,12 @@ dijkstra-requires-clause-graph g c =
     let items : Vec (ℕ × ℕ) Global → List (ℕ × ℕ) = λ row. row.items in (
       edges_of c.args.rows.now,
       (λ n. n == c.args.to),
-      rows_graph (λ z. pos z) items c.args.rows.now c.args.from c.requires.inside c.requires.in_range
-          (λ x l. search rules) (λ x r t l k. (search rules, grind (arith, common_steps, row_at-index))),
-      nat_test (λ n. n == c.args.to) (λ x w. search rules) (λ x r t w k. (search rules, search rules)),
-      unsigned_cost nat_eq (row_at items c.args.rows.now) (c.args.from ∷ []),
+      record {
+        edges_answered = rows_graph (λ z. pos z) items c.args.rows.now c.args.from c.requires.inside c.requires.in_range
+            (λ x l. search rules) (λ x r t l k. (search rules, grind (arith, common_steps, row_at-index)));
+        test_answered = nat_test (λ n. n == c.args.to) (λ x w. search rules) (λ x r t w k. (search rules, search rules));
+        costs = unsigned_cost nat_eq (row_at items c.args.rows.now) (c.args.from ∷ []);
+      },
     )
 
 pub returns : goal.returns
@@ -23,4 +25,4 @@ unfolding dijkstra-requires-clause-graph
 returns g c =
     let p = dijkstra-requires-clause-graph g c.before in
     let e = c.dijkstra.ensures in
-    record { best = e.best p.0 p.1 p.2 p.3 p.4; overflow = e.overflow p.0 p.1 p.2 p.3 p.4; errors = e.errors }
+    record { best = e.best p.0 p.1 p.2; overflow = e.overflow p.0 p.1 p.2; errors = e.errors }

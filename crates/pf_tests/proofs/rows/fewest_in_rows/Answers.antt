@@ -12,9 +12,11 @@ bfs-requires-clause-graph g c =
     let items : Vec ℕ Global → List ℕ = λ row. row.items in (
       nodes_after c.args.rows.now,
       (λ n. n == c.args.to),
-      rows_successors items c.args.rows.now c.args.starts.now c.requires.inside c.requires.in_range
-          (λ x l. search rules) (λ x r t l k. (search rules, grind (arith, common_steps, row_at-index))),
-      nat_test (λ n. n == c.args.to) (λ x w. search rules) (λ x r t w k. (search rules, search rules)),
+      record {
+        successors_answered = rows_successors items c.args.rows.now c.args.starts.now c.requires.inside c.requires.in_range
+            (λ x l. search rules) (λ x r t l k. (search rules, grind (arith, common_steps, row_at-index)));
+        test_answered = nat_test (λ n. n == c.args.to) (λ x w. search rules) (λ x r t w k. (search rules, search rules));
+      },
     )
 
 pub returns : goal.returns
@@ -22,4 +24,4 @@ unfolding bfs-requires-clause-graph
 returns g c =
     let p = bfs-requires-clause-graph g c.before in
     let e = c.bfs.ensures in
-    record { best = e.best p.0 p.1 p.2 p.3; errors = e.errors }
+    record { best = e.best p.0 p.1 p.2; errors = e.errors }

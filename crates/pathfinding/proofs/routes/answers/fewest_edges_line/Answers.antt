@@ -7,7 +7,7 @@ use Rattle.pathfinding.specs.AnswerText.{path_line}
 use Rattle.pathfinding.specs.Internal.Parsed.{RefusesText}
 use Rattle.pathfinding.specs.declared.routes.error.RouteError.{RouteError}
 use Rattle.pathfinding.specs.declared.routes.error.RouteError.TheVariants.{OutOfMemory}
-use Rattle.pathfinding.proofs.Networks.{targets, has_no_walk, is_shortest, shortest-below, shortest-some, in_table, path_named}
+use Rattle.pathfinding.proofs.Networks.{targets, has_no_walk, is_fewest, fewest-below, fewest-some, in_table, path_named}
 use Rattle.pathfinding.proofs.Outcomes.{refused_by, at_some, at_none}
 use Rattle.pathfinding.proofs.routes.answers.fewest_edges_line.Goals as goal
 
@@ -30,7 +30,7 @@ pub write_path-requires : goal.write_path-requires
 write_path-requires g c =
     let h = c.in_ok-network.ensures.ok in
     let found = at_some _ _ _ _ c.in-Some.is c.in_ok-fewest_edges_path.ensures.ok in
-    subst (All (λ n. n < table_len c.in_ok-network.network.names)) (sym c.as_slice.ensures.value) (in_table c.in_ok-network.network h.0 _ _ h.2 c.in-Some.path.items (shortest-below c.in_ok-network.network h.0 _ _ h.2 c.in-Some.path.items found))
+    subst (All (λ n. n < table_len c.in_ok-network.network.names)) (sym c.as_slice.ensures.value) (in_table c.in_ok-network.network h.0 _ _ h.2 c.in-Some.path.items (fewest-below c.in_ok-network.network h.0 _ _ h.2 c.in-Some.path.items found))
 
 pub returns-in_err-write_path-in-Some-clause-err : goal.returns-in_err-write_path-in-Some-clause-err
 returns-in_err-write_path-in-Some-clause-err g c = refused_by _ _ c.from_residual-in_err-write_path-in-Some.result (no_memory c.args.text.items) c.from_residual-in_err-write_path-in-Some.ensures.1
@@ -40,14 +40,14 @@ returns-clause-ok g c =
     let h = c.in_ok-network.ensures.ok in
     let found = at_some _ _ _ _ c.in-Some.is c.in_ok-fewest_edges_path.ensures.ok in
     let keys = h.2.names in
-    let named = path_named c.in_ok-network.network h.0 _ _ h.2 c.in-Some.path.items (shortest-below c.in_ok-network.network h.0 _ _ h.2 c.in-Some.path.items found) in (
+    let named = path_named c.in_ok-network.network h.0 _ _ h.2 c.in-Some.path.items (fewest-below c.in_ok-network.network h.0 _ _ h.2 c.in-Some.path.items found) in (
       h.0,
       h.1,
       inr (record {
         path = map (name_at keys) c.in-Some.path.items;
         edge_count = c.len-edge_count.result - 1;
-        shortest = is_shortest c.in_ok-network.network h.0 _ _ h.2 c.in-Some.path.items found;
-        counted = omega (arith, shortest-some c.in_ok-network.network h.0 _ _ h.2 c.in-Some.path.items found, length-map c.in-Some.path.items (name_at keys), c.len-edge_count.ensures, c.in-Some.path.ok.0);
+        fewest = is_fewest c.in_ok-network.network h.0 _ _ h.2 c.in-Some.path.items found;
+        counted = omega (arith, fewest-some c.in_ok-network.network h.0 _ _ h.2 c.in-Some.path.items found, length-map c.in-Some.path.items (name_at keys), c.len-edge_count.ensures, c.in-Some.path.ok.0);
         written = c.in_ok-write_path-in-Some.ensures ∙ ap (λ l. path_line (c.len-edge_count.result - 1) (map (name_in c.in_ok-network.network.names) l)) c.as_slice.ensures.value ∙ ap (path_line (c.len-edge_count.result - 1)) named;
       }),
     )

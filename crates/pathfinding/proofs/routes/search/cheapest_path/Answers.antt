@@ -15,22 +15,24 @@ dijkstra-requires-clause-graph g c =
     let below = nat_reach_keeps (λ z. pos z) listed (λ n. n < count) c.args.from c.requires.start (λ n p. recursion_from_All (λ (s : ℕ × ℕ). s.0 < count) (listed n) (c.requires.targets n p)) in (
       numbered_edges graph c.args.from c.args.to,
       (λ n. n == c.args.to),
-      nat_graph listed (λ x w. let l = below x.now w in search rules) (λ x r t w k. let l = below x.now w in (
-        search rules,
-        record {
-          can_next = λ it b. search rules;
-          finite = λ it b. let l = below x.now w in search rules;
-          items = λ it b p g o u. grind (arith, common_steps);
-        },
-      )),
-      nat_test (λ n. n == c.args.to) (λ x w. search rules) (λ x r t w k. (search rules, search rules)),
-      unsigned_cost nat_eq listed (c.args.from ∷ []),
+      record {
+        edges_answered = nat_graph listed (λ x w. let l = below x.now w in search rules) (λ x r t w k. let l = below x.now w in (
+          search rules,
+          record {
+            can_next = λ it b. search rules;
+            finite = λ it b. let l = below x.now w in search rules;
+            items = λ it b p g o u. grind (arith, common_steps);
+          },
+        ));
+        test_answered = nat_test (λ n. n == c.args.to) (λ x w. search rules) (λ x r t w k. (search rules, search rules));
+        costs = unsigned_cost nat_eq listed (c.args.from ∷ []);
+      },
     )
 
 pub returns-in-Ok-clause-ok : goal.returns-in-Ok-clause-ok
 unfolding dijkstra-requires-clause-graph
-returns-in-Ok-clause-ok g c = let p = dijkstra-requires-clause-graph g c.before.before in c.in-Ok.ensures.best p.0 p.1 p.2 p.3 p.4
+returns-in-Ok-clause-ok g c = let p = dijkstra-requires-clause-graph g c.before.before in c.in-Ok.ensures.best p.0 p.1 p.2
 
 pub returns-in-Err-CostOverflow-clause-err : goal.returns-in-Err-CostOverflow-clause-err
 unfolding dijkstra-requires-clause-graph
-returns-in-Err-CostOverflow-clause-err g c = let p = dijkstra-requires-clause-graph g c.before.before in inr (refl, c.in-Err-CostOverflow.ensures.overflow p.0 p.1 p.2 p.3 p.4 (ap Err c.in-Err-CostOverflow.field-0-is))
+returns-in-Err-CostOverflow-clause-err g c = let p = dijkstra-requires-clause-graph g c.before.before in inr (refl, c.in-Err-CostOverflow.ensures.overflow p.0 p.1 p.2 (ap Err c.in-Err-CostOverflow.field-0-is))

@@ -29,15 +29,17 @@ bfs-requires-clause-graph g c =
     bounded x (reach_costed nat_eq edges (c.args.from ∷ []) x (subst (λ s. IsReachable nat_eq (Leads nat_eq edges) s x) one r)) in (
       next,
       (λ n. n == c.args.to),
-      successors_of (λ n. map (λ (s : ℕ × ℕ). s.0) (row_of graph n)) next
-          (λ x w. same_targets (row_of graph x))
-          (λ x y w e. subst (λ ns. SameNodes nat_eq (next x) ns) (nat_same next x y e) (SameNodes-refl nat_eq nat_refl (next x)))
-          (λ x w. let l = below x.now w in search rules)
-          (λ x r t w k. let l = below x.now w in (
-            search rules,
-            gives_chain (λ it b. (search rules, search rules, YieldsList-from_map _ (λ (s : ℕ × ℕ). s.0) {f = tt} (YieldsList-from_slice (row_of graph x.now) (grind (arith, common_steps))) (cc) (λ m o q l. search rules))),
-          )),
-      nat_test (λ n. n == c.args.to) (λ x w. search rules) (λ x r t w k. (search rules, search rules)),
+      record {
+        successors_answered = successors_of (λ n. map (λ (s : ℕ × ℕ). s.0) (row_of graph n)) next
+            (λ x w. same_targets (row_of graph x))
+            (λ x y w e. subst (λ ns. SameNodes nat_eq (next x) ns) (nat_same next x y e) (SameNodes-refl nat_eq nat_refl (next x)))
+            (λ x w. let l = below x.now w in search rules)
+            (λ x r t w k. let l = below x.now w in (
+              search rules,
+              gives_chain (λ it b. (search rules, search rules, YieldsList-from_map _ (λ (s : ℕ × ℕ). s.0) {f = tt} (YieldsList-from_slice (row_of graph x.now) (grind (arith, common_steps))) (cc) (λ m o q l. search rules))),
+            ));
+        test_answered = nat_test (λ n. n == c.args.to) (λ x w. search rules) (λ x r t w k. (search rules, search rules));
+      },
     )
 
 pub returns-in-Ok-bfs-clause-ok : goal.returns-in-Ok-bfs-clause-ok
@@ -46,4 +48,4 @@ returns-in-Ok-bfs-clause-ok g c =
     let p = bfs-requires-clause-graph g c.before.before.before in
     let edges = numbered_edges c.args.graph.now c.args.from c.args.to in
     let one : c.in-Ok.starts ≡ c.args.from ∷ [] = search rules in
-    answer_costed nat_eq edges (λ path. path.items) c.in-Ok.starts (c.args.from ∷ []) (λ n. n == c.args.to) c.in-Ok-bfs.answer one (c.in-Ok-bfs.ensures.best p.0 p.1 p.2 p.3)
+    answer_costed nat_eq edges (λ path. path.items) c.in-Ok.starts (c.args.from ∷ []) (λ n. n == c.args.to) c.in-Ok-bfs.answer one (c.in-Ok-bfs.ensures.best p.0 p.1 p.2)

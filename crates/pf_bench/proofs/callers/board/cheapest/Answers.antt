@@ -12,7 +12,9 @@ dijkstra-requires-clause-graph c =
     let step = entered c.args.board.now.heights.items c.args.board.now.size in (
       steps_from c.args.board.now.heights.items c.args.board.now.size,
       (λ cell. same_cell cell goal_cell),
-      grid_graph (λ z. pos z) four_directions step pair_refl pair_exact (λ x. search rules) (λ x r t k. (search rules, search rules, λ d. search rules, λ d o q l. (search rules, search rules))),
-      test_of (λ cell. same_cell cell goal_cell) (λ x y w e. ap (λ cell. same_cell cell goal_cell) (pair_exact x y e)) (λ x w. search rules) (λ x r t w k. (search rules, search rules)),
-      unsigned_cost same_cell (λ cell. filter_map (step cell) four_directions) ((0, 0) ∷ []),
+      record {
+        edges_answered = grid_graph (λ z. pos z) four_directions step pair_refl pair_exact (λ x. search rules) (λ x r t k. (search rules, search rules, λ d. search rules, λ d o q l. (search rules, search rules)));
+        test_answered = test_of (λ cell. same_cell cell goal_cell) (λ x y w e. ap (λ cell. same_cell cell goal_cell) (pair_exact x y e)) (λ x w. search rules) (λ x r t w k. (search rules, search rules));
+        costs = unsigned_cost same_cell (λ cell. filter_map (step cell) four_directions) ((0, 0) ∷ []);
+      },
     )

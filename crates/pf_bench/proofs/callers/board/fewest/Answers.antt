@@ -9,6 +9,8 @@ bfs-requires-clause-graph c =
     let goal_cell = c.last_cell-goal.result in (
       cells_from c.args.board.now.size,
       (λ cell. same_cell cell goal_cell),
-      grid_successors four_directions (entered_cell c.args.board.now.size) pair_refl pair_exact (λ x. search rules) (λ x r t k. (search rules, search rules, λ d. search rules, λ d o q l. (search rules, search rules))),
-      test_of (λ cell. same_cell cell goal_cell) (λ x y w e. ap (λ cell. same_cell cell goal_cell) (pair_exact x y e)) (λ x w. search rules) (λ x r t w k. (search rules, search rules)),
+      record {
+        successors_answered = grid_successors four_directions (entered_cell c.args.board.now.size) pair_refl pair_exact (λ x. search rules) (λ x r t k. (search rules, search rules, λ d. search rules, λ d o q l. (search rules, search rules)));
+        test_answered = test_of (λ cell. same_cell cell goal_cell) (λ x y w e. ap (λ cell. same_cell cell goal_cell) (pair_exact x y e)) (λ x w. search rules) (λ x r t w k. (search rules, search rules));
+      },
     )

@@ -10,8 +10,10 @@ dijkstra-requires-clause-graph c =
     let row = between rows.offsets.items rows.edges.items in (
       (λ n. valued (λ z. pos z) (row n)),
       (λ n. n == c.last_node-goal.result),
-      compact_graph (λ z. pos z) rows.offsets.items rows.edges.items 0 rows.has_a_node rows.in_range rows.rising rows.within
-          (λ x l. search rules) (λ x r t l k. (search rules, search rules)),
-      nat_test (λ n. n == c.last_node-goal.result) (λ x w. search rules) (λ x r t w k. (search rules, search rules)),
-      unsigned_cost nat_eq row (0 ∷ []),
+      record {
+        edges_answered = compact_graph (λ z. pos z) rows.offsets.items rows.edges.items 0 rows.has_a_node rows.in_range rows.rising rows.within
+            (λ x l. search rules) (λ x r t l k. (search rules, search rules));
+        test_answered = nat_test (λ n. n == c.last_node-goal.result) (λ x w. search rules) (λ x r t w k. (search rules, search rules));
+        costs = unsigned_cost nat_eq row (0 ∷ []);
+      },
     )

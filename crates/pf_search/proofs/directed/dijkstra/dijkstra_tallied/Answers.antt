@@ -3,7 +3,7 @@ use Rattle.std.specs.Prelude.{Err}
 use Rattle.pf_base.specs.declared.error.PathError.TheVariants.{CostOverflow}
 use Rattle.pf_search.specs.Internal.Nodes.{TestedGraph}
 use Rattle.pf_search.specs.Internal.NodeLaws.{StandsFor-one}
-use Rattle.pf_search.proofs.WalkLemmas.{all_starts, only_starts, positive, no_walk, best_answer, past_range}
+use Rattle.pf_search.proofs.WalkLemmas.{all_starts, only_starts, no_negative, no_walk, best_answer, past_range}
 use Rattle.pf_search.proofs.NodeLemmas.{Explores-edges, at_most}
 use Rattle.pf_search.proofs.directed.dijkstra.dijkstra_tallied.Goals as goal
 
@@ -19,10 +19,12 @@ cheapest_path-requires-clause-graph g c =
     let r = c.requires.graph in
     let found = c.in_ok-clone_of in
     let h = tested c.args.start.now r.0 r.1 in
-    (h, (Explores-edges g.N.PartialEq.eq g.met.N.Eq.laws _ _ _ _ _ _ h.graph found.field-0.keys _ found.ensures.distinct found.ensures.same r.2, r.3))
+    (h, (Explores-edges g.N.PartialEq.eq g.met.N.Eq.laws _ _ _ _ _ _ h.graph found.field-0.keys _ found.ensures.distinct found.ensures.same r.2.edges_answered, r.2.test_answered))
 
 pub returns-in_err-cheapest_path-clause-overflow : goal.returns-in_err-cheapest_path-clause-overflow
-returns-in_err-cheapest_path-clause-overflow g c = λ edges test a t p e.
+returns-in_err-cheapest_path-clause-overflow g c = λ edges test s e.
+    let a = s.edges_answered in
+    let t = s.test_answered in
     let eq = g.N.PartialEq.eq in
     let laws = g.met.N.Eq.laws in
     let start = c.args.start.now in
@@ -32,25 +34,29 @@ returns-in_err-cheapest_path-clause-overflow g c = λ edges test a t p e.
     let keys = c.cheapest_path.new.graph.discovery.nodes.keys in
     let y = c.in_err-cheapest_path.ensures.graph h (x, t) in
     let f : c.in_err-cheapest_path.field-0.0 ≡ CostOverflow = search rules in
-    let d = c.in_err-cheapest_path.ensures.overflow h (x, t) (positive eq laws h.graph a.alike p) (ap Err f) in
+    let d = c.in_err-cheapest_path.ensures.overflow h (x, t) (no_negative eq laws h.graph a.alike s.costs) (ap Err f) in
     past_range eq laws h.graph a.alike _ (all_starts eq start _ found.ensures.begins) (only_starts eq start _ found.ensures.begins) test g.C.Number.fits keys (StandsFor-one eq laws keys y.0.distinct) d
 
 pub returns-in-None-clause-best : goal.returns-in-None-clause-best
-returns-in-None-clause-best g c = λ edges test a t p.
+returns-in-None-clause-best g c = λ edges test s.
+    let a = s.edges_answered in
+    let t = s.test_answered in
     let eq = g.N.PartialEq.eq in
     let laws = g.met.N.Eq.laws in
     let start = c.args.start.now in
     let found = c.in_ok-clone_of in
     let h = tested start edges test in
     let x = Explores-edges eq laws _ _ _ _ _ _ h.graph found.field-0.keys _ found.ensures.distinct found.ensures.same a in
-    let b = rw c.in-None.is at (c.in_ok-cheapest_path.ensures.best h (x, t) (positive eq laws h.graph a.alike p)) in
+    let b = rw c.in-None.is at (c.in_ok-cheapest_path.ensures.best h (x, t) (no_negative eq laws h.graph a.alike s.costs)) in
     no_walk eq laws h.graph a.alike _ (all_starts eq start _ found.ensures.begins) (only_starts eq start _ found.ensures.begins) test b
 
 pub nodes_at-requires-clause-inside : goal.nodes_at-requires-clause-inside
 nodes_at-requires-clause-inside g c = λ k h. (rw c.in-Some.is at c.in_ok-cheapest_path.ensures.inside) k (rw c.deref.ensures.value at h)
 
 pub returns-clause-best : goal.returns-clause-best
-returns-clause-best g c = λ edges test a t p.
+returns-clause-best g c = λ edges test s.
+    let a = s.edges_answered in
+    let t = s.test_answered in
     let eq = g.N.PartialEq.eq in
     let laws = g.met.N.Eq.laws in
     let start = c.args.start.now in
@@ -59,7 +65,7 @@ returns-clause-best g c = λ edges test a t p.
     let x = Explores-edges eq laws _ _ _ _ _ _ h.graph found.field-0.keys _ found.ensures.distinct found.ensures.same a in
     let keys = c.cheapest_path.new.graph.discovery.nodes.keys in
     let y = c.in_ok-cheapest_path.ensures.graph h (x, t) in
-    let b = rw c.in-Some.is at (c.in_ok-cheapest_path.ensures.best h (x, t) (positive eq laws h.graph a.alike p)) in
+    let b = rw c.in-Some.is at (c.in_ok-cheapest_path.ensures.best h (x, t) (no_negative eq laws h.graph a.alike s.costs)) in
     best_answer eq laws h.graph a.alike _ (all_starts eq start _ found.ensures.begins) (only_starts eq start _ found.ensures.begins) test t.alike keys (StandsFor-one eq laws keys y.0.distinct) c.in-Some.numbers.items c.in_ok-path-in-Some.path.items (g.C.Number.value c.in-Some.cost) b (rw c.deref.ensures.value at c.in_ok-path-in-Some.ensures.nodes)
 
 pub returns-in_err-path-in-Some-clause-asked : goal.returns-in_err-path-in-Some-clause-asked

@@ -10,8 +10,10 @@ dijkstra_tallied-requires-clause-graph g c =
     let items : Bor (List (ℕ × ℕ)) → List (ℕ × ℕ) = λ row. row.now in (
       (λ n. valued (λ z. pos z) (row_at items c.args.rows.now n)),
       (λ n. n == 3),
-      rows_graph (λ z. pos z) items c.args.rows.now 0 c.requires.inside c.requires.in_range
-          (λ x l. search rules) (λ x r t l k. (search rules, grind (arith, common_steps, row_at-index))),
-      nat_test (λ n. n == 3) (λ x w. search rules) (λ x r t w k. (search rules, search rules)),
-      unsigned_cost nat_eq (row_at items c.args.rows.now) (0 ∷ []),
+      record {
+        edges_answered = rows_graph (λ z. pos z) items c.args.rows.now 0 c.requires.inside c.requires.in_range
+            (λ x l. search rules) (λ x r t l k. (search rules, grind (arith, common_steps, row_at-index)));
+        test_answered = nat_test (λ n. n == 3) (λ x w. search rules) (λ x r t w k. (search rules, search rules));
+        costs = unsigned_cost nat_eq (row_at items c.args.rows.now) (0 ∷ []);
+      },
     )

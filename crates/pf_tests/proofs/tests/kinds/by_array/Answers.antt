@@ -14,7 +14,9 @@ dijkstra-requires-clause-graph g c =
     let below : (n : ℕ) → InReach nat_eq edges (1 ∷ []) n → n < 100 = nat_reach_keeps (λ z. pos z) listed (λ n. n < 100) 1 (omega arith) (λ n p. (omega (arith, mod_below (n + 1) count c.requires.some, c.requires.few), (omega (arith, mod_below (n * 2) count c.requires.some, c.requires.few), tt))) in (
       edges,
       (λ n. n == c.args.goal),
-      nat_graph listed (λ x w. let l = below x.now w in search rules) (λ x r t w k. let is : r ≡ listed x.now = search rules in (search rules, gives_chain (λ it b. (tt, tt, YieldsList-from_array (listed x.now) (b.0 ∙ is))))),
-      nat_test (λ n. n == c.args.goal) (λ x w. search rules) (λ x r t w k. (search rules, search rules)),
-      unsigned_cost nat_eq listed (1 ∷ []),
+      record {
+        edges_answered = nat_graph listed (λ x w. let l = below x.now w in search rules) (λ x r t w k. let is : r ≡ listed x.now = search rules in (search rules, gives_chain (λ it b. (tt, tt, YieldsList-from_array (listed x.now) (b.0 ∙ is)))));
+        test_answered = nat_test (λ n. n == c.args.goal) (λ x w. search rules) (λ x r t w k. (search rules, search rules));
+        costs = unsigned_cost nat_eq listed (1 ∷ []);
+      },
     )

@@ -16,7 +16,9 @@ dijkstra-requires-clause-graph g c =
     let below = nat_reach_keeps (λ z. pos z) listed (λ n. n < length rows) 0 c.requires.inside (λ n p. filter_all (λ (e : ℕ × ℕ). e.0 < length rows) cheap (row n) (row_all (λ (e : ℕ × ℕ). e.0 < length rows) (λ (row : Bor (List (ℕ × ℕ))). row.now) rows c.requires.in_range n)) in (
       (λ n. valued (λ z. pos z) (listed n)),
       (λ n. n == 2),
-      nat_graph listed (λ x w. let l = below x.now w in search rules) (λ x r t w k. let l = below x.now w in (search rules, gives_chain (λ it b. (search rules, search rules, YieldsList-from_filter _ cheap {f = record { 0 = c.args.limit }} (YieldsList-from_copied (YieldsList-from_slice (row x.now) (grind (arith, row_at-index)))) (cc) (λ e o q m. search (rules, tests)))))),
-      nat_test (λ n. n == 2) (λ x w. search rules) (λ x r t w k. (search rules, search rules)),
-      unsigned_cost nat_eq listed (0 ∷ []),
+      record {
+        edges_answered = nat_graph listed (λ x w. let l = below x.now w in search rules) (λ x r t w k. let l = below x.now w in (search rules, gives_chain (λ it b. (search rules, search rules, YieldsList-from_filter _ cheap {f = record { 0 = c.args.limit }} (YieldsList-from_copied (YieldsList-from_slice (row x.now) (grind (arith, row_at-index)))) (cc) (λ e o q m. search (rules, tests))))));
+        test_answered = nat_test (λ n. n == 2) (λ x w. search rules) (λ x r t w k. (search rules, search rules));
+        costs = unsigned_cost nat_eq listed (0 ∷ []);
+      },
     )

@@ -9,7 +9,9 @@ dijkstra-requires-clause-graph g c =
     let listed : ℕ → List (ℕ × ℕ) = λ n. (98, 1) ∷ [] in (
       (λ n. (98, pos 1) ∷ []),
       (λ n. n == 99),
-      nat_graph_by listed (λ s. Unit {0}) tt (λ s x j w. search rules) (λ s x r t j w k. let is : r ≡ listed x.now = search rules in (tt, gives_chain (λ it b. (tt, tt, YieldsList-from_array (listed x.now) (b.0 ∙ is))))),
-      nat_test (λ n. n == 99) (λ x w. search rules) (λ x r t w k. (search rules, search rules)),
-      unsigned_cost nat_eq listed (97 ∷ []),
+      record {
+        edges_answered = nat_graph_by listed (λ s. Unit {0}) tt (λ s x j w. search rules) (λ s x r t j w k. let is : r ≡ listed x.now = search rules in (tt, gives_chain (λ it b. (tt, tt, YieldsList-from_array (listed x.now) (b.0 ∙ is)))));
+        test_answered = nat_test (λ n. n == 99) (λ x w. search rules) (λ x r t w k. (search rules, search rules));
+        costs = unsigned_cost nat_eq listed (97 ∷ []);
+      },
     )

@@ -11,7 +11,9 @@ dijkstra-requires-clause-graph g c =
     let listed : ℕ → List (ℕ × ℕ) = λ n. map (λ m. (m, 5)) (range_with_len n (10 - n)) in (
       (λ n. valued (λ z. pos z) (listed n)),
       (λ n. n == 7),
-      nat_graph listed (λ x w. search rules) (λ x r t w k. (search rules, gives_chain (λ it b. (search rules, search rules, YieldsList-from_map _ (λ m. (m, 5)) {f = tt} (YieldsList-from_range x.now 10 (10 - x.now) (cc) refl) (cc) (λ m o q l. search rules))))),
-      nat_test (λ n. n == 7) (λ x w. search rules) (λ x r t w k. (search rules, search rules)),
-      unsigned_cost nat_eq listed (3 ∷ []),
+      record {
+        edges_answered = nat_graph listed (λ x w. search rules) (λ x r t w k. (search rules, gives_chain (λ it b. (search rules, search rules, YieldsList-from_map _ (λ m. (m, 5)) {f = tt} (YieldsList-from_range x.now 10 (10 - x.now) (cc) refl) (cc) (λ m o q l. search rules)))));
+        test_answered = nat_test (λ n. n == 7) (λ x w. search rules) (λ x r t w k. (search rules, search rules));
+        costs = unsigned_cost nat_eq listed (3 ∷ []);
+      },
     )

@@ -12,7 +12,9 @@ dijkstra-requires-clause-graph g c =
     let below = nat_reach_keeps (λ z. pos z) listed (λ n. n < length rows) 0 c.requires.inside (λ n p. row_all (λ (e : ℕ × ℕ). e.0 < length rows) (λ (row : Vec (ℕ × ℕ) Global). row.items) rows c.requires.in_range n) in (
       (λ n. valued (λ z. pos z) (listed n)),
       (λ n. n == 2),
-      nat_graph listed (λ x w. let l = below x.now w in search rules) (λ x r t w k. let l = below x.now w in (search rules, record { can_next = λ it b. search rules; finite = λ it b. search rules; items = λ it b p t o u. grind (arith, common_steps, row_at-index) })),
-      nat_test (λ n. n == 2) (λ x w. search rules) (λ x r t w k. (search rules, search rules)),
-      unsigned_cost nat_eq listed (0 ∷ []),
+      record {
+        edges_answered = nat_graph listed (λ x w. let l = below x.now w in search rules) (λ x r t w k. let l = below x.now w in (search rules, record { can_next = λ it b. search rules; finite = λ it b. search rules; items = λ it b p t o u. grind (arith, common_steps, row_at-index) }));
+        test_answered = nat_test (λ n. n == 2) (λ x w. search rules) (λ x r t w k. (search rules, search rules));
+        costs = unsigned_cost nat_eq listed (0 ∷ []);
+      },
     )

@@ -10,11 +10,13 @@ dijkstra-requires-clause-graph g c =
     let edges : Bool → List (Bool × ℤ) = λ n. (not n, pos 3) ∷ [] in (
       edges,
       (λ n. n),
-      graph_of edges edges
-          (λ x w. search rules)
-          (λ x y w e. search rules)
-          (λ x w. search rules)
-          (λ x r t w k. let is : r ≡ edges x.now = search rules in (search rules, gives_chain (λ it b. (tt, tt, YieldsList-from_array (edges x.now) (b.0 ∙ is))))),
-      test_of (λ n. n) (λ x y w e. search rules) (λ x w. search rules) (λ x r t w k. (search rules, search rules)),
-      no_negative_edge _ edges (false ∷ []) (λ x w. (omega (arith, ints), tt)),
+      record {
+        edges_answered = graph_of edges edges
+            (λ x w. search rules)
+            (λ x y w e. search rules)
+            (λ x w. search rules)
+            (λ x r t w k. let is : r ≡ edges x.now = search rules in (search rules, gives_chain (λ it b. (tt, tt, YieldsList-from_array (edges x.now) (b.0 ∙ is)))));
+        test_answered = test_of (λ n. n) (λ x y w e. search rules) (λ x w. search rules) (λ x r t w k. (search rules, search rules));
+        costs = no_negative_edge _ edges (false ∷ []) (λ x w. (omega (arith, ints), tt));
+      },
     )
