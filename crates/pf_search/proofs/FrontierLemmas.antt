@@ -50,7 +50,7 @@ module _ {X : Type 0} (step : X → ℤ → X → Type 0) (stands : ℕ → X �
 -- a walk costs no less than 0
 pub walk_positive : {X : Type 0} (step : X → ℤ → X → Type 0) → IsNonNegative step → (w : List X) (a : X) (t : ℤ) → GoesAlong step a w t → pos 0 ≤ℤ t
 walk_positive step p [] a t h = omega (arith, ints, h)
-walk_positive step p (b ∷ w) a t h = omega (arith, ints, p.positive a h.0 b h.2, walk_positive step p w b h.1 h.3, h.4)
+walk_positive step p (b ∷ w) a t h = omega (arith, ints, p.non_negative a h.0 b h.2, walk_positive step p w b h.1 h.3, h.4)
 
 module _ {X : Type 0} (step : X → ℤ → X → Type 0) where
   -- a walk and one step more
