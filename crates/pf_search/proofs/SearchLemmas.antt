@@ -119,7 +119,7 @@ module _ {X C : Type 0} (measure : C → ℕ → ℤ) (step : X → ℤ → X �
         within j m h = omega (arith, HasLabel-inside labels j m h, inside)
 
         price_positive : (j : ℕ) (d : C) → Contains row (j, d) → pos 0 ≤ℤ worth d
-        price_positive j d h = let r = (least_path tree k l picked).1 in let q = (lists (end_of r.first r.nodes) r.here).sound j d h in p.positive (end_of r.first r.nodes) (worth d) q.0 q.1
+        price_positive j d h = let r = (least_path tree k l picked).1 in let q = (lists (end_of r.first r.nodes) r.here).sound j d h in p.non_negative (end_of r.first r.nodes) (worth d) q.0 q.1
 
         -- a label before the row was read
         before : (j : ℕ) (m : Label C) → HasLabel labels2 j m → ((j ≡ k) × (m ≡ record l { settled = true })) ⊎ ((j ≢ k) × HasLabel labels j m)
