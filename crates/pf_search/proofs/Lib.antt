@@ -1,14 +1,1 @@
-pub mod ListLemmas
-pub mod SlotLemmas
-pub mod LabelLemmas
-pub mod SumLemmas
-pub mod QueueLemmas
-pub mod FrontierLemmas
-pub mod PathLemmas
-pub mod SearchLemmas
-pub mod TurnLemmas
-pub mod NodeLemmas
-pub mod WalkLemmas
-pub mod HopLemmas
-pub mod UnitLemmas
 pub mod LawLemmas

@@ -5,10 +5,10 @@ ghost use Rattle.pf_base.specs.Walks.{HasNoGoalWalk};
 ghost use Rattle.pf_base.specs.Successors.{HasSuccessor, IsUnweightedSearch, IsFewestEdgesGoalPath};
 ghost use Rattle.pf_base.specs.Answers.{IsLawfulClone};
 
-use crate::discovery::{Discovery, Unweighted, clones_of};
-use crate::fewest::fewest_edges_path;
-use crate::tested::Tested;
 use pf_base::{NodeRefs, NodeTest, PathError, SuccessorFunction};
+use pf_core::discovery::{Discovery, Unweighted, clones_of};
+use pf_core::fewest::fewest_edges_path;
+use pf_core::tested::Tested;
 use std::alloc::Allocator;
 use std::hash::Hash;
 use std::marker::PhantomData;

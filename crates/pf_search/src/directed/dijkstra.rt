@@ -5,11 +5,11 @@ ghost use Rattle.pf_base.specs.Walks.{HasNoGoalWalk, IsAtMostNumberOf};
 ghost use Rattle.pf_base.specs.Edges.{IsSuccessor, InReach, IsWeightedSearch, IsCheapestGoalPath, IsPastRange};
 ghost use Rattle.pf_base.specs.Answers.{IsLawfulClone};
 
-use crate::cheapest::cheapest_path;
-use crate::discovery::{Discovery, Weighted, clone_of};
-use crate::tested::Tested;
 use pf_base::utils::Tally;
 use pf_base::{Cost, EdgeFunction, NodeTest, PathError};
+use pf_core::cheapest::cheapest_path;
+use pf_core::discovery::{Discovery, Weighted, clone_of};
+use pf_core::tested::Tested;
 use std::alloc::Allocator;
 use std::hash::Hash;
 use std::marker::PhantomData;

@@ -1,9 +1,9 @@
 use Rattle.std.proofs.Common.{List, Bool}
-use Rattle.pf_search.specs.Internal.NodeLaws.{StandsFor-one}
-use Rattle.pf_search.specs.Internal.Nodes.{TestedGraph}
-use Rattle.pf_search.specs.Internal.Hops.{unit_edges}
-use Rattle.pf_search.proofs.WalkLemmas.{no_walk, best_answer}
-use Rattle.pf_search.proofs.UnitLemmas.{Explores-successors, tests_in_reach, is_hop, no_next_walk, fewest_of_best, begins_all, starts_stand}
+use Rattle.pf_core.specs.NodeLaws.{StandsFor-one}
+use Rattle.pf_core.specs.Nodes.{TestedGraph}
+use Rattle.pf_core.specs.Hops.{unit_edges}
+use Rattle.pf_core.proofs.WalkLemmas.{no_walk, best_answer}
+use Rattle.pf_core.proofs.UnitLemmas.{Explores-successors, tests_in_reach, is_hop, no_next_walk, fewest_of_best, begins_all, starts_stand}
 use Rattle.pf_search.proofs.directed.bfs.bfs.Goals as goal
 
 -- the graph that these functions answer, with the cost 1 at each edge

@@ -1,10 +1,10 @@
 use Rattle.std.proofs.Common.{rules, ◌≡◌, [], ◌∷◌, List, ℤ, Bool, ap}
 use Rattle.std.specs.Prelude.{Err}
 use Rattle.pf_base.specs.declared.error.PathError.TheVariants.{CostOverflow}
-use Rattle.pf_search.specs.Internal.Nodes.{TestedGraph}
-use Rattle.pf_search.specs.Internal.NodeLaws.{StandsFor-one}
-use Rattle.pf_search.proofs.WalkLemmas.{all_starts, only_starts, no_negative, no_walk, best_answer, past_range}
-use Rattle.pf_search.proofs.NodeLemmas.{Explores-edges, at_most}
+use Rattle.pf_core.specs.Nodes.{TestedGraph}
+use Rattle.pf_core.specs.NodeLaws.{StandsFor-one}
+use Rattle.pf_core.proofs.WalkLemmas.{all_starts, only_starts, no_negative, no_walk, best_answer, past_range}
+use Rattle.pf_core.proofs.NodeLemmas.{Explores-edges, at_most}
 use Rattle.pf_search.proofs.directed.dijkstra.dijkstra_tallied.Goals as goal
 
 -- the graph that these functions answer

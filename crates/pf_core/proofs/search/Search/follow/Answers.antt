@@ -1,0 +1,79 @@
+use Rattle.std.proofs.Common.{◌≡◌, ◌<◌, ◌∙◌, arith, subst, sym, ℕ}
+use Rattle.std.specs.Prelude.{◌+ℤ◌}
+use Rattle.std.proofs.lemmas.List.{take_at}
+use Rattle.pf_core.specs.declared.labels.Label.{Label}
+use Rattle.pf_core.specs.Labels.{by_cost, Follows}
+use Rattle.pf_core.proofs.LabelLemmas.{HasLabel-inside, label_is}
+use Rattle.pf_core.proofs.TurnLemmas.{least_is, len_settled, queue_settled, follows, follows_row, tree_followed}
+use Rattle.pf_core.proofs.search.Search.follow.Goals as goal
+
+pub returns-then-not-sums_fit-clause-overflow : goal.returns-then-not-sums_fit-clause-overflow
+returns-then-not-sums_fit-clause-overflow g c = λ e l h.
+    let o = rw c.deref.ensures.value at c.if-not-sums_fit.ensures.reached in
+    let row = rw c.deref_mut.ensures.value at c.sums_fit.ensures.same in
+    let same : c.label_of-label.result ≡ l = label_is c.args.self.now.labels.items c.args.number c.label_of-label.result l c.label_of-label.ensures h in
+    (o.0, o.1, (row (o.0, o.1)).0 o.2, o.3, λ d k. subst (λ (n : Label g.row.C.Denot). ¬ (g.C.Number.fits (g.C.Number.value n.cost +ℤ g.C.Number.value d))) same (o.4 d ((row (o.0, d)).1 k)))
+
+pub returns-in_err-widen-clause-sound : goal.returns-in_err-widen-clause-sound
+returns-in_err-widen-clause-sound g c = rw (c.in_err-widen.ensures.kept, c.in_ok-reserve.ensures.items) c.requires.sound
+
+pub settle-requires : goal.settle-requires
+settle-requires g c = (c.label_of-label.result, c.in_ok-widen.ensures.widened.stays c.args.number c.label_of-label.result c.label_of-label.ensures)
+
+pub relax-requires-clause-inside : goal.relax-requires-clause-inside
+relax-requires-clause-inside g c = λ j d h.
+    let l = c.label_of-label.result in
+    let w = c.in_ok-widen.ensures.widened in
+    let z = least_is (by_cost g.C.Number.value) c.args.self.now.labels.items c.args.number c.requires.least.0 l c.requires.least.1 c.label_of-label.ensures in
+    let is = c.settle.ensures l (w.stays c.args.number l c.label_of-label.ensures) in
+    let row = rw c.deref_mut.ensures.value at c.sums_fit.ensures.same in
+    let whole : c.deref-2.result.now ≡ c.sums_fit.new.row = c.deref-2.ensures.value ∙ take_at c.sums_fit.new.row _ _ (omega (arith, c.sums_fit.ensures.len, c.deref_mut.ensures.len)) in
+    subst (λ (n : ℕ). j < n) (sym (len_settled g.C.Number.value c.args.number l c.args.self.now.labels.items _ _ z c.args.found w is)) (c.requires.ends j d ((row (j, d)).0 (rw whole at h)))
+
+pub relax-requires-clause-few : goal.relax-requires-clause-few
+relax-requires-clause-few g c = omega (arith, HasLabel-inside c.args.self.now.labels.items c.args.number c.label_of-label.result c.label_of-label.ensures, c.requires.wide, c.in_ok-widen.ensures.few)
+
+pub relax-requires-clause-queue : goal.relax-requires-clause-queue
+relax-requires-clause-queue g c =
+    let l = c.label_of-label.result in
+    let w = c.in_ok-widen.ensures.widened in
+    let z = least_is (by_cost g.C.Number.value) c.args.self.now.labels.items c.args.number c.requires.least.0 l c.requires.least.1 c.label_of-label.ensures in
+    let is = c.settle.ensures l (w.stays c.args.number l c.label_of-label.ensures) in
+    rw c.in_ok-reserve.ensures.items (queue_settled g.C.Number.value c.args.number l c.args.self.now.labels.items _ _ z c.args.found w is _ c.requires.sound.queue)
+
+pub returns-clause-sound : goal.returns-clause-sound
+returns-clause-sound g c =
+    let l = c.label_of-label.result in
+    let w = c.in_ok-widen.ensures.widened in
+    let z = least_is (by_cost g.C.Number.value) c.args.self.now.labels.items c.args.number c.requires.least.0 l c.requires.least.1 c.label_of-label.ensures in
+    let is = c.settle.ensures l (w.stays c.args.number l c.label_of-label.ensures) in
+    let whole : c.deref-2.result.now ≡ c.sums_fit.new.row = c.deref-2.ensures.value ∙ take_at c.sums_fit.new.row _ _ (omega (arith, c.sums_fit.ensures.len, c.deref_mut.ensures.len)) in
+    let ends = rw c.deref.ensures.value at c.if-not-sums_fit.ensures.reached in
+    let f = follows g.C.Number.value c.args.number l c.args.self.now.labels.items _ _ z c.args.found w is g.C.Number.fits c.sums_fit.new.row _ (rw whole at c.relax.ensures.relaxed) (rw whole at c.relax.ensures.reached) ends c.known.ensures in
+    record {
+      tree = tree_followed g.C.Number.value g.C.Number.fits (λ x y v. g.C.Number.between_law x y v g.met.C.Integral.exact_law) c.args.found c.args.number l c.sums_fit.new.row _ _ f c.requires.sound.tree;
+      ordered = c.relax.ensures.ordered;
+      queue = c.relax.ensures.queue;
+    }
+
+pub returns-clause-wide : goal.returns-clause-wide
+returns-clause-wide g c =
+    let l = c.label_of-label.result in
+    let w = c.in_ok-widen.ensures.widened in
+    let z = least_is (by_cost g.C.Number.value) c.args.self.now.labels.items c.args.number c.requires.least.0 l c.requires.least.1 c.label_of-label.ensures in
+    let is = c.settle.ensures l (w.stays c.args.number l c.label_of-label.ensures) in
+    c.relax.ensures.relaxed.len ∙ len_settled g.C.Number.value c.args.number l c.args.self.now.labels.items _ _ z c.args.found w is
+
+pub returns-clause-followed : goal.returns-clause-followed
+returns-clause-followed g c = λ m h.
+    let l = c.label_of-label.result in
+    let labels = c.args.self.now.labels.items in
+    let w = c.in_ok-widen.ensures.widened in
+    let z = least_is (by_cost g.C.Number.value) labels c.args.number c.requires.least.0 l c.requires.least.1 c.label_of-label.ensures in
+    let is = c.settle.ensures l (w.stays c.args.number l c.label_of-label.ensures) in
+    let row = rw c.deref_mut.ensures.value at c.sums_fit.ensures.same in
+    let whole : c.deref-2.result.now ≡ c.sums_fit.new.row = c.deref-2.ensures.value ∙ take_at c.sums_fit.new.row _ _ (omega (arith, c.sums_fit.ensures.len, c.deref_mut.ensures.len)) in
+    let ends = rw c.deref.ensures.value at c.if-not-sums_fit.ensures.reached in
+    let f = follows g.C.Number.value c.args.number l labels _ _ z c.args.found w is g.C.Number.fits c.sums_fit.new.row _ (rw whole at c.relax.ensures.relaxed) (rw whole at c.relax.ensures.reached) ends c.known.ensures in
+    subst (λ (n : Label g.row.C.Denot). Follows g.C.Number.value g.C.Number.fits c.args.found c.args.number n c.args.self.now.row.items labels c.relax.new.labels.items) (label_is labels c.args.number l m c.label_of-label.ensures h)
+    (follows_row g.C.Number.value g.C.Number.fits c.args.found c.args.number l c.sums_fit.new.row c.args.self.now.row.items row labels _ f)

@@ -1,0 +1,214 @@
+//! The nodes that were found, numbered in the order in which they are found.
+
+ghost use Rattle.std.specs.Prelude.{◌≡◌, ◌↔◌, ◌≤◌, ◌<◌, ℕ, true, [], ◌∷◌, ◌++◌, List, false, Contains, IfOk, IfErr, OnOk, OnErr, map, take, length};
+ghost use Rattle.std.specs.Iterator.{IsFiniteIterable, Drains};
+ghost use Rattle.std.specs.List.{IsDistinct, AllZip};
+ghost use Rattle.pf_base.specs.NodeRefs.{HasSameNodes};
+ghost use Rattle.pf_base.specs.Answers.{IsLawfulClone};
+ghost use Rattle.pf_core.specs.Nodes.{NodeGraph, IsStep, StandsFor, AddsNode, NumbersItems, AddedFrom, Explores};
+ghost use Rattle.pf_core.specs.NodeLaws.{Explores-one, StandsFor-inside};
+
+use crate::numbered::NumberedGraph;
+use crate::row::Row;
+use indexmap::IndexSet;
+use pf_base::{Cost, NodeRefs, PathError};
+use std::alloc::Allocator;
+use std::hash::{BuildHasherDefault, FoldHasher, Hash};
+use std::marker::PhantomData;
+
+/// Nodes in the order in which they were found; the place of a node is its number.
+pub type Nodes<N, A> = IndexSet<N, BuildHasherDefault<FoldHasher>, A>;
+
+/// How an item of an answer says an edge.
+pub trait EdgeForm<N, T, C> {
+    // The node that the edge leads to, and its cost.
+    ghost edge: { T → N × C };
+
+    /// The node that the edge leads to, and its cost.
+    fn edge_of(item: T) -> (N, C)
+        ensures { result ≡ edge item };
+}
+
+/// An item is a node and a cost.
+pub struct Weighted;
+
+impl<N, C> EdgeForm<N, (N, C), C> for Weighted {
+    ghost edge = { λ item. item };
+
+    fn edge_of(item: (N, C)) -> (N, C) {
+        item
+    }
+}
+
+/// An item is a node, and each edge costs 1.
+pub struct Unweighted;
+
+impl<N> EdgeForm<N, N, u8> for Unweighted {
+    ghost edge = { λ item. (item, 1) };
+
+    fn edge_of(item: N) -> (N, u8) {
+        (item, 1)
+    }
+}
+
+/// The nodes found so far, and the function that answers for them.
+#[derive(Drop)]
+pub struct Discovery<N: Eq + Hash, K, IN, FN, A: Allocator> {
+    pub nodes: Nodes<N, A>,
+    pub successors: FN,
+    pub form: PhantomData<(K, IN)>,
+}
+
+impl<N, T, C, K, IN, FN, A> NumberedGraph<C> for Discovery<N, K, IN, FN, A>
+where
+    N: Eq + Hash + Drop,
+    C: Cost,
+    K: EdgeForm<N, T, C>,
+    IN: IntoIterator<Item = T>,
+    FN: FnMut(&N) -> IN,
+    A: Allocator + Copy,
+{
+    ghost Node = { N };
+
+    ghost Graph = { NodeGraph N };
+
+    ghost step = { IsStep N.eq };
+
+    ghost passes = { λ _ _. false };
+
+    ghost found = { λ s. length s.nodes.keys };
+
+    ghost stands = { λ s. StandsFor N.eq s.nodes.keys };
+
+    ghost explores = { λ s g. Explores N.eq C.value K.edge IN.into_iter_gives IN.IntoIter.can_next IN.IntoIter.remaining IN.IntoIter.next_gives FN.FnMut g s.nodes.keys s.successors };
+
+    ghost can_forget = { λ s k. k ≤ length s.nodes.keys };
+
+    fn found(&self) -> usize {
+        self.nodes.len()
+    }
+
+    fn expand<R: Row<C>>(&mut self, node: usize, row: &mut R) -> Result<(), PathError> {
+        row.reset();
+        let items = (self.successors)(&self.nodes.as_slice()[node]);
+        number_all::<N, T, C, K, IN, A, R>(&mut self.nodes, items, row)
+    }
+
+    fn forget(&mut self, first: usize) {
+        self.nodes.truncate(first);
+    }
+
+    ghost inside_law = { λ s k x h. StandsFor-inside N.eq s.nodes.keys k x h };
+
+    ghost one_law = { λ s g e i j x. Explores-one N.Eq.laws e i j x };
+}
+
+/// Numbers the node of an edge, and puts the edge at the end of the row.
+fn number_edge<N, C, A, R>(
+    nodes: &mut Nodes<N, A>,
+    row: &mut R,
+    edge: (N, C),
+) -> Result<(), PathError>
+where
+    N: Eq + Hash + Drop,
+    C: Cost,
+    A: Allocator + Copy,
+    R: Row<C>,
+    ensures added { AddsNode N.eq edge.0 nodes.old.keys nodes.new.keys }
+    ensures numbered { OnOk result ((k : ℕ) × StandsFor N.eq nodes.new.keys k edge.0
+        × ((steps : List (ℕ × C)) → R.holds row.old steps → R.holds row.new (steps ++ (k, edge.1) ∷ []))) }
+    ensures refused { IfErr result (λ e. e ≡ PathError.OutOfMemory) }
+{
+    let (number, _) = nodes.insert_full(edge.0)?;
+    row.add(number, edge.1)
+}
+
+/// Numbers the nodes of an answer. Where memory is refused, the nodes stay as they were.
+fn number_all<N, T, C, K, IN, A, R>(
+    nodes: &mut Nodes<N, A>,
+    items: IN,
+    row: &mut R,
+) -> Result<(), PathError>
+where
+    N: Eq + Hash + Drop,
+    C: Cost,
+    K: EdgeForm<N, T, C>,
+    IN: IntoIterator<Item = T>,
+    A: Allocator + Copy,
+    R: Row<C>,
+    requires ends { IsFiniteIterable IN.into_iter_gives IN.IntoIter.can_next IN.IntoIter.remaining items }
+    requires empty { R.holds row.old [] }
+    requires distinct { IsDistinct N.eq nodes.old.keys }
+    ensures numbered { OnOk result ((it : IN.IntoIter) × (xs : List T) × IN.into_iter_gives items it × Drains IN.IntoIter.next_gives it xs
+        × ((steps : List (ℕ × C)) × R.holds row.new steps × NumbersItems N.eq nodes.new.keys steps (map K.edge xs)) × AddedFrom N.eq (map K.edge xs) nodes.old.keys nodes.new.keys) }
+    ensures distinct { IsDistinct N.eq nodes.new.keys }
+    ensures longer { length nodes.old.keys ≤ length nodes.new.keys }
+    ensures kept { take (length nodes.old.keys) nodes.new.keys ≡ nodes.old.keys }
+    ensures stays { OnErr result (nodes.new.keys ≡ nodes.old.keys) }
+    ensures refused { IfErr result (λ e. e ≡ PathError.OutOfMemory) }
+{
+    let len = nodes.len();
+    'items: for item in items {
+        let edge = K::edge_of(item);
+        if let Err(refusal) = number_edge(nodes, row, edge) {
+            nodes.truncate(len);
+            return Err(refusal);
+        }
+    }
+    Ok(())
+}
+
+/// The set of a clone of one node.
+pub fn clone_of<N, A>(alloc: A, start: &N) -> Result<Nodes<N, A>, PathError>
+where
+    N: Eq + Hash + Clone + Drop,
+    A: Allocator + Copy,
+    requires clones { IsLawfulClone N.eq N.is_clone }
+    ensures one { IfOk result (λ nodes. length nodes.keys ≡ 1) }
+    ensures begins { IfOk result (λ nodes. (x : N) → StandsFor N.eq nodes.keys 0 x ↔ (N.eq start.now x ≡ true)) }
+    ensures same { IfOk result (λ nodes. HasSameNodes N.eq nodes.keys (start.now ∷ [])) }
+    ensures distinct { IfOk result (λ nodes. IsDistinct N.eq nodes.keys) }
+    ensures refused { IfErr result (λ e. e ≡ PathError.OutOfMemory) }
+{
+    let mut nodes = IndexSet::new(alloc);
+    let first = start.clone()?;
+    nodes.insert(first)?;
+    Ok(nodes)
+}
+
+/// The set of clones of the nodes of another.
+pub fn clones_of<N, A, B>(alloc: A, starts: &NodeRefs<'_, N, B>) -> Result<Nodes<N, A>, PathError>
+where
+    N: Eq + Hash + Clone + Drop,
+    A: Allocator + Copy,
+    B: Allocator,
+    requires clones { IsLawfulClone N.eq N.is_clone }
+    ensures same { IfOk result (λ nodes. HasSameNodes N.eq nodes.keys starts.now) }
+    ensures distinct { IfOk result (λ nodes. IsDistinct N.eq nodes.keys) }
+    ensures refused { IfErr result (λ e. e ≡ PathError.OutOfMemory) }
+{
+    let mut nodes = IndexSet::new(alloc);
+    'starts: for start in starts.iter() {
+        let node = start.clone()?;
+        nodes.insert(node)?;
+    }
+    Ok(nodes)
+}
+
+/// Clones of the nodes that the numbers stand for.
+pub fn clones_at<N, A>(alloc: A, nodes: &[N], numbers: &[usize]) -> Result<Vec<N, A>, PathError>
+where
+    N: Eq + Clone + Drop,
+    A: Allocator + Copy,
+    requires inside { (k : ℕ) → Contains numbers.now k → k < length nodes.now }
+    requires clones { IsLawfulClone N.eq N.is_clone }
+    ensures nodes { IfOk result (λ path. AllZip (StandsFor N.eq nodes.now) numbers.now path.items) }
+    ensures refused { IfErr result (λ e. e ≡ PathError.OutOfMemory) }
+{
+    let mut path = Vec::with_capacity(alloc, numbers.len())?;
+    'numbers: for number in numbers {
+        let node = nodes[*number].clone()?;
+        path.push(node)?;
+    }
+    Ok(path)
+}

@@ -1,0 +1,19 @@
+//! The layer that the searches share: nodes that are numbered as they are found, and searches over
+//! numbers.
+//!
+//! `discovery` asks the functions that are handed in and numbers the nodes; the algorithms go over
+//! numbers, generic over `NumberedGraph`. No crate exports this layer.
+#![tactic(auto)]
+
+pub mod cheapest;
+pub mod depth;
+pub mod discovery;
+pub mod fewest;
+pub mod labels;
+pub mod numbered;
+pub mod queue;
+pub mod row;
+pub mod search;
+pub mod slot;
+pub mod sums;
+pub mod tested;

@@ -1,0 +1,127 @@
+//! A search by rising cost, over numbers.
+
+ghost use Rattle.std.specs.BinaryHeap.{heap_items};
+ghost use Rattle.std.specs.Prelude.{◌≡◌, ◌<◌, ◌≤◌, ◌+◌, ◌+ℤ◌, ◌⊎◌, ℕ, Bool, false, Err, Contains, IfOk, IfErr, MatchOption, OnOk, OnErr, length};
+ghost use Rattle.pf_core.specs.declared.labels.Label.{Label};
+ghost use Rattle.pf_core.specs.Labels.{HasLabel, by_cost, AllSettled, Follows, settled_count};
+ghost use Rattle.pf_core.specs.Numbered.{Grows};
+ghost use Rattle.pf_core.specs.Steps.{IsNonNegative};
+ghost use Rattle.pf_core.specs.Search.{IsSound, IsLeast, IsSearch, Turned, HasDearStep};
+
+use crate::labels::{label_of, settle, widen};
+use crate::numbered::NumberedGraph;
+use crate::queue::{Queue, least_open, relax};
+use crate::slot::Slot;
+use crate::sums::sums_fit;
+use pf_base::{Cost, PathError};
+use std::alloc::Allocator;
+use std::cmp::Reverse;
+use std::collections::BinaryHeap;
+
+/// What a search knows: the labels by number, which of them wait, and the steps from the number that
+/// was expanded last.
+#[derive(Drop)]
+pub struct Search<C: Cost, A: Allocator> {
+    pub labels: Vec<Slot<C>, A>,
+    pub queue: Queue<C, A>,
+    pub row: Vec<(usize, C), A>,
+}
+
+impl<C: Cost, A: Allocator + Copy> Search<C, A> {
+    /// A search from the number `start`, where `found` numbers are found: it alone has a label, which
+    /// is open and costs nothing.
+    pub fn begin(alloc: A, found: usize, start: usize) -> Result<Self, PathError>
+        requires { start < found }
+        ensures sound { IfOk result (λ s. IsSound C.cmp C.value s.labels.items (heap_items s.queue)) }
+        ensures wide { IfOk result (λ s. length s.labels.items ≡ found) }
+        ensures first { IfOk result (λ s. HasLabel s.labels.items start (record { cost = C.zero; parent = 0; depth = 0; settled = false })) }
+        ensures only { IfOk result (λ s. (k : ℕ) (l : Label C) → HasLabel s.labels.items k l → (k ≡ start) × (l ≡ record { cost = C.zero; parent = 0; depth = 0; settled = false })) }
+        ensures none { IfOk result (λ s. settled_count s.labels.items ≡ 0) }
+        ensures refused { IfErr result (λ e. e ≡ PathError.OutOfMemory) }
+    {
+        let nothing = C::zero();
+        let mut labels = Vec::new(alloc);
+        widen(&mut labels, found)?;
+        labels[start] = Slot::first(nothing);
+        let mut queue = BinaryHeap::new(alloc);
+        queue.push(Reverse((nothing, start)))?;
+        Ok(Search {
+            labels,
+            queue,
+            row: Vec::new(alloc),
+        })
+    }
+
+    /// The number of an open label that costs least, or `None` where all labels are settled.
+    pub fn least(&mut self) -> Option<usize>
+        requires { IsSound C.cmp C.value self.old.labels.items (heap_items self.old.queue) }
+        ensures same { self.new.labels.items ≡ self.old.labels.items }
+        ensures sound { IsSound C.cmp C.value self.new.labels.items (heap_items self.new.queue) }
+        ensures least { MatchOption result (AllSettled self.old.labels.items) (λ k. (l : Label C) × IsLeast (by_cost C.value) self.old.labels.items k l) }
+    {
+        least_open(&self.labels, &mut self.queue)
+    }
+
+    /// Settles the number of an open label that costs least, and takes the steps from it. A cost
+    /// overflow is answered where the end of a step has no label, and no sum to it fits. Whatever the
+    /// turn is refused for, all is as before it, and it can be tried again.
+    pub fn turn<G: NumberedGraph<C>>(
+        &mut self,
+        graph: &mut G,
+        number: usize,
+    ) -> Result<(), PathError>
+        requires sound { IsSound C.cmp C.value self.old.labels.items (heap_items self.old.queue) }
+        requires wide { length self.old.labels.items ≡ G.found graph.old }
+        requires least { (l : Label C) × IsLeast (by_cost C.value) self.old.labels.items number l }
+        requires graph { (g : G.Graph) × G.explores graph.old g }
+        ensures sound { IsSound C.cmp C.value self.new.labels.items (heap_items self.new.queue) }
+        ensures wide { length self.new.labels.items ≡ G.found graph.new }
+        ensures grows { Grows (G.found graph.old) (G.found graph.new) (G.stands graph.old) (G.stands graph.new) }
+        ensures graph { (g : G.Graph) → G.explores graph.old g → G.explores graph.new g }
+        ensures turned { OnOk result ((l : Label C) → HasLabel self.old.labels.items number l → Turned number l self.old.labels.items self.new.labels.items) }
+        ensures search { OnOk result ((g : G.Graph) → G.explores graph.old g → IsNonNegative (G.step g) → (root : ℕ → Bool)
+            → IsSearch (by_cost C.value) (G.step g) root (G.stands graph.old) self.old.labels.items
+            → IsSearch (by_cost C.value) (G.step g) root (G.stands graph.new) self.new.labels.items) }
+        ensures kept { OnErr result ((G.found graph.new ≡ G.found graph.old)
+            × (self.new.labels.items ≡ self.old.labels.items) × (heap_items self.new.queue ≡ heap_items self.old.queue)) }
+        ensures overflow { result ≡ Err PathError.CostOverflow → (g : G.Graph) → G.explores graph.old g → (x : G.Node) → G.stands graph.old number x
+            → (l : Label C) → HasLabel self.old.labels.items number l → HasDearStep (G.step g) C.fits x (C.value l.cost) }
+        ensures errors { IfErr result (λ e. (e ≡ PathError.OutOfMemory) ⊎ (e ≡ PathError.CostOverflow)) }
+    {
+        let before = graph.found();
+        graph.expand(number, &mut self.row)?;
+        if let Err(refusal) = self.follow(graph.found(), number) {
+            graph.forget(before);
+            return Err(refusal);
+        }
+        Ok(())
+    }
+
+    /// Settles the number and takes the steps of the row, once `found` numbers are found. Whatever this
+    /// is refused for, labels and queue are as before it.
+    fn follow(&mut self, found: usize, number: usize) -> Result<(), PathError>
+        requires sound { IsSound C.cmp C.value self.old.labels.items (heap_items self.old.queue) }
+        requires wide { length self.old.labels.items ≤ found }
+        requires least { (l : Label C) × IsLeast (by_cost C.value) self.old.labels.items number l }
+        requires ends { (j : ℕ) (c : C) → Contains self.old.row.items (j, c) → j < found }
+        ensures sound { IsSound C.cmp C.value self.new.labels.items (heap_items self.new.queue) }
+        ensures wide { OnOk result (length self.new.labels.items ≡ found) }
+        ensures followed { OnOk result ((l : Label C) → HasLabel self.old.labels.items number l → Follows C.value C.fits found number l self.old.row.items self.old.labels.items self.new.labels.items) }
+        ensures kept { OnErr result ((self.new.labels.items ≡ self.old.labels.items) × (heap_items self.new.queue ≡ heap_items self.old.queue)) }
+        ensures overflow { result ≡ Err PathError.CostOverflow → (l : Label C) → HasLabel self.old.labels.items number l
+            → (j : ℕ) × (c : C) × Contains self.old.row.items (j, c) × ((m : Label C) → ¬ (HasLabel self.old.labels.items j m))
+            × ((d : C) → Contains self.old.row.items (j, d) → ¬ (C.fits (C.value l.cost +ℤ C.value d))) }
+        ensures errors { IfErr result (λ e. (e ≡ PathError.OutOfMemory) ⊎ (e ≡ PathError.CostOverflow)) }
+    {
+        let label = label_of(&self.labels, number);
+        label.cost.known();
+        if !sums_fit(&self.labels, &mut self.row, label.cost) {
+            return Err(PathError::CostOverflow);
+        }
+        self.queue.reserve(self.row.len())?;
+        widen(&mut self.labels, found)?;
+        settle(&mut self.labels, number);
+        relax(&mut self.labels, &mut self.queue, number, &label, &self.row);
+        Ok(())
+    }
+}

@@ -1,0 +1,97 @@
+//! A discovery with a test that says which nodes are goals.
+
+ghost use Rattle.std.specs.Prelude.{◌≡◌, ◌<◌, ◌≤◌, ℕ, Contains, IfOk, IfErr, length};
+ghost use Rattle.std.specs.List.{AllZip};
+ghost use Rattle.pf_base.specs.Answers.{IsLawfulClone, AnswersTest};
+ghost use Rattle.pf_base.specs.Edges.{InReach};
+ghost use Rattle.pf_core.specs.Nodes.{TestedGraph, IsStep, StandsFor, Explores};
+ghost use Rattle.pf_core.specs.NodeLaws.{Explores-one, StandsFor-inside};
+
+use crate::discovery::{Discovery, EdgeForm, clones_at};
+use crate::numbered::{GoalGraph, NumberedGraph};
+use crate::row::Row;
+use pf_base::{Cost, PathError};
+use std::alloc::Allocator;
+use std::hash::Hash;
+
+/// The nodes found so far, the function that lists their edges, and the one that tests them.
+#[derive(Drop)]
+pub struct Tested<N: Eq + Hash, K, IN, FN, FS, A: Allocator> {
+    pub discovery: Discovery<N, K, IN, FN, A>,
+    pub success: FS,
+}
+
+impl<N, T, C, K, IN, FN, FS, A> NumberedGraph<C> for Tested<N, K, IN, FN, FS, A>
+where
+    N: Eq + Hash + Drop,
+    C: Cost,
+    K: EdgeForm<N, T, C>,
+    IN: IntoIterator<Item = T>,
+    FN: FnMut(&N) -> IN,
+    FS: FnMut(&N) -> bool,
+    A: Allocator + Copy,
+{
+    ghost Node = { N };
+
+    ghost Graph = { TestedGraph N };
+
+    ghost step = { λ g. IsStep N.eq g.graph };
+
+    ghost passes = { λ g x. g.test x };
+
+    ghost found = { λ s. length s.discovery.nodes.keys };
+
+    ghost stands = { λ s. StandsFor N.eq s.discovery.nodes.keys };
+
+    ghost explores = { λ s g. Explores N.eq C.value K.edge IN.into_iter_gives IN.IntoIter.can_next IN.IntoIter.remaining IN.IntoIter.next_gives FN.FnMut g.graph s.discovery.nodes.keys s.discovery.successors
+        × AnswersTest FS.FnMut N.eq s.success (InReach N.eq g.graph.edges g.graph.starts) g.test };
+
+    ghost can_forget = { λ s k. k ≤ length s.discovery.nodes.keys };
+
+    fn found(&self) -> usize {
+        self.discovery.nodes.len()
+    }
+
+    fn expand<R: Row<C>>(&mut self, node: usize, row: &mut R) -> Result<(), PathError> {
+        self.discovery.expand(node, row)
+    }
+
+    fn forget(&mut self, first: usize) {
+        self.discovery.forget(first);
+    }
+
+    ghost inside_law = { λ s k x h. StandsFor-inside N.eq s.discovery.nodes.keys k x h };
+
+    ghost one_law = { λ s g e i j x. Explores-one N.Eq.laws e.0 i j x };
+}
+
+impl<N, T, C, K, IN, FN, FS, A> GoalGraph<C> for Tested<N, K, IN, FN, FS, A>
+where
+    N: Eq + Hash + Drop,
+    C: Cost,
+    K: EdgeForm<N, T, C>,
+    IN: IntoIterator<Item = T>,
+    FN: FnMut(&N) -> IN,
+    FS: FnMut(&N) -> bool,
+    A: Allocator + Copy,
+{
+    fn is_goal(&mut self, node: usize) -> bool {
+        (self.success)(&self.discovery.nodes.as_slice()[node])
+    }
+}
+
+impl<N, K, IN, FN, FS, A> Tested<N, K, IN, FN, FS, A>
+where
+    N: Eq + Hash + Clone + Drop,
+    A: Allocator + Copy,
+{
+    /// Clones of the nodes that the numbers stand for.
+    pub fn nodes_at(&self, alloc: A, numbers: &[usize]) -> Result<Vec<N, A>, PathError>
+        requires inside { (k : ℕ) → Contains numbers.now k → k < length self.now.discovery.nodes.keys }
+        requires clones { IsLawfulClone N.eq N.is_clone }
+        ensures nodes { IfOk result (λ nodes. AllZip (StandsFor N.eq self.now.discovery.nodes.keys) numbers.now nodes.items) }
+        ensures refused { IfErr result (λ e. e ≡ PathError.OutOfMemory) }
+    {
+        clones_at(alloc, self.discovery.nodes.as_slice(), numbers)
+    }
+}
