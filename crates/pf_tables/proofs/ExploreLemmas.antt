@@ -1,0 +1,157 @@
+-- Graphs over numbers that are explored.
+use Rattle.std.proofs.Common.{◌≡◌, ◌<◌, ◌≤◌, ℕ, zero, suc, ℤ, pos, List, [], ◌∷◌, length, Bool, true, false, if◌then◌else◌, Option, Some, None, nat_eq, refl, sym, ◌∙◌, ap, subst, take, map, inl, inr, arith, true≢false}
+use Rattle.std.specs.Prelude.{◌↔◌, ◌≤ℤ◌, ◌⊎◌, nat_lt, slice_get}
+use Rattle.std.specs.List.{IsDistinct, AllByRecursion}
+use Rattle.std.proofs.lemmas.Bool.{lt-ltb, le-ltb, ltb-true, ltb-false}
+use Rattle.std.proofs.lemmas.Cmp.{nat_eq_equiv}
+use Rattle.std.proofs.lemmas.Int.{ints}
+use Rattle.pf_base.specs.Answers.{ListsEdges}
+use Rattle.pf_base.specs.Walks.{HasNode, HasNoGoalWalk, IsGoalWalk, IsGoalPath}
+use Rattle.pf_base.specs.Edges.{HasEdge, IsSuccessor, InReach, HasNoNegativeCost, NoGoalWalkCostsLess, IsCheapestGoalPath}
+use Rattle.pf_base.specs.Successors.{HasSuccessor, IsFewestEdgesGoalPath}
+use Rattle.pf_base.proofs.Callers.{ListsEdges-refl}
+use Rattle.pf_core.specs.Hops.{unit_edges}
+use Rattle.pf_core.specs.Nodes.{StandsFor}
+use Rattle.pf_core.specs.Numbered.{StandsBelow}
+use Rattle.pf_core.proofs.UnitLemmas.{starts_stand}
+use Rattle.pf_core.proofs.ListLemmas.{bool_dec, none_in}
+use Rattle.pf_core.proofs.NodeLemmas.{InReach-start}
+use Rattle.pf_tables.specs.Graphs.{HasEdgeAt, IsGraph, edges_at, graph_of, targets_at, successors_of}
+use Rattle.pf_tables.specs.Numbering.{IsIndex, IsExplored, priced}
+use borrow.Author.Tests.{eqb-true}
+
+-- equal numbers have the same edges
+pub nat_alike : (edges : ℕ → List (ℕ × ℤ)) (starts : List ℕ) (x y : ℕ) → InReach nat_eq edges starts x → nat_eq x y ≡ true → ListsEdges nat_eq (λ (z : ℤ). z) (edges x) (edges y)
+nat_alike edges starts x y r e = subst (λ (n : ℕ). ListsEdges nat_eq (λ (z : ℤ). z) (edges x) (edges n)) (eqb-true x y e) (ListsEdges-refl nat_eq nat_eq_equiv.refl (edges x))
+
+all_take : (P : ℕ → Type 0) (n : ℕ) (xs : List ℕ) → AllByRecursion P xs → AllByRecursion P (take n xs)
+all_take P zero xs a = tt
+all_take P (suc n) [] a = tt
+all_take P (suc n) (x ∷ xs) a = (a.0, all_take P n xs a.1)
+
+-- the first of distinct numbers are distinct
+pub distinct_take : (n : ℕ) (xs : List ℕ) → IsDistinct nat_eq xs → IsDistinct nat_eq (take n xs)
+unfolding IsDistinct
+distinct_take zero xs d = tt
+distinct_take (suc n) [] d = tt
+distinct_take (suc n) (x ∷ xs) d = (all_take (λ y. nat_eq x y ≡ false) n xs d.0, distinct_take n xs d.1)
+
+-- ---- the edges at places, as searches pay for them
+
+lt_or_le : (a b : ℕ) → (a < b) ⊎ (b ≤ a)
+lt_or_le a b = elim (bool_dec (nat_lt a b)) as (λ _. (a < b) ⊎ (b ≤ a)) [ inl h ↦ inl (ltb-true a b h) | inr h ↦ inr (ltb-false a b h) ]
+
+module _ {C : Type 0} (value : C → ℤ) where
+  -- by their costs
+  pub lists_costs : (places : List (Option (ℕ × C))) → ListsEdges nat_eq value (priced (λ c. c) places) (edges_at value places)
+  lists_costs [] = tt
+  lists_costs (None ∷ places) = lists_costs places
+  lists_costs (Some e ∷ places) = ((nat_eq_equiv.refl e.0, refl), lists_costs places)
+
+  -- an edge stands at a place
+  place_of : (places : List (Option (ℕ × C))) (b : ℕ) (z : ℤ) → HasEdge nat_eq (edges_at value places) b z → (k : ℕ) × (e : ℕ × C) × HasEdgeAt places k e × (value e.1 ≡ z)
+  place_of [] b z h = absurd h
+  place_of (None ∷ places) b z h = let r = place_of places b z h in (suc r.0, r.1, r.2, r.3)
+  place_of (Some e ∷ places) b z (inl h) = (0, e, refl, h.1)
+  place_of (Some e ∷ places) b z (inr h) = let r = place_of places b z h in (suc r.0, r.1, r.2, r.3)
+
+  module _ (size : ℕ) (places : ℕ → List (Option (ℕ × C))) where
+    pub edges_within : (n : ℕ) → n < size → graph_of value size places n ≡ edges_at value (places n)
+    edges_within n h = ap (λ (b : Bool). if b then edges_at value (places n) else []) (lt-ltb n size h)
+
+    pub edges_outside : (n : ℕ) → size ≤ n → graph_of value size places n ≡ []
+    edges_outside n h = ap (λ (b : Bool). if b then edges_at value (places n) else []) (le-ltb n size h)
+
+    pub costs_listed : (n : ℕ) → n < size → ListsEdges nat_eq value (priced (λ c. c) (places n)) (graph_of value size places n)
+    costs_listed n h = rw (edges_within n h) (lists_costs (places n))
+
+    pub none_negative : IsGraph value size places → (starts : List ℕ) → HasNoNegativeCost nat_eq (graph_of value size places) starts
+    none_negative is starts = record {
+      from_zero = λ a b z r h. elim (lt_or_le a size) as (λ _. pos 0 ≤ℤ z) [
+        | inl lt ↦ let q = place_of (places a) b z (rw (edges_within a lt) at h) in subst (λ (y : ℤ). pos 0 ≤ℤ y) q.3 (is.from_zero a q.0 q.1 lt q.2)
+        | inr le ↦ absurd (rw (edges_outside a le) at h)
+      ];
+    }
+
+module _ {C : Type 0} where
+  -- by 1 each
+  pub lists_units : (places : List (Option (ℕ × C))) → ListsEdges nat_eq (λ (n : ℕ). pos n) (priced (λ c. 1) places) (map (λ y. (y, pos 1)) (targets_at places))
+  lists_units [] = tt
+  lists_units (None ∷ places) = lists_units places
+  lists_units (Some e ∷ places) = ((nat_eq_equiv.refl e.0, refl), lists_units places)
+
+  module _ (size : ℕ) (places : ℕ → List (Option (ℕ × C))) where
+    pub units_listed : (n : ℕ) → n < size → ListsEdges nat_eq (λ (n : ℕ). pos n) (priced (λ c. 1) (places n)) (unit_edges (successors_of size places) n)
+    units_listed n h = rw (ap (λ (b : Bool). if b then targets_at (places n) else []) (lt-ltb n size h)) (lists_units (places n))
+
+    pub successors_outside : (n : ℕ) → size ≤ n → successors_of size places n ≡ []
+    successors_outside n h = ap (λ (b : Bool). if b then targets_at (places n) else []) (le-ltb n size h)
+
+-- ---- a start that nothing follows
+
+module _ (step : ℕ → ℕ → Type 0) (from : ℕ) (dead : (b : ℕ) → ¬ (step from b)) (test : ℕ → Bool) where
+  pub none_alone : test from ≡ false → HasNoGoalWalk nat_eq step (from ∷ []) test
+  none_alone t [] g = g.walks
+  none_alone t (a ∷ []) g = elim g.begins as (λ _. ⊥) [ inl e ↦ true≢false (sym g.ends ∙ ap test (sym (eqb-true from a e)) ∙ t) | inr n ↦ n ]
+  none_alone t (a ∷ b ∷ w) g = elim g.begins as (λ _. ⊥) [ inl e ↦ dead b (subst (λ (n : ℕ). step n b) (sym (eqb-true from a e)) g.walks.0) | inr n ↦ n ]
+
+  pub goal_alone : test from ≡ true → IsGoalPath nat_eq step (from ∷ []) test (from ∷ [])
+  goal_alone t = record { goes = record { walks = tt; begins = inl (nat_eq_equiv.refl from); ends = t }; distinct = ((λ h. h), tt) }
+
+module _ (edges : ℕ → List (ℕ × ℤ)) (from : ℕ) (none : edges from ≡ []) (test : ℕ → Bool) where
+  pub no_edge : (b : ℕ) → ¬ (IsSuccessor nat_eq edges from b)
+  no_edge b h = rw none at h.1
+
+  pub cheapest_alone : test from ≡ true → IsCheapestGoalPath nat_eq edges (from ∷ []) test (from ∷ []) (pos 0)
+  cheapest_alone t = record { goes = goal_alone (IsSuccessor nat_eq edges) from no_edge test t; costs = refl; best = least }
+    where
+      least : NoGoalWalkCostsLess nat_eq edges (from ∷ []) test (pos 0)
+      least [] u g c = absurd c
+      least (a ∷ []) u g c = omega (arith, ints, c)
+      least (a ∷ b ∷ w) u g c = elim g.begins as (λ _. pos 0 ≤ℤ u) [ inl e ↦ absurd (no_edge b (subst (λ (n : ℕ). IsSuccessor nat_eq edges n b) (sym (eqb-true from a e)) g.walks.0)) | inr n ↦ absurd n ]
+
+module _ (next : ℕ → List ℕ) (from : ℕ) (none : next from ≡ []) (test : ℕ → Bool) where
+  pub no_successor : (b : ℕ) → ¬ (HasSuccessor nat_eq next from b)
+  no_successor b h = rw none at h
+
+  pub fewest_alone : test from ≡ true → IsFewestEdgesGoalPath nat_eq next (from ∷ []) test (from ∷ [])
+  fewest_alone t = record { goes = goal_alone (HasSuccessor nat_eq next) from no_successor test t; fewest = least }
+    where
+      least : (walk : List ℕ) → IsGoalWalk nat_eq (HasSuccessor nat_eq next) (from ∷ []) test walk → 1 ≤ length walk
+      least [] g = absurd g.walks
+      least (a ∷ w) g = omega arith
+
+-- ---- a search begins at one node
+
+begins_alone : (from x : ℕ) → StandsFor nat_eq (from ∷ []) 0 x ↔ (nat_eq from x ≡ true)
+begins_alone from x = ((λ s. let e : Some from ≡ Some s.0 = s.1 in let f : s.0 ≡ from = cc in subst (λ (n : ℕ). nat_eq n x ≡ true) f s.2), (λ e. (from, refl, e)))
+
+one_distinct : (from : ℕ) → IsDistinct nat_eq (from ∷ [])
+unfolding IsDistinct
+one_distinct from = (tt, tt)
+
+explored_start : {C K : Type 0} (value : K → ℤ) (price : C → K) (size : ℕ) (places : ℕ → List (Option (ℕ × C))) (passes : ℕ → Bool) (edges : ℕ → List (ℕ × ℤ)) (from : ℕ) (numbers : List ℕ)
+    → ((n : ℕ) → n < size → ListsEdges nat_eq value (priced price (places n)) (edges n)) → IsExplored value price size places passes (record { graph = record { starts = from ∷ []; edges = edges }; test = passes }) (from ∷ []) numbers
+explored_start value price size places passes edges from numbers listed = record {
+  listed = listed;
+  tested = λ n. refl;
+  distinct = one_distinct from;
+  reached = λ k x h. start k x h;
+}
+  where
+    start : (k x : ℕ) → slice_get (from ∷ []) k ≡ Some x → InReach nat_eq edges (from ∷ []) x
+    start zero x h = let e : Some from ≡ Some x = h in let f : from ≡ x = cc in InReach-start nat_eq nat_eq_equiv edges (from ∷ []) from x (inl (nat_eq_equiv.refl from)) (subst (λ (n : ℕ). nat_eq from n ≡ true) f (nat_eq_equiv.refl from))
+    start (suc k) x h = absurd (none_in k x h)
+
+module _ (from : ℕ) (order : List ℕ) (one : order ≡ from ∷ []) where
+  pub begins_at : (x : ℕ) → StandsFor nat_eq order 0 x ↔ (nat_eq from x ≡ true)
+  begins_at = rw one (λ x. begins_alone from x)
+
+  -- what stands below the number of nodes found is a start
+  pub starts_below : (x : ℕ) → StandsBelow (length order) (StandsFor nat_eq order) x ↔ HasNode nat_eq (from ∷ []) x
+  starts_below = rw one (starts_stand nat_eq nat_eq_equiv (from ∷ []) (from ∷ []) (λ x. ((λ h. h), (λ h. h))))
+
+  pub explored_first : {C K : Type 0} (value : K → ℤ) (price : C → K) (size : ℕ) (places : ℕ → List (Option (ℕ × C))) (passes : ℕ → Bool) (edges : ℕ → List (ℕ × ℤ)) (numbers : List ℕ) (count : ℕ)
+      → ((n : ℕ) → n < size → ListsEdges nat_eq value (priced price (places n)) (edges n)) → IsIndex order numbers → length numbers ≡ count → count ≡ size
+      → IsExplored value price size places passes (record { graph = record { starts = from ∷ []; edges = edges }; test = passes }) order numbers × IsIndex order numbers × (length numbers ≡ size)
+  explored_first value price size places passes edges numbers count listed index wide is = (rw one (explored_start value price size places passes edges from numbers listed), index, wide ∙ is)

@@ -1,0 +1,103 @@
+-- The order in which nodes are found, and the number of each.
+use Rattle.std.proofs.Common.{ℕ, zero, suc, ◌+◌, ◌-◌, ◌<◌, ◌≤◌, ◌≡◌, ◌≢◌, refl, sym, ◌∙◌, ap, subst, arith, Bool, true, false, List, [], ◌∷◌, ◌++◌, length, inl, inr, Some, None, take, nat_eq, map, Option, add-one}
+use Rattle.std.specs.Prelude.{slice_get, slice_set, ◌⊎◌}
+use Rattle.std.specs.List.{IsDistinct}
+use Rattle.std.proofs.lemmas.List.{map-append, append-nil}
+use Rattle.std.proofs.lemmas.Option.{slice_get_within}
+use borrow.Author.Tests.{eqb-true}
+use Rattle.pf_core.proofs.ListLemmas.{bool_dec, get_set, get-append, none_in}
+use Rattle.pf_tables.specs.Numbering.{IsIndex, present, priced}
+
+-- what stands in a list, or at its end
+get_push : {A : Type 0} (xs : List A) (x : A) (k : ℕ) (m : A) → slice_get (xs ++ x ∷ []) k ≡ Some m → (slice_get xs k ≡ Some m) ⊎ ((k ≡ length xs) × (x ≡ m))
+get_push [] x zero m h = inr (refl, (let e : Some x ≡ Some m = h in cc))
+get_push [] x (suc k) m h = absurd (none_in k m h)
+get_push (y ∷ ys) x zero m h = inl h
+get_push (y ∷ ys) x (suc k) m h = elim (get_push ys x k m h) as (λ _. (slice_get ys k ≡ Some m) ⊎ ((suc k ≡ suc (length ys)) × (x ≡ m))) [ inl e ↦ inl e | inr e ↦ inr (ap suc e.0, e.1) ]
+
+pub get_last : {A : Type 0} (xs : List A) (x : A) → slice_get (xs ++ x ∷ []) (length xs) ≡ Some x
+get_last [] x = refl
+get_last (y ∷ ys) x = get_last ys x
+
+some_same : {A : Type 0} (x y : A) → Some x ≡ Some y → x ≡ y
+some_same x y e = cc
+
+-- a node without a number gets the next one
+pub index_push : (order numbers : List ℕ) (node : ℕ) → IsIndex order numbers → slice_get numbers node ≡ Some 0 → IsIndex (order ++ node ∷ []) (slice_set numbers node (length order + 1))
+index_push order numbers node i free =
+    let inside = slice_get_within numbers node 0 free in
+    let numbers' : List ℕ = slice_set numbers node (length order + 1) in
+    record {
+      at = λ k x h. elim (get_push order node k x h) as (λ _. slice_get numbers' x ≡ Some (k + 1)) [
+        | inl old ↦ elim (get_set numbers node x (length order + 1) inside) as (λ _. slice_get numbers' x ≡ Some (k + 1)) [
+          | inl e ↦ absurd (omega (arith, some_same 0 (k + 1) (sym free ∙ ap (slice_get numbers) (sym e.0) ∙ i.at k x old)))
+          | inr e ↦ e.1 ∙ i.at k x old
+        ]
+        | inr new ↦ elim (get_set numbers node x (length order + 1) inside) as (λ _. slice_get numbers' x ≡ Some (k + 1)) [
+          | inl e ↦ e.1 ∙ ap (λ (n : ℕ). Some (n + 1)) (sym new.0)
+          | inr e ↦ absurd (e.0 (sym new.1))
+        ]
+      ];
+      back = λ k x h. elim (get_set numbers node x (length order + 1) inside) as (λ _. slice_get (order ++ node ∷ []) k ≡ Some x) [
+        | inl e ↦
+            let v = some_same (length order + 1) (k + 1) (sym e.1 ∙ h) in
+            let w : length order ≡ k = omega (arith, v) in
+            subst (λ (n : ℕ). slice_get (order ++ node ∷ []) n ≡ Some x) w (get_last order node ∙ ap (λ (n : ℕ). Some n) (sym e.0))
+        | inr e ↦ get-append order (node ∷ []) k x (i.back k x (sym e.1 ∙ h))
+      ];
+    }
+
+-- the last node loses its number
+pub index_pop : (order numbers : List ℕ) (node : ℕ) → IsIndex (order ++ node ∷ []) numbers → IsIndex order (slice_set numbers node 0)
+index_pop order numbers node i =
+    let own = i.at (length order) node (get_last order node) in
+    let inside = slice_get_within numbers node (length order + 1) own in
+    let numbers' : List ℕ = slice_set numbers node 0 in
+    record {
+      at = λ k x h. elim (get_set numbers node x 0 inside) as (λ _. slice_get numbers' x ≡ Some (k + 1)) [
+        | inl e ↦
+            let v = some_same (length order + 1) (k + 1) (sym own ∙ ap (slice_get numbers) (sym e.0) ∙ i.at k x (get-append order (node ∷ []) k x h)) in
+            absurd (omega (arith, v, slice_get_within order k x h))
+        | inr e ↦ e.1 ∙ i.at k x (get-append order (node ∷ []) k x h)
+      ];
+      back = λ k x h. elim (get_set numbers node x 0 inside) as (λ _. slice_get order k ≡ Some x) [
+        | inl e ↦ absurd (omega (arith, some_same 0 (k + 1) (sym e.1 ∙ h)))
+        | inr e ↦ elim (get_push order node k x (i.back k x (sym e.1 ∙ h))) as (λ _. slice_get order k ≡ Some x) [
+          | inl old ↦ old
+          | inr new ↦ absurd (e.0 (sym new.1))
+        ]
+      ];
+    }
+
+-- a node without a number stands nowhere in the order
+pub is_new : (order numbers : List ℕ) (node : ℕ) → IsIndex order numbers → slice_get numbers node ≡ Some 0 → (k m : ℕ) → slice_get order k ≡ Some m → nat_eq m node ≡ false
+is_new order numbers node i free k m h = elim (bool_dec (nat_eq m node)) as (λ _. nat_eq m node ≡ false) [
+  | inl e ↦ absurd (omega (arith, some_same 0 (k + 1) (sym free ∙ ap (slice_get numbers) (sym (eqb-true m node e)) ∙ i.at k m h)))
+  | inr e ↦ e
+]
+
+-- ---- what stands at places, taken one by one
+
+present-append : {E : Type 0} (xs ys : List (Option E)) → present (xs ++ ys) ≡ present xs ++ present ys
+present-append [] ys = refl
+present-append (None ∷ xs) ys = present-append xs ys
+present-append (Some e ∷ xs) ys = ap (λ es. e ∷ es) (present-append xs ys)
+
+take_suc : {E : Type 0} (xs : List E) (i : ℕ) (x : E) → slice_get xs i ≡ Some x → take (suc i) xs ≡ take i xs ++ x ∷ []
+take_suc [] i x h = absurd (none_in i x h)
+take_suc (y ∷ ys) zero x h = ap (λ z. z ∷ []) (some_same y x h)
+take_suc (y ∷ ys) (suc i) x h = ap (λ zs. y ∷ zs) (take_suc ys i x h)
+
+take_more : {E : Type 0} (xs : List E) (i : ℕ) (x : E) → slice_get xs i ≡ Some x → take (i + 1) xs ≡ take i xs ++ x ∷ []
+take_more xs i x h = ap (λ (n : ℕ). take n xs) (add-one i) ∙ take_suc xs i x h
+
+module _ {C K : Type 0} (price : C → K) (places : List (Option (ℕ × C))) (i : ℕ) where
+  pub priced_more : (edge : ℕ × C) → slice_get places i ≡ Some (Some edge) → priced price (take (i + 1) places) ≡ priced price (take i places) ++ (edge.0, price edge.1) ∷ []
+  priced_more edge h =
+      let f : ℕ × C → ℕ × K = λ (e : ℕ × C). (e.0, price e.1) in
+      ap (λ xs. map f (present xs)) (take_more places i (Some edge) h) ∙ ap (map f) (present-append (take i places) (Some edge ∷ [])) ∙ map-append f (present (take i places)) (edge ∷ [])
+
+  pub priced_same : slice_get places i ≡ Some None → priced price (take (i + 1) places) ≡ priced price (take i places)
+  priced_same h =
+      let f : ℕ × C → ℕ × K = λ (e : ℕ × C). (e.0, price e.1) in
+      ap (λ xs. map f (present xs)) (take_more places i None h) ∙ ap (map f) (present-append (take i places) (None ∷ [])) ∙ ap (map f) (append-nil (present (take i places)))

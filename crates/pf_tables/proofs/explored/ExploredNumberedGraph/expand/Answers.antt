@@ -1,0 +1,63 @@
+use Rattle.std.proofs.Common.{rules, ◌≡◌, ◌<◌, sym, subst, Some, slice_get, ℕ, inl, inr, nat_eq, arith}
+use Rattle.std.proofs.lemmas.Cmp.{nat_eq_equiv}
+use Rattle.std.proofs.lemmas.Option.{slice_get_within}
+use Rattle.pf_base.specs.Edges.{InReach}
+use Rattle.pf_core.specs.NodeLaws.{StandsFor-one}
+use Rattle.pf_core.proofs.ListLemmas.{at_place, on_ok, ok_or_err}
+use Rattle.pf_core.proofs.NodeLemmas.{fresh_number, Grows-from_take, inside_of, Lists-from, reached_added}
+use Rattle.pf_tables.specs.Numbering.{priced}
+use Rattle.pf_tables.proofs.ExploreLemmas.{nat_alike}
+use Rattle.pf_tables.proofs.explored.ExploredNumberedGraph.expand.Goals as goal
+
+pub number_places-requires-clause-inside : goal.number_places-requires-clause-inside
+number_places-requires-clause-inside g c =
+    let r = c.requires.graph in
+    let at : slice_get c.args.self.now.numbering.order.items c.args.node ≡ Some c.index-place.result.now = at_place _ _ _ _ c.requires.inside (sym c.index-place.ensures) in
+    let l = slice_get_within c.args.self.now.numbering.numbers.items c.index-place.result.now _ (r.1.1.at c.args.node c.index-place.result.now at) in
+    omega (arith, l, r.1.2)
+
+pub returns-clause-grows : goal.returns-clause-grows
+returns-clause-grows g c = Grows-from_take nat_eq c.args.self.now.numbering.order.items c.number_places.new.numbering.order.items c.number_places.ensures.longer c.number_places.ensures.kept
+
+pub returns-clause-graph : goal.returns-clause-graph
+unfolding number_places-requires-clause-inside
+returns-clause-graph g c = λ h x.
+    let here = c.index-place.result.now in
+    let keys = c.args.self.now.numbering.order.items in
+    let keys' = c.number_places.new.numbering.order.items in
+    let items = priced g.F.Price.price (g.G.Graph.places c.args.self.now.graph.now here) in
+    let at : slice_get keys c.args.node ≡ Some here = at_place _ _ _ _ c.requires.inside (sym c.index-place.ensures) in
+    let l = slice_get_within c.args.self.now.numbering.numbers.items here _ (x.1.at c.args.node here at) in
+    let inside : here < g.G.Graph.size c.args.self.now.graph.now = omega (arith, l, x.2) in
+    let reach = x.0.reached c.args.node here at in (
+      record {
+        listed = x.0.listed;
+        tested = x.0.tested;
+        distinct = c.number_places.ensures.distinct x.0.distinct;
+        reached = elim (ok_or_err c.number_places.result c.number_places.ensures.numbered c.number_places.ensures.stays) as (λ _. (k y : ℕ) → slice_get keys' k ≡ Some y → InReach nat_eq h.graph.edges h.graph.starts y) [
+          | inl n ↦ reached_added nat_eq nat_eq_equiv h.graph.edges h.graph.starts (nat_alike h.graph.edges h.graph.starts) g.K.Number.value keys keys' here items reach (x.0.listed here inside) n.3 x.0.reached
+          | inr e ↦ λ k y q. x.0.reached k y (subst (λ ks. slice_get ks k ≡ Some y) e q)
+        ];
+      },
+      c.number_places.ensures.index,
+      c.number_places.ensures.wide,
+    )
+
+pub returns-clause-listed : goal.returns-clause-listed
+returns-clause-listed g c = on_ok c.number_places.result c.number_places.ensures.numbered (λ n.
+    let here = c.index-place.result.now in
+    let keys = c.args.self.now.numbering.order.items in
+    let keys' = c.number_places.new.numbering.order.items in
+    let items = priced g.F.Price.price (g.G.Graph.places c.args.self.now.graph.now here) in
+    let at : slice_get keys c.args.node ≡ Some here = at_place _ _ _ _ c.requires.inside (sym c.index-place.ensures) in
+    let distinct = c.number_places.ensures.distinct c.requires.graph.1.0.distinct in (
+      n.0,
+      n.1,
+      inside_of nat_eq keys' n.0 items n.2,
+      λ j low high. fresh_number nat_eq nat_eq_equiv keys keys' distinct n.0 items n.2 n.3 j low high,
+      λ h x y s.
+          let reach = x.0.reached c.args.node here at in
+          let l = slice_get_within c.args.self.now.numbering.numbers.items here _ (x.1.at c.args.node here at) in
+          let inside : here < g.G.Graph.size c.args.self.now.graph.now = omega (arith, l, x.2) in
+          Lists-from nat_eq nat_eq_equiv g.K.Number.value h.graph (nat_alike h.graph.edges h.graph.starts) keys keys' c.args.node here n.0 items at reach n.2 (x.0.listed here inside) (λ i j z. StandsFor-one nat_eq nat_eq_equiv keys' distinct i j z) y s,
+    ))

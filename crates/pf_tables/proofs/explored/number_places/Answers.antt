@@ -1,0 +1,114 @@
+use Rattle.std.proofs.Common.{rules, ◌≡◌, ◌≤◌, Some, ◌<◌, ◌∙◌, sym, ap, subst, inl, arith, [], ◌∷◌, ◌++◌, take_all, take, length, nat_eq, ◌+◌}
+use Rattle.std.proofs.lemmas.Cmp.{nat_eq_equiv}
+use Rattle.pf_core.proofs.NodeLemmas.{take_longer, Numbers-grow, Numbers-push, AddedFrom-push, AddsNode-stays}
+use Rattle.pf_tables.specs.Numbering.{priced}
+use Rattle.pf_tables.proofs.IndexLemmas.{priced_more, priced_same}
+use Rattle.pf_tables.proofs.explored.number_places.Goals.{in-Some+in_default-number_edge, in_default}
+use Rattle.pf_tables.proofs.explored.number_places.Goals as goal
+
+pub loop-place-init : goal.loop-place-init
+loop-place-init g c =
+    let order = c.args.numbering.now.order.items in
+    let long : c.len-before.result ≡ length order = omega (arith, c.len-before.ensures, c.args.numbering.now.order.ok) in
+    record {
+      long = long;
+      longer = omega (arith, long);
+      kept = take_all c.len-before.result order (omega (arith, long));
+      index = c.requires.index;
+      wide = c.requires.wide;
+      numbered = ([], c.requires.empty, tt);
+      added = λ k m h. inl h;
+      distinct = λ d. d;
+    }
+
+pub number_edge-requires-clause-index : goal.number_edge-requires-clause-index
+number_edge-requires-clause-index g c = c.loop-place.invariant.index
+
+pub number_edge-requires-clause-inside : goal.number_edge-requires-clause-inside
+number_edge-requires-clause-inside g c =
+    let l = c.known.ensures.inside c.args.node c.loop-place.place c.in-Some.edge c.requires.inside c.in-Some.ensures in
+    omega (arith, l, c.loop-place.invariant.wide)
+
+pub forget-requires-clause-inside : goal.forget-requires-clause-inside
+forget-requires-clause-inside g c = let v = c.loop-place.invariant in omega (arith, v.longer, c.in-Err.ensures.added.longer)
+
+pub returns-in-Err-clause-stays : goal.returns-in-Err-clause-stays
+returns-in-Err-clause-stays g c =
+    let v = c.loop-place.invariant in
+    c.forget.ensures.left ∙ take_longer nat_eq c.len-before.result c.loop-place.numbering.order.items c.number_edge.new.numbering.order.items v.longer c.in-Err.ensures.added.kept ∙ v.kept
+
+pub returns-in-Err-clause-distinct : goal.returns-in-Err-clause-distinct
+unfolding returns-in-Err-clause-stays
+returns-in-Err-clause-distinct g c = λ d. rw (returns-in-Err-clause-stays g c) d
+
+pub returns-in-Err-clause-longer : goal.returns-in-Err-clause-longer
+unfolding returns-in-Err-clause-stays
+returns-in-Err-clause-longer g c = omega (arith, ap length (returns-in-Err-clause-stays g c))
+
+pub returns-in-Err-clause-kept : goal.returns-in-Err-clause-kept
+unfolding returns-in-Err-clause-stays
+returns-in-Err-clause-kept g c =
+    let order = c.args.numbering.now.order.items in
+    ap (take (length order)) (returns-in-Err-clause-stays g c) ∙ take_all (length order) order (omega arith)
+
+pub loop-place-preserved : goal.loop-place-preserved
+loop-place-preserved g c =
+    let v = c.loop-place.invariant in
+    let places = g.G.Graph.places c.args.graph.now c.args.node in
+    let price = g.F.Price.price in
+    let i = c.loop-place.place in
+    let old = c.loop-place.numbering.order.items in
+    elim c.match-edge.branch [
+      | in-Some+in_default-number_edge w ↦
+          let a = w.in_default-number_edge.ensures.added in
+          let n = w.in_default-number_edge.ensures.numbered in
+          let new = w.number_edge.new.numbering.order.items in
+          let more = priced_more price places i w.in-Some.edge w.in-Some.ensures in
+          let grown = Numbers-grow nat_eq old new v.numbered.0 (priced price (take i places)) (AddsNode-stays nat_eq w.in-Some.edge.0 old new a) v.numbered.2 in
+          rw (w.numbering-is, w.row-is) (record {
+            long = v.long;
+            longer = omega (arith, v.longer, a.longer);
+            kept = take_longer nat_eq c.len-before.result old new v.longer a.kept ∙ v.kept;
+            index = w.in_default-number_edge.ensures.index;
+            wide = w.in_default-number_edge.ensures.wide ∙ v.wide;
+            numbered = (
+              v.numbered.0 ++ (n.0, price w.in-Some.edge.1) ∷ [],
+              rw w.price_of.ensures at (n.2 v.numbered.0 v.numbered.1),
+              rw more (Numbers-push nat_eq new v.numbered.0 (priced price (take i places)) n.0 (price w.in-Some.edge.1) w.in-Some.edge.0 grown n.1),
+            );
+            added = rw more (AddedFrom-push nat_eq c.args.numbering.now.order.items old new (priced price (take i places)) (price w.in-Some.edge.1) w.in-Some.edge.0 a v.added);
+            distinct = λ d. a.distinct (v.distinct d);
+          })
+      | in_default w ↦
+          let same = priced_same price places i (c.edge.ensures ∙ ap (λ x. Some x) w.in_default.is) in
+          rw (w.numbering-is, w.row-is) (record {
+            long = v.long;
+            longer = v.longer;
+            kept = v.kept;
+            index = v.index;
+            wide = v.wide;
+            numbered = (v.numbered.0, v.numbered.1, rw same v.numbered.2);
+            added = rw same v.added;
+            distinct = v.distinct;
+          })
+    ]
+
+pub returns-clause-numbered : goal.returns-clause-numbered
+returns-clause-numbered g c =
+    let v = c.loop-place.invariant in
+    let places = g.G.Graph.places c.args.graph.now c.args.node in
+    let all : take c.loop-place.place places ≡ places = take_all c.loop-place.place places (omega (arith, c.loop-place-test.false, c.places-place-end.ensures)) in
+    let n = rw all at v.numbered in
+    (n.0, n.1, n.2, rw all at v.added)
+
+pub returns-clause-index : goal.returns-clause-index
+returns-clause-index g c = c.loop-place.invariant.index
+
+pub returns-clause-distinct : goal.returns-clause-distinct
+returns-clause-distinct g c = c.loop-place.invariant.distinct
+
+pub returns-clause-longer : goal.returns-clause-longer
+returns-clause-longer g c = let v = c.loop-place.invariant in omega (arith, v.long, v.longer)
+
+pub returns-clause-kept : goal.returns-clause-kept
+returns-clause-kept g c = let v = c.loop-place.invariant in rw v.long at v.kept

@@ -1,0 +1,17 @@
+use Rattle.std.proofs.Common.{ℕ, List, ◌≡◌, ◌≤◌, length, take, nat_eq}
+use Rattle.std.specs.List.{IsDistinct}
+use Rattle.pf_core.specs.Nodes.{NumbersItems, AddedFrom}
+use Rattle.pf_tables.specs.Numbering.{IsIndex, priced}
+use Rattle.pf_tables.proofs.explored.number_places.Given as goal
+
+abbrev pub invariant-loop-place : goal.invariant-loop-place
+invariant-loop-place g l = record {
+  long : l.before ≡ length l.fn.numbering.order.items;
+  longer : l.before ≤ length l.numbering.order.items;
+  kept : take l.before l.numbering.order.items ≡ l.fn.numbering.order.items;
+  index : IsIndex l.numbering.order.items l.numbering.numbers.items;
+  wide : length l.numbering.numbers.items ≡ g.G.Graph.size l.graph;
+  numbered : (steps : List (ℕ × g.row.K.Denot)) × g.R.Row.holds l.row steps × NumbersItems nat_eq l.numbering.order.items steps (priced g.F.Price.price (take l.place (g.G.Graph.places l.graph l.node)));
+  added : AddedFrom nat_eq (priced g.F.Price.price (take l.place (g.G.Graph.places l.graph l.node))) l.fn.numbering.order.items l.numbering.order.items;
+  distinct : IsDistinct nat_eq l.fn.numbering.order.items → IsDistinct nat_eq l.numbering.order.items;
+}

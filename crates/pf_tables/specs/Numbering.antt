@@ -1,0 +1,28 @@
+-- Nodes in the order in which they were found, and the number of each.
+use Rattle.std.specs.Prelude.{◌≡◌, ◌⊎◌, ◌+◌, ◌<◌, ℕ, ℤ, Bool, List, [], ◌∷◌, Option, Some, None, slice_get, map, nat_eq}
+use Rattle.std.specs.List.{IsDistinct}
+use Rattle.pf_base.specs.Answers.{ListsEdges}
+use Rattle.pf_base.specs.Edges.{InReach}
+use Rattle.pf_core.specs.Nodes.{TestedGraph}
+
+-- one more than the number of each node that was found, and 0 at the others
+pub record IsIndex (order numbers : List ℕ) : Type 0 where
+  pub at : (k x : ℕ) → slice_get order k ≡ Some x → slice_get numbers x ≡ Some (k + 1)
+  pub back : (k x : ℕ) → slice_get numbers x ≡ Some (k + 1) → slice_get order k ≡ Some x
+
+-- what stands at places
+abbrev pub present : {E : Type 0} → List (Option E) → List E
+present [] = []
+present (None ∷ places) = present places
+present (Some edge ∷ places) = edge ∷ present places
+
+-- the edges at places, each with what it is paid with
+abbrev pub priced : {C K : Type 0} → (C → K) → List (Option (ℕ × C)) → List (ℕ × K)
+priced {C} price places = map (λ (e : ℕ × C). (e.0, price e.1)) (present places)
+
+-- The graph over the numbers below `size` is explored: its edges are what stands at the places, its test is the one that is asked, and what was found is in reach.
+pub record IsExplored {C K : Type 0} (value : K → ℤ) (price : C → K) (size : ℕ) (places : ℕ → List (Option (ℕ × C))) (passes : ℕ → Bool) (g : TestedGraph ℕ) (order numbers : List ℕ) : Type 0 where
+  pub listed : (n : ℕ) → n < size → ListsEdges nat_eq value (priced price (places n)) (g.graph.edges n)
+  pub tested : (n : ℕ) → passes n ≡ g.test n
+  pub distinct : IsDistinct nat_eq order
+  pub reached : (k x : ℕ) → slice_get order k ≡ Some x → InReach nat_eq g.graph.edges g.graph.starts x

@@ -1,0 +1,75 @@
+//! Cheapest paths over a table.
+
+ghost use Rattle.std.specs.Prelude.{◌≡◌, ◌⊎◌, [], ◌∷◌, Err, IfOk, IfErr, MatchOption, nat_eq};
+ghost use Rattle.pf_base.specs.Walks.{HasNoGoalWalk};
+ghost use Rattle.pf_base.specs.Edges.{IsSuccessor, IsCheapestGoalPath, IsPastRange};
+ghost use Rattle.pf_tables.specs.Graphs.{graph_of};
+
+use crate::explored::{AsPriced, Explored};
+use crate::goals::Goals;
+use crate::graph::Graph;
+use crate::numbering::{Numbering, alone};
+use pf_base::utils::Tally;
+use pf_base::{Cost, PathError};
+use pf_core::cheapest::cheapest_path;
+use pf_core::discovery::clones_at;
+use std::alloc::Allocator;
+use std::marker::PhantomData;
+
+/// A cheapest path from the node `from` to a goal, with its cost, or `None` exactly where no walk
+/// leads from `from` to a goal.
+///
+/// The path contains no node twice, and which of several cheapest paths is answered is open. Where
+/// several edges lead to one node, a step costs what the cheapest of them costs. A number that is
+/// no node of the graph has no edges.
+///
+/// # Errors
+///
+/// - `CostOverflow`: only where a cheapest path to some node and one step more, by the cheapest of the
+///   parallel edges, cost more than `C` can hold, and no goal is cheaper than that node.
+/// - `OutOfMemory`: a request for memory was refused.
+///
+/// The algorithm is Dijkstra's (E. W. Dijkstra, "A note on two problems in connexion with graphs",
+/// 1959), with a binary heap. A call lays out one number for each node of the graph, and then takes
+/// memory and time for those that it reaches.
+pub fn dijkstra<C, G, T, A>(
+    alloc: A,
+    graph: &G,
+    from: usize,
+    goals: T,
+) -> Result<Option<(Vec<usize, A>, C)>, PathError>
+where
+    C: Cost,
+    G: Graph<C>,
+    T: Goals + Copy,
+    A: Allocator + Copy,
+    ensures best { IfOk result (λ answer. MatchOption answer
+        (HasNoGoalWalk nat_eq (IsSuccessor nat_eq (graph_of C.value (G.size graph.now) (G.places graph.now))) (from ∷ []) (T.passes goals))
+        (λ found. IsCheapestGoalPath nat_eq (graph_of C.value (G.size graph.now) (G.places graph.now)) (from ∷ []) (T.passes goals) found.0.items (C.value found.1))) }
+    ensures overflow { result ≡ Err PathError.CostOverflow → IsPastRange nat_eq (graph_of C.value (G.size graph.now) (G.places graph.now)) (from ∷ []) (T.passes goals) C.fits }
+    ensures errors { IfErr result (λ e. (e ≡ PathError.OutOfMemory) ⊎ (e ≡ PathError.CostOverflow)) }
+{
+    graph.known();
+    if from >= graph.len() {
+        if !goals.is_goal(from) {
+            return Ok(None);
+        }
+        let path = alone(alloc, from)?;
+        return Ok(Some((path, C::zero())));
+    }
+    let numbering = Numbering::of_one(alloc, graph.len(), from)?;
+    let mut explored: Explored<'_, C, AsPriced, G, T, A> = Explored {
+        graph,
+        goals,
+        numbering,
+        form: PhantomData,
+    };
+    let mut tally = Tally::new();
+    match cheapest_path(alloc, &mut explored, 0, &mut tally)? {
+        None => Ok(None),
+        Some((numbers, cost)) => {
+            let path = clones_at(alloc, &explored.numbering.order, &numbers)?;
+            Ok(Some((path, cost)))
+        }
+    }
+}

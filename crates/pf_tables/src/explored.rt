@@ -1,0 +1,185 @@
+//! A graph in a table as a search sees it: its nodes are numbered as they are found.
+
+ghost use Rattle.std.specs.Prelude.{◌≡◌, ◌<◌, ◌≤◌, ℕ, List, [], ◌∷◌, ◌++◌, OnOk, OnErr, IfErr, length, take, map, nat_eq};
+ghost use Rattle.std.specs.List.{IsDistinct};
+ghost use Rattle.pf_core.specs.Nodes.{TestedGraph, IsStep, StandsFor, AddsNode, NumbersItems, AddedFrom};
+ghost use Rattle.pf_core.specs.NodeLaws.{StandsFor-one, StandsFor-inside};
+ghost use Rattle.pf_tables.specs.Numbering.{IsIndex, IsExplored, priced};
+ghost use Rattle.std.proofs.lemmas.Cmp.{nat_eq_equiv};
+
+use crate::goals::Goals;
+use crate::graph::Graph;
+use crate::numbering::Numbering;
+use pf_base::{Cost, PathError};
+use pf_core::numbered::{GoalGraph, NumberedGraph};
+use pf_core::row::Row;
+use std::alloc::Allocator;
+use std::marker::PhantomData;
+
+/// What a search pays for an edge.
+pub trait Price<C, K> {
+    // What an edge of this cost is paid with.
+    ghost price: { C → K };
+
+    /// What an edge of this cost is paid with.
+    fn price_of(cost: C) -> K
+        ensures { result ≡ price cost };
+}
+
+/// An edge is paid with its cost.
+pub struct AsPriced;
+
+impl<C> Price<C, C> for AsPriced {
+    ghost price = { λ cost. cost };
+
+    fn price_of(cost: C) -> C {
+        cost
+    }
+}
+
+/// Each edge is paid with 1.
+pub struct OneEach;
+
+impl<C: Cost> Price<C, u8> for OneEach {
+    ghost price = { λ cost. 1 };
+
+    fn price_of(_cost: C) -> u8 {
+        1
+    }
+}
+
+/// A table, its goals, and which of its nodes were found.
+#[derive(Drop)]
+pub struct Explored<'g, C, F, G, T, A: Allocator> {
+    pub graph: &'g G,
+    pub goals: T,
+    pub numbering: Numbering<A>,
+    pub form: PhantomData<(C, F)>,
+}
+
+/// Numbers what stands at the places of a node, and puts it into the row. Where memory is refused,
+/// the numbering stays as it was.
+fn number_places<C, K, F, G, A, R>(
+    graph: &G,
+    numbering: &mut Numbering<A>,
+    node: usize,
+    row: &mut R,
+) -> Result<(), PathError>
+where
+    C: Cost,
+    K: Cost,
+    F: Price<C, K>,
+    G: Graph<C>,
+    A: Allocator + Copy,
+    R: Row<K>,
+    requires inside { node < G.size graph.now }
+    requires empty { R.holds row.old [] }
+    requires index { IsIndex numbering.old.order.items numbering.old.numbers.items }
+    requires wide { length numbering.old.numbers.items ≡ G.size graph.now }
+    ensures numbered { OnOk result ((steps : List (ℕ × K)) × R.holds row.new steps
+        × NumbersItems nat_eq numbering.new.order.items steps (priced F.price (G.places graph.now node))
+        × AddedFrom nat_eq (priced F.price (G.places graph.now node)) numbering.old.order.items numbering.new.order.items) }
+    ensures index { IsIndex numbering.new.order.items numbering.new.numbers.items }
+    ensures wide { length numbering.new.numbers.items ≡ G.size graph.now }
+    ensures distinct { IsDistinct nat_eq numbering.old.order.items → IsDistinct nat_eq numbering.new.order.items }
+    ensures longer { length numbering.old.order.items ≤ length numbering.new.order.items }
+    ensures kept { take (length numbering.old.order.items) numbering.new.order.items ≡ numbering.old.order.items }
+    ensures stays { OnErr result (numbering.new.order.items ≡ numbering.old.order.items) }
+    ensures refused { IfErr result (λ e. e ≡ PathError.OutOfMemory) }
+{
+    graph.known();
+    let before = numbering.order.len();
+    for place in 0..graph.places(node) {
+        if let Some(edge) = graph.edge(node, place) {
+            if let Err(refusal) = number_edge(numbering, edge.0, F::price_of(edge.1), row) {
+                numbering.forget(before);
+                return Err(refusal);
+            }
+        }
+    }
+    Ok(())
+}
+
+/// Numbers the node that an edge leads to, and puts the edge at the end of the row.
+fn number_edge<K, A, R>(
+    numbering: &mut Numbering<A>,
+    target: usize,
+    cost: K,
+    row: &mut R,
+) -> Result<(), PathError>
+where
+    K: Cost,
+    A: Allocator + Copy,
+    R: Row<K>,
+    requires index { IsIndex numbering.old.order.items numbering.old.numbers.items }
+    requires inside { target < length numbering.old.numbers.items }
+    ensures index { IsIndex numbering.new.order.items numbering.new.numbers.items }
+    ensures wide { length numbering.new.numbers.items ≡ length numbering.old.numbers.items }
+    ensures added { AddsNode nat_eq target numbering.old.order.items numbering.new.order.items }
+    ensures numbered { OnOk result ((k : ℕ) × StandsFor nat_eq numbering.new.order.items k target
+        × ((steps : List (ℕ × K)) → R.holds row.old steps → R.holds row.new (steps ++ (k, cost) ∷ []))) }
+    ensures refused { IfErr result (λ e. e ≡ PathError.OutOfMemory) }
+{
+    let number = numbering.number_of(target)?;
+    row.add(number, cost)
+}
+
+impl<'g, C, K, F, G, T, A> NumberedGraph<K> for Explored<'g, C, F, G, T, A>
+where
+    C: Cost,
+    K: Cost,
+    F: Price<C, K>,
+    G: Graph<C>,
+    T: Goals,
+    A: Allocator + Copy,
+{
+    ghost Node = { ℕ };
+
+    ghost Graph = { TestedGraph ℕ };
+
+    ghost step = { λ g. IsStep nat_eq g.graph };
+
+    ghost passes = { λ g x. g.test x };
+
+    ghost found = { λ s. length s.numbering.order.items };
+
+    ghost stands = { λ s. StandsFor nat_eq s.numbering.order.items };
+
+    ghost explores = { λ s g. IsExplored K.value F.price (G.size s.graph.now) (G.places s.graph.now) (T.passes s.goals) g s.numbering.order.items s.numbering.numbers.items
+        × IsIndex s.numbering.order.items s.numbering.numbers.items × (length s.numbering.numbers.items ≡ G.size s.graph.now) };
+
+    ghost can_forget = { λ s k. (k ≤ length s.numbering.order.items) × IsIndex s.numbering.order.items s.numbering.numbers.items };
+
+    fn found(&self) -> usize {
+        self.numbering.order.len()
+    }
+
+    fn expand<R: Row<K>>(&mut self, node: usize, row: &mut R) -> Result<(), PathError> {
+        row.reset();
+        let place = self.numbering.order[node];
+        number_places::<C, K, F, G, A, R>(self.graph, &mut self.numbering, place, row)
+    }
+
+    fn forget(&mut self, first: usize) {
+        self.numbering.forget(first);
+    }
+
+    ghost inside_law = { λ s k x h. StandsFor-inside nat_eq s.numbering.order.items k x h };
+
+    ghost one_law = { λ s g e i j x. StandsFor-one nat_eq nat_eq_equiv s.numbering.order.items e.0.distinct i j x };
+}
+
+impl<'g, C, K, F, G, T, A> GoalGraph<K> for Explored<'g, C, F, G, T, A>
+where
+    C: Cost,
+    K: Cost,
+    F: Price<C, K>,
+    G: Graph<C>,
+    T: Goals,
+    A: Allocator + Copy,
+{
+    fn is_goal(&mut self, node: usize) -> bool {
+        let node = self.numbering.order[node];
+        self.goals.is_goal(node)
+    }
+}
