@@ -1,0 +1,4 @@
+pub mod Parts
+pub mod Faulty
+pub mod RowLemmas
+pub mod OffsetLemmas

@@ -1,0 +1,4 @@
+pub mod Graphs
+pub mod Faults
+pub mod Offsets
+pub mod CostlessLaws
