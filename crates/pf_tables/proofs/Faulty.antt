@@ -10,7 +10,7 @@ use Rattle.pf_tables.proofs.Parts.{filled_from, part_at, part_length}
 pub less_or_same : (a b : ℕ) → a < b + 1 → (a < b) ⊎ (a ≡ b)
 less_or_same a b h = grind arith
 
-some_same : {X : Type 0} {x y : X} → Some x ≡ Some y → x ≡ y
+pub some_same : {X : Type 0} {x y : X} → Some x ≡ Some y → x ≡ y
 some_same e = cc
 
 pub graph_of_sound : {C : Type 0} {value : C → ℤ} {size : ℕ} (rows : ℕ → List (ℕ × C)) → ((n : ℕ) → n < size → IsSoundRow value size (rows n)) → IsGraph value size (λ n. filled (rows n))

@@ -2,3 +2,4 @@ pub mod Parts
 pub mod Faulty
 pub mod RowLemmas
 pub mod OffsetLemmas
+pub mod BoardLemmas

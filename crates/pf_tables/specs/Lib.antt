@@ -2,3 +2,4 @@ pub mod Graphs
 pub mod Faults
 pub mod Offsets
 pub mod CostlessLaws
+pub mod Boards

@@ -1,12 +1,19 @@
 //! The tests that the makers of tables share.
 
-ghost use Rattle.std.specs.Prelude.{◌≤◌, length, MatchResult};
+ghost use Rattle.std.specs.Prelude.{◌≤◌, ◌≤ℤ◌, ◌<ℤ◌, pos, length, MatchBool, MatchResult};
 ghost use Rattle.pf_tables.specs.Graphs.{part};
 ghost use Rattle.pf_tables.specs.Faults.{IsSound, IsSoundRow, IsFaultAt, IsFirstFaultOfRow};
 
 use crate::error::TableError;
 use crate::row::Row;
 use pf_base::Cost;
+
+/// Is the cost below 0?
+pub fn is_negative<C: Cost>(cost: C) -> bool
+    ensures { MatchBool result (C.value cost <ℤ pos 0) (pos 0 ≤ℤ C.value cost) }
+{
+    cost < C::zero()
+}
 
 /// Tests whether an edge leads to a node below `size` and costs no less than 0.
 fn check_edge<C: Cost>(
@@ -19,7 +26,7 @@ fn check_edge<C: Cost>(
 {
     if edge.0 >= size {
         Err(TableError::TargetOutside { node, place })
-    } else if edge.1 < C::zero() {
+    } else if is_negative(edge.1) {
         Err(TableError::NegativeCost { node, place })
     } else {
         Ok(())

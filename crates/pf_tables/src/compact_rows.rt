@@ -3,7 +3,7 @@
 ghost use Rattle.std.specs.Prelude.{◌≡◌, ◌⊎◌, ◌-◌, length, IfOk, IfErr, MatchResult};
 ghost use Rattle.pf_tables.specs.Graphs.{between, filled};
 ghost use Rattle.pf_tables.specs.Faults.{IsSoundRow, IsFirstFault};
-ghost use Rattle.pf_tables.specs.Offsets.{IsOffsets, IsOffsetFault, IsCompactFault, AreSoundRows};
+ghost use Rattle.pf_tables.specs.Offsets.{IsCompact, IsOffsets, IsOffsetFault, IsCompactFault, AreSoundRows};
 
 use crate::checks::check_part;
 use crate::error::TableError;
@@ -77,7 +77,7 @@ impl<'a, R: Row<C> + Drop, C: Cost> CompactRows<'a, R, C> {
     /// `NegativeCost`.
     pub fn new(offsets: &'a [usize], edges: R) -> Result<Self, TableError>
         ensures graph { IfOk result (λ graph. graph ≡ (offsets.now, R.edges edges)) }
-        ensures offsets { IfOk result (λ _. IsOffsets offsets.now (length (R.edges edges))) }
+        ensures sound { IfOk result (λ graph. IsCompact C.value graph.0 graph.1) }
         ensures fault { IfErr result (IsCompactFault C.value offsets.now (R.edges edges)) }
     {
         check_offsets(offsets, edges.len())?;

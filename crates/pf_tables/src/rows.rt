@@ -1,7 +1,7 @@
 //! Graphs as a row of edges for each node.
 
 ghost use Rattle.std.specs.Prelude.{◌≡◌, length, IfOk, IfErr};
-ghost use Rattle.pf_tables.specs.Graphs.{filled, row_of};
+ghost use Rattle.pf_tables.specs.Graphs.{IsGraph, filled, row_of};
 ghost use Rattle.pf_tables.specs.Faults.{IsFirstFault};
 
 use crate::checks::check_part;
@@ -38,6 +38,7 @@ impl<'a, R: Row<C>, C: Cost> Rows<'a, R, C> {
     /// 0, as `NegativeCost`. The error names the first such edge.
     pub fn new(rows: &'a [R]) -> Result<Self, TableError>
         ensures graph { IfOk result (λ graph. graph ≡ rows.now) }
+        ensures sound { IfOk result (λ graph. IsGraph C.value (length graph) (λ node. filled (row_of R.edges graph node))) }
         ensures fault { IfErr result (IsFirstFault C.value (length rows.now) (row_of R.edges rows.now)) }
     {
         for (node, row) in rows.iter().enumerate() {
