@@ -3,3 +3,4 @@ pub mod Faulty
 pub mod RowLemmas
 pub mod OffsetLemmas
 pub mod BoardLemmas
+pub mod GraphLemmas

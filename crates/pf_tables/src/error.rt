@@ -26,10 +26,4 @@ pub enum TableError {
     /// To enter the cell of this number costs less than 0.
     #[error("to enter cell {cell} costs less than 0")]
     NegativeCell { cell: usize },
-    /// The edge of this number costs less than 0.
-    #[error("edge {edge} costs less than 0")]
-    NegativeEdge { edge: usize },
-    /// A request for memory was refused during the call.
-    #[error("out of memory")]
-    OutOfMemory,
 }
