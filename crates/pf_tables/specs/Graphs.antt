@@ -1,5 +1,5 @@
 -- Graphs over numbers. What leads from a node stands at its places: at each an edge, as the node that it leads to and its cost, or nothing.
-use Rattle.std.specs.Prelude.{◌≡◌, ◌<◌, ◌≤ℤ◌, ◌-◌, ℕ, ℤ, pos, nat_lt, if◌then◌else◌, List, [], ◌∷◌, Option, Some, None, map, take, drop, slice_get}
+use Rattle.std.specs.Prelude.{◌≡◌, ◌<◌, ◌≤ℤ◌, ◌+◌, ◌-◌, ℕ, ℤ, pos, nat_lt, if◌then◌else◌, List, [], ◌∷◌, Option, Some, None, map, take, drop, slice_get, slice_index}
 use Rattle.std.specs.Option.{option_map_or}
 
 -- the edge stands at this place
@@ -32,6 +32,10 @@ part first end edges = take (end - first) (drop first edges)
 -- the row of a node, where each row is a list as `items` says; no edges where there is no row
 abbrev pub row_of : {X E : Type 0} → (X → List E) → List X → ℕ → List E
 row_of items rows node = option_map_or items (slice_get rows node) []
+
+-- the edges between the offset of a node and the next one
+abbrev pub between : {E : Type 0} → List ℕ → List E → ℕ → List E
+between offsets edges node = part (slice_index offsets node) (slice_index offsets (node + 1)) edges
 
 -- the nodes that the edges at the places lead to, in order
 abbrev pub targets_at : {C : Type 0} → List (Option (ℕ × C)) → List ℕ
