@@ -6,3 +6,4 @@ pub mod edges;
 pub mod groups;
 pub mod rows;
 pub mod table;
+pub mod tables;

@@ -2,6 +2,7 @@
 
 use pf_base::PathError;
 use pf_matrix::MatrixFormatError;
+use pf_tables::TableError;
 use std::alloc::{AllocError, AllocFailed};
 use thiserror::Error;
 
@@ -20,6 +21,8 @@ pub enum BenchError {
     WriteFailed,
     #[error("{0}")]
     Path(#[from] PathError),
+    #[error("{0}")]
+    Table(#[from] TableError),
     #[error("{0}")]
     Matrix(#[from] MatrixFormatError),
 }

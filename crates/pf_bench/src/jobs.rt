@@ -2,7 +2,7 @@
 
 ghost use Rattle.std.specs.Prelude.{◌<◌};
 
-use crate::callers::{board, edges, groups, rows, table};
+use crate::callers::{board, edges, groups, rows, table, tables};
 use crate::error::BenchError;
 use crate::repeats::{Check, Repeats};
 use std::alloc::Global;
@@ -13,6 +13,9 @@ pub enum Job {
     BfsBoard,
     DijkstraBoard,
     DijkstraRows,
+    BfsBoardTable,
+    DijkstraBoardTable,
+    DijkstraRowsTable,
     KruskalIndicesEdges,
     KruskalEdges,
     PrimEdges,
@@ -30,6 +33,9 @@ impl Job {
             "bfs-board" => Job::BfsBoard,
             "dijkstra-board" => Job::DijkstraBoard,
             "dijkstra-rows" => Job::DijkstraRows,
+            "bfs-board-table" => Job::BfsBoardTable,
+            "dijkstra-board-table" => Job::DijkstraBoardTable,
+            "dijkstra-rows-table" => Job::DijkstraRowsTable,
             "kruskal_indices-edges" => Job::KruskalIndicesEdges,
             "kruskal-edges" => Job::KruskalEdges,
             "prim-edges" => Job::PrimEdges,
@@ -50,6 +56,9 @@ impl Job {
             Job::BfsBoard => board::bfs_board(alloc, size, repeats),
             Job::DijkstraBoard => board::dijkstra_board(alloc, size, repeats),
             Job::DijkstraRows => rows::dijkstra_rows(alloc, size, repeats),
+            Job::BfsBoardTable => tables::bfs_board(alloc, size, repeats),
+            Job::DijkstraBoardTable => tables::dijkstra_board(alloc, size, repeats),
+            Job::DijkstraRowsTable => tables::dijkstra_rows(alloc, size, repeats),
             Job::KruskalIndicesEdges => edges::kruskal_indices_edges(alloc, size, repeats),
             Job::KruskalEdges => edges::kruskal_edges(alloc, size, repeats),
             Job::PrimEdges => edges::prim_edges(alloc, size, repeats),

@@ -48,6 +48,16 @@ impl Board {
         Ok(Board { size, heights })
     }
 
+    /// The cells row by row, each with what entering it costs.
+    pub fn into_cells(self, alloc: Global) -> Result<Vec<Option<u32>>, BenchError>
+    {
+        let mut cells = Vec::with_capacity(alloc, self.heights.len())?;
+        for height in &self.heights {
+            cells.push(Some(u32::from(*height)))?;
+        }
+        Ok(cells)
+    }
+
     /// The last cell of the last row.
     pub fn last_cell(&self) -> Cell {
         (self.size - 1, self.size - 1)

@@ -51,6 +51,16 @@ impl Rows {
         self.offsets.len() - 2
     }
 
+    /// Where the edges of each node begin, and the number of all.
+    pub fn offsets(&self) -> &[usize] {
+        &self.offsets
+    }
+
+    /// The edges of all nodes.
+    pub fn edges(&self) -> &[(usize, u32)] {
+        &self.edges
+    }
+
     /// The edges from a node.
     pub fn edges_from(&self, node: usize) -> &[(usize, u32)]
         requires { node + 1 < length self.now.offsets.items }
