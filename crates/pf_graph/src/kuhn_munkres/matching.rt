@@ -3,7 +3,7 @@
 ghost use Rattle.std.specs.Prelude.{◌≡◌, ◌≢◌, ◌≤◌, ◌<◌, ◌+◌, ◌+ℤ◌, ◌-ℤ◌, ℕ, pos, neg_ℤ, true, None, OnOk, IfOk, IfErr, length, slice_index};
 ghost use Rattle.pf_base.specs.declared.error.PathError.TheVariants.{OutOfMemory};
 ghost use Rattle.pf_graph.specs.Assignments.{number, NumberTable, WeightsFit};
-ghost use Rattle.pf_graph.specs.Internal.AssignmentSteps.{holder, flag, raised, IsMatching, IsMatched, IsNext, IsTreeOf, IsNearest, IsRooted, IsTurned};
+ghost use Rattle.pf_graph.specs.Internal.Assignment.AssignmentSteps.{holder, flag, raised, IsMatching, IsMatched, IsNext, IsTreeOf, IsNearest, IsAlternatingTree, IsFlipped};
 
 use crate::kuhn_munkres::numbers::plus;
 use crate::kuhn_munkres::tree::{Tree, grow};
@@ -94,9 +94,9 @@ fn lower_rows<C: SignedCost>(
     }
 }
 
-/// Matches the rows on the way back from a column to the columns from which they were reached, and
-/// answers the column that is left for the root.
-fn turn(
+/// Flips the augmenting path that ends at a column: each row on it but the root is matched to the
+/// column that follows it, and the column that follows the root is answered.
+fn flip_path(
     column_of: &mut [usize],
     row_of: &mut [Option<usize>],
     rows: &[usize],
@@ -104,11 +104,11 @@ fn turn(
     column: usize,
 ) -> usize
     requires matching { IsMatching (length column_of.old) (length row_of.old) (slice_index column_of.old) (holder row_of.old) }
-    requires rooted { IsRooted (length column_of.old) (length row_of.old) (length rows.now) (slice_index column_of.old) (slice_index rows.now) (slice_index places.now) }
+    requires rooted { IsAlternatingTree (length column_of.old) (length row_of.old) (length rows.now) (slice_index column_of.old) (slice_index rows.now) (slice_index places.now) }
     requires places { length places.now ≡ length row_of.old }
     requires inside { column < length row_of.old }
     requires free { holder row_of.old column ≡ None }
-    ensures turned { IsTurned (length column_of.old) (length row_of.old) (length rows.now) column (slice_index column_of.old) (holder row_of.old) (slice_index rows.now) (slice_index places.now) (slice_index column_of.new) (holder row_of.new) result }
+    ensures flipped { IsFlipped (length column_of.old) (length row_of.old) (length rows.now) column (slice_index column_of.old) (holder row_of.old) (slice_index rows.now) (slice_index places.now) (slice_index column_of.new) (holder row_of.new) result }
     ensures root { slice_index places.now result ≡ 0 }
 {
     let mut column = column;
@@ -125,7 +125,7 @@ fn turn(
 }
 
 /// Raises and lowers the potentials along the tree whose nearest column is this free one, and
-/// matches the root of the tree, the next row.
+/// augments the matching along the path to it, so that the root of the tree, the next row, is matched.
 fn augment<C, W, A>(
     weights: &W,
     matching: &mut Matching<C, A>,
@@ -163,7 +163,7 @@ where
     );
     let root = matching.column_of.len();
     matching.row_potentials[root] = depth.negated();
-    let left = turn(
+    let left = flip_path(
         &mut matching.column_of,
         &mut matching.row_of,
         &tree.rows,

@@ -1,9 +1,9 @@
-//! The tree of shortest ways from the row that is matched next.
+//! The tree of shortest augmenting paths from the row that is matched next.
 
 ghost use Rattle.std.specs.Prelude.{◌≡◌, ◌≤◌, ◌<◌, ◌+◌, ◌+ℤ◌, ◌-ℤ◌, ◌≤ℤ◌, ◌≢◌, ◌⊎◌, ℕ, ℤ, pos, neg_ℤ, true, false, Some, None, IfOk, OnOk, IfErr, MatchBool, MatchOption, length, slice_index};
 ghost use Rattle.pf_base.specs.declared.error.PathError.TheVariants.{OutOfMemory};
 ghost use Rattle.pf_graph.specs.Assignments.{number, NumberTable, WeightsFit};
-ghost use Rattle.pf_graph.specs.Internal.AssignmentSteps.{holder, flag, IsNext, IsTreeOf, IsNearest, IsRelaxed, IsScanned, IsFresh};
+ghost use Rattle.pf_graph.specs.Internal.Assignment.AssignmentSteps.{holder, flag, IsNext, IsTreeOf, IsNearest, IsRelaxed, IsScanned, IsFresh};
 
 use crate::kuhn_munkres::matching::Matching;
 use crate::kuhn_munkres::numbers::{is_below, plus};
@@ -12,19 +12,20 @@ use pf_base::utils::Tally;
 use pf_base::{PathError, SignedCost};
 use std::alloc::Allocator;
 
-/// Shortest ways from the row that is matched next, its root, to all columns.
+/// Shortest alternating paths from the row that is matched next, its root, to all columns.
 ///
-/// A way goes from a row to a column that it is not matched to, and from a column to the row that it
-/// is matched to. A column is visited once no way to it can get shorter.
+/// Such a path goes from a row to a column that it is not matched to, and from a column to the row
+/// that it is matched to. It is an augmenting path where its last column has no row. A column is
+/// visited once no path to it can get shorter.
 #[derive(Drop)]
 pub struct Tree<C, A: Allocator> {
     /// The rows of the tree in the order in which they came in, the root first.
     pub rows: Vec<usize, A>,
     /// Whether a column was visited, and so its row is in the tree.
     pub visited: Vec<bool, A>,
-    /// How far each column is from the root by way of a row of the tree.
+    /// The length of the shortest path to each column over rows of the tree.
     pub distances: Vec<C, A>,
-    /// The place in `rows` of the row by way of which a column is that near.
+    /// The place in `rows` of the last row on that path.
     pub places: Vec<usize, A>,
 }
 
@@ -114,7 +115,7 @@ fn nearer<C: SignedCost>(
     }
 }
 
-/// Brings the distance of a column up to date with a way by the row at `place`.
+/// Brings the distance of a column up to date with the path over the row at `place`.
 fn relax<C: SignedCost>(
     distances: &mut [C],
     places: &mut [usize],
@@ -134,7 +135,7 @@ fn relax<C: SignedCost>(
     }
 }
 
-/// Brings the distances of all columns that were not visited up to date with the ways by one more
+/// Brings the distances of all columns that were not visited up to date with the paths over one more
 /// row, at `place` among the rows of the tree, and answers the nearest of them. The sum of the row's
 /// distance and its potential is `offset`.
 fn scan<C, W>(
@@ -167,8 +168,8 @@ where
     let mut nearest = None;
     for column in 0..weights.columns() {
         if !visited[column] {
-            let way = plus(offset, potentials[column]);
-            let through = way.minus(weights.at(row, column));
+            let bound = plus(offset, potentials[column]);
+            let through = bound.minus(weights.at(row, column));
             relax(distances, places, column, through, place);
             nearest = Some(nearer(row_of, distances, nearest, column));
         }

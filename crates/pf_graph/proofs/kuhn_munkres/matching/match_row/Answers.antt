@@ -1,9 +1,9 @@
 use Rattle.std.proofs.Common.{rules, ◌≡◌, ◌++◌, ap, sym, subst, ◌∙◌, length, take, drop}
 use Rattle.std.specs.Prelude.{pos}
 use Rattle.pf_graph.specs.Assignments.{number}
-use Rattle.pf_graph.specs.Internal.AssignmentSteps.{flag, IsNext, IsNearest}
-use Rattle.pf_graph.proofs.MatchingNumbers.{refilled}
-use Rattle.pf_graph.proofs.MatchingBest.{next_of}
+use Rattle.pf_graph.specs.Internal.Assignment.AssignmentSteps.{flag, IsNext, IsNearest}
+use Rattle.pf_graph.proofs.Assignment.MatchingNumbers.{refilled}
+use Rattle.pf_graph.proofs.Assignment.MatchingBest.{next_of}
 use Rattle.pf_graph.proofs.kuhn_munkres.matching.match_row.Goals as goal
 
 pub grow-requires-clause-next : goal.grow-requires-clause-next

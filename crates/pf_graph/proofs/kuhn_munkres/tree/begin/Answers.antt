@@ -1,9 +1,9 @@
 use Rattle.std.proofs.Common.{rules, ◌≡◌, ◌<◌, ◌++◌, ◌∷◌, [], arith, ap, sym, subst, ◌∙◌, ℕ, length}
 use Rattle.std.specs.Prelude.{pos, neg_ℤ, ◌+ℤ◌, ◌-ℤ◌, slice_index}
 use Rattle.pf_graph.specs.Assignments.{number}
-use Rattle.pf_graph.specs.Internal.AssignmentSteps.{flag, IsFresh, IsScanned}
-use Rattle.pf_graph.proofs.MatchingBounds.{column_negation, root_sum, root_difference}
-use Rattle.pf_graph.proofs.MatchingTree.{tree_of_root}
+use Rattle.pf_graph.specs.Internal.Assignment.AssignmentSteps.{flag, IsFresh, IsScanned}
+use Rattle.pf_graph.proofs.Assignment.MatchingBounds.{column_negation, root_sum, root_difference}
+use Rattle.pf_graph.proofs.Assignment.MatchingTree.{tree_of_root}
 use Rattle.pf_graph.proofs.kuhn_munkres.tree.begin.Goals as goal
 
 pub scan-requires-clause-negation : goal.scan-requires-clause-negation

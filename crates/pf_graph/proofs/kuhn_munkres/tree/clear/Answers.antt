@@ -1,8 +1,8 @@
 use Rattle.std.proofs.Common.{◌<◌, arith, ap, ◌∙◌, length, false}
 use Rattle.std.specs.Prelude.{slice_set, slice_index}
 use Rattle.pf_graph.specs.Assignments.{number}
-use Rattle.pf_graph.specs.Internal.AssignmentSteps.{flag}
-use Rattle.pf_graph.proofs.MatchingNumbers.{below_set, number-set_same, number-set_other, at_set_same, at_set_other}
+use Rattle.pf_graph.specs.Internal.Assignment.AssignmentSteps.{flag}
+use Rattle.pf_graph.proofs.Assignment.MatchingNumbers.{below_set, number-set_same, number-set_other, at_set_same, at_set_other}
 use Rattle.pf_graph.proofs.kuhn_munkres.tree.clear.Goals as goal
 
 pub loop-column-preserved : goal.loop-column-preserved

@@ -1,7 +1,7 @@
 use Rattle.std.proofs.Common.{◌≡◌, ℕ, ◌<◌, false}
 use Rattle.std.specs.Prelude.{slice_index}
 use Rattle.pf_graph.specs.Assignments.{number}
-use Rattle.pf_graph.specs.Internal.AssignmentSteps.{flag}
+use Rattle.pf_graph.specs.Internal.Assignment.AssignmentSteps.{flag}
 use Rattle.pf_graph.proofs.kuhn_munkres.tree.clear.Given as goal
 
 -- the columns so far are cleared

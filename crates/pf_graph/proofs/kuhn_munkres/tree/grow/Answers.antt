@@ -1,5 +1,5 @@
 use Rattle.std.proofs.Common.{arith}
-use Rattle.pf_graph.proofs.MatchingTree.{tree_count}
+use Rattle.pf_graph.proofs.Assignment.MatchingTree.{tree_count}
 use Rattle.pf_graph.proofs.kuhn_munkres.tree.grow.Goals as goal
 
 pub returns-in_err-column-2-clause-rounds : goal.returns-in_err-column-2-clause-rounds

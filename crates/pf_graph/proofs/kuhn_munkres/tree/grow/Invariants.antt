@@ -1,6 +1,6 @@
 use Rattle.std.proofs.Common.{◌≤◌, ◌+◌, ◌-◌, length}
 use Rattle.pf_graph.specs.Assignments.{number}
-use Rattle.pf_graph.specs.Internal.AssignmentSteps.{flag, IsTreeOf, IsNearest}
+use Rattle.pf_graph.specs.Internal.Assignment.AssignmentSteps.{flag, IsTreeOf, IsNearest}
 use Rattle.pf_graph.proofs.kuhn_munkres.tree.grow.Given as goal
 
 -- the tree so far, the column to be visited next, and the ticks

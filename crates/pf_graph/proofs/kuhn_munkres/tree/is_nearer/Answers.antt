@@ -1,7 +1,7 @@
 use Rattle.std.proofs.Common.{rules, arith}
 use Rattle.std.specs.Prelude.{◌≤ℤ◌, ◌<ℤ◌}
 use Rattle.std.proofs.lemmas.Int.{ints}
-use Rattle.pf_graph.proofs.MatchingNumbers.{number-at, level_means}
+use Rattle.pf_graph.proofs.Assignment.MatchingNumbers.{number-at, level_means}
 use Rattle.pf_graph.proofs.kuhn_munkres.tree.is_nearer.Goals as goal
 
 pub returns-then-is_below : goal.returns-then-is_below

@@ -1,7 +1,7 @@
 use Rattle.std.proofs.Common.{rules, refl, inl, inr, arith}
 use Rattle.std.specs.Prelude.{◌≤ℤ◌, ◌<ℤ◌}
 use Rattle.std.proofs.lemmas.Int.{ints}
-use Rattle.pf_graph.proofs.MatchingNumbers.{number-at, number-set_same, number-set_other, at_set_same}
+use Rattle.pf_graph.proofs.Assignment.MatchingNumbers.{number-at, number-set_same, number-set_other, at_set_same}
 use Rattle.pf_graph.proofs.kuhn_munkres.tree.relax.Goals as goal
 
 pub returns-then-is_below-clause-here : goal.returns-then-is_below-clause-here

@@ -1,20 +1,20 @@
 use Rattle.std.proofs.Common.{rules, ℕ, ◌≡◌, ◌+◌, sym, subst, arith, ap, ◌∙◌, false, true}
 use Rattle.std.specs.Prelude.{slice_index, ◌+ℤ◌, ◌-ℤ◌, neg_ℤ}
 use Rattle.pf_graph.specs.Assignments.{number}
-use Rattle.pf_graph.specs.Internal.AssignmentSteps.{flag, IsRelaxed, IsNearest}
-use Rattle.pf_graph.proofs.MatchingNumbers.{number-at}
-use Rattle.pf_graph.proofs.MatchingScan.{IsScannedTo, scan_skips, scan_relaxes, scan_nearest}
+use Rattle.pf_graph.specs.Internal.Assignment.AssignmentSteps.{flag, IsRelaxed, IsNearest}
+use Rattle.pf_graph.proofs.Assignment.MatchingNumbers.{number-at}
+use Rattle.pf_graph.proofs.Assignment.MatchingScan.{IsScannedTo, scan_skips, scan_relaxes, scan_nearest}
 use Rattle.pf_graph.proofs.kuhn_munkres.tree.scan.Goals as goal
 use Rattle.pf_graph.proofs.kuhn_munkres.tree.scan.Goals.{then-not-visited-column, else-not-visited-column}
 
-pub plus-way-requires-clause-negation : goal.plus-way-requires-clause-negation
-plus-way-requires-clause-negation g c =
+pub plus-bound-requires-clause-negation : goal.plus-bound-requires-clause-negation
+plus-bound-requires-clause-negation g c =
     let n = number-at g.C.Number.value c.args.potentials.now c.loop-column.column c.index-potentials-column.result (omega arith) c.index-potentials-column.is in
     let f : flag c.args.visited.now c.loop-column.column ≡ false = search rules in
     subst (λ z. g.C.Number.fits (neg_ℤ z)) n (c.requires.negation c.loop-column.column (omega arith) f)
 
-pub plus-way-requires-clause-sum : goal.plus-way-requires-clause-sum
-plus-way-requires-clause-sum g c =
+pub plus-bound-requires-clause-sum : goal.plus-bound-requires-clause-sum
+plus-bound-requires-clause-sum g c =
     let n = number-at g.C.Number.value c.args.potentials.now c.loop-column.column c.index-potentials-column.result (omega arith) c.index-potentials-column.is in
     let f : flag c.args.visited.now c.loop-column.column ≡ false = search rules in
     subst (λ z. g.C.Number.fits (g.C.Number.value c.args.offset +ℤ z)) n (c.requires.sum c.loop-column.column (omega arith) f)
@@ -23,7 +23,7 @@ pub minus-through-requires : goal.minus-through-requires
 minus-through-requires g c =
     let n = number-at g.C.Number.value c.args.potentials.now c.loop-column.column c.index-potentials-column.result (omega arith) c.index-potentials-column.is in
     let f : flag c.args.visited.now c.loop-column.column ≡ false = search rules in
-    let e : g.C.Number.value c.args.offset +ℤ number g.C.Number.value c.args.potentials.now c.loop-column.column ≡ g.C.Number.value c.plus-way.result = ap (λ z. g.C.Number.value c.args.offset +ℤ z) n ∙ sym c.plus-way.ensures in
+    let e : g.C.Number.value c.args.offset +ℤ number g.C.Number.value c.args.potentials.now c.loop-column.column ≡ g.C.Number.value c.plus-bound.result = ap (λ z. g.C.Number.value c.args.offset +ℤ z) n ∙ sym c.plus-bound.ensures in
     subst (λ z. g.C.Number.fits (z -ℤ g.C.Number.value c.at.result)) e
     (subst (λ z. g.C.Number.fits (g.C.Number.value c.args.offset +ℤ number g.C.Number.value c.args.potentials.now c.loop-column.column -ℤ z)) (sym c.at.ensures) (c.requires.difference c.loop-column.column (omega arith) f))
 
@@ -40,7 +40,7 @@ loop-column-preserved g c =
       | then-not-visited-column w ↦ (
           let f : flag c.args.visited.now k ≡ false = search rules in
           let n = number-at value c.args.potentials.now k w.index-potentials-column.result (omega arith) w.index-potentials-column.is in
-          let e : value w.minus-through.result ≡ through k = w.minus-through.ensures ∙ ap (λ z. z -ℤ value w.at.result) (w.plus-way.ensures ∙ ap (λ z. value c.args.offset +ℤ z) (sym n)) ∙ ap (λ z. value c.args.offset +ℤ number value c.args.potentials.now k -ℤ z) w.at.ensures in
+          let e : value w.minus-through.result ≡ through k = w.minus-through.ensures ∙ ap (λ z. z -ℤ value w.at.result) (w.plus-bound.ensures ∙ ap (λ z. value c.args.offset +ℤ z) (sym n)) ∙ ap (λ z. value c.args.offset +ℤ number value c.args.potentials.now k -ℤ z) w.at.ensures in
           let so = scan_relaxes through c.args.place (flag c.args.visited.now) (number value c.args.distances.now) (slice_index c.args.places.now) k (number value c.loop-column.distances) (slice_index c.loop-column.places) c.loop-column.nearest i f (number value w.relax.new.distances) (slice_index w.relax.new.places)
           (subst (λ z. IsRelaxed false z c.args.place (number value c.loop-column.distances k) (slice_index c.loop-column.places k) (number value w.relax.new.distances k) (slice_index w.relax.new.places k)) e w.relax.ensures.here) w.relax.ensures.distances w.relax.ensures.places w.nearer.result w.nearer.ensures.one w.nearer.ensures.here w.nearer.ensures.before in
           subst (λ ds. IsScannedTo (k + 1) through c.args.place (flag c.args.visited.now) (number value c.args.distances.now) (slice_index c.args.places.now) (number value ds) (slice_index c.if-not-visited-column.places) c.if-not-visited-column.nearest) (sym w.distances-is)

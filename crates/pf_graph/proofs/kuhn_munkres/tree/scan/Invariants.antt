@@ -1,7 +1,7 @@
 use Rattle.std.specs.Prelude.{slice_index, ◌+ℤ◌, ◌-ℤ◌}
 use Rattle.pf_graph.specs.Assignments.{number}
-use Rattle.pf_graph.specs.Internal.AssignmentSteps.{flag}
-use Rattle.pf_graph.proofs.MatchingScan.{IsScannedTo}
+use Rattle.pf_graph.specs.Internal.Assignment.AssignmentSteps.{flag}
+use Rattle.pf_graph.proofs.Assignment.MatchingScan.{IsScannedTo}
 use Rattle.pf_graph.proofs.kuhn_munkres.tree.scan.Given as goal
 
 -- the columns so far are up to date, and the nearest of them is known

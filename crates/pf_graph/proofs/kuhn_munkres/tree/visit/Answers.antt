@@ -1,10 +1,10 @@
 use Rattle.std.proofs.Common.{rules, ◌≡◌, ◌<◌, arith, ap, sym, subst, ◌∙◌, length, true, false, Some, None}
 use Rattle.std.specs.Prelude.{neg_ℤ, ◌+ℤ◌, ◌-ℤ◌, slice_index, slice_set}
 use Rattle.pf_graph.specs.Assignments.{number}
-use Rattle.pf_graph.specs.Internal.AssignmentSteps.{holder, flag, IsScanned}
-use Rattle.pf_graph.proofs.MatchingNumbers.{number-at, at_set_other}
-use Rattle.pf_graph.proofs.MatchingBounds.{free, unvisited, column_negation, row_negation, row_sum, way_sum, way_difference}
-use Rattle.pf_graph.proofs.MatchingTree.{tree_of_more}
+use Rattle.pf_graph.specs.Internal.Assignment.AssignmentSteps.{holder, flag, IsScanned}
+use Rattle.pf_graph.proofs.Assignment.MatchingNumbers.{number-at, at_set_other}
+use Rattle.pf_graph.proofs.Assignment.MatchingBounds.{free, unvisited, column_negation, row_negation, row_sum, way_sum, way_difference}
+use Rattle.pf_graph.proofs.Assignment.MatchingTree.{tree_of_more}
 use Rattle.pf_graph.proofs.kuhn_munkres.tree.visit.Goals as goal
 
 pub index-requires : goal.index-requires

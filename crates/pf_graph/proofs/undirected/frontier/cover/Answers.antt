@@ -1,9 +1,9 @@
 use Rattle.std.proofs.Common.{◌<◌, ◌∙◌, sym, subst, true, length-set, ℕ}
 use Rattle.std.specs.BinaryHeap.{heap_items}
 use Rattle.std.specs.Prelude.{slice_set, Contains}
-use Rattle.pf_graph.specs.Internal.Frontier.{Gains}
+use Rattle.pf_graph.specs.Internal.Spanning.Frontier.{Gains}
 use Rattle.pf_graph.proofs.ListLemmas.{get_here}
-use Rattle.pf_graph.proofs.FrontierLemmas.{on_ok, Waits-cover}
+use Rattle.pf_graph.proofs.Spanning.FrontierLemmas.{on_ok, Waits-cover}
 use Rattle.pf_graph.proofs.undirected.frontier.cover.Goals as goal
 
 pub push_leaving-requires-clause-inside : goal.push_leaving-requires-clause-inside

@@ -2,9 +2,9 @@ use Rattle.std.proofs.Common.{◌+◌, ◌∙◌, ◌∷◌, ◌++◌, [], sym, 
 use Rattle.std.specs.BinaryHeap.{IsHeap, heap_items}
 use Rattle.std.proofs.lemmas.Option.{slice_get-get_or}
 use Rattle.std.proofs.lemmas.List.{take_more}
-use Rattle.pf_graph.specs.Internal.Frontier.{IsMarked, Gains, waiting_order}
+use Rattle.pf_graph.specs.Internal.Spanning.Frontier.{IsMarked, Gains, waiting_order}
 use Rattle.pf_graph.proofs.ListLemmas.{get_here, get_contains}
-use Rattle.pf_graph.proofs.FrontierLemmas.{Gains-skip, Gains-push}
+use Rattle.pf_graph.proofs.Spanning.FrontierLemmas.{Gains-skip, Gains-push}
 use Rattle.pf_graph.proofs.undirected.frontier.push_leaving.Goals as goal
 use Rattle.pf_graph.proofs.undirected.frontier.push_leaving.Goals.{then-not-covered-step+in_ok-push, else-not-covered-step}
 

@@ -4,7 +4,7 @@ use Rattle.std.specs.List.{AllZip}
 use Rattle.std.proofs.lemmas.List.{map-append, map-id}
 use Rattle.std.proofs.lemmas.Iterator.Adapters.{YieldsList-from_vec}
 use Rattle.std.proofs.lemmas.Iterator.Consumers.{YieldsList-end}
-use Rattle.pf_graph.specs.Numbered.{shown}
+use Rattle.pf_graph.specs.EdgesByReference.{shown}
 use Rattle.pf_graph.specs.Internal.NumberedEdges.{IsWritten}
 use Rattle.pf_graph.proofs.ListLemmas.{zip_push}
 use Rattle.pf_graph.proofs.undirected.kruskal.as_written.Goals as goal

@@ -1,14 +1,14 @@
 use Rattle.std.proofs.Common.{◌≡◌, ◌<◌, ◌∙◌, sym, ap, subst, ℕ, length, true, false, Some}
 use Rattle.std.specs.Prelude.{map, slice_get}
 use Rattle.std.proofs.lemmas.List.{length-replicate}
-use Rattle.pf_graph.specs.Numbered.{shown}
-use Rattle.pf_graph.specs.Internal.Frontier.{HasStep, HoldSteps, AreRows, IsMarked}
+use Rattle.pf_graph.specs.EdgesByReference.{shown}
+use Rattle.pf_graph.specs.Internal.Spanning.Frontier.{HasStep, HoldSteps, AreRows, IsMarked}
 use Rattle.pf_graph.specs.GrownTree.{GrowsByLeast, IsLeastAround}
 use Rattle.pf_graph.specs.Spanning.{AreBelow}
 use Rattle.pf_graph.proofs.ListLemmas.{resized}
-use Rattle.pf_graph.proofs.NameLemmas.{numbered_below}
-use Rattle.pf_graph.proofs.PrimLemmas.{if_ok, no_mark, start_is, are_rows, steps_inside, first_stands, first_inside}
-use Rattle.pf_graph.proofs.TreeLemmas.{grown_forest, grown_least}
+use Rattle.pf_graph.proofs.Spanning.NameLemmas.{numbered_below}
+use Rattle.pf_graph.proofs.Spanning.PrimLemmas.{if_ok, no_mark, start_is, are_rows, steps_inside, first_stands, first_inside}
+use Rattle.pf_graph.proofs.Spanning.TreeLemmas.{grown_forest, grown_least}
 use Rattle.pf_graph.proofs.undirected.prim.prim.Goals as goal
 
 pub rows_of-requires : goal.rows_of-requires

@@ -1,5 +1,5 @@
 use Rattle.pf_graph.proofs.ListLemmas.{get_here}
-use Rattle.pf_graph.proofs.StepLemmas.{AddsStep-set}
+use Rattle.pf_graph.proofs.Spanning.StepLemmas.{AddsStep-set}
 use Rattle.pf_graph.proofs.undirected.steps.add_step.Goals as goal
 
 pub returns-clause-added : goal.returns-clause-added
