@@ -3,7 +3,6 @@ pub mod OrderLemmas
 pub mod KruskalLemmas
 pub mod CopyLemmas
 pub mod NameLemmas
-pub mod Renaming
 pub mod LawLemmas
 pub mod SumLemmas
 pub mod WeightLemmas

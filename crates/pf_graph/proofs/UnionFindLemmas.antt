@@ -4,9 +4,10 @@ use Rattle.std.specs.Prelude.{slice_get, slice_set}
 use Rattle.std.proofs.Math.ListN.{length-set}
 use Rattle.std.proofs.lemmas.Option.{slice_get_within, same_Some}
 use Rattle.std.proofs.lemmas.Bool.Decides.{nat_tests}
+use Rattle.std.proofs.lemmas.Bool.{cases_eq}
 use Rattle.pf_graph.specs.declared.undirected.union_find.Vertex.{Vertex}
 use Rattle.pf_graph.specs.Internal.UnionFind.{parent_or, parent_of, size_of, IsRoot, root_sizes, IsSound, IsLabelling, Merges}
-use Rattle.pf_graph.proofs.ListLemmas.{nat_dec, get_set, get_push, get_within, none_in}
+use Rattle.pf_graph.proofs.ListLemmas.{get_set, get_push, get_within, none_in}
 
 -- ---- parents
 
@@ -121,7 +122,7 @@ module _ (vs : List Vertex) (s : IsSound vs) (k : ℕ) (v u : Vertex) (at : slic
   above : (w : Vertex) → slice_get vs u.parent ≡ Some w → v.size < w.size
   above w h =
       let one = s.rises k v u at n up in
-      elim (nat_dec u.parent v.parent) [
+      elim (cases_eq u.parent v.parent) [
         | inl e ↦ let same : u ≡ w = same_Some u w (sym up ∙ ap (slice_get vs) (sym e) ∙ h) in let z : u.size ≡ w.size = ap (λ (x : Vertex). x.size) same in omega (arith, one, z)
         | inr d ↦ let two = s.rises v.parent u w up d h in omega (arith, one, two)
       ]
@@ -376,12 +377,12 @@ module _ (vs : List Vertex) (s : IsSound vs) (a b : ℕ) (va vb : Vertex) (at_a 
 
     pub Merges-joined : Merges label a b label_joined
     Merges-joined x y = (
-      λ h. elim (nat_dec (label x) b) [
-        | inl ex ↦ elim (nat_dec (label y) b) [
+      λ h. elim (cases_eq (label x) b) [
+        | inl ex ↦ elim (cases_eq (label y) b) [
           | inl ey ↦ inl (ex ∙ sym ey)
           | inr dy ↦ inr (inr (ex ∙ sym (l.at_root b root_b), sym (not_b y dy) ∙ sym h ∙ is_b x ex ∙ sym (l.at_root a root_a)))
         ]
-        | inr dx ↦ elim (nat_dec (label y) b) [
+        | inr dx ↦ elim (cases_eq (label y) b) [
           | inl ey ↦ inr (inl (sym (not_b x dx) ∙ h ∙ is_b y ey ∙ sym (l.at_root a root_a), ey ∙ sym (l.at_root b root_b)))
           | inr dy ↦ inl (sym (not_b x dx) ∙ h ∙ not_b y dy)
         ]

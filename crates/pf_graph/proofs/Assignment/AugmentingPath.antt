@@ -1,8 +1,9 @@
 -- How an augmenting path is flipped.
 use Rattle.std.proofs.Common.{ℕ, ◌+◌, ◌<◌, ◌≤◌, ◌≡◌, ◌≢◌, refl, sym, ◌∙◌, ap, subst, arith, inl, inr, Option, Some, None}
 use Rattle.std.specs.Prelude.{◌⊎◌}
+use Rattle.std.proofs.lemmas.Bool.{cases_eq}
 use Rattle.pf_graph.specs.Internal.Assignment.AssignmentSteps.{IsMatching, IsAlternatingTree, IsOnTree, IsFlipped}
-use Rattle.pf_graph.proofs.Assignment.MatchingNumbers.{same_or_not, below_or_last}
+use Rattle.pf_graph.proofs.Assignment.MatchingNumbers.{below_or_last}
 
 pub flip_begins : (n columns count c : ℕ) (col : ℕ → ℕ) (held : ℕ → Option ℕ) (rows place : ℕ → ℕ) → IsMatching n columns col held → c < columns → held c ≡ None → IsFlipped n columns count c col held rows place col held c
 flip_begins n columns count c col held rows place m inside free = record {
@@ -32,19 +33,19 @@ module _ (n columns count c : ℕ) (col : ℕ → ℕ) (held : ℕ → Option �
 
   pub flip_more : IsFlipped n columns count c col held rows place col'' held'' (col' (rows (place left)))
   flip_more = record {
-    inside = λ i h. elim (same_or_not i (rows (place left))) as (λ _. col'' i < columns) [
+    inside = λ i h. elim (cases_eq i (rows (place left))) as (λ _. col'' i < columns) [
       | inl e ↦ subst (λ (k : ℕ). k < columns) (sym (ap col'' e ∙ set_col)) so.within
       | inr d ↦ subst (λ (k : ℕ). k < columns) (sym (keep_col i d)) (so.inside i h)
     ];
-    back = λ i h. elim (same_or_not i (rows (place left))) as (λ _. held'' (col'' i) ≡ Some i) [
+    back = λ i h. elim (cases_eq i (rows (place left))) as (λ _. held'' (col'' i) ≡ Some i) [
       | inl e ↦ ap held'' (ap col'' e ∙ set_col) ∙ set_held ∙ ap Some (sym e)
       | inr d ↦ ap held'' (keep_col i d) ∙ keep_held (col' i) (so.apart i h) ∙ so.back i h
     ];
-    apart = λ i h. elim (same_or_not i (rows (place left))) as (λ _. col'' i ≢ col' (rows (place left))) [
+    apart = λ i h. elim (cases_eq i (rows (place left))) as (λ _. col'' i ≢ col' (rows (place left))) [
       | inl e ↦ (λ f. so.apart (rows (place left)) own (sym f ∙ ap col'' e ∙ set_col))
       | inr d ↦ (λ f. d (same_row i h (sym (keep_col i d) ∙ f)))
     ];
-    from = λ i j h d. elim (same_or_not j left) as (λ _. (i < n) × (col'' i ≡ j)) [
+    from = λ i j h d. elim (cases_eq j left) as (λ _. (i < n) × (col'' i ≡ j)) [
       | inl e ↦ (
           let f : Some (rows (place left)) ≡ Some i = sym set_held ∙ ap held'' (sym e) ∙ h in
           let g : rows (place left) ≡ i = cc in
@@ -55,14 +56,14 @@ module _ (n columns count c : ℕ) (col : ℕ → ℕ) (held : ℕ → Option �
           (o.0, keep_col i (λ e. d (sym o.1 ∙ ap col' e)) ∙ o.1)
           )
     ];
-    new = λ i h. elim (same_or_not i (rows (place left))) as (λ _. (col'' i ≡ col i) ⊎ ((rows (place (col'' i)) ≡ i) × IsOnTree count col rows c (col'' i))) [
+    new = λ i h. elim (cases_eq i (rows (place left))) as (λ _. (col'' i ≡ col i) ⊎ ((rows (place (col'' i)) ≡ i) × IsOnTree count col rows c (col'' i))) [
       | inl e ↦ (
           let f : col'' i ≡ left = ap col'' e ∙ set_col in
           inr (ap (λ k. rows (place k)) f ∙ sym e, subst (λ k. IsOnTree count col rows c k) (sym f) so.on_tree)
           )
       | inr d ↦ subst (λ k. (k ≡ col i) ⊎ ((rows (place k) ≡ i) × IsOnTree count col rows c k)) (sym (keep_col i d)) (so.new i h)
     ];
-    free = λ j h. elim (same_or_not j left) as (λ _. held j ≡ None) [
+    free = λ j h. elim (cases_eq j left) as (λ _. held j ≡ None) [
       | inl e ↦ absurd (let f : Some (rows (place left)) ≡ None = sym set_held ∙ ap held'' (sym e) ∙ h in cc)
       | inr d ↦ so.free j (sym (keep_held j d) ∙ h)
     ];
@@ -92,7 +93,7 @@ flip_ends n columns count c col held rows place col' held' left so col'' held'' 
     | inl l ↦ ap held'' (keep_col i l) ∙ keep_held (col' i) (so.apart i l) ∙ so.back i l
     | inr e ↦ ap held'' (ap col'' e ∙ set_col) ∙ set_held ∙ ap Some (sym e)
   ];
-  from = λ i j h. elim (same_or_not j left) as (λ _. (i < n + 1) × (col'' i ≡ j)) [
+  from = λ i j h. elim (cases_eq j left) as (λ _. (i < n + 1) × (col'' i ≡ j)) [
     | inl e ↦ (
         let f : Some n ≡ Some i = sym set_held ∙ ap held'' (sym e) ∙ h in
         let g : n ≡ i = cc in

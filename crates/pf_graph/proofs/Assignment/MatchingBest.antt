@@ -2,9 +2,10 @@
 use Rattle.std.proofs.Common.{ℕ, zero, suc, ◌+◌, ◌*◌, ◌<◌, ◌≡◌, ◌≢◌, refl, sym, ◌∙◌, ap, subst, arith, inl, inr, ℤ, List, length, ◌++◌, ◌∷◌, [], Option, Some, None}
 use Rattle.std.specs.Prelude.{◌⊎◌, ◌≤ℤ◌, ◌+ℤ◌, pos, neg_ℤ, slice_index}
 use Rattle.std.proofs.lemmas.Int.{ints}
+use Rattle.std.proofs.lemmas.Bool.{cases_eq}
 use Rattle.pf_graph.specs.Assignments.{number, NumberTable, sum_to, IsAssignment, assignment_total, IsBestAssignment, IsLeastAssignment, IsNegatedTable, IsGreatestWeight, WeightsFit}
 use Rattle.pf_graph.specs.Internal.Assignment.AssignmentSteps.{holder, IsMatching, IsPotential, IsMatched, IsNext}
-use Rattle.pf_graph.proofs.Assignment.MatchingNumbers.{same_or_not, below_or_last, number-push_last, number-push_other}
+use Rattle.pf_graph.proofs.Assignment.MatchingNumbers.{below_or_last, number-push_last, number-push_other}
 use Rattle.pf_graph.proofs.Assignment.MatchingWeights.{IsInterval, room, sum_to-bound}
 
 pub sum_to-le : (f g : ℕ → ℤ) (n : ℕ) → ((r : ℕ) → r < n → f r ≤ℤ g r) → sum_to f n ≤ℤ sum_to g n
@@ -34,11 +35,11 @@ sum_to-negated f g (suc n) h =
 
 -- v with 0 at k
 without : (ℕ → ℤ) → ℕ → ℕ → ℤ
-without v k j = elim (same_or_not j k) as (λ _. ℤ) [ inl e ↦ pos 0 | inr d ↦ v j ]
+without v k j = elim (cases_eq j k) as (λ _. ℤ) [ inl e ↦ pos 0 | inr d ↦ v j ]
 
 without_is : (v : ℕ → ℤ) (k j : ℕ) → ((j ≡ k) × (without v k j ≡ pos 0)) ⊎ ((j ≢ k) × (without v k j ≡ v j))
 unfolding without
-without_is v k j = elim (same_or_not j k) as (λ s. ((j ≡ k) × (elim s as (λ _. ℤ) [ inl e ↦ pos 0 | inr d ↦ v j ] ≡ pos 0)) ⊎ ((j ≢ k) × (elim s as (λ _. ℤ) [ inl e ↦ pos 0 | inr d ↦ v j ] ≡ v j))) [ inl e ↦ inl (e, refl) | inr d ↦ inr (d, refl) ]
+without_is v k j = elim (cases_eq j k) as (λ s. ((j ≡ k) × (elim s as (λ _. ℤ) [ inl e ↦ pos 0 | inr d ↦ v j ] ≡ pos 0)) ⊎ ((j ≢ k) × (elim s as (λ _. ℤ) [ inl e ↦ pos 0 | inr d ↦ v j ] ≡ v j))) [ inl e ↦ inl (e, refl) | inr d ↦ inr (d, refl) ]
 
 without_same : (v : ℕ → ℤ) (k j : ℕ) → j ≢ k → without v k j ≡ v j
 without_same v k j d = elim (without_is v k j) as (λ _. without v k j ≡ v j) [ inl e ↦ absurd (d e.0) | inr e ↦ e.1 ]
@@ -51,7 +52,7 @@ without_non_negative v k j h = elim (without_is v k j) as (λ _. pos 0 ≤ℤ wi
 
 sum_without : (v : ℕ → ℤ) (k m : ℕ) → k < m → sum_to (without v k) m +ℤ v k ≡ sum_to v m
 sum_without v k zero h = absurd (omega (arith, h))
-sum_without v k (suc m) h = elim (same_or_not k m) as (λ _. sum_to (without v k) m +ℤ without v k m +ℤ v k ≡ sum_to v m +ℤ v m) [
+sum_without v k (suc m) h = elim (cases_eq k m) as (λ _. sum_to (without v k) m +ℤ without v k m +ℤ v k ≡ sum_to v m +ℤ v m) [
   | inl e ↦ (
       let z = without_zero v k m (sym e) in
       let s = sum_to-same (without v k) v m (λ j l. without_same v k j (λ f. omega (arith, f, l, e))) in

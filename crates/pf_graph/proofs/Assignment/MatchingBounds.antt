@@ -2,10 +2,10 @@
 use Rattle.std.proofs.Common.{ℕ, ◌*◌, ◌<◌, ◌≤◌, ◌≡◌, refl, sym, ◌∙◌, subst, arith, Bool, true, false, List, length, inl, inr, ℤ, Option, Some, None}
 use Rattle.std.specs.Prelude.{◌≤ℤ◌, ◌+ℤ◌, ◌-ℤ◌, pos, neg_ℤ, slice_index}
 use Rattle.std.proofs.lemmas.Int.{ints}
+use Rattle.std.proofs.lemmas.Bool.{cases_Bool}
 use Rattle.pf_base.specs.Costs.{LiesBetween}
 use Rattle.pf_graph.specs.Assignments.{number, NumberTable, WeightsFit}
 use Rattle.pf_graph.specs.Internal.Assignment.AssignmentSteps.{holder, flag, IsNearest, IsNext, IsTreeOf}
-use Rattle.pf_graph.proofs.Assignment.MatchingNumbers.{true_or_false}
 use Rattle.pf_graph.proofs.Assignment.MatchingWeights.{IsInterval, room_six}
 use Rattle.pf_graph.proofs.Assignment.MatchingCount.{free_column}
 
@@ -81,7 +81,7 @@ module _ {C : Type 0} {value : C → ℤ} {t : NumberTable} {column_of : List �
 
   module _ {rows : List ℕ} {visited : List Bool} {ds : List C} {places : List ℕ} (tree : IsTreeOf value t column_of row_of us vs rows visited ds places) where
     pub unvisited : (j : ℕ) → holder row_of j ≡ None → flag visited j ≡ false
-    unvisited j e = elim (true_or_false (flag visited j)) as (λ _. flag visited j ≡ false) [
+    unvisited j e = elim (cases_Bool (flag visited j)) as (λ _. flag visited j ≡ false) [
       | inl g ↦ absurd (let m = tree.tree.matched j g in let f : Some m.0 ≡ None = sym m.1 ∙ e in cc)
       | inr g ↦ g
     ]

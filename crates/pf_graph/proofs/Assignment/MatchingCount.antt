@@ -1,16 +1,17 @@
 -- How many rows and columns there are: numbers below a bound, no two equal.
 use Rattle.std.proofs.Common.{ℕ, zero, suc, ◌<◌, ◌≤◌, ◌≡◌, ◌≢◌, refl, sym, ◌∙◌, ap, subst, arith, inl, inr, Option, Some, None}
 use Rattle.std.specs.Prelude.{◌⊎◌}
+use Rattle.std.proofs.lemmas.Bool.{cases_eq}
 use Rattle.pf_graph.specs.Internal.Assignment.AssignmentSteps.{IsMatching}
-use Rattle.pf_graph.proofs.Assignment.MatchingNumbers.{same_or_not, below_or_last}
+use Rattle.pf_graph.proofs.Assignment.MatchingNumbers.{below_or_last}
 
 -- y in place of x where x is m
 patch : ℕ → ℕ → ℕ → ℕ
-patch x m y = elim (same_or_not x m) as (λ _. ℕ) [ inl e ↦ y | inr d ↦ x ]
+patch x m y = elim (cases_eq x m) as (λ _. ℕ) [ inl e ↦ y | inr d ↦ x ]
 
 patched : (x m y : ℕ) → ((x ≡ m) × (patch x m y ≡ y)) ⊎ ((x ≢ m) × (patch x m y ≡ x))
 unfolding patch
-patched x m y = elim (same_or_not x m) as (λ s. ((x ≡ m) × (elim s as (λ _. ℕ) [ inl e ↦ y | inr d ↦ x ] ≡ y)) ⊎ ((x ≢ m) × (elim s as (λ _. ℕ) [ inl e ↦ y | inr d ↦ x ] ≡ x))) [ inl e ↦ inl (e, refl) | inr d ↦ inr (d, refl) ]
+patched x m y = elim (cases_eq x m) as (λ s. ((x ≡ m) × (elim s as (λ _. ℕ) [ inl e ↦ y | inr d ↦ x ] ≡ y)) ⊎ ((x ≢ m) × (elim s as (λ _. ℕ) [ inl e ↦ y | inr d ↦ x ] ≡ x))) [ inl e ↦ inl (e, refl) | inr d ↦ inr (d, refl) ]
 
 -- k numbers below n, no two equal, are at most n
 pub injective_le : (n k : ℕ) (f : ℕ → ℕ) → ((p : ℕ) → p < k → f p < n) → ((p q : ℕ) → p < k → q < k → f p ≡ f q → p ≡ q) → k ≤ n

@@ -1,21 +1,12 @@
 -- Lemmas on the numbers of a list of costs, and on places in lists.
-use Rattle.std.proofs.Common.{ℕ, zero, suc, ◌+◌, ◌<◌, ◌≡◌, ◌≢◌, refl, sym, ◌∙◌, ap, arith, Bool, true, false, List, [], ◌∷◌, ◌++◌, length, get_or, take, drop, inl, inr, ℤ, true≢false}
-use Rattle.std.specs.Prelude.{slice_set, slice_index_or, MatchBool, ◌⊎◌, ◌≤ℤ◌, ◌+ℤ◌}
+use Rattle.std.proofs.Common.{ℕ, zero, suc, ◌+◌, ◌<◌, ◌≡◌, ◌≢◌, refl, sym, ◌∙◌, ap, arith, Bool, true, false, List, [], ◌∷◌, ◌++◌, length, get_or, inl, inr, ℤ, true≢false}
+use Rattle.std.specs.Prelude.{slice_set, MatchBool, ◌⊎◌, ◌≤ℤ◌, ◌+ℤ◌}
+use Rattle.std.proofs.lemmas.Bool.{cases_eq}
 use Rattle.pf_graph.specs.Assignments.{number}
 use Rattle.pf_graph.specs.Internal.Assignment.AssignmentSteps.{raised}
 
-pub same_or_not : (j k : ℕ) → (j ≡ k) ⊎ (j ≢ k)
-same_or_not zero zero = inl refl
-same_or_not zero (suc k) = inr (omega arith)
-same_or_not (suc j) zero = inr (omega arith)
-same_or_not (suc j) (suc k) = elim (same_or_not j k) as (λ _. (suc j ≡ suc k) ⊎ (suc j ≢ suc k)) [ inl e ↦ inl (ap suc e) | inr e ↦ inr (omega (arith, e)) ]
-
-pub true_or_false : (b : Bool) → (b ≡ true) ⊎ (b ≡ false)
-true_or_false true = inl refl
-true_or_false false = inr refl
-
 pub below_or_last : (p n : ℕ) → p < n + 1 → (p < n) ⊎ (p ≡ n)
-below_or_last p n h = elim (same_or_not p n) as (λ _. (p < n) ⊎ (p ≡ n)) [ inl e ↦ inr e | inr e ↦ inl (omega (arith, e)) ]
+below_or_last p n h = elim (cases_eq p n) as (λ _. (p < n) ⊎ (p ≡ n)) [ inl e ↦ inr e | inr e ↦ inl (omega (arith, e)) ]
 
 -- two numbers that are equal are in order both ways
 pub level_means : (r : Bool) (a b : ℤ) → a ≤ℤ b → b ≤ℤ a → MatchBool r (a ≤ℤ b) (b ≤ℤ a)
@@ -50,33 +41,7 @@ module _ {C : Type 0} (value : C → ℤ) where
   number-push_other (y ∷ xs) x zero h = refl
   number-push_other (y ∷ xs) x (suc j) h = number-push_other xs x j (omega (arith, h))
 
-module _ {A : Type 0} where
-  pub at_set_same : (xs : List A) (j : ℕ) (x d : A) → j < length xs → slice_index_or (slice_set xs j x) j d ≡ x
-  at_set_same [] j x d h = absurd (omega (arith, h))
-  at_set_same (y ∷ xs) zero x d h = refl
-  at_set_same (y ∷ xs) (suc j) x d h = at_set_same xs j x d (omega (arith, h))
-
-  pub at_set_other : (xs : List A) (k j : ℕ) (x d : A) → j ≢ k → slice_index_or (slice_set xs k x) j d ≡ slice_index_or xs j d
-  at_set_other [] k j x d h = refl
-  at_set_other (y ∷ xs) zero zero x d h = absurd (h refl)
-  at_set_other (y ∷ xs) zero (suc j) x d h = refl
-  at_set_other (y ∷ xs) (suc k) zero x d h = refl
-  at_set_other (y ∷ xs) (suc k) (suc j) x d h = at_set_other xs k j x d (λ e. h (ap suc e))
-
-  pub at_push_last : (xs : List A) (x d : A) → slice_index_or (xs ++ x ∷ []) (length xs) d ≡ x
-  at_push_last [] x d = refl
-  at_push_last (y ∷ xs) x d = at_push_last xs x d
-
-  pub at_push_other : (xs : List A) (x d : A) (j : ℕ) → j < length xs → slice_index_or (xs ++ x ∷ []) j d ≡ slice_index_or xs j d
-  at_push_other [] x d j h = absurd (omega (arith, h))
-  at_push_other (y ∷ xs) x d zero h = refl
-  at_push_other (y ∷ xs) x d (suc j) h = at_push_other xs x d j (omega (arith, h))
-
--- what was x at each place below k is so at k too, once it was written there
-pub below_set : {A : Type 0} (f f' : ℕ → A) (x : A) (k : ℕ) → f k ≡ x → ((j : ℕ) → j ≢ k → f j ≡ f' j) → ((j : ℕ) → j < k → f' j ≡ x) → (j : ℕ) → j < k + 1 → f j ≡ x
-below_set f f' x k same other below j h = elim (below_or_last j k h) as (λ _. f j ≡ x) [ inl l ↦ other j (λ e. omega (arith, l, e)) ∙ below j l | inr e ↦ ap f e ∙ same ]
-
--- the same where it is to be f' at each place
+-- what is as it should be at each place below k is so at k too, once it was written there
 pub below_written : {A : Type 0} (f f' target : ℕ → A) (k : ℕ) → f k ≡ target k → ((j : ℕ) → j ≢ k → f j ≡ f' j) → ((j : ℕ) → j < k → f' j ≡ target j) → (j : ℕ) → j < k + 1 → f j ≡ target j
 below_written f f' target k same other below j h = elim (below_or_last j k h) as (λ _. f j ≡ target j) [ inl l ↦ other j (λ e. omega (arith, l, e)) ∙ below j l | inr e ↦ ap f e ∙ same ∙ ap target (sym e) ]
 
@@ -87,11 +52,3 @@ raised_true false x by h = absurd (true≢false (sym h))
 pub raised_false : (b : Bool) (x by : ℤ) → b ≡ false → raised b x by ≡ x
 raised_false true x by h = absurd (true≢false h)
 raised_false false x by h = refl
-
--- what a list holds once a slice of its full length was written
-pub refilled : {A : Type 0} (n : ℕ) (ys xs : List A) → length ys ≡ n → length xs ≡ n → take n (ys ++ drop (length ys) xs) ≡ ys
-refilled zero [] xs h g = refl
-refilled zero (y ∷ ys) xs h g = absurd (omega (arith, h))
-refilled (suc n) [] xs h g = absurd (omega (arith, h))
-refilled (suc n) (y ∷ ys) [] h g = absurd (omega (arith, g))
-refilled (suc n) (y ∷ ys) (x ∷ xs) h g = ap (λ zs. y ∷ zs) (refilled n ys xs (omega (arith, h)) (omega (arith, g)))

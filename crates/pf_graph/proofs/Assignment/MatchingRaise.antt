@@ -2,9 +2,11 @@
 use Rattle.std.proofs.Common.{List, length, ◌++◌, ◌∷◌, [], ℕ, zero, suc, ◌+◌, ◌<◌, ◌≡◌, ◌≢◌, refl, sym, ◌∙◌, ap, subst, arith, Bool, true, false, inl, inr, ℤ, Option, Some, None}
 use Rattle.std.specs.Prelude.{◌≤ℤ◌, ◌+ℤ◌, ◌-ℤ◌, pos, neg_ℤ, slice_index, slice_set}
 use Rattle.std.proofs.lemmas.Int.{ints}
+use Rattle.std.proofs.lemmas.Bool.{cases_eq, cases_Bool}
+use Rattle.std.proofs.lemmas.List.{get_or-set_same, get_or-set_other, get_or_push, get_or_append_left}
 use Rattle.pf_graph.specs.Assignments.{number, NumberTable}
 use Rattle.pf_graph.specs.Internal.Assignment.AssignmentSteps.{holder, flag, IsMatched, IsNext, IsTreeOf, IsAlternatingTree, IsMatching, IsPotential, IsShortestPathTree, IsNearest, IsOnTree, IsFlipped, reach, raised}
-use Rattle.pf_graph.proofs.Assignment.MatchingNumbers.{same_or_not, true_or_false, below_or_last, raised_true, raised_false, number-set_same, number-set_other, at_set_same, at_set_other, at_push_last, at_push_other}
+use Rattle.pf_graph.proofs.Assignment.MatchingNumbers.{below_or_last, raised_true, raised_false, number-set_same, number-set_other}
 use Rattle.pf_graph.proofs.Assignment.AugmentingPath.{flip_ends}
 
 module _ (a : ℕ → ℕ → ℤ) (n columns : ℕ) (col : ℕ → ℕ) (held : ℕ → Option ℕ) (u v : ℕ → ℤ) (matching : IsMatching n columns col held) (potential : IsPotential a n columns col held u v) (root : u n ≡ pos 0) (count : ℕ) (rows : ℕ → ℕ) (visited : ℕ → Bool) (d : ℕ → ℤ) (place : ℕ → ℕ) (tree : IsShortestPathTree a n columns col held u v count rows visited d place) (c : ℕ) (nearest : IsNearest columns visited d c) (u' v' : ℕ → ℤ) (lowered : (i : ℕ) → i < n → u' i ≡ raised (visited (col i)) (u i) (neg_ℤ (d c -ℤ d (col i)))) (lowest : u' n ≡ neg_ℤ (d c)) (lifted : (j : ℕ) → j < columns → v' j ≡ raised (visited j) (v j) (d c -ℤ d j)) where
@@ -32,7 +34,7 @@ module _ (a : ℕ → ℕ → ℤ) (n columns : ℕ) (col : ℕ → ℕ) (held :
   above_tree p j h g =
       let b = tree.below p j h g in
       let r = tree_row p h in
-      elim (true_or_false (visited j)) as (λ _. a (rows p) j ≤ℤ (u' (rows p) +ℤ v' j)) [
+      elim (cases_Bool (visited j)) as (λ _. a (rows p) j ≤ℤ (u' (rows p) +ℤ v' j)) [
         | inl t ↦ (let e = up j g t in omega (arith, ints, b, r, e))
         | inr f ↦ (let e = same j g f in let l = nearest.least j g f in omega (arith, ints, b, r, e, l))
       ]
@@ -41,14 +43,14 @@ module _ (a : ℕ → ℕ → ℤ) (n columns : ℕ) (col : ℕ → ℕ) (held :
   above_rest i j h g s =
       let b = potential.above i j h g in
       let k = lowered i h ∙ raised_false (visited (col i)) _ _ s in
-      elim (true_or_false (visited j)) as (λ _. a i j ≤ℤ (u' i +ℤ v' j)) [
+      elim (cases_Bool (visited j)) as (λ _. a i j ≤ℤ (u' i +ℤ v' j)) [
         | inl t ↦ (let e = up j g t in let l = within j g t in omega (arith, ints, b, k, e, l))
         | inr f ↦ (let e = same j g f in omega (arith, ints, b, k, e))
       ]
 
   pub above_raised : (i j : ℕ) → i < n + 1 → j < columns → a i j ≤ℤ (u' i +ℤ v' j)
   above_raised i j h g = elim (below_or_last i n h) as (λ _. a i j ≤ℤ (u' i +ℤ v' j)) [
-    | inl l ↦ elim (true_or_false (visited (col i))) as (λ _. a i j ≤ℤ (u' i +ℤ v' j)) [
+    | inl l ↦ elim (cases_Bool (visited (col i))) as (λ _. a i j ≤ℤ (u' i +ℤ v' j)) [
       | inl t ↦ (let r = tree.reached i l t in subst (λ k. a k j ≤ℤ (u' k +ℤ v' j)) r.3 (above_tree r.0 j r.2 g))
       | inr f ↦ above_rest i j l g f
     ]
@@ -74,7 +76,7 @@ module _ (a : ℕ → ℕ → ℤ) (n columns : ℕ) (col : ℕ → ℕ) (held :
       let e = potential.tight i h in
       let l = lowered i h in
       let m = lifted (col i) (matching.inside i h) in
-      elim (true_or_false (visited (col i))) as (λ _. u' i +ℤ v' (col i) ≡ a i (col i)) [
+      elim (cases_Bool (visited (col i))) as (λ _. u' i +ℤ v' (col i) ≡ a i (col i)) [
         | inl t ↦ (let p = l ∙ raised_true (visited (col i)) _ _ t in let q = m ∙ raised_true (visited (col i)) _ _ t in omega (arith, ints, e, p, q))
         | inr f ↦ (let p = l ∙ raised_false (visited (col i)) _ _ f in let q = m ∙ raised_false (visited (col i)) _ _ f in omega (arith, ints, e, p, q))
       ]
@@ -82,7 +84,7 @@ module _ (a : ℕ → ℕ → ℤ) (n columns : ℕ) (col : ℕ → ℕ) (held :
   non_negative_raised : (j : ℕ) → j < columns → pos 0 ≤ℤ v' j
   non_negative_raised j h =
       let z = potential.non_negative j h in
-      elim (true_or_false (visited j)) as (λ _. pos 0 ≤ℤ v' j) [
+      elim (cases_Bool (visited j)) as (λ _. pos 0 ≤ℤ v' j) [
         | inl t ↦ (let e = up j h t in let l = within j h t in omega (arith, ints, z, e, l))
         | inr f ↦ (let e = same j h f in omega (arith, ints, z, e))
       ]
@@ -99,11 +101,11 @@ module _ (a : ℕ → ℕ → ℤ) (n columns : ℕ) (col : ℕ → ℕ) (held :
         | inr e ↦ subst (λ k. u' i +ℤ v' k ≡ a i k) (sym (ap col'' e ∙ set_col)) (subst (λ r. u' r +ℤ v' left ≡ a r left) (ap rows last ∙ tree.first ∙ sym e) (along_raised left flipped.within flipped.on_tree))
       ];
       non_negative = non_negative_raised;
-      free = λ j h e. elim (same_or_not j left) as (λ _. v' j ≡ pos 0) [
+      free = λ j h e. elim (cases_eq j left) as (λ _. v' j ≡ pos 0) [
         | inl s ↦ absurd (let f : Some n ≡ None = sym set_held ∙ ap held'' (sym s) ∙ e in cc)
         | inr s ↦ (
             let o = flipped.free j (sym (keep_held j s) ∙ e) in
-            elim (true_or_false (visited j)) as (λ _. v' j ≡ pos 0) [
+            elim (cases_Bool (visited j)) as (λ _. v' j ≡ pos 0) [
               | inl g ↦ absurd (let m = tree.matched j g in let f : Some m.0 ≡ None = sym m.1 ∙ o in cc)
               | inr g ↦ same j h g ∙ potential.free j h o
             ]
@@ -131,10 +133,10 @@ module _ {C : Type 0} {value : C → ℤ} {t : NumberTable} {column_of : List �
       let ul = next.rows in
       let within = flipped.within in
       let so = subst (λ k. IsFlipped (length column_of) k (length rows) c (slice_index column_of) (holder row_of) (slice_index rows) (slice_index places) (slice_index column_of') (holder row_of') left) wide flipped in
-      let set_col : slice_index (column_of' ++ left ∷ []) (length column_of) ≡ left = subst (λ (k : ℕ). slice_index (column_of' ++ left ∷ []) k ≡ left) column_len (at_push_last column_of' left 0) in
-      let keep_col = λ (i : ℕ) (h : i < length column_of). at_push_other column_of' left 0 i (omega (arith, h, column_len)) in
-      let set_held = at_set_same row_of' left (Some (length column_of)) None (omega (arith, within, row_len)) in
-      let keep_held = λ (j : ℕ) (d : j ≢ left). at_set_other row_of' left j (Some (length column_of)) None d in
+      let set_col : slice_index (column_of' ++ left ∷ []) (length column_of) ≡ left = subst (λ (k : ℕ). slice_index (column_of' ++ left ∷ []) k ≡ left) column_len (get_or_push column_of' left 0 (length column_of') refl) in
+      let keep_col = λ (i : ℕ) (h : i < length column_of). get_or_append_left column_of' (left ∷ []) 0 i (omega (arith, h, column_len)) in
+      let set_held = get_or-set_same row_of' left (Some (length column_of)) None (omega (arith, within, row_len)) in
+      let keep_held = λ (j : ℕ) (d : j ≢ left). get_or-set_other row_of' left j (Some (length column_of)) None d in
       let more : length (column_of' ++ left ∷ []) ≡ length column_of + 1 = length_one column_of' left ∙ ap (λ k. k + 1) column_len in
       let matching = flip_ends (length column_of) t.columns (length rows) c (slice_index column_of) (holder row_of) (slice_index rows) (slice_index places) (slice_index column_of') (holder row_of') left so (slice_index (column_of' ++ left ∷ [])) (holder (slice_set row_of' left (Some (length column_of)))) set_col keep_col set_held keep_held in
       let potential = potential_raised t.at (length column_of) t.columns (slice_index column_of) (holder row_of) (number value us) (number value vs) next.matched.matching next.matched.potential next.root (length rows) (slice_index rows) (flag visited) (number value ds) (slice_index places) tree.tree c nearest (number value (slice_set us' (length column_of) low)) (number value vs')

@@ -2,10 +2,12 @@
 use Rattle.std.proofs.Common.{List, length, ◌++◌, ◌∷◌, [], ℕ, zero, suc, ◌+◌, ◌<◌, ◌≤◌, ◌≡◌, ◌≢◌, refl, sym, ◌∙◌, ap, subst, arith, Bool, true, false, inl, inr, ℤ, Option, Some, true≢false}
 use Rattle.std.specs.Prelude.{◌⊎◌, ◌≤ℤ◌, ◌<ℤ◌, ◌+ℤ◌, ◌-ℤ◌, pos, neg_ℤ, slice_index, slice_set}
 use Rattle.std.proofs.lemmas.Int.{ints}
+use Rattle.std.proofs.lemmas.Bool.{cases_eq, cases_Bool}
+use Rattle.std.proofs.lemmas.List.{get_or-set_same, get_or-set_other, get_or_push, get_or_append_left}
 use Rattle.pf_graph.specs.Assignments.{number, NumberTable}
 use Rattle.pf_graph.specs.Internal.Assignment.AssignmentSteps.{holder, flag, IsNext, IsTreeOf, IsMatching, IsPotential, IsShortestPathTree, IsNearest, IsRelaxed, IsScanned, IsFresh, reach}
 use Rattle.pf_graph.proofs.Assignment.MatchingCount.{injective_le}
-use Rattle.pf_graph.proofs.Assignment.MatchingNumbers.{same_or_not, true_or_false, below_or_last, at_set_same, at_set_other, at_push_last, at_push_other}
+use Rattle.pf_graph.proofs.Assignment.MatchingNumbers.{below_or_last}
 
 pub reach-positive : (d : ℕ → ℤ) (col rows : ℕ → ℕ) (p : ℕ) → 0 < p → reach d col rows p ≡ d (col (rows p))
 reach-positive d col rows zero h = absurd (omega (arith, h))
@@ -87,13 +89,13 @@ module _ (a : ℕ → ℕ → ℤ) (n columns : ℕ) (col : ℕ → ℕ) (held :
     own = matching.from i c has
 
     visited_one : (j : ℕ) → visited' j ≡ true → (j ≡ c) ⊎ (visited j ≡ true)
-    visited_one j t = elim (same_or_not j c) as (λ _. (j ≡ c) ⊎ (visited j ≡ true)) [ inl e ↦ inl e | inr e ↦ inr (sym (old j e) ∙ t) ]
+    visited_one j t = elim (cases_eq j c) as (λ _. (j ≡ c) ⊎ (visited j ≡ true)) [ inl e ↦ inl e | inr e ↦ inr (sym (old j e) ∙ t) ]
 
     visited_more : (j : ℕ) → visited j ≡ true → visited' j ≡ true
-    visited_more j t = elim (same_or_not j c) as (λ _. visited' j ≡ true) [ inl e ↦ subst (λ k. visited' k ≡ true) (sym e) new | inr e ↦ old j e ∙ t ]
+    visited_more j t = elim (cases_eq j c) as (λ _. visited' j ≡ true) [ inl e ↦ subst (λ k. visited' k ≡ true) (sym e) new | inr e ↦ old j e ∙ t ]
 
     outside_one : (j : ℕ) → visited' j ≡ false → visited j ≡ false
-    outside_one j f = elim (true_or_false (visited j)) as (λ _. visited j ≡ false) [ inl t ↦ no_flag (visited' j) (visited_more j t) f | inr g ↦ g ]
+    outside_one j f = elim (cases_Bool (visited j)) as (λ _. visited j ≡ false) [ inl t ↦ no_flag (visited' j) (visited_more j t) f | inr g ↦ g ]
 
     kept : (j : ℕ) → j < columns → visited' j ≡ true → (d' j ≡ d j) × (place' j ≡ place j)
     kept j h t = relaxed_kept (visited' j) _ _ _ _ _ _ t (scanned.relaxed j h)
@@ -180,7 +182,7 @@ module _ (a : ℕ → ℕ → ℤ) (n columns : ℕ) (col : ℕ → ℕ) (held :
     }
       where
         newest : (j : ℕ) → j < columns → (d' j +ℤ a i j) ≤ℤ (d c +ℤ u i +ℤ v j)
-        newest j g = elim (true_or_false (visited' j)) as (λ _. (d' j +ℤ a i j) ≤ℤ (d c +ℤ u i +ℤ v j)) [
+        newest j g = elim (cases_Bool (visited' j)) as (λ _. (d' j +ℤ a i j) ≤ℤ (d c +ℤ u i +ℤ v j)) [
           | inl t ↦ (
               let e = (kept j g t).0 in
               let l = within j g t in
@@ -225,10 +227,10 @@ module _ {C : Type 0} {value : C → ℤ} {t : NumberTable} {column_of : List �
       subst (λ xs. IsTreeOf value t column_of row_of us vs xs (slice_set visited c true) ds' places') (sym e) (record {
         tree = subst (λ n. IsShortestPathTree t.at (length column_of) t.columns (slice_index column_of) (holder row_of) (number value us) (number value vs) n (slice_index (rows ++ i ∷ [])) (flag (slice_set visited c true)) (number value ds') (slice_index places')) (sym (length_one rows i))
             (tree_grows t.at (length column_of) t.columns (slice_index column_of) (holder row_of) (number value us) (number value vs) next.matched.matching next.matched.potential (length rows) (slice_index rows) (slice_index (rows ++ i ∷ [])) (flag visited) (flag (slice_set visited c true)) (number value ds) (number value ds') (slice_index places) (slice_index places') tree.tree c i nearest has offset sum
-            (at_set_same visited c true false (let h = nearest.inside in let g = tree.visited_len in omega (arith, h, g)))
-            (λ j d. at_set_other visited c j true false d)
-            (at_push_last rows i 0)
-            (λ p h. at_push_other rows i 0 p h)
+            (get_or-set_same visited c true false (let h = nearest.inside in let g = tree.visited_len in omega (arith, h, g)))
+            (λ j d. get_or-set_other visited c j true false d)
+            (get_or_push rows i 0 (length rows) refl)
+            (λ p h. get_or_append_left rows (i ∷ []) 0 p h)
             scanned);
         visited_len = l;
         distances_len = m;

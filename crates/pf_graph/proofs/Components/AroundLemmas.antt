@@ -5,12 +5,13 @@ use Rattle.std.specs.Cmp.{IsEquivalence}
 use Rattle.std.specs.List.{AllZip}
 use Rattle.std.specs.HashSet.{HashSet}
 use Rattle.std.proofs.lemmas.List.{take_more}
+use Rattle.indexmap.proofs.SetLemmas.{AllZip-push}
 use Rattle.pf_base.specs.Walks.{HasNode}
 use Rattle.pf_base.specs.Answers.{SameNodes}
 use Rattle.pf_graph.specs.Joined.{Joined}
 use Rattle.pf_graph.specs.Components.{InGroup, IsAround, ShareBy, AreChainedBy, AreComponentsOf, IsComponents, IsComponentsAround}
 use Rattle.pf_graph.specs.Internal.Components.Around.{IsGroupAround, AreGroupsAround}
-use Rattle.pf_graph.proofs.ListLemmas.{zip_push, zip_get, zip_get_left}
+use Rattle.pf_graph.proofs.ListLemmas.{zip_get, zip_get_left}
 use Rattle.pf_graph.proofs.JoinedLemmas.{Joined-more}
 
 module _ {N : Type 0} (eq : N → N → Bool) where
@@ -70,7 +71,7 @@ pub groups_more : {N A : Type 0} (eq : N → N → Bool) (adjacent : N → List 
     → AreGroupsAround eq adjacent (take i starts) groups → IsGroupAround eq adjacent s group → AreGroupsAround eq adjacent (take (i + 1) starts) (groups ++ group ∷ [])
 groups_more eq adjacent starts groups i s group inside at h around =
     subst (λ xs. AreGroupsAround eq adjacent xs (groups ++ group ∷ [])) (ap (λ x. take i starts ++ x ∷ []) at ∙ sym (take_more starts i s inside))
-    (zip_push (IsGroupAround eq adjacent) (take i starts) groups s group h around)
+    (AllZip-push (IsGroupAround eq adjacent) (take i starts) groups s group h around)
 
 -- the components of groups around starts are the components around the starts
 module _ {N A : Type 0} (eq : N → N → Bool) (adjacent : N → List N) (starts : List N) (groups : List (Vec N A)) (z : AreGroupsAround eq adjacent starts groups) where

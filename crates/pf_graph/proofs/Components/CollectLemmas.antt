@@ -7,10 +7,11 @@ use Rattle.std.specs.HashSet.{HashSet, contains}
 use Rattle.std.proofs.Math.ListN.{length-set}
 use Rattle.std.proofs.lemmas.Option.{same_Some, none-some, slice_get_within}
 use Rattle.std.proofs.lemmas.List.Elements.{Contains-append_left, Contains-push, Contains-push_cases}
+use Rattle.std.proofs.lemmas.Bool.{cases_eq, cases_Bool}
 use Rattle.pf_graph.specs.declared.undirected.union_find.Vertex.{Vertex}
 use Rattle.pf_graph.specs.Internal.Components.DisjointSets.{IsCollected, AreDone, IsGathered, Identifies, pairs_from}
 use Rattle.pf_graph.specs.Components.{InGroup, IsComponents}
-use Rattle.pf_graph.proofs.ListLemmas.{none_in, get_set, get_push, get_at_end, get_within, bool_dec, nat_dec}
+use Rattle.pf_graph.proofs.ListLemmas.{none_in, get_set, get_push, get_at_end, get_within}
 use Rattle.pf_graph.proofs.NumberLemmas.{distinct_one}
 use Rattle.pf_graph.proofs.Components.PairLemmas.{pair_of, same_label, in_group, id_is}
 
@@ -28,11 +29,11 @@ module _ {N T : Type 0} {eq : N → N → Bool} (laws : IsEquivalence eq) (has :
   module _ (p : ℕ) (at : slice_get place_of id ≡ Some (Some p)) (s s' : T) (set_at : slice_get sets p ≡ Some s) (puts : (x : N) → has s' x ≡ (if eq copy x then true else has s x)) where
     put_has : (x : N) → (has s' x ≡ true) ↔ ((q : ℕ × N) × Contains more q × (q.0 ≡ id) × (eq q.1 x ≡ true))
     put_has x = (
-      λ e. elim (bool_dec (eq copy x)) [
+      λ e. elim (cases_Bool (eq copy x)) [
         | inl t ↦ ((id, node), Contains-push done (id, node), refl, like_node x t)
         | inr f ↦ let q = (h.members id p s x at set_at).0 (sym (puts x ∙ ap (λ b. if b then true else has s x) f) ∙ e) in (q.0, Contains-append_left done ((id, node) ∷ []) q.0 q.1, q.2, q.3)
       ],
-      λ q. elim (bool_dec (eq copy x)) [
+      λ q. elim (cases_Bool (eq copy x)) [
         | inl t ↦ puts x ∙ ap (λ b. if b then true else has s x) t
         | inr f ↦ puts x ∙ ap (λ b. if b then true else has s x) f ∙ elim (Contains-push_cases done (id, node) q.0 q.1) [
           | inl c ↦ (h.members id p s x at set_at).1 (q.0, c, q.2, q.3)
@@ -118,7 +119,7 @@ module _ {N T : Type 0} {eq : N → N → Bool} (laws : IsEquivalence eq) (has :
       members = λ a b t x e f. elim (where_now a b e) [
         | inl r ↦
             let same_set : s' ≡ t = same_Some s' t (sym (get_at_end sets s') ∙ ap (slice_get (sets ++ s' ∷ [])) (sym r.1) ∙ f) in (
-              λ u. elim (bool_dec (eq copy x)) [
+              λ u. elim (cases_Bool (eq copy x)) [
                 | inl y ↦ ((id, node), Contains-push done (id, node), sym r.0, like_node x y)
                 | inr y ↦ absurd (true≢false (sym u ∙ ap (λ v. has v x) (sym same_set) ∙ puts x ∙ ap (λ b. if b then true else false) y))
               ],
@@ -146,7 +147,7 @@ AreDone-more {N} nodes first ids n done m j id at_n at_f at_i h = record {
     | inl d ↦ h.from q d
     | inr d ↦ (n, m, j, at_n, at_f, at_i ∙ ap (λ (r : ℕ × N). Some r.0) d, ap (λ (r : ℕ × N). r.1) (sym d))
   ];
-  all = λ k r l i below e f g. elim (nat_dec k n) [
+  all = λ k r l i below e f g. elim (cases_eq k n) [
     | inl same ↦
         let one : r ≡ m = same_Some r m (sym e ∙ ap (slice_get nodes) same ∙ at_n) in
         let two : l ≡ j = same_Some l j (sym f ∙ ap (slice_get first) same ∙ at_f) in

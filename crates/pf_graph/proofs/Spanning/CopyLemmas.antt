@@ -8,12 +8,12 @@ use Rattle.std.proofs.lemmas.List.Elements.{Contains-append_left, Contains-push,
 use Rattle.std.proofs.lemmas.List.Elements.{Contains-get_or}
 use Rattle.std.specs.declared.cmp.Ordering.TheVariants.{Equal}
 use Rattle.std.specs.Ordering.{is_eq}
-use Rattle.std.specs.Cmp.{IsTotalOrder}
+use Rattle.std.specs.Cmp.{IsTotalOrder, Equal-is}
 use Rattle.pf_base.specs.Answers.{IsLawfulClone}
 use Rattle.pf_graph.specs.Spanning.{AreBelow, AreChosenFrom, LinksUnder, IsLeastUnderEveryBound}
 use Rattle.pf_graph.specs.Internal.Spanning.SpanningSteps.{HoldsCopies}
 use Rattle.pf_graph.proofs.JoinedLemmas.{Joined-more}
-use Rattle.pf_graph.proofs.Spanning.OrderLemmas.{equal_is, le_equal}
+use Rattle.pf_graph.proofs.Spanning.OrderLemmas.{le_equal}
 
 module _ {N C : Type 0} (is_clone : C → C → Type 0) where
   pub HoldsCopies-more : (edges copies : List (N × N × C)) (i : ℕ) (g e : N × N × C) → i < length edges → g ≡ get_or edges i g → g.0 ≡ e.0 → g.1 ≡ e.1 → is_clone g.2 e.2 → HoldsCopies is_clone (take i edges) copies → HoldsCopies is_clone (take (i + 1) edges) (copies ++ e ∷ [])
@@ -35,7 +35,7 @@ module _ {N C : Type 0} (is_clone : C → C → Type 0) where
     least_of_copies edges copies chosen h l = record {
       joins = λ w x y j. l.joins w x y (Joined-more (λ (a b : N) (k : LinksUnder cmp w edges a b).
           let r = h.all k.0 k.1 in
-          let e : cmp k.0.2 r.0.2 ≡ Equal = equal_is (cmp k.0.2 r.0.2) (sym (agree k.0.2 r.0.2) ∙ lawful k.0.2 r.0.2 r.4) in
+          let e : cmp k.0.2 r.0.2 ≡ Equal = (Equal-is (cmp k.0.2 r.0.2)).0 (sym (agree k.0.2 r.0.2) ∙ lawful k.0.2 r.0.2 r.4) in
           (r.0, r.1, le_equal total k.0.2 r.0.2 w e k.2, sym r.2 ∙ k.3, sym r.3 ∙ k.4)) j);
     }
 

@@ -1,19 +1,14 @@
 -- The steps that wait, and the marks of covered numbers.
-use Rattle.std.proofs.Common.{ℕ, zero, suc, ◌+◌, ◌<◌, ◌≡◌, ◌≢◌, refl, sym, ◌∙◌, ap, subst, arith, Bool, true, false, List, [], ◌∷◌, ◌++◌, length, inl, inr, ◌⊎◌, Some, Vec, Ordering, Result, Ok, Err}
-use Rattle.std.specs.Result.{OnOk}
+use Rattle.std.proofs.Common.{ℕ, zero, suc, ◌+◌, ◌<◌, ◌≡◌, ◌≢◌, refl, sym, ◌∙◌, ap, subst, arith, Bool, true, false, List, [], ◌∷◌, ◌++◌, length, inl, inr, ◌⊎◌, Some, Vec, Ordering}
 use Rattle.std.specs.Prelude.{Contains, slice_get, slice_set, IsPermutation}
 use Rattle.std.specs.declared.cmp.Reverse.{Reverse}
 use Rattle.std.specs.declared.cmp.Ordering.TheVariants.{Greater}
 use Rattle.std.proofs.lemmas.List.Elements.{Contains-push, Contains-push_cases, Contains-append_left}
 use Rattle.std.proofs.lemmas.List.Sorted.{Contains-permutation, IsPermutation-sym}
+use Rattle.std.proofs.lemmas.Bool.{cases_Bool}
 use Rattle.pf_graph.specs.declared.undirected.steps.Step.{Step}
 use Rattle.pf_graph.specs.Internal.Spanning.Frontier.{step_order, IsMarked, HasStep, WaitsSave, Waits, Gains, TakesLeast, waiting}
-use Rattle.pf_graph.proofs.ListLemmas.{bool_dec, get_set, get_within, none_in, contains_here, contains_later, contains_cons}
-
--- what holds where a call answered `Ok`
-pub on_ok : {T E : Type 0} {P Q : Type 0} (r : Result T E) → (P → Q) → OnOk r P → OnOk r Q
-on_ok (Ok x) f p = f p
-on_ok (Err e) f p = p
+use Rattle.pf_graph.proofs.ListLemmas.{get_set, get_within, none_in, contains_here, contains_later, contains_cons}
 
 -- a number has one mark
 pub one_mark : (covered : List Bool) (k : ℕ) → IsMarked true covered k → IsMarked false covered k → ⊥
@@ -22,7 +17,7 @@ one_mark covered k a b = let e : Some true ≡ Some false = sym a ∙ b in cc
 pub mark_of : (covered : List Bool) (k : ℕ) → k < length covered → IsMarked true covered k ⊎ IsMarked false covered k
 mark_of covered k h =
     let r = get_within covered k h in
-    elim (bool_dec r.0) as (λ _. IsMarked true covered k ⊎ IsMarked false covered k) [ inl e ↦ inl (r.1 ∙ ap Some e) | inr e ↦ inr (r.1 ∙ ap Some e) ]
+    elim (cases_Bool r.0) as (λ _. IsMarked true covered k ⊎ IsMarked false covered k) [ inl e ↦ inl (r.1 ∙ ap Some e) | inr e ↦ inr (r.1 ∙ ap Some e) ]
 
 -- ---- an element is taken out
 

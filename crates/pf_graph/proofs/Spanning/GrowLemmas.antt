@@ -2,7 +2,7 @@
 use Rattle.std.proofs.Common.{ℕ, ◌<◌, ◌≡◌, ◌≢◌, sym, ◌∙◌, subst, arith, Bool, true, false, eq-eqb, List, [], ◌∷◌, ◌++◌, length, inl, inr, ◌⊎◌, Some, Vec, Ordering}
 use Rattle.std.specs.Prelude.{Contains, slice_get, slice_set, ◌↔◌}
 use Rattle.std.specs.Borrow.{Bor}
-use Rattle.std.specs.Cmp.{IsEquivalence, IsTotalOrder}
+use Rattle.std.specs.Cmp.{IsEquivalence, IsTotalOrder, Equal-is}
 use Rattle.std.specs.Ordering.{ordering_then, is_eq, nat_cmp}
 use Rattle.std.specs.declared.cmp.Ordering.TheVariants.{Less, Equal, Greater}
 use Rattle.std.specs.declared.cmp.Reverse.{Reverse}
@@ -16,7 +16,6 @@ use Rattle.pf_graph.specs.Internal.Spanning.Frontier.{step_order, IsMarked, HasS
 use Rattle.pf_graph.proofs.ListLemmas.{get_set}
 use Rattle.pf_graph.proofs.Spanning.ForestLemmas.{split_push}
 use Rattle.pf_graph.proofs.NumberLemmas.{numbers_alike, distinct_one}
-use Rattle.pf_graph.proofs.Spanning.OrderLemmas.{equal_is}
 use Rattle.pf_graph.proofs.Spanning.TreeLemmas.{Covers-kept, Covers-push, Covers-push_cases}
 use Rattle.pf_graph.proofs.Spanning.FrontierLemmas.{one_mark, mark_of}
 
@@ -101,7 +100,7 @@ module _ {N C : Type 0} {eq : N → N → Bool} (laws : IsEquivalence eq) (nodes
         edge = (s.covered.now, s.new.now, u)
 
         tied : cmp s.weight.now u ≡ Equal
-        tied = equal_is (cmp s.weight.now u) (sym (agree s.weight.now u) ∙ lawful s.weight.now u clone)
+        tied = (Equal-is (cmp s.weight.now u)).0 (sym (agree s.weight.now u) ∙ lawful s.weight.now u clone)
 
         place : (k : ℕ) × IsMarked true covered k × HasStep rows k s
         place = w.from (waiting s) t.waited

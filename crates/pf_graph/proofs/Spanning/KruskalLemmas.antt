@@ -1,5 +1,5 @@
 -- Kruskal's choice, an edge at a time.
-use Rattle.std.proofs.Common.{ℕ, ◌-◌, ◌<◌, ◌≡◌, ◌≢◌, sym, ◌∙◌, ap, subst, arith, true, false, eq-eqb, List, [], ◌∷◌, ◌++◌, length, get_or, take, inl, inr, Ordering, nat_eq}
+use Rattle.std.proofs.Common.{ℕ, ◌-◌, ◌<◌, ◌≡◌, ◌≢◌, sym, ◌∙◌, ap, subst, arith, false, eq-eqb, List, [], ◌∷◌, ◌++◌, length, get_or, take, inl, inr, Ordering, nat_eq}
 use Rattle.std.specs.Prelude.{Contains}
 use Rattle.std.specs.declared.cmp.Ordering.TheVariants.{Greater}
 use Rattle.std.specs.Ordering.{is_lt}
@@ -10,7 +10,7 @@ use Rattle.std.proofs.lemmas.List.{get_or-take, get_or_default, length-take-le}
 use Rattle.std.proofs.lemmas.List.Sorted.{sorted_far, ranks_by}
 use Rattle.std.proofs.lemmas.List.Kept.{IsSortedBy-push}
 use Rattle.std.proofs.lemmas.List.Elements.{Contains-append_left, Contains-push, Contains-push_cases, Contains-get_or}
-use Rattle.std.proofs.lemmas.Bool.Decides.{nat_tests}
+use Rattle.std.proofs.lemmas.Bool.{eqb-true}
 use Rattle.pf_graph.specs.declared.undirected.union_find.Vertex.{Vertex}
 use Rattle.pf_graph.specs.Internal.UnionFind.{IsLabelling, Merges}
 use Rattle.pf_graph.specs.Joined.{same, linked, back, chain}
@@ -19,15 +19,12 @@ use Rattle.pf_graph.proofs.JoinedLemmas.{Joined-by, Joined-more, Joined-split}
 use Rattle.pf_graph.proofs.Spanning.ForestLemmas.{link_of, Links-push, JoinedBy-more, IsForest-nil, IsForest-push}
 use Rattle.pf_graph.proofs.Spanning.OrderLemmas.{le_trans, not_below, at_most}
 
-nat_same : (x y : ℕ) → nat_eq x y ≡ true → x ≡ y
-nat_same x y e = grind (arith, nat_tests)
-
 Contains-none : {A : Type 0} (x : A) → Contains [] x → ⊥
 Contains-none x h = omega (arith, h.1)
 
 -- no edges join nothing
 joined_none : {C : Type 0} {x y : ℕ} → JoinedBy {C = C} nat_eq [] x y → x ≡ y
-joined_none (same e) = nat_same _ _ e
+joined_none (same e) = eqb-true _ _ e
 joined_none (linked l) = absurd (Contains-none l.0 l.1)
 joined_none (back j) = sym (joined_none j)
 joined_none (chain j k) = joined_none j ∙ joined_none k

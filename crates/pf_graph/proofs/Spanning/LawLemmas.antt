@@ -7,24 +7,15 @@ use Rattle.std.specs.Cmp.{IsEquivalence}
 use Rattle.std.proofs.lemmas.Int.{ints}
 use Rattle.std.proofs.lemmas.Cmp.{int_ranked}
 use Rattle.std.proofs.lemmas.List.{append-nil}
-use Rattle.std.proofs.lemmas.List.Elements.{Contains-append_left, Contains-append_right, Contains-append_cases}
+use Rattle.std.proofs.lemmas.Bool.{cases_Bool}
 use Rattle.pf_graph.specs.Joined.{same, linked, back, chain}
 use Rattle.pf_graph.specs.Spanning.{Links, LinksUnder, JoinedBy, JoinedUnder, IsForest, IsLeastUnderEveryBound, AreChosenFrom, JoinTheSame, weight_sum}
-use Rattle.pf_graph.proofs.ListLemmas.{bool_dec, contains_here, contains_later, contains_cons}
+use Rattle.pf_graph.proofs.ListLemmas.{contains_here, contains_later, contains_cons, contains_middle, contains_around}
 use Rattle.pf_graph.proofs.JoinedLemmas.{Joined-by, Joined-more, Joined-split}
 use Rattle.pf_graph.proofs.Spanning.ForestLemmas.{link_of, JoinedBy-more}
 use Rattle.pf_graph.proofs.Spanning.OrderLemmas.{gt_false, not_gt}
 
 -- ---- lists
-
-contains_middle : {A : Type 0} (xs : List A) (x : A) (ys : List A) → Contains (xs ++ x ∷ ys) x
-contains_middle xs x ys = Contains-append_right xs (x ∷ ys) x (contains_here x ys)
-
-contains_around : {A : Type 0} (xs : List A) (x : A) (ys : List A) (y : A) → Contains (xs ++ ys) y → Contains (xs ++ x ∷ ys) y
-contains_around xs x ys y h = elim (Contains-append_cases xs ys y h) [
-  | inl c ↦ Contains-append_left xs (x ∷ ys) y c
-  | inr c ↦ Contains-append_right xs (x ∷ ys) y (contains_later x y ys c)
-]
 
 length_middle : {A : Type 0} (xs : List A) (x : A) (ys : List A) → length (xs ++ x ∷ ys) ≡ suc (length (xs ++ ys))
 length_middle [] x ys = refl
@@ -68,7 +59,7 @@ module _ {N C : Type 0} {eq : N → N → Bool} (laws : IsEquivalence eq) where
 
   -- whether edges join two nodes
   joined_dec : (es : List (N × N × C)) (x y : N) → JoinedBy eq es x y ⊎ ¬ (JoinedBy eq es x y)
-  joined_dec [] x y = elim (bool_dec (eq x y)) [
+  joined_dec [] x y = elim (cases_Bool (eq x y)) [
     | inl e ↦ inl (same e)
     | inr e ↦ inr (λ j. true≢false (sym (joined_nothing j) ∙ e))
   ]
@@ -209,7 +200,7 @@ low_full w (y ∷ ys) e x c =
     let most = low_most w ys in
     let one = one_if_most (le y w) in
     elim (contains_cons y x ys c) [
-      | inl s ↦ elim (bool_dec (le y w)) [
+      | inl s ↦ elim (cases_Bool (le y w)) [
         | inl t ↦ subst (λ (z : ℤ). z ≤ℤ w) s (le_holds y w t)
         | inr t ↦ let z = ap one_if t in absurd (omega (arith, e, most, z))
       ]
@@ -268,7 +259,7 @@ dominated (suc n) (x ∷ xs) (y ∷ ys) a b h =
     let old = h w (subst (λ us. Contains us w) (sym q.3) (contains_around q.1 q.0 q.2 w c)) in
     let split_B = ap (low w) q.3 ∙ low_middle w q.1 q.0 q.2 in
     let split_A = ap (low w) p.3 ∙ low_middle w p.1 p.0 p.2 in
-    elim (bool_dec (le p.0 w)) as (λ _. low w B' ≤ low w A') [
+    elim (cases_Bool (le p.0 w)) as (λ _. low w B' ≤ low w A') [
       | inl t ↦
           let all : low w A' ≡ length A' = low_all w A' (λ u d. let one = p.4 u (subst (λ us. Contains us u) (sym p.3) (contains_around p.1 p.0 p.2 u d)) in let two = le_holds p.0 w t in omega (arith, ints, one, two)) in
           let few = low_most w B' in

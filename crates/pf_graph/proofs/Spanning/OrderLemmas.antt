@@ -1,7 +1,7 @@
 -- Lawful orders.
-use Rattle.std.proofs.Common.{◌≡◌, ◌≢◌, refl, sym, ◌∙◌, ap, true, false, Ordering}
+use Rattle.std.proofs.Common.{◌≡◌, ◌≢◌, refl, sym, ◌∙◌, ap, false, Ordering}
 use Rattle.std.specs.declared.cmp.Ordering.TheVariants.{Less, Equal, Greater}
-use Rattle.std.specs.Ordering.{is_gt, is_lt, is_eq, ordering_reverse}
+use Rattle.std.specs.Ordering.{is_gt, is_lt, ordering_reverse}
 use Rattle.std.specs.Cmp.{IsTotalOrder}
 use Rattle.std.proofs.lemmas.Cmp.{upto}
 
@@ -24,11 +24,6 @@ lt_reverse : (o : Ordering) → is_lt o ≡ false → ordering_reverse o ≢ Gre
 lt_reverse Less e = λ g. cc
 lt_reverse Equal e = λ g. cc
 lt_reverse Greater e = λ g. cc
-
-pub equal_is : (o : Ordering) → is_eq o ≡ true → o ≡ Equal
-equal_is Less e = cc
-equal_is Equal e = refl
-equal_is Greater e = cc
 
 module _ {C : Type 0} {cmp : C → C → Ordering} (total : IsTotalOrder cmp) where
   pub le_trans : (x y z : C) → cmp x y ≢ Greater → cmp y z ≢ Greater → cmp x z ≢ Greater

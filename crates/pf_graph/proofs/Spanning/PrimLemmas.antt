@@ -1,7 +1,6 @@
 -- A tree that is grown over numbers, for the edges that were numbered.
-use Rattle.std.proofs.Common.{ℕ, zero, suc, ◌<◌, ◌≡◌, sym, ◌∙◌, ap, subst, Bool, true, false, List, length, replicate, Some, None, Vec, Result, Ok, Err}
+use Rattle.std.proofs.Common.{ℕ, zero, suc, ◌<◌, ◌≡◌, sym, ◌∙◌, ap, subst, Bool, true, false, List, length, replicate, Some, None, Vec}
 use Rattle.std.specs.Prelude.{map, slice_get}
-use Rattle.std.specs.Result.{IfOk}
 use Rattle.std.specs.Borrow.{Bor}
 use Rattle.std.specs.Option.{option_map}
 use Rattle.std.proofs.lemmas.Option.{slice_get-map, slice_get_within}
@@ -12,11 +11,6 @@ use Rattle.pf_graph.specs.GrownTree.{StartsAt}
 use Rattle.pf_graph.specs.Internal.Spanning.Frontier.{IsMarked, HasStep, HoldSteps, AreRows}
 use Rattle.pf_graph.proofs.ListLemmas.{get_contains, none_in}
 use Rattle.pf_graph.proofs.Spanning.StepLemmas.{AreRows-numbered}
-
--- what holds of an answer
-pub if_ok : {T E : Type 0} {P Q : T → Type 0} (r : Result T E) → ((x : T) → P x → Q x) → IfOk r P → IfOk r Q
-if_ok (Ok x) f p = f x p
-if_ok (Err e) f p = p
 
 -- where no number is marked
 pub no_mark : (n k : ℕ) → ¬ (IsMarked true (replicate n false) k)

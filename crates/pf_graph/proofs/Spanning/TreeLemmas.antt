@@ -1,7 +1,7 @@
 -- What follows where a tree grows by the least edge that leaves it: it is a forest, and least under every bound.
 use Rattle.std.proofs.Common.{◌≡◌, ◌≢◌, refl, sym, ◌∙◌, ap, subst, inl, inr, ◌⊎◌, Bool, true, List, [], ◌∷◌, ◌++◌, Ordering, arith}
 use Rattle.std.specs.Prelude.{Contains}
-use Rattle.std.specs.Cmp.{IsEquivalence, IsTotalOrder}
+use Rattle.std.specs.Cmp.{IsEquivalence, IsTotalOrder, Equal-is}
 use Rattle.std.specs.Ordering.{ordering_then, is_eq}
 use Rattle.std.specs.declared.cmp.Ordering.TheVariants.{Less, Equal, Greater}
 use Rattle.std.proofs.lemmas.List.{append-nil, append_assoc}
@@ -12,7 +12,7 @@ use Rattle.pf_graph.specs.Spanning.{Links, LinksUnder, JoinedBy, JoinedUnder, Is
 use Rattle.pf_graph.specs.GrownTree.{RunsBetween, Covers, LeavesByLeast, GrowsByLeast, IsLeastAround, AreChosenEitherWay}
 use Rattle.pf_graph.proofs.JoinedLemmas.{Joined-more}
 use Rattle.pf_graph.proofs.Spanning.ForestLemmas.{IsForest-nil, IsForest-push}
-use Rattle.pf_graph.proofs.Spanning.OrderLemmas.{le_trans, equal_is}
+use Rattle.pf_graph.proofs.Spanning.OrderLemmas.{le_trans}
 
 -- whether an answer is `Greater`
 pub gt_dec : (o : Ordering) → (o ≡ Greater) ⊎ (o ≢ Greater)
@@ -149,7 +149,7 @@ module _ {N C : Type 0} {eq : N → N → Bool} (laws : IsEquivalence eq) (start
           let there : Contains tree e = subst (λ es. Contains es e) (sym (h ∙ sym (append_assoc before (e ∷ []) rest))) (Contains-append_left (before ++ e ∷ []) rest e (Contains-push before e)) in
           let w = written.as_written e there in
           prefixes (before ++ e ∷ []) rest (h ∙ sym (append_assoc before (e ∷ []) rest))
-          (prefix_push before e p (grows.each before rest e h) w.0 w.1 (equal_is (cmp w.0 e.2) (sym (agree w.0 e.2) ∙ lawful w.0 e.2 w.2)))
+          (prefix_push before e p (grows.each before rest e h) w.0 w.1 ((Equal-is (cmp w.0 e.2)).0 (sym (agree w.0 e.2) ∙ lawful w.0 e.2 w.2)))
 
       whole : Prefix tree
       whole = prefixes [] tree refl prefix_none

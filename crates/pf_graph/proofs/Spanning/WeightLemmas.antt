@@ -1,5 +1,5 @@
 -- The weights of edges that are chosen by number.
-use Rattle.std.proofs.Common.{ℕ, suc, ◌+◌, ◌≡◌, refl, sym, ◌∙◌, ap, subst, arith, List, [], ◌∷◌, length, get_or, Bool, true, false, ℤ, nat_eq, Ordering}
+use Rattle.std.proofs.Common.{ℕ, ◌+◌, ◌≡◌, refl, sym, ◌∙◌, ap, subst, arith, List, [], ◌∷◌, get_or, Bool, true, false, ℤ, nat_eq, Ordering}
 use Rattle.std.specs.Prelude.{All, Contains, map, ◌+ℤ◌}
 use Rattle.std.specs.Borrow.{Bor}
 use Rattle.std.specs.Ordering.{is_eq, is_lt}
@@ -8,6 +8,7 @@ use Rattle.std.specs.Cmp.{IsEquivalence, IsTotalOrder}
 use Rattle.std.specs.List.{AllZip}
 use Rattle.std.specs.List.Sorted.{IsSorted}
 use Rattle.std.proofs.lemmas.Option.{slice_get-map, get_or_from_slice_get}
+use Rattle.std.proofs.lemmas.List.{length-map}
 use Rattle.pf_graph.specs.declared.undirected.weighed.Weighed.{Weighed}
 use Rattle.pf_graph.specs.Spanning.{IsForest, IsLeastUnderEveryBound, IsLeastForest, weight_sum}
 use Rattle.pf_graph.specs.Internal.Spanning.SpanningSteps.{values_sum}
@@ -15,14 +16,10 @@ use Rattle.pf_graph.specs.Internal.NumberedEdges.{IsNumbered, IsWritten}
 use Rattle.pf_graph.proofs.ListLemmas.{get_within}
 use Rattle.pf_graph.proofs.Spanning.NameLemmas.{written_forest, written_least, written_given}
 
-length_map : {A B : Type 0} (f : A → B) (xs : List A) → length (map f xs) ≡ length xs
-length_map f [] = refl
-length_map f (x ∷ xs) = ap suc (length_map f xs)
-
 -- what is sorted by a key has sorted keys
 pub sorted_keys : {A K : Type 0} (cmp : K → K → Ordering) (key : A → K) (xs : List A) → IsSorted (λ (a b : A). cmp (key a) (key b)) xs → IsSorted cmp (map key xs)
 sorted_keys cmp key xs sorted = λ k d low inside.
-    let len = length_map key xs in
+    let len = length-map xs key in
     let a = get_within xs k (omega (arith, inside, len)) in
     let b = get_within xs (k + 1) (omega (arith, inside, len)) in
     let h = sorted k a.0 low (omega (arith, inside, len)) in

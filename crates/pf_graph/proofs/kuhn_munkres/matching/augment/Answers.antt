@@ -1,8 +1,9 @@
 use Rattle.std.proofs.Common.{rules, ◌≡◌, ◌<◌, ◌++◌, ◌∷◌, [], arith, ap, sym, subst, ◌∙◌, ℕ, length, true, Some, take, drop}
 use Rattle.std.specs.Prelude.{neg_ℤ, ◌+ℤ◌, ◌-ℤ◌, slice_index, slice_set}
+use Rattle.std.proofs.lemmas.List.{take_at}
 use Rattle.pf_graph.specs.Assignments.{number}
 use Rattle.pf_graph.specs.Internal.Assignment.AssignmentSteps.{holder, flag, raised, IsMatched, IsAlternatingTree, IsFlipped}
-use Rattle.pf_graph.proofs.Assignment.MatchingNumbers.{number-at, refilled}
+use Rattle.pf_graph.proofs.Assignment.MatchingNumbers.{number-at}
 use Rattle.pf_graph.proofs.Assignment.MatchingBounds.{step_difference, step_negation, step_sum, step_rest, depth_negation}
 use Rattle.pf_graph.proofs.Assignment.MatchingRaise.{rooted_of, augment_lists}
 use Rattle.pf_graph.proofs.kuhn_munkres.matching.augment.Goals as goal
@@ -134,10 +135,10 @@ returns-clause-matched g c =
     let nc : m.column_of.len ≡ length m.column_of.items = search rules in
     let nu : m.row_potentials.len ≡ length m.row_potentials.items = search rules in
     let nv : m.column_potentials.len ≡ length m.column_potentials.items = search rules in
-    let fr = refilled m.row_of.len c.flip_path-left.new.row_of m.row_of.items (lr ∙ sym nr) (sym nr) in
-    let fc = refilled m.column_of.len c.flip_path-left.new.column_of m.column_of.items (lc ∙ sym nc) (sym nc) in
-    let fu = refilled m.row_potentials.len c.lower_rows.new.potentials m.row_potentials.items (lu ∙ sym nu) (sym nu) in
-    let fv = refilled m.column_potentials.len c.raise_columns.new.potentials m.column_potentials.items (lv ∙ sym nv) (sym nv) in
+    let fr = take_at c.flip_path-left.new.row_of (drop (length c.flip_path-left.new.row_of) m.row_of.items) m.row_of.len (lr ∙ sym nr) in
+    let fc = take_at c.flip_path-left.new.column_of (drop (length c.flip_path-left.new.column_of) m.column_of.items) m.column_of.len (lc ∙ sym nc) in
+    let fu = take_at c.lower_rows.new.potentials (drop (length c.lower_rows.new.potentials) m.row_potentials.items) m.row_potentials.len (lu ∙ sym nu) in
+    let fv = take_at c.raise_columns.new.potentials (drop (length c.raise_columns.new.potentials) m.column_potentials.items) m.column_potentials.len (lv ∙ sym nv) in
     let all = augment_lists c.requires.next c.requires.tree c.args.column c.requires.nearest c.raise_columns.new.potentials c.lower_rows.new.potentials c.negated.result (c.negated.ensures ∙ ap neg_ℤ (sym depth)) raised_as lv lowered_as lu c.flip_path-left.new.column_of c.flip_path-left.new.row_of c.flip_path-left.result flipped last lc lr in
     let left = c.flip_path-left.result in
     let low = c.negated.result in

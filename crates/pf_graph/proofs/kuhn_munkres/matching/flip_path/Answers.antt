@@ -1,7 +1,7 @@
 use Rattle.std.proofs.Common.{rules, refl, ◌≡◌, ◌≢◌, ◌<◌, ◌≤◌, arith, sym, subst, ℕ, length, Some, None}
 use Rattle.std.specs.Prelude.{slice_index, slice_set}
+use Rattle.std.proofs.lemmas.List.{get_or-set_same, get_or-set_other}
 use Rattle.pf_graph.specs.Internal.Assignment.AssignmentSteps.{holder, IsFlipped}
-use Rattle.pf_graph.proofs.Assignment.MatchingNumbers.{at_set_same, at_set_other}
 use Rattle.pf_graph.proofs.Assignment.AugmentingPath.{flip_begins, flip_more, flip_before}
 use Rattle.pf_graph.proofs.kuhn_munkres.matching.flip_path.Goals as goal
 
@@ -29,10 +29,10 @@ rows-preserved c =
     let r = rows (place left) in
     let col'' = slice_set c.rows.column_of r left in
     let held'' = slice_set c.rows.row_of left (Some r) in
-    let set_col = at_set_same c.rows.column_of r left 0 (omega (arith, own, col_len)) in
-    let keep_col = λ (k : ℕ) (d : k ≢ r). at_set_other c.rows.column_of r k left 0 d in
-    let set_held = at_set_same c.rows.row_of left (Some r) None (let w = t.within in omega (arith, w, held_len)) in
-    let keep_held = λ (j : ℕ) (d : j ≢ left). at_set_other c.rows.row_of left j (Some r) None d in
+    let set_col = get_or-set_same c.rows.column_of r left 0 (omega (arith, own, col_len)) in
+    let keep_col = λ (k : ℕ) (d : k ≢ r). get_or-set_other c.rows.column_of r k left 0 d in
+    let set_held = get_or-set_same c.rows.row_of left (Some r) None (let w = t.within in omega (arith, w, held_len)) in
+    let keep_held = λ (j : ℕ) (d : j ≢ left). get_or-set_other c.rows.row_of left j (Some r) None d in
     let more = flip_more (length c.args.column_of.now) (length c.args.row_of.now) (length c.args.rows.now) c.args.column (slice_index c.args.column_of.now) (holder c.args.row_of.now) rows place c.requires.rooted (slice_index c.rows.column_of) (holder c.rows.row_of) left t positive before (slice_index col'') (holder held'') set_col keep_col set_held keep_held in
     let less = flip_before (length c.args.column_of.now) (length c.args.row_of.now) (length c.args.rows.now) c.args.column (slice_index c.args.column_of.now) (holder c.args.row_of.now) rows place c.requires.rooted (slice_index c.rows.column_of) (holder c.rows.row_of) left t positive before (slice_index col'') (holder held'') set_col keep_col set_held keep_held in
     record {

@@ -1,8 +1,8 @@
 use Rattle.std.proofs.Common.{rules, ◌≡◌, ◌++◌, ap, sym, subst, ◌∙◌, length, take, drop}
 use Rattle.std.specs.Prelude.{pos}
+use Rattle.std.proofs.lemmas.List.{take_at}
 use Rattle.pf_graph.specs.Assignments.{number}
 use Rattle.pf_graph.specs.Internal.Assignment.AssignmentSteps.{flag, IsNext, IsNearest}
-use Rattle.pf_graph.proofs.Assignment.MatchingNumbers.{refilled}
 use Rattle.pf_graph.proofs.Assignment.MatchingBest.{next_of}
 use Rattle.pf_graph.proofs.kuhn_munkres.matching.match_row.Goals as goal
 
@@ -27,7 +27,7 @@ augment-requires-clause-nearest g c =
     let ld : length c.grow.new.distances ≡ length r.distances.items = search rules in
     let nv : r.visited.len ≡ length r.visited.items = search rules in
     let nd : r.distances.len ≡ length r.distances.items = search rules in
-    let fv = refilled r.visited.len c.grow.new.visited r.visited.items (lv ∙ sym nv) (sym nv) in
-    let fd = refilled r.distances.len c.grow.new.distances r.distances.items (ld ∙ sym nd) (sym nd) in
+    let fv = take_at c.grow.new.visited (drop (length c.grow.new.visited) r.visited.items) r.visited.len (lv ∙ sym nv) in
+    let fd = take_at c.grow.new.distances (drop (length c.grow.new.distances) r.distances.items) r.distances.len (ld ∙ sym nd) in
     subst (λ xs. IsNearest t.columns (flag xs) (number value (take r.distances.len (c.grow.new.distances ++ drop (length c.grow.new.distances) r.distances.items))) c.in_ok-column.column) (sym fv)
     (subst (λ xs. IsNearest t.columns (flag c.grow.new.visited) (number value xs) c.in_ok-column.column) (sym fd) c.in_ok-column.ensures.nearest)

@@ -1,8 +1,9 @@
 use Rattle.std.proofs.Common.{◌<◌, arith, ap, ◌∙◌, length, false}
 use Rattle.std.specs.Prelude.{slice_set, slice_index}
+use Rattle.std.proofs.lemmas.List.{get_or-set_same, get_or-set_other}
 use Rattle.pf_graph.specs.Assignments.{number}
 use Rattle.pf_graph.specs.Internal.Assignment.AssignmentSteps.{flag}
-use Rattle.pf_graph.proofs.Assignment.MatchingNumbers.{below_set, number-set_same, number-set_other, at_set_same, at_set_other}
+use Rattle.pf_graph.proofs.Assignment.MatchingNumbers.{number-set_same, number-set_other, below_written}
 use Rattle.pf_graph.proofs.kuhn_munkres.tree.clear.Goals as goal
 
 pub loop-column-preserved : goal.loop-column-preserved
@@ -13,7 +14,7 @@ loop-column-preserved g c =
     let in_distances : k < length c.loop-column.distances = omega arith in
     let in_places : k < length c.loop-column.places = omega arith in
     record {
-      unvisited = λ j h. below_set (λ n. flag (slice_set c.loop-column.visited k false) n) (flag c.loop-column.visited) false k (at_set_same c.loop-column.visited k false false in_visited) (λ n m. at_set_other c.loop-column.visited k n false false m) i.unvisited j h;
-      far = λ j h. below_set (number g.C.Number.value (slice_set c.loop-column.distances k c.greatest.result)) (number g.C.Number.value c.loop-column.distances) (g.C.Number.value g.C.Cost.greatest) k (number-set_same g.C.Number.value c.loop-column.distances k c.greatest.result in_distances ∙ ap g.C.Number.value c.greatest.ensures) (λ n m. number-set_other g.C.Number.value c.loop-column.distances k n c.greatest.result m) i.far j h;
-      root = λ j h. below_set (λ n. slice_index (slice_set c.loop-column.places k 0) n) (slice_index c.loop-column.places) 0 k (at_set_same c.loop-column.places k 0 0 in_places) (λ n m. at_set_other c.loop-column.places k n 0 0 m) i.root j h;
+      unvisited = λ j h. below_written (λ n. flag (slice_set c.loop-column.visited k false) n) (flag c.loop-column.visited) (λ _. false) k (get_or-set_same c.loop-column.visited k false false in_visited) (λ n m. get_or-set_other c.loop-column.visited k n false false m) i.unvisited j h;
+      far = λ j h. below_written (number g.C.Number.value (slice_set c.loop-column.distances k c.greatest.result)) (number g.C.Number.value c.loop-column.distances) (λ _. g.C.Number.value g.C.Cost.greatest) k (number-set_same g.C.Number.value c.loop-column.distances k c.greatest.result in_distances ∙ ap g.C.Number.value c.greatest.ensures) (λ n m. number-set_other g.C.Number.value c.loop-column.distances k n c.greatest.result m) i.far j h;
+      root = λ j h. below_written (λ n. slice_index (slice_set c.loop-column.places k 0) n) (slice_index c.loop-column.places) (λ _. 0) k (get_or-set_same c.loop-column.places k 0 0 in_places) (λ n m. get_or-set_other c.loop-column.places k n 0 0 m) i.root j h;
     }

@@ -1,7 +1,8 @@
 use Rattle.std.proofs.Common.{rules, refl, inl, inr, arith}
 use Rattle.std.specs.Prelude.{◌≤ℤ◌, ◌<ℤ◌}
 use Rattle.std.proofs.lemmas.Int.{ints}
-use Rattle.pf_graph.proofs.Assignment.MatchingNumbers.{number-at, number-set_same, number-set_other, at_set_same}
+use Rattle.std.proofs.lemmas.List.{get_or-set_same}
+use Rattle.pf_graph.proofs.Assignment.MatchingNumbers.{number-at, number-set_same, number-set_other}
 use Rattle.pf_graph.proofs.kuhn_munkres.tree.relax.Goals as goal
 
 pub returns-then-is_below-clause-here : goal.returns-then-is_below-clause-here
@@ -11,7 +12,7 @@ returns-then-is_below-clause-here g c =
     let l : value c.args.through <ℤ value c.index-distances-column.result = search rules in
     inr (
       number-set_same value c.args.distances.now c.args.column c.args.through c.requires.distance,
-      at_set_same c.args.places.now c.args.column c.args.place 0 c.requires.before,
+      get_or-set_same c.args.places.now c.args.column c.args.place 0 c.requires.before,
       refl,
       omega (arith, ints, e, l),
     )

@@ -1,8 +1,9 @@
 use Rattle.std.proofs.Common.{rules, ◌≡◌, ◌<◌, arith, ap, sym, subst, ◌∙◌, length, true, false, Some, None}
 use Rattle.std.specs.Prelude.{neg_ℤ, ◌+ℤ◌, ◌-ℤ◌, slice_index, slice_set}
+use Rattle.std.proofs.lemmas.List.{get_or-set_other}
 use Rattle.pf_graph.specs.Assignments.{number}
 use Rattle.pf_graph.specs.Internal.Assignment.AssignmentSteps.{holder, flag, IsScanned}
-use Rattle.pf_graph.proofs.Assignment.MatchingNumbers.{number-at, at_set_other}
+use Rattle.pf_graph.proofs.Assignment.MatchingNumbers.{number-at}
 use Rattle.pf_graph.proofs.Assignment.MatchingBounds.{free, unvisited, column_negation, row_negation, row_sum, way_sum, way_difference}
 use Rattle.pf_graph.proofs.Assignment.MatchingTree.{tree_of_more}
 use Rattle.pf_graph.proofs.kuhn_munkres.tree.visit.Goals as goal
@@ -77,7 +78,7 @@ pub scan-requires-clause-left : goal.scan-requires-clause-left
 scan-requires-clause-left g c =
     let f = free g.C.Number.fits (λ x y z. g.C.Number.between_law x y z g.met.C.Integral.exact_law) c.requires.fit c.requires.shape c.requires.next in
     let u = unvisited g.C.Number.fits (λ x y z. g.C.Number.between_law x y z g.met.C.Integral.exact_law) c.requires.fit c.requires.shape c.requires.next c.requires.tree f.0 f.2 in
-    (f.0, f.1, at_set_other c.args.visited.now c.args.column f.0 true false (λ e. absurd (let k : Some c.args.row ≡ None = sym c.requires.row ∙ ap (holder c.args.matching.now.row_of.items) (sym e) ∙ f.2 in cc)) ∙ u)
+    (f.0, f.1, get_or-set_other c.args.visited.now c.args.column f.0 true false (λ e. absurd (let k : Some c.args.row ≡ None = sym c.requires.row ∙ ap (holder c.args.matching.now.row_of.items) (sym e) ∙ f.2 in cc)) ∙ u)
 
 pub returns-clause-tree : goal.returns-clause-tree
 returns-clause-tree g c =
