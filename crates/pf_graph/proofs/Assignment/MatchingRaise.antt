@@ -1,12 +1,12 @@
 -- The potentials after the tree was taken up are potentials again, for one more row.
-use Rattle.std.proofs.Common.{List, length, ◌++◌, ◌∷◌, [], ℕ, zero, suc, ◌+◌, ◌<◌, ◌≡◌, ◌≢◌, refl, sym, ◌∙◌, ap, subst, arith, Bool, true, false, inl, inr, ℤ, Option, Some, None}
+use Rattle.std.proofs.Common.{List, length, get_or, ◌++◌, ◌∷◌, [], ℕ, zero, suc, ◌+◌, ◌<◌, ◌≡◌, ◌≢◌, refl, sym, ◌∙◌, ap, subst, arith, Bool, true, false, inl, inr, ℤ, Option, Some, None}
 use Rattle.std.specs.Prelude.{◌≤ℤ◌, ◌+ℤ◌, ◌-ℤ◌, pos, neg_ℤ, slice_index, slice_set}
 use Rattle.std.proofs.lemmas.Int.{ints}
 use Rattle.std.proofs.lemmas.Bool.{cases_eq, cases_Bool}
 use Rattle.std.proofs.lemmas.List.{get_or-set_same, get_or-set_other, get_or_push, get_or_append_left}
 use Rattle.pf_graph.specs.Assignments.{number, NumberTable}
 use Rattle.pf_graph.specs.Internal.Assignment.AssignmentSteps.{holder, flag, IsMatched, IsNext, IsTreeOf, IsAlternatingTree, IsMatching, IsPotential, IsShortestPathTree, IsNearest, IsOnTree, IsFlipped, reach, raised}
-use Rattle.pf_graph.proofs.Assignment.MatchingNumbers.{below_or_last, raised_true, raised_false, number-set_same, number-set_other}
+use Rattle.pf_graph.proofs.Assignment.MatchingNumbers.{below_or_last, raised_true, raised_false, number-at, number-set_same, number-set_other}
 use Rattle.pf_graph.proofs.Assignment.AugmentingPath.{flip_ends}
 
 module _ (a : ℕ → ℕ → ℤ) (n columns : ℕ) (col : ℕ → ℕ) (held : ℕ → Option ℕ) (u v : ℕ → ℤ) (matching : IsMatching n columns col held) (potential : IsPotential a n columns col held u v) (root : u n ≡ pos 0) (count : ℕ) (rows : ℕ → ℕ) (visited : ℕ → Bool) (d : ℕ → ℤ) (place : ℕ → ℕ) (tree : IsShortestPathTree a n columns col held u v count rows visited d place) (c : ℕ) (nearest : IsNearest columns visited d c) (u' v' : ℕ → ℤ) (lowered : (i : ℕ) → i < n → u' i ≡ raised (visited (col i)) (u i) (neg_ℤ (d c -ℤ d (col i)))) (lowest : u' n ≡ neg_ℤ (d c)) (lifted : (j : ℕ) → j < columns → v' j ≡ raised (visited j) (v j) (d c -ℤ d j)) where
@@ -112,6 +112,11 @@ module _ (a : ℕ → ℕ → ℤ) (n columns : ℕ) (col : ℕ → ℕ) (held :
             )
       ];
     }
+
+-- the distance of the nearest column, as it was read
+pub nearest_number : {C : Type 0} {value : C → ℤ} {t : NumberTable} {column_of : List ℕ} {row_of : List (Option ℕ)} {us vs : List C} {rows : List ℕ} {visited : List Bool} {ds : List C} {places : List ℕ}
+    → IsTreeOf value t column_of row_of us vs rows visited ds places → (c : ℕ) → IsNearest t.columns (flag visited) (number value ds) c → (x : C) → x ≡ get_or ds c x → number value ds c ≡ value x
+nearest_number {value = value} {ds = ds} tree c nearest x e = let i = nearest.inside in let q = tree.distances_len in number-at value ds c x (omega (arith, i, q)) e
 
 module _ {C : Type 0} {value : C → ℤ} {t : NumberTable} {column_of : List ℕ} {row_of : List (Option ℕ)} {us vs : List C} (next : IsNext value t column_of row_of us vs) {rows : List ℕ} {visited : List Bool} {ds : List C} {places : List ℕ} (tree : IsTreeOf value t column_of row_of us vs rows visited ds places) where
   pub rooted_of : IsAlternatingTree (length column_of) (length row_of) (length rows) (slice_index column_of) (slice_index rows) (slice_index places)

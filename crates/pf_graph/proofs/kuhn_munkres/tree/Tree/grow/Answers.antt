@@ -1,6 +1,6 @@
 use Rattle.std.proofs.Common.{arith}
 use Rattle.pf_graph.proofs.Assignment.MatchingTree.{tree_count}
-use Rattle.pf_graph.proofs.kuhn_munkres.tree.grow.Goals as goal
+use Rattle.pf_graph.proofs.kuhn_munkres.tree.Tree.grow.Goals as goal
 
 pub returns-in_err-column-2-clause-rounds : goal.returns-in_err-column-2-clause-rounds
 returns-in_err-column-2-clause-rounds g c =

@@ -3,19 +3,16 @@ use Rattle.std.specs.Prelude.{neg_ℤ, ◌+ℤ◌, ◌-ℤ◌, slice_index, slic
 use Rattle.std.proofs.lemmas.List.{take_at}
 use Rattle.pf_graph.specs.Assignments.{number}
 use Rattle.pf_graph.specs.Internal.Assignment.AssignmentSteps.{holder, flag, raised, IsMatched, IsAlternatingTree, IsFlipped}
-use Rattle.pf_graph.proofs.Assignment.MatchingNumbers.{number-at}
 use Rattle.pf_graph.proofs.Assignment.MatchingBounds.{step_difference, step_negation, step_sum, step_rest, depth_negation}
-use Rattle.pf_graph.proofs.Assignment.MatchingRaise.{rooted_of, augment_lists}
-use Rattle.pf_graph.proofs.kuhn_munkres.matching.augment.Goals as goal
+use Rattle.pf_graph.proofs.Assignment.MatchingRaise.{nearest_number, rooted_of, augment_lists}
+use Rattle.pf_graph.proofs.kuhn_munkres.matching.Matching.augment.Goals as goal
 
 pub raise_columns-requires-clause-difference : goal.raise_columns-requires-clause-difference
 raise_columns-requires-clause-difference g c = λ j h f.
     let value = g.C.Number.value in
-    let m = c.args.matching.now in
+    let m = c.args.self.now in
     let ds = c.args.tree.now.distances.items in
-    let i = c.requires.nearest.inside in
-    let q = c.requires.tree.distances_len in
-    let depth = number-at value ds c.args.column c.index-depth.result.now (omega (arith, i, q)) c.index-depth.ensures in
+    let depth = nearest_number c.requires.tree c.args.column c.requires.nearest c.index-depth.result.now c.index-depth.ensures in
     let l = c.requires.next.matched.columns in
     let inside : j < (g.W.Weights.table c.args.weights.now).columns = omega (arith, h, ap length c.deref_mut.ensures.value, l) in
     subst (λ z. g.C.Number.fits (z -ℤ number value c.deref-2.result.now j)) depth
@@ -25,11 +22,9 @@ raise_columns-requires-clause-difference g c = λ j h f.
 pub raise_columns-requires-clause-negation : goal.raise_columns-requires-clause-negation
 raise_columns-requires-clause-negation g c = λ j h f.
     let value = g.C.Number.value in
-    let m = c.args.matching.now in
+    let m = c.args.self.now in
     let ds = c.args.tree.now.distances.items in
-    let i = c.requires.nearest.inside in
-    let q = c.requires.tree.distances_len in
-    let depth = number-at value ds c.args.column c.index-depth.result.now (omega (arith, i, q)) c.index-depth.ensures in
+    let depth = nearest_number c.requires.tree c.args.column c.requires.nearest c.index-depth.result.now c.index-depth.ensures in
     let l = c.requires.next.matched.columns in
     let inside : j < (g.W.Weights.table c.args.weights.now).columns = omega (arith, h, ap length c.deref_mut.ensures.value, l) in
     subst (λ z. g.C.Number.fits (neg_ℤ (z -ℤ number value c.deref-2.result.now j))) depth
@@ -39,11 +34,9 @@ raise_columns-requires-clause-negation g c = λ j h f.
 pub raise_columns-requires-clause-sum : goal.raise_columns-requires-clause-sum
 raise_columns-requires-clause-sum g c = λ j h f.
     let value = g.C.Number.value in
-    let m = c.args.matching.now in
+    let m = c.args.self.now in
     let ds = c.args.tree.now.distances.items in
-    let i = c.requires.nearest.inside in
-    let q = c.requires.tree.distances_len in
-    let depth = number-at value ds c.args.column c.index-depth.result.now (omega (arith, i, q)) c.index-depth.ensures in
+    let depth = nearest_number c.requires.tree c.args.column c.requires.nearest c.index-depth.result.now c.index-depth.ensures in
     let l = c.requires.next.matched.columns in
     let inside : j < (g.W.Weights.table c.args.weights.now).columns = omega (arith, h, ap length c.deref_mut.ensures.value, l) in
     subst (λ z. g.C.Number.fits (number value c.deref_mut.result.now j +ℤ (z -ℤ number value c.deref-2.result.now j))) depth
@@ -54,11 +47,9 @@ raise_columns-requires-clause-sum g c = λ j h f.
 pub lower_rows-requires-clause-difference : goal.lower_rows-requires-clause-difference
 lower_rows-requires-clause-difference g c = λ j h f.
     let value = g.C.Number.value in
-    let m = c.args.matching.now in
+    let m = c.args.self.now in
     let ds = c.args.tree.now.distances.items in
-    let i = c.requires.nearest.inside in
-    let q = c.requires.tree.distances_len in
-    let depth = number-at value ds c.args.column c.index-depth.result.now (omega (arith, i, q)) c.index-depth.ensures in
+    let depth = nearest_number c.requires.tree c.args.column c.requires.nearest c.index-depth.result.now c.index-depth.ensures in
     let l = c.requires.tree.visited_len in
     let inside : j < (g.W.Weights.table c.args.weights.now).columns = omega (arith, h, ap length c.deref-4.ensures.value, l) in
     subst (λ z. g.C.Number.fits (z -ℤ number value c.deref-5.result.now j)) depth
@@ -68,11 +59,9 @@ lower_rows-requires-clause-difference g c = λ j h f.
 pub lower_rows-requires-clause-rest : goal.lower_rows-requires-clause-rest
 lower_rows-requires-clause-rest g c =
     let value = g.C.Number.value in
-    let m = c.args.matching.now in
+    let m = c.args.self.now in
     let ds = c.args.tree.now.distances.items in
-    let i = c.requires.nearest.inside in
-    let q = c.requires.tree.distances_len in
-    let depth = number-at value ds c.args.column c.index-depth.result.now (omega (arith, i, q)) c.index-depth.ensures in
+    let depth = nearest_number c.requires.tree c.args.column c.requires.nearest c.index-depth.result.now c.index-depth.ensures in
     subst (λ cs. (i : ℕ) → i < length cs → flag c.deref-4.result.now (slice_index cs i) ≡ true → g.C.Number.fits (number value c.deref_mut-2.result.now i -ℤ (value c.index-depth.result.now -ℤ number value c.deref-5.result.now (slice_index cs i)))) (sym c.deref-3.ensures.value)
     (λ i h f. subst (λ z. g.C.Number.fits (number value c.deref_mut-2.result.now i -ℤ (z -ℤ number value c.deref-5.result.now (slice_index m.column_of.items i)))) depth
     (subst (λ xs. g.C.Number.fits (number value c.deref_mut-2.result.now i -ℤ (number value ds c.args.column -ℤ number value xs (slice_index m.column_of.items i)))) (sym c.deref-5.ensures.value)
@@ -82,16 +71,14 @@ lower_rows-requires-clause-rest g c =
 pub negated-requires : goal.negated-requires
 negated-requires g c =
     let value = g.C.Number.value in
-    let m = c.args.matching.now in
+    let m = c.args.self.now in
     let ds = c.args.tree.now.distances.items in
-    let i = c.requires.nearest.inside in
-    let q = c.requires.tree.distances_len in
-    let depth = number-at value ds c.args.column c.index-depth.result.now (omega (arith, i, q)) c.index-depth.ensures in
+    let depth = nearest_number c.requires.tree c.args.column c.requires.nearest c.index-depth.result.now c.index-depth.ensures in
     subst (λ z. g.C.Number.fits (neg_ℤ z)) depth (depth_negation g.C.Number.fits (λ x y z. g.C.Number.between_law x y z g.met.C.Integral.exact_law) c.requires.fit c.requires.shape c.requires.next c.requires.tree c.args.column c.requires.nearest)
 
 pub flip_path-left-requires-clause-rooted : goal.flip_path-left-requires-clause-rooted
 flip_path-left-requires-clause-rooted g c =
-    let m = c.args.matching.now in
+    let m = c.args.self.now in
     let r = c.args.tree.now in
     subst (λ xs. IsAlternatingTree (length xs) (length c.deref_mut-4.result.now) (length c.deref-6.result.now) (slice_index xs) (slice_index c.deref-6.result.now) (slice_index c.deref-7.result.now)) (sym c.deref_mut-3.ensures.value)
     (subst (λ xs. IsAlternatingTree (length m.column_of.items) (length xs) (length c.deref-6.result.now) (slice_index m.column_of.items) (slice_index c.deref-6.result.now) (slice_index c.deref-7.result.now)) (sym c.deref_mut-4.ensures.value)
@@ -102,11 +89,9 @@ flip_path-left-requires-clause-rooted g c =
 pub returns-clause-matched : goal.returns-clause-matched
 returns-clause-matched g c =
     let value = g.C.Number.value in
-    let m = c.args.matching.now in
+    let m = c.args.self.now in
     let ds = c.args.tree.now.distances.items in
-    let i = c.requires.nearest.inside in
-    let q = c.requires.tree.distances_len in
-    let depth = number-at value ds c.args.column c.index-depth.result.now (omega (arith, i, q)) c.index-depth.ensures in
+    let depth = nearest_number c.requires.tree c.args.column c.requires.nearest c.index-depth.result.now c.index-depth.ensures in
     let r = c.args.tree.now in
     let t = g.W.Weights.table c.args.weights.now in
     let raised_as =
