@@ -1,4 +1,4 @@
-//! Undirected graphs: components and spanning edges.
+//! Undirected graphs: components and minimum spanning forests.
 
 mod around;
 pub mod connected_components;

@@ -25,8 +25,8 @@ use std::hash::Hash;
 /// The iterator gives edges as they are written, with clones of their weights, by rising weight.
 /// They hold no cycle, and under every weight bound they join the nodes that all edges within that
 /// bound join. Which of several edges of equal weight is chosen is open. Weights need an order alone;
-/// where they are costs, no forest of the edges that joins the same nodes weighs less, by the law
-/// `least_total_weight`.
+/// where they are costs, the law `least_total_weight` gives that no forest of the edges that joins
+/// the same nodes has a lower total weight.
 ///
 /// It is refused with `UnknownVertex` exactly where a node of some edge is not below
 /// `number_of_nodes`, which is tested first, and else only with `OutOfMemory`. All memory is taken
@@ -82,8 +82,9 @@ where
 /// Equal nodes are one node. The iterator gives edges as they are written, as references to their
 /// ends with clones of their weights, by rising weight. They hold no cycle, and under every weight
 /// bound they join the nodes that all edges within that bound join. Which of several edges of equal
-/// weight is chosen is open. Weights need an order alone; where they are costs, no forest of the edges
-/// that joins the same nodes weighs less, by the law `least_total_weight`.
+/// weight is chosen is open. Weights need an order alone; where they are costs, the law
+/// `least_total_weight` gives that no forest of the edges that joins the same nodes has a lower total
+/// weight.
 ///
 /// The weight of every edge is cloned once, and edges are sorted by these clones. The only error is
 /// `OutOfMemory`. All memory is taken here: the iterator takes none.
