@@ -117,8 +117,8 @@ module _ {C : Type 0} {value : C → ℤ} {t : NumberTable} {column_of : List �
           fitting _ (omega (arith, ints, l, m, k, o)) (omega (arith, ints, l, m, k, o))
 
       module _ (i : ℕ) (own : i < length column_of) (offset : ℤ) (sum : offset ≡ number value ds c +ℤ number value us i) where
-        pub way_sum : (j : ℕ) → j < t.columns → fits (offset +ℤ number value vs j)
-        way_sum j h =
+        pub path_sum : (j : ℕ) → j < t.columns → fits (offset +ℤ number value vs j)
+        path_sum j h =
             let l = u_low i own in
             let m = u_high i own in
             let k = d_low c nearest.inside in
@@ -127,8 +127,8 @@ module _ {C : Type 0} {value : C → ℤ} {t : NumberTable} {column_of : List �
             let q = v_high j h in
             fitting _ (omega (arith, ints, l, m, k, o, p, q, sum)) (omega (arith, ints, l, m, k, o, p, q, sum))
 
-        pub way_difference : (j : ℕ) → j < t.columns → fits (offset +ℤ number value vs j -ℤ t.at i j)
-        way_difference j h =
+        pub path_difference : (j : ℕ) → j < t.columns → fits (offset +ℤ number value vs j -ℤ t.at i j)
+        path_difference j h =
             let l = u_low i own in
             let m = u_high i own in
             let k = d_low c nearest.inside in

@@ -1,15 +1,13 @@
 -- Groups around starts, and their components.
-use Rattle.std.proofs.Common.{ℕ, zero, suc, arith, ◌<◌, ◌+◌, ◌≡◌, refl, sym, ◌∙◌, ap, subst, inl, inr, ◌⊎◌, List, [], ◌∷◌, ◌++◌, Bool, true, Some, length, get_or, take, nat_eq, Vec}
-use Rattle.std.specs.Prelude.{◌↔◌, slice_get}
+use Rattle.std.proofs.Common.{ℕ, zero, suc, arith, ◌<◌, ◌+◌, ◌≡◌, refl, sym, ◌∙◌, ap, subst, inl, inr, ◌⊎◌, List, [], ◌∷◌, ◌++◌, Bool, true, length, get_or, take, Vec}
+use Rattle.std.specs.Prelude.{◌↔◌}
 use Rattle.std.specs.Cmp.{IsEquivalence}
-use Rattle.std.specs.List.{AllZip}
 use Rattle.std.specs.HashSet.{HashSet}
 use Rattle.std.proofs.lemmas.List.{take_more}
 use Rattle.indexmap.proofs.SetLemmas.{AllZip-push}
 use Rattle.pf_base.specs.Walks.{HasNode}
 use Rattle.pf_base.specs.Answers.{SameNodes}
-use Rattle.pf_graph.specs.Joined.{Joined}
-use Rattle.pf_graph.specs.Components.{InGroup, IsAround, ShareBy, AreChainedBy, AreComponentsOf, IsComponents, IsComponentsAround}
+use Rattle.pf_graph.specs.Components.{InGroup, IsAround, AreChainedBy, IsComponents, IsComponentsAround}
 use Rattle.pf_graph.specs.Internal.Components.Around.{IsGroupAround, AreGroupsAround}
 use Rattle.pf_graph.proofs.ListLemmas.{zip_get, zip_get_left}
 use Rattle.pf_graph.proofs.JoinedLemmas.{Joined-more}

@@ -4,7 +4,7 @@ use Rattle.std.proofs.lemmas.List.{get_or-set_other}
 use Rattle.pf_graph.specs.Assignments.{number}
 use Rattle.pf_graph.specs.Internal.Assignment.AssignmentSteps.{holder, flag, IsScanned, IsTreeOf}
 use Rattle.pf_graph.proofs.Assignment.MatchingNumbers.{number-at}
-use Rattle.pf_graph.proofs.Assignment.MatchingBounds.{free, unvisited, column_negation, row_negation, row_sum, way_sum, way_difference}
+use Rattle.pf_graph.proofs.Assignment.MatchingBounds.{free, unvisited, column_negation, row_negation, row_sum, path_sum, path_difference}
 use Rattle.pf_graph.proofs.Assignment.MatchingTree.{tree_of_more}
 use Rattle.pf_graph.proofs.kuhn_munkres.tree.Tree.visit.Goals as goal
 
@@ -57,7 +57,7 @@ scan-requires-clause-sum g c = λ j h f.
     let q = c.requires.tree.distances_len in
     let m = number-at value c.args.self.now.distances.items c.args.column c.index.result.now (omega (arith, i, q)) c.index.ensures in
     let sum : value c.plus-offset.result ≡ number value c.args.self.now.distances.items c.args.column +ℤ number value c.args.matching.now.row_potentials.items c.args.row = c.plus-offset.ensures ∙ ap (λ z. z +ℤ value c.index-2.result.now) (sym m) ∙ ap (λ z. number value c.args.self.now.distances.items c.args.column +ℤ z) (sym n) in
-    way_sum g.C.Number.fits (λ x y z. g.C.Number.between_law x y z g.met.C.Integral.exact_law) c.requires.fit c.requires.shape c.requires.next c.requires.tree c.args.column c.requires.nearest c.args.row o (value c.plus-offset.result) sum j h
+    path_sum g.C.Number.fits (λ x y z. g.C.Number.between_law x y z g.met.C.Integral.exact_law) c.requires.fit c.requires.shape c.requires.next c.requires.tree c.args.column c.requires.nearest c.args.row o (value c.plus-offset.result) sum j h
 
 pub scan-requires-clause-difference : goal.scan-requires-clause-difference
 scan-requires-clause-difference g c = λ j h f.
@@ -69,7 +69,7 @@ scan-requires-clause-difference g c = λ j h f.
     let q = c.requires.tree.distances_len in
     let m = number-at value c.args.self.now.distances.items c.args.column c.index.result.now (omega (arith, i, q)) c.index.ensures in
     let sum : value c.plus-offset.result ≡ number value c.args.self.now.distances.items c.args.column +ℤ number value c.args.matching.now.row_potentials.items c.args.row = c.plus-offset.ensures ∙ ap (λ z. z +ℤ value c.index-2.result.now) (sym m) ∙ ap (λ z. number value c.args.self.now.distances.items c.args.column +ℤ z) (sym n) in
-    way_difference g.C.Number.fits (λ x y z. g.C.Number.between_law x y z g.met.C.Integral.exact_law) c.requires.fit c.requires.shape c.requires.next c.requires.tree c.args.column c.requires.nearest c.args.row o (value c.plus-offset.result) sum j h
+    path_difference g.C.Number.fits (λ x y z. g.C.Number.between_law x y z g.met.C.Integral.exact_law) c.requires.fit c.requires.shape c.requires.next c.requires.tree c.args.column c.requires.nearest c.args.row o (value c.plus-offset.result) sum j h
 
 pub scan-requires-clause-left : goal.scan-requires-clause-left
 scan-requires-clause-left g c =
