@@ -9,7 +9,7 @@ use Rattle.std.proofs.lemmas.List.{get_or-map, length-map}
 use Rattle.std.proofs.lemmas.List.Elements.{Contains-get_or}
 use Rattle.std.proofs.lemmas.Bool.Decides.{nat_tests}
 use Rattle.pf_graph.specs.Spanning.{IsForest, IsLeastUnderEveryBound, AreChosenFrom, AreBelow, AreNamedApart, named}
-use Rattle.pf_graph.proofs.Renaming.{forest_named, least_named}
+use Rattle.pf_graph.proofs.Spanning.NameLemmas.{forest_named, least_named}
 use Rattle.pathfinding.specs.EdgeText.{Edge}
 use Rattle.pathfinding.specs.Internal.Links.{name_at, edge_between, edges_between}
 use Rattle.pathfinding.specs.Internal.Network.{LinksEdges}

@@ -1,18 +1,9 @@
 -- Lemmas on lists.
-use Rattle.std.proofs.Common.{ℕ, zero, suc, ◌<◌, ◌≡◌, ◌≢◌, refl, sym, ◌∙◌, ap, subst, arith, Bool, true, false, List, [], ◌∷◌, ◌++◌, length, take, replicate, ◌-◌, get_or, inl, inr, Some}
+use Rattle.std.proofs.Common.{ℕ, zero, suc, ◌<◌, ◌≡◌, ◌≢◌, refl, ◌∙◌, ap, subst, arith, List, [], ◌∷◌, ◌++◌, length, take, replicate, ◌-◌, inl, inr, Some}
 use Rattle.std.specs.List.{AllZip}
 use Rattle.std.proofs.lemmas.Option.{slice_get-get_or, slice_get_within, get_or_from_slice_get}
+use Rattle.std.proofs.lemmas.List.Elements.{Contains-append_left, Contains-append_right, Contains-append_cases}
 use Rattle.std.specs.Prelude.{slice_get, slice_set, Contains, ◌⊎◌}
-
-pub nat_dec : (j k : ℕ) → (j ≡ k) ⊎ (j ≢ k)
-nat_dec zero zero = inl refl
-nat_dec zero (suc k) = inr (omega arith)
-nat_dec (suc j) zero = inr (omega arith)
-nat_dec (suc j) (suc k) = elim (nat_dec j k) as (λ _. (suc j ≡ suc k) ⊎ (suc j ≢ suc k)) [ inl e ↦ inl (ap suc e) | inr e ↦ inr (omega (arith, e)) ]
-
-pub bool_dec : (b : Bool) → (b ≡ true) ⊎ (b ≡ false)
-bool_dec true = inl refl
-bool_dec false = inr refl
 
 pub none_in : {A : Type 0} (k : ℕ) (m : A) → slice_get [] k ≡ Some m → ⊥
 none_in zero m h = cc
@@ -53,12 +44,6 @@ get_within (x ∷ xs) (suc i) h = get_within xs i (omega arith)
 -- ---- two lists place by place
 
 module _ {A B : Type 0} (R : A → B → Type 0) where
-  pub zip_push : (xs : List A) (ys : List B) (x : A) (y : B) → AllZip R xs ys → R x y → AllZip R (xs ++ x ∷ []) (ys ++ y ∷ [])
-  zip_push [] [] x y z r = (r, z)
-  zip_push [] (b ∷ qs) x y z r = absurd z
-  zip_push (a ∷ ps) [] x y z r = absurd z
-  zip_push (a ∷ ps) (b ∷ qs) x y z r = (z.0, zip_push ps qs x y z.1 r)
-
   pub zip_get : (xs : List A) (ys : List B) (i : ℕ) (y : B) → AllZip R xs ys → slice_get ys i ≡ Some y → (x : A) × (slice_get xs i ≡ Some x) × R x y
   zip_get [] [] i y z h = absurd (none_in i y h)
   zip_get [] (b ∷ qs) i y z h = absurd z
@@ -85,12 +70,6 @@ module _ {A B : Type 0} (R : A → B → Type 0) where
   zip_split (a ∷ ps) [] y after z = ([], a, ps, refl, tt, z.0, z.1)
   zip_split (a ∷ ps) (b ∷ qs) y after z = let r = zip_split ps qs y after z.1 in (a ∷ r.0, r.1, r.2, ap (λ us. a ∷ us) r.3, (z.0, r.4), r.5, r.6)
 
-  pub zip_length : (xs : List A) (ys : List B) → AllZip R xs ys → length xs ≡ length ys
-  zip_length [] [] z = refl
-  zip_length [] (b ∷ qs) z = absurd z
-  zip_length (a ∷ ps) [] z = absurd z
-  zip_length (a ∷ ps) (b ∷ qs) z = ap suc (zip_length ps qs z.1)
-
 pub get_contains : {A : Type 0} (xs : List A) (i : ℕ) (x : A) → slice_get xs i ≡ Some x → Contains xs x
 get_contains xs i x h = (i, slice_get_within xs i x h, get_or_from_slice_get xs i x x h)
 
@@ -107,9 +86,14 @@ pub contains_cons : {A : Type 0} (x y : A) (xs : List A) → Contains (x ∷ xs)
 contains_cons x y xs (zero, l, e) = inl e
 contains_cons x y xs (suc k, l, e) = inr (k, omega (arith, l), e)
 
--- the element that is read at i
-pub get_here : {A : Type 0} (xs : List A) (i : ℕ) (x : A) → i < length xs → x ≡ get_or xs i x → slice_get xs i ≡ Some x
-get_here xs i x h e = slice_get-get_or xs i x h ∙ ap Some (sym e)
+pub contains_middle : {A : Type 0} (xs : List A) (x : A) (ys : List A) → Contains (xs ++ x ∷ ys) x
+contains_middle xs x ys = Contains-append_right xs (x ∷ ys) x (contains_here x ys)
+
+pub contains_around : {A : Type 0} (xs : List A) (x : A) (ys : List A) (y : A) → Contains (xs ++ ys) y → Contains (xs ++ x ∷ ys) y
+contains_around xs x ys y h = elim (Contains-append_cases xs ys y h) [
+  | inl c ↦ Contains-append_left xs (x ∷ ys) y c
+  | inr c ↦ Contains-append_right xs (x ∷ ys) y (contains_later x y ys c)
+]
 
 take_none : {A : Type 0} (n : ℕ) → ◌≡◌ {A = List A} (take n []) []
 take_none zero = refl

@@ -4,9 +4,10 @@ use Rattle.std.specs.Prelude.{slice_get, slice_set}
 use Rattle.std.proofs.Math.ListN.{length-set}
 use Rattle.std.proofs.lemmas.Option.{slice_get_within, same_Some}
 use Rattle.std.proofs.lemmas.Bool.Decides.{nat_tests}
+use Rattle.std.proofs.lemmas.Bool.{cases_eq}
 use Rattle.pf_graph.specs.declared.undirected.union_find.Vertex.{Vertex}
 use Rattle.pf_graph.specs.Internal.UnionFind.{parent_or, parent_of, size_of, IsRoot, root_sizes, IsSound, IsLabelling, Merges}
-use Rattle.pf_graph.proofs.ListLemmas.{nat_dec, get_set, get_push, get_within, none_in}
+use Rattle.pf_graph.proofs.ListLemmas.{get_set, get_push, get_within, none_in}
 
 -- ---- parents
 
@@ -18,80 +19,80 @@ parent_inside vs s x h = let v = get_within vs x h in subst (λ (n : ℕ). n < l
 
 -- ---- the sum of the roots' sizes
 
-abbrev part : ℕ → Vertex → ℕ
-part k v = if v.parent == k then v.size else 0
+abbrev root_size : ℕ → Vertex → ℕ
+root_size k v = if v.parent == k then v.size else 0
 
-root_sizes-set : (k : ℕ) (vs : List Vertex) (i : ℕ) (v u : Vertex) → slice_get vs i ≡ Some v → root_sizes k (slice_set vs i u) + part (k + i) v ≡ root_sizes k vs + part (k + i) u
+root_sizes-set : (k : ℕ) (vs : List Vertex) (i : ℕ) (v u : Vertex) → slice_get vs i ≡ Some v → root_sizes k (slice_set vs i u) + root_size (k + i) v ≡ root_sizes k vs + root_size (k + i) u
 root_sizes-set k [] i v u h = absurd (none_in i v h)
 root_sizes-set k (w ∷ vs) zero v u h =
     let e : w ≡ v = same_Some w v h in
-    let p : part (k + zero) v ≡ part k w = ap (λ (n : ℕ). part n v) (omega arith) ∙ ap (part k) (sym e) in
-    let q : part (k + zero) u ≡ part k u = ap (λ (n : ℕ). part n u) (omega arith) in
-    let r : part k u + root_sizes (suc k) vs + part k w ≡ part k w + root_sizes (suc k) vs + part k u = omega arith in
-    ap (λ (n : ℕ). part k u + root_sizes (suc k) vs + n) p ∙ r ∙ ap (λ (n : ℕ). part k w + root_sizes (suc k) vs + n) (sym q)
+    let p : root_size (k + zero) v ≡ root_size k w = ap (λ (n : ℕ). root_size n v) (omega arith) ∙ ap (root_size k) (sym e) in
+    let q : root_size (k + zero) u ≡ root_size k u = ap (λ (n : ℕ). root_size n u) (omega arith) in
+    let r : root_size k u + root_sizes (suc k) vs + root_size k w ≡ root_size k w + root_sizes (suc k) vs + root_size k u = omega arith in
+    ap (λ (n : ℕ). root_size k u + root_sizes (suc k) vs + n) p ∙ r ∙ ap (λ (n : ℕ). root_size k w + root_sizes (suc k) vs + n) (sym q)
 root_sizes-set k (w ∷ vs) (suc i) v u h =
     let ih = root_sizes-set (suc k) vs i v u h in
-    let p : part (k + suc i) v ≡ part (suc k + i) v = ap (λ (n : ℕ). part n v) (omega arith) in
-    let q : part (k + suc i) u ≡ part (suc k + i) u = ap (λ (n : ℕ). part n u) (omega arith) in
+    let p : root_size (k + suc i) v ≡ root_size (suc k + i) v = ap (λ (n : ℕ). root_size n v) (omega arith) in
+    let q : root_size (k + suc i) u ≡ root_size (suc k + i) u = ap (λ (n : ℕ). root_size n u) (omega arith) in
     omega (arith, ih, p, q)
 
-at_root : (k : ℕ) (v : Vertex) → v.parent ≡ k → part k v ≡ v.size
+at_root : (k : ℕ) (v : Vertex) → v.parent ≡ k → root_size k v ≡ v.size
 at_root k v e = ap (λ b. if b then v.size else 0) (eq-eqb v.parent k e)
 
-not_root : (k : ℕ) (v : Vertex) → v.parent ≢ k → part k v ≡ 0
+not_root : (k : ℕ) (v : Vertex) → v.parent ≢ k → root_size k v ≡ 0
 not_root k v n = by (v.parent == k) refl
   where
-    by : (b : Bool) → (v.parent == k) ≡ b → part k v ≡ 0
+    by : (b : Bool) → (v.parent == k) ≡ b → root_size k v ≡ 0
     by true e = absurd (n (grind (arith, nat_tests)))
     by false e = ap (λ b. if b then v.size else 0) e
 
--- a part is in the sum
-root_sizes-at : (k : ℕ) (vs : List Vertex) (i : ℕ) (v : Vertex) → slice_get vs i ≡ Some v → part (k + i) v ≤ root_sizes k vs
+-- the size of a root is in the sum
+root_sizes-at : (k : ℕ) (vs : List Vertex) (i : ℕ) (v : Vertex) → slice_get vs i ≡ Some v → root_size (k + i) v ≤ root_sizes k vs
 root_sizes-at k [] i v h = absurd (none_in i v h)
 root_sizes-at k (w ∷ vs) zero v h =
     let e : w ≡ v = same_Some w v h in
-    let p : part (k + zero) v ≡ part k w = ap (λ (n : ℕ). part n v) (omega arith) ∙ ap (part k) (sym e) in
+    let p : root_size (k + zero) v ≡ root_size k w = ap (λ (n : ℕ). root_size n v) (omega arith) ∙ ap (root_size k) (sym e) in
     omega (arith, p)
 root_sizes-at k (w ∷ vs) (suc i) v h =
     let ih = root_sizes-at (suc k) vs i v h in
-    let p : part (k + suc i) v ≡ part (suc k + i) v = ap (λ (n : ℕ). part n v) (omega arith) in
+    let p : root_size (k + suc i) v ≡ root_size (suc k + i) v = ap (λ (n : ℕ). root_size n v) (omega arith) in
     omega (arith, ih, p)
 
--- ---- parts of one vertex each
+-- ---- sets of one vertex each
 
-pub record IsApart (vs : List Vertex) : Type 0 where
+pub record AreSingletons (vs : List Vertex) : Type 0 where
   pub own : (k : ℕ) (v : Vertex) → slice_get vs k ≡ Some v → (v.parent ≡ k) × (v.size ≡ 1)
 
-pub IsApart-nil : IsApart []
-IsApart-nil = record { own = λ k v h. absurd (none_in k v h) }
+pub AreSingletons-nil : AreSingletons []
+AreSingletons-nil = record { own = λ k v h. absurd (none_in k v h) }
 
-pub IsApart-push : (vs : List Vertex) (v : Vertex) → IsApart vs → v.parent ≡ length vs → v.size ≡ 1 → IsApart (vs ++ v ∷ [])
-IsApart-push vs v a p s = record {
+pub AreSingletons-push : (vs : List Vertex) (v : Vertex) → AreSingletons vs → v.parent ≡ length vs → v.size ≡ 1 → AreSingletons (vs ++ v ∷ [])
+AreSingletons-push vs v a p s = record {
   own = λ k u h. elim (get_push vs v k u h) [
     | inl e ↦ a.own k u e
     | inr e ↦ (ap (λ (w : Vertex). w.parent) (sym e.1) ∙ p ∙ sym e.0, ap (λ (w : Vertex). w.size) (sym e.1) ∙ s)
   ];
 }
 
-apart_counted : (k : ℕ) (vs : List Vertex) → ((i : ℕ) (v : Vertex) → slice_get vs i ≡ Some v → (v.parent ≡ k + i) × (v.size ≡ 1)) → root_sizes k vs ≡ length vs
-apart_counted k [] a = refl
-apart_counted k (v ∷ vs) a =
+singletons_counted : (k : ℕ) (vs : List Vertex) → ((i : ℕ) (v : Vertex) → slice_get vs i ≡ Some v → (v.parent ≡ k + i) × (v.size ≡ 1)) → root_sizes k vs ≡ length vs
+singletons_counted k [] a = refl
+singletons_counted k (v ∷ vs) a =
     let first = a 0 v refl in
-    let here : part k v ≡ 1 = at_root k v (first.0 ∙ omega arith) ∙ first.1 in
-    let rest = apart_counted (suc k) vs (λ i u h. let r = a (suc i) u h in (r.0 ∙ omega arith, r.1)) in
+    let here : root_size k v ≡ 1 = at_root k v (first.0 ∙ omega arith) ∙ first.1 in
+    let rest = singletons_counted (suc k) vs (λ i u h. let r = a (suc i) u h in (r.0 ∙ omega arith, r.1)) in
     omega (arith, here, rest)
 
-pub IsSound-apart : (vs : List Vertex) → IsApart vs → IsSound vs
-IsSound-apart vs a = record {
+pub IsSound-singletons : (vs : List Vertex) → AreSingletons vs → IsSound vs
+IsSound-singletons vs a = record {
   inside = λ k v h. subst (λ (n : ℕ). n < length vs) (sym (a.own k v h).0) (slice_get_within vs k v h);
   positive = λ k v h. let e = (a.own k v h).1 in omega (arith, e);
   bounded = λ k v h. let e = (a.own k v h).1 in let l = slice_get_within vs k v h in omega (arith, e, l);
   rises = λ k v u h n g. absurd (n (a.own k v h).0);
-  counted = apart_counted 0 vs (λ i v h. let r = a.own i v h in (r.0 ∙ omega arith, r.1));
+  counted = singletons_counted 0 vs (λ i v h. let r = a.own i v h in (r.0 ∙ omega arith, r.1));
 }
 
-pub IsLabelling-apart : (vs : List Vertex) → IsApart vs → IsLabelling (λ x. x) vs
-IsLabelling-apart vs a = record {
+pub IsLabelling-singletons : (vs : List Vertex) → AreSingletons vs → IsLabelling (λ x. x) vs
+IsLabelling-singletons vs a = record {
   along = λ x. by x (slice_get vs x) refl;
   at_root = λ x h. refl;
 }
@@ -121,7 +122,7 @@ module _ (vs : List Vertex) (s : IsSound vs) (k : ℕ) (v u : Vertex) (at : slic
   above : (w : Vertex) → slice_get vs u.parent ≡ Some w → v.size < w.size
   above w h =
       let one = s.rises k v u at n up in
-      elim (nat_dec u.parent v.parent) [
+      elim (cases_eq u.parent v.parent) [
         | inl e ↦ let same : u ≡ w = same_Some u w (sym up ∙ ap (slice_get vs) (sym e) ∙ h) in let z : u.size ≡ w.size = ap (λ (x : Vertex). x.size) same in omega (arith, one, z)
         | inr d ↦ let two = s.rises v.parent u w up d h in omega (arith, one, two)
       ]
@@ -166,8 +167,8 @@ module _ (vs : List Vertex) (s : IsSound vs) (k : ℕ) (v u : Vertex) (at : slic
         ];
     counted =
         let r = root_sizes-set 0 vs k v (record { parent = u.parent; size = v.size }) at in
-        let a : part (0 + k) v ≡ 0 = not_root (0 + k) v (λ e. n (e ∙ omega arith)) in
-        let b : part (0 + k) (record { parent = u.parent; size = v.size }) ≡ 0 = not_root (0 + k) (record { parent = u.parent; size = v.size }) (λ e. apart_from_above (e ∙ omega arith)) in
+        let a : root_size (0 + k) v ≡ 0 = not_root (0 + k) v (λ e. n (e ∙ omega arith)) in
+        let b : root_size (0 + k) (record { parent = u.parent; size = v.size }) ≡ 0 = not_root (0 + k) (record { parent = u.parent; size = v.size }) (λ e. apart_from_above (e ∙ omega arith)) in
         let l = led_length in
         let q = s.counted in
         omega (arith, r, a, b, l, q);
@@ -267,21 +268,21 @@ module _ (vs : List Vertex) (s : IsSound vs) (a b : ℕ) (va vb : Vertex) (at_a 
   lowered_sizes : root_sizes 0 lowered + vb.size ≡ length vs
   lowered_sizes =
       let r = root_sizes-set 0 vs b vb low at_b in
-      let p : part (0 + b) vb ≡ vb.size = at_root (0 + b) vb (own_b ∙ omega arith) in
-      let q : part (0 + b) low ≡ 0 = not_root (0 + b) low (λ e. n (e ∙ omega arith)) in
+      let p : root_size (0 + b) vb ≡ vb.size = at_root (0 + b) vb (own_b ∙ omega arith) in
+      let q : root_size (0 + b) low ≡ 0 = not_root (0 + b) low (λ e. n (e ∙ omega arith)) in
       omega (arith, r, p, q, s.counted)
 
   pub both_fit : va.size + vb.size ≤ length vs
   both_fit =
       let r = root_sizes-at 0 lowered a va lowered_a in
-      let p : part (0 + a) va ≡ va.size = at_root (0 + a) va (own_a ∙ omega arith) in
+      let p : root_size (0 + a) va ≡ va.size = at_root (0 + a) va (own_a ∙ omega arith) in
       omega (arith, r, p, lowered_sizes)
 
   joined_counted : root_sizes 0 joined ≡ length joined
   joined_counted =
       let r = root_sizes-set 0 lowered a va high lowered_a in
-      let p : part (0 + a) va ≡ va.size = at_root (0 + a) va (own_a ∙ omega arith) in
-      let q : part (0 + a) high ≡ va.size + vb.size = at_root (0 + a) high (own_a ∙ omega arith) in
+      let p : root_size (0 + a) va ≡ va.size = at_root (0 + a) va (own_a ∙ omega arith) in
+      let q : root_size (0 + a) high ≡ va.size + vb.size = at_root (0 + a) high (own_a ∙ omega arith) in
       omega (arith, r, p, q, lowered_sizes, joined_length)
 
   -- what stands at a number, with its old size
@@ -376,12 +377,12 @@ module _ (vs : List Vertex) (s : IsSound vs) (a b : ℕ) (va vb : Vertex) (at_a 
 
     pub Merges-joined : Merges label a b label_joined
     Merges-joined x y = (
-      λ h. elim (nat_dec (label x) b) [
-        | inl ex ↦ elim (nat_dec (label y) b) [
+      λ h. elim (cases_eq (label x) b) [
+        | inl ex ↦ elim (cases_eq (label y) b) [
           | inl ey ↦ inl (ex ∙ sym ey)
           | inr dy ↦ inr (inr (ex ∙ sym (l.at_root b root_b), sym (not_b y dy) ∙ sym h ∙ is_b x ex ∙ sym (l.at_root a root_a)))
         ]
-        | inr dx ↦ elim (nat_dec (label y) b) [
+        | inr dx ↦ elim (cases_eq (label y) b) [
           | inl ey ↦ inr (inl (sym (not_b x dx) ∙ h ∙ is_b y ey ∙ sym (l.at_root a root_a), ey ∙ sym (l.at_root b root_b)))
           | inr dy ↦ inl (sym (not_b x dx) ∙ h ∙ not_b y dy)
         ]
@@ -393,7 +394,7 @@ module _ (vs : List Vertex) (s : IsSound vs) (a b : ℕ) (va vb : Vertex) (at_a 
       ],
     )
 
--- ---- the parts of a and b are those of vertices with their labels
+-- ---- the sets of a and b are those of vertices with their labels
 
 pub Merges-at : (label : ℕ → ℕ) (a b p q : ℕ) (after : ℕ → ℕ) → label p ≡ label a → label q ≡ label b → Merges label p q after → Merges label a b after
 Merges-at label a b p q after e f m = λ x y. (

@@ -1,7 +1,5 @@
 pub mod UnionFind
 pub mod NumberedEdges
-pub mod SpanningSteps
-pub mod Around
-pub mod Parts
-pub mod Frontier
-pub mod AssignmentSteps
+pub mod Spanning
+pub mod Components
+pub mod Assignment

@@ -1,6 +1,6 @@
 pub mod Joined
 pub mod Spanning
-pub mod Numbered
+pub mod EdgesByReference
 pub mod Components
 pub mod GrownTree
 pub mod Assignments

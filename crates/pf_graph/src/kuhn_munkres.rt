@@ -10,7 +10,7 @@ mod totals;
 mod tree;
 mod weights;
 
-use crate::kuhn_munkres::matching::{Matching, match_row};
+use crate::kuhn_munkres::matching::Matching;
 use crate::kuhn_munkres::totals::total_of;
 use crate::kuhn_munkres::tree::Tree;
 pub use crate::kuhn_munkres::weights::{Weights, weights_fit};
@@ -44,7 +44,7 @@ where
     let mut matching = Matching::new(alloc, columns)?;
     let mut tree = Tree::new(alloc, columns)?;
     for _row in 0..weights.rows() {
-        match_row(weights, &mut matching, &mut tree, tally)?;
+        matching.match_row(weights, &mut tree, tally)?;
     }
     let total = total_of(weights, &matching.column_of);
     Ok((total, matching.column_of))

@@ -1,4 +1,4 @@
-//! Components and spanning edges of undirected graphs, and best assignments.
+//! Components and minimum spanning forests of undirected graphs, and best assignments.
 #![tactic(auto)]
 
 pub mod kuhn_munkres;

@@ -1,15 +1,15 @@
-//! Undirected graphs: components and spanning edges.
+//! Undirected graphs: components and minimum spanning forests.
 
 mod around;
 pub mod connected_components;
+mod disjoint_sets;
 mod exact_sum;
 mod frontier;
 pub mod kruskal;
 pub mod laws;
+mod node_sets;
 mod numbered;
-mod parts;
 pub mod prim;
-mod sets;
 mod spanning;
 mod spanning_edges;
 mod steps;

@@ -3,7 +3,7 @@
 ghost use Rattle.std.specs.Prelude.{◌≡◌, ◌≤ℤ◌, ℕ, pos, List, IfOk, map, nat_eq};
 ghost use Rattle.std.specs.Ordering.{nat_cmp};
 ghost use Rattle.pf_graph.specs.GrownTree.{StartsAt};
-ghost use Rattle.pf_graph.specs.Numbered.{shown};
+ghost use Rattle.pf_graph.specs.EdgesByReference.{shown};
 ghost use Rattle.pf_graph.specs.Spanning.{IsForest, IsLeastUnderEveryBound, AreChosenFrom, JoinTheSame, weight_sum};
 
 use pf_base::PathError;

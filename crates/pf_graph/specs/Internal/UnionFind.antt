@@ -1,4 +1,4 @@
--- Disjoint parts of numbered vertices, each part a tree of parents.
+-- Disjoint sets of numbered vertices, each set a tree of parents.
 use Rattle.std.specs.Prelude.{◌≡◌, ◌≢◌, ◌⊎◌, ◌↔◌, ◌<◌, ◌≤◌, ◌+◌, ◌==◌, ℕ, suc, List, [], ◌∷◌, Option, Some, None, length, slice_get, if◌then◌else◌}
 use Rattle.pf_graph.specs.declared.undirected.union_find.Vertex.{Vertex}
 

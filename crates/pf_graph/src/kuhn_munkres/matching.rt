@@ -3,10 +3,10 @@
 ghost use Rattle.std.specs.Prelude.{◌≡◌, ◌≢◌, ◌≤◌, ◌<◌, ◌+◌, ◌+ℤ◌, ◌-ℤ◌, ℕ, pos, neg_ℤ, true, None, OnOk, IfOk, IfErr, length, slice_index};
 ghost use Rattle.pf_base.specs.declared.error.PathError.TheVariants.{OutOfMemory};
 ghost use Rattle.pf_graph.specs.Assignments.{number, NumberTable, WeightsFit};
-ghost use Rattle.pf_graph.specs.Internal.AssignmentSteps.{holder, flag, raised, IsMatching, IsMatched, IsNext, IsTreeOf, IsNearest, IsRooted, IsTurned};
+ghost use Rattle.pf_graph.specs.Internal.Assignment.AssignmentSteps.{holder, flag, raised, IsMatching, IsMatched, IsNext, IsTreeOf, IsNearest, IsAlternatingTree, IsFlipped};
 
 use crate::kuhn_munkres::numbers::plus;
-use crate::kuhn_munkres::tree::{Tree, grow};
+use crate::kuhn_munkres::tree::Tree;
 use crate::kuhn_munkres::weights::Weights;
 use pf_base::utils::Tally;
 use pf_base::{PathError, SignedCost};
@@ -48,6 +48,81 @@ impl<C: SignedCost, A: Allocator + Copy> Matching<C, A> {
             row_potentials: Vec::new(alloc),
             column_potentials,
         })
+    }
+    /// Raises and lowers the potentials along the tree whose nearest column is this free one, and
+    /// augments the matching along the path to it, so that the root of the tree, the next row, is matched.
+    fn augment<W>(&mut self, weights: &W, tree: &Tree<C, A>, column: usize) -> Result<(), PathError>
+    where
+        W: Weights<C>,
+        requires shape { (W.table weights.now).rows ≤ (W.table weights.now).columns }
+        requires fit { WeightsFit C.fits (W.table weights.now) }
+        requires next { IsNext C.value (W.table weights.now) self.old.column_of.items self.old.row_of.items self.old.row_potentials.items self.old.column_potentials.items }
+        requires tree { IsTreeOf C.value (W.table weights.now) self.old.column_of.items self.old.row_of.items self.old.row_potentials.items self.old.column_potentials.items tree.now.rows.items tree.now.visited.items tree.now.distances.items tree.now.places.items }
+        requires nearest { IsNearest (W.table weights.now).columns (flag tree.now.visited.items) (number C.value tree.now.distances.items) column }
+        requires free { holder self.old.row_of.items column ≡ None }
+        ensures matched { OnOk result (IsMatched C.value (W.table weights.now) self.new.column_of.items self.new.row_of.items self.new.row_potentials.items self.new.column_potentials.items) }
+        ensures rows { OnOk result (length self.new.column_of.items ≡ length self.old.column_of.items + 1) }
+        ensures row_potentials { OnOk result (length self.new.row_potentials.items ≡ length self.old.row_potentials.items) }
+        ensures refused { IfErr result (λ e. e ≡ OutOfMemory) }
+    {
+        let depth = tree.distances[column];
+        raise_columns(
+            &mut self.column_potentials,
+            &tree.visited,
+            &tree.distances,
+            depth,
+        );
+        lower_rows(
+            &mut self.row_potentials,
+            &self.column_of,
+            &tree.visited,
+            &tree.distances,
+            depth,
+        );
+        let root = self.column_of.len();
+        self.row_potentials[root] = depth.negated();
+        let left = flip_path(
+            &mut self.column_of,
+            &mut self.row_of,
+            &tree.rows,
+            &tree.places,
+            column,
+        );
+        self.row_of[left] = Some(root);
+        self.column_of.push(left)?;
+        Ok(())
+    }
+
+    /// Matches the next row, with at most a tick for each row up to it.
+    pub fn match_row<W>(
+        &mut self,
+        weights: &W,
+        tree: &mut Tree<C, A>,
+        tally: &mut Tally,
+    ) -> Result<(), PathError>
+    where
+        W: Weights<C>,
+        requires shape { (W.table weights.now).rows ≤ (W.table weights.now).columns }
+        requires fit { WeightsFit C.fits (W.table weights.now) }
+        requires matched { IsMatched C.value (W.table weights.now) self.old.column_of.items self.old.row_of.items self.old.row_potentials.items self.old.column_potentials.items }
+        requires left { length self.old.column_of.items < (W.table weights.now).rows }
+        requires row_potentials { length self.old.row_potentials.items ≡ length self.old.column_of.items }
+        requires visited { length tree.old.visited.items ≡ (W.table weights.now).columns }
+        requires distances { length tree.old.distances.items ≡ (W.table weights.now).columns }
+        requires places { length tree.old.places.items ≡ (W.table weights.now).columns }
+        ensures matched { OnOk result (IsMatched C.value (W.table weights.now) self.new.column_of.items self.new.row_of.items self.new.row_potentials.items self.new.column_potentials.items) }
+        ensures rows { OnOk result (length self.new.column_of.items ≡ length self.old.column_of.items + 1) }
+        ensures row_potentials { OnOk result (length self.new.row_potentials.items ≡ length self.new.column_of.items) }
+        ensures visited { length tree.new.visited.items ≡ (W.table weights.now).columns }
+        ensures distances { length tree.new.distances.items ≡ (W.table weights.now).columns }
+        ensures places { length tree.new.places.items ≡ (W.table weights.now).columns }
+        ensures refused { IfErr result (λ e. e ≡ OutOfMemory) }
+        ensures ticked { tally.old ≤ tally.new }
+        ensures rounds { tally.new ≤ tally.old + (W.table weights.now).rows }
+    {
+        self.row_potentials.push(C::zero())?;
+        let column = tree.grow(weights, self, tally)?;
+        self.augment(weights, tree, column)
     }
 }
 
@@ -94,9 +169,9 @@ fn lower_rows<C: SignedCost>(
     }
 }
 
-/// Matches the rows on the way back from a column to the columns from which they were reached, and
-/// answers the column that is left for the root.
-fn turn(
+/// Flips the augmenting path that ends at a column: each row on it but the root is matched to the
+/// column that follows it, and the column that follows the root is answered.
+fn flip_path(
     column_of: &mut [usize],
     row_of: &mut [Option<usize>],
     rows: &[usize],
@@ -104,11 +179,11 @@ fn turn(
     column: usize,
 ) -> usize
     requires matching { IsMatching (length column_of.old) (length row_of.old) (slice_index column_of.old) (holder row_of.old) }
-    requires rooted { IsRooted (length column_of.old) (length row_of.old) (length rows.now) (slice_index column_of.old) (slice_index rows.now) (slice_index places.now) }
+    requires rooted { IsAlternatingTree (length column_of.old) (length row_of.old) (length rows.now) (slice_index column_of.old) (slice_index rows.now) (slice_index places.now) }
     requires places { length places.now ≡ length row_of.old }
     requires inside { column < length row_of.old }
     requires free { holder row_of.old column ≡ None }
-    ensures turned { IsTurned (length column_of.old) (length row_of.old) (length rows.now) column (slice_index column_of.old) (holder row_of.old) (slice_index rows.now) (slice_index places.now) (slice_index column_of.new) (holder row_of.new) result }
+    ensures flipped { IsFlipped (length column_of.old) (length row_of.old) (length rows.now) column (slice_index column_of.old) (holder row_of.old) (slice_index rows.now) (slice_index places.now) (slice_index column_of.new) (holder row_of.new) result }
     ensures root { slice_index places.now result ≡ 0 }
 {
     let mut column = column;
@@ -122,97 +197,4 @@ fn turn(
         place = places[column];
     }
     column
-}
-
-/// Raises and lowers the potentials along the tree whose nearest column is this free one, and
-/// matches the root of the tree, the next row.
-fn augment<C, W, A>(
-    weights: &W,
-    matching: &mut Matching<C, A>,
-    tree: &Tree<C, A>,
-    column: usize,
-) -> Result<(), PathError>
-where
-    C: SignedCost,
-    W: Weights<C>,
-    A: Allocator + Copy,
-    requires shape { (W.table weights.now).rows ≤ (W.table weights.now).columns }
-    requires fit { WeightsFit C.fits (W.table weights.now) }
-    requires next { IsNext C.value (W.table weights.now) matching.old.column_of.items matching.old.row_of.items matching.old.row_potentials.items matching.old.column_potentials.items }
-    requires tree { IsTreeOf C.value (W.table weights.now) matching.old.column_of.items matching.old.row_of.items matching.old.row_potentials.items matching.old.column_potentials.items tree.now.rows.items tree.now.visited.items tree.now.distances.items tree.now.places.items }
-    requires nearest { IsNearest (W.table weights.now).columns (flag tree.now.visited.items) (number C.value tree.now.distances.items) column }
-    requires free { holder matching.old.row_of.items column ≡ None }
-    ensures matched { OnOk result (IsMatched C.value (W.table weights.now) matching.new.column_of.items matching.new.row_of.items matching.new.row_potentials.items matching.new.column_potentials.items) }
-    ensures rows { OnOk result (length matching.new.column_of.items ≡ length matching.old.column_of.items + 1) }
-    ensures row_potentials { OnOk result (length matching.new.row_potentials.items ≡ length matching.old.row_potentials.items) }
-    ensures refused { IfErr result (λ e. e ≡ OutOfMemory) }
-{
-    let depth = tree.distances[column];
-    raise_columns(
-        &mut matching.column_potentials,
-        &tree.visited,
-        &tree.distances,
-        depth,
-    );
-    lower_rows(
-        &mut matching.row_potentials,
-        &matching.column_of,
-        &tree.visited,
-        &tree.distances,
-        depth,
-    );
-    let root = matching.column_of.len();
-    matching.row_potentials[root] = depth.negated();
-    let left = turn(
-        &mut matching.column_of,
-        &mut matching.row_of,
-        &tree.rows,
-        &tree.places,
-        column,
-    );
-    matching.row_of[left] = Some(root);
-    matching.column_of.push(left)?;
-    Ok(())
-}
-
-/// Matches the next row, with at most a tick for each row up to it.
-pub fn match_row<C, W, A>(
-    weights: &W,
-    matching: &mut Matching<C, A>,
-    tree: &mut Tree<C, A>,
-    tally: &mut Tally,
-) -> Result<(), PathError>
-where
-    C: SignedCost,
-    W: Weights<C>,
-    A: Allocator + Copy,
-    requires shape { (W.table weights.now).rows ≤ (W.table weights.now).columns }
-    requires fit { WeightsFit C.fits (W.table weights.now) }
-    requires matched { IsMatched C.value (W.table weights.now) matching.old.column_of.items matching.old.row_of.items matching.old.row_potentials.items matching.old.column_potentials.items }
-    requires left { length matching.old.column_of.items < (W.table weights.now).rows }
-    requires row_potentials { length matching.old.row_potentials.items ≡ length matching.old.column_of.items }
-    requires visited { length tree.old.visited.items ≡ (W.table weights.now).columns }
-    requires distances { length tree.old.distances.items ≡ (W.table weights.now).columns }
-    requires places { length tree.old.places.items ≡ (W.table weights.now).columns }
-    ensures matched { OnOk result (IsMatched C.value (W.table weights.now) matching.new.column_of.items matching.new.row_of.items matching.new.row_potentials.items matching.new.column_potentials.items) }
-    ensures rows { OnOk result (length matching.new.column_of.items ≡ length matching.old.column_of.items + 1) }
-    ensures row_potentials { OnOk result (length matching.new.row_potentials.items ≡ length matching.new.column_of.items) }
-    ensures visited { length tree.new.visited.items ≡ (W.table weights.now).columns }
-    ensures distances { length tree.new.distances.items ≡ (W.table weights.now).columns }
-    ensures places { length tree.new.places.items ≡ (W.table weights.now).columns }
-    ensures refused { IfErr result (λ e. e ≡ OutOfMemory) }
-    ensures ticked { tally.old ≤ tally.new }
-    ensures rounds { tally.new ≤ tally.old + (W.table weights.now).rows }
-{
-    matching.row_potentials.push(C::zero())?;
-    let column = grow(
-        weights,
-        matching,
-        &mut tree.rows,
-        &mut tree.visited,
-        &mut tree.distances,
-        &mut tree.places,
-        tally,
-    )?;
-    augment(weights, matching, tree, column)
 }

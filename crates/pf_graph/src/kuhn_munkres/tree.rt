@@ -1,9 +1,9 @@
-//! The tree of shortest ways from the row that is matched next.
+//! The tree of shortest augmenting paths from the row that is matched next.
 
 ghost use Rattle.std.specs.Prelude.{◌≡◌, ◌≤◌, ◌<◌, ◌+◌, ◌+ℤ◌, ◌-ℤ◌, ◌≤ℤ◌, ◌≢◌, ◌⊎◌, ℕ, ℤ, pos, neg_ℤ, true, false, Some, None, IfOk, OnOk, IfErr, MatchBool, MatchOption, length, slice_index};
 ghost use Rattle.pf_base.specs.declared.error.PathError.TheVariants.{OutOfMemory};
 ghost use Rattle.pf_graph.specs.Assignments.{number, NumberTable, WeightsFit};
-ghost use Rattle.pf_graph.specs.Internal.AssignmentSteps.{holder, flag, IsNext, IsTreeOf, IsNearest, IsRelaxed, IsScanned, IsFresh};
+ghost use Rattle.pf_graph.specs.Internal.Assignment.AssignmentSteps.{holder, flag, IsNext, IsTreeOf, IsNearest, IsRelaxed, IsScanned, IsFresh};
 
 use crate::kuhn_munkres::matching::Matching;
 use crate::kuhn_munkres::numbers::{is_below, plus};
@@ -12,19 +12,20 @@ use pf_base::utils::Tally;
 use pf_base::{PathError, SignedCost};
 use std::alloc::Allocator;
 
-/// Shortest ways from the row that is matched next, its root, to all columns.
+/// Shortest alternating paths from the row that is matched next, its root, to all columns.
 ///
-/// A way goes from a row to a column that it is not matched to, and from a column to the row that it
-/// is matched to. A column is visited once no way to it can get shorter.
+/// Such a path goes from a row to a column that it is not matched to, and from a column to the row
+/// that it is matched to. It is an augmenting path where its last column has no row. A column is
+/// visited once no path to it can get shorter.
 #[derive(Drop)]
 pub struct Tree<C, A: Allocator> {
     /// The rows of the tree in the order in which they came in, the root first.
     pub rows: Vec<usize, A>,
     /// Whether a column was visited, and so its row is in the tree.
     pub visited: Vec<bool, A>,
-    /// How far each column is from the root by way of a row of the tree.
+    /// The length of the shortest path to each column over rows of the tree.
     pub distances: Vec<C, A>,
-    /// The place in `rows` of the row by way of which a column is that near.
+    /// The place in `rows` of the last row on that path.
     pub places: Vec<usize, A>,
 }
 
@@ -49,252 +50,211 @@ impl<C: SignedCost, A: Allocator + Copy> Tree<C, A> {
             places,
         })
     }
-}
-
-/// Makes all columns unvisited and as far as can be.
-fn clear<C: SignedCost>(visited: &mut [bool], distances: &mut [C], places: &mut [usize])
-    requires distances { length distances.old ≡ length visited.old }
-    requires places { length places.old ≡ length visited.old }
-    ensures { IsFresh (C.value C.greatest) (length visited.old) (flag visited.new) (number C.value distances.new) (slice_index places.new) }
-{
-    for column in 0..visited.len() {
-        visited[column] = false;
-        distances[column] = C::greatest();
-        places[column] = 0;
+    /// Makes all columns unvisited and as far as can be.
+    fn clear(&mut self)
+        requires distances { length self.old.distances.items ≡ length self.old.visited.items }
+        requires places { length self.old.places.items ≡ length self.old.visited.items }
+        ensures fresh { IsFresh (C.value C.greatest) (length self.old.visited.items) (flag self.new.visited.items) (number C.value self.new.distances.items) (slice_index self.new.places.items) }
+        ensures rows { self.new.rows.items ≡ self.old.rows.items }
+        ensures visited { length self.new.visited.items ≡ length self.old.visited.items }
+        ensures distances { length self.new.distances.items ≡ length self.old.distances.items }
+        ensures places { length self.new.places.items ≡ length self.old.places.items }
+    {
+        for column in 0..self.visited.len() {
+            self.visited[column] = false;
+            self.distances[column] = C::greatest();
+            self.places[column] = 0;
+        }
     }
-}
 
-/// Is the first column to be visited before the second? At one distance a column that no row has
-/// comes first, since it ends the search.
-fn is_nearer<C: SignedCost>(
-    row_of: &[Option<usize>],
-    distances: &[C],
-    column: usize,
-    other: usize,
-) -> bool
-    requires first { column < length distances.now }
-    requires second { other < length distances.now }
-    requires wide { length row_of.now ≡ length distances.now }
-    ensures { MatchBool result (number C.value distances.now column ≤ℤ number C.value distances.now other) (number C.value distances.now other ≤ℤ number C.value distances.now column) }
-{
-    let here = distances[column];
-    let there = distances[other];
-    if is_below(here, there) {
-        true
-    } else if is_below(there, here) {
-        false
-    } else {
-        row_of[column].is_none()
+    /// Is the first column to be visited before the second? At one distance a column that no row has
+    /// comes first, since it ends the search.
+    fn is_nearer(&self, row_of: &[Option<usize>], column: usize, other: usize) -> bool
+        requires first { column < length self.now.distances.items }
+        requires second { other < length self.now.distances.items }
+        requires wide { length row_of.now ≡ length self.now.distances.items }
+        ensures { MatchBool result (number C.value self.now.distances.items column ≤ℤ number C.value self.now.distances.items other) (number C.value self.now.distances.items other ≤ℤ number C.value self.now.distances.items column) }
+    {
+        let here = self.distances[column];
+        let there = self.distances[other];
+        if is_below(here, there) {
+            true
+        } else if is_below(there, here) {
+            false
+        } else {
+            row_of[column].is_none()
+        }
     }
-}
 
-/// The one of two columns that is to be visited first, or the column where there is no other.
-fn nearer<C: SignedCost>(
-    row_of: &[Option<usize>],
-    distances: &[C],
-    nearest: Option<usize>,
-    column: usize,
-) -> usize
-    requires inside { column < length distances.now }
-    requires other { (n : ℕ) → nearest ≡ Some n → n < length distances.now }
-    requires wide { length row_of.now ≡ length distances.now }
-    ensures one { (result ≡ column) ⊎ (nearest ≡ Some result) }
-    ensures here { number C.value distances.now result ≤ℤ number C.value distances.now column }
-    ensures before { (n : ℕ) → nearest ≡ Some n → number C.value distances.now result ≤ℤ number C.value distances.now n }
-{
-    match nearest {
-        Some(other) => {
-            if is_nearer(row_of, distances, column, other) {
-                column
-            } else {
-                other
+    /// The one of two columns that is to be visited first, or the column where there is no other.
+    fn nearer(&self, row_of: &[Option<usize>], nearest: Option<usize>, column: usize) -> usize
+        requires inside { column < length self.now.distances.items }
+        requires other { (n : ℕ) → nearest ≡ Some n → n < length self.now.distances.items }
+        requires wide { length row_of.now ≡ length self.now.distances.items }
+        ensures one { (result ≡ column) ⊎ (nearest ≡ Some result) }
+        ensures here { number C.value self.now.distances.items result ≤ℤ number C.value self.now.distances.items column }
+        ensures before { (n : ℕ) → nearest ≡ Some n → number C.value self.now.distances.items result ≤ℤ number C.value self.now.distances.items n }
+    {
+        match nearest {
+            Some(other) => {
+                if self.is_nearer(row_of, column, other) {
+                    column
+                } else {
+                    other
+                }
+            }
+            None => column,
+        }
+    }
+
+    /// Brings the distance of a column up to date with the path over the row at `place`.
+    fn relax(&mut self, column: usize, through: C, place: usize)
+        requires distance { column < length self.old.distances.items }
+        requires before { column < length self.old.places.items }
+        ensures here { IsRelaxed false (C.value through) place (number C.value self.old.distances.items column) (slice_index self.old.places.items column) (number C.value self.new.distances.items column) (slice_index self.new.places.items column) }
+        ensures distances { (j : ℕ) → j ≢ column → number C.value self.new.distances.items j ≡ number C.value self.old.distances.items j }
+        ensures places { (j : ℕ) → j ≢ column → slice_index self.new.places.items j ≡ slice_index self.old.places.items j }
+        ensures distances_len { length self.new.distances.items ≡ length self.old.distances.items }
+        ensures places_len { length self.new.places.items ≡ length self.old.places.items }
+        ensures rows { self.new.rows.items ≡ self.old.rows.items }
+        ensures visited { self.new.visited.items ≡ self.old.visited.items }
+    {
+        if is_below(through, self.distances[column]) {
+            self.distances[column] = through;
+            self.places[column] = place;
+        }
+    }
+
+    /// Brings the distances of all columns that were not visited up to date with the paths over one
+    /// more row, at `place` among the rows of the tree, and answers the nearest of them. The sum of
+    /// the row's distance and its potential is `offset`.
+    fn scan<W>(
+        &mut self,
+        weights: &W,
+        matching: &Matching<C, A>,
+        row: usize,
+        place: usize,
+        offset: C,
+    ) -> usize
+    where
+        W: Weights<C>,
+        requires row { row < (W.table weights.now).rows }
+        requires row_of { length matching.now.row_of.items ≡ (W.table weights.now).columns }
+        requires potentials { length matching.now.column_potentials.items ≡ (W.table weights.now).columns }
+        requires visited { length self.old.visited.items ≡ (W.table weights.now).columns }
+        requires distances { length self.old.distances.items ≡ (W.table weights.now).columns }
+        requires places { length self.old.places.items ≡ (W.table weights.now).columns }
+        requires negation { (j : ℕ) → j < (W.table weights.now).columns → flag self.old.visited.items j ≡ false → C.fits (neg_ℤ (number C.value matching.now.column_potentials.items j)) }
+        requires sum { (j : ℕ) → j < (W.table weights.now).columns → flag self.old.visited.items j ≡ false → C.fits (C.value offset +ℤ number C.value matching.now.column_potentials.items j) }
+        requires difference { (j : ℕ) → j < (W.table weights.now).columns → flag self.old.visited.items j ≡ false → C.fits (C.value offset +ℤ number C.value matching.now.column_potentials.items j -ℤ (W.table weights.now).at row j) }
+        requires left { (j : ℕ) × (j < (W.table weights.now).columns) × (flag self.old.visited.items j ≡ false) }
+        ensures scanned { IsScanned (W.table weights.now).at (W.table weights.now).columns row place (C.value offset) (number C.value matching.now.column_potentials.items) (flag self.old.visited.items) (number C.value self.old.distances.items) (slice_index self.old.places.items) (number C.value self.new.distances.items) (slice_index self.new.places.items) }
+        ensures nearest { IsNearest (W.table weights.now).columns (flag self.new.visited.items) (number C.value self.new.distances.items) result }
+        ensures rows { self.new.rows.items ≡ self.old.rows.items }
+        ensures visited { self.new.visited.items ≡ self.old.visited.items }
+        ensures distances { length self.new.distances.items ≡ length self.old.distances.items }
+        ensures places { length self.new.places.items ≡ length self.old.places.items }
+    {
+        let mut nearest = None;
+        for column in 0..weights.columns() {
+            if !self.visited[column] {
+                let bound = plus(offset, matching.column_potentials[column]);
+                let through = bound.minus(weights.at(row, column));
+                self.relax(column, through, place);
+                nearest = Some(self.nearer(&matching.row_of, nearest, column));
             }
         }
-        None => column,
+        nearest.unwrap()
     }
-}
 
-/// Brings the distance of a column up to date with a way by the row at `place`.
-fn relax<C: SignedCost>(
-    distances: &mut [C],
-    places: &mut [usize],
-    column: usize,
-    through: C,
-    place: usize,
-)
-    requires distance { column < length distances.old }
-    requires before { column < length places.old }
-    ensures here { IsRelaxed false (C.value through) place (number C.value distances.old column) (slice_index places.old column) (number C.value distances.new column) (slice_index places.new column) }
-    ensures distances { (j : ℕ) → j ≢ column → number C.value distances.new j ≡ number C.value distances.old j }
-    ensures places { (j : ℕ) → j ≢ column → slice_index places.new j ≡ slice_index places.old j }
-{
-    if is_below(through, distances[column]) {
-        distances[column] = through;
-        places[column] = place;
+    /// Makes a tree of the next row alone, and answers the column to be visited first.
+    fn begin<W>(&mut self, weights: &W, matching: &Matching<C, A>) -> Result<usize, PathError>
+    where
+        W: Weights<C>,
+        requires shape { (W.table weights.now).rows ≤ (W.table weights.now).columns }
+        requires fit { WeightsFit C.fits (W.table weights.now) }
+        requires next { IsNext C.value (W.table weights.now) matching.now.column_of.items matching.now.row_of.items matching.now.row_potentials.items matching.now.column_potentials.items }
+        requires visited { length self.old.visited.items ≡ (W.table weights.now).columns }
+        requires distances { length self.old.distances.items ≡ (W.table weights.now).columns }
+        requires places { length self.old.places.items ≡ (W.table weights.now).columns }
+        ensures tree { OnOk result (IsTreeOf C.value (W.table weights.now) matching.now.column_of.items matching.now.row_of.items matching.now.row_potentials.items matching.now.column_potentials.items self.new.rows.items self.new.visited.items self.new.distances.items self.new.places.items) }
+        ensures one { OnOk result (length self.new.rows.items ≡ 1) }
+        ensures nearest { IfOk result (IsNearest (W.table weights.now).columns (flag self.new.visited.items) (number C.value self.new.distances.items)) }
+        ensures visited { length self.new.visited.items ≡ length self.old.visited.items }
+        ensures distances { length self.new.distances.items ≡ length self.old.distances.items }
+        ensures places { length self.new.places.items ≡ length self.old.places.items }
+        ensures refused { IfErr result (λ e. e ≡ OutOfMemory) }
+    {
+        let root = matching.column_of.len();
+        self.rows.clear();
+        self.rows.push(root)?;
+        self.clear();
+        Ok(self.scan(weights, matching, root, 0, C::zero()))
     }
-}
 
-/// Brings the distances of all columns that were not visited up to date with the ways by one more
-/// row, at `place` among the rows of the tree, and answers the nearest of them. The sum of the row's
-/// distance and its potential is `offset`.
-fn scan<C, W>(
-    weights: &W,
-    row: usize,
-    place: usize,
-    offset: C,
-    row_of: &[Option<usize>],
-    potentials: &[C],
-    visited: &[bool],
-    distances: &mut [C],
-    places: &mut [usize],
-) -> usize
-where
-    C: SignedCost,
-    W: Weights<C>,
-    requires row { row < (W.table weights.now).rows }
-    requires row_of { length row_of.now ≡ (W.table weights.now).columns }
-    requires potentials { length potentials.now ≡ (W.table weights.now).columns }
-    requires visited { length visited.now ≡ (W.table weights.now).columns }
-    requires distances { length distances.old ≡ (W.table weights.now).columns }
-    requires places { length places.old ≡ (W.table weights.now).columns }
-    requires negation { (j : ℕ) → j < (W.table weights.now).columns → flag visited.now j ≡ false → C.fits (neg_ℤ (number C.value potentials.now j)) }
-    requires sum { (j : ℕ) → j < (W.table weights.now).columns → flag visited.now j ≡ false → C.fits (C.value offset +ℤ number C.value potentials.now j) }
-    requires difference { (j : ℕ) → j < (W.table weights.now).columns → flag visited.now j ≡ false → C.fits (C.value offset +ℤ number C.value potentials.now j -ℤ (W.table weights.now).at row j) }
-    requires left { (j : ℕ) × (j < (W.table weights.now).columns) × (flag visited.now j ≡ false) }
-    ensures scanned { IsScanned (W.table weights.now).at (W.table weights.now).columns row place (C.value offset) (number C.value potentials.now) (flag visited.now) (number C.value distances.old) (slice_index places.old) (number C.value distances.new) (slice_index places.new) }
-    ensures nearest { IsNearest (W.table weights.now).columns (flag visited.now) (number C.value distances.new) result }
-{
-    let mut nearest = None;
-    for column in 0..weights.columns() {
-        if !visited[column] {
-            let way = plus(offset, potentials[column]);
-            let through = way.minus(weights.at(row, column));
-            relax(distances, places, column, through, place);
-            nearest = Some(nearer(row_of, distances, nearest, column));
-        }
+    /// Visits a column, takes its row into the tree, and answers the column to be visited next.
+    fn visit<W>(
+        &mut self,
+        weights: &W,
+        matching: &Matching<C, A>,
+        column: usize,
+        row: usize,
+    ) -> Result<usize, PathError>
+    where
+        W: Weights<C>,
+        requires shape { (W.table weights.now).rows ≤ (W.table weights.now).columns }
+        requires fit { WeightsFit C.fits (W.table weights.now) }
+        requires next { IsNext C.value (W.table weights.now) matching.now.column_of.items matching.now.row_of.items matching.now.row_potentials.items matching.now.column_potentials.items }
+        requires tree { IsTreeOf C.value (W.table weights.now) matching.now.column_of.items matching.now.row_of.items matching.now.row_potentials.items matching.now.column_potentials.items self.old.rows.items self.old.visited.items self.old.distances.items self.old.places.items }
+        requires nearest { IsNearest (W.table weights.now).columns (flag self.old.visited.items) (number C.value self.old.distances.items) column }
+        requires row { holder matching.now.row_of.items column ≡ Some row }
+        ensures tree { OnOk result (IsTreeOf C.value (W.table weights.now) matching.now.column_of.items matching.now.row_of.items matching.now.row_potentials.items matching.now.column_potentials.items self.new.rows.items self.new.visited.items self.new.distances.items self.new.places.items) }
+        ensures more { OnOk result (length self.new.rows.items ≡ length self.old.rows.items + 1) }
+        ensures nearest { IfOk result (IsNearest (W.table weights.now).columns (flag self.new.visited.items) (number C.value self.new.distances.items)) }
+        ensures visited { length self.new.visited.items ≡ length self.old.visited.items }
+        ensures distances { length self.new.distances.items ≡ length self.old.distances.items }
+        ensures places { length self.new.places.items ≡ length self.old.places.items }
+        ensures refused { IfErr result (λ e. e ≡ OutOfMemory) }
+    {
+        let place = self.rows.len();
+        self.rows.push(row)?;
+        self.visited[column] = true;
+        let offset = plus(self.distances[column], matching.row_potentials[row]);
+        Ok(self.scan(weights, matching, row, place, offset))
     }
-    nearest.unwrap()
-}
 
-/// Makes a tree of the next row alone, and answers the column to be visited first.
-fn begin<C, W, A>(
-    weights: &W,
-    matching: &Matching<C, A>,
-    rows: &mut Vec<usize, A>,
-    visited: &mut [bool],
-    distances: &mut [C],
-    places: &mut [usize],
-) -> Result<usize, PathError>
-where
-    C: SignedCost,
-    W: Weights<C>,
-    A: Allocator + Copy,
-    requires shape { (W.table weights.now).rows ≤ (W.table weights.now).columns }
-    requires fit { WeightsFit C.fits (W.table weights.now) }
-    requires next { IsNext C.value (W.table weights.now) matching.now.column_of.items matching.now.row_of.items matching.now.row_potentials.items matching.now.column_potentials.items }
-    requires visited { length visited.old ≡ (W.table weights.now).columns }
-    requires distances { length distances.old ≡ (W.table weights.now).columns }
-    requires places { length places.old ≡ (W.table weights.now).columns }
-    ensures tree { OnOk result (IsTreeOf C.value (W.table weights.now) matching.now.column_of.items matching.now.row_of.items matching.now.row_potentials.items matching.now.column_potentials.items rows.new.items visited.new distances.new places.new) }
-    ensures one { OnOk result (length rows.new.items ≡ 1) }
-    ensures nearest { IfOk result (IsNearest (W.table weights.now).columns (flag visited.new) (number C.value distances.new)) }
-    ensures refused { IfErr result (λ e. e ≡ OutOfMemory) }
-{
-    let root = matching.column_of.len();
-    rows.clear();
-    rows.push(root)?;
-    clear(visited, distances, places);
-    Ok(scan(
-        weights,
-        root,
-        0,
-        C::zero(),
-        &matching.row_of,
-        &matching.column_potentials,
-        visited,
-        distances,
-        places,
-    ))
-}
-
-/// Visits a column, takes its row into the tree, and answers the column to be visited next.
-fn visit<C, W, A>(
-    weights: &W,
-    matching: &Matching<C, A>,
-    column: usize,
-    row: usize,
-    rows: &mut Vec<usize, A>,
-    visited: &mut [bool],
-    distances: &mut [C],
-    places: &mut [usize],
-) -> Result<usize, PathError>
-where
-    C: SignedCost,
-    W: Weights<C>,
-    A: Allocator + Copy,
-    requires shape { (W.table weights.now).rows ≤ (W.table weights.now).columns }
-    requires fit { WeightsFit C.fits (W.table weights.now) }
-    requires next { IsNext C.value (W.table weights.now) matching.now.column_of.items matching.now.row_of.items matching.now.row_potentials.items matching.now.column_potentials.items }
-    requires tree { IsTreeOf C.value (W.table weights.now) matching.now.column_of.items matching.now.row_of.items matching.now.row_potentials.items matching.now.column_potentials.items rows.old.items visited.old distances.old places.old }
-    requires nearest { IsNearest (W.table weights.now).columns (flag visited.old) (number C.value distances.old) column }
-    requires row { holder matching.now.row_of.items column ≡ Some row }
-    ensures tree { OnOk result (IsTreeOf C.value (W.table weights.now) matching.now.column_of.items matching.now.row_of.items matching.now.row_potentials.items matching.now.column_potentials.items rows.new.items visited.new distances.new places.new) }
-    ensures more { OnOk result (length rows.new.items ≡ length rows.old.items + 1) }
-    ensures nearest { IfOk result (IsNearest (W.table weights.now).columns (flag visited.new) (number C.value distances.new)) }
-    ensures refused { IfErr result (λ e. e ≡ OutOfMemory) }
-{
-    let place = rows.len();
-    rows.push(row)?;
-    visited[column] = true;
-    let offset = plus(distances[column], matching.row_potentials[row]);
-    Ok(scan(
-        weights,
-        row,
-        place,
-        offset,
-        &matching.row_of,
-        &matching.column_potentials,
-        visited,
-        distances,
-        places,
-    ))
-}
-
-/// Grows a tree from the next row until a column that no row has is nearest, and answers it. Each
-/// choice of a column is a tick.
-pub fn grow<C, W, A>(
-    weights: &W,
-    matching: &Matching<C, A>,
-    rows: &mut Vec<usize, A>,
-    visited: &mut [bool],
-    distances: &mut [C],
-    places: &mut [usize],
-    tally: &mut Tally,
-) -> Result<usize, PathError>
-where
-    C: SignedCost,
-    W: Weights<C>,
-    A: Allocator + Copy,
-    requires shape { (W.table weights.now).rows ≤ (W.table weights.now).columns }
-    requires fit { WeightsFit C.fits (W.table weights.now) }
-    requires next { IsNext C.value (W.table weights.now) matching.now.column_of.items matching.now.row_of.items matching.now.row_potentials.items matching.now.column_potentials.items }
-    requires visited { length visited.old ≡ (W.table weights.now).columns }
-    requires distances { length distances.old ≡ (W.table weights.now).columns }
-    requires places { length places.old ≡ (W.table weights.now).columns }
-    ensures tree { OnOk result (IsTreeOf C.value (W.table weights.now) matching.now.column_of.items matching.now.row_of.items matching.now.row_potentials.items matching.now.column_potentials.items rows.new.items visited.new distances.new places.new) }
-    ensures nearest { IfOk result (IsNearest (W.table weights.now).columns (flag visited.new) (number C.value distances.new)) }
-    ensures free { IfOk result (λ column. holder matching.now.row_of.items column ≡ None) }
-    ensures refused { IfErr result (λ e. e ≡ OutOfMemory) }
-    ensures ticked { tally.old ≤ tally.new }
-    ensures rounds { tally.new ≤ tally.old + length matching.now.column_of.items + 1 }
-{
-    let mut column = begin(weights, matching, rows, visited, distances, places)?;
-    tally.tick();
-    'visits: while let Some(row) = matching.row_of[column] {
-        column = visit(
-            weights, matching, column, row, rows, visited, distances, places,
-        )?;
+    /// Grows a tree from the next row until a column that no row has is nearest, and answers it. Each
+    /// choice of a column is a tick.
+    pub fn grow<W>(
+        &mut self,
+        weights: &W,
+        matching: &Matching<C, A>,
+        tally: &mut Tally,
+    ) -> Result<usize, PathError>
+    where
+        W: Weights<C>,
+        requires shape { (W.table weights.now).rows ≤ (W.table weights.now).columns }
+        requires fit { WeightsFit C.fits (W.table weights.now) }
+        requires next { IsNext C.value (W.table weights.now) matching.now.column_of.items matching.now.row_of.items matching.now.row_potentials.items matching.now.column_potentials.items }
+        requires visited { length self.old.visited.items ≡ (W.table weights.now).columns }
+        requires distances { length self.old.distances.items ≡ (W.table weights.now).columns }
+        requires places { length self.old.places.items ≡ (W.table weights.now).columns }
+        ensures tree { OnOk result (IsTreeOf C.value (W.table weights.now) matching.now.column_of.items matching.now.row_of.items matching.now.row_potentials.items matching.now.column_potentials.items self.new.rows.items self.new.visited.items self.new.distances.items self.new.places.items) }
+        ensures nearest { IfOk result (IsNearest (W.table weights.now).columns (flag self.new.visited.items) (number C.value self.new.distances.items)) }
+        ensures free { IfOk result (λ column. holder matching.now.row_of.items column ≡ None) }
+        ensures visited { length self.new.visited.items ≡ length self.old.visited.items }
+        ensures distances { length self.new.distances.items ≡ length self.old.distances.items }
+        ensures places { length self.new.places.items ≡ length self.old.places.items }
+        ensures refused { IfErr result (λ e. e ≡ OutOfMemory) }
+        ensures ticked { tally.old ≤ tally.new }
+        ensures rounds { tally.new ≤ tally.old + length matching.now.column_of.items + 1 }
+    {
+        let mut column = self.begin(weights, matching)?;
         tally.tick();
+        'visits: while let Some(row) = matching.row_of[column] {
+            column = self.visit(weights, matching, column, row)?;
+            tally.tick();
+        }
+        Ok(column)
     }
-    Ok(column)
 }

@@ -3,7 +3,7 @@
 ghost use Rattle.std.specs.Prelude.{◌≡◌, ◌⊎◌, ◌↔◌, ◌<◌, ◌*◌, ◌+◌, ◌+ℤ◌, ◌≤ℤ◌, ℕ, ℤ, pos, neg_ℤ, IsTrue, IfOk, IfErr, length};
 ghost use Rattle.pf_base.specs.declared.error.PathError.TheVariants.{OutOfMemory};
 ghost use Rattle.pf_graph.specs.Assignments.{number, NumberTable, IsNegatedTable, IsGreatestWeight, WeightsFit};
-ghost use Rattle.pf_graph.specs.Internal.AssignmentSteps.{IsBeyond, IsEither, IsExact};
+ghost use Rattle.pf_graph.specs.Internal.Assignment.AssignmentSteps.{IsBeyond, IsEither, IsExact};
 
 use crate::kuhn_munkres::numbers::is_below;
 use pf_base::{PathError, SignedCost};

@@ -5,7 +5,7 @@ ghost use Rattle.std.specs.Iterator.{IsFiniteIterable, Drains};
 ghost use Rattle.pf_base.specs.Walks.{HasNode};
 ghost use Rattle.pf_base.specs.Answers.{IsLawfulClone};
 ghost use Rattle.pf_base.specs.declared.error.PathError.TheVariants.{OutOfMemory};
-ghost use Rattle.pf_graph.specs.Internal.Around.{AreGroupsAround};
+ghost use Rattle.pf_graph.specs.Internal.Components.Around.{AreGroupsAround};
 
 use pf_base::{PathError, SuccessorFunction};
 use std::alloc::Allocator;

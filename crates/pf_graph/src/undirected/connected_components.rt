@@ -1,6 +1,7 @@
 //! Connected components: groups of vertices, joined where they share vertices.
 //!
-//! Parts are kept by union and find over the groups, numbered in order (Galler and Fischer 1964).
+//! The groups, numbered in order, are kept in disjoint sets by union and find (Galler and Fischer
+//! 1964).
 
 ghost use Rattle.std.specs.Prelude.{◌≡◌, List, Some, if◌then◌else◌, IfOk, IfErr, OnOk};
 ghost use Rattle.std.specs.HashMap.{get};
@@ -11,9 +12,9 @@ ghost use Rattle.pf_base.specs.declared.error.PathError.TheVariants.{OutOfMemory
 ghost use Rattle.pf_graph.specs.Components.{AreIdentified, MapsVertices, MapsToGreatest, IsComponents, IsComponentsAround};
 
 use crate::undirected::around::groups_around;
-use crate::undirected::parts::{map_nodes, part_groups};
-pub use crate::undirected::sets::SetIn;
-use crate::undirected::sets::collect_nodes;
+use crate::undirected::disjoint_sets::{map_nodes, unite_groups};
+pub use crate::undirected::node_sets::SetIn;
+use crate::undirected::node_sets::collect_nodes;
 use pf_base::{PathError, SuccessorFunction};
 use std::alloc::Allocator;
 use std::collections::{HashMap, HashSet};
@@ -41,9 +42,9 @@ where
     ensures mapped { IfOk result (λ r. MapsVertices N.eq groups.now r.1.items r.0) }
     ensures refused { IfErr result (λ e. e ≡ OutOfMemory) }
 {
-    let parted = part_groups(alloc, groups)?;
-    let of_vertex = map_nodes(alloc, parted.nodes.as_slice(), &parted.first, &parted.ids)?;
-    Ok((of_vertex, parted.ids))
+    let united = unite_groups(alloc, groups)?;
+    let of_vertex = map_nodes(alloc, united.nodes.as_slice(), &united.first, &united.ids)?;
+    Ok((of_vertex, united.ids))
 }
 
 /// Puts the nodes of a set into the map, with the index of the set.
@@ -105,8 +106,8 @@ where
     ensures components { IfOk result (λ sets. IsComponents N.eq groups.now sets.items) }
     ensures refused { IfErr result (λ e. e ≡ OutOfMemory) }
 {
-    let parted = part_groups(alloc, groups)?;
-    let sets = collect_nodes(alloc, parted.nodes.as_slice(), &parted.first, &parted.ids)?;
+    let united = unite_groups(alloc, groups)?;
+    let sets = collect_nodes(alloc, united.nodes.as_slice(), &united.first, &united.ids)?;
     Ok(sets)
 }
 

@@ -2,7 +2,7 @@
 
 ghost use Rattle.std.specs.Prelude.{◌≡◌, [], MatchOption};
 ghost use Rattle.std.specs.List.Sorted.{IsSorted};
-ghost use Rattle.pf_graph.specs.Internal.SpanningSteps.{IsTaken, values_sum};
+ghost use Rattle.pf_graph.specs.Internal.Spanning.SpanningSteps.{IsTaken, values_sum};
 
 use pf_base::Cost;
 

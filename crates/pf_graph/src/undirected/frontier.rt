@@ -9,7 +9,7 @@ ghost use Rattle.std.specs.declared.cmp.Ordering.TheVariants.{Greater};
 ghost use Rattle.std.specs.declared.cmp.Reverse.{Reverse};
 ghost use Rattle.pf_base.specs.declared.error.PathError.TheVariants.{OutOfMemory};
 ghost use Rattle.pf_graph.specs.declared.undirected.steps.Step.{Step};
-ghost use Rattle.pf_graph.specs.Internal.Frontier.{HasStep, WaitsSave, Waits, Gains, TakesLeast, NoneLeaves, waiting_order, step_order};
+ghost use Rattle.pf_graph.specs.Internal.Spanning.Frontier.{HasStep, WaitsSave, Waits, Gains, TakesLeast, NoneLeaves, waiting_order, step_order};
 
 use crate::undirected::steps::Step;
 use pf_base::PathError;

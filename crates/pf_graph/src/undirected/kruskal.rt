@@ -1,4 +1,4 @@
-//! Spanning edges of least weight, by rising weight (Kruskal 1956).
+//! Minimum spanning forests, by rising weight (Kruskal 1956).
 
 ghost use Rattle.std.specs.Prelude.{◌≡◌, ◌⊎◌, List, IfOk, IfErr, nat_eq, map};
 ghost use Rattle.std.specs.List.{AllZip};
@@ -6,7 +6,7 @@ ghost use Rattle.std.specs.List.Sorted.{IsSorted};
 ghost use Rattle.pf_base.specs.Answers.{IsLawfulClone};
 ghost use Rattle.pf_base.specs.declared.error.PathError.TheVariants.{OutOfMemory, UnknownVertex, CostOverflow};
 ghost use Rattle.pf_graph.specs.Spanning.{IsForest, IsLeastUnderEveryBound, AreChosenFrom, AreBelow, IsLeastForest, weight_sum};
-ghost use Rattle.pf_graph.specs.Numbered.{shown};
+ghost use Rattle.pf_graph.specs.EdgesByReference.{shown};
 ghost use Rattle.pf_graph.specs.Internal.NumberedEdges.{IsWritten};
 
 use crate::undirected::exact_sum::exact_sum;
@@ -18,14 +18,15 @@ use pf_base::{Cost, PathError};
 use std::alloc::Allocator;
 use std::hash::Hash;
 
-/// Spanning edges of least weight between the nodes 0, 1, .., `number_of_nodes` - 1.
+/// A minimum spanning forest of edges between the nodes 0, 1, .., `number_of_nodes` - 1 (Kruskal
+/// 1956).
 ///
 /// An edge is its two ends and its weight; edges may be parallel, and both ends may be one node.
 /// The iterator gives edges as they are written, with clones of their weights, by rising weight.
 /// They hold no cycle, and under every weight bound they join the nodes that all edges within that
 /// bound join. Which of several edges of equal weight is chosen is open. Weights need an order alone;
-/// where they are costs, no forest of the edges that joins the same nodes weighs less, by the law
-/// `least_total_weight`.
+/// where they are costs, the law `least_total_weight` gives that no forest of the edges that joins
+/// the same nodes has a lower total weight.
 ///
 /// It is refused with `UnknownVertex` exactly where a node of some edge is not below
 /// `number_of_nodes`, which is tested first, and else only with `OutOfMemory`. All memory is taken
@@ -75,14 +76,15 @@ where
     Ok(edges)
 }
 
-/// Spanning edges of least weight between the nodes that stand in edges.
+/// A minimum spanning forest of edges (Kruskal 1956).
 ///
 /// An edge is its two ends and its weight; edges may be parallel, and both ends may be one node.
 /// Equal nodes are one node. The iterator gives edges as they are written, as references to their
 /// ends with clones of their weights, by rising weight. They hold no cycle, and under every weight
 /// bound they join the nodes that all edges within that bound join. Which of several edges of equal
-/// weight is chosen is open. Weights need an order alone; where they are costs, no forest of the edges
-/// that joins the same nodes weighs less, by the law `least_total_weight`.
+/// weight is chosen is open. Weights need an order alone; where they are costs, the law
+/// `least_total_weight` gives that no forest of the edges that joins the same nodes has a lower total
+/// weight.
 ///
 /// The weight of every edge is cloned once, and edges are sorted by these clones. The only error is
 /// `OutOfMemory`. All memory is taken here: the iterator takes none.

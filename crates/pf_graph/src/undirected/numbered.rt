@@ -5,7 +5,7 @@ ghost use Rattle.std.specs.Borrow.{Bor};
 ghost use Rattle.pf_base.specs.declared.error.PathError.TheVariants.{OutOfMemory};
 ghost use Rattle.pf_graph.specs.Internal.NumberedEdges.{IsNumbered, IsWeighed};
 
-use crate::undirected::parts::Nodes;
+use crate::undirected::disjoint_sets::Nodes;
 use crate::undirected::weighed::Weighed;
 use indexmap::IndexSet;
 use pf_base::PathError;
@@ -14,7 +14,7 @@ use std::hash::Hash;
 
 /// The number of nodes that edges stand between, and the edges, each with the numbers of its ends.
 #[derive(Drop)]
-pub struct Numbered<'a, N, C, W, A: Allocator> {
+pub struct NumberedEdges<'a, N, C, W, A: Allocator> {
     pub count: usize,
     pub edges: Vec<(usize, usize, Weighed<'a, N, C, W>), A>,
 }
@@ -53,7 +53,7 @@ pub fn number_edges<'a, N, C, W, F, A>(
     alloc: A,
     edges: &'a [(N, N, C)],
     weigh: F,
-) -> Result<Numbered<'a, N, C, W, A>, PathError>
+) -> Result<NumberedEdges<'a, N, C, W, A>, PathError>
 where
     N: Eq + Hash,
     W: Drop,
@@ -68,7 +68,7 @@ where
     let mut nodes = IndexSet::new(alloc);
     let mut numbered = Vec::with_capacity(alloc, edges.len())?;
     number_into(&mut nodes, &mut numbered, edges, weigh)?;
-    Ok(Numbered {
+    Ok(NumberedEdges {
         count: nodes.len(),
         edges: numbered,
     })

@@ -1,12 +1,12 @@
-//! A tree of least weight around a node, which grows by an edge at a time (Jarník 1930, Prim 1957).
+//! Minimum spanning trees around a node, which grow by an edge at a time (Jarník 1930, Prim 1957).
 
 ghost use Rattle.std.specs.Prelude.{◌≡◌, ◌<◌, ℕ, true, List, [], IfOk, IfErr, map, length};
 ghost use Rattle.std.specs.Borrow.{Bor};
 ghost use Rattle.pf_base.specs.Answers.{IsLawfulClone};
 ghost use Rattle.pf_base.specs.declared.error.PathError.TheVariants.{OutOfMemory};
 ghost use Rattle.pf_graph.specs.declared.undirected.steps.Step.{Step};
-ghost use Rattle.pf_graph.specs.Internal.Frontier.{AreRows, HasStep, IsMarked};
-ghost use Rattle.pf_graph.specs.Numbered.{shown};
+ghost use Rattle.pf_graph.specs.Internal.Spanning.Frontier.{AreRows, HasStep, IsMarked};
+ghost use Rattle.pf_graph.specs.EdgesByReference.{shown};
 ghost use Rattle.pf_graph.specs.Internal.NumberedEdges.{StandsFor};
 ghost use Rattle.pf_graph.specs.GrownTree.{StartsAt, GrowsByLeast, IsLeastAround, AreChosenEitherWay};
 ghost use Rattle.pf_graph.specs.Spanning.{IsForest};
@@ -50,8 +50,8 @@ where
     Ok(tree)
 }
 
-/// A tree of least weight over the nodes that edges join to the first node of the first edge
-/// (Jarník 1930, Prim 1957).
+/// A minimum spanning tree of the nodes that edges join to the first node of the first edge (Jarník
+/// 1930, Prim 1957).
 ///
 /// An edge is its two ends and its weight, and may be taken in both directions; edges may be
 /// parallel, and both ends may be one node. Equal nodes are one node. The tree grows from the first
@@ -61,8 +61,8 @@ where
 /// weight), with references to the nodes and a clone of the weight. They hold no cycle, and under
 /// every weight bound they join those of the tree's nodes that all edges within that bound join.
 /// Edges that are not joined to the first node are left out, and no edges give an empty tree.
-/// Weights need an order alone; where they are costs, no forest of the edges that joins the same
-/// nodes weighs less, by the law `least_tree_weight`.
+/// Weights need an order alone; where they are costs, the law `least_tree_weight` gives that no forest
+/// of the edges that joins the same nodes has a lower total weight.
 ///
 /// The only error is `OutOfMemory`.
 pub fn prim<'a, N, C, A>(

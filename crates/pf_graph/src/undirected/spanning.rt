@@ -4,10 +4,10 @@ ghost use Rattle.std.specs.Prelude.{◌≡◌, ◌↔◌, ℕ, [], Contains, IfO
 ghost use Rattle.std.specs.List.Sorted.{IsSorted};
 ghost use Rattle.pf_base.specs.declared.error.PathError.TheVariants.{OutOfMemory};
 ghost use Rattle.pf_graph.specs.Spanning.{IsForest, IsLeastUnderEveryBound, AreBelow};
-ghost use Rattle.pf_graph.specs.Internal.SpanningSteps.{HoldsCopies};
+ghost use Rattle.pf_graph.specs.Internal.Spanning.SpanningSteps.{HoldsCopies};
 ghost use Rattle.pf_graph.specs.Internal.UnionFind.{IsSound, IsLabelling};
 
-use crate::undirected::union_find::{Vertex, apart, unite};
+use crate::undirected::union_find::{Vertex, make_sets, unite};
 use pf_base::PathError;
 use std::alloc::Allocator;
 
@@ -36,8 +36,8 @@ where
     Ok(copies)
 }
 
-/// Puts the edges of `sorted` whose ends no edges before them join to the end of `chosen`, and makes
-/// one part of the parts of their ends.
+/// Puts the edges of `sorted` whose ends no edges before them join to the end of `chosen`, and unites
+/// the sets of their ends.
 fn choose_edges<C, A>(
     vertices: &mut [Vertex],
     sorted: Vec<(usize, usize, C), A>,
@@ -47,7 +47,7 @@ where
     C: Ord + Drop,
     A: Allocator + Copy,
     requires sound { IsSound vertices.old }
-    requires apart { IsLabelling (λ x. x) vertices.old }
+    requires singletons { IsLabelling (λ x. x) vertices.old }
     requires below { AreBelow (length vertices.old) sorted.items }
     requires sorted { IsSorted (λ e f. C.cmp e.2 f.2) sorted.items }
     requires none { chosen.old.items ≡ [] }
@@ -82,7 +82,7 @@ where
     ensures refused { IfErr result (λ e. e ≡ OutOfMemory) }
 {
     edges.sort_unstable_by(|one, other| one.2.cmp(&other.2));
-    let mut vertices = apart(alloc, number_of_nodes)?;
+    let mut vertices = make_sets(alloc, number_of_nodes)?;
     let mut chosen = Vec::with_capacity(alloc, number_of_nodes.min(edges.len()))?;
     choose_edges(&mut vertices, edges, &mut chosen)?;
     Ok(chosen)

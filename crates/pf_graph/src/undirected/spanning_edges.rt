@@ -1,7 +1,7 @@
 //! The iterators over chosen edges.
 
 ghost use Rattle.std.specs.Iterator.{YieldsFirst, YieldsFirstBy, item_count};
-ghost use Rattle.pf_graph.specs.Numbered.{shown};
+ghost use Rattle.pf_graph.specs.EdgesByReference.{shown};
 
 use std::alloc::{Allocator, Global};
 use std::marker::Model;
@@ -49,7 +49,7 @@ pub struct Kruskal<'a, N, C, A: Allocator = Global> {
 impl<'a, N, C, A: Allocator> Model for Kruskal<'a, N, C, A> {
     ghost use Rattle.std.specs.Prelude.{List, map};
     ghost use Rattle.std.specs.Vec.Iter.{into_iter_items};
-    ghost use Rattle.pf_graph.specs.Numbered.{shown};
+    ghost use Rattle.pf_graph.specs.EdgesByReference.{shown};
 
     ghost Value = { List (N × N × C) };
 

@@ -3,7 +3,7 @@
 ghost use Rattle.std.specs.Prelude.{◌≡◌, ◌⊎◌, ◌↔◌, ◌<◌, ℕ, IfOk, IfErr, OnOk, length};
 ghost use Rattle.pf_base.specs.declared.error.PathError.TheVariants.{OutOfMemory};
 ghost use Rattle.pf_graph.specs.declared.undirected.steps.Step.{Step};
-ghost use Rattle.pf_graph.specs.Internal.Frontier.{HasStep, HoldSteps};
+ghost use Rattle.pf_graph.specs.Internal.Spanning.Frontier.{HasStep, HoldSteps};
 ghost use Rattle.pf_graph.specs.Spanning.{AreBelow};
 
 use crate::undirected::weighed::Weighed;

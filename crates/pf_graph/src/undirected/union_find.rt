@@ -1,4 +1,4 @@
-//! Disjoint parts of numbered vertices: union by size (Galler and Fischer 1964) with path halving
+//! Disjoint sets of numbered vertices: union by size (Galler and Fischer 1964) with path halving
 //! (van Leeuwen and van der Weide 1977). Only the maker takes memory.
 
 ghost use Rattle.std.specs.Prelude.{◌≡◌, ◌≢◌, ◌<◌, ℕ, length, IfOk, IfErr, MatchBool};
@@ -8,16 +8,16 @@ ghost use Rattle.pf_base.specs.declared.error.PathError.TheVariants.{OutOfMemory
 use pf_base::PathError;
 use std::alloc::Allocator;
 
-/// A vertex of a part: where it points to, and how many vertices pointed to it when it last was a
-/// root, itself included. A root points to itself.
+/// A vertex of a set: its parent, and how many vertices its set had when it last was a root. A root
+/// is its own parent.
 #[derive(Clone, Copy)]
 pub struct Vertex {
     parent: usize,
     size: usize,
 }
 
-/// As many vertices as `count`, each a part of its own.
-pub fn apart<A: Allocator + Copy>(alloc: A, count: usize) -> Result<Vec<Vertex, A>, PathError>
+/// As many vertices as `count`, each a set of its own.
+pub fn make_sets<A: Allocator + Copy>(alloc: A, count: usize) -> Result<Vec<Vertex, A>, PathError>
     ensures sound { IfOk result (λ vertices. IsSound vertices.items) }
     ensures len { IfOk result (λ vertices. length vertices.items ≡ count) }
     ensures labels { IfOk result (λ vertices. IsLabelling (λ x. x) vertices.items) }
@@ -30,7 +30,7 @@ pub fn apart<A: Allocator + Copy>(alloc: A, count: usize) -> Result<Vec<Vertex, 
     Ok(vertices)
 }
 
-/// The root of the part of `start`. Each second vertex on the way is led past its parent.
+/// The root of the set of `start`. Each second vertex on the way to it gets its grandparent as parent.
 pub fn find(vertices: &mut [Vertex], start: usize) -> usize
     requires sound { IsSound vertices.old }
     requires inside { start < length vertices.old }
@@ -49,12 +49,12 @@ pub fn find(vertices: &mut [Vertex], start: usize) -> usize
     node
 }
 
-/// Puts one root below another.
+/// Makes one root the parent of another.
 fn join(vertices: &mut [Vertex], large: usize, small: usize)
     requires sound { IsSound vertices.old }
     requires inside { (large < length vertices.old) × (small < length vertices.old) }
     requires roots { IsRoot vertices.old large × IsRoot vertices.old small }
-    requires apart { large ≢ small }
+    requires distinct { large ≢ small }
     ensures sound { IsSound vertices.new }
     ensures labels { (label : ℕ → ℕ) → IsLabelling label vertices.old → (after : ℕ → ℕ) × IsLabelling after vertices.new × Merges label large small after }
 {
@@ -63,8 +63,7 @@ fn join(vertices: &mut [Vertex], large: usize, small: usize)
     vertices[large].size += size;
 }
 
-/// Makes one part of the parts of two vertices, the smaller below the larger. Answers whether they
-/// were two.
+/// Unites the sets of two vertices, the smaller below the larger. Answers whether they were two.
 pub fn unite(vertices: &mut [Vertex], one: usize, other: usize) -> bool
     requires sound { IsSound vertices.old }
     requires inside { (one < length vertices.old) × (other < length vertices.old) }

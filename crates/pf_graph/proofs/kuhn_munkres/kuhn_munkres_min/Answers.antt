@@ -2,7 +2,7 @@ use Rattle.std.proofs.Common.{◌≡◌, subst, arith}
 use Rattle.std.specs.Prelude.{neg_ℤ}
 use Rattle.std.proofs.lemmas.Int.{ints}
 use Rattle.pf_graph.specs.Assignments.{assignment_total}
-use Rattle.pf_graph.proofs.MatchingBest.{fit_negated, assignment_negated, total_negated, least_of, total_fits, negation_fits}
+use Rattle.pf_graph.proofs.Assignment.MatchingBest.{fit_negated, assignment_negated, total_negated, least_of, total_fits, negation_fits}
 use Rattle.pf_graph.proofs.kuhn_munkres.kuhn_munkres_min.Goals as goal
 
 pub neg-requires : goal.neg-requires

@@ -1,5 +1,5 @@
 use Rattle.std.proofs.Common.{rules, ◌≡◌, arith, length}
-use Rattle.pf_graph.proofs.MatchingBest.{best_of, matched_none}
+use Rattle.pf_graph.proofs.Assignment.MatchingBest.{best_of, matched_none}
 use Rattle.pf_graph.proofs.kuhn_munkres.kuhn_munkres_tallied.Goals as goal
 
 pub loop-row-init : goal.loop-row-init

@@ -1,5 +1,5 @@
 use Rattle.std.proofs.Common.{◌≡◌, ◌≤◌, ◌+◌, ◌*◌, length}
-use Rattle.pf_graph.specs.Internal.AssignmentSteps.{IsMatched}
+use Rattle.pf_graph.specs.Internal.Assignment.AssignmentSteps.{IsMatched}
 use Rattle.pf_graph.proofs.kuhn_munkres.kuhn_munkres_tallied.Given as goal
 
 -- the rows so far are matched, each with at most as many ticks as there are rows

@@ -1,6 +1,6 @@
 use Rattle.std.proofs.Common.{Result, Ok, Err}
 use Rattle.std.specs.Prelude.{IfOk, map}
-use Rattle.pf_graph.specs.Numbered.{shown}
+use Rattle.pf_graph.specs.EdgesByReference.{shown}
 use Rattle.pf_graph_tests.proofs.callers.pipes.Goals as goal
 
 -- what four facts on an answer give

@@ -1,7 +1,7 @@
 use Rattle.std.proofs.Common.{◌≡◌, ℕ, ◌<◌, ◌≤◌}
 use Rattle.std.specs.Prelude.{◌-ℤ◌, neg_ℤ, slice_index}
 use Rattle.pf_graph.specs.Assignments.{number}
-use Rattle.pf_graph.specs.Internal.AssignmentSteps.{flag, raised}
+use Rattle.pf_graph.specs.Internal.Assignment.AssignmentSteps.{flag, raised}
 use Rattle.pf_graph.proofs.kuhn_munkres.matching.lower_rows.Given as goal
 
 -- the potentials so far are lowered, and the others are as they were

@@ -1,8 +1,8 @@
 use Rattle.std.proofs.Common.{rules, refl, ◌≡◌, ◌<◌, arith, ap, sym, subst, ◌∙◌, ℕ, true, false, length}
 use Rattle.std.specs.Prelude.{◌-ℤ◌, ◌+ℤ◌, neg_ℤ, slice_set}
 use Rattle.pf_graph.specs.Assignments.{number}
-use Rattle.pf_graph.specs.Internal.AssignmentSteps.{flag, raised}
-use Rattle.pf_graph.proofs.MatchingNumbers.{number-at, number-set_same, number-set_other, below_written, raised_true, raised_false}
+use Rattle.pf_graph.specs.Internal.Assignment.AssignmentSteps.{flag, raised}
+use Rattle.pf_graph.proofs.Assignment.MatchingNumbers.{number-at, number-set_same, number-set_other, below_written, raised_true, raised_false}
 use Rattle.pf_graph.proofs.kuhn_munkres.matching.raise_columns.Goals as goal
 use Rattle.pf_graph.proofs.kuhn_munkres.matching.raise_columns.Goals.{then-visited-column, else-visited-column}
 

@@ -1,7 +1,7 @@
 use Rattle.std.proofs.Common.{◌≡◌, ℕ, ◌<◌, ◌≤◌}
 use Rattle.std.specs.Prelude.{◌-ℤ◌}
 use Rattle.pf_graph.specs.Assignments.{number}
-use Rattle.pf_graph.specs.Internal.AssignmentSteps.{flag, raised}
+use Rattle.pf_graph.specs.Internal.Assignment.AssignmentSteps.{flag, raised}
 use Rattle.pf_graph.proofs.kuhn_munkres.matching.raise_columns.Given as goal
 
 -- the potentials so far are raised, and the others are as they were

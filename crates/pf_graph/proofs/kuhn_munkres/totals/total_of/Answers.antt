@@ -1,7 +1,7 @@
 use Rattle.std.proofs.Common.{ℕ, ◌<◌, ◌+◌, arith}
 use Rattle.std.specs.Prelude.{slice_index}
 use Rattle.std.proofs.lemmas.Int.{ints}
-use Rattle.pf_graph.proofs.MatchingWeights.{room, sum_to-bound}
+use Rattle.pf_graph.proofs.Assignment.MatchingWeights.{room, sum_to-bound}
 use Rattle.pf_graph.proofs.kuhn_munkres.totals.total_of.Goals as goal
 
 pub plus-total-requires-clause-negation : goal.plus-total-requires-clause-negation

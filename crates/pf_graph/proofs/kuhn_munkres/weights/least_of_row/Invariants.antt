@@ -1,6 +1,6 @@
 use Rattle.std.proofs.Common.{◌≡◌, ℕ, ◌<◌}
 use Rattle.std.specs.Prelude.{◌≤ℤ◌, ◌⊎◌}
-use Rattle.pf_graph.specs.Internal.AssignmentSteps.{IsBeyond, IsEither}
+use Rattle.pf_graph.specs.Internal.Assignment.AssignmentSteps.{IsBeyond, IsEither}
 use Rattle.pf_graph.proofs.kuhn_munkres.weights.least_of_row.Given as goal
 
 -- the least of the columns so far

@@ -1,5 +1,5 @@
 use Rattle.std.proofs.Common.{arith, inl, inr}
-use Rattle.pf_graph.proofs.MatchingWeights.{least_is_greatest}
+use Rattle.pf_graph.proofs.Assignment.MatchingWeights.{least_is_greatest}
 use Rattle.pf_graph.proofs.kuhn_munkres.weights.least_weight.Goals as goal
 
 pub returns : goal.returns

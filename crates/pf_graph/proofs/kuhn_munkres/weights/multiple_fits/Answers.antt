@@ -1,7 +1,7 @@
 use Rattle.std.proofs.Common.{rules, ◌≡◌, ◌+◌, ◌*◌, arith, ap, sym, subst, ◌∙◌}
 use Rattle.std.specs.Prelude.{pos}
 use Rattle.std.proofs.lemmas.Int.{ints}
-use Rattle.pf_graph.proofs.MatchingWeights.{not_below, multiple_more, multiple_fails}
+use Rattle.pf_graph.proofs.Assignment.MatchingWeights.{not_below, multiple_more, multiple_fails}
 use Rattle.pf_graph.proofs.kuhn_munkres.weights.multiple_fits.Goals as goal
 
 pub two_more-requires-clause-total : goal.two_more-requires-clause-total

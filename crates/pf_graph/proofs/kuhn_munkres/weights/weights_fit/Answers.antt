@@ -1,7 +1,7 @@
 use Rattle.std.proofs.Common.{rules, ◌≡◌, arith, subst, ℕ}
 use Rattle.std.specs.Prelude.{pos, neg_ℤ, ◌↔◌, IsTrue, ◌+◌, ◌*◌}
 use Rattle.std.proofs.lemmas.Int.{ints}
-use Rattle.pf_graph.proofs.MatchingWeights.{weights_fit_by, weight_fits}
+use Rattle.pf_graph.proofs.Assignment.MatchingWeights.{weights_fit_by, weight_fits}
 use Rattle.pf_graph.proofs.kuhn_munkres.weights.weights_fit.Goals as goal
 
 pub returns-in-Some : goal.returns-in-Some

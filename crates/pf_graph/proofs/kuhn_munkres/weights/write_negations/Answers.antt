@@ -1,7 +1,7 @@
 use Rattle.std.proofs.Common.{◌≡◌, arith, ap, sym, subst, ◌∙◌, inl, inr}
 use Rattle.std.specs.Prelude.{neg_ℤ, slice_set}
 use Rattle.pf_graph.specs.Assignments.{number}
-use Rattle.pf_graph.proofs.MatchingNumbers.{number-at, number-set_same, number-set_other, below_or_last}
+use Rattle.pf_graph.proofs.Assignment.MatchingNumbers.{number-at, number-set_same, number-set_other, below_or_last}
 use Rattle.pf_graph.proofs.kuhn_munkres.weights.write_negations.Goals as goal
 
 pub negated-requires : goal.negated-requires

@@ -1,8 +1,8 @@
 use Rattle.std.proofs.Common.{rules, ◌≡◌, sym, subst, refl, Bor, take_all, List}
 use Rattle.pf_base.specs.Walks.{HasNode}
 use Rattle.pf_base.proofs.Asking.{Answers-takes, Answers-gives, Answers-on, Gives-ends, Gives-drains}
-use Rattle.pf_graph.specs.Internal.Around.{AreGroupsAround}
-use Rattle.pf_graph.proofs.AroundLemmas.{group_made, groups_more, node_at}
+use Rattle.pf_graph.specs.Internal.Components.Around.{AreGroupsAround}
+use Rattle.pf_graph.proofs.Components.AroundLemmas.{group_made, groups_more, node_at}
 use Rattle.pf_graph.proofs.undirected.around.groups_around.Goals as goal
 
 pub adjacent-items-requires : goal.adjacent-items-requires

@@ -1,7 +1,7 @@
 use Rattle.std.proofs.Common.{List, take}
 use Rattle.pf_base.specs.Walks.{HasNode}
 use Rattle.pf_base.specs.Answers.{AnswersSuccessors}
-use Rattle.pf_graph.specs.Internal.Around.{AreGroupsAround}
+use Rattle.pf_graph.specs.Internal.Components.Around.{AreGroupsAround}
 use Rattle.pf_graph.proofs.undirected.around.groups_around.Given as goal
 
 abbrev pub invariant-loop-start : goal.invariant-loop-start

@@ -1,7 +1,7 @@
 use Rattle.std.proofs.Common.{ap, take_all, subst}
 use Rattle.std.specs.Map.{lookup}
 use Rattle.pf_graph.specs.Components.{MapsToGreatest}
-use Rattle.pf_graph.proofs.IndexLemmas.{MapsToGreatest-none, MapsToGreatest-more}
+use Rattle.pf_graph.proofs.Components.IndexLemmas.{MapsToGreatest-none, MapsToGreatest-more}
 use Rattle.pf_graph.proofs.undirected.connected_components.component_index.Goals as goal
 
 pub loop-index-init : goal.loop-index-init

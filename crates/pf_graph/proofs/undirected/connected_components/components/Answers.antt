@@ -1,31 +1,31 @@
 use Rattle.std.proofs.Common.{◌≡◌, sym, subst, ap, ◌∙◌, ◌<◌, length, ℕ, All, Some}
 use Rattle.std.specs.Prelude.{slice_get}
 use Rattle.std.proofs.lemmas.Option.{slice_get-get_or}
-use Rattle.pf_graph.specs.Internal.Parts.{AreDone}
-use Rattle.pf_graph.proofs.PairLemmas.{first_id_below}
-use Rattle.pf_graph.proofs.CollectLemmas.{are_components}
+use Rattle.pf_graph.specs.Internal.Components.DisjointSets.{AreDone}
+use Rattle.pf_graph.proofs.Components.PairLemmas.{first_id_below}
+use Rattle.pf_graph.proofs.Components.CollectLemmas.{are_components}
 use Rattle.pf_graph.proofs.undirected.connected_components.components.Goals as goal
 
 pub collect_nodes-requires-clause-inside : goal.collect_nodes-requires-clause-inside
 collect_nodes-requires-clause-inside g c = λ k d h.
-    let p = c.in_ok-parted.ensures.parted in
+    let p = c.in_ok-united.ensures.united in
     let n : length c.deref-2.result.now ≡ length p.0 = ap length c.deref-2.ensures.value ∙ p.3 ∙ sym p.4 in
-    rw n (subst (λ xs. All (λ (m : ℕ). m < length p.0) xs) (sym c.deref.ensures.value) (λ i e l. p.1.inside i _ (slice_get-get_or c.in_ok-parted.parted.first.items i e l)) k d h)
+    rw n (subst (λ xs. All (λ (m : ℕ). m < length p.0) xs) (sym c.deref.ensures.value) (λ i e l. p.1.inside i _ (slice_get-get_or c.in_ok-united.united.first.items i e l)) k d h)
 
 pub collect_nodes-requires-clause-below : goal.collect_nodes-requires-clause-below
 collect_nodes-requires-clause-below g c =
-    let p = c.in_ok-parted.ensures.parted in
+    let p = c.in_ok-united.ensures.united in
     subst (λ is. All (λ (m : ℕ). (id : ℕ) → slice_get is m ≡ Some id → id < length is) c.deref.result.now) (sym c.deref-2.ensures.value)
-    (subst (λ fs. All (λ (m : ℕ). (id : ℕ) → slice_get c.in_ok-parted.parted.ids.items m ≡ Some id → id < length c.in_ok-parted.parted.ids.items) fs) (sym c.deref.ensures.value)
-    (first_id_below g.met.N.Eq.laws c.args.groups.now c.in_ok-parted.parted.nodes.keys c.in_ok-parted.parted.first.items p.0 p.1 c.in_ok-parted.parted.ids.items p.2 p.3))
+    (subst (λ fs. All (λ (m : ℕ). (id : ℕ) → slice_get c.in_ok-united.united.ids.items m ≡ Some id → id < length c.in_ok-united.united.ids.items) fs) (sym c.deref.ensures.value)
+    (first_id_below g.met.N.Eq.laws c.args.groups.now c.in_ok-united.united.nodes.keys c.in_ok-united.united.first.items p.0 p.1 c.in_ok-united.united.ids.items p.2 p.3))
 
 pub returns-clause-components : goal.returns-clause-components
 returns-clause-components g c =
-    let p = c.in_ok-parted.ensures.parted in
+    let p = c.in_ok-united.ensures.united in
     let r = c.in_ok-sets.ensures.collected in
-    let done_at : AreDone c.in_ok-parted.parted.nodes.keys c.in_ok-parted.parted.first.items c.in_ok-parted.parted.ids.items (length c.in_ok-parted.parted.nodes.keys) r.0 =
-    subst (λ (n : ℕ). AreDone c.in_ok-parted.parted.nodes.keys c.in_ok-parted.parted.first.items c.in_ok-parted.parted.ids.items n r.0) (ap length c.deref.ensures.value ∙ p.1.len)
-    (subst (λ ns. AreDone ns c.in_ok-parted.parted.first.items c.in_ok-parted.parted.ids.items (length c.deref.result.now) r.0) c.as_slice.ensures.keys
-    (subst (λ fs. AreDone c.as_slice.result.now fs c.in_ok-parted.parted.ids.items (length c.deref.result.now) r.0) c.deref.ensures.value
+    let done_at : AreDone c.in_ok-united.united.nodes.keys c.in_ok-united.united.first.items c.in_ok-united.united.ids.items (length c.in_ok-united.united.nodes.keys) r.0 =
+    subst (λ (n : ℕ). AreDone c.in_ok-united.united.nodes.keys c.in_ok-united.united.first.items c.in_ok-united.united.ids.items n r.0) (ap length c.deref.ensures.value ∙ p.1.len)
+    (subst (λ ns. AreDone ns c.in_ok-united.united.first.items c.in_ok-united.united.ids.items (length c.deref.result.now) r.0) c.as_slice.ensures.keys
+    (subst (λ fs. AreDone c.as_slice.result.now fs c.in_ok-united.united.ids.items (length c.deref.result.now) r.0) c.deref.ensures.value
     (subst (λ is. AreDone c.as_slice.result.now c.deref.result.now is (length c.deref.result.now) r.0) c.deref-2.ensures.value r.2))) in
-    are_components g.met.N.Eq.laws c.args.groups.now c.in_ok-parted.parted.nodes.keys c.in_ok-parted.parted.first.items p.0 p.1 c.in_ok-parted.parted.ids.items p.2 p.3 p.4 r.0 done_at r.1 c.in_ok-sets.sets.items r.3
+    are_components g.met.N.Eq.laws c.args.groups.now c.in_ok-united.united.nodes.keys c.in_ok-united.united.first.items p.0 p.1 c.in_ok-united.united.ids.items p.2 p.3 p.4 r.0 done_at r.1 c.in_ok-sets.sets.items r.3

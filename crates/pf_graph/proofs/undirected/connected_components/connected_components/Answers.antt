@@ -1,7 +1,7 @@
 use Rattle.std.proofs.Common.{sym, subst, List}
 use Rattle.std.proofs.lemmas.Result.{IfOk-weaker}
-use Rattle.pf_graph.specs.Internal.Around.{AreGroupsAround}
-use Rattle.pf_graph.proofs.AroundLemmas.{components_around}
+use Rattle.pf_graph.specs.Internal.Components.Around.{AreGroupsAround}
+use Rattle.pf_graph.proofs.Components.AroundLemmas.{components_around}
 use Rattle.pf_graph.proofs.undirected.connected_components.connected_components.Goals as goal
 
 pub returns-clause-components : goal.returns-clause-components

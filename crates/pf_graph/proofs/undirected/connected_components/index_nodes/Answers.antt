@@ -2,7 +2,7 @@ use Rattle.std.proofs.Common.{[], ◌∷◌, ◌++◌, sym, ap, ◌∙◌, refl,
 use Rattle.std.specs.HashMap.{get}
 use Rattle.std.specs.List.{list_any}
 use Rattle.std.proofs.lemmas.List.{append_assoc, append-nil}
-use Rattle.pf_graph.proofs.IndexLemmas.{index_more}
+use Rattle.pf_graph.proofs.Components.IndexLemmas.{index_more}
 use Rattle.pf_graph.proofs.undirected.connected_components.index_nodes.Goals as goal
 
 pub loop-node-init : goal.loop-node-init

@@ -3,8 +3,8 @@ use Rattle.std.specs.Prelude.{◌<ℤ◌, ◌≤ℤ◌, MatchBool}
 use Rattle.std.specs.Ordering.{is_some_and, is_lt}
 use Rattle.std.proofs.lemmas.Int.{ints}
 use Rattle.std.proofs.lemmas.Option.{same_Some}
-use Rattle.pf_graph.specs.Internal.SpanningSteps.{values_sum}
-use Rattle.pf_graph.proofs.SumLemmas.{Rises-sorted, Rises-taken, sum_taken, below_zero, past_range}
+use Rattle.pf_graph.specs.Internal.Spanning.SpanningSteps.{values_sum}
+use Rattle.pf_graph.proofs.Spanning.SumLemmas.{Rises-sorted, Rises-taken, sum_taken, below_zero, past_range}
 use Rattle.pf_graph.proofs.undirected.exact_sum.exact_sum.Goals as goal
 
 pub weights-init : goal.weights-init

@@ -1,7 +1,7 @@
 use Rattle.std.proofs.Common.{◌≡◌, length}
 use Rattle.std.specs.Prelude.{◌+ℤ◌}
-use Rattle.pf_graph.specs.Internal.SpanningSteps.{values_sum}
-use Rattle.pf_graph.proofs.SumLemmas.{Rises}
+use Rattle.pf_graph.specs.Internal.Spanning.SpanningSteps.{values_sum}
+use Rattle.pf_graph.proofs.Spanning.SumLemmas.{Rises}
 use Rattle.pf_graph.proofs.undirected.exact_sum.exact_sum.Given as goal
 
 abbrev pub invariant-weights : goal.invariant-weights

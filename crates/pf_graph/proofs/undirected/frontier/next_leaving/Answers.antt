@@ -3,8 +3,8 @@ use Rattle.std.specs.BinaryHeap.{heap_items}
 use Rattle.std.specs.declared.cmp.Reverse.{Reverse}
 use Rattle.std.proofs.lemmas.Option.{slice_get-get_or}
 use Rattle.pf_graph.specs.declared.undirected.steps.Step.{Step}
-use Rattle.pf_graph.specs.Internal.Frontier.{IsMarked}
-use Rattle.pf_graph.proofs.FrontierLemmas.{was_in, rest_in, still_in, one_mark, TakesLeast-popped}
+use Rattle.pf_graph.specs.Internal.Spanning.Frontier.{IsMarked}
+use Rattle.pf_graph.proofs.Spanning.FrontierLemmas.{was_in, rest_in, still_in, one_mark, TakesLeast-popped}
 use Rattle.pf_graph.proofs.undirected.frontier.next_leaving.Goals as goal
 
 pub bounds-covered-entry : goal.bounds-covered-entry

@@ -2,7 +2,7 @@ use Rattle.std.specs.Prelude.{Contains, false}
 use Rattle.std.specs.BinaryHeap.{IsHeap, heap_items, heap_len}
 use Rattle.std.specs.declared.cmp.Reverse.{Reverse}
 use Rattle.pf_graph.specs.declared.undirected.steps.Step.{Step}
-use Rattle.pf_graph.specs.Internal.Frontier.{IsMarked, waiting_order}
+use Rattle.pf_graph.specs.Internal.Spanning.Frontier.{IsMarked, waiting_order}
 use Rattle.pf_graph.proofs.undirected.frontier.next_leaving.Given as goal
 
 abbrev pub invariant-entries : goal.invariant-entries

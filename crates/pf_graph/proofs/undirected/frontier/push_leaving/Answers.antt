@@ -1,22 +1,22 @@
-use Rattle.std.proofs.Common.{◌+◌, ◌∙◌, ◌∷◌, ◌++◌, [], sym, ap, subst, true, false, Some, take}
+use Rattle.std.proofs.Common.{◌+◌, ◌∙◌, ◌∷◌, ◌++◌, [], sym, ap, subst, true, false, Some, take, refl, length}
 use Rattle.std.specs.BinaryHeap.{IsHeap, heap_items}
-use Rattle.std.proofs.lemmas.Option.{slice_get-get_or}
+use Rattle.std.proofs.lemmas.Option.{slice_get-get_or, slice_get_read}
 use Rattle.std.proofs.lemmas.List.{take_more}
-use Rattle.pf_graph.specs.Internal.Frontier.{IsMarked, Gains, waiting_order}
-use Rattle.pf_graph.proofs.ListLemmas.{get_here, get_contains}
-use Rattle.pf_graph.proofs.FrontierLemmas.{Gains-skip, Gains-push}
+use Rattle.pf_graph.specs.Internal.Spanning.Frontier.{IsMarked, Gains, waiting_order}
+use Rattle.pf_graph.proofs.ListLemmas.{get_contains}
+use Rattle.pf_graph.proofs.Spanning.FrontierLemmas.{Gains-skip, Gains-push}
 use Rattle.pf_graph.proofs.undirected.frontier.push_leaving.Goals as goal
 use Rattle.pf_graph.proofs.undirected.frontier.push_leaving.Goals.{then-not-covered-step+in_ok-push, else-not-covered-step}
 
 pub bounds-covered-step : goal.bounds-covered-step
-bounds-covered-step g c = c.requires.inside c.step-item.result (get_contains c.args.row.now c.steps.step-index c.step-item.result (get_here c.args.row.now c.steps.step-index c.step-item.result c.steps-test.true c.step-item.is))
+bounds-covered-step g c = c.requires.inside c.step-item.result (get_contains c.args.row.now c.steps.step-index c.step-item.result (slice_get_read c.args.row.now (length c.args.row.now) c.steps.step-index c.step-item.result refl c.steps-test.true c.step-item.is))
 
 pub steps-preserved : goal.steps-preserved
 steps-preserved g c =
     let s = c.step-item.result in
     let covered = c.args.covered.now in
     let before = take c.steps.step-index c.args.row.now in
-    let inside = c.requires.inside s (get_contains c.args.row.now c.steps.step-index s (get_here c.args.row.now c.steps.step-index s c.steps-test.true c.step-item.is)) in
+    let inside = c.requires.inside s (get_contains c.args.row.now c.steps.step-index s (slice_get_read c.args.row.now (length c.args.row.now) c.steps.step-index s refl c.steps-test.true c.step-item.is)) in
     let more = take_more c.args.row.now c.steps.step-index s c.steps-test.true ∙ ap (λ x. before ++ x ∷ []) (sym c.step-item.is) in
     elim c.if-not-covered-step.branch [
       | then-not-covered-step+in_ok-push w ↦ record {

@@ -1,6 +1,6 @@
 use Rattle.std.proofs.Common.{take}
 use Rattle.std.specs.BinaryHeap.{IsHeap, heap_items}
-use Rattle.pf_graph.specs.Internal.Frontier.{Gains, waiting_order}
+use Rattle.pf_graph.specs.Internal.Spanning.Frontier.{Gains, waiting_order}
 use Rattle.pf_graph.proofs.undirected.frontier.push_leaving.Given as goal
 
 abbrev pub invariant-steps : goal.invariant-steps

@@ -4,9 +4,9 @@ use Rattle.std.specs.List.{AllZip}
 use Rattle.std.proofs.lemmas.List.{map-append, map-id}
 use Rattle.std.proofs.lemmas.Iterator.Adapters.{YieldsList-from_vec}
 use Rattle.std.proofs.lemmas.Iterator.Consumers.{YieldsList-end}
-use Rattle.pf_graph.specs.Numbered.{shown}
+use Rattle.indexmap.proofs.SetLemmas.{AllZip-push}
+use Rattle.pf_graph.specs.EdgesByReference.{shown}
 use Rattle.pf_graph.specs.Internal.NumberedEdges.{IsWritten}
-use Rattle.pf_graph.proofs.ListLemmas.{zip_push}
 use Rattle.pf_graph.proofs.undirected.kruskal.as_written.Goals as goal
 
 pub loop-numbered-init : goal.loop-numbered-init
@@ -15,7 +15,7 @@ loop-numbered-init g c = subst (λ xs. AllZip IsWritten [] (map shown xs)) (sym 
 pub loop-numbered-preserved : goal.loop-numbered-preserved
 loop-numbered-preserved g c =
     subst (λ xs. AllZip IsWritten (c.loop-numbered.yielded ++ c.in-Some.numbered ∷ []) xs) (sym (ap (map shown) c.in_ok-push.ensures.items ∙ map-append shown c.loop-numbered.edges.items _))
-    (zip_push IsWritten c.loop-numbered.yielded (map shown c.loop-numbered.edges.items) c.in-Some.numbered _ c.loop-numbered.invariant (refl, refl, refl))
+    (AllZip-push IsWritten c.loop-numbered.yielded (map shown c.loop-numbered.edges.items) c.in-Some.numbered _ c.loop-numbered.invariant (refl, refl, refl))
 
 pub returns-clause-written : goal.returns-clause-written
 returns-clause-written g c =

@@ -1,6 +1,6 @@
 use Rattle.std.specs.Prelude.{map}
 use Rattle.std.specs.List.{AllZip}
-use Rattle.pf_graph.specs.Numbered.{shown}
+use Rattle.pf_graph.specs.EdgesByReference.{shown}
 use Rattle.pf_graph.specs.Internal.NumberedEdges.{IsWritten}
 use Rattle.pf_graph.proofs.undirected.kruskal.as_written.Given as goal
 

@@ -1,10 +1,10 @@
 use Rattle.std.proofs.Common.{ℕ, sym, subst, rules}
 use Rattle.std.specs.Prelude.{All, map}
 use Rattle.std.specs.List.Sorted.{IsSorted}
-use Rattle.pf_graph.specs.Numbered.{shown}
+use Rattle.pf_graph.specs.EdgesByReference.{shown}
 use Rattle.pf_graph.specs.declared.undirected.weighed.Weighed.{Weighed}
 use Rattle.pf_graph.specs.Spanning.{IsForest, IsLeastUnderEveryBound, AreChosenFrom}
-use Rattle.pf_graph.proofs.NameLemmas.{numbered_below, written_forest, written_least, written_given, written_sorted}
+use Rattle.pf_graph.proofs.Spanning.NameLemmas.{numbered_below, written_forest, written_least, written_given, written_sorted}
 use Rattle.pf_graph.proofs.undirected.kruskal.kruskal.Given.{Over}
 use Rattle.pf_graph.proofs.undirected.kruskal.kruskal.Goals as goal
 use Rattle.pf_graph.proofs.undirected.kruskal.kruskal.Goals.{After-into_iter}

@@ -1,5 +1,5 @@
 use Rattle.std.proofs.Common.{subst, sym, nat_eq}
-use Rattle.pf_graph.proofs.CopyLemmas.{below_copies, least_of_copies, chosen_of_copies}
+use Rattle.pf_graph.proofs.Spanning.CopyLemmas.{below_copies, least_of_copies, chosen_of_copies}
 use Rattle.pf_graph.specs.Spanning.{IsLeastUnderEveryBound, AreChosenFrom}
 use Rattle.pf_graph.proofs.undirected.kruskal.kruskal_indices.Goals as goal
 

@@ -3,8 +3,8 @@ use Rattle.std.specs.Prelude.{All, map}
 use Rattle.std.specs.List.Sorted.{IsSorted}
 use Rattle.pf_graph.specs.declared.undirected.weighed.Weighed.{Weighed}
 use Rattle.pf_graph.specs.Spanning.{IsLeastForest}
-use Rattle.pf_graph.proofs.NameLemmas.{numbered_below}
-use Rattle.pf_graph.proofs.WeightLemmas.{written_of, sorted_keys, least_forest, sum_of_forest}
+use Rattle.pf_graph.proofs.Spanning.NameLemmas.{numbered_below}
+use Rattle.pf_graph.proofs.Spanning.WeightLemmas.{written_of, sorted_keys, least_forest, sum_of_forest}
 use Rattle.pf_graph.proofs.undirected.kruskal.spanning_weight.Given.{Over}
 use Rattle.pf_graph.proofs.undirected.kruskal.spanning_weight.Goals as goal
 use Rattle.pf_graph.proofs.undirected.kruskal.spanning_weight.Goals.{After-deref-2}

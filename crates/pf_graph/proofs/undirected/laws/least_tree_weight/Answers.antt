@@ -1,6 +1,6 @@
 use Rattle.std.proofs.Common.{sym, ◌∙◌}
 use Rattle.std.proofs.lemmas.Option.{same_Some}
-use Rattle.pf_graph.proofs.TreeLawLemmas.{least_tree}
+use Rattle.pf_graph.proofs.Spanning.TreeLawLemmas.{least_tree}
 use Rattle.pf_graph.proofs.undirected.laws.least_tree_weight.Goals as goal
 
 pub returns : goal.returns

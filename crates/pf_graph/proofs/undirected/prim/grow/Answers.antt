@@ -2,10 +2,10 @@ use Rattle.std.proofs.Common.{◌<◌, ◌∙◌, sym, ap, subst, ℕ, length, l
 use Rattle.std.specs.Prelude.{map, slice_set}
 use Rattle.std.specs.BinaryHeap.{heap_items}
 use Rattle.std.proofs.lemmas.List.{map-append}
-use Rattle.pf_graph.specs.Numbered.{shown}
-use Rattle.pf_graph.specs.Internal.Frontier.{WaitsSave, IsGrown}
-use Rattle.pf_graph.proofs.FrontierLemmas.{open_count, open_less, WaitsSave-start, WaitsSave-taken}
-use Rattle.pf_graph.proofs.GrowLemmas.{IsGrown-start, IsGrown-push, IsGrown-end}
+use Rattle.pf_graph.specs.EdgesByReference.{shown}
+use Rattle.pf_graph.specs.Internal.Spanning.Frontier.{WaitsSave, IsGrown}
+use Rattle.pf_graph.proofs.Spanning.FrontierLemmas.{open_count, open_less, WaitsSave-start, WaitsSave-taken}
+use Rattle.pf_graph.proofs.Spanning.GrowLemmas.{IsGrown-start, IsGrown-push, IsGrown-end}
 use Rattle.pf_graph.proofs.undirected.prim.grow.Goals as goal
 
 pub cover-requires-clause-waits : goal.cover-requires-clause-waits

@@ -2,10 +2,10 @@ use Rattle.std.proofs.Common.{◌≡◌, length, List}
 use Rattle.std.specs.Prelude.{map}
 use Rattle.std.specs.Borrow.{Bor}
 use Rattle.std.specs.BinaryHeap.{IsHeap, heap_items}
-use Rattle.pf_graph.specs.Numbered.{shown}
+use Rattle.pf_graph.specs.EdgesByReference.{shown}
 use Rattle.pf_graph.specs.Internal.NumberedEdges.{StandsFor}
-use Rattle.pf_graph.specs.Internal.Frontier.{AreRows, Waits, IsGrown, waiting_order}
-use Rattle.pf_graph.proofs.FrontierLemmas.{open_count}
+use Rattle.pf_graph.specs.Internal.Spanning.Frontier.{AreRows, Waits, IsGrown, waiting_order}
+use Rattle.pf_graph.proofs.Spanning.FrontierLemmas.{open_count}
 use Rattle.pf_graph.proofs.undirected.prim.grow.Given as goal
 
 abbrev pub invariant-turns : goal.invariant-turns

@@ -1,14 +1,15 @@
 use Rattle.std.proofs.Common.{◌≡◌, ◌<◌, ◌∙◌, sym, ap, subst, ℕ, length, true, false, Some}
 use Rattle.std.specs.Prelude.{map, slice_get}
 use Rattle.std.proofs.lemmas.List.{length-replicate}
-use Rattle.pf_graph.specs.Numbered.{shown}
-use Rattle.pf_graph.specs.Internal.Frontier.{HasStep, HoldSteps, AreRows, IsMarked}
+use Rattle.std.proofs.lemmas.Result.{IfOk-weaker}
+use Rattle.pf_graph.specs.EdgesByReference.{shown}
+use Rattle.pf_graph.specs.Internal.Spanning.Frontier.{HasStep, HoldSteps, AreRows, IsMarked}
 use Rattle.pf_graph.specs.GrownTree.{GrowsByLeast, IsLeastAround}
 use Rattle.pf_graph.specs.Spanning.{AreBelow}
 use Rattle.pf_graph.proofs.ListLemmas.{resized}
-use Rattle.pf_graph.proofs.NameLemmas.{numbered_below}
-use Rattle.pf_graph.proofs.PrimLemmas.{if_ok, no_mark, start_is, are_rows, steps_inside, first_stands, first_inside}
-use Rattle.pf_graph.proofs.TreeLemmas.{grown_forest, grown_least}
+use Rattle.pf_graph.proofs.Spanning.NameLemmas.{numbered_below}
+use Rattle.pf_graph.proofs.Spanning.PrimLemmas.{no_mark, start_is, are_rows, steps_inside, first_stands, first_inside}
+use Rattle.pf_graph.proofs.Spanning.TreeLemmas.{grown_forest, grown_least}
 use Rattle.pf_graph.proofs.undirected.prim.prim.Goals as goal
 
 pub rows_of-requires : goal.rows_of-requires
@@ -58,7 +59,7 @@ returns-clause-grown g c =
     let len = c.in_ok-rows.ensures.len ∙ sym n.1 in
     let rows = subst (λ rs. AreRows g.N.PartialEq.eq n.0 edges rs) (sym c.deref-3.ensures.value) (are_rows edges numbered in_order n.0 n.2 c.in_ok-rows.rows.items steps len) in
     let stands = first_stands edges numbered in_order n.0 n.2 c.in_ok-rows.rows.items steps len first at in
-    if_ok c.grow.result (λ tree p. let q = p n.0 edges first.2.edge.now.0 rows stands in λ start s. subst (λ z. GrowsByLeast g.N.PartialEq.eq g.N.Ord.cmp g.C.Ord.cmp edges z (map shown tree.items)) (start_is edges numbered in_order first at start s) q.0) c.grow.ensures.grown
+    IfOk-weaker c.grow.result _ _ (λ tree p. let q = p n.0 edges first.2.edge.now.0 rows stands in λ start s. subst (λ z. GrowsByLeast g.N.PartialEq.eq g.N.Ord.cmp g.C.Ord.cmp edges z (map shown tree.items)) (start_is edges numbered in_order first at start s) q.0) c.grow.ensures.grown
 
 pub returns-clause-forest : goal.returns-clause-forest
 returns-clause-forest g c =
@@ -72,7 +73,7 @@ returns-clause-forest g c =
     let len = c.in_ok-rows.ensures.len ∙ sym n.1 in
     let rows = subst (λ rs. AreRows g.N.PartialEq.eq n.0 edges rs) (sym c.deref-3.ensures.value) (are_rows edges numbered in_order n.0 n.2 c.in_ok-rows.rows.items steps len) in
     let stands = first_stands edges numbered in_order n.0 n.2 c.in_ok-rows.rows.items steps len first at in
-    if_ok c.grow.result (λ tree p. let q = p n.0 edges first.2.edge.now.0 rows stands in grown_forest g.met.N.Eq.laws first.2.edge.now.0 g.met.C.Ord.total edges g.met.C.Ord.matches_eq c.requires.clones (map shown tree.items) q.0 q.1) c.grow.ensures.grown
+    IfOk-weaker c.grow.result _ _ (λ tree p. let q = p n.0 edges first.2.edge.now.0 rows stands in grown_forest g.met.N.Eq.laws first.2.edge.now.0 g.met.C.Ord.total edges g.met.C.Ord.matches_eq c.requires.clones (map shown tree.items) q.0 q.1) c.grow.ensures.grown
 
 pub returns-clause-least : goal.returns-clause-least
 returns-clause-least g c =
@@ -86,7 +87,7 @@ returns-clause-least g c =
     let len = c.in_ok-rows.ensures.len ∙ sym n.1 in
     let rows = subst (λ rs. AreRows g.N.PartialEq.eq n.0 edges rs) (sym c.deref-3.ensures.value) (are_rows edges numbered in_order n.0 n.2 c.in_ok-rows.rows.items steps len) in
     let stands = first_stands edges numbered in_order n.0 n.2 c.in_ok-rows.rows.items steps len first at in
-    if_ok c.grow.result (λ tree p. let q = p n.0 edges first.2.edge.now.0 rows stands in λ start s. subst (λ z. IsLeastAround g.N.PartialEq.eq g.C.Ord.cmp edges z (map shown tree.items)) (start_is edges numbered in_order first at start s) (grown_least g.met.N.Eq.laws first.2.edge.now.0 g.met.C.Ord.total edges g.met.C.Ord.matches_eq c.requires.clones (map shown tree.items) q.0 q.1)) c.grow.ensures.grown
+    IfOk-weaker c.grow.result _ _ (λ tree p. let q = p n.0 edges first.2.edge.now.0 rows stands in λ start s. subst (λ z. IsLeastAround g.N.PartialEq.eq g.C.Ord.cmp edges z (map shown tree.items)) (start_is edges numbered in_order first at start s) (grown_least g.met.N.Eq.laws first.2.edge.now.0 g.met.C.Ord.total edges g.met.C.Ord.matches_eq c.requires.clones (map shown tree.items) q.0 q.1)) c.grow.ensures.grown
 
 pub returns-clause-as_written : goal.returns-clause-as_written
 returns-clause-as_written g c =
@@ -100,4 +101,4 @@ returns-clause-as_written g c =
     let len = c.in_ok-rows.ensures.len ∙ sym n.1 in
     let rows = subst (λ rs. AreRows g.N.PartialEq.eq n.0 edges rs) (sym c.deref-3.ensures.value) (are_rows edges numbered in_order n.0 n.2 c.in_ok-rows.rows.items steps len) in
     let stands = first_stands edges numbered in_order n.0 n.2 c.in_ok-rows.rows.items steps len first at in
-    if_ok c.grow.result (λ tree p. let q = p n.0 edges first.2.edge.now.0 rows stands in q.1) c.grow.ensures.grown
+    IfOk-weaker c.grow.result _ _ (λ tree p. let q = p n.0 edges first.2.edge.now.0 rows stands in q.1) c.grow.ensures.grown

@@ -3,13 +3,13 @@ use Rattle.std.specs.Prelude.{Contains}
 use Rattle.std.proofs.lemmas.List.{map-id}
 use Rattle.std.proofs.lemmas.Iterator.Adapters.{YieldsList-from_vec}
 use Rattle.std.proofs.lemmas.Iterator.Consumers.{YieldsList-so_far, YieldsList-turn, YieldsList-end}
-use Rattle.pf_graph.proofs.KruskalLemmas.{Grown, Grown-start, Grown-take, Grown-skip, heavy}
+use Rattle.pf_graph.proofs.Spanning.KruskalLemmas.{Grown, Grown-start, Grown-take, Grown-skip, heavy}
 use Rattle.pf_graph.proofs.undirected.spanning.choose_edges.Goals as goal
 
 pub edges-init : goal.edges-init
 edges-init g c = record {
   sound = c.requires.sound;
-  grown = subst (λ xs. Grown g.C.Ord.cmp [] xs c.args.vertices.now) (sym c.requires.none) (Grown-start g.C.Ord.cmp c.args.vertices.now c.requires.apart);
+  grown = subst (λ xs. Grown g.C.Ord.cmp [] xs c.args.vertices.now) (sym c.requires.none) (Grown-start g.C.Ord.cmp c.args.vertices.now c.requires.singletons);
 }
 
 pub unite-requires-clause-inside : goal.unite-requires-clause-inside

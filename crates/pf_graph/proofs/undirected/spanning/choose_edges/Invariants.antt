@@ -1,5 +1,5 @@
 use Rattle.pf_graph.specs.Internal.UnionFind.{IsSound}
-use Rattle.pf_graph.proofs.KruskalLemmas.{Grown}
+use Rattle.pf_graph.proofs.Spanning.KruskalLemmas.{Grown}
 use Rattle.pf_graph.proofs.undirected.spanning.choose_edges.Given as goal
 
 abbrev pub invariant-edges : goal.invariant-edges

@@ -1,6 +1,6 @@
 use Rattle.std.proofs.Common.{sym, subst, refl, take, take_all, ◌+◌}
-use Rattle.pf_graph.specs.Internal.SpanningSteps.{HoldsCopies}
-use Rattle.pf_graph.proofs.CopyLemmas.{HoldsCopies-more}
+use Rattle.pf_graph.specs.Internal.Spanning.SpanningSteps.{HoldsCopies}
+use Rattle.pf_graph.proofs.Spanning.CopyLemmas.{HoldsCopies-more}
 use Rattle.pf_graph.proofs.undirected.spanning.copies_of.Goals as goal
 
 pub loop-edge-preserved : goal.loop-edge-preserved

@@ -1,5 +1,5 @@
 use Rattle.std.proofs.Common.{take}
-use Rattle.pf_graph.specs.Internal.SpanningSteps.{HoldsCopies}
+use Rattle.pf_graph.specs.Internal.Spanning.SpanningSteps.{HoldsCopies}
 use Rattle.pf_graph.proofs.undirected.spanning.copies_of.Given as goal
 
 abbrev pub invariant-loop-edge : goal.invariant-loop-edge

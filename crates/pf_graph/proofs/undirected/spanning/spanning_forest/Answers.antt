@@ -2,7 +2,7 @@ use Rattle.std.proofs.Common.{◌<◌, ◌∙◌, sym, ap, subst, rules, length}
 use Rattle.std.specs.Ordering.{is_lt}
 use Rattle.std.proofs.lemmas.List.Sorted.{All-permutation, Contains-permutation, IsPermutation-sym, ranks_by, answers_always}
 use Rattle.pf_graph.specs.Spanning.{AreBelow}
-use Rattle.pf_graph.proofs.CopyLemmas.{least_of_permutation}
+use Rattle.pf_graph.proofs.Spanning.CopyLemmas.{least_of_permutation}
 use Rattle.pf_graph.proofs.undirected.spanning.spanning_forest.Goals as goal
 
 pub choose_edges-requires-clause-below : goal.choose_edges-requires-clause-below

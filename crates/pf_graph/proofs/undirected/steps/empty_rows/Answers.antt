@@ -1,8 +1,8 @@
 use Rattle.std.proofs.Common.{◌+◌, ◌∙◌, ◌∷◌, [], sym, ap, subst, length, ℕ}
 use Rattle.std.proofs.lemmas.List.{length-append}
 use Rattle.pf_graph.specs.declared.undirected.steps.Step.{Step}
-use Rattle.pf_graph.specs.Internal.Frontier.{HasStep}
-use Rattle.pf_graph.proofs.StepLemmas.{empty_more}
+use Rattle.pf_graph.specs.Internal.Spanning.Frontier.{HasStep}
+use Rattle.pf_graph.proofs.Spanning.StepLemmas.{empty_more}
 use Rattle.pf_graph.proofs.undirected.steps.empty_rows.Goals as goal
 
 pub loop-preserved : goal.loop-preserved

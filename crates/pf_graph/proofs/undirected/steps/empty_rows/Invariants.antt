@@ -1,6 +1,6 @@
 use Rattle.std.proofs.Common.{◌≡◌, ℕ, length}
 use Rattle.pf_graph.specs.declared.undirected.steps.Step.{Step}
-use Rattle.pf_graph.specs.Internal.Frontier.{HasStep}
+use Rattle.pf_graph.specs.Internal.Spanning.Frontier.{HasStep}
 use Rattle.pf_graph.proofs.undirected.steps.empty_rows.Given as goal
 
 abbrev pub invariant-loop : goal.invariant-loop

@@ -1,5 +1,5 @@
 use Rattle.std.proofs.Common.{◌∙◌, refl}
-use Rattle.pf_graph.proofs.StepLemmas.{HoldSteps-none, HoldSteps-more}
+use Rattle.pf_graph.proofs.Spanning.StepLemmas.{HoldSteps-none, HoldSteps-more}
 use Rattle.pf_graph.proofs.undirected.steps.rows_of.Goals as goal
 
 pub loop-numbered-init : goal.loop-numbered-init

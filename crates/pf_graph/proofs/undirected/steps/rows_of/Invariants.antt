@@ -1,5 +1,5 @@
 use Rattle.std.proofs.Common.{◌≡◌, length, take}
-use Rattle.pf_graph.specs.Internal.Frontier.{HoldSteps}
+use Rattle.pf_graph.specs.Internal.Spanning.Frontier.{HoldSteps}
 use Rattle.pf_graph.proofs.undirected.steps.rows_of.Given as goal
 
 abbrev pub invariant-loop-numbered : goal.invariant-loop-numbered

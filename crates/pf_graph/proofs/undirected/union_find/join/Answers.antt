@@ -8,7 +8,7 @@ pub returns-clause-sound : goal.returns-clause-sound
 returns-clause-sound c =
     let vs = c.args.vertices.now in
     let d : Vertex = record { parent = 0; size = 0 } in
-    let n : c.args.large ≢ c.args.small = c.requires.apart in
+    let n : c.args.large ≢ c.args.small = c.requires.distinct in
     let at_large = slice_get-get_or vs c.args.large d c.requires.inside.0 in
     let at_small = slice_get-get_or vs c.args.small d c.requires.inside.1 in
     rw get_or-set_other (joined_sound vs c.requires.sound c.args.large c.args.small _ _ at_large at_small c.requires.roots.0 c.requires.roots.1 n)
@@ -17,7 +17,7 @@ pub returns-clause-labels : goal.returns-clause-labels
 returns-clause-labels c = λ label l.
     let vs = c.args.vertices.now in
     let d : Vertex = record { parent = 0; size = 0 } in
-    let n : c.args.large ≢ c.args.small = c.requires.apart in
+    let n : c.args.large ≢ c.args.small = c.requires.distinct in
     let at_large = slice_get-get_or vs c.args.large d c.requires.inside.0 in
     let at_small = slice_get-get_or vs c.args.small d c.requires.inside.1 in
     rw get_or-set_other (

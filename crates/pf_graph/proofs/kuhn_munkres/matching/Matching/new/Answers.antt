@@ -1,7 +1,7 @@
 use Rattle.std.proofs.Common.{◌≡◌, refl, ap, sym, subst, ◌∙◌, ℕ, zero, suc, None, replicate}
 use Rattle.std.specs.Prelude.{ℤ, pos}
 use Rattle.pf_graph.specs.Assignments.{number}
-use Rattle.pf_graph.specs.Internal.AssignmentSteps.{holder}
+use Rattle.pf_graph.specs.Internal.Assignment.AssignmentSteps.{holder}
 use Rattle.pf_graph.proofs.ListLemmas.{resized}
 use Rattle.pf_graph.proofs.kuhn_munkres.matching.Matching.new.Goals as goal
 

@@ -1,6 +1,6 @@
 use Rattle.std.proofs.Common.{◌<◌, ap, sym, subst, ◌∙◌, length}
 use Rattle.pf_graph.specs.Assignments.{number}
-use Rattle.pf_graph.proofs.MatchingNumbers.{number-at}
+use Rattle.pf_graph.proofs.Assignment.MatchingNumbers.{number-at}
 use Rattle.pf_graph.proofs.kuhn_munkres.weights.MatrixWeights.at.Goals as goal
 
 pub returns : goal.returns

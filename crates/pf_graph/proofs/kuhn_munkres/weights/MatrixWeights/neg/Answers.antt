@@ -1,7 +1,7 @@
 use Rattle.std.proofs.Common.{◌<◌, arith, ap, sym, subst, length, ◌*◌}
 use Rattle.std.specs.Prelude.{neg_ℤ}
 use Rattle.pf_graph.specs.Assignments.{number}
-use Rattle.pf_graph.proofs.MatchingWeights.{position_of}
+use Rattle.pf_graph.proofs.Assignment.MatchingWeights.{position_of}
 use Rattle.pf_graph.proofs.kuhn_munkres.weights.MatrixWeights.neg.Goals as goal
 
 pub write_negations-requires-clause-fits : goal.write_negations-requires-clause-fits

@@ -1,0 +1,5 @@
+pub mod DisjointSetLemmas
+pub mod PairLemmas
+pub mod IndexLemmas
+pub mod CollectLemmas
+pub mod AroundLemmas

@@ -1,0 +1,14 @@
+pub mod ForestLemmas
+pub mod OrderLemmas
+pub mod KruskalLemmas
+pub mod CopyLemmas
+pub mod NameLemmas
+pub mod LawLemmas
+pub mod SumLemmas
+pub mod WeightLemmas
+pub mod TreeLemmas
+pub mod FrontierLemmas
+pub mod StepLemmas
+pub mod GrowLemmas
+pub mod PrimLemmas
+pub mod TreeLawLemmas

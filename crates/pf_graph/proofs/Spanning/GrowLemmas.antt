@@ -1,0 +1,146 @@
+-- A tree that grows over numbered nodes, an edge at a time.
+use Rattle.std.proofs.Common.{ℕ, ◌<◌, ◌≡◌, ◌≢◌, sym, ◌∙◌, subst, arith, Bool, true, false, eq-eqb, List, [], ◌∷◌, ◌++◌, length, inl, inr, ◌⊎◌, Some, Vec, Ordering}
+use Rattle.std.specs.Prelude.{Contains, slice_get, slice_set, ◌↔◌}
+use Rattle.std.specs.Borrow.{Bor}
+use Rattle.std.specs.Cmp.{IsEquivalence, IsTotalOrder, Equal-is}
+use Rattle.std.specs.Ordering.{ordering_then, is_eq, nat_cmp}
+use Rattle.std.specs.declared.cmp.Ordering.TheVariants.{Less, Equal, Greater}
+use Rattle.std.specs.declared.cmp.Reverse.{Reverse}
+use Rattle.std.proofs.lemmas.List.Elements.{Contains-push_cases}
+use Rattle.std.proofs.lemmas.Option.{slice_get_within}
+use Rattle.pf_base.specs.Answers.{IsLawfulClone}
+use Rattle.pf_graph.specs.declared.undirected.steps.Step.{Step}
+use Rattle.pf_graph.specs.Internal.NumberedEdges.{StandsFor}
+use Rattle.pf_graph.specs.GrownTree.{RunsBetween, edge_order, Covers, LeavesByLeast, GrowsByLeast, AreChosenEitherWay}
+use Rattle.pf_graph.specs.Internal.Spanning.Frontier.{step_order, IsMarked, HasStep, Leads, AreRows, Waits, TakesLeast, NoneLeaves, IsGrown, waiting}
+use Rattle.pf_graph.proofs.ListLemmas.{get_set}
+use Rattle.pf_graph.proofs.Spanning.ForestLemmas.{split_push}
+use Rattle.pf_graph.proofs.NumberLemmas.{numbers_alike, distinct_one}
+use Rattle.pf_graph.proofs.Spanning.TreeLemmas.{Covers-kept, Covers-push, Covers-push_cases}
+use Rattle.pf_graph.proofs.Spanning.FrontierLemmas.{one_mark, mark_of}
+
+-- what is at most another in four orders is so in the first three
+then_three : (a b c d : Ordering) → ordering_then a (ordering_then b (ordering_then c d)) ≢ Greater → ordering_then a (ordering_then b c) ≢ Greater
+then_three Less b c d n = λ g. cc
+then_three Greater b c d n = n
+then_three Equal Less c d n = λ g. cc
+then_three Equal Greater c d n = n
+then_three Equal Equal Less d n = λ g. cc
+then_three Equal Equal Equal d n = λ g. cc
+then_three Equal Equal Greater d n = n
+
+-- an empty list is not split at an element
+no_split : {E : Type 0} (before after : List E) (e : E) → [] ≡ before ++ e ∷ after → ⊥
+no_split [] after e h = let k : [] ≡ e ∷ after = h in cc
+no_split (b ∷ bs) after e h = let k : [] ≡ b ∷ (bs ++ e ∷ after) = h in cc
+
+module _ {N C : Type 0} {eq : N → N → Bool} (laws : IsEquivalence eq) (nodes : List (Bor N)) where
+  -- a number more is marked, and the nodes that it stands for are had too
+  marks_more : {A : Type 0} (edges : List (N × N × C)) (rows : List (Vec (Step N C) A)) → AreRows eq nodes edges rows → (covered : List Bool) (n : ℕ) (y : N) (P Q : N → Type 0) → n < length covered → StandsFor eq nodes n y
+      → ((k : ℕ) (x : N) → StandsFor eq nodes k x → IsMarked true covered k ↔ P x) → ((x : N) → Q x ↔ (P x ⊎ (eq y x ≡ true)))
+      → (k : ℕ) (x : N) → StandsFor eq nodes k x → IsMarked true (slice_set covered n true) k ↔ Q x
+  marks_more edges rows r covered n y P Q inside at before after k x s = by (get_set covered n k true inside)
+    where
+      by : (((k ≡ n) × (slice_get (slice_set covered n true) k ≡ Some true)) ⊎ ((k ≢ n) × (slice_get (slice_set covered n true) k ≡ slice_get covered k))) → IsMarked true (slice_set covered n true) k ↔ Q x
+      by (inl e) = (λ m. (after x).1 (inr ((numbers_alike laws nodes r.apart).across n k y x at s (eq-eqb n k (sym e.0)))), λ q. e.1)
+      by (inr e) = (
+        λ m. (after x).1 (inl ((before k x s).0 (sym e.1 ∙ m))),
+        λ q. elim ((after x).0 q) as (λ _. IsMarked true (slice_set covered n true) k) [
+          | inl p ↦ e.1 ∙ (before k x s).1 p
+          | inr t ↦ absurd (e.0 (distinct_one laws nodes r.apart k n s.0 at.0 s.1 at.1 (laws.congr s.0.now x at.0.now s.2 ∙ sym (laws.congr y x at.0.now t) ∙ laws.symm y at.0.now ∙ at.2)))
+        ],
+      )
+
+  -- a tree without an edge covers its start alone
+  start_alone : (start x : N) → Covers {C = C} eq start [] x → ⊥ ⊎ (eq start x ≡ true)
+  start_alone start x c = elim c as (λ _. ⊥ ⊎ (eq start x ≡ true)) [ inl s ↦ inr s | inr e ↦ absurd (omega (arith, e.1.1)) ]
+
+  module _ {A : Type 0} {node_cmp : N → N → Ordering} {cmp : C → C → Ordering} (total : IsTotalOrder cmp) {is_clone : C → C → Type 0} (edges : List (N × N × C)) (rows : List (Vec (Step N C) A)) (r : AreRows eq nodes edges rows) (start : N) where
+    -- the start alone is covered
+    pub IsGrown-start : (covered : List Bool) (n : ℕ) → n < length covered → ((k : ℕ) → ¬ (IsMarked true covered k)) → StandsFor eq nodes n start → IsGrown eq node_cmp cmp is_clone nodes edges start (slice_set covered n true) []
+    IsGrown-start covered n inside none at = record {
+      marked = marks_more edges rows r covered n start (λ x. ⊥) (λ x. Covers {C = C} eq start [] x) inside at (λ k x s. (λ m. none k m, λ b. absurd b)) (λ x. (
+        λ c. start_alone start x c,
+        λ c. elim c as (λ _. Covers {C = C} eq start [] x) [ inl b ↦ absurd b | inr s ↦ inl s ],
+      ));
+      each = λ before after e h. absurd (no_split before after e h);
+      written = record { as_written = λ e c. absurd (omega (arith, c.1)) };
+    }
+
+    module _ (covered : List Bool) (len : length covered ≡ length rows) (queue : List (Reverse (Step N C))) (w : Waits rows covered queue) (tree : List (N × N × C)) (g : IsGrown eq node_cmp cmp is_clone nodes edges start covered tree) where
+      -- an edge that leaves what is covered is a step that waits, and one between covered ends leads to a covered number
+      leaving : (x y : N) (v : C) → RunsBetween edges x y v → Covers eq start tree x → (s : Step N C) × Leads s x y v s.number × (Covers eq start tree y ⊎ (IsMarked false covered s.number × Contains queue (waiting s)))
+      leaving x y v runs c =
+          let a = r.all x y v runs in
+          let s = a.1 in
+          let at = r.from a.0 s a.2 in
+          let here : IsMarked true covered a.0 = (g.marked a.0 s.covered.now at.0).1 (subst (λ (z : N). Covers eq start tree z) (sym a.3.0) c) in
+          let low : s.number < length covered = subst (λ (n : ℕ). s.number < n) (sym (len ∙ r.len)) (slice_get_within nodes s.number at.1.0 at.1.1) in (
+            s,
+            a.3,
+            elim (mark_of covered s.number low) as (λ _. Covers eq start tree y ⊎ (IsMarked false covered s.number × Contains queue (waiting s))) [
+              | inl m ↦ inl (subst (λ (z : N). Covers eq start tree z) a.3.1 ((g.marked s.number s.new.now at.1).0 m))
+              | inr m ↦ inr (m, w.all a.0 s here a.2 m)
+            ],
+          )
+
+      -- no step that waits leads to a number that is not covered
+      pub IsGrown-end : NoneLeaves covered queue → GrowsByLeast eq node_cmp cmp edges start tree × AreChosenEitherWay is_clone edges tree
+      IsGrown-end none = (
+        record {
+          each = g.each;
+          none_leaves = λ x y v runs c. let l = leaving x y v runs c in elim l.2 as (λ _. Covers eq start tree y) [ inl k ↦ k | inr k ↦ absurd (none (waiting l.0) k.1 k.0) ];
+        },
+        g.written,
+      )
+
+      -- the least step is taken
+      module _ {ceq : C → C → Bool} (agree : (x y : C) → ceq x y ≡ is_eq (cmp x y)) (lawful : IsLawfulClone ceq is_clone) (queue' : List (Reverse (Step N C))) (s : Step N C) (t : TakesLeast node_cmp cmp covered queue queue' s) (u : C) (clone : is_clone s.weight.now u) where
+        abbrev edge : N × N × C
+        edge = (s.covered.now, s.new.now, u)
+
+        tied : cmp s.weight.now u ≡ Equal
+        tied = (Equal-is (cmp s.weight.now u)).0 (sym (agree s.weight.now u) ∙ lawful s.weight.now u clone)
+
+        place : (k : ℕ) × IsMarked true covered k × HasStep rows k s
+        place = w.from (waiting s) t.waited
+
+        at : StandsFor eq nodes place.0 s.covered.now × StandsFor eq nodes s.number s.new.now × RunsBetween edges s.covered.now s.new.now s.weight.now
+        at = r.from place.0 s place.2
+
+        -- the order of steps is that of the edges
+        edge_least : (x y : N) (v : C) (z : Step N C) → Leads z x y v z.number → step_order node_cmp cmp s z ≢ Greater → edge_order node_cmp cmp edge (x, y, v) ≢ Greater
+        edge_least x y v z l n =
+            let three : ordering_then (cmp s.weight.now z.weight.now) (ordering_then (node_cmp s.covered.now z.covered.now) (node_cmp s.new.now z.new.now)) ≢ Greater = then_three (cmp s.weight.now z.weight.now) (node_cmp s.covered.now z.covered.now) (node_cmp s.new.now z.new.now) (nat_cmp s.number z.number) n in
+            let weighed : edge_order node_cmp cmp edge (z.covered.now, z.new.now, z.weight.now) ≢ Greater = subst (λ (o : Ordering). ordering_then o (ordering_then (node_cmp s.covered.now z.covered.now) (node_cmp s.new.now z.new.now)) ≢ Greater) (total.congr s.weight.now u z.weight.now tied) three in
+            subst (λ (f : N × N × C). edge_order node_cmp cmp edge f ≢ Greater) (λ i. (l.0 i, l.1 i, l.2 i)) weighed
+
+        leaves : LeavesByLeast eq node_cmp cmp edges start tree edge
+        leaves = record {
+          from_covered = (g.marked place.0 s.covered.now at.0).0 place.1;
+          to_new = λ c. one_mark covered s.number ((g.marked s.number s.new.now at.1).1 c) t.new;
+          least = λ x y v runs c n.
+              let l = leaving x y v runs c in
+              elim l.2 as (λ _. edge_order node_cmp cmp edge (x, y, v) ≢ Greater) [
+                | inl k ↦ absurd (n k)
+                | inr k ↦ edge_least x y v l.0 l.1 (t.least (waiting l.0) k.1 k.0)
+              ];
+        }
+
+        pub IsGrown-push : IsGrown eq node_cmp cmp is_clone nodes edges start (slice_set covered s.number true) (tree ++ (s.covered.now, s.new.now, u) ∷ [])
+        IsGrown-push = record {
+          marked = marks_more edges rows r covered s.number s.new.now (λ x. Covers eq start tree x) (λ x. Covers eq start (tree ++ edge ∷ []) x) (slice_get_within covered s.number false t.new) at.1 g.marked (λ x. (
+            λ c. Covers-push_cases laws start tree edge x c,
+            λ c. elim c as (λ _. Covers eq start (tree ++ edge ∷ []) x) [ inl k ↦ Covers-kept laws start tree edge x k | inr k ↦ Covers-push laws start tree edge x k ],
+          ));
+          each = λ before after e h. elim (split_push tree before after edge e h) as (λ _. LeavesByLeast eq node_cmp cmp edges start before e) [
+            | inl k ↦ subst (λ (f : N × N × C). LeavesByLeast eq node_cmp cmp edges start before f) k.1 (subst (λ es. LeavesByLeast eq node_cmp cmp edges start es edge) k.0 leaves)
+            | inr k ↦ g.each before k.0 e k.1
+          ];
+          written = record {
+            as_written = λ e c. elim (Contains-push_cases tree edge e c) as (λ _. (v : C) × RunsBetween edges e.0 e.1 v × is_clone v e.2) [
+              | inl k ↦ g.written.as_written e k
+              | inr k ↦ subst (λ (f : N × N × C). (v : C) × RunsBetween edges f.0 f.1 v × is_clone v f.2) k (s.weight.now, at.2, clone)
+            ];
+          };
+        }

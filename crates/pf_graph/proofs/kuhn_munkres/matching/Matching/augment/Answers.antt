@@ -1,0 +1,138 @@
+use Rattle.std.proofs.Common.{rules, ◌≡◌, ◌<◌, ◌++◌, ◌∷◌, [], arith, ap, sym, subst, ◌∙◌, ℕ, length, true, Some, take, drop}
+use Rattle.std.specs.Prelude.{neg_ℤ, ◌+ℤ◌, ◌-ℤ◌, slice_index, slice_set}
+use Rattle.std.proofs.lemmas.List.{take_at}
+use Rattle.pf_graph.specs.Assignments.{number}
+use Rattle.pf_graph.specs.Internal.Assignment.AssignmentSteps.{holder, flag, raised, IsMatched, IsAlternatingTree, IsFlipped}
+use Rattle.pf_graph.proofs.Assignment.MatchingBounds.{step_difference, step_negation, step_sum, step_rest, depth_negation}
+use Rattle.pf_graph.proofs.Assignment.MatchingRaise.{nearest_number, rooted_of, augment_lists}
+use Rattle.pf_graph.proofs.kuhn_munkres.matching.Matching.augment.Goals as goal
+
+pub raise_columns-requires-clause-difference : goal.raise_columns-requires-clause-difference
+raise_columns-requires-clause-difference g c = λ j h f.
+    let value = g.C.Number.value in
+    let m = c.args.self.now in
+    let ds = c.args.tree.now.distances.items in
+    let depth = nearest_number c.requires.tree c.args.column c.requires.nearest c.index-depth.result.now c.index-depth.ensures in
+    let l = c.requires.next.matched.columns in
+    let inside : j < (g.W.Weights.table c.args.weights.now).columns = omega (arith, h, ap length c.deref_mut.ensures.value, l) in
+    subst (λ z. g.C.Number.fits (z -ℤ number value c.deref-2.result.now j)) depth
+    (subst (λ xs. g.C.Number.fits (number value ds c.args.column -ℤ number value xs j)) (sym c.deref-2.ensures.value)
+    (step_difference g.C.Number.fits (λ x y z. g.C.Number.between_law x y z g.met.C.Integral.exact_law) c.requires.fit c.requires.shape c.requires.next c.requires.tree c.args.column c.requires.nearest j inside (ap (λ xs. flag xs j) (sym c.deref.ensures.value) ∙ f)))
+
+pub raise_columns-requires-clause-negation : goal.raise_columns-requires-clause-negation
+raise_columns-requires-clause-negation g c = λ j h f.
+    let value = g.C.Number.value in
+    let m = c.args.self.now in
+    let ds = c.args.tree.now.distances.items in
+    let depth = nearest_number c.requires.tree c.args.column c.requires.nearest c.index-depth.result.now c.index-depth.ensures in
+    let l = c.requires.next.matched.columns in
+    let inside : j < (g.W.Weights.table c.args.weights.now).columns = omega (arith, h, ap length c.deref_mut.ensures.value, l) in
+    subst (λ z. g.C.Number.fits (neg_ℤ (z -ℤ number value c.deref-2.result.now j))) depth
+    (subst (λ xs. g.C.Number.fits (neg_ℤ (number value ds c.args.column -ℤ number value xs j))) (sym c.deref-2.ensures.value)
+    (step_negation g.C.Number.fits (λ x y z. g.C.Number.between_law x y z g.met.C.Integral.exact_law) c.requires.fit c.requires.shape c.requires.next c.requires.tree c.args.column c.requires.nearest j inside (ap (λ xs. flag xs j) (sym c.deref.ensures.value) ∙ f)))
+
+pub raise_columns-requires-clause-sum : goal.raise_columns-requires-clause-sum
+raise_columns-requires-clause-sum g c = λ j h f.
+    let value = g.C.Number.value in
+    let m = c.args.self.now in
+    let ds = c.args.tree.now.distances.items in
+    let depth = nearest_number c.requires.tree c.args.column c.requires.nearest c.index-depth.result.now c.index-depth.ensures in
+    let l = c.requires.next.matched.columns in
+    let inside : j < (g.W.Weights.table c.args.weights.now).columns = omega (arith, h, ap length c.deref_mut.ensures.value, l) in
+    subst (λ z. g.C.Number.fits (number value c.deref_mut.result.now j +ℤ (z -ℤ number value c.deref-2.result.now j))) depth
+    (subst (λ xs. g.C.Number.fits (number value c.deref_mut.result.now j +ℤ (number value ds c.args.column -ℤ number value xs j))) (sym c.deref-2.ensures.value)
+    (subst (λ xs. g.C.Number.fits (number value xs j +ℤ (number value ds c.args.column -ℤ number value ds j))) (sym c.deref_mut.ensures.value)
+    (step_sum g.C.Number.fits (λ x y z. g.C.Number.between_law x y z g.met.C.Integral.exact_law) c.requires.fit c.requires.shape c.requires.next c.requires.tree c.args.column c.requires.nearest j inside (ap (λ xs. flag xs j) (sym c.deref.ensures.value) ∙ f))))
+
+pub lower_rows-requires-clause-difference : goal.lower_rows-requires-clause-difference
+lower_rows-requires-clause-difference g c = λ j h f.
+    let value = g.C.Number.value in
+    let m = c.args.self.now in
+    let ds = c.args.tree.now.distances.items in
+    let depth = nearest_number c.requires.tree c.args.column c.requires.nearest c.index-depth.result.now c.index-depth.ensures in
+    let l = c.requires.tree.visited_len in
+    let inside : j < (g.W.Weights.table c.args.weights.now).columns = omega (arith, h, ap length c.deref-4.ensures.value, l) in
+    subst (λ z. g.C.Number.fits (z -ℤ number value c.deref-5.result.now j)) depth
+    (subst (λ xs. g.C.Number.fits (number value ds c.args.column -ℤ number value xs j)) (sym c.deref-5.ensures.value)
+    (step_difference g.C.Number.fits (λ x y z. g.C.Number.between_law x y z g.met.C.Integral.exact_law) c.requires.fit c.requires.shape c.requires.next c.requires.tree c.args.column c.requires.nearest j inside (ap (λ xs. flag xs j) (sym c.deref-4.ensures.value) ∙ f)))
+
+pub lower_rows-requires-clause-rest : goal.lower_rows-requires-clause-rest
+lower_rows-requires-clause-rest g c =
+    let value = g.C.Number.value in
+    let m = c.args.self.now in
+    let ds = c.args.tree.now.distances.items in
+    let depth = nearest_number c.requires.tree c.args.column c.requires.nearest c.index-depth.result.now c.index-depth.ensures in
+    subst (λ cs. (i : ℕ) → i < length cs → flag c.deref-4.result.now (slice_index cs i) ≡ true → g.C.Number.fits (number value c.deref_mut-2.result.now i -ℤ (value c.index-depth.result.now -ℤ number value c.deref-5.result.now (slice_index cs i)))) (sym c.deref-3.ensures.value)
+    (λ i h f. subst (λ z. g.C.Number.fits (number value c.deref_mut-2.result.now i -ℤ (z -ℤ number value c.deref-5.result.now (slice_index m.column_of.items i)))) depth
+    (subst (λ xs. g.C.Number.fits (number value c.deref_mut-2.result.now i -ℤ (number value ds c.args.column -ℤ number value xs (slice_index m.column_of.items i)))) (sym c.deref-5.ensures.value)
+    (subst (λ xs. g.C.Number.fits (number value xs i -ℤ (number value ds c.args.column -ℤ number value ds (slice_index m.column_of.items i)))) (sym c.deref_mut-2.ensures.value)
+    (step_rest g.C.Number.fits (λ x y z. g.C.Number.between_law x y z g.met.C.Integral.exact_law) c.requires.fit c.requires.shape c.requires.next c.requires.tree c.args.column c.requires.nearest i (slice_index m.column_of.items i) h (c.requires.next.matched.matching.inside i h) (ap (λ xs. flag xs (slice_index m.column_of.items i)) (sym c.deref-4.ensures.value) ∙ f)))))
+
+pub negated-requires : goal.negated-requires
+negated-requires g c =
+    let value = g.C.Number.value in
+    let m = c.args.self.now in
+    let ds = c.args.tree.now.distances.items in
+    let depth = nearest_number c.requires.tree c.args.column c.requires.nearest c.index-depth.result.now c.index-depth.ensures in
+    subst (λ z. g.C.Number.fits (neg_ℤ z)) depth (depth_negation g.C.Number.fits (λ x y z. g.C.Number.between_law x y z g.met.C.Integral.exact_law) c.requires.fit c.requires.shape c.requires.next c.requires.tree c.args.column c.requires.nearest)
+
+pub flip_path-left-requires-clause-rooted : goal.flip_path-left-requires-clause-rooted
+flip_path-left-requires-clause-rooted g c =
+    let m = c.args.self.now in
+    let r = c.args.tree.now in
+    subst (λ xs. IsAlternatingTree (length xs) (length c.deref_mut-4.result.now) (length c.deref-6.result.now) (slice_index xs) (slice_index c.deref-6.result.now) (slice_index c.deref-7.result.now)) (sym c.deref_mut-3.ensures.value)
+    (subst (λ xs. IsAlternatingTree (length m.column_of.items) (length xs) (length c.deref-6.result.now) (slice_index m.column_of.items) (slice_index c.deref-6.result.now) (slice_index c.deref-7.result.now)) (sym c.deref_mut-4.ensures.value)
+    (subst (λ xs. IsAlternatingTree (length m.column_of.items) (length m.row_of.items) (length xs) (slice_index m.column_of.items) (slice_index xs) (slice_index c.deref-7.result.now)) (sym c.deref-6.ensures.value)
+    (subst (λ xs. IsAlternatingTree (length m.column_of.items) (length m.row_of.items) (length r.rows.items) (slice_index m.column_of.items) (slice_index r.rows.items) (slice_index xs)) (sym c.deref-7.ensures.value)
+    (rooted_of c.requires.next c.requires.tree))))
+
+pub returns-clause-matched : goal.returns-clause-matched
+returns-clause-matched g c =
+    let value = g.C.Number.value in
+    let m = c.args.self.now in
+    let ds = c.args.tree.now.distances.items in
+    let depth = nearest_number c.requires.tree c.args.column c.requires.nearest c.index-depth.result.now c.index-depth.ensures in
+    let r = c.args.tree.now in
+    let t = g.W.Weights.table c.args.weights.now in
+    let raised_as =
+    subst (λ z. (j : ℕ) → j < length m.column_potentials.items → number value c.raise_columns.new.potentials j ≡ raised (flag r.visited.items j) (number value m.column_potentials.items j) (z -ℤ number value ds j)) (sym depth)
+    (subst (λ xs. (j : ℕ) → j < length m.column_potentials.items → number value c.raise_columns.new.potentials j ≡ raised (flag r.visited.items j) (number value m.column_potentials.items j) (value c.index-depth.result.now -ℤ number value xs j)) c.deref-2.ensures.value
+    (subst (λ xs. (j : ℕ) → j < length m.column_potentials.items → number value c.raise_columns.new.potentials j ≡ raised (flag xs j) (number value m.column_potentials.items j) (value c.index-depth.result.now -ℤ number value c.deref-2.result.now j)) c.deref.ensures.value
+    (subst (λ xs. (j : ℕ) → j < length xs → number value c.raise_columns.new.potentials j ≡ raised (flag c.deref.result.now j) (number value xs j) (value c.index-depth.result.now -ℤ number value c.deref-2.result.now j)) c.deref_mut.ensures.value c.raise_columns.ensures))) in
+    let lowered_as =
+    subst (λ z. (i : ℕ) → i < length m.column_of.items → number value c.lower_rows.new.potentials i ≡ raised (flag r.visited.items (slice_index m.column_of.items i)) (number value m.row_potentials.items i) (neg_ℤ (z -ℤ number value ds (slice_index m.column_of.items i)))) (sym depth)
+    (subst (λ xs. (i : ℕ) → i < length m.column_of.items → number value c.lower_rows.new.potentials i ≡ raised (flag r.visited.items (slice_index m.column_of.items i)) (number value m.row_potentials.items i) (neg_ℤ (value c.index-depth.result.now -ℤ number value xs (slice_index m.column_of.items i)))) c.deref-5.ensures.value
+    (subst (λ xs. (i : ℕ) → i < length m.column_of.items → number value c.lower_rows.new.potentials i ≡ raised (flag xs (slice_index m.column_of.items i)) (number value m.row_potentials.items i) (neg_ℤ (value c.index-depth.result.now -ℤ number value c.deref-5.result.now (slice_index m.column_of.items i)))) c.deref-4.ensures.value
+    (subst (λ cs. (i : ℕ) → i < length cs → number value c.lower_rows.new.potentials i ≡ raised (flag c.deref-4.result.now (slice_index cs i)) (number value m.row_potentials.items i) (neg_ℤ (value c.index-depth.result.now -ℤ number value c.deref-5.result.now (slice_index cs i)))) c.deref-3.ensures.value
+    (subst (λ xs. (i : ℕ) → i < length c.deref-3.result.now → number value c.lower_rows.new.potentials i ≡ raised (flag c.deref-4.result.now (slice_index c.deref-3.result.now i)) (number value xs i) (neg_ℤ (value c.index-depth.result.now -ℤ number value c.deref-5.result.now (slice_index c.deref-3.result.now i)))) c.deref_mut-2.ensures.value c.lower_rows.ensures.matched)))) in
+    let flipped =
+    subst (λ xs. IsFlipped (length xs) (length m.row_of.items) (length r.rows.items) c.args.column (slice_index xs) (holder m.row_of.items) (slice_index r.rows.items) (slice_index r.places.items) (slice_index c.flip_path-left.new.column_of) (holder c.flip_path-left.new.row_of) c.flip_path-left.result) c.deref_mut-3.ensures.value
+    (subst (λ xs. IsFlipped (length c.deref_mut-3.result.now) (length xs) (length r.rows.items) c.args.column (slice_index c.deref_mut-3.result.now) (holder xs) (slice_index r.rows.items) (slice_index r.places.items) (slice_index c.flip_path-left.new.column_of) (holder c.flip_path-left.new.row_of) c.flip_path-left.result) c.deref_mut-4.ensures.value
+    (subst (λ xs. IsFlipped (length c.deref_mut-3.result.now) (length c.deref_mut-4.result.now) (length xs) c.args.column (slice_index c.deref_mut-3.result.now) (holder c.deref_mut-4.result.now) (slice_index xs) (slice_index r.places.items) (slice_index c.flip_path-left.new.column_of) (holder c.flip_path-left.new.row_of) c.flip_path-left.result) c.deref-6.ensures.value
+    (subst (λ xs. IsFlipped (length c.deref_mut-3.result.now) (length c.deref_mut-4.result.now) (length c.deref-6.result.now) c.args.column (slice_index c.deref_mut-3.result.now) (holder c.deref_mut-4.result.now) (slice_index c.deref-6.result.now) (slice_index xs) (slice_index c.flip_path-left.new.column_of) (holder c.flip_path-left.new.row_of) c.flip_path-left.result) c.deref-7.ensures.value c.flip_path-left.ensures.flipped))) in
+    let last = subst (λ xs. slice_index xs c.flip_path-left.result ≡ 0) c.deref-7.ensures.value c.flip_path-left.ensures.root in
+    let root : c.len-root.result ≡ length m.column_of.items = search rules in
+    let lr : length c.flip_path-left.new.row_of ≡ length m.row_of.items = search rules in
+    let lc : length c.flip_path-left.new.column_of ≡ length m.column_of.items = search rules in
+    let lu : length c.lower_rows.new.potentials ≡ length m.row_potentials.items = search rules in
+    let lv : length c.raise_columns.new.potentials ≡ length m.column_potentials.items = search rules in
+    let nr : m.row_of.len ≡ length m.row_of.items = search rules in
+    let nc : m.column_of.len ≡ length m.column_of.items = search rules in
+    let nu : m.row_potentials.len ≡ length m.row_potentials.items = search rules in
+    let nv : m.column_potentials.len ≡ length m.column_potentials.items = search rules in
+    let fr = take_at c.flip_path-left.new.row_of (drop (length c.flip_path-left.new.row_of) m.row_of.items) m.row_of.len (lr ∙ sym nr) in
+    let fc = take_at c.flip_path-left.new.column_of (drop (length c.flip_path-left.new.column_of) m.column_of.items) m.column_of.len (lc ∙ sym nc) in
+    let fu = take_at c.lower_rows.new.potentials (drop (length c.lower_rows.new.potentials) m.row_potentials.items) m.row_potentials.len (lu ∙ sym nu) in
+    let fv = take_at c.raise_columns.new.potentials (drop (length c.raise_columns.new.potentials) m.column_potentials.items) m.column_potentials.len (lv ∙ sym nv) in
+    let all = augment_lists c.requires.next c.requires.tree c.args.column c.requires.nearest c.raise_columns.new.potentials c.lower_rows.new.potentials c.negated.result (c.negated.ensures ∙ ap neg_ℤ (sym depth)) raised_as lv lowered_as lu c.flip_path-left.new.column_of c.flip_path-left.new.row_of c.flip_path-left.result flipped last lc lr in
+    let left = c.flip_path-left.result in
+    let low = c.negated.result in
+    let row_of = slice_set (take m.row_of.len (c.flip_path-left.new.row_of ++ drop (length c.flip_path-left.new.row_of) m.row_of.items)) left (Some c.len-root.result) in
+    let us = slice_set (take m.row_potentials.len (c.lower_rows.new.potentials ++ drop (length c.lower_rows.new.potentials) m.row_potentials.items)) c.len-root.result low in
+    let vs = take m.column_potentials.len (c.raise_columns.new.potentials ++ drop (length c.raise_columns.new.potentials) m.column_potentials.items) in
+    let column_of = c.flip_path-left.new.column_of ++ left ∷ [] in
+    subst (λ xs. IsMatched value t xs row_of us vs) (sym (c.in_ok-push.ensures.items ∙ ap (λ xs. xs ++ left ∷ []) fc))
+    (subst (λ xs. IsMatched value t column_of (slice_set xs left (Some c.len-root.result)) us vs) (sym fr)
+    (subst (λ xs. IsMatched value t column_of (slice_set c.flip_path-left.new.row_of left (Some c.len-root.result)) (slice_set xs c.len-root.result low) vs) (sym fu)
+    (subst (λ xs. IsMatched value t column_of (slice_set c.flip_path-left.new.row_of left (Some c.len-root.result)) (slice_set c.lower_rows.new.potentials c.len-root.result low) xs) (sym fv)
+    (subst (λ k. IsMatched value t column_of (slice_set c.flip_path-left.new.row_of left (Some k)) (slice_set c.lower_rows.new.potentials k low) c.raise_columns.new.potentials) (sym root) all))))

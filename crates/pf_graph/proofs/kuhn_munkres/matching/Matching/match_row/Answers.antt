@@ -1,0 +1,17 @@
+use Rattle.std.proofs.Common.{◌≡◌, ap, sym, subst, ◌∙◌}
+use Rattle.std.specs.Prelude.{pos}
+use Rattle.pf_graph.specs.Internal.Assignment.AssignmentSteps.{IsNext}
+use Rattle.pf_graph.proofs.Assignment.MatchingBest.{next_of}
+use Rattle.pf_graph.proofs.kuhn_munkres.matching.Matching.match_row.Goals as goal
+
+pub grow-requires-clause-next : goal.grow-requires-clause-next
+grow-requires-clause-next g c =
+    let z : g.C.Number.value c.zero.result ≡ pos 0 = ap g.C.Number.value c.zero.ensures ∙ g.met.C.Zero.zero_law g.met.C.Integral.exact_law in
+    subst (λ xs. IsNext g.C.Number.value (g.W.Weights.table c.args.weights.now) c.args.self.now.column_of.items c.args.self.now.row_of.items xs c.args.self.now.column_potentials.items) (sym c.in_ok-push.ensures.items)
+    (next_of c.requires.matched c.requires.left c.requires.row_potentials c.zero.result z)
+
+pub augment-requires-clause-next : goal.augment-requires-clause-next
+augment-requires-clause-next g c =
+    let z : g.C.Number.value c.zero.result ≡ pos 0 = ap g.C.Number.value c.zero.ensures ∙ g.met.C.Zero.zero_law g.met.C.Integral.exact_law in
+    subst (λ xs. IsNext g.C.Number.value (g.W.Weights.table c.args.weights.now) c.args.self.now.column_of.items c.args.self.now.row_of.items xs c.args.self.now.column_potentials.items) (sym c.in_ok-push.ensures.items)
+    (next_of c.requires.matched c.requires.left c.requires.row_potentials c.zero.result z)

@@ -1,0 +1,24 @@
+use Rattle.std.proofs.Common.{◌<◌, arith, ap, ◌∙◌, length, false}
+use Rattle.std.specs.Prelude.{slice_set, slice_index}
+use Rattle.std.proofs.lemmas.List.{get_or-set_same, get_or-set_other, length-set}
+use Rattle.pf_graph.specs.Assignments.{number}
+use Rattle.pf_graph.specs.Internal.Assignment.AssignmentSteps.{flag}
+use Rattle.pf_graph.proofs.Assignment.MatchingNumbers.{number-set_same, number-set_other, below_written}
+use Rattle.pf_graph.proofs.kuhn_munkres.tree.Tree.clear.Goals as goal
+
+pub loop-column-preserved : goal.loop-column-preserved
+loop-column-preserved g c =
+    let i = c.loop-column.invariant in
+    let k = c.loop-column.column in
+    let in_visited : k < length c.loop-column.self.visited.items = omega (arith, i.visited_len) in
+    let in_distances : k < length c.loop-column.self.distances.items = omega (arith, i.visited_len, i.distances_len) in
+    let in_places : k < length c.loop-column.self.places.items = omega (arith, i.visited_len, i.places_len) in
+    record {
+      rows = i.rows;
+      visited_len = length-set c.loop-column.self.visited.items k false ∙ i.visited_len;
+      distances_len = length-set c.loop-column.self.distances.items k c.greatest.result ∙ i.distances_len;
+      places_len = length-set c.loop-column.self.places.items k 0 ∙ i.places_len;
+      unvisited = λ j h. below_written (λ n. flag (slice_set c.loop-column.self.visited.items k false) n) (flag c.loop-column.self.visited.items) (λ _. false) k (get_or-set_same c.loop-column.self.visited.items k false false in_visited) (λ n m. get_or-set_other c.loop-column.self.visited.items k n false false m) i.unvisited j h;
+      far = λ j h. below_written (number g.C.Number.value (slice_set c.loop-column.self.distances.items k c.greatest.result)) (number g.C.Number.value c.loop-column.self.distances.items) (λ _. g.C.Number.value g.C.Cost.greatest) k (number-set_same g.C.Number.value c.loop-column.self.distances.items k c.greatest.result in_distances ∙ ap g.C.Number.value c.greatest.ensures) (λ n m. number-set_other g.C.Number.value c.loop-column.self.distances.items k n c.greatest.result m) i.far j h;
+      root = λ j h. below_written (λ n. slice_index (slice_set c.loop-column.self.places.items k 0) n) (slice_index c.loop-column.self.places.items) (λ _. 0) k (get_or-set_same c.loop-column.self.places.items k 0 0 in_places) (λ n m. get_or-set_other c.loop-column.self.places.items k n 0 0 m) i.root j h;
+    }

@@ -1,0 +1,79 @@
+use Rattle.std.proofs.Common.{rules, ℕ, ◌≡◌, ◌+◌, sym, subst, arith, ap, ◌∙◌, false, true, length}
+use Rattle.std.specs.Prelude.{slice_index, ◌+ℤ◌, ◌-ℤ◌, neg_ℤ}
+use Rattle.std.proofs.lemmas.List.{get_or_default}
+use Rattle.pf_graph.specs.Assignments.{number}
+use Rattle.pf_graph.specs.Internal.Assignment.AssignmentSteps.{flag, IsRelaxed, IsNearest}
+use Rattle.pf_graph.proofs.Assignment.MatchingNumbers.{number-at}
+use Rattle.pf_graph.proofs.Assignment.MatchingScan.{IsScannedTo, scan_skips, scan_relaxes, scan_nearest}
+use Rattle.pf_graph.proofs.kuhn_munkres.tree.Tree.scan.Goals as goal
+use Rattle.pf_graph.proofs.kuhn_munkres.tree.Tree.scan.Goals.{then-not-index, else-not-index}
+
+pub plus-bound-requires-clause-negation : goal.plus-bound-requires-clause-negation
+plus-bound-requires-clause-negation g c =
+    let n = number-at g.C.Number.value c.args.matching.now.column_potentials.items c.loop-column.column c.index-then-not-index.result.now (omega arith) c.index-then-not-index.ensures in
+    let f : flag c.args.self.now.visited.items c.loop-column.column ≡ false = subst (λ xs. flag xs c.loop-column.column ≡ false) c.loop-column.invariant.visited (search rules) in
+    subst (λ z. g.C.Number.fits (neg_ℤ z)) n (c.requires.negation c.loop-column.column (omega arith) f)
+
+pub plus-bound-requires-clause-sum : goal.plus-bound-requires-clause-sum
+plus-bound-requires-clause-sum g c =
+    let n = number-at g.C.Number.value c.args.matching.now.column_potentials.items c.loop-column.column c.index-then-not-index.result.now (omega arith) c.index-then-not-index.ensures in
+    let f : flag c.args.self.now.visited.items c.loop-column.column ≡ false = subst (λ xs. flag xs c.loop-column.column ≡ false) c.loop-column.invariant.visited (search rules) in
+    subst (λ z. g.C.Number.fits (g.C.Number.value c.args.offset +ℤ z)) n (c.requires.sum c.loop-column.column (omega arith) f)
+
+pub minus-through-requires : goal.minus-through-requires
+minus-through-requires g c =
+    let n = number-at g.C.Number.value c.args.matching.now.column_potentials.items c.loop-column.column c.index-then-not-index.result.now (omega arith) c.index-then-not-index.ensures in
+    let f : flag c.args.self.now.visited.items c.loop-column.column ≡ false = subst (λ xs. flag xs c.loop-column.column ≡ false) c.loop-column.invariant.visited (search rules) in
+    let e : g.C.Number.value c.args.offset +ℤ number g.C.Number.value c.args.matching.now.column_potentials.items c.loop-column.column ≡ g.C.Number.value c.plus-bound.result = ap (λ z. g.C.Number.value c.args.offset +ℤ z) n ∙ sym c.plus-bound.ensures in
+    subst (λ z. g.C.Number.fits (z -ℤ g.C.Number.value c.at.result)) e
+    (subst (λ z. g.C.Number.fits (g.C.Number.value c.args.offset +ℤ number g.C.Number.value c.args.matching.now.column_potentials.items c.loop-column.column -ℤ z)) (sym c.at.ensures) (c.requires.difference c.loop-column.column (omega arith) f))
+
+pub nearer-requires-clause-other : goal.nearer-requires-clause-other
+nearer-requires-clause-other g c = λ n e. let l = (c.loop-column.invariant.scanned.some n e).0 in let d = c.relax.ensures.distances_len in let i = c.loop-column.invariant.distances_len in omega (arith, l, d, i)
+
+pub loop-column-preserved : goal.loop-column-preserved
+loop-column-preserved g c =
+    let value = g.C.Number.value in
+    let i = c.loop-column.invariant in
+    let k = c.loop-column.column in
+    let through = λ (j : ℕ). value c.args.offset +ℤ number value c.args.matching.now.column_potentials.items j -ℤ (g.W.Weights.table c.args.weights.now).at c.args.row j in
+    elim c.if-not-index.branch [
+      | then-not-index w ↦ (
+          let f : flag c.args.self.now.visited.items k ≡ false = subst (λ xs. flag xs k ≡ false) i.visited (search rules) in
+          let n = number-at value c.args.matching.now.column_potentials.items k w.index-then-not-index.result.now (omega arith) w.index-then-not-index.ensures in
+          let e : value w.minus-through.result ≡ through k = w.minus-through.ensures ∙ ap (λ z. z -ℤ value w.at.result) (w.plus-bound.ensures ∙ ap (λ z. value c.args.offset +ℤ z) (sym n)) ∙ ap (λ z. value c.args.offset +ℤ number value c.args.matching.now.column_potentials.items k -ℤ z) w.at.ensures in
+          let so = scan_relaxes through c.args.place (flag c.args.self.now.visited.items) (number value c.args.self.now.distances.items) (slice_index c.args.self.now.places.items) k (number value c.loop-column.self.distances.items) (slice_index c.loop-column.self.places.items) c.loop-column.nearest i.scanned f (number value w.relax.new.self.distances.items) (slice_index w.relax.new.self.places.items)
+          (subst (λ z. IsRelaxed false z c.args.place (number value c.loop-column.self.distances.items k) (slice_index c.loop-column.self.places.items k) (number value w.relax.new.self.distances.items k) (slice_index w.relax.new.self.places.items k)) e w.relax.ensures.here) w.relax.ensures.distances w.relax.ensures.places w.nearer.result w.nearer.ensures.one w.nearer.ensures.here w.nearer.ensures.before in
+          record {
+            scanned = subst (λ t. IsScannedTo (k + 1) through c.args.place (flag c.args.self.now.visited.items) (number value c.args.self.now.distances.items) (slice_index c.args.self.now.places.items) (number value t.distances.items) (slice_index t.places.items) c.if-not-index.nearest) (sym w.self-is)
+                (subst (λ o. IsScannedTo (k + 1) through c.args.place (flag c.args.self.now.visited.items) (number value c.args.self.now.distances.items) (slice_index c.args.self.now.places.items) (number value w.relax.new.self.distances.items) (slice_index w.relax.new.self.places.items) o) (sym w.nearest-is) so);
+            rows = subst (λ t. t.rows.items ≡ c.args.self.now.rows.items) (sym w.self-is) (w.relax.ensures.rows ∙ i.rows);
+            visited = subst (λ t. t.visited.items ≡ c.args.self.now.visited.items) (sym w.self-is) (w.relax.ensures.visited ∙ i.visited);
+            distances_len = subst (λ t. length t.distances.items ≡ length c.args.self.now.distances.items) (sym w.self-is) (w.relax.ensures.distances_len ∙ i.distances_len);
+            places_len = subst (λ t. length t.places.items ≡ length c.args.self.now.places.items) (sym w.self-is) (w.relax.ensures.places_len ∙ i.places_len);
+          }
+          )
+      | else-not-index w ↦ (
+          let seen : c.index.result.now ≡ true = search rules in
+          let f : flag c.args.self.now.visited.items k ≡ true = subst (λ xs. flag xs k ≡ true) i.visited (get_or_default c.loop-column.self.visited.items k false c.index.result.now (omega (arith, ap length i.visited)) ∙ sym c.index.ensures ∙ seen) in
+          let so = scan_skips through c.args.place (flag c.args.self.now.visited.items) (number value c.args.self.now.distances.items) (slice_index c.args.self.now.places.items) k (number value c.loop-column.self.distances.items) (slice_index c.loop-column.self.places.items) c.loop-column.nearest i.scanned f in
+          record {
+            scanned = subst (λ t. IsScannedTo (k + 1) through c.args.place (flag c.args.self.now.visited.items) (number value c.args.self.now.distances.items) (slice_index c.args.self.now.places.items) (number value t.distances.items) (slice_index t.places.items) c.if-not-index.nearest) (sym w.self-is)
+                (subst (λ o. IsScannedTo (k + 1) through c.args.place (flag c.args.self.now.visited.items) (number value c.args.self.now.distances.items) (slice_index c.args.self.now.places.items) (number value c.loop-column.self.distances.items) (slice_index c.loop-column.self.places.items) o) (sym w.nearest-is) so);
+            rows = subst (λ t. t.rows.items ≡ c.args.self.now.rows.items) (sym w.self-is) i.rows;
+            visited = subst (λ t. t.visited.items ≡ c.args.self.now.visited.items) (sym w.self-is) i.visited;
+            distances_len = subst (λ t. length t.distances.items ≡ length c.args.self.now.distances.items) (sym w.self-is) i.distances_len;
+            places_len = subst (λ t. length t.places.items ≡ length c.args.self.now.places.items) (sym w.self-is) i.places_len;
+          }
+          )
+    ]
+
+pub returns-clause-nearest : goal.returns-clause-nearest
+returns-clause-nearest g c =
+    let value = g.C.Number.value in
+    let k = c.loop-column.column in
+    let through = λ (j : ℕ). value c.args.offset +ℤ number value c.args.matching.now.column_potentials.items j -ℤ (g.W.Weights.table c.args.weights.now).at c.args.row j in
+    let e : k ≡ (g.W.Weights.table c.args.weights.now).columns = omega arith in
+    subst (λ n. IsNearest n (flag c.loop-column.self.visited.items) (number value c.loop-column.self.distances.items) c.unwrap.result) e
+    (subst (λ xs. IsNearest k (flag xs) (number value c.loop-column.self.distances.items) c.unwrap.result) (sym c.loop-column.invariant.visited)
+    (scan_nearest through c.args.place (flag c.args.self.now.visited.items) (number value c.args.self.now.distances.items) (slice_index c.args.self.now.places.items) k (number value c.loop-column.self.distances.items) (slice_index c.loop-column.self.places.items) c.loop-column.nearest c.loop-column.invariant.scanned c.unwrap.result c.unwrap.ensures))

@@ -1,0 +1,11 @@
+use Rattle.std.proofs.Common.{subst, ap, ◌∙◌, ◌++◌, take}
+use Rattle.std.specs.Prelude.{map}
+use Rattle.pf_graph.specs.Internal.Components.DisjointSets.{IsGathered, pair_with, pairs_from}
+use Rattle.pf_graph.proofs.Components.PairLemmas.{pairs_from-more}
+use Rattle.pf_graph.proofs.undirected.disjoint_sets.gather.Goals as goal
+
+pub loop-group-preserved : goal.loop-group-preserved
+loop-group-preserved g c =
+    subst (λ ps. IsGathered g.N.PartialEq.eq ps c.gather_group.new.nodes.keys c.gather_group.new.first.items c.gather_group.new.vertices)
+    (ap (λ xs. pairs_from 0 (take c.loop-group.group c.args.groups.now) ++ map (pair_with c.loop-group.group) xs) c.deref.ensures.value ∙ pairs_from-more c.args.groups.now c.loop-group.group c.index-groups-group.result c.loop-group-test.true c.index-groups-group.is)
+    (c.in_ok-gather_group.ensures.gathered (pairs_from 0 (take c.loop-group.group c.args.groups.now)) c.loop-group.invariant)

@@ -1,0 +1,11 @@
+use Rattle.std.proofs.Common.{◌≡◌, ℕ, length, take}
+use Rattle.pf_graph.specs.Internal.UnionFind.{IsSound, IsLabelling}
+use Rattle.pf_graph.specs.Internal.Components.DisjointSets.{Identifies}
+use Rattle.pf_graph.proofs.undirected.disjoint_sets.identify.Given as goal
+
+abbrev pub invariant-loop-group : goal.invariant-loop-group
+invariant-loop-group g l = record {
+  sound : IsSound l.vertices;
+  len : length l.ids.items ≡ l.group;
+  labels : (label : ℕ → ℕ) → IsLabelling label l.fn.vertices → IsLabelling label l.vertices × Identifies label (length l.groups) (take l.group l.groups) l.ids.items;
+}

@@ -1,0 +1,16 @@
+use Rattle.std.proofs.Common.{◌<◌, refl, arith, length, slice_index_or, ℕ}
+use Rattle.std.proofs.lemmas.List.{get_or_default}
+use Rattle.std.proofs.lemmas.Option.{slice_get-get_or, slice_get_read}
+use Rattle.pf_graph.proofs.Components.DisjointSetLemmas.{MapsByFirst-more}
+use Rattle.pf_graph.proofs.undirected.disjoint_sets.map_nodes.Goals as goal
+
+pub loop-place-preserved : goal.loop-place-preserved
+loop-place-preserved g c =
+    let first = c.args.first.now in
+    let place = c.loop-place.place in
+    let j : ℕ = slice_index_or first place 0 in
+    let inside : place < length c.args.nodes.now = omega (arith, c.loop-place-test.true, c.requires.len) in
+    MapsByFirst-more g.met.N.Eq.laws c.args.nodes.now first c.args.ids.now c.loop-place.of_node c.insert.new.self place c.index-nodes-place.result j (slice_index_or c.args.ids.now j 0)
+    c.in_ok-insert.ensures.updates.0 c.loop-place-test.true (get_or_default first place 0 j c.loop-place-test.true)
+    (slice_get_read c.args.nodes.now (length c.args.nodes.now) place c.index-nodes-place.result refl inside c.index-nodes-place.is)
+    (slice_get-get_or c.args.ids.now j 0 (c.requires.inside place 0 c.loop-place-test.true)) c.loop-place.invariant

@@ -1,0 +1,22 @@
+use Rattle.std.proofs.Common.{[], ◌∷◌, ◌++◌, ◌<◌, ℕ, slice_index_or, length, refl, arith}
+use Rattle.std.proofs.lemmas.Option.{slice_get-get_or, slice_get_read}
+use Rattle.pf_graph.proofs.Components.CollectLemmas.{AreDone-none, AreDone-more}
+use Rattle.pf_graph.proofs.undirected.node_sets.collect_into.Goals as goal
+
+pub loop-number-init : goal.loop-number-init
+loop-number-init g c = record { done = []; are_done = AreDone-none c.args.nodes.now c.args.first.now c.args.ids.now; collected = c.requires.none }
+
+pub loop-number-preserved : goal.loop-number-preserved
+loop-number-preserved g c =
+    let i = c.loop-number.invariant in
+    let number = c.loop-number.number in
+    let j : ℕ = slice_index_or c.args.first.now number 0 in
+    let id : ℕ = slice_index_or c.args.ids.now j 0 in
+    let m = c.index-nodes-number.result in
+    let inside : number < length c.args.nodes.now = omega (arith, c.loop-number-test.true, c.requires.len) in
+    record {
+      done = i.done ++ (id, m.now) ∷ [];
+      are_done = AreDone-more c.args.nodes.now c.args.first.now c.args.ids.now number i.done m j id
+          (slice_get_read c.args.nodes.now (length c.args.nodes.now) number m refl inside c.index-nodes-number.is) (slice_get-get_or c.args.first.now number 0 c.loop-number-test.true) (slice_get-get_or c.args.ids.now j 0 (c.requires.inside number 0 c.loop-number-test.true)) i.are_done;
+      collected = c.in_ok-add_node.ensures.collected i.done i.collected;
+    }

@@ -1,6 +1,0 @@
-use Rattle.std.proofs.Common.{◌≡◌, length}
-use Rattle.pf_graph.proofs.UnionFindLemmas.{IsApart}
-use Rattle.pf_graph.proofs.undirected.union_find.apart.Given as goal
-
-abbrev pub invariant-loop-parent : goal.invariant-loop-parent
-invariant-loop-parent g l = record { len : length l.vertices.items ≡ l.parent; apart : IsApart l.vertices.items }

@@ -1,0 +1,131 @@
+-- What the search for a best assignment keeps true: rows matched one after another, potentials that
+-- bound the weights from above, and a tree of shortest augmenting paths from the row that is matched next.
+use Rattle.std.specs.Prelude.{◌≡◌, ◌≤ℤ◌, ◌<ℤ◌, ◌+ℤ◌, ◌-ℤ◌, ◌⊎◌, ℕ, zero, suc, ◌+◌, ◌<◌, ◌≢◌, ℤ, pos, neg_ℤ, Bool, true, false, List, length, Option, Some, None, slice_index, slice_index_or}
+use Rattle.pf_graph.specs.Assignments.{number, NumberTable}
+
+-- the row that has column j, if one has it
+abbrev pub holder : List (Option ℕ) → ℕ → Option ℕ
+holder row_of j = slice_index_or row_of j None
+
+-- was column j visited?
+abbrev pub flag : List Bool → ℕ → Bool
+flag visited j = slice_index_or visited j false
+
+-- the first n rows have columns of their own
+pub record IsMatching (n columns : ℕ) (col : ℕ → ℕ) (held : ℕ → Option ℕ) : Type 0 where
+  pub inside : (i : ℕ) → i < n → col i < columns
+  pub back : (i : ℕ) → i < n → held (col i) ≡ Some i
+  pub from : (i j : ℕ) → held j ≡ Some i → (i < n) × (col i ≡ j)
+
+-- potentials of rows and columns bound the weights of the first n rows, and are exact at matched pairs
+pub record IsPotential (a : ℕ → ℕ → ℤ) (n columns : ℕ) (col : ℕ → ℕ) (held : ℕ → Option ℕ) (u v : ℕ → ℤ) : Type 0 where
+  pub above : (i j : ℕ) → i < n → j < columns → a i j ≤ℤ (u i +ℤ v j)
+  pub tight : (i : ℕ) → i < n → u i +ℤ v (col i) ≡ a i (col i)
+  pub non_negative : (j : ℕ) → j < columns → pos 0 ≤ℤ v j
+  pub free : (j : ℕ) → j < columns → held j ≡ None → v j ≡ pos 0
+
+-- how far the row at a place of the tree is from its root: 0, or the distance of its column
+abbrev pub reach : (ℕ → ℤ) → (ℕ → ℕ) → (ℕ → ℕ) → ℕ → ℤ
+reach d col rows zero = pos 0
+reach d col rows (suc p) = d (col (rows (suc p)))
+
+-- the lengths of shortest alternating paths to all columns over the rows of a tree, whose root is row n, the next to be matched.
+-- A visited column stands in the tree by its row; no column outside is nearer.
+pub record IsShortestPathTree (a : ℕ → ℕ → ℤ) (n columns : ℕ) (col : ℕ → ℕ) (held : ℕ → Option ℕ) (u v : ℕ → ℤ) (count : ℕ) (rows : ℕ → ℕ) (visited : ℕ → Bool) (d : ℕ → ℤ) (place : ℕ → ℕ) : Type 0 where
+  pub rooted : 0 < count
+  pub first : rows 0 ≡ n
+  pub row : (p : ℕ) → 0 < p → p < count → (rows p < n) × (visited (col (rows p)) ≡ true)
+  pub once : (p q : ℕ) → p < count → q < count → rows p ≡ rows q → p ≡ q
+  pub reached : (i : ℕ) → i < n → visited (col i) ≡ true → (p : ℕ) × (0 < p) × (p < count) × (rows p ≡ i)
+  pub matched : (j : ℕ) → visited j ≡ true → (i : ℕ) × (held j ≡ Some i)
+  pub below : (p j : ℕ) → p < count → j < columns → (d j +ℤ a (rows p) j) ≤ℤ (reach d col rows p +ℤ u (rows p) +ℤ v j)
+  pub along : (j : ℕ) → j < columns → (place j < count) × (d j +ℤ a (rows (place j)) j ≡ reach d col rows (place j) +ℤ u (rows (place j)) +ℤ v j)
+  pub before : (p : ℕ) → 0 < p → p < count → place (col (rows p)) < p
+  pub near : (i j : ℕ) → i < columns → j < columns → visited i ≡ true → visited j ≡ false → d i ≤ℤ d j
+  pub low : (w : ℕ) → ((j : ℕ) → j < columns → a n j ≤ℤ pos w) → (j : ℕ) → j < columns → neg_ℤ (pos w) ≤ℤ d j
+
+-- the column is outside the tree, and none outside is nearer
+pub record IsNearest (columns : ℕ) (visited : ℕ → Bool) (d : ℕ → ℤ) (c : ℕ) : Type 0 where
+  pub inside : c < columns
+  pub outside : visited c ≡ false
+  pub least : (j : ℕ) → j < columns → visited j ≡ false → d c ≤ℤ d j
+
+-- a distance and its place stay, or both become those of the path over a row, where that is shorter
+abbrev pub IsRelaxed : Bool → ℤ → ℕ → ℤ → ℕ → ℤ → ℕ → Type 0
+IsRelaxed visited through by d place d' place' =
+    ((d' ≡ d) × (place' ≡ place) × ((visited ≡ true) ⊎ (d ≤ℤ through)))
+    ⊎ ((d' ≡ through) × (place' ≡ by) × (visited ≡ false) × (through <ℤ d))
+
+-- the distances before and after the row was scanned, `offset` away
+pub record IsScanned (a : ℕ → ℕ → ℤ) (columns row by : ℕ) (offset : ℤ) (v : ℕ → ℤ) (visited : ℕ → Bool) (d : ℕ → ℤ) (place : ℕ → ℕ) (d' : ℕ → ℤ) (place' : ℕ → ℕ) : Type 0 where
+  pub relaxed : (j : ℕ) → j < columns → IsRelaxed (visited j) (offset +ℤ v j -ℤ a row j) by (d j) (place j) (d' j) (place' j)
+
+-- all columns are unvisited, as far as can be, and have place 0
+pub record IsFresh (top : ℤ) (columns : ℕ) (visited : ℕ → Bool) (d : ℕ → ℤ) (place : ℕ → ℕ) : Type 0 where
+  pub unvisited : (j : ℕ) → visited j ≡ false
+  pub far : (j : ℕ) → j < columns → d j ≡ top
+  pub root : (j : ℕ) → j < columns → place j ≡ 0
+
+-- the rows of a tree by their places, each but the first matched to a column whose place is before it
+pub record IsAlternatingTree (n columns count : ℕ) (col : ℕ → ℕ) (rows : ℕ → ℕ) (place : ℕ → ℕ) : Type 0 where
+  pub rooted : 0 < count
+  pub row : (p : ℕ) → 0 < p → p < count → rows p < n
+  pub once : (p q : ℕ) → p < count → q < count → rows p ≡ rows q → p ≡ q
+  pub inside : (j : ℕ) → j < columns → place j < count
+  pub before : (p : ℕ) → 0 < p → p < count → place (col (rows p)) < p
+
+-- the column c, or a column that is matched to a row of the tree
+abbrev pub IsOnTree : ℕ → (ℕ → ℕ) → (ℕ → ℕ) → ℕ → ℕ → Type 0
+IsOnTree count col rows c j = (j ≡ c) ⊎ ((p : ℕ) × (0 < p) × (p < count) × (col (rows p) ≡ j))
+
+-- the augmenting path to column c, flipped: the first n rows are matched again, those on the path to the
+-- columns that follow them, and column `left`, which follows the root, is left for it
+pub record IsFlipped (n columns count c : ℕ) (col : ℕ → ℕ) (held : ℕ → Option ℕ) (rows place : ℕ → ℕ) (col' : ℕ → ℕ) (held' : ℕ → Option ℕ) (left : ℕ) : Type 0 where
+  pub inside : (i : ℕ) → i < n → col' i < columns
+  pub back : (i : ℕ) → i < n → held' (col' i) ≡ Some i
+  pub apart : (i : ℕ) → i < n → col' i ≢ left
+  pub from : (i j : ℕ) → held' j ≡ Some i → j ≢ left → (i < n) × (col' i ≡ j)
+  pub new : (i : ℕ) → i < n → (col' i ≡ col i) ⊎ ((rows (place (col' i)) ≡ i) × IsOnTree count col rows c (col' i))
+  pub free : (j : ℕ) → held' j ≡ None → held j ≡ None
+  pub within : left < columns
+  pub on_tree : IsOnTree count col rows c left
+
+-- a potential, with a number more where the column was visited
+abbrev pub raised : Bool → ℤ → ℤ → ℤ
+raised true x by = x +ℤ by
+raised false x by = x
+
+-- low is a weight or its negation
+abbrev pub IsEither : ℤ → ℤ → Type 0
+IsEither low weight = (low ≡ weight) ⊎ (low ≡ neg_ℤ weight)
+
+-- low is at most a weight and its negation
+abbrev pub IsBeyond : ℤ → ℤ → Type 0
+IsBeyond low weight = (low ≤ℤ weight) × (low ≤ℤ neg_ℤ weight)
+
+-- the value of the number z, or none where it does not fit
+abbrev pub IsExact : {C : Type 0} → (C → ℤ) → (ℤ → Type 0) → ℤ → Option C → Type 0
+IsExact value fits z None = ¬ (fits z)
+IsExact value fits z (Some x) = fits z × (value x ≡ z)
+
+module _ {C : Type 0} (value : C → ℤ) (t : NumberTable) (column_of : List ℕ) (row_of : List (Option ℕ)) (us vs : List C) where
+  -- rows are matched one after another under potentials; there may be a row potential more
+  pub record IsMatched : Type 0 where
+    pub matching : IsMatching (length column_of) t.columns (slice_index column_of) (holder row_of)
+    pub potential : IsPotential t.at (length column_of) t.columns (slice_index column_of) (holder row_of) (number value us) (number value vs)
+    pub wide : length row_of ≡ t.columns
+    pub columns : length vs ≡ t.columns
+
+  -- the next row is about to be matched, and its potential is 0
+  pub record IsNext : Type 0 where
+    pub matched : IsMatched
+    pub left : length column_of < t.rows
+    pub rows : length us ≡ length column_of + 1
+    pub root : number value us (length column_of) ≡ pos 0
+
+  -- these rows, visited columns, distances and places are a tree for the next row
+  pub record IsTreeOf (rows : List ℕ) (visited : List Bool) (ds : List C) (places : List ℕ) : Type 0 where
+    pub tree : IsShortestPathTree t.at (length column_of) t.columns (slice_index column_of) (holder row_of) (number value us) (number value vs) (length rows) (slice_index rows) (flag visited) (number value ds) (slice_index places)
+    pub visited_len : length visited ≡ t.columns
+    pub distances_len : length ds ≡ t.columns
+    pub places_len : length places ≡ t.columns

@@ -1,0 +1,2 @@
+pub mod DisjointSets
+pub mod Around

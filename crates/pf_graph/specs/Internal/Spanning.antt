@@ -1,0 +1,2 @@
+pub mod SpanningSteps
+pub mod Frontier
