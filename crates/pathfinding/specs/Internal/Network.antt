@@ -33,7 +33,7 @@ pub record NumbersEdges {A : Type 0} (numbered : Numbered A) (edges : List Edge)
   pub to_named : name_at names numbered.to ≡ to
 
 -- the nodes of the network are numbers of names, its steps are these edges, and its two ends are these names
-pub record StandsFor {A : Type 0} (network : Network A) (edges : List Edge) (from to : List ℕ) : Type 0 where
+pub record IsNetworkOf {A : Type 0} (network : Network A) (edges : List Edge) (from to : List ℕ) : Type 0 where
   pub names : List (Bor (List ℕ))
   pub kept : HoldsNames network.names names
   pub links : List Link

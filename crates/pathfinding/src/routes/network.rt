@@ -84,7 +84,7 @@ pub(crate) struct Network<A: Allocator + Copy> {
 }
 
 impl<A: Allocator + Copy> Network<A> {
-    ghost use Rattle.pathfinding.specs.Internal.Network.{StandsFor};
+    ghost use Rattle.pathfinding.specs.Internal.Network.{IsNetworkOf};
 
     /// The network of the edges of a text.
     pub(crate) fn read<S: BuildHasher + Drop>(
@@ -94,7 +94,7 @@ impl<A: Allocator + Copy> Network<A> {
         text: Vec<u8, A>,
         hash_builder: S,
     ) -> Result<Self, RouteError>
-        ensures ok { IfOk result (λ network. HoldsOfEdges text.items (λ edges. StandsFor network edges from.now to.now)) }
+        ensures ok { IfOk result (λ network. HoldsOfEdges text.items (λ edges. IsNetworkOf network edges from.now to.now)) }
         ensures err { IfErr result (λ e. RefusesText e text.items) }
     {
         let numbered = Numbered::read(alloc, from, to, text.as_slice(), hash_builder)?;

@@ -7,7 +7,7 @@ ghost use Rattle.pathfinding.specs.Run.{Answered, Refused};
 use crate::routes::answers::answer_to;
 use crate::routes::commands::Command;
 use crate::routes::error::RouteError;
-use crate::routes::noting::Noted;
+use crate::routes::noted::Noted;
 use crate::routes::reading::read_whole;
 use crate::routes::sink::Sink;
 use crate::routes::source::Source;

@@ -2,7 +2,7 @@ use Rattle.std.proofs.Common.{suc, get_or, drop, drop-cons, arith, sym, ap, â—Œâ
 use Rattle.std.specs.Str.Parse.{digits_value_after}
 use Rattle.std.proofs.lemmas.List.{drop_all}
 use Rattle.pathfinding.proofs.Costs.{cost_at_end, cost_too_high}
-use Rattle.pathfinding.proofs.routes.text.cost_of.Goals as goal
+use Rattle.pathfinding.proofs.routes.edge_text.cost_of.Goals as goal
 
 pub returns-in_err-cost : goal.returns-in_err-cost
 returns-in_err-cost c =

@@ -1,7 +1,7 @@
 use Rattle.std.proofs.Common.{sym, ◌∙◌}
 use Rattle.pathfinding.specs.EdgeText.{is_visible}
 use Rattle.pathfinding.proofs.Runs.{behind-found, behind-none, front-found, front-none}
-use Rattle.pathfinding.proofs.routes.text.split_visible.Goals as goal
+use Rattle.pathfinding.proofs.routes.edge_text.split_visible.Goals as goal
 
 pub returns-in-Some-clause-field : goal.returns-in-Some-clause-field
 returns-in-Some-clause-field c = c.split_at.ensures.front ∙ sym (front-found is_visible c.args.text.now c.in-Some.end (sym c.in-Some.ensures))

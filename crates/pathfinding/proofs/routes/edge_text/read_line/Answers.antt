@@ -5,7 +5,7 @@ use Rattle.pathfinding.specs.EdgeText.{line_of, is_gap, is_visible}
 use Rattle.pathfinding.specs.Internal.Fields.{lines_left, behind, behind_field}
 use Rattle.pathfinding.proofs.Runs.{behind-length}
 use Rattle.pathfinding.proofs.FirstLine.{takes_three, says-more, says-blank, says-short, says-three, three-none, three-some}
-use Rattle.pathfinding.proofs.routes.text.read_line.Goals as goal
+use Rattle.pathfinding.proofs.routes.edge_text.read_line.Goals as goal
 
 behind_field-length : (text : List ℕ) → length (behind_field text) ≤ length text
 behind_field-length text = omega (arith, behind-length is_visible (behind is_gap text), behind-length is_gap text)
