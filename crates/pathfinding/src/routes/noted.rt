@@ -33,8 +33,7 @@ impl<D> Noted<D> {
     pub fn failed(&self) -> bool
         ensures { result ≡ has_failed self.now }
     {
-        let Noted { inner: _, failed } = self;
-        *failed
+        self.failed
     }
 
     /// The reader or writer that it was made with.
