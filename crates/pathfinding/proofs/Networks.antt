@@ -7,7 +7,7 @@ use Rattle.pathfinding.specs.Internal.Graph.{row_of, node_count}
 use Rattle.pathfinding.specs.Internal.Links.{name_at}
 use Rattle.pathfinding.specs.Internal.NameTable.{name_in, table_len}
 use Rattle.pathfinding.specs.Internal.Numbers.{numbered_edges, HasNoNumberedWalk, IsCheapestNumberedPath, HasNumberedOverflow, IsFewestEdgesNumberedPath}
-use Rattle.pathfinding.specs.Internal.Network.{StandsFor}
+use Rattle.pathfinding.specs.Internal.Network.{IsNetworkOf}
 use Rattle.pathfinding.specs.declared.routes.network.Network.{Network}
 use Rattle.pathfinding.proofs.Costless.{goal_costed}
 use Rattle.pathfinding.proofs.Naming.{AllNodes}
@@ -18,7 +18,7 @@ all_of count [] all k d lt = absurd (omega (arith, lt))
 all_of count (x ∷ xs) all zero d lt = all.0
 all_of count (x ∷ xs) all (suc k) d lt = all_of count xs all.1 k d (omega (arith, lt))
 
-module _ {A : Type 0} (network : Network A) (edges : List Edge) (from to : List ℕ) (s : StandsFor network edges from to) where
+module _ {A : Type 0} (network : Network A) (edges : List Edge) (from to : List ℕ) (s : IsNetworkOf network edges from to) where
   -- each step leads to a node
   pub targets : (n : ℕ) → n < node_count network.graph → All (λ (p : ℕ × ℕ). p.0 < node_count network.graph) (row_of network.graph n)
   targets n lt =

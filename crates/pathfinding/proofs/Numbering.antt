@@ -10,7 +10,7 @@ use Rattle.pathfinding.specs.Internal.Links.{name_at, edge_between, edges_betwee
 use Rattle.pathfinding.specs.Internal.Parsed.{edge_read, AreEndsOf}
 use Rattle.pathfinding.specs.declared.routes.links.Link.{Link}
 use Rattle.pathfinding.specs.declared.routes.links.Ends.{Ends}
-use Rattle.pathfinding.specs.declared.routes.text.NamedEdge.{NamedEdge}
+use Rattle.pathfinding.specs.declared.routes.edge_text.NamedEdge.{NamedEdge}
 
 some_of : {X : Type 0} (x y : X) → Some x ≡ Some y → x ≡ y
 some_of x y e = ap (value_or x) e

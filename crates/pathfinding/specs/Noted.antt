@@ -1,6 +1,6 @@
 -- What a `Noted` shows.
 use Rattle.std.specs.Prelude.{ℕ, Bool, true, ◌&&◌, nat_lt, ◌==◌, List, length, Result, Ok, Err}
-use Rattle.pathfinding.specs.declared.routes.noting.Noted.{Noted}
+use Rattle.pathfinding.specs.declared.routes.noted.Noted.{Noted}
 
 -- the reader or writer that it was made with
 abbrev pub device : {D : Type 0} → Noted D → D

@@ -2,27 +2,27 @@
 
 mod answers;
 mod bytes;
+mod command_line;
 mod commands;
-mod engine;
+mod edge_text;
 mod error;
 mod graph;
 mod links;
 mod name;
 mod name_table;
 mod network;
-mod noting;
+mod noted;
 mod reading;
+mod runs;
 mod search;
 mod sink;
 mod source;
 mod spanning;
 mod steps;
-mod text;
-mod words;
 mod writing;
 
+pub use command_line::command;
 pub use commands::Command;
-pub use engine::{run, run_with_hasher};
 pub use error::RouteError;
-pub use noting::Noted;
-pub use words::command;
+pub use noted::Noted;
+pub use runs::{run, run_with_hasher};

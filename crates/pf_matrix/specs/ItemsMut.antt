@@ -6,7 +6,7 @@ use Rattle.std.specs.Slice.Iter.{iter_mut_rest}
 use Rattle.std.specs.declared.alloc.Allocator.{Ghosts}
 use Rattle.pf_matrix.specs.Lends.{lends_iter}
 use Rattle.pf_matrix.specs.Tables.{Table}
-use Rattle.pf_matrix.specs.declared.items_mut.ItemsMut.{ItemsMut}
+use Rattle.pf_matrix.specs.declared.matrix.items_mut.ItemsMut.{ItemsMut}
 
 abbrev pub items_mut_rest : {C : Type 0} → ItemsMut C → List ((ℕ × ℕ) × C)
 items_mut_rest s = zip s.keys (iter_mut_rest s.values)

@@ -2,8 +2,8 @@
 use Rattle.std.specs.Prelude.{ℕ, ◌+◌, ◌-◌, ◌*◌, ◌/◌, ◌%◌, Bool, true, false, ◌&&◌, ◌||◌, nat_lt, not, Option, Some, None, if◌then◌else◌, List, [], ◌∷◌, map}
 use Rattle.std.specs.List.{range_with_len, zip, filter_map}
 use Rattle.pf_matrix.specs.Tables.{Table}
-use Rattle.pf_matrix.specs.declared.neighbours.Shift.{Shift}
-use Rattle.pf_matrix.specs.declared.neighbours.Shift.TheVariants.{Before, Same, After}
+use Rattle.pf_matrix.specs.declared.matrix.neighbours.Shift.{Shift}
+use Rattle.pf_matrix.specs.declared.matrix.neighbours.Shift.TheVariants.{Before, Same, After}
 
 -- the positions of a table of these sizes, the first row first
 unfoldable pub positions : ℕ → ℕ → List (ℕ × ℕ)

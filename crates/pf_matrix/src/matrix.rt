@@ -1,7 +1,29 @@
 //! The type of matrices.
 
-ghost use Rattle.std.specs.Prelude.{◌≡◌};
+mod columns;
+mod flips;
+mod from_rows;
+mod indexing;
+mod items;
+mod items_mut;
+mod keys;
+mod makers;
+mod moves;
+mod neighbours;
+mod readers;
+mod rotation;
+mod rows;
+mod slices;
+mod traits;
+mod transposition;
+mod writers;
 
+pub use columns::ColumnIterator;
+pub use items::Items;
+pub use items_mut::ItemsMut;
+pub use keys::Keys;
+pub use neighbours::Neighbours;
+pub use rows::RowIterator;
 use std::alloc::{Allocator, Global};
 use std::marker::Model;
 
@@ -11,9 +33,9 @@ use std::marker::Model;
 /// two sizes and the list of the values by rows, the first row first.
 #[derive(Drop)]
 pub struct Matrix<C, A: Allocator = Global> {
-    pub(crate) rows: usize,
-    pub(crate) columns: usize,
-    pub(crate) values: Vec<C, A>,
+    rows: usize,
+    columns: usize,
+    values: Vec<C, A>,
 }
 
 impl<C, A: Allocator> Model for Matrix<C, A> {
@@ -27,24 +49,4 @@ impl<C, A: Allocator> Model for Matrix<C, A> {
     ghost view = { λ s. record { rows = s.rows; columns = s.columns; values = s.values.items } };
 
     ghost invariant = { λ s. IsMatrix (record { rows = s.rows; columns = s.columns; values = s.values.items }) };
-}
-
-impl<C, A: Allocator> Matrix<C, A> {
-    ghost use Rattle.pf_matrix.specs.Tables.{IsMatrix};
-
-    /// The number of rows.
-    pub fn rows(&self) -> usize
-        ensures rows { result ≡ self.now.rows }
-        ensures matrix { IsMatrix self.now }
-    {
-        self.rows
-    }
-
-    /// The number of columns.
-    pub fn columns(&self) -> usize
-        ensures columns { result ≡ self.now.columns }
-        ensures matrix { IsMatrix self.now }
-    {
-        self.columns
-    }
 }

@@ -9,7 +9,6 @@ use Rattle.pathfinding.specs.Internal.Links.{name_at, edges_between, AllBelow, s
 use Rattle.pathfinding.specs.Internal.NameTable.{HoldsNames}
 use Rattle.pathfinding.specs.declared.routes.links.Link.{Link}
 use Rattle.pathfinding.specs.declared.routes.network.Linked.{Linked}
-use Rattle.pathfinding.specs.declared.routes.network.Numbered.{Numbered}
 use Rattle.pathfinding.specs.declared.routes.network.Network.{Network}
 
 -- the links are these edges, between the numbers of names that the table has
@@ -21,19 +20,19 @@ pub record LinksEdges {A : Type 0} (linked : Linked A) (edges : List Edge) : Typ
   pub distinct : IsDistinct (λ a b. bytes_eq a.now b.now) names
 
 -- the links are these edges, between the numbers of names that the table has, and the two numbers are those of these names
-pub record NumbersEdges {A : Type 0} (numbered : Numbered A) (edges : List Edge) (from to : List ℕ) : Type 0 where
+pub record NumbersEdges {A : Type 0} (linked : Linked A) (first last : ℕ) (edges : List Edge) (from to : List ℕ) : Type 0 where
   pub names : List (Bor (List ℕ))
-  pub kept : HoldsNames numbered.names names
-  pub spelled : edges ≡ edges_between names numbered.links.items
-  pub below : AllBelow (length names) numbered.links.items
+  pub kept : HoldsNames linked.names names
+  pub spelled : edges ≡ edges_between names linked.links.items
+  pub below : AllBelow (length names) linked.links.items
   pub distinct : IsDistinct (λ a b. bytes_eq a.now b.now) names
-  pub from_within : numbered.from < length names
-  pub to_within : numbered.to < length names
-  pub from_named : name_at names numbered.from ≡ from
-  pub to_named : name_at names numbered.to ≡ to
+  pub from_within : first < length names
+  pub to_within : last < length names
+  pub from_named : name_at names first ≡ from
+  pub to_named : name_at names last ≡ to
 
 -- the nodes of the network are numbers of names, its steps are these edges, and its two ends are these names
-pub record StandsFor {A : Type 0} (network : Network A) (edges : List Edge) (from to : List ℕ) : Type 0 where
+pub record IsNetworkOf {A : Type 0} (network : Network A) (edges : List Edge) (from to : List ℕ) : Type 0 where
   pub names : List (Bor (List ℕ))
   pub kept : HoldsNames network.names names
   pub links : List Link

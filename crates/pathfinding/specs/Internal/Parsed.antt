@@ -7,8 +7,8 @@ use Rattle.pathfinding.specs.declared.routes.links.Ends.{Ends}
 use Rattle.pathfinding.specs.EdgeText.{Edge, Line, Blank, Holds, edge_text}
 use Rattle.pathfinding.specs.declared.routes.error.RouteError.{RouteError}
 use Rattle.pathfinding.specs.declared.routes.error.RouteError.TheVariants.{BadEdge, CostOverflow, OutOfMemory, ReadFailed, WriteFailed}
-use Rattle.pathfinding.specs.declared.routes.text.NamedEdge.{NamedEdge}
-use Rattle.pathfinding.specs.declared.routes.text.ReadLine.{ReadLine}
+use Rattle.pathfinding.specs.declared.routes.edge_text.NamedEdge.{NamedEdge}
+use Rattle.pathfinding.specs.declared.routes.edge_text.ReadLine.{ReadLine}
 
 abbrev pub edge_read : NamedEdge → Edge
 edge_read e = record { from = e.from.now; to = e.to.now; cost = e.cost }

@@ -6,9 +6,9 @@ ghost use Rattle.pathfinding.specs.EdgeText.{edge_text};
 ghost use Rattle.pathfinding.specs.Internal.Links.{name_at, edges_between, AllBelow, KeepsNames, IsNumberOf};
 ghost use Rattle.pathfinding.specs.Internal.Parsed.{RefusesText, edge_read, edges_taken, AreEndsOf};
 
+use crate::routes::edge_text::{NamedEdge, ReadLine, read_line};
 use crate::routes::error::RouteError;
 use crate::routes::name::Name;
-use crate::routes::text::{NamedEdge, ReadLine, read_line};
 use indexmap::IndexSet;
 use std::alloc::{AllocError, AllocFailed, Allocator};
 use std::hash::BuildHasher;

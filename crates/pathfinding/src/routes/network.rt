@@ -19,7 +19,7 @@ pub(crate) struct Linked<A: Allocator + Copy> {
 }
 
 impl<A: Allocator + Copy> Linked<A> {
-    ghost use Rattle.pathfinding.specs.Internal.Network.{LinksEdges};
+    ghost use Rattle.pathfinding.specs.Internal.Network.{LinksEdges, NumbersEdges};
 
     /// The edges of a text, by the numbers of their names.
     pub(crate) fn read<S: BuildHasher + Drop>(
@@ -35,29 +35,16 @@ impl<A: Allocator + Copy> Linked<A> {
         let names = NameTable::of(alloc, names.as_slice())?;
         Ok(Linked { names, links })
     }
-}
 
-/// Names, the links between their numbers, and the numbers of the two names that a command asks about.
-#[derive(Drop)]
-struct Numbered<A: Allocator + Copy> {
-    names: NameTable<A>,
-    links: Vec<Link, A>,
-    from: usize,
-    to: usize,
-}
-
-impl<A: Allocator + Copy> Numbered<A> {
-    ghost use Rattle.pathfinding.specs.Internal.Network.{NumbersEdges};
-
-    /// The edges of a text, by the numbers of their names.
-    fn read<S: BuildHasher + Drop>(
+    /// The same, with the numbers of two names, which are numbered first.
+    fn read_with_ends<S: BuildHasher + Drop>(
         alloc: A,
         from: &[u8],
         to: &[u8],
         text: &[u8],
         hash_builder: S,
-    ) -> Result<Self, RouteError>
-        ensures ok { IfOk result (λ numbered. HoldsOfEdges text.now (λ edges. NumbersEdges numbered edges from.now to.now)) }
+    ) -> Result<(Self, usize, usize), RouteError>
+        ensures ok { IfOk result (λ r. HoldsOfEdges text.now (λ edges. NumbersEdges r.0 r.1 r.2 edges from.now to.now)) }
         ensures err { IfErr result (λ e. RefusesText e text.now) }
     {
         let mut names = IndexSet::with_hasher(alloc, hash_builder);
@@ -65,12 +52,7 @@ impl<A: Allocator + Copy> Numbered<A> {
         let to = number(&mut names, to)?;
         let links = read_links(alloc, &mut names, text)?;
         let names = NameTable::of(alloc, names.as_slice())?;
-        Ok(Numbered {
-            names,
-            links,
-            from,
-            to,
-        })
+        Ok((Linked { names, links }, from, to))
     }
 }
 
@@ -84,7 +66,7 @@ pub(crate) struct Network<A: Allocator + Copy> {
 }
 
 impl<A: Allocator + Copy> Network<A> {
-    ghost use Rattle.pathfinding.specs.Internal.Network.{StandsFor};
+    ghost use Rattle.pathfinding.specs.Internal.Network.{IsNetworkOf};
 
     /// The network of the edges of a text.
     pub(crate) fn read<S: BuildHasher + Drop>(
@@ -94,18 +76,19 @@ impl<A: Allocator + Copy> Network<A> {
         text: Vec<u8, A>,
         hash_builder: S,
     ) -> Result<Self, RouteError>
-        ensures ok { IfOk result (λ network. HoldsOfEdges text.items (λ edges. StandsFor network edges from.now to.now)) }
+        ensures ok { IfOk result (λ network. HoldsOfEdges text.items (λ edges. IsNetworkOf network edges from.now to.now)) }
         ensures err { IfErr result (λ e. RefusesText e text.items) }
     {
-        let numbered = Numbered::read(alloc, from, to, text.as_slice(), hash_builder)?;
-        // The text is given back before the graph takes its memory.
-        drop(text);
-        let Numbered {
-            names,
-            links,
+        let (linked, from, to) = Linked::read_with_ends(
+            alloc,
             from,
             to,
-        } = numbered;
+            text.as_slice(),
+            hash_builder,
+        )?;
+        // The text is given back before the graph takes its memory.
+        drop(text);
+        let Linked { names, links } = linked;
         let graph = Graph::new(alloc, names.len(), links.as_slice())?;
         Ok(Network {
             names,

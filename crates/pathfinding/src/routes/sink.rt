@@ -5,7 +5,7 @@ ghost use Rattle.std.specs.Io.{WritesAtMost};
 ghost use Rattle.std.specs.Io.KnownBytes.{WriteAppends};
 ghost use Rattle.pathfinding.specs.Noted.{took_nothing};
 
-use crate::routes::noting::Noted;
+use crate::routes::noted::Noted;
 use std::io;
 use std::io::Write;
 

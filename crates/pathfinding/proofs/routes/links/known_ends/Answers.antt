@@ -2,7 +2,7 @@ use Rattle.std.proofs.Common.{◌∙◌, ◌++◌, ◌∷◌, [], subst, sym, ap
 use Rattle.std.specs.List.{AllZip}
 use Rattle.std.proofs.lemmas.List.{take_more}
 use Rattle.pathfinding.specs.Internal.Parsed.{AreEndsOf}
-use Rattle.pathfinding.specs.declared.routes.text.NamedEdge.{NamedEdge}
+use Rattle.pathfinding.specs.declared.routes.edge_text.NamedEdge.{NamedEdge}
 use Rattle.pathfinding.proofs.Numbering.{ends-push}
 use Rattle.pathfinding.proofs.routes.links.known_ends.Goals as goal
 

@@ -1,0 +1,10 @@
+use Rattle.std.proofs.Common.{◌+◌, ◌*◌}
+use Rattle.pf_matrix.proofs.FillLemmas.{Filling}
+use Rattle.pf_matrix.proofs.row_major.cloned_columns.Given as goal
+
+-- the columns so far are the rows of the copy
+abbrev pub invariant-loop-column : goal.invariant-loop-column
+invariant-loop-column g l = Filling g.C.Clone.is_clone l.rows (λ r c. c * l.columns + r) l.all l.values.items (l.column * l.rows)
+
+abbrev pub invariant-loop-row : goal.invariant-loop-row
+invariant-loop-row g l = Filling g.C.Clone.is_clone l.rows (λ r c. c * l.columns + r) l.all l.values.items (l.column * l.rows + l.row)
