@@ -11,3 +11,5 @@ pub mod Networks
 pub mod SpanningLemmas
 pub mod Outcomes
 pub mod Tables
+pub mod TableGraph
+pub mod GraphRows

@@ -7,7 +7,7 @@ use Rattle.std.proofs.lemmas.Cmp.{nat_eq_equiv}
 use Rattle.std.proofs.lemmas.Int.{ints}
 use Rattle.pf_base.specs.Answers.{ListsEdges}
 use Rattle.pf_base.specs.Walks.{HasNode, HasNoGoalWalk, IsGoalWalk, IsGoalPath}
-use Rattle.pf_base.specs.Edges.{HasEdge, IsSuccessor, InReach, HasNoNegativeCost, NoGoalWalkCostsLess, IsCheapestGoalPath}
+use Rattle.pf_base.specs.Edges.{IsSuccessor, InReach, NoGoalWalkCostsLess, IsCheapestGoalPath}
 use Rattle.pf_base.specs.Successors.{HasSuccessor, IsFewestEdgesGoalPath}
 use Rattle.pf_base.proofs.Callers.{ListsEdges-refl}
 use Rattle.pf_core.specs.Hops.{unit_edges}
@@ -16,7 +16,7 @@ use Rattle.pf_core.specs.Numbered.{StandsBelow}
 use Rattle.pf_core.proofs.UnitLemmas.{starts_stand}
 use Rattle.pf_core.proofs.ListLemmas.{bool_dec, none_in}
 use Rattle.pf_core.proofs.NodeLemmas.{InReach-start}
-use Rattle.pf_tables.specs.Graphs.{HasEdgeAt, IsGraph, edges_at, graph_of, targets_at, successors_of}
+use Rattle.pf_tables.specs.Graphs.{edges_at, graph_of, successors_of}
 use Rattle.pf_tables.specs.Numbering.{IsIndex, IsExplored, priced}
 use borrow.Author.Tests.{eqb-true}
 
@@ -48,13 +48,6 @@ module _ {C : Type 0} (value : C → ℤ) where
   lists_costs (None ∷ places) = lists_costs places
   lists_costs (Some e ∷ places) = ((nat_eq_equiv.refl e.0, refl), lists_costs places)
 
-  -- an edge stands at a place
-  place_of : (places : List (Option (ℕ × C))) (b : ℕ) (z : ℤ) → HasEdge nat_eq (edges_at value places) b z → (k : ℕ) × (e : ℕ × C) × HasEdgeAt places k e × (value e.1 ≡ z)
-  place_of [] b z h = absurd h
-  place_of (None ∷ places) b z h = let r = place_of places b z h in (suc r.0, r.1, r.2, r.3)
-  place_of (Some e ∷ places) b z (inl h) = (0, e, refl, h.1)
-  place_of (Some e ∷ places) b z (inr h) = let r = place_of places b z h in (suc r.0, r.1, r.2, r.3)
-
   module _ (size : ℕ) (places : ℕ → List (Option (ℕ × C))) where
     pub edges_within : (n : ℕ) → n < size → graph_of value size places n ≡ edges_at value (places n)
     edges_within n h = ap (λ (b : Bool). if b then edges_at value (places n) else []) (lt-ltb n size h)
@@ -65,27 +58,18 @@ module _ {C : Type 0} (value : C → ℤ) where
     pub costs_listed : (n : ℕ) → n < size → ListsEdges nat_eq value (priced (λ c. c) (places n)) (graph_of value size places n)
     costs_listed n h = rw (edges_within n h) (lists_costs (places n))
 
-    pub none_negative : IsGraph value size places → (starts : List ℕ) → HasNoNegativeCost nat_eq (graph_of value size places) starts
-    none_negative is starts = record {
-      from_zero = λ a b z r h. elim (lt_or_le a size) as (λ _. pos 0 ≤ℤ z) [
-        | inl lt ↦ let q = place_of (places a) b z (rw (edges_within a lt) at h) in subst (λ (y : ℤ). pos 0 ≤ℤ y) q.3 (is.from_zero a q.0 q.1 lt q.2)
-        | inr le ↦ absurd (rw (edges_outside a le) at h)
-      ];
-    }
-
-module _ {C : Type 0} where
   -- by 1 each
-  pub lists_units : (places : List (Option (ℕ × C))) → ListsEdges nat_eq (λ (n : ℕ). pos n) (priced (λ c. 1) places) (map (λ y. (y, pos 1)) (targets_at places))
+  lists_units : (places : List (Option (ℕ × C))) → ListsEdges nat_eq (λ (n : ℕ). pos n) (priced (λ c. 1) places) (map (λ y. (y, pos 1)) (map (λ (e : ℕ × ℤ). e.0) (edges_at value places)))
   lists_units [] = tt
   lists_units (None ∷ places) = lists_units places
   lists_units (Some e ∷ places) = ((nat_eq_equiv.refl e.0, refl), lists_units places)
 
   module _ (size : ℕ) (places : ℕ → List (Option (ℕ × C))) where
-    pub units_listed : (n : ℕ) → n < size → ListsEdges nat_eq (λ (n : ℕ). pos n) (priced (λ c. 1) (places n)) (unit_edges (successors_of size places) n)
-    units_listed n h = rw (ap (λ (b : Bool). if b then targets_at (places n) else []) (lt-ltb n size h)) (lists_units (places n))
+    pub units_listed : (n : ℕ) → n < size → ListsEdges nat_eq (λ (n : ℕ). pos n) (priced (λ c. 1) (places n)) (unit_edges (successors_of value size places) n)
+    units_listed n h = rw (edges_within size places n h) (lists_units (places n))
 
-    pub successors_outside : (n : ℕ) → size ≤ n → successors_of size places n ≡ []
-    successors_outside n h = ap (λ (b : Bool). if b then targets_at (places n) else []) (le-ltb n size h)
+    pub successors_outside : (n : ℕ) → size ≤ n → successors_of value size places n ≡ []
+    successors_outside n h = ap (map (λ (e : ℕ × ℤ). e.0)) (edges_outside size places n h)
 
 -- ---- a start that nothing follows
 

@@ -37,12 +37,6 @@ row_of items rows node = option_map_or items (slice_get rows node) []
 abbrev pub between : {E : Type 0} → List ℕ → List E → ℕ → List E
 between offsets edges node = part (slice_index offsets node) (slice_index offsets (node + 1)) edges
 
--- the nodes that the edges at the places lead to, in order
-abbrev pub targets_at : {C : Type 0} → List (Option (ℕ × C)) → List ℕ
-targets_at [] = []
-targets_at (None ∷ places) = targets_at places
-targets_at (Some edge ∷ places) = edge.0 ∷ targets_at places
-
 -- the nodes that follow each node of the graph, and none elsewhere
-abbrev pub successors_of : {C : Type 0} → ℕ → (ℕ → List (Option (ℕ × C))) → ℕ → List ℕ
-successors_of size places node = if nat_lt node size then targets_at (places node) else []
+abbrev pub successors_of : {C : Type 0} → (C → ℤ) → ℕ → (ℕ → List (Option (ℕ × C))) → ℕ → List ℕ
+successors_of value size places node = map (λ (e : ℕ × ℤ). e.0) (graph_of value size places node)

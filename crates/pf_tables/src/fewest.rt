@@ -40,8 +40,8 @@ where
     T: Goals + Copy,
     A: Allocator + Copy,
     ensures best { IfOk result (λ answer. MatchOption answer
-        (HasNoGoalWalk nat_eq (HasSuccessor nat_eq (successors_of (G.size graph.now) (G.places graph.now))) (from ∷ []) (T.passes goals))
-        (λ path. IsFewestEdgesGoalPath nat_eq (successors_of (G.size graph.now) (G.places graph.now)) (from ∷ []) (T.passes goals) path.items)) }
+        (HasNoGoalWalk nat_eq (HasSuccessor nat_eq (successors_of C.value (G.size graph.now) (G.places graph.now))) (from ∷ []) (T.passes goals))
+        (λ path. IsFewestEdgesGoalPath nat_eq (successors_of C.value (G.size graph.now) (G.places graph.now)) (from ∷ []) (T.passes goals) path.items)) }
     ensures errors { IfErr result (λ e. e ≡ PathError.OutOfMemory) }
 {
     if from >= graph.len() {

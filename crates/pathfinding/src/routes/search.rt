@@ -6,9 +6,8 @@ ghost use Rattle.pathfinding.specs.Internal.Numbers.{HasNoNumberedWalk, IsCheape
 
 use crate::routes::error::RouteError;
 use crate::routes::graph::Graph;
-use pf_base::{NodeRefs, PathError};
-use pf_search::directed::bfs::bfs;
-use pf_search::directed::dijkstra::dijkstra;
+use pf_base::PathError;
+use pf_tables::{bfs, dijkstra};
 use std::alloc::Allocator;
 
 /// A cheapest path between two numbers, and its cost.
@@ -24,8 +23,7 @@ pub(crate) fn cheapest_path<A: Allocator + Copy>(
         (λ found. IsCheapestNumberedPath graph.now from to found.0.items found.1)) }
     ensures err { IfErr result (λ e. (e ≡ RouteError.OutOfMemory) ⊎ ((e ≡ RouteError.CostOverflow) × HasNumberedOverflow graph.now from to)) }
 {
-    let successors = |node: &usize| graph.steps(*node).iter().copied();
-    match dijkstra(alloc, &from, successors, |node: &usize| *node == to) {
+    match dijkstra(alloc, graph, from, to) {
         Ok(answer) => Ok(answer),
         Err(PathError::CostOverflow) => Err(RouteError::CostOverflow),
         Err(_) => Err(RouteError::OutOfMemory),
@@ -45,12 +43,8 @@ pub(crate) fn fewest_edges_path<A: Allocator + Copy>(
         (λ path. IsFewestEdgesNumberedPath graph.now from to path.items)) }
     ensures err { IfErr result (λ e. e ≡ RouteError.OutOfMemory) }
 {
-    // Neither call has another error than out of memory.
-    let Ok(starts) = NodeRefs::from_one(alloc, &from) else {
-        return Err(RouteError::OutOfMemory);
-    };
-    let successors = |node: &usize| graph.steps(*node).iter().map(|step| step.0);
-    match bfs(alloc, &starts, successors, |node: &usize| *node == to) {
+    // There is no other error than out of memory.
+    match bfs(alloc, graph, from, to) {
         Ok(answer) => Ok(answer),
         Err(_) => Err(RouteError::OutOfMemory),
     }

@@ -49,8 +49,7 @@ impl Board {
     }
 
     /// The cells row by row, each with what entering it costs.
-    pub fn into_cells(self, alloc: Global) -> Result<Vec<Option<u32>>, BenchError>
-    {
+    pub fn into_cells(self, alloc: Global) -> Result<Vec<Option<u32>>, BenchError> {
         let mut cells = Vec::with_capacity(alloc, self.heights.len())?;
         for height in &self.heights {
             cells.push(Some(u32::from(*height)))?;

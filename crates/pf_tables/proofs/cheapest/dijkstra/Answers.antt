@@ -6,7 +6,8 @@ use Rattle.pf_core.specs.Nodes.{TestedGraph, StandsFor}
 use Rattle.pf_core.specs.NodeLaws.{StandsFor-one}
 use Rattle.pf_core.proofs.WalkLemmas.{all_starts, only_starts, no_negative, no_walk, best_answer, past_range}
 use Rattle.pf_tables.specs.Graphs.{graph_of}
-use Rattle.pf_tables.proofs.ExploreLemmas.{nat_alike, costs_listed, none_negative, edges_outside, no_edge, none_alone, cheapest_alone, begins_at, explored_first}
+use Rattle.pf_tables.proofs.GraphLemmas.{no_negative_cost}
+use Rattle.pf_tables.proofs.ExploreLemmas.{nat_alike, costs_listed, edges_outside, no_edge, none_alone, cheapest_alone, begins_at, explored_first}
 use borrow.Author.Tests.{eqb-true}
 use Rattle.pf_tables.proofs.cheapest.dijkstra.Goals as goal
 
@@ -54,7 +55,7 @@ returns-in_err-cheapest_path-clause-overflow g c = λ e.
     let keys = c.cheapest_path.new.graph.numbering.order.items in
     let y = c.in_err-cheapest_path.ensures.graph h x in
     let f : c.in_err-cheapest_path.field-0.0 ≡ CostOverflow = search rules in
-    let d = c.in_err-cheapest_path.ensures.overflow h x (no_negative nat_eq nat_eq_equiv h.graph alike (none_negative value size places c.known.ensures h.graph.starts)) (ap Err f) in
+    let d = c.in_err-cheapest_path.ensures.overflow h x (no_negative nat_eq nat_eq_equiv h.graph alike (no_negative_cost value size places c.known.ensures h.graph.starts)) (ap Err f) in
     past_range nat_eq nat_eq_equiv h.graph alike _ (all_starts nat_eq c.args.from _ begins) (only_starts nat_eq c.args.from _ begins) h.test g.C.Number.fits keys (StandsFor-one nat_eq nat_eq_equiv keys y.0.distinct) d
 
 pub returns-in-None-clause-best : goal.returns-in-None-clause-best
@@ -67,7 +68,7 @@ returns-in-None-clause-best g c =
     let x = explored_first c.args.from n.numbering.order.items n.ensures.one value (λ k. k) size places h.test h.graph.edges n.numbering.numbers.items _ (costs_listed value size places) n.ensures.index n.ensures.wide c.len-2.ensures in
     let begins = begins_at c.args.from n.numbering.order.items n.ensures.one in
     let alike = nat_alike h.graph.edges h.graph.starts in
-    let b = rw c.in-None.is at (c.in_ok-cheapest_path.ensures.best h x (no_negative nat_eq nat_eq_equiv h.graph alike (none_negative value size places c.known.ensures h.graph.starts))) in
+    let b = rw c.in-None.is at (c.in_ok-cheapest_path.ensures.best h x (no_negative nat_eq nat_eq_equiv h.graph alike (no_negative_cost value size places c.known.ensures h.graph.starts))) in
     no_walk nat_eq nat_eq_equiv h.graph alike _ (all_starts nat_eq c.args.from _ begins) (only_starts nat_eq c.args.from _ begins) h.test b
 
 pub clones_at-requires-clause-inside : goal.clones_at-requires-clause-inside
@@ -85,6 +86,6 @@ returns-clause-best g c =
     let alike = nat_alike h.graph.edges h.graph.starts in
     let keys = c.cheapest_path.new.graph.numbering.order.items in
     let y = c.in_ok-cheapest_path.ensures.graph h x in
-    let b = rw c.in-Some.is at (c.in_ok-cheapest_path.ensures.best h x (no_negative nat_eq nat_eq_equiv h.graph alike (none_negative value size places c.known.ensures h.graph.starts))) in
+    let b = rw c.in-Some.is at (c.in_ok-cheapest_path.ensures.best h x (no_negative nat_eq nat_eq_equiv h.graph alike (no_negative_cost value size places c.known.ensures h.graph.starts))) in
     best_answer nat_eq nat_eq_equiv h.graph alike _ (all_starts nat_eq c.args.from _ begins) (only_starts nat_eq c.args.from _ begins) h.test (λ a z i e. ap h.test (eqb-true a z e)) keys (StandsFor-one nat_eq nat_eq_equiv keys y.0.distinct) c.in-Some.numbers.items c.in_ok-path-in-Some.path.items (g.C.Number.value c.in-Some.cost) b
     (rw (c.deref.ensures.value, c.deref-in-Some.ensures.value) at c.in_ok-path-in-Some.ensures.nodes)

@@ -11,19 +11,19 @@ use borrow.Author.Tests.{eqb-true}
 use Rattle.pf_tables.proofs.fewest.bfs.Goals as goal
 
 -- the graph of the table with the cost 1 at each edge, searched from one node
-abbrev searched : {C : Type 0} → ℕ → (ℕ → List (Option (ℕ × C))) → ℕ → (ℕ → Bool) → TestedGraph ℕ
-searched size places from passes = record { graph = record { starts = from ∷ []; edges = unit_edges (successors_of size places) }; test = passes }
+abbrev searched : {C : Type 0} → (C → ℤ) → ℕ → (ℕ → List (Option (ℕ × C))) → ℕ → (ℕ → Bool) → TestedGraph ℕ
+searched value size places from passes = record { graph = record { starts = from ∷ []; edges = unit_edges (successors_of value size places) }; test = passes }
 
 pub returns-then-not-is_goal-clause-best : goal.returns-then-not-is_goal-clause-best
 returns-then-not-is_goal-clause-best g c =
-    let next = successors_of (g.G.Graph.size c.args.graph.now) (g.G.Graph.places c.args.graph.now) in
-    let outside = successors_outside (g.G.Graph.size c.args.graph.now) (g.G.Graph.places c.args.graph.now) c.args.from (omega (arith, c.if-from-len.true, c.len.ensures)) in
+    let next = successors_of g.C.Number.value (g.G.Graph.size c.args.graph.now) (g.G.Graph.places c.args.graph.now) in
+    let outside = successors_outside g.C.Number.value (g.G.Graph.size c.args.graph.now) (g.G.Graph.places c.args.graph.now) c.args.from (omega (arith, c.if-from-len.true, c.len.ensures)) in
     none_alone _ c.args.from (no_successor next c.args.from outside (g.T.Goals.passes c.args.goals)) (g.T.Goals.passes c.args.goals) (search rules)
 
 pub returns-then-from-len-clause-best : goal.returns-then-from-len-clause-best
 returns-then-from-len-clause-best g c =
-    let next = successors_of (g.G.Graph.size c.args.graph.now) (g.G.Graph.places c.args.graph.now) in
-    let outside = successors_outside (g.G.Graph.size c.args.graph.now) (g.G.Graph.places c.args.graph.now) c.args.from (omega (arith, c.if-from-len.true, c.len.ensures)) in
+    let next = successors_of g.C.Number.value (g.G.Graph.size c.args.graph.now) (g.G.Graph.places c.args.graph.now) in
+    let outside = successors_outside g.C.Number.value (g.G.Graph.size c.args.graph.now) (g.G.Graph.places c.args.graph.now) c.args.from (omega (arith, c.if-from-len.true, c.len.ensures)) in
     rw c.in_ok-path.ensures.one (fewest_alone next c.args.from outside (g.T.Goals.passes c.args.goals) (search rules))
 
 pub fewest_edges_path-requires-clause-graph : goal.fewest_edges_path-requires-clause-graph
@@ -31,8 +31,8 @@ fewest_edges_path-requires-clause-graph g c =
     let size = g.G.Graph.size c.args.graph.now in
     let places = g.G.Graph.places c.args.graph.now in
     let n = c.in_ok-numbering in
-    let h = searched size places c.args.from (g.T.Goals.passes c.args.goals) in
-    (h, explored_first c.args.from n.numbering.order.items n.ensures.one pos (λ k. 1) size places h.test h.graph.edges n.numbering.numbers.items _ (units_listed size places) n.ensures.index n.ensures.wide c.len-2.ensures)
+    let h = searched g.C.Number.value size places c.args.from (g.T.Goals.passes c.args.goals) in
+    (h, explored_first c.args.from n.numbering.order.items n.ensures.one pos (λ k. 1) size places h.test h.graph.edges n.numbering.numbers.items _ (units_listed g.C.Number.value size places) n.ensures.index n.ensures.wide c.len-2.ensures)
 
 pub fewest_edges_path-requires-clause-begins : goal.fewest_edges_path-requires-clause-begins
 fewest_edges_path-requires-clause-begins g c = λ k l. begins_all nat_eq nat_eq_equiv c.in_ok-numbering.numbering.order.items k l
@@ -41,10 +41,10 @@ pub returns-in-None-clause-best : goal.returns-in-None-clause-best
 returns-in-None-clause-best g c =
     let size = g.G.Graph.size c.args.graph.now in
     let places = g.G.Graph.places c.args.graph.now in
-    let next = successors_of size places in
+    let next = successors_of g.C.Number.value size places in
     let n = c.in_ok-numbering in
-    let h = searched size places c.args.from (g.T.Goals.passes c.args.goals) in
-    let x = explored_first c.args.from n.numbering.order.items n.ensures.one pos (λ k. 1) size places h.test h.graph.edges n.numbering.numbers.items _ (units_listed size places) n.ensures.index n.ensures.wide c.len-2.ensures in
+    let h = searched g.C.Number.value size places c.args.from (g.T.Goals.passes c.args.goals) in
+    let x = explored_first c.args.from n.numbering.order.items n.ensures.one pos (λ k. 1) size places h.test h.graph.edges n.numbering.numbers.items _ (units_listed g.C.Number.value size places) n.ensures.index n.ensures.wide c.len-2.ensures in
     let begins = starts_below c.args.from n.numbering.order.items n.ensures.one in
     let b = rw c.in-None.is at (c.in_ok-fewest_edges_path.ensures.best h x (is_hop nat_eq h.graph.starts next)) in
     no_next_walk nat_eq next h.graph.starts h.test (no_walk nat_eq nat_eq_equiv h.graph (nat_alike h.graph.edges h.graph.starts) _ (λ s. (begins s).1) (λ s. (begins s).0) h.test b)
@@ -56,10 +56,10 @@ pub returns-clause-best : goal.returns-clause-best
 returns-clause-best g c =
     let size = g.G.Graph.size c.args.graph.now in
     let places = g.G.Graph.places c.args.graph.now in
-    let next = successors_of size places in
+    let next = successors_of g.C.Number.value size places in
     let n = c.in_ok-numbering in
-    let h = searched size places c.args.from (g.T.Goals.passes c.args.goals) in
-    let x = explored_first c.args.from n.numbering.order.items n.ensures.one pos (λ k. 1) size places h.test h.graph.edges n.numbering.numbers.items _ (units_listed size places) n.ensures.index n.ensures.wide c.len-2.ensures in
+    let h = searched g.C.Number.value size places c.args.from (g.T.Goals.passes c.args.goals) in
+    let x = explored_first c.args.from n.numbering.order.items n.ensures.one pos (λ k. 1) size places h.test h.graph.edges n.numbering.numbers.items _ (units_listed g.C.Number.value size places) n.ensures.index n.ensures.wide c.len-2.ensures in
     let begins = starts_below c.args.from n.numbering.order.items n.ensures.one in
     let keys = c.fewest_edges_path.new.graph.numbering.order.items in
     let y = c.in_ok-fewest_edges_path.ensures.graph h x in
