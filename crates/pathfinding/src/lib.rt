@@ -2,6 +2,7 @@
 #![tactic(auto)]
 
 pub mod directed;
+pub mod graphs;
 mod macros;
 pub mod matrix;
 pub mod prelude;

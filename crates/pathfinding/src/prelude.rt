@@ -1,6 +1,7 @@
-//! All that the crate exports.
+//! All that the crate exports, but `graphs::bfs` and `graphs::dijkstra`, whose names are those of the
+//! searches on graphs that functions answer.
 
-pub use crate::routes;
+pub use crate::{graphs, routes};
 pub use pf_base::utils::{
     InDirection, Tally, constrain, in_direction, move_in_direction, uint_sqrt,
 };
@@ -31,3 +32,4 @@ pub use pf_matrix::{
 pub use pf_search::directed::bfs::bfs;
 pub use pf_search::directed::dijkstra::{dijkstra, dijkstra_tallied};
 pub use pf_search::laws::fewest_edges_of_cheapest;
+pub use pf_tables::{Board, CompactRows, Costless, Goals, Graph, Row, Rows, Steps, TableError};

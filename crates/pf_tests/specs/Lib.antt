@@ -4,3 +4,4 @@ pub mod Rows
 pub mod Pairs
 pub mod Compact
 pub mod Grid
+pub mod Rings

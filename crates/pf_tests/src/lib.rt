@@ -17,6 +17,8 @@ mod no_case;
 #[cfg(test)]
 mod plain;
 #[cfg(test)]
+mod ring;
+#[cfg(test)]
 mod rows;
 #[cfg(test)]
 mod tests;

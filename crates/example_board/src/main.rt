@@ -1,0 +1,52 @@
+//! Ways through a maze: one with fewest steps, and one that costs least.
+#![tactic(auto)]
+
+use pf_tables::{Board, Steps, bfs, dijkstra};
+use std::alloc::Global;
+
+const ROWS: usize = 3;
+
+const COLUMNS: usize = 7;
+
+/// A `#` is blocked, to enter a `.` costs 1, and to enter a digit costs what it says.
+const MAZE: [&str; ROWS] = ["..9....", ".#####.", "......."];
+
+/// What it costs to enter a cell, or `None` where the cell is blocked.
+fn cost_of(cell: char) -> Option<u32> {
+    if cell == '.' {
+        Some(1)
+    } else {
+        cell.to_digit(10)
+    }
+}
+
+/// The row and the column of each node of a path.
+fn positions(alloc: Global, path: &[usize]) -> Result<Vec<(usize, usize)>, anyhow::Error> {
+    let mut positions = Vec::new(alloc);
+    for node in path {
+        positions.push((node / COLUMNS, node % COLUMNS))?;
+    }
+    Ok(positions)
+}
+
+fn main(rt: HostRuntime) -> Result<(), anyhow::Error> {
+    let alloc = rt.alloc();
+    let mut cells = Vec::new(alloc);
+    for line in MAZE {
+        for cell in line.chars() {
+            cells.push(cost_of(cell))?;
+        }
+    }
+    let board = Board::new(ROWS, COLUMNS, &cells, Steps::Four)?;
+    let from = board.number_of(0, 0);
+    let to = board.number_of(0, 6);
+    match bfs(alloc, &board, from, to)? {
+        Some(path) => println!(rt; "fewest steps: {:?}", positions(alloc, &path)?)?,
+        None => rt.println("no way")?,
+    }
+    match dijkstra(alloc, &board, from, to)? {
+        Some((path, cost)) => println!(rt; "cost {cost}: {:?}", positions(alloc, &path)?)?,
+        None => rt.println("no way")?,
+    }
+    Ok(())
+}
