@@ -9,7 +9,7 @@ use Rattle.pf_core.proofs.ListLemmas.{bool_dec, get_set, get-append, none_in}
 use Rattle.pf_tables.specs.Numbering.{IsIndex, present, priced}
 
 -- what stands in a list, or at its end
-get_push : {A : Type 0} (xs : List A) (x : A) (k : ℕ) (m : A) → slice_get (xs ++ x ∷ []) k ≡ Some m → (slice_get xs k ≡ Some m) ⊎ ((k ≡ length xs) × (x ≡ m))
+pub get_push : {A : Type 0} (xs : List A) (x : A) (k : ℕ) (m : A) → slice_get (xs ++ x ∷ []) k ≡ Some m → (slice_get xs k ≡ Some m) ⊎ ((k ≡ length xs) × (x ≡ m))
 get_push [] x zero m h = inr (refl, (let e : Some x ≡ Some m = h in cc))
 get_push [] x (suc k) m h = absurd (none_in k m h)
 get_push (y ∷ ys) x zero m h = inl h

@@ -6,3 +6,6 @@ pub mod BoardLemmas
 pub mod GraphLemmas
 pub mod IndexLemmas
 pub mod ExploreLemmas
+pub mod LayoutLemmas
+pub mod NumberedNames
+pub mod EdgeListLemmas

@@ -5,3 +5,5 @@ pub mod CostlessLaws
 pub mod Boards
 pub mod Goals
 pub mod Numbering
+pub mod EdgeLists
+pub mod Layouts

@@ -1,0 +1,18 @@
+use Rattle.std.proofs.Common.{◌≡◌, refl, length, Some, slice_get}
+use Rattle.std.proofs.lemmas.Option.{slice_get_read}
+use Rattle.pf_tables.proofs.EdgeListLemmas.{one_more_edge}
+use Rattle.pf_tables.proofs.edge_list.negative_edge.Goals as goal
+
+pub returns-then-is_negative : goal.returns-then-is_negative
+returns-then-is_negative g c =
+    let edges = c.args.edges.now in
+    let e = c.index-edges-number.result in
+    let stands : slice_get edges c.loop-number.number ≡ Some e = slice_get_read edges (length edges) c.loop-number.number e refl c.loop-number-test.true c.index-edges-number.is in
+    ((e, stands, c.if-is_negative.ensures), c.loop-number.invariant)
+
+pub loop-number-preserved : goal.loop-number-preserved
+loop-number-preserved g c =
+    let edges = c.args.edges.now in
+    let e = c.index-edges-number.result in
+    let stands : slice_get edges c.loop-number.number ≡ Some e = slice_get_read edges (length edges) c.loop-number.number e refl c.loop-number-test.true c.index-edges-number.is in
+    one_more_edge g.C.Number.value edges c.loop-number.number e stands c.if-is_negative.ensures c.loop-number.invariant
