@@ -8,6 +8,7 @@ ghost use Rattle.pf_tables.specs.Goals.{is_marked};
 ghost use Rattle.pf_tables.specs.Graphs.{between, filled, successors_of};
 ghost use Rattle.pf_tests.specs.Rings.{ring_edges, ring_places};
 
+use num_traits::Number;
 use pf_base::{Cost, PathError};
 use pf_tables::{CompactRows, Costless, Graph, bfs, dijkstra};
 use std::alloc::Allocator;
