@@ -5,8 +5,8 @@ use Rattle.pf_base.specs.NodeRefs.{nodes_of}
 use Rattle.pf_base.proofs.NodeRefsLemmas.{NoRepeats-distinct}
 use Rattle.pf_tables.specs.EdgeLists.{CostsFromZeroTo, names_of}
 use Rattle.pf_tables.specs.Layouts.{AreOffsets, ArePlaced}
-use Rattle.pf_tables.proofs.EdgeListLemmas.{come_from_names, laid_out, edge_list_graph}
-use Rattle.pf_tables.proofs.NumberedNames.{names_are_ends}
+use Rattle.pf_tables.proofs.EdgeListLemmas.{has_edges_by_name, come_from_names, laid_out, edge_list_graph}
+use Rattle.pf_tables.proofs.NumberedNames.{all_named, number_stands, names_are_ends}
 use Rattle.pf_tables.proofs.edge_list.EdgeList.new.Goals as goal
 
 pub offsets_of-requires-clause-inside : goal.offsets_of-requires-clause-inside
@@ -36,6 +36,16 @@ returns-clause-names g c = names_are_ends g.met.N.Eq.laws c.args.edges.now
 
 pub returns-clause-apart : goal.returns-clause-apart
 returns-clause-apart g c = subst (NoRepeats g.N.PartialEq.eq) c.in_ok-numbered.ensures.names (NoRepeats-distinct g.met.N.Eq.laws c.number_edges.new.names.keys c.len.ensures.unique)
+
+pub returns-clause-numbered : goal.returns-clause-numbered
+returns-clause-numbered g c = λ k e h.
+    let laws = g.met.N.Eq.laws in
+    let names = names_of g.N.PartialEq.eq c.args.edges.now in
+    let both = all_named laws c.args.edges.now k e h in
+    (number_stands laws names e.0 both.0, number_stands laws names e.1 both.1)
+
+pub returns-clause-places : goal.returns-clause-places
+returns-clause-places g c = has_edges_by_name g.met.N.Eq.laws c.args.edges.now
 
 pub returns-clause-sound : goal.returns-clause-sound
 returns-clause-sound g c =
