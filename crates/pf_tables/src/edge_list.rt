@@ -10,7 +10,7 @@ ghost use Rattle.pf_tables.specs.EdgeLists.{AreNumbered, CostsFromZeroTo, HasEdg
 use crate::checks::is_negative;
 use crate::error::EdgeListError;
 use crate::graph::Graph;
-use crate::layout::{offsets_of, placed};
+use crate::layout::{offsets_of, targets_of};
 use crate::names::{Names, number_edges};
 use indexmap::IndexSet;
 use pf_base::Cost;
@@ -82,7 +82,7 @@ impl<'e, N: Eq + Hash, C: Cost, A: Allocator + Copy> EdgeList<'e, N, C, A> {
         let mut names = IndexSet::new(alloc);
         let numbered = number_edges(alloc, &mut names, edges)?;
         let offsets = offsets_of(alloc, names.len(), &numbered)?;
-        let targets = placed(alloc, names.len(), &offsets, &numbered)?;
+        let targets = targets_of(alloc, names.len(), &offsets, &numbered)?;
         Ok(EdgeList {
             edges,
             names,

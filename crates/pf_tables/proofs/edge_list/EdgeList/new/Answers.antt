@@ -15,8 +15,8 @@ offsets_of-requires-clause-inside g c =
     let count : c.len.result ≡ length (names_of g.N.PartialEq.eq c.args.edges.now) = c.len.ensures.len ∙ sym (length-map keys _) ∙ ap length c.in_ok-numbered.ensures.names in
     come_from_names g.met.N.Eq.laws g.C.Number.value c.args.edges.now c.len.result count c.deref.result.now (c.deref.ensures.value ∙ c.in_ok-numbered.ensures.numbered)
 
-pub placed-requires-clause-inside : goal.placed-requires-clause-inside
-placed-requires-clause-inside g c =
+pub targets_of-requires-clause-inside : goal.targets_of-requires-clause-inside
+targets_of-requires-clause-inside g c =
     let keys = c.number_edges.new.names.keys in
     let count : c.len-2.result ≡ length (names_of g.N.PartialEq.eq c.args.edges.now) = c.len-2.ensures.len ∙ sym (length-map keys _) ∙ ap length c.in_ok-numbered.ensures.names in
     come_from_names g.met.N.Eq.laws g.C.Number.value c.args.edges.now c.len-2.result count c.deref-2.result.now (c.deref-2.ensures.value ∙ c.in_ok-numbered.ensures.numbered)
