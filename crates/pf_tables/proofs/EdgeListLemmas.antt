@@ -1,9 +1,9 @@
 -- Lists of edges between names that are laid out as graphs.
-use Rattle.std.proofs.Common.{◌≡◌, inl, inr, ℕ, zero, suc, ◌+◌, ◌<◌, refl, sym, subst, ◌∙◌, ap, arith, Bool, true, false, true≢false, nat_eq, cond, List, [], ◌∷◌, length, map}
+use Rattle.std.proofs.Common.{◌≡◌, inl, inr, ℕ, zero, suc, ◌+◌, ◌<◌, refl, sym, subst, ◌∙◌, ap, arith, Bool, true, false, true≢false, nat_eq, cond, List, [], ◌∷◌, length, map, if◌then◌else◌}
 use Rattle.std.specs.Prelude.{◌≤ℤ◌, ℤ, pos, Option, Some, None, MatchOption, slice_get}
 use Rattle.std.specs.Borrow.{Bor}
 use Rattle.std.specs.Cmp.{IsEquivalence}
-use Rattle.std.specs.List.{list_any, position, position_from}
+use Rattle.std.specs.List.{cons_option, list_any, position, position_from}
 use Rattle.std.specs.Option.{option_map_or}
 use Rattle.std.proofs.lemmas.Iterator.Adapters.{position_from-zero}
 use Rattle.std.proofs.lemmas.List.{length-map}
@@ -13,7 +13,7 @@ use Rattle.pf_base.specs.NodeRefs.{nodes_of}
 use Rattle.pf_core.specs.Nodes.{StandsFor}
 use Rattle.pf_core.proofs.ListLemmas.{none_in}
 use Rattle.pf_tables.specs.Graphs.{IsGraph, filled}
-use Rattle.pf_tables.specs.EdgeLists.{CostsFromZeroTo, ends_from, names_of, number_in, numbered_from, places_of}
+use Rattle.pf_tables.specs.EdgeLists.{CostsFromZeroTo, HasEdgesByName, ends_from, names_of, number_in, numbered_from, places_of}
 use Rattle.pf_tables.specs.Layouts.{AreOffsets, ArePlaced, ComeFromBelow, IsLaidOut, edges_below}
 use Rattle.pf_tables.proofs.Faulty.{less_or_same, some_same}
 use Rattle.pf_tables.proofs.LayoutLemmas.{below_next}
@@ -36,6 +36,19 @@ one_more_edge value edges number e stands sound before k d l h = elim (less_or_s
   | inl b ↦ before k d b h
   | inr s ↦ subst (λ x. pos 0 ≤ℤ value x.2) (some_same (sym stands ∙ ap (slice_get edges) (sym s) ∙ h)) sound
 ]
+
+module _ {N C : Type 0} {eq : N → N → Bool} (laws : IsEquivalence eq) where
+  -- equal names have the same edges
+  pub ends_alike : (edges : List (N × N × C)) (x y : N) → eq x y ≡ true → ends_from eq edges x ≡ ends_from eq edges y
+  ends_alike [] x y h = refl
+  ends_alike (e ∷ es) x y h =
+      let same : eq e.0 x ≡ eq e.0 y = laws.symm e.0 x ∙ laws.congr x y e.0 h ∙ laws.symm y e.0 in
+      ap (λ (b : Bool). cons_option (if b then Some (e.1, e.2) else None) (ends_from eq es x)) same ∙ ap (λ r. cons_option (if eq e.0 y then Some (e.1, e.2) else None) r) (ends_alike es x y h)
+
+  pub has_edges_by_name : (edges : List (N × N × C)) → HasEdgesByName eq edges
+  has_edges_by_name edges node x s =
+      ap (λ o. option_map_or (λ y. filled (numbered_from eq edges y)) o []) s.1
+      ∙ ap (λ es. filled (map (λ (e : N × C). (number_in eq (names_of eq edges) e.0, e.1)) es)) (ends_alike edges s.0 x s.2)
 
 module _ {N C : Type 0} {eq : N → N → Bool} (laws : IsEquivalence eq) (value : C → ℤ) where
   -- edges between the numbers of names come from numbers of names

@@ -3,6 +3,7 @@ use Rattle.std.specs.Prelude.{◌≡◌, ◌<◌, ◌≤ℤ◌, ◌<ℤ◌, ℕ,
 use Rattle.std.specs.List.{filter_map, flat_map, position_or_len}
 use Rattle.std.specs.Option.{option_map_or}
 use Rattle.indexmap.specs.IndexSet.{insert_all}
+use Rattle.pf_core.specs.Nodes.{StandsFor}
 use Rattle.pf_tables.specs.Graphs.{filled}
 use Rattle.pf_tables.specs.declared.error.EdgeListError.{EdgeListError}
 use Rattle.pf_tables.specs.declared.error.EdgeListError.TheVariants.{OutOfMemory, NegativeCost}
@@ -29,6 +30,11 @@ module _ {N : Type 0} (eq : N → N → Bool) where
     abbrev pub names_of : List (N × N × C) → List N
     names_of edges = insert_all eq [] (ends_of edges)
 
+    -- the number of each name of an edge stands for it
+    abbrev pub AreNumbered : List (N × N × C) → Type 0
+    AreNumbered edges = (k : ℕ) (e : N × N × C) → slice_get edges k ≡ Some e
+        → StandsFor eq (names_of edges) (number_in (names_of edges) e.0) e.0 × StandsFor eq (names_of edges) (number_in (names_of edges) e.1) e.1
+
     -- the edges whose first name equals x, each with the number of its second name and its cost
     abbrev pub numbered_from : List (N × N × C) → N → List (ℕ × C)
     numbered_from edges x = map (λ (e : N × C). (number_in (names_of edges) e.0, e.1)) (ends_from edges x)
@@ -36,6 +42,10 @@ module _ {N : Type 0} (eq : N → N → Bool) where
     -- what stands at the places of a node: the edges from its name
     abbrev pub places_of : List (N × N × C) → ℕ → List (Option (ℕ × C))
     places_of edges node = option_map_or (λ x. filled (numbered_from edges x)) (slice_get (names_of edges) node) []
+
+    -- at the places of the node that stands for a name x are the edges whose first name equals x
+    abbrev pub HasEdgesByName : List (N × N × C) → Type 0
+    HasEdgesByName edges = (node : ℕ) (x : N) → StandsFor eq (names_of edges) node x → places_of edges node ≡ filled (numbered_from edges x)
 
 module _ {N C : Type 0} (value : C → ℤ) where
   -- no edge before this number costs less than 0

@@ -1,16 +1,16 @@
 //! Graphs as lists of edges between names.
 
-ghost use Rattle.std.specs.Prelude.{◌≡◌, ◌<◌, Some, IfOk, IfErr, MatchOption, MatchResult, length, slice_get};
+ghost use Rattle.std.specs.Prelude.{◌≡◌, ◌<◌, Some, IfOk, IfErr, MatchOption, length, slice_get};
 ghost use Rattle.pf_base.specs.Walks.{HasNode, NoRepeats};
 ghost use Rattle.pf_base.specs.NodeRefs.{HasSameNodes};
 ghost use Rattle.pf_core.specs.Nodes.{StandsFor};
 ghost use Rattle.pf_tables.specs.Graphs.{IsGraph};
-ghost use Rattle.pf_tables.specs.EdgeLists.{CostsFromZeroTo, IsFirstNegative, IsEdgeListFault, ends_of, names_of, places_of};
+ghost use Rattle.pf_tables.specs.EdgeLists.{AreNumbered, CostsFromZeroTo, HasEdgesByName, IsFirstNegative, IsEdgeListFault, ends_of, names_of, places_of};
 
 use crate::checks::is_negative;
 use crate::error::EdgeListError;
 use crate::graph::Graph;
-use crate::layout::{offsets_of, placed};
+use crate::layout::{offsets_of, targets_of};
 use crate::names::{Names, number_edges};
 use indexmap::IndexSet;
 use pf_base::Cost;
@@ -59,14 +59,20 @@ fn negative_edge<N, C: Cost>(edges: &[(N, N, C)]) -> Option<usize>
 }
 
 impl<'e, N: Eq + Hash, C: Cost, A: Allocator + Copy> EdgeList<'e, N, C, A> {
-    /// The graph of these edges. It takes memory and time for each edge, and no more.
+    /// The graph of these edges. Memory and time are linear in the number of edges: the names are
+    /// numbered by a hash table, with one look-up for each end of an edge, and the edges are laid out
+    /// by a counting sort of the numbers that they come from (H. H. Seward, 1954).
     ///
-    /// Refused is an edge that costs less than 0, as `NegativeCost` with the first such edge.
-    /// `OutOfMemory` comes only where there is none.
+    /// # Errors
+    ///
+    /// - `NegativeCost`: an edge costs less than 0. The error has the number of the first such edge.
+    /// - `OutOfMemory`: a request for memory was refused, and no edge costs less than 0.
     pub fn new(alloc: A, edges: &'e [(N, N, C)]) -> Result<Self, EdgeListError>
         ensures edges { IfOk result (λ list. list ≡ edges.now) }
         ensures names { IfOk result (λ list. HasSameNodes N.eq (names_of N.eq list) (ends_of list)) }
         ensures apart { IfOk result (λ list. NoRepeats N.eq (names_of N.eq list)) }
+        ensures numbered { IfOk result (AreNumbered N.eq) }
+        ensures places { IfOk result (HasEdgesByName N.eq) }
         ensures sound { IfOk result (λ list. IsGraph C.value (length (names_of N.eq list)) (places_of N.eq list)) }
         ensures fault { IfErr result (IsEdgeListFault C.value edges.now) }
     {
@@ -76,7 +82,7 @@ impl<'e, N: Eq + Hash, C: Cost, A: Allocator + Copy> EdgeList<'e, N, C, A> {
         let mut names = IndexSet::new(alloc);
         let numbered = number_edges(alloc, &mut names, edges)?;
         let offsets = offsets_of(alloc, names.len(), &numbered)?;
-        let targets = placed(alloc, names.len(), &offsets, &numbered)?;
+        let targets = targets_of(alloc, names.len(), &offsets, &numbered)?;
         Ok(EdgeList {
             edges,
             names,

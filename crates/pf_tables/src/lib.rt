@@ -1,5 +1,5 @@
-//! Graphs in tables, over nodes that are numbers, and searches over them. A search over one asks
-//! no proof of its caller.
+//! Graphs in tables, over nodes that are numbers, graphs of edges between names, which it numbers,
+//! and searches over them. A search over one asks no proof of its caller.
 #![tactic(auto)]
 
 mod board;

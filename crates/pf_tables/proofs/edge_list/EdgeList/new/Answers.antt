@@ -5,8 +5,8 @@ use Rattle.pf_base.specs.NodeRefs.{nodes_of}
 use Rattle.pf_base.proofs.NodeRefsLemmas.{NoRepeats-distinct}
 use Rattle.pf_tables.specs.EdgeLists.{CostsFromZeroTo, names_of}
 use Rattle.pf_tables.specs.Layouts.{AreOffsets, ArePlaced}
-use Rattle.pf_tables.proofs.EdgeListLemmas.{come_from_names, laid_out, edge_list_graph}
-use Rattle.pf_tables.proofs.NumberedNames.{names_are_ends}
+use Rattle.pf_tables.proofs.EdgeListLemmas.{has_edges_by_name, come_from_names, laid_out, edge_list_graph}
+use Rattle.pf_tables.proofs.NumberedNames.{all_named, number_stands, names_are_ends}
 use Rattle.pf_tables.proofs.edge_list.EdgeList.new.Goals as goal
 
 pub offsets_of-requires-clause-inside : goal.offsets_of-requires-clause-inside
@@ -15,8 +15,8 @@ offsets_of-requires-clause-inside g c =
     let count : c.len.result ≡ length (names_of g.N.PartialEq.eq c.args.edges.now) = c.len.ensures.len ∙ sym (length-map keys _) ∙ ap length c.in_ok-numbered.ensures.names in
     come_from_names g.met.N.Eq.laws g.C.Number.value c.args.edges.now c.len.result count c.deref.result.now (c.deref.ensures.value ∙ c.in_ok-numbered.ensures.numbered)
 
-pub placed-requires-clause-inside : goal.placed-requires-clause-inside
-placed-requires-clause-inside g c =
+pub targets_of-requires-clause-inside : goal.targets_of-requires-clause-inside
+targets_of-requires-clause-inside g c =
     let keys = c.number_edges.new.names.keys in
     let count : c.len-2.result ≡ length (names_of g.N.PartialEq.eq c.args.edges.now) = c.len-2.ensures.len ∙ sym (length-map keys _) ∙ ap length c.in_ok-numbered.ensures.names in
     come_from_names g.met.N.Eq.laws g.C.Number.value c.args.edges.now c.len-2.result count c.deref-2.result.now (c.deref-2.ensures.value ∙ c.in_ok-numbered.ensures.numbered)
@@ -36,6 +36,16 @@ returns-clause-names g c = names_are_ends g.met.N.Eq.laws c.args.edges.now
 
 pub returns-clause-apart : goal.returns-clause-apart
 returns-clause-apart g c = subst (NoRepeats g.N.PartialEq.eq) c.in_ok-numbered.ensures.names (NoRepeats-distinct g.met.N.Eq.laws c.number_edges.new.names.keys c.len.ensures.unique)
+
+pub returns-clause-numbered : goal.returns-clause-numbered
+returns-clause-numbered g c = λ k e h.
+    let laws = g.met.N.Eq.laws in
+    let names = names_of g.N.PartialEq.eq c.args.edges.now in
+    let both = all_named laws c.args.edges.now k e h in
+    (number_stands laws names e.0 both.0, number_stands laws names e.1 both.1)
+
+pub returns-clause-places : goal.returns-clause-places
+returns-clause-places g c = has_edges_by_name g.met.N.Eq.laws c.args.edges.now
 
 pub returns-clause-sound : goal.returns-clause-sound
 returns-clause-sound g c =
