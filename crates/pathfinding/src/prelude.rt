@@ -32,4 +32,7 @@ pub use pf_matrix::{
 pub use pf_search::directed::bfs::bfs;
 pub use pf_search::directed::dijkstra::{dijkstra, dijkstra_tallied};
 pub use pf_search::laws::fewest_edges_of_cheapest;
-pub use pf_tables::{Board, CompactRows, Costless, Goals, Graph, Row, Rows, Steps, TableError};
+pub use pf_tables::{
+    Board, CompactRows, Costless, EdgeList, EdgeListError, Goals, Graph, Row, Rows, Steps,
+    TableError,
+};

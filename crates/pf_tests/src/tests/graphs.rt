@@ -2,7 +2,9 @@
 
 use crate::ring::{Ring, first_target, way_round, way_to_marked};
 use crate::tests::answers::{is_no_path, is_path, is_path_at};
-use pf_tables::{Board, CompactRows, EdgeList, EdgeListError, Rows, Steps, TableError, bfs, dijkstra};
+use pf_tables::{
+    Board, CompactRows, EdgeList, EdgeListError, Rows, Steps, TableError, bfs, dijkstra,
+};
 
 /// The graph of Cormen, Leiserson, Rivest, Stein, "Introduction to Algorithms", section on
 /// Dijkstra's algorithm, with s, t, x, y, z as the nodes 0 to 4. From s the nodes t, x, y, z cost 8,
@@ -42,11 +44,17 @@ fn rows_answer(rt: HostRuntime) {
         (3, &[0, 3], 5),
         (4, &[0, 3, 4], 7),
     ] {
-        assert!(rt; is_path_at(dijkstra(alloc, &graph, 0, to), path, cost), "{to}");
+        assert!(rt;
+            is_path_at(dijkstra(alloc, &graph, 0, to), path, cost),
+            "{to}"
+        );
     }
     assert!(rt; is_path(bfs(alloc, &graph, 0, 3), &[0, 3]));
     assert!(rt; is_no_path(bfs(alloc, &graph, 0, 5)), "no node");
-    assert!(rt; is_path(bfs(alloc, &graph, 7, 7), &[7]), "a number that is no node");
+    assert!(rt;
+        is_path(bfs(alloc, &graph, 7, 7), &[7]),
+        "a number that is no node"
+    );
     let marks = [false, false, true, false, true];
     assert!(rt; is_path_at(dijkstra(alloc, &graph, 0, &marks[..]), &[0, 3, 4], 7));
 }
@@ -60,7 +68,9 @@ fn faults_of_tables_are_named(rt: HostRuntime) {
     let cost = TableError::NegativeCost { node: 1, place: 0 };
     assert!(rt; matches!(CompactRows::new(&[0, 1, 2], &edges[..]), Err(fault) if fault == cost));
     let offset = TableError::FallingOffset { node: 1 };
-    assert!(rt; matches!(CompactRows::new(&[0, 2, 1, 2], &edges[..]), Err(fault) if fault == offset));
+    assert!(rt;
+        matches!(CompactRows::new(&[0, 2, 1, 2], &edges[..]), Err(fault) if fault == offset)
+    );
     let first = TableError::NoFirstOffset;
     assert!(rt; matches!(CompactRows::new(&[], &edges[..]), Err(fault) if fault == first));
     let last = TableError::WrongLastOffset;
@@ -112,7 +122,12 @@ fn graphs_of_a_callers_own_answer(rt: HostRuntime) {
     let Ok(graph) = CompactRows::new(&[0, 1, 3, 3], &targets[..]) else {
         panic!(rt; "the targets are a graph");
     };
-    assert!(rt; is_path(way_to_marked(alloc, &graph, 0, &[false, false, true]), &[0, 1, 2]));
+    assert!(rt;
+        is_path(
+            way_to_marked(alloc, &graph, 0, &[false, false, true]),
+            &[0, 1, 2]
+        )
+    );
 }
 
 #[test]
