@@ -11,8 +11,7 @@ use crate::checks::is_negative;
 use crate::error::EdgeListError;
 use crate::graph::Graph;
 use crate::layout::{offsets_of, targets_of};
-use crate::names::{Names, number_edges};
-use indexmap::IndexSet;
+use crate::names::{Names, Numbered, number_edges};
 use pf_base::Cost;
 use std::alloc::{Allocator, Global};
 use std::hash::Hash;
@@ -79,10 +78,11 @@ impl<'e, N: Eq + Hash, C: Cost, A: Allocator + Copy> EdgeList<'e, N, C, A> {
         if let Some(edge) = negative_edge(edges) {
             return Err(EdgeListError::NegativeCost { edge });
         }
-        let mut names = IndexSet::new(alloc);
-        let numbered = number_edges(alloc, &mut names, edges)?;
-        let offsets = offsets_of(alloc, names.len(), &numbered)?;
-        let targets = targets_of(alloc, names.len(), &offsets, &numbered)?;
+        let numbered = number_edges(alloc, edges)?;
+        let nodes = numbered.names.len();
+        let offsets = offsets_of(alloc, nodes, &numbered.edges)?;
+        let targets = targets_of(alloc, nodes, &offsets, &numbered.edges)?;
+        let Numbered { names, edges: _ } = numbered;
         Ok(EdgeList {
             edges,
             names,

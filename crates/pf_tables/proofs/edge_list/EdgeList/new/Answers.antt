@@ -11,31 +11,31 @@ use Rattle.pf_tables.proofs.edge_list.EdgeList.new.Goals as goal
 
 pub offsets_of-requires-clause-inside : goal.offsets_of-requires-clause-inside
 offsets_of-requires-clause-inside g c =
-    let keys = c.number_edges.new.names.keys in
-    let count : c.len.result ≡ length (names_of g.N.PartialEq.eq c.args.edges.now) = c.len.ensures.len ∙ sym (length-map keys _) ∙ ap length c.in_ok-numbered.ensures.names in
-    come_from_names g.met.N.Eq.laws g.C.Number.value c.args.edges.now c.len.result count c.deref.result.now (c.deref.ensures.value ∙ c.in_ok-numbered.ensures.numbered)
+    let keys = c.in_ok-numbered.numbered.names.keys in
+    let count : c.len-nodes.result ≡ length (names_of g.N.PartialEq.eq c.args.edges.now) = c.len-nodes.ensures.len ∙ sym (length-map keys _) ∙ ap length c.in_ok-numbered.ensures.names in
+    come_from_names g.met.N.Eq.laws g.C.Number.value c.args.edges.now c.len-nodes.result count c.deref.result.now (c.deref.ensures.value ∙ c.in_ok-numbered.ensures.numbered)
 
 pub targets_of-requires-clause-inside : goal.targets_of-requires-clause-inside
 targets_of-requires-clause-inside g c =
-    let keys = c.number_edges.new.names.keys in
-    let count : c.len-2.result ≡ length (names_of g.N.PartialEq.eq c.args.edges.now) = c.len-2.ensures.len ∙ sym (length-map keys _) ∙ ap length c.in_ok-numbered.ensures.names in
-    come_from_names g.met.N.Eq.laws g.C.Number.value c.args.edges.now c.len-2.result count c.deref-2.result.now (c.deref-2.ensures.value ∙ c.in_ok-numbered.ensures.numbered)
+    let keys = c.in_ok-numbered.numbered.names.keys in
+    let count : c.len-nodes.result ≡ length (names_of g.N.PartialEq.eq c.args.edges.now) = c.len-nodes.ensures.len ∙ sym (length-map keys _) ∙ ap length c.in_ok-numbered.ensures.names in
+    come_from_names g.met.N.Eq.laws g.C.Number.value c.args.edges.now c.len-nodes.result count c.deref-2.result.now (c.deref-2.ensures.value ∙ c.in_ok-numbered.ensures.numbered)
 
 pub invariant_of-result : goal.invariant_of-result
 invariant_of-result g c =
-    let keys = c.number_edges.new.names.keys in
-    let es = c.in_ok-numbered.numbered.items in
+    let keys = c.in_ok-numbered.numbered.names.keys in
+    let es = c.in_ok-numbered.numbered.edges.items in
     let costs : CostsFromZeroTo g.C.Number.value c.args.edges.now (length c.args.edges.now) = search rules in
-    laid_out g.met.N.Eq.laws g.C.Number.value c.args.edges.now (nodes_of keys) c.in_ok-numbered.ensures.names (NoRepeats-distinct g.met.N.Eq.laws keys c.len.ensures.unique) costs
-    c.len.result (c.len.ensures.len ∙ sym (length-map keys _)) es c.in_ok-numbered.ensures.numbered
-    c.in_ok-offsets.offsets.items (subst (λ xs. AreOffsets c.len.result xs c.in_ok-offsets.offsets.items) c.deref.ensures.value c.in_ok-offsets.ensures)
-    c.in_ok-targets.targets.items (subst (λ n. ArePlaced n es c.in_ok-targets.targets.items) (c.len-2.ensures.len ∙ sym c.len.ensures.len) (subst (λ xs. ArePlaced c.len-2.result xs c.in_ok-targets.targets.items) c.deref-2.ensures.value c.in_ok-targets.ensures))
+    laid_out g.met.N.Eq.laws g.C.Number.value c.args.edges.now (nodes_of keys) c.in_ok-numbered.ensures.names (NoRepeats-distinct g.met.N.Eq.laws keys c.len-nodes.ensures.unique) costs
+    c.len-nodes.result (c.len-nodes.ensures.len ∙ sym (length-map keys _)) es c.in_ok-numbered.ensures.numbered
+    c.in_ok-offsets.offsets.items (subst (λ xs. AreOffsets c.len-nodes.result xs c.in_ok-offsets.offsets.items) c.deref.ensures.value c.in_ok-offsets.ensures)
+    c.in_ok-targets.targets.items (subst (λ n. ArePlaced n es c.in_ok-targets.targets.items) (c.len-nodes.ensures.len ∙ sym c.len-nodes.ensures.len) (subst (λ xs. ArePlaced c.len-nodes.result xs c.in_ok-targets.targets.items) c.deref-2.ensures.value c.in_ok-targets.ensures))
 
 pub returns-clause-names : goal.returns-clause-names
 returns-clause-names g c = names_are_ends g.met.N.Eq.laws c.args.edges.now
 
 pub returns-clause-apart : goal.returns-clause-apart
-returns-clause-apart g c = subst (NoRepeats g.N.PartialEq.eq) c.in_ok-numbered.ensures.names (NoRepeats-distinct g.met.N.Eq.laws c.number_edges.new.names.keys c.len.ensures.unique)
+returns-clause-apart g c = subst (NoRepeats g.N.PartialEq.eq) c.in_ok-numbered.ensures.names (NoRepeats-distinct g.met.N.Eq.laws c.in_ok-numbered.numbered.names.keys c.len-nodes.ensures.unique)
 
 pub returns-clause-numbered : goal.returns-clause-numbered
 returns-clause-numbered g c = λ k e h.
@@ -49,11 +49,11 @@ returns-clause-places g c = has_edges_by_name g.met.N.Eq.laws c.args.edges.now
 
 pub returns-clause-sound : goal.returns-clause-sound
 returns-clause-sound g c =
-    let keys = c.number_edges.new.names.keys in
-    let es = c.in_ok-numbered.numbered.items in
+    let keys = c.in_ok-numbered.numbered.names.keys in
+    let es = c.in_ok-numbered.numbered.edges.items in
     let costs : CostsFromZeroTo g.C.Number.value c.args.edges.now (length c.args.edges.now) = search rules in
     edge_list_graph g.met.N.Eq.laws g.C.Number.value c.args.edges.now (nodes_of keys) c.in_ok-offsets.offsets.items c.in_ok-targets.targets.items
-    (laid_out g.met.N.Eq.laws g.C.Number.value c.args.edges.now (nodes_of keys) c.in_ok-numbered.ensures.names (NoRepeats-distinct g.met.N.Eq.laws keys c.len.ensures.unique) costs
-    c.len.result (c.len.ensures.len ∙ sym (length-map keys _)) es c.in_ok-numbered.ensures.numbered
-    c.in_ok-offsets.offsets.items (subst (λ xs. AreOffsets c.len.result xs c.in_ok-offsets.offsets.items) c.deref.ensures.value c.in_ok-offsets.ensures)
-    c.in_ok-targets.targets.items (subst (λ n. ArePlaced n es c.in_ok-targets.targets.items) (c.len-2.ensures.len ∙ sym c.len.ensures.len) (subst (λ xs. ArePlaced c.len-2.result xs c.in_ok-targets.targets.items) c.deref-2.ensures.value c.in_ok-targets.ensures)))
+    (laid_out g.met.N.Eq.laws g.C.Number.value c.args.edges.now (nodes_of keys) c.in_ok-numbered.ensures.names (NoRepeats-distinct g.met.N.Eq.laws keys c.len-nodes.ensures.unique) costs
+    c.len-nodes.result (c.len-nodes.ensures.len ∙ sym (length-map keys _)) es c.in_ok-numbered.ensures.numbered
+    c.in_ok-offsets.offsets.items (subst (λ xs. AreOffsets c.len-nodes.result xs c.in_ok-offsets.offsets.items) c.deref.ensures.value c.in_ok-offsets.ensures)
+    c.in_ok-targets.targets.items (subst (λ n. ArePlaced n es c.in_ok-targets.targets.items) (c.len-nodes.ensures.len ∙ sym c.len-nodes.ensures.len) (subst (λ xs. ArePlaced c.len-nodes.result xs c.in_ok-targets.targets.items) c.deref-2.ensures.value c.in_ok-targets.ensures)))
