@@ -6,6 +6,7 @@ mod costs;
 mod errors;
 mod every_small_graph;
 mod fewest;
+mod graphs;
 mod grid;
 mod kinds;
 mod larger_graphs;
