@@ -2,6 +2,7 @@
 
 use pathfinding::routes::RouteError;
 use pf_base::PathError;
+use pf_tables::TableError;
 use std::alloc::Global;
 use std::fmt::Display;
 
@@ -29,5 +30,38 @@ fn refusals_have_their_texts(rt: HostRuntime) {
         (RouteError::WriteFailed, "write failed"),
     ] {
         assert!(rt; is_printed(rt.alloc(), &fault, text), "{text}");
+    }
+}
+
+#[test]
+fn refusals_of_tables_have_their_texts(rt: HostRuntime) {
+    for (error, text) in [
+        (
+            TableError::TargetOutside { node: 3, place: 1 },
+            "the edge at place 1 of node 3 leads to no node",
+        ),
+        (
+            TableError::NegativeCost { node: 0, place: 2 },
+            "the edge at place 2 of node 0 costs less than 0",
+        ),
+        (TableError::NoFirstOffset, "the offsets do not begin with 0"),
+        (
+            TableError::FallingOffset { node: 4 },
+            "the offset after node 4 is below the one before it",
+        ),
+        (
+            TableError::WrongLastOffset,
+            "the last offset is not the number of edges",
+        ),
+        (
+            TableError::WrongNumberOfCells,
+            "the number of cells is not that of the rows times that of the columns",
+        ),
+        (
+            TableError::NegativeCell { cell: 7 },
+            "to enter cell 7 costs less than 0",
+        ),
+    ] {
+        assert!(rt; is_printed(rt.alloc(), &error, text), "{text}");
     }
 }

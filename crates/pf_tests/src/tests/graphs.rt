@@ -1,148 +1,216 @@
-//! Searches over graphs in tables, at numbers.
+//! The makers of graphs in tables, and the searches over them, at concrete types.
 
 use crate::ring::{Ring, first_target, way_round, way_to_marked};
 use crate::tests::answers::{is_no_path, is_path, is_path_at};
+use crate::tests::refusals::{Outcome, refuse_each_growth};
+use pf_base::PathError;
 use pf_tables::{
-    Board, CompactRows, EdgeList, EdgeListError, Rows, Steps, TableError, bfs, dijkstra,
+    Board, CompactRows, Costless, EdgeList, EdgeListError, Rows, Steps, TableError, bfs, dijkstra,
 };
+use refusing_allocator::Refusing;
+use std::alloc::Global;
+use std::test::Fail;
 
-/// The graph of Cormen, Leiserson, Rivest, Stein, "Introduction to Algorithms", section on
-/// Dijkstra's algorithm, with s, t, x, y, z as the nodes 0 to 4. From s the nodes t, x, y, z cost 8,
-/// 9, 5 and 7.
-pub const ROWS: [&[(usize, u32)]; 5] = [
-    &[(1, 10), (3, 5)],
-    &[(2, 1), (3, 2)],
-    &[(4, 4)],
-    &[(1, 3), (2, 9), (4, 2)],
-    &[(0, 7), (2, 6)],
+/// The edges from five nodes.
+const ROWS: [&[(usize, u32)]; 5] = [
+    &[(1, 4), (2, 2)],
+    &[(2, 1), (3, 5)],
+    &[(3, 8), (4, 10)],
+    &[(4, 2)],
+    &[],
 ];
 
-/// The same edges, with letters for the nodes.
-pub const EDGES: [(char, char, u32); 10] = [
-    ('s', 't', 10),
-    ('s', 'y', 5),
-    ('t', 'x', 1),
-    ('t', 'y', 2),
-    ('x', 'z', 4),
-    ('y', 't', 3),
-    ('y', 'x', 9),
-    ('y', 'z', 2),
-    ('z', 's', 7),
-    ('z', 'x', 6),
-];
+/// Whether a maker refuses its table with this error.
+fn is_refused<T: Drop>(made: Result<T, TableError>, want: TableError) -> bool {
+    matches!(made, Err(error) if error == want)
+}
 
 #[test]
-fn rows_answer(rt: HostRuntime) {
+fn searches_over_rows(rt: HostRuntime) -> Result<(), Fail> {
     let alloc = rt.alloc();
-    let Ok(graph) = Rows::new(&ROWS) else {
-        panic!(rt; "the rows are a graph");
-    };
-    for (to, path, cost) in [
-        (0, &[0usize][..], 0),
-        (1, &[0, 3, 1], 8),
-        (2, &[0, 3, 1, 2], 9),
-        (3, &[0, 3], 5),
-        (4, &[0, 3, 4], 7),
-    ] {
+    let rows = ROWS;
+    let graph = Rows::new(&rows)?;
+    assert!(rt; is_path_at(dijkstra(alloc, &graph, 0, 4), &[0, 1, 3, 4], 11));
+    assert!(rt; is_path(bfs(alloc, &graph, 0, 4), &[0, 2, 4]));
+    assert!(rt; is_no_path(dijkstra(alloc, &graph, 4, 0)));
+    assert!(rt; is_no_path(bfs(alloc, &graph, 4, 0)));
+    let marks = [false, false, false, true, true];
+    assert!(rt; is_path_at(dijkstra(alloc, &graph, 0, marks.as_slice()), &[0, 1, 3], 9));
+    assert!(rt; first_target(&graph) == Some(1));
+    Ok(())
+}
+
+#[test]
+fn searches_from_and_to_numbers_that_are_no_nodes(rt: HostRuntime) -> Result<(), Fail> {
+    let alloc = rt.alloc();
+    let rows = ROWS;
+    let graph = Rows::new(&rows)?;
+    assert!(rt; is_path_at(dijkstra(alloc, &graph, 5, 5), &[5], 0));
+    assert!(rt; is_path(bfs(alloc, &graph, 5, 5), &[5]));
+    for (from, to) in [(5, 0), (0, 5)] {
         assert!(rt;
-            is_path_at(dijkstra(alloc, &graph, 0, to), path, cost),
-            "{to}"
+            is_no_path(dijkstra(alloc, &graph, from, to)),
+            "{from} to {to}"
         );
+        assert!(rt; is_no_path(bfs(alloc, &graph, from, to)), "{from} to {to}");
     }
-    assert!(rt; is_path(bfs(alloc, &graph, 0, 3), &[0, 3]));
-    assert!(rt; is_no_path(bfs(alloc, &graph, 0, 5)), "no node");
-    assert!(rt;
-        is_path(bfs(alloc, &graph, 7, 7), &[7]),
-        "a number that is no node"
-    );
-    let marks = [false, false, true, false, true];
-    assert!(rt; is_path_at(dijkstra(alloc, &graph, 0, &marks[..]), &[0, 3, 4], 7));
+    Ok(())
 }
 
 #[test]
-fn faults_of_tables_are_named(rt: HostRuntime) {
-    let outside: [&[(usize, u32)]; 2] = [&[(1, 1)], &[(0, 1), (2, 1)]];
-    let target = TableError::TargetOutside { node: 1, place: 1 };
-    assert!(rt; matches!(Rows::new(&outside), Err(fault) if fault == target));
-    let edges = [(1usize, 5i32), (0, -1)];
-    let cost = TableError::NegativeCost { node: 1, place: 0 };
-    assert!(rt; matches!(CompactRows::new(&[0, 1, 2], &edges[..]), Err(fault) if fault == cost));
-    let offset = TableError::FallingOffset { node: 1 };
-    assert!(rt;
-        matches!(CompactRows::new(&[0, 2, 1, 2], &edges[..]), Err(fault) if fault == offset)
-    );
-    let first = TableError::NoFirstOffset;
-    assert!(rt; matches!(CompactRows::new(&[], &edges[..]), Err(fault) if fault == first));
-    let last = TableError::WrongLastOffset;
-    assert!(rt; matches!(CompactRows::new(&[0, 1], &edges[..]), Err(fault) if fault == last));
-    let cells = [Some(1i8), None, Some(-1)];
-    let cell = TableError::NegativeCell { cell: 2 };
-    assert!(rt; matches!(Board::new(1, 3, &cells, Steps::Four), Err(fault) if fault == cell));
-    let number = TableError::WrongNumberOfCells;
-    assert!(rt; matches!(Board::new(2, 2, &cells, Steps::Four), Err(fault) if fault == number));
-}
-
-#[test]
-fn boards_answer(rt: HostRuntime) {
+fn searches_over_compact_rows(rt: HostRuntime) -> Result<(), Fail> {
     let alloc = rt.alloc();
-    // 1 9 1
-    // 1 # 1
-    // 1 1 1
-    let cells = [
-        Some(1u32),
-        Some(9),
-        Some(1),
-        Some(1),
-        None,
-        Some(1),
-        Some(1),
-        Some(1),
-        Some(1),
-    ];
-    let (Ok(four), Ok(eight)) = (
-        Board::new(3, 3, &cells, Steps::Four),
-        Board::new(3, 3, &cells, Steps::Eight),
-    ) else {
-        panic!(rt; "the cells are a board");
-    };
-    assert!(rt; is_path(bfs(alloc, &four, 0, 2), &[0, 1, 2]));
-    assert!(rt; is_path_at(dijkstra(alloc, &four, 0, 2), &[0, 3, 6, 7, 8, 5, 2], 6));
-    assert!(rt; is_path_at(dijkstra(alloc, &eight, 0, 2), &[0, 3, 7, 5, 2], 4));
-    assert!(rt; is_no_path(bfs(alloc, &four, 0, 4)), "a blocked cell");
-    assert!(rt; four.number_of(2, 1) == 7 && four.position_of(7) == (2, 1));
+    let offsets = [0, 2, 4, 6, 7, 7];
+    let edges = [(1, 4u32), (2, 2), (2, 1), (3, 5), (3, 8), (4, 10), (4, 2)];
+    let graph = CompactRows::new(&offsets, edges.as_slice())?;
+    assert!(rt; is_path_at(dijkstra(alloc, &graph, 0, 4), &[0, 1, 3, 4], 11));
+    let targets = [1usize, 2, 2, 3, 3, 4, 4];
+    let graph = CompactRows::new(&offsets, targets.as_slice())?;
+    let marks = [false, false, false, false, true];
+    assert!(rt; is_path(way_to_marked(alloc, &graph, 0, &marks), &[0, 2, 4]));
+    assert!(rt; is_path_at(dijkstra(alloc, &graph, 3, 4), &[3, 4], Costless));
+    Ok(())
 }
 
 #[test]
-fn graphs_of_a_callers_own_answer(rt: HostRuntime) {
+fn searches_over_boards_and_rings(rt: HostRuntime) -> Result<(), Fail> {
     let alloc = rt.alloc();
-    let ring = Ring { nodes: 4 };
-    assert!(rt; is_path_at(way_round(alloc, &ring, 3, 1), &[3, 0, 1], 2));
-    assert!(rt; first_target(&ring) == Some(1) && first_target(&Ring { nodes: 0 }).is_none());
-    let targets = [1usize, 2, 2];
-    let Ok(graph) = CompactRows::new(&[0, 1, 3, 3], &targets[..]) else {
-        panic!(rt; "the targets are a graph");
-    };
+    let one = Some(1u32);
+    let cells = [one, None, one, Some(9), one, one, one, one, one];
+    let board = Board::new(3, 3, &cells, Steps::Four)?;
+    let to = board.number_of(0, 2);
+    assert!(rt; to == 2 && board.position_of(5) == (1, 2));
+    assert!(rt; is_path_at(dijkstra(alloc, &board, 0, to), &[0, 3, 4, 5, 2], 12));
+    assert!(rt; is_path(bfs(alloc, &board, 0, to), &[0, 3, 4, 5, 2]));
+    let board = Board::new(3, 3, &cells, Steps::Eight)?;
+    assert!(rt; is_path_at(dijkstra(alloc, &board, 0, to), &[0, 4, 2], 2));
+    assert!(rt; is_path_at(way_round(alloc, &Ring { nodes: 5 }, 3, 1), &[3, 4, 0, 1], 3));
+    Ok(())
+}
+
+#[test]
+fn a_sum_that_does_not_fit(rt: HostRuntime) -> Result<(), Fail> {
+    let alloc = rt.alloc();
+    let rows: [&[(usize, u8)]; 3] = [&[(1, 200)], &[(2, 100)], &[]];
+    let graph = Rows::new(&rows)?;
+    assert!(rt; is_path_at(dijkstra(alloc, &graph, 0, 1), &[0, 1], 200));
+    assert!(rt; matches!(dijkstra(alloc, &graph, 0, 2), Err(PathError::CostOverflow)));
+    Ok(())
+}
+
+#[test]
+fn makers_name_the_first_fault(rt: HostRuntime) {
+    let outside: [&[(usize, i32)]; 2] = [&[(1, 1)], &[(0, 1), (2, -1)]];
     assert!(rt;
-        is_path(
-            way_to_marked(alloc, &graph, 0, &[false, false, true]),
-            &[0, 1, 2]
+        is_refused(
+            Rows::<_, i32>::new(&outside),
+            TableError::TargetOutside { node: 1, place: 1 }
         )
     );
+    let negative: [&[(usize, i32)]; 2] = [&[(1, 1), (0, -1)], &[]];
+    assert!(rt;
+        is_refused(
+            Rows::<_, i32>::new(&negative),
+            TableError::NegativeCost { node: 0, place: 1 }
+        )
+    );
+    let edges = [(1, 1), (0, -1)];
+    let cases: [(&[usize], TableError); 5] = [
+        (&[], TableError::NoFirstOffset),
+        (&[1, 2], TableError::NoFirstOffset),
+        (&[0, 2, 1], TableError::FallingOffset { node: 1 }),
+        (&[0, 1, 1], TableError::WrongLastOffset),
+        (&[0, 1, 2], TableError::NegativeCost { node: 1, place: 0 }),
+    ];
+    for (offsets, error) in cases {
+        assert!(rt;
+            is_refused(CompactRows::<_, i32>::new(offsets, edges.as_slice()), error),
+            "{error}"
+        );
+    }
+    let cells = [Some(0), None, Some(-1), Some(1)];
+    for (rows, error) in [
+        (3, TableError::WrongNumberOfCells),
+        (usize::MAX, TableError::WrongNumberOfCells),
+        (2, TableError::NegativeCell { cell: 2 }),
+    ] {
+        assert!(rt;
+            is_refused(Board::<i32>::new(rows, 2, &cells, Steps::Four), error),
+            "{error}"
+        );
+    }
+}
+
+/// How a search ended, whether or not it answered as it does with ample memory.
+fn outcome_of(is_right: Result<bool, PathError>) -> Outcome {
+    match is_right {
+        Ok(true) => Outcome::Answered,
+        Err(PathError::OutOfMemory) => Outcome::OutOfMemory,
+        _ => Outcome::Wrong,
+    }
+}
+
+/// Whether the searches answer the only right paths.
+fn is_right(
+    heap: &Refusing<Global>,
+    graph: &Rows<'_, &[(usize, u32)], u32>,
+) -> Result<bool, PathError> {
+    let cheapest = dijkstra(heap, graph, 0, 4)?;
+    let fewest = bfs(heap, graph, 0, 4)?;
+    Ok(is_path_at(Ok(cheapest), &[0, 1, 3, 4], 11) && is_path(Ok(fewest), &[0, 2, 4]))
 }
 
 #[test]
-fn edge_lists_answer(rt: HostRuntime) {
-    let alloc = rt.alloc();
-    let Ok(list) = EdgeList::new(alloc, &EDGES) else {
-        panic!(rt; "the edges are a graph");
+fn searches_refuse_each_growth(rt: HostRuntime) -> Result<(), Fail> {
+    let rows = ROWS;
+    let graph = Rows::new(&rows)?;
+    let growths = refuse_each_growth(&rt, rt.alloc(), |heap| outcome_of(is_right(heap, &graph)));
+    assert!(rt; growths > 6);
+    Ok(())
+}
+
+/// The edges between five letters, which are those of `ROWS`.
+const EDGES: [(char, char, u32); 7] = [
+    ('a', 'b', 4),
+    ('a', 'c', 2),
+    ('b', 'c', 1),
+    ('b', 'd', 5),
+    ('c', 'd', 8),
+    ('c', 'e', 10),
+    ('d', 'e', 2),
+];
+
+/// Whether an edge list is made, and has the only right path from a to e.
+fn is_right_by_names(
+    heap: &Refusing<Global>,
+    edges: &[(char, char, u32)],
+) -> Result<bool, PathError> {
+    let list = match EdgeList::new(heap, edges) {
+        Ok(list) => list,
+        Err(EdgeListError::OutOfMemory) => return Err(PathError::OutOfMemory),
+        Err(_) => return Ok(false),
     };
-    let (Some(from), Some(to)) = (list.number_of(&'s'), list.number_of(&'x')) else {
-        panic!(rt; "both letters stand in the list");
+    let (Some(from), Some(to)) = (list.number_of(&'a'), list.number_of(&'e')) else {
+        return Ok(false);
     };
-    assert!(rt; list.len() == 5 && list.number_of(&'a').is_none());
-    assert!(rt; from < list.len() && *list.name_of(from) == 's');
-    assert!(rt; matches!(dijkstra(alloc, &list, from, to), Ok(Some((_, 9)))));
+    let found = dijkstra(heap, &list, from, to)?;
+    Ok(list.len() == 5 && is_path_at(Ok(found), &[0, 1, 3, 4], 11))
+}
+
+#[test]
+fn edge_lists(rt: HostRuntime) -> Result<(), Fail> {
+    let edges = EDGES;
+    let growths = refuse_each_growth(
+        &rt,
+        rt.alloc(),
+        |heap| outcome_of(is_right_by_names(heap, &edges)),
+    );
+    assert!(rt; growths > 6);
+    let list = EdgeList::new(rt.alloc(), &edges)?;
+    assert!(rt; list.number_of(&'f').is_none());
+    assert!(rt; list.len() > 3 && *list.name_of(3) == 'd');
     let negative = [('a', 'b', 1i16), ('b', 'a', -1)];
-    let fault = EdgeList::new(alloc, &negative);
-    assert!(rt; matches!(fault, Err(EdgeListError::NegativeCost { edge: 1 })));
+    let refused = EdgeList::new(rt.alloc(), &negative);
+    assert!(rt; matches!(refused, Err(EdgeListError::NegativeCost { edge: 1 })));
+    Ok(())
 }

@@ -3,13 +3,11 @@
 
 use crate::fewest::fewest_in_pairs;
 use crate::tests::answers::{is_path, is_path_at};
-use crate::tests::graphs::{EDGES, ROWS};
 use crate::tests::kinds::by_array;
 use crate::tests::noderefs::is_cloned;
 use crate::tests::routes::{SEVEN, SEVEN_ANSWERS, spelled};
 use pathfinding::routes::{Command, Noted, RouteError, run};
 use pf_base::{NodeRefs, PathError};
-use pf_tables::{EdgeList, EdgeListError, Rows, bfs, dijkstra};
 use refusing_allocator::Refusing;
 use std::alloc::{AllocError, Allocator, Global};
 use std::process::Abort;
@@ -70,12 +68,6 @@ enum Call {
     CheapestPath,
     /// A path with fewest edges.
     FewestEdges,
-    /// A cheapest path over a table.
-    CheapestInTable,
-    /// A path with fewest edges over a table.
-    FewestInTable,
-    /// An edge list, and a path with fewest edges in it.
-    EdgeList,
     /// A set of one node.
     SetOfOne,
     /// A set of many nodes, and a clone of it.
@@ -95,19 +87,6 @@ fn is_right(heap: &Refusing<Global>, ample: Global, call: Call) -> Result<bool, 
             let found = fewest_in_pairs(heap, &edges, &starts, &[6])?;
             Ok(is_path(Ok(found), &[1, 4, 5, 6]))
         }
-        Call::CheapestInTable => match Rows::new(&ROWS) {
-            Ok(graph) => Ok(is_path_at(Ok(dijkstra(heap, &graph, 0, 2)?), &[0, 3, 1, 2], 9)),
-            Err(_) => Ok(false),
-        },
-        Call::FewestInTable => match Rows::new(&ROWS) {
-            Ok(graph) => Ok(is_path(Ok(bfs(heap, &graph, 0, 3)?), &[0, 3])),
-            Err(_) => Ok(false),
-        },
-        Call::EdgeList => match EdgeList::new(heap, &EDGES) {
-            Ok(list) => Ok(is_path(Ok(bfs(heap, &list, 0, 2)?), &[0, 2])),
-            Err(EdgeListError::OutOfMemory) => Err(PathError::OutOfMemory),
-            Err(_) => Ok(false),
-        },
         Call::SetOfOne => Ok(NodeRefs::from_one(heap, &7)?.len() == 1),
         Call::SetOfMany => {
             let nodes = numbers_below(ample, 100)?;
@@ -131,9 +110,6 @@ fn searches_and_sets_refuse_each_growth(rt: HostRuntime) {
     for (call, least) in [
         (Call::CheapestPath, 2),
         (Call::FewestEdges, 2),
-        (Call::CheapestInTable, 2),
-        (Call::FewestInTable, 2),
-        (Call::EdgeList, 4),
         (Call::SetOfOne, 1),
         (Call::SetOfMany, 2),
     ] {
