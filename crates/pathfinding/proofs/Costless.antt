@@ -1,8 +1,8 @@
 -- A graph with costs, and the same without them: the successors of a node are the nodes that its edges lead to.
 use Rattle.std.proofs.Common.{◌≡◌, ℤ, Bool, List, [], ◌∷◌, map, Option, Some, None, refl, sym, subst, inl, inr}
 use Rattle.std.specs.Prelude.{MatchOption}
-use Rattle.pf_base.specs.Walks.{HasNode, Follows, IsGoalWalk, HasNoGoalWalk, IsReachable}
-use Rattle.pf_base.specs.Edges.{HasEdge, IsSuccessor, InReach}
+use Rattle.pf_base.specs.Walks.{HasNode, Follows, IsGoalWalk, HasNoGoalWalk}
+use Rattle.pf_base.specs.Edges.{HasEdge, IsSuccessor}
 use Rattle.pf_base.specs.Successors.{HasSuccessor, IsFewestEdgesGoalPath}
 
 abbrev pub targets_of : {N : Type 0} → List (N × ℤ) → List N
@@ -39,10 +39,6 @@ module _ {N : Type 0} (eq : N → N → Bool) (edges : N → List (N × ℤ)) wh
     pub goal_costless : (walk : List N) → IsGoalWalk eq (IsSuccessor eq edges) starts test walk → IsGoalWalk eq Leads starts test walk
     goal_costless [] g = absurd g.walks
     goal_costless (a ∷ w) g = record { walks = follows_costless a w g.walks; begins = g.begins; ends = g.ends }
-
-  -- and so are the nodes in reach
-  pub reach_costed : (starts : List N) (x : N) → IsReachable eq Leads starts x → InReach eq edges starts x
-  reach_costed starts x r = record { walk = r.walk; goes = goal_costed starts (λ y. eq y x) r.walk r.goes }
 
   -- a search without costs answers that there is no walk with them
   pub answer_costed : {V : Type 0} (items : V → List N) (begins starts : List N) (test : N → Bool) (o : Option V) → begins ≡ starts

@@ -1,5 +1,5 @@
 -- The rows of a graph of numbered nodes, read place by place.
-use Rattle.std.proofs.Common.{◌≡◌, ℕ, pos, ◌+◌, ◌-◌, ◌<◌, ◌∙◌, arith, subst, List, length, get_or}
+use Rattle.std.proofs.Common.{◌≡◌, ℕ, pos, ◌+◌, ◌-◌, ◌<◌, ◌∙◌, arith, subst, length}
 use Rattle.std.specs.Prelude.{Some, slice_get, slice_index, vec_len}
 use Rattle.std.proofs.lemmas.Int.{ints}
 use Rattle.std.proofs.lemmas.List.{length-map}

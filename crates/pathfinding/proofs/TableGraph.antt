@@ -1,11 +1,11 @@
 -- The graph of numbered nodes, and that of the table which searches read: they have the same cheapest paths and paths with fewest edges.
-use Rattle.std.proofs.Common.{◌≡◌, ℕ, zero, suc, ℤ, pos, ◌<◌, Bool, List, [], ◌∷◌, map, length, Option, Some, None, refl, sym, ap, ◌∙◌, subst, arith, nat_eq}
+use Rattle.std.proofs.Common.{◌≡◌, ℕ, suc, ℤ, pos, ◌<◌, Bool, List, [], ◌∷◌, map, Option, Some, None, refl, sym, ap, subst, arith, nat_eq}
 use Rattle.std.specs.Prelude.{All, MatchOption}
 use Rattle.std.specs.Int.{FitsUnsignedBits}
 use Rattle.std.proofs.lemmas.List.{map-id}
 use Rattle.pf_base.specs.Walks.{HasNoGoalWalk}
 use Rattle.pf_base.specs.Edges.{IsSuccessor, IsCheapestGoalPath, IsPastRange}
-use Rattle.pf_base.specs.Successors.{HasSuccessor, IsFewestEdgesGoalPath}
+use Rattle.pf_base.specs.Successors.{IsFewestEdgesGoalPath}
 use Rattle.pf_tables.specs.Graphs.{filled, edges_at, graph_of}
 use Rattle.pf_tables.proofs.ExploreLemmas.{edges_within}
 use Rattle.pathfinding.specs.Internal.Numbers.{edges_of}

@@ -1,8 +1,8 @@
 -- Graphs over numbers that are explored.
 use Rattle.std.proofs.Common.{◌≡◌, ◌<◌, ◌≤◌, ℕ, zero, suc, ℤ, pos, List, [], ◌∷◌, length, Bool, true, false, if◌then◌else◌, Option, Some, None, nat_eq, refl, sym, ◌∙◌, ap, subst, take, map, inl, inr, arith, true≢false}
-use Rattle.std.specs.Prelude.{◌↔◌, ◌≤ℤ◌, ◌⊎◌, nat_lt, slice_get}
+use Rattle.std.specs.Prelude.{◌↔◌, ◌≤ℤ◌, slice_get}
 use Rattle.std.specs.List.{IsDistinct, AllByRecursion}
-use Rattle.std.proofs.lemmas.Bool.{lt-ltb, le-ltb, ltb-true, ltb-false}
+use Rattle.std.proofs.lemmas.Bool.{lt-ltb, le-ltb}
 use Rattle.std.proofs.lemmas.Cmp.{nat_eq_equiv}
 use Rattle.std.proofs.lemmas.Int.{ints}
 use Rattle.pf_base.specs.Answers.{ListsEdges}
@@ -14,7 +14,7 @@ use Rattle.pf_core.specs.Hops.{unit_edges}
 use Rattle.pf_core.specs.Nodes.{StandsFor}
 use Rattle.pf_core.specs.Numbered.{StandsBelow}
 use Rattle.pf_core.proofs.UnitLemmas.{starts_stand}
-use Rattle.pf_core.proofs.ListLemmas.{bool_dec, none_in}
+use Rattle.pf_core.proofs.ListLemmas.{none_in}
 use Rattle.pf_core.proofs.NodeLemmas.{InReach-start}
 use Rattle.pf_tables.specs.Graphs.{edges_at, graph_of, successors_of}
 use Rattle.pf_tables.specs.Numbering.{IsIndex, IsExplored, priced}
@@ -37,9 +37,6 @@ distinct_take (suc n) [] d = tt
 distinct_take (suc n) (x ∷ xs) d = (all_take (λ y. nat_eq x y ≡ false) n xs d.0, distinct_take n xs d.1)
 
 -- ---- the edges at places, as searches pay for them
-
-lt_or_le : (a b : ℕ) → (a < b) ⊎ (b ≤ a)
-lt_or_le a b = elim (bool_dec (nat_lt a b)) as (λ _. (a < b) ⊎ (b ≤ a)) [ inl h ↦ inl (ltb-true a b h) | inr h ↦ inr (ltb-false a b h) ]
 
 module _ {C : Type 0} (value : C → ℤ) where
   -- by their costs

@@ -1,5 +1,5 @@
 -- Nodes in the order in which they were found, and the number of each.
-use Rattle.std.specs.Prelude.{◌≡◌, ◌⊎◌, ◌+◌, ◌<◌, ℕ, ℤ, Bool, List, [], ◌∷◌, Option, Some, None, slice_get, map, nat_eq}
+use Rattle.std.specs.Prelude.{◌≡◌, ◌+◌, ◌<◌, ℕ, ℤ, Bool, List, [], ◌∷◌, Option, Some, None, slice_get, map, nat_eq}
 use Rattle.std.specs.List.{IsDistinct}
 use Rattle.pf_base.specs.Answers.{ListsEdges}
 use Rattle.pf_base.specs.Edges.{InReach}

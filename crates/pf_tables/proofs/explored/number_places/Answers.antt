@@ -1,5 +1,4 @@
-use Rattle.std.proofs.Common.{rules, ◌≡◌, ◌≤◌, Some, ◌<◌, ◌∙◌, sym, ap, subst, inl, arith, [], ◌∷◌, ◌++◌, take_all, take, length, nat_eq, ◌+◌}
-use Rattle.std.proofs.lemmas.Cmp.{nat_eq_equiv}
+use Rattle.std.proofs.Common.{◌≡◌, Some, ◌∙◌, ap, inl, arith, [], ◌∷◌, ◌++◌, take_all, take, length, nat_eq}
 use Rattle.pf_core.proofs.NodeLemmas.{take_longer, Numbers-grow, Numbers-push, AddedFrom-push, AddsNode-stays}
 use Rattle.pf_tables.specs.Numbering.{priced}
 use Rattle.pf_tables.proofs.IndexLemmas.{priced_more, priced_same}

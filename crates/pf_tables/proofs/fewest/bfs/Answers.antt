@@ -1,6 +1,6 @@
-use Rattle.std.proofs.Common.{rules, ◌≡◌, ◌≤◌, ◌<◌, arith, [], ◌∷◌, ℕ, ℤ, pos, List, Option, Bool, ap, sym, ◌∙◌, nat_eq, true, length, refl}
+use Rattle.std.proofs.Common.{rules, arith, [], ◌∷◌, ℕ, ℤ, pos, List, Option, Bool, ap, nat_eq}
 use Rattle.std.proofs.lemmas.Cmp.{nat_eq_equiv}
-use Rattle.pf_core.specs.Nodes.{TestedGraph, StandsFor}
+use Rattle.pf_core.specs.Nodes.{TestedGraph}
 use Rattle.pf_core.specs.NodeLaws.{StandsFor-one}
 use Rattle.pf_core.specs.Hops.{unit_edges}
 use Rattle.pf_core.proofs.WalkLemmas.{no_walk, best_answer}

@@ -1,4 +1,4 @@
-use Rattle.std.proofs.Common.{ℕ, pos, ◌==◌, inr, refl, ap, Err}
+use Rattle.std.proofs.Common.{pos, ◌==◌, inr, refl, ap, Err}
 use Rattle.pathfinding.specs.Internal.Graph.{row_of, node_count}
 use Rattle.pathfinding.proofs.TableGraph.{cheapest_answer, past_answer}
 use Rattle.pathfinding.proofs.routes.search.cheapest_path.Goals as goal

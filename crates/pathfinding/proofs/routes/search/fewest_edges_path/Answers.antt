@@ -1,4 +1,4 @@
-use Rattle.std.proofs.Common.{ℕ, ◌==◌}
+use Rattle.std.proofs.Common.{◌==◌}
 use Rattle.pathfinding.specs.Internal.Graph.{row_of, node_count}
 use Rattle.pathfinding.proofs.TableGraph.{fewest_answer}
 use Rattle.pathfinding.proofs.routes.search.fewest_edges_path.Goals as goal

@@ -1,4 +1,4 @@
-use Rattle.std.proofs.Common.{rules, ◌≡◌, ◌<◌, sym, subst, Some, slice_get, ℕ, inl, inr, nat_eq, arith}
+use Rattle.std.proofs.Common.{◌≡◌, ◌<◌, sym, subst, Some, slice_get, ℕ, inl, inr, nat_eq, arith}
 use Rattle.std.proofs.lemmas.Cmp.{nat_eq_equiv}
 use Rattle.std.proofs.lemmas.Option.{slice_get_within}
 use Rattle.pf_base.specs.Edges.{InReach}

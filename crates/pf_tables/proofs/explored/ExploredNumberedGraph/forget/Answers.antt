@@ -1,4 +1,4 @@
-use Rattle.std.proofs.Common.{◌≡◌, ◌∙◌, subst, sym, Some, slice_get, ℕ, take}
+use Rattle.std.proofs.Common.{◌≡◌, ◌∙◌, subst, Some, slice_get}
 use Rattle.pf_core.proofs.ListLemmas.{take_get}
 use Rattle.pf_tables.proofs.ExploreLemmas.{distinct_take}
 use Rattle.pf_tables.proofs.explored.ExploredNumberedGraph.forget.Goals as goal

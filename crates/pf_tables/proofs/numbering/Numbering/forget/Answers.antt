@@ -1,4 +1,4 @@
-use Rattle.std.proofs.Common.{rules, ◌≡◌, ◌+◌, ◌≤◌, ◌<◌, arith, refl, sym, ◌∙◌, ap, length, length-append, take, take_all, ◌++◌, ◌∷◌, [], slice_set}
+use Rattle.std.proofs.Common.{rules, ◌≡◌, ◌+◌, ◌≤◌, arith, refl, sym, ◌∙◌, ap, length, length-append, take, take_all, ◌∷◌, []}
 use Rattle.std.proofs.lemmas.List.{take-append-le, length-set}
 use Rattle.std.proofs.lemmas.Option.{slice_get_within}
 use Rattle.pf_tables.proofs.IndexLemmas.{get_last, index_pop}

@@ -1,4 +1,4 @@
-use Rattle.std.proofs.Common.{rules, ◌≡◌, ◌<◌, ◌≤◌, ℕ, suc, Some, arith, refl, sym, ◌∙◌, ap, subst, length, length-append, ◌++◌, ◌∷◌, [], slice_set, slice_get, nat_eq, true, false, Bool, inl, inr, true≢false, eq-eqb, ◌-◌, ◌+◌}
+use Rattle.std.proofs.Common.{rules, ◌≡◌, ℕ, Some, arith, ◌∙◌, ap, length, length-append, ◌++◌, ◌∷◌, [], slice_get, nat_eq, ◌-◌, ◌+◌}
 use Rattle.std.proofs.lemmas.Cmp.{nat_eq_equiv}
 use Rattle.pf_core.proofs.ListLemmas.{at_place}
 use Rattle.pf_core.proofs.NodeLemmas.{AddsNode-new}

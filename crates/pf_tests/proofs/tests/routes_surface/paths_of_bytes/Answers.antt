@@ -10,9 +10,11 @@ dijkstra-requires-clause-graph c =
     let listed : ℕ → List (ℕ × ℕ) = λ n. ((n + 1) % 2 ^ 8, 5) ∷ [] in (
       (λ n. ((n + 1) % 2 ^ 8, pos 5) ∷ []),
       (λ n. n == 3),
-      nat_graph listed (λ x w. search rules) (λ x r t w k. let is : r ≡ listed x.now = search rules in (search rules, gives_chain (λ it b. (tt, tt, YieldsList-from_array (listed x.now) (b.0 ∙ is))))),
-      nat_test (λ n. n == 3) (λ x w. search rules) (λ x r t w k. (search rules, search rules)),
-      unsigned_cost nat_eq listed (1 ∷ []),
+      record {
+        edges_answered = nat_graph listed (λ x w. search rules) (λ x r t w k. let is : r ≡ listed x.now = search rules in (search rules, gives_chain (λ it b. (tt, tt, YieldsList-from_array (listed x.now) (b.0 ∙ is)))));
+        test_answered = nat_test (λ n. n == 3) (λ x w. search rules) (λ x r t w k. (search rules, search rules));
+        costs = unsigned_cost nat_eq listed (1 ∷ []);
+      },
     )
 
 pub bfs-requires-clause-graph : goal.bfs-requires-clause-graph
@@ -20,6 +22,8 @@ bfs-requires-clause-graph c =
     let listed : ℕ → List ℕ = λ n. (n + 1) % 2 ^ 8 ∷ [] in (
       listed,
       (λ n. n == 3),
-      nat_successors listed (λ x w. search rules) (λ x r t w k. let is : r ≡ listed x.now = search rules in (search rules, gives_chain (λ it b. (tt, tt, YieldsList-from_array (listed x.now) (b.0 ∙ is))))),
-      nat_test (λ n. n == 3) (λ x w. search rules) (λ x r t w k. (search rules, search rules)),
+      record {
+        successors_answered = nat_successors listed (λ x w. search rules) (λ x r t w k. let is : r ≡ listed x.now = search rules in (search rules, gives_chain (λ it b. (tt, tt, YieldsList-from_array (listed x.now) (b.0 ∙ is)))));
+        test_answered = nat_test (λ n. n == 3) (λ x w. search rules) (λ x r t w k. (search rules, search rules));
+      },
     )

@@ -1,4 +1,4 @@
-use Rattle.std.proofs.Common.{◌≡◌, ◌+◌, ◌<◌, get_or, length, refl, arith}
+use Rattle.std.proofs.Common.{◌≡◌, ◌+◌, get_or, length, refl, arith}
 use Rattle.std.proofs.lemmas.Option.{slice_get_read}
 use Rattle.pathfinding.proofs.Counting.{read_is}
 use Rattle.pathfinding.proofs.GraphRows.{row_within, row_edge}

@@ -1,4 +1,4 @@
-use Rattle.std.proofs.Common.{◌≡◌, ◌+◌, get_or, sym, ◌∙◌, arith}
+use Rattle.std.proofs.Common.{◌≡◌, ◌+◌, get_or, sym, arith}
 use Rattle.pathfinding.proofs.Counting.{read_is}
 use Rattle.pathfinding.proofs.GraphRows.{row_length}
 use Rattle.pathfinding.proofs.routes.graph.GraphGraphU64.places.Goals as goal
