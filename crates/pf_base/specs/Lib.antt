@@ -3,6 +3,9 @@ pub mod Walks
 pub mod Edges
 pub mod Answers
 pub mod Successors
+pub mod Mirrors
+pub mod Orders
 pub mod NodeRefs
 pub mod Tallies
 pub mod Moves
+pub mod Loops

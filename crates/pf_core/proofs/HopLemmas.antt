@@ -8,6 +8,7 @@ use Rattle.std.proofs.lemmas.List.Folds.{sum_by-replicate}
 use Rattle.pf_core.specs.declared.labels.Label.{Label}
 use Rattle.pf_core.specs.Labels.{Labels, HasLabel, by_depth, is_settled, settled_count, AllSettled, IsTree, Settles, Widened, Relaxed, ComesFrom, Covers}
 use Rattle.pf_core.specs.Steps.{IsHop, IsNonNegative}
+use Rattle.pf_core.specs.Breadth.{Hops, IsBreadth, below}
 use Rattle.pf_core.specs.Numbered.{ListsSteps, Grows, StandsBelow}
 use Rattle.pf_core.proofs.PathLemmas.{was_label, IsTree-turn, IsTree-settle}
 use Rattle.pf_core.specs.Search.{IsLeast, IsSearch, StandsRoot}
@@ -15,24 +16,11 @@ use Rattle.pf_core.proofs.SearchLemmas.{search_start, turn}
 use Rattle.pf_core.proofs.ListLemmas.{nat_dec, get-append, none_in, Contains-head, Contains-tail, Contains-cases}
 use Rattle.pf_core.proofs.LabelLemmas.{HasLabel-inside, Settles-set, Widened-more}
 
-abbrev pub Hops : Type 0
-Hops = Unit {0}
-
 -- the label of a node that was reached from the number `parent`
 abbrev pub reached_from : ℕ → ℕ → Label Hops
 reached_from parent depth = record { cost = tt; parent = parent; depth = depth; settled = false }
 
--- The first numbers are settled and the others open, and depths rise by at most one from the number n on.
-pub record IsBreadth (n : ℕ) (labels : Labels Hops) : Type 0 where
-  pub inside : n ≤ length labels
-  pub full : (k : ℕ) → k < length labels → (l : Label Hops) × HasLabel labels k l
-  pub done : (k : ℕ) (l : Label Hops) → HasLabel labels k l → k < n → l.settled ≡ true
-  pub opened : (k : ℕ) (l : Label Hops) → HasLabel labels k l → n ≤ k → l.settled ≡ false
-  pub rising : (j k : ℕ) (l m : Label Hops) → HasLabel labels j l → HasLabel labels k m → j ≤ k → l.depth ≤ m.depth
-  pub near : (k : ℕ) (l m : Label Hops) → HasLabel labels n l → HasLabel labels k m → m.depth ≤ l.depth + 1
-  pub flat : (k : ℕ) (l : Label Hops) → HasLabel labels k l → l.depth ≤ n
-
-le_or_less : (i j : ℕ) → (i ≤ j) ⊎ (j < i)
+pub le_or_less : (i j : ℕ) → (i ≤ j) ⊎ (j < i)
 le_or_less zero j = inl (omega arith)
 le_or_less (suc i) zero = inr (omega arith)
 le_or_less (suc i) (suc j) = elim (le_or_less i j) as (λ _. (suc i ≤ suc j) ⊎ (suc j < suc i)) [ inl h ↦ inl (omega (arith, h)) | inr h ↦ inr (omega (arith, h)) ]
@@ -87,10 +75,10 @@ module _ {A : Type 0} where
 -- ---- the beginning: the first numbers, all of depth 0
 
 module _ (found : ℕ) (labels : Labels Hops) (e : labels ≡ replicate found (Some (reached_from 0 0))) (len : length labels ≡ found) where
-  at_start : (k : ℕ) (l : Label Hops) → HasLabel labels k l → l ≡ reached_from 0 0
+  pub at_start : (k : ℕ) (l : Label Hops) → HasLabel labels k l → l ≡ reached_from 0 0
   at_start k l h = let q : Some l ≡ Some (reached_from 0 0) = get-replicate found k (Some (reached_from 0 0)) (Some l) (subst (λ (xs : Labels Hops). HasLabel xs k l) e h) in cc
 
-  start_at : (k : ℕ) → k < found → HasLabel labels k (reached_from 0 0)
+  pub start_at : (k : ℕ) → k < found → HasLabel labels k (reached_from 0 0)
   start_at k h = subst (λ (xs : Labels Hops). HasLabel xs k (reached_from 0 0)) (sym e) (replicate-get found k (Some (reached_from 0 0)) h)
 
   pub breadth_start : IsBreadth 0 labels
@@ -165,7 +153,7 @@ module _ (n : ℕ) (l : Label Hops) (labels labels1 labels3 : Labels Hops) (b : 
     | inr q ↦ inr (omega (arith, q.0, len1), let f : Some m ≡ Some new = q.1 in cc)
   ]
 
-  old_at : (k : ℕ) (m : Label Hops) → HasLabel labels1 k m → (o : Label Hops) × HasLabel labels k o × (m.depth ≡ o.depth)
+  pub old_at : (k : ℕ) (m : Label Hops) → HasLabel labels1 k m → (o : Label Hops) × HasLabel labels k o × (m.depth ≡ o.depth)
   old_at k m h = elim (was_label by_depth n l labels labels1 hop_settles k m h) as (λ _. (o : Label Hops) × HasLabel labels k o × (m.depth ≡ o.depth)) [
     | inl q ↦ (l, subst (λ (i : ℕ). HasLabel labels i l) (sym q.0) at, ap (λ (x : Label Hops). x.depth) q.1)
     | inr q ↦ (m, q.1, refl)
@@ -284,10 +272,6 @@ module _ (n : ℕ) (l : Label Hops) (labels labels1 labels3 : Labels Hops) (b : 
       (m.0, m.1, inr (omega (arith, ints, d)))
 
 -- ---- the search
-
--- the numbers below are the roots
-abbrev pub below : ℕ → ℕ → Bool
-below found k = nat_lt k found
 
 pub roots_below : {X : Type 0} (a b : ℕ) (p q : ℕ → X → Type 0) → Grows a b p q → (x : X) → StandsRoot (below a) q x ↔ StandsBelow a p x
 roots_below a b p q g x = (

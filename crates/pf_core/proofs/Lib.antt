@@ -8,6 +8,15 @@ pub mod PathLemmas
 pub mod SearchLemmas
 pub mod TurnLemmas
 pub mod NodeLemmas
+pub mod OrderLemmas
 pub mod WalkLemmas
 pub mod HopLemmas
 pub mod UnitLemmas
+pub mod LoopLemmas
+pub mod LoopWalks
+pub mod MirrorLemmas
+pub mod WaveLemmas
+pub mod MeetingLemmas
+pub mod SideLemmas
+pub mod JoinLemmas
+pub mod DepthFirstLemmas

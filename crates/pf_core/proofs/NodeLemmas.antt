@@ -38,6 +38,7 @@ module _ {N : Type 0} (eq : N → N → Bool) where
 
   pub AddsNode-new : (keys keys' : List N) (x : N) → keys' ≡ keys ++ x ∷ [] → ((k : ℕ) (m : N) → slice_get keys k ≡ Some m → eq m x ≡ false) → AddsNode eq x keys keys'
   AddsNode-new keys keys' x e new = subst (AddsNode eq x keys) (sym e) (record {
+    grown = inr refl;
     longer = omega (arith, length-append keys (x ∷ []));
     kept = take-append-le (length keys) keys (x ∷ []) (omega arith) ∙ take_same keys;
     from = λ k m h. elim (get-append_cases keys x k m h) as (λ _. slice_get keys k ≡ Some m ⊎ (m ≡ x)) [ inl i ↦ inl i | inr i ↦ inr (sym i) ];
@@ -49,7 +50,7 @@ module _ {N : Type 0} (eq : N → N → Bool) where
       take_same (y ∷ ys) = ap (λ zs. y ∷ zs) (take_same ys)
 
   pub AddsNode-old : (keys : List N) (x : N) → AddsNode eq x keys keys
-  AddsNode-old keys x = record { longer = omega arith; kept = take_same keys; from = λ k m h. inl h; distinct = λ d. d }
+  AddsNode-old keys x = record { grown = inl refl; longer = omega arith; kept = take_same keys; from = λ k m h. inl h; distinct = λ d. d }
     where
       take_same : (xs : List N) → take (length xs) xs ≡ xs
       take_same [] = refl
@@ -171,7 +172,7 @@ module _ {N : Type 0} (eq : N → N → Bool) (laws : IsEquivalence eq) where
   Lists-sym (x ∷ xs) [] s = absurd s
   Lists-sym (x ∷ xs) (y ∷ ys) s = ((eq-sym eq laws x.0 y.0 s.0.0, sym s.0.1), Lists-sym xs ys s.1)
 
-  follows_more : (step : N → N → Type 0) (w : List N) (a b : N) → Follows step a w → step (end_of a w) b → Follows step a (w ++ b ∷ [])
+  pub follows_more : (step : N → N → Type 0) (w : List N) (a b : N) → Follows step a w → step (end_of a w) b → Follows step a (w ++ b ∷ [])
   follows_more step [] a b h k = (k, tt)
   follows_more step (c ∷ w) a b h k = (h.0, follows_more step w c b h.1 k)
 

@@ -34,7 +34,7 @@ pub path_grows : {X : Type 0} (step : X → ℤ → X → Type 0) (s : X) (a b :
 path_grows step s a b p q g numbers nodes t h = record { numbered = AllZip-map p q g.stays numbers (s ∷ nodes) h.numbered; goes = h.goes; distinct = h.distinct }
 
 module _ {X C : Type 0} (measure : C → ℕ → ℤ) (step : X → ℤ → X → Type 0) (root : ℕ → Bool) where
-  found_at : (stands : ℕ → X → Type 0) (labels : Labels C) (k : ℕ) (l : Label C) → HasLabel labels k l → IsFound step stands (SettledAt measure labels) (WaitingAt measure labels) k (cost_of measure l)
+  pub found_at : (stands : ℕ → X → Type 0) (labels : Labels C) (k : ℕ) (l : Label C) → HasLabel labels k l → IsFound step stands (SettledAt measure labels) (WaitingAt measure labels) k (cost_of measure l)
   found_at stands labels k l h = elim (bool_dec l.settled) as (λ _. SettledAt measure labels k (cost_of measure l) ⊎ WaitingAt measure labels k (cost_of measure l)) [ inl e ↦ inl (l, h, e, refl) | inr e ↦ inr (l, h, e, refl) ]
 
   -- an open label at which a path begins

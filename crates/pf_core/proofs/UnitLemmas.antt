@@ -19,12 +19,12 @@ use Rattle.pf_core.proofs.ListLemmas.{none_in}
 use Rattle.pf_core.proofs.NodeLemmas.{Explores-start, Answers-weaker, Gives-weaker}
 
 module _ {N : Type 0} (eq : N → N → Bool) where
-  edge_of_next : (xs : List N) (b : N) → HasNode eq xs b → HasEdge eq (map (λ y. (y, pos 1)) xs) b (pos 1)
+  pub edge_of_next : (xs : List N) (b : N) → HasNode eq xs b → HasEdge eq (map (λ y. (y, pos 1)) xs) b (pos 1)
   edge_of_next [] b h = h
   edge_of_next (x ∷ xs) b (inl h) = inl (h, refl)
   edge_of_next (x ∷ xs) b (inr h) = inr (edge_of_next xs b h)
 
-  next_of_edge : (xs : List N) (b : N) (z : ℤ) → HasEdge eq (map (λ y. (y, pos 1)) xs) b z → HasNode eq xs b × (z ≡ pos 1)
+  pub next_of_edge : (xs : List N) (b : N) (z : ℤ) → HasEdge eq (map (λ y. (y, pos 1)) xs) b z → HasNode eq xs b × (z ≡ pos 1)
   next_of_edge [] b z h = absurd h
   next_of_edge (x ∷ xs) b z (inl h) = (inl h.0, sym h.1)
   next_of_edge (x ∷ xs) b z (inr h) = let q = next_of_edge xs b z h in (inr q.0, q.1)
@@ -42,6 +42,12 @@ module _ {N : Type 0} (eq : N → N → Bool) where
   lists_ones (x ∷ xs) [] s = absurd s
   lists_ones (x ∷ xs) (y ∷ ys) s = ((s.0, refl), lists_ones xs ys s.1)
 
+  pub ones_lists : (xs ys : List N) → ListsEdges eq pos (map (λ y. (y, 1)) xs) (map (λ y. (y, pos 1)) ys) → SameNodes eq xs ys
+  ones_lists [] [] l = tt
+  ones_lists [] (y ∷ ys) l = absurd l
+  ones_lists (x ∷ xs) [] l = absurd l
+  ones_lists (x ∷ xs) (y ∷ ys) l = (l.0.0, ones_lists xs ys l.1)
+
   pub is_hop : (starts : List N) (next : N → List N) → IsHop (IsStep eq (record { starts = starts; edges = unit_edges next }))
   is_hop starts next = record { one = λ a z b s. (next_of_edge (next a) b z s.1).1 }
 
@@ -52,11 +58,11 @@ module _ {N : Type 0} (eq : N → N → Bool) where
       cheapest = λ y k. subst (λ (u : ℤ). pos 1 ≤ℤ u) (sym (next_of_edge (next a) b y k).1) (omega (arith, ints));
     }
 
-    follows_edges : (w : List N) (a : N) → Follows (HasSuccessor eq next) a w → Follows (IsSuccessor eq (unit_edges next)) a w
+    pub follows_edges : (w : List N) (a : N) → Follows (HasSuccessor eq next) a w → Follows (IsSuccessor eq (unit_edges next)) a w
     follows_edges [] a f = tt
     follows_edges (b ∷ w) a f = ((pos 1, edge_of_next (next a) b f.0), follows_edges w b f.1)
 
-    follows_next : (w : List N) (a : N) → Follows (IsSuccessor eq (unit_edges next)) a w → Follows (HasSuccessor eq next) a w
+    pub follows_next : (w : List N) (a : N) → Follows (IsSuccessor eq (unit_edges next)) a w → Follows (HasSuccessor eq next) a w
     follows_next [] a f = tt
     follows_next (b ∷ w) a f = ((next_of_edge (next a) b f.0.0 f.0.1).0, follows_next w b f.1)
 
@@ -84,6 +90,9 @@ module _ {N : Type 0} (eq : N → N → Bool) where
 
       pub reach_next : (x : N) → InReach eq (unit_edges next) starts x → IsReachable eq (HasSuccessor eq next) starts x
       reach_next x r = record { walk = r.walk; goes = walk_next (λ y. eq y x) r.walk r.goes }
+
+      pub reach_edges : (x : N) → IsReachable eq (HasSuccessor eq next) starts x → InReach eq (unit_edges next) starts x
+      reach_edges x r = record { walk = r.walk; goes = walk_edges (λ y. eq y x) r.walk r.goes }
 
       pub no_next_walk : (test : N → Bool) → HasNoGoalWalk eq (IsSuccessor eq (unit_edges next)) starts test → HasNoGoalWalk eq (HasSuccessor eq next) starts test
       no_next_walk test none w h = none w (walk_edges test w h)

@@ -17,7 +17,7 @@ module _ {N : Type 0} (eq : N → N → Bool) (laws : IsEquivalence eq) where
   SameNodes = AllZip (λ x y. eq x y ≡ true)
 
   -- nodes that the same numbers stand for
-  same_of : (keys : List N) (ks : List ℕ) (xs ys : List N) → AllZip (StandsFor eq keys) ks xs → AllZip (StandsFor eq keys) ks ys → SameNodes xs ys
+  pub same_of : (keys : List N) (ks : List ℕ) (xs ys : List N) → AllZip (StandsFor eq keys) ks xs → AllZip (StandsFor eq keys) ks ys → SameNodes xs ys
   same_of keys [] [] [] a b = tt
   same_of keys [] [] (y ∷ ys) a b = absurd b
   same_of keys [] (x ∷ xs) ys a b = absurd a
@@ -30,13 +30,13 @@ module _ {N : Type 0} (eq : N → N → Bool) (laws : IsEquivalence eq) where
       let same : m.0 ≡ n.0 = cc in
       (eq-trans eq laws x m.0 y (eq-sym eq laws m.0 x m.2) (subst (λ (z : N). eq z y ≡ true) (sym same) n.2), same_of keys ks xs ys a.1 b.1)
 
-  end_same : (w v : List N) (a b : N) → eq a b ≡ true → SameNodes w v → eq (end_of a w) (end_of b v) ≡ true
+  pub end_same : (w v : List N) (a b : N) → eq a b ≡ true → SameNodes w v → eq (end_of a w) (end_of b v) ≡ true
   end_same [] [] a b e s = e
   end_same [] (y ∷ v) a b e s = absurd s
   end_same (x ∷ w) [] a b e s = absurd s
   end_same (x ∷ w) (y ∷ v) a b e s = end_same w v x y s.0 s.1
 
-  HasNode-same : (xs : List N) (a b : N) → eq a b ≡ true → HasNode eq xs a → HasNode eq xs b
+  pub HasNode-same : (xs : List N) (a b : N) → eq a b ≡ true → HasNode eq xs a → HasNode eq xs b
   HasNode-same [] a b e h = h
   HasNode-same (x ∷ xs) a b e (inl h) = inl (eq-trans eq laws x a b h e)
   HasNode-same (x ∷ xs) a b e (inr h) = inr (HasNode-same xs a b e h)
@@ -50,7 +50,7 @@ module _ {N : Type 0} (eq : N → N → Bool) (laws : IsEquivalence eq) where
     number_of_node (j ∷ ks) (y ∷ ys) k x a (inl e) s = inl (eq-eqb j k (one j k x (StandsFor-same eq laws keys j y x a.0 e) s))
     number_of_node (j ∷ ks) (y ∷ ys) k x a (inr h) s = inr (number_of_node ks ys k x a.1 h s)
 
-    distinct_nodes : (ks : List ℕ) (ys : List N) → AllZip (StandsFor eq keys) ks ys → NoRepeats nat_eq ks → NoRepeats eq ys
+    pub distinct_nodes : (ks : List ℕ) (ys : List N) → AllZip (StandsFor eq keys) ks ys → NoRepeats nat_eq ks → NoRepeats eq ys
     distinct_nodes [] [] a n = tt
     distinct_nodes [] (y ∷ ys) a n = absurd a
     distinct_nodes (k ∷ ks) [] a n = absurd a
@@ -88,12 +88,12 @@ module _ {N : Type 0} (eq : N → N → Bool) (laws : IsEquivalence eq) where
     goes_of_costs [] a u r h = h
     goes_of_costs (b ∷ w) a u r h = let s = h.2 in (h.0, h.1, (r, s.edge), goes_of_costs w b h.1 (InReach-more eq laws g.edges g.starts alike a b h.0 r s.edge) h.3, h.4)
 
-    goes_of_walk : (w : List N) (a : N) → InReach eq g.edges g.starts a → Follows (IsSuccessor eq g.edges) a w → (u : ℤ) × GoesAlong (IsStep eq g) a w u
+    pub goes_of_walk : (w : List N) (a : N) → InReach eq g.edges g.starts a → Follows (IsSuccessor eq g.edges) a w → (u : ℤ) × GoesAlong (IsStep eq g) a w u
     goes_of_walk [] a r f = (pos 0, refl)
     goes_of_walk (b ∷ w) a r f = let q = goes_of_walk w b (InReach-more eq laws g.edges g.starts alike a b f.0.0 r f.0.1) f.1 in (f.0.0 +ℤ q.0, (f.0.0, q.0, (r, f.0.1), q.1, refl))
 
     -- and steps go along a walk, whose cost is no more
-    walk_of_goes : (w : List N) (a : N) (u : ℤ) → GoesAlong (IsStep eq g) a w u → Follows (IsSuccessor eq g.edges) a w
+    pub walk_of_goes : (w : List N) (a : N) (u : ℤ) → GoesAlong (IsStep eq g) a w u → Follows (IsSuccessor eq g.edges) a w
     walk_of_goes [] a u h = tt
     walk_of_goes (b ∷ w) a u h = ((h.0, h.2.1), walk_of_goes w b h.1 h.3)
 
@@ -107,7 +107,7 @@ module _ {N : Type 0} (eq : N → N → Bool) (laws : IsEquivalence eq) where
         (c.0 +ℤ q.0, (c.0, q.0, s, q.1, refl), omega (arith, ints, low, q.2, h.4), (c.0, q.0, (h.2.0, s.edge), q.3, refl))
 
     -- the same steps go along equal nodes
-    goes_same : (w v : List N) (a b : N) (u : ℤ) → eq a b ≡ true → SameNodes w v → GoesAlong (IsStep eq g) a w u → GoesAlong (IsStep eq g) b v u
+    pub goes_same : (w v : List N) (a b : N) (u : ℤ) → eq a b ≡ true → SameNodes w v → GoesAlong (IsStep eq g) a w u → GoesAlong (IsStep eq g) b v u
     goes_same [] [] a b u e s h = h
     goes_same [] (y ∷ v) a b u e s h = absurd s
     goes_same (x ∷ w) [] a b u e s h = absurd s
@@ -117,11 +117,11 @@ module _ {N : Type 0} (eq : N → N → Bool) (laws : IsEquivalence eq) where
 
     -- the starts of the search are those of the graph
     module _ (starts : N → Type 0) (all : (a : N) → HasNode eq g.starts a → starts a) (only : (a : N) → starts a → HasNode eq g.starts a) where
-      reach_start : (a : N) → HasNode eq g.starts a → InReach eq g.edges g.starts a
+      pub reach_start : (a : N) → HasNode eq g.starts a → InReach eq g.edges g.starts a
       reach_start a h = InReach-start eq laws g.edges g.starts a a h (laws.refl a)
 
       -- what no walk along steps undercuts, no walk over nodes does
-      none_less : (test : N → Bool) (t : ℤ) → NoGoalBelow (IsStep eq g) test starts t → NoGoalWalkCostsLess eq g.edges g.starts test t
+      pub none_less : (test : N → Bool) (t : ℤ) → NoGoalBelow (IsStep eq g) test starts t → NoGoalWalkCostsLess eq g.edges g.starts test t
       none_less test t low [] u walk costs = absurd costs
       none_less test t low (a ∷ w) u walk costs = low a (all a walk.begins) w u (goes_of_costs w a u (reach_start a walk.begins) costs) walk.ends
 

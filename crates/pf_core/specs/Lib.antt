@@ -1,12 +1,17 @@
 pub mod Numbered
 pub mod Steps
+pub mod Loops
+pub mod Mirrors
 pub mod Frontier
 pub mod Depths
 pub mod Labels
 pub mod Slots
+pub mod Breadth
+pub mod Sides
 pub mod Queue
 pub mod Search
 pub mod Sums
 pub mod Nodes
 pub mod NodeLaws
 pub mod Hops
+pub mod DepthFirst

@@ -1,5 +1,5 @@
 -- The nodes that numbers stand for, and the functions that answer for them.
-use Rattle.std.specs.Prelude.{◌≡◌, ◌⊎◌, ◌≤◌, ℕ, ℤ, Bool, true, List, Option, Some, slice_get, Contains, map, take, length}
+use Rattle.std.specs.Prelude.{◌≡◌, ◌⊎◌, ◌≤◌, ◌++◌, ℕ, ℤ, Bool, true, List, [], ◌∷◌, Option, Some, slice_get, Contains, map, take, length}
 use Rattle.std.specs.Borrow.{Bor}
 use Rattle.std.specs.Fn.{Mut}
 use Rattle.std.specs.Iterator.{Count}
@@ -17,6 +17,10 @@ pub record TestedGraph (N : Type 0) : Type 0 where
   pub graph : NodeGraph N
   pub test : N → Bool
 
+-- the nodes that the edges of a node lead to, in order
+abbrev pub ends_of : {N : Type 0} → (N → List (N × ℤ)) → N → List N
+ends_of {N} edges x = map (λ (e : N × ℤ). e.0) (edges x)
+
 module _ {N : Type 0} (eq : N → N → Bool) where
   -- the number k stands for x: the k-th node is the same as x
   abbrev pub StandsFor : List N → ℕ → N → Type 0
@@ -28,6 +32,7 @@ module _ {N : Type 0} (eq : N → N → Bool) where
 
   -- a node is in the longer list where it was in the shorter one, or is x
   pub record AddsNode (x : N) (keys keys' : List N) : Type 0 where
+    pub grown : (keys' ≡ keys) ⊎ (keys' ≡ keys ++ x ∷ [])
     pub longer : length keys ≤ length keys'
     pub kept : take (length keys) keys' ≡ keys
     pub from : (k : ℕ) (m : N) → slice_get keys' k ≡ Some m → slice_get keys k ≡ Some m ⊎ (m ≡ x)

@@ -5,7 +5,8 @@ ghost use Rattle.std.specs.Iterator.{IsFiniteIterable, Drains};
 ghost use Rattle.std.specs.List.{IsDistinct, AllZip};
 ghost use Rattle.pf_base.specs.NodeRefs.{HasSameNodes};
 ghost use Rattle.pf_base.specs.Answers.{IsLawfulClone};
-ghost use Rattle.pf_core.specs.Nodes.{NodeGraph, IsStep, StandsFor, AddsNode, NumbersItems, AddedFrom, Explores};
+ghost use Rattle.pf_core.specs.Nodes.{NodeGraph, IsStep, ends_of, StandsFor, AddsNode, NumbersItems, AddedFrom, Explores};
+ghost use Rattle.pf_core.specs.Numbered.{NumbersInOrder};
 ghost use Rattle.pf_core.specs.NodeLaws.{Explores-one, StandsFor-inside};
 
 use crate::numbered::NumberedGraph;
@@ -74,6 +75,8 @@ where
 
     ghost step = { IsStep N.eq };
 
+    ghost successors = { λ g. ends_of g.edges };
+
     ghost passes = { λ _ _. false };
 
     ghost found = { λ s. length s.nodes.keys };
@@ -140,7 +143,8 @@ where
     requires empty { R.holds row.old [] }
     requires distinct { IsDistinct N.eq nodes.old.keys }
     ensures numbered { OnOk result ((it : IN.IntoIter) × (xs : List T) × IN.into_iter_gives items it × Drains IN.IntoIter.next_gives it xs
-        × ((steps : List (ℕ × C)) × R.holds row.new steps × NumbersItems N.eq nodes.new.keys steps (map K.edge xs)) × AddedFrom N.eq (map K.edge xs) nodes.old.keys nodes.new.keys) }
+        × ((steps : List (ℕ × C)) × R.holds row.new steps × NumbersItems N.eq nodes.new.keys steps (map K.edge xs)) × AddedFrom N.eq (map K.edge xs) nodes.old.keys nodes.new.keys
+        × NumbersInOrder (StandsFor N.eq nodes.new.keys) (length nodes.old.keys) (map (λ (x : N × C). x.0) (map K.edge xs)) (length nodes.new.keys)) }
     ensures distinct { IsDistinct N.eq nodes.new.keys }
     ensures longer { length nodes.old.keys ≤ length nodes.new.keys }
     ensures kept { take (length nodes.old.keys) nodes.new.keys ≡ nodes.old.keys }

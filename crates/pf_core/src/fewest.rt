@@ -15,7 +15,7 @@ use pf_base::{Cost, PathError};
 use std::alloc::Allocator;
 
 /// Settles the label of a number, and answers its depth.
-fn settle<A: Allocator>(labels: &mut Vec<Slot<()>, A>, number: usize) -> Depth
+pub fn settle<A: Allocator>(labels: &mut Vec<Slot<()>, A>, number: usize) -> Depth
     requires { (l : Label (Unit {0})) × HasLabel labels.old.items number l }
     ensures { (l : Label (Unit {0})) → HasLabel labels.old.items number l → (result ≡ l.depth) × (labels.new.items ≡ slice_set labels.old.items number (Some (record l { settled = true }))) }
 {

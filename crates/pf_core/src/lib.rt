@@ -5,15 +5,21 @@
 //! numbers, generic over `NumberedGraph`. No crate exports this layer.
 #![tactic(auto)]
 
+pub mod both_ends;
 pub mod cheapest;
 pub mod depth;
+pub mod depth_first;
 pub mod discovery;
 pub mod fewest;
+pub mod fewest_loop;
 pub mod labels;
 pub mod numbered;
 pub mod queue;
 pub mod row;
 pub mod search;
+pub mod sides;
 pub mod slot;
 pub mod sums;
 pub mod tested;
+pub mod two_sided;
+pub mod wave;

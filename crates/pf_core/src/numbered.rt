@@ -1,7 +1,8 @@
 //! Graphs whose nodes are numbered in the order in which they are found.
 
 ghost use Rattle.std.specs.Prelude.{◌≡◌, ◌<◌, ◌≤◌, ℕ, ℤ, List, Bool, OnOk, IfErr, Contains};
-ghost use Rattle.pf_core.specs.Numbered.{ListsSteps, Grows};
+ghost use Rattle.std.specs.List.{AllZip};
+ghost use Rattle.pf_core.specs.Numbered.{ListsSteps, Grows, NumbersInOrder};
 
 use crate::row::Row;
 use pf_base::{Cost, PathError};
@@ -16,6 +17,9 @@ pub trait NumberedGraph<C: Cost> {
 
     // A step of a graph, from a node to a node, at a cost.
     ghost step: { Graph → Node → ℤ → Node → Type 0 };
+
+    // The nodes that follow a node, in the order in which they are answered.
+    ghost successors: { Graph → Node → List Node };
 
     // Whether a node is a goal, where the graph has goals.
     ghost passes: { Graph → Node → Bool };
@@ -48,6 +52,9 @@ pub trait NumberedGraph<C: Cost> {
             × ((j : ℕ) (c : C) → Contains entries (j, c) → j < found self.new)
             × ((j : ℕ) → found self.old ≤ j → j < found self.new → (c : C) × Contains entries (j, c))
             × ((g : Graph) → explores self.old g → (x : Node) → stands self.old node x → ListsSteps C.value (step g) (stands self.new) x entries)) }
+        ensures placed { OnOk result ((entries : List (ℕ × C)) × R.holds row.new entries
+            × ((g : Graph) → explores self.old g → (x : Node) → stands self.old node x → AllZip (λ (r : ℕ × C) (y : Node). stands self.new r.0 y) entries (successors g x))) }
+        ensures ordered { OnOk result ((g : Graph) → explores self.old g → (x : Node) → stands self.old node x → NumbersInOrder (stands self.new) (found self.old) (successors g x) (found self.new)) }
         ensures refused { IfErr result (λ e. (e ≡ PathError.OutOfMemory) × (found self.new ≡ found self.old)) };
 
     /// Takes the numbers from `first` on out again.

@@ -1,6 +1,6 @@
 //! Where the steps from a node are written.
 
-ghost use Rattle.std.specs.Prelude.{◌≡◌, ◌++◌, [], ◌∷◌, ⊤, ℕ, List, OnOk, IfErr};
+ghost use Rattle.std.specs.Prelude.{◌≡◌, ◌++◌, [], ◌∷◌, ⊤, ℕ, List, OnOk, IfErr, map};
 
 use pf_base::{Cost, PathError};
 use std::alloc::Allocator;
@@ -29,6 +29,20 @@ impl<C: Cost, A: Allocator> Row<C> for Vec<(usize, C), A> {
 
     fn add(&mut self, number: usize, cost: C) -> Result<(), PathError> {
         self.push((number, cost))?;
+        Ok(())
+    }
+}
+
+/// Keeps the ends of the steps alone.
+impl<C: Drop, A: Allocator> Row<C> for Vec<usize, A> {
+    ghost holds = { λ row steps. row.items ≡ map (λ (s : ℕ × C). s.0) steps };
+
+    fn reset(&mut self) {
+        self.clear();
+    }
+
+    fn add(&mut self, number: usize, _cost: C) -> Result<(), PathError> {
+        self.push(number)?;
         Ok(())
     }
 }

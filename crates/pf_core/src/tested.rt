@@ -4,7 +4,7 @@ ghost use Rattle.std.specs.Prelude.{◌≡◌, ◌<◌, ◌≤◌, ℕ, Contains
 ghost use Rattle.std.specs.List.{AllZip};
 ghost use Rattle.pf_base.specs.Answers.{IsLawfulClone, AnswersTest};
 ghost use Rattle.pf_base.specs.Edges.{InReach};
-ghost use Rattle.pf_core.specs.Nodes.{TestedGraph, IsStep, StandsFor, Explores};
+ghost use Rattle.pf_core.specs.Nodes.{TestedGraph, IsStep, ends_of, StandsFor, Explores};
 ghost use Rattle.pf_core.specs.NodeLaws.{Explores-one, StandsFor-inside};
 
 use crate::discovery::{Discovery, EdgeForm, clones_at};
@@ -36,6 +36,8 @@ where
     ghost Graph = { TestedGraph N };
 
     ghost step = { λ g. IsStep N.eq g.graph };
+
+    ghost successors = { λ g. ends_of g.graph.edges };
 
     ghost passes = { λ g x. g.test x };
 

@@ -1,6 +1,7 @@
-use Rattle.std.proofs.Common.{rules, ◌≡◌, ◌∙◌, inl, arith, [], ◌∷◌, ◌++◌, map, take_all}
+use Rattle.std.proofs.Common.{rules, refl, length, ◌≡◌, ◌∙◌, inl, arith, [], ◌∷◌, ◌++◌, map, take_all}
 use Rattle.std.proofs.lemmas.List.{map-append}
 use Rattle.pf_core.proofs.NodeLemmas.{take_longer, Numbers-grow, Numbers-push, AddedFrom-push, AddsNode-stays}
+use Rattle.pf_core.proofs.OrderLemmas.{InOrder-push}
 use Rattle.pf_core.proofs.discovery.number_all.Goals as goal
 
 pub items-init : goal.items-init
@@ -10,6 +11,7 @@ items-init g c = record {
   kept = take_all c.len-len.result c.args.nodes.now.keys (omega (arith, c.len-len.ensures.len));
   numbered = ([], c.requires.empty, tt);
   added = λ k m h. inl h;
+  ordered = refl;
   distinct = c.requires.distinct;
 }
 
@@ -35,5 +37,6 @@ items-preserved g c =
         rw more (Numbers-push eq keys' i.numbered.0 (map edge c.items.yielded) n.0 said.1 said.0 grown n.1),
       );
       added = rw more (AddedFrom-push eq c.args.nodes.now.keys keys keys' (map edge c.items.yielded) said.1 said.0 a i.added);
+      ordered = rw more (rw (map-append (λ (x : g.row.N.Denot × g.row.C.Denot). x.0) (map edge c.items.yielded) (said ∷ [])) (InOrder-push eq g.met.N.Eq.laws keys keys' (length c.args.nodes.now.keys) (map (λ (x : g.row.N.Denot × g.row.C.Denot). x.0) (map edge c.items.yielded)) said.0 n.0 a n.1 i.ordered));
       distinct = a.distinct i.distinct;
     }

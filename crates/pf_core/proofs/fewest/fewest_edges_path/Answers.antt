@@ -3,7 +3,8 @@ use Rattle.std.specs.Prelude.{Contains}
 use Rattle.std.proofs.lemmas.List.{length-replicate}
 use Rattle.pf_core.specs.Labels.{by_depth}
 use Rattle.pf_core.proofs.SearchLemmas.{Grows-trans, no_goal, best, best_grows, failed_turned}
-use Rattle.pf_core.proofs.HopLemmas.{breadth_start, breadth_done, breadth_turn, hop_tree_start, hop_search_start, none_settled, hop_least, hop_tree, hop_turned, hop_from, hop_positive, hop_len, below, roots_below, reached_from, started, resized}
+use Rattle.pf_core.specs.Breadth.{below}
+use Rattle.pf_core.proofs.HopLemmas.{breadth_start, breadth_done, breadth_turn, hop_tree_start, hop_search_start, none_settled, hop_least, hop_tree, hop_turned, hop_from, hop_positive, hop_len, roots_below, reached_from, started, resized}
 use Rattle.pf_core.proofs.fewest.fewest_edges_path.Goals as goal
 
 pub nodes-init : goal.nodes-init

@@ -4,7 +4,7 @@ use Rattle.pf_core.specs.Steps.{IsHop}
 use Rattle.pf_core.specs.Labels.{HasLabel, by_depth, IsTree}
 use Rattle.pf_core.specs.Numbered.{Grows}
 use Rattle.pf_core.specs.Search.{IsSearch}
-use Rattle.pf_core.proofs.HopLemmas.{IsBreadth, Hops, below}
+use Rattle.pf_core.specs.Breadth.{IsBreadth, Hops, below}
 use Rattle.pf_core.proofs.fewest.fewest_edges_path.Given as goal
 
 abbrev pub invariant-nodes : goal.invariant-nodes

@@ -1,9 +1,10 @@
-use Rattle.std.proofs.Common.{rules, ◌≡◌, sym, subst, Some, Bor, slice_get, ℕ, inl, inr, map}
+use Rattle.std.proofs.Common.{rules, length, ◌≡◌, sym, subst, Some, Bor, slice_get, ℕ, inl, inr, map}
 use Rattle.pf_base.specs.Edges.{InReach}
 use Rattle.pf_core.specs.NodeLaws.{StandsFor-one}
 use Rattle.pf_core.proofs.ListLemmas.{at_place, on_ok, ok_or_err}
 use Rattle.pf_base.proofs.Asking.{Answers-takes, Answers-gives, Answers-on, Gives-ends, Gives-drains}
 use Rattle.pf_core.proofs.NodeLemmas.{fresh_number, Grows-from_take, inside_of, Lists-from, reached_added}
+use Rattle.pf_core.proofs.OrderLemmas.{Placed-same, InOrder-same, ends_at}
 use Rattle.pf_core.proofs.discovery.DiscoveryNumberedGraph.expand.Goals as goal
 
 pub successors-items-requires : goal.successors-items-requires
@@ -64,3 +65,34 @@ returns-clause-listed g c = on_ok c.number_all.result c.number_all.ensures.numbe
           let gives = Answers-gives _ _ _ x.answers _ reach c.successors-items.result c.successors-items.new.self c.successors-items.ensures in
           Lists-from eq laws g.C.Number.value h x.alike keys keys' c.args.node here steps.0 items at reach steps.2 (Gives-drains _ _ _ _ _ _ gives n.0 n.1 n.2 n.3) (λ i j z. StandsFor-one eq laws keys' c.number_all.ensures.distinct i j z) y s,
     ))
+
+pub returns-clause-placed : goal.returns-clause-placed
+returns-clause-placed g c = on_ok c.number_all.result c.number_all.ensures.numbered (λ n.
+    let eq = g.N.PartialEq.eq in
+    let laws = g.met.N.Eq.laws in
+    let items = map g.K.EdgeForm.edge n.1 in
+    let keys = c.args.self.now.nodes.keys in
+    let keys' = c.number_all.new.nodes.keys in
+    let here = c.index-as_slice-node.result in
+    let at : slice_get keys c.args.node ≡ Some here = at_place _ _ _ _ c.requires.inside (sym (rw c.as_slice.ensures.keys at c.index-as_slice-node.is)) in
+    let steps = n.4 in (
+      steps.0,
+      steps.1,
+      λ h x y s.
+          let reach = x.reached c.args.node here at in
+          let gives = Answers-gives _ _ _ x.answers _ reach c.successors-items.result c.successors-items.new.self c.successors-items.ensures in
+          Placed-same eq laws keys' steps.0 items _ steps.2 (ends_at eq laws g.C.Number.value h x.alike keys c.args.node here items at reach (Gives-drains _ _ _ _ _ _ gives n.0 n.1 n.2 n.3) y s),
+    ))
+
+pub returns-clause-ordered : goal.returns-clause-ordered
+returns-clause-ordered g c = on_ok c.number_all.result c.number_all.ensures.numbered (λ n. λ h x y s.
+    let eq = g.N.PartialEq.eq in
+    let laws = g.met.N.Eq.laws in
+    let items = map g.K.EdgeForm.edge n.1 in
+    let keys = c.args.self.now.nodes.keys in
+    let keys' = c.number_all.new.nodes.keys in
+    let here = c.index-as_slice-node.result in
+    let at : slice_get keys c.args.node ≡ Some here = at_place _ _ _ _ c.requires.inside (sym (rw c.as_slice.ensures.keys at c.index-as_slice-node.is)) in
+    let reach = x.reached c.args.node here at in
+    let gives = Answers-gives _ _ _ x.answers _ reach c.successors-items.result c.successors-items.new.self c.successors-items.ensures in
+    InOrder-same eq laws keys' (length keys) (length keys') _ _ (ends_at eq laws g.C.Number.value h x.alike keys c.args.node here items at reach (Gives-drains _ _ _ _ _ _ gives n.0 n.1 n.2 n.3) y s) n.6)
