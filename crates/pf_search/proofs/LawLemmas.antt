@@ -1,5 +1,5 @@
--- A walk along edges is a walk along the nodes that they lead to.
-use Rattle.std.proofs.Common.{◌≤◌, Bool, List, [], ◌∷◌, length, inl, inr, ℤ}
+-- A walk along edges is a walk along the nodes that they lead to, and paths with fewest edges have one length.
+use Rattle.std.proofs.Common.{◌≡◌, ◌≤◌, arith, Bool, List, [], ◌∷◌, length, inl, inr, ℤ}
 use Rattle.pf_base.specs.Walks.{HasNode, Follows}
 use Rattle.pf_base.specs.Edges.{HasEdge, IsSuccessor, IsCheapestGoalPath}
 use Rattle.pf_base.specs.Successors.{HasSuccessor, IsFewestEdgesGoalPath}
@@ -20,3 +20,10 @@ module _ {N : Type 0} (eq : N → N → Bool) (edges : N → List (N × ℤ)) wh
   fewest_of_cheapest starts test fewest (a ∷ w) cost f b =
       let walk = b.goes.goes in
       f.fewest (a ∷ w) (record { walks = follows_targets w a walk.walks; begins = walk.begins; ends = walk.ends })
+
+module _ {N : Type 0} (eq : N → N → Bool) (next : N → List N) where
+  pub one_length : (starts : List N) (test : N → Bool) (one other : List N) → IsFewestEdgesGoalPath eq next starts test one → IsFewestEdgesGoalPath eq next starts test other → length one ≡ length other
+  one_length starts test one other f o =
+      let below : length one ≤ length other = f.fewest other o.goes.goes in
+      let above : length other ≤ length one = o.fewest one f.goes.goes in
+      omega (arith, below, above)

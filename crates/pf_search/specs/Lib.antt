@@ -1,1 +1,8 @@
+pub mod DepthWalks
+pub mod Preorder
 pub mod Laws
+pub mod Breadth
+pub mod CheapestFirst
+pub mod Parents
+pub mod BothEnds
+pub mod Internal

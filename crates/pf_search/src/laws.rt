@@ -2,11 +2,16 @@
 //!
 //! A call adds its law to what the caller's proof knows. It does nothing when it runs.
 
-ghost use Rattle.std.specs.Prelude.{◌≤◌, List, Bool, ℤ, length};
-ghost use Rattle.pf_base.specs.Edges.{IsCheapestGoalPath};
-ghost use Rattle.pf_base.specs.Successors.{IsFewestEdgesGoalPath};
-ghost use Rattle.pf_search.specs.Laws.{targets};
+ghost use Rattle.std.specs.Prelude.{◌≡◌, ◌≤◌, ◌∷◌, [], ℕ, List, Bool, true, ℤ, Option, Some, slice_get, length};
+ghost use Rattle.pf_base.specs.Answers.{SameNodes};
+ghost use Rattle.pf_base.specs.Edges.{IsCheapestGoalPath, HasNoNegativeCost};
+ghost use Rattle.pf_base.specs.Orders.{last_nodes, IsBreadthOrder, AllGiven, IsPreorder, IsWholePreorder};
+ghost use Rattle.pf_base.specs.Successors.{HasSuccessor, IsFewestEdgesGoalPath};
+ghost use Rattle.pf_base.specs.Walks.{HasNode, NoRepeats, IsGoalWalk, IsReachable};
+ghost use Rattle.pf_search.specs.Laws.{targets, HasEqualSuccessors, HasEqualEdges};
+ghost use Rattle.pf_search.specs.Parents.{IsCheapestMap, IsChainOfParents, IsLeastCost};
 
+use pf_base::Cost;
 use std::marker::PhantomData;
 
 /// In one graph, a path with fewest edges has at most as many edges as a cheapest path.
@@ -17,4 +22,71 @@ pub fn fewest_edges_of_cheapest<N: Eq>(_of: PhantomData<N>)
         → IsFewestEdgesGoalPath N.eq (targets edges) starts test fewest
         → IsCheapestGoalPath N.eq edges starts test cheapest cost
         → length fewest ≤ length cheapest }
+{}
+
+/// In one graph, two paths with fewest edges from the same starts to the same nodes have one length.
+///
+/// So `bfs`, `iddfs` and `bfs_bidirectional` answer paths of one length between one start and one end.
+pub fn fewest_edges_have_one_length<N: Eq>(_of: PhantomData<N>)
+    ensures { (next : N → List N) (starts : List N) (test : N → Bool) (one other : List N)
+        → IsFewestEdgesGoalPath N.eq next starts test one
+        → IsFewestEdgesGoalPath N.eq next starts test other
+        → length one ≡ length other }
+{}
+
+/// Every node of a preorder is in reach of the start, none stands twice in it, and where the preorder
+/// has ended it has every node in reach.
+///
+/// So `dfs_reach` gives the nodes in reach, each once.
+pub fn preorder_of_reach<N: Eq>(_of: PhantomData<N>)
+    ensures reachable { (next : N → List N) (start : N) (paths : List (List N)) → IsPreorder N.eq next start paths
+        → (x : N) → HasNode N.eq (last_nodes paths) x → IsReachable N.eq (HasSuccessor N.eq next) (start ∷ []) x }
+    ensures once { (next : N → List N) (start : N) (paths : List (List N)) → IsPreorder N.eq next start paths → NoRepeats N.eq (last_nodes paths) }
+    ensures whole { (next : N → List N) (start : N) (paths : List (List N)) → IsPreorder N.eq next start paths → IsWholePreorder N.eq next paths
+        → HasEqualSuccessors N.eq next start
+        → (x : N) → IsReachable N.eq (HasSuccessor N.eq next) (start ∷ []) x → HasNode N.eq (last_nodes paths) x }
+{}
+
+/// The nodes of a breadth order are in reach, and no node stands twice among them. Where all that was
+/// found was given, each node in reach was.
+///
+/// So this holds of the nodes that a walk of `bfs_reach` gives, and of all of them once it has ended.
+pub fn breadth_order_is_reach<N: Eq>(_of: PhantomData<N>)
+    ensures reached { (next : N → List N) (start : N) (given : List N) → HasEqualSuccessors N.eq next start → IsBreadthOrder N.eq next start given
+        → (x : N) → HasNode N.eq given x → IsReachable N.eq (HasSuccessor N.eq next) (start ∷ []) x }
+    ensures once { (next : N → List N) (start : N) (given : List N) → IsBreadthOrder N.eq next start given → NoRepeats N.eq given }
+    ensures all { (next : N → List N) (start : N) (given : List N) → HasEqualSuccessors N.eq next start → IsBreadthOrder N.eq next start given → AllGiven N.eq next start given
+        → (x : N) → IsReachable N.eq (HasSuccessor N.eq next) (start ∷ []) x → HasNode N.eq given x }
+{}
+
+/// In a breadth order the distance from the start never falls: of two nodes, the one that comes first
+/// can be reached by a walk with no more edges than any walk to the other has.
+pub fn breadth_order_is_by_distance<N: Eq>(_of: PhantomData<N>)
+    ensures { (next : N → List N) (start : N) (given : List N) → HasEqualSuccessors N.eq next start → IsBreadthOrder N.eq next start given
+        → (i j : ℕ) (x y : N) → i ≤ j → slice_get given i ≡ Some x → slice_get given j ≡ Some y
+        → (far : List N) → IsGoalWalk N.eq (HasSuccessor N.eq next) (start ∷ []) (λ z. N.eq z y) far
+        → (near : List N) × IsGoalWalk N.eq (HasSuccessor N.eq next) (start ∷ []) (λ z. N.eq z x) near × (length near ≤ length far) }
+{}
+
+/// In one graph, cheapest paths cost the same: two from the same starts to nodes that pass one test,
+/// and two from one start to equal nodes.
+///
+/// So `dijkstra`, `dijkstra_all`, `dijkstra_partial` and `dijkstra_reach` give one cost, where they give
+/// that of a cheapest path.
+pub fn one_cheapest_cost<N: Eq>(_of: PhantomData<N>)
+    ensures goals { (edges : N → List (N × ℤ)) (starts : List N) (test : N → Bool) (path other : List N) (s t : ℤ)
+        → IsCheapestGoalPath N.eq edges starts test path s → IsCheapestGoalPath N.eq edges starts test other t → s ≡ t }
+    ensures node { (edges : N → List (N × ℤ)) (start : N) (x y : N) (s t : ℤ) → N.eq x y ≡ true
+        → IsLeastCost N.eq edges start x s → IsLeastCost N.eq edges start y t → s ≡ t }
+{}
+
+/// In a map of cheapest paths, the chain of parents of a node with an entry is a cheapest path from
+/// the start to it, and costs what the entry says.
+///
+/// So `build_path` over the map of `dijkstra_all` gives such a path.
+pub fn path_of_parents_is_cheapest<N: Eq, C: Cost>(_of: PhantomData<(N, C)>)
+    ensures { (edges : N → List (N × ℤ)) (start : N) (entry : N → Option (N × C)) (x parent : N) (cost : C) (path : List N)
+        → HasEqualEdges N.eq edges start → HasNoNegativeCost N.eq edges (start ∷ []) → IsCheapestMap N.eq edges start C.value entry
+        → entry x ≡ Some (parent, cost) → IsChainOfParents N.eq entry x path
+        → IsCheapestGoalPath N.eq edges (start ∷ []) (λ y. N.eq y x) path (C.value cost) }
 {}

@@ -5,6 +5,12 @@ ghost use Rattle.pf_base.specs.Walks.{HasNoGoalWalk};
 ghost use Rattle.pf_base.specs.Successors.{HasSuccessor, IsUnweightedSearch, IsFewestEdgesGoalPath};
 ghost use Rattle.pf_base.specs.Answers.{IsLawfulClone};
 
+mod both_ends;
+mod loops;
+
+pub use crate::directed::breadth::{BfsReachable, bfs_reach};
+pub use both_ends::bfs_bidirectional;
+pub use loops::bfs_loop;
 use pf_base::{NodeRefs, NodeTest, PathError, SuccessorFunction};
 use pf_core::discovery::{Discovery, Unweighted, clones_of};
 use pf_core::fewest::fewest_edges_path;

@@ -5,6 +5,14 @@ ghost use Rattle.pf_base.specs.Walks.{HasNoGoalWalk, IsAtMostNumberOf};
 ghost use Rattle.pf_base.specs.Edges.{IsSuccessor, InReach, IsWeightedSearch, IsCheapestGoalPath, IsPastRange};
 ghost use Rattle.pf_base.specs.Answers.{IsLawfulClone};
 
+mod both_ends;
+
+pub use crate::directed::cheapest_first::{
+    DijkstraReachable, DijkstraReachableItem, dijkstra_reach,
+};
+pub use crate::directed::cheapest_map::{dijkstra_all, dijkstra_partial};
+pub use crate::directed::parents::{Parents, build_path};
+pub use both_ends::dijkstra_bidirectional;
 use pf_base::utils::Tally;
 use pf_base::{Cost, EdgeFunction, NodeTest, PathError};
 use pf_core::cheapest::cheapest_path;

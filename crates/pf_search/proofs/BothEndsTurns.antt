@@ -1,0 +1,155 @@
+-- Searches by rising cost from both ends: the two sides and their best meeting after a turn of one of them.
+use Rattle.std.proofs.Common.{◌≡◌, ℕ, ◌<◌, Bool, true, false, Option, Some, None, List, [], ◌∷◌, ◌∙◌, length, sym, ap, subst, arith, inl, inr, ℤ, pos, true≢false, nat_eq}
+use Rattle.std.specs.Prelude.{◌⊎◌, ◌↔◌, ◌≤ℤ◌, ◌<ℤ◌, ◌+ℤ◌, MatchOption, MatchBool, IfSome}
+use Rattle.std.specs.Cmp.{IsEquivalence}
+use Rattle.std.specs.List.{IsDistinct}
+use Rattle.std.proofs.lemmas.Int.{ints}
+use Rattle.pf_base.specs.Edges.{InReach, HasNoNegativeCost}
+use Rattle.pf_base.specs.Answers.{ListsEdges}
+use Rattle.pf_core.specs.declared.labels.Label.{Label}
+use Rattle.pf_core.specs.Labels.{Labels, HasLabel, IsTree, by_cost}
+use Rattle.pf_core.specs.Numbered.{Grows}
+use Rattle.pf_core.specs.Nodes.{StandsFor, IsStep}
+use Rattle.pf_core.specs.NodeLaws.{StandsFor-one, StandsFor-inside}
+use Rattle.pf_core.specs.Search.{IsLow, IsSearch, Turned}
+use Rattle.pf_core.proofs.LabelLemmas.{HasLabel-inside}
+use Rattle.pf_core.proofs.SearchLemmas.{search_grows, start_alone}
+use Rattle.pf_search.specs.declared.directed.dijkstra.both_ends.Meeting.{Meeting}
+use Rattle.pf_search.specs.BothEnds.{IsCostMirror}
+use Rattle.pf_search.specs.Internal.BothEnds.{from_one, bound, IsMeeting, NoneBelowAt, IsHalf, IsPair, NoWalkAcross, NoWalkAcrossBelow}
+use Rattle.pf_search.proofs.BothEndsLemmas.{walks_low, pair_turned, meeting_stays, meeting_swap}
+
+pub some_map : {A : Type 0} (P Q : A → Type 0) → ((x : A) → P x → Q x) → (o : Option A) → IfSome o P → IfSome o Q
+some_map P Q f None h = h
+some_map P Q f (Some x) h = f x h
+
+-- what is one of two meetings is as both are
+pub some_one : {A : Type 0} (P : A → Type 0) (o a b : Option A) → (o ≡ a) ⊎ (o ≡ b) → IfSome a P → IfSome b P → IfSome o P
+some_one {A} P o a b (inl e) x y = subst (λ (q : Option A). IfSome q P) (sym e) x
+some_one {A} P o a b (inr e) x y = subst (λ (q : Option A). IfSome q P) (sym e) y
+
+module _ {N C : Type 0} (eq : N → N → Bool) (value : C → ℤ) where
+  pub none_weaker : (keys others : List N) (labels labels' : Labels C) (t t2 : ℤ) (n : ℕ) → t2 ≤ℤ t → NoneBelowAt eq value keys others labels labels' t n → NoneBelowAt eq value keys others labels labels' t2 n
+  none_weaker keys others labels labels' t t2 n less none = λ k l m x a b d e pl pm. omega (arith, ints, less, none k l m x a b d e pl pm)
+
+module _ {N C : Type 0} (eq : N → N → Bool) (laws : IsEquivalence eq) (value : C → ℤ) (fits : ℤ → Type 0) where
+  module _ (edges : N → List (N × ℤ)) (start : N) (keys : List N) (labels : Labels C) (half : IsHalf eq value fits edges start keys labels) (keys2 : List N) (grows : Grows (length keys) (length keys2) (StandsFor eq keys) (StandsFor eq keys2)) (distinct : IsDistinct eq keys2) where
+    first_inside : 0 < length keys
+    first_inside = StandsFor-inside eq keys 0 start ((half.begins start).1 (laws.refl start))
+
+    -- one side after its turn
+    pub half_turned : (labels2 : Labels C) → IsSearch (by_cost value) (IsStep eq (from_one start edges)) (λ k. nat_eq k 0) (StandsFor eq keys2) labels2 → IsTree labels2
+        → (n : ℕ) (l : Label C) → Turned n l labels labels2 → fits (value l.cost) → IsHalf eq value fits edges start keys2 labels2
+    half_turned labels2 search tree n l turned fit = record {
+      costs = half.costs;
+      alike = half.alike;
+      one = StandsFor-one eq laws keys2 distinct;
+      begins = λ x. (λ h. (half.begins x).0 (grows.back 0 x first_inside h), λ e. grows.stays 0 x ((half.begins x).1 e));
+      search = search;
+      tree = tree;
+      fit = λ k m h s. elim (turned.from k m h s) as (λ _. fits (value m.cost)) [
+        | inl q ↦ subst (λ (o : Label C). fits (value o.cost)) (sym q.1) fit
+        | inr q ↦ half.fit k m q s
+      ];
+    }
+
+    -- one side after a turn that was refused
+    pub half_kept : length labels ≡ length keys → IsHalf eq value fits edges start keys2 labels
+    half_kept wide = record {
+      costs = half.costs;
+      alike = half.alike;
+      one = StandsFor-one eq laws keys2 distinct;
+      begins = λ x. (λ h. (half.begins x).0 (grows.back 0 x first_inside h), λ e. grows.stays 0 x ((half.begins x).1 e));
+      search = search_grows (by_cost value) (IsStep eq (from_one start edges)) (λ k. nat_eq k 0) (length keys) (length keys2) (StandsFor eq keys) (StandsFor eq keys2) grows labels (omega (arith, wide)) half.search;
+      tree = half.tree;
+      fit = half.fit;
+    }
+
+  module _ (edges previous : N → List (N × ℤ)) (start end : N) (keys others : List N) (labels labels' : Labels C) where
+    -- both sides after a turn of the way back that was refused
+    pub pair_kept : (t : ℤ) → IsPair eq value fits edges previous start end keys others labels labels' t → (others2 : List N) → Grows (length others) (length others2) (StandsFor eq others) (StandsFor eq others2) → IsDistinct eq others2 → length labels' ≡ length others
+        → IsPair eq value fits edges previous start end keys others2 labels labels' t
+    pair_kept t pair others2 grows distinct wide = record {
+      forth = pair.forth;
+      back = half_kept previous end others labels' pair.back others2 grows distinct wide;
+      mirror = pair.mirror;
+      seen = λ j k l m x a b d e s. pair.seen j k l m x a (grows.back k x (omega (arith, HasLabel-inside labels' k m e, wide)) b) d e s;
+    }
+
+    pub meeting_kept : (others2 : List N) → Grows (length others) (length others2) (StandsFor eq others) (StandsFor eq others2) → (m : Meeting C) → IsMeeting eq value keys others labels labels' m → IsMeeting eq value keys others2 labels labels' m
+    meeting_kept others2 grows m w = record {
+      node = w.node;
+      stands_here = w.stands_here;
+      stands_across = grows.stays m.across w.node w.stands_across;
+      here = w.here;
+      labelled_here = w.labelled_here;
+      across = w.across;
+      labelled_across = w.labelled_across;
+      sum = w.sum;
+    }
+
+    -- what the best meeting says, where the least open labels do not undercut it
+    pub decided : (greatest : ℤ) (best : Option (Meeting C)) → IsPair eq value fits edges previous start end keys others labels labels' (bound value greatest best) → (a b : ℤ) → IsLow (by_cost value) labels a → IsLow (by_cost value) labels' b
+        → (r : Bool) → r ≡ true → MatchOption best (r ≡ false) (λ m. MatchBool r (value m.cost ≤ℤ (a +ℤ b)) ((a +ℤ b) <ℤ value m.cost)) → MatchOption best (NoWalkAcross eq value edges start end) (λ m. NoWalkAcrossBelow eq value edges start end (value m.cost))
+    decided greatest None pair a b la lb r is told = absurd (true≢false (sym is ∙ told))
+    decided greatest (Some m) pair a b la lb true is told = walks_low eq laws value fits edges previous start end keys others labels labels' (value m.cost) pair a b la lb told
+    decided greatest (Some m) pair a b la lb false is told = absurd (true≢false (sym is))
+
+  -- where they do, no cost up to theirs is that of the best meeting
+  pub undecided : (greatest : ℤ) → ((z : ℤ) → fits z → z ≤ℤ greatest) → (best : Option (Meeting C)) (a b : ℤ) → pos 0 ≤ℤ b → (r : Bool) → r ≡ false → MatchOption best (r ≡ false) (λ m. MatchBool r (value m.cost ≤ℤ (a +ℤ b)) ((a +ℤ b) <ℤ value m.cost))
+      → (z : ℤ) → fits z → bound value greatest best ≤ℤ z → z ≤ℤ a → ⊥
+  undecided greatest top None a b low r is told z f less le = let t = top z f in omega (arith, ints, t, less)
+  undecided greatest top (Some m) a b low true is told z f less le = absurd (true≢false is)
+  undecided greatest top (Some m) a b low false is told z f less le = omega (arith, ints, told, less, le, low)
+
+  module _ (edges previous : N → List (N × ℤ)) (start end : N) (keys others : List N) (labels labels' : Labels C) (t : ℤ) (pair : IsPair eq value fits edges previous start end keys others labels labels' t)
+      (keys2 : List N) (grows : Grows (length keys) (length keys2) (StandsFor eq keys) (StandsFor eq keys2)) (distinct : IsDistinct eq keys2) (labels2 : Labels C) (search : IsSearch (by_cost value) (IsStep eq (from_one start edges)) (λ k. nat_eq k 0) (StandsFor eq keys2) labels2) (tree : IsTree labels2)
+      (n : ℕ) (l : Label C) (turned : Turned n l labels labels2) (fit : fits (value l.cost)) where
+    half2 : IsHalf eq value fits edges start keys2 labels2
+    half2 = half_turned edges start keys labels pair.forth keys2 grows distinct labels2 search tree n l turned fit
+
+    -- both sides after a turn of the first
+    pub both_turned : length labels ≡ length keys → HasLabel labels n l → (t2 : ℤ) → t2 ≤ℤ t → NoneBelowAt eq value keys2 others labels2 labels' t2 n → IsPair eq value fits edges previous start end keys2 others labels2 labels' t2
+    both_turned wide at t2 less none = pair_turned eq laws value fits edges previous start end keys others labels labels' t pair keys2 labels2 half2 grows wide n l at turned t2 less none
+
+    pub meeting_turned : (m : Meeting C) → IsMeeting eq value keys others labels labels' m → IsMeeting eq value keys2 others labels2 labels' m
+    meeting_turned m w = meeting_stays eq laws value fits edges start keys labels pair.forth keys2 labels2 half2 grows n l turned others labels' m w
+
+  -- a meeting that is turned about
+  pub bound_about : (greatest : ℤ) (o r : Option (Meeting C)) → MatchOption o (r ≡ None) (λ m. r ≡ Some (record { here = m.across; across = m.here; cost = m.cost })) → bound value greatest r ≡ bound value greatest o
+  bound_about greatest None r e = ap (bound value greatest) e
+  bound_about greatest (Some m) r e = ap (bound value greatest) e
+
+  pub meets_about : (keys others : List N) (labels labels' : Labels C) (o r : Option (Meeting C)) → MatchOption o (r ≡ None) (λ m. r ≡ Some (record { here = m.across; across = m.here; cost = m.cost }))
+      → IfSome o (IsMeeting eq value others keys labels' labels) → IfSome r (IsMeeting eq value keys others labels labels')
+  meets_about keys others labels labels' None r e h = subst (λ (q : Option (Meeting C)). IfSome q (IsMeeting eq value keys others labels labels')) (sym e) tt
+  meets_about keys others labels labels' (Some m) r e h = subst (λ (q : Option (Meeting C)). IfSome q (IsMeeting eq value keys others labels labels')) (sym e) (meeting_swap eq laws value fits others keys labels' labels m h)
+
+  -- one side before its first turn: the start alone has a label
+  module _ (edges : N → List (N × ℤ)) (start : N) (keys : List N) (labels : Labels C) (first : Label C) (opened : first.settled ≡ false) (only : (k : ℕ) (l : Label C) → HasLabel labels k l → (k ≡ 0) × (l ≡ first)) where
+    unsettled : (k : ℕ) (l : Label C) → HasLabel labels k l → l.settled ≡ true → ⊥
+    unsettled k l h s = true≢false (sym s ∙ ap (λ (m : Label C). m.settled) (only k l h).1 ∙ opened)
+
+    pub half_begun : HasNoNegativeCost eq edges (start ∷ []) → ((x y : N) → InReach eq edges (start ∷ []) x → eq x y ≡ true → ListsEdges eq (λ z. z) (edges x) (edges y)) → IsDistinct eq keys → ((x : N) → StandsFor eq keys 0 x ↔ (eq start x ≡ true))
+        → HasLabel labels 0 first → first.depth ≡ 0 → value first.cost ≡ pos 0 → IsTree labels → IsHalf eq value fits edges start keys labels
+    half_begun costs alike distinct begins there flat nothing tree = record {
+      costs = costs;
+      alike = alike;
+      one = StandsFor-one eq laws keys distinct;
+      begins = begins;
+      search = start_alone 0 value (IsStep eq (from_one start edges)) (StandsFor eq keys) (start, (begins start).1 (laws.refl start)) labels first there only opened flat nothing;
+      tree = tree;
+      fit = λ k l h s. absurd (unsettled k l h s);
+    }
+
+  pub pair_begun : (edges previous : N → List (N × ℤ)) (start end : N) (keys others : List N) (labels labels' : Labels C) (t : ℤ) (first : Label C) → first.settled ≡ false → ((k : ℕ) (l : Label C) → HasLabel labels k l → (k ≡ 0) × (l ≡ first)) → ((k : ℕ) (l : Label C) → HasLabel labels' k l → (k ≡ 0) × (l ≡ first))
+      → IsHalf eq value fits edges start keys labels → IsHalf eq value fits previous end others labels' → IsCostMirror eq edges previous start end → IsPair eq value fits edges previous start end keys others labels labels' t
+  pair_begun edges previous start end keys others labels labels' t first opened only only' half half' mirror = record {
+    forth = half;
+    back = half';
+    mirror = mirror;
+    seen = λ j k l m x a b d e either. elim either as (λ _. t ≤ℤ (value l.cost +ℤ value m.cost)) [
+      | inl s ↦ absurd (unsettled edges start keys labels first opened only j l d s)
+      | inr s ↦ absurd (unsettled previous end others labels' first opened only' k m e s)
+    ];
+  }

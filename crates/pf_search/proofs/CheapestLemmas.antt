@@ -1,0 +1,254 @@
+-- Lemmas on walks by rising cost: what a search says of the nodes that were given, and what a turn gives.
+use Rattle.std.proofs.Common.{◌≡◌, ℕ, ◌<◌, Bool, true, false, Option, Some, None, List, [], ◌∷◌, ◌++◌, ◌∙◌, length, refl, sym, ap, subst, arith, inl, inr, ℤ, pos, Bor, true≢false, nat_eq, eq-eqb}
+use Rattle.std.specs.Prelude.{◌⊎◌, ◌↔◌, ◌≤ℤ◌, ◌+ℤ◌, Result, Ok, Err, MatchOption, reverse}
+use Rattle.std.specs.Result.{IsErrAnd, is_err, result_transpose}
+use borrow.Author.Tests.{eqb-true}
+use Rattle.std.specs.Cmp.{IsEquivalence}
+use Rattle.std.specs.Fn.{Mut}
+use Rattle.std.specs.Iterator.{Count}
+use Rattle.std.proofs.lemmas.Int.{ints}
+use Rattle.pf_base.specs.declared.error.PathError.{PathError}
+use Rattle.pf_base.specs.Walks.{HasNode, IsWalk, BeginsAt, EndsAt, end_of}
+use Rattle.pf_base.specs.Edges.{IsSuccessor, IsCheapestGoalPath}
+use Rattle.pf_core.specs.declared.labels.Label.{Label}
+use Rattle.pf_core.specs.Labels.{Labels, HasLabel, by_cost, IsTree, AllSettled}
+use Rattle.pf_core.specs.Numbered.{Grows}
+use Rattle.pf_core.specs.Steps.{IsNonNegative}
+use Rattle.pf_core.specs.Nodes.{NodeGraph, StandsFor, IsStep, Explores}
+use Rattle.pf_core.specs.NodeLaws.{StandsFor-one, StandsFor-inside}
+use Rattle.pf_core.specs.Search.{IsLeast, IsSearch, Turned, StandsRoot, HasDearStep, SettledAt, WaitingAt}
+use Rattle.pf_core.proofs.ListLemmas.{bool_dec}
+use Rattle.pf_core.proofs.LabelLemmas.{HasLabel-inside, label_is, parent_labelled}
+use Rattle.pf_core.proofs.FrontierLemmas.{frontier, goes_more, end_more}
+use Rattle.pf_core.proofs.PathLemmas.{climb_from, path_up}
+use Rattle.pf_core.proofs.SearchLemmas.{goal_above, best, cheapest, rooted}
+use Rattle.pf_core.proofs.NodeLemmas.{eq-sym, eq-trans, StandsFor-same, HasEdge-same, InReach-same, InReach-start, edge_of_same}
+use Rattle.pf_core.proofs.WalkLemmas.{cheapest_edge, no_negative, goes_of_walk, none_less, best_answer, all_starts, only_starts}
+use Rattle.pf_search.specs.declared.directed.cheapest_first.DijkstraReachableItem.{DijkstraReachableItem}
+use Rattle.pf_search.specs.CheapestFirst.{CheapestWalk, IsCheapestWalk, IsGiven, IsNew, GivesMore, GivesNoMore, NoNewNodeBelow, IsBehind, IsNextByCost, IsNextPastRange, AllGiven, IsLeft, RefusedFor, CheapestTurn, CheapestStep}
+
+module _ {N : Type 0} (eq : N → N → Bool) (laws : IsEquivalence eq) where
+  -- nodes that one number stands for are the same
+  pub same_node : (keys : List N) (k : ℕ) (x y : N) → StandsFor eq keys k x → StandsFor eq keys k y → eq x y ≡ true
+  same_node keys k x y a b =
+      let e : Some a.0 ≡ Some b.0 = sym a.1 ∙ b.1 in
+      let f : a.0 ≡ b.0 = cc in
+      eq-trans eq laws x a.0 y (eq-sym eq laws a.0 x a.2) (subst (λ m. eq m y ≡ true) (sym f) b.2)
+
+  module _ {C F I S : Type 0} (value : C → ℤ) (becomes : I → S → Type 0) (can : S → Type 0) (left : S → Count) (next : S → Option (N × C) → S → Type 0) (calls : Mut F (Bor N × Unit {0}) I) (edges : N → List (N × ℤ)) (start : N) where
+    abbrev graph : NodeGraph N
+    graph = record { starts = start ∷ []; edges = edges }
+
+    abbrev step : N → ℤ → N → Type 0
+    step = IsStep eq graph
+
+    abbrev root : ℕ → Bool
+    root k = nat_eq k 0
+
+    abbrev Discovers : NodeGraph N → List N → F → Type 0
+    Discovers = Explores eq value (λ e. e) becomes can left next calls
+
+    abbrev pub IsOne : CheapestWalk N C F → Type 0
+    IsOne walk = IsCheapestWalk eq value edges start Discovers walk
+
+    module _ (s : CheapestWalk N C F) (w : IsOne s) (tree : IsTree s.labels) where
+      abbrev keys : List N
+      keys = s.nodes
+
+      abbrev stands : ℕ → N → Type 0
+      stands = StandsFor eq s.nodes
+
+      abbrev Starts : N → Type 0
+      Starts = StandsRoot root (StandsFor eq s.nodes)
+
+      one : (i j : ℕ) (x : N) → StandsFor eq s.nodes i x → StandsFor eq s.nodes j x → i ≡ j
+      one = StandsFor-one eq laws s.nodes w.explored.distinct
+
+      begins : (x : N) → StandsRoot root (StandsFor eq s.nodes) x ↔ (eq start x ≡ true)
+      begins x = (
+        λ h. (w.begins x).0 (subst (λ (k : ℕ). StandsFor eq s.nodes k x) (eqb-true h.0 0 h.1) h.2),
+        λ e. (0, eq-eqb 0 0 refl, (w.begins x).1 e),
+      )
+
+      all : (a : N) → HasNode eq (start ∷ []) a → StandsRoot root (StandsFor eq s.nodes) a
+      all = all_starts eq start (StandsRoot root (StandsFor eq s.nodes)) begins
+
+      only : (a : N) → StandsRoot root (StandsFor eq s.nodes) a → HasNode eq (start ∷ []) a
+      only = only_starts eq start (StandsRoot root (StandsFor eq s.nodes)) begins
+
+      pub costs : IsNonNegative (IsStep eq graph)
+      costs = no_negative eq laws graph w.explored.alike w.costs
+
+      -- a node whose label is open was not given
+      new_at : (k : ℕ) (l : Label C) (x : N) → HasLabel s.labels k l → l.settled ≡ false → StandsFor eq s.nodes k x → IsNew eq s x
+      new_at k l x at opened here cost g =
+          let same : g.0 ≡ k = one g.0 k x g.2 here in
+          let e : g.1 ≡ l = label_is s.labels k g.1 l (subst (λ (n : ℕ). HasLabel s.labels n g.1) same g.3) at in
+          true≢false (sym g.4 ∙ ap (λ (m : Label C). m.settled) e ∙ opened)
+
+      -- a node that was not given is none of the settled ones
+      not_settled : (x : N) → IsNew eq s x → (j : ℕ) (m : Label C) (y : N) → HasLabel s.labels j m → m.settled ≡ true → StandsFor eq s.nodes j y → eq y x ≡ false
+      not_settled x new j m y at t here = elim (bool_dec (eq y x)) as (λ _. eq y x ≡ false) [
+        | inl e ↦ absurd (new m.cost (j, m, StandsFor-same eq laws s.nodes j y x here e, at, t, refl))
+        | inr f ↦ f
+      ]
+
+      -- where all labels are settled, all in reach was given
+      pub all_given : AllSettled s.labels → AllGiven eq value edges start s
+      all_given settled x r = by r.walk r.goes.walks r.goes.begins r.goes.ends
+        where
+          by : (v : List N) → IsWalk (IsSuccessor eq edges) v → BeginsAt eq (start ∷ []) v → EndsAt eq (λ y. eq y x) v → (cost : C) × IsGiven eq s x cost
+          by [] f b e = absurd f
+          by (a ∷ v) f b e =
+              let goes = goes_of_walk eq laws graph w.explored.alike v a (InReach-start eq laws edges (start ∷ []) a a b (laws.refl a)) f in
+              let i = w.search in
+              let is = all a b in
+              let q = i.start is.0 is.1 in
+              elim (frontier step stands (SettledAt (by_cost value) s.labels) (WaitingAt (by_cost value) s.labels) i.cut v is.0 (value q.0.cost) a goes.0 (inl (q.0, q.1, settled is.0 q.0 q.1, refl)) is.2 goes.1) as (λ _. (cost : C) × IsGiven eq s x cost) [
+                | inl n ↦ let m = n.is_settled in (m.0.cost, (n.number, m.0, StandsFor-same eq laws s.nodes n.number (end_of a v) x n.here e, m.1, m.2, refl))
+                | inr n ↦ let m = n.is_waiting in absurd (true≢false (sym (settled n.number m.0 m.1) ∙ m.2))
+              ]
+
+      module _ (k : ℕ) (l : Label C) (z : IsLeast (by_cost value) s.labels k l) where
+        none_cheaper : NoNewNodeBelow eq value edges start s (value l.cost)
+        none_cheaper x new = none_less eq laws graph w.explored.alike Starts all only (λ y. eq y x) (value l.cost)
+            (goal_above (by_cost value) step root costs stands s.labels w.search (λ y. eq y x) (not_settled x new) (value l.cost) z.least)
+
+        rising : (x : N) (cost : C) → IsGiven eq s x cost → value cost ≤ℤ value l.cost
+        rising x cost g = let i = w.search in subst (λ (c : C). value c ≤ℤ value l.cost) g.5 (i.low g.0 k g.1 l g.3 g.4 z.at z.opened)
+
+        cheapest_to : (x : N) → StandsFor eq s.nodes k x → (path : List N) × IsCheapestGoalPath eq edges (start ∷ []) (λ y. eq y x) path (value l.cost)
+        cheapest_to x here =
+            let up = climb_from s.labels tree l.depth k l z.at refl in
+            let numbers = reverse (k ∷ up.0) in
+            let b = best (by_cost value) step root costs stands s.labels w.search tree k l z (λ y. eq y x) (not_settled x (new_at k l x z.at z.opened here)) numbers (record { above = up.0; climbs = up.1; is = refl })
+            (λ y at. same_node s.nodes k y x at here) in
+            (b.first ∷ b.nodes, best_answer eq laws graph w.explored.alike Starts all only (λ y. eq y x) (λ a c r e. laws.congr a c x e) s.nodes one numbers (b.first ∷ b.nodes) (value l.cost) b b.path.numbered)
+
+        -- its number stands for a node
+        pub stands_at : (x : N) × StandsFor eq s.nodes k x
+        stands_at =
+            let i = w.search in
+            let up = (path_up s.labels tree (by_cost value) step Starts stands (rooted (by_cost value) step root costs stands s.labels i) i.linked k l z.at).1 in
+            (end_of up.first up.nodes, up.here)
+
+        -- a node in reach that was not given
+        pub left_at : IsLeft eq value edges start s
+        left_at = let x = stands_at in (x.1.0, w.explored.reached k x.1.0 x.1.1, new_at k l x.1.0 z.at z.opened (x.1.0, x.1.1, laws.refl x.1.0))
+
+        behind : (node parent : N) → StandsFor eq s.nodes k node → 0 < l.depth → StandsFor eq s.nodes l.parent parent → IsBehind eq value edges start s parent node (value l.cost)
+        behind node parent here deep at =
+            let i = w.search in
+            let m = parent_labelled s.labels tree k l z.at deep in
+            let q = i.linked k l m.0 z.at deep m.1 parent at in
+            record {
+              cost = m.0.cost;
+              given = (l.parent, m.0, at, m.1, m.2, refl);
+              price = q.1;
+              step = record {
+                edge = HasEdge-same eq laws (edges parent) q.0 node q.1 (same_node s.nodes k q.0 node q.3 here) q.2.1;
+                cheapest = λ v h.
+                    let up = (path_up s.labels tree (by_cost value) step Starts stands (rooted (by_cost value) step root costs stands s.labels i) i.linked l.parent m.0 m.1).1 in
+                    let last = end_of up.first up.nodes in
+                    let e : eq parent last ≡ true = same_node s.nodes l.parent parent last at up.here in
+                    let st : IsStep eq graph last v node = (InReach-same eq laws edges (start ∷ []) parent last q.2.0 e, edge_of_same eq laws edges (start ∷ []) w.explored.alike parent last node v q.2.0 e h) in
+                    let low = cheapest (by_cost value) step root costs stands s.labels i tree k l z one up.first up.is_start (up.nodes ++ node ∷ []) (value m.0.cost +ℤ v)
+                    (goes_more step up.nodes up.first node (value m.0.cost) v up.path.goes st) (subst (λ (y : N). StandsFor eq s.nodes k y) (sym (end_more up.nodes up.first node)) here) in
+                    omega (arith, ints, low, q.4);
+              };
+              sum = q.4;
+            }
+
+        behind_of : (o : Option N) (node : N) → StandsFor eq s.nodes k node → MatchOption o (l.depth ≡ 0) (λ parent. (0 < l.depth) × StandsFor eq s.nodes l.parent parent)
+            → MatchOption o ((eq start node ≡ true) × (value l.cost ≡ pos 0)) (λ parent. IsBehind eq value edges start s parent node (value l.cost))
+        behind_of None node here flat =
+            let i = w.search in
+            let r = i.rooted k l z.at flat in
+            ((w.begins node).0 (subst (λ (n : ℕ). StandsFor eq s.nodes n node) (eqb-true k 0 r.0) here), r.2)
+        behind_of (Some parent) node here p = behind node parent here p.0 p.1
+
+        -- what is given for a least open label is the next by rising cost
+        pub next_is : (item : DijkstraReachableItem N C) → item.total_cost ≡ l.cost → StandsFor eq s.nodes k item.node → MatchOption item.parent (l.depth ≡ 0) (λ parent. (0 < l.depth) × StandsFor eq s.nodes l.parent parent)
+            → IsNextByCost eq value edges start s item
+        next_is item e here p =
+            let back = sym (ap value e) in
+            let c = cheapest_to item.node here in
+            record {
+              new = new_at k l item.node z.at z.opened here;
+              path = c.0;
+              cheapest = subst (λ (t : ℤ). IsCheapestGoalPath eq edges (start ∷ []) (λ y. eq y item.node) c.0 t) back c.1;
+              rising = subst (λ (t : ℤ). (x : N) (cost : C) → IsGiven eq s x cost → value cost ≤ℤ t) back rising;
+              none_cheaper = subst (λ (t : ℤ). NoNewNodeBelow eq value edges start s t) back none_cheaper;
+              behind = subst (λ (t : ℤ). MatchOption item.parent ((eq start item.node ≡ true) × (t ≡ pos 0)) (λ parent. IsBehind eq value edges start s parent item.node t)) back (behind_of item.parent item.node here p);
+            }
+
+        -- a step from it that is too dear
+        pub past_at : (fits : ℤ → Type 0) (x : N) → StandsFor eq s.nodes k x → HasDearStep step fits x (value l.cost) → IsNextPastRange eq value edges start fits s
+        past_at fits x here d =
+            let c = cheapest_to x here in
+            let e = cheapest_edge eq laws edges x d.next d.price d.edge.1 in
+            record {
+              node = x;
+              new = new_at k l x z.at z.opened here;
+              path = c.0;
+              cost = value l.cost;
+              cheapest = c.1;
+              none_cheaper = none_cheaper;
+              next = d.next;
+              price = e.0;
+              step = e.1;
+              past = d.too_dear e.0 (d.edge.0, e.1.edge);
+            }
+
+      module _ (wide : length s.labels ≡ length s.nodes) (t : CheapestWalk N C F) (grows : Grows (length s.nodes) (length t.nodes) (StandsFor eq s.nodes) (StandsFor eq t.nodes)) (explored : Discovers graph t.nodes t.successors) where
+        within : (j : ℕ) (m : Label C) → HasLabel s.labels j m → j < length s.nodes
+        within j m h = omega (arith, HasLabel-inside s.labels j m h, wide)
+
+        begins_on : (x : N) → StandsFor eq t.nodes 0 x ↔ (eq start x ≡ true)
+        begins_on x = let first = StandsFor-inside eq s.nodes 0 start ((w.begins start).1 (laws.refl start)) in (λ h. (w.begins x).0 (grows.back 0 x first h), λ e. grows.stays 0 x ((w.begins x).1 e))
+
+        -- the walk goes on
+        pub goes_on : IsSearch (by_cost value) step root (StandsFor eq t.nodes) t.labels → IsOne t
+        goes_on search = record { explored = explored; costs = w.costs; begins = begins_on; search = search }
+
+        -- where no label changed, no more was given
+        pub no_more : t.labels ≡ s.labels → GivesNoMore eq s t
+        no_more e x cost = (
+          λ g. let h = subst (λ (ls : List (Option (Label C))). HasLabel ls g.0 g.1) e g.3 in (g.0, g.1, grows.back g.0 x (within g.0 g.1 h) g.2, h, g.4, g.5),
+          λ g. (g.0, g.1, grows.stays g.0 x g.2, subst (λ (ls : List (Option (Label C))). HasLabel ls g.0 g.1) (sym e) g.3, g.4, g.5),
+        )
+
+        -- after a turn one item more was given
+        pub one_more : (k : ℕ) (l : Label C) → HasLabel s.labels k l → Turned k l s.labels t.labels → (item : DijkstraReachableItem N C) → item.total_cost ≡ l.cost → StandsFor eq s.nodes k item.node → GivesMore eq s item t
+        one_more k l at turned item e here x cost = (
+          λ g. elim (turned.from g.0 g.1 g.3 g.4) as (λ _. IsGiven eq s x cost ⊎ ((eq item.node x ≡ true) × (item.total_cost ≡ cost))) [
+            | inl q ↦ inr (same_node s.nodes k item.node x here (grows.back k x (within k l at) (subst (λ (n : ℕ). StandsFor eq t.nodes n x) q.0 g.2)), e ∙ sym (ap (λ (m : Label C). m.cost) q.1) ∙ g.5)
+            | inr h ↦ inl (g.0, g.1, grows.back g.0 x (within g.0 g.1 h) g.2, h, g.4, g.5)
+          ],
+          λ o. elim o as (λ _. IsGiven eq t x cost) [
+            | inl g ↦ (g.0, g.1, grows.stays g.0 x g.2, turned.kept g.0 g.1 g.3 g.4, g.4, g.5)
+            | inr q ↦ (k, record l { settled = true }, grows.stays k x (StandsFor-same eq laws s.nodes k item.node x here q.0), turned.done, refl, sym e ∙ q.1)
+          ],
+        )
+
+    -- the mark of a refusal is no part of what a walk is
+    pub marked : (s : CheapestWalk N C F) (b : Bool) → IsOne s → IsOne (record s { refused = b })
+    marked s b w = record { explored = w.explored; costs = w.costs; begins = w.begins; search = w.search }
+
+    -- a call of `next` is a step, which marks a refusal
+    pub step_of : (fits : ℤ → Type 0) (s t : CheapestWalk N C F) (r : Result (Option (DijkstraReachableItem N C)) PathError) → s.refused ≡ false → t.refused ≡ s.refused → IsOne t × CheapestTurn eq value edges start fits s r t
+        → IsOne (record t { refused = is_err r }) × CheapestStep eq value edges start fits s (result_transpose r) (record t { refused = is_err r })
+    step_of fits s t (Ok (Some x)) h m (w, q) = (marked t false w, (h, refl, q.0, q.1))
+    step_of fits s t (Ok None) h m (w, q) = (marked t false w, (inr q.0, subst (λ (c : Bool). record t { refused = c } ≡ s) (m ∙ h) q.1))
+    step_of fits s t (Err x) h m (w, q) = (marked t true w, (h, refl, q.0, q.1, q.2))
+
+-- a step was refused, for this
+module _ {N C F : Type 0} (eq : N → N → Bool) (value : C → ℤ) (edges : N → List (N × ℤ)) (start : N) (fits : ℤ → Type 0) (s t : CheapestWalk N C F) where
+  pub turn_refused : (r : Result (Option (DijkstraReachableItem N C)) PathError) (refusal : PathError) → IsErrAnd r (λ e. e ≡ refusal) → RefusedFor eq value edges start fits s refusal → IsLeft eq value edges start s → GivesNoMore eq s t
+      → CheapestTurn eq value edges start fits s r t
+  turn_refused (Ok x) refusal e f l m = absurd e
+  turn_refused (Err x) refusal e f l m = (subst (λ (y : PathError). RefusedFor eq value edges start fits s y) (sym e) f, l, m)
+
+-- what a caller sees of these parts
+abbrev pub seen : {N C F : Type 0} → List N → Labels C → Bool → F → CheapestWalk N C F
+seen nodes labels refused successors = record { nodes = nodes; labels = labels; refused = refused; successors = successors }

@@ -1,0 +1,57 @@
+use Rattle.std.proofs.Common.{◌≤◌, ◌<◌, ◌+◌, length, false, refl, ap, arith}
+use Rattle.pf_base.proofs.Callers.{SameNodes-refl}
+use Rattle.pf_search.specs.Internal.Breadth.{found_or}
+use Rattle.pf_search.proofs.BreadthSteps.{turn_refused, none_waits, start_waits, marked}
+use Rattle.pf_search.proofs.directed.breadth.BfsReachable.step.Goals as goal
+
+pub returns-in_err-put_start-clause-steps : goal.returns-in_err-put_start-clause-steps
+returns-in_err-put_start-clause-steps g c = λ next start w.
+    let eq = g.N.PartialEq.eq in
+    let laws = g.met.N.Eq.laws in
+    let s = c.in_err-put_start.ensures.stays in
+    let i = c.self.inside in
+    let keys = found_or i.start i.discovery.nodes.keys in
+    let v = rw (← c.self.view_is) at w in
+    rw (← c.self.view_is, s.2, s.3) (v, turn_refused eq laws _ _ _ _ _ next start keys keys i.given i.refused i.discovery.successors i.discovery.successors c.from_residual.result (start_waits i.start i.discovery.nodes.keys i.given s.0 c.self.invariant s.1) c.from_residual.ensures.0 (SameNodes-refl eq laws.refl keys) v)
+
+pub returns-then-self-len-clause-steps : goal.returns-then-self-len-clause-steps
+returns-then-self-len-clause-steps g c = λ next start w.
+    let eq = g.N.PartialEq.eq in
+    let laws = g.met.N.Eq.laws in
+    let s = c.in_ok-put_start.ensures.put in
+    let i = c.self.inside in
+    let keys = found_or i.start i.discovery.nodes.keys in
+    let v = rw (← c.self.view_is) at w in
+    let past : length keys ≤ i.given = omega (arith, ap length s.1, c.len.ensures.len, c.if-self-len.true) in
+    rw (← c.self.view_is, s.0, s.1) (v, (none_waits eq laws _ _ _ _ _ next start keys i.given i.refused i.discovery.successors v past, refl))
+
+pub returns-in_err-node-clause-steps : goal.returns-in_err-node-clause-steps
+returns-in_err-node-clause-steps g c = λ next start w.
+    let eq = g.N.PartialEq.eq in
+    let laws = g.met.N.Eq.laws in
+    let s = c.in_ok-put_start.ensures.put in
+    let i = c.self.inside in
+    let keys = found_or i.start i.discovery.nodes.keys in
+    let v = rw (← c.self.view_is) at w in
+    let keys' = c.give.new.discovery.nodes.keys in
+    let f' = c.give.new.discovery.successors in
+    let within : i.given < length keys = omega (arith, ap length s.1, c.len.ensures.len, c.if-self-len.false) in
+    let e = c.in_err-node.ensures in
+    let at = marked eq laws _ _ _ _ _ next start keys i.given i.refused false i.discovery.successors v in
+    let on = (e.walk next start (rw s.1 at)).1 in
+    rw (← c.self.view_is, s.0) (marked eq laws _ _ _ _ _ next start keys' i.given false i.refused f' on, turn_refused eq laws _ _ _ _ _ next start keys keys' i.given i.refused i.discovery.successors f' c.from_residual-in_err-node.result within c.from_residual-in_err-node.ensures.0 (rw s.1 at e.stays) v)
+
+pub returns-clause-steps : goal.returns-clause-steps
+returns-clause-steps g c = λ next start w.
+    let eq = g.N.PartialEq.eq in
+    let laws = g.met.N.Eq.laws in
+    let s = c.in_ok-put_start.ensures.put in
+    let i = c.self.inside in
+    let keys = found_or i.start i.discovery.nodes.keys in
+    let v = rw (← c.self.view_is) at w in
+    let keys' = c.give.new.discovery.nodes.keys in
+    let f' = c.give.new.discovery.successors in
+    let e = c.in_ok-node.ensures in
+    let at = marked eq laws _ _ _ _ _ next start keys i.given i.refused false i.discovery.successors v in
+    let on = (e.walk next start (rw s.1 at)).0 in
+    rw (← c.self.view_is, s.0) (marked eq laws _ _ _ _ _ next start keys' (i.given + 1) false i.refused f' on.0, (rw s.1 at on.1, rw s.1 at e.given))

@@ -1,0 +1,107 @@
+use Rattle.std.proofs.Common.{Err, ap, refl, arith, length, inl, inr, nat_eq}
+use Rattle.pf_core.specs.Labels.{by_cost}
+use Rattle.pf_core.specs.Nodes.{IsStep}
+use Rattle.pf_core.proofs.LabelLemmas.{HasLabel-inside, parent_labelled}
+use Rattle.pf_core.proofs.TurnLemmas.{least_is}
+use Rattle.pf_core.proofs.SearchLemmas.{search_grows}
+use Rattle.pf_search.specs.CheapestFirst.{RefusedFor}
+use Rattle.pf_search.proofs.CheapestLemmas.{seen, costs, all_given, stands_at, left_at, next_is, past_at, goes_on, no_more, one_more, turn_refused}
+use Rattle.pf_search.proofs.directed.cheapest_first.DijkstraReachable.step.Goals as goal
+
+pub returns-in_default-clause-steps : goal.returns-in_default-clause-steps
+returns-in_default-clause-steps g c = λ edges start w.
+    let i = c.self.inside in
+    let v = rw (← c.self.view_is) at w in
+    let s = seen i.discovery.nodes.keys i.search.labels.items i.refused i.discovery.successors in
+    rw (← c.self.view_is, c.in_default.ensures.same) (v, (all_given g.N.PartialEq.eq g.met.N.Eq.laws g.C.Number.value _ _ _ _ _ edges start s v c.self.invariant.0.tree c.in_default.ensures.least, refl))
+
+pub item_at-requires-clause-labelled : goal.item_at-requires-clause-labelled
+item_at-requires-clause-labelled g c = let z = c.in-Some.ensures.least in rw c.in-Some.ensures.same (z.0, z.1.at)
+
+pub item_at-requires-clause-inside : goal.item_at-requires-clause-inside
+item_at-requires-clause-inside g c =
+    let z = c.in-Some.ensures.least in
+    omega (arith, ap length c.as_slice.ensures.keys, HasLabel-inside c.self.inside.search.labels.items c.in-Some.number z.0 z.1.at, c.self.invariant.1)
+
+pub item_at-requires-clause-behind : goal.item_at-requires-clause-behind
+item_at-requires-clause-behind g c = λ l h deep.
+    let labels = c.self.inside.search.labels.items in
+    let m = parent_labelled labels c.self.invariant.0.tree c.in-Some.number l (rw c.in-Some.ensures.same at h) deep in
+    omega (arith, ap length c.as_slice.ensures.keys, HasLabel-inside labels l.parent m.0 m.1, c.self.invariant.1)
+
+pub returns-in_err-item-clause-steps : goal.returns-in_err-item-clause-steps
+returns-in_err-item-clause-steps g c = λ edges start w.
+    let eq = g.N.PartialEq.eq in
+    let laws = g.met.N.Eq.laws in
+    let i = c.self.inside in
+    let v = rw (← c.self.view_is) at w in
+    let z = c.in-Some.ensures.least in
+    let s = seen i.discovery.nodes.keys i.search.labels.items i.refused i.discovery.successors in
+    rw (← c.self.view_is, c.in-Some.ensures.same) (
+      v,
+      turn_refused eq g.C.Number.value edges start g.C.Number.fits s s c.from_residual.result c.in_err-item.field-0.0 c.from_residual.ensures.1
+          (inl c.in_err-item.ensures.refused) (left_at eq laws g.C.Number.value _ _ _ _ _ edges start s v c.self.invariant.0.tree c.in-Some.number z.0 z.1) (λ x cost. ((λ h. h), λ h. h)),
+    )
+
+pub turn-requires-clause-least : goal.turn-requires-clause-least
+turn-requires-clause-least g c = rw c.in-Some.ensures.same c.in-Some.ensures.least
+
+pub turn-requires-clause-graph : goal.turn-requires-clause-graph
+turn-requires-clause-graph g c =
+    let r = c.requires.walk in
+    let v = rw (← c.self.view_is) at r.2 in
+    (_, v.explored)
+
+pub returns-in_err-turn-clause-steps : goal.returns-in_err-turn-clause-steps
+returns-in_err-turn-clause-steps g c = λ edges start w.
+    let eq = g.N.PartialEq.eq in
+    let laws = g.met.N.Eq.laws in
+    let i = c.self.inside in
+    let v = rw (← c.self.view_is) at w in
+    let z = c.in-Some.ensures.least in
+    let e = c.in_err-turn.ensures in
+    let tree = c.self.invariant.0.tree in
+    let wide = c.self.invariant.1 in
+    let same = c.in-Some.ensures.same in
+    let new = c.turn.new.graph in
+    let s = seen i.discovery.nodes.keys i.search.labels.items i.refused i.discovery.successors in
+    let t = seen new.nodes.keys i.search.labels.items i.refused new.successors in
+    let explored = e.graph _ v.explored in
+    let search = search_grows (by_cost g.C.Number.value) (IsStep eq _) (λ k. nat_eq k 0) _ _ _ _ e.grows i.search.labels.items (omega (arith, wide)) v.search in
+    let x = stands_at eq laws g.C.Number.value _ _ _ _ _ edges start s v tree c.in-Some.number z.0 z.1 in
+    let why = elim e.errors as (λ _. RefusedFor eq g.C.Number.value edges start g.C.Number.fits s c.in_err-turn.field-0.0) [
+      | inl f ↦ inl f
+      | inr f ↦ inr (f, past_at eq laws g.C.Number.value _ _ _ _ _ edges start s v tree c.in-Some.number z.0 z.1 g.C.Number.fits x.0 x.1 (e.overflow (ap Err f) _ v.explored x.0 x.1 z.0 (rw same z.1.at)))
+    ] in
+    rw (← c.self.view_is, e.kept.1, same) (
+      goes_on eq laws g.C.Number.value _ _ _ _ _ edges start s v tree wide t e.grows explored search,
+      turn_refused eq g.C.Number.value edges start g.C.Number.fits s t c.from_residual-in_err-turn.result c.in_err-turn.field-0.0 c.from_residual-in_err-turn.ensures.1
+          why (left_at eq laws g.C.Number.value _ _ _ _ _ edges start s v tree c.in-Some.number z.0 z.1) (no_more eq laws g.C.Number.value _ _ _ _ _ edges start s v tree wide t e.grows explored refl),
+    )
+
+pub returns-clause-steps : goal.returns-clause-steps
+returns-clause-steps g c = λ edges start w.
+    let eq = g.N.PartialEq.eq in
+    let laws = g.met.N.Eq.laws in
+    let i = c.self.inside in
+    let v = rw (← c.self.view_is) at w in
+    let z = c.in-Some.ensures.least in
+    let e = c.in_ok-turn.ensures in
+    let tree = c.self.invariant.0.tree in
+    let wide = c.self.invariant.1 in
+    let same = c.in-Some.ensures.same in
+    let new = c.turn.new.graph in
+    let s = seen i.discovery.nodes.keys i.search.labels.items i.refused i.discovery.successors in
+    let t = seen new.nodes.keys c.turn.new.self.labels.items i.refused new.successors in
+    let explored = e.graph _ v.explored in
+    let search = e.search _ v.explored (costs eq laws g.C.Number.value _ _ _ _ _ edges start s v tree) (λ k. nat_eq k 0) (rw same v.search) in
+    let item = rw (same, c.as_slice.ensures.keys) at c.in_ok-item.ensures.item in
+    let least = least_is (by_cost g.C.Number.value) i.search.labels.items c.in-Some.number z.0 item.0 z.1 item.1 in
+    let turned = rw same at (e.turned item.0 (rw same item.1)) in
+    rw (← c.self.view_is) (
+      goes_on eq laws g.C.Number.value _ _ _ _ _ edges start s v tree wide t e.grows explored search,
+      (
+        next_is eq laws g.C.Number.value _ _ _ _ _ edges start s v tree c.in-Some.number item.0 least c.in_ok-item.item item.2 item.3 item.4,
+        one_more eq laws g.C.Number.value _ _ _ _ _ edges start s v tree wide t e.grows explored c.in-Some.number item.0 item.1 turned c.in_ok-item.item item.2 item.3,
+      ),
+    )

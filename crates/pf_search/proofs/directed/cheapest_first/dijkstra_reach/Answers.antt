@@ -1,0 +1,33 @@
+use Rattle.std.proofs.Common.{refl, false, [], ◌∷◌}
+use Rattle.pf_core.specs.declared.labels.Label.{Label}
+use Rattle.pf_core.specs.Nodes.{NodeGraph, StandsFor, IsStep}
+use Rattle.pf_core.proofs.NodeLemmas.{Explores-edges}
+use Rattle.pf_core.proofs.SearchLemmas.{start_alone, none_settled}
+use Rattle.pf_search.proofs.directed.cheapest_first.dijkstra_reach.Goals as goal
+
+pub returns-clause-begins : goal.returns-clause-begins
+returns-clause-begins g c =
+    let eq = g.N.PartialEq.eq in
+    let start = c.args.start.now in
+    let found = c.in_ok-clone_of in
+    let b = c.in_ok-search.ensures in
+    let first : Label g.row.C.Denot = record { cost = g.C.Zero.zero; parent = 0; depth = 0; settled = false } in
+    let here : (x : g.row.N.Denot) × StandsFor eq found.field-0.keys 0 x = (start, (found.ensures.begins start).1 (g.met.N.Eq.laws.refl start)) in
+    ((λ x cost h. none_settled 0 g.C.Number.value (λ _ _ _. Unit {0}) (StandsFor eq found.field-0.keys) here c.in_ok-search.search.labels.items first b.first b.only refl h.0 h.1 h.3 h.4), refl, refl)
+
+pub returns-clause-graph : goal.returns-clause-graph
+returns-clause-graph g c = λ edges a h.
+    let eq = g.N.PartialEq.eq in
+    let laws = g.met.N.Eq.laws in
+    let start = c.args.start.now in
+    let found = c.in_ok-clone_of in
+    let b = c.in_ok-search.ensures in
+    let first : Label g.row.C.Denot = record { cost = g.C.Zero.zero; parent = 0; depth = 0; settled = false } in
+    let graph : NodeGraph g.row.N.Denot = record { starts = start ∷ []; edges = edges } in
+    let here : (x : g.row.N.Denot) × StandsFor eq found.field-0.keys 0 x = (start, (found.ensures.begins start).1 (laws.refl start)) in
+    record {
+      explored = Explores-edges eq laws _ _ _ _ _ _ graph found.field-0.keys _ found.ensures.distinct found.ensures.same a;
+      costs = h;
+      begins = found.ensures.begins;
+      search = start_alone 0 g.C.Number.value (IsStep eq graph) (StandsFor eq found.field-0.keys) here c.in_ok-search.search.labels.items first b.first b.only refl refl (g.met.C.Zero.zero_law g.met.C.Integral.exact_law);
+    }

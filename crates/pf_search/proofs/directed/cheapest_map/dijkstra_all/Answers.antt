@@ -1,0 +1,21 @@
+use Rattle.std.proofs.Common.{rules, ◌≡◌, false, refl, ap}
+use Rattle.std.specs.Prelude.{Err}
+use Rattle.pf_base.specs.declared.error.PathError.TheVariants.{CostOverflow}
+use Rattle.pf_base.proofs.Callers.{test_of}
+use Rattle.pf_search.proofs.AllLemmas.{all_of_partial}
+use Rattle.pf_search.proofs.directed.cheapest_map.dijkstra_all.Goals as goal
+
+pub dijkstra_partial-requires-clause-graph : goal.dijkstra_partial-requires-clause-graph
+dijkstra_partial-requires-clause-graph g c =
+    let r = c.requires.graph in
+    (r.0, (λ _. false), record { edges_answered = r.1; test_answered = test_of (λ _. false) (λ x y w e. refl) (λ x w. search rules) (λ x r t w k. search rules); costs = r.2 })
+
+pub returns-in_err-parents-clause-overflow : goal.returns-in_err-parents-clause-overflow
+returns-in_err-parents-clause-overflow g c = λ edges answered costs e.
+    let f : c.in_err-parents.field-0.0 ≡ CostOverflow = search rules in
+    c.in_err-parents.ensures.overflow edges (λ _. false) (record { edges_answered = answered; test_answered = test_of (λ _. false) (λ x y w e. refl) (λ x w. search rules) (λ x r t w k. search rules); costs = costs }) (ap Err f)
+
+pub returns-clause-cheapest : goal.returns-clause-cheapest
+returns-clause-cheapest g c = λ edges answered costs.
+    all_of_partial g.N.PartialEq.eq g.met.N.Eq.laws g.C.Number.value edges c.args.start.now answered.alike _ c.in_ok-parents.field-0-1
+    (c.in_ok-parents.ensures.partial edges (λ _. false) (record { edges_answered = answered; test_answered = test_of (λ _. false) (λ x y w e. refl) (λ x w. search rules) (λ x r t w k. search rules); costs = costs }))

@@ -1,0 +1,130 @@
+use Rattle.std.proofs.Common.{◌≡◌, ◌<◌, ◌∙◌, sym, subst, ℕ, arith, ap, Err, refl, false, inl, inr, [], ◌∷◌, ◌++◌, eq-eqb}
+use Rattle.pf_core.specs.declared.labels.Label.{Label}
+use Rattle.std.specs.Prelude.{◌⊎◌}
+use Rattle.std.proofs.lemmas.List.Sums.{count_by-le-length}
+use Rattle.pf_core.specs.Labels.{HasLabel, by_cost, is_settled}
+use Rattle.pf_core.proofs.LabelLemmas.{HasLabel-inside}
+use Rattle.pf_core.proofs.SearchLemmas.{Grows-trans, search_grows, one_root, only_root, start_alone, none_settled, failed_turned}
+use Rattle.pf_core.proofs.TurnLemmas.{too_dear}
+use Rattle.pf_search.proofs.OrderLemmas.{order_start, order_more, first_turned, ended_at, ended_all}
+use Rattle.pf_search.proofs.directed.cheapest_map.search_to_goal.Goals as goal
+
+pub turns-init : goal.turns-init
+turns-init g c =
+    let b = c.in_ok-search.ensures in
+    let first : Label g.row.C.Denot = record { cost = g.C.Zero.zero; parent = 0; depth = 0; settled = false } in
+    let labels = c.in_ok-search.search.labels.items in
+    let stands = g.G.NumberedGraph.stands c.args.graph.now in
+    record {
+      sound = b.sound;
+      wide = b.wide ∙ c.found.ensures;
+      grown = record { more = omega arith; stays = λ k x h. h; back = λ k x i h. h };
+      explored = λ h x. x;
+      search = λ h x p. start_alone c.args.start g.C.Number.value (g.G.NumberedGraph.step h) stands c.requires.begins labels first b.first b.only refl refl (g.met.C.Zero.zero_law g.met.C.Integral.exact_law);
+      failed = λ h x k m y at s here. absurd (none_settled c.args.start g.C.Number.value (g.G.NumberedGraph.step h) stands c.requires.begins labels first b.first b.only refl k m at s);
+      order = [];
+      settled = order_start g.C.Number.value c.args.start labels first refl b.only;
+      first = λ k l h. (b.only k l h).0;
+    }
+
+pub is_goal-requires-clause-inside : goal.is_goal-requires-clause-inside
+is_goal-requires-clause-inside g c = let z = c.in-Some.ensures.least in subst (λ (n : ℕ). c.in-Some.number < n) c.turns.invariant.wide (HasLabel-inside _ _ _ z.1.at)
+
+pub is_goal-requires-clause-graph : goal.is_goal-requires-clause-graph
+is_goal-requires-clause-graph g c = let r = c.requires.graph in (r.0, c.turns.invariant.explored r.0 r.1)
+
+pub turn-requires-clause-least : goal.turn-requires-clause-least
+turn-requires-clause-least g c = rw c.in-Some.ensures.same c.in-Some.ensures.least
+
+pub turn-requires-clause-graph : goal.turn-requires-clause-graph
+turn-requires-clause-graph g c = let r = c.requires.graph in (r.0, (c.is_goal.ensures.graph r.0 (c.turns.invariant.explored r.0 r.1)).0)
+
+pub turns-smaller : goal.turns-smaller
+turns-smaller g c =
+    let z = c.in-Some.ensures.least in
+    let old = c.turns.search.labels.items in
+    let t = rw c.in-Some.ensures.same at (c.in_ok-turn.ensures.turned z.0 (rw c.in-Some.ensures.same z.1.at)) in
+    omega (arith, t.count, count_by-le-length is_settled old, c.turns.search.labels.small, c.turns.search.labels.ok)
+
+pub turns-preserved : goal.turns-preserved
+turns-preserved g c =
+    let v = c.turns.invariant in
+    let z = c.in-Some.ensures.least in
+    let old = c.turns.search.labels.items in
+    let new = c.turn.new.self.labels.items in
+    let same = c.in-Some.ensures.same in
+    let e = c.in_ok-turn.ensures in
+    let t = rw same at (e.turned z.0 (rw same z.1.at)) in
+    let grown = Grows-trans _ _ _ _ _ _ c.is_goal.ensures.grows e.grows in
+    let r = c.requires.graph in
+    let i = v.search r.0 r.1 r.2 in
+    record {
+      sound = e.sound;
+      wide = e.wide;
+      grown = Grows-trans _ _ _ _ _ _ v.grown grown;
+      explored = λ h x. e.graph h (c.is_goal.ensures.graph h (v.explored h x)).0;
+      search = λ h x p.
+          let x1 = (c.is_goal.ensures.graph h (v.explored h x)).0 in
+          e.search h x1 p (only_root c.args.start) (rw same (search_grows (by_cost g.C.Number.value) (g.G.NumberedGraph.step h) (only_root c.args.start) _ _ _ _ c.is_goal.ensures.grows old (omega (arith, v.wide)) (v.search h x p)));
+      failed = λ h x.
+          let q = (c.is_goal.ensures.graph h (v.explored h x)).1 in
+          failed_turned (g.G.NumberedGraph.passes h) _ _ _ _ grown old new (omega (arith, v.wide)) c.in-Some.number (subst (λ (n : ℕ). c.in-Some.number < n) v.wide (HasLabel-inside old c.in-Some.number z.0 z.1.at)) (λ j m a u. elim (t.from j m a u) as (λ _. (j ≡ c.in-Some.number) ⊎ HasLabel old j m) [ inl q ↦ inl q.0 | inr q ↦ inr q ])
+          (λ y k. sym (q y k) ∙ c.if-is_goal.false) (v.failed h x);
+      order = v.order ++ (c.in-Some.number, g.C.Number.value z.0.cost) ∷ [];
+      settled = order_more g.C.Number.value c.args.start (g.G.NumberedGraph.step r.0) (only_root c.args.start) _ old i v.order v.settled c.in-Some.number z.0 z.1 new t;
+      first = first_turned g.C.Number.value c.args.start (g.G.NumberedGraph.step r.0) (only_root c.args.start) _ old i v.order v.settled c.in-Some.number z.0 z.1 new v.order v.first;
+    }
+
+pub returns-in_err-turn-clause-graph : goal.returns-in_err-turn-clause-graph
+returns-in_err-turn-clause-graph g c = λ h x. c.in_err-turn.ensures.graph h (c.is_goal.ensures.graph h (c.turns.invariant.explored h x)).0
+
+pub returns-in_err-turn-clause-overflow : goal.returns-in_err-turn-clause-overflow
+returns-in_err-turn-clause-overflow g c = λ h x p e.
+    let v = c.turns.invariant in
+    let z = c.in-Some.ensures.least in
+    let labels = c.turns.search.labels.items in
+    let same = c.in-Some.ensures.same in
+    let x1 = (c.is_goal.ensures.graph h (v.explored h x)).0 in
+    let grown = Grows-trans _ _ _ _ _ _ c.is_goal.ensures.grows c.in_err-turn.ensures.grows in
+    let d = c.in_err-turn.ensures.overflow (ap Err (sym (rw e at c.from_residual-in_err-turn.ensures.1))) h x1 in
+    too_dear g.C.Number.value g.C.Number.fits (g.G.NumberedGraph.step h) (only_root c.args.start) p _ labels (v.search h x p) v.sound.tree c.in-Some.number z.0 z.1 (g.G.NumberedGraph.passes h) (v.failed h x)
+    (g.met.G.NumberedGraph.one_law _ h (v.explored h x)) (λ n st. d n (c.is_goal.ensures.grows.stays c.in-Some.number n st) z.0 (rw same z.1.at)) _ _ _ grown (subst (λ (n : ℕ). c.in-Some.number < n) v.wide (HasLabel-inside labels c.in-Some.number z.0 z.1.at))
+    _ (one_root c.args.start _ _ _ _ v.grown c.requires.inside)
+
+pub returns-then-is_goal-clause-ended : goal.returns-then-is_goal-clause-ended
+returns-then-is_goal-clause-ended g c =
+    let v = c.turns.invariant in
+    let z = c.in-Some.ensures.least in
+    let r = c.requires.graph in
+    rw c.in-Some.ensures.same (ended_at g.C.Number.value c.args.start (g.G.NumberedGraph.step r.0) (only_root c.args.start) _ c.turns.search.labels.items (v.search r.0 r.1 r.2) v.order v.settled c.in-Some.number z.0 z.1 v.first)
+
+pub returns-then-is_goal-clause-search : goal.returns-then-is_goal-clause-search
+returns-then-is_goal-clause-search g c = λ h x p.
+    let v = c.turns.invariant in
+    rw c.in-Some.ensures.same (search_grows (by_cost g.C.Number.value) (g.G.NumberedGraph.step h) (only_root c.args.start) _ _ _ _ c.is_goal.ensures.grows c.turns.search.labels.items (omega (arith, v.wide)) (v.search h x p))
+
+pub returns-then-is_goal-clause-passed : goal.returns-then-is_goal-clause-passed
+returns-then-is_goal-clause-passed g c = λ h x k l y at s here.
+    let v = c.turns.invariant in
+    let labels = c.turns.search.labels.items in
+    let at' : HasLabel labels k l = rw c.in-Some.ensures.same at at in
+    v.failed h x k l y at' s (c.is_goal.ensures.grows.back k y (subst (λ (n : ℕ). k < n) v.wide (HasLabel-inside labels k l at')) here)
+
+pub returns-then-is_goal-clause-goal : goal.returns-then-is_goal-clause-goal
+returns-then-is_goal-clause-goal g c = λ h x y here.
+    let v = c.turns.invariant in
+    let z = c.in-Some.ensures.least in
+    let inside = subst (λ (n : ℕ). c.in-Some.number < n) v.wide (HasLabel-inside c.turns.search.labels.items c.in-Some.number z.0 z.1.at) in
+    sym ((c.is_goal.ensures.graph h (v.explored h x)).1 y (c.is_goal.ensures.grows.back c.in-Some.number y inside here)) ∙ c.if-is_goal.true
+
+pub returns-clause-ended : goal.returns-clause-ended
+returns-clause-ended g c =
+    let v = c.turns.invariant in
+    let r = c.requires.graph in
+    rw c.least.ensures.same (ended_all g.C.Number.value c.args.start (g.G.NumberedGraph.step r.0) (only_root c.args.start) _ c.turns.search.labels.items (v.search r.0 r.1 r.2) v.order v.settled (eq-eqb c.args.start c.args.start refl) c.in_default.ensures.least v.first)
+
+pub returns-clause-search : goal.returns-clause-search
+returns-clause-search g c = λ h x p. rw c.least.ensures.same (c.turns.invariant.search h x p)
+
+pub returns-clause-passed : goal.returns-clause-passed
+returns-clause-passed g c = λ h x k l y at s here. c.turns.invariant.failed h x k l y (rw c.least.ensures.same at at) s here

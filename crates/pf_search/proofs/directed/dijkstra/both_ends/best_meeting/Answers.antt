@@ -1,0 +1,227 @@
+use Rattle.std.proofs.Common.{◌≡◌, ℤ, pos, Err, sym, ap, subst, arith, inl, inr, nat_eq}
+use Rattle.std.specs.Prelude.{◌≤ℤ◌}
+use Rattle.pf_core.specs.declared.labels.Label.{Label}
+use Rattle.pf_core.specs.Labels.{by_cost}
+use Rattle.pf_core.specs.Search.{IsLow}
+use Rattle.pf_core.proofs.LabelLemmas.{HasLabel-inside, label_is}
+use Rattle.pf_search.specs.Internal.BothEnds.{bound, IsMeeting}
+use Rattle.pf_search.proofs.BothEndsLemmas.{positive, labelled_node, meeting_swap, pair_swap, ended, past_at}
+use Rattle.pf_search.proofs.BothEndsTurns.{some_map, some_one, none_weaker, both_turned, meeting_turned, bound_about, meets_about, pair_kept, meeting_kept, decided, undecided}
+use Rattle.pf_search.proofs.directed.dijkstra.both_ends.best_meeting.Goals as goal
+
+pub returns-in_default-least-clause-best : goal.returns-in_default-least-clause-best
+returns-in_default-least-clause-best g c = λ edges previous start end x y p.
+    let pair = c.turns.invariant.pair edges previous start end x y p in
+    rw (c.in-Some.ensures.same, c.in_default-least.ensures.same) (
+      pair,
+      ended g.N.PartialEq.eq g.met.N.Eq.laws g.C.Number.value g.C.Number.fits edges previous start end _ _ _ _ (g.C.Number.value g.C.Cost.greatest) (λ z f. ((g.met.C.Cost.range_law z).0 f).1) c.turns.best pair (inr c.in_default-least.ensures.least),
+    )
+
+pub label_of-requires : goal.label_of-requires
+label_of-requires g c = let z = c.in-Some.ensures.least in rw c.in-Some.ensures.same (z.0, z.1.at)
+
+pub label_of-requires-in-Some : goal.label_of-requires-in-Some
+label_of-requires-in-Some g c = let z = c.in-Some-least.ensures.least in rw c.in-Some-least.ensures.same (z.0, z.1.at)
+
+pub returns-then-is_best-clause-best : goal.returns-then-is_best-clause-best
+returns-then-is_best-clause-best g c = λ edges previous start end x y p.
+    let eq = g.N.PartialEq.eq in
+    let laws = g.met.N.Eq.laws in
+    let value = g.C.Number.value in
+    let pair = c.turns.invariant.pair edges previous start end x y p in
+    let z = c.in-Some.ensures.least in
+    let w = c.in-Some-least.ensures.least in
+    let first : z.0 ≡ c.label_of.result = label_is c.turns.forth.labels.items c.in-Some.number z.0 c.label_of.result z.1.at (rw c.in-Some.ensures.same at c.label_of.ensures) in
+    let second : w.0 ≡ c.label_of-in-Some.result = label_is c.turns.back.labels.items c.in-Some-least.across w.0 c.label_of-in-Some.result w.1.at (rw c.in-Some-least.ensures.same at c.label_of-in-Some.ensures) in
+    let low : IsLow (by_cost value) c.turns.forth.labels.items (value c.label_of.result.cost) = subst (λ (l : Label g.row.C.Denot). IsLow (by_cost value) c.turns.forth.labels.items (value l.cost)) first z.1.least in
+    let low_back : IsLow (by_cost value) c.turns.back.labels.items (value c.label_of-in-Some.result.cost) = subst (λ (l : Label g.row.C.Denot). IsLow (by_cost value) c.turns.back.labels.items (value l.cost)) second w.1.least in
+    let nonneg : pos 0 ≤ℤ value c.label_of-in-Some.result.cost = (labelled_node eq laws value g.C.Number.fits previous end _ _ pair.back c.in-Some-least.across c.label_of-in-Some.result (rw c.in-Some-least.ensures.same at c.label_of-in-Some.ensures)).3 in
+    rw (c.in-Some.ensures.same, c.in-Some-least.ensures.same) (
+      pair,
+      decided eq laws value g.C.Number.fits edges previous start end _ _ _ _ (value g.C.Cost.greatest) c.turns.best pair (value c.label_of.result.cost) (value c.label_of-in-Some.result.cost) low low_back c.is_best.result c.if-is_best.true (c.is_best.ensures.decided nonneg),
+    )
+
+pub turn-requires-clause-least : goal.turn-requires-clause-least
+turn-requires-clause-least g c = rw c.in-Some.ensures.same c.in-Some.ensures.least
+
+pub turn-requires-clause-graph : goal.turn-requires-clause-graph
+turn-requires-clause-graph g c = let r = c.requires.pair in (_, c.turns.invariant.explored_forth _ r.4)
+
+pub returns-in_err-turn-clause-overflow : goal.returns-in_err-turn-clause-overflow
+returns-in_err-turn-clause-overflow g c = λ edges previous start end x y p e.
+    let eq = g.N.PartialEq.eq in
+    let laws = g.met.N.Eq.laws in
+    let value = g.C.Number.value in
+    let v = c.turns.invariant in
+    let pair = v.pair edges previous start end x y p in
+    let z = c.in-Some.ensures.least in
+    let labels = c.turns.forth.labels.items in
+    let first : c.label_of.result ≡ z.0 = label_is labels c.in-Some.number c.label_of.result z.0 (rw c.in-Some.ensures.same at c.label_of.ensures) z.1.at in
+    let nonneg : pos 0 ≤ℤ value c.label_of-in-Some.result.cost = (labelled_node eq laws value g.C.Number.fits previous end _ _ pair.back c.in-Some-least.across c.label_of-in-Some.result (rw c.in-Some-least.ensures.same at c.label_of-in-Some.ensures)).3 in
+    let d = c.in_err-turn.ensures.overflow (ap Err (sym (rw e at c.from_residual.ensures.1))) _ (v.explored_forth _ x) in
+    past_at eq laws value g.C.Number.fits edges previous start end _ _ _ _ (bound value (value g.C.Cost.greatest) c.turns.best) pair c.in-Some.number z.0 z.1
+    (λ q f less le. undecided eq laws value g.C.Number.fits (value g.C.Cost.greatest) (λ t k. ((g.met.C.Cost.range_law t).0 k).1) c.turns.best (value c.label_of.result.cost) (value c.label_of-in-Some.result.cost) nonneg c.is_best.result c.if-is_best.false (c.is_best.ensures.decided nonneg) q f less
+    (subst (λ (l : Label g.row.C.Denot). q ≤ℤ value l.cost) (sym first) le))
+    (λ n st. d n st z.0 (rw c.in-Some.ensures.same z.1.at)) (omega (arith, HasLabel-inside labels c.in-Some.number z.0 z.1.at, v.wide_forth))
+
+pub meeting_at-found-requires-clause-inside : goal.meeting_at-found-requires-clause-inside
+meeting_at-found-requires-clause-inside g c = let z = c.in-Some.ensures.least in omega (arith, HasLabel-inside c.turns.forth.labels.items c.in-Some.number z.0 z.1.at, c.turns.invariant.wide_forth, c.in_ok-turn.ensures.grows.more)
+
+pub meeting_at-found-requires-clause-labelled : goal.meeting_at-found-requires-clause-labelled
+meeting_at-found-requires-clause-labelled g c = let z = c.in-Some.ensures.least in let t = c.in_ok-turn.ensures.turned z.0 (rw c.in-Some.ensures.same z.1.at) in (_, t.done)
+
+pub meeting_at-found-requires-clause-one : goal.meeting_at-found-requires-clause-one
+meeting_at-found-requires-clause-one g c = let r = c.requires.pair in let p = c.turns.invariant.pair r.0 r.1 r.2 r.3 r.4 r.5 r.6 in p.back.one
+
+pub turns-preserved-then-len : goal.turns-preserved-then-len
+turns-preserved-then-len g c =
+    let eq = g.N.PartialEq.eq in
+    let laws = g.met.N.Eq.laws in
+    let value = g.C.Number.value in
+    let fits = g.C.Number.fits in
+    let top = g.C.Number.value g.C.Cost.greatest in
+    let v = c.turns.invariant in
+    let r = c.requires.pair in
+    let z = c.in-Some.ensures.least in
+    let labels = c.turns.forth.labels.items in
+    let labels' = c.turns.back.labels.items in
+    let keys = c.turns.graph.forth.nodes.keys in
+    let others = c.turns.graph.back.nodes.keys in
+    let keys2 = c.turn.new.graph.nodes.keys in
+    let labels2 = c.turn.new.self.labels.items in
+    let same = c.in-Some.ensures.same in
+    let same' = c.in-Some-least.ensures.same in
+    let e = c.in_ok-turn.ensures in
+    let t = rw same at (e.turned z.0 (rw same z.1.at)) in
+    let number = c.in-Some.number in
+    let found = c.meeting_at-found in
+    let chosen = c.cheaper-best in
+    let first : c.label_of.result ≡ z.0 = label_is labels number c.label_of.result z.0 (rw same at c.label_of.ensures) z.1.at in
+    let fit : fits (value z.0.cost) = subst (λ (l : Label g.row.C.Denot). fits (value l.cost)) first c.is_best.ensures.fit.0 in
+    let p0 = v.pair r.0 r.1 r.2 r.3 r.4 r.5 r.6 in
+    let x0 = e.graph _ (v.explored_forth _ r.4) in
+    let s0 = e.search _ (v.explored_forth _ r.4) (positive eq laws value fits r.0 r.2 keys labels p0.forth) (λ k. nat_eq k 0) (rw same (p0.forth).search) in
+    record {
+      sound_forth = e.sound;
+      sound_back = c.in-Some-least.ensures.sound;
+      wide_forth = e.wide;
+      wide_back = rw same' v.wide_back;
+      explored_forth = λ h x. e.graph h (v.explored_forth h x);
+      explored_back = v.explored_back;
+      meets = rw same' (some_one (IsMeeting eq value keys2 others labels2 labels') chosen.result c.turns.best found.result chosen.ensures.one
+          (some_map (IsMeeting eq value keys others labels labels') (IsMeeting eq value keys2 others labels2 labels') (λ m h. meeting_turned eq laws value fits r.0 r.1 r.2 r.3 keys others labels labels' _ p0 keys2 e.grows x0.distinct labels2 s0 e.sound.tree number z.0 t fit m h) c.turns.best v.meets)
+          (some_map _ _ (λ m h. h.1) found.result (rw same' at found.ensures.meets)));
+      pair = λ edges previous start end x y p.
+          let pair = v.pair edges previous start end x y p in
+          let explored = e.graph _ (v.explored_forth _ x) in
+          let searched = e.search _ (v.explored_forth _ x) (positive eq laws value fits edges start keys labels pair.forth) (λ k. nat_eq k 0) (rw same (pair.forth).search) in
+          rw same' (both_turned eq laws value fits edges previous start end keys others labels labels' (bound value top c.turns.best) pair keys2 e.grows explored.distinct labels2 searched e.sound.tree number z.0 t fit v.wide_forth z.1.at (bound value top chosen.result) chosen.ensures.best
+          (none_weaker eq value keys2 others labels2 labels' (bound value top found.result) (bound value top chosen.result) number chosen.ensures.other (rw same' at found.ensures.low)));
+    }
+
+pub turn-requires-else-len-clause-least : goal.turn-requires-else-len-clause-least
+turn-requires-else-len-clause-least g c = rw c.in-Some-least.ensures.same c.in-Some-least.ensures.least
+
+pub turn-requires-else-len-clause-graph : goal.turn-requires-else-len-clause-graph
+turn-requires-else-len-clause-graph g c = let r = c.requires.pair in (_, c.turns.invariant.explored_back _ r.5)
+
+pub meeting_at-found-requires-in-Ok-clause-inside : goal.meeting_at-found-requires-in-Ok-clause-inside
+meeting_at-found-requires-in-Ok-clause-inside g c = let z = c.in-Some-least.ensures.least in omega (arith, HasLabel-inside c.turns.back.labels.items c.in-Some-least.across z.0 z.1.at, c.turns.invariant.wide_back, c.in-Ok.ensures.grows.more)
+
+pub meeting_at-found-requires-in-Ok-clause-labelled : goal.meeting_at-found-requires-in-Ok-clause-labelled
+meeting_at-found-requires-in-Ok-clause-labelled g c = let z = c.in-Some-least.ensures.least in let t = c.in-Ok.ensures.turned z.0 (rw c.in-Some-least.ensures.same z.1.at) in (_, t.done)
+
+pub meeting_at-found-requires-in-Ok-clause-one : goal.meeting_at-found-requires-in-Ok-clause-one
+meeting_at-found-requires-in-Ok-clause-one g c = let r = c.requires.pair in let p = c.turns.invariant.pair r.0 r.1 r.2 r.3 r.4 r.5 r.6 in p.forth.one
+
+pub turns-preserved-in-Ok : goal.turns-preserved-in-Ok
+turns-preserved-in-Ok g c =
+    let eq = g.N.PartialEq.eq in
+    let laws = g.met.N.Eq.laws in
+    let value = g.C.Number.value in
+    let fits = g.C.Number.fits in
+    let top = g.C.Number.value g.C.Cost.greatest in
+    let v = c.turns.invariant in
+    let r = c.requires.pair in
+    let z = c.in-Some-least.ensures.least in
+    let labels = c.turns.forth.labels.items in
+    let labels' = c.turns.back.labels.items in
+    let keys = c.turns.graph.forth.nodes.keys in
+    let others = c.turns.graph.back.nodes.keys in
+    let others2 = c.turn-else-len.new.graph.nodes.keys in
+    let labels2 = c.turn-else-len.new.self.labels.items in
+    let same = c.in-Some.ensures.same in
+    let same' = c.in-Some-least.ensures.same in
+    let e = c.in-Ok.ensures in
+    let t = rw same' at (e.turned z.0 (rw same' z.1.at)) in
+    let number = c.in-Some-least.across in
+    let found = c.meeting_at-found-in-Ok in
+    let about = c.turned_about in
+    let chosen = c.cheaper-best-in-Ok in
+    let first : c.label_of-in-Some.result ≡ z.0 = label_is labels' number c.label_of-in-Some.result z.0 (rw same' at c.label_of-in-Some.ensures) z.1.at in
+    let fit : fits (value z.0.cost) = subst (λ (l : Label g.row.C.Denot). fits (value l.cost)) first c.is_best.ensures.fit.1 in
+    let p0 = v.pair r.0 r.1 r.2 r.3 r.4 r.5 r.6 in
+    let x0 = e.graph _ (v.explored_back _ r.5) in
+    let s0 = e.search _ (v.explored_back _ r.5) (positive eq laws value fits r.1 r.3 others labels' p0.back) (λ k. nat_eq k 0) (rw same' (p0.back).search) in
+    let q0 = pair_swap eq laws value fits r.0 r.1 r.2 r.3 keys others labels labels' _ p0 in
+    record {
+      sound_forth = c.in-Some.ensures.sound;
+      sound_back = e.sound;
+      wide_forth = rw same v.wide_forth;
+      wide_back = e.wide;
+      explored_forth = v.explored_forth;
+      explored_back = λ h x. e.graph h (v.explored_back h x);
+      meets = rw same (some_one (IsMeeting eq value keys others2 labels labels2) chosen.result c.turns.best about.result chosen.ensures.one
+          (some_map (IsMeeting eq value keys others labels labels') (IsMeeting eq value keys others2 labels labels2)
+          (λ m h. meeting_swap eq laws value fits others2 keys labels2 labels _ (meeting_turned eq laws value fits r.1 r.0 r.3 r.2 others keys labels' labels _ q0 others2 e.grows x0.distinct labels2 s0 e.sound.tree number z.0 t fit _ (meeting_swap eq laws value fits keys others labels labels' m h))) c.turns.best v.meets)
+          (meets_about eq laws value fits keys others2 labels labels2 found.result about.result about.ensures (some_map _ _ (λ m h. h.1) found.result (rw same at found.ensures.meets))));
+      pair = λ edges previous start end x y p.
+          let pair = v.pair edges previous start end x y p in
+          let swapped = pair_swap eq laws value fits edges previous start end keys others labels labels' (bound value top c.turns.best) pair in
+          let explored = e.graph _ (v.explored_back _ y) in
+          let searched = e.search _ (v.explored_back _ y) (positive eq laws value fits previous end others labels' pair.back) (λ k. nat_eq k 0) (rw same' (pair.back).search) in
+          let low : bound value top chosen.result ≤ℤ bound value top found.result = subst (λ (n : ℤ). bound value top chosen.result ≤ℤ n) (bound_about eq laws value fits top found.result about.result about.ensures) chosen.ensures.other in
+          rw same (pair_swap eq laws value fits previous edges end start others2 keys labels2 labels (bound value top chosen.result)
+          (both_turned eq laws value fits previous edges end start others keys labels' labels (bound value top c.turns.best) swapped others2 e.grows explored.distinct labels2 searched e.sound.tree number z.0 t fit v.wide_back z.1.at (bound value top chosen.result) chosen.ensures.best
+          (none_weaker eq value others2 keys labels2 labels (bound value top found.result) (bound value top chosen.result) number low (rw same at found.ensures.low))));
+    }
+
+pub turns-preserved : goal.turns-preserved
+turns-preserved g c =
+    let eq = g.N.PartialEq.eq in
+    let laws = g.met.N.Eq.laws in
+    let value = g.C.Number.value in
+    let fits = g.C.Number.fits in
+    let top = g.C.Number.value g.C.Cost.greatest in
+    let v = c.turns.invariant in
+    let r = c.requires.pair in
+    let labels = c.turns.forth.labels.items in
+    let labels' = c.turns.back.labels.items in
+    let keys = c.turns.graph.forth.nodes.keys in
+    let others = c.turns.graph.back.nodes.keys in
+    let others2 = c.turn-else-len.new.graph.nodes.keys in
+    let same = c.in-Some.ensures.same in
+    let same' = c.in-Some-least.ensures.same in
+    let e = c.in-Err-CostOverflow.ensures in
+    let kept : c.turn-else-len.new.self.labels.items ≡ labels' = rw same' at e.kept.1 in
+    record {
+      sound_forth = c.in-Some.ensures.sound;
+      sound_back = e.sound;
+      wide_forth = rw same v.wide_forth;
+      wide_back = e.wide;
+      explored_forth = v.explored_forth;
+      explored_back = λ h x. e.graph h (v.explored_back h x);
+      meets = rw (same, kept) (some_map (IsMeeting eq value keys others labels labels') (IsMeeting eq value keys others2 labels labels') (λ m h. meeting_kept eq laws value fits r.0 r.1 r.2 r.3 keys others labels labels' others2 e.grows m h) c.turns.best v.meets);
+      pair = λ edges previous start end x y p.
+          let pair = v.pair edges previous start end x y p in
+          let explored = e.graph _ (v.explored_back _ y) in
+          rw (same, kept) (pair_kept eq laws value fits edges previous start end keys others labels labels' (bound value top c.turns.best) pair others2 e.grows explored.distinct v.wide_back);
+    }
+
+pub returns-clause-best : goal.returns-clause-best
+returns-clause-best g c = λ edges previous start end x y p.
+    let pair = c.turns.invariant.pair edges previous start end x y p in
+    rw c.in_default.ensures.same (
+      pair,
+      ended g.N.PartialEq.eq g.met.N.Eq.laws g.C.Number.value g.C.Number.fits edges previous start end _ _ _ _ (g.C.Number.value g.C.Cost.greatest) (λ z f. ((g.met.C.Cost.range_law z).0 f).1) c.turns.best pair (inl c.in_default.ensures.least),
+    )

@@ -1,0 +1,65 @@
+use Rattle.std.proofs.Common.{◌≡◌, ◌<◌, ◌+◌, ℕ, pos, subst, arith, Some, slice_get, inl, inr}
+use Rattle.std.specs.Prelude.{◌⊎◌, ◌+ℤ◌}
+use Rattle.std.proofs.lemmas.Int.{ints}
+use Rattle.std.proofs.lemmas.Option.{slice_get_within}
+use Rattle.pf_core.specs.Labels.{IsChain}
+use Rattle.pf_search.specs.Internal.BothEnds.{NoneBelowAt}
+use Rattle.pf_search.proofs.BothEndsChains.{chain_labelled, chain_last, chain_front, take_inside, last_of_take}
+use Rattle.pf_search.proofs.directed.dijkstra.both_ends.halves_of.Goals as goal
+
+pub path_to-requires-clause-labelled : goal.path_to-requires-clause-labelled
+path_to-requires-clause-labelled g c = let w = c.requires.meets in rw c.deref.ensures.value (w.here, w.labelled_here)
+
+pub first_on-first-requires-clause-inside : goal.first_on-first-requires-clause-inside
+first_on-first-requires-clause-inside g c = λ k h.
+    let inside = rw c.deref.ensures.value at c.in_ok-numbers.ensures.inside in
+    subst (λ (n : ℕ). k < n) c.requires.wide_forth (inside k (rw c.deref-2.ensures.value at h))
+
+pub first_on-first-requires-clause-labelled : goal.first_on-first-requires-clause-labelled
+first_on-first-requires-clause-labelled g c = λ k h.
+    chain_labelled c.args.forth.now.labels.items c.args.best.here c.in_ok-numbers.numbers.items (rw c.deref.ensures.value at c.in_ok-numbers.ensures.chain) k (rw c.deref-2.ensures.value at h)
+
+pub unreachable-requires : goal.unreachable-requires
+unreachable-requires g c =
+    let w = c.requires.meets in
+    let last = chain_last c.args.forth.now.labels.items c.args.best.here c.in_ok-numbers.numbers.items (rw c.deref.ensures.value at c.in_ok-numbers.ensures.chain) in
+    let low = c.in_default.ensures.first c.args.best.here (rw c.deref-2.ensures.value last) c.args.best.across w.here w.across w.node w.stands_here w.stands_across w.labelled_here w.labelled_across
+    (c.requires.costs c.args.best.here w.here (inl w.labelled_here)) (c.requires.costs c.args.best.across w.across (inr w.labelled_across)) in
+    omega (arith, ints, low, w.sum)
+
+pub overflow_add-place : goal.overflow_add-place
+overflow_add-place g c =
+    let numbers = c.in_ok-numbers.numbers in
+    let at : slice_get numbers.items c.in-Some.place ≡ Some c.in-Some.meeting.here = rw c.deref-2.ensures.value at (c.in-Some.ensures.first.0) in
+    omega (arith, slice_get_within numbers.items c.in-Some.place c.in-Some.meeting.here at, numbers.small, numbers.ok)
+
+pub path_to-requires-2-clause-labelled : goal.path_to-requires-2-clause-labelled
+path_to-requires-2-clause-labelled g c = let w = c.in-Some.ensures.first.1 in rw c.deref-3.ensures.value (w.across, w.labelled_across)
+
+pub returns-clause-halves : goal.returns-clause-halves
+returns-clause-halves g c =
+    let numbers = c.in_ok-numbers.numbers.items in
+    let place = c.in-Some.place in
+    let here = c.in-Some.meeting.here in
+    let f = rw c.deref-2.ensures.value at c.in-Some.ensures.first in
+    let at : slice_get numbers place ≡ Some here = f.0 in
+    let chain : IsChain c.args.forth.now.labels.items c.args.best.here numbers = rw c.deref.ensures.value at c.in_ok-numbers.ensures.chain in
+    rw c.truncate.ensures.items (record {
+      meeting = c.in-Some.meeting;
+      meets = f.1;
+      low = f.2;
+      chain = chain_front c.args.forth.now.labels.items c.args.best.here numbers chain place here at;
+      chain_back = rw c.deref-3.ensures.value at c.in_ok-back_numbers.ensures.chain;
+      first = λ k h. elim (last_of_take numbers place here at k h) as (λ _. (k ≡ here) ⊎ NoneBelowAt g.N.PartialEq.eq g.C.Number.value c.args.graph.now.forth.nodes.keys c.args.graph.now.back.nodes.keys c.args.forth.now.labels.items c.args.back.now.labels.items (g.C.Number.value c.args.best.cost +ℤ pos 1) k) [
+        | inl e ↦ inl e
+        | inr r ↦ inr (f.3 k r)
+      ];
+    })
+
+pub returns-clause-inside : goal.returns-clause-inside
+returns-clause-inside g c =
+    let inside = rw c.deref.ensures.value at c.in_ok-numbers.ensures.inside in
+    let inside_back = rw c.deref-3.ensures.value at c.in_ok-back_numbers.ensures.inside in (
+      λ k h. subst (λ (n : ℕ). k < n) c.requires.wide_forth (inside k (take_inside c.in_ok-numbers.numbers.items (c.in-Some.place + 1) k (rw c.truncate.ensures.items at h))),
+      λ k h. subst (λ (n : ℕ). k < n) c.requires.wide_back (inside_back k h),
+    )

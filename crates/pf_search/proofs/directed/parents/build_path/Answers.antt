@@ -1,0 +1,27 @@
+use Rattle.std.proofs.Common.{ap, ◌∙◌, arith, length}
+use Rattle.pf_search.proofs.ParentLemmas.{length_end, climbed_first, climbed_more, climbed_length, climbed_chain, chain_alone}
+use Rattle.pf_search.proofs.directed.parents.build_path.Goals as goal
+
+pub climb-init : goal.climb-init
+climb-init g c = record {
+  climbed = climbed_first g.N.PartialEq.eq g.met.N.Eq.laws c.args.parents.now c.args.target.now c.in_ok-clone.field-0 (c.requires.clones c.args.target.now _ c.in_ok-clone.ensures.cases) c.push.new.self.items (rw c.new-path.ensures.items at c.in_ok-push.ensures.items);
+}
+
+pub climb-smaller : goal.climb-smaller
+climb-smaller g c =
+    let h = c.in-Some.ensures in
+    omega (arith, ap length c.in_ok-push-2.ensures.items ∙ length_end c.climb.path.items c.in_ok-clone-2.field-0, climbed_length g.N.PartialEq.eq g.met.N.Eq.laws c.args.parents.now c.args.target.now c.climb.at.now c.climb.path.items c.climb.invariant.climbed c.requires.no_ring (c.in-Some.parent.now, h.0, h.1))
+
+pub climb-preserved : goal.climb-preserved
+climb-preserved g c =
+    let h = c.in-Some.ensures in
+    record {
+      climbed = climbed_more g.N.PartialEq.eq g.met.N.Eq.laws c.args.parents.now c.args.target.now c.climb.at.now c.in-Some.parent.now c.in_ok-clone-2.field-0 h.0 c.climb.path.items _ c.climb.invariant.climbed h.1
+          (c.requires.clones c.in-Some.parent.now _ c.in_ok-clone-2.ensures.cases) c.in_ok-push-2.ensures.items;
+    }
+
+pub returns-clause-chain : goal.returns-clause-chain
+returns-clause-chain g c = rw c.reverse.ensures.items (climbed_chain g.N.PartialEq.eq g.met.N.Eq.laws c.args.parents.now c.args.target.now c.climb.at.now c.climb.path.items c.climb.invariant.climbed c.in_default.ensures)
+
+pub returns-clause-alone : goal.returns-clause-alone
+returns-clause-alone g c = chain_alone g.N.PartialEq.eq g.met.N.Eq.laws c.args.parents.now c.args.target.now _ (returns-clause-chain g c)

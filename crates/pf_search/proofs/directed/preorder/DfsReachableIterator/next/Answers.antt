@@ -1,0 +1,22 @@
+use Rattle.std.proofs.Common.{sym, ap, length, ◌∙◌}
+use Rattle.pf_search.specs.DepthWalks.{DepthWalk}
+use Rattle.pf_search.specs.Internal.Breadth.{found_or}
+use Rattle.pf_search.proofs.DepthWalkLemmas.{any_some, step_of, goes_again}
+use Rattle.pf_search.proofs.directed.preorder.DfsReachableIterator.next.Goals as goal
+
+pub returns-clause-steps : goal.returns-clause-steps
+returns-clause-steps g c = λ next start paths w.
+    let e = rw (← c.self-2.view_is) at (c.step-step.ensures.walks next start paths w) in
+    let h = sym (ap (λ (v : DepthWalk g.row.N.Denot g.row.FN.Denot). v.refused) c.self.view_is) ∙ c.if-self.false in
+    let i = c.self-2.inside in
+    let m : DepthWalk g.row.N.Denot g.row.FN.Denot = record { found = found_or i.start i.graph.nodes.keys; given = length i.walk.given.items; visited = i.walk.visited.items; path = i.walk.path.items; waiting = i.walk.waiting.items; refused = i.refused; successors = i.graph.successors } in
+    rw (c.transpose.ensures, c.is_err-self-inside.ensures.value) (step_of g.N.PartialEq.eq g.met.N.Eq.laws _ _ _ _ _ next start paths c.args.self.now m c.step-step.result w c.step-step.ensures.refused h e)
+
+pub returns-clause-again : goal.returns-clause-again
+returns-clause-again g c =
+    let r = c.requires in
+    let a = goes_again g.N.PartialEq.eq g.met.N.Eq.laws _ _ _ _ _ r.1.0 r.1.1 r.1.2 c.args.self.now _ c.transpose.result (returns-clause-steps g c r.1.0 r.1.1 r.1.2 r.1.3) in
+    (r.0, (r.1.0, r.1.1, a.0, a.1))
+
+pub returns-clause-goes : goal.returns-clause-goes
+returns-clause-goes g c = record { on = λ f. absurd f; keeps = any_some c.transpose.result (returns-clause-again g c); rests = λ f. absurd f }

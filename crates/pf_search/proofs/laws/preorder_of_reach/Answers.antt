@@ -1,0 +1,11 @@
+use Rattle.pf_search.proofs.PreorderLemmas.{walked, given_reachable, whole_reach}
+use Rattle.pf_search.proofs.laws.preorder_of_reach.Goals as goal
+
+pub returns-clause-reachable : goal.returns-clause-reachable
+returns-clause-reachable g c = λ next start paths p. given_reachable g.N.PartialEq.eq g.met.N.Eq.laws next start paths p
+
+pub returns-clause-once : goal.returns-clause-once
+returns-clause-once g c = λ next start paths p. (walked g.N.PartialEq.eq g.met.N.Eq.laws next start paths p).once
+
+pub returns-clause-whole : goal.returns-clause-whole
+returns-clause-whole g c = λ next start paths p e alike. whole_reach g.N.PartialEq.eq g.met.N.Eq.laws next start alike paths p e

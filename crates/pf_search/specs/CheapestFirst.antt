@@ -1,0 +1,110 @@
+-- What contracts say of a lazy walk by rising cost.
+use Rattle.std.specs.Prelude.{◌≡◌, ◌⊎◌, ◌↔◌, ◌≤ℤ◌, ◌+ℤ◌, ℕ, ℤ, pos, Bool, true, false, List, [], ◌∷◌, Option, Some, None, Result, Ok, Err, MatchOption, nat_eq, refl}
+use Rattle.std.specs.Coded.{Coded, code_by, coded×, coded_bool, coded_ℕ, coded_list, coded_option}
+use Rattle.pf_base.specs.declared.error.PathError.{PathError}
+use Rattle.pf_base.specs.Edges.{InReach, StepCosts, HasNoNegativeCost, NoGoalWalkCostsLess, IsCheapestGoalPath}
+use Rattle.pf_core.specs.declared.labels.Label.{Label}
+use Rattle.pf_core.specs.Labels.{Labels, HasLabel, by_cost}
+use Rattle.pf_core.specs.Nodes.{NodeGraph, StandsFor, IsStep}
+use Rattle.pf_core.specs.Search.{IsSearch}
+use Rattle.pf_search.specs.declared.directed.cheapest_first.DijkstraReachableItem.{DijkstraReachableItem}
+
+-- what a caller sees of a walk: the nodes found so far; for each, by its place, the least cost that was found and whether the node was given; whether the last step was refused; and the function that lists edges
+pub record CheapestWalk (N C F : Type 0) : Type 0 where
+  pub nodes : List N
+  pub labels : Labels C
+  pub refused : Bool
+  pub successors : F
+
+abbrev label_code : {C : Type 0} → Coded C → Coded (Label C)
+label_code {C} c = code_by (C × (ℕ × (ℕ × Bool))) (coded× c (coded× coded_ℕ (coded× coded_ℕ coded_bool))) (λ l. (l.cost, (l.parent, (l.depth, l.settled)))) (λ p. record { cost = p.0; parent = p.1.0; depth = p.1.1.0; settled = p.1.1.1 }) (λ _. refl)
+
+abbrev pub cheapest_walk_code : {N C F : Type 0} → Coded N → Coded C → Coded F → Coded (CheapestWalk N C F)
+cheapest_walk_code {N} {C} {F} n c f = code_by (List N × (Labels C × (Bool × F))) (coded× (coded_list n) (coded× (coded_list (coded_option (label_code c))) (coded× coded_bool f))) (λ w. (w.nodes, (w.labels, (w.refused, w.successors))))
+    (λ p. record { nodes = p.0; labels = p.1.0; refused = p.1.1.0; successors = p.1.1.1 }) (λ _. refl)
+
+module _ {N C F : Type 0} (eq : N → N → Bool) where
+  -- the node was given, at this cost
+  abbrev pub IsGiven : CheapestWalk N C F → N → C → Type 0
+  IsGiven walk x cost = (k : ℕ) × (l : Label C) × StandsFor eq walk.nodes k x × HasLabel walk.labels k l × (l.settled ≡ true) × (l.cost ≡ cost)
+
+  -- the node was not given
+  abbrev pub IsNew : CheapestWalk N C F → N → Type 0
+  IsNew walk x = (cost : C) → ¬ (IsGiven walk x cost)
+
+  -- what was given later was given before
+  abbrev pub GivesNoMore : CheapestWalk N C F → CheapestWalk N C F → Type 0
+  GivesNoMore walk after = (x : N) (cost : C) → IsGiven after x cost ↔ IsGiven walk x cost
+
+  -- what was given later was given before, or is this item
+  abbrev pub GivesMore : CheapestWalk N C F → DijkstraReachableItem N C → CheapestWalk N C F → Type 0
+  GivesMore walk item after = (x : N) (cost : C) → IsGiven after x cost ↔ (IsGiven walk x cost ⊎ ((eq item.node x ≡ true) × (item.total_cost ≡ cost)))
+
+  module _ (value : C → ℤ) (edges : N → List (N × ℤ)) (start : N) where
+    -- The walk is one of this graph from this start: its function answers the graph in reach, where no edge costs less than 0, the start was found first, and the labels are those of a search by rising cost from it.
+    pub record IsCheapestWalk (explores : NodeGraph N → List N → F → Type 0) (walk : CheapestWalk N C F) : Type 0 where
+      pub explored : explores (record { starts = start ∷ []; edges = edges }) walk.nodes walk.successors
+      pub costs : HasNoNegativeCost eq edges (start ∷ [])
+      pub begins : (x : N) → StandsFor eq walk.nodes 0 x ↔ (eq start x ≡ true)
+      pub search : IsSearch (by_cost value) (IsStep eq (record { starts = start ∷ []; edges = edges })) (λ k. nat_eq k 0) (StandsFor eq walk.nodes) walk.labels
+
+    -- no walk to a node that was not given costs less than t
+    abbrev pub NoNewNodeBelow : CheapestWalk N C F → ℤ → Type 0
+    NoNewNodeBelow walk t = (x : N) → IsNew walk x → NoGoalWalkCostsLess eq edges (start ∷ []) (λ y. eq y x) t
+
+    -- the parent was given, and its cost and one step to the node, by the cheapest parallel edge, sum to t
+    pub record IsBehind (walk : CheapestWalk N C F) (parent node : N) (t : ℤ) : Type 0 where
+      pub cost : C
+      pub given : IsGiven walk parent cost
+      pub price : ℤ
+      pub step : StepCosts eq edges parent node price
+      pub sum : t ≡ value cost +ℤ price
+
+    -- The next node by rising cost: it was not given, its cost is that of a cheapest path, no given node costs more, and no other node that was not given costs less; the start costs nothing and has no parent, and each other node has one.
+    pub record IsNextByCost (walk : CheapestWalk N C F) (item : DijkstraReachableItem N C) : Type 0 where
+      pub new : IsNew walk item.node
+      pub path : List N
+      pub cheapest : IsCheapestGoalPath eq edges (start ∷ []) (λ y. eq y item.node) path (value item.total_cost)
+      pub rising : (x : N) (cost : C) → IsGiven walk x cost → value cost ≤ℤ value item.total_cost
+      pub none_cheaper : NoNewNodeBelow walk (value item.total_cost)
+      pub behind : MatchOption item.parent ((eq start item.node ≡ true) × (value item.total_cost ≡ pos 0)) (λ parent. IsBehind walk parent item.node (value item.total_cost))
+
+    -- A cheapest path to a cheapest node that was not given, and one step more, by the cheapest parallel edge, do not fit.
+    pub record IsNextPastRange (fits : ℤ → Type 0) (walk : CheapestWalk N C F) : Type 0 where
+      pub node : N
+      pub new : IsNew walk node
+      pub path : List N
+      pub cost : ℤ
+      pub cheapest : IsCheapestGoalPath eq edges (start ∷ []) (λ y. eq y node) path cost
+      pub none_cheaper : NoNewNodeBelow walk cost
+      pub next : N
+      pub price : ℤ
+      pub step : StepCosts eq edges node next price
+      pub past : ¬ (fits (cost +ℤ price))
+
+    -- each node in reach was given
+    abbrev pub AllGiven : CheapestWalk N C F → Type 0
+    AllGiven walk = (x : N) → InReach eq edges (start ∷ []) x → (cost : C) × IsGiven walk x cost
+
+    -- some node in reach was not given
+    abbrev pub IsLeft : CheapestWalk N C F → Type 0
+    IsLeft walk = (x : N) × InReach eq edges (start ∷ []) x × IsNew walk x
+
+    -- why a step may be refused: for want of memory, or since a cost does not fit
+    abbrev pub RefusedFor : (ℤ → Type 0) → CheapestWalk N C F → PathError → Type 0
+    RefusedFor fits walk refusal = (refusal ≡ PathError.OutOfMemory) ⊎ ((refusal ≡ PathError.CostOverflow) × IsNextPastRange fits walk)
+
+    -- what a step of a walk that was not refused before gives, and how it leaves the walk: an item, no item, or a refusal
+    abbrev pub CheapestTurn : (ℤ → Type 0) → CheapestWalk N C F → Result (Option (DijkstraReachableItem N C)) PathError → CheapestWalk N C F → Type 0
+    CheapestTurn fits walk (Ok (Some item)) after = IsNextByCost walk item × GivesMore walk item after
+    CheapestTurn fits walk (Ok None) after = AllGiven walk × (after ≡ walk)
+    CheapestTurn fits walk (Err refusal) after = RefusedFor fits walk refusal × IsLeft walk × GivesNoMore walk after
+
+    -- What a call of `next` gives, and how it leaves the walk.
+    -- an item: the next by rising cost, which is one of the given ones from then on
+    -- no item: the last step was refused, or each node in reach was given; the walk stays as it was
+    -- a refusal, which can come only where a node is left to give: the given nodes stay as they were
+    abbrev pub CheapestStep : (ℤ → Type 0) → CheapestWalk N C F → Option (Result (DijkstraReachableItem N C) PathError) → CheapestWalk N C F → Type 0
+    CheapestStep fits walk (Some (Ok item)) after = (walk.refused ≡ false) × (after.refused ≡ false) × IsNextByCost walk item × GivesMore walk item after
+    CheapestStep fits walk None after = ((walk.refused ≡ true) ⊎ AllGiven walk) × (after ≡ walk)
+    CheapestStep fits walk (Some (Err refusal)) after = (walk.refused ≡ false) × (after.refused ≡ true) × RefusedFor fits walk refusal × IsLeft walk × GivesNoMore walk after

@@ -1,0 +1,6 @@
+-- What only private functions cite.
+pub mod Deepening
+pub mod Breadth
+pub mod Depth
+pub mod Partial
+pub mod BothEnds

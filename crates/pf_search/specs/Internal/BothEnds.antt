@@ -1,0 +1,78 @@
+-- What contracts of private functions say of a search by rising cost from both ends.
+use Rattle.std.specs.Prelude.{◌≡◌, ◌⊎◌, ◌↔◌, ◌≤ℤ◌, ◌+ℤ◌, ℕ, ℤ, pos, Bool, true, List, [], ◌∷◌, Option, Some, None, nat_eq, Contains}
+use Rattle.pf_base.specs.Walks.{end_of}
+use Rattle.pf_base.specs.Edges.{InReach, HasNoNegativeCost}
+use Rattle.pf_base.specs.Answers.{ListsEdges}
+use Rattle.pf_core.specs.declared.labels.Label.{Label}
+use Rattle.pf_core.specs.Labels.{Labels, HasLabel, IsTree, IsChain, by_cost}
+use Rattle.pf_core.specs.Nodes.{NodeGraph, StandsFor, IsStep}
+use Rattle.pf_core.specs.Search.{IsSearch}
+use Rattle.pf_core.specs.Steps.{GoesAlong}
+use Rattle.pf_search.specs.declared.directed.dijkstra.both_ends.Meeting.{Meeting}
+use Rattle.pf_search.specs.BothEnds.{IsCostMirror}
+
+-- the graph with these edges, which is searched from one node
+abbrev pub from_one : {N : Type 0} → N → (N → List (N × ℤ)) → NodeGraph N
+from_one start edges = record { starts = start ∷ []; edges = edges }
+
+-- what no walk from end to end undercuts: the cost of the best meeting, or, before there is one, one more than the greatest cost
+abbrev pub bound : {C : Type 0} → (C → ℤ) → ℤ → Option (Meeting C) → ℤ
+bound value greatest None = greatest +ℤ pos 1
+bound value greatest (Some m) = value m.cost
+
+module _ {N C : Type 0} (eq : N → N → Bool) (value : C → ℤ) where
+  -- the two numbers stand for one node, and its labels on both sides sum to no more than the cost
+  pub record IsMeeting (keys others : List N) (labels labels' : Labels C) (m : Meeting C) : Type 0 where
+    pub node : N
+    pub stands_here : StandsFor eq keys m.here node
+    pub stands_across : StandsFor eq others m.across node
+    pub here : Label C
+    pub labelled_here : HasLabel labels m.here here
+    pub across : Label C
+    pub labelled_across : HasLabel labels' m.across across
+    pub sum : (value here.cost +ℤ value across.cost) ≤ℤ value m.cost
+
+  -- the labels that both sides have for the node of the number sum to t at least
+  abbrev pub NoneBelowAt : (keys others : List N) (labels labels' : Labels C) → ℤ → ℕ → Type 0
+  NoneBelowAt keys others labels labels' t j = (k : ℕ) (l m : Label C) (x : N) → StandsFor eq keys j x → StandsFor eq others k x → HasLabel labels j l → HasLabel labels' k m → pos 0 ≤ℤ value l.cost → pos 0 ≤ℤ value m.cost → t ≤ℤ (value l.cost +ℤ value m.cost)
+
+  -- the labels of each node that is settled on one side and labelled on the other sum to t at least
+  abbrev pub IsSeen : (keys others : List N) (labels labels' : Labels C) → ℤ → Type 0
+  IsSeen keys others labels labels' t = (j k : ℕ) (l m : Label C) (x : N) → StandsFor eq keys j x → StandsFor eq others k x → HasLabel labels j l → HasLabel labels' k m → (l.settled ≡ true) ⊎ (m.settled ≡ true) → t ≤ℤ (value l.cost +ℤ value m.cost)
+
+  -- Two chains of numbers that lead to one node, whose labels sum to no more than the cost. The labels of no other node on the first of them do.
+  pub record AreHalves (keys others : List N) (labels labels' : Labels C) (cost : ℤ) (numbers back_numbers : List ℕ) : Type 0 where
+    pub meeting : Meeting C
+    pub meets : IsMeeting keys others labels labels' meeting
+    pub low : value meeting.cost ≤ℤ cost
+    pub chain : IsChain labels meeting.here numbers
+    pub chain_back : IsChain labels' meeting.across back_numbers
+    pub first : (k : ℕ) → Contains numbers k → (k ≡ meeting.here) ⊎ NoneBelowAt keys others labels labels' (cost +ℤ pos 1) k
+
+  module _ (fits : ℤ → Type 0) where
+    -- One of the two searches: its labels are those of a search by rising cost from the node of number 0, which is its start.
+    pub record IsHalf (edges : N → List (N × ℤ)) (start : N) (keys : List N) (labels : Labels C) : Type 0 where
+      pub costs : HasNoNegativeCost eq edges (start ∷ [])
+      pub alike : (x y : N) → InReach eq edges (start ∷ []) x → eq x y ≡ true → ListsEdges eq (λ z. z) (edges x) (edges y)
+      pub one : (i j : ℕ) (x : N) → StandsFor eq keys i x → StandsFor eq keys j x → i ≡ j
+      pub begins : (x : N) → StandsFor eq keys 0 x ↔ (eq start x ≡ true)
+      pub search : IsSearch (by_cost value) (IsStep eq (from_one start edges)) (λ k. nat_eq k 0) (StandsFor eq keys) labels
+      pub tree : IsTree labels
+      pub fit : (k : ℕ) (l : Label C) → HasLabel labels k l → l.settled ≡ true → fits (value l.cost)
+
+    module _ (edges previous : N → List (N × ℤ)) (start end : N) where
+      -- Both searches, of which one mirrors the other, and no meeting is cheaper than t.
+      pub record IsPair (keys others : List N) (labels labels' : Labels C) (t : ℤ) : Type 0 where
+        pub forth : IsHalf edges start keys labels
+        pub back : IsHalf previous end others labels'
+        pub mirror : IsCostMirror eq edges previous start end
+        pub seen : IsSeen keys others labels labels' t
+
+  module _ (edges : N → List (N × ℤ)) (start end : N) where
+    -- no walk leads from the start to the end
+    abbrev pub NoWalkAcross : Type 0
+    NoWalkAcross = (s : N) → eq start s ≡ true → (w : List N) (u : ℤ) → GoesAlong (IsStep eq (from_one start edges)) s w u → ¬ (eq end (end_of s w) ≡ true)
+
+    -- no walk from the start to the end costs less than t
+    abbrev pub NoWalkAcrossBelow : ℤ → Type 0
+    NoWalkAcrossBelow t = (s : N) → eq start s ≡ true → (w : List N) (u : ℤ) → GoesAlong (IsStep eq (from_one start edges)) s w u → eq end (end_of s w) ≡ true → t ≤ℤ u

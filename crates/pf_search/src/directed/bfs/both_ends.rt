@@ -1,0 +1,81 @@
+//! Paths with fewest edges, searched from both ends.
+
+ghost use Rattle.std.specs.Prelude.{◌≡◌, List, IfOk, IfErr, MatchOption};
+ghost use Rattle.pf_base.specs.Walks.{HasNoGoalWalk};
+ghost use Rattle.pf_base.specs.Successors.{HasSuccessor, IsFewestEdgesGoalPath};
+ghost use Rattle.pf_base.specs.Mirrors.{is_among, IsSearchFromBothEnds};
+ghost use Rattle.pf_base.specs.Answers.{IsLawfulClone};
+
+use pf_base::{NodeRefs, PathError, SuccessorFunction};
+use pf_core::both_ends::fewest_edges_between;
+use pf_core::discovery::{Discovery, Unweighted, clones_of};
+use pf_core::two_sided::TwoSided;
+use std::alloc::Allocator;
+use std::hash::Hash;
+use std::marker::PhantomData;
+
+/// A path with fewest edges from one of the `starts` to one of the `ends`, or `None` exactly where no
+/// walk leads from a start to an end.
+///
+/// `successors` lists the nodes that follow a node, `predecessors` those that precede it, and each
+/// must mirror the other: b is among the successors of a exactly where a is among the predecessors of
+/// b. Both must answer alike for equal nodes at every call; `successors` is asked of nodes in reach of
+/// the starts alone, `predecessors` of nodes from which an end is in reach by its own answers. The
+/// path is a list of clones of nodes, from a start to an end, and contains no node twice; a start that
+/// is an end is a path alone. Which of several such paths is answered is open. With no starts or no
+/// ends the answer is `None`.
+///
+/// # Errors
+///
+/// `OutOfMemory`: a request for memory was refused.
+///
+/// The algorithm is breadth-first search from both ends (I. Pohl, "Bi-directional search", 1971),
+/// which visits a whole level at a time of the side that found fewer nodes last. On a graph that fans
+/// out it asks for far fewer nodes than a search from one end.
+pub fn bfs_bidirectional<N, IN, FN, IM, FM, A, B, E>(
+    alloc: A,
+    starts: &NodeRefs<'_, N, B>,
+    ends: &NodeRefs<'_, N, E>,
+    successors: FN,
+    predecessors: FM,
+) -> Result<Option<Vec<N, A>>, PathError>
+where
+    N: Eq + Hash + Clone + Drop,
+    IN: IntoIterator<Item = N>,
+    FN: FnMut(&N) -> IN,
+    IM: IntoIterator<Item = N>,
+    FM: FnMut(&N) -> IM,
+    A: Allocator + Copy,
+    B: Allocator,
+    E: Allocator,
+    requires clones { IsLawfulClone N.eq N.is_clone }
+    requires graph { (next previous : N → List N)
+        × IsSearchFromBothEnds N.eq next previous starts.now ends.now (⟦<FN as SuccessorFunction<N>>⟧.answers successors) (⟦<FM as SuccessorFunction<N>>⟧.answers predecessors) }
+
+    ensures best { (next previous : N → List N)
+        → IsSearchFromBothEnds N.eq next previous starts.now ends.now (⟦<FN as SuccessorFunction<N>>⟧.answers successors) (⟦<FM as SuccessorFunction<N>>⟧.answers predecessors)
+        → IfOk result (λ answer. MatchOption answer
+        (HasNoGoalWalk N.eq (HasSuccessor N.eq next) starts.now (is_among N.eq ends.now))
+        (λ path. IsFewestEdgesGoalPath N.eq next starts.now (is_among N.eq ends.now) path.items)) }
+
+    ensures errors { IfErr result (λ e. e ≡ PathError.OutOfMemory) }
+{
+    let forth = Discovery {
+        nodes: clones_of(alloc, starts)?,
+        successors,
+        form: PhantomData,
+    };
+    let back = Discovery {
+        nodes: clones_of(alloc, ends)?,
+        successors: predecessors,
+        form: PhantomData,
+    };
+    let mut graph: TwoSided<N, Unweighted, IN, FN, IM, FM, A> = TwoSided { forth, back };
+    match fewest_edges_between::<u8, _, _>(alloc, &mut graph)? {
+        None => Ok(None),
+        Some(halves) => {
+            let path = graph.nodes_along(alloc, &halves)?;
+            Ok(Some(path))
+        }
+    }
+}

@@ -1,0 +1,63 @@
+//! Loops with fewest edges.
+
+ghost use Rattle.std.specs.Prelude.{◌≡◌, List, IfOk, IfErr, MatchOption};
+ghost use Rattle.pf_base.specs.Walks.{IsReachable};
+ghost use Rattle.pf_base.specs.Successors.{HasSuccessor};
+ghost use Rattle.pf_base.specs.Loops.{HasNoLoop, IsBestLoop};
+ghost use Rattle.pf_base.specs.Answers.{IsLawfulClone};
+
+use pf_base::{NodeRefs, PathError, SuccessorFunction};
+use pf_core::discovery::{Discovery, Unweighted, clones_at, clones_of};
+use pf_core::fewest_loop::fewest_edges_loop;
+use std::alloc::Allocator;
+use std::hash::Hash;
+use std::marker::PhantomData;
+
+/// A walk of at least one step, with fewest edges, from one of the `starts` to one of them, or `None`
+/// exactly where there is no such walk.
+///
+/// `successors` lists the nodes that follow a node. It must answer alike for equal nodes at every
+/// call, and is asked of nodes in reach of the starts alone. The loop is a list of clones of nodes,
+/// its first and its last node included. With several starts the two may differ; no node stands
+/// twice, save that these two may be the same node. A start that follows itself is a loop of one
+/// step. Which of several such loops is answered is open. With no starts the answer is `None`.
+///
+/// # Errors
+///
+/// `OutOfMemory`: a request for memory was refused.
+///
+/// The algorithm is breadth-first search (E. F. Moore, "The shortest path through a maze", 1959) from
+/// all starts at once: the first node in its order that a start follows closes a loop with fewest
+/// edges.
+pub fn bfs_loop<N, IN, FN, A, B>(
+    alloc: A,
+    starts: &NodeRefs<'_, N, B>,
+    successors: FN,
+) -> Result<Option<Vec<N, A>>, PathError>
+where
+    N: Eq + Hash + Clone + Drop,
+    IN: IntoIterator<Item = N>,
+    FN: FnMut(&N) -> IN,
+    A: Allocator + Copy,
+    B: Allocator,
+    requires clones { IsLawfulClone N.eq N.is_clone }
+    requires graph { (next : N → List N) × ⟦<FN as SuccessorFunction<N>>⟧.answers successors (IsReachable N.eq (HasSuccessor N.eq next) starts.now) next }
+
+    ensures best { (next : N → List N) → ⟦<FN as SuccessorFunction<N>>⟧.answers successors (IsReachable N.eq (HasSuccessor N.eq next) starts.now) next
+        → IfOk result (λ answer. MatchOption answer (HasNoLoop N.eq next starts.now) (λ path. IsBestLoop N.eq next starts.now path.items)) }
+
+    ensures errors { IfErr result (λ e. e ≡ PathError.OutOfMemory) }
+{
+    let mut graph: Discovery<N, Unweighted, IN, FN, A> = Discovery {
+        nodes: clones_of(alloc, starts)?,
+        successors,
+        form: PhantomData,
+    };
+    match fewest_edges_loop::<u8, _, _>(alloc, &mut graph)? {
+        None => Ok(None),
+        Some(numbers) => {
+            let path = clones_at(alloc, graph.nodes.as_slice(), &numbers)?;
+            Ok(Some(path))
+        }
+    }
+}

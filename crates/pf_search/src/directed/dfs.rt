@@ -1,0 +1,63 @@
+//! Paths found in preorder (depth-first search).
+
+ghost use Rattle.std.specs.Prelude.{◌≡◌, ◌∷◌, [], List, Bool, IfOk, IfErr, MatchOption};
+ghost use Rattle.pf_base.specs.Answers.{IsLawfulClone};
+ghost use Rattle.pf_base.specs.Successors.{HasSuccessor, IsUnweightedSearch};
+ghost use Rattle.pf_base.specs.Walks.{HasNoGoalWalk, IsGoalPath};
+ghost use Rattle.pf_search.specs.Preorder.{IsFirstTreePath};
+
+pub use crate::directed::preorder::{DfsReachable, dfs_reach};
+use pf_base::{NodeTest, PathError, SuccessorFunction};
+use std::alloc::Allocator;
+use std::hash::Hash;
+
+/// The tree path of a depth-first search from the start to the first node that passes `success`, or
+/// `None` exactly where no walk leads from the start to such a node.
+///
+/// The nodes are tested in the order of `dfs_reach` (preorder). The path is a list of clones of nodes,
+/// and contains no node twice; it need not have fewest edges. `successors` and `success` must answer
+/// alike for equal nodes at every call, and are asked of nodes in reach of the start alone.
+///
+/// # Errors
+///
+/// `OutOfMemory`: a request for memory was refused.
+///
+/// The algorithm is depth-first search (R. Tarjan, "Depth-first search and linear graph algorithms",
+/// 1972): its time is of the order of the number of nodes and edges in reach.
+pub fn dfs<N, IN, FN, FS, A>(
+    alloc: A,
+    start: N,
+    successors: FN,
+    mut success: FS,
+) -> Result<Option<Vec<N, A>>, PathError>
+where
+    N: Eq + Hash + Clone + Drop,
+    IN: IntoIterator<Item = N>,
+    FN: FnMut(&N) -> IN,
+    FS: FnMut(&N) -> bool,
+    A: Allocator + Copy,
+    requires clones { IsLawfulClone N.eq N.is_clone }
+    requires graph { (next : N → List N) × (test : N → Bool)
+        × IsUnweightedSearch N.eq next (start ∷ []) (⟦<FN as SuccessorFunction<N>>⟧.answers successors) (⟦<FS as NodeTest<N>>⟧.answers success) test }
+
+    ensures first { (next : N → List N) (test : N → Bool)
+        → IsUnweightedSearch N.eq next (start ∷ []) (⟦<FN as SuccessorFunction<N>>⟧.answers successors) (⟦<FS as NodeTest<N>>⟧.answers success) test
+        → IfOk result (λ answer. MatchOption answer
+        (HasNoGoalWalk N.eq (HasSuccessor N.eq next) (start ∷ []) test)
+        (λ path. IsGoalPath N.eq (HasSuccessor N.eq next) (start ∷ []) test path.items × IsFirstTreePath N.eq next start test path.items)) }
+
+    ensures errors { IfErr result (λ e. e ≡ PathError.OutOfMemory) }
+{
+    let mut walk = dfs_reach(alloc, start, successors)?;
+    'nodes: for _ in 0..usize::MAX {
+        let Some(node) = walk.step()? else {
+            return Ok(None);
+        };
+        if success(&node) {
+            let path = walk.path(alloc)?;
+            return Ok(Some(path));
+        }
+    }
+    // So many nodes have no room.
+    Err(PathError::OutOfMemory)
+}

@@ -1,0 +1,377 @@
+//! Cheapest paths, searched from both ends.
+
+ghost use Rattle.std.specs.BinaryHeap.{heap_items};
+ghost use Rattle.std.specs.Prelude.{◌≡◌, ◌<◌, ◌≤ℤ◌, ◌<ℤ◌, ◌+ℤ◌, ◌⊎◌, ℕ, ℤ, pos, List, [], ◌∷◌, Err, Some, None, IfOk, IfErr, IfSome, OnOk, MatchBool, MatchOption, Contains, length, slice_get, take, false};
+ghost use Rattle.pf_base.specs.Walks.{HasNoGoalWalk};
+ghost use Rattle.pf_base.specs.Edges.{IsSuccessor, IsCheapestGoalPath, IsPastRange};
+ghost use Rattle.pf_base.specs.Answers.{IsLawfulClone};
+ghost use Rattle.pf_core.specs.declared.labels.Label.{Label};
+ghost use Rattle.pf_core.specs.Labels.{HasLabel, IsTree};
+ghost use Rattle.pf_core.specs.Search.{IsSound};
+ghost use Rattle.pf_core.specs.Nodes.{Explores, StandsFor};
+ghost use Rattle.pf_search.specs.BothEnds.{IsWeightedSearchFromBothEnds};
+ghost use Rattle.pf_search.specs.Internal.BothEnds.{from_one, bound, IsMeeting, NoneBelowAt, AreHalves, IsPair, NoWalkAcross, NoWalkAcrossBelow};
+
+use pf_base::{Cost, EdgeFunction, PathError};
+use pf_core::both_ends::Halves;
+use pf_core::discovery::{Discovery, Nodes, Weighted, clone_of};
+use pf_core::labels::{label_of, path_to};
+use pf_core::search::Search;
+use pf_core::slot::Slot;
+use pf_core::two_sided::TwoSided;
+use std::alloc::Allocator;
+use std::hash::Hash;
+use std::marker::PhantomData;
+
+/// A node that both searches found: its number on the one side and on the other, and what the path
+/// through it costs.
+#[derive(Clone, Copy)]
+struct Meeting<C> {
+    here: usize,
+    across: usize,
+    cost: C,
+}
+
+/// The meeting at a node of one side, if the other side has a label for it and the two costs have a
+/// sum.
+fn meeting_at<N, C, A>(
+    nodes: &Nodes<N, A>,
+    labels: &Vec<Slot<C>, A>,
+    others: &Nodes<N, A>,
+    other_labels: &Vec<Slot<C>, A>,
+    number: usize,
+) -> Option<Meeting<C>>
+where
+    N: Eq + Hash + Drop,
+    C: Cost,
+    A: Allocator + Copy,
+    requires inside { number < length nodes.now.keys }
+    requires labelled { (l : Label C) × HasLabel labels.now.items number l }
+    requires wide { length other_labels.now.items ≡ length others.now.keys }
+    requires one { (i j : ℕ) (x : N) → StandsFor N.eq others.now.keys i x → StandsFor N.eq others.now.keys j x → i ≡ j }
+    ensures meets { IfSome result (λ m. (m.here ≡ number) × IsMeeting N.eq C.value nodes.now.keys others.now.keys labels.now.items other_labels.now.items m) }
+    ensures low { NoneBelowAt N.eq C.value nodes.now.keys others.now.keys labels.now.items other_labels.now.items (bound C.value (C.value C.greatest) result) number }
+{
+    let Some(across) = others.get_index_of(&nodes.as_slice()[number]) else {
+        return None;
+    };
+    let Some(there) = other_labels[across].label() else {
+        return None;
+    };
+    let here = label_of(labels, number);
+    here.cost.known();
+    let Some(cost) = here.cost.checked_add(&there.cost) else {
+        return None;
+    };
+    Some(Meeting {
+        here: number,
+        across,
+        cost,
+    })
+}
+
+/// The same meeting, as the other side sees it.
+fn turned_about<C: Cost>(meeting: Option<Meeting<C>>) -> Option<Meeting<C>>
+    ensures { MatchOption meeting (result ≡ None) (λ m. result ≡ Some (record { here = m.across; across = m.here; cost = m.cost })) }
+{
+    match meeting {
+        Some(found) => Some(Meeting {
+            here: found.across,
+            across: found.here,
+            cost: found.cost,
+        }),
+        None => None,
+    }
+}
+
+/// The cheaper of two meetings, the first where they cost the same.
+fn cheaper<C: Cost>(best: Option<Meeting<C>>, other: Option<Meeting<C>>) -> Option<Meeting<C>>
+    ensures one { (result ≡ best) ⊎ (result ≡ other) }
+    ensures best { bound C.value (C.value C.greatest) result ≤ℤ bound C.value (C.value C.greatest) best }
+    ensures other { bound C.value (C.value C.greatest) result ≤ℤ bound C.value (C.value C.greatest) other }
+{
+    match (best, other) {
+        (None, None) => None,
+        (Some(first), None) => {
+            first.cost.known();
+            Some(first)
+        }
+        (None, Some(second)) => {
+            second.cost.known();
+            Some(second)
+        }
+        (Some(first), Some(second)) => Some(if second.cost < first.cost {
+            second
+        } else {
+            first
+        }),
+    }
+}
+
+/// Does no path cost less than the best meeting, where the least open labels of both sides have these
+/// costs?
+fn is_best<C: Cost>(best: Option<Meeting<C>>, forth: C, back: C) -> bool
+    ensures decided { pos 0 ≤ℤ C.value back → MatchOption best (result ≡ false) (λ m. MatchBool result (C.value m.cost ≤ℤ (C.value forth +ℤ C.value back)) ((C.value forth +ℤ C.value back) <ℤ C.value m.cost)) }
+    ensures fit { C.fits (C.value forth) × C.fits (C.value back) }
+{
+    forth.known();
+    back.known();
+    let Some(meeting) = best else {
+        return false;
+    };
+    meeting.cost.known();
+    match forth.checked_add(&back) {
+        Some(sum) => meeting.cost <= sum,
+        None => true,
+    }
+}
+
+/// The best meeting of two searches, `forth` from the start and `back` from the end: the cost of a
+/// cheapest path. The answer is `None` exactly where no walk leads from one to the other.
+///
+/// Where the way back finds a sum that does not fit, it goes no further: the walk that costs too much
+/// ends at the end, but it need not begin at the start. The way forth goes on alone.
+fn best_meeting<N, C, IN, FN, IM, FM, A>(
+    graph: &mut TwoSided<N, Weighted, IN, FN, IM, FM, A>,
+    forth: &mut Search<C, A>,
+    back: &mut Search<C, A>,
+) -> Result<Option<Meeting<C>>, PathError>
+where
+    N: Eq + Hash + Drop,
+    C: Cost,
+    IN: IntoIterator<Item = (N, C)>,
+    FN: FnMut(&N) -> IN,
+    IM: IntoIterator<Item = (N, C)>,
+    FM: FnMut(&N) -> IM,
+    A: Allocator + Copy,
+    requires sound_forth { IsSound C.cmp C.value forth.old.labels.items (heap_items forth.old.queue) }
+    requires sound_back { IsSound C.cmp C.value back.old.labels.items (heap_items back.old.queue) }
+    requires wide_forth { length forth.old.labels.items ≡ length graph.old.forth.nodes.keys }
+    requires wide_back { length back.old.labels.items ≡ length graph.old.back.nodes.keys }
+    requires pair { (edges previous : N → List (N × ℤ)) × (start end : N)
+        × Explores N.eq C.value (λ e. e) IN.into_iter_gives IN.IntoIter.can_next IN.IntoIter.remaining IN.IntoIter.next_gives FN.FnMut (from_one start edges) graph.old.forth.nodes.keys graph.old.forth.successors
+        × Explores N.eq C.value (λ e. e) IM.into_iter_gives IM.IntoIter.can_next IM.IntoIter.remaining IM.IntoIter.next_gives FM.FnMut (from_one end previous) graph.old.back.nodes.keys graph.old.back.successors
+        × IsPair N.eq C.value C.fits edges previous start end graph.old.forth.nodes.keys graph.old.back.nodes.keys forth.old.labels.items back.old.labels.items (C.value C.greatest +ℤ pos 1) }
+    ensures sound_forth { OnOk result (IsSound C.cmp C.value forth.new.labels.items (heap_items forth.new.queue)) }
+    ensures sound_back { OnOk result (IsSound C.cmp C.value back.new.labels.items (heap_items back.new.queue)) }
+    ensures wide_forth { OnOk result (length forth.new.labels.items ≡ length graph.new.forth.nodes.keys) }
+    ensures wide_back { OnOk result (length back.new.labels.items ≡ length graph.new.back.nodes.keys) }
+    ensures meets { IfOk result (λ answer. IfSome answer (λ m. IsMeeting N.eq C.value graph.new.forth.nodes.keys graph.new.back.nodes.keys forth.new.labels.items back.new.labels.items m)) }
+    ensures best { (edges previous : N → List (N × ℤ)) (start end : N)
+        → Explores N.eq C.value (λ e. e) IN.into_iter_gives IN.IntoIter.can_next IN.IntoIter.remaining IN.IntoIter.next_gives FN.FnMut (from_one start edges) graph.old.forth.nodes.keys graph.old.forth.successors
+        → Explores N.eq C.value (λ e. e) IM.into_iter_gives IM.IntoIter.can_next IM.IntoIter.remaining IM.IntoIter.next_gives FM.FnMut (from_one end previous) graph.old.back.nodes.keys graph.old.back.successors
+        → IsPair N.eq C.value C.fits edges previous start end graph.old.forth.nodes.keys graph.old.back.nodes.keys forth.old.labels.items back.old.labels.items (C.value C.greatest +ℤ pos 1)
+        → IfOk result (λ answer. IsPair N.eq C.value C.fits edges previous start end graph.new.forth.nodes.keys graph.new.back.nodes.keys forth.new.labels.items back.new.labels.items (bound C.value (C.value C.greatest) answer)
+        × MatchOption answer (NoWalkAcross N.eq C.value edges start end) (λ m. NoWalkAcrossBelow N.eq C.value edges start end (C.value m.cost))) }
+    ensures overflow { (edges previous : N → List (N × ℤ)) (start end : N)
+        → Explores N.eq C.value (λ e. e) IN.into_iter_gives IN.IntoIter.can_next IN.IntoIter.remaining IN.IntoIter.next_gives FN.FnMut (from_one start edges) graph.old.forth.nodes.keys graph.old.forth.successors
+        → Explores N.eq C.value (λ e. e) IM.into_iter_gives IM.IntoIter.can_next IM.IntoIter.remaining IM.IntoIter.next_gives FM.FnMut (from_one end previous) graph.old.back.nodes.keys graph.old.back.successors
+        → IsPair N.eq C.value C.fits edges previous start end graph.old.forth.nodes.keys graph.old.back.nodes.keys forth.old.labels.items back.old.labels.items (C.value C.greatest +ℤ pos 1)
+        → result ≡ Err PathError.CostOverflow → IsPastRange N.eq edges (start ∷ []) (N.eq end) C.fits }
+    ensures errors { IfErr result (λ e. (e ≡ PathError.OutOfMemory) ⊎ (e ≡ PathError.CostOverflow)) }
+{
+    let mut best: Option<Meeting<C>> = None;
+    let mut back_is_over = false;
+    'turns: while let Some(number) = forth.least() {
+        let Some(across) = back.least() else {
+            return Ok(best);
+        };
+        let cost = label_of(&forth.labels, number).cost;
+        let cost_back = label_of(&back.labels, across).cost;
+        if is_best(best, cost, cost_back) {
+            return Ok(best);
+        }
+        if back_is_over || forth.queue.len() <= back.queue.len() {
+            forth.turn(&mut graph.forth, number)?;
+            let found = meeting_at(
+                &graph.forth.nodes,
+                &forth.labels,
+                &graph.back.nodes,
+                &back.labels,
+                number,
+            );
+            best = cheaper(best, found);
+        } else {
+            match back.turn(&mut graph.back, across) {
+                Ok(()) => {
+                    let found = meeting_at(
+                        &graph.back.nodes,
+                        &back.labels,
+                        &graph.forth.nodes,
+                        &forth.labels,
+                        across,
+                    );
+                    best = cheaper(best, turned_about(found));
+                }
+                Err(PathError::CostOverflow) => back_is_over = true,
+                Err(refusal) => return Err(refusal),
+            }
+        }
+    }
+    Ok(best)
+}
+
+/// Is the first cost no more than the second?
+fn is_at_most<C: Cost>(cost: C, limit: C) -> bool
+    ensures { MatchBool result (C.value cost ≤ℤ C.value limit) (C.value limit <ℤ C.value cost) }
+{
+    cost <= limit
+}
+
+/// The first node of the half on the way forth at which both sides meet at no more than this cost, with
+/// its place in the half.
+fn first_on<N, C, A>(
+    nodes: &Nodes<N, A>,
+    labels: &Vec<Slot<C>, A>,
+    others: &Nodes<N, A>,
+    other_labels: &Vec<Slot<C>, A>,
+    numbers: &[usize],
+    cost: C,
+) -> Option<(usize, Meeting<C>)>
+where
+    N: Eq + Hash + Drop,
+    C: Cost,
+    A: Allocator + Copy,
+    requires inside { (k : ℕ) → Contains numbers.now k → k < length nodes.now.keys }
+    requires labelled { (k : ℕ) → Contains numbers.now k → (l : Label C) × HasLabel labels.now.items k l }
+    requires wide { length other_labels.now.items ≡ length others.now.keys }
+    requires one { (i j : ℕ) (x : N) → StandsFor N.eq others.now.keys i x → StandsFor N.eq others.now.keys j x → i ≡ j }
+    ensures first { MatchOption result
+        ((k : ℕ) → Contains numbers.now k → NoneBelowAt N.eq C.value nodes.now.keys others.now.keys labels.now.items other_labels.now.items (C.value cost +ℤ pos 1) k)
+        (λ r. (slice_get numbers.now r.0 ≡ Some r.1.here)
+        × IsMeeting N.eq C.value nodes.now.keys others.now.keys labels.now.items other_labels.now.items r.1
+        × (C.value r.1.cost ≤ℤ C.value cost)
+        × ((k : ℕ) → Contains (take r.0 numbers.now) k → NoneBelowAt N.eq C.value nodes.now.keys others.now.keys labels.now.items other_labels.now.items (C.value cost +ℤ pos 1) k)) }
+{
+    cost.known();
+    'numbers: for (place, number) in numbers.iter().enumerate() {
+        if let Some(meeting) = meeting_at(nodes, labels, others, other_labels, *number) {
+            if is_at_most(meeting.cost, cost) {
+                return Some((place, meeting));
+            }
+        }
+    }
+    None
+}
+
+/// The two halves of a path that costs no more than this meeting. They meet at the first node on the
+/// way forth at which they can, since that node alone is on both: where edges cost nothing, the halves
+/// that meet at another node may have several nodes in common.
+fn halves_of<N, C, IN, FN, IM, FM, A>(
+    alloc: A,
+    graph: &TwoSided<N, Weighted, IN, FN, IM, FM, A>,
+    forth: &Search<C, A>,
+    back: &Search<C, A>,
+    best: Meeting<C>,
+) -> Result<Halves<A>, PathError>
+where
+    N: Eq + Hash + Drop,
+    C: Cost,
+    A: Allocator + Copy,
+    requires trees { IsTree forth.now.labels.items × IsTree back.now.labels.items }
+    requires wide_forth { length forth.now.labels.items ≡ length graph.now.forth.nodes.keys }
+    requires wide_back { length back.now.labels.items ≡ length graph.now.back.nodes.keys }
+    requires one { (i j : ℕ) (x : N) → StandsFor N.eq graph.now.back.nodes.keys i x → StandsFor N.eq graph.now.back.nodes.keys j x → i ≡ j }
+    requires costs { (k : ℕ) (l : Label C) → HasLabel forth.now.labels.items k l ⊎ HasLabel back.now.labels.items k l → pos 0 ≤ℤ C.value l.cost }
+    requires meets { IsMeeting N.eq C.value graph.now.forth.nodes.keys graph.now.back.nodes.keys forth.now.labels.items back.now.labels.items best }
+    ensures halves { IfOk result (λ halves. AreHalves N.eq C.value graph.now.forth.nodes.keys graph.now.back.nodes.keys forth.now.labels.items back.now.labels.items (C.value best.cost) halves.forth.items halves.back.items) }
+    ensures inside { IfOk result (λ halves. ((k : ℕ) → Contains halves.forth.items k → k < length graph.now.forth.nodes.keys) × ((k : ℕ) → Contains halves.back.items k → k < length graph.now.back.nodes.keys)) }
+    ensures refused { IfErr result (λ e. e ≡ PathError.OutOfMemory) }
+{
+    let mut numbers = path_to(alloc, &forth.labels, best.here)?;
+    let first = first_on(
+        &graph.forth.nodes,
+        &forth.labels,
+        &graph.back.nodes,
+        &back.labels,
+        &numbers,
+        best.cost,
+    );
+    let Some((place, meeting)) = first else {
+        unreachable!();
+    };
+    numbers.truncate(place + 1);
+    let back_numbers = path_to(alloc, &back.labels, meeting.across)?;
+    Ok(Halves {
+        forth: numbers,
+        back: back_numbers,
+    })
+}
+
+/// A cheapest path from `start` to `end`, with its cost, or `None` exactly where no walk leads from
+/// one to the other.
+///
+/// `successors` lists the edges from a node, each as the node that it leads to and its cost,
+/// `predecessors` those that lead to it, each as the node that it comes from and its cost. Each must
+/// mirror the other: b with a cost is among the successors of a exactly where a with that cost is
+/// among the predecessors of b. Where several edges lead from one node to another, a step costs what
+/// the cheapest of them costs. Both must answer alike for equal nodes at every call, and no cost may
+/// be negative; `successors` is asked of nodes in reach of `start` alone, `predecessors` of nodes from
+/// which `end` is in reach by its own answers. The path is a list of clones of nodes, from `start` on,
+/// and contains no node twice, also where edges or cycles cost nothing; where `end` equals `start`, it
+/// is that node alone, at cost 0. Which of several cheapest paths is answered is open.
+///
+/// # Errors
+///
+/// - `CostOverflow`: only where a cheapest path from `start` to some node and one step more, by the
+///   cheapest of the parallel edges, cost more than `C` can hold, and `end` is no cheaper than that
+///   node.
+/// - `OutOfMemory`: a request for memory was refused.
+///
+/// The algorithm is Dijkstra's from both ends (T. A. J. Nicholson, "Finding the shortest route between
+/// two points in a network", 1966; I. Pohl, "Bi-directional search", 1971), which goes on with the side
+/// on which fewer nodes wait. It mostly asks for fewer nodes than `dijkstra` does.
+pub fn dijkstra_bidirectional<N, C, IN, FN, IM, FM, A>(
+    alloc: A,
+    start: &N,
+    end: &N,
+    successors: FN,
+    predecessors: FM,
+) -> Result<Option<(Vec<N, A>, C)>, PathError>
+where
+    N: Eq + Hash + Clone + Drop,
+    C: Cost,
+    IN: IntoIterator<Item = (N, C)>,
+    FN: FnMut(&N) -> IN,
+    IM: IntoIterator<Item = (N, C)>,
+    FM: FnMut(&N) -> IM,
+    A: Allocator + Copy,
+    requires clones { IsLawfulClone N.eq N.is_clone }
+    requires graph { (edges previous : N → List (N × ℤ))
+        × IsWeightedSearchFromBothEnds N.eq edges previous start.now end.now (⟦<FN as EdgeFunction<N, C>>⟧.answers successors) (⟦<FM as EdgeFunction<N, C>>⟧.answers predecessors) }
+
+    ensures best { (edges previous : N → List (N × ℤ))
+        → IsWeightedSearchFromBothEnds N.eq edges previous start.now end.now (⟦<FN as EdgeFunction<N, C>>⟧.answers successors) (⟦<FM as EdgeFunction<N, C>>⟧.answers predecessors)
+        → IfOk result (λ answer. MatchOption answer
+        (HasNoGoalWalk N.eq (IsSuccessor N.eq edges) (start.now ∷ []) (N.eq end.now))
+        (λ found. IsCheapestGoalPath N.eq edges (start.now ∷ []) (N.eq end.now) found.0.items (C.value found.1))) }
+
+    ensures overflow { (edges previous : N → List (N × ℤ))
+        → IsWeightedSearchFromBothEnds N.eq edges previous start.now end.now (⟦<FN as EdgeFunction<N, C>>⟧.answers successors) (⟦<FM as EdgeFunction<N, C>>⟧.answers predecessors)
+        → result ≡ Err PathError.CostOverflow
+        → IsPastRange N.eq edges (start.now ∷ []) (N.eq end.now) C.fits }
+
+    ensures errors { IfErr result (λ e. (e ≡ PathError.OutOfMemory) ⊎ (e ≡ PathError.CostOverflow)) }
+{
+    let forth = Discovery {
+        nodes: clone_of(alloc, start)?,
+        successors,
+        form: PhantomData,
+    };
+    let back = Discovery {
+        nodes: clone_of(alloc, end)?,
+        successors: predecessors,
+        form: PhantomData,
+    };
+    let mut graph: TwoSided<N, Weighted, IN, FN, IM, FM, A> = TwoSided { forth, back };
+    let mut search = Search::begin(alloc, graph.forth.nodes.len(), 0)?;
+    let mut search_back = Search::begin(alloc, graph.back.nodes.len(), 0)?;
+    match best_meeting(&mut graph, &mut search, &mut search_back)? {
+        None => Ok(None),
+        Some(meeting) => {
+            let halves = halves_of(alloc, &graph, &search, &search_back, meeting)?;
+            let path = graph.nodes_along(alloc, &halves)?;
+            Ok(Some((path, meeting.cost)))
+        }
+    }
+}

@@ -1,0 +1,208 @@
+//! Nodes in preorder (depth-first search), one at a time.
+
+ghost use Rattle.std.specs.Prelude.{◌≡◌, ◌⊎◌, ◌<◌, ◌∷◌, ◌++◌, ◌-◌, [], ℕ, List, Some, None, false, OnOk, OnErr, IfOk, IfErr, IfSome, IsOk, length, Contains};
+ghost use Rattle.std.specs.Iterator.{MakesProgress};
+ghost use Rattle.std.specs.List.{AllZip};
+ghost use Rattle.pf_base.specs.Answers.{IsLawfulClone};
+ghost use Rattle.pf_base.specs.Orders.{found_from, last_nodes, IsNextTreePath, IsWholePreorder};
+ghost use Rattle.pf_base.specs.Successors.{HasSuccessor};
+ghost use Rattle.pf_base.specs.Walks.{IsReachable, end_of};
+ghost use Rattle.pf_core.specs.DepthFirst.{IsVisited};
+ghost use Rattle.pf_core.specs.Nodes.{StandsFor};
+ghost use Rattle.pf_search.specs.DepthWalks.{DepthWalk, IsDepthWalk, DepthStep, DepthGoes, StandsAt};
+
+use crate::directed::breadth::put_start;
+use indexmap::IndexSet;
+use pf_base::{PathError, SuccessorFunction};
+use pf_core::depth_first::DepthFirst;
+use pf_core::discovery::{Discovery, Unweighted, clones_at};
+use pf_core::numbered::NumberedGraph;
+use std::alloc::{Allocator, Global};
+use std::hash::Hash;
+use std::marker::{Model, PhantomData};
+
+/// The nodes in reach of a start, in preorder.
+#[derive(Drop)]
+pub struct DfsReachable<N: Eq + Hash, IN, FN, A: Allocator = Global> {
+    start: Option<N>,
+    graph: Discovery<N, Unweighted, IN, FN, A>,
+    walk: DepthFirst<A>,
+    refused: bool,
+}
+
+impl<N: Eq + Hash, IN, FN, A: Allocator> Model for DfsReachable<N, IN, FN, A> {
+    ghost use Rattle.pf_search.specs.DepthWalks.{DepthWalk, walk_code};
+    ghost use Rattle.pf_search.specs.Internal.Breadth.{found_or};
+    ghost use Rattle.pf_search.specs.Internal.Depth.{IsUnbegun};
+    ghost use Rattle.std.specs.Prelude.{length};
+
+    ghost Value = { DepthWalk N FN };
+
+    ghost coded = { walk_code N.code FN.code };
+
+    ghost view = { λ s. record {
+      found = found_or s.start s.graph.nodes.keys;
+      given = length s.walk.given.items;
+      visited = s.walk.visited.items;
+      path = s.walk.path.items;
+      waiting = s.walk.waiting.items;
+      refused = s.refused;
+      successors = s.graph.successors;
+    } };
+
+    ghost invariant = { λ s. IsUnbegun s.start s.graph.nodes.keys (length s.walk.given.items) };
+}
+
+impl<N, IN, FN, A> DfsReachable<N, IN, FN, A>
+where
+    N: Eq + Hash + Clone + Drop,
+    IN: IntoIterator<Item = N>,
+    FN: FnMut(&N) -> IN,
+    A: Allocator + Copy,
+{
+    /// Goes along the next tree path, and answers a clone of its last node. Where memory is refused, the
+    /// walk stays where it is.
+    pub(crate) fn step(&mut self) -> Result<Option<N>, PathError>
+        requires clones { IsLawfulClone N.eq N.is_clone }
+        requires graph { (next : N → List N) × (start : N) × (paths : List (List N))
+            × IsDepthWalk N.eq next start IN.into_iter_gives IN.IntoIter.can_next IN.IntoIter.remaining IN.IntoIter.next_gives FN.FnMut paths self.old }
+        ensures same { self.new.refused ≡ self.old.refused }
+        ensures walks { (next : N → List N) (start : N) (paths : List (List N))
+            → IsDepthWalk N.eq next start IN.into_iter_gives IN.IntoIter.can_next IN.IntoIter.remaining IN.IntoIter.next_gives FN.FnMut paths self.old
+            → DepthGoes N.eq next start (λ done. IsDepthWalk N.eq next start IN.into_iter_gives IN.IntoIter.can_next IN.IntoIter.remaining IN.IntoIter.next_gives FN.FnMut done self.new) paths result }
+        ensures refused { IfErr result (λ e. e ≡ PathError.OutOfMemory) }
+    {
+        put_start(&mut self.start, &mut self.graph.nodes)?;
+        match self.walk.next_branch() {
+            None => Ok(None),
+            Some(branch) => {
+                let node = self.graph.nodes.as_slice()[branch.number].clone()?;
+                self.walk.visit(&mut self.graph, branch)?;
+                Ok(Some(node))
+            }
+        }
+    }
+}
+
+impl<N, IN, FN, A> DfsReachable<N, IN, FN, A>
+where
+    N: Eq + Hash + Clone + Drop,
+    A: Allocator + Copy,
+{
+    /// Clones of the nodes of the last tree path.
+    pub(crate) fn path(&self, alloc: A) -> Result<Vec<N, A>, PathError>
+        requires clones { IsLawfulClone N.eq N.is_clone }
+        requires given { ¬ (self.now.given ≡ 0) }
+        requires inside { (k : ℕ) → Contains self.now.path k → k < length self.now.found }
+        ensures nodes { IfOk result (λ path. AllZip (StandsFor N.eq self.now.found) self.now.path path.items) }
+        ensures refused { IfErr result (λ e. e ≡ PathError.OutOfMemory) }
+    {
+        clones_at(alloc, self.graph.nodes.as_slice(), &self.walk.path)
+    }
+}
+
+impl<N, IN, FN, A> Iterator for DfsReachable<N, IN, FN, A>
+where
+    N: Eq + Hash + Clone + Drop,
+    IN: IntoIterator<Item = N>,
+    FN: FnMut(&N) -> IN,
+    A: Allocator + Copy,
+{
+    type Item = Result<N, PathError>;
+
+    ghost can_next = { λ s. IsLawfulClone N.eq N.is_clone × ((next : N → List N) × (start : N) × (paths : List (List N))
+        × IsDepthWalk N.eq next start IN.into_iter_gives IN.IntoIter.can_next IN.IntoIter.remaining IN.IntoIter.next_gives FN.FnMut paths s) };
+
+    ghost next_gives = { λ s r t. (next : N → List N) (start : N) (paths : List (List N))
+        → IsDepthWalk N.eq next start IN.into_iter_gives IN.IntoIter.can_next IN.IntoIter.remaining IN.IntoIter.next_gives FN.FnMut paths s
+        → DepthStep N.eq next start (λ done w. IsDepthWalk N.eq next start IN.into_iter_gives IN.IntoIter.can_next IN.IntoIter.remaining IN.IntoIter.next_gives FN.FnMut done w) paths s r t };
+
+    /// The last node of the next tree path in preorder: the deepest node of the last tree path that has a
+    /// successor not yet given is followed by the first such successor. `None` where no node of the path
+    /// has one, and from then on.
+    ///
+    /// After an `Err` the walk is as before that step, and answers `None` until `resume` is called.
+    fn next(&mut self) -> Option<Result<N, PathError>>
+        requires { ⟦<DfsReachable<N, IN, FN, A> as Iterator>⟧.can_next self.old }
+        ensures steps { ⟦<DfsReachable<N, IN, FN, A> as Iterator>⟧.next_gives self.old result self.new }
+        ensures goes { MakesProgress ⟦<DfsReachable<N, IN, FN, A> as Iterator>⟧.can_next ⟦<DfsReachable<N, IN, FN, A> as Iterator>⟧.remaining self.old result self.new }
+        ensures again { ⟦<DfsReachable<N, IN, FN, A> as Iterator>⟧.can_next self.new }
+        ensures refused { IfSome result (λ item. IfErr item (λ e. e ≡ PathError.OutOfMemory)) }
+    {
+        if self.refused {
+            return None;
+        }
+        let step = self.step();
+        self.refused = step.is_err();
+        step.transpose()
+    }
+}
+
+/// The nodes in reach of the start, one at a time in the order in which a recursive depth-first search
+/// first meets them (preorder), successors in the order in which they are answered.
+///
+/// `successors` lists the nodes that follow a node. It must answer alike for equal nodes at every
+/// call; it is asked of nodes in reach of the start alone, and of a node only when that is given. The
+/// graph may be endless. An item is a clone of a node, or a refusal: see `DfsReachable`.
+///
+/// # Errors
+///
+/// None: the start is moved in by the first call of `next`, and memory is taken from then on.
+///
+/// The order is that of depth-first search (R. Tarjan, "Depth-first search and linear graph algorithms",
+/// 1972). A step takes the time of its node's successors, and of branches to visited nodes, each once.
+pub fn dfs_reach<N, IN, FN, A>(
+    alloc: A,
+    start: N,
+    successors: FN,
+) -> Result<DfsReachable<N, IN, FN, A>, PathError>
+where
+    N: Eq + Hash + Clone + Drop,
+    IN: IntoIterator<Item = N>,
+    FN: FnMut(&N) -> IN,
+    A: Allocator + Copy,
+    ensures ready { IfOk result (λ walk. walk.refused ≡ false) }
+    ensures graph { (next : N → List N) → ⟦<FN as SuccessorFunction<N>>⟧.answers successors (IsReachable N.eq (HasSuccessor N.eq next) (start ∷ [])) next
+        → IfOk result (λ walk. IsDepthWalk N.eq next start IN.into_iter_gives IN.IntoIter.can_next IN.IntoIter.remaining IN.IntoIter.next_gives FN.FnMut [] walk) }
+    ensures good { IsOk result }
+{
+    Ok(DfsReachable {
+        start: Some(start),
+        graph: Discovery {
+            nodes: IndexSet::new(alloc),
+            successors,
+            form: PhantomData,
+        },
+        walk: DepthFirst::new(alloc),
+        refused: false,
+    })
+}
+
+impl<N, IN, FN, A> DfsReachable<N, IN, FN, A>
+where
+    N: Eq + Hash,
+    A: Allocator,
+{
+    /// Tries a refused step again with the next call of `next`. Where no step was refused since the last
+    /// call, this changes nothing.
+    pub fn resume(&mut self)
+        ensures { self.new ≡ record self.old { refused = false } }
+    {
+        self.refused = false;
+    }
+
+    /// The number of nodes that were found (the start, and each successor of a given node) and not
+    /// yet given, each once. At least so many nodes are still to come.
+    pub fn remaining_nodes_low_bound(&self) -> usize
+        ensures left { result ≡ length self.now.found - self.now.given }
+        ensures graph { (next : N → List N) (start : N) (paths : List (List N))
+            → StandsAt N.eq next start paths self.now
+            → result ≡ length (found_from N.eq next start (last_nodes paths)) - length paths }
+    {
+        let found = match &self.start {
+            Some(_) => 1,
+            None => self.graph.nodes.len(),
+        };
+        found.saturating_sub(self.walk.given.len())
+    }
+}

@@ -1,0 +1,2 @@
+mod both_ends;
+mod maps;
