@@ -7,6 +7,7 @@ pub mod TableLemmas
 pub mod ArrangeLemmas
 pub mod CallLemmas
 pub mod FillLemmas
+pub mod FloodLemmas
 pub mod TakeLemmas
 pub mod TableLaws
 pub mod RowLemmas

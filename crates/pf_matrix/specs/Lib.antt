@@ -2,6 +2,7 @@ pub mod Tables
 pub mod Arrange
 pub mod Calls
 pub mod Equality
+pub mod Floods
 pub mod Internal
 pub mod ItemsMut
 pub mod Lends

@@ -2,6 +2,7 @@
 
 mod columns;
 mod flips;
+mod floods;
 mod from_rows;
 mod indexing;
 mod items;

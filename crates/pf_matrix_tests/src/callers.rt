@@ -1,10 +1,13 @@
 //! Callers that know matrices by their contracts alone.
 
-ghost use Rattle.std.specs.Prelude.{◌≡◌, ◌/◌, ◌<◌, map, All, IfOk, slice_index_or};
+ghost use Rattle.std.specs.Prelude.{◌≡◌, ◌+◌, ◌*◌, ◌/◌, ◌<◌, ℕ, Bool, false, List, map, All, IfOk, nat_eq, slice_index_or};
 ghost use Rattle.pf_matrix.specs.Arrange.{CanTurn, IsCopied, IsRotatedCw, itself};
+ghost use Rattle.pf_matrix.specs.Floods.{IsFlood, answer_at};
+ghost use Rattle.pf_matrix.specs.Tables.{HasPosition, value_at};
 
 use pf_matrix::{Matrix, MatrixFormatError};
 use std::alloc::Allocator;
+use std::collections::BTreeSet;
 
 /// The numbers of a board that is turned to the right once. The copy has the very numbers, since a
 /// clone of a number is the number.
@@ -55,4 +58,23 @@ pub fn hundred_divided<A: Allocator + Copy>(
     ensures values { IfOk result (λ divided. divided.values ≡ map (λ x. 100 / x) board.values) }
 {
     board.map(|value: u8| 100 / value)
+}
+
+/// The positions that are reached from `start` over numbers that are 0.
+pub fn flooded_cells<A: Allocator + Copy>(
+    board: &Matrix<u8, A>,
+    start: (usize, usize),
+) -> Result<BTreeSet<(usize, usize), A>, MatrixFormatError>
+    ensures { IfOk result (λ reached. (answers : List Bool)
+        × IsFlood board.now.rows board.now.columns false (answer_at board.now.rows board.now.columns answers) start reached
+        × ((r c : ℕ) → r < board.now.rows → c < board.now.columns → (number : ℕ) × (number ≡ value_at board.now r c number) × (slice_index_or answers (r * board.now.columns + c) false ≡ nat_eq number 0))) }
+{
+    board.bfs_reachable(
+        start,
+        false,
+        |position: (usize, usize)| -> bool
+            requires { HasPosition board.now position.0 position.1 }
+            ensures { (number : ℕ) × (number ≡ value_at board.entry.now position.0 position.1 number) × (result ≡ nat_eq number 0) }
+        { board[position] == 0 },
+    )
 }

@@ -7,6 +7,7 @@ mod changes;
 mod columns;
 mod copies;
 mod errors;
+mod floods;
 mod iterators;
 mod makers;
 mod readers;
