@@ -1,14 +1,12 @@
 -- Graphs over numbers that are explored.
-use Rattle.std.proofs.Common.{◌≡◌, ◌<◌, ◌≤◌, ℕ, zero, suc, ℤ, pos, List, [], ◌∷◌, length, Bool, true, false, if◌then◌else◌, Option, Some, None, nat_eq, refl, sym, ◌∙◌, ap, subst, take, map, inl, inr, arith, true≢false}
-use Rattle.std.specs.Prelude.{◌↔◌, ◌≤ℤ◌, slice_get}
+use Rattle.std.proofs.Common.{◌≡◌, ◌<◌, ◌≤◌, ℕ, zero, suc, ℤ, pos, List, [], ◌∷◌, length, Bool, true, false, if◌then◌else◌, Option, Some, None, nat_eq, refl, ◌∙◌, ap, subst, take, map, inl}
+use Rattle.std.specs.Prelude.{◌↔◌, slice_get}
 use Rattle.std.specs.List.{IsDistinct, AllByRecursion}
 use Rattle.std.proofs.lemmas.Bool.{lt-ltb, le-ltb}
 use Rattle.std.proofs.lemmas.Cmp.{nat_eq_equiv}
-use Rattle.std.proofs.lemmas.Int.{ints}
 use Rattle.pf_base.specs.Answers.{ListsEdges}
-use Rattle.pf_base.specs.Walks.{HasNode, HasNoGoalWalk, IsGoalWalk, IsGoalPath}
-use Rattle.pf_base.specs.Edges.{IsSuccessor, InReach, NoGoalWalkCostsLess, IsCheapestGoalPath}
-use Rattle.pf_base.specs.Successors.{HasSuccessor, IsFewestEdgesGoalPath}
+use Rattle.pf_base.specs.Walks.{HasNode}
+use Rattle.pf_base.specs.Edges.{InReach}
 use Rattle.pf_base.proofs.Callers.{ListsEdges-refl}
 use Rattle.pf_core.specs.Hops.{unit_edges}
 use Rattle.pf_core.specs.Nodes.{StandsFor}
@@ -49,8 +47,8 @@ module _ {C : Type 0} (value : C → ℤ) where
     pub edges_within : (n : ℕ) → n < size → graph_of value size places n ≡ edges_at value (places n)
     edges_within n h = ap (λ (b : Bool). if b then edges_at value (places n) else []) (lt-ltb n size h)
 
-    pub edges_outside : (n : ℕ) → size ≤ n → graph_of value size places n ≡ []
-    edges_outside n h = ap (λ (b : Bool). if b then edges_at value (places n) else []) (le-ltb n size h)
+    pub edges_outside : (n : ℕ) → size ≤ n → (a : ℕ) → nat_eq n a ≡ true → graph_of value size places a ≡ []
+    edges_outside n h a e = subst (λ (k : ℕ). graph_of value size places k ≡ []) (eqb-true n a e) (ap (λ (b : Bool). if b then edges_at value (places n) else []) (le-ltb n size h))
 
     pub costs_listed : (n : ℕ) → n < size → ListsEdges nat_eq value (priced (λ c. c) (places n)) (graph_of value size places n)
     costs_listed n h = rw (edges_within n h) (lists_costs (places n))
@@ -65,42 +63,8 @@ module _ {C : Type 0} (value : C → ℤ) where
     pub units_listed : (n : ℕ) → n < size → ListsEdges nat_eq (λ (n : ℕ). pos n) (priced (λ c. 1) (places n)) (unit_edges (successors_of value size places) n)
     units_listed n h = rw (edges_within size places n h) (lists_units (places n))
 
-    pub successors_outside : (n : ℕ) → size ≤ n → successors_of value size places n ≡ []
-    successors_outside n h = ap (map (λ (e : ℕ × ℤ). e.0)) (edges_outside size places n h)
-
--- ---- a start that nothing follows
-
-module _ (step : ℕ → ℕ → Type 0) (from : ℕ) (dead : (b : ℕ) → ¬ (step from b)) (test : ℕ → Bool) where
-  pub none_alone : test from ≡ false → HasNoGoalWalk nat_eq step (from ∷ []) test
-  none_alone t [] g = g.walks
-  none_alone t (a ∷ []) g = elim g.begins as (λ _. ⊥) [ inl e ↦ true≢false (sym g.ends ∙ ap test (sym (eqb-true from a e)) ∙ t) | inr n ↦ n ]
-  none_alone t (a ∷ b ∷ w) g = elim g.begins as (λ _. ⊥) [ inl e ↦ dead b (subst (λ (n : ℕ). step n b) (sym (eqb-true from a e)) g.walks.0) | inr n ↦ n ]
-
-  pub goal_alone : test from ≡ true → IsGoalPath nat_eq step (from ∷ []) test (from ∷ [])
-  goal_alone t = record { goes = record { walks = tt; begins = inl (nat_eq_equiv.refl from); ends = t }; distinct = ((λ h. h), tt) }
-
-module _ (edges : ℕ → List (ℕ × ℤ)) (from : ℕ) (none : edges from ≡ []) (test : ℕ → Bool) where
-  pub no_edge : (b : ℕ) → ¬ (IsSuccessor nat_eq edges from b)
-  no_edge b h = rw none at h.1
-
-  pub cheapest_alone : test from ≡ true → IsCheapestGoalPath nat_eq edges (from ∷ []) test (from ∷ []) (pos 0)
-  cheapest_alone t = record { goes = goal_alone (IsSuccessor nat_eq edges) from no_edge test t; costs = refl; best = least }
-    where
-      least : NoGoalWalkCostsLess nat_eq edges (from ∷ []) test (pos 0)
-      least [] u g c = absurd c
-      least (a ∷ []) u g c = omega (arith, ints, c)
-      least (a ∷ b ∷ w) u g c = elim g.begins as (λ _. pos 0 ≤ℤ u) [ inl e ↦ absurd (no_edge b (subst (λ (n : ℕ). IsSuccessor nat_eq edges n b) (sym (eqb-true from a e)) g.walks.0)) | inr n ↦ absurd n ]
-
-module _ (next : ℕ → List ℕ) (from : ℕ) (none : next from ≡ []) (test : ℕ → Bool) where
-  pub no_successor : (b : ℕ) → ¬ (HasSuccessor nat_eq next from b)
-  no_successor b h = rw none at h
-
-  pub fewest_alone : test from ≡ true → IsFewestEdgesGoalPath nat_eq next (from ∷ []) test (from ∷ [])
-  fewest_alone t = record { goes = goal_alone (HasSuccessor nat_eq next) from no_successor test t; fewest = least }
-    where
-      least : (walk : List ℕ) → IsGoalWalk nat_eq (HasSuccessor nat_eq next) (from ∷ []) test walk → 1 ≤ length walk
-      least [] g = absurd g.walks
-      least (a ∷ w) g = omega arith
+    pub successors_outside : (n : ℕ) → size ≤ n → (a : ℕ) → nat_eq n a ≡ true → successors_of value size places a ≡ []
+    successors_outside n h a e = ap (map (λ (d : ℕ × ℤ). d.0)) (edges_outside size places n h a e)
 
 -- ---- a search begins at one node
 

@@ -5,7 +5,10 @@ pub mod OffsetLemmas
 pub mod BoardLemmas
 pub mod GraphLemmas
 pub mod IndexLemmas
+pub mod Alone
 pub mod ExploreLemmas
 pub mod LayoutLemmas
 pub mod NumberedNames
 pub mod EdgeListLemmas
+pub mod NameWalks
+pub mod NamedGraph

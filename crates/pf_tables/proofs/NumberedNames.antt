@@ -14,7 +14,8 @@ use Rattle.indexmap.specs.IndexSet.{insert_key, insert_all}
 use Rattle.pf_base.specs.Walks.{HasNode, NoRepeats}
 use Rattle.pf_base.specs.NodeRefs.{nodes_of, HasSameNodes}
 use Rattle.pf_core.proofs.ListLemmas.{bool_dec, none_in, or_true}
-use Rattle.pf_core.proofs.NodeLemmas.{HasSameNodes-insert}
+use Rattle.pf_core.proofs.NodeLemmas.{HasSameNodes-insert, eq-sym}
+use Rattle.pf_core.proofs.PathLemmas.{NoRepeats-append}
 use Rattle.pf_tables.specs.EdgeLists.{ends_of, names_of, number_in, ends_from}
 use Rattle.pf_tables.proofs.LayoutLemmas.{take_at}
 
@@ -161,7 +162,7 @@ module _ {N : Type 0} {eq : N → N → Bool} (laws : IsEquivalence eq) where
   pub number_inside : (names : List N) (x : N) → list_any (eq x) names ≡ true → number_in eq names x < length names
   number_inside names x h = let s = number_stands names x h in slice_get_within names (number_in eq names x) s.0 s.1
 
-  has_at : (names : List N) (k : ℕ) (m x : N) → slice_get names k ≡ Some m → eq m x ≡ true → HasNode eq names x
+  pub has_at : (names : List N) (k : ℕ) (m x : N) → slice_get names k ≡ Some m → eq m x ≡ true → HasNode eq names x
   has_at [] k m x h e = absurd (none_in k m h)
   has_at (z ∷ names) zero m x h e = inl (ap (λ y. eq y x) (same_item h) ∙ e)
   has_at (z ∷ names) (suc k) m x h e = inr (has_at names k m x h e)
@@ -207,6 +208,27 @@ module _ {N : Type 0} {eq : N → N → Bool} (laws : IsEquivalence eq) where
   same_ends names before [] h = subst (HasSameNodes eq names) (sym (append-nil before)) h
   same_ends names before (x ∷ more) h = subst (HasSameNodes eq (insert_all eq (insert_key eq names x) more)) (append_assoc before (x ∷ []) more)
       (same_ends (insert_key eq names x) (before ++ x ∷ []) more (HasSameNodes-insert eq laws before names (insert_key eq names x) x x h (laws.refl x) refl))
+
+  -- ---- no name is listed twice
+
+  any_of_node : (names : List N) (x : N) → HasNode eq names x → list_any (eq x) names ≡ true
+  any_of_node [] x h = absurd h
+  any_of_node (z ∷ names) x (inl e) = ap (λ b. b || list_any (eq x) names) (laws.symm x z ∙ e)
+  any_of_node (z ∷ names) x (inr h) = or_true (eq x z) (list_any (eq x) names) (any_of_node names x h)
+
+  one_apart : (names : List N) (x : N) → NoRepeats eq names → NoRepeats eq (insert_key eq names x)
+  one_apart names x d = by (list_any (eq x) names) refl
+    where
+      by : (b : Bool) → list_any (eq x) names ≡ b → NoRepeats eq (if b then names else names ++ x ∷ [])
+      by true h = d
+      by false h = NoRepeats-append eq (eq-sym eq laws) names x d (λ k. true≢false (sym (any_of_node names x k) ∙ h))
+
+  all_apart : (names more : List N) → NoRepeats eq names → NoRepeats eq (insert_all eq names more)
+  all_apart names [] d = d
+  all_apart names (x ∷ more) d = all_apart (insert_key eq names x) more (one_apart names x d)
+
+  pub names_apart : {C : Type 0} (edges : List (N × N × C)) → NoRepeats eq (names_of eq edges)
+  names_apart edges = all_apart [] (ends_of edges) tt
 
   pub names_are_ends : {C : Type 0} (edges : List (N × N × C)) → HasSameNodes eq (names_of eq edges) (ends_of edges)
   names_are_ends edges = same_ends [] [] (ends_of edges) (λ x. ((λ h. h), (λ h. h)))

@@ -26,6 +26,10 @@ module _ {N : Type 0} (eq : N → N → Bool) where
     abbrev pub edges_from : (C → ℤ) → List (N × N × C) → N → List (N × ℤ)
     edges_from value edges x = map (λ (e : N × C). (e.0, value e.1)) (ends_from edges x)
 
+    -- the names that the edges from x lead to, in the order of the list: the graph over names without costs
+    abbrev pub targets_from : List (N × N × C) → N → List N
+    targets_from edges x = map (λ (e : N × C). e.0) (ends_from edges x)
+
     -- the names of the edges, each once, in the order in which they are first met
     abbrev pub names_of : List (N × N × C) → List N
     names_of edges = insert_all eq [] (ends_of edges)

@@ -1,8 +1,9 @@
 //! Graphs as lists of edges between names.
 
-ghost use Rattle.std.specs.Prelude.{◌≡◌, ◌<◌, Some, IfOk, IfErr, MatchOption, length, slice_get};
+ghost use Rattle.std.specs.Prelude.{◌≡◌, ◌<◌, ℕ, Some, IfOk, IfErr, Contains, MatchOption, length, slice_get};
+ghost use Rattle.std.specs.List.{AllZip};
 ghost use Rattle.pf_base.specs.Walks.{HasNode, NoRepeats};
-ghost use Rattle.pf_base.specs.NodeRefs.{HasSameNodes};
+ghost use Rattle.pf_base.specs.NodeRefs.{HasSameNodes, nodes_of};
 ghost use Rattle.pf_core.specs.Nodes.{StandsFor};
 ghost use Rattle.pf_tables.specs.Graphs.{IsGraph};
 ghost use Rattle.pf_tables.specs.EdgeLists.{AreNumbered, CostsFromZeroTo, HasEdgesByName, IsFirstNegative, IsEdgeListFault, ends_of, names_of, places_of};
@@ -12,7 +13,7 @@ use crate::error::EdgeListError;
 use crate::graph::Graph;
 use crate::layout::{offsets_of, targets_of};
 use crate::names::{Names, Numbered, number_edges};
-use pf_base::Cost;
+use pf_base::{Cost, PathError};
 use std::alloc::{Allocator, Global};
 use std::hash::Hash;
 use std::marker::Model;
@@ -115,6 +116,23 @@ impl<'e, N: Eq + Hash, C: Cost, A: Allocator> EdgeList<'e, N, C, A> {
         ensures { slice_get (names_of N.eq self.now) node ≡ Some result.now }
     {
         self.names.as_slice()[node]
+    }
+
+    /// The names of these nodes, in their order.
+    pub fn names_of<B: Allocator + Copy>(
+        &self,
+        alloc: B,
+        nodes: &[usize],
+    ) -> Result<Vec<&'e N, B>, PathError>
+        requires { (k : ℕ) → Contains nodes.now k → k < length (names_of N.eq self.now) }
+        ensures names { IfOk result (λ names. AllZip (λ node name. slice_get (names_of N.eq self.now) node ≡ Some name) nodes.now (nodes_of names.items)) }
+        ensures refused { IfErr result (λ e. e ≡ PathError.OutOfMemory) }
+    {
+        let mut names = Vec::with_capacity(alloc, nodes.len())?;
+        for node in nodes {
+            names.push(self.name_of(*node))?;
+        }
+        Ok(names)
     }
 }
 

@@ -2,7 +2,8 @@
 
 ghost use Rattle.std.specs.Prelude.{◌≡◌, ◌<◌, ◌≤◌, ℕ, List, [], ◌∷◌, ◌++◌, OnOk, OnErr, IfErr, length, take, map, nat_eq};
 ghost use Rattle.std.specs.List.{IsDistinct};
-ghost use Rattle.pf_core.specs.Nodes.{TestedGraph, IsStep, StandsFor, AddsNode, NumbersItems, AddedFrom};
+ghost use Rattle.pf_core.specs.Nodes.{TestedGraph, IsStep, ends_of, StandsFor, AddsNode, NumbersItems, AddedFrom};
+ghost use Rattle.pf_core.specs.Numbered.{NumbersInOrder};
 ghost use Rattle.pf_core.specs.NodeLaws.{StandsFor-one, StandsFor-inside};
 ghost use Rattle.pf_tables.specs.Numbering.{IsIndex, IsExplored, priced};
 ghost use Rattle.std.proofs.lemmas.Cmp.{nat_eq_equiv};
@@ -78,7 +79,8 @@ where
     requires wide { length numbering.old.numbers.items ≡ G.size graph.now }
     ensures numbered { OnOk result ((steps : List (ℕ × K)) × R.holds row.new steps
         × NumbersItems nat_eq numbering.new.order.items steps (priced F.price (G.places graph.now node))
-        × AddedFrom nat_eq (priced F.price (G.places graph.now node)) numbering.old.order.items numbering.new.order.items) }
+        × AddedFrom nat_eq (priced F.price (G.places graph.now node)) numbering.old.order.items numbering.new.order.items
+        × NumbersInOrder (StandsFor nat_eq numbering.new.order.items) (length numbering.old.order.items) (map (λ (x : ℕ × K). x.0) (priced F.price (G.places graph.now node))) (length numbering.new.order.items)) }
     ensures index { IsIndex numbering.new.order.items numbering.new.numbers.items }
     ensures wide { length numbering.new.numbers.items ≡ G.size graph.now }
     ensures distinct { IsDistinct nat_eq numbering.old.order.items → IsDistinct nat_eq numbering.new.order.items }
@@ -138,6 +140,8 @@ where
     ghost Graph = { TestedGraph ℕ };
 
     ghost step = { λ g. IsStep nat_eq g.graph };
+
+    ghost successors = { λ g. ends_of g.graph.edges };
 
     ghost passes = { λ g x. g.test x };
 

@@ -4,6 +4,7 @@
 
 mod board;
 mod cheapest;
+mod cheapest_names;
 mod checks;
 mod compact_rows;
 mod costless;
@@ -11,6 +12,7 @@ mod edge_list;
 mod error;
 mod explored;
 mod fewest;
+mod fewest_names;
 mod goals;
 mod graph;
 mod layout;

@@ -67,7 +67,7 @@ impl<A: Allocator + Copy> Numbering<A> {
 }
 
 /// The node alone.
-pub fn alone<A: Allocator + Copy>(alloc: A, node: usize) -> Result<Vec<usize, A>, PathError>
+pub fn alone<T: Drop, A: Allocator + Copy>(alloc: A, node: T) -> Result<Vec<T, A>, PathError>
     ensures one { IfOk result (λ nodes. nodes.items ≡ node ∷ []) }
     ensures refused { IfErr result (λ e. e ≡ PathError.OutOfMemory) }
 {

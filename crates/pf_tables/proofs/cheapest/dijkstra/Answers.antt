@@ -6,7 +6,8 @@ use Rattle.pf_core.specs.NodeLaws.{StandsFor-one}
 use Rattle.pf_core.proofs.WalkLemmas.{all_starts, only_starts, no_negative, no_walk, best_answer, past_range}
 use Rattle.pf_tables.specs.Graphs.{graph_of}
 use Rattle.pf_tables.proofs.GraphLemmas.{no_negative_cost}
-use Rattle.pf_tables.proofs.ExploreLemmas.{nat_alike, costs_listed, edges_outside, no_edge, none_alone, cheapest_alone, begins_at, explored_first}
+use Rattle.pf_tables.proofs.Alone.{no_walk_alone, cheapest_alone}
+use Rattle.pf_tables.proofs.ExploreLemmas.{nat_alike, costs_listed, edges_outside, begins_at, explored_first}
 use borrow.Author.Tests.{eqb-true}
 use Rattle.pf_tables.proofs.cheapest.dijkstra.Goals as goal
 
@@ -18,14 +19,14 @@ pub returns-then-not-is_goal-clause-best : goal.returns-then-not-is_goal-clause-
 returns-then-not-is_goal-clause-best g c =
     let edges = graph_of g.C.Number.value (g.G.Graph.size c.args.graph.now) (g.G.Graph.places c.args.graph.now) in
     let outside = edges_outside g.C.Number.value (g.G.Graph.size c.args.graph.now) (g.G.Graph.places c.args.graph.now) c.args.from (omega (arith, c.if-from-len.true, c.len.ensures)) in
-    none_alone _ c.args.from (no_edge edges c.args.from outside (g.T.Goals.passes c.args.goals)) (g.T.Goals.passes c.args.goals) (search rules)
+    no_walk_alone nat_eq_equiv c.args.from (g.T.Goals.passes c.args.goals) (λ a e. ap (g.T.Goals.passes c.args.goals) (eqb-true c.args.from a e)) edges outside (search rules)
 
 pub returns-then-from-len-clause-best : goal.returns-then-from-len-clause-best
 returns-then-from-len-clause-best g c =
     let edges = graph_of g.C.Number.value (g.G.Graph.size c.args.graph.now) (g.G.Graph.places c.args.graph.now) in
     let outside = edges_outside g.C.Number.value (g.G.Graph.size c.args.graph.now) (g.G.Graph.places c.args.graph.now) c.args.from (omega (arith, c.if-from-len.true, c.len.ensures)) in
     let zero : g.C.Number.value c.zero.result ≡ pos 0 = search rules in
-    rw (c.in_ok-path.ensures.one, zero) (cheapest_alone edges c.args.from outside (g.T.Goals.passes c.args.goals) (search rules))
+    rw (c.in_ok-path.ensures.one, zero) (cheapest_alone nat_eq_equiv c.args.from (g.T.Goals.passes c.args.goals) (λ a e. ap (g.T.Goals.passes c.args.goals) (eqb-true c.args.from a e)) edges outside (search rules))
 
 pub cheapest_path-requires-clause-begins : goal.cheapest_path-requires-clause-begins
 cheapest_path-requires-clause-begins g c = (c.args.from, (begins_at c.args.from c.in_ok-numbering.numbering.order.items c.in_ok-numbering.ensures.one c.args.from).1 (nat_eq_equiv.refl c.args.from))

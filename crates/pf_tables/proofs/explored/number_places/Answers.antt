@@ -1,5 +1,8 @@
-use Rattle.std.proofs.Common.{◌≡◌, Some, ◌∙◌, ap, inl, arith, [], ◌∷◌, ◌++◌, take_all, take, length, nat_eq}
+use Rattle.std.proofs.Common.{refl, ℕ, map, ◌≡◌, Some, ◌∙◌, ap, inl, arith, [], ◌∷◌, ◌++◌, take_all, take, length, nat_eq}
 use Rattle.pf_core.proofs.NodeLemmas.{take_longer, Numbers-grow, Numbers-push, AddedFrom-push, AddsNode-stays}
+use Rattle.std.proofs.lemmas.List.{map-append}
+use Rattle.std.proofs.lemmas.Cmp.{nat_eq_equiv}
+use Rattle.pf_core.proofs.OrderLemmas.{InOrder-push}
 use Rattle.pf_tables.specs.Numbering.{priced}
 use Rattle.pf_tables.proofs.IndexLemmas.{priced_more, priced_same}
 use Rattle.pf_tables.proofs.explored.number_places.Goals.{in-Some+in_default-number_edge, in_default}
@@ -17,6 +20,7 @@ loop-place-init g c =
       wide = c.requires.wide;
       numbered = ([], c.requires.empty, tt);
       added = λ k m h. inl h;
+      ordered = refl;
       distinct = λ d. d;
     }
 
@@ -76,6 +80,7 @@ loop-place-preserved g c =
               rw more (Numbers-push nat_eq new v.numbered.0 (priced price (take i places)) n.0 (price w.in-Some.edge.1) w.in-Some.edge.0 grown n.1),
             );
             added = rw more (AddedFrom-push nat_eq c.args.numbering.now.order.items old new (priced price (take i places)) (price w.in-Some.edge.1) w.in-Some.edge.0 a v.added);
+            ordered = rw more (rw (map-append (λ (x : ℕ × g.row.K.Denot). x.0) (priced price (take i places)) ((w.in-Some.edge.0, price w.in-Some.edge.1) ∷ [])) (InOrder-push nat_eq nat_eq_equiv old new (length c.args.numbering.now.order.items) (map (λ (x : ℕ × g.row.K.Denot). x.0) (priced price (take i places))) w.in-Some.edge.0 n.0 a n.1 v.ordered));
             distinct = λ d. a.distinct (v.distinct d);
           })
       | in_default w ↦
@@ -88,6 +93,7 @@ loop-place-preserved g c =
             wide = v.wide;
             numbered = (v.numbered.0, v.numbered.1, rw same v.numbered.2);
             added = rw same v.added;
+            ordered = rw same v.ordered;
             distinct = v.distinct;
           })
     ]
@@ -98,7 +104,7 @@ returns-clause-numbered g c =
     let places = g.G.Graph.places c.args.graph.now c.args.node in
     let all : take c.loop-place.place places ≡ places = take_all c.loop-place.place places (omega (arith, c.loop-place-test.false, c.places-place-end.ensures)) in
     let n = rw all at v.numbered in
-    (n.0, n.1, n.2, rw all at v.added)
+    (n.0, n.1, n.2, rw all at v.added, rw all at v.ordered)
 
 pub returns-clause-index : goal.returns-clause-index
 returns-clause-index g c = c.loop-place.invariant.index

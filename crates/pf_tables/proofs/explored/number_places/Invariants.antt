@@ -1,6 +1,7 @@
-use Rattle.std.proofs.Common.{ℕ, List, ◌≡◌, ◌≤◌, length, take, nat_eq}
+use Rattle.std.proofs.Common.{ℕ, List, ◌≡◌, ◌≤◌, length, take, map, nat_eq}
 use Rattle.std.specs.List.{IsDistinct}
-use Rattle.pf_core.specs.Nodes.{NumbersItems, AddedFrom}
+use Rattle.pf_core.specs.Numbered.{NumbersInOrder}
+use Rattle.pf_core.specs.Nodes.{StandsFor, NumbersItems, AddedFrom}
 use Rattle.pf_tables.specs.Numbering.{IsIndex, priced}
 use Rattle.pf_tables.proofs.explored.number_places.Given as goal
 
@@ -13,5 +14,6 @@ invariant-loop-place g l = record {
   wide : length l.numbering.numbers.items ≡ g.G.Graph.size l.graph;
   numbered : (steps : List (ℕ × g.row.K.Denot)) × g.R.Row.holds l.row steps × NumbersItems nat_eq l.numbering.order.items steps (priced g.F.Price.price (take l.place (g.G.Graph.places l.graph l.node)));
   added : AddedFrom nat_eq (priced g.F.Price.price (take l.place (g.G.Graph.places l.graph l.node))) l.fn.numbering.order.items l.numbering.order.items;
+  ordered : NumbersInOrder (StandsFor nat_eq l.numbering.order.items) (length l.fn.numbering.order.items) (map (λ (x : ℕ × g.row.K.Denot). x.0) (priced g.F.Price.price (take l.place (g.G.Graph.places l.graph l.node)))) (length l.numbering.order.items);
   distinct : IsDistinct nat_eq l.fn.numbering.order.items → IsDistinct nat_eq l.numbering.order.items;
 }

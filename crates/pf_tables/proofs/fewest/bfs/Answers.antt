@@ -6,7 +6,8 @@ use Rattle.pf_core.specs.Hops.{unit_edges}
 use Rattle.pf_core.proofs.WalkLemmas.{no_walk, best_answer}
 use Rattle.pf_core.proofs.UnitLemmas.{is_hop, no_next_walk, fewest_of_best, begins_all}
 use Rattle.pf_tables.specs.Graphs.{successors_of}
-use Rattle.pf_tables.proofs.ExploreLemmas.{nat_alike, units_listed, successors_outside, no_successor, none_alone, fewest_alone, starts_below, explored_first}
+use Rattle.pf_tables.proofs.Alone.{no_way_alone, fewest_alone}
+use Rattle.pf_tables.proofs.ExploreLemmas.{nat_alike, units_listed, successors_outside, starts_below, explored_first}
 use borrow.Author.Tests.{eqb-true}
 use Rattle.pf_tables.proofs.fewest.bfs.Goals as goal
 
@@ -18,13 +19,13 @@ pub returns-then-not-is_goal-clause-best : goal.returns-then-not-is_goal-clause-
 returns-then-not-is_goal-clause-best g c =
     let next = successors_of g.C.Number.value (g.G.Graph.size c.args.graph.now) (g.G.Graph.places c.args.graph.now) in
     let outside = successors_outside g.C.Number.value (g.G.Graph.size c.args.graph.now) (g.G.Graph.places c.args.graph.now) c.args.from (omega (arith, c.if-from-len.true, c.len.ensures)) in
-    none_alone _ c.args.from (no_successor next c.args.from outside (g.T.Goals.passes c.args.goals)) (g.T.Goals.passes c.args.goals) (search rules)
+    no_way_alone nat_eq_equiv c.args.from (g.T.Goals.passes c.args.goals) (λ a e. ap (g.T.Goals.passes c.args.goals) (eqb-true c.args.from a e)) next outside (search rules)
 
 pub returns-then-from-len-clause-best : goal.returns-then-from-len-clause-best
 returns-then-from-len-clause-best g c =
     let next = successors_of g.C.Number.value (g.G.Graph.size c.args.graph.now) (g.G.Graph.places c.args.graph.now) in
     let outside = successors_outside g.C.Number.value (g.G.Graph.size c.args.graph.now) (g.G.Graph.places c.args.graph.now) c.args.from (omega (arith, c.if-from-len.true, c.len.ensures)) in
-    rw c.in_ok-path.ensures.one (fewest_alone next c.args.from outside (g.T.Goals.passes c.args.goals) (search rules))
+    rw c.in_ok-path.ensures.one (fewest_alone nat_eq_equiv c.args.from (g.T.Goals.passes c.args.goals) (λ a e. ap (g.T.Goals.passes c.args.goals) (eqb-true c.args.from a e)) next outside (search rules))
 
 pub fewest_edges_path-requires-clause-graph : goal.fewest_edges_path-requires-clause-graph
 fewest_edges_path-requires-clause-graph g c =

@@ -1,10 +1,11 @@
-use Rattle.std.proofs.Common.{◌≡◌, ◌<◌, sym, subst, Some, slice_get, ℕ, inl, inr, nat_eq, arith}
+use Rattle.std.proofs.Common.{length, ◌≡◌, ◌<◌, sym, subst, Some, slice_get, ℕ, inl, inr, nat_eq, arith}
 use Rattle.std.proofs.lemmas.Cmp.{nat_eq_equiv}
 use Rattle.std.proofs.lemmas.Option.{slice_get_within}
 use Rattle.pf_base.specs.Edges.{InReach}
 use Rattle.pf_core.specs.NodeLaws.{StandsFor-one}
 use Rattle.pf_core.proofs.ListLemmas.{at_place, on_ok, ok_or_err}
 use Rattle.pf_core.proofs.NodeLemmas.{fresh_number, Grows-from_take, inside_of, Lists-from, reached_added}
+use Rattle.pf_core.proofs.OrderLemmas.{Placed-same, InOrder-same, ends_at}
 use Rattle.pf_tables.specs.Numbering.{priced}
 use Rattle.pf_tables.proofs.ExploreLemmas.{nat_alike}
 use Rattle.pf_tables.proofs.explored.ExploredNumberedGraph.expand.Goals as goal
@@ -61,3 +62,29 @@ returns-clause-listed g c = on_ok c.number_places.result c.number_places.ensures
           let inside : here < g.G.Graph.size c.args.self.now.graph.now = omega (arith, l, x.2) in
           Lists-from nat_eq nat_eq_equiv g.K.Number.value h.graph (nat_alike h.graph.edges h.graph.starts) keys keys' c.args.node here n.0 items at reach n.2 (x.0.listed here inside) (λ i j z. StandsFor-one nat_eq nat_eq_equiv keys' distinct i j z) y s,
     ))
+
+pub returns-clause-placed : goal.returns-clause-placed
+returns-clause-placed g c = on_ok c.number_places.result c.number_places.ensures.numbered (λ n.
+    let here = c.index-place.result.now in
+    let keys = c.args.self.now.numbering.order.items in
+    let keys' = c.number_places.new.numbering.order.items in
+    let items = priced g.F.Price.price (g.G.Graph.places c.args.self.now.graph.now here) in
+    let at : slice_get keys c.args.node ≡ Some here = at_place _ _ _ _ c.requires.inside (sym c.index-place.ensures) in (
+      n.0,
+      n.1,
+      λ h x y s.
+          let l = slice_get_within c.args.self.now.numbering.numbers.items here _ (x.1.at c.args.node here at) in
+          let inside : here < g.G.Graph.size c.args.self.now.graph.now = omega (arith, l, x.2) in
+          Placed-same nat_eq nat_eq_equiv keys' n.0 items _ n.2 (ends_at nat_eq nat_eq_equiv g.K.Number.value h.graph (nat_alike h.graph.edges h.graph.starts) keys c.args.node here items at (x.0.reached c.args.node here at) (x.0.listed here inside) y s),
+    ))
+
+pub returns-clause-ordered : goal.returns-clause-ordered
+returns-clause-ordered g c = on_ok c.number_places.result c.number_places.ensures.numbered (λ n. λ h x y s.
+    let here = c.index-place.result.now in
+    let keys = c.args.self.now.numbering.order.items in
+    let keys' = c.number_places.new.numbering.order.items in
+    let items = priced g.F.Price.price (g.G.Graph.places c.args.self.now.graph.now here) in
+    let at : slice_get keys c.args.node ≡ Some here = at_place _ _ _ _ c.requires.inside (sym c.index-place.ensures) in
+    let l = slice_get_within c.args.self.now.numbering.numbers.items here _ (x.1.at c.args.node here at) in
+    let inside : here < g.G.Graph.size c.args.self.now.graph.now = omega (arith, l, x.2) in
+    InOrder-same nat_eq nat_eq_equiv keys' (length keys) (length keys') _ _ (ends_at nat_eq nat_eq_equiv g.K.Number.value h.graph (nat_alike h.graph.edges h.graph.starts) keys c.args.node here items at (x.0.reached c.args.node here at) (x.0.listed here inside) y s) n.4)
