@@ -4,4 +4,5 @@ pub mod EdgesByReference
 pub mod Components
 pub mod GrownTree
 pub mod Assignments
+pub mod Cycles
 pub mod Internal

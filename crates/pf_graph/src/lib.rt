@@ -1,5 +1,6 @@
-//! Components and minimum spanning forests of undirected graphs, and best assignments.
+//! Cycles of a step, components and minimum spanning forests of undirected graphs, and best assignments.
 #![tactic(auto)]
 
+pub mod directed;
 pub mod kuhn_munkres;
 pub mod undirected;

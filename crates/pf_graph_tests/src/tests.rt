@@ -1,5 +1,6 @@
 mod around;
 mod assignments;
+mod cycles;
 mod prim;
 mod refusals;
 mod rows;

@@ -1,0 +1,84 @@
+use Rattle.std.proofs.Common.{rules, ◌≡◌, ℕ, ◌+◌, ◌<◌, arith, inl, inr}
+use Rattle.pf_graph.specs.Cycles.{AnswersStep, IsAfter, IsMet, Repeats, IsStepRefusal}
+use Rattle.pf_graph.proofs.CycleLemmas.{after_next, after_equal, same_after, differ, agree}
+use Rattle.pf_graph.proofs.FloydLemmas.{IsFloydRound, begin_round, next_round, round_met, round_refused}
+use Rattle.pf_graph.proofs.directed.cycle_detection.floyd_method.meeting.Goals as goal
+
+pub call-fast-requires : goal.call-fast-requires
+call-fast-requires g c =
+    let r = c.requires.steps in
+    let first = c.requires.clones c.args.start.now c.in_ok-clone.field-0 c.in_ok-clone.ensures.cases in
+    let slow = after_next g.met.T.Eq.laws r.1.alike 0 c.in_ok-clone.field-0 c.call-slow.result first (r.1.answers c.in_ok-clone.field-0 c.call-slow.result (0, first) c.call-slow.ensures) in
+    let copy = c.requires.clones c.call-slow.result c.in_ok-clone-2.field-0 c.in_ok-clone-2.ensures.cases in
+    let may : g.S.Fn.pre c.args.step.now (c.in_ok-clone-2.field-0, tt) = r.1.callable c.in_ok-clone-2.field-0 (1, after_equal g.met.T.Eq.laws r.1.alike 1 c.call-slow.result c.in_ok-clone-2.field-0 slow copy) in
+    search (rules, may)
+
+pub loop-steps-init : goal.loop-steps-init
+loop-steps-init g c = λ next a.
+    let first = c.requires.clones c.args.start.now c.in_ok-clone.field-0 c.in_ok-clone.ensures.cases in
+    let stepped = a.answers c.in_ok-clone.field-0 c.call-slow.result (0, first) c.call-slow.ensures in
+    let slow = after_next g.met.T.Eq.laws a.alike 0 c.in_ok-clone.field-0 c.call-slow.result first stepped in
+    let copy = c.requires.clones c.call-slow.result c.in_ok-clone-2.field-0 c.in_ok-clone-2.ensures.cases in
+    begin_round g.met.T.Eq.laws a.alike c.in_ok-clone.field-0 c.call-slow.result c.in_ok-clone-2.field-0 c.call-fast.result first stepped copy
+    (a.answers c.in_ok-clone-2.field-0 c.call-fast.result (1, after_equal g.met.T.Eq.laws a.alike 1 c.call-slow.result c.in_ok-clone-2.field-0 slow copy) c.call-fast.ensures)
+
+pub returns-in_err-steps-clause-refused : goal.returns-in_err-steps-clause-refused
+returns-in_err-steps-clause-refused g c = λ next a.
+    let differs = differ (g.T.PartialEq.eq c.loop-steps.slow c.loop-steps.fast) c.ne.result c.ne.ensures c.loop-steps-test.true in
+    let past = round_refused g.met.T.Eq.laws a.alike c.loop-steps.slow c.loop-steps.fast c.loop-steps.steps (c.loop-steps.invariant next a) differs c.in_err-steps.ensures.refused.1 in
+    let refused : IsStepRefusal g.T.PartialEq.eq next c.args.start.now c.in_err-steps.field-0.0 = inr (c.in_err-steps.ensures.refused.0, past) in
+    search (rules, refused)
+
+pub step-slow-requires : goal.step-slow-requires
+step-slow-requires g c =
+    let r = c.requires.steps in
+    let may : g.S.Fn.pre c.args.step.now (c.loop-steps.slow, tt) = r.1.callable c.loop-steps.slow (c.loop-steps.steps, (c.loop-steps.invariant r.0 r.1).slow_at) in
+    search (rules, may)
+
+pub step-requires : goal.step-requires
+step-requires g c =
+    let r = c.requires.steps in
+    let may : g.S.Fn.pre c.args.step.now (c.loop-steps.fast, tt) = r.1.callable c.loop-steps.fast (c.loop-steps.steps + c.loop-steps.steps, (c.loop-steps.invariant r.0 r.1).fast_at) in
+    search (rules, may)
+
+pub step-fast-requires : goal.step-fast-requires
+step-fast-requires g c =
+    let r = c.requires.steps in
+    let i = c.loop-steps.invariant r.0 r.1 in
+    let here = after_next g.met.T.Eq.laws r.1.alike (c.loop-steps.steps + c.loop-steps.steps) c.loop-steps.fast c.step.result i.fast_at (r.1.answers c.loop-steps.fast c.step.result (c.loop-steps.steps + c.loop-steps.steps, i.fast_at) c.step.ensures) in
+    let may : g.S.Fn.pre c.args.step.now (c.step.result, tt) = r.1.callable c.step.result (c.loop-steps.steps + c.loop-steps.steps + 1, here) in
+    search (rules, may)
+
+pub loop-steps-smaller : goal.loop-steps-smaller
+loop-steps-smaller g c = omega (arith, c.in_ok-steps.ensures.more)
+
+pub loop-steps-preserved : goal.loop-steps-preserved
+loop-steps-preserved g c = λ next a.
+    let i = c.loop-steps.invariant next a in
+    let differs = differ (g.T.PartialEq.eq c.loop-steps.slow c.loop-steps.fast) c.ne.result c.ne.ensures c.loop-steps-test.true in
+    let moved = a.answers c.loop-steps.fast c.step.result (c.loop-steps.steps + c.loop-steps.steps, i.fast_at) c.step.ensures in
+    let here = after_next g.met.T.Eq.laws a.alike (c.loop-steps.steps + c.loop-steps.steps) c.loop-steps.fast c.step.result i.fast_at moved in
+    rw c.in_ok-steps.ensures.more
+    (next_round g.met.T.Eq.laws a.alike c.loop-steps.slow c.loop-steps.fast c.step-slow.result c.step.result c.step-fast.result c.loop-steps.steps i differs
+    (a.answers c.loop-steps.slow c.step-slow.result (c.loop-steps.steps, i.slow_at) c.step-slow.ensures) moved
+    (a.answers c.step.result c.step-fast.result (c.loop-steps.steps + c.loop-steps.steps + 1, here) c.step-fast.ensures))
+
+pub length_at-requires-clause-steps : goal.length_at-requires-clause-steps
+length_at-requires-clause-steps g c =
+    let r = c.requires.steps in
+    let i = c.loop-steps.invariant r.0 r.1 in
+    let met = same_after g.met.T.Eq.laws r.1.alike c.loop-steps.steps (c.loop-steps.steps + c.loop-steps.steps) c.loop-steps.slow c.loop-steps.fast i.slow_at i.fast_at
+    (agree (g.T.PartialEq.eq c.loop-steps.slow c.loop-steps.fast) c.ne.result c.ne.ensures c.loop-steps-test.false) in
+    (c.args.start.now, r.0, r.1, i.slow_at, i.positive, met)
+
+pub returns-clause-cycle : goal.returns-clause-cycle
+returns-clause-cycle g c = λ next a.
+    let i = c.loop-steps.invariant next a in
+    let met = same_after g.met.T.Eq.laws a.alike c.loop-steps.steps (c.loop-steps.steps + c.loop-steps.steps) c.loop-steps.slow c.loop-steps.fast i.slow_at i.fast_at
+    (agree (g.T.PartialEq.eq c.loop-steps.slow c.loop-steps.fast) c.ne.result c.ne.ensures c.loop-steps-test.false) in
+    let l = c.in_ok-length.ensures in
+    round_met g.met.T.Eq.laws a.alike c.loop-steps.slow c.loop-steps.fast c.loop-steps.steps c.in_ok-length.length i l.positive
+    (l.repeats c.args.start.now next a i.slow_at) (l.least c.args.start.now next a i.slow_at) met
+
+pub returns-clause-value : goal.returns-clause-value
+returns-clause-value g c = λ next a. (c.loop-steps.invariant next a).slow_at

@@ -1,0 +1,3 @@
+//! Directed graphs: cycles of a step.
+
+pub mod cycle_detection;
