@@ -1,0 +1,9 @@
+pub mod ComponentLists
+pub mod ComponentPlaces
+pub mod ComponentPaths
+pub mod ComponentNodes
+pub mod OrderLemmas
+pub mod SortLemmas
+pub mod RoundLemmas
+pub mod DepthLemmas
+pub mod JoinedLemmas

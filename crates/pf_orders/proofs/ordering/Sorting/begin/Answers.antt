@@ -1,0 +1,30 @@
+use Rattle.std.proofs.Common.{rules, ◌≡◌, ◌<◌, ◌++◌, ℕ, sym, subst, arith, inl, inr, List, [], ◌∷◌}
+use Rattle.std.specs.Prelude.{Contains, reverse}
+use Rattle.pf_core.proofs.ListLemmas.{nat_dec, Contains-append_one, Contains-reverse}
+use Rattle.pf_orders.specs.declared.ordering.Turn.{Turn}
+use Rattle.pf_orders.proofs.OrderLemmas.{Contains-left, Contains-last, to_reverse}
+use Rattle.pf_orders.proofs.ordering.Sorting.begin.Goals as goal
+
+pub roots-preserved : goal.roots-preserved
+roots-preserved g c =
+    let old = c.roots.turns.items in
+    let root = c.roots.root in
+    let e : c.push.new.self.items ≡ old ++ Turn.Enter root ∷ [] = search rules in
+    record {
+      marks = c.roots.invariant.marks;
+      listed = λ k l. subst (λ (ts : List Turn). Contains ts (Turn.Enter k)) (sym e) (elim (nat_dec k root) as (λ _. Contains (old ++ Turn.Enter root ∷ []) (Turn.Enter k)) [
+        | inl q ↦ subst (λ (i : ℕ). Contains (old ++ Turn.Enter root ∷ []) (Turn.Enter i)) (sym q) (Contains-last old (Turn.Enter root))
+        | inr n ↦ Contains-left old (Turn.Enter root ∷ []) (Turn.Enter k) (c.roots.invariant.listed k (omega (arith, l, n)))
+      ]);
+      only = λ t h. elim (Contains-append_one old (Turn.Enter root) t (subst (λ (ts : List Turn). Contains ts t) e h)) as (λ _. (k : ℕ) × (k < c.args.found) × (t ≡ Turn.Enter k)) [
+        | inl i ↦ c.roots.invariant.only t i
+        | inr q ↦ (root, omega (arith, c.roots-test.true, c.roots.auto.root-end), sym q)
+      ];
+    }
+
+pub returns-clause-turns : goal.returns-clause-turns
+returns-clause-turns g c =
+    let e : c.reverse.new.self.items ≡ reverse c.roots.turns.items = c.reverse.ensures.items in (
+      (λ k l. subst (λ (ts : List Turn). Contains ts (Turn.Enter k)) (sym e) (to_reverse c.roots.turns.items (Turn.Enter k) (c.roots.invariant.listed k (omega (arith, l, c.roots-test.false, c.roots.auto.root-end))))),
+      (λ t h. c.roots.invariant.only t (Contains-reverse c.roots.turns.items t (subst (λ (ts : List Turn). Contains ts t) e h))),
+    )

@@ -1,0 +1,26 @@
+use Rattle.std.proofs.Common.{rules, ◌≡◌, ◌∙◌, ◌++◌, ℕ, sym, subst, ap, List, [], ◌∷◌}
+use Rattle.std.specs.Prelude.{Contains, reverse}
+use Rattle.std.specs.List.{AllZip}
+use Rattle.std.proofs.lemmas.List.{append_assoc}
+use Rattle.pf_core.proofs.DepthFirstLemmas.{ends_stand}
+use Rattle.pf_core.proofs.ListLemmas.{on_ok}
+use Rattle.pf_orders.specs.declared.ordering.Turn.{Turn}
+use Rattle.pf_orders.specs.Orderings.{entries}
+use Rattle.pf_orders.proofs.OrderLemmas.{step_of}
+use Rattle.pf_orders.proofs.ordering.Sorting.enter.Goals as goal
+
+pub returns-clause-turns : goal.returns-clause-turns
+returns-clause-turns g c =
+    let old = c.args.self.now.turns.items in
+    let number = c.args.number in
+    let row = c.expand.new.row.items in
+    let pushed : c.push.new.self.items ≡ old ++ Turn.Leave number ∷ [] = search rules in
+    let turned : c.deref.result.now ≡ reverse row = c.deref.ensures.value ∙ c.reverse.ensures.items in
+    let p = c.in_ok-expand.ensures.placed in
+    let l = c.in_ok-expand.ensures.listed in
+    on_ok c.put_entries.result c.put_entries.ensures.put (λ put. (
+      row,
+      put ∙ ap (λ ts. ts ++ entries c.deref.result.now) pushed ∙ append_assoc old (Turn.Leave number ∷ []) (entries c.deref.result.now) ∙ ap (λ ks. old ++ Turn.Leave number ∷ entries ks) turned,
+      (λ k h. let q = step_of l.0 k (subst (λ (ks : List ℕ). Contains ks k) l.1 h) in l.2 k q.0 q.1),
+      (λ h e x s. subst (λ ns. AllZip (g.G.NumberedGraph.stands c.expand.new.self) ns (g.G.NumberedGraph.successors h x)) (sym p.1) (ends_stand _ p.0 _ (p.2 h e x s))),
+    ))

@@ -1,0 +1,38 @@
+use Rattle.std.proofs.Common.{rules, ◌≡◌, ◌+◌, ℕ, List, arith, get_or, take, slice_get, Some, subst, sym}
+use Rattle.std.specs.Prelude.{slice_set}
+use Rattle.std.proofs.lemmas.List.{take_more}
+use Rattle.pf_core.proofs.ListLemmas.{Contains-index, at_place}
+use Rattle.pf_orders.specs.Rounds.{Falls}
+use Rattle.pf_orders.proofs.OrderLemmas.{member_of}
+use Rattle.pf_orders.proofs.RoundLemmas.{rises_more}
+use Rattle.pf_orders.proofs.rows.count_row.Goals as goal
+
+pub index-requires : goal.index-requires
+index-requires g c =
+    let row = c.args.row.now in
+    let i = c.targets.target-index in
+    let l = c.requires (get_or row i 0) (member_of row (get_or row i 0) (Contains-index row i 0 c.targets-test.true)) in
+    omega (arith, l, c.targets.invariant.len, c.targets.counts.ok)
+
+pub index_mut-requires : goal.index_mut-requires
+index_mut-requires g c =
+    let row = c.args.row.now in
+    let i = c.targets.target-index in
+    let l = c.requires (get_or row i 0) (member_of row (get_or row i 0) (Contains-index row i 0 c.targets-test.true)) in
+    omega (arith, l, c.targets.invariant.len, c.targets.counts.ok)
+
+pub targets-preserved : goal.targets-preserved
+targets-preserved g c =
+    let row = c.args.row.now in
+    let i = c.targets.target-index in
+    let t = get_or row i 0 in
+    let counts = c.targets.counts.items in
+    let v = c.targets.invariant in
+    let l = c.requires t (member_of row t (Contains-index row i 0 c.targets-test.true)) in
+    let old = c.index.result.now in
+    let at : slice_get counts t ≡ Some old = at_place counts t _ _ (omega (arith, l, v.len)) (sym c.index.ensures) in
+    let e : c.in-Some.count ≡ old + 1 = search rules in
+    let f = rises_more (take i row) c.args.counts.now.items counts t old v.falls at in
+    let h = subst (λ (ks : List ℕ). Falls ks (slice_set counts t (old + 1)) c.args.counts.now.items) (sym (take_more row i 0 c.targets-test.true)) f in
+    let k = subst (λ (n : ℕ). Falls (take (i + 1) row) (slice_set counts t n) c.args.counts.now.items) (sym e) h in
+    record { falls = k; len = sym k.len }

@@ -1,0 +1,4 @@
+//! Directed graphs.
+
+pub mod strongly_connected_components;
+pub mod topological_sort;

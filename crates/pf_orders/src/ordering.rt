@@ -1,0 +1,156 @@
+//! Numbers in topological order (depth-first search).
+
+ghost use Rattle.std.specs.Prelude.{◌≡◌, ◌<◌, ◌≤◌, ◌+◌, ◌-◌, ◌++◌, ◌∷◌, [], ℕ, List, Contains, IfOk, IfErr, OnOk, length, slice_set, replicate, reverse, map};
+ghost use Rattle.std.specs.List.{AllZip};
+ghost use Rattle.pf_core.specs.Numbered.{Grows};
+ghost use Rattle.pf_orders.specs.Orderings.{entries, IsOrderedReach, IsOnNumberedCycle};
+
+use pf_base::utils::Tally;
+use pf_base::{Cost, PathError};
+use pf_core::numbered::NumberedGraph;
+use std::alloc::Allocator;
+
+/// What the walk does with a number.
+#[derive(Copy, Clone)]
+pub enum Turn {
+    /// Enters it, where that was not done yet.
+    Enter(usize),
+    /// Leaves it: all its successors were left.
+    Leave(usize),
+}
+
+/// How far the walk has come with a number.
+#[derive(Copy, Clone)]
+pub enum Mark {
+    /// It was not entered.
+    New,
+    /// It was entered and not left: it leads to each number that is entered now.
+    Open,
+    /// It was left.
+    Done,
+}
+
+/// Where the walk stands.
+#[derive(Drop)]
+pub struct Sorting<A: Allocator> {
+    /// How far it has come with each number.
+    pub marks: Vec<Mark, A>,
+    /// What it does from here on, the next turn last.
+    pub turns: Vec<Turn, A>,
+    /// The numbers that were left, in order.
+    pub left: Vec<usize, A>,
+    /// Room for an answer.
+    pub row: Vec<usize, A>,
+}
+
+/// Puts a turn that enters each number at the end.
+fn put_entries<A: Allocator>(turns: &mut Vec<Turn, A>, numbers: &[usize]) -> Result<(), PathError>
+    ensures put { OnOk result (turns.new.items ≡ turns.old.items ++ entries numbers.now) }
+    ensures refused { IfErr result (λ e. e ≡ PathError.OutOfMemory) }
+{
+    turns.reserve(numbers.len())?;
+    'numbers: for number in numbers {
+        turns.push(Turn::Enter(*number))?;
+    }
+    Ok(())
+}
+
+impl<A: Allocator + Copy> Sorting<A> {
+    /// A walk that has entered none of these first numbers, and will enter them in order.
+    fn begin(alloc: A, found: usize) -> Result<Sorting<A>, PathError>
+        ensures marks { IfOk result (λ walk. walk.marks.items ≡ replicate found Mark.New) }
+        ensures turns { IfOk result (λ walk. ((k : ℕ) → k < found → Contains walk.turns.items (Turn.Enter k)) × ((t : Turn) → Contains walk.turns.items t → (k : ℕ) × (k < found) × (t ≡ Turn.Enter k))) }
+        ensures left { IfOk result (λ walk. walk.left.items ≡ []) }
+        ensures refused { IfErr result (λ e. e ≡ PathError.OutOfMemory) }
+    {
+        let mut marks = Vec::new(alloc);
+        marks.resize(found, Mark::New)?;
+        let mut turns = Vec::with_capacity(alloc, found)?;
+        'roots: for root in 0..found {
+            turns.push(Turn::Enter(root))?;
+        }
+        turns.reverse();
+        Ok(Sorting {
+            marks,
+            turns,
+            left: Vec::new(alloc),
+            row: Vec::new(alloc),
+        })
+    }
+
+    /// Enters a number: its successors are asked for, and the walk leaves it once it has left these.
+    fn enter<C: Cost, G: NumberedGraph<C>>(
+        &mut self,
+        graph: &mut G,
+        number: usize,
+    ) -> Result<(), PathError>
+        requires inside { number < G.found graph.old }
+        requires graph { (g : G.Graph) × G.explores graph.old g }
+        requires marked { length self.old.marks.items ≡ G.found graph.old }
+        ensures grows { Grows (G.found graph.old) (G.found graph.new) (G.stands graph.old) (G.stands graph.new) }
+        ensures graph { (g : G.Graph) → G.explores graph.old g → G.explores graph.new g }
+        ensures marks { OnOk result (self.new.marks.items ≡ slice_set self.old.marks.items number Mark.Open ++ replicate (G.found graph.new - length self.old.marks.items) Mark.New) }
+        ensures left { OnOk result (self.new.left.items ≡ self.old.left.items) }
+        ensures turns { OnOk result ((numbers : List ℕ) × (self.new.turns.items ≡ self.old.turns.items ++ Turn.Leave number ∷ entries (reverse numbers))
+            × ((k : ℕ) → Contains numbers k → k < G.found graph.new)
+            × ((g : G.Graph) → G.explores graph.old g → (x : G.Node) → G.stands graph.old number x → AllZip (G.stands graph.new) numbers (G.successors g x))) }
+        ensures refused { IfErr result (λ e. e ≡ PathError.OutOfMemory) }
+    {
+        graph.expand(number, &mut self.row)?;
+        self.marks[number] = Mark::Open;
+        self.marks.resize(graph.found(), Mark::New)?;
+        self.turns.push(Turn::Leave(number))?;
+        self.row.reverse();
+        put_entries(&mut self.turns, &self.row)
+    }
+
+    /// Leaves a number.
+    fn leave(&mut self, number: usize) -> Result<(), PathError>
+        requires inside { number < length self.old.marks.items }
+        ensures marks { OnOk result (self.new.marks.items ≡ slice_set self.old.marks.items number Mark.Done) }
+        ensures left { OnOk result (self.new.left.items ≡ self.old.left.items ++ number ∷ []) }
+        ensures turns { self.new.turns.items ≡ self.old.turns.items }
+        ensures refused { IfErr result (λ e. e ≡ PathError.OutOfMemory) }
+    {
+        self.marks[number] = Mark::Done;
+        self.left.push(number)?;
+        Ok(())
+    }
+}
+
+/// The numbers of all nodes in reach of those found before, each once, so that each step leads
+/// forward; or, in `Err`, the number of a node on a cycle. Each node that is expanded is one tick.
+pub fn sort_numbers<C: Cost, G: NumberedGraph<C>, A: Allocator + Copy>(
+    alloc: A,
+    graph: &mut G,
+    tally: &mut Tally,
+) -> Result<Result<Vec<usize, A>, usize>, PathError>
+    requires graph { (g : G.Graph) × G.explores graph.old g }
+    ensures grows { Grows (G.found graph.old) (G.found graph.new) (G.stands graph.old) (G.stands graph.new) }
+    ensures graph { (g : G.Graph) → G.explores graph.old g → G.explores graph.new g }
+    ensures order { (g : G.Graph) → G.explores graph.old g
+        → IfOk result (λ answer. IfOk answer (λ order. IsOrderedReach (G.successors g) (G.stands graph.new) (G.found graph.old) (G.found graph.new) order.items)) }
+    ensures cycle { IfOk result (λ answer. IfErr answer (λ number. number < G.found graph.new)) }
+    ensures on_cycle { (g : G.Graph) → G.explores graph.old g
+        → IfOk result (λ answer. IfErr answer (λ number. IsOnNumberedCycle (G.successors g) (G.stands graph.new) number)) }
+    ensures ticked { tally.old ≤ tally.new }
+    ensures asked { tally.new ≤ tally.old + G.found graph.new }
+    ensures errors { IfErr result (λ e. e ≡ PathError.OutOfMemory) }
+{
+    let mut walk = Sorting::begin(alloc, graph.found())?;
+    'turns: while let Some(turn) = walk.turns.pop() {
+        match turn {
+            Turn::Enter(number) => match walk.marks[number] {
+                Mark::New => {
+                    tally.tick();
+                    walk.enter(graph, number)?;
+                }
+                Mark::Open => return Ok(Err(number)),
+                Mark::Done => {}
+            },
+            Turn::Leave(number) => walk.leave(number)?,
+        }
+    }
+    walk.left.reverse();
+    Ok(Ok(walk.left))
+}

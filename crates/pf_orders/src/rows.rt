@@ -1,0 +1,63 @@
+//! The numbers that follow each number, and how often each one follows.
+
+ghost use Rattle.std.specs.Prelude.{◌≡◌, ◌⊎◌, ◌<◌, ℕ, Err, Some, Vec, IfOk, IfErr, OnOk, Contains, length, slice_get, nat_eq};
+ghost use Rattle.std.specs.List.{AllZip};
+ghost use Rattle.pf_base.specs.Walks.{HasNode};
+ghost use Rattle.pf_core.specs.Numbered.{Grows, StandsBelow};
+ghost use Rattle.pf_orders.specs.Rounds.{AreCounted, Falls};
+
+use crate::rounds::Rows;
+use pf_base::{Cost, PathError};
+use pf_core::numbered::NumberedGraph;
+use std::alloc::Allocator;
+
+/// Adds the numbers of a row to their counts.
+fn count_row<A: Allocator>(row: &[usize], counts: &mut Vec<usize, A>) -> Result<(), PathError>
+    requires { (j : ℕ) → HasNode nat_eq row.now j → j < length counts.old.items }
+    ensures counted { OnOk result (Falls row.now counts.new.items counts.old.items) }
+    ensures refused { IfErr result (λ e. e ≡ PathError.OutOfMemory) }
+{
+    'targets: for target in row {
+        let Some(count) = counts[*target].checked_add(1) else {
+            // So many edges have no room.
+            return Err(PathError::OutOfMemory);
+        };
+        counts[*target] = count;
+    }
+    Ok(())
+}
+
+/// The numbers that follow each number found before, and how often each one follows. Refused where a
+/// node follows that was not found before.
+pub fn read_rows<C: Cost, G: NumberedGraph<C>, A: Allocator + Copy>(
+    alloc: A,
+    graph: &mut G,
+) -> Result<(Rows<A>, Vec<usize, A>), PathError>
+    requires graph { (g : G.Graph) × G.explores graph.old g }
+    requires begins { (k : ℕ) → k < G.found graph.old → (s : G.Node) × G.stands graph.old k s }
+    ensures graph { (g : G.Graph) → G.explores graph.old g → G.explores graph.new g }
+    ensures grows { Grows (G.found graph.old) (G.found graph.new) (G.stands graph.old) (G.stands graph.new) }
+    ensures same { IfOk result (λ read. G.found graph.new ≡ G.found graph.old) }
+    ensures counted { IfOk result (λ read. AreCounted read.0.items read.1.items) }
+    ensures wide { IfOk result (λ read. length read.0.items ≡ G.found graph.old) }
+    ensures long { IfOk result (λ read. length read.1.items ≡ G.found graph.old) }
+    ensures listed { (g : G.Graph) → G.explores graph.old g → IfOk result (λ read. (k : ℕ) (row : Vec ℕ A) (x : G.Node) → slice_get read.0.items k ≡ Some row → G.stands graph.new k x → AllZip (G.stands graph.new) row.items (G.successors g x)) }
+    ensures unknown { (g : G.Graph) → G.explores graph.old g → result ≡ Err PathError.UnknownVertex
+        → (x : G.Node) × (y : G.Node) × StandsBelow (G.found graph.old) (G.stands graph.new) x × Contains (G.successors g x) y × ¬ (StandsBelow (G.found graph.old) (G.stands graph.new) y) }
+    ensures errors { IfErr result (λ e. (e ≡ PathError.OutOfMemory) ⊎ (e ≡ PathError.UnknownVertex)) }
+{
+    let count = graph.found();
+    let mut rows = Vec::with_capacity(alloc, count)?;
+    let mut counts = Vec::new(alloc);
+    counts.resize(count, 0)?;
+    'numbers: for number in 0..count {
+        let mut row = Vec::new(alloc);
+        graph.expand(number, &mut row)?;
+        if graph.found() > count {
+            return Err(PathError::UnknownVertex);
+        }
+        count_row(&row, &mut counts)?;
+        rows.push(row)?;
+    }
+    Ok((rows, counts))
+}

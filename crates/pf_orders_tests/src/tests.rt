@@ -1,0 +1,4 @@
+mod components;
+mod refusals;
+mod small_graphs;
+mod topological_orders;
