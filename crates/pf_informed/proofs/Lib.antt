@@ -1,0 +1,9 @@
+pub mod ForestLemmas
+pub mod WaitingLemmas
+pub mod PathUp
+pub mod EstimateLemmas
+pub mod WiderLemmas
+pub mod InformedLemmas
+pub mod NodeWalks
+pub mod Outcomes
+pub mod Callers

@@ -1,0 +1,25 @@
+use Rattle.std.proofs.Common.{arith}
+use Rattle.pf_informed.proofs.WaitingLemmas.{taken_in, IsQueue-rest, waits_on, is_taken}
+use Rattle.pf_informed.proofs.queue.take_least.Goals as goal
+
+pub is_lower-requires : goal.is_lower-requires
+is_lower-requires g c =
+    let q = c.entries.invariant.queue in
+    let l = q.labelled c.in-Some.entry (taken_in g.C.Number.value c.args.labels.now.items c.args.estimates.now.items _ _ c.in-Some.entry q c.in-Some.ensures.first.0) in
+    (l.0, l.1)
+
+pub returns-then-not-is_lower-clause-queue : goal.returns-then-not-is_lower-clause-queue
+returns-then-not-is_lower-clause-queue g c = IsQueue-rest g.C.Number.value c.args.labels.now.items c.args.estimates.now.items _ _ c.in-Some.entry c.entries.invariant.queue c.in-Some.ensures.first.0
+
+pub returns-then-not-is_lower-clause-taken : goal.returns-then-not-is_lower-clause-taken
+returns-then-not-is_lower-clause-taken g c = is_taken g.C.Number.value c.args.labels.now.items c.args.estimates.now.items _ _ c.in-Some.entry c.entries.invariant.queue c.in-Some.ensures.first.0 _ c.entries.invariant.waits c.if-not-is_lower.ensures c.in-Some.ensures.least
+
+pub entries-preserved : goal.entries-preserved
+entries-preserved g c =
+    let i = c.entries.invariant in
+    record {
+      ordered = c.take_first.ensures.ordered;
+      queue = IsQueue-rest g.C.Number.value c.args.labels.now.items c.args.estimates.now.items _ _ c.in-Some.entry i.queue c.in-Some.ensures.first.0;
+      waits = λ k m h w. waits_on g.C.Number.value c.args.labels.now.items c.args.estimates.now.items _ _ c.in-Some.entry i.queue c.in-Some.ensures.first.0 c.if-not-is_lower.ensures k m h (i.waits k m h w);
+      fewer = omega (arith, c.in-Some.ensures.first.1, i.fewer);
+    }

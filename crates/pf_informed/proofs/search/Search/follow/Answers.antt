@@ -1,0 +1,79 @@
+use Rattle.std.proofs.Common.{rules, arith, ◌≡◌, ◌<◌, ◌∙◌, subst, sym, ℕ, length}
+use Rattle.std.specs.BinaryHeap.{heap_items, heap_len}
+use Rattle.pf_core.specs.declared.labels.Label.{Label}
+use Rattle.pf_core.proofs.LabelLemmas.{HasLabel-inside, label_is}
+use Rattle.pf_informed.specs.Internal.Forest.{nat_of}
+use Rattle.pf_informed.specs.Internal.Waiting.{Eased}
+use Rattle.pf_informed.proofs.WiderLemmas.{forest_wider, queue_wider, length_wider, widened, work_wider, less_work}
+use Rattle.pf_informed.proofs.search.Search.follow.Goals as goal
+
+pub label_of-label-requires : goal.label_of-label-requires
+label_of-label-requires g c =
+    let labels = c.args.self.now.labels.items in
+    let len : c.len-2.result ≡ length c.args.self.now.estimates.items = search rules in
+    let is = rw len at c.in_ok-make_room.ensures.wider in
+    let w = widened g.C.Number.value labels c.make_room.new.labels.items (length c.args.self.now.estimates.items) c.requires.few is in
+    let l = c.requires.labelled in
+    (l.0, w.stays c.args.number l.0 l.1)
+
+pub relax-requires-clause-inside : goal.relax-requires-clause-inside
+relax-requires-clause-inside g c = λ j d h.
+    let labels = c.args.self.now.labels.items in
+    let len : c.len-2.result ≡ length c.args.self.now.estimates.items = search rules in
+    let is = rw len at c.in_ok-make_room.ensures.wider in
+    let wide = length_wider g.C.Number.value labels c.make_room.new.labels.items (length c.args.self.now.estimates.items) c.requires.few is in
+    subst (λ (n : ℕ). j < n) (sym wide) (c.requires.ends j d (rw c.deref.ensures.value at h))
+
+pub relax-requires-clause-few : goal.relax-requires-clause-few
+relax-requires-clause-few g c =
+    let l = c.requires.labelled in
+    omega (arith, HasLabel-inside c.args.self.now.labels.items c.args.number l.0 l.1, c.requires.few, c.in_ok-make_room.ensures.few)
+
+pub relax-requires-clause-prices : goal.relax-requires-clause-prices
+relax-requires-clause-prices g c = λ j d h. c.requires.prices j d (rw c.deref.ensures.value at h)
+
+pub relax-requires-clause-forest : goal.relax-requires-clause-forest
+relax-requires-clause-forest g c =
+    let labels = c.args.self.now.labels.items in
+    let len : c.len-2.result ≡ length c.args.self.now.estimates.items = search rules in
+    let is = rw len at c.in_ok-make_room.ensures.wider in
+    let w = widened g.C.Number.value labels c.make_room.new.labels.items (length c.args.self.now.estimates.items) c.requires.few is in
+    forest_wider g.C.Number.value labels c.make_room.new.labels.items w.stays w.from c.requires.forest
+
+pub relax-requires-clause-queue : goal.relax-requires-clause-queue
+relax-requires-clause-queue g c =
+    let labels = c.args.self.now.labels.items in
+    let len : c.len-2.result ≡ length c.args.self.now.estimates.items = search rules in
+    let is = rw len at c.in_ok-make_room.ensures.wider in
+    let w = widened g.C.Number.value labels c.make_room.new.labels.items (length c.args.self.now.estimates.items) c.requires.few is in
+    rw c.in_ok-reserve.ensures.items (queue_wider g.C.Number.value labels c.make_room.new.labels.items w.stays c.args.self.now.estimates.items (heap_items c.args.self.now.queue) c.requires.queue)
+
+pub returns-clause-followed : goal.returns-clause-followed
+returns-clause-followed g c = λ l h.
+    let labels = c.args.self.now.labels.items in
+    let len : c.len-2.result ≡ length c.args.self.now.estimates.items = search rules in
+    let is = rw len at c.in_ok-make_room.ensures.wider in
+    let w = widened g.C.Number.value labels c.make_room.new.labels.items (length c.args.self.now.estimates.items) c.requires.few is in
+    let same : c.label_of-label.result ≡ l = label_is c.make_room.new.labels.items c.args.number c.label_of-label.result l c.label_of-label.ensures (w.stays c.args.number l h) in
+    let eased = rw (c.deref.ensures.value, c.in_ok-reserve.ensures.items) at c.relax.ensures.eased in
+    record {
+      wider = c.make_room.new.labels.items;
+      wide = w;
+      eased = subst (λ (m : Label g.row.C.Denot). Eased g.C.Number.value g.C.Number.fits c.args.self.now.estimates.items c.args.number (g.C.Number.value m.cost) c.args.self.now.row.items c.make_room.new.labels.items c.relax.new.labels.items (heap_items c.args.self.now.queue) (heap_items c.relax.new.queue)) same eased;
+    }
+
+pub returns-clause-wide : goal.returns-clause-wide
+returns-clause-wide g c =
+    let labels = c.args.self.now.labels.items in
+    let len : c.len-2.result ≡ length c.args.self.now.estimates.items = search rules in
+    let is = rw len at c.in_ok-make_room.ensures.wider in
+    c.relax.ensures.eased.len ∙ length_wider g.C.Number.value labels c.make_room.new.labels.items (length c.args.self.now.estimates.items) c.requires.few is
+
+pub returns-clause-less : goal.returns-clause-less
+returns-clause-less g c =
+    let labels = c.args.self.now.labels.items in
+    let top = nat_of (g.C.Number.value g.C.Cost.greatest) in
+    let len : c.len-2.result ≡ length c.args.self.now.estimates.items = search rules in
+    let is = rw len at c.in_ok-make_room.ensures.wider in
+    let w = work_wider g.C.Number.value labels c.make_room.new.labels.items (length c.args.self.now.estimates.items) c.requires.few is top (heap_len c.args.self.now.queue) (omega (arith, c.in_ok-make_room.ensures.few)) in
+    less_work g.C.Number.value top c.make_room.new.labels.items c.relax.new.labels.items (heap_len c.reserve.new.self) (heap_len c.relax.new.queue) (heap_len c.args.self.now.queue) labels c.relax.ensures.eased.len c.relax.ensures.less c.in_ok-reserve.ensures.len w

@@ -1,0 +1,3 @@
+//! Directed graphs.
+
+pub mod astar;
