@@ -1,4 +1,8 @@
 //! Searches and other algorithms on directed graphs.
 
-pub use pf_search::directed::{bfs, dijkstra};
-pub use pf_search::laws;
+pub mod laws;
+
+pub use pf_graph::directed::cycle_detection;
+pub use pf_informed::directed::astar;
+pub use pf_orders::directed::{strongly_connected_components, topological_sort};
+pub use pf_search::directed::{bfs, dfs, dijkstra, iddfs};

@@ -2,6 +2,7 @@
 #![tactic(auto)]
 
 pub mod directed;
+pub mod functions;
 pub mod graphs;
 mod macros;
 pub mod matrix;
@@ -9,5 +10,5 @@ pub mod prelude;
 pub mod routes;
 pub mod undirected;
 
-pub use pf_base::{NodeRefs, cost, error, functions, noderefs, utils};
+pub use pf_base::{NodeRefs, cost, error, noderefs, utils};
 pub use pf_graph::kuhn_munkres;

@@ -1,38 +1,106 @@
 //! All that the crate exports, but `graphs::bfs` and `graphs::dijkstra`, whose names are those of the
 //! searches on graphs that functions answer.
 
-pub use crate::{graphs, routes};
-pub use pf_base::utils::{
-    InDirection, Tally, constrain, in_direction, move_in_direction, uint_sqrt,
-};
-pub use pf_base::{
-    Cost, EdgeFunction, NodeRefs, NodeRefsIntoIter, NodeRefsIter, NodeTest, PathError, SignedCost,
-    SuccessorFunction,
-};
-pub use pf_graph::kuhn_munkres::{
-    Weights, kuhn_munkres, kuhn_munkres_min, kuhn_munkres_tallied, weights_fit,
-};
-pub use pf_graph::undirected::connected_components::{
-    ConnectedComponents, MapIn, SetIn, component_index, components, connected_components,
-    separate_components,
-};
-pub use pf_graph::undirected::kruskal::{
-    Kruskal, KruskalIndices, kruskal, kruskal_indices, spanning_weight,
-};
-pub use pf_graph::undirected::laws::{least_total_weight, least_tree_weight};
+pub use crate::graphs;
+pub use crate::routes;
+pub use pf_base::Cost;
+pub use pf_base::EdgeFunction;
+pub use pf_base::NodeRefs;
+pub use pf_base::NodeRefsIntoIter;
+pub use pf_base::NodeRefsIter;
+pub use pf_base::NodeTest;
+pub use pf_base::PathError;
+pub use pf_base::SignedCost;
+pub use pf_base::SuccessorFunction;
+pub use pf_base::utils::InDirection;
+pub use pf_base::utils::Tally;
+pub use pf_base::utils::constrain;
+pub use pf_base::utils::in_direction;
+pub use pf_base::utils::move_in_direction;
+pub use pf_base::utils::uint_sqrt;
+pub use pf_graph::directed::cycle_detection::brent;
+pub use pf_graph::directed::cycle_detection::brent_partial;
+pub use pf_graph::directed::cycle_detection::floyd;
+pub use pf_graph::directed::cycle_detection::floyd_partial;
+pub use pf_graph::kuhn_munkres::Weights;
+pub use pf_graph::kuhn_munkres::kuhn_munkres;
+pub use pf_graph::kuhn_munkres::kuhn_munkres_min;
+pub use pf_graph::kuhn_munkres::kuhn_munkres_tallied;
+pub use pf_graph::kuhn_munkres::weights_fit;
+pub use pf_graph::undirected::connected_components::ConnectedComponents;
+pub use pf_graph::undirected::connected_components::MapIn;
+pub use pf_graph::undirected::connected_components::SetIn;
+pub use pf_graph::undirected::connected_components::component_index;
+pub use pf_graph::undirected::connected_components::components;
+pub use pf_graph::undirected::connected_components::connected_components;
+pub use pf_graph::undirected::connected_components::separate_components;
+pub use pf_graph::undirected::kruskal::Kruskal;
+pub use pf_graph::undirected::kruskal::KruskalIndices;
+pub use pf_graph::undirected::kruskal::kruskal;
+pub use pf_graph::undirected::kruskal::kruskal_indices;
+pub use pf_graph::undirected::kruskal::spanning_weight;
+pub use pf_graph::undirected::laws::least_total_weight;
+pub use pf_graph::undirected::laws::least_tree_weight;
 pub use pf_graph::undirected::prim::prim;
-pub use pf_matrix::laws::{
-    equal_hash_alike, four_quarter_turns, turns_undone, two_flips_lr, two_flips_ud,
-    two_transpositions,
-};
-pub use pf_matrix::{
-    ColumnIterator, Items, ItemsMut, Keys, Matrix, MatrixFormatError, Neighbours, RowIterator,
-    directions, from_slices,
-};
+pub use pf_informed::directed::astar::astar;
+pub use pf_informed::functions::EstimateFunction;
+pub use pf_matrix::ColumnIterator;
+pub use pf_matrix::Items;
+pub use pf_matrix::ItemsMut;
+pub use pf_matrix::Keys;
+pub use pf_matrix::Matrix;
+pub use pf_matrix::MatrixFormatError;
+pub use pf_matrix::Neighbours;
+pub use pf_matrix::RowIterator;
+pub use pf_matrix::directions;
+pub use pf_matrix::from_slices;
+pub use pf_matrix::laws::equal_hash_alike;
+pub use pf_matrix::laws::four_quarter_turns;
+pub use pf_matrix::laws::turns_undone;
+pub use pf_matrix::laws::two_flips_lr;
+pub use pf_matrix::laws::two_flips_ud;
+pub use pf_matrix::laws::two_transpositions;
+pub use pf_orders::directed::strongly_connected_components::strongly_connected_component;
+pub use pf_orders::directed::strongly_connected_components::strongly_connected_components;
+pub use pf_orders::directed::strongly_connected_components::strongly_connected_components_from;
+pub use pf_orders::directed::topological_sort::topological_sort;
+pub use pf_orders::directed::topological_sort::topological_sort_into_groups;
+pub use pf_orders::directed::topological_sort::topological_sort_tallied;
+pub use pf_orders::laws::groups_joined_are_an_order;
+pub use pf_search::directed::bfs::BfsReachable;
 pub use pf_search::directed::bfs::bfs;
-pub use pf_search::directed::dijkstra::{dijkstra, dijkstra_tallied};
+pub use pf_search::directed::bfs::bfs_bidirectional;
+pub use pf_search::directed::bfs::bfs_loop;
+pub use pf_search::directed::bfs::bfs_reach;
+pub use pf_search::directed::dfs::DfsReachable;
+pub use pf_search::directed::dfs::dfs;
+pub use pf_search::directed::dfs::dfs_reach;
+pub use pf_search::directed::dijkstra::DijkstraReachable;
+pub use pf_search::directed::dijkstra::DijkstraReachableItem;
+pub use pf_search::directed::dijkstra::Parents;
+pub use pf_search::directed::dijkstra::build_path;
+pub use pf_search::directed::dijkstra::dijkstra;
+pub use pf_search::directed::dijkstra::dijkstra_all;
+pub use pf_search::directed::dijkstra::dijkstra_bidirectional;
+pub use pf_search::directed::dijkstra::dijkstra_partial;
+pub use pf_search::directed::dijkstra::dijkstra_reach;
+pub use pf_search::directed::dijkstra::dijkstra_tallied;
+pub use pf_search::directed::iddfs::iddfs;
+pub use pf_search::laws::breadth_order_is_by_distance;
+pub use pf_search::laws::breadth_order_is_reach;
+pub use pf_search::laws::fewest_edges_have_one_length;
 pub use pf_search::laws::fewest_edges_of_cheapest;
-pub use pf_tables::{
-    Board, CompactRows, Costless, EdgeList, EdgeListError, Goals, Graph, Row, Rows, Steps,
-    TableError,
-};
+pub use pf_search::laws::one_cheapest_cost;
+pub use pf_search::laws::path_of_parents_is_cheapest;
+pub use pf_search::laws::preorder_of_reach;
+pub use pf_tables::Board;
+pub use pf_tables::CompactRows;
+pub use pf_tables::Costless;
+pub use pf_tables::EdgeList;
+pub use pf_tables::EdgeListError;
+pub use pf_tables::Goals;
+pub use pf_tables::Graph;
+pub use pf_tables::Row;
+pub use pf_tables::Rows;
+pub use pf_tables::Steps;
+pub use pf_tables::TableError;

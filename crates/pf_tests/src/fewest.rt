@@ -1,6 +1,6 @@
-//! A caller of `bfs` with a contract of its own.
+//! Callers of `bfs` and `iddfs` with contracts of their own.
 
-ghost use Rattle.std.specs.Prelude.{◌≡◌, IfOk, IfErr, MatchOption};
+ghost use Rattle.std.specs.Prelude.{◌≡◌, [], ◌∷◌, IfOk, IfErr, MatchOption};
 ghost use Rattle.pf_base.specs.Answers.{IsLawfulClone};
 ghost use Rattle.pf_base.specs.Successors.{HasSuccessor, IsFewestEdgesGoalPath};
 ghost use Rattle.pf_base.specs.Walks.{HasNoGoalWalk};
@@ -8,11 +8,12 @@ ghost use Rattle.pf_tests.specs.Pairs.{nodes_after, is_among};
 
 use pf_base::{NodeRefs, PathError};
 use pf_search::directed::bfs::bfs;
+use pf_search::directed::iddfs::iddfs;
 use std::alloc::Allocator;
 use std::hash::Hash;
 
 /// Whether a node is one of some nodes.
-fn is_one_of<N: Eq>(nodes: &[N], node: &N) -> bool
+pub fn is_one_of<N: Eq>(nodes: &[N], node: &N) -> bool
     ensures { result ≡ is_among N.eq nodes.now node.now }
 {
     nodes.iter().any(|known| *known == *node)
@@ -38,6 +39,34 @@ where
     bfs(
         alloc,
         starts,
+        |n| {
+            let node = *n;
+            edges
+                .iter()
+                .filter_map(move |e| if e.0 == node { Some(e.1) } else { None })
+        },
+        |n| is_one_of(goals, n),
+    )
+}
+
+/// The same from one start, by depth limits that grow.
+pub fn deepened_in_pairs<N, A>(
+    alloc: A,
+    edges: &[(N, N)],
+    start: N,
+    goals: &[N],
+) -> Result<Option<Vec<N, A>>, PathError>
+where
+    N: Eq + Copy,
+    A: Allocator + Copy,
+    ensures best { IfOk result (λ answer. MatchOption answer
+        (HasNoGoalWalk N.eq (HasSuccessor N.eq (nodes_after N.eq edges.now)) (start ∷ []) (is_among N.eq goals.now))
+        (λ path. IsFewestEdgesGoalPath N.eq (nodes_after N.eq edges.now) (start ∷ []) (is_among N.eq goals.now) path.items)) }
+    ensures errors { IfErr result (λ e. e ≡ PathError.OutOfMemory) }
+{
+    iddfs(
+        alloc,
+        start,
         |n| {
             let node = *n;
             edges

@@ -3,6 +3,8 @@
 #![tactic(auto)]
 
 #[cfg(test)]
+mod both_ends;
+#[cfg(test)]
 mod compact;
 #[cfg(test)]
 mod fewest;
@@ -11,14 +13,24 @@ mod grid;
 #[cfg(test)]
 mod list;
 #[cfg(test)]
+mod loops;
+#[cfg(test)]
 mod minutes;
+#[cfg(test)]
+mod named;
 #[cfg(test)]
 mod no_case;
 #[cfg(test)]
 mod plain;
+#[cfg(test)]
+mod preorder;
+#[cfg(test)]
+mod reach;
 #[cfg(test)]
 mod ring;
 #[cfg(test)]
 mod rows;
 #[cfg(test)]
 mod tests;
+#[cfg(test)]
+mod walks;

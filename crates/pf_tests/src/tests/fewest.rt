@@ -2,9 +2,10 @@
 
 ghost use Rattle.pf_base.specs.Answers.{IsLawfulClone};
 
-use crate::fewest::fewest_in_pairs;
+use crate::fewest::{deepened_in_pairs, fewest_in_pairs};
 use crate::no_case::NoCase;
 use crate::tests::answers::{is_no_path, is_path};
+use crate::tests::refusals::{Outcome, refuse_each_growth};
 use pf_base::{NodeRefs, PathError};
 use std::alloc::{AllocError, Global};
 use std::hash::Hash;
@@ -61,7 +62,38 @@ fn a_knight_needs_four_moves(rt: HostRuntime) -> Result<(), Fail> {
     let answer = fewest_from(rt.alloc(), &moves, &[from], &[to]);
     assert!(rt; moves.len() == 336);
     assert!(rt; matches!(&answer, Ok(Some(path)) if is_way(path, from, to, 5)));
+    let answer = deepened_in_pairs(rt.alloc(), &moves, from, &[to]);
+    assert!(rt; matches!(&answer, Ok(Some(path)) if is_way(path, from, to, 5)));
     Ok(())
+}
+
+#[test]
+fn paths_are_looked_through_by_length(rt: HostRuntime) {
+    // A way round, a shorter one, and a ring that leads back.
+    let edges = [(1, 2), (2, 3), (3, 1), (3, 4), (1, 5), (5, 4), (4, 6)];
+    let cases: [(u8, &[u8], Option<&[u8]>); 4] = [
+        (1, &[6], Some(&[1, 5, 4, 6])),
+        (3, &[2, 6], Some(&[3, 1, 2])),
+        // A start that is a goal is a path alone.
+        (2, &[2, 4], Some(&[2])),
+        (6, &[1], None),
+    ];
+    for (start, goals, want) in cases {
+        let answer = deepened_in_pairs(rt.alloc(), &edges, start, goals);
+        let holds = match want {
+            Some(path) => is_path(answer, path),
+            None => is_no_path(answer),
+        };
+        assert!(rt; holds, "{start}: {goals:?}");
+    }
+    let growths = refuse_each_growth(&rt, rt.alloc(), |heap| {
+        match deepened_in_pairs(heap, &edges, 1, &[6]) {
+            Ok(Some(path)) if path.as_slice() == [1u8, 5, 4, 6].as_slice() => Outcome::Answered,
+            Err(PathError::OutOfMemory) => Outcome::OutOfMemory,
+            _ => Outcome::Wrong,
+        }
+    });
+    assert!(rt; growths > 2);
 }
 
 #[test]

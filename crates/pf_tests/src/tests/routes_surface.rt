@@ -11,11 +11,7 @@ use std::test::Fail;
 mod paths {
     //! A path that is wrong stops the build.
     pub use pathfinding::cost::{Cost, SignedCost};
-    pub use pathfinding::directed::bfs::bfs;
-    pub use pathfinding::directed::dijkstra::{dijkstra, dijkstra_tallied};
-    pub use pathfinding::directed::laws::fewest_edges_of_cheapest;
     pub use pathfinding::error::PathError;
-    pub use pathfinding::functions::{EdgeFunction, NodeTest, SuccessorFunction};
     pub use pathfinding::kuhn_munkres::{
         Weights, kuhn_munkres, kuhn_munkres_min, kuhn_munkres_tallied, weights_fit,
     };
@@ -46,6 +42,34 @@ mod paths {
     };
 }
 
+mod directed_paths {
+    //! The same of what is directed.
+    pub use pathfinding::directed::astar::astar;
+    pub use pathfinding::directed::bfs::{
+        BfsReachable, bfs, bfs_bidirectional, bfs_loop, bfs_reach,
+    };
+    pub use pathfinding::directed::cycle_detection::{brent, brent_partial, floyd, floyd_partial};
+    pub use pathfinding::directed::dfs::{DfsReachable, dfs, dfs_reach};
+    pub use pathfinding::directed::dijkstra::{
+        DijkstraReachable, DijkstraReachableItem, Parents, build_path, dijkstra, dijkstra_all,
+        dijkstra_bidirectional, dijkstra_partial, dijkstra_reach, dijkstra_tallied,
+    };
+    pub use pathfinding::directed::iddfs::iddfs;
+    pub use pathfinding::directed::laws::{
+        breadth_order_is_by_distance, breadth_order_is_reach, fewest_edges_have_one_length,
+        fewest_edges_of_cheapest, groups_joined_are_an_order, one_cheapest_cost,
+        path_of_parents_is_cheapest, preorder_of_reach,
+    };
+    pub use pathfinding::directed::strongly_connected_components::{
+        strongly_connected_component, strongly_connected_components,
+        strongly_connected_components_from,
+    };
+    pub use pathfinding::directed::topological_sort::{
+        topological_sort, topological_sort_into_groups, topological_sort_tallied,
+    };
+    pub use pathfinding::functions::{EdgeFunction, EstimateFunction, NodeTest, SuccessorFunction};
+}
+
 mod in_prelude {
     //! The same by the prelude.
     pub use pathfinding::prelude::directions::{DIRECTIONS_4, DIRECTIONS_8};
@@ -53,14 +77,22 @@ mod in_prelude {
         Command, Noted, RouteError, command, run, run_with_hasher,
     };
     pub use pathfinding::prelude::{
-        ColumnIterator, ConnectedComponents, Cost, EdgeFunction, InDirection, Items, ItemsMut,
-        Keys, Kruskal, KruskalIndices, MapIn, Matrix, MatrixFormatError, Neighbours, NodeRefs,
-        NodeRefsIntoIter, NodeRefsIter, NodeTest, PathError, RowIterator, SetIn, SignedCost,
-        SuccessorFunction, Tally, Weights, bfs, component_index, components, connected_components,
-        constrain, dijkstra, dijkstra_tallied, equal_hash_alike, fewest_edges_of_cheapest,
-        four_quarter_turns, from_slices, in_direction, kruskal, kruskal_indices, kuhn_munkres,
-        kuhn_munkres_min, kuhn_munkres_tallied, least_total_weight, least_tree_weight,
-        move_in_direction, prim, separate_components, spanning_weight, turns_undone, two_flips_lr,
+        BfsReachable, ColumnIterator, ConnectedComponents, Cost, DfsReachable, DijkstraReachable,
+        DijkstraReachableItem, EdgeFunction, EstimateFunction, InDirection, Items, ItemsMut, Keys,
+        Kruskal, KruskalIndices, MapIn, Matrix, MatrixFormatError, Neighbours, NodeRefs,
+        NodeRefsIntoIter, NodeRefsIter, NodeTest, Parents, PathError, RowIterator, SetIn,
+        SignedCost, SuccessorFunction, Tally, Weights, astar, bfs, bfs_bidirectional, bfs_loop,
+        bfs_reach, breadth_order_is_by_distance, breadth_order_is_reach, brent, brent_partial,
+        build_path, component_index, components, connected_components, constrain, dfs, dfs_reach,
+        dijkstra, dijkstra_all, dijkstra_bidirectional, dijkstra_partial, dijkstra_reach,
+        dijkstra_tallied, equal_hash_alike, fewest_edges_have_one_length, fewest_edges_of_cheapest,
+        floyd, floyd_partial, four_quarter_turns, from_slices, groups_joined_are_an_order, iddfs,
+        in_direction, kruskal, kruskal_indices, kuhn_munkres, kuhn_munkres_min,
+        kuhn_munkres_tallied, least_total_weight, least_tree_weight, move_in_direction,
+        one_cheapest_cost, path_of_parents_is_cheapest, preorder_of_reach, prim,
+        separate_components, spanning_weight, strongly_connected_component,
+        strongly_connected_components, strongly_connected_components_from, topological_sort,
+        topological_sort_into_groups, topological_sort_tallied, turns_undone, two_flips_lr,
         two_flips_ud, two_transpositions, uint_sqrt, weights_fit,
     };
 }
@@ -102,7 +134,7 @@ fn a_matrix_and_laws_by_their_paths(rt: HostRuntime) -> Result<(), Fail> {
     assert!(rt; m == in_prelude::from_slices(rt.alloc(), &[&[1u8, 2], &[3, 4]])?);
     assert_eq!(rt; paths::uint_sqrt(16u32), Some(4));
     assert_eq!(rt; in_prelude::uint_sqrt(17u32), None);
-    paths::fewest_edges_of_cheapest(PhantomData::<u8>);
+    directed_paths::fewest_edges_of_cheapest(PhantomData::<u8>);
     in_prelude::least_total_weight(PhantomData::<(u8, u64)>);
     paths::least_tree_weight(PhantomData::<(u8, u64)>);
     in_prelude::four_quarter_turns(PhantomData::<u8>);

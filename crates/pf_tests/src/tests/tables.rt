@@ -2,10 +2,12 @@
 
 ghost use Rattle.std.specs.Prelude.{◌<◌, All, length, IsTrue};
 
+use crate::preorder::{first_in_pairs, preorder_in_rows};
+use crate::reach::{Given, given_in_rows};
 use crate::rows::{cheapest_in_rows, fewest_in_rows, leads_to_rows};
 use crate::tests::answers::{is_no_path, is_path, is_path_at};
 use crate::tests::kinds::by_rows;
-use pf_base::NodeRefs;
+use pf_base::{NodeRefs, PathError};
 use std::alloc::{AllocError, Global};
 use std::test::Fail;
 
@@ -44,5 +46,71 @@ fn fewest_edges(rt: HostRuntime) -> Result<(), Fail> {
     assert!(rt; table.len() > 4 && leads_inside(&table));
     assert!(rt; is_path(fewest_in_rows(rt.alloc(), &table, &starts, 4), &[0, 2, 4]));
     assert!(rt; is_no_path(fewest_in_rows(rt.alloc(), &table, &starts, 5)));
+    Ok(())
+}
+
+/// A table in which each node up to 10 is followed by those that are so much greater, up to 10.
+fn counted_up(alloc: Global, steps: &[usize]) -> Result<Vec<Vec<usize>>, AllocError> {
+    let mut table = Vec::new(alloc);
+    for node in 0..11usize {
+        let mut row = Vec::new(alloc);
+        for step in steps {
+            if *step <= 10 && node + *step <= 10 {
+                row.push(node + *step)?;
+            }
+        }
+        table.push(row)?;
+    }
+    Ok(table)
+}
+
+#[test]
+fn preorders(rt: HostRuntime) -> Result<(), Fail> {
+    let cases: [(&[usize], &[usize]); 2] = [
+        (&[2, 5], &[0, 2, 4, 6, 8, 10, 9, 7, 5]),
+        (&[1, 5], &[0, 1, 2, 3, 4, 5, 6, 7, 8, 9, 10]),
+    ];
+    for (steps, nodes) in cases {
+        let table = counted_up(rt.alloc(), steps)?;
+        assert!(rt; table.len() > 0 && leads_inside(&table));
+        let given = preorder_in_rows(rt.alloc(), &table, 0, 20)?;
+        assert_eq!(rt; given.as_slice(), nodes);
+        let begun = preorder_in_rows(rt.alloc(), &table, 0, 1)?;
+        assert_eq!(rt; begun.as_slice(), [0].as_slice());
+    }
+    // From a number to its square and to the next one, up to 17.
+    let edges = [
+        (1u64, 1u64),
+        (1, 2),
+        (2, 4),
+        (2, 3),
+        (3, 9),
+        (3, 4),
+        (4, 16),
+        (4, 5),
+        (16, 17),
+    ];
+    let path = first_in_pairs(rt.alloc(), &edges, 1, &[17])?;
+    assert!(rt; matches!(&path, Some(path) if path.as_slice() == [1, 2, 4, 16, 17].as_slice()));
+    let none = first_in_pairs(rt.alloc(), &edges, 4, &[2])?;
+    assert!(rt; none.is_none());
+    Ok(())
+}
+
+#[test]
+fn nodes_by_rising_cost(rt: HostRuntime) -> Result<(), Fail> {
+    let rows: [&[(usize, u32)]; 3] = [&[(1, 2), (2, 5)], &[(2, 2)], &[]];
+    let table = table_of(rt.alloc(), &rows)?;
+    assert!(rt; table.len() > 0 && leads_to_rows(&table));
+    let given = given_in_rows(rt.alloc(), &table, 0, 9)?;
+    let want: [Given; 3] = [(0, None, 0), (1, Some(0), 2), (2, Some(1), 4)];
+    assert_eq!(rt; given.as_slice(), want.as_slice());
+    // A step that does not fit is refused where its node comes next.
+    let rows: [&[(usize, u32)]; 4] = [&[(1, 1), (2, u32::MAX - 9)], &[], &[(3, 10)], &[]];
+    let table = table_of(rt.alloc(), &rows)?;
+    assert!(rt; table.len() > 0 && leads_to_rows(&table));
+    assert_eq!(rt; given_in_rows(rt.alloc(), &table, 0, 2)?.len(), 2);
+    let refused = given_in_rows(rt.alloc(), &table, 0, 3);
+    assert!(rt; matches!(refused, Err(PathError::CostOverflow)));
     Ok(())
 }

@@ -1,0 +1,7 @@
+//! Laws of the definitions, for proofs about programs that use them.
+
+pub use pf_orders::laws::groups_joined_are_an_order;
+pub use pf_search::laws::{
+    breadth_order_is_by_distance, breadth_order_is_reach, fewest_edges_have_one_length,
+    fewest_edges_of_cheapest, one_cheapest_cost, path_of_parents_is_cheapest, preorder_of_reach,
+};
