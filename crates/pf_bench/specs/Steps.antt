@@ -1,5 +1,5 @@
 -- The steps of the inputs: over a square board of heights, which stand row by row in one list, and in rows of edges.
-use Rattle.std.specs.Prelude.{◌+◌, ◌-◌, ◌*◌, ◌%◌, ◌^◌, ◌==◌, ◌&&◌, if◌then◌else◌, Bool, ℕ, ℤ, pos, negsuc, List, [], ◌∷◌, Option, Some, None, map, nat_lt, take, drop, slice_index}
+use Rattle.std.specs.Prelude.{◌+◌, ◌-◌, ◌*◌, ◌%◌, ◌^◌, ◌==◌, ◌&&◌, if◌then◌else◌, Bool, ℕ, ℤ, pos, negsuc, List, [], ◌∷◌, Option, Some, None, map, nat_lt, take, drop, slice_index, slice_index_or}
 use Rattle.std.specs.Int.{cast_unsigned, w64}
 use Rattle.std.specs.List.{filter_map}
 use Rattle.std.specs.Option.{option_map}
@@ -24,6 +24,18 @@ entered_cell size from direction = pair_of (moved_to from.0 direction.0 size) (m
 -- the same cell, with its height
 abbrev pub entered : List ℕ → ℕ → ℕ × ℕ → ℤ × ℤ → Option ((ℕ × ℕ) × ℕ)
 entered heights size from direction = option_map (λ (to : ℕ × ℕ). (to, slice_index heights (to.0 * size + to.1))) (entered_cell size from direction)
+
+-- the height of a cell, and 0 off the board
+abbrev pub height_of : List ℕ → ℕ → ℕ × ℕ → ℕ
+height_of heights size cell = slice_index_or heights ((cell.0 * size % 2 ^ 64 + cell.1) % 2 ^ 64) 0
+
+-- the cell that a step leads to, with the sum of the heights of both cells
+abbrev pub crossed : List ℕ → ℕ → ℕ × ℕ → ℤ × ℤ → Option ((ℕ × ℕ) × ℕ)
+crossed heights size from direction = option_map (λ (to : ℕ × ℕ). (to, height_of heights size from + height_of heights size to)) (entered_cell size from direction)
+
+-- the steps from a cell, each with that sum
+abbrev pub crossings_from : List ℕ → ℕ → ℕ × ℕ → List ((ℕ × ℕ) × ℤ)
+crossings_from heights size cell = map (λ (e : (ℕ × ℕ) × ℕ). (e.0, pos e.1)) (filter_map (crossed heights size cell) four_directions)
 
 -- the steps from a cell, each with what it costs
 abbrev pub steps_from : List ℕ → ℕ → ℕ × ℕ → List ((ℕ × ℕ) × ℤ)

@@ -2,8 +2,11 @@
 
 pub mod board;
 mod checks;
+pub mod cycles;
 pub mod edges;
 pub mod groups;
+pub mod orders;
 pub mod rows;
+mod sums;
 pub mod table;
 pub mod tables;

@@ -2,7 +2,7 @@
 
 ghost use Rattle.std.specs.Prelude.{◌<◌};
 
-use crate::callers::{board, edges, groups, rows, table, tables};
+use crate::callers::{board, cycles, edges, groups, orders, rows, table, tables};
 use crate::error::BenchError;
 use crate::repeats::{Check, Repeats};
 use std::alloc::Global;
@@ -11,8 +11,21 @@ use std::alloc::Global;
 #[derive(Clone, Copy)]
 pub enum Job {
     BfsBoard,
+    BfsReachBoard,
+    BfsLoopRows,
+    BfsBidirectionalBoard,
+    DfsReachBoard,
+    DfsRows,
     DijkstraBoard,
     DijkstraRows,
+    DijkstraAllBoard,
+    DijkstraAllRows,
+    DijkstraReachBoard,
+    DijkstraReachRows,
+    DijkstraBidirectionalBoard,
+    SccRows,
+    TopologicalSortDag,
+    GroupsDag,
     BfsBoardTable,
     DijkstraBoardTable,
     DijkstraRowsTable,
@@ -24,6 +37,9 @@ pub enum Job {
     KuhnMunkresMinTable,
     MatrixRotateTable,
     MatrixTransposeTable,
+    MatrixBfsTable,
+    MatrixDfsTable,
+    BrentStep,
 }
 
 impl Job {
@@ -31,8 +47,21 @@ impl Job {
     pub fn named(name: &str) -> Option<Job> {
         Some(match name {
             "bfs-board" => Job::BfsBoard,
+            "bfs_reach-board" => Job::BfsReachBoard,
+            "bfs_loop-rows" => Job::BfsLoopRows,
+            "bfs_bidirectional-board" => Job::BfsBidirectionalBoard,
+            "dfs_reach-board" => Job::DfsReachBoard,
+            "dfs-rows" => Job::DfsRows,
             "dijkstra-board" => Job::DijkstraBoard,
             "dijkstra-rows" => Job::DijkstraRows,
+            "dijkstra_all-board" => Job::DijkstraAllBoard,
+            "dijkstra_all-rows" => Job::DijkstraAllRows,
+            "dijkstra_reach-board" => Job::DijkstraReachBoard,
+            "dijkstra_reach-rows" => Job::DijkstraReachRows,
+            "dijkstra_bidirectional-board" => Job::DijkstraBidirectionalBoard,
+            "scc-rows" => Job::SccRows,
+            "topological_sort-dag" => Job::TopologicalSortDag,
+            "groups-dag" => Job::GroupsDag,
             "bfs-board-table" => Job::BfsBoardTable,
             "dijkstra-board-table" => Job::DijkstraBoardTable,
             "dijkstra-rows-table" => Job::DijkstraRowsTable,
@@ -44,6 +73,9 @@ impl Job {
             "kuhn_munkres_min-table" => Job::KuhnMunkresMinTable,
             "matrix_rotate-table" => Job::MatrixRotateTable,
             "matrix_transpose-table" => Job::MatrixTransposeTable,
+            "matrix_bfs-table" => Job::MatrixBfsTable,
+            "matrix_dfs-table" => Job::MatrixDfsTable,
+            "brent-step" => Job::BrentStep,
             _ => return None,
         })
     }
@@ -54,8 +86,23 @@ impl Job {
     {
         match self {
             Job::BfsBoard => board::bfs_board(alloc, size, repeats),
+            Job::BfsReachBoard => board::bfs_reach_board(alloc, size, repeats),
+            Job::BfsLoopRows => rows::bfs_loop_rows(alloc, size, repeats),
+            Job::BfsBidirectionalBoard => board::bfs_bidirectional_board(alloc, size, repeats),
+            Job::DfsReachBoard => board::dfs_reach_board(alloc, size, repeats),
+            Job::DfsRows => rows::dfs_rows(alloc, size, repeats),
             Job::DijkstraBoard => board::dijkstra_board(alloc, size, repeats),
             Job::DijkstraRows => rows::dijkstra_rows(alloc, size, repeats),
+            Job::DijkstraAllBoard => board::dijkstra_all_board(alloc, size, repeats),
+            Job::DijkstraAllRows => rows::dijkstra_all_rows(alloc, size, repeats),
+            Job::DijkstraReachBoard => board::dijkstra_reach_board(alloc, size, repeats),
+            Job::DijkstraReachRows => rows::dijkstra_reach_rows(alloc, size, repeats),
+            Job::DijkstraBidirectionalBoard => {
+                board::dijkstra_bidirectional_board(alloc, size, repeats)
+            }
+            Job::SccRows => orders::scc_rows(alloc, size, repeats),
+            Job::TopologicalSortDag => orders::topological_sort_dag(alloc, size, repeats),
+            Job::GroupsDag => orders::groups_dag(alloc, size, repeats),
             Job::BfsBoardTable => tables::bfs_board(alloc, size, repeats),
             Job::DijkstraBoardTable => tables::dijkstra_board(alloc, size, repeats),
             Job::DijkstraRowsTable => tables::dijkstra_rows(alloc, size, repeats),
@@ -67,6 +114,9 @@ impl Job {
             Job::KuhnMunkresMinTable => table::kuhn_munkres_min_table(alloc, size, repeats),
             Job::MatrixRotateTable => table::matrix_rotate_table(alloc, size, repeats),
             Job::MatrixTransposeTable => table::matrix_transpose_table(alloc, size, repeats),
+            Job::MatrixBfsTable => table::matrix_bfs_table(alloc, size, repeats),
+            Job::MatrixDfsTable => table::matrix_dfs_table(alloc, size, repeats),
+            Job::BrentStep => cycles::brent_step(size, repeats),
         }
     }
 }

@@ -2,15 +2,58 @@
 
 use crate::repeats::Check;
 use pf_matrix::Matrix;
+use pf_search::directed::dijkstra::Parents;
+use std::alloc::Global;
+use std::collections::BTreeSet;
+use std::hash::Hash;
 
 /// The number of edges of a path.
 pub fn edges_of<N: Drop>(path: Option<Vec<N>>) -> Check {
     Some((path?.len() as u64).saturating_sub(1))
 }
 
+/// How many there are.
+pub fn count_of(count: usize) -> Check {
+    Some(count as u64)
+}
+
+/// The sum itself.
+pub fn sum_of(sum: u64) -> Check {
+    Some(sum)
+}
+
+/// What the paths of a map cost in all.
+pub fn map_costs_of<N: Eq + Hash + Drop>(parents: Parents<N, u32, Global>) -> Check {
+    let mut sum = 0u64;
+    for (_, cost) in parents.values() {
+        sum = sum.saturating_add(u64::from(*cost));
+    }
+    Some(sum)
+}
+
 /// What a path costs.
 pub fn cost_of<P: Drop>(found: Option<(P, u32)>) -> Check {
     Some(u64::from(found?.1))
+}
+
+/// 1 for a path from 0 to this node.
+pub fn ends_at(path: Option<Vec<usize>>, last: usize) -> Check {
+    let path = path?;
+    if path.first() == Some(&0) && path.last() == Some(&last) {
+        Some(1)
+    } else {
+        None
+    }
+}
+
+/// The length of a cycle and the steps to it.
+pub fn steps_of((length, _, index): (usize, u64, usize)) -> Check {
+    Some((length as u64).saturating_add(index as u64))
+}
+
+/// How many positions a flood reached.
+pub fn size_of(reached: BTreeSet<(usize, usize)>) -> Check {
+    Some(reached.len() as u64)
 }
 
 /// The total of an assignment.

@@ -1,6 +1,6 @@
 //! A square board of heights.
 
-ghost use Rattle.std.specs.Prelude.{◌≡◌, ◌<◌, ◌*◌, length, IfSome};
+ghost use Rattle.std.specs.Prelude.{◌≡◌, ◌<◌, ◌*◌, ◌^◌, length, IfSome};
 ghost use Rattle.pf_bench.specs.Steps.{moved_to};
 
 use crate::draw::Draws;
@@ -34,7 +34,7 @@ fn moved(from: usize, step: isize, size: usize) -> Option<usize>
 }
 
 impl Board {
-    ghost use Rattle.pf_bench.specs.Steps.{entered, entered_cell};
+    ghost use Rattle.pf_bench.specs.Steps.{crossed, entered, entered_cell, height_of};
 
     /// A board with heights from 1 to 9.
     pub fn random(alloc: Global, size: usize) -> Result<Board, BenchError>
@@ -58,7 +58,10 @@ impl Board {
     }
 
     /// The last cell of the last row.
-    pub fn last_cell(&self) -> Cell {
+    pub fn last_cell(&self) -> Cell
+        ensures inside { (result.0 < self.now.size) × (result.1 < self.now.size) }
+        ensures fits { self.now.size < 2 ^ 64 }
+    {
         (self.size - 1, self.size - 1)
     }
 
@@ -70,6 +73,26 @@ impl Board {
         let row = moved(from.0, direction.0, self.size)?;
         let column = moved(from.1, direction.1, self.size)?;
         Some((row, column))
+    }
+
+    /// The height of a cell, and 0 off the board.
+    fn height(&self, cell: Cell) -> u32
+        ensures found { result ≡ height_of self.now.heights.items self.now.size cell }
+        ensures low { result < 256 }
+    {
+        let place = cell.0.wrapping_mul(self.size).wrapping_add(cell.1);
+        match self.heights.get(place) {
+            Some(height) => u32::from(*height),
+            None => 0,
+        }
+    }
+
+    /// The cell that a step leads to, with the sum of the heights of both cells.
+    pub fn cross(&self, from: Cell, direction: Direction) -> Option<(Cell, u32)>
+        ensures { result ≡ crossed self.now.heights.items self.now.size from direction }
+    {
+        let to = self.enter_cell(from, direction)?;
+        Some((to, self.height(from) + self.height(to)))
     }
 
     /// The same cell, with its height.

@@ -10,6 +10,9 @@ use std::alloc::Global;
 /// How many edges are drawn for a node.
 const EDGES: usize = 5;
 
+/// How far an edge leads where there are no cycles.
+const SPAN: usize = 50;
+
 /// A directed graph on the nodes from 0 on. The edges from node n are those from place `offsets[n]`
 /// up to place `offsets[n + 1]`, each its target and its cost.
 #[derive(Drop)]
@@ -46,13 +49,40 @@ impl Rows {
         Ok(Rows { offsets, edges })
     }
 
+    /// The same without cycles: an edge leads to one of the 50 nodes behind its own, and is left out
+    /// where there is no such node.
+    pub fn without_cycles(alloc: Global, size: usize) -> Result<Rows, BenchError>
+        requires { 0 < size }
+    {
+        let Some(count) = size.checked_mul(EDGES) else {
+            return Err(BenchError::TooLarge);
+        };
+        let mut draws = Draws::new();
+        let mut offsets = Vec::new(alloc);
+        offsets.push(0)?;
+        let mut edges = Vec::with_capacity(alloc, count)?;
+        for node in 0..size {
+            for _edge in 0..EDGES {
+                let target = (node + 1).saturating_add(draws.below(SPAN));
+                let cost = draws.cost();
+                if target < size {
+                    edges.push((target, cost))?;
+                }
+            }
+            offsets.push(edges.len())?;
+        }
+        Ok(Rows { offsets, edges })
+    }
+
     /// The node with the greatest number.
     pub fn last_node(&self) -> usize {
         self.offsets.len() - 2
     }
 
     /// Where the edges of each node begin, and the number of all.
-    pub fn offsets(&self) -> &[usize] {
+    pub fn offsets(&self) -> &[usize]
+        ensures { result.now ≡ self.now.offsets.items }
+    {
         &self.offsets
     }
 

@@ -1,0 +1,3 @@
+mod RowEnds
+mod BoardMirror
+mod CrossMirror

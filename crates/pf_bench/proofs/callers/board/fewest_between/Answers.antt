@@ -1,0 +1,18 @@
+use Rattle.std.proofs.Common.{rules, arith, List, [], ◌∷◌}
+use Rattle.pf_base.proofs.Tables.{grid_successors, pair_refl, pair_exact}
+use Rattle.pf_bench.specs.Steps.{cells_from, entered_cell, four_directions}
+use Rattle.pf_bench.proofs.BoardMirror.{cells_mirror}
+use Rattle.pf_bench.proofs.callers.board.fewest_between.Goals as goal
+
+pub bfs_bidirectional-requires-clause-graph : goal.bfs_bidirectional-requires-clause-graph
+bfs_bidirectional-requires-clause-graph c =
+    let size = c.args.board.now.size in
+    let last = c.last_cell-goal.result in (
+      cells_from size,
+      cells_from size,
+      record {
+        successors_answered = grid_successors four_directions (entered_cell size) pair_refl pair_exact (λ x. search rules) (λ x r t k. (search rules, search rules, λ d. search rules, λ d o q l. (search rules, search rules)));
+        predecessors_answered = grid_successors four_directions (entered_cell size) pair_refl pair_exact (λ x. search rules) (λ x r t k. (search rules, search rules, λ d. search rules, λ d o q l. (search rules, search rules)));
+        mirror = rw c.in_ok-starts.ensures.one (rw c.in_ok-ends.ensures.one (cells_mirror size (omega arith) ((0, 0) ∷ []) (last ∷ []) (((omega arith, omega arith), tt)) (((omega arith, omega arith), tt))));
+      },
+    )
