@@ -1,5 +1,5 @@
 -- Lemmas on what waits.
-use Rattle.std.proofs.Common.{ℕ, ◌<◌, ◌≡◌, refl, sym, ◌∙◌, ap, subst, arith, true, false, [], ◌∷◌, length, inl, inr, ℤ, Some, true≢false}
+use Rattle.std.proofs.Common.{ℕ, ◌<◌, ◌≤◌, ◌≡◌, refl, sym, ◌∙◌, ap, subst, arith, true, false, [], ◌∷◌, length, inl, inr, ℤ, Some, true≢false}
 use Rattle.std.specs.Prelude.{slice_set, Contains, IsPermutation, ◌≤ℤ◌, ◌<ℤ◌}
 use Rattle.std.specs.declared.cmp.Reverse.{Reverse}
 use Rattle.std.proofs.lemmas.Int.{ints}
@@ -7,7 +7,7 @@ use Rattle.std.proofs.lemmas.List.Sorted.{Contains-permutation, IsPermutation-sy
 use Rattle.pf_core.specs.declared.labels.Label.{Label}
 use Rattle.pf_core.specs.Labels.{Labels, HasLabel, by_cost, AllSettled, Settles, Widened}
 use Rattle.pf_core.specs.Queue.{Entries, IsQueue}
-use Rattle.pf_core.specs.Search.{IsLeast}
+use Rattle.pf_core.specs.Search.{IsLeast, IsFirst}
 use Rattle.pf_core.proofs.ListLemmas.{bool_dec, nat_dec, get_set, Contains-head, Contains-tail, Contains-cases}
 use Rattle.pf_core.proofs.LabelLemmas.{HasLabel-inside, label_is, Lowered-set}
 
@@ -72,6 +72,15 @@ module _ {C : Type 0} (value : C → ℤ) where
           let low : value l.cost ≤ℤ value e.0.0 = subst (λ (n : Label C). value n.cost ≤ℤ value e.0.0) (label_is labels e.0.1 r.0 l r.1 at) r.2 in
           omega (arith, ints, low, least (entry m.cost j) (q.queued j m k u));
     }
+
+    pub first_entry : ((f : Reverse (C × ℕ)) → Contains entries f → value e.0.0 ≤ℤ value f.0.0) → ((f : Reverse (C × ℕ)) → Contains entries f → value e.0.0 ≡ value f.0.0 → e.0.1 ≤ f.0.1)
+        → (l : Label C) → HasLabel labels e.0.1 l → l.settled ≡ false → IsFirst (by_cost value) labels e.0.1
+    first_entry least ties l at opened = λ j n m here k u same.
+        let r = q.labelled e h in
+        let low : value l.cost ≤ℤ value e.0.0 = subst (λ (o : Label C). value o.cost ≤ℤ value e.0.0) (label_is labels e.0.1 r.0 l r.1 at) r.2 in
+        let high : value e.0.0 ≤ℤ value l.cost = least (entry l.cost e.0.1) (q.queued e.0.1 l at opened) in
+        let is : value m.cost ≡ value l.cost = subst (λ (o : Label C). value m.cost ≡ value o.cost) (label_is labels e.0.1 n l here at) same in
+        ties (entry m.cost j) (q.queued j m k u) (omega (arith, ints, low, high, is))
 
   -- ---- a label is settled
   pub IsQueue-settle : (k : ℕ) (l : Label C) (labels labels' : Labels C) (entries : Entries C) → Settles (by_cost value) k l labels labels' → IsQueue value labels entries → IsQueue value labels' entries

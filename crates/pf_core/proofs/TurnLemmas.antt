@@ -8,9 +8,9 @@ use Rattle.pf_core.specs.Labels.{Labels, HasLabel, by_cost, IsTree, IsReached, I
 use Rattle.pf_core.specs.Steps.{IsNonNegative, IsTooDear}
 use Rattle.pf_core.specs.Numbered.{ListsSteps, Grows}
 use Rattle.pf_core.specs.Queue.{Entries, IsQueue}
-use Rattle.pf_core.specs.Search.{IsLeast, IsSearch, Turned, HasDearStep, StandsRoot}
+use Rattle.pf_core.specs.Search.{IsLeast, IsSearch, Turned, HasDearStep, HasBarredStep, IsWithinRange, StandsRoot}
 use Rattle.pf_core.proofs.ListLemmas.{int_dec, nat_dec}
-use Rattle.pf_core.proofs.LabelLemmas.{label_is, Settles-set}
+use Rattle.pf_core.proofs.LabelLemmas.{HasLabel-inside, label_is, Settles-set}
 use Rattle.pf_core.proofs.QueueLemmas.{IsQueue-settle, IsQueue-widen}
 use Rattle.pf_core.proofs.PathLemmas.{was_label, settled_stays_1, settled_stays_3, IsTree-settle, IsTree-turn}
 use Rattle.pf_core.proofs.SearchLemmas.{path_grows, least_path, cheapest, goal_above, turn}
@@ -173,6 +173,30 @@ dear_step value fits step stands x t row lists j c h never =
       edge = to.1;
       too_dear = λ v st f. let q = lists.complete v to.0 j st to.2 in never q.0 q.1 (subst (λ (n : ℤ). fits (t +ℤ n)) (sym q.2) f);
     }
+
+-- a step whose end has no label, and is not in range
+module _ {X C : Type 0} (value : C → ℤ) (fits : ℤ → Type 0) (step : X → ℤ → X → Type 0) (stands stands' : ℕ → X → Type 0) (labels : Labels C) (x : X) (t : ℤ) (row : List (ℕ × C)) (lists : ListsSteps value step stands' x row) where
+  pub barred_step : ((k : ℕ) (y : X) → stands k y → stands' k y) → ((a b : ℕ) (y : X) → stands' a y → stands' b y → a ≡ b)
+      → (j : ℕ) (c : C) → Contains row (j, c) → ((m : Label C) → ¬ (HasLabel labels j m)) → ((d : C) → Contains row (j, d) → ¬ (fits (t +ℤ value d))) → HasBarredStep step stands labels fits x t
+  barred_step stays one j c h none never =
+      let to = lists.sound j c h in
+      record {
+        next = to.0;
+        price = value c;
+        edge = to.1;
+        new = λ i at m has. none m (subst (λ (n : ℕ). HasLabel labels n m) (one i j to.0 (stays i to.0 at) to.2) has);
+        too_dear = λ v st f. let q = lists.complete v to.0 j st to.2 in never q.0 q.1 (subst (λ (n : ℤ). fits (t +ℤ n)) (sym q.2) f);
+      }
+
+  pub within_range : ((k : ℕ) (y : X) → k < length labels → stands' k y → stands k y) → ((j : ℕ) (c : C) → Contains row (j, c) → IsReached value fits labels row t j)
+      → (y : X) (z : ℤ) → step x z y → IsWithinRange step stands labels fits x t stands' y
+  within_range back ends y z e =
+      let at = lists.numbered z y e in
+      let q = lists.complete z y at.0 e at.1 in
+      elim (ends at.0 q.0 q.1) as (λ _. IsWithinRange step stands labels fits x t stands' y) [
+        | inl m ↦ inl (at.0, m.0, back at.0 y (HasLabel-inside labels at.0 m.0 m.1) at.1, m.1)
+        | inr d ↦ let w = lists.sound at.0 d.0 d.1 in inr (at.0, value d.0, w.0, at.1, w.2, w.1, d.2)
+      ]
 
 module _ {X C : Type 0} (value : C → ℤ) (fits : ℤ → Type 0) (step : X → ℤ → X → Type 0) (root : ℕ → Bool) (p : IsNonNegative step) (stands : ℕ → X → Type 0) (labels : Labels C) (i : IsSearch (by_cost value) step root stands labels) (tree : IsTree labels)
     (k : ℕ) (l : Label C) (z : IsLeast (by_cost value) labels k l) where

@@ -1,5 +1,5 @@
 -- What a search by rising cost keeps.
-use Rattle.std.specs.Prelude.{◌≡◌, ◌≤ℤ◌, ◌<◌, ◌+◌, ◌+ℤ◌, ◌⊎◌, ℤ, ℕ, pos, Bool, true, false}
+use Rattle.std.specs.Prelude.{◌≡◌, ◌≤ℤ◌, ◌<◌, ◌≤◌, ◌+◌, ◌+ℤ◌, ◌⊎◌, ℤ, ℕ, pos, Bool, true, false}
 use Rattle.std.specs.BinaryHeap.{IsHeap}
 use Rattle.std.specs.declared.cmp.Ordering.{Ordering}
 use Rattle.pf_core.specs.declared.labels.Label.{Label}
@@ -30,6 +30,10 @@ module _ {C : Type 0} (measure : C → ℕ → ℤ) where
     pub opened : l.settled ≡ false
     pub least : IsLow labels (cost_of measure l)
 
+  -- of the open labels that cost as little as that of the number, none has a smaller number
+  abbrev pub IsFirst : Labels C → ℕ → Type 0
+  IsFirst labels number = (j : ℕ) (l m : Label C) → HasLabel labels number l → HasLabel labels j m → m.settled ≡ false → cost_of measure m ≡ cost_of measure l → number ≤ j
+
   -- Over a graph: the labels are those of a search by rising cost from the numbers that are roots.
   module _ {X : Type 0} (step : X → ℤ → X → Type 0) (root : ℕ → Bool) where
     pub record IsSearch (stands : ℕ → X → Type 0) (labels : Labels C) : Type 0 where
@@ -56,3 +60,16 @@ pub record HasDearStep {X : Type 0} (step : X → ℤ → X → Type 0) (fits : 
   pub price : ℤ
   pub edge : step x price next
   pub too_dear : (z : ℤ) → step x z next → ¬ (fits (t +ℤ z))
+
+module _ {X C : Type 0} (step : X → ℤ → X → Type 0) (stands : ℕ → X → Type 0) (labels : Labels C) (fits : ℤ → Type 0) (x : X) (t : ℤ) where
+  -- Some step leads from x to a node that has no label yet, and all steps to that node cost more, with t, than fits.
+  pub record HasBarredStep : Type 0 where
+    pub next : X
+    pub price : ℤ
+    pub edge : step x price next
+    pub new : (j : ℕ) → stands j next → (m : Label C) → ¬ (HasLabel labels j m)
+    pub too_dear : (z : ℤ) → step x z next → ¬ (fits (t +ℤ z))
+
+  -- The node y has a label, or some step from x to a node of its number costs, with t, no more than fits.
+  abbrev pub IsWithinRange : (ℕ → X → Type 0) → X → Type 0
+  IsWithinRange stands' y = ((j : ℕ) × (m : Label C) × stands j y × HasLabel labels j m) ⊎ ((j : ℕ) × (z : ℤ) × (w : X) × stands' j y × stands' j w × step x z w × fits (t +ℤ z))

@@ -8,7 +8,7 @@ ghost use Rattle.std.specs.BinaryHeap.{IsHeap, heap_items, heap_len, heap_capaci
 ghost use Rattle.std.specs.Prelude.{◌≡◌, ◌<◌, ◌≤◌, ◌≤ℤ◌, ◌+ℤ◌, ◌+◌, ◌^◌, ℕ, [], ◌∷◌, false, IfSome, Contains, IsPermutation, MatchOption, length, slice_index_or};
 ghost use Rattle.pf_core.specs.declared.labels.Label.{Label};
 ghost use Rattle.pf_core.specs.Labels.{by_cost, AllSettled, Lowered, Covers, Stepped, Relaxed};
-ghost use Rattle.pf_core.specs.Search.{IsLeast};
+ghost use Rattle.pf_core.specs.Search.{IsLeast, IsFirst};
 ghost use Rattle.pf_core.specs.Queue.{entry_cmp, IsQueue};
 
 use crate::labels::{Label, improves, is_open};
@@ -27,6 +27,7 @@ fn peek_least<C: Cost, A: Allocator>(queue: &Queue<C, A>) -> Option<Reverse<(C, 
     ensures first { IfSome result (λ e. e ≡ slice_index_or (heap_items queue.now) 0 e) }
     ensures least { MatchOption result (heap_items queue.now ≡ [])
         (λ e. Contains (heap_items queue.now) e × ((f : Reverse (C × ℕ)) → Contains (heap_items queue.now) f → C.value e.0.0 ≤ℤ C.value f.0.0)) }
+    ensures ties { IfSome result (λ e. (f : Reverse (C × ℕ)) → Contains (heap_items queue.now) f → C.value e.0.0 ≡ C.value f.0.0 → e.0.1 ≤ f.0.1) }
 {
     queue.peek().copied()
 }
@@ -56,6 +57,7 @@ pub fn least_open<C: Cost, A: Allocator>(
     ensures ordered { IsHeap (entry_cmp C.cmp) (heap_items queue.new) }
     ensures queue { IsQueue C.value labels.now.items (heap_items queue.new) }
     ensures least { MatchOption result (AllSettled labels.now.items) (λ k. (l : Label C) × IsLeast (by_cost C.value) labels.now.items k l) }
+    ensures first { IfSome result (λ k. IsFirst (by_cost C.value) labels.now.items k) }
 {
     'entries: while let Some(entry) = peek_least(queue) {
         let number = entry.0.1;

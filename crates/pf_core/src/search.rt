@@ -1,12 +1,12 @@
 //! A search by rising cost, over numbers.
 
 ghost use Rattle.std.specs.BinaryHeap.{heap_items};
-ghost use Rattle.std.specs.Prelude.{◌≡◌, ◌<◌, ◌≤◌, ◌+◌, ◌+ℤ◌, ◌⊎◌, ℕ, Bool, false, Err, Contains, IfOk, IfErr, MatchOption, OnOk, OnErr, length};
+ghost use Rattle.std.specs.Prelude.{◌≡◌, ◌<◌, ◌≤◌, ◌+◌, ◌+ℤ◌, ◌⊎◌, ℕ, ℤ, Bool, false, Err, Contains, IfOk, IfErr, IfSome, MatchOption, OnOk, OnErr, length};
 ghost use Rattle.pf_core.specs.declared.labels.Label.{Label};
 ghost use Rattle.pf_core.specs.Labels.{HasLabel, by_cost, AllSettled, Follows, settled_count};
 ghost use Rattle.pf_core.specs.Numbered.{Grows};
 ghost use Rattle.pf_core.specs.Steps.{IsNonNegative};
-ghost use Rattle.pf_core.specs.Search.{IsSound, IsLeast, IsSearch, Turned, HasDearStep};
+ghost use Rattle.pf_core.specs.Search.{IsSound, IsLeast, IsFirst, IsSearch, Turned, HasDearStep, HasBarredStep, IsWithinRange};
 
 use crate::labels::{label_of, settle, widen};
 use crate::numbered::NumberedGraph;
@@ -58,6 +58,7 @@ impl<C: Cost, A: Allocator + Copy> Search<C, A> {
         ensures same { self.new.labels.items ≡ self.old.labels.items }
         ensures sound { IsSound C.cmp C.value self.new.labels.items (heap_items self.new.queue) }
         ensures least { MatchOption result (AllSettled self.old.labels.items) (λ k. (l : Label C) × IsLeast (by_cost C.value) self.old.labels.items k l) }
+        ensures first { IfSome result (λ k. IsFirst (by_cost C.value) self.old.labels.items k) }
     {
         least_open(&self.labels, &mut self.queue)
     }
@@ -86,6 +87,10 @@ impl<C: Cost, A: Allocator + Copy> Search<C, A> {
             × (self.new.labels.items ≡ self.old.labels.items) × (heap_items self.new.queue ≡ heap_items self.old.queue)) }
         ensures overflow { result ≡ Err PathError.CostOverflow → (g : G.Graph) → G.explores graph.old g → (x : G.Node) → G.stands graph.old number x
             → (l : Label C) → HasLabel self.old.labels.items number l → HasDearStep (G.step g) C.fits x (C.value l.cost) }
+        ensures barred { result ≡ Err PathError.CostOverflow → (g : G.Graph) → G.explores graph.old g → (x : G.Node) → G.stands graph.old number x
+            → (l : Label C) → HasLabel self.old.labels.items number l → HasBarredStep (G.step g) (G.stands graph.old) self.old.labels.items C.fits x (C.value l.cost) }
+        ensures within { OnOk result ((g : G.Graph) → G.explores graph.old g → (x : G.Node) → G.stands graph.old number x → (l : Label C) → HasLabel self.old.labels.items number l
+            → (y : G.Node) (z : ℤ) → G.step g x z y → IsWithinRange (G.step g) (G.stands graph.old) self.old.labels.items C.fits x (C.value l.cost) (G.stands graph.new) y) }
         ensures errors { IfErr result (λ e. (e ≡ PathError.OutOfMemory) ⊎ (e ≡ PathError.CostOverflow)) }
     {
         let before = graph.found();

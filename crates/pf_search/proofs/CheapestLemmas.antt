@@ -16,7 +16,7 @@ use Rattle.pf_core.specs.Numbered.{Grows}
 use Rattle.pf_core.specs.Steps.{IsNonNegative}
 use Rattle.pf_core.specs.Nodes.{NodeGraph, StandsFor, IsStep, Explores}
 use Rattle.pf_core.specs.NodeLaws.{StandsFor-one, StandsFor-inside}
-use Rattle.pf_core.specs.Search.{IsLeast, IsSearch, Turned, StandsRoot, HasDearStep, SettledAt, WaitingAt}
+use Rattle.pf_core.specs.Search.{IsLeast, IsFirst, IsSearch, Turned, StandsRoot, HasDearStep, IsWithinRange, SettledAt, WaitingAt}
 use Rattle.pf_core.proofs.ListLemmas.{bool_dec}
 use Rattle.pf_core.proofs.LabelLemmas.{HasLabel-inside, label_is, parent_labelled}
 use Rattle.pf_core.proofs.FrontierLemmas.{frontier, goes_more, end_more}
@@ -25,7 +25,7 @@ use Rattle.pf_core.proofs.SearchLemmas.{goal_above, best, cheapest, rooted}
 use Rattle.pf_core.proofs.NodeLemmas.{eq-sym, eq-trans, StandsFor-same, HasEdge-same, InReach-same, InReach-start, edge_of_same}
 use Rattle.pf_core.proofs.WalkLemmas.{cheapest_edge, no_negative, goes_of_walk, none_less, best_answer, all_starts, only_starts}
 use Rattle.pf_search.specs.declared.directed.cheapest_first.DijkstraReachableItem.{DijkstraReachableItem}
-use Rattle.pf_search.specs.CheapestFirst.{CheapestWalk, IsCheapestWalk, IsGiven, IsNew, GivesMore, GivesNoMore, NoNewNodeBelow, IsBehind, IsNextByCost, IsNextPastRange, AllGiven, IsLeft, RefusedFor, CheapestTurn, CheapestStep}
+use Rattle.pf_search.specs.CheapestFirst.{CheapestWalk, IsCheapestWalk, IsGiven, IsNew, GivesMore, GivesNoMore, NoNewNodeBelow, IsBehind, IsNextByCost, IsNextPastRange, AllGiven, IsLeft, IsBarred, RefusedFor, CheapestTurn, CheapestStep, TurnKeepsBar, StepKeepsBar}
 
 module _ {N : Type 0} (eq : N → N → Bool) (laws : IsEquivalence eq) where
   -- nodes that one number stands for are the same
@@ -200,6 +200,10 @@ module _ {N : Type 0} (eq : N → N → Bool) (laws : IsEquivalence eq) where
               past = d.too_dear e.0 (d.edge.0, e.1.edge);
             }
 
+      -- where all labels are settled, the walk stands before no step
+      pub ended_bar : (fits : ℤ → Type 0) → AllSettled s.labels → ¬ (IsBarred eq value edges start fits s)
+      ended_bar fits settled b = true≢false (sym (settled b.number b.label b.least.at) ∙ b.least.opened)
+
       module _ (wide : length s.labels ≡ length s.nodes) (t : CheapestWalk N C F) (grows : Grows (length s.nodes) (length t.nodes) (StandsFor eq s.nodes) (StandsFor eq t.nodes)) (explored : Discovers graph t.nodes t.successors) where
         within : (j : ℕ) (m : Label C) → HasLabel s.labels j m → j < length s.nodes
         within j m h = omega (arith, HasLabel-inside s.labels j m h, wide)
@@ -217,6 +221,49 @@ module _ {N : Type 0} (eq : N → N → Bool) (laws : IsEquivalence eq) where
           λ g. let h = subst (λ (ls : List (Option (Label C))). HasLabel ls g.0 g.1) e g.3 in (g.0, g.1, grows.back g.0 x (within g.0 g.1 h) g.2, h, g.4, g.5),
           λ g. (g.0, g.1, grows.stays g.0 x g.2, subst (λ (ls : List (Option (Label C))). HasLabel ls g.0 g.1) (sym e) g.3, g.4, g.5),
         )
+
+        -- where no label changed, the walk stands before the same step
+        pub bar_kept : (fits : ℤ → Type 0) → t.labels ≡ s.labels → IsBarred eq value edges start fits s → IsBarred eq value edges start fits t
+        bar_kept fits e b =
+            let back = sym e in
+            let st = b.step in
+            record {
+              number = b.number;
+              label = b.label;
+              least = subst (λ (ls : Labels C). IsLeast (by_cost value) ls b.number b.label) back b.least;
+              first = subst (λ (ls : Labels C). IsFirst (by_cost value) ls b.number) back b.first;
+              node = b.node;
+              here = grows.stays b.number b.node b.here;
+              step = record {
+                next = st.next;
+                price = st.price;
+                edge = st.edge;
+                new = λ j at m h. let old = subst (λ (ls : Labels C). HasLabel ls j m) e h in st.new j (grows.back j st.next (within j m old) at) m old;
+                too_dear = st.too_dear;
+              };
+            }
+
+        -- where the steps from the first open label were taken, the walk stood before none that does not fit
+        module _ (fits : ℤ → Type 0) (k : ℕ) (l : Label C) (z : IsLeast (by_cost value) s.labels k l) (f : IsFirst (by_cost value) s.labels k) where
+          first_is : (b : IsBarred eq value edges start fits s) → b.number ≡ k
+          first_is b =
+              let low : value l.cost ≤ℤ value b.label.cost = z.least b.number b.label b.least.at b.least.opened in
+              let high : value b.label.cost ≤ℤ value l.cost = b.least.least k l z.at z.opened in
+              let same : value b.label.cost ≡ value l.cost = omega (arith, ints, low, high) in
+              omega (arith, f b.number l b.label z.at b.least.at b.least.opened same, b.first k b.label l b.least.at z.at z.opened (sym same))
+
+          pub no_bar : ((x : N) → StandsFor eq s.nodes k x → (y : N) (v : ℤ) → step x v y → IsWithinRange step (StandsFor eq s.nodes) s.labels fits x (value l.cost) (StandsFor eq t.nodes) y)
+              → ¬ (IsBarred eq value edges start fits s)
+          no_bar passed b =
+              let st = b.step in
+              let n : b.number ≡ k = first_is b in
+              let same : b.label ≡ l = label_is s.labels k b.label l (subst (λ (i : ℕ). HasLabel s.labels i b.label) n b.least.at) z.at in
+              elim (passed b.node (subst (λ (i : ℕ). StandsFor eq s.nodes i b.node) n b.here) st.next st.price st.edge) as (λ _. ⊥) [
+                | inl o ↦ st.new o.0 o.2 o.1 o.3
+                | inr o ↦
+                    let e : IsStep eq graph b.node o.1 st.next = (o.5.0, HasEdge-same eq laws (edges b.node) o.2 st.next o.1 (same_node t.nodes o.0 o.2 st.next o.4 o.3) o.5.1) in
+                    st.too_dear o.1 e (subst (λ (m : Label C). fits (value m.cost +ℤ o.1)) (sym same) o.6)
+              ]
 
         -- after a turn one item more was given
         pub one_more : (k : ℕ) (l : Label C) → HasLabel s.labels k l → Turned k l s.labels t.labels → (item : DijkstraReachableItem N C) → item.total_cost ≡ l.cost → StandsFor eq s.nodes k item.node → GivesMore eq s item t
@@ -248,6 +295,20 @@ module _ {N C F : Type 0} (eq : N → N → Bool) (value : C → ℤ) (edges : N
       → CheapestTurn eq value edges start fits s r t
   turn_refused (Ok x) refusal e f l m = absurd e
   turn_refused (Err x) refusal e f l m = (subst (λ (y : PathError). RefusedFor eq value edges start fits s y) (sym e) f, l, m)
+
+  -- the mark of a refusal is no part of the step before which it stands
+  pub marked_bar : (b : Bool) → IsBarred eq value edges start fits t → IsBarred eq value edges start fits (record t { refused = b })
+  marked_bar b w = record { number = w.number; label = w.label; least = w.least; first = w.first; node = w.node; here = w.here; step = w.step }
+
+  pub bars_of : (r : Result (Option (DijkstraReachableItem N C)) PathError) → TurnKeepsBar eq value edges start fits s r t → StepKeepsBar eq value edges start fits s (result_transpose r) (record t { refused = is_err r })
+  bars_of (Ok (Some x)) q = q
+  bars_of (Ok None) q = λ b. absurd (q b)
+  bars_of (Err x) q = λ why. marked_bar true (q why)
+
+  pub bar_refused : (r : Result (Option (DijkstraReachableItem N C)) PathError) (refusal : PathError) → IsErrAnd r (λ e. e ≡ refusal) → (((refusal ≡ PathError.CostOverflow) ⊎ IsBarred eq value edges start fits s) → IsBarred eq value edges start fits t)
+      → TurnKeepsBar eq value edges start fits s r t
+  bar_refused (Ok x) refusal e q = absurd e
+  bar_refused (Err x) refusal e q = subst (λ (y : PathError). ((y ≡ PathError.CostOverflow) ⊎ IsBarred eq value edges start fits s) → IsBarred eq value edges start fits t) (sym e) q
 
 -- what a caller sees of these parts
 abbrev pub seen : {N C F : Type 0} → List N → Labels C → Bool → F → CheapestWalk N C F

@@ -6,7 +6,7 @@ use Rattle.pf_base.specs.Edges.{InReach, StepCosts, HasNoNegativeCost, NoGoalWal
 use Rattle.pf_core.specs.declared.labels.Label.{Label}
 use Rattle.pf_core.specs.Labels.{Labels, HasLabel, by_cost}
 use Rattle.pf_core.specs.Nodes.{NodeGraph, StandsFor, IsStep}
-use Rattle.pf_core.specs.Search.{IsSearch}
+use Rattle.pf_core.specs.Search.{IsLeast, IsFirst, IsSearch, HasBarredStep}
 use Rattle.pf_search.specs.declared.directed.cheapest_first.DijkstraReachableItem.{DijkstraReachableItem}
 
 -- what a caller sees of a walk: the nodes found so far; for each, by its place, the least cost that was found and whether the node was given; whether the last step was refused; and the function that lists edges
@@ -82,6 +82,16 @@ module _ {N C F : Type 0} (eq : N → N → Bool) where
       pub step : StepCosts eq edges node next price
       pub past : ¬ (fits (cost +ℤ price))
 
+    -- The walk stands before a step that does not fit: the open label that comes first, of those that cost least the one of the least number, is that of a node from which some step leads to a node without a label, and all steps to that node cost more, with the label, than fits.
+    pub record IsBarred (fits : ℤ → Type 0) (walk : CheapestWalk N C F) : Type 0 where
+      pub number : ℕ
+      pub label : Label C
+      pub least : IsLeast (by_cost value) walk.labels number label
+      pub first : IsFirst (by_cost value) walk.labels number
+      pub node : N
+      pub here : StandsFor eq walk.nodes number node
+      pub step : HasBarredStep (IsStep eq (record { starts = start ∷ []; edges = edges })) (StandsFor eq walk.nodes) walk.labels fits node (value label.cost)
+
     -- each node in reach was given
     abbrev pub AllGiven : CheapestWalk N C F → Type 0
     AllGiven walk = (x : N) → InReach eq edges (start ∷ []) x → (cost : C) × IsGiven walk x cost
@@ -99,6 +109,17 @@ module _ {N C F : Type 0} (eq : N → N → Bool) where
     CheapestTurn fits walk (Ok (Some item)) after = IsNextByCost walk item × GivesMore walk item after
     CheapestTurn fits walk (Ok None) after = AllGiven walk × (after ≡ walk)
     CheapestTurn fits walk (Err refusal) after = RefusedFor fits walk refusal × IsLeft walk × GivesNoMore walk after
+
+    -- a step that does not fit is refused again: where the walk stands before one, a step of a walk that was not refused before gives neither an item nor the end, and a step that is refused leaves the walk before it
+    abbrev pub TurnKeepsBar : (ℤ → Type 0) → CheapestWalk N C F → Result (Option (DijkstraReachableItem N C)) PathError → CheapestWalk N C F → Type 0
+    TurnKeepsBar fits walk (Ok given) after = ¬ (IsBarred fits walk)
+    TurnKeepsBar fits walk (Err refusal) after = ((refusal ≡ PathError.CostOverflow) ⊎ IsBarred fits walk) → IsBarred fits after
+
+    -- the same of a call of `next`, which gives the end also where the last step was refused
+    abbrev pub StepKeepsBar : (ℤ → Type 0) → CheapestWalk N C F → Option (Result (DijkstraReachableItem N C) PathError) → CheapestWalk N C F → Type 0
+    StepKeepsBar fits walk (Some (Ok item)) after = ¬ (IsBarred fits walk)
+    StepKeepsBar fits walk None after = IsBarred fits walk → walk.refused ≡ true
+    StepKeepsBar fits walk (Some (Err refusal)) after = ((refusal ≡ PathError.CostOverflow) ⊎ IsBarred fits walk) → IsBarred fits after
 
     -- What a call of `next` gives, and how it leaves the walk.
     -- an item: the next by rising cost, which is one of the given ones from then on

@@ -7,6 +7,8 @@ mod both_ends;
 #[cfg(test)]
 mod counted;
 #[cfg(test)]
+mod dear_steps;
+#[cfg(test)]
 mod maps;
 #[cfg(test)]
 mod tests;

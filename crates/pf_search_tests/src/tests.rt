@@ -1,2 +1,3 @@
 mod both_ends;
+mod dear_step;
 mod maps;

@@ -7,7 +7,7 @@ ghost use Rattle.pf_base.specs.Edges.{InReach, HasNoNegativeCost};
 ghost use Rattle.pf_core.specs.declared.labels.Label.{Label};
 ghost use Rattle.pf_core.specs.Labels.{HasLabel};
 ghost use Rattle.pf_core.specs.Nodes.{Explores, StandsFor};
-ghost use Rattle.pf_search.specs.CheapestFirst.{IsGiven, IsCheapestWalk, CheapestTurn, CheapestStep};
+ghost use Rattle.pf_search.specs.CheapestFirst.{IsGiven, IsCheapestWalk, IsBarred, CheapestTurn, CheapestStep, TurnKeepsBar, StepKeepsBar};
 
 use pf_base::{Cost, EdgeFunction, PathError};
 use pf_core::discovery::{Discovery, Weighted, clone_of};
@@ -97,7 +97,8 @@ where
     ghost next_gives = { λ s r t. (edges : N → List (N × ℤ)) (start : N)
         → IsCheapestWalk N.eq C.value edges start (Explores N.eq C.value (λ e. e) IN.into_iter_gives IN.IntoIter.can_next IN.IntoIter.remaining IN.IntoIter.next_gives FN.FnMut) s
         → IsCheapestWalk N.eq C.value edges start (Explores N.eq C.value (λ e. e) IN.into_iter_gives IN.IntoIter.can_next IN.IntoIter.remaining IN.IntoIter.next_gives FN.FnMut) t
-        × CheapestStep N.eq C.value edges start C.fits s r t };
+        × CheapestStep N.eq C.value edges start C.fits s r t
+        × StepKeepsBar N.eq C.value edges start C.fits s r t };
 
     fn next(&mut self) -> Option<Result<DijkstraReachableItem<N, C>, PathError>>
         requires { ⟦<DijkstraReachable<N, C, IN, FN, A> as Iterator>⟧.can_next self.old }
@@ -129,6 +130,8 @@ where
         ensures graph { (edges : N → List (N × ℤ)) (start : N)
             → IsCheapestWalk N.eq C.value edges start (Explores N.eq C.value (λ e. e) IN.into_iter_gives IN.IntoIter.can_next IN.IntoIter.remaining IN.IntoIter.next_gives FN.FnMut) self.old
             → IsCheapestWalk N.eq C.value edges start (Explores N.eq C.value (λ e. e) IN.into_iter_gives IN.IntoIter.can_next IN.IntoIter.remaining IN.IntoIter.next_gives FN.FnMut) self.new }
+        ensures bar { (edges : N → List (N × ℤ)) (start : N)
+            → IsBarred N.eq C.value edges start C.fits self.old → IsBarred N.eq C.value edges start C.fits self.new }
     {
         self.refused = false;
     }
@@ -143,6 +146,9 @@ where
             → IsCheapestWalk N.eq C.value edges start (Explores N.eq C.value (λ e. e) IN.into_iter_gives IN.IntoIter.can_next IN.IntoIter.remaining IN.IntoIter.next_gives FN.FnMut) self.old
             → IsCheapestWalk N.eq C.value edges start (Explores N.eq C.value (λ e. e) IN.into_iter_gives IN.IntoIter.can_next IN.IntoIter.remaining IN.IntoIter.next_gives FN.FnMut) self.new
             × CheapestTurn N.eq C.value edges start C.fits self.old result self.new }
+        ensures bars { (edges : N → List (N × ℤ)) (start : N)
+            → IsCheapestWalk N.eq C.value edges start (Explores N.eq C.value (λ e. e) IN.into_iter_gives IN.IntoIter.can_next IN.IntoIter.remaining IN.IntoIter.next_gives FN.FnMut) self.old
+            → TurnKeepsBar N.eq C.value edges start C.fits self.old result self.new }
         ensures same { self.new.refused ≡ self.old.refused }
     {
         let Some(number) = self.search.least() else {
@@ -172,7 +178,8 @@ where
 /// - `Err(OutOfMemory)` where a request for memory was refused.
 ///
 /// A refused step leaves what was found and given as it was, save what `successors` changes when it is
-/// called; the walk then answers `None` until `resume` is called, and tries the same step again.
+/// called; the walk then answers `None` until `resume` is called, and tries the same step again. A step
+/// that was refused with `CostOverflow` is refused again after each `resume`.
 ///
 /// The algorithm is Dijkstra's (E. W. Dijkstra, "A note on two problems in connexion with graphs",
 /// 1959), with a binary heap.

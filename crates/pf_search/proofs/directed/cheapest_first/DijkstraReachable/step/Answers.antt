@@ -1,12 +1,16 @@
-use Rattle.std.proofs.Common.{Err, ap, refl, arith, length, inl, inr, nat_eq}
+use Rattle.std.proofs.Common.{Err, ◌≡◌, ◌∙◌, sym, ap, refl, arith, length, inl, inr, nat_eq}
+use Rattle.pf_base.specs.declared.error.PathError.{PathError}
 use Rattle.pf_core.specs.Labels.{by_cost}
 use Rattle.pf_core.specs.Nodes.{IsStep}
 use Rattle.pf_core.proofs.LabelLemmas.{HasLabel-inside, parent_labelled}
 use Rattle.pf_core.proofs.TurnLemmas.{least_is}
 use Rattle.pf_core.proofs.SearchLemmas.{search_grows}
-use Rattle.pf_search.specs.CheapestFirst.{RefusedFor}
-use Rattle.pf_search.proofs.CheapestLemmas.{seen, costs, all_given, stands_at, left_at, next_is, past_at, goes_on, no_more, one_more, turn_refused}
+use Rattle.pf_search.specs.CheapestFirst.{RefusedFor, IsBarred}
+use Rattle.pf_search.proofs.CheapestLemmas.{seen, costs, all_given, stands_at, left_at, next_is, past_at, goes_on, no_more, one_more, turn_refused, ended_bar, bar_kept, no_bar, bar_refused}
 use Rattle.pf_search.proofs.directed.cheapest_first.DijkstraReachable.step.Goals as goal
+
+no_overflow : ¬ (PathError.OutOfMemory ≡ PathError.CostOverflow)
+no_overflow e = cc
 
 pub returns-in_default-clause-steps : goal.returns-in_default-clause-steps
 returns-in_default-clause-steps g c = λ edges start w.
@@ -105,3 +109,54 @@ returns-clause-steps g c = λ edges start w.
         one_more eq laws g.C.Number.value _ _ _ _ _ edges start s v tree wide t e.grows explored c.in-Some.number item.0 item.1 turned c.in_ok-item.item item.2 item.3,
       ),
     )
+
+pub returns-in_default-clause-bars : goal.returns-in_default-clause-bars
+returns-in_default-clause-bars g c = λ edges start w.
+    let i = c.self.inside in
+    let v = rw (← c.self.view_is) at w in
+    let s = seen i.discovery.nodes.keys i.search.labels.items i.refused i.discovery.successors in
+    rw (← c.self.view_is) (ended_bar g.N.PartialEq.eq g.met.N.Eq.laws g.C.Number.value _ _ _ _ _ edges start s v c.self.invariant.0.tree g.C.Number.fits c.in_default.ensures.least)
+
+pub returns-in_err-item-clause-bars : goal.returns-in_err-item-clause-bars
+returns-in_err-item-clause-bars g c = λ edges start w.
+    let eq = g.N.PartialEq.eq in
+    let i = c.self.inside in
+    let s = seen i.discovery.nodes.keys i.search.labels.items i.refused i.discovery.successors in
+    rw (← c.self.view_is, c.in-Some.ensures.same) (bar_refused eq g.C.Number.value edges start g.C.Number.fits s s c.from_residual.result c.in_err-item.field-0.0 c.from_residual.ensures.1
+    (λ why. elim why as (λ _. IsBarred eq g.C.Number.value edges start g.C.Number.fits s) [ inl o ↦ absurd (no_overflow (sym c.in_err-item.ensures.refused ∙ o)) | inr b ↦ b ]))
+
+pub returns-in_err-turn-clause-bars : goal.returns-in_err-turn-clause-bars
+returns-in_err-turn-clause-bars g c = λ edges start w.
+    let eq = g.N.PartialEq.eq in
+    let laws = g.met.N.Eq.laws in
+    let i = c.self.inside in
+    let v = rw (← c.self.view_is) at w in
+    let z = c.in-Some.ensures.least in
+    let e = c.in_err-turn.ensures in
+    let tree = c.self.invariant.0.tree in
+    let same = c.in-Some.ensures.same in
+    let new = c.turn.new.graph in
+    let s = seen i.discovery.nodes.keys i.search.labels.items i.refused i.discovery.successors in
+    let t = seen new.nodes.keys i.search.labels.items i.refused new.successors in
+    let kept = bar_kept eq laws g.C.Number.value _ _ _ _ _ edges start s v tree c.self.invariant.1 t e.grows (e.graph _ v.explored) g.C.Number.fits refl in
+    let x = stands_at eq laws g.C.Number.value _ _ _ _ _ edges start s v tree c.in-Some.number z.0 z.1 in
+    rw (← c.self.view_is, e.kept.1, same) (bar_refused eq g.C.Number.value edges start g.C.Number.fits s t c.from_residual-in_err-turn.result c.in_err-turn.field-0.0 c.from_residual-in_err-turn.ensures.1
+    (λ why. elim why as (λ _. IsBarred eq g.C.Number.value edges start g.C.Number.fits t) [
+      | inl o ↦ kept (record { number = c.in-Some.number; label = z.0; least = z.1; first = c.in-Some.ensures.first; node = x.0; here = x.1; step = rw same at (e.barred (ap Err o) _ v.explored x.0 x.1 z.0 (rw same z.1.at)) })
+      | inr b ↦ kept b
+    ]))
+
+pub returns-clause-bars : goal.returns-clause-bars
+returns-clause-bars g c = λ edges start w.
+    let eq = g.N.PartialEq.eq in
+    let laws = g.met.N.Eq.laws in
+    let i = c.self.inside in
+    let v = rw (← c.self.view_is) at w in
+    let z = c.in-Some.ensures.least in
+    let e = c.in_ok-turn.ensures in
+    let same = c.in-Some.ensures.same in
+    let new = c.turn.new.graph in
+    let s = seen i.discovery.nodes.keys i.search.labels.items i.refused i.discovery.successors in
+    let t = seen new.nodes.keys c.turn.new.self.labels.items i.refused new.successors in
+    rw (← c.self.view_is) (no_bar eq laws g.C.Number.value _ _ _ _ _ edges start s v c.self.invariant.0.tree c.self.invariant.1 t e.grows (e.graph _ v.explored) g.C.Number.fits c.in-Some.number z.0 z.1 c.in-Some.ensures.first
+    (λ x here. rw same at (e.within _ v.explored x here z.0 (rw same z.1.at))))

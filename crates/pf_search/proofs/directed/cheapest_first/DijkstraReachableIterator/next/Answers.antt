@@ -1,7 +1,7 @@
 use Rattle.std.proofs.Common.{sym, ap, ◌∙◌}
 use Rattle.pf_search.specs.CheapestFirst.{CheapestWalk}
 use Rattle.pf_search.proofs.BreadthSteps.{any_some}
-use Rattle.pf_search.proofs.CheapestLemmas.{step_of, seen}
+use Rattle.pf_search.proofs.CheapestLemmas.{step_of, bars_of, seen}
 use Rattle.pf_search.proofs.directed.cheapest_first.DijkstraReachableIterator.next.Goals as goal
 
 pub returns-clause-steps : goal.returns-clause-steps
@@ -10,8 +10,10 @@ returns-clause-steps g c = λ edges start w.
     let e = rw (← c.self-2.view_is) at (c.step-step.ensures.steps edges start w) in
     let same = rw (← c.self-2.view_is) at c.step-step.ensures.same in
     let h = sym (ap (λ (v : CheapestWalk g.row.N.Denot g.row.C.Denot g.row.FN.Denot). v.refused) c.self.view_is) ∙ c.if-self.false in
+    let t = seen i.discovery.nodes.keys i.search.labels.items i.refused i.discovery.successors in
+    let step = step_of g.N.PartialEq.eq g.met.N.Eq.laws g.C.Number.value _ _ _ _ _ edges start g.C.Number.fits c.args.self.now t c.step-step.result h same e in
     rw (c.transpose.ensures, c.is_err-self-inside.ensures.value)
-    (step_of g.N.PartialEq.eq g.met.N.Eq.laws g.C.Number.value _ _ _ _ _ edges start g.C.Number.fits c.args.self.now (seen i.discovery.nodes.keys i.search.labels.items i.refused i.discovery.successors) c.step-step.result h same e)
+    (step.0, step.1, bars_of g.N.PartialEq.eq g.C.Number.value edges start g.C.Number.fits c.args.self.now t c.step-step.result (rw (← c.self-2.view_is) at (c.step-step.ensures.bars edges start w)))
 
 pub returns-clause-again : goal.returns-clause-again
 returns-clause-again g c =

@@ -1,0 +1,9 @@
+use Rattle.std.proofs.Common.{false}
+use Rattle.pf_search.proofs.CheapestLemmas.{seen, marked_bar}
+use Rattle.pf_search.proofs.directed.cheapest_first.DijkstraReachable.resume.Goals as goal
+
+pub returns-clause-bar : goal.returns-clause-bar
+returns-clause-bar g c = λ edges start b.
+    let i = c.self.inside in
+    let s = seen i.discovery.nodes.keys i.search.labels.items i.refused i.discovery.successors in
+    marked_bar g.N.PartialEq.eq g.C.Number.value edges start g.C.Number.fits s s false (rw (← c.self.view_is) at b)
