@@ -262,14 +262,14 @@ queue_kept value labels estimates estimates' entries kept q = record { labelled 
 -- ---- a turn: a number is taken out, its node opened, and the steps from it taken
 module _ {X C : Type 0} (value : C → ℤ) (fits : ℤ → Type 0) (step : X → ℤ → X → Type 0) (passes : X → Bool) (estimates estimates' : List C) (kept : (k : ℕ) (c : C) → slice_get estimates k ≡ Some c → slice_get estimates' k ≡ Some c)
     (found found' : ℕ) (stands stands' : ℕ → X → Type 0) (grow : Grows found found' stands stands') (labels labels' : Labels C) (inside : length labels ≤ found) (entries entries1 entries' : List (Entry C))
-    (number : ℕ) (cost : C) (taken : IsTaken value labels estimates number cost entries entries1) (fails : (x : X) → stands number x → passes x ≡ false)
+    (number : ℕ) (own : Label C) (own_at : HasLabel labels number own) (left : (k : ℕ) (l : Label C) → HasLabel labels k l → IsWaiting value entries k l → (k ≡ number) ⊎ IsWaiting value entries1 k l) (fails : (x : X) → stands number x → passes x ≡ false)
     (row : List (ℕ × C)) (lists : (x : X) → stands number x → ListsSteps value step stands' x row) (fresh : (j : ℕ) → found ≤ j → j < found' → (c : C) × Contains row (j, c)) (someone : (x : X) × stands number x)
-    (follows : Follows value fits estimates' number taken.label row labels labels' entries1 entries') (f : IsForest value labels) (i : IsInformed value fits estimates step passes stands labels entries found) where
+    (follows : Follows value fits estimates' number own row labels labels' entries1 entries') (f : IsForest value labels) (i : IsInformed value fits estimates step passes stands labels entries found) where
   lower_now : (k : ℕ) (l : Label C) → HasLabel labels k l → (m : Label C) × HasLabel labels' k m × (value m.cost ≤ℤ value l.cost)
   lower_now k l h = let e = follows.eased in let w = follows.wide in e.lower k l (w.stays k l h)
 
-  own_now : HasLabel labels' number taken.label
-  own_now = let e = follows.eased in let w = follows.wide in e.own taken.label (w.stays number taken.label taken.at)
+  own_now : HasLabel labels' number own
+  own_now = let e = follows.eased in let w = follows.wide in e.own own (w.stays number own own_at)
 
   before : (k : ℕ) (x : X) → k < length labels → stands' k x → stands k x
   before k x l h = grow.back k x (omega (arith, l, inside)) h
@@ -287,7 +287,7 @@ module _ {X C : Type 0} (value : C → ℤ) (fits : ℤ → Type 0) (step : X �
 
   opened : (l : Label C) → HasLabel labels number l → IsClosed value fits estimates' step passes stands' labels' entries' number l
   opened l h =
-      let same : taken.label ≡ l = label_is labels number taken.label l taken.at h in
+      let same : own ≡ l = label_is labels number own l own_at h in
       let there = HasLabel-inside labels number l h in
       let e = follows.eased in
       record {
@@ -296,12 +296,12 @@ module _ {X C : Type 0} (value : C → ℤ) (fits : ℤ → Type 0) (step : X �
             let was = before number x there s in
             let to = (lists x was).numbered z y st in
             let edge = (lists x was).complete z y to.0 st to.1 in
-            let sum : (value taken.label.cost +ℤ value edge.0) ≡ (value l.cost +ℤ z) = omega (arith, ints, ap (λ (m : Label C). value m.cost) same, edge.2) in
+            let sum : (value own.cost +ℤ value edge.0) ≡ (value l.cost +ℤ z) = omega (arith, ints, ap (λ (m : Label C). value m.cost) same, edge.2) in
             (to.0, to.1, subst (Covers value fits estimates' labels' to.0) sum (e.covered to.0 edge.0 edge.1));
       }
 
-  pub informed_turned : IsInformed value fits estimates' step passes stands' labels' entries' found'
-  informed_turned = record {
+  pub informed_opened : IsInformed value fits estimates' step passes stands' labels' entries' found'
+  informed_opened = record {
     cut = λ k m h.
         let e = follows.eased in
         let w = follows.wide in
@@ -309,9 +309,9 @@ module _ {X C : Type 0} (value : C → ℤ) (fits : ℤ → Type 0) (step : X �
           | inl old ↦
               let was = w.from k m old in
               elim (i.cut k m was) as (λ _. IsWaiting value entries' k m ⊎ IsClosed value fits estimates' step passes stands' labels' entries' k m) [
-                | inl wait ↦ elim (taken.left k m was wait) as (λ _. IsWaiting value entries' k m ⊎ IsClosed value fits estimates' step passes stands' labels' entries' k m) [
+                | inl wait ↦ elim (left k m was wait) as (λ _. IsWaiting value entries' k m ⊎ IsClosed value fits estimates' step passes stands' labels' entries' k m) [
                   | inl same ↦ inr (subst (λ (n : ℕ). IsClosed value fits estimates' step passes stands' labels' entries' n m) (sym same) (opened m (subst (λ (n : ℕ). HasLabel labels n m) same was)))
-                  | inr left ↦ inl (left.0, e.more left.0 left.1, left.2, left.3)
+                  | inr on ↦ inl (on.0, e.more on.0 on.1, on.2, on.3)
                 ]
                 | inr c ↦ inr (closed_now k m was c)
               ]
@@ -330,8 +330,8 @@ module _ {X C : Type 0} (value : C → ℤ) (fits : ℤ → Type 0) (step : X �
               (r.0, r.1, r.2, grow.stays k r.0 r.3, omega (arith, ints, r.4, now.2, ap (λ (n : Label C). value n.cost) same))
           | inr new ↦
               let there : HasLabel labels' number m = subst (λ (n : ℕ). HasLabel labels' n m) new.2 at in
-              let same : taken.label ≡ m = label_is labels' number taken.label m own_now there in
-              let was = before number x (HasLabel-inside labels number taken.label taken.at) (subst (λ (n : ℕ). stands' n x) new.2 s) in
+              let same : own ≡ m = label_is labels' number own m own_now there in
+              let was = before number x (HasLabel-inside labels number own own_at) (subst (λ (n : ℕ). stands' n x) new.2 s) in
               let q = (lists x was).sound k new.0 new.1 in
               (q.0, value new.0, q.1, q.2, omega (arith, ints, new.3, ap (λ (n : Label C). value n.cost) same))
         ];
@@ -345,9 +345,18 @@ module _ {X C : Type 0} (value : C → ℤ) (fits : ℤ → Type 0) (step : X �
       | inr new ↦
           let c = fresh j new l in
           let q = (lists someone.0 someone.1).sound j c.0 c.1 in
-          inr (record { node = q.0; here = q.2; before = number; label = taken.label; at = own_now; source = someone.0; there = grow.stays number someone.0 someone.1; price = value c.0; edge = q.1 })
+          inr (record { node = q.0; here = q.2; before = number; label = own; at = own_now; source = someone.0; there = grow.stays number someone.0 someone.1; price = value c.0; edge = q.1 })
     ];
   }
     where
       order : (a b : ℕ) → (a < b) ⊎ (b ≤ a)
       order a b = elim (int_dec (pos b) (pos a)) as (λ _. (a < b) ⊎ (b ≤ a)) [ inl l ↦ inr (omega (arith, ints, l)) | inr l ↦ inl (omega (arith, ints, l)) ]
+
+-- the same, where the number is the one of the least sum
+module _ {X C : Type 0} (value : C → ℤ) (fits : ℤ → Type 0) (step : X → ℤ → X → Type 0) (passes : X → Bool) (estimates estimates' : List C) (kept : (k : ℕ) (c : C) → slice_get estimates k ≡ Some c → slice_get estimates' k ≡ Some c)
+    (found found' : ℕ) (stands stands' : ℕ → X → Type 0) (grow : Grows found found' stands stands') (labels labels' : Labels C) (inside : length labels ≤ found) (entries entries1 entries' : List (Entry C))
+    (number : ℕ) (cost : C) (taken : IsTaken value labels estimates number cost entries entries1) (fails : (x : X) → stands number x → passes x ≡ false)
+    (row : List (ℕ × C)) (lists : (x : X) → stands number x → ListsSteps value step stands' x row) (fresh : (j : ℕ) → found ≤ j → j < found' → (c : C) × Contains row (j, c)) (someone : (x : X) × stands number x)
+    (follows : Follows value fits estimates' number taken.label row labels labels' entries1 entries') (f : IsForest value labels) (i : IsInformed value fits estimates step passes stands labels entries found) where
+  pub informed_turned : IsInformed value fits estimates' step passes stands' labels' entries' found'
+  informed_turned = informed_opened value fits step passes estimates estimates' kept found found' stands stands' grow labels labels' inside entries entries1 entries' number taken.label taken.at taken.left fails row lists fresh someone follows f i

@@ -2,4 +2,10 @@
 pub mod Forest
 pub mod Waiting
 pub mod Estimated
+pub mod Fringe
 pub mod Informed
+pub mod Ways
+pub mod Tight
+pub mod Labelled
+pub mod Rows
+pub mod Deepening

@@ -1,11 +1,16 @@
 //! Searches on graphs that functions answer, led by an estimate of the cost that remains.
 #![tactic(auto)]
 
+mod cheapest_labels;
 pub mod directed;
 mod estimates;
+mod fringe_lists;
 pub mod functions;
 mod labels;
+pub mod laws;
 mod queue;
 mod search;
+mod tight;
+mod ways;
 
 pub use functions::EstimateFunction;

@@ -31,7 +31,9 @@ pub(crate) struct Taken<C> {
 }
 
 /// Takes out the first entry, whose sum is the least.
-fn take_first<C: Cost, A: Allocator>(queue: &mut Queue<C, A>) -> Option<(Reverse<C>, C, usize)>
+pub(crate) fn take_first<C: Cost, A: Allocator>(
+    queue: &mut Queue<C, A>,
+) -> Option<(Reverse<C>, C, usize)>
     requires { IsHeap (entry_cmp C.cmp) (heap_items queue.old) }
     ensures ordered { IsHeap (entry_cmp C.cmp) (heap_items queue.new) }
     ensures first { MatchOption result ((heap_items queue.old ≡ []) × (heap_items queue.new ≡ []))

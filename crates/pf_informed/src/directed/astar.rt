@@ -6,6 +6,7 @@ ghost use Rattle.pf_base.specs.Edges.{IsSuccessor, IsCheapestGoalPath};
 ghost use Rattle.pf_base.specs.Answers.{IsLawfulClone};
 ghost use Rattle.pf_informed.specs.Estimates.{IsInformedSearch, IsPastRangeWithEstimate, NoGoalWalkFits};
 
+pub use crate::directed::astar_bag::{AstarSolution, astar_bag, astar_bag_collect};
 use crate::estimates::ask;
 use crate::functions::EstimateFunction;
 use crate::labels::path_to;

@@ -1,0 +1,19 @@
+use Rattle.std.proofs.Common.{arith, refl}
+use Rattle.std.specs.List.{each_same}
+use Rattle.std.proofs.lemmas.Slice.Zip.{AllZip-long}
+use Rattle.pf_informed.proofs.CloneLemmas.{ways_clone, left_clone}
+use Rattle.pf_informed.proofs.directed.astar_bag.AstarSolutionClone.clone.Goals as goal
+
+pub invariant_of-result : goal.invariant_of-result
+invariant_of-result g c =
+    let w = c.in_ok-ways.ensures.cases in
+    let k = c.in_ok-nodes.ensures.cases in (
+      ways_clone _ (λ u v r. each_same u.items v.items r.0) c.self.inside.ways.before.items c.in_ok-ways.ways.before.items w.0.0 _ _ _ _ _ _ (each_same _ _ w.1.0.0) (each_same _ _ w.1.1.0.0) (each_same _ _ w.1.1.1.0) c.self.invariant.0,
+      omega (arith, AllZip-long _ _ _ w.0.0, AllZip-long _ _ _ k, c.self.invariant.1),
+    )
+
+pub returns : goal.returns
+returns g c =
+    let w = c.in_ok-ways.ensures.cases in
+    let k = c.in_ok-nodes.ensures.cases in
+    rw (← c.self.view_is) (record { cases = (left_clone _ (λ u v r. each_same u.items v.items r.0) c.self.inside.ways.before.items c.in_ok-ways.ways.before.items w.0.0 g.N.Clone.is_clone _ _ k _ _ _ _ (each_same _ _ w.1.0.0) (each_same _ _ w.1.1.1.0), refl) })

@@ -1,0 +1,49 @@
+use Rattle.std.proofs.Common.{[], ◌∷◌, List, ℤ, slice_get}
+use Rattle.pf_core.specs.Nodes.{NodeGraph, StandsFor}
+use Rattle.pf_core.proofs.ListLemmas.{none_in}
+use Rattle.pf_core.proofs.NodeLemmas.{Explores-edges}
+use Rattle.pf_informed.specs.Internal.Estimated.{IsEstimated}
+use Rattle.pf_informed.specs.Internal.Rows.{IsCheapStep}
+use Rattle.pf_informed.proofs.KnownLemmas.{no_rows, no_table}
+use Rattle.pf_informed.proofs.directed.idastar.known.Known.new.Goals as goal
+
+abbrev graph_of : {N : Type 0} → N → (N → List (N × ℤ)) → NodeGraph N
+graph_of start edges = record { starts = start ∷ []; edges = edges }
+
+pub ask-requires-clause-graph : goal.ask-requires-clause-graph
+ask-requires-clause-graph g c =
+    let r = c.requires.graph in
+    let s = r.3 in
+    let w = s.weighted in
+    let found = c.in_ok-clone_of in
+    let h = graph_of c.args.start.now r.0 in
+    let x = Explores-edges g.N.PartialEq.eq g.met.N.Eq.laws _ _ _ _ _ _ h found.field-0.keys _ found.ensures.distinct found.ensures.same w.edges_answered in
+    (h, r.2, s.estimate_answered, λ k y q. x.reached k y (rw c.as_slice.ensures.keys at q))
+
+pub returns-clause-begins : goal.returns-clause-begins
+returns-clause-begins g c = (c.in_ok-clone_of.ensures.begins c.args.start.now).1 (g.met.N.Eq.laws.refl c.args.start.now)
+
+pub returns-clause-table : goal.returns-clause-table
+returns-clause-table g c = no_table 1 c.new.result.steps.items c.new.result.spans.items c.new.ensures.steps c.new.ensures.spans
+
+pub returns-clause-graph : goal.returns-clause-graph
+returns-clause-graph g c = λ edges test least s.
+    let eq = g.N.PartialEq.eq in
+    let value = g.C.Number.value in
+    let w = s.weighted in
+    let found = c.in_ok-clone_of in
+    let keys = found.field-0.keys in
+    let h = graph_of c.args.start.now edges in
+    let x = Explores-edges eq g.met.N.Eq.laws _ _ _ _ _ _ h keys _ found.ensures.distinct found.ensures.same w.edges_answered in
+    let a = c.in_ok-ask.ensures.graph h least s.estimate_answered (λ k y q. x.reached k y (rw c.as_slice.ensures.keys at q)) in
+    let none : IsEstimated value least (slice_get c.as_slice.result.now) c.new-estimates.result.items = λ k y d i j. absurd (none_in k d (rw c.new-estimates.ensures.items at j)) in
+    let known = a.1 none in
+    record {
+      explores = x;
+      tested = w.test_answered;
+      asked = a.0;
+      estimated = rw c.as_slice.ensures.keys at known;
+      rows = no_rows value (IsCheapStep eq h) test (StandsFor eq keys) c.new.result.steps.items c.new.result.spans.items c.new.ensures.spans;
+      admissible = s.admissible;
+      costs = w.costs;
+    }

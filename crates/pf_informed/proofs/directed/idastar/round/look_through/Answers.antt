@@ -1,0 +1,87 @@
+use Rattle.std.proofs.Common.{◌≡◌, ◌<◌, [], ◌∷◌, ◌++◌, List, ℕ, pos, true, length, ap, ◌∙◌, sym, subst, arith, refl, inl, inr, false, Some, None}
+use Rattle.std.specs.Prelude.{◌↔◌, Contains, reverse}
+use Rattle.std.proofs.lemmas.Int.{ints}
+use Rattle.pf_core.proofs.ListLemmas.{none_in, Contains-cases}
+use Rattle.pf_core.proofs.NodeLemmas.{InReach-same}
+use Rattle.pf_core.proofs.SearchLemmas.{Grows-trans}
+use Rattle.pf_informed.specs.declared.directed.idastar.way.Frame.{Frame}
+use Rattle.pf_informed.specs.Internal.Deepening.{IsMarked, numbers_of}
+use Rattle.pf_informed.proofs.WayLemmas.{marked_on, on_way_as, begun, start_way}
+use Rattle.pf_informed.proofs.directed.idastar.round.look_through.Goals as goal
+
+pub returns-in_default-clause-graph : goal.returns-in_default-clause-graph
+returns-in_default-clause-graph g c = λ h test least first k s low.
+    let eq = g.N.PartialEq.eq in
+    let laws = g.met.N.Eq.laws in
+    let value = g.C.Number.value in
+    let keys = c.span_of.new.self.graph.discovery.nodes.keys in
+    let told = rw c.in_default.is at (c.in_ok-span.ensures.graph h test least k) in
+    let here = c.in_ok-span.ensures.grows.stays 0 first s in
+    let nothing : value c.zero-nothing.result ≡ pos 0 = ap value c.zero-nothing.ensures ∙ g.met.C.Zero.zero_law g.met.C.Integral.exact_law in
+    let numbers : c.push.new.self.items ≡ 0 ∷ [] = c.in_ok-push.ensures.items ∙ ap (λ (xs : List ℕ). xs ++ 0 ∷ []) c.new-numbers.ensures.items in
+    let from = k.admissible.from_zero first (InReach-same eq laws h.edges h.starts s.0 first (k.explores.reached 0 s.0 s.1) s.2) in
+    (told.0, (start_way eq laws value g.C.Number.fits h test least first keys here (told.1 first here) c.push.new.self.items numbers (value c.zero-nothing.result) nothing, omega (arith, ints, nothing, from, low)))
+
+pub turns-init : goal.turns-init
+turns-init g c =
+    let eq = g.N.PartialEq.eq in
+    let laws = g.met.N.Eq.laws in
+    let value = g.C.Number.value in
+    let fits = g.C.Number.fits in
+    let after = c.span_of.new.self in
+    let keys = after.graph.discovery.nodes.keys in
+    let e = c.in_ok-span.ensures in
+    let s = c.in-Some.span in
+    let has = rw c.in-Some.is at e.kept in
+    let within = e.table.within 0 s has in
+    let nothing : value c.zero-nothing.result ≡ pos 0 = ap value c.zero-nothing.ensures ∙ g.met.C.Zero.zero_law g.met.C.Integral.exact_law in
+    let frame : Frame g.row.C.Denot = record { number = 0; cost = c.zero-nothing.result; at = s.begin; end = s.end } in
+    let below : reverse c.new.result.items ≡ [] = ap (λ (xs : List (Frame g.row.C.Denot)). reverse xs) c.new.ensures.items in
+    let frames : numbers_of (frame ∷ reverse c.new.result.items) ≡ 0 ∷ [] = ap (λ (xs : List (Frame g.row.C.Denot)). numbers_of (frame ∷ xs)) below in
+    let none : (i : ℕ) → IsMarked c.new-marks.result.items i ↔ Contains [] i = λ i. ((λ m. absurd (none_in i true (rw c.new-marks.ensures.items at m))), (λ m. absurd (omega (arith, m.1)))) in
+    let on = marked_on c.new-marks.result.items c.mark.new.marks.items [] 0 none c.in_ok-mark.ensures.marked in
+    record {
+      asked = e.estimated;
+      table = e.table;
+      grows = e.grows;
+      marked = record {
+        marked = subst (λ (ns : List ℕ). (i : ℕ) → IsMarked c.mark.new.marks.items i ↔ Contains ns i) (sym frames) on;
+        inside = λ i m. elim (Contains-cases [] 0 i (subst (λ (ns : List ℕ). Contains ns i) frames m)) as (λ _. i < length keys) [
+          | inl q ↦ omega (arith, q, c.requires.begun, e.grows.more)
+          | inr q ↦ absurd (omega (arith, q.1))
+        ];
+        above = λ n q. let no : None ≡ Some n = sym c.new-2.ensures.least ∙ q in absurd (cc);
+      };
+      searched = λ h test least first k st low.
+          let told = e.graph h test least k in
+          let k2 = told.0 in (
+            k2,
+            on_way_as eq laws value fits h test least first keys after.rows.steps.items after.rows.spans.items k2.rows frame [] (reverse c.new.result.items) None c.new-2.result.least false c.new-2.result.past below c.new-2.ensures.least c.new-2.ensures.past
+                (begun eq laws value fits h test least first keys after.rows.steps.items after.rows.spans.items k2.rows frame s has within.0 refl nothing refl refl (e.grows.stays 0 first st)),
+          );
+    }
+
+pub turn-requires-clause-graph : goal.turn-requires-clause-graph
+turn-requires-clause-graph g c =
+    let r = c.requires.graph in
+    let v = c.turns.invariant.searched r.0 r.1 r.2 r.3 r.4 r.5 r.6 in
+    (r.0, r.1, r.2, r.3, v.0, v.1)
+
+pub returns-in-Some-2-clause-grows : goal.returns-in-Some-2-clause-grows
+returns-in-Some-2-clause-grows g c = Grows-trans _ _ _ _ _ _ c.turns.invariant.grows c.in_ok-round.ensures.grows
+
+pub returns-in-Some-2-clause-graph : goal.returns-in-Some-2-clause-graph
+returns-in-Some-2-clause-graph g c = λ h test least first k s low.
+    let v = c.turns.invariant.searched h test least first k s low in
+    rw c.in-Some-2.is at (c.in_ok-round.ensures.graph h test least first v.0 v.1)
+
+pub turns-preserved : goal.turns-preserved
+turns-preserved g c = record {
+  asked = c.in_ok-round.ensures.estimated;
+  table = c.in_ok-round.ensures.table;
+  grows = Grows-trans _ _ _ _ _ _ c.turns.invariant.grows c.in_ok-round.ensures.grows;
+  marked = rw c.in_default-2.is at c.in_ok-round.ensures.marked;
+  searched = λ h test least first k s low.
+      let v = c.turns.invariant.searched h test least first k s low in
+      rw c.in_default-2.is at (c.in_ok-round.ensures.graph h test least first v.0 v.1);
+}

@@ -1,0 +1,53 @@
+use Rattle.std.proofs.Common.{arith, List, subst, sym, inr}
+use Rattle.pf_informed.specs.Internal.Waiting.{Entry}
+use Rattle.pf_informed.specs.Internal.Fringe.{listed, IsRaising, IsBelowWaiting}
+use Rattle.pf_informed.proofs.RaisingLemmas.{raising_start, later_labelled, raising_more, raised_below, raised_taken, raised_queue}
+use Rattle.pf_informed.proofs.fringe_lists.FringeLists.raise_limit.Goals as goal
+
+pub take_last-requires : goal.take_last-requires
+take_last-requires g c = record {
+  labelled = λ e h. let q = rw c.requires.over at c.requires.queue in let l = q.labelled e h in (l.0, l.1);
+}
+
+pub returns-in_default-clause-taken : goal.returns-in_default-clause-taken
+returns-in_default-clause-taken g c = λ k l h w.
+    let u = c.in_default.ensures.taken.1 k l h (rw c.requires.over at w) in
+    let gone = u.1 in
+    omega (arith, gone.1)
+
+pub entries-init : goal.entries-init
+entries-init g c =
+    let e = c.in-Some.least in
+    let r = raising_start g.C.Number.value c.args.labels.now.items c.args.estimates.now.items e c.args.self.now.later.items c.take_last.new.entries.items c.in-Some.ensures.taken (rw c.requires.over at c.requires.queue) c.in-Some.ensures.fewer in
+    record { raising = rw c.requires.over r }
+
+pub take_last-requires-in-entries : goal.take_last-requires-in-entries
+take_last-requires-in-entries g c = record {
+  labelled = later_labelled g.C.Number.value c.args.labels.now.items c.args.estimates.now.items _ c.entries.least c.entries.self.current.items c.entries.self.later.items c.entries.invariant.raising;
+}
+
+pub entries-preserved : goal.entries-preserved
+entries-preserved g c =
+    let value = g.C.Number.value in
+    let labels = c.args.labels.now.items in
+    let estimates = c.args.estimates.now.items in
+    let n = c.in-Some-take_last.ensures in
+    let r = raising_more value labels estimates (listed c.args.self.now) c.entries.least c.entries.self.current.items c.entries.self.later.items c.entries.invariant.raising
+    c.in-Some-take_last.entry c.take_last-in-entries.new.entries.items n.taken n.fewer c.keep_least.new.least c.keep_least.result c.keep_least.ensures.least c.keep_least.ensures.both in
+    record { raising = subst (λ (xs : List (Entry g.row.C.Denot)). IsRaising value labels estimates (listed c.args.self.now) c.keep_least.new.least xs c.take_last-in-entries.new.entries.items) (sym c.in_ok-push.ensures.items) r }
+
+pub returns-clause-queue : goal.returns-clause-queue
+returns-clause-queue g c =
+    let t = c.in_default-take_last.ensures.taken in
+    rw t.0 (raised_queue g.C.Number.value c.args.labels.now.items c.args.estimates.now.items (listed c.args.self.now) c.entries.least c.entries.self.current.items c.entries.self.later.items c.entries.invariant.raising t.1)
+
+pub returns-clause-limit : goal.returns-clause-limit
+returns-clause-limit g c =
+    let t = c.in_default-take_last.ensures.taken in
+    let b = raised_below g.C.Number.value c.args.labels.now.items c.args.estimates.now.items (listed c.args.self.now) c.entries.least c.entries.self.current.items c.entries.self.later.items c.entries.invariant.raising t.1 in
+    inr (c.known.ensures, subst (IsBelowWaiting g.C.Number.value c.args.labels.now.items c.args.estimates.now.items (listed c.args.self.now)) (sym c.sum_of-self.ensures) b)
+
+pub returns-clause-taken : goal.returns-clause-taken
+returns-clause-taken g c =
+    let t = c.in_default-take_last.ensures.taken in
+    rw t.0 (raised_taken g.C.Number.value c.args.labels.now.items c.args.estimates.now.items (listed c.args.self.now) c.entries.least c.entries.self.current.items c.entries.self.later.items c.entries.invariant.raising t.1 c.sum_of-self.result c.sum_of-self.ensures)

@@ -1,0 +1,64 @@
+use Rattle.std.proofs.Common.{◌≡◌, ◌++◌, ◌∙◌, inl, inr}
+use Rattle.std.specs.Prelude.{◌⊎◌}
+use Rattle.std.specs.BinaryHeap.{heap_items}
+use Rattle.std.proofs.lemmas.Option.{MatchOption-at_some, MatchOption-at_none}
+use Rattle.pf_core.proofs.ListLemmas.{on_ok}
+use Rattle.pf_informed.specs.Internal.Fringe.{listed, IsBelowWaiting}
+use Rattle.pf_informed.proofs.FringeLemmas.{moved_from, queue_in, moved_wait, nothing_before, below_before, taken_before}
+use Rattle.pf_informed.proofs.Outcomes.{answer_or_none}
+use Rattle.pf_informed.proofs.fringe_lists.FringeLists.take.Goals as goal
+
+pub take_within-requires : goal.take_within-requires
+take_within-requires g c =
+    let t = c.in_ok-take_in.ensures in
+    let old = c.args.self.now in
+    let mid = c.take_in.new.self in
+    record {
+      queue = queue_in g.C.Number.value c.args.labels.now.items c.args.estimates.now.items _ _ c.requires.queue (moved_from (heap_items c.args.queue.now) old.current.items old.later.items mid.current.items mid.later.items t.same t.later);
+    }
+
+pub returns-in-Some-clause-taken : goal.returns-in-Some-clause-taken
+returns-in-Some-clause-taken g c =
+    let value = g.C.Number.value in
+    let labels = c.args.labels.now.items in
+    let estimates = c.args.estimates.now.items in
+    let t = c.in_ok-take_in.ensures in
+    let old = c.args.self.now in
+    let mid = c.take_in.new.self in
+    let moved = moved_wait value labels (heap_items c.args.queue.now) old.current.items old.later.items mid.current.items mid.later.items t.same t.later in
+    let taken = MatchOption-at_some _ _ c.in-Some.taken c.in-Some.is c.in_ok-taken.ensures.taken in
+    rw t.emptied (taken_before value labels estimates _ (listed mid) moved c.in-Some.taken.number c.in-Some.taken.cost c.take_within.new.self.limit (listed c.take_within.new.self) taken)
+
+pub returns-clause-limit : goal.returns-clause-limit
+returns-clause-limit g c =
+    let value = g.C.Number.value in
+    let labels = c.args.labels.now.items in
+    let estimates = c.args.estimates.now.items in
+    let t = c.in_ok-take_in.ensures in
+    let old = c.args.self.now in
+    let mid = c.take_in.new.self in
+    let moved = moved_wait value labels (heap_items c.args.queue.now) old.current.items old.later.items mid.current.items mid.later.items t.same t.later in
+    let over = MatchOption-at_none _ _ c.in_default.is c.in_ok-taken.ensures.taken in
+    let limit = c.raise_limit.new.self.limit in
+    let first = heap_items c.args.queue.now ++ listed old in
+    on_ok c.raise_limit.result c.raise_limit.ensures.limit (λ r. elim r as (λ _. (limit ≡ old.limit) ⊎ (g.C.Number.fits (value limit) × IsBelowWaiting value labels estimates first limit)) [
+      | inl same ↦ inl (same ∙ c.in_ok-taken.ensures.limit ∙ t.limit)
+      | inr low ↦ inr (low.0, below_before value labels estimates first (listed mid) moved limit (below_before value labels estimates (listed mid) (listed c.take_within.new.self) over.1 limit low.1))
+    ])
+
+pub returns-clause-taken : goal.returns-clause-taken
+returns-clause-taken g c =
+    let value = g.C.Number.value in
+    let labels = c.args.labels.now.items in
+    let estimates = c.args.estimates.now.items in
+    let t = c.in_ok-take_in.ensures in
+    let old = c.args.self.now in
+    let mid = c.take_in.new.self in
+    let moved = moved_wait value labels (heap_items c.args.queue.now) old.current.items old.later.items mid.current.items mid.later.items t.same t.later in
+    let over = MatchOption-at_none _ _ c.in_default.is c.in_ok-taken.ensures.taken in
+    let first = heap_items c.args.queue.now ++ listed old in
+    let limit = c.raise_limit.new.self.limit in
+    rw t.emptied (answer_or_none _ _ _ _ c.raise_limit.result
+    (λ none. nothing_before value labels estimates first (listed mid) moved (nothing_before value labels estimates (listed mid) (listed c.take_within.new.self) over.1 none))
+    (λ x taken. taken_before value labels estimates first (listed mid) moved x.number x.cost limit (listed c.raise_limit.new.self) (taken_before value labels estimates (listed mid) (listed c.take_within.new.self) over.1 x.number x.cost limit (listed c.raise_limit.new.self) taken))
+    c.raise_limit.ensures.taken)

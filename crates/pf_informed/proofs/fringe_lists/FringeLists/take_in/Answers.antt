@@ -1,0 +1,38 @@
+use Rattle.std.proofs.Common.{arith, ◌++◌, ◌∷◌, [], List, ap, subst, sym, length, length-append}
+use Rattle.std.specs.Prelude.{Contains, IsPermutation, ◌↔◌}
+use Rattle.std.specs.BinaryHeap.{heap_items}
+use Rattle.std.proofs.lemmas.List.{take_at}
+use Rattle.std.proofs.lemmas.List.Sorted.{Contains-permutation, IsPermutation-sym, length_permutation}
+use Rattle.pf_informed.specs.Internal.Waiting.{Entry}
+use Rattle.pf_informed.proofs.FringeLemmas.{pushed_in, pushed_from}
+use Rattle.pf_informed.proofs.fringe_lists.FringeLists.take_in.Goals as goal
+
+pub entries-preserved : goal.entries-preserved
+entries-preserved g c =
+    let i = c.entries.invariant in
+    let f = c.in-Some.ensures.first in
+    let pushed = c.in_ok-push.ensures.items in
+    record {
+      ordered = c.in-Some.ensures.ordered;
+      same = λ e. (
+        (λ h. pushed_in (heap_items c.entries.queue) (heap_items c.take_first.new.queue) c.entries.self.current.items c.push.new.self.items c.in-Some.entry f.0 pushed e ((i.same e).0 h)),
+        (λ h. (i.same e).1 (pushed_from (heap_items c.entries.queue) (heap_items c.take_first.new.queue) c.entries.self.current.items c.push.new.self.items c.in-Some.entry f.0 pushed e h)),
+      );
+      later = i.later;
+      limit = i.limit;
+      count = omega (arith, i.count, f.1, ap length pushed, length-append c.entries.self.current.items (c.in-Some.entry ∷ []));
+    }
+
+pub returns-clause-same : goal.returns-clause-same
+returns-clause-same g c =
+    let i = c.entries.invariant in
+    let before = c.entries.self.current.items in
+    let after = c.reverse_from.new.elements in
+    let moved : IsPermutation before after = rw c.deref_mut.ensures.value at c.reverse_from.ensures in
+    let none = c.in_default.ensures.first.0 in
+    subst (λ (xs : List (Entry g.row.C.Denot)). (e : Entry g.row.C.Denot) → Contains (heap_items c.args.queue.now ++ c.args.self.now.current.items) e ↔ Contains xs e)
+    (sym (take_at after _ _ (omega (arith, length_permutation before after moved, c.deref_mut.ensures.len))))
+    (λ e. (
+      (λ h. Contains-permutation before after e moved (rw none at ((i.same e).0 h))),
+      (λ h. (i.same e).1 (rw none (Contains-permutation after before e (IsPermutation-sym _ _ moved) h))),
+    ))

@@ -1,0 +1,49 @@
+use Rattle.std.proofs.Common.{arith, ◌++◌, ◌∷◌, [], List, ap, subst, sym, length, length-append}
+use Rattle.std.specs.Prelude.{◌≤ℤ◌}
+use Rattle.std.proofs.lemmas.Int.{ints}
+use Rattle.std.proofs.lemmas.List.Elements.{Contains-append_left}
+use Rattle.pf_informed.specs.Internal.Waiting.{Entry, IsQueue}
+use Rattle.pf_informed.specs.Internal.Fringe.{listed, StillWait}
+use Rattle.pf_informed.proofs.FringeLemmas.{StillWait-put_off, queue_put_off, queue_rest, taken_within, queue_in, none_more, rest_waits}
+use Rattle.pf_informed.proofs.fringe_lists.FringeLists.take_within.Goals as goal
+
+pub take_last-requires : goal.take_last-requires
+take_last-requires g c = record {
+  labelled = λ e h.
+      let q = c.entries.invariant.queue in
+      let l = q.labelled e (Contains-append_left c.entries.self.current.items c.entries.self.later.items e h) in
+      (l.0, l.1);
+}
+
+pub entries-preserved : goal.entries-preserved
+entries-preserved g c =
+    let i = c.entries.invariant in
+    let e = c.in-Some.entry in
+    let n = c.in-Some.ensures in
+    let value = g.C.Number.value in
+    let labels = c.args.labels.now.items in
+    let current = c.entries.self.current.items in
+    let current' = c.take_last.new.entries.items in
+    let later = c.entries.self.later.items in
+    let pushed = c.in_ok-push.ensures.items in
+    record {
+      limit = i.limit;
+      queue = subst (λ (xs : List (Entry g.row.C.Denot)). IsQueue value labels c.args.estimates.now.items (current' ++ xs)) (sym pushed) (queue_put_off value labels e current current' later n.taken c.args.estimates.now.items i.queue);
+      waits = subst (λ (xs : List (Entry g.row.C.Denot)). StillWait value labels (listed c.args.self.now) (current' ++ xs)) (sym pushed) (StillWait-put_off value labels e current current' later n.taken (listed c.args.self.now) i.waits);
+      fewer = omega (arith, i.fewer, n.fewer, ap length pushed, length-append current' c.push.new.self.items, length-append later (e ∷ []), length-append current later);
+    }
+
+pub returns-else-is_less-clause-queue : goal.returns-else-is_less-clause-queue
+returns-else-is_less-clause-queue g c = queue_rest g.C.Number.value c.args.labels.now.items c.in-Some.entry c.entries.self.current.items c.take_last.new.entries.items c.entries.self.later.items c.in-Some.ensures.taken c.args.estimates.now.items c.entries.invariant.queue
+
+pub returns-else-is_less-clause-taken : goal.returns-else-is_less-clause-taken
+returns-else-is_less-clause-taken g c =
+    let value = g.C.Number.value in
+    let low : value c.in-Some.entry.0.0 ≤ℤ value c.entries.self.limit = omega (arith, ints, c.if-is_less.ensures, ap value c.sum_of.ensures) in
+    taken_within value c.args.labels.now.items c.in-Some.entry c.entries.self.current.items c.take_last.new.entries.items c.entries.self.later.items c.in-Some.ensures.taken c.args.estimates.now.items c.entries.self.limit (listed c.args.self.now) c.entries.invariant.queue c.entries.invariant.waits low
+
+pub returns-clause-queue : goal.returns-clause-queue
+returns-clause-queue g c = queue_in g.C.Number.value c.args.labels.now.items c.args.estimates.now.items (listed c.entries.self) _ c.entries.invariant.queue (none_more g.C.Number.value c.args.labels.now.items c.entries.self.current.items c.take_last.new.entries.items c.entries.self.later.items c.in_default.ensures.taken.0)
+
+pub returns-clause-taken : goal.returns-clause-taken
+returns-clause-taken g c = (c.in_default.ensures.taken.0, rest_waits g.C.Number.value c.args.labels.now.items c.entries.self.current.items c.take_last.new.entries.items c.entries.self.later.items c.in_default.ensures.taken.0 c.in_default.ensures.taken.1 (listed c.args.self.now) c.entries.invariant.waits)

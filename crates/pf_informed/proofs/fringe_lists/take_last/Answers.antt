@@ -1,0 +1,29 @@
+use Rattle.std.proofs.Common.{arith}
+use Rattle.pf_informed.proofs.FringeLemmas.{last_in, rest_in, StillWait-last, StillWait-stale}
+use Rattle.pf_informed.proofs.fringe_lists.take_last.Goals as goal
+
+pub is_lower-requires : goal.is_lower-requires
+is_lower-requires g c = c.requires.labelled c.in-Some.entry (c.entries.invariant.within c.in-Some.entry (last_in _ _ c.in-Some.entry c.in-Some.ensures.items))
+
+pub returns-then-not-is_lower-clause-taken : goal.returns-then-not-is_lower-clause-taken
+returns-then-not-is_lower-clause-taken g c =
+    let i = c.entries.invariant in
+    let e = c.in-Some.entry in
+    let is = c.in-Some.ensures.items in
+    record {
+      here = i.within e (last_in _ _ e is);
+      newest = c.if-not-is_lower.ensures;
+      rest = λ f h. i.within f (rest_in _ _ e is f h);
+      left = StillWait-last g.C.Number.value c.args.labels.now.items _ _ _ e is i.waits;
+    }
+
+pub entries-preserved : goal.entries-preserved
+entries-preserved g c =
+    let i = c.entries.invariant in
+    let e = c.in-Some.entry in
+    let is = c.in-Some.ensures.items in
+    record {
+      within = λ f h. i.within f (rest_in _ _ e is f h);
+      waits = StillWait-stale g.C.Number.value c.args.labels.now.items _ _ _ e is i.waits c.if-not-is_lower.ensures;
+      fewer = omega (arith, i.fewer, c.in-Some.ensures.len);
+    }

@@ -1,0 +1,63 @@
+use Rattle.std.proofs.Common.{◌∙◌, ◌<◌, ap, sym, arith}
+use Rattle.std.specs.Ordering.{is_some_and, is_lt}
+use Rattle.std.proofs.lemmas.Int.{ints}
+use Rattle.pf_core.specs.declared.labels.Label.{Label}
+use Rattle.pf_core.specs.Labels.{HasLabel}
+use Rattle.pf_core.proofs.LabelLemmas.{label_is}
+use Rattle.pf_core.proofs.ListLemmas.{at_place, on_ok}
+use Rattle.pf_core.proofs.SearchLemmas.{Grows-trans}
+use Rattle.pf_informed.specs.Internal.Ways.{before_in}
+use Rattle.pf_informed.proofs.TightLemmas.{less_of, not_less_of, up_to_next, tight_grows, tight_skipped, tight_goal, tight_row, both_ok}
+use Rattle.pf_informed.proofs.WiderLemmas.{no_label}
+use Rattle.pf_informed.proofs.tight.look.Goals as goal
+
+pub returns-in_default-clause-up_to : goal.returns-in_default-clause-up_to
+returns-in_default-clause-up_to g c = λ j. up_to_next c.args.number _ (c.requires.up_to j)
+
+pub returns-in_default-clause-tight : goal.returns-in_default-clause-tight
+returns-in_default-clause-tight g c = λ h x t.
+    tight_skipped _ _ _ _ _ _ c.args.number _ _ t (λ l at. absurd (no_label c.args.labels.now c.args.number l (at_place _ _ _ _ c.requires.inside (sym c.index-labels-number.is ∙ sym c.in_default.ensures)) at))
+
+pub returns-then-lt-clause-up_to : goal.returns-then-lt-clause-up_to
+returns-then-lt-clause-up_to g c = λ j. up_to_next c.args.number _ (c.requires.up_to j)
+
+pub returns-then-lt-clause-tight : goal.returns-then-lt-clause-tight
+returns-then-lt-clause-tight g c = λ h x t.
+    let here : HasLabel c.args.labels.now c.args.number c.in-Some.label = at_place _ _ _ _ c.requires.inside (sym c.index-labels-number.is ∙ sym c.in-Some.ensures) in
+    let o = g.met.C.Number.order_law c.args.best c.in-Some.label.cost g.met.C.Integral.exact_law in
+    let dear = less_of (g.C.Number.value c.args.best) (g.C.Number.value c.in-Some.label.cost) c.lt.result (c.lt.ensures ∙ ap (is_some_and is_lt) o) c.if-lt.true in
+    tight_skipped _ _ _ _ _ _ c.args.number _ _ t (λ l at. let e = ap (λ (m : Label g.row.C.Denot). g.C.Number.value m.cost) (label_is c.args.labels.now c.args.number c.in-Some.label l here at) in omega (arith, ints, dear, e))
+
+pub returns-then-is_goal-clause-up_to : goal.returns-then-is_goal-clause-up_to
+returns-then-is_goal-clause-up_to g c = λ j. up_to_next c.args.number _ (c.requires.up_to j)
+
+pub returns-then-is_goal-clause-tight : goal.returns-then-is_goal-clause-tight
+returns-then-is_goal-clause-tight g c = λ h x t.
+    let here : HasLabel c.args.labels.now c.args.number c.in-Some.label = at_place _ _ _ _ c.requires.inside (sym c.index-labels-number.is ∙ sym c.in-Some.ensures) in
+    let o = g.met.C.Number.order_law c.args.best c.in-Some.label.cost g.met.C.Integral.exact_law in
+    let cheap = not_less_of (g.C.Number.value c.args.best) (g.C.Number.value c.in-Some.label.cost) c.lt.result (c.lt.ensures ∙ ap (is_some_and is_lt) o) c.if-lt.false in
+    let told = c.is_goal.ensures.graph h x in
+    let grow = c.is_goal.ensures.grows in
+    rw c.in_ok-push.ensures.items (tight_goal _ _ _ _ _ _ c.args.number _ _ (tight_grows _ _ _ _ _ _ _ _ _ grow c.requires.found c.args.number _ _ t) c.in-Some.label here cheap
+    (λ y s. sym (told.1 y (grow.back c.args.number y (omega (arith, c.requires.inside, c.requires.found)) s)) ∙ c.if-is_goal.true))
+
+pub returns-clause-up_to : goal.returns-clause-up_to
+returns-clause-up_to g c = on_ok c.link_row.result c.link_row.ensures.up_to (λ u j. up_to_next c.args.number _ (u j))
+
+pub returns-clause-tight : goal.returns-clause-tight
+returns-clause-tight g c =
+    on_ok c.link_row.result (both_ok _ _ c.link_row.result c.link_row.ensures.up_to c.link_row.ensures.linked) (λ w h x t.
+    let here : HasLabel c.args.labels.now c.args.number c.in-Some.label = at_place _ _ _ _ c.requires.inside (sym c.index-labels-number.is ∙ sym c.in-Some.ensures) in
+    let o = g.met.C.Number.order_law c.args.best c.in-Some.label.cost g.met.C.Integral.exact_law in
+    let cheap = not_less_of (g.C.Number.value c.args.best) (g.C.Number.value c.in-Some.label.cost) c.lt.result (c.lt.ensures ∙ ap (is_some_and is_lt) o) c.if-lt.false in
+    let told = c.is_goal.ensures.graph h x in
+    let first = c.is_goal.ensures.grows in
+    let second = c.in_ok-expand.ensures.grows in
+    let grow = Grows-trans _ _ _ _ _ _ first second in
+    let inside : c.args.number < g.G.NumberedGraph.found c.args.graph.now = omega (arith, c.requires.inside, c.requires.found) in
+    let row = c.in_ok-expand.ensures.listed in
+    let linked = rw (c.deref.ensures.value, row.1) at w.1 in
+    tight_row _ _ _ _ _ _ c.args.number _ _ (tight_grows _ _ _ _ _ _ _ _ _ grow c.requires.found c.args.number _ _ t) c.in-Some.label here cheap
+    (λ y s. sym (told.1 y (grow.back c.args.number y inside s)) ∙ c.if-is_goal.false) row.0
+    (λ y s. row.4 h told.0 y (first.stays c.args.number y (grow.back c.args.number y inside s)))
+    (let a = c.requires.someone in (a.0, grow.stays c.args.number a.0 a.1)) (before_in c.link_row.new.before.items) linked (λ j. (w.0 j).once))

@@ -1,0 +1,177 @@
+//! A search by cost and estimate that goes on until all cheapest ways have labels.
+
+ghost use Rattle.std.specs.BinaryHeap.{IsHeap, heap_items, heap_len};
+ghost use Rattle.std.specs.Prelude.{◌≡◌, ◌⊎◌, ◌<◌, ◌≤◌, ◌<ℤ◌, ◌+ℤ◌, ◌+◌, ℕ, ℤ, List, Bool, [], ◌∷◌, Some, None, Err, ⊤, true, false, IfOk, IfErr, MatchBool, MatchOption, length};
+ghost use Rattle.pf_base.specs.Walks.{HasNoGoalWalk};
+ghost use Rattle.pf_base.specs.Edges.{InReach, IsSuccessor};
+ghost use Rattle.pf_base.specs.Answers.{IsLawfulClone, AnswersTest};
+ghost use Rattle.pf_core.specs.declared.labels.Label.{Label};
+ghost use Rattle.pf_core.specs.Labels.{HasLabel};
+ghost use Rattle.pf_core.specs.Nodes.{Explores};
+ghost use Rattle.pf_core.specs.Numbered.{Grows};
+ghost use Rattle.pf_informed.specs.Estimates.{IsInformedSearch, IsPastRangeWithEstimate, NoGoalWalkFits};
+ghost use Rattle.pf_informed.specs.Internal.Labelled.{IsPastBest, IsLabelled};
+ghost use Rattle.pf_informed.specs.Internal.Waiting.{entry_cmp, IsWaiting, IsQueue, IsTaken};
+
+use crate::estimates::ask;
+use crate::functions::EstimateFunction;
+use crate::queue::{Queue, Taken, take_least};
+use crate::search::Search;
+use pf_base::{Cost, EdgeFunction, NodeTest, PathError};
+use pf_core::discovery::{Discovery, Weighted, clone_of};
+use pf_core::numbered::{GoalGraph, NumberedGraph};
+use pf_core::slot::Slot;
+use pf_core::tested::Tested;
+use std::alloc::Allocator;
+use std::hash::Hash;
+use std::marker::PhantomData;
+
+/// The nodes that a search found, their labels, and the least cost of a walk to a goal.
+#[derive(Drop)]
+pub(crate) struct Labelled<N: Eq + Hash, C: Cost, IN, FN, FS, A: Allocator> {
+    pub graph: Tested<N, Weighted, IN, FN, FS, A>,
+    pub labels: Vec<Slot<C>, A>,
+    pub best: C,
+}
+
+/// Is the least cost known, and less than this cost and estimate together?
+fn is_past<C: Cost>(best: Option<C>, cost: C, estimate: C) -> bool
+    ensures { MatchBool result ((b : C) × (best ≡ Some b) × (C.value b <ℤ (C.value cost +ℤ C.value estimate))) ⊤ }
+{
+    let Some(best) = best else {
+        return false;
+    };
+    let Some(sum) = cost.checked_add(&estimate) else {
+        return false;
+    };
+    best < sum
+}
+
+/// Takes out the number whose label and estimate cost least together, unless that is more than the
+/// least cost of a walk to a goal.
+fn take_within<C: Cost, A: Allocator>(
+    labels: &Vec<Slot<C>, A>,
+    estimates: &Vec<C, A>,
+    queue: &mut Queue<C, A>,
+    best: Option<C>,
+) -> Option<Taken<C>>
+    requires ordered { IsHeap (entry_cmp C.cmp) (heap_items queue.old) }
+    requires queue { IsQueue C.value labels.now.items estimates.now.items (heap_items queue.old) }
+    ensures ordered { IsHeap (entry_cmp C.cmp) (heap_items queue.new) }
+    ensures queue { IsQueue C.value labels.now.items estimates.now.items (heap_items queue.new) }
+    ensures taken { MatchOption result ((k : ℕ) (l : Label C) → HasLabel labels.now.items k l → IsWaiting C.value (heap_items queue.old) k l → IsPastBest C.value estimates.now.items best k l)
+        (λ r. IsTaken C.value labels.now.items estimates.now.items r.number r.cost (heap_items queue.old) (heap_items queue.new)) }
+    ensures fewer { MatchOption result (heap_len queue.new ≤ heap_len queue.old) (λ r. heap_len queue.new + 1 ≤ heap_len queue.old) }
+{
+    let Some(taken) = take_least(labels, estimates, queue) else {
+        return None;
+    };
+    if is_past(best, taken.cost, estimates[taken.number]) {
+        return None;
+    }
+    Some(taken)
+}
+
+/// The least cost of a walk to a goal, if it is known once this number was taken out.
+fn best_with<C: Cost, G: GoalGraph<C>>(
+    graph: &mut G,
+    number: usize,
+    cost: C,
+    best: Option<C>,
+) -> Option<C>
+    requires inside { number < G.found graph.old }
+    requires graph { (g : G.Graph) × G.explores graph.old g }
+    ensures grows { Grows (G.found graph.old) (G.found graph.new) (G.stands graph.old) (G.stands graph.new) }
+    ensures same { G.found graph.new ≡ G.found graph.old }
+    ensures graph { (g : G.Graph) → G.explores graph.old g → G.explores graph.new g }
+    ensures open { result ≡ None → (best ≡ None) × ((g : G.Graph) (x : G.Node) → G.explores graph.old g → G.stands graph.old number x → G.passes g x ≡ false) }
+    ensures found { (b : C) → result ≡ Some b → (best ≡ Some b) ⊎ ((best ≡ None) × (b ≡ cost) × C.fits (C.value b)
+        × ((g : G.Graph) (x : G.Node) → G.explores graph.old g → G.stands graph.old number x → G.passes g x ≡ true)) }
+{
+    if best.is_some() {
+        return best;
+    }
+    if graph.is_goal(number) {
+        cost.known();
+        return Some(cost);
+    }
+    None
+}
+
+/// Searches from `start` on, until each number that waits is past the least cost of a walk to a goal.
+/// Goals are opened as other nodes are, so that each label is the cost of a cheapest walk. `None` where
+/// no walk leads to a goal.
+pub(crate) fn label_cheapest<N, C, IN, FN, FH, FS, A>(
+    alloc: A,
+    start: &N,
+    successors: FN,
+    mut estimate: FH,
+    success: FS,
+) -> Result<Option<Labelled<N, C, IN, FN, FS, A>>, PathError>
+where
+    N: Eq + Hash + Clone + Drop,
+    C: Cost,
+    IN: IntoIterator<Item = (N, C)>,
+    FN: FnMut(&N) -> IN,
+    FH: FnMut(&N) -> C,
+    FS: FnMut(&N) -> bool,
+    A: Allocator + Copy,
+    requires clones { IsLawfulClone N.eq N.is_clone }
+    requires graph { (edges : N → List (N × ℤ)) × (test : N → Bool) × (least : N → ℤ)
+        × IsInformedSearch N.eq edges (start.now ∷ []) (⟦<FN as EdgeFunction<N, C>>⟧.answers successors) (⟦<FS as NodeTest<N>>⟧.answers success) (⟦<FH as EstimateFunction<N, C>>⟧.answers estimate) test least }
+    ensures wide { IfOk result (λ answer. MatchOption answer ⊤ (λ found. (length found.labels.items ≡ length found.graph.discovery.nodes.keys) × (0 < length found.labels.items))) }
+    ensures labelled { (edges : N → List (N × ℤ)) (test : N → Bool) (least : N → ℤ)
+        → IsInformedSearch N.eq edges (start.now ∷ []) (⟦<FN as EdgeFunction<N, C>>⟧.answers successors) (⟦<FS as NodeTest<N>>⟧.answers success) (⟦<FH as EstimateFunction<N, C>>⟧.answers estimate) test least
+        → IfOk result (λ answer. MatchOption answer
+        (HasNoGoalWalk N.eq (IsSuccessor N.eq edges) (start.now ∷ []) test)
+        (λ found. Explores N.eq C.value (λ e. e) IN.into_iter_gives IN.IntoIter.can_next IN.IntoIter.remaining IN.IntoIter.next_gives FN.FnMut (record { starts = start.now ∷ []; edges = edges }) found.graph.discovery.nodes.keys found.graph.discovery.successors
+        × AnswersTest FS.FnMut N.eq found.graph.success (InReach N.eq edges (start.now ∷ [])) test
+        × IsLabelled N.eq C.value edges start.now test found.graph.discovery.nodes.keys found.labels.items (C.value found.best))) }
+    ensures overflow { (edges : N → List (N × ℤ)) (test : N → Bool) (least : N → ℤ)
+        → IsInformedSearch N.eq edges (start.now ∷ []) (⟦<FN as EdgeFunction<N, C>>⟧.answers successors) (⟦<FS as NodeTest<N>>⟧.answers success) (⟦<FH as EstimateFunction<N, C>>⟧.answers estimate) test least
+        → result ≡ Err PathError.CostOverflow
+        → IsPastRangeWithEstimate N.eq edges (start.now ∷ []) least C.fits × NoGoalWalkFits N.eq edges (start.now ∷ []) test C.fits }
+    ensures errors { IfErr result (λ e. (e ≡ PathError.OutOfMemory) ⊎ (e ≡ PathError.CostOverflow)) }
+{
+    let discovery = Discovery {
+        nodes: clone_of(alloc, start)?,
+        successors,
+        form: PhantomData,
+    };
+    let mut graph: Tested<N, Weighted, IN, FN, FS, A> = Tested { discovery, success };
+    let mut search = Search::new(alloc);
+    ask(
+        graph.discovery.nodes.as_slice(),
+        &mut estimate,
+        &mut search.estimates,
+    )?;
+    search.begin()?;
+    let mut best = None;
+    'turns: while let Some(taken) = take_within(
+        &search.labels,
+        &search.estimates,
+        &mut search.queue,
+        best,
+    ) {
+        best = best_with(&mut graph, taken.number, taken.cost, best);
+        graph.expand(taken.number, &mut search.row)?;
+        ask(
+            graph.discovery.nodes.as_slice(),
+            &mut estimate,
+            &mut search.estimates,
+        )?;
+        search.follow(taken.number)?;
+    }
+    if let Some(best) = best {
+        return Ok(Some(Labelled {
+            graph,
+            labels: search.labels,
+            best,
+        }));
+    }
+    if search.has_all_labels() {
+        Ok(None)
+    } else {
+        Err(PathError::CostOverflow)
+    }
+}

@@ -1,0 +1,267 @@
+//! All cheapest paths, led by an estimate of the cost that remains.
+
+ghost use Rattle.std.specs.Prelude.{◌≡◌, ◌⊎◌, ℤ, List, Bool, [], ◌∷◌, Err, false, ⊤, IfOk, IfErr, MatchOption};
+ghost use Rattle.std.specs.Iterator.{MakesProgress, at_most};
+ghost use Rattle.pf_base.specs.Walks.{HasNoGoalWalk};
+ghost use Rattle.pf_base.specs.Edges.{IsSuccessor};
+ghost use Rattle.pf_base.specs.Answers.{IsLawfulClone};
+ghost use Rattle.pf_informed.specs.CheapestPaths.{AreCheapestCleanPaths, IsPathsClone, PathsStep, lists_in, most_items};
+ghost use Rattle.pf_informed.specs.Estimates.{IsInformedSearch, IsPastRangeWithEstimate, NoGoalWalkFits};
+ghost use Rattle.pf_informed.specs.Internal.Ways.{AreGathered, PathsTurn};
+
+use crate::cheapest_labels::{Labelled, label_cheapest};
+use crate::functions::EstimateFunction;
+use crate::tight::tight_edges;
+use crate::ways::Ways;
+use pf_base::{Cost, EdgeFunction, NodeTest, PathError};
+use pf_core::discovery::{Nodes, clones_at};
+use std::alloc::{AllocError, Allocator, Global};
+use std::hash::Hash;
+use std::marker::Model;
+
+/// All cheapest clean paths, each as a `Result`, once: made by `astar_bag`.
+#[derive(Drop)]
+pub struct AstarSolution<N: Eq + Hash, A: Allocator = Global> {
+    alloc: A,
+    nodes: Nodes<N, A>,
+    ways: Ways<A>,
+    refused: bool,
+}
+
+impl<N: Eq + Hash, A: Allocator> Model for AstarSolution<N, A> {
+    ghost use Rattle.std.specs.Prelude.{◌≤◌, length};
+    ghost use Rattle.pf_informed.specs.CheapestPaths.{PathsToCome, paths_to_come_code};
+    ghost use Rattle.pf_informed.specs.Internal.Ways.{AreWays, before_in, paths_of, ways_left};
+
+    ghost Value = { PathsToCome N };
+
+    ghost coded = { paths_to_come_code N.code };
+
+    ghost view = { λ s. record { left = paths_of s.nodes.keys (ways_left (before_in s.ways.before.items) (length s.ways.before.items) s.ways.way.items s.ways.waiting.items); refused = s.refused } };
+
+    ghost invariant = { λ s. AreWays (length s.ways.before.items) (before_in s.ways.before.items) s.ways.way.items s.ways.places.items s.ways.waiting.items × (length s.ways.before.items ≤ length s.nodes.keys) };
+}
+
+/// A clone has the paths to come that the original has, in the same order, of clones of the nodes, and
+/// was refused where the original was. The only error is a refused request for memory.
+impl<N, A> Clone for AstarSolution<N, A>
+where
+    N: Eq + Hash + Clone + Drop,
+    A: Allocator + Copy,
+{
+    ghost is_clone = { IsPathsClone N.is_clone };
+
+    fn clone(&self) -> Result<Self, AllocError> {
+        let nodes = self.nodes.clone()?;
+        let ways = self.ways.clone()?;
+        Ok(AstarSolution {
+            alloc: self.alloc,
+            nodes,
+            ways,
+            refused: self.refused,
+        })
+    }
+}
+
+impl<N, A> Iterator for AstarSolution<N, A>
+where
+    N: Eq + Hash + Clone + Drop,
+    A: Allocator + Copy,
+{
+    type Item = Result<Vec<N, A>, PathError>;
+
+    ghost remaining = { λ s. at_most (most_items s) };
+
+    ghost can_next = { λ s. IsLawfulClone N.eq N.is_clone };
+
+    ghost next_gives = { PathsStep N.eq };
+
+    fn next(&mut self) -> Option<Result<Vec<N, A>, PathError>>
+        requires { ⟦<AstarSolution<N, A> as Iterator>⟧.can_next self.old }
+        ensures steps { ⟦<AstarSolution<N, A> as Iterator>⟧.next_gives self.old result self.new }
+        ensures goes { MakesProgress ⟦<AstarSolution<N, A> as Iterator>⟧.can_next ⟦<AstarSolution<N, A> as Iterator>⟧.remaining self.old result self.new }
+        ensures again { ⟦<AstarSolution<N, A> as Iterator>⟧.can_next self.new }
+    {
+        if self.refused {
+            return None;
+        }
+        let step = self.step();
+        self.refused = step.is_err();
+        step.transpose()
+    }
+}
+
+impl<N, A> AstarSolution<N, A>
+where
+    N: Eq + Hash + Clone + Drop,
+    A: Allocator + Copy,
+{
+    /// Lets the next call of `next` try again the step that was refused. Where no step was refused
+    /// since the last call of `resume`, this changes nothing.
+    pub fn resume(&mut self)
+        ensures { self.new ≡ record self.old { refused = false } }
+    {
+        self.refused = false;
+    }
+
+    /// The next path, or `None` where no path is to come. Where memory is refused, the same paths are
+    /// to come.
+    fn step(&mut self) -> Result<Option<Vec<N, A>>, PathError>
+        requires { IsLawfulClone N.eq N.is_clone }
+        ensures turn { PathsTurn N.eq self.old result self.new }
+        ensures same { self.new.refused ≡ self.old.refused }
+        ensures refused { IfErr result (λ e. e ≡ PathError.OutOfMemory) }
+    {
+        if !self.ways.find()? {
+            return Ok(None);
+        }
+        let mut path = clones_at(self.alloc, self.nodes.as_slice(), &self.ways.way)?;
+        path.reverse();
+        self.ways.drop_branch();
+        Ok(Some(path))
+    }
+}
+
+/// All cheapest clean paths from `start` to nodes that pass `success`, each once, and their cost, or
+/// `None` exactly where no walk leads from `start` to such a node.
+///
+/// A clean path begins at `start`, contains no node twice, and only its last node passes. A cheapest
+/// one costs at most what every walk from `start` to a node that passes costs. Where several edges
+/// lead to one node, they are one step, which costs what the cheapest of them costs; two paths of
+/// equal nodes are one path. In which order the paths come is open.
+///
+/// `successors`, `estimate` and `success` are as for `astar`: they answer alike for equal nodes at
+/// every call and are asked of nodes in reach of `start` alone, no cost in reach is negative, and the
+/// estimate is never negative and never above the cost of a walk to a node that passes.
+///
+/// The iterator keeps one path and its choices, not all paths. Where all costs are above zero, no
+/// choice ends without a path, so that the time between two paths is at most linear in the steps that
+/// lie on cheapest paths at its nodes; with cycles that cost nothing, a choice may lead back to the
+/// path alone, and such choices are tried too.
+///
+/// # Errors
+///
+/// - `CostOverflow`: only where the cost of some path from `start`, in which no node stands twice, and
+///   the estimate of its last node do not fit `C` together, and no walk to a node that passes has a
+///   cost that fits.
+/// - `OutOfMemory`: a request for memory was refused. A step of the iterator that is refused leaves it
+///   as it was; it then answers `None` until `resume` is called, and tries the same step again.
+///
+/// The algorithm is A* (P. E. Hart, N. J. Nilsson, B. Raphael, "A formal basis for the heuristic
+/// determination of minimum cost paths", 1968), which goes on until all that waits costs more than
+/// the first goal; then the paths are walked back over the steps that keep the least costs. Each node
+/// whose least cost is at most that of the paths is asked for its edges and tested once more.
+pub fn astar_bag<N, C, IN, FN, FH, FS, A>(
+    alloc: A,
+    start: &N,
+    successors: FN,
+    estimate: FH,
+    success: FS,
+) -> Result<Option<(AstarSolution<N, A>, C)>, PathError>
+where
+    N: Eq + Hash + Clone + Drop,
+    C: Cost,
+    IN: IntoIterator<Item = (N, C)>,
+    FN: FnMut(&N) -> IN,
+    FH: FnMut(&N) -> C,
+    FS: FnMut(&N) -> bool,
+    A: Allocator + Copy,
+    requires clones { IsLawfulClone N.eq N.is_clone }
+    requires graph { (edges : N → List (N × ℤ)) × (test : N → Bool) × (least : N → ℤ)
+        × IsInformedSearch N.eq edges (start.now ∷ []) (⟦<FN as EdgeFunction<N, C>>⟧.answers successors) (⟦<FS as NodeTest<N>>⟧.answers success) (⟦<FH as EstimateFunction<N, C>>⟧.answers estimate) test least }
+
+    ensures all { (edges : N → List (N × ℤ)) (test : N → Bool) (least : N → ℤ)
+        → IsInformedSearch N.eq edges (start.now ∷ []) (⟦<FN as EdgeFunction<N, C>>⟧.answers successors) (⟦<FS as NodeTest<N>>⟧.answers success) (⟦<FH as EstimateFunction<N, C>>⟧.answers estimate) test least
+        → IfOk result (λ answer. MatchOption answer
+        (HasNoGoalWalk N.eq (IsSuccessor N.eq edges) (start.now ∷ []) test)
+        (λ found. AreCheapestCleanPaths N.eq edges (start.now ∷ []) test found.0.left (C.value found.1))) }
+
+    ensures ready { IfOk result (λ answer. MatchOption answer ⊤ (λ found. found.0.refused ≡ false)) }
+
+    ensures overflow { (edges : N → List (N × ℤ)) (test : N → Bool) (least : N → ℤ)
+        → IsInformedSearch N.eq edges (start.now ∷ []) (⟦<FN as EdgeFunction<N, C>>⟧.answers successors) (⟦<FS as NodeTest<N>>⟧.answers success) (⟦<FH as EstimateFunction<N, C>>⟧.answers estimate) test least
+        → result ≡ Err PathError.CostOverflow
+        → IsPastRangeWithEstimate N.eq edges (start.now ∷ []) least C.fits × NoGoalWalkFits N.eq edges (start.now ∷ []) test C.fits }
+
+    ensures errors { IfErr result (λ e. (e ≡ PathError.OutOfMemory) ⊎ (e ≡ PathError.CostOverflow)) }
+{
+    let Some(found) = label_cheapest(alloc, start, successors, estimate, success)? else {
+        return Ok(None);
+    };
+    let Labelled {
+        mut graph,
+        labels,
+        best,
+    } = found;
+    let tight = tight_edges(alloc, &mut graph, &labels, best)?;
+    let ways = Ways::new(alloc, tight.before, &tight.goals)?;
+    let solution = AstarSolution {
+        alloc,
+        nodes: graph.discovery.nodes,
+        ways,
+        refused: false,
+    };
+    Ok(Some((solution, best)))
+}
+
+/// The paths that an iterator gives.
+fn gather<N, A>(alloc: A, mut solution: AstarSolution<N, A>) -> Result<Vec<Vec<N, A>, A>, PathError>
+where
+    N: Eq + Hash + Clone + Drop,
+    A: Allocator + Copy,
+    requires clones { IsLawfulClone N.eq N.is_clone }
+    requires ready { solution.refused ≡ false }
+    ensures all { IfOk result (λ paths. AreGathered N.eq paths.items solution.left) }
+    ensures refused { IfErr result (λ e. e ≡ PathError.OutOfMemory) }
+{
+    let mut paths = Vec::new(alloc);
+    'paths: while let Some(path) = solution.next() {
+        paths.push(path?)?;
+    }
+    Ok(paths)
+}
+
+/// All cheapest clean paths from `start` to nodes that pass `success`, each once, and their cost: what
+/// `astar_bag` answers, gathered. Their number can be exponential in that of the nodes.
+///
+/// # Errors
+///
+/// As those of `astar_bag`.
+pub fn astar_bag_collect<N, C, IN, FN, FH, FS, A>(
+    alloc: A,
+    start: &N,
+    successors: FN,
+    estimate: FH,
+    success: FS,
+) -> Result<Option<(Vec<Vec<N, A>, A>, C)>, PathError>
+where
+    N: Eq + Hash + Clone + Drop,
+    C: Cost,
+    IN: IntoIterator<Item = (N, C)>,
+    FN: FnMut(&N) -> IN,
+    FH: FnMut(&N) -> C,
+    FS: FnMut(&N) -> bool,
+    A: Allocator + Copy,
+    requires clones { IsLawfulClone N.eq N.is_clone }
+    requires graph { (edges : N → List (N × ℤ)) × (test : N → Bool) × (least : N → ℤ)
+        × IsInformedSearch N.eq edges (start.now ∷ []) (⟦<FN as EdgeFunction<N, C>>⟧.answers successors) (⟦<FS as NodeTest<N>>⟧.answers success) (⟦<FH as EstimateFunction<N, C>>⟧.answers estimate) test least }
+
+    ensures all { (edges : N → List (N × ℤ)) (test : N → Bool) (least : N → ℤ)
+        → IsInformedSearch N.eq edges (start.now ∷ []) (⟦<FN as EdgeFunction<N, C>>⟧.answers successors) (⟦<FS as NodeTest<N>>⟧.answers success) (⟦<FH as EstimateFunction<N, C>>⟧.answers estimate) test least
+        → IfOk result (λ answer. MatchOption answer
+        (HasNoGoalWalk N.eq (IsSuccessor N.eq edges) (start.now ∷ []) test)
+        (λ found. AreCheapestCleanPaths N.eq edges (start.now ∷ []) test (lists_in found.0.items) (C.value found.1))) }
+
+    ensures overflow { (edges : N → List (N × ℤ)) (test : N → Bool) (least : N → ℤ)
+        → IsInformedSearch N.eq edges (start.now ∷ []) (⟦<FN as EdgeFunction<N, C>>⟧.answers successors) (⟦<FS as NodeTest<N>>⟧.answers success) (⟦<FH as EstimateFunction<N, C>>⟧.answers estimate) test least
+        → result ≡ Err PathError.CostOverflow
+        → IsPastRangeWithEstimate N.eq edges (start.now ∷ []) least C.fits × NoGoalWalkFits N.eq edges (start.now ∷ []) test C.fits }
+
+    ensures errors { IfErr result (λ e. (e ≡ PathError.OutOfMemory) ⊎ (e ≡ PathError.CostOverflow)) }
+{
+    let Some((solution, cost)) = astar_bag(alloc, start, successors, estimate, success)? else {
+        return Ok(None);
+    };
+    let paths = gather(alloc, solution)?;
+    Ok(Some((paths, cost)))
+}

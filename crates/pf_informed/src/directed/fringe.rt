@@ -1,0 +1,115 @@
+//! Cheapest paths, in rounds of growing limits on the cost and the estimate of what remains.
+
+ghost use Rattle.std.specs.Prelude.{◌≡◌, ◌⊎◌, ℤ, List, Bool, [], ◌∷◌, Err, IfOk, IfErr, MatchOption};
+ghost use Rattle.pf_base.specs.Walks.{HasNoGoalWalk};
+ghost use Rattle.pf_base.specs.Edges.{IsSuccessor, IsCheapestGoalPath};
+ghost use Rattle.pf_base.specs.Answers.{IsLawfulClone};
+ghost use Rattle.pf_informed.specs.Estimates.{IsInformedSearch, IsPastRangeWithEstimate, NoGoalWalkFits};
+
+use crate::estimates::ask;
+use crate::fringe_lists::FringeLists;
+use crate::functions::EstimateFunction;
+use crate::labels::path_to;
+use crate::search::Search;
+use pf_base::{Cost, EdgeFunction, NodeTest, PathError};
+use pf_core::discovery::{Discovery, Weighted, clone_of};
+use pf_core::numbered::{GoalGraph, NumberedGraph};
+use pf_core::tested::Tested;
+use std::alloc::Allocator;
+use std::hash::Hash;
+use std::marker::PhantomData;
+
+/// A cheapest path from `start` to a node that passes `success`, with its cost, or `None` exactly where
+/// no walk leads from `start` to such a node.
+///
+/// `successors` lists the edges of a node, each as the node that it leads to and its cost; where
+/// several edges lead to one node, a step costs what the cheapest of them costs. `estimate` says what
+/// the way from a node to a node that passes costs at least: it is never negative, and never above the
+/// cost of any walk from the node to one that passes. It need not be consistent, and may be any number
+/// from zero up where no walk leads to a node that passes. The three functions answer alike for equal
+/// nodes at every call and are asked of nodes in reach of `start` alone, and no cost in reach may be
+/// negative. The path begins with a clone of `start` and contains no node twice. Which of several such
+/// paths is answered is open.
+///
+/// # Errors
+///
+/// - `CostOverflow`: only where the cost of some path from `start`, in which no node stands twice, and
+///   the estimate of its last node do not fit `C` together, and no walk to a node that passes has a
+///   cost that fits.
+/// - `OutOfMemory`: a request for memory was refused.
+///
+/// The algorithm is Fringe search (Y. Björnsson, M. Enzenberger, R. C. Holte, J. Schaeffer, "Fringe
+/// search: beating A* at pathfinding on game maps", 2005). A round looks at each node that waits: one
+/// whose cost and estimate are above the limit together is put off, any other is opened, and what is
+/// found from it comes next. The least sum that was put off is the limit of the next round. A node whose
+/// cost falls is opened again, so that `successors` may be asked of it again. `estimate` is asked once
+/// for each node that is found.
+pub fn fringe<N, C, IN, FN, FH, FS, A>(
+    alloc: A,
+    start: &N,
+    successors: FN,
+    mut estimate: FH,
+    success: FS,
+) -> Result<Option<(Vec<N, A>, C)>, PathError>
+where
+    N: Eq + Hash + Clone + Drop,
+    C: Cost,
+    IN: IntoIterator<Item = (N, C)>,
+    FN: FnMut(&N) -> IN,
+    FH: FnMut(&N) -> C,
+    FS: FnMut(&N) -> bool,
+    A: Allocator + Copy,
+    requires clones { IsLawfulClone N.eq N.is_clone }
+    requires graph { (edges : N → List (N × ℤ)) × (test : N → Bool) × (least : N → ℤ)
+        × IsInformedSearch N.eq edges (start.now ∷ []) (⟦<FN as EdgeFunction<N, C>>⟧.answers successors) (⟦<FS as NodeTest<N>>⟧.answers success) (⟦<FH as EstimateFunction<N, C>>⟧.answers estimate) test least }
+
+    ensures best { (edges : N → List (N × ℤ)) (test : N → Bool) (least : N → ℤ)
+        → IsInformedSearch N.eq edges (start.now ∷ []) (⟦<FN as EdgeFunction<N, C>>⟧.answers successors) (⟦<FS as NodeTest<N>>⟧.answers success) (⟦<FH as EstimateFunction<N, C>>⟧.answers estimate) test least
+        → IfOk result (λ answer. MatchOption answer
+        (HasNoGoalWalk N.eq (IsSuccessor N.eq edges) (start.now ∷ []) test)
+        (λ found. IsCheapestGoalPath N.eq edges (start.now ∷ []) test found.0.items (C.value found.1))) }
+
+    ensures overflow { (edges : N → List (N × ℤ)) (test : N → Bool) (least : N → ℤ)
+        → IsInformedSearch N.eq edges (start.now ∷ []) (⟦<FN as EdgeFunction<N, C>>⟧.answers successors) (⟦<FS as NodeTest<N>>⟧.answers success) (⟦<FH as EstimateFunction<N, C>>⟧.answers estimate) test least
+        → result ≡ Err PathError.CostOverflow
+        → IsPastRangeWithEstimate N.eq edges (start.now ∷ []) least C.fits × NoGoalWalkFits N.eq edges (start.now ∷ []) test C.fits }
+
+    ensures errors { IfErr result (λ e. (e ≡ PathError.OutOfMemory) ⊎ (e ≡ PathError.CostOverflow)) }
+{
+    let discovery = Discovery {
+        nodes: clone_of(alloc, start)?,
+        successors,
+        form: PhantomData,
+    };
+    let mut graph: Tested<N, Weighted, IN, FN, FS, A> = Tested { discovery, success };
+    let mut search = Search::new(alloc);
+    ask(
+        graph.discovery.nodes.as_slice(),
+        &mut estimate,
+        &mut search.estimates,
+    )?;
+    search.begin()?;
+    let mut lists = FringeLists::new(alloc, search.estimates[0]);
+    'turns: while let Some(taken) = lists.take(
+        &search.labels,
+        &search.estimates,
+        &mut search.queue,
+    )? {
+        if graph.is_goal(taken.number) {
+            let numbers = path_to(alloc, &search.labels, taken.number)?;
+            return Ok(Some((graph.nodes_at(alloc, &numbers)?, taken.cost)));
+        }
+        graph.expand(taken.number, &mut search.row)?;
+        ask(
+            graph.discovery.nodes.as_slice(),
+            &mut estimate,
+            &mut search.estimates,
+        )?;
+        search.follow(taken.number)?;
+    }
+    if search.has_all_labels() {
+        Ok(None)
+    } else {
+        Err(PathError::CostOverflow)
+    }
+}

@@ -1,0 +1,100 @@
+//! Cheapest paths by limits on cost and estimate that grow.
+
+ghost use Rattle.std.specs.Prelude.{◌≡◌, ◌⊎◌, ℤ, List, Bool, [], ◌∷◌, Err, IfOk, IfErr, MatchOption};
+ghost use Rattle.pf_base.specs.Walks.{HasNoGoalWalk};
+ghost use Rattle.pf_base.specs.Edges.{IsSuccessor, IsCheapestGoalPath};
+ghost use Rattle.pf_base.specs.Answers.{IsLawfulClone};
+ghost use Rattle.pf_informed.specs.Estimates.{IsInformedSearch, IsPastRangeWithEstimate, NoGoalWalkFits};
+
+use crate::directed::idastar::known::Known;
+use crate::directed::idastar::round::{Round, look_through};
+use crate::functions::EstimateFunction;
+use pf_base::{Cost, EdgeFunction, NodeTest, PathError};
+use std::alloc::Allocator;
+use std::hash::Hash;
+
+mod cheapest_row;
+mod cut_off;
+mod known;
+mod marks;
+mod round;
+mod rows;
+mod way;
+mod widen;
+
+/// A cheapest path from `start` to a node that passes `success`, with its cost, or `None` exactly where
+/// no walk leads from `start` to such a node.
+///
+/// `successors` lists the edges of a node, each as the node that it leads to and its cost; where
+/// several edges lead to one node, a step costs what the cheapest of them costs. `estimate` says what
+/// the way from a node to a node that passes costs at least: it is never negative, and never above the
+/// cost of any walk from the node to one that passes. It need not be consistent, and may be any number
+/// from zero up where no walk leads to a node that passes. The three functions answer alike for equal
+/// nodes at every call and are asked of nodes in reach of `start` alone, each once for a node that is
+/// opened or found, and no cost in reach may be negative. The path begins with a clone of `start` and
+/// contains no node twice. Which of several such paths is answered is open.
+///
+/// # Errors
+///
+/// - `CostOverflow`: only where the cost of some path from `start`, in which no node stands twice, and
+///   the estimate of its last node do not fit `C` together, and no walk to a node that passes has a
+///   cost that fits.
+/// - `OutOfMemory`: a request for memory was refused.
+///
+/// The algorithm is iterative deepening A* (R. E. Korf, "Depth-first iterative-deepening: an optimal
+/// admissible tree search", 1985): the paths from `start` whose costs and estimates stay within a limit
+/// are looked through depth first, and the least sum that was cut off is the next limit. The way is kept
+/// as a set in order, and no node of it is entered again. Its time is of the order of the number of these
+/// paths. The nodes that were found are kept with their edges, so that later rounds ask for nothing.
+pub fn idastar<N, C, IN, FN, FH, FS, A>(
+    alloc: A,
+    start: &N,
+    successors: FN,
+    estimate: FH,
+    success: FS,
+) -> Result<Option<(Vec<N, A>, C)>, PathError>
+where
+    N: Eq + Hash + Clone + Drop,
+    C: Cost,
+    IN: IntoIterator<Item = (N, C)>,
+    FN: FnMut(&N) -> IN,
+    FH: FnMut(&N) -> C,
+    FS: FnMut(&N) -> bool,
+    A: Allocator + Copy,
+    requires clones { IsLawfulClone N.eq N.is_clone }
+    requires graph { (edges : N → List (N × ℤ)) × (test : N → Bool) × (least : N → ℤ)
+        × IsInformedSearch N.eq edges (start.now ∷ []) (⟦<FN as EdgeFunction<N, C>>⟧.answers successors) (⟦<FS as NodeTest<N>>⟧.answers success) (⟦<FH as EstimateFunction<N, C>>⟧.answers estimate) test least }
+
+    ensures best { (edges : N → List (N × ℤ)) (test : N → Bool) (least : N → ℤ)
+        → IsInformedSearch N.eq edges (start.now ∷ []) (⟦<FN as EdgeFunction<N, C>>⟧.answers successors) (⟦<FS as NodeTest<N>>⟧.answers success) (⟦<FH as EstimateFunction<N, C>>⟧.answers estimate) test least
+        → IfOk result (λ answer. MatchOption answer
+        (HasNoGoalWalk N.eq (IsSuccessor N.eq edges) (start.now ∷ []) test)
+        (λ found. IsCheapestGoalPath N.eq edges (start.now ∷ []) test found.0.items (C.value found.1))) }
+
+    ensures overflow { (edges : N → List (N × ℤ)) (test : N → Bool) (least : N → ℤ)
+        → IsInformedSearch N.eq edges (start.now ∷ []) (⟦<FN as EdgeFunction<N, C>>⟧.answers successors) (⟦<FS as NodeTest<N>>⟧.answers success) (⟦<FH as EstimateFunction<N, C>>⟧.answers estimate) test least
+        → result ≡ Err PathError.CostOverflow
+        → IsPastRangeWithEstimate N.eq edges (start.now ∷ []) least C.fits × NoGoalWalkFits N.eq edges (start.now ∷ []) test C.fits }
+
+    ensures errors { IfErr result (λ e. (e ≡ PathError.OutOfMemory) ⊎ (e ≡ PathError.CostOverflow)) }
+{
+    let mut known = Known::new(alloc, start, successors, estimate, success)?;
+    let mut limit = known.estimates[0];
+    'limits: loop {
+        match look_through(alloc, &mut known, limit)? {
+            Round::Found { numbers, cost } => {
+                return Ok(Some((known.graph.nodes_at(alloc, &numbers)?, cost)));
+            }
+            Round::Missed { least, past } => {
+                let Some(least) = least else {
+                    if past {
+                        return Err(PathError::CostOverflow);
+                    }
+                    return Ok(None);
+                };
+                least.known();
+                limit = least;
+            }
+        }
+    }
+}
