@@ -1,1 +1,3 @@
 mod BoardLemmas
+mod ListedLemmas
+mod BagLemmas

@@ -12,7 +12,7 @@ use std::alloc::Allocator;
 
 /// The cell that a step leads to, at the cost 1, where it is on the board and at most as high as
 /// `bound`.
-fn enter(
+pub(crate) fn enter(
     heights: &[u8],
     dimensions: (usize, usize),
     bound: u8,
@@ -28,7 +28,7 @@ fn enter(
 }
 
 /// The Manhattan distance of two cells.
-fn far(from: (usize, usize), to: (usize, usize)) -> usize
+pub(crate) fn far(from: (usize, usize), to: (usize, usize)) -> usize
     ensures { result ≡ distance from to }
 {
     from.0.abs_diff(to.0).saturating_add(from.1.abs_diff(to.1))

@@ -2,6 +2,14 @@
 #![tactic(auto)]
 
 #[cfg(test)]
+mod bags;
+#[cfg(test)]
 mod board;
 #[cfg(test)]
+mod limits;
+#[cfg(test)]
+mod listed;
+#[cfg(test)]
 mod refusals;
+#[cfg(test)]
+mod rounds;
