@@ -1,0 +1,10 @@
+pub mod NarrowLemmas
+pub mod ClassLemmas
+pub mod NarrowWalks
+pub mod SplitLemmas
+pub mod LearnLemmas
+pub mod PlanLemmas
+pub mod NodePaths
+pub mod StateLemmas
+pub mod WalkLemmas
+pub mod KCheapestLemmas

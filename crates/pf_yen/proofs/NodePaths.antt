@@ -1,0 +1,352 @@
+-- From clean paths over numbers to clean paths over nodes, and back.
+use Rattle.std.proofs.Common.{◌≡◌, ℕ, ◌<◌, ◌≤◌, ◌∙◌, refl, sym, ap, subst, arith, inl, inr, Bool, true, List, [], ◌∷◌, length, ℤ, pos, nat_eq, Some}
+use Rattle.std.specs.Prelude.{◌⊎◌, ◌↔◌, ◌≤ℤ◌, ◌+ℤ◌}
+use Rattle.std.specs.List.{AllZip}
+use Rattle.std.specs.Cmp.{IsEquivalence}
+use borrow.Author.Tests.{eqb-true}
+use Rattle.std.proofs.lemmas.Int.{ints}
+use Rattle.pf_base.specs.Walks.{HasNode, NoRepeats, BeginsAt, EndsAt, end_of}
+use Rattle.pf_base.specs.Edges.{StepCosts, StepsCost, WalkCosts, InReach, IsPastRange}
+use Rattle.pf_base.specs.Answers.{ListsEdges, SameNodes}
+use Rattle.pf_core.specs.Numbered.{ListsSteps}
+use Rattle.pf_core.specs.Steps.{GoesAlong, IsNonNegative}
+use Rattle.pf_core.proofs.ListLemmas.{bool_dec}
+use Rattle.pf_core.proofs.FrontierLemmas.{walk_positive}
+use Rattle.pf_core.specs.Nodes.{NodeGraph, StandsFor, IsStep}
+use Rattle.pf_core.specs.NodeLaws.{StandsFor-inside}
+use Rattle.pf_core.proofs.NodeLemmas.{eq-sym, eq-trans, HasEdge-same, InReach-start, InReach-more}
+use Rattle.pf_core.proofs.WalkLemmas.{cheapest_edge, goes_of_walk, walk_of_goes, distinct_nodes}
+use Rattle.pf_yen.specs.Known.{KnownGraph, is_goal, row_of, KnownStep}
+use Rattle.pf_yen.specs.Learned.{LiveStep, IsLearned}
+use Rattle.pf_yen.specs.Classes.{IsCleanNumbers, IsPastAlong}
+use Rattle.pf_yen.specs.CleanPaths.{FailsBeforeEnd, IsCleanPath, IsPathPastRange}
+
+module _ {N : Type 0} (eq : N → N → Bool) (laws : IsEquivalence eq) (keys : List N) (one : (i j : ℕ) (x : N) → StandsFor eq keys i x → StandsFor eq keys j x → i ≡ j) where
+  abbrev stands : ℕ → N → Type 0
+  stands = StandsFor eq keys
+
+  -- nodes that one number stands for are the same
+  pub same_node : (k : ℕ) (x y : N) → StandsFor eq keys k x → StandsFor eq keys k y → eq x y ≡ true
+  same_node k x y a b =
+      let e : Some a.0 ≡ Some b.0 = sym a.1 ∙ b.1 in
+      let f : a.0 ≡ b.0 = cc in
+      eq-trans eq laws x a.0 y (eq-sym eq laws a.0 x a.2) (subst (λ m. eq m y ≡ true) (sym f) b.2)
+
+  -- equal nodes have one number
+  pub same_number : (i j : ℕ) (x y : N) → StandsFor eq keys i x → StandsFor eq keys j y → eq x y ≡ true → i ≡ j
+  same_number i j x y a b e = one i j y (a.0, a.1, eq-trans eq laws a.0 x y a.2 e) b
+
+  -- paths of the same nodes have the same numbers
+  pub same_numbers : (ks js : List ℕ) (xs ys : List N) → AllZip (StandsFor eq keys) ks xs → AllZip (StandsFor eq keys) js ys → SameNodes eq xs ys → ks ≡ js
+  same_numbers [] [] [] [] a b s = refl
+  same_numbers [] [] [] (y ∷ ys) a b s = absurd s
+  same_numbers [] [] (x ∷ xs) ys a b s = absurd a
+  same_numbers [] (j ∷ js) [] [] a b s = absurd b
+  same_numbers [] (j ∷ js) [] (y ∷ ys) a b s = absurd s
+  same_numbers [] (j ∷ js) (x ∷ xs) ys a b s = absurd a
+  same_numbers (k ∷ ks) js [] ys a b s = absurd a
+  same_numbers (k ∷ ks) [] (x ∷ xs) [] a b s = absurd s
+  same_numbers (k ∷ ks) [] (x ∷ xs) (y ∷ ys) a b s = absurd b
+  same_numbers (k ∷ ks) (j ∷ js) (x ∷ xs) [] a b s = absurd s
+  same_numbers (k ∷ ks) (j ∷ js) (x ∷ xs) (y ∷ ys) a b s = subst (λ (n : ℕ). k ∷ ks ≡ n ∷ js) (same_number k j x y a.0 b.0 s.0) (ap (λ (v : List ℕ). k ∷ v) (same_numbers ks js xs ys a.1 b.1 s.1))
+
+  -- distinct nodes have distinct numbers
+  node_of_number : (ks : List ℕ) (ys : List N) (k : ℕ) (x : N) → AllZip (StandsFor eq keys) ks ys → HasNode nat_eq ks k → StandsFor eq keys k x → HasNode eq ys x
+  node_of_number [] ys k x a h s = absurd h
+  node_of_number (j ∷ ks) [] k x a h s = absurd a
+  node_of_number (j ∷ ks) (y ∷ ys) k x a (inl e) s = inl (same_node k y x (subst (λ (n : ℕ). StandsFor eq keys n y) (eqb-true j k e) a.0) s)
+  node_of_number (j ∷ ks) (y ∷ ys) k x a (inr h) s = inr (node_of_number ks ys k x a.1 h s)
+
+  distinct_numbers : (ks : List ℕ) (ys : List N) → AllZip (StandsFor eq keys) ks ys → NoRepeats eq ys → NoRepeats nat_eq ks
+  distinct_numbers [] ys a n = tt
+  distinct_numbers (k ∷ ks) [] a n = absurd a
+  distinct_numbers (k ∷ ks) (y ∷ ys) a n = ((λ h. n.0 (node_of_number ks ys k y a.1 h a.0)), distinct_numbers ks ys a.1 n.1)
+
+  ends_stand : (v : List ℕ) (w : List N) (a : ℕ) (x : N) → StandsFor eq keys a x → AllZip (StandsFor eq keys) v w → StandsFor eq keys (end_of a v) (end_of x w)
+  ends_stand [] [] a x s z = s
+  ends_stand [] (y ∷ w) a x s z = absurd z
+  ends_stand (b ∷ v) [] a x s z = absurd z
+  ends_stand (b ∷ v) (y ∷ w) a x s z = ends_stand v w b y z.0 z.1
+
+  module _ (edges : N → List (N × ℤ)) (start : N) (test : N → Bool) (alike : (x y : N) → InReach eq edges (start ∷ []) x → eq x y ≡ true → ListsEdges eq (λ z. z) (edges x) (edges y)) (begins : (x : N) → StandsFor eq keys 0 x ↔ (eq start x ≡ true)) where
+    abbrev graph : NodeGraph N
+    graph = record { starts = start ∷ []; edges = edges }
+
+    abbrev Step : N → ℤ → N → Type 0
+    Step = IsStep eq graph
+
+    module _ {C : Type 0} (value : C → ℤ) where
+      abbrev Live : N → ℤ → N → Type 0
+      Live = LiveStep value Step test
+
+      goes_of_live : (w : List N) (x : N) (u : ℤ) → GoesAlong Live x w u → GoesAlong Step x w u
+      goes_of_live [] x u h = h
+      goes_of_live (y ∷ w) x u h = (h.0, h.1, h.2.0, goes_of_live w y h.1 h.3, h.4)
+
+      fails_of_live : (w : List N) (x : N) (u : ℤ) → GoesAlong Live x w u → FailsBeforeEnd test x w
+      fails_of_live [] x u h = tt
+      fails_of_live (y ∷ w) x u h = (h.2.1, fails_of_live w y h.1 h.3)
+
+      live_of_goes : (w : List N) (x : N) (u : ℤ) → FailsBeforeEnd test x w → GoesAlong Step x w u → GoesAlong Live x w u
+      live_of_goes [] x u f h = h
+      live_of_goes (y ∷ w) x u f h = (h.0, h.1, (h.2, f.0), live_of_goes w y h.1 f.1 h.3, h.4)
+
+      goes_of_costs : (w : List N) (a : N) (u : ℤ) → InReach eq edges (start ∷ []) a → StepsCost eq edges a w u → GoesAlong Step a w u
+      goes_of_costs [] a u r h = h
+      goes_of_costs (b ∷ w) a u r h = let s = h.2 in (h.0, h.1, (r, s.edge), goes_of_costs w b h.1 (InReach-more eq laws edges (start ∷ []) alike a b h.0 r s.edge) h.3, h.4)
+
+      costs_of_goes : (w : List N) (a : N) (u : ℤ) → GoesAlong Step a w u → (m : ℤ) × StepsCost eq edges a w m × (m ≤ℤ u) × GoesAlong Step a w m
+      costs_of_goes [] a u h = (pos 0, refl, omega (arith, ints, h), refl)
+      costs_of_goes (b ∷ w) a u h =
+          let c = cheapest_edge eq laws edges a b h.0 h.2.1 in
+          let s = c.1 in
+          let q = costs_of_goes w b h.1 h.3 in
+          let low = s.cheapest h.0 h.2.1 in
+          (c.0 +ℤ q.0, (c.0, q.0, s, q.1, refl), omega (arith, ints, low, q.2, h.4), (c.0, q.0, (h.2.0, s.edge), q.3, refl))
+
+      module _ (k : KnownGraph C) (learned : IsLearned value (IsStep eq (record { starts = start ∷ []; edges = edges })) test (StandsFor eq keys) (length keys) k) (all : length keys ≤ length k.rows) where
+        known_at : (a : ℕ) (x : N) → StandsFor eq keys a x → a < length k.rows
+        known_at a x s = let i = StandsFor-inside eq keys a x s in omega (arith, i, all)
+
+        numbers_of : (w : List N) (x : N) (a : ℕ) (u : ℤ) → StandsFor eq keys a x → GoesAlong Live x w u → (v : List ℕ) × AllZip (StandsFor eq keys) v w × GoesAlong (KnownStep value k) a v u
+        numbers_of [] x a u s h = ([], tt, h)
+        numbers_of (y ∷ w) x a u s h =
+            let l = learned.rows a x (known_at a x s) s in
+            let n = l.numbered h.0 y h.2 in
+            let c = l.complete h.0 y n.0 h.2 n.1 in
+            let r = numbers_of w y n.0 h.1 n.1 h.3 in
+            (n.0 ∷ r.0, (n.1, r.1), (h.0, h.1, c, r.2, h.4))
+
+        along_numbers : (v : List ℕ) (w : List N) (x : N) (a : ℕ) (u : ℤ) → StandsFor eq keys a x → AllZip (StandsFor eq keys) v w → GoesAlong Live x w u → GoesAlong (KnownStep value k) a v u
+        along_numbers [] [] x a u s z h = h
+        along_numbers [] (y ∷ w) x a u s z h = absurd z
+        along_numbers (b ∷ v) [] x a u s z h = absurd z
+        along_numbers (b ∷ v) (y ∷ w) x a u s z h =
+            let l = learned.rows a x (known_at a x s) s in
+            (h.0, h.1, l.complete h.0 y b h.2 z.0, along_numbers v w y b h.1 z.0 z.1 h.3, h.4)
+
+        along_nodes : (v : List ℕ) (w : List N) (x : N) (a : ℕ) (u : ℤ) → StandsFor eq keys a x → AllZip (StandsFor eq keys) v w → GoesAlong (KnownStep value k) a v u → GoesAlong Live x w u
+        along_nodes [] [] x a u s z h = h
+        along_nodes [] (y ∷ w) x a u s z h = absurd z
+        along_nodes (b ∷ v) [] x a u s z h = absurd z
+        along_nodes (b ∷ v) (y ∷ w) x a u s z h =
+            let l = learned.rows a x (known_at a x s) s in
+            let t = h.2 in
+            let n = l.sound b t.0 t.1 in
+            let e = same_node b n.0 y n.2 z.0 in
+            let edge : Live x h.0 y = subst (λ (c : ℤ). Live x c y) t.2 ((n.1.0.0, HasEdge-same eq laws (edges x) n.0 y (value t.0) e n.1.0.1), n.1.1) in
+            (h.0, h.1, edge, along_nodes v w y b h.1 z.0 z.1 h.3, h.4)
+
+        goal_is : (a : ℕ) (x : N) → StandsFor eq keys a x → is_goal k a ≡ test x
+        goal_is a x s = learned.goals a x (known_at a x s) s
+
+        -- the numbers of a clean path
+        pub numbers_of_clean : (path : List N) (clean : IsCleanPath eq edges start test path) → (p : List ℕ) × (u : ℤ) × AllZip (StandsFor eq keys) p path × IsCleanNumbers value k p u
+        numbers_of_clean [] clean = let g = clean.goes in let h = g.goes in absurd h.walks
+        numbers_of_clean (x ∷ w) clean =
+            let g = clean.goes in
+            let h = g.goes in
+            let first = elim h.begins as (λ _. eq start x ≡ true) [ inl e ↦ e | inr f ↦ absurd f ] in
+            let s = (begins x).1 first in
+            let r = goes_of_walk eq laws graph alike w x (InReach-start eq laws edges (start ∷ []) x x h.begins (laws.refl x)) h.walks in
+            let n = numbers_of w x 0 r.0 s (live_of_goes w x r.0 clean.fails r.1) in (
+              0 ∷ n.0,
+              r.0,
+              (s, n.1),
+              record {
+                rest = n.0;
+                is = refl;
+                goes = n.2;
+                distinct = distinct_numbers (0 ∷ n.0) (x ∷ w) (s, n.1) g.distinct;
+                ends = goal_is (end_of 0 n.0) (end_of x w) (ends_stand n.0 w 0 x s n.1) ∙ h.ends;
+              },
+            )
+
+        -- and at its cost
+        pub numbers_at_cost : (path : List N) (t : ℤ) → IsCleanPath eq edges start test path → WalkCosts eq edges path t → (p : List ℕ) → AllZip (StandsFor eq keys) p path → (u : ℤ) → IsCleanNumbers value k p u → IsCleanNumbers value k p t
+        numbers_at_cost [] t clean costs p z u c = absurd costs
+        numbers_at_cost (x ∷ w) t clean costs [] z u c = absurd z
+        numbers_at_cost (x ∷ w) t clean costs (a ∷ v) z u c =
+            let g = clean.goes in
+            let h = g.goes in
+            let e : a ∷ v ≡ 0 ∷ c.rest = c.is in
+            let f : v ≡ c.rest = cc in
+            let first = elim h.begins as (λ _. eq start x ≡ true) [ inl q ↦ q | inr q ↦ absurd q ] in
+            let s = (begins x).1 first in
+            let goes = live_of_goes w x t clean.fails (goes_of_costs w x t (InReach-start eq laws edges (start ∷ []) x x h.begins (laws.refl x)) costs) in
+            record {
+              rest = c.rest;
+              is = c.is;
+              goes = along_numbers c.rest w x 0 t s (subst (λ (q : List ℕ). AllZip (StandsFor eq keys) q w) f z.1) goes;
+              distinct = c.distinct;
+              ends = c.ends;
+            }
+
+        -- the nodes of a clean path over numbers
+        pub clean_of_numbers : (p : List ℕ) (path : List N) (u : ℤ) → AllZip (StandsFor eq keys) p path → IsCleanNumbers value k p u → IsCleanPath eq edges start test path
+        clean_of_numbers [] path u z c = absurd (no_path c.rest c.is)
+          where
+            no_path : (v : List ℕ) → ¬ ([] ≡ 0 ∷ v)
+            no_path v e = cc
+        clean_of_numbers (a ∷ v) [] u z c = absurd z
+        clean_of_numbers (a ∷ v) (x ∷ w) u z c =
+            let e : a ∷ v ≡ 0 ∷ c.rest = c.is in
+            let f : v ≡ c.rest = cc in
+            let o : a ≡ 0 = cc in
+            let s = subst (λ (n : ℕ). StandsFor eq keys n x) o z.0 in
+            let y = subst (λ (q : List ℕ). AllZip (StandsFor eq keys) q w) f z.1 in
+            let live = along_nodes c.rest w x 0 u s y c.goes in
+            record {
+              goes = record {
+                goes = record {
+                  walks = walk_of_goes eq laws graph alike w x u (goes_of_live w x u live);
+                  begins = inl ((begins x).0 s);
+                  ends = sym (goal_is (end_of 0 c.rest) (end_of x w) (ends_stand c.rest w 0 x s y)) ∙ c.ends;
+                };
+                distinct = distinct_nodes eq laws keys one (a ∷ v) (x ∷ w) z (subst (λ (q : List ℕ). NoRepeats nat_eq q) (sym c.is) c.distinct);
+              };
+              fails = fails_of_live w x u live;
+            }
+
+        -- what it costs, where no parallel steps cost less
+        pub costs_of_numbers : (p : List ℕ) (path : List N) (u : ℤ) → AllZip (StandsFor eq keys) p path → (c : IsCleanNumbers value k p u) → ((t : ℤ) → GoesAlong (KnownStep value k) 0 c.rest t → u ≤ℤ t) → WalkCosts eq edges path u
+        costs_of_numbers [] path u z c low = absurd (no_path c.rest c.is)
+          where
+            no_path : (v : List ℕ) → ¬ ([] ≡ 0 ∷ v)
+            no_path v e = cc
+        costs_of_numbers (a ∷ v) [] u z c low = absurd z
+        costs_of_numbers (a ∷ v) (x ∷ w) u z c low =
+            let e : a ∷ v ≡ 0 ∷ c.rest = c.is in
+            let f : v ≡ c.rest = cc in
+            let o : a ≡ 0 = cc in
+            let s = subst (λ (n : ℕ). StandsFor eq keys n x) o z.0 in
+            let y = subst (λ (q : List ℕ). AllZip (StandsFor eq keys) q w) f z.1 in
+            let live = along_nodes c.rest w x 0 u s y c.goes in
+            let m = costs_of_goes w x u (goes_of_live w x u live) in
+            let least = low m.0 (along_numbers c.rest w x 0 m.0 s y (live_of_goes w x m.0 (fails_of_live w x u live) m.3)) in
+            let same : m.0 ≡ u = omega (arith, ints, least, m.2) in
+            subst (λ (t : ℤ). StepsCost eq edges x w t) same m.1
+
+        -- nodes that the numbers of a walk stand for
+        nodes_of : (v : List ℕ) (x : N) (a : ℕ) (u : ℤ) → StandsFor eq keys a x → GoesAlong (KnownStep value k) a v u → (w : List N) × AllZip (StandsFor eq keys) v w
+        nodes_of [] x a u s h = ([], tt)
+        nodes_of (b ∷ v) x a u s h =
+            let l = learned.rows a x (known_at a x s) s in
+            let t = h.2 in
+            let n = l.sound b t.0 t.1 in
+            let r = nodes_of v n.0 b h.1 n.2 h.3 in
+            (n.0 ∷ r.0, (n.2, r.1))
+
+        -- a walk up to the first goal on it
+        cut_walk : IsNonNegative (IsStep eq (record { starts = start ∷ []; edges = edges })) → (w : List N) (x : N) (u : ℤ) → GoesAlong Step x w u → GoesAlong Live x w u ⊎ ((w1 : List N) × (u1 : ℤ) × GoesAlong Live x w1 u1 × (test (end_of x w1) ≡ true) × (u1 ≤ℤ u))
+        cut_walk p [] x u h = inl h
+        cut_walk p (y ∷ w) x u h = elim (bool_dec (test x)) as (λ _. GoesAlong Live x (y ∷ w) u ⊎ ((w1 : List N) × (u1 : ℤ) × GoesAlong Live x w1 u1 × (test (end_of x w1) ≡ true) × (u1 ≤ℤ u))) [
+          | inl t ↦ inr ([], pos 0, refl, t, walk_positive Step p (y ∷ w) x u h)
+          | inr f ↦ elim (cut_walk p w y h.1 h.3) as (λ _. GoesAlong Live x (y ∷ w) u ⊎ ((w1 : List N) × (u1 : ℤ) × GoesAlong Live x w1 u1 × (test (end_of x w1) ≡ true) × (u1 ≤ℤ u))) [
+            | inl g ↦ inl (h.0, h.1, (h.2, f), g, h.4)
+            | inr g ↦ inr (y ∷ g.0, h.0 +ℤ g.1, (h.0, g.1, (h.2, f), g.2, refl), g.3, (let low = g.4 in omega (arith, ints, low, h.4)))
+          ]
+        ]
+
+        -- a path and one step more, which do not fit
+        module _ (fits : ℤ → Type 0) (d : IsPastAlong value k fits) where
+          abbrev origin : StandsFor eq keys 0 start
+          origin = (begins start).1 (laws.refl start)
+
+          abbrev nodes : (w : List N) × AllZip (StandsFor eq keys) d.rest w
+          nodes = nodes_of d.rest start 0 d.cost origin d.goes
+
+          abbrev last : N
+          last = end_of start nodes.0
+
+          abbrev ends_here : StandsFor eq keys (end_of 0 d.rest) last
+          ends_here = ends_stand d.rest nodes.0 0 start origin nodes.1
+
+          abbrev here : ListsSteps value Live (StandsFor eq keys) last (row_of k (end_of 0 d.rest))
+          here = learned.rows (end_of 0 d.rest) last (known_at (end_of 0 d.rest) last ends_here) ends_here
+
+          abbrev live : GoesAlong Live start nodes.0 d.cost
+          live = along_nodes d.rest nodes.0 start 0 d.cost origin nodes.1 d.goes
+
+          past_costs : StepsCost eq edges start nodes.0 d.cost
+          past_costs =
+              let m = costs_of_goes nodes.0 start d.cost (goes_of_live nodes.0 start d.cost live) in
+              let least = d.cheapest m.0 (along_numbers d.rest nodes.0 start 0 m.0 origin nodes.1 (live_of_goes nodes.0 start m.0 (fails_of_live nodes.0 start d.cost live) m.3)) in
+              let same : m.0 ≡ d.cost = omega (arith, ints, least, m.2) in
+              subst (λ (t : ℤ). StepsCost eq edges start nodes.0 t) same m.1
+
+          past_step : (y : N) × (m : ℤ) × StepCosts eq edges last y m × ¬ (fits (d.cost +ℤ m))
+          past_step =
+              let t = d.edge in
+              let l = here in
+              let n = l.sound d.next t.0 t.1 in
+              let c = cheapest_edge eq laws edges last n.0 (value t.0) n.1.0.1 in
+              let s = c.1 in
+              (n.0, c.0, s, d.too_dear c.0 (l.complete c.0 n.0 d.next ((n.1.0.0, s.edge), n.1.1) n.2))
+
+          past_distinct : NoRepeats eq (start ∷ nodes.0)
+          past_distinct = distinct_nodes eq laws keys one (0 ∷ d.rest) (start ∷ nodes.0) (origin, nodes.1) d.distinct
+
+          pub path_past : IsPathPastRange eq edges start test fits
+          path_past = let s = past_step in record {
+            first = start;
+            rest = nodes.0;
+            begins = laws.refl start;
+            walks = walk_of_goes eq laws graph alike nodes.0 start d.cost (goes_of_live nodes.0 start d.cost live);
+            distinct = past_distinct;
+            cost = d.cost;
+            costs = past_costs;
+            next = s.0;
+            price = s.1;
+            step = s.2;
+            past = s.3;
+          }
+
+          -- before the first path it is a cheapest one, and no goal is cheaper
+          pub first_past : IsNonNegative (IsStep eq (record { starts = start ∷ []; edges = edges })) → ((v : List ℕ) (u : ℤ) → GoesAlong (KnownStep value k) 0 v u → end_of 0 v ≡ end_of 0 d.rest → d.cost ≤ℤ u)
+              → ((v : List ℕ) (u : ℤ) → GoesAlong (KnownStep value k) 0 v u → is_goal k (end_of 0 v) ≡ true → d.cost ≤ℤ u) → IsPastRange eq edges (start ∷ []) test fits
+          first_past p to_here to_goal = let s = past_step in record {
+            node = last;
+            path = start ∷ nodes.0;
+            cost = d.cost;
+            cheapest = record {
+              goes = record {
+                goes = record { walks = walk_of_goes eq laws graph alike nodes.0 start d.cost (goes_of_live nodes.0 start d.cost live); begins = inl (laws.refl start); ends = laws.refl last };
+                distinct = past_distinct;
+              };
+              costs = past_costs;
+              best = λ walk u w c. to_last walk u w.begins w.ends c;
+            };
+            next = s.0;
+            price = s.1;
+            step = s.2;
+            past = s.3;
+            none_cheaper = λ walk u w c. to_any walk u w.begins w.ends c;
+          }
+            where
+              from_goal : (x : N) → StandsFor eq keys 0 x → (w : List N) (u : ℤ) → GoesAlong Live x w u → test (end_of x w) ≡ true → d.cost ≤ℤ u
+              from_goal x s w u g t = let n = numbers_of w x 0 u s g in to_goal n.0 u n.2 (goal_is (end_of 0 n.0) (end_of x w) (ends_stand n.0 w 0 x s n.1) ∙ t)
+
+              to_last : (walk : List N) (u : ℤ) → BeginsAt eq (start ∷ []) walk → EndsAt eq (λ y. eq y last) walk → WalkCosts eq edges walk u → d.cost ≤ℤ u
+              to_last [] u b e c = absurd c
+              to_last (x ∷ w) u b e c =
+                  let first = elim b as (λ _. eq start x ≡ true) [ inl q ↦ q | inr q ↦ absurd q ] in
+                  let s = (begins x).1 first in
+                  let g = goes_of_costs w x u (InReach-start eq laws edges (start ∷ []) x x b (laws.refl x)) c in
+                  elim (cut_walk p w x u g) as (λ _. d.cost ≤ℤ u) [
+                    | inl l ↦
+                        let n = numbers_of w x 0 u s l in
+                        to_here n.0 u n.2 (same_number (end_of 0 n.0) (end_of 0 d.rest) (end_of x w) last (ends_stand n.0 w 0 x s n.1) ends_here e)
+                    | inr l ↦ let a = from_goal x s l.0 l.1 l.2 l.3 in let low = l.4 in omega (arith, ints, a, low)
+                  ]
+
+              to_any : (walk : List N) (u : ℤ) → BeginsAt eq (start ∷ []) walk → EndsAt eq test walk → WalkCosts eq edges walk u → d.cost ≤ℤ u
+              to_any [] u b e c = absurd c
+              to_any (x ∷ w) u b e c =
+                  let first = elim b as (λ _. eq start x ≡ true) [ inl q ↦ q | inr q ↦ absurd q ] in
+                  let s = (begins x).1 first in
+                  let g = goes_of_costs w x u (InReach-start eq laws edges (start ∷ []) x x b (laws.refl x)) c in
+                  elim (cut_walk p w x u g) as (λ _. d.cost ≤ℤ u) [
+                    | inl l ↦ from_goal x s w u l e
+                    | inr l ↦ let a = from_goal x s l.0 l.1 l.2 l.3 in let low = l.4 in omega (arith, ints, a, low)
+                  ]

@@ -1,0 +1,174 @@
+-- What the plans say of the clean paths over nodes.
+use Rattle.std.proofs.Common.{◌≡◌, ℕ, zero, suc, ◌<◌, ◌≤◌, ◌+◌, refl, sym, subst, arith, inl, inr, Bool, true, false, List, [], ◌∷◌, ◌++◌, length, take, ℤ, Option, Some, None}
+use Rattle.std.specs.Prelude.{◌⊎◌, ◌↔◌, ◌≤ℤ◌, Contains, sum_by}
+use Rattle.std.specs.List.{AllZip}
+use Rattle.std.specs.Cmp.{IsEquivalence}
+use Rattle.std.proofs.lemmas.Int.{ints}
+use Rattle.std.proofs.lemmas.List.{append-nil}
+use Rattle.pf_base.specs.Edges.{WalkCosts, InReach}
+use Rattle.pf_base.specs.Answers.{ListsEdges}
+use Rattle.pf_core.specs.Steps.{GoesAlong}
+use Rattle.pf_core.specs.Nodes.{StandsFor, IsStep}
+use Rattle.pf_core.proofs.ListLemmas.{Contains-head, Contains-tail, Contains-cases, Contains-append_one}
+use Rattle.pf_core.proofs.PathLemmas.{AllZip-append}
+use Rattle.pf_core.proofs.WalkLemmas.{same_of}
+use Rattle.pf_yen.specs.Known.{KnownGraph, KnownStep, IsWhole}
+use Rattle.pf_yen.specs.Learned.{IsLearned}
+use Rattle.pf_yen.specs.Classes.{Plan, is_member, in_class, is_path, IsCleanNumbers, IsCheapestOfClass, IsPartition}
+use Rattle.pf_yen.specs.Plans.{as_list, last_given, IsFirst, NoneBelow, GoesOn}
+use Rattle.pf_yen.specs.CleanPaths.{IsCleanPath, WasGiven, AllGiven, IsNextPath}
+use Rattle.pf_yen.specs.Walk.{IsPlanned}
+use Rattle.pf_yen.proofs.NarrowLemmas.{in_none}
+use Rattle.pf_yen.proofs.ClassLemmas.{some_term, term_below, same_path, member_of}
+use Rattle.pf_yen.proofs.NodePaths.{same_numbers, numbers_of_clean, numbers_at_cost, clean_of_numbers, costs_of_numbers}
+
+zip_find : {A B : Type 0} (R : A → B → Type 0) (xs : List A) (ys : List B) (y : B) → AllZip R xs ys → Contains ys y → (x : A) × Contains xs x × R x y
+zip_find R [] [] y z c = absurd (in_none y c)
+zip_find R [] (b ∷ ys) y z c = absurd z
+zip_find R (a ∷ xs) [] y z c = absurd z
+zip_find R (a ∷ xs) (b ∷ ys) y z c = elim (Contains-cases ys b y c) as (λ _. (x : _) × Contains (a ∷ xs) x × R x y) [
+  | inl e ↦ (a, Contains-head xs a, subst (λ (v : _). R a v) e z.0)
+  | inr q ↦ let r = zip_find R xs ys y z.1 q in (r.0, Contains-tail xs a r.0 r.1, r.2)
+]
+
+zip_found : {A B : Type 0} (R : A → B → Type 0) (xs : List A) (ys : List B) (x : A) → AllZip R xs ys → Contains xs x → (y : B) × Contains ys y × R x y
+zip_found R [] ys x z c = absurd (in_none x c)
+zip_found R (a ∷ xs) [] x z c = absurd z
+zip_found R (a ∷ xs) (b ∷ ys) x z c = elim (Contains-cases xs a x c) as (λ _. (y : _) × Contains (b ∷ ys) y × R x y) [
+  | inl e ↦ (b, Contains-head ys b, subst (λ (v : _). R v b) e z.0)
+  | inr q ↦ let r = zip_found R xs ys x z.1 q in (r.0, Contains-tail ys b r.0 r.1, r.2)
+]
+
+-- a path begins with itself
+begins_itself : (p : List ℕ) → is_member p [] p ≡ true
+begins_itself p = subst (λ (v : List ℕ). is_member p [] v ≡ true) (append-nil p) (member_of p [] [] refl)
+
+module _ {N C : Type 0} (eq : N → N → Bool) (laws : IsEquivalence eq) (value : C → ℤ) (keys : List N) (k : KnownGraph C) where
+  -- the plans after a change that keeps what they share out
+  pub went_on : (given : List (List N × C)) (waiting waiting' : List (Plan C)) (chosen chosen' : Option (Plan C)) (was : Bool) → IsPlanned eq value keys k given waiting chosen was
+      → GoesOn value k (as_list chosen ++ waiting) (as_list chosen' ++ waiting') (last_given was chosen) → IsFirst value false chosen' waiting' → IsPlanned eq value keys k given waiting' chosen' false
+  went_on given waiting waiting' chosen chosen' was p on first = record {
+    before = p.before ++ last_given was chosen;
+    partition = on.partition p.before p.partition;
+    given_are = subst (λ (v : List (List ℕ)). AllZip (λ (q : List ℕ) (g : List N × C). AllZip (StandsFor eq keys) q g.0 × IsCleanNumbers value k q (value g.1)) v given) (sym (append-nil (p.before ++ last_given was chosen))) p.given_are;
+    rising = λ g c h i. on.dearer (value g.1) (λ d j. p.rising g d h j) c i;
+    first = first;
+  }
+
+  -- the first plans
+  pub planned_first : (waiting : List (Plan C)) (chosen : Option (Plan C)) → waiting ≡ [] → IsPartition value k (as_list chosen ++ waiting) [] → IsPlanned eq value keys k [] waiting chosen false
+  planned_first waiting chosen none part = record {
+    before = [];
+    partition = part;
+    given_are = tt;
+    rising = λ g c h i. absurd (in_none g h);
+    first = subst (λ (v : List (Plan C)). IsFirst value false chosen v) (sym none) (at chosen);
+  }
+    where
+      at : (o : Option (Plan C)) → IsFirst value false o []
+      at None = tt
+      at (Some c) = λ d i. absurd (in_none d i)
+
+  -- the chosen plan costs no more than any
+  chosen_least : (given : List (List N × C)) (waiting : List (Plan C)) (c : Plan C) → IsPlanned eq value keys k given waiting (Some c) false → NoneBelow value (value c.cost) (c ∷ waiting)
+  chosen_least given waiting c p d i = elim (Contains-cases waiting c d i) as (λ _. value c.cost ≤ℤ value d.cost) [
+    | inl e ↦ subst (λ (x : Plan C). value c.cost ≤ℤ value x.cost) e (omega (arith, ints))
+    | inr q ↦ p.first d q
+  ]
+
+  -- the path of the chosen plan was given
+  pub gave : (given : List (List N × C)) (waiting : List (Plan C)) (c : Plan C) (path : List N) → IsPlanned eq value keys k given waiting (Some c) false → AllZip (StandsFor eq keys) c.path path → IsPlanned eq value keys k (given ++ (path, c.cost) ∷ []) waiting (Some c) true
+  gave given waiting c path p z = record {
+    before = p.before;
+    partition = p.partition;
+    given_are =
+        let part = p.partition in
+        let cheap = part.cheapest c (Contains-head waiting c) in
+        AllZip-append (λ (q : List ℕ) (g : List N × C). AllZip (StandsFor eq keys) q g.0 × IsCleanNumbers value k q (value g.1)) p.before given c.path (path, c.cost)
+        (subst (λ (v : List (List ℕ)). AllZip (λ (q : List ℕ) (g : List N × C). AllZip (StandsFor eq keys) q g.0 × IsCleanNumbers value k q (value g.1)) v given) (append-nil p.before) p.given_are) (z, cheap.clean);
+    rising = λ g d h i. elim (Contains-append_one given (path, c.cost) g h) as (λ _. value g.1 ≤ℤ value d.cost) [
+      | inl q ↦ p.rising g d q i
+      | inr e ↦ subst (λ (x : List N × C). value x.1 ≤ℤ value d.cost) e (chosen_least given waiting c p d i)
+    ];
+    first = tt;
+  }
+
+  module _ (one : (i j : ℕ) (x : N) → StandsFor eq keys i x → StandsFor eq keys j x → i ≡ j) (edges : N → List (N × ℤ)) (start : N) (test : N → Bool)
+      (alike : (x y : N) → InReach eq edges (start ∷ []) x → eq x y ≡ true → ListsEdges eq (λ z. z) (edges x) (edges y)) (begins : (x : N) → StandsFor eq keys 0 x ↔ (eq start x ≡ true)) (whole : IsWhole value k)
+      (learned : IsLearned value (IsStep eq (record { starts = start ∷ []; edges = edges })) test (StandsFor eq keys) (length keys) k) (all : length keys ≤ length k.rows) where
+    abbrev Given : List ℕ → List N × C → Type 0
+    Given q g = AllZip (StandsFor eq keys) q g.0 × IsCleanNumbers value k q (value g.1)
+
+    -- a clean path whose numbers went before was given
+    was_given : (before : List (List ℕ)) (given : List (List N × C)) → AllZip (λ (q : List ℕ) (g : List N × C). AllZip (StandsFor eq keys) q g.0 × IsCleanNumbers value k q (value g.1)) before given
+        → (path : List N) (p : List ℕ) (u : ℤ) → AllZip (StandsFor eq keys) p path → IsCleanNumbers value k p u → 0 < sum_by (is_path p) before → WasGiven eq edges start test value given path
+    was_given before given zip path p u z c h =
+        let t = some_term (λ (q : List ℕ). is_member q [] p) before h in
+        let f = zip_found Given before given t.0 zip t.1 in
+        let e : p ≡ t.0 = same_path value k whole p t.0 u (value f.0.1) c f.2.1 t.2 in
+        (f.0, f.1, same_of eq laws keys p f.0.0 path (subst (λ (v : List ℕ). AllZip (StandsFor eq keys) v f.0.0) (sym e) f.2.0) z)
+
+    -- where no plan is left, all was given
+    pub all_given : (given : List (List N × C)) → IsPlanned eq value keys k given [] None false → AllGiven eq edges start test value given
+    all_given given p path clean =
+        let n = numbers_of_clean eq laws keys one edges start test alike begins value k learned all path clean in
+        let part = p.partition in
+        let o = part.once n.0 n.1 n.3 in
+        let z : sum_by (in_class {C = C} n.0) [] ≡ 0 = refl in
+        was_given p.before given (subst (λ (v : List (List ℕ)). AllZip (λ (q : List ℕ) (g : List N × C). AllZip (StandsFor eq keys) q g.0 × IsCleanNumbers value k q (value g.1)) v given) (append-nil p.before) p.given_are) path n.0 n.1 n.2 n.3 (omega (arith, o, z))
+
+    -- the chosen path is the next
+    pub next_is : (given : List (List N × C)) (waiting : List (Plan C)) (c : Plan C) (path : List N) → IsPlanned eq value keys k given waiting (Some c) false → AllZip (StandsFor eq keys) c.path path → IsNextPath eq edges start test value given path c.cost
+    next_is given waiting c path p z = record {
+      clean = clean_of_numbers eq laws keys one edges start test alike begins value k learned all c.path path (value c.cost) z itself;
+      costs = costs_of_numbers eq laws keys one edges start test alike begins value k learned all c.path path (value c.cost) z itself (λ t goes. low t goes);
+      new = λ w. new w;
+      rising = λ g h. p.rising g c h (Contains-head waiting c);
+      none_cheaper = λ other u clean costs not_given. none other u clean costs not_given;
+    }
+      where
+        part : IsPartition value k (c ∷ waiting) p.before
+        part = p.partition
+
+        cheap : IsCheapestOfClass value k c
+        cheap = let q = part in q.cheapest c (Contains-head waiting c)
+
+        itself : IsCleanNumbers value k c.path (value c.cost)
+        itself = let q = p.partition in let h = q.cheapest c (Contains-head waiting c) in h.clean
+
+        zip : AllZip (λ (q : List ℕ) (g : List N × C). AllZip (StandsFor eq keys) q g.0 × IsCleanNumbers value k q (value g.1)) p.before given
+        zip = subst (λ (v : List (List ℕ)). AllZip (λ (q : List ℕ) (g : List N × C). AllZip (StandsFor eq keys) q g.0 × IsCleanNumbers value k q (value g.1)) v given) (append-nil p.before) p.given_are
+
+        low : (t : ℤ) → GoesAlong (KnownStep value k) 0 itself.rest t → value c.cost ≤ℤ t
+        low t goes = let h = cheap in let a = itself in h.least c.path t (record { rest = a.rest; is = a.is; goes = goes; distinct = a.distinct; ends = a.ends }) h.member
+
+        new : ¬ (WasGiven eq edges start test value given path)
+        new w =
+            let f = zip_find Given p.before given w.0 zip w.1 in
+            let e : f.0 ≡ c.path = same_numbers eq laws keys one f.0 c.path w.0.0 path f.2.0 z w.2 in
+            let a = term_below (λ (q : List ℕ). is_member q [] c.path) p.before f.0 f.1 (subst (λ (v : List ℕ). is_member v [] c.path ≡ true) (sym e) (begins_itself c.path)) in
+            let h = cheap in
+            let b = term_below (λ (d : Plan C). is_member (take (d.spur + 1) d.path) d.banned c.path) (c ∷ waiting) c (Contains-head waiting c) h.member in
+            let q = part in
+            let o = q.once c.path (value c.cost) itself in
+            omega (arith, a, b, o)
+
+        none : (other : List N) (u : ℤ) → IsCleanPath eq edges start test other → WalkCosts eq edges other u → ¬ (WasGiven eq edges start test value given other) → value c.cost ≤ℤ u
+        none other u clean costs not_given =
+            let n = numbers_of_clean eq laws keys one edges start test alike begins value k learned all other clean in
+            let m = numbers_at_cost eq laws keys one edges start test alike begins value k learned all other u clean costs n.0 n.2 n.1 n.3 in
+            let q = part in
+            let o = q.once n.0 u m in
+            elim (positive (sum_by (is_path n.0) p.before)) as (λ _. value c.cost ≤ℤ u) [
+              | inl h ↦ absurd (not_given (was_given p.before given zip other n.0 n.1 n.2 n.3 h))
+              | inr e ↦
+                  let t = some_term (λ (d : Plan C). is_member (take (d.spur + 1) d.path) d.banned n.0) (c ∷ waiting) (omega (arith, o, e)) in
+                  let h = q.cheapest t.0 t.1 in
+                  let a = h.least n.0 u m t.2 in
+                  let b = chosen_least given waiting c p t.0 t.1 in
+                  omega (arith, ints, a, b)
+            ]
+          where
+            positive : (n : ℕ) → (0 < n) ⊎ (n ≡ 0)
+            positive zero = inr refl
+            positive (suc n) = inl (omega arith)

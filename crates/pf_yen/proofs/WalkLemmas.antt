@@ -1,0 +1,240 @@
+-- What a walk over paths keeps in each part of a step, and what it gives.
+use Rattle.std.proofs.Common.{◌≡◌, ℕ, zero, suc, ◌<◌, ◌≤◌, refl, sym, ap, subst, arith, inl, inr, Bool, true, false, List, [], ◌∷◌, ◌++◌, length, map, ℤ, Option, Some, None, Bor}
+use Rattle.std.specs.Prelude.{◌⊎◌, Contains, Vec, Result, Ok, Err, OnOk, OnErr, IfErr, IfSome, MatchBool}
+use Rattle.std.specs.Result.{IsErrAnd, is_err, result_transpose}
+use Rattle.std.specs.List.{AllZip}
+use Rattle.std.specs.Cmp.{IsEquivalence}
+use Rattle.std.specs.Fn.{Mut}
+use Rattle.std.specs.Iterator.{Count}
+use Rattle.pf_base.specs.declared.error.PathError.{PathError}
+use Rattle.pf_core.specs.Numbered.{Grows}
+use Rattle.pf_core.specs.Steps.{GoesAlong, IsNonNegative, IsTooDear}
+use Rattle.pf_core.specs.Nodes.{NodeGraph, TestedGraph, StandsFor, IsStep}
+use Rattle.pf_core.specs.NodeLaws.{StandsFor-one, StandsFor-inside}
+use Rattle.pf_core.proofs.ListLemmas.{bool_dec, Contains-cases, Contains-head}
+use Rattle.pf_core.proofs.WalkLemmas.{no_negative}
+use Rattle.pf_yen.specs.Known.{KnownGraph, row_of, KnownStep, is_goal, IsWhole}
+use Rattle.pf_yen.specs.Narrow.{StandsForItself}
+use Rattle.pf_yen.specs.Learned.{IsLearned}
+use Rattle.pf_yen.specs.Classes.{Plan, IsCleanNumbers, IsPartition, IsPastAlong}
+use Rattle.pf_yen.specs.Plans.{as_list, last_given, IsFirst, GoesOn}
+use Rattle.pf_yen.specs.CleanPaths.{AllGiven, IsNextPath, RefusedFor}
+use Rattle.pf_yen.specs.Walk.{PathWalk, IsPathWalk, IsPlanned, IsUnderWay, PathTurn, PathStep, Searches}
+use Rattle.pf_yen.proofs.NarrowLemmas.{in_none}
+use Rattle.pf_yen.proofs.LearnLemmas.{learned_whole}
+use Rattle.pf_yen.proofs.SplitLemmas.{past_first}
+use Rattle.pf_yen.proofs.NodePaths.{path_past, first_past}
+use Rattle.pf_yen.proofs.StateLemmas.{went_on, planned_first, gave, all_given, next_is}
+
+zip_none : {A B : Type 0} (R : A → B → Type 0) (xs ys : List A) → AllZip R (xs ++ ys) [] → ys ≡ []
+zip_none R [] [] z = refl
+zip_none R [] (y ∷ ys) z = absurd z
+zip_none R (x ∷ xs) ys z = absurd z
+
+pub map_none : {A B : Type 0} (f : A → B) (xs : List A) → map f xs ≡ [] → xs ≡ []
+map_none f [] e = refl
+map_none f (x ∷ xs) e = cc
+
+pub any_some : {A P : Type 0} (o : Option A) → P → IfSome o (λ _. P)
+any_some None p = tt
+any_some (Some x) p = p
+
+-- nothing is known yet
+pub learned_none : {X C : Type 0} (value : C → ℤ) (step : X → ℤ → X → Type 0) (passes : X → Bool) (stands : ℕ → X → Type 0) (found : ℕ) → ((a : ℕ) → a < found → (x : X) × stands a x) → IsLearned value step passes stands found (record { rows = []; goals = [] })
+learned_none {X} {C} value step passes stands found all = record {
+  rows = λ a x h s. absurd (omega (arith, h));
+  goals = λ a x h s. absurd (omega (arith, h));
+  even = refl;
+  below = omega arith;
+  all = all;
+  inside = λ a b c h. none a b c h;
+}
+  where
+    none : (a b : ℕ) (c : C) → Contains (row_of (record { rows = []; goals = [] }) a) (b, c) → b < found
+    none zero b c h = absurd (in_none (b, c) h)
+    none (suc a) b c h = absurd (in_none (b, c) h)
+
+-- one number alone was found
+pub first_alone : {X : Type 0} (stands : ℕ → X → Type 0) (found : ℕ) → found ≡ 1 → (x : X) × stands 0 x → (a : ℕ) → a < found → (x : X) × stands a x
+first_alone stands found e s zero h = s
+first_alone stands found e s (suc a) h = absurd (omega (arith, e, h))
+
+-- what a caller sees of these parts
+abbrev pub seen : {N C F S : Type 0} → List (List N × C) → Bool → F → S → List N → KnownGraph C → Bool → List (Plan C) → Option (Plan C) → Bool → PathWalk N C F S
+seen given refused successors success nodes known has_begun waiting chosen is_given = record { given = given; refused = refused; successors = successors; success = success; nodes = nodes; known = known; has_begun = has_begun; waiting = waiting; chosen = chosen; is_given = is_given }
+
+module _ {N C F S I J : Type 0} (eq : N → N → Bool) (laws : IsEquivalence eq) (value : C → ℤ) (becomes : I → J → Type 0) (can : J → Type 0) (left : J → Count) (next : J → Option (N × C) → J → Type 0) (calls : Mut F (Bor N × Unit {0}) I) (tests : Mut S (Bor N × Unit {0}) Bool)
+    (edges : N → List (N × ℤ)) (start : N) (test : N → Bool) where
+  abbrev graph : NodeGraph N
+  graph = record { starts = start ∷ []; edges = edges }
+
+  abbrev Answering : TestedGraph N → List N → F → S → Type 0
+  Answering = Searches eq value becomes can left next calls tests
+
+  abbrev pub IsOne : PathWalk N C F S → Type 0
+  IsOne walk = IsPathWalk eq value edges start test Answering walk
+
+  -- the mark of a refusal is no part of what a walk is
+  pub marked : (s : PathWalk N C F S) (b : Bool) → IsOne s → IsOne (record s { refused = b })
+  marked s b w = record { explored = w.explored; costs = w.costs; begins = w.begins; learned = w.learned; under_way = w.under_way }
+
+  -- a call of `next` is a step, which marks a refusal
+  pub step_of : {A : Type 0} (fits : ℤ → Type 0) (s t : PathWalk N C F S) (r : Result (Option (Vec N A × C)) PathError) → s.refused ≡ false → IsOne t × PathTurn eq value edges start test fits s r t
+      → IsOne (record t { refused = is_err r }) × PathStep eq value edges start test fits s (result_transpose r) (record t { refused = is_err r })
+  step_of fits s t (Ok (Some x)) h (w, q) = (marked t false w, (h, refl, q.0, q.1))
+  step_of fits s t (Ok None) h (w, q) = (marked t false w, (inr q.0, sym h, q.1))
+  step_of fits s t (Err x) h (w, q) = (marked t true w, (h, refl, q.0, q.1))
+
+  module _ (s : PathWalk N C F S) (w : IsOne s) where
+    one : (i j : ℕ) (x : N) → StandsFor eq s.nodes i x → StandsFor eq s.nodes j x → i ≡ j
+    one = StandsFor-one eq laws s.nodes w.explored.0.distinct
+
+    pub costs : IsNonNegative (IsStep eq (record { starts = start ∷ []; edges = edges }))
+    costs = no_negative eq laws graph w.explored.0.alike w.costs
+
+    pub some_found : 0 < length s.nodes
+    some_found = StandsFor-inside eq s.nodes 0 start ((w.begins start).1 (laws.refl start))
+
+    -- more was learned
+    pub learned_on : (nodes : List N) (known : KnownGraph C) (f : F) (p : S) → Grows (length s.nodes) (length nodes) (StandsFor eq s.nodes) (StandsFor eq nodes) → Answering (record { graph = record { starts = start ∷ []; edges = edges }; test = test }) nodes f p
+        → IsLearned value (IsStep eq (record { starts = start ∷ []; edges = edges })) test (StandsFor eq nodes) (length nodes) known → s.has_begun ≡ false → IsOne (record s { nodes = nodes; known = known; successors = f; success = p })
+    learned_on nodes known f p grows explored learned fresh =
+        let t : PathWalk N C F S = record s { nodes = nodes; known = known; successors = f; success = p } in
+        let u : IsUnderWay eq value edges start test s false = subst (λ (b : Bool). IsUnderWay eq value edges start test s b) fresh w.under_way in
+        record {
+          explored = explored;
+          costs = w.costs;
+          begins = λ x. ((λ h. (w.begins x).0 (grows.back 0 x some_found h)), (λ e. grows.stays 0 x ((w.begins x).1 e)));
+          learned = learned;
+          under_way = subst (λ (b : Bool). IsUnderWay eq value edges start test t b) (sym fresh) u;
+        }
+
+    -- where a path was looked for, all is known
+    pub all_known : s.has_begun ≡ true → length s.nodes ≤ length s.known.rows
+    all_known h = let u : IsUnderWay eq value edges start test s true = subst (λ (b : Bool). IsUnderWay eq value edges start test s b) h w.under_way in u.0
+
+    planned : s.has_begun ≡ true → IsPlanned eq value s.nodes s.known s.given s.waiting s.chosen s.is_given
+    planned h = let u : IsUnderWay eq value edges start test s true = subst (λ (b : Bool). IsUnderWay eq value edges start test s b) h w.under_way in u.1
+
+    -- where none was looked for, none was given
+    fresh_is : s.has_begun ≡ false → (s.given ≡ []) × (s.waiting ≡ []) × (s.chosen ≡ None) × (s.is_given ≡ false)
+    fresh_is h = subst (λ (b : Bool). IsUnderWay eq value edges start test s b) h w.under_way
+
+    pub fresh_plans : s.has_begun ≡ false → (s.waiting ≡ []) × (s.is_given ≡ false)
+    fresh_plans h = let u = fresh_is h in (u.1, u.3)
+
+    pub some_partition : s.has_begun ≡ true → (before : List (List ℕ)) × IsPartition value s.known (as_list s.chosen ++ s.waiting) before
+    some_partition h = let p = planned h in (p.before, p.partition)
+
+    module _ (all : length s.nodes ≤ length s.known.rows) where
+      pub whole : IsWhole value s.known
+      whole = learned_whole value (IsStep eq (record { starts = start ∷ []; edges = edges })) test (length s.nodes) (StandsFor eq s.nodes) s.known costs w.learned all
+
+      pub some_known : 0 < length s.known.rows
+      some_known = let f = some_found in omega (arith, f, all)
+
+      -- a plan was chosen, or the call was refused
+      pub chose : {U : Type 0} (r : Result U PathError) (begun : Bool) (waiting : List (Plan C)) (chosen : Option (Plan C)) (gone : Bool) → OnOk r ((begun ≡ true) × (gone ≡ false))
+          → OnOk r (IsFirst value s.is_given s.chosen s.waiting → s.has_begun ≡ true → IsFirst value false chosen waiting) → OnOk r (s.has_begun ≡ true → GoesOn value s.known (as_list s.chosen ++ s.waiting) (as_list chosen ++ waiting) (last_given s.is_given s.chosen))
+          → OnOk r (s.has_begun ≡ false → IsPartition value s.known (as_list chosen ++ waiting) [] × (waiting ≡ [])) → OnErr r ((chosen ≡ s.chosen) × (waiting ≡ s.waiting) × (gone ≡ s.is_given) × (begun ≡ s.has_begun))
+          → IsOne (record s { has_begun = begun; waiting = waiting; chosen = chosen; is_given = gone })
+      chose (Ok x) begun waiting chosen gone b first on begins kept =
+          let t : PathWalk N C F S = record s { has_begun = begun; waiting = waiting; chosen = chosen; is_given = gone } in
+          let now : IsPlanned eq value s.nodes s.known s.given waiting chosen false = elim (bool_dec s.has_begun) as (λ _. IsPlanned eq value s.nodes s.known s.given waiting chosen false) [
+            | inl h ↦ let p = planned h in went_on eq laws value s.nodes s.known s.given s.waiting waiting s.chosen chosen s.is_given p (on h) (first p.first h)
+            | inr h ↦
+                let u = fresh_is h in
+                let q = begins h in
+                subst (λ (v : List (List N × C)). IsPlanned eq value s.nodes s.known v waiting chosen false) (sym u.0) (planned_first eq laws value s.nodes s.known waiting chosen q.1 q.0)
+          ] in
+          record {
+            explored = w.explored;
+            costs = w.costs;
+            begins = w.begins;
+            learned = w.learned;
+            under_way = subst (λ (v : Bool). IsUnderWay eq value edges start test t v) (sym b.0) (all, subst (λ (v : Bool). IsPlanned eq value s.nodes s.known s.given waiting chosen v) (sym b.1) now);
+          }
+      chose (Err e) begun waiting chosen gone b first on begins kept =
+          record { explored = w.explored; costs = w.costs; begins = w.begins; learned = w.learned; under_way = rw (kept.0, kept.1, kept.2, kept.3) w.under_way }
+
+      none_last : s.given ≡ [] → (before : List (List ℕ)) → AllZip (λ (q : List ℕ) (h : List N × C). AllZip (StandsFor eq s.nodes) q h.0 × IsCleanNumbers value s.known q (value h.1)) (before ++ last_given s.is_given s.chosen) s.given → last_given s.is_given s.chosen ≡ []
+      none_last e before z = zip_none (λ (q : List ℕ) (h : List N × C). AllZip (StandsFor eq s.nodes) q h.0 × IsCleanNumbers value s.known q (value h.1)) before (last_given s.is_given s.chosen) (rw e at z)
+
+      -- why none was chosen
+      pub refused_for : {U : Type 0} (r : Result U PathError) (fits : ℤ → Type 0)
+          → (r ≡ Err PathError.CostOverflow → MatchBool s.has_begun (IsPastAlong value s.known fits) (IsTooDear (KnownStep value s.known) (is_goal s.known) (StandsForItself (length s.known.rows) 0) (StandsForItself (length s.known.rows)) fits))
+          → OnErr r (s.has_begun ≡ true → ¬ (last_given s.is_given s.chosen ≡ [])) → IfErr r (λ e. (e ≡ PathError.OutOfMemory) ⊎ (e ≡ PathError.CostOverflow)) → IfErr r (RefusedFor eq edges start test value fits s.given)
+      refused_for (Ok x) fits past due why = tt
+      refused_for (Err e) fits past due (inl m) = inl m
+      refused_for (Err e) fits past due (inr m) =
+          let over = past (ap Err m) in
+          elim (bool_dec s.has_begun) as (λ _. RefusedFor eq edges start test value fits s.given e) [
+            | inl h ↦
+                let d : IsPastAlong value s.known fits = rw h at over in
+                let p = planned h in
+                inr (m, path_past eq laws s.nodes one edges start test w.explored.0.alike w.begins value s.known w.learned all fits d, λ none. absurd (due h (none_last none p.before p.given_are)))
+            | inr h ↦
+                let d = past_first value fits s.known (length s.known.rows) (rw h at over) in
+                inr (m, path_past eq laws s.nodes one edges start test w.explored.0.alike w.begins value s.known w.learned all fits d.0, λ _. first_past eq laws s.nodes one edges start test w.explored.0.alike w.begins value s.known w.learned all fits d.0 costs d.1.0 d.1.1)
+          ]
+
+    module _ (begun : s.has_begun ≡ true) (new : s.is_given ≡ false) where
+      ready : IsPlanned eq value s.nodes s.known s.given s.waiting s.chosen false
+      ready = subst (λ (b : Bool). IsPlanned eq value s.nodes s.known s.given s.waiting s.chosen b) new (planned begun)
+
+      -- where no plan is left, all was given
+      pub none_left : s.chosen ≡ None → s.waiting ≡ [] → AllGiven eq edges start test value s.given
+      none_left e f =
+          let p : IsPlanned eq value s.nodes s.known s.given [] None false = rw (e, f) at ready in
+          all_given eq laws value s.nodes s.known one edges start test w.explored.0.alike w.begins (whole (all_known begun)) w.learned (all_known begun) s.given p
+
+      module _ (c : Plan C) (chosen : s.chosen ≡ Some c) where
+        ready_with : IsPlanned eq value s.nodes s.known s.given s.waiting (Some c) false
+        ready_with = subst (λ (o : Option (Plan C)). IsPlanned eq value s.nodes s.known s.given s.waiting o false) chosen ready
+
+        -- the numbers of the chosen path are found ones
+        pub path_inside : (k : ℕ) → Contains c.path k → k < length s.nodes
+        path_inside k h =
+            let r = ready_with in
+            let p = r.partition in
+            let q = p.cheapest c (Contains-head s.waiting c) in
+            let clean = q.clean in
+            elim (Contains-cases clean.rest 0 k (subst (λ (v : List ℕ). Contains v k) clean.is h)) as (λ _. k < length s.nodes) [
+              | inl e ↦ subst (λ (n : ℕ). n < length s.nodes) e some_found
+              | inr i ↦ along clean.rest 0 (value c.cost) clean.goes k i
+            ]
+          where
+            along : (v : List ℕ) (a : ℕ) (u : ℤ) → GoesAlong (KnownStep value s.known) a v u → (n : ℕ) → Contains v n → n < length s.nodes
+            along [] a u g n i = absurd (in_none n i)
+            along (b ∷ v) a u g n i = elim (Contains-cases v b n i) as (λ _. n < length s.nodes) [
+              | inl e ↦ let t = g.2 in let l = w.learned in subst (λ (m : ℕ). m < length s.nodes) e (l.inside a b t.0 t.1)
+              | inr j ↦ along v b g.1 g.3 n j
+            ]
+
+        -- the chosen path is given
+        pub gives : (path : List N) → AllZip (StandsFor eq s.nodes) c.path path → IsNextPath eq edges start test value s.given path c.cost × IsOne (record s { given = s.given ++ (path, c.cost) ∷ []; is_given = true })
+        gives path z =
+            let t : PathWalk N C F S = record s { given = s.given ++ (path, c.cost) ∷ []; is_given = true } in
+            let all = all_known begun in
+            let done : IsPlanned eq value s.nodes s.known (s.given ++ (path, c.cost) ∷ []) s.waiting s.chosen true = subst (λ (o : Option (Plan C)). IsPlanned eq value s.nodes s.known (s.given ++ (path, c.cost) ∷ []) s.waiting o true) (sym chosen) (gave eq laws value s.nodes s.known s.given s.waiting c path ready_with z) in (
+              next_is eq laws value s.nodes s.known one edges start test w.explored.0.alike w.begins (whole all) w.learned all s.given s.waiting c path ready_with z,
+              record {
+                explored = w.explored;
+                costs = w.costs;
+                begins = w.begins;
+                learned = w.learned;
+                under_way = subst (λ (b : Bool). IsUnderWay eq value edges start test t b) (sym begun) (all, done);
+              },
+            )
+
+module _ {N C F S A : Type 0} (value : C → ℤ) (edges : N → List (N × ℤ)) (start : N) (test : N → Bool) (eq : N → N → Bool) (fits : ℤ → Type 0) where
+  -- a step was refused, for this
+  pub turn_refused : (s t : PathWalk N C F S) (r : Result (Option (Vec N A × C)) PathError) (refusal : PathError) → IsErrAnd r (λ e. e ≡ refusal) → RefusedFor eq edges start test value fits s.given refusal → t.given ≡ s.given → PathTurn eq value edges start test fits s r t
+  turn_refused s t (Ok x) refusal e f same = absurd e
+  turn_refused s t (Err x) refusal e f same = (subst (λ (y : PathError). RefusedFor eq edges start test value fits s.given y) (sym e) f, same)
+
+  -- what a step gives rests on the given paths alone
+  pub turn_same : (s u t : PathWalk N C F S) (r : Result (Option (Vec N A × C)) PathError) → u.given ≡ s.given → PathTurn eq value edges start test fits u r t → PathTurn eq value edges start test fits s r t
+  turn_same s u t (Ok (Some x)) e q = subst (λ (v : List (List N × C)). IsNextPath eq edges start test value v x.0.items x.1 × (t.given ≡ v ++ (x.0.items, x.1) ∷ [])) e q
+  turn_same s u t (Ok None) e q = subst (λ (v : List (List N × C)). AllGiven eq edges start test value v × (t.given ≡ v)) e q
+  turn_same s u t (Err x) e q = subst (λ (v : List (List N × C)). RefusedFor eq edges start test value fits v x × (t.given ≡ v)) e q

@@ -1,0 +1,34 @@
+use Rattle.std.proofs.Common.{rules, ◌≡◌, refl, sym, ap, subst, Err, length}
+use Rattle.pf_base.specs.declared.error.PathError.TheVariants.{CostOverflow}
+use Rattle.pf_core.specs.Steps.{IsTooDear}
+use Rattle.pf_yen.specs.Known.{KnownGraph, is_goal}
+use Rattle.pf_yen.specs.Narrow.{NarrowGraph, NarrowStep, StandsForItself}
+use Rattle.pf_yen.proofs.NarrowWalks.{narrow_from_zero, none_left, best_clean, best_member, best_least}
+use Rattle.pf_yen.proofs.classes.least_of_class.Goals as goal
+
+pub returns-in_err-answer-clause-overflow : goal.returns-in_err-answer-clause-overflow
+returns-in_err-answer-clause-overflow g c = λ e.
+    let s = c.args.narrowed.now in
+    let here : NarrowGraph g.row.C.Denot = record { known = s.known.now; onward = s.onward.items; spur = s.spur; banned = s.banned.items } in
+    let x = c.in_err-answer.ensures.graph here (refl, c.requires.whole.inside, c.requires.wide) in
+    let f : c.in_err-answer.field-0.0 ≡ CostOverflow = search rules in
+    let d = c.in_err-answer.ensures.overflow here (refl, c.requires.whole.inside, c.requires.wide) (narrow_from_zero g.C.Number.value here c.requires.whole) (ap Err f) in
+    subst (λ (k : KnownGraph g.row.C.Denot). IsTooDear (NarrowStep g.C.Number.value here) (is_goal s.known.now) (StandsForItself (length s.known.now.rows) 0) (StandsForItself (length k.rows)) g.C.Number.fits) (sym (ap (λ (h : NarrowGraph g.row.C.Denot). h.known) x.0)) d
+
+pub returns-in-None-clause-least : goal.returns-in-None-clause-least
+returns-in-None-clause-least g c = λ q n.
+    let s = c.args.narrowed.now in
+    let here : NarrowGraph g.row.C.Denot = record { known = s.known.now; onward = s.onward.items; spur = s.spur; banned = s.banned.items } in
+    let b = rw c.in-None.is at (c.in_ok-answer.ensures.best here (refl, c.requires.whole.inside, c.requires.wide) (narrow_from_zero g.C.Number.value here c.requires.whole)) in
+    none_left g.C.Number.value here q n _ c.requires.some b
+
+pub returns-clause-least : goal.returns-clause-least
+returns-clause-least g c = λ q n.
+    let s = c.args.narrowed.now in
+    let here : NarrowGraph g.row.C.Denot = record { known = s.known.now; onward = s.onward.items; spur = s.spur; banned = s.banned.items } in
+    let b = rw c.in-Some.is at (c.in_ok-answer.ensures.best here (refl, c.requires.whole.inside, c.requires.wide) (narrow_from_zero g.C.Number.value here c.requires.whole)) in
+    record {
+      clean = best_clean g.C.Number.value here q n _ _ c.requires.some _ _ b;
+      member = best_member g.C.Number.value here q n _ _ c.requires.some _ _ b;
+      least = best_least g.C.Number.value here q n _ _ c.requires.some _ _ b;
+    }

@@ -1,0 +1,75 @@
+use Rattle.std.proofs.Common.{rules, ◌≡◌, ◌∙◌, sym, ap, subst, length, arith, take, drop, map, ◌++◌, [], ◌∷◌, Err, List, ℕ, ◌<◌, ◌+◌, Some}
+use Rattle.std.specs.Prelude.{slice_set, slice_index_or}
+use Rattle.std.proofs.lemmas.List.{length-set, map-append}
+use Rattle.pf_base.specs.declared.error.PathError.TheVariants.{CostOverflow}
+use Rattle.pf_yen.specs.declared.candidate.Candidate.{Candidate}
+use Rattle.pf_yen.specs.Known.{KnownGraph}
+use Rattle.pf_yen.specs.Narrow.{NarrowGraph}
+use Rattle.pf_yen.specs.Classes.{IsNarrowedTo, IsSplitUpTo, IsPastAlong, plan_of}
+use Rattle.pf_yen.proofs.SplitLemmas.{narrowed_on, spur_inside, split_first, split_none, split_some, split_last, past_along}
+use Rattle.pf_yen.proofs.classes.split.Goals.{in-Some+in_ok-push-2, in_default}
+use Rattle.pf_yen.proofs.classes.split.Goals as goal
+
+pub places-init : goal.places-init
+places-init g c =
+    let e = c.in_ok-narrowed.ensures in
+    let value = g.C.Number.value in
+    record {
+      known = e.known;
+      wide = e.wide;
+      narrowed = rw c.deref.ensures.value at e.narrowed;
+      split =
+          let b : c.extend_from_slice.new.self.items ≡ c.args.candidate.now.banned.items = c.in_ok-extend_from_slice.ensures.items ∙ ap (λ (v : List ℕ). v ++ c.deref-2.result.now) e.banned ∙ c.deref-2.ensures.value in
+          rw (b, c.new-plans.ensures.items) (split_first value c.args.known.now c.requires.whole (plan_of c.args.candidate.now) c.requires.cheapest);
+    }
+
+pub returns-in_err-plan-clause-overflow : goal.returns-in_err-plan-clause-overflow
+returns-in_err-plan-clause-overflow g c = λ x.
+    let i = c.places.invariant in
+    let s = c.places.narrowed in
+    let here : NarrowGraph g.row.C.Denot = record { known = s.known.now; onward = s.onward.items; spur = s.spur; banned = c.push.new.self.items } in
+    let f : c.in_err-plan.field-0.0 ≡ CostOverflow = search rules in
+    subst (λ (k : KnownGraph g.row.C.Denot). IsPastAlong g.C.Number.value k g.C.Number.fits) i.known (past_along g.C.Number.value g.C.Number.fits here (length s.known.now.rows) (c.in_err-plan.ensures.overflow (ap Err f)))
+
+pub go_on-requires : goal.go_on-requires
+go_on-requires g c =
+    let i = c.places.invariant in
+    let e = c.in_ok-plan.ensures in
+    rw (e.onward, e.spur) (spur_inside c.args.known.now c.places.narrowed.onward.items c.places.narrowed.spur _ i.narrowed)
+
+pub places-preserved : goal.places-preserved
+places-preserved g c =
+    let value = g.C.Number.value in
+    let i = c.places.invariant in
+    let e = c.in_ok-plan.ensures in
+    let o = c.go_on.ensures in
+    let s = c.places.narrowed in
+    let h = c.requires.cheapest in
+    let n = c.index-next.result.now in
+    let at : n ≡ slice_index_or c.args.candidate.now.path.items (c.places.place + 1) n = c.index-next.ensures in
+    let inside : c.places.place + 1 < length c.args.candidate.now.path.items = let l : c.len-place-end.result ≡ length c.args.candidate.now.path.items = search rules in omega (arith, l, c.places-test.true) in
+    let banned : c.push.new.self.items ≡ s.banned.items ++ slice_index_or c.args.candidate.now.path.items (c.places.place + 1) n ∷ [] = c.in_ok-push.ensures.items ∙ ap (λ (m : ℕ). s.banned.items ++ m ∷ []) at in
+    record {
+      known = o.known ∙ e.known ∙ i.known;
+      wide = ap length o.onward ∙ length-set _ _ _ ∙ ap length e.onward ∙ i.wide;
+      narrowed = rw (o.onward, o.spur, e.onward, e.spur) (subst (λ (m : ℕ). IsNarrowedTo c.args.known.now (slice_set s.onward.items s.spur (Some m)) m (take (c.places.place + 1) (drop 1 c.args.candidate.now.path.items))) (sym at)
+          (narrowed_on value c.args.known.now c.requires.whole c.args.candidate.now.path.items (value c.args.candidate.now.cost) c.places.place n s.onward.items s.spur h.clean inside i.wide i.narrowed));
+      split = rw (o.banned, e.banned) (elim c.match-branch-5.branch as (λ _. IsSplitUpTo value c.args.known.now (plan_of c.args.candidate.now) (c.places.place + 1) [] (map plan_of c.match-branch-5.plans.items)) [
+        | in-Some+in_ok-push-2 w ↦
+            let b = rw w.in-Some.is at (e.least (take c.places.place (drop 1 c.args.candidate.now.path.items)) (rw i.known i.narrowed)) in
+            let p = rw w.in-Some.is at e.parts in
+            let m = ap (λ (v : List (Candidate g.row.C.Denot g.row.A.Denot)). map plan_of v) (ap (λ x. x.items) w.plans-is ∙ w.in_ok-push-2.ensures.items) ∙ map-append plan_of c.places.plans.items (w.in-Some.plan ∷ []) in
+            rw m (split_some value c.args.known.now c.requires.whole (plan_of c.args.candidate.now) h c.places.place n s.banned.items (map plan_of c.places.plans.items) i.split inside (plan_of w.in-Some.plan)
+            (rw (i.known, banned) at b) p.0 (p.1 ∙ banned))
+        | in_default w ↦
+            let b = rw w.in_default.is at (e.least (take c.places.place (drop 1 c.args.candidate.now.path.items)) (rw i.known i.narrowed)) in
+            let m = ap (λ x. x.items) w.plans-is in
+            rw m (split_none value c.args.known.now c.requires.whole (plan_of c.args.candidate.now) h c.places.place n s.banned.items (map plan_of c.places.plans.items) i.split inside (rw (i.known, banned) at b))
+      ]);
+    }
+
+pub returns-clause-split : goal.returns-clause-split
+returns-clause-split g c =
+    let i = c.places.invariant in
+    split_last g.C.Number.value c.args.known.now c.requires.whole (plan_of c.args.candidate.now) c.requires.cheapest c.places.place c.places.narrowed.banned.items (map plan_of c.places.plans.items) i.split
+    (let l : c.len-place-end.result ≡ length c.args.candidate.now.path.items = search rules in omega (arith, l, c.places-test.false))

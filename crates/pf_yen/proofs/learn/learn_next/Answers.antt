@@ -1,0 +1,73 @@
+use Rattle.std.proofs.Common.{rules, ◌≡◌, ◌<◌, ◌∙◌, sym, arith, inl, inr, true, false, ℕ, length}
+use Rattle.std.specs.Prelude.{Contains}
+use Rattle.pf_core.specs.Numbered.{ListsSteps}
+use Rattle.pf_core.proofs.ListLemmas.{ok_or_err}
+use Rattle.pf_yen.specs.Learned.{LiveStep, IsLearned}
+use Rattle.pf_yen.proofs.NarrowLemmas.{in_none}
+use Rattle.pf_yen.proofs.LearnLemmas.{learned_grow, learned_add, lists_live, lists_none}
+use Rattle.pf_yen.proofs.learn.learn_next.Goals.{then-not-goal+in_ok-expand, else-not-goal}
+use Rattle.pf_yen.proofs.learn.learn_next.Goals as goal
+
+pub returns-in_err-expand-clause-learned : goal.returns-in_err-expand-clause-learned
+returns-in_err-expand-clause-learned g c = λ h x l.
+    let value = g.C.Number.value in
+    let step = g.G.NumberedGraph.step h in
+    let passes = g.G.NumberedGraph.passes h in
+    let k = c.args.known.now in
+    let b = c.is_goal-goal.ensures in
+    let x1 = (b.graph h x).0 in
+    let l1 = learned_grow value step passes _ _ _ _ b.grows (g.met.G.NumberedGraph.one_law _ h x1) (λ a low high. absurd (omega (arith, low, high, b.same))) k l in
+    let e = c.in_err-expand.ensures in
+    let same = e.refused.1 in
+    learned_grow value step passes _ _ _ _ e.grows (g.met.G.NumberedGraph.one_law _ h (e.graph h x1)) (λ a low high. absurd (omega (arith, low, high, same))) k l1
+
+pub returns-clause-learned : goal.returns-clause-learned
+returns-clause-learned g c = λ h x l.
+    let value = g.C.Number.value in
+    let step = g.G.NumberedGraph.step h in
+    let passes = g.G.NumberedGraph.passes h in
+    let stands = g.G.NumberedGraph.stands in
+    let found = g.G.NumberedGraph.found in
+    let k = c.args.known.now in
+    let n = length k.rows in
+    let number : c.len-number.result ≡ n = c.len-number.ensures in
+    let b = c.is_goal-goal.ensures in
+    let x1 = (b.graph h x).0 in
+    let told = rw number at (b.graph h x).1 in
+    let l1 = learned_grow value step passes _ _ _ _ b.grows (g.met.G.NumberedGraph.one_law _ h x1) (λ a low high. absurd (omega (arith, low, high, b.same))) k l in
+    let near : n < found c.is_goal-goal.new.self = omega (arith, c.requires.inside, b.same) in
+    let p : IsLearned value step passes (stands c.if-not-goal.graph) (found c.if-not-goal.graph) k
+    × (((y : g.G.NumberedGraph.Node) → stands c.if-not-goal.graph n y → ListsSteps value (LiveStep value step passes) (stands c.if-not-goal.graph) y c.if-not-goal.row.items × (c.is_goal-goal.result ≡ passes y))
+    × (((j : ℕ) (d : g.row.C.Denot) → Contains c.if-not-goal.row.items (j, d) → j < found c.if-not-goal.graph)
+    × (n < found c.if-not-goal.graph))) = elim c.if-not-goal.branch as (λ _. IsLearned value step passes (stands c.if-not-goal.graph) (found c.if-not-goal.graph) k
+    × (((y : g.G.NumberedGraph.Node) → stands c.if-not-goal.graph n y → ListsSteps value (LiveStep value step passes) (stands c.if-not-goal.graph) y c.if-not-goal.row.items × (c.is_goal-goal.result ≡ passes y))
+    × (((j : ℕ) (d : g.row.C.Denot) → Contains c.if-not-goal.row.items (j, d) → j < found c.if-not-goal.graph)
+    × (n < found c.if-not-goal.graph)))) [
+      | then-not-goal+in_ok-expand w ↦
+          let f : c.is_goal-goal.result ≡ false = search rules in
+          let e = w.in_ok-expand.ensures in
+          let x2 = e.graph h x1 in
+          let m = rw number at e.listed in
+          let y = l1.all n near in
+          let lists = m.4 h x1 in
+          rw (w.graph-is, w.row-is, m.1) (
+            learned_grow value step passes _ _ _ _ e.grows (g.met.G.NumberedGraph.one_law _ h x2) (λ a low high. let d = m.3 a low high in let s = lists y.0 y.1 in let z = s.sound a d.0 d.1 in (z.0, z.2)) k l1,
+            (
+              (λ z s. let s1 = e.grows.back n z near s in let s0 = b.grows.back n z c.requires.inside s1 in (lists_live value step passes _ z m.0 (sym (told z s0) ∙ f) (lists z s1), told z s0)),
+              (m.2, omega (arith, near, e.grows.more)),
+            ),
+          )
+      | else-not-goal w ↦
+          let t : c.is_goal-goal.result ≡ true = search rules in
+          rw (w.graph-is, w.row-is, c.new-row.ensures.items) (
+            l1,
+            (
+              (λ z s. let s0 = b.grows.back n z c.requires.inside s in (lists_none value step passes _ z (sym (told z s0) ∙ t), told z s0)),
+              ((λ j d q. absurd (in_none (j, d) q)), near),
+            ),
+          )
+    ] in
+    elim (ok_or_err c.add.result c.add.ensures.added c.add.ensures.kept) as (λ _. IsLearned value step passes (stands c.if-not-goal.graph) (found c.if-not-goal.graph) c.add.new.self) [
+      | inl a ↦ rw a (learned_add value step passes (found c.if-not-goal.graph) (stands c.if-not-goal.graph) k c.if-not-goal.row.items c.is_goal-goal.result p.0 p.1.1.1 p.1.0 p.1.1.0)
+      | inr a ↦ rw a p.0
+    ]

@@ -1,0 +1,29 @@
+use Rattle.std.proofs.Common.{rules, ◌≡◌, true, map, ◌++◌}
+use Rattle.std.specs.BinaryHeap.{heap_items}
+use Rattle.std.proofs.lemmas.List.{map-append}
+use Rattle.std.proofs.lemmas.List.Sorted.{IsPermutation-map}
+use Rattle.pf_core.proofs.ListLemmas.{Contains-head}
+use Rattle.pf_yen.specs.Classes.{plan_of}
+use Rattle.pf_yen.specs.Plans.{GoesOn, as_list, chosen_plan, waiting_plans, last_given}
+use Rattle.pf_yen.proofs.PlanLemmas.{split_goes_on, no_change}
+use Rattle.pf_yen.proofs.plans.Plans.split_given.Goals.{in-Some+in_ok-split+in_ok-append, in_default}
+use Rattle.pf_yen.proofs.plans.Plans.split_given.Goals as goal
+
+pub split-requires-clause-cheapest : goal.split-requires-clause-cheapest
+split-requires-clause-cheapest g c = let p = c.requires.partition in let q = rw c.in-Some.is at p.1 in q.cheapest (plan_of c.in-Some.chosen) (Contains-head _ _)
+
+pub returns-clause-goes_on : goal.returns-clause-goes_on
+returns-clause-goes_on g c =
+    let value = g.C.Number.value in
+    let s = c.args.self.now in
+    let t : s.is_given ≡ true = search rules in
+    elim c.match-self.branch as (λ _. GoesOn value c.args.known.now (as_list (chosen_plan s.chosen) ++ waiting_plans (heap_items s.waiting)) (waiting_plans (heap_items c.match-self.self.waiting)) (last_given s.is_given (chosen_plan s.chosen))) [
+      | in-Some+in_ok-split+in_ok-append w ↦
+          let plans = w.in_ok-split.field-0 in
+          let made = w.from-plans.ensures in
+          let m = IsPermutation-map plan_of plans.items (heap_items w.from-plans.result) made.1 in
+          let both : map plan_of (heap_items s.waiting ++ heap_items w.from-plans.result) ≡ map plan_of (heap_items s.waiting) ++ map plan_of (heap_items w.from-plans.result) = map-append plan_of (heap_items s.waiting) (heap_items w.from-plans.result) in
+          let n = rw both at (IsPermutation-map plan_of (heap_items s.waiting ++ heap_items w.from-plans.result) (heap_items w.append.new.self) w.in_ok-append.ensures.permutation) in
+          rw (t, w.in-Some.is, w.self-is) (split_goes_on value c.args.known.now c.requires.whole (plan_of w.in-Some.chosen) (map plan_of (heap_items s.waiting)) (map plan_of plans.items) (map plan_of (heap_items w.from-plans.result)) (map plan_of (heap_items w.append.new.self)) w.in_ok-split.ensures.split m n)
+      | in_default w ↦ rw (t, w.in_default.is, w.self-is) (no_change value c.args.known.now (map plan_of (heap_items s.waiting)))
+    ]

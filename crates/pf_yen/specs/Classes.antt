@@ -1,0 +1,107 @@
+-- Clean paths over numbers, and classes of them.
+--
+-- A class has the clean paths that begin with a prefix and do not go on to a banned number.
+use Rattle.std.specs.Prelude.{◌≡◌, ◌≤ℤ◌, ◌+ℤ◌, ◌<◌, ◌+◌, Some, None, slice_get, Option, ℕ, ℤ, Bool, true, false, not, ◌&&◌, List, [], ◌∷◌, length, take, drop, sum_by, Contains, nat_eq}
+use Rattle.pf_base.specs.Walks.{HasNode, NoRepeats, end_of}
+use Rattle.pf_core.specs.Steps.{GoesAlong}
+use Rattle.pf_yen.specs.declared.candidate.Candidate.{Candidate}
+use Rattle.pf_yen.specs.Known.{KnownGraph, is_goal, KnownStep}
+use Rattle.pf_yen.specs.Narrow.{is_in}
+
+-- whether a path of these numbers is in the class of this prefix and these banned numbers
+abbrev pub is_member : List ℕ → List ℕ → List ℕ → Bool
+is_member [] banned [] = true
+is_member [] banned (x ∷ p) = not (is_in banned x)
+is_member (y ∷ q) banned [] = false
+is_member (y ∷ q) banned (x ∷ p) = nat_eq y x && is_member q banned p
+
+-- 1 where it is true
+abbrev pub one_if : Bool → ℕ
+one_if true = 1
+one_if false = 0
+
+-- a cheapest path of a class: its numbers, what it costs, the place of the last number of the prefix, and the banned numbers
+pub record Plan (C : Type 0) : Type 0 where
+  pub path : List ℕ
+  pub cost : C
+  pub spur : ℕ
+  pub banned : List ℕ
+
+module _ {C : Type 0} where
+  -- 1 where the path is in the class of the plan
+  abbrev pub in_class : List ℕ → Plan C → ℕ
+  in_class p c = one_if (is_member (take (c.spur + 1) c.path) c.banned p)
+
+-- 1 where the path begins with the other one: clean paths are then the same
+abbrev pub is_path : List ℕ → List ℕ → ℕ
+is_path p q = one_if (is_member q [] p)
+
+module _ {C : Type 0} (value : C → ℤ) (k : KnownGraph C) where
+  -- A path from number 0 to a goal, at this cost. As no step leads from a goal, it meets no other goal.
+  pub record IsCleanNumbers (p : List ℕ) (u : ℤ) : Type 0 where
+    pub rest : List ℕ
+    pub is : p ≡ 0 ∷ rest
+    pub goes : GoesAlong (KnownStep value k) 0 rest u
+    pub distinct : NoRepeats nat_eq (0 ∷ rest)
+    pub ends : is_goal k (end_of 0 rest) ≡ true
+
+  -- the path of the plan is in its class, and no path of the class costs less
+  pub record IsCheapestOfClass (c : Plan C) : Type 0 where
+    pub clean : IsCleanNumbers c.path (value c.cost)
+    pub member : is_member (take (c.spur + 1) c.path) c.banned c.path ≡ true
+    pub least : (p : List ℕ) (u : ℤ) → IsCleanNumbers p u → is_member (take (c.spur + 1) c.path) c.banned p ≡ true → value c.cost ≤ℤ u
+    pub inside : c.spur < length c.path
+
+  -- The plans split what is left of the class of a plan without its own path.
+  pub record IsSplit (c : Plan C) (plans : List (Plan C)) : Type 0 where
+    pub cheapest : (d : Plan C) → Contains plans d → IsCheapestOfClass d
+    pub dearer : (d : Plan C) → Contains plans d → value c.cost ≤ℤ value d.cost
+    pub parts : (p : List ℕ) (u : ℤ) → IsCleanNumbers p u → in_class p c ≡ is_path p c.path + sum_by (in_class p) plans
+
+  -- The classes of the plans and the paths that went before have each clean path once.
+  pub record IsPartition (plans : List (Plan C)) (before : List (List ℕ)) : Type 0 where
+    pub cheapest : (c : Plan C) → Contains plans c → IsCheapestOfClass c
+    pub once : (p : List ℕ) (u : ℤ) → IsCleanNumbers p u → sum_by (in_class p) plans + sum_by (is_path p) before ≡ 1
+
+-- of the numbers of a prefix that goes on from a by q, each but the last is no goal and leads on to its next one alone, and the last is the spur
+abbrev pub LeadsOn : {C : Type 0} → KnownGraph C → List (Option ℕ) → ℕ → ℕ → List ℕ → Type 0
+LeadsOn k onward spur a [] = (a ≡ spur) × (slice_get onward a ≡ Some None)
+LeadsOn k onward spur a (b ∷ q) = (slice_get onward a ≡ Some (Some b)) × (is_goal k a ≡ false) × LeadsOn k onward spur b q
+
+-- A graph is narrowed to the walks that begin with the prefix of 0 and q.
+pub record IsNarrowedTo {C : Type 0} (k : KnownGraph C) (onward : List (Option ℕ)) (spur : ℕ) (q : List ℕ) : Type 0 where
+  pub leads : LeadsOn k onward spur 0 q
+  pub free : (x y : ℕ) → ¬ (HasNode nat_eq (0 ∷ q) x) → ¬ (slice_get onward x ≡ Some (Some y))
+
+-- the path costs least of those in the class of the prefix of 0 and q and of the banned numbers
+pub record IsCheapestAlong {C : Type 0} (value : C → ℤ) (k : KnownGraph C) (q banned : List ℕ) (path : List ℕ) (cost : C) : Type 0 where
+  pub clean : IsCleanNumbers value k path (value cost)
+  pub member : is_member (0 ∷ q) banned path ≡ true
+  pub least : (p : List ℕ) (u : ℤ) → IsCleanNumbers value k p u → is_member (0 ∷ q) banned p ≡ true → value cost ≤ℤ u
+
+-- no clean path is in the class of the prefix of 0 and q and of the banned numbers
+abbrev pub HasNoneAlong : {C : Type 0} → (C → ℤ) → KnownGraph C → List ℕ → List ℕ → Type 0
+HasNoneAlong value k q banned = (p : List ℕ) (u : ℤ) → IsCleanNumbers value k p u → is_member (0 ∷ q) banned p ≡ false
+
+-- what a candidate says
+abbrev pub plan_of : {C A : Type 0} → Candidate C A → Plan C
+plan_of c = record { path = c.path.items; cost = c.cost; spur = c.spur; banned = c.banned.items }
+
+-- Some plans were made of the class of a plan, and what is left of it are the paths that go on as its own path does, up to a place, and not to a banned number from there.
+pub record IsSplitUpTo {C : Type 0} (value : C → ℤ) (k : KnownGraph C) (c : Plan C) (place : ℕ) (banned : List ℕ) (plans : List (Plan C)) : Type 0 where
+  pub cheapest : (d : Plan C) → Contains plans d → IsCheapestOfClass value k d
+  pub dearer : (d : Plan C) → Contains plans d → value c.cost ≤ℤ value d.cost
+  pub member : is_member (0 ∷ take place (drop 1 c.path)) banned c.path ≡ true
+  pub parts : (p : List ℕ) (u : ℤ) → IsCleanNumbers value k p u → in_class p c ≡ sum_by (in_class p) plans + one_if (is_member (0 ∷ take place (drop 1 c.path)) banned p)
+
+-- A path from number 0 and one step more, by whichever parallel step, cost more than fits; no parallel steps along the path cost less.
+pub record IsPastAlong {C : Type 0} (value : C → ℤ) (k : KnownGraph C) (fits : ℤ → Type 0) : Type 0 where
+  pub rest : List ℕ
+  pub cost : ℤ
+  pub goes : GoesAlong (KnownStep value k) 0 rest cost
+  pub distinct : NoRepeats nat_eq (0 ∷ rest)
+  pub cheapest : (u : ℤ) → GoesAlong (KnownStep value k) 0 rest u → cost ≤ℤ u
+  pub next : ℕ
+  pub price : ℤ
+  pub edge : KnownStep value k (end_of 0 rest) price next
+  pub too_dear : (z : ℤ) → KnownStep value k (end_of 0 rest) z next → ¬ (fits (cost +ℤ z))

@@ -1,0 +1,49 @@
+-- The k cheapest clean paths.
+use Rattle.std.specs.Prelude.{◌≡◌, ◌⊎◌, ◌≤ℤ◌, ◌<ℤ◌, ◌<◌, ◌≤◌, ◌&&◌, ℕ, ℤ, Bool, true, false, List, [], ◌∷◌, length, map, slice_get, sum_by, Some, Contains, Vec}
+use Rattle.pf_base.specs.Edges.{WalkCosts}
+use Rattle.pf_base.specs.Answers.{SameNodes}
+use Rattle.pf_yen.specs.Classes.{one_if}
+use Rattle.pf_yen.specs.CleanPaths.{IsCleanPath, WasGiven, AllGiven}
+
+-- the paths that these vectors hold, with their costs
+abbrev pub paths_in : {N C A : Type 0} → List (Vec N A × C) → List (List N × C)
+paths_in {N} {C} {A} items = map (λ (g : Vec N A × C). (g.0.items, g.1)) items
+
+-- a path may come before another one: it costs less, or as much with at most as many nodes
+abbrev pub MayComeBefore : {N C : Type 0} → (C → ℤ) → List N × C → List N × C → Type 0
+MayComeBefore value g h = (value g.1 <ℤ value h.1) ⊎ ((value g.1 ≡ value h.1) × (length g.0 ≤ length h.0))
+
+-- whether these are the same nodes, place by place
+abbrev pub same_nodes : {N : Type 0} → (N → N → Bool) → List N → List N → Bool
+same_nodes eq [] [] = true
+same_nodes eq [] (y ∷ ys) = false
+same_nodes eq (x ∷ xs) [] = false
+same_nodes eq (x ∷ xs) (y ∷ ys) = eq x y && same_nodes eq xs ys
+
+-- how often the path is listed
+abbrev pub times_listed : {N C : Type 0} → (N → N → Bool) → List N → List (List N × C) → ℕ
+times_listed {N} {C} eq path answer = sum_by (λ (g : List N × C). one_if (same_nodes eq g.0 path)) answer
+
+module _ {N C : Type 0} (eq : N → N → Bool) (edges : N → List (N × ℤ)) (start : N) (test : N → Bool) (value : C → ℤ) where
+  -- The list has k cheapest clean paths with their costs, or all where there are fewer, by rising cost and then by rising number of nodes. Lists of the same nodes, place by place, are one path.
+  pub record IsKCheapest (k : ℕ) (answer : List (List N × C)) : Type 0 where
+    pub clean : (g : List N × C) → Contains answer g → IsCleanPath eq edges start test g.0
+    pub costs : (g : List N × C) → Contains answer g → WalkCosts eq edges g.0 (value g.1)
+    pub once : (i j : ℕ) (g h : List N × C) → slice_get answer i ≡ Some g → slice_get answer j ≡ Some h → SameNodes eq g.0 h.0 → i ≡ j
+    pub ordered : (i j : ℕ) (g h : List N × C) → i < j → slice_get answer i ≡ Some g → slice_get answer j ≡ Some h → MayComeBefore value g h
+    pub none_cheaper : (path : List N) (u : ℤ) → IsCleanPath eq edges start test path → WalkCosts eq edges path u → ¬ (WasGiven eq edges start test value answer path) → (g : List N × C) → Contains answer g → value g.1 ≤ℤ u
+    pub most : length answer ≤ k
+    pub complete : length answer < k → AllGiven eq edges start test value answer
+
+  -- clean paths with their costs, none listed twice, and no other one costs less
+  pub record AreCheapest (answer : List (List N × C)) : Type 0 where
+    pub clean : (g : List N × C) → Contains answer g → IsCleanPath eq edges start test g.0
+    pub costs : (g : List N × C) → Contains answer g → WalkCosts eq edges g.0 (value g.1)
+    pub once : (path : List N) → times_listed eq path answer ≤ 1
+    pub none_cheaper : (path : List N) (u : ℤ) → IsCleanPath eq edges start test path → WalkCosts eq edges path u → ¬ (WasGiven eq edges start test value answer path) → (g : List N × C) → Contains answer g → value g.1 ≤ℤ u
+
+  -- k cheapest clean paths in any order, or all where there are fewer
+  pub record AreKCheapest (k : ℕ) (answer : List (List N × C)) : Type 0 where
+    pub cheapest : AreCheapest answer
+    pub most : length answer ≤ k
+    pub complete : length answer < k → AllGiven eq edges start test value answer

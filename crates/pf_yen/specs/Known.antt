@@ -1,0 +1,29 @@
+-- What was learned of a graph over numbers.
+use Rattle.std.specs.Prelude.{◌≡◌, ℕ, ℤ, pos, ◌<◌, ◌≤ℤ◌, Bool, true, false, List, [], length, Contains, slice_index_or, refl}
+use Rattle.std.specs.Coded.{Coded, code_by, coded×, coded_bool, coded_ℕ, coded_list}
+
+-- the steps from each number, each as the number of its end and its cost, and which numbers are goals
+pub record KnownGraph (C : Type 0) : Type 0 where
+  pub rows : List (List (ℕ × C))
+  pub goals : List Bool
+
+abbrev pub known_code : {C : Type 0} → Coded C → Coded (KnownGraph C)
+known_code {C} c = code_by (List (List (ℕ × C)) × List Bool) (coded× (coded_list (coded_list (coded× coded_ℕ c))) (coded_list coded_bool)) (λ k. (k.rows, k.goals)) (λ p. record { rows = p.0; goals = p.1 }) (λ _. refl)
+
+module _ {C : Type 0} where
+  -- the steps from a number; none, where nothing is known of it
+  abbrev pub row_of : KnownGraph C → ℕ → List (ℕ × C)
+  row_of k a = slice_index_or k.rows a []
+
+  abbrev pub is_goal : KnownGraph C → ℕ → Bool
+  is_goal k a = slice_index_or k.goals a false
+
+  -- some step leads from a to b and costs z
+  abbrev pub KnownStep : (C → ℤ) → KnownGraph C → ℕ → ℤ → ℕ → Type 0
+  KnownStep value k a z b = (c : C) × Contains (row_of k a) (b, c) × (value c ≡ z)
+
+  -- Each step leads to a known number, none costs less than 0, and none leads from a goal.
+  pub record IsWhole (value : C → ℤ) (k : KnownGraph C) : Type 0 where
+    pub inside : (a b : ℕ) (c : C) → Contains (row_of k a) (b, c) → b < length k.rows
+    pub from_zero : (a b : ℕ) (c : C) → Contains (row_of k a) (b, c) → pos 0 ≤ℤ value c
+    pub stops : (a : ℕ) → is_goal k a ≡ true → row_of k a ≡ []

@@ -1,0 +1,9 @@
+pub mod Known
+pub mod Narrow
+pub mod Classes
+pub mod CleanPaths
+pub mod Given
+pub mod Learned
+pub mod Walk
+pub mod Plans
+pub mod KCheapest

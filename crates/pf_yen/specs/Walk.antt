@@ -1,0 +1,81 @@
+-- What contracts say of the lazy list of clean paths by rising cost.
+use Rattle.std.specs.Prelude.{◌≡◌, ◌⊎◌, ◌≤ℤ◌, ◌≤◌, ◌↔◌, ◌++◌, ℕ, ℤ, Bool, true, false, List, [], ◌∷◌, length, Contains, Option, Some, None, Result, Ok, Err, refl, Vec}
+use Rattle.std.specs.Coded.{Coded, code_by, coded×, coded_bool, coded_ℕ, coded_list, coded_option}
+use Rattle.std.specs.List.{AllZip}
+use Rattle.pf_base.specs.declared.error.PathError.{PathError}
+use Rattle.std.specs.Borrow.{Bor}
+use Rattle.std.specs.Fn.{Mut}
+use Rattle.std.specs.Iterator.{Count}
+use Rattle.pf_base.specs.Answers.{AnswersTest}
+use Rattle.pf_base.specs.Edges.{HasNoNegativeCost, InReach}
+use Rattle.pf_core.specs.Nodes.{TestedGraph, StandsFor, IsStep, Explores}
+use Rattle.pf_yen.specs.Known.{KnownGraph, known_code}
+use Rattle.pf_yen.specs.Classes.{Plan, IsCleanNumbers, IsPartition}
+use Rattle.pf_yen.specs.CleanPaths.{AllGiven, IsNextPath, RefusedFor}
+use Rattle.pf_yen.specs.Learned.{IsLearned}
+use Rattle.pf_yen.specs.Plans.{as_list, last_given, IsFirst}
+
+-- what a caller sees of a walk: the paths given so far, with their costs; whether the last step was refused; the functions that list edges and test nodes; and what was learned and planned so far
+pub record PathWalk (N C F S : Type 0) : Type 0 where
+  pub given : List (List N × C)
+  pub refused : Bool
+  pub successors : F
+  pub success : S
+  pub nodes : List N
+  pub known : KnownGraph C
+  pub has_begun : Bool
+  pub waiting : List (Plan C)
+  pub chosen : Option (Plan C)
+  pub is_given : Bool
+
+abbrev pub plan_code : {C : Type 0} → Coded C → Coded (Plan C)
+plan_code {C} c = code_by (List ℕ × (C × (ℕ × List ℕ))) (coded× (coded_list coded_ℕ) (coded× c (coded× coded_ℕ (coded_list coded_ℕ)))) (λ p. (p.path, (p.cost, (p.spur, p.banned)))) (λ p. record { path = p.0; cost = p.1.0; spur = p.1.1.0; banned = p.1.1.1 }) (λ _. refl)
+
+abbrev pub path_walk_code : {N C F S : Type 0} → Coded N → Coded C → Coded F → Coded S → Coded (PathWalk N C F S)
+path_walk_code {N} {C} {F} {S} n c f s = code_by (List (List N × C) × (Bool × (F × (S × (List N × (KnownGraph C × (Bool × (List (Plan C) × (Option (Plan C) × Bool)))))))))
+    (coded× (coded_list (coded× (coded_list n) c)) (coded× coded_bool (coded× f (coded× s (coded× (coded_list n) (coded× (known_code c) (coded× coded_bool (coded× (coded_list (plan_code c)) (coded× (coded_option (plan_code c)) coded_bool)))))))))
+    (λ w. (w.given, (w.refused, (w.successors, (w.success, (w.nodes, (w.known, (w.has_begun, (w.waiting, (w.chosen, w.is_given))))))))))
+    (λ p. record { given = p.0; refused = p.1.0; successors = p.1.1.0; success = p.1.1.1.0; nodes = p.1.1.1.1.0; known = p.1.1.1.1.1.0; has_begun = p.1.1.1.1.1.1.0; waiting = p.1.1.1.1.1.1.1.0; chosen = p.1.1.1.1.1.1.1.1.0; is_given = p.1.1.1.1.1.1.1.1.1 }) (λ _. refl)
+
+-- The plans that are left and the paths before the chosen one share out the clean paths, these are the given ones, and no given one costs more than a plan.
+pub record IsPlanned {N C : Type 0} (eq : N → N → Bool) (value : C → ℤ) (nodes : List N) (known : KnownGraph C) (given : List (List N × C)) (waiting : List (Plan C)) (chosen : Option (Plan C)) (is_given : Bool) : Type 0 where
+  pub before : List (List ℕ)
+  pub partition : IsPartition value known (as_list chosen ++ waiting) before
+  pub given_are : AllZip (λ (p : List ℕ) (g : List N × C). AllZip (StandsFor eq nodes) p g.0 × IsCleanNumbers value known p (value g.1)) (before ++ last_given is_given chosen) given
+  pub rising : (g : List N × C) (c : Plan C) → Contains given g → Contains (as_list chosen ++ waiting) c → value g.1 ≤ℤ value c.cost
+  pub first : IsFirst value is_given chosen waiting
+
+module _ {N C F S : Type 0} (eq : N → N → Bool) (value : C → ℤ) (edges : N → List (N × ℤ)) (start : N) (test : N → Bool) where
+  -- whether all is planned, or nothing was begun
+  abbrev pub IsUnderWay : PathWalk N C F S → Bool → Type 0
+  IsUnderWay walk false = (walk.given ≡ []) × (walk.waiting ≡ []) × (walk.chosen ≡ None) × (walk.is_given ≡ false)
+  IsUnderWay walk true = (length walk.nodes ≤ length walk.known.rows) × IsPlanned eq value walk.nodes walk.known walk.given walk.waiting walk.chosen walk.is_given
+
+  -- The walk is one of this graph from this start: its functions answer the graph and the test in reach, where no edge costs less than 0, what was learned is so, and so is what was planned.
+  pub record IsPathWalk (explores : TestedGraph N → List N → F → S → Type 0) (walk : PathWalk N C F S) : Type 0 where
+    pub explored : explores (record { graph = record { starts = start ∷ []; edges = edges }; test = test }) walk.nodes walk.successors walk.success
+    pub costs : HasNoNegativeCost eq edges (start ∷ [])
+    pub begins : (x : N) → StandsFor eq walk.nodes 0 x ↔ (eq start x ≡ true)
+    pub learned : IsLearned value (IsStep eq (record { starts = start ∷ []; edges = edges })) test (StandsFor eq walk.nodes) (length walk.nodes) walk.known
+    pub under_way : IsUnderWay walk walk.has_begun
+
+  module _ {A : Type 0} (fits : ℤ → Type 0) where
+    -- what a step of a walk that was not refused before gives, and how it leaves the walk: a path, no path, or a refusal
+    abbrev pub PathTurn : PathWalk N C F S → Result (Option (Vec N A × C)) PathError → PathWalk N C F S → Type 0
+    PathTurn walk (Ok (Some item)) after = IsNextPath eq edges start test value walk.given item.0.items item.1 × (after.given ≡ walk.given ++ (item.0.items, item.1) ∷ [])
+    PathTurn walk (Ok None) after = AllGiven eq edges start test value walk.given × (after.given ≡ walk.given)
+    PathTurn walk (Err refusal) after = RefusedFor eq edges start test value fits walk.given refusal × (after.given ≡ walk.given)
+
+    -- What a call of `next` gives, and how it leaves the walk.
+    -- a path: the next by rising cost, which is the last of the given ones from then on
+    -- no path: the last step was refused, or each clean path was given
+    -- a refusal: the given paths stay
+    abbrev pub PathStep : PathWalk N C F S → Option (Result (Vec N A × C) PathError) → PathWalk N C F S → Type 0
+    PathStep walk (Some (Ok item)) after = (walk.refused ≡ false) × (after.refused ≡ false) × IsNextPath eq edges start test value walk.given item.0.items item.1 × (after.given ≡ walk.given ++ (item.0.items, item.1) ∷ [])
+    PathStep walk None after = ((walk.refused ≡ true) ⊎ AllGiven eq edges start test value walk.given) × (after.refused ≡ walk.refused) × (after.given ≡ walk.given)
+    PathStep walk (Some (Err refusal)) after = (walk.refused ≡ false) × (after.refused ≡ true) × RefusedFor eq edges start test value fits walk.given refusal × (after.given ≡ walk.given)
+
+module _ {N C F S I J : Type 0} (eq : N → N → Bool) (value : C → ℤ) (becomes : I → J → Type 0) (can : J → Type 0) (left : J → Count) (next : J → Option (N × C) → J → Type 0) (calls : Mut F (Bor N × Unit {0}) I) (tests : Mut S (Bor N × Unit {0}) Bool) where
+  -- the functions answer this graph and its test at each node in reach, now and after any calls
+  abbrev pub Searches : TestedGraph N → List N → F → S → Type 0
+  Searches g keys f s = Explores eq value (λ e. e) becomes can left next calls g.graph keys f × AnswersTest tests eq s (InReach eq g.graph.edges g.graph.starts) g.test

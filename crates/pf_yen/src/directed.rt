@@ -1,0 +1,4 @@
+//! Directed graphs.
+
+mod k_cheapest;
+pub mod yen;

@@ -1,0 +1,255 @@
+//! The cheapest paths to goals, one after the other (Yen 1971, Lawler 1972).
+
+ghost use Rattle.std.specs.Prelude.{◌≡◌, ◌≤◌, List, ℤ, Bool, true, false, None, [], ◌∷◌, length, OnOk, OnErr, IfOk, IfErr};
+ghost use Rattle.std.specs.Iterator.{MakesProgress};
+ghost use Rattle.pf_base.specs.Answers.{IsLawfulClone};
+ghost use Rattle.pf_base.specs.Edges.{IsWeightedSearch};
+ghost use Rattle.pf_yen.specs.CleanPaths.{RefusedFor};
+ghost use Rattle.pf_yen.specs.Walk.{IsPathWalk, PathTurn, PathStep, Searches};
+
+pub use crate::directed::k_cheapest::yen;
+use crate::given::Given;
+use crate::known::Known;
+use crate::learn::learn;
+use crate::plans::Plans;
+use pf_base::{Cost, EdgeFunction, NodeTest, PathError};
+use pf_core::discovery::{Discovery, Weighted, clone_of};
+use pf_core::tested::Tested;
+use std::alloc::{Allocator, Global};
+use std::collections::BinaryHeap;
+use std::hash::Hash;
+use std::marker::{Model, PhantomData};
+
+/// The clean paths by rising cost, each as a `Result`: made by `yen_paths`.
+#[derive(Drop)]
+pub struct YenPaths<N: Eq + Hash + Drop, C: Cost, IN, FN, FS, A: Allocator = Global> {
+    graph: Tested<N, Weighted, IN, FN, FS, A>,
+    known: Known<C, A>,
+    plans: Plans<C, A>,
+    given: Given<N, C, A>,
+    refused: bool,
+    alloc: A,
+}
+
+impl<N: Eq + Hash + Drop, C: Cost, IN, FN, FS, A: Allocator> Model
+    for YenPaths<N, C, IN, FN, FS, A> {
+    ghost use Rattle.std.specs.BinaryHeap.{IsHeap, heap_items};
+    ghost use Rattle.pf_yen.specs.Plans.{first_cmp, waiting_plans, chosen_plan};
+    ghost use Rattle.pf_yen.specs.Walk.{PathWalk, path_walk_code};
+
+    ghost Value = { PathWalk N C FN FS };
+
+    ghost coded = { path_walk_code N.code C.code FN.code FS.code };
+
+    ghost view = { λ s. record {
+      given = s.given;
+      refused = s.refused;
+      successors = s.graph.discovery.successors;
+      success = s.graph.success;
+      nodes = s.graph.discovery.nodes.keys;
+      known = s.known;
+      has_begun = s.plans.has_begun;
+      waiting = waiting_plans (heap_items s.plans.waiting);
+      chosen = chosen_plan s.plans.chosen;
+      is_given = s.plans.is_given;
+    } };
+
+    ghost invariant = { λ s. IsHeap (first_cmp C.cmp) (heap_items s.plans.waiting) };
+}
+
+impl<N, C, IN, FN, FS, A> Iterator for YenPaths<N, C, IN, FN, FS, A>
+where
+    N: Eq + Hash + Clone + Drop,
+    C: Cost,
+    IN: IntoIterator<Item = (N, C)>,
+    FN: FnMut(&N) -> IN,
+    FS: FnMut(&N) -> bool,
+    A: Allocator + Copy,
+{
+    type Item = Result<(Vec<N, A>, C), PathError>;
+
+    ghost can_next = { λ s. IsLawfulClone N.eq N.is_clone × ((edges : N → List (N × ℤ)) × (start : N) × (test : N → Bool)
+        × IsPathWalk N.eq C.value edges start test (Searches N.eq C.value IN.into_iter_gives IN.IntoIter.can_next IN.IntoIter.remaining IN.IntoIter.next_gives FN.FnMut FS.FnMut) s) };
+
+    ghost next_gives = { λ s r t. (edges : N → List (N × ℤ)) (start : N) (test : N → Bool)
+        → IsPathWalk N.eq C.value edges start test (Searches N.eq C.value IN.into_iter_gives IN.IntoIter.can_next IN.IntoIter.remaining IN.IntoIter.next_gives FN.FnMut FS.FnMut) s
+        → IsPathWalk N.eq C.value edges start test (Searches N.eq C.value IN.into_iter_gives IN.IntoIter.can_next IN.IntoIter.remaining IN.IntoIter.next_gives FN.FnMut FS.FnMut) t
+        × PathStep N.eq C.value edges start test C.fits s r t };
+
+    fn next(&mut self) -> Option<Result<(Vec<N, A>, C), PathError>>
+        requires { ⟦<YenPaths<N, C, IN, FN, FS, A> as Iterator>⟧.can_next self.old }
+        ensures steps { ⟦<YenPaths<N, C, IN, FN, FS, A> as Iterator>⟧.next_gives self.old result self.new }
+        ensures goes { MakesProgress ⟦<YenPaths<N, C, IN, FN, FS, A> as Iterator>⟧.can_next ⟦<YenPaths<N, C, IN, FN, FS, A> as Iterator>⟧.remaining self.old result self.new }
+        ensures again { ⟦<YenPaths<N, C, IN, FN, FS, A> as Iterator>⟧.can_next self.new }
+    {
+        if self.refused {
+            return None;
+        }
+        let step = self.step();
+        self.refused = step.is_err();
+        step.transpose()
+    }
+}
+
+impl<N, C, IN, FN, FS, A> YenPaths<N, C, IN, FN, FS, A>
+where
+    N: Eq + Hash + Clone + Drop,
+    C: Cost,
+    IN: IntoIterator<Item = (N, C)>,
+    FN: FnMut(&N) -> IN,
+    FS: FnMut(&N) -> bool,
+    A: Allocator + Copy,
+{
+    /// Lets the next call of `next` try again the step that was refused. Where no step was refused
+    /// since the last call of `resume`, this changes nothing.
+    pub fn resume(&mut self)
+        ensures lowered { self.new ≡ record self.old { refused = false } }
+        ensures graph { (edges : N → List (N × ℤ)) (start : N) (test : N → Bool)
+            → IsPathWalk N.eq C.value edges start test (Searches N.eq C.value IN.into_iter_gives IN.IntoIter.can_next IN.IntoIter.remaining IN.IntoIter.next_gives FN.FnMut FS.FnMut) self.old
+            → IsPathWalk N.eq C.value edges start test (Searches N.eq C.value IN.into_iter_gives IN.IntoIter.can_next IN.IntoIter.remaining IN.IntoIter.next_gives FN.FnMut FS.FnMut) self.new }
+    {
+        self.refused = false;
+    }
+
+    /// Learns of the graph, unless a path was looked for before.
+    fn learn_graph(&mut self) -> Result<(), PathError>
+        requires walk { (edges : N → List (N × ℤ)) × (start : N) × (test : N → Bool)
+            × IsPathWalk N.eq C.value edges start test (Searches N.eq C.value IN.into_iter_gives IN.IntoIter.can_next IN.IntoIter.remaining IN.IntoIter.next_gives FN.FnMut FS.FnMut) self.old }
+        ensures walk { (edges : N → List (N × ℤ)) (start : N) (test : N → Bool)
+            → IsPathWalk N.eq C.value edges start test (Searches N.eq C.value IN.into_iter_gives IN.IntoIter.can_next IN.IntoIter.remaining IN.IntoIter.next_gives FN.FnMut FS.FnMut) self.old
+            → IsPathWalk N.eq C.value edges start test (Searches N.eq C.value IN.into_iter_gives IN.IntoIter.can_next IN.IntoIter.remaining IN.IntoIter.next_gives FN.FnMut FS.FnMut) self.new }
+        ensures known { (edges : N → List (N × ℤ)) (start : N) (test : N → Bool)
+            → IsPathWalk N.eq C.value edges start test (Searches N.eq C.value IN.into_iter_gives IN.IntoIter.can_next IN.IntoIter.remaining IN.IntoIter.next_gives FN.FnMut FS.FnMut) self.old
+            → OnOk result (length self.new.nodes ≤ length self.new.known.rows) }
+        ensures given { self.new.given ≡ self.old.given }
+        ensures same { self.new.refused ≡ self.old.refused }
+        ensures refused { IfErr result (λ e. e ≡ PathError.OutOfMemory) }
+    {
+        if self.plans.has_begun {
+            return Ok(());
+        }
+        learn(self.alloc, &mut self.graph, &mut self.known)
+    }
+
+    /// Chooses the plan whose path is to be given next, if there is one.
+    fn choose(&mut self) -> Result<(), PathError>
+        requires walk { (edges : N → List (N × ℤ)) × (start : N) × (test : N → Bool)
+            × IsPathWalk N.eq C.value edges start test (Searches N.eq C.value IN.into_iter_gives IN.IntoIter.can_next IN.IntoIter.remaining IN.IntoIter.next_gives FN.FnMut FS.FnMut) self.old }
+        requires known { length self.old.nodes ≤ length self.old.known.rows }
+        ensures walk { (edges : N → List (N × ℤ)) (start : N) (test : N → Bool)
+            → IsPathWalk N.eq C.value edges start test (Searches N.eq C.value IN.into_iter_gives IN.IntoIter.can_next IN.IntoIter.remaining IN.IntoIter.next_gives FN.FnMut FS.FnMut) self.old
+            → IsPathWalk N.eq C.value edges start test (Searches N.eq C.value IN.into_iter_gives IN.IntoIter.can_next IN.IntoIter.remaining IN.IntoIter.next_gives FN.FnMut FS.FnMut) self.new }
+        ensures given { self.new.given ≡ self.old.given }
+        ensures same { self.new.refused ≡ self.old.refused }
+        ensures begun { OnOk result ((self.new.has_begun ≡ true) × (self.new.is_given ≡ false)) }
+        ensures none { OnOk result (self.new.chosen ≡ None → self.new.waiting ≡ []) }
+        ensures refused { (edges : N → List (N × ℤ)) (start : N) (test : N → Bool)
+            → IsPathWalk N.eq C.value edges start test (Searches N.eq C.value IN.into_iter_gives IN.IntoIter.can_next IN.IntoIter.remaining IN.IntoIter.next_gives FN.FnMut FS.FnMut) self.old
+            → IfErr result (RefusedFor N.eq edges start test C.value C.fits self.old.given) }
+    {
+        self.plans.choose(self.alloc, &self.known)
+    }
+
+    /// Gives the path of the chosen plan, or `None` where there is none.
+    fn give(&mut self) -> Result<Option<(Vec<N, A>, C)>, PathError>
+        requires clones { IsLawfulClone N.eq N.is_clone }
+        requires walk { (edges : N → List (N × ℤ)) × (start : N) × (test : N → Bool)
+            × IsPathWalk N.eq C.value edges start test (Searches N.eq C.value IN.into_iter_gives IN.IntoIter.can_next IN.IntoIter.remaining IN.IntoIter.next_gives FN.FnMut FS.FnMut) self.old }
+        requires ready { (self.old.has_begun ≡ true) × (self.old.is_given ≡ false) }
+        requires none { self.old.chosen ≡ None → self.old.waiting ≡ [] }
+        ensures steps { (edges : N → List (N × ℤ)) (start : N) (test : N → Bool)
+            → IsPathWalk N.eq C.value edges start test (Searches N.eq C.value IN.into_iter_gives IN.IntoIter.can_next IN.IntoIter.remaining IN.IntoIter.next_gives FN.FnMut FS.FnMut) self.old
+            → IsPathWalk N.eq C.value edges start test (Searches N.eq C.value IN.into_iter_gives IN.IntoIter.can_next IN.IntoIter.remaining IN.IntoIter.next_gives FN.FnMut FS.FnMut) self.new × PathTurn N.eq C.value edges start test C.fits self.old result self.new }
+        ensures same { self.new.refused ≡ self.old.refused }
+    {
+        let Some(chosen) = &self.plans.chosen else {
+            return Ok(None);
+        };
+        let path = self.graph.nodes_at(self.alloc, &chosen.path)?;
+        let cost = chosen.cost;
+        self.given = self.given.and(&path, &cost);
+        self.plans.is_given = true;
+        Ok(Some((path, cost)))
+    }
+
+    /// The next path, or `None` where each was given. Where the step is refused, no plan is lost.
+    fn step(&mut self) -> Result<Option<(Vec<N, A>, C)>, PathError>
+        requires clones { IsLawfulClone N.eq N.is_clone }
+        requires walk { (edges : N → List (N × ℤ)) × (start : N) × (test : N → Bool)
+            × IsPathWalk N.eq C.value edges start test (Searches N.eq C.value IN.into_iter_gives IN.IntoIter.can_next IN.IntoIter.remaining IN.IntoIter.next_gives FN.FnMut FS.FnMut) self.old }
+        ensures steps { (edges : N → List (N × ℤ)) (start : N) (test : N → Bool)
+            → IsPathWalk N.eq C.value edges start test (Searches N.eq C.value IN.into_iter_gives IN.IntoIter.can_next IN.IntoIter.remaining IN.IntoIter.next_gives FN.FnMut FS.FnMut) self.old
+            → IsPathWalk N.eq C.value edges start test (Searches N.eq C.value IN.into_iter_gives IN.IntoIter.can_next IN.IntoIter.remaining IN.IntoIter.next_gives FN.FnMut FS.FnMut) self.new × PathTurn N.eq C.value edges start test C.fits self.old result self.new }
+        ensures same { self.new.refused ≡ self.old.refused }
+    {
+        self.learn_graph()?;
+        self.choose()?;
+        self.give()
+    }
+}
+
+/// The clean paths of `start`, lazily, by rising cost: paths from `start` that contain no node twice
+/// and meet a node that passes `success` at their end alone, each once, as clones of nodes, with its
+/// cost. After any number of paths, no clean path that was not given costs less than one that was;
+/// `None` comes exactly when all were given. In which order paths of one cost come is open.
+///
+/// `successors` lists the edges of a node, each as the node that it leads to and its cost; where
+/// several edges lead to one node, a step costs what the cheapest of them costs. It must answer alike
+/// for equal nodes at every call, and no cost in reach of `start` may be negative; `success` must
+/// answer alike too. Both are asked of nodes in reach alone, in the first call of `next`, which goes
+/// through all of them that a clean path may meet: the reach must be finite.
+///
+/// # Errors
+///
+/// This call answers `OutOfMemory` where a request for memory was refused. A step is
+///
+/// - `Err(CostOverflow)` only where a path from `start`, in which no node stands twice, and one step
+///   more, by the cheapest of the parallel edges, cost more than `C` can hold; before the first path
+///   was given, only where that path is also a cheapest one to its end and no node that passes is
+///   cheaper;
+/// - `Err(OutOfMemory)` where a request for memory was refused.
+///
+/// A refused step loses no path; the walk then answers `None` until `resume` is called, and tries the
+/// same step again.
+///
+/// The algorithm is Yen's (J. Y. Yen, "Finding the k shortest loopless paths in a network", 1971),
+/// with the classes of E. L. Lawler, "A procedure for computing the k best solutions", 1972.
+pub fn yen_paths<N, C, IN, FN, FS, A>(
+    alloc: A,
+    start: &N,
+    successors: FN,
+    success: FS,
+) -> Result<YenPaths<N, C, IN, FN, FS, A>, PathError>
+where
+    N: Eq + Hash + Clone + Drop,
+    C: Cost,
+    IN: IntoIterator<Item = (N, C)>,
+    FN: FnMut(&N) -> IN,
+    FS: FnMut(&N) -> bool,
+    A: Allocator + Copy,
+    requires clones { IsLawfulClone N.eq N.is_clone }
+    ensures begins { IfOk result (λ walk. (walk.given ≡ []) × (walk.refused ≡ false) × (walk.successors ≡ successors) × (walk.success ≡ success)) }
+    ensures graph { IfOk result (λ walk. (edges : N → List (N × ℤ)) (test : N → Bool)
+        → IsWeightedSearch N.eq edges (start.now ∷ []) (⟦<FN as EdgeFunction<N, C>>⟧.answers successors) (⟦<FS as NodeTest<N>>⟧.answers success) test
+        → IsPathWalk N.eq C.value edges start.now test (Searches N.eq C.value IN.into_iter_gives IN.IntoIter.can_next IN.IntoIter.remaining IN.IntoIter.next_gives FN.FnMut FS.FnMut) walk) }
+    ensures refused { IfErr result (λ e. e ≡ PathError.OutOfMemory) }
+{
+    let discovery = Discovery {
+        nodes: clone_of(alloc, start)?,
+        successors,
+        form: PhantomData,
+    };
+    Ok(YenPaths {
+        graph: Tested { discovery, success },
+        known: Known::new(alloc),
+        plans: Plans {
+            waiting: BinaryHeap::new(alloc),
+            chosen: None,
+            is_given: false,
+            has_begun: false,
+        },
+        given: Given::nothing(),
+        refused: false,
+        alloc,
+    })
+}

@@ -1,0 +1,11 @@
+//! The cheapest paths of a graph that functions answer, one after the other.
+#![tactic(auto)]
+
+mod candidate;
+mod classes;
+pub mod directed;
+mod given;
+mod known;
+mod learn;
+mod narrowed;
+mod plans;

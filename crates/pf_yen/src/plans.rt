@@ -1,0 +1,121 @@
+//! The candidates that are left, of which one is chosen.
+
+ghost use Rattle.std.specs.Prelude.{◌≡◌, ◌⊎◌, ◌<◌, ◌++◌, List, ℕ, ℤ, [], true, false, None, length, Err, OnOk, OnErr, IfErr, MatchBool};
+ghost use Rattle.std.specs.BinaryHeap.{IsHeap, heap_items};
+ghost use Rattle.pf_core.specs.Steps.{IsTooDear};
+ghost use Rattle.pf_yen.specs.Known.{KnownGraph, IsWhole, KnownStep, is_goal};
+ghost use Rattle.pf_yen.specs.Narrow.{StandsForItself};
+ghost use Rattle.pf_yen.specs.Classes.{IsPartition, IsPastAlong, IsCheapestOfClass};
+ghost use Rattle.pf_yen.specs.Plans.{first_cmp, waiting_plans, chosen_plan, as_list, last_given, IsFirst, GoesOn};
+
+use crate::candidate::Candidate;
+use crate::classes::{least_of_class, split};
+use crate::known::Known;
+use crate::narrowed::Narrowed;
+use pf_base::{Cost, PathError};
+use std::alloc::Allocator;
+use std::collections::BinaryHeap;
+
+/// The candidates that wait, the cheapest first, and the one that was chosen.
+#[derive(Drop)]
+pub struct Plans<C: Cost, A: Allocator> {
+    pub waiting: BinaryHeap<Candidate<C, A>, A>,
+    pub chosen: Option<Candidate<C, A>>,
+    /// Whether the path of the chosen candidate was given.
+    pub is_given: bool,
+    /// Whether a first path was looked for.
+    pub has_begun: bool,
+}
+
+impl<C: Cost, A: Allocator + Copy> Plans<C, A> {
+    /// Looks for a cheapest one of all clean paths.
+    fn begin(&mut self, alloc: A, known: &Known<C, A>) -> Result<(), PathError>
+        requires whole { IsWhole C.value known.now }
+        requires some { 0 < length known.now.rows }
+        ensures waiting { heap_items self.new.waiting ≡ heap_items self.old.waiting }
+        ensures is_given { self.new.is_given ≡ self.old.is_given }
+        ensures begun { OnOk result (self.new.has_begun ≡ true) }
+        ensures partition { OnOk result (IsPartition C.value known.now (as_list (chosen_plan self.new.chosen)) []) }
+        ensures kept { OnErr result ((self.new.chosen ≡ self.old.chosen) × (self.new.has_begun ≡ self.old.has_begun)) }
+        ensures overflow { result ≡ Err PathError.CostOverflow → IsTooDear (KnownStep C.value known.now) (is_goal known.now) (StandsForItself (length known.now.rows) 0) (StandsForItself (length known.now.rows)) C.fits }
+        ensures errors { IfErr result (λ e. (e ≡ PathError.OutOfMemory) ⊎ (e ≡ PathError.CostOverflow)) }
+    {
+        let mut narrowed = Narrowed::new(alloc, known)?;
+        self.chosen = least_of_class(alloc, &mut narrowed, 0)?;
+        self.has_begun = true;
+        Ok(())
+    }
+
+    /// Splits the class of the chosen candidate, if its path was given.
+    fn split_given(&mut self, alloc: A, known: &Known<C, A>) -> Result<(), PathError>
+        requires whole { IsWhole C.value known.now }
+        requires some { 0 < length known.now.rows }
+        requires partition { (before : List (List ℕ)) × IsPartition C.value known.now (as_list (chosen_plan self.old.chosen) ++ waiting_plans (heap_items self.old.waiting)) before }
+        requires ordered { IsHeap (first_cmp C.cmp) (heap_items self.old.waiting) }
+        ensures ordered { IsHeap (first_cmp C.cmp) (heap_items self.new.waiting) }
+        ensures has_begun { self.new.has_begun ≡ self.old.has_begun }
+        ensures goes_on { OnOk result (GoesOn C.value known.now (as_list (chosen_plan self.old.chosen) ++ waiting_plans (heap_items self.old.waiting)) (as_list (chosen_plan self.new.chosen) ++ waiting_plans (heap_items self.new.waiting)) (last_given self.old.is_given (chosen_plan self.old.chosen))) }
+        ensures first { OnOk result (IsFirst C.value self.old.is_given (chosen_plan self.old.chosen) (waiting_plans (heap_items self.old.waiting)) → IsFirst C.value false (chosen_plan self.new.chosen) (waiting_plans (heap_items self.new.waiting))) }
+        ensures is_given { OnOk result (self.new.is_given ≡ false) }
+        ensures kept { OnErr result ((self.new.chosen ≡ self.old.chosen) × (heap_items self.new.waiting ≡ heap_items self.old.waiting) × (self.new.is_given ≡ self.old.is_given)) }
+        ensures due { OnErr result (¬ (last_given self.old.is_given (chosen_plan self.old.chosen) ≡ [])) }
+        ensures overflow { result ≡ Err PathError.CostOverflow → IsPastAlong C.value known.now C.fits }
+        ensures errors { IfErr result (λ e. (e ≡ PathError.OutOfMemory) ⊎ (e ≡ PathError.CostOverflow)) }
+    {
+        if !self.is_given {
+            return Ok(());
+        }
+        if let Some(chosen) = &self.chosen {
+            let mut plans = BinaryHeap::from(split(alloc, known, chosen)?);
+            self.waiting.append(&mut plans)?;
+        }
+        self.chosen = None;
+        self.is_given = false;
+        Ok(())
+    }
+
+    /// Chooses the cheapest candidate, if none is chosen.
+    fn choose_first(&mut self)
+        requires ordered { IsHeap (first_cmp C.cmp) (heap_items self.old.waiting) }
+        requires new { self.old.is_given ≡ false }
+        ensures ordered { IsHeap (first_cmp C.cmp) (heap_items self.new.waiting) }
+        ensures has_begun { self.new.has_begun ≡ self.old.has_begun }
+        ensures is_given { self.new.is_given ≡ false }
+        ensures goes_on { (known : KnownGraph C) → GoesOn C.value known (as_list (chosen_plan self.old.chosen) ++ waiting_plans (heap_items self.old.waiting)) (as_list (chosen_plan self.new.chosen) ++ waiting_plans (heap_items self.new.waiting)) [] }
+        ensures first { IsFirst C.value false (chosen_plan self.old.chosen) (waiting_plans (heap_items self.old.waiting)) → IsFirst C.value false (chosen_plan self.new.chosen) (waiting_plans (heap_items self.new.waiting)) }
+        ensures none { chosen_plan self.new.chosen ≡ None → waiting_plans (heap_items self.new.waiting) ≡ [] }
+    {
+        if self.chosen.is_none() {
+            self.chosen = self.waiting.pop();
+        }
+    }
+
+    /// Chooses the plan whose path is to be given next, if there is one. A refused call can be tried
+    /// again: no plan is lost.
+    pub fn choose(&mut self, alloc: A, known: &Known<C, A>) -> Result<(), PathError>
+        requires whole { IsWhole C.value known.now }
+        requires some { 0 < length known.now.rows }
+        requires ordered { IsHeap (first_cmp C.cmp) (heap_items self.old.waiting) }
+        requires partition { self.old.has_begun ≡ true → (before : List (List ℕ)) × IsPartition C.value known.now (as_list (chosen_plan self.old.chosen) ++ waiting_plans (heap_items self.old.waiting)) before }
+        requires fresh { self.old.has_begun ≡ false → (heap_items self.old.waiting ≡ []) × (self.old.is_given ≡ false) }
+        ensures ordered { IsHeap (first_cmp C.cmp) (heap_items self.new.waiting) }
+        ensures begun { OnOk result ((self.new.has_begun ≡ true) × (self.new.is_given ≡ false)) }
+        ensures none { OnOk result (chosen_plan self.new.chosen ≡ None → waiting_plans (heap_items self.new.waiting) ≡ []) }
+        ensures first { OnOk result (IsFirst C.value self.old.is_given (chosen_plan self.old.chosen) (waiting_plans (heap_items self.old.waiting)) → self.old.has_begun ≡ true → IsFirst C.value false (chosen_plan self.new.chosen) (waiting_plans (heap_items self.new.waiting))) }
+        ensures goes_on { OnOk result (self.old.has_begun ≡ true → GoesOn C.value known.now (as_list (chosen_plan self.old.chosen) ++ waiting_plans (heap_items self.old.waiting)) (as_list (chosen_plan self.new.chosen) ++ waiting_plans (heap_items self.new.waiting)) (last_given self.old.is_given (chosen_plan self.old.chosen))) }
+        ensures begins { OnOk result (self.old.has_begun ≡ false → IsPartition C.value known.now (as_list (chosen_plan self.new.chosen) ++ waiting_plans (heap_items self.new.waiting)) [] × (waiting_plans (heap_items self.new.waiting) ≡ [])) }
+        ensures kept { OnErr result ((chosen_plan self.new.chosen ≡ chosen_plan self.old.chosen) × (waiting_plans (heap_items self.new.waiting) ≡ waiting_plans (heap_items self.old.waiting)) × (self.new.is_given ≡ self.old.is_given) × (self.new.has_begun ≡ self.old.has_begun)) }
+        ensures due { OnErr result (self.old.has_begun ≡ true → ¬ (last_given self.old.is_given (chosen_plan self.old.chosen) ≡ [])) }
+        ensures overflow { result ≡ Err PathError.CostOverflow → MatchBool self.old.has_begun (IsPastAlong C.value known.now C.fits)
+            (IsTooDear (KnownStep C.value known.now) (is_goal known.now) (StandsForItself (length known.now.rows) 0) (StandsForItself (length known.now.rows)) C.fits) }
+        ensures errors { IfErr result (λ e. (e ≡ PathError.OutOfMemory) ⊎ (e ≡ PathError.CostOverflow)) }
+    {
+        if self.has_begun {
+            self.split_given(alloc, known)?;
+            self.choose_first();
+        } else {
+            self.begin(alloc, known)?;
+        }
+        Ok(())
+    }
+}

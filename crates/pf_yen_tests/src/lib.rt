@@ -1,0 +1,7 @@
+//! Tests of the calls of `pf_yen`, and a caller.
+#![tactic(auto)]
+
+#[cfg(test)]
+mod tests;
+#[cfg(test)]
+mod walks;
