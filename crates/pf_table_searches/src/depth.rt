@@ -1,0 +1,92 @@
+//! Paths found depth first.
+
+ghost use Rattle.std.specs.Prelude.{◌≡◌, [], ◌∷◌, IfOk, IfErr, MatchOption, nat_eq};
+ghost use Rattle.pf_base.specs.Successors.{HasSuccessor, IsFewestEdgesGoalPath};
+ghost use Rattle.pf_base.specs.Walks.{HasNoGoalWalk, IsGoalPath};
+ghost use Rattle.pf_search.specs.Preorder.{IsFirstTreePath};
+ghost use Rattle.pf_tables.specs.Graphs.{successors_of};
+
+use crate::answers::{end_in, place_count};
+use pf_base::{Cost, PathError};
+use pf_tables::{Goals, Graph};
+use std::alloc::Allocator;
+
+/// The tree path of a depth-first search from the node `from` to the first goal in preorder, or `None`
+/// exactly where no walk leads from `from` to a goal. What the edges cost plays no part.
+///
+/// The path contains no node twice; it need not have fewest edges. A number that is no node of the
+/// graph has no edges.
+///
+/// # Errors
+///
+/// `OutOfMemory`: a request for memory was refused.
+///
+/// The algorithm is depth-first search (R. Tarjan, "Depth-first search and linear graph algorithms",
+/// 1972).
+pub fn dfs<C, G, T, A>(
+    alloc: A,
+    graph: &G,
+    from: usize,
+    goals: T,
+) -> Result<Option<Vec<usize, A>>, PathError>
+where
+    C: Cost,
+    G: Graph<C>,
+    T: Goals + Copy,
+    A: Allocator + Copy,
+    ensures first { IfOk result (λ answer. MatchOption answer
+        (HasNoGoalWalk nat_eq (HasSuccessor nat_eq (successors_of C.value (G.size graph.now) (G.places graph.now))) (from ∷ []) (T.passes goals))
+        (λ path. IsGoalPath nat_eq (HasSuccessor nat_eq (successors_of C.value (G.size graph.now) (G.places graph.now))) (from ∷ []) (T.passes goals) path.items
+        × IsFirstTreePath nat_eq (successors_of C.value (G.size graph.now) (G.places graph.now)) from (T.passes goals) path.items)) }
+    ensures errors { IfErr result (λ e. e ≡ PathError.OutOfMemory) }
+{
+    pf_search::directed::dfs::dfs(
+        alloc,
+        from,
+        |n: &usize| {
+            let node = *n;
+            (0..place_count(graph, node)).filter_map(move |place| end_in(graph, node, place))
+        },
+        |n: &usize| goals.is_goal(*n),
+    )
+}
+
+/// A path with fewest edges from the node `from` to a goal, or `None` exactly where no walk leads from
+/// `from` to a goal, in little memory and by a time of the order of the number of paths.
+///
+/// The path contains no node twice, and which of several such paths is answered is open. A number that
+/// is no node of the graph has no edges.
+///
+/// # Errors
+///
+/// `OutOfMemory`: a request for memory was refused.
+///
+/// The algorithm is depth-first iterative deepening (R. E. Korf, "Depth-first iterative-deepening: an
+/// optimal admissible tree search", 1985). The depth of calls in the machine is the number of edges of
+/// the path.
+pub fn iddfs<C, G, T, A>(
+    alloc: A,
+    graph: &G,
+    from: usize,
+    goals: T,
+) -> Result<Option<Vec<usize, A>>, PathError>
+where
+    C: Cost,
+    G: Graph<C>,
+    T: Goals + Copy,
+    A: Allocator + Copy,
+    ensures best { IfOk result (λ answer. MatchOption answer
+        (HasNoGoalWalk nat_eq (HasSuccessor nat_eq (successors_of C.value (G.size graph.now) (G.places graph.now))) (from ∷ []) (T.passes goals))
+        (λ path. IsFewestEdgesGoalPath nat_eq (successors_of C.value (G.size graph.now) (G.places graph.now)) (from ∷ []) (T.passes goals) path.items)) }
+    ensures errors { IfErr result (λ e. e ≡ PathError.OutOfMemory) }
+{
+    pf_search::directed::iddfs::iddfs(
+        alloc,
+        from,
+        |n: &usize| {
+            let node = *n;
+            (0..place_count(graph, node)).filter_map(move |place| end_in(graph, node, place))
+        },
+        |n: &usize| goals.is_goal(*n),
+    )
+}
