@@ -1,0 +1,23 @@
+use Rattle.std.proofs.Common.{◌≡◌, ◌≤◌, ◌+◌, ◌-◌, ◌*◌, length}
+use Rattle.std.specs.Prelude.{slice_index}
+use Rattle.pf_flow.specs.Flows.{pair_count}
+use Rattle.pf_flow.specs.Networks.{capacity, IsNetwork, KeepsCapacities}
+use Rattle.pf_flow.specs.Internal.AugmentingPaths.{potential}
+use Rattle.pf_flow.specs.Internal.Levels.{AreLevels}
+use Rattle.pf_flow.proofs.augmenting.saturate.Given as goal
+
+-- the flow so far, the levels found for it, and no more ticks than the potential
+abbrev pub invariant-phases : goal.invariant-phases
+invariant-phases g l = record {
+  network : IsNetwork g.C.Number.fits (g.S.FlowStore.network l.store);
+  kept : KeepsCapacities (g.S.FlowStore.network l.fn.store) (g.S.FlowStore.network l.store);
+  levels : AreLevels (g.S.FlowStore.network l.store) (slice_index l.found.levels.items) (slice_index l.found.parents.items);
+  levels_len : length l.found.levels.items ≡ (g.S.FlowStore.network l.store).vertices;
+  parents_len : length l.found.parents.items ≡ (g.S.FlowStore.network l.store).vertices;
+  path_len : length l.path.items ≡ (g.S.FlowStore.network l.store).vertices;
+  ticked : l.fn.tally ≤ l.tally;
+  bound : l.tally ≤ l.fn.tally + potential (g.S.FlowStore.network l.fn.store).vertices (capacity (g.S.FlowStore.network l.fn.store)) (g.S.FlowStore.network l.store).residual (slice_index l.found.levels.items);
+}
+
+abbrev pub decreases-phases : goal.decreases-phases
+decreases-phases g l = l.fn.tally + (g.S.FlowStore.network l.fn.store).vertices * pair_count (g.S.FlowStore.network l.fn.store).vertices (capacity (g.S.FlowStore.network l.fn.store)) - l.tally

@@ -1,0 +1,18 @@
+use Rattle.std.proofs.Common.{◌≡◌, ◌∙◌, ◌∷◌, ◌++◌, ◌+◌, [], sym, ap, take, take_all}
+use Rattle.std.proofs.lemmas.List.{take_more}
+use Rattle.std.proofs.lemmas.List.Sums.{fold-append}
+use Rattle.indexmap.specs.IndexSet.{insert_key}
+use Rattle.pf_flow.specs.NamedNetworks.{names_of}
+use Rattle.pf_flow.proofs.by_names.names_among.Goals as goal
+
+pub vertices-preserved : goal.vertices-preserved
+vertices-preserved g c =
+    let eq = g.N.PartialEq.eq in
+    let vs = c.args.vertices.now in
+    let i = c.vertices.vertex-index in
+    let x = c.vertex-item.result in
+    let more : take (i + 1) vs ≡ take i vs ++ x ∷ [] = take_more vs i x c.vertices-test.true ∙ ap (λ y. take i vs ++ y ∷ []) (sym c.vertex-item.is) in
+    c.in_ok-insert.ensures.keys ∙ ap (λ ks. insert_key eq ks x) c.vertices.invariant ∙ sym (ap (names_of eq) more ∙ fold-append (insert_key eq) [] (take i vs) (x ∷ []))
+
+pub returns-clause-names : goal.returns-clause-names
+returns-clause-names g c = c.vertices.invariant ∙ ap (names_of g.N.PartialEq.eq) (take_all c.vertices.vertex-index c.args.vertices.now c.vertices-test.false)

@@ -1,0 +1,56 @@
+use Rattle.std.proofs.Common.{◌≡◌, ◌∙◌, ◌⊎◌, inl, inr, sym, ap, subst}
+use Rattle.pf_flow.proofs.AgreeLemmas.{capacities_kept, shape_more}
+use Rattle.pf_flow.proofs.NetworkLemmas.{none_sum}
+use Rattle.pf_flow.proofs.NamedLemmas.{refused_by, yields_more}
+use Rattle.pf_base.specs.declared.error.PathError.TheVariants.{OutOfMemory}
+use Rattle.pf_flow.specs.NamedNetworks.{AreEdgesRefused}
+use Rattle.pf_flow.proofs.by_names.put_edges.Goals as goal
+
+pub edges-init : goal.edges-init
+edges-init g c =
+    let N = g.S.FlowStore.network c.args.store.now in
+    let zero = ap g.C.Number.value c.zero-sum.ensures ∙ g.met.C.Zero.zero_law g.met.C.Integral.exact_law in
+    record {
+      shape = (capacities_kept N).shape;
+      unused = c.requires.unused;
+      sum = zero ∙ sym (none_sum N c.requires.none);
+      capacities = c.requires.none;
+      accepted = tt;
+    }
+
+pub edges-preserved : goal.edges-preserved
+edges-preserved g c =
+    let i = c.edges.invariant in
+    let e = c.in_ok-sum.ensures in
+    record {
+      shape = shape_more i.shape e.shape;
+      unused = e.unused;
+      sum = e.sum;
+      capacities = e.capacities c.edges.yielded i.capacities;
+      accepted = e.accepted c.edges.yielded i.capacities i.accepted;
+    }
+
+pub put_edge-requires-clause-vertices : goal.put_edge-requires-clause-vertices
+put_edge-requires-clause-vertices g c = c.edges.invariant.shape.vertices ∙ c.requires.vertices
+
+pub returns-clause-capacities : goal.returns-clause-capacities
+returns-clause-capacities g c =
+    (c.into_iter-edge-iterator.result, c.edges.yielded, c.into_iter-edge-iterator.ensures.into_iter_gives, (c.next.new.self, (c.edges.edge-iterator, c.edges.yielded_by, c.in-None.ensures.steps)), c.edges.invariant.accepted, c.edges.invariant.capacities)
+
+pub returns-in_err-sum-clause-refused : goal.returns-in_err-sum-clause-refused
+returns-in_err-sum-clause-refused g c =
+    let i = c.edges.invariant in
+    let refused : (c.in_err-sum.field-0.0 ≡ OutOfMemory) ⊎ AreEdgesRefused g.N.PartialEq.eq g.C.Number.value g.C.Number.fits g.IC.IntoIterator.into_iter_gives g.IC.IntoIter.Iterator.next_gives c.args.names.now.keys c.args.capacities c.in_err-sum.field-0.0 =
+    elim c.in_err-sum.ensures.refused [
+      | inl r ↦ inl r
+      | inr r ↦ inr (
+        c.into_iter-edge-iterator.result,
+        c.edges.yielded,
+        c.in-Some.edge,
+        c.next.new.self,
+        c.into_iter-edge-iterator.ensures.into_iter_gives,
+        yields_more g.IC.IntoIter.Iterator.next_gives _ c.edges.yielded c.edges.edge-iterator c.next.new.self c.in-Some.edge c.edges.yielded_by c.in-Some.ensures.steps,
+        record { accepted = i.accepted; why = r c.edges.yielded i.capacities },
+      )
+    ] in
+    refused_by _ _ c.from_residual.result (λ e h. subst (λ r. (r ≡ OutOfMemory) ⊎ AreEdgesRefused g.N.PartialEq.eq g.C.Number.value g.C.Number.fits g.IC.IntoIterator.into_iter_gives g.IC.IntoIter.Iterator.next_gives c.args.names.now.keys c.args.capacities r) (sym h) refused) c.from_residual.ensures.1

@@ -1,0 +1,90 @@
+use Rattle.std.proofs.Common.{◌≡◌, ◌≢◌, ◌<◌, ◌∙◌, arith, length, sym, subst, pos, true≢false, ℤ}
+use Rattle.std.specs.Prelude.{◌≤ℤ◌, ◌<ℤ◌, ◌+ℤ◌, unsigned_abs}
+use Rattle.std.proofs.lemmas.Int.{ints}
+use Rattle.pf_flow.specs.Internal.Cancelling.{Has, IsOnce, IsTakenOff, IsLowered, gained, net_of}
+use Rattle.pf_flow.proofs.CycleLemmas.{lowered_amounts, lowered_none, lowered_more, circulation_more, cycle_above, through_above}
+use Rattle.pf_flow.proofs.cancelling.cancel.Goals as goal
+
+pub cycle_through-requires-clause-amounts : goal.cycle_through-requires-clause-amounts
+cycle_through-requires-clause-amounts g c = lowered_amounts g.C.Number.value _ c.args.through c.args.amounts.now c.rounds.amounts c.rounds.invariant.lowered
+
+pub cycle_through-requires-clause-through : goal.cycle_through-requires-clause-through
+cycle_through-requires-clause-through g c =
+    let value = g.C.Number.value in
+    let o = through_above value (value c.args.excess) (value c.rounds.rest) c.args.through c.args.amounts.now c.rounds.amounts c.requires.enough c.rounds.invariant.lowered in
+    let l = o.2 in
+    let low = c.rounds.invariant.some in
+    let some : value c.rounds.rest ≢ pos 0 = λ q. true≢false (sym ((c.is_zero.ensures.value g.met.C.Integral.exact_law).1 q) ∙ c.rounds-test.true) in
+    (o.0, o.1, omega (arith, ints, l, low, some))
+
+pub least_amount-amount-requires-clause-amounts : goal.least_amount-amount-requires-clause-amounts
+least_amount-amount-requires-clause-amounts g c = λ k h. cycle_above g.C.Number.value c.args.ends.now c.args.through c.in_ok-cycle.cycle.items c.rounds.amounts
+    (lowered_amounts g.C.Number.value _ c.args.through c.args.amounts.now c.rounds.amounts c.rounds.invariant.lowered) c.in_ok-cycle.ensures.cycle k (subst (λ ks. Has ks k) c.deref.ensures.value h)
+
+pub least_amount-amount-requires-clause-limit : goal.least_amount-amount-requires-clause-limit
+least_amount-amount-requires-clause-limit g c =
+    let value = g.C.Number.value in
+    let low = c.rounds.invariant.some in
+    let some : value c.rounds.rest ≢ pos 0 = λ q. true≢false (sym ((c.is_zero.ensures.value g.met.C.Integral.exact_law).1 q) ∙ c.rounds-test.true) in
+    omega (arith, ints, low, some)
+
+pub take_off-requires-clause-once : goal.take_off-requires-clause-once
+take_off-requires-clause-once g c = subst IsOnce (sym c.deref-in-rounds.ensures.value) c.in_ok-cycle.ensures.cycle.once
+
+pub take_off-requires-clause-each : goal.take_off-requires-clause-each
+take_off-requires-clause-each g c = λ k h. c.least_amount-amount.ensures.each k (subst (λ ks. Has ks k) (c.deref-in-rounds.ensures.value ∙ sym c.deref.ensures.value) h)
+
+pub minus-rest-requires : goal.minus-rest-requires
+minus-rest-requires g c =
+    let value = g.C.Number.value in
+    let exact = g.met.C.Integral.exact_law in
+    let e = c.least_amount-amount.ensures in
+    let some = e.some in
+    let most = e.limited in
+    g.C.Number.between_law (pos 0) _ (value c.rounds.rest) exact (g.met.C.Zero.zero_fits_law exact) c.known.ensures (omega (arith, ints, most)) (omega (arith, ints, some))
+
+less_abs : (x y : ℤ) → pos 0 ≤ℤ y → y <ℤ x → unsigned_abs y < unsigned_abs x
+less_abs x y l m = grind (arith, ints)
+
+pub rounds-init : goal.rounds-init
+rounds-init g c = record {
+  balanced = c.requires.balanced;
+  lowered = lowered_none g.C.Number.value c.args.through c.args.amounts.now c.requires.amounts _ (omega (arith, ints));
+  some = c.requires.excess;
+}
+
+pub rounds-smaller : goal.rounds-smaller
+rounds-smaller g c =
+    let e = c.least_amount-amount.ensures in
+    let some = e.some in
+    let most = e.limited in
+    let is = c.minus-rest.ensures in
+    less_abs (g.C.Number.value c.rounds.rest) (g.C.Number.value c.minus-rest.result) (omega (arith, ints, is, most)) (omega (arith, ints, is, some))
+
+pub rounds-preserved : goal.rounds-preserved
+rounds-preserved g c =
+    let value = g.C.Number.value in
+    let e = c.least_amount-amount.ensures in
+    let some = e.some in
+    let most = e.limited in
+    let is = c.minus-rest.ensures in
+    let d = value c.least_amount-amount.result in
+    let cycle = c.in_ok-cycle.cycle.items in
+    let ends = c.args.ends.now in
+    let now = c.rounds.amounts in
+    let new = c.take_off.new.amounts in
+    let t : IsTakenOff value d cycle now new = subst (λ ks. IsTakenOff value d ks now new) c.deref-in-rounds.ensures.value c.take_off.ensures.taken in
+    let long : length now ≡ length ends = c.rounds.invariant.lowered.len ∙ c.requires.long in
+    record {
+      balanced = circulation_more value ends c.args.through cycle d now new c.rounds.invariant.balanced c.in_ok-cycle.ensures.cycle
+          (λ side. subst (λ ks. net_of value side ends new +ℤ gained side d ends ks ≡ net_of value side ends now) c.deref-in-rounds.ensures.value (c.take_off.ensures.balance side ends long));
+      lowered = lowered_more value _ d _ c.args.through cycle c.args.amounts.now now new c.rounds.invariant.lowered t c.in_ok-cycle.ensures.cycle.passes (omega (arith, ints, some)) (omega (arith, ints, is))
+          (λ k h. e.each k (subst (λ ks. Has ks k) (sym c.deref.ensures.value) h));
+      some = omega (arith, ints, is, most);
+    }
+
+pub returns-clause-lowered : goal.returns-clause-lowered
+returns-clause-lowered g c =
+    let value = g.C.Number.value in
+    let none = (c.is_zero.ensures.value g.met.C.Integral.exact_law).0 c.rounds-test.false in
+    subst (λ (z : ℤ). IsLowered value z c.args.through c.args.amounts.now c.rounds.amounts) (omega (arith, ints, none)) c.rounds.invariant.lowered

@@ -1,0 +1,83 @@
+use Rattle.std.proofs.Common.{◌≡◌, ◌<◌, ◌∙◌, ℕ, Some, arith, length, refl, sym, ap, subst}
+use Rattle.std.specs.Prelude.{slice_get, None}
+use Rattle.std.proofs.lemmas.Int.{ints}
+use Rattle.std.proofs.lemmas.Option.{slice_get-get_or, slice_get_within}
+use Rattle.pf_core.proofs.ListLemmas.{at_place}
+use Rattle.pf_flow.specs.Internal.Cancelling.{IsCycle, IsWayBack}
+use Rattle.pf_flow.proofs.CycleLemmas.{tail_reached, way_begin, way_more, way_end, before_less}
+use Rattle.pf_flow.proofs.cancelling.cycle.cycle_through.Invariants.{arc_at}
+use Rattle.pf_flow.proofs.cancelling.cycle.cycle_through.Goals as goal
+
+pub unreachable-requires : goal.unreachable-requires
+unreachable-requires g c =
+    let value = g.C.Number.value in
+    let ends = c.args.ends.now in
+    let k = c.args.through in
+    let t = c.requires.through in
+    let below : k < length ends = omega (arith, slice_get_within c.args.amounts.now k t.0 t.1, c.requires.long) in
+    let at : slice_get ends k ≡ Some (arc_at ends k) = slice_get-get_or ends k _ below in
+    let l = (c.requires.inside k (arc_at ends k) at).0 in
+    let r = c.in_ok-reached.ensures in
+    let places = c.in_ok-reached.reached.places.items in
+    let free : slice_get places (arc_at ends k).from ≡ Some None = at_place places (arc_at ends k).from _ _ (omega (arith, l, r.wide)) (sym c.index.ensures) ∙ ap Some c.in_default.is in
+    tail_reached value ends c.args.amounts.now (arc_at ends k).to c.in_ok-reached.reached.steps.items places k (arc_at ends k) t.0 c.requires.amounts c.requires.balanced r.reached r.whole at t.1 t.2 refl free
+
+pub steps-init : goal.steps-init
+steps-init g c =
+    let value = g.C.Number.value in
+    let ends = c.args.ends.now in
+    let k = c.args.through in
+    let t = c.requires.through in
+    let below : k < length ends = omega (arith, slice_get_within c.args.amounts.now k t.0 t.1, c.requires.long) in
+    let at : slice_get ends k ≡ Some (arc_at ends k) = slice_get-get_or ends k _ below in
+    let l = (c.requires.inside k (arc_at ends k) at).0 in
+    let r = c.in_ok-reached.ensures in
+    let places = c.in_ok-reached.reached.places.items in
+    let here : slice_get places (arc_at ends k).from ≡ Some (Some c.in-Some.last) = at_place places (arc_at ends k).from _ _ (omega (arith, l, r.wide)) (sym c.index.ensures) ∙ ap Some c.in-Some.is in
+    let made = way_begin value ends c.args.amounts.now (arc_at ends k).to (arc_at ends k).from c.in_ok-reached.reached.steps.items places c.in-Some.last r.reached here in
+    subst (λ way. IsWayBack value ends c.args.amounts.now (arc_at ends k).from c.in_ok-reached.reached.steps.items places c.in-Some.last way) (sym c.new-cycle.ensures.items) made
+
+pub index-step-requires : goal.index-step-requires
+index-step-requires g c =
+    let w = c.steps.invariant.leads in
+    let l = slice_get_within c.in_ok-reached.reached.steps.items c.steps.at w.0 w.1 in
+    omega (arith, l, c.in_ok-reached.reached.steps.ok)
+
+pub steps-smaller : goal.steps-smaller
+steps-smaller g c =
+    let k = c.args.through in
+    let steps = c.in_ok-reached.reached.steps.items in
+    let w = c.steps.invariant.leads in
+    let l = slice_get_within steps c.steps.at w.0 w.1 in
+    let s = c.index-step.result.now in
+    let at : slice_get steps c.steps.at ≡ Some s = at_place steps c.steps.at _ _ l (sym c.index-step.ensures) in
+    before_less g.C.Number.value c.args.ends.now c.args.amounts.now (arc_at c.args.ends.now k).to steps c.in_ok-reached.reached.places.items c.steps.at s (omega (arith, c.steps-test.true)) at c.in_ok-reached.ensures.reached
+
+pub steps-preserved : goal.steps-preserved
+steps-preserved g c =
+    let value = g.C.Number.value in
+    let ends = c.args.ends.now in
+    let k = c.args.through in
+    let steps = c.in_ok-reached.reached.steps.items in
+    let w = c.steps.invariant.leads in
+    let l = slice_get_within steps c.steps.at w.0 w.1 in
+    let s = c.index-step.result.now in
+    let at : slice_get steps c.steps.at ≡ Some s = at_place steps c.steps.at _ _ l (sym c.index-step.ensures) in
+    let made = way_more value ends c.args.amounts.now (arc_at ends k).to (arc_at ends k).from steps c.in_ok-reached.reached.places.items c.steps.at c.steps.cycle.items s (omega (arith, c.steps-test.true)) at c.in_ok-reached.ensures.reached c.steps.invariant in
+    subst (λ way. IsWayBack value ends c.args.amounts.now (arc_at ends k).from steps c.in_ok-reached.reached.places.items s.before way) (sym c.in_ok-push.ensures.items) made
+
+pub returns-clause-cycle : goal.returns-clause-cycle
+returns-clause-cycle g c =
+    let value = g.C.Number.value in
+    let ends = c.args.ends.now in
+    let k = c.args.through in
+    let t = c.requires.through in
+    let steps = c.in_ok-reached.reached.steps.items in
+    let places = c.in_ok-reached.reached.places.items in
+    let below : k < length ends = omega (arith, slice_get_within c.args.amounts.now k t.0 t.1, c.requires.long) in
+    let at : slice_get ends k ≡ Some (arc_at ends k) = slice_get-get_or ends k _ below in
+    let done : c.steps.at ≡ 0 = omega (arith, c.steps-test.false) in
+    let last = subst (λ (n : ℕ). IsWayBack value ends c.args.amounts.now (arc_at ends k).from steps places n c.steps.cycle.items) done c.steps.invariant in
+    let some = t.2 in
+    let made = way_end value ends c.args.amounts.now (arc_at ends k).to (arc_at ends k).from steps places c.steps.cycle.items k (arc_at ends k) c.in_ok-reached.ensures.reached last at refl refl (t.0, t.1, λ q. absurd (omega (arith, ints, q, some))) in
+    subst (λ cycle. IsCycle value ends c.args.amounts.now k cycle) (sym c.in_ok-push-2.ensures.items) made

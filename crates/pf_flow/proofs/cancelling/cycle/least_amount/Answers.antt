@@ -1,0 +1,51 @@
+use Rattle.std.proofs.Common.{rules, ◌≡◌, ◌∙◌, Some, arith, get_or, sym, ap, pos, inl, inr}
+use Rattle.std.specs.Prelude.{slice_get, ◌≤ℤ◌, ◌<ℤ◌}
+use Rattle.std.proofs.lemmas.Int.{ints}
+use Rattle.std.proofs.lemmas.Option.{slice_get-get_or, slice_get_within}
+use Rattle.pf_core.proofs.ListLemmas.{at_place}
+use Rattle.pf_flow.specs.Internal.Cancelling.{HasAmount}
+use Rattle.pf_flow.proofs.SearchLemmas.{Has-take}
+use Rattle.pf_flow.proofs.cancelling.cycle.least_amount.Goals as goal
+
+pub bounds-amounts-number : goal.bounds-amounts-number
+bounds-amounts-number g c =
+    let i = c.arcs.number-index in
+    let k = get_or c.args.cycle.now i 0 in
+    let o = c.requires.amounts k (i, slice_get-get_or c.args.cycle.now i 0 c.arcs-test.true) in
+    slice_get_within c.args.amounts.now k o.0 o.1
+
+pub offset_bounds-amounts-number : goal.offset_bounds-amounts-number
+offset_bounds-amounts-number g c = let l = bounds-amounts-number g c in search rules
+
+pub arcs-preserved : goal.arcs-preserved
+arcs-preserved g c =
+    let value = g.C.Number.value in
+    let i = c.arcs.number-index in
+    let cycle = c.args.cycle.now in
+    let k = get_or cycle i 0 in
+    let xs = c.args.amounts.now in
+    let x = c.index-amounts-number.result in
+    let least = c.lesser-least.result in
+    let o = c.requires.amounts k (i, slice_get-get_or cycle i 0 c.arcs-test.true) in
+    let at : slice_get xs k ≡ Some x = at_place xs k _ _ (slice_get_within xs k o.0 o.1) (sym c.index-amounts-number.is) in
+    let same : Some x ≡ Some o.0 = sym at ∙ o.1 in
+    let v : x ≡ o.0 = cc in
+    let e : value x ≡ value o.0 = ap value v in
+    let r = c.lesser-least.ensures in
+    let low = r.lower in
+    let also = r.also in
+    let w = c.arcs.invariant in
+    let some = w.some in
+    let limited = w.limited in
+    let above = o.2 in
+    record {
+      some = elim r.either as (λ _. pos 0 <ℤ value least) [
+        | inl q ↦ omega (arith, ints, q, e, above)
+        | inr q ↦ omega (arith, ints, q, some)
+      ];
+      limited = omega (arith, ints, also, limited);
+      each = λ j h. elim (Has-take cycle i j c.arcs-test.true h) as (λ _. HasAmount value xs j (λ z. value least ≤ℤ z)) [
+        | inl p ↦ (let q = w.each j p in let u = q.2 in (q.0, q.1, omega (arith, ints, u, also)))
+        | inr p ↦ (x, ap (slice_get xs) (sym p) ∙ at, low)
+      ];
+    }

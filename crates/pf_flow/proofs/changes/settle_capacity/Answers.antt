@@ -1,0 +1,54 @@
+use Rattle.std.proofs.Common.{◌≡◌, ◌∙◌, ◌+ℤ◌, ℤ, arith, pos, sym, ap, subst}
+use Rattle.std.specs.Prelude.{◌-ℤ◌, ◌≤ℤ◌, neg_ℤ}
+use Rattle.std.proofs.lemmas.Int.{ints}
+use Rattle.pf_flow.specs.Networks.{capacity, with_residual, Agrees}
+use Rattle.pf_flow.proofs.AddedLemmas.{added_here}
+use Rattle.pf_flow.proofs.AgreeLemmas.{network_agrees, shape_agrees, capacities_agrees}
+use Rattle.pf_flow.proofs.ChangeLemmas.{raise, set_is, network_set}
+use Rattle.pf_flow.proofs.NetworkLemmas.{balanced_of, capacity_fits, residual_fits}
+use Rattle.pf_flow.proofs.changes.settle_capacity.Goals as goal
+
+pub minus-requires : goal.minus-requires
+minus-requires g c =
+    let exact = g.met.C.Integral.exact_law in
+    let between = λ (x y z : ℤ). g.C.Number.between_law x y z exact in
+    let N = g.S.FlowStore.network c.args.store.now in
+    let w = c.requires.network in
+    let old = capacity N c.args.from c.args.to in
+    let fit = capacity_fits between g.met.C.SignedCost.negation_law (balanced_of w) c.args.from c.args.to c.requires.from c.requires.to in
+    let above : pos 0 ≤ℤ old = w.capacities.at c.args.from c.args.to c.requires.from c.requires.to in
+    let is = c.requires.old in
+    let low = c.requires.low in
+    between (neg_ℤ old) _ (g.C.Number.value c.args.number) (g.met.C.SignedCost.negation_law old fit above) c.known.ensures (omega (arith, ints, is, low)) (omega (arith, ints, is, above))
+
+pub add_residual_capacity-requires-clause-fits : goal.add_residual_capacity-requires-clause-fits
+add_residual_capacity-requires-clause-fits g c =
+    let exact = g.met.C.Integral.exact_law in
+    let between = λ (x y z : ℤ). g.C.Number.between_law x y z exact in
+    let N = g.S.FlowStore.network c.args.store.now in
+    let z = g.C.Number.value c.args.number in
+    let w = network_set N c.args.from c.args.to z c.requires.network c.requires.flow c.requires.low c.requires.sum in
+    let more : raise N c.args.from c.args.to z c.requires.network ≡ g.C.Number.value c.minus.result = sym (c.minus.ensures ∙ ap (λ x. z -ℤ x) c.requires.old) in
+    subst g.C.Number.fits
+    (added_here N.residual c.args.from c.args.to _ ∙ ap (λ x. N.residual c.args.from c.args.to +ℤ x) more)
+    (residual_fits between g.met.C.SignedCost.negation_law (balanced_of w) c.args.from c.args.to c.requires.from c.requires.to)
+
+pub returns-clause-network : goal.returns-clause-network
+returns-clause-network g c =
+    let N = g.S.FlowStore.network c.args.store.now in
+    let z = g.C.Number.value c.args.number in
+    let more : raise N c.args.from c.args.to z c.requires.network ≡ g.C.Number.value c.minus.result = sym (c.minus.ensures ∙ ap (λ x. z -ℤ x) c.requires.old) in
+    let after = subst (λ x. Agrees (with_residual c.args.from c.args.to x N) (g.S.FlowStore.network c.add_residual_capacity.new.self)) (sym more) c.add_residual_capacity.ensures in
+    network_agrees after (network_set N c.args.from c.args.to z c.requires.network c.requires.flow c.requires.low c.requires.sum)
+
+pub returns-clause-changed : goal.returns-clause-changed
+returns-clause-changed g c =
+    let N = g.S.FlowStore.network c.args.store.now in
+    let z = g.C.Number.value c.args.number in
+    let more : raise N c.args.from c.args.to z c.requires.network ≡ g.C.Number.value c.minus.result = sym (c.minus.ensures ∙ ap (λ x. z -ℤ x) c.requires.old) in
+    let after = subst (λ x. Agrees (with_residual c.args.from c.args.to x N) (g.S.FlowStore.network c.add_residual_capacity.new.self)) (sym more) c.add_residual_capacity.ensures in
+    let shape = shape_agrees after in
+    record {
+      shape = record { vertices = shape.vertices; source = shape.source; sink = shape.sink; details = shape.details; room = shape.room };
+      capacities = record { at = λ a b. set_is N c.args.from c.args.to z c.requires.network a b ∙ (capacities_agrees after).capacities.at a b };
+    }

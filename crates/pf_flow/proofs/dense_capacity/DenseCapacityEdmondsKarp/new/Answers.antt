@@ -1,0 +1,17 @@
+use Rattle.std.proofs.Common.{◌∙◌, ap}
+use Rattle.pf_flow.proofs.NetworkLemmas.{network_of_fresh}
+use Rattle.pf_flow.proofs.DenseLemmas.{zero_fresh, zero_capacities}
+use Rattle.pf_flow.proofs.dense_capacity.DenseCapacityEdmondsKarp.new.Goals as goal
+
+pub returns-clause-network : goal.returns-clause-network
+returns-clause-network g c =
+    let value = g.C.Number.value in
+    let exact = g.met.C.Integral.exact_law in
+    let nought = ap value c.zero.ensures ∙ g.met.C.Zero.zero_law exact in
+    let residuals = c.in_ok-residuals.residuals in
+    let flows = c.in_ok-flows.flows in
+    let left = c.in_ok-residuals.ensures in
+    let right = c.in_ok-flows.ensures in
+    network_of_fresh (g.met.C.Zero.zero_fits_law exact)
+    (zero_fresh value residuals flows c.args.size c.args.source c.args.sink left.square right.square (value c.zero.result) right.zero nought)
+    (zero_capacities value residuals flows c.args.size c.args.source c.args.sink left.square right.square (value c.zero.result) left.zero right.zero)

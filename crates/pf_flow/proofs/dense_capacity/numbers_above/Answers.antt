@@ -1,0 +1,32 @@
+use Rattle.std.proofs.Common.{◌≡◌, ◌∙◌, sym, ap, subst, ◌<◌, ◌+◌, pos, arith}
+use Rattle.std.specs.Prelude.{◌<ℤ◌, ◌≤ℤ◌}
+use Rattle.pf_flow.specs.Listings.{ListsNumbers}
+use Rattle.pf_flow.specs.DenseStores.{table_number}
+use Rattle.pf_flow.proofs.DenseLemmas.{number_inside}
+use Rattle.pf_flow.proofs.StoreListings.{numbers_more, numbers_same}
+use Rattle.pf_flow.proofs.dense_capacity.numbers_above.Goals.{then-is_below+in_ok-push, else-is_below}
+use Rattle.pf_flow.proofs.dense_capacity.numbers_above.Goals as goal
+
+pub loop-to-preserved : goal.loop-to-preserved
+loop-to-preserved g c =
+    let value = g.C.Number.value in
+    let m = c.args.table.now in
+    let t = table_number value m.rows m c.args.from in
+    let k = c.loop-to.to in
+    let zero = ap value c.zero.ensures ∙ g.met.C.Zero.zero_law g.met.C.Integral.exact_law in
+    let below : k < m.rows = omega (arith, c.rows-to-end.ensures.rows) in
+    let number = c.number_at-number.ensures ∙ sym (number_inside value m.rows m c.args.from k c.requires.inside below) in
+    elim c.if-is_below.branch as (λ _. ListsNumbers value (k + 1) t c.if-is_below.list.items) [
+      | then-is_below+in_ok-push w ↦
+          subst (λ z. ListsNumbers value (k + 1) t z) (sym (ap (λ v. v.items) w.list-is ∙ w.in_ok-push.ensures.items))
+          (numbers_more value t k c.number_at-number.result c.loop-to.list.items number (subst (λ z. z <ℤ value c.number_at-number.result) zero w.if-is_below.ensures) c.loop-to.invariant)
+      | else-is_below w ↦
+          subst (λ z. ListsNumbers value (k + 1) t z) (sym (ap (λ v. v.items) w.list-is))
+          (numbers_same value t k c.loop-to.list.items (subst (λ z. z ≤ℤ pos 0) number (subst (λ z. value c.number_at-number.result ≤ℤ z) zero w.if-is_below.ensures)) c.loop-to.invariant)
+    ]
+
+pub returns-clause-listed : goal.returns-clause-listed
+returns-clause-listed g c =
+    let m = c.args.table.now in
+    let done : c.loop-to.to ≡ m.rows = omega (arith, c.rows-to-end.ensures.rows) in
+    subst (λ k. ListsNumbers g.C.Number.value k (table_number g.C.Number.value m.rows m c.args.from) c.loop-to.list.items) done c.loop-to.invariant

@@ -1,0 +1,32 @@
+use Rattle.std.proofs.Common.{◌≡◌, ◌∙◌, sym, ap, subst, ◌<◌, ◌+◌, pos, arith}
+use Rattle.std.specs.Prelude.{◌<ℤ◌, ◌≤ℤ◌}
+use Rattle.pf_flow.specs.Listings.{ListsVertices}
+use Rattle.pf_flow.specs.DenseStores.{table_number}
+use Rattle.pf_flow.proofs.DenseLemmas.{number_inside}
+use Rattle.pf_flow.proofs.StoreListings.{vertices_more, vertices_same, never_above}
+use Rattle.pf_flow.proofs.dense_capacity.vertices_above.Goals.{then-is_below+in_ok-push, else-is_below}
+use Rattle.pf_flow.proofs.dense_capacity.vertices_above.Goals as goal
+
+pub loop-to-preserved : goal.loop-to-preserved
+loop-to-preserved g c =
+    let value = g.C.Number.value in
+    let m = c.args.table.now in
+    let t = table_number value m.rows m c.args.from in
+    let k = c.loop-to.to in
+    let zero = ap value c.zero.ensures ∙ g.met.C.Zero.zero_law g.met.C.Integral.exact_law in
+    let below : k < m.rows = omega (arith, c.rows-to-end.ensures.rows) in
+    let number = c.number_at.ensures ∙ sym (number_inside value m.rows m c.args.from k c.requires.inside below) in
+    elim c.if-is_below.branch as (λ _. ListsVertices (k + 1) (λ to. pos 0 <ℤ t to) c.if-is_below.list.items) [
+      | then-is_below+in_ok-push w ↦
+          subst (λ z. ListsVertices (k + 1) (λ to. pos 0 <ℤ t to) z) (sym (ap (λ v. v.items) w.list-is ∙ w.in_ok-push.ensures.items))
+          (vertices_more (λ to. pos 0 <ℤ t to) k c.loop-to.list.items (subst (λ z. pos 0 <ℤ z) number (subst (λ z. z <ℤ value c.number_at.result) zero w.if-is_below.ensures)) c.loop-to.invariant)
+      | else-is_below w ↦
+          subst (λ z. ListsVertices (k + 1) (λ to. pos 0 <ℤ t to) z) (sym (ap (λ v. v.items) w.list-is))
+          (vertices_same (λ to. pos 0 <ℤ t to) k c.loop-to.list.items (never_above _ (subst (λ z. z ≤ℤ pos 0) number (subst (λ z. value c.number_at.result ≤ℤ z) zero w.if-is_below.ensures))) c.loop-to.invariant)
+    ]
+
+pub returns-clause-listed : goal.returns-clause-listed
+returns-clause-listed g c =
+    let m = c.args.table.now in
+    let done : c.loop-to.to ≡ m.rows = omega (arith, c.rows-to-end.ensures.rows) in
+    subst (λ k. ListsVertices k (λ to. pos 0 <ℤ table_number g.C.Number.value m.rows m c.args.from to) c.loop-to.list.items) done c.loop-to.invariant

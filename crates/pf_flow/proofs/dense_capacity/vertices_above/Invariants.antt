@@ -1,0 +1,7 @@
+use Rattle.std.specs.Prelude.{◌<ℤ◌, pos}
+use Rattle.pf_flow.specs.DenseStores.{table_number}
+use Rattle.pf_flow.specs.Listings.{ListsVertices}
+use Rattle.pf_flow.proofs.dense_capacity.vertices_above.Given as goal
+
+abbrev pub invariant-loop-to : goal.invariant-loop-to
+invariant-loop-to g l = ListsVertices l.to (λ to. pos 0 <ℤ table_number g.C.Number.value l.table.rows l.table l.from to) l.list.items

@@ -1,0 +1,32 @@
+use Rattle.std.proofs.Common.{◌≡◌, ◌∙◌, sym, ap, subst, arith, ℕ, Bool}
+use Rattle.std.proofs.lemmas.Int.{ints}
+use Rattle.pf_flow.specs.Flows.{PairTable, cut_capacity, IsLeastCut}
+use Rattle.pf_flow.specs.Networks.{Network, capacity, HasSameCapacities}
+use Rattle.pf_flow.proofs.laws.stores_report_one_total.Goals as goal
+
+-- the capacity of a least cut is one
+one_capacity : (n source sink : ℕ) (t : PairTable) (side other : ℕ → Bool) → IsLeastCut n source sink t side → IsLeastCut n source sink t other → cut_capacity n side t ≡ cut_capacity n other t
+one_capacity n source sink t side other w v =
+    let a = w.least other v.cut in
+    let b = v.least side w.cut in
+    omega (arith, ints, a, b)
+
+least_same : {N M : Network} → HasSameCapacities N M → (side : ℕ → Bool) → IsLeastCut M.vertices M.source M.sink (capacity M) side → IsLeastCut N.vertices N.source N.sink (capacity N) side
+least_same {N} {M} w side h =
+    let same : capacity N ≡ capacity M = λ i a b. w.capacities.at a b i in
+    subst (λ n. IsLeastCut n N.source N.sink (capacity N) side) w.vertices
+    (subst (λ s. IsLeastCut M.vertices s N.sink (capacity N) side) w.source
+    (subst (λ s. IsLeastCut M.vertices M.source s (capacity N) side) w.sink
+    (subst (λ t. IsLeastCut M.vertices M.source M.sink t side) (sym same) h)))
+
+capacity_same : {N M : Network} → HasSameCapacities N M → (side : ℕ → Bool) → cut_capacity M.vertices side (capacity M) ≡ cut_capacity N.vertices side (capacity N)
+capacity_same {N} {M} w side =
+    let same : capacity N ≡ capacity M = λ i a b. w.capacities.at a b i in
+    ap (λ n. cut_capacity n side (capacity M)) w.vertices ∙ ap (cut_capacity N.vertices side) (sym same)
+
+pub returns : goal.returns
+returns c = λ N M w apart h k.
+    let one = h apart in
+    let other = k (λ e. apart (sym w.source ∙ e ∙ w.sink)) in
+    let same = one_capacity N.vertices N.source N.sink (capacity N) one.0 other.0 one.1.smallest.least_cut (least_same w other.0 other.1.smallest.least_cut) in
+    sym other.1.worth ∙ capacity_same w other.0 ∙ sym same ∙ one.1.worth

@@ -1,0 +1,139 @@
+use Rattle.std.proofs.Common.{rules, length-append, refl, ◌≡◌, ◌<◌, ◌≤◌, ◌+◌, ℕ, List, [], ◌∷◌, ◌++◌, inl, inr, ap, sym, subst, ◌∙◌, length, arith}
+use Rattle.std.specs.Prelude.{slice_set, slice_get, slice_index, ◌<ℤ◌, pos, Option, Some, None}
+use Rattle.std.proofs.lemmas.Bool.{cases_eq}
+use Rattle.std.proofs.lemmas.List.{get_or_read}
+use Rattle.std.proofs.lemmas.Option.{slice_get_read, slice_get_within}
+use Rattle.std.proofs.Math.ListN.{get_or-append}
+use Rattle.pf_flow.specs.Networks.{Network}
+use Rattle.pf_flow.specs.Listings.{ListsNumbers}
+use Rattle.pf_flow.specs.Internal.Levels.{HasFound}
+use Rattle.pf_flow.proofs.LevelListLemmas.{found_more, found_next, known_level, to_reached, levels_kept, from_kept}
+use Rattle.pf_flow.proofs.levels.Levels.follow.Goals as goal
+use Rattle.pf_flow.proofs.levels.Levels.follow.Goals.{then-index-len+in_ok-push, else-index-len}
+
+module _ {C : Type 0} (N : Network) (at from level : ℕ) (ends : List (ℕ × C)) where
+  -- what the loop keeps
+  abbrev Kept : ℕ → List ℕ → List ℕ → List ℕ → Type 0
+  Kept k levels parents queue =
+      HasFound N levels parents queue at × (at < length queue) × (slice_index queue at ≡ from) × (slice_index levels from ≡ level)
+      × ((i a : ℕ) (c : C) → i < k → slice_get ends i ≡ Some (a, c) → slice_index levels a ≤ level + 1)
+
+  module _ (k to : ℕ) (c : C) (levels parents queue : List ℕ) (there : slice_get ends k ≡ Some (to, c)) where
+    abbrev first_of : Option (ℕ × C) → ℕ
+    first_of None = 0
+    first_of (Some e) = e.0
+
+    same_to : (a : ℕ) (c' : C) → slice_get ends k ≡ Some (a, c') → a ≡ to
+    same_to a c' e = ap first_of (sym e ∙ there)
+
+    -- an end that was reached before
+    known : Kept k levels parents queue → slice_index levels to ≤ level + 1 → Kept (k + 1) levels parents queue
+    known w l = (
+      w.0,
+      w.1,
+      w.2,
+      w.3,
+      λ i a c' h e. elim (cases_eq i k) as (λ _. slice_index levels a ≤ level + 1) [
+        | inl f ↦ (let g = ap (slice_index levels) (same_to a c' (ap (slice_get ends) (sym f) ∙ e)) in omega (arith, g, l))
+        | inr f ↦ w.4 i a c' (omega (arith, h, f)) e
+      ],
+    )
+
+    -- an end that is new
+    fresh : Kept k levels parents queue → to < N.vertices → slice_index levels to ≡ N.vertices → pos 0 <ℤ N.residual from to → Kept (k + 1) (slice_set levels to (level + 1)) (slice_set parents to from) (queue ++ to ∷ [])
+    fresh w i n r =
+        let left = subst (λ v. pos 0 <ℤ N.residual v to) (sym w.2) r in
+        let kept = levels_kept w.0 w.1 to i n left from level w.2 w.3 in
+        let more : at < length (queue ++ to ∷ []) = (let l = w.1 in grind (arith, length-append)) in (
+          found_more w.0 w.1 to i n left from level w.2 w.3,
+          more,
+          get_or-append queue (to ∷ []) 0 at w.1 ∙ w.2,
+          from_kept w.0 w.1 to i n left from level w.2 w.3,
+          λ j a c' h e. elim (cases_eq a to) as (λ _. slice_index (slice_set levels to (level + 1)) a ≤ level + 1) [
+            | inl f ↦ (let g = ap (slice_index (slice_set levels to (level + 1))) f in let o = to_reached w.0 w.1 to i n left from level w.2 w.3 in omega (arith, g, o))
+            | inr f ↦ (let g = kept a in let o = w.4 j a c' (elim (cases_eq j k) as (λ _. j < k) [ inl q ↦ absurd (f (same_to a c' (ap (slice_get ends) (sym q) ∙ e))) | inr q ↦ omega (arith, h, q) ]) e in omega (arith, g, o))
+          ],
+        )
+
+pub index-requires : goal.index-requires
+index-requires g c =
+    let N = g.S.FlowStore.network c.args.store.now in
+    let there : slice_get c.deref-end-items.result.now c.loop-end.end-index ≡ Some c.end-item.result = slice_get_read c.deref-end-items.result.now (length c.deref-end-items.result.now) c.loop-end.end-index c.end-item.result refl c.loop-end-test.true c.end-item.is in
+    let listed : ListsNumbers g.C.Number.value N.vertices (N.residual c.index-from.result.now) c.in_ok-ends.ends.items = c.in_ok-ends.ensures.listed in
+    let s = listed.sound c.loop-end.end-index c.end-item.result (ap (λ xs. slice_get xs c.loop-end.end-index) (sym c.deref-end-items.ensures.value) ∙ there) in
+    let inside = s.0 in
+    let found = c.loop-end.invariant.found in
+    let w = found.levels_len in
+    let v : c.end-item.result.0 < length c.loop-end.self.levels.items = omega (arith, inside, w) in
+    search rules
+
+pub index_mut-requires : goal.index_mut-requires
+index_mut-requires g c =
+    let N = g.S.FlowStore.network c.args.store.now in
+    let there : slice_get c.deref-end-items.result.now c.loop-end.end-index ≡ Some c.end-item.result = slice_get_read c.deref-end-items.result.now (length c.deref-end-items.result.now) c.loop-end.end-index c.end-item.result refl c.loop-end-test.true c.end-item.is in
+    let listed : ListsNumbers g.C.Number.value N.vertices (N.residual c.index-from.result.now) c.in_ok-ends.ends.items = c.in_ok-ends.ensures.listed in
+    let s = listed.sound c.loop-end.end-index c.end-item.result (ap (λ xs. slice_get xs c.loop-end.end-index) (sym c.deref-end-items.ensures.value) ∙ there) in
+    let inside = s.0 in
+    let found = c.loop-end.invariant.found in
+    let w = found.levels_len in
+    let v : c.end-item.result.0 < length c.loop-end.self.levels.items = omega (arith, inside, w) in
+    search rules
+
+pub index_mut-requires-then-index-len : goal.index_mut-requires-then-index-len
+index_mut-requires-then-index-len g c =
+    let N = g.S.FlowStore.network c.args.store.now in
+    let there : slice_get c.deref-end-items.result.now c.loop-end.end-index ≡ Some c.end-item.result = slice_get_read c.deref-end-items.result.now (length c.deref-end-items.result.now) c.loop-end.end-index c.end-item.result refl c.loop-end-test.true c.end-item.is in
+    let listed : ListsNumbers g.C.Number.value N.vertices (N.residual c.index-from.result.now) c.in_ok-ends.ends.items = c.in_ok-ends.ensures.listed in
+    let s = listed.sound c.loop-end.end-index c.end-item.result (ap (λ xs. slice_get xs c.loop-end.end-index) (sym c.deref-end-items.ensures.value) ∙ there) in
+    let inside = s.0 in
+    let found = c.loop-end.invariant.found in
+    let w = found.parents_len in
+    let v : c.end-item.result.0 < length c.loop-end.self.parents.items = omega (arith, inside, w) in
+    search rules
+
+pub loop-end-preserved : goal.loop-end-preserved
+loop-end-preserved g c =
+    let N = g.S.FlowStore.network c.args.store.now in
+    let there : slice_get c.deref-end-items.result.now c.loop-end.end-index ≡ Some c.end-item.result = slice_get_read c.deref-end-items.result.now (length c.deref-end-items.result.now) c.loop-end.end-index c.end-item.result refl c.loop-end-test.true c.end-item.is in
+    let listed : ListsNumbers g.C.Number.value N.vertices (N.residual c.index-from.result.now) c.in_ok-ends.ends.items = c.in_ok-ends.ensures.listed in
+    let s = listed.sound c.loop-end.end-index c.end-item.result (ap (λ xs. slice_get xs c.loop-end.end-index) (sym c.deref-end-items.ensures.value) ∙ there) in
+    let inside = s.0 in
+    let found = c.loop-end.invariant.found in
+    let positive = s.2 in
+    let value = s.1 in
+    let i = c.loop-end.invariant in
+    let from = c.index-from.result.now in
+    let level = c.index-level.result.now in
+    let before : Kept N c.args.at from level c.deref-end-items.result.now c.loop-end.end-index c.loop-end.self.levels.items c.loop-end.self.parents.items c.loop-end.self.queue.items = (found, i.more, i.from, i.level, i.followed) in
+    let read : c.index.result.now ≡ slice_index c.loop-end.self.levels.items c.end-item.result.0 = get_or_read c.loop-end.self.levels.items c.end-item.result.0 c.index.result.now (let wide = found.levels_len in omega (arith, inside, wide)) c.index.ensures 0 in
+    let len : c.len.result ≡ length c.loop-end.self.levels.items = search rules in
+    let after : Kept N c.args.at from level c.deref-end-items.result.now (c.loop-end.end-index + 1) c.if-index-len.self.levels.items c.if-index-len.self.parents.items c.if-index-len.self.queue.items = elim c.if-index-len.branch [
+      | then-index-len+in_ok-push w ↦ (
+          let t = w.if-index-len.true in
+          let e : c.if-index-len.self.levels.items ≡ slice_set c.loop-end.self.levels.items c.end-item.result.0 (level + 1) = ap (λ s. s.levels.items) w.self-is in
+          let f : c.if-index-len.self.parents.items ≡ slice_set c.loop-end.self.parents.items c.end-item.result.0 from = ap (λ s. s.parents.items) w.self-is in
+          let h : c.if-index-len.self.queue.items ≡ c.loop-end.self.queue.items ++ c.end-item.result.0 ∷ [] = ap (λ s. s.queue.items) w.self-is ∙ w.in_ok-push.ensures.items in
+          let new = sym read ∙ t ∙ len ∙ found.levels_len in
+          let residual = subst (λ z. pos 0 <ℤ z) value positive in
+          subst (λ xs. Kept N c.args.at from level c.deref-end-items.result.now (c.loop-end.end-index + 1) xs c.if-index-len.self.parents.items c.if-index-len.self.queue.items) (sym e)
+          (subst (λ xs. Kept N c.args.at from level c.deref-end-items.result.now (c.loop-end.end-index + 1) (slice_set c.loop-end.self.levels.items c.end-item.result.0 (level + 1)) xs c.if-index-len.self.queue.items) (sym f)
+          (subst (Kept N c.args.at from level c.deref-end-items.result.now (c.loop-end.end-index + 1) (slice_set c.loop-end.self.levels.items c.end-item.result.0 (level + 1)) (slice_set c.loop-end.self.parents.items c.end-item.result.0 from)) (sym h)
+          (fresh N c.args.at from level c.deref-end-items.result.now c.loop-end.end-index c.end-item.result.0 c.end-item.result.1 c.loop-end.self.levels.items c.loop-end.self.parents.items c.loop-end.self.queue.items there before inside new residual))))
+      | else-index-len w ↦ (
+          let old = known_level found i.more c.end-item.result.0 from level inside (λ q. w.if-index-len.false (read ∙ q ∙ sym found.levels_len ∙ sym len)) i.from i.level in
+          subst (λ s. Kept N c.args.at from level c.deref-end-items.result.now (c.loop-end.end-index + 1) s.levels.items s.parents.items s.queue.items) (sym w.self-is)
+          (known N c.args.at from level c.deref-end-items.result.now c.loop-end.end-index c.end-item.result.0 c.end-item.result.1 c.loop-end.self.levels.items c.loop-end.self.parents.items c.loop-end.self.queue.items there before old))
+    ] in
+    record { found = after.0; more = after.1; from = after.2; level = after.3; followed = after.4 }
+
+pub returns-clause-found : goal.returns-clause-found
+returns-clause-found g c =
+    let N = g.S.FlowStore.network c.args.store.now in
+    let i = c.loop-end.invariant in
+    let listed : ListsNumbers g.C.Number.value N.vertices (N.residual c.index-from.result.now) c.in_ok-ends.ends.items = c.in_ok-ends.ensures.listed in
+    found_next i.found i.more c.index-from.result.now c.index-level.result.now i.from i.level
+    (λ b l r. let q = listed.complete b l r in
+    let there : slice_get c.deref-end-items.result.now q.0 ≡ Some (b, q.1) = ap (λ xs. slice_get xs q.0) c.deref-end-items.ensures.value ∙ q.2 in
+    let inside = slice_get_within c.deref-end-items.result.now q.0 (b, q.1) there in
+    let done = c.loop-end-test.false in
+    i.followed q.0 b q.1 (omega (arith, inside, done)) there)

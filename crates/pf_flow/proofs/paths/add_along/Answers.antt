@@ -1,0 +1,115 @@
+use Rattle.std.proofs.Common.{◌≡◌, ◌<◌, ◌+◌, ◌-◌, arith, subst, sym, ℕ, length}
+use Rattle.std.specs.Prelude.{◌<ℤ◌, ◌+ℤ◌, ℤ, pos}
+use Rattle.std.proofs.lemmas.Int.{ints}
+use Rattle.pf_flow.specs.Networks.{Network, capacity, capacity_sum, with_total, IsNetwork}
+use Rattle.pf_flow.specs.Internal.AugmentingPaths.{IsPushed, potential}
+use Rattle.pf_flow.proofs.NetworkLemmas.{balanced_of, total_below, fits_near}
+use Rattle.pf_flow.proofs.AgreeLemmas.{agreed, network_agrees}
+use Rattle.pf_flow.proofs.PushLemmas.{move_fits_flow, move_fits_flow_back, move_fits_residual, move_fits_residual_back, step_here_in, step_next_in, step_apart, step_enough, pushed_step, pushed_agrees, levels_step, levels_agrees, pushed_network}
+use Rattle.pf_flow.proofs.paths.add_along.Goals as goal
+
+low : {n : ℕ} {r : ℕ → ℤ} {z : ℤ} → ((k : ℕ) → k + 1 < n → pos 0 <ℤ r k) → (k : ℕ) × (k + 1 < n) × (z ≡ r k) → pos 0 <ℤ z
+low h (k, l, e) = let p = h k l in omega (arith, ints, p, e)
+
+pub add_flow-requires-clause-flow : goal.add_flow-requires-clause-flow
+add_flow-requires-clause-flow g c =
+    let w = c.requires.path in
+    let p = c.loop-place.invariant.pushed in
+    let a = low w.left c.least_residual-amount.ensures.reached in
+    let k = c.loop-place.place in
+    let next : k + 1 < length c.args.path.now = omega arith in
+    let b = balanced_of c.requires.network in
+    let l = c.least_residual-amount.ensures.least in
+    move_fits_flow (λ x y z. g.C.Number.between_law x y z g.met.C.Integral.exact_law) g.met.C.SignedCost.negation_law p.balanced _ _ _ (step_here_in w b _ a l k next p) (step_next_in w b _ a l k next p) (step_apart w b _ a l k next) (omega (arith, ints, a)) (step_enough w b _ a l k next p)
+
+pub add_flow-requires-clause-flow_back : goal.add_flow-requires-clause-flow_back
+add_flow-requires-clause-flow_back g c =
+    let w = c.requires.path in
+    let p = c.loop-place.invariant.pushed in
+    let a = low w.left c.least_residual-amount.ensures.reached in
+    let k = c.loop-place.place in
+    let next : k + 1 < length c.args.path.now = omega arith in
+    let b = balanced_of c.requires.network in
+    let l = c.least_residual-amount.ensures.least in
+    move_fits_flow_back (λ x y z. g.C.Number.between_law x y z g.met.C.Integral.exact_law) g.met.C.SignedCost.negation_law p.balanced _ _ _ (step_here_in w b _ a l k next p) (step_next_in w b _ a l k next p) (step_apart w b _ a l k next) (omega (arith, ints, a)) (step_enough w b _ a l k next p)
+
+pub add_flow-requires-clause-residual : goal.add_flow-requires-clause-residual
+add_flow-requires-clause-residual g c =
+    let w = c.requires.path in
+    let p = c.loop-place.invariant.pushed in
+    let a = low w.left c.least_residual-amount.ensures.reached in
+    let k = c.loop-place.place in
+    let next : k + 1 < length c.args.path.now = omega arith in
+    let b = balanced_of c.requires.network in
+    let l = c.least_residual-amount.ensures.least in
+    move_fits_residual (λ x y z. g.C.Number.between_law x y z g.met.C.Integral.exact_law) g.met.C.SignedCost.negation_law p.balanced _ _ _ (step_here_in w b _ a l k next p) (step_next_in w b _ a l k next p) (step_apart w b _ a l k next) (omega (arith, ints, a)) (step_enough w b _ a l k next p)
+
+pub add_flow-requires-clause-residual_back : goal.add_flow-requires-clause-residual_back
+add_flow-requires-clause-residual_back g c =
+    let w = c.requires.path in
+    let p = c.loop-place.invariant.pushed in
+    let a = low w.left c.least_residual-amount.ensures.reached in
+    let k = c.loop-place.place in
+    let next : k + 1 < length c.args.path.now = omega arith in
+    let b = balanced_of c.requires.network in
+    let l = c.least_residual-amount.ensures.least in
+    move_fits_residual_back (λ x y z. g.C.Number.between_law x y z g.met.C.Integral.exact_law) g.met.C.SignedCost.negation_law p.balanced _ _ _ (step_here_in w b _ a l k next p) (step_next_in w b _ a l k next p) (step_apart w b _ a l k next) (omega (arith, ints, a)) (step_enough w b _ a l k next p)
+
+pub loop-place-preserved : goal.loop-place-preserved
+loop-place-preserved g c =
+    let w = c.requires.path in
+    let p = c.loop-place.invariant.pushed in
+    let a = low w.left c.least_residual-amount.ensures.reached in
+    let k = c.loop-place.place in
+    let next : k + 1 < length c.args.path.now = omega arith in
+    let b = balanced_of c.requires.network in
+    let l = c.least_residual-amount.ensures.least in
+    record {
+      pushed = pushed_agrees c.add_flow.ensures (pushed_step w b _ a l k next p);
+      levels = levels_agrees c.add_flow.ensures (levels_step w b _ a l k next p c.loop-place.invariant.levels);
+      room = λ x y h. c.add_flow.ensures.room x y (c.loop-place.invariant.room x y h);
+    }
+
+pub plus-total-requires : goal.plus-total-requires
+plus-total-requires g c =
+    let w = c.requires.path in
+    let a = low w.left c.least_residual-amount.ensures.reached in
+    let b = balanced_of c.requires.network in
+    let l = c.least_residual-amount.ensures.least in
+    let N = g.S.FlowStore.network c.args.store.now in
+    let M = g.S.FlowStore.network c.loop-place.store in
+    let x = g.C.Number.value c.least_residual-amount.result in
+    let end : c.loop-place.place ≡ length c.args.path.now - 1 = omega arith in
+    let p = subst (λ k. IsPushed g.C.Number.fits N c.args.path.now x k M) end c.loop-place.invariant.pushed in
+    let net = pushed_network w b x a l c.requires.network p (g.met.S.FlowStore.network_law c.args.store.now).source_in in
+    let t = p.total in
+    let r = c.total_capacity.ensures in
+    let top = total_below (g.met.S.FlowStore.network_law c.loop-place.store).source_in net in
+    let above = net.above in
+    let e : N.total +ℤ x ≡ g.C.Number.value c.total_capacity.result +ℤ x = omega (arith, ints, t, r) in
+    subst g.C.Number.fits e (fits_near (λ x y z. g.C.Number.between_law x y z g.met.C.Integral.exact_law) g.met.C.SignedCost.negation_law (capacity_sum M) (N.total +ℤ x) net.sum (omega (arith, ints, top, above)) top)
+
+pub returns-clause-network : goal.returns-clause-network
+returns-clause-network g c =
+    let w = c.requires.path in
+    let a = low w.left c.least_residual-amount.ensures.reached in
+    let b = balanced_of c.requires.network in
+    let l = c.least_residual-amount.ensures.least in
+    let N = g.S.FlowStore.network c.args.store.now in
+    let M = g.S.FlowStore.network c.loop-place.store in
+    let x = g.C.Number.value c.least_residual-amount.result in
+    let end : c.loop-place.place ≡ length c.args.path.now - 1 = omega arith in
+    let p = subst (λ k. IsPushed g.C.Number.fits N c.args.path.now x k M) end c.loop-place.invariant.pushed in
+    let net = pushed_network w b x a l c.requires.network p (g.met.S.FlowStore.network_law c.args.store.now).source_in in
+    let t = p.total in
+    let r = c.total_capacity.ensures in
+    let q = c.plus-total.ensures in
+    let e : N.total +ℤ x ≡ g.C.Number.value c.plus-total.result = omega (arith, ints, t, r, q) in
+    network_agrees c.set_total_capacity.ensures (subst (λ z. IsNetwork g.C.Number.fits (with_total z M)) e net)
+
+pub returns-clause-rises : goal.returns-clause-rises
+returns-clause-rises g c = λ d h.
+    let N = g.S.FlowStore.network c.args.store.now in
+    let (j, k, e) = c.least_residual-amount.ensures.reached in
+    subst (λ (O : Network). potential N.vertices (capacity N) N.residual d < potential N.vertices (capacity N) O.residual d) (agreed c.set_total_capacity.ensures)
+    (c.loop-place.invariant.levels.raised d j h (omega (arith, k)) k (sym e))

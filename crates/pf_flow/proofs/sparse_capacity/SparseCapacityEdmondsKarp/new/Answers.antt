@@ -1,0 +1,15 @@
+use Rattle.std.proofs.Common.{◌∙◌, ap}
+use Rattle.pf_flow.proofs.NetworkLemmas.{network_of_fresh}
+use Rattle.pf_flow.proofs.SparseStoreLemmas.{empty_fresh, empty_capacities}
+use Rattle.pf_flow.proofs.sparse_capacity.SparseCapacityEdmondsKarp.new.Goals as goal
+
+pub returns-clause-network : goal.returns-clause-network
+returns-clause-network g c =
+    let value = g.C.Number.value in
+    let exact = g.met.C.Integral.exact_law in
+    let nought = ap value c.zero.ensures ∙ g.met.C.Zero.zero_law exact in
+    let rows = c.in_ok-rows.rows.items in
+    let made = c.in_ok-rows.ensures in
+    network_of_fresh (g.met.C.Zero.zero_fits_law exact)
+    (empty_fresh value rows c.args.size c.args.source c.args.sink (value c.zero.result) made.empty made.len nought)
+    (empty_capacities value rows c.args.source c.args.sink (value c.zero.result) made.empty)

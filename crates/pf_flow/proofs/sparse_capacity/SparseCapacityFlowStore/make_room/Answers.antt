@@ -1,0 +1,177 @@
+use Rattle.std.proofs.Common.{◌≡◌, refl, arith, ◌∙◌, sym, ap, subst, [], true, false, slice_set}
+use Rattle.std.proofs.lemmas.List.{get_or_default}
+use Rattle.pf_flow.specs.Networks.{Agrees}
+use Rattle.pf_flow.specs.SparseRows.{ends, Rises, has_end, row_at, with_edge}
+use Rattle.pf_flow.specs.SparseStores.{AreRows, rows_network}
+use Rattle.pf_flow.specs.declared.sparse_row.Edge.{Edge}
+use Rattle.pf_flow.proofs.SparseRoom.{widened, widened_once, widened_twice, room_made, once_amount, fresh_back, inside_once, first_is, second_is, third_read, undone}
+use Rattle.pf_flow.proofs.SparseRowLemmas.{with_edge_rises, with_edge_has}
+use Rattle.pf_flow.proofs.SparseStoreLemmas.{rows_same}
+use Rattle.pf_flow.proofs.sparse_capacity.SparseCapacityFlowStore.make_room.Goals as goal
+
+pub invariant_of-self-then-from-to : goal.invariant_of-self-then-from-to
+invariant_of-self-then-from-to g c =
+    let rows = c.args.self.now.rows.items in
+    let from = c.args.from in
+    let to = c.args.to in
+    let source = c.args.self.now.source in
+    let sink = c.args.self.now.sink in
+    let d : Edge g.row.C.Denot = record { to = to; residual = g.C.Zero.zero; flow = g.C.Zero.zero } in
+    let fresh : has_end (ends (row_at rows from)) to ≡ false = sym (ap (λ r. has_end (ends r) to) (c.index.ensures ∙ get_or_default rows from _ [] c.requires.from)) ∙ sym c.has.ensures ∙ c.if-has.false in
+    let first = first_is rows from to d d c.requires.from c.requires.to c.index_mut.result.now c.index_mut.ensures.value c.insert.new.self c.in_ok-insert.ensures.ok in
+    let widens = widened_once source sink rows from d c.args.self.now.stored c.requires.from c.if-from-to.true fresh in
+    record { stored = subst (λ r. AreRows source sink r) (sym first) (widened source sink from to rows _ c.args.self.now.stored c.requires.from c.requires.to widens) }
+
+pub returns-then-from-to-clause-same : goal.returns-then-from-to-clause-same
+returns-then-from-to-clause-same g c =
+    let rows = c.args.self.now.rows.items in
+    let from = c.args.from in
+    let to = c.args.to in
+    let source = c.args.self.now.source in
+    let sink = c.args.self.now.sink in
+    let d : Edge g.row.C.Denot = record { to = to; residual = g.C.Zero.zero; flow = g.C.Zero.zero } in
+    let fresh : has_end (ends (row_at rows from)) to ≡ false = sym (ap (λ r. has_end (ends r) to) (c.index.ensures ∙ get_or_default rows from _ [] c.requires.from)) ∙ sym c.has.ensures ∙ c.if-has.false in
+    let first = first_is rows from to d d c.requires.from c.requires.to c.index_mut.result.now c.index_mut.ensures.value c.insert.new.self c.in_ok-insert.ensures.ok in
+    let value = g.C.Number.value in
+    let total = value c.args.self.now.total in
+    let details = c.args.self.now.details in
+    let none = g.met.C.Zero.zero_law g.met.C.Integral.exact_law in
+    let widens = widened_once source sink rows from d c.args.self.now.stored c.requires.from c.if-from-to.true fresh in
+    subst (λ r. Agrees (rows_network value rows source sink total details) (rows_network value r source sink total details)) (sym first)
+    (room_made value source sink total details from to rows _ widens (λ f z a b. once_amount rows from d c.requires.from f fresh (z d none none) a b))
+
+pub returns-then-from-to-clause-room : goal.returns-then-from-to-clause-room
+returns-then-from-to-clause-room g c =
+    let rows = c.args.self.now.rows.items in
+    let from = c.args.from in
+    let to = c.args.to in
+    let source = c.args.self.now.source in
+    let sink = c.args.self.now.sink in
+    let d : Edge g.row.C.Denot = record { to = to; residual = g.C.Zero.zero; flow = g.C.Zero.zero } in
+    let fresh : has_end (ends (row_at rows from)) to ≡ false = sym (ap (λ r. has_end (ends r) to) (c.index.ensures ∙ get_or_default rows from _ [] c.requires.from)) ∙ sym c.has.ensures ∙ c.if-has.false in
+    let first = first_is rows from to d d c.requires.from c.requires.to c.index_mut.result.now c.index_mut.ensures.value c.insert.new.self c.in_ok-insert.ensures.ok in
+    let widens = widened_once source sink rows from d c.args.self.now.stored c.requires.from c.if-from-to.true fresh in
+    subst (λ r. has_end (ends (row_at r from)) to ≡ true) (sym first) widens.there
+
+pub remove-requires-clause-rises : goal.remove-requires-clause-rises
+remove-requires-clause-rises g c =
+    let rows = c.args.self.now.rows.items in
+    let from = c.args.from in
+    let to = c.args.to in
+    let source = c.args.self.now.source in
+    let sink = c.args.self.now.sink in
+    let d : Edge g.row.C.Denot = record { to = to; residual = g.C.Zero.zero; flow = g.C.Zero.zero } in
+    let fresh : has_end (ends (row_at rows from)) to ≡ false = sym (ap (λ r. has_end (ends r) to) (c.index.ensures ∙ get_or_default rows from _ [] c.requires.from)) ∙ sym c.has.ensures ∙ c.if-has.false in
+    let e : Edge g.row.C.Denot = record { to = from; residual = g.C.Zero.zero; flow = g.C.Zero.zero } in
+    let stored = c.args.self.now.stored in
+    let third = third_read rows from to d d c.requires.from c.requires.to c.index_mut.result.now c.index_mut.ensures.value c.insert.new.self c.in_ok-insert.ensures.ok
+    c.index_mut-2.result.now c.index_mut-2.ensures.value c.insert-2.new.self c.in-Err.ensures.unchanged c.index_mut-in-Err.result.now c.index_mut-in-Err.ensures.value in
+    subst (λ r. Rises 0 (ends r)) (sym third) (with_edge_rises 0 (row_at rows from) d (stored.rises from) (omega arith) fresh)
+
+pub remove-requires-clause-edge : goal.remove-requires-clause-edge
+remove-requires-clause-edge g c =
+    let rows = c.args.self.now.rows.items in
+    let from = c.args.from in
+    let to = c.args.to in
+    let source = c.args.self.now.source in
+    let sink = c.args.self.now.sink in
+    let d : Edge g.row.C.Denot = record { to = to; residual = g.C.Zero.zero; flow = g.C.Zero.zero } in
+    let fresh : has_end (ends (row_at rows from)) to ≡ false = sym (ap (λ r. has_end (ends r) to) (c.index.ensures ∙ get_or_default rows from _ [] c.requires.from)) ∙ sym c.has.ensures ∙ c.if-has.false in
+    let e : Edge g.row.C.Denot = record { to = from; residual = g.C.Zero.zero; flow = g.C.Zero.zero } in
+    let stored = c.args.self.now.stored in
+    let third = third_read rows from to d d c.requires.from c.requires.to c.index_mut.result.now c.index_mut.ensures.value c.insert.new.self c.in_ok-insert.ensures.ok
+    c.index_mut-2.result.now c.index_mut-2.ensures.value c.insert-2.new.self c.in-Err.ensures.unchanged c.index_mut-in-Err.result.now c.index_mut-in-Err.ensures.value in
+    subst (λ r. has_end (ends r) to ≡ true) (sym third) (with_edge_has (row_at rows from) d)
+
+pub invariant_of-self-in-Err : goal.invariant_of-self-in-Err
+invariant_of-self-in-Err g c =
+    let rows = c.args.self.now.rows.items in
+    let from = c.args.from in
+    let to = c.args.to in
+    let source = c.args.self.now.source in
+    let sink = c.args.self.now.sink in
+    let d : Edge g.row.C.Denot = record { to = to; residual = g.C.Zero.zero; flow = g.C.Zero.zero } in
+    let fresh : has_end (ends (row_at rows from)) to ≡ false = sym (ap (λ r. has_end (ends r) to) (c.index.ensures ∙ get_or_default rows from _ [] c.requires.from)) ∙ sym c.has.ensures ∙ c.if-has.false in
+    let e : Edge g.row.C.Denot = record { to = from; residual = g.C.Zero.zero; flow = g.C.Zero.zero } in
+    let stored = c.args.self.now.stored in
+    let back = undone rows from to d d c.requires.from c.requires.to c.index_mut.result.now c.index_mut.ensures.value c.insert.new.self c.in_ok-insert.ensures.ok
+    c.index_mut-2.result.now c.index_mut-2.ensures.value c.insert-2.new.self c.in-Err.ensures.unchanged c.index_mut-in-Err.result.now c.index_mut-in-Err.ensures.value
+    refl fresh c.remove.new.self c.remove.ensures in
+    record { stored = subst (λ r. AreRows source sink r) (sym back) stored }
+
+pub returns-in-Err-clause-same : goal.returns-in-Err-clause-same
+returns-in-Err-clause-same g c =
+    let rows = c.args.self.now.rows.items in
+    let from = c.args.from in
+    let to = c.args.to in
+    let source = c.args.self.now.source in
+    let sink = c.args.self.now.sink in
+    let d : Edge g.row.C.Denot = record { to = to; residual = g.C.Zero.zero; flow = g.C.Zero.zero } in
+    let fresh : has_end (ends (row_at rows from)) to ≡ false = sym (ap (λ r. has_end (ends r) to) (c.index.ensures ∙ get_or_default rows from _ [] c.requires.from)) ∙ sym c.has.ensures ∙ c.if-has.false in
+    let e : Edge g.row.C.Denot = record { to = from; residual = g.C.Zero.zero; flow = g.C.Zero.zero } in
+    let stored = c.args.self.now.stored in
+    let value = g.C.Number.value in
+    let total = value c.args.self.now.total in
+    let details = c.args.self.now.details in
+    let none = g.met.C.Zero.zero_law g.met.C.Integral.exact_law in
+    let back = undone rows from to d d c.requires.from c.requires.to c.index_mut.result.now c.index_mut.ensures.value c.insert.new.self c.in_ok-insert.ensures.ok
+    c.index_mut-2.result.now c.index_mut-2.ensures.value c.insert-2.new.self c.in-Err.ensures.unchanged c.index_mut-in-Err.result.now c.index_mut-in-Err.ensures.value
+    refl fresh c.remove.new.self c.remove.ensures in
+    subst (λ r. Agrees (rows_network value rows source sink total details) (rows_network value r source sink total details)) (sym back)
+    (rows_same value source sink total details rows rows refl (λ a. refl))
+
+pub invariant_of-self-in_default : goal.invariant_of-self-in_default
+invariant_of-self-in_default g c =
+    let rows = c.args.self.now.rows.items in
+    let from = c.args.from in
+    let to = c.args.to in
+    let source = c.args.self.now.source in
+    let sink = c.args.self.now.sink in
+    let d : Edge g.row.C.Denot = record { to = to; residual = g.C.Zero.zero; flow = g.C.Zero.zero } in
+    let fresh : has_end (ends (row_at rows from)) to ≡ false = sym (ap (λ r. has_end (ends r) to) (c.index.ensures ∙ get_or_default rows from _ [] c.requires.from)) ∙ sym c.has.ensures ∙ c.if-has.false in
+    let e : Edge g.row.C.Denot = record { to = from; residual = g.C.Zero.zero; flow = g.C.Zero.zero } in
+    let stored = c.args.self.now.stored in
+    let second = second_is rows from to d e c.requires.from c.requires.to c.index_mut.result.now c.index_mut.ensures.value c.insert.new.self c.in_ok-insert.ensures.ok
+    c.index_mut-2.result.now c.index_mut-2.ensures.value c.insert-2.new.self c.in_default.ensures.ok in
+    let widens = widened_twice source sink rows stored d e c.if-from-to.false c.requires.from c.requires.to fresh in
+    record { stored = subst (λ r. AreRows source sink r) (sym second) (widened source sink from to rows _ stored c.requires.from c.requires.to widens) }
+
+pub returns-clause-same : goal.returns-clause-same
+returns-clause-same g c =
+    let rows = c.args.self.now.rows.items in
+    let from = c.args.from in
+    let to = c.args.to in
+    let source = c.args.self.now.source in
+    let sink = c.args.self.now.sink in
+    let d : Edge g.row.C.Denot = record { to = to; residual = g.C.Zero.zero; flow = g.C.Zero.zero } in
+    let fresh : has_end (ends (row_at rows from)) to ≡ false = sym (ap (λ r. has_end (ends r) to) (c.index.ensures ∙ get_or_default rows from _ [] c.requires.from)) ∙ sym c.has.ensures ∙ c.if-has.false in
+    let e : Edge g.row.C.Denot = record { to = from; residual = g.C.Zero.zero; flow = g.C.Zero.zero } in
+    let stored = c.args.self.now.stored in
+    let value = g.C.Number.value in
+    let total = value c.args.self.now.total in
+    let details = c.args.self.now.details in
+    let none = g.met.C.Zero.zero_law g.met.C.Integral.exact_law in
+    let second = second_is rows from to d e c.requires.from c.requires.to c.index_mut.result.now c.index_mut.ensures.value c.insert.new.self c.in_ok-insert.ensures.ok
+    c.index_mut-2.result.now c.index_mut-2.ensures.value c.insert-2.new.self c.in_default.ensures.ok in
+    let widens = widened_twice source sink rows stored d e c.if-from-to.false c.requires.from c.requires.to fresh in
+    subst (λ r. Agrees (rows_network value rows source sink total details) (rows_network value r source sink total details)) (sym second)
+    (room_made value source sink total details from to rows _ widens (λ f z a b.
+    once_amount rows from d c.requires.from f fresh (z d none none) a b
+    ∙ once_amount (slice_set rows from (with_edge (row_at rows from) d)) to e (inside_once source sink rows stored d e c.if-from-to.false c.requires.from c.requires.to fresh) f
+    (fresh_back source sink rows stored d e c.if-from-to.false c.requires.from c.requires.to fresh) (z e none none) a b))
+
+pub returns-clause-room : goal.returns-clause-room
+returns-clause-room g c =
+    let rows = c.args.self.now.rows.items in
+    let from = c.args.from in
+    let to = c.args.to in
+    let source = c.args.self.now.source in
+    let sink = c.args.self.now.sink in
+    let d : Edge g.row.C.Denot = record { to = to; residual = g.C.Zero.zero; flow = g.C.Zero.zero } in
+    let fresh : has_end (ends (row_at rows from)) to ≡ false = sym (ap (λ r. has_end (ends r) to) (c.index.ensures ∙ get_or_default rows from _ [] c.requires.from)) ∙ sym c.has.ensures ∙ c.if-has.false in
+    let e : Edge g.row.C.Denot = record { to = from; residual = g.C.Zero.zero; flow = g.C.Zero.zero } in
+    let stored = c.args.self.now.stored in
+    let second = second_is rows from to d e c.requires.from c.requires.to c.index_mut.result.now c.index_mut.ensures.value c.insert.new.self c.in_ok-insert.ensures.ok
+    c.index_mut-2.result.now c.index_mut-2.ensures.value c.insert-2.new.self c.in_default.ensures.ok in
+    let widens = widened_twice source sink rows stored d e c.if-from-to.false c.requires.from c.requires.to fresh in
+    subst (λ r. has_end (ends (row_at r from)) to ≡ true) (sym second) widens.there

@@ -1,0 +1,6 @@
+use Rattle.std.proofs.Common.{◌≡◌, length}
+use Rattle.pf_flow.specs.SparseStores.{AreEmpty}
+use Rattle.pf_flow.proofs.sparse_capacity.empty_rows.Given as goal
+
+abbrev pub invariant-loop : goal.invariant-loop
+invariant-loop g l = (length l.rows.items ≡ l.counter) × AreEmpty l.rows.items

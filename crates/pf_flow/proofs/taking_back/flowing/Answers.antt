@@ -1,0 +1,19 @@
+use Rattle.std.proofs.Common.{◌≡◌, ◌≤◌, ◌∙◌, List, arith, length, take, map, ap, sym, subst, ℕ}
+use Rattle.std.proofs.lemmas.List.{take_all}
+use Rattle.pf_flow.specs.declared.cancelling.arcs.Arc.{Arc}
+use Rattle.pf_flow.specs.Internal.Settled.{arc_of, HoldFlows}
+use Rattle.pf_flow.proofs.TakeBackLemmas.{hold_flows}
+use Rattle.pf_flow.proofs.taking_back.flowing.Goals as goal
+
+pub returns-clause-flows : goal.returns-clause-flows
+returns-clause-flows g c =
+    let N = g.S.FlowStore.network c.args.store.now in
+    let value = g.C.Number.value in
+    let items = c.in_ok-flows.flows.items in
+    let seen : c.deref-flow-items.result.now ≡ items = c.deref-flow-items.ensures.value in
+    let all : length items ≤ c.flows.flow-index = omega (arith, c.flows-test.false, ap length seen) in
+    let whole : take c.flows.flow-index c.deref-flow-items.result.now ≡ items = ap (take c.flows.flow-index) seen ∙ take_all c.flows.flow-index items all in
+    let v = c.flows.invariant in
+    let made = hold_flows value N items c.in_ok-flows.ensures.listed in
+    let one = subst (λ (es : List Arc). HoldFlows value N es (map (λ (f : (ℕ × ℕ) × g.row.C.Denot). f.1) items)) (sym (v.ends ∙ ap (map arc_of) whole)) made in
+    subst (λ (xs : List g.row.C.Denot). HoldFlows value N c.flows.ends.items xs) (sym (v.amounts ∙ ap (map (λ (f : (ℕ × ℕ) × g.row.C.Denot). f.1)) whole)) one

@@ -1,0 +1,226 @@
+//! Greatest flows between vertices with names.
+
+ghost use Rattle.std.specs.Prelude.{◌≡◌, ◌⊎◌, ◌<◌, ◌++◌, ◌∷◌, [], ℕ, List, Some, length, slice_get, pos, OnOk, IfOk, IfErr};
+ghost use Rattle.std.specs.Iterator.{IsFiniteIterable, Drains};
+ghost use Rattle.std.specs.List.{AllZip};
+ghost use Rattle.pf_base.specs.declared.error.PathError.TheVariants.{OutOfMemory, UnknownVertex};
+ghost use Rattle.pf_flow.specs.Networks.{KeepsShape, HasCapacities, capacity_sum};
+ghost use Rattle.pf_flow.specs.NamedNetworks.{names_of, number_of, given_capacities, IsKnown, IsNamed, AreAccepted, IsEdgeRefused, AreEdgesRefused, IsAnsweredFor, IsRefusedFor};
+ghost use Rattle.pf_flow.specs.Internal.Filling.{IsUnused};
+
+use crate::dense_capacity::DenseCapacity;
+use crate::edmonds_karp::{EKFlows, Edge, EdmondsKarp};
+use crate::makers::put_capacity;
+use crate::sparse_capacity::SparseCapacity;
+use crate::store::FlowStore;
+use indexmap::IndexSet;
+use pf_base::{PathError, SignedCost};
+use std::alloc::Allocator;
+use std::hash::{BuildHasherDefault, FoldHasher, Hash};
+
+/// Vertices, each once, in the order in which they first stand; the place of a vertex is its number.
+type Names<N, A> = IndexSet<N, BuildHasherDefault<FoldHasher>, A>;
+
+/// The vertices, each once.
+fn names_among<N, A>(alloc: A, vertices: &[N]) -> Result<Names<N, A>, PathError>
+where
+    N: Eq + Hash + Copy,
+    A: Allocator + Copy,
+    ensures names { IfOk result (λ names. names.keys ≡ names_of N.eq vertices.now) }
+    ensures refused { IfErr result (λ e. e ≡ OutOfMemory) }
+{
+    let mut names = IndexSet::new(alloc);
+    'vertices: for vertex in vertices {
+        names.insert(*vertex)?;
+    }
+    Ok(names)
+}
+
+/// The number of a vertex.
+fn known_number<N, A>(names: &Names<N, A>, vertex: &N) -> Result<usize, PathError>
+where
+    N: Eq + Hash,
+    A: Allocator + Copy,
+    ensures number { IfOk result (λ number. number ≡ number_of N.eq names.now.keys vertex.now) }
+    ensures known { OnOk result (IsKnown N.eq names.now.keys vertex.now) }
+    ensures refused { IfErr result (λ e. (e ≡ UnknownVertex) × (¬ (IsKnown N.eq names.now.keys vertex.now))) }
+{
+    match names.get_index_of(vertex) {
+        Some(number) => Ok(number),
+        None => Err(PathError::UnknownVertex),
+    }
+}
+
+/// Puts the capacity of an edge in the place of that of its pair of vertices. Given is the sum of all
+/// capacities before, and answered that after.
+fn put_edge<N, C, S, A>(
+    store: &mut S,
+    names: &Names<N, A>,
+    sum: C,
+    edge: Edge<N, C>,
+) -> Result<C, PathError>
+where
+    N: Eq + Hash + Copy,
+    C: SignedCost,
+    S: FlowStore<C>,
+    A: Allocator + Copy,
+    requires unused { IsUnused C.fits (S.network store.old) }
+    requires sum { C.value sum ≡ capacity_sum (S.network store.old) }
+    requires vertices { (S.network store.old).vertices ≡ length names.now.keys }
+    ensures unused { OnOk result (IsUnused C.fits (S.network store.new)) }
+    ensures sum { IfOk result (λ sum. C.value sum ≡ capacity_sum (S.network store.new)) }
+    ensures shape { OnOk result (KeepsShape (S.network store.old) (S.network store.new)) }
+    ensures capacities { OnOk result ((edges : List ((N × N) × C)) → HasCapacities (given_capacities N.eq C.value names.now.keys edges) (S.network store.old)
+        → HasCapacities (given_capacities N.eq C.value names.now.keys (edges ++ edge ∷ [])) (S.network store.new)) }
+    ensures accepted { OnOk result ((edges : List ((N × N) × C)) → HasCapacities (given_capacities N.eq C.value names.now.keys edges) (S.network store.old)
+        → AreAccepted N.eq C.value names.now.keys C.fits (λ a b. pos 0) edges → AreAccepted N.eq C.value names.now.keys C.fits (λ a b. pos 0) (edges ++ edge ∷ [])) }
+    ensures refused { IfErr result (λ e. (e ≡ OutOfMemory) ⊎ ((edges : List ((N × N) × C)) → HasCapacities (given_capacities N.eq C.value names.now.keys edges) (S.network store.old)
+        → IsEdgeRefused N.eq C.value names.now.keys C.fits (given_capacities N.eq C.value names.now.keys edges) edge e)) }
+{
+    let ((from, to), capacity) = edge;
+    let from = known_number(names, &from)?;
+    let to = known_number(names, &to)?;
+    put_capacity(store, sum, from, to, capacity)
+}
+
+/// Puts capacities of edges in turn into a store that has none.
+fn put_edges<N, C, S, A, IC>(
+    store: &mut S,
+    names: &Names<N, A>,
+    capacities: IC,
+) -> Result<(), PathError>
+where
+    N: Eq + Hash + Copy,
+    C: SignedCost,
+    S: FlowStore<C>,
+    A: Allocator + Copy,
+    IC: IntoIterator<Item = Edge<N, C>>,
+    requires ends { IsFiniteIterable IC.into_iter_gives IC.IntoIter.can_next IC.IntoIter.remaining capacities }
+    requires unused { IsUnused C.fits (S.network store.old) }
+    requires none { HasCapacities (λ a b. pos 0) (S.network store.old) }
+    requires vertices { (S.network store.old).vertices ≡ length names.now.keys }
+    ensures unused { OnOk result (IsUnused C.fits (S.network store.new)) }
+    ensures shape { OnOk result (KeepsShape (S.network store.old) (S.network store.new)) }
+    ensures capacities { OnOk result ((it : IC.IntoIter) × (edges : List ((N × N) × C)) × IC.into_iter_gives capacities it × Drains IC.IntoIter.next_gives it edges
+        × AreAccepted N.eq C.value names.now.keys C.fits (λ a b. pos 0) edges × HasCapacities (given_capacities N.eq C.value names.now.keys edges) (S.network store.new)) }
+    ensures refused { IfErr result (λ e. (e ≡ OutOfMemory) ⊎ AreEdgesRefused N.eq C.value C.fits IC.into_iter_gives IC.IntoIter.next_gives names.now.keys capacities e) }
+{
+    let mut sum = C::zero();
+    'edges: for edge in capacities {
+        sum = put_edge(store, names, sum, edge)?;
+    }
+    Ok(())
+}
+
+/// Numbered edges with the names of their vertices.
+fn name_edges<N, C, A>(
+    alloc: A,
+    names: &[N],
+    numbered: &[Edge<usize, C>],
+) -> Result<Vec<Edge<N, C>, A>, PathError>
+where
+    N: Copy,
+    C: SignedCost,
+    A: Allocator + Copy,
+    requires inside { (i : ℕ) (e : (ℕ × ℕ) × C) → slice_get numbered.now i ≡ Some e → (e.0.0 < length names.now) × (e.0.1 < length names.now) }
+    ensures named { IfOk result (λ edges. AllZip (IsNamed names.now) numbered.now edges.items) }
+    ensures refused { IfErr result (λ e. e ≡ OutOfMemory) }
+{
+    let mut edges = Vec::with_capacity(alloc, numbered.len())?;
+    'numbered: for edge in numbered {
+        let (from, to) = edge.0;
+        edges.push(((names[from], names[to]), edge.1))?;
+    }
+    Ok(edges)
+}
+
+/// A greatest flow from a source to a sink, and a least cut, in a store that is made for it.
+///
+/// The vertices are numbered by their first standing in `vertices`; equal vertices are one. The
+/// capacity of a pair of vertices is that of its last edge, and zero where it has none. Answered are
+/// the flows above zero, the total and the edges of a least cut, as by `augment`, flows and cut by
+/// rising pair of numbers, with the vertices as they first stand in `vertices`. Where source and sink
+/// are one vertex, there is no flow and no cut.
+///
+/// Flow is added along shortest paths (J. Edmonds, R. M. Karp, "Theoretical improvements in
+/// algorithmic efficiency for network flow problems", 1972).
+///
+/// # Errors
+///
+/// `UnknownVertex` where source or sink is not among the vertices. Then edge by edge, at the first one
+/// that gives cause: `UnknownVertex` where one of its ends is not among the vertices, else
+/// `NegativeCapacity` where its capacity is below zero, else `CostOverflow` where the sum of all
+/// capacities with it does not fit. `OutOfMemory` may come in the place of any answer. Edges behind
+/// the one that is refused are not asked for.
+pub fn edmonds_karp<N, C, IC, EK>(
+    alloc: EK::Alloc,
+    vertices: &[N],
+    source: &N,
+    sink: &N,
+    capacities: IC,
+) -> Result<EKFlows<N, C, EK::Alloc>, PathError>
+where
+    N: Eq + Hash + Copy,
+    C: SignedCost,
+    IC: IntoIterator<Item = Edge<N, C>> + Drop,
+    EK: EdmondsKarp<C>,
+    requires ends { IsFiniteIterable IC.into_iter_gives IC.IntoIter.can_next IC.IntoIter.remaining capacities }
+    ensures source { OnOk result (IsKnown N.eq (names_of N.eq vertices.now) source.now) }
+    ensures sink { OnOk result (IsKnown N.eq (names_of N.eq vertices.now) sink.now) }
+    ensures answer { IfOk result (λ answer. IsAnsweredFor N.eq C.value C.fits IC.into_iter_gives IC.IntoIter.next_gives (names_of N.eq vertices.now) source.now sink.now capacities answer.0.items (C.value answer.1) answer.2.items) }
+    ensures refused { IfErr result (IsRefusedFor N.eq C.value C.fits IC.into_iter_gives IC.IntoIter.next_gives (names_of N.eq vertices.now) source.now sink.now capacities) }
+{
+    let names = names_among(alloc, vertices)?;
+    let from = known_number(&names, source)?;
+    let to = known_number(&names, sink)?;
+    let mut store = EK::new(alloc, names.len(), from, to)?;
+    put_edges(&mut store, &names, capacities)?;
+    let (numbered, total, crossing) = store.augment(alloc)?;
+    let flows = name_edges(alloc, names.as_slice(), &numbered)?;
+    let cut = name_edges(alloc, names.as_slice(), &crossing)?;
+    Ok((flows, total, cut))
+}
+
+/// As `edmonds_karp`, in a `DenseCapacity`.
+pub fn edmonds_karp_dense<N, C, IC, A>(
+    alloc: A,
+    vertices: &[N],
+    source: &N,
+    sink: &N,
+    capacities: IC,
+) -> Result<EKFlows<N, C, A>, PathError>
+where
+    N: Eq + Hash + Copy,
+    C: SignedCost,
+    IC: IntoIterator<Item = Edge<N, C>> + Drop,
+    A: Allocator + Copy,
+    requires ends { IsFiniteIterable IC.into_iter_gives IC.IntoIter.can_next IC.IntoIter.remaining capacities }
+    ensures source { OnOk result (IsKnown N.eq (names_of N.eq vertices.now) source.now) }
+    ensures sink { OnOk result (IsKnown N.eq (names_of N.eq vertices.now) sink.now) }
+    ensures answer { IfOk result (λ answer. IsAnsweredFor N.eq C.value C.fits IC.into_iter_gives IC.IntoIter.next_gives (names_of N.eq vertices.now) source.now sink.now capacities answer.0.items (C.value answer.1) answer.2.items) }
+    ensures refused { IfErr result (IsRefusedFor N.eq C.value C.fits IC.into_iter_gives IC.IntoIter.next_gives (names_of N.eq vertices.now) source.now sink.now capacities) }
+{
+    edmonds_karp::<N, C, IC, DenseCapacity<C, A>>(alloc, vertices, source, sink, capacities)
+}
+
+/// As `edmonds_karp`, in a `SparseCapacity`.
+pub fn edmonds_karp_sparse<N, C, IC, A>(
+    alloc: A,
+    vertices: &[N],
+    source: &N,
+    sink: &N,
+    capacities: IC,
+) -> Result<EKFlows<N, C, A>, PathError>
+where
+    N: Eq + Hash + Copy,
+    C: SignedCost,
+    IC: IntoIterator<Item = Edge<N, C>> + Drop,
+    A: Allocator + Copy,
+    requires ends { IsFiniteIterable IC.into_iter_gives IC.IntoIter.can_next IC.IntoIter.remaining capacities }
+    ensures source { OnOk result (IsKnown N.eq (names_of N.eq vertices.now) source.now) }
+    ensures sink { OnOk result (IsKnown N.eq (names_of N.eq vertices.now) sink.now) }
+    ensures answer { IfOk result (λ answer. IsAnsweredFor N.eq C.value C.fits IC.into_iter_gives IC.IntoIter.next_gives (names_of N.eq vertices.now) source.now sink.now capacities answer.0.items (C.value answer.1) answer.2.items) }
+    ensures refused { IfErr result (IsRefusedFor N.eq C.value C.fits IC.into_iter_gives IC.IntoIter.next_gives (names_of N.eq vertices.now) source.now sink.now capacities) }
+{
+    edmonds_karp::<N, C, IC, SparseCapacity<C, A>>(alloc, vertices, source, sink, capacities)
+}

@@ -1,0 +1,180 @@
+//! Changes of a capacity.
+
+ghost use Rattle.std.specs.Prelude.{◌≡◌, ◌↔◌, ◌<◌, ◌≤ℤ◌, ◌+ℤ◌, pos, true, OnOk, OnErr, IfOk, IfErr, IsTrue};
+ghost use Rattle.num_traits.specs.Laws.{Checks};
+ghost use Rattle.pf_flow.specs.Flows.{Same, replaced, pair_sum};
+ghost use Rattle.pf_base.specs.declared.error.PathError.TheVariants.{OutOfMemory};
+ghost use Rattle.pf_flow.specs.Networks.{Network, Agrees, KeepsCapacities, ChangesCapacity, IsNetwork, capacity};
+ghost use Rattle.pf_flow.specs.Capacities.{IsChangeRefused};
+
+use crate::listed_sums::sum_by_lists;
+use crate::numbers::{is_below, plus};
+use crate::store::FlowStore;
+use crate::taking_back::take_back;
+use pf_base::{PathError, SignedCost};
+use std::alloc::Allocator;
+
+/// The capacity of a pair of vertices.
+fn capacity_of<C, S>(store: &S, from: usize, to: usize) -> C
+where
+    C: SignedCost,
+    S: FlowStore<C>,
+    requires network { IsNetwork C.fits (S.network store.now) }
+    requires from { from < (S.network store.now).vertices }
+    requires to { to < (S.network store.now).vertices }
+    ensures { C.value result ≡ capacity (S.network store.now) from to }
+{
+    plus(store.residual_capacity(from, to), store.flow(from, to))
+}
+
+/// The sum of two costs, if it fits.
+fn checked_sum<C: SignedCost>(left: C, right: C) -> Option<C>
+    ensures { Checks C.value C.fits (C.value left +ℤ C.value right) result }
+{
+    left.checked_add(&right)
+}
+
+/// Does the sum of all capacities fit, once the capacity of a pair is another?
+fn sum_fits<C, S, A>(
+    store: &S,
+    alloc: A,
+    from: usize,
+    to: usize,
+    old: C,
+    number: C,
+) -> Result<bool, PathError>
+where
+    C: SignedCost,
+    S: FlowStore<C>,
+    A: Allocator + Copy,
+    requires network { IsNetwork C.fits (S.network store.now) }
+    requires from { from < (S.network store.now).vertices }
+    requires to { to < (S.network store.now).vertices }
+    requires old { C.value old ≡ capacity (S.network store.now) from to }
+    requires low { pos 0 ≤ℤ C.value number }
+    ensures sum { IfOk result (λ fits. IsTrue fits ↔ C.fits (pair_sum (S.network store.now).vertices (replaced (capacity (S.network store.now)) from to (C.value number)))) }
+    ensures refused { IfErr result (λ e. e ≡ OutOfMemory) }
+{
+    if !is_below(old, number) {
+        return Ok(true);
+    }
+    let sum = sum_by_lists(store, alloc)?;
+    number.known();
+    let more = number.minus(old);
+    Ok(checked_sum(sum, more).is_some())
+}
+
+/// The capacity of a pair of vertices, if it may become another.
+fn old_capacity<C, S, A>(
+    store: &S,
+    alloc: A,
+    from: usize,
+    to: usize,
+    number: C,
+) -> Result<C, PathError>
+where
+    C: SignedCost,
+    S: FlowStore<C>,
+    A: Allocator + Copy,
+    requires network { IsNetwork C.fits (S.network store.now) }
+    requires from { from < (S.network store.now).vertices }
+    requires to { to < (S.network store.now).vertices }
+    ensures old { IfOk result (λ old. C.value old ≡ capacity (S.network store.now) from to) }
+    ensures low { OnOk result (pos 0 ≤ℤ C.value number) }
+    ensures sum { OnOk result (C.fits (pair_sum (S.network store.now).vertices (replaced (capacity (S.network store.now)) from to (C.value number)))) }
+    ensures refused { IfErr result (IsChangeRefused C.fits (S.network store.now) from to (C.value number)) }
+{
+    if is_below(number, C::zero()) {
+        return Err(PathError::NegativeCapacity);
+    }
+    let old = capacity_of(store, from, to);
+    let fits = sum_fits(store, alloc, from, to, old, number)?;
+    if !fits {
+        return Err(PathError::CostOverflow);
+    }
+    Ok(old)
+}
+
+/// Takes back the flow of a pair that is above a number.
+fn lower_to<C, S, A>(
+    store: &mut S,
+    alloc: A,
+    from: usize,
+    to: usize,
+    number: C,
+) -> Result<(), PathError>
+where
+    C: SignedCost,
+    S: FlowStore<C>,
+    A: Allocator + Copy,
+    requires network { IsNetwork C.fits (S.network store.old) }
+    requires from { from < (S.network store.old).vertices }
+    requires to { to < (S.network store.old).vertices }
+    requires low { pos 0 ≤ℤ C.value number }
+    ensures network { IsNetwork C.fits (S.network store.new) }
+    ensures capacities { OnOk result (KeepsCapacities (S.network store.old) (S.network store.new)) }
+    ensures lowered { OnOk result ((S.network store.new).flow from to ≤ℤ C.value number) }
+    ensures kept { OnOk result ((S.network store.old).flow from to ≤ℤ C.value number → Same (S.network store.old).flow (S.network store.new).flow) }
+    ensures total { OnOk result ((S.network store.new).total ≤ℤ (S.network store.old).total) }
+    ensures excess { OnOk result (C.value number ≤ℤ (S.network store.old).flow from to → ((S.network store.old).total +ℤ C.value number) ≤ℤ ((S.network store.new).total +ℤ (S.network store.old).flow from to)) }
+    ensures unchanged { OnErr result (Agrees (S.network store.old) (S.network store.new)) }
+    ensures refused { IfErr result (λ e. e ≡ OutOfMemory) }
+{
+    let flow = store.flow(from, to);
+    if !is_below(number, flow) {
+        return Ok(());
+    }
+    take_back(store, alloc, from, to, flow.minus(number))
+}
+
+/// Changes the capacity of a pair that has room, where its flow is not above the new one.
+fn settle_capacity<C, S>(store: &mut S, from: usize, to: usize, old: C, number: C)
+where
+    C: SignedCost,
+    S: FlowStore<C>,
+    requires network { IsNetwork C.fits (S.network store.old) }
+    requires from { from < (S.network store.old).vertices }
+    requires to { to < (S.network store.old).vertices }
+    requires room { (S.network store.old).room from to ≡ true }
+    requires old { C.value old ≡ capacity (S.network store.old) from to }
+    requires low { pos 0 ≤ℤ C.value number }
+    requires flow { (S.network store.old).flow from to ≤ℤ C.value number }
+    requires sum { C.fits (pair_sum (S.network store.old).vertices (replaced (capacity (S.network store.old)) from to (C.value number))) }
+    ensures network { IsNetwork C.fits (S.network store.new) }
+    ensures changed { ChangesCapacity from to (C.value number) (S.network store.old) (S.network store.new) }
+    ensures flows { Same (S.network store.old).flow (S.network store.new).flow }
+    ensures total { (S.network store.new).total ≡ (S.network store.old).total }
+{
+    number.known();
+    store.add_residual_capacity(from, to, number.minus(old));
+}
+
+/// Changes one capacity, and takes back the flow above it.
+pub fn change_capacity<C, S, A>(
+    store: &mut S,
+    alloc: A,
+    from: usize,
+    to: usize,
+    capacity: C,
+) -> Result<(), PathError>
+where
+    C: SignedCost,
+    S: FlowStore<C>,
+    A: Allocator + Copy,
+    requires network { IsNetwork C.fits (S.network store.old) }
+    requires from { from < (S.network store.old).vertices }
+    requires to { to < (S.network store.old).vertices }
+    ensures network { IsNetwork C.fits (S.network store.new) }
+    ensures changed { OnOk result (ChangesCapacity from to (C.value capacity) (S.network store.old) (S.network store.new)) }
+    ensures kept { OnOk result ((S.network store.old).flow from to ≤ℤ C.value capacity → Same (S.network store.old).flow (S.network store.new).flow) }
+    ensures total { OnOk result ((S.network store.new).total ≤ℤ (S.network store.old).total) }
+    ensures excess { OnOk result (C.value capacity ≤ℤ (S.network store.old).flow from to → ((S.network store.old).total +ℤ C.value capacity) ≤ℤ ((S.network store.new).total +ℤ (S.network store.old).flow from to)) }
+    ensures unchanged { OnErr result (Agrees (S.network store.old) (S.network store.new)) }
+    ensures refused { IfErr result (IsChangeRefused C.fits (S.network store.old) from to (C.value capacity)) }
+{
+    let old = old_capacity(store, alloc, from, to, capacity)?;
+    store.make_room(from, to)?;
+    lower_to(store, alloc, from, to, capacity)?;
+    settle_capacity(store, from, to, old, capacity);
+    Ok(())
+}

@@ -1,0 +1,154 @@
+//! Greatest flows and least cuts under changing capacities.
+
+ghost use Rattle.std.specs.Prelude.{◌≡◌, ◌≢◌, ◌≤◌, ◌<◌, ◌+◌, ◌*◌, ◌≤ℤ◌, ◌<ℤ◌, ◌+ℤ◌, ◌-ℤ◌, ℕ, pos, true, false, [], OnOk, OnErr, IfOk, IfErr};
+ghost use Rattle.pf_base.specs.declared.error.PathError.TheVariants.{OutOfMemory};
+ghost use Rattle.pf_flow.specs.Flows.{Same, pair_count};
+ghost use Rattle.pf_flow.specs.Networks.{Network, capacity, capacity_sum, Agrees, KeepsCapacities, ChangesCapacity, IsNetwork, IsFresh, HasCapacities, HasCutOfTotal};
+ghost use Rattle.pf_flow.specs.Listings.{ListsFlows, ListsLeastCut};
+ghost use Rattle.pf_flow.specs.Capacities.{IsChangeRefused};
+
+use crate::augmenting::augment_flow;
+pub use crate::by_names::{edmonds_karp, edmonds_karp_dense, edmonds_karp_sparse};
+use crate::changes::change_capacity;
+pub use crate::dense_capacity::DenseCapacity;
+use crate::listings::list_flows;
+pub use crate::makers::{listed_store, square_store};
+pub use crate::sparse_capacity::SparseCapacity;
+pub use crate::store::FlowStore;
+use crate::sums::sum_of_capacities;
+use pf_base::utils::Tally;
+use pf_base::{PathError, SignedCost};
+use std::alloc::{Allocator, Global};
+
+/// A capacity or a flow from one vertex to another.
+pub type Edge<N, C> = ((N, N), C);
+
+/// The flows above zero, the total, and the edges of a least cut.
+pub type EKFlows<N, C, A = Global> = (Vec<Edge<N, C>, A>, C, Vec<Edge<N, C>, A>);
+
+/// Greatest flows from a source to a sink under capacities that change, over any `FlowStore`.
+///
+/// Each call asks, and keeps, that the flow of the store is feasible, that its value is the total and
+/// not below zero, that there is no flow where source and sink are one, that no capacity is below
+/// zero, and that the sum of all capacities fits their type. A capacity is the residual capacity of
+/// a pair of vertices and its flow.
+pub trait EdmondsKarp<C: SignedCost>: FlowStore<C> {
+    /// The allocator of the store's tables.
+    type Alloc: Allocator + Copy;
+
+    /// A store of so many vertices without capacities. Flows and cuts are listed.
+    ///
+    /// # Errors
+    ///
+    /// The only error is `OutOfMemory`.
+    fn new(alloc: Self::Alloc, size: usize, source: usize, sink: usize) -> Result<Self, PathError>
+        requires source { source < size }
+        requires sink { sink < size }
+        ensures fresh { IfOk result (λ s. IsFresh size source sink (Self.FlowStore.network s)) }
+        ensures capacities { IfOk result (λ s. HasCapacities (λ a b. pos 0) (Self.FlowStore.network s)) }
+        ensures network { IfOk result (λ s. IsNetwork C.fits (Self.FlowStore.network s)) }
+        ensures refused { IfErr result (λ e. e ≡ OutOfMemory) };
+
+    /// The flows above zero, by rising pair of vertices.
+    ///
+    /// # Errors
+    ///
+    /// The only error is `OutOfMemory`.
+    fn flows<A: Allocator + Copy>(&self, alloc: A) -> Result<Vec<Edge<usize, C>, A>, PathError>
+        requires { IsNetwork C.fits (Self.FlowStore.network self.now) }
+        ensures listed { IfOk result (λ flows. ListsFlows C.value (Self.FlowStore.network self.now) flows.items) }
+        ensures refused { IfErr result (λ e. e ≡ OutOfMemory) }
+    {
+        list_flows(self, alloc)
+    }
+
+    /// The sum of all capacities.
+    fn capacity_sum(&self) -> C
+        requires { IsNetwork C.fits (Self.FlowStore.network self.now) }
+        ensures { C.value result ≡ capacity_sum (Self.FlowStore.network self.now) }
+    {
+        sum_of_capacities(self)
+    }
+
+    /// Changes one capacity. A capacity that is not below the flow leaves every flow; below it flow
+    /// is taken back, and the total falls by at most the excess of the flow over the capacity.
+    ///
+    /// # Errors
+    ///
+    /// `NegativeCapacity` exactly where the capacity is below zero, else `CostOverflow` exactly where
+    /// the sum of all capacities after the change does not fit. `OutOfMemory` may come in the place
+    /// of any answer. A refused change changes nothing.
+    fn set_capacity<A: Allocator + Copy>(
+        &mut self,
+        alloc: A,
+        from: usize,
+        to: usize,
+        capacity: C,
+    ) -> Result<(), PathError>
+        requires network { IsNetwork C.fits (Self.FlowStore.network self.old) }
+        requires from { from < (Self.FlowStore.network self.old).vertices }
+        requires to { to < (Self.FlowStore.network self.old).vertices }
+        ensures network { IsNetwork C.fits (Self.FlowStore.network self.new) }
+        ensures changed { OnOk result (ChangesCapacity from to (C.value capacity) (Self.FlowStore.network self.old) (Self.FlowStore.network self.new)) }
+        ensures kept { OnOk result ((Self.FlowStore.network self.old).flow from to ≤ℤ C.value capacity → Same (Self.FlowStore.network self.old).flow (Self.FlowStore.network self.new).flow) }
+        ensures total { OnOk result ((Self.FlowStore.network self.new).total ≤ℤ (Self.FlowStore.network self.old).total) }
+        ensures excess { OnOk result (C.value capacity ≤ℤ (Self.FlowStore.network self.old).flow from to → ((Self.FlowStore.network self.old).total +ℤ C.value capacity) ≤ℤ ((Self.FlowStore.network self.new).total +ℤ (Self.FlowStore.network self.old).flow from to)) }
+        ensures unchanged { OnErr result (Agrees (Self.FlowStore.network self.old) (Self.FlowStore.network self.new)) }
+        ensures refused { IfErr result (IsChangeRefused C.fits (Self.FlowStore.network self.old) from to (C.value capacity)) }
+    {
+        change_capacity(self, alloc, from, to, capacity)
+    }
+
+    /// Makes the flow a greatest one, with one tick for each path that flow is added along.
+    ///
+    /// It is `augment`. Flow is added along at most as many paths as the number of vertices times the
+    /// number of ordered pairs with capacity in either direction. The tally never falls.
+    fn augment_tallied<A: Allocator + Copy>(
+        &mut self,
+        alloc: A,
+        tally: &mut Tally,
+    ) -> Result<EKFlows<usize, C, A>, PathError>
+        requires { IsNetwork C.fits (Self.FlowStore.network self.old) }
+        ensures network { IsNetwork C.fits (Self.FlowStore.network self.new) }
+        ensures kept { KeepsCapacities (Self.FlowStore.network self.old) (Self.FlowStore.network self.new) }
+        ensures cut { OnOk result (HasCutOfTotal (Self.FlowStore.network self.new)) }
+        ensures total { IfOk result (λ answer. C.value answer.1 ≡ (Self.FlowStore.network self.new).total) }
+        ensures flows { IfOk result (λ answer. (Self.FlowStore.network self.old).details ≡ true → ListsFlows C.value (Self.FlowStore.network self.new) answer.0.items) }
+        ensures cut_edges { IfOk result (λ answer. (Self.FlowStore.network self.old).details ≡ true → ListsLeastCut C.value (Self.FlowStore.network self.new) answer.2.items) }
+        ensures idle { IfOk result (λ answer. (Self.FlowStore.network self.old).source ≡ (Self.FlowStore.network self.old).sink → (answer.0.items ≡ []) × (C.value answer.1 ≡ pos 0) × (answer.2.items ≡ [])) }
+        ensures omitted { IfOk result (λ answer. (Self.FlowStore.network self.old).details ≡ false → (answer.0.items ≡ []) × (answer.2.items ≡ [])) }
+        ensures refused { IfErr result (λ e. e ≡ OutOfMemory) }
+        ensures ticked { tally.old ≤ tally.new }
+        ensures paths { tally.new ≤ tally.old + (Self.FlowStore.network self.old).vertices * pair_count (Self.FlowStore.network self.old).vertices (capacity (Self.FlowStore.network self.old)) }
+    {
+        augment_flow(self, alloc, tally)
+    }
+
+    /// Makes the flow a greatest one, and answers the flows above zero, the total, and the edges of a
+    /// least cut, flows and edges by rising pair of vertices.
+    ///
+    /// The total is the capacity of a least cut, the least that changes so far allow. The edges are
+    /// all pairs with capacity that leave the smallest source side of a least cut. After
+    /// `omit_details` both lists are empty. Where source and sink are one, there is no flow and no cut.
+    ///
+    /// Flow is added along shortest paths (J. Edmonds, R. M. Karp, "Theoretical improvements in
+    /// algorithmic efficiency for network flow problems", 1972).
+    ///
+    /// # Errors
+    ///
+    /// The only error is `OutOfMemory`; then all capacities are as before, and the flow is feasible.
+    fn augment<A: Allocator + Copy>(&mut self, alloc: A) -> Result<EKFlows<usize, C, A>, PathError>
+        requires { IsNetwork C.fits (Self.FlowStore.network self.old) }
+        ensures network { IsNetwork C.fits (Self.FlowStore.network self.new) }
+        ensures kept { KeepsCapacities (Self.FlowStore.network self.old) (Self.FlowStore.network self.new) }
+        ensures cut { OnOk result (HasCutOfTotal (Self.FlowStore.network self.new)) }
+        ensures total { IfOk result (λ answer. C.value answer.1 ≡ (Self.FlowStore.network self.new).total) }
+        ensures flows { IfOk result (λ answer. (Self.FlowStore.network self.old).details ≡ true → ListsFlows C.value (Self.FlowStore.network self.new) answer.0.items) }
+        ensures cut_edges { IfOk result (λ answer. (Self.FlowStore.network self.old).details ≡ true → ListsLeastCut C.value (Self.FlowStore.network self.new) answer.2.items) }
+        ensures idle { IfOk result (λ answer. (Self.FlowStore.network self.old).source ≡ (Self.FlowStore.network self.old).sink → (answer.0.items ≡ []) × (C.value answer.1 ≡ pos 0) × (answer.2.items ≡ [])) }
+        ensures omitted { IfOk result (λ answer. (Self.FlowStore.network self.old).details ≡ false → (answer.0.items ≡ []) × (answer.2.items ≡ [])) }
+        ensures refused { IfErr result (λ e. e ≡ OutOfMemory) }
+    {
+        augment_flow(self, alloc, &mut Tally::new())
+    }
+}

@@ -1,0 +1,157 @@
+//! Stores that are filled with capacities.
+
+ghost use Rattle.std.specs.Prelude.{◌≡◌, ◌<◌, ◌*◌, ◌≤ℤ◌, ◌<ℤ◌, ◌+ℤ◌, ◌-ℤ◌, ℕ, pos, OnOk, IfOk, IfErr, MatchBool, length};
+ghost use Rattle.num_traits.specs.Laws.{Checks};
+ghost use Rattle.pf_flow.specs.Networks.{Network, KeepsShape, ChangesCapacity, HasCapacities, IsFresh, IsNetwork, capacity_sum};
+ghost use Rattle.pf_flow.specs.Capacities.{number, square_table, AreRefused, IsChangeRefused};
+ghost use Rattle.pf_flow.specs.Internal.Filling.{IsUnused};
+
+use crate::edmonds_karp::EdmondsKarp;
+use crate::numbers::is_below;
+use crate::store::FlowStore;
+use pf_base::utils::uint_sqrt;
+use pf_base::{PathError, SignedCost};
+
+/// The sum of two costs less a third, if it fits.
+fn exchanged<C: SignedCost>(sum: C, old: C, new: C) -> Option<C>
+    requires old { pos 0 ≤ℤ C.value old }
+    requires within { C.value old ≤ℤ C.value sum }
+    ensures { Checks C.value C.fits ((C.value sum -ℤ C.value old) +ℤ C.value new) result }
+{
+    sum.known();
+    sum.minus(old).checked_add(&new)
+}
+
+/// The difference of two costs that are not below zero.
+fn difference<C: SignedCost>(new: C, old: C) -> C
+    requires new { pos 0 ≤ℤ C.value new }
+    requires old { pos 0 ≤ℤ C.value old }
+    ensures { C.value result ≡ C.value new -ℤ C.value old }
+{
+    new.known();
+    old.known();
+    new.minus(old)
+}
+
+/// Puts a capacity in the place of that of a pair, in a store without flow. Given is the sum of all
+/// capacities before, and answered that after.
+pub fn put_capacity<C, S>(
+    store: &mut S,
+    sum: C,
+    from: usize,
+    to: usize,
+    capacity: C,
+) -> Result<C, PathError>
+where
+    C: SignedCost,
+    S: FlowStore<C>,
+    requires unused { IsUnused C.fits (S.network store.old) }
+    requires sum { C.value sum ≡ capacity_sum (S.network store.old) }
+    requires from { from < (S.network store.old).vertices }
+    requires to { to < (S.network store.old).vertices }
+    ensures unused { OnOk result (IsUnused C.fits (S.network store.new)) }
+    ensures sum { IfOk result (λ sum. C.value sum ≡ capacity_sum (S.network store.new)) }
+    ensures changed { OnOk result (ChangesCapacity from to (C.value capacity) (S.network store.old) (S.network store.new)) }
+    ensures refused { IfErr result (IsChangeRefused C.fits (S.network store.old) from to (C.value capacity)) }
+{
+    if is_below(capacity, C::zero()) {
+        return Err(PathError::NegativeCapacity);
+    }
+    let old = store.residual_capacity(from, to);
+    let Some(sum) = exchanged(sum, old, capacity) else {
+        return Err(PathError::CostOverflow);
+    };
+    capacity.known();
+    store.make_room(from, to)?;
+    store.add_residual_capacity(from, to, difference(capacity, old));
+    Ok(sum)
+}
+
+/// Is some number below zero?
+fn has_negative<C: SignedCost>(numbers: &[C]) -> bool
+    ensures { MatchBool result ((k : ℕ) × (k < length numbers.now) × (number C.value numbers.now k <ℤ pos 0)) ((k : ℕ) → k < length numbers.now → pos 0 ≤ℤ number C.value numbers.now k) }
+{
+    'numbers: for number in numbers {
+        if is_below(*number, C::zero()) {
+            return true;
+        }
+    }
+    false
+}
+
+/// Fills a store that has no capacities with those of a square, given by rows.
+pub fn fill<C, S>(store: &mut S, capacities: &[C]) -> Result<(), PathError>
+where
+    C: SignedCost,
+    S: FlowStore<C>,
+    requires unused { IsUnused C.fits (S.network store.old) }
+    requires none { HasCapacities (λ a b. pos 0) (S.network store.old) }
+    requires square { length capacities.now ≡ (S.network store.old).vertices * (S.network store.old).vertices }
+    ensures unused { OnOk result (IsUnused C.fits (S.network store.new)) }
+    ensures shape { OnOk result (KeepsShape (S.network store.old) (S.network store.new)) }
+    ensures capacities { OnOk result (HasCapacities (square_table C.value (S.network store.old).vertices capacities.now) (S.network store.new)) }
+    ensures refused { IfErr result (AreRefused C.fits (S.network store.old).vertices (square_table C.value (S.network store.old).vertices capacities.now)) }
+{
+    if has_negative(capacities) {
+        return Err(PathError::NegativeCapacity);
+    }
+    let size = store.size();
+    let mut sum = C::zero();
+    'places: for place in 0..capacities.len() {
+        sum = put_capacity(store, sum, place / size, place % size, capacities[place])?;
+    }
+    Ok(())
+}
+
+/// A store with the capacities of a square, given by rows, without flow.
+pub fn square_store<C, S>(
+    alloc: S::Alloc,
+    size: usize,
+    source: usize,
+    sink: usize,
+    capacities: &[C],
+) -> Result<S, PathError>
+where
+    C: SignedCost,
+    S: EdmondsKarp<C>,
+    requires square { length capacities.now ≡ size * size }
+    requires source { source < size }
+    requires sink { sink < size }
+    ensures fresh { IfOk result (λ s. IsFresh size source sink (S.FlowStore.network s)) }
+    ensures capacities { IfOk result (λ s. HasCapacities (square_table C.value size capacities.now) (S.FlowStore.network s)) }
+    ensures network { IfOk result (λ s. IsNetwork C.fits (S.FlowStore.network s)) }
+    ensures refused { IfErr result (AreRefused C.fits size (square_table C.value size capacities.now)) }
+{
+    let mut store = S::new(alloc, size, source, sink)?;
+    fill(&mut store, capacities)?;
+    Ok(store)
+}
+
+/// The side of a square of so many places.
+fn side_of(places: usize) -> usize
+    requires { (size : ℕ) × (size * size ≡ places) }
+    ensures { result * result ≡ places }
+{
+    uint_sqrt(places).unwrap()
+}
+
+/// As `square_store`, for a square whose side is not given.
+pub fn listed_store<C, S>(
+    alloc: S::Alloc,
+    source: usize,
+    sink: usize,
+    capacities: &[C],
+) -> Result<S, PathError>
+where
+    C: SignedCost,
+    S: EdmondsKarp<C>,
+    requires square { (size : ℕ) × (size * size ≡ length capacities.now) }
+    requires source { (size : ℕ) → size * size ≡ length capacities.now → source < size }
+    requires sink { (size : ℕ) → size * size ≡ length capacities.now → sink < size }
+    ensures fresh { IfOk result (λ s. (size : ℕ) → size * size ≡ length capacities.now → IsFresh size source sink (S.FlowStore.network s)) }
+    ensures capacities { IfOk result (λ s. (size : ℕ) → size * size ≡ length capacities.now → HasCapacities (square_table C.value size capacities.now) (S.FlowStore.network s)) }
+    ensures network { IfOk result (λ s. IsNetwork C.fits (S.FlowStore.network s)) }
+    ensures refused { IfErr result (λ e. (size : ℕ) → size * size ≡ length capacities.now → AreRefused C.fits size (square_table C.value size capacities.now) e) }
+{
+    square_store(alloc, side_of(capacities.len()), source, sink, capacities)
+}

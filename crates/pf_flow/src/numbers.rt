@@ -1,0 +1,29 @@
+//! Sums and comparisons of signed costs.
+
+ghost use Rattle.std.specs.Prelude.{◌≡◌, ◌⊎◌, ◌+ℤ◌, ◌≤ℤ◌, ◌<ℤ◌, MatchBool};
+
+use pf_base::{Cost, SignedCost};
+
+/// The sum of two costs.
+pub fn plus<C: SignedCost>(left: C, right: C) -> C
+    requires { C.fits (C.value left +ℤ C.value right) }
+    ensures { C.value result ≡ C.value left +ℤ C.value right }
+{
+    left + right
+}
+
+/// Is the first cost below the second?
+pub fn is_below<C: Cost>(left: C, right: C) -> bool
+    ensures { MatchBool result (C.value left <ℤ C.value right) (C.value right ≤ℤ C.value left) }
+{
+    left < right
+}
+
+/// The lesser of two costs.
+pub fn lesser<C: Cost>(left: C, right: C) -> C
+    ensures lower { C.value result ≤ℤ C.value left }
+    ensures also { C.value result ≤ℤ C.value right }
+    ensures either { (C.value result ≡ C.value left) ⊎ (C.value result ≡ C.value right) }
+{
+    if is_below(left, right) { left } else { right }
+}

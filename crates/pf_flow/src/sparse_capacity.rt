@@ -1,0 +1,156 @@
+//! A store that keeps for each vertex a vector of edges.
+
+ghost use Rattle.std.specs.Prelude.{◌≡◌, length, IfOk, IfErr};
+ghost use Rattle.pf_base.specs.declared.error.PathError.TheVariants.{OutOfMemory};
+ghost use Rattle.pf_flow.specs.SparseStores.{AreRows, AreEmpty, IsSameStore, rows_network};
+ghost use Rattle.std.proofs.Props.{props};
+ghost use Rattle.pf_flow.specs.Internal.SparseLaws.{rows_law};
+ghost use Rattle.pf_flow.specs.Internal.SparseProps.{Rises-prop};
+
+use crate::edmonds_karp::EdmondsKarp;
+use crate::sparse_row::{Row, flow_ends, residual_ends};
+use crate::store::FlowStore;
+use pf_base::{PathError, SignedCost};
+use std::alloc::{AllocError, Allocator, Global};
+
+/// A store that keeps for each vertex its edges, sorted by the other end. It takes memory for the
+/// pairs that have room.
+#[derive(Debug, Drop)]
+pub struct SparseCapacity<C, A: Allocator = Global> {
+    rows: Vec<Row<C, A>, A>,
+    source: usize,
+    sink: usize,
+    total: C,
+    details: bool,
+    // the rows are those of a network
+    ghost stored: { AreRows source sink rows.items } by { Prim.hlevel (props, Rises-prop) },
+}
+
+/// As many rows without edges as `size`. The only error is `OutOfMemory`.
+fn empty_rows<C: Drop, A: Allocator + Copy>(
+    alloc: A,
+    size: usize,
+) -> Result<Vec<Row<C, A>, A>, PathError>
+    ensures len { IfOk result (λ rows. length rows.items ≡ size) }
+    ensures empty { IfOk result (λ rows. AreEmpty rows.items) }
+    ensures refused { IfErr result (λ e. e ≡ OutOfMemory) }
+{
+    let mut rows = Vec::with_capacity(alloc, size)?;
+    for _ in 0..size {
+        rows.push(Row::new(alloc))?;
+    }
+    Ok(rows)
+}
+
+impl<C: SignedCost, A: Allocator + Copy> FlowStore<C> for SparseCapacity<C, A> {
+    ghost network = { λ s. rows_network C.value s.rows.items s.source s.sink (C.value s.total) s.details };
+
+    fn size(&self) -> usize {
+        self.rows.len()
+    }
+
+    fn source(&self) -> usize {
+        self.source
+    }
+
+    fn sink(&self) -> usize {
+        self.sink
+    }
+
+    fn flow(&self, from: usize, to: usize) -> C {
+        self.rows[from].flow(to)
+    }
+
+    fn residual_capacity(&self, from: usize, to: usize) -> C {
+        self.rows[from].residual(to)
+    }
+
+    fn residual_successors<B: Allocator + Copy>(
+        &self,
+        alloc: B,
+        from: usize,
+    ) -> Result<Vec<(usize, C), B>, PathError> {
+        residual_ends(alloc, self.rows[from].edges())
+    }
+
+    fn flows_from<B: Allocator + Copy>(
+        &self,
+        alloc: B,
+        from: usize,
+    ) -> Result<Vec<usize, B>, PathError> {
+        flow_ends(alloc, self.rows[from].edges())
+    }
+
+    fn total_capacity(&self) -> C {
+        self.total
+    }
+
+    fn has_details(&self) -> bool {
+        self.details
+    }
+
+    fn omit_details(&mut self) {
+        self.details = false;
+    }
+
+    fn make_room(&mut self, from: usize, to: usize) -> Result<(), PathError> {
+        if self.rows[from].has(to) {
+            return Ok(());
+        }
+        self.rows[from].insert(to)?;
+        if from == to {
+            return Ok(());
+        }
+        if let Err(refusal) = self.rows[to].insert(from) {
+            self.rows[from].remove(to);
+            return Err(refusal);
+        }
+        Ok(())
+    }
+
+    fn add_flow(&mut self, from: usize, to: usize, amount: C) {
+        self.rows[from].carry(to, amount);
+        self.rows[to].take_back(from, amount);
+    }
+
+    fn add_residual_capacity(&mut self, from: usize, to: usize, amount: C) {
+        self.rows[from].add_residual(to, amount);
+    }
+
+    fn set_total_capacity(&mut self, total: C) {
+        self.total = total;
+    }
+
+    ghost network_law = { λ s. rows_law C.value s.rows.items s.source s.sink (C.value s.total) s.details s.stored };
+}
+
+impl<C: SignedCost, A: Allocator + Copy> EdmondsKarp<C> for SparseCapacity<C, A> {
+    type Alloc = A;
+
+    fn new(alloc: A, size: usize, source: usize, sink: usize) -> Result<Self, PathError> {
+        let rows = empty_rows(alloc, size)?;
+        Ok(SparseCapacity {
+            rows,
+            source,
+            sink,
+            total: C::zero(),
+            details: true,
+        })
+    }
+}
+
+/// A clone holds the same network.
+impl<C: SignedCost, A: Allocator + Copy> Clone for SparseCapacity<C, A> {
+    ghost is_clone = { λ s t. IsSameStore s.rows.items s.source s.sink s.total s.details t.rows.items t.source t.sink t.total t.details };
+
+    fn clone(&self) -> Result<Self, AllocError> {
+        let rows = Vec::from_clones(*self.rows.allocator(), self.rows.as_slice())?;
+        Ok(SparseCapacity {
+            rows,
+            source: self.source,
+            sink: self.sink,
+            total: self.total,
+            details: self.details,
+        })
+    }
+}
