@@ -1,0 +1,6 @@
+mod names;
+mod plain;
+mod refusals;
+mod rows;
+mod small_networks;
+mod squares;
