@@ -1,0 +1,9 @@
+pub mod BorderLemmas
+pub mod CellLemmas
+pub mod CoordinateLemmas
+pub mod CountLemmas
+pub mod FloodLemmas
+pub mod MatrixLemmas
+pub mod TextLemmas
+pub mod VertexLemmas
+pub mod WordLemmas

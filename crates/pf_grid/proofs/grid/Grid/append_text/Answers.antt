@@ -1,0 +1,22 @@
+use Rattle.std.proofs.Common.{◌∙◌, ◌++◌, ◌-◌, ap, sym}
+use Rattle.std.specs.Prelude.{if◌then◌else◌}
+use Rattle.std.proofs.lemmas.List.{append_assoc}
+use Rattle.pf_grid.specs.Texts.{line_to, line_end, lines_to}
+use Rattle.pf_grid.proofs.TextLemmas.{lines_none, lines_more}
+use Rattle.pf_grid.proofs.grid.Grid.append_text.Goals as goal
+
+pub loop-line-init : goal.loop-line-init
+loop-line-init g c = c.new-text.ensures.bytes ∙ lines_none c.args.self.now c.args.present c.args.absent c.args.reversed
+
+pub loop-line-preserved : goal.loop-line-preserved
+loop-line-preserved g c =
+    let now = c.args.self.now in
+    let line = line_to now c.args.present c.args.absent in
+    let lines = lines_to now c.args.present c.args.absent c.args.reversed c.loop-line.line in
+    let n = c.loop-line.line in
+    let row = c.row_of-y.ensures ∙ ap (λ h. if c.args.reversed then h - 1 - n else n) c.height-height.ensures.height in
+    c.in_ok-append_line.ensures.appended
+    ∙ ap (λ bs. bs ++ line c.row_of-y.result now.width) (c.in_ok-append_line_end.ensures.appended ∙ ap (λ bs. bs ++ line_end n) c.loop-line.invariant)
+    ∙ append_assoc lines (line_end n) (line c.row_of-y.result now.width)
+    ∙ ap (λ y. lines ++ (line_end n ++ line y now.width)) row
+    ∙ sym (lines_more now c.args.present c.args.absent c.args.reversed n)

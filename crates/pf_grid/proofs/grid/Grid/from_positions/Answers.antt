@@ -1,0 +1,30 @@
+use Rattle.std.proofs.Common.{◌≡◌, ◌∙◌, ◌+◌, Bool, true, false, ◌||◌, take, get_or, ap, sym, refl, arith}
+use Rattle.std.specs.Prelude.{if◌then◌else◌}
+use Rattle.std.proofs.lemmas.List.{take_more}
+use Rattle.pf_grid.specs.Positions.{grid_of, is_position}
+use Rattle.pf_grid.specs.Vertices.{width_of, height_of, listed}
+use Rattle.pf_grid.proofs.CellLemmas.{put_more}
+use Rattle.pf_grid.proofs.VertexLemmas.{any_more, extent_at}
+use Rattle.pf_grid.proofs.grid.Grid.from_positions.Goals as goal
+
+or_if : (p o : Bool) → (if p then true else o) ≡ (p || o)
+or_if true o = refl
+or_if false o = refl
+
+pub put-requires : goal.put-requires
+put-requires g c =
+    let ps = c.args.positions.now in
+    let i = c.loop-position.position-index in
+    let wide = ap (λ t. t.width) c.loop-position.invariant in
+    let high = ap (λ t. t.height) c.loop-position.invariant in (
+      omega (arith, wide, extent_at (λ p. p.0) ps i (0, 0) c.loop-position-test.true),
+      omega (arith, high, extent_at (λ p. p.1) ps i (0, 0) c.loop-position-test.true),
+    )
+
+pub loop-position-preserved : goal.loop-position-preserved
+loop-position-preserved g c =
+    let ps = c.args.positions.now in
+    let i = c.loop-position.position-index in
+    let p = get_or ps i (0, 0) in
+    put_more (grid_of (width_of ps) (height_of ps) false (λ x y. false)) c.loop-position.grid c.put.new.self p true (listed (take i ps)) (listed (take (i + 1) ps)) c.loop-position.invariant c.put.ensures (λ x y a b.
+    or_if (is_position p x y) (listed (take i ps) x y) ∙ sym (any_more (λ q. is_position q x y) (take i ps) p) ∙ ap (λ l. listed l x y) (sym (take_more ps i (0, 0) c.loop-position-test.true)))

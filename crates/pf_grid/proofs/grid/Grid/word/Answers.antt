@@ -1,0 +1,33 @@
+use Rattle.std.proofs.Common.{◌≡◌, ℕ, ◌∙◌, ◌+◌, ◌*◌, ◌/◌, ◌%◌, ◌<◌, ap, sym, arith, inl, inr, nat_eq, get_or, List, length}
+use Rattle.std.specs.Int.{bit_at}
+use Rattle.std.proofs.lemmas.Bool.{cases_lt}
+use Rattle.pf_grid.specs.Internal.Words.{bit, row_words}
+use Rattle.pf_grid.specs.Positions.{has}
+use Rattle.std.proofs.lemmas.List.{get_or_default}
+use Rattle.pf_grid.proofs.WordLemmas.{row_in}
+use Rattle.pf_grid.proofs.CellLemmas.{view_has, has_beyond}
+use Rattle.pf_grid.proofs.grid.Grid.word.Goals as goal
+
+-- the bit i of the word at this place
+at_place : (words : List ℕ) (per place i y : ℕ) → i < 64 → nat_eq (bit_at (get_or words (y * per + place) 0) i) 1 ≡ bit words per (place * 64 + i) y
+at_place words per place i y h =
+    let e : place ≡ (place * 64 + i) / 64 = omega arith in
+    let f : i ≡ (place * 64 + i) % 64 = omega arith in
+    (λ j. nat_eq (bit_at (get_or words (y * per + e j) 0) (f j)) 1)
+
+pub returns-then-y-self : goal.returns-then-y-self
+returns-then-y-self g c = λ i h.
+    let s = c.self.inside in
+    let now = c.args.self.now in
+    let x : ℕ = c.args.place * 64 + i in
+    let wide = ap (λ t. t.width) c.self.view_is in
+    let row : c.args.y < s.height = c.if-y-self.true in
+    let short : (c.args.place * 64 + i) / 64 < row_words s.width = omega (arith, c.row_words-per_row.ensures, c.if-place-per_row.true) in
+    let k : ℕ = c.args.y * c.row_words-per_row.result + c.args.place in
+    let there : c.args.y * c.row_words-per_row.result + c.args.place < length s.words.items = omega (arith, row_in c.row_words-per_row.result s.height c.args.y row, ap (λ n. n * s.height) c.row_words-per_row.ensures, c.if-place-per_row.true) in
+    ap (λ v. nat_eq (bit_at v i) 1) (c.index.ensures ∙ get_or_default s.words.items k _ 0 there ∙ ap (λ n. get_or s.words.items (c.args.y * n + c.args.place) 0) c.row_words-per_row.ensures)
+    ∙ at_place s.words.items (row_words s.width) c.args.place i c.args.y h
+    ∙ elim (cases_lt (c.args.place * 64 + i) s.width) as (λ _. bit s.words.items (row_words s.width) (c.args.place * 64 + i) c.args.y ≡ has now (c.args.place * 64 + i) c.args.y) [
+      | inl p ↦ view_has now _ _ _ _ c.self.view_is (c.args.place * 64 + i) c.args.y p row
+      | inr p ↦ c.self.invariant.clean (c.args.place * 64 + i) c.args.y p (omega (arith, short)) row ∙ sym (has_beyond now (c.args.place * 64 + i) c.args.y (omega (arith, wide)))
+    ]

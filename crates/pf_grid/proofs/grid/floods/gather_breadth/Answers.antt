@@ -1,0 +1,46 @@
+use Rattle.std.proofs.Common.{rules, arith, ap, ◌≡◌, ◌∙◌, ◌+◌, ◌∷◌, [], length, length-append}
+use Rattle.std.specs.Ordering.{nat_cmp}
+use Rattle.std.proofs.lemmas.Map.Lookups.{exact_pairs, exact_unsigned}
+use Rattle.pf_matrix.proofs.FloodLemmas.{at_none, at_some, contains_node, few_among, gathers_more, gathers_none, node_contained}
+use Rattle.pf_grid.proofs.grid.floods.gather_breadth.Goals as goal
+
+pub steps-init : goal.steps-init
+steps-init g c = gathers_none _ c.args.walk c.new-reached.result.keys c.requires.fresh c.requires.going (search rules)
+
+pub next_position-requires : goal.next_position-requires
+next_position-requires g c =
+    let r = c.requires.walk in
+    record { walk = (r.0, r.1, c.steps.invariant.kept r.0 r.1 r.2); going = c.steps.invariant.going }
+
+pub steps-smaller : goal.steps-smaller
+steps-smaller g c =
+    let r = c.requires.walk in
+    let walk = c.steps.walk in
+    let after = c.next_position.new.walk in
+    let step = c.in_ok-position.ensures.steps r.0 r.1 (c.steps.invariant.kept r.0 r.1 r.2) in
+    let law = c.breadth_order_is_reach.ensures in
+    let short = few_among after.given r.3.among (law.once r.0 r.1 after.given step.0.ordered)
+    (λ p h. r.3.all p (law.reached r.0 r.1 after.given step.0.answered.alike step.0.ordered p h)) in
+    let more : length after.given ≡ length walk.given + 1 =
+    ap length (at_some _ _ c.in_ok-position.field-0 c.in-Some.position c.in-Some.is step.1).1 ∙ length-append walk.given (c.in-Some.position ∷ []) in
+    omega (arith, short, r.3.few, more)
+
+pub steps-preserved : goal.steps-preserved
+steps-preserved g c =
+    let r = c.requires.walk in
+    let step = at_some _ _ c.in_ok-position.field-0 c.in-Some.position c.in-Some.is (c.in_ok-position.ensures.steps r.0 r.1 (c.steps.invariant.kept r.0 r.1 r.2)).1 in
+    gathers_more _ c.args.walk c.steps.walk c.next_position.new.walk c.steps.reached.keys c.insert.new.self.keys c.in-Some.position
+    _ (exact_pairs nat_cmp nat_cmp exact_unsigned exact_unsigned) c.steps.invariant
+    (λ next start w. (c.in_ok-position.ensures.steps next start w).0) step.0 step.1 c.in_ok-insert.ensures.keys
+
+pub returns-clause-reached : goal.returns-clause-reached
+returns-clause-reached g c =
+    λ next start w p.
+    let inv = c.steps.invariant in
+    let given = c.steps.walk.given in
+    let here = inv.kept next start w in
+    let law = c.breadth_order_is_reach.ensures in
+    let all = at_none _ _ c.in_ok-position.field-0 c.in_default.is (c.in_ok-position.ensures.steps next start here).1 in (
+      (λ h. law.reached next start given here.answered.alike here.ordered p (node_contained given p ((inv.same p).0 h))),
+      (λ h. (inv.same p).1 (contains_node given p (law.all next start given here.answered.alike here.ordered all p h))),
+    )

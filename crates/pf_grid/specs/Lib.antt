@@ -1,0 +1,10 @@
+pub mod Positions
+pub mod Borders
+pub mod Coordinates
+pub mod Distances
+pub mod Equality
+pub mod Floods
+pub mod Internal
+pub mod Steps
+pub mod Texts
+pub mod Vertices
