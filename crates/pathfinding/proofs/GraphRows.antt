@@ -1,5 +1,6 @@
 -- The rows of a graph of numbered nodes, read place by place.
-use Rattle.std.proofs.Common.{◌≡◌, ℕ, pos, ◌+◌, ◌-◌, ◌<◌, ◌∙◌, arith, subst, length}
+use Rattle.std.proofs.Common.{◌≡◌, ℕ, pos, ◌+◌, ◌-◌, ◌<◌, ◌≤◌, ◌∙◌, [], take, drop, arith, ap, subst, length}
+use Rattle.std.proofs.Math.ListN.{get_or-eq_default}
 use Rattle.std.specs.Prelude.{Some, slice_get, slice_index, vec_len}
 use Rattle.std.proofs.lemmas.Int.{ints}
 use Rattle.std.proofs.lemmas.List.{length-map}
@@ -21,6 +22,14 @@ module _ {A : Type 0} (graph : Graph A) where
       let rise = graph.ordered node (omega (arith, l)) in
       let within = graph.within (node + 1) (omega (arith, l)) in
       length-map (row_of graph node) _ ∙ part_length (slice_index graph.offsets.items node) (slice_index graph.offsets.items (node + 1)) graph.steps.items rise (omega (arith, within, graph.steps.ok.0))
+
+  -- a number that is no node has no steps
+  pub row_outside : (node : ℕ) → node_count graph ≤ node → row_of graph node ≡ []
+  unfolding row_of
+  row_outside node l =
+      let past : slice_index graph.offsets.items (node + 1) ≡ 0 = get_or-eq_default graph.offsets.items 0 (omega (arith, l, graph.offsets.ok.0, graph.some)) in
+      let none : slice_index graph.offsets.items (node + 1) - slice_index graph.offsets.items node ≡ 0 = omega (arith, past) in
+      ap (λ k. take k (drop (slice_index graph.offsets.items node) graph.steps.items)) none
 
   pub row_within : (node place : ℕ) → node < node_count graph → place < length (filled (row_of graph node)) → slice_index graph.offsets.items node + place < length graph.steps.items
   row_within node place l p =

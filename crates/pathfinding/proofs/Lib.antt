@@ -6,8 +6,12 @@ pub mod Numbering
 pub mod Counting
 pub mod Costless
 pub mod Naming
+pub mod CleanNames
+pub mod RankedNames
+pub mod PathText
 pub mod NameGraph
 pub mod Networks
+pub mod NetworkPaths
 pub mod SpanningLemmas
 pub mod Outcomes
 pub mod Tables

@@ -1,6 +1,6 @@
 -- The graph of numbered nodes stands for the graph over their names.
 use Rattle.std.proofs.Common.{◌≡◌, ℕ, ℤ, pos, zero, suc, ◌<◌, ◌==◌, nat_eq, nat_lt, Bool, true, false, cond, List, [], ◌∷◌, map, filter, length, refl, sym, ap, ◌∙◌, arith, subst, Bor, eq-eqb, true≢false}
-use Rattle.std.specs.Prelude.{All}
+use Rattle.std.specs.Prelude.{All, Contains}
 use Rattle.std.specs.List.{IsDistinct, AllByRecursion}
 use Rattle.std.specs.Cmp.{IsEquivalence}
 use Rattle.std.specs.Str.{bytes_eq}
@@ -10,15 +10,19 @@ use Rattle.std.proofs.lemmas.Map.Keys.{IsDistinct-head, IsDistinct-tail}
 use Rattle.std.proofs.lemmas.Bool.Decides.{nat_tests}
 use borrow.Author.Tests.{eqb-true}
 use Rattle.pathfinding.specs.EdgeText.{Edge}
-use Rattle.pathfinding.specs.Roads.{edges_from, HasNoWalk, IsCheapestPath, HasCostOverflow, IsFewestEdgesPath}
+use Rattle.pf_yen.specs.KCheapest.{IsKCheapest}
+use Rattle.pathfinding.specs.Roads.{edges_from, HasNoWalk, IsCheapestPath, HasCostOverflow, IsFewestEdgesPath, AreCheapestPaths, HasPathOverflow}
 use Rattle.pathfinding.specs.Internal.Links.{name_at, edge_between, edges_between, AllBelow, links_from, steps_from}
 use Rattle.pathfinding.specs.Internal.Numbers.{edges_of}
 use Rattle.pathfinding.specs.declared.routes.links.Link.{Link}
 use Rattle.pf_base.specs.Walks.{HasNoGoalWalk, IsGoalWalk}
 use Rattle.pf_base.specs.Edges.{IsSuccessor, IsCheapestGoalPath, IsPastRange}
 use Rattle.pf_base.specs.Successors.{IsFewestEdgesGoalPath}
+use Rattle.pf_yen.specs.CleanPaths.{IsPathPastRange}
 use Rattle.pathfinding.proofs.Costless.{targets_of}
 use Rattle.pathfinding.proofs.Naming.{AllNodes, AllTargets, goal_known, IsNaming, none_named, best_named, fewest_named, past_named}
+use Rattle.pathfinding.proofs.CleanNames.{path_past_in}
+use Rattle.pathfinding.proofs.RankedNames.{ranked_known, ranked_in}
 use Rattle.pathfinding.proofs.Numbering.{below-tail}
 
 abbrev same_key : Bor (List ℕ) → Bor (List ℕ) → Bool
@@ -137,3 +141,15 @@ module _ (keys : List (Bor (List ℕ))) (distinct : IsDistinct same_key keys) (l
 
     pub path-known : (path : List ℕ) → IsGoalWalk nat_eq (IsSuccessor nat_eq numbered) (start ∷ []) (λ n. n == goal) path → AllNodes (λ n. n < length keys) path
     path-known path g = goal_known _ _ _ _ _ _ naming start within (λ n. n == goal) (λ name. bytes_eq name to) tests path g
+
+    pub path_overflow : IsPathPastRange nat_eq numbered start (λ n. n == goal) (FitsUnsignedBits 64) → HasPathOverflow (edges_between keys links) from to
+    path_overflow h = subst (λ f. HasPathOverflow (edges_between keys links) f to) from_is (path_past_in _ _ _ _ _ _ naming start within (λ n. n == goal) (λ name. bytes_eq name to) tests (FitsUnsignedBits 64) h)
+
+    module _ (count : ℕ) (paths : List (List ℕ × ℕ)) (h : IsKCheapest nat_eq numbered start (λ n. n == goal) (λ (cost : ℕ). pos cost) count paths) where
+      -- the paths over names
+      pub cheapest_paths : AreCheapestPaths (edges_between keys links) from to count (map (λ (p : List ℕ × ℕ). (map (name_at keys) p.0, p.1)) paths)
+      cheapest_paths = subst (λ f. AreCheapestPaths (edges_between keys links) f to count (map (λ (p : List ℕ × ℕ). (map (name_at keys) p.0, p.1)) paths)) from_is
+          (ranked_in _ _ _ _ _ _ naming start within (λ n. n == goal) (λ name. bytes_eq name to) tests (λ (cost : ℕ). pos cost) count paths h)
+
+      pub paths_known : (p : List ℕ × ℕ) → Contains paths p → AllNodes (λ n. n < length keys) p.0
+      paths_known p c = ranked_known _ _ _ _ _ _ naming start within (λ n. n == goal) (λ name. bytes_eq name to) tests (λ (cost : ℕ). pos cost) count paths h p c

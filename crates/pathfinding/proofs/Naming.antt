@@ -39,7 +39,7 @@ module _ {M N : Type 0} (eqM : M → M → Bool) (eqN : N → N → Bool) (name 
     edge_out (e ∷ es) b z all kb (inl h) = inl (n.same e.0 b all.0 kb ∙ h.0, h.1)
     edge_out (e ∷ es) b z all kb (inr h) = inr (edge_out es b z all.1 kb h)
 
-    edge_known : (es : List (M × ℤ)) (b : M) (z : ℤ) → AllTargets known es → HasEdge eqM es b z → known b
+    pub edge_known : (es : List (M × ℤ)) (b : M) (z : ℤ) → AllTargets known es → HasEdge eqM es b z → known b
     edge_known [] b z all h = absurd h
     edge_known (e ∷ es) b z all (inl h) = n.spread e.0 b all.0 h.0
     edge_known (e ∷ es) b z all (inr h) = edge_known es b z all.1 h
@@ -56,17 +56,17 @@ module _ {M N : Type 0} (eqM : M → M → Bool) (eqN : N → N → Bool) (name 
     from_name : (a b : M) (z : ℤ) → known a → known b → HasEdge eqN (edgesN (name a)) (name b) z → HasEdge eqM (edgesM a) b z
     from_name a b z ka kb h = edge_out (edgesM a) b z (n.targets a ka) kb (subst (λ es. HasEdge eqN es (name b) z) (n.carried a ka) h)
 
-    step_in : (a b : M) (z : ℤ) → known a → known b → StepCosts eqM edgesM a b z → StepCosts eqN edgesN (name a) (name b) z
+    pub step_in : (a b : M) (z : ℤ) → known a → known b → StepCosts eqM edgesM a b z → StepCosts eqN edgesN (name a) (name b) z
     step_in a b z ka kb s = record { edge = to_name a b z ka kb s.edge; cheapest = λ y h. s.cheapest y (from_name a b y ka kb h) }
 
     step_out : (a b : M) (z : ℤ) → known a → known b → StepCosts eqN edgesN (name a) (name b) z → StepCosts eqM edgesM a b z
     step_out a b z ka kb s = record { edge = from_name a b z ka kb s.edge; cheapest = λ y h. s.cheapest y (to_name a b y ka kb h) }
 
-    follows_known : (a : M) (w : List M) → known a → Follows (IsSuccessor eqM edgesM) a w → AllNodes known w
+    pub follows_known : (a : M) (w : List M) → known a → Follows (IsSuccessor eqM edgesM) a w → AllNodes known w
     follows_known a [] ka f = tt
     follows_known a (b ∷ w) ka f = let kb = edge_known (edgesM a) b f.0.0 (n.targets a ka) f.0.1 in (kb, follows_known b w kb f.1)
 
-    follows_in : (a : M) (w : List M) → known a → AllNodes known w → Follows (IsSuccessor eqM edgesM) a w → Follows (IsSuccessor eqN edgesN) (name a) (map name w)
+    pub follows_in : (a : M) (w : List M) → known a → AllNodes known w → Follows (IsSuccessor eqM edgesM) a w → Follows (IsSuccessor eqN edgesN) (name a) (map name w)
     follows_in a [] ka all f = tt
     follows_in a (b ∷ w) ka all f = ((f.0.0, to_name a b f.0.0 ka all.0 f.0.1), follows_in b w all.0 all.1 f.1)
 
@@ -91,15 +91,15 @@ module _ {M N : Type 0} (eqM : M → M → Bool) (eqN : N → N → Bool) (name 
           follows = ((f.0.0, from_name a b.0 f.0.0 ka b.1 here), rest.follows);
         }
 
-    end_named : (a : M) (w : List M) → end_of (name a) (map name w) ≡ name (end_of a w)
+    pub end_named : (a : M) (w : List M) → end_of (name a) (map name w) ≡ name (end_of a w)
     end_named a [] = refl
     end_named a (b ∷ w) = end_named b w
 
-    end_known : (a : M) (w : List M) → known a → AllNodes known w → known (end_of a w)
+    pub end_known : (a : M) (w : List M) → known a → AllNodes known w → known (end_of a w)
     end_known a [] ka all = ka
     end_known a (b ∷ w) ka all = end_known b w all.0 all.1
 
-    steps_in : (a : M) (w : List M) (t : ℤ) → known a → AllNodes known w → StepsCost eqM edgesM a w t → StepsCost eqN edgesN (name a) (map name w) t
+    pub steps_in : (a : M) (w : List M) (t : ℤ) → known a → AllNodes known w → StepsCost eqM edgesM a w t → StepsCost eqN edgesN (name a) (map name w) t
     steps_in a [] t ka all c = c
     steps_in a (b ∷ w) t ka all c = (c.0, c.1, step_in a b c.0 ka all.0 c.2, steps_in b w c.1 all.0 all.1 c.3, c.4)
 
@@ -107,12 +107,12 @@ module _ {M N : Type 0} (eqM : M → M → Bool) (eqN : N → N → Bool) (name 
     steps_out a [] t ka all c = c
     steps_out a (b ∷ w) t ka all c = (c.0, c.1, step_out a b c.0 ka all.0 c.2, steps_out b w c.1 all.0 all.1 c.3, c.4)
 
-    node_out : (w : List M) (x : M) → AllNodes known w → known x → HasNode eqN (map name w) (name x) → HasNode eqM w x
+    pub node_out : (w : List M) (x : M) → AllNodes known w → known x → HasNode eqN (map name w) (name x) → HasNode eqM w x
     node_out [] x all kx h = h
     node_out (y ∷ w) x all kx (inl h) = inl (n.same y x all.0 kx ∙ h)
     node_out (y ∷ w) x all kx (inr h) = inr (node_out w x all.1 kx h)
 
-    repeats_in : (w : List M) → AllNodes known w → NoRepeats eqM w → NoRepeats eqN (map name w)
+    pub repeats_in : (w : List M) → AllNodes known w → NoRepeats eqM w → NoRepeats eqN (map name w)
     repeats_in [] all h = tt
     repeats_in (x ∷ w) all h = ((λ k. h.0 (node_out w x all.1 all.0 k)), repeats_in w all.1 h.1)
 
@@ -135,7 +135,7 @@ module _ {M N : Type 0} (eqM : M → M → Bool) (eqN : N → N → Bool) (name 
       goal_known [] g = tt
       goal_known (a ∷ w) g = let ka = first_known a g.begins in (ka, follows_known a w ka g.walks)
 
-      goal_in : (walk : List M) → GoalM walk → GoalN (map name walk)
+      pub goal_in : (walk : List M) → GoalM walk → GoalN (map name walk)
       goal_in [] g = absurd g.walks
       goal_in (a ∷ w) g =
           let ka = first_known a g.begins in
@@ -147,11 +147,11 @@ module _ {M N : Type 0} (eqM : M → M → Bool) (eqN : N → N → Bool) (name 
           }
 
       -- a goal walk over names is one over known nodes
-      record LiftedGoal (walk : List N) : Type 0 where
-        nodes : List M
-        all : AllNodes known nodes
-        names : map name nodes ≡ walk
-        goal : GoalM nodes
+      pub record LiftedGoal (walk : List N) : Type 0 where
+        pub nodes : List M
+        pub all : AllNodes known nodes
+        pub names : map name nodes ≡ walk
+        pub goal : GoalM nodes
 
       goal_lifted_by : (x : N) (w : List N) → eqN (name start) x ≡ true → Follows (IsSuccessor eqN edgesN) x w → testN (end_of x w) ≡ true → LiftedGoal (x ∷ w)
       goal_lifted_by x w begins walks ends =
@@ -170,7 +170,7 @@ module _ {M N : Type 0} (eqM : M → M → Bool) (eqN : N → N → Bool) (name 
             };
           }
 
-      goal_lifted : (walk : List N) → GoalN walk → LiftedGoal walk
+      pub goal_lifted : (walk : List N) → GoalN walk → LiftedGoal walk
       goal_lifted [] g = absurd g.walks
       goal_lifted (x ∷ w) g = by g.begins
         where
@@ -182,11 +182,11 @@ module _ {M N : Type 0} (eqM : M → M → Bool) (eqN : N → N → Bool) (name 
       pub none_named : HasNoGoalWalk eqM (IsSuccessor eqM edgesM) (start ∷ []) testM → HasNoGoalWalk eqN (IsSuccessor eqN edgesN) (name start ∷ []) testN
       none_named none = λ walk g. let l = goal_lifted walk g in none l.nodes l.goal
 
-      costs_in : (walk : List M) (t : ℤ) → AllNodes known walk → WalkCosts eqM edgesM walk t → WalkCosts eqN edgesN (map name walk) t
+      pub costs_in : (walk : List M) (t : ℤ) → AllNodes known walk → WalkCosts eqM edgesM walk t → WalkCosts eqN edgesN (map name walk) t
       costs_in [] t all c = c
       costs_in (a ∷ w) t all c = steps_in a w t all.0 all.1 c
 
-      costs_out : (walk : List M) (t : ℤ) → AllNodes known walk → WalkCosts eqN edgesN (map name walk) t → WalkCosts eqM edgesM walk t
+      pub costs_out : (walk : List M) (t : ℤ) → AllNodes known walk → WalkCosts eqN edgesN (map name walk) t → WalkCosts eqM edgesM walk t
       costs_out [] t all c = c
       costs_out (a ∷ w) t all c = steps_out a w t all.0 all.1 c
 

@@ -13,7 +13,7 @@ use Rattle.pathfinding.proofs.Costless.{goal_costed}
 use Rattle.pathfinding.proofs.Naming.{AllNodes}
 use Rattle.pathfinding.proofs.NameGraph.{targets-below, no_walk, cheapest, fewest, overflow, path-known}
 
-all_of : (count : ℕ) (xs : List ℕ) → AllNodes (λ n. n < count) xs → All (λ n. n < count) xs
+pub all_of : (count : ℕ) (xs : List ℕ) → AllNodes (λ n. n < count) xs → All (λ n. n < count) xs
 all_of count [] all k d lt = absurd (omega (arith, lt))
 all_of count (x ∷ xs) all zero d lt = all.0
 all_of count (x ∷ xs) all (suc k) d lt = all_of count xs all.1 k d (omega (arith, lt))

@@ -8,3 +8,4 @@ pub mod Graph
 pub mod Numbers
 pub mod Network
 pub mod NumberedLines
+pub mod NumberedPaths

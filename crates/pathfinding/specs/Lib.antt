@@ -6,6 +6,8 @@ pub use Rattle.pf_base.specs.Successors
 pub use Rattle.pf_base.specs.NodeRefs
 pub use Rattle.pf_base.specs.Tallies
 pub use Rattle.pf_base.specs.Moves
+pub use Rattle.pf_yen.specs.CleanPaths
+pub use Rattle.pf_yen.specs.KCheapest
 pub use Rattle.pf_graph.specs.Joined
 pub use Rattle.pf_graph.specs.Spanning
 pub use Rattle.pf_graph.specs.GrownTree

@@ -4,6 +4,7 @@
 pub mod directed;
 pub mod functions;
 pub mod graphs;
+pub mod grid;
 mod macros;
 pub mod matrix;
 pub mod prelude;

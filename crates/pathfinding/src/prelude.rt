@@ -1,5 +1,5 @@
-//! All that the crate exports, but `graphs::bfs` and `graphs::dijkstra`, whose names are those of the
-//! searches on graphs that functions answer.
+//! All that the crate exports, but the searches of `graphs`, whose names are those of the searches on
+//! graphs that functions answer.
 
 pub use crate::graphs;
 pub use crate::routes;
@@ -18,6 +18,19 @@ pub use pf_base::utils::constrain;
 pub use pf_base::utils::in_direction;
 pub use pf_base::utils::move_in_direction;
 pub use pf_base::utils::uint_sqrt;
+pub use pf_flow::edmonds_karp::DenseCapacity;
+pub use pf_flow::edmonds_karp::EKFlows;
+pub use pf_flow::edmonds_karp::Edge;
+pub use pf_flow::edmonds_karp::EdmondsKarp;
+pub use pf_flow::edmonds_karp::FlowStore;
+pub use pf_flow::edmonds_karp::SparseCapacity;
+pub use pf_flow::edmonds_karp::edmonds_karp;
+pub use pf_flow::edmonds_karp::edmonds_karp_dense;
+pub use pf_flow::edmonds_karp::edmonds_karp_sparse;
+pub use pf_flow::edmonds_karp::listed_store;
+pub use pf_flow::edmonds_karp::square_store;
+pub use pf_flow::laws::flow_is_within_cut;
+pub use pf_flow::laws::stores_report_one_total;
 pub use pf_graph::directed::cycle_detection::brent;
 pub use pf_graph::directed::cycle_detection::brent_partial;
 pub use pf_graph::directed::cycle_detection::floyd;
@@ -42,8 +55,20 @@ pub use pf_graph::undirected::kruskal::spanning_weight;
 pub use pf_graph::undirected::laws::least_total_weight;
 pub use pf_graph::undirected::laws::least_tree_weight;
 pub use pf_graph::undirected::prim::prim;
+pub use pf_grid::Coordinate;
+pub use pf_grid::EdgesIterator;
+pub use pf_grid::Grid;
+pub use pf_grid::GridError;
+pub use pf_grid::GridIntoIterator;
+pub use pf_grid::GridIterator;
+pub use pf_informed::directed::astar::AstarSolution;
 pub use pf_informed::directed::astar::astar;
+pub use pf_informed::directed::astar::astar_bag;
+pub use pf_informed::directed::astar::astar_bag_collect;
+pub use pf_informed::directed::fringe::fringe;
+pub use pf_informed::directed::idastar::idastar;
 pub use pf_informed::functions::EstimateFunction;
+pub use pf_informed::laws::cheapest_clean_paths_are_cheapest;
 pub use pf_matrix::ColumnIterator;
 pub use pf_matrix::Items;
 pub use pf_matrix::ItemsMut;
@@ -104,3 +129,6 @@ pub use pf_tables::Row;
 pub use pf_tables::Rows;
 pub use pf_tables::Steps;
 pub use pf_tables::TableError;
+pub use pf_yen::directed::yen::YenPaths;
+pub use pf_yen::directed::yen::yen;
+pub use pf_yen::directed::yen::yen_paths;

@@ -3,6 +3,8 @@ use Rattle.std.specs.Prelude.{ℕ, ℤ, pos, nat_eq, List, [], ◌∷◌, map, �
 use Rattle.pf_base.specs.Walks.{HasNoGoalWalk}
 use Rattle.pf_base.specs.Edges.{IsSuccessor, IsCheapestGoalPath, IsPastRange}
 use Rattle.pf_base.specs.Successors.{IsFewestEdgesGoalPath}
+use Rattle.pf_yen.specs.CleanPaths.{IsPathPastRange}
+use Rattle.pf_yen.specs.KCheapest.{IsKCheapest}
 use Rattle.std.specs.Int.{FitsUnsignedBits}
 use Rattle.pathfinding.specs.Internal.Graph.{row_of}
 use Rattle.pathfinding.specs.declared.routes.graph.Graph.{Graph}
@@ -29,3 +31,9 @@ module _ {A : Type 0} (graph : Graph A) (from to : ℕ) where
 
   abbrev pub IsFewestEdgesNumberedPath : List ℕ → Type 0
   IsFewestEdgesNumberedPath path = IsFewestEdgesGoalPath nat_eq numbered_successors (from ∷ []) (λ n. n == to) path
+
+  abbrev pub AreCheapestNumberedPaths : ℕ → List (List ℕ × ℕ) → Type 0
+  AreCheapestNumberedPaths count paths = IsKCheapest nat_eq numbered_edges from (λ n. n == to) (λ cost. pos cost) count paths
+
+  abbrev pub HasNumberedPathOverflow : Type 0
+  HasNumberedPathOverflow = IsPathPastRange nat_eq numbered_edges from (λ n. n == to) (FitsUnsignedBits 64)

@@ -1,42 +1,20 @@
 //! Answers as text.
 
-ghost use Rattle.std.specs.Prelude.{◌≡◌, ◌<◌, ℕ, List, All, IfOk, IfErr, map};
-ghost use Rattle.pathfinding.specs.AnswerText.{IsAnswer, IsFewestEdgesAnswer, IsPathAnswer, Overflows, path_line};
+ghost use Rattle.std.specs.Prelude.{ℕ, List, IfOk, IfErr};
+ghost use Rattle.pathfinding.specs.AnswerText.{IsAnswer, IsFewestEdgesAnswer, IsPathAnswer, Overflows};
 ghost use Rattle.pathfinding.specs.EdgeText.{Edge};
-ghost use Rattle.pathfinding.specs.Internal.NameTable.{name_in, table_len};
 ghost use Rattle.pathfinding.specs.Internal.Parsed.{HoldsOfEdges, RefusesAnswer, RefusesText};
 ghost use Rattle.pathfinding.specs.Roads.{HasCostOverflow};
 
 use crate::routes::commands::Command;
 use crate::routes::error::RouteError;
-use crate::routes::name_table::NameTable;
 use crate::routes::network::Network;
+use crate::routes::path_text::write_path;
+use crate::routes::ranked::{all_lines, ranked_lines};
 use crate::routes::search::{cheapest_path, fewest_edges_path};
 use crate::routes::spanning::spanning_lines;
-use std::alloc::{AllocError, Allocator};
+use std::alloc::Allocator;
 use std::hash::BuildHasher;
-
-/// A number and names on a line, as `11: A B`.
-fn write_path<A: Allocator + Copy>(
-    alloc: A,
-    number: u64,
-    names: &NameTable<A>,
-    path: &[usize],
-) -> Result<Vec<u8, A>, AllocError>
-    requires { All (λ n. n < table_len names.now) path.now }
-    ensures { IfOk result (λ line. line.items ≡ path_line number (map (name_in names.now) path.now)) }
-{
-    let digits = number.to_string(alloc)?;
-    let mut line = Vec::new(alloc);
-    line.extend_from_slice(digits.as_bytes())?;
-    line.push(b':')?;
-    for node in path {
-        line.push(b' ')?;
-        line.extend_from_slice(names.name(*node))?;
-    }
-    line.push(b'\n')?;
-    Ok(line)
-}
 
 /// The line of a cheapest path between two names, or that there is none.
 fn cheapest_line<S: BuildHasher + Drop, A: Allocator + Copy>(
@@ -95,5 +73,12 @@ pub(crate) fn answer_to<S: BuildHasher + Drop, A: Allocator + Copy>(
             fewest_edges_line(alloc, from.as_bytes(), to.as_bytes(), text, hash_builder)
         }
         Command::Kruskal => spanning_lines(alloc, text, hash_builder),
+        Command::Yen { from, to, count } => {
+            let (from, to) = (from.as_bytes(), to.as_bytes());
+            ranked_lines(alloc, from, to, *count, text, hash_builder)
+        }
+        Command::YenAll { from, to } => {
+            all_lines(alloc, from.as_bytes(), to.as_bytes(), text, hash_builder)
+        }
     }
 }

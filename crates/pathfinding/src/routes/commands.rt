@@ -19,4 +19,20 @@ pub enum Command {
     },
     /// Spanning edges of least weight.
     Kruskal,
+    /// The cheapest clean paths from one name to another, as many as are asked for.
+    Yen {
+        /// The name of the first node.
+        from: String,
+        /// The name of the last node.
+        to: String,
+        /// How many paths are answered at most.
+        count: usize,
+    },
+    /// All clean paths from one name to another, by rising cost.
+    YenAll {
+        /// The name of the first node.
+        from: String,
+        /// The name of the last node.
+        to: String,
+    },
 }

@@ -3,14 +3,13 @@
 //! The fields are taken from the front of the text, and the line ends where no field is left. So no
 //! line is cut out first, and the bytes are gone over once (the digits of a cost twice).
 
-ghost use Rattle.std.specs.Prelude.{position, not, ◌≡◌, ℕ, ◌+◌, ◌*◌, ◌^◌, ◌<◌, ◌≤◌, List, [], ◌∷◌, length, map, MatchOption, IfSome, IsTrue, if◌then◌else◌};
-ghost use Rattle.std.specs.Char.{is_ascii_digit, digit_value};
-ghost use Rattle.std.specs.Str.Parse.{digits_value};
-ghost use Rattle.pathfinding.specs.EdgeText.{Line, is_gap, is_visible, is_cost, lines_of, line_of, said_by, Bad};
+ghost use Rattle.std.specs.Prelude.{position, not, ◌≡◌, ℕ, ◌<◌, List, [], ◌∷◌, length, map, MatchOption, IfSome};
+ghost use Rattle.pathfinding.specs.EdgeText.{Line, is_gap, is_visible, lines_of, line_of, said_by, Bad};
 ghost use Rattle.pathfinding.specs.Internal.Fields.{front, behind, field_of, behind_field, lines_left, BeginsWithLine};
 ghost use Rattle.pathfinding.specs.Internal.Parsed.{line_read};
 
 use crate::routes::bytes::{is_gap_byte, is_visible_byte};
+use crate::routes::digits::number_of;
 use crate::routes::name::Name;
 
 /// An edge whose names lie in the text that it was read from.
@@ -96,28 +95,6 @@ fn end_line(text: &[u8]) -> Option<Option<&[u8]>>
     }
 }
 
-/// The number with one more digit.
-fn push_digit(number: u64, digit: u8) -> Option<u64>
-    requires { IsTrue (is_ascii_digit digit) }
-    ensures { MatchOption result (2 ^ 64 ≤ number * 10 + digit_value digit) (λ n. n ≡ number * 10 + digit_value digit) }
-{
-    number.checked_mul(10)?.checked_add(u64::from(digit - b'0'))
-}
-
-/// The cost that digits spell, where they are digits and it fits.
-fn cost_of(field: &[u8]) -> Option<u64>
-    ensures { result ≡ (if is_cost field.now then Some (digits_value 10 field.now) else None) }
-{
-    let mut cost = 0u64;
-    for digit in field {
-        if !digit.is_ascii_digit() {
-            return None;
-        }
-        cost = push_digit(cost, *digit)?;
-    }
-    Some(cost)
-}
-
 /// The first line of a text, or `None` where it is bad.
 pub(crate) fn read_line(text: &[u8]) -> Option<ReadLine<'_>>
     ensures says { MatchOption result ((others : List Line) × (said_by text.now ≡ Bad ∷ others))
@@ -134,7 +111,7 @@ pub(crate) fn read_line(text: &[u8]) -> Option<ReadLine<'_>>
     if field.is_empty() {
         return None;
     }
-    let cost = cost_of(field)?;
+    let cost = number_of(field)?;
     let edge = NamedEdge {
         from: Name::new(from),
         to: Name::new(to),

@@ -33,6 +33,18 @@ impl<A: Allocator + Copy> Graph<A> {
         let steps = place_steps(alloc, offsets.as_slice(), links)?;
         Ok(Graph { offsets, steps })
     }
+
+    /// The steps from a node. A number that is no node has none.
+    pub(crate) fn steps(&self, node: usize) -> &[Step]
+        ensures { result.now ≡ row_of self.now node }
+    {
+        if node >= self.offsets.len() - 1 {
+            return &[];
+        }
+        let start = self.offsets[node];
+        let end = self.offsets[node + 1];
+        &self.steps[start..end]
+    }
 }
 
 impl<A: Allocator + Copy> pf_tables::Graph<u64> for Graph<A> {

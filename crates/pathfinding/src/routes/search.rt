@@ -2,12 +2,14 @@
 
 ghost use Rattle.std.specs.Prelude.{◌≡◌, ◌⊎◌, ℕ, ◌<◌, IfOk, IfErr, MatchOption, All};
 ghost use Rattle.pathfinding.specs.Internal.Graph.{row_of, node_count};
-ghost use Rattle.pathfinding.specs.Internal.Numbers.{HasNoNumberedWalk, IsCheapestNumberedPath, HasNumberedOverflow, IsFewestEdgesNumberedPath};
+ghost use Rattle.pathfinding.specs.Internal.Numbers.{AreCheapestNumberedPaths, HasNoNumberedWalk, HasNumberedOverflow, HasNumberedPathOverflow, IsCheapestNumberedPath, IsFewestEdgesNumberedPath};
+ghost use Rattle.pf_yen.specs.KCheapest.{paths_in};
 
 use crate::routes::error::RouteError;
 use crate::routes::graph::Graph;
 use pf_base::PathError;
 use pf_tables::{bfs, dijkstra};
+use pf_yen::directed::yen::yen;
 use std::alloc::Allocator;
 
 /// A cheapest path between two numbers, and its cost.
@@ -46,6 +48,25 @@ pub(crate) fn fewest_edges_path<A: Allocator + Copy>(
     // There is no other error than out of memory.
     match bfs(alloc, graph, from, to) {
         Ok(answer) => Ok(answer),
+        Err(_) => Err(RouteError::OutOfMemory),
+    }
+}
+
+/// The cheapest clean paths between two numbers, at most `count` of them, with their costs.
+pub(crate) fn cheapest_paths<A: Allocator + Copy>(
+    alloc: A,
+    graph: &Graph<A>,
+    from: usize,
+    to: usize,
+    count: usize,
+) -> Result<Vec<(Vec<usize, A>, u64), A>, RouteError>
+    ensures ok { IfOk result (λ paths. AreCheapestNumberedPaths graph.now from to count (paths_in paths.items)) }
+    ensures err { IfErr result (λ e. (e ≡ RouteError.OutOfMemory) ⊎ ((e ≡ RouteError.CostOverflow) × (0 < count) × HasNumberedPathOverflow graph.now from to × (count ≡ 1 → HasNumberedOverflow graph.now from to))) }
+{
+    let steps = |n: &usize| graph.steps(*n).iter().copied();
+    match yen(alloc, &from, steps, |n: &usize| *n == to, count) {
+        Ok(paths) => Ok(paths),
+        Err(PathError::CostOverflow) => Err(RouteError::CostOverflow),
         Err(_) => Err(RouteError::OutOfMemory),
     }
 }

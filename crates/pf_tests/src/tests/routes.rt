@@ -119,14 +119,22 @@ impl BuildHasher for OneHash {
 pub const SEVEN: &[u8] = b"A B 4\nA C 2\nB C 1\nB D 5\nC D 8\nC E 10\nD E 2\n";
 
 /// A command of each kind about the seven edges, and what is written for it.
-pub const SEVEN_ANSWERS: [(&str, &[u8]); 3] = [
+pub const SEVEN_ANSWERS: [(&str, &[u8]); 5] = [
     ("dijkstra A E", b"11: A B D E\n"),
     ("bfs A E", b"2: A C E\n"),
     ("kruskal", b"B C 1\nA C 2\nD E 2\nB D 5\n"),
+    ("yen A E 3", b"11: A B D E\n12: A C E\n12: A C D E\n"),
+    (
+        "yen A E all",
+        b"11: A B D E\n12: A C E\n12: A C D E\n15: A B C E\n15: A B C D E\n",
+    ),
 ];
 
+/// Five edges, of which two lead from one node to one other.
+const FIVE: &[u8] = b"s a 1\na t 1\na b 1\na b 3\nb t 1\n";
+
 /// Commands, edges, and what is written for them.
-const ANSWERS: [(&str, &[u8], &[u8]); 16] = [
+const ANSWERS: [(&str, &[u8], &[u8]); 31] = [
     ("dijkstra A E", SEVEN, b"11: A B D E\n"),
     ("dijkstra A A", b"", b"0: A\n"),
     ("dijkstra a c", b"", b"none\n"),
@@ -151,10 +159,39 @@ const ANSWERS: [(&str, &[u8], &[u8]); 16] = [
     ),
     ("kruskal", b"", b""),
     ("kruskal", b"a a 1\n", b""),
+    ("yen s t 2", FIVE, b"2: s a t\n3: s a b t\n"),
+    ("yen s t 1", FIVE, b"2: s a t\n"),
+    ("yen s t 3", FIVE, b"2: s a t\n3: s a b t\n"),
+    ("yen s t 0", FIVE, b"none\n"),
+    ("yen s t 0002", FIVE, b"2: s a t\n3: s a b t\n"),
+    (
+        "yen s t 18446744073709551615",
+        FIVE,
+        b"2: s a t\n3: s a b t\n",
+    ),
+    ("yen s t all", FIVE, b"2: s a t\n3: s a b t\n"),
+    ("yen t s all", FIVE, b"none\n"),
+    ("yen s s all", FIVE, b"0: s\n"),
+    ("yen s t 0", b"s t 1", b"none\n"),
+    ("yen s t all", b"", b"none\n"),
+    ("yen s t 4", b"", b"none\n"),
+    // Of equal cost those of fewer names come first.
+    (
+        "yen s t all",
+        b"s a 0\na t 2\ns b 0\nb c 0\nc t 2\ns t 2\n",
+        b"2: s t\n2: s a t\n2: s b c t\n",
+    ),
+    // A sum that no asked path needs is not made.
+    (
+        "yen s t 1",
+        b"s t 1\ns a 18446744073709551615\na t 1\n",
+        b"1: s t\n",
+    ),
+    ("yen s t 0", b"s a 18446744073709551615\na t 1\n", b"none\n"),
 ];
 
 /// Commands, edges, and the fault that they have.
-const FAULTS: [(&str, &[u8], RouteError); 12] = [
+const FAULTS: [(&str, &[u8], RouteError); 17] = [
     ("dijkstra a c", b"a b 1\nb c x\n", RouteError::BadEdge(2)),
     (
         "dijkstra a c",
@@ -188,6 +225,23 @@ const FAULTS: [(&str, &[u8], RouteError); 12] = [
         RouteError::BadEdge(1),
     ),
     ("bfs a c", b"a b 1\nb c\n", RouteError::BadEdge(2)),
+    (
+        "yen s t 2",
+        b"s t 1\ns a 18446744073709551615\na t 1\n",
+        RouteError::CostOverflow,
+    ),
+    (
+        "yen s t all",
+        b"s t 1\ns a 18446744073709551615\na t 1\n",
+        RouteError::CostOverflow,
+    ),
+    (
+        "yen s t 1",
+        b"s a 18446744073709551615\na t 1\n",
+        RouteError::CostOverflow,
+    ),
+    ("yen s t 0", b"s t 1\ns t", RouteError::BadEdge(2)),
+    ("yen s t all", b"s t -1", RouteError::BadEdge(1)),
 ];
 
 /// The command that words parted by spaces spell.
@@ -269,13 +323,38 @@ fn wrong_words_are_no_command(rt: HostRuntime) -> Result<(), Fail> {
         "kruskal a",
         "kruskal a b",
         "Kruskal",
+        "yen",
+        "yen a",
+        "yen a b",
+        "yen a b 1 2",
+        "yen a b c",
+        "yen a b +1",
+        "yen a b -1",
+        "yen a b 1x",
+        "yen a b ",
+        "yen a b All",
+        "yen a b all ",
+        "yen a b 18446744073709551616",
+        "yen a\t b 1",
+        "yen a b\u{7f} 1",
+        "yen a b\u{7f} all",
+        "Yen a b 1",
+        "bfs a b all",
+        "dijkstra a b 1",
         "",
     ];
     for line in wrong {
         assert!(rt; asked(rt.alloc(), line)?.is_none(), "{line}");
     }
     assert!(rt; command(Vec::new(rt.alloc())).is_none());
-    for line in ["dijkstra ! ~", "bfs ! ~"] {
+    for line in [
+        "dijkstra ! ~",
+        "bfs ! ~",
+        "yen ! ~ 0",
+        "yen ! ~ all",
+        "yen all all all",
+        "yen a b 00018446744073709551615",
+    ] {
         assert!(rt; asked(rt.alloc(), line)?.is_some(), "{line}");
     }
     Ok(())

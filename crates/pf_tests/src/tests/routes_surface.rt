@@ -44,7 +44,7 @@ mod paths {
 
 mod directed_paths {
     //! The same of what is directed.
-    pub use pathfinding::directed::astar::astar;
+    pub use pathfinding::directed::astar::{AstarSolution, astar, astar_bag, astar_bag_collect};
     pub use pathfinding::directed::bfs::{
         BfsReachable, bfs, bfs_bidirectional, bfs_loop, bfs_reach,
     };
@@ -54,11 +54,17 @@ mod directed_paths {
         DijkstraReachable, DijkstraReachableItem, Parents, build_path, dijkstra, dijkstra_all,
         dijkstra_bidirectional, dijkstra_partial, dijkstra_reach, dijkstra_tallied,
     };
+    pub use pathfinding::directed::edmonds_karp::{
+        DenseCapacity, EKFlows, Edge, EdmondsKarp, FlowStore, SparseCapacity, edmonds_karp,
+        edmonds_karp_dense, edmonds_karp_sparse, listed_store, square_store,
+    };
+    pub use pathfinding::directed::fringe::fringe;
+    pub use pathfinding::directed::idastar::idastar;
     pub use pathfinding::directed::iddfs::iddfs;
     pub use pathfinding::directed::laws::{
-        breadth_order_is_by_distance, breadth_order_is_reach, fewest_edges_have_one_length,
-        fewest_edges_of_cheapest, groups_joined_are_an_order, one_cheapest_cost,
-        path_of_parents_is_cheapest, preorder_of_reach,
+        breadth_order_is_by_distance, breadth_order_is_reach, cheapest_clean_paths_are_cheapest,
+        fewest_edges_have_one_length, fewest_edges_of_cheapest, groups_joined_are_an_order,
+        one_cheapest_cost, path_of_parents_is_cheapest, preorder_of_reach,
     };
     pub use pathfinding::directed::strongly_connected_components::{
         strongly_connected_component, strongly_connected_components,
@@ -67,34 +73,133 @@ mod directed_paths {
     pub use pathfinding::directed::topological_sort::{
         topological_sort, topological_sort_into_groups, topological_sort_tallied,
     };
+    pub use pathfinding::directed::yen::{YenPaths, yen, yen_paths};
     pub use pathfinding::functions::{EdgeFunction, EstimateFunction, NodeTest, SuccessorFunction};
+}
+
+mod over_tables {
+    //! The same of grids and of graphs in tables.
+    pub use pathfinding::graphs::{
+        Board, CompactRows, Costless, EdgeList, EdgeListError, Goals, Graph, Row, Rows, Steps,
+        TableError, bfs, bfs_loop, dfs, dijkstra, dijkstra_all, dijkstra_partial, iddfs,
+        strongly_connected_component, strongly_connected_components, topological_sort,
+        topological_sort_into_groups,
+    };
+    pub use pathfinding::grid::{
+        Coordinate, EdgesIterator, Grid, GridError, GridIntoIterator, GridIterator,
+    };
 }
 
 mod in_prelude {
     //! The same by the prelude.
-    pub use pathfinding::prelude::directions::{DIRECTIONS_4, DIRECTIONS_8};
-    pub use pathfinding::prelude::routes::{
-        Command, Noted, RouteError, command, run, run_with_hasher,
-    };
-    pub use pathfinding::prelude::{
-        BfsReachable, ColumnIterator, ConnectedComponents, Cost, DfsReachable, DijkstraReachable,
-        DijkstraReachableItem, EdgeFunction, EstimateFunction, InDirection, Items, ItemsMut, Keys,
-        Kruskal, KruskalIndices, MapIn, Matrix, MatrixFormatError, Neighbours, NodeRefs,
-        NodeRefsIntoIter, NodeRefsIter, NodeTest, Parents, PathError, RowIterator, SetIn,
-        SignedCost, SuccessorFunction, Tally, Weights, astar, bfs, bfs_bidirectional, bfs_loop,
-        bfs_reach, breadth_order_is_by_distance, breadth_order_is_reach, brent, brent_partial,
-        build_path, component_index, components, connected_components, constrain, dfs, dfs_reach,
-        dijkstra, dijkstra_all, dijkstra_bidirectional, dijkstra_partial, dijkstra_reach,
-        dijkstra_tallied, equal_hash_alike, fewest_edges_have_one_length, fewest_edges_of_cheapest,
-        floyd, floyd_partial, four_quarter_turns, from_slices, groups_joined_are_an_order, iddfs,
-        in_direction, kruskal, kruskal_indices, kuhn_munkres, kuhn_munkres_min,
-        kuhn_munkres_tallied, least_total_weight, least_tree_weight, move_in_direction,
-        one_cheapest_cost, path_of_parents_is_cheapest, preorder_of_reach, prim,
-        separate_components, spanning_weight, strongly_connected_component,
-        strongly_connected_components, strongly_connected_components_from, topological_sort,
-        topological_sort_into_groups, topological_sort_tallied, turns_undone, two_flips_lr,
-        two_flips_ud, two_transpositions, uint_sqrt, weights_fit,
-    };
+    pub use pathfinding::prelude::AstarSolution;
+    pub use pathfinding::prelude::BfsReachable;
+    pub use pathfinding::prelude::ColumnIterator;
+    pub use pathfinding::prelude::ConnectedComponents;
+    pub use pathfinding::prelude::Cost;
+    pub use pathfinding::prelude::DfsReachable;
+    pub use pathfinding::prelude::DijkstraReachable;
+    pub use pathfinding::prelude::DijkstraReachableItem;
+    pub use pathfinding::prelude::EdgeFunction;
+    pub use pathfinding::prelude::EdgesIterator;
+    pub use pathfinding::prelude::EstimateFunction;
+    pub use pathfinding::prelude::Grid;
+    pub use pathfinding::prelude::GridError;
+    pub use pathfinding::prelude::GridIntoIterator;
+    pub use pathfinding::prelude::GridIterator;
+    pub use pathfinding::prelude::InDirection;
+    pub use pathfinding::prelude::Items;
+    pub use pathfinding::prelude::ItemsMut;
+    pub use pathfinding::prelude::Keys;
+    pub use pathfinding::prelude::Kruskal;
+    pub use pathfinding::prelude::KruskalIndices;
+    pub use pathfinding::prelude::MapIn;
+    pub use pathfinding::prelude::Matrix;
+    pub use pathfinding::prelude::MatrixFormatError;
+    pub use pathfinding::prelude::Neighbours;
+    pub use pathfinding::prelude::NodeRefs;
+    pub use pathfinding::prelude::NodeRefsIntoIter;
+    pub use pathfinding::prelude::NodeRefsIter;
+    pub use pathfinding::prelude::NodeTest;
+    pub use pathfinding::prelude::Parents;
+    pub use pathfinding::prelude::PathError;
+    pub use pathfinding::prelude::RowIterator;
+    pub use pathfinding::prelude::SetIn;
+    pub use pathfinding::prelude::SignedCost;
+    pub use pathfinding::prelude::SuccessorFunction;
+    pub use pathfinding::prelude::Tally;
+    pub use pathfinding::prelude::Weights;
+    pub use pathfinding::prelude::astar;
+    pub use pathfinding::prelude::astar_bag;
+    pub use pathfinding::prelude::astar_bag_collect;
+    pub use pathfinding::prelude::bfs;
+    pub use pathfinding::prelude::bfs_bidirectional;
+    pub use pathfinding::prelude::bfs_loop;
+    pub use pathfinding::prelude::bfs_reach;
+    pub use pathfinding::prelude::breadth_order_is_by_distance;
+    pub use pathfinding::prelude::breadth_order_is_reach;
+    pub use pathfinding::prelude::brent;
+    pub use pathfinding::prelude::brent_partial;
+    pub use pathfinding::prelude::build_path;
+    pub use pathfinding::prelude::cheapest_clean_paths_are_cheapest;
+    pub use pathfinding::prelude::component_index;
+    pub use pathfinding::prelude::components;
+    pub use pathfinding::prelude::connected_components;
+    pub use pathfinding::prelude::constrain;
+    pub use pathfinding::prelude::dfs;
+    pub use pathfinding::prelude::dfs_reach;
+    pub use pathfinding::prelude::dijkstra;
+    pub use pathfinding::prelude::dijkstra_all;
+    pub use pathfinding::prelude::dijkstra_bidirectional;
+    pub use pathfinding::prelude::dijkstra_partial;
+    pub use pathfinding::prelude::dijkstra_reach;
+    pub use pathfinding::prelude::dijkstra_tallied;
+    pub use pathfinding::prelude::directions::DIRECTIONS_4;
+    pub use pathfinding::prelude::directions::DIRECTIONS_8;
+    pub use pathfinding::prelude::equal_hash_alike;
+    pub use pathfinding::prelude::fewest_edges_have_one_length;
+    pub use pathfinding::prelude::fewest_edges_of_cheapest;
+    pub use pathfinding::prelude::floyd;
+    pub use pathfinding::prelude::floyd_partial;
+    pub use pathfinding::prelude::four_quarter_turns;
+    pub use pathfinding::prelude::fringe;
+    pub use pathfinding::prelude::from_slices;
+    pub use pathfinding::prelude::groups_joined_are_an_order;
+    pub use pathfinding::prelude::idastar;
+    pub use pathfinding::prelude::iddfs;
+    pub use pathfinding::prelude::in_direction;
+    pub use pathfinding::prelude::kruskal;
+    pub use pathfinding::prelude::kruskal_indices;
+    pub use pathfinding::prelude::kuhn_munkres;
+    pub use pathfinding::prelude::kuhn_munkres_min;
+    pub use pathfinding::prelude::kuhn_munkres_tallied;
+    pub use pathfinding::prelude::least_total_weight;
+    pub use pathfinding::prelude::least_tree_weight;
+    pub use pathfinding::prelude::move_in_direction;
+    pub use pathfinding::prelude::one_cheapest_cost;
+    pub use pathfinding::prelude::path_of_parents_is_cheapest;
+    pub use pathfinding::prelude::preorder_of_reach;
+    pub use pathfinding::prelude::prim;
+    pub use pathfinding::prelude::routes::Command;
+    pub use pathfinding::prelude::routes::Noted;
+    pub use pathfinding::prelude::routes::RouteError;
+    pub use pathfinding::prelude::routes::command;
+    pub use pathfinding::prelude::routes::run;
+    pub use pathfinding::prelude::routes::run_with_hasher;
+    pub use pathfinding::prelude::separate_components;
+    pub use pathfinding::prelude::spanning_weight;
+    pub use pathfinding::prelude::strongly_connected_component;
+    pub use pathfinding::prelude::strongly_connected_components;
+    pub use pathfinding::prelude::strongly_connected_components_from;
+    pub use pathfinding::prelude::topological_sort;
+    pub use pathfinding::prelude::topological_sort_into_groups;
+    pub use pathfinding::prelude::topological_sort_tallied;
+    pub use pathfinding::prelude::turns_undone;
+    pub use pathfinding::prelude::two_flips_lr;
+    pub use pathfinding::prelude::two_flips_ud;
+    pub use pathfinding::prelude::two_transpositions;
+    pub use pathfinding::prelude::uint_sqrt;
+    pub use pathfinding::prelude::weights_fit;
 }
 
 /// A path of bytes, each followed by the next one, by both searches.

@@ -5,7 +5,7 @@ use Rattle.std.specs.Fmt.{decimal}
 use Rattle.std.proofs.lemmas.List.{map-append, take_more}
 use Rattle.std.proofs.lemmas.Grind.{flat_map-append}
 use Rattle.pathfinding.specs.Internal.NameTable.{name_in}
-use Rattle.pathfinding.proofs.routes.answers.write_path.Goals as goal
+use Rattle.pathfinding.proofs.routes.path_text.write_path.Goals as goal
 
 abbrev spaced : List (List ℕ) → List ℕ
 spaced names = flat_map (λ (name : List ℕ). 32 ∷ name) names
