@@ -1,4 +1,4 @@
-use Rattle.std.proofs.Common.{◌≡◌, ℕ, ◌∙◌, ◌+◌, ◌-◌, ◌*◌, ◌<◌, ◌^◌, ap, sym, arith, inl, inr, false, true≢false, nat_eq}
+use Rattle.std.proofs.Common.{◌≡◌, ℕ, refl, ◌∙◌, ◌+◌, ◌-◌, ◌*◌, ◌<◌, ◌^◌, ap, sym, arith, inl, inr, false, true≢false, nat_eq}
 use Rattle.std.specs.Int.{bit_at}
 use Rattle.std.proofs.lemmas.Bool.{cases_lt, cases_eq, cases_Bool, eqb-true, eq-eqb}
 use Rattle.std.proofs.lemmas.Nat.Bits.{same_from_bits_below, bit_at-lt}
@@ -75,3 +75,9 @@ returns-clause-value g c =
       ]
       | inr p ↦ c.kept_rows.ensures x y (omega (arith, c.max-rows.ensures)) ∙ sym (c.kept_rows-2.ensures x y (omega (arith, c.max-rows.ensures)))
     ]))
+
+pub returns-clause-same : goal.returns-clause-same
+returns-clause-same g c = (
+  λ _. (same_vertices_decides c.args.self.now c.args.other.now).0 (sym (returns-clause-value g c)),
+  λ h. refl,
+)
