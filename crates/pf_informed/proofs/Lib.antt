@@ -7,7 +7,9 @@ pub mod RaisingLemmas
 pub mod WiderLemmas
 pub mod InformedLemmas
 pub mod GrowingLemmas
+pub mod LedLemmas
 pub mod NodeWalks
+pub mod LedAnswers
 pub mod Outcomes
 pub mod WaysLemmas
 pub mod WayLaws

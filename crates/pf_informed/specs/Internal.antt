@@ -7,5 +7,6 @@ pub mod Informed
 pub mod Ways
 pub mod Tight
 pub mod Labelled
+pub mod Led
 pub mod Rows
 pub mod Deepening

@@ -7,19 +7,20 @@ ghost use Rattle.pf_base.specs.Edges.{InReach, IsSuccessor};
 ghost use Rattle.pf_base.specs.Answers.{IsLawfulClone, AnswersTest};
 ghost use Rattle.pf_core.specs.declared.labels.Label.{Label};
 ghost use Rattle.pf_core.specs.Labels.{HasLabel};
-ghost use Rattle.pf_core.specs.Nodes.{Explores};
+ghost use Rattle.pf_core.specs.Nodes.{NodeGraph, StandsFor, Explores};
 ghost use Rattle.pf_core.specs.Numbered.{Grows};
 ghost use Rattle.pf_informed.specs.Estimates.{IsInformedSearch, IsPastRangeWithEstimate, NoGoalWalkFits};
 ghost use Rattle.pf_informed.specs.Internal.Labelled.{IsPastBest, IsLabelled};
+ghost use Rattle.pf_informed.specs.Internal.Led.{IsLed};
 ghost use Rattle.pf_informed.specs.Internal.Waiting.{entry_cmp, IsWaiting, IsQueue, IsTaken};
 
-use crate::estimates::ask;
 use crate::functions::EstimateFunction;
 use crate::queue::{Queue, Taken, take_least};
 use crate::search::Search;
+use crate::turns::{begin, turn};
 use pf_base::{Cost, EdgeFunction, NodeTest, PathError};
 use pf_core::discovery::{Discovery, Weighted, clone_of};
-use pf_core::numbered::{GoalGraph, NumberedGraph};
+use pf_core::numbered::GoalGraph;
 use pf_core::slot::Slot;
 use pf_core::tested::Tested;
 use std::alloc::Allocator;
@@ -98,6 +99,67 @@ fn best_with<C: Cost, G: GoalGraph<C>>(
     None
 }
 
+/// Searches from the only node that was found, with nothing known of it yet, until each number that
+/// waits is past the least cost of a walk to a goal. Answers that cost, or `None` where no walk leads
+/// to a goal.
+fn search_on<N, C, IN, FN, FH, FS, A>(
+    graph: &mut Tested<N, Weighted, IN, FN, FS, A>,
+    estimate: &mut FH,
+    search: &mut Search<C, A>,
+) -> Result<Option<C>, PathError>
+where
+    N: Eq + Hash + Drop,
+    C: Cost,
+    IN: IntoIterator<Item = (N, C)>,
+    FN: FnMut(&N) -> IN,
+    FH: FnMut(&N) -> C,
+    FS: FnMut(&N) -> bool,
+    A: Allocator + Copy,
+    requires one { length graph.old.discovery.nodes.keys ≡ 1 }
+    requires unlabelled { search.old.labels.items ≡ [] }
+    requires unasked { search.old.estimates.items ≡ [] }
+    requires nothing_waits { heap_items search.old.queue ≡ [] }
+    requires ordered { IsHeap (entry_cmp C.cmp) (heap_items search.old.queue) }
+    requires graph { (g : NodeGraph N) × (test : N → Bool) × (least : N → ℤ)
+        × IsLed N.eq C.value IN.into_iter_gives IN.IntoIter.can_next IN.IntoIter.remaining IN.IntoIter.next_gives FN.FnMut FS.FnMut FH.FnMut g test least
+        graph.old.discovery.nodes.keys graph.old.discovery.successors graph.old.success estimate.old search.old.estimates.items }
+    ensures wide { IfOk result (λ answer. MatchOption answer ⊤ (λ _. (length search.new.labels.items ≡ length graph.new.discovery.nodes.keys) × (0 < length search.new.labels.items))) }
+    ensures labelled { (start : N) (edges : N → List (N × ℤ)) (test : N → Bool) (least : N → ℤ) → StandsFor N.eq graph.old.discovery.nodes.keys 0 start
+        → IsLed N.eq C.value IN.into_iter_gives IN.IntoIter.can_next IN.IntoIter.remaining IN.IntoIter.next_gives FN.FnMut FS.FnMut FH.FnMut (record { starts = start ∷ []; edges = edges }) test least
+        graph.old.discovery.nodes.keys graph.old.discovery.successors graph.old.success estimate.old search.old.estimates.items
+        → IfOk result (λ answer. MatchOption answer
+        (HasNoGoalWalk N.eq (IsSuccessor N.eq edges) (start ∷ []) test)
+        (λ best. IsLed N.eq C.value IN.into_iter_gives IN.IntoIter.can_next IN.IntoIter.remaining IN.IntoIter.next_gives FN.FnMut FS.FnMut FH.FnMut (record { starts = start ∷ []; edges = edges }) test least
+        graph.new.discovery.nodes.keys graph.new.discovery.successors graph.new.success estimate.new search.new.estimates.items
+        × IsLabelled N.eq C.value edges start test graph.new.discovery.nodes.keys search.new.labels.items (C.value best))) }
+    ensures overflow { (start : N) (edges : N → List (N × ℤ)) (test : N → Bool) (least : N → ℤ) → StandsFor N.eq graph.old.discovery.nodes.keys 0 start
+        → IsLed N.eq C.value IN.into_iter_gives IN.IntoIter.can_next IN.IntoIter.remaining IN.IntoIter.next_gives FN.FnMut FS.FnMut FH.FnMut (record { starts = start ∷ []; edges = edges }) test least
+        graph.old.discovery.nodes.keys graph.old.discovery.successors graph.old.success estimate.old search.old.estimates.items
+        → result ≡ Err PathError.CostOverflow
+        → IsPastRangeWithEstimate N.eq edges (start ∷ []) least C.fits × NoGoalWalkFits N.eq edges (start ∷ []) test C.fits }
+    ensures errors { IfErr result (λ e. (e ≡ PathError.OutOfMemory) ⊎ (e ≡ PathError.CostOverflow)) }
+{
+    begin(graph, estimate, search)?;
+    let mut best = None;
+    'turns: while let Some(taken) = take_within(
+        &search.labels,
+        &search.estimates,
+        &mut search.queue,
+        best,
+    ) {
+        best = best_with(graph, taken.number, taken.cost, best);
+        turn(graph, estimate, search, taken.number)?;
+    }
+    if let Some(best) = best {
+        return Ok(Some(best));
+    }
+    if search.has_all_labels() {
+        Ok(None)
+    } else {
+        Err(PathError::CostOverflow)
+    }
+}
+
 /// Searches from `start` on, until each number that waits is past the least cost of a walk to a goal.
 /// Goals are opened as other nodes are, so that each label is the cost of a cheapest walk. `None` where
 /// no walk leads to a goal.
@@ -140,38 +202,12 @@ where
     };
     let mut graph: Tested<N, Weighted, IN, FN, FS, A> = Tested { discovery, success };
     let mut search = Search::new(alloc);
-    ask(
-        graph.discovery.nodes.as_slice(),
-        &mut estimate,
-        &mut search.estimates,
-    )?;
-    search.begin()?;
-    let mut best = None;
-    'turns: while let Some(taken) = take_within(
-        &search.labels,
-        &search.estimates,
-        &mut search.queue,
+    let Some(best) = search_on(&mut graph, &mut estimate, &mut search)? else {
+        return Ok(None);
+    };
+    Ok(Some(Labelled {
+        graph,
+        labels: search.labels,
         best,
-    ) {
-        best = best_with(&mut graph, taken.number, taken.cost, best);
-        graph.expand(taken.number, &mut search.row)?;
-        ask(
-            graph.discovery.nodes.as_slice(),
-            &mut estimate,
-            &mut search.estimates,
-        )?;
-        search.follow(taken.number)?;
-    }
-    if let Some(best) = best {
-        return Ok(Some(Labelled {
-            graph,
-            labels: search.labels,
-            best,
-        }));
-    }
-    if search.has_all_labels() {
-        Ok(None)
-    } else {
-        Err(PathError::CostOverflow)
-    }
+    }))
 }

@@ -11,6 +11,7 @@ pub mod laws;
 mod queue;
 mod search;
 mod tight;
+mod turns;
 mod ways;
 
 pub use functions::EstimateFunction;

@@ -1,0 +1,152 @@
+use Rattle.std.proofs.Common.{◌≡◌, ◌<◌, ◌∙◌, [], ◌∷◌, List, ℕ, ℤ, Bool, true, false, true≢false, sym, subst, length, inl}
+use Rattle.std.specs.BinaryHeap.{heap_items}
+use Rattle.std.proofs.lemmas.List.{append-nil}
+use Rattle.pf_core.specs.Nodes.{NodeGraph, TestedGraph, StandsFor, IsStep}
+use Rattle.pf_core.proofs.LabelLemmas.{HasLabel-inside}
+use Rattle.pf_core.proofs.SearchLemmas.{Grows-trans}
+use Rattle.pf_informed.specs.Internal.Informed.{IsInformed}
+use Rattle.pf_informed.specs.Internal.Led.{OthersWait}
+use Rattle.pf_informed.specs.Internal.Waiting.{Entry, IsQueue}
+use Rattle.pf_informed.proofs.LedAnswers.{led_above, led_best, led_none, led_past}
+use Rattle.pf_informed.proofs.LedLemmas.{informed_still, led_grown}
+use Rattle.pf_informed.proofs.Outcomes.{refused_by}
+use Rattle.pf_informed.proofs.directed.astar.search_on.Goals as goal
+
+abbrev tested : {N : Type 0} → NodeGraph N → (N → Bool) → TestedGraph N
+tested g test = record { graph = g; test = test }
+
+abbrev graph_of : {N : Type 0} → N → (N → List (N × ℤ)) → NodeGraph N
+graph_of start edges = record { starts = start ∷ []; edges = edges }
+
+pub turns-init : goal.turns-init
+turns-init g c =
+    let b = c.in_ok-begin.ensures in
+    let one = c.requires.one in
+    record {
+      forest = b.forest;
+      ordered = b.ordered;
+      queue = b.queue;
+      wide = b.labelled ∙ sym one;
+      asked = b.asked ∙ sym one;
+      begins = λ x s. s;
+      searched = λ h test least d. let x = b.graph h test least d in (x.0, x.1 test);
+    }
+
+pub is_goal-requires-clause-inside : goal.is_goal-requires-clause-inside
+is_goal-requires-clause-inside g c =
+    let t = c.in-Some.ensures.taken in
+    subst (λ (n : ℕ). c.in-Some.taken.number < n) c.turns.invariant.wide (HasLabel-inside _ _ _ t.at)
+
+pub is_goal-requires-clause-graph : goal.is_goal-requires-clause-graph
+is_goal-requires-clause-graph g c =
+    let r = c.requires.graph in
+    let v = c.turns.invariant.searched r.0 r.1 r.2 r.3 in
+    let d = v.0 in
+    (tested r.0 r.1, (d.explores, d.tested))
+
+pub nodes_to-requires-clause-wide : goal.nodes_to-requires-clause-wide
+nodes_to-requires-clause-wide g c = c.turns.invariant.wide ∙ sym c.is_goal.ensures.same
+
+pub nodes_to-requires-clause-labelled : goal.nodes_to-requires-clause-labelled
+nodes_to-requires-clause-labelled g c =
+    let t = c.in-Some.ensures.taken in
+    (t.label, t.at)
+
+pub returns-then-is_goal-clause-best : goal.returns-then-is_goal-clause-best
+returns-then-is_goal-clause-best g c = λ start edges test least s d.
+    let eq = g.N.PartialEq.eq in
+    let laws = g.met.N.Eq.laws in
+    let exact = g.met.C.Integral.exact_law in
+    let inv = c.turns.invariant in
+    let h = graph_of start edges in
+    let v = inv.searched h test least d in
+    let now = v.0 in
+    let told = c.is_goal.ensures.graph (tested h test) (now.explores, now.tested) in
+    let after = told.0.0 in
+    let t = c.in-Some.ensures.taken in
+    let labels = c.turns.search.labels.items in
+    let entries = heap_items c.turns.search.queue in
+    let keys = c.turns.graph.discovery.nodes.keys in
+    let begins = inv.begins start s in
+    let nodes = c.in_ok-nodes.ensures.nodes in
+    let above = led_above eq laws g.C.Number.value _ _ _ _ _ _ _ start edges test least keys _ _ _ c.turns.search.estimates.items now inv.asked begins g.C.Number.fits (λ x y z. g.C.Number.between_law x y z exact) (g.met.C.Zero.zero_fits_law exact)
+    labels inv.wide entries inv.forest v.1 c.in-Some.taken.number c.in-Some.taken.cost (heap_items c.take_least.new.queue) t c.in-Some.ensures.queue c.known.ensures in
+    led_best eq laws g.C.Number.value _ _ _ _ _ _ _ start edges test least keys _ _ _ c.turns.search.estimates.items now inv.asked begins g.C.Number.fits (λ x y z. g.C.Number.between_law x y z exact) (g.met.C.Zero.zero_fits_law exact)
+    labels inv.wide entries inv.forest v.1 c.in-Some.taken.number t.label t.at nodes.0 nodes.1 (λ y k. sym (told.1 y k) ∙ c.if-is_goal.true) above
+    c.is_goal.new.self.discovery.nodes.keys c.is_goal.ensures.grows after.distinct c.in_ok-nodes.nodes.items nodes.2 (g.C.Number.value c.in-Some.taken.cost) t.same
+
+pub turn-requires-clause-labelled : goal.turn-requires-clause-labelled
+turn-requires-clause-labelled g c =
+    let t = c.in-Some.ensures.taken in
+    (t.label, t.at)
+
+pub turn-requires-clause-wide : goal.turn-requires-clause-wide
+turn-requires-clause-wide g c = c.turns.invariant.wide ∙ sym c.is_goal.ensures.same
+
+pub turn-requires-clause-asked : goal.turn-requires-clause-asked
+turn-requires-clause-asked g c = c.turns.invariant.asked ∙ sym c.is_goal.ensures.same
+
+pub turn-requires-clause-graph : goal.turn-requires-clause-graph
+turn-requires-clause-graph g c =
+    let r = c.requires.graph in
+    let inv = c.turns.invariant in
+    let v = inv.searched r.0 r.1 r.2 r.3 in
+    let now = v.0 in
+    let told = c.is_goal.ensures.graph (tested r.0 r.1) (now.explores, now.tested) in
+    (r.0, r.1, r.2, led_grown g.N.PartialEq.eq g.met.N.Eq.laws g.C.Number.value _ _ _ _ _ _ _ r.0 r.1 r.2 _ _ _ _ _ now _ _ _ c.is_goal.ensures.grows inv.asked told.0.0 told.0.1)
+
+pub turns-preserved : goal.turns-preserved
+turns-preserved g c =
+    let eq = g.N.PartialEq.eq in
+    let laws = g.met.N.Eq.laws in
+    let value = g.C.Number.value in
+    let inv = c.turns.invariant in
+    let t = c.in-Some.ensures.taken in
+    let n = c.in_ok-turn.ensures in
+    let goal = c.is_goal.ensures in
+    let grown = Grows-trans _ _ _ _ _ _ goal.grows n.grows in
+    let labels = c.turns.search.labels.items in
+    let estimates = c.turns.search.estimates.items in
+    let heap = heap_items c.take_least.new.queue in
+    let heap_after = heap_items c.turn.new.search.queue in
+    let keys = c.turns.graph.discovery.nodes.keys in
+    let between = c.is_goal.new.self.discovery.nodes.keys in
+    let after = c.turn.new.graph.discovery.nodes.keys in
+    let q = n.queue [] (subst (λ (es : List (Entry g.row.C.Denot)). IsQueue value labels estimates es) (sym (append-nil heap)) c.in-Some.ensures.queue) in
+    record {
+      forest = n.forest;
+      ordered = n.ordered;
+      queue = subst (λ (es : List (Entry g.row.C.Denot)). IsQueue value c.turn.new.search.labels.items c.turn.new.search.estimates.items es) (append-nil heap_after) q;
+      wide = n.wide;
+      asked = n.asked;
+      begins = λ x s. grown.stays 0 x (inv.begins x s);
+      searched = λ h test least d.
+          let v = inv.searched h test least d in
+          let now = v.0 in
+          let told = goal.graph (tested h test) (now.explores, now.tested) in
+          let led = led_grown eq laws value _ _ _ _ _ _ _ h test least _ _ _ _ _ now _ _ _ goal.grows inv.asked told.0.0 told.0.1 in
+          let turned = n.graph h test least led in
+          let still = informed_still value g.C.Number.fits (IsStep eq h) test estimates (length keys) (length between) (StandsFor eq keys) (StandsFor eq between) goal.grows goal.same labels inv.wide (heap_items c.turns.search.queue) v.1 in
+          let left = subst (λ (es : List (Entry g.row.C.Denot)). OthersWait value labels c.in-Some.taken.number (heap_items c.turns.search.queue) es) (sym (append-nil heap)) t.left in
+          let fails : (x : g.row.N.Denot) → StandsFor eq between c.in-Some.taken.number x → test x ≡ false = λ x k. sym (told.1 x (goal.grows.back c.in-Some.taken.number x (subst (λ (m : ℕ). c.in-Some.taken.number < m) inv.wide (HasLabel-inside labels _ _ t.at)) k)) ∙ c.if-is_goal.false in
+          let informed = turned.1 test (heap_items c.turns.search.queue) [] fails left still in (
+            turned.0,
+            subst (λ (es : List (Entry g.row.C.Denot)). IsInformed value g.C.Number.fits c.turn.new.search.estimates.items (IsStep eq h) test (StandsFor eq after) c.turn.new.search.labels.items es (length after)) (append-nil heap_after) informed,
+          );
+    }
+
+pub returns-then-has_all_labels-clause-best : goal.returns-then-has_all_labels-clause-best
+returns-then-has_all_labels-clause-best g c = λ start edges test least s d.
+    let exact = g.met.C.Integral.exact_law in
+    let inv = c.turns.invariant in
+    let v = inv.searched (graph_of start edges) test least d in
+    led_none g.N.PartialEq.eq g.met.N.Eq.laws g.C.Number.value _ _ _ _ _ _ _ start edges test least _ _ _ _ _ v.0 inv.asked (inv.begins start s) g.C.Number.fits (λ x y z. g.C.Number.between_law x y z exact) (g.met.C.Zero.zero_fits_law exact)
+    c.turns.search.labels.items inv.wide (heap_items c.turns.search.queue) inv.forest v.1 c.in_default.ensures.taken (c.has_all_labels.ensures.0 c.if-has_all_labels.true)
+
+pub returns-else-has_all_labels-clause-overflow : goal.returns-else-has_all_labels-clause-overflow
+returns-else-has_all_labels-clause-overflow g c = λ start edges test least s d refused.
+    let exact = g.met.C.Integral.exact_law in
+    let inv = c.turns.invariant in
+    let v = inv.searched (graph_of start edges) test least d in
+    led_past g.N.PartialEq.eq g.met.N.Eq.laws g.C.Number.value _ _ _ _ _ _ _ start edges test least _ _ _ _ _ v.0 inv.asked (inv.begins start s) g.C.Number.fits (λ x y z. g.C.Number.between_law x y z exact) (g.met.C.Zero.zero_fits_law exact)
+    c.turns.search.labels.items inv.wide (heap_items c.turns.search.queue) inv.forest v.1 c.in_default.ensures.taken (λ a. true≢false (sym (c.has_all_labels.ensures.1 a) ∙ c.if-has_all_labels.false))

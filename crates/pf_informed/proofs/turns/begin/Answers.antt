@@ -1,0 +1,55 @@
+use Rattle.std.proofs.Common.{◌≡◌, ◌∙◌, sym, ap, refl, pos, length, slice_get, false}
+use Rattle.std.specs.BinaryHeap.{heap_items}
+use Rattle.pf_core.specs.declared.labels.Label.{Label}
+use Rattle.pf_core.specs.Nodes.{StandsFor, IsStep}
+use Rattle.pf_informed.specs.Internal.Estimated.{IsEstimated}
+use Rattle.pf_informed.proofs.InformedLemmas.{forest_begin, queue_begin, informed_begin}
+use Rattle.pf_informed.proofs.turns.begin.Goals as goal
+
+pub ask-requires-clause-graph : goal.ask-requires-clause-graph
+ask-requires-clause-graph g c =
+    let r = c.requires.graph in
+    let d = r.3 in
+    (r.0, r.2, d.asked, λ k y q. d.explores.reached k y (rw c.as_slice.ensures.keys at q))
+
+pub returns-clause-labelled : goal.returns-clause-labelled
+returns-clause-labelled g c = ap length c.in_ok-begin.ensures.labelled
+
+pub returns-clause-asked : goal.returns-clause-asked
+returns-clause-asked g c = ap length c.in_ok-begin.ensures.estimates ∙ c.in_ok-ask.ensures.all ∙ ap length c.as_slice.ensures.keys ∙ c.requires.one
+
+pub returns-clause-forest : goal.returns-clause-forest
+returns-clause-forest g c =
+    let first : Label g.row.C.Denot = record { cost = g.C.Zero.zero; parent = 0; depth = 0; settled = false } in
+    rw c.in_ok-begin.ensures.labelled (forest_begin g.C.Number.value first (g.met.C.Zero.zero_law g.met.C.Integral.exact_law) refl)
+
+pub returns-clause-queue : goal.returns-clause-queue
+returns-clause-queue g c =
+    let b = c.in_ok-begin.ensures in
+    let first : Label g.row.C.Denot = record { cost = g.C.Zero.zero; parent = 0; depth = 0; settled = false } in
+    let nothing : g.C.Number.value g.C.Zero.zero ≡ pos 0 = g.met.C.Zero.zero_law g.met.C.Integral.exact_law in
+    rw (b.labelled, b.estimates) (queue_begin g.C.Number.value first nothing refl c.ask.new.estimates.items b.waiting.0 b.waiting.1 (heap_items c.begin.new.self.queue) b.waiting.2)
+
+pub returns-clause-graph : goal.returns-clause-graph
+returns-clause-graph g c = λ h test least d.
+    let eq = g.N.PartialEq.eq in
+    let value = g.C.Number.value in
+    let b = c.in_ok-begin.ensures in
+    let keys = c.args.graph.now.discovery.nodes.keys in
+    let first : Label g.row.C.Denot = record { cost = g.C.Zero.zero; parent = 0; depth = 0; settled = false } in
+    let nothing : value g.C.Zero.zero ≡ pos 0 = g.met.C.Zero.zero_law g.met.C.Integral.exact_law in
+    let a = c.in_ok-ask.ensures.graph h least d.asked (λ k y q. d.explores.reached k y (rw c.as_slice.ensures.keys at q)) in
+    let none : IsEstimated value least (slice_get c.as_slice.result.now) c.args.search.now.estimates.items = rw c.as_slice.ensures.keys d.estimated in
+    let known = a.1 none in (
+      record {
+        explores = d.explores;
+        tested = d.tested;
+        asked = a.0;
+        estimated = rw b.estimates (rw c.as_slice.ensures.keys at known);
+        admissible = d.admissible;
+        costs = d.costs;
+      },
+      λ passes.
+          let i = informed_begin value first nothing refl c.ask.new.estimates.items b.waiting.0 b.waiting.1 (heap_items c.begin.new.self.queue) b.waiting.2 g.C.Number.fits (IsStep eq h) passes (StandsFor eq keys) in
+          rw (b.labelled, b.estimates, c.requires.one) i,
+    )

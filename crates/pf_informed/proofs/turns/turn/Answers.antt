@@ -1,0 +1,112 @@
+use Rattle.std.proofs.Common.{◌≡◌, ◌<◌, ◌∙◌, ℕ, Bool, sym, ap, subst, arith, length, slice_get}
+use Rattle.std.specs.Prelude.{◌++◌}
+use Rattle.std.specs.BinaryHeap.{heap_items}
+use Rattle.pf_base.specs.Edges.{InReach}
+use Rattle.pf_core.specs.Nodes.{NodeGraph, TestedGraph, StandsFor, IsStep}
+use Rattle.pf_core.proofs.LabelLemmas.{HasLabel-inside}
+use Rattle.pf_core.proofs.UnitLemmas.{begins_all}
+use Rattle.pf_core.proofs.WalkLemmas.{no_negative}
+use Rattle.pf_informed.specs.Internal.Estimated.{IsEstimated}
+use Rattle.pf_informed.proofs.GrowingLemmas.{follows_beside, queue_beside}
+use Rattle.pf_informed.proofs.InformedLemmas.{queue_kept, informed_opened}
+use Rattle.pf_informed.proofs.KnownLemmas.{estimated_grown}
+use Rattle.pf_informed.proofs.turns.turn.Goals as goal
+
+abbrev tested : {N : Type 0} → NodeGraph N → (N → Bool) → TestedGraph N
+tested g test = record { graph = g; test = test }
+
+pub expand-requires-clause-inside : goal.expand-requires-clause-inside
+expand-requires-clause-inside g c =
+    let l = c.requires.labelled in
+    subst (λ (n : ℕ). c.args.number < n) c.requires.wide (HasLabel-inside _ _ _ l.1)
+
+pub expand-requires-clause-graph : goal.expand-requires-clause-graph
+expand-requires-clause-graph g c =
+    let r = c.requires.graph in
+    let d = r.3 in
+    (tested r.0 r.1, (d.explores, d.tested))
+
+pub ask-requires-clause-graph : goal.ask-requires-clause-graph
+ask-requires-clause-graph g c =
+    let r = c.requires.graph in
+    let d = r.3 in
+    let x = c.in_ok-expand.ensures.graph (tested r.0 r.1) (d.explores, d.tested) in
+    (r.0, r.2, d.asked, λ k y q. x.0.reached k y (rw c.as_slice.ensures.keys at q))
+
+pub follow-requires-clause-ends : goal.follow-requires-clause-ends
+follow-requires-clause-ends g c = λ j d m.
+    let row = c.in_ok-expand.ensures.listed in
+    subst (λ (n : ℕ). j < n) (sym (c.in_ok-ask.ensures.all ∙ ap length c.as_slice.ensures.keys)) (row.2 j d (rw row.1 at m))
+
+pub follow-requires-clause-prices : goal.follow-requires-clause-prices
+follow-requires-clause-prices g c = λ j d m.
+    let eq = g.N.PartialEq.eq in
+    let laws = g.met.N.Eq.laws in
+    let r = c.requires.graph in
+    let k = r.3 in
+    let l = c.requires.labelled in
+    let here = begins_all eq laws c.args.graph.now.discovery.nodes.keys c.args.number (subst (λ (n : ℕ). c.args.number < n) c.requires.wide (HasLabel-inside _ _ _ l.1)) in
+    let row = c.in_ok-expand.ensures.listed in
+    let lists = row.4 (tested r.0 r.1) (k.explores, k.tested) here.0 here.1 in
+    let p = no_negative eq laws r.0 k.explores.alike k.costs in
+    let q = lists.sound j d (rw row.1 at m) in
+    p.non_negative here.0 (g.C.Number.value d) q.0 q.1
+
+pub follow-requires-clause-queue : goal.follow-requires-clause-queue
+follow-requires-clause-queue g c = queue_kept g.C.Number.value c.args.search.now.labels.items c.args.search.now.estimates.items c.ask.new.estimates.items (heap_items c.args.search.now.queue) c.in_ok-ask.ensures.kept c.requires.queue
+
+pub returns-clause-wide : goal.returns-clause-wide
+returns-clause-wide g c = c.in_ok-follow.ensures.wide ∙ ap length c.in_ok-follow.ensures.estimates ∙ c.in_ok-ask.ensures.all ∙ ap length c.as_slice.ensures.keys
+
+pub returns-clause-asked : goal.returns-clause-asked
+returns-clause-asked g c = ap length c.in_ok-follow.ensures.estimates ∙ c.in_ok-ask.ensures.all ∙ ap length c.as_slice.ensures.keys
+
+pub returns-clause-queue : goal.returns-clause-queue
+returns-clause-queue g c = λ rest q.
+    let value = g.C.Number.value in
+    let f = c.in_ok-follow.ensures in
+    let l = c.requires.labelled in
+    let row = c.in_ok-expand.ensures.listed in
+    let labels = c.args.search.now.labels.items in
+    let heap = heap_items c.args.search.now.queue in
+    let estimates = c.ask.new.estimates.items in
+    let followed = rw (f.estimates, row.1) at (f.followed l.0 l.1) in
+    let waited = queue_kept value labels c.args.search.now.estimates.items estimates (heap ++ rest) c.in_ok-ask.ensures.kept q in
+    rw f.estimates (queue_beside value g.C.Number.fits estimates c.args.number l.0 _ labels c.follow.new.self.labels.items heap (heap_items c.follow.new.self.queue) rest followed waited (rw f.estimates at f.queue))
+
+pub returns-clause-graph : goal.returns-clause-graph
+returns-clause-graph g c = λ h test least d.
+    let eq = g.N.PartialEq.eq in
+    let laws = g.met.N.Eq.laws in
+    let value = g.C.Number.value in
+    let f = c.in_ok-follow.ensures in
+    let l = c.requires.labelled in
+    let number = c.args.number in
+    let old = c.args.graph.now.discovery.nodes.keys in
+    let keys = c.expand.new.self.discovery.nodes.keys in
+    let labels = c.args.search.now.labels.items in
+    let estimates = c.args.search.now.estimates.items in
+    let asked = c.ask.new.estimates.items in
+    let heap = heap_items c.args.search.now.queue in
+    let grown = c.in_ok-expand.ensures.grows in
+    let row = c.in_ok-expand.ensures.listed in
+    let x = c.in_ok-expand.ensures.graph (tested h test) (d.explores, d.tested) in
+    let a = c.in_ok-ask.ensures.graph h least d.asked (λ k y q. x.0.reached k y (rw c.as_slice.ensures.keys at q)) in
+    let before = estimated_grown eq laws value least (InReach eq h.edges h.starts) d.asked.alike old keys d.explores.reached grown estimates c.requires.asked d.estimated in
+    let known = a.1 (rw c.as_slice.ensures.keys before) in (
+      record {
+        explores = x.0;
+        tested = x.1;
+        asked = a.0;
+        estimated = rw f.estimates (rw c.as_slice.ensures.keys at known);
+        admissible = d.admissible;
+        costs = d.costs;
+      },
+      λ passes entries rest fails left i.
+          let someone = begins_all eq laws old number (subst (λ (n : ℕ). number < n) c.requires.wide (HasLabel-inside labels number l.0 l.1)) in
+          let followed = rw (f.estimates, row.1) at (f.followed l.0 l.1) in
+          let whole = follows_beside value g.C.Number.fits asked number l.0 _ labels c.follow.new.self.labels.items heap (heap_items c.follow.new.self.queue) rest followed in
+          let opened = informed_opened value g.C.Number.fits (IsStep eq h) passes estimates asked c.in_ok-ask.ensures.kept (length old) (length keys) (StandsFor eq old) (StandsFor eq keys) grown labels c.follow.new.self.labels.items (omega (arith, c.requires.wide))
+          entries (heap ++ rest) (heap_items c.follow.new.self.queue ++ rest) number l.0 l.1 left fails row.0 (λ y k. row.4 (tested h test) (d.explores, d.tested) y k) row.3 someone whole c.requires.forest i in
+          rw f.estimates opened,
+    )
