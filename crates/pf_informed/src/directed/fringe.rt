@@ -1,23 +1,86 @@
 //! Cheapest paths, in rounds of growing limits on the cost and the estimate of what remains.
 
-ghost use Rattle.std.specs.Prelude.{◌≡◌, ◌⊎◌, ℤ, List, Bool, [], ◌∷◌, Err, IfOk, IfErr, MatchOption};
+ghost use Rattle.std.specs.BinaryHeap.{IsHeap, heap_items};
+ghost use Rattle.std.specs.Prelude.{◌≡◌, ◌⊎◌, ℤ, List, Bool, [], ◌∷◌, Err, IfOk, IfErr, MatchOption, length};
 ghost use Rattle.pf_base.specs.Walks.{HasNoGoalWalk};
 ghost use Rattle.pf_base.specs.Edges.{IsSuccessor, IsCheapestGoalPath};
 ghost use Rattle.pf_base.specs.Answers.{IsLawfulClone};
+ghost use Rattle.pf_core.specs.Nodes.{NodeGraph, StandsFor};
 ghost use Rattle.pf_informed.specs.Estimates.{IsInformedSearch, IsPastRangeWithEstimate, NoGoalWalkFits};
+ghost use Rattle.pf_informed.specs.Internal.Led.{IsLed};
+ghost use Rattle.pf_informed.specs.Internal.Waiting.{entry_cmp};
 
-use crate::estimates::ask;
 use crate::fringe_lists::FringeLists;
 use crate::functions::EstimateFunction;
-use crate::labels::path_to;
 use crate::search::Search;
+use crate::turns::{begin, nodes_to, turn};
 use pf_base::{Cost, EdgeFunction, NodeTest, PathError};
 use pf_core::discovery::{Discovery, Weighted, clone_of};
-use pf_core::numbered::{GoalGraph, NumberedGraph};
+use pf_core::numbered::GoalGraph;
 use pf_core::tested::Tested;
 use std::alloc::Allocator;
 use std::hash::Hash;
 use std::marker::PhantomData;
+
+/// Searches from the only node that was found, with nothing known of it yet.
+fn search_on<N, C, IN, FN, FH, FS, A>(
+    alloc: A,
+    graph: &mut Tested<N, Weighted, IN, FN, FS, A>,
+    estimate: &mut FH,
+    search: &mut Search<C, A>,
+) -> Result<Option<(Vec<N, A>, C)>, PathError>
+where
+    N: Eq + Hash + Clone + Drop,
+    C: Cost,
+    IN: IntoIterator<Item = (N, C)>,
+    FN: FnMut(&N) -> IN,
+    FH: FnMut(&N) -> C,
+    FS: FnMut(&N) -> bool,
+    A: Allocator + Copy,
+    requires clones { IsLawfulClone N.eq N.is_clone }
+    requires one { length graph.old.discovery.nodes.keys ≡ 1 }
+    requires unlabelled { search.old.labels.items ≡ [] }
+    requires unasked { search.old.estimates.items ≡ [] }
+    requires nothing_waits { heap_items search.old.queue ≡ [] }
+    requires ordered { IsHeap (entry_cmp C.cmp) (heap_items search.old.queue) }
+    requires graph { (g : NodeGraph N) × (test : N → Bool) × (least : N → ℤ)
+        × IsLed N.eq C.value IN.into_iter_gives IN.IntoIter.can_next IN.IntoIter.remaining IN.IntoIter.next_gives FN.FnMut FS.FnMut FH.FnMut g test least
+        graph.old.discovery.nodes.keys graph.old.discovery.successors graph.old.success estimate.old search.old.estimates.items }
+
+    ensures best { (start : N) (edges : N → List (N × ℤ)) (test : N → Bool) (least : N → ℤ) → StandsFor N.eq graph.old.discovery.nodes.keys 0 start
+        → IsLed N.eq C.value IN.into_iter_gives IN.IntoIter.can_next IN.IntoIter.remaining IN.IntoIter.next_gives FN.FnMut FS.FnMut FH.FnMut (record { starts = start ∷ []; edges = edges }) test least
+        graph.old.discovery.nodes.keys graph.old.discovery.successors graph.old.success estimate.old search.old.estimates.items
+        → IfOk result (λ answer. MatchOption answer
+        (HasNoGoalWalk N.eq (IsSuccessor N.eq edges) (start ∷ []) test)
+        (λ found. IsCheapestGoalPath N.eq edges (start ∷ []) test found.0.items (C.value found.1))) }
+
+    ensures overflow { (start : N) (edges : N → List (N × ℤ)) (test : N → Bool) (least : N → ℤ) → StandsFor N.eq graph.old.discovery.nodes.keys 0 start
+        → IsLed N.eq C.value IN.into_iter_gives IN.IntoIter.can_next IN.IntoIter.remaining IN.IntoIter.next_gives FN.FnMut FS.FnMut FH.FnMut (record { starts = start ∷ []; edges = edges }) test least
+        graph.old.discovery.nodes.keys graph.old.discovery.successors graph.old.success estimate.old search.old.estimates.items
+        → result ≡ Err PathError.CostOverflow
+        → IsPastRangeWithEstimate N.eq edges (start ∷ []) least C.fits × NoGoalWalkFits N.eq edges (start ∷ []) test C.fits }
+
+    ensures errors { IfErr result (λ e. (e ≡ PathError.OutOfMemory) ⊎ (e ≡ PathError.CostOverflow)) }
+{
+    begin(graph, estimate, search)?;
+    let mut lists = FringeLists::new(alloc, search.estimates[0]);
+    'turns: while let Some(taken) = lists.take(
+        &search.labels,
+        &search.estimates,
+        &mut search.queue,
+    )? {
+        if graph.is_goal(taken.number) {
+            let nodes = nodes_to(alloc, graph, search, taken.number)?;
+            return Ok(Some((nodes, taken.cost)));
+        }
+        turn(graph, estimate, search, taken.number)?;
+    }
+    if search.has_all_labels() {
+        Ok(None)
+    } else {
+        Err(PathError::CostOverflow)
+    }
+}
 
 /// A cheapest path from `start` to a node that passes `success`, with its cost, or `None` exactly where
 /// no walk leads from `start` to such a node.
@@ -83,33 +146,5 @@ where
     };
     let mut graph: Tested<N, Weighted, IN, FN, FS, A> = Tested { discovery, success };
     let mut search = Search::new(alloc);
-    ask(
-        graph.discovery.nodes.as_slice(),
-        &mut estimate,
-        &mut search.estimates,
-    )?;
-    search.begin()?;
-    let mut lists = FringeLists::new(alloc, search.estimates[0]);
-    'turns: while let Some(taken) = lists.take(
-        &search.labels,
-        &search.estimates,
-        &mut search.queue,
-    )? {
-        if graph.is_goal(taken.number) {
-            let numbers = path_to(alloc, &search.labels, taken.number)?;
-            return Ok(Some((graph.nodes_at(alloc, &numbers)?, taken.cost)));
-        }
-        graph.expand(taken.number, &mut search.row)?;
-        ask(
-            graph.discovery.nodes.as_slice(),
-            &mut estimate,
-            &mut search.estimates,
-        )?;
-        search.follow(taken.number)?;
-    }
-    if search.has_all_labels() {
-        Ok(None)
-    } else {
-        Err(PathError::CostOverflow)
-    }
+    search_on(alloc, &mut graph, &mut estimate, &mut search)
 }

@@ -1,0 +1,211 @@
+use Rattle.std.proofs.Common.{◌≡◌, ◌<◌, ◌∙◌, [], ◌∷◌, List, ℕ, ℤ, pos, Bool, true, false, true≢false, ap, sym, subst, arith, length, slice_get, inl, Some}
+use Rattle.std.specs.Prelude.{◌≤ℤ◌, ◌++◌}
+use Rattle.std.specs.BinaryHeap.{heap_items}
+use Rattle.std.proofs.lemmas.Int.{ints}
+use Rattle.std.proofs.lemmas.List.{append-nil}
+use Rattle.std.proofs.lemmas.List.Elements.{Contains-append_left}
+use Rattle.std.proofs.lemmas.Option.{MatchOption-at_some, MatchOption-at_none}
+use Rattle.pf_base.specs.Edges.{InReach}
+use Rattle.pf_base.specs.Walks.{end_of}
+use Rattle.pf_core.specs.Nodes.{NodeGraph, TestedGraph, StandsFor, IsStep}
+use Rattle.pf_core.specs.Steps.{GoesAlong}
+use Rattle.pf_core.proofs.LabelLemmas.{HasLabel-inside}
+use Rattle.pf_core.proofs.ListLemmas.{at_place}
+use Rattle.pf_core.proofs.NodeLemmas.{StandsFor-same}
+use Rattle.pf_core.proofs.SearchLemmas.{Grows-trans}
+use Rattle.pf_core.proofs.UnitLemmas.{begins_all}
+use Rattle.pf_core.proofs.WalkLemmas.{no_negative}
+use Rattle.pf_informed.specs.Internal.Fringe.{listed}
+use Rattle.pf_informed.specs.Internal.Informed.{IsInformed}
+use Rattle.pf_informed.specs.Internal.Waiting.{Entry, IsQueue}
+use Rattle.pf_informed.proofs.FringeLemmas.{queue_in}
+use Rattle.pf_informed.proofs.GrowingLemmas.{limit_now}
+use Rattle.pf_informed.proofs.LedAnswers.{led_within, led_estimate, led_asked, led_best, led_none, led_past}
+use Rattle.pf_informed.proofs.LedLemmas.{informed_still, led_grown}
+use Rattle.pf_informed.proofs.NodeWalks.{never_above}
+use Rattle.pf_informed.proofs.directed.fringe.search_on.Goals as goal
+
+abbrev tested : {N : Type 0} → NodeGraph N → (N → Bool) → TestedGraph N
+tested g test = record { graph = g; test = test }
+
+abbrev graph_of : {N : Type 0} → N → (N → List (N × ℤ)) → NodeGraph N
+graph_of start edges = record { starts = start ∷ []; edges = edges }
+
+pub turns-init : goal.turns-init
+turns-init g c =
+    let eq = g.N.PartialEq.eq in
+    let laws = g.met.N.Eq.laws in
+    let value = g.C.Number.value in
+    let b = c.in_ok-begin.ensures in
+    let one = c.requires.one in
+    let keys = c.args.graph.now.discovery.nodes.keys in
+    let labels = c.begin.new.search.labels.items in
+    let kept = c.begin.new.search.estimates.items in
+    let heap = heap_items c.begin.new.search.queue in
+    let entries = heap ++ listed c.new-lists.result in
+    let alone : heap ≡ entries = sym (ap (λ (es : List (Entry g.row.C.Denot)). heap ++ es) c.new-lists.ensures.listed ∙ append-nil heap) in
+    let asked : length kept ≡ length keys = b.asked ∙ sym one in
+    let estimate : slice_get kept 0 ≡ Some c.new-lists.result.limit = at_place kept 0 c.index.result.now c.new-lists.result.limit (omega (arith, b.asked)) (sym c.index.ensures ∙ sym c.new-lists.ensures.limit) in
+    record {
+      forest = b.forest;
+      ordered = b.ordered;
+      queue = subst (λ (es : List (Entry g.row.C.Denot)). IsQueue value labels kept es) alone b.queue;
+      wide = b.labelled ∙ sym one;
+      asked = asked;
+      begins = λ x s. s;
+      searched = λ h test least d.
+          let x = b.graph h test least d in
+          (x.0, subst (λ (es : List (Entry g.row.C.Denot)). IsInformed value g.C.Number.fits kept (IsStep eq h) test (StandsFor eq keys) labels es (length keys)) alone (x.1 test));
+      below = λ start edges test least s d s0 e u z goes good.
+          let h = graph_of start edges in
+          let now = (b.graph h test least d).0 in
+          let st = StandsFor-same eq laws keys 0 start s0 s e in
+          let within = led_within eq laws value _ _ _ _ _ _ _ start edges test least keys _ _ _ kept now asked s in
+          let low = never_above eq laws h now.explores.alike test least now.admissible s0 (within 0 s0 st) u z goes good in
+          let is = led_estimate eq laws value _ _ _ _ _ _ _ start edges test least keys _ _ _ kept now asked s 0 s0 c.new-lists.result.limit st estimate in
+          omega (arith, ints, low, is);
+    }
+
+pub is_goal-requires-clause-inside : goal.is_goal-requires-clause-inside
+is_goal-requires-clause-inside g c =
+    let t = MatchOption-at_some _ _ c.in-Some.taken c.in-Some.is c.in_ok-taken.ensures.taken in
+    subst (λ (n : ℕ). c.in-Some.taken.number < n) c.turns.invariant.wide (HasLabel-inside _ _ _ t.at)
+
+pub is_goal-requires-clause-graph : goal.is_goal-requires-clause-graph
+is_goal-requires-clause-graph g c =
+    let r = c.requires.graph in
+    let v = c.turns.invariant.searched r.0 r.1 r.2 r.3 in
+    let d = v.0 in
+    (tested r.0 r.1, (d.explores, d.tested))
+
+pub nodes_to-requires-clause-wide : goal.nodes_to-requires-clause-wide
+nodes_to-requires-clause-wide g c = c.turns.invariant.wide ∙ sym c.is_goal.ensures.same
+
+pub nodes_to-requires-clause-labelled : goal.nodes_to-requires-clause-labelled
+nodes_to-requires-clause-labelled g c =
+    let t = MatchOption-at_some _ _ c.in-Some.taken c.in-Some.is c.in_ok-taken.ensures.taken in
+    (t.label, t.at)
+
+pub returns-then-is_goal-clause-best : goal.returns-then-is_goal-clause-best
+returns-then-is_goal-clause-best g c = λ start edges test least s d.
+    let eq = g.N.PartialEq.eq in
+    let laws = g.met.N.Eq.laws in
+    let value = g.C.Number.value in
+    let fits = g.C.Number.fits in
+    let exact = g.met.C.Integral.exact_law in
+    let inv = c.turns.invariant in
+    let h = graph_of start edges in
+    let v = inv.searched h test least d in
+    let now = v.0 in
+    let told = c.is_goal.ensures.graph (tested h test) (now.explores, now.tested) in
+    let after = told.0.0 in
+    let t = MatchOption-at_some _ _ c.in-Some.taken c.in-Some.is c.in_ok-taken.ensures.taken in
+    let number = c.in-Some.taken.number in
+    let labels = c.turns.search.labels.items in
+    let estimates = c.turns.search.estimates.items in
+    let entries = heap_items c.turns.search.queue ++ listed c.turns.lists in
+    let keys = c.turns.graph.discovery.nodes.keys in
+    let begins = inv.begins start s in
+    let nodes = c.in_ok-nodes.ensures.nodes in
+    let p = no_negative eq laws h now.explores.alike now.costs in
+    let within = led_within eq laws value _ _ _ _ _ _ _ start edges test least keys _ _ _ estimates now inv.asked begins in
+    let estimated = led_estimate eq laws value _ _ _ _ _ _ _ start edges test least keys _ _ _ estimates now inv.asked begins in
+    let here = begins_all eq laws keys number (subst (λ (n : ℕ). number < n) inv.wide (HasLabel-inside labels number t.label t.at)) in
+    let low = limit_now value fits (IsStep eq h) test p estimates (StandsFor eq keys) labels entries inv.forest (length keys) v.1 least (InReach eq edges (start ∷ [])) within now.admissible.from_zero (never_above eq laws h now.explores.alike test least now.admissible) estimated
+    (led_asked eq laws value _ _ _ _ _ _ _ start edges test least keys _ _ _ estimates now inv.asked begins) (λ x y z. g.C.Number.between_law x y z exact) (g.met.C.Zero.zero_fits_law exact) (λ y. eq start y ≡ true) (λ s0 e. StandsFor-same eq laws keys 0 start s0 begins e)
+    c.turns.lists.limit c.take.new.self.limit c.in_ok-taken.ensures.limit (inv.below start edges test least s d) in
+    let above : (s0 : g.row.N.Denot) → eq start s0 ≡ true → (u : List g.row.N.Denot) (z : ℤ) → GoesAlong (IsStep eq h) s0 u z → test (end_of s0 u) ≡ true → value t.label.cost ≤ℤ z = λ s0 e u z goes good.
+    omega (arith, ints, low s0 e u z goes good, t.within, t.same, estimated number here.0 t.estimate here.1 t.estimated, now.admissible.from_zero here.0 (within number here.0 here.1)) in
+    led_best eq laws value _ _ _ _ _ _ _ start edges test least keys _ _ _ estimates now inv.asked begins fits (λ x y z. g.C.Number.between_law x y z exact) (g.met.C.Zero.zero_fits_law exact)
+    labels inv.wide entries inv.forest v.1 number t.label t.at nodes.0 nodes.1 (λ y k. sym (told.1 y k) ∙ c.if-is_goal.true) above
+    c.is_goal.new.self.discovery.nodes.keys c.is_goal.ensures.grows after.distinct c.in_ok-nodes.nodes.items nodes.2 (value c.in-Some.taken.cost) t.same
+
+pub turn-requires-clause-labelled : goal.turn-requires-clause-labelled
+turn-requires-clause-labelled g c =
+    let t = MatchOption-at_some _ _ c.in-Some.taken c.in-Some.is c.in_ok-taken.ensures.taken in
+    (t.label, t.at)
+
+pub turn-requires-clause-wide : goal.turn-requires-clause-wide
+turn-requires-clause-wide g c = c.turns.invariant.wide ∙ sym c.is_goal.ensures.same
+
+pub turn-requires-clause-asked : goal.turn-requires-clause-asked
+turn-requires-clause-asked g c = c.turns.invariant.asked ∙ sym c.is_goal.ensures.same
+
+pub turn-requires-clause-queue : goal.turn-requires-clause-queue
+turn-requires-clause-queue g c =
+    let heap = heap_items c.take.new.queue in
+    let rest = listed c.take.new.self in
+    queue_in g.C.Number.value c.turns.search.labels.items c.turns.search.estimates.items (heap ++ rest) heap c.in_ok-taken.ensures.queue (λ e h. Contains-append_left heap rest e h)
+
+pub turn-requires-clause-graph : goal.turn-requires-clause-graph
+turn-requires-clause-graph g c =
+    let r = c.requires.graph in
+    let inv = c.turns.invariant in
+    let v = inv.searched r.0 r.1 r.2 r.3 in
+    let now = v.0 in
+    let told = c.is_goal.ensures.graph (tested r.0 r.1) (now.explores, now.tested) in
+    (r.0, r.1, r.2, led_grown g.N.PartialEq.eq g.met.N.Eq.laws g.C.Number.value _ _ _ _ _ _ _ r.0 r.1 r.2 _ _ _ _ _ now _ _ _ c.is_goal.ensures.grows inv.asked told.0.0 told.0.1)
+
+pub turns-preserved : goal.turns-preserved
+turns-preserved g c =
+    let eq = g.N.PartialEq.eq in
+    let laws = g.met.N.Eq.laws in
+    let value = g.C.Number.value in
+    let fits = g.C.Number.fits in
+    let exact = g.met.C.Integral.exact_law in
+    let inv = c.turns.invariant in
+    let t = MatchOption-at_some _ _ c.in-Some.taken c.in-Some.is c.in_ok-taken.ensures.taken in
+    let n = c.in_ok-turn.ensures in
+    let goal = c.is_goal.ensures in
+    let number = c.in-Some.taken.number in
+    let grown = Grows-trans _ _ _ _ _ _ goal.grows n.grows in
+    let labels = c.turns.search.labels.items in
+    let estimates = c.turns.search.estimates.items in
+    let entries = heap_items c.turns.search.queue ++ listed c.turns.lists in
+    let rest = listed c.take.new.self in
+    let keys = c.turns.graph.discovery.nodes.keys in
+    let between = c.is_goal.new.self.discovery.nodes.keys in
+    let inside : number < length keys = subst (λ (m : ℕ). number < m) inv.wide (HasLabel-inside labels number t.label t.at) in
+    record {
+      forest = n.forest;
+      ordered = n.ordered;
+      queue = n.queue rest c.in_ok-taken.ensures.queue;
+      wide = n.wide;
+      asked = n.asked;
+      begins = λ x s. grown.stays 0 x (inv.begins x s);
+      searched = λ h test least d.
+          let v = inv.searched h test least d in
+          let now = v.0 in
+          let told = goal.graph (tested h test) (now.explores, now.tested) in
+          let led = led_grown eq laws value _ _ _ _ _ _ _ h test least _ _ _ _ _ now _ _ _ goal.grows inv.asked told.0.0 told.0.1 in
+          let turned = n.graph h test least led in
+          let still = informed_still value fits (IsStep eq h) test estimates (length keys) (length between) (StandsFor eq keys) (StandsFor eq between) goal.grows goal.same labels inv.wide entries v.1 in
+          let fails : (x : g.row.N.Denot) → StandsFor eq between number x → test x ≡ false = λ x k. sym (told.1 x (goal.grows.back number x inside k)) ∙ c.if-is_goal.false in
+          (turned.0, turned.1 test entries rest fails t.left still);
+      below = λ start edges test least s d.
+          let h = graph_of start edges in
+          let v = inv.searched h test least d in
+          let now = v.0 in
+          let begins = inv.begins start s in
+          limit_now value fits (IsStep eq h) test (no_negative eq laws h now.explores.alike now.costs) estimates (StandsFor eq keys) labels entries inv.forest (length keys) v.1 least (InReach eq edges (start ∷ []))
+          (led_within eq laws value _ _ _ _ _ _ _ start edges test least keys _ _ _ estimates now inv.asked begins) now.admissible.from_zero (never_above eq laws h now.explores.alike test least now.admissible)
+          (led_estimate eq laws value _ _ _ _ _ _ _ start edges test least keys _ _ _ estimates now inv.asked begins) (led_asked eq laws value _ _ _ _ _ _ _ start edges test least keys _ _ _ estimates now inv.asked begins)
+          (λ x y z. g.C.Number.between_law x y z exact) (g.met.C.Zero.zero_fits_law exact) (λ y. eq start y ≡ true) (λ s0 e. StandsFor-same eq laws keys 0 start s0 begins e)
+          c.turns.lists.limit c.take.new.self.limit c.in_ok-taken.ensures.limit (inv.below start edges test least s d);
+    }
+
+pub returns-then-has_all_labels-clause-best : goal.returns-then-has_all_labels-clause-best
+returns-then-has_all_labels-clause-best g c = λ start edges test least s d.
+    let exact = g.met.C.Integral.exact_law in
+    let inv = c.turns.invariant in
+    let v = inv.searched (graph_of start edges) test least d in
+    led_none g.N.PartialEq.eq g.met.N.Eq.laws g.C.Number.value _ _ _ _ _ _ _ start edges test least _ _ _ _ _ v.0 inv.asked (inv.begins start s) g.C.Number.fits (λ x y z. g.C.Number.between_law x y z exact) (g.met.C.Zero.zero_fits_law exact)
+    c.turns.search.labels.items inv.wide (heap_items c.turns.search.queue ++ listed c.turns.lists) inv.forest v.1 (MatchOption-at_none _ _ c.in_default.is c.in_ok-taken.ensures.taken) (c.has_all_labels.ensures.0 c.if-has_all_labels.true)
+
+pub returns-clause-overflow : goal.returns-clause-overflow
+returns-clause-overflow g c = λ start edges test least s d refused.
+    let exact = g.met.C.Integral.exact_law in
+    let inv = c.turns.invariant in
+    let v = inv.searched (graph_of start edges) test least d in
+    led_past g.N.PartialEq.eq g.met.N.Eq.laws g.C.Number.value _ _ _ _ _ _ _ start edges test least _ _ _ _ _ v.0 inv.asked (inv.begins start s) g.C.Number.fits (λ x y z. g.C.Number.between_law x y z exact) (g.met.C.Zero.zero_fits_law exact)
+    c.turns.search.labels.items inv.wide (heap_items c.turns.search.queue ++ listed c.turns.lists) inv.forest v.1 (MatchOption-at_none _ _ c.in_default.is c.in_ok-taken.ensures.taken) (λ a. true≢false (sym (c.has_all_labels.ensures.1 a) ∙ c.if-has_all_labels.false))
