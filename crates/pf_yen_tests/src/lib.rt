@@ -2,6 +2,10 @@
 #![tactic(auto)]
 
 #[cfg(test)]
+mod listed;
+#[cfg(test)]
+mod plain;
+#[cfg(test)]
 mod tests;
 #[cfg(test)]
 mod walks;

@@ -1,5 +1,9 @@
 //! The worked paths.
 
+mod refusals;
+mod rows;
+mod small_graphs;
+
 use crate::walks::costs_to_zero;
 use std::test::Fail;
 

@@ -1,0 +1,76 @@
+//! A caller over a list of edges between numbers.
+
+use pf_base::PathError;
+use pf_yen::directed::yen::{YenPaths, yen, yen_paths};
+use std::alloc::{Allocator, Global};
+
+/// An edge: from, to, cost.
+pub(crate) type Edge = (usize, usize, u8);
+
+/// A path with its cost.
+pub(crate) type Path<A> = (Vec<usize, A>, u8);
+
+/// The paths that calls of `next` answered, and what each call told: a cost, a refusal or `None`.
+pub(crate) type Steps<A> = (Vec<Path<A>>, Vec<Option<Result<u8, PathError>>>);
+
+/// What the first calls of `next` answer. After each `None` the walk is resumed.
+fn steps_of<IN, FN, FS, A>(
+    ample: Global,
+    mut walk: YenPaths<usize, u8, IN, FN, FS, A>,
+    calls: usize,
+) -> Result<Steps<A>, PathError>
+where
+    IN: IntoIterator<Item = (usize, u8)>,
+    FN: FnMut(&usize) -> IN,
+    FS: FnMut(&usize) -> bool,
+    A: Allocator + Copy,
+    requires { ⟦<YenPaths<usize, u8, IN, FN, FS, A> as Iterator>⟧.can_next walk }
+{
+    let mut paths = Vec::new(ample);
+    let mut told = Vec::new(ample);
+    'calls: for _ in 0..calls {
+        match walk.next() {
+            Some(Ok(path)) => {
+                told.push(Some(Ok(path.1)))?;
+                paths.push(path)?;
+            }
+            Some(Err(refusal)) => told.push(Some(Err(refusal)))?,
+            None => {
+                walk.resume();
+                told.push(None)?;
+            }
+        }
+    }
+    Ok((paths, told))
+}
+
+/// The first calls of `next` over the clean paths from a node to one of two goals, with `resume` after
+/// each `None`, and beside that the `k` cheapest of these paths.
+pub(crate) fn search_list<A>(
+    alloc: A,
+    ample: Global,
+    edges: &[Edge],
+    from: usize,
+    goals: (usize, usize),
+    calls: usize,
+    k: usize,
+) -> (
+    Result<Steps<A>, PathError>,
+    Result<Vec<Path<A>, A>, PathError>,
+)
+where
+    A: Allocator + Copy,
+{
+    let successors = |n: &usize| {
+        let node = *n;
+        edges
+            .iter()
+            .filter_map(move |e| if e.0 == node { Some((e.1, e.2)) } else { None })
+    };
+    let success = |n: &usize| *n == goals.0 || *n == goals.1;
+    let steps = match yen_paths(alloc, &from, successors, success) {
+        Ok(walk) => steps_of(ample, walk, calls),
+        Err(refusal) => Err(refusal),
+    };
+    (steps, yen(alloc, &from, successors, success, k))
+}

@@ -1,0 +1,177 @@
+//! The worked paths over lists of edges.
+
+use crate::listed::{Edge, Path, search_list};
+use crate::plain::{are_cheapest, clean_paths};
+use pf_base::PathError;
+use std::alloc::Global;
+use std::test::Fail;
+
+/// A list of edges, and what is to be answered from 0.
+struct Row<'a> {
+    edges: &'a [Edge],
+    goals: (usize, usize),
+    /// What the calls of `next` tell: a cost, a refusal or `None`.
+    told: &'a [Option<Result<u8, PathError>>],
+    /// How many paths are gathered.
+    k: usize,
+    /// Their costs.
+    costs: &'a [u8],
+    /// The first of them, as far as it is not open which they are.
+    paths: &'a [&'a [usize]],
+}
+
+/// Five clean paths from 0 to 5, two of which cost the same.
+pub(crate) const FIVE_PATHS: [Edge; 11] = [
+    (0, 1, 1),
+    (0, 2, 2),
+    (1, 3, 1),
+    (1, 4, 1),
+    (3, 5, 1),
+    (3, 6, 4),
+    (6, 5, 4),
+    (2, 5, 2),
+    (4, 5, 2),
+    (4, 7, 1),
+    (7, 5, 2),
+];
+
+/// Two edges lead from 1 to 2.
+const PARALLEL: [Edge; 5] = [(0, 1, 1), (1, 3, 1), (1, 2, 1), (1, 2, 3), (2, 3, 1)];
+
+/// Three of the clean paths from 0 to 5 cost 8.
+const ROADS: [Edge; 9] = [
+    (0, 1, 3),
+    (0, 2, 2),
+    (1, 3, 4),
+    (2, 1, 1),
+    (2, 3, 2),
+    (2, 4, 3),
+    (3, 4, 2),
+    (3, 5, 1),
+    (4, 5, 2),
+];
+
+/// The way from 0 to 1 over 2 costs more than fits.
+const DEAR: [Edge; 3] = [(0, 1, 1), (0, 2, 200), (2, 1, 100)];
+
+const ROWS: [Row<'static>; 7] = [
+    Row {
+        edges: &FIVE_PATHS,
+        goals: (5, 5),
+        told: &[
+            Some(Ok(3)),
+            Some(Ok(4)),
+            Some(Ok(4)),
+            Some(Ok(5)),
+            Some(Ok(10)),
+            None,
+            None,
+        ],
+        k: 4,
+        costs: &[3, 4, 4, 5],
+        paths: &[&[0, 1, 3, 5], &[0, 2, 5], &[0, 1, 4, 5], &[0, 1, 4, 7, 5]],
+    },
+    Row {
+        edges: &PARALLEL,
+        goals: (3, 3),
+        told: &[Some(Ok(2))],
+        k: 2,
+        costs: &[2, 3],
+        paths: &[&[0, 1, 3], &[0, 1, 2, 3]],
+    },
+    Row {
+        edges: &PARALLEL,
+        goals: (3, 3),
+        told: &[Some(Ok(2)), Some(Ok(3)), None],
+        k: 3,
+        costs: &[2, 3],
+        paths: &[&[0, 1, 3], &[0, 1, 2, 3]],
+    },
+    Row {
+        edges: &PARALLEL,
+        goals: (3, 3),
+        told: &[],
+        k: 0,
+        costs: &[],
+        paths: &[],
+    },
+    Row {
+        edges: &ROADS,
+        goals: (5, 5),
+        told: &[
+            Some(Ok(5)),
+            Some(Ok(7)),
+            Some(Ok(8)),
+            Some(Ok(8)),
+            Some(Ok(8)),
+            Some(Ok(11)),
+            Some(Ok(11)),
+            None,
+        ],
+        k: 3,
+        costs: &[5, 7, 8],
+        paths: &[&[0, 2, 3, 5], &[0, 2, 4, 5]],
+    },
+    Row {
+        edges: &FIVE_PATHS,
+        goals: (5, 0),
+        told: &[Some(Ok(0)), None],
+        k: 4,
+        costs: &[0],
+        paths: &[&[0]],
+    },
+    Row {
+        edges: &DEAR,
+        goals: (1, 1),
+        told: &[
+            Some(Ok(1)),
+            Some(Err(PathError::CostOverflow)),
+            None,
+            Some(Err(PathError::CostOverflow)),
+            None,
+        ],
+        k: 1,
+        costs: &[1],
+        paths: &[&[0, 1]],
+    },
+];
+
+/// Whether the paths have these costs and begin with these paths.
+fn are_paths(paths: &[Path<Global>], costs: &[u8], first: &[&[usize]]) -> bool {
+    for (path, cost) in paths.iter().zip(costs) {
+        if path.1 != *cost {
+            return false;
+        }
+    }
+    for (path, nodes) in paths.iter().zip(first) {
+        if path.0.as_slice() != *nodes {
+            return false;
+        }
+    }
+    paths.len() == costs.len()
+}
+
+/// Whether the searches answer what the row says.
+fn answers(alloc: Global, row: &Row<'_>) -> Result<bool, PathError> {
+    let all = clean_paths(alloc, row.edges, 0, row.goals)?;
+    let calls = row.told.len();
+    let (steps, gathered) = search_list(alloc, alloc, row.edges, 0, row.goals, calls, row.k);
+    let (paths, told) = steps?;
+    let gathered = gathered?;
+    Ok(
+        told.as_slice() == row.told
+            && are_cheapest(&paths, &all)
+            && are_paths(&gathered, row.costs, row.paths)
+            && are_cheapest(&gathered, &all),
+    )
+}
+
+#[test]
+fn searches_answer_the_worked_paths(rt: HostRuntime) -> Result<(), Fail> {
+    for (number, row) in ROWS.iter().enumerate() {
+        assert!(rt; answers(rt.alloc(), row)?, "row {number}");
+    }
+    let (_, dear) = search_list(rt.alloc(), rt.alloc(), &DEAR, 0, (1, 1), 0, 2);
+    assert!(rt; matches!(dear, Err(PathError::CostOverflow)));
+    Ok(())
+}

@@ -1,0 +1,99 @@
+//! Graphs of four nodes with at most six edges of costs 0 to 2, against the plain program.
+
+use crate::listed::{Edge, search_list};
+use crate::plain::{are_by_length, are_cheapest, clean_paths};
+use pf_base::PathError;
+use std::alloc::{AllocError, Global};
+use std::test::Fail;
+
+/// The pairs of nodes, at first those whose edges can lie on a clean path from 0 to 3.
+const PAIRS: [(usize, usize); 16] = [
+    (0, 1),
+    (0, 2),
+    (0, 3),
+    (1, 2),
+    (1, 3),
+    (2, 1),
+    (2, 3),
+    (0, 0),
+    (1, 0),
+    (1, 1),
+    (2, 0),
+    (2, 2),
+    (3, 0),
+    (3, 1),
+    (3, 2),
+    (3, 3),
+];
+
+/// The edges of a set, which is given by its bits: three for each pair, one for each cost.
+fn edges_in(alloc: Global, set: u64) -> Result<Vec<Edge>, AllocError> {
+    let mut edges = Vec::new(alloc);
+    let mut rest = set;
+    for pair in PAIRS {
+        for cost in 0..3u8 {
+            if rest % 2 == 1 {
+                edges.push((pair.0, pair.1, cost))?;
+            }
+            rest /= 2;
+        }
+    }
+    Ok(edges)
+}
+
+/// Whether all clean paths from 0 are given and then none, and the first of them are gathered by
+/// rising cost and then by rising number of nodes.
+fn agrees(alloc: Global, set: u64, goals: (usize, usize)) -> Result<bool, PathError> {
+    let edges = edges_in(alloc, set)?;
+    let all = clean_paths(alloc, &edges, 0, goals)?;
+    let calls = all.len().saturating_add(1);
+    let k = edges.len() / 2;
+    let (steps, gathered) = search_list(alloc, alloc, &edges, 0, goals, calls, k);
+    let (paths, told) = steps?;
+    let gathered = gathered?;
+    Ok(
+        paths.len() == all.len()
+            && matches!(told.last(), Some(None))
+            && are_cheapest(&paths, &all)
+            && gathered.len() == all.len().min(k)
+            && are_cheapest(&gathered, &all)
+            && are_by_length(&gathered),
+    )
+}
+
+/// All sets of at most six of the 21 edges that can lie on a clean path from 0 to 3.
+#[test]
+fn graphs_of_edges_on_paths_agree(rt: HostRuntime) -> Result<(), Fail> {
+    let mut graphs = 0u32;
+    for set in 0..1u64 << 21 {
+        if set.count_ones() <= 6 {
+            let goal = if set % 2 == 0 { 3 } else { 1 };
+            assert!(rt; agrees(rt.alloc(), set, (3, goal))?, "set {set}");
+            graphs = graphs.saturating_add(1);
+        }
+    }
+    assert!(rt; graphs == 82_160);
+    Ok(())
+}
+
+/// The set of at most six edges whose numbers are digits of `code` to the base 48.
+fn set_of(code: u64) -> u64 {
+    let mut set = 0u64;
+    let mut rest = code;
+    for _ in 0..6 {
+        set |= 1u64 << (rest % 48);
+        rest /= 48;
+    }
+    set
+}
+
+/// Sets of at most six of all 48 edges, in even steps through the lists of six: edges to the start,
+/// from a goal and from a node to itself are among them.
+#[test]
+fn graphs_of_any_edges_agree(rt: HostRuntime) -> Result<(), Fail> {
+    for graph in 0..17_000u64 {
+        let set = set_of(graph * 719_503);
+        assert!(rt; agrees(rt.alloc(), set, (3, 2))?, "set {set}");
+    }
+    Ok(())
+}
