@@ -1,4 +1,4 @@
-//! Tests of the calls of `pf_yen`, and a caller.
+//! Tests of the calls of `pf_yen`, and callers that show how they are proved.
 #![tactic(auto)]
 
 #[cfg(test)]
