@@ -1,6 +1,6 @@
 -- An estimate that is no more than a bound which falls along no edge by more than it costs is admissible.
-use Rattle.std.proofs.Common.{◌≡◌, ◌+◌, ◌≤◌, ℕ, ℤ, pos, Bool, true, false, List, [], ◌∷◌, None, Some, map, refl, sym, subst, arith, inl, inr, nat_eq}
-use Rattle.std.specs.Prelude.{◌≤ℤ◌, ◌+ℤ◌, min, if◌then◌else◌, slice_index}
+use Rattle.std.proofs.Common.{◌≡◌, ◌+◌, ◌≤◌, ◌||◌, ℕ, ℤ, pos, Bool, true, false, List, [], ◌∷◌, None, Some, map, refl, sym, subst, arith, inl, inr, nat_eq}
+use Rattle.std.specs.Prelude.{◌≤ℤ◌, ◌+ℤ◌, All, min, if◌then◌else◌, slice_index}
 use Rattle.std.specs.List.{AllByRecursion, cons_option}
 use Rattle.std.proofs.Math.Nat.{min-le_right}
 use Rattle.std.proofs.lemmas.Int.{ints}
@@ -31,19 +31,30 @@ module _ (bounds : List ℕ) where
           subst (λ (n : ℕ). pos (slice_index bounds n) ≤ℤ (z +ℤ pos (slice_index bounds b))) from (subst (λ (n : ℕ). pos (slice_index bounds e.0) ≤ℤ (z +ℤ pos (slice_index bounds n))) to (here (slice_index bounds e.0) (slice_index bounds e.1) e.2 z u.0 k.1))
       by rest true q (inr k) = rest k
 
-  pub bounded : (edges : List (ℕ × ℕ × ℕ)) (estimates : List ℕ) (from to : ℕ) → AreBounds edges bounds to → IsAdmissible nat_eq (edges_of edges) (from ∷ []) (λ n. nat_eq n to) (λ n. pos (estimate_of_node estimates bounds n))
-  bounded edges estimates from to b =
-      let c = consistent nat_eq (edges_of edges) (from ∷ []) (λ n. nat_eq n to) (λ n. pos (slice_index bounds n)) (λ x y e. subst (λ (n : ℕ). pos (slice_index bounds x) ≡ pos (slice_index bounds n)) (eqb-true x y e) refl) (λ x. omega (arith, ints)) (λ x e. at_end x (eqb-true x to e)) (falls_in edges (recursion_from_All (λ (e : ℕ × ℕ × ℕ). slice_index bounds e.0 ≤ e.2 + slice_index bounds e.1) edges b.along)) in
+  pub bounded_where : (edges : List (ℕ × ℕ × ℕ)) (estimates : List ℕ) (from : ℕ) (passes : ℕ → Bool) → All (λ (e : ℕ × ℕ × ℕ). slice_index bounds e.0 ≤ e.2 + slice_index bounds e.1) edges → ((x : ℕ) → passes x ≡ true → slice_index bounds x ≡ 0) → IsAdmissible nat_eq (edges_of edges) (from ∷ []) passes (λ n. pos (estimate_of_node estimates bounds n))
+  bounded_where edges estimates from passes along none =
+      let c = consistent nat_eq (edges_of edges) (from ∷ []) passes (λ n. pos (slice_index bounds n)) (λ x y e. subst (λ (n : ℕ). pos (slice_index bounds x) ≡ pos (slice_index bounds n)) (eqb-true x y e) refl) (λ x. omega (arith, ints)) (λ x e. at_none (slice_index bounds x) (none x e)) (falls_in edges (recursion_from_All (λ (e : ℕ × ℕ × ℕ). slice_index bounds e.0 ≤ e.2 + slice_index bounds e.1) edges along)) in
       record {
         from_zero = λ x r. omega (arith, ints);
         never_above = λ x r walk u goes costs. under (slice_index estimates x) (slice_index bounds x) u (c.never_above x r walk u goes costs);
       }
     where
-      at_end : (x : ℕ) → x ≡ to → pos (slice_index bounds x) ≤ℤ pos 0
-      at_end x e = subst (λ (n : ℕ). pos (slice_index bounds n) ≤ℤ pos 0) (sym e) (none (slice_index bounds to) b.at_end)
-        where
-          none : (n : ℕ) → n ≡ 0 → pos n ≤ℤ pos 0
-          none n h = omega (arith, ints, h)
+      at_none : (n : ℕ) → n ≡ 0 → pos n ≤ℤ pos 0
+      at_none n h = omega (arith, ints, h)
 
       under : (n m : ℕ) (u : ℤ) → pos m ≤ℤ u → pos (min n m) ≤ℤ u
       under n m u h = omega (arith, ints, h, min-le_right n m)
+
+  at_end : (edges : List (ℕ × ℕ × ℕ)) (to x : ℕ) → AreBounds edges bounds to → nat_eq x to ≡ true → slice_index bounds x ≡ 0
+  at_end edges to x b e = subst (λ (n : ℕ). slice_index bounds n ≡ 0) (sym (eqb-true x to e)) b.at_end
+
+  pub bounded : (edges : List (ℕ × ℕ × ℕ)) (estimates : List ℕ) (from to : ℕ) → AreBounds edges bounds to → IsAdmissible nat_eq (edges_of edges) (from ∷ []) (λ n. nat_eq n to) (λ n. pos (estimate_of_node estimates bounds n))
+  bounded edges estimates from to b = bounded_where edges estimates from (λ n. nat_eq n to) b.along (λ x e. at_end edges to x b e)
+
+  -- the same for two ends
+  pub bounded_twice : (edges : List (ℕ × ℕ × ℕ)) (estimates : List ℕ) (from : ℕ) (to : ℕ × ℕ) → AreBounds edges bounds to.0 → AreBounds edges bounds to.1 → IsAdmissible nat_eq (edges_of edges) (from ∷ []) (λ n. nat_eq n to.0 || nat_eq n to.1) (λ n. pos (estimate_of_node estimates bounds n))
+  bounded_twice edges estimates from to first second = bounded_where edges estimates from (λ n. nat_eq n to.0 || nat_eq n to.1) first.along (λ x e. either x (nat_eq x to.0) refl e)
+    where
+      either : (x : ℕ) (same : Bool) → nat_eq x to.0 ≡ same → (same || nat_eq x to.1) ≡ true → slice_index bounds x ≡ 0
+      either x true q e = at_end edges to.0 x first q
+      either x false q e = at_end edges to.1 x second e

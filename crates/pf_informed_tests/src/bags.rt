@@ -3,23 +3,22 @@
 
 ghost use Rattle.std.specs.Prelude.{◌||◌, ◌∷◌, [], pos, nat_eq, IfOk, IfSome};
 ghost use Rattle.pf_informed.specs.CheapestPaths.{AreCheapestCleanPaths, lists_in};
-ghost use Rattle.pf_informed_tests.specs.Lists.{edges_of};
+ghost use Rattle.pf_informed_tests.specs.Listed.{AreBounds, edges_of};
 
+use crate::listed::{Edge, are_bounds, estimate};
 use pf_base::PathError;
 use pf_informed::directed::astar_bag::{AstarSolution, astar_bag, astar_bag_collect};
 use refusing_allocator::Refusing;
-use std::alloc::{Allocator, Global};
-
-/// Edges, each from a node to a node at a cost.
-type Edges<'a> = &'a [(usize, usize, u32)];
+use std::alloc::{AllocError, Allocator, Global};
+use std::test::Fail;
 
 /// All cheapest clean paths from a node to one of two goals, and their cost.
 pub fn cheapest_in_list<A>(
     alloc: A,
-    edges: &[(usize, usize, u32)],
+    edges: &[Edge],
     from: usize,
     goals: (usize, usize),
-) -> Result<Option<(AstarSolution<usize, A>, u32)>, PathError>
+) -> Result<Option<(AstarSolution<usize, A>, u8)>, PathError>
 where
     A: Allocator + Copy,
     ensures { IfOk result (λ answer. IfSome answer (λ found. AreCheapestCleanPaths nat_eq (edges_of edges.now) (from ∷ []) (λ n. nat_eq n goals.0 || nat_eq n goals.1) found.0.left (pos found.1))) }
@@ -33,20 +32,39 @@ where
                 .iter()
                 .filter_map(move |e| if e.0 == node { Some((e.1, e.2)) } else { None })
         },
-        |_| 0u32,
+        |_| 0u8,
         |n| *n == goals.0 || *n == goals.1,
     )
 }
 
-/// The same, gathered.
-pub fn gathered_in_list<A>(
+/// The bounds, where they are some for both goals, or else none, so that each entry is 0.
+fn bounds_to<'a>(edges: &[Edge], bounds: &'a [u8], goals: (usize, usize)) -> &'a [u8]
+    ensures first { AreBounds edges.now result.now goals.0 }
+    ensures second { AreBounds edges.now result.now goals.1 }
+{
+    if are_bounds(edges, bounds, goals.0) && are_bounds(edges, bounds, goals.1) {
+        bounds
+    } else {
+        &bounds[..0]
+    }
+}
+
+/// Gathered paths and their cost.
+pub(crate) type Found<A> = Result<Option<(Vec<Vec<usize, A>, A>, u8)>, PathError>;
+
+/// The same, gathered, by estimates that are no more than the bounds.
+fn gathered_by<A>(
     alloc: A,
-    edges: &[(usize, usize, u32)],
+    edges: &[Edge],
+    estimates: &[u8],
+    bounds: &[u8],
     from: usize,
     goals: (usize, usize),
-) -> Result<Option<(Vec<Vec<usize, A>, A>, u32)>, PathError>
+) -> Result<Option<(Vec<Vec<usize, A>, A>, u8)>, PathError>
 where
     A: Allocator + Copy,
+    requires first { AreBounds edges.now bounds.now goals.0 }
+    requires second { AreBounds edges.now bounds.now goals.1 }
     ensures { IfOk result (λ answer. IfSome answer (λ found. AreCheapestCleanPaths nat_eq (edges_of edges.now) (from ∷ []) (λ n. nat_eq n goals.0 || nat_eq n goals.1) (lists_in found.0.items) (pos found.1))) }
 {
     astar_bag_collect(
@@ -58,9 +76,26 @@ where
                 .iter()
                 .filter_map(move |e| if e.0 == node { Some((e.1, e.2)) } else { None })
         },
-        |_| 0u32,
+        |n| estimate(estimates, bounds, *n),
         |n| *n == goals.0 || *n == goals.1,
     )
+}
+
+/// The same, led by 0 alone where the bounds are not some for both goals.
+pub fn gathered_in_list<A>(
+    alloc: A,
+    edges: &[Edge],
+    estimates: &[u8],
+    bounds: &[u8],
+    from: usize,
+    goals: (usize, usize),
+) -> Result<Option<(Vec<Vec<usize, A>, A>, u8)>, PathError>
+where
+    A: Allocator + Copy,
+    ensures { IfOk result (λ answer. IfSome answer (λ found. AreCheapestCleanPaths nat_eq (edges_of edges.now) (from ∷ []) (λ n. nat_eq n goals.0 || nat_eq n goals.1) (lists_in found.0.items) (pos found.1))) }
+{
+    let bounds = bounds_to(edges, bounds, goals);
+    gathered_by(alloc, edges, estimates, bounds, from, goals)
 }
 
 /// Whether these are the expected paths, in whichever order, none twice.
@@ -72,16 +107,12 @@ fn are_paths<A: Allocator>(paths: &Vec<Vec<usize, A>, A>, expected: &[&[usize]])
 }
 
 /// Whether the answer has this cost and these paths.
-fn is_answer<A: Allocator>(
-    answer: Result<Option<(Vec<Vec<usize, A>, A>, u32)>, PathError>,
-    cost: u32,
-    expected: &[&[usize]],
-) -> bool {
+pub(crate) fn has_paths<A: Allocator>(answer: Found<A>, cost: u8, expected: &[&[usize]]) -> bool {
     matches!(answer, Ok(Some((paths, found))) if found == cost && are_paths(&paths, expected))
 }
 
 /// From 1 over 2 and 3 to the goals 4 and 7.
-const DIAMOND: [(usize, usize, u32); 8] = [
+const DIAMOND: [Edge; 8] = [
     (1, 2, 1),
     (1, 3, 1),
     (2, 4, 3),
@@ -93,7 +124,7 @@ const DIAMOND: [(usize, usize, u32); 8] = [
 ];
 
 /// Two ways round a cycle that costs nothing, 1 and 2, from 0 to 3.
-const FREE_CYCLE: [(usize, usize, u32); 6] = [
+const FREE_CYCLE: [Edge; 6] = [
     (0, 1, 0),
     (0, 2, 0),
     (1, 2, 0),
@@ -107,7 +138,7 @@ const ROUND: [&[usize]; 4] = [&[0, 1, 2, 3], &[0, 1, 3], &[0, 2, 1, 3], &[0, 2, 
 
 #[test]
 fn rows_of_all_cheapest_paths(rt: HostRuntime) {
-    let rows: [(Edges<'_>, usize, (usize, usize), u32, &[&[usize]]); 6] = [
+    let rows: [(&[Edge], usize, (usize, usize), u8, &[&[usize]]); 6] = [
         (
             &DIAMOND,
             1,
@@ -140,15 +171,83 @@ fn rows_of_all_cheapest_paths(rt: HostRuntime) {
         ),
     ];
     for (edges, from, goals, cost, expected) in rows {
-        let answer = gathered_in_list(rt.alloc(), edges, from, goals);
-        assert!(rt; is_answer(answer, cost, expected));
+        let answer = gathered_in_list(rt.alloc(), edges, &[], &[], from, goals);
+        assert!(rt; has_paths(answer, cost, expected));
     }
     assert!(rt;
         matches!(
-            gathered_in_list(rt.alloc(), &FREE_CYCLE, 3, (0, 0)),
+            gathered_in_list(rt.alloc(), &FREE_CYCLE, &[], &[], 3, (0, 0)),
             Ok(None)
         )
     );
+}
+
+/// The edges of the row below, each at the cost 1.
+fn rungs(alloc: Global) -> Result<Vec<Edge>, AllocError> {
+    let mut edges = Vec::new(alloc);
+    for node in 0..30usize {
+        edges.push((node, node + 1, 1))?;
+        if node % 3 != 2 {
+            edges.push((node, node + 2, 1))?;
+        }
+    }
+    Ok(edges)
+}
+
+/// From 0 to 30, from each number to the next one, and from one that is not 2 more than a multiple of 3
+/// to the one after that.
+#[test]
+fn a_thousand_paths_are_different(rt: HostRuntime) -> Result<(), Fail> {
+    let edges = rungs(rt.alloc())?;
+    let mut halves = [0u8; 31];
+    for node in 0..31u8 {
+        halves[usize::from(node)] = (30 - node) / 2;
+    }
+    assert!(rt; are_bounds(&edges, &halves, 30));
+    let found = gathered_in_list(rt.alloc(), &edges, &halves, &halves, 0, (30, 30))?;
+    let Some((paths, cost)) = found else {
+        panic!(rt; "no path");
+    };
+    let once = paths.iter().all(|path| paths
+        .iter()
+        .filter(|other| other.as_slice() == path.as_slice())
+        .count()
+        == 1);
+    assert!(rt; cost == 20 && paths.len() == 1024 && once);
+    Ok(())
+}
+
+/// The next paths, up to ten.
+fn next_paths(
+    alloc: Global,
+    mut solution: AstarSolution<usize, Global>,
+) -> Result<Vec<Vec<usize>>, PathError> {
+    let mut paths = Vec::new(alloc);
+    for _ in 0..10u64 {
+        let Some(path) = solution.next() else {
+            break;
+        };
+        paths.push(path?)?;
+    }
+    Ok(paths)
+}
+
+/// After each number of steps a clone goes on as the original does.
+#[test]
+fn a_clone_yields_what_the_original_would(rt: HostRuntime) -> Result<(), Fail> {
+    for steps in 0..5usize {
+        let found = cheapest_in_list(rt.alloc(), &FREE_CYCLE, 0, (3, 3))?;
+        let Some((mut solution, _)) = found else {
+            panic!(rt; "no path");
+        };
+        for _ in 0..steps {
+            assert!(rt; matches!(solution.next(), Some(Ok(_))));
+        }
+        let copy = next_paths(rt.alloc(), solution.clone()?)?;
+        assert!(rt; copy.len() + steps == 4);
+        assert!(rt; next_paths(rt.alloc(), solution)? == copy);
+    }
+    Ok(())
 }
 
 /// The paths that an iterator gives that is resumed after each refusal, or `None` where it gives
@@ -208,6 +307,21 @@ fn each_growth_is_refused_in_turn(rt: HostRuntime) {
             );
             return;
         }
+    }
+    panic!(rt; "every run met a refusal")
+}
+
+#[test]
+fn a_gathering_refuses_each_growth(rt: HostRuntime) {
+    for growth in 0..1_000u64 {
+        let heap = Refusing::new(rt.alloc());
+        heap.refuse(growth, 1);
+        let found = gathered_in_list(&heap, &FREE_CYCLE, &[], &[], 0, (3, 3));
+        if heap.pending() > 0 {
+            assert!(rt; growth > 20 && has_paths(found, 0, &ROUND));
+            return;
+        }
+        assert!(rt; matches!(found, Err(PathError::OutOfMemory)));
     }
     panic!(rt; "every run met a refusal")
 }

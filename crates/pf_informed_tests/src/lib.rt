@@ -6,9 +6,13 @@ mod bags;
 #[cfg(test)]
 mod board;
 #[cfg(test)]
+mod graphs;
+#[cfg(test)]
 mod limits;
 #[cfg(test)]
 mod listed;
+#[cfg(test)]
+mod puzzle;
 #[cfg(test)]
 mod refusals;
 #[cfg(test)]

@@ -2,9 +2,7 @@
 
 ghost use Rattle.pf_informed_tests.specs.Listed.{AreBounds};
 
-use crate::listed::{
-    CHOICES, Edge, HIDDEN, NONE, are_bounds, edge_of, entry, estimate, is_path_at, remaining,
-};
+use crate::listed::{Edge, HIDDEN, are_bounds, by_astar, by_fringe, estimate, is_path_at};
 use pf_base::PathError;
 use pf_informed::directed::idastar::idastar;
 use refusing_allocator::Refusing;
@@ -35,6 +33,30 @@ where
         |n| estimate(estimates, bounds, *n),
         |n| *n == to,
     )
+}
+
+/// Whether each of the three searches answers this cost, or none where there is no cost.
+pub(crate) fn all_cost(
+    alloc: Global,
+    edges: &[Edge],
+    estimates: &[u8],
+    bounds: &[u8],
+    ends: (usize, usize),
+    cost: Option<u8>,
+) -> bool
+    requires { AreBounds edges.now bounds.now ends.1 }
+{
+    [
+        by_astar(alloc, edges, estimates, bounds, ends.0, ends.1),
+        by_fringe(alloc, edges, estimates, bounds, ends.0, ends.1),
+        by_idastar(alloc, edges, estimates, bounds, ends.0, ends.1),
+    ]
+    .iter()
+    .all(|answer| match answer {
+        Ok(Some((_, found))) => Some(*found) == cost,
+        Ok(None) => cost.is_none(),
+        Err(_) => false,
+    })
 }
 
 #[test]
@@ -70,42 +92,4 @@ fn a_search_by_limits_on_sums_refuses_each_growth(rt: HostRuntime) {
         assert!(rt; matches!(found, Err(PathError::OutOfMemory)));
     }
     panic!(rt; "every run met a refusal")
-}
-
-/// Whether the answer has this cost, or is none where there is no way.
-fn has_cost(alloc: Global, edges: &[Edge], estimates: &[u8], costs: &[u8]) -> bool
-    requires { AreBounds edges.now costs.now 2 }
-{
-    match by_idastar(alloc, edges, estimates, costs, 0, 2) {
-        Ok(Some((_, cost))) => cost == entry(costs, 0),
-        Ok(None) => entry(costs, 0) == NONE,
-        Err(_) => false,
-    }
-}
-
-/// All graphs of three nodes with at most three edges of costs up to 2, under every admissible
-/// estimate up to 2.
-#[test]
-fn small_graphs_agree_with_a_plain_program(rt: HostRuntime) {
-    for choices in 0..CHOICES * CHOICES * CHOICES {
-        let (a, b, c) = (
-            choices % CHOICES,
-            choices / CHOICES % CHOICES,
-            choices / CHOICES / CHOICES,
-        );
-        let rising = |low: usize, high: usize| low < high || low == 0 && high == 0;
-        if rising(a, b) && rising(b, c) {
-            let edges = [edge_of(a), edge_of(b), edge_of(c)];
-            let costs = remaining(&edges);
-            if !are_bounds(&edges, &costs, 2) {
-                panic!(rt; "no estimates");
-            }
-            for estimates in 0..9u8 {
-                let (first, second) = (estimates % 3, estimates / 3);
-                if first <= costs[0] && second <= costs[1] {
-                    assert!(rt; has_cost(rt.alloc(), &edges, &[first, second], &costs));
-                }
-            }
-        }
-    }
 }

@@ -8,7 +8,7 @@ use pf_base::PathError;
 use pf_informed::directed::astar::astar;
 use pf_informed::directed::fringe::fringe;
 use refusing_allocator::Refusing;
-use std::alloc::{Allocator, Global};
+use std::alloc::Allocator;
 
 /// An edge: from, to, cost.
 pub(crate) type Edge = (usize, usize, u8);
@@ -42,7 +42,7 @@ pub(crate) fn are_bounds(edges: &[Edge], bounds: &[u8], to: usize) -> bool
 }
 
 /// A cheapest path by `astar`, with its cost.
-fn by_astar<A>(
+pub(crate) fn by_astar<A>(
     alloc: A,
     edges: &[Edge],
     estimates: &[u8],
@@ -69,7 +69,7 @@ where
 }
 
 /// The same by `fringe`.
-fn by_fringe<A>(
+pub(crate) fn by_fringe<A>(
     alloc: A,
     edges: &[Edge],
     estimates: &[u8],
@@ -95,7 +95,7 @@ where
     )
 }
 
-/// Searches a list of edges, as the two above do.
+/// What a search of a list of edges answers.
 pub(crate) type Answer<A> = Result<Option<(Vec<usize, A>, u8)>, PathError>;
 
 /// Whether the answer is this path at this cost.
@@ -156,73 +156,4 @@ fn a_search_by_limits_refuses_each_growth(rt: HostRuntime) {
         assert!(rt; matches!(found, Err(PathError::OutOfMemory)));
     }
     panic!(rt; "every run met a refusal")
-}
-
-/// What stands for a cost where there is no way.
-pub(crate) const NONE: u8 = 9;
-
-/// How many edges there are between three nodes at costs up to 2, and one choice more, of none.
-pub(crate) const CHOICES: usize = 28;
-
-/// The edge of a choice. Of no edge it is one from the end to itself.
-pub(crate) fn edge_of(choice: usize) -> Edge {
-    match choice.checked_sub(1) {
-        Some(edge) => (edge / 3 % 3, edge / 9 % 3, (edge % 3) as u8),
-        None => (2, 2, 0),
-    }
-}
-
-/// What the way from each of three nodes to node 2 costs at least, by trying all edges three times.
-pub(crate) fn remaining(edges: &[Edge]) -> [u8; 3] {
-    let mut costs = [NONE, NONE, 0];
-    for _ in 0..3 {
-        for edge in edges {
-            let through = edge.2.saturating_add(entry(&costs, edge.1));
-            if edge.0 < 3 && through < costs[edge.0] {
-                costs[edge.0] = through;
-            }
-        }
-    }
-    costs
-}
-
-/// Whether both searches answer this cost, or none where there is no way.
-fn both_cost(alloc: Global, edges: &[Edge], estimates: &[u8], costs: &[u8]) -> bool
-    requires { AreBounds edges.now costs.now 2 }
-{
-    [
-        by_astar(alloc, edges, estimates, costs, 0, 2),
-        by_fringe(alloc, edges, estimates, costs, 0, 2),
-    ]
-    .iter()
-    .all(|found| match found {
-        Ok(Some((_, cost))) => *cost == entry(costs, 0),
-        Ok(None) => entry(costs, 0) == NONE,
-        Err(_) => false,
-    })
-}
-
-/// All graphs of three nodes with at most four edges of costs up to 2, under every admissible estimate
-/// up to 2.
-#[test]
-fn small_graphs_agree_with_a_plain_program(rt: HostRuntime) {
-    for choices in 0..CHOICES * CHOICES * CHOICES * CHOICES {
-        let (a, b) = (choices % CHOICES, choices / CHOICES % CHOICES);
-        let rest = choices / CHOICES / CHOICES;
-        let (c, d) = (rest % CHOICES, rest / CHOICES);
-        let rising = |low: usize, high: usize| low < high || low == 0 && high == 0;
-        if rising(a, b) && rising(b, c) && rising(c, d) {
-            let edges = [edge_of(a), edge_of(b), edge_of(c), edge_of(d)];
-            let costs = remaining(&edges);
-            if !are_bounds(&edges, &costs, 2) {
-                panic!(rt; "no estimates");
-            }
-            for estimates in 0..9u8 {
-                let (first, second) = (estimates % 3, estimates / 3);
-                if first <= costs[0] && second <= costs[1] {
-                    assert!(rt; both_cost(rt.alloc(), &edges, &[first, second], &costs));
-                }
-            }
-        }
-    }
 }

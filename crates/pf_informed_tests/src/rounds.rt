@@ -6,9 +6,11 @@ ghost use Rattle.pf_base.specs.Walks.{HasNoGoalWalk};
 ghost use Rattle.pf_informed_tests.specs.Board.{distance, entered, same_cell, steps_from};
 
 use crate::board::{enter, far, shortest_on_board};
+use crate::limits::all_cost;
+use crate::listed::{Edge, are_bounds};
 use pf_base::PathError;
 use pf_informed::directed::fringe::fringe;
-use std::alloc::Allocator;
+use std::alloc::{Allocator, Global};
 
 /// The same way by rounds of growing limits.
 pub fn shortest_in_rounds<A>(
@@ -95,6 +97,25 @@ fn has_steps<A: Allocator>(
     }
 }
 
+/// Whether each search by numbers takes this many steps from the first cell to the last, led by the
+/// Manhattan distance.
+fn numbers_agree(alloc: Global, heights: &[u8; 64], steps: u8) -> bool {
+    let mut edges = [(63, 63, 1); 4 * CELLS];
+    let mut distances = [0u8; 64];
+    for cell in 0..CELLS {
+        distances[cell] = 14 - (cell / 8 + cell % 8) as u8;
+        for (turn, next) in beside(cell).into_iter().enumerate() {
+            if turn < 4 && next < CELLS && heights[next] <= BOUND {
+                edges[4 * cell + turn] = (cell, next, 1);
+            }
+        }
+    }
+    if !are_bounds(&edges, &distances, 63) {
+        return false;
+    }
+    all_cost(alloc, &edges, &distances, &distances, (0, 63), Some(steps))
+}
+
 #[test]
 fn both_searches_take_as_many_steps_as_a_plain_program(rt: HostRuntime) {
     let mut state = 1u64;
@@ -110,6 +131,7 @@ fn both_searches_take_as_many_steps_as_a_plain_program(rt: HostRuntime) {
         let steps = steps_to_last(&heights);
         if steps < CELLS {
             ways = ways.saturating_add(1);
+            assert!(rt; numbers_agree(rt.alloc(), &heights, steps as u8));
         }
         let (size, from, to) = ((8, 8), (0, 0), (7, 7));
         let way = shortest_on_board(rt.alloc(), &heights, size, BOUND, from, to);

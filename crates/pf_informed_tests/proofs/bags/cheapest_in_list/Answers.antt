@@ -9,7 +9,7 @@ use Rattle.pf_base.proofs.Reach.{unsigned_cost}
 use Rattle.pf_base.proofs.Sources.{gives_chain}
 use Rattle.pf_informed.proofs.Callers.{estimate_of, consistent}
 use Rattle.pf_informed_tests.proofs.BagLemmas.{from_zero_up, if_some}
-use Rattle.pf_informed_tests.specs.Lists.{ends_of, edges_of}
+use Rattle.pf_informed_tests.specs.Listed.{ends_of, edges_of}
 use Rattle.pf_informed_tests.proofs.bags.cheapest_in_list.Goals as goal
 
 pub astar_bag-requires-clause-graph : goal.astar_bag-requires-clause-graph
