@@ -1,5 +1,5 @@
 -- Edges between numbers whose costs are numbers from 0 up, and answers that are there.
-use Rattle.std.proofs.Common.{◌≡◌, ℕ, ℤ, pos, List, [], ◌∷◌, Option, Some, None, nat_eq, inl, arith}
+use Rattle.std.proofs.Common.{ℕ, ℤ, pos, List, [], ◌∷◌, Option, Some, None, nat_eq, inl, arith}
 use Rattle.std.specs.Prelude.{◌≤ℤ◌, ◌+ℤ◌, Result, Ok, Err, IfOk, IfSome, MatchOption}
 use Rattle.std.proofs.lemmas.Int.{ints}
 use Rattle.pf_base.specs.Edges.{HasEdge}

@@ -37,7 +37,7 @@ where
     )
 }
 
-/// The bounds, where they are some for both goals, or else none, so that each entry is 0.
+/// The bounds, where both goals have them so, or else no bounds, which are 0 everywhere.
 fn bounds_to<'a>(edges: &[Edge], bounds: &'a [u8], goals: (usize, usize)) -> &'a [u8]
     ensures first { AreBounds edges.now result.now goals.0 }
     ensures second { AreBounds edges.now result.now goals.1 }
@@ -52,7 +52,7 @@ fn bounds_to<'a>(edges: &[Edge], bounds: &'a [u8], goals: (usize, usize)) -> &'a
 /// Gathered paths and their cost.
 pub(crate) type Found<A> = Result<Option<(Vec<Vec<usize, A>, A>, u8)>, PathError>;
 
-/// The same, gathered, by estimates that are no more than the bounds.
+/// The same, gathered, led by estimates, each no more than its bound.
 fn gathered_by<A>(
     alloc: A,
     edges: &[Edge],
@@ -81,7 +81,7 @@ where
     )
 }
 
-/// The same, led by 0 alone where the bounds are not some for both goals.
+/// The same, led by 0 alone where the bounds are none for one of the goals.
 pub fn gathered_in_list<A>(
     alloc: A,
     edges: &[Edge],

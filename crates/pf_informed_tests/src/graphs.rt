@@ -72,22 +72,22 @@ fn is_cheaper(answer: Found<Global>, first: (&[usize], u8), second: (&[usize], u
     }
 }
 
-/// Whether the cheapest paths from 0 to 2, which clean paths can be two of, are those of a plain
-/// program that tries both.
+/// Whether the cheapest paths from 0 to 2 are those of a plain program, which tries both clean paths
+/// that there can be.
 fn paths_to_last(alloc: Global, edges: &[Edge], estimates: &[u8], costs: &[u8]) -> bool {
     let over = direct(edges, 0, 1).saturating_add(direct(edges, 1, 2));
     let answer = gathered_in_list(alloc, edges, estimates, costs, 0, (2, 2));
     is_cheaper(answer, (&[0, 2], direct(edges, 0, 2)), (&[0, 1, 2], over))
 }
 
-/// The same from 0 to 1 and 2.
+/// The same from 0 to the first of 1 and 2.
 fn paths_to_either(alloc: Global, edges: &[Edge]) -> bool {
     let answer = gathered_in_list(alloc, edges, &[], &[], 0, (1, 2));
     let (first, second) = (direct(edges, 0, 1), direct(edges, 0, 2));
     is_cheaper(answer, (&[0, 1], first), (&[0, 2], second))
 }
 
-/// Under every admissible estimate up to 2.
+/// The three searches and all cheapest paths, under every admissible estimate up to 2.
 #[test]
 fn small_graphs_agree_with_plain_programs(rt: HostRuntime) {
     for choices in 0..CHOICES * CHOICES * CHOICES * CHOICES {

@@ -10,7 +10,7 @@ type Tiles = [u8; 16];
 /// The solved position.
 const SOLVED: Tiles = [1, 2, 3, 4, 5, 6, 7, 8, 9, 10, 11, 12, 13, 14, 15, 0];
 
-/// How many positions are 0, 1, 2 and more moves from the solved one.
+/// How many positions are 0, 1, 2 and up to 6 moves from the solved one, as published.
 const POSITIONS: [usize; 7] = [1, 2, 4, 10, 24, 54, 107];
 
 /// How many those are.

@@ -1,4 +1,4 @@
-//! A caller over a board of heights that goes by rounds of growing limits.
+//! A caller over a board of heights that goes by rounds of growing limits, and boards of 8 by 8.
 
 ghost use Rattle.std.specs.Prelude.{◌≡◌, ◌⊎◌, ◌*◌, ◌==◌, ◌&&◌, ◌∷◌, [], length, pos, IfOk, IfErr, MatchOption};
 ghost use Rattle.pf_base.specs.Edges.{IsSuccessor, IsCheapestGoalPath};
@@ -97,10 +97,10 @@ fn has_steps<A: Allocator>(
     }
 }
 
-/// Whether each search by numbers takes this many steps from the first cell to the last, led by the
-/// Manhattan distance.
+/// Whether each search, over the numbers of the cells, takes this many steps from the first to the
+/// last. Where there is no way, `idastar` would go along every path, and there is nothing to compare.
 fn numbers_agree(alloc: Global, heights: &[u8; 64], steps: u8) -> bool {
-    let mut edges = [(63, 63, 1); 4 * CELLS];
+    let mut edges: [Edge; 4 * CELLS] = [(63, 63, 1); 4 * CELLS];
     let mut distances = [0u8; 64];
     for cell in 0..CELLS {
         distances[cell] = 14 - (cell / 8 + cell % 8) as u8;
@@ -117,7 +117,7 @@ fn numbers_agree(alloc: Global, heights: &[u8; 64], steps: u8) -> bool {
 }
 
 #[test]
-fn both_searches_take_as_many_steps_as_a_plain_program(rt: HostRuntime) {
+fn searches_take_as_many_steps_as_a_plain_program(rt: HostRuntime) {
     let mut state = 1u64;
     let mut ways = 0u32;
     for _ in 0..100 {
