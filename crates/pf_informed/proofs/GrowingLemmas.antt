@@ -1,5 +1,5 @@
 -- A search by growing limits: no walk to a goal costs less than the limit, and a turn of its loop keeps what it knows.
-use Rattle.std.proofs.Common.{ℕ, ◌+◌, ◌≤◌, ◌≡◌, sym, subst, arith, Bool, true, List, ◌++◌, inl, inr, ℤ, pos, Some}
+use Rattle.std.proofs.Common.{ℕ, ◌≡◌, sym, subst, arith, Bool, true, List, ◌++◌, inl, inr, ℤ, pos, Some}
 use Rattle.std.specs.Prelude.{slice_get, Contains, ◌≤ℤ◌, ◌+ℤ◌, ◌⊎◌}
 use Rattle.std.proofs.lemmas.Int.{ints}
 use Rattle.std.proofs.lemmas.List.Elements.{Contains-append_left, Contains-append_right, Contains-append_cases}

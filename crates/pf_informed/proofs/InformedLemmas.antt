@@ -351,12 +351,3 @@ module _ {X C : Type 0} (value : C → ℤ) (fits : ℤ → Type 0) (step : X �
     where
       order : (a b : ℕ) → (a < b) ⊎ (b ≤ a)
       order a b = elim (int_dec (pos b) (pos a)) as (λ _. (a < b) ⊎ (b ≤ a)) [ inl l ↦ inr (omega (arith, ints, l)) | inr l ↦ inl (omega (arith, ints, l)) ]
-
--- the same, where the number is the one of the least sum
-module _ {X C : Type 0} (value : C → ℤ) (fits : ℤ → Type 0) (step : X → ℤ → X → Type 0) (passes : X → Bool) (estimates estimates' : List C) (kept : (k : ℕ) (c : C) → slice_get estimates k ≡ Some c → slice_get estimates' k ≡ Some c)
-    (found found' : ℕ) (stands stands' : ℕ → X → Type 0) (grow : Grows found found' stands stands') (labels labels' : Labels C) (inside : length labels ≤ found) (entries entries1 entries' : List (Entry C))
-    (number : ℕ) (cost : C) (taken : IsTaken value labels estimates number cost entries entries1) (fails : (x : X) → stands number x → passes x ≡ false)
-    (row : List (ℕ × C)) (lists : (x : X) → stands number x → ListsSteps value step stands' x row) (fresh : (j : ℕ) → found ≤ j → j < found' → (c : C) × Contains row (j, c)) (someone : (x : X) × stands number x)
-    (follows : Follows value fits estimates' number taken.label row labels labels' entries1 entries') (f : IsForest value labels) (i : IsInformed value fits estimates step passes stands labels entries found) where
-  pub informed_turned : IsInformed value fits estimates' step passes stands' labels' entries' found'
-  informed_turned = informed_opened value fits step passes estimates estimates' kept found found' stands stands' grow labels labels' inside entries entries1 entries' number taken.label taken.at taken.left fails row lists fresh someone follows f i

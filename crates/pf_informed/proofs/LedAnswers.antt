@@ -1,5 +1,5 @@
 -- What a search led by estimates answers, once it ends.
-use Rattle.std.proofs.Common.{◌≡◌, ◌≤◌, ◌<◌, ◌∙◌, ℕ, ℤ, pos, Bool, true, List, [], ◌∷◌, length, slice_get, refl, subst, sym, arith, inl}
+use Rattle.std.proofs.Common.{◌≡◌, ◌<◌, ℕ, ℤ, pos, Bool, true, List, [], ◌∷◌, length, slice_get, subst, sym, arith, inl}
 use Rattle.std.specs.Prelude.{◌≤ℤ◌, Option, Some, All, IsSome}
 use Rattle.std.specs.Borrow.{Bor}
 use Rattle.std.specs.Cmp.{IsEquivalence}

@@ -1,4 +1,4 @@
-use Rattle.std.proofs.Common.{rules, ◌≡◌, ◌<◌, ◌∙◌, [], ◌∷◌, List, ℕ, ℤ, Bool, true, false, true≢false, sym, subst, refl, length, Some, None}
+use Rattle.std.proofs.Common.{rules, ◌≡◌, ◌<◌, ◌∙◌, [], ◌∷◌, List, ℕ, ℤ, Bool, false, true≢false, sym, subst, refl, length, Some, None}
 use Rattle.std.specs.BinaryHeap.{heap_items}
 use Rattle.std.proofs.lemmas.List.{append-nil}
 use Rattle.pf_base.specs.Edges.{IsCheapestGoalPath}

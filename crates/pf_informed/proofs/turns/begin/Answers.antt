@@ -1,4 +1,4 @@
-use Rattle.std.proofs.Common.{◌≡◌, ◌∙◌, sym, ap, refl, pos, length, slice_get, false}
+use Rattle.std.proofs.Common.{◌≡◌, ◌∙◌, ap, refl, pos, length, slice_get, false}
 use Rattle.std.specs.BinaryHeap.{heap_items}
 use Rattle.pf_core.specs.declared.labels.Label.{Label}
 use Rattle.pf_core.specs.Nodes.{StandsFor, IsStep}

@@ -1,4 +1,4 @@
-use Rattle.std.proofs.Common.{◌<◌, ℕ, subst, length}
+use Rattle.std.proofs.Common.{◌<◌, ℕ, subst}
 use Rattle.std.proofs.lemmas.Result.{IfOk-weaker}
 use Rattle.pf_informed.proofs.turns.nodes_to.Goals as goal
 

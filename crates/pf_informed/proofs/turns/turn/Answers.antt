@@ -1,4 +1,4 @@
-use Rattle.std.proofs.Common.{◌≡◌, ◌<◌, ◌∙◌, ℕ, Bool, sym, ap, subst, arith, length, slice_get}
+use Rattle.std.proofs.Common.{◌<◌, ◌∙◌, ℕ, Bool, sym, ap, subst, arith, length}
 use Rattle.std.specs.Prelude.{◌++◌}
 use Rattle.std.specs.BinaryHeap.{heap_items}
 use Rattle.pf_base.specs.Edges.{InReach}
@@ -6,7 +6,6 @@ use Rattle.pf_core.specs.Nodes.{NodeGraph, TestedGraph, StandsFor, IsStep}
 use Rattle.pf_core.proofs.LabelLemmas.{HasLabel-inside}
 use Rattle.pf_core.proofs.UnitLemmas.{begins_all}
 use Rattle.pf_core.proofs.WalkLemmas.{no_negative}
-use Rattle.pf_informed.specs.Internal.Estimated.{IsEstimated}
 use Rattle.pf_informed.proofs.GrowingLemmas.{follows_beside, queue_beside}
 use Rattle.pf_informed.proofs.InformedLemmas.{queue_kept, informed_opened}
 use Rattle.pf_informed.proofs.KnownLemmas.{estimated_grown}

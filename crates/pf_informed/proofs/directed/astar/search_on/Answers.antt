@@ -1,4 +1,4 @@
-use Rattle.std.proofs.Common.{◌≡◌, ◌<◌, ◌∙◌, [], ◌∷◌, List, ℕ, ℤ, Bool, true, false, true≢false, sym, subst, length, inl}
+use Rattle.std.proofs.Common.{◌≡◌, ◌<◌, ◌∙◌, [], ◌∷◌, List, ℕ, ℤ, Bool, false, true≢false, sym, subst, length}
 use Rattle.std.specs.BinaryHeap.{heap_items}
 use Rattle.std.proofs.lemmas.List.{append-nil}
 use Rattle.pf_core.specs.Nodes.{NodeGraph, TestedGraph, StandsFor, IsStep}
@@ -9,7 +9,6 @@ use Rattle.pf_informed.specs.Internal.Led.{OthersWait}
 use Rattle.pf_informed.specs.Internal.Waiting.{Entry, IsQueue}
 use Rattle.pf_informed.proofs.LedAnswers.{led_above, led_best, led_none, led_past}
 use Rattle.pf_informed.proofs.LedLemmas.{informed_still, led_grown}
-use Rattle.pf_informed.proofs.Outcomes.{refused_by}
 use Rattle.pf_informed.proofs.directed.astar.search_on.Goals as goal
 
 abbrev tested : {N : Type 0} → NodeGraph N → (N → Bool) → TestedGraph N

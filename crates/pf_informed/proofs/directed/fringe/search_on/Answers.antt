@@ -1,4 +1,4 @@
-use Rattle.std.proofs.Common.{◌≡◌, ◌<◌, ◌∙◌, [], ◌∷◌, List, ℕ, ℤ, pos, Bool, true, false, true≢false, ap, sym, subst, arith, length, slice_get, inl, Some}
+use Rattle.std.proofs.Common.{◌≡◌, ◌<◌, ◌∙◌, [], ◌∷◌, List, ℕ, ℤ, Bool, true, false, true≢false, ap, sym, subst, arith, length, slice_get, Some}
 use Rattle.std.specs.Prelude.{◌≤ℤ◌, ◌++◌}
 use Rattle.std.specs.BinaryHeap.{heap_items}
 use Rattle.std.proofs.lemmas.Int.{ints}
