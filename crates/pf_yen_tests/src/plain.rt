@@ -66,7 +66,7 @@ pub(crate) fn clean_paths(
 }
 
 /// How often a path stands, at this cost, among these.
-fn times<A: Allocator>(nodes: &[usize], cost: u8, among: &[Path<A>]) -> u32 {
+pub(crate) fn times<A: Allocator>(nodes: &[usize], cost: u8, among: &[Path<A>]) -> u32 {
     let mut times = 0u32;
     for path in among {
         if path.1 == cost && path.0.as_slice() == nodes {

@@ -16,30 +16,33 @@ fn refusals_of_walk<A: Allocator>(
 ) -> Option<usize> {
     match steps {
         Ok((paths, told)) => {
-            let is_right = paths.len() == all.len()
-                && are_cheapest(paths, all)
-                && matches!(told.last(), Some(None));
             let mut refusals = 0usize;
             for answer in told {
                 if matches!(answer, Some(Err(PathError::OutOfMemory))) {
                     refusals = refusals.saturating_add(1);
                 }
             }
-            if is_right { Some(refusals) } else { None }
+            if paths.len() == all.len()
+                && are_cheapest(paths, all)
+                && matches!(told.last(), Some(None))
+            {
+                Some(refusals)
+            } else {
+                None
+            }
         }
         Err(PathError::OutOfMemory) => Some(1),
         Err(_) => None,
     }
 }
 
-/// The same of the gathered paths.
-fn refusals_of_gathering<A: Allocator>(
-    gathered: &Result<Vec<Path<A>, A>, PathError>,
-    all: &[Path<Global>],
-) -> Option<usize> {
+/// How many refusals the two searches told, if all else that they answer is right.
+fn refusals(heap: &Refusing<Global>, ample: Global, all: &[Path<Global>]) -> Option<usize> {
+    let (steps, gathered) = search_list(heap, ample, &FIVE_PATHS, 0, (5, 5), 8, 4);
+    let told = refusals_of_walk(&steps, all);
     match gathered {
-        Ok(paths) if paths.len() == 4 && are_cheapest(paths, all) => Some(0),
-        Err(PathError::OutOfMemory) => Some(1),
+        Ok(paths) if paths.len() == 4 && are_cheapest(&paths, all) => told,
+        Err(PathError::OutOfMemory) if told == Some(0) => Some(1),
         _ => None,
     }
 }
@@ -47,30 +50,15 @@ fn refusals_of_gathering<A: Allocator>(
 #[test]
 fn searches_refuse_each_growth(rt: HostRuntime) -> Result<(), Fail> {
     let all = clean_paths(rt.alloc(), &FIVE_PATHS, 0, (5, 5))?;
-    let mut refused_walks = 0u64;
     for growth in 0..1_000u64 {
         let heap = Refusing::new(rt.alloc());
         heap.refuse(growth, 1);
-        let (steps, gathered) = search_list(&heap, rt.alloc(), &FIVE_PATHS, 0, (5, 5), 8, 4);
-        let walk = refusals_of_walk(&steps, &all);
-        let gathering = refusals_of_gathering(&gathered, &all);
+        let told = refusals(&heap, rt.alloc(), &all);
         if heap.pending() > 0 {
-            assert!(rt; walk == Some(0) && gathering == Some(0));
-            assert!(rt; refused_walks > 20 && growth > refused_walks.saturating_add(20));
+            assert!(rt; growth > 40 && told == Some(0));
             return Ok(());
         }
-        let is_walk = walk == Some(1);
-        assert!(rt;
-            if is_walk {
-                gathering == Some(0)
-            } else {
-                walk == Some(0) && gathering == Some(1)
-            },
-            "growth {growth}"
-        );
-        if is_walk {
-            refused_walks = refused_walks.saturating_add(1);
-        }
+        assert!(rt; told == Some(1), "growth {growth}");
     }
     panic!(rt; "every run met a refusal")
 }

@@ -1,7 +1,7 @@
 //! The worked paths over lists of edges.
 
-use crate::listed::{Edge, Path, search_list};
-use crate::plain::{are_cheapest, clean_paths};
+use crate::listed::{Edge, search_list};
+use crate::plain::{are_by_length, are_cheapest, clean_paths, times};
 use pf_base::PathError;
 use std::alloc::Global;
 use std::test::Fail;
@@ -12,12 +12,12 @@ struct Row<'a> {
     goals: (usize, usize),
     /// What the calls of `next` tell: a cost, a refusal or `None`.
     told: &'a [Option<Result<u8, PathError>>],
-    /// How many paths are gathered.
+    /// How many paths are asked for.
     k: usize,
-    /// Their costs.
-    costs: &'a [u8],
-    /// The first of them, as far as it is not open which they are.
-    paths: &'a [&'a [usize]],
+    /// How many are gathered.
+    count: usize,
+    /// Those of them that are not open, with their costs.
+    paths: &'a [(&'a [usize], u8)],
 }
 
 /// Five clean paths from 0 to 5, two of which cost the same.
@@ -68,31 +68,36 @@ const ROWS: [Row<'static>; 7] = [
             None,
         ],
         k: 4,
-        costs: &[3, 4, 4, 5],
-        paths: &[&[0, 1, 3, 5], &[0, 2, 5], &[0, 1, 4, 5], &[0, 1, 4, 7, 5]],
+        count: 4,
+        paths: &[
+            (&[0, 1, 3, 5], 3),
+            (&[0, 2, 5], 4),
+            (&[0, 1, 4, 5], 4),
+            (&[0, 1, 4, 7, 5], 5),
+        ],
     },
     Row {
         edges: &PARALLEL,
         goals: (3, 3),
         told: &[Some(Ok(2))],
         k: 2,
-        costs: &[2, 3],
-        paths: &[&[0, 1, 3], &[0, 1, 2, 3]],
+        count: 2,
+        paths: &[(&[0, 1, 3], 2), (&[0, 1, 2, 3], 3)],
     },
     Row {
         edges: &PARALLEL,
         goals: (3, 3),
         told: &[Some(Ok(2)), Some(Ok(3)), None],
         k: 3,
-        costs: &[2, 3],
-        paths: &[&[0, 1, 3], &[0, 1, 2, 3]],
+        count: 2,
+        paths: &[(&[0, 1, 3], 2), (&[0, 1, 2, 3], 3)],
     },
     Row {
         edges: &PARALLEL,
         goals: (3, 3),
         told: &[],
         k: 0,
-        costs: &[],
+        count: 0,
         paths: &[],
     },
     Row {
@@ -109,16 +114,16 @@ const ROWS: [Row<'static>; 7] = [
             None,
         ],
         k: 3,
-        costs: &[5, 7, 8],
-        paths: &[&[0, 2, 3, 5], &[0, 2, 4, 5]],
+        count: 3,
+        paths: &[(&[0, 2, 3, 5], 5), (&[0, 2, 4, 5], 7)],
     },
     Row {
         edges: &FIVE_PATHS,
         goals: (5, 0),
         told: &[Some(Ok(0)), None],
         k: 4,
-        costs: &[0],
-        paths: &[&[0]],
+        count: 1,
+        paths: &[(&[0], 0)],
     },
     Row {
         edges: &DEAR,
@@ -131,25 +136,10 @@ const ROWS: [Row<'static>; 7] = [
             None,
         ],
         k: 1,
-        costs: &[1],
-        paths: &[&[0, 1]],
+        count: 1,
+        paths: &[(&[0, 1], 1)],
     },
 ];
-
-/// Whether the paths have these costs and begin with these paths.
-fn are_paths(paths: &[Path<Global>], costs: &[u8], first: &[&[usize]]) -> bool {
-    for (path, cost) in paths.iter().zip(costs) {
-        if path.1 != *cost {
-            return false;
-        }
-    }
-    for (path, nodes) in paths.iter().zip(first) {
-        if path.0.as_slice() != *nodes {
-            return false;
-        }
-    }
-    paths.len() == costs.len()
-}
 
 /// Whether the searches answer what the row says.
 fn answers(alloc: Global, row: &Row<'_>) -> Result<bool, PathError> {
@@ -158,11 +148,17 @@ fn answers(alloc: Global, row: &Row<'_>) -> Result<bool, PathError> {
     let (steps, gathered) = search_list(alloc, alloc, row.edges, 0, row.goals, calls, row.k);
     let (paths, told) = steps?;
     let gathered = gathered?;
+    for (nodes, cost) in row.paths {
+        if times(nodes, *cost, &gathered) != 1 {
+            return Ok(false);
+        }
+    }
     Ok(
         told.as_slice() == row.told
             && are_cheapest(&paths, &all)
-            && are_paths(&gathered, row.costs, row.paths)
-            && are_cheapest(&gathered, &all),
+            && gathered.len() == row.count
+            && are_cheapest(&gathered, &all)
+            && are_by_length(&gathered),
     )
 }
 

@@ -29,13 +29,10 @@ const PAIRS: [(usize, usize); 16] = [
 /// The edges of a set, which is given by its bits: three for each pair, one for each cost.
 fn edges_in(alloc: Global, set: u64) -> Result<Vec<Edge>, AllocError> {
     let mut edges = Vec::new(alloc);
-    let mut rest = set;
-    for pair in PAIRS {
-        for cost in 0..3u8 {
-            if rest % 2 == 1 {
-                edges.push((pair.0, pair.1, cost))?;
-            }
-            rest /= 2;
+    for number in 0..48usize {
+        if (set >> number) & 1 == 1 {
+            let (from, to) = PAIRS[number / 3];
+            edges.push((from, to, (number % 3) as u8))?;
         }
     }
     Ok(edges)
