@@ -1,6 +1,9 @@
 //! A caller over a list of edges between numbers.
 
-use pf_base::PathError;
+ghost use Rattle.std.specs.Prelude.{ℕ, ℤ, Bool, List, [], ◌∷◌, nat_eq};
+ghost use Rattle.pf_base.specs.Edges.{IsWeightedSearch};
+
+use pf_base::{EdgeFunction, NodeTest, PathError};
 use pf_yen::directed::yen::{YenPaths, yen, yen_paths};
 use std::alloc::{Allocator, Global};
 
@@ -44,8 +47,39 @@ where
     Ok((paths, told))
 }
 
-/// The first calls of `next` over the clean paths from a node to one of two goals, with `resume` after
-/// each `None`, and beside that the `k` cheapest of these paths.
+/// What the two searches answer.
+pub(crate) type Found<A> = (
+    Result<Steps<A>, PathError>,
+    Result<Vec<Path<A>, A>, PathError>,
+);
+
+/// The first calls of `next` over the clean paths from a node, with `resume` after each `None`, and
+/// beside that the `k` cheapest of these paths.
+fn search<IN, FN, FS, A>(
+    alloc: A,
+    ample: Global,
+    from: usize,
+    successors: FN,
+    success: FS,
+    calls: usize,
+    k: usize,
+) -> Found<A>
+where
+    IN: IntoIterator<Item = (usize, u8)>,
+    FN: FnMut(&usize) -> IN + Copy,
+    FS: FnMut(&usize) -> bool + Copy,
+    A: Allocator + Copy,
+    requires { (edges : ℕ → List (ℕ × ℤ)) × (test : ℕ → Bool)
+        × IsWeightedSearch nat_eq edges (from ∷ []) (⟦<FN as EdgeFunction<usize, u8>>⟧.answers successors) (⟦<FS as NodeTest<usize>>⟧.answers success) test }
+{
+    let steps = match yen_paths(alloc, &from, successors, success) {
+        Ok(walk) => steps_of(ample, walk, calls),
+        Err(refusal) => Err(refusal),
+    };
+    (steps, yen(alloc, &from, successors, success, k))
+}
+
+/// The same over the clean paths from a node to one of two goals in a list of edges.
 pub(crate) fn search_list<A>(
     alloc: A,
     ample: Global,
@@ -54,23 +88,22 @@ pub(crate) fn search_list<A>(
     goals: (usize, usize),
     calls: usize,
     k: usize,
-) -> (
-    Result<Steps<A>, PathError>,
-    Result<Vec<Path<A>, A>, PathError>,
-)
+) -> Found<A>
 where
     A: Allocator + Copy,
 {
-    let successors = |n: &usize| {
-        let node = *n;
-        edges
-            .iter()
-            .filter_map(move |e| if e.0 == node { Some((e.1, e.2)) } else { None })
-    };
-    let success = |n: &usize| *n == goals.0 || *n == goals.1;
-    let steps = match yen_paths(alloc, &from, successors, success) {
-        Ok(walk) => steps_of(ample, walk, calls),
-        Err(refusal) => Err(refusal),
-    };
-    (steps, yen(alloc, &from, successors, success, k))
+    search(
+        alloc,
+        ample,
+        from,
+        |n| {
+            let node = *n;
+            edges
+                .iter()
+                .filter_map(move |e| if e.0 == node { Some((e.1, e.2)) } else { None })
+        },
+        |n| *n == goals.0 || *n == goals.1,
+        calls,
+        k,
+    )
 }
