@@ -1,5 +1,5 @@
 -- The steps of a board lead back: a cell that a step enters has a step to the cell that it came from.
-use Rattle.std.proofs.Common.{◌≡◌, ◌∙◌, ℕ, ℤ, pos, negsuc, ◌+◌, ◌%◌, ◌^◌, ◌<◌, arith, refl, sym, ap, subst, inl, inr, Bool, true, false, true≢false, Option, Some, None, List, [], ◌∷◌, nat_lt}
+use Rattle.std.proofs.Common.{◌≡◌, ◌∙◌, ℕ, ℤ, pos, negsuc, ◌+◌, ◌%◌, ◌^◌, ◌<◌, arith, refl, sym, ap, subst, inl, inr, Bool, true, false, Option, Some, None, List, [], ◌∷◌, nat_lt}
 use Rattle.std.proofs.lemmas.Bool.{lt-ltb, ltb-true}
 use Rattle.std.specs.Prelude.{if◌then◌else◌}
 use Rattle.std.specs.Int.{cast_unsigned, w64}
@@ -35,7 +35,7 @@ module _ {D : Type 0} (f : D → Option (ℕ × ℕ)) where
 
 -- ---- a coordinate that moves comes back
 
-if_some : (b : Bool) (x t : ℕ) → (if b then Some x else None) ≡ Some t → (b ≡ true) × (x ≡ t)
+pub if_some : (b : Bool) (x t : ℕ) → (if b then Some x else None) ≡ Some t → (b ≡ true) × (x ≡ t)
 if_some true x t e = (refl, cc)
 if_some false x t e = cc
 
@@ -43,7 +43,7 @@ some_if : (b : Bool) (x : ℕ) → b ≡ true → (if b then Some x else None) �
 some_if true x e = refl
 some_if false x e = cc
 
-both_some : (x y : Option ℕ) (b : ℕ × ℕ) → pair_of x y ≡ Some b → (x ≡ Some b.0) × (y ≡ Some b.1)
+pub both_some : (x y : Option ℕ) (b : ℕ × ℕ) → pair_of x y ≡ Some b → (x ≡ Some b.0) × (y ≡ Some b.1)
 both_some None y b e = cc
 both_some (Some r) None b e = cc
 both_some (Some r) (Some c) b e = (cc, cc)
@@ -55,7 +55,7 @@ module _ (size : ℕ) (fits : size < 2 ^ 64) where
   lt_true : (f : ℕ) → f < size → nat_lt f size ≡ true
   lt_true f h = lt-ltb f size h
 
-  true_lt : (f : ℕ) → nat_lt f size ≡ true → f < size
+  pub true_lt : (f : ℕ) → nat_lt f size ≡ true → f < size
   true_lt f h = ltb-true f size h
 
   -- s and u are opposite steps

@@ -17,7 +17,7 @@ priced es = map (λ (e : (ℕ × ℕ) × ℕ). (e.0, pos e.1)) es
 -- ---- what the answers of some directions contain
 
 module _ {D : Type 0} (f : D → Option ((ℕ × ℕ) × ℕ)) where
-  edge_of : (G : Type 0) (ds : List D) (b : ℕ × ℕ) (z : ℤ) → AllByRecursion (λ d. (c : ℕ) → f d ≡ Some (b, c) → pos c ≡ z → G) ds → HasEdge same_cell (priced (filter_map f ds)) b z → G
+  pub edge_of : (G : Type 0) (ds : List D) (b : ℕ × ℕ) (z : ℤ) → AllByRecursion (λ d. (c : ℕ) → f d ≡ Some (b, c) → pos c ≡ z → G) ds → HasEdge same_cell (priced (filter_map f ds)) b z → G
   edge_of G [] b z all h = absurd h
   edge_of G (d ∷ ds) b z all h = by (f d) refl (λ k. edge_of G ds b z all.1 k) h
     where

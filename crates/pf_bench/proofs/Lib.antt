@@ -1,3 +1,5 @@
 mod RowEnds
 mod BoardMirror
 mod CrossMirror
+mod BoardEstimate
+mod TileEstimate

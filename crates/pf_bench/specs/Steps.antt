@@ -1,6 +1,6 @@
 -- The steps of the inputs: over a square board of heights, which stand row by row in one list, and in rows of edges.
-use Rattle.std.specs.Prelude.{◌+◌, ◌-◌, ◌*◌, ◌%◌, ◌^◌, ◌==◌, ◌&&◌, if◌then◌else◌, Bool, ℕ, ℤ, pos, negsuc, List, [], ◌∷◌, Option, Some, None, map, nat_lt, take, drop, slice_index, slice_index_or}
-use Rattle.std.specs.Int.{cast_unsigned, w64}
+use Rattle.std.specs.Prelude.{◌+◌, ◌-◌, ◌*◌, ◌%◌, ◌^◌, ◌==◌, ◌&&◌, if◌then◌else◌, Bool, ℕ, ℤ, pos, negsuc, List, [], ◌∷◌, Option, Some, None, map, min, nat_lt, take, drop, slice_index, slice_index_or}
+use Rattle.std.specs.Int.{abs_diff, cast_unsigned, w64}
 use Rattle.std.specs.List.{filter_map}
 use Rattle.std.specs.Option.{option_map}
 use Rattle.pf_base.specs.Moves.{pair_of}
@@ -8,6 +8,10 @@ use Rattle.pf_base.specs.Moves.{pair_of}
 -- whether two cells are one
 abbrev pub same_cell : ℕ × ℕ → ℕ × ℕ → Bool
 same_cell a b = a.0 == b.0 && a.1 == b.1
+
+-- the rows and the columns between two cells, as far as 32 bits hold the sum
+abbrev pub steps_between : ℕ × ℕ → ℕ × ℕ → ℕ
+steps_between a b = min (abs_diff a.0 b.0 + abs_diff a.1 b.1) (2 ^ 32 - 1)
 
 -- right, down, left, up
 abbrev pub four_directions : List (ℤ × ℤ)

@@ -1,6 +1,7 @@
 //! Why a run prints no line.
 
 use pf_base::PathError;
+use pf_grid::GridError;
 use pf_matrix::MatrixFormatError;
 use pf_tables::TableError;
 use std::alloc::{AllocError, AllocFailed};
@@ -25,6 +26,8 @@ pub enum BenchError {
     Table(#[from] TableError),
     #[error("{0}")]
     Matrix(#[from] MatrixFormatError),
+    #[error("{0}")]
+    Grid(#[from] GridError),
 }
 
 impl BenchError {

@@ -30,4 +30,19 @@ impl Repeats {
         }
         Ok(check(call()?))
     }
+    /// Makes the call so often, and answers the greatest number that it gave. Where all are the same,
+    /// that is the last one, and no call can be left out.
+    pub fn greatest<E, F>(self, mut call: F) -> Result<Check, BenchError>
+    where
+        E: Drop,
+        BenchError: From<E>,
+        F: FnMut() -> Result<usize, E>,
+        requires { F.IsAlwaysCallable call }
+    {
+        let mut greatest = 0usize;
+        for _call in 0..self.0 {
+            greatest = greatest.max(call()?);
+        }
+        Ok(Some(greatest as u64))
+    }
 }

@@ -13,12 +13,14 @@ use pf_search::directed::dfs::{DfsReachable, dfs_reach};
 use pf_search::directed::dijkstra::{
     Parents, dijkstra, dijkstra_all, dijkstra_bidirectional, dijkstra_reach,
 };
+use pf_search::directed::iddfs::iddfs;
 use std::alloc::Global;
 
-const START: Cell = (0, 0);
+/// The first cell of the first row.
+pub const START: Cell = (0, 0);
 
 /// Right, down, left, up.
-const DIRECTIONS: [Direction; 4] = [(0, 1), (1, 0), (0, -1), (-1, 0)];
+pub const DIRECTIONS: [Direction; 4] = [(0, 1), (1, 0), (0, -1), (-1, 0)];
 
 /// A path of `bfs`.
 fn fewest(alloc: Global, board: &Board) -> Result<Option<Vec<Cell>>, PathError> {
@@ -29,6 +31,23 @@ fn fewest(alloc: Global, board: &Board) -> Result<Option<Vec<Cell>>, PathError> 
     bfs(
         alloc,
         &starts,
+        |cell| {
+            let from = *cell;
+            directions
+                .into_iter()
+                .filter_map(move |direction| board.enter_cell(from, direction))
+        },
+        |cell| *cell == goal,
+    )
+}
+
+/// A path of `iddfs`.
+fn deepened(alloc: Global, board: &Board) -> Result<Option<Vec<Cell>>, PathError> {
+    let goal = board.last_cell();
+    let directions = DIRECTIONS;
+    iddfs(
+        alloc,
+        START,
         |cell| {
             let from = *cell;
             directions
@@ -188,6 +207,14 @@ pub fn bfs_board(alloc: Global, size: usize, repeats: Repeats) -> Result<Check, 
 {
     let board = Board::random(alloc, size)?;
     repeats.check(|| fewest(alloc, &board), edges_of)
+}
+
+/// The edges of the path.
+pub fn iddfs_board(alloc: Global, size: usize, repeats: Repeats) -> Result<Check, BenchError>
+    requires { 0 < size }
+{
+    let board = Board::random(alloc, size)?;
+    repeats.check(|| deepened(alloc, &board), edges_of)
 }
 
 /// The edges of the path.

@@ -69,3 +69,22 @@ pub fn first_row(table: Matrix<i64>) -> Check {
     }
     u64::try_from(sum).ok()
 }
+
+/// How many nodes there are.
+pub fn nodes_of(nodes: Option<usize>) -> Check {
+    Some(nodes? as u64)
+}
+
+/// What paths cost in all.
+pub fn costs_of<P: Drop>(paths: Vec<(P, u32)>) -> Check {
+    let mut sum = 0u64;
+    for path in &paths {
+        sum = sum.saturating_add(u64::from(path.1));
+    }
+    Some(sum)
+}
+
+/// The total of a flow.
+pub fn flow_of<F: Drop>((_, total, _): (F, i64, F)) -> Check {
+    u64::try_from(total).ok()
+}

@@ -1,11 +1,10 @@
 //! A square board of heights.
 
-ghost use Rattle.std.specs.Prelude.{◌≡◌, ◌<◌, ◌*◌, ◌^◌, length, IfSome};
-ghost use Rattle.pf_bench.specs.Steps.{moved_to};
+ghost use Rattle.std.specs.Prelude.{◌≡◌, ◌<◌, ◌*◌, ◌^◌, length, All, IfSome};
+ghost use Rattle.pf_bench.specs.Steps.{moved_to, steps_between};
 
 use crate::draw::Draws;
 use crate::error::BenchError;
-use crate::inputs::drawn;
 use std::alloc::Global;
 
 /// Row and column.
@@ -21,6 +20,18 @@ pub struct Board {
     heights: Vec<u8>,
     ghost from_one: { 0 < size },
     ghost square: { length heights.items ≡ size * size },
+    ghost raised: { All (λ h. 0 < h) heights.items },
+}
+
+/// The height of the highest cells of a random board.
+const HIGHEST: u8 = 9;
+
+/// How many steps lead from one cell to another at least, as far as the number fits.
+pub fn distance(from: Cell, to: Cell) -> u32
+    ensures { result ≡ steps_between from to }
+{
+    let steps = from.0.abs_diff(to.0).saturating_add(from.1.abs_diff(to.1));
+    u32::try_from(steps).unwrap_or(u32::MAX)
 }
 
 /// The coordinate that a step leads to, where it is below `size`. A step off the board at 0 wraps, and
@@ -40,11 +51,29 @@ impl Board {
     pub fn random(alloc: Global, size: usize) -> Result<Board, BenchError>
         requires { 0 < size }
     {
+        Board::with_heights(alloc, size, HIGHEST)
+    }
+
+    /// A board with height 1 everywhere.
+    pub fn flat(alloc: Global, size: usize) -> Result<Board, BenchError>
+        requires { 0 < size }
+    {
+        Board::with_heights(alloc, size, 1)
+    }
+
+    /// A board with heights from 1 to `highest`.
+    fn with_heights(alloc: Global, size: usize, highest: u8) -> Result<Board, BenchError>
+        requires from_one { 0 < size }
+        requires raised { 0 < highest }
+    {
         let Some(cells) = size.checked_mul(size) else {
             return Err(BenchError::TooLarge);
         };
         let mut draws = Draws::new();
-        let heights = drawn(alloc, cells, || 1 + draws.below(9) as u8)?;
+        let mut heights = Vec::with_capacity(alloc, cells)?;
+        for cell in 0..cells {
+            heights.push(1 + draws.below(usize::from(highest)) as u8)?;
+        }
         Ok(Board { size, heights })
     }
 

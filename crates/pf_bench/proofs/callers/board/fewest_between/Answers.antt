@@ -1,4 +1,4 @@
-use Rattle.std.proofs.Common.{rules, arith, List, [], ◌∷◌}
+use Rattle.std.proofs.Common.{rules, arith, [], ◌∷◌}
 use Rattle.pf_base.proofs.Tables.{grid_successors, pair_refl, pair_exact}
 use Rattle.pf_bench.specs.Steps.{cells_from, entered_cell, four_directions}
 use Rattle.pf_bench.proofs.BoardMirror.{cells_mirror}

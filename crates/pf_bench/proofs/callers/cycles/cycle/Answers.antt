@@ -1,4 +1,4 @@
-use Rattle.std.proofs.Common.{rules, ◌≡◌, ◌+◌, ◌*◌, ◌%◌, ◌^◌, ℕ}
+use Rattle.std.proofs.Common.{rules, ◌+◌, ◌*◌, ◌%◌, ◌^◌, ℕ}
 use Rattle.std.specs.Prelude.{⊤}
 use Rattle.pf_graph.proofs.StepCallers.{nat_step}
 use Rattle.pf_bench.proofs.callers.cycles.cycle.Goals as goal
