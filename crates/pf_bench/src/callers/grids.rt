@@ -1,7 +1,5 @@
 //! What a grid answers, and floods over its vertices.
 
-ghost use Rattle.std.specs.Prelude.{◌<◌};
-
 use crate::callers::checks::size_of;
 use crate::error::BenchError;
 use crate::inputs::grid;
@@ -64,52 +62,40 @@ fn edges(grid: &mut Grid, vertex: (usize, usize)) -> Result<usize, GridError> {
 }
 
 /// The number of vertices.
-pub fn grid_fill_grid(alloc: Global, size: usize, repeats: Repeats) -> Result<Check, BenchError>
-    requires { 0 < size }
-{
+pub fn grid_fill_grid(alloc: Global, size: usize, repeats: Repeats) -> Result<Check, BenchError> {
     let mut grid = grid(alloc, size)?;
     repeats.greatest(|| fill(&mut grid))
 }
 
 /// The number of vertices of the inverted grid.
-pub fn grid_invert_grid(alloc: Global, size: usize, repeats: Repeats) -> Result<Check, BenchError>
-    requires { 0 < size }
-{
+pub fn grid_invert_grid(alloc: Global, size: usize, repeats: Repeats) -> Result<Check, BenchError> {
     let mut grid = grid(alloc, size)?;
     repeats.greatest(|| invert(&mut grid))
 }
 
 /// The sum of all coordinates.
-pub fn grid_iter_grid(alloc: Global, size: usize, repeats: Repeats) -> Result<Check, BenchError>
-    requires { 0 < size }
-{
+pub fn grid_iter_grid(alloc: Global, size: usize, repeats: Repeats) -> Result<Check, BenchError> {
     let mut grid = grid(alloc, size)?;
     let vertex = middle_vertex(&grid);
     repeats.greatest(|| sum(&mut grid, vertex))
 }
 
 /// The number of edges.
-pub fn grid_edges_grid(alloc: Global, size: usize, repeats: Repeats) -> Result<Check, BenchError>
-    requires { 0 < size }
-{
+pub fn grid_edges_grid(alloc: Global, size: usize, repeats: Repeats) -> Result<Check, BenchError> {
     let mut grid = grid(alloc, size)?;
     let vertex = middle_vertex(&grid);
     repeats.greatest(|| edges(&mut grid, vertex))
 }
 
 /// The number of vertices that are reached.
-pub fn grid_bfs_grid(alloc: Global, size: usize, repeats: Repeats) -> Result<Check, BenchError>
-    requires { 0 < size }
-{
+pub fn grid_bfs_grid(alloc: Global, size: usize, repeats: Repeats) -> Result<Check, BenchError> {
     let grid = grid(alloc, size)?;
     let start = middle_vertex(&grid);
     repeats.check(|| grid.bfs_reachable(start, |_| true), size_of)
 }
 
 /// The number of vertices that are reached.
-pub fn grid_dfs_grid(alloc: Global, size: usize, repeats: Repeats) -> Result<Check, BenchError>
-    requires { 0 < size }
-{
+pub fn grid_dfs_grid(alloc: Global, size: usize, repeats: Repeats) -> Result<Check, BenchError> {
     let grid = grid(alloc, size)?;
     let start = middle_vertex(&grid);
     repeats.check(|| grid.dfs_reachable(start, |_| true), size_of)

@@ -1,7 +1,5 @@
 //! Calls of a grid.
 
-ghost use Rattle.std.specs.Prelude.{◌<◌};
-
 use crate::callers::grids;
 use crate::error::BenchError;
 use crate::repeats::{Check, Repeats};
@@ -33,9 +31,7 @@ impl GridJob {
     }
 
     /// Runs it on the input of this size.
-    pub fn run(self, alloc: Global, size: usize, repeats: Repeats) -> Result<Check, BenchError>
-        requires { 0 < size }
-    {
+    pub fn run(self, alloc: Global, size: usize, repeats: Repeats) -> Result<Check, BenchError> {
         match self {
             GridJob::Fill => grids::grid_fill_grid(alloc, size, repeats),
             GridJob::Invert => grids::grid_invert_grid(alloc, size, repeats),
