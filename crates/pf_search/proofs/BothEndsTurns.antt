@@ -16,7 +16,7 @@ use Rattle.pf_core.proofs.LabelLemmas.{HasLabel-inside}
 use Rattle.pf_core.proofs.SearchLemmas.{search_grows, start_alone}
 use Rattle.pf_search.specs.declared.directed.dijkstra.both_ends.Meeting.{Meeting}
 use Rattle.pf_search.specs.BothEnds.{IsCostMirror}
-use Rattle.pf_search.specs.Internal.BothEnds.{from_one, bound, IsMeeting, NoneBelowAt, IsHalf, IsPair, NoWalkAcross, NoWalkAcrossBelow}
+use Rattle.pf_search.specs.Internal.BothEnds.{from_one, bound, IsMeeting, NoneBelowAt, IsHalf, IsPair, AreEnds, NoWalkAcross, NoWalkAcrossBelow}
 use Rattle.pf_search.proofs.BothEndsLemmas.{walks_low, pair_turned, meeting_stays, meeting_swap}
 
 pub some_map : {A : Type 0} (P Q : A → Type 0) → ((x : A) → P x → Q x) → (o : Option A) → IfSome o P → IfSome o Q
@@ -153,3 +153,13 @@ module _ {N C : Type 0} (eq : N → N → Bool) (laws : IsEquivalence eq) (value
       | inr s ↦ absurd (unsettled previous end others labels' first opened only' k m e s)
     ];
   }
+
+  -- both sides before their first turns
+  pub ends_begun : (edges previous : N → List (N × ℤ)) (start end : N) (keys others : List N) (labels labels' : Labels C) (t : ℤ) (first : Label C) → first.settled ≡ false → first.depth ≡ 0 → value first.cost ≡ pos 0
+      → ((x y : N) → InReach eq edges (start ∷ []) x → eq x y ≡ true → ListsEdges eq (λ z. z) (edges x) (edges y)) → ((x y : N) → InReach eq previous (end ∷ []) x → eq x y ≡ true → ListsEdges eq (λ z. z) (previous x) (previous y)) → IsDistinct eq keys → IsDistinct eq others
+      → HasLabel labels 0 first → HasLabel labels' 0 first → ((k : ℕ) (l : Label C) → HasLabel labels k l → (k ≡ 0) × (l ≡ first)) → ((k : ℕ) (l : Label C) → HasLabel labels' k l → (k ≡ 0) × (l ≡ first)) → IsTree labels → IsTree labels'
+      → AreEnds eq edges previous start end keys others → IsPair eq value fits edges previous start end keys others labels labels' t
+  ends_begun edges previous start end keys others labels labels' t first opened flat nothing alike alike' distinct distinct' there there' only only' tree tree' ends =
+      let half = half_begun edges start keys labels first opened only ends.costs alike distinct ends.begins there flat nothing tree in
+      let half' = half_begun previous end others labels' first opened only' ends.costs_back alike' distinct' ends.begins_back there' flat nothing tree' in
+      pair_begun edges previous start end keys others labels labels' t first opened only only' half half' ends.mirror

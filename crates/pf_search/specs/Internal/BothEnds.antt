@@ -76,3 +76,12 @@ module _ {N C : Type 0} (eq : N → N → Bool) (value : C → ℤ) where
     -- no walk from the start to the end costs less than t
     abbrev pub NoWalkAcrossBelow : ℤ → Type 0
     NoWalkAcrossBelow t = (s : N) → eq start s ≡ true → (w : List N) (u : ℤ) → GoesAlong (IsStep eq (from_one start edges)) s w u → eq end (end_of s w) ≡ true → t ≤ℤ u
+
+-- The number 0 stands for the end of the search on each side, each side mirrors the other, and no edge in reach costs less than 0.
+module _ {N : Type 0} (eq : N → N → Bool) (edges previous : N → List (N × ℤ)) (start end : N) where
+  pub record AreEnds (keys others : List N) : Type 0 where
+    pub begins : (x : N) → StandsFor eq keys 0 x ↔ (eq start x ≡ true)
+    pub begins_back : (x : N) → StandsFor eq others 0 x ↔ (eq end x ≡ true)
+    pub mirror : IsCostMirror eq edges previous start end
+    pub costs : HasNoNegativeCost eq edges (start ∷ [])
+    pub costs_back : HasNoNegativeCost eq previous (end ∷ [])

@@ -10,7 +10,7 @@ ghost use Rattle.pf_core.specs.Labels.{HasLabel, IsTree};
 ghost use Rattle.pf_core.specs.Search.{IsSound};
 ghost use Rattle.pf_core.specs.Nodes.{Explores, StandsFor};
 ghost use Rattle.pf_search.specs.BothEnds.{IsWeightedSearchFromBothEnds};
-ghost use Rattle.pf_search.specs.Internal.BothEnds.{from_one, bound, IsMeeting, NoneBelowAt, AreHalves, IsPair, NoWalkAcross, NoWalkAcrossBelow};
+ghost use Rattle.pf_search.specs.Internal.BothEnds.{from_one, bound, IsMeeting, NoneBelowAt, AreHalves, IsPair, AreEnds, NoWalkAcross, NoWalkAcrossBelow};
 
 use pf_base::{Cost, EdgeFunction, PathError};
 use pf_core::both_ends::Halves;
@@ -298,6 +298,95 @@ where
     })
 }
 
+/// The path through the best meeting of two searches, `forth` from the start and `back` from the end,
+/// with its cost.
+fn path_across<N, C, IN, FN, IM, FM, A>(
+    alloc: A,
+    graph: &mut TwoSided<N, Weighted, IN, FN, IM, FM, A>,
+    forth: &mut Search<C, A>,
+    back: &mut Search<C, A>,
+) -> Result<Option<(Vec<N, A>, C)>, PathError>
+where
+    N: Eq + Hash + Clone + Drop,
+    C: Cost,
+    IN: IntoIterator<Item = (N, C)>,
+    FN: FnMut(&N) -> IN,
+    IM: IntoIterator<Item = (N, C)>,
+    FM: FnMut(&N) -> IM,
+    A: Allocator + Copy,
+    requires clones { IsLawfulClone N.eq N.is_clone }
+    requires sound_forth { IsSound C.cmp C.value forth.old.labels.items (heap_items forth.old.queue) }
+    requires sound_back { IsSound C.cmp C.value back.old.labels.items (heap_items back.old.queue) }
+    requires wide_forth { length forth.old.labels.items ≡ length graph.old.forth.nodes.keys }
+    requires wide_back { length back.old.labels.items ≡ length graph.old.back.nodes.keys }
+    requires pair { (edges previous : N → List (N × ℤ)) × (start end : N)
+        × Explores N.eq C.value (λ e. e) IN.into_iter_gives IN.IntoIter.can_next IN.IntoIter.remaining IN.IntoIter.next_gives FN.FnMut (from_one start edges) graph.old.forth.nodes.keys graph.old.forth.successors
+        × Explores N.eq C.value (λ e. e) IM.into_iter_gives IM.IntoIter.can_next IM.IntoIter.remaining IM.IntoIter.next_gives FM.FnMut (from_one end previous) graph.old.back.nodes.keys graph.old.back.successors
+        × IsPair N.eq C.value C.fits edges previous start end graph.old.forth.nodes.keys graph.old.back.nodes.keys forth.old.labels.items back.old.labels.items (C.value C.greatest +ℤ pos 1) }
+    ensures best { (edges previous : N → List (N × ℤ)) (start end : N)
+        → Explores N.eq C.value (λ e. e) IN.into_iter_gives IN.IntoIter.can_next IN.IntoIter.remaining IN.IntoIter.next_gives FN.FnMut (from_one start edges) graph.old.forth.nodes.keys graph.old.forth.successors
+        → Explores N.eq C.value (λ e. e) IM.into_iter_gives IM.IntoIter.can_next IM.IntoIter.remaining IM.IntoIter.next_gives FM.FnMut (from_one end previous) graph.old.back.nodes.keys graph.old.back.successors
+        → IsPair N.eq C.value C.fits edges previous start end graph.old.forth.nodes.keys graph.old.back.nodes.keys forth.old.labels.items back.old.labels.items (C.value C.greatest +ℤ pos 1)
+        → IfOk result (λ answer. MatchOption answer
+        (HasNoGoalWalk N.eq (IsSuccessor N.eq edges) (start ∷ []) (N.eq end))
+        (λ found. IsCheapestGoalPath N.eq edges (start ∷ []) (N.eq end) found.0.items (C.value found.1))) }
+    ensures overflow { (edges previous : N → List (N × ℤ)) (start end : N)
+        → Explores N.eq C.value (λ e. e) IN.into_iter_gives IN.IntoIter.can_next IN.IntoIter.remaining IN.IntoIter.next_gives FN.FnMut (from_one start edges) graph.old.forth.nodes.keys graph.old.forth.successors
+        → Explores N.eq C.value (λ e. e) IM.into_iter_gives IM.IntoIter.can_next IM.IntoIter.remaining IM.IntoIter.next_gives FM.FnMut (from_one end previous) graph.old.back.nodes.keys graph.old.back.successors
+        → IsPair N.eq C.value C.fits edges previous start end graph.old.forth.nodes.keys graph.old.back.nodes.keys forth.old.labels.items back.old.labels.items (C.value C.greatest +ℤ pos 1)
+        → result ≡ Err PathError.CostOverflow → IsPastRange N.eq edges (start ∷ []) (N.eq end) C.fits }
+    ensures errors { IfErr result (λ e. (e ≡ PathError.OutOfMemory) ⊎ (e ≡ PathError.CostOverflow)) }
+{
+    match best_meeting(graph, forth, back)? {
+        None => Ok(None),
+        Some(meeting) => {
+            let halves = halves_of(alloc, graph, forth, back, meeting)?;
+            let path = graph.nodes_along(alloc, &halves)?;
+            Ok(Some((path, meeting.cost)))
+        }
+    }
+}
+
+/// A cheapest path from the only node that was found on the way forth to the only one that was found
+/// on the way back, with its cost.
+fn path_between<N, C, IN, FN, IM, FM, A>(
+    alloc: A,
+    graph: &mut TwoSided<N, Weighted, IN, FN, IM, FM, A>,
+) -> Result<Option<(Vec<N, A>, C)>, PathError>
+where
+    N: Eq + Hash + Clone + Drop,
+    C: Cost,
+    IN: IntoIterator<Item = (N, C)>,
+    FN: FnMut(&N) -> IN,
+    IM: IntoIterator<Item = (N, C)>,
+    FM: FnMut(&N) -> IM,
+    A: Allocator + Copy,
+    requires clones { IsLawfulClone N.eq N.is_clone }
+    requires one_forth { length graph.old.forth.nodes.keys ≡ 1 }
+    requires one_back { length graph.old.back.nodes.keys ≡ 1 }
+    requires ends { (edges previous : N → List (N × ℤ)) × (start end : N)
+        × Explores N.eq C.value (λ e. e) IN.into_iter_gives IN.IntoIter.can_next IN.IntoIter.remaining IN.IntoIter.next_gives FN.FnMut (from_one start edges) graph.old.forth.nodes.keys graph.old.forth.successors
+        × Explores N.eq C.value (λ e. e) IM.into_iter_gives IM.IntoIter.can_next IM.IntoIter.remaining IM.IntoIter.next_gives FM.FnMut (from_one end previous) graph.old.back.nodes.keys graph.old.back.successors
+        × AreEnds N.eq edges previous start end graph.old.forth.nodes.keys graph.old.back.nodes.keys }
+    ensures best { (edges previous : N → List (N × ℤ)) (start end : N)
+        → Explores N.eq C.value (λ e. e) IN.into_iter_gives IN.IntoIter.can_next IN.IntoIter.remaining IN.IntoIter.next_gives FN.FnMut (from_one start edges) graph.old.forth.nodes.keys graph.old.forth.successors
+        → Explores N.eq C.value (λ e. e) IM.into_iter_gives IM.IntoIter.can_next IM.IntoIter.remaining IM.IntoIter.next_gives FM.FnMut (from_one end previous) graph.old.back.nodes.keys graph.old.back.successors
+        → AreEnds N.eq edges previous start end graph.old.forth.nodes.keys graph.old.back.nodes.keys
+        → IfOk result (λ answer. MatchOption answer
+        (HasNoGoalWalk N.eq (IsSuccessor N.eq edges) (start ∷ []) (N.eq end))
+        (λ found. IsCheapestGoalPath N.eq edges (start ∷ []) (N.eq end) found.0.items (C.value found.1))) }
+    ensures overflow { (edges previous : N → List (N × ℤ)) (start end : N)
+        → Explores N.eq C.value (λ e. e) IN.into_iter_gives IN.IntoIter.can_next IN.IntoIter.remaining IN.IntoIter.next_gives FN.FnMut (from_one start edges) graph.old.forth.nodes.keys graph.old.forth.successors
+        → Explores N.eq C.value (λ e. e) IM.into_iter_gives IM.IntoIter.can_next IM.IntoIter.remaining IM.IntoIter.next_gives FM.FnMut (from_one end previous) graph.old.back.nodes.keys graph.old.back.successors
+        → AreEnds N.eq edges previous start end graph.old.forth.nodes.keys graph.old.back.nodes.keys
+        → result ≡ Err PathError.CostOverflow → IsPastRange N.eq edges (start ∷ []) (N.eq end) C.fits }
+    ensures errors { IfErr result (λ e. (e ≡ PathError.OutOfMemory) ⊎ (e ≡ PathError.CostOverflow)) }
+{
+    let mut forth = Search::begin(alloc, graph.forth.nodes.len(), 0)?;
+    let mut back = Search::begin(alloc, graph.back.nodes.len(), 0)?;
+    path_across(alloc, graph, &mut forth, &mut back)
+}
+
 /// A cheapest path from `start` to `end`, with its cost, or `None` exactly where no walk leads from
 /// one to the other.
 ///
@@ -364,14 +453,5 @@ where
         form: PhantomData,
     };
     let mut graph: TwoSided<N, Weighted, IN, FN, IM, FM, A> = TwoSided { forth, back };
-    let mut search = Search::begin(alloc, graph.forth.nodes.len(), 0)?;
-    let mut search_back = Search::begin(alloc, graph.back.nodes.len(), 0)?;
-    match best_meeting(&mut graph, &mut search, &mut search_back)? {
-        None => Ok(None),
-        Some(meeting) => {
-            let halves = halves_of(alloc, &graph, &search, &search_back, meeting)?;
-            let path = graph.nodes_along(alloc, &halves)?;
-            Ok(Some((path, meeting.cost)))
-        }
-    }
+    path_between(alloc, &mut graph)
 }

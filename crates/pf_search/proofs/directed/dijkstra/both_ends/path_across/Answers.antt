@@ -1,0 +1,51 @@
+use Rattle.std.proofs.Common.{◌≡◌, pos, Err, sym, ap, subst, inl, inr}
+use Rattle.std.specs.Prelude.{◌≤ℤ◌, Result, Ok, IfErr}
+use Rattle.std.specs.Result.{IsErrAnd}
+use Rattle.pf_search.proofs.BothEndsLemmas.{labelled_node}
+use Rattle.pf_search.proofs.BothEndsPaths.{no_walk_across, joined_halves}
+use Rattle.pf_search.proofs.directed.dijkstra.both_ends.path_across.Goals as goal
+
+-- an error that is handed on
+refused_as : {A E : Type 0} (P : E → Type 0) (r : Result A E) (y : E) → IsErrAnd r (λ x. x ≡ y) → P y → IfErr r P
+refused_as P (Ok a) y h p = absurd h
+refused_as P (Err x) y h p = subst P (sym h) p
+
+pub returns-in_err-best_meeting-clause-overflow : goal.returns-in_err-best_meeting-clause-overflow
+returns-in_err-best_meeting-clause-overflow g c = λ edges previous start end x y p e.
+    c.in_err-best_meeting.ensures.overflow edges previous start end x y p (ap Err (sym (rw e at c.from_residual.ensures.1)))
+
+pub returns-in_err-best_meeting-clause-errors : goal.returns-in_err-best_meeting-clause-errors
+returns-in_err-best_meeting-clause-errors g c = refused_as _ c.from_residual.result c.in_err-best_meeting.field-0.0 c.from_residual.ensures.1 c.in_err-best_meeting.ensures.errors
+
+pub returns-in-None-clause-best : goal.returns-in-None-clause-best
+returns-in-None-clause-best g c = λ edges previous start end x y p.
+    let q = rw c.in-None.is at (c.in_ok-best_meeting.ensures.best edges previous start end x y p) in
+    no_walk_across g.N.PartialEq.eq g.met.N.Eq.laws g.C.Number.value g.C.Number.fits edges start _ _ (q.0).forth end q.1
+
+pub halves_of-requires-clause-one : goal.halves_of-requires-clause-one
+halves_of-requires-clause-one g c =
+    let r = c.requires.pair in
+    let q = (c.in_ok-best_meeting.ensures.best r.0 r.1 r.2 r.3 r.4 r.5 r.6).0 in
+    (q.back).one
+
+pub halves_of-requires-clause-costs : goal.halves_of-requires-clause-costs
+halves_of-requires-clause-costs g c = λ k l h.
+    let r = c.requires.pair in
+    let eq = g.N.PartialEq.eq in
+    let laws = g.met.N.Eq.laws in
+    let value = g.C.Number.value in
+    let fits = g.C.Number.fits in
+    let q = (c.in_ok-best_meeting.ensures.best r.0 r.1 r.2 r.3 r.4 r.5 r.6).0 in
+    elim h as (λ _. pos 0 ≤ℤ value l.cost) [
+      | inl f ↦ (labelled_node eq laws value fits r.0 r.2 _ _ q.forth k l f).3
+      | inr f ↦ (labelled_node eq laws value fits r.1 r.3 _ _ q.back k l f).3
+    ]
+
+pub returns-in_err-path-in-Some-clause-errors : goal.returns-in_err-path-in-Some-clause-errors
+returns-in_err-path-in-Some-clause-errors g c = refused_as _ c.from_residual-in_err-path-in-Some.result c.in_err-path-in-Some.field-0.0 c.from_residual-in_err-path-in-Some.ensures.1 (inl c.in_err-path-in-Some.ensures.refused)
+
+pub returns-in_ok-path-in-Some-clause-best : goal.returns-in_ok-path-in-Some-clause-best
+returns-in_ok-path-in-Some-clause-best g c = λ edges previous start end x y p.
+    let q = rw c.in-Some.is at (c.in_ok-best_meeting.ensures.best edges previous start end x y p) in
+    let n = c.in_ok-path-in-Some.ensures.nodes in
+    rw n.4 (joined_halves g.N.PartialEq.eq g.met.N.Eq.laws g.C.Number.value g.C.Number.fits edges previous start end _ _ _ _ _ q.0 (g.C.Number.value c.in-Some.meeting.cost) _ _ c.in_ok-halves-in-Some.ensures.halves q.1 n.0 n.1 n.2 n.3)
