@@ -4,3 +4,4 @@ pub mod Breadth
 pub mod Depth
 pub mod Partial
 pub mod BothEnds
+pub mod Hops

@@ -5,11 +5,49 @@ ghost use Rattle.pf_base.specs.Answers.{IsLawfulClone};
 ghost use Rattle.pf_base.specs.Successors.{HasSuccessor, IsUnweightedSearch};
 ghost use Rattle.pf_base.specs.Walks.{HasNoGoalWalk, IsGoalPath};
 ghost use Rattle.pf_search.specs.Preorder.{IsFirstTreePath};
+ghost use Rattle.pf_search.specs.Internal.Depth.{IsTestedWalk};
 
 pub use crate::directed::preorder::{DfsReachable, dfs_reach};
 use pf_base::{NodeTest, PathError, SuccessorFunction};
 use std::alloc::Allocator;
 use std::hash::Hash;
+
+/// The tree path to the first node that passes, on a walk that has given none yet.
+fn path_to_first<N, IN, FN, FS, A>(
+    alloc: A,
+    walk: &mut DfsReachable<N, IN, FN, A>,
+    success: &mut FS,
+) -> Result<Option<Vec<N, A>>, PathError>
+where
+    N: Eq + Hash + Clone + Drop,
+    IN: IntoIterator<Item = N>,
+    FN: FnMut(&N) -> IN,
+    FS: FnMut(&N) -> bool,
+    A: Allocator + Copy,
+    requires clones { IsLawfulClone N.eq N.is_clone }
+    requires graph { (next : N → List N) × (start : N) × (test : N → Bool)
+        × IsTestedWalk N.eq IN.into_iter_gives IN.IntoIter.can_next IN.IntoIter.remaining IN.IntoIter.next_gives FN.FnMut FS.FnMut next start test walk.old success.old }
+
+    ensures first { (next : N → List N) (start : N) (test : N → Bool)
+        → IsTestedWalk N.eq IN.into_iter_gives IN.IntoIter.can_next IN.IntoIter.remaining IN.IntoIter.next_gives FN.FnMut FS.FnMut next start test walk.old success.old
+        → IfOk result (λ answer. MatchOption answer
+        (HasNoGoalWalk N.eq (HasSuccessor N.eq next) (start ∷ []) test)
+        (λ path. IsGoalPath N.eq (HasSuccessor N.eq next) (start ∷ []) test path.items × IsFirstTreePath N.eq next start test path.items)) }
+
+    ensures errors { IfErr result (λ e. e ≡ PathError.OutOfMemory) }
+{
+    'nodes: for _ in 0..usize::MAX {
+        let Some(node) = walk.step()? else {
+            return Ok(None);
+        };
+        if success(&node) {
+            let path = walk.path(alloc)?;
+            return Ok(Some(path));
+        }
+    }
+    // So many nodes have no room.
+    Err(PathError::OutOfMemory)
+}
 
 /// The tree path of a depth-first search from the start to the first node that passes `success`, or
 /// `None` exactly where no walk leads from the start to such a node.
@@ -49,15 +87,5 @@ where
     ensures errors { IfErr result (λ e. e ≡ PathError.OutOfMemory) }
 {
     let mut walk = dfs_reach(alloc, start, successors)?;
-    'nodes: for _ in 0..usize::MAX {
-        let Some(node) = walk.step()? else {
-            return Ok(None);
-        };
-        if success(&node) {
-            let path = walk.path(alloc)?;
-            return Ok(Some(path));
-        }
-    }
-    // So many nodes have no room.
-    Err(PathError::OutOfMemory)
+    path_to_first(alloc, &mut walk, &mut success)
 }

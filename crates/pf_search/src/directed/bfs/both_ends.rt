@@ -1,10 +1,13 @@
 //! Paths with fewest edges, searched from both ends.
 
-ghost use Rattle.std.specs.Prelude.{◌≡◌, List, IfOk, IfErr, MatchOption};
+ghost use Rattle.std.specs.Prelude.{◌≡◌, pos, List, IfOk, IfErr, MatchOption};
 ghost use Rattle.pf_base.specs.Walks.{HasNoGoalWalk};
 ghost use Rattle.pf_base.specs.Successors.{HasSuccessor, IsFewestEdgesGoalPath};
-ghost use Rattle.pf_base.specs.Mirrors.{is_among, IsSearchFromBothEnds};
+ghost use Rattle.pf_base.specs.Mirrors.{is_among, IsMirror, IsSearchFromBothEnds};
 ghost use Rattle.pf_base.specs.Answers.{IsLawfulClone};
+ghost use Rattle.pf_core.specs.Nodes.{Explores};
+ghost use Rattle.pf_search.specs.Internal.Hops.{hops_from};
+ghost use Rattle.pf_base.specs.NodeRefs.{HasSameNodes};
 
 use pf_base::{NodeRefs, PathError, SuccessorFunction};
 use pf_core::both_ends::fewest_edges_between;
@@ -13,6 +16,44 @@ use pf_core::two_sided::TwoSided;
 use std::alloc::Allocator;
 use std::hash::Hash;
 use std::marker::PhantomData;
+
+/// A path with fewest edges from a node that was found on the way forth to one that was found on the
+/// way back.
+fn path_between<N, IN, FN, IM, FM, A>(
+    alloc: A,
+    graph: &mut TwoSided<N, Unweighted, IN, FN, IM, FM, A>,
+) -> Result<Option<Vec<N, A>>, PathError>
+where
+    N: Eq + Hash + Clone + Drop,
+    IN: IntoIterator<Item = N>,
+    FN: FnMut(&N) -> IN,
+    IM: IntoIterator<Item = N>,
+    FM: FnMut(&N) -> IM,
+    A: Allocator + Copy,
+    requires clones { IsLawfulClone N.eq N.is_clone }
+    requires graph { (next previous : N → List N) × (starts ends : List N)
+        × Explores N.eq pos (λ y. (y, 1)) IN.into_iter_gives IN.IntoIter.can_next IN.IntoIter.remaining IN.IntoIter.next_gives FN.FnMut (hops_from starts next) graph.old.forth.nodes.keys graph.old.forth.successors
+        × Explores N.eq pos (λ y. (y, 1)) IM.into_iter_gives IM.IntoIter.can_next IM.IntoIter.remaining IM.IntoIter.next_gives FM.FnMut (hops_from ends previous) graph.old.back.nodes.keys graph.old.back.successors }
+
+    ensures best { (next previous : N → List N) (starts ends : List N)
+        → Explores N.eq pos (λ y. (y, 1)) IN.into_iter_gives IN.IntoIter.can_next IN.IntoIter.remaining IN.IntoIter.next_gives FN.FnMut (hops_from starts next) graph.old.forth.nodes.keys graph.old.forth.successors
+        → Explores N.eq pos (λ y. (y, 1)) IM.into_iter_gives IM.IntoIter.can_next IM.IntoIter.remaining IM.IntoIter.next_gives FM.FnMut (hops_from ends previous) graph.old.back.nodes.keys graph.old.back.successors
+        → HasSameNodes N.eq graph.old.forth.nodes.keys starts → HasSameNodes N.eq graph.old.back.nodes.keys ends
+        → IsMirror N.eq next previous starts ends
+        → IfOk result (λ answer. MatchOption answer
+        (HasNoGoalWalk N.eq (HasSuccessor N.eq next) starts (is_among N.eq ends))
+        (λ path. IsFewestEdgesGoalPath N.eq next starts (is_among N.eq ends) path.items)) }
+
+    ensures errors { IfErr result (λ e. e ≡ PathError.OutOfMemory) }
+{
+    match fewest_edges_between::<u8, _, _>(alloc, graph)? {
+        None => Ok(None),
+        Some(halves) => {
+            let path = graph.nodes_along(alloc, &halves)?;
+            Ok(Some(path))
+        }
+    }
+}
 
 /// A path with fewest edges from one of the `starts` to one of the `ends`, or `None` exactly where no
 /// walk leads from a start to an end.
@@ -71,11 +112,5 @@ where
         form: PhantomData,
     };
     let mut graph: TwoSided<N, Unweighted, IN, FN, IM, FM, A> = TwoSided { forth, back };
-    match fewest_edges_between::<u8, _, _>(alloc, &mut graph)? {
-        None => Ok(None),
-        Some(halves) => {
-            let path = graph.nodes_along(alloc, &halves)?;
-            Ok(Some(path))
-        }
-    }
+    path_between(alloc, &mut graph)
 }

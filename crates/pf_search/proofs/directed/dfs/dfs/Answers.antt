@@ -1,79 +1,11 @@
-use Rattle.std.proofs.Common.{rules, ◌≡◌, ◌∙◌, [], ◌∷◌, ◌++◌, Bor, sym, subst, arith, length-append}
-use Rattle.std.specs.List.{AllZip}
-use Rattle.pf_base.specs.Walks.{IsReachable}
-use Rattle.pf_base.specs.Successors.{HasSuccessor}
-use Rattle.pf_base.proofs.Asking.{Answers-takes}
-use Rattle.pf_core.specs.Nodes.{StandsFor}
-use Rattle.pf_core.proofs.WalkLemmas.{same_of}
-use Rattle.pf_search.specs.DepthWalks.{IsDepthWalk}
-use Rattle.pf_search.proofs.SimplePaths.{test_on}
-use Rattle.pf_search.proofs.PreorderLemmas.{end_of_push}
-use Rattle.pf_search.proofs.PreorderPaths.{goes_none, goes_some, node_reached, numbers_inside, is_goal, none_passes, none_more}
 use Rattle.pf_search.proofs.directed.dfs.dfs.Goals as goal
 
-pub nodes-init : goal.nodes-init
-nodes-init g c = λ next test s. ([], c.in_ok-walk.ensures.graph next s.successors_answered, s.test_answered, λ x h. absurd (omega (arith, h.1)))
-
-pub step-requires-clause-graph : goal.step-requires-clause-graph
-step-requires-clause-graph g c = let r = c.requires.graph in let v = c.nodes.invariant r.0 r.1 r.2 in (r.0, c.args.start, v.0, v.1)
-
-pub returns-in_default-clause-first : goal.returns-in_default-clause-first
-returns-in_default-clause-first g c = λ next test s.
-    let eq = g.N.PartialEq.eq in
-    let v = c.nodes.invariant next test s in
-    let whole = goes_none eq next c.args.start (λ done. IsDepthWalk g.N.PartialEq.eq next c.args.start g.IN.IntoIterator.into_iter_gives g.IN.IntoIter.Iterator.can_next g.IN.IntoIter.Iterator.remaining g.IN.IntoIter.Iterator.next_gives g.FN.FnMut done c.step.new.self) v.0 c.step.result c.in_ok-node.field-0 c.in_ok-node.was c.in_default.not-Some (c.step.ensures.walks next c.args.start v.0 v.1) in
-    none_passes eq g.met.N.Eq.laws next c.args.start test s.successors_answered.alike s.test_answered.alike v.0 v.1.stands.preorder whole v.3
-
-pub success-requires : goal.success-requires
-success-requires g c =
-    let eq = g.N.PartialEq.eq in
+pub path_to_first-requires-clause-graph : goal.path_to_first-requires-clause-graph
+path_to_first-requires-clause-graph g c =
     let r = c.requires.graph in
-    let v = c.nodes.invariant r.0 r.1 r.2 in
-    let d = goes_some eq r.0 c.args.start (λ done. IsDepthWalk g.N.PartialEq.eq r.0 c.args.start g.IN.IntoIterator.into_iter_gives g.IN.IntoIter.Iterator.can_next g.IN.IntoIter.Iterator.remaining g.IN.IntoIter.Iterator.next_gives g.FN.FnMut done c.step.new.self) v.0 c.step.result c.in_ok-node.field-0 c.in-Some.node c.in_ok-node.was c.in-Some.is (c.step.ensures.walks r.0 c.args.start v.0 v.1) in
-    let reach = node_reached eq g.met.N.Eq.laws r.0 c.args.start r.1 v.0 d.0 c.in-Some.node d.3.stands.preorder d.2 in
-    let may : (p : Bor g.row.N.Denot) → p.now ≡ c.in-Some.node → g.FS.FnMut.pre c.nodes.success (p, tt) = λ p e. Answers-takes _ _ _ v.2.answers p (subst (IsReachable eq (HasSuccessor eq r.0) (c.args.start ∷ [])) (sym e) reach) in
-    search (rules, may)
+    let s = r.2 in
+    (r.0, c.args.start, r.1, record { alike = s.successors_answered.alike; walks = c.in_ok-walk.ensures.graph r.0 s.successors_answered; tested = s.test_answered })
 
-pub path-requires-clause-given : goal.path-requires-clause-given
-path-requires-clause-given g c = λ e.
-    let r = c.requires.graph in
-    let v = c.nodes.invariant r.0 r.1 r.2 in
-    let d = goes_some g.N.PartialEq.eq r.0 c.args.start (λ done. IsDepthWalk g.N.PartialEq.eq r.0 c.args.start g.IN.IntoIterator.into_iter_gives g.IN.IntoIter.Iterator.can_next g.IN.IntoIter.Iterator.remaining g.IN.IntoIter.Iterator.next_gives g.FN.FnMut done c.step.new.self) v.0 c.step.result c.in_ok-node.field-0 c.in-Some.node c.in_ok-node.was c.in-Some.is (c.step.ensures.walks r.0 c.args.start v.0 v.1) in
-    omega (arith, d.3.stands.count, length-append v.0 (d.0 ∷ []), e)
-
-pub path-requires-clause-inside : goal.path-requires-clause-inside
-path-requires-clause-inside g c =
-    let r = c.requires.graph in
-    let v = c.nodes.invariant r.0 r.1 r.2 in
-    let d = goes_some g.N.PartialEq.eq r.0 c.args.start (λ done. IsDepthWalk g.N.PartialEq.eq r.0 c.args.start g.IN.IntoIterator.into_iter_gives g.IN.IntoIter.Iterator.can_next g.IN.IntoIter.Iterator.remaining g.IN.IntoIter.Iterator.next_gives g.FN.FnMut done c.step.new.self) v.0 c.step.result c.in_ok-node.field-0 c.in-Some.node c.in_ok-node.was c.in-Some.is (c.step.ensures.walks r.0 c.args.start v.0 v.1) in
-    numbers_inside g.N.PartialEq.eq c.step.new.self.found c.step.new.self.path _ d.3.stands.path
-
-pub returns-then-success-clause-first : goal.returns-then-success-clause-first
-returns-then-success-clause-first g c = λ next test s.
-    let eq = g.N.PartialEq.eq in
-    let laws = g.met.N.Eq.laws in
-    let start = c.args.start in
-    let node = c.in-Some.node in
-    let v = c.nodes.invariant next test s in
-    let d = goes_some eq next start (λ done. IsDepthWalk g.N.PartialEq.eq next c.args.start g.IN.IntoIterator.into_iter_gives g.IN.IntoIter.Iterator.can_next g.IN.IntoIter.Iterator.remaining g.IN.IntoIter.Iterator.next_gives g.FN.FnMut done c.step.new.self) v.0 c.step.result c.in_ok-node.field-0 node c.in_ok-node.was c.in-Some.is (c.step.ensures.walks next start v.0 v.1) in
-    let reach = node_reached eq laws next start test v.0 d.0 node d.3.stands.preorder d.2 in
-    let told = test_on _ eq _ test c.nodes.success c.success.new.self _ c.success.result v.2 reach c.success.ensures in
-    let keys = c.step.new.self.found in
-    let numbers = c.step.new.self.path in
-    let items = c.in_ok-path.path.items in
-    let same = same_of eq laws keys numbers d.0 items (subst (λ l. AllZip (StandsFor eq keys) numbers l) (end_of_push [] v.0 d.0) d.3.stands.path) c.in_ok-path.ensures.nodes in (
-      is_goal eq laws next start test s.successors_answered.alike s.test_answered.alike v.0 d.0 items node d.3.stands.preorder d.2 (sym told.1 ∙ c.if-success.true) same,
-      record { earlier = v.0; tree = d.0; preorder = d.3.stands.preorder; same = same; fails = v.3 },
-    )
-
-pub nodes-preserved : goal.nodes-preserved
-nodes-preserved g c = λ next test s.
-    let eq = g.N.PartialEq.eq in
-    let laws = g.met.N.Eq.laws in
-    let start = c.args.start in
-    let node = c.in-Some.node in
-    let v = c.nodes.invariant next test s in
-    let d = goes_some eq next start (λ done. IsDepthWalk g.N.PartialEq.eq next c.args.start g.IN.IntoIterator.into_iter_gives g.IN.IntoIter.Iterator.can_next g.IN.IntoIter.Iterator.remaining g.IN.IntoIter.Iterator.next_gives g.FN.FnMut done c.step.new.self) v.0 c.step.result c.in_ok-node.field-0 node c.in_ok-node.was c.in-Some.is (c.step.ensures.walks next start v.0 v.1) in
-    let reach = node_reached eq laws next start test v.0 d.0 node d.3.stands.preorder d.2 in
-    let told = test_on _ eq _ test c.nodes.success c.success.new.self _ c.success.result v.2 reach c.success.ensures in
-    (v.0 ++ d.0 ∷ [], d.3, told.0, none_more eq laws next start test s.successors_answered.alike s.test_answered.alike v.0 d.0 node d.3.stands.preorder d.2 (sym told.1 ∙ c.if-success.false) v.3)
+pub returns-clause-first : goal.returns-clause-first
+returns-clause-first g c = λ next test s.
+    c.path_to_first.ensures.first next c.args.start test (record { alike = s.successors_answered.alike; walks = c.in_ok-walk.ensures.graph next s.successors_answered; tested = s.test_answered })
