@@ -5,3 +5,4 @@ pub mod Depth
 pub mod Partial
 pub mod BothEnds
 pub mod Hops
+pub mod Begun

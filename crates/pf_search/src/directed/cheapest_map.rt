@@ -10,6 +10,7 @@ ghost use Rattle.pf_core.specs.Numbered.{Grows};
 ghost use Rattle.pf_core.specs.Search.{IsSearch};
 ghost use Rattle.pf_core.specs.Steps.{IsNonNegative, IsTooDear};
 ghost use Rattle.pf_search.specs.Parents.{IsCheapestMap, IsPartialMap};
+ghost use Rattle.pf_search.specs.Internal.Begun.{IsBegun};
 ghost use Rattle.pf_search.specs.Internal.Partial.{IsEnded, MapsLabels};
 
 use crate::directed::parents::Parents;
@@ -84,6 +85,48 @@ where
         }
     }
     Ok(parents)
+}
+
+/// The map of the parents and costs that a search from the only node that was found comes to, and the
+/// node at which it stops.
+fn partial_map<N, C, IN, FN, FS, A>(
+    alloc: A,
+    graph: &mut Tested<N, Weighted, IN, FN, FS, A>,
+) -> Result<(Parents<N, C, A>, Option<N>), PathError>
+where
+    N: Eq + Hash + Clone + Drop,
+    C: Cost,
+    IN: IntoIterator<Item = (N, C)>,
+    FN: FnMut(&N) -> IN,
+    FS: FnMut(&N) -> bool,
+    A: Allocator + Copy,
+    requires clones { IsLawfulClone N.eq N.is_clone }
+    requires one { length graph.old.discovery.nodes.keys ≡ 1 }
+    requires graph { (edges : N → List (N × ℤ)) × (start : N) × (test : N → Bool)
+        × IsBegun N.eq C.value IN.into_iter_gives IN.IntoIter.can_next IN.IntoIter.remaining IN.IntoIter.next_gives FN.FnMut FS.FnMut edges start test graph.old.discovery.nodes.keys graph.old.discovery.successors graph.old.success
+        × HasNoNegativeCost N.eq edges (start ∷ []) }
+
+    ensures partial { (edges : N → List (N × ℤ)) (start : N) (test : N → Bool)
+        → IsBegun N.eq C.value IN.into_iter_gives IN.IntoIter.can_next IN.IntoIter.remaining IN.IntoIter.next_gives FN.FnMut FS.FnMut edges start test graph.old.discovery.nodes.keys graph.old.discovery.successors graph.old.success
+        → HasNoNegativeCost N.eq edges (start ∷ [])
+        → IfOk result (λ found. IsPartialMap N.eq edges start C.value (get N.eq found.0) test found.1) }
+
+    ensures overflow { (edges : N → List (N × ℤ)) (start : N) (test : N → Bool)
+        → IsBegun N.eq C.value IN.into_iter_gives IN.IntoIter.can_next IN.IntoIter.remaining IN.IntoIter.next_gives FN.FnMut FS.FnMut edges start test graph.old.discovery.nodes.keys graph.old.discovery.successors graph.old.success
+        → HasNoNegativeCost N.eq edges (start ∷ [])
+        → result ≡ Err PathError.CostOverflow
+        → IsPastRange N.eq edges (start ∷ []) test C.fits }
+
+    ensures errors { IfErr result (λ e. (e ≡ PathError.OutOfMemory) ⊎ (e ≡ PathError.CostOverflow)) }
+{
+    let (labels, goal) = search_to_goal(alloc, graph, 0)?;
+    let nodes = graph.discovery.nodes.as_slice();
+    let parents = map_of(alloc, nodes, &labels)?;
+    let stopped = match goal {
+        Some(number) => Some(nodes[number].clone()?),
+        None => None,
+    };
+    Ok((parents, stopped))
 }
 
 /// The parents and the cheapest costs of all nodes in reach of `start`, save the start.
@@ -199,12 +242,5 @@ where
         discovery,
         success: stop,
     };
-    let (labels, goal) = search_to_goal(alloc, &mut graph, 0)?;
-    let nodes = graph.discovery.nodes.as_slice();
-    let parents = map_of(alloc, nodes, &labels)?;
-    let stopped = match goal {
-        Some(number) => Some(nodes[number].clone()?),
-        None => None,
-    };
-    Ok((parents, stopped))
+    partial_map(alloc, &mut graph)
 }

@@ -1,9 +1,10 @@
 //! Cheapest paths (Dijkstra 1959).
 
-ghost use Rattle.std.specs.Prelude.{◌≡◌, ◌⊎◌, ◌≤◌, ◌-◌, List, [], ◌∷◌, Bool, ℤ, IfOk, IfErr, MatchOption};
+ghost use Rattle.std.specs.Prelude.{◌≡◌, ◌⊎◌, ◌≤◌, ◌-◌, List, [], ◌∷◌, Bool, ℤ, Err, IfOk, IfErr, MatchOption, length};
 ghost use Rattle.pf_base.specs.Walks.{HasNoGoalWalk, IsAtMostNumberOf};
-ghost use Rattle.pf_base.specs.Edges.{IsSuccessor, InReach, IsWeightedSearch, IsCheapestGoalPath, IsPastRange};
+ghost use Rattle.pf_base.specs.Edges.{IsSuccessor, InReach, HasNoNegativeCost, IsWeightedSearch, IsCheapestGoalPath, IsPastRange};
 ghost use Rattle.pf_base.specs.Answers.{IsLawfulClone};
+ghost use Rattle.pf_search.specs.Internal.Begun.{IsBegun};
 
 mod both_ends;
 
@@ -21,6 +22,55 @@ use pf_core::tested::Tested;
 use std::alloc::Allocator;
 use std::hash::Hash;
 use std::marker::PhantomData;
+
+/// A cheapest path from the only node that was found, with its cost and one tick of `tally` for each
+/// node whose successors are asked for.
+fn path_tallied<N, C, IN, FN, FS, A>(
+    alloc: A,
+    graph: &mut Tested<N, Weighted, IN, FN, FS, A>,
+    tally: &mut Tally,
+) -> Result<Option<(Vec<N, A>, C)>, PathError>
+where
+    N: Eq + Hash + Clone + Drop,
+    C: Cost,
+    IN: IntoIterator<Item = (N, C)>,
+    FN: FnMut(&N) -> IN,
+    FS: FnMut(&N) -> bool,
+    A: Allocator + Copy,
+    requires clones { IsLawfulClone N.eq N.is_clone }
+    requires one { length graph.old.discovery.nodes.keys ≡ 1 }
+    requires graph { (edges : N → List (N × ℤ)) × (start : N) × (test : N → Bool)
+        × IsBegun N.eq C.value IN.into_iter_gives IN.IntoIter.can_next IN.IntoIter.remaining IN.IntoIter.next_gives FN.FnMut FS.FnMut edges start test graph.old.discovery.nodes.keys graph.old.discovery.successors graph.old.success }
+
+    ensures best { (edges : N → List (N × ℤ)) (start : N) (test : N → Bool)
+        → IsBegun N.eq C.value IN.into_iter_gives IN.IntoIter.can_next IN.IntoIter.remaining IN.IntoIter.next_gives FN.FnMut FS.FnMut edges start test graph.old.discovery.nodes.keys graph.old.discovery.successors graph.old.success
+        → HasNoNegativeCost N.eq edges (start ∷ [])
+        → IfOk result (λ answer. MatchOption answer
+        (HasNoGoalWalk N.eq (IsSuccessor N.eq edges) (start ∷ []) test)
+        (λ found. IsCheapestGoalPath N.eq edges (start ∷ []) test found.0.items (C.value found.1))) }
+
+    ensures overflow { (edges : N → List (N × ℤ)) (start : N) (test : N → Bool)
+        → IsBegun N.eq C.value IN.into_iter_gives IN.IntoIter.can_next IN.IntoIter.remaining IN.IntoIter.next_gives FN.FnMut FS.FnMut edges start test graph.old.discovery.nodes.keys graph.old.discovery.successors graph.old.success
+        → HasNoNegativeCost N.eq edges (start ∷ [])
+        → result ≡ Err PathError.CostOverflow
+        → IsPastRange N.eq edges (start ∷ []) test C.fits }
+
+    ensures asked { (edges : N → List (N × ℤ)) (start : N) (test : N → Bool)
+        → IsBegun N.eq C.value IN.into_iter_gives IN.IntoIter.can_next IN.IntoIter.remaining IN.IntoIter.next_gives FN.FnMut FS.FnMut edges start test graph.old.discovery.nodes.keys graph.old.discovery.successors graph.old.success
+        → IsAtMostNumberOf N.eq (InReach N.eq edges (start ∷ [])) (tally.new - tally.old) }
+
+    ensures ticked { tally.old ≤ tally.new }
+
+    ensures errors { IfErr result (λ e. (e ≡ PathError.OutOfMemory) ⊎ (e ≡ PathError.CostOverflow)) }
+{
+    match cheapest_path(alloc, graph, 0, tally)? {
+        None => Ok(None),
+        Some((numbers, cost)) => {
+            let path = graph.nodes_at(alloc, &numbers)?;
+            Ok(Some((path, cost)))
+        }
+    }
+}
 
 /// A cheapest path from `start` to a node that passes `success`, with its cost, or `None` exactly
 /// where no walk leads from `start` to such a node.
@@ -125,11 +175,5 @@ where
         form: PhantomData,
     };
     let mut graph: Tested<N, Weighted, IN, FN, FS, A> = Tested { discovery, success };
-    match cheapest_path(alloc, &mut graph, 0, tally)? {
-        None => Ok(None),
-        Some((numbers, cost)) => {
-            let path = graph.nodes_at(alloc, &numbers)?;
-            Ok(Some((path, cost)))
-        }
-    }
+    path_tallied(alloc, &mut graph, tally)
 }

@@ -1,107 +1,26 @@
-use Rattle.std.proofs.Common.{rules, ◌≡◌, ◌<◌, [], ◌∷◌, List, ℤ, Bool, ap, sym, arith, length}
-use Rattle.std.specs.Prelude.{Err}
-use Rattle.pf_base.specs.declared.error.PathError.TheVariants.{CostOverflow}
-use Rattle.pf_core.specs.Nodes.{TestedGraph, StandsFor}
-use Rattle.pf_core.specs.NodeLaws.{StandsFor-one}
-use Rattle.pf_core.proofs.LabelLemmas.{HasLabel-inside}
-use Rattle.pf_core.proofs.ListLemmas.{at_place}
-use Rattle.pf_core.proofs.WalkLemmas.{all_starts, only_starts, no_negative, past_range}
+use Rattle.std.proofs.Common.{[], ◌∷◌, List, ℤ}
+use Rattle.pf_core.specs.Nodes.{NodeGraph}
 use Rattle.pf_core.proofs.NodeLemmas.{Explores-edges}
-use Rattle.pf_search.proofs.PartialLemmas.{parent_inside, reached_at, begins_on, whole_map, stopped_map}
-use Rattle.pf_search.proofs.directed.cheapest_map.dijkstra_partial.Goals.{in-Some+in_ok-clone-in-Some, in-None}
 use Rattle.pf_search.proofs.directed.cheapest_map.dijkstra_partial.Goals as goal
 
--- the graph that these functions answer
-abbrev tested : {N : Type 0} → N → (N → List (N × ℤ)) → (N → Bool) → TestedGraph N
-tested start edges test = record { graph = record { starts = start ∷ []; edges = edges }; test = test }
+abbrev graph_of : {N : Type 0} → N → (N → List (N × ℤ)) → NodeGraph N
+graph_of start edges = record { starts = start ∷ []; edges = edges }
 
-pub search_to_goal-requires-clause-begins : goal.search_to_goal-requires-clause-begins
-search_to_goal-requires-clause-begins g c = (c.args.start.now, (c.in_ok-clone_of.ensures.begins c.args.start.now).1 (g.met.N.Eq.laws.refl c.args.start.now))
-
-pub search_to_goal-requires-clause-graph : goal.search_to_goal-requires-clause-graph
-search_to_goal-requires-clause-graph g c =
+pub partial_map-requires-clause-graph : goal.partial_map-requires-clause-graph
+partial_map-requires-clause-graph g c =
     let r = c.requires.graph in
     let found = c.in_ok-clone_of in
-    let h = tested c.args.start.now r.0 r.1 in
-    let a = r.2.edges_answered in
-    (h, (Explores-edges g.N.PartialEq.eq g.met.N.Eq.laws _ _ _ _ _ _ h.graph found.field-0.keys _ found.ensures.distinct found.ensures.same a, r.2.test_answered), no_negative g.N.PartialEq.eq g.met.N.Eq.laws h.graph a.alike r.2.costs)
-
-pub returns-in_err-labels-clause-overflow : goal.returns-in_err-labels-clause-overflow
-returns-in_err-labels-clause-overflow g c = λ edges test s e.
-    let a = s.edges_answered in
-    let t = s.test_answered in
-    let eq = g.N.PartialEq.eq in
-    let laws = g.met.N.Eq.laws in
-    let start = c.args.start.now in
-    let found = c.in_ok-clone_of in
-    let h = tested start edges test in
-    let x = Explores-edges eq laws _ _ _ _ _ _ h.graph found.field-0.keys _ found.ensures.distinct found.ensures.same a in
-    let keys = c.search_to_goal.new.graph.discovery.nodes.keys in
-    let y = c.in_err-labels.ensures.graph h (x, t) in
-    let f : c.in_err-labels.field-0.0 ≡ CostOverflow = search rules in
-    let d = c.in_err-labels.ensures.overflow h (x, t) (no_negative eq laws h.graph a.alike s.costs) (ap Err f) in
-    past_range eq laws h.graph a.alike _ (all_starts eq start _ found.ensures.begins) (only_starts eq start _ found.ensures.begins) test g.C.Number.fits keys (StandsFor-one eq laws keys y.0.distinct) d
-
-pub map_of-requires-clause-behind : goal.map_of-requires-clause-behind
-map_of-requires-clause-behind g c =
-    let r = c.requires.graph in
-    let s = r.2 in
-    let a = s.edges_answered in
-    let eq = g.N.PartialEq.eq in
-    let laws = g.met.N.Eq.laws in
-    let start = c.args.start.now in
-    let found = c.in_ok-clone_of in
-    let h = tested start r.0 r.1 in
-    let x = Explores-edges eq laws _ _ _ _ _ _ h.graph found.field-0.keys _ found.ensures.distinct found.ensures.same a in
-    let keys = c.search_to_goal.new.graph.discovery.nodes.keys in
-    let e = c.in_ok-labels.ensures in
-    let y = e.graph h (x, s.test_answered) in
-    let labels = c.in_ok-labels.labels.items in
-    λ k l positive at.
-    let inside = parent_inside eq laws g.C.Number.value r.0 start a.alike s.costs keys (StandsFor-one eq laws keys y.0.distinct) (reached_at eq laws r.0 start keys y.0.reached) (begins_on eq start found.field-0.keys keys found.ensures.one e.grows found.ensures.begins)
-    labels e.tree (e.search h (x, s.test_answered) (no_negative eq laws h.graph a.alike s.costs)) k l (rw c.deref.ensures.value at at) positive in
-    omega (arith, inside, ap length c.as_slice-nodes.ensures.keys, e.wide)
-
-pub bounds-nodes-number : goal.bounds-nodes-number
-bounds-nodes-number g c =
-    let e = c.in_ok-labels.ensures in
-    let en = rw c.in-Some.is at e.ended in
-    let z = en.ends in
-    omega (arith, HasLabel-inside c.in_ok-labels.labels.items c.in-Some.number z.0 z.1.at, ap length c.as_slice-nodes.ensures.keys, e.wide)
-
-pub offset_bounds-nodes-number : goal.offset_bounds-nodes-number
-offset_bounds-nodes-number g c = omega (arith, bounds-nodes-number g c)
+    let x = Explores-edges g.N.PartialEq.eq g.met.N.Eq.laws _ _ _ _ _ _ (graph_of c.args.start.now r.0) found.field-0.keys _ found.ensures.distinct found.ensures.same r.2.edges_answered in
+    (r.0, c.args.start.now, r.1, record { begins = found.ensures.begins; explores = x; tested = r.2.test_answered }, r.2.costs)
 
 pub returns-clause-partial : goal.returns-clause-partial
 returns-clause-partial g c = λ edges test s.
-    let a = s.edges_answered in
-    let t = s.test_answered in
-    let eq = g.N.PartialEq.eq in
-    let laws = g.met.N.Eq.laws in
-    let start = c.args.start.now in
     let found = c.in_ok-clone_of in
-    let h = tested start edges test in
-    let x = Explores-edges eq laws _ _ _ _ _ _ h.graph found.field-0.keys _ found.ensures.distinct found.ensures.same a in
-    let keys = c.search_to_goal.new.graph.discovery.nodes.keys in
-    let e = c.in_ok-labels.ensures in
-    let y = e.graph h (x, t) in
-    let labels = c.in_ok-labels.labels.items in
-    let search = e.search h (x, t) (no_negative eq laws h.graph a.alike s.costs) in
-    let one = StandsFor-one eq laws keys y.0.distinct in
-    let reached = reached_at eq laws edges start keys y.0.reached in
-    let begins = begins_on eq start found.field-0.keys keys found.ensures.one e.grows found.ensures.begins in
-    let maps = rw (c.as_slice-nodes.ensures.keys, c.deref.ensures.value) at c.in_ok-parents.ensures.maps in
-    elim c.match-goal.branch [
-      | in-Some+in_ok-clone-in-Some w ↦
-          let number = w.in-Some.number in
-          let en = rw w.in-Some.is at e.ended in
-          let z = en.ends in
-          let inside : number < length c.as_slice-nodes.result.now = omega (arith, HasLabel-inside labels number z.0 z.1.at, ap length c.as_slice-nodes.ensures.keys, e.wide) in
-          let here = rw c.as_slice-nodes.ensures.keys at (at_place c.as_slice-nodes.result.now number w.index-nodes-number.result _ inside (sym w.index-nodes-number.is)) in
-          let node = w.in_ok-clone-in-Some.field-0 in
-          let stands : StandsFor eq keys number node = (w.index-nodes-number.result, here, c.requires.clones _ _ w.in_ok-clone-in-Some.ensures.cases) in
-          rw w.stopped-is (stopped_map eq laws g.C.Number.value edges start a.alike s.costs keys one reached begins labels e.tree search _ maps test (e.passed h (x, t)) en.order en.settled number z.0 node en.first z.1 stands ((rw w.in-Some.is at (e.goal h (x, t))) node stands))
-      | in-None w ↦
-          let en = rw w.in-None.is at e.ended in
-          rw w.stopped-is (whole_map eq laws g.C.Number.value edges start a.alike s.costs keys one reached begins labels e.tree search _ maps test (e.passed h (x, t)) en.order en.settled en.first en.ends)
-    ]
+    let x = Explores-edges g.N.PartialEq.eq g.met.N.Eq.laws _ _ _ _ _ _ (graph_of c.args.start.now edges) found.field-0.keys _ found.ensures.distinct found.ensures.same s.edges_answered in
+    c.partial_map.ensures.partial edges c.args.start.now test (record { begins = found.ensures.begins; explores = x; tested = s.test_answered }) s.costs
+
+pub returns-clause-overflow : goal.returns-clause-overflow
+returns-clause-overflow g c = λ edges test s.
+    let found = c.in_ok-clone_of in
+    let x = Explores-edges g.N.PartialEq.eq g.met.N.Eq.laws _ _ _ _ _ _ (graph_of c.args.start.now edges) found.field-0.keys _ found.ensures.distinct found.ensures.same s.edges_answered in
+    c.partial_map.ensures.overflow edges c.args.start.now test (record { begins = found.ensures.begins; explores = x; tested = s.test_answered }) s.costs

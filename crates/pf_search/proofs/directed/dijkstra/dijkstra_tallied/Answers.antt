@@ -1,97 +1,32 @@
-use Rattle.std.proofs.Common.{rules, ◌≡◌, [], ◌∷◌, List, ℤ, Bool, ap}
-use Rattle.std.specs.Prelude.{Err}
-use Rattle.pf_base.specs.declared.error.PathError.TheVariants.{CostOverflow}
-use Rattle.pf_core.specs.Nodes.{TestedGraph}
-use Rattle.pf_core.specs.NodeLaws.{StandsFor-one}
-use Rattle.pf_core.proofs.WalkLemmas.{all_starts, only_starts, no_negative, no_walk, best_answer, past_range}
-use Rattle.pf_core.proofs.NodeLemmas.{Explores-edges, at_most}
+use Rattle.std.proofs.Common.{[], ◌∷◌, List, ℤ}
+use Rattle.pf_core.specs.Nodes.{NodeGraph}
+use Rattle.pf_core.proofs.NodeLemmas.{Explores-edges}
 use Rattle.pf_search.proofs.directed.dijkstra.dijkstra_tallied.Goals as goal
 
--- the graph that these functions answer
-abbrev tested : {N : Type 0} → N → (N → List (N × ℤ)) → (N → Bool) → TestedGraph N
-tested start edges test = record { graph = record { starts = start ∷ []; edges = edges }; test = test }
+abbrev graph_of : {N : Type 0} → N → (N → List (N × ℤ)) → NodeGraph N
+graph_of start edges = record { starts = start ∷ []; edges = edges }
 
-pub cheapest_path-requires-clause-begins : goal.cheapest_path-requires-clause-begins
-cheapest_path-requires-clause-begins g c = (c.args.start.now, (c.in_ok-clone_of.ensures.begins c.args.start.now).1 (g.met.N.Eq.laws.refl c.args.start.now))
-
-pub cheapest_path-requires-clause-graph : goal.cheapest_path-requires-clause-graph
-cheapest_path-requires-clause-graph g c =
+pub path_tallied-requires-clause-graph : goal.path_tallied-requires-clause-graph
+path_tallied-requires-clause-graph g c =
     let r = c.requires.graph in
     let found = c.in_ok-clone_of in
-    let h = tested c.args.start.now r.0 r.1 in
-    (h, (Explores-edges g.N.PartialEq.eq g.met.N.Eq.laws _ _ _ _ _ _ h.graph found.field-0.keys _ found.ensures.distinct found.ensures.same r.2.edges_answered, r.2.test_answered))
-
-pub returns-in_err-cheapest_path-clause-overflow : goal.returns-in_err-cheapest_path-clause-overflow
-returns-in_err-cheapest_path-clause-overflow g c = λ edges test s e.
-    let a = s.edges_answered in
-    let t = s.test_answered in
-    let eq = g.N.PartialEq.eq in
-    let laws = g.met.N.Eq.laws in
-    let start = c.args.start.now in
-    let found = c.in_ok-clone_of in
-    let h = tested start edges test in
-    let x = Explores-edges eq laws _ _ _ _ _ _ h.graph found.field-0.keys _ found.ensures.distinct found.ensures.same a in
-    let keys = c.cheapest_path.new.graph.discovery.nodes.keys in
-    let y = c.in_err-cheapest_path.ensures.graph h (x, t) in
-    let f : c.in_err-cheapest_path.field-0.0 ≡ CostOverflow = search rules in
-    let d = c.in_err-cheapest_path.ensures.overflow h (x, t) (no_negative eq laws h.graph a.alike s.costs) (ap Err f) in
-    past_range eq laws h.graph a.alike _ (all_starts eq start _ found.ensures.begins) (only_starts eq start _ found.ensures.begins) test g.C.Number.fits keys (StandsFor-one eq laws keys y.0.distinct) d
-
-pub returns-in-None-clause-best : goal.returns-in-None-clause-best
-returns-in-None-clause-best g c = λ edges test s.
-    let a = s.edges_answered in
-    let t = s.test_answered in
-    let eq = g.N.PartialEq.eq in
-    let laws = g.met.N.Eq.laws in
-    let start = c.args.start.now in
-    let found = c.in_ok-clone_of in
-    let h = tested start edges test in
-    let x = Explores-edges eq laws _ _ _ _ _ _ h.graph found.field-0.keys _ found.ensures.distinct found.ensures.same a in
-    let b = rw c.in-None.is at (c.in_ok-cheapest_path.ensures.best h (x, t) (no_negative eq laws h.graph a.alike s.costs)) in
-    no_walk eq laws h.graph a.alike _ (all_starts eq start _ found.ensures.begins) (only_starts eq start _ found.ensures.begins) test b
-
-pub nodes_at-requires-clause-inside : goal.nodes_at-requires-clause-inside
-nodes_at-requires-clause-inside g c = λ k h. (rw c.in-Some.is at c.in_ok-cheapest_path.ensures.inside) k (rw c.deref.ensures.value at h)
+    let x = Explores-edges g.N.PartialEq.eq g.met.N.Eq.laws _ _ _ _ _ _ (graph_of c.args.start.now r.0) found.field-0.keys _ found.ensures.distinct found.ensures.same r.2.edges_answered in
+    (r.0, c.args.start.now, r.1, record { begins = found.ensures.begins; explores = x; tested = r.2.test_answered })
 
 pub returns-clause-best : goal.returns-clause-best
 returns-clause-best g c = λ edges test s.
-    let a = s.edges_answered in
-    let t = s.test_answered in
-    let eq = g.N.PartialEq.eq in
-    let laws = g.met.N.Eq.laws in
-    let start = c.args.start.now in
     let found = c.in_ok-clone_of in
-    let h = tested start edges test in
-    let x = Explores-edges eq laws _ _ _ _ _ _ h.graph found.field-0.keys _ found.ensures.distinct found.ensures.same a in
-    let keys = c.cheapest_path.new.graph.discovery.nodes.keys in
-    let y = c.in_ok-cheapest_path.ensures.graph h (x, t) in
-    let b = rw c.in-Some.is at (c.in_ok-cheapest_path.ensures.best h (x, t) (no_negative eq laws h.graph a.alike s.costs)) in
-    best_answer eq laws h.graph a.alike _ (all_starts eq start _ found.ensures.begins) (only_starts eq start _ found.ensures.begins) test t.alike keys (StandsFor-one eq laws keys y.0.distinct) c.in-Some.numbers.items c.in_ok-path-in-Some.path.items (g.C.Number.value c.in-Some.cost) b (rw c.deref.ensures.value at c.in_ok-path-in-Some.ensures.nodes)
+    let x = Explores-edges g.N.PartialEq.eq g.met.N.Eq.laws _ _ _ _ _ _ (graph_of c.args.start.now edges) found.field-0.keys _ found.ensures.distinct found.ensures.same s.edges_answered in
+    c.path_tallied.ensures.best edges c.args.start.now test (record { begins = found.ensures.begins; explores = x; tested = s.test_answered }) s.costs
 
-pub returns-in_err-path-in-Some-clause-asked : goal.returns-in_err-path-in-Some-clause-asked
-returns-in_err-path-in-Some-clause-asked g c = λ edges test a t.
+pub returns-clause-overflow : goal.returns-clause-overflow
+returns-clause-overflow g c = λ edges test s.
     let found = c.in_ok-clone_of in
-    let h = tested c.args.start.now edges test in
-    let y = c.in_ok-cheapest_path.ensures.graph h (Explores-edges g.N.PartialEq.eq g.met.N.Eq.laws _ _ _ _ _ _ h.graph found.field-0.keys _ found.ensures.distinct found.ensures.same a, t) in
-    at_most g.N.PartialEq.eq g.met.N.Eq.laws _ c.cheapest_path.new.graph.discovery.nodes.keys y.0.distinct y.0.reached _ _ c.in_ok-cheapest_path.ensures.asked
-
-pub returns-in_err-cheapest_path-clause-asked : goal.returns-in_err-cheapest_path-clause-asked
-returns-in_err-cheapest_path-clause-asked g c = λ edges test a t.
-    let found = c.in_ok-clone_of in
-    let h = tested c.args.start.now edges test in
-    let y = c.in_err-cheapest_path.ensures.graph h (Explores-edges g.N.PartialEq.eq g.met.N.Eq.laws _ _ _ _ _ _ h.graph found.field-0.keys _ found.ensures.distinct found.ensures.same a, t) in
-    at_most g.N.PartialEq.eq g.met.N.Eq.laws _ c.cheapest_path.new.graph.discovery.nodes.keys y.0.distinct y.0.reached _ _ c.in_err-cheapest_path.ensures.asked
-
-pub returns-in-None-clause-asked : goal.returns-in-None-clause-asked
-returns-in-None-clause-asked g c = λ edges test a t.
-    let found = c.in_ok-clone_of in
-    let h = tested c.args.start.now edges test in
-    let y = c.in_ok-cheapest_path.ensures.graph h (Explores-edges g.N.PartialEq.eq g.met.N.Eq.laws _ _ _ _ _ _ h.graph found.field-0.keys _ found.ensures.distinct found.ensures.same a, t) in
-    at_most g.N.PartialEq.eq g.met.N.Eq.laws _ c.cheapest_path.new.graph.discovery.nodes.keys y.0.distinct y.0.reached _ _ c.in_ok-cheapest_path.ensures.asked
+    let x = Explores-edges g.N.PartialEq.eq g.met.N.Eq.laws _ _ _ _ _ _ (graph_of c.args.start.now edges) found.field-0.keys _ found.ensures.distinct found.ensures.same s.edges_answered in
+    c.path_tallied.ensures.overflow edges c.args.start.now test (record { begins = found.ensures.begins; explores = x; tested = s.test_answered }) s.costs
 
 pub returns-clause-asked : goal.returns-clause-asked
 returns-clause-asked g c = λ edges test a t.
     let found = c.in_ok-clone_of in
-    let h = tested c.args.start.now edges test in
-    let y = c.in_ok-cheapest_path.ensures.graph h (Explores-edges g.N.PartialEq.eq g.met.N.Eq.laws _ _ _ _ _ _ h.graph found.field-0.keys _ found.ensures.distinct found.ensures.same a, t) in
-    at_most g.N.PartialEq.eq g.met.N.Eq.laws _ c.cheapest_path.new.graph.discovery.nodes.keys y.0.distinct y.0.reached _ _ c.in_ok-cheapest_path.ensures.asked
+    let x = Explores-edges g.N.PartialEq.eq g.met.N.Eq.laws _ _ _ _ _ _ (graph_of c.args.start.now edges) found.field-0.keys _ found.ensures.distinct found.ensures.same a in
+    c.path_tallied.ensures.asked edges c.args.start.now test (record { begins = found.ensures.begins; explores = x; tested = t })

@@ -1,0 +1,80 @@
+use Rattle.std.proofs.Common.{rules, ◌≡◌, [], ◌∷◌, List, ℤ, Bool, ap}
+use Rattle.std.specs.Prelude.{Err}
+use Rattle.pf_base.specs.declared.error.PathError.TheVariants.{CostOverflow}
+use Rattle.pf_core.specs.Nodes.{TestedGraph}
+use Rattle.pf_core.specs.NodeLaws.{StandsFor-one}
+use Rattle.pf_core.proofs.WalkLemmas.{all_starts, only_starts, no_negative, no_walk, best_answer, past_range}
+use Rattle.pf_core.proofs.NodeLemmas.{at_most}
+use Rattle.pf_search.proofs.directed.dijkstra.path_tallied.Goals as goal
+
+-- the graph that these functions answer
+abbrev tested : {N : Type 0} → N → (N → List (N × ℤ)) → (N → Bool) → TestedGraph N
+tested start edges test = record { graph = record { starts = start ∷ []; edges = edges }; test = test }
+
+pub cheapest_path-requires-clause-begins : goal.cheapest_path-requires-clause-begins
+cheapest_path-requires-clause-begins g c = let r = c.requires.graph in (r.1, (r.3.begins r.1).1 (g.met.N.Eq.laws.refl r.1))
+
+pub cheapest_path-requires-clause-graph : goal.cheapest_path-requires-clause-graph
+cheapest_path-requires-clause-graph g c = let r = c.requires.graph in (tested r.1 r.0 r.2, (r.3.explores, r.3.tested))
+
+pub returns-in_err-cheapest_path-clause-overflow : goal.returns-in_err-cheapest_path-clause-overflow
+returns-in_err-cheapest_path-clause-overflow g c = λ edges start test s costs e.
+    let t = s.tested in
+    let eq = g.N.PartialEq.eq in
+    let laws = g.met.N.Eq.laws in
+    let h = tested start edges test in
+    let x = s.explores in
+    let keys = c.cheapest_path.new.graph.discovery.nodes.keys in
+    let y = c.in_err-cheapest_path.ensures.graph h (x, t) in
+    let f : c.in_err-cheapest_path.field-0.0 ≡ CostOverflow = search rules in
+    let d = c.in_err-cheapest_path.ensures.overflow h (x, t) (no_negative eq laws h.graph x.alike costs) (ap Err f) in
+    past_range eq laws h.graph x.alike _ (all_starts eq start _ s.begins) (only_starts eq start _ s.begins) test g.C.Number.fits keys (StandsFor-one eq laws keys y.0.distinct) d
+
+pub returns-in-None-clause-best : goal.returns-in-None-clause-best
+returns-in-None-clause-best g c = λ edges start test s costs.
+    let t = s.tested in
+    let eq = g.N.PartialEq.eq in
+    let laws = g.met.N.Eq.laws in
+    let h = tested start edges test in
+    let x = s.explores in
+    let b = rw c.in-None.is at (c.in_ok-cheapest_path.ensures.best h (x, t) (no_negative eq laws h.graph x.alike costs)) in
+    no_walk eq laws h.graph x.alike _ (all_starts eq start _ s.begins) (only_starts eq start _ s.begins) test b
+
+pub nodes_at-requires-clause-inside : goal.nodes_at-requires-clause-inside
+nodes_at-requires-clause-inside g c = λ k h. (rw c.in-Some.is at c.in_ok-cheapest_path.ensures.inside) k (rw c.deref.ensures.value at h)
+
+pub returns-in_ok-path-in-Some-clause-best : goal.returns-in_ok-path-in-Some-clause-best
+returns-in_ok-path-in-Some-clause-best g c = λ edges start test s costs.
+    let t = s.tested in
+    let eq = g.N.PartialEq.eq in
+    let laws = g.met.N.Eq.laws in
+    let h = tested start edges test in
+    let x = s.explores in
+    let keys = c.cheapest_path.new.graph.discovery.nodes.keys in
+    let y = c.in_ok-cheapest_path.ensures.graph h (x, t) in
+    let b = rw c.in-Some.is at (c.in_ok-cheapest_path.ensures.best h (x, t) (no_negative eq laws h.graph x.alike costs)) in
+    best_answer eq laws h.graph x.alike _ (all_starts eq start _ s.begins) (only_starts eq start _ s.begins) test t.alike keys (StandsFor-one eq laws keys y.0.distinct) c.in-Some.numbers.items c.in_ok-path-in-Some.path.items (g.C.Number.value c.in-Some.cost) b (rw c.deref.ensures.value at c.in_ok-path-in-Some.ensures.nodes)
+
+pub returns-in_err-path-in-Some-clause-asked : goal.returns-in_err-path-in-Some-clause-asked
+returns-in_err-path-in-Some-clause-asked g c = λ edges start test s.
+    let h = tested start edges test in
+    let y = c.in_ok-cheapest_path.ensures.graph h (s.explores, s.tested) in
+    at_most g.N.PartialEq.eq g.met.N.Eq.laws _ c.cheapest_path.new.graph.discovery.nodes.keys y.0.distinct y.0.reached _ _ c.in_ok-cheapest_path.ensures.asked
+
+pub returns-in_err-cheapest_path-clause-asked : goal.returns-in_err-cheapest_path-clause-asked
+returns-in_err-cheapest_path-clause-asked g c = λ edges start test s.
+    let h = tested start edges test in
+    let y = c.in_err-cheapest_path.ensures.graph h (s.explores, s.tested) in
+    at_most g.N.PartialEq.eq g.met.N.Eq.laws _ c.cheapest_path.new.graph.discovery.nodes.keys y.0.distinct y.0.reached _ _ c.in_err-cheapest_path.ensures.asked
+
+pub returns-in-None-clause-asked : goal.returns-in-None-clause-asked
+returns-in-None-clause-asked g c = λ edges start test s.
+    let h = tested start edges test in
+    let y = c.in_ok-cheapest_path.ensures.graph h (s.explores, s.tested) in
+    at_most g.N.PartialEq.eq g.met.N.Eq.laws _ c.cheapest_path.new.graph.discovery.nodes.keys y.0.distinct y.0.reached _ _ c.in_ok-cheapest_path.ensures.asked
+
+pub returns-in_ok-path-in-Some-clause-asked : goal.returns-in_ok-path-in-Some-clause-asked
+returns-in_ok-path-in-Some-clause-asked g c = λ edges start test s.
+    let h = tested start edges test in
+    let y = c.in_ok-cheapest_path.ensures.graph h (s.explores, s.tested) in
+    at_most g.N.PartialEq.eq g.met.N.Eq.laws _ c.cheapest_path.new.graph.discovery.nodes.keys y.0.distinct y.0.reached _ _ c.in_ok-cheapest_path.ensures.asked
