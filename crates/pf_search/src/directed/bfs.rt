@@ -1,9 +1,14 @@
 //! Paths with fewest edges (breadth-first search).
 
-ghost use Rattle.std.specs.Prelude.{◌≡◌, List, Bool, IfOk, IfErr, MatchOption};
+ghost use Rattle.std.specs.Prelude.{◌≡◌, pos, List, Bool, IfOk, IfErr, MatchOption};
 ghost use Rattle.pf_base.specs.Walks.{HasNoGoalWalk};
 ghost use Rattle.pf_base.specs.Successors.{HasSuccessor, IsUnweightedSearch, IsFewestEdgesGoalPath};
-ghost use Rattle.pf_base.specs.Answers.{IsLawfulClone};
+ghost use Rattle.pf_base.specs.Answers.{IsLawfulClone, AnswersTest};
+ghost use Rattle.pf_base.specs.Edges.{InReach};
+ghost use Rattle.pf_base.specs.NodeRefs.{HasSameNodes};
+ghost use Rattle.pf_core.specs.Hops.{unit_edges};
+ghost use Rattle.pf_core.specs.Nodes.{Explores};
+ghost use Rattle.pf_search.specs.Internal.Hops.{hops_from};
 
 mod both_ends;
 mod loops;
@@ -18,6 +23,41 @@ use pf_core::tested::Tested;
 use std::alloc::Allocator;
 use std::hash::Hash;
 use std::marker::PhantomData;
+
+/// A path with fewest edges from a node that was found before to one that passes.
+fn path_from<N, IN, FN, FS, A>(
+    alloc: A,
+    graph: &mut Tested<N, Unweighted, IN, FN, FS, A>,
+) -> Result<Option<Vec<N, A>>, PathError>
+where
+    N: Eq + Hash + Clone + Drop,
+    IN: IntoIterator<Item = N>,
+    FN: FnMut(&N) -> IN,
+    FS: FnMut(&N) -> bool,
+    A: Allocator + Copy,
+    requires clones { IsLawfulClone N.eq N.is_clone }
+    requires graph { (next : N → List N) × (starts : List N) × (test : N → Bool)
+        × Explores N.eq pos (λ y. (y, 1)) IN.into_iter_gives IN.IntoIter.can_next IN.IntoIter.remaining IN.IntoIter.next_gives FN.FnMut (hops_from starts next) graph.old.discovery.nodes.keys graph.old.discovery.successors
+        × AnswersTest FS.FnMut N.eq graph.old.success (InReach N.eq (unit_edges next) starts) test }
+
+    ensures best { (next : N → List N) (starts : List N) (test : N → Bool)
+        → Explores N.eq pos (λ y. (y, 1)) IN.into_iter_gives IN.IntoIter.can_next IN.IntoIter.remaining IN.IntoIter.next_gives FN.FnMut (hops_from starts next) graph.old.discovery.nodes.keys graph.old.discovery.successors
+        → AnswersTest FS.FnMut N.eq graph.old.success (InReach N.eq (unit_edges next) starts) test
+        → HasSameNodes N.eq graph.old.discovery.nodes.keys starts
+        → IfOk result (λ answer. MatchOption answer
+        (HasNoGoalWalk N.eq (HasSuccessor N.eq next) starts test)
+        (λ path. IsFewestEdgesGoalPath N.eq next starts test path.items)) }
+
+    ensures errors { IfErr result (λ e. e ≡ PathError.OutOfMemory) }
+{
+    match fewest_edges_path::<u8, _, _>(alloc, graph)? {
+        None => Ok(None),
+        Some(numbers) => {
+            let path = graph.nodes_at(alloc, &numbers)?;
+            Ok(Some(path))
+        }
+    }
+}
 
 /// A path with fewest edges from one of the `starts` to a node that passes `success`, or `None`
 /// exactly where no walk leads from a start to such a node.
@@ -65,11 +105,5 @@ where
         form: PhantomData,
     };
     let mut graph: Tested<N, Unweighted, IN, FN, FS, A> = Tested { discovery, success };
-    match fewest_edges_path::<u8, _, _>(alloc, &mut graph)? {
-        None => Ok(None),
-        Some(numbers) => {
-            let path = graph.nodes_at(alloc, &numbers)?;
-            Ok(Some(path))
-        }
-    }
+    path_from(alloc, &mut graph)
 }

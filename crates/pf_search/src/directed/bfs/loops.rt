@@ -1,10 +1,13 @@
 //! Loops with fewest edges.
 
-ghost use Rattle.std.specs.Prelude.{◌≡◌, List, IfOk, IfErr, MatchOption};
+ghost use Rattle.std.specs.Prelude.{◌≡◌, pos, List, IfOk, IfErr, MatchOption};
 ghost use Rattle.pf_base.specs.Walks.{IsReachable};
 ghost use Rattle.pf_base.specs.Successors.{HasSuccessor};
 ghost use Rattle.pf_base.specs.Loops.{HasNoLoop, IsBestLoop};
 ghost use Rattle.pf_base.specs.Answers.{IsLawfulClone};
+ghost use Rattle.pf_base.specs.NodeRefs.{HasSameNodes};
+ghost use Rattle.pf_core.specs.Nodes.{Explores};
+ghost use Rattle.pf_search.specs.Internal.Hops.{hops_from};
 
 use pf_base::{NodeRefs, PathError, SuccessorFunction};
 use pf_core::discovery::{Discovery, Unweighted, clones_at, clones_of};
@@ -12,6 +15,37 @@ use pf_core::fewest_loop::fewest_edges_loop;
 use std::alloc::Allocator;
 use std::hash::Hash;
 use std::marker::PhantomData;
+
+/// A walk of at least one step, with fewest edges, from a node that was found before to another or the
+/// same.
+fn loop_from<N, IN, FN, A>(
+    alloc: A,
+    graph: &mut Discovery<N, Unweighted, IN, FN, A>,
+) -> Result<Option<Vec<N, A>>, PathError>
+where
+    N: Eq + Hash + Clone + Drop,
+    IN: IntoIterator<Item = N>,
+    FN: FnMut(&N) -> IN,
+    A: Allocator + Copy,
+    requires clones { IsLawfulClone N.eq N.is_clone }
+    requires graph { (next : N → List N) × (starts : List N)
+        × Explores N.eq pos (λ y. (y, 1)) IN.into_iter_gives IN.IntoIter.can_next IN.IntoIter.remaining IN.IntoIter.next_gives FN.FnMut (hops_from starts next) graph.old.nodes.keys graph.old.successors }
+
+    ensures best { (next : N → List N) (starts : List N)
+        → Explores N.eq pos (λ y. (y, 1)) IN.into_iter_gives IN.IntoIter.can_next IN.IntoIter.remaining IN.IntoIter.next_gives FN.FnMut (hops_from starts next) graph.old.nodes.keys graph.old.successors
+        → HasSameNodes N.eq graph.old.nodes.keys starts
+        → IfOk result (λ answer. MatchOption answer (HasNoLoop N.eq next starts) (λ path. IsBestLoop N.eq next starts path.items)) }
+
+    ensures errors { IfErr result (λ e. e ≡ PathError.OutOfMemory) }
+{
+    match fewest_edges_loop::<u8, _, _>(alloc, graph)? {
+        None => Ok(None),
+        Some(numbers) => {
+            let path = clones_at(alloc, graph.nodes.as_slice(), &numbers)?;
+            Ok(Some(path))
+        }
+    }
+}
 
 /// A walk of at least one step, with fewest edges, from one of the `starts` to one of them, or `None`
 /// exactly where there is no such walk.
@@ -53,11 +87,5 @@ where
         successors,
         form: PhantomData,
     };
-    match fewest_edges_loop::<u8, _, _>(alloc, &mut graph)? {
-        None => Ok(None),
-        Some(numbers) => {
-            let path = clones_at(alloc, graph.nodes.as_slice(), &numbers)?;
-            Ok(Some(path))
-        }
-    }
+    loop_from(alloc, &mut graph)
 }
