@@ -1,15 +1,29 @@
 -- Lemmas on numbers in groups, by rounds.
 use Rattle.std.proofs.Common.{◌≡◌, ◌≢◌, ◌<◌, ◌≤◌, ◌+◌, ◌∙◌, ℕ, zero, suc, refl, sym, ap, subst, arith, inl, inr, Bool, true, false, true≢false, cond, Some, List, [], ◌∷◌, ◌++◌, length, length-append, replicate, take, nat_eq, eq-eqb, get_or}
-use Rattle.std.specs.Prelude.{◌⊎◌, ◌↔◌, Vec, slice_get, slice_set, nat_lt}
+use Rattle.std.specs.Prelude.{◌⊎◌, ◌↔◌, Vec, slice_get, slice_set, nat_lt, Result, Ok, Err, IfErr, IsErrAnd}
 use Rattle.std.proofs.lemmas.Bool.{lt-ltb, ltb-true}
 use Rattle.std.proofs.lemmas.List.Sums.{sum_by-append, sum_by-set}
 use Rattle.std.proofs.lemmas.Option.{slice_get_within}
 use borrow.Author.Tests.{eqb-true}
 use Rattle.pf_base.specs.Walks.{HasNode, NoRepeats}
+use Rattle.pf_base.specs.declared.error.PathError.{PathError}
+use Rattle.pf_base.specs.declared.error.PathError.TheVariants.{OutOfMemory, UnknownVertex}
 use Rattle.pf_core.proofs.ListLemmas.{nat_dec, bool_dec, get_set, get-append, get-append_cases, none_in}
 use Rattle.pf_core.proofs.PathLemmas.{HasNode-append_cases, NoRepeats-append}
 use Rattle.pf_orders.specs.GroupDepths.{InGroup}
 use Rattle.pf_orders.specs.Rounds.{times, times_in, Targets, AreCounted, Falls, AreFreed, IsRound, AreLevels}
+
+-- ---- refusals
+
+-- a refusal of memory is no other
+pub only_memory : {X : Type 0} (r : Result X PathError) (e : PathError) → IsErrAnd r (λ f. f ≡ e) → e ≡ OutOfMemory → ¬ (r ≡ Err UnknownVertex)
+only_memory (Ok x) e h m u = cc
+only_memory (Err f) e h m u = let same : f ≡ e = h in cc
+
+-- a refusal of memory is one of the refusals
+pub memory_of : {X : Type 0} (r : Result X PathError) (e : PathError) → IsErrAnd r (λ f. f ≡ e) → e ≡ OutOfMemory → IfErr r (λ f. (f ≡ OutOfMemory) ⊎ (f ≡ UnknownVertex))
+memory_of (Ok x) e h m = tt
+memory_of (Err f) e h m = let same : f ≡ e = h in inl (same ∙ m)
 
 -- ---- lists
 
