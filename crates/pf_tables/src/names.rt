@@ -1,6 +1,6 @@
 //! Names that are numbered in the order in which they are first met.
 
-ghost use Rattle.std.specs.Prelude.{◌≡◌, map, IfOk};
+ghost use Rattle.std.specs.Prelude.{◌≡◌, [], map, IfOk, OnOk};
 ghost use Rattle.pf_base.specs.NodeRefs.{nodes_of};
 ghost use Rattle.pf_tables.specs.EdgeLists.{names_of, number_in};
 
@@ -19,6 +19,29 @@ pub struct Numbered<'e, N: Eq + Hash, C, A: Allocator> {
     pub edges: Vec<(usize, usize, C), A>,
 }
 
+/// Numbers the names of edges, and puts the edges between the numbers into `numbered`.
+fn add_edges<'e, N, C, A>(
+    names: &mut Names<'e, N, A>,
+    numbered: &mut Vec<(usize, usize, C), A>,
+    edges: &'e [(N, N, C)],
+) -> Result<(), AllocError>
+where
+    N: Eq + Hash,
+    C: Cost,
+    A: Allocator + Copy,
+    requires first { names.old.keys ≡ [] }
+    requires none { numbered.old.items ≡ [] }
+    ensures names { OnOk result (nodes_of names.new.keys ≡ names_of N.eq edges.now) }
+    ensures numbered { OnOk result (numbered.new.items ≡ map (λ e. (number_in N.eq (names_of N.eq edges.now) e.0, number_in N.eq (names_of N.eq edges.now) e.1, e.2)) edges.now) }
+{
+    for edge in edges {
+        let from = names.insert_full(&edge.0)?.0;
+        let to = names.insert_full(&edge.1)?.0;
+        numbered.push((from, to, edge.2))?;
+    }
+    Ok(())
+}
+
 /// Numbers the names of edges, and gives the edges between the numbers.
 pub fn number_edges<'e, N, C, A>(
     alloc: A,
@@ -33,11 +56,7 @@ where
 {
     let mut names = IndexSet::new(alloc);
     let mut numbered = Vec::with_capacity(alloc, edges.len())?;
-    for edge in edges {
-        let from = names.insert_full(&edge.0)?.0;
-        let to = names.insert_full(&edge.1)?.0;
-        numbered.push((from, to, edge.2))?;
-    }
+    add_edges(&mut names, &mut numbered, edges)?;
     Ok(Numbered {
         names,
         edges: numbered,

@@ -2,7 +2,7 @@ use Rattle.std.proofs.Common.{◌≡◌, take, map}
 use Rattle.pf_base.specs.NodeRefs.{nodes_of}
 use Rattle.pf_tables.specs.EdgeLists.{names_of}
 use Rattle.pf_tables.proofs.NumberedNames.{numbered}
-use Rattle.pf_tables.proofs.names.number_edges.Given as goal
+use Rattle.pf_tables.proofs.names.add_edges.Given as goal
 
 -- the edges so far are numbered by their names
 abbrev pub invariant-loop-edge : goal.invariant-loop-edge

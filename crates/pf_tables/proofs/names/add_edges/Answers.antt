@@ -4,7 +4,7 @@ use Rattle.indexmap.specs.IndexSet.{insert_key}
 use Rattle.pf_base.specs.NodeRefs.{nodes_of}
 use Rattle.pf_tables.specs.EdgeLists.{names_of, number_in}
 use Rattle.pf_tables.proofs.NumberedNames.{numbered, more_names, more_numbers, refs_insert, refs_number}
-use Rattle.pf_tables.proofs.names.number_edges.Goals as goal
+use Rattle.pf_tables.proofs.names.add_edges.Goals as goal
 
 pub loop-edge-preserved : goal.loop-edge-preserved
 loop-edge-preserved g c =
