@@ -1,7 +1,9 @@
 //! Nodes in groups by depth.
 
 ghost use Rattle.std.specs.Prelude.{◌≡◌, ◌⊎◌, [], List, ℕ, Err, IfOk, IfErr};
+ghost use Rattle.std.specs.List.{IsDistinct};
 ghost use Rattle.pf_base.specs.Answers.{IsLawfulClone};
+ghost use Rattle.pf_base.specs.NodeRefs.{HasSameNodes};
 ghost use Rattle.pf_base.specs.Successors.{HasSuccessor};
 ghost use Rattle.pf_base.specs.Walks.{HasNode, IsReachable};
 ghost use Rattle.pf_orders.specs.GroupDepths.{AreClosed, HasDepth, AreDepthGroups, HaveNoDepth};
@@ -14,6 +16,52 @@ use pf_core::discovery::{Discovery, Unweighted, clones_at};
 use std::alloc::Allocator;
 use std::hash::Hash;
 use std::marker::PhantomData;
+
+/// The nodes of a graph that was not yet asked, in groups by depth.
+fn groups_in<N, IN, FN, A>(
+    alloc: A,
+    graph: &mut Discovery<N, Unweighted, IN, FN, A>,
+) -> Result<Result<Vec<Vec<N, A>, A>, (Vec<Vec<N, A>, A>, Vec<N, A>)>, PathError>
+where
+    N: Eq + Hash + Clone + Drop,
+    IN: IntoIterator<Item = N>,
+    FN: FnMut(&N) -> IN,
+    A: Allocator + Copy,
+    requires clones { IsLawfulClone N.eq N.is_clone }
+    requires distinct { IsDistinct N.eq graph.old.nodes.keys }
+    requires graph { (nodes : List N) × (next : N → List N) × HasSameNodes N.eq graph.old.nodes.keys nodes
+        × ⟦<FN as SuccessorFunction<N>>⟧.answers graph.old.successors (IsReachable N.eq (HasSuccessor N.eq next) nodes) next }
+
+    ensures groups { (nodes : List N) (next : N → List N) → HasSameNodes N.eq graph.old.nodes.keys nodes
+        → ⟦<FN as SuccessorFunction<N>>⟧.answers graph.old.successors (IsReachable N.eq (HasSuccessor N.eq next) nodes) next
+        → IfOk result (λ answer. IfOk answer (λ groups. AreDepthGroups N.eq next nodes groups.items
+        × ((x : N) → HasNode N.eq nodes x → (k : ℕ) × HasDepth N.eq next nodes x k))) }
+
+    ensures cycle { (nodes : List N) (next : N → List N) → HasSameNodes N.eq graph.old.nodes.keys nodes
+        → ⟦<FN as SuccessorFunction<N>>⟧.answers graph.old.successors (IsReachable N.eq (HasSuccessor N.eq next) nodes) next
+        → IfOk result (λ answer. IfErr answer (λ both. AreDepthGroups N.eq next nodes both.0.items
+        × HaveNoDepth N.eq next nodes both.1.items × ¬ (both.1.items ≡ []))) }
+
+    ensures closed { (nodes : List N) (next : N → List N) → HasSameNodes N.eq graph.old.nodes.keys nodes
+        → ⟦<FN as SuccessorFunction<N>>⟧.answers graph.old.successors (IsReachable N.eq (HasSuccessor N.eq next) nodes) next
+        → IfOk result (λ answer. AreClosed N.eq next nodes) }
+
+    ensures unknown { (nodes : List N) (next : N → List N) → HasSameNodes N.eq graph.old.nodes.keys nodes
+        → ⟦<FN as SuccessorFunction<N>>⟧.answers graph.old.successors (IsReachable N.eq (HasSuccessor N.eq next) nodes) next
+        → result ≡ Err PathError.UnknownVertex
+        → (x : N) × (y : N) × HasNode N.eq nodes x × HasSuccessor N.eq next x y × ¬ (HasNode N.eq nodes y) }
+
+    ensures errors { IfErr result (λ e. (e ≡ PathError.OutOfMemory) ⊎ (e ≡ PathError.UnknownVertex)) }
+{
+    let (rows, counts) = read_rows::<u8, _, _>(alloc, graph)?;
+    let levels = group_numbers(alloc, counts, rows)?;
+    let groups = groups_at(alloc, graph.nodes.as_slice(), &levels.groups)?;
+    if levels.remaining.is_empty() {
+        return Ok(Ok(groups));
+    }
+    let remaining = clones_at(alloc, graph.nodes.as_slice(), &levels.remaining)?;
+    Ok(Err((groups, remaining)))
+}
 
 /// The nodes in groups: group k has exactly those whose longest incoming walk from one of the nodes has
 /// k steps, each once, and no group is empty. Where some nodes have no longest incoming walk, since a
@@ -66,12 +114,5 @@ where
         successors,
         form: PhantomData,
     };
-    let (rows, counts) = read_rows::<u8, _, _>(alloc, &mut graph)?;
-    let levels = group_numbers(alloc, counts, rows)?;
-    let groups = groups_at(alloc, graph.nodes.as_slice(), &levels.groups)?;
-    if levels.remaining.is_empty() {
-        return Ok(Ok(groups));
-    }
-    let remaining = clones_at(alloc, graph.nodes.as_slice(), &levels.remaining)?;
-    Ok(Err((groups, remaining)))
+    groups_in(alloc, &mut graph)
 }
