@@ -1,6 +1,6 @@
 -- Edges between named vertices, put into a store in turn.
 use Rattle.std.proofs.Common.{◌≡◌, ◌∙◌, ◌⊎◌, inl, inr, refl, sym, ap, subst, ◌<◌, ℕ, ℤ, zero, suc, pos, Bool, true, false, nat_eq, List, [], ◌∷◌, ◌++◌, length, fold}
-use Rattle.std.specs.Prelude.{◌≤ℤ◌, ◌&&◌, if◌then◌else◌, Option, Some, slice_get, Result, Ok, Err, OnOk, IfErr, IsErrAnd}
+use Rattle.std.specs.Prelude.{◌≤ℤ◌, ◌&&◌, if◌then◌else◌, Option, Some, slice_get, Result, Ok, Err, OnOk, IfOk, IfErr, IsErrAnd}
 use Rattle.std.specs.Iterator.{Yields}
 use Rattle.std.specs.List.{AllZip}
 use Rattle.std.proofs.lemmas.Bool.{cases_eq}
@@ -82,6 +82,16 @@ pub err_gives : {A E : Type 0} {P Q : E → Type 0} (r : Result A E) → IfErr r
 err_gives (Ok a) p f = p
 err_gives (Err e) p f = f e p
 
+-- what holds of an answer, from a fact on it
+pub ok_gives : {A E : Type 0} {P Q : A → Type 0} (r : Result A E) → IfOk r P → ((a : A) → P a → Q a) → IfOk r Q
+ok_gives (Ok a) p f = f a p
+ok_gives (Err e) p f = p
+
+-- what holds at all holds where there is an answer
+pub ok_when : {A E P : Type 0} (r : Result A E) → P → OnOk r P
+ok_when (Ok a) p = p
+ok_when (Err e) p = tt
+
 -- calls that gave some items, and a call that gave one more
 pub yields_more : {S A : Type 0} (steps : S → Option A → S → Type 0) (s : S) (xs : List A) (t u : S) (x : A) → Yields steps s xs t → steps t (Some x) u → Yields steps s (xs ++ x ∷ []) u
 yields_more steps s [] t u x e h = (u, subst (λ v. steps v (Some x) u) (sym e) h, refl)
@@ -136,3 +146,8 @@ module _ {N C : Type 0} (eq : N → N → Bool) (value : C → ℤ) (names : Lis
 pub refused_by : {X : Type 0} (Q P : PathError → Type 0) (r : Result X PathError) → ((e : PathError) → Q e → P e) → IsErrAnd r Q → IfErr r P
 refused_by Q P (Ok x) h k = tt
 refused_by Q P (Err e) h k = h e k
+
+-- why a call is refused, from why the call in it was with this error
+pub refused_as : {X : Type 0} (P : PathError → Type 0) (r : Result X PathError) (e : PathError) → P e → IsErrAnd r (λ f. f ≡ e) → IfErr r P
+refused_as P (Ok x) e p k = tt
+refused_as P (Err f) e p k = let same : f ≡ e = k in subst P (sym same) p

@@ -1,10 +1,10 @@
 //! Greatest flows between vertices with names.
 
-ghost use Rattle.std.specs.Prelude.{◌≡◌, ◌⊎◌, ◌<◌, ◌++◌, ◌∷◌, [], ℕ, List, Some, length, slice_get, pos, OnOk, IfOk, IfErr};
+ghost use Rattle.std.specs.Prelude.{◌≡◌, ◌⊎◌, ◌<◌, ◌++◌, ◌∷◌, [], ℕ, List, Some, true, length, slice_get, pos, OnOk, IfOk, IfErr};
 ghost use Rattle.std.specs.Iterator.{IsFiniteIterable, Drains};
 ghost use Rattle.std.specs.List.{AllZip};
 ghost use Rattle.pf_base.specs.declared.error.PathError.TheVariants.{OutOfMemory, UnknownVertex};
-ghost use Rattle.pf_flow.specs.Networks.{KeepsShape, HasCapacities, capacity_sum};
+ghost use Rattle.pf_flow.specs.Networks.{KeepsShape, HasCapacities, IsFresh, capacity_sum};
 ghost use Rattle.pf_flow.specs.NamedNetworks.{names_of, number_of, given_capacities, IsKnown, IsNamed, AreAccepted, IsEdgeRefused, AreEdgesRefused, IsAnsweredFor, IsRefusedFor};
 ghost use Rattle.pf_flow.specs.Internal.Filling.{IsUnused};
 
@@ -134,6 +134,36 @@ where
     Ok(edges)
 }
 
+/// Puts the capacities of the edges into a store that has none, and answers a greatest flow in it
+/// and a least cut, with the names of the vertices.
+fn flows_of<N, C, IC, EK>(
+    alloc: EK::Alloc,
+    store: &mut EK,
+    names: &Names<N, EK::Alloc>,
+    capacities: IC,
+) -> Result<EKFlows<N, C, EK::Alloc>, PathError>
+where
+    N: Eq + Hash + Copy,
+    C: SignedCost,
+    IC: IntoIterator<Item = Edge<N, C>>,
+    EK: EdmondsKarp<C>,
+    requires ends { IsFiniteIterable IC.into_iter_gives IC.IntoIter.can_next IC.IntoIter.remaining capacities }
+    requires unused { IsUnused C.fits (EK.FlowStore.network store.old) }
+    requires none { HasCapacities (λ a b. pos 0) (EK.FlowStore.network store.old) }
+    requires vertices { (EK.FlowStore.network store.old).vertices ≡ length names.now.keys }
+    requires details { (EK.FlowStore.network store.old).details ≡ true }
+    ensures answer { IfOk result (λ answer. (source sink : N)
+        → IsFresh (length names.now.keys) (number_of N.eq names.now.keys source) (number_of N.eq names.now.keys sink) (EK.FlowStore.network store.old)
+        → IsAnsweredFor N.eq C.value C.fits IC.into_iter_gives IC.IntoIter.next_gives names.now.keys source sink capacities answer.0.items (C.value answer.1) answer.2.items) }
+    ensures refused { IfErr result (λ e. (e ≡ OutOfMemory) ⊎ AreEdgesRefused N.eq C.value C.fits IC.into_iter_gives IC.IntoIter.next_gives names.now.keys capacities e) }
+{
+    put_edges(store, names, capacities)?;
+    let (numbered, total, crossing) = store.augment(alloc)?;
+    let flows = name_edges(alloc, names.as_slice(), &numbered)?;
+    let cut = name_edges(alloc, names.as_slice(), &crossing)?;
+    Ok((flows, total, cut))
+}
+
 /// A greatest flow from a source to a sink, and a least cut, in a store that is made for it.
 ///
 /// The vertices are numbered by their first standing in `vertices`; equal vertices are one. The
@@ -174,11 +204,7 @@ where
     let from = known_number(&names, source)?;
     let to = known_number(&names, sink)?;
     let mut store = EK::new(alloc, names.len(), from, to)?;
-    put_edges(&mut store, &names, capacities)?;
-    let (numbered, total, crossing) = store.augment(alloc)?;
-    let flows = name_edges(alloc, names.as_slice(), &numbered)?;
-    let cut = name_edges(alloc, names.as_slice(), &crossing)?;
-    Ok((flows, total, cut))
+    flows_of(alloc, &mut store, &names, capacities)
 }
 
 /// As `edmonds_karp`, in a `DenseCapacity`.
