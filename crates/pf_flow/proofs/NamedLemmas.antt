@@ -4,6 +4,7 @@ use Rattle.std.specs.Prelude.{◌≤ℤ◌, ◌&&◌, if◌then◌else◌, Optio
 use Rattle.std.specs.Iterator.{Yields}
 use Rattle.std.specs.List.{AllZip}
 use Rattle.std.proofs.lemmas.Bool.{cases_eq}
+use Rattle.std.proofs.lemmas.List.Sums.{fold-append}
 use Rattle.pf_base.specs.declared.error.PathError.{PathError}
 use Rattle.pf_base.specs.declared.error.PathError.TheVariants.{OutOfMemory}
 use Rattle.pf_flow.specs.Capacities.{IsChangeRefused}
@@ -41,11 +42,24 @@ module _ {N C : Type 0} (eq : N → N → Bool) (value : C → ℤ) (names : Lis
         ∙ ap (λ k. pair_sum (length names) (replaced t k v (value e.1))) from
         ∙ ap (λ k. pair_sum (length names) (replaced t (number_of eq names e.0.0) k (value e.1))) to
 
+    -- the capacities after the change
+    pub put_given : {O : Network} (edges : List ((N × N) × C)) → ChangesCapacity u v (value e.1) M O → HasCapacities (given_capacities eq value names edges) M → HasCapacities (given_capacities eq value names (edges ++ e ∷ [])) O
+    put_given {O} edges x h =
+        let t = given_capacities eq value names edges in
+        let same : replaced t u v (value e.1) ≡ given_capacities eq value names (edges ++ e ∷ []) =
+        ap (λ k. replaced t k v (value e.1)) from
+        ∙ ap (λ k. replaced t (number_of eq names e.0.0) k (value e.1)) to
+        ∙ sym (fold-append (with_capacity_of eq value names) (λ a b. pos 0) edges (e ∷ [])) in
+        subst (λ s. HasCapacities s O) same (record {
+          at = λ a b l m. sym (x.capacities.at a b)
+              ∙ replaced_ext (nat_eq a u && nat_eq b v) (value e.1) (capacity M a b) (t a b) (h.at a b (subst (λ k. a < k) x.shape.vertices l) (subst (λ k. b < k) x.shape.vertices m));
+        })
+
     module _ (known : IsKnown eq names e.0.0) (known' : IsKnown eq names e.0.1) where
-      from_in : u < M.vertices
+      pub from_in : u < M.vertices
       from_in = subst (λ k. u < k) (sym n) (subst (λ k. k < length names) (sym from) known)
 
-      to_in : v < M.vertices
+      pub to_in : v < M.vertices
       to_in = subst (λ k. v < k) (sym n) (subst (λ k. k < length names) (sym to) known')
 
       -- an edge whose capacity was put is accepted
@@ -81,6 +95,11 @@ both_ok (Err e) p q f = q
 pub err_gives : {A E : Type 0} {P Q : E → Type 0} (r : Result A E) → IfErr r P → ((e : E) → P e → Q e) → IfErr r Q
 err_gives (Ok a) p f = p
 err_gives (Err e) p f = f e p
+
+-- what holds where there is an answer, from what else does
+pub ok_so : {A E P T : Type 0} (r : Result A E) → OnOk r P → (P → T) → OnOk r T
+ok_so (Ok a) p f = f p
+ok_so (Err e) p f = p
 
 -- what holds of an answer, from a fact on it
 pub ok_gives : {A E : Type 0} {P Q : A → Type 0} (r : Result A E) → IfOk r P → ((a : A) → P a → Q a) → IfOk r Q

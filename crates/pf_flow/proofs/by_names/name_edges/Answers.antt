@@ -1,4 +1,4 @@
-use Rattle.std.proofs.Common.{◌≡◌, ◌∙◌, ◌<◌, ◌+◌, ◌∷◌, ◌++◌, [], refl, sym, ap, subst, take, length, arith}
+use Rattle.std.proofs.Common.{◌≡◌, ◌∙◌, ◌<◌, ◌+◌, ◌∷◌, ◌++◌, [], refl, sym, ap, subst, take, take_all, length, arith}
 use Rattle.std.specs.List.{AllZip}
 use Rattle.std.proofs.lemmas.List.{take_more}
 use Rattle.pf_core.proofs.ListLemmas.{at_place}
@@ -34,3 +34,9 @@ numbered-preserved g c =
     (subst (λ xs. AllZip (IsNamed names) (take i numbered ++ e ∷ []) xs) (sym c.in_ok-push.ensures.items)
     (AllZip-append (IsNamed names) (take i numbered) c.numbered.edges.items e _ c.numbered.invariant
     (record { from = at_place names e.0.0 _ _ inside.0 (sym c.index-names-from.is); to = at_place names e.0.1 _ _ inside.1 (sym c.index-names-to.is); same = refl })))
+
+pub numbered-init : goal.numbered-init
+numbered-init g c = rw c.in_ok-edges.ensures.items tt
+
+pub returns-clause-named : goal.returns-clause-named
+returns-clause-named g c = subst (λ ns. AllZip (IsNamed c.args.names.now) ns c.numbered.edges.items) (take_all c.numbered.edge-index c.args.numbered.now c.numbered-test.false) c.numbered.invariant

@@ -54,3 +54,15 @@ returns-in_err-sum-clause-refused g c =
       )
     ] in
     refused_by _ _ c.from_residual.result (λ e h. subst (λ r. (r ≡ OutOfMemory) ⊎ AreEdgesRefused g.N.PartialEq.eq g.C.Number.value g.C.Number.fits g.IC.IntoIterator.into_iter_gives g.IC.IntoIter.Iterator.next_gives c.args.names.now.keys c.args.capacities r) (sym h) refused) c.from_residual.ensures.1
+
+pub put_edge-requires-clause-unused : goal.put_edge-requires-clause-unused
+put_edge-requires-clause-unused g c = c.edges.invariant.unused
+
+pub put_edge-requires-clause-sum : goal.put_edge-requires-clause-sum
+put_edge-requires-clause-sum g c = c.edges.invariant.sum
+
+pub returns-clause-unused : goal.returns-clause-unused
+returns-clause-unused g c = c.edges.invariant.unused
+
+pub returns-clause-shape : goal.returns-clause-shape
+returns-clause-shape g c = c.edges.invariant.shape

@@ -2,10 +2,10 @@ use Rattle.std.proofs.Common.{◌≡◌, ◌<◌, ◌+◌, ◌-◌, arith, subst
 use Rattle.std.specs.Prelude.{◌<ℤ◌, ◌+ℤ◌, ℤ, pos}
 use Rattle.std.proofs.lemmas.Int.{ints}
 use Rattle.pf_flow.specs.Networks.{Network, capacity, capacity_sum, with_total, IsNetwork}
-use Rattle.pf_flow.specs.Internal.AugmentingPaths.{IsPushed, potential}
+use Rattle.pf_flow.specs.Internal.AugmentingPaths.{IsLabelling, IsPushed, potential}
 use Rattle.pf_flow.proofs.NetworkLemmas.{balanced_of, total_below, fits_near}
 use Rattle.pf_flow.proofs.AgreeLemmas.{agreed, network_agrees}
-use Rattle.pf_flow.proofs.PushLemmas.{move_fits_flow, move_fits_flow_back, move_fits_residual, move_fits_residual_back, step_here_in, step_next_in, step_apart, step_enough, pushed_step, pushed_agrees, levels_step, levels_agrees, pushed_network}
+use Rattle.pf_flow.proofs.PushLemmas.{pushed_none, levels_none, move_fits_flow, move_fits_flow_back, move_fits_residual, move_fits_residual_back, step_here_in, step_next_in, step_apart, step_enough, pushed_step, pushed_agrees, levels_step, levels_agrees, pushed_network}
 use Rattle.pf_flow.proofs.paths.add_along.Goals as goal
 
 low : {n : ℕ} {r : ℕ → ℤ} {z : ℤ} → ((k : ℕ) → k + 1 < n → pos 0 <ℤ r k) → (k : ℕ) × (k + 1 < n) × (z ≡ r k) → pos 0 <ℤ z
@@ -113,3 +113,27 @@ returns-clause-rises g c = λ d h.
     let (j, k, e) = c.least_residual-amount.ensures.reached in
     subst (λ (O : Network). potential N.vertices (capacity N) N.residual d < potential N.vertices (capacity N) O.residual d) (agreed c.set_total_capacity.ensures)
     (c.loop-place.invariant.levels.raised d j h (omega (arith, k)) k (sym e))
+
+pub least_residual-amount-requires : goal.least_residual-amount-requires
+least_residual-amount-requires g c = c.requires.path
+
+pub loop-place-init : goal.loop-place-init
+loop-place-init g c =
+    let w = c.requires.path in
+    let a = low w.left c.least_residual-amount.ensures.reached in
+    let b = balanced_of c.requires.network in
+    let l = c.least_residual-amount.ensures.least in
+    record { pushed = pushed_none w b _ a l; levels = levels_none w b _ a l; room = λ x y h. h }
+
+pub add_flow-requires-clause-apart : goal.add_flow-requires-clause-apart
+add_flow-requires-clause-apart g c =
+    let w = c.requires.path in
+    let a = low w.left c.least_residual-amount.ensures.reached in
+    let k = c.loop-place.place in
+    let next : k + 1 < length c.args.path.now = omega arith in
+    step_apart w (balanced_of c.requires.network) _ a c.least_residual-amount.ensures.least k next
+
+pub returns-clause-levels : goal.returns-clause-levels
+returns-clause-levels g c = λ d h v.
+    let N = g.S.FlowStore.network c.args.store.now in
+    subst (λ (O : Network). IsLabelling N.vertices N.source O.residual d) (agreed c.set_total_capacity.ensures) (c.loop-place.invariant.levels.labelled d h v)

@@ -5,7 +5,7 @@ use Rattle.pf_core.proofs.ListLemmas.{at_place, on_ok}
 use Rattle.pf_flow.specs.declared.cancelling.arcs.Arc.{Arc}
 use Rattle.pf_flow.specs.declared.cancelling.search.Step.{Step}
 use Rattle.pf_flow.specs.Internal.Cancelling.{IsStep, IsPlaced}
-use Rattle.pf_flow.proofs.SearchLemmas.{reached_more, reaches_extends, reaches_placed}
+use Rattle.pf_flow.proofs.SearchLemmas.{extends_same, reached_more, reaches_extends, reaches_placed}
 use Rattle.pf_flow.proofs.cancelling.search.follow.Goals as goal
 
 abbrev none : Arc
@@ -53,3 +53,35 @@ returns-clause-placed g c = on_ok c.reach.result c.reach.ensures.reached (λ h e
     let same : Some d ≡ Some e = sym here ∙ at in
     let v : d ≡ e = cc in
     subst (λ (a : Arc). IsPlaced c.reach.new.reached.places.items a.to) v (reaches_placed _ c.args.reached.now.steps.items c.args.reached.now.places.items c.reach.new.reached.steps.items c.reach.new.reached.places.items h))
+
+pub offset_bounds-ends-number : goal.offset_bounds-ends-number
+offset_bounds-ends-number g c =
+    let l = slice_get_within c.args.ends.now c.args.number c.requires.arc.1 c.requires.arc.3 in
+    omega (arith, l)
+
+pub bounds-ends-number : goal.bounds-ends-number
+bounds-ends-number g c = slice_get_within c.args.ends.now c.args.number c.requires.arc.1 c.requires.arc.3
+
+pub reach-requires : goal.reach-requires
+reach-requires g c =
+    let ends = c.args.ends.now in
+    let k = c.args.number in
+    let at = c.requires.arc in
+    let here : slice_get ends k ≡ Some (get_or ends k none) = slice_get-get_or ends k none (slice_get_within ends k at.1 at.3) in
+    record { inside = (c.requires.inside k (get_or ends k none) here).1 }
+
+pub returns-then-is_zero-clause-reached : goal.returns-then-is_zero-clause-reached
+returns-then-is_zero-clause-reached g c = λ start r. r
+
+pub returns-then-is_zero-clause-extends : goal.returns-then-is_zero-clause-extends
+returns-then-is_zero-clause-extends g c = extends_same c.args.reached.now.steps.items c.args.reached.now.places.items
+
+pub returns-then-is_zero-clause-placed : goal.returns-then-is_zero-clause-placed
+returns-then-is_zero-clause-placed g c = λ e at amount.
+    let xs = c.args.amounts.now in
+    let k = c.args.number in
+    let x = c.index-amounts-number.result in
+    let here : slice_get xs k ≡ Some x = at_place xs k _ _ (omega (arith, slice_get_within c.args.ends.now k e at, c.requires.long)) (sym c.index-amounts-number.is) in
+    let same : Some amount.0 ≡ Some x = sym amount.1 ∙ here in
+    let v : amount.0 ≡ x = cc in
+    absurd (amount.2 (ap g.C.Number.value v ∙ (c.is_zero.ensures.value g.met.C.Integral.exact_law).0 c.if-is_zero.true))
