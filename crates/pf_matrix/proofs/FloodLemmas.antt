@@ -1,15 +1,16 @@
 -- Floods: the positions that a walk gave and the set that they are put into, how many there can be, and where they lie.
-use Rattle.std.proofs.Common.{Ordering, Less, Equal, Greater, ◌≡◌, ℕ, zero, suc, ◌+◌, ◌-◌, ◌*◌, ◌<◌, ◌≤◌, ◌∙◌, refl, sym, ap, subst, arith, inl, inr, Bool, true, false, true≢false, ◌||◌, Option, Some, None, List, [], ◌∷◌, ◌++◌, length, get_or, length-append}
-use Rattle.std.specs.Prelude.{◌⊎◌, ◌↔◌, ◌&&◌, Contains, MatchOption, nat_eq, nat_lt, Result, Ok, not, if◌then◌else◌}
-use Rattle.std.specs.Ordering.{match_ordering}
-use Rattle.std.specs.Cmp.{IsEquivalence, on_equiv, and_equiv, nat_eq_equiv}
+use Rattle.std.proofs.Common.{◌≡◌, ℕ, ◌+◌, ◌-◌, ◌*◌, ◌<◌, ◌≤◌, ◌∙◌, refl, sym, ap, subst, arith, inl, inr, Bool, true, false, true≢false, ◌||◌, Option, Some, None, List, [], ◌∷◌, ◌++◌, length, get_or}
+use Rattle.std.specs.Prelude.{◌↔◌, ◌&&◌, Contains, MatchOption, nat_lt, Result, Ok, not, if◌then◌else◌}
+use Rattle.std.specs.Ordering.{nat_cmp, eq_by_cmp, is_eq}
+use Rattle.std.specs.Bool.{Decides}
+use Rattle.std.specs.Cmp.{IsEquivalence, IsTotalOrder, on_equiv, and_equiv, nat_eq_equiv, nat_cmp_total, on_total, then_total, tied_itself}
 use Rattle.std.specs.Set.{is_member}
 use Rattle.std.specs.List.{AllByRecursion, IsDistinct, cons_option, filter, filter_map}
-use Rattle.std.specs.BTreeSet.{insert_key}
+use Rattle.std.specs.BTreeSet.{BTreeSet, IsFromIterResult}
 use Rattle.std.proofs.lemmas.Bool.{lt-ltb, ltb-true}
-use Rattle.std.proofs.lemmas.List.Elements.{Contains-append_left, Contains-push}
-use Rattle.std.proofs.lemmas.Map.Lookups.{CmpEqualImpliesEq}
-use Rattle.std.proofs.lemmas.Map.Made.{length-le_from_is_member}
+use Rattle.std.proofs.lemmas.Map.Lookups.{CmpEqualImpliesEq, exact_pairs, exact_unsigned}
+use Rattle.std.proofs.lemmas.Map.Made.{is_member-Decides, length-le_from_is_member}
+use Rattle.std.proofs.lemmas.Map.Views.{btree_set_contains_iff, tells_apart}
 use Rattle.std.proofs.lemmas.Nat.{mul-add-lt}
 use Rattle.std.specs.Borrow.{Bor}
 use Rattle.std.specs.Fn.{Called, CalledAt, Mut}
@@ -20,16 +21,15 @@ use Rattle.std.proofs.lemmas.Iterator.Adapters.{serves_from_places}
 use Rattle.std.proofs.lemmas.Iterator.Consumers.{YieldsList-from_filter, YieldsList-from_first}
 use Rattle.pf_base.specs.declared.error.PathError.{PathError}
 use Rattle.pf_base.specs.Answers.{AnswersSuccessors, SameNodes}
-use Rattle.pf_base.specs.Walks.{HasNode, NoRepeats, IsReachable}
-use Rattle.pf_base.specs.Successors.{HasSuccessor}
+use Rattle.pf_base.specs.Walks.{HasNode, NoRepeats}
 use Rattle.pf_base.proofs.Callers.{SameNodes-refl, successors_of}
 use Rattle.pf_base.proofs.Reach.{filter_all}
 use Rattle.pf_base.proofs.Sources.{gives_chain}
 use Rattle.pf_base.proofs.Tables.{pair_refl, pair_exact, successors_keep}
-use Rattle.pf_core.proofs.ListLemmas.{Contains-append_one, Contains-cases, Contains-head, Contains-index, Contains-tail, or_cases, or_true}
+use Rattle.pf_core.proofs.ListLemmas.{Contains-cases, Contains-head, Contains-index, Contains-tail, or_cases, or_true}
 use Rattle.pf_search.specs.Breadth.{BreadthWalk, IsBreadthWalk, BreadthStep}
 use Rattle.pf_matrix.specs.Calls.{GivesInTurn}
-use Rattle.pf_matrix.specs.Floods.{answer_at, same_position, passing_around}
+use Rattle.pf_matrix.specs.Floods.{answer_at, position_cmp, same_position, passing_around}
 use Rattle.pf_matrix.specs.Internal.Gathering.{IsWithinPlaces}
 use Rattle.pf_matrix.specs.Positions.{positions, neighbours_of, neighbour_at, around, shifted, both, is_diagonal}
 use Rattle.pf_matrix.specs.declared.matrix.neighbours.Shift.{Shift}
@@ -66,48 +66,25 @@ nodes_exact [] (q ∷ qs) h = absurd h
 nodes_exact (p ∷ ps) [] h = absurd h
 nodes_exact (p ∷ ps) (q ∷ qs) h = λ i. pair_exact p q h.0 i ∷ nodes_exact ps qs h.1 i
 
--- ---- a key that is put into a set
+-- ---- a set that is made of a list of positions
 
-module _ {K : Type 0} (cmp : K → K → Ordering) (k : K) where
-  key_from : (ks : List K) (x : K) → Contains (insert_key cmp ks k) x → Contains ks x ⊎ (k ≡ x)
-  key_from [] x h = elim (Contains-cases [] k x h) as (λ _. Contains [] x ⊎ (k ≡ x)) [ inl e ↦ inr e | inr r ↦ inl r ]
-  key_from (y ∷ ks) x h = by (cmp k y) (key_from ks x) h
-    where
-      by : (o : Ordering) → (Contains (insert_key cmp ks k) x → Contains ks x ⊎ (k ≡ x)) → Contains (match_ordering o (k ∷ y ∷ ks) (y ∷ ks) (y ∷ insert_key cmp ks k)) x → Contains (y ∷ ks) x ⊎ (k ≡ x)
-      by Less rest c = elim (Contains-cases (y ∷ ks) k x c) as (λ _. Contains (y ∷ ks) x ⊎ (k ≡ x)) [ inl e ↦ inr e | inr r ↦ inl r ]
-      by Equal rest c = inl c
-      by Greater rest c = elim (Contains-cases (insert_key cmp ks k) y x c) as (λ _. Contains (y ∷ ks) x ⊎ (k ≡ x)) [
-        | inl e ↦ inl (subst (λ z. Contains (y ∷ ks) z) e (Contains-head ks y))
-        | inr r ↦ elim (rest r) as (λ _. Contains (y ∷ ks) x ⊎ (k ≡ x)) [ inl i ↦ inl (Contains-tail ks y x i) | inr e ↦ inr e ]
-      ]
+position_total : IsTotalOrder position_cmp
+position_total = then_total (on_total (λ (p : ℕ × ℕ). p.0) nat_cmp_total) (on_total (λ (p : ℕ × ℕ). p.1) nat_cmp_total)
 
-  key_stays : (ks : List K) (x : K) → Contains ks x → Contains (insert_key cmp ks k) x
-  key_stays [] x h = Contains-tail [] k x h
-  key_stays (y ∷ ks) x h = by (cmp k y) (key_stays ks x)
-    where
-      by : (o : Ordering) → (Contains ks x → Contains (insert_key cmp ks k) x) → Contains (match_ordering o (k ∷ y ∷ ks) (y ∷ ks) (y ∷ insert_key cmp ks k)) x
-      by Less rest = Contains-tail (y ∷ ks) k x h
-      by Equal rest = h
-      by Greater rest = elim (Contains-cases ks y x h) as (λ _. Contains (y ∷ insert_key cmp ks k) x) [
-        | inl e ↦ subst (λ z. Contains (y ∷ insert_key cmp ks k) z) e (Contains-head (insert_key cmp ks k) y)
-        | inr r ↦ Contains-tail (insert_key cmp ks k) y x (rest r)
-      ]
+positions_apart : CmpEqualImpliesEq position_cmp
+positions_apart = exact_pairs nat_cmp nat_cmp exact_unsigned exact_unsigned
 
-  key_put : CmpEqualImpliesEq cmp → (ks : List K) → Contains (insert_key cmp ks k) k
-  key_put exact [] = Contains-head [] k
-  key_put exact (y ∷ ks) = by (cmp k y) refl (key_put exact ks)
-    where
-      by : (o : Ordering) → cmp k y ≡ o → Contains (insert_key cmp ks k) k → Contains (match_ordering o (k ∷ y ∷ ks) (y ∷ ks) (y ∷ insert_key cmp ks k)) k
-      by Less e rest = Contains-head (y ∷ ks) k
-      by Equal e rest = subst (λ z. Contains (y ∷ ks) z) (sym (exact k y e)) (Contains-head ks y)
-      by Greater e rest = Contains-tail (insert_key cmp ks k) y k rest
+position_decides : (p q : ℕ × ℕ) → Decides (eq_by_cmp position_cmp p q) (p ≡ q)
+position_decides p q = (tells_apart positions_apart p q, λ e. subst (λ z. eq_by_cmp position_cmp p z ≡ true) e (ap is_eq (tied_itself position_total p)))
 
--- a set with the elements of a list has those of the list with one more, once this one is put in
-pub keys_more : {K : Type 0} (cmp : K → K → Ordering) → CmpEqualImpliesEq cmp → (ks xs : List K) (k : K) → ((x : K) → Contains ks x ↔ Contains xs x) → (x : K) → Contains (insert_key cmp ks k) x ↔ Contains (xs ++ k ∷ []) x
-keys_more cmp exact ks xs k same x = (
-  λ h. elim (key_from cmp k ks x h) as (λ _. Contains (xs ++ k ∷ []) x) [ inl i ↦ Contains-append_left xs (k ∷ []) x ((same x).0 i) | inr e ↦ subst (λ z. Contains (xs ++ k ∷ []) z) e (Contains-push xs k) ],
-  λ h. elim (Contains-append_one xs k x h) as (λ _. Contains (insert_key cmp ks k) x) [ inl i ↦ key_stays cmp k ks x ((same x).1 i) | inr e ↦ subst (λ z. Contains (insert_key cmp ks k) z) e (key_put cmp k exact ks) ],
-)
+-- it has the positions of the list
+pub made_of : (ps : List (ℕ × ℕ)) (s : BTreeSet (ℕ × ℕ)) → IsFromIterResult position_cmp ps s → (p : ℕ × ℕ) → Contains s.keys p ↔ Contains ps p
+made_of ps s made p =
+    let kept = btree_set_contains_iff position_total positions_apart s p in
+    let listed = is_member-Decides position_decides ps p in (
+      λ h. listed.0 (sym (made.0 p) ∙ kept.1 h),
+      λ h. kept.0 (made.0 p ∙ listed.1 h),
+    )
 
 -- ---- how many positions a list without repeats has
 
@@ -140,29 +117,22 @@ few_among ps among once all = length-le_from_is_member position_laws ps among (d
 -- ---- gathering the positions of a walk
 
 module _ {F : Type 0} (answers : F → (ℕ × ℕ → Type 0) → (ℕ × ℕ → List (ℕ × ℕ)) → Type 0) where
-  -- the walk goes on as one of its graph, and the keys are the given positions
-  pub record Gathers (first walk : BreadthWalk (ℕ × ℕ) F) (keys : List (ℕ × ℕ)) : Type 0 where
+  -- the walk goes on as one of its graph, and these are the given positions
+  pub record Gathers (first walk : BreadthWalk (ℕ × ℕ) F) (positions : List (ℕ × ℕ)) : Type 0 where
     pub going : walk.refused ≡ false
     pub kept : (next : ℕ × ℕ → List (ℕ × ℕ)) (start : ℕ × ℕ) → IsBreadthWalk same_position answers next start first → IsBreadthWalk same_position answers next start walk
-    pub same : (p : ℕ × ℕ) → Contains keys p ↔ Contains walk.given p
+    pub same : positions ≡ walk.given
 
-  pub gathers_none : (walk : BreadthWalk (ℕ × ℕ) F) (keys : List (ℕ × ℕ)) → walk.given ≡ [] → walk.refused ≡ false → keys ≡ [] → Gathers walk walk keys
-  gathers_none walk keys given going none = record {
-    going = going;
-    kept = λ next start w. w;
-    same = λ p. (λ h. subst (λ ps. Contains ps p) (none ∙ sym given) h, λ h. subst (λ ps. Contains ps p) (given ∙ sym none) h);
-  }
+  pub gathers_none : (walk : BreadthWalk (ℕ × ℕ) F) (positions : List (ℕ × ℕ)) → walk.given ≡ [] → walk.refused ≡ false → positions ≡ [] → Gathers walk walk positions
+  gathers_none walk positions given going none = record { going = going; kept = λ next start w. w; same = none ∙ sym given }
 
-  pub gathers_more : (first walk after : BreadthWalk (ℕ × ℕ) F) (keys keys' : List (ℕ × ℕ)) (p : ℕ × ℕ) (cmp : ℕ × ℕ → ℕ × ℕ → Ordering) → CmpEqualImpliesEq cmp → Gathers first walk keys
+  pub gathers_more : (first walk after : BreadthWalk (ℕ × ℕ) F) (positions positions' : List (ℕ × ℕ)) (p : ℕ × ℕ) → Gathers first walk positions
       → ((next : ℕ × ℕ → List (ℕ × ℕ)) (start : ℕ × ℕ) → IsBreadthWalk same_position answers next start walk → IsBreadthWalk same_position answers next start after)
-      → after.refused ≡ false → after.given ≡ walk.given ++ p ∷ [] → keys' ≡ insert_key cmp keys p → Gathers first after keys'
-  gathers_more first walk after keys keys' p cmp exact gathers goes going given put = record {
+      → after.refused ≡ false → after.given ≡ walk.given ++ p ∷ [] → positions' ≡ positions ++ p ∷ [] → Gathers first after positions'
+  gathers_more first walk after positions positions' p gathers goes going given put = record {
     going = going;
     kept = λ next start w. goes next start (gathers.kept next start w);
-    same = λ q. let both_ways = keys_more cmp exact keys walk.given p gathers.same q in (
-      λ h. subst (λ ps. Contains ps q) (sym given) (both_ways.0 (subst (λ ps. Contains ps q) put h)),
-      λ h. subst (λ ps. Contains ps q) (sym put) (both_ways.1 (subst (λ ps. Contains ps q) given h)),
-    );
+    same = put ∙ ap (λ ps. ps ++ p ∷ []) gathers.same ∙ sym given;
   }
 
 -- a step that gave a position

@@ -1,13 +1,14 @@
 //! The vertices in reach of a position, where each step leads to a neighbour that passes a test.
 
 ghost use Rattle.std.specs.Prelude.{◌≡◌, ℕ, true, false, Bool, List, [], ◌∷◌, ◌++◌, IfOk, IfErr, MatchOption};
+ghost use Rattle.std.specs.BTreeSet.{IsFromIterResult};
 ghost use Rattle.pf_base.specs.Orders.{AllGiven};
 ghost use Rattle.pf_grid.specs.Floods.{IsFlood};
 ghost use Rattle.pf_grid.specs.Internal.Gathering.{IsWithinPlaces};
 ghost use Rattle.pf_grid.specs.Positions.{has};
 ghost use Rattle.pf_grid.specs.declared.error.GridError.TheVariants.{OutOfMemory};
 ghost use Rattle.pf_matrix.specs.Calls.{CallableInTurn, GivesInTurn};
-ghost use Rattle.pf_matrix.specs.Floods.{HasReached, answer_at, same_position};
+ghost use Rattle.pf_matrix.specs.Floods.{HasReached, answer_at, position_cmp, same_position};
 ghost use Rattle.pf_matrix.specs.Positions.{positions};
 ghost use Rattle.pf_search.specs.Breadth.{IsBreadthWalk};
 
@@ -17,7 +18,7 @@ use pf_base::SuccessorFunction;
 use pf_matrix::Matrix;
 use pf_search::directed::bfs::{BfsReachable, bfs_reach};
 use pf_search::laws::breadth_order_is_reach;
-use std::alloc::Allocator;
+use std::alloc::{AllocError, Allocator};
 use std::collections::BTreeSet;
 use std::marker::PhantomData;
 
@@ -156,9 +157,19 @@ where
     ensures refused { IfErr result (λ e. e ≡ OutOfMemory) }
 {
     breadth_order_is_reach(PhantomData::<(usize, usize)>);
-    let mut reached = BTreeSet::new(alloc);
+    let mut reached = Vec::new(alloc);
     'steps: while let Some(position) = next_position(&mut walk)? {
-        reached.insert(position)?;
+        reached.push(position)?;
     }
-    Ok(reached)
+    Ok(set_of(alloc, &reached)?)
+}
+
+/// The set of these positions. It sorts them, which is faster than to insert one after the other.
+fn set_of<A: Allocator + Copy>(
+    alloc: A,
+    positions: &[(usize, usize)],
+) -> Result<BTreeSet<(usize, usize), A>, AllocError>
+    ensures { IfOk result (IsFromIterResult position_cmp positions.now) }
+{
+    positions.iter().copied().collect(alloc)
 }

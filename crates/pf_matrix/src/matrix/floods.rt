@@ -1,9 +1,10 @@
 //! The positions in reach of a position, where each step leads to a neighbour that passes a test.
 
 ghost use Rattle.std.specs.Prelude.{◌≡◌, ℕ, false, Bool, List, [], ◌∷◌, ◌++◌, IfOk, IfErr, MatchOption};
+ghost use Rattle.std.specs.BTreeSet.{IsFromIterResult};
 ghost use Rattle.pf_base.specs.Orders.{AllGiven};
 ghost use Rattle.pf_matrix.specs.Calls.{CallableInTurn, GivesInTurn};
-ghost use Rattle.pf_matrix.specs.Floods.{HasReached, IsFlood, answer_at, same_position};
+ghost use Rattle.pf_matrix.specs.Floods.{HasReached, IsFlood, answer_at, position_cmp, same_position};
 ghost use Rattle.pf_matrix.specs.Internal.Gathering.{IsWithinPlaces};
 ghost use Rattle.pf_matrix.specs.Positions.{positions_of};
 ghost use Rattle.pf_matrix.specs.declared.error.MatrixFormatError.TheVariants.{OutOfMemory};
@@ -14,7 +15,7 @@ use crate::matrix::Matrix;
 use pf_base::SuccessorFunction;
 use pf_search::directed::bfs::{BfsReachable, bfs_reach};
 use pf_search::laws::breadth_order_is_reach;
-use std::alloc::Allocator;
+use std::alloc::{AllocError, Allocator};
 use std::collections::BTreeSet;
 use std::marker::PhantomData;
 
@@ -133,9 +134,19 @@ where
     ensures refused { IfErr result (λ e. e ≡ OutOfMemory) }
 {
     breadth_order_is_reach(PhantomData::<(usize, usize)>);
-    let mut reached = BTreeSet::new(alloc);
+    let mut reached = Vec::new(alloc);
     'steps: while let Some(position) = next_position(&mut walk)? {
-        reached.insert(position)?;
+        reached.push(position)?;
     }
-    Ok(reached)
+    Ok(set_of(alloc, &reached)?)
+}
+
+/// The set of these positions. It sorts them, which is faster than to insert one after the other.
+fn set_of<A: Allocator + Copy>(
+    alloc: A,
+    positions: &[(usize, usize)],
+) -> Result<BTreeSet<(usize, usize), A>, AllocError>
+    ensures { IfOk result (IsFromIterResult position_cmp positions.now) }
+{
+    positions.iter().copied().collect(alloc)
 }

@@ -1,4 +1,4 @@
-use Rattle.std.proofs.Common.{rules, ◌≡◌, ap, subst, ◌∙◌, ℕ, ◌*◌}
+use Rattle.std.proofs.Common.{rules, ap, subst, ◌∙◌, ℕ, ◌*◌}
 use Rattle.std.specs.Prelude.{⊤}
 use Rattle.std.specs.Iterator.{item_count}
 use Rattle.std.proofs.lemmas.Result.{MatchResult-weaker}

@@ -1,11 +1,10 @@
-use Rattle.std.proofs.Common.{rules, arith, ap, ◌≡◌, ◌∙◌, ◌+◌, ◌∷◌, [], length, length-append}
-use Rattle.std.specs.Ordering.{nat_cmp}
-use Rattle.std.proofs.lemmas.Map.Lookups.{exact_pairs, exact_unsigned}
-use Rattle.pf_matrix.proofs.FloodLemmas.{at_none, at_some, contains_node, few_among, gathers_more, gathers_none, node_contained}
+use Rattle.std.proofs.Common.{rules, arith, ap, sym, subst, ◌≡◌, ◌∙◌, ◌+◌, ◌∷◌, [], length, length-append}
+use Rattle.std.specs.Prelude.{Contains}
+use Rattle.pf_matrix.proofs.FloodLemmas.{at_none, at_some, contains_node, few_among, gathers_more, gathers_none, made_of, node_contained}
 use Rattle.pf_matrix.proofs.matrix.floods.gather_breadth.Goals as goal
 
 pub steps-init : goal.steps-init
-steps-init g c = gathers_none _ c.args.walk c.new-reached.result.keys c.requires.fresh c.requires.going (search rules)
+steps-init g c = gathers_none _ c.args.walk c.new-reached.result.items c.requires.fresh c.requires.going (search rules)
 
 pub next_position-requires : goal.next_position-requires
 next_position-requires g c =
@@ -29,9 +28,8 @@ pub steps-preserved : goal.steps-preserved
 steps-preserved g c =
     let r = c.requires.walk in
     let step = at_some _ _ c.in_ok-position.field-0 c.in-Some.position c.in-Some.is (c.in_ok-position.ensures.steps r.0 r.1 (c.steps.invariant.kept r.0 r.1 r.2)).1 in
-    gathers_more _ c.args.walk c.steps.walk c.next_position.new.walk c.steps.reached.keys c.insert.new.self.keys c.in-Some.position
-    _ (exact_pairs nat_cmp nat_cmp exact_unsigned exact_unsigned) c.steps.invariant
-    (λ next start w. (c.in_ok-position.ensures.steps next start w).0) step.0 step.1 c.in_ok-insert.ensures.keys
+    gathers_more _ c.args.walk c.steps.walk c.next_position.new.walk c.steps.reached.items c.push.new.self.items c.in-Some.position
+    c.steps.invariant (λ next start w. (c.in_ok-position.ensures.steps next start w).0) step.0 step.1 (search rules)
 
 pub returns-clause-reached : goal.returns-clause-reached
 returns-clause-reached g c =
@@ -40,7 +38,9 @@ returns-clause-reached g c =
     let given = c.steps.walk.given in
     let here = inv.kept next start w in
     let law = c.breadth_order_is_reach.ensures in
-    let all = at_none _ _ c.in_ok-position.field-0 c.in_default.is (c.in_ok-position.ensures.steps next start here).1 in (
-      (λ h. law.reached next start given here.answered.alike here.ordered p (node_contained given p ((inv.same p).0 h))),
-      (λ h. (inv.same p).1 (contains_node given p (law.all next start given here.answered.alike here.ordered all p h))),
+    let all = at_none _ _ c.in_ok-position.field-0 c.in_default.is (c.in_ok-position.ensures.steps next start here).1 in
+    let listed : c.deref.result.now ≡ given = c.deref.ensures.value ∙ inv.same in
+    let made = made_of c.deref.result.now c.in_ok-set_of.field-0 c.in_ok-set_of.ensures p in (
+      (λ h. law.reached next start given here.answered.alike here.ordered p (node_contained given p (subst (λ ps. Contains ps p) listed (made.0 h)))),
+      (λ h. made.1 (subst (λ ps. Contains ps p) (sym listed) (contains_node given p (law.all next start given here.answered.alike here.ordered all p h)))),
     )
