@@ -1,9 +1,10 @@
 -- Boards of cells.
-use Rattle.std.proofs.Common.{◌≡◌, inl, inr, ℕ, zero, suc, ◌+◌, ◌*◌, ◌<◌, sym, ◌∙◌, refl, ap, arith, List, [], ◌∷◌, length, get_or}
+use Rattle.std.proofs.Common.{◌≡◌, inl, inr, ℕ, zero, suc, ◌+◌, ◌*◌, ◌/◌, ◌<◌, sym, ◌∙◌, refl, ap, arith, List, [], ◌∷◌, length, get_or}
 use Rattle.std.specs.Prelude.{◌≤ℤ◌, ℤ, pos, Option, Some, None, slice_get, map}
 use Rattle.std.specs.Option.{option_and_then, option_map}
 use Rattle.std.proofs.lemmas.Option.{slice_get-map, slice_get-get_or, slice_get_read, slice_get_within, option_and_then_some}
 use Rattle.std.proofs.lemmas.Nat.{mul-add-lt}
+use Rattle.std.proofs.Math.Nat.{div-lt_iff_lt-mul}
 use Rattle.pf_base.specs.Moves.{IsMove, target_of}
 use Rattle.pf_base.proofs.MoveLemmas.{target_is}
 use Rattle.pf_tables.specs.declared.steps.Steps.{Steps}
@@ -22,6 +23,19 @@ one_more_cell cells number cell inside read sound before k cost l e = elim (less
   | inl b ↦ before k cost b e
   | inr s ↦ sound cost (some_same (sym (slice_get_read cells (length cells) number cell refl inside read) ∙ ap (slice_get cells) (sym s) ∙ e))
 ]
+
+-- ---- rows and columns
+
+-- where there is a cell, there is a column
+pub some_column : (rows columns cells node : ℕ) → cells ≡ rows * columns → node < cells → 0 < columns
+some_column rows zero cells node sized inside = absurd (omega (arith, sized, inside))
+some_column rows (suc n) cells node sized inside = omega arith
+
+pub row_inside : (rows columns cells node : ℕ) → cells ≡ rows * columns → node < cells → node / columns < rows
+row_inside rows columns cells node sized inside = (div-lt_iff_lt-mul (some_column rows columns cells node sized inside)).1 (omega (arith, sized, inside))
+
+pub place_inside : (rows columns cells row column : ℕ) → cells ≡ rows * columns → row < rows → column < columns → row * columns + column < cells
+place_inside rows columns cells row column sized r c = omega (arith, sized, mul-add-lt row columns column rows r c)
 
 -- ---- a step
 
