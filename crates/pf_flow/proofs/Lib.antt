@@ -14,6 +14,7 @@ pub mod LevelLemmas
 pub mod LevelListLemmas
 pub mod WayLemmas
 pub mod PhaseLemmas
+pub mod StepLemmas
 pub mod CutOfLevels
 pub mod FilterLemmas
 pub mod SparseListings

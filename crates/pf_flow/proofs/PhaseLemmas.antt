@@ -46,3 +46,22 @@ pub ticks_now : {N O : Network} → KeepsCapacities N O → {d : ℕ → ℕ} �
 ticks_now {N} {O} first {d} w start now so_far =
     let t = potential_top {source = O.source} (capacity N) (subst (λ n. IsLabelling n O.source O.residual d) first.shape.vertices w) in
     omega (arith, so_far, t)
+
+-- levels of the one are levels of the other
+pub labelling_back : {N M : Network} → KeepsCapacities N M → {residual : PairTable} {d : ℕ → ℕ} → IsLabelling M.vertices M.source residual d → IsLabelling N.vertices N.source residual d
+labelling_back {N} {M} w {residual} {d} l = subst (λ n. IsLabelling n N.source residual d) w.shape.vertices (subst (λ s. IsLabelling M.vertices s residual d) w.shape.source l)
+
+-- O has the capacities of N, and M those of O; flow was added along ways of the levels d from N to O, and from O to M
+module _ {N O M : Network} (first : KeepsCapacities N O) (way : KeepsCapacities O M) {d : ℕ → ℕ} (labelling : IsLabelling O.vertices O.source M.residual d) (start now after : ℕ) (so_far : now + potential N.vertices (capacity N) N.residual d ≤ start + potential N.vertices (capacity N) O.residual d) (bound : after + potential O.vertices (capacity O) O.residual d ≤ now + potential O.vertices (capacity O) M.residual d) where
+  pub bound_more : after + potential N.vertices (capacity N) N.residual d ≤ start + potential N.vertices (capacity N) M.residual d
+  bound_more =
+      let e = potential_same first O.residual d in
+      let f = potential_same first M.residual d in
+      omega (arith, so_far, bound, e, f)
+
+  -- no more ticks than the vertices times the pairs with capacity in either direction
+  pub bound_top : after ≤ start + N.vertices * pair_count N.vertices (capacity N)
+  bound_top =
+      let s = bound_more in
+      let t = potential_top {source = N.source} (capacity N) (labelling_back first labelling) in
+      omega (arith, s, t)

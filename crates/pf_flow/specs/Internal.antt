@@ -9,3 +9,4 @@ pub mod DenseLaws
 pub mod Settled
 pub mod PartSums
 pub mod Filling
+pub mod Steps

@@ -17,8 +17,8 @@ use pf_base::utils::Tally;
 use pf_base::{PathError, SignedCost};
 use std::alloc::Allocator;
 
-/// Adds flow along shortest paths until none is left, and answers the levels of the last search, which
-/// does not reach the sink.
+/// Adds flow along shortest paths, in phases of paths of one length, until none is left, and answers
+/// the levels of the last search, which does not reach the sink.
 fn saturate<C, S, A>(store: &mut S, alloc: A, tally: &mut Tally) -> Result<Levels<A>, PathError>
 where
     C: SignedCost,
@@ -41,7 +41,7 @@ where
     path.resize(size, 0)?;
     let mut found = Levels::find(alloc, store)?;
     'phases: while found.levels[sink] < size {
-        augment_phase(store, &found, &mut path, tally);
+        augment_phase(store, &mut found, &mut path, tally);
         found = Levels::find(alloc, store)?;
     }
     Ok(found)

@@ -132,7 +132,9 @@ pub trait EdmondsKarp<C: SignedCost>: FlowStore<C> {
     /// `omit_details` both lists are empty. Where source and sink are one, there is no flow and no cut.
     ///
     /// Flow is added along shortest paths (J. Edmonds, R. M. Karp, "Theoretical improvements in
-    /// algorithmic efficiency for network flow problems", 1972).
+    /// algorithmic efficiency for network flow problems", 1972), in phases of paths of one length
+    /// (E. A. Dinic, "Algorithm for solution of a problem of maximum flow in networks with power
+    /// estimation", 1970).
     ///
     /// # Errors
     ///

@@ -4,12 +4,15 @@ ghost use Rattle.std.specs.Prelude.{◌≡◌, ◌<◌, ◌+◌, length, slice_i
 ghost use Rattle.pf_base.specs.declared.error.PathError.TheVariants.{OutOfMemory};
 ghost use Rattle.pf_flow.specs.Networks.{Network};
 ghost use Rattle.pf_flow.specs.Internal.Levels.{AreLevels, HasFound, IsTree, IsTreePath};
+ghost use Rattle.pf_flow.specs.Internal.Steps.{AreSteps};
 
+use crate::steps::Steps;
 use crate::store::FlowStore;
 use pf_base::{PathError, SignedCost};
 use std::alloc::Allocator;
 
-/// How far each vertex is from the source, and by which vertex it was reached.
+/// How far each vertex is from the source, by which vertex it was reached, and which steps lead on
+/// from it.
 #[derive(Drop)]
 pub struct Levels<A: Allocator> {
     /// The level of each vertex, or the number of vertices where it was not reached.
@@ -18,6 +21,8 @@ pub struct Levels<A: Allocator> {
     pub parents: Vec<usize, A>,
     /// The vertices in the order in which they were reached.
     queue: Vec<usize, A>,
+    /// The steps with residual capacity that lead one level up.
+    pub steps: Steps<A>,
 }
 
 impl<A: Allocator + Copy> Levels<A> {
@@ -29,6 +34,7 @@ impl<A: Allocator + Copy> Levels<A> {
         ensures levels { IfOk result (λ found. AreLevels (S.network store.now) (slice_index found.levels.items) (slice_index found.parents.items)) }
         ensures levels_len { IfOk result (λ found. length found.levels.items ≡ (S.network store.now).vertices) }
         ensures parents_len { IfOk result (λ found. length found.parents.items ≡ (S.network store.now).vertices) }
+        ensures steps { IfOk result (λ found. AreSteps (S.network store.now).vertices found.steps.targets.items found.steps.places.items found.steps.ends.items) }
         ensures refused { IfErr result (λ e. e ≡ OutOfMemory) }
     {
         let mut found = Levels::begin(alloc, store)?;
@@ -46,6 +52,7 @@ impl<A: Allocator + Copy> Levels<A> {
         C: SignedCost,
         S: FlowStore<C>,
         ensures found { IfOk result (λ found. HasFound (S.network store.now) found.levels.items found.parents.items found.queue.items 0) }
+        ensures steps { IfOk result (λ found. AreSteps (S.network store.now).vertices found.steps.targets.items found.steps.places.items found.steps.ends.items) }
         ensures refused { IfErr result (λ e. e ≡ OutOfMemory) }
     {
         let size = store.size();
@@ -57,10 +64,12 @@ impl<A: Allocator + Copy> Levels<A> {
         parents.resize(size, source)?;
         let mut queue = Vec::with_capacity(alloc, size)?;
         queue.push(source)?;
+        let steps = Steps::none(alloc, size)?;
         Ok(Levels {
             levels,
             parents,
             queue,
+            steps,
         })
     }
 
@@ -71,7 +80,9 @@ impl<A: Allocator + Copy> Levels<A> {
         S: FlowStore<C>,
         requires found { HasFound (S.network store.now) self.old.levels.items self.old.parents.items self.old.queue.items at }
         requires at { at < length self.old.queue.items }
+        requires steps { AreSteps (S.network store.now).vertices self.old.steps.targets.items self.old.steps.places.items self.old.steps.ends.items }
         ensures found { OnOk result (HasFound (S.network store.now) self.new.levels.items self.new.parents.items self.new.queue.items (at + 1)) }
+        ensures steps { OnOk result (AreSteps (S.network store.now).vertices self.new.steps.targets.items self.new.steps.places.items self.new.steps.ends.items) }
         ensures refused { IfErr result (λ e. e ≡ OutOfMemory) }
     {
         let from = self.queue[at];
@@ -85,6 +96,7 @@ impl<A: Allocator + Copy> Levels<A> {
                 self.queue.push(to)?;
             }
         }
+        self.steps.add_row(from, level, &ends, &self.levels)?;
         Ok(())
     }
 

@@ -19,6 +19,8 @@ mod paths;
 mod phases;
 mod sparse_capacity;
 mod sparse_row;
+mod steps;
 mod store;
 mod sums;
 mod taking_back;
+mod ways;

@@ -4,19 +4,46 @@ ghost use Rattle.std.specs.Prelude.{◌≡◌, ◌≢◌, ◌≤◌, ◌<◌, �
 ghost use Rattle.pf_flow.specs.Networks.{Network, capacity, KeepsCapacities, IsNetwork};
 ghost use Rattle.pf_flow.specs.Internal.AugmentingPaths.{IsLabelling, potential};
 ghost use Rattle.pf_flow.specs.Internal.Levels.{AreLevels};
+ghost use Rattle.pf_flow.specs.Internal.Steps.{AreSteps, IsSinkWay};
 
 use crate::levels::Levels;
 use crate::paths::add_along;
 use crate::store::FlowStore;
+use crate::ways::next_way;
 use pf_base::SignedCost;
 use pf_base::utils::Tally;
 use std::alloc::Allocator;
 
-/// Adds flow along paths that go up by a level with each pair, with a tick for each of them, which
-/// the potential of the levels rises by.
+/// Adds as much flow along a way to the sink as its pairs have left, with a tick. The levels stay
+/// levels, and their potential rises by as much.
+fn add_way<C, S>(store: &mut S, levels: &[usize], path: &[usize], tally: &mut Tally)
+where
+    C: SignedCost,
+    S: FlowStore<C>,
+    requires network { IsNetwork C.fits (S.network store.old) }
+    requires apart { (S.network store.old).source ≢ (S.network store.old).sink }
+    requires way { IsSinkWay (S.network store.old) (slice_index levels.now) path.now }
+    requires labelling { IsLabelling (S.network store.old).vertices (S.network store.old).source (S.network store.old).residual (slice_index levels.now) }
+    requires levels_len { length levels.now ≡ (S.network store.old).vertices }
+    requires path_len { length path.now ≡ (S.network store.old).vertices }
+    requires reached { slice_index levels.now (S.network store.old).sink < (S.network store.old).vertices }
+    ensures network { IsNetwork C.fits (S.network store.new) }
+    ensures kept { KeepsCapacities (S.network store.old) (S.network store.new) }
+    ensures labelling { IsLabelling (S.network store.old).vertices (S.network store.old).source (S.network store.new).residual (slice_index levels.now) }
+    ensures progress { tally.old < tally.new }
+    ensures bound { tally.new + potential (S.network store.old).vertices (capacity (S.network store.old)) (S.network store.old).residual (slice_index levels.now) ≤ tally.old + potential (S.network store.old).vertices (capacity (S.network store.old)) (S.network store.new).residual (slice_index levels.now) }
+{
+    let depth = levels[store.sink()];
+    add_along(store, &path[..depth + 1]);
+    tally.tick();
+}
+
+/// Adds flow along ways that go up by a level with each pair, with a tick for each of them, which the
+/// potential of the levels rises by: along the one by which the sink was reached, and then along all
+/// that are found over steps that are left.
 pub fn augment_phase<C, S, A>(
     store: &mut S,
-    found: &Levels<A>,
+    found: &mut Levels<A>,
     path: &mut [usize],
     tally: &mut Tally,
 )
@@ -26,20 +53,21 @@ where
     A: Allocator + Copy,
     requires network { IsNetwork C.fits (S.network store.old) }
     requires apart { (S.network store.old).source ≢ (S.network store.old).sink }
-    requires levels { AreLevels (S.network store.old) (slice_index found.now.levels.items) (slice_index found.now.parents.items) }
-    requires levels_len { length found.now.levels.items ≡ (S.network store.old).vertices }
-    requires parents_len { length found.now.parents.items ≡ (S.network store.old).vertices }
-    requires reached { slice_index found.now.levels.items (S.network store.old).sink < (S.network store.old).vertices }
+    requires levels { AreLevels (S.network store.old) (slice_index found.old.levels.items) (slice_index found.old.parents.items) }
+    requires levels_len { length found.old.levels.items ≡ (S.network store.old).vertices }
+    requires parents_len { length found.old.parents.items ≡ (S.network store.old).vertices }
+    requires steps { AreSteps (S.network store.old).vertices found.old.steps.targets.items found.old.steps.places.items found.old.steps.ends.items }
+    requires reached { slice_index found.old.levels.items (S.network store.old).sink < (S.network store.old).vertices }
     requires path_len { length path.old ≡ (S.network store.old).vertices }
     ensures network { IsNetwork C.fits (S.network store.new) }
     ensures kept { KeepsCapacities (S.network store.old) (S.network store.new) }
-    ensures labelling { IsLabelling (S.network store.old).vertices (S.network store.old).source (S.network store.new).residual (slice_index found.now.levels.items) }
+    ensures labelling { IsLabelling (S.network store.old).vertices (S.network store.old).source (S.network store.new).residual (slice_index found.old.levels.items) }
     ensures progress { tally.old < tally.new }
-    ensures bound { tally.new + potential (S.network store.old).vertices (capacity (S.network store.old)) (S.network store.old).residual (slice_index found.now.levels.items) ≤ tally.old + potential (S.network store.old).vertices (capacity (S.network store.old)) (S.network store.new).residual (slice_index found.now.levels.items) }
+    ensures bound { tally.new + potential (S.network store.old).vertices (capacity (S.network store.old)) (S.network store.old).residual (slice_index found.old.levels.items) ≤ tally.old + potential (S.network store.old).vertices (capacity (S.network store.old)) (S.network store.new).residual (slice_index found.old.levels.items) }
 {
-    let sink = store.sink();
-    let depth = found.levels[sink];
-    found.write_path(path, sink);
-    add_along(store, &path[..depth + 1]);
-    tally.tick();
+    found.write_path(path, store.sink());
+    add_way(store, &found.levels, path, tally);
+    'ways: while next_way(store, &found.levels, &mut found.steps, path) {
+        add_way(store, &found.levels, path, tally);
+    }
 }

@@ -39,6 +39,7 @@ phases-preserved g c =
       levels = found.levels;
       levels_len = found.levels_len;
       parents_len = found.parents_len;
+      steps = found.steps;
       path_len = kept_len c.phases.path.len (g.S.FlowStore.network c.augment_phase.new.store).vertices c.augment_phase.new.path c.phases.path.items (omega (arith, auto, len, wide, shape)) (omega (arith, wide, shape)) (omega (arith, wide, shape, owned));
       ticked = omega (arith, more, before);
       bound = ticks_anew i.kept p.kept p.labelling c.args.tally.now c.phases.tally c.augment_phase.new.tally i.bound p.bound found.levels;

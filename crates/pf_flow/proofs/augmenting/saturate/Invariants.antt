@@ -4,6 +4,7 @@ use Rattle.pf_flow.specs.Flows.{pair_count}
 use Rattle.pf_flow.specs.Networks.{capacity, IsNetwork, KeepsCapacities}
 use Rattle.pf_flow.specs.Internal.AugmentingPaths.{potential}
 use Rattle.pf_flow.specs.Internal.Levels.{AreLevels}
+use Rattle.pf_flow.specs.Internal.Steps.{AreSteps}
 use Rattle.pf_flow.proofs.augmenting.saturate.Given as goal
 
 -- the flow so far, the levels found for it, and no more ticks than the potential
@@ -14,6 +15,7 @@ invariant-phases g l = record {
   levels : AreLevels (g.S.FlowStore.network l.store) (slice_index l.found.levels.items) (slice_index l.found.parents.items);
   levels_len : length l.found.levels.items ≡ (g.S.FlowStore.network l.store).vertices;
   parents_len : length l.found.parents.items ≡ (g.S.FlowStore.network l.store).vertices;
+  steps : AreSteps (g.S.FlowStore.network l.store).vertices l.found.steps.targets.items l.found.steps.places.items l.found.steps.ends.items;
   path_len : length l.path.items ≡ (g.S.FlowStore.network l.store).vertices;
   ticked : l.fn.tally ≤ l.tally;
   bound : l.tally ≤ l.fn.tally + potential (g.S.FlowStore.network l.fn.store).vertices (capacity (g.S.FlowStore.network l.fn.store)) (g.S.FlowStore.network l.store).residual (slice_index l.found.levels.items);

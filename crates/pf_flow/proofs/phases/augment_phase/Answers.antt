@@ -1,58 +1,49 @@
-use Rattle.std.proofs.Common.{◌≡◌, ◌<◌, ◌+◌, sym, subst, ◌∙◌, length, arith, take}
+use Rattle.std.proofs.Common.{◌≤◌, ◌+◌, ◌∙◌, sym, subst, arith, List, ℕ}
 use Rattle.std.specs.Prelude.{slice_index}
-use Rattle.std.proofs.lemmas.List.{get_or_read}
-use Rattle.pf_flow.specs.Internal.AugmentingPaths.{IsAugmentingPath, IsLevelPath}
-use Rattle.pf_flow.proofs.WayLemmas.{way_of_tree, level_way, augmenting_way}
+use Rattle.pf_flow.specs.Networks.{capacity}
+use Rattle.pf_flow.specs.Internal.AugmentingPaths.{IsLabelling, potential}
+use Rattle.pf_flow.specs.Internal.Steps.{AreSteps, IsSinkWay}
+use Rattle.pf_flow.proofs.AgreeLemmas.{capacities_more}
+use Rattle.pf_flow.proofs.PhaseLemmas.{labelling_back, bound_more, bound_top}
+use Rattle.pf_flow.proofs.StepLemmas.{sink_way}
 use Rattle.pf_flow.proofs.phases.augment_phase.Goals as goal
 
-pub add_along-requires-clause-path : goal.add_along-requires-clause-path
-add_along-requires-clause-path g c =
-    let N = g.S.FlowStore.network c.args.store.now in
+pub add_way-requires-clause-way : goal.add_way-requires-clause-way
+add_way-requires-clause-way g c =
     let r = c.requires in
-    let levels = c.args.found.now.levels.items in
-    let s = c.sink-sink.ensures in
-    let inside = (g.met.S.FlowStore.network_law c.args.store.now).sink_in in
-    let low = subst (λ v. slice_index levels v < N.vertices) (sym s) r.reached in
-    let wide = r.levels_len in
-    let depth : c.index-depth.result.now ≡ slice_index levels c.sink-sink.result = get_or_read levels c.sink-sink.result c.index-depth.result.now (omega (arith, inside, wide, s)) c.index-depth.ensures 0 in
-    let way = way_of_tree r.levels wide r.parents_len c.sink-sink.result low c.write_path.ensures in
-    let a = c.write_path.auto.path in
-    let p = r.path_len in
-    let room : slice_index levels c.sink-sink.result < length c.write_path.new.path = omega (arith, a, p, low) in
-    subst (λ k. IsAugmentingPath N (take (k + 1) c.write_path.new.path)) (sym depth) (augmenting_way way room (c.write_path.ensures.last ∙ s) r.apart)
+    subst (λ (xs : List ℕ). IsSinkWay (g.S.FlowStore.network c.args.store.now) (slice_index xs) c.write_path.new.path) (sym c.deref.ensures.value)
+    (sink_way r.levels r.reached r.levels_len r.parents_len c.sink.result c.sink.ensures c.write_path.ensures)
 
-pub returns-clause-labelling : goal.returns-clause-labelling
-returns-clause-labelling g c =
-    let N = g.S.FlowStore.network c.args.store.now in
-    let r = c.requires in
-    let levels = c.args.found.now.levels.items in
-    let s = c.sink-sink.ensures in
-    let inside = (g.met.S.FlowStore.network_law c.args.store.now).sink_in in
-    let low = subst (λ v. slice_index levels v < N.vertices) (sym s) r.reached in
-    let wide = r.levels_len in
-    let depth : c.index-depth.result.now ≡ slice_index levels c.sink-sink.result = get_or_read levels c.sink-sink.result c.index-depth.result.now (omega (arith, inside, wide, s)) c.index-depth.ensures 0 in
-    let way = way_of_tree r.levels wide r.parents_len c.sink-sink.result low c.write_path.ensures in
-    let a = c.write_path.auto.path in
-    let p = r.path_len in
-    let room : slice_index levels c.sink-sink.result < length c.write_path.new.path = omega (arith, a, p, low) in
-    let up = subst (λ k. IsLevelPath (slice_index levels) (take (k + 1) c.write_path.new.path)) (sym depth) (level_way way room) in
-    c.add_along.ensures.levels (slice_index levels) up r.levels.labelling
+pub ways-smaller : goal.ways-smaller
+ways-smaller g c =
+    let i = c.ways.invariant in
+    let p = c.add_way-in-ways.ensures in
+    let O = g.S.FlowStore.network c.ways.store in
+    let M = g.S.FlowStore.network c.add_way-in-ways.new.store in
+    let k = c.deref-in-ways-2.ensures.value ∙ i.levels in
+    let labelling = subst (λ (xs : List ℕ). IsLabelling O.vertices O.source M.residual (slice_index xs)) k p.labelling in
+    let bound = subst (λ (xs : List ℕ). c.add_way-in-ways.new.tally + potential O.vertices (capacity O) O.residual (slice_index xs) ≤ c.ways.tally + potential O.vertices (capacity O) M.residual (slice_index xs)) k p.bound in
+    let top = bound_top i.kept p.kept labelling c.args.tally.now c.ways.tally c.add_way-in-ways.new.tally i.bound bound in
+    let more = p.progress in
+    omega (arith, top, more)
 
-pub returns-clause-bound : goal.returns-clause-bound
-returns-clause-bound g c =
-    let N = g.S.FlowStore.network c.args.store.now in
-    let r = c.requires in
-    let levels = c.args.found.now.levels.items in
-    let s = c.sink-sink.ensures in
-    let inside = (g.met.S.FlowStore.network_law c.args.store.now).sink_in in
-    let low = subst (λ v. slice_index levels v < N.vertices) (sym s) r.reached in
-    let wide = r.levels_len in
-    let depth : c.index-depth.result.now ≡ slice_index levels c.sink-sink.result = get_or_read levels c.sink-sink.result c.index-depth.result.now (omega (arith, inside, wide, s)) c.index-depth.ensures 0 in
-    let way = way_of_tree r.levels wide r.parents_len c.sink-sink.result low c.write_path.ensures in
-    let a = c.write_path.auto.path in
-    let p = r.path_len in
-    let room : slice_index levels c.sink-sink.result < length c.write_path.new.path = omega (arith, a, p, low) in
-    let up = subst (λ k. IsLevelPath (slice_index levels) (take (k + 1) c.write_path.new.path)) (sym depth) (level_way way room) in
-    let rise = c.add_along.ensures.rises (slice_index levels) up in
-    let tick = c.tick.ensures in
-    omega (arith, rise, tick)
+pub ways-preserved : goal.ways-preserved
+ways-preserved g c =
+    let i = c.ways.invariant in
+    let p = c.add_way-in-ways.ensures in
+    let O = g.S.FlowStore.network c.ways.store in
+    let M = g.S.FlowStore.network c.add_way-in-ways.new.store in
+    let k = c.deref-in-ways-2.ensures.value ∙ i.levels in
+    let labelling = subst (λ (xs : List ℕ). IsLabelling O.vertices O.source M.residual (slice_index xs)) k p.labelling in
+    let bound = subst (λ (xs : List ℕ). c.add_way-in-ways.new.tally + potential O.vertices (capacity O) O.residual (slice_index xs) ≤ c.ways.tally + potential O.vertices (capacity O) M.residual (slice_index xs)) k p.bound in
+    let before = i.progress in
+    let more = p.progress in
+    record {
+      network = p.network;
+      kept = capacities_more i.kept p.kept;
+      labelling = labelling_back i.kept labelling;
+      levels = i.levels;
+      steps = subst (λ n. AreSteps n c.next_way.new.steps.targets.items c.next_way.new.steps.places.items c.next_way.new.steps.ends.items) i.kept.shape.vertices c.next_way.ensures.steps;
+      progress = omega (arith, before, more);
+      bound = bound_more i.kept p.kept labelling c.args.tally.now c.ways.tally c.add_way-in-ways.new.tally i.bound bound;
+    }

@@ -1,6 +1,7 @@
-use Rattle.std.proofs.Common.{rules, ◌≡◌, ◌∷◌, [], ap, ◌∙◌, ℕ, length, replicate}
+use Rattle.std.proofs.Common.{rules, ◌≡◌, ◌∷◌, [], ap, subst, ◌∙◌, ℕ, length, replicate}
 use Rattle.std.specs.Prelude.{slice_set}
 use Rattle.std.proofs.lemmas.List.{length-set}
+use Rattle.pf_flow.specs.Internal.Steps.{AreSteps}
 use Rattle.pf_flow.proofs.LevelListLemmas.{resized, found_begun}
 use Rattle.pf_flow.proofs.levels.Levels.begin.Goals as goal
 
@@ -17,3 +18,6 @@ returns-clause-found g c =
     (ap (λ xs. slice_set xs c.source-source.result 0) e ∙ ap (λ s. slice_set (replicate N.vertices N.vertices) s 0) c.source-source.ensures)
     (length-set c.resize.new.self.items c.source-source.result 0 ∙ len)
     wide one
+
+pub returns-clause-steps : goal.returns-clause-steps
+returns-clause-steps g c = subst (λ n. AreSteps n c.in_ok-steps.steps.targets.items c.in_ok-steps.steps.places.items c.in_ok-steps.steps.ends.items) c.size-size.ensures c.in_ok-steps.ensures.steps

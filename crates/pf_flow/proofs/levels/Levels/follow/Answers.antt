@@ -7,6 +7,7 @@ use Rattle.std.proofs.Math.ListN.{get_or-append}
 use Rattle.pf_flow.specs.Networks.{Network}
 use Rattle.pf_flow.specs.Listings.{ListsNumbers}
 use Rattle.pf_flow.specs.Internal.Levels.{HasFound}
+use Rattle.pf_flow.specs.Internal.Steps.{AreSteps}
 use Rattle.pf_flow.proofs.LevelListLemmas.{found_more, found_next, known_level, to_reached, levels_kept, from_kept}
 use Rattle.pf_flow.proofs.levels.Levels.follow.Goals as goal
 use Rattle.pf_flow.proofs.levels.Levels.follow.Goals.{then-index-len+in_ok-push, else-index-len}
@@ -124,7 +125,21 @@ loop-end-preserved g c =
           subst (λ s. Kept N c.args.at from level c.deref-end-items.result.now (c.loop-end.end-index + 1) s.levels.items s.parents.items s.queue.items) (sym w.self-is)
           (known N c.args.at from level c.deref-end-items.result.now c.loop-end.end-index c.end-item.result.0 c.end-item.result.1 c.loop-end.self.levels.items c.loop-end.self.parents.items c.loop-end.self.queue.items there before old))
     ] in
-    record { found = after.0; more = after.1; from = after.2; level = after.3; followed = after.4 }
+    let steps : AreSteps N.vertices c.if-index-len.self.steps.targets.items c.if-index-len.self.steps.places.items c.if-index-len.self.steps.ends.items = elim c.if-index-len.branch [
+      | then-index-len+in_ok-push w ↦ subst (λ s. AreSteps N.vertices s.steps.targets.items s.steps.places.items s.steps.ends.items) (sym w.self-is) i.steps
+      | else-index-len w ↦ subst (λ s. AreSteps N.vertices s.steps.targets.items s.steps.places.items s.steps.ends.items) (sym w.self-is) i.steps
+    ] in
+    record { found = after.0; more = after.1; from = after.2; level = after.3; followed = after.4; steps = steps }
+
+pub add_row-requires-clause-inside : goal.add_row-requires-clause-inside
+add_row-requires-clause-inside g c = λ k to left h.
+    let N = g.S.FlowStore.network c.args.store.now in
+    let listed : ListsNumbers g.C.Number.value N.vertices (N.residual c.index-from.result.now) c.in_ok-ends.ends.items = c.in_ok-ends.ensures.listed in
+    let s = listed.sound k (to, left) (ap (λ xs. slice_get xs k) (sym c.deref.ensures.value) ∙ h) in
+    let inside = s.0 in
+    let wide = c.loop-end.invariant.found.levels_len in
+    let len = ap length c.deref-2.ensures.value in
+    omega (arith, inside, wide, len)
 
 pub returns-clause-found : goal.returns-clause-found
 returns-clause-found g c =

@@ -1,0 +1,24 @@
+use Rattle.std.proofs.Common.{◌<◌, refl, sym, subst, length, arith, List, ℕ}
+use Rattle.std.proofs.lemmas.Option.{slice_get_read}
+use Rattle.pf_flow.specs.Internal.Steps.{AreSteps}
+use Rattle.pf_flow.proofs.StepLemmas.{targeted, ended}
+use Rattle.pf_flow.proofs.steps.Steps.add_row.Goals as goal
+use Rattle.pf_flow.proofs.steps.Steps.add_row.Goals.{then-levels-to+in_ok-push, else-levels-to}
+
+pub loop-end-preserved : goal.loop-end-preserved
+loop-end-preserved g c =
+    let n = length c.args.levels.now in
+    let to = c.end-item.result.0 in
+    let inside : to < n = c.requires.inside c.loop-end.end-index to c.end-item.result.1 (slice_get_read c.args.list.now (length c.args.list.now) c.loop-end.end-index c.end-item.result refl c.loop-end-test.true c.end-item.is) in
+    elim c.if-levels-to.branch as (λ _. AreSteps n c.if-levels-to.self.targets.items c.if-levels-to.self.places.items c.if-levels-to.self.ends.items) [
+      | then-levels-to+in_ok-push w ↦
+          subst (λ s. AreSteps n s.targets.items s.places.items s.ends.items) (sym w.self-is)
+          (subst (λ (xs : List ℕ). AreSteps n xs c.loop-end.self.places.items c.loop-end.self.ends.items) (sym w.in_ok-push.ensures.items) (targeted c.loop-end.invariant to inside))
+      | else-levels-to w ↦ subst (λ s. AreSteps n s.targets.items s.places.items s.ends.items) (sym w.self-is) c.loop-end.invariant
+    ]
+
+pub returns-clause-steps : goal.returns-clause-steps
+returns-clause-steps g c =
+    let e = c.len-2.ensures in
+    let o = c.loop-end.self.targets.ok in
+    ended c.loop-end.invariant c.args.from c.len-2.result c.requires.from (omega (arith, e, o))
