@@ -27,8 +27,6 @@ pub use pf_flow::edmonds_karp::SparseCapacity;
 pub use pf_flow::edmonds_karp::edmonds_karp;
 pub use pf_flow::edmonds_karp::edmonds_karp_dense;
 pub use pf_flow::edmonds_karp::edmonds_karp_sparse;
-pub use pf_flow::edmonds_karp::listed_store;
-pub use pf_flow::edmonds_karp::square_store;
 pub use pf_flow::laws::flow_is_within_cut;
 pub use pf_flow::laws::stores_report_one_total;
 pub use pf_graph::directed::cycle_detection::brent;

@@ -4,7 +4,7 @@ use Rattle.std.proofs.Common.{ltb}
 use Rattle.pf_matrix.specs.Equality.{IsCopyOf}
 use Rattle.pf_matrix.specs.Tables.{Table, IsMatrix}
 use Rattle.pf_flow.specs.Capacities.{number}
-use Rattle.pf_flow.specs.Flows.{PairTable}
+use Rattle.pf_flow.specs.Flows.{PairTable, pair_sum}
 use Rattle.pf_flow.specs.Networks.{Network}
 
 -- are both vertices of n?
@@ -14,6 +14,10 @@ are_inside n a b = ltb a n && ltb b n
 -- the number at row a and column b, or 0 where they are not vertices of n
 abbrev pub table_number : {C : Type 0} → (C → ℤ) → ℕ → Table C → PairTable
 table_number value n m a b = if are_inside n a b then number value m.values (a * m.columns + b) else pos 0
+
+-- the numbers of all pairs of vertices, added up
+abbrev pub table_sum : {C : Type 0} → (C → ℤ) → Table C → ℤ
+table_sum value m = pair_sum m.rows (table_number value m.rows m)
 
 -- n rows and n columns
 pub record IsSquare {C : Type 0} (n : ℕ) (m : Table C) : Type 0 where

@@ -1,5 +1,6 @@
 -- Rows of edges as a network.
 use Rattle.std.specs.Prelude.{◌≡◌, ◌<◌, ℕ, ℤ, Bool, true, List, [], length}
+use Rattle.pf_flow.specs.Flows.{pair_sum}
 use Rattle.pf_flow.specs.Networks.{Network}
 use Rattle.pf_flow.specs.SparseRows.{ends, Rises, has_end, amount_to, row_at, AreBelow}
 use Rattle.pf_flow.specs.declared.sparse_row.Edge.{Edge}
@@ -24,6 +25,10 @@ rows_network value rows source sink total details = record {
   details = details;
   room = λ a b. has_end (ends (row_at rows a)) b;
 }
+
+-- what is left of all capacities, added up
+abbrev pub rows_sum : {C : Type 0} → (C → ℤ) → List (List (Edge C)) → ℤ
+rows_sum value rows = pair_sum (length rows) (λ a b. amount_to (λ e. value e.residual) (row_at rows a) b)
 
 -- no row has an edge
 pub record AreEmpty {C : Type 0} (rows : List (List (Edge C))) : Type 0 where

@@ -1,13 +1,14 @@
 //! Changes of a capacity.
 
-ghost use Rattle.std.specs.Prelude.{◌≡◌, ◌↔◌, ◌<◌, ◌≤ℤ◌, ◌+ℤ◌, pos, true, OnOk, OnErr, IfOk, IfErr, IsTrue};
+ghost use Rattle.std.specs.Prelude.{◌≡◌, ◌<◌, ◌≤ℤ◌, ◌+ℤ◌, pos, true, OnOk, OnErr, IfOk, IfErr};
 ghost use Rattle.num_traits.specs.Laws.{Checks};
 ghost use Rattle.pf_flow.specs.Flows.{Same, replaced, pair_sum};
 ghost use Rattle.pf_base.specs.declared.error.PathError.TheVariants.{OutOfMemory};
-ghost use Rattle.pf_flow.specs.Networks.{Network, Agrees, KeepsCapacities, ChangesCapacity, IsNetwork, capacity};
+ghost use Rattle.pf_flow.specs.Networks.{Network, Agrees, KeepsCapacities, ChangesCapacity, IsNetwork, capacity, capacity_sum};
 ghost use Rattle.pf_flow.specs.Capacities.{IsChangeRefused};
 
 use crate::listed_sums::sum_by_lists;
+use crate::makers::exchanged;
 use crate::numbers::{is_below, plus};
 use crate::store::FlowStore;
 use crate::taking_back::take_back;
@@ -27,22 +28,31 @@ where
     plus(store.residual_capacity(from, to), store.flow(from, to))
 }
 
-/// The sum of two costs, if it fits.
-fn checked_sum<C: SignedCost>(left: C, right: C) -> Option<C>
-    ensures { Checks C.value C.fits (C.value left +ℤ C.value right) result }
+/// The sum of all capacities.
+fn sum_now<C, S, A>(store: &S, alloc: A) -> Result<C, PathError>
+where
+    C: SignedCost,
+    S: FlowStore<C>,
+    A: Allocator + Copy,
+    requires { IsNetwork C.fits (S.network store.now) }
+    ensures sum { IfOk result (λ sum. C.value sum ≡ capacity_sum (S.network store.now)) }
+    ensures refused { IfErr result (λ e. e ≡ OutOfMemory) }
 {
-    left.checked_add(&right)
+    match store.known_sum() {
+        Some(sum) => Ok(sum),
+        None => sum_by_lists(store, alloc),
+    }
 }
 
-/// Does the sum of all capacities fit, once the capacity of a pair is another?
-fn sum_fits<C, S, A>(
+/// The sum of all capacities once the capacity of a pair is another, if it fits.
+fn sum_after<C, S, A>(
     store: &S,
     alloc: A,
     from: usize,
     to: usize,
     old: C,
     number: C,
-) -> Result<bool, PathError>
+) -> Result<Option<C>, PathError>
 where
     C: SignedCost,
     S: FlowStore<C>,
@@ -51,27 +61,21 @@ where
     requires from { from < (S.network store.now).vertices }
     requires to { to < (S.network store.now).vertices }
     requires old { C.value old ≡ capacity (S.network store.now) from to }
-    requires low { pos 0 ≤ℤ C.value number }
-    ensures sum { IfOk result (λ fits. IsTrue fits ↔ C.fits (pair_sum (S.network store.now).vertices (replaced (capacity (S.network store.now)) from to (C.value number)))) }
+    ensures sum { IfOk result (Checks C.value C.fits (pair_sum (S.network store.now).vertices (replaced (capacity (S.network store.now)) from to (C.value number)))) }
     ensures refused { IfErr result (λ e. e ≡ OutOfMemory) }
 {
-    if !is_below(old, number) {
-        return Ok(true);
-    }
-    let sum = sum_by_lists(store, alloc)?;
-    number.known();
-    let more = number.minus(old);
-    Ok(checked_sum(sum, more).is_some())
+    let sum = sum_now(store, alloc)?;
+    Ok(exchanged(sum, old, number))
 }
 
-/// The capacity of a pair of vertices, if it may become another.
-fn old_capacity<C, S, A>(
+/// The capacity of a pair of vertices, if it may become another, and the sum of all capacities then.
+fn plan_change<C, S, A>(
     store: &S,
     alloc: A,
     from: usize,
     to: usize,
     number: C,
-) -> Result<C, PathError>
+) -> Result<(C, C), PathError>
 where
     C: SignedCost,
     S: FlowStore<C>,
@@ -79,20 +83,19 @@ where
     requires network { IsNetwork C.fits (S.network store.now) }
     requires from { from < (S.network store.now).vertices }
     requires to { to < (S.network store.now).vertices }
-    ensures old { IfOk result (λ old. C.value old ≡ capacity (S.network store.now) from to) }
+    ensures old { IfOk result (λ plan. C.value plan.0 ≡ capacity (S.network store.now) from to) }
     ensures low { OnOk result (pos 0 ≤ℤ C.value number) }
-    ensures sum { OnOk result (C.fits (pair_sum (S.network store.now).vertices (replaced (capacity (S.network store.now)) from to (C.value number)))) }
+    ensures sum { IfOk result (λ plan. C.value plan.1 ≡ pair_sum (S.network store.now).vertices (replaced (capacity (S.network store.now)) from to (C.value number))) }
     ensures refused { IfErr result (IsChangeRefused C.fits (S.network store.now) from to (C.value number)) }
 {
     if is_below(number, C::zero()) {
         return Err(PathError::NegativeCapacity);
     }
     let old = capacity_of(store, from, to);
-    let fits = sum_fits(store, alloc, from, to, old, number)?;
-    if !fits {
+    let Some(sum) = sum_after(store, alloc, from, to, old, number)? else {
         return Err(PathError::CostOverflow);
-    }
-    Ok(old)
+    };
+    Ok((old, sum))
 }
 
 /// Takes back the flow of a pair that is above a number.
@@ -127,8 +130,9 @@ where
     take_back(store, alloc, from, to, flow.minus(number))
 }
 
-/// Changes the capacity of a pair that has room, where its flow is not above the new one.
-fn settle_capacity<C, S>(store: &mut S, from: usize, to: usize, old: C, number: C)
+/// Changes the capacity of a pair that has room, where its flow is not above the new one. Given is the
+/// sum of all capacities after that.
+fn settle_capacity<C, S>(store: &mut S, from: usize, to: usize, old: C, number: C, sum: C)
 where
     C: SignedCost,
     S: FlowStore<C>,
@@ -139,14 +143,16 @@ where
     requires old { C.value old ≡ capacity (S.network store.old) from to }
     requires low { pos 0 ≤ℤ C.value number }
     requires flow { (S.network store.old).flow from to ≤ℤ C.value number }
-    requires sum { C.fits (pair_sum (S.network store.old).vertices (replaced (capacity (S.network store.old)) from to (C.value number))) }
+    requires sum { C.value sum ≡ pair_sum (S.network store.old).vertices (replaced (capacity (S.network store.old)) from to (C.value number)) }
     ensures network { IsNetwork C.fits (S.network store.new) }
     ensures changed { ChangesCapacity from to (C.value number) (S.network store.old) (S.network store.new) }
     ensures flows { Same (S.network store.old).flow (S.network store.new).flow }
     ensures total { (S.network store.new).total ≡ (S.network store.old).total }
 {
     number.known();
+    sum.known();
     store.add_residual_capacity(from, to, number.minus(old));
+    store.note_sum(sum);
 }
 
 /// Changes one capacity, and takes back the flow above it.
@@ -172,9 +178,9 @@ where
     ensures unchanged { OnErr result (Agrees (S.network store.old) (S.network store.new)) }
     ensures refused { IfErr result (IsChangeRefused C.fits (S.network store.old) from to (C.value capacity)) }
 {
-    let old = old_capacity(store, alloc, from, to, capacity)?;
+    let (old, sum) = plan_change(store, alloc, from, to, capacity)?;
     store.make_room(from, to)?;
     lower_to(store, alloc, from, to, capacity)?;
-    settle_capacity(store, from, to, old, capacity);
+    settle_capacity(store, from, to, old, capacity, sum);
     Ok(())
 }

@@ -3,7 +3,8 @@
 ghost use Rattle.std.specs.Prelude.{◌≡◌, ◌<◌, ◌*◌, ◌^◌, ◌<ℤ◌, pos, IfOk, IfErr};
 ghost use Rattle.pf_base.specs.declared.error.PathError.TheVariants.{OutOfMemory};
 ghost use Rattle.pf_matrix.specs.Tables.{IsMatrix};
-ghost use Rattle.pf_flow.specs.DenseStores.{AreTables, IsSquare, IsZeroTable, IsStoreCopy, tables_network, table_number};
+ghost use Rattle.std.specs.Option.{ForSome};
+ghost use Rattle.pf_flow.specs.DenseStores.{AreTables, IsSquare, IsZeroTable, IsStoreCopy, tables_network, table_number, table_sum};
 ghost use Rattle.pf_flow.specs.Internal.DenseLaws.{tables_law};
 ghost use Rattle.pf_flow.specs.Listings.{ListsNumbers, ListsVertices};
 
@@ -18,15 +19,19 @@ use std::alloc::{AllocError, Allocator, Global};
 /// A store that keeps the residual capacity and the flow of each pair of vertices in two square
 /// matrices. Each pair has room from the start.
 #[derive(Debug, Drop)]
-pub struct DenseCapacity<C, A: Allocator = Global> {
+pub struct DenseCapacity<C: SignedCost, A: Allocator = Global> {
     residuals: Matrix<C, A>,
     flows: Matrix<C, A>,
     source: usize,
     sink: usize,
     total: C,
     details: bool,
+    // What is left of all capacities, added up, where it is known.
+    sum: Option<C>,
     // the matrices are those of a network
     ghost stored: { AreTables source sink residuals flows },
+    // the sum is theirs
+    ghost summed: { ForSome sum (λ z. C.value z ≡ table_sum C.value residuals) },
 }
 
 /// The vertices to which the numbers of a row are above 0, each with its number, in rising order. The
@@ -144,6 +149,7 @@ impl<C: SignedCost, A: Allocator + Copy> FlowStore<C> for DenseCapacity<C, A> {
     }
 
     fn add_flow(&mut self, from: usize, to: usize, amount: C) {
+        self.sum = None;
         raise(&mut self.flows, from, to, amount);
         lower(&mut self.flows, to, from, amount);
         lower(&mut self.residuals, from, to, amount);
@@ -151,7 +157,16 @@ impl<C: SignedCost, A: Allocator + Copy> FlowStore<C> for DenseCapacity<C, A> {
     }
 
     fn add_residual_capacity(&mut self, from: usize, to: usize, amount: C) {
+        self.sum = None;
         raise(&mut self.residuals, from, to, amount);
+    }
+
+    fn known_sum(&self) -> Option<C> {
+        self.sum
+    }
+
+    fn note_sum(&mut self, sum: C) {
+        self.sum = Some(sum);
     }
 
     fn set_total_capacity(&mut self, total: C) {
@@ -177,6 +192,7 @@ impl<C: SignedCost, A: Allocator + Copy> EdmondsKarp<C> for DenseCapacity<C, A> 
             sink,
             total: C::zero(),
             details: true,
+            sum: None,
         })
     }
 }
@@ -195,6 +211,7 @@ impl<C: SignedCost, A: Allocator + Copy> Clone for DenseCapacity<C, A> {
             sink: self.sink,
             total: self.total,
             details: self.details,
+            sum: None,
         })
     }
 }

@@ -1,23 +1,24 @@
 //! Greatest flows and least cuts under changing capacities.
 
-ghost use Rattle.std.specs.Prelude.{◌≡◌, ◌≢◌, ◌≤◌, ◌<◌, ◌+◌, ◌*◌, ◌≤ℤ◌, ◌<ℤ◌, ◌+ℤ◌, ◌-ℤ◌, ℕ, pos, true, false, [], OnOk, OnErr, IfOk, IfErr};
+ghost use Rattle.std.specs.Prelude.{◌≡◌, ◌≢◌, ◌≤◌, ◌<◌, ◌+◌, ◌*◌, ◌≤ℤ◌, ◌<ℤ◌, ◌+ℤ◌, ◌-ℤ◌, ℕ, pos, true, false, [], length, OnOk, OnErr, IfOk, IfErr};
 ghost use Rattle.pf_base.specs.declared.error.PathError.TheVariants.{OutOfMemory};
 ghost use Rattle.pf_flow.specs.Flows.{Same, pair_count};
 ghost use Rattle.pf_flow.specs.Networks.{Network, capacity, capacity_sum, Agrees, KeepsCapacities, ChangesCapacity, IsNetwork, IsFresh, HasCapacities, HasCutOfTotal};
 ghost use Rattle.pf_flow.specs.Listings.{ListsFlows, ListsLeastCut};
-ghost use Rattle.pf_flow.specs.Capacities.{IsChangeRefused};
+ghost use Rattle.pf_flow.specs.Capacities.{square_table, AreRefused, IsChangeRefused};
 
 use crate::augmenting::augment_flow;
 pub use crate::by_names::{edmonds_karp, edmonds_karp_dense, edmonds_karp_sparse};
 use crate::changes::change_capacity;
 pub use crate::dense_capacity::DenseCapacity;
 use crate::listings::list_flows;
-pub use crate::makers::{listed_store, square_store};
+use crate::makers::{fill, side_of};
 pub use crate::sparse_capacity::SparseCapacity;
 pub use crate::store::FlowStore;
 use crate::sums::sum_of_capacities;
 use pf_base::utils::Tally;
 use pf_base::{PathError, SignedCost};
+use pf_matrix::Matrix;
 use std::alloc::{Allocator, Global};
 
 /// A capacity or a flow from one vertex to another.
@@ -48,6 +49,56 @@ pub trait EdmondsKarp<C: SignedCost>: FlowStore<C> {
         ensures capacities { IfOk result (λ s. HasCapacities (λ a b. pos 0) (Self.FlowStore.network s)) }
         ensures network { IfOk result (λ s. IsNetwork C.fits (Self.FlowStore.network s)) }
         ensures refused { IfErr result (λ e. e ≡ OutOfMemory) };
+
+    /// A store with the capacities of a square matrix, without flow: the value at row `a` and column
+    /// `b` is the capacity from `a` to `b`.
+    ///
+    /// # Errors
+    ///
+    /// `NegativeCapacity` exactly where a capacity is below zero, else `CostOverflow` exactly where
+    /// the sum of all capacities does not fit. `OutOfMemory` may come in the place of any answer.
+    fn from_matrix<A: Allocator>(
+        alloc: Self::Alloc,
+        source: usize,
+        sink: usize,
+        capacities: &Matrix<C, A>,
+    ) -> Result<Self, PathError>
+        requires square { capacities.now.rows ≡ capacities.now.columns }
+        requires source { source < capacities.now.rows }
+        requires sink { sink < capacities.now.rows }
+        ensures fresh { IfOk result (λ s. IsFresh capacities.now.rows source sink (Self.FlowStore.network s)) }
+        ensures capacities { IfOk result (λ s. HasCapacities (square_table C.value capacities.now.rows capacities.now.values) (Self.FlowStore.network s)) }
+        ensures network { IfOk result (λ s. IsNetwork C.fits (Self.FlowStore.network s)) }
+        ensures refused { IfErr result (AreRefused C.fits capacities.now.rows (square_table C.value capacities.now.rows capacities.now.values)) }
+    {
+        let mut store = Self::new(alloc, capacities.rows(), source, sink)?;
+        fill(&mut store, capacities.as_slice())?;
+        Ok(store)
+    }
+
+    /// As `from_matrix`, for the capacities of a square by rows.
+    ///
+    /// # Errors
+    ///
+    /// As those of `from_matrix`.
+    fn from_vec(
+        alloc: Self::Alloc,
+        source: usize,
+        sink: usize,
+        capacities: &[C],
+    ) -> Result<Self, PathError>
+        requires square { (size : ℕ) × (size * size ≡ length capacities.now) }
+        requires source { (size : ℕ) → size * size ≡ length capacities.now → source < size }
+        requires sink { (size : ℕ) → size * size ≡ length capacities.now → sink < size }
+        ensures fresh { IfOk result (λ s. (size : ℕ) → size * size ≡ length capacities.now → IsFresh size source sink (Self.FlowStore.network s)) }
+        ensures capacities { IfOk result (λ s. (size : ℕ) → size * size ≡ length capacities.now → HasCapacities (square_table C.value size capacities.now) (Self.FlowStore.network s)) }
+        ensures network { IfOk result (λ s. IsNetwork C.fits (Self.FlowStore.network s)) }
+        ensures refused { IfErr result (λ e. (size : ℕ) → size * size ≡ length capacities.now → AreRefused C.fits size (square_table C.value size capacities.now) e) }
+    {
+        let mut store = Self::new(alloc, side_of(capacities.len()), source, sink)?;
+        fill(&mut store, capacities)?;
+        Ok(store)
+    }
 
     /// The flows above zero, by rising pair of vertices.
     ///

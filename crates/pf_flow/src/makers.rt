@@ -2,18 +2,17 @@
 
 ghost use Rattle.std.specs.Prelude.{◌≡◌, ◌<◌, ◌*◌, ◌≤ℤ◌, ◌<ℤ◌, ◌+ℤ◌, ◌-ℤ◌, ℕ, pos, OnOk, IfOk, IfErr, MatchBool, length};
 ghost use Rattle.num_traits.specs.Laws.{Checks};
-ghost use Rattle.pf_flow.specs.Networks.{Network, KeepsShape, ChangesCapacity, HasCapacities, IsFresh, IsNetwork, capacity_sum};
+ghost use Rattle.pf_flow.specs.Networks.{Network, KeepsShape, ChangesCapacity, HasCapacities, capacity_sum};
 ghost use Rattle.pf_flow.specs.Capacities.{number, square_table, AreRefused, IsChangeRefused};
 ghost use Rattle.pf_flow.specs.Internal.Filling.{IsUnused};
 
-use crate::edmonds_karp::EdmondsKarp;
 use crate::numbers::is_below;
 use crate::store::FlowStore;
 use pf_base::utils::uint_sqrt;
 use pf_base::{PathError, SignedCost};
 
-/// The sum of two costs less a third, if it fits.
-fn exchanged<C: SignedCost>(sum: C, old: C, new: C) -> Option<C>
+/// A sum with a new cost in the place of an old one, if it fits.
+pub fn exchanged<C: SignedCost>(sum: C, old: C, new: C) -> Option<C>
     requires old { pos 0 ≤ℤ C.value old }
     requires within { C.value old ≤ℤ C.value sum }
     ensures { Checks C.value C.fits ((C.value sum -ℤ C.value old) +ℤ C.value new) result }
@@ -103,55 +102,10 @@ where
     Ok(())
 }
 
-/// A store with the capacities of a square, given by rows, without flow.
-pub fn square_store<C, S>(
-    alloc: S::Alloc,
-    size: usize,
-    source: usize,
-    sink: usize,
-    capacities: &[C],
-) -> Result<S, PathError>
-where
-    C: SignedCost,
-    S: EdmondsKarp<C>,
-    requires square { length capacities.now ≡ size * size }
-    requires source { source < size }
-    requires sink { sink < size }
-    ensures fresh { IfOk result (λ s. IsFresh size source sink (S.FlowStore.network s)) }
-    ensures capacities { IfOk result (λ s. HasCapacities (square_table C.value size capacities.now) (S.FlowStore.network s)) }
-    ensures network { IfOk result (λ s. IsNetwork C.fits (S.FlowStore.network s)) }
-    ensures refused { IfErr result (AreRefused C.fits size (square_table C.value size capacities.now)) }
-{
-    let mut store = S::new(alloc, size, source, sink)?;
-    fill(&mut store, capacities)?;
-    Ok(store)
-}
-
 /// The side of a square of so many places.
-fn side_of(places: usize) -> usize
+pub fn side_of(places: usize) -> usize
     requires { (size : ℕ) × (size * size ≡ places) }
     ensures { result * result ≡ places }
 {
     uint_sqrt(places).unwrap()
-}
-
-/// As `square_store`, for a square whose side is not given.
-pub fn listed_store<C, S>(
-    alloc: S::Alloc,
-    source: usize,
-    sink: usize,
-    capacities: &[C],
-) -> Result<S, PathError>
-where
-    C: SignedCost,
-    S: EdmondsKarp<C>,
-    requires square { (size : ℕ) × (size * size ≡ length capacities.now) }
-    requires source { (size : ℕ) → size * size ≡ length capacities.now → source < size }
-    requires sink { (size : ℕ) → size * size ≡ length capacities.now → sink < size }
-    ensures fresh { IfOk result (λ s. (size : ℕ) → size * size ≡ length capacities.now → IsFresh size source sink (S.FlowStore.network s)) }
-    ensures capacities { IfOk result (λ s. (size : ℕ) → size * size ≡ length capacities.now → HasCapacities (square_table C.value size capacities.now) (S.FlowStore.network s)) }
-    ensures network { IfOk result (λ s. IsNetwork C.fits (S.FlowStore.network s)) }
-    ensures refused { IfErr result (λ e. (size : ℕ) → size * size ≡ length capacities.now → AreRefused C.fits size (square_table C.value size capacities.now) e) }
-{
-    square_store(alloc, side_of(capacities.len()), source, sink, capacities)
 }

@@ -2,7 +2,8 @@
 
 ghost use Rattle.std.specs.Prelude.{◌≡◌, length, IfOk, IfErr};
 ghost use Rattle.pf_base.specs.declared.error.PathError.TheVariants.{OutOfMemory};
-ghost use Rattle.pf_flow.specs.SparseStores.{AreRows, AreEmpty, IsSameStore, rows_network};
+ghost use Rattle.std.specs.Option.{ForSome};
+ghost use Rattle.pf_flow.specs.SparseStores.{AreRows, AreEmpty, IsSameStore, rows_network, rows_sum};
 ghost use Rattle.std.proofs.Props.{props};
 ghost use Rattle.pf_flow.specs.Internal.SparseLaws.{rows_law};
 ghost use Rattle.pf_flow.specs.Internal.SparseProps.{Rises-prop};
@@ -16,14 +17,18 @@ use std::alloc::{AllocError, Allocator, Global};
 /// A store that keeps for each vertex its edges, sorted by the other end. It takes memory for the
 /// pairs that have room.
 #[derive(Debug, Drop)]
-pub struct SparseCapacity<C, A: Allocator = Global> {
+pub struct SparseCapacity<C: SignedCost, A: Allocator = Global> {
     rows: Vec<Row<C, A>, A>,
     source: usize,
     sink: usize,
     total: C,
     details: bool,
+    // What is left of all capacities, added up, where it is known.
+    sum: Option<C>,
     // the rows are those of a network
     ghost stored: { AreRows source sink rows.items } by { Prim.hlevel (props, Rises-prop) },
+    // the sum is theirs
+    ghost summed: { ForSome sum (λ z. C.value z ≡ rows_sum C.value rows.items) },
 }
 
 /// As many rows without edges as `size`. The only error is `OutOfMemory`.
@@ -97,6 +102,7 @@ impl<C: SignedCost, A: Allocator + Copy> FlowStore<C> for SparseCapacity<C, A> {
         if self.rows[from].has(to) {
             return Ok(());
         }
+        self.sum = None;
         self.rows[from].insert(to)?;
         if from == to {
             return Ok(());
@@ -109,12 +115,22 @@ impl<C: SignedCost, A: Allocator + Copy> FlowStore<C> for SparseCapacity<C, A> {
     }
 
     fn add_flow(&mut self, from: usize, to: usize, amount: C) {
+        self.sum = None;
         self.rows[from].carry(to, amount);
         self.rows[to].take_back(from, amount);
     }
 
     fn add_residual_capacity(&mut self, from: usize, to: usize, amount: C) {
+        self.sum = None;
         self.rows[from].add_residual(to, amount);
+    }
+
+    fn known_sum(&self) -> Option<C> {
+        self.sum
+    }
+
+    fn note_sum(&mut self, sum: C) {
+        self.sum = Some(sum);
     }
 
     fn set_total_capacity(&mut self, total: C) {
@@ -135,6 +151,7 @@ impl<C: SignedCost, A: Allocator + Copy> EdmondsKarp<C> for SparseCapacity<C, A>
             sink,
             total: C::zero(),
             details: true,
+            sum: None,
         })
     }
 }
@@ -151,6 +168,7 @@ impl<C: SignedCost, A: Allocator + Copy> Clone for SparseCapacity<C, A> {
             sink: self.sink,
             total: self.total,
             details: self.details,
+            sum: None,
         })
     }
 }

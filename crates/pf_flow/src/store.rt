@@ -1,7 +1,8 @@
 //! What a store of flows has to offer.
 
-ghost use Rattle.std.specs.Prelude.{◌≡◌, ◌≢◌, ◌<◌, ◌+ℤ◌, ◌-ℤ◌, pos, ◌<ℤ◌, true, OnOk, IfOk, IfErr};
+ghost use Rattle.std.specs.Prelude.{◌≡◌, ◌≢◌, ◌<◌, ◌+ℤ◌, ◌-ℤ◌, pos, ◌<ℤ◌, true, OnOk, IfOk, IfErr, IfSome};
 ghost use Rattle.pf_base.specs.declared.error.PathError.TheVariants.{OutOfMemory};
+ghost use Rattle.pf_flow.specs.Flows.{pair_sum};
 ghost use Rattle.pf_flow.specs.Networks.{Network, IsStored, Agrees, with_flow, with_residual, with_total, without_details};
 ghost use Rattle.pf_flow.specs.Listings.{ListsNumbers, ListsVertices};
 
@@ -107,6 +108,23 @@ pub trait FlowStore<C: SignedCost>: Sized + Drop {
     /// Sets the total.
     fn set_total_capacity(&mut self, total: C)
         ensures { Agrees (with_total (C.value total) (network self.old)) (network self.new) };
+
+    /// The sum of what is left of all capacities, where the store knows it.
+    ///
+    /// A store need not know it: then each change of a capacity goes over all pairs with residual
+    /// capacity.
+    fn known_sum(&self) -> Option<C>
+        ensures { IfSome result (λ sum. C.value sum ≡ pair_sum (network self.now).vertices (network self.now).residual) }
+    {
+        None
+    }
+
+    /// Tells the store the sum of what is left of all capacities, which it may know until a table
+    /// changes.
+    fn note_sum(&mut self, _sum: C)
+        requires { C.value _sum ≡ pair_sum (network self.old).vertices (network self.old).residual }
+        ensures { Agrees (network self.old) (network self.new) }
+    {}
 
     // Source and sink are vertices, and which pairs have room is as it should be.
     ghost network_law: { (s : Self) → IsStored (network s) };

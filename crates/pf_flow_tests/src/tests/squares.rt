@@ -1,12 +1,11 @@
-//! Stores that are filled from a square, and a greatest flow that is tallied, with both stores.
+//! Stores that are made of a square, and a greatest flow that is tallied, with both stores.
 
 ghost use Rattle.std.specs.Prelude.{◌≡◌, length};
 
 use pf_base::PathError;
 use pf_base::utils::Tally;
-use pf_flow::edmonds_karp::{
-    DenseCapacity, EKFlows, EdmondsKarp, SparseCapacity, listed_store, square_store,
-};
+use pf_flow::edmonds_karp::{DenseCapacity, EKFlows, EdmondsKarp, SparseCapacity};
+use pf_matrix::Matrix;
 use std::alloc::Global;
 use std::test::Fail;
 
@@ -19,25 +18,26 @@ const BELOW: [i64; 16] = [0, 3, 2, 0, 0, 0, -1, 2, 0, 0, 0, 3, 0, 0, 0, 0];
 /// Those capacities with a sum that does not fit.
 const ABOVE: [i64; 16] = [0, 3, 2, 0, 0, 0, 1, 2, 0, 0, 0, i64::MAX, 0, 0, 0, 0];
 
-/// A greatest flow from 0 to 3 in a `square_store`.
-fn in_square<S: EdmondsKarp<i64, Alloc = Global>>(
+/// A greatest flow from 0 to 3 in a store that is made of a matrix.
+fn in_matrix<S: EdmondsKarp<i64, Alloc = Global>>(
     alloc: Global,
     capacities: &[i64],
-) -> Result<EKFlows<usize, i64>, PathError>
-    requires sixteen { length capacities.now ≡ 16 }
-{
-    let mut store: S = square_store(alloc, 4, 0, 3, capacities)?;
+) -> Result<EKFlows<usize, i64>, PathError> {
+    let Ok(matrix) = Matrix::from_vec(4, 4, Vec::from_slice(alloc, capacities)?) else {
+        return Err(PathError::OutOfMemory);
+    };
+    let mut store = S::from_matrix(alloc, 0, 3, &matrix)?;
     store.augment_tallied(alloc, &mut Tally::new())
 }
 
-/// A greatest flow from 0 to 3 in a `listed_store`.
-fn in_list<S: EdmondsKarp<i64, Alloc = Global>>(
+/// A greatest flow from 0 to 3 in a store that is made of values by rows.
+fn in_rows<S: EdmondsKarp<i64, Alloc = Global>>(
     alloc: Global,
     capacities: &[i64],
 ) -> Result<EKFlows<usize, i64>, PathError>
     requires sixteen { length capacities.now ≡ 16 }
 {
-    let mut store: S = listed_store(alloc, 0, 3, capacities)?;
+    let mut store = S::from_vec(alloc, 0, 3, capacities)?;
     store.augment_tallied(alloc, &mut Tally::new())
 }
 
@@ -67,12 +67,12 @@ fn is_refused(answer: Result<EKFlows<usize, i64>, PathError>, cause: PathError) 
 
 /// Whether a store is filled, or refused, as it should be.
 fn is_as_wanted<S: EdmondsKarp<i64, Alloc = Global>>(alloc: Global) -> bool {
-    is_greatest(in_square::<S>(alloc, &FOUR))
-        && is_greatest(in_list::<S>(alloc, &FOUR))
-        && is_refused(in_square::<S>(alloc, &BELOW), PathError::NegativeCapacity)
-        && is_refused(in_list::<S>(alloc, &BELOW), PathError::NegativeCapacity)
-        && is_refused(in_square::<S>(alloc, &ABOVE), PathError::CostOverflow)
-        && is_refused(in_list::<S>(alloc, &ABOVE), PathError::CostOverflow)
+    is_greatest(in_matrix::<S>(alloc, &FOUR))
+        && is_greatest(in_rows::<S>(alloc, &FOUR))
+        && is_refused(in_matrix::<S>(alloc, &BELOW), PathError::NegativeCapacity)
+        && is_refused(in_rows::<S>(alloc, &BELOW), PathError::NegativeCapacity)
+        && is_refused(in_matrix::<S>(alloc, &ABOVE), PathError::CostOverflow)
+        && is_refused(in_rows::<S>(alloc, &ABOVE), PathError::CostOverflow)
 }
 
 #[test]

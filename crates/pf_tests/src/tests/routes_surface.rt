@@ -56,7 +56,7 @@ mod directed_paths {
     };
     pub use pathfinding::directed::edmonds_karp::{
         DenseCapacity, EKFlows, Edge, EdmondsKarp, FlowStore, SparseCapacity, edmonds_karp,
-        edmonds_karp_dense, edmonds_karp_sparse, listed_store, square_store,
+        edmonds_karp_dense, edmonds_karp_sparse,
     };
     pub use pathfinding::directed::fringe::fringe;
     pub use pathfinding::directed::idastar::idastar;

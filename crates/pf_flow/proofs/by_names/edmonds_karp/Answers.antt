@@ -1,4 +1,4 @@
-use Rattle.std.proofs.Common.{◌∙◌, inl, inr, sym, subst}
+use Rattle.std.proofs.Common.{◌∙◌, inl, inr, subst}
 use Rattle.std.specs.Prelude.{IfErr, IfOk}
 use Rattle.pf_flow.specs.NamedNetworks.{names_of, IsAnsweredFor, IsKnown, IsRefusedFor}
 use Rattle.pf_flow.proofs.FillLemmas.{unused_of_fresh}

@@ -1,4 +1,4 @@
-use Rattle.std.proofs.Common.{sym, subst}
+use Rattle.std.proofs.Common.{◌∙◌, sym}
 use Rattle.pf_flow.specs.Networks.{KeepsCapacities}
 use Rattle.pf_flow.proofs.AgreeLemmas.{network_agrees, capacities_agrees, capacities_more}
 use Rattle.pf_flow.proofs.ChangeLemmas.{same_sum}
@@ -15,4 +15,4 @@ settle_capacity-requires-clause-sum g c =
     let N = g.S.FlowStore.network c.args.store.now in
     let M = g.S.FlowStore.network c.lower_to.new.store in
     let kept : KeepsCapacities N M = capacities_more (capacities_agrees c.in_ok-make_room.ensures.same) c.in_ok-lower_to.ensures.capacities in
-    subst g.C.Number.fits (sym (same_sum c.args.from c.args.to (g.C.Number.value c.args.capacity) kept)) c.in_ok-old.ensures.sum
+    c.in_ok-old.ensures.sum ∙ sym (same_sum c.args.from c.args.to (g.C.Number.value c.args.capacity) kept)

@@ -1,5 +1,6 @@
 use Rattle.std.proofs.Common.{◌≡◌, refl, arith, ◌∙◌, sym, ap, subst, [], true, false, slice_set}
 use Rattle.std.proofs.lemmas.List.{get_or_default}
+use Rattle.std.proofs.lemmas.Option.{none-some}
 use Rattle.pf_flow.specs.Networks.{Agrees}
 use Rattle.pf_flow.specs.SparseRows.{ends, Rises, has_end, row_at, with_edge}
 use Rattle.pf_flow.specs.SparseStores.{AreRows, rows_network}
@@ -20,7 +21,7 @@ invariant_of-self-then-from-to g c =
     let fresh : has_end (ends (row_at rows from)) to ≡ false = sym (ap (λ r. has_end (ends r) to) (c.index.ensures ∙ get_or_default rows from _ [] c.requires.from)) ∙ sym c.has.ensures ∙ c.if-has.false in
     let first = first_is rows from to d d c.requires.from c.requires.to c.index_mut.result.now c.index_mut.ensures.value c.insert.new.self c.in_ok-insert.ensures.ok in
     let widens = widened_once source sink rows from d c.args.self.now.stored c.requires.from c.if-from-to.true fresh in
-    record { stored = subst (λ r. AreRows source sink r) (sym first) (widened source sink from to rows _ c.args.self.now.stored c.requires.from c.requires.to widens) }
+    record { stored = subst (λ r. AreRows source sink r) (sym first) (widened source sink from to rows _ c.args.self.now.stored c.requires.from c.requires.to widens); summed = λ z e. absurd (none-some z e) }
 
 pub returns-then-from-to-clause-same : goal.returns-then-from-to-clause-same
 returns-then-from-to-clause-same g c =
@@ -97,7 +98,7 @@ invariant_of-self-in-Err g c =
     let back = undone rows from to d d c.requires.from c.requires.to c.index_mut.result.now c.index_mut.ensures.value c.insert.new.self c.in_ok-insert.ensures.ok
     c.index_mut-2.result.now c.index_mut-2.ensures.value c.insert-2.new.self c.in-Err.ensures.unchanged c.index_mut-in-Err.result.now c.index_mut-in-Err.ensures.value
     refl fresh c.remove.new.self c.remove.ensures in
-    record { stored = subst (λ r. AreRows source sink r) (sym back) stored }
+    record { stored = subst (λ r. AreRows source sink r) (sym back) stored; summed = λ z e. absurd (none-some z e) }
 
 pub returns-in-Err-clause-same : goal.returns-in-Err-clause-same
 returns-in-Err-clause-same g c =
@@ -134,7 +135,7 @@ invariant_of-self-in_default g c =
     let second = second_is rows from to d e c.requires.from c.requires.to c.index_mut.result.now c.index_mut.ensures.value c.insert.new.self c.in_ok-insert.ensures.ok
     c.index_mut-2.result.now c.index_mut-2.ensures.value c.insert-2.new.self c.in_default.ensures.ok in
     let widens = widened_twice source sink rows stored d e c.if-from-to.false c.requires.from c.requires.to fresh in
-    record { stored = subst (λ r. AreRows source sink r) (sym second) (widened source sink from to rows _ stored c.requires.from c.requires.to widens) }
+    record { stored = subst (λ r. AreRows source sink r) (sym second) (widened source sink from to rows _ stored c.requires.from c.requires.to widens); summed = λ z e. absurd (none-some z e) }
 
 pub returns-clause-same : goal.returns-clause-same
 returns-clause-same g c =
