@@ -13,6 +13,9 @@ pub mod NameGraph
 pub mod Networks
 pub mod NetworkPaths
 pub mod SpanningLemmas
+pub mod DecimalLemmas
+pub mod FlowNames
+pub mod FlowLemmas
 pub mod Outcomes
 pub mod Tables
 pub mod TableGraph

@@ -13,7 +13,8 @@ use Rattle.pf_graph.proofs.Spanning.NameLemmas.{forest_named, least_named}
 use Rattle.pathfinding.specs.EdgeText.{Edge}
 use Rattle.pathfinding.specs.Internal.Links.{name_at, edge_between, edges_between}
 use Rattle.pathfinding.specs.Internal.Network.{LinksEdges}
-use Rattle.pathfinding.specs.SpanningText.{weighed_edge, edge_line, AreSpanningLines}
+use Rattle.pathfinding.specs.EdgeLine.{edge_line}
+use Rattle.pathfinding.specs.SpanningText.{weighed_edge, AreSpanningLines}
 use Rattle.pathfinding.specs.Internal.NumberedLines.{weighed_link, numbered_line, AreInTable}
 use Rattle.pathfinding.specs.declared.routes.links.Link.{Link}
 use Rattle.pathfinding.specs.declared.routes.network.Linked.{Linked}

@@ -3,10 +3,11 @@ use Rattle.std.specs.Prelude.{◌≡◌, ◌⊎◌, ◌+◌, ℕ, List, [], ◌�
 use Rattle.std.specs.List.{flat_map}
 use Rattle.std.specs.Fmt.{decimal}
 use Rattle.pathfinding.specs.EdgeText.{Edge}
+use Rattle.pathfinding.specs.FlowText.{IsFlowText}
 use Rattle.pathfinding.specs.SpanningText.{AreSpanningLines}
 use Rattle.pathfinding.specs.Roads.{HasNoWalk, IsCheapestPath, HasCostOverflow, IsFewestEdgesPath, AreCheapestPaths, HasEachPath, HasPathOverflow, HasRankedOverflow}
 use Rattle.pathfinding.specs.declared.routes.commands.Command.{Command}
-use Rattle.pathfinding.specs.declared.routes.commands.Command.TheVariants.{Dijkstra, Bfs, Kruskal, Yen, YenAll}
+use Rattle.pathfinding.specs.declared.routes.commands.Command.TheVariants.{Dijkstra, Bfs, Kruskal, Yen, YenAll, Flow}
 
 -- that there is no path
 abbrev pub none_line : List ℕ
@@ -68,6 +69,7 @@ IsAnswer (Bfs from to) edges text = IsFewestEdgesAnswer edges (string_bytes from
 IsAnswer Kruskal edges text = AreSpanningLines edges text
 IsAnswer (Yen from to count) edges text = AreCheapestPathLines edges (string_bytes from) (string_bytes to) count text
 IsAnswer (YenAll from to) edges text = AreAllPathLines edges (string_bytes from) (string_bytes to) text
+IsAnswer (Flow from to) edges text = IsFlowText edges (string_bytes from) (string_bytes to) text
 
 -- a sum of costs may be refused
 abbrev pub Overflows : Command → List Edge → Type 0
@@ -76,3 +78,4 @@ Overflows (Bfs from to) edges = ⊥
 Overflows Kruskal edges = ⊥
 Overflows (Yen from to count) edges = HasRankedOverflow edges (string_bytes from) (string_bytes to) count
 Overflows (YenAll from to) edges = HasPathOverflow edges (string_bytes from) (string_bytes to)
+Overflows (Flow from to) edges = ⊥

@@ -8,4 +8,5 @@ pub mod Graph
 pub mod Numbers
 pub mod Network
 pub mod NumberedLines
+pub mod NumberedFlows
 pub mod NumberedPaths

@@ -13,10 +13,16 @@ pub use Rattle.pf_graph.specs.Spanning
 pub use Rattle.pf_graph.specs.GrownTree
 pub use Rattle.pf_graph.specs.Components
 pub use Rattle.pf_graph.specs.Assignments
+pub use Rattle.pf_flow.specs.Flows
+pub use Rattle.pf_flow.specs.Networks
+pub use Rattle.pf_flow.specs.Listings
+pub use Rattle.pf_flow.specs.NamedNetworks
 pub mod EdgeText
 pub mod Roads
 pub mod Words
+pub mod EdgeLine
 pub mod SpanningText
+pub mod FlowText
 pub mod AnswerText
 pub mod Noted
 pub mod Written

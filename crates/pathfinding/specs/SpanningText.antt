@@ -1,20 +1,16 @@
 -- Spanning edges as text.
-use Rattle.std.specs.Prelude.{◌≡◌, ℕ, List, ◌∷◌, [], ◌++◌, map, Contains}
-use Rattle.std.specs.Fmt.{decimal}
+use Rattle.std.specs.Prelude.{◌≡◌, ℕ, List, map, Contains}
 use Rattle.std.specs.List.{flat_map}
 use Rattle.std.specs.List.Sorted.{IsSorted}
 use Rattle.std.specs.Ordering.{nat_cmp}
 use Rattle.std.specs.Str.{bytes_eq}
 use Rattle.pf_graph.specs.Spanning.{IsForest, IsLeastUnderEveryBound}
+use Rattle.pathfinding.specs.EdgeLine.{edge_line}
 use Rattle.pathfinding.specs.EdgeText.{Edge}
 
 -- an edge as its two names and its cost
 abbrev pub weighed_edge : Edge → List ℕ × List ℕ × ℕ
 weighed_edge e = (e.from, e.to, e.cost)
-
--- two names and a cost, as `A B 3`
-abbrev pub edge_line : List ℕ → List ℕ → ℕ → List ℕ
-edge_line from to cost = from ++ 32 ∷ to ++ 32 ∷ decimal cost ++ 10 ∷ []
 
 -- a line for each of some spanning edges of least weight
 pub record AreSpanningLines (edges : List Edge) (text : List ℕ) : Type 0 where

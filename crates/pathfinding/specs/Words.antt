@@ -5,7 +5,7 @@ use Rattle.std.specs.Str.{bytes_eq}
 use Rattle.std.specs.Str.Parse.{digits_value}
 use Rattle.pathfinding.specs.EdgeText.{is_visible, is_cost}
 use Rattle.pathfinding.specs.declared.routes.commands.Command.{Command}
-use Rattle.pathfinding.specs.declared.routes.commands.Command.TheVariants.{Dijkstra, Bfs, Kruskal, Yen, YenAll}
+use Rattle.pathfinding.specs.declared.routes.commands.Command.TheVariants.{Dijkstra, Bfs, Kruskal, Yen, YenAll, Flow}
 
 -- one or more of the bytes `!` to `~`
 abbrev pub is_field : List ℕ → Bool
@@ -24,7 +24,7 @@ abbrev pub is_command : List (List ℕ) → Bool
 is_command [] = false
 is_command (name ∷ []) = bytes_eq name (codes "kruskal")
 is_command (name ∷ from ∷ []) = false
-is_command (name ∷ from ∷ to ∷ []) = (bytes_eq name (codes "dijkstra") || bytes_eq name (codes "bfs")) && is_field from && is_field to
+is_command (name ∷ from ∷ to ∷ []) = (bytes_eq name (codes "dijkstra") || bytes_eq name (codes "bfs") || bytes_eq name (codes "flow")) && is_field from && is_field to
 is_command (name ∷ from ∷ to ∷ count ∷ []) = bytes_eq name (codes "yen") && is_field from && is_field to && is_count count
 is_command (name ∷ from ∷ to ∷ count ∷ more ∷ others) = false
 
@@ -40,3 +40,4 @@ IsSpelledBy (Bfs from to) words = words ≡ codes "bfs" ∷ string_bytes from �
 IsSpelledBy Kruskal words = words ≡ codes "kruskal" ∷ []
 IsSpelledBy (Yen from to count) words = (word : List ℕ) × IsNumber word count × (words ≡ codes "yen" ∷ string_bytes from ∷ string_bytes to ∷ word ∷ [])
 IsSpelledBy (YenAll from to) words = words ≡ codes "yen" ∷ string_bytes from ∷ string_bytes to ∷ codes "all" ∷ []
+IsSpelledBy (Flow from to) words = words ≡ codes "flow" ∷ string_bytes from ∷ string_bytes to ∷ []

@@ -1,6 +1,6 @@
 -- Edges between numbers of names, as the lines that they are printed as.
 use Rattle.std.specs.Prelude.{ℕ, ◌<◌, List, All}
-use Rattle.pathfinding.specs.SpanningText.{edge_line}
+use Rattle.pathfinding.specs.EdgeLine.{edge_line}
 use Rattle.pathfinding.specs.Internal.NameTable.{name_in, table_len}
 use Rattle.pathfinding.specs.declared.routes.links.Link.{Link}
 use Rattle.pathfinding.specs.declared.routes.name_table.NameTable.{NameTable}

@@ -8,6 +8,7 @@ ghost use Rattle.pathfinding.specs.Roads.{HasCostOverflow};
 
 use crate::routes::commands::Command;
 use crate::routes::error::RouteError;
+use crate::routes::flow::flow_lines;
 use crate::routes::network::Network;
 use crate::routes::path_text::write_path;
 use crate::routes::ranked::{all_lines, ranked_lines};
@@ -79,6 +80,9 @@ pub(crate) fn answer_to<S: BuildHasher + Drop, A: Allocator + Copy>(
         }
         Command::YenAll { from, to } => {
             all_lines(alloc, from.as_bytes(), to.as_bytes(), text, hash_builder)
+        }
+        Command::Flow { from, to } => {
+            flow_lines(alloc, from.as_bytes(), to.as_bytes(), text, hash_builder)
         }
     }
 }

@@ -36,6 +36,7 @@ fn path_command(name: &str, from: String, to: String) -> Option<Command>
     match name {
         "dijkstra" => Some(Command::Dijkstra { from, to }),
         "bfs" => Some(Command::Bfs { from, to }),
+        "flow" => Some(Command::Flow { from, to }),
         _ => None,
     }
 }
@@ -68,7 +69,7 @@ fn counted_command(name: &str, from: String, to: String, count: &str) -> Option<
 }
 
 /// The command that the words after the program's name spell, as `dijkstra A B`, `bfs A B`,
-/// `kruskal`, `yen A B 3` or `yen A B all`.
+/// `kruskal`, `yen A B 3`, `yen A B all` or `flow A B`.
 ///
 /// `None` means a usage error: too few or too many words, an unknown command, a name that is not one
 /// or more of the bytes `!` to `~`, or a number of paths that is neither `all` nor one or more digits

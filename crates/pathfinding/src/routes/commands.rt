@@ -35,4 +35,11 @@ pub enum Command {
         /// The name of the last node.
         to: String,
     },
+    /// The total of a greatest flow from one name to another, and the edges of a least cut.
+    Flow {
+        /// The name of the first node, which the flow leaves.
+        from: String,
+        /// The name of the last node, which the flow reaches.
+        to: String,
+    },
 }

@@ -37,7 +37,7 @@ impl<A: Allocator + Copy> Linked<A> {
     }
 
     /// The same, with the numbers of two names, which are numbered first.
-    fn read_with_ends<S: BuildHasher + Drop>(
+    pub(crate) fn read_with_ends<S: BuildHasher + Drop>(
         alloc: A,
         from: &[u8],
         to: &[u8],

@@ -119,7 +119,7 @@ impl BuildHasher for OneHash {
 pub const SEVEN: &[u8] = b"A B 4\nA C 2\nB C 1\nB D 5\nC D 8\nC E 10\nD E 2\n";
 
 /// A command of each kind about the seven edges, and what is written for it.
-pub const SEVEN_ANSWERS: [(&str, &[u8]); 5] = [
+pub const SEVEN_ANSWERS: [(&str, &[u8]); 6] = [
     ("dijkstra A E", b"11: A B D E\n"),
     ("bfs A E", b"2: A C E\n"),
     ("kruskal", b"B C 1\nA C 2\nD E 2\nB D 5\n"),
@@ -128,13 +128,14 @@ pub const SEVEN_ANSWERS: [(&str, &[u8]); 5] = [
         "yen A E all",
         b"11: A B D E\n12: A C E\n12: A C D E\n15: A B C E\n15: A B C D E\n",
     ),
+    ("flow A E", b"5\nA C 2\nB C 1\nD E 2\n"),
 ];
 
 /// Five edges, of which two lead from one node to one other.
 const FIVE: &[u8] = b"s a 1\na t 1\na b 1\na b 3\nb t 1\n";
 
 /// Commands, edges, and what is written for them.
-const ANSWERS: [(&str, &[u8], &[u8]); 31] = [
+const ANSWERS: [(&str, &[u8], &[u8]); 43] = [
     ("dijkstra A E", SEVEN, b"11: A B D E\n"),
     ("dijkstra A A", b"", b"0: A\n"),
     ("dijkstra a c", b"", b"none\n"),
@@ -188,10 +189,41 @@ const ANSWERS: [(&str, &[u8], &[u8]); 31] = [
         b"1: s t\n",
     ),
     ("yen s t 0", b"s a 18446744073709551615\na t 1\n", b"none\n"),
+    (
+        "flow s t",
+        b"s a 3\ns b 2\na b 1\na t 2\nb t 3\n",
+        b"5\ns a 3\ns b 2\n",
+    ),
+    (
+        "flow s t",
+        b"s t 18446744073709551615",
+        b"18446744073709551615\ns t 18446744073709551615\n",
+    ),
+    // The total has no bound of 64 bits.
+    (
+        "flow s t",
+        b"s a 18446744073709551615\na t 18446744073709551615\ns t 18446744073709551615\n",
+        b"36893488147419103230\ns t 18446744073709551615\ns a 18446744073709551615\n",
+    ),
+    ("flow s s", b"s t 1", b"0\n"),
+    // The last of several edges from one name to another counts.
+    ("flow s t", b"s t 3\ns t 1\n", b"1\ns t 1\n"),
+    ("flow s t", b"s t 3\ns t 0\n", b"0\n"),
+    ("flow s t", b"s s 5\nt t 5\ns t 1\n", b"1\ns t 1\n"),
+    // Names are numbered as they first stand in the text.
+    (
+        "flow s t",
+        b"b t 2\na t 1\ns a 1\ns b 2\n",
+        b"3\ns b 2\ns a 1\n",
+    ),
+    ("flow t s", b"s t 1", b"0\n"),
+    ("flow x y", b"s t 1", b"0\n"),
+    ("flow x x", b"", b"0\n"),
+    ("flow s t", b"", b"0\n"),
 ];
 
 /// Commands, edges, and the fault that they have.
-const FAULTS: [(&str, &[u8], RouteError); 17] = [
+const FAULTS: [(&str, &[u8], RouteError); 19] = [
     ("dijkstra a c", b"a b 1\nb c x\n", RouteError::BadEdge(2)),
     (
         "dijkstra a c",
@@ -242,6 +274,12 @@ const FAULTS: [(&str, &[u8], RouteError); 17] = [
     ),
     ("yen s t 0", b"s t 1\ns t", RouteError::BadEdge(2)),
     ("yen s t all", b"s t -1", RouteError::BadEdge(1)),
+    (
+        "flow s t",
+        b"s t 18446744073709551616",
+        RouteError::BadEdge(1),
+    ),
+    ("flow s t", b"s t 1\ns t", RouteError::BadEdge(2)),
 ];
 
 /// The command that words parted by spaces spell.
@@ -339,6 +377,11 @@ fn wrong_words_are_no_command(rt: HostRuntime) -> Result<(), Fail> {
         "yen a b\u{7f} 1",
         "yen a b\u{7f} all",
         "Yen a b 1",
+        "flow",
+        "flow s",
+        "flow s t u",
+        "flow s t\u{7f}",
+        "Flow s t",
         "bfs a b all",
         "dijkstra a b 1",
         "",
@@ -350,6 +393,7 @@ fn wrong_words_are_no_command(rt: HostRuntime) -> Result<(), Fail> {
     for line in [
         "dijkstra ! ~",
         "bfs ! ~",
+        "flow ! ~",
         "yen ! ~ 0",
         "yen ! ~ all",
         "yen all all all",
