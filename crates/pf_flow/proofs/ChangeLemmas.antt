@@ -1,13 +1,12 @@
 -- One capacity that changes.
-use Rattle.std.proofs.Common.{◌≡◌, ◌∙◌, refl, sym, ap, subst, ◌<◌, ◌+ℤ◌, ℕ, ℤ, pos, arith, Bool, true, false, nat_eq, Some, true≢false}
-use Rattle.std.specs.Prelude.{◌-ℤ◌, ◌≤ℤ◌, ◌&&◌, if◌then◌else◌, Option, None, is_some}
-use Rattle.num_traits.specs.Laws.{Checks}
+use Rattle.std.proofs.Common.{◌≡◌, ◌∙◌, refl, sym, ap, subst, ◌<◌, ◌+ℤ◌, ℕ, ℤ, pos, arith, Bool, true, false, nat_eq}
+use Rattle.std.specs.Prelude.{◌-ℤ◌, ◌≤ℤ◌, ◌&&◌, if◌then◌else◌}
 use Rattle.std.proofs.lemmas.Int.{ints}
 use borrow.Author.Tests.{eqb-true}
 use Rattle.pf_flow.specs.Flows.{PairTable, added, replaced, sum_to, pair_sum}
-use Rattle.pf_flow.specs.Networks.{Network, capacity, capacity_sum, with_residual, Agrees, KeepsCapacities, ChangesCapacity, IsNetwork}
+use Rattle.pf_flow.specs.Networks.{Network, capacity, with_residual, Agrees, KeepsCapacities, ChangesCapacity, IsNetwork}
 use Rattle.pf_flow.specs.Internal.AugmentingPaths.{amount_at}
-use Rattle.pf_flow.proofs.SumLemmas.{sum_ext, sum_add, pair_sum_has}
+use Rattle.pf_flow.proofs.SumLemmas.{sum_ext, sum_add}
 use Rattle.pf_flow.proofs.AddedLemmas.{added_row}
 use Rattle.pf_flow.proofs.AgreeLemmas.{shape_more}
 use Rattle.pf_flow.proofs.SettledLemmas.{at_side}
@@ -35,11 +34,6 @@ pub replaced_sum : (t : PairTable) (u v : ℕ) (z : ℤ) (n : ℕ) → u < n →
 replaced_sum t u v z n l m =
     sum_ext (λ a. sum_to (replaced t u v z a) n) (λ a. sum_to (added t u v (z -ℤ t u v) a) n) n (λ a k. sum_ext (replaced t u v z a) (added t u v (z -ℤ t u v) a) n (λ b j. replaced_added t u v z a b))
     ∙ added_sum t u v (z -ℤ t u v) n l m
-
--- a checked sum says whether the sum fits
-pub some_fits : {C : Type 0} (value : C → ℤ) (fits : ℤ → Type 0) (z : ℤ) (o : Option C) (b : Bool) → Checks value fits z o → b ≡ is_some o → (b ≡ true → fits z) × (fits z → b ≡ true)
-some_fits value fits z None b h e = (λ t. absurd (true≢false (sym t ∙ e)), λ f. absurd (h f))
-some_fits value fits z (Some x) b h e = (λ t. h.0, λ f. e)
 
 -- each pair is the one with more, or another
 added_cases : (t : PairTable) (u v : ℕ) (z : ℤ) (P : ℤ → ℕ → ℕ → Type 0) (a b : ℕ) → P (t u v +ℤ z) u v → P (t a b) a b → P (added t u v z a b) a b
@@ -111,10 +105,3 @@ agrees_more w v = record {
   details = v.details ∙ w.details;
   room = λ a b h. v.room a b (w.room a b h);
 }
-
--- where a capacity does not grow, the sum fits
-pub lower_sum : {fits : ℤ → Type 0} (between : (x y z : ℤ) → fits x → fits z → x ≤ℤ y → y ≤ℤ z → fits y) → fits (pos 0) → (N : Network) (u v : ℕ) (z : ℤ) → IsNetwork fits N → u < N.vertices → v < N.vertices → pos 0 ≤ℤ z → z ≤ℤ capacity N u v → fits (pair_sum N.vertices (replaced (capacity N) u v z))
-lower_sum between none N u v z w l m low top =
-    let is = replaced_sum (capacity N) u v z N.vertices l m in
-    let has = pair_sum_has w.capacities u v l m in
-    between (pos 0) (pair_sum N.vertices (replaced (capacity N) u v z)) (capacity_sum N) none w.sum (omega (arith, ints, is, has, low)) (omega (arith, ints, is, top))
