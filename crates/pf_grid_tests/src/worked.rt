@@ -98,6 +98,7 @@ fn sizes_at_the_limits(rt: HostRuntime) -> Result<(), Fail> {
     assert!(rt; none.width() == 0 && none.height() == 0);
     let plain = Grid::new(alloc, 3, 5)?;
     assert!(rt; plain.constrain((isize::MIN, isize::MAX)) == (1, 2));
+    assert!(rt; plain.constrain((1, 2)) == (1, 2) && plain.constrain((10, -53)) == (1, 2));
     Ok(())
 }
 

@@ -275,13 +275,20 @@ fn resumed(
     None
 }
 
-/// Whether a run under this allocator answers the only right answer, or `None` where the call was
-/// refused for want of memory.
+/// Whether these are all cheapest paths of `FREE_CYCLE`.
+fn are_round(paths: Option<Vec<Vec<usize>>>) -> bool {
+    matches!(paths, Some(given) if are_paths(&given, &ROUND))
+}
+
+/// Whether a run under this allocator answers the only right answer, by a copy of the iterator too,
+/// or `None` where the call or the copy was refused for want of memory.
 fn is_right(heap: &Refusing<Global>, ample: Global) -> Option<bool> {
     match cheapest_in_list(heap, &FREE_CYCLE, 0, (3, 3)) {
         Ok(Some((solution, cost))) => {
+            let copy = solution.clone().ok()?;
+            let copied = resumed(ample, copy);
             let paths = resumed(ample, solution);
-            Some(cost == 0 && matches!(paths, Some(given) if are_paths(&given, &ROUND)))
+            Some(cost == 0 && are_round(copied) && are_round(paths))
         }
         Err(PathError::OutOfMemory) => None,
         _ => Some(false),

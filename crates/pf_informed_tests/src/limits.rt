@@ -6,7 +6,8 @@ use crate::listed::{Edge, HIDDEN, are_bounds, by_astar, by_fringe, estimate, is_
 use pf_base::PathError;
 use pf_informed::directed::idastar::idastar;
 use refusing_allocator::Refusing;
-use std::alloc::{Allocator, Global};
+use std::alloc::{AllocError, Allocator, Global};
+use std::test::Fail;
 
 /// A cheapest path by `idastar`, with its cost.
 pub(crate) fn by_idastar<A>(
@@ -73,6 +74,39 @@ fn a_sum_past_the_range_is_told_where_it_matters(rt: HostRuntime) {
         assert!(rt; matches!(found, Err(PathError::CostOverflow)) == told);
         assert!(rt; matches!(found, Ok(None)) != told);
     }
+}
+
+/// The moves of a knight between the 64 fields of a board, each at the cost 1.
+fn knight_moves(alloc: Global) -> Result<Vec<Edge>, AllocError> {
+    let mut moves = Vec::new(alloc);
+    for from in 0..64usize {
+        for to in 0..64usize {
+            let steps = ((from / 8).abs_diff(to / 8), (from % 8).abs_diff(to % 8));
+            if matches!(steps, (1, 2) | (2, 1)) {
+                moves.push((from, to, 1))?;
+            }
+        }
+    }
+    Ok(moves)
+}
+
+/// From the field in row 1 and column 1 to that in row 4 and column 6.
+#[test]
+fn a_knight_needs_four_moves(rt: HostRuntime) -> Result<(), Fail> {
+    let moves = knight_moves(rt.alloc())?;
+    let mut estimates = [0u8; 64];
+    for field in 0..64u8 {
+        let steps = (field / 8)
+            .abs_diff(4)
+            .saturating_add((field % 8).abs_diff(6));
+        estimates[usize::from(field)] = steps / 3;
+    }
+    if !are_bounds(&moves, &estimates, 38) {
+        panic!(rt; "no estimates");
+    }
+    assert_eq!(rt; moves.len(), 336);
+    assert!(rt; all_cost(rt.alloc(), &moves, &estimates, &estimates, (9, 38), Some(4)));
+    Ok(())
 }
 
 #[test]

@@ -106,12 +106,30 @@ pub(crate) fn is_path_at<A: Allocator>(answer: &Answer<A>, path: &[usize], cost:
 /// Ways from 0 to 3 over 1 and over 2, of which the estimate at 2 hides the cheaper one.
 pub(crate) const HIDDEN: [Edge; 4] = [(0, 1, 3), (0, 2, 1), (2, 1, 1), (1, 3, 10)];
 
+/// Five nodes, of which the nearest to 0 is on a dearer way to 3.
+const FIVE: [Edge; 7] = [
+    (0, 1, 4),
+    (0, 4, 2),
+    (1, 4, 1),
+    (1, 2, 5),
+    (4, 2, 8),
+    (4, 3, 10),
+    (2, 3, 2),
+];
+
 /// A way from 0 to 2 at the greatest cost that fits.
 const AT_THE_RANGE: [Edge; 2] = [(0, 1, 250), (1, 2, 5)];
 
 #[test]
 fn a_node_is_opened_again(rt: HostRuntime) {
-    let cases: [(&[Edge], &[u8], &[u8], &[usize], u8); 2] = [
+    let cases: [(&[Edge], &[u8], &[u8], &[usize], u8); 3] = [
+        (
+            &FIVE,
+            &[1, 1, 1, 0, 1],
+            &[11, 7, 2, 0, 10],
+            &[0, 1, 2, 3],
+            11,
+        ),
         (&HIDDEN, &[0, 0, 11, 0], &[12, 10, 11, 0], &[0, 2, 1, 3], 12),
         (&AT_THE_RANGE, &[0, 5, 0], &[255, 5, 0], &[0, 1, 2], 255),
     ];

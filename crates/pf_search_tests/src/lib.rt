@@ -9,6 +9,8 @@ mod counted;
 #[cfg(test)]
 mod dear_steps;
 #[cfg(test)]
+mod endless;
+#[cfg(test)]
 mod maps;
 #[cfg(test)]
 mod tests;

@@ -1,3 +1,4 @@
 mod both_ends;
 mod dear_step;
+mod endless;
 mod maps;

@@ -180,6 +180,115 @@ const WIDE: [Step<'static>; 7] = [
     Step::Pipe(1, 2, 0, 1),
 ];
 
+/// Pipes between seven vertices that are put in one after the other: the first ten lead nowhere or to a
+/// flow of one.
+const GROWN: [Step<'static>; 22] = [
+    Step::Set(0, 1, 3),
+    Step::Augment(0, &[]),
+    Step::Set(0, 3, 3),
+    Step::Augment(0, &[]),
+    Step::Set(1, 2, 4),
+    Step::Augment(0, &[]),
+    Step::Set(2, 0, 3),
+    Step::Augment(0, &[]),
+    Step::Set(2, 3, 1),
+    Step::Augment(0, &[]),
+    Step::Set(2, 4, 2),
+    Step::Augment(0, &[]),
+    Step::Set(3, 4, 2),
+    Step::Augment(0, &[]),
+    Step::Set(3, 5, 6),
+    Step::Augment(0, &[]),
+    Step::Set(4, 1, 1),
+    Step::Augment(0, &[]),
+    Step::Set(4, 6, 1),
+    Step::Augment(1, &[((4, 6), 1)]),
+    Step::Set(5, 6, 9),
+    Step::Augment(5, &[((0, 3), 3), ((2, 3), 1), ((4, 6), 1)]),
+];
+
+/// An upper branch over 1 and 2 and a lower one over 4 and 5, whose capacities change one at a time.
+const BRANCHES: [Step<'static>; 25] = [
+    Step::Set(0, 1, 6),
+    Step::Set(1, 2, 5),
+    Step::Set(2, 3, 7),
+    Step::Set(0, 4, 4),
+    Step::Set(4, 5, 8),
+    Step::Set(5, 3, 9),
+    Step::Augment(9, &[((0, 4), 4), ((1, 2), 5)]),
+    Step::Set(0, 4, 5),
+    Step::Augment(10, &[((0, 4), 5), ((1, 2), 5)]),
+    Step::Set(0, 4, 4),
+    Step::Augment(9, &[((0, 4), 4), ((1, 2), 5)]),
+    Step::Set(0, 4, 5),
+    Step::Augment(10, &[((0, 4), 5), ((1, 2), 5)]),
+    Step::Set(4, 5, 4),
+    Step::Augment(9, &[((1, 2), 5), ((4, 5), 4)]),
+    Step::Set(4, 5, 5),
+    Step::Augment(10, &[((0, 4), 5), ((1, 2), 5)]),
+    Step::Set(5, 3, 4),
+    Step::Augment(9, &[((1, 2), 5), ((5, 3), 4)]),
+    Step::Set(5, 3, 5),
+    Step::Augment(10, &[((0, 4), 5), ((1, 2), 5)]),
+    Step::Set(0, 4, 4),
+    Step::Augment(9, &[((0, 4), 4), ((1, 2), 5)]),
+    Step::Set(1, 4, 2),
+    Step::Augment(10, &[((0, 1), 6), ((0, 4), 4)]),
+];
+
+/// The last pipe is narrowed below its flow.
+const LOWERED: [Step<'static>; 12] = [
+    Step::Set(0, 1, 2),
+    Step::Set(0, 2, 2),
+    Step::Set(1, 3, 1),
+    Step::Set(1, 4, 1),
+    Step::Set(2, 3, 1),
+    Step::Set(2, 4, 1),
+    Step::Set(3, 5, 4),
+    Step::Set(4, 3, 2),
+    Step::Augment(4, &[((0, 1), 2), ((0, 2), 2)]),
+    Step::Set(3, 5, 2),
+    Step::Total(2),
+    Step::Augment(2, &[((3, 5), 2)]),
+];
+
+/// Pipes that lead back, one of them from the sink to the source.
+const BACKWARD: [Step<'static>; 12] = [
+    Step::Set(0, 1, 5),
+    Step::Set(0, 3, 6),
+    Step::Set(1, 2, 4),
+    Step::Set(1, 4, 7),
+    Step::Set(2, 3, 6),
+    Step::Set(2, 5, 1),
+    Step::Set(3, 0, 4),
+    Step::Set(3, 2, 4),
+    Step::Set(4, 5, 6),
+    Step::Set(5, 0, 5),
+    Step::Set(5, 3, 5),
+    Step::Augment(6, &[((0, 1), 5), ((2, 5), 1)]),
+];
+
+/// Eight vertices, of which the least cut leaves two on the side of the sink.
+const EIGHT: [Step<'static>; 17] = [
+    Step::Set(0, 1, 10),
+    Step::Set(0, 3, 5),
+    Step::Set(0, 5, 15),
+    Step::Set(1, 2, 9),
+    Step::Set(1, 3, 4),
+    Step::Set(1, 4, 15),
+    Step::Set(2, 4, 15),
+    Step::Set(2, 7, 10),
+    Step::Set(3, 1, 2),
+    Step::Set(3, 4, 8),
+    Step::Set(3, 5, 4),
+    Step::Set(4, 6, 15),
+    Step::Set(4, 7, 10),
+    Step::Set(5, 6, 16),
+    Step::Set(6, 3, 6),
+    Step::Set(6, 7, 10),
+    Step::Augment(29, &[((1, 2), 9), ((4, 7), 10), ((6, 7), 10)]),
+];
+
 /// Source and sink are one vertex.
 const ONE_VERTEX: [Step<'static>; 3] = [
     Step::Set(0, 0, 5),
@@ -207,7 +316,7 @@ fn is_as_wanted(alloc: Global, listed: Listed<'_>) -> Result<bool, PathError> {
 #[test]
 fn worked_lists_of_changes(rt: HostRuntime) -> Result<(), Fail> {
     let alloc = rt.alloc();
-    let cases: [Listed<'_>; 7] = [
+    let cases: [Listed<'_>; 13] = [
         (4, 0, 3, &NARROWED),
         (3, 0, 2, &CLOSED),
         (5, 0, 4, &REROUTED),
@@ -215,6 +324,12 @@ fn worked_lists_of_changes(rt: HostRuntime) -> Result<(), Fail> {
         (2, 0, 1, &REFUSED),
         (1, 0, 0, &ONE_VERTEX),
         (4, 0, 3, &WIDE),
+        (7, 0, 6, &GROWN),
+        (6, 0, 3, &BRANCHES),
+        (6, 0, 5, &LOWERED),
+        (6, 0, 5, &BACKWARD),
+        (8, 0, 7, &EIGHT),
+        (2, 0, 1, &[Step::Augment(0, &[]), Step::Flows(&[])]),
     ];
     for (number, case) in cases.iter().enumerate() {
         assert!(rt; is_as_wanted(alloc, *case)?, "case {number}");

@@ -8,7 +8,7 @@ use pf_base::utils::Tally;
 use pf_graph::kuhn_munkres::{
     Weights, kuhn_munkres, kuhn_munkres_min, kuhn_munkres_tallied, weights_fit,
 };
-use pf_matrix::{Matrix, MatrixFormatError, matrix};
+use pf_matrix::{Matrix, MatrixFormatError, from_slices, matrix};
 use refusing_allocator::Refusing;
 use std::alloc::Allocator;
 use std::cell::Cell;
@@ -39,41 +39,110 @@ fn assigned<A: Allocator + Copy>(
     }
 }
 
+/// Rows of weights, which total is asked for, what it is, and the columns where no others give it.
+type Assignment<'a> = (&'a [&'a [i32]], Best, i32, Option<&'a [usize]>);
+
+const ASSIGNMENTS: [Assignment<'static>; 18] = [
+    (&[&[1]], Best::Greatest, 1, Some(&[0])),
+    (&[&[1, 1], &[1, 1]], Best::Greatest, 2, None),
+    (&[&[1, 2], &[1, 1]], Best::Greatest, 3, Some(&[1, 0])),
+    (&[&[1, 1], &[2, 1]], Best::Greatest, 3, Some(&[1, 0])),
+    (&[&[2, 1], &[1, 1]], Best::Greatest, 3, Some(&[0, 1])),
+    (&[&[1, 1], &[1, 2]], Best::Greatest, 3, Some(&[0, 1])),
+    (
+        &[&[1, 2, 3], &[6, 5, 4], &[1, 1, 1]],
+        Best::Greatest,
+        10,
+        Some(&[2, 0, 1]),
+    ),
+    (
+        &[&[-1, -2, -3], &[-6, -5, -4], &[-1, -1, -1]],
+        Best::Greatest,
+        -6,
+        Some(&[0, 2, 1]),
+    ),
+    (
+        &[&[100, 110, 90], &[95, 130, 75], &[95, 140, 65]],
+        Best::Greatest,
+        325,
+        Some(&[2, 0, 1]),
+    ),
+    (
+        &[
+            &[62, 78, 50, 101, 82],
+            &[71, 84, 61, 73, 59],
+            &[87, 92, 111, 71, 81],
+            &[48, 64, 87, 77, 80],
+        ],
+        Best::Greatest,
+        376,
+        Some(&[3, 1, 2, 4]),
+    ),
+    (
+        &[
+            &[7, 53, 183, 439, 863],
+            &[497, 383, 563, 79, 973],
+            &[287, 63, 343, 169, 583],
+            &[627, 343, 773, 959, 943],
+            &[767, 473, 103, 699, 303],
+        ],
+        Best::Greatest,
+        3315,
+        None,
+    ),
+    (&[], Best::Greatest, 0, Some(&[])),
+    (&[], Best::Least, 0, Some(&[])),
+    (
+        &[
+            &[90, 75, 75, 80],
+            &[35, 85, 55, 65],
+            &[125, 95, 90, 105],
+            &[45, 110, 95, 115],
+        ],
+        Best::Least,
+        275,
+        None,
+    ),
+    (&[&[1, 2, 3], &[2, 4, 6], &[3, 6, 9]], Best::Least, 10, None),
+    (
+        &[&[400, 150, 400], &[400, 450, 600], &[300, 225, 300]],
+        Best::Least,
+        850,
+        None,
+    ),
+    (
+        &[
+            &[82, 83, 69, 92],
+            &[77, 37, 49, 92],
+            &[11, 69, 5, 86],
+            &[8, 9, 98, 23],
+        ],
+        Best::Least,
+        140,
+        None,
+    ),
+    (
+        &[&[100, 110, 90], &[95, 130, 75], &[95, 140, 65]],
+        Best::Least,
+        270,
+        None,
+    ),
+];
+
 #[test]
 fn finds_the_best(rt: HostRuntime) -> Result<(), Fail> {
     let alloc = rt.alloc();
-    let wide = matrix![in alloc;
-        [62, 78, 50, 101, 82],
-        [71, 84, 61, 73, 59],
-        [87, 92, 111, 71, 81],
-        [48, 64, 87, 77, 80]
-    ]?;
-    let negative = matrix![in alloc; [-1, -2, -3], [-6, -5, -4], [-1, -1, -1]]?;
-    let costs = matrix![in alloc;
-        [90, 75, 75, 80],
-        [35, 85, 55, 65],
-        [125, 95, 90, 105],
-        [45, 110, 95, 115]
-    ]?;
-    // The columns of the least total of the costs are not the only ones: none are named.
-    let cases = [
-        (
-            Best::Greatest,
-            wide,
-            376,
-            Some([3usize, 1, 2, 4].as_slice()),
-        ),
-        (Best::Greatest, square(alloc)?, 325, Some(&[2, 0, 1])),
-        (Best::Greatest, negative, -6, Some(&[0, 2, 1])),
-        (Best::Greatest, Matrix::new_empty(alloc, 0), 0, Some(&[])),
-        (Best::Least, costs, 275, None),
-        (Best::Least, Matrix::new_empty(alloc, 0), 0, None),
-    ];
-    for (best, table, expected, chosen) in &cases {
-        let (total, columns) = assigned(&rt, alloc, table, *best)?;
-        assert_eq!(rt; total, *expected);
-        assert_eq!(rt; columns.len(), table.rows());
-        assert!(rt; chosen.is_none() || *chosen == Some(columns.as_slice()));
+    for (number, (rows, best, expected, chosen)) in ASSIGNMENTS.iter().enumerate() {
+        let table = from_slices(alloc, rows)?;
+        let (total, columns) = assigned(&rt, alloc, &table, *best)?;
+        assert!(rt;
+            total == *expected && columns.len() == table.rows(),
+            "row {number}: {total}"
+        );
+        assert!(rt;
+            chosen.is_none() || *chosen == Some(columns.as_slice()),
+            "row {number}"
+        );
     }
     Ok(())
 }

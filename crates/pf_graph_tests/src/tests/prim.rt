@@ -14,6 +14,36 @@ const SEVEN: [(char, char, u32); 7] = [
     ('d', 'e', 7),
 ];
 
+/// Nine nodes, with equal weights of edges that meet no common node.
+const NINE: [(char, char, u32); 14] = [
+    ('a', 'b', 4),
+    ('a', 'h', 8),
+    ('b', 'c', 8),
+    ('b', 'h', 11),
+    ('c', 'd', 7),
+    ('c', 'f', 4),
+    ('c', 'i', 2),
+    ('d', 'e', 9),
+    ('d', 'f', 14),
+    ('e', 'f', 10),
+    ('f', 'g', 2),
+    ('g', 'h', 1),
+    ('g', 'i', 6),
+    ('h', 'i', 7),
+];
+
+/// Five nodes, with two edges that stand twice.
+const FIVE: [(char, char, u32); 8] = [
+    ('B', 'C', 10),
+    ('B', 'D', 4),
+    ('C', 'D', 2),
+    ('A', 'C', 3),
+    ('C', 'D', 2),
+    ('D', 'E', 1),
+    ('C', 'E', 6),
+    ('D', 'E', 1),
+];
+
 #[test]
 fn grows_by_the_least_edge(rt: HostRuntime) -> Result<(), Fail> {
     let cases = [
@@ -26,6 +56,23 @@ fn grows_by_the_least_edge(rt: HostRuntime) -> Result<(), Fail> {
                 ('c', 'd', 2),
             ]
             .as_slice(),
+        ),
+        (
+            &NINE,
+            &[
+                ('a', 'b', 4),
+                ('a', 'h', 8),
+                ('h', 'g', 1),
+                ('g', 'f', 2),
+                ('f', 'c', 4),
+                ('c', 'i', 2),
+                ('c', 'd', 7),
+                ('d', 'e', 9),
+            ],
+        ),
+        (
+            &FIVE,
+            &[('B', 'D', 4), ('D', 'E', 1), ('D', 'C', 2), ('C', 'A', 3)],
         ),
         // An edge is taken in the other direction.
         (

@@ -2,6 +2,7 @@
 
 ghost use Rattle.pf_base.specs.Answers.{IsLawfulClone};
 
+use crate::both_ends::fewest_between_in_pairs;
 use crate::fewest::{deepened_in_pairs, fewest_in_pairs};
 use crate::no_case::NoCase;
 use crate::tests::answers::{is_no_path, is_path};
@@ -63,6 +64,10 @@ fn a_knight_needs_four_moves(rt: HostRuntime) -> Result<(), Fail> {
     assert!(rt; moves.len() == 336);
     assert!(rt; matches!(&answer, Ok(Some(path)) if is_way(path, from, to, 5)));
     let answer = deepened_in_pairs(rt.alloc(), &moves, from, &[to]);
+    assert!(rt; matches!(&answer, Ok(Some(path)) if is_way(path, from, to, 5)));
+    let starts = NodeRefs::from_one(rt.alloc(), &from)?;
+    let ends = NodeRefs::from_one(rt.alloc(), &to)?;
+    let answer = fewest_between_in_pairs(rt.alloc(), &moves, &starts, &ends);
     assert!(rt; matches!(&answer, Ok(Some(path)) if is_way(path, from, to, 5)));
     Ok(())
 }

@@ -78,6 +78,29 @@ fn preorders(rt: HostRuntime) -> Result<(), Fail> {
         let begun = preorder_in_rows(rt.alloc(), &table, 0, 1)?;
         assert_eq!(rt; begun.as_slice(), [0].as_slice());
     }
+    // Each number leads to its double and its triple, up to 14.
+    let mut table = Vec::new(rt.alloc());
+    for node in 0..15usize {
+        let mut row = Vec::new(rt.alloc());
+        for next in [node * 2, node * 3] {
+            if next < 15 {
+                row.push(next)?;
+            }
+        }
+        table.push(row)?;
+    }
+    assert!(rt; table.len() > 1 && leads_inside(&table));
+    let given = preorder_in_rows(rt.alloc(), &table, 1, 20)?;
+    assert_eq!(rt; given.as_slice(), [1, 2, 4, 8, 12, 6, 3, 9].as_slice());
+    // Each number but the last one leads to the next one, many times.
+    let mut table = Vec::new(rt.alloc());
+    for node in 1..201usize {
+        table.push(vec![in rt.alloc(); node; 200]?)?;
+    }
+    table.push(Vec::new(rt.alloc()))?;
+    assert!(rt; table.len() > 0 && leads_inside(&table));
+    let given = preorder_in_rows(rt.alloc(), &table, 0, 300)?;
+    assert!(rt; given.iter().copied().eq(0..201));
     // From a number to its square and to the next one, up to 17.
     let edges = [
         (1u64, 1u64),

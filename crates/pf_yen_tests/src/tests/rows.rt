@@ -54,7 +54,45 @@ const ROADS: [Edge; 9] = [
 /// The way from 0 to 1 over 2 costs more than fits.
 const DEAR: [Edge; 3] = [(0, 1, 1), (0, 2, 200), (2, 1, 100)];
 
-const ROWS: [Row<'static>; 7] = [
+/// A cycle that the goal 6 is not behind.
+const CYCLE: [Edge; 9] = [
+    (0, 1, 3),
+    (0, 2, 2),
+    (1, 3, 4),
+    (2, 1, 1),
+    (2, 3, 2),
+    (2, 4, 3),
+    (3, 4, 2),
+    (3, 1, 1),
+    (4, 2, 2),
+];
+
+/// One step from 0 to 5, and a way of four steps more.
+const LONGER: [Edge; 7] = [
+    (0, 1, 1),
+    (0, 5, 1),
+    (1, 2, 1),
+    (2, 3, 1),
+    (3, 4, 1),
+    (3, 5, 1),
+    (4, 5, 1),
+];
+
+/// Two nodes between 0 and 3, each of which leads to the other.
+const BETWEEN: [Edge; 7] = [
+    (0, 1, 1),
+    (0, 2, 1),
+    (0, 3, 1),
+    (1, 2, 1),
+    (1, 3, 1),
+    (2, 1, 1),
+    (2, 3, 1),
+];
+
+/// Two ways from 0 to 3 that cost the same.
+const EQUAL: [Edge; 4] = [(0, 1, 1), (0, 2, 1), (1, 3, 1), (2, 3, 1)];
+
+const ROWS: [Row<'static>; 12] = [
     Row {
         edges: &FIVE_PATHS,
         goals: (5, 5),
@@ -124,6 +162,56 @@ const ROWS: [Row<'static>; 7] = [
         k: 4,
         count: 1,
         paths: &[(&[0], 0)],
+    },
+    Row {
+        edges: &CYCLE,
+        goals: (6, 6),
+        told: &[None],
+        k: 2,
+        count: 0,
+        paths: &[],
+    },
+    Row {
+        edges: &[(0, 0, 1)],
+        goals: (0, 0),
+        told: &[Some(Ok(0)), None],
+        k: 2,
+        count: 1,
+        paths: &[(&[0], 0)],
+    },
+    Row {
+        edges: &LONGER,
+        goals: (5, 5),
+        told: &[Some(Ok(1)), Some(Ok(4)), Some(Ok(5)), None],
+        k: 3,
+        count: 3,
+        paths: &[
+            (&[0, 5], 1),
+            (&[0, 1, 2, 3, 5], 4),
+            (&[0, 1, 2, 3, 4, 5], 5),
+        ],
+    },
+    Row {
+        edges: &BETWEEN,
+        goals: (3, 3),
+        told: &[Some(Ok(1))],
+        k: usize::MAX,
+        count: 5,
+        paths: &[
+            (&[0, 3], 1),
+            (&[0, 1, 3], 2),
+            (&[0, 2, 3], 2),
+            (&[0, 1, 2, 3], 3),
+            (&[0, 2, 1, 3], 3),
+        ],
+    },
+    Row {
+        edges: &EQUAL,
+        goals: (3, 3),
+        told: &[Some(Ok(2)), Some(Ok(2)), None],
+        k: 2,
+        count: 2,
+        paths: &[(&[0, 1, 3], 2), (&[0, 2, 3], 2)],
     },
     Row {
         edges: &DEAR,

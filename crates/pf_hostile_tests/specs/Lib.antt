@@ -1,0 +1,2 @@
+pub mod MinuteLaws
+pub mod Chains

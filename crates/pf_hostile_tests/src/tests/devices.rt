@@ -1,0 +1,243 @@
+//! Readers and writers that fail, under each command of `routes`.
+
+use crate::tests::texts::spelled;
+use pathfinding::routes::{Command, Noted, RouteError, run};
+use std::alloc::Global;
+use std::io;
+use std::io::{Error, ErrorKind, Read, Write};
+use std::test::Fail;
+
+/// When a device fails, and how.
+#[derive(Clone, Copy, Debug)]
+struct Failing {
+    /// How many bytes it gives or takes before it fails.
+    after: usize,
+    /// The error that it answers, or `None` where it takes nothing in its place.
+    kind: Option<ErrorKind>,
+    /// Whether it fails once, and else at each call from then on.
+    recovers: bool,
+}
+
+/// Gives these bytes, one a call, until it fails.
+#[derive(Drop)]
+struct Broken<'a> {
+    left: &'a [u8],
+    failing: Failing,
+    has_failed: bool,
+}
+
+impl Read for Broken<'_> {
+    fn read(&mut self, buf: &mut [u8]) -> io::Result<usize> {
+        let recovered = self.failing.recovers && self.has_failed;
+        if self.failing.after == 0 && !recovered {
+            self.has_failed = true;
+            if let Some(kind) = self.failing.kind {
+                return Err(Error::from(kind));
+            }
+            return Ok(0);
+        }
+        self.failing.after = self.failing.after.saturating_sub(1);
+        match (self.left, buf) {
+            ([first, rest @ ..], [place, ..]) => {
+                *place = *first;
+                self.left = rest;
+                Ok(1)
+            }
+            _ => Ok(0),
+        }
+    }
+}
+
+/// Takes one byte a call, until it fails. Its flush fails where its writes do.
+#[derive(Drop)]
+struct Narrow {
+    taken: Vec<u8>,
+    failing: Failing,
+    has_failed: bool,
+}
+
+impl Write for Narrow {
+    fn write(&mut self, buf: &[u8]) -> io::Result<usize> {
+        let recovered = self.failing.recovers && self.has_failed;
+        match buf {
+            [first, ..] if self.taken.len() < self.failing.after || recovered => {
+                self.taken.push(*first)?;
+                Ok(1)
+            }
+            _ => {
+                self.has_failed = true;
+                match self.failing.kind {
+                    Some(kind) => Err(Error::from(kind)),
+                    None => Ok(0),
+                }
+            }
+        }
+    }
+
+    fn flush(&mut self) -> io::Result<()> {
+        match self.failing.kind {
+            Some(kind) => Err(Error::from(kind)),
+            None => Ok(()),
+        }
+    }
+}
+
+/// Seven edges between five nodes.
+const SEVEN: &[u8] = b"A B 4\nA C 2\nB C 1\nB D 5\nC D 8\nC E 10\nD E 2\n";
+
+/// A command and a text, and the answer to it, or the fault that it has.
+type Row<'a> = (&'a str, &'a [u8], Result<&'a [u8], RouteError>);
+
+/// Answers of each command, an answer of no bytes, and faults.
+const ROWS: [Row; 11] = [
+    ("dijkstra A E", SEVEN, Ok(b"11: A B D E\n")),
+    ("bfs A E", SEVEN, Ok(b"2: A C E\n")),
+    ("kruskal", SEVEN, Ok(b"B C 1\nA C 2\nD E 2\nB D 5\n")),
+    (
+        "yen A E 3",
+        SEVEN,
+        Ok(b"11: A B D E\n12: A C E\n12: A C D E\n"),
+    ),
+    (
+        "yen A E all",
+        SEVEN,
+        Ok(b"11: A B D E\n12: A C E\n12: A C D E\n15: A B C E\n15: A B C D E\n"),
+    ),
+    ("flow A E", SEVEN, Ok(b"5\nA C 2\nB C 1\nD E 2\n")),
+    ("kruskal", b"", Ok(b"")),
+    ("bfs A E", b"\n", Ok(b"none\n")),
+    ("yen A E all", b"A E 1\nA E", Err(RouteError::BadEdge(2))),
+    ("kruskal", b"A E x\n", Err(RouteError::BadEdge(1))),
+    (
+        "dijkstra A E",
+        b"A B 18446744073709551615\nB E 1",
+        Err(RouteError::CostOverflow),
+    ),
+];
+
+/// Whether a run over a reader that fails ends with that failed read, reads no further and writes
+/// nothing, and answers where the text ends before.
+fn ends_at_failed_read(alloc: Global, command: &Command, row: Row<'_>, failing: Failing) -> bool {
+    let (_, text, answer) = row;
+    let given = text.len().min(failing.after);
+    let fails = failing.after <= text.len();
+    let mut input = Noted::new(Broken {
+        left: text,
+        failing,
+        has_failed: false,
+    });
+    let mut output = Noted::new(Vec::new(alloc));
+    let is_fresh = !input.failed();
+    let result = run(alloc, command, &mut input, &mut output);
+    let is_noted = input.failed() == fails && !output.failed();
+    let is_rest = input.into_inner().left == &text[given..];
+    let written = output.into_inner();
+    let (told, bytes): (_, &[u8]) = match answer {
+        _ if fails => (Err(RouteError::ReadFailed), b""),
+        Ok(bytes) => (Ok(()), bytes),
+        Err(fault) => (Err(fault), b""),
+    };
+    is_fresh && is_noted && is_rest && result == told && written.as_slice() == bytes
+}
+
+#[test]
+fn a_run_ends_at_the_first_failed_read(rt: HostRuntime) -> Result<(), Fail> {
+    let kinds = [
+        ErrorKind::ConnectionReset,
+        ErrorKind::UnexpectedEof,
+        ErrorKind::WouldBlock,
+    ];
+    for row in ROWS {
+        let command = spelled(rt.alloc(), row.0)?;
+        for kind in kinds {
+            for recovers in [false, true] {
+                for after in [0, 1, 6, 20, 46, row.1.len(), 100] {
+                    let failing = Failing {
+                        after,
+                        kind: Some(kind),
+                        recovers,
+                    };
+                    assert!(rt;
+                        ends_at_failed_read(rt.alloc(), &command, row, failing),
+                        "{row:?}, {failing:?}"
+                    );
+                }
+            }
+        }
+    }
+    Ok(())
+}
+
+/// Whether a run writes a beginning of the answer for which the writer has room, notes a failure
+/// where that is not all, and writes no further.
+fn ends_at_failed_write(alloc: Global, command: &Command, row: Row<'_>, failing: Failing) -> bool {
+    let (_, text, answer) = row;
+    let mut input = Noted::new(text);
+    let mut output = Noted::new(Narrow {
+        taken: Vec::new(alloc),
+        failing,
+        has_failed: false,
+    });
+    let result = run(alloc, command, &mut input, &mut output);
+    let is_noted = output.failed() == (result == Err(RouteError::WriteFailed));
+    let taken = output.into_inner().taken;
+    let (told, bytes): (_, &[u8]) = match answer {
+        Ok(bytes) if failing.after < bytes.len() => {
+            (Err(RouteError::WriteFailed), &bytes[..failing.after])
+        }
+        Ok(bytes) => (Ok(()), bytes),
+        Err(fault) => (Err(fault), b""),
+    };
+    !input.failed() && is_noted && result == told && taken.as_slice() == bytes
+}
+
+#[test]
+fn a_run_ends_at_the_first_failed_write(rt: HostRuntime) -> Result<(), Fail> {
+    let kinds = [
+        None,
+        Some(ErrorKind::BrokenPipe),
+        Some(ErrorKind::Interrupted),
+    ];
+    for row in ROWS {
+        let command = spelled(rt.alloc(), row.0)?;
+        for kind in kinds {
+            for recovers in [false, true] {
+                for after in [0, 1, 3, 8, 9, 11, 12, 23, 24, 100] {
+                    let failing = Failing {
+                        after,
+                        kind,
+                        recovers,
+                    };
+                    assert!(rt;
+                        ends_at_failed_write(rt.alloc(), &command, row, failing),
+                        "{row:?}, {failing:?}"
+                    );
+                }
+            }
+        }
+    }
+    Ok(())
+}
+
+#[test]
+fn failed_flushes_and_short_reads_are_noted(rt: HostRuntime) {
+    for kind in [None, Some(ErrorKind::BrokenPipe)] {
+        let mut output = Noted::new(Narrow {
+            taken: Vec::new(rt.alloc()),
+            failing: Failing {
+                after: 0,
+                kind,
+                recovers: false,
+            },
+            has_failed: false,
+        });
+        let fails = kind.is_some();
+        assert!(rt;
+            output.flush().is_err() == fails && output.failed() == fails,
+            "{kind:?}"
+        );
+    }
+    let mut input = Noted::new(b"ab".as_slice());
+    let mut buf = [0u8; 3];
+    assert!(rt; input.read_exact(&mut buf).is_err() && input.failed());
+}
