@@ -6,6 +6,7 @@ ghost use Rattle.pf_base.specs.Answers.{IsLawfulClone};
 
 use crate::cheapest::{CostCall, Found, cheapest};
 use crate::plain::{Lists, PlainCall, plain};
+use edge_lists::{edges_from, edges_to, nodes_after, nodes_before};
 use pf_base::{Cost, NodeRefs, PathError};
 use pf_graph::undirected::connected_components::{SetIn, connected_components};
 use pf_orders::directed::topological_sort::topological_sort_into_groups;
@@ -50,12 +51,7 @@ where
         call,
         &from,
         &to,
-        |n| {
-            let node = *n;
-            edges
-                .iter()
-                .filter_map(move |e| if e.0 == node { Some((e.1, e.2)) } else { None })
-        },
+        |n| edges_from(edges, *n),
         |_n| C::zero(),
         |n| *n == to,
     )
@@ -80,18 +76,8 @@ where
         alloc,
         &from,
         &to,
-        |n| {
-            let node = *n;
-            edges
-                .iter()
-                .filter_map(move |e| if e.0 == node { Some((e.1, e.2)) } else { None })
-        },
-        |n| {
-            let node = *n;
-            edges
-                .iter()
-                .filter_map(move |e| if e.1 == node { Some((e.0, e.2)) } else { None })
-        },
+        |n| edges_from(edges, *n),
+        |n| edges_to(edges, *n),
     )
 }
 
@@ -108,18 +94,7 @@ where
     requires clones { IsLawfulClone N.eq N.is_clone }
     requires room { FitsInMemory N.row }
 {
-    plain(
-        alloc,
-        call,
-        from,
-        |n| {
-            let node = *n;
-            edges
-                .iter()
-                .filter_map(move |e| if e.0 == node { Some(e.1) } else { None })
-        },
-        |n| *n == to,
-    )
+    plain(alloc, call, from, |n| nodes_after(edges, *n), |n| *n == to)
 }
 
 /// A path with fewest edges from one node to another, by `bfs_bidirectional`.
@@ -139,18 +114,8 @@ where
         alloc,
         &starts,
         &ends,
-        |n| {
-            let node = *n;
-            edges
-                .iter()
-                .filter_map(move |e| if e.0 == node { Some(e.1) } else { None })
-        },
-        |n| {
-            let node = *n;
-            edges
-                .iter()
-                .filter_map(move |e| if e.1 == node { Some(e.0) } else { None })
-        },
+        |n| nodes_after(edges, *n),
+        |n| nodes_before(edges, *n),
     )
 }
 
@@ -164,12 +129,7 @@ where
     N: Eq + Hash + Copy,
     requires clones { IsLawfulClone N.eq N.is_clone }
 {
-    let answer = topological_sort_into_groups(alloc, nodes, |n| {
-        let node = *n;
-        edges
-            .iter()
-            .filter_map(move |e| if e.0 == node { Some(e.1) } else { None })
-    })?;
+    let answer = topological_sort_into_groups(alloc, nodes, |n| nodes_after(edges, *n))?;
     Ok(match answer {
         Ok(groups) => (groups, Vec::new(alloc)),
         Err(both) => both,
@@ -186,10 +146,5 @@ where
     N: Eq + Hash + Copy,
     requires clones { IsLawfulClone N.eq N.is_clone }
 {
-    connected_components(alloc, starts, |n| {
-        let node = *n;
-        edges
-            .iter()
-            .filter_map(move |e| if e.0 == node { Some(e.1) } else { None })
-    })
+    connected_components(alloc, starts, |n| nodes_after(edges, *n))
 }

@@ -1,14 +1,14 @@
 -- A list of edges (from, to, cost) between numbers, with an estimate for each number.
-use Rattle.std.specs.Prelude.{◌≡◌, ◌≤◌, ◌+◌, ℕ, ℤ, pos, List, All, map, min, nat_eq, if◌then◌else◌, Some, None, slice_index}
-use Rattle.std.specs.List.{filter_map}
+use Rattle.std.specs.Prelude.{◌≡◌, ◌≤◌, ◌+◌, ℕ, ℤ, pos, List, All, min, nat_eq, slice_index}
+use Rattle.edge_lists.specs.Lists.{edges_from, ends_from}
 
 -- where the edges from n lead, and at which cost, in the order of the list
 abbrev pub ends_of : List (ℕ × ℕ × ℕ) → ℕ → List (ℕ × ℕ)
-ends_of edges n = filter_map (λ (e : ℕ × ℕ × ℕ). if nat_eq e.0 n then Some (e.1, e.2) else None) edges
+ends_of edges = ends_from nat_eq edges
 
 -- the edges from n, each with the whole number that it costs
 abbrev pub edges_of : List (ℕ × ℕ × ℕ) → ℕ → List (ℕ × ℤ)
-edges_of edges n = map (λ (e : ℕ × ℕ). (e.0, pos e.1)) (ends_of edges n)
+edges_of edges = edges_from nat_eq edges (λ c. pos c)
 
 -- 0 at the end, and along an edge a bound falls by no more than the edge costs
 pub record AreBounds (edges : List (ℕ × ℕ × ℕ)) (bounds : List ℕ) (to : ℕ) : Type 0 where

@@ -6,6 +6,7 @@ ghost use Rattle.pf_informed.specs.CheapestPaths.{AreCheapestCleanPaths, lists_i
 ghost use Rattle.pf_informed_tests.specs.Listed.{AreBounds, edges_of};
 
 use crate::listed::{Edge, are_bounds, estimate};
+use edge_lists::edges_from;
 use pf_base::PathError;
 use pf_informed::directed::astar_bag::{AstarSolution, astar_bag, astar_bag_collect};
 use refusing_allocator::Refusing;
@@ -26,12 +27,7 @@ where
     astar_bag(
         alloc,
         &from,
-        |n| {
-            let node = *n;
-            edges
-                .iter()
-                .filter_map(move |e| if e.0 == node { Some((e.1, e.2)) } else { None })
-        },
+        |n| edges_from(edges, *n),
         |_| 0u8,
         |n| *n == goals.0 || *n == goals.1,
     )
@@ -70,12 +66,7 @@ where
     astar_bag_collect(
         alloc,
         &from,
-        |n| {
-            let node = *n;
-            edges
-                .iter()
-                .filter_map(move |e| if e.0 == node { Some((e.1, e.2)) } else { None })
-        },
+        |n| edges_from(edges, *n),
         |n| estimate(estimates, bounds, *n),
         |n| *n == goals.0 || *n == goals.1,
     )

@@ -3,6 +3,7 @@
 ghost use Rattle.pf_informed_tests.specs.Listed.{AreBounds};
 
 use crate::listed::{Edge, HIDDEN, are_bounds, by_astar, by_fringe, estimate, is_path_at};
+use edge_lists::edges_from;
 use pf_base::PathError;
 use pf_informed::directed::idastar::idastar;
 use refusing_allocator::Refusing;
@@ -25,12 +26,7 @@ where
     idastar(
         alloc,
         &from,
-        |n| {
-            let node = *n;
-            edges
-                .iter()
-                .filter_map(move |e| if e.0 == node { Some((e.1, e.2)) } else { None })
-        },
+        |n| edges_from(edges, *n),
         |n| estimate(estimates, bounds, *n),
         |n| *n == to,
     )

@@ -4,6 +4,7 @@ ghost use Rattle.std.specs.Prelude.{◌≡◌, ◌≤◌, ◌+◌, slice_index, 
 ghost use Rattle.pf_informed_tests.specs.Listed.{AreBounds, estimate_of_node};
 
 use crate::limits::by_idastar;
+use edge_lists::edges_from;
 use pf_base::PathError;
 use pf_informed::directed::astar::astar;
 use pf_informed::directed::fringe::fringe;
@@ -57,12 +58,7 @@ where
     astar(
         alloc,
         &from,
-        |n| {
-            let node = *n;
-            edges
-                .iter()
-                .filter_map(move |e| if e.0 == node { Some((e.1, e.2)) } else { None })
-        },
+        |n| edges_from(edges, *n),
         |n| estimate(estimates, bounds, *n),
         |n| *n == to,
     )
@@ -84,12 +80,7 @@ where
     fringe(
         alloc,
         &from,
-        |n| {
-            let node = *n;
-            edges
-                .iter()
-                .filter_map(move |e| if e.0 == node { Some((e.1, e.2)) } else { None })
-        },
+        |n| edges_from(edges, *n),
         |n| estimate(estimates, bounds, *n),
         |n| *n == to,
     )

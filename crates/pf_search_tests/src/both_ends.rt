@@ -1,11 +1,12 @@
 //! A caller of `dijkstra_bidirectional` with a contract of its own.
 
 ghost use Rattle.std.specs.Prelude.{◌≡◌, ◌⊎◌, ◌≤ℤ◌, ◌∷◌, [], All, Err, pos, IfOk, IfErr, MatchOption};
+ghost use Rattle.edge_lists.specs.Lists.{edges_from};
 ghost use Rattle.pf_base.specs.Answers.{IsLawfulClone};
 ghost use Rattle.pf_base.specs.Edges.{IsSuccessor, IsCheapestGoalPath, IsPastRange};
 ghost use Rattle.pf_base.specs.Walks.{HasNoGoalWalk};
-ghost use Rattle.pf_search_tests.specs.BothEnds.{edges_from};
 
+use edge_lists::{edges_from, edges_to};
 use pf_base::{Cost, PathError};
 use pf_search::directed::dijkstra::dijkstra_bidirectional;
 use std::alloc::Allocator;
@@ -36,17 +37,7 @@ where
         alloc,
         &from,
         &to,
-        |n| {
-            let node = *n;
-            edges
-                .iter()
-                .filter_map(move |e| if e.0 == node { Some((e.1, e.2)) } else { None })
-        },
-        |n| {
-            let node = *n;
-            edges
-                .iter()
-                .filter_map(move |e| if e.1 == node { Some((e.0, e.2)) } else { None })
-        },
+        |n| edges_from(edges, *n),
+        |n| edges_to(edges, *n),
     )
 }

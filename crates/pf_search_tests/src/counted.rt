@@ -1,5 +1,6 @@
 //! Callers over one list of edges that count how often they are asked, from both ends and from one.
 
+use edge_lists::{edges_from, edges_to};
 use pf_base::PathError;
 use pf_search::directed::dijkstra::{dijkstra, dijkstra_bidirectional};
 use std::alloc::Global;
@@ -22,17 +23,11 @@ pub fn asked_from_both(
         &to,
         |n| {
             calls.set(calls.get().wrapping_add(1));
-            let node = *n;
-            edges
-                .iter()
-                .filter_map(move |e| if e.0 == node { Some((e.1, e.2)) } else { None })
+            edges_from(edges, *n)
         },
         |n| {
             calls.set(calls.get().wrapping_add(1));
-            let node = *n;
-            edges
-                .iter()
-                .filter_map(move |e| if e.1 == node { Some((e.0, e.2)) } else { None })
+            edges_to(edges, *n)
         },
     )?;
     Ok(answer.map(|found| (found.1, calls.get())))
@@ -51,10 +46,7 @@ pub fn asked_from_one(
         &from,
         |n| {
             calls.set(calls.get().wrapping_add(1));
-            let node = *n;
-            edges
-                .iter()
-                .filter_map(move |e| if e.0 == node { Some((e.1, e.2)) } else { None })
+            edges_from(edges, *n)
         },
         |n| *n == to,
     )?;

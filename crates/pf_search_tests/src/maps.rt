@@ -6,6 +6,7 @@ ghost use Rattle.pf_base.specs.Edges.{IsCheapestGoalPath};
 ghost use Rattle.pf_search.specs.Parents.{IsCheapestMap, IsPartialMap};
 ghost use Rattle.pf_search_tests.specs.Lists.{edges_of};
 
+use edge_lists::edges_from;
 use pf_base::PathError;
 use pf_search::directed::dijkstra::{Parents, build_path, dijkstra_all, dijkstra_partial};
 use pf_search::laws::path_of_parents_is_cheapest;
@@ -23,12 +24,7 @@ where
     A: Allocator + Copy,
     ensures { IfOk result (λ parents. IsCheapestMap nat_eq (edges_of edges.now) from (λ c. pos c) (get nat_eq parents)) }
 {
-    dijkstra_all(alloc, &from, |n| {
-        let node = *n;
-        edges
-            .iter()
-            .filter_map(move |e| if e.0 == node { Some((e.1, e.2)) } else { None })
-    })
+    dijkstra_all(alloc, &from, |n| edges_from(edges, *n))
 }
 
 /// The same up to the node `stop`, and that node, where it is in reach.
@@ -42,17 +38,7 @@ where
     A: Allocator + Copy,
     ensures { IfOk result (λ found. IsPartialMap nat_eq (edges_of edges.now) from (λ c. pos c) (get nat_eq found.0) (λ n. nat_eq n stop) found.1) }
 {
-    dijkstra_partial(
-        alloc,
-        &from,
-        |n| {
-            let node = *n;
-            edges
-                .iter()
-                .filter_map(move |e| if e.0 == node { Some((e.1, e.2)) } else { None })
-        },
-        |n| *n == stop,
-    )
+    dijkstra_partial(alloc, &from, |n| edges_from(edges, *n), |n| *n == stop)
 }
 
 /// A cheapest path from one node to another in reach of it, and its cost, by the map of all nodes.

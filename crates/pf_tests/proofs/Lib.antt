@@ -1,2 +1,1 @@
-mod ListEdges
-pub mod PairLemmas
+pub mod AmongLemmas

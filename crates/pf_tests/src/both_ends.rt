@@ -1,12 +1,13 @@
 //! A caller of `bfs_bidirectional` with a contract of its own.
 
 ghost use Rattle.std.specs.Prelude.{◌≡◌, IfOk, IfErr, MatchOption};
+ghost use Rattle.edge_lists.specs.Pairs.{nodes_after};
 ghost use Rattle.pf_base.specs.Answers.{IsLawfulClone};
 ghost use Rattle.pf_base.specs.Mirrors.{is_among};
 ghost use Rattle.pf_base.specs.Successors.{HasSuccessor, IsFewestEdgesGoalPath};
 ghost use Rattle.pf_base.specs.Walks.{HasNoGoalWalk};
-ghost use Rattle.pf_tests.specs.Pairs.{nodes_after};
 
+use edge_lists::{nodes_after, nodes_before};
 use pf_base::{NodeRefs, PathError};
 use pf_search::directed::bfs::bfs_bidirectional;
 use std::alloc::Allocator;
@@ -33,17 +34,7 @@ where
         alloc,
         starts,
         ends,
-        |n| {
-            let node = *n;
-            edges
-                .iter()
-                .filter_map(move |e| if e.0 == node { Some(e.1) } else { None })
-        },
-        |n| {
-            let node = *n;
-            edges
-                .iter()
-                .filter_map(move |e| if e.1 == node { Some(e.0) } else { None })
-        },
+        |n| nodes_after(edges, *n),
+        |n| nodes_before(edges, *n),
     )
 }

@@ -1,11 +1,13 @@
 //! Callers of `bfs` and `iddfs` with contracts of their own.
 
 ghost use Rattle.std.specs.Prelude.{◌≡◌, [], ◌∷◌, IfOk, IfErr, MatchOption};
+ghost use Rattle.edge_lists.specs.Pairs.{nodes_after};
 ghost use Rattle.pf_base.specs.Answers.{IsLawfulClone};
+ghost use Rattle.pf_base.specs.Mirrors.{is_among};
 ghost use Rattle.pf_base.specs.Successors.{HasSuccessor, IsFewestEdgesGoalPath};
 ghost use Rattle.pf_base.specs.Walks.{HasNoGoalWalk};
-ghost use Rattle.pf_tests.specs.Pairs.{nodes_after, is_among};
 
+use edge_lists::nodes_after;
 use pf_base::{NodeRefs, PathError};
 use pf_search::directed::bfs::bfs;
 use pf_search::directed::iddfs::iddfs;
@@ -39,12 +41,7 @@ where
     bfs(
         alloc,
         starts,
-        |n| {
-            let node = *n;
-            edges
-                .iter()
-                .filter_map(move |e| if e.0 == node { Some(e.1) } else { None })
-        },
+        |n| nodes_after(edges, *n),
         |n| is_one_of(goals, n),
     )
 }
@@ -67,12 +64,7 @@ where
     iddfs(
         alloc,
         start,
-        |n| {
-            let node = *n;
-            edges
-                .iter()
-                .filter_map(move |e| if e.0 == node { Some(e.1) } else { None })
-        },
+        |n| nodes_after(edges, *n),
         |n| is_one_of(goals, n),
     )
 }

@@ -15,8 +15,6 @@ mod list;
 #[cfg(test)]
 mod loops;
 #[cfg(test)]
-mod minutes;
-#[cfg(test)]
 mod named;
 #[cfg(test)]
 mod no_case;

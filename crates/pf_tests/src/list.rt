@@ -1,10 +1,10 @@
 //! A caller over a list of edges, at any node type and any cost type.
 
 ghost use Rattle.std.specs.Prelude.{◌≡◌, ◌⊎◌, ◌≤ℤ◌, ◌∷◌, [], All, pos, IfOk, IfErr, MatchOption};
+ghost use Rattle.edge_lists.specs.Lists.{edges_from};
 ghost use Rattle.pf_base.specs.Answers.{IsLawfulClone};
 ghost use Rattle.pf_base.specs.Edges.{IsSuccessor, IsCheapestGoalPath, IsPastRange};
 ghost use Rattle.pf_base.specs.Walks.{HasNoGoalWalk};
-ghost use Rattle.pf_tests.specs.Lists.{edges_from};
 
 use pf_base::{Cost, PathError};
 use pf_search::directed::dijkstra::dijkstra;

@@ -1,10 +1,11 @@
 //! A caller of `bfs_loop` with a contract of its own.
 
 ghost use Rattle.std.specs.Prelude.{◌≡◌, IfOk, IfErr, MatchOption};
+ghost use Rattle.edge_lists.specs.Pairs.{nodes_after};
 ghost use Rattle.pf_base.specs.Answers.{IsLawfulClone};
 ghost use Rattle.pf_base.specs.Loops.{HasNoLoop, IsBestLoop};
-ghost use Rattle.pf_tests.specs.Pairs.{nodes_after};
 
+use edge_lists::nodes_after;
 use pf_base::{NodeRefs, PathError};
 use pf_search::directed::bfs::bfs_loop;
 use std::alloc::Allocator;
@@ -26,10 +27,5 @@ where
         (λ path. IsBestLoop N.eq (nodes_after N.eq edges.now) starts.now path.items)) }
     ensures errors { IfErr result (λ e. e ≡ PathError.OutOfMemory) }
 {
-    bfs_loop(alloc, starts, |n| {
-        let node = *n;
-        edges
-            .iter()
-            .filter_map(move |e| if e.0 == node { Some(e.1) } else { None })
-    })
+    bfs_loop(alloc, starts, |n| nodes_after(edges, *n))
 }

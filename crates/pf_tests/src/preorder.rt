@@ -1,13 +1,15 @@
 //! Callers of searches and walks in preorder.
 
 ghost use Rattle.std.specs.Prelude.{◌≡◌, ◌<◌, [], ◌∷◌, All, IfOk, IfErr, MatchOption, length};
+ghost use Rattle.edge_lists.specs.Pairs.{nodes_after};
 ghost use Rattle.pf_base.specs.Answers.{IsLawfulClone};
+ghost use Rattle.pf_base.specs.Mirrors.{is_among};
 ghost use Rattle.pf_base.specs.Successors.{HasSuccessor};
 ghost use Rattle.pf_base.specs.Walks.{HasNoGoalWalk, IsGoalPath};
 ghost use Rattle.pf_search.specs.Preorder.{IsFirstTreePath};
-ghost use Rattle.pf_tests.specs.Pairs.{nodes_after, is_among};
 
 use crate::fewest::is_one_of;
+use edge_lists::nodes_after;
 use pf_base::PathError;
 use pf_search::directed::dfs::{dfs, dfs_reach};
 use std::alloc::{Allocator, Global};
@@ -34,12 +36,7 @@ where
     dfs(
         alloc,
         start,
-        |n| {
-            let node = *n;
-            edges
-                .iter()
-                .filter_map(move |e| if e.0 == node { Some(e.1) } else { None })
-        },
+        |n| nodes_after(edges, *n),
         |n| is_one_of(goals, n),
     )
 }

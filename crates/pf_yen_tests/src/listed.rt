@@ -3,6 +3,7 @@
 ghost use Rattle.std.specs.Prelude.{ℕ, ℤ, Bool, List, [], ◌∷◌, nat_eq};
 ghost use Rattle.pf_base.specs.Edges.{IsWeightedSearch};
 
+use edge_lists::edges_from;
 use pf_base::{EdgeFunction, NodeTest, PathError};
 use pf_yen::directed::yen::{YenPaths, yen, yen_paths};
 use std::alloc::{Allocator, Global};
@@ -96,12 +97,7 @@ where
         alloc,
         ample,
         from,
-        |n| {
-            let node = *n;
-            edges
-                .iter()
-                .filter_map(move |e| if e.0 == node { Some((e.1, e.2)) } else { None })
-        },
+        |n| edges_from(edges, *n),
         |n| *n == goals.0 || *n == goals.1,
         calls,
         k,

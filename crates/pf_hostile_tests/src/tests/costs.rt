@@ -112,6 +112,8 @@ fn costs_of_a_hundred_and_twenty_eight_bits(rt: HostRuntime) {
 
 #[test]
 fn costs_of_a_type_of_ones_own(rt: HostRuntime) {
+    assert!(rt; Minutes::least() == Minutes { minutes: 0 });
+    assert!(rt; Minutes::greatest() == Minutes { minutes: 1439 });
     let dear = Minutes { minutes: 1000 };
     for (minutes, cost) in [(439, Some(Minutes { minutes: 1439 })), (440, None)] {
         let edges = [('s', 'a', dear), ('a', 't', Minutes { minutes })];

@@ -1,6 +1,5 @@
 //! The ends of each cost type, and the arithmetic of signed costs.
 
-use crate::minutes::Minutes;
 use pf_base::{Cost, SignedCost};
 
 /// Whether these are the ends of the costs.
@@ -23,10 +22,6 @@ fn costs_lie_between_least_and_greatest(rt: HostRuntime) {
         ("i64", has_ends(i64::MIN, i64::MAX)),
         ("isize", has_ends(isize::MIN, isize::MAX)),
         ("i128", has_ends(i128::MIN, i128::MAX)),
-        (
-            "Minutes",
-            has_ends(Minutes { minutes: 0 }, Minutes { minutes: 1439 }),
-        ),
     ] {
         assert!(rt; holds, "{costs}");
     }

@@ -180,7 +180,7 @@ const EDGES: [(char, char, u32); 7] = [
     ('d', 'e', 2),
 ];
 
-/// Whether an edge list is made, and has the only right path from a to e.
+/// Whether an edge list is made, has the only right path from a to e, and tells names.
 fn is_right_by_names(
     heap: &Refusing<Global>,
     edges: &[(char, char, u32)],
@@ -194,7 +194,11 @@ fn is_right_by_names(
         return Ok(false);
     };
     let found = dijkstra(heap, &list, from, to)?;
-    Ok(list.len() == 5 && is_path_at(Ok(found), &[0, 1, 3, 4], 11))
+    if list.len() != 5 || !is_path_at(Ok(found), &[0, 1, 3, 4], 11) {
+        return Ok(false);
+    }
+    let names = list.names_of(heap, &[4, 0])?;
+    Ok(names.as_slice() == [&'e', &'a'].as_slice())
 }
 
 #[test]

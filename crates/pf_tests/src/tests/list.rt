@@ -3,7 +3,6 @@
 ghost use Rattle.std.specs.Prelude.{◌≤ℤ◌, All, pos};
 
 use crate::list::cheapest_in_list;
-use crate::minutes::Minutes;
 use crate::no_case::NoCase;
 use crate::tests::answers::{is_no_path, is_path_at};
 use pf_base::{Cost, PathError};
@@ -64,22 +63,15 @@ fn only_sums_that_are_needed_have_to_fit(rt: HostRuntime) {
 }
 
 #[test]
-fn costs_may_be_signed_or_of_an_own_type(rt: HostRuntime) {
-    let alloc = rt.alloc();
+fn costs_may_be_signed(rt: HostRuntime) {
     let signed = [
         ('s', 'a', 1i128),
         ('s', 't', 9),
         ('a', 't', i128::MAX),
         ('a', 't', 8),
     ];
-    let answer = cheapest_in_list(alloc, &signed, 's', 't');
+    let answer = cheapest_in_list(rt.alloc(), &signed, 's', 't');
     assert!(rt; matches!(&answer, Ok(Some((_path, 9)))));
-    let morning = ('s', 'a', Minutes { minutes: 1000 });
-    let day = [morning, ('a', 't', Minutes { minutes: 439 })];
-    let cost = Minutes { minutes: 1439 };
-    assert!(rt; is_answered(alloc, &day, Ok((&['s', 'a', 't'], cost))));
-    let longer = [morning, ('a', 't', Minutes { minutes: 440 })];
-    assert!(rt; is_answered(alloc, &longer, Err(PathError::CostOverflow)));
 }
 
 #[test]

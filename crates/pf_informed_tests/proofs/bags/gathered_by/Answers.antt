@@ -1,11 +1,9 @@
 use Rattle.std.proofs.Common.{rules, ap, ℕ, Bool, ◌∷◌, [], ◌||◌, pos, nat_eq}
-use Rattle.std.specs.Prelude.{if◌then◌else◌, Some, None}
-use borrow.Author.Tests.{tests, eqb-true}
-use Rattle.std.proofs.lemmas.Iterator.{YieldsList-from_slice}
-use Rattle.std.proofs.lemmas.Iterator.Consumers.{YieldsList-from_filter_map}
-use Rattle.pf_base.proofs.Callers.{nat_graph, nat_test}
+use borrow.Author.Tests.{eqb-true}
+use Rattle.std.proofs.lemmas.Cmp.{nat_eq_equiv}
+use Rattle.edge_lists.proofs.Callers.{edges_from_answered}
+use Rattle.pf_base.proofs.Callers.{nat_test}
 use Rattle.pf_base.proofs.Reach.{unsigned_cost}
-use Rattle.pf_base.proofs.Sources.{gives_chain}
 use Rattle.pf_informed.proofs.Callers.{estimate_of}
 use Rattle.pf_informed_tests.proofs.BagLemmas.{if_some}
 use Rattle.pf_informed_tests.proofs.ListedLemmas.{bounded_twice}
@@ -23,8 +21,7 @@ astar_bag_collect-requires-clause-graph g c =
       (λ n. pos (least n)),
       record {
         weighted = record {
-          edges_answered = nat_graph listed (λ x w. search rules)
-              (λ x r t w k. (search rules, gives_chain (λ it b. (search rules, search rules, YieldsList-from_filter_map _ (λ e. if nat_eq e.0 x.now then Some (e.1, e.2) else None) {f = record { 0 = x.now }} (YieldsList-from_slice c.args.edges.now (cc)) (cc) (λ e o q l. search (rules, tests))))));
+          edges_answered = edges_from_answered nat_eq_equiv c.args.edges.now (λ x w. search rules) (λ x r t w k. (search rules, λ it b. (search rules, search rules, search rules)));
           test_answered = nat_test passes (λ x w. search rules) (λ x r t w k. search rules);
           costs = unsigned_cost nat_eq listed (c.args.from ∷ []);
         };

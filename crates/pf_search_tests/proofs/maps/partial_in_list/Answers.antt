@@ -1,24 +1,20 @@
-use Rattle.std.proofs.Common.{rules, ◌∷◌, [], nat_eq}
-use Rattle.std.specs.Prelude.{if◌then◌else◌, Some, None}
-use borrow.Author.Tests.{tests}
-use Rattle.std.proofs.lemmas.Iterator.{YieldsList-from_slice}
-use Rattle.std.proofs.lemmas.Iterator.Consumers.{YieldsList-from_filter_map}
-use Rattle.pf_base.proofs.Callers.{nat_graph, nat_test}
+use Rattle.std.proofs.Common.{rules, pos, ◌∷◌, [], nat_eq}
+use Rattle.std.proofs.lemmas.Cmp.{nat_eq_equiv}
+use Rattle.edge_lists.proofs.Callers.{edges_from_answered}
+use Rattle.edge_lists.specs.Lists.{edges_from, ends_from}
+use Rattle.pf_base.proofs.Callers.{nat_test}
 use Rattle.pf_base.proofs.Reach.{unsigned_cost}
-use Rattle.pf_base.proofs.Sources.{gives_chain}
-use Rattle.pf_search_tests.specs.Lists.{ends_of, edges_of}
 use Rattle.pf_search_tests.proofs.maps.partial_in_list.Goals as goal
 
 pub dijkstra_partial-requires-clause-graph : goal.dijkstra_partial-requires-clause-graph
 dijkstra_partial-requires-clause-graph g c =
-    let listed = ends_of c.args.edges.now in (
-      edges_of c.args.edges.now,
+    let edges = c.args.edges.now in (
+      edges_from nat_eq edges (λ z. pos z),
       (λ n. nat_eq n c.args.stop),
       record {
-        edges_answered = nat_graph listed (λ x w. search rules)
-            (λ x r t w k. (search rules, gives_chain (λ it b. (search rules, search rules, YieldsList-from_filter_map _ (λ e. if nat_eq e.0 x.now then Some (e.1, e.2) else None) {f = record { 0 = x.now }} (YieldsList-from_slice c.args.edges.now (cc)) (cc) (λ e o q l. search (rules, tests))))));
+        edges_answered = edges_from_answered nat_eq_equiv edges (λ x w. search rules) (λ x r t w k. (search rules, λ it b. (search rules, search rules, search rules)));
         test_answered = nat_test (λ n. nat_eq n c.args.stop) (λ x w. search rules) (λ x r t w k. search rules);
-        costs = unsigned_cost nat_eq listed (c.args.from ∷ []);
+        costs = unsigned_cost nat_eq (ends_from nat_eq edges) (c.args.from ∷ []);
       },
     )
 

@@ -1,13 +1,7 @@
-use Rattle.std.proofs.Common.{rules, subst}
-use Rattle.std.specs.Prelude.{if◌then◌else◌, Some, None}
-use borrow.Author.Tests.{tests}
-use Rattle.std.proofs.lemmas.Iterator.{YieldsList-from_slice}
-use Rattle.std.proofs.lemmas.Iterator.Consumers.{YieldsList-from_filter_map}
-use Rattle.pf_base.specs.Answers.{SameNodes}
-use Rattle.pf_base.proofs.Callers.{successors_of, SameNodes-refl}
-use Rattle.pf_base.proofs.Sources.{gives_chain}
-use Rattle.pf_tests.proofs.PairLemmas.{nodes_after-same, nodes_before-same, pairs_mirror}
-use Rattle.pf_tests.specs.Pairs.{nodes_after, nodes_before}
+use Rattle.std.proofs.Common.{rules}
+use Rattle.edge_lists.proofs.Callers.{nodes_after_answered, nodes_before_answered}
+use Rattle.edge_lists.proofs.ChosenLemmas.{pairs_mirror}
+use Rattle.edge_lists.specs.Pairs.{nodes_after, nodes_before}
 use Rattle.pf_tests.proofs.both_ends.fewest_between_in_pairs.Goals as goal
 
 pub bfs_bidirectional-requires-clause-graph : goal.bfs_bidirectional-requires-clause-graph
@@ -19,17 +13,9 @@ bfs_bidirectional-requires-clause-graph g c =
       next,
       previous,
       record {
-        successors_answered = successors_of next next
-            (λ x w. SameNodes-refl eq laws.refl (next x))
-            (λ x y w e. subst (λ xs. SameNodes eq (next x) xs) (nodes_after-same eq laws c.args.edges.now x y e) (SameNodes-refl eq laws.refl (next x)))
-            (λ x w. search rules)
-            (λ x r t w k. (search rules, gives_chain (λ it b. (search rules, search rules, YieldsList-from_filter_map _ (λ e. if eq e.0 x.now then Some e.1 else None) {f = record { 0 = x.now }} (YieldsList-from_slice c.args.edges.now (cc)) (cc) (λ e o q l. search (rules, tests))))));
-        predecessors_answered = successors_of previous previous
-            (λ x w. SameNodes-refl eq laws.refl (previous x))
-            (λ x y w e. subst (λ xs. SameNodes eq (previous x) xs) (nodes_before-same eq laws c.args.edges.now x y e) (SameNodes-refl eq laws.refl (previous x)))
-            (λ x w. search rules)
-            (λ x r t w k. (search rules, gives_chain (λ it b. (search rules, search rules, YieldsList-from_filter_map _ (λ e. if eq e.1 x.now then Some e.0 else None) {f = record { 0 = x.now }} (YieldsList-from_slice c.args.edges.now (cc)) (cc) (λ e o q l. search (rules, tests))))));
-        mirror = pairs_mirror eq laws c.args.edges.now c.args.starts.now c.args.ends.now;
+        successors_answered = nodes_after_answered laws c.args.edges.now (λ x w. search rules) (λ x r t w k. (search rules, λ it b. (search rules, search rules, search rules)));
+        predecessors_answered = nodes_before_answered laws c.args.edges.now (λ x w. search rules) (λ x r t w k. (search rules, λ it b. (search rules, search rules, search rules)));
+        mirror = pairs_mirror eq c.args.edges.now c.args.starts.now c.args.ends.now;
       },
     )
 

@@ -1,13 +1,6 @@
-use Rattle.std.proofs.Common.{rules, subst}
-use Rattle.std.specs.Prelude.{if◌then◌else◌, Some, None}
-use borrow.Author.Tests.{tests}
-use Rattle.std.proofs.lemmas.Iterator.{YieldsList-from_slice}
-use Rattle.std.proofs.lemmas.Iterator.Consumers.{YieldsList-from_filter_map}
-use Rattle.pf_base.specs.Answers.{SameNodes}
-use Rattle.pf_base.proofs.Callers.{successors_of, SameNodes-refl}
-use Rattle.pf_base.proofs.Sources.{gives_chain}
-use Rattle.pf_tests.proofs.PairLemmas.{nodes_after-same}
-use Rattle.pf_tests.specs.Pairs.{nodes_after}
+use Rattle.std.proofs.Common.{rules}
+use Rattle.edge_lists.proofs.Callers.{nodes_after_answered}
+use Rattle.edge_lists.specs.Pairs.{nodes_after}
 use Rattle.pf_tests.proofs.loops.loop_in_pairs.Goals as goal
 
 pub bfs_loop-requires-clause-graph : goal.bfs_loop-requires-clause-graph
@@ -16,11 +9,7 @@ bfs_loop-requires-clause-graph g c =
     let laws = g.met.N.Eq.laws in
     let next = nodes_after eq c.args.edges.now in (
       next,
-      successors_of next next
-          (λ x w. SameNodes-refl eq laws.refl (next x))
-          (λ x y w e. subst (λ xs. SameNodes eq (next x) xs) (nodes_after-same eq laws c.args.edges.now x y e) (SameNodes-refl eq laws.refl (next x)))
-          (λ x w. search rules)
-          (λ x r t w k. (search rules, gives_chain (λ it b. (search rules, search rules, YieldsList-from_filter_map _ (λ e. if eq e.0 x.now then Some e.1 else None) {f = record { 0 = x.now }} (YieldsList-from_slice c.args.edges.now (cc)) (cc) (λ e o q l. search (rules, tests)))))),
+      nodes_after_answered laws c.args.edges.now (λ x w. search rules) (λ x r t w k. (search rules, λ it b. (search rules, search rules, search rules))),
     )
 
 pub returns : goal.returns

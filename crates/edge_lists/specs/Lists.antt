@@ -1,15 +1,15 @@
 -- The graph of a list of edges (from, to, cost), from both ends.
-use Rattle.std.specs.Prelude.{ℤ, Bool, List, map, if◌then◌else◌, Some, None}
-use Rattle.std.specs.List.{filter_map}
+use Rattle.std.specs.Prelude.{ℤ, Bool, List, map}
+use Rattle.edge_lists.specs.Chosen.{chosen}
 
 module _ {N C : Type 0} (eq : N → N → Bool) (edges : List (N × N × C)) where
   -- where the edges from n lead, and at which cost, in the order of the list
   abbrev pub ends_from : N → List (N × C)
-  ends_from n = filter_map (λ (e : N × N × C). if eq e.0 n then Some (e.1, e.2) else None) edges
+  ends_from = chosen eq (λ (e : N × N × C). e.0) (λ (e : N × N × C). (e.1, e.2)) edges
 
   -- where the edges to n come from, and at which cost, in the order of the list
   abbrev pub starts_to : N → List (N × C)
-  starts_to n = filter_map (λ (e : N × N × C). if eq e.1 n then Some (e.0, e.2) else None) edges
+  starts_to = chosen eq (λ (e : N × N × C). e.1) (λ (e : N × N × C). (e.0, e.2)) edges
 
   -- the edges from n, each with the whole number that it costs
   abbrev pub edges_from : (C → ℤ) → N → List (N × ℤ)
