@@ -4,7 +4,7 @@ ghost use Rattle.std.specs.Prelude.{◌≡◌, IfOk, IfErr, nat_eq};
 ghost use Rattle.pf_orders.specs.Components.{AreStrongComponents, IsStrongComponentOf, lists_of};
 ghost use Rattle.pf_tables.specs.Graphs.{successors_of};
 
-use crate::answers::{end_in, place_count};
+use crate::edges::ends_of;
 use pf_base::{Cost, PathError};
 use pf_tables::Graph;
 use std::alloc::Allocator;
@@ -37,10 +37,7 @@ where
     pf_orders::directed::strongly_connected_components::strongly_connected_components(
         alloc,
         nodes,
-        |n: &usize| {
-            let node = *n;
-            (0..place_count(graph, node)).filter_map(move |place| end_in(graph, node, place))
-        },
+        |n: &usize| ends_of(graph, *n),
     )
 }
 
@@ -67,9 +64,6 @@ where
     pf_orders::directed::strongly_connected_components::strongly_connected_component(
         alloc,
         &node,
-        |n: &usize| {
-            let node = *n;
-            (0..place_count(graph, node)).filter_map(move |place| end_in(graph, node, place))
-        },
+        |n: &usize| ends_of(graph, *n),
     )
 }

@@ -6,7 +6,7 @@ ghost use Rattle.pf_base.specs.Walks.{HasNoGoalWalk, IsGoalPath};
 ghost use Rattle.pf_search.specs.Preorder.{IsFirstTreePath};
 ghost use Rattle.pf_tables.specs.Graphs.{successors_of};
 
-use crate::answers::{end_in, place_count};
+use crate::edges::ends_of;
 use pf_base::{Cost, PathError};
 use pf_tables::{Goals, Graph};
 use std::alloc::Allocator;
@@ -43,10 +43,7 @@ where
     pf_search::directed::dfs::dfs(
         alloc,
         from,
-        |n: &usize| {
-            let node = *n;
-            (0..place_count(graph, node)).filter_map(move |place| end_in(graph, node, place))
-        },
+        |n: &usize| ends_of(graph, *n),
         |n: &usize| goals.is_goal(*n),
     )
 }
@@ -83,10 +80,7 @@ where
     pf_search::directed::iddfs::iddfs(
         alloc,
         from,
-        |n: &usize| {
-            let node = *n;
-            (0..place_count(graph, node)).filter_map(move |place| end_in(graph, node, place))
-        },
+        |n: &usize| ends_of(graph, *n),
         |n: &usize| goals.is_goal(*n),
     )
 }

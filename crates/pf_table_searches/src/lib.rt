@@ -2,9 +2,9 @@
 //! of its caller.
 #![tactic(auto)]
 
-mod answers;
 mod components;
 mod depth;
+mod edges;
 mod loops;
 mod orders;
 mod parents;

@@ -4,7 +4,7 @@ ghost use Rattle.std.specs.Prelude.{◌≡◌, IfOk, IfErr, MatchOption, nat_eq}
 ghost use Rattle.pf_base.specs.Loops.{HasNoLoop, IsBestLoop};
 ghost use Rattle.pf_tables.specs.Graphs.{successors_of};
 
-use crate::answers::{end_in, place_count};
+use crate::edges::ends_of;
 use pf_base::{Cost, NodeRefs, PathError};
 use pf_tables::Graph;
 use std::alloc::Allocator;
@@ -36,8 +36,5 @@ where
         (λ path. IsBestLoop nat_eq (successors_of C.value (G.size graph.now) (G.places graph.now)) starts.now path.items)) }
     ensures errors { IfErr result (λ e. e ≡ PathError.OutOfMemory) }
 {
-    pf_search::directed::bfs::bfs_loop(alloc, starts, |n: &usize| {
-        let node = *n;
-        (0..place_count(graph, node)).filter_map(move |place| end_in(graph, node, place))
-    })
+    pf_search::directed::bfs::bfs_loop(alloc, starts, |n: &usize| ends_of(graph, *n))
 }

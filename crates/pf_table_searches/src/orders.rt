@@ -7,7 +7,7 @@ ghost use Rattle.pf_orders.specs.GroupDepths.{AreClosed, HasDepth, AreDepthGroup
 ghost use Rattle.pf_orders.specs.TopologicalOrders.{IsTopologicalOrder, IsOnCycle};
 ghost use Rattle.pf_tables.specs.Graphs.{successors_of};
 
-use crate::answers::{end_in, place_count};
+use crate::edges::ends_of;
 use pf_base::{Cost, PathError};
 use pf_tables::Graph;
 use std::alloc::Allocator;
@@ -38,10 +38,11 @@ where
     ensures cycle { IfOk result (λ answer. IfErr answer (λ node. IsReachable nat_eq (HasSuccessor nat_eq (successors_of C.value (G.size graph.now) (G.places graph.now))) roots.now node × IsOnCycle nat_eq (successors_of C.value (G.size graph.now) (G.places graph.now)) node)) }
     ensures errors { IfErr result (λ e. e ≡ PathError.OutOfMemory) }
 {
-    pf_orders::directed::topological_sort::topological_sort(alloc, roots, |n: &usize| {
-        let node = *n;
-        (0..place_count(graph, node)).filter_map(move |place| end_in(graph, node, place))
-    })
+    pf_orders::directed::topological_sort::topological_sort(
+        alloc,
+        roots,
+        |n: &usize| ends_of(graph, *n),
+    )
 }
 
 /// The nodes in groups: group k has exactly those whose longest incoming walk from one of the `nodes`
@@ -77,8 +78,9 @@ where
         → (x : ℕ) × (y : ℕ) × HasNode nat_eq nodes.now x × HasSuccessor nat_eq (successors_of C.value (G.size graph.now) (G.places graph.now)) x y × ¬ (HasNode nat_eq nodes.now y) }
     ensures errors { IfErr result (λ e. (e ≡ PathError.OutOfMemory) ⊎ (e ≡ PathError.UnknownVertex)) }
 {
-    pf_orders::directed::topological_sort::topological_sort_into_groups(alloc, nodes, |n: &usize| {
-        let node = *n;
-        (0..place_count(graph, node)).filter_map(move |place| end_in(graph, node, place))
-    })
+    pf_orders::directed::topological_sort::topological_sort_into_groups(
+        alloc,
+        nodes,
+        |n: &usize| ends_of(graph, *n),
+    )
 }

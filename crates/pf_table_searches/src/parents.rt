@@ -6,7 +6,7 @@ ghost use Rattle.pf_base.specs.Edges.{IsPastRange};
 ghost use Rattle.pf_search.specs.Parents.{IsCheapestMap, IsPartialMap};
 ghost use Rattle.pf_tables.specs.Graphs.{graph_of};
 
-use crate::answers::{edge_in, place_count};
+use crate::edges::edges_of;
 use pf_base::{Cost, PathError};
 use pf_search::directed::dijkstra::Parents;
 use pf_tables::{Goals, Graph};
@@ -40,10 +40,7 @@ where
     ensures errors { IfErr result (λ e. (e ≡ PathError.OutOfMemory) ⊎ (e ≡ PathError.CostOverflow)) }
 {
     graph.known();
-    pf_search::directed::dijkstra::dijkstra_all(alloc, &from, |n: &usize| {
-        let node = *n;
-        (0..place_count(graph, node)).filter_map(move |place| edge_in(graph, node, place))
-    })
+    pf_search::directed::dijkstra::dijkstra_all(alloc, &from, |n: &usize| edges_of(graph, *n))
 }
 
 /// The parents and costs of the nodes that a search by rising cost has found where it comes to the
@@ -80,10 +77,7 @@ where
     pf_search::directed::dijkstra::dijkstra_partial(
         alloc,
         &from,
-        |n: &usize| {
-            let node = *n;
-            (0..place_count(graph, node)).filter_map(move |place| edge_in(graph, node, place))
-        },
+        |n: &usize| edges_of(graph, *n),
         |n: &usize| goals.is_goal(*n),
     )
 }

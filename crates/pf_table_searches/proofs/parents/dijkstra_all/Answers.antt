@@ -1,11 +1,9 @@
-use Rattle.std.proofs.Common.{rules, refl, arith, ◌∷◌, [], length}
-use Rattle.std.proofs.lemmas.Iterator.{YieldsList-from_range}
-use Rattle.std.proofs.lemmas.Iterator.Consumers.{YieldsList-from_filter_map}
+use Rattle.std.proofs.Common.{rules, ◌∷◌, []}
+use Rattle.std.proofs.lemmas.Iterator.Consumers.{YieldsList-from_first}
 use Rattle.pf_base.proofs.Sources.{gives_chain}
 use Rattle.pf_tables.specs.Graphs.{graph_of}
 use Rattle.pf_tables.proofs.GraphLemmas.{no_negative_cost}
-use Rattle.pf_table_searches.specs.Answers.{places_at, edge_at}
-use Rattle.pf_table_searches.proofs.AnswerLemmas.{table_graph}
+use Rattle.pf_table_searches.proofs.EdgeLemmas.{table_graph}
 use Rattle.pf_table_searches.proofs.parents.dijkstra_all.Goals as goal
 
 pub dijkstra_all-requires-clause-graph : goal.dijkstra_all-requires-clause-graph
@@ -14,7 +12,7 @@ dijkstra_all-requires-clause-graph g c =
     let places = g.G.Graph.places c.args.graph.now in (
       graph_of g.C.Number.value size places,
       table_graph g.C.Number.value size places (λ x w. search rules)
-          (λ x r t w k. (search rules, gives_chain (λ it b. (search rules, search rules, YieldsList-from_filter_map _ (edge_at size places x.now) (YieldsList-from_range 0 (length (places_at size places x.now)) (length (places_at size places x.now)) (cc) (omega arith)) refl (λ e o q l. search rules))))),
+          (λ x r t w k. (search rules, gives_chain (λ it b. (search rules, search rules, YieldsList-from_first (λ e. e) (λ es. es) _ (search rules))))),
       no_negative_cost g.C.Number.value size places c.known.ensures (c.args.from ∷ []),
     )
 

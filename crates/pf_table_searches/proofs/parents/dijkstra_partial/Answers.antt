@@ -1,12 +1,10 @@
-use Rattle.std.proofs.Common.{rules, refl, arith, ◌∷◌, [], length}
-use Rattle.std.proofs.lemmas.Iterator.{YieldsList-from_range}
-use Rattle.std.proofs.lemmas.Iterator.Consumers.{YieldsList-from_filter_map}
+use Rattle.std.proofs.Common.{rules, ◌∷◌, []}
+use Rattle.std.proofs.lemmas.Iterator.Consumers.{YieldsList-from_first}
 use Rattle.pf_base.proofs.Callers.{nat_test}
 use Rattle.pf_base.proofs.Sources.{gives_chain}
 use Rattle.pf_tables.specs.Graphs.{graph_of}
 use Rattle.pf_tables.proofs.GraphLemmas.{no_negative_cost}
-use Rattle.pf_table_searches.specs.Answers.{places_at, edge_at}
-use Rattle.pf_table_searches.proofs.AnswerLemmas.{table_graph}
+use Rattle.pf_table_searches.proofs.EdgeLemmas.{table_graph}
 use Rattle.pf_table_searches.proofs.parents.dijkstra_partial.Goals as goal
 
 pub dijkstra_partial-requires-clause-graph : goal.dijkstra_partial-requires-clause-graph
@@ -17,7 +15,7 @@ dijkstra_partial-requires-clause-graph g c =
       g.T.Goals.passes c.args.goals,
       record {
         edges_answered = table_graph g.C.Number.value size places (λ x w. search rules)
-            (λ x r t w k. (search rules, gives_chain (λ it b. (search rules, search rules, YieldsList-from_filter_map _ (edge_at size places x.now) (YieldsList-from_range 0 (length (places_at size places x.now)) (length (places_at size places x.now)) (cc) (omega arith)) refl (λ e o q l. search rules)))));
+            (λ x r t w k. (search rules, gives_chain (λ it b. (search rules, search rules, YieldsList-from_first (λ e. e) (λ es. es) _ (search rules)))));
         test_answered = nat_test (g.T.Goals.passes c.args.goals) (λ x w. search rules) (λ x r t w k. search rules);
         costs = no_negative_cost g.C.Number.value size places c.known.ensures (c.args.from ∷ []);
       },
