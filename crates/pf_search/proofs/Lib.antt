@@ -1,3 +1,4 @@
+pub mod ResultLemmas
 pub mod LawLemmas
 pub mod SimplePaths
 pub mod BreadthLemmas

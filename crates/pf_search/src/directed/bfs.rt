@@ -52,10 +52,7 @@ where
 {
     match fewest_edges_path::<u8, _, _>(alloc, graph)? {
         None => Ok(None),
-        Some(numbers) => {
-            let path = graph.nodes_at(alloc, &numbers)?;
-            Ok(Some(path))
-        }
+        Some(numbers) => graph.nodes_at(alloc, &numbers).map(Some),
     }
 }
 

@@ -1,6 +1,6 @@
 //! Maps of parents, and the paths that they hold.
 
-ghost use Rattle.std.specs.Prelude.{◌≡◌, None, Some, length, IfOk, IfErr, MatchOption};
+ghost use Rattle.std.specs.Prelude.{◌≡◌, ◌∷◌, ◌++◌, [], None, Some, length, IfOk, IfErr, OnOk, MatchOption};
 ghost use Rattle.std.specs.HashMap.{get};
 ghost use Rattle.pf_base.specs.Answers.{IsLawfulClone};
 ghost use Rattle.pf_search.specs.Parents.{IsChainOfParents, MeetsNoneTwice};
@@ -27,6 +27,19 @@ where
     }
 }
 
+/// Adds a clone of the node at the end of the path.
+fn push_clone<N, A>(path: &mut Vec<N, A>, node: &N) -> Result<(), PathError>
+where
+    N: Eq + Clone + Drop,
+    A: Allocator,
+    ensures pushed { OnOk result ((x : N) × N.is_clone node.now x × (path.new.items ≡ path.old.items ++ x ∷ [])) }
+    ensures refused { IfErr result (λ e. e ≡ PathError.OutOfMemory) }
+{
+    let end = node.clone()?;
+    path.push(end)?;
+    Ok(())
+}
+
 /// The chain of parents of `target`: clones of the nodes from the first one that has no entry to the
 /// target, each the parent of the next. A target without an entry gives a clone of it alone.
 ///
@@ -50,10 +63,10 @@ where
     ensures refused { IfErr result (λ e. e ≡ PathError.OutOfMemory) }
 {
     let mut path = Vec::new(alloc);
-    path.push(target.clone()?)?;
+    push_clone(&mut path, target)?;
     let mut at = target;
     'climb: while let Some(parent) = parent_in(parents, at) {
-        path.push(parent.clone()?)?;
+        push_clone(&mut path, parent)?;
         at = parent;
     }
     path.reverse();

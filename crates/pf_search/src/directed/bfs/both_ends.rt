@@ -48,10 +48,7 @@ where
 {
     match fewest_edges_between::<u8, _, _>(alloc, graph)? {
         None => Ok(None),
-        Some(halves) => {
-            let path = graph.nodes_along(alloc, &halves)?;
-            Ok(Some(path))
-        }
+        Some(halves) => graph.nodes_along(alloc, &halves).map(Some),
     }
 }
 

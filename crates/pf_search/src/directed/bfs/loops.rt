@@ -40,10 +40,7 @@ where
 {
     match fewest_edges_loop::<u8, _, _>(alloc, graph)? {
         None => Ok(None),
-        Some(numbers) => {
-            let path = clones_at(alloc, graph.nodes.as_slice(), &numbers)?;
-            Ok(Some(path))
-        }
+        Some(numbers) => clones_at(alloc, graph.nodes.as_slice(), &numbers).map(Some),
     }
 }
 

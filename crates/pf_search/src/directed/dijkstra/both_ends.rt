@@ -1,7 +1,8 @@
 //! Cheapest paths, searched from both ends.
 
 ghost use Rattle.std.specs.BinaryHeap.{heap_items};
-ghost use Rattle.std.specs.Prelude.{◌≡◌, ◌<◌, ◌≤ℤ◌, ◌<ℤ◌, ◌+ℤ◌, ◌⊎◌, ℕ, ℤ, pos, List, [], ◌∷◌, Err, Some, None, IfOk, IfErr, IfSome, OnOk, MatchBool, MatchOption, Contains, length, slice_get, take, false};
+ghost use Rattle.std.specs.List.{AllZip};
+ghost use Rattle.std.specs.Prelude.{◌≡◌, ◌<◌, ◌≤ℤ◌, ◌<ℤ◌, ◌+ℤ◌, ◌⊎◌, ◌++◌, ℕ, ℤ, pos, List, [], ◌∷◌, Err, Some, None, IfOk, IfErr, IfSome, OnOk, MatchBool, MatchOption, Contains, length, slice_get, take, drop, reverse, false};
 ghost use Rattle.pf_base.specs.Walks.{HasNoGoalWalk};
 ghost use Rattle.pf_base.specs.Edges.{IsSuccessor, IsCheapestGoalPath, IsPastRange};
 ghost use Rattle.pf_base.specs.Answers.{IsLawfulClone};
@@ -108,6 +109,13 @@ fn cheaper<C: Cost>(best: Option<Meeting<C>>, other: Option<Meeting<C>>) -> Opti
     }
 }
 
+/// Is the first cost no more than the second?
+fn is_at_most<C: Cost>(cost: C, limit: C) -> bool
+    ensures { MatchBool result (C.value cost ≤ℤ C.value limit) (C.value limit <ℤ C.value cost) }
+{
+    cost <= limit
+}
+
 /// Does no path cost less than the best meeting, where the least open labels of both sides have these
 /// costs?
 fn is_best<C: Cost>(best: Option<Meeting<C>>, forth: C, back: C) -> bool
@@ -121,7 +129,7 @@ fn is_best<C: Cost>(best: Option<Meeting<C>>, forth: C, back: C) -> bool
     };
     meeting.cost.known();
     match forth.checked_add(&back) {
-        Some(sum) => meeting.cost <= sum,
+        Some(sum) => is_at_most(meeting.cost, sum),
         None => true,
     }
 }
@@ -211,13 +219,6 @@ where
     Ok(best)
 }
 
-/// Is the first cost no more than the second?
-fn is_at_most<C: Cost>(cost: C, limit: C) -> bool
-    ensures { MatchBool result (C.value cost ≤ℤ C.value limit) (C.value limit <ℤ C.value cost) }
-{
-    cost <= limit
-}
-
 /// The first node of the half on the way forth at which both sides meet at no more than this cost, with
 /// its place in the half.
 fn first_on<N, C, A>(
@@ -254,28 +255,32 @@ where
     None
 }
 
-/// The two halves of a path that costs no more than this meeting. They meet at the first node on the
-/// way forth at which they can, since that node alone is on both: where edges cost nothing, the halves
-/// that meet at another node may have several nodes in common.
-fn halves_of<N, C, IN, FN, IM, FM, A>(
+/// The nodes of a path that costs no more than this meeting. Its two halves meet at the first node on
+/// the way forth at which they can, since that node alone is on both: where edges cost nothing, the
+/// halves that meet at another node may have several nodes in common.
+fn path_through<N, C, IN, FN, IM, FM, A>(
     alloc: A,
     graph: &TwoSided<N, Weighted, IN, FN, IM, FM, A>,
     forth: &Search<C, A>,
     back: &Search<C, A>,
     best: Meeting<C>,
-) -> Result<Halves<A>, PathError>
+) -> Result<Vec<N, A>, PathError>
 where
-    N: Eq + Hash + Drop,
+    N: Eq + Hash + Clone + Drop,
     C: Cost,
     A: Allocator + Copy,
+    requires clones { IsLawfulClone N.eq N.is_clone }
     requires trees { IsTree forth.now.labels.items × IsTree back.now.labels.items }
     requires wide_forth { length forth.now.labels.items ≡ length graph.now.forth.nodes.keys }
     requires wide_back { length back.now.labels.items ≡ length graph.now.back.nodes.keys }
     requires one { (i j : ℕ) (x : N) → StandsFor N.eq graph.now.back.nodes.keys i x → StandsFor N.eq graph.now.back.nodes.keys j x → i ≡ j }
     requires costs { (k : ℕ) (l : Label C) → HasLabel forth.now.labels.items k l ⊎ HasLabel back.now.labels.items k l → pos 0 ≤ℤ C.value l.cost }
     requires meets { IsMeeting N.eq C.value graph.now.forth.nodes.keys graph.now.back.nodes.keys forth.now.labels.items back.now.labels.items best }
-    ensures halves { IfOk result (λ halves. AreHalves N.eq C.value graph.now.forth.nodes.keys graph.now.back.nodes.keys forth.now.labels.items back.now.labels.items (C.value best.cost) halves.forth.items halves.back.items) }
-    ensures inside { IfOk result (λ halves. ((k : ℕ) → Contains halves.forth.items k → k < length graph.now.forth.nodes.keys) × ((k : ℕ) → Contains halves.back.items k → k < length graph.now.back.nodes.keys)) }
+    ensures path { IfOk result (λ path. (numbers back_numbers : List ℕ) × (p q : List N)
+        × AreHalves N.eq C.value graph.now.forth.nodes.keys graph.now.back.nodes.keys forth.now.labels.items back.now.labels.items (C.value best.cost) numbers back_numbers
+        × AllZip (StandsFor N.eq graph.now.forth.nodes.keys) numbers p
+        × AllZip (StandsFor N.eq graph.now.back.nodes.keys) back_numbers q
+        × (path.items ≡ p ++ drop 1 (reverse q))) }
     ensures refused { IfErr result (λ e. e ≡ PathError.OutOfMemory) }
 {
     let mut numbers = path_to(alloc, &forth.labels, best.here)?;
@@ -292,10 +297,11 @@ where
     };
     numbers.truncate(place + 1);
     let back_numbers = path_to(alloc, &back.labels, meeting.across)?;
-    Ok(Halves {
+    let halves = Halves {
         forth: numbers,
         back: back_numbers,
-    })
+    };
+    graph.nodes_along(alloc, &halves)
 }
 
 /// The path through the best meeting of two searches, `forth` from the start and `back` from the end,
@@ -340,8 +346,7 @@ where
     match best_meeting(graph, forth, back)? {
         None => Ok(None),
         Some(meeting) => {
-            let halves = halves_of(alloc, graph, forth, back, meeting)?;
-            let path = graph.nodes_along(alloc, &halves)?;
+            let path = path_through(alloc, graph, forth, back, meeting)?;
             Ok(Some((path, meeting.cost)))
         }
     }

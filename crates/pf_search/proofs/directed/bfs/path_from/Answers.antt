@@ -4,6 +4,7 @@ use Rattle.pf_core.specs.Nodes.{TestedGraph}
 use Rattle.pf_core.proofs.WalkLemmas.{no_walk, best_answer}
 use Rattle.pf_core.proofs.UnitLemmas.{is_hop, no_next_walk, fewest_of_best, begins_all, starts_stand}
 use Rattle.pf_search.specs.Internal.Hops.{hops_from}
+use Rattle.pf_search.proofs.ResultLemmas.{in_some, error_kept}
 use Rattle.pf_search.proofs.directed.bfs.path_from.Goals as goal
 
 -- the graph that these functions answer, with the cost 1 at each edge
@@ -28,8 +29,8 @@ returns-in-None-clause-best g c = λ next starts test x u same.
 pub nodes_at-requires-clause-inside : goal.nodes_at-requires-clause-inside
 nodes_at-requires-clause-inside g c = λ k h. (rw c.in-Some.is at c.in_ok-fewest_edges_path.ensures.inside) k (rw c.deref.ensures.value at h)
 
-pub returns-in_ok-path-in-Some-clause-best : goal.returns-in_ok-path-in-Some-clause-best
-returns-in_ok-path-in-Some-clause-best g c = λ next starts test x u same.
+pub returns-in-Some-clause-best : goal.returns-in-Some-clause-best
+returns-in-Some-clause-best g c = λ next starts test x u same.
     let eq = g.N.PartialEq.eq in
     let laws = g.met.N.Eq.laws in
     let h = tested starts next test in
@@ -37,6 +38,10 @@ returns-in_ok-path-in-Some-clause-best g c = λ next starts test x u same.
     let keys = c.fewest_edges_path.new.graph.discovery.nodes.keys in
     let y = c.in_ok-fewest_edges_path.ensures.graph h (x, u) in
     let b = rw c.in-Some.is at (c.in_ok-fewest_edges_path.ensures.best h (x, u) (is_hop eq starts next)) in
-    let path = c.in_ok-path-in-Some.path.items in
-    fewest_of_best eq next starts test path b.0
-    (best_answer eq laws h.graph x.alike _ (λ s. (begins s).1) (λ s. (begins s).0) test u.alike keys (StandsFor-one eq laws keys y.0.distinct) c.in-Some.numbers.items path b.0 b.1 (rw c.deref.ensures.value at c.in_ok-path-in-Some.ensures.nodes))
+    in_some c.nodes_at.result c.map.result c.map.ensures.cases _ _
+    (λ path n. fewest_of_best eq next starts test path.items b.0
+    (best_answer eq laws h.graph x.alike _ (λ s. (begins s).1) (λ s. (begins s).0) test u.alike keys (StandsFor-one eq laws keys y.0.distinct) c.in-Some.numbers.items path.items b.0 b.1 (rw c.deref.ensures.value at n)))
+    c.nodes_at.ensures.nodes
+
+pub returns-in-Some-clause-errors : goal.returns-in-Some-clause-errors
+returns-in-Some-clause-errors g c = error_kept c.nodes_at.result c.map.result c.map.ensures.cases _ c.nodes_at.ensures.refused

@@ -1,4 +1,4 @@
-use Rattle.std.proofs.Common.{rules, ◌≡◌, ◌<◌, [], ◌∷◌, List, ℤ, Bool, ap, sym, arith, length}
+use Rattle.std.proofs.Common.{◌≡◌, inl, ◌<◌, [], ◌∷◌, List, ℤ, Bool, ap, sym, arith, length}
 use Rattle.std.specs.Prelude.{Err}
 use Rattle.pf_base.specs.declared.error.PathError.TheVariants.{CostOverflow}
 use Rattle.pf_core.specs.Nodes.{TestedGraph, StandsFor}
@@ -8,6 +8,7 @@ use Rattle.pf_core.proofs.ListLemmas.{at_place}
 use Rattle.pf_core.proofs.WalkLemmas.{all_starts, only_starts, no_negative, past_range}
 use Rattle.pf_search.proofs.PartialLemmas.{parent_inside, reached_at, begins_on, whole_map, stopped_map}
 use Rattle.pf_search.proofs.directed.cheapest_map.partial_map.Goals.{in-Some+in_ok-clone-in-Some, in-None}
+use Rattle.pf_search.proofs.ResultLemmas.{if_refused, refused_as, no_overflow}
 use Rattle.pf_search.proofs.directed.cheapest_map.partial_map.Goals as goal
 
 -- the graph that these functions answer
@@ -32,9 +33,24 @@ returns-in_err-labels-clause-overflow g c = λ edges start test s costs e.
     let x = s.explores in
     let keys = c.search_to_goal.new.graph.discovery.nodes.keys in
     let y = c.in_err-labels.ensures.graph h (x, t) in
-    let f : c.in_err-labels.field-0.0 ≡ CostOverflow = search rules in
+    let f : c.in_err-labels.field-0.0 ≡ CostOverflow = sym (rw e at c.from_residual.ensures.1) in
     let d = c.in_err-labels.ensures.overflow h (x, t) (no_negative eq laws h.graph x.alike costs) (ap Err f) in
     past_range eq laws h.graph x.alike _ (all_starts eq start _ s.begins) (only_starts eq start _ s.begins) test g.C.Number.fits keys (StandsFor-one eq laws keys y.0.distinct) d
+
+pub returns-in_err-labels-clause-partial : goal.returns-in_err-labels-clause-partial
+returns-in_err-labels-clause-partial g c = λ edges start test s costs. if_refused _ c.from_residual.result c.in_err-labels.field-0.0 c.from_residual.ensures.1
+
+pub returns-in_err-labels-clause-errors : goal.returns-in_err-labels-clause-errors
+returns-in_err-labels-clause-errors g c = refused_as _ c.from_residual.result c.in_err-labels.field-0.0 c.from_residual.ensures.1 c.in_err-labels.ensures.errors
+
+pub returns-in_err-parents-clause-partial : goal.returns-in_err-parents-clause-partial
+returns-in_err-parents-clause-partial g c = λ edges start test s costs. if_refused _ c.from_residual-in_err-parents.result c.in_err-parents.field-0.0 c.from_residual-in_err-parents.ensures.1
+
+pub returns-in_err-parents-clause-errors : goal.returns-in_err-parents-clause-errors
+returns-in_err-parents-clause-errors g c = refused_as _ c.from_residual-in_err-parents.result c.in_err-parents.field-0.0 c.from_residual-in_err-parents.ensures.1 (inl c.in_err-parents.ensures.refused)
+
+pub returns-in_err-parents-clause-overflow : goal.returns-in_err-parents-clause-overflow
+returns-in_err-parents-clause-overflow g c = λ edges start test s costs e. absurd (no_overflow c.from_residual-in_err-parents.result c.in_err-parents.field-0.0 c.from_residual-in_err-parents.ensures.1 c.in_err-parents.ensures.refused e)
 
 pub map_of-requires-clause-behind : goal.map_of-requires-clause-behind
 map_of-requires-clause-behind g c =

@@ -3,21 +3,25 @@ use Rattle.pf_search.proofs.ParentLemmas.{length_end, climbed_first, climbed_mor
 use Rattle.pf_search.proofs.directed.parents.build_path.Goals as goal
 
 pub climb-init : goal.climb-init
-climb-init g c = record {
-  climbed = climbed_first g.N.PartialEq.eq g.met.N.Eq.laws c.args.parents.now c.args.target.now c.in_ok-clone.field-0 (c.requires.clones c.args.target.now _ c.in_ok-clone.ensures.cases) c.push.new.self.items (rw c.new-path.ensures.items at c.in_ok-push.ensures.items);
-}
+climb-init g c =
+    let p = c.in_ok-push_clone.ensures.pushed in
+    record {
+      climbed = climbed_first g.N.PartialEq.eq g.met.N.Eq.laws c.args.parents.now c.args.target.now p.0 (c.requires.clones c.args.target.now _ p.1) c.push_clone.new.path.items (rw c.new-path.ensures.items at p.2);
+    }
 
 pub climb-smaller : goal.climb-smaller
 climb-smaller g c =
     let h = c.in-Some.ensures in
-    omega (arith, ap length c.in_ok-push-2.ensures.items ∙ length_end c.climb.path.items c.in_ok-clone-2.field-0, climbed_length g.N.PartialEq.eq g.met.N.Eq.laws c.args.parents.now c.args.target.now c.climb.at.now c.climb.path.items c.climb.invariant.climbed c.requires.no_ring (c.in-Some.parent.now, h.0, h.1))
+    let p = c.in_ok-push_clone-2.ensures.pushed in
+    omega (arith, ap length p.2 ∙ length_end c.climb.path.items p.0, climbed_length g.N.PartialEq.eq g.met.N.Eq.laws c.args.parents.now c.args.target.now c.climb.at.now c.climb.path.items c.climb.invariant.climbed c.requires.no_ring (c.in-Some.parent.now, h.0, h.1))
 
 pub climb-preserved : goal.climb-preserved
 climb-preserved g c =
     let h = c.in-Some.ensures in
+    let p = c.in_ok-push_clone-2.ensures.pushed in
     record {
-      climbed = climbed_more g.N.PartialEq.eq g.met.N.Eq.laws c.args.parents.now c.args.target.now c.climb.at.now c.in-Some.parent.now c.in_ok-clone-2.field-0 h.0 c.climb.path.items _ c.climb.invariant.climbed h.1
-          (c.requires.clones c.in-Some.parent.now _ c.in_ok-clone-2.ensures.cases) c.in_ok-push-2.ensures.items;
+      climbed = climbed_more g.N.PartialEq.eq g.met.N.Eq.laws c.args.parents.now c.args.target.now c.climb.at.now c.in-Some.parent.now p.0 h.0 c.climb.path.items _ c.climb.invariant.climbed h.1
+          (c.requires.clones c.in-Some.parent.now _ p.1) p.2;
     }
 
 pub returns-clause-chain : goal.returns-clause-chain

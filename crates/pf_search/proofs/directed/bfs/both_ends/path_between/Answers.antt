@@ -2,6 +2,7 @@ use Rattle.pf_core.specs.Sides.{by_side}
 use Rattle.pf_core.proofs.JoinLemmas.{mirrored, no_walk_between, joined_answer}
 use Rattle.pf_core.proofs.UnitLemmas.{is_hop, begins_all, starts_stand}
 use Rattle.pf_search.specs.Internal.Hops.{hops_from}
+use Rattle.pf_search.proofs.ResultLemmas.{in_some, error_kept}
 use Rattle.pf_search.proofs.directed.bfs.both_ends.path_between.Goals as goal
 
 pub fewest_edges_between-requires-clause-graph : goal.fewest_edges_between-requires-clause-graph
@@ -20,13 +21,17 @@ returns-in-None-clause-best g c = λ next previous starts ends x y same same' mi
     let b = rw c.in-None.is at (c.in_ok-fewest_edges_between.ensures.best (hops_from starts next, hops_from ends previous) (x, y) (is_hop eq starts next) (is_hop eq ends previous) m) in
     no_walk_between eq laws next previous starts ends mirror x.alike y.alike _ (λ a. (begins a).1) (λ a. (begins a).0) _ (λ a. (finish a).1) (λ a. (finish a).0) b
 
-pub returns-in_ok-path-in-Some-clause-best : goal.returns-in_ok-path-in-Some-clause-best
-returns-in_ok-path-in-Some-clause-best g c = λ next previous starts ends x y same same' mirror.
+pub returns-in-Some-clause-best : goal.returns-in-Some-clause-best
+returns-in-Some-clause-best g c = λ next previous starts ends x y same same' mirror.
     let eq = g.N.PartialEq.eq in
     let laws = g.met.N.Eq.laws in
     let begins = starts_stand eq laws starts c.args.graph.now.forth.nodes.keys same in
     let finish = starts_stand eq laws ends c.args.graph.now.back.nodes.keys same' in
     let m = mirrored eq laws next previous starts ends mirror x.alike y.alike _ (λ a. (begins a).1) (λ a. (begins a).0) _ (λ a. (finish a).1) (λ a. (finish a).0) in
     let b = rw c.in-Some.is at (c.in_ok-fewest_edges_between.ensures.best (hops_from starts next, hops_from ends previous) (x, y) (is_hop eq starts next) (is_hop eq ends previous) m) in
-    let n = c.in_ok-path-in-Some.ensures.nodes in
-    rw n.4 (joined_answer eq laws next previous starts ends mirror x.alike y.alike _ (λ a. (begins a).1) (λ a. (begins a).0) _ (λ a. (finish a).1) (λ a. (finish a).0) _ _ _ _ b n.0 n.1 n.2 n.3)
+    in_some c.nodes_along.result c.map.result c.map.ensures.cases _ _
+    (λ path n. rw n.4 (joined_answer eq laws next previous starts ends mirror x.alike y.alike _ (λ a. (begins a).1) (λ a. (begins a).0) _ (λ a. (finish a).1) (λ a. (finish a).0) _ _ _ _ b n.0 n.1 n.2 n.3))
+    c.nodes_along.ensures.nodes
+
+pub returns-in-Some-clause-errors : goal.returns-in-Some-clause-errors
+returns-in-Some-clause-errors g c = error_kept c.nodes_along.result c.map.result c.map.ensures.cases _ c.nodes_along.ensures.refused

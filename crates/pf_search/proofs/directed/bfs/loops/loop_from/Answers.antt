@@ -3,6 +3,7 @@ use Rattle.pf_core.specs.NodeLaws.{StandsFor-one}
 use Rattle.pf_core.proofs.LoopWalks.{no_loop, best_loop_answer}
 use Rattle.pf_core.proofs.UnitLemmas.{is_hop, begins_all, starts_stand}
 use Rattle.pf_search.specs.Internal.Hops.{hops_from}
+use Rattle.pf_search.proofs.ResultLemmas.{in_some, error_kept}
 use Rattle.pf_search.proofs.directed.bfs.loops.loop_from.Goals as goal
 
 pub fewest_edges_loop-requires-clause-graph : goal.fewest_edges_loop-requires-clause-graph
@@ -22,13 +23,18 @@ returns-in-None-clause-best g c = λ next starts x same.
 pub clones_at-requires-clause-inside : goal.clones_at-requires-clause-inside
 clones_at-requires-clause-inside g c = λ k h. subst (λ (n : ℕ). k < n) (ap length (sym c.as_slice.ensures.keys)) ((rw c.in-Some.is at c.in_ok-fewest_edges_loop.ensures.inside) k (rw c.deref.ensures.value at h))
 
-pub returns-in_ok-path-in-Some-clause-best : goal.returns-in_ok-path-in-Some-clause-best
-returns-in_ok-path-in-Some-clause-best g c = λ next starts x same.
+pub returns-in-Some-clause-best : goal.returns-in-Some-clause-best
+returns-in-Some-clause-best g c = λ next starts x same.
     let eq = g.N.PartialEq.eq in
     let laws = g.met.N.Eq.laws in
     let begins = starts_stand eq laws starts c.args.graph.now.nodes.keys same in
     let keys = c.fewest_edges_loop.new.graph.nodes.keys in
     let y = c.in_ok-fewest_edges_loop.ensures.graph (hops_from starts next) x in
-    best_loop_answer eq laws starts next x.alike _ (λ s. (begins s).1) (λ s. (begins s).0) keys (StandsFor-one eq laws keys y.distinct) c.in-Some.numbers.items c.in_ok-path-in-Some.path.items
-    (rw c.in-Some.is at (c.in_ok-fewest_edges_loop.ensures.best (hops_from starts next) x (is_hop eq starts next)))
-    (rw c.as_slice.ensures.keys at (rw c.deref.ensures.value at c.in_ok-path-in-Some.ensures.nodes))
+    let b = rw c.in-Some.is at (c.in_ok-fewest_edges_loop.ensures.best (hops_from starts next) x (is_hop eq starts next)) in
+    in_some c.clones_at.result c.map.result c.map.ensures.cases _ _
+    (λ path n. best_loop_answer eq laws starts next x.alike _ (λ s. (begins s).1) (λ s. (begins s).0) keys (StandsFor-one eq laws keys y.distinct) c.in-Some.numbers.items path.items b
+    (rw c.as_slice.ensures.keys at (rw c.deref.ensures.value at n)))
+    c.clones_at.ensures.nodes
+
+pub returns-in-Some-clause-errors : goal.returns-in-Some-clause-errors
+returns-in-Some-clause-errors g c = error_kept c.clones_at.result c.map.result c.map.ensures.cases _ c.clones_at.ensures.refused

@@ -1,4 +1,4 @@
-use Rattle.std.proofs.Common.{◌≡◌, ℤ, pos, Err, sym, ap, subst, arith, inl, inr, nat_eq}
+use Rattle.std.proofs.Common.{◌≡◌, ℤ, pos, Err, refl, sym, ap, subst, arith, inl, inr, nat_eq}
 use Rattle.std.specs.Prelude.{◌≤ℤ◌}
 use Rattle.pf_core.specs.declared.labels.Label.{Label}
 use Rattle.pf_core.specs.Labels.{by_cost}
@@ -7,7 +7,38 @@ use Rattle.pf_core.proofs.LabelLemmas.{HasLabel-inside, label_is}
 use Rattle.pf_search.specs.Internal.BothEnds.{bound, IsMeeting}
 use Rattle.pf_search.proofs.BothEndsLemmas.{positive, labelled_node, meeting_swap, pair_swap, ended, past_at}
 use Rattle.pf_search.proofs.BothEndsTurns.{some_map, some_one, none_weaker, both_turned, meeting_turned, bound_about, meets_about, pair_kept, meeting_kept, decided, undecided}
+use Rattle.pf_search.proofs.ResultLemmas.{ok_is_no_error, on_refused, if_refused, refused_as}
 use Rattle.pf_search.proofs.directed.dijkstra.both_ends.best_meeting.Goals as goal
+
+pub turns-init : goal.turns-init
+turns-init g c = record {
+  sound_forth = c.requires.sound_forth;
+  sound_back = c.requires.sound_back;
+  wide_forth = c.requires.wide_forth;
+  wide_back = c.requires.wide_back;
+  explored_forth = λ h x. x;
+  explored_back = λ h x. x;
+  meets = tt;
+  pair = λ edges previous start end x y p. p;
+}
+
+pub returns-in_default-least-clause-sound_forth : goal.returns-in_default-least-clause-sound_forth
+returns-in_default-least-clause-sound_forth g c = c.in-Some.ensures.sound
+
+pub returns-in_default-least-clause-sound_back : goal.returns-in_default-least-clause-sound_back
+returns-in_default-least-clause-sound_back g c = c.in_default-least.ensures.sound
+
+pub returns-in_default-least-clause-wide_forth : goal.returns-in_default-least-clause-wide_forth
+returns-in_default-least-clause-wide_forth g c = rw c.in-Some.ensures.same c.turns.invariant.wide_forth
+
+pub returns-in_default-least-clause-wide_back : goal.returns-in_default-least-clause-wide_back
+returns-in_default-least-clause-wide_back g c = rw c.in_default-least.ensures.same c.turns.invariant.wide_back
+
+pub returns-in_default-least-clause-meets : goal.returns-in_default-least-clause-meets
+returns-in_default-least-clause-meets g c = rw (c.in-Some.ensures.same, c.in_default-least.ensures.same) c.turns.invariant.meets
+
+pub returns-in_default-least-clause-errors : goal.returns-in_default-least-clause-errors
+returns-in_default-least-clause-errors g c = tt
 
 pub returns-in_default-least-clause-best : goal.returns-in_default-least-clause-best
 returns-in_default-least-clause-best g c = λ edges previous start end x y p.
@@ -22,6 +53,24 @@ label_of-requires g c = let z = c.in-Some.ensures.least in rw c.in-Some.ensures.
 
 pub label_of-requires-in-Some : goal.label_of-requires-in-Some
 label_of-requires-in-Some g c = let z = c.in-Some-least.ensures.least in rw c.in-Some-least.ensures.same (z.0, z.1.at)
+
+pub returns-then-is_best-clause-sound_forth : goal.returns-then-is_best-clause-sound_forth
+returns-then-is_best-clause-sound_forth g c = c.in-Some.ensures.sound
+
+pub returns-then-is_best-clause-sound_back : goal.returns-then-is_best-clause-sound_back
+returns-then-is_best-clause-sound_back g c = c.in-Some-least.ensures.sound
+
+pub returns-then-is_best-clause-wide_forth : goal.returns-then-is_best-clause-wide_forth
+returns-then-is_best-clause-wide_forth g c = rw c.in-Some.ensures.same c.turns.invariant.wide_forth
+
+pub returns-then-is_best-clause-wide_back : goal.returns-then-is_best-clause-wide_back
+returns-then-is_best-clause-wide_back g c = rw c.in-Some-least.ensures.same c.turns.invariant.wide_back
+
+pub returns-then-is_best-clause-meets : goal.returns-then-is_best-clause-meets
+returns-then-is_best-clause-meets g c = rw (c.in-Some.ensures.same, c.in-Some-least.ensures.same) c.turns.invariant.meets
+
+pub returns-then-is_best-clause-errors : goal.returns-then-is_best-clause-errors
+returns-then-is_best-clause-errors g c = tt
 
 pub returns-then-is_best-clause-best : goal.returns-then-is_best-clause-best
 returns-then-is_best-clause-best g c = λ edges previous start end x y p.
@@ -41,11 +90,50 @@ returns-then-is_best-clause-best g c = λ edges previous start end x y p.
       decided eq laws value g.C.Number.fits edges previous start end _ _ _ _ (value g.C.Cost.greatest) c.turns.best pair (value c.label_of.result.cost) (value c.label_of-in-Some.result.cost) low low_back c.is_best.result c.if-is_best.true (c.is_best.ensures.decided nonneg),
     )
 
+pub turn-requires-clause-sound : goal.turn-requires-clause-sound
+turn-requires-clause-sound g c = c.in-Some.ensures.sound
+
+pub turn-requires-clause-wide : goal.turn-requires-clause-wide
+turn-requires-clause-wide g c = rw c.in-Some.ensures.same c.turns.invariant.wide_forth
+
+pub turn-requires-else-len-clause-sound : goal.turn-requires-else-len-clause-sound
+turn-requires-else-len-clause-sound g c = c.in-Some-least.ensures.sound
+
+pub turn-requires-else-len-clause-wide : goal.turn-requires-else-len-clause-wide
+turn-requires-else-len-clause-wide g c = rw c.in-Some-least.ensures.same c.turns.invariant.wide_back
+
+pub meeting_at-found-requires-clause-wide : goal.meeting_at-found-requires-clause-wide
+meeting_at-found-requires-clause-wide g c = rw c.in-Some-least.ensures.same c.turns.invariant.wide_back
+
+pub meeting_at-found-requires-in-Ok-clause-wide : goal.meeting_at-found-requires-in-Ok-clause-wide
+meeting_at-found-requires-in-Ok-clause-wide g c = rw c.in-Some.ensures.same c.turns.invariant.wide_forth
+
 pub turn-requires-clause-least : goal.turn-requires-clause-least
 turn-requires-clause-least g c = rw c.in-Some.ensures.same c.in-Some.ensures.least
 
 pub turn-requires-clause-graph : goal.turn-requires-clause-graph
 turn-requires-clause-graph g c = let r = c.requires.pair in (_, c.turns.invariant.explored_forth _ r.4)
+
+pub returns-in_err-turn-clause-sound_forth : goal.returns-in_err-turn-clause-sound_forth
+returns-in_err-turn-clause-sound_forth g c = on_refused _ c.from_residual.result c.in_err-turn.field-0.0 c.from_residual.ensures.1
+
+pub returns-in_err-turn-clause-sound_back : goal.returns-in_err-turn-clause-sound_back
+returns-in_err-turn-clause-sound_back g c = on_refused _ c.from_residual.result c.in_err-turn.field-0.0 c.from_residual.ensures.1
+
+pub returns-in_err-turn-clause-wide_forth : goal.returns-in_err-turn-clause-wide_forth
+returns-in_err-turn-clause-wide_forth g c = on_refused _ c.from_residual.result c.in_err-turn.field-0.0 c.from_residual.ensures.1
+
+pub returns-in_err-turn-clause-wide_back : goal.returns-in_err-turn-clause-wide_back
+returns-in_err-turn-clause-wide_back g c = on_refused _ c.from_residual.result c.in_err-turn.field-0.0 c.from_residual.ensures.1
+
+pub returns-in_err-turn-clause-meets : goal.returns-in_err-turn-clause-meets
+returns-in_err-turn-clause-meets g c = if_refused _ c.from_residual.result c.in_err-turn.field-0.0 c.from_residual.ensures.1
+
+pub returns-in_err-turn-clause-best : goal.returns-in_err-turn-clause-best
+returns-in_err-turn-clause-best g c = λ edges previous start end x y p. if_refused _ c.from_residual.result c.in_err-turn.field-0.0 c.from_residual.ensures.1
+
+pub returns-in_err-turn-clause-errors : goal.returns-in_err-turn-clause-errors
+returns-in_err-turn-clause-errors g c = refused_as _ c.from_residual.result c.in_err-turn.field-0.0 c.from_residual.ensures.1 c.in_err-turn.ensures.errors
 
 pub returns-in_err-turn-clause-overflow : goal.returns-in_err-turn-clause-overflow
 returns-in_err-turn-clause-overflow g c = λ edges previous start end x y p e.
@@ -217,6 +305,51 @@ turns-preserved g c =
           let explored = e.graph _ (v.explored_back _ y) in
           rw (same, kept) (pair_kept eq laws value fits edges previous start end keys others labels labels' (bound value top c.turns.best) pair others2 e.grows explored.distinct v.wide_back);
     }
+
+pub returns-clause-sound_forth : goal.returns-clause-sound_forth
+returns-clause-sound_forth g c = c.in_default.ensures.sound
+
+pub returns-clause-sound_back : goal.returns-clause-sound_back
+returns-clause-sound_back g c = c.turns.invariant.sound_back
+
+pub returns-clause-wide_forth : goal.returns-clause-wide_forth
+returns-clause-wide_forth g c = rw c.in_default.ensures.same c.turns.invariant.wide_forth
+
+pub returns-clause-wide_back : goal.returns-clause-wide_back
+returns-clause-wide_back g c = c.turns.invariant.wide_back
+
+pub returns-clause-meets : goal.returns-clause-meets
+returns-clause-meets g c = rw c.in_default.ensures.same c.turns.invariant.meets
+
+pub returns-clause-errors : goal.returns-clause-errors
+returns-clause-errors g c = tt
+
+pub returns-in_default-least-clause-overflow : goal.returns-in_default-least-clause-overflow
+returns-in_default-least-clause-overflow g c = λ edges previous start end x y p e. absurd (ok_is_no_error _ _ _ refl e)
+
+pub returns-then-is_best-clause-overflow : goal.returns-then-is_best-clause-overflow
+returns-then-is_best-clause-overflow g c = λ edges previous start end x y p e. absurd (ok_is_no_error _ _ _ refl e)
+
+pub returns-clause-overflow : goal.returns-clause-overflow
+returns-clause-overflow g c = λ edges previous start end x y p e. absurd (ok_is_no_error _ _ _ refl e)
+
+pub returns-in-Err-clause-sound_forth : goal.returns-in-Err-clause-sound_forth
+returns-in-Err-clause-sound_forth g c = tt
+
+pub returns-in-Err-clause-sound_back : goal.returns-in-Err-clause-sound_back
+returns-in-Err-clause-sound_back g c = tt
+
+pub returns-in-Err-clause-wide_forth : goal.returns-in-Err-clause-wide_forth
+returns-in-Err-clause-wide_forth g c = tt
+
+pub returns-in-Err-clause-wide_back : goal.returns-in-Err-clause-wide_back
+returns-in-Err-clause-wide_back g c = tt
+
+pub returns-in-Err-clause-meets : goal.returns-in-Err-clause-meets
+returns-in-Err-clause-meets g c = tt
+
+pub returns-in-Err-clause-best : goal.returns-in-Err-clause-best
+returns-in-Err-clause-best g c = λ edges previous start end x y p. tt
 
 pub returns-clause-best : goal.returns-clause-best
 returns-clause-best g c = λ edges previous start end x y p.

@@ -1,14 +1,12 @@
-use Rattle.std.proofs.Common.{◌≡◌, pos, Err, sym, ap, subst, inl, inr}
-use Rattle.std.specs.Prelude.{◌≤ℤ◌, Result, Ok, IfErr}
-use Rattle.std.specs.Result.{IsErrAnd}
+use Rattle.std.proofs.Common.{pos, Err, refl, sym, ap, inl, inr}
+use Rattle.std.specs.Prelude.{◌≤ℤ◌}
 use Rattle.pf_search.proofs.BothEndsLemmas.{labelled_node}
 use Rattle.pf_search.proofs.BothEndsPaths.{no_walk_across, joined_halves}
+use Rattle.pf_search.proofs.ResultLemmas.{ok_is_no_error, if_refused, no_overflow, refused_as}
 use Rattle.pf_search.proofs.directed.dijkstra.both_ends.path_across.Goals as goal
 
--- an error that is handed on
-refused_as : {A E : Type 0} (P : E → Type 0) (r : Result A E) (y : E) → IsErrAnd r (λ x. x ≡ y) → P y → IfErr r P
-refused_as P (Ok a) y h p = absurd h
-refused_as P (Err x) y h p = subst P (sym h) p
+pub returns-in_err-best_meeting-clause-best : goal.returns-in_err-best_meeting-clause-best
+returns-in_err-best_meeting-clause-best g c = λ edges previous start end x y p. if_refused _ c.from_residual.result c.in_err-best_meeting.field-0.0 c.from_residual.ensures.1
 
 pub returns-in_err-best_meeting-clause-overflow : goal.returns-in_err-best_meeting-clause-overflow
 returns-in_err-best_meeting-clause-overflow g c = λ edges previous start end x y p e.
@@ -22,14 +20,26 @@ returns-in-None-clause-best g c = λ edges previous start end x y p.
     let q = rw c.in-None.is at (c.in_ok-best_meeting.ensures.best edges previous start end x y p) in
     no_walk_across g.N.PartialEq.eq g.met.N.Eq.laws g.C.Number.value g.C.Number.fits edges start _ _ (q.0).forth end q.1
 
-pub halves_of-requires-clause-one : goal.halves_of-requires-clause-one
-halves_of-requires-clause-one g c =
+pub path_through-requires-clause-trees : goal.path_through-requires-clause-trees
+path_through-requires-clause-trees g c = (c.in_ok-best_meeting.ensures.sound_forth.tree, c.in_ok-best_meeting.ensures.sound_back.tree)
+
+pub path_through-requires-clause-wide_forth : goal.path_through-requires-clause-wide_forth
+path_through-requires-clause-wide_forth g c = c.in_ok-best_meeting.ensures.wide_forth
+
+pub path_through-requires-clause-wide_back : goal.path_through-requires-clause-wide_back
+path_through-requires-clause-wide_back g c = c.in_ok-best_meeting.ensures.wide_back
+
+pub path_through-requires-clause-meets : goal.path_through-requires-clause-meets
+path_through-requires-clause-meets g c = rw c.in-Some.is at c.in_ok-best_meeting.ensures.meets
+
+pub path_through-requires-clause-one : goal.path_through-requires-clause-one
+path_through-requires-clause-one g c =
     let r = c.requires.pair in
     let q = (c.in_ok-best_meeting.ensures.best r.0 r.1 r.2 r.3 r.4 r.5 r.6).0 in
     (q.back).one
 
-pub halves_of-requires-clause-costs : goal.halves_of-requires-clause-costs
-halves_of-requires-clause-costs g c = λ k l h.
+pub path_through-requires-clause-costs : goal.path_through-requires-clause-costs
+path_through-requires-clause-costs g c = λ k l h.
     let r = c.requires.pair in
     let eq = g.N.PartialEq.eq in
     let laws = g.met.N.Eq.laws in
@@ -41,11 +51,23 @@ halves_of-requires-clause-costs g c = λ k l h.
       | inr f ↦ (labelled_node eq laws value fits r.1 r.3 _ _ q.back k l f).3
     ]
 
+pub returns-in_err-path-in-Some-clause-best : goal.returns-in_err-path-in-Some-clause-best
+returns-in_err-path-in-Some-clause-best g c = λ edges previous start end x y p. if_refused _ c.from_residual-in_err-path-in-Some.result c.in_err-path-in-Some.field-0.0 c.from_residual-in_err-path-in-Some.ensures.1
+
+pub returns-in_err-path-in-Some-clause-overflow : goal.returns-in_err-path-in-Some-clause-overflow
+returns-in_err-path-in-Some-clause-overflow g c = λ edges previous start end x y p e. absurd (no_overflow c.from_residual-in_err-path-in-Some.result c.in_err-path-in-Some.field-0.0 c.from_residual-in_err-path-in-Some.ensures.1 c.in_err-path-in-Some.ensures.refused e)
+
 pub returns-in_err-path-in-Some-clause-errors : goal.returns-in_err-path-in-Some-clause-errors
 returns-in_err-path-in-Some-clause-errors g c = refused_as _ c.from_residual-in_err-path-in-Some.result c.in_err-path-in-Some.field-0.0 c.from_residual-in_err-path-in-Some.ensures.1 (inl c.in_err-path-in-Some.ensures.refused)
 
 pub returns-in_ok-path-in-Some-clause-best : goal.returns-in_ok-path-in-Some-clause-best
 returns-in_ok-path-in-Some-clause-best g c = λ edges previous start end x y p.
     let q = rw c.in-Some.is at (c.in_ok-best_meeting.ensures.best edges previous start end x y p) in
-    let n = c.in_ok-path-in-Some.ensures.nodes in
-    rw n.4 (joined_halves g.N.PartialEq.eq g.met.N.Eq.laws g.C.Number.value g.C.Number.fits edges previous start end _ _ _ _ _ q.0 (g.C.Number.value c.in-Some.meeting.cost) _ _ c.in_ok-halves-in-Some.ensures.halves q.1 n.0 n.1 n.2 n.3)
+    let w = c.in_ok-path-in-Some.ensures.path in
+    rw w.7 (joined_halves g.N.PartialEq.eq g.met.N.Eq.laws g.C.Number.value g.C.Number.fits edges previous start end _ _ _ _ _ q.0 (g.C.Number.value c.in-Some.meeting.cost) w.0 w.1 w.4 q.1 w.2 w.3 w.5 w.6)
+
+pub returns-in-None-clause-overflow : goal.returns-in-None-clause-overflow
+returns-in-None-clause-overflow g c = λ edges previous start end x y p e. absurd (ok_is_no_error _ _ _ refl e)
+
+pub returns-in_ok-path-in-Some-clause-overflow : goal.returns-in_ok-path-in-Some-clause-overflow
+returns-in_ok-path-in-Some-clause-overflow g c = λ edges previous start end x y p e. absurd (ok_is_no_error _ _ _ refl e)

@@ -1,7 +1,32 @@
-use Rattle.std.proofs.Common.{◌≡◌, pos, false, refl}
+use Rattle.std.proofs.Common.{◌≡◌, pos, false, inl, refl}
 use Rattle.pf_core.specs.declared.labels.Label.{Label}
 use Rattle.pf_search.proofs.BothEndsTurns.{ends_begun}
+use Rattle.pf_search.proofs.ResultLemmas.{if_refused, no_overflow, refused_as}
 use Rattle.pf_search.proofs.directed.dijkstra.both_ends.path_between.Goals as goal
+
+pub returns-in_err-forth-clause-best : goal.returns-in_err-forth-clause-best
+returns-in_err-forth-clause-best g c = λ edges previous start end x y ends. if_refused _ c.from_residual.result c.in_err-forth.field-0.0 c.from_residual.ensures.1
+
+pub returns-in_err-forth-clause-errors : goal.returns-in_err-forth-clause-errors
+returns-in_err-forth-clause-errors g c = refused_as _ c.from_residual.result c.in_err-forth.field-0.0 c.from_residual.ensures.1 (inl c.in_err-forth.ensures.refused)
+
+pub returns-in_err-back-clause-best : goal.returns-in_err-back-clause-best
+returns-in_err-back-clause-best g c = λ edges previous start end x y ends. if_refused _ c.from_residual-in_err-back.result c.in_err-back.field-0.0 c.from_residual-in_err-back.ensures.1
+
+pub returns-in_err-back-clause-errors : goal.returns-in_err-back-clause-errors
+returns-in_err-back-clause-errors g c = refused_as _ c.from_residual-in_err-back.result c.in_err-back.field-0.0 c.from_residual-in_err-back.ensures.1 (inl c.in_err-back.ensures.refused)
+
+pub returns-in_err-forth-clause-overflow : goal.returns-in_err-forth-clause-overflow
+returns-in_err-forth-clause-overflow g c = λ edges previous start end x y ends e. absurd (no_overflow c.from_residual.result c.in_err-forth.field-0.0 c.from_residual.ensures.1 c.in_err-forth.ensures.refused e)
+
+pub returns-in_err-back-clause-overflow : goal.returns-in_err-back-clause-overflow
+returns-in_err-back-clause-overflow g c = λ edges previous start end x y ends e. absurd (no_overflow c.from_residual-in_err-back.result c.in_err-back.field-0.0 c.from_residual-in_err-back.ensures.1 c.in_err-back.ensures.refused e)
+
+pub path_across-requires-clause-sound_forth : goal.path_across-requires-clause-sound_forth
+path_across-requires-clause-sound_forth g c = c.in_ok-forth.ensures.sound
+
+pub path_across-requires-clause-sound_back : goal.path_across-requires-clause-sound_back
+path_across-requires-clause-sound_back g c = c.in_ok-back.ensures.sound
 
 pub path_across-requires-clause-pair : goal.path_across-requires-clause-pair
 path_across-requires-clause-pair g c =
@@ -29,3 +54,6 @@ returns-clause-overflow g c = λ edges previous start end x y ends.
     let b = c.in_ok-forth.ensures in
     let b' = c.in_ok-back.ensures in
     c.path_across.ensures.overflow edges previous start end x y (ends_begun g.N.PartialEq.eq g.met.N.Eq.laws g.C.Number.value g.C.Number.fits edges previous start end _ _ _ _ _ first refl refl nothing x.alike y.alike x.distinct y.distinct b.first b'.first b.only b'.only b.sound.tree b'.sound.tree ends)
+
+pub returns-clause-errors : goal.returns-clause-errors
+returns-clause-errors g c = c.path_across.ensures.errors

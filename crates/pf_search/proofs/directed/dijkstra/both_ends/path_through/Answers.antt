@@ -2,10 +2,11 @@ use Rattle.std.proofs.Common.{◌≡◌, ◌<◌, ◌+◌, ℕ, pos, subst, arit
 use Rattle.std.specs.Prelude.{◌⊎◌, ◌+ℤ◌}
 use Rattle.std.proofs.lemmas.Int.{ints}
 use Rattle.std.proofs.lemmas.Option.{slice_get_within}
+use Rattle.std.proofs.lemmas.Result.{IfOk-weaker}
 use Rattle.pf_core.specs.Labels.{IsChain}
-use Rattle.pf_search.specs.Internal.BothEnds.{NoneBelowAt}
+use Rattle.pf_search.specs.Internal.BothEnds.{NoneBelowAt, AreHalves}
 use Rattle.pf_search.proofs.BothEndsChains.{chain_labelled, chain_last, chain_front, take_inside, last_of_take}
-use Rattle.pf_search.proofs.directed.dijkstra.both_ends.halves_of.Goals as goal
+use Rattle.pf_search.proofs.directed.dijkstra.both_ends.path_through.Goals as goal
 
 pub path_to-requires-clause-labelled : goal.path_to-requires-clause-labelled
 path_to-requires-clause-labelled g c = let w = c.requires.meets in rw c.deref.ensures.value (w.here, w.labelled_here)
@@ -36,30 +37,37 @@ overflow_add-place g c =
 pub path_to-requires-2-clause-labelled : goal.path_to-requires-2-clause-labelled
 path_to-requires-2-clause-labelled g c = let w = c.in-Some.ensures.first.1 in rw c.deref-3.ensures.value (w.across, w.labelled_across)
 
-pub returns-clause-halves : goal.returns-clause-halves
-returns-clause-halves g c =
+pub nodes_along-requires-clause-forth : goal.nodes_along-requires-clause-forth
+nodes_along-requires-clause-forth g c = λ k h.
+    let inside = rw c.deref.ensures.value at c.in_ok-numbers.ensures.inside in
+    subst (λ (n : ℕ). k < n) c.requires.wide_forth (inside k (take_inside c.in_ok-numbers.numbers.items (c.in-Some.place + 1) k (rw c.truncate.ensures.items at h)))
+
+pub nodes_along-requires-clause-back : goal.nodes_along-requires-clause-back
+nodes_along-requires-clause-back g c = λ k h. subst (λ (n : ℕ). k < n) c.requires.wide_back ((rw c.deref-3.ensures.value at c.in_ok-back_numbers.ensures.inside) k h)
+
+pub returns-clause-path : goal.returns-clause-path
+returns-clause-path g c =
+    let eq = g.N.PartialEq.eq in
+    let value = g.C.Number.value in
     let numbers = c.in_ok-numbers.numbers.items in
     let place = c.in-Some.place in
     let here = c.in-Some.meeting.here in
+    let keys = c.args.graph.now.forth.nodes.keys in
+    let others = c.args.graph.now.back.nodes.keys in
+    let labels = c.args.forth.now.labels.items in
+    let labels' = c.args.back.now.labels.items in
     let f = rw c.deref-2.ensures.value at c.in-Some.ensures.first in
     let at : slice_get numbers place ≡ Some here = f.0 in
-    let chain : IsChain c.args.forth.now.labels.items c.args.best.here numbers = rw c.deref.ensures.value at c.in_ok-numbers.ensures.chain in
-    rw c.truncate.ensures.items (record {
+    let chain : IsChain labels c.args.best.here numbers = rw c.deref.ensures.value at c.in_ok-numbers.ensures.chain in
+    let halves : AreHalves eq value keys others labels labels' (value c.args.best.cost) c.truncate.new.self.items c.in_ok-back_numbers.back_numbers.items = rw c.truncate.ensures.items (record {
       meeting = c.in-Some.meeting;
       meets = f.1;
       low = f.2;
-      chain = chain_front c.args.forth.now.labels.items c.args.best.here numbers chain place here at;
+      chain = chain_front labels c.args.best.here numbers chain place here at;
       chain_back = rw c.deref-3.ensures.value at c.in_ok-back_numbers.ensures.chain;
-      first = λ k h. elim (last_of_take numbers place here at k h) as (λ _. (k ≡ here) ⊎ NoneBelowAt g.N.PartialEq.eq g.C.Number.value c.args.graph.now.forth.nodes.keys c.args.graph.now.back.nodes.keys c.args.forth.now.labels.items c.args.back.now.labels.items (g.C.Number.value c.args.best.cost +ℤ pos 1) k) [
+      first = λ k h. elim (last_of_take numbers place here at k h) as (λ _. (k ≡ here) ⊎ NoneBelowAt eq value keys others labels labels' (value c.args.best.cost +ℤ pos 1) k) [
         | inl e ↦ inl e
         | inr r ↦ inr (f.3 k r)
       ];
-    })
-
-pub returns-clause-inside : goal.returns-clause-inside
-returns-clause-inside g c =
-    let inside = rw c.deref.ensures.value at c.in_ok-numbers.ensures.inside in
-    let inside_back = rw c.deref-3.ensures.value at c.in_ok-back_numbers.ensures.inside in (
-      λ k h. subst (λ (n : ℕ). k < n) c.requires.wide_forth (inside k (take_inside c.in_ok-numbers.numbers.items (c.in-Some.place + 1) k (rw c.truncate.ensures.items at h))),
-      λ k h. subst (λ (n : ℕ). k < n) c.requires.wide_back (inside_back k h),
-    )
+    }) in
+    IfOk-weaker c.nodes_along.result _ _ (λ path n. (c.truncate.new.self.items, c.in_ok-back_numbers.back_numbers.items, n.0, n.1, halves, n.2, n.3, n.4)) c.nodes_along.ensures.nodes
