@@ -20,7 +20,7 @@ no_mark (suc n) (suc k) m = no_mark n k m
 
 module _ {N C W : Type 0} (edges : List (N × N × C)) (numbered : List (ℕ × ℕ × Weighed N C W)) (in_order : map (λ (e : ℕ × ℕ × Weighed N C W). e.2.edge.now) numbered ≡ edges) where
   -- the first of the edges
-  first_is : (first : ℕ × ℕ × Weighed N C W) → slice_get numbered 0 ≡ Some first → slice_get edges 0 ≡ Some first.2.edge.now
+  pub first_is : (first : ℕ × ℕ × Weighed N C W) → slice_get numbered 0 ≡ Some first → slice_get edges 0 ≡ Some first.2.edge.now
   first_is first at = subst (λ es. slice_get es 0 ≡ Some first.2.edge.now) in_order (slice_get-map (λ (e : ℕ × ℕ × Weighed N C W). e.2.edge.now) numbered 0 ∙ ap (option_map (λ (e : ℕ × ℕ × Weighed N C W). e.2.edge.now)) at)
 
   pub start_is : (first : ℕ × ℕ × Weighed N C W) → slice_get numbered 0 ≡ Some first → (start : N) → StartsAt edges start → first.2.edge.now.0 ≡ start

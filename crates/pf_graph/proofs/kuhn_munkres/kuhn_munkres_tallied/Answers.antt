@@ -1,4 +1,6 @@
-use Rattle.std.proofs.Common.{rules, ◌≡◌, arith, length}
+use Rattle.std.proofs.Common.{rules, ◌≡◌, ◌+◌, ◌∙◌, ap, ℕ, arith, length}
+use Rattle.std.proofs.lemmas.Nat.{mul-le}
+use Rattle.pf_graph.specs.Assignments.{assignment_total}
 use Rattle.pf_graph.proofs.Assignment.MatchingBest.{best_of, matched_none}
 use Rattle.pf_graph.proofs.kuhn_munkres.kuhn_munkres_tallied.Goals as goal
 
@@ -17,6 +19,51 @@ loop-row-init g c =
       rounds = omega arith;
     }
 
+pub loop-row-preserved : goal.loop-row-preserved
+loop-row-preserved g c =
+    let i = c.loop-row.invariant in
+    let e = c.in_ok-match_row.ensures in
+    let more = e.ticked in
+    let last = e.rounds in
+    let ticked = i.ticked in
+    let rounds = i.rounds in
+    record {
+      matched = e.matched;
+      rows = e.rows ∙ ap (λ (n : ℕ). n + 1) i.rows;
+      row_potentials = e.row_potentials;
+      visited = e.visited;
+      distances = e.distances;
+      places = e.places;
+      ticked = omega (arith, more, ticked);
+      rounds = omega (arith, last, rounds);
+    }
+
+pub total_of-total-requires-clause-assignment : goal.total_of-total-requires-clause-assignment
+total_of-total-requires-clause-assignment g c =
+    let r = c.loop-row.invariant.rows in
+    let e : length c.loop-row.matching.column_of.items ≡ (g.W.Weights.table c.args.weights.now).rows = omega (arith, r) in
+    rw c.deref.ensures.value (best_of c.loop-row.invariant.matched e).assignment
+
+pub match_row-requires-clause-left : goal.match_row-requires-clause-left
+match_row-requires-clause-left g c = let r = c.loop-row.invariant.rows in omega (arith, r)
+
+pub returns-clause-total : goal.returns-clause-total
+returns-clause-total g c = c.total_of-total.ensures ∙ ap (assignment_total (g.W.Weights.table c.args.weights.now)) c.deref.ensures.value
+
+pub returns-in_err-match_row-clause-rounds : goal.returns-in_err-match_row-clause-rounds
+returns-in_err-match_row-clause-rounds g c =
+    let rows = (g.W.Weights.table c.args.weights.now).rows in
+    let most = mul-le (c.loop-row._row + 1) rows rows rows (omega arith) (omega arith) in
+    let before = c.loop-row.invariant.rounds in
+    let last = c.in_err-match_row.ensures.rounds in
+    omega (arith, most, before, last)
+
+pub returns-clause-assignment : goal.returns-clause-assignment
+returns-clause-assignment g c =
+    let r = c.loop-row.invariant.rows in
+    let e : length c.loop-row.matching.column_of.items ≡ (g.W.Weights.table c.args.weights.now).rows = omega (arith, r) in
+    (best_of c.loop-row.invariant.matched e).assignment
+
 pub returns-clause-best : goal.returns-clause-best
 returns-clause-best g c =
     let r = c.loop-row.invariant.rows in
@@ -25,3 +72,10 @@ returns-clause-best g c =
 
 pub returns-clause-ticked : goal.returns-clause-ticked
 returns-clause-ticked g c = c.loop-row.invariant.ticked
+
+pub returns-clause-rounds : goal.returns-clause-rounds
+returns-clause-rounds g c =
+    let rows = (g.W.Weights.table c.args.weights.now).rows in
+    let most = mul-le c.loop-row._row rows rows rows (omega arith) (omega arith) in
+    let before = c.loop-row.invariant.rounds in
+    omega (arith, most, before)

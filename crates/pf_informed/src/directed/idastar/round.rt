@@ -7,9 +7,9 @@ ghost use Rattle.pf_informed.specs.declared.directed.idastar.way.Frame.{Frame};
 ghost use Rattle.pf_informed.specs.Internal.Rows.{IsTable, IsKnown};
 ghost use Rattle.pf_informed.specs.Internal.Deepening.{turns_left, AreAbove, AreInside, Looked, IsOnWay, IsMarkedWay};
 
-use crate::directed::idastar::cut_off::{CutOff, admit};
+use crate::directed::idastar::cut_off::admit;
 use crate::directed::idastar::known::Known;
-use crate::directed::idastar::marks::{is_marked, mark};
+use crate::directed::idastar::marks::is_marked;
 use crate::directed::idastar::way::{Frame, Way};
 use pf_base::{Cost, PathError};
 use std::alloc::Allocator;
@@ -152,6 +152,16 @@ where
     }
 }
 
+/// The number 0 alone.
+fn first_alone<A: Allocator>(alloc: A) -> Result<Vec<usize, A>, PathError>
+    ensures numbers { IfOk result (λ numbers. numbers.items ≡ 0 ∷ []) }
+    ensures refused { IfErr result (λ e. e ≡ PathError.OutOfMemory) }
+{
+    let mut numbers = Vec::new(alloc);
+    numbers.push(0)?;
+    Ok(numbers)
+}
+
 /// Looks through the ways from the number 0 whose costs and estimates stay within the limit together.
 pub(crate) fn look_through<N, C, IN, FN, FH, FS, A>(
     alloc: A,
@@ -186,27 +196,13 @@ where
 {
     let nothing = C::zero();
     let Some(span) = known.span_of(0)? else {
-        let mut numbers = Vec::new(alloc);
-        numbers.push(0)?;
+        let numbers = first_alone(alloc)?;
         return Ok(Round::Found {
             numbers,
             cost: nothing,
         });
     };
-    let mut marks = Vec::new(alloc);
-    mark(&mut marks, 0)?;
-    let frame = Frame {
-        number: 0,
-        cost: nothing,
-        at: span.begin,
-        end: span.end,
-    };
-    let mut way = Way {
-        frame,
-        trail: Vec::new(alloc),
-        marks,
-        cut_off: CutOff::new(),
-    };
+    let mut way = Way::begin(alloc, nothing, span)?;
     'turns: loop {
         if let Some(round) = turn(alloc, known, limit, &mut way)? {
             return Ok(round);

@@ -1,6 +1,6 @@
 //! The way that a search goes along.
 
-ghost use Rattle.std.specs.Prelude.{◌≡◌, ◌↔◌, ◌⊎◌, ◌<◌, ◌+◌, ◌∷◌, [], ℕ, List, OnOk, IfErr, MatchBool, reverse};
+ghost use Rattle.std.specs.Prelude.{◌≡◌, ◌↔◌, ◌⊎◌, ◌<◌, ◌+◌, ◌∷◌, [], ℕ, List, None, false, OnOk, IfOk, IfErr, MatchBool, reverse};
 ghost use Rattle.pf_informed.specs.declared.directed.idastar.way.Frame.{Frame};
 ghost use Rattle.pf_informed.specs.Internal.Deepening.{IsMarked};
 
@@ -27,6 +27,32 @@ pub(crate) struct Way<C: Cost, A: Allocator> {
     pub trail: Vec<Frame<C>, A>,
     pub marks: Vec<bool, A>,
     pub cut_off: CutOff<C>,
+}
+
+impl<C: Cost, A: Allocator + Copy> Way<C, A> {
+    /// The way to the number 0 alone, whose steps stand at `span`.
+    pub fn begin(alloc: A, cost: C, span: Span) -> Result<Self, PathError>
+        ensures frame { IfOk result (λ way. way.frame ≡ record { number = 0; cost = cost; at = span.begin; end = span.end }) }
+        ensures below { IfOk result (λ way. reverse way.trail.items ≡ []) }
+        ensures marked { IfOk result (λ way. (k : ℕ) → IsMarked way.marks.items k ↔ (k ≡ 0)) }
+        ensures cut_off { IfOk result (λ way. (way.cut_off.least ≡ None) × (way.cut_off.past ≡ false)) }
+        ensures refused { IfErr result (λ e. e ≡ PathError.OutOfMemory) }
+    {
+        let mut marks = Vec::new(alloc);
+        mark(&mut marks, 0)?;
+        let frame = Frame {
+            number: 0,
+            cost,
+            at: span.begin,
+            end: span.end,
+        };
+        Ok(Way {
+            frame,
+            trail: Vec::new(alloc),
+            marks,
+            cut_off: CutOff::new(),
+        })
+    }
 }
 
 impl<C: Cost, A: Allocator> Way<C, A> {

@@ -1,10 +1,14 @@
-use Rattle.std.proofs.Common.{subst, sym, nat_eq}
+use Rattle.std.proofs.Common.{ℕ, subst, sym, nat_eq}
+use Rattle.std.specs.List.Sorted.{IsSorted}
 use Rattle.pf_graph.proofs.Spanning.CopyLemmas.{below_copies, least_of_copies, chosen_of_copies}
-use Rattle.pf_graph.specs.Spanning.{IsLeastUnderEveryBound, AreChosenFrom}
+use Rattle.pf_graph.specs.Spanning.{IsForest, IsLeastUnderEveryBound, AreChosenFrom}
 use Rattle.pf_graph.proofs.undirected.kruskal.kruskal_indices.Goals as goal
 
 pub spanning_forest-requires : goal.spanning_forest-requires
 spanning_forest-requires g c = record { below = below_copies g.C.Clone.is_clone c.args.number_of_nodes c.args.edges.now c.in_ok-copies.copies.items c.in_ok-copies.ensures.copies (c.are_below.ensures.0 c.if-not-are_below.false) }
+
+pub returns-clause-forest : goal.returns-clause-forest
+returns-clause-forest g c = subst (IsForest nat_eq) (sym c.into_iter.ensures.rest) c.in_ok-chosen.ensures.forest
 
 pub returns-clause-least : goal.returns-clause-least
 returns-clause-least g c =
@@ -15,3 +19,9 @@ pub returns-clause-as_written : goal.returns-clause-as_written
 returns-clause-as_written g c =
     subst (λ xs. AreChosenFrom g.C.Clone.is_clone c.args.edges.now xs) (sym c.into_iter.ensures.rest)
     (chosen_of_copies g.C.Clone.is_clone c.args.edges.now c.in_ok-copies.copies.items c.in_ok-chosen.chosen.items c.in_ok-copies.ensures.copies c.in_ok-chosen.ensures.given)
+
+pub returns-clause-sorted : goal.returns-clause-sorted
+returns-clause-sorted g c = subst (λ xs. IsSorted (λ (e f : ℕ × ℕ × g.row.C.Denot). g.C.Ord.cmp e.2 f.2) xs) (sym c.into_iter.ensures.rest) c.in_ok-chosen.ensures.sorted
+
+pub returns-clause-known : goal.returns-clause-known
+returns-clause-known g c = c.are_below.ensures.0 c.if-not-are_below.false

@@ -1,5 +1,6 @@
-use Rattle.std.proofs.Common.{[], ◌∷◌, ◌++◌, ◌<◌, ℕ, slice_index_or, length, refl, arith}
+use Rattle.std.proofs.Common.{[], ◌∷◌, ◌++◌, ◌≡◌, ◌<◌, ℕ, subst, slice_index_or, length, refl, arith}
 use Rattle.std.proofs.lemmas.Option.{slice_get-get_or, slice_get_read}
+use Rattle.pf_graph.specs.Internal.Components.DisjointSets.{AreDone}
 use Rattle.pf_graph.proofs.Components.CollectLemmas.{AreDone-none, AreDone-more}
 use Rattle.pf_graph.proofs.undirected.node_sets.collect_into.Goals as goal
 
@@ -20,3 +21,12 @@ loop-number-preserved g c =
           (slice_get_read c.args.nodes.now (length c.args.nodes.now) number m refl inside c.index-nodes-number.is) (slice_get-get_or c.args.first.now number 0 c.loop-number-test.true) (slice_get-get_or c.args.ids.now j 0 (c.requires.inside number 0 c.loop-number-test.true)) i.are_done;
       collected = c.in_ok-add_node.ensures.collected i.done i.collected;
     }
+
+pub add_node-requires-clause-collected : goal.add_node-requires-clause-collected
+add_node-requires-clause-collected g c = (c.loop-number.invariant.done, c.loop-number.invariant.collected)
+
+pub returns-clause-collected : goal.returns-clause-collected
+returns-clause-collected g c =
+    let i = c.loop-number.invariant in
+    let all : c.loop-number.number ≡ length c.args.first.now = omega arith in
+    (i.done, subst (λ n. AreDone c.args.nodes.now c.args.first.now c.args.ids.now n i.done) all i.are_done, i.collected)

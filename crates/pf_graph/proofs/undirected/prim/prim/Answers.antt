@@ -1,16 +1,36 @@
-use Rattle.std.proofs.Common.{◌≡◌, ◌<◌, ◌∙◌, sym, ap, subst, ℕ, length, true, false, Some}
-use Rattle.std.specs.Prelude.{map, slice_get}
+use Rattle.std.proofs.Common.{◌≡◌, ◌<◌, ◌∙◌, sym, ap, subst, arith, ℕ, length, true, false, Some, None}
+use Rattle.std.specs.Prelude.{Contains, map, slice_get}
 use Rattle.std.proofs.lemmas.List.{length-replicate}
 use Rattle.std.proofs.lemmas.Result.{IfOk-weaker}
 use Rattle.pf_graph.specs.EdgesByReference.{shown}
 use Rattle.pf_graph.specs.Internal.Spanning.Frontier.{HasStep, HoldSteps, AreRows, IsMarked}
 use Rattle.pf_graph.specs.GrownTree.{GrowsByLeast, IsLeastAround}
-use Rattle.pf_graph.specs.Spanning.{AreBelow}
-use Rattle.pf_graph.proofs.ListLemmas.{resized}
+use Rattle.pf_graph.specs.Spanning.{IsForest, AreBelow}
+use Rattle.pf_graph.proofs.ListLemmas.{none_in, resized}
+use Rattle.pf_graph.proofs.Spanning.ForestLemmas.{IsForest-nil}
 use Rattle.pf_graph.proofs.Spanning.NameLemmas.{numbered_below}
-use Rattle.pf_graph.proofs.Spanning.PrimLemmas.{no_mark, start_is, are_rows, steps_inside, first_stands, first_inside}
+use Rattle.pf_graph.proofs.Spanning.PrimLemmas.{no_mark, no_start, first_is, start_is, are_rows, steps_inside, first_stands, first_inside}
 use Rattle.pf_graph.proofs.Spanning.TreeLemmas.{grown_forest, grown_least}
 use Rattle.pf_graph.proofs.undirected.prim.prim.Goals as goal
+
+pub returns-in_default-clause-none : goal.returns-in_default-clause-none
+returns-in_default-clause-none g c = λ _. c.new.ensures.items
+
+pub returns-in_default-clause-grown : goal.returns-in_default-clause-grown
+returns-in_default-clause-grown g c = λ start s.
+    let none = subst (λ es. slice_get es 0 ≡ None) c.deref.ensures.value (sym c.in_default.ensures.value) in
+    absurd (no_start c.args.edges.now c.in_ok-numbered.numbered.edges.items c.in_ok-numbered.ensures.in_order none start s)
+
+pub returns-in_default-clause-forest : goal.returns-in_default-clause-forest
+returns-in_default-clause-forest g c = subst (IsForest g.N.PartialEq.eq) (sym (ap (map shown) c.new.ensures.items)) IsForest-nil
+
+pub returns-in_default-clause-least : goal.returns-in_default-clause-least
+returns-in_default-clause-least g c = λ start s.
+    let none = subst (λ es. slice_get es 0 ≡ None) c.deref.ensures.value (sym c.in_default.ensures.value) in
+    absurd (no_start c.args.edges.now c.in_ok-numbered.numbered.edges.items c.in_ok-numbered.ensures.in_order none start s)
+
+pub returns-in_default-clause-as_written : goal.returns-in_default-clause-as_written
+returns-in_default-clause-as_written g c = record { as_written = λ e h. absurd (omega (arith, (subst (λ es. Contains es e) (ap (map shown) c.new.ensures.items) h).1)) }
 
 pub rows_of-requires : goal.rows_of-requires
 rows_of-requires g c =
@@ -46,6 +66,12 @@ grow-requires-clause-steps g c =
     let steps = subst (λ es. HoldSteps es c.in_ok-rows.rows.items) c.deref-2.ensures.value c.in_ok-rows.ensures.steps in
     subst (λ rs. (k : ℕ) (s : _) → HasStep rs k s → s.number < length rs) (sym c.deref-3.ensures.value)
     (steps_inside c.args.edges.now c.in_ok-numbered.numbered.edges.items c.in_ok-numbered.ensures.in_order n.0 n.2 c.in_ok-rows.rows.items steps (c.in_ok-rows.ensures.len ∙ sym n.1))
+
+pub returns-clause-none : goal.returns-clause-none
+returns-clause-none g c = λ none.
+    let first = c.in-Some.first.now in
+    let at = subst (λ es. slice_get es 0 ≡ Some first) c.deref.ensures.value (sym c.in-Some.ensures.value) in
+    absurd (none_in 0 first.2.edge.now (subst (λ es. slice_get es 0 ≡ Some first.2.edge.now) none (first_is c.args.edges.now c.in_ok-numbered.numbered.edges.items c.in_ok-numbered.ensures.in_order first at)))
 
 pub returns-clause-grown : goal.returns-clause-grown
 returns-clause-grown g c =

@@ -6,6 +6,18 @@ use Rattle.pf_graph.proofs.Assignment.MatchingBounds.{column_negation, root_sum,
 use Rattle.pf_graph.proofs.Assignment.MatchingTree.{tree_of_root}
 use Rattle.pf_graph.proofs.kuhn_munkres.tree.Tree.begin.Goals as goal
 
+pub scan-requires-clause-row : goal.scan-requires-clause-row
+scan-requires-clause-row g c =
+    let root : c.len-root.result ≡ length c.args.matching.now.column_of.items = search rules in
+    let left = c.requires.next.left in
+    omega (arith, root, left)
+
+pub scan-requires-clause-left : goal.scan-requires-clause-left
+scan-requires-clause-left g c =
+    let left = c.requires.next.left in
+    let shape = c.requires.shape in
+    (0, omega (arith, left, shape), c.clear-2.ensures.fresh.unvisited 0)
+
 pub scan-requires-clause-negation : goal.scan-requires-clause-negation
 scan-requires-clause-negation g c = λ j h f.
     column_negation g.C.Number.fits (λ x y z. g.C.Number.between_law x y z g.met.C.Integral.exact_law) c.requires.fit c.requires.shape c.requires.next j h
@@ -44,3 +56,18 @@ returns-clause-tree g c =
     subst (λ xs. IsTreeOf value t c.args.matching.now.column_of.items c.args.matching.now.row_of.items c.args.matching.now.row_potentials.items c.args.matching.now.column_potentials.items xs c.scan.new.self.visited.items c.scan.new.self.distances.items c.scan.new.self.places.items) (sym (c.scan.ensures.rows ∙ c.clear-2.ensures.rows))
     (subst (λ xs. IsTreeOf value t c.args.matching.now.column_of.items c.args.matching.now.row_of.items c.args.matching.now.row_potentials.items c.args.matching.now.column_potentials.items c.push.new.self.items xs c.scan.new.self.distances.items c.scan.new.self.places.items) (sym c.scan.ensures.visited)
     (tree_of_root c.requires.next c.push.new.self.items rows top (value c.zero.result) none far c.clear-2.new.self.visited.items c.clear-2.new.self.distances.items c.scan.new.self.distances.items c.clear-2.new.self.places.items c.scan.new.self.places.items fresh scanned (omega (arith, lv)) (omega (arith, ld, md)) (omega (arith, lp, mp))))
+
+pub returns-clause-one : goal.returns-clause-one
+returns-clause-one g c = ap length (c.scan.ensures.rows ∙ c.clear-2.ensures.rows ∙ c.in_ok-push.ensures.items ∙ ap (λ xs. xs ++ c.len-root.result ∷ []) c.clear.ensures.items)
+
+pub returns-clause-visited : goal.returns-clause-visited
+returns-clause-visited g c = ap length c.scan.ensures.visited ∙ c.clear-2.ensures.visited
+
+pub returns-clause-distances : goal.returns-clause-distances
+returns-clause-distances g c = c.scan.ensures.distances ∙ c.clear-2.ensures.distances
+
+pub returns-clause-places : goal.returns-clause-places
+returns-clause-places g c = c.scan.ensures.places ∙ c.clear-2.ensures.places
+
+pub returns-clause-nearest : goal.returns-clause-nearest
+returns-clause-nearest g c = c.scan.ensures.nearest

@@ -20,3 +20,18 @@ returns-clause-rounds g c =
     let t = c.visits.invariant.rounds in
     let k = tree_count c.requires.next c.visits.invariant.tree in
     omega (arith, t, k)
+
+pub visits-init : goal.visits-init
+visits-init g c =
+    let e = c.in_ok-column.ensures in
+    let one = e.one in
+    record { tree = e.tree; nearest = e.nearest; ticked = omega arith; rounds = omega (arith, one) }
+
+pub visits-preserved : goal.visits-preserved
+visits-preserved g c =
+    let e = c.in_ok-column-2.ensures in
+    let i = c.visits.invariant in
+    let more = e.more in
+    let ticked = i.ticked in
+    let rounds = i.rounds in
+    record { tree = e.tree; nearest = e.nearest; ticked = omega (arith, ticked); rounds = omega (arith, more, rounds) }

@@ -1,6 +1,6 @@
-use Rattle.std.proofs.Common.{rules, ◌≡◌, ◌<◌, arith, ap, sym, subst, ◌∙◌, length, true, false, Some, None}
+use Rattle.std.proofs.Common.{rules, ◌≡◌, ◌<◌, arith, ap, sym, subst, ◌∙◌, ◌∷◌, [], length, length-set, true, false, Some, None}
 use Rattle.std.specs.Prelude.{neg_ℤ, ◌+ℤ◌, ◌-ℤ◌, slice_index, slice_set}
-use Rattle.std.proofs.lemmas.List.{get_or-set_other}
+use Rattle.std.proofs.lemmas.List.{get_or-set_other, length-append}
 use Rattle.pf_graph.specs.Assignments.{number}
 use Rattle.pf_graph.specs.Internal.Assignment.AssignmentSteps.{holder, flag, IsScanned, IsTreeOf}
 use Rattle.pf_graph.proofs.Assignment.MatchingNumbers.{number-at}
@@ -101,3 +101,18 @@ returns-clause-tree g c =
     subst (λ xs. IsTreeOf value t m.column_of.items m.row_of.items m.row_potentials.items m.column_potentials.items xs c.scan.new.self.visited.items c.scan.new.self.distances.items c.scan.new.self.places.items) (sym c.scan.ensures.rows)
     (subst (λ xs. IsTreeOf value t m.column_of.items m.row_of.items m.row_potentials.items m.column_potentials.items c.push.new.self.items xs c.scan.new.self.distances.items c.scan.new.self.places.items) (sym c.scan.ensures.visited)
     (tree_of_more c.requires.next c.args.self.now.rows.items c.args.self.now.visited.items c.args.self.now.distances.items c.args.self.now.places.items c.requires.tree c.args.column c.args.row c.requires.nearest c.requires.row (value c.plus-offset.result) sum c.push.new.self.items c.in_ok-push.ensures.items c.scan.new.self.distances.items c.scan.new.self.places.items scanned (search rules) (omega (arith, ld, md)) (omega (arith, lp, mp))))
+
+pub returns-clause-more : goal.returns-clause-more
+returns-clause-more g c = ap length c.scan.ensures.rows ∙ ap length c.in_ok-push.ensures.items ∙ length-append c.args.self.now.rows.items (c.args.row ∷ [])
+
+pub returns-clause-nearest : goal.returns-clause-nearest
+returns-clause-nearest g c = c.scan.ensures.nearest
+
+pub returns-clause-visited : goal.returns-clause-visited
+returns-clause-visited g c = ap length c.scan.ensures.visited ∙ length-set c.args.self.now.visited.items c.args.column true
+
+pub returns-clause-distances : goal.returns-clause-distances
+returns-clause-distances g c = c.scan.ensures.distances
+
+pub returns-clause-places : goal.returns-clause-places
+returns-clause-places g c = c.scan.ensures.places

@@ -1,5 +1,5 @@
-use Rattle.std.proofs.Common.{◌≡◌, ◌<◌, [], ◌∷◌, ◌++◌, List, ℕ, pos, true, length, ap, ◌∙◌, sym, subst, arith, refl, inl, inr, false, Some, None}
-use Rattle.std.specs.Prelude.{◌↔◌, Contains, reverse}
+use Rattle.std.proofs.Common.{◌≡◌, ◌<◌, [], ◌∷◌, List, ℕ, pos, true, length, ap, ◌∙◌, sym, subst, arith, inl, inr, false, Some, None}
+use Rattle.std.specs.Prelude.{◌↔◌, ◌⊎◌, Contains, reverse}
 use Rattle.std.proofs.lemmas.Int.{ints}
 use Rattle.pf_core.proofs.ListLemmas.{none_in, Contains-cases}
 use Rattle.pf_core.proofs.NodeLemmas.{InReach-same}
@@ -18,9 +18,8 @@ returns-in_default-clause-graph g c = λ h test least first k s low.
     let told = rw c.in_default.is at (c.in_ok-span.ensures.graph h test least k) in
     let here = c.in_ok-span.ensures.grows.stays 0 first s in
     let nothing : value c.zero-nothing.result ≡ pos 0 = ap value c.zero-nothing.ensures ∙ g.met.C.Zero.zero_law g.met.C.Integral.exact_law in
-    let numbers : c.push.new.self.items ≡ 0 ∷ [] = c.in_ok-push.ensures.items ∙ ap (λ (xs : List ℕ). xs ++ 0 ∷ []) c.new-numbers.ensures.items in
     let from = k.admissible.from_zero first (InReach-same eq laws h.edges h.starts s.0 first (k.explores.reached 0 s.0 s.1) s.2) in
-    (told.0, (start_way eq laws value g.C.Number.fits h test least first keys here (told.1 first here) c.push.new.self.items numbers (value c.zero-nothing.result) nothing, omega (arith, ints, nothing, from, low)))
+    (told.0, (start_way eq laws value g.C.Number.fits h test least first keys here (told.1 first here) c.in_ok-numbers.numbers.items c.in_ok-numbers.ensures.numbers (value c.zero-nothing.result) nothing, omega (arith, ints, nothing, from, low)))
 
 pub turns-init : goal.turns-init
 turns-init g c =
@@ -35,31 +34,42 @@ turns-init g c =
     let has = rw c.in-Some.is at e.kept in
     let within = e.table.within 0 s has in
     let nothing : value c.zero-nothing.result ≡ pos 0 = ap value c.zero-nothing.ensures ∙ g.met.C.Zero.zero_law g.met.C.Integral.exact_law in
-    let frame : Frame g.row.C.Denot = record { number = 0; cost = c.zero-nothing.result; at = s.begin; end = s.end } in
-    let below : reverse c.new.result.items ≡ [] = ap (λ (xs : List (Frame g.row.C.Denot)). reverse xs) c.new.ensures.items in
-    let frames : numbers_of (frame ∷ reverse c.new.result.items) ≡ 0 ∷ [] = ap (λ (xs : List (Frame g.row.C.Denot)). numbers_of (frame ∷ xs)) below in
-    let none : (i : ℕ) → IsMarked c.new-marks.result.items i ↔ Contains [] i = λ i. ((λ m. absurd (none_in i true (rw c.new-marks.ensures.items at m))), (λ m. absurd (omega (arith, m.1)))) in
-    let on = marked_on c.new-marks.result.items c.mark.new.marks.items [] 0 none c.in_ok-mark.ensures.marked in
+    let way = c.in_ok-way.way in
+    let b = c.in_ok-way.ensures in
+    let number : way.frame.number ≡ 0 = ap (λ (f : Frame g.row.C.Denot). f.number) b.frame in
+    let cost : value way.frame.cost ≡ pos 0 = ap (λ (f : Frame g.row.C.Denot). value f.cost) b.frame ∙ nothing in
+    let at : way.frame.at ≡ s.begin = ap (λ (f : Frame g.row.C.Denot). f.at) b.frame in
+    let end : way.frame.end ≡ s.end = ap (λ (f : Frame g.row.C.Denot). f.end) b.frame in
+    let frames : numbers_of (way.frame ∷ reverse way.trail.items) ≡ 0 ∷ [] = ap (λ (xs : List (Frame g.row.C.Denot)). numbers_of (way.frame ∷ xs)) b.below ∙ ap (λ (f : Frame g.row.C.Denot). numbers_of (f ∷ [])) b.frame in
+    let none : (i : ℕ) → IsMarked [] i ↔ Contains [] i = λ i. ((λ m. absurd (none_in i true m)), (λ m. absurd (omega (arith, m.1)))) in
+    let alone : (i : ℕ) → IsMarked way.marks.items i ↔ (IsMarked [] i ⊎ (i ≡ 0)) = λ i. (
+      (λ m. inr ((b.marked i).0 m)),
+      (λ m. (b.marked i).1 (elim m as (λ _. i ≡ 0) [ inl q ↦ absurd (none_in i true q) | inr q ↦ q ])),
+    ) in
+    let on = marked_on [] way.marks.items [] 0 none alone in
     record {
       asked = e.estimated;
       table = e.table;
       grows = e.grows;
       marked = record {
-        marked = subst (λ (ns : List ℕ). (i : ℕ) → IsMarked c.mark.new.marks.items i ↔ Contains ns i) (sym frames) on;
+        marked = subst (λ (ns : List ℕ). (i : ℕ) → IsMarked way.marks.items i ↔ Contains ns i) (sym frames) on;
         inside = λ i m. elim (Contains-cases [] 0 i (subst (λ (ns : List ℕ). Contains ns i) frames m)) as (λ _. i < length keys) [
           | inl q ↦ omega (arith, q, c.requires.begun, e.grows.more)
           | inr q ↦ absurd (omega (arith, q.1))
         ];
-        above = λ n q. let no : None ≡ Some n = sym c.new-2.ensures.least ∙ q in absurd (cc);
+        above = λ n q. let no : None ≡ Some n = sym b.cut_off.0 ∙ q in absurd (cc);
       };
       searched = λ h test least first k st low.
           let told = e.graph h test least k in
           let k2 = told.0 in (
             k2,
-            on_way_as eq laws value fits h test least first keys after.rows.steps.items after.rows.spans.items k2.rows frame [] (reverse c.new.result.items) None c.new-2.result.least false c.new-2.result.past below c.new-2.ensures.least c.new-2.ensures.past
-                (begun eq laws value fits h test least first keys after.rows.steps.items after.rows.spans.items k2.rows frame s has within.0 refl nothing refl refl (e.grows.stays 0 first st)),
+            on_way_as eq laws value fits h test least first keys after.rows.steps.items after.rows.spans.items k2.rows way.frame [] (reverse way.trail.items) None way.cut_off.least false way.cut_off.past b.below b.cut_off.0 b.cut_off.1
+                (begun eq laws value fits h test least first keys after.rows.steps.items after.rows.spans.items k2.rows way.frame s has within.0 number cost at end (e.grows.stays 0 first st)),
           );
     }
+
+pub span_of-requires-clause-graph : goal.span_of-requires-clause-graph
+span_of-requires-clause-graph g c = let r = c.requires.graph in (r.0, r.1, r.2, r.4)
 
 pub turn-requires-clause-graph : goal.turn-requires-clause-graph
 turn-requires-clause-graph g c =

@@ -1,0 +1,27 @@
+use Rattle.std.proofs.Common.{◌∙◌, Some, arith}
+use Rattle.pf_informed.specs.declared.directed.idastar.rows.Span.{Span}
+use Rattle.pf_informed.proofs.RowLemmas.{set_here, set_other, written_from}
+use Rattle.pf_informed.proofs.directed.idastar.rows.Rows.keep.Goals as goal
+
+pub returns-clause-steps : goal.returns-clause-steps
+returns-clause-steps g c = c.in_ok-extend_from_slice.ensures.items
+
+pub returns-clause-span : goal.returns-clause-span
+returns-clause-span g c =
+    let ok = c.args.self.now.steps.ok.0 in
+    (omega (arith, c.len-begin.ensures, ok), omega (arith, c.len.ensures, c.in_ok-extend_from_slice.ensures.len, ok))
+
+pub returns-clause-kept : goal.returns-clause-kept
+returns-clause-kept g c =
+    let span : Span = record { begin = c.len-begin.result; end = c.len.result } in
+    set_here c.widen.new.items.items c.args.number (Some span) c.in_ok-widen.ensures.long
+
+pub returns-clause-others : goal.returns-clause-others
+returns-clause-others g c = λ k s ne h.
+    let span : Span = record { begin = c.len-begin.result; end = c.len.result } in
+    set_other c.widen.new.items.items c.args.number k (Some span) c.in_ok-widen.ensures.long ne ∙ c.in_ok-widen.ensures.kept k (Some s) h
+
+pub returns-clause-from : goal.returns-clause-from
+returns-clause-from g c =
+    let span : Span = record { begin = c.len-begin.result; end = c.len.result } in
+    written_from c.args.self.now.spans.items c.widen.new.items.items c.args.number span c.in_ok-widen.ensures.long c.in_ok-widen.ensures.from
