@@ -90,13 +90,16 @@ take_suc (y ∷ ys) (suc i) x h = ap (λ zs. y ∷ zs) (take_suc ys i x h)
 take_more : {E : Type 0} (xs : List E) (i : ℕ) (x : E) → slice_get xs i ≡ Some x → take (i + 1) xs ≡ take i xs ++ x ∷ []
 take_more xs i x h = ap (λ (n : ℕ). take n xs) (add-one i) ∙ take_suc xs i x h
 
+module _ {E : Type 0} (places : List (Option E)) (i : ℕ) where
+  pub present_more : (edge : E) → slice_get places i ≡ Some (Some edge) → present (take (i + 1) places) ≡ present (take i places) ++ edge ∷ []
+  present_more edge h = ap present (take_more places i (Some edge) h) ∙ present-append (take i places) (Some edge ∷ [])
+
+  pub present_same : slice_get places i ≡ Some None → present (take (i + 1) places) ≡ present (take i places)
+  present_same h = ap present (take_more places i None h) ∙ present-append (take i places) (None ∷ []) ∙ append-nil (present (take i places))
+
 module _ {C K : Type 0} (price : C → K) (places : List (Option (ℕ × C))) (i : ℕ) where
   pub priced_more : (edge : ℕ × C) → slice_get places i ≡ Some (Some edge) → priced price (take (i + 1) places) ≡ priced price (take i places) ++ (edge.0, price edge.1) ∷ []
-  priced_more edge h =
-      let f : ℕ × C → ℕ × K = λ (e : ℕ × C). (e.0, price e.1) in
-      ap (λ xs. map f (present xs)) (take_more places i (Some edge) h) ∙ ap (map f) (present-append (take i places) (Some edge ∷ [])) ∙ map-append f (present (take i places)) (edge ∷ [])
+  priced_more edge h = let f : ℕ × C → ℕ × K = λ (e : ℕ × C). (e.0, price e.1) in ap (map f) (present_more places i edge h) ∙ map-append f (present (take i places)) (edge ∷ [])
 
   pub priced_same : slice_get places i ≡ Some None → priced price (take (i + 1) places) ≡ priced price (take i places)
-  priced_same h =
-      let f : ℕ × C → ℕ × K = λ (e : ℕ × C). (e.0, price e.1) in
-      ap (λ xs. map f (present xs)) (take_more places i None h) ∙ ap (map f) (present-append (take i places) (None ∷ [])) ∙ ap (map f) (append-nil (present (take i places)))
+  priced_same h = ap (map (λ (e : ℕ × C). (e.0, price e.1))) (present_same places i h)

@@ -7,6 +7,7 @@ pub mod GraphLemmas
 pub mod IndexLemmas
 pub mod Alone
 pub mod ExploreLemmas
+pub mod OwnLemmas
 pub mod LayoutLemmas
 pub mod NumberedNames
 pub mod EdgeListLemmas

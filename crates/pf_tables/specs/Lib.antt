@@ -5,5 +5,6 @@ pub mod CostlessLaws
 pub mod Boards
 pub mod Goals
 pub mod Numbering
+pub mod OwnLaws
 pub mod EdgeLists
 pub mod Layouts

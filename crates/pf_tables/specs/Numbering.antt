@@ -4,6 +4,7 @@ use Rattle.std.specs.List.{IsDistinct}
 use Rattle.pf_base.specs.Answers.{ListsEdges}
 use Rattle.pf_base.specs.Edges.{InReach}
 use Rattle.pf_core.specs.Nodes.{TestedGraph}
+use Rattle.pf_tables.specs.Graphs.{edges_at}
 
 -- one more than the number of each node that was found, and 0 at the others
 pub record IsIndex (order numbers : List ℕ) : Type 0 where
@@ -26,3 +27,12 @@ pub record IsExplored {C K : Type 0} (value : K → ℤ) (price : C → K) (size
   pub tested : (n : ℕ) → passes n ≡ g.test n
   pub distinct : IsDistinct nat_eq order
   pub reached : (k x : ℕ) → slice_get order k ≡ Some x → InReach nat_eq g.graph.edges g.graph.starts x
+
+-- the number of a node below `size` is the node itself
+abbrev pub IsOwn : ℕ → ℕ → ℕ → Type 0
+IsOwn size k x = (k < size) × (k ≡ x)
+
+-- The graph over the numbers below `size` is searched: its edges are what stands at the places, and its test is the one that is asked.
+pub record IsTable {C : Type 0} (value : C → ℤ) (size : ℕ) (places : ℕ → List (Option (ℕ × C))) (passes : ℕ → Bool) (g : TestedGraph ℕ) : Type 0 where
+  pub listed : (n : ℕ) → n < size → g.graph.edges n ≡ edges_at value (places n)
+  pub tested : (n : ℕ) → passes n ≡ g.test n

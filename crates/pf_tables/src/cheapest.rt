@@ -5,16 +5,14 @@ ghost use Rattle.pf_base.specs.Walks.{HasNoGoalWalk};
 ghost use Rattle.pf_base.specs.Edges.{IsSuccessor, IsCheapestGoalPath, IsPastRange};
 ghost use Rattle.pf_tables.specs.Graphs.{graph_of};
 
-use crate::explored::{AsPriced, Explored};
 use crate::goals::Goals;
 use crate::graph::Graph;
-use crate::numbering::{Numbering, alone};
+use crate::numbering::alone;
+use crate::own_numbers::OwnNumbers;
 use pf_base::utils::Tally;
 use pf_base::{Cost, PathError};
 use pf_core::cheapest::cheapest_path;
-use pf_core::discovery::clones_at;
 use std::alloc::Allocator;
-use std::marker::PhantomData;
 
 /// A cheapest path from the node `from` to a goal, with its cost, or `None` exactly where no walk
 /// leads from `from` to a goal.
@@ -30,7 +28,7 @@ use std::marker::PhantomData;
 /// - `OutOfMemory`: a request for memory was refused.
 ///
 /// The algorithm is Dijkstra's (E. W. Dijkstra, "A note on two problems in connexion with graphs",
-/// 1959), with a binary heap. A call lays out one number for each node of the graph, and then takes
+/// 1959), with a binary heap. A call lays out one label for each node of the graph, and then takes
 /// memory and time for those that it reaches.
 pub fn dijkstra<C, G, T, A>(
     alloc: A,
@@ -57,19 +55,7 @@ where
         let path = alone(alloc, from)?;
         return Ok(Some((path, C::zero())));
     }
-    let numbering = Numbering::of_one(alloc, graph.len(), from)?;
-    let mut explored: Explored<'_, C, AsPriced, G, T, A> = Explored {
-        graph,
-        goals,
-        numbering,
-        form: PhantomData,
-    };
+    let mut table = OwnNumbers { graph, goals };
     let mut tally = Tally::new();
-    match cheapest_path(alloc, &mut explored, 0, &mut tally)? {
-        None => Ok(None),
-        Some((numbers, cost)) => {
-            let path = clones_at(alloc, &explored.numbering.order, &numbers)?;
-            Ok(Some((path, cost)))
-        }
-    }
+    cheapest_path(alloc, &mut table, from, &mut tally)
 }

@@ -18,6 +18,7 @@ mod graph;
 mod layout;
 mod names;
 mod numbering;
+mod own_numbers;
 mod row;
 mod rows;
 mod steps;
