@@ -15,7 +15,7 @@ use Rattle.pf_core.proofs.UnitLemmas.{starts_stand}
 use Rattle.pf_core.proofs.ListLemmas.{none_in}
 use Rattle.pf_core.proofs.NodeLemmas.{InReach-start}
 use Rattle.pf_tables.specs.Graphs.{edges_at, graph_of, successors_of}
-use Rattle.pf_tables.specs.Numbering.{IsIndex, IsExplored, priced}
+use Rattle.pf_tables.specs.Numbering.{IsIndex, IsExplored, steps_at}
 use borrow.Author.Tests.{eqb-true}
 
 -- equal numbers have the same edges
@@ -34,15 +34,9 @@ distinct_take zero xs d = tt
 distinct_take (suc n) [] d = tt
 distinct_take (suc n) (x ∷ xs) d = (all_take (λ y. nat_eq x y ≡ false) n xs d.0, distinct_take n xs d.1)
 
--- ---- the edges at places, as searches pay for them
+-- ---- the edges at places
 
 module _ {C : Type 0} (value : C → ℤ) where
-  -- by their costs
-  pub lists_costs : (places : List (Option (ℕ × C))) → ListsEdges nat_eq value (priced (λ c. c) places) (edges_at value places)
-  lists_costs [] = tt
-  lists_costs (None ∷ places) = lists_costs places
-  lists_costs (Some e ∷ places) = ((nat_eq_equiv.refl e.0, refl), lists_costs places)
-
   module _ (size : ℕ) (places : ℕ → List (Option (ℕ × C))) where
     pub edges_within : (n : ℕ) → n < size → graph_of value size places n ≡ edges_at value (places n)
     edges_within n h = ap (λ (b : Bool). if b then edges_at value (places n) else []) (lt-ltb n size h)
@@ -50,17 +44,13 @@ module _ {C : Type 0} (value : C → ℤ) where
     pub edges_outside : (n : ℕ) → size ≤ n → (a : ℕ) → nat_eq n a ≡ true → graph_of value size places a ≡ []
     edges_outside n h a e = subst (λ (k : ℕ). graph_of value size places k ≡ []) (eqb-true n a e) (ap (λ (b : Bool). if b then edges_at value (places n) else []) (le-ltb n size h))
 
-    pub costs_listed : (n : ℕ) → n < size → ListsEdges nat_eq value (priced (λ c. c) (places n)) (graph_of value size places n)
-    costs_listed n h = rw (edges_within n h) (lists_costs (places n))
-
-  -- by 1 each
-  lists_units : (places : List (Option (ℕ × C))) → ListsEdges nat_eq (λ (n : ℕ). pos n) (priced (λ c. 1) places) (map (λ y. (y, pos 1)) (map (λ (e : ℕ × ℤ). e.0) (edges_at value places)))
+  lists_units : (places : List (Option (ℕ × C))) → ListsEdges nat_eq (λ (n : ℕ). pos n) (steps_at places) (map (λ y. (y, pos 1)) (map (λ (e : ℕ × ℤ). e.0) (edges_at value places)))
   lists_units [] = tt
   lists_units (None ∷ places) = lists_units places
   lists_units (Some e ∷ places) = ((nat_eq_equiv.refl e.0, refl), lists_units places)
 
   module _ (size : ℕ) (places : ℕ → List (Option (ℕ × C))) where
-    pub units_listed : (n : ℕ) → n < size → ListsEdges nat_eq (λ (n : ℕ). pos n) (priced (λ c. 1) (places n)) (unit_edges (successors_of value size places) n)
+    pub units_listed : (n : ℕ) → n < size → ListsEdges nat_eq (λ (n : ℕ). pos n) (steps_at (places n)) (unit_edges (successors_of value size places) n)
     units_listed n h = rw (edges_within size places n h) (lists_units (places n))
 
     pub successors_outside : (n : ℕ) → size ≤ n → (a : ℕ) → nat_eq n a ≡ true → successors_of value size places a ≡ []
@@ -68,16 +58,13 @@ module _ {C : Type 0} (value : C → ℤ) where
 
 -- ---- a search begins at one node
 
-begins_alone : (from x : ℕ) → StandsFor nat_eq (from ∷ []) 0 x ↔ (nat_eq from x ≡ true)
-begins_alone from x = ((λ s. let e : Some from ≡ Some s.0 = s.1 in let f : s.0 ≡ from = cc in subst (λ (n : ℕ). nat_eq n x ≡ true) f s.2), (λ e. (from, refl, e)))
-
 one_distinct : (from : ℕ) → IsDistinct nat_eq (from ∷ [])
 unfolding IsDistinct
 one_distinct from = (tt, tt)
 
-explored_start : {C K : Type 0} (value : K → ℤ) (price : C → K) (size : ℕ) (places : ℕ → List (Option (ℕ × C))) (passes : ℕ → Bool) (edges : ℕ → List (ℕ × ℤ)) (from : ℕ) (numbers : List ℕ)
-    → ((n : ℕ) → n < size → ListsEdges nat_eq value (priced price (places n)) (edges n)) → IsExplored value price size places passes (record { graph = record { starts = from ∷ []; edges = edges }; test = passes }) (from ∷ []) numbers
-explored_start value price size places passes edges from numbers listed = record {
+explored_start : {C : Type 0} (size : ℕ) (places : ℕ → List (Option (ℕ × C))) (passes : ℕ → Bool) (edges : ℕ → List (ℕ × ℤ)) (from : ℕ) (numbers : List ℕ)
+    → ((n : ℕ) → n < size → ListsEdges nat_eq (λ (k : ℕ). pos k) (steps_at (places n)) (edges n)) → IsExplored size places passes (record { graph = record { starts = from ∷ []; edges = edges }; test = passes }) (from ∷ []) numbers
+explored_start size places passes edges from numbers listed = record {
   listed = listed;
   tested = λ n. refl;
   distinct = one_distinct from;
@@ -89,14 +76,11 @@ explored_start value price size places passes edges from numbers listed = record
     start (suc k) x h = absurd (none_in k x h)
 
 module _ (from : ℕ) (order : List ℕ) (one : order ≡ from ∷ []) where
-  pub begins_at : (x : ℕ) → StandsFor nat_eq order 0 x ↔ (nat_eq from x ≡ true)
-  begins_at = rw one (λ x. begins_alone from x)
-
   -- what stands below the number of nodes found is a start
   pub starts_below : (x : ℕ) → StandsBelow (length order) (StandsFor nat_eq order) x ↔ HasNode nat_eq (from ∷ []) x
   starts_below = rw one (starts_stand nat_eq nat_eq_equiv (from ∷ []) (from ∷ []) (λ x. ((λ h. h), (λ h. h))))
 
-  pub explored_first : {C K : Type 0} (value : K → ℤ) (price : C → K) (size : ℕ) (places : ℕ → List (Option (ℕ × C))) (passes : ℕ → Bool) (edges : ℕ → List (ℕ × ℤ)) (numbers : List ℕ) (count : ℕ)
-      → ((n : ℕ) → n < size → ListsEdges nat_eq value (priced price (places n)) (edges n)) → IsIndex order numbers → length numbers ≡ count → count ≡ size
-      → IsExplored value price size places passes (record { graph = record { starts = from ∷ []; edges = edges }; test = passes }) order numbers × IsIndex order numbers × (length numbers ≡ size)
-  explored_first value price size places passes edges numbers count listed index wide is = (rw one (explored_start value price size places passes edges from numbers listed), index, wide ∙ is)
+  pub explored_first : {C : Type 0} (size : ℕ) (places : ℕ → List (Option (ℕ × C))) (passes : ℕ → Bool) (edges : ℕ → List (ℕ × ℤ)) (numbers : List ℕ) (count : ℕ)
+      → ((n : ℕ) → n < size → ListsEdges nat_eq (λ (k : ℕ). pos k) (steps_at (places n)) (edges n)) → IsIndex order numbers → length numbers ≡ count → count ≡ size
+      → IsExplored size places passes (record { graph = record { starts = from ∷ []; edges = edges }; test = passes }) order numbers × IsIndex order numbers × (length numbers ≡ size)
+  explored_first size places passes edges numbers count listed index wide is = (rw one (explored_start size places passes edges from numbers listed), index, wide ∙ is)

@@ -5,7 +5,7 @@ use Rattle.std.proofs.lemmas.List.{map-append, append-nil}
 use Rattle.std.proofs.lemmas.Option.{slice_get_within}
 use borrow.Author.Tests.{eqb-true}
 use Rattle.pf_core.proofs.ListLemmas.{bool_dec, get_set, get-append, none_in}
-use Rattle.pf_tables.specs.Numbering.{IsIndex, present, priced}
+use Rattle.pf_tables.specs.Numbering.{IsIndex, present, steps_at}
 
 -- what stands in a list, or at its end
 pub get_push : {A : Type 0} (xs : List A) (x : A) (k : ℕ) (m : A) → slice_get (xs ++ x ∷ []) k ≡ Some m → (slice_get xs k ≡ Some m) ⊎ ((k ≡ length xs) × (x ≡ m))
@@ -97,9 +97,9 @@ module _ {E : Type 0} (places : List (Option E)) (i : ℕ) where
   pub present_same : slice_get places i ≡ Some None → present (take (i + 1) places) ≡ present (take i places)
   present_same h = ap present (take_more places i None h) ∙ present-append (take i places) (None ∷ []) ∙ append-nil (present (take i places))
 
-module _ {C K : Type 0} (price : C → K) (places : List (Option (ℕ × C))) (i : ℕ) where
-  pub priced_more : (edge : ℕ × C) → slice_get places i ≡ Some (Some edge) → priced price (take (i + 1) places) ≡ priced price (take i places) ++ (edge.0, price edge.1) ∷ []
-  priced_more edge h = let f : ℕ × C → ℕ × K = λ (e : ℕ × C). (e.0, price e.1) in ap (map f) (present_more places i edge h) ∙ map-append f (present (take i places)) (edge ∷ [])
+module _ {C : Type 0} (places : List (Option (ℕ × C))) (i : ℕ) where
+  pub steps_more : (edge : ℕ × C) → slice_get places i ≡ Some (Some edge) → steps_at (take (i + 1) places) ≡ steps_at (take i places) ++ (edge.0, 1) ∷ []
+  steps_more edge h = let f : ℕ × C → ℕ × ℕ = λ (e : ℕ × C). (e.0, 1) in ap (map f) (present_more places i edge h) ∙ map-append f (present (take i places)) (edge ∷ [])
 
-  pub priced_same : slice_get places i ≡ Some None → priced price (take (i + 1) places) ≡ priced price (take i places)
-  priced_same h = ap (map (λ (e : ℕ × C). (e.0, price e.1))) (present_same places i h)
+  pub steps_same : slice_get places i ≡ Some None → steps_at (take (i + 1) places) ≡ steps_at (take i places)
+  steps_same h = ap (map (λ (e : ℕ × C). (e.0, 1))) (present_same places i h)

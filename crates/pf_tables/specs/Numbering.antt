@@ -1,5 +1,5 @@
 -- Nodes in the order in which they were found, and the number of each.
-use Rattle.std.specs.Prelude.{◌≡◌, ◌+◌, ◌<◌, ℕ, ℤ, Bool, List, [], ◌∷◌, Option, Some, None, slice_get, map, nat_eq}
+use Rattle.std.specs.Prelude.{◌≡◌, ◌+◌, ◌<◌, ℕ, ℤ, pos, Bool, List, [], ◌∷◌, Option, Some, None, slice_get, map, nat_eq}
 use Rattle.std.specs.List.{IsDistinct}
 use Rattle.pf_base.specs.Answers.{ListsEdges}
 use Rattle.pf_base.specs.Edges.{InReach}
@@ -17,13 +17,13 @@ present [] = []
 present (None ∷ places) = present places
 present (Some edge ∷ places) = edge ∷ present places
 
--- the edges at places, each with what it is paid with
-abbrev pub priced : {C K : Type 0} → (C → K) → List (Option (ℕ × C)) → List (ℕ × K)
-priced {C} price places = map (λ (e : ℕ × C). (e.0, price e.1)) (present places)
+-- the edges at places, each at the cost 1
+abbrev pub steps_at : {C : Type 0} → List (Option (ℕ × C)) → List (ℕ × ℕ)
+steps_at {C} places = map (λ (e : ℕ × C). (e.0, 1)) (present places)
 
--- The graph over the numbers below `size` is explored: its edges are what stands at the places, its test is the one that is asked, and what was found is in reach.
-pub record IsExplored {C K : Type 0} (value : K → ℤ) (price : C → K) (size : ℕ) (places : ℕ → List (Option (ℕ × C))) (passes : ℕ → Bool) (g : TestedGraph ℕ) (order numbers : List ℕ) : Type 0 where
-  pub listed : (n : ℕ) → n < size → ListsEdges nat_eq value (priced price (places n)) (g.graph.edges n)
+-- The graph over the numbers below `size` is explored: its edges are what stands at the places, at the cost 1, its test is the one that is asked, and what was found is in reach.
+pub record IsExplored {C : Type 0} (size : ℕ) (places : ℕ → List (Option (ℕ × C))) (passes : ℕ → Bool) (g : TestedGraph ℕ) (order numbers : List ℕ) : Type 0 where
+  pub listed : (n : ℕ) → n < size → ListsEdges nat_eq (λ (k : ℕ). pos k) (steps_at (places n)) (g.graph.edges n)
   pub tested : (n : ℕ) → passes n ≡ g.test n
   pub distinct : IsDistinct nat_eq order
   pub reached : (k x : ℕ) → slice_get order k ≡ Some x → InReach nat_eq g.graph.edges g.graph.starts x

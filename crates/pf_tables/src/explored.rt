@@ -1,11 +1,12 @@
-//! A graph in a table as a search sees it: its nodes are numbered as they are found.
+//! A graph in a table as a search by fewest edges sees it: its nodes are numbered as they are found,
+//! and each edge costs 1.
 
 ghost use Rattle.std.specs.Prelude.{◌≡◌, ◌<◌, ◌≤◌, ℕ, List, [], ◌∷◌, ◌++◌, OnOk, OnErr, IfErr, length, take, map, nat_eq};
 ghost use Rattle.std.specs.List.{IsDistinct};
 ghost use Rattle.pf_core.specs.Nodes.{TestedGraph, IsStep, ends_of, StandsFor, AddsNode, NumbersItems, AddedFrom};
 ghost use Rattle.pf_core.specs.Numbered.{NumbersInOrder};
 ghost use Rattle.pf_core.specs.NodeLaws.{StandsFor-one, StandsFor-inside};
-ghost use Rattle.pf_tables.specs.Numbering.{IsIndex, IsExplored, priced};
+ghost use Rattle.pf_tables.specs.Numbering.{IsIndex, IsExplored, steps_at};
 ghost use Rattle.std.proofs.lemmas.Cmp.{nat_eq_equiv};
 
 use crate::goals::Goals;
@@ -17,50 +18,18 @@ use pf_core::row::Row;
 use std::alloc::Allocator;
 use std::marker::PhantomData;
 
-/// What a search pays for an edge.
-pub trait Price<C, K> {
-    // What an edge of this cost is paid with.
-    ghost price: { C → K };
-
-    /// What an edge of this cost is paid with.
-    fn price_of(cost: C) -> K
-        ensures { result ≡ price cost };
-}
-
-/// An edge is paid with its cost.
-pub struct AsPriced;
-
-impl<C> Price<C, C> for AsPriced {
-    ghost price = { λ cost. cost };
-
-    fn price_of(cost: C) -> C {
-        cost
-    }
-}
-
-/// Each edge is paid with 1.
-pub struct OneEach;
-
-impl<C: Cost> Price<C, u8> for OneEach {
-    ghost price = { λ cost. 1 };
-
-    fn price_of(_cost: C) -> u8 {
-        1
-    }
-}
-
 /// A table, its goals, and which of its nodes were found.
 #[derive(Drop)]
-pub struct Explored<'g, C, F, G, T, A: Allocator> {
+pub struct Explored<'g, C, G, T, A: Allocator> {
     pub graph: &'g G,
     pub goals: T,
     pub numbering: Numbering<A>,
-    pub form: PhantomData<(C, F)>,
+    pub cost: PhantomData<C>,
 }
 
 /// Numbers what stands at the places of a node, and puts it into the row. Where memory is refused,
 /// the numbering stays as it was.
-fn number_places<C, K, F, G, A, R>(
+fn number_places<C, G, A, R>(
     graph: &G,
     numbering: &mut Numbering<A>,
     node: usize,
@@ -68,19 +37,17 @@ fn number_places<C, K, F, G, A, R>(
 ) -> Result<(), PathError>
 where
     C: Cost,
-    K: Cost,
-    F: Price<C, K>,
     G: Graph<C>,
     A: Allocator + Copy,
-    R: Row<K>,
+    R: Row<u8>,
     requires inside { node < G.size graph.now }
     requires empty { R.holds row.old [] }
     requires index { IsIndex numbering.old.order.items numbering.old.numbers.items }
     requires wide { length numbering.old.numbers.items ≡ G.size graph.now }
-    ensures numbered { OnOk result ((steps : List (ℕ × K)) × R.holds row.new steps
-        × NumbersItems nat_eq numbering.new.order.items steps (priced F.price (G.places graph.now node))
-        × AddedFrom nat_eq (priced F.price (G.places graph.now node)) numbering.old.order.items numbering.new.order.items
-        × NumbersInOrder (StandsFor nat_eq numbering.new.order.items) (length numbering.old.order.items) (map (λ (x : ℕ × K). x.0) (priced F.price (G.places graph.now node))) (length numbering.new.order.items)) }
+    ensures numbered { OnOk result ((steps : List (ℕ × ℕ)) × R.holds row.new steps
+        × NumbersItems nat_eq numbering.new.order.items steps (steps_at (G.places graph.now node))
+        × AddedFrom nat_eq (steps_at (G.places graph.now node)) numbering.old.order.items numbering.new.order.items
+        × NumbersInOrder (StandsFor nat_eq numbering.new.order.items) (length numbering.old.order.items) (map (λ (x : ℕ × ℕ). x.0) (steps_at (G.places graph.now node))) (length numbering.new.order.items)) }
     ensures index { IsIndex numbering.new.order.items numbering.new.numbers.items }
     ensures wide { length numbering.new.numbers.items ≡ G.size graph.now }
     ensures distinct { IsDistinct nat_eq numbering.old.order.items → IsDistinct nat_eq numbering.new.order.items }
@@ -93,7 +60,7 @@ where
     let before = numbering.order.len();
     for place in 0..graph.places(node) {
         if let Some(edge) = graph.edge(node, place) {
-            if let Err(refusal) = number_edge(numbering, edge.0, F::price_of(edge.1), row) {
+            if let Err(refusal) = number_edge(numbering, edge.0, row) {
                 numbering.forget(before);
                 return Err(refusal);
             }
@@ -103,34 +70,30 @@ where
 }
 
 /// Numbers the node that an edge leads to, and puts the edge at the end of the row.
-fn number_edge<K, A, R>(
+fn number_edge<A, R>(
     numbering: &mut Numbering<A>,
     target: usize,
-    cost: K,
     row: &mut R,
 ) -> Result<(), PathError>
 where
-    K: Cost,
     A: Allocator + Copy,
-    R: Row<K>,
+    R: Row<u8>,
     requires index { IsIndex numbering.old.order.items numbering.old.numbers.items }
     requires inside { target < length numbering.old.numbers.items }
     ensures index { IsIndex numbering.new.order.items numbering.new.numbers.items }
     ensures wide { length numbering.new.numbers.items ≡ length numbering.old.numbers.items }
     ensures added { AddsNode nat_eq target numbering.old.order.items numbering.new.order.items }
     ensures numbered { OnOk result ((k : ℕ) × StandsFor nat_eq numbering.new.order.items k target
-        × ((steps : List (ℕ × K)) → R.holds row.old steps → R.holds row.new (steps ++ (k, cost) ∷ []))) }
+        × ((steps : List (ℕ × ℕ)) → R.holds row.old steps → R.holds row.new (steps ++ (k, 1) ∷ []))) }
     ensures refused { IfErr result (λ e. e ≡ PathError.OutOfMemory) }
 {
     let number = numbering.number_of(target)?;
-    row.add(number, cost)
+    row.add(number, 1)
 }
 
-impl<'g, C, K, F, G, T, A> NumberedGraph<K> for Explored<'g, C, F, G, T, A>
+impl<'g, C, G, T, A> NumberedGraph<u8> for Explored<'g, C, G, T, A>
 where
     C: Cost,
-    K: Cost,
-    F: Price<C, K>,
     G: Graph<C>,
     T: Goals,
     A: Allocator + Copy,
@@ -149,7 +112,7 @@ where
 
     ghost stands = { λ s. StandsFor nat_eq s.numbering.order.items };
 
-    ghost explores = { λ s g. IsExplored K.value F.price (G.size s.graph.now) (G.places s.graph.now) (T.passes s.goals) g s.numbering.order.items s.numbering.numbers.items
+    ghost explores = { λ s g. IsExplored (G.size s.graph.now) (G.places s.graph.now) (T.passes s.goals) g s.numbering.order.items s.numbering.numbers.items
         × IsIndex s.numbering.order.items s.numbering.numbers.items × (length s.numbering.numbers.items ≡ G.size s.graph.now) };
 
     ghost can_forget = { λ s k. (k ≤ length s.numbering.order.items) × IsIndex s.numbering.order.items s.numbering.numbers.items };
@@ -158,10 +121,10 @@ where
         self.numbering.order.len()
     }
 
-    fn expand<R: Row<K>>(&mut self, node: usize, row: &mut R) -> Result<(), PathError> {
+    fn expand<R: Row<u8>>(&mut self, node: usize, row: &mut R) -> Result<(), PathError> {
         row.reset();
         let place = self.numbering.order[node];
-        number_places::<C, K, F, G, A, R>(self.graph, &mut self.numbering, place, row)
+        number_places::<C, G, A, R>(self.graph, &mut self.numbering, place, row)
     }
 
     fn forget(&mut self, first: usize) {
@@ -173,11 +136,9 @@ where
     ghost one_law = { λ s g e i j x. StandsFor-one nat_eq nat_eq_equiv s.numbering.order.items e.0.distinct i j x };
 }
 
-impl<'g, C, K, F, G, T, A> GoalGraph<K> for Explored<'g, C, F, G, T, A>
+impl<'g, C, G, T, A> GoalGraph<u8> for Explored<'g, C, G, T, A>
 where
     C: Cost,
-    K: Cost,
-    F: Price<C, K>,
     G: Graph<C>,
     T: Goals,
     A: Allocator + Copy,

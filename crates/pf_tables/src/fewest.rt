@@ -5,7 +5,7 @@ ghost use Rattle.pf_base.specs.Walks.{HasNoGoalWalk};
 ghost use Rattle.pf_base.specs.Successors.{HasSuccessor, IsFewestEdgesGoalPath};
 ghost use Rattle.pf_tables.specs.Graphs.{successors_of};
 
-use crate::explored::{Explored, OneEach};
+use crate::explored::Explored;
 use crate::goals::Goals;
 use crate::graph::Graph;
 use crate::numbering::{Numbering, alone};
@@ -52,11 +52,11 @@ where
         return Ok(Some(path));
     }
     let numbering = Numbering::of_one(alloc, graph.len(), from)?;
-    let mut explored: Explored<'_, C, OneEach, G, T, A> = Explored {
+    let mut explored: Explored<'_, C, G, T, A> = Explored {
         graph,
         goals,
         numbering,
-        form: PhantomData,
+        cost: PhantomData,
     };
     match fewest_edges_path::<u8, _, _>(alloc, &mut explored)? {
         None => Ok(None),

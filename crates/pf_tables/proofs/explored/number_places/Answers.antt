@@ -3,8 +3,8 @@ use Rattle.pf_core.proofs.NodeLemmas.{take_longer, Numbers-grow, Numbers-push, A
 use Rattle.std.proofs.lemmas.List.{map-append}
 use Rattle.std.proofs.lemmas.Cmp.{nat_eq_equiv}
 use Rattle.pf_core.proofs.OrderLemmas.{InOrder-push}
-use Rattle.pf_tables.specs.Numbering.{priced}
-use Rattle.pf_tables.proofs.IndexLemmas.{priced_more, priced_same}
+use Rattle.pf_tables.specs.Numbering.{steps_at}
+use Rattle.pf_tables.proofs.IndexLemmas.{steps_more, steps_same}
 use Rattle.pf_tables.proofs.explored.number_places.Goals.{in-Some+in_default-number_edge, in_default}
 use Rattle.pf_tables.proofs.explored.number_places.Goals as goal
 
@@ -58,7 +58,6 @@ pub loop-place-preserved : goal.loop-place-preserved
 loop-place-preserved g c =
     let v = c.loop-place.invariant in
     let places = g.G.Graph.places c.args.graph.now c.args.node in
-    let price = g.F.Price.price in
     let i = c.loop-place.place in
     let old = c.loop-place.numbering.order.items in
     elim c.match-edge.branch [
@@ -66,8 +65,8 @@ loop-place-preserved g c =
           let a = w.in_default-number_edge.ensures.added in
           let n = w.in_default-number_edge.ensures.numbered in
           let new = w.number_edge.new.numbering.order.items in
-          let more = priced_more price places i w.in-Some.edge w.in-Some.ensures in
-          let grown = Numbers-grow nat_eq old new v.numbered.0 (priced price (take i places)) (AddsNode-stays nat_eq w.in-Some.edge.0 old new a) v.numbered.2 in
+          let more = steps_more places i w.in-Some.edge w.in-Some.ensures in
+          let grown = Numbers-grow nat_eq old new v.numbered.0 (steps_at (take i places)) (AddsNode-stays nat_eq w.in-Some.edge.0 old new a) v.numbered.2 in
           rw (w.numbering-is, w.row-is) (record {
             long = v.long;
             longer = omega (arith, v.longer, a.longer);
@@ -75,16 +74,16 @@ loop-place-preserved g c =
             index = w.in_default-number_edge.ensures.index;
             wide = w.in_default-number_edge.ensures.wide ∙ v.wide;
             numbered = (
-              v.numbered.0 ++ (n.0, price w.in-Some.edge.1) ∷ [],
-              rw w.price_of.ensures at (n.2 v.numbered.0 v.numbered.1),
-              rw more (Numbers-push nat_eq new v.numbered.0 (priced price (take i places)) n.0 (price w.in-Some.edge.1) w.in-Some.edge.0 grown n.1),
+              v.numbered.0 ++ (n.0, 1) ∷ [],
+              n.2 v.numbered.0 v.numbered.1,
+              rw more (Numbers-push nat_eq new v.numbered.0 (steps_at (take i places)) n.0 1 w.in-Some.edge.0 grown n.1),
             );
-            added = rw more (AddedFrom-push nat_eq c.args.numbering.now.order.items old new (priced price (take i places)) (price w.in-Some.edge.1) w.in-Some.edge.0 a v.added);
-            ordered = rw more (rw (map-append (λ (x : ℕ × g.row.K.Denot). x.0) (priced price (take i places)) ((w.in-Some.edge.0, price w.in-Some.edge.1) ∷ [])) (InOrder-push nat_eq nat_eq_equiv old new (length c.args.numbering.now.order.items) (map (λ (x : ℕ × g.row.K.Denot). x.0) (priced price (take i places))) w.in-Some.edge.0 n.0 a n.1 v.ordered));
+            added = rw more (AddedFrom-push nat_eq c.args.numbering.now.order.items old new (steps_at (take i places)) 1 w.in-Some.edge.0 a v.added);
+            ordered = rw more (rw (map-append (λ (x : ℕ × ℕ). x.0) (steps_at (take i places)) ((w.in-Some.edge.0, 1) ∷ [])) (InOrder-push nat_eq nat_eq_equiv old new (length c.args.numbering.now.order.items) (map (λ (x : ℕ × ℕ). x.0) (steps_at (take i places))) w.in-Some.edge.0 n.0 a n.1 v.ordered));
             distinct = λ d. a.distinct (v.distinct d);
           })
       | in_default w ↦
-          let same = priced_same price places i (c.edge.ensures ∙ ap (λ x. Some x) w.in_default.is) in
+          let same = steps_same places i (c.edge.ensures ∙ ap (λ x. Some x) w.in_default.is) in
           rw (w.numbering-is, w.row-is) (record {
             long = v.long;
             longer = v.longer;

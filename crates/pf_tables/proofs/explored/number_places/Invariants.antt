@@ -2,7 +2,7 @@ use Rattle.std.proofs.Common.{ℕ, List, ◌≡◌, ◌≤◌, length, take, map
 use Rattle.std.specs.List.{IsDistinct}
 use Rattle.pf_core.specs.Numbered.{NumbersInOrder}
 use Rattle.pf_core.specs.Nodes.{StandsFor, NumbersItems, AddedFrom}
-use Rattle.pf_tables.specs.Numbering.{IsIndex, priced}
+use Rattle.pf_tables.specs.Numbering.{IsIndex, steps_at}
 use Rattle.pf_tables.proofs.explored.number_places.Given as goal
 
 abbrev pub invariant-loop-place : goal.invariant-loop-place
@@ -12,8 +12,8 @@ invariant-loop-place g l = record {
   kept : take l.before l.numbering.order.items ≡ l.fn.numbering.order.items;
   index : IsIndex l.numbering.order.items l.numbering.numbers.items;
   wide : length l.numbering.numbers.items ≡ g.G.Graph.size l.graph;
-  numbered : (steps : List (ℕ × g.row.K.Denot)) × g.R.Row.holds l.row steps × NumbersItems nat_eq l.numbering.order.items steps (priced g.F.Price.price (take l.place (g.G.Graph.places l.graph l.node)));
-  added : AddedFrom nat_eq (priced g.F.Price.price (take l.place (g.G.Graph.places l.graph l.node))) l.fn.numbering.order.items l.numbering.order.items;
-  ordered : NumbersInOrder (StandsFor nat_eq l.numbering.order.items) (length l.fn.numbering.order.items) (map (λ (x : ℕ × g.row.K.Denot). x.0) (priced g.F.Price.price (take l.place (g.G.Graph.places l.graph l.node)))) (length l.numbering.order.items);
+  numbered : (steps : List (ℕ × ℕ)) × g.R.Row.holds l.row steps × NumbersItems nat_eq l.numbering.order.items steps (steps_at (take l.place (g.G.Graph.places l.graph l.node)));
+  added : AddedFrom nat_eq (steps_at (take l.place (g.G.Graph.places l.graph l.node))) l.fn.numbering.order.items l.numbering.order.items;
+  ordered : NumbersInOrder (StandsFor nat_eq l.numbering.order.items) (length l.fn.numbering.order.items) (map (λ (x : ℕ × ℕ). x.0) (steps_at (take l.place (g.G.Graph.places l.graph l.node)))) (length l.numbering.order.items);
   distinct : IsDistinct nat_eq l.fn.numbering.order.items → IsDistinct nat_eq l.numbering.order.items;
 }

@@ -33,7 +33,7 @@ fewest_edges_path-requires-clause-graph g c =
     let places = g.G.Graph.places c.args.graph.now in
     let n = c.in_ok-numbering in
     let h = searched g.C.Number.value size places c.args.from (g.T.Goals.passes c.args.goals) in
-    (h, explored_first c.args.from n.numbering.order.items n.ensures.one pos (λ k. 1) size places h.test h.graph.edges n.numbering.numbers.items _ (units_listed g.C.Number.value size places) n.ensures.index n.ensures.wide c.len-2.ensures)
+    (h, explored_first c.args.from n.numbering.order.items n.ensures.one size places h.test h.graph.edges n.numbering.numbers.items _ (units_listed g.C.Number.value size places) n.ensures.index n.ensures.wide c.len-2.ensures)
 
 pub fewest_edges_path-requires-clause-begins : goal.fewest_edges_path-requires-clause-begins
 fewest_edges_path-requires-clause-begins g c = λ k l. begins_all nat_eq nat_eq_equiv c.in_ok-numbering.numbering.order.items k l
@@ -45,7 +45,7 @@ returns-in-None-clause-best g c =
     let next = successors_of g.C.Number.value size places in
     let n = c.in_ok-numbering in
     let h = searched g.C.Number.value size places c.args.from (g.T.Goals.passes c.args.goals) in
-    let x = explored_first c.args.from n.numbering.order.items n.ensures.one pos (λ k. 1) size places h.test h.graph.edges n.numbering.numbers.items _ (units_listed g.C.Number.value size places) n.ensures.index n.ensures.wide c.len-2.ensures in
+    let x = explored_first c.args.from n.numbering.order.items n.ensures.one size places h.test h.graph.edges n.numbering.numbers.items _ (units_listed g.C.Number.value size places) n.ensures.index n.ensures.wide c.len-2.ensures in
     let begins = starts_below c.args.from n.numbering.order.items n.ensures.one in
     let b = rw c.in-None.is at (c.in_ok-fewest_edges_path.ensures.best h x (is_hop nat_eq h.graph.starts next)) in
     no_next_walk nat_eq next h.graph.starts h.test (no_walk nat_eq nat_eq_equiv h.graph (nat_alike h.graph.edges h.graph.starts) _ (λ s. (begins s).1) (λ s. (begins s).0) h.test b)
@@ -60,7 +60,7 @@ returns-clause-best g c =
     let next = successors_of g.C.Number.value size places in
     let n = c.in_ok-numbering in
     let h = searched g.C.Number.value size places c.args.from (g.T.Goals.passes c.args.goals) in
-    let x = explored_first c.args.from n.numbering.order.items n.ensures.one pos (λ k. 1) size places h.test h.graph.edges n.numbering.numbers.items _ (units_listed g.C.Number.value size places) n.ensures.index n.ensures.wide c.len-2.ensures in
+    let x = explored_first c.args.from n.numbering.order.items n.ensures.one size places h.test h.graph.edges n.numbering.numbers.items _ (units_listed g.C.Number.value size places) n.ensures.index n.ensures.wide c.len-2.ensures in
     let begins = starts_below c.args.from n.numbering.order.items n.ensures.one in
     let keys = c.fewest_edges_path.new.graph.numbering.order.items in
     let y = c.in_ok-fewest_edges_path.ensures.graph h x in

@@ -1,4 +1,4 @@
-use Rattle.std.proofs.Common.{length, ◌≡◌, ◌<◌, sym, subst, Some, slice_get, ℕ, inl, inr, nat_eq, arith}
+use Rattle.std.proofs.Common.{length, ◌≡◌, ◌<◌, sym, subst, Some, slice_get, ℕ, pos, inl, inr, nat_eq, arith}
 use Rattle.std.proofs.lemmas.Cmp.{nat_eq_equiv}
 use Rattle.std.proofs.lemmas.Option.{slice_get_within}
 use Rattle.pf_base.specs.Edges.{InReach}
@@ -6,9 +6,9 @@ use Rattle.pf_core.specs.NodeLaws.{StandsFor-one}
 use Rattle.pf_core.proofs.ListLemmas.{at_place, on_ok, ok_or_err}
 use Rattle.pf_core.proofs.NodeLemmas.{fresh_number, Grows-from_take, inside_of, Lists-from, reached_added}
 use Rattle.pf_core.proofs.OrderLemmas.{Placed-same, InOrder-same, ends_at}
-use Rattle.pf_tables.specs.Numbering.{priced}
+use Rattle.pf_tables.specs.Numbering.{steps_at}
 use Rattle.pf_tables.proofs.ExploreLemmas.{nat_alike}
-use Rattle.pf_tables.proofs.explored.ExploredNumberedGraph.expand.Goals as goal
+use Rattle.pf_tables.proofs.explored.ExploredNumberedGraphU8.expand.Goals as goal
 
 pub number_places-requires-clause-inside : goal.number_places-requires-clause-inside
 number_places-requires-clause-inside g c =
@@ -26,7 +26,7 @@ returns-clause-graph g c = λ h x.
     let here = c.index-place.result.now in
     let keys = c.args.self.now.numbering.order.items in
     let keys' = c.number_places.new.numbering.order.items in
-    let items = priced g.F.Price.price (g.G.Graph.places c.args.self.now.graph.now here) in
+    let items = steps_at (g.G.Graph.places c.args.self.now.graph.now here) in
     let at : slice_get keys c.args.node ≡ Some here = at_place _ _ _ _ c.requires.inside (sym c.index-place.ensures) in
     let l = slice_get_within c.args.self.now.numbering.numbers.items here _ (x.1.at c.args.node here at) in
     let inside : here < g.G.Graph.size c.args.self.now.graph.now = omega (arith, l, x.2) in
@@ -36,7 +36,7 @@ returns-clause-graph g c = λ h x.
         tested = x.0.tested;
         distinct = c.number_places.ensures.distinct x.0.distinct;
         reached = elim (ok_or_err c.number_places.result c.number_places.ensures.numbered c.number_places.ensures.stays) as (λ _. (k y : ℕ) → slice_get keys' k ≡ Some y → InReach nat_eq h.graph.edges h.graph.starts y) [
-          | inl n ↦ reached_added nat_eq nat_eq_equiv h.graph.edges h.graph.starts (nat_alike h.graph.edges h.graph.starts) g.K.Number.value keys keys' here items reach (x.0.listed here inside) n.3 x.0.reached
+          | inl n ↦ reached_added nat_eq nat_eq_equiv h.graph.edges h.graph.starts (nat_alike h.graph.edges h.graph.starts) (λ (n : ℕ). pos n) keys keys' here items reach (x.0.listed here inside) n.3 x.0.reached
           | inr e ↦ λ k y q. x.0.reached k y (subst (λ ks. slice_get ks k ≡ Some y) e q)
         ];
       },
@@ -49,7 +49,7 @@ returns-clause-listed g c = on_ok c.number_places.result c.number_places.ensures
     let here = c.index-place.result.now in
     let keys = c.args.self.now.numbering.order.items in
     let keys' = c.number_places.new.numbering.order.items in
-    let items = priced g.F.Price.price (g.G.Graph.places c.args.self.now.graph.now here) in
+    let items = steps_at (g.G.Graph.places c.args.self.now.graph.now here) in
     let at : slice_get keys c.args.node ≡ Some here = at_place _ _ _ _ c.requires.inside (sym c.index-place.ensures) in
     let distinct = c.number_places.ensures.distinct c.requires.graph.1.0.distinct in (
       n.0,
@@ -60,7 +60,7 @@ returns-clause-listed g c = on_ok c.number_places.result c.number_places.ensures
           let reach = x.0.reached c.args.node here at in
           let l = slice_get_within c.args.self.now.numbering.numbers.items here _ (x.1.at c.args.node here at) in
           let inside : here < g.G.Graph.size c.args.self.now.graph.now = omega (arith, l, x.2) in
-          Lists-from nat_eq nat_eq_equiv g.K.Number.value h.graph (nat_alike h.graph.edges h.graph.starts) keys keys' c.args.node here n.0 items at reach n.2 (x.0.listed here inside) (λ i j z. StandsFor-one nat_eq nat_eq_equiv keys' distinct i j z) y s,
+          Lists-from nat_eq nat_eq_equiv (λ (n : ℕ). pos n) h.graph (nat_alike h.graph.edges h.graph.starts) keys keys' c.args.node here n.0 items at reach n.2 (x.0.listed here inside) (λ i j z. StandsFor-one nat_eq nat_eq_equiv keys' distinct i j z) y s,
     ))
 
 pub returns-clause-placed : goal.returns-clause-placed
@@ -68,14 +68,14 @@ returns-clause-placed g c = on_ok c.number_places.result c.number_places.ensures
     let here = c.index-place.result.now in
     let keys = c.args.self.now.numbering.order.items in
     let keys' = c.number_places.new.numbering.order.items in
-    let items = priced g.F.Price.price (g.G.Graph.places c.args.self.now.graph.now here) in
+    let items = steps_at (g.G.Graph.places c.args.self.now.graph.now here) in
     let at : slice_get keys c.args.node ≡ Some here = at_place _ _ _ _ c.requires.inside (sym c.index-place.ensures) in (
       n.0,
       n.1,
       λ h x y s.
           let l = slice_get_within c.args.self.now.numbering.numbers.items here _ (x.1.at c.args.node here at) in
           let inside : here < g.G.Graph.size c.args.self.now.graph.now = omega (arith, l, x.2) in
-          Placed-same nat_eq nat_eq_equiv keys' n.0 items _ n.2 (ends_at nat_eq nat_eq_equiv g.K.Number.value h.graph (nat_alike h.graph.edges h.graph.starts) keys c.args.node here items at (x.0.reached c.args.node here at) (x.0.listed here inside) y s),
+          Placed-same nat_eq nat_eq_equiv keys' n.0 items _ n.2 (ends_at nat_eq nat_eq_equiv (λ (n : ℕ). pos n) h.graph (nat_alike h.graph.edges h.graph.starts) keys c.args.node here items at (x.0.reached c.args.node here at) (x.0.listed here inside) y s),
     ))
 
 pub returns-clause-ordered : goal.returns-clause-ordered
@@ -83,8 +83,8 @@ returns-clause-ordered g c = on_ok c.number_places.result c.number_places.ensure
     let here = c.index-place.result.now in
     let keys = c.args.self.now.numbering.order.items in
     let keys' = c.number_places.new.numbering.order.items in
-    let items = priced g.F.Price.price (g.G.Graph.places c.args.self.now.graph.now here) in
+    let items = steps_at (g.G.Graph.places c.args.self.now.graph.now here) in
     let at : slice_get keys c.args.node ≡ Some here = at_place _ _ _ _ c.requires.inside (sym c.index-place.ensures) in
     let l = slice_get_within c.args.self.now.numbering.numbers.items here _ (x.1.at c.args.node here at) in
     let inside : here < g.G.Graph.size c.args.self.now.graph.now = omega (arith, l, x.2) in
-    InOrder-same nat_eq nat_eq_equiv keys' (length keys) (length keys') _ _ (ends_at nat_eq nat_eq_equiv g.K.Number.value h.graph (nat_alike h.graph.edges h.graph.starts) keys c.args.node here items at (x.0.reached c.args.node here at) (x.0.listed here inside) y s) n.4)
+    InOrder-same nat_eq nat_eq_equiv keys' (length keys) (length keys') _ _ (ends_at nat_eq nat_eq_equiv (λ (n : ℕ). pos n) h.graph (nat_alike h.graph.edges h.graph.starts) keys c.args.node here items at (x.0.reached c.args.node here at) (x.0.listed here inside) y s) n.4)

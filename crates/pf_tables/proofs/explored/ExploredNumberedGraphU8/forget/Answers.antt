@@ -3,7 +3,7 @@ use Rattle.std.proofs.lemmas.List.{length-take}
 use Rattle.pf_core.proofs.ListLemmas.{take_get}
 use Rattle.pf_core.proofs.NodeLemmas.{Grows-from_take}
 use Rattle.pf_tables.proofs.ExploreLemmas.{distinct_take}
-use Rattle.pf_tables.proofs.explored.ExploredNumberedGraph.forget.Goals as goal
+use Rattle.pf_tables.proofs.explored.ExploredNumberedGraphU8.forget.Goals as goal
 
 pub returns-clause-graph : goal.returns-clause-graph
 returns-clause-graph g c = λ h x. (
