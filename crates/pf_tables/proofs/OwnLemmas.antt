@@ -1,5 +1,5 @@
 -- Tables that are searched by their own numbers.
-use Rattle.std.proofs.Common.{◌≡◌, ◌<◌, ◌≤◌, ◌+◌, ℕ, zero, suc, ℤ, pos, List, [], ◌∷◌, length, Option, Some, None, Bool, true, inl, inr, refl, sym, ◌∙◌, ap, subst, map, nat_eq, arith, eq-eqb}
+use Rattle.std.proofs.Common.{◌≡◌, ◌<◌, ◌+◌, ℕ, zero, suc, ℤ, List, [], ◌∷◌, length, Option, Some, None, Bool, true, inl, inr, refl, sym, ◌∙◌, ap, subst, map, nat_eq, arith, eq-eqb}
 use Rattle.std.specs.Prelude.{◌↔◌, Contains, slice_get, Result, Ok, Err, IfOk, IfSome, MatchOption}
 use Rattle.std.specs.List.{AllZip}
 use Rattle.std.proofs.lemmas.Cmp.{nat_eq_equiv}

@@ -1,4 +1,4 @@
-use Rattle.std.proofs.Common.{rules, arith, [], ◌∷◌, ℕ, ℤ, pos, List, Option, Bool, ap, nat_eq}
+use Rattle.std.proofs.Common.{rules, arith, [], ◌∷◌, ℕ, ℤ, List, Option, Bool, ap, nat_eq}
 use Rattle.std.proofs.lemmas.Cmp.{nat_eq_equiv}
 use Rattle.pf_core.specs.Nodes.{TestedGraph}
 use Rattle.pf_core.specs.NodeLaws.{StandsFor-one}
