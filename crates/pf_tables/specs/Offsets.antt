@@ -21,7 +21,7 @@ module _ (offsets : List ℕ) where
   abbrev pub IsOffsetFault : ℕ → TableError → Type 0
   IsOffsetFault edges NoFirstOffset = (length offsets ≡ 0) ⊎ (slice_index offsets 0 ≢ 0)
   IsOffsetFault edges (FallingOffset node) = (slice_index offsets 0 ≡ 0) × (node + 1 < length offsets) × (slice_index offsets (node + 1) < slice_index offsets node) × IsRisingTo node
-  IsOffsetFault edges WrongLastOffset = (slice_index offsets 0 ≡ 0) × IsRisingTo (length offsets - 1) × (slice_index offsets (length offsets - 1) ≢ edges)
+  IsOffsetFault edges WrongLastOffset = (0 < length offsets) × (slice_index offsets 0 ≡ 0) × IsRisingTo (length offsets - 1) × (slice_index offsets (length offsets - 1) ≢ edges)
   IsOffsetFault edges _ = ⊥
 
 -- the row of each node is sound

@@ -25,8 +25,9 @@ impl<'e, N: Eq + Hash, C: Cost, A: Allocator> EdgeList<'e, N, C, A> {
     ///
     /// `OutOfMemory`: a request for memory was refused.
     ///
-    /// The algorithm is that of the function `bfs`, over the numbers of the names: two names are
-    /// looked up, and none is hashed or compared after that.
+    /// The algorithm is that of the function `bfs`, over the numbers of the names: `from` and `to` are
+    /// looked up, and no name is hashed or compared after that. Where `from` stands in no edge, it is
+    /// compared with `to`.
     pub fn bfs<'p, B>(
         &self,
         alloc: B,
