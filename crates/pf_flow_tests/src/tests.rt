@@ -1,3 +1,4 @@
+mod counted;
 mod names;
 mod plain;
 mod refusals;

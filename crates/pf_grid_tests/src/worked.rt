@@ -115,3 +115,26 @@ fn rows_of_a_matrix(rt: HostRuntime) -> Result<(), Fail> {
     assert!(rt; none.width() == 4 && none.height() == 0 && none.is_empty());
     Ok(())
 }
+
+#[test]
+fn printed_texts(rt: HostRuntime) -> Result<(), Fail> {
+    let alloc = rt.alloc();
+    let some = Grid::from_vertices(alloc, [(2, 1), (0, 0), (3, 1)])?;
+    let one = Grid::from_vertices(alloc, [(0, 2)])?;
+    for (grid, text) in [
+        (&some, "#...\n..##"),
+        (&one, ".\n.\n#"),
+        (&Grid::new(alloc, 2, 2)?, "..\n.."),
+        (&Grid::new(alloc, 3, 0)?, ""),
+        (&Grid::new(alloc, 0, 2)?, "\n"),
+    ] {
+        assert_eq!(rt; format!(in alloc; "{grid:?}")?.as_str(), text);
+    }
+    for (error, text) in [
+        (GridError::OutOfMemory, "out of memory"),
+        (GridError::TooLarge, "grid is too large"),
+    ] {
+        assert_eq!(rt; format!(in alloc; "{error}")?.as_str(), text);
+    }
+    Ok(())
+}

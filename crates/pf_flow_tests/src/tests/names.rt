@@ -12,7 +12,7 @@ type Wanted<'a> = Result<(&'a [Edge<u32, i64>], i64, &'a [Edge<u32, i64>]), Path
 type Row<'a> = (u32, u32, &'a [Edge<u32, i64>], Wanted<'a>);
 
 /// The vertices, of which one is listed twice.
-const PLACES: [u32; 5] = [40, 10, 40, 30, 20];
+pub const PLACES: [u32; 5] = [40, 10, 40, 30, 20];
 
 /// Whether this is the answer that is wanted.
 fn is_wanted(answer: Result<EKFlows<u32, i64>, PathError>, wanted: Wanted<'_>) -> bool {

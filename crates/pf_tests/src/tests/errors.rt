@@ -2,7 +2,7 @@
 
 use pathfinding::routes::RouteError;
 use pf_base::PathError;
-use pf_tables::TableError;
+use pf_tables::{EdgeListError, TableError};
 use std::alloc::Global;
 use std::fmt::Display;
 
@@ -60,6 +60,19 @@ fn refusals_of_tables_have_their_texts(rt: HostRuntime) {
         (
             TableError::NegativeCell { cell: 7 },
             "to enter cell 7 costs less than 0",
+        ),
+    ] {
+        assert!(rt; is_printed(rt.alloc(), &error, text), "{text}");
+    }
+}
+
+#[test]
+fn refusals_of_lists_of_edges_have_their_texts(rt: HostRuntime) {
+    for (error, text) in [
+        (EdgeListError::OutOfMemory, "out of memory"),
+        (
+            EdgeListError::NegativeCost { edge: 12 },
+            "edge 12 costs less than 0",
         ),
     ] {
         assert!(rt; is_printed(rt.alloc(), &error, text), "{text}");
