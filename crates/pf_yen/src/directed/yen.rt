@@ -203,10 +203,10 @@ where
 ///
 /// This call answers `OutOfMemory` where a request for memory was refused. A step is
 ///
-/// - `Err(CostOverflow)` only where a path from `start`, in which no node stands twice, and one step
-///   more, by the cheapest of the parallel edges, cost more than `C` can hold; before the first path
-///   was given, only where that path is also a cheapest one to its end and no node that passes is
-///   cheaper;
+/// - `Err(CostOverflow)` only where a path from `start`, in which no node stands twice and none passes
+///   `success`, and one step more, by the cheapest of the parallel edges, cost more than `C` can hold;
+///   before the first path was given, only where that path is also a cheapest one to its end and no
+///   node that passes is cheaper;
 /// - `Err(OutOfMemory)` where a request for memory was refused.
 ///
 /// A refused step loses no path; the walk then answers `None` until `resume` is called, and tries the
