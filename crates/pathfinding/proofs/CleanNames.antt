@@ -1,5 +1,7 @@
 -- One graph stands for another: then the names of clean paths are the clean paths of the other.
-use Rattle.std.proofs.Common.{◌≡◌, ℤ, Bool, List, [], ◌∷◌, map, sym, ◌∙◌, subst, inl, inr}
+use Rattle.std.proofs.Common.{◌≡◌, ℤ, Bool, false, List, [], ◌∷◌, map, sym, ◌∙◌, subst, inl, inr}
+use Rattle.std.specs.Prelude.{All}
+use Rattle.std.proofs.lemmas.List.Elements.{All-nil, All-cons, All-head, All-tail}
 use Rattle.pf_base.specs.Walks.{HasNode, NoRepeats, end_of}
 use Rattle.pf_base.specs.Edges.{StepCosts, WalkCosts}
 use Rattle.pf_base.specs.Answers.{SameNodes}
@@ -52,6 +54,11 @@ module _ {M N : Type 0} (eqM : M → M → Bool) (eqN : N → N → Bool) (name 
     end_alone_out [] all h = tt
     end_alone_out (a ∷ w) all h = fails_out a w all.0 all.1 h
 
+    -- where nodes fail the test, their names do
+    all_fail_in : (w : List M) → AllNodes known w → All (λ x. testM x ≡ false) w → All (λ x. testN x ≡ false) (map name w)
+    all_fail_in [] all h = All-nil (λ x. testN x ≡ false)
+    all_fail_in (a ∷ w) all h = All-cons (λ x. testN x ≡ false) (name a) (map name w) (sym (tests a all.0) ∙ All-head (λ x. testM x ≡ false) a w h) (all_fail_in w all.1 (All-tail (λ x. testM x ≡ false) a w h))
+
     pub clean_known : (path : List M) → CleanM path → AllNodes known path
     clean_known path c = goal_known eqM eqN name known edgesM edgesN n start ks testM testN tests path c.goes.goes
 
@@ -103,6 +110,7 @@ module _ {M N : Type 0} (eqM : M → M → Bool) (eqN : N → N → Bool) (name 
           begins = sym (n.same start p.first ks kf) ∙ p.begins;
           walks = follows_in eqM eqN name known edgesM edgesN n p.first p.rest kf all p.walks;
           distinct = repeats_in eqM eqN name known edgesM edgesN n (p.first ∷ p.rest) (kf, all) p.distinct;
+          fails = all_fail_in (p.first ∷ p.rest) (kf, all) p.fails;
           cost = p.cost;
           costs = clean_costs_in (p.first ∷ p.rest) p.cost (kf, all) p.costs;
           next = name p.next;

@@ -42,11 +42,11 @@ module _ (edges : List Edge) (from to : List ℕ) where
   abbrev pub HasEachPath : List (List (List ℕ) × ℕ) → Type 0
   HasEachPath paths = AllGiven bytes_eq (edges_from edges) from (λ name. bytes_eq name to) (λ cost. pos cost) paths
 
-  -- a path without a name twice and one step more cost 2^64 or more
+  -- a path without a name twice, and without the end, and one step more cost 2^64 or more
   abbrev pub HasPathOverflow : Type 0
   HasPathOverflow = IsPathPastRange bytes_eq (edges_from edges) from (λ name. bytes_eq name to) (FitsUnsignedBits 64)
 
-  -- Paths were asked for, and a path without a name twice and one step more cost 2^64 or more. Where one path was asked for, that path is a cheapest one, and no walk from one name to the other is cheaper.
+  -- Paths were asked for, and a path without a name twice, and without the end, and one step more cost 2^64 or more. Where one path was asked for, that path is a cheapest one, and no walk from one name to the other is cheaper.
   pub record HasRankedOverflow (count : ℕ) : Type 0 where
     pub asked : 0 < count
     pub past : HasPathOverflow

@@ -1,10 +1,11 @@
 -- From clean paths over numbers to clean paths over nodes, and back.
-use Rattle.std.proofs.Common.{◌≡◌, ℕ, ◌<◌, ◌≤◌, ◌∙◌, refl, sym, ap, subst, arith, inl, inr, Bool, true, List, [], ◌∷◌, length, ℤ, pos, nat_eq, Some}
-use Rattle.std.specs.Prelude.{◌⊎◌, ◌↔◌, ◌≤ℤ◌, ◌+ℤ◌}
+use Rattle.std.proofs.Common.{◌≡◌, ℕ, ◌<◌, ◌≤◌, ◌∙◌, refl, sym, ap, subst, arith, inl, inr, Bool, true, false, List, [], ◌∷◌, length, ℤ, pos, nat_eq, Some}
+use Rattle.std.specs.Prelude.{◌⊎◌, ◌↔◌, ◌≤ℤ◌, ◌+ℤ◌, All}
 use Rattle.std.specs.List.{AllZip}
 use Rattle.std.specs.Cmp.{IsEquivalence}
 use borrow.Author.Tests.{eqb-true}
 use Rattle.std.proofs.lemmas.Int.{ints}
+use Rattle.std.proofs.lemmas.List.Elements.{All-nil, All-cons}
 use Rattle.pf_base.specs.Walks.{HasNode, NoRepeats, BeginsAt, EndsAt, end_of}
 use Rattle.pf_base.specs.Edges.{StepCosts, StepsCost, WalkCosts, InReach, IsPastRange}
 use Rattle.pf_base.specs.Answers.{ListsEdges, SameNodes}
@@ -90,6 +91,11 @@ module _ {N : Type 0} (eq : N → N → Bool) (laws : IsEquivalence eq) (keys : 
       live_of_goes : (w : List N) (x : N) (u : ℤ) → FailsBeforeEnd test x w → GoesAlong Step x w u → GoesAlong Live x w u
       live_of_goes [] x u f h = h
       live_of_goes (y ∷ w) x u f h = (h.0, h.1, (h.2, f.0), live_of_goes w y h.1 f.1 h.3, h.4)
+
+      -- where the nodes before the end fail the test, and the end does, each does
+      all_fail : (w : List N) (x : N) → FailsBeforeEnd test x w → test (end_of x w) ≡ false → All (λ z. test z ≡ false) (x ∷ w)
+      all_fail [] x f e = All-cons (λ z. test z ≡ false) x [] e (All-nil (λ z. test z ≡ false))
+      all_fail (y ∷ w) x f e = All-cons (λ z. test z ≡ false) x (y ∷ w) f.0 (all_fail w y f.1 e)
 
       goes_of_costs : (w : List N) (a : N) (u : ℤ) → InReach eq edges (start ∷ []) a → StepsCost eq edges a w u → GoesAlong Step a w u
       goes_of_costs [] a u r h = h
@@ -284,6 +290,14 @@ module _ {N : Type 0} (eq : N → N → Bool) (laws : IsEquivalence eq) (keys : 
               let s = c.1 in
               (n.0, c.0, s, d.too_dear c.0 (l.complete c.0 n.0 d.next ((n.1.0.0, s.edge), n.1.1) n.2))
 
+          -- some step leads on from the end, so it is no goal
+          past_fails : All (λ z. test z ≡ false) (start ∷ nodes.0)
+          past_fails =
+              let t = d.edge in
+              let l = here in
+              let n = l.sound d.next t.0 t.1 in
+              all_fail nodes.0 start (fails_of_live nodes.0 start d.cost live) n.1.1
+
           past_distinct : NoRepeats eq (start ∷ nodes.0)
           past_distinct = distinct_nodes eq laws keys one (0 ∷ d.rest) (start ∷ nodes.0) (origin, nodes.1) d.distinct
 
@@ -294,6 +308,7 @@ module _ {N : Type 0} (eq : N → N → Bool) (laws : IsEquivalence eq) (keys : 
             begins = laws.refl start;
             walks = walk_of_goes eq laws graph alike nodes.0 start d.cost (goes_of_live nodes.0 start d.cost live);
             distinct = past_distinct;
+            fails = past_fails;
             cost = d.cost;
             costs = past_costs;
             next = s.0;

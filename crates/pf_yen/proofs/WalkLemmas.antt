@@ -1,11 +1,12 @@
 -- What a walk over paths keeps in each part of a step, and what it gives.
-use Rattle.std.proofs.Common.{◌≡◌, ℕ, zero, suc, ◌<◌, ◌≤◌, refl, sym, ap, subst, arith, inl, inr, Bool, true, false, List, [], ◌∷◌, ◌++◌, length, map, ℤ, Option, Some, None, Bor}
-use Rattle.std.specs.Prelude.{◌⊎◌, Contains, Vec, Result, Ok, Err, OnOk, OnErr, IfErr, IfSome, MatchBool}
-use Rattle.std.specs.Result.{IsErrAnd, is_err, result_transpose}
+use Rattle.std.proofs.Common.{◌≡◌, ℕ, zero, suc, ◌<◌, ◌≤◌, refl, sym, ap, subst, arith, inl, inr, Bool, true, false, List, [], ◌∷◌, ◌++◌, length, map, ℤ, pos, Option, Some, None, Bor}
+use Rattle.std.specs.Prelude.{◌⊎◌, ◌+ℤ◌, Contains, Vec, Result, Ok, Err, OnOk, OnErr, IfErr, IfSome, MatchBool}
+use Rattle.std.specs.Result.{IsErrAnd, IsOkAnd, is_err, result_transpose}
 use Rattle.std.specs.List.{AllZip}
 use Rattle.std.specs.Cmp.{IsEquivalence}
 use Rattle.std.specs.Fn.{Mut}
 use Rattle.std.specs.Iterator.{Count}
+use Rattle.std.proofs.lemmas.Int.{ints}
 use Rattle.pf_base.specs.declared.error.PathError.{PathError}
 use Rattle.pf_core.specs.Numbered.{Grows}
 use Rattle.pf_core.specs.Steps.{GoesAlong, IsNonNegative, IsTooDear}
@@ -17,9 +18,9 @@ use Rattle.pf_yen.specs.Known.{KnownGraph, row_of, KnownStep, is_goal, IsWhole}
 use Rattle.pf_yen.specs.Narrow.{StandsForItself}
 use Rattle.pf_yen.specs.Learned.{IsLearned}
 use Rattle.pf_yen.specs.Classes.{Plan, IsCleanNumbers, IsPartition, IsPastAlong}
-use Rattle.pf_yen.specs.Plans.{as_list, last_given, IsFirst, GoesOn}
+use Rattle.pf_yen.specs.Plans.{as_list, last_given, NoneBelow, IsFirst, GoesOn}
 use Rattle.pf_yen.specs.CleanPaths.{AllGiven, IsNextPath, RefusedFor}
-use Rattle.pf_yen.specs.Walk.{PathWalk, IsPathWalk, IsPlanned, IsUnderWay, PathTurn, PathStep, Searches}
+use Rattle.pf_yen.specs.Walk.{PathWalk, IsPathWalk, IsPlanned, IsUnderWay, IsEnded, PathTurn, PathStep, Searches}
 use Rattle.pf_yen.proofs.NarrowLemmas.{in_none}
 use Rattle.pf_yen.proofs.LearnLemmas.{learned_whole}
 use Rattle.pf_yen.proofs.SplitLemmas.{past_first}
@@ -59,6 +60,28 @@ pub first_alone : {X : Type 0} (stands : ℕ → X → Type 0) (found : ℕ) →
 first_alone stands found e s zero h = s
 first_alone stands found e s (suc a) h = absurd (omega (arith, e, h))
 
+-- no plan is left where none costs less than any number
+no_plan : {C : Type 0} (value : C → ℤ) (plans : List (Plan C)) → ((t : ℤ) → NoneBelow value t plans) → plans ≡ []
+no_plan value [] h = refl
+no_plan value (c ∷ plans) h = let low = h (value c.cost +ℤ pos 1) c (Contains-head plans c) in absurd (omega (arith, ints, low))
+
+none_listed : {X : Type 0} (o : Option X) (xs : List X) → as_list o ++ xs ≡ [] → (o ≡ None) × (xs ≡ [])
+none_listed None xs e = (refl, e)
+none_listed (Some x) xs e = cc
+
+-- where the walk is at its end, the choice of a plan is not refused, and the walk stays there
+pub still_ended : {N C F S U : Type 0} (value : C → ℤ) (s : PathWalk N C F S) (r : Result U PathError) (begun : Bool) (waiting : List (Plan C)) (chosen : Option (Plan C)) (gone : Bool) → IsEnded s → OnOk r ((begun ≡ true) × (gone ≡ false))
+    → OnOk r (s.has_begun ≡ true → GoesOn value s.known (as_list s.chosen ++ s.waiting) (as_list chosen ++ waiting) (last_given s.is_given s.chosen)) → OnErr r (s.has_begun ≡ true → ¬ (last_given s.is_given s.chosen ≡ []))
+    → IsOkAnd r (λ _. IsEnded (record s { has_begun = begun; waiting = waiting; chosen = chosen; is_given = gone }))
+still_ended value s (Ok x) begun waiting chosen gone e b on due =
+    let q = on e.0 in
+    let empty : (t : ℤ) → NoneBelow value t (as_list s.chosen ++ s.waiting) = λ t. rw (e.2, e.3) (λ d i. absurd (in_none d i)) in
+    let none = none_listed chosen waiting (no_plan value (as_list chosen ++ waiting) (λ t. q.dearer t (empty t))) in
+    (b.0, b.1, none.0, none.1)
+still_ended value s (Err x) begun waiting chosen gone e b on due =
+    let none : last_given s.is_given s.chosen ≡ [] = rw e.1 refl in
+    due e.0 none
+
 -- what a caller sees of these parts
 abbrev pub seen : {N C F S : Type 0} → List (List N × C) → Bool → F → S → List N → KnownGraph C → Bool → List (Plan C) → Option (Plan C) → Bool → PathWalk N C F S
 seen given refused successors success nodes known has_begun waiting chosen is_given = record { given = given; refused = refused; successors = successors; success = success; nodes = nodes; known = known; has_begun = has_begun; waiting = waiting; chosen = chosen; is_given = is_given }
@@ -82,8 +105,8 @@ module _ {N C F S I J : Type 0} (eq : N → N → Bool) (laws : IsEquivalence eq
   pub step_of : {A : Type 0} (fits : ℤ → Type 0) (s t : PathWalk N C F S) (r : Result (Option (Vec N A × C)) PathError) → s.refused ≡ false → IsOne t × PathTurn eq value edges start test fits s r t
       → IsOne (record t { refused = is_err r }) × PathStep eq value edges start test fits s (result_transpose r) (record t { refused = is_err r })
   step_of fits s t (Ok (Some x)) h (w, q) = (marked t false w, (h, refl, q.0, q.1))
-  step_of fits s t (Ok None) h (w, q) = (marked t false w, (inr q.0, sym h, q.1))
-  step_of fits s t (Err x) h (w, q) = (marked t true w, (h, refl, q.0, q.1))
+  step_of fits s t (Ok None) h (w, q) = (marked t false w, (inr (q.0, q.2), sym h, q.1))
+  step_of fits s t (Err x) h (w, q) = (marked t true w, (h, refl, q.0, q.1, q.2))
 
   module _ (s : PathWalk N C F S) (w : IsOne s) where
     one : (i j : ℕ) (x : N) → StandsFor eq s.nodes i x → StandsFor eq s.nodes j x → i ≡ j
@@ -229,12 +252,12 @@ module _ {N C F S I J : Type 0} (eq : N → N → Bool) (laws : IsEquivalence eq
 
 module _ {N C F S A : Type 0} (value : C → ℤ) (edges : N → List (N × ℤ)) (start : N) (test : N → Bool) (eq : N → N → Bool) (fits : ℤ → Type 0) where
   -- a step was refused, for this
-  pub turn_refused : (s t : PathWalk N C F S) (r : Result (Option (Vec N A × C)) PathError) (refusal : PathError) → IsErrAnd r (λ e. e ≡ refusal) → RefusedFor eq edges start test value fits s.given refusal → t.given ≡ s.given → PathTurn eq value edges start test fits s r t
-  turn_refused s t (Ok x) refusal e f same = absurd e
-  turn_refused s t (Err x) refusal e f same = (subst (λ (y : PathError). RefusedFor eq edges start test value fits s.given y) (sym e) f, same)
+  pub turn_refused : (s t : PathWalk N C F S) (r : Result (Option (Vec N A × C)) PathError) (refusal : PathError) → IsErrAnd r (λ e. e ≡ refusal) → RefusedFor eq edges start test value fits s.given refusal → t.given ≡ s.given → ¬ (IsEnded s) → PathTurn eq value edges start test fits s r t
+  turn_refused s t (Ok x) refusal e f same more = absurd e
+  turn_refused s t (Err x) refusal e f same more = (subst (λ (y : PathError). RefusedFor eq edges start test value fits s.given y) (sym e) f, same, more)
 
-  -- what a step gives rests on the given paths alone
-  pub turn_same : (s u t : PathWalk N C F S) (r : Result (Option (Vec N A × C)) PathError) → u.given ≡ s.given → PathTurn eq value edges start test fits u r t → PathTurn eq value edges start test fits s r t
-  turn_same s u t (Ok (Some x)) e q = subst (λ (v : List (List N × C)). IsNextPath eq edges start test value v x.0.items x.1 × (t.given ≡ v ++ (x.0.items, x.1) ∷ [])) e q
-  turn_same s u t (Ok None) e q = subst (λ (v : List (List N × C)). AllGiven eq edges start test value v × (t.given ≡ v)) e q
-  turn_same s u t (Err x) e q = subst (λ (v : List (List N × C)). RefusedFor eq edges start test value fits v x × (t.given ≡ v)) e q
+  -- what a step gives rests on the given paths alone, and on whether the walk is at its end
+  pub turn_same : (s u t : PathWalk N C F S) (r : Result (Option (Vec N A × C)) PathError) → u.given ≡ s.given → (IsEnded s → IsEnded u) → PathTurn eq value edges start test fits u r t → PathTurn eq value edges start test fits s r t
+  turn_same s u t (Ok (Some x)) e ends q = subst (λ (v : List (List N × C)). IsNextPath eq edges start test value v x.0.items x.1 × (t.given ≡ v ++ (x.0.items, x.1) ∷ [])) e q
+  turn_same s u t (Ok None) e ends q = subst (λ (v : List (List N × C)). AllGiven eq edges start test value v × (t.given ≡ v) × IsEnded t) e q
+  turn_same s u t (Err x) e ends q = let p = subst (λ (v : List (List N × C)). RefusedFor eq edges start test value fits v x × (t.given ≡ v)) e (q.0, q.1) in (p.0, p.1, λ h. q.2 (ends h))

@@ -1,5 +1,5 @@
 -- Clean paths: paths from the start that meet a node that passes the test at their end alone.
-use Rattle.std.specs.Prelude.{◌≡◌, ◌⊎◌, ◌≤ℤ◌, ◌+ℤ◌, ℤ, Bool, true, false, List, [], ◌∷◌, Contains, ⊤}
+use Rattle.std.specs.Prelude.{◌≡◌, ◌⊎◌, ◌≤ℤ◌, ◌+ℤ◌, ℤ, Bool, true, false, List, [], ◌∷◌, All, Contains, ⊤}
 use Rattle.pf_base.specs.declared.error.PathError.{PathError}
 use Rattle.pf_base.specs.Walks.{IsGoalPath, NoRepeats, IsWalk, end_of}
 use Rattle.pf_base.specs.Edges.{IsSuccessor, StepCosts, WalkCosts, IsPastRange}
@@ -21,13 +21,14 @@ module _ {N : Type 0} (eq : N → N → Bool) (edges : N → List (N × ℤ)) (s
     pub goes : IsGoalPath eq (IsSuccessor eq edges) (start ∷ []) test path
     pub fails : PassesAtEndAlone test path
 
-  -- A path from the start, in which no node stands twice, and one step more, by the cheapest of the parallel edges, cost more than fits.
+  -- A path from the start, in which no node stands twice and none passes the test, and one step more, by the cheapest of the parallel edges, cost more than fits.
   pub record IsPathPastRange (fits : ℤ → Type 0) : Type 0 where
     pub first : N
     pub rest : List N
     pub begins : eq start first ≡ true
     pub walks : IsWalk (IsSuccessor eq edges) (first ∷ rest)
     pub distinct : NoRepeats eq (first ∷ rest)
+    pub fails : All (λ x. test x ≡ false) (first ∷ rest)
     pub cost : ℤ
     pub costs : WalkCosts eq edges (first ∷ rest) cost
     pub next : N

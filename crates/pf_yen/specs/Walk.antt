@@ -45,6 +45,10 @@ pub record IsPlanned {N C : Type 0} (eq : N → N → Bool) (value : C → ℤ) 
   pub rising : (g : List N × C) (c : Plan C) → Contains given g → Contains (as_list chosen ++ waiting) c → value g.1 ≤ℤ value c.cost
   pub first : IsFirst value is_given chosen waiting
 
+-- the walk is at its end: a path was looked for, and no plan is left
+abbrev pub IsEnded : {N C F S : Type 0} → PathWalk N C F S → Type 0
+IsEnded walk = (walk.has_begun ≡ true) × (walk.is_given ≡ false) × (walk.chosen ≡ None) × (walk.waiting ≡ [])
+
 module _ {N C F S : Type 0} (eq : N → N → Bool) (value : C → ℤ) (edges : N → List (N × ℤ)) (start : N) (test : N → Bool) where
   -- whether all is planned, or nothing was begun
   abbrev pub IsUnderWay : PathWalk N C F S → Bool → Type 0
@@ -60,20 +64,20 @@ module _ {N C F S : Type 0} (eq : N → N → Bool) (value : C → ℤ) (edges :
     pub under_way : IsUnderWay walk walk.has_begun
 
   module _ {A : Type 0} (fits : ℤ → Type 0) where
-    -- what a step of a walk that was not refused before gives, and how it leaves the walk: a path, no path, or a refusal
+    -- what a step of a walk that was not refused before gives, and how it leaves the walk: a path; no path, at the end; or a refusal, before the end
     abbrev pub PathTurn : PathWalk N C F S → Result (Option (Vec N A × C)) PathError → PathWalk N C F S → Type 0
     PathTurn walk (Ok (Some item)) after = IsNextPath eq edges start test value walk.given item.0.items item.1 × (after.given ≡ walk.given ++ (item.0.items, item.1) ∷ [])
-    PathTurn walk (Ok None) after = AllGiven eq edges start test value walk.given × (after.given ≡ walk.given)
-    PathTurn walk (Err refusal) after = RefusedFor eq edges start test value fits walk.given refusal × (after.given ≡ walk.given)
+    PathTurn walk (Ok None) after = AllGiven eq edges start test value walk.given × (after.given ≡ walk.given) × IsEnded after
+    PathTurn walk (Err refusal) after = RefusedFor eq edges start test value fits walk.given refusal × (after.given ≡ walk.given) × ¬ (IsEnded walk)
 
     -- What a call of `next` gives, and how it leaves the walk.
     -- a path: the next by rising cost, which is the last of the given ones from then on
-    -- no path: the last step was refused, or each clean path was given
-    -- a refusal: the given paths stay
+    -- no path: the last step was refused, or each clean path was given and the walk is at its end
+    -- a refusal, of which a walk at its end knows none: the given paths stay
     abbrev pub PathStep : PathWalk N C F S → Option (Result (Vec N A × C) PathError) → PathWalk N C F S → Type 0
     PathStep walk (Some (Ok item)) after = (walk.refused ≡ false) × (after.refused ≡ false) × IsNextPath eq edges start test value walk.given item.0.items item.1 × (after.given ≡ walk.given ++ (item.0.items, item.1) ∷ [])
-    PathStep walk None after = ((walk.refused ≡ true) ⊎ AllGiven eq edges start test value walk.given) × (after.refused ≡ walk.refused) × (after.given ≡ walk.given)
-    PathStep walk (Some (Err refusal)) after = (walk.refused ≡ false) × (after.refused ≡ true) × RefusedFor eq edges start test value fits walk.given refusal × (after.given ≡ walk.given)
+    PathStep walk None after = ((walk.refused ≡ true) ⊎ (AllGiven eq edges start test value walk.given × IsEnded after)) × (after.refused ≡ walk.refused) × (after.given ≡ walk.given)
+    PathStep walk (Some (Err refusal)) after = (walk.refused ≡ false) × (after.refused ≡ true) × RefusedFor eq edges start test value fits walk.given refusal × (after.given ≡ walk.given) × ¬ (IsEnded walk)
 
 module _ {N C F S I J : Type 0} (eq : N → N → Bool) (value : C → ℤ) (becomes : I → J → Type 0) (can : J → Type 0) (left : J → Count) (next : J → Option (N × C) → J → Type 0) (calls : Mut F (Bor N × Unit {0}) I) (tests : Mut S (Bor N × Unit {0}) Bool) where
   -- the functions answer this graph and its test at each node in reach, now and after any calls

@@ -1,11 +1,11 @@
 //! The cheapest paths to goals, one after the other (Yen 1971, Lawler 1972).
 
-ghost use Rattle.std.specs.Prelude.{◌≡◌, ◌≤◌, List, ℤ, Bool, true, false, None, [], ◌∷◌, length, OnOk, OnErr, IfOk, IfErr};
+ghost use Rattle.std.specs.Prelude.{◌≡◌, ◌≤◌, List, ℤ, Bool, true, false, None, [], ◌∷◌, length, OnOk, OnErr, IfOk, IfErr, IsOkAnd};
 ghost use Rattle.std.specs.Iterator.{MakesProgress};
 ghost use Rattle.pf_base.specs.Answers.{IsLawfulClone};
 ghost use Rattle.pf_base.specs.Edges.{IsWeightedSearch};
 ghost use Rattle.pf_yen.specs.CleanPaths.{RefusedFor};
-ghost use Rattle.pf_yen.specs.Walk.{IsPathWalk, PathTurn, PathStep, Searches};
+ghost use Rattle.pf_yen.specs.Walk.{IsPathWalk, IsEnded, PathTurn, PathStep, Searches};
 
 pub use crate::directed::k_cheapest::yen;
 use crate::given::Given;
@@ -121,6 +121,7 @@ where
         ensures known { (edges : N → List (N × ℤ)) (start : N) (test : N → Bool)
             → IsPathWalk N.eq C.value edges start test (Searches N.eq C.value IN.into_iter_gives IN.IntoIter.can_next IN.IntoIter.remaining IN.IntoIter.next_gives FN.FnMut FS.FnMut) self.old
             → OnOk result (length self.new.nodes ≤ length self.new.known.rows) }
+        ensures ended { IsEnded self.old → IsOkAnd result (λ _. IsEnded self.new) }
         ensures given { self.new.given ≡ self.old.given }
         ensures same { self.new.refused ≡ self.old.refused }
         ensures refused { IfErr result (λ e. e ≡ PathError.OutOfMemory) }
@@ -143,6 +144,7 @@ where
         ensures same { self.new.refused ≡ self.old.refused }
         ensures begun { OnOk result ((self.new.has_begun ≡ true) × (self.new.is_given ≡ false)) }
         ensures none { OnOk result (self.new.chosen ≡ None → self.new.waiting ≡ []) }
+        ensures ended { IsEnded self.old → IsOkAnd result (λ _. IsEnded self.new) }
         ensures refused { (edges : N → List (N × ℤ)) (start : N) (test : N → Bool)
             → IsPathWalk N.eq C.value edges start test (Searches N.eq C.value IN.into_iter_gives IN.IntoIter.can_next IN.IntoIter.remaining IN.IntoIter.next_gives FN.FnMut FS.FnMut) self.old
             → IfErr result (RefusedFor N.eq edges start test C.value C.fits self.old.given) }
@@ -190,8 +192,9 @@ where
 
 /// The clean paths of `start`, lazily, by rising cost: paths from `start` that contain no node twice
 /// and meet a node that passes `success` at their end alone, each once, as clones of nodes, with its
-/// cost. After any number of paths, no clean path that was not given costs less than one that was;
-/// `None` comes exactly when all were given. In which order paths of one cost come is open.
+/// cost. After any number of paths, no clean path that was not given costs less than one that was.
+/// Where no step was refused, `None` comes only when all were given, and for good: no path and no
+/// refusal comes after it. In which order paths of one cost come is open.
 ///
 /// `successors` lists the edges of a node, each as the node that it leads to and its cost; where
 /// several edges lead to one node, a step costs what the cheapest of them costs. It must answer alike
@@ -203,10 +206,10 @@ where
 ///
 /// This call answers `OutOfMemory` where a request for memory was refused. A step is
 ///
-/// - `Err(CostOverflow)` only where a path from `start`, in which no node stands twice, and one step
-///   more, by the cheapest of the parallel edges, cost more than `C` can hold; before the first path
-///   was given, only where that path is also a cheapest one to its end and no node that passes is
-///   cheaper;
+/// - `Err(CostOverflow)` only where a path from `start`, in which no node stands twice and none passes
+///   `success`, and one step more, by the cheapest of the parallel edges, cost more than `C` can hold;
+///   before the first path was given, only where that path is also a cheapest one to its end and no
+///   node that passes is cheaper;
 /// - `Err(OutOfMemory)` where a request for memory was refused.
 ///
 /// A refused step loses no path; the walk then answers `None` until `resume` is called, and tries the

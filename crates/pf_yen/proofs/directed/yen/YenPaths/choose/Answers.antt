@@ -1,7 +1,7 @@
 use Rattle.std.specs.BinaryHeap.{heap_items}
 use Rattle.pf_yen.specs.Plans.{waiting_plans, chosen_plan}
 use Rattle.pf_yen.specs.Classes.{plan_of}
-use Rattle.pf_yen.proofs.WalkLemmas.{seen, whole, some_known, some_partition, fresh_plans, map_none, chose, refused_for}
+use Rattle.pf_yen.proofs.WalkLemmas.{seen, whole, some_known, some_partition, fresh_plans, map_none, chose, still_ended, refused_for}
 use Rattle.pf_yen.proofs.directed.yen.YenPaths.choose.Goals as goal
 
 pub choose-requires-clause-whole : goal.choose-requires-clause-whole
@@ -37,6 +37,15 @@ returns-clause-walk g c = λ edges start test w.
     let e = c.choose.ensures in
     let p = c.choose.new.self in
     chose g.N.PartialEq.eq g.met.N.Eq.laws g.C.Number.value _ _ _ _ _ _ edges start test s v (rw (← c.self.view_is) at c.requires.known) c.choose.result p.has_begun (waiting_plans (heap_items p.waiting)) (chosen_plan p.chosen) p.is_given e.begun e.first e.goes_on e.begins e.kept
+
+pub returns-clause-ended : goal.returns-clause-ended
+returns-clause-ended g c = λ w.
+    let i = c.self.inside in
+    let v = rw (← c.self.view_is) at w in
+    let s = seen i.given i.refused i.graph.discovery.successors i.graph.success i.graph.discovery.nodes.keys i.known i.plans.has_begun (waiting_plans (heap_items i.plans.waiting)) (chosen_plan i.plans.chosen) i.plans.is_given in
+    let e = c.choose.ensures in
+    let p = c.choose.new.self in
+    still_ended g.C.Number.value s c.choose.result p.has_begun (waiting_plans (heap_items p.waiting)) (chosen_plan p.chosen) p.is_given v e.begun e.goes_on e.due
 
 pub returns-clause-refused : goal.returns-clause-refused
 returns-clause-refused g c = λ edges start test w.

@@ -15,7 +15,7 @@ returns-in_default-clause-steps g c = λ edges start test w.
     let n = rw (← c.self.view_is) at c.requires.none in
     let e : i.plans.chosen ≡ None = search rules in
     let f = ap (λ (o : Option (Candidate g.row.C.Denot g.row.A.Denot)). chosen_plan o) e in
-    rw (← c.self.view_is) (v, (none_left g.N.PartialEq.eq g.met.N.Eq.laws g.C.Number.value _ _ _ _ _ _ edges start test s v r.0 r.1 f (n f), refl))
+    rw (← c.self.view_is) (v, (none_left g.N.PartialEq.eq g.met.N.Eq.laws g.C.Number.value _ _ _ _ _ _ edges start test s v r.0 r.1 f (n f), refl, (r.0, r.1, f, n f)))
 
 pub nodes_at-requires-clause-inside : goal.nodes_at-requires-clause-inside
 nodes_at-requires-clause-inside g c =

@@ -8,11 +8,11 @@ returns-in_err-choose-clause-steps g c = λ edges start test w.
     let e = c.in_err-choose.ensures in
     let v = l.walk edges start test w in
     let why = rw l.given at (e.refused edges start test v) in
-    (e.walk edges start test v, turn_refused g.C.Number.value edges start test g.N.PartialEq.eq g.C.Number.fits c.args.self.now c.choose.new.self c.from_residual-in_err-choose.result c.in_err-choose.field-0.0 c.from_residual-in_err-choose.ensures.1 why (e.given ∙ l.given))
+    (e.walk edges start test v, turn_refused g.C.Number.value edges start test g.N.PartialEq.eq g.C.Number.fits c.args.self.now c.choose.new.self c.from_residual-in_err-choose.result c.in_err-choose.field-0.0 c.from_residual-in_err-choose.ensures.1 why (e.given ∙ l.given) (λ h. e.ended (l.ended h)))
 
 pub returns-clause-steps : goal.returns-clause-steps
 returns-clause-steps g c = λ edges start test w.
     let l = c.in_ok-learn_graph.ensures in
     let e = c.in_ok-choose.ensures in
     let q = c.give.ensures.steps edges start test (e.walk edges start test (l.walk edges start test w)) in
-    (q.0, turn_same g.C.Number.value edges start test g.N.PartialEq.eq g.C.Number.fits c.args.self.now c.choose.new.self c.give.new.self c.give.result (e.given ∙ l.given) q.1)
+    (q.0, turn_same g.C.Number.value edges start test g.N.PartialEq.eq g.C.Number.fits c.args.self.now c.choose.new.self c.give.new.self c.give.result (e.given ∙ l.given) (λ h. e.ended (l.ended h)) q.1)
