@@ -7,6 +7,23 @@ use Rattle.pf_core.proofs.LabelLemmas.{HasLabel-inside}
 use Rattle.pf_search.proofs.directed.cheapest_first.item_at.Goals.{in-Some+in_ok-clone-in-Some, in-None}
 use Rattle.pf_search.proofs.directed.cheapest_first.item_at.Goals as goal
 
+pub label_of-label-requires : goal.label_of-label-requires
+label_of-label-requires g c = c.requires.labelled
+
+pub bounds-nodes-parent : goal.bounds-nodes-parent
+bounds-nodes-parent g c =
+    let l = c.requires.labelled.0 in
+    let at = c.requires.labelled.1 in
+    let slot : slice_get c.args.labels.now.items c.args.number ≡ Some c.index.result.now = at_place _ _ _ _ (HasLabel-inside c.args.labels.now.items c.args.number l at) (sym c.index.ensures) in
+    let both : Some c.index.result.now ≡ Some (Some l) = sym slot ∙ at in
+    let told : c.index.result.now ≡ Some l = cc in
+    let q = c.in-Some.ensures in
+    let e : Some q.0 ≡ Some l = sym q.1 ∙ told in
+    let same : q.0 ≡ l = cc in
+    let before : l.parent ≡ c.in-Some.parent = sym (ap (λ (n : Label g.row.C.Denot). n.parent) same) ∙ q.2 in
+    let deep : 0 < l.depth = subst (λ (n : Label g.row.C.Denot). 0 < n.depth) same q.3 in
+    omega (arith, before, c.requires.behind l at deep)
+
 pub returns-clause-item : goal.returns-clause-item
 returns-clause-item g c =
     let eq = g.N.PartialEq.eq in
