@@ -92,10 +92,10 @@ impl<A: Allocator + Copy> Grid<A> {
             grid.around(*position)
                 .filter(move |neighbour| is_taken(passing, *neighbour))
         });
-        let Ok(walk) = walk else {
+        let Ok(mut walk) = walk else {
             return Err(GridError::OutOfMemory);
         };
-        gather_breadth(alloc, walk, self.size())
+        gather_breadth(alloc, &mut walk, self.size())
     }
 }
 
@@ -139,7 +139,7 @@ where
 /// All positions of a walk in breadth order, of which there are at most `places` and one more.
 fn gather_breadth<IN, FN, A>(
     alloc: A,
-    mut walk: BfsReachable<(usize, usize), IN, FN, A>,
+    walk: &mut BfsReachable<(usize, usize), IN, FN, A>,
     places: usize,
 ) -> Result<BTreeSet<(usize, usize), A>, GridError>
 where
@@ -147,18 +147,18 @@ where
     FN: FnMut(&(usize, usize)) -> IN,
     A: Allocator + Copy,
     requires walk { (next : ℕ × ℕ → List (ℕ × ℕ)) × (start : ℕ × ℕ)
-        × IsBreadthWalk same_position (⟦<FN as SuccessorFunction<(usize, usize)>>⟧.answers) next start walk
+        × IsBreadthWalk same_position (⟦<FN as SuccessorFunction<(usize, usize)>>⟧.answers) next start walk.old
         × IsWithinPlaces next start places }
-    requires fresh { walk.given ≡ [] }
-    requires going { walk.refused ≡ false }
+    requires fresh { walk.old.given ≡ [] }
+    requires going { walk.old.refused ≡ false }
     ensures reached { (next : ℕ × ℕ → List (ℕ × ℕ)) (start : ℕ × ℕ)
-        → IsBreadthWalk same_position (⟦<FN as SuccessorFunction<(usize, usize)>>⟧.answers) next start walk
+        → IsBreadthWalk same_position (⟦<FN as SuccessorFunction<(usize, usize)>>⟧.answers) next start walk.old
         → IfOk result (HasReached next start) }
     ensures refused { IfErr result (λ e. e ≡ OutOfMemory) }
 {
     breadth_order_is_reach(PhantomData::<(usize, usize)>);
     let mut reached = Vec::new(alloc);
-    'steps: while let Some(position) = next_position(&mut walk)? {
+    'steps: while let Some(position) = next_position(walk)? {
         reached.push(position)?;
     }
     Ok(set_of(alloc, &reached)?)

@@ -30,8 +30,13 @@ gather_breadth-requires g c =
     }
 
 pub returns-clause-reached : goal.returns-clause-reached
-unfolding gather_breadth-requires
 returns-clause-reached g c =
-    let r = gather_breadth-requires g c.before in
-    MatchResult-weaker c.gather_breadth.result (c.gather_breadth.ensures.reached r.walk.0 r.walk.1 r.walk.2)
+    let m = c.args.passing.now in
+    let grid = c.args.self.now in
+    let passes = answer_at m.rows m.columns m.values in
+    let next = passing_around grid passes in
+    let walks = c.in-Ok.ensures.graph next
+    (filtered_successors (λ ps. ⊤) (item_count (λ ps. ps)) passes (λ p. neighbours_of grid p) (λ ps. (tt, tt)) (λ x. tt)
+    (λ x r t k. (search rules, search rules, (λ y. tt), (λ y b q l. (search rules, search rules))))) in
+    MatchResult-weaker c.gather_breadth.result (c.gather_breadth.ensures.reached next c.args.start walks)
     (λ reached h. record { exactly = h }) (λ e t. tt)
