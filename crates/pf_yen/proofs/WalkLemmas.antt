@@ -1,6 +1,6 @@
 -- What a walk over paths keeps in each part of a step, and what it gives.
-use Rattle.std.proofs.Common.{◌≡◌, ℕ, zero, suc, ◌<◌, ◌≤◌, refl, sym, ap, subst, arith, inl, inr, Bool, true, false, List, [], ◌∷◌, ◌++◌, length, map, ℤ, pos, Option, Some, None, Bor}
-use Rattle.std.specs.Prelude.{◌⊎◌, ◌+ℤ◌, Contains, Vec, Result, Ok, Err, OnOk, OnErr, IfErr, IfSome, MatchBool}
+use Rattle.std.proofs.Common.{◌≡◌, ◌∙◌, ℕ, zero, suc, ◌<◌, ◌≤◌, refl, sym, ap, subst, arith, inl, inr, Bool, true, false, List, [], ◌∷◌, ◌++◌, length, map, ℤ, pos, Option, Some, None, Bor}
+use Rattle.std.specs.Prelude.{◌⊎◌, ◌↔◌, ◌+ℤ◌, Contains, Vec, Result, Ok, Err, OnOk, OnErr, IfErr, IfSome, MatchBool}
 use Rattle.std.specs.Result.{IsErrAnd, IsOkAnd, is_err, result_transpose}
 use Rattle.std.specs.List.{AllZip}
 use Rattle.std.specs.Cmp.{IsEquivalence}
@@ -20,7 +20,7 @@ use Rattle.pf_yen.specs.Learned.{IsLearned}
 use Rattle.pf_yen.specs.Classes.{Plan, IsCleanNumbers, IsPartition, IsPastAlong}
 use Rattle.pf_yen.specs.Plans.{as_list, last_given, NoneBelow, IsFirst, GoesOn}
 use Rattle.pf_yen.specs.CleanPaths.{AllGiven, IsNextPath, RefusedFor}
-use Rattle.pf_yen.specs.Walk.{PathWalk, IsPathWalk, IsPlanned, IsUnderWay, IsEnded, PathTurn, PathStep, Searches}
+use Rattle.pf_yen.specs.Walk.{PathWalk, IsPathWalk, IsPlanned, IsUnderWay, IsEnded, IsBarred, PathTurn, PathStep, TurnKeepsBar, StepKeepsBar, Searches}
 use Rattle.pf_yen.proofs.NarrowLemmas.{in_none}
 use Rattle.pf_yen.proofs.LearnLemmas.{learned_whole}
 use Rattle.pf_yen.proofs.SplitLemmas.{past_first}
@@ -82,12 +82,23 @@ still_ended value s (Err x) begun waiting chosen gone e b on due =
     let none : last_given s.is_given s.chosen ≡ [] = rw e.1 refl in
     due e.0 none
 
+-- the call leaves the walk before a step that was refused for a cost overflow exactly where it was refused so
+pub bars_anew : {N C F S X : Type 0} (s t : PathWalk N C F S) (r : Result X PathError) → ¬ (IsBarred s) → IsBarred t ↔ (r ≡ Err PathError.CostOverflow) → TurnKeepsBar s r t
+bars_anew s t (Ok x) free over = (free, λ b. let e = over.0 b in cc)
+bars_anew s t (Err x) free over = (λ b. absurd (free b), (λ b. let e = over.0 b in cc, λ e. over.1 (ap Err e)))
+
+-- a call of `next` is a step, which marks a refusal
+pub bars_of : {N C F S X : Type 0} (s t : PathWalk N C F S) (r : Result (Option X) PathError) → TurnKeepsBar s r t → StepKeepsBar s (result_transpose r) (record t { refused = is_err r })
+bars_of s t (Ok (Some x)) q = q
+bars_of s t (Ok None) q = (λ b. absurd (q.0 b), (λ b. absurd (q.1 b), λ b. absurd (q.0 b)))
+bars_of s t (Err x) q = q
+
 -- what a caller sees of these parts
-abbrev pub seen : {N C F S : Type 0} → List (List N × C) → Bool → F → S → List N → KnownGraph C → Bool → List (Plan C) → Option (Plan C) → Bool → PathWalk N C F S
-seen given refused successors success nodes known has_begun waiting chosen is_given = record { given = given; refused = refused; successors = successors; success = success; nodes = nodes; known = known; has_begun = has_begun; waiting = waiting; chosen = chosen; is_given = is_given }
+abbrev pub seen : {N C F S : Type 0} → List (List N × C) → Bool → Bool → F → S → List N → KnownGraph C → Bool → List (Plan C) → Option (Plan C) → Bool → PathWalk N C F S
+seen given refused barred successors success nodes known has_begun waiting chosen is_given = record { given = given; refused = refused; barred = barred; successors = successors; success = success; nodes = nodes; known = known; has_begun = has_begun; waiting = waiting; chosen = chosen; is_given = is_given }
 
 module _ {N C F S I J : Type 0} (eq : N → N → Bool) (laws : IsEquivalence eq) (value : C → ℤ) (becomes : I → J → Type 0) (can : J → Type 0) (left : J → Count) (next : J → Option (N × C) → J → Type 0) (calls : Mut F (Bor N × Unit {0}) I) (tests : Mut S (Bor N × Unit {0}) Bool)
-    (edges : N → List (N × ℤ)) (start : N) (test : N → Bool) where
+    (edges : N → List (N × ℤ)) (start : N) (test : N → Bool) (fits : ℤ → Type 0) where
   abbrev graph : NodeGraph N
   graph = record { starts = start ∷ []; edges = edges }
 
@@ -95,18 +106,22 @@ module _ {N C F S I J : Type 0} (eq : N → N → Bool) (laws : IsEquivalence eq
   Answering = Searches eq value becomes can left next calls tests
 
   abbrev pub IsOne : PathWalk N C F S → Type 0
-  IsOne walk = IsPathWalk eq value edges start test Answering walk
+  IsOne walk = IsPathWalk eq value edges start test fits Answering walk
 
   -- the mark of a refusal is no part of what a walk is
   pub marked : (s : PathWalk N C F S) (b : Bool) → IsOne s → IsOne (record s { refused = b })
-  marked s b w = record { explored = w.explored; costs = w.costs; begins = w.begins; learned = w.learned; under_way = w.under_way }
+  marked s b w = record { explored = w.explored; costs = w.costs; begins = w.begins; learned = w.learned; under_way = w.under_way; bar = w.bar }
+
+  -- the walk may stand before a step that was refused for a cost overflow where that refusal may come
+  pub barred_by : (s : PathWalk N C F S) (b : Bool) → IsOne s → (b ≡ true → RefusedFor eq edges start test value fits s.given PathError.CostOverflow × ¬ (IsEnded s)) → IsOne (record s { barred = b })
+  barred_by s b w why = record { explored = w.explored; costs = w.costs; begins = w.begins; learned = w.learned; under_way = w.under_way; bar = why }
 
   -- a call of `next` is a step, which marks a refusal
-  pub step_of : {A : Type 0} (fits : ℤ → Type 0) (s t : PathWalk N C F S) (r : Result (Option (Vec N A × C)) PathError) → s.refused ≡ false → IsOne t × PathTurn eq value edges start test fits s r t
+  pub step_of : {A : Type 0} (s t : PathWalk N C F S) (r : Result (Option (Vec N A × C)) PathError) → s.refused ≡ false → IsOne t × PathTurn eq value edges start test fits s r t
       → IsOne (record t { refused = is_err r }) × PathStep eq value edges start test fits s (result_transpose r) (record t { refused = is_err r })
-  step_of fits s t (Ok (Some x)) h (w, q) = (marked t false w, (h, refl, q.0, q.1))
-  step_of fits s t (Ok None) h (w, q) = (marked t false w, (inr (q.0, q.2), sym h, q.1))
-  step_of fits s t (Err x) h (w, q) = (marked t true w, (h, refl, q.0, q.1, q.2))
+  step_of s t (Ok (Some x)) h (w, q) = (marked t false w, (h, refl, q.0, q.1))
+  step_of s t (Ok None) h (w, q) = (marked t false w, (inr (q.0, q.2), sym h, q.1))
+  step_of s t (Err x) h (w, q) = (marked t true w, (h, refl, q.0, q.1, q.2))
 
   module _ (s : PathWalk N C F S) (w : IsOne s) where
     one : (i j : ℕ) (x : N) → StandsFor eq s.nodes i x → StandsFor eq s.nodes j x → i ≡ j
@@ -130,6 +145,7 @@ module _ {N C F S I J : Type 0} (eq : N → N → Bool) (laws : IsEquivalence eq
           begins = λ x. ((λ h. (w.begins x).0 (grows.back 0 x some_found h)), (λ e. grows.stays 0 x ((w.begins x).1 e)));
           learned = learned;
           under_way = subst (λ (b : Bool). IsUnderWay eq value edges start test t b) (sym fresh) u;
+          bar = w.bar;
         }
 
     -- where a path was looked for, all is known
@@ -157,11 +173,11 @@ module _ {N C F S I J : Type 0} (eq : N → N → Bool) (laws : IsEquivalence eq
       some_known = let f = some_found in omega (arith, f, all)
 
       -- a plan was chosen, or the call was refused
-      pub chose : {U : Type 0} (r : Result U PathError) (begun : Bool) (waiting : List (Plan C)) (chosen : Option (Plan C)) (gone : Bool) → OnOk r ((begun ≡ true) × (gone ≡ false))
+      pub chose : ¬ (IsBarred s) → {U : Type 0} (r : Result U PathError) (begun : Bool) (waiting : List (Plan C)) (chosen : Option (Plan C)) (gone : Bool) → OnOk r ((begun ≡ true) × (gone ≡ false))
           → OnOk r (IsFirst value s.is_given s.chosen s.waiting → s.has_begun ≡ true → IsFirst value false chosen waiting) → OnOk r (s.has_begun ≡ true → GoesOn value s.known (as_list s.chosen ++ s.waiting) (as_list chosen ++ waiting) (last_given s.is_given s.chosen))
           → OnOk r (s.has_begun ≡ false → IsPartition value s.known (as_list chosen ++ waiting) [] × (waiting ≡ [])) → OnErr r ((chosen ≡ s.chosen) × (waiting ≡ s.waiting) × (gone ≡ s.is_given) × (begun ≡ s.has_begun))
           → IsOne (record s { has_begun = begun; waiting = waiting; chosen = chosen; is_given = gone })
-      chose (Ok x) begun waiting chosen gone b first on begins kept =
+      chose free (Ok x) begun waiting chosen gone b first on begins kept =
           let t : PathWalk N C F S = record s { has_begun = begun; waiting = waiting; chosen = chosen; is_given = gone } in
           let now : IsPlanned eq value s.nodes s.known s.given waiting chosen false = elim (bool_dec s.has_begun) as (λ _. IsPlanned eq value s.nodes s.known s.given waiting chosen false) [
             | inl h ↦ let p = planned h in went_on eq laws value s.nodes s.known s.given s.waiting waiting s.chosen chosen s.is_given p (on h) (first p.first h)
@@ -176,20 +192,21 @@ module _ {N C F S I J : Type 0} (eq : N → N → Bool) (laws : IsEquivalence eq
             begins = w.begins;
             learned = w.learned;
             under_way = subst (λ (v : Bool). IsUnderWay eq value edges start test t v) (sym b.0) (all, subst (λ (v : Bool). IsPlanned eq value s.nodes s.known s.given waiting chosen v) (sym b.1) now);
+            bar = λ b. absurd (free b);
           }
-      chose (Err e) begun waiting chosen gone b first on begins kept =
-          record { explored = w.explored; costs = w.costs; begins = w.begins; learned = w.learned; under_way = rw (kept.0, kept.1, kept.2, kept.3) w.under_way }
+      chose free (Err e) begun waiting chosen gone b first on begins kept =
+          record { explored = w.explored; costs = w.costs; begins = w.begins; learned = w.learned; under_way = rw (kept.0, kept.1, kept.2, kept.3) w.under_way; bar = λ b. absurd (free b) }
 
       none_last : s.given ≡ [] → (before : List (List ℕ)) → AllZip (λ (q : List ℕ) (h : List N × C). AllZip (StandsFor eq s.nodes) q h.0 × IsCleanNumbers value s.known q (value h.1)) (before ++ last_given s.is_given s.chosen) s.given → last_given s.is_given s.chosen ≡ []
       none_last e before z = zip_none (λ (q : List ℕ) (h : List N × C). AllZip (StandsFor eq s.nodes) q h.0 × IsCleanNumbers value s.known q (value h.1)) before (last_given s.is_given s.chosen) (rw e at z)
 
       -- why none was chosen
-      pub refused_for : {U : Type 0} (r : Result U PathError) (fits : ℤ → Type 0)
+      pub refused_for : {U : Type 0} (r : Result U PathError)
           → (r ≡ Err PathError.CostOverflow → MatchBool s.has_begun (IsPastAlong value s.known fits) (IsTooDear (KnownStep value s.known) (is_goal s.known) (StandsForItself (length s.known.rows) 0) (StandsForItself (length s.known.rows)) fits))
           → OnErr r (s.has_begun ≡ true → ¬ (last_given s.is_given s.chosen ≡ [])) → IfErr r (λ e. (e ≡ PathError.OutOfMemory) ⊎ (e ≡ PathError.CostOverflow)) → IfErr r (RefusedFor eq edges start test value fits s.given)
-      refused_for (Ok x) fits past due why = tt
-      refused_for (Err e) fits past due (inl m) = inl m
-      refused_for (Err e) fits past due (inr m) =
+      refused_for (Ok x) past due why = tt
+      refused_for (Err e) past due (inl m) = inl m
+      refused_for (Err e) past due (inr m) =
           let over = past (ap Err m) in
           elim (bool_dec s.has_begun) as (λ _. RefusedFor eq edges start test value fits s.given e) [
             | inl h ↦
@@ -200,6 +217,16 @@ module _ {N C F S I J : Type 0} (eq : N → N → Bool) (laws : IsEquivalence eq
                 let d = past_first value fits s.known (length s.known.rows) (rw h at over) in
                 inr (m, path_past eq laws s.nodes one edges start test w.explored.0.alike w.begins value s.known w.learned all fits d.0, λ _. first_past eq laws s.nodes one edges start test w.explored.0.alike w.begins value s.known w.learned all fits d.0 costs d.1.0 d.1.1)
           ]
+
+    -- where the choice was refused for a cost overflow, that refusal may come, and the walk is not at its end
+    pub barred_for : {U : Type 0} (r : Result U PathError) (begun : Bool) (waiting : List (Plan C)) (chosen : Option (Plan C)) (gone : Bool) (b : Bool) → (b ≡ true → r ≡ Err PathError.CostOverflow) → IfErr r (RefusedFor eq edges start test value fits s.given)
+        → (IsEnded s → IsOkAnd r (λ _. IsEnded (record s { has_begun = begun; waiting = waiting; chosen = chosen; is_given = gone }))) → OnErr r ((chosen ≡ s.chosen) × (waiting ≡ s.waiting) × (gone ≡ s.is_given) × (begun ≡ s.has_begun))
+        → b ≡ true → RefusedFor eq edges start test value fits s.given PathError.CostOverflow × ¬ (IsEnded (record s { has_begun = begun; waiting = waiting; chosen = chosen; is_given = gone }))
+    barred_for (Ok x) begun waiting chosen gone b over why ends kept h = let e = over h in cc
+    barred_for (Err x) begun waiting chosen gone b over why ends kept h =
+        let e = over h in
+        let f : x ≡ PathError.CostOverflow = cc in
+        (subst (λ (y : PathError). RefusedFor eq edges start test value fits s.given y) f why, λ z. ends (sym kept.3 ∙ z.0, sym kept.2 ∙ z.1, sym kept.0 ∙ z.2, sym kept.1 ∙ z.3))
 
     module _ (begun : s.has_begun ≡ true) (new : s.is_given ≡ false) where
       ready : IsPlanned eq value s.nodes s.known s.given s.waiting s.chosen false
@@ -235,8 +262,8 @@ module _ {N C F S I J : Type 0} (eq : N → N → Bool) (laws : IsEquivalence eq
             ]
 
         -- the chosen path is given
-        pub gives : (path : List N) → AllZip (StandsFor eq s.nodes) c.path path → IsNextPath eq edges start test value s.given path c.cost × IsOne (record s { given = s.given ++ (path, c.cost) ∷ []; is_given = true })
-        gives path z =
+        pub gives : ¬ (IsBarred s) → (path : List N) → AllZip (StandsFor eq s.nodes) c.path path → IsNextPath eq edges start test value s.given path c.cost × IsOne (record s { given = s.given ++ (path, c.cost) ∷ []; is_given = true })
+        gives free path z =
             let t : PathWalk N C F S = record s { given = s.given ++ (path, c.cost) ∷ []; is_given = true } in
             let all = all_known begun in
             let done : IsPlanned eq value s.nodes s.known (s.given ++ (path, c.cost) ∷ []) s.waiting s.chosen true = subst (λ (o : Option (Plan C)). IsPlanned eq value s.nodes s.known (s.given ++ (path, c.cost) ∷ []) s.waiting o true) (sym chosen) (gave eq laws value s.nodes s.known s.given s.waiting c path ready_with z) in (
@@ -247,6 +274,7 @@ module _ {N C F S I J : Type 0} (eq : N → N → Bool) (laws : IsEquivalence eq
                 begins = w.begins;
                 learned = w.learned;
                 under_way = subst (λ (b : Bool). IsUnderWay eq value edges start test t b) (sym begun) (all, done);
+                bar = λ b. absurd (free b);
               },
             )
 

@@ -15,10 +15,11 @@ use Rattle.pf_yen.specs.CleanPaths.{AllGiven, IsNextPath, RefusedFor}
 use Rattle.pf_yen.specs.Learned.{IsLearned}
 use Rattle.pf_yen.specs.Plans.{as_list, last_given, IsFirst}
 
--- what a caller sees of a walk: the paths given so far, with their costs; whether the last step was refused; the functions that list edges and test nodes; and what was learned and planned so far
+-- what a caller sees of a walk: the paths given so far, with their costs; whether the last step was refused; whether the step to come was refused for a cost overflow; the functions that list edges and test nodes; and what was learned and planned so far
 pub record PathWalk (N C F S : Type 0) : Type 0 where
   pub given : List (List N × C)
   pub refused : Bool
+  pub barred : Bool
   pub successors : F
   pub success : S
   pub nodes : List N
@@ -32,10 +33,10 @@ abbrev pub plan_code : {C : Type 0} → Coded C → Coded (Plan C)
 plan_code {C} c = code_by (List ℕ × (C × (ℕ × List ℕ))) (coded× (coded_list coded_ℕ) (coded× c (coded× coded_ℕ (coded_list coded_ℕ)))) (λ p. (p.path, (p.cost, (p.spur, p.banned)))) (λ p. record { path = p.0; cost = p.1.0; spur = p.1.1.0; banned = p.1.1.1 }) (λ _. refl)
 
 abbrev pub path_walk_code : {N C F S : Type 0} → Coded N → Coded C → Coded F → Coded S → Coded (PathWalk N C F S)
-path_walk_code {N} {C} {F} {S} n c f s = code_by (List (List N × C) × (Bool × (F × (S × (List N × (KnownGraph C × (Bool × (List (Plan C) × (Option (Plan C) × Bool)))))))))
-    (coded× (coded_list (coded× (coded_list n) c)) (coded× coded_bool (coded× f (coded× s (coded× (coded_list n) (coded× (known_code c) (coded× coded_bool (coded× (coded_list (plan_code c)) (coded× (coded_option (plan_code c)) coded_bool)))))))))
-    (λ w. (w.given, (w.refused, (w.successors, (w.success, (w.nodes, (w.known, (w.has_begun, (w.waiting, (w.chosen, w.is_given))))))))))
-    (λ p. record { given = p.0; refused = p.1.0; successors = p.1.1.0; success = p.1.1.1.0; nodes = p.1.1.1.1.0; known = p.1.1.1.1.1.0; has_begun = p.1.1.1.1.1.1.0; waiting = p.1.1.1.1.1.1.1.0; chosen = p.1.1.1.1.1.1.1.1.0; is_given = p.1.1.1.1.1.1.1.1.1 }) (λ _. refl)
+path_walk_code {N} {C} {F} {S} n c f s = code_by (List (List N × C) × (Bool × (Bool × (F × (S × (List N × (KnownGraph C × (Bool × (List (Plan C) × (Option (Plan C) × Bool))))))))))
+    (coded× (coded_list (coded× (coded_list n) c)) (coded× coded_bool (coded× coded_bool (coded× f (coded× s (coded× (coded_list n) (coded× (known_code c) (coded× coded_bool (coded× (coded_list (plan_code c)) (coded× (coded_option (plan_code c)) coded_bool))))))))))
+    (λ w. (w.given, (w.refused, (w.barred, (w.successors, (w.success, (w.nodes, (w.known, (w.has_begun, (w.waiting, (w.chosen, w.is_given)))))))))))
+    (λ p. record { given = p.0; refused = p.1.0; barred = p.1.1.0; successors = p.1.1.1.0; success = p.1.1.1.1.0; nodes = p.1.1.1.1.1.0; known = p.1.1.1.1.1.1.0; has_begun = p.1.1.1.1.1.1.1.0; waiting = p.1.1.1.1.1.1.1.1.0; chosen = p.1.1.1.1.1.1.1.1.1.0; is_given = p.1.1.1.1.1.1.1.1.1.1 }) (λ _. refl)
 
 -- The plans that are left and the paths before the chosen one share out the clean paths, these are the given ones, and no given one costs more than a plan.
 pub record IsPlanned {N C : Type 0} (eq : N → N → Bool) (value : C → ℤ) (nodes : List N) (known : KnownGraph C) (given : List (List N × C)) (waiting : List (Plan C)) (chosen : Option (Plan C)) (is_given : Bool) : Type 0 where
@@ -49,19 +50,35 @@ pub record IsPlanned {N C : Type 0} (eq : N → N → Bool) (value : C → ℤ) 
 abbrev pub IsEnded : {N C F S : Type 0} → PathWalk N C F S → Type 0
 IsEnded walk = (walk.has_begun ≡ true) × (walk.is_given ≡ false) × (walk.chosen ≡ None) × (walk.waiting ≡ [])
 
+-- the walk stands before a step that was refused for a cost overflow
+abbrev pub IsBarred : {N C F S : Type 0} → PathWalk N C F S → Type 0
+IsBarred walk = walk.barred ≡ true
+
+-- a step that was refused for a cost overflow is refused for it again: where the walk stands before one, a step of a walk that was not refused before gives neither a path nor the end, and no other refusal; and a step leaves the walk before one exactly where that step was refused for a cost overflow
+abbrev pub TurnKeepsBar : {N C F S X : Type 0} → PathWalk N C F S → Result X PathError → PathWalk N C F S → Type 0
+TurnKeepsBar walk (Ok given) after = ¬ (IsBarred walk) × ¬ (IsBarred after)
+TurnKeepsBar walk (Err refusal) after = (IsBarred walk → refusal ≡ PathError.CostOverflow) × (IsBarred after ↔ (refusal ≡ PathError.CostOverflow))
+
+-- the same of a call of `next`, which gives no path also where the last step was refused, and then leaves the walk where it stood
+abbrev pub StepKeepsBar : {N C F S X : Type 0} → PathWalk N C F S → Option (Result X PathError) → PathWalk N C F S → Type 0
+StepKeepsBar walk (Some (Ok item)) after = ¬ (IsBarred walk) × ¬ (IsBarred after)
+StepKeepsBar walk None after = (IsBarred walk → walk.refused ≡ true) × (IsBarred after ↔ IsBarred walk)
+StepKeepsBar walk (Some (Err refusal)) after = (IsBarred walk → refusal ≡ PathError.CostOverflow) × (IsBarred after ↔ (refusal ≡ PathError.CostOverflow))
+
 module _ {N C F S : Type 0} (eq : N → N → Bool) (value : C → ℤ) (edges : N → List (N × ℤ)) (start : N) (test : N → Bool) where
   -- whether all is planned, or nothing was begun
   abbrev pub IsUnderWay : PathWalk N C F S → Bool → Type 0
   IsUnderWay walk false = (walk.given ≡ []) × (walk.waiting ≡ []) × (walk.chosen ≡ None) × (walk.is_given ≡ false)
   IsUnderWay walk true = (length walk.nodes ≤ length walk.known.rows) × IsPlanned eq value walk.nodes walk.known walk.given walk.waiting walk.chosen walk.is_given
 
-  -- The walk is one of this graph from this start: its functions answer the graph and the test in reach, where no edge costs less than 0, what was learned is so, and so is what was planned.
-  pub record IsPathWalk (explores : TestedGraph N → List N → F → S → Type 0) (walk : PathWalk N C F S) : Type 0 where
+  -- The walk is one of this graph from this start: its functions answer the graph and the test in reach, where no edge costs less than 0, what was learned is so, and so is what was planned; and where it stands before a step that was refused for a cost overflow, that refusal may come, and the walk is not at its end.
+  pub record IsPathWalk (fits : ℤ → Type 0) (explores : TestedGraph N → List N → F → S → Type 0) (walk : PathWalk N C F S) : Type 0 where
     pub explored : explores (record { graph = record { starts = start ∷ []; edges = edges }; test = test }) walk.nodes walk.successors walk.success
     pub costs : HasNoNegativeCost eq edges (start ∷ [])
     pub begins : (x : N) → StandsFor eq walk.nodes 0 x ↔ (eq start x ≡ true)
     pub learned : IsLearned value (IsStep eq (record { starts = start ∷ []; edges = edges })) test (StandsFor eq walk.nodes) (length walk.nodes) walk.known
     pub under_way : IsUnderWay walk walk.has_begun
+    pub bar : IsBarred walk → RefusedFor eq edges start test value fits walk.given PathError.CostOverflow × ¬ (IsEnded walk)
 
   module _ {A : Type 0} (fits : ℤ → Type 0) where
     -- what a step of a walk that was not refused before gives, and how it leaves the walk: a path; no path, at the end; or a refusal, before the end

@@ -1,11 +1,11 @@
 //! The cheapest paths to goals, one after the other (Yen 1971, Lawler 1972).
 
-ghost use Rattle.std.specs.Prelude.{◌≡◌, ◌≤◌, List, ℤ, Bool, true, false, None, [], ◌∷◌, length, OnOk, OnErr, IfOk, IfErr, IsOkAnd};
+ghost use Rattle.std.specs.Prelude.{◌≡◌, ◌≤◌, ◌↔◌, List, ℤ, Bool, true, false, None, [], ◌∷◌, length, Err, OnOk, OnErr, IfOk, IfErr, IsOkAnd};
 ghost use Rattle.std.specs.Iterator.{MakesProgress};
 ghost use Rattle.pf_base.specs.Answers.{IsLawfulClone};
 ghost use Rattle.pf_base.specs.Edges.{IsWeightedSearch};
 ghost use Rattle.pf_yen.specs.CleanPaths.{RefusedFor};
-ghost use Rattle.pf_yen.specs.Walk.{IsPathWalk, IsEnded, PathTurn, PathStep, Searches};
+ghost use Rattle.pf_yen.specs.Walk.{IsPathWalk, IsEnded, IsBarred, PathTurn, PathStep, TurnKeepsBar, StepKeepsBar, Searches};
 
 pub use crate::directed::k_cheapest::yen;
 use crate::given::Given;
@@ -20,7 +20,15 @@ use std::collections::BinaryHeap;
 use std::hash::Hash;
 use std::marker::{Model, PhantomData};
 
-/// The clean paths by rising cost, each as a `Result`: made by `yen_paths`.
+/// Whether the call was refused for a cost overflow.
+fn is_overflow(call: &Result<(), PathError>) -> bool
+    ensures { (result ≡ true) ↔ (call.now ≡ Err PathError.CostOverflow) }
+{
+    matches!(call, Err(PathError::CostOverflow))
+}
+
+/// The clean paths by rising cost, each as a `Result`: made by `yen_paths`. A step that was refused
+/// with `CostOverflow` is refused with it again after each `resume`.
 #[derive(Drop)]
 pub struct YenPaths<N: Eq + Hash + Drop, C: Cost, IN, FN, FS, A: Allocator = Global> {
     graph: Tested<N, Weighted, IN, FN, FS, A>,
@@ -28,6 +36,8 @@ pub struct YenPaths<N: Eq + Hash + Drop, C: Cost, IN, FN, FS, A: Allocator = Glo
     plans: Plans<C, A>,
     given: Given<N, C, A>,
     refused: bool,
+    /// Whether the step to come was refused for a cost overflow.
+    barred: bool,
     alloc: A,
 }
 
@@ -44,6 +54,7 @@ impl<N: Eq + Hash + Drop, C: Cost, IN, FN, FS, A: Allocator> Model
     ghost view = { λ s. record {
       given = s.given;
       refused = s.refused;
+      barred = s.barred;
       successors = s.graph.discovery.successors;
       success = s.graph.success;
       nodes = s.graph.discovery.nodes.keys;
@@ -69,12 +80,13 @@ where
     type Item = Result<(Vec<N, A>, C), PathError>;
 
     ghost can_next = { λ s. IsLawfulClone N.eq N.is_clone × ((edges : N → List (N × ℤ)) × (start : N) × (test : N → Bool)
-        × IsPathWalk N.eq C.value edges start test (Searches N.eq C.value IN.into_iter_gives IN.IntoIter.can_next IN.IntoIter.remaining IN.IntoIter.next_gives FN.FnMut FS.FnMut) s) };
+        × IsPathWalk N.eq C.value edges start test C.fits (Searches N.eq C.value IN.into_iter_gives IN.IntoIter.can_next IN.IntoIter.remaining IN.IntoIter.next_gives FN.FnMut FS.FnMut) s) };
 
     ghost next_gives = { λ s r t. (edges : N → List (N × ℤ)) (start : N) (test : N → Bool)
-        → IsPathWalk N.eq C.value edges start test (Searches N.eq C.value IN.into_iter_gives IN.IntoIter.can_next IN.IntoIter.remaining IN.IntoIter.next_gives FN.FnMut FS.FnMut) s
-        → IsPathWalk N.eq C.value edges start test (Searches N.eq C.value IN.into_iter_gives IN.IntoIter.can_next IN.IntoIter.remaining IN.IntoIter.next_gives FN.FnMut FS.FnMut) t
-        × PathStep N.eq C.value edges start test C.fits s r t };
+        → IsPathWalk N.eq C.value edges start test C.fits (Searches N.eq C.value IN.into_iter_gives IN.IntoIter.can_next IN.IntoIter.remaining IN.IntoIter.next_gives FN.FnMut FS.FnMut) s
+        → IsPathWalk N.eq C.value edges start test C.fits (Searches N.eq C.value IN.into_iter_gives IN.IntoIter.can_next IN.IntoIter.remaining IN.IntoIter.next_gives FN.FnMut FS.FnMut) t
+        × PathStep N.eq C.value edges start test C.fits s r t
+        × StepKeepsBar s r t };
 
     fn next(&mut self) -> Option<Result<(Vec<N, A>, C), PathError>>
         requires { ⟦<YenPaths<N, C, IN, FN, FS, A> as Iterator>⟧.can_next self.old }
@@ -101,12 +113,13 @@ where
     A: Allocator + Copy,
 {
     /// Lets the next call of `next` try again the step that was refused. Where no step was refused
-    /// since the last call of `resume`, this changes nothing.
+    /// since the last call of `resume`, this changes nothing. A step that was refused with
+    /// `CostOverflow` is refused with it again.
     pub fn resume(&mut self)
         ensures lowered { self.new ≡ record self.old { refused = false } }
         ensures graph { (edges : N → List (N × ℤ)) (start : N) (test : N → Bool)
-            → IsPathWalk N.eq C.value edges start test (Searches N.eq C.value IN.into_iter_gives IN.IntoIter.can_next IN.IntoIter.remaining IN.IntoIter.next_gives FN.FnMut FS.FnMut) self.old
-            → IsPathWalk N.eq C.value edges start test (Searches N.eq C.value IN.into_iter_gives IN.IntoIter.can_next IN.IntoIter.remaining IN.IntoIter.next_gives FN.FnMut FS.FnMut) self.new }
+            → IsPathWalk N.eq C.value edges start test C.fits (Searches N.eq C.value IN.into_iter_gives IN.IntoIter.can_next IN.IntoIter.remaining IN.IntoIter.next_gives FN.FnMut FS.FnMut) self.old
+            → IsPathWalk N.eq C.value edges start test C.fits (Searches N.eq C.value IN.into_iter_gives IN.IntoIter.can_next IN.IntoIter.remaining IN.IntoIter.next_gives FN.FnMut FS.FnMut) self.new }
     {
         self.refused = false;
     }
@@ -114,16 +127,17 @@ where
     /// Learns of the graph, unless a path was looked for before.
     fn learn_graph(&mut self) -> Result<(), PathError>
         requires walk { (edges : N → List (N × ℤ)) × (start : N) × (test : N → Bool)
-            × IsPathWalk N.eq C.value edges start test (Searches N.eq C.value IN.into_iter_gives IN.IntoIter.can_next IN.IntoIter.remaining IN.IntoIter.next_gives FN.FnMut FS.FnMut) self.old }
+            × IsPathWalk N.eq C.value edges start test C.fits (Searches N.eq C.value IN.into_iter_gives IN.IntoIter.can_next IN.IntoIter.remaining IN.IntoIter.next_gives FN.FnMut FS.FnMut) self.old }
         ensures walk { (edges : N → List (N × ℤ)) (start : N) (test : N → Bool)
-            → IsPathWalk N.eq C.value edges start test (Searches N.eq C.value IN.into_iter_gives IN.IntoIter.can_next IN.IntoIter.remaining IN.IntoIter.next_gives FN.FnMut FS.FnMut) self.old
-            → IsPathWalk N.eq C.value edges start test (Searches N.eq C.value IN.into_iter_gives IN.IntoIter.can_next IN.IntoIter.remaining IN.IntoIter.next_gives FN.FnMut FS.FnMut) self.new }
+            → IsPathWalk N.eq C.value edges start test C.fits (Searches N.eq C.value IN.into_iter_gives IN.IntoIter.can_next IN.IntoIter.remaining IN.IntoIter.next_gives FN.FnMut FS.FnMut) self.old
+            → IsPathWalk N.eq C.value edges start test C.fits (Searches N.eq C.value IN.into_iter_gives IN.IntoIter.can_next IN.IntoIter.remaining IN.IntoIter.next_gives FN.FnMut FS.FnMut) self.new }
         ensures known { (edges : N → List (N × ℤ)) (start : N) (test : N → Bool)
-            → IsPathWalk N.eq C.value edges start test (Searches N.eq C.value IN.into_iter_gives IN.IntoIter.can_next IN.IntoIter.remaining IN.IntoIter.next_gives FN.FnMut FS.FnMut) self.old
+            → IsPathWalk N.eq C.value edges start test C.fits (Searches N.eq C.value IN.into_iter_gives IN.IntoIter.can_next IN.IntoIter.remaining IN.IntoIter.next_gives FN.FnMut FS.FnMut) self.old
             → OnOk result (length self.new.nodes ≤ length self.new.known.rows) }
         ensures ended { IsEnded self.old → IsOkAnd result (λ _. IsEnded self.new) }
         ensures given { self.new.given ≡ self.old.given }
         ensures same { self.new.refused ≡ self.old.refused }
+        ensures bar { self.new.barred ≡ self.old.barred }
         ensures refused { IfErr result (λ e. e ≡ PathError.OutOfMemory) }
     {
         if self.plans.has_begun {
@@ -132,36 +146,43 @@ where
         learn(self.alloc, &mut self.graph, &mut self.known)
     }
 
-    /// Chooses the plan whose path is to be given next, if there is one.
+    /// Chooses the plan whose path is to be given next, if there is one. Where that is refused for a
+    /// cost overflow, the walk notes it.
     fn choose(&mut self) -> Result<(), PathError>
         requires walk { (edges : N → List (N × ℤ)) × (start : N) × (test : N → Bool)
-            × IsPathWalk N.eq C.value edges start test (Searches N.eq C.value IN.into_iter_gives IN.IntoIter.can_next IN.IntoIter.remaining IN.IntoIter.next_gives FN.FnMut FS.FnMut) self.old }
+            × IsPathWalk N.eq C.value edges start test C.fits (Searches N.eq C.value IN.into_iter_gives IN.IntoIter.can_next IN.IntoIter.remaining IN.IntoIter.next_gives FN.FnMut FS.FnMut) self.old }
         requires known { length self.old.nodes ≤ length self.old.known.rows }
+        requires free { ¬ (IsBarred self.old) }
         ensures walk { (edges : N → List (N × ℤ)) (start : N) (test : N → Bool)
-            → IsPathWalk N.eq C.value edges start test (Searches N.eq C.value IN.into_iter_gives IN.IntoIter.can_next IN.IntoIter.remaining IN.IntoIter.next_gives FN.FnMut FS.FnMut) self.old
-            → IsPathWalk N.eq C.value edges start test (Searches N.eq C.value IN.into_iter_gives IN.IntoIter.can_next IN.IntoIter.remaining IN.IntoIter.next_gives FN.FnMut FS.FnMut) self.new }
+            → IsPathWalk N.eq C.value edges start test C.fits (Searches N.eq C.value IN.into_iter_gives IN.IntoIter.can_next IN.IntoIter.remaining IN.IntoIter.next_gives FN.FnMut FS.FnMut) self.old
+            → IsPathWalk N.eq C.value edges start test C.fits (Searches N.eq C.value IN.into_iter_gives IN.IntoIter.can_next IN.IntoIter.remaining IN.IntoIter.next_gives FN.FnMut FS.FnMut) self.new }
         ensures given { self.new.given ≡ self.old.given }
         ensures same { self.new.refused ≡ self.old.refused }
         ensures begun { OnOk result ((self.new.has_begun ≡ true) × (self.new.is_given ≡ false)) }
         ensures none { OnOk result (self.new.chosen ≡ None → self.new.waiting ≡ []) }
         ensures ended { IsEnded self.old → IsOkAnd result (λ _. IsEnded self.new) }
         ensures refused { (edges : N → List (N × ℤ)) (start : N) (test : N → Bool)
-            → IsPathWalk N.eq C.value edges start test (Searches N.eq C.value IN.into_iter_gives IN.IntoIter.can_next IN.IntoIter.remaining IN.IntoIter.next_gives FN.FnMut FS.FnMut) self.old
+            → IsPathWalk N.eq C.value edges start test C.fits (Searches N.eq C.value IN.into_iter_gives IN.IntoIter.can_next IN.IntoIter.remaining IN.IntoIter.next_gives FN.FnMut FS.FnMut) self.old
             → IfErr result (RefusedFor N.eq edges start test C.value C.fits self.old.given) }
+        ensures bars { TurnKeepsBar self.old result self.new }
     {
-        self.plans.choose(self.alloc, &self.known)
+        let chosen = self.plans.choose(self.alloc, &self.known);
+        self.barred = is_overflow(&chosen);
+        chosen
     }
 
     /// Gives the path of the chosen plan, or `None` where there is none.
     fn give(&mut self) -> Result<Option<(Vec<N, A>, C)>, PathError>
         requires clones { IsLawfulClone N.eq N.is_clone }
         requires walk { (edges : N → List (N × ℤ)) × (start : N) × (test : N → Bool)
-            × IsPathWalk N.eq C.value edges start test (Searches N.eq C.value IN.into_iter_gives IN.IntoIter.can_next IN.IntoIter.remaining IN.IntoIter.next_gives FN.FnMut FS.FnMut) self.old }
+            × IsPathWalk N.eq C.value edges start test C.fits (Searches N.eq C.value IN.into_iter_gives IN.IntoIter.can_next IN.IntoIter.remaining IN.IntoIter.next_gives FN.FnMut FS.FnMut) self.old }
         requires ready { (self.old.has_begun ≡ true) × (self.old.is_given ≡ false) }
         requires none { self.old.chosen ≡ None → self.old.waiting ≡ [] }
+        requires free { ¬ (IsBarred self.old) }
         ensures steps { (edges : N → List (N × ℤ)) (start : N) (test : N → Bool)
-            → IsPathWalk N.eq C.value edges start test (Searches N.eq C.value IN.into_iter_gives IN.IntoIter.can_next IN.IntoIter.remaining IN.IntoIter.next_gives FN.FnMut FS.FnMut) self.old
-            → IsPathWalk N.eq C.value edges start test (Searches N.eq C.value IN.into_iter_gives IN.IntoIter.can_next IN.IntoIter.remaining IN.IntoIter.next_gives FN.FnMut FS.FnMut) self.new × PathTurn N.eq C.value edges start test C.fits self.old result self.new }
+            → IsPathWalk N.eq C.value edges start test C.fits (Searches N.eq C.value IN.into_iter_gives IN.IntoIter.can_next IN.IntoIter.remaining IN.IntoIter.next_gives FN.FnMut FS.FnMut) self.old
+            → IsPathWalk N.eq C.value edges start test C.fits (Searches N.eq C.value IN.into_iter_gives IN.IntoIter.can_next IN.IntoIter.remaining IN.IntoIter.next_gives FN.FnMut FS.FnMut) self.new × PathTurn N.eq C.value edges start test C.fits self.old result self.new }
+        ensures bars { TurnKeepsBar self.old result self.new }
         ensures same { self.new.refused ≡ self.old.refused }
     {
         let Some(chosen) = &self.plans.chosen else {
@@ -178,12 +199,17 @@ where
     fn step(&mut self) -> Result<Option<(Vec<N, A>, C)>, PathError>
         requires clones { IsLawfulClone N.eq N.is_clone }
         requires walk { (edges : N → List (N × ℤ)) × (start : N) × (test : N → Bool)
-            × IsPathWalk N.eq C.value edges start test (Searches N.eq C.value IN.into_iter_gives IN.IntoIter.can_next IN.IntoIter.remaining IN.IntoIter.next_gives FN.FnMut FS.FnMut) self.old }
+            × IsPathWalk N.eq C.value edges start test C.fits (Searches N.eq C.value IN.into_iter_gives IN.IntoIter.can_next IN.IntoIter.remaining IN.IntoIter.next_gives FN.FnMut FS.FnMut) self.old }
         ensures steps { (edges : N → List (N × ℤ)) (start : N) (test : N → Bool)
-            → IsPathWalk N.eq C.value edges start test (Searches N.eq C.value IN.into_iter_gives IN.IntoIter.can_next IN.IntoIter.remaining IN.IntoIter.next_gives FN.FnMut FS.FnMut) self.old
-            → IsPathWalk N.eq C.value edges start test (Searches N.eq C.value IN.into_iter_gives IN.IntoIter.can_next IN.IntoIter.remaining IN.IntoIter.next_gives FN.FnMut FS.FnMut) self.new × PathTurn N.eq C.value edges start test C.fits self.old result self.new }
+            → IsPathWalk N.eq C.value edges start test C.fits (Searches N.eq C.value IN.into_iter_gives IN.IntoIter.can_next IN.IntoIter.remaining IN.IntoIter.next_gives FN.FnMut FS.FnMut) self.old
+            → IsPathWalk N.eq C.value edges start test C.fits (Searches N.eq C.value IN.into_iter_gives IN.IntoIter.can_next IN.IntoIter.remaining IN.IntoIter.next_gives FN.FnMut FS.FnMut) self.new × PathTurn N.eq C.value edges start test C.fits self.old result self.new }
+        ensures bars { TurnKeepsBar self.old result self.new }
         ensures same { self.new.refused ≡ self.old.refused }
     {
+        if self.barred {
+            // The same search would come to the same sum.
+            return Err(PathError::CostOverflow);
+        }
         self.learn_graph()?;
         self.choose()?;
         self.give()
@@ -213,7 +239,8 @@ where
 /// - `Err(OutOfMemory)` where a request for memory was refused.
 ///
 /// A refused step loses no path; the walk then answers `None` until `resume` is called, and tries the
-/// same step again.
+/// same step again. A step that was refused with `CostOverflow` is refused with it again after each
+/// `resume`.
 ///
 /// The algorithm is Yen's (J. Y. Yen, "Finding the k shortest loopless paths in a network", 1971),
 /// with the classes of E. L. Lawler, "A procedure for computing the k best solutions", 1972.
@@ -231,10 +258,10 @@ where
     FS: FnMut(&N) -> bool,
     A: Allocator + Copy,
     requires clones { IsLawfulClone N.eq N.is_clone }
-    ensures begins { IfOk result (λ walk. (walk.given ≡ []) × (walk.refused ≡ false) × (walk.successors ≡ successors) × (walk.success ≡ success)) }
+    ensures begins { IfOk result (λ walk. (walk.given ≡ []) × (walk.refused ≡ false) × ¬ (IsBarred walk) × (walk.successors ≡ successors) × (walk.success ≡ success)) }
     ensures graph { IfOk result (λ walk. (edges : N → List (N × ℤ)) (test : N → Bool)
         → IsWeightedSearch N.eq edges (start.now ∷ []) (⟦<FN as EdgeFunction<N, C>>⟧.answers successors) (⟦<FS as NodeTest<N>>⟧.answers success) test
-        → IsPathWalk N.eq C.value edges start.now test (Searches N.eq C.value IN.into_iter_gives IN.IntoIter.can_next IN.IntoIter.remaining IN.IntoIter.next_gives FN.FnMut FS.FnMut) walk) }
+        → IsPathWalk N.eq C.value edges start.now test C.fits (Searches N.eq C.value IN.into_iter_gives IN.IntoIter.can_next IN.IntoIter.remaining IN.IntoIter.next_gives FN.FnMut FS.FnMut) walk) }
     ensures refused { IfErr result (λ e. e ≡ PathError.OutOfMemory) }
 {
     let discovery = Discovery {
@@ -253,6 +280,7 @@ where
         },
         given: Given::nothing(),
         refused: false,
+        barred: false,
         alloc,
     })
 }

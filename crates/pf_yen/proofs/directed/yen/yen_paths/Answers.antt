@@ -21,4 +21,5 @@ returns-clause-graph g c = λ edges test s.
       begins = found.ensures.begins;
       learned = rw c.new.ensures (learned_none g.C.Number.value (IsStep eq graph) test (StandsFor eq keys) _ (first_alone (StandsFor eq keys) _ found.ensures.one here));
       under_way = (c.nothing.ensures, ap (λ (h : List (Candidate g.row.C.Denot g.row.A.Denot)). waiting_plans h) {y = []} (search rules), refl, refl);
+      bar = λ b. cc;
     }

@@ -10,12 +10,12 @@ pub returns-in_default-clause-steps : goal.returns-in_default-clause-steps
 returns-in_default-clause-steps g c = λ edges start test w.
     let i = c.self.inside in
     let v = rw (← c.self.view_is) at w in
-    let s = seen i.given i.refused i.graph.discovery.successors i.graph.success i.graph.discovery.nodes.keys i.known i.plans.has_begun (waiting_plans (heap_items i.plans.waiting)) (chosen_plan i.plans.chosen) i.plans.is_given in
+    let s = seen i.given i.refused i.barred i.graph.discovery.successors i.graph.success i.graph.discovery.nodes.keys i.known i.plans.has_begun (waiting_plans (heap_items i.plans.waiting)) (chosen_plan i.plans.chosen) i.plans.is_given in
     let r = rw (← c.self.view_is) at c.requires.ready in
     let n = rw (← c.self.view_is) at c.requires.none in
     let e : i.plans.chosen ≡ None = search rules in
     let f = ap (λ (o : Option (Candidate g.row.C.Denot g.row.A.Denot)). chosen_plan o) e in
-    rw (← c.self.view_is) (v, (none_left g.N.PartialEq.eq g.met.N.Eq.laws g.C.Number.value _ _ _ _ _ _ edges start test s v r.0 r.1 f (n f), refl, (r.0, r.1, f, n f)))
+    rw (← c.self.view_is) (v, (none_left g.N.PartialEq.eq g.met.N.Eq.laws g.C.Number.value _ _ _ _ _ _ edges start test g.C.Number.fits s v r.0 r.1 f (n f), refl, (r.0, r.1, f, n f)))
 
 pub nodes_at-requires-clause-inside : goal.nodes_at-requires-clause-inside
 nodes_at-requires-clause-inside g c =
@@ -25,15 +25,16 @@ nodes_at-requires-clause-inside g c =
     let r = rw (← c.self.view_is) at c.requires.ready in
     let e : i.plans.chosen ≡ Some c.in-Some.chosen = search rules in
     let f = ap (λ (o : Option (Candidate g.row.C.Denot g.row.A.Denot)). chosen_plan o) e in
-    rw c.deref.ensures.value (path_inside g.N.PartialEq.eq g.met.N.Eq.laws g.C.Number.value _ _ _ _ _ _ w.0 w.1 w.2 _ v r.0 r.1 (plan_of c.in-Some.chosen) f)
+    rw c.deref.ensures.value (path_inside g.N.PartialEq.eq g.met.N.Eq.laws g.C.Number.value _ _ _ _ _ _ w.0 w.1 w.2 g.C.Number.fits _ v r.0 r.1 (plan_of c.in-Some.chosen) f)
 
 pub returns-clause-steps : goal.returns-clause-steps
 returns-clause-steps g c = λ edges start test w.
     let i = c.self.inside in
     let v = rw (← c.self.view_is) at w in
-    let s = seen i.given i.refused i.graph.discovery.successors i.graph.success i.graph.discovery.nodes.keys i.known i.plans.has_begun (waiting_plans (heap_items i.plans.waiting)) (chosen_plan i.plans.chosen) i.plans.is_given in
+    let s = seen i.given i.refused i.barred i.graph.discovery.successors i.graph.success i.graph.discovery.nodes.keys i.known i.plans.has_begun (waiting_plans (heap_items i.plans.waiting)) (chosen_plan i.plans.chosen) i.plans.is_given in
     let r = rw (← c.self.view_is) at c.requires.ready in
     let e : i.plans.chosen ≡ Some c.in-Some.chosen = search rules in
     let f = ap (λ (o : Option (Candidate g.row.C.Denot g.row.A.Denot)). chosen_plan o) e in
-    let q = gives g.N.PartialEq.eq g.met.N.Eq.laws g.C.Number.value _ _ _ _ _ _ edges start test s v r.0 r.1 (plan_of c.in-Some.chosen) f c.in_ok-path.path.items (rw c.deref.ensures.value at c.in_ok-path.ensures.nodes) in
+    let free = rw (← c.self.view_is) at c.requires.free in
+    let q = gives g.N.PartialEq.eq g.met.N.Eq.laws g.C.Number.value _ _ _ _ _ _ edges start test g.C.Number.fits s v r.0 r.1 (plan_of c.in-Some.chosen) f free c.in_ok-path.path.items (rw c.deref.ensures.value at c.in_ok-path.ensures.nodes) in
     rw (← c.self.view_is, c.and.ensures) (q.1, (q.0, refl))
