@@ -1,16 +1,44 @@
 -- Tables by their values.
-use Rattle.std.proofs.Common.{◌≡◌, ℕ, ◌+◌, ◌*◌, ◌<◌, refl, ap, ◌∙◌, arith, List, length, get_or}
+use Rattle.std.proofs.Common.{◌≡◌, ℕ, ◌+◌, ◌-◌, ◌*◌, ◌<◌, ◌≤◌, min, refl, ap, ◌∙◌, arith, List, length, get_or}
 use Rattle.std.specs.List.{swap}
 use Rattle.std.proofs.lemmas.Nat.{mul-add-lt}
 use Rattle.std.proofs.lemmas.List.Edits.{length-swap}
-use Rattle.pf_matrix.specs.Tables.{Table, IsMatrix, HasPosition}
-use Rattle.pf_matrix.specs.Arrange.{IsExchanged}
+use Rattle.pf_matrix.specs.Tables.{Table, IsMatrix, HasPosition, value_at}
+use Rattle.pf_matrix.specs.Arrange.{IsArranged, IsCovered, IsExchanged, IsOverwritten, itself}
 use Rattle.pf_matrix.proofs.SquareLemmas.{swap_first, swap_second, swap_other, apart}
 
 module _ {C : Type 0} where
   -- the place of a position inside is one of a value
   pub place_in : (m : Table C) → IsMatrix m → (r c : ℕ) → r < m.rows → c < m.columns → r * m.columns + c < length m.values
   place_in m ok r c h k = omega (arith, ok.sized, mul-add-lt r m.columns c m.rows h k)
+
+  -- a table of other values, in place
+  pub arranged_anew : (m : Table C) (ws : List C) (from : ℕ → ℕ → ℕ × ℕ) → IsMatrix m → length ws ≡ length m.values
+      → ((r c : ℕ) (d : C) → r < m.rows → c < m.columns → get_or ws (r * m.columns + c) d ≡ value_at m (from r c).0 (from r c).1 d)
+      → IsArranged itself m.rows m.columns from m (record { rows = m.rows; columns = m.columns; values = ws })
+  arranged_anew m ws from ok size reads = record {
+    rows = refl;
+    columns = refl;
+    values = reads;
+    matrix = record { sized = size ∙ ok.sized; filled = ok.filled; fits = ok.fits };
+  }
+
+  -- a part that is written over, as far as it fits
+  pub overwritten_table : (m part : Table C) (ws : List C) (at size : ℕ × ℕ) → IsMatrix m → length ws ≡ length m.values → at.0 ≤ m.rows → at.1 ≤ m.columns
+      → size.0 ≡ min part.rows (m.rows - at.0) → size.1 ≡ min part.columns (m.columns - at.1)
+      → ((r c : ℕ) (d : C) → r < size.0 → c < size.1 → get_or ws ((at.0 + r) * m.columns + (at.1 + c)) d ≡ get_or part.values (r * part.columns + c) d)
+      → ((r c : ℕ) (d : C) → c < m.columns → ¬ (IsCovered at size.0 size.1 r c) → get_or ws (r * m.columns + c) d ≡ get_or m.values (r * m.columns + c) d)
+      → IsOverwritten at part m (record { rows = m.rows; columns = m.columns; values = ws })
+  overwritten_table m part ws at size ok same rows columns height width copied others = record {
+    rows = refl;
+    columns = refl;
+    written = λ r c d p q v.
+        let row : at.0 + (r - at.0) ≡ r = omega (arith, v.below) in
+        let column : at.1 + (c - at.1) ≡ c = omega (arith, v.right) in
+        rw (row, column) at (copied (r - at.0) (c - at.1) d (omega (arith, v.above, v.below, height, p)) (omega (arith, v.left, v.right, width, q)));
+    others = λ r c d p q n. others r c d q (λ v. n (record { below = v.below; above = omega (arith, v.above, height); right = v.right; left = omega (arith, v.left, width) }));
+    matrix = record { sized = same ∙ ok.sized; filled = ok.filled; fits = ok.fits };
+  }
 
   pub exchanged_table : (m : Table C) (ws : List C) (a b : ℕ × ℕ) → IsMatrix m → HasPosition m a.0 a.1 → HasPosition m b.0 b.1
       → ws ≡ swap m.values (a.0 * m.columns + a.1) (b.0 * m.columns + b.1) → IsExchanged a b m (record { rows = m.rows; columns = m.columns; values = ws })
