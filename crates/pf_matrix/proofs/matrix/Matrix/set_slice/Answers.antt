@@ -2,7 +2,7 @@ use Rattle.std.proofs.Common.{◌≡◌, ◌+◌, ◌-◌, ◌*◌, ◌<◌, ap,
 use Rattle.std.proofs.lemmas.Nat.{mul-le}
 use Rattle.std.proofs.lemmas.List.{with_items_is}
 use Rattle.pf_matrix.specs.Tables.{Table}
-use Rattle.pf_matrix.proofs.TableLemmas.{overwritten_table}
+use Rattle.pf_matrix.proofs.TableLemmas.{matrix_anew, overwritten_table}
 use Rattle.pf_matrix.proofs.matrix.Matrix.set_slice.Goals as goal
 
 pub copy_part-requires-clause-rows : goal.copy_part-requires-clause-rows
@@ -29,8 +29,9 @@ copy_part-requires-clause-part_rows g c =
 pub invariant_of-self : goal.invariant_of-self
 invariant_of-self g c =
     let s = c.self.inside in
+    let m : Table g.row.C.Denot = record { rows = s.rows; columns = s.columns; values = s.values.items } in
     let size : length c.copy_part.new.values ≡ length s.values.items = c.copy_part.auto.values ∙ ap length c.as_mut_slice.ensures.value in
-    rw (with_items_is s.values c.copy_part.new.values (size ∙ sym s.values.ok.0)) (record { sized = size ∙ c.self.invariant.sized; filled = c.self.invariant.filled; fits = c.self.invariant.fits })
+    rw (with_items_is s.values c.copy_part.new.values (size ∙ sym s.values.ok.0)) (matrix_anew m c.copy_part.new.values c.self.invariant size)
 
 pub returns : goal.returns
 returns g c =

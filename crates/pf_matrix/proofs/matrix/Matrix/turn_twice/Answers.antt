@@ -1,9 +1,17 @@
-use Rattle.std.proofs.Common.{◌≡◌, ◌+◌, ◌-◌, ◌*◌, ap, ◌∙◌, arith, length, get_or, reverse}
+use Rattle.std.proofs.Common.{◌≡◌, ◌+◌, ◌-◌, ◌*◌, ap, sym, ◌∙◌, arith, length, get_or, reverse}
 use Rattle.std.proofs.lemmas.List.{with_items_is, get_or-reverse}
 use Rattle.pf_matrix.specs.Tables.{Table}
-use Rattle.pf_matrix.proofs.TableLemmas.{arranged_anew, place_in}
+use Rattle.pf_matrix.proofs.TableLemmas.{arranged_anew, matrix_anew, place_in}
 use Rattle.pf_matrix.proofs.SliceLemmas.{turned_place}
 use Rattle.pf_matrix.proofs.matrix.Matrix.turn_twice.Goals as goal
+
+pub invariant_of-self : goal.invariant_of-self
+invariant_of-self g c =
+    let s = c.self.inside in
+    let m : Table g.row.C.Denot = record { rows = s.rows; columns = s.columns; values = s.values.items } in
+    let ws = c.reverse.new.self in
+    let size : length ws ≡ length s.values.items = c.reverse.ensures.len ∙ ap length c.as_mut_slice.ensures.value in
+    rw (with_items_is s.values ws (size ∙ sym s.values.ok.0)) (matrix_anew m ws c.self.invariant size)
 
 pub returns : goal.returns
 returns g c =

@@ -1,6 +1,6 @@
 use Rattle.std.proofs.Common.{◌≡◌, ap, sym, ◌∙◌, arith, [], ◌∷◌, ◌++◌, length, append_assoc, map, Some}
 use Rattle.std.specs.Vec.Iter.{into_iter_items}
-use Rattle.std.proofs.lemmas.List.{append-nil, length_push, nil_from_length}
+use Rattle.std.proofs.lemmas.List.{append-nil, length-map, length_push, nil_from_length}
 use Rattle.pf_matrix.proofs.TakeLemmas.{all_read, all_some}
 use Rattle.pf_matrix.proofs.matrix.transposition.all_waiting.Goals as goal
 
@@ -40,3 +40,9 @@ returns-clause-all g c = λ k d h.
     let none : into_iter_items c.loop-value.value-iterator ≡ [] = nil_from_length (into_iter_items c.loop-value.value-iterator) (omega (arith, c.loop-value.invariant.len, c.in-None.ensures.steps.0)) in
     let all : c.loop-value.waiting.items ≡ map Some c.args.values.items = sym (append-nil c.loop-value.waiting.items) ∙ (rw none at c.loop-value.invariant.all) in
     rw all (all_read c.args.values.items k d (omega (arith, c.args.values.ok.0)))
+
+pub returns-clause-len : goal.returns-clause-len
+returns-clause-len g c =
+    let none : into_iter_items c.loop-value.value-iterator ≡ [] = nil_from_length (into_iter_items c.loop-value.value-iterator) (omega (arith, c.loop-value.invariant.len, c.in-None.ensures.steps.0)) in
+    let all : c.loop-value.waiting.items ≡ map Some c.args.values.items = sym (append-nil c.loop-value.waiting.items) ∙ (rw none at c.loop-value.invariant.all) in
+    omega (arith, c.loop-value.waiting.ok.0, c.args.values.ok.0, ap length all, length-map c.args.values.items Some)

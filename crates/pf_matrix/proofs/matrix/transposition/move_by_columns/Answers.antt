@@ -16,3 +16,16 @@ returns-clause-moved g c = λ r k d p q.
     let same = c.take_by_columns.ensures.values r k d p q ∙ ap (λ ws. get_or ws at None) c.as_mut_slice.ensures.value
         ∙ c.all_waiting-waiting.ensures.all at d (omega (arith, below, c.requires, ap (λ v. vec_len v) all)) ∙ ap (λ v. Some (get_or v.items at d)) all in
     cc same
+
+pub all_waiting-waiting-requires-clause-room : goal.all_waiting-waiting-requires-clause-room
+all_waiting-waiting-requires-clause-room g c = omega (arith, ap (λ v. vec_len v) c.replace-all.ensures.value, c.in_ok-waiting.ensures.capacity, c.len.ensures)
+
+pub take_by_columns-requires-clause-size : goal.take_by_columns-requires-clause-size
+take_by_columns-requires-clause-size g c =
+    omega (arith, ap length c.as_mut_slice.ensures.value, c.all_waiting-waiting.result.ok.0, c.all_waiting-waiting.ensures.len, ap (λ v. vec_len v) c.replace-all.ensures.value, c.requires)
+
+pub take_by_columns-requires-clause-room : goal.take_by_columns-requires-clause-room
+take_by_columns-requires-clause-room g c = omega (arith, c.in_ok-ordered.ensures.capacity, c.len-2.ensures, c.requires)
+
+pub returns-clause-len : goal.returns-clause-len
+returns-clause-len g c = c.take_by_columns.ensures.len ∙ sym c.requires
