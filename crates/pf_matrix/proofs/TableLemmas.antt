@@ -1,7 +1,7 @@
 -- Tables by their values.
 use Rattle.std.proofs.Common.{◌≡◌, ℕ, ◌+◌, ◌-◌, ◌*◌, ◌<◌, ◌≤◌, min, refl, sym, ap, ◌∙◌, arith, List, length, get_or}
 use Rattle.std.specs.List.{swap}
-use Rattle.std.proofs.lemmas.Nat.{mul-add-lt}
+use Rattle.std.proofs.lemmas.Nat.{mul-add-lt, mul-le}
 use Rattle.std.proofs.lemmas.List.Edits.{length-swap}
 use Rattle.pf_matrix.specs.Tables.{Table, IsMatrix, HasPosition, value_at}
 use Rattle.pf_matrix.specs.Arrange.{IsArranged, IsCovered, IsExchanged, IsOverwritten, IsTransposed, itself}
@@ -38,20 +38,24 @@ module _ {C : Type 0} where
     matrix = matrix_anew m ws ok size;
   }
 
+  -- rows among those of a matrix
+  pub rows_within : (m : Table C) (rows : ℕ) (ws : List C) → IsMatrix m → ws ≡ m.values → rows ≤ m.rows → rows * m.columns ≤ length ws
+  rows_within m rows ws ok is h = omega (arith, mul-le rows m.columns m.rows m.columns h (omega arith), ok.sized, ap length is)
+
   -- a part that is written over, as far as it fits
-  pub overwritten_table : (m part : Table C) (ws : List C) (at size : ℕ × ℕ) → IsMatrix m → length ws ≡ length m.values → at.0 ≤ m.rows → at.1 ≤ m.columns
-      → size.0 ≡ min part.rows (m.rows - at.0) → size.1 ≡ min part.columns (m.columns - at.1)
-      → ((r c : ℕ) (d : C) → r < size.0 → c < size.1 → get_or ws ((at.0 + r) * m.columns + (at.1 + c)) d ≡ get_or part.values (r * part.columns + c) d)
-      → ((r c : ℕ) (d : C) → c < m.columns → ¬ (IsCovered at size.0 size.1 r c) → get_or ws (r * m.columns + c) d ≡ get_or m.values (r * m.columns + c) d)
+  pub overwritten_table : (m part : Table C) (ws : List C) (at : ℕ × ℕ) (height width : ℕ) → IsMatrix m → length ws ≡ length m.values → at.0 ≤ m.rows → at.1 ≤ m.columns
+      → height ≡ min part.rows (m.rows - at.0) → width ≡ min part.columns (m.columns - at.1)
+      → ((r c : ℕ) (d : C) → r < height → c < width → get_or ws ((at.0 + r) * m.columns + (at.1 + c)) d ≡ get_or part.values (r * part.columns + c) d)
+      → ((r c : ℕ) (d : C) → c < m.columns → ¬ (IsCovered at height width r c) → get_or ws (r * m.columns + c) d ≡ get_or m.values (r * m.columns + c) d)
       → IsOverwritten at part m (record { rows = m.rows; columns = m.columns; values = ws })
-  overwritten_table m part ws at size ok same rows columns height width copied others = record {
+  overwritten_table m part ws at height width ok same rows columns tall wide copied others = record {
     rows = refl;
     columns = refl;
     written = λ r c d p q v.
         let row : at.0 + (r - at.0) ≡ r = omega (arith, v.below) in
         let column : at.1 + (c - at.1) ≡ c = omega (arith, v.right) in
-        rw (row, column) at (copied (r - at.0) (c - at.1) d (omega (arith, v.above, v.below, height, p)) (omega (arith, v.left, v.right, width, q)));
-    others = λ r c d p q n. others r c d q (λ v. n (record { below = v.below; above = omega (arith, v.above, height); right = v.right; left = omega (arith, v.left, width) }));
+        rw (row, column) at (copied (r - at.0) (c - at.1) d (omega (arith, v.above, v.below, tall, p)) (omega (arith, v.left, v.right, wide, q)));
+    others = λ r c d p q n. others r c d q (λ v. n (record { below = v.below; above = omega (arith, v.above, tall); right = v.right; left = omega (arith, v.left, wide) }));
     matrix = matrix_anew m ws ok same;
   }
 

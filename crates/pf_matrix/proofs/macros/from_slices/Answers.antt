@@ -5,7 +5,7 @@ use Rattle.std.proofs.lemmas.List.{nil_from_length}
 use Rattle.pf_search.proofs.ResultLemmas.{refused_as}
 use Rattle.pf_matrix.specs.declared.error.MatrixFormatError.TheVariants.{OutOfMemory}
 use Rattle.pf_matrix.specs.Rows.{joined, first_length, first_refusal}
-use Rattle.pf_matrix.proofs.RowLemmas.{AllZip-append, joined_more, refusal_empty, refusal_fits, refusal_long, refusal_next}
+use Rattle.pf_matrix.proofs.RowLemmas.{AllZip-append, joined_more, refusal_fits, refusal_next, refusal_of}
 use Rattle.pf_matrix.proofs.macros.from_slices.Goals as goal
 
 pub loop-row-preserved : goal.loop-row-preserved
@@ -33,19 +33,8 @@ loop-row-preserved g c =
 pub returns-in_err-extend-clause-refused : goal.returns-in_err-extend-clause-refused
 returns-in_err-extend-clause-refused g c =
     let rows = c.args.rows.now in
-    let i = c.loop-row.row-index in
-    let row = c.row-item.result in
     let inv = c.loop-row.invariant in
     let refusal = c.in_err-extend.ensures in
     let error = c.in_err-extend.field-0.0 in
-    let next = sym inv.rest ∙ refusal_next rows i (first_length rows) row (omega arith) c.row-item.is in
-    let why : (error ≡ OutOfMemory) ⊎ (first_refusal (first_length rows) rows ≡ Some error) = elim refusal.refused [
-      | inl e ↦ inr (next ∙ refusal_empty (first_length rows) row (drop (i + 1) rows) (refusal.empty_row.0 (ap Err e)) ∙ ap Some (sym e))
-      | inr o ↦ elim o [
-        | inl e ↦
-            let long = refusal.wrong_length.0 (ap Err e) in
-            inr (next ∙ refusal_long (first_length rows) row (drop (i + 1) rows) long.0 (λ h. long.1 (h ∙ sym inv.columns)) ∙ ap Some (sym e))
-        | inr e ↦ inl e
-      ]
-    ] in
-    refused_as (λ e. (e ≡ OutOfMemory) ⊎ (first_refusal (first_length rows) rows ≡ Some e)) c.from_residual.result error c.from_residual.ensures.1 why
+    refused_as (λ e. (e ≡ OutOfMemory) ⊎ (first_refusal (first_length rows) rows ≡ Some e)) c.from_residual.result error c.from_residual.ensures.1
+    (refusal_of rows c.loop-row.row-index c.loop-row.matrix.columns c.row-item.result error (omega arith) c.row-item.is inv.rest inv.columns (λ e. refusal.empty_row.0 (ap Err e)) (λ e. refusal.wrong_length.0 (ap Err e)) refusal.refused)

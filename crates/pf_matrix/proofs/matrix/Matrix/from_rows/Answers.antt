@@ -1,9 +1,9 @@
-use Rattle.std.proofs.Common.{◌≡◌, ◌*◌, ◌<◌, ap, sym, refl, ◌∙◌, arith, length, [], ◌∷◌, ◌++◌, inr, ◌⊎◌}
+use Rattle.std.proofs.Common.{◌≡◌, ◌*◌, ◌<◌, ap, sym, refl, ◌∙◌, arith, length, [], ◌∷◌, ◌++◌, inr, ◌⊎◌, Err}
 use Rattle.std.proofs.iter.Next.{Yields-more}
 use Rattle.pf_search.proofs.ResultLemmas.{refused_as}
 use Rattle.pf_matrix.specs.declared.error.MatrixFormatError.TheVariants.{EmptyRow, OutOfMemory, WrongLength}
 use Rattle.pf_matrix.specs.Rows.{GivesAll}
-use Rattle.pf_matrix.proofs.RowLemmas.{AllZip-append, flat_more, length-flat, grown, other_width, refused_is, rows_matrix}
+use Rattle.pf_matrix.proofs.RowLemmas.{AllZip-append, empty_is_not_long, empty_is_not_memory, flat_more, length-flat, grown, long_is_not_memory, ok_is_no_error, other_width, refused_is, rows_matrix}
 use Rattle.pf_matrix.proofs.matrix.Matrix.from_rows.Goals as goal
 
 pub loop-row-init : goal.loop-row-init
@@ -106,33 +106,29 @@ returns-then-columns-eq0-clause-empty_row g c = λ _.
     }
 
 pub returns-in_err-length-clause-wrong_length : goal.returns-in_err-length-clause-wrong_length
-returns-in_err-length-clause-wrong_length g c = λ q.
-    let e : WrongLength ≡ OutOfMemory = refused_is c.from_residual.result c.in_err-length.field-0.0 WrongLength c.from_residual.ensures.1 q ∙ c.in_err-length.ensures.refused in
-    absurd (cc)
+returns-in_err-length-clause-wrong_length g c = λ q. absurd (long_is_not_memory (refused_is c.from_residual.result c.in_err-length.field-0.0 WrongLength c.from_residual.ensures.1 q ∙ c.in_err-length.ensures.refused))
 
 pub returns-in_err-length-clause-empty_row : goal.returns-in_err-length-clause-empty_row
-returns-in_err-length-clause-empty_row g c = λ q.
-    let e : EmptyRow ≡ OutOfMemory = refused_is c.from_residual.result c.in_err-length.field-0.0 EmptyRow c.from_residual.ensures.1 q ∙ c.in_err-length.ensures.refused in
-    absurd (cc)
+returns-in_err-length-clause-empty_row g c = λ q. absurd (empty_is_not_memory (refused_is c.from_residual.result c.in_err-length.field-0.0 EmptyRow c.from_residual.ensures.1 q ∙ c.in_err-length.ensures.refused))
 
 pub returns-in_err-length-clause-refused : goal.returns-in_err-length-clause-refused
 returns-in_err-length-clause-refused g c =
     refused_as (λ e. (e ≡ WrongLength) ⊎ (e ≡ EmptyRow) ⊎ (e ≡ OutOfMemory)) c.from_residual.result c.in_err-length.field-0.0 c.from_residual.ensures.1 (inr (inr c.in_err-length.ensures.refused))
 
 pub returns-then-unwrap_or-length-clause-empty_row : goal.returns-then-unwrap_or-length-clause-empty_row
-returns-then-unwrap_or-length-clause-empty_row g c = λ q. absurd (cc)
+returns-then-unwrap_or-length-clause-empty_row g c = λ q. absurd (empty_is_not_long (refused_is (Err WrongLength) WrongLength EmptyRow refl q))
 
 pub returns-in_default-clause-wrong_length : goal.returns-in_default-clause-wrong_length
-returns-in_default-clause-wrong_length g c = λ q. absurd (cc)
+returns-in_default-clause-wrong_length g c = λ q. absurd (ok_is_no_error _ _ q)
 
 pub returns-in_default-clause-empty_row : goal.returns-in_default-clause-empty_row
-returns-in_default-clause-empty_row g c = λ q. absurd (cc)
+returns-in_default-clause-empty_row g c = λ q. absurd (ok_is_no_error _ _ q)
 
 pub returns-then-columns-eq0-clause-wrong_length : goal.returns-then-columns-eq0-clause-wrong_length
-returns-then-columns-eq0-clause-wrong_length g c = λ q. absurd (cc)
+returns-then-columns-eq0-clause-wrong_length g c = λ q. absurd (empty_is_not_long (sym (refused_is (Err EmptyRow) EmptyRow WrongLength refl q)))
 
 pub returns-clause-wrong_length : goal.returns-clause-wrong_length
-returns-clause-wrong_length g c = λ q. absurd (cc)
+returns-clause-wrong_length g c = λ q. absurd (ok_is_no_error _ _ q)
 
 pub returns-clause-empty_row : goal.returns-clause-empty_row
-returns-clause-empty_row g c = λ q. absurd (cc)
+returns-clause-empty_row g c = λ q. absurd (ok_is_no_error _ _ q)

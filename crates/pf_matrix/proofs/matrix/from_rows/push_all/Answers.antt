@@ -15,8 +15,7 @@ overflow_sub-result g c =
 pub returns-clause-given : goal.returns-clause-given
 returns-clause-given g c =
     let before : c.len-before.result ≡ length c.args.values.now.items = c.len-before.ensures ∙ c.args.values.now.ok.0 in
-    let after : c.len.result ≡ length c.loop-value.values.items = c.len.ensures ∙ c.loop-value.values.ok.0 in
-    (
+    let after : c.len.result ≡ length c.loop-value.values.items = c.len.ensures ∙ c.loop-value.values.ok.0 in (
       c.loop-value.yielded,
       record {
         iterator = c.into_iter-value-iterator.result;

@@ -1,4 +1,4 @@
-use Rattle.std.proofs.Common.{◌≡◌, ◌+◌, ◌*◌, ap, sym, subst, ◌∙◌, arith, length, get_or, vec_len, Some, None}
+use Rattle.std.proofs.Common.{◌+◌, ◌*◌, ap, sym, subst, ◌∙◌, arith, length, get_or, vec_len, Some, None}
 use Rattle.std.specs.Prelude.{IsSome}
 use Rattle.std.proofs.lemmas.Nat.{mul-add-lt}
 use Rattle.pf_matrix.proofs.matrix.transposition.move_by_columns.Goals as goal
@@ -14,7 +14,7 @@ returns-clause-moved g c = λ r k d p q.
     let below = mul-add-lt k c.args.columns r c.args.rows q p in
     let all = c.replace-all.ensures.value in
     let same = c.take_by_columns.ensures.values r k d p q ∙ ap (λ ws. get_or ws at None) c.as_mut_slice.ensures.value
-        ∙ c.all_waiting-waiting.ensures.all at d (omega (arith, below, c.requires, ap (λ v. vec_len v) all)) ∙ ap (λ v. Some (get_or v.items at d)) all in
+    ∙ c.all_waiting-waiting.ensures.all at d (omega (arith, below, c.requires, ap (λ v. vec_len v) all)) ∙ ap (λ v. Some (get_or v.items at d)) all in
     cc same
 
 pub all_waiting-waiting-requires-clause-room : goal.all_waiting-waiting-requires-clause-room
