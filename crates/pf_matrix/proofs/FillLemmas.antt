@@ -16,6 +16,10 @@ module _ {X Y : Type 0} (like : X → Y → Type 0) (w : ℕ) (place : ℕ → �
   pub fill_none : ys ≡ [] → Filling like w place xs ys 0
   fill_none e = record { size = ap length e; values = λ r c d y h k. absurd (omega arith) }
 
+  -- the same at the begin of the first row
+  pub fill_begin : ys ≡ [] → Filling like w place xs ys (0 * w)
+  fill_begin e = let none : 0 * w ≡ 0 = omega arith in rw none (fill_none e)
+
   -- one value more, at row r and column c
   pub fill_one : (r c : ℕ) (y : Y) → c < w → ((d : X) → like (get_or xs (place r c) d) y) → Filling like w place xs ys (r * w + c) → Filling like w place xs (ys ++ y ∷ []) (r * w + c + 1)
   fill_one r c y inside right f = record {

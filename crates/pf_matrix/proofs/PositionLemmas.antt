@@ -1,6 +1,11 @@
 -- The positions of a table, one after another.
-use Rattle.std.proofs.Common.{◌≡◌, ℕ, zero, suc, ◌+◌, ◌*◌, ◌/◌, ◌%◌, ◌<◌, ◌≤◌, ap, ◌∙◌, arith, [], ◌∷◌, length, drop, get_or}
-use Rattle.std.proofs.lemmas.List.{drop_more, drop_all}
+use Rattle.std.proofs.Common.{◌≡◌, ℕ, zero, suc, ◌+◌, ◌*◌, ◌/◌, ◌%◌, ◌<◌, ◌≤◌, ap, sym, ◌∙◌, arith, rules, true, false, List, [], ◌∷◌, length, drop, get_or, Option, Some, None}
+use Rattle.std.specs.Option.{is_some}
+use Rattle.std.specs.List.{cons_option, filter_map}
+use Rattle.std.specs.Iterator.{MakesProgress, YieldsFirst, item_count}
+use Rattle.std.specs.Prelude.{⊤}
+use Rattle.std.proofs.lemmas.Bool.{false≢true}
+use Rattle.std.proofs.lemmas.List.{at_drop_more, drop_more, drop_all}
 use Rattle.std.proofs.lemmas.List.FromFn.{length-map-range_with_len, get_or-map-range_with_len}
 use Rattle.std.proofs.lemmas.Nat.{mul-add-lt, div-mul-add, mod-mul-add}
 use Rattle.pf_matrix.specs.Positions.{positions}
@@ -31,3 +36,21 @@ positions_more rows columns r c h k =
 
 pub positions_none : (rows columns k : ℕ) → rows * columns ≤ k → drop k (positions rows columns) ≡ []
 positions_none rows columns k h = drop_all k (positions rows columns) (omega (arith, length-positions rows columns))
+
+-- ---- the first of those that are left which leads somewhere
+
+module _ {X Y : Type 0} (f : X → Option Y) (xs : List X) (n : ℕ) (x : X) (inside : n < length xs) where
+  next_step : filter_map f (drop n xs) ≡ cons_option (f (get_or xs n x)) (filter_map f (drop (n + 1) xs))
+  next_step = at_drop_more (filter_map f) xs n x inside
+
+  pub steps_some : (whole : List Y) (r : Option Y) → r ≡ f (get_or xs n x) → true ≡ is_some r → filter_map f (drop n xs) ≡ whole → YieldsFirst (λ (ys : List Y). ys) whole r (filter_map f (drop (n + 1) xs))
+  steps_some whole None e t left = absurd (false≢true (sym t))
+  steps_some whole (Some y) e t left = sym left ∙ next_step ∙ ap (λ o. cons_option o (filter_map f (drop (n + 1) xs))) (sym e)
+
+  pub steps_none : (whole : List Y) (r : Option Y) → r ≡ f (get_or xs n x) → false ≡ is_some r → filter_map f (drop n xs) ≡ whole → filter_map f (drop (n + 1) xs) ≡ whole
+  steps_none whole None e t left = ap (λ o. cons_option o (filter_map f (drop (n + 1) xs))) e ∙ sym next_step ∙ left
+  steps_none whole (Some y) e t left = absurd (false≢true t)
+
+pub progress_some : {Y : Type 0} (whole rest : List Y) (r : Option Y) → true ≡ is_some r → YieldsFirst (λ (ys : List Y). ys) whole r rest → MakesProgress (λ _. ⊤) (item_count (λ (ys : List Y). ys)) whole r rest
+progress_some whole rest None t e = absurd (false≢true (sym t))
+progress_some whole rest (Some y) t e = let n = ap length e in record { on = λ f. (tt, search rules, omega (arith, n)); keeps = tt; rests = λ f. tt }

@@ -30,6 +30,13 @@ module _ {X : Type 0} (a k : ℕ) (xs ys : List X) (fits : a + k ≤ length xs) 
       ∙ get_or-drop a xs (k + (i - a - k)) d
       ∙ ap (λ j. get_or xs j d) at
 
+turned_from : (r k w c : ℕ) → c < w → (r + 1 + k) * w - 1 - (r * w + c) ≡ k * w + (w - 1 - c)
+turned_from r k w c h = let e : (r + 1 + k) * w ≡ r * w + w + k * w = omega arith in omega (arith, e)
+
+-- the place of a position, from the end
+pub turned_place : (n w r c : ℕ) → r < n → c < w → n * w - 1 - (r * w + c) ≡ (n - 1 - r) * w + (w - 1 - c)
+turned_place n w r c h k = let e : n ≡ r + 1 + (n - 1 - r) = omega arith in ap (λ s. s * w - 1 - (r * w + c)) e ∙ turned_from r (n - 1 - r) w c k
+
 -- a row below another ends before it
 pub row_before : (r s w : ℕ) → r < s → r * w + w ≤ s * w
 row_before r s w h = let e : (r + 1) * w ≡ r * w + w = omega arith in omega (arith, mul-le (r + 1) w s w (omega arith) (omega arith))
@@ -79,6 +86,13 @@ module _ {X : Type 0} (row w n : ℕ) (xs : List X) (inside : row < n) (sized : 
       let at : length row_of - 1 - c ≡ w - 1 - c = omega arith in
       get_or-reverse row_of c d (omega arith) ∙ ap (λ k. get_or row_of k d) at ∙ read_row (w - 1 - c) d (omega arith)
 
+-- a part of a slice, as `&xs[a..a + k]` is
+pub length-part : {X : Type 0} (a k : ℕ) (xs : List X) → a + k ≤ length xs → length (take (a + k - a) (drop a xs)) ≡ k
+length-part a k xs h = simp (length-take, length-drop) (omega arith)
+
+pub get_or-part : {X : Type 0} (a k : ℕ) (xs : List X) (c : ℕ) (d : X) → c < k → get_or (take (a + k - a) (drop a xs)) c d ≡ get_or xs (a + c) d
+get_or-part a k xs c d h = get_or-take (a + k - a) (drop a xs) c d (omega arith) ∙ get_or-drop a xs c d
+
 -- after two rows were exchanged, of a slice that was split before the second of them
 module _ {X : Type 0} (row other w : ℕ) (xs above below us vs : List X) (order : row < other) (room : other * w + w ≤ length xs) (front : above ≡ take (other * w) xs) (back : below ≡ drop (other * w) xs) (us_size : length us ≡ w) (vs_size : length vs ≡ w) where
   width : row * w + w - row * w ≡ w
@@ -119,9 +133,32 @@ module _ {X : Type 0} (row other w : ℕ) (xs above below us vs : List X) (order
           ∙ get_or-drop (other * w) xs (w + (r * w + c - other * w - w)) d
           ∙ ap (λ k. get_or xs k d) at
 
--- a part of a slice, as `&xs[a..a + k]` is
-pub length-part : {X : Type 0} (a k : ℕ) (xs : List X) → a + k ≤ length xs → length (take (a + k - a) (drop a xs)) ≡ k
-length-part a k xs h = simp (length-take, length-drop) (omega arith)
+-- the two rows that were exchanged, each of which has what the other had
+module _ {X : Type 0} (row other w : ℕ) (xs above below us vs : List X) (order : row < other) (room : other * w + w ≤ length xs) (front : above ≡ take (other * w) xs) (back : below ≡ drop (other * w) xs) (us_is : us ≡ take w below) (vs_is : vs ≡ take (row * w + w - row * w) (drop (row * w) above)) where
+  first_fits : row * w + w ≤ length above
+  first_fits = omega (arith, row_before row other w order, ap length front ∙ length-take-le (other * w) xs (omega arith))
 
-pub get_or-part : {X : Type 0} (a k : ℕ) (xs : List X) (c : ℕ) (d : X) → c < k → get_or (take (a + k - a) (drop a xs)) c d ≡ get_or xs (a + c) d
-get_or-part a k xs c d h = get_or-take (a + k - a) (drop a xs) c d (omega arith) ∙ get_or-drop a xs c d
+  pub first_size : length us ≡ w
+  first_size = ap length us_is ∙ length-take-le w below (omega (arith, ap length back, length-drop (other * w) xs))
+
+  pub second_size : length vs ≡ w
+  second_size = ap length vs_is ∙ length-part (row * w) w above first_fits
+
+  pub swapped_first : (c : ℕ) (d : X) → c < w → get_or (put_mid (row * w) (row * w + w - row * w) above us ++ (vs ++ drop w below)) (row * w + c) d ≡ get_or xs (other * w + c) d
+  swapped_first c d h =
+      let width : row * w + w - row * w ≡ w = omega arith in
+      let mid = put_mid_inside (row * w) w above us first_fits first_size c d h in
+      let size : length (put_mid (row * w) w above us) ≡ other * w = joined_size row other w xs above below us vs order room front back first_size second_size in
+      rw width (get_or_append_left (put_mid (row * w) w above us) (vs ++ drop w below) d (row * w + c) (omega (arith, size, row_before row other w order))
+      ∙ mid ∙ ap (λ zs. get_or zs c d) us_is ∙ get_or-take w below c d h ∙ ap (λ zs. get_or zs c d) back ∙ get_or-drop (other * w) xs c d)
+
+  pub swapped_second : (c : ℕ) (d : X) → c < w → get_or (put_mid (row * w) (row * w + w - row * w) above us ++ (vs ++ drop w below)) (other * w + c) d ≡ get_or xs (row * w + c) d
+  swapped_second c d h =
+      let width : row * w + w - row * w ≡ w = omega arith in
+      let at : other * w + c - other * w ≡ c = omega arith in
+      let size : length (put_mid (row * w) w above us) ≡ other * w = joined_size row other w xs above below us vs order room front back first_size second_size in
+      rw width (get_or-append_right (put_mid (row * w) w above us) (vs ++ drop w below) (other * w) (other * w + c) d size (omega arith)
+      ∙ ap (λ k. get_or (vs ++ drop w below) k d) at
+      ∙ get_or_append_left vs (drop w below) d c (omega (arith, second_size))
+      ∙ ap (λ zs. get_or zs c d) vs_is ∙ get_or-part (row * w) w above c d h
+      ∙ ap (λ zs. get_or zs (row * w + c) d) front ∙ get_or-take (other * w) xs (row * w + c) d (omega (arith, row_before row other w order)))

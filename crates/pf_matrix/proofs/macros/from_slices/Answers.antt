@@ -1,9 +1,11 @@
-use Rattle.std.proofs.Common.{◌≡◌, ◌+◌, ap, sym, ◌∙◌, arith, length, [], take, drop, inl, inr}
+use Rattle.std.proofs.Common.{◌≡◌, ◌+◌, ap, sym, ◌∙◌, arith, length, [], take, drop, inl, inr, ◌⊎◌, Some, Err}
 use Rattle.std.specs.Prelude.{◌≢◌}
 use Rattle.std.proofs.lemmas.Bool.{cases_eq}
 use Rattle.std.proofs.lemmas.List.{nil_from_length}
-use Rattle.pf_matrix.specs.Rows.{joined, first_length}
-use Rattle.pf_matrix.proofs.RowLemmas.{AllZip-append, joined_more, refusal_next, refusal_fits}
+use Rattle.pf_search.proofs.ResultLemmas.{refused_as}
+use Rattle.pf_matrix.specs.declared.error.MatrixFormatError.TheVariants.{OutOfMemory}
+use Rattle.pf_matrix.specs.Rows.{joined, first_length, first_refusal}
+use Rattle.pf_matrix.proofs.RowLemmas.{AllZip-append, joined_more, refusal_fits, refusal_next, refusal_of}
 use Rattle.pf_matrix.proofs.macros.from_slices.Goals as goal
 
 pub loop-row-preserved : goal.loop-row-preserved
@@ -27,3 +29,12 @@ loop-row-preserved g c =
           (AllZip-append g.C.Clone.is_clone (joined (take i rows)) row.now c.loop-row.matrix.values put.values.0 inv.values put.values.2);
       rest = sym (refusal_fits (first_length rows) row (drop (i + 1) rows) some same) ∙ sym (refusal_next rows i (first_length rows) row (omega arith) c.row-item.is) ∙ inv.rest;
     }
+
+pub returns-in_err-extend-clause-refused : goal.returns-in_err-extend-clause-refused
+returns-in_err-extend-clause-refused g c =
+    let rows = c.args.rows.now in
+    let inv = c.loop-row.invariant in
+    let refusal = c.in_err-extend.ensures in
+    let error = c.in_err-extend.field-0.0 in
+    refused_as (λ e. (e ≡ OutOfMemory) ⊎ (first_refusal (first_length rows) rows ≡ Some e)) c.from_residual.result error c.from_residual.ensures.1
+    (refusal_of rows c.loop-row.row-index c.loop-row.matrix.columns c.row-item.result error (omega arith) c.row-item.is inv.rest inv.columns (λ e. refusal.empty_row.0 (ap Err e)) (λ e. refusal.wrong_length.0 (ap Err e)) refusal.refused)

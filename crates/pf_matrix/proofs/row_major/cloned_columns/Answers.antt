@@ -1,8 +1,28 @@
 use Rattle.std.proofs.Common.{◌≡◌, ℕ, ◌+◌, ◌*◌, arith, subst}
 use Rattle.std.proofs.lemmas.Nat.{mul-add-lt}
 use Rattle.std.proofs.lemmas.List.{get_or_read}
-use Rattle.pf_matrix.proofs.FillLemmas.{fill_one}
+use Rattle.pf_matrix.proofs.FillLemmas.{fill_begin, fill_one}
 use Rattle.pf_matrix.proofs.row_major.cloned_columns.Goals as goal
+
+pub loop-column-init : goal.loop-column-init
+loop-column-init g c = fill_begin g.C.Clone.is_clone c.args.rows (λ (r k : ℕ). k * c.args.columns + r) c.args.all.now c.in_ok-values.values.items c.in_ok-values.ensures.items
+
+pub loop-row-init : goal.loop-row-init
+loop-row-init g c =
+    let begin : c.loop-column.column * c.args.rows + 0 ≡ c.loop-column.column * c.args.rows = omega arith in
+    rw begin c.loop-column.invariant
+
+pub overflow_mul-row : goal.overflow_mul-row
+overflow_mul-row g c = omega (arith, c.requires, mul-add-lt c.loop-row.row c.args.columns c.loop-column.column c.args.rows (omega arith) (omega arith))
+
+pub overflow_add-row : goal.overflow_add-row
+overflow_add-row g c = omega (arith, c.requires, mul-add-lt c.loop-row.row c.args.columns c.loop-column.column c.args.rows (omega arith) (omega arith))
+
+pub bounds-all-row : goal.bounds-all-row
+bounds-all-row g c = omega (arith, c.requires, mul-add-lt c.loop-row.row c.args.columns c.loop-column.column c.args.rows (omega arith) (omega arith))
+
+pub offset_bounds-all-row : goal.offset_bounds-all-row
+offset_bounds-all-row g c = omega (arith, bounds-all-row g c)
 
 pub loop-row-preserved : goal.loop-row-preserved
 loop-row-preserved g c =
@@ -17,3 +37,19 @@ loop-row-preserved g c =
     rw (c.in_ok-push.ensures.items, at)
     (fill_one g.C.Clone.is_clone c.args.rows place all c.loop-row.values.items column row c.in_ok-clone.field-0 (omega arith)
     (λ d. subst (λ y. g.C.Clone.is_clone y c.in_ok-clone.field-0) (read d) c.in_ok-clone.ensures.cases) c.loop-row.invariant)
+
+pub loop-column-preserved : goal.loop-column-preserved
+loop-column-preserved g c =
+    let end : c.loop-row.row ≡ c.args.rows = omega arith in
+    let at : c.loop-column.column * c.args.rows + c.loop-row.row ≡ (c.loop-column.column + 1) * c.args.rows = omega (arith, end) in
+    rw at at c.loop-row.invariant
+
+pub returns-clause-len : goal.returns-clause-len
+returns-clause-len g c =
+    let end : c.loop-column.column ≡ c.args.columns = omega arith in
+    omega (arith, c.loop-column.values.ok.0, rw end at c.loop-column.invariant.size)
+
+pub returns-clause-values : goal.returns-clause-values
+returns-clause-values g c = λ r k d p q.
+    let end : c.loop-column.column ≡ c.args.columns = omega arith in
+    c.loop-column.invariant.values r k d d q (rw end (omega (arith, mul-add-lt r c.args.rows k c.args.columns p q)))

@@ -9,6 +9,24 @@ write_at-requires g c =
     let part = row_before c.loop-row.row c.args.size.0 c.args.part_columns (omega arith) in
     omega (arith, length-part (c.loop-row.row * c.args.part_columns) c.args.size.1 c.args.part.now (omega (arith, c.requires.part_rows)), c.requires.rows, c.loop-row.auto.values)
 
+pub overflow_add-begin : goal.overflow_add-begin
+overflow_add-begin g c = omega (arith, c.requires.fits)
+
+pub overflow_mul-begin : goal.overflow_mul-begin
+overflow_mul-begin g c = omega (arith, row_before (c.args.to.0 + c.loop-row.row) (c.args.to.0 + c.args.size.0) c.args.columns (omega arith), c.requires.rows)
+
+pub overflow_add-begin-in-loop-row : goal.overflow_add-begin-in-loop-row
+overflow_add-begin-in-loop-row g c = omega (arith, row_before (c.args.to.0 + c.loop-row.row) (c.args.to.0 + c.args.size.0) c.args.columns (omega arith), c.requires.rows, c.requires.columns)
+
+pub overflow_mul-from : goal.overflow_mul-from
+overflow_mul-from g c = omega (arith, row_before c.loop-row.row c.args.size.0 c.args.part_columns (omega arith), c.requires.part_rows)
+
+pub overflow_add-from : goal.overflow_add-from
+overflow_add-from g c = omega (arith, row_before c.loop-row.row c.args.size.0 c.args.part_columns (omega arith), c.requires.part_rows, c.requires.part_columns)
+
+pub slice_bounds-write_at-end : goal.slice_bounds-write_at-end
+slice_bounds-write_at-end g c = omega (arith, row_before c.loop-row.row c.args.size.0 c.args.part_columns (omega arith), c.requires.part_rows, c.requires.part_columns)
+
 pub loop-row-preserved : goal.loop-row-preserved
 loop-row-preserved g c =
     let row = c.loop-row.row in
@@ -53,3 +71,11 @@ loop-row-preserved g c =
             ]
       ];
     }
+
+pub returns-clause-copied : goal.returns-clause-copied
+returns-clause-copied g c = λ r k d h b. c.loop-row.invariant.copied r k d (omega arith) b
+
+pub returns-clause-others : goal.returns-clause-others
+returns-clause-others g c = λ r k d b n.
+    let end : c.args.size.0 ≡ c.loop-row.row = omega arith in
+    c.loop-row.invariant.others r k d b (rw end at n)

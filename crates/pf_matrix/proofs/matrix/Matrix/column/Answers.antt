@@ -1,4 +1,4 @@
-use Rattle.std.proofs.Common.{◌≡◌, ap, sym, ◌∙◌, arith, map, [], ◌∷◌, ◌++◌}
+use Rattle.std.proofs.Common.{◌≡◌, ap, sym, ◌∙◌, arith, length, map, [], ◌∷◌, ◌++◌}
 use Rattle.std.specs.Borrow.{Bor}
 use Rattle.std.proofs.lemmas.List.{map_push}
 use Rattle.std.proofs.lemmas.Nat.{mul-add-lt}
@@ -8,6 +8,30 @@ use Rattle.pf_matrix.proofs.matrix.Matrix.column.Goals as goal
 pub loop-row-init : goal.loop-row-init
 loop-row-init g c =
     ap (map (λ (x : Bor g.row.C.Denot). x.now)) c.in_ok-refs.ensures.items ∙ sym (column_none c.self.inside.columns c.args.column c.as_slice-values.result.now)
+
+pub overflow_mul-row : goal.overflow_mul-row
+overflow_mul-row g c =
+    let s = c.self.inside in
+    let inside = rw (← c.self.view_is) at c.requires in
+    let below = mul-add-lt c.loop-row.row s.columns c.args.column s.rows (omega arith) (omega (arith, inside)) in
+    omega (arith, below, c.self.invariant.sized, c.self.invariant.fits)
+
+pub overflow_add-row : goal.overflow_add-row
+overflow_add-row g c =
+    let s = c.self.inside in
+    let inside = rw (← c.self.view_is) at c.requires in
+    let below = mul-add-lt c.loop-row.row s.columns c.args.column s.rows (omega arith) (omega (arith, inside)) in
+    omega (arith, below, c.self.invariant.sized, c.self.invariant.fits)
+
+pub bounds-values-row : goal.bounds-values-row
+bounds-values-row g c =
+    let s = c.self.inside in
+    let inside = rw (← c.self.view_is) at c.requires in
+    let below = mul-add-lt c.loop-row.row s.columns c.args.column s.rows (omega arith) (omega (arith, inside)) in
+    omega (arith, below, c.self.invariant.sized, ap length c.as_slice-values.ensures.value)
+
+pub offset_bounds-values-row : goal.offset_bounds-values-row
+offset_bounds-values-row g c = omega (arith, bounds-values-row g c)
 
 pub loop-row-preserved : goal.loop-row-preserved
 loop-row-preserved g c =

@@ -1,8 +1,13 @@
-use Rattle.std.proofs.Common.{◌≡◌, ◌*◌, ◌<◌, ap, sym, refl, ◌∙◌, arith, length, [], ◌∷◌, ◌++◌}
+use Rattle.std.proofs.Common.{◌≡◌, ◌*◌, ◌<◌, ap, sym, refl, ◌∙◌, arith, length, [], ◌∷◌, ◌++◌, inr, ◌⊎◌, Err}
 use Rattle.std.proofs.iter.Next.{Yields-more}
+use Rattle.pf_search.proofs.ResultLemmas.{refused_as}
+use Rattle.pf_matrix.specs.declared.error.MatrixFormatError.TheVariants.{EmptyRow, OutOfMemory, WrongLength}
 use Rattle.pf_matrix.specs.Rows.{GivesAll}
-use Rattle.pf_matrix.proofs.RowLemmas.{AllZip-append, flat_more, length-flat, grown, other_width, rows_matrix}
+use Rattle.pf_matrix.proofs.RowLemmas.{AllZip-append, empty_is_not_long, empty_is_not_memory, flat_more, length-flat, grown, long_is_not_memory, ok_is_no_error, other_width, refused_is, rows_matrix}
 use Rattle.pf_matrix.proofs.matrix.Matrix.from_rows.Goals as goal
+
+pub loop-row-init : goal.loop-row-init
+loop-row-init g c = ([], tt, c.new-values.ensures.items, refl)
 
 pub push_all-requires : goal.push_all-requires
 push_all-requires g c = c.requires.rows_end.at c.into_iter-row-iterator.result c.loop-row.yielded c.loop-row.row-iterator c.in-Some.row c.next.new.self
@@ -71,3 +76,59 @@ returns-clause-made g c =
         none = λ e. absurd (omega (arith, ap length e, shape.0));
       };
     }
+
+pub returns-in_default-clause-made : goal.returns-in_default-clause-made
+returns-in_default-clause-made g c =
+    let i = c.loop-row.invariant in
+    let none = rw c.in_default.is at i.3 in
+    record {
+      iterator = c.into_iter-row-iterator.result;
+      given = c.loop-row.yielded;
+      lists = i.0;
+      made = c.into_iter-row-iterator.ensures.into_iter_gives;
+      drains = (c.next.new.self, (c.loop-row.row-iterator, c.loop-row.yielded_by, c.in-None.ensures.steps));
+      values = i.1;
+      holds = rw (c.new_empty.ensures.made, none) (record { rows = refl; columns = tt; values = refl; none = λ e. refl });
+    }
+
+pub returns-then-columns-eq0-clause-empty_row : goal.returns-then-columns-eq0-clause-empty_row
+returns-then-columns-eq0-clause-empty_row g c = λ _.
+    let i = c.loop-row.invariant in
+    let shape = rw c.in-Some-width.is at i.3 in
+    record {
+      iterator = c.into_iter-row-iterator.result;
+      given = c.loop-row.yielded;
+      lists = i.0;
+      made = c.into_iter-row-iterator.ensures.into_iter_gives;
+      drains = (c.next.new.self, (c.loop-row.row-iterator, c.loop-row.yielded_by, c.in-None.ensures.steps));
+      values = i.1;
+      holds = (shape.0, rw c.if-columns-eq0.true at shape.1);
+    }
+
+pub returns-in_err-length-clause-wrong_length : goal.returns-in_err-length-clause-wrong_length
+returns-in_err-length-clause-wrong_length g c = λ q. absurd (long_is_not_memory (refused_is c.from_residual.result c.in_err-length.field-0.0 WrongLength c.from_residual.ensures.1 q ∙ c.in_err-length.ensures.refused))
+
+pub returns-in_err-length-clause-empty_row : goal.returns-in_err-length-clause-empty_row
+returns-in_err-length-clause-empty_row g c = λ q. absurd (empty_is_not_memory (refused_is c.from_residual.result c.in_err-length.field-0.0 EmptyRow c.from_residual.ensures.1 q ∙ c.in_err-length.ensures.refused))
+
+pub returns-in_err-length-clause-refused : goal.returns-in_err-length-clause-refused
+returns-in_err-length-clause-refused g c =
+    refused_as (λ e. (e ≡ WrongLength) ⊎ (e ≡ EmptyRow) ⊎ (e ≡ OutOfMemory)) c.from_residual.result c.in_err-length.field-0.0 c.from_residual.ensures.1 (inr (inr c.in_err-length.ensures.refused))
+
+pub returns-then-unwrap_or-length-clause-empty_row : goal.returns-then-unwrap_or-length-clause-empty_row
+returns-then-unwrap_or-length-clause-empty_row g c = λ q. absurd (empty_is_not_long (refused_is (Err WrongLength) WrongLength EmptyRow refl q))
+
+pub returns-in_default-clause-wrong_length : goal.returns-in_default-clause-wrong_length
+returns-in_default-clause-wrong_length g c = λ q. absurd (ok_is_no_error _ _ q)
+
+pub returns-in_default-clause-empty_row : goal.returns-in_default-clause-empty_row
+returns-in_default-clause-empty_row g c = λ q. absurd (ok_is_no_error _ _ q)
+
+pub returns-then-columns-eq0-clause-wrong_length : goal.returns-then-columns-eq0-clause-wrong_length
+returns-then-columns-eq0-clause-wrong_length g c = λ q. absurd (empty_is_not_long (sym (refused_is (Err EmptyRow) EmptyRow WrongLength refl q)))
+
+pub returns-clause-wrong_length : goal.returns-clause-wrong_length
+returns-clause-wrong_length g c = λ q. absurd (ok_is_no_error _ _ q)
+
+pub returns-clause-empty_row : goal.returns-clause-empty_row
+returns-clause-empty_row g c = λ q. absurd (ok_is_no_error _ _ q)

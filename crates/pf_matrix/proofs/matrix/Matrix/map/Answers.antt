@@ -32,3 +32,12 @@ pub returns-clause-values : goal.returns-clause-values
 returns-clause-values g c =
     let none : into_iter_items c.loop-value.value-iterator ≡ [] = nil_from_length (into_iter_items c.loop-value.value-iterator) (omega (arith, c.loop-value.invariant.len, c.in-None.ensures.steps.0)) in
     record { each = simp append-nil at (c.loop-value.invariant.calls [] (rw none tt)) }
+
+pub invariant_of-result : goal.invariant_of-result
+invariant_of-result g c =
+    let none : into_iter_items c.loop-value.value-iterator ≡ [] = nil_from_length (into_iter_items c.loop-value.value-iterator) (omega (arith, c.loop-value.invariant.len, c.in-None.ensures.steps.0)) in
+    record {
+      sized = omega (arith, c.loop-value.invariant.count, ap length none, ap (λ t. length t.values) c.self.view_is, c.self.invariant.sized);
+      filled = c.self.invariant.filled;
+      fits = c.self.invariant.fits;
+    }
