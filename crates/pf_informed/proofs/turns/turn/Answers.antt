@@ -9,6 +9,7 @@ use Rattle.pf_core.proofs.WalkLemmas.{no_negative}
 use Rattle.pf_informed.proofs.GrowingLemmas.{follows_beside, queue_beside}
 use Rattle.pf_informed.proofs.InformedLemmas.{queue_kept, informed_opened}
 use Rattle.pf_informed.proofs.KnownLemmas.{estimated_grown}
+use Rattle.pf_informed.proofs.Outcomes.{refused_as, on_refused}
 use Rattle.pf_informed.proofs.turns.turn.Goals as goal
 
 abbrev tested : {N : Type 0} → NodeGraph N → (N → Bool) → TestedGraph N
@@ -109,3 +110,108 @@ returns-clause-graph g c = λ h test least d.
           entries (heap ++ rest) (heap_items c.follow.new.self.queue ++ rest) number l.0 l.1 left fails row.0 (λ y k. row.4 (tested h test) (d.explores, d.tested) y k) row.3 someone whole c.requires.forest i in
           rw f.estimates opened,
     )
+
+pub returns-in_err-expand-clause-wide : goal.returns-in_err-expand-clause-wide
+returns-in_err-expand-clause-wide g c = on_refused _ c.from_residual.result _ c.from_residual.ensures.1
+
+pub returns-in_err-expand-clause-asked : goal.returns-in_err-expand-clause-asked
+returns-in_err-expand-clause-asked g c = on_refused _ c.from_residual.result _ c.from_residual.ensures.1
+
+pub returns-in_err-expand-clause-forest : goal.returns-in_err-expand-clause-forest
+returns-in_err-expand-clause-forest g c = on_refused _ c.from_residual.result _ c.from_residual.ensures.1
+
+pub returns-in_err-expand-clause-ordered : goal.returns-in_err-expand-clause-ordered
+returns-in_err-expand-clause-ordered g c = on_refused _ c.from_residual.result _ c.from_residual.ensures.1
+
+pub returns-in_err-expand-clause-queue : goal.returns-in_err-expand-clause-queue
+returns-in_err-expand-clause-queue g c = on_refused _ c.from_residual.result _ c.from_residual.ensures.1
+
+pub returns-in_err-expand-clause-less : goal.returns-in_err-expand-clause-less
+returns-in_err-expand-clause-less g c = on_refused _ c.from_residual.result _ c.from_residual.ensures.1
+
+pub returns-in_err-expand-clause-graph : goal.returns-in_err-expand-clause-graph
+returns-in_err-expand-clause-graph g c = on_refused _ c.from_residual.result _ c.from_residual.ensures.1
+
+pub returns-in_err-expand-clause-grows : goal.returns-in_err-expand-clause-grows
+returns-in_err-expand-clause-grows g c = c.in_err-expand.ensures.grows
+
+pub returns-in_err-expand-clause-refused : goal.returns-in_err-expand-clause-refused
+returns-in_err-expand-clause-refused g c = refused_as _ c.from_residual.result _ c.from_residual.ensures.1 c.in_err-expand.ensures.refused.0
+
+pub returns-in_err-ask-clause-wide : goal.returns-in_err-ask-clause-wide
+returns-in_err-ask-clause-wide g c = on_refused _ c.from_residual-in_err-ask.result _ c.from_residual-in_err-ask.ensures.1
+
+pub returns-in_err-ask-clause-asked : goal.returns-in_err-ask-clause-asked
+returns-in_err-ask-clause-asked g c = on_refused _ c.from_residual-in_err-ask.result _ c.from_residual-in_err-ask.ensures.1
+
+pub returns-in_err-ask-clause-forest : goal.returns-in_err-ask-clause-forest
+returns-in_err-ask-clause-forest g c = on_refused _ c.from_residual-in_err-ask.result _ c.from_residual-in_err-ask.ensures.1
+
+pub returns-in_err-ask-clause-ordered : goal.returns-in_err-ask-clause-ordered
+returns-in_err-ask-clause-ordered g c = on_refused _ c.from_residual-in_err-ask.result _ c.from_residual-in_err-ask.ensures.1
+
+pub returns-in_err-ask-clause-queue : goal.returns-in_err-ask-clause-queue
+returns-in_err-ask-clause-queue g c = on_refused _ c.from_residual-in_err-ask.result _ c.from_residual-in_err-ask.ensures.1
+
+pub returns-in_err-ask-clause-less : goal.returns-in_err-ask-clause-less
+returns-in_err-ask-clause-less g c = on_refused _ c.from_residual-in_err-ask.result _ c.from_residual-in_err-ask.ensures.1
+
+pub returns-in_err-ask-clause-graph : goal.returns-in_err-ask-clause-graph
+returns-in_err-ask-clause-graph g c = on_refused _ c.from_residual-in_err-ask.result _ c.from_residual-in_err-ask.ensures.1
+
+pub returns-in_err-ask-clause-grows : goal.returns-in_err-ask-clause-grows
+returns-in_err-ask-clause-grows g c = c.in_ok-expand.ensures.grows
+
+pub returns-in_err-ask-clause-refused : goal.returns-in_err-ask-clause-refused
+returns-in_err-ask-clause-refused g c = refused_as _ c.from_residual-in_err-ask.result _ c.from_residual-in_err-ask.ensures.1 c.in_err-ask.ensures.refused
+
+pub returns-in_err-follow-clause-wide : goal.returns-in_err-follow-clause-wide
+returns-in_err-follow-clause-wide g c = on_refused _ c.from_residual-in_err-follow.result _ c.from_residual-in_err-follow.ensures.1
+
+pub returns-in_err-follow-clause-asked : goal.returns-in_err-follow-clause-asked
+returns-in_err-follow-clause-asked g c = on_refused _ c.from_residual-in_err-follow.result _ c.from_residual-in_err-follow.ensures.1
+
+pub returns-in_err-follow-clause-forest : goal.returns-in_err-follow-clause-forest
+returns-in_err-follow-clause-forest g c = on_refused _ c.from_residual-in_err-follow.result _ c.from_residual-in_err-follow.ensures.1
+
+pub returns-in_err-follow-clause-ordered : goal.returns-in_err-follow-clause-ordered
+returns-in_err-follow-clause-ordered g c = on_refused _ c.from_residual-in_err-follow.result _ c.from_residual-in_err-follow.ensures.1
+
+pub returns-in_err-follow-clause-queue : goal.returns-in_err-follow-clause-queue
+returns-in_err-follow-clause-queue g c = on_refused _ c.from_residual-in_err-follow.result _ c.from_residual-in_err-follow.ensures.1
+
+pub returns-in_err-follow-clause-less : goal.returns-in_err-follow-clause-less
+returns-in_err-follow-clause-less g c = on_refused _ c.from_residual-in_err-follow.result _ c.from_residual-in_err-follow.ensures.1
+
+pub returns-in_err-follow-clause-graph : goal.returns-in_err-follow-clause-graph
+returns-in_err-follow-clause-graph g c = on_refused _ c.from_residual-in_err-follow.result _ c.from_residual-in_err-follow.ensures.1
+
+pub returns-in_err-follow-clause-grows : goal.returns-in_err-follow-clause-grows
+returns-in_err-follow-clause-grows g c = c.in_ok-expand.ensures.grows
+
+pub returns-in_err-follow-clause-refused : goal.returns-in_err-follow-clause-refused
+returns-in_err-follow-clause-refused g c = refused_as _ c.from_residual-in_err-follow.result _ c.from_residual-in_err-follow.ensures.1 c.in_err-follow.ensures.refused
+
+pub returns-clause-grows : goal.returns-clause-grows
+returns-clause-grows g c = c.in_ok-expand.ensures.grows
+
+pub returns-clause-forest : goal.returns-clause-forest
+returns-clause-forest g c = c.in_ok-follow.ensures.forest
+
+pub returns-clause-ordered : goal.returns-clause-ordered
+returns-clause-ordered g c = c.in_ok-follow.ensures.ordered
+
+pub returns-clause-less : goal.returns-clause-less
+returns-clause-less g c = c.in_ok-follow.ensures.less
+
+pub returns-clause-refused : goal.returns-clause-refused
+returns-clause-refused g c = tt
+
+pub follow-requires-clause-labelled : goal.follow-requires-clause-labelled
+follow-requires-clause-labelled g c = c.requires.labelled
+
+pub follow-requires-clause-forest : goal.follow-requires-clause-forest
+follow-requires-clause-forest g c = c.requires.forest
+
+pub follow-requires-clause-ordered : goal.follow-requires-clause-ordered
+follow-requires-clause-ordered g c = c.requires.ordered

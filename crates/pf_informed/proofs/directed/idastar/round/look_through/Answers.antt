@@ -7,6 +7,7 @@ use Rattle.pf_core.proofs.SearchLemmas.{Grows-trans}
 use Rattle.pf_informed.specs.declared.directed.idastar.way.Frame.{Frame}
 use Rattle.pf_informed.specs.Internal.Deepening.{IsMarked, numbers_of}
 use Rattle.pf_informed.proofs.WayLemmas.{marked_on, on_way_as, begun, start_way}
+use Rattle.pf_informed.proofs.Outcomes.{refused_as, on_refused, if_refused}
 use Rattle.pf_informed.proofs.directed.idastar.round.look_through.Goals as goal
 
 pub returns-in_default-clause-graph : goal.returns-in_default-clause-graph
@@ -95,3 +96,138 @@ turns-preserved g c = record {
       let v = c.turns.invariant.searched h test least first k s low in
       rw c.in_default-2.is at (c.in_ok-round.ensures.graph h test least first v.0 v.1);
 }
+
+pub returns-in_err-span-clause-estimated : goal.returns-in_err-span-clause-estimated
+returns-in_err-span-clause-estimated g c = on_refused _ c.from_residual.result _ c.from_residual.ensures.1
+
+pub returns-in_err-span-clause-table : goal.returns-in_err-span-clause-table
+returns-in_err-span-clause-table g c = on_refused _ c.from_residual.result _ c.from_residual.ensures.1
+
+pub returns-in_err-span-clause-grows : goal.returns-in_err-span-clause-grows
+returns-in_err-span-clause-grows g c = on_refused _ c.from_residual.result _ c.from_residual.ensures.1
+
+pub returns-in_err-span-clause-above : goal.returns-in_err-span-clause-above
+returns-in_err-span-clause-above g c = if_refused _ c.from_residual.result _ c.from_residual.ensures.1
+
+pub returns-in_err-span-clause-inside : goal.returns-in_err-span-clause-inside
+returns-in_err-span-clause-inside g c = if_refused _ c.from_residual.result _ c.from_residual.ensures.1
+
+pub returns-in_err-span-clause-graph : goal.returns-in_err-span-clause-graph
+returns-in_err-span-clause-graph g c = λ h test least first k s low. if_refused _ c.from_residual.result _ c.from_residual.ensures.1
+
+pub returns-in_err-span-clause-refused : goal.returns-in_err-span-clause-refused
+returns-in_err-span-clause-refused g c = refused_as _ c.from_residual.result _ c.from_residual.ensures.1 c.in_err-span.ensures.refused
+
+pub returns-in_err-numbers-clause-estimated : goal.returns-in_err-numbers-clause-estimated
+returns-in_err-numbers-clause-estimated g c = on_refused _ c.from_residual-in_err-numbers.result _ c.from_residual-in_err-numbers.ensures.1
+
+pub returns-in_err-numbers-clause-table : goal.returns-in_err-numbers-clause-table
+returns-in_err-numbers-clause-table g c = on_refused _ c.from_residual-in_err-numbers.result _ c.from_residual-in_err-numbers.ensures.1
+
+pub returns-in_err-numbers-clause-grows : goal.returns-in_err-numbers-clause-grows
+returns-in_err-numbers-clause-grows g c = on_refused _ c.from_residual-in_err-numbers.result _ c.from_residual-in_err-numbers.ensures.1
+
+pub returns-in_err-numbers-clause-above : goal.returns-in_err-numbers-clause-above
+returns-in_err-numbers-clause-above g c = if_refused _ c.from_residual-in_err-numbers.result _ c.from_residual-in_err-numbers.ensures.1
+
+pub returns-in_err-numbers-clause-inside : goal.returns-in_err-numbers-clause-inside
+returns-in_err-numbers-clause-inside g c = if_refused _ c.from_residual-in_err-numbers.result _ c.from_residual-in_err-numbers.ensures.1
+
+pub returns-in_err-numbers-clause-graph : goal.returns-in_err-numbers-clause-graph
+returns-in_err-numbers-clause-graph g c = λ h test least first k s low. if_refused _ c.from_residual-in_err-numbers.result _ c.from_residual-in_err-numbers.ensures.1
+
+pub returns-in_err-numbers-clause-refused : goal.returns-in_err-numbers-clause-refused
+returns-in_err-numbers-clause-refused g c = refused_as _ c.from_residual-in_err-numbers.result _ c.from_residual-in_err-numbers.ensures.1 c.in_err-numbers.ensures.refused
+
+pub returns-in_err-way-clause-estimated : goal.returns-in_err-way-clause-estimated
+returns-in_err-way-clause-estimated g c = on_refused _ c.from_residual-in_err-way.result _ c.from_residual-in_err-way.ensures.1
+
+pub returns-in_err-way-clause-table : goal.returns-in_err-way-clause-table
+returns-in_err-way-clause-table g c = on_refused _ c.from_residual-in_err-way.result _ c.from_residual-in_err-way.ensures.1
+
+pub returns-in_err-way-clause-grows : goal.returns-in_err-way-clause-grows
+returns-in_err-way-clause-grows g c = on_refused _ c.from_residual-in_err-way.result _ c.from_residual-in_err-way.ensures.1
+
+pub returns-in_err-way-clause-above : goal.returns-in_err-way-clause-above
+returns-in_err-way-clause-above g c = if_refused _ c.from_residual-in_err-way.result _ c.from_residual-in_err-way.ensures.1
+
+pub returns-in_err-way-clause-inside : goal.returns-in_err-way-clause-inside
+returns-in_err-way-clause-inside g c = if_refused _ c.from_residual-in_err-way.result _ c.from_residual-in_err-way.ensures.1
+
+pub returns-in_err-way-clause-graph : goal.returns-in_err-way-clause-graph
+returns-in_err-way-clause-graph g c = λ h test least first k s low. if_refused _ c.from_residual-in_err-way.result _ c.from_residual-in_err-way.ensures.1
+
+pub returns-in_err-way-clause-refused : goal.returns-in_err-way-clause-refused
+returns-in_err-way-clause-refused g c = refused_as _ c.from_residual-in_err-way.result _ c.from_residual-in_err-way.ensures.1 c.in_err-way.ensures.refused
+
+pub returns-in_err-round-clause-estimated : goal.returns-in_err-round-clause-estimated
+returns-in_err-round-clause-estimated g c = on_refused _ c.from_residual-in_err-round.result _ c.from_residual-in_err-round.ensures.1
+
+pub returns-in_err-round-clause-table : goal.returns-in_err-round-clause-table
+returns-in_err-round-clause-table g c = on_refused _ c.from_residual-in_err-round.result _ c.from_residual-in_err-round.ensures.1
+
+pub returns-in_err-round-clause-grows : goal.returns-in_err-round-clause-grows
+returns-in_err-round-clause-grows g c = on_refused _ c.from_residual-in_err-round.result _ c.from_residual-in_err-round.ensures.1
+
+pub returns-in_err-round-clause-above : goal.returns-in_err-round-clause-above
+returns-in_err-round-clause-above g c = if_refused _ c.from_residual-in_err-round.result _ c.from_residual-in_err-round.ensures.1
+
+pub returns-in_err-round-clause-inside : goal.returns-in_err-round-clause-inside
+returns-in_err-round-clause-inside g c = if_refused _ c.from_residual-in_err-round.result _ c.from_residual-in_err-round.ensures.1
+
+pub returns-in_err-round-clause-graph : goal.returns-in_err-round-clause-graph
+returns-in_err-round-clause-graph g c = λ h test least first k s low. if_refused _ c.from_residual-in_err-round.result _ c.from_residual-in_err-round.ensures.1
+
+pub returns-in_err-round-clause-refused : goal.returns-in_err-round-clause-refused
+returns-in_err-round-clause-refused g c = refused_as _ c.from_residual-in_err-round.result _ c.from_residual-in_err-round.ensures.1 c.in_err-round.ensures.refused
+
+pub returns-in_default-clause-estimated : goal.returns-in_default-clause-estimated
+returns-in_default-clause-estimated g c = c.in_ok-span.ensures.estimated
+
+pub returns-in_default-clause-table : goal.returns-in_default-clause-table
+returns-in_default-clause-table g c = c.in_ok-span.ensures.table
+
+pub returns-in_default-clause-grows : goal.returns-in_default-clause-grows
+returns-in_default-clause-grows g c = c.in_ok-span.ensures.grows
+
+pub returns-in_default-clause-above : goal.returns-in_default-clause-above
+returns-in_default-clause-above g c = tt
+
+pub returns-in_default-clause-refused : goal.returns-in_default-clause-refused
+returns-in_default-clause-refused g c = tt
+
+pub returns-in-Some-2-clause-estimated : goal.returns-in-Some-2-clause-estimated
+returns-in-Some-2-clause-estimated g c = c.in_ok-round.ensures.estimated
+
+pub returns-in-Some-2-clause-table : goal.returns-in-Some-2-clause-table
+returns-in-Some-2-clause-table g c = c.in_ok-round.ensures.table
+
+pub returns-in-Some-2-clause-above : goal.returns-in-Some-2-clause-above
+returns-in-Some-2-clause-above g c = (rw c.in-Some-2.is at c.in_ok-round.ensures.marked).0
+
+pub returns-in-Some-2-clause-inside : goal.returns-in-Some-2-clause-inside
+returns-in-Some-2-clause-inside g c = (rw c.in-Some-2.is at c.in_ok-round.ensures.marked).1
+
+pub returns-in-Some-2-clause-refused : goal.returns-in-Some-2-clause-refused
+returns-in-Some-2-clause-refused g c = tt
+
+pub turn-requires-clause-estimated : goal.turn-requires-clause-estimated
+turn-requires-clause-estimated g c = c.turns.invariant.asked
+
+pub turn-requires-clause-table : goal.turn-requires-clause-table
+turn-requires-clause-table g c = c.turns.invariant.table
+
+pub turn-requires-clause-marked : goal.turn-requires-clause-marked
+turn-requires-clause-marked g c = c.turns.invariant.marked
+
+pub span_of-requires-clause-inside : goal.span_of-requires-clause-inside
+span_of-requires-clause-inside g c = c.requires.begun
+
+pub span_of-requires-clause-estimated : goal.span_of-requires-clause-estimated
+span_of-requires-clause-estimated g c = c.requires.estimated
+
+pub span_of-requires-clause-table : goal.span_of-requires-clause-table
+span_of-requires-clause-table g c = c.requires.table
+
+pub turns-smaller : goal.turns-smaller
+turns-smaller g c = rw c.in_default-2.is at c.in_ok-round.ensures.less

@@ -6,6 +6,7 @@ use Rattle.pf_core.proofs.SearchLemmas.{Grows-trans}
 use Rattle.pf_base.specs.Edges.{InReach}
 use Rattle.pf_informed.specs.Internal.Rows.{IsCheapStep, HasSpan}
 use Rattle.pf_informed.proofs.KnownLemmas.{table_more, rows_more, rows_grown, estimated_grown, cheap_sound, cheap_complete}
+use Rattle.pf_informed.proofs.Outcomes.{refused_as, on_refused, if_refused, Grows-refl}
 use Rattle.pf_informed.proofs.directed.idastar.known.Known.span_of.Goals as goal
 
 abbrev tested : {N : Type 0} → NodeGraph N → (N → Bool) → TestedGraph N
@@ -111,3 +112,120 @@ returns-clause-graph g c = λ h test least k.
       },
       tt,
     )
+
+pub returns-in_err-expand-clause-estimated : goal.returns-in_err-expand-clause-estimated
+returns-in_err-expand-clause-estimated g c = on_refused _ c.from_residual.result _ c.from_residual.ensures.1
+
+pub returns-in_err-expand-clause-table : goal.returns-in_err-expand-clause-table
+returns-in_err-expand-clause-table g c = on_refused _ c.from_residual.result _ c.from_residual.ensures.1
+
+pub returns-in_err-expand-clause-grows : goal.returns-in_err-expand-clause-grows
+returns-in_err-expand-clause-grows g c = on_refused _ c.from_residual.result _ c.from_residual.ensures.1
+
+pub returns-in_err-expand-clause-steps : goal.returns-in_err-expand-clause-steps
+returns-in_err-expand-clause-steps g c = on_refused _ c.from_residual.result _ c.from_residual.ensures.1
+
+pub returns-in_err-expand-clause-spans : goal.returns-in_err-expand-clause-spans
+returns-in_err-expand-clause-spans g c = on_refused _ c.from_residual.result _ c.from_residual.ensures.1
+
+pub returns-in_err-expand-clause-kept : goal.returns-in_err-expand-clause-kept
+returns-in_err-expand-clause-kept g c = if_refused _ c.from_residual.result _ c.from_residual.ensures.1
+
+pub returns-in_err-expand-clause-graph : goal.returns-in_err-expand-clause-graph
+returns-in_err-expand-clause-graph g c = λ h test least k. if_refused _ c.from_residual.result _ c.from_residual.ensures.1
+
+pub returns-in_err-expand-clause-refused : goal.returns-in_err-expand-clause-refused
+returns-in_err-expand-clause-refused g c = refused_as _ c.from_residual.result _ c.from_residual.ensures.1 c.in_err-expand.ensures.refused.0
+
+pub returns-in_err-ask-clause-estimated : goal.returns-in_err-ask-clause-estimated
+returns-in_err-ask-clause-estimated g c = on_refused _ c.from_residual-in_err-ask.result _ c.from_residual-in_err-ask.ensures.1
+
+pub returns-in_err-ask-clause-table : goal.returns-in_err-ask-clause-table
+returns-in_err-ask-clause-table g c = on_refused _ c.from_residual-in_err-ask.result _ c.from_residual-in_err-ask.ensures.1
+
+pub returns-in_err-ask-clause-grows : goal.returns-in_err-ask-clause-grows
+returns-in_err-ask-clause-grows g c = on_refused _ c.from_residual-in_err-ask.result _ c.from_residual-in_err-ask.ensures.1
+
+pub returns-in_err-ask-clause-steps : goal.returns-in_err-ask-clause-steps
+returns-in_err-ask-clause-steps g c = on_refused _ c.from_residual-in_err-ask.result _ c.from_residual-in_err-ask.ensures.1
+
+pub returns-in_err-ask-clause-spans : goal.returns-in_err-ask-clause-spans
+returns-in_err-ask-clause-spans g c = on_refused _ c.from_residual-in_err-ask.result _ c.from_residual-in_err-ask.ensures.1
+
+pub returns-in_err-ask-clause-kept : goal.returns-in_err-ask-clause-kept
+returns-in_err-ask-clause-kept g c = if_refused _ c.from_residual-in_err-ask.result _ c.from_residual-in_err-ask.ensures.1
+
+pub returns-in_err-ask-clause-graph : goal.returns-in_err-ask-clause-graph
+returns-in_err-ask-clause-graph g c = λ h test least k. if_refused _ c.from_residual-in_err-ask.result _ c.from_residual-in_err-ask.ensures.1
+
+pub returns-in_err-ask-clause-refused : goal.returns-in_err-ask-clause-refused
+returns-in_err-ask-clause-refused g c = refused_as _ c.from_residual-in_err-ask.result _ c.from_residual-in_err-ask.ensures.1 c.in_err-ask.ensures.refused
+
+pub returns-in_err-span-clause-estimated : goal.returns-in_err-span-clause-estimated
+returns-in_err-span-clause-estimated g c = on_refused _ c.from_residual-in_err-span.result _ c.from_residual-in_err-span.ensures.1
+
+pub returns-in_err-span-clause-table : goal.returns-in_err-span-clause-table
+returns-in_err-span-clause-table g c = on_refused _ c.from_residual-in_err-span.result _ c.from_residual-in_err-span.ensures.1
+
+pub returns-in_err-span-clause-grows : goal.returns-in_err-span-clause-grows
+returns-in_err-span-clause-grows g c = on_refused _ c.from_residual-in_err-span.result _ c.from_residual-in_err-span.ensures.1
+
+pub returns-in_err-span-clause-steps : goal.returns-in_err-span-clause-steps
+returns-in_err-span-clause-steps g c = on_refused _ c.from_residual-in_err-span.result _ c.from_residual-in_err-span.ensures.1
+
+pub returns-in_err-span-clause-spans : goal.returns-in_err-span-clause-spans
+returns-in_err-span-clause-spans g c = on_refused _ c.from_residual-in_err-span.result _ c.from_residual-in_err-span.ensures.1
+
+pub returns-in_err-span-clause-kept : goal.returns-in_err-span-clause-kept
+returns-in_err-span-clause-kept g c = if_refused _ c.from_residual-in_err-span.result _ c.from_residual-in_err-span.ensures.1
+
+pub returns-in_err-span-clause-graph : goal.returns-in_err-span-clause-graph
+returns-in_err-span-clause-graph g c = λ h test least k. if_refused _ c.from_residual-in_err-span.result _ c.from_residual-in_err-span.ensures.1
+
+pub returns-in_err-span-clause-refused : goal.returns-in_err-span-clause-refused
+returns-in_err-span-clause-refused g c = refused_as _ c.from_residual-in_err-span.result _ c.from_residual-in_err-span.ensures.1 c.in_err-span.ensures.refused
+
+pub returns-then-is_some-clause-estimated : goal.returns-then-is_some-clause-estimated
+returns-then-is_some-clause-estimated g c = c.requires.estimated
+
+pub returns-then-is_some-clause-table : goal.returns-then-is_some-clause-table
+returns-then-is_some-clause-table g c = c.requires.table
+
+pub returns-then-is_some-clause-grows : goal.returns-then-is_some-clause-grows
+returns-then-is_some-clause-grows g c = Grows-refl _ _
+
+pub returns-then-is_some-clause-steps : goal.returns-then-is_some-clause-steps
+returns-then-is_some-clause-steps g c = λ i x h. h
+
+pub returns-then-is_some-clause-spans : goal.returns-then-is_some-clause-spans
+returns-then-is_some-clause-spans g c = λ k s h. h
+
+pub returns-then-is_some-clause-refused : goal.returns-then-is_some-clause-refused
+returns-then-is_some-clause-refused g c = tt
+
+pub returns-then-is_goal-clause-grows : goal.returns-then-is_goal-clause-grows
+returns-then-is_goal-clause-grows g c = c.is_goal.ensures.grows
+
+pub returns-then-is_goal-clause-steps : goal.returns-then-is_goal-clause-steps
+returns-then-is_goal-clause-steps g c = λ i x h. h
+
+pub returns-then-is_goal-clause-spans : goal.returns-then-is_goal-clause-spans
+returns-then-is_goal-clause-spans g c = λ k s h. h
+
+pub returns-then-is_goal-clause-kept : goal.returns-then-is_goal-clause-kept
+returns-then-is_goal-clause-kept g c = tt
+
+pub returns-then-is_goal-clause-refused : goal.returns-then-is_goal-clause-refused
+returns-then-is_goal-clause-refused g c = tt
+
+pub returns-then-is_goal-clause-estimated : goal.returns-then-is_goal-clause-estimated
+returns-then-is_goal-clause-estimated g c = c.requires.estimated ∙ sym c.is_goal.ensures.same
+
+pub returns-clause-kept : goal.returns-clause-kept
+returns-clause-kept g c = c.in_ok-span.ensures.kept
+
+pub returns-clause-refused : goal.returns-clause-refused
+returns-clause-refused g c = tt
+
+pub is_goal-requires-clause-inside : goal.is_goal-requires-clause-inside
+is_goal-requires-clause-inside g c = c.requires.inside
