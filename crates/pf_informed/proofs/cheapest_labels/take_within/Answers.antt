@@ -14,11 +14,11 @@ returns-then-is_past-clause-taken g c =
     let at : slice_get estimates c.in-Some.taken.number ≡ Some c.index.result.now = at_place _ _ _ _ inside (sym c.index.ensures) in
     past_all g.C.Number.value c.args.labels.now.items estimates (heap_items c.args.queue.now) (heap_items c.take_least.new.queue) c.in-Some.taken.number c.in-Some.taken.cost t c.in-Some.ensures.queue c.args.best p.0 p.1 c.index.result.now at p.2
 
-pub take_least-requires-clause-ordered : goal.take_least-requires-clause-ordered
-take_least-requires-clause-ordered g c = c.requires.ordered
-
-pub take_least-requires-clause-queue : goal.take_least-requires-clause-queue
-take_least-requires-clause-queue g c = c.requires.queue
+pub take_least-requires : goal.take_least-requires
+take_least-requires g c = record {
+  ordered = c.requires.ordered;
+  queue = c.requires.queue;
+}
 
 pub returns-in_default-clause-ordered : goal.returns-in_default-clause-ordered
 returns-in_default-clause-ordered g c = c.in_default.ensures.ordered
@@ -38,14 +38,10 @@ returns-then-is_past-clause-queue g c = c.in-Some.ensures.queue
 pub returns-then-is_past-clause-fewer : goal.returns-then-is_past-clause-fewer
 returns-then-is_past-clause-fewer g c = omega (arith, c.in-Some.ensures.fewer)
 
-pub returns-clause-ordered : goal.returns-clause-ordered
-returns-clause-ordered g c = c.in-Some.ensures.ordered
-
-pub returns-clause-queue : goal.returns-clause-queue
-returns-clause-queue g c = c.in-Some.ensures.queue
-
-pub returns-clause-taken : goal.returns-clause-taken
-returns-clause-taken g c = c.in-Some.ensures.taken
-
-pub returns-clause-fewer : goal.returns-clause-fewer
-returns-clause-fewer g c = c.in-Some.ensures.fewer
+pub returns : goal.returns
+returns g c = record {
+  ordered = c.in-Some.ensures.ordered;
+  queue = c.in-Some.ensures.queue;
+  taken = c.in-Some.ensures.taken;
+  fewer = c.in-Some.ensures.fewer;
+}

@@ -56,23 +56,19 @@ returns-clause-chain g c =
 pub returns-clause-inside : goal.returns-clause-inside
 returns-clause-inside g c = λ k h. c.climb.invariant.inside k (Contains-reverse c.climb.numbers.items k (subst (λ xs. Contains xs k) c.reverse.ensures.items h))
 
-pub returns-in_err-push-clause-chain : goal.returns-in_err-push-clause-chain
-returns-in_err-push-clause-chain g c = if_refused _ c.from_residual.result _ c.from_residual.ensures.1
+pub returns-in_err-push : goal.returns-in_err-push
+returns-in_err-push g c = record {
+  chain = if_refused _ c.from_residual.result _ c.from_residual.ensures.1;
+  inside = if_refused _ c.from_residual.result _ c.from_residual.ensures.1;
+  refused = refused_as _ c.from_residual.result _ c.from_residual.ensures.1 refl;
+}
 
-pub returns-in_err-push-clause-inside : goal.returns-in_err-push-clause-inside
-returns-in_err-push-clause-inside g c = if_refused _ c.from_residual.result _ c.from_residual.ensures.1
-
-pub returns-in_err-push-clause-refused : goal.returns-in_err-push-clause-refused
-returns-in_err-push-clause-refused g c = refused_as _ c.from_residual.result _ c.from_residual.ensures.1 refl
-
-pub returns-in_err-push-2-clause-chain : goal.returns-in_err-push-2-clause-chain
-returns-in_err-push-2-clause-chain g c = if_refused _ c.from_residual-in_err-push-2.result _ c.from_residual-in_err-push-2.ensures.1
-
-pub returns-in_err-push-2-clause-inside : goal.returns-in_err-push-2-clause-inside
-returns-in_err-push-2-clause-inside g c = if_refused _ c.from_residual-in_err-push-2.result _ c.from_residual-in_err-push-2.ensures.1
-
-pub returns-in_err-push-2-clause-refused : goal.returns-in_err-push-2-clause-refused
-returns-in_err-push-2-clause-refused g c = refused_as _ c.from_residual-in_err-push-2.result _ c.from_residual-in_err-push-2.ensures.1 refl
+pub returns-in_err-push-2 : goal.returns-in_err-push-2
+returns-in_err-push-2 g c = record {
+  chain = if_refused _ c.from_residual-in_err-push-2.result _ c.from_residual-in_err-push-2.ensures.1;
+  inside = if_refused _ c.from_residual-in_err-push-2.result _ c.from_residual-in_err-push-2.ensures.1;
+  refused = refused_as _ c.from_residual-in_err-push-2.result _ c.from_residual-in_err-push-2.ensures.1 refl;
+}
 
 pub returns-clause-refused : goal.returns-clause-refused
 returns-clause-refused g c = tt

@@ -93,29 +93,21 @@ returns-then-lt-clause-wide g c = c.requires.wide
 pub returns-then-lt-clause-refused : goal.returns-then-lt-clause-refused
 returns-then-lt-clause-refused g c = tt
 
-pub is_goal-requires-clause-inside : goal.is_goal-requires-clause-inside
-is_goal-requires-clause-inside g c = omega (arith, c.requires.inside, c.requires.found)
+pub is_goal-requires : goal.is_goal-requires
+is_goal-requires g c = record {
+  inside = omega (arith, c.requires.inside, c.requires.found);
+  graph = c.requires.graph;
+}
 
-pub is_goal-requires-clause-graph : goal.is_goal-requires-clause-graph
-is_goal-requires-clause-graph g c = c.requires.graph
-
-pub returns-in_err-push-clause-grows : goal.returns-in_err-push-clause-grows
-returns-in_err-push-clause-grows g c = c.is_goal.ensures.grows
-
-pub returns-in_err-push-clause-graph : goal.returns-in_err-push-clause-graph
-returns-in_err-push-clause-graph g c = λ h x. (c.is_goal.ensures.graph h x).0
-
-pub returns-in_err-push-clause-wide : goal.returns-in_err-push-clause-wide
-returns-in_err-push-clause-wide g c = on_refused _ c.from_residual.result _ c.from_residual.ensures.1
-
-pub returns-in_err-push-clause-up_to : goal.returns-in_err-push-clause-up_to
-returns-in_err-push-clause-up_to g c = on_refused _ c.from_residual.result _ c.from_residual.ensures.1
-
-pub returns-in_err-push-clause-tight : goal.returns-in_err-push-clause-tight
-returns-in_err-push-clause-tight g c = on_refused _ c.from_residual.result _ c.from_residual.ensures.1
-
-pub returns-in_err-push-clause-refused : goal.returns-in_err-push-clause-refused
-returns-in_err-push-clause-refused g c = refused_as _ c.from_residual.result _ c.from_residual.ensures.1 refl
+pub returns-in_err-push : goal.returns-in_err-push
+returns-in_err-push g c = record {
+  grows = c.is_goal.ensures.grows;
+  graph = λ h x. (c.is_goal.ensures.graph h x).0;
+  wide = on_refused _ c.from_residual.result _ c.from_residual.ensures.1;
+  up_to = on_refused _ c.from_residual.result _ c.from_residual.ensures.1;
+  tight = on_refused _ c.from_residual.result _ c.from_residual.ensures.1;
+  refused = refused_as _ c.from_residual.result _ c.from_residual.ensures.1 refl;
+}
 
 pub returns-then-is_goal-clause-grows : goal.returns-then-is_goal-clause-grows
 returns-then-is_goal-clause-grows g c = c.is_goal.ensures.grows
@@ -135,23 +127,15 @@ expand-requires-clause-inside g c = omega (arith, c.requires.inside, c.requires.
 pub expand-requires-clause-graph : goal.expand-requires-clause-graph
 expand-requires-clause-graph g c = let a = c.requires.graph in (a.0, (c.is_goal.ensures.graph a.0 a.1).0)
 
-pub returns-in_err-expand-clause-grows : goal.returns-in_err-expand-clause-grows
-returns-in_err-expand-clause-grows g c = Grows-trans _ _ _ _ _ _ c.is_goal.ensures.grows c.in_err-expand.ensures.grows
-
-pub returns-in_err-expand-clause-graph : goal.returns-in_err-expand-clause-graph
-returns-in_err-expand-clause-graph g c = λ h x. c.in_err-expand.ensures.graph h (c.is_goal.ensures.graph h x).0
-
-pub returns-in_err-expand-clause-wide : goal.returns-in_err-expand-clause-wide
-returns-in_err-expand-clause-wide g c = on_refused _ c.from_residual-in_err-expand.result _ c.from_residual-in_err-expand.ensures.1
-
-pub returns-in_err-expand-clause-up_to : goal.returns-in_err-expand-clause-up_to
-returns-in_err-expand-clause-up_to g c = on_refused _ c.from_residual-in_err-expand.result _ c.from_residual-in_err-expand.ensures.1
-
-pub returns-in_err-expand-clause-tight : goal.returns-in_err-expand-clause-tight
-returns-in_err-expand-clause-tight g c = on_refused _ c.from_residual-in_err-expand.result _ c.from_residual-in_err-expand.ensures.1
-
-pub returns-in_err-expand-clause-refused : goal.returns-in_err-expand-clause-refused
-returns-in_err-expand-clause-refused g c = refused_as _ c.from_residual-in_err-expand.result _ c.from_residual-in_err-expand.ensures.1 c.in_err-expand.ensures.refused.0
+pub returns-in_err-expand : goal.returns-in_err-expand
+returns-in_err-expand g c = record {
+  grows = Grows-trans _ _ _ _ _ _ c.is_goal.ensures.grows c.in_err-expand.ensures.grows;
+  graph = λ h x. c.in_err-expand.ensures.graph h (c.is_goal.ensures.graph h x).0;
+  wide = on_refused _ c.from_residual-in_err-expand.result _ c.from_residual-in_err-expand.ensures.1;
+  up_to = on_refused _ c.from_residual-in_err-expand.result _ c.from_residual-in_err-expand.ensures.1;
+  tight = on_refused _ c.from_residual-in_err-expand.result _ c.from_residual-in_err-expand.ensures.1;
+  refused = refused_as _ c.from_residual-in_err-expand.result _ c.from_residual-in_err-expand.ensures.1 c.in_err-expand.ensures.refused.0;
+}
 
 pub link_row-requires-clause-wide : goal.link_row-requires-clause-wide
 link_row-requires-clause-wide g c = c.requires.wide

@@ -13,8 +13,13 @@ look-requires-clause-someone g c =
     let a = c.requires.someone c.numbers.number inside in
     (a.0, i.grows.stays c.numbers.number a.0 a.1)
 
-pub returns-in_err-look-clause-grows : goal.returns-in_err-look-clause-grows
-returns-in_err-look-clause-grows g c = Grows-trans _ _ _ _ _ _ c.numbers.invariant.grows c.in_err-look.ensures.grows
+pub returns-in_err-look : goal.returns-in_err-look
+returns-in_err-look g c = record {
+  grows = Grows-trans _ _ _ _ _ _ c.numbers.invariant.grows c.in_err-look.ensures.grows;
+  wide = if_refused _ c.from_residual-in_err-look.result _ c.from_residual-in_err-look.ensures.1;
+  tight = if_refused _ c.from_residual-in_err-look.result _ c.from_residual-in_err-look.ensures.1;
+  refused = refused_as _ c.from_residual-in_err-look.result _ c.from_residual-in_err-look.ensures.1 c.in_err-look.ensures.refused;
+}
 
 pub numbers-preserved : goal.numbers-preserved
 numbers-preserved g c =
@@ -36,26 +41,13 @@ returns-clause-tight g c = λ h x.
     let all : c.numbers.number ≡ length c.args.labels.now = omega (arith, past, i.few) in
     ((i.tight h x).0, subst (λ (n : ℕ). IsTight g.C.Number.value c.args.labels.now (g.G.NumberedGraph.step h) (g.G.NumberedGraph.passes h) (g.G.NumberedGraph.stands c.numbers.graph) (g.C.Number.value c.args.best) n c.numbers.tight.goals.items (before_in c.numbers.tight.before.items)) all (i.tight h x).1)
 
-pub returns-in_err-empty_rows-clause-wide : goal.returns-in_err-empty_rows-clause-wide
-returns-in_err-empty_rows-clause-wide g c = if_refused _ c.from_residual.result _ c.from_residual.ensures.1
-
-pub returns-in_err-empty_rows-clause-tight : goal.returns-in_err-empty_rows-clause-tight
-returns-in_err-empty_rows-clause-tight g c = if_refused _ c.from_residual.result _ c.from_residual.ensures.1
-
-pub returns-in_err-empty_rows-clause-refused : goal.returns-in_err-empty_rows-clause-refused
-returns-in_err-empty_rows-clause-refused g c = refused_as _ c.from_residual.result _ c.from_residual.ensures.1 c.in_err-empty_rows.ensures.refused
-
-pub returns-in_err-look-clause-wide : goal.returns-in_err-look-clause-wide
-returns-in_err-look-clause-wide g c = if_refused _ c.from_residual-in_err-look.result _ c.from_residual-in_err-look.ensures.1
-
-pub returns-in_err-look-clause-tight : goal.returns-in_err-look-clause-tight
-returns-in_err-look-clause-tight g c = if_refused _ c.from_residual-in_err-look.result _ c.from_residual-in_err-look.ensures.1
-
-pub returns-in_err-look-clause-refused : goal.returns-in_err-look-clause-refused
-returns-in_err-look-clause-refused g c = refused_as _ c.from_residual-in_err-look.result _ c.from_residual-in_err-look.ensures.1 c.in_err-look.ensures.refused
-
-pub returns-in_err-empty_rows-clause-grows : goal.returns-in_err-empty_rows-clause-grows
-returns-in_err-empty_rows-clause-grows g c = Grows-refl _ _
+pub returns-in_err-empty_rows : goal.returns-in_err-empty_rows
+returns-in_err-empty_rows g c = record {
+  grows = Grows-refl _ _;
+  wide = if_refused _ c.from_residual.result _ c.from_residual.ensures.1;
+  tight = if_refused _ c.from_residual.result _ c.from_residual.ensures.1;
+  refused = refused_as _ c.from_residual.result _ c.from_residual.ensures.1 c.in_err-empty_rows.ensures.refused;
+}
 
 pub returns-clause-grows : goal.returns-clause-grows
 returns-clause-grows g c = c.numbers.invariant.grows

@@ -111,86 +111,44 @@ returns-clause-graph g c = λ h test least d.
           rw f.estimates opened,
     )
 
-pub returns-in_err-expand-clause-wide : goal.returns-in_err-expand-clause-wide
-returns-in_err-expand-clause-wide g c = on_refused _ c.from_residual.result _ c.from_residual.ensures.1
+pub returns-in_err-expand : goal.returns-in_err-expand
+returns-in_err-expand g c = record {
+  wide = on_refused _ c.from_residual.result _ c.from_residual.ensures.1;
+  asked = on_refused _ c.from_residual.result _ c.from_residual.ensures.1;
+  grows = c.in_err-expand.ensures.grows;
+  forest = on_refused _ c.from_residual.result _ c.from_residual.ensures.1;
+  ordered = on_refused _ c.from_residual.result _ c.from_residual.ensures.1;
+  queue = on_refused _ c.from_residual.result _ c.from_residual.ensures.1;
+  less = on_refused _ c.from_residual.result _ c.from_residual.ensures.1;
+  graph = on_refused _ c.from_residual.result _ c.from_residual.ensures.1;
+  refused = refused_as _ c.from_residual.result _ c.from_residual.ensures.1 c.in_err-expand.ensures.refused.0;
+}
 
-pub returns-in_err-expand-clause-asked : goal.returns-in_err-expand-clause-asked
-returns-in_err-expand-clause-asked g c = on_refused _ c.from_residual.result _ c.from_residual.ensures.1
+pub returns-in_err-ask : goal.returns-in_err-ask
+returns-in_err-ask g c = record {
+  wide = on_refused _ c.from_residual-in_err-ask.result _ c.from_residual-in_err-ask.ensures.1;
+  asked = on_refused _ c.from_residual-in_err-ask.result _ c.from_residual-in_err-ask.ensures.1;
+  grows = c.in_ok-expand.ensures.grows;
+  forest = on_refused _ c.from_residual-in_err-ask.result _ c.from_residual-in_err-ask.ensures.1;
+  ordered = on_refused _ c.from_residual-in_err-ask.result _ c.from_residual-in_err-ask.ensures.1;
+  queue = on_refused _ c.from_residual-in_err-ask.result _ c.from_residual-in_err-ask.ensures.1;
+  less = on_refused _ c.from_residual-in_err-ask.result _ c.from_residual-in_err-ask.ensures.1;
+  graph = on_refused _ c.from_residual-in_err-ask.result _ c.from_residual-in_err-ask.ensures.1;
+  refused = refused_as _ c.from_residual-in_err-ask.result _ c.from_residual-in_err-ask.ensures.1 c.in_err-ask.ensures.refused;
+}
 
-pub returns-in_err-expand-clause-forest : goal.returns-in_err-expand-clause-forest
-returns-in_err-expand-clause-forest g c = on_refused _ c.from_residual.result _ c.from_residual.ensures.1
-
-pub returns-in_err-expand-clause-ordered : goal.returns-in_err-expand-clause-ordered
-returns-in_err-expand-clause-ordered g c = on_refused _ c.from_residual.result _ c.from_residual.ensures.1
-
-pub returns-in_err-expand-clause-queue : goal.returns-in_err-expand-clause-queue
-returns-in_err-expand-clause-queue g c = on_refused _ c.from_residual.result _ c.from_residual.ensures.1
-
-pub returns-in_err-expand-clause-less : goal.returns-in_err-expand-clause-less
-returns-in_err-expand-clause-less g c = on_refused _ c.from_residual.result _ c.from_residual.ensures.1
-
-pub returns-in_err-expand-clause-graph : goal.returns-in_err-expand-clause-graph
-returns-in_err-expand-clause-graph g c = on_refused _ c.from_residual.result _ c.from_residual.ensures.1
-
-pub returns-in_err-expand-clause-grows : goal.returns-in_err-expand-clause-grows
-returns-in_err-expand-clause-grows g c = c.in_err-expand.ensures.grows
-
-pub returns-in_err-expand-clause-refused : goal.returns-in_err-expand-clause-refused
-returns-in_err-expand-clause-refused g c = refused_as _ c.from_residual.result _ c.from_residual.ensures.1 c.in_err-expand.ensures.refused.0
-
-pub returns-in_err-ask-clause-wide : goal.returns-in_err-ask-clause-wide
-returns-in_err-ask-clause-wide g c = on_refused _ c.from_residual-in_err-ask.result _ c.from_residual-in_err-ask.ensures.1
-
-pub returns-in_err-ask-clause-asked : goal.returns-in_err-ask-clause-asked
-returns-in_err-ask-clause-asked g c = on_refused _ c.from_residual-in_err-ask.result _ c.from_residual-in_err-ask.ensures.1
-
-pub returns-in_err-ask-clause-forest : goal.returns-in_err-ask-clause-forest
-returns-in_err-ask-clause-forest g c = on_refused _ c.from_residual-in_err-ask.result _ c.from_residual-in_err-ask.ensures.1
-
-pub returns-in_err-ask-clause-ordered : goal.returns-in_err-ask-clause-ordered
-returns-in_err-ask-clause-ordered g c = on_refused _ c.from_residual-in_err-ask.result _ c.from_residual-in_err-ask.ensures.1
-
-pub returns-in_err-ask-clause-queue : goal.returns-in_err-ask-clause-queue
-returns-in_err-ask-clause-queue g c = on_refused _ c.from_residual-in_err-ask.result _ c.from_residual-in_err-ask.ensures.1
-
-pub returns-in_err-ask-clause-less : goal.returns-in_err-ask-clause-less
-returns-in_err-ask-clause-less g c = on_refused _ c.from_residual-in_err-ask.result _ c.from_residual-in_err-ask.ensures.1
-
-pub returns-in_err-ask-clause-graph : goal.returns-in_err-ask-clause-graph
-returns-in_err-ask-clause-graph g c = on_refused _ c.from_residual-in_err-ask.result _ c.from_residual-in_err-ask.ensures.1
-
-pub returns-in_err-ask-clause-grows : goal.returns-in_err-ask-clause-grows
-returns-in_err-ask-clause-grows g c = c.in_ok-expand.ensures.grows
-
-pub returns-in_err-ask-clause-refused : goal.returns-in_err-ask-clause-refused
-returns-in_err-ask-clause-refused g c = refused_as _ c.from_residual-in_err-ask.result _ c.from_residual-in_err-ask.ensures.1 c.in_err-ask.ensures.refused
-
-pub returns-in_err-follow-clause-wide : goal.returns-in_err-follow-clause-wide
-returns-in_err-follow-clause-wide g c = on_refused _ c.from_residual-in_err-follow.result _ c.from_residual-in_err-follow.ensures.1
-
-pub returns-in_err-follow-clause-asked : goal.returns-in_err-follow-clause-asked
-returns-in_err-follow-clause-asked g c = on_refused _ c.from_residual-in_err-follow.result _ c.from_residual-in_err-follow.ensures.1
-
-pub returns-in_err-follow-clause-forest : goal.returns-in_err-follow-clause-forest
-returns-in_err-follow-clause-forest g c = on_refused _ c.from_residual-in_err-follow.result _ c.from_residual-in_err-follow.ensures.1
-
-pub returns-in_err-follow-clause-ordered : goal.returns-in_err-follow-clause-ordered
-returns-in_err-follow-clause-ordered g c = on_refused _ c.from_residual-in_err-follow.result _ c.from_residual-in_err-follow.ensures.1
-
-pub returns-in_err-follow-clause-queue : goal.returns-in_err-follow-clause-queue
-returns-in_err-follow-clause-queue g c = on_refused _ c.from_residual-in_err-follow.result _ c.from_residual-in_err-follow.ensures.1
-
-pub returns-in_err-follow-clause-less : goal.returns-in_err-follow-clause-less
-returns-in_err-follow-clause-less g c = on_refused _ c.from_residual-in_err-follow.result _ c.from_residual-in_err-follow.ensures.1
-
-pub returns-in_err-follow-clause-graph : goal.returns-in_err-follow-clause-graph
-returns-in_err-follow-clause-graph g c = on_refused _ c.from_residual-in_err-follow.result _ c.from_residual-in_err-follow.ensures.1
-
-pub returns-in_err-follow-clause-grows : goal.returns-in_err-follow-clause-grows
-returns-in_err-follow-clause-grows g c = c.in_ok-expand.ensures.grows
-
-pub returns-in_err-follow-clause-refused : goal.returns-in_err-follow-clause-refused
-returns-in_err-follow-clause-refused g c = refused_as _ c.from_residual-in_err-follow.result _ c.from_residual-in_err-follow.ensures.1 c.in_err-follow.ensures.refused
+pub returns-in_err-follow : goal.returns-in_err-follow
+returns-in_err-follow g c = record {
+  wide = on_refused _ c.from_residual-in_err-follow.result _ c.from_residual-in_err-follow.ensures.1;
+  asked = on_refused _ c.from_residual-in_err-follow.result _ c.from_residual-in_err-follow.ensures.1;
+  grows = c.in_ok-expand.ensures.grows;
+  forest = on_refused _ c.from_residual-in_err-follow.result _ c.from_residual-in_err-follow.ensures.1;
+  ordered = on_refused _ c.from_residual-in_err-follow.result _ c.from_residual-in_err-follow.ensures.1;
+  queue = on_refused _ c.from_residual-in_err-follow.result _ c.from_residual-in_err-follow.ensures.1;
+  less = on_refused _ c.from_residual-in_err-follow.result _ c.from_residual-in_err-follow.ensures.1;
+  graph = on_refused _ c.from_residual-in_err-follow.result _ c.from_residual-in_err-follow.ensures.1;
+  refused = refused_as _ c.from_residual-in_err-follow.result _ c.from_residual-in_err-follow.ensures.1 c.in_err-follow.ensures.refused;
+}
 
 pub returns-clause-grows : goal.returns-clause-grows
 returns-clause-grows g c = c.in_ok-expand.ensures.grows

@@ -151,32 +151,26 @@ returns-else-has_all_labels-clause-overflow g c = λ start edges test least s d 
     led_past g.N.PartialEq.eq g.met.N.Eq.laws g.C.Number.value _ _ _ _ _ _ _ start edges test least _ _ _ _ _ v.0 inv.asked (inv.begins start s) g.C.Number.fits (λ x y z. g.C.Number.between_law x y z exact) (g.met.C.Zero.zero_fits_law exact)
     c.turns.search.labels.items inv.wide (heap_items c.turns.search.queue) inv.forest v.1 c.in_default.ensures.taken (λ a. true≢false (sym (c.has_all_labels.ensures.1 a) ∙ c.if-has_all_labels.false))
 
-pub returns-in_err-begin-clause-best : goal.returns-in_err-begin-clause-best
-returns-in_err-begin-clause-best g c = λ start edges test least s d. if_refused _ c.from_residual.result _ c.from_residual.ensures.1
+pub returns-in_err-begin : goal.returns-in_err-begin
+returns-in_err-begin g c = record {
+  best = λ start edges test least s d. if_refused _ c.from_residual.result _ c.from_residual.ensures.1;
+  overflow = λ start edges test least s d e. absurd (no_overflow c.from_residual.result _ c.from_residual.ensures.1 c.in_err-begin.ensures.refused e);
+  errors = refused_as _ c.from_residual.result _ c.from_residual.ensures.1 (inl c.in_err-begin.ensures.refused);
+}
 
-pub returns-in_err-begin-clause-overflow : goal.returns-in_err-begin-clause-overflow
-returns-in_err-begin-clause-overflow g c = λ start edges test least s d e. absurd (no_overflow c.from_residual.result _ c.from_residual.ensures.1 c.in_err-begin.ensures.refused e)
+pub returns-in_err-nodes : goal.returns-in_err-nodes
+returns-in_err-nodes g c = record {
+  best = λ start edges test least s d. if_refused _ c.from_residual-in_err-nodes.result _ c.from_residual-in_err-nodes.ensures.1;
+  overflow = λ start edges test least s d e. absurd (no_overflow c.from_residual-in_err-nodes.result _ c.from_residual-in_err-nodes.ensures.1 c.in_err-nodes.ensures.refused e);
+  errors = refused_as _ c.from_residual-in_err-nodes.result _ c.from_residual-in_err-nodes.ensures.1 (inl c.in_err-nodes.ensures.refused);
+}
 
-pub returns-in_err-begin-clause-errors : goal.returns-in_err-begin-clause-errors
-returns-in_err-begin-clause-errors g c = refused_as _ c.from_residual.result _ c.from_residual.ensures.1 (inl c.in_err-begin.ensures.refused)
-
-pub returns-in_err-nodes-clause-best : goal.returns-in_err-nodes-clause-best
-returns-in_err-nodes-clause-best g c = λ start edges test least s d. if_refused _ c.from_residual-in_err-nodes.result _ c.from_residual-in_err-nodes.ensures.1
-
-pub returns-in_err-nodes-clause-overflow : goal.returns-in_err-nodes-clause-overflow
-returns-in_err-nodes-clause-overflow g c = λ start edges test least s d e. absurd (no_overflow c.from_residual-in_err-nodes.result _ c.from_residual-in_err-nodes.ensures.1 c.in_err-nodes.ensures.refused e)
-
-pub returns-in_err-nodes-clause-errors : goal.returns-in_err-nodes-clause-errors
-returns-in_err-nodes-clause-errors g c = refused_as _ c.from_residual-in_err-nodes.result _ c.from_residual-in_err-nodes.ensures.1 (inl c.in_err-nodes.ensures.refused)
-
-pub returns-in_err-turn-clause-best : goal.returns-in_err-turn-clause-best
-returns-in_err-turn-clause-best g c = λ start edges test least s d. if_refused _ c.from_residual-in_err-turn.result _ c.from_residual-in_err-turn.ensures.1
-
-pub returns-in_err-turn-clause-overflow : goal.returns-in_err-turn-clause-overflow
-returns-in_err-turn-clause-overflow g c = λ start edges test least s d e. absurd (no_overflow c.from_residual-in_err-turn.result _ c.from_residual-in_err-turn.ensures.1 c.in_err-turn.ensures.refused e)
-
-pub returns-in_err-turn-clause-errors : goal.returns-in_err-turn-clause-errors
-returns-in_err-turn-clause-errors g c = refused_as _ c.from_residual-in_err-turn.result _ c.from_residual-in_err-turn.ensures.1 (inl c.in_err-turn.ensures.refused)
+pub returns-in_err-turn : goal.returns-in_err-turn
+returns-in_err-turn g c = record {
+  best = λ start edges test least s d. if_refused _ c.from_residual-in_err-turn.result _ c.from_residual-in_err-turn.ensures.1;
+  overflow = λ start edges test least s d e. absurd (no_overflow c.from_residual-in_err-turn.result _ c.from_residual-in_err-turn.ensures.1 c.in_err-turn.ensures.refused e);
+  errors = refused_as _ c.from_residual-in_err-turn.result _ c.from_residual-in_err-turn.ensures.1 (inl c.in_err-turn.ensures.refused);
+}
 
 pub returns-else-has_all_labels-clause-best : goal.returns-else-has_all_labels-clause-best
 returns-else-has_all_labels-clause-best g c = λ start edges test least s d. tt
@@ -196,32 +190,8 @@ returns-then-is_goal-clause-overflow g c = λ start edges test least s d e. absu
 pub returns-then-is_goal-clause-errors : goal.returns-then-is_goal-clause-errors
 returns-then-is_goal-clause-errors g c = tt
 
-pub begin-requires-clause-one : goal.begin-requires-clause-one
-begin-requires-clause-one g c = c.requires.one
-
-pub begin-requires-clause-unlabelled : goal.begin-requires-clause-unlabelled
-begin-requires-clause-unlabelled g c = c.requires.unlabelled
-
-pub begin-requires-clause-unasked : goal.begin-requires-clause-unasked
-begin-requires-clause-unasked g c = c.requires.unasked
-
-pub begin-requires-clause-nothing_waits : goal.begin-requires-clause-nothing_waits
-begin-requires-clause-nothing_waits g c = c.requires.nothing_waits
-
-pub begin-requires-clause-ordered : goal.begin-requires-clause-ordered
-begin-requires-clause-ordered g c = c.requires.ordered
-
-pub begin-requires-clause-graph : goal.begin-requires-clause-graph
-begin-requires-clause-graph g c = c.requires.graph
-
 pub turn-requires-clause-forest : goal.turn-requires-clause-forest
 turn-requires-clause-forest g c = c.turns.invariant.forest
-
-pub take_least-requires-clause-ordered : goal.take_least-requires-clause-ordered
-take_least-requires-clause-ordered g c = c.turns.invariant.ordered
-
-pub take_least-requires-clause-queue : goal.take_least-requires-clause-queue
-take_least-requires-clause-queue g c = c.turns.invariant.queue
 
 pub nodes_to-requires-clause-clones : goal.nodes_to-requires-clause-clones
 nodes_to-requires-clause-clones g c = c.requires.clones

@@ -58,29 +58,21 @@ returns-clause-all g c = λ edges test least s.
     (all_paths eq laws c.args.start.now edges test answered.alike w.costs g.C.Number.value found.graph.discovery.nodes.keys keys (length found.graph.discovery.nodes.keys) (length keys) grow (StandsFor-one eq laws keys x.distinct) labels enough (g.C.Number.value found.best) v.2
     c.in_ok-tight.tight.goals.items (before_in c.in_ok-tight.tight.before.items) tight)
 
-pub returns-in_err-tight-clause-all : goal.returns-in_err-tight-clause-all
-returns-in_err-tight-clause-all g c = λ edges test least s. if_refused _ c.from_residual-in_err-tight.result _ c.from_residual-in_err-tight.ensures.1
+pub returns-in_err-tight : goal.returns-in_err-tight
+returns-in_err-tight g c = record {
+  all = λ edges test least s. if_refused _ c.from_residual-in_err-tight.result _ c.from_residual-in_err-tight.ensures.1;
+  ready = if_refused _ c.from_residual-in_err-tight.result _ c.from_residual-in_err-tight.ensures.1;
+  overflow = λ edges test least s e. absurd (no_overflow c.from_residual-in_err-tight.result _ c.from_residual-in_err-tight.ensures.1 c.in_err-tight.ensures.refused e);
+  errors = refused_as _ c.from_residual-in_err-tight.result _ c.from_residual-in_err-tight.ensures.1 (inl c.in_err-tight.ensures.refused);
+}
 
-pub returns-in_err-tight-clause-ready : goal.returns-in_err-tight-clause-ready
-returns-in_err-tight-clause-ready g c = if_refused _ c.from_residual-in_err-tight.result _ c.from_residual-in_err-tight.ensures.1
-
-pub returns-in_err-tight-clause-overflow : goal.returns-in_err-tight-clause-overflow
-returns-in_err-tight-clause-overflow g c = λ edges test least s e. absurd (no_overflow c.from_residual-in_err-tight.result _ c.from_residual-in_err-tight.ensures.1 c.in_err-tight.ensures.refused e)
-
-pub returns-in_err-tight-clause-errors : goal.returns-in_err-tight-clause-errors
-returns-in_err-tight-clause-errors g c = refused_as _ c.from_residual-in_err-tight.result _ c.from_residual-in_err-tight.ensures.1 (inl c.in_err-tight.ensures.refused)
-
-pub returns-in_err-ways-clause-all : goal.returns-in_err-ways-clause-all
-returns-in_err-ways-clause-all g c = λ edges test least s. if_refused _ c.from_residual-in_err-ways.result _ c.from_residual-in_err-ways.ensures.1
-
-pub returns-in_err-ways-clause-ready : goal.returns-in_err-ways-clause-ready
-returns-in_err-ways-clause-ready g c = if_refused _ c.from_residual-in_err-ways.result _ c.from_residual-in_err-ways.ensures.1
-
-pub returns-in_err-ways-clause-overflow : goal.returns-in_err-ways-clause-overflow
-returns-in_err-ways-clause-overflow g c = λ edges test least s e. absurd (no_overflow c.from_residual-in_err-ways.result _ c.from_residual-in_err-ways.ensures.1 c.in_err-ways.ensures.refused e)
-
-pub returns-in_err-ways-clause-errors : goal.returns-in_err-ways-clause-errors
-returns-in_err-ways-clause-errors g c = refused_as _ c.from_residual-in_err-ways.result _ c.from_residual-in_err-ways.ensures.1 (inl c.in_err-ways.ensures.refused)
+pub returns-in_err-ways : goal.returns-in_err-ways
+returns-in_err-ways g c = record {
+  all = λ edges test least s. if_refused _ c.from_residual-in_err-ways.result _ c.from_residual-in_err-ways.ensures.1;
+  ready = if_refused _ c.from_residual-in_err-ways.result _ c.from_residual-in_err-ways.ensures.1;
+  overflow = λ edges test least s e. absurd (no_overflow c.from_residual-in_err-ways.result _ c.from_residual-in_err-ways.ensures.1 c.in_err-ways.ensures.refused e);
+  errors = refused_as _ c.from_residual-in_err-ways.result _ c.from_residual-in_err-ways.ensures.1 (inl c.in_err-ways.ensures.refused);
+}
 
 pub returns-clause-ready : goal.returns-clause-ready
 returns-clause-ready g c = refl

@@ -187,32 +187,26 @@ returns-in_default-clause-best g c = λ edges test least s.
     let cut = subst (λ (o : Option g.row.C.Denot). IsCutOff value fits o c.in-Missed.past q.0) c.in_default.is q.3 in
     none_cut eq laws value fits (λ a b d. g.C.Number.between_law a b d exact) (g.met.C.Zero.zero_fits_law exact) h alike test same_test p q.0 (subst (λ (b : Bool). IsCutOff value fits None b q.0) c.if-past.false cut))
 
-pub returns-in_err-known-clause-best : goal.returns-in_err-known-clause-best
-returns-in_err-known-clause-best g c = λ edges test least s. if_refused _ c.from_residual.result _ c.from_residual.ensures.1
+pub returns-in_err-known : goal.returns-in_err-known
+returns-in_err-known g c = record {
+  best = λ edges test least s. if_refused _ c.from_residual.result _ c.from_residual.ensures.1;
+  overflow = λ edges test least s e. absurd (no_overflow c.from_residual.result _ c.from_residual.ensures.1 c.in_err-known.ensures.refused e);
+  errors = refused_as _ c.from_residual.result _ c.from_residual.ensures.1 (inl c.in_err-known.ensures.refused);
+}
 
-pub returns-in_err-known-clause-overflow : goal.returns-in_err-known-clause-overflow
-returns-in_err-known-clause-overflow g c = λ edges test least s e. absurd (no_overflow c.from_residual.result _ c.from_residual.ensures.1 c.in_err-known.ensures.refused e)
+pub returns-in_err-numbers : goal.returns-in_err-numbers
+returns-in_err-numbers g c = record {
+  best = λ edges test least s. if_refused _ c.from_residual-in_err-numbers.result _ c.from_residual-in_err-numbers.ensures.1;
+  overflow = λ edges test least s e. absurd (no_overflow c.from_residual-in_err-numbers.result _ c.from_residual-in_err-numbers.ensures.1 c.in_err-numbers.ensures.refused e);
+  errors = refused_as _ c.from_residual-in_err-numbers.result _ c.from_residual-in_err-numbers.ensures.1 (inl c.in_err-numbers.ensures.refused);
+}
 
-pub returns-in_err-known-clause-errors : goal.returns-in_err-known-clause-errors
-returns-in_err-known-clause-errors g c = refused_as _ c.from_residual.result _ c.from_residual.ensures.1 (inl c.in_err-known.ensures.refused)
-
-pub returns-in_err-numbers-clause-best : goal.returns-in_err-numbers-clause-best
-returns-in_err-numbers-clause-best g c = λ edges test least s. if_refused _ c.from_residual-in_err-numbers.result _ c.from_residual-in_err-numbers.ensures.1
-
-pub returns-in_err-numbers-clause-overflow : goal.returns-in_err-numbers-clause-overflow
-returns-in_err-numbers-clause-overflow g c = λ edges test least s e. absurd (no_overflow c.from_residual-in_err-numbers.result _ c.from_residual-in_err-numbers.ensures.1 c.in_err-numbers.ensures.refused e)
-
-pub returns-in_err-numbers-clause-errors : goal.returns-in_err-numbers-clause-errors
-returns-in_err-numbers-clause-errors g c = refused_as _ c.from_residual-in_err-numbers.result _ c.from_residual-in_err-numbers.ensures.1 (inl c.in_err-numbers.ensures.refused)
-
-pub returns-in_err-nodes_at-in-Found-clause-best : goal.returns-in_err-nodes_at-in-Found-clause-best
-returns-in_err-nodes_at-in-Found-clause-best g c = λ edges test least s. if_refused _ c.from_residual-in_err-nodes_at-in-Found.result _ c.from_residual-in_err-nodes_at-in-Found.ensures.1
-
-pub returns-in_err-nodes_at-in-Found-clause-overflow : goal.returns-in_err-nodes_at-in-Found-clause-overflow
-returns-in_err-nodes_at-in-Found-clause-overflow g c = λ edges test least s e. absurd (no_overflow c.from_residual-in_err-nodes_at-in-Found.result _ c.from_residual-in_err-nodes_at-in-Found.ensures.1 c.in_err-nodes_at-in-Found.ensures.refused e)
-
-pub returns-in_err-nodes_at-in-Found-clause-errors : goal.returns-in_err-nodes_at-in-Found-clause-errors
-returns-in_err-nodes_at-in-Found-clause-errors g c = refused_as _ c.from_residual-in_err-nodes_at-in-Found.result _ c.from_residual-in_err-nodes_at-in-Found.ensures.1 (inl c.in_err-nodes_at-in-Found.ensures.refused)
+pub returns-in_err-nodes_at-in-Found : goal.returns-in_err-nodes_at-in-Found
+returns-in_err-nodes_at-in-Found g c = record {
+  best = λ edges test least s. if_refused _ c.from_residual-in_err-nodes_at-in-Found.result _ c.from_residual-in_err-nodes_at-in-Found.ensures.1;
+  overflow = λ edges test least s e. absurd (no_overflow c.from_residual-in_err-nodes_at-in-Found.result _ c.from_residual-in_err-nodes_at-in-Found.ensures.1 c.in_err-nodes_at-in-Found.ensures.refused e);
+  errors = refused_as _ c.from_residual-in_err-nodes_at-in-Found.result _ c.from_residual-in_err-nodes_at-in-Found.ensures.1 (inl c.in_err-nodes_at-in-Found.ensures.refused);
+}
 
 pub returns-in-Found-clause-overflow : goal.returns-in-Found-clause-overflow
 returns-in-Found-clause-overflow g c = λ edges test least s e. absurd (ok_is_no_error _ _ _ refl e)

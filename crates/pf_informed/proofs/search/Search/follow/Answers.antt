@@ -79,53 +79,29 @@ returns-clause-less g c =
     let w = work_wider g.C.Number.value labels c.make_room.new.labels.items (length c.args.self.now.estimates.items) c.requires.few is top (heap_len c.args.self.now.queue) (omega (arith, c.in_ok-make_room.ensures.few)) in
     less_work g.C.Number.value top c.make_room.new.labels.items c.relax.new.labels.items (heap_len c.reserve.new.self) (heap_len c.relax.new.queue) (heap_len c.args.self.now.queue) labels c.relax.ensures.eased.len c.relax.ensures.less c.in_ok-reserve.ensures.len w
 
-pub returns-in_err-reserve-clause-forest : goal.returns-in_err-reserve-clause-forest
-returns-in_err-reserve-clause-forest g c = on_refused _ c.from_residual.result _ c.from_residual.ensures.1
+pub returns-in_err-reserve : goal.returns-in_err-reserve
+returns-in_err-reserve g c = record {
+  estimates = refl;
+  forest = on_refused _ c.from_residual.result _ c.from_residual.ensures.1;
+  ordered = on_refused _ c.from_residual.result _ c.from_residual.ensures.1;
+  queue = on_refused _ c.from_residual.result _ c.from_residual.ensures.1;
+  followed = on_refused _ c.from_residual.result _ c.from_residual.ensures.1;
+  wide = on_refused _ c.from_residual.result _ c.from_residual.ensures.1;
+  less = on_refused _ c.from_residual.result _ c.from_residual.ensures.1;
+  refused = refused_as _ c.from_residual.result _ c.from_residual.ensures.1 refl;
+}
 
-pub returns-in_err-reserve-clause-ordered : goal.returns-in_err-reserve-clause-ordered
-returns-in_err-reserve-clause-ordered g c = on_refused _ c.from_residual.result _ c.from_residual.ensures.1
-
-pub returns-in_err-reserve-clause-queue : goal.returns-in_err-reserve-clause-queue
-returns-in_err-reserve-clause-queue g c = on_refused _ c.from_residual.result _ c.from_residual.ensures.1
-
-pub returns-in_err-reserve-clause-followed : goal.returns-in_err-reserve-clause-followed
-returns-in_err-reserve-clause-followed g c = on_refused _ c.from_residual.result _ c.from_residual.ensures.1
-
-pub returns-in_err-reserve-clause-wide : goal.returns-in_err-reserve-clause-wide
-returns-in_err-reserve-clause-wide g c = on_refused _ c.from_residual.result _ c.from_residual.ensures.1
-
-pub returns-in_err-reserve-clause-less : goal.returns-in_err-reserve-clause-less
-returns-in_err-reserve-clause-less g c = on_refused _ c.from_residual.result _ c.from_residual.ensures.1
-
-pub returns-in_err-reserve-clause-estimates : goal.returns-in_err-reserve-clause-estimates
-returns-in_err-reserve-clause-estimates g c = refl
-
-pub returns-in_err-reserve-clause-refused : goal.returns-in_err-reserve-clause-refused
-returns-in_err-reserve-clause-refused g c = refused_as _ c.from_residual.result _ c.from_residual.ensures.1 refl
-
-pub returns-in_err-make_room-clause-forest : goal.returns-in_err-make_room-clause-forest
-returns-in_err-make_room-clause-forest g c = on_refused _ c.from_residual-in_err-make_room.result _ c.from_residual-in_err-make_room.ensures.1
-
-pub returns-in_err-make_room-clause-ordered : goal.returns-in_err-make_room-clause-ordered
-returns-in_err-make_room-clause-ordered g c = on_refused _ c.from_residual-in_err-make_room.result _ c.from_residual-in_err-make_room.ensures.1
-
-pub returns-in_err-make_room-clause-queue : goal.returns-in_err-make_room-clause-queue
-returns-in_err-make_room-clause-queue g c = on_refused _ c.from_residual-in_err-make_room.result _ c.from_residual-in_err-make_room.ensures.1
-
-pub returns-in_err-make_room-clause-followed : goal.returns-in_err-make_room-clause-followed
-returns-in_err-make_room-clause-followed g c = on_refused _ c.from_residual-in_err-make_room.result _ c.from_residual-in_err-make_room.ensures.1
-
-pub returns-in_err-make_room-clause-wide : goal.returns-in_err-make_room-clause-wide
-returns-in_err-make_room-clause-wide g c = on_refused _ c.from_residual-in_err-make_room.result _ c.from_residual-in_err-make_room.ensures.1
-
-pub returns-in_err-make_room-clause-less : goal.returns-in_err-make_room-clause-less
-returns-in_err-make_room-clause-less g c = on_refused _ c.from_residual-in_err-make_room.result _ c.from_residual-in_err-make_room.ensures.1
-
-pub returns-in_err-make_room-clause-estimates : goal.returns-in_err-make_room-clause-estimates
-returns-in_err-make_room-clause-estimates g c = refl
-
-pub returns-in_err-make_room-clause-refused : goal.returns-in_err-make_room-clause-refused
-returns-in_err-make_room-clause-refused g c = refused_as _ c.from_residual-in_err-make_room.result _ c.from_residual-in_err-make_room.ensures.1 c.in_err-make_room.ensures.refused
+pub returns-in_err-make_room : goal.returns-in_err-make_room
+returns-in_err-make_room g c = record {
+  estimates = refl;
+  forest = on_refused _ c.from_residual-in_err-make_room.result _ c.from_residual-in_err-make_room.ensures.1;
+  ordered = on_refused _ c.from_residual-in_err-make_room.result _ c.from_residual-in_err-make_room.ensures.1;
+  queue = on_refused _ c.from_residual-in_err-make_room.result _ c.from_residual-in_err-make_room.ensures.1;
+  followed = on_refused _ c.from_residual-in_err-make_room.result _ c.from_residual-in_err-make_room.ensures.1;
+  wide = on_refused _ c.from_residual-in_err-make_room.result _ c.from_residual-in_err-make_room.ensures.1;
+  less = on_refused _ c.from_residual-in_err-make_room.result _ c.from_residual-in_err-make_room.ensures.1;
+  refused = refused_as _ c.from_residual-in_err-make_room.result _ c.from_residual-in_err-make_room.ensures.1 c.in_err-make_room.ensures.refused;
+}
 
 pub returns-clause-estimates : goal.returns-clause-estimates
 returns-clause-estimates g c = refl

@@ -281,68 +281,38 @@ returns-in_ok-numbers-in-None-clause-graph g c = λ h test least first k w.
       ),
     )
 
-pub returns-in_err-span-clause-estimated : goal.returns-in_err-span-clause-estimated
-returns-in_err-span-clause-estimated g c = on_refused _ c.from_residual.result _ c.from_residual.ensures.1
+pub returns-in_err-span : goal.returns-in_err-span
+returns-in_err-span g c = record {
+  estimated = on_refused _ c.from_residual.result _ c.from_residual.ensures.1;
+  table = on_refused _ c.from_residual.result _ c.from_residual.ensures.1;
+  grows = on_refused _ c.from_residual.result _ c.from_residual.ensures.1;
+  marked = if_refused _ c.from_residual.result _ c.from_residual.ensures.1;
+  less = if_refused _ c.from_residual.result _ c.from_residual.ensures.1;
+  graph = λ h test least first k w. if_refused _ c.from_residual.result _ c.from_residual.ensures.1;
+  refused = refused_as _ c.from_residual.result _ c.from_residual.ensures.1 c.in_err-span.ensures.refused;
+}
 
-pub returns-in_err-span-clause-table : goal.returns-in_err-span-clause-table
-returns-in_err-span-clause-table g c = on_refused _ c.from_residual.result _ c.from_residual.ensures.1
+pub returns-in_err-enter-in-Some-2 : goal.returns-in_err-enter-in-Some-2
+returns-in_err-enter-in-Some-2 g c = record {
+  estimated = on_refused _ c.from_residual-in_err-enter-in-Some-2.result _ c.from_residual-in_err-enter-in-Some-2.ensures.1;
+  table = on_refused _ c.from_residual-in_err-enter-in-Some-2.result _ c.from_residual-in_err-enter-in-Some-2.ensures.1;
+  grows = on_refused _ c.from_residual-in_err-enter-in-Some-2.result _ c.from_residual-in_err-enter-in-Some-2.ensures.1;
+  marked = if_refused _ c.from_residual-in_err-enter-in-Some-2.result _ c.from_residual-in_err-enter-in-Some-2.ensures.1;
+  less = if_refused _ c.from_residual-in_err-enter-in-Some-2.result _ c.from_residual-in_err-enter-in-Some-2.ensures.1;
+  graph = λ h test least first k w. if_refused _ c.from_residual-in_err-enter-in-Some-2.result _ c.from_residual-in_err-enter-in-Some-2.ensures.1;
+  refused = refused_as _ c.from_residual-in_err-enter-in-Some-2.result _ c.from_residual-in_err-enter-in-Some-2.ensures.1 c.in_err-enter-in-Some-2.ensures.refused;
+}
 
-pub returns-in_err-span-clause-grows : goal.returns-in_err-span-clause-grows
-returns-in_err-span-clause-grows g c = on_refused _ c.from_residual.result _ c.from_residual.ensures.1
-
-pub returns-in_err-span-clause-marked : goal.returns-in_err-span-clause-marked
-returns-in_err-span-clause-marked g c = if_refused _ c.from_residual.result _ c.from_residual.ensures.1
-
-pub returns-in_err-span-clause-less : goal.returns-in_err-span-clause-less
-returns-in_err-span-clause-less g c = if_refused _ c.from_residual.result _ c.from_residual.ensures.1
-
-pub returns-in_err-span-clause-graph : goal.returns-in_err-span-clause-graph
-returns-in_err-span-clause-graph g c = λ h test least first k w. if_refused _ c.from_residual.result _ c.from_residual.ensures.1
-
-pub returns-in_err-span-clause-refused : goal.returns-in_err-span-clause-refused
-returns-in_err-span-clause-refused g c = refused_as _ c.from_residual.result _ c.from_residual.ensures.1 c.in_err-span.ensures.refused
-
-pub returns-in_err-enter-in-Some-2-clause-estimated : goal.returns-in_err-enter-in-Some-2-clause-estimated
-returns-in_err-enter-in-Some-2-clause-estimated g c = on_refused _ c.from_residual-in_err-enter-in-Some-2.result _ c.from_residual-in_err-enter-in-Some-2.ensures.1
-
-pub returns-in_err-enter-in-Some-2-clause-table : goal.returns-in_err-enter-in-Some-2-clause-table
-returns-in_err-enter-in-Some-2-clause-table g c = on_refused _ c.from_residual-in_err-enter-in-Some-2.result _ c.from_residual-in_err-enter-in-Some-2.ensures.1
-
-pub returns-in_err-enter-in-Some-2-clause-grows : goal.returns-in_err-enter-in-Some-2-clause-grows
-returns-in_err-enter-in-Some-2-clause-grows g c = on_refused _ c.from_residual-in_err-enter-in-Some-2.result _ c.from_residual-in_err-enter-in-Some-2.ensures.1
-
-pub returns-in_err-enter-in-Some-2-clause-marked : goal.returns-in_err-enter-in-Some-2-clause-marked
-returns-in_err-enter-in-Some-2-clause-marked g c = if_refused _ c.from_residual-in_err-enter-in-Some-2.result _ c.from_residual-in_err-enter-in-Some-2.ensures.1
-
-pub returns-in_err-enter-in-Some-2-clause-less : goal.returns-in_err-enter-in-Some-2-clause-less
-returns-in_err-enter-in-Some-2-clause-less g c = if_refused _ c.from_residual-in_err-enter-in-Some-2.result _ c.from_residual-in_err-enter-in-Some-2.ensures.1
-
-pub returns-in_err-enter-in-Some-2-clause-graph : goal.returns-in_err-enter-in-Some-2-clause-graph
-returns-in_err-enter-in-Some-2-clause-graph g c = λ h test least first k w. if_refused _ c.from_residual-in_err-enter-in-Some-2.result _ c.from_residual-in_err-enter-in-Some-2.ensures.1
-
-pub returns-in_err-enter-in-Some-2-clause-refused : goal.returns-in_err-enter-in-Some-2-clause-refused
-returns-in_err-enter-in-Some-2-clause-refused g c = refused_as _ c.from_residual-in_err-enter-in-Some-2.result _ c.from_residual-in_err-enter-in-Some-2.ensures.1 c.in_err-enter-in-Some-2.ensures.refused
-
-pub returns-in_err-numbers-in-None-clause-estimated : goal.returns-in_err-numbers-in-None-clause-estimated
-returns-in_err-numbers-in-None-clause-estimated g c = on_refused _ c.from_residual-in_err-numbers-in-None.result _ c.from_residual-in_err-numbers-in-None.ensures.1
-
-pub returns-in_err-numbers-in-None-clause-table : goal.returns-in_err-numbers-in-None-clause-table
-returns-in_err-numbers-in-None-clause-table g c = on_refused _ c.from_residual-in_err-numbers-in-None.result _ c.from_residual-in_err-numbers-in-None.ensures.1
-
-pub returns-in_err-numbers-in-None-clause-grows : goal.returns-in_err-numbers-in-None-clause-grows
-returns-in_err-numbers-in-None-clause-grows g c = on_refused _ c.from_residual-in_err-numbers-in-None.result _ c.from_residual-in_err-numbers-in-None.ensures.1
-
-pub returns-in_err-numbers-in-None-clause-marked : goal.returns-in_err-numbers-in-None-clause-marked
-returns-in_err-numbers-in-None-clause-marked g c = if_refused _ c.from_residual-in_err-numbers-in-None.result _ c.from_residual-in_err-numbers-in-None.ensures.1
-
-pub returns-in_err-numbers-in-None-clause-less : goal.returns-in_err-numbers-in-None-clause-less
-returns-in_err-numbers-in-None-clause-less g c = if_refused _ c.from_residual-in_err-numbers-in-None.result _ c.from_residual-in_err-numbers-in-None.ensures.1
-
-pub returns-in_err-numbers-in-None-clause-graph : goal.returns-in_err-numbers-in-None-clause-graph
-returns-in_err-numbers-in-None-clause-graph g c = λ h test least first k w. if_refused _ c.from_residual-in_err-numbers-in-None.result _ c.from_residual-in_err-numbers-in-None.ensures.1
-
-pub returns-in_err-numbers-in-None-clause-refused : goal.returns-in_err-numbers-in-None-clause-refused
-returns-in_err-numbers-in-None-clause-refused g c = refused_as _ c.from_residual-in_err-numbers-in-None.result _ c.from_residual-in_err-numbers-in-None.ensures.1 c.in_err-numbers-in-None.ensures.refused
+pub returns-in_err-numbers-in-None : goal.returns-in_err-numbers-in-None
+returns-in_err-numbers-in-None g c = record {
+  estimated = on_refused _ c.from_residual-in_err-numbers-in-None.result _ c.from_residual-in_err-numbers-in-None.ensures.1;
+  table = on_refused _ c.from_residual-in_err-numbers-in-None.result _ c.from_residual-in_err-numbers-in-None.ensures.1;
+  grows = on_refused _ c.from_residual-in_err-numbers-in-None.result _ c.from_residual-in_err-numbers-in-None.ensures.1;
+  marked = if_refused _ c.from_residual-in_err-numbers-in-None.result _ c.from_residual-in_err-numbers-in-None.ensures.1;
+  less = if_refused _ c.from_residual-in_err-numbers-in-None.result _ c.from_residual-in_err-numbers-in-None.ensures.1;
+  graph = λ h test least first k w. if_refused _ c.from_residual-in_err-numbers-in-None.result _ c.from_residual-in_err-numbers-in-None.ensures.1;
+  refused = refused_as _ c.from_residual-in_err-numbers-in-None.result _ c.from_residual-in_err-numbers-in-None.ensures.1 c.in_err-numbers-in-None.ensures.refused;
+}
 
 pub returns-then-is_marked-clause-estimated : goal.returns-then-is_marked-clause-estimated
 returns-then-is_marked-clause-estimated g c = c.requires.estimated

@@ -69,6 +69,15 @@ turns-init g c =
           );
     }
 
+pub span_of-requires-clause-inside : goal.span_of-requires-clause-inside
+span_of-requires-clause-inside g c = c.requires.begun
+
+pub span_of-requires-clause-estimated : goal.span_of-requires-clause-estimated
+span_of-requires-clause-estimated g c = c.requires.estimated
+
+pub span_of-requires-clause-table : goal.span_of-requires-clause-table
+span_of-requires-clause-table g c = c.requires.table
+
 pub span_of-requires-clause-graph : goal.span_of-requires-clause-graph
 span_of-requires-clause-graph g c = let r = c.requires.graph in (r.0, r.1, r.2, r.4)
 
@@ -97,89 +106,49 @@ turns-preserved g c = record {
       rw c.in_default-2.is at (c.in_ok-round.ensures.graph h test least first v.0 v.1);
 }
 
-pub returns-in_err-span-clause-estimated : goal.returns-in_err-span-clause-estimated
-returns-in_err-span-clause-estimated g c = on_refused _ c.from_residual.result _ c.from_residual.ensures.1
+pub returns-in_err-span : goal.returns-in_err-span
+returns-in_err-span g c = record {
+  estimated = on_refused _ c.from_residual.result _ c.from_residual.ensures.1;
+  table = on_refused _ c.from_residual.result _ c.from_residual.ensures.1;
+  grows = on_refused _ c.from_residual.result _ c.from_residual.ensures.1;
+  above = if_refused _ c.from_residual.result _ c.from_residual.ensures.1;
+  inside = if_refused _ c.from_residual.result _ c.from_residual.ensures.1;
+  graph = λ h test least first k s low. if_refused _ c.from_residual.result _ c.from_residual.ensures.1;
+  refused = refused_as _ c.from_residual.result _ c.from_residual.ensures.1 c.in_err-span.ensures.refused;
+}
 
-pub returns-in_err-span-clause-table : goal.returns-in_err-span-clause-table
-returns-in_err-span-clause-table g c = on_refused _ c.from_residual.result _ c.from_residual.ensures.1
+pub returns-in_err-numbers : goal.returns-in_err-numbers
+returns-in_err-numbers g c = record {
+  estimated = on_refused _ c.from_residual-in_err-numbers.result _ c.from_residual-in_err-numbers.ensures.1;
+  table = on_refused _ c.from_residual-in_err-numbers.result _ c.from_residual-in_err-numbers.ensures.1;
+  grows = on_refused _ c.from_residual-in_err-numbers.result _ c.from_residual-in_err-numbers.ensures.1;
+  above = if_refused _ c.from_residual-in_err-numbers.result _ c.from_residual-in_err-numbers.ensures.1;
+  inside = if_refused _ c.from_residual-in_err-numbers.result _ c.from_residual-in_err-numbers.ensures.1;
+  graph = λ h test least first k s low. if_refused _ c.from_residual-in_err-numbers.result _ c.from_residual-in_err-numbers.ensures.1;
+  refused = refused_as _ c.from_residual-in_err-numbers.result _ c.from_residual-in_err-numbers.ensures.1 c.in_err-numbers.ensures.refused;
+}
 
-pub returns-in_err-span-clause-grows : goal.returns-in_err-span-clause-grows
-returns-in_err-span-clause-grows g c = on_refused _ c.from_residual.result _ c.from_residual.ensures.1
+pub returns-in_err-way : goal.returns-in_err-way
+returns-in_err-way g c = record {
+  estimated = on_refused _ c.from_residual-in_err-way.result _ c.from_residual-in_err-way.ensures.1;
+  table = on_refused _ c.from_residual-in_err-way.result _ c.from_residual-in_err-way.ensures.1;
+  grows = on_refused _ c.from_residual-in_err-way.result _ c.from_residual-in_err-way.ensures.1;
+  above = if_refused _ c.from_residual-in_err-way.result _ c.from_residual-in_err-way.ensures.1;
+  inside = if_refused _ c.from_residual-in_err-way.result _ c.from_residual-in_err-way.ensures.1;
+  graph = λ h test least first k s low. if_refused _ c.from_residual-in_err-way.result _ c.from_residual-in_err-way.ensures.1;
+  refused = refused_as _ c.from_residual-in_err-way.result _ c.from_residual-in_err-way.ensures.1 c.in_err-way.ensures.refused;
+}
 
-pub returns-in_err-span-clause-above : goal.returns-in_err-span-clause-above
-returns-in_err-span-clause-above g c = if_refused _ c.from_residual.result _ c.from_residual.ensures.1
-
-pub returns-in_err-span-clause-inside : goal.returns-in_err-span-clause-inside
-returns-in_err-span-clause-inside g c = if_refused _ c.from_residual.result _ c.from_residual.ensures.1
-
-pub returns-in_err-span-clause-graph : goal.returns-in_err-span-clause-graph
-returns-in_err-span-clause-graph g c = λ h test least first k s low. if_refused _ c.from_residual.result _ c.from_residual.ensures.1
-
-pub returns-in_err-span-clause-refused : goal.returns-in_err-span-clause-refused
-returns-in_err-span-clause-refused g c = refused_as _ c.from_residual.result _ c.from_residual.ensures.1 c.in_err-span.ensures.refused
-
-pub returns-in_err-numbers-clause-estimated : goal.returns-in_err-numbers-clause-estimated
-returns-in_err-numbers-clause-estimated g c = on_refused _ c.from_residual-in_err-numbers.result _ c.from_residual-in_err-numbers.ensures.1
-
-pub returns-in_err-numbers-clause-table : goal.returns-in_err-numbers-clause-table
-returns-in_err-numbers-clause-table g c = on_refused _ c.from_residual-in_err-numbers.result _ c.from_residual-in_err-numbers.ensures.1
-
-pub returns-in_err-numbers-clause-grows : goal.returns-in_err-numbers-clause-grows
-returns-in_err-numbers-clause-grows g c = on_refused _ c.from_residual-in_err-numbers.result _ c.from_residual-in_err-numbers.ensures.1
-
-pub returns-in_err-numbers-clause-above : goal.returns-in_err-numbers-clause-above
-returns-in_err-numbers-clause-above g c = if_refused _ c.from_residual-in_err-numbers.result _ c.from_residual-in_err-numbers.ensures.1
-
-pub returns-in_err-numbers-clause-inside : goal.returns-in_err-numbers-clause-inside
-returns-in_err-numbers-clause-inside g c = if_refused _ c.from_residual-in_err-numbers.result _ c.from_residual-in_err-numbers.ensures.1
-
-pub returns-in_err-numbers-clause-graph : goal.returns-in_err-numbers-clause-graph
-returns-in_err-numbers-clause-graph g c = λ h test least first k s low. if_refused _ c.from_residual-in_err-numbers.result _ c.from_residual-in_err-numbers.ensures.1
-
-pub returns-in_err-numbers-clause-refused : goal.returns-in_err-numbers-clause-refused
-returns-in_err-numbers-clause-refused g c = refused_as _ c.from_residual-in_err-numbers.result _ c.from_residual-in_err-numbers.ensures.1 c.in_err-numbers.ensures.refused
-
-pub returns-in_err-way-clause-estimated : goal.returns-in_err-way-clause-estimated
-returns-in_err-way-clause-estimated g c = on_refused _ c.from_residual-in_err-way.result _ c.from_residual-in_err-way.ensures.1
-
-pub returns-in_err-way-clause-table : goal.returns-in_err-way-clause-table
-returns-in_err-way-clause-table g c = on_refused _ c.from_residual-in_err-way.result _ c.from_residual-in_err-way.ensures.1
-
-pub returns-in_err-way-clause-grows : goal.returns-in_err-way-clause-grows
-returns-in_err-way-clause-grows g c = on_refused _ c.from_residual-in_err-way.result _ c.from_residual-in_err-way.ensures.1
-
-pub returns-in_err-way-clause-above : goal.returns-in_err-way-clause-above
-returns-in_err-way-clause-above g c = if_refused _ c.from_residual-in_err-way.result _ c.from_residual-in_err-way.ensures.1
-
-pub returns-in_err-way-clause-inside : goal.returns-in_err-way-clause-inside
-returns-in_err-way-clause-inside g c = if_refused _ c.from_residual-in_err-way.result _ c.from_residual-in_err-way.ensures.1
-
-pub returns-in_err-way-clause-graph : goal.returns-in_err-way-clause-graph
-returns-in_err-way-clause-graph g c = λ h test least first k s low. if_refused _ c.from_residual-in_err-way.result _ c.from_residual-in_err-way.ensures.1
-
-pub returns-in_err-way-clause-refused : goal.returns-in_err-way-clause-refused
-returns-in_err-way-clause-refused g c = refused_as _ c.from_residual-in_err-way.result _ c.from_residual-in_err-way.ensures.1 c.in_err-way.ensures.refused
-
-pub returns-in_err-round-clause-estimated : goal.returns-in_err-round-clause-estimated
-returns-in_err-round-clause-estimated g c = on_refused _ c.from_residual-in_err-round.result _ c.from_residual-in_err-round.ensures.1
-
-pub returns-in_err-round-clause-table : goal.returns-in_err-round-clause-table
-returns-in_err-round-clause-table g c = on_refused _ c.from_residual-in_err-round.result _ c.from_residual-in_err-round.ensures.1
-
-pub returns-in_err-round-clause-grows : goal.returns-in_err-round-clause-grows
-returns-in_err-round-clause-grows g c = on_refused _ c.from_residual-in_err-round.result _ c.from_residual-in_err-round.ensures.1
-
-pub returns-in_err-round-clause-above : goal.returns-in_err-round-clause-above
-returns-in_err-round-clause-above g c = if_refused _ c.from_residual-in_err-round.result _ c.from_residual-in_err-round.ensures.1
-
-pub returns-in_err-round-clause-inside : goal.returns-in_err-round-clause-inside
-returns-in_err-round-clause-inside g c = if_refused _ c.from_residual-in_err-round.result _ c.from_residual-in_err-round.ensures.1
-
-pub returns-in_err-round-clause-graph : goal.returns-in_err-round-clause-graph
-returns-in_err-round-clause-graph g c = λ h test least first k s low. if_refused _ c.from_residual-in_err-round.result _ c.from_residual-in_err-round.ensures.1
-
-pub returns-in_err-round-clause-refused : goal.returns-in_err-round-clause-refused
-returns-in_err-round-clause-refused g c = refused_as _ c.from_residual-in_err-round.result _ c.from_residual-in_err-round.ensures.1 c.in_err-round.ensures.refused
+pub returns-in_err-round : goal.returns-in_err-round
+returns-in_err-round g c = record {
+  estimated = on_refused _ c.from_residual-in_err-round.result _ c.from_residual-in_err-round.ensures.1;
+  table = on_refused _ c.from_residual-in_err-round.result _ c.from_residual-in_err-round.ensures.1;
+  grows = on_refused _ c.from_residual-in_err-round.result _ c.from_residual-in_err-round.ensures.1;
+  above = if_refused _ c.from_residual-in_err-round.result _ c.from_residual-in_err-round.ensures.1;
+  inside = if_refused _ c.from_residual-in_err-round.result _ c.from_residual-in_err-round.ensures.1;
+  graph = λ h test least first k s low. if_refused _ c.from_residual-in_err-round.result _ c.from_residual-in_err-round.ensures.1;
+  refused = refused_as _ c.from_residual-in_err-round.result _ c.from_residual-in_err-round.ensures.1 c.in_err-round.ensures.refused;
+}
 
 pub returns-in_default-clause-estimated : goal.returns-in_default-clause-estimated
 returns-in_default-clause-estimated g c = c.in_ok-span.ensures.estimated
@@ -219,15 +188,6 @@ turn-requires-clause-table g c = c.turns.invariant.table
 
 pub turn-requires-clause-marked : goal.turn-requires-clause-marked
 turn-requires-clause-marked g c = c.turns.invariant.marked
-
-pub span_of-requires-clause-inside : goal.span_of-requires-clause-inside
-span_of-requires-clause-inside g c = c.requires.begun
-
-pub span_of-requires-clause-estimated : goal.span_of-requires-clause-estimated
-span_of-requires-clause-estimated g c = c.requires.estimated
-
-pub span_of-requires-clause-table : goal.span_of-requires-clause-table
-span_of-requires-clause-table g c = c.requires.table
 
 pub turns-smaller : goal.turns-smaller
 turns-smaller g c = rw c.in_default-2.is at c.in_ok-round.ensures.less

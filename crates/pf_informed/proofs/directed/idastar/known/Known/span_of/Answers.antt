@@ -113,77 +113,41 @@ returns-clause-graph g c = λ h test least k.
       tt,
     )
 
-pub returns-in_err-expand-clause-estimated : goal.returns-in_err-expand-clause-estimated
-returns-in_err-expand-clause-estimated g c = on_refused _ c.from_residual.result _ c.from_residual.ensures.1
+pub returns-in_err-expand : goal.returns-in_err-expand
+returns-in_err-expand g c = record {
+  estimated = on_refused _ c.from_residual.result _ c.from_residual.ensures.1;
+  table = on_refused _ c.from_residual.result _ c.from_residual.ensures.1;
+  grows = on_refused _ c.from_residual.result _ c.from_residual.ensures.1;
+  steps = on_refused _ c.from_residual.result _ c.from_residual.ensures.1;
+  spans = on_refused _ c.from_residual.result _ c.from_residual.ensures.1;
+  kept = if_refused _ c.from_residual.result _ c.from_residual.ensures.1;
+  graph = λ h test least k. if_refused _ c.from_residual.result _ c.from_residual.ensures.1;
+  refused = refused_as _ c.from_residual.result _ c.from_residual.ensures.1 c.in_err-expand.ensures.refused.0;
+}
 
-pub returns-in_err-expand-clause-table : goal.returns-in_err-expand-clause-table
-returns-in_err-expand-clause-table g c = on_refused _ c.from_residual.result _ c.from_residual.ensures.1
+pub returns-in_err-ask : goal.returns-in_err-ask
+returns-in_err-ask g c = record {
+  estimated = on_refused _ c.from_residual-in_err-ask.result _ c.from_residual-in_err-ask.ensures.1;
+  table = on_refused _ c.from_residual-in_err-ask.result _ c.from_residual-in_err-ask.ensures.1;
+  grows = on_refused _ c.from_residual-in_err-ask.result _ c.from_residual-in_err-ask.ensures.1;
+  steps = on_refused _ c.from_residual-in_err-ask.result _ c.from_residual-in_err-ask.ensures.1;
+  spans = on_refused _ c.from_residual-in_err-ask.result _ c.from_residual-in_err-ask.ensures.1;
+  kept = if_refused _ c.from_residual-in_err-ask.result _ c.from_residual-in_err-ask.ensures.1;
+  graph = λ h test least k. if_refused _ c.from_residual-in_err-ask.result _ c.from_residual-in_err-ask.ensures.1;
+  refused = refused_as _ c.from_residual-in_err-ask.result _ c.from_residual-in_err-ask.ensures.1 c.in_err-ask.ensures.refused;
+}
 
-pub returns-in_err-expand-clause-grows : goal.returns-in_err-expand-clause-grows
-returns-in_err-expand-clause-grows g c = on_refused _ c.from_residual.result _ c.from_residual.ensures.1
-
-pub returns-in_err-expand-clause-steps : goal.returns-in_err-expand-clause-steps
-returns-in_err-expand-clause-steps g c = on_refused _ c.from_residual.result _ c.from_residual.ensures.1
-
-pub returns-in_err-expand-clause-spans : goal.returns-in_err-expand-clause-spans
-returns-in_err-expand-clause-spans g c = on_refused _ c.from_residual.result _ c.from_residual.ensures.1
-
-pub returns-in_err-expand-clause-kept : goal.returns-in_err-expand-clause-kept
-returns-in_err-expand-clause-kept g c = if_refused _ c.from_residual.result _ c.from_residual.ensures.1
-
-pub returns-in_err-expand-clause-graph : goal.returns-in_err-expand-clause-graph
-returns-in_err-expand-clause-graph g c = λ h test least k. if_refused _ c.from_residual.result _ c.from_residual.ensures.1
-
-pub returns-in_err-expand-clause-refused : goal.returns-in_err-expand-clause-refused
-returns-in_err-expand-clause-refused g c = refused_as _ c.from_residual.result _ c.from_residual.ensures.1 c.in_err-expand.ensures.refused.0
-
-pub returns-in_err-ask-clause-estimated : goal.returns-in_err-ask-clause-estimated
-returns-in_err-ask-clause-estimated g c = on_refused _ c.from_residual-in_err-ask.result _ c.from_residual-in_err-ask.ensures.1
-
-pub returns-in_err-ask-clause-table : goal.returns-in_err-ask-clause-table
-returns-in_err-ask-clause-table g c = on_refused _ c.from_residual-in_err-ask.result _ c.from_residual-in_err-ask.ensures.1
-
-pub returns-in_err-ask-clause-grows : goal.returns-in_err-ask-clause-grows
-returns-in_err-ask-clause-grows g c = on_refused _ c.from_residual-in_err-ask.result _ c.from_residual-in_err-ask.ensures.1
-
-pub returns-in_err-ask-clause-steps : goal.returns-in_err-ask-clause-steps
-returns-in_err-ask-clause-steps g c = on_refused _ c.from_residual-in_err-ask.result _ c.from_residual-in_err-ask.ensures.1
-
-pub returns-in_err-ask-clause-spans : goal.returns-in_err-ask-clause-spans
-returns-in_err-ask-clause-spans g c = on_refused _ c.from_residual-in_err-ask.result _ c.from_residual-in_err-ask.ensures.1
-
-pub returns-in_err-ask-clause-kept : goal.returns-in_err-ask-clause-kept
-returns-in_err-ask-clause-kept g c = if_refused _ c.from_residual-in_err-ask.result _ c.from_residual-in_err-ask.ensures.1
-
-pub returns-in_err-ask-clause-graph : goal.returns-in_err-ask-clause-graph
-returns-in_err-ask-clause-graph g c = λ h test least k. if_refused _ c.from_residual-in_err-ask.result _ c.from_residual-in_err-ask.ensures.1
-
-pub returns-in_err-ask-clause-refused : goal.returns-in_err-ask-clause-refused
-returns-in_err-ask-clause-refused g c = refused_as _ c.from_residual-in_err-ask.result _ c.from_residual-in_err-ask.ensures.1 c.in_err-ask.ensures.refused
-
-pub returns-in_err-span-clause-estimated : goal.returns-in_err-span-clause-estimated
-returns-in_err-span-clause-estimated g c = on_refused _ c.from_residual-in_err-span.result _ c.from_residual-in_err-span.ensures.1
-
-pub returns-in_err-span-clause-table : goal.returns-in_err-span-clause-table
-returns-in_err-span-clause-table g c = on_refused _ c.from_residual-in_err-span.result _ c.from_residual-in_err-span.ensures.1
-
-pub returns-in_err-span-clause-grows : goal.returns-in_err-span-clause-grows
-returns-in_err-span-clause-grows g c = on_refused _ c.from_residual-in_err-span.result _ c.from_residual-in_err-span.ensures.1
-
-pub returns-in_err-span-clause-steps : goal.returns-in_err-span-clause-steps
-returns-in_err-span-clause-steps g c = on_refused _ c.from_residual-in_err-span.result _ c.from_residual-in_err-span.ensures.1
-
-pub returns-in_err-span-clause-spans : goal.returns-in_err-span-clause-spans
-returns-in_err-span-clause-spans g c = on_refused _ c.from_residual-in_err-span.result _ c.from_residual-in_err-span.ensures.1
-
-pub returns-in_err-span-clause-kept : goal.returns-in_err-span-clause-kept
-returns-in_err-span-clause-kept g c = if_refused _ c.from_residual-in_err-span.result _ c.from_residual-in_err-span.ensures.1
-
-pub returns-in_err-span-clause-graph : goal.returns-in_err-span-clause-graph
-returns-in_err-span-clause-graph g c = λ h test least k. if_refused _ c.from_residual-in_err-span.result _ c.from_residual-in_err-span.ensures.1
-
-pub returns-in_err-span-clause-refused : goal.returns-in_err-span-clause-refused
-returns-in_err-span-clause-refused g c = refused_as _ c.from_residual-in_err-span.result _ c.from_residual-in_err-span.ensures.1 c.in_err-span.ensures.refused
+pub returns-in_err-span : goal.returns-in_err-span
+returns-in_err-span g c = record {
+  estimated = on_refused _ c.from_residual-in_err-span.result _ c.from_residual-in_err-span.ensures.1;
+  table = on_refused _ c.from_residual-in_err-span.result _ c.from_residual-in_err-span.ensures.1;
+  grows = on_refused _ c.from_residual-in_err-span.result _ c.from_residual-in_err-span.ensures.1;
+  steps = on_refused _ c.from_residual-in_err-span.result _ c.from_residual-in_err-span.ensures.1;
+  spans = on_refused _ c.from_residual-in_err-span.result _ c.from_residual-in_err-span.ensures.1;
+  kept = if_refused _ c.from_residual-in_err-span.result _ c.from_residual-in_err-span.ensures.1;
+  graph = λ h test least k. if_refused _ c.from_residual-in_err-span.result _ c.from_residual-in_err-span.ensures.1;
+  refused = refused_as _ c.from_residual-in_err-span.result _ c.from_residual-in_err-span.ensures.1 c.in_err-span.ensures.refused;
+}
 
 pub returns-then-is_some-clause-estimated : goal.returns-then-is_some-clause-estimated
 returns-then-is_some-clause-estimated g c = c.requires.estimated
