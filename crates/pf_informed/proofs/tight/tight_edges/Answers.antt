@@ -71,7 +71,7 @@ pub look-requires-clause-found : goal.look-requires-clause-found
 look-requires-clause-found g c = omega (arith, c.requires.found, c.numbers.invariant.grows.more)
 
 pub numbers-init : goal.numbers-init
-numbers-init g c = 
+numbers-init g c =
     let e = c.in_ok-empty_rows.ensures in
     record {
       few = omega arith;

@@ -233,7 +233,7 @@ pub look_through-requires-clause-table : goal.look_through-requires-clause-table
 look_through-requires-clause-table g c = c.limits.invariant.table
 
 pub look_through-requires-clause-graph : goal.look_through-requires-clause-graph
-look_through-requires-clause-graph g c = 
+look_through-requires-clause-graph g c =
     let r = c.requires.graph in
     let inv = c.limits.invariant in
     let v = inv.searched r.0 r.1 r.2 r.3 in
