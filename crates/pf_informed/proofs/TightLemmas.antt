@@ -1,5 +1,5 @@
 -- Rows of numbers before each number, as numbers are put in, in order.
-use Rattle.std.proofs.Common.{◌≡◌, ◌≢◌, ℕ, ◌+◌, ◌<◌, ◌≤◌, refl, sym, ◌∙◌, ap, subst, arith, Bool, true, false, true≢false, List, [], ◌∷◌, ◌++◌, length, inl, inr, not, nat_eq, eq-eqb, ℤ}
+use Rattle.std.proofs.Common.{◌≡◌, ◌≢◌, ℕ, zero, suc, ◌+◌, ◌<◌, ◌≤◌, refl, sym, ◌∙◌, ap, subst, arith, Bool, true, false, true≢false, List, [], ◌∷◌, ◌++◌, length, inl, inr, not, nat_eq, eq-eqb, ℤ}
 use Rattle.std.specs.Prelude.{◌⊎◌, ◌↔◌, ◌≤ℤ◌, ◌<ℤ◌, ◌+ℤ◌, MatchBool, Result, Ok, Err, OnOk, Contains, Vec, slice_set}
 use Rattle.std.specs.Ordering.{int_cmp, is_lt}
 use Rattle.std.proofs.lemmas.Int.{ints}
@@ -57,6 +57,13 @@ up_to_next n xs u = record {
 }
 
 -- ---- a row in the place of another
+-- one empty row more
+pub empty_more : {Z : Type 0} (rows : List (Vec ℕ Z)) (new : Vec ℕ Z) → new.items ≡ [] → ((j : ℕ) → before_in rows j ≡ []) → (j : ℕ) → before_in (rows ++ new ∷ []) j ≡ []
+empty_more [] new e all zero = e
+empty_more [] new e all (suc j) = refl
+empty_more (r ∷ rows) new e all zero = all zero
+empty_more (r ∷ rows) new e all (suc j) = empty_more rows new e (λ i. all (suc i)) j
+
 module _ {Z : Type 0} (rows : List (Vec ℕ Z)) (next : ℕ) (row : Vec ℕ Z) (inside : next < length rows) where
   pub row_set : (j : ℕ) → ((j ≡ next) × (before_in (slice_set rows next row) j ≡ row.items)) ⊎ ((j ≢ next) × (before_in (slice_set rows next row) j ≡ before_in rows j))
   row_set j = elim (get_set rows next j row inside) as (λ _. ((j ≡ next) × (before_in (slice_set rows next row) j ≡ row.items)) ⊎ ((j ≢ next) × (before_in (slice_set rows next row) j ≡ before_in rows j))) [

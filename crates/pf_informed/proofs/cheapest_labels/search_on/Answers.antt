@@ -1,4 +1,4 @@
-use Rattle.std.proofs.Common.{rules, ◌≡◌, ◌<◌, ◌∙◌, [], ◌∷◌, List, ℕ, ℤ, Bool, false, true≢false, sym, subst, refl, length, Some, None}
+use Rattle.std.proofs.Common.{rules, ◌≡◌, ◌<◌, ◌∙◌, [], ◌∷◌, List, ℕ, ℤ, Bool, false, true≢false, sym, subst, refl, length, Some, None, inl, inr}
 use Rattle.std.specs.BinaryHeap.{heap_items}
 use Rattle.std.proofs.lemmas.List.{append-nil}
 use Rattle.pf_base.specs.Edges.{IsCheapestGoalPath}
@@ -14,6 +14,7 @@ use Rattle.pf_informed.specs.Internal.Waiting.{Entry, IsWaiting, IsQueue}
 use Rattle.pf_informed.proofs.LabelledLemmas.{by_cases, goal_path, no_best, exact_label, low_of}
 use Rattle.pf_informed.proofs.LedAnswers.{led_within, led_estimate, led_asked, led_none, led_past}
 use Rattle.pf_informed.proofs.LedLemmas.{informed_still, led_grown}
+use Rattle.pf_informed.proofs.Outcomes.{refused_as, if_refused, no_overflow, ok_is_no_error}
 use Rattle.pf_informed.proofs.cheapest_labels.search_on.Goals as goal
 
 abbrev tested : {N : Type 0} → NodeGraph N → (N → Bool) → TestedGraph N
@@ -192,3 +193,52 @@ returns-else-has_all_labels-clause-overflow g c = λ start edges test least s d 
     let none_waits : (k : ℕ) (l : Label g.row.C.Denot) → HasLabel c.turns.search.labels.items k l → ¬ (IsWaiting value (heap_items c.turns.search.queue) k l) = λ k l at w. let b = c.in_default.ensures.taken k l at w in no_best b.0 (sym unknown ∙ b.1) in
     led_past g.N.PartialEq.eq g.met.N.Eq.laws value _ _ _ _ _ _ _ start edges test least _ _ _ _ _ v.0 inv.asked (inv.begins start s) g.C.Number.fits (λ x y z. g.C.Number.between_law x y z exact) (g.met.C.Zero.zero_fits_law exact)
     c.turns.search.labels.items inv.wide (heap_items c.turns.search.queue) inv.forest (inv.unknown unknown (graph_of start edges) test least d) none_waits (λ a. true≢false (sym (c.has_all_labels.ensures.1 a) ∙ c.if-has_all_labels.false))
+
+pub returns-in_err-begin : goal.returns-in_err-begin
+returns-in_err-begin g c = record {
+  wide = if_refused _ c.from_residual.result _ c.from_residual.ensures.1;
+  labelled = λ start edges test least s d. if_refused _ c.from_residual.result _ c.from_residual.ensures.1;
+  overflow = λ start edges test least s d e. absurd (no_overflow c.from_residual.result _ c.from_residual.ensures.1 c.in_err-begin.ensures.refused e);
+  errors = refused_as _ c.from_residual.result _ c.from_residual.ensures.1 (inl c.in_err-begin.ensures.refused);
+}
+
+pub returns-in_err-turn : goal.returns-in_err-turn
+returns-in_err-turn g c = record {
+  wide = if_refused _ c.from_residual-in_err-turn.result _ c.from_residual-in_err-turn.ensures.1;
+  labelled = λ start edges test least s d. if_refused _ c.from_residual-in_err-turn.result _ c.from_residual-in_err-turn.ensures.1;
+  overflow = λ start edges test least s d e. absurd (no_overflow c.from_residual-in_err-turn.result _ c.from_residual-in_err-turn.ensures.1 c.in_err-turn.ensures.refused e);
+  errors = refused_as _ c.from_residual-in_err-turn.result _ c.from_residual-in_err-turn.ensures.1 (inl c.in_err-turn.ensures.refused);
+}
+
+pub returns-else-has_all_labels-clause-wide : goal.returns-else-has_all_labels-clause-wide
+returns-else-has_all_labels-clause-wide g c = tt
+
+pub returns-else-has_all_labels-clause-labelled : goal.returns-else-has_all_labels-clause-labelled
+returns-else-has_all_labels-clause-labelled g c = λ start edges test least s d. tt
+
+pub returns-else-has_all_labels-clause-errors : goal.returns-else-has_all_labels-clause-errors
+returns-else-has_all_labels-clause-errors g c = inr refl
+
+pub returns-then-has_all_labels-clause-overflow : goal.returns-then-has_all_labels-clause-overflow
+returns-then-has_all_labels-clause-overflow g c = λ start edges test least s d e. absurd (ok_is_no_error _ _ _ refl e)
+
+pub returns-then-has_all_labels-clause-errors : goal.returns-then-has_all_labels-clause-errors
+returns-then-has_all_labels-clause-errors g c = tt
+
+pub turn-requires-clause-forest : goal.turn-requires-clause-forest
+turn-requires-clause-forest g c = c.turns.invariant.forest
+
+pub returns-then-has_all_labels-clause-wide : goal.returns-then-has_all_labels-clause-wide
+returns-then-has_all_labels-clause-wide g c = tt
+
+pub returns-in-Some-best-clause-overflow : goal.returns-in-Some-best-clause-overflow
+returns-in-Some-best-clause-overflow g c = λ start edges test least s d e. absurd (ok_is_no_error _ _ _ refl e)
+
+pub returns-in-Some-best-clause-errors : goal.returns-in-Some-best-clause-errors
+returns-in-Some-best-clause-errors g c = tt
+
+pub turn-requires-clause-ordered : goal.turn-requires-clause-ordered
+turn-requires-clause-ordered g c = c.in-Some.ensures.ordered
+
+pub turn-requires-clause-queue : goal.turn-requires-clause-queue
+turn-requires-clause-queue g c = c.in-Some.ensures.queue

@@ -1,10 +1,11 @@
-use Rattle.std.proofs.Common.{arith, ◌∙◌, ap, sym, subst, ℕ, ◌<◌, [], ◌∷◌, ◌++◌, length, inl, inr}
+use Rattle.std.proofs.Common.{arith, ◌∙◌, ap, sym, subst, ℕ, ◌<◌, [], ◌∷◌, ◌++◌, length, inl, inr, refl}
 use Rattle.std.specs.Prelude.{reverse, Contains}
 use Rattle.std.proofs.lemmas.List.{append-nil, append_assoc}
 use Rattle.pf_core.specs.Labels.{HasLabel, Climbs}
 use Rattle.pf_core.proofs.ListLemmas.{Contains-append_one, Contains-reverse}
 use Rattle.pf_core.proofs.LabelLemmas.{HasLabel-inside}
 use Rattle.pf_informed.proofs.PathUp.{chain_short, steps_are}
+use Rattle.pf_informed.proofs.Outcomes.{refused_as, if_refused}
 use Rattle.pf_informed.proofs.labels.path_to.Goals as goal
 
 pub climb-init : goal.climb-init
@@ -54,3 +55,20 @@ returns-clause-chain g c =
 
 pub returns-clause-inside : goal.returns-clause-inside
 returns-clause-inside g c = λ k h. c.climb.invariant.inside k (Contains-reverse c.climb.numbers.items k (subst (λ xs. Contains xs k) c.reverse.ensures.items h))
+
+pub returns-in_err-push : goal.returns-in_err-push
+returns-in_err-push g c = record {
+  chain = if_refused _ c.from_residual.result _ c.from_residual.ensures.1;
+  inside = if_refused _ c.from_residual.result _ c.from_residual.ensures.1;
+  refused = refused_as _ c.from_residual.result _ c.from_residual.ensures.1 refl;
+}
+
+pub returns-in_err-push-2 : goal.returns-in_err-push-2
+returns-in_err-push-2 g c = record {
+  chain = if_refused _ c.from_residual-in_err-push-2.result _ c.from_residual-in_err-push-2.ensures.1;
+  inside = if_refused _ c.from_residual-in_err-push-2.result _ c.from_residual-in_err-push-2.ensures.1;
+  refused = refused_as _ c.from_residual-in_err-push-2.result _ c.from_residual-in_err-push-2.ensures.1 refl;
+}
+
+pub returns-clause-refused : goal.returns-clause-refused
+returns-clause-refused g c = tt

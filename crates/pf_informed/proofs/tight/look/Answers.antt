@@ -1,4 +1,4 @@
-use Rattle.std.proofs.Common.{◌∙◌, ◌<◌, ap, sym, arith}
+use Rattle.std.proofs.Common.{refl, ◌∙◌, ◌<◌, ap, sym, arith}
 use Rattle.std.specs.Ordering.{is_some_and, is_lt}
 use Rattle.std.proofs.lemmas.Int.{ints}
 use Rattle.pf_core.specs.declared.labels.Label.{Label}
@@ -7,6 +7,7 @@ use Rattle.pf_core.proofs.LabelLemmas.{label_is}
 use Rattle.pf_core.proofs.ListLemmas.{at_place, on_ok}
 use Rattle.pf_core.proofs.SearchLemmas.{Grows-trans}
 use Rattle.pf_informed.specs.Internal.Ways.{before_in}
+use Rattle.pf_informed.proofs.Outcomes.{refused_as, on_refused, Grows-refl}
 use Rattle.pf_informed.proofs.TightLemmas.{less_of, not_less_of, up_to_next, tight_grows, tight_skipped, tight_goal, tight_row, both_ok}
 use Rattle.pf_informed.proofs.WiderLemmas.{no_label}
 use Rattle.pf_informed.proofs.tight.look.Goals as goal
@@ -61,3 +62,95 @@ returns-clause-tight g c =
     (λ y s. sym (told.1 y (grow.back c.args.number y inside s)) ∙ c.if-is_goal.false) row.0
     (λ y s. row.4 h told.0 y (first.stays c.args.number y (grow.back c.args.number y inside s)))
     (let a = c.requires.someone in (a.0, grow.stays c.args.number a.0 a.1)) (before_in c.link_row.new.before.items) linked (λ j. (w.0 j).once))
+
+pub offset_bounds-labels-number : goal.offset_bounds-labels-number
+offset_bounds-labels-number g c = omega (arith, c.requires.inside)
+
+pub bounds-labels-number : goal.bounds-labels-number
+bounds-labels-number g c = c.requires.inside
+
+pub returns-in_default-clause-grows : goal.returns-in_default-clause-grows
+returns-in_default-clause-grows g c = Grows-refl _ _
+
+pub returns-in_default-clause-graph : goal.returns-in_default-clause-graph
+returns-in_default-clause-graph g c = λ h x. x
+
+pub returns-in_default-clause-wide : goal.returns-in_default-clause-wide
+returns-in_default-clause-wide g c = c.requires.wide
+
+pub returns-in_default-clause-refused : goal.returns-in_default-clause-refused
+returns-in_default-clause-refused g c = tt
+
+pub returns-then-lt-clause-grows : goal.returns-then-lt-clause-grows
+returns-then-lt-clause-grows g c = Grows-refl _ _
+
+pub returns-then-lt-clause-graph : goal.returns-then-lt-clause-graph
+returns-then-lt-clause-graph g c = λ h x. x
+
+pub returns-then-lt-clause-wide : goal.returns-then-lt-clause-wide
+returns-then-lt-clause-wide g c = c.requires.wide
+
+pub returns-then-lt-clause-refused : goal.returns-then-lt-clause-refused
+returns-then-lt-clause-refused g c = tt
+
+pub is_goal-requires : goal.is_goal-requires
+is_goal-requires g c = record {
+  inside = omega (arith, c.requires.inside, c.requires.found);
+  graph = c.requires.graph;
+}
+
+pub returns-in_err-push : goal.returns-in_err-push
+returns-in_err-push g c = record {
+  grows = c.is_goal.ensures.grows;
+  graph = λ h x. (c.is_goal.ensures.graph h x).0;
+  wide = on_refused _ c.from_residual.result _ c.from_residual.ensures.1;
+  up_to = on_refused _ c.from_residual.result _ c.from_residual.ensures.1;
+  tight = on_refused _ c.from_residual.result _ c.from_residual.ensures.1;
+  refused = refused_as _ c.from_residual.result _ c.from_residual.ensures.1 refl;
+}
+
+pub returns-then-is_goal-clause-grows : goal.returns-then-is_goal-clause-grows
+returns-then-is_goal-clause-grows g c = c.is_goal.ensures.grows
+
+pub returns-then-is_goal-clause-graph : goal.returns-then-is_goal-clause-graph
+returns-then-is_goal-clause-graph g c = λ h x. (c.is_goal.ensures.graph h x).0
+
+pub returns-then-is_goal-clause-wide : goal.returns-then-is_goal-clause-wide
+returns-then-is_goal-clause-wide g c = c.requires.wide
+
+pub returns-then-is_goal-clause-refused : goal.returns-then-is_goal-clause-refused
+returns-then-is_goal-clause-refused g c = tt
+
+pub expand-requires-clause-inside : goal.expand-requires-clause-inside
+expand-requires-clause-inside g c = omega (arith, c.requires.inside, c.requires.found, c.is_goal.ensures.same)
+
+pub expand-requires-clause-graph : goal.expand-requires-clause-graph
+expand-requires-clause-graph g c = let a = c.requires.graph in (a.0, (c.is_goal.ensures.graph a.0 a.1).0)
+
+pub returns-in_err-expand : goal.returns-in_err-expand
+returns-in_err-expand g c = record {
+  grows = Grows-trans _ _ _ _ _ _ c.is_goal.ensures.grows c.in_err-expand.ensures.grows;
+  graph = λ h x. c.in_err-expand.ensures.graph h (c.is_goal.ensures.graph h x).0;
+  wide = on_refused _ c.from_residual-in_err-expand.result _ c.from_residual-in_err-expand.ensures.1;
+  up_to = on_refused _ c.from_residual-in_err-expand.result _ c.from_residual-in_err-expand.ensures.1;
+  tight = on_refused _ c.from_residual-in_err-expand.result _ c.from_residual-in_err-expand.ensures.1;
+  refused = refused_as _ c.from_residual-in_err-expand.result _ c.from_residual-in_err-expand.ensures.1 c.in_err-expand.ensures.refused.0;
+}
+
+pub link_row-requires-clause-wide : goal.link_row-requires-clause-wide
+link_row-requires-clause-wide g c = c.requires.wide
+
+pub link_row-requires-clause-up_to : goal.link_row-requires-clause-up_to
+link_row-requires-clause-up_to g c = c.requires.up_to
+
+pub returns-clause-grows : goal.returns-clause-grows
+returns-clause-grows g c = Grows-trans _ _ _ _ _ _ c.is_goal.ensures.grows c.in_ok-expand.ensures.grows
+
+pub returns-clause-graph : goal.returns-clause-graph
+returns-clause-graph g c = λ h x. c.in_ok-expand.ensures.graph h (c.is_goal.ensures.graph h x).0
+
+pub returns-clause-wide : goal.returns-clause-wide
+returns-clause-wide g c = c.link_row.ensures.wide
+
+pub returns-clause-refused : goal.returns-clause-refused
+returns-clause-refused g c = c.link_row.ensures.refused

@@ -1,7 +1,9 @@
-use Rattle.std.proofs.Common.{rules, ◌≡◌, ◌+◌, ◌≤◌, ◌<◌, subst, arith, ℕ, length}
+use Rattle.std.proofs.Common.{rules, ◌≡◌, ◌+◌, ◌≤◌, ◌<◌, subst, arith, ℕ, length, List, sym, inl}
 use Rattle.pf_core.proofs.SearchLemmas.{Grows-trans}
 use Rattle.pf_informed.specs.Internal.Ways.{before_in}
-use Rattle.pf_informed.specs.Internal.Tight.{IsTight}
+use Rattle.pf_informed.specs.Internal.Tight.{IsTight, IsUpTo}
+use Rattle.pf_informed.proofs.Outcomes.{refused_as, if_refused, Grows-refl}
+use Rattle.pf_informed.proofs.TightLemmas.{tight_start}
 use Rattle.pf_informed.proofs.tight.tight_edges.Goals as goal
 
 pub look-requires-clause-someone : goal.look-requires-clause-someone
@@ -11,8 +13,13 @@ look-requires-clause-someone g c =
     let a = c.requires.someone c.numbers.number inside in
     (a.0, i.grows.stays c.numbers.number a.0 a.1)
 
-pub returns-in_err-look-clause-grows : goal.returns-in_err-look-clause-grows
-returns-in_err-look-clause-grows g c = Grows-trans _ _ _ _ _ _ c.numbers.invariant.grows c.in_err-look.ensures.grows
+pub returns-in_err-look : goal.returns-in_err-look
+returns-in_err-look g c = record {
+  grows = Grows-trans _ _ _ _ _ _ c.numbers.invariant.grows c.in_err-look.ensures.grows;
+  wide = if_refused _ c.from_residual-in_err-look.result _ c.from_residual-in_err-look.ensures.1;
+  tight = if_refused _ c.from_residual-in_err-look.result _ c.from_residual-in_err-look.ensures.1;
+  refused = refused_as _ c.from_residual-in_err-look.result _ c.from_residual-in_err-look.ensures.1 c.in_err-look.ensures.refused;
+}
 
 pub numbers-preserved : goal.numbers-preserved
 numbers-preserved g c =
@@ -33,3 +40,43 @@ returns-clause-tight g c = λ h x.
     let past : length c.args.labels.now ≤ c.numbers.number = search rules in
     let all : c.numbers.number ≡ length c.args.labels.now = omega (arith, past, i.few) in
     ((i.tight h x).0, subst (λ (n : ℕ). IsTight g.C.Number.value c.args.labels.now (g.G.NumberedGraph.step h) (g.G.NumberedGraph.passes h) (g.G.NumberedGraph.stands c.numbers.graph) (g.C.Number.value c.args.best) n c.numbers.tight.goals.items (before_in c.numbers.tight.before.items)) all (i.tight h x).1)
+
+pub returns-in_err-empty_rows : goal.returns-in_err-empty_rows
+returns-in_err-empty_rows g c = record {
+  grows = Grows-refl _ _;
+  wide = if_refused _ c.from_residual.result _ c.from_residual.ensures.1;
+  tight = if_refused _ c.from_residual.result _ c.from_residual.ensures.1;
+  refused = refused_as _ c.from_residual.result _ c.from_residual.ensures.1 c.in_err-empty_rows.ensures.refused;
+}
+
+pub returns-clause-grows : goal.returns-clause-grows
+returns-clause-grows g c = c.numbers.invariant.grows
+
+pub returns-clause-wide : goal.returns-clause-wide
+returns-clause-wide g c = c.numbers.invariant.wide
+
+pub returns-clause-refused : goal.returns-clause-refused
+returns-clause-refused g c = tt
+
+pub look-requires-clause-wide : goal.look-requires-clause-wide
+look-requires-clause-wide g c = c.numbers.invariant.wide
+
+pub look-requires-clause-up_to : goal.look-requires-clause-up_to
+look-requires-clause-up_to g c = c.numbers.invariant.up_to
+
+pub look-requires-clause-graph : goal.look-requires-clause-graph
+look-requires-clause-graph g c = let a = c.requires.graph in (a.0, (c.numbers.invariant.tight a.0 a.1).0)
+
+pub look-requires-clause-found : goal.look-requires-clause-found
+look-requires-clause-found g c = omega (arith, c.requires.found, c.numbers.invariant.grows.more)
+
+pub numbers-init : goal.numbers-init
+numbers-init g c =
+    let e = c.in_ok-empty_rows.ensures in
+    record {
+      few = omega arith;
+      wide = e.len;
+      up_to = λ j. subst (λ (xs : List ℕ). IsUpTo 0 xs) (sym (e.empty j)) (record { once = tt; low = inl (λ k q. absurd q) });
+      grows = Grows-refl _ _;
+      tight = λ h x. (x, tight_start _ _ _ _ _ _ _ c.new.ensures.items _ e.empty);
+    }

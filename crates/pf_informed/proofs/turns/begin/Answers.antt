@@ -4,6 +4,7 @@ use Rattle.pf_core.specs.declared.labels.Label.{Label}
 use Rattle.pf_core.specs.Nodes.{StandsFor, IsStep}
 use Rattle.pf_informed.specs.Internal.Estimated.{IsEstimated}
 use Rattle.pf_informed.proofs.InformedLemmas.{forest_begin, queue_begin, informed_begin}
+use Rattle.pf_informed.proofs.Outcomes.{refused_as, on_refused}
 use Rattle.pf_informed.proofs.turns.begin.Goals as goal
 
 pub ask-requires-clause-graph : goal.ask-requires-clause-graph
@@ -53,3 +54,31 @@ returns-clause-graph g c = λ h test least d.
           let i = informed_begin value first nothing refl c.ask.new.estimates.items b.waiting.0 b.waiting.1 (heap_items c.begin.new.self.queue) b.waiting.2 g.C.Number.fits (IsStep eq h) passes (StandsFor eq keys) in
           rw (b.labelled, b.estimates, c.requires.one) i,
     )
+
+pub returns-in_err-ask : goal.returns-in_err-ask
+returns-in_err-ask g c = record {
+  labelled = on_refused _ c.from_residual.result _ c.from_residual.ensures.1;
+  asked = on_refused _ c.from_residual.result _ c.from_residual.ensures.1;
+  forest = on_refused _ c.from_residual.result _ c.from_residual.ensures.1;
+  ordered = on_refused _ c.from_residual.result _ c.from_residual.ensures.1;
+  queue = on_refused _ c.from_residual.result _ c.from_residual.ensures.1;
+  graph = on_refused _ c.from_residual.result _ c.from_residual.ensures.1;
+  refused = refused_as _ c.from_residual.result _ c.from_residual.ensures.1 c.in_err-ask.ensures.refused;
+}
+
+pub returns-in_err-begin : goal.returns-in_err-begin
+returns-in_err-begin g c = record {
+  labelled = on_refused _ c.from_residual-in_err-begin.result _ c.from_residual-in_err-begin.ensures.1;
+  asked = on_refused _ c.from_residual-in_err-begin.result _ c.from_residual-in_err-begin.ensures.1;
+  forest = on_refused _ c.from_residual-in_err-begin.result _ c.from_residual-in_err-begin.ensures.1;
+  ordered = on_refused _ c.from_residual-in_err-begin.result _ c.from_residual-in_err-begin.ensures.1;
+  queue = on_refused _ c.from_residual-in_err-begin.result _ c.from_residual-in_err-begin.ensures.1;
+  graph = on_refused _ c.from_residual-in_err-begin.result _ c.from_residual-in_err-begin.ensures.1;
+  refused = refused_as _ c.from_residual-in_err-begin.result _ c.from_residual-in_err-begin.ensures.1 c.in_err-begin.ensures.refused;
+}
+
+pub returns-clause-ordered : goal.returns-clause-ordered
+returns-clause-ordered g c = c.in_ok-begin.ensures.ordered
+
+pub returns-clause-refused : goal.returns-clause-refused
+returns-clause-refused g c = tt

@@ -9,6 +9,7 @@ use Rattle.pf_core.proofs.WalkLemmas.{no_negative}
 use Rattle.pf_informed.proofs.GrowingLemmas.{follows_beside, queue_beside}
 use Rattle.pf_informed.proofs.InformedLemmas.{queue_kept, informed_opened}
 use Rattle.pf_informed.proofs.KnownLemmas.{estimated_grown}
+use Rattle.pf_informed.proofs.Outcomes.{refused_as, on_refused}
 use Rattle.pf_informed.proofs.turns.turn.Goals as goal
 
 abbrev tested : {N : Type 0} → NodeGraph N → (N → Bool) → TestedGraph N
@@ -109,3 +110,66 @@ returns-clause-graph g c = λ h test least d.
           entries (heap ++ rest) (heap_items c.follow.new.self.queue ++ rest) number l.0 l.1 left fails row.0 (λ y k. row.4 (tested h test) (d.explores, d.tested) y k) row.3 someone whole c.requires.forest i in
           rw f.estimates opened,
     )
+
+pub returns-in_err-expand : goal.returns-in_err-expand
+returns-in_err-expand g c = record {
+  wide = on_refused _ c.from_residual.result _ c.from_residual.ensures.1;
+  asked = on_refused _ c.from_residual.result _ c.from_residual.ensures.1;
+  grows = c.in_err-expand.ensures.grows;
+  forest = on_refused _ c.from_residual.result _ c.from_residual.ensures.1;
+  ordered = on_refused _ c.from_residual.result _ c.from_residual.ensures.1;
+  queue = on_refused _ c.from_residual.result _ c.from_residual.ensures.1;
+  less = on_refused _ c.from_residual.result _ c.from_residual.ensures.1;
+  graph = on_refused _ c.from_residual.result _ c.from_residual.ensures.1;
+  refused = refused_as _ c.from_residual.result _ c.from_residual.ensures.1 c.in_err-expand.ensures.refused.0;
+}
+
+pub returns-in_err-ask : goal.returns-in_err-ask
+returns-in_err-ask g c = record {
+  wide = on_refused _ c.from_residual-in_err-ask.result _ c.from_residual-in_err-ask.ensures.1;
+  asked = on_refused _ c.from_residual-in_err-ask.result _ c.from_residual-in_err-ask.ensures.1;
+  grows = c.in_ok-expand.ensures.grows;
+  forest = on_refused _ c.from_residual-in_err-ask.result _ c.from_residual-in_err-ask.ensures.1;
+  ordered = on_refused _ c.from_residual-in_err-ask.result _ c.from_residual-in_err-ask.ensures.1;
+  queue = on_refused _ c.from_residual-in_err-ask.result _ c.from_residual-in_err-ask.ensures.1;
+  less = on_refused _ c.from_residual-in_err-ask.result _ c.from_residual-in_err-ask.ensures.1;
+  graph = on_refused _ c.from_residual-in_err-ask.result _ c.from_residual-in_err-ask.ensures.1;
+  refused = refused_as _ c.from_residual-in_err-ask.result _ c.from_residual-in_err-ask.ensures.1 c.in_err-ask.ensures.refused;
+}
+
+pub returns-in_err-follow : goal.returns-in_err-follow
+returns-in_err-follow g c = record {
+  wide = on_refused _ c.from_residual-in_err-follow.result _ c.from_residual-in_err-follow.ensures.1;
+  asked = on_refused _ c.from_residual-in_err-follow.result _ c.from_residual-in_err-follow.ensures.1;
+  grows = c.in_ok-expand.ensures.grows;
+  forest = on_refused _ c.from_residual-in_err-follow.result _ c.from_residual-in_err-follow.ensures.1;
+  ordered = on_refused _ c.from_residual-in_err-follow.result _ c.from_residual-in_err-follow.ensures.1;
+  queue = on_refused _ c.from_residual-in_err-follow.result _ c.from_residual-in_err-follow.ensures.1;
+  less = on_refused _ c.from_residual-in_err-follow.result _ c.from_residual-in_err-follow.ensures.1;
+  graph = on_refused _ c.from_residual-in_err-follow.result _ c.from_residual-in_err-follow.ensures.1;
+  refused = refused_as _ c.from_residual-in_err-follow.result _ c.from_residual-in_err-follow.ensures.1 c.in_err-follow.ensures.refused;
+}
+
+pub returns-clause-grows : goal.returns-clause-grows
+returns-clause-grows g c = c.in_ok-expand.ensures.grows
+
+pub returns-clause-forest : goal.returns-clause-forest
+returns-clause-forest g c = c.in_ok-follow.ensures.forest
+
+pub returns-clause-ordered : goal.returns-clause-ordered
+returns-clause-ordered g c = c.in_ok-follow.ensures.ordered
+
+pub returns-clause-less : goal.returns-clause-less
+returns-clause-less g c = c.in_ok-follow.ensures.less
+
+pub returns-clause-refused : goal.returns-clause-refused
+returns-clause-refused g c = tt
+
+pub follow-requires-clause-labelled : goal.follow-requires-clause-labelled
+follow-requires-clause-labelled g c = c.requires.labelled
+
+pub follow-requires-clause-forest : goal.follow-requires-clause-forest
+follow-requires-clause-forest g c = c.requires.forest
+
+pub follow-requires-clause-ordered : goal.follow-requires-clause-ordered
+follow-requires-clause-ordered g c = c.requires.ordered

@@ -1,6 +1,7 @@
-use Rattle.std.proofs.Common.{[], ◌∷◌, List, ℤ}
+use Rattle.std.proofs.Common.{[], ◌∷◌, List, ℤ, inl}
 use Rattle.pf_core.specs.Nodes.{NodeGraph}
 use Rattle.pf_informed.proofs.LedLemmas.{led_begin}
+use Rattle.pf_informed.proofs.Outcomes.{refused_as, if_refused, no_overflow}
 use Rattle.pf_informed.proofs.directed.astar.astar.Goals as goal
 
 abbrev graph_of : {N : Type 0} → N → (N → List (N × ℤ)) → NodeGraph N
@@ -25,3 +26,13 @@ returns-clause-overflow g c = λ edges test least s.
     let start = c.args.start.now in
     c.search_on.ensures.overflow start edges test least ((found.ensures.begins start).1 (g.met.N.Eq.laws.refl start))
     (led_begin g.N.PartialEq.eq g.met.N.Eq.laws g.C.Number.value _ _ _ _ _ _ _ start edges test least found.field-0.keys _ _ _ _ found.ensures.distinct found.ensures.same c.new-search.ensures.estimates s)
+
+pub returns-in_err-clone_of : goal.returns-in_err-clone_of
+returns-in_err-clone_of g c = record {
+  best = λ edges test least s. if_refused _ c.from_residual.result _ c.from_residual.ensures.1;
+  overflow = λ edges test least s e. absurd (no_overflow c.from_residual.result _ c.from_residual.ensures.1 c.in_err-clone_of.ensures.refused e);
+  errors = refused_as _ c.from_residual.result _ c.from_residual.ensures.1 (inl c.in_err-clone_of.ensures.refused);
+}
+
+pub returns-clause-errors : goal.returns-clause-errors
+returns-clause-errors g c = c.search_on.ensures.errors

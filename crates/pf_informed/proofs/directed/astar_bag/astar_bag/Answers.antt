@@ -1,9 +1,10 @@
-use Rattle.std.proofs.Common.{◌≡◌, ◌∙◌, ◌∷◌, [], List, ℤ, Bool, ap, arith, length, ◌≤◌}
+use Rattle.std.proofs.Common.{◌≡◌, ◌∙◌, ◌∷◌, [], List, ℤ, Bool, ap, arith, length, ◌≤◌, refl, inl}
 use Rattle.pf_core.specs.Nodes.{TestedGraph}
 use Rattle.pf_core.specs.NodeLaws.{StandsFor-one}
 use Rattle.pf_core.proofs.UnitLemmas.{begins_all}
 use Rattle.pf_informed.specs.Internal.Ways.{before_in}
 use Rattle.pf_informed.proofs.BagLemmas.{all_paths}
+use Rattle.pf_informed.proofs.Outcomes.{refused_as, if_refused, no_overflow, ok_is_no_error}
 use Rattle.pf_informed.proofs.directed.astar_bag.astar_bag.Goals as goal
 
 -- the graph that these functions answer
@@ -56,3 +57,37 @@ returns-clause-all g c = λ edges test least s.
     rw (e.before, e.left, same, c.deref-2.ensures.value)
     (all_paths eq laws c.args.start.now edges test answered.alike w.costs g.C.Number.value found.graph.discovery.nodes.keys keys (length found.graph.discovery.nodes.keys) (length keys) grow (StandsFor-one eq laws keys x.distinct) labels enough (g.C.Number.value found.best) v.2
     c.in_ok-tight.tight.goals.items (before_in c.in_ok-tight.tight.before.items) tight)
+
+pub returns-in_err-tight : goal.returns-in_err-tight
+returns-in_err-tight g c = record {
+  all = λ edges test least s. if_refused _ c.from_residual-in_err-tight.result _ c.from_residual-in_err-tight.ensures.1;
+  ready = if_refused _ c.from_residual-in_err-tight.result _ c.from_residual-in_err-tight.ensures.1;
+  overflow = λ edges test least s e. absurd (no_overflow c.from_residual-in_err-tight.result _ c.from_residual-in_err-tight.ensures.1 c.in_err-tight.ensures.refused e);
+  errors = refused_as _ c.from_residual-in_err-tight.result _ c.from_residual-in_err-tight.ensures.1 (inl c.in_err-tight.ensures.refused);
+}
+
+pub returns-in_err-ways : goal.returns-in_err-ways
+returns-in_err-ways g c = record {
+  all = λ edges test least s. if_refused _ c.from_residual-in_err-ways.result _ c.from_residual-in_err-ways.ensures.1;
+  ready = if_refused _ c.from_residual-in_err-ways.result _ c.from_residual-in_err-ways.ensures.1;
+  overflow = λ edges test least s e. absurd (no_overflow c.from_residual-in_err-ways.result _ c.from_residual-in_err-ways.ensures.1 c.in_err-ways.ensures.refused e);
+  errors = refused_as _ c.from_residual-in_err-ways.result _ c.from_residual-in_err-ways.ensures.1 (inl c.in_err-ways.ensures.refused);
+}
+
+pub returns-clause-ready : goal.returns-clause-ready
+returns-clause-ready g c = refl
+
+pub returns-clause-overflow : goal.returns-clause-overflow
+returns-clause-overflow g c = λ edges test least s e. absurd (ok_is_no_error _ _ _ refl e)
+
+pub returns-clause-errors : goal.returns-clause-errors
+returns-clause-errors g c = tt
+
+pub returns-in_default-clause-ready : goal.returns-in_default-clause-ready
+returns-in_default-clause-ready g c = tt
+
+pub returns-in_default-clause-overflow : goal.returns-in_default-clause-overflow
+returns-in_default-clause-overflow g c = λ edges test least s e. absurd (ok_is_no_error _ _ _ refl e)
+
+pub returns-in_default-clause-errors : goal.returns-in_default-clause-errors
+returns-in_default-clause-errors g c = tt

@@ -1,4 +1,4 @@
-use Rattle.std.proofs.Common.{◌≡◌, ◌<◌, ◌∙◌, [], ◌∷◌, List, ℕ, ℤ, Bool, true, false, true≢false, ap, sym, subst, arith, length, slice_get, Some}
+use Rattle.std.proofs.Common.{◌≡◌, ◌<◌, ◌∙◌, [], ◌∷◌, List, ℕ, ℤ, Bool, true, false, true≢false, ap, sym, subst, arith, length, slice_get, Some, refl, inl, inr}
 use Rattle.std.specs.Prelude.{◌≤ℤ◌, ◌++◌}
 use Rattle.std.specs.BinaryHeap.{heap_items}
 use Rattle.std.proofs.lemmas.Int.{ints}
@@ -23,6 +23,7 @@ use Rattle.pf_informed.proofs.GrowingLemmas.{limit_now}
 use Rattle.pf_informed.proofs.LedAnswers.{led_within, led_estimate, led_asked, led_best, led_none, led_past}
 use Rattle.pf_informed.proofs.LedLemmas.{informed_still, led_grown}
 use Rattle.pf_informed.proofs.NodeWalks.{never_above}
+use Rattle.pf_informed.proofs.Outcomes.{refused_as, if_refused, no_overflow, ok_is_no_error}
 use Rattle.pf_informed.proofs.directed.fringe.search_on.Goals as goal
 
 abbrev tested : {N : Type 0} → NodeGraph N → (N → Bool) → TestedGraph N
@@ -209,3 +210,67 @@ returns-clause-overflow g c = λ start edges test least s d refused.
     let v = inv.searched (graph_of start edges) test least d in
     led_past g.N.PartialEq.eq g.met.N.Eq.laws g.C.Number.value _ _ _ _ _ _ _ start edges test least _ _ _ _ _ v.0 inv.asked (inv.begins start s) g.C.Number.fits (λ x y z. g.C.Number.between_law x y z exact) (g.met.C.Zero.zero_fits_law exact)
     c.turns.search.labels.items inv.wide (heap_items c.turns.search.queue ++ listed c.turns.lists) inv.forest v.1 (MatchOption-at_none _ _ c.in_default.is c.in_ok-taken.ensures.taken) (λ a. true≢false (sym (c.has_all_labels.ensures.1 a) ∙ c.if-has_all_labels.false))
+
+pub returns-in_err-begin : goal.returns-in_err-begin
+returns-in_err-begin g c = record {
+  best = λ start edges test least s d. if_refused _ c.from_residual.result _ c.from_residual.ensures.1;
+  overflow = λ start edges test least s d e. absurd (no_overflow c.from_residual.result _ c.from_residual.ensures.1 c.in_err-begin.ensures.refused e);
+  errors = refused_as _ c.from_residual.result _ c.from_residual.ensures.1 (inl c.in_err-begin.ensures.refused);
+}
+
+pub returns-in_err-taken : goal.returns-in_err-taken
+returns-in_err-taken g c = record {
+  best = λ start edges test least s d. if_refused _ c.from_residual-in_err-taken.result _ c.from_residual-in_err-taken.ensures.1;
+  overflow = λ start edges test least s d e. absurd (no_overflow c.from_residual-in_err-taken.result _ c.from_residual-in_err-taken.ensures.1 c.in_err-taken.ensures.refused e);
+  errors = refused_as _ c.from_residual-in_err-taken.result _ c.from_residual-in_err-taken.ensures.1 (inl c.in_err-taken.ensures.refused);
+}
+
+pub returns-in_err-nodes : goal.returns-in_err-nodes
+returns-in_err-nodes g c = record {
+  best = λ start edges test least s d. if_refused _ c.from_residual-in_err-nodes.result _ c.from_residual-in_err-nodes.ensures.1;
+  overflow = λ start edges test least s d e. absurd (no_overflow c.from_residual-in_err-nodes.result _ c.from_residual-in_err-nodes.ensures.1 c.in_err-nodes.ensures.refused e);
+  errors = refused_as _ c.from_residual-in_err-nodes.result _ c.from_residual-in_err-nodes.ensures.1 (inl c.in_err-nodes.ensures.refused);
+}
+
+pub returns-in_err-turn : goal.returns-in_err-turn
+returns-in_err-turn g c = record {
+  best = λ start edges test least s d. if_refused _ c.from_residual-in_err-turn.result _ c.from_residual-in_err-turn.ensures.1;
+  overflow = λ start edges test least s d e. absurd (no_overflow c.from_residual-in_err-turn.result _ c.from_residual-in_err-turn.ensures.1 c.in_err-turn.ensures.refused e);
+  errors = refused_as _ c.from_residual-in_err-turn.result _ c.from_residual-in_err-turn.ensures.1 (inl c.in_err-turn.ensures.refused);
+}
+
+pub returns-clause-best : goal.returns-clause-best
+returns-clause-best g c = λ start edges test least s d. tt
+
+pub returns-clause-errors : goal.returns-clause-errors
+returns-clause-errors g c = inr refl
+
+pub returns-then-has_all_labels-clause-overflow : goal.returns-then-has_all_labels-clause-overflow
+returns-then-has_all_labels-clause-overflow g c = λ start edges test least s d e. absurd (ok_is_no_error _ _ _ refl e)
+
+pub returns-then-has_all_labels-clause-errors : goal.returns-then-has_all_labels-clause-errors
+returns-then-has_all_labels-clause-errors g c = tt
+
+pub returns-then-is_goal-clause-overflow : goal.returns-then-is_goal-clause-overflow
+returns-then-is_goal-clause-overflow g c = λ start edges test least s d e. absurd (ok_is_no_error _ _ _ refl e)
+
+pub returns-then-is_goal-clause-errors : goal.returns-then-is_goal-clause-errors
+returns-then-is_goal-clause-errors g c = tt
+
+pub turn-requires-clause-forest : goal.turn-requires-clause-forest
+turn-requires-clause-forest g c = c.turns.invariant.forest
+
+pub take-requires-clause-ordered : goal.take-requires-clause-ordered
+take-requires-clause-ordered g c = c.turns.invariant.ordered
+
+pub take-requires-clause-queue : goal.take-requires-clause-queue
+take-requires-clause-queue g c = c.turns.invariant.queue
+
+pub nodes_to-requires-clause-clones : goal.nodes_to-requires-clause-clones
+nodes_to-requires-clause-clones g c = c.requires.clones
+
+pub nodes_to-requires-clause-forest : goal.nodes_to-requires-clause-forest
+nodes_to-requires-clause-forest g c = c.turns.invariant.forest
+
+pub turn-requires-clause-ordered : goal.turn-requires-clause-ordered
+turn-requires-clause-ordered g c = c.in_ok-taken.ensures.ordered

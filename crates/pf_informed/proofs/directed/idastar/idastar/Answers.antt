@@ -1,4 +1,4 @@
-use Rattle.std.proofs.Common.{◌≡◌, ◌∙◌, [], ◌∷◌, List, ℕ, ℤ, Bool, true, length, sym, subst, arith, inl, slice_get, Option, Some, None}
+use Rattle.std.proofs.Common.{◌≡◌, ◌∙◌, [], ◌∷◌, List, ℕ, ℤ, Bool, true, length, sym, subst, arith, inl, slice_get, Option, Some, None, refl, inr}
 use Rattle.std.proofs.lemmas.Int.{ints}
 use Rattle.pf_base.specs.Edges.{InReach}
 use Rattle.pf_core.specs.Nodes.{NodeGraph, StandsFor}
@@ -10,6 +10,7 @@ use Rattle.pf_informed.specs.Internal.Rows.{IsTable}
 use Rattle.pf_informed.specs.Internal.Deepening.{IsCutOff}
 use Rattle.pf_informed.proofs.LimitLemmas.{limit_rises, covered_walk, next_limit, none_cut, none_fits, best_way, past_way}
 use Rattle.pf_informed.proofs.NodeWalks.{estimate_is, never_above, no_walk_fits}
+use Rattle.pf_informed.proofs.Outcomes.{refused_as, if_refused, no_overflow, ok_is_no_error}
 use Rattle.pf_informed.proofs.directed.idastar.idastar.Goals as goal
 
 abbrev graph_of : {N : Type 0} → N → (N → List (N × ℤ)) → NodeGraph N
@@ -185,3 +186,55 @@ returns-in_default-clause-best g c = λ edges test least s.
     let q = covered_walk eq laws value fits (λ a b d. g.C.Number.between_law a b d exact) (g.met.C.Zero.zero_fits_law exact) h alike test same_test p keys (IsCutOff value fits c.in-Missed.least c.in-Missed.past) s0 (grows.stays 0 s0 here) (reach s0 here) seen.1.0 ws u goes good in
     let cut = subst (λ (o : Option g.row.C.Denot). IsCutOff value fits o c.in-Missed.past q.0) c.in_default.is q.3 in
     none_cut eq laws value fits (λ a b d. g.C.Number.between_law a b d exact) (g.met.C.Zero.zero_fits_law exact) h alike test same_test p q.0 (subst (λ (b : Bool). IsCutOff value fits None b q.0) c.if-past.false cut))
+
+pub returns-in_err-known : goal.returns-in_err-known
+returns-in_err-known g c = record {
+  best = λ edges test least s. if_refused _ c.from_residual.result _ c.from_residual.ensures.1;
+  overflow = λ edges test least s e. absurd (no_overflow c.from_residual.result _ c.from_residual.ensures.1 c.in_err-known.ensures.refused e);
+  errors = refused_as _ c.from_residual.result _ c.from_residual.ensures.1 (inl c.in_err-known.ensures.refused);
+}
+
+pub returns-in_err-numbers : goal.returns-in_err-numbers
+returns-in_err-numbers g c = record {
+  best = λ edges test least s. if_refused _ c.from_residual-in_err-numbers.result _ c.from_residual-in_err-numbers.ensures.1;
+  overflow = λ edges test least s e. absurd (no_overflow c.from_residual-in_err-numbers.result _ c.from_residual-in_err-numbers.ensures.1 c.in_err-numbers.ensures.refused e);
+  errors = refused_as _ c.from_residual-in_err-numbers.result _ c.from_residual-in_err-numbers.ensures.1 (inl c.in_err-numbers.ensures.refused);
+}
+
+pub returns-in_err-nodes_at-in-Found : goal.returns-in_err-nodes_at-in-Found
+returns-in_err-nodes_at-in-Found g c = record {
+  best = λ edges test least s. if_refused _ c.from_residual-in_err-nodes_at-in-Found.result _ c.from_residual-in_err-nodes_at-in-Found.ensures.1;
+  overflow = λ edges test least s e. absurd (no_overflow c.from_residual-in_err-nodes_at-in-Found.result _ c.from_residual-in_err-nodes_at-in-Found.ensures.1 c.in_err-nodes_at-in-Found.ensures.refused e);
+  errors = refused_as _ c.from_residual-in_err-nodes_at-in-Found.result _ c.from_residual-in_err-nodes_at-in-Found.ensures.1 (inl c.in_err-nodes_at-in-Found.ensures.refused);
+}
+
+pub returns-in-Found-clause-overflow : goal.returns-in-Found-clause-overflow
+returns-in-Found-clause-overflow g c = λ edges test least s e. absurd (ok_is_no_error _ _ _ refl e)
+
+pub returns-in-Found-clause-errors : goal.returns-in-Found-clause-errors
+returns-in-Found-clause-errors g c = tt
+
+pub returns-then-past-clause-best : goal.returns-then-past-clause-best
+returns-then-past-clause-best g c = λ edges test least s. tt
+
+pub returns-then-past-clause-errors : goal.returns-then-past-clause-errors
+returns-then-past-clause-errors g c = inr refl
+
+pub returns-in_default-clause-overflow : goal.returns-in_default-clause-overflow
+returns-in_default-clause-overflow g c = λ edges test least s e. absurd (ok_is_no_error _ _ _ refl e)
+
+pub returns-in_default-clause-errors : goal.returns-in_default-clause-errors
+returns-in_default-clause-errors g c = tt
+
+pub look_through-requires-clause-estimated : goal.look_through-requires-clause-estimated
+look_through-requires-clause-estimated g c = c.limits.invariant.asked
+
+pub look_through-requires-clause-table : goal.look_through-requires-clause-table
+look_through-requires-clause-table g c = c.limits.invariant.table
+
+pub look_through-requires-clause-graph : goal.look_through-requires-clause-graph
+look_through-requires-clause-graph g c =
+    let r = c.requires.graph in
+    let inv = c.limits.invariant in
+    let v = inv.searched r.0 r.1 r.2 r.3 in
+    (graph_of c.args.start.now r.0, r.1, r.2, c.args.start.now, v.0, inv.begins, v.1)

@@ -1,7 +1,8 @@
-use Rattle.std.proofs.Common.{arith, List, subst, sym, inr}
+use Rattle.std.proofs.Common.{arith, List, subst, sym, inr, refl}
 use Rattle.pf_informed.specs.Internal.Waiting.{Entry}
 use Rattle.pf_informed.specs.Internal.Fringe.{listed, IsRaising, IsBelowWaiting}
 use Rattle.pf_informed.proofs.RaisingLemmas.{raising_start, later_labelled, raising_more, raised_below, raised_taken, raised_queue}
+use Rattle.pf_informed.proofs.Outcomes.{refused_as, on_refused, if_refused}
 use Rattle.pf_informed.proofs.fringe_lists.FringeLists.raise_limit.Goals as goal
 
 pub take_last-requires : goal.take_last-requires
@@ -51,3 +52,12 @@ pub returns-clause-taken : goal.returns-clause-taken
 returns-clause-taken g c =
     let t = c.in_default-take_last.ensures.taken in
     rw t.0 (raised_taken g.C.Number.value c.args.labels.now.items c.args.estimates.now.items (listed c.args.self.now) c.entries.least c.entries.self.current.items c.entries.self.later.items c.entries.invariant.raising t.1 c.sum_of-self.result c.sum_of-self.ensures)
+
+pub returns-in_err-push : goal.returns-in_err-push
+returns-in_err-push g c = record {
+  queue = on_refused _ c.from_residual.result _ c.from_residual.ensures.1;
+  limit = on_refused _ c.from_residual.result _ c.from_residual.ensures.1;
+  taken = if_refused _ c.from_residual.result _ c.from_residual.ensures.1;
+  fewer = if_refused _ c.from_residual.result _ c.from_residual.ensures.1;
+  refused = refused_as _ c.from_residual.result _ c.from_residual.ensures.1 refl;
+}

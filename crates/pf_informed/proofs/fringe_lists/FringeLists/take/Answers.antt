@@ -5,7 +5,7 @@ use Rattle.std.proofs.lemmas.Option.{MatchOption-at_some, MatchOption-at_none}
 use Rattle.pf_core.proofs.ListLemmas.{on_ok}
 use Rattle.pf_informed.specs.Internal.Fringe.{listed, IsBelowWaiting}
 use Rattle.pf_informed.proofs.FringeLemmas.{moved_from, queue_in, moved_wait, nothing_before, below_before, taken_before}
-use Rattle.pf_informed.proofs.Outcomes.{answer_or_none}
+use Rattle.pf_informed.proofs.Outcomes.{answer_or_none, refused_as, on_refused, if_refused}
 use Rattle.pf_informed.proofs.fringe_lists.FringeLists.take.Goals as goal
 
 pub take_within-requires : goal.take_within-requires
@@ -62,3 +62,32 @@ returns-clause-taken g c =
     (λ none. nothing_before value labels estimates first (listed mid) moved (nothing_before value labels estimates (listed mid) (listed c.take_within.new.self) over.1 none))
     (λ x taken. taken_before value labels estimates first (listed mid) moved x.number x.cost limit (listed c.raise_limit.new.self) (taken_before value labels estimates (listed mid) (listed c.take_within.new.self) over.1 x.number x.cost limit (listed c.raise_limit.new.self) taken))
     c.raise_limit.ensures.taken)
+
+pub returns-in_err-take_in : goal.returns-in_err-take_in
+returns-in_err-take_in g c = record {
+  ordered = on_refused _ c.from_residual.result _ c.from_residual.ensures.1;
+  queue = on_refused _ c.from_residual.result _ c.from_residual.ensures.1;
+  limit = on_refused _ c.from_residual.result _ c.from_residual.ensures.1;
+  taken = if_refused _ c.from_residual.result _ c.from_residual.ensures.1;
+  fewer = if_refused _ c.from_residual.result _ c.from_residual.ensures.1;
+  refused = refused_as _ c.from_residual.result _ c.from_residual.ensures.1 c.in_err-take_in.ensures.refused;
+}
+
+pub returns-in_err-taken : goal.returns-in_err-taken
+returns-in_err-taken g c = record {
+  ordered = on_refused _ c.from_residual-in_err-taken.result _ c.from_residual-in_err-taken.ensures.1;
+  queue = on_refused _ c.from_residual-in_err-taken.result _ c.from_residual-in_err-taken.ensures.1;
+  limit = on_refused _ c.from_residual-in_err-taken.result _ c.from_residual-in_err-taken.ensures.1;
+  taken = if_refused _ c.from_residual-in_err-taken.result _ c.from_residual-in_err-taken.ensures.1;
+  fewer = if_refused _ c.from_residual-in_err-taken.result _ c.from_residual-in_err-taken.ensures.1;
+  refused = refused_as _ c.from_residual-in_err-taken.result _ c.from_residual-in_err-taken.ensures.1 c.in_err-taken.ensures.refused;
+}
+
+pub returns-in-Some-clause-ordered : goal.returns-in-Some-clause-ordered
+returns-in-Some-clause-ordered g c = c.in_ok-take_in.ensures.ordered
+
+pub returns-in-Some-clause-refused : goal.returns-in-Some-clause-refused
+returns-in-Some-clause-refused g c = tt
+
+pub returns-clause-refused : goal.returns-clause-refused
+returns-clause-refused g c = c.raise_limit.ensures.refused

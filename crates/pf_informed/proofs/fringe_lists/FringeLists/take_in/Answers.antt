@@ -1,10 +1,11 @@
-use Rattle.std.proofs.Common.{arith, ◌++◌, ◌∷◌, [], List, ap, subst, sym, length, length-append}
+use Rattle.std.proofs.Common.{arith, ◌++◌, ◌∷◌, [], List, ap, subst, sym, length, length-append, refl}
 use Rattle.std.specs.Prelude.{Contains, IsPermutation, ◌↔◌}
 use Rattle.std.specs.BinaryHeap.{heap_items}
 use Rattle.std.proofs.lemmas.List.{take_at}
 use Rattle.std.proofs.lemmas.List.Sorted.{Contains-permutation, IsPermutation-sym, length_permutation}
 use Rattle.pf_informed.specs.Internal.Waiting.{Entry}
 use Rattle.pf_informed.proofs.FringeLemmas.{pushed_in, pushed_from}
+use Rattle.pf_informed.proofs.Outcomes.{refused_as, on_refused}
 use Rattle.pf_informed.proofs.fringe_lists.FringeLists.take_in.Goals as goal
 
 pub entries-preserved : goal.entries-preserved
@@ -36,3 +37,14 @@ returns-clause-same g c =
       (λ h. Contains-permutation before after e moved (rw none at ((i.same e).0 h))),
       (λ h. (i.same e).1 (rw none (Contains-permutation after before e (IsPermutation-sym _ _ moved) h))),
     ))
+
+pub returns-in_err-push : goal.returns-in_err-push
+returns-in_err-push g c = record {
+  ordered = on_refused _ c.from_residual.result _ c.from_residual.ensures.1;
+  emptied = on_refused _ c.from_residual.result _ c.from_residual.ensures.1;
+  same = on_refused _ c.from_residual.result _ c.from_residual.ensures.1;
+  later = on_refused _ c.from_residual.result _ c.from_residual.ensures.1;
+  limit = on_refused _ c.from_residual.result _ c.from_residual.ensures.1;
+  count = on_refused _ c.from_residual.result _ c.from_residual.ensures.1;
+  refused = refused_as _ c.from_residual.result _ c.from_residual.ensures.1 refl;
+}

@@ -1,10 +1,11 @@
-use Rattle.std.proofs.Common.{arith, ◌++◌, ◌∷◌, [], List, ap, subst, sym, length, length-append}
+use Rattle.std.proofs.Common.{arith, ◌++◌, ◌∷◌, [], List, ap, subst, sym, length, length-append, refl}
 use Rattle.std.specs.Prelude.{◌≤ℤ◌}
 use Rattle.std.proofs.lemmas.Int.{ints}
 use Rattle.std.proofs.lemmas.List.Elements.{Contains-append_left}
 use Rattle.pf_informed.specs.Internal.Waiting.{Entry, IsQueue}
 use Rattle.pf_informed.specs.Internal.Fringe.{listed, StillWait}
 use Rattle.pf_informed.proofs.FringeLemmas.{StillWait-put_off, queue_put_off, queue_rest, taken_within, queue_in, none_more, rest_waits}
+use Rattle.pf_informed.proofs.Outcomes.{refused_as, on_refused, if_refused}
 use Rattle.pf_informed.proofs.fringe_lists.FringeLists.take_within.Goals as goal
 
 pub take_last-requires : goal.take_last-requires
@@ -47,3 +48,12 @@ returns-clause-queue g c = queue_in g.C.Number.value c.args.labels.now.items c.a
 
 pub returns-clause-taken : goal.returns-clause-taken
 returns-clause-taken g c = (c.in_default.ensures.taken.0, rest_waits g.C.Number.value c.args.labels.now.items c.entries.self.current.items c.take_last.new.entries.items c.entries.self.later.items c.in_default.ensures.taken.0 c.in_default.ensures.taken.1 (listed c.args.self.now) c.entries.invariant.waits)
+
+pub returns-in_err-push : goal.returns-in_err-push
+returns-in_err-push g c = record {
+  limit = on_refused _ c.from_residual.result _ c.from_residual.ensures.1;
+  queue = on_refused _ c.from_residual.result _ c.from_residual.ensures.1;
+  taken = if_refused _ c.from_residual.result _ c.from_residual.ensures.1;
+  fewer = if_refused _ c.from_residual.result _ c.from_residual.ensures.1;
+  refused = refused_as _ c.from_residual.result _ c.from_residual.ensures.1 refl;
+}

@@ -1,10 +1,11 @@
-use Rattle.std.proofs.Common.{rules, arith, ◌≡◌, ◌<◌, ◌∙◌, subst, sym, ℕ, length}
+use Rattle.std.proofs.Common.{rules, arith, ◌≡◌, ◌<◌, ◌∙◌, subst, sym, ℕ, length, refl}
 use Rattle.std.specs.BinaryHeap.{heap_items, heap_len}
 use Rattle.pf_core.specs.declared.labels.Label.{Label}
 use Rattle.pf_core.proofs.LabelLemmas.{HasLabel-inside, label_is}
 use Rattle.pf_informed.specs.Internal.Forest.{nat_of}
 use Rattle.pf_informed.specs.Internal.Waiting.{Eased}
 use Rattle.pf_informed.proofs.WiderLemmas.{forest_wider, queue_wider, length_wider, widened, work_wider, less_work}
+use Rattle.pf_informed.proofs.Outcomes.{refused_as, on_refused}
 use Rattle.pf_informed.proofs.search.Search.follow.Goals as goal
 
 pub label_of-label-requires : goal.label_of-label-requires
@@ -77,3 +78,33 @@ returns-clause-less g c =
     let is = rw len at c.in_ok-make_room.ensures.wider in
     let w = work_wider g.C.Number.value labels c.make_room.new.labels.items (length c.args.self.now.estimates.items) c.requires.few is top (heap_len c.args.self.now.queue) (omega (arith, c.in_ok-make_room.ensures.few)) in
     less_work g.C.Number.value top c.make_room.new.labels.items c.relax.new.labels.items (heap_len c.reserve.new.self) (heap_len c.relax.new.queue) (heap_len c.args.self.now.queue) labels c.relax.ensures.eased.len c.relax.ensures.less c.in_ok-reserve.ensures.len w
+
+pub returns-in_err-reserve : goal.returns-in_err-reserve
+returns-in_err-reserve g c = record {
+  estimates = refl;
+  forest = on_refused _ c.from_residual.result _ c.from_residual.ensures.1;
+  ordered = on_refused _ c.from_residual.result _ c.from_residual.ensures.1;
+  queue = on_refused _ c.from_residual.result _ c.from_residual.ensures.1;
+  followed = on_refused _ c.from_residual.result _ c.from_residual.ensures.1;
+  wide = on_refused _ c.from_residual.result _ c.from_residual.ensures.1;
+  less = on_refused _ c.from_residual.result _ c.from_residual.ensures.1;
+  refused = refused_as _ c.from_residual.result _ c.from_residual.ensures.1 refl;
+}
+
+pub returns-in_err-make_room : goal.returns-in_err-make_room
+returns-in_err-make_room g c = record {
+  estimates = refl;
+  forest = on_refused _ c.from_residual-in_err-make_room.result _ c.from_residual-in_err-make_room.ensures.1;
+  ordered = on_refused _ c.from_residual-in_err-make_room.result _ c.from_residual-in_err-make_room.ensures.1;
+  queue = on_refused _ c.from_residual-in_err-make_room.result _ c.from_residual-in_err-make_room.ensures.1;
+  followed = on_refused _ c.from_residual-in_err-make_room.result _ c.from_residual-in_err-make_room.ensures.1;
+  wide = on_refused _ c.from_residual-in_err-make_room.result _ c.from_residual-in_err-make_room.ensures.1;
+  less = on_refused _ c.from_residual-in_err-make_room.result _ c.from_residual-in_err-make_room.ensures.1;
+  refused = refused_as _ c.from_residual-in_err-make_room.result _ c.from_residual-in_err-make_room.ensures.1 c.in_err-make_room.ensures.refused;
+}
+
+pub returns-clause-estimates : goal.returns-clause-estimates
+returns-clause-estimates g c = refl
+
+pub returns-clause-refused : goal.returns-clause-refused
+returns-clause-refused g c = tt

@@ -11,6 +11,7 @@ use Rattle.pf_informed.specs.Internal.Deepening.{IsMarked, numbers_of, turns_lef
 use Rattle.pf_informed.proofs.NodeWalks.{estimate_is, estimate_at}
 use Rattle.pf_informed.proofs.TurnsLeft.{advanced_less, entered_less}
 use Rattle.pf_informed.proofs.WayLemmas.{cheap_positive, marked_on, numbers_up, frame_ends, on_way_as, skipped, cost_from_zero, price_from_zero, cut_there, went_on, arrived}
+use Rattle.pf_informed.proofs.Outcomes.{refused_as, on_refused, if_refused, Grows-refl}
 use Rattle.pf_informed.proofs.directed.idastar.round.go_on.Goals as goal
 
 pub returns-then-is_marked-clause-less : goal.returns-then-is_marked-clause-less
@@ -279,3 +280,99 @@ returns-in_ok-numbers-in-None-clause-graph g c = λ h test least first k w.
         omega (arith, ints, is, low, below),
       ),
     )
+
+pub returns-in_err-span : goal.returns-in_err-span
+returns-in_err-span g c = record {
+  estimated = on_refused _ c.from_residual.result _ c.from_residual.ensures.1;
+  table = on_refused _ c.from_residual.result _ c.from_residual.ensures.1;
+  grows = on_refused _ c.from_residual.result _ c.from_residual.ensures.1;
+  marked = if_refused _ c.from_residual.result _ c.from_residual.ensures.1;
+  less = if_refused _ c.from_residual.result _ c.from_residual.ensures.1;
+  graph = λ h test least first k w. if_refused _ c.from_residual.result _ c.from_residual.ensures.1;
+  refused = refused_as _ c.from_residual.result _ c.from_residual.ensures.1 c.in_err-span.ensures.refused;
+}
+
+pub returns-in_err-enter-in-Some-2 : goal.returns-in_err-enter-in-Some-2
+returns-in_err-enter-in-Some-2 g c = record {
+  estimated = on_refused _ c.from_residual-in_err-enter-in-Some-2.result _ c.from_residual-in_err-enter-in-Some-2.ensures.1;
+  table = on_refused _ c.from_residual-in_err-enter-in-Some-2.result _ c.from_residual-in_err-enter-in-Some-2.ensures.1;
+  grows = on_refused _ c.from_residual-in_err-enter-in-Some-2.result _ c.from_residual-in_err-enter-in-Some-2.ensures.1;
+  marked = if_refused _ c.from_residual-in_err-enter-in-Some-2.result _ c.from_residual-in_err-enter-in-Some-2.ensures.1;
+  less = if_refused _ c.from_residual-in_err-enter-in-Some-2.result _ c.from_residual-in_err-enter-in-Some-2.ensures.1;
+  graph = λ h test least first k w. if_refused _ c.from_residual-in_err-enter-in-Some-2.result _ c.from_residual-in_err-enter-in-Some-2.ensures.1;
+  refused = refused_as _ c.from_residual-in_err-enter-in-Some-2.result _ c.from_residual-in_err-enter-in-Some-2.ensures.1 c.in_err-enter-in-Some-2.ensures.refused;
+}
+
+pub returns-in_err-numbers-in-None : goal.returns-in_err-numbers-in-None
+returns-in_err-numbers-in-None g c = record {
+  estimated = on_refused _ c.from_residual-in_err-numbers-in-None.result _ c.from_residual-in_err-numbers-in-None.ensures.1;
+  table = on_refused _ c.from_residual-in_err-numbers-in-None.result _ c.from_residual-in_err-numbers-in-None.ensures.1;
+  grows = on_refused _ c.from_residual-in_err-numbers-in-None.result _ c.from_residual-in_err-numbers-in-None.ensures.1;
+  marked = if_refused _ c.from_residual-in_err-numbers-in-None.result _ c.from_residual-in_err-numbers-in-None.ensures.1;
+  less = if_refused _ c.from_residual-in_err-numbers-in-None.result _ c.from_residual-in_err-numbers-in-None.ensures.1;
+  graph = λ h test least first k w. if_refused _ c.from_residual-in_err-numbers-in-None.result _ c.from_residual-in_err-numbers-in-None.ensures.1;
+  refused = refused_as _ c.from_residual-in_err-numbers-in-None.result _ c.from_residual-in_err-numbers-in-None.ensures.1 c.in_err-numbers-in-None.ensures.refused;
+}
+
+pub returns-then-is_marked-clause-estimated : goal.returns-then-is_marked-clause-estimated
+returns-then-is_marked-clause-estimated g c = c.requires.estimated
+
+pub returns-then-is_marked-clause-table : goal.returns-then-is_marked-clause-table
+returns-then-is_marked-clause-table g c = c.requires.table
+
+pub returns-then-is_marked-clause-grows : goal.returns-then-is_marked-clause-grows
+returns-then-is_marked-clause-grows g c = Grows-refl _ _
+
+pub returns-then-is_marked-clause-refused : goal.returns-then-is_marked-clause-refused
+returns-then-is_marked-clause-refused g c = tt
+
+pub returns-in_default-clause-estimated : goal.returns-in_default-clause-estimated
+returns-in_default-clause-estimated g c = c.requires.estimated
+
+pub returns-in_default-clause-table : goal.returns-in_default-clause-table
+returns-in_default-clause-table g c = c.requires.table
+
+pub returns-in_default-clause-grows : goal.returns-in_default-clause-grows
+returns-in_default-clause-grows g c = Grows-refl _ _
+
+pub returns-in_default-clause-refused : goal.returns-in_default-clause-refused
+returns-in_default-clause-refused g c = tt
+
+pub returns-then-is_marked-clause-marked : goal.returns-then-is_marked-clause-marked
+returns-then-is_marked-clause-marked g c = record { marked = c.requires.marked.marked; inside = c.requires.marked.inside; above = c.requires.marked.above }
+
+pub returns-in_ok-enter-in-Some-2-clause-estimated : goal.returns-in_ok-enter-in-Some-2-clause-estimated
+returns-in_ok-enter-in-Some-2-clause-estimated g c = c.in_ok-span.ensures.estimated
+
+pub returns-in_ok-enter-in-Some-2-clause-table : goal.returns-in_ok-enter-in-Some-2-clause-table
+returns-in_ok-enter-in-Some-2-clause-table g c = c.in_ok-span.ensures.table
+
+pub returns-in_ok-enter-in-Some-2-clause-grows : goal.returns-in_ok-enter-in-Some-2-clause-grows
+returns-in_ok-enter-in-Some-2-clause-grows g c = c.in_ok-span.ensures.grows
+
+pub returns-in_ok-enter-in-Some-2-clause-refused : goal.returns-in_ok-enter-in-Some-2-clause-refused
+returns-in_ok-enter-in-Some-2-clause-refused g c = tt
+
+pub returns-in_ok-numbers-in-None-clause-estimated : goal.returns-in_ok-numbers-in-None-clause-estimated
+returns-in_ok-numbers-in-None-clause-estimated g c = c.in_ok-span.ensures.estimated
+
+pub returns-in_ok-numbers-in-None-clause-table : goal.returns-in_ok-numbers-in-None-clause-table
+returns-in_ok-numbers-in-None-clause-table g c = c.in_ok-span.ensures.table
+
+pub returns-in_ok-numbers-in-None-clause-grows : goal.returns-in_ok-numbers-in-None-clause-grows
+returns-in_ok-numbers-in-None-clause-grows g c = c.in_ok-span.ensures.grows
+
+pub returns-in_ok-numbers-in-None-clause-refused : goal.returns-in_ok-numbers-in-None-clause-refused
+returns-in_ok-numbers-in-None-clause-refused g c = tt
+
+pub returns-in_ok-numbers-in-None-clause-less : goal.returns-in_ok-numbers-in-None-clause-less
+returns-in_ok-numbers-in-None-clause-less g c = tt
+
+pub span_of-requires-clause-estimated : goal.span_of-requires-clause-estimated
+span_of-requires-clause-estimated g c = c.requires.estimated
+
+pub span_of-requires-clause-table : goal.span_of-requires-clause-table
+span_of-requires-clause-table g c = c.requires.table
+
+pub span_of-requires-clause-graph : goal.span_of-requires-clause-graph
+span_of-requires-clause-graph g c = let r = c.requires.graph in (r.0, r.1, r.2, r.4)

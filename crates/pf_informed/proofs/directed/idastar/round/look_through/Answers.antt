@@ -7,6 +7,7 @@ use Rattle.pf_core.proofs.SearchLemmas.{Grows-trans}
 use Rattle.pf_informed.specs.declared.directed.idastar.way.Frame.{Frame}
 use Rattle.pf_informed.specs.Internal.Deepening.{IsMarked, numbers_of}
 use Rattle.pf_informed.proofs.WayLemmas.{marked_on, on_way_as, begun, start_way}
+use Rattle.pf_informed.proofs.Outcomes.{refused_as, on_refused, if_refused}
 use Rattle.pf_informed.proofs.directed.idastar.round.look_through.Goals as goal
 
 pub returns-in_default-clause-graph : goal.returns-in_default-clause-graph
@@ -68,6 +69,15 @@ turns-init g c =
           );
     }
 
+pub span_of-requires-clause-inside : goal.span_of-requires-clause-inside
+span_of-requires-clause-inside g c = c.requires.begun
+
+pub span_of-requires-clause-estimated : goal.span_of-requires-clause-estimated
+span_of-requires-clause-estimated g c = c.requires.estimated
+
+pub span_of-requires-clause-table : goal.span_of-requires-clause-table
+span_of-requires-clause-table g c = c.requires.table
+
 pub span_of-requires-clause-graph : goal.span_of-requires-clause-graph
 span_of-requires-clause-graph g c = let r = c.requires.graph in (r.0, r.1, r.2, r.4)
 
@@ -95,3 +105,89 @@ turns-preserved g c = record {
       let v = c.turns.invariant.searched h test least first k s low in
       rw c.in_default-2.is at (c.in_ok-round.ensures.graph h test least first v.0 v.1);
 }
+
+pub returns-in_err-span : goal.returns-in_err-span
+returns-in_err-span g c = record {
+  estimated = on_refused _ c.from_residual.result _ c.from_residual.ensures.1;
+  table = on_refused _ c.from_residual.result _ c.from_residual.ensures.1;
+  grows = on_refused _ c.from_residual.result _ c.from_residual.ensures.1;
+  above = if_refused _ c.from_residual.result _ c.from_residual.ensures.1;
+  inside = if_refused _ c.from_residual.result _ c.from_residual.ensures.1;
+  graph = λ h test least first k s low. if_refused _ c.from_residual.result _ c.from_residual.ensures.1;
+  refused = refused_as _ c.from_residual.result _ c.from_residual.ensures.1 c.in_err-span.ensures.refused;
+}
+
+pub returns-in_err-numbers : goal.returns-in_err-numbers
+returns-in_err-numbers g c = record {
+  estimated = on_refused _ c.from_residual-in_err-numbers.result _ c.from_residual-in_err-numbers.ensures.1;
+  table = on_refused _ c.from_residual-in_err-numbers.result _ c.from_residual-in_err-numbers.ensures.1;
+  grows = on_refused _ c.from_residual-in_err-numbers.result _ c.from_residual-in_err-numbers.ensures.1;
+  above = if_refused _ c.from_residual-in_err-numbers.result _ c.from_residual-in_err-numbers.ensures.1;
+  inside = if_refused _ c.from_residual-in_err-numbers.result _ c.from_residual-in_err-numbers.ensures.1;
+  graph = λ h test least first k s low. if_refused _ c.from_residual-in_err-numbers.result _ c.from_residual-in_err-numbers.ensures.1;
+  refused = refused_as _ c.from_residual-in_err-numbers.result _ c.from_residual-in_err-numbers.ensures.1 c.in_err-numbers.ensures.refused;
+}
+
+pub returns-in_err-way : goal.returns-in_err-way
+returns-in_err-way g c = record {
+  estimated = on_refused _ c.from_residual-in_err-way.result _ c.from_residual-in_err-way.ensures.1;
+  table = on_refused _ c.from_residual-in_err-way.result _ c.from_residual-in_err-way.ensures.1;
+  grows = on_refused _ c.from_residual-in_err-way.result _ c.from_residual-in_err-way.ensures.1;
+  above = if_refused _ c.from_residual-in_err-way.result _ c.from_residual-in_err-way.ensures.1;
+  inside = if_refused _ c.from_residual-in_err-way.result _ c.from_residual-in_err-way.ensures.1;
+  graph = λ h test least first k s low. if_refused _ c.from_residual-in_err-way.result _ c.from_residual-in_err-way.ensures.1;
+  refused = refused_as _ c.from_residual-in_err-way.result _ c.from_residual-in_err-way.ensures.1 c.in_err-way.ensures.refused;
+}
+
+pub returns-in_err-round : goal.returns-in_err-round
+returns-in_err-round g c = record {
+  estimated = on_refused _ c.from_residual-in_err-round.result _ c.from_residual-in_err-round.ensures.1;
+  table = on_refused _ c.from_residual-in_err-round.result _ c.from_residual-in_err-round.ensures.1;
+  grows = on_refused _ c.from_residual-in_err-round.result _ c.from_residual-in_err-round.ensures.1;
+  above = if_refused _ c.from_residual-in_err-round.result _ c.from_residual-in_err-round.ensures.1;
+  inside = if_refused _ c.from_residual-in_err-round.result _ c.from_residual-in_err-round.ensures.1;
+  graph = λ h test least first k s low. if_refused _ c.from_residual-in_err-round.result _ c.from_residual-in_err-round.ensures.1;
+  refused = refused_as _ c.from_residual-in_err-round.result _ c.from_residual-in_err-round.ensures.1 c.in_err-round.ensures.refused;
+}
+
+pub returns-in_default-clause-estimated : goal.returns-in_default-clause-estimated
+returns-in_default-clause-estimated g c = c.in_ok-span.ensures.estimated
+
+pub returns-in_default-clause-table : goal.returns-in_default-clause-table
+returns-in_default-clause-table g c = c.in_ok-span.ensures.table
+
+pub returns-in_default-clause-grows : goal.returns-in_default-clause-grows
+returns-in_default-clause-grows g c = c.in_ok-span.ensures.grows
+
+pub returns-in_default-clause-above : goal.returns-in_default-clause-above
+returns-in_default-clause-above g c = tt
+
+pub returns-in_default-clause-refused : goal.returns-in_default-clause-refused
+returns-in_default-clause-refused g c = tt
+
+pub returns-in-Some-2-clause-estimated : goal.returns-in-Some-2-clause-estimated
+returns-in-Some-2-clause-estimated g c = c.in_ok-round.ensures.estimated
+
+pub returns-in-Some-2-clause-table : goal.returns-in-Some-2-clause-table
+returns-in-Some-2-clause-table g c = c.in_ok-round.ensures.table
+
+pub returns-in-Some-2-clause-above : goal.returns-in-Some-2-clause-above
+returns-in-Some-2-clause-above g c = (rw c.in-Some-2.is at c.in_ok-round.ensures.marked).0
+
+pub returns-in-Some-2-clause-inside : goal.returns-in-Some-2-clause-inside
+returns-in-Some-2-clause-inside g c = (rw c.in-Some-2.is at c.in_ok-round.ensures.marked).1
+
+pub returns-in-Some-2-clause-refused : goal.returns-in-Some-2-clause-refused
+returns-in-Some-2-clause-refused g c = tt
+
+pub turn-requires-clause-estimated : goal.turn-requires-clause-estimated
+turn-requires-clause-estimated g c = c.turns.invariant.asked
+
+pub turn-requires-clause-table : goal.turn-requires-clause-table
+turn-requires-clause-table g c = c.turns.invariant.table
+
+pub turn-requires-clause-marked : goal.turn-requires-clause-marked
+turn-requires-clause-marked g c = c.turns.invariant.marked
+
+pub turns-smaller : goal.turns-smaller
+turns-smaller g c = rw c.in_default-2.is at c.in_ok-round.ensures.less

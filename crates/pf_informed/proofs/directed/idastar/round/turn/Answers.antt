@@ -6,6 +6,7 @@ use Rattle.pf_informed.specs.declared.directed.idastar.way.Frame.{Frame}
 use Rattle.pf_informed.specs.Internal.Deepening.{IsMarked, numbers_of, turns_left, IsOnWay}
 use Rattle.pf_informed.proofs.TurnsLeft.{left_less}
 use Rattle.pf_informed.proofs.WayLemmas.{marked_back, frame_ends, room, on_way_as, went_back, all_done}
+use Rattle.pf_informed.proofs.Outcomes.{Grows-refl}
 use Rattle.pf_informed.proofs.directed.idastar.round.turn.Goals as goal
 
 pub leave-requires-clause-marked : goal.leave-requires-clause-marked
@@ -88,3 +89,30 @@ returns-else-leave-clause-graph g c = λ h test least first k w.
     let over : way.frame.at ≡ way.frame.end = omega (arith, ends.0) in
     let same = on_way_as eq laws value fits h test least first keys steps spans k.rows way.frame fs fs way.cut_off.least new.cut_off.least way.cut_off.past new.cut_off.past refl (ap (λ (o : CutOff g.row.C.Denot). o.least) c.leave.ensures.cut_off) (ap (λ (o : CutOff g.row.C.Denot). o.past) c.leave.ensures.cut_off) w in
     (k, (all_done eq laws value fits h test least first keys steps spans k.rows way.frame fs new.cut_off.least new.cut_off.past same over c.if-leave.ensures.below, same.too_dear))
+
+pub returns-then-leave-clause-estimated : goal.returns-then-leave-clause-estimated
+returns-then-leave-clause-estimated g c = c.requires.estimated
+
+pub returns-then-leave-clause-table : goal.returns-then-leave-clause-table
+returns-then-leave-clause-table g c = c.requires.table
+
+pub returns-then-leave-clause-grows : goal.returns-then-leave-clause-grows
+returns-then-leave-clause-grows g c = Grows-refl _ _
+
+pub returns-then-leave-clause-refused : goal.returns-then-leave-clause-refused
+returns-then-leave-clause-refused g c = tt
+
+pub returns-else-leave-clause-estimated : goal.returns-else-leave-clause-estimated
+returns-else-leave-clause-estimated g c = c.requires.estimated
+
+pub returns-else-leave-clause-table : goal.returns-else-leave-clause-table
+returns-else-leave-clause-table g c = c.requires.table
+
+pub returns-else-leave-clause-grows : goal.returns-else-leave-clause-grows
+returns-else-leave-clause-grows g c = Grows-refl _ _
+
+pub returns-else-leave-clause-less : goal.returns-else-leave-clause-less
+returns-else-leave-clause-less g c = tt
+
+pub returns-else-leave-clause-refused : goal.returns-else-leave-clause-refused
+returns-else-leave-clause-refused g c = tt

@@ -5,6 +5,7 @@ use Rattle.pf_core.proofs.NodeLemmas.{Explores-edges}
 use Rattle.pf_informed.specs.Internal.Estimated.{IsEstimated}
 use Rattle.pf_informed.specs.Internal.Rows.{IsCheapStep}
 use Rattle.pf_informed.proofs.KnownLemmas.{no_rows, no_table}
+use Rattle.pf_informed.proofs.Outcomes.{refused_as, if_refused}
 use Rattle.pf_informed.proofs.directed.idastar.known.Known.new.Goals as goal
 
 abbrev graph_of : {N : Type 0} → N → (N → List (N × ℤ)) → NodeGraph N
@@ -47,3 +48,23 @@ returns-clause-graph g c = λ edges test least s.
       admissible = s.admissible;
       costs = w.costs;
     }
+
+pub returns-in_err-clone_of : goal.returns-in_err-clone_of
+returns-in_err-clone_of g c = record {
+  one = if_refused _ c.from_residual.result _ c.from_residual.ensures.1;
+  begins = if_refused _ c.from_residual.result _ c.from_residual.ensures.1;
+  estimated = if_refused _ c.from_residual.result _ c.from_residual.ensures.1;
+  table = if_refused _ c.from_residual.result _ c.from_residual.ensures.1;
+  graph = λ edges test least s. if_refused _ c.from_residual.result _ c.from_residual.ensures.1;
+  refused = refused_as _ c.from_residual.result _ c.from_residual.ensures.1 c.in_err-clone_of.ensures.refused;
+}
+
+pub returns-in_err-ask : goal.returns-in_err-ask
+returns-in_err-ask g c = record {
+  one = if_refused _ c.from_residual-in_err-ask.result _ c.from_residual-in_err-ask.ensures.1;
+  begins = if_refused _ c.from_residual-in_err-ask.result _ c.from_residual-in_err-ask.ensures.1;
+  estimated = if_refused _ c.from_residual-in_err-ask.result _ c.from_residual-in_err-ask.ensures.1;
+  table = if_refused _ c.from_residual-in_err-ask.result _ c.from_residual-in_err-ask.ensures.1;
+  graph = λ edges test least s. if_refused _ c.from_residual-in_err-ask.result _ c.from_residual-in_err-ask.ensures.1;
+  refused = refused_as _ c.from_residual-in_err-ask.result _ c.from_residual-in_err-ask.ensures.1 c.in_err-ask.ensures.refused;
+}

@@ -6,6 +6,7 @@ use Rattle.pf_core.proofs.SearchLemmas.{Grows-trans}
 use Rattle.pf_base.specs.Edges.{InReach}
 use Rattle.pf_informed.specs.Internal.Rows.{IsCheapStep, HasSpan}
 use Rattle.pf_informed.proofs.KnownLemmas.{table_more, rows_more, rows_grown, estimated_grown, cheap_sound, cheap_complete}
+use Rattle.pf_informed.proofs.Outcomes.{refused_as, on_refused, if_refused, Grows-refl}
 use Rattle.pf_informed.proofs.directed.idastar.known.Known.span_of.Goals as goal
 
 abbrev tested : {N : Type 0} → NodeGraph N → (N → Bool) → TestedGraph N
@@ -111,3 +112,84 @@ returns-clause-graph g c = λ h test least k.
       },
       tt,
     )
+
+pub returns-in_err-expand : goal.returns-in_err-expand
+returns-in_err-expand g c = record {
+  estimated = on_refused _ c.from_residual.result _ c.from_residual.ensures.1;
+  table = on_refused _ c.from_residual.result _ c.from_residual.ensures.1;
+  grows = on_refused _ c.from_residual.result _ c.from_residual.ensures.1;
+  steps = on_refused _ c.from_residual.result _ c.from_residual.ensures.1;
+  spans = on_refused _ c.from_residual.result _ c.from_residual.ensures.1;
+  kept = if_refused _ c.from_residual.result _ c.from_residual.ensures.1;
+  graph = λ h test least k. if_refused _ c.from_residual.result _ c.from_residual.ensures.1;
+  refused = refused_as _ c.from_residual.result _ c.from_residual.ensures.1 c.in_err-expand.ensures.refused.0;
+}
+
+pub returns-in_err-ask : goal.returns-in_err-ask
+returns-in_err-ask g c = record {
+  estimated = on_refused _ c.from_residual-in_err-ask.result _ c.from_residual-in_err-ask.ensures.1;
+  table = on_refused _ c.from_residual-in_err-ask.result _ c.from_residual-in_err-ask.ensures.1;
+  grows = on_refused _ c.from_residual-in_err-ask.result _ c.from_residual-in_err-ask.ensures.1;
+  steps = on_refused _ c.from_residual-in_err-ask.result _ c.from_residual-in_err-ask.ensures.1;
+  spans = on_refused _ c.from_residual-in_err-ask.result _ c.from_residual-in_err-ask.ensures.1;
+  kept = if_refused _ c.from_residual-in_err-ask.result _ c.from_residual-in_err-ask.ensures.1;
+  graph = λ h test least k. if_refused _ c.from_residual-in_err-ask.result _ c.from_residual-in_err-ask.ensures.1;
+  refused = refused_as _ c.from_residual-in_err-ask.result _ c.from_residual-in_err-ask.ensures.1 c.in_err-ask.ensures.refused;
+}
+
+pub returns-in_err-span : goal.returns-in_err-span
+returns-in_err-span g c = record {
+  estimated = on_refused _ c.from_residual-in_err-span.result _ c.from_residual-in_err-span.ensures.1;
+  table = on_refused _ c.from_residual-in_err-span.result _ c.from_residual-in_err-span.ensures.1;
+  grows = on_refused _ c.from_residual-in_err-span.result _ c.from_residual-in_err-span.ensures.1;
+  steps = on_refused _ c.from_residual-in_err-span.result _ c.from_residual-in_err-span.ensures.1;
+  spans = on_refused _ c.from_residual-in_err-span.result _ c.from_residual-in_err-span.ensures.1;
+  kept = if_refused _ c.from_residual-in_err-span.result _ c.from_residual-in_err-span.ensures.1;
+  graph = λ h test least k. if_refused _ c.from_residual-in_err-span.result _ c.from_residual-in_err-span.ensures.1;
+  refused = refused_as _ c.from_residual-in_err-span.result _ c.from_residual-in_err-span.ensures.1 c.in_err-span.ensures.refused;
+}
+
+pub returns-then-is_some-clause-estimated : goal.returns-then-is_some-clause-estimated
+returns-then-is_some-clause-estimated g c = c.requires.estimated
+
+pub returns-then-is_some-clause-table : goal.returns-then-is_some-clause-table
+returns-then-is_some-clause-table g c = c.requires.table
+
+pub returns-then-is_some-clause-grows : goal.returns-then-is_some-clause-grows
+returns-then-is_some-clause-grows g c = Grows-refl _ _
+
+pub returns-then-is_some-clause-steps : goal.returns-then-is_some-clause-steps
+returns-then-is_some-clause-steps g c = λ i x h. h
+
+pub returns-then-is_some-clause-spans : goal.returns-then-is_some-clause-spans
+returns-then-is_some-clause-spans g c = λ k s h. h
+
+pub returns-then-is_some-clause-refused : goal.returns-then-is_some-clause-refused
+returns-then-is_some-clause-refused g c = tt
+
+pub returns-then-is_goal-clause-grows : goal.returns-then-is_goal-clause-grows
+returns-then-is_goal-clause-grows g c = c.is_goal.ensures.grows
+
+pub returns-then-is_goal-clause-steps : goal.returns-then-is_goal-clause-steps
+returns-then-is_goal-clause-steps g c = λ i x h. h
+
+pub returns-then-is_goal-clause-spans : goal.returns-then-is_goal-clause-spans
+returns-then-is_goal-clause-spans g c = λ k s h. h
+
+pub returns-then-is_goal-clause-kept : goal.returns-then-is_goal-clause-kept
+returns-then-is_goal-clause-kept g c = tt
+
+pub returns-then-is_goal-clause-refused : goal.returns-then-is_goal-clause-refused
+returns-then-is_goal-clause-refused g c = tt
+
+pub returns-then-is_goal-clause-estimated : goal.returns-then-is_goal-clause-estimated
+returns-then-is_goal-clause-estimated g c = c.requires.estimated ∙ sym c.is_goal.ensures.same
+
+pub returns-clause-kept : goal.returns-clause-kept
+returns-clause-kept g c = c.in_ok-span.ensures.kept
+
+pub returns-clause-refused : goal.returns-clause-refused
+returns-clause-refused g c = tt
+
+pub is_goal-requires-clause-inside : goal.is_goal-requires-clause-inside
+is_goal-requires-clause-inside g c = c.requires.inside
