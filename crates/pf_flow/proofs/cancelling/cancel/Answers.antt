@@ -1,7 +1,8 @@
 use Rattle.std.proofs.Common.{◌≡◌, ◌≢◌, ◌<◌, ◌∙◌, arith, length, sym, subst, pos, true≢false, ℤ}
 use Rattle.std.specs.Prelude.{◌≤ℤ◌, ◌<ℤ◌, ◌+ℤ◌, unsigned_abs}
 use Rattle.std.proofs.lemmas.Int.{ints}
-use Rattle.pf_flow.specs.Internal.Cancelling.{Has, IsOnce, IsTakenOff, IsLowered, gained, net_of}
+use Rattle.std.proofs.lemmas.Result.{IfOk-from_err}
+use Rattle.pf_flow.specs.Internal.Cancelling.{Has, AreInside, IsOnce, IsTakenOff, IsLowered, gained, net_of}
 use Rattle.pf_flow.proofs.CycleLemmas.{lowered_amounts, lowered_none, lowered_more, circulation_more, cycle_above, through_above}
 use Rattle.pf_flow.proofs.cancelling.cancel.Goals as goal
 
@@ -88,3 +89,36 @@ returns-clause-lowered g c =
     let value = g.C.Number.value in
     let none = (c.is_zero.ensures.value g.met.C.Integral.exact_law).0 c.rounds-test.false in
     subst (λ (z : ℤ). IsLowered value z c.args.through c.args.amounts.now c.rounds.amounts) (omega (arith, ints, none)) c.rounds.invariant.lowered
+
+pub rows_of-requires : goal.rows_of-requires
+rows_of-requires g c = record { inside = c.requires.inside }
+
+pub cycle_through-requires-clause-rows : goal.cycle_through-requires-clause-rows
+cycle_through-requires-clause-rows g c = c.in_ok-rows.ensures.rows
+
+pub cycle_through-requires-clause-inside : goal.cycle_through-requires-clause-inside
+cycle_through-requires-clause-inside g c = subst (λ n. AreInside n c.args.ends.now) (sym c.in_ok-rows.ensures.len) c.requires.inside
+
+pub cycle_through-requires-clause-long : goal.cycle_through-requires-clause-long
+cycle_through-requires-clause-long g c = c.rounds.invariant.lowered.len ∙ c.requires.long
+
+pub cycle_through-requires-clause-balanced : goal.cycle_through-requires-clause-balanced
+cycle_through-requires-clause-balanced g c = c.rounds.invariant.balanced
+
+pub take_off-requires-clause-amount : goal.take_off-requires-clause-amount
+take_off-requires-clause-amount g c = omega (arith, ints, c.least_amount-amount.ensures.some)
+
+pub returns-clause-balanced : goal.returns-clause-balanced
+returns-clause-balanced g c = c.rounds.invariant.balanced
+
+pub returns-in_err-rows-clause-balanced : goal.returns-in_err-rows-clause-balanced
+returns-in_err-rows-clause-balanced g c = IfOk-from_err _ _ c.from_residual.ensures.0
+
+pub returns-in_err-rows-clause-lowered : goal.returns-in_err-rows-clause-lowered
+returns-in_err-rows-clause-lowered g c = IfOk-from_err _ _ c.from_residual.ensures.0
+
+pub returns-in_err-cycle-clause-balanced : goal.returns-in_err-cycle-clause-balanced
+returns-in_err-cycle-clause-balanced g c = IfOk-from_err _ _ c.from_residual-in_err-cycle.ensures.0
+
+pub returns-in_err-cycle-clause-lowered : goal.returns-in_err-cycle-clause-lowered
+returns-in_err-cycle-clause-lowered g c = IfOk-from_err _ _ c.from_residual-in_err-cycle.ensures.0

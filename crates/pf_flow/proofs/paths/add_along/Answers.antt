@@ -1,15 +1,22 @@
-use Rattle.std.proofs.Common.{◌≡◌, ◌<◌, ◌+◌, ◌-◌, arith, subst, sym, ℕ, length}
+use Rattle.std.proofs.Common.{◌≡◌, ◌<◌, ◌+◌, ◌-◌, ◌∙◌, inl, inr, true, arith, subst, sym, ℕ, length}
 use Rattle.std.specs.Prelude.{◌<ℤ◌, ◌+ℤ◌, ℤ, pos}
 use Rattle.std.proofs.lemmas.Int.{ints}
-use Rattle.pf_flow.specs.Networks.{Network, capacity, capacity_sum, with_total, IsNetwork}
+use Rattle.pf_core.proofs.ListLemmas.{bool_dec}
+use Rattle.pf_flow.specs.Networks.{Network, capacity, capacity_sum, with_total, IsNetwork, IsStored}
 use Rattle.pf_flow.specs.Internal.AugmentingPaths.{IsLabelling, IsPushed, potential}
 use Rattle.pf_flow.proofs.NetworkLemmas.{balanced_of, total_below, fits_near}
-use Rattle.pf_flow.proofs.AgreeLemmas.{agreed, network_agrees}
+use Rattle.pf_flow.proofs.AgreeLemmas.{agreed, network_agrees, shape_agrees, shape_more, capacities_agrees}
 use Rattle.pf_flow.proofs.PushLemmas.{pushed_none, levels_none, move_fits_flow, move_fits_flow_back, move_fits_residual, move_fits_residual_back, step_here_in, step_next_in, step_apart, step_enough, pushed_step, pushed_agrees, levels_step, levels_agrees, pushed_network}
 use Rattle.pf_flow.proofs.paths.add_along.Goals as goal
 
 low : {n : ℕ} {r : ℕ → ℤ} {z : ℤ} → ((k : ℕ) → k + 1 < n → pos 0 <ℤ r k) → (k : ℕ) × (k + 1 < n) × (z ≡ r k) → pos 0 <ℤ z
 low h (k, l, e) = let p = h k l in omega (arith, ints, p, e)
+
+has_room : {N : Network} → IsStored N → (a b : ℕ) → pos 0 <ℤ N.residual a b → N.room a b ≡ true
+has_room {N} s a b l = elim (bool_dec (N.room a b)) as (λ _. N.room a b ≡ true) [
+  | inl e ↦ e
+  | inr e ↦ absurd (let z = (s.empty a b e).0 in omega (arith, ints, l, z))
+]
 
 pub add_flow-requires-clause-flow : goal.add_flow-requires-clause-flow
 add_flow-requires-clause-flow g c =
@@ -137,3 +144,38 @@ pub returns-clause-levels : goal.returns-clause-levels
 returns-clause-levels g c = λ d h v.
     let N = g.S.FlowStore.network c.args.store.now in
     subst (λ (O : Network). IsLabelling N.vertices N.source O.residual d) (agreed c.set_total_capacity.ensures) (c.loop-place.invariant.levels.labelled d h v)
+
+pub overflow_sub-place-end : goal.overflow_sub-place-end
+overflow_sub-place-end g c = omega (arith, c.requires.path.long)
+
+pub bounds-path-place : goal.bounds-path-place
+bounds-path-place g c = omega arith
+
+pub offset_bounds-path-place : goal.offset_bounds-path-place
+offset_bounds-path-place g c = omega arith
+
+pub overflow_add-place : goal.overflow_add-place
+overflow_add-place g c = omega arith
+
+pub bounds-path-place-in-loop-place : goal.bounds-path-place-in-loop-place
+bounds-path-place-in-loop-place g c = omega arith
+
+pub offset_bounds-path-place-in-loop-place : goal.offset_bounds-path-place-in-loop-place
+offset_bounds-path-place-in-loop-place g c = omega arith
+
+pub add_flow-requires-clause-room : goal.add_flow-requires-clause-room
+add_flow-requires-clause-room g c =
+    let k = c.loop-place.place in
+    c.loop-place.invariant.room _ _ (has_room (g.met.S.FlowStore.network_law c.args.store.now) _ _ (c.requires.path.left k (omega arith)))
+
+pub loop-place-smaller : goal.loop-place-smaller
+loop-place-smaller g c = omega arith
+
+pub returns-clause-kept : goal.returns-clause-kept
+returns-clause-kept g c =
+    let p = c.loop-place.invariant.pushed in
+    let a = capacities_agrees c.set_total_capacity.ensures in
+    record {
+      shape = shape_more (record { vertices = p.vertices; source = p.source; sink = p.sink; details = p.details; room = c.loop-place.invariant.room }) (shape_agrees c.set_total_capacity.ensures);
+      capacities = record { at = λ x y. p.capacities.at x y ∙ a.capacities.at x y };
+    }

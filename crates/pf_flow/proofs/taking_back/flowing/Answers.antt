@@ -1,5 +1,5 @@
-use Rattle.std.proofs.Common.{◌≡◌, ◌≤◌, ◌∙◌, List, arith, length, take, map, ap, sym, subst, ℕ}
-use Rattle.std.proofs.lemmas.List.{take_all}
+use Rattle.std.proofs.Common.{◌≡◌, ◌≤◌, ◌∙◌, ◌++◌, ◌∷◌, [], List, arith, length, take, map, ap, sym, subst, ℕ}
+use Rattle.std.proofs.lemmas.List.{take_all, take_more, map-append}
 use Rattle.pf_flow.specs.declared.cancelling.arcs.Arc.{Arc}
 use Rattle.pf_flow.specs.Internal.Settled.{arc_of, HoldFlows}
 use Rattle.pf_flow.proofs.TakeBackLemmas.{hold_flows}
@@ -17,3 +17,26 @@ returns-clause-flows g c =
     let made = hold_flows value N items c.in_ok-flows.ensures.listed in
     let one = subst (λ (es : List Arc). HoldFlows value N es (map (λ (f : (ℕ × ℕ) × g.row.C.Denot). f.1) items)) (sym (v.ends ∙ ap (map arc_of) whole)) made in
     subst (λ (xs : List g.row.C.Denot). HoldFlows value N c.flows.ends.items xs) (sym (v.amounts ∙ ap (map (λ (f : (ℕ × ℕ) × g.row.C.Denot). f.1)) whole)) one
+
+pub list_flows-requires : goal.list_flows-requires
+list_flows-requires g c = c.requires
+
+pub flows-init : goal.flows-init
+flows-init g c = record { ends = c.new-ends.ensures.items; amounts = c.new-amounts.ensures.items }
+
+pub bounds-flow-items-flow-index : goal.bounds-flow-items-flow-index
+bounds-flow-items-flow-index g c = c.flows-test.true
+
+pub flows-smaller : goal.flows-smaller
+flows-smaller g c = omega (arith, c.flows-test.true)
+
+pub flows-preserved : goal.flows-preserved
+flows-preserved g c =
+    let items = c.deref-flow-items.result.now in
+    let flow = c.flow-item.result in
+    let so_far = take c.flows.flow-index items in
+    let more = ap (λ (f : (ℕ × ℕ) × g.row.C.Denot). so_far ++ f ∷ []) c.flow-item.is ∙ sym (take_more items c.flows.flow-index flow c.flows-test.true) in
+    record {
+      ends = c.in_ok-push.ensures.items ∙ ap (λ es. es ++ arc_of flow ∷ []) c.flows.invariant.ends ∙ sym (map-append arc_of so_far (flow ∷ [])) ∙ ap (map arc_of) more;
+      amounts = c.in_ok-push-2.ensures.items ∙ ap (λ xs. xs ++ flow.1 ∷ []) c.flows.invariant.amounts ∙ sym (map-append (λ (f : (ℕ × ℕ) × g.row.C.Denot). f.1) so_far (flow ∷ [])) ∙ ap (map (λ (f : (ℕ × ℕ) × g.row.C.Denot). f.1)) more;
+    }

@@ -1,9 +1,11 @@
-use Rattle.std.proofs.Common.{◌≡◌, ◌≢◌, ◌∙◌, ◌++◌, ◌∷◌, [], ℕ, Some, List, arith, length, sym, ap}
+use Rattle.std.proofs.Common.{◌≡◌, ◌≢◌, ◌∙◌, ◌++◌, ◌∷◌, [], ℕ, Some, List, arith, length, sym, ap, subst}
 use Rattle.std.specs.Prelude.{slice_get}
 use Rattle.std.proofs.lemmas.Int.{ints}
 use Rattle.std.proofs.lemmas.Option.{slice_get_within}
+use Rattle.std.proofs.lemmas.Result.{IfOk-from_err, MatchResult-from_err}
 use Rattle.pf_core.proofs.ListLemmas.{get-append, on_ok}
 use Rattle.pf_flow.specs.declared.cancelling.arcs.Arc.{Arc}
+use Rattle.pf_flow.proofs.AgreeLemmas.{agrees_itself}
 use Rattle.pf_flow.proofs.TakeBackLemmas.{plan_of, amount_there}
 use Rattle.pf_flow.proofs.taking_back.take_back.Goals as goal
 
@@ -58,3 +60,97 @@ returns-clause-lowered g c = on_ok c.take_back_by.result c.take_back_by.ensures.
     let old : N.flow number.0.from number.0.to ≡ N.flow c.args.from c.args.to = ap (λ (u : ℕ). N.flow u number.0.to) number.2 ∙ ap (λ (u : ℕ). N.flow c.args.from u) number.3 in
     let new : M.flow number.0.from number.0.to ≡ M.flow c.args.from c.args.to = ap (λ (u : ℕ). M.flow u number.0.to) number.2 ∙ ap (λ (u : ℕ). M.flow c.args.from u) number.3 in
     omega (arith, ints, less, old, new))
+
+pub flowing-requires : goal.flowing-requires
+flowing-requires g c = c.requires.network
+
+pub number_of-through-requires : goal.number_of-through-requires
+number_of-through-requires g c =
+    let some = c.requires.some in
+    let most = c.requires.most in
+    record {
+      listed = subst (λ (es : List Arc). (k : ℕ) × (e : Arc) × (slice_get es k ≡ Some e) × (e.from ≡ c.args.from) × (e.to ≡ c.args.to)) (sym c.deref.ensures.value)
+          (c.in_ok-ends.ensures.flows.complete c.args.from c.args.to c.requires.from c.requires.to (omega (arith, ints, some, most)));
+    }
+
+pub take_back_by-requires-clause-network : goal.take_back_by-requires-clause-network
+take_back_by-requires-clause-network g c = c.requires.network
+
+pub take_back_by-requires-clause-apart : goal.take_back_by-requires-clause-apart
+take_back_by-requires-clause-apart g c = λ q.
+    let none = c.requires.network.idle q c.args.from c.args.to in
+    let some = c.requires.some in
+    let most = c.requires.most in
+    omega (arith, ints, none, some, most)
+
+pub take_back_by-requires-clause-some : goal.take_back_by-requires-clause-some
+take_back_by-requires-clause-some g c = c.requires.some
+
+pub returns-clause-network : goal.returns-clause-network
+returns-clause-network g c = c.take_back_by.ensures.network
+
+pub returns-clause-kept : goal.returns-clause-kept
+returns-clause-kept g c = c.take_back_by.ensures.kept
+
+pub returns-clause-total : goal.returns-clause-total
+returns-clause-total g c = c.take_back_by.ensures.total
+
+pub returns-clause-excess : goal.returns-clause-excess
+returns-clause-excess g c = c.take_back_by.ensures.excess
+
+pub returns-clause-unchanged : goal.returns-clause-unchanged
+returns-clause-unchanged g c = c.take_back_by.ensures.unchanged
+
+pub returns-in_err-ends-clause-network : goal.returns-in_err-ends-clause-network
+returns-in_err-ends-clause-network g c = c.requires.network
+
+pub returns-in_err-ends-clause-kept : goal.returns-in_err-ends-clause-kept
+returns-in_err-ends-clause-kept g c = IfOk-from_err _ _ c.from_residual.ensures.0
+
+pub returns-in_err-ends-clause-lowered : goal.returns-in_err-ends-clause-lowered
+returns-in_err-ends-clause-lowered g c = IfOk-from_err _ _ c.from_residual.ensures.0
+
+pub returns-in_err-ends-clause-total : goal.returns-in_err-ends-clause-total
+returns-in_err-ends-clause-total g c = IfOk-from_err _ _ c.from_residual.ensures.0
+
+pub returns-in_err-ends-clause-excess : goal.returns-in_err-ends-clause-excess
+returns-in_err-ends-clause-excess g c = IfOk-from_err _ _ c.from_residual.ensures.0
+
+pub returns-in_err-ends-clause-unchanged : goal.returns-in_err-ends-clause-unchanged
+returns-in_err-ends-clause-unchanged g c = MatchResult-from_err _ _ _ c.from_residual.ensures.0 (λ e. agrees_itself (g.S.FlowStore.network c.args.store.now))
+
+pub returns-in_err-push-clause-network : goal.returns-in_err-push-clause-network
+returns-in_err-push-clause-network g c = c.requires.network
+
+pub returns-in_err-push-clause-kept : goal.returns-in_err-push-clause-kept
+returns-in_err-push-clause-kept g c = IfOk-from_err _ _ c.from_residual-in_err-push.ensures.0
+
+pub returns-in_err-push-clause-lowered : goal.returns-in_err-push-clause-lowered
+returns-in_err-push-clause-lowered g c = IfOk-from_err _ _ c.from_residual-in_err-push.ensures.0
+
+pub returns-in_err-push-clause-total : goal.returns-in_err-push-clause-total
+returns-in_err-push-clause-total g c = IfOk-from_err _ _ c.from_residual-in_err-push.ensures.0
+
+pub returns-in_err-push-clause-excess : goal.returns-in_err-push-clause-excess
+returns-in_err-push-clause-excess g c = IfOk-from_err _ _ c.from_residual-in_err-push.ensures.0
+
+pub returns-in_err-push-clause-unchanged : goal.returns-in_err-push-clause-unchanged
+returns-in_err-push-clause-unchanged g c = MatchResult-from_err _ _ _ c.from_residual-in_err-push.ensures.0 (λ e. agrees_itself (g.S.FlowStore.network c.args.store.now))
+
+pub returns-in_err-push-2-clause-network : goal.returns-in_err-push-2-clause-network
+returns-in_err-push-2-clause-network g c = c.requires.network
+
+pub returns-in_err-push-2-clause-kept : goal.returns-in_err-push-2-clause-kept
+returns-in_err-push-2-clause-kept g c = IfOk-from_err _ _ c.from_residual-in_err-push-2.ensures.0
+
+pub returns-in_err-push-2-clause-lowered : goal.returns-in_err-push-2-clause-lowered
+returns-in_err-push-2-clause-lowered g c = IfOk-from_err _ _ c.from_residual-in_err-push-2.ensures.0
+
+pub returns-in_err-push-2-clause-total : goal.returns-in_err-push-2-clause-total
+returns-in_err-push-2-clause-total g c = IfOk-from_err _ _ c.from_residual-in_err-push-2.ensures.0
+
+pub returns-in_err-push-2-clause-excess : goal.returns-in_err-push-2-clause-excess
+returns-in_err-push-2-clause-excess g c = IfOk-from_err _ _ c.from_residual-in_err-push-2.ensures.0
+
+pub returns-in_err-push-2-clause-unchanged : goal.returns-in_err-push-2-clause-unchanged
+returns-in_err-push-2-clause-unchanged g c = MatchResult-from_err _ _ _ c.from_residual-in_err-push-2.ensures.0 (λ e. agrees_itself (g.S.FlowStore.network c.args.store.now))

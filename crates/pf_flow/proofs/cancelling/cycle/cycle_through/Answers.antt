@@ -1,12 +1,17 @@
-use Rattle.std.proofs.Common.{◌≡◌, ◌<◌, ◌∙◌, ℕ, Some, arith, length, refl, sym, ap, subst}
+use Rattle.std.proofs.Common.{◌≡◌, ◌<◌, ◌∙◌, ℕ, List, Some, arith, length, refl, sym, ap, subst}
 use Rattle.std.specs.Prelude.{slice_get, None}
 use Rattle.std.proofs.lemmas.Int.{ints}
 use Rattle.std.proofs.lemmas.Option.{slice_get-get_or, slice_get_within}
+use Rattle.std.proofs.lemmas.Result.{IfOk-from_err}
 use Rattle.pf_core.proofs.ListLemmas.{at_place}
+use Rattle.pf_flow.specs.declared.cancelling.arcs.Arc.{Arc}
 use Rattle.pf_flow.specs.Internal.Cancelling.{IsCycle, IsWayBack}
 use Rattle.pf_flow.proofs.CycleLemmas.{tail_reached, way_begin, way_more, way_end, before_less}
 use Rattle.pf_flow.proofs.cancelling.cycle.cycle_through.Invariants.{arc_at}
 use Rattle.pf_flow.proofs.cancelling.cycle.cycle_through.Goals as goal
+
+through_at : {C : Type 0} {P : C → Type 0} (ends : List Arc) (amounts : List C) → length amounts ≡ length ends → (k : ℕ) → (x : C) × (slice_get amounts k ≡ Some x) × P x → slice_get ends k ≡ Some (arc_at ends k)
+through_at ends amounts long k t = slice_get-get_or ends k _ (omega (arith, slice_get_within amounts k t.0 t.1, long))
 
 pub unreachable-requires : goal.unreachable-requires
 unreachable-requires g c =
@@ -81,3 +86,39 @@ returns-clause-cycle g c =
     let some = t.2 in
     let made = way_end value ends c.args.amounts.now (arc_at ends k).to (arc_at ends k).from steps places c.steps.cycle.items k (arc_at ends k) c.in_ok-reached.ensures.reached last at refl refl (t.0, t.1, λ q. absurd (omega (arith, ints, q, some))) in
     subst (λ cycle. IsCycle value ends c.args.amounts.now k cycle) (sym c.in_ok-push-2.ensures.items) made
+
+pub bounds-ends-through : goal.bounds-ends-through
+bounds-ends-through g c =
+    let t = c.requires.through in
+    omega (arith, slice_get_within c.args.amounts.now c.args.through t.0 t.1, c.requires.long)
+
+pub offset_bounds-ends-through : goal.offset_bounds-ends-through
+offset_bounds-ends-through g c =
+    let t = c.requires.through in
+    omega (arith, slice_get_within c.args.amounts.now c.args.through t.0 t.1, c.requires.long)
+
+pub search-requires-clause-rows : goal.search-requires-clause-rows
+search-requires-clause-rows g c = c.requires.rows
+
+pub search-requires-clause-long : goal.search-requires-clause-long
+search-requires-clause-long g c = c.requires.long
+
+pub search-requires-clause-inside : goal.search-requires-clause-inside
+search-requires-clause-inside g c = c.requires.inside
+
+pub search-requires-clause-start : goal.search-requires-clause-start
+search-requires-clause-start g c = (c.requires.inside c.args.through (arc_at c.args.ends.now c.args.through) (through_at c.args.ends.now c.args.amounts.now c.requires.long c.args.through c.requires.through)).1
+
+pub index-requires : goal.index-requires
+index-requires g c =
+    let l = (c.requires.inside c.args.through (arc_at c.args.ends.now c.args.through) (through_at c.args.ends.now c.args.amounts.now c.requires.long c.args.through c.requires.through)).0 in
+    omega (arith, l, c.in_ok-reached.ensures.wide, c.in_ok-reached.reached.places.ok)
+
+pub returns-in_err-reached-clause-cycle : goal.returns-in_err-reached-clause-cycle
+returns-in_err-reached-clause-cycle g c = IfOk-from_err _ _ c.from_residual.ensures.0
+
+pub returns-in_err-push-clause-cycle : goal.returns-in_err-push-clause-cycle
+returns-in_err-push-clause-cycle g c = IfOk-from_err _ _ c.from_residual-in_err-push.ensures.0
+
+pub returns-in_err-push-2-clause-cycle : goal.returns-in_err-push-2-clause-cycle
+returns-in_err-push-2-clause-cycle g c = IfOk-from_err _ _ c.from_residual-in_err-push-2.ensures.0

@@ -1,8 +1,10 @@
-use Rattle.std.proofs.Common.{rules, ◌≡◌, ◌∙◌, Some, arith, get_or, sym, ap, pos}
-use Rattle.std.specs.Prelude.{slice_get}
+use Rattle.std.proofs.Common.{rules, ◌≡◌, ◌∙◌, Some, arith, get_or, sym, ap, subst, pos}
+use Rattle.std.specs.Prelude.{◌+ℤ◌, slice_get}
 use Rattle.std.proofs.lemmas.Int.{ints}
 use Rattle.std.proofs.lemmas.Option.{slice_get-get_or, slice_get_within}
+use Rattle.std.proofs.lemmas.List.{take_all}
 use Rattle.pf_core.proofs.ListLemmas.{at_place}
+use Rattle.pf_flow.specs.Internal.Cancelling.{IsTakenOff, net_of, gained}
 use Rattle.pf_flow.proofs.CycleLemmas.{next_apart, taken_none, taken_more, balance_more}
 use Rattle.pf_flow.proofs.cancelling.cycle.take_off.Goals as goal
 
@@ -66,3 +68,23 @@ arcs-preserved g c =
       taken = taken_more value (value c.args.amount) c.args.cycle.now i c.arcs-test.true xs now x c.minus.result at c.minus.ensures c.requires.once c.arcs.invariant.taken;
       balance = λ side ends long. balance_more value (value c.args.amount) c.args.cycle.now i c.arcs-test.true xs now x c.minus.result at c.minus.ensures side ends (c.arcs.invariant.taken.len ∙ long) (c.arcs.invariant.balance side ends long);
     }
+
+pub bounds-cycle-number-index : goal.bounds-cycle-number-index
+bounds-cycle-number-index g c = c.arcs-test.true
+
+pub offset_bounds-cycle-number-index : goal.offset_bounds-cycle-number-index
+offset_bounds-cycle-number-index g c = omega (arith, c.arcs-test.true)
+
+pub arcs-smaller : goal.arcs-smaller
+arcs-smaller g c = omega (arith, c.arcs-test.true)
+
+pub returns-clause-taken : goal.returns-clause-taken
+returns-clause-taken g c =
+    let all = take_all c.arcs.number-index c.args.cycle.now c.arcs-test.false in
+    subst (λ ks. IsTakenOff g.C.Number.value (g.C.Number.value c.args.amount) ks c.args.amounts.now c.arcs.amounts) all c.arcs.invariant.taken
+
+pub returns-clause-balance : goal.returns-clause-balance
+returns-clause-balance g c = λ side ends long.
+    let value = g.C.Number.value in
+    let all = take_all c.arcs.number-index c.args.cycle.now c.arcs-test.false in
+    subst (λ ks. net_of value side ends c.arcs.amounts +ℤ gained side (value c.args.amount) ends ks ≡ net_of value side ends c.args.amounts.now) all (c.arcs.invariant.balance side ends long)

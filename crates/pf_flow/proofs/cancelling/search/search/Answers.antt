@@ -2,8 +2,9 @@ use Rattle.std.proofs.Common.{◌≡◌, ◌<◌, ◌∙◌, ℕ, List, Some, ar
 use Rattle.std.specs.Prelude.{slice_get, replicate, Option, None}
 use Rattle.std.proofs.lemmas.List.{length-set, length-replicate}
 use Rattle.std.proofs.lemmas.Option.{slice_get_within}
+use Rattle.std.proofs.lemmas.Result.{IfOk-from_err}
 use Rattle.pf_core.proofs.ListLemmas.{at_place}
-use Rattle.pf_flow.specs.Internal.Cancelling.{IsReached, Has}
+use Rattle.pf_flow.specs.Internal.Cancelling.{AreInside, IsReached, IsExpanded, Has}
 use Rattle.pf_flow.proofs.SearchLemmas.{reached_begin, expanded_more, extends_back}
 use Rattle.pf_flow.proofs.cancelling.search.search.Goals as goal
 
@@ -66,3 +67,55 @@ steps-preserved g c =
           v.expanded;
       within = let w = slice_get_within new.steps.items c.steps.at s (e.extends.step c.steps.at s here) in omega (arith, w);
     }
+
+pub begin-requires : goal.begin-requires
+begin-requires g c = omega (arith, c.requires.start, c.len.ensures, c.args.rows.now.ok)
+
+pub index-requires : goal.index-requires
+index-requires g c = omega (arith, c.steps-test.true, c.len-in-steps.ensures)
+
+pub expand-requires-clause-start : goal.expand-requires-clause-start
+expand-requires-clause-start g c = (c.args.start, c.steps.invariant.reached)
+
+pub expand-requires-clause-long : goal.expand-requires-clause-long
+expand-requires-clause-long g c = c.requires.long
+
+pub expand-requires-clause-inside : goal.expand-requires-clause-inside
+expand-requires-clause-inside g c = subst (λ n. AreInside n c.args.ends.now) (sym c.steps.invariant.wide) c.requires.inside
+
+pub overflow_add-at : goal.overflow_add-at
+overflow_add-at g c = omega (arith, c.steps-test.true, c.len-in-steps.type_inv)
+
+pub steps-smaller : goal.steps-smaller
+steps-smaller g c =
+    let v = c.steps.invariant in
+    omega (arith, c.steps-test.true, c.len-in-steps.ensures, c.steps.reached.steps.ok, v.reached.count, v.wide)
+
+pub returns-clause-reached : goal.returns-clause-reached
+returns-clause-reached g c = c.steps.invariant.reached
+
+pub returns-clause-wide : goal.returns-clause-wide
+returns-clause-wide g c = c.steps.invariant.wide
+
+pub returns-clause-whole : goal.returns-clause-whole
+returns-clause-whole g c =
+    let at : c.steps.at ≡ length c.steps.reached.steps.items = omega (arith, c.steps-test.false, c.len-in-steps.ensures, c.steps.reached.steps.ok, c.steps.invariant.within) in
+    subst (λ n. IsExpanded g.C.Number.value c.args.ends.now c.args.amounts.now n c.steps.reached.steps.items c.steps.reached.places.items) at c.steps.invariant.expanded
+
+pub returns-in_err-reached-clause-reached : goal.returns-in_err-reached-clause-reached
+returns-in_err-reached-clause-reached g c = IfOk-from_err _ _ c.from_residual.ensures.0
+
+pub returns-in_err-reached-clause-wide : goal.returns-in_err-reached-clause-wide
+returns-in_err-reached-clause-wide g c = IfOk-from_err _ _ c.from_residual.ensures.0
+
+pub returns-in_err-reached-clause-whole : goal.returns-in_err-reached-clause-whole
+returns-in_err-reached-clause-whole g c = IfOk-from_err _ _ c.from_residual.ensures.0
+
+pub returns-in_err-expand-clause-reached : goal.returns-in_err-expand-clause-reached
+returns-in_err-expand-clause-reached g c = IfOk-from_err _ _ c.from_residual-in_err-expand.ensures.0
+
+pub returns-in_err-expand-clause-wide : goal.returns-in_err-expand-clause-wide
+returns-in_err-expand-clause-wide g c = IfOk-from_err _ _ c.from_residual-in_err-expand.ensures.0
+
+pub returns-in_err-expand-clause-whole : goal.returns-in_err-expand-clause-whole
+returns-in_err-expand-clause-whole g c = IfOk-from_err _ _ c.from_residual-in_err-expand.ensures.0

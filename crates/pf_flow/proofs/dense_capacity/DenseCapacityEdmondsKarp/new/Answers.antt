@@ -15,3 +15,18 @@ returns-clause-network g c =
     network_of_fresh (g.met.C.Zero.zero_fits_law exact)
     (zero_fresh value residuals flows c.args.size c.args.source c.args.sink left.square right.square (value c.zero.result) right.zero nought)
     (zero_capacities value residuals flows c.args.size c.args.source c.args.sink left.square right.square (value c.zero.result) left.zero right.zero)
+
+pub returns-clause-fresh : goal.returns-clause-fresh
+returns-clause-fresh g c =
+    let value = g.C.Number.value in
+    let nought = ap value c.zero.ensures ∙ g.met.C.Zero.zero_law g.met.C.Integral.exact_law in
+    let left = c.in_ok-residuals.ensures in
+    let right = c.in_ok-flows.ensures in
+    zero_fresh value c.in_ok-residuals.residuals c.in_ok-flows.flows c.args.size c.args.source c.args.sink left.square right.square (value c.zero.result) right.zero nought
+
+pub returns-clause-capacities : goal.returns-clause-capacities
+returns-clause-capacities g c =
+    let value = g.C.Number.value in
+    let left = c.in_ok-residuals.ensures in
+    let right = c.in_ok-flows.ensures in
+    zero_capacities value c.in_ok-residuals.residuals c.in_ok-flows.flows c.args.size c.args.source c.args.sink left.square right.square (value c.zero.result) left.zero right.zero

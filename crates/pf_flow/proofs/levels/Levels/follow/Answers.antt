@@ -3,6 +3,7 @@ use Rattle.std.specs.Prelude.{slice_set, slice_get, slice_index, ◌<ℤ◌, pos
 use Rattle.std.proofs.lemmas.Bool.{cases_eq}
 use Rattle.std.proofs.lemmas.List.{get_or_read}
 use Rattle.std.proofs.lemmas.Option.{slice_get_read, slice_get_within}
+use Rattle.std.proofs.lemmas.Result.{IfOk-from_err}
 use Rattle.std.proofs.Math.ListN.{get_or-append}
 use Rattle.pf_flow.specs.Networks.{Network}
 use Rattle.pf_flow.specs.Listings.{ListsNumbers}
@@ -152,3 +153,82 @@ returns-clause-found g c =
     let inside = slice_get_within c.deref-end-items.result.now q.0 (b, q.1) there in
     let done = c.loop-end-test.false in
     i.followed q.0 b q.1 (omega (arith, inside, done)) there)
+
+pub index-from-requires : goal.index-from-requires
+index-from-requires g c = omega (arith, c.requires.at, c.args.self.now.queue.ok)
+
+pub index-level-requires : goal.index-level-requires
+index-level-requires g c =
+    let found = c.requires.found in
+    let from = get_or_read c.args.self.now.queue.items c.args.at c.index-from.result.now c.requires.at c.index-from.ensures 0 in
+    let inside = subst (λ v. v < (g.S.FlowStore.network c.args.store.now).vertices) (sym from) (found.search.inside c.args.at c.requires.at) in
+    omega (arith, inside, found.levels_len, c.args.self.now.levels.ok)
+
+pub residual_successors-requires : goal.residual_successors-requires
+residual_successors-requires g c =
+    let found = c.requires.found in
+    let from = get_or_read c.args.self.now.queue.items c.args.at c.index-from.result.now c.requires.at c.index-from.ensures 0 in
+    let inside = subst (λ v. v < (g.S.FlowStore.network c.args.store.now).vertices) (sym from) (found.search.inside c.args.at c.requires.at) in
+    inside
+
+pub loop-end-init : goal.loop-end-init
+loop-end-init g c =
+    let found = c.requires.found in
+    let from = get_or_read c.args.self.now.queue.items c.args.at c.index-from.result.now c.requires.at c.index-from.ensures 0 in
+    let inside = found.search.inside c.args.at c.requires.at in
+    record {
+      found = found;
+      more = c.requires.at;
+      from = sym from;
+      level = sym (get_or_read c.args.self.now.levels.items c.index-from.result.now c.index-level.result.now (omega (arith, inside, from, found.levels_len)) c.index-level.ensures 0);
+      followed = λ i a left l. absurd (omega (arith, l));
+      steps = c.requires.steps;
+    }
+
+pub bounds-end-items-end-index : goal.bounds-end-items-end-index
+bounds-end-items-end-index g c = c.loop-end-test.true
+
+pub overflow_add-level : goal.overflow_add-level
+overflow_add-level g c =
+    let i = c.loop-end.invariant in
+    let low = i.found.search.place c.args.at i.more in
+    let level = sym i.level ∙ ap (slice_index c.loop-end.self.levels.items) (sym i.from) in
+    omega (arith, low, level, i.more, c.loop-end.self.queue.ok)
+
+pub loop-end-smaller : goal.loop-end-smaller
+loop-end-smaller g c = omega (arith, c.loop-end-test.true)
+
+pub add_row-requires-clause-steps : goal.add_row-requires-clause-steps
+add_row-requires-clause-steps g c =
+    let i = c.loop-end.invariant in
+    let steps = c.loop-end.self.steps in
+    subst (λ n. AreSteps n steps.targets.items steps.places.items steps.ends.items) (sym (ap length c.deref-2.ensures.value ∙ i.found.levels_len)) i.steps
+
+pub add_row-requires-clause-from : goal.add_row-requires-clause-from
+add_row-requires-clause-from g c =
+    let i = c.loop-end.invariant in
+    let inside = i.found.search.inside c.args.at i.more in
+    omega (arith, inside, i.from, ap length c.deref-2.ensures.value, i.found.levels_len)
+
+pub returns-clause-steps : goal.returns-clause-steps
+returns-clause-steps g c =
+    let steps = c.add_row.new.self in
+    subst (λ n. AreSteps n steps.targets.items steps.places.items steps.ends.items) (ap length c.deref-2.ensures.value ∙ c.loop-end.invariant.found.levels_len) c.in_ok-add_row.ensures.steps
+
+pub returns-in_err-ends-clause-found : goal.returns-in_err-ends-clause-found
+returns-in_err-ends-clause-found g c = IfOk-from_err _ _ c.from_residual.ensures.0
+
+pub returns-in_err-push-clause-found : goal.returns-in_err-push-clause-found
+returns-in_err-push-clause-found g c = IfOk-from_err _ _ c.from_residual-in_err-push.ensures.0
+
+pub returns-in_err-add_row-clause-found : goal.returns-in_err-add_row-clause-found
+returns-in_err-add_row-clause-found g c = IfOk-from_err _ _ c.from_residual-in_err-add_row.ensures.0
+
+pub returns-in_err-ends-clause-steps : goal.returns-in_err-ends-clause-steps
+returns-in_err-ends-clause-steps g c = IfOk-from_err _ _ c.from_residual.ensures.0
+
+pub returns-in_err-push-clause-steps : goal.returns-in_err-push-clause-steps
+returns-in_err-push-clause-steps g c = IfOk-from_err _ _ c.from_residual-in_err-push.ensures.0
+
+pub returns-in_err-add_row-clause-steps : goal.returns-in_err-add_row-clause-steps
+returns-in_err-add_row-clause-steps g c = IfOk-from_err _ _ c.from_residual-in_err-add_row.ensures.0

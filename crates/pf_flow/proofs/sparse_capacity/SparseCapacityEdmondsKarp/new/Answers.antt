@@ -13,3 +13,15 @@ returns-clause-network g c =
     network_of_fresh (g.met.C.Zero.zero_fits_law exact)
     (empty_fresh value rows c.args.size c.args.source c.args.sink (value c.zero.result) made.empty made.len nought)
     (empty_capacities value rows c.args.source c.args.sink (value c.zero.result) made.empty)
+
+pub returns-clause-fresh : goal.returns-clause-fresh
+returns-clause-fresh g c =
+    let value = g.C.Number.value in
+    let nought = ap value c.zero.ensures ∙ g.met.C.Zero.zero_law g.met.C.Integral.exact_law in
+    let made = c.in_ok-rows.ensures in
+    empty_fresh value c.in_ok-rows.rows.items c.args.size c.args.source c.args.sink (value c.zero.result) made.empty made.len nought
+
+pub returns-clause-capacities : goal.returns-clause-capacities
+returns-clause-capacities g c =
+    let value = g.C.Number.value in
+    empty_capacities value c.in_ok-rows.rows.items c.args.source c.args.sink (value c.zero.result) c.in_ok-rows.ensures.empty
