@@ -19,4 +19,6 @@ mod names;
 #[cfg(test)]
 mod plain;
 #[cfg(test)]
+mod table_parents;
+#[cfg(test)]
 mod tests;

@@ -1,14 +1,14 @@
 //! Each growth refused in turn, of calls for which the tests of no other crate do it: a call answers
 //! that it was out of memory, until no request is refused and it answers as it does with ample memory.
 
+use crate::table_parents::all_from;
 use pathfinding::directed::edmonds_karp::{
     DenseCapacity, Edge, EdmondsKarp, SparseCapacity, edmonds_karp_dense, edmonds_karp_sparse,
 };
 use pathfinding::error::PathError;
 use pathfinding::graphs::{
-    Graph, Rows, bfs_loop, dfs, dijkstra_all, dijkstra_partial, iddfs,
-    strongly_connected_component, strongly_connected_components, topological_sort,
-    topological_sort_into_groups,
+    Graph, Rows, bfs_loop, dfs, dijkstra_partial, iddfs, strongly_connected_component,
+    strongly_connected_components, topological_sort, topological_sort_into_groups,
 };
 use pathfinding::matrix::{Matrix, MatrixFormatError};
 use pathfinding::noderefs::NodeRefs;
@@ -96,7 +96,7 @@ fn is_right_round<G: Graph<u32>>(
 ) -> Result<bool, PathError> {
     match call {
         RoundCall::Parents => {
-            let parents = dijkstra_all(heap, graph, 0)?;
+            let parents = all_from(heap, graph, 0)?;
             Ok(parents.len() == 3 && parents.get(&2).copied() == Some((1, 6)))
         }
         RoundCall::PartOfParents => {
