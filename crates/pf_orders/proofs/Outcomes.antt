@@ -17,3 +17,6 @@ on_refused P (Err e) h = tt
 pub error_of : {T E : Type 0} (r : Result T E) (e f : E) → IsErrAnd r (λ x. x ≡ e) → r ≡ Err f → e ≡ f
 error_of (Ok x) e f h q = absurd h
 error_of (Err x) e f h q = let same : x ≡ e = h in cc
+
+pub ok_is_no_error : {T E : Type 0} {x : T} {e : E} → Ok x ≡ Err e → ⊥
+ok_is_no_error q = cc

@@ -1,5 +1,5 @@
 use Rattle.std.proofs.Common.{refl, ◌≡◌, ◌<◌, ◌≤◌, ◌+◌, ◌∙◌, ◌++◌, ◌∷◌, [], ℕ, List, arith, length, slice_get, Some, subst, sym, ap, map, inl, inr}
-use Rattle.std.specs.Prelude.{Vec, Contains, Ok, Err}
+use Rattle.std.specs.Prelude.{Vec, Contains}
 use Rattle.std.specs.List.{AllZip}
 use Rattle.std.proofs.lemmas.List.{length-replicate}
 use Rattle.std.proofs.lemmas.Option.{slice_get_within}
@@ -9,13 +9,10 @@ use Rattle.pf_core.proofs.ListLemmas.{none_in}
 use Rattle.pf_core.proofs.PathLemmas.{AllZip-map}
 use Rattle.pf_orders.specs.Rounds.{AreCounted}
 use Rattle.pf_orders.proofs.ComponentLists.{at_replicate}
-use Rattle.pf_orders.proofs.Outcomes.{on_refused}
+use Rattle.pf_orders.proofs.Outcomes.{on_refused, ok_is_no_error}
 use Rattle.pf_orders.proofs.OrderLemmas.{step_of, of_step, of_member, node_of_row}
 use Rattle.pf_orders.proofs.RoundLemmas.{counted_none, counted_push, at_push, get_length, only_memory, memory_of}
 use Rattle.pf_orders.proofs.rows.fill_rows.Goals as goal
-
-ok_is_no_error : {T E : Type 0} {x : T} {e : E} → Ok x ≡ Err e → ⊥
-ok_is_no_error q = cc
 
 pub numbers-init : goal.numbers-init
 numbers-init g c =
