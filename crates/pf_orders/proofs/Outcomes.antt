@@ -20,3 +20,7 @@ error_of (Err x) e f h q = let same : x ≡ e = h in cc
 
 pub ok_is_no_error : {T E : Type 0} {x : T} {e : E} → Ok x ≡ Err e → ⊥
 ok_is_no_error q = cc
+
+pub on_any : {T E P : Type 0} (r : Result T E) → P → OnOk r P
+on_any (Ok x) h = h
+on_any (Err e) h = tt
