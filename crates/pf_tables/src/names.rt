@@ -55,8 +55,8 @@ where
     ensures names { IfOk result (λ r. nodes_of r.names.keys ≡ names_of N.eq edges.now) }
     ensures numbered { IfOk result (λ r. r.edges.items ≡ map (λ e. (number_in N.eq (names_of N.eq edges.now) e.0, number_in N.eq (names_of N.eq edges.now) e.1, e.2)) edges.now) }
 {
-    let mut names = IndexSet::new(alloc);
     let mut numbered = Vec::with_capacity(alloc, edges.len())?;
+    let mut names = IndexSet::new(alloc);
     add_edges(&mut names, &mut numbered, edges)?;
     Ok(Numbered {
         names,
