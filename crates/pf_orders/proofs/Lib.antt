@@ -2,6 +2,7 @@ pub mod ComponentLists
 pub mod ComponentPlaces
 pub mod ComponentPaths
 pub mod ComponentNodes
+pub mod Outcomes
 pub mod OrderLemmas
 pub mod SortLemmas
 pub mod RoundLemmas

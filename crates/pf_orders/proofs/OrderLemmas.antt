@@ -72,7 +72,7 @@ to_reverse xs y h = Contains-reverse (reverse xs) y (subst (λ (zs : List _). Co
 pub reverse-push : {A : Type 0} (xs : List A) (x : A) → reverse (xs ++ x ∷ []) ≡ x ∷ reverse xs
 reverse-push xs x = reverse-append xs (x ∷ [])
 
-entries-append : (xs ys : List ℕ) → entries (xs ++ ys) ≡ entries xs ++ entries ys
+pub entries-append : (xs ys : List ℕ) → entries (xs ++ ys) ≡ entries xs ++ entries ys
 entries-append [] ys = refl
 entries-append (x ∷ xs) ys = ap (λ ts. Turn.Enter x ∷ ts) (entries-append xs ys)
 

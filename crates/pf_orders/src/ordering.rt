@@ -1,6 +1,6 @@
 //! Numbers in topological order (depth-first search).
 
-ghost use Rattle.std.specs.Prelude.{◌≡◌, ◌<◌, ◌≤◌, ◌+◌, ◌-◌, ◌++◌, ◌∷◌, [], ℕ, List, Contains, IfOk, IfErr, OnOk, length, slice_set, replicate, reverse, map};
+ghost use Rattle.std.specs.Prelude.{◌≡◌, ◌<◌, ◌≤◌, ◌+◌, ◌-◌, ◌++◌, ◌∷◌, [], ℕ, List, Contains, IfOk, IfErr, IfSome, IfNone, OnOk, length, slice_set, replicate, reverse, map};
 ghost use Rattle.std.specs.List.{AllZip};
 ghost use Rattle.pf_core.specs.Numbered.{Grows};
 ghost use Rattle.pf_orders.specs.Orderings.{entries, IsOrderedReach, IsOnNumberedCycle};
@@ -116,6 +116,52 @@ impl<A: Allocator + Copy> Sorting<A> {
         self.left.push(number)?;
         Ok(())
     }
+
+    /// Takes turn after turn, from the beginning to the end, or to a number on a cycle, which it
+    /// answers. Each node that is expanded is one tick.
+    fn walk_on<C: Cost, G: NumberedGraph<C>>(
+        &mut self,
+        graph: &mut G,
+        tally: &mut Tally,
+    ) -> Result<Option<usize>, PathError>
+        requires graph { (g : G.Graph) × G.explores graph.old g }
+        requires marks { self.old.marks.items ≡ replicate (G.found graph.old) Mark.New }
+        requires turns { ((k : ℕ) → k < G.found graph.old → Contains self.old.turns.items (Turn.Enter k)) × ((t : Turn) → Contains self.old.turns.items t → (k : ℕ) × (k < G.found graph.old) × (t ≡ Turn.Enter k)) }
+        requires left { self.old.left.items ≡ [] }
+        ensures grows { Grows (G.found graph.old) (G.found graph.new) (G.stands graph.old) (G.stands graph.new) }
+        ensures graph { (g : G.Graph) → G.explores graph.old g → G.explores graph.new g }
+        ensures order { (g : G.Graph) → G.explores graph.old g
+            → IfOk result (λ answer. IfNone answer (IsOrderedReach (G.successors g) (G.stands graph.new) (G.found graph.old) (G.found graph.new) (reverse self.new.left.items))) }
+        ensures cycle { IfOk result (λ answer. IfSome answer (λ number. number < G.found graph.new)) }
+        ensures on_cycle { (g : G.Graph) → G.explores graph.old g
+            → IfOk result (λ answer. IfSome answer (λ number. IsOnNumberedCycle (G.successors g) (G.stands graph.new) number)) }
+        ensures ticked { tally.old ≤ tally.new }
+        ensures asked { tally.new ≤ tally.old + G.found graph.new }
+        ensures refused { IfErr result (λ e. e ≡ PathError.OutOfMemory) }
+    {
+        'turns: while let Some(turn) = self.turns.pop() {
+            match turn {
+                Turn::Enter(number) => match self.marks[number] {
+                    Mark::New => {
+                        tally.tick();
+                        self.enter(graph, number)?;
+                    }
+                    Mark::Open => return Ok(Some(number)),
+                    Mark::Done => {}
+                },
+                Turn::Leave(number) => self.leave(number)?,
+            }
+        }
+        Ok(None)
+    }
+
+    /// The numbers that were left, the last one first.
+    fn into_order(mut self) -> Vec<usize, A>
+        ensures { result.items ≡ reverse self.left.items }
+    {
+        self.left.reverse();
+        self.left
+    }
 }
 
 /// The numbers of all nodes in reach of those found before, each once, so that each step leads
@@ -138,19 +184,10 @@ pub fn sort_numbers<C: Cost, G: NumberedGraph<C>, A: Allocator + Copy>(
     ensures errors { IfErr result (λ e. e ≡ PathError.OutOfMemory) }
 {
     let mut walk = Sorting::begin(alloc, graph.found())?;
-    'turns: while let Some(turn) = walk.turns.pop() {
-        match turn {
-            Turn::Enter(number) => match walk.marks[number] {
-                Mark::New => {
-                    tally.tick();
-                    walk.enter(graph, number)?;
-                }
-                Mark::Open => return Ok(Err(number)),
-                Mark::Done => {}
-            },
-            Turn::Leave(number) => walk.leave(number)?,
-        }
+    let cycle = walk.walk_on(graph, tally);
+    let order = walk.into_order();
+    match cycle? {
+        Some(number) => Ok(Err(number)),
+        None => Ok(Ok(order)),
     }
-    walk.left.reverse();
-    Ok(Ok(walk.left))
 }

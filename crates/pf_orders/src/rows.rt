@@ -1,6 +1,6 @@
 //! The numbers that follow each number, and how often each one follows.
 
-ghost use Rattle.std.specs.Prelude.{◌≡◌, ◌⊎◌, ◌<◌, ℕ, Err, Some, Vec, IfOk, IfErr, OnOk, Contains, length, slice_get, nat_eq};
+ghost use Rattle.std.specs.Prelude.{◌≡◌, ◌⊎◌, ◌<◌, [], ℕ, replicate, Err, Some, Vec, IfOk, IfErr, OnOk, Contains, length, slice_get, nat_eq};
 ghost use Rattle.std.specs.List.{AllZip};
 ghost use Rattle.pf_base.specs.Walks.{HasNode};
 ghost use Rattle.pf_core.specs.Numbered.{Grows, StandsBelow};
@@ -23,6 +23,42 @@ fn count_row<A: Allocator>(row: &[usize], counts: &mut Vec<usize, A>) -> Result<
             return Err(PathError::OutOfMemory);
         };
         counts[*target] = count;
+    }
+    Ok(())
+}
+
+/// Puts the row of each number found before at the end, and counts its numbers. Refused where a node
+/// follows that was not found before.
+fn fill_rows<C: Cost, G: NumberedGraph<C>, A: Allocator + Copy>(
+    alloc: A,
+    graph: &mut G,
+    rows: &mut Rows<A>,
+    counts: &mut Vec<usize, A>,
+) -> Result<(), PathError>
+    requires graph { (g : G.Graph) × G.explores graph.old g }
+    requires begins { (k : ℕ) → k < G.found graph.old → (s : G.Node) × G.stands graph.old k s }
+    requires empty { rows.old.items ≡ [] }
+    requires zeros { counts.old.items ≡ replicate (G.found graph.old) 0 }
+    ensures graph { (g : G.Graph) → G.explores graph.old g → G.explores graph.new g }
+    ensures grows { Grows (G.found graph.old) (G.found graph.new) (G.stands graph.old) (G.stands graph.new) }
+    ensures same { OnOk result (G.found graph.new ≡ G.found graph.old) }
+    ensures counted { OnOk result (AreCounted rows.new.items counts.new.items) }
+    ensures wide { OnOk result (length rows.new.items ≡ G.found graph.old) }
+    ensures long { OnOk result (length counts.new.items ≡ G.found graph.old) }
+    ensures listed { (g : G.Graph) → G.explores graph.old g → OnOk result ((k : ℕ) (row : Vec ℕ A) (x : G.Node) → slice_get rows.new.items k ≡ Some row → G.stands graph.new k x → AllZip (G.stands graph.new) row.items (G.successors g x)) }
+    ensures unknown { (g : G.Graph) → G.explores graph.old g → result ≡ Err PathError.UnknownVertex
+        → (x : G.Node) × (y : G.Node) × StandsBelow (G.found graph.old) (G.stands graph.new) x × Contains (G.successors g x) y × ¬ (StandsBelow (G.found graph.old) (G.stands graph.new) y) }
+    ensures errors { IfErr result (λ e. (e ≡ PathError.OutOfMemory) ⊎ (e ≡ PathError.UnknownVertex)) }
+{
+    let count = graph.found();
+    'numbers: for number in 0..count {
+        let mut row = Vec::new(alloc);
+        graph.expand(number, &mut row)?;
+        if graph.found() > count {
+            return Err(PathError::UnknownVertex);
+        }
+        count_row(&row, counts)?;
+        rows.push(row)?;
     }
     Ok(())
 }
@@ -50,14 +86,6 @@ pub fn read_rows<C: Cost, G: NumberedGraph<C>, A: Allocator + Copy>(
     let mut rows = Vec::with_capacity(alloc, count)?;
     let mut counts = Vec::new(alloc);
     counts.resize(count, 0)?;
-    'numbers: for number in 0..count {
-        let mut row = Vec::new(alloc);
-        graph.expand(number, &mut row)?;
-        if graph.found() > count {
-            return Err(PathError::UnknownVertex);
-        }
-        count_row(&row, &mut counts)?;
-        rows.push(row)?;
-    }
+    fill_rows(alloc, graph, &mut rows, &mut counts)?;
     Ok((rows, counts))
 }

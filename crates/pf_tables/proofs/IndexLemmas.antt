@@ -1,8 +1,8 @@
 -- The order in which nodes are found, and the number of each.
-use Rattle.std.proofs.Common.{ℕ, zero, suc, ◌+◌, ◌≡◌, refl, sym, ◌∙◌, ap, subst, arith, false, List, [], ◌∷◌, ◌++◌, length, inl, inr, Some, None, take, nat_eq, map, Option, add-one}
+use Rattle.std.proofs.Common.{ℕ, zero, suc, ◌+◌, ◌<◌, ◌≡◌, refl, sym, ◌∙◌, ap, subst, arith, false, List, [], ◌∷◌, ◌++◌, length, inl, inr, Some, None, take, replicate, nat_eq, map, Option, add-one}
 use Rattle.std.specs.Prelude.{slice_get, slice_set, ◌⊎◌}
-use Rattle.std.proofs.lemmas.List.{map-append, append-nil}
-use Rattle.std.proofs.lemmas.Option.{slice_get_within}
+use Rattle.std.proofs.lemmas.List.{map-append, append-nil, length-replicate, get_or-replicate}
+use Rattle.std.proofs.lemmas.Option.{slice_get_within, slice_get-get_or}
 use borrow.Author.Tests.{eqb-true}
 use Rattle.pf_core.proofs.ListLemmas.{bool_dec, get_set, get-append, none_in}
 use Rattle.pf_tables.specs.Numbering.{IsIndex, present, steps_at}
@@ -103,3 +103,24 @@ module _ {C : Type 0} (places : List (Option (ℕ × C))) (i : ℕ) where
 
   pub steps_same : slice_get places i ≡ Some None → steps_at (take (i + 1) places) ≡ steps_at (take i places)
   steps_same h = ap (map (λ (e : ℕ × C). (e.0, 1))) (present_same places i h)
+
+-- a list of zeros has 0 at each place
+pub zeros_at : (xs : List ℕ) (n : ℕ) → xs ≡ replicate n 0 → (k : ℕ) → k < n → slice_get xs k ≡ Some 0
+zeros_at xs n e k h =
+    let room : k < length (replicate n 0) = omega (arith, h, length-replicate {A = ℕ} n 0) in
+    ap (λ ys. slice_get ys k) e ∙ slice_get-get_or (replicate n 0) k 0 room ∙ ap (λ (m : ℕ). Some m) (get_or-replicate n k 0 0 h)
+
+-- the first node has the number 0
+pub first_index : (numbers : List ℕ) (size node : ℕ) → numbers ≡ replicate size 0 → node < size → IsIndex (node ∷ []) (slice_set numbers node 1)
+first_index numbers size node e l = index_push [] numbers node none (zeros_at numbers size e node l)
+  where
+    none : IsIndex [] numbers
+    none = record {
+      at = λ k x h. absurd (none_in k x h);
+      back = λ k x h.
+          let inside = slice_get_within numbers x (k + 1) h in
+          let zero = zeros_at numbers size e x (omega (arith, inside, ap length e, length-replicate {A = ℕ} size 0)) in
+          let both : Some 0 ≡ Some (k + 1) = sym zero ∙ h in
+          let same : 0 ≡ k + 1 = cc in
+          absurd (omega (arith, same));
+    }

@@ -11,8 +11,8 @@ ghost use Rattle.pf_tables.specs.EdgeLists.{AreNumbered, CostsFromZeroTo, HasEdg
 use crate::checks::is_negative;
 use crate::error::EdgeListError;
 use crate::graph::Graph;
-use crate::layout::{offsets_of, targets_of};
-use crate::names::{Names, Numbered, number_edges};
+use crate::layout::lay_out;
+use crate::names::{Names, Numbered, names_at, number_edges};
 use pf_base::{Cost, PathError};
 use std::alloc::{Allocator, Global};
 use std::hash::Hash;
@@ -80,9 +80,7 @@ impl<'e, N: Eq + Hash, C: Cost, A: Allocator + Copy> EdgeList<'e, N, C, A> {
             return Err(EdgeListError::NegativeCost { edge });
         }
         let numbered = number_edges(alloc, edges)?;
-        let nodes = numbered.names.len();
-        let offsets = offsets_of(alloc, nodes, &numbered.edges)?;
-        let targets = targets_of(alloc, nodes, &offsets, &numbered.edges)?;
+        let (offsets, targets) = lay_out(alloc, numbered.names.len(), &numbered.edges)?;
         let Numbered { names, edges: _ } = numbered;
         Ok(EdgeList {
             edges,
@@ -128,11 +126,7 @@ impl<'e, N: Eq + Hash, C: Cost, A: Allocator> EdgeList<'e, N, C, A> {
         ensures names { IfOk result (λ names. AllZip (λ node name. slice_get (names_of N.eq self.now) node ≡ Some name) nodes.now (nodes_of names.items)) }
         ensures refused { IfErr result (λ e. e ≡ PathError.OutOfMemory) }
     {
-        let mut names = Vec::with_capacity(alloc, nodes.len())?;
-        for node in nodes {
-            names.push(self.name_of(*node))?;
-        }
-        Ok(names)
+        names_at(alloc, self.names.as_slice(), nodes)
     }
 }
 

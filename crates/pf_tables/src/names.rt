@@ -1,11 +1,12 @@
 //! Names that are numbered in the order in which they are first met.
 
-ghost use Rattle.std.specs.Prelude.{◌≡◌, [], map, IfOk, OnOk};
+ghost use Rattle.std.specs.Prelude.{◌≡◌, ◌<◌, ℕ, [], Some, Contains, map, length, slice_get, IfOk, IfErr, OnOk};
+ghost use Rattle.std.specs.List.{AllZip};
 ghost use Rattle.pf_base.specs.NodeRefs.{nodes_of};
 ghost use Rattle.pf_tables.specs.EdgeLists.{names_of, number_in};
 
 use indexmap::IndexSet;
-use pf_base::Cost;
+use pf_base::PathError;
 use std::alloc::{AllocError, Allocator};
 use std::hash::{BuildHasherDefault, FoldHasher, Hash};
 
@@ -27,7 +28,7 @@ fn add_edges<'e, N, C, A>(
 ) -> Result<(), AllocError>
 where
     N: Eq + Hash,
-    C: Cost,
+    C: Copy,
     A: Allocator + Copy,
     requires first { names.old.keys ≡ [] }
     requires none { numbered.old.items ≡ [] }
@@ -49,16 +50,33 @@ pub fn number_edges<'e, N, C, A>(
 ) -> Result<Numbered<'e, N, C, A>, AllocError>
 where
     N: Eq + Hash,
-    C: Cost,
+    C: Copy,
     A: Allocator + Copy,
     ensures names { IfOk result (λ r. nodes_of r.names.keys ≡ names_of N.eq edges.now) }
     ensures numbered { IfOk result (λ r. r.edges.items ≡ map (λ e. (number_in N.eq (names_of N.eq edges.now) e.0, number_in N.eq (names_of N.eq edges.now) e.1, e.2)) edges.now) }
 {
-    let mut names = IndexSet::new(alloc);
     let mut numbered = Vec::with_capacity(alloc, edges.len())?;
+    let mut names = IndexSet::new(alloc);
     add_edges(&mut names, &mut numbered, edges)?;
     Ok(Numbered {
         names,
         edges: numbered,
     })
+}
+
+/// The names that have these numbers, in their order.
+pub fn names_at<'e, N, A: Allocator + Copy>(
+    alloc: A,
+    names: &[&'e N],
+    numbers: &[usize],
+) -> Result<Vec<&'e N, A>, PathError>
+    requires { (k : ℕ) → Contains numbers.now k → k < length names.now }
+    ensures names { IfOk result (λ answer. AllZip (λ number name. slice_get (nodes_of names.now) number ≡ Some name) numbers.now (nodes_of answer.items)) }
+    ensures refused { IfErr result (λ e. e ≡ PathError.OutOfMemory) }
+{
+    let mut answer = Vec::with_capacity(alloc, numbers.len())?;
+    'numbers: for number in numbers {
+        answer.push(names[*number])?;
+    }
+    Ok(answer)
 }

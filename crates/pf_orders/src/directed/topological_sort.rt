@@ -1,7 +1,9 @@
 //! Topological orders.
 
 ghost use Rattle.std.specs.Prelude.{◌≡◌, ◌≤◌, ◌-◌, List, IfOk, IfErr};
+ghost use Rattle.std.specs.List.{IsDistinct};
 ghost use Rattle.pf_base.specs.Answers.{IsLawfulClone};
+ghost use Rattle.pf_base.specs.NodeRefs.{HasSameNodes};
 ghost use Rattle.pf_base.specs.Successors.{HasSuccessor};
 ghost use Rattle.pf_base.specs.Walks.{IsReachable, IsAtMostNumberOf};
 ghost use Rattle.pf_orders.specs.TopologicalOrders.{IsTopologicalOrder, IsOnCycle};
@@ -59,6 +61,50 @@ where
     topological_sort_tallied(alloc, roots, successors, &mut tally)
 }
 
+/// The nodes of a graph that was not yet asked, and those in reach of them, in order.
+fn order_in<N, IN, FN, A>(
+    alloc: A,
+    graph: &mut Discovery<N, Unweighted, IN, FN, A>,
+    tally: &mut Tally,
+) -> Result<Result<Vec<N, A>, N>, PathError>
+where
+    N: Eq + Hash + Clone + Drop,
+    IN: IntoIterator<Item = N>,
+    FN: FnMut(&N) -> IN,
+    A: Allocator + Copy,
+    requires clones { IsLawfulClone N.eq N.is_clone }
+    requires distinct { IsDistinct N.eq graph.old.nodes.keys }
+    requires graph { (roots : List N) × (next : N → List N) × HasSameNodes N.eq graph.old.nodes.keys roots
+        × ⟦<FN as SuccessorFunction<N>>⟧.answers graph.old.successors (IsReachable N.eq (HasSuccessor N.eq next) roots) next }
+
+    ensures order { (roots : List N) (next : N → List N) → HasSameNodes N.eq graph.old.nodes.keys roots
+        → ⟦<FN as SuccessorFunction<N>>⟧.answers graph.old.successors (IsReachable N.eq (HasSuccessor N.eq next) roots) next
+        → IfOk result (λ answer. IfOk answer (λ order. IsTopologicalOrder N.eq next (IsReachable N.eq (HasSuccessor N.eq next) roots) order.items)) }
+
+    ensures cycle { (roots : List N) (next : N → List N) → HasSameNodes N.eq graph.old.nodes.keys roots
+        → ⟦<FN as SuccessorFunction<N>>⟧.answers graph.old.successors (IsReachable N.eq (HasSuccessor N.eq next) roots) next
+        → IfOk result (λ answer. IfErr answer (λ node. IsReachable N.eq (HasSuccessor N.eq next) roots node × IsOnCycle N.eq next node)) }
+
+    ensures asked { (roots : List N) (next : N → List N) → HasSameNodes N.eq graph.old.nodes.keys roots
+        → ⟦<FN as SuccessorFunction<N>>⟧.answers graph.old.successors (IsReachable N.eq (HasSuccessor N.eq next) roots) next
+        → IsAtMostNumberOf N.eq (IsReachable N.eq (HasSuccessor N.eq next) roots) (tally.new - tally.old) }
+
+    ensures ticked { tally.old ≤ tally.new }
+
+    ensures errors { IfErr result (λ e. e ≡ PathError.OutOfMemory) }
+{
+    match sort_numbers::<u8, _, _>(alloc, graph, tally)? {
+        Ok(numbers) => {
+            let order = clones_at(alloc, graph.nodes.as_slice(), &numbers)?;
+            Ok(Ok(order))
+        }
+        Err(number) => {
+            let node = graph.nodes.as_slice()[number].clone()?;
+            Ok(Err(node))
+        }
+    }
+}
+
 /// The same as `topological_sort`, with one tick of `tally` for each node whose successors are asked
 /// for: at most as many as there are nodes in reach of the roots, also where memory is refused.
 ///
@@ -97,14 +143,5 @@ where
         successors,
         form: PhantomData,
     };
-    match sort_numbers::<u8, _, _>(alloc, &mut graph, tally)? {
-        Ok(numbers) => {
-            let order = clones_at(alloc, graph.nodes.as_slice(), &numbers)?;
-            Ok(Ok(order))
-        }
-        Err(number) => {
-            let node = graph.nodes.as_slice()[number].clone()?;
-            Ok(Err(node))
-        }
-    }
+    order_in(alloc, &mut graph, tally)
 }

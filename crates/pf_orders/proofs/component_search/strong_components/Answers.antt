@@ -1,7 +1,19 @@
-use Rattle.std.proofs.Common.{arith}
+use Rattle.std.proofs.Common.{arith, refl}
+use Rattle.std.proofs.lemmas.Result.{IfOk-from_err}
 use Rattle.pf_core.proofs.SearchLemmas.{Grows-trans}
 use Rattle.pf_orders.proofs.ComponentPaths.{path_new, closing_new, numbered_all}
+use Rattle.pf_orders.proofs.Outcomes.{refused_as}
 use Rattle.pf_orders.proofs.component_search.strong_components.Goals as goal
+
+pub returns-in_err-search : goal.returns-in_err-search
+returns-in_err-search g c =
+    let r = c.from_residual in
+    record {
+      grows = record { more = omega arith; stays = λ k x h. h; back = λ k x i h. h };
+      graph = λ h x. x;
+      numbered = IfOk-from_err _ _ r.ensures.0;
+      refused = refused_as _ r.result _ r.ensures.1 c.in_err-search.ensures.refused;
+    }
 
 pub turns-init : goal.turns-init
 turns-init g c =
@@ -15,30 +27,33 @@ turns-init g c =
       closing = λ h x. rw e.components (closing_new (g.G.NumberedGraph.step h) (g.G.NumberedGraph.stands c.args.graph.now));
     }
 
-pub returns-then-not-branch-clause-numbered : goal.returns-then-not-branch-clause-numbered
-returns-then-not-branch-clause-numbered g c = λ h x.
-    let v = c.turns.invariant in
-    let e = c.in_ok-turn.ensures in
-    let done = e.ended c.if-not-branch.true in
-    numbered_all _ _ _ _ _ _ _ _ e.placed done.0 done.1 (e.closing h (v.explored h x) (v.path h x) (v.closing h x))
+pub turn-requires : goal.turn-requires
+turn-requires g c = record {
+  graph = let r = c.requires.graph in (r.0, c.turns.invariant.explored r.0 r.1);
+  placed = c.turns.invariant.placed;
+}
 
-pub turn-requires-clause-graph : goal.turn-requires-clause-graph
-turn-requires-clause-graph g c = let r = c.requires.graph in (r.0, c.turns.invariant.explored r.0 r.1)
+pub returns-in_err-turn : goal.returns-in_err-turn
+returns-in_err-turn g c =
+    let r = c.from_residual-in_err-turn in
+    record {
+      grows = Grows-trans _ _ _ _ _ _ c.turns.invariant.grown c.in_err-turn.ensures.grows;
+      graph = λ h x. c.in_err-turn.ensures.graph h (c.turns.invariant.explored h x);
+      numbered = IfOk-from_err _ _ r.ensures.0;
+      refused = refused_as _ r.result _ r.ensures.1 c.in_err-turn.ensures.refused;
+    }
 
-pub turn-requires-clause-placed : goal.turn-requires-clause-placed
-turn-requires-clause-placed g c = c.turns.invariant.placed
-
-pub returns-in_err-turn-clause-grows : goal.returns-in_err-turn-clause-grows
-returns-in_err-turn-clause-grows g c = Grows-trans _ _ _ _ _ _ c.turns.invariant.grown c.in_err-turn.ensures.grows
-
-pub returns-in_err-turn-clause-graph : goal.returns-in_err-turn-clause-graph
-returns-in_err-turn-clause-graph g c = λ h x. c.in_err-turn.ensures.graph h (c.turns.invariant.explored h x)
-
-pub returns-then-not-branch-clause-grows : goal.returns-then-not-branch-clause-grows
-returns-then-not-branch-clause-grows g c = Grows-trans _ _ _ _ _ _ c.turns.invariant.grown c.in_ok-turn.ensures.grows
-
-pub returns-then-not-branch-clause-graph : goal.returns-then-not-branch-clause-graph
-returns-then-not-branch-clause-graph g c = λ h x. c.in_ok-turn.ensures.graph h (c.turns.invariant.explored h x)
+pub returns-then-not-branch : goal.returns-then-not-branch
+returns-then-not-branch g c = record {
+  grows = Grows-trans _ _ _ _ _ _ c.turns.invariant.grown c.in_ok-turn.ensures.grows;
+  graph = λ h x. c.in_ok-turn.ensures.graph h (c.turns.invariant.explored h x);
+  numbered = λ h x.
+      let v = c.turns.invariant in
+      let e = c.in_ok-turn.ensures in
+      let done = e.ended c.if-not-branch.true in
+      numbered_all _ _ _ _ _ _ _ _ e.placed done.0 done.1 (e.closing h (v.explored h x) (v.path h x) (v.closing h x));
+  refused = tt;
+}
 
 pub turns-preserved : goal.turns-preserved
 turns-preserved g c =
@@ -52,8 +67,10 @@ turns-preserved g c =
       closing = λ h x. e.closing h (v.explored h x) (v.path h x) (v.closing h x);
     }
 
-pub returns-clause-grows : goal.returns-clause-grows
-returns-clause-grows g c = c.turns.invariant.grown
-
-pub returns-clause-graph : goal.returns-clause-graph
-returns-clause-graph g c = c.turns.invariant.explored
+pub returns : goal.returns
+returns g c = record {
+  grows = c.turns.invariant.grown;
+  graph = c.turns.invariant.explored;
+  numbered = tt;
+  refused = refl;
+}

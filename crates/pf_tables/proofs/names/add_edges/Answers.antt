@@ -3,8 +3,39 @@ use Rattle.std.proofs.lemmas.Option.{slice_get_read}
 use Rattle.indexmap.specs.IndexSet.{insert_key}
 use Rattle.pf_base.specs.NodeRefs.{nodes_of}
 use Rattle.pf_tables.specs.EdgeLists.{names_of, number_in}
+use Rattle.pf_tables.proofs.Outcomes.{on_refused}
 use Rattle.pf_tables.proofs.NumberedNames.{numbered, more_names, more_numbers, refs_insert, refs_number}
 use Rattle.pf_tables.proofs.names.add_edges.Goals as goal
+
+pub loop-edge-init : goal.loop-edge-init
+loop-edge-init g c = record {
+  names = ap nodes_of c.requires.first;
+  numbered = c.requires.none;
+}
+
+pub returns-in_err-from : goal.returns-in_err-from
+returns-in_err-from g c =
+    let r = c.from_residual in
+    record {
+      names = on_refused _ _ r.ensures.0;
+      numbered = on_refused _ _ r.ensures.0;
+    }
+
+pub returns-in_err-to : goal.returns-in_err-to
+returns-in_err-to g c =
+    let r = c.from_residual-in_err-to in
+    record {
+      names = on_refused _ _ r.ensures.0;
+      numbered = on_refused _ _ r.ensures.0;
+    }
+
+pub returns-in_err-push : goal.returns-in_err-push
+returns-in_err-push g c =
+    let r = c.from_residual-in_err-push in
+    record {
+      names = on_refused _ _ r.ensures.0;
+      numbered = on_refused _ _ r.ensures.0;
+    }
 
 pub loop-edge-preserved : goal.loop-edge-preserved
 loop-edge-preserved g c =
@@ -28,7 +59,8 @@ loop-edge-preserved g c =
           ∙ more_numbers laws edges i e stands;
     }
 
-pub returns-clause-numbered : goal.returns-clause-numbered
-returns-clause-numbered g c =
-    let eq = g.N.PartialEq.eq in
-    c.loop-edge.invariant.numbered ∙ ap (λ es. map (numbered eq (names_of eq es)) es) (take_all c.loop-edge.edge-index c.args.edges.now c.loop-edge-test.false)
+pub returns : goal.returns
+returns g c = record {
+  names = c.loop-edge.invariant.names ∙ ap (names_of g.N.PartialEq.eq) (take_all c.loop-edge.edge-index c.args.edges.now c.loop-edge-test.false);
+  numbered = let eq = g.N.PartialEq.eq in c.loop-edge.invariant.numbered ∙ ap (λ es. map (numbered eq (names_of eq es)) es) (take_all c.loop-edge.edge-index c.args.edges.now c.loop-edge-test.false);
+}

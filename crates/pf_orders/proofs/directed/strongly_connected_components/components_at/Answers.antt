@@ -1,7 +1,21 @@
+use Rattle.std.proofs.Common.{refl}
 use Rattle.std.proofs.lemmas.List.{map-append}
+use Rattle.std.proofs.lemmas.Result.{IfOk-from_err}
 use Rattle.pf_orders.specs.Components.{lists_of}
 use Rattle.pf_orders.proofs.ComponentLists.{contained_at, zip_one_more, list_at}
+use Rattle.pf_orders.proofs.Outcomes.{refused_as}
 use Rattle.pf_orders.proofs.directed.strongly_connected_components.components_at.Goals as goal
+
+pub returns-in_err-answer : goal.returns-in_err-answer
+returns-in_err-answer g c =
+    let r = c.from_residual in
+    record {
+      nodes = IfOk-from_err _ _ r.ensures.0;
+      refused = refused_as _ r.result _ r.ensures.1 refl;
+    }
+
+pub components-init : goal.components-init
+components-init g c = rw c.in_ok-answer.ensures.items tt
 
 pub clones_at-requires-clause-inside : goal.clones_at-requires-clause-inside
 clones_at-requires-clause-inside g c = λ k h.
@@ -9,6 +23,22 @@ clones_at-requires-clause-inside g c = λ k h.
     let at = list_at c.args.components.now i c.component-item.result c.components-test.true c.component-item.is in
     let p = contained_at c.component-item.result.items k (rw c.deref.ensures.value at h) in
     c.requires.inside i k (c.component-item.result.items, p.0, at, p.1)
+
+pub returns-in_err-clones : goal.returns-in_err-clones
+returns-in_err-clones g c =
+    let r = c.from_residual-in_err-clones in
+    record {
+      nodes = IfOk-from_err _ _ r.ensures.0;
+      refused = refused_as _ r.result _ r.ensures.1 c.in_err-clones.ensures.refused;
+    }
+
+pub returns-in_err-push : goal.returns-in_err-push
+returns-in_err-push g c =
+    let r = c.from_residual-in_err-push in
+    record {
+      nodes = IfOk-from_err _ _ r.ensures.0;
+      refused = refused_as _ r.result _ r.ensures.1 refl;
+    }
 
 pub components-preserved : goal.components-preserved
 components-preserved g c =

@@ -1,9 +1,50 @@
-use Rattle.std.proofs.Common.{rules, ◌≡◌, ◌<◌, ◌++◌, ℕ, sym, subst, arith, inl, inr, List, [], ◌∷◌}
+use Rattle.std.proofs.Common.{rules, refl, ◌≡◌, ◌<◌, ◌++◌, ℕ, sym, subst, arith, inl, inr, List, [], ◌∷◌}
 use Rattle.std.specs.Prelude.{Contains, reverse}
+use Rattle.std.proofs.lemmas.Result.{IfOk-from_err}
 use Rattle.pf_core.proofs.ListLemmas.{nat_dec, Contains-append_one, Contains-reverse}
 use Rattle.pf_orders.specs.declared.ordering.Turn.{Turn}
+use Rattle.pf_orders.specs.declared.ordering.Mark.TheVariants.{New}
+use Rattle.pf_orders.proofs.ComponentLists.{resized_none}
+use Rattle.pf_orders.proofs.Outcomes.{refused_as}
 use Rattle.pf_orders.proofs.OrderLemmas.{Contains-left, Contains-last, to_reverse}
 use Rattle.pf_orders.proofs.ordering.Sorting.begin.Goals as goal
+
+pub returns-in_err-resize : goal.returns-in_err-resize
+returns-in_err-resize g c =
+    let r = c.from_residual in
+    record {
+      marks = IfOk-from_err _ _ r.ensures.0;
+      turns = IfOk-from_err _ _ r.ensures.0;
+      left = IfOk-from_err _ _ r.ensures.0;
+      refused = refused_as _ r.result _ r.ensures.1 refl;
+    }
+
+pub returns-in_err-turns : goal.returns-in_err-turns
+returns-in_err-turns g c =
+    let r = c.from_residual-in_err-turns in
+    record {
+      marks = IfOk-from_err _ _ r.ensures.0;
+      turns = IfOk-from_err _ _ r.ensures.0;
+      left = IfOk-from_err _ _ r.ensures.0;
+      refused = refused_as _ r.result _ r.ensures.1 refl;
+    }
+
+pub roots-init : goal.roots-init
+roots-init g c = record {
+  marks = resized_none c.args.found _ c.new-marks.result.items _ New c.in_ok-resize.ensures.items c.new-marks.ensures.items c.new-marks.ensures.len;
+  listed = λ k l. absurd (omega (arith, l));
+  only = λ t h. absurd (let i = subst (λ (ts : List Turn). Contains ts t) c.in_ok-turns.ensures.items h in omega (arith, i.1));
+}
+
+pub returns-in_err-push : goal.returns-in_err-push
+returns-in_err-push g c =
+    let r = c.from_residual-in_err-push in
+    record {
+      marks = IfOk-from_err _ _ r.ensures.0;
+      turns = IfOk-from_err _ _ r.ensures.0;
+      left = IfOk-from_err _ _ r.ensures.0;
+      refused = refused_as _ r.result _ r.ensures.1 refl;
+    }
 
 pub roots-preserved : goal.roots-preserved
 roots-preserved g c =

@@ -1,4 +1,4 @@
-use Rattle.std.proofs.Common.{rules, ◌≡◌, ◌∙◌, ◌++◌, ℕ, sym, subst, ap, List, [], ◌∷◌}
+use Rattle.std.proofs.Common.{rules, refl, arith, ◌≡◌, ◌∙◌, ◌++◌, ℕ, sym, subst, ap, List, [], ◌∷◌}
 use Rattle.std.specs.Prelude.{Contains, reverse}
 use Rattle.std.specs.List.{AllZip}
 use Rattle.std.proofs.lemmas.List.{append_assoc}
@@ -6,8 +6,63 @@ use Rattle.pf_core.proofs.DepthFirstLemmas.{ends_stand}
 use Rattle.pf_core.proofs.ListLemmas.{on_ok}
 use Rattle.pf_orders.specs.declared.ordering.Turn.{Turn}
 use Rattle.pf_orders.specs.Orderings.{entries}
+use Rattle.pf_orders.proofs.Outcomes.{refused_as, on_refused, on_any}
 use Rattle.pf_orders.proofs.OrderLemmas.{step_of}
 use Rattle.pf_orders.proofs.ordering.Sorting.enter.Goals as goal
+
+pub expand-requires : goal.expand-requires
+expand-requires g c = record {
+  inside = c.requires.inside;
+  graph = c.requires.graph;
+}
+
+pub returns-in_err-expand : goal.returns-in_err-expand
+returns-in_err-expand g c =
+    let r = c.from_residual in
+    record {
+      grows = c.in_err-expand.ensures.grows;
+      graph = c.in_err-expand.ensures.graph;
+      marks = on_refused _ _ r.ensures.0;
+      left = on_refused _ _ r.ensures.0;
+      turns = on_refused _ _ r.ensures.0;
+      refused = refused_as _ r.result _ r.ensures.1 c.in_err-expand.ensures.refused.0;
+    }
+
+pub index_mut-requires : goal.index_mut-requires
+index_mut-requires g c = omega (arith, c.requires.inside, c.requires.marked, c.args.self.now.marks.ok)
+
+pub returns-in_err-resize : goal.returns-in_err-resize
+returns-in_err-resize g c =
+    let r = c.from_residual-in_err-resize in
+    record {
+      grows = c.in_ok-expand.ensures.grows;
+      graph = c.in_ok-expand.ensures.graph;
+      marks = on_refused _ _ r.ensures.0;
+      left = on_refused _ _ r.ensures.0;
+      turns = on_refused _ _ r.ensures.0;
+      refused = refused_as _ r.result _ r.ensures.1 refl;
+    }
+
+pub returns-in_err-push : goal.returns-in_err-push
+returns-in_err-push g c =
+    let r = c.from_residual-in_err-push in
+    record {
+      grows = c.in_ok-expand.ensures.grows;
+      graph = c.in_ok-expand.ensures.graph;
+      marks = on_refused _ _ r.ensures.0;
+      left = on_refused _ _ r.ensures.0;
+      turns = on_refused _ _ r.ensures.0;
+      refused = refused_as _ r.result _ r.ensures.1 refl;
+    }
+
+pub returns-clause-grows : goal.returns-clause-grows
+returns-clause-grows g c = c.in_ok-expand.ensures.grows
+
+pub returns-clause-graph : goal.returns-clause-graph
+returns-clause-graph g c = c.in_ok-expand.ensures.graph
+
+pub returns-clause-left : goal.returns-clause-left
+returns-clause-left g c = on_any c.put_entries.result refl
 
 pub returns-clause-turns : goal.returns-clause-turns
 returns-clause-turns g c =
@@ -24,3 +79,6 @@ returns-clause-turns g c =
       (λ k h. let q = step_of l.0 k (subst (λ (ks : List ℕ). Contains ks k) l.1 h) in l.2 k q.0 q.1),
       (λ h e x s. subst (λ ns. AllZip (g.G.NumberedGraph.stands c.expand.new.self) ns (g.G.NumberedGraph.successors h x)) (sym p.1) (ends_stand _ p.0 _ (p.2 h e x s))),
     ))
+
+pub returns-clause-refused : goal.returns-clause-refused
+returns-clause-refused g c = c.put_entries.ensures.refused

@@ -1,31 +1,21 @@
-use Rattle.std.proofs.Common.{rules, ◌≡◌, ◌≤◌, ◌∙◌, ℕ, Some, [], ◌∷◌, ◌++◌, ap, sym, subst, take, length, slice_get, slice_index_or, take_all, arith}
+use Rattle.std.proofs.Common.{◌≡◌, ◌<◌, ◌∙◌, Some, ap, sym, subst, length, slice_get}
+use Rattle.std.specs.Prelude.{IfOk}
 use Rattle.std.specs.List.{AllZip}
-use Rattle.std.proofs.lemmas.List.{map-append, take_more}
+use Rattle.std.proofs.lemmas.List.{length-map}
 use Rattle.pf_base.specs.NodeRefs.{nodes_of}
-use Rattle.pf_core.proofs.ListLemmas.{Contains-index}
-use Rattle.pf_core.proofs.PathLemmas.{AllZip-append}
 use Rattle.pf_tables.specs.EdgeLists.{names_of}
 use Rattle.pf_tables.proofs.edge_list.EdgeList.names_of.Goals as goal
 
-pub loop-node-init : goal.loop-node-init
-loop-node-init g c = rw c.in_ok-names.ensures.items tt
+pub names_at-requires : goal.names_at-requires
+names_at-requires g c = λ k h.
+    let keys = c.self.inside.names.keys in
+    let same = sym (length-map keys _) ∙ ap length c.self.invariant.named ∙ ap (λ es. length (names_of g.N.PartialEq.eq es)) c.self.view_is in
+    subst (λ n. k < n) (sym (ap length c.as_slice.ensures.keys ∙ same)) (c.requires k h)
 
-pub name_of-requires : goal.name_of-requires
-name_of-requires g c = c.requires (slice_index_or c.args.nodes.now c.loop-node.node-index 0) (Contains-index c.args.nodes.now c.loop-node.node-index 0 c.loop-node-test.true)
-
-pub loop-node-preserved : goal.loop-node-preserved
-loop-node-preserved g c =
-    let nodes = c.args.nodes.now in
-    let i = c.loop-node.node-index in
-    let named : ℕ → _ → Type 0 = λ node name. slice_get (names_of g.N.PartialEq.eq c.args.self.now) node ≡ Some name in
-    let pushed : c.push.new.self.items ≡ c.loop-node.names.items ++ c.name_of.result ∷ [] = search rules in
-    let e : nodes_of c.push.new.self.items ≡ nodes_of c.loop-node.names.items ++ c.name_of.result.now ∷ [] = ap nodes_of pushed ∙ map-append _ c.loop-node.names.items (c.name_of.result ∷ []) in
-    subst (λ ns. AllZip named ns (nodes_of c.push.new.self.items)) (sym (take_more nodes i 0 c.loop-node-test.true))
-    (subst (λ xs. AllZip named (take i nodes ++ slice_index_or nodes i 0 ∷ []) xs) (sym e)
-    (AllZip-append named (take i nodes) (nodes_of c.loop-node.names.items) (slice_index_or nodes i 0) c.name_of.result.now c.loop-node.invariant c.name_of.ensures))
-
-pub returns-clause-names : goal.returns-clause-names
-returns-clause-names g c =
-    let i = c.loop-node.node-index in
-    let ended : length c.args.nodes.now ≤ i = omega (arith, c.loop-node-test.false) in
-    rw (take_all i c.args.nodes.now ended) at c.loop-node.invariant
+pub returns : goal.returns
+returns g c =
+    let same = ap nodes_of c.as_slice.ensures.keys ∙ c.self.invariant.named ∙ ap (names_of g.N.PartialEq.eq) c.self.view_is in
+    record {
+      names = subst (λ ns. IfOk c.names_at.result (λ names. AllZip (λ node name. slice_get ns node ≡ Some name) c.args.nodes.now (nodes_of names.items))) same c.names_at.ensures.names;
+      refused = c.names_at.ensures.refused;
+    }

@@ -1,12 +1,14 @@
 use Rattle.std.proofs.Common.{rules, ◌≡◌, ◌<◌, ◌∙◌, ℕ, List, [], arith, length, ap, sym, subst}
 use Rattle.std.specs.Prelude.{Err}
 use Rattle.std.specs.List.{AllZip}
-use Rattle.pf_base.specs.declared.error.PathError.TheVariants.{UnknownVertex}
+use Rattle.std.proofs.lemmas.Result.{IfOk-from_err}
 use Rattle.pf_base.specs.NodeRefs.{HasSameNodes}
 use Rattle.pf_core.specs.Hops.{unit_edges}
 use Rattle.pf_core.specs.Nodes.{NodeGraph, StandsFor}
 use Rattle.pf_core.proofs.UnitLemmas.{Explores-successors, begins_all, starts_stand}
 use Rattle.pf_orders.specs.Rounds.{Targets, AreLevels, AreNodesAt}
+use Rattle.pf_orders.proofs.Outcomes.{refused_as, error_of, ok_is_no_error}
+use Rattle.pf_orders.proofs.RoundLemmas.{only_memory, memory_of}
 use Rattle.pf_orders.proofs.OrderLemmas.{member_of, empty_of}
 use Rattle.pf_orders.proofs.SortLemmas.{of_target}
 use Rattle.pf_orders.proofs.DepthLemmas.{same_grown, closed, depth_groups, all_have, have_none, some_left}
@@ -16,117 +18,175 @@ use Rattle.pf_orders.proofs.directed.topological_sort.groups.groups_in.Goals as 
 abbrev graph_of : {N : Type 0} → List N → (N → List N) → NodeGraph N
 graph_of nodes next = record { starts = nodes; edges = unit_edges next }
 
-pub read_rows-requires-clause-graph : goal.read_rows-requires-clause-graph
-read_rows-requires-clause-graph g c =
-    let r = c.requires.graph in
-    (graph_of r.0 r.1, Explores-successors g.N.PartialEq.eq g.met.N.Eq.laws _ _ _ _ _ r.0 c.args.graph.now.nodes.keys r.1 _ c.requires.distinct r.2 r.3)
+pub read_rows-requires : goal.read_rows-requires
+read_rows-requires g c = record {
+  graph =
+      let r = c.requires.graph in
+      (graph_of r.0 r.1, Explores-successors g.N.PartialEq.eq g.met.N.Eq.laws _ _ _ _ _ r.0 c.args.graph.now.nodes.keys r.1 _ c.requires.distinct r.2 r.3);
+  begins = λ k l. begins_all g.N.PartialEq.eq g.met.N.Eq.laws c.args.graph.now.nodes.keys k l;
+}
 
-pub read_rows-requires-clause-begins : goal.read_rows-requires-clause-begins
-read_rows-requires-clause-begins g c = λ k l. begins_all g.N.PartialEq.eq g.met.N.Eq.laws c.args.graph.now.nodes.keys k l
+pub returns-in_err-rows : goal.returns-in_err-rows
+returns-in_err-rows g c =
+    let r = c.from_residual in
+    record {
+      groups = λ nodes next found a. IfOk-from_err _ _ r.ensures.0;
+      cycle = λ nodes next found a. IfOk-from_err _ _ r.ensures.0;
+      closed = λ nodes next found a. IfOk-from_err _ _ r.ensures.0;
+      unknown = λ nodes next found a e.
+          let eq = g.N.PartialEq.eq in
+          let laws = g.met.N.Eq.laws in
+          let first = c.args.graph.now.nodes.keys in
+          let x = Explores-successors eq laws _ _ _ _ _ nodes first next _ c.requires.distinct found a in
+          let f = error_of _ _ _ r.ensures.1 e in
+          let d = c.in_err-rows.ensures.unknown (graph_of nodes next) x (ap Err f) in
+          let grown = c.in_err-rows.ensures.grows in (
+            d.0,
+            d.1,
+            (starts_stand eq laws nodes first found d.0).0 (d.2.0, d.2.1, grown.back d.2.0 d.0 d.2.1 d.2.2),
+            of_target eq laws next d.0 d.1 d.3,
+            (λ h. d.4 (let s = (starts_stand eq laws nodes first found d.1).1 h in (s.0, s.1, grown.stays s.0 d.1 s.2))),
+          );
+      errors = refused_as _ _ _ r.ensures.1 c.in_err-rows.ensures.errors;
+    }
 
-pub returns-in_err-rows-clause-unknown : goal.returns-in_err-rows-clause-unknown
-returns-in_err-rows-clause-unknown g c = λ nodes next found a e.
-    let eq = g.N.PartialEq.eq in
-    let laws = g.met.N.Eq.laws in
-    let first = c.args.graph.now.nodes.keys in
-    let x = Explores-successors eq laws _ _ _ _ _ nodes first next _ c.requires.distinct found a in
-    let f : c.in_err-rows.field-0.0 ≡ UnknownVertex = search rules in
-    let d = c.in_err-rows.ensures.unknown (graph_of nodes next) x (ap Err f) in
-    let grown = c.in_err-rows.ensures.grows in (
-      d.0,
-      d.1,
-      (starts_stand eq laws nodes first found d.0).0 (d.2.0, d.2.1, grown.back d.2.0 d.0 d.2.1 d.2.2),
-      of_target eq laws next d.0 d.1 d.3,
-      (λ h. d.4 (let s = (starts_stand eq laws nodes first found d.1).1 h in (s.0, s.1, grown.stays s.0 d.1 s.2))),
-    )
-
-pub groups_at-requires-clause-inside : goal.groups_at-requires-clause-inside
-groups_at-requires-clause-inside g c = λ i k group at h.
+pub group_numbers-requires : goal.group_numbers-requires
+group_numbers-requires g c =
     let e = c.in_ok-rows.ensures in
-    let l = c.in_ok-levels.ensures.levels.below i k (group, rw c.deref.ensures.value at at, member_of group.items k h) in
-    subst (λ (n : ℕ). k < n) (e.wide ∙ sym e.same ∙ ap length (sym c.as_slice.ensures.keys)) l
+    record { counted = e.counted; wide = e.wide ∙ sym e.long }
 
-pub clones_at-requires-clause-inside : goal.clones_at-requires-clause-inside
-clones_at-requires-clause-inside g c = λ k h.
-    let e = c.in_ok-rows.ensures in
-    let l = c.in_ok-levels.ensures.levels.left_below k (member_of c.in_ok-levels.levels.remaining.items k (rw c.deref-2.ensures.value at h)) in
-    subst (λ (n : ℕ). k < n) (e.wide ∙ sym e.same ∙ ap length (sym c.as_slice-2.ensures.keys)) l
+pub returns-in_err-levels : goal.returns-in_err-levels
+returns-in_err-levels g c =
+    let r = c.from_residual-in_err-levels in
+    record {
+      groups = λ nodes next found a. IfOk-from_err _ _ r.ensures.0;
+      cycle = λ nodes next found a. IfOk-from_err _ _ r.ensures.0;
+      closed = λ nodes next found a. IfOk-from_err _ _ r.ensures.0;
+      unknown = λ nodes next found a u. absurd (only_memory _ _ r.ensures.1 c.in_err-levels.ensures.refused u);
+      errors = memory_of _ _ r.ensures.1 c.in_err-levels.ensures.refused;
+    }
 
-pub returns-then-is_empty-clause-closed : goal.returns-then-is_empty-clause-closed
-returns-then-is_empty-clause-closed g c = λ nodes next found a.
-    let eq = g.N.PartialEq.eq in
-    let laws = g.met.N.Eq.laws in
-    let first = c.args.graph.now.nodes.keys in
-    let keys = c.read_rows.new.graph.nodes.keys in
-    let rows = c.in_ok-rows.rows.items in
-    let x = Explores-successors eq laws _ _ _ _ _ nodes first next _ c.requires.distinct found a in
-    let e = c.in_ok-rows.ensures in
-    let y = e.graph (graph_of nodes next) x in
-    let same : HasSameNodes eq keys nodes = same_grown eq laws first keys nodes found e.grows e.same in
-    let wide : length rows ≡ length keys = e.wide ∙ sym e.same in
-    let inside : (i j : ℕ) → Targets rows i j → j < length keys = λ i j t. let l = e.counted.inside i j t in omega (arith, l, e.long, e.same) in
-    let listed = e.listed (graph_of nodes next) x in
-    closed eq laws next nodes keys same y.distinct rows wide inside listed
+pub groups_at-requires : goal.groups_at-requires
+groups_at-requires g c = record {
+  inside = λ i k group at h.
+      let e = c.in_ok-rows.ensures in
+      let l = c.in_ok-levels.ensures.levels.below i k (group, rw c.deref.ensures.value at at, member_of group.items k h) in
+      subst (λ (n : ℕ). k < n) (e.wide ∙ sym e.same ∙ ap length (sym c.as_slice.ensures.keys)) l;
+  clones = c.requires.clones;
+}
 
-pub returns-clause-closed : goal.returns-clause-closed
-returns-clause-closed g c = λ nodes next found a.
-    let eq = g.N.PartialEq.eq in
-    let laws = g.met.N.Eq.laws in
-    let first = c.args.graph.now.nodes.keys in
-    let keys = c.read_rows.new.graph.nodes.keys in
-    let rows = c.in_ok-rows.rows.items in
-    let x = Explores-successors eq laws _ _ _ _ _ nodes first next _ c.requires.distinct found a in
-    let e = c.in_ok-rows.ensures in
-    let y = e.graph (graph_of nodes next) x in
-    let same : HasSameNodes eq keys nodes = same_grown eq laws first keys nodes found e.grows e.same in
-    let wide : length rows ≡ length keys = e.wide ∙ sym e.same in
-    let inside : (i j : ℕ) → Targets rows i j → j < length keys = λ i j t. let l = e.counted.inside i j t in omega (arith, l, e.long, e.same) in
-    let listed = e.listed (graph_of nodes next) x in
-    closed eq laws next nodes keys same y.distinct rows wide inside listed
+pub returns-in_err-groups : goal.returns-in_err-groups
+returns-in_err-groups g c =
+    let r = c.from_residual-in_err-groups in
+    record {
+      groups = λ nodes next found a. IfOk-from_err _ _ r.ensures.0;
+      cycle = λ nodes next found a. IfOk-from_err _ _ r.ensures.0;
+      closed = λ nodes next found a. IfOk-from_err _ _ r.ensures.0;
+      unknown = λ nodes next found a u. absurd (only_memory _ _ r.ensures.1 c.in_err-groups.ensures.refused u);
+      errors = memory_of _ _ r.ensures.1 c.in_err-groups.ensures.refused;
+    }
 
-pub returns-then-is_empty-clause-groups : goal.returns-then-is_empty-clause-groups
-returns-then-is_empty-clause-groups g c = λ nodes next found a.
-    let eq = g.N.PartialEq.eq in
-    let laws = g.met.N.Eq.laws in
-    let first = c.args.graph.now.nodes.keys in
-    let keys = c.read_rows.new.graph.nodes.keys in
-    let rows = c.in_ok-rows.rows.items in
-    let x = Explores-successors eq laws _ _ _ _ _ nodes first next _ c.requires.distinct found a in
-    let e = c.in_ok-rows.ensures in
-    let y = e.graph (graph_of nodes next) x in
-    let same : HasSameNodes eq keys nodes = same_grown eq laws first keys nodes found e.grows e.same in
-    let wide : length rows ≡ length keys = e.wide ∙ sym e.same in
-    let inside : (i j : ℕ) → Targets rows i j → j < length keys = λ i j t. let l = e.counted.inside i j t in omega (arith, l, e.long, e.same) in
-    let listed = e.listed (graph_of nodes next) x in
-    let groups = c.in_ok-levels.levels.groups.items in
-    let remaining = c.in_ok-levels.levels.remaining.items in
-    let v : AreLevels (length keys) rows groups remaining = subst (λ (n : ℕ). AreLevels n rows groups remaining) wide c.in_ok-levels.ensures.levels in
-    let z : AllZip (AreNodesAt eq keys) groups c.in_ok-groups.groups.items = rw c.as_slice.ensures.keys at (rw c.deref.ensures.value at c.in_ok-groups.ensures.nodes) in
-    let none : length remaining ≡ 0 = search rules in
-    (depth_groups eq laws next nodes keys same y.distinct rows wide inside listed groups remaining v c.in_ok-groups.groups.items z, all_have eq laws next nodes keys same y.distinct rows wide inside listed groups remaining v (empty_of remaining none))
+pub returns-then-is_empty : goal.returns-then-is_empty
+returns-then-is_empty g c = record {
+  groups = λ nodes next found a.
+      let eq = g.N.PartialEq.eq in
+      let laws = g.met.N.Eq.laws in
+      let first = c.args.graph.now.nodes.keys in
+      let keys = c.read_rows.new.graph.nodes.keys in
+      let rows = c.in_ok-rows.rows.items in
+      let x = Explores-successors eq laws _ _ _ _ _ nodes first next _ c.requires.distinct found a in
+      let e = c.in_ok-rows.ensures in
+      let y = e.graph (graph_of nodes next) x in
+      let same : HasSameNodes eq keys nodes = same_grown eq laws first keys nodes found e.grows e.same in
+      let wide : length rows ≡ length keys = e.wide ∙ sym e.same in
+      let inside : (i j : ℕ) → Targets rows i j → j < length keys = λ i j t. let l = e.counted.inside i j t in omega (arith, l, e.long, e.same) in
+      let listed = e.listed (graph_of nodes next) x in
+      let groups = c.in_ok-levels.levels.groups.items in
+      let remaining = c.in_ok-levels.levels.remaining.items in
+      let v : AreLevels (length keys) rows groups remaining = subst (λ (n : ℕ). AreLevels n rows groups remaining) wide c.in_ok-levels.ensures.levels in
+      let z : AllZip (AreNodesAt eq keys) groups c.in_ok-groups.groups.items = rw c.as_slice.ensures.keys at (rw c.deref.ensures.value at c.in_ok-groups.ensures.nodes) in
+      let none : length remaining ≡ 0 = search rules in
+      (depth_groups eq laws next nodes keys same y.distinct rows wide inside listed groups remaining v c.in_ok-groups.groups.items z, all_have eq laws next nodes keys same y.distinct rows wide inside listed groups remaining v (empty_of remaining none));
+  cycle = λ nodes next found a. tt;
+  closed = λ nodes next found a.
+      let eq = g.N.PartialEq.eq in
+      let laws = g.met.N.Eq.laws in
+      let first = c.args.graph.now.nodes.keys in
+      let keys = c.read_rows.new.graph.nodes.keys in
+      let rows = c.in_ok-rows.rows.items in
+      let x = Explores-successors eq laws _ _ _ _ _ nodes first next _ c.requires.distinct found a in
+      let e = c.in_ok-rows.ensures in
+      let y = e.graph (graph_of nodes next) x in
+      let same : HasSameNodes eq keys nodes = same_grown eq laws first keys nodes found e.grows e.same in
+      let wide : length rows ≡ length keys = e.wide ∙ sym e.same in
+      let inside : (i j : ℕ) → Targets rows i j → j < length keys = λ i j t. let l = e.counted.inside i j t in omega (arith, l, e.long, e.same) in
+      let listed = e.listed (graph_of nodes next) x in
+      closed eq laws next nodes keys same y.distinct rows wide inside listed;
+  unknown = λ nodes next found a e. absurd (ok_is_no_error e);
+  errors = tt;
+}
 
-pub returns-clause-cycle : goal.returns-clause-cycle
-returns-clause-cycle g c = λ nodes next found a.
-    let eq = g.N.PartialEq.eq in
-    let laws = g.met.N.Eq.laws in
-    let first = c.args.graph.now.nodes.keys in
-    let keys = c.read_rows.new.graph.nodes.keys in
-    let rows = c.in_ok-rows.rows.items in
-    let x = Explores-successors eq laws _ _ _ _ _ nodes first next _ c.requires.distinct found a in
-    let e = c.in_ok-rows.ensures in
-    let y = e.graph (graph_of nodes next) x in
-    let same : HasSameNodes eq keys nodes = same_grown eq laws first keys nodes found e.grows e.same in
-    let wide : length rows ≡ length keys = e.wide ∙ sym e.same in
-    let inside : (i j : ℕ) → Targets rows i j → j < length keys = λ i j t. let l = e.counted.inside i j t in omega (arith, l, e.long, e.same) in
-    let listed = e.listed (graph_of nodes next) x in
-    let groups = c.in_ok-levels.levels.groups.items in
-    let remaining = c.in_ok-levels.levels.remaining.items in
-    let v : AreLevels (length keys) rows groups remaining = subst (λ (n : ℕ). AreLevels n rows groups remaining) wide c.in_ok-levels.ensures.levels in
-    let z : AllZip (AreNodesAt eq keys) groups c.in_ok-groups.groups.items = rw c.as_slice.ensures.keys at (rw c.deref.ensures.value at c.in_ok-groups.ensures.nodes) in
-    let left = c.in_ok-remaining.remaining.items in
-    let some : ¬ (remaining ≡ []) = λ q. let n = ap length q in search rules in
-    let w : AllZip (StandsFor eq keys) remaining left = rw c.as_slice-2.ensures.keys at (rw c.deref-2.ensures.value at c.in_ok-remaining.ensures.nodes) in (
-      depth_groups eq laws next nodes keys same y.distinct rows wide inside listed groups remaining v c.in_ok-groups.groups.items z,
-      have_none eq laws next nodes keys same y.distinct rows wide inside listed groups remaining v left w,
-      some_left eq laws next nodes keys same y.distinct rows wide inside listed groups remaining v left w some,
-    )
+pub clones_at-requires : goal.clones_at-requires
+clones_at-requires g c = record {
+  inside = λ k h.
+      let e = c.in_ok-rows.ensures in
+      let l = c.in_ok-levels.ensures.levels.left_below k (member_of c.in_ok-levels.levels.remaining.items k (rw c.deref-2.ensures.value at h)) in
+      subst (λ (n : ℕ). k < n) (e.wide ∙ sym e.same ∙ ap length (sym c.as_slice-2.ensures.keys)) l;
+  clones = c.requires.clones;
+}
+
+pub returns-in_err-remaining : goal.returns-in_err-remaining
+returns-in_err-remaining g c =
+    let r = c.from_residual-in_err-remaining in
+    record {
+      groups = λ nodes next found a. IfOk-from_err _ _ r.ensures.0;
+      cycle = λ nodes next found a. IfOk-from_err _ _ r.ensures.0;
+      closed = λ nodes next found a. IfOk-from_err _ _ r.ensures.0;
+      unknown = λ nodes next found a u. absurd (only_memory _ _ r.ensures.1 c.in_err-remaining.ensures.refused u);
+      errors = memory_of _ _ r.ensures.1 c.in_err-remaining.ensures.refused;
+    }
+
+pub returns : goal.returns
+returns g c = record {
+  groups = λ nodes next found a. tt;
+  cycle = λ nodes next found a.
+      let eq = g.N.PartialEq.eq in
+      let laws = g.met.N.Eq.laws in
+      let first = c.args.graph.now.nodes.keys in
+      let keys = c.read_rows.new.graph.nodes.keys in
+      let rows = c.in_ok-rows.rows.items in
+      let x = Explores-successors eq laws _ _ _ _ _ nodes first next _ c.requires.distinct found a in
+      let e = c.in_ok-rows.ensures in
+      let y = e.graph (graph_of nodes next) x in
+      let same : HasSameNodes eq keys nodes = same_grown eq laws first keys nodes found e.grows e.same in
+      let wide : length rows ≡ length keys = e.wide ∙ sym e.same in
+      let inside : (i j : ℕ) → Targets rows i j → j < length keys = λ i j t. let l = e.counted.inside i j t in omega (arith, l, e.long, e.same) in
+      let listed = e.listed (graph_of nodes next) x in
+      let groups = c.in_ok-levels.levels.groups.items in
+      let remaining = c.in_ok-levels.levels.remaining.items in
+      let v : AreLevels (length keys) rows groups remaining = subst (λ (n : ℕ). AreLevels n rows groups remaining) wide c.in_ok-levels.ensures.levels in
+      let z : AllZip (AreNodesAt eq keys) groups c.in_ok-groups.groups.items = rw c.as_slice.ensures.keys at (rw c.deref.ensures.value at c.in_ok-groups.ensures.nodes) in
+      let left = c.in_ok-remaining.remaining.items in
+      let some : ¬ (remaining ≡ []) = λ q. let n = ap length q in search rules in
+      let w : AllZip (StandsFor eq keys) remaining left = rw c.as_slice-2.ensures.keys at (rw c.deref-2.ensures.value at c.in_ok-remaining.ensures.nodes) in (
+        depth_groups eq laws next nodes keys same y.distinct rows wide inside listed groups remaining v c.in_ok-groups.groups.items z,
+        have_none eq laws next nodes keys same y.distinct rows wide inside listed groups remaining v left w,
+        some_left eq laws next nodes keys same y.distinct rows wide inside listed groups remaining v left w some,
+      );
+  closed = λ nodes next found a.
+      let eq = g.N.PartialEq.eq in
+      let laws = g.met.N.Eq.laws in
+      let first = c.args.graph.now.nodes.keys in
+      let keys = c.read_rows.new.graph.nodes.keys in
+      let rows = c.in_ok-rows.rows.items in
+      let x = Explores-successors eq laws _ _ _ _ _ nodes first next _ c.requires.distinct found a in
+      let e = c.in_ok-rows.ensures in
+      let y = e.graph (graph_of nodes next) x in
+      let same : HasSameNodes eq keys nodes = same_grown eq laws first keys nodes found e.grows e.same in
+      let wide : length rows ≡ length keys = e.wide ∙ sym e.same in
+      let inside : (i j : ℕ) → Targets rows i j → j < length keys = λ i j t. let l = e.counted.inside i j t in omega (arith, l, e.long, e.same) in
+      let listed = e.listed (graph_of nodes next) x in
+      closed eq laws next nodes keys same y.distinct rows wide inside listed;
+  unknown = λ nodes next found a e. absurd (ok_is_no_error e);
+  errors = tt;
+}
