@@ -3,6 +3,7 @@ use Rattle.std.specs.Prelude.{Err}
 use Rattle.pf_base.specs.declared.error.PathError.TheVariants.{CostOverflow}
 use Rattle.pf_base.proofs.Callers.{test_of}
 use Rattle.pf_search.proofs.AllLemmas.{all_of_partial}
+use Rattle.std.proofs.lemmas.Result.{IfOk-from_err}
 use Rattle.pf_search.proofs.directed.cheapest_map.dijkstra_all.Goals as goal
 
 pub dijkstra_partial-requires-clause-graph : goal.dijkstra_partial-requires-clause-graph
@@ -19,3 +20,9 @@ pub returns-clause-cheapest : goal.returns-clause-cheapest
 returns-clause-cheapest g c = λ edges answered costs.
     all_of_partial g.N.PartialEq.eq g.met.N.Eq.laws g.C.Number.value edges c.args.start.now answered.alike _ c.in_ok-parents.field-0-1
     (c.in_ok-parents.ensures.partial edges (λ _. false) (record { edges_answered = answered; test_answered = test_of (λ _. false) (λ x y w e. refl) (λ x w. search rules) (λ x r t w k. search rules); costs = costs }))
+
+pub dijkstra_partial-requires-clause-clones : goal.dijkstra_partial-requires-clause-clones
+dijkstra_partial-requires-clause-clones g c = c.requires.clones
+
+pub returns-in_err-parents-clause-cheapest : goal.returns-in_err-parents-clause-cheapest
+returns-in_err-parents-clause-cheapest g c = λ _ _ _. IfOk-from_err _ _ c.from_residual.ensures.0

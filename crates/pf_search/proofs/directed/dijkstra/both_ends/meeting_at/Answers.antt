@@ -1,6 +1,7 @@
 use Rattle.std.proofs.Common.{◌≡◌, ◌<◌, ◌∙◌, length, sym, subst, Some, None, slice_get, arith, ℕ, pos, refl}
 use Rattle.std.specs.Prelude.{◌+ℤ◌, ◌≤ℤ◌}
 use Rattle.std.proofs.lemmas.Int.{ints}
+use Rattle.std.proofs.lemmas.Option.{same_Some}
 use Rattle.pf_core.specs.declared.labels.Label.{Label}
 use Rattle.pf_core.specs.Labels.{HasLabel}
 use Rattle.pf_core.specs.Nodes.{StandsFor}
@@ -26,8 +27,7 @@ returns-in_default-label-clause-low g c = λ k l m x here there hl hm pl pm.
     let inside : c.in-Some.across < length c.args.other_search.now.labels.items = omega (arith, place.0, c.requires.wide) in
     let slot : slice_get c.args.other_search.now.labels.items c.in-Some.across ≡ Some c.index.result.now = at_place _ _ _ _ inside (sym c.index.ensures) in
     let labelled : slice_get c.args.other_search.now.labels.items c.in-Some.across ≡ Some (Some m) = subst (λ (n : ℕ). slice_get c.args.other_search.now.labels.items n ≡ Some (Some m)) same hm in
-    let both : Some c.index.result.now ≡ Some (Some m) = sym slot ∙ labelled in
-    let told : c.index.result.now ≡ Some m = cc in
+    let told : c.index.result.now ≡ Some m = same_Some c.index.result.now (Some m) (sym slot ∙ labelled) in
     absurd (c.in_default-label.not-Some m (c.label.ensures ∙ told))
 
 pub returns-in_default-checked_add-clause-low : goal.returns-in_default-checked_add-clause-low
