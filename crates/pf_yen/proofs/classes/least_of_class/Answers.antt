@@ -4,6 +4,8 @@ use Rattle.pf_core.specs.Steps.{IsTooDear}
 use Rattle.pf_yen.specs.Known.{KnownGraph, is_goal}
 use Rattle.pf_yen.specs.Narrow.{NarrowGraph, NarrowStep, StandsForItself}
 use Rattle.pf_yen.proofs.NarrowWalks.{narrow_from_zero, none_left, best_clean, best_member, best_least}
+use Rattle.std.proofs.lemmas.Result.{IfOk-from_err}
+use Rattle.pf_yen.proofs.ResultLemmas.{ok_is_no_error, refused_as}
 use Rattle.pf_yen.proofs.classes.least_of_class.Goals as goal
 
 pub returns-in_err-answer-clause-overflow : goal.returns-in_err-answer-clause-overflow
@@ -32,3 +34,57 @@ returns-clause-least g c = λ q n.
       member = best_member g.C.Number.value here q n _ _ c.requires.some _ _ b;
       least = best_least g.C.Number.value here q n _ _ c.requires.some _ _ b;
     }
+
+pub returns-in-None-clause-errors : goal.returns-in-None-clause-errors
+returns-in-None-clause-errors g c = tt
+
+pub returns-in_err-answer-clause-banned : goal.returns-in_err-answer-clause-banned
+returns-in_err-answer-clause-banned g c = IfOk-from_err _ _ c.from_residual.ensures.0
+
+pub returns-in_err-answer-clause-errors : goal.returns-in_err-answer-clause-errors
+returns-in_err-answer-clause-errors g c = refused_as _ c.from_residual.result c.in_err-answer.field-0.0 c.from_residual.ensures.1 c.in_err-answer.ensures.errors
+
+pub returns-in_err-answer-clause-least : goal.returns-in_err-answer-clause-least
+returns-in_err-answer-clause-least g c = IfOk-from_err _ _ c.from_residual.ensures.0
+
+pub returns-in_err-answer-clause-parts : goal.returns-in_err-answer-clause-parts
+returns-in_err-answer-clause-parts g c = IfOk-from_err _ _ c.from_residual.ensures.0
+
+pub returns-clause-known : goal.returns-clause-known
+returns-clause-known g c = let s = c.args.narrowed.now in let here : NarrowGraph g.row.C.Denot = record { known = s.known.now; onward = s.onward.items; spur = s.spur; banned = s.banned.items } in sym (ap (λ (h : NarrowGraph g.row.C.Denot). h.known) (c.in_ok-answer.ensures.graph here (refl, c.requires.whole.inside, c.requires.wide)).0)
+
+pub returns-clause-onward : goal.returns-clause-onward
+returns-clause-onward g c = let s = c.args.narrowed.now in let here : NarrowGraph g.row.C.Denot = record { known = s.known.now; onward = s.onward.items; spur = s.spur; banned = s.banned.items } in sym (ap (λ (h : NarrowGraph g.row.C.Denot). h.onward) (c.in_ok-answer.ensures.graph here (refl, c.requires.whole.inside, c.requires.wide)).0)
+
+pub returns-clause-spur : goal.returns-clause-spur
+returns-clause-spur g c = let s = c.args.narrowed.now in let here : NarrowGraph g.row.C.Denot = record { known = s.known.now; onward = s.onward.items; spur = s.spur; banned = s.banned.items } in sym (ap (λ (h : NarrowGraph g.row.C.Denot). h.spur) (c.in_ok-answer.ensures.graph here (refl, c.requires.whole.inside, c.requires.wide)).0)
+
+pub returns-in-None-clause-known : goal.returns-in-None-clause-known
+returns-in-None-clause-known g c = let s = c.args.narrowed.now in let here : NarrowGraph g.row.C.Denot = record { known = s.known.now; onward = s.onward.items; spur = s.spur; banned = s.banned.items } in sym (ap (λ (h : NarrowGraph g.row.C.Denot). h.known) (c.in_ok-answer.ensures.graph here (refl, c.requires.whole.inside, c.requires.wide)).0)
+
+pub returns-in-None-clause-onward : goal.returns-in-None-clause-onward
+returns-in-None-clause-onward g c = let s = c.args.narrowed.now in let here : NarrowGraph g.row.C.Denot = record { known = s.known.now; onward = s.onward.items; spur = s.spur; banned = s.banned.items } in sym (ap (λ (h : NarrowGraph g.row.C.Denot). h.onward) (c.in_ok-answer.ensures.graph here (refl, c.requires.whole.inside, c.requires.wide)).0)
+
+pub returns-in-None-clause-spur : goal.returns-in-None-clause-spur
+returns-in-None-clause-spur g c = let s = c.args.narrowed.now in let here : NarrowGraph g.row.C.Denot = record { known = s.known.now; onward = s.onward.items; spur = s.spur; banned = s.banned.items } in sym (ap (λ (h : NarrowGraph g.row.C.Denot). h.spur) (c.in_ok-answer.ensures.graph here (refl, c.requires.whole.inside, c.requires.wide)).0)
+
+pub returns-in_err-answer-clause-known : goal.returns-in_err-answer-clause-known
+returns-in_err-answer-clause-known g c = let s = c.args.narrowed.now in let here : NarrowGraph g.row.C.Denot = record { known = s.known.now; onward = s.onward.items; spur = s.spur; banned = s.banned.items } in sym (ap (λ (h : NarrowGraph g.row.C.Denot). h.known) (c.in_err-answer.ensures.graph here (refl, c.requires.whole.inside, c.requires.wide)).0)
+
+pub returns-in_err-answer-clause-onward : goal.returns-in_err-answer-clause-onward
+returns-in_err-answer-clause-onward g c = let s = c.args.narrowed.now in let here : NarrowGraph g.row.C.Denot = record { known = s.known.now; onward = s.onward.items; spur = s.spur; banned = s.banned.items } in sym (ap (λ (h : NarrowGraph g.row.C.Denot). h.onward) (c.in_err-answer.ensures.graph here (refl, c.requires.whole.inside, c.requires.wide)).0)
+
+pub returns-in_err-answer-clause-spur : goal.returns-in_err-answer-clause-spur
+returns-in_err-answer-clause-spur g c = let s = c.args.narrowed.now in let here : NarrowGraph g.row.C.Denot = record { known = s.known.now; onward = s.onward.items; spur = s.spur; banned = s.banned.items } in sym (ap (λ (h : NarrowGraph g.row.C.Denot). h.spur) (c.in_err-answer.ensures.graph here (refl, c.requires.whole.inside, c.requires.wide)).0)
+
+pub returns-clause-errors : goal.returns-clause-errors
+returns-clause-errors g c = tt
+
+pub returns-clause-overflow : goal.returns-clause-overflow
+returns-clause-overflow g c = λ e. absurd (ok_is_no_error _ _ _ refl e)
+
+pub returns-in-None-clause-overflow : goal.returns-in-None-clause-overflow
+returns-in-None-clause-overflow g c = λ e. absurd (ok_is_no_error _ _ _ refl e)
+
+pub returns-in-None-clause-parts : goal.returns-in-None-clause-parts
+returns-in-None-clause-parts g c = tt

@@ -6,6 +6,7 @@ use Rattle.pf_yen.specs.Learned.{LiveStep, IsLearned}
 use Rattle.pf_yen.proofs.NarrowLemmas.{in_none}
 use Rattle.pf_yen.proofs.LearnLemmas.{learned_grow, learned_add, lists_live, lists_none}
 use Rattle.pf_yen.proofs.learn.learn_next.Goals.{then-not-goal+in_ok-expand, else-not-goal}
+use Rattle.std.proofs.lemmas.Result.{IfOk-from_err}
 use Rattle.pf_yen.proofs.learn.learn_next.Goals as goal
 
 pub returns-in_err-expand-clause-learned : goal.returns-in_err-expand-clause-learned
@@ -71,3 +72,6 @@ returns-clause-learned g c = λ h x l.
       | inl a ↦ rw a (learned_add value step passes (found c.if-not-goal.graph) (stands c.if-not-goal.graph) k c.if-not-goal.row.items c.is_goal-goal.result p.0 p.1.1.1 p.1.0 p.1.1.0)
       | inr a ↦ rw a p.0
     ]
+
+pub returns-in_err-expand-clause-more : goal.returns-in_err-expand-clause-more
+returns-in_err-expand-clause-more g c = IfOk-from_err _ _ c.from_residual.ensures.0
