@@ -1,11 +1,11 @@
-use Rattle.std.proofs.Common.{rules, ◌≡◌, refl, sym, ap, subst, Err, length}
+use Rattle.std.proofs.Common.{◌≡◌, refl, sym, ap, subst, Err, length}
 use Rattle.pf_base.specs.declared.error.PathError.TheVariants.{CostOverflow}
 use Rattle.pf_core.specs.Steps.{IsTooDear}
 use Rattle.pf_yen.specs.Known.{KnownGraph, is_goal}
 use Rattle.pf_yen.specs.Narrow.{NarrowGraph, NarrowStep, StandsForItself}
 use Rattle.pf_yen.proofs.NarrowWalks.{narrow_from_zero, none_left, best_clean, best_member, best_least}
 use Rattle.std.proofs.lemmas.Result.{IfOk-from_err}
-use Rattle.pf_yen.proofs.ResultLemmas.{ok_is_no_error, refused_as}
+use Rattle.pf_yen.proofs.ResultLemmas.{handed_on, ok_is_no_error, refused_as}
 use Rattle.pf_yen.proofs.classes.least_of_class.Goals as goal
 
 pub returns-in_err-answer-clause-overflow : goal.returns-in_err-answer-clause-overflow
@@ -13,7 +13,7 @@ returns-in_err-answer-clause-overflow g c = λ e.
     let s = c.args.narrowed.now in
     let here : NarrowGraph g.row.C.Denot = record { known = s.known.now; onward = s.onward.items; spur = s.spur; banned = s.banned.items } in
     let x = c.in_err-answer.ensures.graph here (refl, c.requires.whole.inside, c.requires.wide) in
-    let f : c.in_err-answer.field-0.0 ≡ CostOverflow = search rules in
+    let f : c.in_err-answer.field-0.0 ≡ CostOverflow = handed_on c.from_residual.result c.in_err-answer.field-0.0 c.from_residual.ensures.1 e in
     let d = c.in_err-answer.ensures.overflow here (refl, c.requires.whole.inside, c.requires.wide) (narrow_from_zero g.C.Number.value here c.requires.whole) (ap Err f) in
     subst (λ (k : KnownGraph g.row.C.Denot). IsTooDear (NarrowStep g.C.Number.value here) (is_goal s.known.now) (StandsForItself (length s.known.now.rows) 0) (StandsForItself (length k.rows)) g.C.Number.fits) (sym (ap (λ (h : NarrowGraph g.row.C.Denot). h.known) x.0)) d
 

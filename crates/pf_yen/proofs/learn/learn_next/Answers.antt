@@ -1,7 +1,8 @@
 use Rattle.std.proofs.Common.{rules, ◌≡◌, ◌<◌, ◌∙◌, sym, arith, inl, inr, true, false, ℕ, length}
 use Rattle.std.specs.Prelude.{Contains}
-use Rattle.pf_core.specs.Numbered.{ListsSteps}
 use Rattle.pf_core.proofs.ListLemmas.{ok_or_err}
+use Rattle.pf_core.specs.Numbered.{Grows, ListsSteps}
+use Rattle.pf_core.proofs.SearchLemmas.{Grows-trans}
 use Rattle.pf_yen.specs.Learned.{LiveStep, IsLearned}
 use Rattle.pf_yen.proofs.NarrowLemmas.{in_none}
 use Rattle.pf_yen.proofs.LearnLemmas.{learned_grow, learned_add, lists_live, lists_none}
@@ -75,3 +76,27 @@ returns-clause-learned g c = λ h x l.
 
 pub returns-in_err-expand-clause-more : goal.returns-in_err-expand-clause-more
 returns-in_err-expand-clause-more g c = IfOk-from_err _ _ c.from_residual.ensures.0
+
+pub returns-in_err-expand-clause-grows : goal.returns-in_err-expand-clause-grows
+returns-in_err-expand-clause-grows g c = Grows-trans _ _ _ _ _ _ c.is_goal-goal.ensures.grows c.in_err-expand.ensures.grows
+
+pub returns-in_err-expand-clause-graph : goal.returns-in_err-expand-clause-graph
+returns-in_err-expand-clause-graph g c = λ h x. c.in_err-expand.ensures.graph h (c.is_goal-goal.ensures.graph h x).0
+
+pub returns-clause-grows : goal.returns-clause-grows
+returns-clause-grows g c =
+    let b = c.is_goal-goal.ensures in
+    let found = g.G.NumberedGraph.found in
+    let stands = g.G.NumberedGraph.stands in
+    elim c.if-not-goal.branch as (λ _. Grows (found c.args.graph.now) (found c.if-not-goal.graph) (stands c.args.graph.now) (stands c.if-not-goal.graph)) [
+      | then-not-goal+in_ok-expand w ↦ rw w.graph-is (Grows-trans _ _ _ _ _ _ b.grows w.in_ok-expand.ensures.grows)
+      | else-not-goal w ↦ rw w.graph-is b.grows
+    ]
+
+pub returns-clause-graph : goal.returns-clause-graph
+returns-clause-graph g c = λ h x.
+    let y = (c.is_goal-goal.ensures.graph h x).0 in
+    elim c.if-not-goal.branch as (λ _. g.G.NumberedGraph.explores c.if-not-goal.graph h) [
+      | then-not-goal+in_ok-expand w ↦ rw w.graph-is (w.in_ok-expand.ensures.graph h y)
+      | else-not-goal w ↦ rw w.graph-is y
+    ]

@@ -1,4 +1,4 @@
-use Rattle.std.proofs.Common.{rules, ◌≡◌, ap, subst, length, Err, [], inl, refl}
+use Rattle.std.proofs.Common.{◌≡◌, ap, subst, length, Err, [], inl, refl}
 use Rattle.pf_base.specs.declared.error.PathError.TheVariants.{CostOverflow}
 use Rattle.pf_core.specs.Steps.{IsTooDear}
 use Rattle.pf_yen.specs.Known.{KnownGraph, KnownStep, is_goal}
@@ -7,7 +7,7 @@ use Rattle.pf_yen.specs.Classes.{IsNarrowedTo}
 use Rattle.pf_yen.proofs.SplitLemmas.{narrowed_first}
 use Rattle.pf_yen.proofs.PlanLemmas.{begun_partition, too_dear_all}
 use Rattle.std.proofs.lemmas.Result.{IfOk-from_err}
-use Rattle.pf_yen.proofs.ResultLemmas.{no_overflow, ok_is_no_error, refused_as}
+use Rattle.pf_yen.proofs.ResultLemmas.{handed_on, no_overflow, ok_is_no_error, refused_as}
 use Rattle.pf_yen.proofs.plans.Plans.begin.Goals as goal
 
 pub returns-in_err-self-clause-overflow : goal.returns-in_err-self-clause-overflow
@@ -15,7 +15,7 @@ returns-in_err-self-clause-overflow g c = λ x.
     let e = c.in_ok-narrowed.ensures in
     let s = c.in_ok-narrowed.narrowed in
     let here : NarrowGraph g.row.C.Denot = record { known = s.known.now; onward = s.onward.items; spur = s.spur; banned = s.banned.items } in
-    let f : c.in_err-self.field-0.0 ≡ CostOverflow = search rules in
+    let f : c.in_err-self.field-0.0 ≡ CostOverflow = handed_on c.from_residual-in_err-self.result c.in_err-self.field-0.0 c.from_residual-in_err-self.ensures.1 x in
     subst (λ (k : KnownGraph g.row.C.Denot). IsTooDear (KnownStep g.C.Number.value k) (is_goal k) (StandsForItself (length k.rows) 0) (StandsForItself (length k.rows)) g.C.Number.fits) e.graph.0
     (too_dear_all g.C.Number.value here (length c.args.known.now.rows) e.onward e.graph.2 g.C.Number.fits (length s.known.now.rows) (c.in_err-self.ensures.overflow (ap Err f)))
 
