@@ -4,7 +4,7 @@ use Rattle.pf_core.specs.Nodes.{TestedGraph}
 use Rattle.pf_core.proofs.WalkLemmas.{no_walk, best_answer}
 use Rattle.pf_core.proofs.UnitLemmas.{is_hop, no_next_walk, fewest_of_best, begins_all, starts_stand}
 use Rattle.pf_search.specs.Internal.Hops.{hops_from}
-use Rattle.pf_search.proofs.ResultLemmas.{in_some, error_kept}
+use Rattle.pf_search.proofs.ResultLemmas.{in_some, error_kept, refused_as}
 use Rattle.std.proofs.lemmas.Result.{IfOk-from_err}
 use Rattle.pf_search.proofs.directed.bfs.path_from.Goals as goal
 
@@ -55,3 +55,6 @@ returns-in-None-clause-errors g c = tt
 
 pub returns-in_err-fewest_edges_path-clause-best : goal.returns-in_err-fewest_edges_path-clause-best
 returns-in_err-fewest_edges_path-clause-best g c = λ _ _ _ _ _ _. IfOk-from_err _ _ c.from_residual.ensures.0
+
+pub returns-in_err-fewest_edges_path-clause-errors : goal.returns-in_err-fewest_edges_path-clause-errors
+returns-in_err-fewest_edges_path-clause-errors g c = refused_as _ c.from_residual.result c.in_err-fewest_edges_path.field-0.0 c.from_residual.ensures.1 c.in_err-fewest_edges_path.ensures.errors

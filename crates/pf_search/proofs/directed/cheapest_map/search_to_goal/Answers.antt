@@ -8,7 +8,7 @@ use Rattle.pf_core.proofs.SearchLemmas.{Grows-trans, search_grows, one_root, onl
 use Rattle.pf_core.proofs.TurnLemmas.{too_dear}
 use Rattle.pf_search.proofs.OrderLemmas.{order_start, order_more, first_turned, ended_at, ended_all}
 use Rattle.std.proofs.lemmas.Result.{IfOk-from_err}
-use Rattle.pf_search.proofs.ResultLemmas.{refused_as}
+use Rattle.pf_search.proofs.ResultLemmas.{refused_as, no_overflow, ok_is_no_error}
 use Rattle.pf_search.proofs.directed.cheapest_map.search_to_goal.Goals as goal
 
 pub turns-init : goal.turns-init
@@ -172,3 +172,24 @@ returns-in_err-turn-clause-wide g c = IfOk-from_err _ _ c.from_residual-in_err-t
 
 pub returns-then-is_goal-clause-errors : goal.returns-then-is_goal-clause-errors
 returns-then-is_goal-clause-errors g c = tt
+
+pub returns-clause-errors : goal.returns-clause-errors
+returns-clause-errors g c = tt
+
+pub returns-clause-overflow : goal.returns-clause-overflow
+returns-clause-overflow g c = λ _ _ _ e. absurd (ok_is_no_error _ _ _ refl e)
+
+pub returns-then-is_goal-clause-overflow : goal.returns-then-is_goal-clause-overflow
+returns-then-is_goal-clause-overflow g c = λ _ _ _ e. absurd (ok_is_no_error _ _ _ refl e)
+
+pub returns-clause-graph : goal.returns-clause-graph
+returns-clause-graph g c = c.turns.invariant.explored
+
+pub returns-clause-grows : goal.returns-clause-grows
+returns-clause-grows g c = c.turns.invariant.grown
+
+pub returns-in_err-search-clause-overflow : goal.returns-in_err-search-clause-overflow
+returns-in_err-search-clause-overflow g c = λ _ _ _ e. absurd (no_overflow c.from_residual.result c.in_err-search.field-0.0 c.from_residual.ensures.1 c.in_err-search.ensures.refused e)
+
+pub returns-in_err-turn-clause-errors : goal.returns-in_err-turn-clause-errors
+returns-in_err-turn-clause-errors g c = refused_as _ c.from_residual-in_err-turn.result c.in_err-turn.field-0.0 c.from_residual-in_err-turn.ensures.1 c.in_err-turn.ensures.errors

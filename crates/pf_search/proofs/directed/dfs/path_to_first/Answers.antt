@@ -10,6 +10,7 @@ use Rattle.pf_search.proofs.SimplePaths.{test_on}
 use Rattle.pf_search.proofs.PreorderLemmas.{end_of_push}
 use Rattle.pf_search.proofs.PreorderPaths.{goes_none, goes_some, node_reached, numbers_inside, is_goal, none_passes, none_more}
 use Rattle.std.proofs.lemmas.Result.{IfOk-from_err}
+use Rattle.pf_search.proofs.ResultLemmas.{refused_as}
 use Rattle.pf_search.proofs.directed.dfs.path_to_first.Goals as goal
 
 pub nodes-init : goal.nodes-init
@@ -94,3 +95,9 @@ returns-then-success-clause-errors g c = tt
 
 pub step-requires-clause-clones : goal.step-requires-clause-clones
 step-requires-clause-clones g c = c.requires.clones
+
+pub returns-in_err-node-clause-errors : goal.returns-in_err-node-clause-errors
+returns-in_err-node-clause-errors g c = refused_as _ c.from_residual.result c.in_err-node.field-0.0 c.from_residual.ensures.1 c.in_err-node.ensures.refused
+
+pub returns-in_err-path-clause-errors : goal.returns-in_err-path-clause-errors
+returns-in_err-path-clause-errors g c = refused_as _ c.from_residual-in_err-path.result c.in_err-path.field-0.0 c.from_residual-in_err-path.ensures.1 c.in_err-path.ensures.refused

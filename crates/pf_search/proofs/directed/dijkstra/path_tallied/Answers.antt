@@ -1,4 +1,4 @@
-use Rattle.std.proofs.Common.{rules, ◌≡◌, [], ◌∷◌, List, ℤ, Bool, ap, refl}
+use Rattle.std.proofs.Common.{◌≡◌, [], ◌∷◌, List, ℤ, Bool, ap, refl, sym}
 use Rattle.std.specs.Prelude.{Err}
 use Rattle.pf_base.specs.declared.error.PathError.TheVariants.{CostOverflow}
 use Rattle.pf_core.specs.Nodes.{TestedGraph}
@@ -28,7 +28,7 @@ returns-in_err-cheapest_path-clause-overflow g c = λ edges start test s costs e
     let x = s.explores in
     let keys = c.cheapest_path.new.graph.discovery.nodes.keys in
     let y = c.in_err-cheapest_path.ensures.graph h (x, t) in
-    let f : c.in_err-cheapest_path.field-0.0 ≡ CostOverflow = search rules in
+    let f : c.in_err-cheapest_path.field-0.0 ≡ CostOverflow = sym (rw e at c.from_residual.ensures.1) in
     let d = c.in_err-cheapest_path.ensures.overflow h (x, t) (no_negative eq laws h.graph x.alike costs) (ap Err f) in
     past_range eq laws h.graph x.alike _ (all_starts eq start _ s.begins) (only_starts eq start _ s.begins) test g.C.Number.fits keys (StandsFor-one eq laws keys y.0.distinct) d
 

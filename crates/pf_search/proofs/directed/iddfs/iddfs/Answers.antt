@@ -65,3 +65,9 @@ returns-in_err-deepen-clause-errors g c = refused_as _ c.from_residual-in_err-de
 
 pub returns-in_err-push-clause-best : goal.returns-in_err-push-clause-best
 returns-in_err-push-clause-best g c = λ _ _ _. IfOk-from_err _ _ c.from_residual.ensures.0
+
+pub returns-in-Found-clause-errors : goal.returns-in-Found-clause-errors
+returns-in-Found-clause-errors g c = tt
+
+pub returns-in-Missed-false-clause-errors : goal.returns-in-Missed-false-clause-errors
+returns-in-Missed-false-clause-errors g c = tt

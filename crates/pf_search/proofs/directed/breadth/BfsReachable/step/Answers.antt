@@ -65,3 +65,6 @@ returns-in_err-put_start-clause-refused g c = refused_as _ c.from_residual.resul
 
 pub returns-then-self-len-clause-refused : goal.returns-then-self-len-clause-refused
 returns-then-self-len-clause-refused g c = tt
+
+pub returns-in_err-node-clause-refused : goal.returns-in_err-node-clause-refused
+returns-in_err-node-clause-refused g c = refused_as _ c.from_residual-in_err-node.result c.in_err-node.field-0.0 c.from_residual-in_err-node.ensures.1 c.in_err-node.ensures.refused

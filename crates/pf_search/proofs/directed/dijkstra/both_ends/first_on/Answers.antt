@@ -37,3 +37,9 @@ numbers-preserved g c = λ k h j l m x a b d e pl pm. elim (Contains-take_more c
 
 pub returns : goal.returns
 returns g c = record { first = λ k h. c.numbers.invariant k (Contains-take_all c.args.numbers.now c.numbers.place k c.numbers-test.false h) }
+
+pub meeting_at-requires-clause-one : goal.meeting_at-requires-clause-one
+meeting_at-requires-clause-one g c = c.requires.one
+
+pub meeting_at-requires-clause-wide : goal.meeting_at-requires-clause-wide
+meeting_at-requires-clause-wide g c = c.requires.wide

@@ -83,3 +83,12 @@ returns-clause-low g c = λ k l m x here there hl hm pl pm.
     let sum = g.met.C.CheckedAdd.checked_add_law c.label_of-here.result.cost c.in-Some-label.there.cost (Some c.in-Some-checked_add.cost) c.in-Some-checked_add.ensures in
     subst (λ (n : Label g.row.C.Denot). g.C.Number.value c.in-Some-checked_add.cost ≤ℤ (g.C.Number.value n.cost +ℤ g.C.Number.value m.cost)) first
     (subst (λ (n : Label g.row.C.Denot). g.C.Number.value c.in-Some-checked_add.cost ≤ℤ (g.C.Number.value c.label_of-here.result.cost +ℤ g.C.Number.value n.cost)) second (omega (arith, ints, sum.1)))
+
+pub returns-in_default-clause-meets : goal.returns-in_default-clause-meets
+returns-in_default-clause-meets g c = tt
+
+pub returns-in_default-label-clause-meets : goal.returns-in_default-label-clause-meets
+returns-in_default-label-clause-meets g c = tt
+
+pub returns-in_default-checked_add-clause-meets : goal.returns-in_default-checked_add-clause-meets
+returns-in_default-checked_add-clause-meets g c = tt

@@ -87,3 +87,9 @@ returns-in_err-numbers-clause-path g c = IfOk-from_err _ _ c.from_residual.ensur
 
 pub returns-in_err-numbers-clause-refused : goal.returns-in_err-numbers-clause-refused
 returns-in_err-numbers-clause-refused g c = refused_as _ c.from_residual.result c.in_err-numbers.field-0.0 c.from_residual.ensures.1 c.in_err-numbers.ensures.refused
+
+pub first_on-first-requires-clause-one : goal.first_on-first-requires-clause-one
+first_on-first-requires-clause-one g c = c.requires.one
+
+pub first_on-first-requires-clause-wide : goal.first_on-first-requires-clause-wide
+first_on-first-requires-clause-wide g c = c.requires.wide_back

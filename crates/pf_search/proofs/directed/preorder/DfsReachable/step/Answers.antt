@@ -150,3 +150,6 @@ returns-in_err-put_start-clause-refused g c = refused_as _ c.from_residual.resul
 
 pub returns-in_ok-visit-in-Some-clause-refused : goal.returns-in_ok-visit-in-Some-clause-refused
 returns-in_ok-visit-in-Some-clause-refused g c = tt
+
+pub returns-in_err-visit-in-Some-clause-refused : goal.returns-in_err-visit-in-Some-clause-refused
+returns-in_err-visit-in-Some-clause-refused g c = refused_as _ c.from_residual-in_err-visit-in-Some.result c.in_err-visit-in-Some.field-0.0 c.from_residual-in_err-visit-in-Some.ensures.1 c.in_err-visit-in-Some.ensures.refused
