@@ -93,3 +93,12 @@ first_on-first-requires-clause-one g c = c.requires.one
 
 pub first_on-first-requires-clause-wide : goal.first_on-first-requires-clause-wide
 first_on-first-requires-clause-wide g c = c.requires.wide_back
+
+pub path_to-requires-clause-tree : goal.path_to-requires-clause-tree
+path_to-requires-clause-tree g c = rw c.deref.ensures.value c.requires.trees.0
+
+pub path_to-requires-2-clause-tree : goal.path_to-requires-2-clause-tree
+path_to-requires-2-clause-tree g c = rw c.deref-3.ensures.value c.requires.trees.1
+
+pub returns-clause-refused : goal.returns-clause-refused
+returns-clause-refused g c = c.nodes_along.ensures.refused
