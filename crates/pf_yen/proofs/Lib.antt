@@ -1,3 +1,4 @@
+pub mod ResultLemmas
 pub mod NarrowLemmas
 pub mod ClassLemmas
 pub mod NarrowWalks

@@ -15,10 +15,9 @@ ghost use Rattle.pf_search.specs.Internal.BothEnds.{from_one, bound, IsMeeting, 
 
 use pf_base::{Cost, EdgeFunction, PathError};
 use pf_core::both_ends::Halves;
-use pf_core::discovery::{Discovery, Nodes, Weighted, clone_of};
+use pf_core::discovery::{Discovery, Weighted, clone_of};
 use pf_core::labels::{label_of, path_to};
 use pf_core::search::Search;
-use pf_core::slot::Slot;
 use pf_core::two_sided::TwoSided;
 use std::alloc::Allocator;
 use std::hash::Hash;
@@ -35,31 +34,32 @@ struct Meeting<C> {
 
 /// The meeting at a node of one side, if the other side has a label for it and the two costs have a
 /// sum.
-fn meeting_at<N, C, A>(
-    nodes: &Nodes<N, A>,
-    labels: &Vec<Slot<C>, A>,
-    others: &Nodes<N, A>,
-    other_labels: &Vec<Slot<C>, A>,
+fn meeting_at<N, C, IN, FN, IM, FM, A>(
+    graph: &Discovery<N, Weighted, IN, FN, A>,
+    search: &Search<C, A>,
+    other_graph: &Discovery<N, Weighted, IM, FM, A>,
+    other_search: &Search<C, A>,
     number: usize,
 ) -> Option<Meeting<C>>
 where
     N: Eq + Hash + Drop,
     C: Cost,
     A: Allocator + Copy,
-    requires inside { number < length nodes.now.keys }
-    requires labelled { (l : Label C) × HasLabel labels.now.items number l }
-    requires wide { length other_labels.now.items ≡ length others.now.keys }
-    requires one { (i j : ℕ) (x : N) → StandsFor N.eq others.now.keys i x → StandsFor N.eq others.now.keys j x → i ≡ j }
-    ensures meets { IfSome result (λ m. (m.here ≡ number) × IsMeeting N.eq C.value nodes.now.keys others.now.keys labels.now.items other_labels.now.items m) }
-    ensures low { NoneBelowAt N.eq C.value nodes.now.keys others.now.keys labels.now.items other_labels.now.items (bound C.value (C.value C.greatest) result) number }
+    requires inside { number < length graph.now.nodes.keys }
+    requires labelled { (l : Label C) × HasLabel search.now.labels.items number l }
+    requires wide { length other_search.now.labels.items ≡ length other_graph.now.nodes.keys }
+    requires one { (i j : ℕ) (x : N) → StandsFor N.eq other_graph.now.nodes.keys i x → StandsFor N.eq other_graph.now.nodes.keys j x → i ≡ j }
+    ensures meets { IfSome result (λ m. (m.here ≡ number) × IsMeeting N.eq C.value graph.now.nodes.keys other_graph.now.nodes.keys search.now.labels.items other_search.now.labels.items m) }
+    ensures low { NoneBelowAt N.eq C.value graph.now.nodes.keys other_graph.now.nodes.keys search.now.labels.items other_search.now.labels.items (bound C.value (C.value C.greatest) result) number }
 {
-    let Some(across) = others.get_index_of(&nodes.as_slice()[number]) else {
+    let nodes = graph.nodes.as_slice();
+    let Some(across) = other_graph.nodes.get_index_of(&nodes[number]) else {
         return None;
     };
-    let Some(there) = other_labels[across].label() else {
+    let Some(there) = other_search.labels[across].label() else {
         return None;
     };
-    let here = label_of(labels, number);
+    let here = label_of(&search.labels, number);
     here.cost.known();
     let Some(cost) = here.cost.checked_add(&there.cost) else {
         return None;
@@ -134,6 +134,19 @@ fn is_best<C: Cost>(best: Option<Meeting<C>>, forth: C, back: C) -> bool
     }
 }
 
+/// The cost in the label of a number that has one.
+fn cost_at<C: Cost, A: Allocator>(search: &Search<C, A>, number: usize) -> C
+    requires { (l : Label C) × HasLabel search.now.labels.items number l }
+    ensures { (l : Label C) → HasLabel search.now.labels.items number l → result ≡ l.cost }
+{
+    label_of(&search.labels, number).cost
+}
+
+/// Do no more nodes wait in the first search than in the second?
+fn waits_for_no_more<C: Cost, A: Allocator>(search: &Search<C, A>, other: &Search<C, A>) -> bool {
+    search.queue.len() <= other.queue.len()
+}
+
 /// The best meeting of two searches, `forth` from the start and `back` from the end: the cost of a
 /// cheapest path. The answer is `None` exactly where no walk leads from one to the other.
 ///
@@ -184,31 +197,19 @@ where
         let Some(across) = back.least() else {
             return Ok(best);
         };
-        let cost = label_of(&forth.labels, number).cost;
-        let cost_back = label_of(&back.labels, across).cost;
+        let cost = cost_at(forth, number);
+        let cost_back = cost_at(back, across);
         if is_best(best, cost, cost_back) {
             return Ok(best);
         }
-        if back_is_over || forth.queue.len() <= back.queue.len() {
+        if back_is_over || waits_for_no_more(forth, back) {
             forth.turn(&mut graph.forth, number)?;
-            let found = meeting_at(
-                &graph.forth.nodes,
-                &forth.labels,
-                &graph.back.nodes,
-                &back.labels,
-                number,
-            );
+            let found = meeting_at(&graph.forth, forth, &graph.back, back, number);
             best = cheaper(best, found);
         } else {
             match back.turn(&mut graph.back, across) {
                 Ok(()) => {
-                    let found = meeting_at(
-                        &graph.back.nodes,
-                        &back.labels,
-                        &graph.forth.nodes,
-                        &forth.labels,
-                        across,
-                    );
+                    let found = meeting_at(&graph.back, back, &graph.forth, forth, across);
                     best = cheaper(best, turned_about(found));
                 }
                 Err(PathError::CostOverflow) => back_is_over = true,
@@ -221,11 +222,11 @@ where
 
 /// The first node of the half on the way forth at which both sides meet at no more than this cost, with
 /// its place in the half.
-fn first_on<N, C, A>(
-    nodes: &Nodes<N, A>,
-    labels: &Vec<Slot<C>, A>,
-    others: &Nodes<N, A>,
-    other_labels: &Vec<Slot<C>, A>,
+fn first_on<N, C, IN, FN, IM, FM, A>(
+    graph: &Discovery<N, Weighted, IN, FN, A>,
+    search: &Search<C, A>,
+    other_graph: &Discovery<N, Weighted, IM, FM, A>,
+    other_search: &Search<C, A>,
     numbers: &[usize],
     cost: C,
 ) -> Option<(usize, Meeting<C>)>
@@ -233,20 +234,20 @@ where
     N: Eq + Hash + Drop,
     C: Cost,
     A: Allocator + Copy,
-    requires inside { (k : ℕ) → Contains numbers.now k → k < length nodes.now.keys }
-    requires labelled { (k : ℕ) → Contains numbers.now k → (l : Label C) × HasLabel labels.now.items k l }
-    requires wide { length other_labels.now.items ≡ length others.now.keys }
-    requires one { (i j : ℕ) (x : N) → StandsFor N.eq others.now.keys i x → StandsFor N.eq others.now.keys j x → i ≡ j }
+    requires inside { (k : ℕ) → Contains numbers.now k → k < length graph.now.nodes.keys }
+    requires labelled { (k : ℕ) → Contains numbers.now k → (l : Label C) × HasLabel search.now.labels.items k l }
+    requires wide { length other_search.now.labels.items ≡ length other_graph.now.nodes.keys }
+    requires one { (i j : ℕ) (x : N) → StandsFor N.eq other_graph.now.nodes.keys i x → StandsFor N.eq other_graph.now.nodes.keys j x → i ≡ j }
     ensures first { MatchOption result
-        ((k : ℕ) → Contains numbers.now k → NoneBelowAt N.eq C.value nodes.now.keys others.now.keys labels.now.items other_labels.now.items (C.value cost +ℤ pos 1) k)
+        ((k : ℕ) → Contains numbers.now k → NoneBelowAt N.eq C.value graph.now.nodes.keys other_graph.now.nodes.keys search.now.labels.items other_search.now.labels.items (C.value cost +ℤ pos 1) k)
         (λ r. (slice_get numbers.now r.0 ≡ Some r.1.here)
-        × IsMeeting N.eq C.value nodes.now.keys others.now.keys labels.now.items other_labels.now.items r.1
+        × IsMeeting N.eq C.value graph.now.nodes.keys other_graph.now.nodes.keys search.now.labels.items other_search.now.labels.items r.1
         × (C.value r.1.cost ≤ℤ C.value cost)
-        × ((k : ℕ) → Contains (take r.0 numbers.now) k → NoneBelowAt N.eq C.value nodes.now.keys others.now.keys labels.now.items other_labels.now.items (C.value cost +ℤ pos 1) k)) }
+        × ((k : ℕ) → Contains (take r.0 numbers.now) k → NoneBelowAt N.eq C.value graph.now.nodes.keys other_graph.now.nodes.keys search.now.labels.items other_search.now.labels.items (C.value cost +ℤ pos 1) k)) }
 {
     cost.known();
     'numbers: for (place, number) in numbers.iter().enumerate() {
-        if let Some(meeting) = meeting_at(nodes, labels, others, other_labels, *number) {
+        if let Some(meeting) = meeting_at(graph, search, other_graph, other_search, *number) {
             if is_at_most(meeting.cost, cost) {
                 return Some((place, meeting));
             }
@@ -284,14 +285,7 @@ where
     ensures refused { IfErr result (λ e. e ≡ PathError.OutOfMemory) }
 {
     let mut numbers = path_to(alloc, &forth.labels, best.here)?;
-    let first = first_on(
-        &graph.forth.nodes,
-        &forth.labels,
-        &graph.back.nodes,
-        &back.labels,
-        &numbers,
-        best.cost,
-    );
+    let first = first_on(&graph.forth, forth, &graph.back, back, &numbers, best.cost);
     let Some((place, meeting)) = first else {
         unreachable!();
     };

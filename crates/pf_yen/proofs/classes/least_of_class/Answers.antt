@@ -1,9 +1,11 @@
-use Rattle.std.proofs.Common.{rules, ◌≡◌, refl, sym, ap, subst, Err, length}
+use Rattle.std.proofs.Common.{◌≡◌, refl, sym, ap, subst, Err, length}
 use Rattle.pf_base.specs.declared.error.PathError.TheVariants.{CostOverflow}
 use Rattle.pf_core.specs.Steps.{IsTooDear}
 use Rattle.pf_yen.specs.Known.{KnownGraph, is_goal}
 use Rattle.pf_yen.specs.Narrow.{NarrowGraph, NarrowStep, StandsForItself}
 use Rattle.pf_yen.proofs.NarrowWalks.{narrow_from_zero, none_left, best_clean, best_member, best_least}
+use Rattle.std.proofs.lemmas.Result.{IfOk-from_err}
+use Rattle.pf_yen.proofs.ResultLemmas.{handed_on, ok_is_no_error, refused_as}
 use Rattle.pf_yen.proofs.classes.least_of_class.Goals as goal
 
 pub returns-in_err-answer-clause-overflow : goal.returns-in_err-answer-clause-overflow
@@ -11,7 +13,7 @@ returns-in_err-answer-clause-overflow g c = λ e.
     let s = c.args.narrowed.now in
     let here : NarrowGraph g.row.C.Denot = record { known = s.known.now; onward = s.onward.items; spur = s.spur; banned = s.banned.items } in
     let x = c.in_err-answer.ensures.graph here (refl, c.requires.whole.inside, c.requires.wide) in
-    let f : c.in_err-answer.field-0.0 ≡ CostOverflow = search rules in
+    let f : c.in_err-answer.field-0.0 ≡ CostOverflow = handed_on c.from_residual.result c.in_err-answer.field-0.0 c.from_residual.ensures.1 e in
     let d = c.in_err-answer.ensures.overflow here (refl, c.requires.whole.inside, c.requires.wide) (narrow_from_zero g.C.Number.value here c.requires.whole) (ap Err f) in
     subst (λ (k : KnownGraph g.row.C.Denot). IsTooDear (NarrowStep g.C.Number.value here) (is_goal s.known.now) (StandsForItself (length s.known.now.rows) 0) (StandsForItself (length k.rows)) g.C.Number.fits) (sym (ap (λ (h : NarrowGraph g.row.C.Denot). h.known) x.0)) d
 
@@ -32,3 +34,57 @@ returns-clause-least g c = λ q n.
       member = best_member g.C.Number.value here q n _ _ c.requires.some _ _ b;
       least = best_least g.C.Number.value here q n _ _ c.requires.some _ _ b;
     }
+
+pub returns-in-None-clause-errors : goal.returns-in-None-clause-errors
+returns-in-None-clause-errors g c = tt
+
+pub returns-in_err-answer-clause-banned : goal.returns-in_err-answer-clause-banned
+returns-in_err-answer-clause-banned g c = IfOk-from_err _ _ c.from_residual.ensures.0
+
+pub returns-in_err-answer-clause-errors : goal.returns-in_err-answer-clause-errors
+returns-in_err-answer-clause-errors g c = refused_as _ c.from_residual.result c.in_err-answer.field-0.0 c.from_residual.ensures.1 c.in_err-answer.ensures.errors
+
+pub returns-in_err-answer-clause-least : goal.returns-in_err-answer-clause-least
+returns-in_err-answer-clause-least g c = IfOk-from_err _ _ c.from_residual.ensures.0
+
+pub returns-in_err-answer-clause-parts : goal.returns-in_err-answer-clause-parts
+returns-in_err-answer-clause-parts g c = IfOk-from_err _ _ c.from_residual.ensures.0
+
+pub returns-clause-known : goal.returns-clause-known
+returns-clause-known g c = let s = c.args.narrowed.now in let here : NarrowGraph g.row.C.Denot = record { known = s.known.now; onward = s.onward.items; spur = s.spur; banned = s.banned.items } in sym (ap (λ (h : NarrowGraph g.row.C.Denot). h.known) (c.in_ok-answer.ensures.graph here (refl, c.requires.whole.inside, c.requires.wide)).0)
+
+pub returns-clause-onward : goal.returns-clause-onward
+returns-clause-onward g c = let s = c.args.narrowed.now in let here : NarrowGraph g.row.C.Denot = record { known = s.known.now; onward = s.onward.items; spur = s.spur; banned = s.banned.items } in sym (ap (λ (h : NarrowGraph g.row.C.Denot). h.onward) (c.in_ok-answer.ensures.graph here (refl, c.requires.whole.inside, c.requires.wide)).0)
+
+pub returns-clause-spur : goal.returns-clause-spur
+returns-clause-spur g c = let s = c.args.narrowed.now in let here : NarrowGraph g.row.C.Denot = record { known = s.known.now; onward = s.onward.items; spur = s.spur; banned = s.banned.items } in sym (ap (λ (h : NarrowGraph g.row.C.Denot). h.spur) (c.in_ok-answer.ensures.graph here (refl, c.requires.whole.inside, c.requires.wide)).0)
+
+pub returns-in-None-clause-known : goal.returns-in-None-clause-known
+returns-in-None-clause-known g c = let s = c.args.narrowed.now in let here : NarrowGraph g.row.C.Denot = record { known = s.known.now; onward = s.onward.items; spur = s.spur; banned = s.banned.items } in sym (ap (λ (h : NarrowGraph g.row.C.Denot). h.known) (c.in_ok-answer.ensures.graph here (refl, c.requires.whole.inside, c.requires.wide)).0)
+
+pub returns-in-None-clause-onward : goal.returns-in-None-clause-onward
+returns-in-None-clause-onward g c = let s = c.args.narrowed.now in let here : NarrowGraph g.row.C.Denot = record { known = s.known.now; onward = s.onward.items; spur = s.spur; banned = s.banned.items } in sym (ap (λ (h : NarrowGraph g.row.C.Denot). h.onward) (c.in_ok-answer.ensures.graph here (refl, c.requires.whole.inside, c.requires.wide)).0)
+
+pub returns-in-None-clause-spur : goal.returns-in-None-clause-spur
+returns-in-None-clause-spur g c = let s = c.args.narrowed.now in let here : NarrowGraph g.row.C.Denot = record { known = s.known.now; onward = s.onward.items; spur = s.spur; banned = s.banned.items } in sym (ap (λ (h : NarrowGraph g.row.C.Denot). h.spur) (c.in_ok-answer.ensures.graph here (refl, c.requires.whole.inside, c.requires.wide)).0)
+
+pub returns-in_err-answer-clause-known : goal.returns-in_err-answer-clause-known
+returns-in_err-answer-clause-known g c = let s = c.args.narrowed.now in let here : NarrowGraph g.row.C.Denot = record { known = s.known.now; onward = s.onward.items; spur = s.spur; banned = s.banned.items } in sym (ap (λ (h : NarrowGraph g.row.C.Denot). h.known) (c.in_err-answer.ensures.graph here (refl, c.requires.whole.inside, c.requires.wide)).0)
+
+pub returns-in_err-answer-clause-onward : goal.returns-in_err-answer-clause-onward
+returns-in_err-answer-clause-onward g c = let s = c.args.narrowed.now in let here : NarrowGraph g.row.C.Denot = record { known = s.known.now; onward = s.onward.items; spur = s.spur; banned = s.banned.items } in sym (ap (λ (h : NarrowGraph g.row.C.Denot). h.onward) (c.in_err-answer.ensures.graph here (refl, c.requires.whole.inside, c.requires.wide)).0)
+
+pub returns-in_err-answer-clause-spur : goal.returns-in_err-answer-clause-spur
+returns-in_err-answer-clause-spur g c = let s = c.args.narrowed.now in let here : NarrowGraph g.row.C.Denot = record { known = s.known.now; onward = s.onward.items; spur = s.spur; banned = s.banned.items } in sym (ap (λ (h : NarrowGraph g.row.C.Denot). h.spur) (c.in_err-answer.ensures.graph here (refl, c.requires.whole.inside, c.requires.wide)).0)
+
+pub returns-clause-errors : goal.returns-clause-errors
+returns-clause-errors g c = tt
+
+pub returns-clause-overflow : goal.returns-clause-overflow
+returns-clause-overflow g c = λ e. absurd (ok_is_no_error _ _ _ refl e)
+
+pub returns-in-None-clause-overflow : goal.returns-in-None-clause-overflow
+returns-in-None-clause-overflow g c = λ e. absurd (ok_is_no_error _ _ _ refl e)
+
+pub returns-in-None-clause-parts : goal.returns-in-None-clause-parts
+returns-in-None-clause-parts g c = tt

@@ -1,6 +1,8 @@
 use Rattle.std.proofs.Common.{◌∙◌, ap, length, arith}
 use Rattle.std.proofs.lemmas.List.{length-set, length-replicate}
 use Rattle.pf_yen.proofs.SplitLemmas.{narrowed_first, narrowed_on, spur_inside}
+use Rattle.std.proofs.lemmas.Result.{IfOk-from_err}
+use Rattle.pf_yen.proofs.ResultLemmas.{refused_as}
 use Rattle.pf_yen.proofs.classes.narrowed_along.Goals as goal
 
 pub places-init : goal.places-init
@@ -27,3 +29,18 @@ places-preserved g c =
       banned = e.banned ∙ i.banned;
       narrowed = rw (e.onward, e.spur) (narrowed_on g.C.Number.value c.args.known.now c.requires.whole c.args.path.now u.0 c.places.place 0 c.places.narrowed.onward.items c.places.narrowed.spur u.1 (omega (arith, c.places-test.true, c.requires.inside)) i.wide i.narrowed);
     }
+
+pub returns-in_err-narrowed-clause-banned : goal.returns-in_err-narrowed-clause-banned
+returns-in_err-narrowed-clause-banned g c = IfOk-from_err _ _ c.from_residual.ensures.0
+
+pub returns-in_err-narrowed-clause-known : goal.returns-in_err-narrowed-clause-known
+returns-in_err-narrowed-clause-known g c = IfOk-from_err _ _ c.from_residual.ensures.0
+
+pub returns-in_err-narrowed-clause-narrowed : goal.returns-in_err-narrowed-clause-narrowed
+returns-in_err-narrowed-clause-narrowed g c = IfOk-from_err _ _ c.from_residual.ensures.0
+
+pub returns-in_err-narrowed-clause-refused : goal.returns-in_err-narrowed-clause-refused
+returns-in_err-narrowed-clause-refused g c = refused_as _ c.from_residual.result c.in_err-narrowed.field-0.0 c.from_residual.ensures.1 c.in_err-narrowed.ensures.refused
+
+pub returns-in_err-narrowed-clause-wide : goal.returns-in_err-narrowed-clause-wide
+returns-in_err-narrowed-clause-wide g c = IfOk-from_err _ _ c.from_residual.ensures.0

@@ -1,4 +1,4 @@
-use Rattle.std.proofs.Common.{rules, ◌≡◌, ◌∙◌, sym, ap, subst, length, arith, take, drop, map, ◌++◌, [], ◌∷◌, Err, List, ℕ, ◌<◌, ◌+◌, Some}
+use Rattle.std.proofs.Common.{◌≡◌, ◌∙◌, sym, ap, subst, length, arith, take, drop, map, ◌++◌, [], ◌∷◌, Err, List, ℕ, ◌<◌, ◌+◌, Some, inl, refl}
 use Rattle.std.specs.Prelude.{slice_set, slice_index_or}
 use Rattle.std.proofs.lemmas.List.{length-set, map-append}
 use Rattle.pf_base.specs.declared.error.PathError.TheVariants.{CostOverflow}
@@ -8,6 +8,8 @@ use Rattle.pf_yen.specs.Narrow.{NarrowGraph}
 use Rattle.pf_yen.specs.Classes.{IsNarrowedTo, IsSplitUpTo, IsPastAlong, plan_of}
 use Rattle.pf_yen.proofs.SplitLemmas.{narrowed_on, spur_inside, split_first, split_none, split_some, split_last, past_along}
 use Rattle.pf_yen.proofs.classes.split.Goals.{in-Some+in_ok-push-2, in_default}
+use Rattle.std.proofs.lemmas.Result.{IfOk-from_err}
+use Rattle.pf_yen.proofs.ResultLemmas.{handed_on, no_overflow, ok_is_no_error, refused_as}
 use Rattle.pf_yen.proofs.classes.split.Goals as goal
 
 pub places-init : goal.places-init
@@ -28,7 +30,7 @@ returns-in_err-plan-clause-overflow g c = λ x.
     let i = c.places.invariant in
     let s = c.places.narrowed in
     let here : NarrowGraph g.row.C.Denot = record { known = s.known.now; onward = s.onward.items; spur = s.spur; banned = c.push.new.self.items } in
-    let f : c.in_err-plan.field-0.0 ≡ CostOverflow = search rules in
+    let f : c.in_err-plan.field-0.0 ≡ CostOverflow = handed_on c.from_residual-in_err-plan.result c.in_err-plan.field-0.0 c.from_residual-in_err-plan.ensures.1 x in
     subst (λ (k : KnownGraph g.row.C.Denot). IsPastAlong g.C.Number.value k g.C.Number.fits) i.known (past_along g.C.Number.value g.C.Number.fits here (length s.known.now.rows) (c.in_err-plan.ensures.overflow (ap Err f)))
 
 pub go_on-requires : goal.go_on-requires
@@ -47,7 +49,7 @@ places-preserved g c =
     let h = c.requires.cheapest in
     let n = c.index-next.result.now in
     let at : n ≡ slice_index_or c.args.candidate.now.path.items (c.places.place + 1) n = c.index-next.ensures in
-    let inside : c.places.place + 1 < length c.args.candidate.now.path.items = let l : c.len-place-end.result ≡ length c.args.candidate.now.path.items = search rules in omega (arith, l, c.places-test.true) in
+    let inside : c.places.place + 1 < length c.args.candidate.now.path.items = omega (arith, c.len-place-end.ensures, c.places-test.true) in
     let banned : c.push.new.self.items ≡ s.banned.items ++ slice_index_or c.args.candidate.now.path.items (c.places.place + 1) n ∷ [] = c.in_ok-push.ensures.items ∙ ap (λ (m : ℕ). s.banned.items ++ m ∷ []) at in
     record {
       known = o.known ∙ e.known ∙ i.known;
@@ -72,4 +74,40 @@ pub returns-clause-split : goal.returns-clause-split
 returns-clause-split g c =
     let i = c.places.invariant in
     split_last g.C.Number.value c.args.known.now c.requires.whole (plan_of c.args.candidate.now) c.requires.cheapest c.places.place c.places.narrowed.banned.items (map plan_of c.places.plans.items) i.split
-    (let l : c.len-place-end.result ≡ length c.args.candidate.now.path.items = search rules in omega (arith, l, c.places-test.false))
+    (omega (arith, c.len-place-end.ensures, c.places-test.false))
+
+pub returns-in_err-extend_from_slice-clause-split : goal.returns-in_err-extend_from_slice-clause-split
+returns-in_err-extend_from_slice-clause-split g c = IfOk-from_err _ _ c.from_residual-in_err-extend_from_slice.ensures.0
+
+pub returns-in_err-narrowed-clause-errors : goal.returns-in_err-narrowed-clause-errors
+returns-in_err-narrowed-clause-errors g c = refused_as _ c.from_residual.result c.in_err-narrowed.field-0.0 c.from_residual.ensures.1 (inl c.in_err-narrowed.ensures.refused)
+
+pub returns-in_err-narrowed-clause-split : goal.returns-in_err-narrowed-clause-split
+returns-in_err-narrowed-clause-split g c = IfOk-from_err _ _ c.from_residual.ensures.0
+
+pub returns-in_err-plan-clause-errors : goal.returns-in_err-plan-clause-errors
+returns-in_err-plan-clause-errors g c = refused_as _ c.from_residual-in_err-plan.result c.in_err-plan.field-0.0 c.from_residual-in_err-plan.ensures.1 c.in_err-plan.ensures.errors
+
+pub returns-in_err-plan-clause-split : goal.returns-in_err-plan-clause-split
+returns-in_err-plan-clause-split g c = IfOk-from_err _ _ c.from_residual-in_err-plan.ensures.0
+
+pub returns-in_err-push-2-clause-split : goal.returns-in_err-push-2-clause-split
+returns-in_err-push-2-clause-split g c = IfOk-from_err _ _ c.from_residual-in_err-push-2.ensures.0
+
+pub returns-in_err-push-clause-split : goal.returns-in_err-push-clause-split
+returns-in_err-push-clause-split g c = IfOk-from_err _ _ c.from_residual-in_err-push.ensures.0
+
+pub returns-clause-errors : goal.returns-clause-errors
+returns-clause-errors g c = tt
+
+pub returns-clause-overflow : goal.returns-clause-overflow
+returns-clause-overflow g c = λ e. absurd (ok_is_no_error _ _ _ refl e)
+
+pub returns-in_err-narrowed-clause-overflow : goal.returns-in_err-narrowed-clause-overflow
+returns-in_err-narrowed-clause-overflow g c = λ e. absurd (no_overflow c.from_residual.result c.in_err-narrowed.field-0.0 c.from_residual.ensures.1 c.in_err-narrowed.ensures.refused e)
+
+pub narrowed_along-requires-clause-whole : goal.narrowed_along-requires-clause-whole
+narrowed_along-requires-clause-whole g c = c.requires.whole
+
+pub narrowed_along-requires-clause-some : goal.narrowed_along-requires-clause-some
+narrowed_along-requires-clause-some g c = c.requires.some

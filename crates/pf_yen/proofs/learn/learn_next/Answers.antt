@@ -1,11 +1,13 @@
 use Rattle.std.proofs.Common.{rules, ◌≡◌, ◌<◌, ◌∙◌, sym, arith, inl, inr, true, false, ℕ, length}
 use Rattle.std.specs.Prelude.{Contains}
-use Rattle.pf_core.specs.Numbered.{ListsSteps}
 use Rattle.pf_core.proofs.ListLemmas.{ok_or_err}
+use Rattle.pf_core.specs.Numbered.{Grows, ListsSteps}
+use Rattle.pf_core.proofs.SearchLemmas.{Grows-trans}
 use Rattle.pf_yen.specs.Learned.{LiveStep, IsLearned}
 use Rattle.pf_yen.proofs.NarrowLemmas.{in_none}
 use Rattle.pf_yen.proofs.LearnLemmas.{learned_grow, learned_add, lists_live, lists_none}
 use Rattle.pf_yen.proofs.learn.learn_next.Goals.{then-not-goal+in_ok-expand, else-not-goal}
+use Rattle.std.proofs.lemmas.Result.{IfOk-from_err}
 use Rattle.pf_yen.proofs.learn.learn_next.Goals as goal
 
 pub returns-in_err-expand-clause-learned : goal.returns-in_err-expand-clause-learned
@@ -70,4 +72,31 @@ returns-clause-learned g c = λ h x l.
     elim (ok_or_err c.add.result c.add.ensures.added c.add.ensures.kept) as (λ _. IsLearned value step passes (stands c.if-not-goal.graph) (found c.if-not-goal.graph) c.add.new.self) [
       | inl a ↦ rw a (learned_add value step passes (found c.if-not-goal.graph) (stands c.if-not-goal.graph) k c.if-not-goal.row.items c.is_goal-goal.result p.0 p.1.1.1 p.1.0 p.1.1.0)
       | inr a ↦ rw a p.0
+    ]
+
+pub returns-in_err-expand-clause-more : goal.returns-in_err-expand-clause-more
+returns-in_err-expand-clause-more g c = IfOk-from_err _ _ c.from_residual.ensures.0
+
+pub returns-in_err-expand-clause-grows : goal.returns-in_err-expand-clause-grows
+returns-in_err-expand-clause-grows g c = Grows-trans _ _ _ _ _ _ c.is_goal-goal.ensures.grows c.in_err-expand.ensures.grows
+
+pub returns-in_err-expand-clause-graph : goal.returns-in_err-expand-clause-graph
+returns-in_err-expand-clause-graph g c = λ h x. c.in_err-expand.ensures.graph h (c.is_goal-goal.ensures.graph h x).0
+
+pub returns-clause-grows : goal.returns-clause-grows
+returns-clause-grows g c =
+    let b = c.is_goal-goal.ensures in
+    let found = g.G.NumberedGraph.found in
+    let stands = g.G.NumberedGraph.stands in
+    elim c.if-not-goal.branch as (λ _. Grows (found c.args.graph.now) (found c.if-not-goal.graph) (stands c.args.graph.now) (stands c.if-not-goal.graph)) [
+      | then-not-goal+in_ok-expand w ↦ rw w.graph-is (Grows-trans _ _ _ _ _ _ b.grows w.in_ok-expand.ensures.grows)
+      | else-not-goal w ↦ rw w.graph-is b.grows
+    ]
+
+pub returns-clause-graph : goal.returns-clause-graph
+returns-clause-graph g c = λ h x.
+    let y = (c.is_goal-goal.ensures.graph h x).0 in
+    elim c.if-not-goal.branch as (λ _. g.G.NumberedGraph.explores c.if-not-goal.graph h) [
+      | then-not-goal+in_ok-expand w ↦ rw w.graph-is (w.in_ok-expand.ensures.graph h y)
+      | else-not-goal w ↦ rw w.graph-is y
     ]

@@ -1,4 +1,6 @@
 use Rattle.pf_core.proofs.UnitLemmas.{Explores-successors, tests_in_reach}
+use Rattle.std.proofs.lemmas.Result.{IfOk-from_err}
+use Rattle.pf_search.proofs.ResultLemmas.{refused_as}
 use Rattle.pf_search.proofs.directed.bfs.bfs.Goals as goal
 
 pub path_from-requires-clause-graph : goal.path_from-requires-clause-graph
@@ -17,3 +19,15 @@ returns-clause-best g c = λ next test s.
     let found = c.in_ok-clones_of in
     let x = Explores-successors eq g.met.N.Eq.laws _ _ _ _ _ starts found.field-0.keys next _ found.ensures.distinct found.ensures.same s.successors_answered in
     c.path_from.ensures.best next starts test x (tests_in_reach eq _ starts next test _ s.test_answered) found.ensures.same
+
+pub path_from-requires-clause-clones : goal.path_from-requires-clause-clones
+path_from-requires-clause-clones g c = c.requires.clones
+
+pub returns-in_err-clones_of-clause-best : goal.returns-in_err-clones_of-clause-best
+returns-in_err-clones_of-clause-best g c = λ _ _ _. IfOk-from_err _ _ c.from_residual.ensures.0
+
+pub returns-in_err-clones_of-clause-errors : goal.returns-in_err-clones_of-clause-errors
+returns-in_err-clones_of-clause-errors g c = refused_as _ c.from_residual.result c.in_err-clones_of.field-0.0 c.from_residual.ensures.1 c.in_err-clones_of.ensures.refused
+
+pub returns-clause-errors : goal.returns-clause-errors
+returns-clause-errors g c = c.path_from.ensures.errors

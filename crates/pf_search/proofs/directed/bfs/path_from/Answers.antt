@@ -4,7 +4,8 @@ use Rattle.pf_core.specs.Nodes.{TestedGraph}
 use Rattle.pf_core.proofs.WalkLemmas.{no_walk, best_answer}
 use Rattle.pf_core.proofs.UnitLemmas.{is_hop, no_next_walk, fewest_of_best, begins_all, starts_stand}
 use Rattle.pf_search.specs.Internal.Hops.{hops_from}
-use Rattle.pf_search.proofs.ResultLemmas.{in_some, error_kept}
+use Rattle.pf_search.proofs.ResultLemmas.{in_some, error_kept, refused_as}
+use Rattle.std.proofs.lemmas.Result.{IfOk-from_err}
 use Rattle.pf_search.proofs.directed.bfs.path_from.Goals as goal
 
 -- the graph that these functions answer, with the cost 1 at each edge
@@ -45,3 +46,15 @@ returns-in-Some-clause-best g c = λ next starts test x u same.
 
 pub returns-in-Some-clause-errors : goal.returns-in-Some-clause-errors
 returns-in-Some-clause-errors g c = error_kept c.nodes_at.result c.map.result c.map.ensures.cases _ c.nodes_at.ensures.refused
+
+pub nodes_at-requires-clause-clones : goal.nodes_at-requires-clause-clones
+nodes_at-requires-clause-clones g c = c.requires.clones
+
+pub returns-in-None-clause-errors : goal.returns-in-None-clause-errors
+returns-in-None-clause-errors g c = tt
+
+pub returns-in_err-fewest_edges_path-clause-best : goal.returns-in_err-fewest_edges_path-clause-best
+returns-in_err-fewest_edges_path-clause-best g c = λ _ _ _ _ _ _. IfOk-from_err _ _ c.from_residual.ensures.0
+
+pub returns-in_err-fewest_edges_path-clause-errors : goal.returns-in_err-fewest_edges_path-clause-errors
+returns-in_err-fewest_edges_path-clause-errors g c = refused_as _ c.from_residual.result c.in_err-fewest_edges_path.field-0.0 c.from_residual.ensures.1 c.in_err-fewest_edges_path.ensures.errors

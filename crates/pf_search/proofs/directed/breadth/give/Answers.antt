@@ -3,6 +3,7 @@ use Rattle.pf_base.proofs.Callers.{SameNodes-refl}
 use Rattle.pf_core.proofs.ListLemmas.{at_place}
 use Rattle.pf_search.proofs.BreadthLemmas.{Same-sym}
 use Rattle.pf_search.proofs.BreadthSteps.{no_value, any_err, walk_explores, kept_places, kept_all, walk_stays, walk_goes, next_of, given_more}
+use Rattle.std.proofs.lemmas.Result.{IfOk-from_err}
 use Rattle.pf_search.proofs.directed.breadth.give.Goals as goal
 
 pub expand-requires-clause-graph : goal.expand-requires-clause-graph
@@ -63,3 +64,9 @@ returns-clause-given g c =
     let m = c.index-as_slice-number.result in
     let at : slice_get keys c.args.number ≡ Some m = at_place _ _ _ _ c.requires.inside (sym (rw c.as_slice.ensures.keys at c.index-as_slice-number.is)) in
     given_more eq laws keys keys' c.args.number m c.in_ok-node.node (kept_places eq laws keys keys' c.in_ok-expand.ensures.grows) at (c.requires.clones m c.in_ok-node.node c.in_ok-node.ensures.cases)
+
+pub returns-in_err-expand-clause-given : goal.returns-in_err-expand-clause-given
+returns-in_err-expand-clause-given g c = IfOk-from_err _ _ c.from_residual-in_err-expand.ensures.0
+
+pub returns-in_err-node-clause-given : goal.returns-in_err-node-clause-given
+returns-in_err-node-clause-given g c = IfOk-from_err _ _ c.from_residual.ensures.0

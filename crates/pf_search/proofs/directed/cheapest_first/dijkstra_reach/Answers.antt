@@ -3,6 +3,8 @@ use Rattle.pf_core.specs.declared.labels.Label.{Label}
 use Rattle.pf_core.specs.Nodes.{NodeGraph, StandsFor, IsStep}
 use Rattle.pf_core.proofs.NodeLemmas.{Explores-edges}
 use Rattle.pf_core.proofs.SearchLemmas.{start_alone, none_settled}
+use Rattle.std.proofs.lemmas.Result.{IfOk-from_err}
+use Rattle.pf_search.proofs.ResultLemmas.{refused_as}
 use Rattle.pf_search.proofs.directed.cheapest_first.dijkstra_reach.Goals as goal
 
 pub returns-clause-begins : goal.returns-clause-begins
@@ -31,3 +33,21 @@ returns-clause-graph g c = λ edges a h.
       begins = found.ensures.begins;
       search = start_alone 0 g.C.Number.value (IsStep eq graph) (StandsFor eq found.field-0.keys) here c.in_ok-search.search.labels.items first b.first b.only refl refl (g.met.C.Zero.zero_law g.met.C.Integral.exact_law);
     }
+
+pub returns-in_err-clone_of-clause-begins : goal.returns-in_err-clone_of-clause-begins
+returns-in_err-clone_of-clause-begins g c = IfOk-from_err _ _ c.from_residual.ensures.0
+
+pub returns-in_err-clone_of-clause-graph : goal.returns-in_err-clone_of-clause-graph
+returns-in_err-clone_of-clause-graph g c = IfOk-from_err _ _ c.from_residual.ensures.0
+
+pub returns-in_err-clone_of-clause-refused : goal.returns-in_err-clone_of-clause-refused
+returns-in_err-clone_of-clause-refused g c = refused_as _ c.from_residual.result c.in_err-clone_of.field-0.0 c.from_residual.ensures.1 c.in_err-clone_of.ensures.refused
+
+pub returns-in_err-search-clause-begins : goal.returns-in_err-search-clause-begins
+returns-in_err-search-clause-begins g c = IfOk-from_err _ _ c.from_residual-in_err-search.ensures.0
+
+pub returns-in_err-search-clause-graph : goal.returns-in_err-search-clause-graph
+returns-in_err-search-clause-graph g c = IfOk-from_err _ _ c.from_residual-in_err-search.ensures.0
+
+pub returns-in_err-search-clause-refused : goal.returns-in_err-search-clause-refused
+returns-in_err-search-clause-refused g c = refused_as _ c.from_residual-in_err-search.result c.in_err-search.field-0.0 c.from_residual-in_err-search.ensures.1 c.in_err-search.ensures.refused

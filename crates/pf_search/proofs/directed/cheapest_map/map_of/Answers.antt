@@ -1,5 +1,6 @@
 use Rattle.std.proofs.Common.{arith, sym}
 use Rattle.std.specs.HashMap.{get}
+use Rattle.std.proofs.lemmas.Result.{IfOk-from_err}
 use Rattle.pf_core.proofs.LabelLemmas.{HasLabel-inside}
 use Rattle.pf_core.proofs.ListLemmas.{at_place}
 use Rattle.pf_search.proofs.MapLemmas.{label_read, label_none, maps_same, maps_more, maps_whole}
@@ -39,3 +40,15 @@ numbers-preserved g c =
 
 pub returns-clause-maps : goal.returns-clause-maps
 returns-clause-maps g c = maps_whole g.N.PartialEq.eq g.met.N.Eq.laws c.args.nodes.now c.args.labels.now c.numbers.number _ (omega (arith, c.numbers-test.false)) c.numbers.invariant.maps
+
+pub returns-in_err-parents-clause-maps : goal.returns-in_err-parents-clause-maps
+returns-in_err-parents-clause-maps g c = IfOk-from_err _ _ c.from_residual.ensures.0
+
+pub returns-in_err-parent-clause-maps : goal.returns-in_err-parent-clause-maps
+returns-in_err-parent-clause-maps g c = IfOk-from_err _ _ c.from_residual-in_err-parent.ensures.0
+
+pub returns-in_err-node-clause-maps : goal.returns-in_err-node-clause-maps
+returns-in_err-node-clause-maps g c = IfOk-from_err _ _ c.from_residual-in_err-node.ensures.0
+
+pub returns-in_err-insert-clause-maps : goal.returns-in_err-insert-clause-maps
+returns-in_err-insert-clause-maps g c = IfOk-from_err _ _ c.from_residual-in_err-insert.ensures.0

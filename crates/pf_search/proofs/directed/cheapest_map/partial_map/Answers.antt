@@ -1,4 +1,4 @@
-use Rattle.std.proofs.Common.{◌≡◌, inl, ◌<◌, [], ◌∷◌, List, ℤ, Bool, ap, sym, arith, length}
+use Rattle.std.proofs.Common.{◌≡◌, inl, ◌<◌, [], ◌∷◌, List, ℤ, Bool, ap, sym, arith, length, refl}
 use Rattle.std.specs.Prelude.{Err}
 use Rattle.pf_base.specs.declared.error.PathError.TheVariants.{CostOverflow}
 use Rattle.pf_core.specs.Nodes.{TestedGraph, StandsFor}
@@ -8,7 +8,8 @@ use Rattle.pf_core.proofs.ListLemmas.{at_place}
 use Rattle.pf_core.proofs.WalkLemmas.{all_starts, only_starts, no_negative, past_range}
 use Rattle.pf_search.proofs.PartialLemmas.{parent_inside, reached_at, begins_on, whole_map, stopped_map}
 use Rattle.pf_search.proofs.directed.cheapest_map.partial_map.Goals.{in-Some+in_ok-clone-in-Some, in-None}
-use Rattle.pf_search.proofs.ResultLemmas.{if_refused, refused_as, no_overflow}
+use Rattle.pf_search.proofs.ResultLemmas.{if_refused, refused_as, no_overflow, ok_is_no_error}
+use Rattle.std.proofs.lemmas.Result.{IfOk-from_err}
 use Rattle.pf_search.proofs.directed.cheapest_map.partial_map.Goals as goal
 
 -- the graph that these functions answer
@@ -111,3 +112,15 @@ returns-clause-partial g c = λ edges start test s costs.
           let en = rw w.in-None.is at e.ended in
           rw w.stopped-is (whole_map eq laws g.C.Number.value edges start x.alike costs keys one reached begins labels e.tree search _ maps test (e.passed h (x, t)) en.order en.settled en.first en.ends)
     ]
+
+pub map_of-requires-clause-clones : goal.map_of-requires-clause-clones
+map_of-requires-clause-clones g c = c.requires.clones
+
+pub returns-in_err-clone-in-Some-clause-partial : goal.returns-in_err-clone-in-Some-clause-partial
+returns-in_err-clone-in-Some-clause-partial g c = λ _ _ _ _ _. IfOk-from_err _ _ c.from_residual-in_err-clone-in-Some.ensures.0
+
+pub returns-clause-errors : goal.returns-clause-errors
+returns-clause-errors g c = tt
+
+pub returns-clause-overflow : goal.returns-clause-overflow
+returns-clause-overflow g c = λ _ _ _ _ _ e. absurd (ok_is_no_error _ _ _ refl e)

@@ -7,6 +7,8 @@ use Rattle.pf_core.proofs.LabelLemmas.{HasLabel-inside}
 use Rattle.pf_core.proofs.SearchLemmas.{Grows-trans, search_grows, one_root, only_root, start_alone, none_settled, failed_turned}
 use Rattle.pf_core.proofs.TurnLemmas.{too_dear}
 use Rattle.pf_search.proofs.OrderLemmas.{order_start, order_more, first_turned, ended_at, ended_all}
+use Rattle.std.proofs.lemmas.Result.{IfOk-from_err}
+use Rattle.pf_search.proofs.ResultLemmas.{refused_as, no_overflow, ok_is_no_error}
 use Rattle.pf_search.proofs.directed.cheapest_map.search_to_goal.Goals as goal
 
 pub turns-init : goal.turns-init
@@ -128,3 +130,66 @@ returns-clause-search g c = λ h x p. rw c.least.ensures.same (c.turns.invariant
 
 pub returns-clause-passed : goal.returns-clause-passed
 returns-clause-passed g c = λ h x k l y at s here. c.turns.invariant.failed h x k l y (rw c.least.ensures.same at at) s here
+
+pub returns-in_err-search-clause-ended : goal.returns-in_err-search-clause-ended
+returns-in_err-search-clause-ended g c = IfOk-from_err _ _ c.from_residual.ensures.0
+
+pub returns-in_err-search-clause-errors : goal.returns-in_err-search-clause-errors
+returns-in_err-search-clause-errors g c = refused_as _ c.from_residual.result c.in_err-search.field-0.0 c.from_residual.ensures.1 (inl c.in_err-search.ensures.refused)
+
+pub returns-in_err-search-clause-goal : goal.returns-in_err-search-clause-goal
+returns-in_err-search-clause-goal g c = λ _ _. IfOk-from_err _ _ c.from_residual.ensures.0
+
+pub returns-in_err-search-clause-passed : goal.returns-in_err-search-clause-passed
+returns-in_err-search-clause-passed g c = λ _ _. IfOk-from_err _ _ c.from_residual.ensures.0
+
+pub returns-in_err-search-clause-search : goal.returns-in_err-search-clause-search
+returns-in_err-search-clause-search g c = λ _ _ _. IfOk-from_err _ _ c.from_residual.ensures.0
+
+pub returns-in_err-search-clause-tree : goal.returns-in_err-search-clause-tree
+returns-in_err-search-clause-tree g c = IfOk-from_err _ _ c.from_residual.ensures.0
+
+pub returns-in_err-search-clause-wide : goal.returns-in_err-search-clause-wide
+returns-in_err-search-clause-wide g c = IfOk-from_err _ _ c.from_residual.ensures.0
+
+pub returns-in_err-turn-clause-ended : goal.returns-in_err-turn-clause-ended
+returns-in_err-turn-clause-ended g c = IfOk-from_err _ _ c.from_residual-in_err-turn.ensures.0
+
+pub returns-in_err-turn-clause-goal : goal.returns-in_err-turn-clause-goal
+returns-in_err-turn-clause-goal g c = λ _ _. IfOk-from_err _ _ c.from_residual-in_err-turn.ensures.0
+
+pub returns-in_err-turn-clause-passed : goal.returns-in_err-turn-clause-passed
+returns-in_err-turn-clause-passed g c = λ _ _. IfOk-from_err _ _ c.from_residual-in_err-turn.ensures.0
+
+pub returns-in_err-turn-clause-search : goal.returns-in_err-turn-clause-search
+returns-in_err-turn-clause-search g c = λ _ _ _. IfOk-from_err _ _ c.from_residual-in_err-turn.ensures.0
+
+pub returns-in_err-turn-clause-tree : goal.returns-in_err-turn-clause-tree
+returns-in_err-turn-clause-tree g c = IfOk-from_err _ _ c.from_residual-in_err-turn.ensures.0
+
+pub returns-in_err-turn-clause-wide : goal.returns-in_err-turn-clause-wide
+returns-in_err-turn-clause-wide g c = IfOk-from_err _ _ c.from_residual-in_err-turn.ensures.0
+
+pub returns-then-is_goal-clause-errors : goal.returns-then-is_goal-clause-errors
+returns-then-is_goal-clause-errors g c = tt
+
+pub returns-clause-errors : goal.returns-clause-errors
+returns-clause-errors g c = tt
+
+pub returns-clause-overflow : goal.returns-clause-overflow
+returns-clause-overflow g c = λ _ _ _ e. absurd (ok_is_no_error _ _ _ refl e)
+
+pub returns-then-is_goal-clause-overflow : goal.returns-then-is_goal-clause-overflow
+returns-then-is_goal-clause-overflow g c = λ _ _ _ e. absurd (ok_is_no_error _ _ _ refl e)
+
+pub returns-clause-graph : goal.returns-clause-graph
+returns-clause-graph g c = c.turns.invariant.explored
+
+pub returns-clause-grows : goal.returns-clause-grows
+returns-clause-grows g c = c.turns.invariant.grown
+
+pub returns-in_err-search-clause-overflow : goal.returns-in_err-search-clause-overflow
+returns-in_err-search-clause-overflow g c = λ _ _ _ e. absurd (no_overflow c.from_residual.result c.in_err-search.field-0.0 c.from_residual.ensures.1 c.in_err-search.ensures.refused e)
+
+pub returns-in_err-turn-clause-errors : goal.returns-in_err-turn-clause-errors
+returns-in_err-turn-clause-errors g c = refused_as _ c.from_residual-in_err-turn.result c.in_err-turn.field-0.0 c.from_residual-in_err-turn.ensures.1 c.in_err-turn.ensures.errors

@@ -9,6 +9,8 @@ use Rattle.pf_search.specs.DepthWalks.{IsDepthWalk}
 use Rattle.pf_search.proofs.SimplePaths.{test_on}
 use Rattle.pf_search.proofs.PreorderLemmas.{end_of_push}
 use Rattle.pf_search.proofs.PreorderPaths.{goes_none, goes_some, node_reached, numbers_inside, is_goal, none_passes, none_more}
+use Rattle.std.proofs.lemmas.Result.{IfOk-from_err}
+use Rattle.pf_search.proofs.ResultLemmas.{refused_as}
 use Rattle.pf_search.proofs.directed.dfs.path_to_first.Goals as goal
 
 pub nodes-init : goal.nodes-init
@@ -75,3 +77,27 @@ nodes-preserved g c = λ next start test s.
     let reach = node_reached eq laws next start test v.0 d.0 node d.3.stands.preorder d.2 in
     let told = test_on _ eq _ test c.nodes.success c.success.new.self _ c.success.result v.2 reach c.success.ensures in
     (v.0 ++ d.0 ∷ [], d.3, told.0, none_more eq laws next start test s.alike s.tested.alike v.0 d.0 node d.3.stands.preorder d.2 (sym told.1 ∙ c.if-success.false) v.3)
+
+pub path-requires-clause-clones : goal.path-requires-clause-clones
+path-requires-clause-clones g c = c.requires.clones
+
+pub returns-in_default-clause-errors : goal.returns-in_default-clause-errors
+returns-in_default-clause-errors g c = tt
+
+pub returns-in_err-node-clause-first : goal.returns-in_err-node-clause-first
+returns-in_err-node-clause-first g c = λ _ _ _ _. IfOk-from_err _ _ c.from_residual.ensures.0
+
+pub returns-in_err-path-clause-first : goal.returns-in_err-path-clause-first
+returns-in_err-path-clause-first g c = λ _ _ _ _. IfOk-from_err _ _ c.from_residual-in_err-path.ensures.0
+
+pub returns-then-success-clause-errors : goal.returns-then-success-clause-errors
+returns-then-success-clause-errors g c = tt
+
+pub step-requires-clause-clones : goal.step-requires-clause-clones
+step-requires-clause-clones g c = c.requires.clones
+
+pub returns-in_err-node-clause-errors : goal.returns-in_err-node-clause-errors
+returns-in_err-node-clause-errors g c = refused_as _ c.from_residual.result c.in_err-node.field-0.0 c.from_residual.ensures.1 c.in_err-node.ensures.refused
+
+pub returns-in_err-path-clause-errors : goal.returns-in_err-path-clause-errors
+returns-in_err-path-clause-errors g c = refused_as _ c.from_residual-in_err-path.result c.in_err-path.field-0.0 c.from_residual-in_err-path.ensures.1 c.in_err-path.ensures.refused

@@ -1,10 +1,12 @@
-use Rattle.std.proofs.Common.{rules, ◌≡◌, [], ◌∷◌, List, ℤ, Bool, ap}
+use Rattle.std.proofs.Common.{◌≡◌, [], ◌∷◌, List, ℤ, Bool, ap, refl, sym}
 use Rattle.std.specs.Prelude.{Err}
 use Rattle.pf_base.specs.declared.error.PathError.TheVariants.{CostOverflow}
 use Rattle.pf_core.specs.Nodes.{TestedGraph}
 use Rattle.pf_core.specs.NodeLaws.{StandsFor-one}
 use Rattle.pf_core.proofs.WalkLemmas.{all_starts, only_starts, no_negative, no_walk, best_answer, past_range}
 use Rattle.pf_core.proofs.NodeLemmas.{at_most}
+use Rattle.std.proofs.lemmas.Result.{IfOk-from_err}
+use Rattle.pf_search.proofs.ResultLemmas.{ok_is_no_error, refused_as}
 use Rattle.pf_search.proofs.directed.dijkstra.path_tallied.Goals as goal
 
 -- the graph that these functions answer
@@ -26,7 +28,7 @@ returns-in_err-cheapest_path-clause-overflow g c = λ edges start test s costs e
     let x = s.explores in
     let keys = c.cheapest_path.new.graph.discovery.nodes.keys in
     let y = c.in_err-cheapest_path.ensures.graph h (x, t) in
-    let f : c.in_err-cheapest_path.field-0.0 ≡ CostOverflow = search rules in
+    let f : c.in_err-cheapest_path.field-0.0 ≡ CostOverflow = sym (rw e at c.from_residual.ensures.1) in
     let d = c.in_err-cheapest_path.ensures.overflow h (x, t) (no_negative eq laws h.graph x.alike costs) (ap Err f) in
     past_range eq laws h.graph x.alike _ (all_starts eq start _ s.begins) (only_starts eq start _ s.begins) test g.C.Number.fits keys (StandsFor-one eq laws keys y.0.distinct) d
 
@@ -78,3 +80,39 @@ returns-in_ok-path-in-Some-clause-asked g c = λ edges start test s.
     let h = tested start edges test in
     let y = c.in_ok-cheapest_path.ensures.graph h (s.explores, s.tested) in
     at_most g.N.PartialEq.eq g.met.N.Eq.laws _ c.cheapest_path.new.graph.discovery.nodes.keys y.0.distinct y.0.reached _ _ c.in_ok-cheapest_path.ensures.asked
+
+pub nodes_at-requires-clause-clones : goal.nodes_at-requires-clause-clones
+nodes_at-requires-clause-clones g c = c.requires.clones
+
+pub returns-in-None-clause-errors : goal.returns-in-None-clause-errors
+returns-in-None-clause-errors g c = tt
+
+pub returns-in_err-cheapest_path-clause-best : goal.returns-in_err-cheapest_path-clause-best
+returns-in_err-cheapest_path-clause-best g c = λ _ _ _ _ _. IfOk-from_err _ _ c.from_residual.ensures.0
+
+pub returns-in_err-path-in-Some-clause-best : goal.returns-in_err-path-in-Some-clause-best
+returns-in_err-path-in-Some-clause-best g c = λ _ _ _ _ _. IfOk-from_err _ _ c.from_residual-in_err-path-in-Some.ensures.0
+
+pub returns-in_ok-path-in-Some-clause-errors : goal.returns-in_ok-path-in-Some-clause-errors
+returns-in_ok-path-in-Some-clause-errors g c = tt
+
+pub returns-in_err-cheapest_path-clause-ticked : goal.returns-in_err-cheapest_path-clause-ticked
+returns-in_err-cheapest_path-clause-ticked g c = c.in_err-cheapest_path.ensures.ticked
+
+pub returns-in_err-path-in-Some-clause-ticked : goal.returns-in_err-path-in-Some-clause-ticked
+returns-in_err-path-in-Some-clause-ticked g c = c.in_ok-cheapest_path.ensures.ticked
+
+pub returns-in_ok-path-in-Some-clause-ticked : goal.returns-in_ok-path-in-Some-clause-ticked
+returns-in_ok-path-in-Some-clause-ticked g c = c.in_ok-cheapest_path.ensures.ticked
+
+pub returns-in-None-clause-ticked : goal.returns-in-None-clause-ticked
+returns-in-None-clause-ticked g c = c.in_ok-cheapest_path.ensures.ticked
+
+pub returns-in-None-clause-overflow : goal.returns-in-None-clause-overflow
+returns-in-None-clause-overflow g c = λ _ _ _ _ _ e. absurd (ok_is_no_error _ _ _ refl e)
+
+pub returns-in_ok-path-in-Some-clause-overflow : goal.returns-in_ok-path-in-Some-clause-overflow
+returns-in_ok-path-in-Some-clause-overflow g c = λ _ _ _ _ _ e. absurd (ok_is_no_error _ _ _ refl e)
+
+pub returns-in_err-cheapest_path-clause-errors : goal.returns-in_err-cheapest_path-clause-errors
+returns-in_err-cheapest_path-clause-errors g c = refused_as _ c.from_residual.result c.in_err-cheapest_path.field-0.0 c.from_residual.ensures.1 c.in_err-cheapest_path.ensures.errors

@@ -1,12 +1,15 @@
-use Rattle.std.proofs.Common.{rules, ◌≡◌, ◌∙◌, sym, subst, ap, refl, Some, Bor, length, arith, true, false, [], ◌∷◌, ◌++◌, ◌-◌, ◌+◌, ◌<◌, ◌||◌, inl, inr, length-append}
+use Rattle.std.proofs.Common.{rules, ◌≡◌, ◌∙◌, sym, subst, ap, refl, Bor, length, arith, true, false, [], ◌∷◌, ◌++◌, ◌-◌, ◌+◌, ◌<◌, ◌||◌, inl, inr, length-append}
 use Rattle.std.specs.Prelude.{◌⊎◌, Contains}
 use Rattle.std.proofs.lemmas.List.Elements.{Contains-append_left, Contains-push, Contains-push_cases}
+use Rattle.std.proofs.lemmas.Option.{same_Some}
 use Rattle.pf_base.specs.Walks.{HasNode, IsReachable}
 use Rattle.pf_base.specs.Successors.{HasSuccessor}
 use Rattle.pf_base.proofs.Asking.{Answers-takes}
 use Rattle.pf_core.proofs.ListLemmas.{Contains-reverse}
 use Rattle.pf_search.specs.Internal.Deepening.{IsPathFrom, NoGoalBeyond}
 use Rattle.pf_search.proofs.SimplePaths.{here_reached, found_here, one_more, none_here, none_past, cut_more, cut_deeper, has_found, not_found, last_at, test_on, in_reverse, take_push, has_end}
+use Rattle.std.proofs.lemmas.Result.{IfOk-from_err}
+use Rattle.pf_search.proofs.ResultLemmas.{refused_as}
 use Rattle.pf_search.proofs.directed.iddfs.+deepen.Goals as goal
 
 pub success-requires : goal.success-requires
@@ -179,8 +182,7 @@ returns-clause-graph g t c = λ next starts test s p.
     let here = c.index-2.result.now in
     let at = last_at eq next starts path c.len-here.result c.index.result.now p (omega (arith, c.len-here.ensures, c.args.path.now.ok)) c.index.ensures in
     let at2 = last_at eq next starts path c.len-here.result here p (omega (arith, c.len-here.ensures, c.args.path.now.ok)) c.index-2.ensures in
-    let same : Some c.index.result.now ≡ Some here = sym at ∙ at2 in
-    let one : c.index.result.now ≡ here = cc in
+    let one : c.index.result.now ≡ here = same_Some c.index.result.now here (sym at ∙ at2) in
     let reach = here_reached eq laws next starts path c.index.result.now p at in
     let told = test_on _ eq _ test c.args.success.now c.success.new.self c.index.result c.success.result s.test_answered reach c.success.ensures in
     let fails : test here ≡ false = subst (λ x. test x ≡ false) one (sym told.1 ∙ c.if-success.false) in
@@ -196,3 +198,27 @@ returns-clause-graph g t c = λ next starts test s p.
             ]),
       ),
     )
+
+pub returns-in_err-answer-clause-graph : goal.returns-in_err-answer-clause-graph
+returns-in_err-answer-clause-graph g t c = λ _ _ _ _ _. IfOk-from_err _ _ c.from_residual.ensures.0
+
+pub returns-in_err-answer-clause-refused : goal.returns-in_err-answer-clause-refused
+returns-in_err-answer-clause-refused g t c = refused_as _ c.from_residual.result c.in_err-answer.field-0.0 c.from_residual.ensures.1 c.in_err-answer.ensures.refused
+
+pub returns-in_err-deepen-clause-graph : goal.returns-in_err-deepen-clause-graph
+returns-in_err-deepen-clause-graph g t c = λ _ _ _ _ _. IfOk-from_err _ _ c.from_residual-in_err-deepen.ensures.0
+
+pub returns-in_err-deepen-clause-refused : goal.returns-in_err-deepen-clause-refused
+returns-in_err-deepen-clause-refused g t c = refused_as _ c.from_residual-in_err-deepen.result c.in_err-deepen.field-0.0 c.from_residual-in_err-deepen.ensures.1 c.in_err-deepen.ensures.refused
+
+pub returns-in_err-push-clause-graph : goal.returns-in_err-push-clause-graph
+returns-in_err-push-clause-graph g t c = λ _ _ _ _ _. IfOk-from_err _ _ c.from_residual-in_err-push.ensures.0
+
+pub returns-then-steps-eq0-clause-refused : goal.returns-then-steps-eq0-clause-refused
+returns-then-steps-eq0-clause-refused g t c = tt
+
+pub returns-then-success-clause-refused : goal.returns-then-success-clause-refused
+returns-then-success-clause-refused g t c = tt
+
+pub overflow_sub-here : goal.overflow_sub-here
+overflow_sub-here g t c = let r = c.requires.graph in omega (arith, c.len-here.ensures, has_end g.N.PartialEq.eq r.0 r.1 c.args.path.now.items r.4)

@@ -22,3 +22,6 @@ returns-clause-graph g c = λ next starts a r.
       record { alike = a.alike; answers = Answers-on _ _ _ a.answers _ r c.successors-items.result c.successors-items.new.self c.successors-items.ensures },
       IfOk-weaker c.collected.result _ _ (λ answer h. Gives-drains _ _ _ _ _ _ gives h.0 answer.items h.1 h.2) c.collected.ensures.all,
     )
+
+pub returns-clause-refused : goal.returns-clause-refused
+returns-clause-refused g c = c.collected.ensures.refused

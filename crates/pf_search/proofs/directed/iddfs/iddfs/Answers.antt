@@ -1,6 +1,8 @@
 use Rattle.std.proofs.Common.{◌≡◌, [], ◌∷◌, length, arith, refl, sym, ◌∙◌, true≢false}
 use Rattle.pf_search.specs.Internal.Deepening.{IsPathFrom}
 use Rattle.pf_search.proofs.SimplePaths.{start_alone, fewest_of, none_of}
+use Rattle.std.proofs.lemmas.Result.{IfOk-from_err}
+use Rattle.pf_search.proofs.ResultLemmas.{refused_as}
 use Rattle.pf_search.proofs.directed.iddfs.iddfs.Goals as goal
 
 pub limits-init : goal.limits-init
@@ -54,3 +56,18 @@ limits-preserved g c = record {
       let missed = rw c.in-Missed-true.is at (c.in_ok-deepen.ensures.graph next (c.args.start ∷ []) test before.0 begins) in
       (missed.0, λ w low k. (rw v.alone at missed.1.1) w (λ e. omega (arith, low)) k);
 }
+
+pub returns-in_err-deepen-clause-best : goal.returns-in_err-deepen-clause-best
+returns-in_err-deepen-clause-best g c = λ _ _ _. IfOk-from_err _ _ c.from_residual-in_err-deepen.ensures.0
+
+pub returns-in_err-deepen-clause-errors : goal.returns-in_err-deepen-clause-errors
+returns-in_err-deepen-clause-errors g c = refused_as _ c.from_residual-in_err-deepen.result c.in_err-deepen.field-0.0 c.from_residual-in_err-deepen.ensures.1 c.in_err-deepen.ensures.refused
+
+pub returns-in_err-push-clause-best : goal.returns-in_err-push-clause-best
+returns-in_err-push-clause-best g c = λ _ _ _. IfOk-from_err _ _ c.from_residual.ensures.0
+
+pub returns-in-Found-clause-errors : goal.returns-in-Found-clause-errors
+returns-in-Found-clause-errors g c = tt
+
+pub returns-in-Missed-false-clause-errors : goal.returns-in-Missed-false-clause-errors
+returns-in-Missed-false-clause-errors g c = tt

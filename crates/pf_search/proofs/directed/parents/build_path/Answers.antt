@@ -1,5 +1,7 @@
 use Rattle.std.proofs.Common.{ap, ◌∙◌, arith, length}
 use Rattle.pf_search.proofs.ParentLemmas.{length_end, climbed_first, climbed_more, climbed_length, climbed_chain, chain_alone}
+use Rattle.std.proofs.lemmas.Result.{IfOk-from_err}
+use Rattle.pf_search.proofs.ResultLemmas.{refused_as}
 use Rattle.pf_search.proofs.directed.parents.build_path.Goals as goal
 
 pub climb-init : goal.climb-init
@@ -29,3 +31,21 @@ returns-clause-chain g c = rw c.reverse.ensures.items (climbed_chain g.N.Partial
 
 pub returns-clause-alone : goal.returns-clause-alone
 returns-clause-alone g c = chain_alone g.N.PartialEq.eq g.met.N.Eq.laws c.args.parents.now c.args.target.now _ (returns-clause-chain g c)
+
+pub returns-in_err-push_clone-2-clause-alone : goal.returns-in_err-push_clone-2-clause-alone
+returns-in_err-push_clone-2-clause-alone g c = IfOk-from_err _ _ c.from_residual-in_err-push_clone-2.ensures.0
+
+pub returns-in_err-push_clone-2-clause-chain : goal.returns-in_err-push_clone-2-clause-chain
+returns-in_err-push_clone-2-clause-chain g c = IfOk-from_err _ _ c.from_residual-in_err-push_clone-2.ensures.0
+
+pub returns-in_err-push_clone-2-clause-refused : goal.returns-in_err-push_clone-2-clause-refused
+returns-in_err-push_clone-2-clause-refused g c = refused_as _ c.from_residual-in_err-push_clone-2.result c.in_err-push_clone-2.field-0.0 c.from_residual-in_err-push_clone-2.ensures.1 c.in_err-push_clone-2.ensures.refused
+
+pub returns-in_err-push_clone-clause-alone : goal.returns-in_err-push_clone-clause-alone
+returns-in_err-push_clone-clause-alone g c = IfOk-from_err _ _ c.from_residual.ensures.0
+
+pub returns-in_err-push_clone-clause-chain : goal.returns-in_err-push_clone-clause-chain
+returns-in_err-push_clone-clause-chain g c = IfOk-from_err _ _ c.from_residual.ensures.0
+
+pub returns-in_err-push_clone-clause-refused : goal.returns-in_err-push_clone-clause-refused
+returns-in_err-push_clone-clause-refused g c = refused_as _ c.from_residual.result c.in_err-push_clone.field-0.0 c.from_residual.ensures.1 c.in_err-push_clone.ensures.refused

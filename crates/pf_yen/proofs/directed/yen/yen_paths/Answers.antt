@@ -4,6 +4,8 @@ use Rattle.pf_core.proofs.NodeLemmas.{Explores-edges}
 use Rattle.pf_yen.specs.declared.candidate.Candidate.{Candidate}
 use Rattle.pf_yen.specs.Plans.{waiting_plans}
 use Rattle.pf_yen.proofs.WalkLemmas.{learned_none, first_alone}
+use Rattle.std.proofs.lemmas.Result.{IfOk-from_err}
+use Rattle.pf_yen.proofs.ResultLemmas.{refused_as}
 use Rattle.pf_yen.proofs.directed.yen.yen_paths.Goals as goal
 
 pub returns-clause-graph : goal.returns-clause-graph
@@ -23,3 +25,12 @@ returns-clause-graph g c = λ edges test s.
       under_way = (c.nothing.ensures, ap (λ (h : List (Candidate g.row.C.Denot g.row.A.Denot)). waiting_plans h) {y = []} (search rules), refl, refl);
       bar = λ b. cc;
     }
+
+pub returns-in_err-clone_of-clause-begins : goal.returns-in_err-clone_of-clause-begins
+returns-in_err-clone_of-clause-begins g c = IfOk-from_err _ _ c.from_residual.ensures.0
+
+pub returns-in_err-clone_of-clause-graph : goal.returns-in_err-clone_of-clause-graph
+returns-in_err-clone_of-clause-graph g c = IfOk-from_err _ _ c.from_residual.ensures.0
+
+pub returns-in_err-clone_of-clause-refused : goal.returns-in_err-clone_of-clause-refused
+returns-in_err-clone_of-clause-refused g c = refused_as _ c.from_residual.result c.in_err-clone_of.field-0.0 c.from_residual.ensures.1 c.in_err-clone_of.ensures.refused

@@ -1,4 +1,4 @@
-use Rattle.std.proofs.Common.{rules, ◌≡◌, true, map, ◌++◌}
+use Rattle.std.proofs.Common.{rules, ◌≡◌, true, map, ◌++◌, Err, ap, refl}
 use Rattle.std.specs.BinaryHeap.{heap_items}
 use Rattle.std.proofs.lemmas.List.{map-append}
 use Rattle.std.proofs.lemmas.List.Sorted.{IsPermutation-map}
@@ -7,6 +7,8 @@ use Rattle.pf_yen.specs.Classes.{plan_of}
 use Rattle.pf_yen.specs.Plans.{GoesOn, as_list, chosen_plan, waiting_plans, last_given}
 use Rattle.pf_yen.proofs.PlanLemmas.{split_goes_on, no_change}
 use Rattle.pf_yen.proofs.plans.Plans.split_given.Goals.{in-Some+in_ok-split+in_ok-append, in_default}
+use Rattle.std.proofs.lemmas.Result.{IfOk-from_err}
+use Rattle.pf_yen.proofs.ResultLemmas.{handed_on, ok_is_no_error, refused_as}
 use Rattle.pf_yen.proofs.plans.Plans.split_given.Goals as goal
 
 pub split-requires-clause-cheapest : goal.split-requires-clause-cheapest
@@ -27,3 +29,63 @@ returns-clause-goes_on g c =
           rw (t, w.in-Some.is, w.self-is) (split_goes_on value c.args.known.now c.requires.whole (plan_of w.in-Some.chosen) (map plan_of (heap_items s.waiting)) (map plan_of plans.items) (map plan_of (heap_items w.from-plans.result)) (map plan_of (heap_items w.append.new.self)) w.in_ok-split.ensures.split m n)
       | in_default w ↦ rw (t, w.in_default.is, w.self-is) (no_change value c.args.known.now (map plan_of (heap_items s.waiting)))
     ]
+
+pub returns-in_err-append-clause-first : goal.returns-in_err-append-clause-first
+returns-in_err-append-clause-first g c = IfOk-from_err _ _ c.from_residual-in_err-append.ensures.0
+
+pub returns-in_err-append-clause-goes_on : goal.returns-in_err-append-clause-goes_on
+returns-in_err-append-clause-goes_on g c = IfOk-from_err _ _ c.from_residual-in_err-append.ensures.0
+
+pub returns-in_err-append-clause-is_given : goal.returns-in_err-append-clause-is_given
+returns-in_err-append-clause-is_given g c = IfOk-from_err _ _ c.from_residual-in_err-append.ensures.0
+
+pub returns-in_err-split-clause-errors : goal.returns-in_err-split-clause-errors
+returns-in_err-split-clause-errors g c = refused_as _ c.from_residual.result c.in_err-split.field-0.0 c.from_residual.ensures.1 c.in_err-split.ensures.errors
+
+pub returns-in_err-split-clause-first : goal.returns-in_err-split-clause-first
+returns-in_err-split-clause-first g c = IfOk-from_err _ _ c.from_residual.ensures.0
+
+pub returns-in_err-split-clause-goes_on : goal.returns-in_err-split-clause-goes_on
+returns-in_err-split-clause-goes_on g c = IfOk-from_err _ _ c.from_residual.ensures.0
+
+pub returns-in_err-split-clause-is_given : goal.returns-in_err-split-clause-is_given
+returns-in_err-split-clause-is_given g c = IfOk-from_err _ _ c.from_residual.ensures.0
+
+pub returns-then-not-self-clause-errors : goal.returns-then-not-self-clause-errors
+returns-then-not-self-clause-errors g c = tt
+
+pub returns-clause-errors : goal.returns-clause-errors
+returns-clause-errors g c = tt
+
+pub returns-clause-overflow : goal.returns-clause-overflow
+returns-clause-overflow g c = λ e. absurd (ok_is_no_error _ _ _ refl e)
+
+pub returns-clause-kept : goal.returns-clause-kept
+returns-clause-kept g c = tt
+
+pub returns-clause-due : goal.returns-clause-due
+returns-clause-due g c = tt
+
+pub returns-then-not-self-clause-overflow : goal.returns-then-not-self-clause-overflow
+returns-then-not-self-clause-overflow g c = λ e. absurd (ok_is_no_error _ _ _ refl e)
+
+pub returns-then-not-self-clause-kept : goal.returns-then-not-self-clause-kept
+returns-then-not-self-clause-kept g c = tt
+
+pub returns-then-not-self-clause-due : goal.returns-then-not-self-clause-due
+returns-then-not-self-clause-due g c = tt
+
+pub split-requires-clause-whole : goal.split-requires-clause-whole
+split-requires-clause-whole g c = c.requires.whole
+
+pub split-requires-clause-some : goal.split-requires-clause-some
+split-requires-clause-some g c = c.requires.some
+
+pub returns-in_err-split-clause-overflow : goal.returns-in_err-split-clause-overflow
+returns-in_err-split-clause-overflow g c = λ e. c.in_err-split.ensures.overflow (ap Err (handed_on c.from_residual.result c.in_err-split.field-0.0 c.from_residual.ensures.1 e))
+
+pub returns-in_err-split-clause-kept : goal.returns-in_err-split-clause-kept
+returns-in_err-split-clause-kept g c = refused_as _ c.from_residual.result c.in_err-split.field-0.0 c.from_residual.ensures.1 (refl, refl, refl)
+
+pub returns-in_err-split-clause-ordered : goal.returns-in_err-split-clause-ordered
+returns-in_err-split-clause-ordered g c = c.requires.ordered

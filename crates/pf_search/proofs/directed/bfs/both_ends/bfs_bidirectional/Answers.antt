@@ -1,4 +1,6 @@
 use Rattle.pf_core.proofs.UnitLemmas.{Explores-successors}
+use Rattle.std.proofs.lemmas.Result.{IfOk-from_err}
+use Rattle.pf_search.proofs.ResultLemmas.{refused_as}
 use Rattle.pf_search.proofs.directed.bfs.both_ends.bfs_bidirectional.Goals as goal
 
 pub path_between-requires-clause-graph : goal.path_between-requires-clause-graph
@@ -29,3 +31,21 @@ returns-clause-best g c = λ next previous s.
     let x = Explores-successors eq laws _ _ _ _ _ starts found.field-0.keys next _ found.ensures.distinct found.ensures.same s.successors_answered in
     let y = Explores-successors eq laws _ _ _ _ _ ends found_back.field-0.keys previous _ found_back.ensures.distinct found_back.ensures.same s.predecessors_answered in
     c.path_between.ensures.best next previous starts ends x y found.ensures.same found_back.ensures.same s.mirror
+
+pub path_between-requires-clause-clones : goal.path_between-requires-clause-clones
+path_between-requires-clause-clones g c = c.requires.clones
+
+pub returns-in_err-clones_of-2-clause-best : goal.returns-in_err-clones_of-2-clause-best
+returns-in_err-clones_of-2-clause-best g c = λ _ _ _. IfOk-from_err _ _ c.from_residual-in_err-clones_of-2.ensures.0
+
+pub returns-in_err-clones_of-2-clause-errors : goal.returns-in_err-clones_of-2-clause-errors
+returns-in_err-clones_of-2-clause-errors g c = refused_as _ c.from_residual-in_err-clones_of-2.result c.in_err-clones_of-2.field-0.0 c.from_residual-in_err-clones_of-2.ensures.1 c.in_err-clones_of-2.ensures.refused
+
+pub returns-in_err-clones_of-clause-best : goal.returns-in_err-clones_of-clause-best
+returns-in_err-clones_of-clause-best g c = λ _ _ _. IfOk-from_err _ _ c.from_residual.ensures.0
+
+pub returns-in_err-clones_of-clause-errors : goal.returns-in_err-clones_of-clause-errors
+returns-in_err-clones_of-clause-errors g c = refused_as _ c.from_residual.result c.in_err-clones_of.field-0.0 c.from_residual.ensures.1 c.in_err-clones_of.ensures.refused
+
+pub returns-clause-errors : goal.returns-clause-errors
+returns-clause-errors g c = c.path_between.ensures.errors

@@ -2,7 +2,8 @@ use Rattle.pf_core.specs.Sides.{by_side}
 use Rattle.pf_core.proofs.JoinLemmas.{mirrored, no_walk_between, joined_answer}
 use Rattle.pf_core.proofs.UnitLemmas.{is_hop, begins_all, starts_stand}
 use Rattle.pf_search.specs.Internal.Hops.{hops_from}
-use Rattle.pf_search.proofs.ResultLemmas.{in_some, error_kept}
+use Rattle.pf_search.proofs.ResultLemmas.{in_some, error_kept, refused_as}
+use Rattle.std.proofs.lemmas.Result.{IfOk-from_err}
 use Rattle.pf_search.proofs.directed.bfs.both_ends.path_between.Goals as goal
 
 pub fewest_edges_between-requires-clause-graph : goal.fewest_edges_between-requires-clause-graph
@@ -35,3 +36,15 @@ returns-in-Some-clause-best g c = λ next previous starts ends x y same same' mi
 
 pub returns-in-Some-clause-errors : goal.returns-in-Some-clause-errors
 returns-in-Some-clause-errors g c = error_kept c.nodes_along.result c.map.result c.map.ensures.cases _ c.nodes_along.ensures.refused
+
+pub nodes_along-requires-clause-clones : goal.nodes_along-requires-clause-clones
+nodes_along-requires-clause-clones g c = c.requires.clones
+
+pub returns-in-None-clause-errors : goal.returns-in-None-clause-errors
+returns-in-None-clause-errors g c = tt
+
+pub returns-in_err-fewest_edges_between-clause-best : goal.returns-in_err-fewest_edges_between-clause-best
+returns-in_err-fewest_edges_between-clause-best g c = λ _ _ _ _ _ _ _ _ _. IfOk-from_err _ _ c.from_residual.ensures.0
+
+pub returns-in_err-fewest_edges_between-clause-errors : goal.returns-in_err-fewest_edges_between-clause-errors
+returns-in_err-fewest_edges_between-clause-errors g c = refused_as _ c.from_residual.result c.in_err-fewest_edges_between.field-0.0 c.from_residual.ensures.1 c.in_err-fewest_edges_between.ensures.errors

@@ -1,4 +1,6 @@
 use Rattle.pf_core.proofs.UnitLemmas.{Explores-successors}
+use Rattle.std.proofs.lemmas.Result.{IfOk-from_err}
+use Rattle.pf_search.proofs.ResultLemmas.{refused_as}
 use Rattle.pf_search.proofs.directed.bfs.loops.bfs_loop.Goals as goal
 
 pub loop_from-requires-clause-graph : goal.loop_from-requires-clause-graph
@@ -13,3 +15,15 @@ returns-clause-best g c = λ next a.
     let starts = c.args.starts.now in
     let found = c.in_ok-clones_of in
     c.loop_from.ensures.best next starts (Explores-successors g.N.PartialEq.eq g.met.N.Eq.laws _ _ _ _ _ starts found.field-0.keys next _ found.ensures.distinct found.ensures.same a) found.ensures.same
+
+pub loop_from-requires-clause-clones : goal.loop_from-requires-clause-clones
+loop_from-requires-clause-clones g c = c.requires.clones
+
+pub returns-in_err-clones_of-clause-best : goal.returns-in_err-clones_of-clause-best
+returns-in_err-clones_of-clause-best g c = λ _ _. IfOk-from_err _ _ c.from_residual.ensures.0
+
+pub returns-in_err-clones_of-clause-errors : goal.returns-in_err-clones_of-clause-errors
+returns-in_err-clones_of-clause-errors g c = refused_as _ c.from_residual.result c.in_err-clones_of.field-0.0 c.from_residual.ensures.1 c.in_err-clones_of.ensures.refused
+
+pub returns-clause-errors : goal.returns-clause-errors
+returns-clause-errors g c = c.loop_from.ensures.errors

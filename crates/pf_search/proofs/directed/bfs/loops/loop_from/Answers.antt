@@ -3,7 +3,8 @@ use Rattle.pf_core.specs.NodeLaws.{StandsFor-one}
 use Rattle.pf_core.proofs.LoopWalks.{no_loop, best_loop_answer}
 use Rattle.pf_core.proofs.UnitLemmas.{is_hop, begins_all, starts_stand}
 use Rattle.pf_search.specs.Internal.Hops.{hops_from}
-use Rattle.pf_search.proofs.ResultLemmas.{in_some, error_kept}
+use Rattle.pf_search.proofs.ResultLemmas.{in_some, error_kept, refused_as}
+use Rattle.std.proofs.lemmas.Result.{IfOk-from_err}
 use Rattle.pf_search.proofs.directed.bfs.loops.loop_from.Goals as goal
 
 pub fewest_edges_loop-requires-clause-graph : goal.fewest_edges_loop-requires-clause-graph
@@ -38,3 +39,15 @@ returns-in-Some-clause-best g c = λ next starts x same.
 
 pub returns-in-Some-clause-errors : goal.returns-in-Some-clause-errors
 returns-in-Some-clause-errors g c = error_kept c.clones_at.result c.map.result c.map.ensures.cases _ c.clones_at.ensures.refused
+
+pub clones_at-requires-clause-clones : goal.clones_at-requires-clause-clones
+clones_at-requires-clause-clones g c = c.requires.clones
+
+pub returns-in-None-clause-errors : goal.returns-in-None-clause-errors
+returns-in-None-clause-errors g c = tt
+
+pub returns-in_err-fewest_edges_loop-clause-best : goal.returns-in_err-fewest_edges_loop-clause-best
+returns-in_err-fewest_edges_loop-clause-best g c = λ _ _ _ _. IfOk-from_err _ _ c.from_residual.ensures.0
+
+pub returns-in_err-fewest_edges_loop-clause-errors : goal.returns-in_err-fewest_edges_loop-clause-errors
+returns-in_err-fewest_edges_loop-clause-errors g c = refused_as _ c.from_residual.result c.in_err-fewest_edges_loop.field-0.0 c.from_residual.ensures.1 c.in_err-fewest_edges_loop.ensures.errors

@@ -2,6 +2,7 @@ use Rattle.std.proofs.Common.{◌≤◌, ◌<◌, ◌+◌, length, false, refl, 
 use Rattle.pf_base.proofs.Callers.{SameNodes-refl}
 use Rattle.pf_search.specs.Internal.Breadth.{found_or}
 use Rattle.pf_search.proofs.BreadthSteps.{turn_refused, none_waits, start_waits, marked}
+use Rattle.pf_search.proofs.ResultLemmas.{refused_as}
 use Rattle.pf_search.proofs.directed.breadth.BfsReachable.step.Goals as goal
 
 pub returns-in_err-put_start-clause-steps : goal.returns-in_err-put_start-clause-steps
@@ -55,3 +56,15 @@ returns-clause-steps g c = λ next start w.
     let at = marked eq laws _ _ _ _ _ next start keys i.given i.refused false i.discovery.successors v in
     let on = (e.walk next start (rw s.1 at)).0 in
     rw (← c.self.view_is, s.0) (marked eq laws _ _ _ _ _ next start keys' (i.given + 1) false i.refused f' on.0, (rw s.1 at on.1, rw s.1 at e.given))
+
+pub give-requires-clause-clones : goal.give-requires-clause-clones
+give-requires-clause-clones g c = c.requires.clones
+
+pub returns-in_err-put_start-clause-refused : goal.returns-in_err-put_start-clause-refused
+returns-in_err-put_start-clause-refused g c = refused_as _ c.from_residual.result c.in_err-put_start.field-0.0 c.from_residual.ensures.1 c.in_err-put_start.ensures.refused
+
+pub returns-then-self-len-clause-refused : goal.returns-then-self-len-clause-refused
+returns-then-self-len-clause-refused g c = tt
+
+pub returns-in_err-node-clause-refused : goal.returns-in_err-node-clause-refused
+returns-in_err-node-clause-refused g c = refused_as _ c.from_residual-in_err-node.result c.in_err-node.field-0.0 c.from_residual-in_err-node.ensures.1 c.in_err-node.ensures.refused

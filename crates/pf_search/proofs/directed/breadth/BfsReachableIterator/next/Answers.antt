@@ -19,3 +19,6 @@ returns-clause-again g c =
 
 pub returns-clause-goes : goal.returns-clause-goes
 returns-clause-goes g c = record { on = λ f. absurd f; keeps = any_some c.transpose.result (returns-clause-again g c); rests = λ f. absurd f }
+
+pub step-step-requires-clause-clones : goal.step-step-requires-clause-clones
+step-step-requires-clause-clones g c = c.requires.0

@@ -160,3 +160,6 @@ returns-clause-bars g c = λ edges start w.
     let t = seen new.nodes.keys c.turn.new.self.labels.items i.refused new.successors in
     rw (← c.self.view_is) (no_bar eq laws g.C.Number.value _ _ _ _ _ edges start s v c.self.invariant.0.tree c.self.invariant.1 t e.grows (e.graph _ v.explored) g.C.Number.fits c.in-Some.number z.0 z.1 c.in-Some.ensures.first
     (λ x here. rw same at (e.within _ v.explored x here z.0 (rw same z.1.at))))
+
+pub item_at-requires-clause-clones : goal.item_at-requires-clause-clones
+item_at-requires-clause-clones g c = c.requires.clones

@@ -1,9 +1,9 @@
 use Rattle.std.proofs.Common.{◌≡◌, ℤ, pos, Err, refl, sym, ap, subst, arith, inl, inr, nat_eq}
 use Rattle.std.specs.Prelude.{◌≤ℤ◌}
-use Rattle.pf_core.specs.declared.labels.Label.{Label}
-use Rattle.pf_core.specs.Labels.{by_cost}
+use Rattle.std.proofs.lemmas.List.Sums.{count_by-le-length}
+use Rattle.pf_core.specs.Labels.{by_cost, is_settled, settled_count}
 use Rattle.pf_core.specs.Search.{IsLow}
-use Rattle.pf_core.proofs.LabelLemmas.{HasLabel-inside, label_is}
+use Rattle.pf_core.proofs.LabelLemmas.{HasLabel-inside}
 use Rattle.pf_search.specs.Internal.BothEnds.{bound, IsMeeting}
 use Rattle.pf_search.proofs.BothEndsLemmas.{positive, labelled_node, meeting_swap, pair_swap, ended, past_at}
 use Rattle.pf_search.proofs.BothEndsTurns.{some_map, some_one, none_weaker, both_turned, meeting_turned, bound_about, meets_about, pair_kept, meeting_kept, decided, undecided}
@@ -48,11 +48,11 @@ returns-in_default-least-clause-best g c = λ edges previous start end x y p.
       ended g.N.PartialEq.eq g.met.N.Eq.laws g.C.Number.value g.C.Number.fits edges previous start end _ _ _ _ (g.C.Number.value g.C.Cost.greatest) (λ z f. ((g.met.C.Cost.range_law z).0 f).1) c.turns.best pair (inr c.in_default-least.ensures.least),
     )
 
-pub label_of-requires : goal.label_of-requires
-label_of-requires g c = let z = c.in-Some.ensures.least in rw c.in-Some.ensures.same (z.0, z.1.at)
+pub cost_at-cost-requires : goal.cost_at-cost-requires
+cost_at-cost-requires g c = let z = c.in-Some.ensures.least in rw c.in-Some.ensures.same (z.0, z.1.at)
 
-pub label_of-requires-in-Some : goal.label_of-requires-in-Some
-label_of-requires-in-Some g c = let z = c.in-Some-least.ensures.least in rw c.in-Some-least.ensures.same (z.0, z.1.at)
+pub cost_at-cost_back-requires : goal.cost_at-cost_back-requires
+cost_at-cost_back-requires g c = let z = c.in-Some-least.ensures.least in rw c.in-Some-least.ensures.same (z.0, z.1.at)
 
 pub returns-then-is_best-clause-sound_forth : goal.returns-then-is_best-clause-sound_forth
 returns-then-is_best-clause-sound_forth g c = c.in-Some.ensures.sound
@@ -80,14 +80,14 @@ returns-then-is_best-clause-best g c = λ edges previous start end x y p.
     let pair = c.turns.invariant.pair edges previous start end x y p in
     let z = c.in-Some.ensures.least in
     let w = c.in-Some-least.ensures.least in
-    let first : z.0 ≡ c.label_of.result = label_is c.turns.forth.labels.items c.in-Some.number z.0 c.label_of.result z.1.at (rw c.in-Some.ensures.same at c.label_of.ensures) in
-    let second : w.0 ≡ c.label_of-in-Some.result = label_is c.turns.back.labels.items c.in-Some-least.across w.0 c.label_of-in-Some.result w.1.at (rw c.in-Some-least.ensures.same at c.label_of-in-Some.ensures) in
-    let low : IsLow (by_cost value) c.turns.forth.labels.items (value c.label_of.result.cost) = subst (λ (l : Label g.row.C.Denot). IsLow (by_cost value) c.turns.forth.labels.items (value l.cost)) first z.1.least in
-    let low_back : IsLow (by_cost value) c.turns.back.labels.items (value c.label_of-in-Some.result.cost) = subst (λ (l : Label g.row.C.Denot). IsLow (by_cost value) c.turns.back.labels.items (value l.cost)) second w.1.least in
-    let nonneg : pos 0 ≤ℤ value c.label_of-in-Some.result.cost = (labelled_node eq laws value g.C.Number.fits previous end _ _ pair.back c.in-Some-least.across c.label_of-in-Some.result (rw c.in-Some-least.ensures.same at c.label_of-in-Some.ensures)).3 in
+    let first : c.cost_at-cost.result ≡ z.0.cost = c.cost_at-cost.ensures z.0 (rw c.in-Some.ensures.same z.1.at) in
+    let second : c.cost_at-cost_back.result ≡ w.0.cost = c.cost_at-cost_back.ensures w.0 (rw c.in-Some-least.ensures.same w.1.at) in
+    let low : IsLow (by_cost value) c.turns.forth.labels.items (value c.cost_at-cost.result) = subst (λ (x : g.row.C.Denot). IsLow (by_cost value) c.turns.forth.labels.items (value x)) (sym first) z.1.least in
+    let low_back : IsLow (by_cost value) c.turns.back.labels.items (value c.cost_at-cost_back.result) = subst (λ (x : g.row.C.Denot). IsLow (by_cost value) c.turns.back.labels.items (value x)) (sym second) w.1.least in
+    let nonneg : pos 0 ≤ℤ value c.cost_at-cost_back.result = subst (λ (x : g.row.C.Denot). pos 0 ≤ℤ value x) (sym second) (labelled_node eq laws value g.C.Number.fits previous end _ _ pair.back c.in-Some-least.across w.0 w.1.at).3 in
     rw (c.in-Some.ensures.same, c.in-Some-least.ensures.same) (
       pair,
-      decided eq laws value g.C.Number.fits edges previous start end _ _ _ _ (value g.C.Cost.greatest) c.turns.best pair (value c.label_of.result.cost) (value c.label_of-in-Some.result.cost) low low_back c.is_best.result c.if-is_best.true (c.is_best.ensures.decided nonneg),
+      decided eq laws value g.C.Number.fits edges previous start end _ _ _ _ (value g.C.Cost.greatest) c.turns.best pair (value c.cost_at-cost.result) (value c.cost_at-cost_back.result) low low_back c.is_best.result c.if-is_best.true (c.is_best.ensures.decided nonneg),
     )
 
 pub turn-requires-clause-sound : goal.turn-requires-clause-sound
@@ -96,11 +96,11 @@ turn-requires-clause-sound g c = c.in-Some.ensures.sound
 pub turn-requires-clause-wide : goal.turn-requires-clause-wide
 turn-requires-clause-wide g c = rw c.in-Some.ensures.same c.turns.invariant.wide_forth
 
-pub turn-requires-else-len-clause-sound : goal.turn-requires-else-len-clause-sound
-turn-requires-else-len-clause-sound g c = c.in-Some-least.ensures.sound
+pub turn-requires-else-waits_for_no_more-clause-sound : goal.turn-requires-else-waits_for_no_more-clause-sound
+turn-requires-else-waits_for_no_more-clause-sound g c = c.in-Some-least.ensures.sound
 
-pub turn-requires-else-len-clause-wide : goal.turn-requires-else-len-clause-wide
-turn-requires-else-len-clause-wide g c = rw c.in-Some-least.ensures.same c.turns.invariant.wide_back
+pub turn-requires-else-waits_for_no_more-clause-wide : goal.turn-requires-else-waits_for_no_more-clause-wide
+turn-requires-else-waits_for_no_more-clause-wide g c = rw c.in-Some-least.ensures.same c.turns.invariant.wide_back
 
 pub meeting_at-found-requires-clause-wide : goal.meeting_at-found-requires-clause-wide
 meeting_at-found-requires-clause-wide g c = rw c.in-Some-least.ensures.same c.turns.invariant.wide_back
@@ -144,12 +144,14 @@ returns-in_err-turn-clause-overflow g c = λ edges previous start end x y p e.
     let pair = v.pair edges previous start end x y p in
     let z = c.in-Some.ensures.least in
     let labels = c.turns.forth.labels.items in
-    let first : c.label_of.result ≡ z.0 = label_is labels c.in-Some.number c.label_of.result z.0 (rw c.in-Some.ensures.same at c.label_of.ensures) z.1.at in
-    let nonneg : pos 0 ≤ℤ value c.label_of-in-Some.result.cost = (labelled_node eq laws value g.C.Number.fits previous end _ _ pair.back c.in-Some-least.across c.label_of-in-Some.result (rw c.in-Some-least.ensures.same at c.label_of-in-Some.ensures)).3 in
+    let w = c.in-Some-least.ensures.least in
+    let first : c.cost_at-cost.result ≡ z.0.cost = c.cost_at-cost.ensures z.0 (rw c.in-Some.ensures.same z.1.at) in
+    let second : c.cost_at-cost_back.result ≡ w.0.cost = c.cost_at-cost_back.ensures w.0 (rw c.in-Some-least.ensures.same w.1.at) in
+    let nonneg : pos 0 ≤ℤ value c.cost_at-cost_back.result = subst (λ (x : g.row.C.Denot). pos 0 ≤ℤ value x) (sym second) (labelled_node eq laws value g.C.Number.fits previous end _ _ pair.back c.in-Some-least.across w.0 w.1.at).3 in
     let d = c.in_err-turn.ensures.overflow (ap Err (sym (rw e at c.from_residual.ensures.1))) _ (v.explored_forth _ x) in
     past_at eq laws value g.C.Number.fits edges previous start end _ _ _ _ (bound value (value g.C.Cost.greatest) c.turns.best) pair c.in-Some.number z.0 z.1
-    (λ q f less le. undecided eq laws value g.C.Number.fits (value g.C.Cost.greatest) (λ t k. ((g.met.C.Cost.range_law t).0 k).1) c.turns.best (value c.label_of.result.cost) (value c.label_of-in-Some.result.cost) nonneg c.is_best.result c.if-is_best.false (c.is_best.ensures.decided nonneg) q f less
-    (subst (λ (l : Label g.row.C.Denot). q ≤ℤ value l.cost) (sym first) le))
+    (λ q f less le. undecided eq laws value g.C.Number.fits (value g.C.Cost.greatest) (λ t k. ((g.met.C.Cost.range_law t).0 k).1) c.turns.best (value c.cost_at-cost.result) (value c.cost_at-cost_back.result) nonneg c.is_best.result c.if-is_best.false (c.is_best.ensures.decided nonneg) q f less
+    (subst (λ (x : g.row.C.Denot). q ≤ℤ value x) (sym first) le))
     (λ n st. d n st z.0 (rw c.in-Some.ensures.same z.1.at)) (omega (arith, HasLabel-inside labels c.in-Some.number z.0 z.1.at, v.wide_forth))
 
 pub meeting_at-found-requires-clause-inside : goal.meeting_at-found-requires-clause-inside
@@ -161,8 +163,22 @@ meeting_at-found-requires-clause-labelled g c = let z = c.in-Some.ensures.least 
 pub meeting_at-found-requires-clause-one : goal.meeting_at-found-requires-clause-one
 meeting_at-found-requires-clause-one g c = let r = c.requires.pair in let p = c.turns.invariant.pair r.0 r.1 r.2 r.3 r.4 r.5 r.6 in p.back.one
 
-pub turns-preserved-then-len : goal.turns-preserved-then-len
-turns-preserved-then-len g c =
+pub turns-smaller-then-waits_for_no_more : goal.turns-smaller-then-waits_for_no_more
+turns-smaller-then-waits_for_no_more g c =
+    let z = c.in-Some.ensures.least in
+    let old = c.turns.forth.labels in
+    let t = rw c.in-Some.ensures.same at (c.in_ok-turn.ensures.turned z.0 (rw c.in-Some.ensures.same z.1.at)) in
+    omega (arith, t.count, ap settled_count c.in-Some-least.ensures.same, count_by-le-length is_settled old.items, old.small, old.ok)
+
+pub turns-smaller-in-Ok : goal.turns-smaller-in-Ok
+turns-smaller-in-Ok g c =
+    let z = c.in-Some-least.ensures.least in
+    let old = c.turns.back.labels in
+    let t = rw c.in-Some-least.ensures.same at (c.in-Ok.ensures.turned z.0 (rw c.in-Some-least.ensures.same z.1.at)) in
+    omega (arith, t.count, ap settled_count c.in-Some.ensures.same, count_by-le-length is_settled old.items, old.small, old.ok)
+
+pub turns-preserved-then-waits_for_no_more : goal.turns-preserved-then-waits_for_no_more
+turns-preserved-then-waits_for_no_more g c =
     let eq = g.N.PartialEq.eq in
     let laws = g.met.N.Eq.laws in
     let value = g.C.Number.value in
@@ -184,8 +200,8 @@ turns-preserved-then-len g c =
     let number = c.in-Some.number in
     let found = c.meeting_at-found in
     let chosen = c.cheaper-best in
-    let first : c.label_of.result ≡ z.0 = label_is labels number c.label_of.result z.0 (rw same at c.label_of.ensures) z.1.at in
-    let fit : fits (value z.0.cost) = subst (λ (l : Label g.row.C.Denot). fits (value l.cost)) first c.is_best.ensures.fit.0 in
+    let first : c.cost_at-cost.result ≡ z.0.cost = c.cost_at-cost.ensures z.0 (rw same z.1.at) in
+    let fit : fits (value z.0.cost) = subst (λ (x : g.row.C.Denot). fits (value x)) first c.is_best.ensures.fit.0 in
     let p0 = v.pair r.0 r.1 r.2 r.3 r.4 r.5 r.6 in
     let x0 = e.graph _ (v.explored_forth _ r.4) in
     let s0 = e.search _ (v.explored_forth _ r.4) (positive eq laws value fits r.0 r.2 keys labels p0.forth) (λ k. nat_eq k 0) (rw same (p0.forth).search) in
@@ -207,11 +223,11 @@ turns-preserved-then-len g c =
           (none_weaker eq value keys2 others labels2 labels' (bound value top found.result) (bound value top chosen.result) number chosen.ensures.other (rw same' at found.ensures.low)));
     }
 
-pub turn-requires-else-len-clause-least : goal.turn-requires-else-len-clause-least
-turn-requires-else-len-clause-least g c = rw c.in-Some-least.ensures.same c.in-Some-least.ensures.least
+pub turn-requires-else-waits_for_no_more-clause-least : goal.turn-requires-else-waits_for_no_more-clause-least
+turn-requires-else-waits_for_no_more-clause-least g c = rw c.in-Some-least.ensures.same c.in-Some-least.ensures.least
 
-pub turn-requires-else-len-clause-graph : goal.turn-requires-else-len-clause-graph
-turn-requires-else-len-clause-graph g c = let r = c.requires.pair in (_, c.turns.invariant.explored_back _ r.5)
+pub turn-requires-else-waits_for_no_more-clause-graph : goal.turn-requires-else-waits_for_no_more-clause-graph
+turn-requires-else-waits_for_no_more-clause-graph g c = let r = c.requires.pair in (_, c.turns.invariant.explored_back _ r.5)
 
 pub meeting_at-found-requires-in-Ok-clause-inside : goal.meeting_at-found-requires-in-Ok-clause-inside
 meeting_at-found-requires-in-Ok-clause-inside g c = let z = c.in-Some-least.ensures.least in omega (arith, HasLabel-inside c.turns.back.labels.items c.in-Some-least.across z.0 z.1.at, c.turns.invariant.wide_back, c.in-Ok.ensures.grows.more)
@@ -236,8 +252,8 @@ turns-preserved-in-Ok g c =
     let labels' = c.turns.back.labels.items in
     let keys = c.turns.graph.forth.nodes.keys in
     let others = c.turns.graph.back.nodes.keys in
-    let others2 = c.turn-else-len.new.graph.nodes.keys in
-    let labels2 = c.turn-else-len.new.self.labels.items in
+    let others2 = c.turn-else-waits_for_no_more.new.graph.nodes.keys in
+    let labels2 = c.turn-else-waits_for_no_more.new.self.labels.items in
     let same = c.in-Some.ensures.same in
     let same' = c.in-Some-least.ensures.same in
     let e = c.in-Ok.ensures in
@@ -246,8 +262,8 @@ turns-preserved-in-Ok g c =
     let found = c.meeting_at-found-in-Ok in
     let about = c.turned_about in
     let chosen = c.cheaper-best-in-Ok in
-    let first : c.label_of-in-Some.result ≡ z.0 = label_is labels' number c.label_of-in-Some.result z.0 (rw same' at c.label_of-in-Some.ensures) z.1.at in
-    let fit : fits (value z.0.cost) = subst (λ (l : Label g.row.C.Denot). fits (value l.cost)) first c.is_best.ensures.fit.1 in
+    let first : c.cost_at-cost_back.result ≡ z.0.cost = c.cost_at-cost_back.ensures z.0 (rw same' z.1.at) in
+    let fit : fits (value z.0.cost) = subst (λ (x : g.row.C.Denot). fits (value x)) first c.is_best.ensures.fit.1 in
     let p0 = v.pair r.0 r.1 r.2 r.3 r.4 r.5 r.6 in
     let x0 = e.graph _ (v.explored_back _ r.5) in
     let s0 = e.search _ (v.explored_back _ r.5) (positive eq laws value fits r.1 r.3 others labels' p0.back) (λ k. nat_eq k 0) (rw same' (p0.back).search) in
@@ -287,11 +303,11 @@ turns-preserved g c =
     let labels' = c.turns.back.labels.items in
     let keys = c.turns.graph.forth.nodes.keys in
     let others = c.turns.graph.back.nodes.keys in
-    let others2 = c.turn-else-len.new.graph.nodes.keys in
+    let others2 = c.turn-else-waits_for_no_more.new.graph.nodes.keys in
     let same = c.in-Some.ensures.same in
     let same' = c.in-Some-least.ensures.same in
     let e = c.in-Err-CostOverflow.ensures in
-    let kept : c.turn-else-len.new.self.labels.items ≡ labels' = rw same' at e.kept.1 in
+    let kept : c.turn-else-waits_for_no_more.new.self.labels.items ≡ labels' = rw same' at e.kept.1 in
     record {
       sound_forth = c.in-Some.ensures.sound;
       sound_back = e.sound;

@@ -1,5 +1,8 @@
 use Rattle.pf_core.proofs.NodeLemmas.{Explores-edges}
 use Rattle.pf_search.specs.Internal.BothEnds.{from_one}
+use Rattle.std.proofs.lemmas.Result.{IfOk-from_err}
+use Rattle.std.proofs.Common.{inl}
+use Rattle.pf_search.proofs.ResultLemmas.{no_overflow, refused_as}
 use Rattle.pf_search.proofs.directed.dijkstra.both_ends.dijkstra_bidirectional.Goals as goal
 
 pub path_between-requires-clause-ends : goal.path_between-requires-clause-ends
@@ -44,3 +47,33 @@ returns-clause-overflow g c = λ edges previous s.
     let x = Explores-edges eq laws _ _ _ _ _ _ (from_one start edges) found.field-0.keys _ found.ensures.distinct found.ensures.same s.edges_answered in
     let y = Explores-edges eq laws _ _ _ _ _ _ (from_one end previous) found_back.field-0.keys _ found_back.ensures.distinct found_back.ensures.same s.previous_answered in
     c.path_between.ensures.overflow edges previous start end x y (record { begins = found.ensures.begins; begins_back = found_back.ensures.begins; mirror = s.mirror; costs = s.costs; costs_back = s.costs_back })
+
+pub path_between-requires-clause-clones : goal.path_between-requires-clause-clones
+path_between-requires-clause-clones g c = c.requires.clones
+
+pub returns-in_err-clone_of-2-clause-best : goal.returns-in_err-clone_of-2-clause-best
+returns-in_err-clone_of-2-clause-best g c = λ _ _ _. IfOk-from_err _ _ c.from_residual-in_err-clone_of-2.ensures.0
+
+pub returns-in_err-clone_of-2-clause-errors : goal.returns-in_err-clone_of-2-clause-errors
+returns-in_err-clone_of-2-clause-errors g c = refused_as _ c.from_residual-in_err-clone_of-2.result c.in_err-clone_of-2.field-0.0 c.from_residual-in_err-clone_of-2.ensures.1 (inl c.in_err-clone_of-2.ensures.refused)
+
+pub returns-in_err-clone_of-clause-best : goal.returns-in_err-clone_of-clause-best
+returns-in_err-clone_of-clause-best g c = λ _ _ _. IfOk-from_err _ _ c.from_residual.ensures.0
+
+pub returns-in_err-clone_of-clause-errors : goal.returns-in_err-clone_of-clause-errors
+returns-in_err-clone_of-clause-errors g c = refused_as _ c.from_residual.result c.in_err-clone_of.field-0.0 c.from_residual.ensures.1 (inl c.in_err-clone_of.ensures.refused)
+
+pub returns-clause-errors : goal.returns-clause-errors
+returns-clause-errors g c = c.path_between.ensures.errors
+
+pub path_between-requires-clause-one_forth : goal.path_between-requires-clause-one_forth
+path_between-requires-clause-one_forth g c = c.in_ok-clone_of.ensures.one
+
+pub path_between-requires-clause-one_back : goal.path_between-requires-clause-one_back
+path_between-requires-clause-one_back g c = c.in_ok-clone_of-2.ensures.one
+
+pub returns-in_err-clone_of-clause-overflow : goal.returns-in_err-clone_of-clause-overflow
+returns-in_err-clone_of-clause-overflow g c = λ _ _ _ e. absurd (no_overflow c.from_residual.result c.in_err-clone_of.field-0.0 c.from_residual.ensures.1 c.in_err-clone_of.ensures.refused e)
+
+pub returns-in_err-clone_of-2-clause-overflow : goal.returns-in_err-clone_of-2-clause-overflow
+returns-in_err-clone_of-2-clause-overflow g c = λ _ _ _ e. absurd (no_overflow c.from_residual-in_err-clone_of-2.result c.in_err-clone_of-2.field-0.0 c.from_residual-in_err-clone_of-2.ensures.1 c.in_err-clone_of-2.ensures.refused e)

@@ -23,8 +23,8 @@ pub numbers-preserved : goal.numbers-preserved
 numbers-preserved g c = λ k h j l m x a b d e pl pm. elim (Contains-take_more c.args.numbers.now c.numbers.place 0 k h) as (λ _. (g.C.Number.value c.args.cost +ℤ pos 1) ≤ℤ (g.C.Number.value l.cost +ℤ g.C.Number.value m.cost)) [
   | inl i ↦ c.numbers.invariant k i j l m x a b d e pl pm
   | inr same ↦
-      let here = subst (λ (n : ℕ). StandsFor g.N.PartialEq.eq c.args.nodes.now.keys n x) (sym same) a in
-      let at = subst (λ (n : ℕ). HasLabel c.args.labels.now.items n l) (sym same) d in
+      let here = subst (λ (n : ℕ). StandsFor g.N.PartialEq.eq c.args.graph.now.nodes.keys n x) (sym same) a in
+      let at = subst (λ (n : ℕ). HasLabel c.args.search.now.labels.items n l) (sym same) d in
       elim c.match-meeting_at.branch as (λ _. (g.C.Number.value c.args.cost +ℤ pos 1) ≤ℤ (g.C.Number.value l.cost +ℤ g.C.Number.value m.cost)) [
         | in-Some+else-is_at_most w ↦
             let far : g.C.Number.value c.args.cost <ℤ g.C.Number.value w.in-Some.meeting.cost = rw w.if-is_at_most.false at w.is_at_most.ensures in
@@ -37,3 +37,9 @@ numbers-preserved g c = λ k h j l m x a b d e pl pm. elim (Contains-take_more c
 
 pub returns : goal.returns
 returns g c = record { first = λ k h. c.numbers.invariant k (Contains-take_all c.args.numbers.now c.numbers.place k c.numbers-test.false h) }
+
+pub meeting_at-requires-clause-one : goal.meeting_at-requires-clause-one
+meeting_at-requires-clause-one g c = c.requires.one
+
+pub meeting_at-requires-clause-wide : goal.meeting_at-requires-clause-wide
+meeting_at-requires-clause-wide g c = c.requires.wide

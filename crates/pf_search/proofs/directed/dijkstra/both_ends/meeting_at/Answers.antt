@@ -1,6 +1,7 @@
 use Rattle.std.proofs.Common.{◌≡◌, ◌<◌, ◌∙◌, length, sym, subst, Some, None, slice_get, arith, ℕ, pos, refl}
 use Rattle.std.specs.Prelude.{◌+ℤ◌, ◌≤ℤ◌}
 use Rattle.std.proofs.lemmas.Int.{ints}
+use Rattle.std.proofs.lemmas.Option.{same_Some}
 use Rattle.pf_core.specs.declared.labels.Label.{Label}
 use Rattle.pf_core.specs.Labels.{HasLabel}
 use Rattle.pf_core.specs.Nodes.{StandsFor}
@@ -12,35 +13,34 @@ use Rattle.pf_search.proofs.directed.dijkstra.both_ends.meeting_at.Goals as goal
 
 pub returns-in_default-clause-low : goal.returns-in_default-clause-low
 returns-in_default-clause-low g c = λ k l m x here there hl hm pl pm.
-    let item = c.index-as_slice-number.result in
-    let at : slice_get c.args.nodes.now.keys c.args.number ≡ Some item = at_place _ _ _ _ c.requires.inside (sym (rw c.as_slice.ensures.keys at c.index-as_slice-number.is)) in
-    let place = rw c.in_default.is at (place_across g.N.PartialEq.eq g.met.N.Eq.laws c.args.nodes.now.keys c.args.others.now.keys c.args.number item c.get_index_of.result at c.get_index_of.ensures.index c.get_index_of.ensures.found) in
+    let item = c.index-nodes-number.result in
+    let at : slice_get c.args.graph.now.nodes.keys c.args.number ≡ Some item = at_place _ _ _ _ c.requires.inside (sym (rw c.as_slice-nodes.ensures.keys at c.index-nodes-number.is)) in
+    let place = rw c.in_default.is at (place_across g.N.PartialEq.eq g.met.N.Eq.laws c.args.graph.now.nodes.keys c.args.other_graph.now.nodes.keys c.args.number item c.get_index_of.result at c.get_index_of.ensures.index c.get_index_of.ensures.found) in
     absurd (place x here k there)
 
 pub returns-in_default-label-clause-low : goal.returns-in_default-label-clause-low
 returns-in_default-label-clause-low g c = λ k l m x here there hl hm pl pm.
-    let item = c.index-as_slice-number.result in
-    let at : slice_get c.args.nodes.now.keys c.args.number ≡ Some item = at_place _ _ _ _ c.requires.inside (sym (rw c.as_slice.ensures.keys at c.index-as_slice-number.is)) in
-    let place = rw c.in-Some.is at (place_across g.N.PartialEq.eq g.met.N.Eq.laws c.args.nodes.now.keys c.args.others.now.keys c.args.number item c.get_index_of.result at c.get_index_of.ensures.index c.get_index_of.ensures.found) in
+    let item = c.index-nodes-number.result in
+    let at : slice_get c.args.graph.now.nodes.keys c.args.number ≡ Some item = at_place _ _ _ _ c.requires.inside (sym (rw c.as_slice-nodes.ensures.keys at c.index-nodes-number.is)) in
+    let place = rw c.in-Some.is at (place_across g.N.PartialEq.eq g.met.N.Eq.laws c.args.graph.now.nodes.keys c.args.other_graph.now.nodes.keys c.args.number item c.get_index_of.result at c.get_index_of.ensures.index c.get_index_of.ensures.found) in
     let same : k ≡ c.in-Some.across = c.requires.one k c.in-Some.across x there (place.1 x here) in
-    let inside : c.in-Some.across < length c.args.other_labels.now.items = omega (arith, place.0, c.requires.wide) in
-    let slot : slice_get c.args.other_labels.now.items c.in-Some.across ≡ Some c.index.result.now = at_place _ _ _ _ inside (sym c.index.ensures) in
-    let labelled : slice_get c.args.other_labels.now.items c.in-Some.across ≡ Some (Some m) = subst (λ (n : ℕ). slice_get c.args.other_labels.now.items n ≡ Some (Some m)) same hm in
-    let both : Some c.index.result.now ≡ Some (Some m) = sym slot ∙ labelled in
-    let told : c.index.result.now ≡ Some m = cc in
+    let inside : c.in-Some.across < length c.args.other_search.now.labels.items = omega (arith, place.0, c.requires.wide) in
+    let slot : slice_get c.args.other_search.now.labels.items c.in-Some.across ≡ Some c.index.result.now = at_place _ _ _ _ inside (sym c.index.ensures) in
+    let labelled : slice_get c.args.other_search.now.labels.items c.in-Some.across ≡ Some (Some m) = subst (λ (n : ℕ). slice_get c.args.other_search.now.labels.items n ≡ Some (Some m)) same hm in
+    let told : c.index.result.now ≡ Some m = same_Some c.index.result.now (Some m) (sym slot ∙ labelled) in
     absurd (c.in_default-label.not-Some m (c.label.ensures ∙ told))
 
 pub returns-in_default-checked_add-clause-low : goal.returns-in_default-checked_add-clause-low
 returns-in_default-checked_add-clause-low g c = λ k l m x here there hl hm pl pm.
-    let item = c.index-as_slice-number.result in
-    let at : slice_get c.args.nodes.now.keys c.args.number ≡ Some item = at_place _ _ _ _ c.requires.inside (sym (rw c.as_slice.ensures.keys at c.index-as_slice-number.is)) in
-    let place = rw c.in-Some.is at (place_across g.N.PartialEq.eq g.met.N.Eq.laws c.args.nodes.now.keys c.args.others.now.keys c.args.number item c.get_index_of.result at c.get_index_of.ensures.index c.get_index_of.ensures.found) in
+    let item = c.index-nodes-number.result in
+    let at : slice_get c.args.graph.now.nodes.keys c.args.number ≡ Some item = at_place _ _ _ _ c.requires.inside (sym (rw c.as_slice-nodes.ensures.keys at c.index-nodes-number.is)) in
+    let place = rw c.in-Some.is at (place_across g.N.PartialEq.eq g.met.N.Eq.laws c.args.graph.now.nodes.keys c.args.other_graph.now.nodes.keys c.args.number item c.get_index_of.result at c.get_index_of.ensures.index c.get_index_of.ensures.found) in
     let same : k ≡ c.in-Some.across = c.requires.one k c.in-Some.across x there (place.1 x here) in
-    let inside : c.in-Some.across < length c.args.other_labels.now.items = omega (arith, place.0, c.requires.wide) in
-    let slot : slice_get c.args.other_labels.now.items c.in-Some.across ≡ Some c.index.result.now = at_place _ _ _ _ inside (sym c.index.ensures) in
-    let labelled : HasLabel c.args.other_labels.now.items c.in-Some.across c.in-Some-label.there = slot ∙ subst (λ o. Some c.index.result.now ≡ Some o) (sym c.label.ensures ∙ c.in-Some-label.is) refl in
-    let first : c.label_of-here.result ≡ l = label_is c.args.labels.now.items c.args.number c.label_of-here.result l c.label_of-here.ensures hl in
-    let second : c.in-Some-label.there ≡ m = label_is c.args.other_labels.now.items c.in-Some.across c.in-Some-label.there m labelled (subst (λ (n : ℕ). HasLabel c.args.other_labels.now.items n m) same hm) in
+    let inside : c.in-Some.across < length c.args.other_search.now.labels.items = omega (arith, place.0, c.requires.wide) in
+    let slot : slice_get c.args.other_search.now.labels.items c.in-Some.across ≡ Some c.index.result.now = at_place _ _ _ _ inside (sym c.index.ensures) in
+    let labelled : HasLabel c.args.other_search.now.labels.items c.in-Some.across c.in-Some-label.there = slot ∙ subst (λ o. Some c.index.result.now ≡ Some o) (sym c.label.ensures ∙ c.in-Some-label.is) refl in
+    let first : c.label_of-here.result ≡ l = label_is c.args.search.now.labels.items c.args.number c.label_of-here.result l c.label_of-here.ensures hl in
+    let second : c.in-Some-label.there ≡ m = label_is c.args.other_search.now.labels.items c.in-Some.across c.in-Some-label.there m labelled (subst (λ (n : ℕ). HasLabel c.args.other_search.now.labels.items n m) same hm) in
     let never = g.met.C.CheckedAdd.checked_add_law c.label_of-here.result.cost c.in-Some-label.there.cost None c.in_default-checked_add.ensures in
     subst (λ (n : Label g.row.C.Denot). (g.C.Number.value g.C.Cost.greatest +ℤ pos 1) ≤ℤ (g.C.Number.value n.cost +ℤ g.C.Number.value m.cost)) first
     (subst (λ (n : Label g.row.C.Denot). (g.C.Number.value g.C.Cost.greatest +ℤ pos 1) ≤ℤ (g.C.Number.value c.label_of-here.result.cost +ℤ g.C.Number.value n.cost)) second
@@ -49,13 +49,13 @@ returns-in_default-checked_add-clause-low g c = λ k l m x here there hl hm pl p
 
 pub returns-clause-meets : goal.returns-clause-meets
 returns-clause-meets g c =
-    let item = c.index-as_slice-number.result in
-    let at : slice_get c.args.nodes.now.keys c.args.number ≡ Some item = at_place _ _ _ _ c.requires.inside (sym (rw c.as_slice.ensures.keys at c.index-as_slice-number.is)) in
-    let place = rw c.in-Some.is at (place_across g.N.PartialEq.eq g.met.N.Eq.laws c.args.nodes.now.keys c.args.others.now.keys c.args.number item c.get_index_of.result at c.get_index_of.ensures.index c.get_index_of.ensures.found) in
-    let inside : c.in-Some.across < length c.args.other_labels.now.items = omega (arith, place.0, c.requires.wide) in
-    let slot : slice_get c.args.other_labels.now.items c.in-Some.across ≡ Some c.index.result.now = at_place _ _ _ _ inside (sym c.index.ensures) in
+    let item = c.index-nodes-number.result in
+    let at : slice_get c.args.graph.now.nodes.keys c.args.number ≡ Some item = at_place _ _ _ _ c.requires.inside (sym (rw c.as_slice-nodes.ensures.keys at c.index-nodes-number.is)) in
+    let place = rw c.in-Some.is at (place_across g.N.PartialEq.eq g.met.N.Eq.laws c.args.graph.now.nodes.keys c.args.other_graph.now.nodes.keys c.args.number item c.get_index_of.result at c.get_index_of.ensures.index c.get_index_of.ensures.found) in
+    let inside : c.in-Some.across < length c.args.other_search.now.labels.items = omega (arith, place.0, c.requires.wide) in
+    let slot : slice_get c.args.other_search.now.labels.items c.in-Some.across ≡ Some c.index.result.now = at_place _ _ _ _ inside (sym c.index.ensures) in
     let sum = g.met.C.CheckedAdd.checked_add_law c.label_of-here.result.cost c.in-Some-label.there.cost (Some c.in-Some-checked_add.cost) c.in-Some-checked_add.ensures in
-    let here : StandsFor g.N.PartialEq.eq c.args.nodes.now.keys c.args.number item = (item, at, g.met.N.Eq.laws.refl item) in (
+    let here : StandsFor g.N.PartialEq.eq c.args.graph.now.nodes.keys c.args.number item = (item, at, g.met.N.Eq.laws.refl item) in (
       refl,
       record {
         node = item;
@@ -71,15 +71,24 @@ returns-clause-meets g c =
 
 pub returns-clause-low : goal.returns-clause-low
 returns-clause-low g c = λ k l m x here there hl hm pl pm.
-    let item = c.index-as_slice-number.result in
-    let at : slice_get c.args.nodes.now.keys c.args.number ≡ Some item = at_place _ _ _ _ c.requires.inside (sym (rw c.as_slice.ensures.keys at c.index-as_slice-number.is)) in
-    let place = rw c.in-Some.is at (place_across g.N.PartialEq.eq g.met.N.Eq.laws c.args.nodes.now.keys c.args.others.now.keys c.args.number item c.get_index_of.result at c.get_index_of.ensures.index c.get_index_of.ensures.found) in
+    let item = c.index-nodes-number.result in
+    let at : slice_get c.args.graph.now.nodes.keys c.args.number ≡ Some item = at_place _ _ _ _ c.requires.inside (sym (rw c.as_slice-nodes.ensures.keys at c.index-nodes-number.is)) in
+    let place = rw c.in-Some.is at (place_across g.N.PartialEq.eq g.met.N.Eq.laws c.args.graph.now.nodes.keys c.args.other_graph.now.nodes.keys c.args.number item c.get_index_of.result at c.get_index_of.ensures.index c.get_index_of.ensures.found) in
     let same : k ≡ c.in-Some.across = c.requires.one k c.in-Some.across x there (place.1 x here) in
-    let inside : c.in-Some.across < length c.args.other_labels.now.items = omega (arith, place.0, c.requires.wide) in
-    let slot : slice_get c.args.other_labels.now.items c.in-Some.across ≡ Some c.index.result.now = at_place _ _ _ _ inside (sym c.index.ensures) in
-    let labelled : HasLabel c.args.other_labels.now.items c.in-Some.across c.in-Some-label.there = slot ∙ subst (λ o. Some c.index.result.now ≡ Some o) (sym c.label.ensures ∙ c.in-Some-label.is) refl in
-    let first : c.label_of-here.result ≡ l = label_is c.args.labels.now.items c.args.number c.label_of-here.result l c.label_of-here.ensures hl in
-    let second : c.in-Some-label.there ≡ m = label_is c.args.other_labels.now.items c.in-Some.across c.in-Some-label.there m labelled (subst (λ (n : ℕ). HasLabel c.args.other_labels.now.items n m) same hm) in
+    let inside : c.in-Some.across < length c.args.other_search.now.labels.items = omega (arith, place.0, c.requires.wide) in
+    let slot : slice_get c.args.other_search.now.labels.items c.in-Some.across ≡ Some c.index.result.now = at_place _ _ _ _ inside (sym c.index.ensures) in
+    let labelled : HasLabel c.args.other_search.now.labels.items c.in-Some.across c.in-Some-label.there = slot ∙ subst (λ o. Some c.index.result.now ≡ Some o) (sym c.label.ensures ∙ c.in-Some-label.is) refl in
+    let first : c.label_of-here.result ≡ l = label_is c.args.search.now.labels.items c.args.number c.label_of-here.result l c.label_of-here.ensures hl in
+    let second : c.in-Some-label.there ≡ m = label_is c.args.other_search.now.labels.items c.in-Some.across c.in-Some-label.there m labelled (subst (λ (n : ℕ). HasLabel c.args.other_search.now.labels.items n m) same hm) in
     let sum = g.met.C.CheckedAdd.checked_add_law c.label_of-here.result.cost c.in-Some-label.there.cost (Some c.in-Some-checked_add.cost) c.in-Some-checked_add.ensures in
     subst (λ (n : Label g.row.C.Denot). g.C.Number.value c.in-Some-checked_add.cost ≤ℤ (g.C.Number.value n.cost +ℤ g.C.Number.value m.cost)) first
     (subst (λ (n : Label g.row.C.Denot). g.C.Number.value c.in-Some-checked_add.cost ≤ℤ (g.C.Number.value c.label_of-here.result.cost +ℤ g.C.Number.value n.cost)) second (omega (arith, ints, sum.1)))
+
+pub returns-in_default-clause-meets : goal.returns-in_default-clause-meets
+returns-in_default-clause-meets g c = tt
+
+pub returns-in_default-label-clause-meets : goal.returns-in_default-label-clause-meets
+returns-in_default-label-clause-meets g c = tt
+
+pub returns-in_default-checked_add-clause-meets : goal.returns-in_default-checked_add-clause-meets
+returns-in_default-checked_add-clause-meets g c = tt

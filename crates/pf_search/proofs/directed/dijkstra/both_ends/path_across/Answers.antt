@@ -71,3 +71,27 @@ returns-in-None-clause-overflow g c = λ edges previous start end x y p e. absur
 
 pub returns-in_ok-path-in-Some-clause-overflow : goal.returns-in_ok-path-in-Some-clause-overflow
 returns-in_ok-path-in-Some-clause-overflow g c = λ edges previous start end x y p e. absurd (ok_is_no_error _ _ _ refl e)
+
+pub path_through-requires-clause-clones : goal.path_through-requires-clause-clones
+path_through-requires-clause-clones g c = c.requires.clones
+
+pub returns-in-None-clause-errors : goal.returns-in-None-clause-errors
+returns-in-None-clause-errors g c = tt
+
+pub returns-in_ok-path-in-Some-clause-errors : goal.returns-in_ok-path-in-Some-clause-errors
+returns-in_ok-path-in-Some-clause-errors g c = tt
+
+pub best_meeting-requires-clause-sound_forth : goal.best_meeting-requires-clause-sound_forth
+best_meeting-requires-clause-sound_forth g c = c.requires.sound_forth
+
+pub best_meeting-requires-clause-sound_back : goal.best_meeting-requires-clause-sound_back
+best_meeting-requires-clause-sound_back g c = c.requires.sound_back
+
+pub best_meeting-requires-clause-wide_forth : goal.best_meeting-requires-clause-wide_forth
+best_meeting-requires-clause-wide_forth g c = c.requires.wide_forth
+
+pub best_meeting-requires-clause-wide_back : goal.best_meeting-requires-clause-wide_back
+best_meeting-requires-clause-wide_back g c = c.requires.wide_back
+
+pub best_meeting-requires-clause-pair : goal.best_meeting-requires-clause-pair
+best_meeting-requires-clause-pair g c = c.requires.pair

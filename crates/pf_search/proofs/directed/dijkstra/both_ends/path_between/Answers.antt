@@ -57,3 +57,6 @@ returns-clause-overflow g c = λ edges previous start end x y ends.
 
 pub returns-clause-errors : goal.returns-clause-errors
 returns-clause-errors g c = c.path_across.ensures.errors
+
+pub path_across-requires-clause-clones : goal.path_across-requires-clause-clones
+path_across-requires-clause-clones g c = c.requires.clones

@@ -2,10 +2,11 @@ use Rattle.std.proofs.Common.{◌≡◌, ◌<◌, ◌+◌, ℕ, pos, subst, arit
 use Rattle.std.specs.Prelude.{◌⊎◌, ◌+ℤ◌}
 use Rattle.std.proofs.lemmas.Int.{ints}
 use Rattle.std.proofs.lemmas.Option.{slice_get_within}
-use Rattle.std.proofs.lemmas.Result.{IfOk-weaker}
+use Rattle.std.proofs.lemmas.Result.{IfOk-weaker, IfOk-from_err}
 use Rattle.pf_core.specs.Labels.{IsChain}
 use Rattle.pf_search.specs.Internal.BothEnds.{NoneBelowAt, AreHalves}
 use Rattle.pf_search.proofs.BothEndsChains.{chain_labelled, chain_last, chain_front, take_inside, last_of_take}
+use Rattle.pf_search.proofs.ResultLemmas.{refused_as}
 use Rattle.pf_search.proofs.directed.dijkstra.both_ends.path_through.Goals as goal
 
 pub path_to-requires-clause-labelled : goal.path_to-requires-clause-labelled
@@ -71,3 +72,33 @@ returns-clause-path g c =
       ];
     }) in
     IfOk-weaker c.nodes_along.result _ _ (λ path n. (c.truncate.new.self.items, c.in_ok-back_numbers.back_numbers.items, n.0, n.1, halves, n.2, n.3, n.4)) c.nodes_along.ensures.nodes
+
+pub nodes_along-requires-clause-clones : goal.nodes_along-requires-clause-clones
+nodes_along-requires-clause-clones g c = c.requires.clones
+
+pub returns-in_err-back_numbers-clause-path : goal.returns-in_err-back_numbers-clause-path
+returns-in_err-back_numbers-clause-path g c = IfOk-from_err _ _ c.from_residual-in_err-back_numbers.ensures.0
+
+pub returns-in_err-back_numbers-clause-refused : goal.returns-in_err-back_numbers-clause-refused
+returns-in_err-back_numbers-clause-refused g c = refused_as _ c.from_residual-in_err-back_numbers.result c.in_err-back_numbers.field-0.0 c.from_residual-in_err-back_numbers.ensures.1 c.in_err-back_numbers.ensures.refused
+
+pub returns-in_err-numbers-clause-path : goal.returns-in_err-numbers-clause-path
+returns-in_err-numbers-clause-path g c = IfOk-from_err _ _ c.from_residual.ensures.0
+
+pub returns-in_err-numbers-clause-refused : goal.returns-in_err-numbers-clause-refused
+returns-in_err-numbers-clause-refused g c = refused_as _ c.from_residual.result c.in_err-numbers.field-0.0 c.from_residual.ensures.1 c.in_err-numbers.ensures.refused
+
+pub first_on-first-requires-clause-one : goal.first_on-first-requires-clause-one
+first_on-first-requires-clause-one g c = c.requires.one
+
+pub first_on-first-requires-clause-wide : goal.first_on-first-requires-clause-wide
+first_on-first-requires-clause-wide g c = c.requires.wide_back
+
+pub path_to-requires-clause-tree : goal.path_to-requires-clause-tree
+path_to-requires-clause-tree g c = rw c.deref.ensures.value c.requires.trees.0
+
+pub path_to-requires-2-clause-tree : goal.path_to-requires-2-clause-tree
+path_to-requires-2-clause-tree g c = rw c.deref-3.ensures.value c.requires.trees.1
+
+pub returns-clause-refused : goal.returns-clause-refused
+returns-clause-refused g c = c.nodes_along.ensures.refused

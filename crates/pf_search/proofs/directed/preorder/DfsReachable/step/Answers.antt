@@ -2,6 +2,7 @@ use Rattle.std.proofs.Common.{◌≡◌, ◌<◌, ◌∷◌, [], Some, slice_get
 use Rattle.pf_core.proofs.ListLemmas.{at_place}
 use Rattle.pf_search.specs.DepthWalks.{DepthWalk}
 use Rattle.pf_search.proofs.DepthWalkLemmas.{looked, leads_inside, err_goes, refused_visit, visited_node, ended, still_goes, unbegun, empty_before, none_given}
+use Rattle.pf_search.proofs.ResultLemmas.{refused_as}
 use Rattle.pf_search.proofs.directed.preorder.DfsReachable.step.Goals as goal
 
 pub offset_bounds-as_slice-branch : goal.offset_bounds-as_slice-branch
@@ -140,3 +141,15 @@ returns-in_ok-visit-in-Some-clause-walks g c = λ next start paths w.
     let at : slice_get keys n ≡ Some c.index-as_slice-branch.result = rw c.as_slice.ensures.keys at (at_place c.as_slice.result.now n _ _ there (sym c.index-as_slice-branch.is)) in
     rw put.0 (visited_node eq laws _ _ _ _ _ next start paths t u m e.grows (e.graph _ m.explores) c.in-Some.branch node c.index-as_slice-branch.result b.next
     (omega (arith, ap length e.given, length-append k.given.items (n ∷ []))) e.visited e.path e.waiting.0 e.waiting.1 (λ x s. e.waiting.2 _ m.explores x s) (λ x s. e.ordered _ m.explores x s) at (c.requires.clones _ _ c.in_ok-node-in-Some.ensures.cases))
+
+pub returns-in-None-clause-refused : goal.returns-in-None-clause-refused
+returns-in-None-clause-refused g c = tt
+
+pub returns-in_err-put_start-clause-refused : goal.returns-in_err-put_start-clause-refused
+returns-in_err-put_start-clause-refused g c = refused_as _ c.from_residual.result c.in_err-put_start.field-0.0 c.from_residual.ensures.1 c.in_err-put_start.ensures.refused
+
+pub returns-in_ok-visit-in-Some-clause-refused : goal.returns-in_ok-visit-in-Some-clause-refused
+returns-in_ok-visit-in-Some-clause-refused g c = tt
+
+pub returns-in_err-visit-in-Some-clause-refused : goal.returns-in_err-visit-in-Some-clause-refused
+returns-in_err-visit-in-Some-clause-refused g c = refused_as _ c.from_residual-in_err-visit-in-Some.result c.in_err-visit-in-Some.field-0.0 c.from_residual-in_err-visit-in-Some.ensures.1 c.in_err-visit-in-Some.ensures.refused

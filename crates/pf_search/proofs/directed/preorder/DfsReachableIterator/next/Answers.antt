@@ -20,3 +20,9 @@ returns-clause-again g c =
 
 pub returns-clause-goes : goal.returns-clause-goes
 returns-clause-goes g c = record { on = λ f. absurd f; keeps = any_some c.transpose.result (returns-clause-again g c); rests = λ f. absurd f }
+
+pub returns-then-self-clause-refused : goal.returns-then-self-clause-refused
+returns-then-self-clause-refused g c = tt
+
+pub step-step-requires-clause-clones : goal.step-step-requires-clause-clones
+step-step-requires-clause-clones g c = c.requires.0

@@ -38,3 +38,6 @@ returns-clause-steps g c = λ edges start test w.
     let free = rw (← c.self.view_is) at c.requires.free in
     let q = gives g.N.PartialEq.eq g.met.N.Eq.laws g.C.Number.value _ _ _ _ _ _ edges start test g.C.Number.fits s v r.0 r.1 (plan_of c.in-Some.chosen) f free c.in_ok-path.path.items (rw c.deref.ensures.value at c.in_ok-path.ensures.nodes) in
     rw (← c.self.view_is, c.and.ensures) (q.1, (q.0, refl))
+
+pub nodes_at-requires-clause-clones : goal.nodes_at-requires-clause-clones
+nodes_at-requires-clause-clones g c = c.requires.clones

@@ -17,3 +17,6 @@ returns-clause-walk g c = λ edges start test w.
     let e = c.learn.ensures in
     let t = c.learn.new.graph in
     learned_on g.N.PartialEq.eq g.met.N.Eq.laws g.C.Number.value _ _ _ _ _ _ edges start test g.C.Number.fits s v t.discovery.nodes.keys c.learn.new.known t.discovery.successors t.success e.grows (e.graph _ v.explored) (e.learned _ v.explored v.learned) c.if-self.false
+
+pub returns-then-self-clause-refused : goal.returns-then-self-clause-refused
+returns-then-self-clause-refused g c = tt

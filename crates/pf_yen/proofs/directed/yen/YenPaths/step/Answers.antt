@@ -27,3 +27,6 @@ returns-clause-steps g c = λ edges start test w.
     let e = c.in_ok-choose.ensures in
     let q = c.give.ensures.steps edges start test (e.walk edges start test (l.walk edges start test w)) in
     (q.0, turn_same g.C.Number.value edges start test g.N.PartialEq.eq g.C.Number.fits c.args.self.now c.choose.new.self c.give.new.self c.give.result (e.given ∙ l.given) (λ h. e.ended (l.ended h)) q.1)
+
+pub give-requires-clause-clones : goal.give-requires-clause-clones
+give-requires-clause-clones g c = c.requires.clones

@@ -22,3 +22,12 @@ returns-clause-again g c =
 
 pub returns-clause-goes : goal.returns-clause-goes
 returns-clause-goes g c = record { on = λ f. absurd f; keeps = any_some c.transpose.result (returns-clause-again g c); rests = λ f. absurd f }
+
+pub step-step-requires-clause-clones : goal.step-step-requires-clause-clones
+step-step-requires-clause-clones g c = c.requires.0
+
+pub step-step-requires-clause-walk : goal.step-step-requires-clause-walk
+step-step-requires-clause-walk g c = c.requires.1
+
+pub returns-then-self-clause-again : goal.returns-then-self-clause-again
+returns-then-self-clause-again g c = c.requires
