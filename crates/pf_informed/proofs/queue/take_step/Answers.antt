@@ -62,3 +62,66 @@ returns-in_default-checked_add-clause-eased g c =
     let v = g.met.C.CheckedAdd.checked_add_law c.in-Some.cost c.index.result.now None c.in_default-checked_add.ensures in
     let at : slice_get c.args.estimates.now.items c.args.next ≡ Some c.index.result.now = at_place c.args.estimates.now.items c.args.next c.index.result.now c.index.result.now (omega (arith, c.requires.wide, c.requires.inside)) (sym c.index.ensures) in
     Eased-none g.C.Number.value g.C.Number.fits c.args.estimates.now.items c.args.parent (g.C.Number.value c.args.label.now.cost) c.args.next c.args.price c.args.labels.now.items (heap_items c.args.queue.now) (inr (inr (c.index.result.now, at, subst (λ (z : ℤ). ¬ (g.C.Number.fits (z +ℤ g.C.Number.value c.index.result.now))) w.1 v)))
+
+pub returns-in_default-clause-forest : goal.returns-in_default-clause-forest
+returns-in_default-clause-forest g c = c.requires.forest
+
+pub returns-in_default-clause-ordered : goal.returns-in_default-clause-ordered
+returns-in_default-clause-ordered g c = c.requires.ordered
+
+pub returns-in_default-clause-queue : goal.returns-in_default-clause-queue
+returns-in_default-clause-queue g c = c.requires.queue
+
+pub returns-in_default-clause-less : goal.returns-in_default-clause-less
+returns-in_default-clause-less g c = omega arith
+
+pub returns-in_default-clause-len : goal.returns-in_default-clause-len
+returns-in_default-clause-len g c = omega arith
+
+pub returns-in_default-clause-capacity : goal.returns-in_default-clause-capacity
+returns-in_default-clause-capacity g c = omega arith
+
+pub returns-then-not-lowers-clause-forest : goal.returns-then-not-lowers-clause-forest
+returns-then-not-lowers-clause-forest g c = c.requires.forest
+
+pub returns-then-not-lowers-clause-ordered : goal.returns-then-not-lowers-clause-ordered
+returns-then-not-lowers-clause-ordered g c = c.requires.ordered
+
+pub returns-then-not-lowers-clause-queue : goal.returns-then-not-lowers-clause-queue
+returns-then-not-lowers-clause-queue g c = c.requires.queue
+
+pub returns-then-not-lowers-clause-less : goal.returns-then-not-lowers-clause-less
+returns-then-not-lowers-clause-less g c = omega arith
+
+pub returns-then-not-lowers-clause-len : goal.returns-then-not-lowers-clause-len
+returns-then-not-lowers-clause-len g c = omega arith
+
+pub returns-then-not-lowers-clause-capacity : goal.returns-then-not-lowers-clause-capacity
+returns-then-not-lowers-clause-capacity g c = omega arith
+
+pub returns-in_default-checked_add-clause-forest : goal.returns-in_default-checked_add-clause-forest
+returns-in_default-checked_add-clause-forest g c = c.requires.forest
+
+pub returns-in_default-checked_add-clause-ordered : goal.returns-in_default-checked_add-clause-ordered
+returns-in_default-checked_add-clause-ordered g c = c.requires.ordered
+
+pub returns-in_default-checked_add-clause-queue : goal.returns-in_default-checked_add-clause-queue
+returns-in_default-checked_add-clause-queue g c = c.requires.queue
+
+pub returns-in_default-checked_add-clause-less : goal.returns-in_default-checked_add-clause-less
+returns-in_default-checked_add-clause-less g c = omega arith
+
+pub returns-in_default-checked_add-clause-len : goal.returns-in_default-checked_add-clause-len
+returns-in_default-checked_add-clause-len g c = omega arith
+
+pub returns-in_default-checked_add-clause-capacity : goal.returns-in_default-checked_add-clause-capacity
+returns-in_default-checked_add-clause-capacity g c = omega arith
+
+pub returns-in-Some-checked_add-clause-ordered : goal.returns-in-Some-checked_add-clause-ordered
+returns-in-Some-checked_add-clause-ordered g c = c.push_entry.ensures.ordered
+
+pub returns-in-Some-checked_add-clause-len : goal.returns-in-Some-checked_add-clause-len
+returns-in-Some-checked_add-clause-len g c = omega (arith, c.push_entry.ensures.len)
+
+pub returns-in-Some-checked_add-clause-capacity : goal.returns-in-Some-checked_add-clause-capacity
+returns-in-Some-checked_add-clause-capacity g c = c.push_entry.ensures.capacity

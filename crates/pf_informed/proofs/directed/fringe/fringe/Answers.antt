@@ -36,3 +36,6 @@ returns-in_err-clone_of g c = record {
 
 pub returns-clause-errors : goal.returns-clause-errors
 returns-clause-errors g c = c.search_on.ensures.errors
+
+pub search_on-requires-clause-unlisted : goal.search_on-requires-clause-unlisted
+search_on-requires-clause-unlisted g c = c.new-lists.ensures.listed

@@ -43,10 +43,10 @@ turns-init g c =
     let labels = c.begin.new.search.labels.items in
     let kept = c.begin.new.search.estimates.items in
     let heap = heap_items c.begin.new.search.queue in
-    let entries = heap ++ listed c.new-lists.result in
-    let alone : heap ≡ entries = sym (ap (λ (es : List (Entry g.row.C.Denot)). heap ++ es) c.new-lists.ensures.listed ∙ append-nil heap) in
+    let entries = heap ++ listed c.args.lists.now in
+    let alone : heap ≡ entries = sym (ap (λ (es : List (Entry g.row.C.Denot)). heap ++ es) c.requires.unlisted ∙ append-nil heap) in
     let asked : length kept ≡ length keys = b.asked ∙ sym one in
-    let estimate : slice_get kept 0 ≡ Some c.new-lists.result.limit = at_place kept 0 c.index.result.now c.new-lists.result.limit (omega (arith, b.asked)) (sym c.index.ensures ∙ sym c.new-lists.ensures.limit) in
+    let estimate : slice_get kept 0 ≡ Some c.index.result.now = at_place kept 0 c.index.result.now c.index.result.now (omega (arith, b.asked)) (sym c.index.ensures) in
     record {
       forest = b.forest;
       ordered = b.ordered;
@@ -63,7 +63,7 @@ turns-init g c =
           let st = StandsFor-same eq laws keys 0 start s0 s e in
           let within = led_within eq laws value _ _ _ _ _ _ _ start edges test least keys _ _ _ kept now asked s in
           let low = never_above eq laws h now.explores.alike test least now.admissible s0 (within 0 s0 st) u z goes good in
-          let is = led_estimate eq laws value _ _ _ _ _ _ _ start edges test least keys _ _ _ kept now asked s 0 s0 c.new-lists.result.limit st estimate in
+          let is = led_estimate eq laws value _ _ _ _ _ _ _ start edges test least keys _ _ _ kept now asked s 0 s0 c.index.result.now st estimate in
           omega (arith, ints, low, is);
     }
 
@@ -203,8 +203,8 @@ returns-then-has_all_labels-clause-best g c = λ start edges test least s d.
     led_none g.N.PartialEq.eq g.met.N.Eq.laws g.C.Number.value _ _ _ _ _ _ _ start edges test least _ _ _ _ _ v.0 inv.asked (inv.begins start s) g.C.Number.fits (λ x y z. g.C.Number.between_law x y z exact) (g.met.C.Zero.zero_fits_law exact)
     c.turns.search.labels.items inv.wide (heap_items c.turns.search.queue ++ listed c.turns.lists) inv.forest v.1 (MatchOption-at_none _ _ c.in_default.is c.in_ok-taken.ensures.taken) (c.has_all_labels.ensures.0 c.if-has_all_labels.true)
 
-pub returns-clause-overflow : goal.returns-clause-overflow
-returns-clause-overflow g c = λ start edges test least s d refused.
+pub returns-else-has_all_labels-clause-overflow : goal.returns-else-has_all_labels-clause-overflow
+returns-else-has_all_labels-clause-overflow g c = λ start edges test least s d refused.
     let exact = g.met.C.Integral.exact_law in
     let inv = c.turns.invariant in
     let v = inv.searched (graph_of start edges) test least d in
@@ -239,11 +239,11 @@ returns-in_err-turn g c = record {
   errors = refused_as _ c.from_residual-in_err-turn.result _ c.from_residual-in_err-turn.ensures.1 (inl c.in_err-turn.ensures.refused);
 }
 
-pub returns-clause-best : goal.returns-clause-best
-returns-clause-best g c = λ start edges test least s d. tt
+pub returns-else-has_all_labels-clause-best : goal.returns-else-has_all_labels-clause-best
+returns-else-has_all_labels-clause-best g c = λ start edges test least s d. tt
 
-pub returns-clause-errors : goal.returns-clause-errors
-returns-clause-errors g c = inr refl
+pub returns-else-has_all_labels-clause-errors : goal.returns-else-has_all_labels-clause-errors
+returns-else-has_all_labels-clause-errors g c = inr refl
 
 pub returns-then-has_all_labels-clause-overflow : goal.returns-then-has_all_labels-clause-overflow
 returns-then-has_all_labels-clause-overflow g c = λ start edges test least s d e. absurd (ok_is_no_error _ _ _ refl e)

@@ -57,3 +57,24 @@ returns-in_err-push g c = record {
   fewer = if_refused _ c.from_residual.result _ c.from_residual.ensures.1;
   refused = refused_as _ c.from_residual.result _ c.from_residual.ensures.1 refl;
 }
+
+pub entries-init : goal.entries-init
+entries-init g c = record { limit = refl; queue = c.requires.queue; waits = λ k l h w. w; fewer = omega arith }
+
+pub entries-smaller : goal.entries-smaller
+entries-smaller g c = omega (arith, c.in-Some.ensures.fewer)
+
+pub returns-else-is_less-clause-limit : goal.returns-else-is_less-clause-limit
+returns-else-is_less-clause-limit g c = c.entries.invariant.limit
+
+pub returns-else-is_less-clause-fewer : goal.returns-else-is_less-clause-fewer
+returns-else-is_less-clause-fewer g c = omega (arith, c.entries.invariant.fewer, c.in-Some.ensures.fewer, length-append c.entries.self.current.items c.entries.self.later.items, length-append c.take_last.new.entries.items c.entries.self.later.items)
+
+pub returns-else-is_less-clause-refused : goal.returns-else-is_less-clause-refused
+returns-else-is_less-clause-refused g c = tt
+
+pub returns-clause-limit : goal.returns-clause-limit
+returns-clause-limit g c = c.entries.invariant.limit
+
+pub returns-clause-refused : goal.returns-clause-refused
+returns-clause-refused g c = tt

@@ -1,5 +1,5 @@
 use Rattle.std.proofs.Common.{◌≡◌, ◌<◌, ◌+◌, ◌-◌, [], ◌∷◌, ◌++◌, List, ℕ, true, true≢false, length, ap, ◌∙◌, sym, subst, slice_get, arith, inl, inr, Some}
-use Rattle.std.specs.Prelude.{◌⊎◌, ◌↔◌, ◌+ℤ◌, Contains, reverse}
+use Rattle.std.specs.Prelude.{◌⊎◌, ◌↔◌, ◌+ℤ◌, ◌<ℤ◌, Contains, reverse}
 use Rattle.std.proofs.lemmas.Int.{ints}
 use Rattle.std.proofs.lemmas.List.{length-reverse}
 use Rattle.pf_core.specs.NodeLaws.{StandsFor-one}
@@ -376,3 +376,19 @@ span_of-requires-clause-table g c = c.requires.table
 
 pub span_of-requires-clause-graph : goal.span_of-requires-clause-graph
 span_of-requires-clause-graph g c = let r = c.requires.graph in (r.0, r.1, r.2, r.4)
+
+pub index-step-requires : goal.index-step-requires
+index-step-requires g c =
+    let r = c.requires.graph in
+    let known = c.args.known.now in
+    let way = c.args.way.now in
+    let keys = known.graph.discovery.nodes.keys in
+    let ends = frame_ends g.N.PartialEq.eq g.met.N.Eq.laws g.C.Number.value g.C.Number.fits r.0 r.1 r.2 r.3 keys known.rows.steps.items known.rows.spans.items r.4.rows (length keys) c.requires.table way.frame (reverse way.trail.items) way.cut_off.least way.cut_off.past r.5 in
+    omega (arith, c.requires.left, ends.1, known.rows.steps.ok.0)
+
+pub returns-in_default-clause-marked : goal.returns-in_default-clause-marked
+returns-in_default-clause-marked g c = record {
+  marked = c.requires.marked.marked;
+  inside = c.requires.marked.inside;
+  above = λ n q. elim (c.in_default.ensures.above n q) as (λ _. g.C.Number.value c.args.limit <ℤ g.C.Number.value n) [ inl o ↦ c.requires.marked.above n o | inr l ↦ l ];
+}

@@ -116,3 +116,18 @@ returns-else-leave-clause-less g c = tt
 
 pub returns-else-leave-clause-refused : goal.returns-else-leave-clause-refused
 returns-else-leave-clause-refused g c = tt
+
+pub go_on-requires-clause-estimated : goal.go_on-requires-clause-estimated
+go_on-requires-clause-estimated g c = c.requires.estimated
+
+pub go_on-requires-clause-table : goal.go_on-requires-clause-table
+go_on-requires-clause-table g c = c.requires.table
+
+pub go_on-requires-clause-marked : goal.go_on-requires-clause-marked
+go_on-requires-clause-marked g c = c.requires.marked
+
+pub go_on-requires-clause-graph : goal.go_on-requires-clause-graph
+go_on-requires-clause-graph g c = c.requires.graph
+
+pub returns-else-leave-clause-marked : goal.returns-else-leave-clause-marked
+returns-else-leave-clause-marked g c = ((λ n q. c.requires.marked.above n (sym (ap (λ (o : CutOff g.row.C.Denot). o.least) c.leave.ensures.cut_off) ∙ q)), tt)
