@@ -10,6 +10,7 @@ ghost use Rattle.pf_informed.specs.Internal.Rows.{IsTable, IsKnown};
 
 use crate::directed::idastar::known::Known;
 use crate::directed::idastar::round::{Round, look_through};
+use crate::estimates::ask;
 use crate::functions::EstimateFunction;
 use pf_base::{Cost, EdgeFunction, NodeTest, PathError};
 use std::alloc::Allocator;
@@ -24,7 +25,7 @@ mod rows;
 mod way;
 mod widen;
 
-/// Searches from the only node that was found, whose estimate alone is known.
+/// Searches from the only node that was found, with nothing known of it yet.
 fn search_on<N, C, IN, FN, FH, FS, A>(
     alloc: A,
     known: &mut Known<N, C, IN, FN, FH, FS, A>,
@@ -39,7 +40,7 @@ where
     A: Allocator + Copy,
     requires clones { IsLawfulClone N.eq N.is_clone }
     requires one { length known.old.graph.discovery.nodes.keys ≡ 1 }
-    requires estimated { length known.old.estimates.items ≡ 1 }
+    requires unasked { known.old.estimates.items ≡ [] }
     requires table { IsTable 1 known.old.rows.steps.items known.old.rows.spans.items }
     requires graph { (start : N) × (edges : N → List (N × ℤ)) × (test : N → Bool) × (least : N → ℤ) × StandsFor N.eq known.old.graph.discovery.nodes.keys 0 start
         × IsKnown N.eq C.value IN.into_iter_gives IN.IntoIter.can_next IN.IntoIter.remaining IN.IntoIter.next_gives FN.FnMut FS.FnMut FH.FnMut (record { starts = start ∷ []; edges = edges }) test least
@@ -60,6 +61,11 @@ where
 
     ensures errors { IfErr result (λ e. (e ≡ PathError.OutOfMemory) ⊎ (e ≡ PathError.CostOverflow)) }
 {
+    ask(
+        known.graph.discovery.nodes.as_slice(),
+        &mut known.estimate,
+        &mut known.estimates,
+    )?;
     let mut limit = known.estimates[0];
     'limits: loop {
         match look_through(alloc, known, limit)? {

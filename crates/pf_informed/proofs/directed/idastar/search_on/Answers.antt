@@ -1,4 +1,4 @@
-use Rattle.std.proofs.Common.{◌≡◌, ◌∙◌, [], ◌∷◌, List, ℕ, ℤ, Bool, true, length, sym, subst, arith, inl, slice_get, Option, Some, None, refl, inr}
+use Rattle.std.proofs.Common.{◌≡◌, ◌∙◌, [], ◌∷◌, List, ℕ, ℤ, Bool, true, length, sym, subst, arith, inl, ap, slice_get, Option, Some, None, refl, inr}
 use Rattle.std.proofs.lemmas.Int.{ints}
 use Rattle.pf_base.specs.Edges.{InReach}
 use Rattle.pf_core.specs.Nodes.{NodeGraph, StandsFor}
@@ -6,6 +6,7 @@ use Rattle.pf_core.specs.NodeLaws.{StandsFor-one, StandsFor-inside}
 use Rattle.pf_core.proofs.ListLemmas.{at_place}
 use Rattle.pf_core.proofs.NodeLemmas.{StandsFor-same, InReach-same}
 use Rattle.pf_core.proofs.WalkLemmas.{all_starts, only_starts, no_negative, no_walk, best_answer}
+use Rattle.pf_informed.specs.Internal.Estimated.{IsEstimated}
 use Rattle.pf_informed.specs.Internal.Rows.{IsTable}
 use Rattle.pf_informed.specs.Internal.Deepening.{IsCutOff}
 use Rattle.pf_informed.proofs.LimitLemmas.{limit_rises, covered_walk, next_limit, none_cut, none_fits, best_way, past_way}
@@ -16,6 +17,15 @@ use Rattle.pf_informed.proofs.directed.idastar.search_on.Goals as goal
 abbrev graph_of : {N : Type 0} → N → (N → List (N × ℤ)) → NodeGraph N
 graph_of start edges = record { starts = start ∷ []; edges = edges }
 
+pub ask-requires-clause-few : goal.ask-requires-clause-few
+ask-requires-clause-few g c = omega (arith, ap length c.requires.unasked)
+
+pub ask-requires-clause-graph : goal.ask-requires-clause-graph
+ask-requires-clause-graph g c =
+    let r = c.requires.graph in
+    let k = r.5 in
+    (graph_of r.0 r.1, r.3, k.asked, λ i y q. k.explores.reached i y (rw c.as_slice.ensures.keys at q))
+
 pub limits-init : goal.limits-init
 limits-init g c =
     let eq = g.N.PartialEq.eq in
@@ -23,19 +33,32 @@ limits-init g c =
     let value = g.C.Number.value in
     let known = c.args.known.now in
     let keys = known.graph.discovery.nodes.keys in
+    let kept = c.ask.new.estimates.items in
     let one = c.requires.one in
-    let asked : length known.estimates.items ≡ length keys = c.requires.estimated ∙ sym one in
+    let asked : length kept ≡ length keys = rw c.as_slice.ensures.keys at c.in_ok-ask.ensures.all in
     record {
       begins = λ x s. s;
       asked = asked;
       table = subst (λ (m : ℕ). IsTable m known.rows.steps.items known.rows.spans.items) (sym one) c.requires.table;
       searched = λ start edges test least b k.
           let h = graph_of start edges in
+          let a = c.in_ok-ask.ensures.graph h least k.asked (λ i y q. k.explores.reached i y (rw c.as_slice.ensures.keys at q)) in
+          let before : IsEstimated value least (slice_get c.as_slice.result.now) known.estimates.items = rw c.as_slice.ensures.keys k.estimated in
+          let after = a.1 before in
+          let estimated : IsEstimated value least (slice_get keys) kept = rw c.as_slice.ensures.keys at after in
           let x = c.index-limit.result.now in
-          let at : slice_get known.estimates.items 0 ≡ Some x = at_place known.estimates.items 0 x x (omega (arith, c.requires.estimated)) (sym c.index-limit.ensures) in
-          let is = estimate_is eq laws h k.explores.alike value least k.asked.alike keys k.explores.reached known.estimates.items k.estimated asked 0 start x b at in
+          let at : slice_get kept 0 ≡ Some x = at_place kept 0 x x (omega (arith, asked, one)) (sym c.index-limit.ensures) in
+          let is = estimate_is eq laws h k.explores.alike value least k.asked.alike keys k.explores.reached kept estimated asked 0 start x b at in
           let reach : (y : g.row.N.Denot) → StandsFor eq keys 0 y → InReach eq edges (start ∷ []) y = λ y t. InReach-same eq laws edges (start ∷ []) t.0 y (k.explores.reached 0 t.0 t.1) t.2 in (
-            k,
+            record {
+              explores = k.explores;
+              tested = k.tested;
+              asked = a.0;
+              estimated = estimated;
+              rows = k.rows;
+              admissible = k.admissible;
+              costs = k.costs;
+            },
             omega (arith, ints, is),
             λ s0 e w u goes good.
                 let low = never_above eq laws h k.explores.alike test least k.admissible s0 (reach s0 (StandsFor-same eq laws keys 0 start s0 b e)) w u goes good in
@@ -178,11 +201,18 @@ returns-in_default-clause-best g c = λ start edges test least b d.
     let cut = subst (λ (o : Option g.row.C.Denot). IsCutOff value fits o c.in-Missed.past q.0) c.in_default.is q.3 in
     none_cut eq laws value fits (λ a b d. g.C.Number.between_law a b d exact) (g.met.C.Zero.zero_fits_law exact) h alike test same_test p q.0 (subst (λ (b : Bool). IsCutOff value fits None b q.0) c.if-past.false cut))
 
+pub returns-in_err-ask : goal.returns-in_err-ask
+returns-in_err-ask g c = record {
+  best = λ start edges test least b d. if_refused _ c.from_residual.result _ c.from_residual.ensures.1;
+  overflow = λ start edges test least b d e. absurd (no_overflow c.from_residual.result _ c.from_residual.ensures.1 c.in_err-ask.ensures.refused e);
+  errors = refused_as _ c.from_residual.result _ c.from_residual.ensures.1 (inl c.in_err-ask.ensures.refused);
+}
+
 pub returns-in_err-numbers : goal.returns-in_err-numbers
 returns-in_err-numbers g c = record {
-  best = λ start edges test least b d. if_refused _ c.from_residual.result _ c.from_residual.ensures.1;
-  overflow = λ start edges test least b d e. absurd (no_overflow c.from_residual.result _ c.from_residual.ensures.1 c.in_err-numbers.ensures.refused e);
-  errors = refused_as _ c.from_residual.result _ c.from_residual.ensures.1 (inl c.in_err-numbers.ensures.refused);
+  best = λ start edges test least b d. if_refused _ c.from_residual-in_err-numbers.result _ c.from_residual-in_err-numbers.ensures.1;
+  overflow = λ start edges test least b d e. absurd (no_overflow c.from_residual-in_err-numbers.result _ c.from_residual-in_err-numbers.ensures.1 c.in_err-numbers.ensures.refused e);
+  errors = refused_as _ c.from_residual-in_err-numbers.result _ c.from_residual-in_err-numbers.ensures.1 (inl c.in_err-numbers.ensures.refused);
 }
 
 pub returns-in_err-nodes-in-Found : goal.returns-in_err-nodes-in-Found
