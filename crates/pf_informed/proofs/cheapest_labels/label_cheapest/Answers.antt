@@ -14,6 +14,7 @@ use Rattle.pf_informed.specs.Internal.Waiting.{Entry, IsWaiting, IsQueue}
 use Rattle.pf_informed.proofs.LabelledLemmas.{by_cases, goal_path, no_best, exact_label, low_of}
 use Rattle.pf_informed.proofs.LedAnswers.{led_within, led_estimate, led_asked, led_none, led_past}
 use Rattle.pf_informed.proofs.LedLemmas.{informed_still, led_grown}
+use Rattle.pf_informed.proofs.WiderLemmas.{less_left}
 use Rattle.pf_informed.proofs.Outcomes.{refused_as, if_refused, no_overflow, ok_is_no_error}
 use Rattle.pf_informed.proofs.cheapest_labels.label_cheapest.Goals as goal
 
@@ -242,3 +243,30 @@ turn-requires-clause-ordered g c = c.in-Some.ensures.ordered
 
 pub turn-requires-clause-queue : goal.turn-requires-clause-queue
 turn-requires-clause-queue g c = c.in-Some.ensures.queue
+
+pub begin-requires-clause-one : goal.begin-requires-clause-one
+begin-requires-clause-one g c = c.requires.one
+
+pub begin-requires-clause-unlabelled : goal.begin-requires-clause-unlabelled
+begin-requires-clause-unlabelled g c = c.requires.unlabelled
+
+pub begin-requires-clause-unasked : goal.begin-requires-clause-unasked
+begin-requires-clause-unasked g c = c.requires.unasked
+
+pub begin-requires-clause-nothing_waits : goal.begin-requires-clause-nothing_waits
+begin-requires-clause-nothing_waits g c = c.requires.nothing_waits
+
+pub begin-requires-clause-ordered : goal.begin-requires-clause-ordered
+begin-requires-clause-ordered g c = c.requires.ordered
+
+pub begin-requires-clause-graph : goal.begin-requires-clause-graph
+begin-requires-clause-graph g c = c.requires.graph
+
+pub take_within-requires-clause-ordered : goal.take_within-requires-clause-ordered
+take_within-requires-clause-ordered g c = c.turns.invariant.ordered
+
+pub take_within-requires-clause-queue : goal.take_within-requires-clause-queue
+take_within-requires-clause-queue g c = c.turns.invariant.queue
+
+pub turns-smaller : goal.turns-smaller
+turns-smaller g c = less_left _ _ _ _ _ c.in_ok-turn.ensures.less c.in-Some.ensures.fewer

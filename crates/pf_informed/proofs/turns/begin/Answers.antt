@@ -1,4 +1,4 @@
-use Rattle.std.proofs.Common.{◌≡◌, ◌∙◌, ap, refl, pos, length, slice_get, false}
+use Rattle.std.proofs.Common.{◌≡◌, ◌∙◌, ap, arith, refl, pos, length, slice_get, false}
 use Rattle.std.specs.BinaryHeap.{heap_items}
 use Rattle.pf_core.specs.declared.labels.Label.{Label}
 use Rattle.pf_core.specs.Nodes.{StandsFor, IsStep}
@@ -82,3 +82,18 @@ returns-clause-ordered g c = c.in_ok-begin.ensures.ordered
 
 pub returns-clause-refused : goal.returns-clause-refused
 returns-clause-refused g c = tt
+
+pub ask-requires-clause-few : goal.ask-requires-clause-few
+ask-requires-clause-few g c = omega (arith, ap length c.requires.unasked)
+
+pub begin-requires-clause-unlabelled : goal.begin-requires-clause-unlabelled
+begin-requires-clause-unlabelled g c = c.requires.unlabelled
+
+pub begin-requires-clause-nothing_waits : goal.begin-requires-clause-nothing_waits
+begin-requires-clause-nothing_waits g c = c.requires.nothing_waits
+
+pub begin-requires-clause-ordered : goal.begin-requires-clause-ordered
+begin-requires-clause-ordered g c = c.requires.ordered
+
+pub begin-requires-clause-estimated : goal.begin-requires-clause-estimated
+begin-requires-clause-estimated g c = (rw c.as_slice.ensures.keys at c.in_ok-ask.ensures.all) ∙ c.requires.one

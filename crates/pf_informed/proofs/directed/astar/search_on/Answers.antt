@@ -9,6 +9,7 @@ use Rattle.pf_informed.specs.Internal.Led.{OthersWait}
 use Rattle.pf_informed.specs.Internal.Waiting.{Entry, IsQueue}
 use Rattle.pf_informed.proofs.LedAnswers.{led_above, led_best, led_none, led_past}
 use Rattle.pf_informed.proofs.LedLemmas.{informed_still, led_grown}
+use Rattle.pf_informed.proofs.WiderLemmas.{less_left}
 use Rattle.pf_informed.proofs.Outcomes.{refused_as, if_refused, no_overflow, ok_is_no_error}
 use Rattle.pf_informed.proofs.directed.astar.search_on.Goals as goal
 
@@ -204,3 +205,30 @@ turn-requires-clause-ordered g c = c.in-Some.ensures.ordered
 
 pub turn-requires-clause-queue : goal.turn-requires-clause-queue
 turn-requires-clause-queue g c = c.in-Some.ensures.queue
+
+pub begin-requires-clause-one : goal.begin-requires-clause-one
+begin-requires-clause-one g c = c.requires.one
+
+pub begin-requires-clause-unlabelled : goal.begin-requires-clause-unlabelled
+begin-requires-clause-unlabelled g c = c.requires.unlabelled
+
+pub begin-requires-clause-unasked : goal.begin-requires-clause-unasked
+begin-requires-clause-unasked g c = c.requires.unasked
+
+pub begin-requires-clause-nothing_waits : goal.begin-requires-clause-nothing_waits
+begin-requires-clause-nothing_waits g c = c.requires.nothing_waits
+
+pub begin-requires-clause-ordered : goal.begin-requires-clause-ordered
+begin-requires-clause-ordered g c = c.requires.ordered
+
+pub begin-requires-clause-graph : goal.begin-requires-clause-graph
+begin-requires-clause-graph g c = c.requires.graph
+
+pub take_least-requires-clause-ordered : goal.take_least-requires-clause-ordered
+take_least-requires-clause-ordered g c = c.turns.invariant.ordered
+
+pub take_least-requires-clause-queue : goal.take_least-requires-clause-queue
+take_least-requires-clause-queue g c = c.turns.invariant.queue
+
+pub turns-smaller : goal.turns-smaller
+turns-smaller g c = less_left _ _ _ _ _ c.in_ok-turn.ensures.less c.in-Some.ensures.fewer

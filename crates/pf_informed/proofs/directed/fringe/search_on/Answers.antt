@@ -22,6 +22,7 @@ use Rattle.pf_informed.proofs.FringeLemmas.{queue_in}
 use Rattle.pf_informed.proofs.GrowingLemmas.{limit_now}
 use Rattle.pf_informed.proofs.LedAnswers.{led_within, led_estimate, led_asked, led_best, led_none, led_past}
 use Rattle.pf_informed.proofs.LedLemmas.{informed_still, led_grown}
+use Rattle.pf_informed.proofs.WiderLemmas.{less_left_too}
 use Rattle.pf_informed.proofs.NodeWalks.{never_above}
 use Rattle.pf_informed.proofs.Outcomes.{refused_as, if_refused, no_overflow, ok_is_no_error}
 use Rattle.pf_informed.proofs.directed.fringe.search_on.Goals as goal
@@ -274,3 +275,24 @@ nodes_to-requires-clause-forest g c = c.turns.invariant.forest
 
 pub turn-requires-clause-ordered : goal.turn-requires-clause-ordered
 turn-requires-clause-ordered g c = c.in_ok-taken.ensures.ordered
+
+pub begin-requires-clause-one : goal.begin-requires-clause-one
+begin-requires-clause-one g c = c.requires.one
+
+pub begin-requires-clause-unlabelled : goal.begin-requires-clause-unlabelled
+begin-requires-clause-unlabelled g c = c.requires.unlabelled
+
+pub begin-requires-clause-unasked : goal.begin-requires-clause-unasked
+begin-requires-clause-unasked g c = c.requires.unasked
+
+pub begin-requires-clause-nothing_waits : goal.begin-requires-clause-nothing_waits
+begin-requires-clause-nothing_waits g c = c.requires.nothing_waits
+
+pub begin-requires-clause-ordered : goal.begin-requires-clause-ordered
+begin-requires-clause-ordered g c = c.requires.ordered
+
+pub begin-requires-clause-graph : goal.begin-requires-clause-graph
+begin-requires-clause-graph g c = c.requires.graph
+
+pub turns-smaller : goal.turns-smaller
+turns-smaller g c = less_left_too _ _ _ _ _ _ c.in_ok-turn.ensures.less (MatchOption-at_some _ _ c.in-Some.taken c.in-Some.is c.in_ok-taken.ensures.fewer)

@@ -1,10 +1,10 @@
-use Rattle.std.proofs.Common.{◌≡◌, List, ℕ, Bool, false, length, ◌∙◌, sym, subst, slice_get, arith, Option, Some, None, is_some, true≢false}
-use Rattle.std.specs.Prelude.{MatchOption}
+use Rattle.std.proofs.Common.{◌≡◌, List, ℕ, Bool, true, false, ap, length, ◌∙◌, sym, subst, slice_get, arith, Option, Some, None, is_some, true≢false}
+use Rattle.std.specs.Prelude.{MatchOption, ⊤}
 use Rattle.pf_core.specs.Nodes.{NodeGraph, TestedGraph, StandsFor}
 use Rattle.pf_core.proofs.ListLemmas.{get-append}
 use Rattle.pf_core.proofs.SearchLemmas.{Grows-trans}
 use Rattle.pf_base.specs.Edges.{InReach}
-use Rattle.pf_informed.specs.Internal.Rows.{IsCheapStep, HasSpan}
+use Rattle.pf_informed.specs.Internal.Rows.{IsCheapStep, IsTable, HasSpan}
 use Rattle.pf_informed.proofs.KnownLemmas.{table_more, rows_more, rows_grown, estimated_grown, cheap_sound, cheap_complete}
 use Rattle.pf_informed.proofs.Outcomes.{refused_as, on_refused, if_refused, Grows-refl}
 use Rattle.pf_informed.proofs.directed.idastar.known.Known.span_of.Goals as goal
@@ -193,3 +193,30 @@ returns-clause-refused g c = tt
 
 pub is_goal-requires-clause-inside : goal.is_goal-requires-clause-inside
 is_goal-requires-clause-inside g c = c.requires.inside
+
+-- something was kept of the number
+some_of : {A : Type 0} (o : Option A) (P : Type 0) (Q : A → Type 0) → MatchOption o P Q → MatchOption o ⊤ Q
+some_of None P Q h = tt
+some_of (Some x) P Q h = h
+
+some_any : {A : Type 0} (o : Option A) (P : Type 0) → is_some o ≡ true → MatchOption o P (λ _. ⊤)
+some_any None P e = absurd (true≢false (sym e))
+some_any (Some x) P e = tt
+
+pub returns-then-is_some-clause-kept : goal.returns-then-is_some-clause-kept
+returns-then-is_some-clause-kept g c = some_of c.span-span.result _ _ c.span-span.ensures
+
+pub returns-then-is_some-clause-graph : goal.returns-then-is_some-clause-graph
+returns-then-is_some-clause-graph g c = λ h test least k. (k, some_any c.span-span.result _ (sym c.is_some.ensures ∙ c.if-is_some.true))
+
+pub returns-then-is_goal-clause-table : goal.returns-then-is_goal-clause-table
+returns-then-is_goal-clause-table g c = subst (λ (m : ℕ). IsTable m c.args.self.now.rows.steps.items c.args.self.now.rows.spans.items) (sym c.is_goal.ensures.same) c.requires.table
+
+pub returns-clause-estimated : goal.returns-clause-estimated
+returns-clause-estimated g c = rw c.as_slice.ensures.keys at c.in_ok-ask.ensures.all
+
+pub ask-requires-clause-few : goal.ask-requires-clause-few
+ask-requires-clause-few g c = omega (arith, ap length c.as_slice.ensures.keys, c.requires.estimated, c.is_goal.ensures.same, c.in_ok-expand.ensures.grows.more)
+
+pub expand-requires-clause-inside : goal.expand-requires-clause-inside
+expand-requires-clause-inside g c = omega (arith, c.requires.inside, c.is_goal.ensures.same)
