@@ -138,62 +138,74 @@ turns-preserved g c =
           ));
     }
 
-pub returns-in-Some-best-clause-wide : goal.returns-in-Some-best-clause-wide
-returns-in-Some-best-clause-wide g c =
-    let inv = c.turns.invariant in
-    let first = inv.forest.first in
-    (inv.wide, HasLabel-inside c.turns.search.labels.items 0 first.0 first.1)
+pub returns-in-Some-best : goal.returns-in-Some-best
+returns-in-Some-best g c = record {
+  wide =
+      let inv = c.turns.invariant in
+      let first = inv.forest.first in
+      (inv.wide, HasLabel-inside c.turns.search.labels.items 0 first.0 first.1);
+  labelled = λ start edges test least s d.
+      let eq = g.N.PartialEq.eq in
+      let laws = g.met.N.Eq.laws in
+      let value = g.C.Number.value in
+      let exact = g.met.C.Integral.exact_law in
+      let h = graph_of start edges in
+      let inv = c.turns.invariant in
+      let v = inv.searched h test least d in
+      let now = v.0 in
+      let keys = c.turns.graph.discovery.nodes.keys in
+      let estimates = c.turns.search.estimates.items in
+      let begins = inv.begins start s in
+      let best = c.in-Some-best.best in
+      let is : c.turns.best ≡ Some best = search rules in
+      let known = inv.least best is in
+      let path = known.1 start edges test least s d in
+      let cheapest = path.1 in (
+        now,
+        record {
+          first = inv.forest.first;
+          begins = begins;
+          exact = exact_label eq laws h now.explores.alike value g.C.Number.fits (λ x y z. g.C.Number.between_law x y z exact) (g.met.C.Zero.zero_fits_law exact) test now.tested.alike least now.admissible (no_negative eq laws h now.explores.alike now.costs) keys estimates start begins
+              (led_within eq laws value _ _ _ _ _ _ _ start edges test least keys _ _ _ estimates now inv.asked begins) (led_estimate eq laws value _ _ _ _ _ _ _ start edges test least keys _ _ _ estimates now inv.asked begins) (led_asked eq laws value _ _ _ _ _ _ _ start edges test least keys _ _ _ estimates now inv.asked begins)
+              c.turns.search.labels.items (heap_items c.turns.search.queue) inv.forest (length keys) v.1 best (rw is at c.in_default.ensures.taken) known.0 (low_of eq laws start edges test now.explores.alike (value best) cheapest.best);
+          path = path;
+        },
+      );
+  overflow = λ start edges test least s d e. absurd (ok_is_no_error _ _ _ refl e);
+  errors = tt;
+}
 
-pub returns-in-Some-best-clause-labelled : goal.returns-in-Some-best-clause-labelled
-returns-in-Some-best-clause-labelled g c = λ start edges test least s d.
-    let eq = g.N.PartialEq.eq in
-    let laws = g.met.N.Eq.laws in
-    let value = g.C.Number.value in
-    let exact = g.met.C.Integral.exact_law in
-    let h = graph_of start edges in
-    let inv = c.turns.invariant in
-    let v = inv.searched h test least d in
-    let now = v.0 in
-    let keys = c.turns.graph.discovery.nodes.keys in
-    let estimates = c.turns.search.estimates.items in
-    let begins = inv.begins start s in
-    let best = c.in-Some-best.best in
-    let is : c.turns.best ≡ Some best = search rules in
-    let known = inv.least best is in
-    let path = known.1 start edges test least s d in
-    let cheapest = path.1 in (
-      now,
-      record {
-        first = inv.forest.first;
-        begins = begins;
-        exact = exact_label eq laws h now.explores.alike value g.C.Number.fits (λ x y z. g.C.Number.between_law x y z exact) (g.met.C.Zero.zero_fits_law exact) test now.tested.alike least now.admissible (no_negative eq laws h now.explores.alike now.costs) keys estimates start begins
-            (led_within eq laws value _ _ _ _ _ _ _ start edges test least keys _ _ _ estimates now inv.asked begins) (led_estimate eq laws value _ _ _ _ _ _ _ start edges test least keys _ _ _ estimates now inv.asked begins) (led_asked eq laws value _ _ _ _ _ _ _ start edges test least keys _ _ _ estimates now inv.asked begins)
-            c.turns.search.labels.items (heap_items c.turns.search.queue) inv.forest (length keys) v.1 best (rw is at c.in_default.ensures.taken) known.0 (low_of eq laws start edges test now.explores.alike (value best) cheapest.best);
-        path = path;
-      },
-    )
+pub returns-then-has_all_labels : goal.returns-then-has_all_labels
+returns-then-has_all_labels g c = record {
+  wide = tt;
+  labelled = λ start edges test least s d.
+      let value = g.C.Number.value in
+      let exact = g.met.C.Integral.exact_law in
+      let inv = c.turns.invariant in
+      let v = inv.searched (graph_of start edges) test least d in
+      let unknown : c.turns.best ≡ None = search rules in
+      let none_waits : (k : ℕ) (l : Label g.row.C.Denot) → HasLabel c.turns.search.labels.items k l → ¬ (IsWaiting value (heap_items c.turns.search.queue) k l) = λ k l at w. let b = c.in_default.ensures.taken k l at w in no_best b.0 (sym unknown ∙ b.1) in
+      led_none g.N.PartialEq.eq g.met.N.Eq.laws value _ _ _ _ _ _ _ start edges test least _ _ _ _ _ v.0 inv.asked (inv.begins start s) g.C.Number.fits (λ x y z. g.C.Number.between_law x y z exact) (g.met.C.Zero.zero_fits_law exact)
+      c.turns.search.labels.items inv.wide (heap_items c.turns.search.queue) inv.forest (inv.unknown unknown (graph_of start edges) test least d) none_waits (c.has_all_labels.ensures.0 c.if-has_all_labels.true);
+  overflow = λ start edges test least s d e. absurd (ok_is_no_error _ _ _ refl e);
+  errors = tt;
+}
 
-pub returns-then-has_all_labels-clause-labelled : goal.returns-then-has_all_labels-clause-labelled
-returns-then-has_all_labels-clause-labelled g c = λ start edges test least s d.
-    let value = g.C.Number.value in
-    let exact = g.met.C.Integral.exact_law in
-    let inv = c.turns.invariant in
-    let v = inv.searched (graph_of start edges) test least d in
-    let unknown : c.turns.best ≡ None = search rules in
-    let none_waits : (k : ℕ) (l : Label g.row.C.Denot) → HasLabel c.turns.search.labels.items k l → ¬ (IsWaiting value (heap_items c.turns.search.queue) k l) = λ k l at w. let b = c.in_default.ensures.taken k l at w in no_best b.0 (sym unknown ∙ b.1) in
-    led_none g.N.PartialEq.eq g.met.N.Eq.laws value _ _ _ _ _ _ _ start edges test least _ _ _ _ _ v.0 inv.asked (inv.begins start s) g.C.Number.fits (λ x y z. g.C.Number.between_law x y z exact) (g.met.C.Zero.zero_fits_law exact)
-    c.turns.search.labels.items inv.wide (heap_items c.turns.search.queue) inv.forest (inv.unknown unknown (graph_of start edges) test least d) none_waits (c.has_all_labels.ensures.0 c.if-has_all_labels.true)
-
-pub returns-else-has_all_labels-clause-overflow : goal.returns-else-has_all_labels-clause-overflow
-returns-else-has_all_labels-clause-overflow g c = λ start edges test least s d refused.
-    let value = g.C.Number.value in
-    let exact = g.met.C.Integral.exact_law in
-    let inv = c.turns.invariant in
-    let v = inv.searched (graph_of start edges) test least d in
-    let unknown : c.turns.best ≡ None = search rules in
-    let none_waits : (k : ℕ) (l : Label g.row.C.Denot) → HasLabel c.turns.search.labels.items k l → ¬ (IsWaiting value (heap_items c.turns.search.queue) k l) = λ k l at w. let b = c.in_default.ensures.taken k l at w in no_best b.0 (sym unknown ∙ b.1) in
-    led_past g.N.PartialEq.eq g.met.N.Eq.laws value _ _ _ _ _ _ _ start edges test least _ _ _ _ _ v.0 inv.asked (inv.begins start s) g.C.Number.fits (λ x y z. g.C.Number.between_law x y z exact) (g.met.C.Zero.zero_fits_law exact)
-    c.turns.search.labels.items inv.wide (heap_items c.turns.search.queue) inv.forest (inv.unknown unknown (graph_of start edges) test least d) none_waits (λ a. true≢false (sym (c.has_all_labels.ensures.1 a) ∙ c.if-has_all_labels.false))
+pub returns-else-has_all_labels : goal.returns-else-has_all_labels
+returns-else-has_all_labels g c = record {
+  wide = tt;
+  labelled = λ start edges test least s d. tt;
+  overflow = λ start edges test least s d refused.
+      let value = g.C.Number.value in
+      let exact = g.met.C.Integral.exact_law in
+      let inv = c.turns.invariant in
+      let v = inv.searched (graph_of start edges) test least d in
+      let unknown : c.turns.best ≡ None = search rules in
+      let none_waits : (k : ℕ) (l : Label g.row.C.Denot) → HasLabel c.turns.search.labels.items k l → ¬ (IsWaiting value (heap_items c.turns.search.queue) k l) = λ k l at w. let b = c.in_default.ensures.taken k l at w in no_best b.0 (sym unknown ∙ b.1) in
+      led_past g.N.PartialEq.eq g.met.N.Eq.laws value _ _ _ _ _ _ _ start edges test least _ _ _ _ _ v.0 inv.asked (inv.begins start s) g.C.Number.fits (λ x y z. g.C.Number.between_law x y z exact) (g.met.C.Zero.zero_fits_law exact)
+      c.turns.search.labels.items inv.wide (heap_items c.turns.search.queue) inv.forest (inv.unknown unknown (graph_of start edges) test least d) none_waits (λ a. true≢false (sym (c.has_all_labels.ensures.1 a) ∙ c.if-has_all_labels.false));
+  errors = inr refl;
+}
 
 pub returns-in_err-begin : goal.returns-in_err-begin
 returns-in_err-begin g c = record {
@@ -211,32 +223,8 @@ returns-in_err-turn g c = record {
   errors = refused_as _ c.from_residual-in_err-turn.result _ c.from_residual-in_err-turn.ensures.1 (inl c.in_err-turn.ensures.refused);
 }
 
-pub returns-else-has_all_labels-clause-wide : goal.returns-else-has_all_labels-clause-wide
-returns-else-has_all_labels-clause-wide g c = tt
-
-pub returns-else-has_all_labels-clause-labelled : goal.returns-else-has_all_labels-clause-labelled
-returns-else-has_all_labels-clause-labelled g c = λ start edges test least s d. tt
-
-pub returns-else-has_all_labels-clause-errors : goal.returns-else-has_all_labels-clause-errors
-returns-else-has_all_labels-clause-errors g c = inr refl
-
-pub returns-then-has_all_labels-clause-overflow : goal.returns-then-has_all_labels-clause-overflow
-returns-then-has_all_labels-clause-overflow g c = λ start edges test least s d e. absurd (ok_is_no_error _ _ _ refl e)
-
-pub returns-then-has_all_labels-clause-errors : goal.returns-then-has_all_labels-clause-errors
-returns-then-has_all_labels-clause-errors g c = tt
-
 pub turn-requires-clause-forest : goal.turn-requires-clause-forest
 turn-requires-clause-forest g c = c.turns.invariant.forest
-
-pub returns-then-has_all_labels-clause-wide : goal.returns-then-has_all_labels-clause-wide
-returns-then-has_all_labels-clause-wide g c = tt
-
-pub returns-in-Some-best-clause-overflow : goal.returns-in-Some-best-clause-overflow
-returns-in-Some-best-clause-overflow g c = λ start edges test least s d e. absurd (ok_is_no_error _ _ _ refl e)
-
-pub returns-in-Some-best-clause-errors : goal.returns-in-Some-best-clause-errors
-returns-in-Some-best-clause-errors g c = tt
 
 pub turn-requires-clause-ordered : goal.turn-requires-clause-ordered
 turn-requires-clause-ordered g c = c.in-Some.ensures.ordered

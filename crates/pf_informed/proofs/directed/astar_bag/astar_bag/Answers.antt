@@ -1,4 +1,4 @@
-use Rattle.std.proofs.Common.{[], ◌∷◌, inl}
+use Rattle.std.proofs.Common.{inl}
 use Rattle.pf_informed.proofs.LedLemmas.{led_begin}
 use Rattle.pf_informed.proofs.Outcomes.{refused_as, if_refused, no_overflow, same_errors}
 use Rattle.pf_informed.proofs.directed.astar_bag.astar_bag.Goals as goal
@@ -19,27 +19,23 @@ find_ways-found-requires-clause-graph g c =
 pub solution_of-requires : goal.solution_of-requires
 solution_of-requires g c = c.find_ways-found.ensures.ways
 
-pub returns-clause-all : goal.returns-clause-all
-returns-clause-all g c = λ edges test least s.
-    let found = c.in_ok-clone_of in
-    let start = c.args.start.now in
-    c.solution_of.ensures.all start edges test
-    (c.find_ways-found.ensures.all start edges test least ((found.ensures.begins start).1 (g.met.N.Eq.laws.refl start))
-    (led_begin g.N.PartialEq.eq g.met.N.Eq.laws g.C.Number.value _ _ _ _ _ _ _ start edges test least found.field-0.keys _ _ _ _ found.ensures.distinct found.ensures.same c.new-search.ensures.estimates s))
-
-pub returns-clause-ready : goal.returns-clause-ready
-returns-clause-ready g c = c.solution_of.ensures.ready
-
-pub returns-clause-overflow : goal.returns-clause-overflow
-returns-clause-overflow g c = λ edges test least s e.
-    let found = c.in_ok-clone_of in
-    let start = c.args.start.now in
-    c.find_ways-found.ensures.overflow start edges test least ((found.ensures.begins start).1 (g.met.N.Eq.laws.refl start))
-    (led_begin g.N.PartialEq.eq g.met.N.Eq.laws g.C.Number.value _ _ _ _ _ _ _ start edges test least found.field-0.keys _ _ _ _ found.ensures.distinct found.ensures.same c.new-search.ensures.estimates s)
-    (c.solution_of.ensures.errors _ e)
-
-pub returns-clause-errors : goal.returns-clause-errors
-returns-clause-errors g c = same_errors _ c.solution_of.result c.find_ways-found.result c.solution_of.ensures.errors c.find_ways-found.ensures.errors
+pub returns : goal.returns
+returns g c = record {
+  all = λ edges test least s.
+      let found = c.in_ok-clone_of in
+      let start = c.args.start.now in
+      c.solution_of.ensures.all start edges test
+      (c.find_ways-found.ensures.all start edges test least ((found.ensures.begins start).1 (g.met.N.Eq.laws.refl start))
+      (led_begin g.N.PartialEq.eq g.met.N.Eq.laws g.C.Number.value _ _ _ _ _ _ _ start edges test least found.field-0.keys _ _ _ _ found.ensures.distinct found.ensures.same c.new-search.ensures.estimates s));
+  ready = c.solution_of.ensures.ready;
+  overflow = λ edges test least s e.
+      let found = c.in_ok-clone_of in
+      let start = c.args.start.now in
+      c.find_ways-found.ensures.overflow start edges test least ((found.ensures.begins start).1 (g.met.N.Eq.laws.refl start))
+      (led_begin g.N.PartialEq.eq g.met.N.Eq.laws g.C.Number.value _ _ _ _ _ _ _ start edges test least found.field-0.keys _ _ _ _ found.ensures.distinct found.ensures.same c.new-search.ensures.estimates s)
+      (c.solution_of.ensures.errors _ e);
+  errors = same_errors _ c.solution_of.result c.find_ways-found.result c.solution_of.ensures.errors c.find_ways-found.ensures.errors;
+}
 
 pub returns-in_err-clone_of : goal.returns-in_err-clone_of
 returns-in_err-clone_of g c = record {

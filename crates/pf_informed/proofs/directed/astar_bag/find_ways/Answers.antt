@@ -1,4 +1,4 @@
-use Rattle.std.proofs.Common.{◌≡◌, ◌∙◌, ◌∷◌, [], List, ℕ, ℤ, Bool, Err, ap, arith, length, ◌≤◌, refl, inl}
+use Rattle.std.proofs.Common.{◌≡◌, ◌∙◌, ◌∷◌, [], List, ℤ, Bool, Err, ap, arith, length, ◌≤◌, refl, inl}
 use Rattle.pf_core.specs.Nodes.{NodeGraph, TestedGraph}
 use Rattle.pf_core.specs.NodeLaws.{StandsFor-one}
 use Rattle.pf_core.proofs.UnitLemmas.{begins_all}
@@ -56,49 +56,41 @@ new-requires-clause-goals g c = λ j h.
     let t = (c.in_ok-tight.ensures.tight (tested r.0 r.1 r.2) (v.0.explores, v.0.tested)).1 in
     omega (arith, t.goals_below j (rw c.deref-2.ensures.value at h), c.in_ok-tight.ensures.wide)
 
-pub returns-clause-ways : goal.returns-clause-ways
-returns-clause-ways g c =
-    let e = c.in_ok-ways.ensures in
-    let w = rw c.in-Some.is at c.in_ok-best.ensures.wide in
-    (rw e.before e.ways, omega (arith, ap length e.before, c.in_ok-tight.ensures.wide, ap length c.deref.ensures.value, w.0, c.in_ok-tight.ensures.grows.more))
+pub returns : goal.returns
+returns g c = record {
+  all = λ start edges test least b d.
+      let eq = g.N.PartialEq.eq in
+      let laws = g.met.N.Eq.laws in
+      let v = rw c.in-Some.is at (c.in_ok-best.ensures.labelled start edges test least b d) in
+      let wide = rw c.in-Some.is at c.in_ok-best.ensures.wide in
+      let told = c.in_ok-tight.ensures.tight (tested start edges test) (v.0.explores, v.0.tested) in
+      let x = told.0.0 in
+      let before = c.label_cheapest.new.graph.discovery.nodes.keys in
+      let keys = c.tight_edges.new.graph.discovery.nodes.keys in
+      let grow = c.in_ok-tight.ensures.grows in
+      let labels = c.label_cheapest.new.search.labels.items in
+      let enough : length labels ≤ length keys = omega (arith, wide.0, grow.more) in
+      let tight = rw c.deref.ensures.value at told.1 in
+      let same : length c.in_ok-tight.tight.before.items ≡ length labels = c.in_ok-tight.ensures.wide ∙ ap length c.deref.ensures.value in
+      let e = c.in_ok-ways.ensures in
+      rw (e.before, e.left, same, c.deref-2.ensures.value)
+      (all_paths eq laws start edges test v.0.explores.alike v.0.costs g.C.Number.value before keys (length before) (length keys) grow (StandsFor-one eq laws keys x.distinct) labels enough (g.C.Number.value c.in-Some.best) v.1
+      c.in_ok-tight.tight.goals.items (before_in c.in_ok-tight.tight.before.items) tight);
+  ways =
+      let e = c.in_ok-ways.ensures in
+      let w = rw c.in-Some.is at c.in_ok-best.ensures.wide in
+      (rw e.before e.ways, omega (arith, ap length e.before, c.in_ok-tight.ensures.wide, ap length c.deref.ensures.value, w.0, c.in_ok-tight.ensures.grows.more));
+  overflow = λ start edges test least b d e. absurd (ok_is_no_error _ _ _ refl e);
+  errors = tt;
+}
 
-pub returns-clause-all : goal.returns-clause-all
-returns-clause-all g c = λ start edges test least b d.
-    let eq = g.N.PartialEq.eq in
-    let laws = g.met.N.Eq.laws in
-    let v = rw c.in-Some.is at (c.in_ok-best.ensures.labelled start edges test least b d) in
-    let wide = rw c.in-Some.is at c.in_ok-best.ensures.wide in
-    let told = c.in_ok-tight.ensures.tight (tested start edges test) (v.0.explores, v.0.tested) in
-    let x = told.0.0 in
-    let before = c.label_cheapest.new.graph.discovery.nodes.keys in
-    let keys = c.tight_edges.new.graph.discovery.nodes.keys in
-    let grow = c.in_ok-tight.ensures.grows in
-    let labels = c.label_cheapest.new.search.labels.items in
-    let enough : length labels ≤ length keys = omega (arith, wide.0, grow.more) in
-    let tight = rw c.deref.ensures.value at told.1 in
-    let same : length c.in_ok-tight.tight.before.items ≡ length labels = c.in_ok-tight.ensures.wide ∙ ap length c.deref.ensures.value in
-    let e = c.in_ok-ways.ensures in
-    rw (e.before, e.left, same, c.deref-2.ensures.value)
-    (all_paths eq laws start edges test v.0.explores.alike v.0.costs g.C.Number.value before keys (length before) (length keys) grow (StandsFor-one eq laws keys x.distinct) labels enough (g.C.Number.value c.in-Some.best) v.1
-    c.in_ok-tight.tight.goals.items (before_in c.in_ok-tight.tight.before.items) tight)
-
-pub returns-clause-overflow : goal.returns-clause-overflow
-returns-clause-overflow g c = λ start edges test least b d e. absurd (ok_is_no_error _ _ _ refl e)
-
-pub returns-clause-errors : goal.returns-clause-errors
-returns-clause-errors g c = tt
-
-pub returns-in_default-clause-all : goal.returns-in_default-clause-all
-returns-in_default-clause-all g c = λ start edges test least b d. rw c.in_default.is at (c.in_ok-best.ensures.labelled start edges test least b d)
-
-pub returns-in_default-clause-ways : goal.returns-in_default-clause-ways
-returns-in_default-clause-ways g c = tt
-
-pub returns-in_default-clause-overflow : goal.returns-in_default-clause-overflow
-returns-in_default-clause-overflow g c = λ start edges test least b d e. absurd (ok_is_no_error _ _ _ refl e)
-
-pub returns-in_default-clause-errors : goal.returns-in_default-clause-errors
-returns-in_default-clause-errors g c = tt
+pub returns-in_default : goal.returns-in_default
+returns-in_default g c = record {
+  all = λ start edges test least b d. rw c.in_default.is at (c.in_ok-best.ensures.labelled start edges test least b d);
+  ways = tt;
+  overflow = λ start edges test least b d e. absurd (ok_is_no_error _ _ _ refl e);
+  errors = tt;
+}
 
 pub returns-in_err-best : goal.returns-in_err-best
 returns-in_err-best g c = record {

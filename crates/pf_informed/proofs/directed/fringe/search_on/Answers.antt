@@ -88,39 +88,43 @@ nodes_to-requires-clause-labelled g c =
     let t = MatchOption-at_some _ _ c.in-Some.taken c.in-Some.is c.in_ok-taken.ensures.taken in
     (t.label, t.at)
 
-pub returns-then-is_goal-clause-best : goal.returns-then-is_goal-clause-best
-returns-then-is_goal-clause-best g c = λ start edges test least s d.
-    let eq = g.N.PartialEq.eq in
-    let laws = g.met.N.Eq.laws in
-    let value = g.C.Number.value in
-    let fits = g.C.Number.fits in
-    let exact = g.met.C.Integral.exact_law in
-    let inv = c.turns.invariant in
-    let h = graph_of start edges in
-    let v = inv.searched h test least d in
-    let now = v.0 in
-    let told = c.is_goal.ensures.graph (tested h test) (now.explores, now.tested) in
-    let after = told.0.0 in
-    let t = MatchOption-at_some _ _ c.in-Some.taken c.in-Some.is c.in_ok-taken.ensures.taken in
-    let number = c.in-Some.taken.number in
-    let labels = c.turns.search.labels.items in
-    let estimates = c.turns.search.estimates.items in
-    let entries = heap_items c.turns.search.queue ++ listed c.turns.lists in
-    let keys = c.turns.graph.discovery.nodes.keys in
-    let begins = inv.begins start s in
-    let nodes = c.in_ok-nodes.ensures.nodes in
-    let p = no_negative eq laws h now.explores.alike now.costs in
-    let within = led_within eq laws value _ _ _ _ _ _ _ start edges test least keys _ _ _ estimates now inv.asked begins in
-    let estimated = led_estimate eq laws value _ _ _ _ _ _ _ start edges test least keys _ _ _ estimates now inv.asked begins in
-    let here = begins_all eq laws keys number (subst (λ (n : ℕ). number < n) inv.wide (HasLabel-inside labels number t.label t.at)) in
-    let low = limit_now value fits (IsStep eq h) test p estimates (StandsFor eq keys) labels entries inv.forest (length keys) v.1 least (InReach eq edges (start ∷ [])) within now.admissible.from_zero (never_above eq laws h now.explores.alike test least now.admissible) estimated
-    (led_asked eq laws value _ _ _ _ _ _ _ start edges test least keys _ _ _ estimates now inv.asked begins) (λ x y z. g.C.Number.between_law x y z exact) (g.met.C.Zero.zero_fits_law exact) (λ y. eq start y ≡ true) (λ s0 e. StandsFor-same eq laws keys 0 start s0 begins e)
-    c.turns.lists.limit c.take.new.self.limit c.in_ok-taken.ensures.limit (inv.below start edges test least s d) in
-    let above : (s0 : g.row.N.Denot) → eq start s0 ≡ true → (u : List g.row.N.Denot) (z : ℤ) → GoesAlong (IsStep eq h) s0 u z → test (end_of s0 u) ≡ true → value t.label.cost ≤ℤ z = λ s0 e u z goes good.
-    omega (arith, ints, low s0 e u z goes good, t.within, t.same, estimated number here.0 t.estimate here.1 t.estimated, now.admissible.from_zero here.0 (within number here.0 here.1)) in
-    led_best eq laws value _ _ _ _ _ _ _ start edges test least keys _ _ _ estimates now inv.asked begins fits (λ x y z. g.C.Number.between_law x y z exact) (g.met.C.Zero.zero_fits_law exact)
-    labels inv.wide entries inv.forest v.1 number t.label t.at nodes.0 nodes.1 (λ y k. sym (told.1 y k) ∙ c.if-is_goal.true) above
-    c.is_goal.new.self.discovery.nodes.keys c.is_goal.ensures.grows after.distinct c.in_ok-nodes.nodes.items nodes.2 (value c.in-Some.taken.cost) t.same
+pub returns-then-is_goal : goal.returns-then-is_goal
+returns-then-is_goal g c = record {
+  best = λ start edges test least s d.
+      let eq = g.N.PartialEq.eq in
+      let laws = g.met.N.Eq.laws in
+      let value = g.C.Number.value in
+      let fits = g.C.Number.fits in
+      let exact = g.met.C.Integral.exact_law in
+      let inv = c.turns.invariant in
+      let h = graph_of start edges in
+      let v = inv.searched h test least d in
+      let now = v.0 in
+      let told = c.is_goal.ensures.graph (tested h test) (now.explores, now.tested) in
+      let after = told.0.0 in
+      let t = MatchOption-at_some _ _ c.in-Some.taken c.in-Some.is c.in_ok-taken.ensures.taken in
+      let number = c.in-Some.taken.number in
+      let labels = c.turns.search.labels.items in
+      let estimates = c.turns.search.estimates.items in
+      let entries = heap_items c.turns.search.queue ++ listed c.turns.lists in
+      let keys = c.turns.graph.discovery.nodes.keys in
+      let begins = inv.begins start s in
+      let nodes = c.in_ok-nodes.ensures.nodes in
+      let p = no_negative eq laws h now.explores.alike now.costs in
+      let within = led_within eq laws value _ _ _ _ _ _ _ start edges test least keys _ _ _ estimates now inv.asked begins in
+      let estimated = led_estimate eq laws value _ _ _ _ _ _ _ start edges test least keys _ _ _ estimates now inv.asked begins in
+      let here = begins_all eq laws keys number (subst (λ (n : ℕ). number < n) inv.wide (HasLabel-inside labels number t.label t.at)) in
+      let low = limit_now value fits (IsStep eq h) test p estimates (StandsFor eq keys) labels entries inv.forest (length keys) v.1 least (InReach eq edges (start ∷ [])) within now.admissible.from_zero (never_above eq laws h now.explores.alike test least now.admissible) estimated
+      (led_asked eq laws value _ _ _ _ _ _ _ start edges test least keys _ _ _ estimates now inv.asked begins) (λ x y z. g.C.Number.between_law x y z exact) (g.met.C.Zero.zero_fits_law exact) (λ y. eq start y ≡ true) (λ s0 e. StandsFor-same eq laws keys 0 start s0 begins e)
+      c.turns.lists.limit c.take.new.self.limit c.in_ok-taken.ensures.limit (inv.below start edges test least s d) in
+      let above : (s0 : g.row.N.Denot) → eq start s0 ≡ true → (u : List g.row.N.Denot) (z : ℤ) → GoesAlong (IsStep eq h) s0 u z → test (end_of s0 u) ≡ true → value t.label.cost ≤ℤ z = λ s0 e u z goes good.
+      omega (arith, ints, low s0 e u z goes good, t.within, t.same, estimated number here.0 t.estimate here.1 t.estimated, now.admissible.from_zero here.0 (within number here.0 here.1)) in
+      led_best eq laws value _ _ _ _ _ _ _ start edges test least keys _ _ _ estimates now inv.asked begins fits (λ x y z. g.C.Number.between_law x y z exact) (g.met.C.Zero.zero_fits_law exact)
+      labels inv.wide entries inv.forest v.1 number t.label t.at nodes.0 nodes.1 (λ y k. sym (told.1 y k) ∙ c.if-is_goal.true) above
+      c.is_goal.new.self.discovery.nodes.keys c.is_goal.ensures.grows after.distinct c.in_ok-nodes.nodes.items nodes.2 (value c.in-Some.taken.cost) t.same;
+  overflow = λ start edges test least s d e. absurd (ok_is_no_error _ _ _ refl e);
+  errors = tt;
+}
 
 pub turn-requires-clause-labelled : goal.turn-requires-clause-labelled
 turn-requires-clause-labelled g c =
@@ -196,21 +200,29 @@ turns-preserved g c =
           c.turns.lists.limit c.take.new.self.limit c.in_ok-taken.ensures.limit (inv.below start edges test least s d);
     }
 
-pub returns-then-has_all_labels-clause-best : goal.returns-then-has_all_labels-clause-best
-returns-then-has_all_labels-clause-best g c = λ start edges test least s d.
-    let exact = g.met.C.Integral.exact_law in
-    let inv = c.turns.invariant in
-    let v = inv.searched (graph_of start edges) test least d in
-    led_none g.N.PartialEq.eq g.met.N.Eq.laws g.C.Number.value _ _ _ _ _ _ _ start edges test least _ _ _ _ _ v.0 inv.asked (inv.begins start s) g.C.Number.fits (λ x y z. g.C.Number.between_law x y z exact) (g.met.C.Zero.zero_fits_law exact)
-    c.turns.search.labels.items inv.wide (heap_items c.turns.search.queue ++ listed c.turns.lists) inv.forest v.1 (MatchOption-at_none _ _ c.in_default.is c.in_ok-taken.ensures.taken) (c.has_all_labels.ensures.0 c.if-has_all_labels.true)
+pub returns-then-has_all_labels : goal.returns-then-has_all_labels
+returns-then-has_all_labels g c = record {
+  best = λ start edges test least s d.
+      let exact = g.met.C.Integral.exact_law in
+      let inv = c.turns.invariant in
+      let v = inv.searched (graph_of start edges) test least d in
+      led_none g.N.PartialEq.eq g.met.N.Eq.laws g.C.Number.value _ _ _ _ _ _ _ start edges test least _ _ _ _ _ v.0 inv.asked (inv.begins start s) g.C.Number.fits (λ x y z. g.C.Number.between_law x y z exact) (g.met.C.Zero.zero_fits_law exact)
+      c.turns.search.labels.items inv.wide (heap_items c.turns.search.queue ++ listed c.turns.lists) inv.forest v.1 (MatchOption-at_none _ _ c.in_default.is c.in_ok-taken.ensures.taken) (c.has_all_labels.ensures.0 c.if-has_all_labels.true);
+  overflow = λ start edges test least s d e. absurd (ok_is_no_error _ _ _ refl e);
+  errors = tt;
+}
 
-pub returns-else-has_all_labels-clause-overflow : goal.returns-else-has_all_labels-clause-overflow
-returns-else-has_all_labels-clause-overflow g c = λ start edges test least s d refused.
-    let exact = g.met.C.Integral.exact_law in
-    let inv = c.turns.invariant in
-    let v = inv.searched (graph_of start edges) test least d in
-    led_past g.N.PartialEq.eq g.met.N.Eq.laws g.C.Number.value _ _ _ _ _ _ _ start edges test least _ _ _ _ _ v.0 inv.asked (inv.begins start s) g.C.Number.fits (λ x y z. g.C.Number.between_law x y z exact) (g.met.C.Zero.zero_fits_law exact)
-    c.turns.search.labels.items inv.wide (heap_items c.turns.search.queue ++ listed c.turns.lists) inv.forest v.1 (MatchOption-at_none _ _ c.in_default.is c.in_ok-taken.ensures.taken) (λ a. true≢false (sym (c.has_all_labels.ensures.1 a) ∙ c.if-has_all_labels.false))
+pub returns-else-has_all_labels : goal.returns-else-has_all_labels
+returns-else-has_all_labels g c = record {
+  best = λ start edges test least s d. tt;
+  overflow = λ start edges test least s d refused.
+      let exact = g.met.C.Integral.exact_law in
+      let inv = c.turns.invariant in
+      let v = inv.searched (graph_of start edges) test least d in
+      led_past g.N.PartialEq.eq g.met.N.Eq.laws g.C.Number.value _ _ _ _ _ _ _ start edges test least _ _ _ _ _ v.0 inv.asked (inv.begins start s) g.C.Number.fits (λ x y z. g.C.Number.between_law x y z exact) (g.met.C.Zero.zero_fits_law exact)
+      c.turns.search.labels.items inv.wide (heap_items c.turns.search.queue ++ listed c.turns.lists) inv.forest v.1 (MatchOption-at_none _ _ c.in_default.is c.in_ok-taken.ensures.taken) (λ a. true≢false (sym (c.has_all_labels.ensures.1 a) ∙ c.if-has_all_labels.false));
+  errors = inr refl;
+}
 
 pub returns-in_err-begin : goal.returns-in_err-begin
 returns-in_err-begin g c = record {
@@ -239,24 +251,6 @@ returns-in_err-turn g c = record {
   overflow = λ start edges test least s d e. absurd (no_overflow c.from_residual-in_err-turn.result _ c.from_residual-in_err-turn.ensures.1 c.in_err-turn.ensures.refused e);
   errors = refused_as _ c.from_residual-in_err-turn.result _ c.from_residual-in_err-turn.ensures.1 (inl c.in_err-turn.ensures.refused);
 }
-
-pub returns-else-has_all_labels-clause-best : goal.returns-else-has_all_labels-clause-best
-returns-else-has_all_labels-clause-best g c = λ start edges test least s d. tt
-
-pub returns-else-has_all_labels-clause-errors : goal.returns-else-has_all_labels-clause-errors
-returns-else-has_all_labels-clause-errors g c = inr refl
-
-pub returns-then-has_all_labels-clause-overflow : goal.returns-then-has_all_labels-clause-overflow
-returns-then-has_all_labels-clause-overflow g c = λ start edges test least s d e. absurd (ok_is_no_error _ _ _ refl e)
-
-pub returns-then-has_all_labels-clause-errors : goal.returns-then-has_all_labels-clause-errors
-returns-then-has_all_labels-clause-errors g c = tt
-
-pub returns-then-is_goal-clause-overflow : goal.returns-then-is_goal-clause-overflow
-returns-then-is_goal-clause-overflow g c = λ start edges test least s d e. absurd (ok_is_no_error _ _ _ refl e)
-
-pub returns-then-is_goal-clause-errors : goal.returns-then-is_goal-clause-errors
-returns-then-is_goal-clause-errors g c = tt
 
 pub turn-requires-clause-forest : goal.turn-requires-clause-forest
 turn-requires-clause-forest g c = c.turns.invariant.forest

@@ -8,18 +8,16 @@ search_on-requires-clause-graph g c =
     let n = c.in_ok-known.ensures in
     (c.args.start.now, r.0, r.1, r.2, n.begins, n.graph r.0 r.1 r.2 r.3)
 
-pub returns-clause-best : goal.returns-clause-best
-returns-clause-best g c = λ edges test least s.
-    let n = c.in_ok-known.ensures in
-    c.search_on.ensures.best c.args.start.now edges test least n.begins (n.graph edges test least s)
-
-pub returns-clause-overflow : goal.returns-clause-overflow
-returns-clause-overflow g c = λ edges test least s.
-    let n = c.in_ok-known.ensures in
-    c.search_on.ensures.overflow c.args.start.now edges test least n.begins (n.graph edges test least s)
-
-pub returns-clause-errors : goal.returns-clause-errors
-returns-clause-errors g c = c.search_on.ensures.errors
+pub returns : goal.returns
+returns g c = record {
+  best = λ edges test least s.
+      let n = c.in_ok-known.ensures in
+      c.search_on.ensures.best c.args.start.now edges test least n.begins (n.graph edges test least s);
+  overflow = λ edges test least s.
+      let n = c.in_ok-known.ensures in
+      c.search_on.ensures.overflow c.args.start.now edges test least n.begins (n.graph edges test least s);
+  errors = c.search_on.ensures.errors;
+}
 
 pub returns-in_err-known : goal.returns-in_err-known
 returns-in_err-known g c = record {

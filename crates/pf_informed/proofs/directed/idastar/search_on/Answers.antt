@@ -1,4 +1,4 @@
-use Rattle.std.proofs.Common.{◌≡◌, ◌∙◌, [], ◌∷◌, List, ℕ, ℤ, Bool, true, length, sym, subst, arith, inl, ap, slice_get, Option, Some, None, refl, inr}
+use Rattle.std.proofs.Common.{◌≡◌, [], ◌∷◌, List, ℕ, ℤ, Bool, true, length, sym, subst, arith, inl, ap, slice_get, Option, Some, None, refl, inr}
 use Rattle.std.proofs.lemmas.Int.{ints}
 use Rattle.pf_base.specs.Edges.{InReach}
 use Rattle.pf_core.specs.Nodes.{NodeGraph, StandsFor}
@@ -70,24 +70,28 @@ limits-init g c =
 pub nodes_at-requires-clause-inside : goal.nodes_at-requires-clause-inside
 nodes_at-requires-clause-inside g c = λ k m. (rw c.in-Found.is at c.in_ok-numbers.ensures.inside) k (rw c.deref.ensures.value at m)
 
-pub returns-in-Found-clause-best : goal.returns-in-Found-clause-best
-returns-in-Found-clause-best g c = λ start edges test least b d.
-    let eq = g.N.PartialEq.eq in
-    let laws = g.met.N.Eq.laws in
-    let value = g.C.Number.value in
-    let exact = g.met.C.Integral.exact_law in
-    let v = c.limits.invariant.searched start edges test least b d in
-    let k = v.0 in
-    let begins = c.limits.invariant.begins start b in
-    let alike = k.explores.alike in
-    let same_test = k.tested.alike in
-    let h = graph_of start edges in
-    let p = no_negative eq laws h alike k.costs in
-    let keys = c.look_through.new.known.graph.discovery.nodes.keys in
-    let told = rw c.in-Found.is at (c.in_ok-numbers.ensures.graph h test least start v.0 begins v.1) in
-    let best = best_way eq laws value g.C.Number.fits (λ a b d. g.C.Number.between_law a b d exact) (g.met.C.Zero.zero_fits_law exact) h alike test same_test p keys start c.in-Found.numbers.items (value c.in-Found.cost) (value c.limits.limit) told.1.0 told.1.1 v.2 in
-    best_answer eq laws h alike (λ y. eq start y ≡ true) (all_starts eq start (λ y. eq start y ≡ true) (λ y. ((λ e. e), (λ e. e)))) (only_starts eq start (λ y. eq start y ≡ true) (λ y. ((λ e. e), (λ e. e)))) test same_test
-    keys (StandsFor-one eq laws keys told.0.explores.distinct) c.in-Found.numbers.items c.in_ok-nodes-in-Found.nodes.items (value c.in-Found.cost) best (rw c.deref.ensures.value at c.in_ok-nodes-in-Found.ensures.nodes)
+pub returns-in-Found : goal.returns-in-Found
+returns-in-Found g c = record {
+  best = λ start edges test least b d.
+      let eq = g.N.PartialEq.eq in
+      let laws = g.met.N.Eq.laws in
+      let value = g.C.Number.value in
+      let exact = g.met.C.Integral.exact_law in
+      let v = c.limits.invariant.searched start edges test least b d in
+      let k = v.0 in
+      let begins = c.limits.invariant.begins start b in
+      let alike = k.explores.alike in
+      let same_test = k.tested.alike in
+      let h = graph_of start edges in
+      let p = no_negative eq laws h alike k.costs in
+      let keys = c.look_through.new.known.graph.discovery.nodes.keys in
+      let told = rw c.in-Found.is at (c.in_ok-numbers.ensures.graph h test least start v.0 begins v.1) in
+      let best = best_way eq laws value g.C.Number.fits (λ a b d. g.C.Number.between_law a b d exact) (g.met.C.Zero.zero_fits_law exact) h alike test same_test p keys start c.in-Found.numbers.items (value c.in-Found.cost) (value c.limits.limit) told.1.0 told.1.1 v.2 in
+      best_answer eq laws h alike (λ y. eq start y ≡ true) (all_starts eq start (λ y. eq start y ≡ true) (λ y. ((λ e. e), (λ e. e)))) (only_starts eq start (λ y. eq start y ≡ true) (λ y. ((λ e. e), (λ e. e)))) test same_test
+      keys (StandsFor-one eq laws keys told.0.explores.distinct) c.in-Found.numbers.items c.in_ok-nodes-in-Found.nodes.items (value c.in-Found.cost) best (rw c.deref.ensures.value at c.in_ok-nodes-in-Found.ensures.nodes);
+  overflow = λ start edges test least b d e. absurd (ok_is_no_error _ _ _ refl e);
+  errors = tt;
+}
 
 pub limits-smaller : goal.limits-smaller
 limits-smaller g c =
@@ -144,62 +148,70 @@ limits-preserved g c =
           );
     }
 
-pub returns-then-past-clause-overflow : goal.returns-then-past-clause-overflow
-returns-then-past-clause-overflow g c = λ start edges test least b d refused.
-    let eq = g.N.PartialEq.eq in
-    let laws = g.met.N.Eq.laws in
-    let value = g.C.Number.value in
-    let fits = g.C.Number.fits in
-    let exact = g.met.C.Integral.exact_law in
-    let before = c.limits.known.graph.discovery.nodes.keys in
-    let keys = c.look_through.new.known.graph.discovery.nodes.keys in
-    let grows = c.in_ok-numbers.ensures.grows in
-    let v = c.limits.invariant.searched start edges test least b d in
-    let k = v.0 in
-    let begins = c.limits.invariant.begins start b in
-    let alike = k.explores.alike in
-    let same_test = k.tested.alike in
-    let h = graph_of start edges in
-    let p = no_negative eq laws h alike k.costs in
-    let told = rw c.in-Missed.is at (c.in_ok-numbers.ensures.graph h test least start v.0 begins v.1) in
-    let reach : (y : g.row.N.Denot) → StandsFor eq before 0 y → InReach eq edges (start ∷ []) y = λ y t. InReach-same eq laws edges (start ∷ []) t.0 y (k.explores.reached 0 t.0 t.1) t.2 in (
-      past_way eq laws value fits (λ a b d. g.C.Number.between_law a b d exact) (g.met.C.Zero.zero_fits_law exact) h alike test same_test p least start (inl (laws.refl start)) (told.1.1 c.if-past.true),
-      no_walk_fits eq laws h alike test fits (λ s0 i ws u goes good.
-          let e = all_starts eq start (λ y. eq start y ≡ true) (λ y. ((λ q. q), (λ q. q))) s0 i in
-          let here = StandsFor-same eq laws before 0 start s0 begins e in
-          let same = k.asked.alike start s0 (reach start begins) e in
-          let seen = rw c.in-Missed.is at (c.in_ok-numbers.ensures.graph h test least s0 v.0 here (omega (arith, ints, v.1, same))) in
-          let q = covered_walk eq laws value fits (λ a b d. g.C.Number.between_law a b d exact) (g.met.C.Zero.zero_fits_law exact) h alike test same_test p keys (IsCutOff value fits c.in-Missed.least c.in-Missed.past) s0 (grows.stays 0 s0 here) (reach s0 here) seen.1.0 ws u goes good in
-          let cut = subst (λ (o : Option g.row.C.Denot). IsCutOff value fits o c.in-Missed.past q.0) c.in_default.is q.3 in
-          none_fits eq laws value fits (λ a b d. g.C.Number.between_law a b d exact) (g.met.C.Zero.zero_fits_law exact) h alike test same_test p c.in-Missed.past q.0 u q.1 q.2 cut),
-    )
+pub returns-then-past : goal.returns-then-past
+returns-then-past g c = record {
+  best = λ start edges test least b d. tt;
+  overflow = λ start edges test least b d refused.
+      let eq = g.N.PartialEq.eq in
+      let laws = g.met.N.Eq.laws in
+      let value = g.C.Number.value in
+      let fits = g.C.Number.fits in
+      let exact = g.met.C.Integral.exact_law in
+      let before = c.limits.known.graph.discovery.nodes.keys in
+      let keys = c.look_through.new.known.graph.discovery.nodes.keys in
+      let grows = c.in_ok-numbers.ensures.grows in
+      let v = c.limits.invariant.searched start edges test least b d in
+      let k = v.0 in
+      let begins = c.limits.invariant.begins start b in
+      let alike = k.explores.alike in
+      let same_test = k.tested.alike in
+      let h = graph_of start edges in
+      let p = no_negative eq laws h alike k.costs in
+      let told = rw c.in-Missed.is at (c.in_ok-numbers.ensures.graph h test least start v.0 begins v.1) in
+      let reach : (y : g.row.N.Denot) → StandsFor eq before 0 y → InReach eq edges (start ∷ []) y = λ y t. InReach-same eq laws edges (start ∷ []) t.0 y (k.explores.reached 0 t.0 t.1) t.2 in (
+        past_way eq laws value fits (λ a b d. g.C.Number.between_law a b d exact) (g.met.C.Zero.zero_fits_law exact) h alike test same_test p least start (inl (laws.refl start)) (told.1.1 c.if-past.true),
+        no_walk_fits eq laws h alike test fits (λ s0 i ws u goes good.
+            let e = all_starts eq start (λ y. eq start y ≡ true) (λ y. ((λ q. q), (λ q. q))) s0 i in
+            let here = StandsFor-same eq laws before 0 start s0 begins e in
+            let same = k.asked.alike start s0 (reach start begins) e in
+            let seen = rw c.in-Missed.is at (c.in_ok-numbers.ensures.graph h test least s0 v.0 here (omega (arith, ints, v.1, same))) in
+            let q = covered_walk eq laws value fits (λ a b d. g.C.Number.between_law a b d exact) (g.met.C.Zero.zero_fits_law exact) h alike test same_test p keys (IsCutOff value fits c.in-Missed.least c.in-Missed.past) s0 (grows.stays 0 s0 here) (reach s0 here) seen.1.0 ws u goes good in
+            let cut = subst (λ (o : Option g.row.C.Denot). IsCutOff value fits o c.in-Missed.past q.0) c.in_default.is q.3 in
+            none_fits eq laws value fits (λ a b d. g.C.Number.between_law a b d exact) (g.met.C.Zero.zero_fits_law exact) h alike test same_test p c.in-Missed.past q.0 u q.1 q.2 cut),
+      );
+  errors = inr refl;
+}
 
-pub returns-in_default-clause-best : goal.returns-in_default-clause-best
-returns-in_default-clause-best g c = λ start edges test least b d.
-    let eq = g.N.PartialEq.eq in
-    let laws = g.met.N.Eq.laws in
-    let value = g.C.Number.value in
-    let fits = g.C.Number.fits in
-    let exact = g.met.C.Integral.exact_law in
-    let before = c.limits.known.graph.discovery.nodes.keys in
-    let keys = c.look_through.new.known.graph.discovery.nodes.keys in
-    let grows = c.in_ok-numbers.ensures.grows in
-    let v = c.limits.invariant.searched start edges test least b d in
-    let k = v.0 in
-    let begins = c.limits.invariant.begins start b in
-    let alike = k.explores.alike in
-    let same_test = k.tested.alike in
-    let h = graph_of start edges in
-    let p = no_negative eq laws h alike k.costs in
-    let reach : (y : g.row.N.Denot) → StandsFor eq before 0 y → InReach eq edges (start ∷ []) y = λ y t. InReach-same eq laws edges (start ∷ []) t.0 y (k.explores.reached 0 t.0 t.1) t.2 in
-    no_walk eq laws h alike (λ y. eq start y ≡ true) (all_starts eq start (λ y. eq start y ≡ true) (λ y. ((λ e. e), (λ e. e)))) (only_starts eq start (λ y. eq start y ≡ true) (λ y. ((λ e. e), (λ e. e)))) test
-    (λ s0 e ws u goes good.
-    let here = StandsFor-same eq laws before 0 start s0 begins e in
-    let same = k.asked.alike start s0 (reach start begins) e in
-    let seen = rw c.in-Missed.is at (c.in_ok-numbers.ensures.graph h test least s0 v.0 here (omega (arith, ints, v.1, same))) in
-    let q = covered_walk eq laws value fits (λ a b d. g.C.Number.between_law a b d exact) (g.met.C.Zero.zero_fits_law exact) h alike test same_test p keys (IsCutOff value fits c.in-Missed.least c.in-Missed.past) s0 (grows.stays 0 s0 here) (reach s0 here) seen.1.0 ws u goes good in
-    let cut = subst (λ (o : Option g.row.C.Denot). IsCutOff value fits o c.in-Missed.past q.0) c.in_default.is q.3 in
-    none_cut eq laws value fits (λ a b d. g.C.Number.between_law a b d exact) (g.met.C.Zero.zero_fits_law exact) h alike test same_test p q.0 (subst (λ (b : Bool). IsCutOff value fits None b q.0) c.if-past.false cut))
+pub returns-in_default : goal.returns-in_default
+returns-in_default g c = record {
+  best = λ start edges test least b d.
+      let eq = g.N.PartialEq.eq in
+      let laws = g.met.N.Eq.laws in
+      let value = g.C.Number.value in
+      let fits = g.C.Number.fits in
+      let exact = g.met.C.Integral.exact_law in
+      let before = c.limits.known.graph.discovery.nodes.keys in
+      let keys = c.look_through.new.known.graph.discovery.nodes.keys in
+      let grows = c.in_ok-numbers.ensures.grows in
+      let v = c.limits.invariant.searched start edges test least b d in
+      let k = v.0 in
+      let begins = c.limits.invariant.begins start b in
+      let alike = k.explores.alike in
+      let same_test = k.tested.alike in
+      let h = graph_of start edges in
+      let p = no_negative eq laws h alike k.costs in
+      let reach : (y : g.row.N.Denot) → StandsFor eq before 0 y → InReach eq edges (start ∷ []) y = λ y t. InReach-same eq laws edges (start ∷ []) t.0 y (k.explores.reached 0 t.0 t.1) t.2 in
+      no_walk eq laws h alike (λ y. eq start y ≡ true) (all_starts eq start (λ y. eq start y ≡ true) (λ y. ((λ e. e), (λ e. e)))) (only_starts eq start (λ y. eq start y ≡ true) (λ y. ((λ e. e), (λ e. e)))) test
+      (λ s0 e ws u goes good.
+      let here = StandsFor-same eq laws before 0 start s0 begins e in
+      let same = k.asked.alike start s0 (reach start begins) e in
+      let seen = rw c.in-Missed.is at (c.in_ok-numbers.ensures.graph h test least s0 v.0 here (omega (arith, ints, v.1, same))) in
+      let q = covered_walk eq laws value fits (λ a b d. g.C.Number.between_law a b d exact) (g.met.C.Zero.zero_fits_law exact) h alike test same_test p keys (IsCutOff value fits c.in-Missed.least c.in-Missed.past) s0 (grows.stays 0 s0 here) (reach s0 here) seen.1.0 ws u goes good in
+      let cut = subst (λ (o : Option g.row.C.Denot). IsCutOff value fits o c.in-Missed.past q.0) c.in_default.is q.3 in
+      none_cut eq laws value fits (λ a b d. g.C.Number.between_law a b d exact) (g.met.C.Zero.zero_fits_law exact) h alike test same_test p q.0 (subst (λ (b : Bool). IsCutOff value fits None b q.0) c.if-past.false cut));
+  overflow = λ start edges test least b d e. absurd (ok_is_no_error _ _ _ refl e);
+  errors = tt;
+}
 
 pub returns-in_err-ask : goal.returns-in_err-ask
 returns-in_err-ask g c = record {
@@ -221,24 +233,6 @@ returns-in_err-nodes-in-Found g c = record {
   overflow = λ start edges test least b d e. absurd (no_overflow c.from_residual-in_err-nodes-in-Found.result _ c.from_residual-in_err-nodes-in-Found.ensures.1 c.in_err-nodes-in-Found.ensures.refused e);
   errors = refused_as _ c.from_residual-in_err-nodes-in-Found.result _ c.from_residual-in_err-nodes-in-Found.ensures.1 (inl c.in_err-nodes-in-Found.ensures.refused);
 }
-
-pub returns-in-Found-clause-overflow : goal.returns-in-Found-clause-overflow
-returns-in-Found-clause-overflow g c = λ start edges test least b d e. absurd (ok_is_no_error _ _ _ refl e)
-
-pub returns-in-Found-clause-errors : goal.returns-in-Found-clause-errors
-returns-in-Found-clause-errors g c = tt
-
-pub returns-then-past-clause-best : goal.returns-then-past-clause-best
-returns-then-past-clause-best g c = λ start edges test least b d. tt
-
-pub returns-then-past-clause-errors : goal.returns-then-past-clause-errors
-returns-then-past-clause-errors g c = inr refl
-
-pub returns-in_default-clause-overflow : goal.returns-in_default-clause-overflow
-returns-in_default-clause-overflow g c = λ start edges test least b d e. absurd (ok_is_no_error _ _ _ refl e)
-
-pub returns-in_default-clause-errors : goal.returns-in_default-clause-errors
-returns-in_default-clause-errors g c = tt
 
 pub look_through-requires-clause-estimated : goal.look_through-requires-clause-estimated
 look_through-requires-clause-estimated g c = c.limits.invariant.asked
