@@ -1,5 +1,5 @@
 -- What a call hands on of a refusal.
-use Rattle.std.proofs.Common.{◌≡◌, ◌∙◌, ℕ, sym, subst, arith}
+use Rattle.std.proofs.Common.{◌≡◌, ◌∙◌, ℕ, sym, subst, refl, arith}
 use Rattle.std.specs.Prelude.{Result, Ok, Err, Option, Some, None, IfOk, OnOk, IfErr, IsErrAnd, MatchOption}
 use Rattle.pf_base.specs.declared.error.PathError.{PathError}
 use Rattle.pf_base.specs.declared.error.PathError.TheVariants.{OutOfMemory, CostOverflow}
@@ -33,6 +33,15 @@ module _ {T E : Type 0} where
   ok_is_no_error r x e p q =
       let both : Ok x ≡ Err e = sym p ∙ q in
       cc
+
+-- the error that `?` hands on is the one that came
+pub same_error : {T : Type 0} (r : Result T PathError) (e : PathError) → IsErrAnd r (λ x. x ≡ e) → r ≡ Err CostOverflow → e ≡ CostOverflow
+same_error r e h q = sym (rw q at h)
+
+-- the errors of a call that hands on those of another
+pub same_errors : {S T : Type 0} (P : PathError → Type 0) (r : Result S PathError) (q : Result T PathError) → ((e : PathError) → r ≡ Err e → q ≡ Err e) → IfErr q P → IfErr r P
+same_errors P (Ok x) q h p = tt
+same_errors P (Err e) q h p = rw (h e refl) at p
 
 -- an error of another kind that `?` hands on
 pub no_overflow : {T : Type 0} (r : Result T PathError) (e : PathError) → IsErrAnd r (λ x. x ≡ e) → e ≡ OutOfMemory → r ≡ Err CostOverflow → ⊥

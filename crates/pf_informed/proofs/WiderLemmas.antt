@@ -85,3 +85,11 @@ less_work value top wider after reserved now before labels len less same e =
 
 pub no_label : {C : Type 0} (labels : Labels C) (j : ℕ) (l : Label C) → slice_get labels j ≡ Some None → ¬ (HasLabel labels j l)
 no_label labels j l h k = let e : Some None ≡ Some (Some l) = sym h ∙ k in cc
+
+-- work that is left after an entry was taken out and a number opened
+pub less_left : (labels labels' taken waiting waiting' : ℕ) → labels' + waiting' ≤ labels + taken → taken + 1 ≤ waiting → labels' + waiting' < labels + waiting
+less_left labels labels' taken waiting waiting' h k = omega arith
+
+-- the same, where some entries stand in lists
+pub less_left_too : (labels labels' taken waiting' listed n : ℕ) → labels' + waiting' ≤ labels + taken → taken + listed + 1 ≤ n → labels' + (waiting' + listed) < labels + n
+less_left_too labels labels' taken waiting' listed n h k = omega arith

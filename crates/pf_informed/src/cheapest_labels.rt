@@ -3,37 +3,26 @@
 ghost use Rattle.std.specs.BinaryHeap.{IsHeap, heap_items, heap_len};
 ghost use Rattle.std.specs.Prelude.{◌≡◌, ◌⊎◌, ◌<◌, ◌≤◌, ◌<ℤ◌, ◌+ℤ◌, ◌+◌, ℕ, ℤ, List, Bool, [], ◌∷◌, Some, None, Err, ⊤, true, false, IfOk, IfErr, MatchBool, MatchOption, length};
 ghost use Rattle.pf_base.specs.Walks.{HasNoGoalWalk};
-ghost use Rattle.pf_base.specs.Edges.{InReach, IsSuccessor};
-ghost use Rattle.pf_base.specs.Answers.{IsLawfulClone, AnswersTest};
+ghost use Rattle.pf_base.specs.Edges.{IsSuccessor};
 ghost use Rattle.pf_core.specs.declared.labels.Label.{Label};
 ghost use Rattle.pf_core.specs.Labels.{HasLabel};
-ghost use Rattle.pf_core.specs.Nodes.{NodeGraph, StandsFor, Explores};
+ghost use Rattle.pf_core.specs.Nodes.{NodeGraph, StandsFor};
 ghost use Rattle.pf_core.specs.Numbered.{Grows};
-ghost use Rattle.pf_informed.specs.Estimates.{IsInformedSearch, IsPastRangeWithEstimate, NoGoalWalkFits};
+ghost use Rattle.pf_informed.specs.Estimates.{IsPastRangeWithEstimate, NoGoalWalkFits};
 ghost use Rattle.pf_informed.specs.Internal.Labelled.{IsPastBest, IsLabelled};
 ghost use Rattle.pf_informed.specs.Internal.Led.{IsLed};
 ghost use Rattle.pf_informed.specs.Internal.Waiting.{entry_cmp, IsWaiting, IsQueue, IsTaken};
 
-use crate::functions::EstimateFunction;
 use crate::queue::{Queue, Taken, take_least};
 use crate::search::Search;
 use crate::turns::{begin, turn};
-use pf_base::{Cost, EdgeFunction, NodeTest, PathError};
-use pf_core::discovery::{Discovery, Weighted, clone_of};
+use pf_base::{Cost, PathError};
+use pf_core::discovery::Weighted;
 use pf_core::numbered::GoalGraph;
 use pf_core::slot::Slot;
 use pf_core::tested::Tested;
 use std::alloc::Allocator;
 use std::hash::Hash;
-use std::marker::PhantomData;
-
-/// The nodes that a search found, their labels, and the least cost of a walk to a goal.
-#[derive(Drop)]
-pub(crate) struct Labelled<N: Eq + Hash, C: Cost, IN, FN, FS, A: Allocator> {
-    pub graph: Tested<N, Weighted, IN, FN, FS, A>,
-    pub labels: Vec<Slot<C>, A>,
-    pub best: C,
-}
 
 /// Is the least cost known, and less than this cost and estimate together?
 fn is_past<C: Cost>(best: Option<C>, cost: C, estimate: C) -> bool
@@ -100,9 +89,9 @@ fn best_with<C: Cost, G: GoalGraph<C>>(
 }
 
 /// Searches from the only node that was found, with nothing known of it yet, until each number that
-/// waits is past the least cost of a walk to a goal. Answers that cost, or `None` where no walk leads
-/// to a goal.
-fn search_on<N, C, IN, FN, FH, FS, A>(
+/// waits is past the least cost of a walk to a goal. Goals are opened as other nodes are, so that each
+/// label is the cost of a cheapest walk. Answers the least cost, or `None` where no walk leads to a goal.
+pub(crate) fn label_cheapest<N, C, IN, FN, FH, FS, A>(
     graph: &mut Tested<N, Weighted, IN, FN, FS, A>,
     estimate: &mut FH,
     search: &mut Search<C, A>,
@@ -158,56 +147,4 @@ where
     } else {
         Err(PathError::CostOverflow)
     }
-}
-
-/// Searches from `start` on, until each number that waits is past the least cost of a walk to a goal.
-/// Goals are opened as other nodes are, so that each label is the cost of a cheapest walk. `None` where
-/// no walk leads to a goal.
-pub(crate) fn label_cheapest<N, C, IN, FN, FH, FS, A>(
-    alloc: A,
-    start: &N,
-    successors: FN,
-    mut estimate: FH,
-    success: FS,
-) -> Result<Option<Labelled<N, C, IN, FN, FS, A>>, PathError>
-where
-    N: Eq + Hash + Clone + Drop,
-    C: Cost,
-    IN: IntoIterator<Item = (N, C)>,
-    FN: FnMut(&N) -> IN,
-    FH: FnMut(&N) -> C,
-    FS: FnMut(&N) -> bool,
-    A: Allocator + Copy,
-    requires clones { IsLawfulClone N.eq N.is_clone }
-    requires graph { (edges : N → List (N × ℤ)) × (test : N → Bool) × (least : N → ℤ)
-        × IsInformedSearch N.eq edges (start.now ∷ []) (⟦<FN as EdgeFunction<N, C>>⟧.answers successors) (⟦<FS as NodeTest<N>>⟧.answers success) (⟦<FH as EstimateFunction<N, C>>⟧.answers estimate) test least }
-    ensures wide { IfOk result (λ answer. MatchOption answer ⊤ (λ found. (length found.labels.items ≡ length found.graph.discovery.nodes.keys) × (0 < length found.labels.items))) }
-    ensures labelled { (edges : N → List (N × ℤ)) (test : N → Bool) (least : N → ℤ)
-        → IsInformedSearch N.eq edges (start.now ∷ []) (⟦<FN as EdgeFunction<N, C>>⟧.answers successors) (⟦<FS as NodeTest<N>>⟧.answers success) (⟦<FH as EstimateFunction<N, C>>⟧.answers estimate) test least
-        → IfOk result (λ answer. MatchOption answer
-        (HasNoGoalWalk N.eq (IsSuccessor N.eq edges) (start.now ∷ []) test)
-        (λ found. Explores N.eq C.value (λ e. e) IN.into_iter_gives IN.IntoIter.can_next IN.IntoIter.remaining IN.IntoIter.next_gives FN.FnMut (record { starts = start.now ∷ []; edges = edges }) found.graph.discovery.nodes.keys found.graph.discovery.successors
-        × AnswersTest FS.FnMut N.eq found.graph.success (InReach N.eq edges (start.now ∷ [])) test
-        × IsLabelled N.eq C.value edges start.now test found.graph.discovery.nodes.keys found.labels.items (C.value found.best))) }
-    ensures overflow { (edges : N → List (N × ℤ)) (test : N → Bool) (least : N → ℤ)
-        → IsInformedSearch N.eq edges (start.now ∷ []) (⟦<FN as EdgeFunction<N, C>>⟧.answers successors) (⟦<FS as NodeTest<N>>⟧.answers success) (⟦<FH as EstimateFunction<N, C>>⟧.answers estimate) test least
-        → result ≡ Err PathError.CostOverflow
-        → IsPastRangeWithEstimate N.eq edges (start.now ∷ []) least C.fits × NoGoalWalkFits N.eq edges (start.now ∷ []) test C.fits }
-    ensures errors { IfErr result (λ e. (e ≡ PathError.OutOfMemory) ⊎ (e ≡ PathError.CostOverflow)) }
-{
-    let discovery = Discovery {
-        nodes: clone_of(alloc, start)?,
-        successors,
-        form: PhantomData,
-    };
-    let mut graph: Tested<N, Weighted, IN, FN, FS, A> = Tested { discovery, success };
-    let mut search = Search::new(alloc);
-    let Some(best) = search_on(&mut graph, &mut estimate, &mut search)? else {
-        return Ok(None);
-    };
-    Ok(Some(Labelled {
-        graph,
-        labels: search.labels,
-        best,
-    }))
 }

@@ -1,23 +1,29 @@
 //! All cheapest paths, led by an estimate of the cost that remains.
 
-ghost use Rattle.std.specs.Prelude.{◌≡◌, ◌⊎◌, ℤ, List, Bool, [], ◌∷◌, Err, false, ⊤, IfOk, IfErr, MatchOption};
+ghost use Rattle.std.specs.BinaryHeap.{IsHeap, heap_items};
+ghost use Rattle.std.specs.Prelude.{◌≡◌, ◌⊎◌, ◌≤◌, ℤ, List, Bool, [], ◌∷◌, Err, false, ⊤, IfOk, IfErr, MatchOption, length};
 ghost use Rattle.std.specs.Iterator.{MakesProgress, at_most};
 ghost use Rattle.pf_base.specs.Walks.{HasNoGoalWalk};
 ghost use Rattle.pf_base.specs.Edges.{IsSuccessor};
 ghost use Rattle.pf_base.specs.Answers.{IsLawfulClone};
+ghost use Rattle.pf_core.specs.Nodes.{StandsFor};
 ghost use Rattle.pf_informed.specs.CheapestPaths.{AreCheapestCleanPaths, IsPathsClone, PathsStep, lists_in, most_items};
 ghost use Rattle.pf_informed.specs.Estimates.{IsInformedSearch, IsPastRangeWithEstimate, NoGoalWalkFits};
-ghost use Rattle.pf_informed.specs.Internal.Ways.{AreGathered, PathsTurn};
+ghost use Rattle.pf_informed.specs.Internal.Led.{IsLed};
+ghost use Rattle.pf_informed.specs.Internal.Waiting.{entry_cmp};
+ghost use Rattle.pf_informed.specs.Internal.Ways.{AreGathered, AreWays, PathsTurn, before_in, paths_of, ways_left};
 
-use crate::cheapest_labels::{Labelled, label_cheapest};
+use crate::cheapest_labels::label_cheapest;
 use crate::functions::EstimateFunction;
+use crate::search::Search;
 use crate::tight::tight_edges;
 use crate::ways::Ways;
 use pf_base::{Cost, EdgeFunction, NodeTest, PathError};
-use pf_core::discovery::{Nodes, clones_at};
+use pf_core::discovery::{Discovery, Nodes, Weighted, clone_of, clones_at};
+use pf_core::tested::Tested;
 use std::alloc::{AllocError, Allocator, Global};
 use std::hash::Hash;
-use std::marker::Model;
+use std::marker::{Model, PhantomData};
 
 /// All cheapest clean paths, each as a `Result`, once: made by `astar_bag`.
 #[derive(Drop)]
@@ -122,6 +128,96 @@ where
     }
 }
 
+/// Searches from the only node that was found, with nothing known of it yet, for all cheapest ways back
+/// from goals, and their cost.
+fn find_ways<N, C, IN, FN, FH, FS, A>(
+    alloc: A,
+    graph: &mut Tested<N, Weighted, IN, FN, FS, A>,
+    estimate: &mut FH,
+    search: &mut Search<C, A>,
+) -> Result<Option<(Ways<A>, C)>, PathError>
+where
+    N: Eq + Hash + Drop,
+    C: Cost,
+    IN: IntoIterator<Item = (N, C)>,
+    FN: FnMut(&N) -> IN,
+    FH: FnMut(&N) -> C,
+    FS: FnMut(&N) -> bool,
+    A: Allocator + Copy,
+    requires one { length graph.old.discovery.nodes.keys ≡ 1 }
+    requires unlabelled { search.old.labels.items ≡ [] }
+    requires unasked { search.old.estimates.items ≡ [] }
+    requires nothing_waits { heap_items search.old.queue ≡ [] }
+    requires ordered { IsHeap (entry_cmp C.cmp) (heap_items search.old.queue) }
+    requires graph { (start : N) × (edges : N → List (N × ℤ)) × (test : N → Bool) × (least : N → ℤ) × StandsFor N.eq graph.old.discovery.nodes.keys 0 start
+        × IsLed N.eq C.value IN.into_iter_gives IN.IntoIter.can_next IN.IntoIter.remaining IN.IntoIter.next_gives FN.FnMut FS.FnMut FH.FnMut (record { starts = start ∷ []; edges = edges }) test least
+        graph.old.discovery.nodes.keys graph.old.discovery.successors graph.old.success estimate.old search.old.estimates.items }
+
+    ensures all { (start : N) (edges : N → List (N × ℤ)) (test : N → Bool) (least : N → ℤ) → StandsFor N.eq graph.old.discovery.nodes.keys 0 start
+        → IsLed N.eq C.value IN.into_iter_gives IN.IntoIter.can_next IN.IntoIter.remaining IN.IntoIter.next_gives FN.FnMut FS.FnMut FH.FnMut (record { starts = start ∷ []; edges = edges }) test least
+        graph.old.discovery.nodes.keys graph.old.discovery.successors graph.old.success estimate.old search.old.estimates.items
+        → IfOk result (λ answer. MatchOption answer
+        (HasNoGoalWalk N.eq (IsSuccessor N.eq edges) (start ∷ []) test)
+        (λ found. AreCheapestCleanPaths N.eq edges (start ∷ []) test (paths_of graph.new.discovery.nodes.keys (ways_left (before_in found.0.before.items) (length found.0.before.items) found.0.way.items found.0.waiting.items)) (C.value found.1))) }
+
+    ensures ways { IfOk result (λ answer. MatchOption answer ⊤
+        (λ found. AreWays (length found.0.before.items) (before_in found.0.before.items) found.0.way.items found.0.places.items found.0.waiting.items × (length found.0.before.items ≤ length graph.new.discovery.nodes.keys))) }
+
+    ensures overflow { (start : N) (edges : N → List (N × ℤ)) (test : N → Bool) (least : N → ℤ) → StandsFor N.eq graph.old.discovery.nodes.keys 0 start
+        → IsLed N.eq C.value IN.into_iter_gives IN.IntoIter.can_next IN.IntoIter.remaining IN.IntoIter.next_gives FN.FnMut FS.FnMut FH.FnMut (record { starts = start ∷ []; edges = edges }) test least
+        graph.old.discovery.nodes.keys graph.old.discovery.successors graph.old.success estimate.old search.old.estimates.items
+        → result ≡ Err PathError.CostOverflow
+        → IsPastRangeWithEstimate N.eq edges (start ∷ []) least C.fits × NoGoalWalkFits N.eq edges (start ∷ []) test C.fits }
+
+    ensures errors { IfErr result (λ e. (e ≡ PathError.OutOfMemory) ⊎ (e ≡ PathError.CostOverflow)) }
+{
+    let Some(best) = label_cheapest(graph, estimate, search)? else {
+        return Ok(None);
+    };
+    let tight = tight_edges(alloc, graph, &search.labels, best)?;
+    let ways = Ways::new(alloc, tight.before, &tight.goals)?;
+    Ok(Some((ways, best)))
+}
+
+/// The paths over nodes of the ways that were found, and their cost.
+fn solution_of<N, C, A>(
+    alloc: A,
+    nodes: Nodes<N, A>,
+    found: Result<Option<(Ways<A>, C)>, PathError>,
+) -> Result<Option<(AstarSolution<N, A>, C)>, PathError>
+where
+    N: Eq + Hash + Drop,
+    C: Cost,
+    A: Allocator,
+    requires { IfOk found (λ answer. MatchOption answer ⊤
+        (λ found. AreWays (length found.0.before.items) (before_in found.0.before.items) found.0.way.items found.0.places.items found.0.waiting.items × (length found.0.before.items ≤ length nodes.keys))) }
+
+    ensures all { (start : N) (edges : N → List (N × ℤ)) (test : N → Bool)
+        → IfOk found (λ answer. MatchOption answer
+        (HasNoGoalWalk N.eq (IsSuccessor N.eq edges) (start ∷ []) test)
+        (λ found. AreCheapestCleanPaths N.eq edges (start ∷ []) test (paths_of nodes.keys (ways_left (before_in found.0.before.items) (length found.0.before.items) found.0.way.items found.0.waiting.items)) (C.value found.1)))
+        → IfOk result (λ answer. MatchOption answer
+        (HasNoGoalWalk N.eq (IsSuccessor N.eq edges) (start ∷ []) test)
+        (λ found. AreCheapestCleanPaths N.eq edges (start ∷ []) test found.0.left (C.value found.1))) }
+
+    ensures ready { IfOk result (λ answer. MatchOption answer ⊤ (λ found. found.0.refused ≡ false)) }
+    ensures errors { (e : PathError) → result ≡ Err e → found ≡ Err e }
+{
+    match found {
+        Ok(Some((ways, best))) => {
+            let solution = AstarSolution {
+                alloc,
+                nodes,
+                ways,
+                refused: false,
+            };
+            Ok(Some((solution, best)))
+        }
+        Ok(None) => Ok(None),
+        Err(refusal) => Err(refusal),
+    }
+}
+
 /// All cheapest clean paths from `start` to nodes that pass `success`, each once, and their cost, or
 /// `None` exactly where no walk leads from `start` to such a node.
 ///
@@ -155,7 +251,7 @@ pub fn astar_bag<N, C, IN, FN, FH, FS, A>(
     alloc: A,
     start: &N,
     successors: FN,
-    estimate: FH,
+    mut estimate: FH,
     success: FS,
 ) -> Result<Option<(AstarSolution<N, A>, C)>, PathError>
 where
@@ -185,23 +281,15 @@ where
 
     ensures errors { IfErr result (λ e. (e ≡ PathError.OutOfMemory) ⊎ (e ≡ PathError.CostOverflow)) }
 {
-    let Some(found) = label_cheapest(alloc, start, successors, estimate, success)? else {
-        return Ok(None);
+    let discovery = Discovery {
+        nodes: clone_of(alloc, start)?,
+        successors,
+        form: PhantomData,
     };
-    let Labelled {
-        mut graph,
-        labels,
-        best,
-    } = found;
-    let tight = tight_edges(alloc, &mut graph, &labels, best)?;
-    let ways = Ways::new(alloc, tight.before, &tight.goals)?;
-    let solution = AstarSolution {
-        alloc,
-        nodes: graph.discovery.nodes,
-        ways,
-        refused: false,
-    };
-    Ok(Some((solution, best)))
+    let mut graph: Tested<N, Weighted, IN, FN, FS, A> = Tested { discovery, success };
+    let mut search = Search::new(alloc);
+    let found = find_ways(alloc, &mut graph, &mut estimate, &mut search);
+    solution_of(alloc, graph.discovery.nodes, found)
 }
 
 /// The paths that an iterator gives.

@@ -7,6 +7,7 @@ ghost use Rattle.pf_base.specs.Edges.{IsSuccessor, IsCheapestGoalPath};
 ghost use Rattle.pf_base.specs.Answers.{IsLawfulClone};
 ghost use Rattle.pf_core.specs.Nodes.{NodeGraph, StandsFor};
 ghost use Rattle.pf_informed.specs.Estimates.{IsInformedSearch, IsPastRangeWithEstimate, NoGoalWalkFits};
+ghost use Rattle.pf_informed.specs.Internal.Fringe.{listed};
 ghost use Rattle.pf_informed.specs.Internal.Led.{IsLed};
 ghost use Rattle.pf_informed.specs.Internal.Waiting.{entry_cmp};
 
@@ -28,6 +29,7 @@ fn search_on<N, C, IN, FN, FH, FS, A>(
     graph: &mut Tested<N, Weighted, IN, FN, FS, A>,
     estimate: &mut FH,
     search: &mut Search<C, A>,
+    lists: &mut FringeLists<C, A>,
 ) -> Result<Option<(Vec<N, A>, C)>, PathError>
 where
     N: Eq + Hash + Clone + Drop,
@@ -43,6 +45,7 @@ where
     requires unasked { search.old.estimates.items ≡ [] }
     requires nothing_waits { heap_items search.old.queue ≡ [] }
     requires ordered { IsHeap (entry_cmp C.cmp) (heap_items search.old.queue) }
+    requires unlisted { listed lists.old ≡ [] }
     requires graph { (g : NodeGraph N) × (test : N → Bool) × (least : N → ℤ)
         × IsLed N.eq C.value IN.into_iter_gives IN.IntoIter.can_next IN.IntoIter.remaining IN.IntoIter.next_gives FN.FnMut FS.FnMut FH.FnMut g test least
         graph.old.discovery.nodes.keys graph.old.discovery.successors graph.old.success estimate.old search.old.estimates.items }
@@ -63,7 +66,7 @@ where
     ensures errors { IfErr result (λ e. (e ≡ PathError.OutOfMemory) ⊎ (e ≡ PathError.CostOverflow)) }
 {
     begin(graph, estimate, search)?;
-    let mut lists = FringeLists::new(alloc, search.estimates[0]);
+    lists.limit = search.estimates[0];
     'turns: while let Some(taken) = lists.take(
         &search.labels,
         &search.estimates,
@@ -146,5 +149,6 @@ where
     };
     let mut graph: Tested<N, Weighted, IN, FN, FS, A> = Tested { discovery, success };
     let mut search = Search::new(alloc);
-    search_on(alloc, &mut graph, &mut estimate, &mut search)
+    let mut lists = FringeLists::new(alloc, C::zero());
+    search_on(alloc, &mut graph, &mut estimate, &mut search, &mut lists)
 }

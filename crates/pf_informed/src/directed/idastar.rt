@@ -1,13 +1,16 @@
 //! Cheapest paths by limits on cost and estimate that grow.
 
-ghost use Rattle.std.specs.Prelude.{◌≡◌, ◌⊎◌, ℤ, List, Bool, [], ◌∷◌, Err, IfOk, IfErr, MatchOption};
+ghost use Rattle.std.specs.Prelude.{◌≡◌, ◌⊎◌, ℤ, List, Bool, [], ◌∷◌, Err, IfOk, IfErr, MatchOption, length};
 ghost use Rattle.pf_base.specs.Walks.{HasNoGoalWalk};
 ghost use Rattle.pf_base.specs.Edges.{IsSuccessor, IsCheapestGoalPath};
 ghost use Rattle.pf_base.specs.Answers.{IsLawfulClone};
+ghost use Rattle.pf_core.specs.Nodes.{StandsFor};
 ghost use Rattle.pf_informed.specs.Estimates.{IsInformedSearch, IsPastRangeWithEstimate, NoGoalWalkFits};
+ghost use Rattle.pf_informed.specs.Internal.Rows.{IsTable, IsKnown};
 
 use crate::directed::idastar::known::Known;
 use crate::directed::idastar::round::{Round, look_through};
+use crate::estimates::ask;
 use crate::functions::EstimateFunction;
 use pf_base::{Cost, EdgeFunction, NodeTest, PathError};
 use std::alloc::Allocator;
@@ -21,6 +24,68 @@ mod round;
 mod rows;
 mod way;
 mod widen;
+
+/// Searches from the only node that was found, with nothing known of it yet.
+fn search_on<N, C, IN, FN, FH, FS, A>(
+    alloc: A,
+    known: &mut Known<N, C, IN, FN, FH, FS, A>,
+) -> Result<Option<(Vec<N, A>, C)>, PathError>
+where
+    N: Eq + Hash + Clone + Drop,
+    C: Cost,
+    IN: IntoIterator<Item = (N, C)>,
+    FN: FnMut(&N) -> IN,
+    FH: FnMut(&N) -> C,
+    FS: FnMut(&N) -> bool,
+    A: Allocator + Copy,
+    requires clones { IsLawfulClone N.eq N.is_clone }
+    requires one { length known.old.graph.discovery.nodes.keys ≡ 1 }
+    requires unasked { known.old.estimates.items ≡ [] }
+    requires table { IsTable 1 known.old.rows.steps.items known.old.rows.spans.items }
+    requires graph { (start : N) × (edges : N → List (N × ℤ)) × (test : N → Bool) × (least : N → ℤ) × StandsFor N.eq known.old.graph.discovery.nodes.keys 0 start
+        × IsKnown N.eq C.value IN.into_iter_gives IN.IntoIter.can_next IN.IntoIter.remaining IN.IntoIter.next_gives FN.FnMut FS.FnMut FH.FnMut (record { starts = start ∷ []; edges = edges }) test least
+        known.old.graph.discovery.nodes.keys known.old.graph.discovery.successors known.old.graph.success known.old.estimate known.old.estimates.items known.old.rows.steps.items known.old.rows.spans.items }
+
+    ensures best { (start : N) (edges : N → List (N × ℤ)) (test : N → Bool) (least : N → ℤ) → StandsFor N.eq known.old.graph.discovery.nodes.keys 0 start
+        → IsKnown N.eq C.value IN.into_iter_gives IN.IntoIter.can_next IN.IntoIter.remaining IN.IntoIter.next_gives FN.FnMut FS.FnMut FH.FnMut (record { starts = start ∷ []; edges = edges }) test least
+        known.old.graph.discovery.nodes.keys known.old.graph.discovery.successors known.old.graph.success known.old.estimate known.old.estimates.items known.old.rows.steps.items known.old.rows.spans.items
+        → IfOk result (λ answer. MatchOption answer
+        (HasNoGoalWalk N.eq (IsSuccessor N.eq edges) (start ∷ []) test)
+        (λ found. IsCheapestGoalPath N.eq edges (start ∷ []) test found.0.items (C.value found.1))) }
+
+    ensures overflow { (start : N) (edges : N → List (N × ℤ)) (test : N → Bool) (least : N → ℤ) → StandsFor N.eq known.old.graph.discovery.nodes.keys 0 start
+        → IsKnown N.eq C.value IN.into_iter_gives IN.IntoIter.can_next IN.IntoIter.remaining IN.IntoIter.next_gives FN.FnMut FS.FnMut FH.FnMut (record { starts = start ∷ []; edges = edges }) test least
+        known.old.graph.discovery.nodes.keys known.old.graph.discovery.successors known.old.graph.success known.old.estimate known.old.estimates.items known.old.rows.steps.items known.old.rows.spans.items
+        → result ≡ Err PathError.CostOverflow
+        → IsPastRangeWithEstimate N.eq edges (start ∷ []) least C.fits × NoGoalWalkFits N.eq edges (start ∷ []) test C.fits }
+
+    ensures errors { IfErr result (λ e. (e ≡ PathError.OutOfMemory) ⊎ (e ≡ PathError.CostOverflow)) }
+{
+    ask(
+        known.graph.discovery.nodes.as_slice(),
+        &mut known.estimate,
+        &mut known.estimates,
+    )?;
+    let mut limit = known.estimates[0];
+    'limits: loop {
+        match look_through(alloc, known, limit)? {
+            Round::Found { numbers, cost } => {
+                let nodes = known.graph.nodes_at(alloc, &numbers)?;
+                return Ok(Some((nodes, cost)));
+            }
+            Round::Missed { least, past } => {
+                let Some(least) = least else {
+                    if past {
+                        return Err(PathError::CostOverflow);
+                    }
+                    return Ok(None);
+                };
+                least.known();
+                limit = least;
+            }
+        }
+    }
+}
 
 /// A cheapest path from `start` to a node that passes `success`, with its cost, or `None` exactly where
 /// no walk leads from `start` to such a node.
@@ -79,22 +144,5 @@ where
     ensures errors { IfErr result (λ e. (e ≡ PathError.OutOfMemory) ⊎ (e ≡ PathError.CostOverflow)) }
 {
     let mut known = Known::new(alloc, start, successors, estimate, success)?;
-    let mut limit = known.estimates[0];
-    'limits: loop {
-        match look_through(alloc, &mut known, limit)? {
-            Round::Found { numbers, cost } => {
-                return Ok(Some((known.graph.nodes_at(alloc, &numbers)?, cost)));
-            }
-            Round::Missed { least, past } => {
-                let Some(least) = least else {
-                    if past {
-                        return Err(PathError::CostOverflow);
-                    }
-                    return Ok(None);
-                };
-                least.known();
-                limit = least;
-            }
-        }
-    }
+    search_on(alloc, &mut known)
 }

@@ -1,73 +1,260 @@
-use Rattle.std.proofs.Common.{rules, [], ◌∷◌, List, ℤ, refl, inl}
-use Rattle.pf_core.specs.Nodes.{NodeGraph}
-use Rattle.pf_informed.proofs.LedLemmas.{led_begin}
+use Rattle.std.proofs.Common.{rules, ◌≡◌, ◌<◌, ◌∙◌, [], ◌∷◌, List, ℕ, ℤ, Bool, false, true≢false, sym, subst, refl, length, Some, None, inl, inr}
+use Rattle.std.specs.BinaryHeap.{heap_items}
+use Rattle.std.proofs.lemmas.List.{append-nil}
+use Rattle.pf_base.specs.Edges.{IsCheapestGoalPath}
+use Rattle.pf_core.specs.declared.labels.Label.{Label}
+use Rattle.pf_core.specs.Labels.{HasLabel}
+use Rattle.pf_core.specs.Nodes.{NodeGraph, TestedGraph, StandsFor, IsStep}
+use Rattle.pf_core.proofs.LabelLemmas.{HasLabel-inside}
+use Rattle.pf_core.proofs.SearchLemmas.{Grows-trans}
+use Rattle.pf_core.proofs.WalkLemmas.{no_negative}
+use Rattle.pf_informed.specs.Internal.Informed.{IsInformed}
+use Rattle.pf_informed.specs.Internal.Led.{OthersWait}
+use Rattle.pf_informed.specs.Internal.Waiting.{Entry, IsWaiting, IsQueue}
+use Rattle.pf_informed.proofs.LabelledLemmas.{by_cases, goal_path, no_best, exact_label, low_of}
+use Rattle.pf_informed.proofs.LedAnswers.{led_within, led_estimate, led_asked, led_none, led_past}
+use Rattle.pf_informed.proofs.LedLemmas.{informed_still, led_grown}
+use Rattle.pf_informed.proofs.WiderLemmas.{less_left}
 use Rattle.pf_informed.proofs.Outcomes.{refused_as, if_refused, no_overflow, ok_is_no_error}
 use Rattle.pf_informed.proofs.cheapest_labels.label_cheapest.Goals as goal
+
+abbrev tested : {N : Type 0} → NodeGraph N → (N → Bool) → TestedGraph N
+tested g test = record { graph = g; test = test }
 
 abbrev graph_of : {N : Type 0} → N → (N → List (N × ℤ)) → NodeGraph N
 graph_of start edges = record { starts = start ∷ []; edges = edges }
 
-pub search_on-requires-clause-graph : goal.search_on-requires-clause-graph
-search_on-requires-clause-graph g c =
+pub turns-init : goal.turns-init
+turns-init g c =
+    let b = c.in_ok-begin.ensures in
+    let one = c.requires.one in
+    record {
+      forest = b.forest;
+      ordered = b.ordered;
+      queue = b.queue;
+      wide = b.labelled ∙ sym one;
+      asked = b.asked ∙ sym one;
+      begins = λ x s. s;
+      searched = λ h test least d. let x = b.graph h test least d in (x.0, x.1 (λ _. false));
+      unknown = λ none h test least d. (b.graph h test least d).1 test;
+      least = λ k is. absurd (no_best k is);
+    }
+
+pub best_with-best-requires-clause-inside : goal.best_with-best-requires-clause-inside
+best_with-best-requires-clause-inside g c =
+    let t = c.in-Some.ensures.taken in
+    subst (λ (n : ℕ). c.in-Some.taken.number < n) c.turns.invariant.wide (HasLabel-inside _ _ _ t.at)
+
+pub best_with-best-requires-clause-graph : goal.best_with-best-requires-clause-graph
+best_with-best-requires-clause-graph g c =
     let r = c.requires.graph in
-    let found = c.in_ok-clone_of in
-    (graph_of c.args.start.now r.0, r.1, r.2, led_begin g.N.PartialEq.eq g.met.N.Eq.laws g.C.Number.value _ _ _ _ _ _ _ c.args.start.now r.0 r.1 r.2 found.field-0.keys _ _ _ _ found.ensures.distinct found.ensures.same c.new-search.ensures.estimates r.3)
-
-pub returns-in_default-clause-labelled : goal.returns-in_default-clause-labelled
-returns-in_default-clause-labelled g c = λ edges test least s.
-    let found = c.in_ok-clone_of in
-    let start = c.args.start.now in
-    rw c.in_default.is at (c.in_ok-best.ensures.labelled start edges test least ((found.ensures.begins start).1 (g.met.N.Eq.laws.refl start))
-    (led_begin g.N.PartialEq.eq g.met.N.Eq.laws g.C.Number.value _ _ _ _ _ _ _ start edges test least found.field-0.keys _ _ _ _ found.ensures.distinct found.ensures.same c.new-search.ensures.estimates s))
-
-pub returns-clause-labelled : goal.returns-clause-labelled
-returns-clause-labelled g c = λ edges test least s.
-    let found = c.in_ok-clone_of in
-    let start = c.args.start.now in
-    let v = rw c.in-Some.is at (c.in_ok-best.ensures.labelled start edges test least ((found.ensures.begins start).1 (g.met.N.Eq.laws.refl start))
-    (led_begin g.N.PartialEq.eq g.met.N.Eq.laws g.C.Number.value _ _ _ _ _ _ _ start edges test least found.field-0.keys _ _ _ _ found.ensures.distinct found.ensures.same c.new-search.ensures.estimates s)) in
+    let v = c.turns.invariant.searched r.0 r.1 r.2 r.3 in
     let d = v.0 in
-    (d.explores, d.tested, v.1)
+    (tested r.0 r.1, (d.explores, d.tested))
 
-pub returns-in_err-best-clause-overflow : goal.returns-in_err-best-clause-overflow
-returns-in_err-best-clause-overflow g c = λ edges test least s refused.
-    let found = c.in_ok-clone_of in
-    let start = c.args.start.now in
-    c.in_err-best.ensures.overflow start edges test least ((found.ensures.begins start).1 (g.met.N.Eq.laws.refl start))
-    (led_begin g.N.PartialEq.eq g.met.N.Eq.laws g.C.Number.value _ _ _ _ _ _ _ start edges test least found.field-0.keys _ _ _ _ found.ensures.distinct found.ensures.same c.new-search.ensures.estimates s)
-    (search rules)
+pub turn-requires-clause-labelled : goal.turn-requires-clause-labelled
+turn-requires-clause-labelled g c =
+    let t = c.in-Some.ensures.taken in
+    (t.label, t.at)
 
-pub returns-in_err-clone_of : goal.returns-in_err-clone_of
-returns-in_err-clone_of g c = record {
-  wide = if_refused _ c.from_residual.result _ c.from_residual.ensures.1;
-  labelled = λ edges test least s. if_refused _ c.from_residual.result _ c.from_residual.ensures.1;
-  overflow = λ edges test least s e. absurd (no_overflow c.from_residual.result _ c.from_residual.ensures.1 c.in_err-clone_of.ensures.refused e);
-  errors = refused_as _ c.from_residual.result _ c.from_residual.ensures.1 (inl c.in_err-clone_of.ensures.refused);
+pub turn-requires-clause-wide : goal.turn-requires-clause-wide
+turn-requires-clause-wide g c = c.turns.invariant.wide ∙ sym c.best_with-best.ensures.same
+
+pub turn-requires-clause-asked : goal.turn-requires-clause-asked
+turn-requires-clause-asked g c = c.turns.invariant.asked ∙ sym c.best_with-best.ensures.same
+
+pub turn-requires-clause-graph : goal.turn-requires-clause-graph
+turn-requires-clause-graph g c =
+    let r = c.requires.graph in
+    let inv = c.turns.invariant in
+    let v = inv.searched r.0 r.1 r.2 r.3 in
+    let now = v.0 in
+    let told = c.best_with-best.ensures.graph (tested r.0 r.1) (now.explores, now.tested) in
+    (r.0, r.1, r.2, led_grown g.N.PartialEq.eq g.met.N.Eq.laws g.C.Number.value _ _ _ _ _ _ _ r.0 r.1 r.2 _ _ _ _ _ now _ _ _ c.best_with-best.ensures.grows inv.asked told.0 told.1)
+
+pub turns-preserved : goal.turns-preserved
+turns-preserved g c =
+    let eq = g.N.PartialEq.eq in
+    let laws = g.met.N.Eq.laws in
+    let value = g.C.Number.value in
+    let fits = g.C.Number.fits in
+    let exact = g.met.C.Integral.exact_law in
+    let inv = c.turns.invariant in
+    let t = c.in-Some.ensures.taken in
+    let n = c.in_ok-turn.ensures in
+    let look = c.best_with-best.ensures in
+    let number = c.in-Some.taken.number in
+    let grown = Grows-trans _ _ _ _ _ _ look.grows n.grows in
+    let labels = c.turns.search.labels.items in
+    let estimates = c.turns.search.estimates.items in
+    let entries = heap_items c.turns.search.queue in
+    let heap = heap_items c.take_within.new.queue in
+    let heap_after = heap_items c.turn.new.search.queue in
+    let keys = c.turns.graph.discovery.nodes.keys in
+    let between = c.best_with-best.new.graph.discovery.nodes.keys in
+    let after = c.turn.new.graph.discovery.nodes.keys in
+    let inside : number < length keys = subst (λ (m : ℕ). number < m) inv.wide (HasLabel-inside labels number t.label t.at) in
+    let q = n.queue [] (subst (λ (es : List (Entry g.row.C.Denot)). IsQueue value labels estimates es) (sym (append-nil heap)) c.in-Some.ensures.queue) in
+    let left = subst (λ (es : List (Entry g.row.C.Denot)). OthersWait value labels number entries es) (sym (append-nil heap)) t.left in
+    record {
+      forest = n.forest;
+      ordered = n.ordered;
+      queue = subst (λ (es : List (Entry g.row.C.Denot)). IsQueue value c.turn.new.search.labels.items c.turn.new.search.estimates.items es) (append-nil heap_after) q;
+      wide = n.wide;
+      asked = n.asked;
+      begins = λ x s. grown.stays 0 x (inv.begins x s);
+      searched = λ h test least d.
+          let v = inv.searched h test least d in
+          let now = v.0 in
+          let told = look.graph (tested h test) (now.explores, now.tested) in
+          let led = led_grown eq laws value _ _ _ _ _ _ _ h test least _ _ _ _ _ now _ _ _ look.grows inv.asked told.0 told.1 in
+          let turned = n.graph h test least led in
+          let still = informed_still value fits (IsStep eq h) (λ _. false) estimates (length keys) (length between) (StandsFor eq keys) (StandsFor eq between) look.grows look.same labels inv.wide entries v.1 in
+          let informed = turned.1 (λ _. false) entries [] (λ x k. refl) left still in (
+            turned.0,
+            subst (λ (es : List (Entry g.row.C.Denot)). IsInformed value fits c.turn.new.search.estimates.items (IsStep eq h) (λ _. false) (StandsFor eq after) c.turn.new.search.labels.items es (length after)) (append-nil heap_after) informed,
+          );
+      unknown = λ none h test least d.
+          let v = inv.searched h test least d in
+          let now = v.0 in
+          let told = look.graph (tested h test) (now.explores, now.tested) in
+          let o = look.open none in
+          let led = led_grown eq laws value _ _ _ _ _ _ _ h test least _ _ _ _ _ now _ _ _ look.grows inv.asked told.0 told.1 in
+          let turned = n.graph h test least led in
+          let still = informed_still value fits (IsStep eq h) test estimates (length keys) (length between) (StandsFor eq keys) (StandsFor eq between) look.grows look.same labels inv.wide entries (inv.unknown o.0 h test least d) in
+          let informed = turned.1 test entries [] (λ x k. o.1 (tested h test) x (now.explores, now.tested) (look.grows.back number x inside k)) left still in
+          subst (λ (es : List (Entry g.row.C.Denot)). IsInformed value fits c.turn.new.search.estimates.items (IsStep eq h) test (StandsFor eq after) c.turn.new.search.labels.items es (length after)) (append-nil heap_after) informed;
+      least = λ b is. by_cases _ (look.found b is)
+          (λ was. inv.least b was)
+          (λ new. (
+            new.2,
+            λ start edges test least s d.
+                let v = inv.searched (graph_of start edges) test least d in
+                let now = v.0 in
+                let known_path = goal_path eq laws start edges test now.explores.alike now.costs now.tested.alike value fits (λ x y z. g.C.Number.between_law x y z exact) (g.met.C.Zero.zero_fits_law exact)
+                least now.asked.alike now.admissible keys now.explores.reached now.explores.distinct estimates now.estimated inv.asked (inv.begins start s) labels entries inv.forest (inv.unknown new.0 (graph_of start edges) test least d)
+                number c.in-Some.taken.cost heap t c.in-Some.ensures.queue (subst (λ (q : g.row.C.Denot). fits (value q)) new.1 new.2) inside (λ y k. new.3 (tested (graph_of start edges) test) y (now.explores, now.tested) k) in
+                (known_path.0, subst (λ (q : g.row.C.Denot). IsCheapestGoalPath eq edges (start ∷ []) test known_path.0 (value q)) (sym new.1) known_path.1),
+          ));
+    }
+
+pub returns-in-Some-best : goal.returns-in-Some-best
+returns-in-Some-best g c = record {
+  wide =
+      let inv = c.turns.invariant in
+      let first = inv.forest.first in
+      (inv.wide, HasLabel-inside c.turns.search.labels.items 0 first.0 first.1);
+  labelled = λ start edges test least s d.
+      let eq = g.N.PartialEq.eq in
+      let laws = g.met.N.Eq.laws in
+      let value = g.C.Number.value in
+      let exact = g.met.C.Integral.exact_law in
+      let h = graph_of start edges in
+      let inv = c.turns.invariant in
+      let v = inv.searched h test least d in
+      let now = v.0 in
+      let keys = c.turns.graph.discovery.nodes.keys in
+      let estimates = c.turns.search.estimates.items in
+      let begins = inv.begins start s in
+      let best = c.in-Some-best.best in
+      let is : c.turns.best ≡ Some best = search rules in
+      let known = inv.least best is in
+      let path = known.1 start edges test least s d in
+      let cheapest = path.1 in (
+        now,
+        record {
+          first = inv.forest.first;
+          begins = begins;
+          exact = exact_label eq laws h now.explores.alike value g.C.Number.fits (λ x y z. g.C.Number.between_law x y z exact) (g.met.C.Zero.zero_fits_law exact) test now.tested.alike least now.admissible (no_negative eq laws h now.explores.alike now.costs) keys estimates start begins
+              (led_within eq laws value _ _ _ _ _ _ _ start edges test least keys _ _ _ estimates now inv.asked begins) (led_estimate eq laws value _ _ _ _ _ _ _ start edges test least keys _ _ _ estimates now inv.asked begins) (led_asked eq laws value _ _ _ _ _ _ _ start edges test least keys _ _ _ estimates now inv.asked begins)
+              c.turns.search.labels.items (heap_items c.turns.search.queue) inv.forest (length keys) v.1 best (rw is at c.in_default.ensures.taken) known.0 (low_of eq laws start edges test now.explores.alike (value best) cheapest.best);
+          path = path;
+        },
+      );
+  overflow = λ start edges test least s d e. absurd (ok_is_no_error _ _ _ refl e);
+  errors = tt;
 }
 
-pub returns-in_err-best-clause-wide : goal.returns-in_err-best-clause-wide
-returns-in_err-best-clause-wide g c = if_refused _ c.from_residual-in_err-best.result _ c.from_residual-in_err-best.ensures.1
+pub returns-then-has_all_labels : goal.returns-then-has_all_labels
+returns-then-has_all_labels g c = record {
+  wide = tt;
+  labelled = λ start edges test least s d.
+      let value = g.C.Number.value in
+      let exact = g.met.C.Integral.exact_law in
+      let inv = c.turns.invariant in
+      let v = inv.searched (graph_of start edges) test least d in
+      let unknown : c.turns.best ≡ None = search rules in
+      let none_waits : (k : ℕ) (l : Label g.row.C.Denot) → HasLabel c.turns.search.labels.items k l → ¬ (IsWaiting value (heap_items c.turns.search.queue) k l) = λ k l at w. let b = c.in_default.ensures.taken k l at w in no_best b.0 (sym unknown ∙ b.1) in
+      led_none g.N.PartialEq.eq g.met.N.Eq.laws value _ _ _ _ _ _ _ start edges test least _ _ _ _ _ v.0 inv.asked (inv.begins start s) g.C.Number.fits (λ x y z. g.C.Number.between_law x y z exact) (g.met.C.Zero.zero_fits_law exact)
+      c.turns.search.labels.items inv.wide (heap_items c.turns.search.queue) inv.forest (inv.unknown unknown (graph_of start edges) test least d) none_waits (c.has_all_labels.ensures.0 c.if-has_all_labels.true);
+  overflow = λ start edges test least s d e. absurd (ok_is_no_error _ _ _ refl e);
+  errors = tt;
+}
 
-pub returns-in_err-best-clause-labelled : goal.returns-in_err-best-clause-labelled
-returns-in_err-best-clause-labelled g c = λ edges test least s. if_refused _ c.from_residual-in_err-best.result _ c.from_residual-in_err-best.ensures.1
+pub returns-else-has_all_labels : goal.returns-else-has_all_labels
+returns-else-has_all_labels g c = record {
+  wide = tt;
+  labelled = λ start edges test least s d. tt;
+  overflow = λ start edges test least s d refused.
+      let value = g.C.Number.value in
+      let exact = g.met.C.Integral.exact_law in
+      let inv = c.turns.invariant in
+      let v = inv.searched (graph_of start edges) test least d in
+      let unknown : c.turns.best ≡ None = search rules in
+      let none_waits : (k : ℕ) (l : Label g.row.C.Denot) → HasLabel c.turns.search.labels.items k l → ¬ (IsWaiting value (heap_items c.turns.search.queue) k l) = λ k l at w. let b = c.in_default.ensures.taken k l at w in no_best b.0 (sym unknown ∙ b.1) in
+      led_past g.N.PartialEq.eq g.met.N.Eq.laws value _ _ _ _ _ _ _ start edges test least _ _ _ _ _ v.0 inv.asked (inv.begins start s) g.C.Number.fits (λ x y z. g.C.Number.between_law x y z exact) (g.met.C.Zero.zero_fits_law exact)
+      c.turns.search.labels.items inv.wide (heap_items c.turns.search.queue) inv.forest (inv.unknown unknown (graph_of start edges) test least d) none_waits (λ a. true≢false (sym (c.has_all_labels.ensures.1 a) ∙ c.if-has_all_labels.false));
+  errors = inr refl;
+}
 
-pub returns-in_err-best-clause-errors : goal.returns-in_err-best-clause-errors
-returns-in_err-best-clause-errors g c = refused_as _ c.from_residual-in_err-best.result _ c.from_residual-in_err-best.ensures.1 c.in_err-best.ensures.errors
+pub returns-in_err-begin : goal.returns-in_err-begin
+returns-in_err-begin g c = record {
+  wide = if_refused _ c.from_residual.result _ c.from_residual.ensures.1;
+  labelled = λ start edges test least s d. if_refused _ c.from_residual.result _ c.from_residual.ensures.1;
+  overflow = λ start edges test least s d e. absurd (no_overflow c.from_residual.result _ c.from_residual.ensures.1 c.in_err-begin.ensures.refused e);
+  errors = refused_as _ c.from_residual.result _ c.from_residual.ensures.1 (inl c.in_err-begin.ensures.refused);
+}
 
-pub returns-in_default-clause-wide : goal.returns-in_default-clause-wide
-returns-in_default-clause-wide g c = tt
+pub returns-in_err-turn : goal.returns-in_err-turn
+returns-in_err-turn g c = record {
+  wide = if_refused _ c.from_residual-in_err-turn.result _ c.from_residual-in_err-turn.ensures.1;
+  labelled = λ start edges test least s d. if_refused _ c.from_residual-in_err-turn.result _ c.from_residual-in_err-turn.ensures.1;
+  overflow = λ start edges test least s d e. absurd (no_overflow c.from_residual-in_err-turn.result _ c.from_residual-in_err-turn.ensures.1 c.in_err-turn.ensures.refused e);
+  errors = refused_as _ c.from_residual-in_err-turn.result _ c.from_residual-in_err-turn.ensures.1 (inl c.in_err-turn.ensures.refused);
+}
 
-pub returns-in_default-clause-overflow : goal.returns-in_default-clause-overflow
-returns-in_default-clause-overflow g c = λ edges test least s e. absurd (ok_is_no_error _ _ _ refl e)
+pub turn-requires-clause-forest : goal.turn-requires-clause-forest
+turn-requires-clause-forest g c = c.turns.invariant.forest
 
-pub returns-in_default-clause-errors : goal.returns-in_default-clause-errors
-returns-in_default-clause-errors g c = tt
+pub turn-requires-clause-ordered : goal.turn-requires-clause-ordered
+turn-requires-clause-ordered g c = c.in-Some.ensures.ordered
 
-pub returns-clause-overflow : goal.returns-clause-overflow
-returns-clause-overflow g c = λ edges test least s e. absurd (ok_is_no_error _ _ _ refl e)
+pub turn-requires-clause-queue : goal.turn-requires-clause-queue
+turn-requires-clause-queue g c = c.in-Some.ensures.queue
 
-pub returns-clause-errors : goal.returns-clause-errors
-returns-clause-errors g c = tt
+pub begin-requires-clause-one : goal.begin-requires-clause-one
+begin-requires-clause-one g c = c.requires.one
 
-pub returns-clause-wide : goal.returns-clause-wide
-returns-clause-wide g c = rw c.in-Some.is at c.in_ok-best.ensures.wide
+pub begin-requires-clause-unlabelled : goal.begin-requires-clause-unlabelled
+begin-requires-clause-unlabelled g c = c.requires.unlabelled
+
+pub begin-requires-clause-unasked : goal.begin-requires-clause-unasked
+begin-requires-clause-unasked g c = c.requires.unasked
+
+pub begin-requires-clause-nothing_waits : goal.begin-requires-clause-nothing_waits
+begin-requires-clause-nothing_waits g c = c.requires.nothing_waits
+
+pub begin-requires-clause-ordered : goal.begin-requires-clause-ordered
+begin-requires-clause-ordered g c = c.requires.ordered
+
+pub begin-requires-clause-graph : goal.begin-requires-clause-graph
+begin-requires-clause-graph g c = c.requires.graph
+
+pub take_within-requires-clause-ordered : goal.take_within-requires-clause-ordered
+take_within-requires-clause-ordered g c = c.turns.invariant.ordered
+
+pub take_within-requires-clause-queue : goal.take_within-requires-clause-queue
+take_within-requires-clause-queue g c = c.turns.invariant.queue
+
+pub turns-smaller : goal.turns-smaller
+turns-smaller g c = less_left _ _ _ _ _ c.in_ok-turn.ensures.less c.in-Some.ensures.fewer

@@ -45,3 +45,11 @@ returns g c = record {
   taken = c.in-Some.ensures.taken;
   fewer = c.in-Some.ensures.fewer;
 }
+
+pub returns-in_default-clause-taken : goal.returns-in_default-clause-taken
+returns-in_default-clause-taken g c = λ k l h w. absurd (c.in_default.ensures.taken k l h w)
+
+pub index-requires : goal.index-requires
+index-requires g c =
+    let inside : c.in-Some.taken.number < length c.args.estimates.now.items = slice_get_within c.args.estimates.now.items c.in-Some.taken.number _ c.in-Some.ensures.taken.estimated in
+    omega (arith, inside, c.args.estimates.now.ok.0)

@@ -27,3 +27,12 @@ entries-preserved g c =
       waits = StillWait-stale g.C.Number.value c.args.labels.now.items _ _ _ e is i.waits c.if-not-is_lower.ensures;
       fewer = omega (arith, i.fewer, c.in-Some.ensures.len);
     }
+
+pub entries-init : goal.entries-init
+entries-init g c = record { within = λ e h. h; waits = λ k l h w. w; fewer = omega arith }
+
+pub entries-smaller : goal.entries-smaller
+entries-smaller g c = omega (arith, c.in-Some.ensures.len)
+
+pub returns-then-not-is_lower-clause-fewer : goal.returns-then-not-is_lower-clause-fewer
+returns-then-not-is_lower-clause-fewer g c = omega (arith, c.entries.invariant.fewer, c.in-Some.ensures.len)

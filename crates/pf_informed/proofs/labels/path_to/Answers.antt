@@ -72,3 +72,6 @@ returns-in_err-push-2 g c = record {
 
 pub returns-clause-refused : goal.returns-clause-refused
 returns-clause-refused g c = tt
+
+pub parent_of-requires : goal.parent_of-requires
+parent_of-requires g c = let m = c.climb.invariant.labelled in HasLabel-inside c.args.labels.now c.climb.at m.0 m.1

@@ -1,4 +1,4 @@
-use Rattle.std.proofs.Common.{rules, ◌<◌, ◌≤◌, length, ◌∙◌, ap, sym, subst, arith, Some, None}
+use Rattle.std.proofs.Common.{◌<◌, length, ◌∙◌, ap, sym, subst, arith, Some, None}
 use Rattle.std.specs.Ordering.{is_some_and, is_lt}
 use Rattle.std.proofs.lemmas.Int.{ints}
 use Rattle.pf_core.specs.declared.labels.Label.{Label}

@@ -55,61 +55,62 @@ follow-requires-clause-prices g c = λ j d m.
 pub follow-requires-clause-queue : goal.follow-requires-clause-queue
 follow-requires-clause-queue g c = queue_kept g.C.Number.value c.args.search.now.labels.items c.args.search.now.estimates.items c.ask.new.estimates.items (heap_items c.args.search.now.queue) c.in_ok-ask.ensures.kept c.requires.queue
 
-pub returns-clause-wide : goal.returns-clause-wide
-returns-clause-wide g c = c.in_ok-follow.ensures.wide ∙ ap length c.in_ok-follow.ensures.estimates ∙ c.in_ok-ask.ensures.all ∙ ap length c.as_slice.ensures.keys
-
-pub returns-clause-asked : goal.returns-clause-asked
-returns-clause-asked g c = ap length c.in_ok-follow.ensures.estimates ∙ c.in_ok-ask.ensures.all ∙ ap length c.as_slice.ensures.keys
-
-pub returns-clause-queue : goal.returns-clause-queue
-returns-clause-queue g c = λ rest q.
-    let value = g.C.Number.value in
-    let f = c.in_ok-follow.ensures in
-    let l = c.requires.labelled in
-    let row = c.in_ok-expand.ensures.listed in
-    let labels = c.args.search.now.labels.items in
-    let heap = heap_items c.args.search.now.queue in
-    let estimates = c.ask.new.estimates.items in
-    let followed = rw (f.estimates, row.1) at (f.followed l.0 l.1) in
-    let waited = queue_kept value labels c.args.search.now.estimates.items estimates (heap ++ rest) c.in_ok-ask.ensures.kept q in
-    rw f.estimates (queue_beside value g.C.Number.fits estimates c.args.number l.0 _ labels c.follow.new.self.labels.items heap (heap_items c.follow.new.self.queue) rest followed waited (rw f.estimates at f.queue))
-
-pub returns-clause-graph : goal.returns-clause-graph
-returns-clause-graph g c = λ h test least d.
-    let eq = g.N.PartialEq.eq in
-    let laws = g.met.N.Eq.laws in
-    let value = g.C.Number.value in
-    let f = c.in_ok-follow.ensures in
-    let l = c.requires.labelled in
-    let number = c.args.number in
-    let old = c.args.graph.now.discovery.nodes.keys in
-    let keys = c.expand.new.self.discovery.nodes.keys in
-    let labels = c.args.search.now.labels.items in
-    let estimates = c.args.search.now.estimates.items in
-    let asked = c.ask.new.estimates.items in
-    let heap = heap_items c.args.search.now.queue in
-    let grown = c.in_ok-expand.ensures.grows in
-    let row = c.in_ok-expand.ensures.listed in
-    let x = c.in_ok-expand.ensures.graph (tested h test) (d.explores, d.tested) in
-    let a = c.in_ok-ask.ensures.graph h least d.asked (λ k y q. x.0.reached k y (rw c.as_slice.ensures.keys at q)) in
-    let before = estimated_grown eq laws value least (InReach eq h.edges h.starts) d.asked.alike old keys d.explores.reached grown estimates c.requires.asked d.estimated in
-    let known = a.1 (rw c.as_slice.ensures.keys before) in (
-      record {
-        explores = x.0;
-        tested = x.1;
-        asked = a.0;
-        estimated = rw f.estimates (rw c.as_slice.ensures.keys at known);
-        admissible = d.admissible;
-        costs = d.costs;
-      },
-      λ passes entries rest fails left i.
-          let someone = begins_all eq laws old number (subst (λ (n : ℕ). number < n) c.requires.wide (HasLabel-inside labels number l.0 l.1)) in
-          let followed = rw (f.estimates, row.1) at (f.followed l.0 l.1) in
-          let whole = follows_beside value g.C.Number.fits asked number l.0 _ labels c.follow.new.self.labels.items heap (heap_items c.follow.new.self.queue) rest followed in
-          let opened = informed_opened value g.C.Number.fits (IsStep eq h) passes estimates asked c.in_ok-ask.ensures.kept (length old) (length keys) (StandsFor eq old) (StandsFor eq keys) grown labels c.follow.new.self.labels.items (omega (arith, c.requires.wide))
-          entries (heap ++ rest) (heap_items c.follow.new.self.queue ++ rest) number l.0 l.1 left fails row.0 (λ y k. row.4 (tested h test) (d.explores, d.tested) y k) row.3 someone whole c.requires.forest i in
-          rw f.estimates opened,
-    )
+pub returns : goal.returns
+returns g c = record {
+  wide = c.in_ok-follow.ensures.wide ∙ ap length c.in_ok-follow.ensures.estimates ∙ c.in_ok-ask.ensures.all ∙ ap length c.as_slice.ensures.keys;
+  asked = ap length c.in_ok-follow.ensures.estimates ∙ c.in_ok-ask.ensures.all ∙ ap length c.as_slice.ensures.keys;
+  grows = c.in_ok-expand.ensures.grows;
+  forest = c.in_ok-follow.ensures.forest;
+  ordered = c.in_ok-follow.ensures.ordered;
+  queue = λ rest q.
+      let value = g.C.Number.value in
+      let f = c.in_ok-follow.ensures in
+      let l = c.requires.labelled in
+      let row = c.in_ok-expand.ensures.listed in
+      let labels = c.args.search.now.labels.items in
+      let heap = heap_items c.args.search.now.queue in
+      let estimates = c.ask.new.estimates.items in
+      let followed = rw (f.estimates, row.1) at (f.followed l.0 l.1) in
+      let waited = queue_kept value labels c.args.search.now.estimates.items estimates (heap ++ rest) c.in_ok-ask.ensures.kept q in
+      rw f.estimates (queue_beside value g.C.Number.fits estimates c.args.number l.0 _ labels c.follow.new.self.labels.items heap (heap_items c.follow.new.self.queue) rest followed waited (rw f.estimates at f.queue));
+  less = c.in_ok-follow.ensures.less;
+  graph = λ h test least d.
+      let eq = g.N.PartialEq.eq in
+      let laws = g.met.N.Eq.laws in
+      let value = g.C.Number.value in
+      let f = c.in_ok-follow.ensures in
+      let l = c.requires.labelled in
+      let number = c.args.number in
+      let old = c.args.graph.now.discovery.nodes.keys in
+      let keys = c.expand.new.self.discovery.nodes.keys in
+      let labels = c.args.search.now.labels.items in
+      let estimates = c.args.search.now.estimates.items in
+      let asked = c.ask.new.estimates.items in
+      let heap = heap_items c.args.search.now.queue in
+      let grown = c.in_ok-expand.ensures.grows in
+      let row = c.in_ok-expand.ensures.listed in
+      let x = c.in_ok-expand.ensures.graph (tested h test) (d.explores, d.tested) in
+      let a = c.in_ok-ask.ensures.graph h least d.asked (λ k y q. x.0.reached k y (rw c.as_slice.ensures.keys at q)) in
+      let before = estimated_grown eq laws value least (InReach eq h.edges h.starts) d.asked.alike old keys d.explores.reached grown estimates c.requires.asked d.estimated in
+      let known = a.1 (rw c.as_slice.ensures.keys before) in (
+        record {
+          explores = x.0;
+          tested = x.1;
+          asked = a.0;
+          estimated = rw f.estimates (rw c.as_slice.ensures.keys at known);
+          admissible = d.admissible;
+          costs = d.costs;
+        },
+        λ passes entries rest fails left i.
+            let someone = begins_all eq laws old number (subst (λ (n : ℕ). number < n) c.requires.wide (HasLabel-inside labels number l.0 l.1)) in
+            let followed = rw (f.estimates, row.1) at (f.followed l.0 l.1) in
+            let whole = follows_beside value g.C.Number.fits asked number l.0 _ labels c.follow.new.self.labels.items heap (heap_items c.follow.new.self.queue) rest followed in
+            let opened = informed_opened value g.C.Number.fits (IsStep eq h) passes estimates asked c.in_ok-ask.ensures.kept (length old) (length keys) (StandsFor eq old) (StandsFor eq keys) grown labels c.follow.new.self.labels.items (omega (arith, c.requires.wide))
+            entries (heap ++ rest) (heap_items c.follow.new.self.queue ++ rest) number l.0 l.1 left fails row.0 (λ y k. row.4 (tested h test) (d.explores, d.tested) y k) row.3 someone whole c.requires.forest i in
+            rw f.estimates opened,
+      );
+  refused = tt;
+}
 
 pub returns-in_err-expand : goal.returns-in_err-expand
 returns-in_err-expand g c = record {
@@ -149,21 +150,6 @@ returns-in_err-follow g c = record {
   graph = on_refused _ c.from_residual-in_err-follow.result _ c.from_residual-in_err-follow.ensures.1;
   refused = refused_as _ c.from_residual-in_err-follow.result _ c.from_residual-in_err-follow.ensures.1 c.in_err-follow.ensures.refused;
 }
-
-pub returns-clause-grows : goal.returns-clause-grows
-returns-clause-grows g c = c.in_ok-expand.ensures.grows
-
-pub returns-clause-forest : goal.returns-clause-forest
-returns-clause-forest g c = c.in_ok-follow.ensures.forest
-
-pub returns-clause-ordered : goal.returns-clause-ordered
-returns-clause-ordered g c = c.in_ok-follow.ensures.ordered
-
-pub returns-clause-less : goal.returns-clause-less
-returns-clause-less g c = c.in_ok-follow.ensures.less
-
-pub returns-clause-refused : goal.returns-clause-refused
-returns-clause-refused g c = tt
 
 pub follow-requires-clause-labelled : goal.follow-requires-clause-labelled
 follow-requires-clause-labelled g c = c.requires.labelled

@@ -40,20 +40,18 @@ where
     FS: FnMut(&N) -> bool,
     A: Allocator + Copy,
 {
-    /// The start alone, and its estimate.
+    /// The start alone, whose estimate was not asked for.
     pub fn new(
         alloc: A,
         start: &N,
         successors: FN,
-        mut estimate: FH,
+        estimate: FH,
         success: FS,
     ) -> Result<Self, PathError>
         requires clones { IsLawfulClone N.eq N.is_clone }
-        requires graph { (edges : N → List (N × ℤ)) × (test : N → Bool) × (least : N → ℤ)
-            × IsInformedSearch N.eq edges (start.now ∷ []) (⟦<FN as EdgeFunction<N, C>>⟧.answers successors) (⟦<FS as NodeTest<N>>⟧.answers success) (⟦<FH as EstimateFunction<N, C>>⟧.answers estimate) test least }
         ensures one { IfOk result (λ known. length known.graph.discovery.nodes.keys ≡ 1) }
         ensures begins { IfOk result (λ known. StandsFor N.eq known.graph.discovery.nodes.keys 0 start.now) }
-        ensures estimated { IfOk result (λ known. length known.estimates.items ≡ 1) }
+        ensures unasked { IfOk result (λ known. known.estimates.items ≡ []) }
         ensures table { IfOk result (λ known. IsTable 1 known.rows.steps.items known.rows.spans.items) }
         ensures graph { (edges : N → List (N × ℤ)) (test : N → Bool) (least : N → ℤ)
             → IsInformedSearch N.eq edges (start.now ∷ []) (⟦<FN as EdgeFunction<N, C>>⟧.answers successors) (⟦<FS as NodeTest<N>>⟧.answers success) (⟦<FH as EstimateFunction<N, C>>⟧.answers estimate) test least
@@ -67,12 +65,7 @@ where
             form: PhantomData,
         };
         let graph: Tested<N, Weighted, IN, FN, FS, A> = Tested { discovery, success };
-        let mut estimates = Vec::new(alloc);
-        ask(
-            graph.discovery.nodes.as_slice(),
-            &mut estimate,
-            &mut estimates,
-        )?;
+        let estimates = Vec::new(alloc);
         Ok(Known {
             graph,
             estimate,

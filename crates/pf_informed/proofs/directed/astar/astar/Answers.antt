@@ -13,19 +13,20 @@ search_on-requires-clause-graph g c =
     let found = c.in_ok-clone_of in
     (graph_of c.args.start.now r.0, r.1, r.2, led_begin g.N.PartialEq.eq g.met.N.Eq.laws g.C.Number.value _ _ _ _ _ _ _ c.args.start.now r.0 r.1 r.2 found.field-0.keys _ _ _ _ found.ensures.distinct found.ensures.same c.new-search.ensures.estimates r.3)
 
-pub returns-clause-best : goal.returns-clause-best
-returns-clause-best g c = λ edges test least s.
-    let found = c.in_ok-clone_of in
-    let start = c.args.start.now in
-    c.search_on.ensures.best start edges test least ((found.ensures.begins start).1 (g.met.N.Eq.laws.refl start))
-    (led_begin g.N.PartialEq.eq g.met.N.Eq.laws g.C.Number.value _ _ _ _ _ _ _ start edges test least found.field-0.keys _ _ _ _ found.ensures.distinct found.ensures.same c.new-search.ensures.estimates s)
-
-pub returns-clause-overflow : goal.returns-clause-overflow
-returns-clause-overflow g c = λ edges test least s.
-    let found = c.in_ok-clone_of in
-    let start = c.args.start.now in
-    c.search_on.ensures.overflow start edges test least ((found.ensures.begins start).1 (g.met.N.Eq.laws.refl start))
-    (led_begin g.N.PartialEq.eq g.met.N.Eq.laws g.C.Number.value _ _ _ _ _ _ _ start edges test least found.field-0.keys _ _ _ _ found.ensures.distinct found.ensures.same c.new-search.ensures.estimates s)
+pub returns : goal.returns
+returns g c = record {
+  best = λ edges test least s.
+      let found = c.in_ok-clone_of in
+      let start = c.args.start.now in
+      c.search_on.ensures.best start edges test least ((found.ensures.begins start).1 (g.met.N.Eq.laws.refl start))
+      (led_begin g.N.PartialEq.eq g.met.N.Eq.laws g.C.Number.value _ _ _ _ _ _ _ start edges test least found.field-0.keys _ _ _ _ found.ensures.distinct found.ensures.same c.new-search.ensures.estimates s);
+  overflow = λ edges test least s.
+      let found = c.in_ok-clone_of in
+      let start = c.args.start.now in
+      c.search_on.ensures.overflow start edges test least ((found.ensures.begins start).1 (g.met.N.Eq.laws.refl start))
+      (led_begin g.N.PartialEq.eq g.met.N.Eq.laws g.C.Number.value _ _ _ _ _ _ _ start edges test least found.field-0.keys _ _ _ _ found.ensures.distinct found.ensures.same c.new-search.ensures.estimates s);
+  errors = c.search_on.ensures.errors;
+}
 
 pub returns-in_err-clone_of : goal.returns-in_err-clone_of
 returns-in_err-clone_of g c = record {
@@ -33,6 +34,3 @@ returns-in_err-clone_of g c = record {
   overflow = λ edges test least s e. absurd (no_overflow c.from_residual.result _ c.from_residual.ensures.1 c.in_err-clone_of.ensures.refused e);
   errors = refused_as _ c.from_residual.result _ c.from_residual.ensures.1 (inl c.in_err-clone_of.ensures.refused);
 }
-
-pub returns-clause-errors : goal.returns-clause-errors
-returns-clause-errors g c = c.search_on.ensures.errors

@@ -9,6 +9,7 @@ use Rattle.pf_informed.specs.Internal.Led.{OthersWait}
 use Rattle.pf_informed.specs.Internal.Waiting.{Entry, IsQueue}
 use Rattle.pf_informed.proofs.LedAnswers.{led_above, led_best, led_none, led_past}
 use Rattle.pf_informed.proofs.LedLemmas.{informed_still, led_grown}
+use Rattle.pf_informed.proofs.WiderLemmas.{less_left}
 use Rattle.pf_informed.proofs.Outcomes.{refused_as, if_refused, no_overflow, ok_is_no_error}
 use Rattle.pf_informed.proofs.directed.astar.search_on.Goals as goal
 
@@ -52,28 +53,32 @@ nodes_to-requires-clause-labelled g c =
     let t = c.in-Some.ensures.taken in
     (t.label, t.at)
 
-pub returns-then-is_goal-clause-best : goal.returns-then-is_goal-clause-best
-returns-then-is_goal-clause-best g c = λ start edges test least s d.
-    let eq = g.N.PartialEq.eq in
-    let laws = g.met.N.Eq.laws in
-    let exact = g.met.C.Integral.exact_law in
-    let inv = c.turns.invariant in
-    let h = graph_of start edges in
-    let v = inv.searched h test least d in
-    let now = v.0 in
-    let told = c.is_goal.ensures.graph (tested h test) (now.explores, now.tested) in
-    let after = told.0.0 in
-    let t = c.in-Some.ensures.taken in
-    let labels = c.turns.search.labels.items in
-    let entries = heap_items c.turns.search.queue in
-    let keys = c.turns.graph.discovery.nodes.keys in
-    let begins = inv.begins start s in
-    let nodes = c.in_ok-nodes.ensures.nodes in
-    let above = led_above eq laws g.C.Number.value _ _ _ _ _ _ _ start edges test least keys _ _ _ c.turns.search.estimates.items now inv.asked begins g.C.Number.fits (λ x y z. g.C.Number.between_law x y z exact) (g.met.C.Zero.zero_fits_law exact)
-    labels inv.wide entries inv.forest v.1 c.in-Some.taken.number c.in-Some.taken.cost (heap_items c.take_least.new.queue) t c.in-Some.ensures.queue c.known.ensures in
-    led_best eq laws g.C.Number.value _ _ _ _ _ _ _ start edges test least keys _ _ _ c.turns.search.estimates.items now inv.asked begins g.C.Number.fits (λ x y z. g.C.Number.between_law x y z exact) (g.met.C.Zero.zero_fits_law exact)
-    labels inv.wide entries inv.forest v.1 c.in-Some.taken.number t.label t.at nodes.0 nodes.1 (λ y k. sym (told.1 y k) ∙ c.if-is_goal.true) above
-    c.is_goal.new.self.discovery.nodes.keys c.is_goal.ensures.grows after.distinct c.in_ok-nodes.nodes.items nodes.2 (g.C.Number.value c.in-Some.taken.cost) t.same
+pub returns-then-is_goal : goal.returns-then-is_goal
+returns-then-is_goal g c = record {
+  best = λ start edges test least s d.
+      let eq = g.N.PartialEq.eq in
+      let laws = g.met.N.Eq.laws in
+      let exact = g.met.C.Integral.exact_law in
+      let inv = c.turns.invariant in
+      let h = graph_of start edges in
+      let v = inv.searched h test least d in
+      let now = v.0 in
+      let told = c.is_goal.ensures.graph (tested h test) (now.explores, now.tested) in
+      let after = told.0.0 in
+      let t = c.in-Some.ensures.taken in
+      let labels = c.turns.search.labels.items in
+      let entries = heap_items c.turns.search.queue in
+      let keys = c.turns.graph.discovery.nodes.keys in
+      let begins = inv.begins start s in
+      let nodes = c.in_ok-nodes.ensures.nodes in
+      let above = led_above eq laws g.C.Number.value _ _ _ _ _ _ _ start edges test least keys _ _ _ c.turns.search.estimates.items now inv.asked begins g.C.Number.fits (λ x y z. g.C.Number.between_law x y z exact) (g.met.C.Zero.zero_fits_law exact)
+      labels inv.wide entries inv.forest v.1 c.in-Some.taken.number c.in-Some.taken.cost (heap_items c.take_least.new.queue) t c.in-Some.ensures.queue c.known.ensures in
+      led_best eq laws g.C.Number.value _ _ _ _ _ _ _ start edges test least keys _ _ _ c.turns.search.estimates.items now inv.asked begins g.C.Number.fits (λ x y z. g.C.Number.between_law x y z exact) (g.met.C.Zero.zero_fits_law exact)
+      labels inv.wide entries inv.forest v.1 c.in-Some.taken.number t.label t.at nodes.0 nodes.1 (λ y k. sym (told.1 y k) ∙ c.if-is_goal.true) above
+      c.is_goal.new.self.discovery.nodes.keys c.is_goal.ensures.grows after.distinct c.in_ok-nodes.nodes.items nodes.2 (g.C.Number.value c.in-Some.taken.cost) t.same;
+  overflow = λ start edges test least s d e. absurd (ok_is_no_error _ _ _ refl e);
+  errors = tt;
+}
 
 pub turn-requires-clause-labelled : goal.turn-requires-clause-labelled
 turn-requires-clause-labelled g c =
@@ -135,21 +140,29 @@ turns-preserved g c =
           );
     }
 
-pub returns-then-has_all_labels-clause-best : goal.returns-then-has_all_labels-clause-best
-returns-then-has_all_labels-clause-best g c = λ start edges test least s d.
-    let exact = g.met.C.Integral.exact_law in
-    let inv = c.turns.invariant in
-    let v = inv.searched (graph_of start edges) test least d in
-    led_none g.N.PartialEq.eq g.met.N.Eq.laws g.C.Number.value _ _ _ _ _ _ _ start edges test least _ _ _ _ _ v.0 inv.asked (inv.begins start s) g.C.Number.fits (λ x y z. g.C.Number.between_law x y z exact) (g.met.C.Zero.zero_fits_law exact)
-    c.turns.search.labels.items inv.wide (heap_items c.turns.search.queue) inv.forest v.1 c.in_default.ensures.taken (c.has_all_labels.ensures.0 c.if-has_all_labels.true)
+pub returns-then-has_all_labels : goal.returns-then-has_all_labels
+returns-then-has_all_labels g c = record {
+  best = λ start edges test least s d.
+      let exact = g.met.C.Integral.exact_law in
+      let inv = c.turns.invariant in
+      let v = inv.searched (graph_of start edges) test least d in
+      led_none g.N.PartialEq.eq g.met.N.Eq.laws g.C.Number.value _ _ _ _ _ _ _ start edges test least _ _ _ _ _ v.0 inv.asked (inv.begins start s) g.C.Number.fits (λ x y z. g.C.Number.between_law x y z exact) (g.met.C.Zero.zero_fits_law exact)
+      c.turns.search.labels.items inv.wide (heap_items c.turns.search.queue) inv.forest v.1 c.in_default.ensures.taken (c.has_all_labels.ensures.0 c.if-has_all_labels.true);
+  overflow = λ start edges test least s d e. absurd (ok_is_no_error _ _ _ refl e);
+  errors = tt;
+}
 
-pub returns-else-has_all_labels-clause-overflow : goal.returns-else-has_all_labels-clause-overflow
-returns-else-has_all_labels-clause-overflow g c = λ start edges test least s d refused.
-    let exact = g.met.C.Integral.exact_law in
-    let inv = c.turns.invariant in
-    let v = inv.searched (graph_of start edges) test least d in
-    led_past g.N.PartialEq.eq g.met.N.Eq.laws g.C.Number.value _ _ _ _ _ _ _ start edges test least _ _ _ _ _ v.0 inv.asked (inv.begins start s) g.C.Number.fits (λ x y z. g.C.Number.between_law x y z exact) (g.met.C.Zero.zero_fits_law exact)
-    c.turns.search.labels.items inv.wide (heap_items c.turns.search.queue) inv.forest v.1 c.in_default.ensures.taken (λ a. true≢false (sym (c.has_all_labels.ensures.1 a) ∙ c.if-has_all_labels.false))
+pub returns-else-has_all_labels : goal.returns-else-has_all_labels
+returns-else-has_all_labels g c = record {
+  best = λ start edges test least s d. tt;
+  overflow = λ start edges test least s d refused.
+      let exact = g.met.C.Integral.exact_law in
+      let inv = c.turns.invariant in
+      let v = inv.searched (graph_of start edges) test least d in
+      led_past g.N.PartialEq.eq g.met.N.Eq.laws g.C.Number.value _ _ _ _ _ _ _ start edges test least _ _ _ _ _ v.0 inv.asked (inv.begins start s) g.C.Number.fits (λ x y z. g.C.Number.between_law x y z exact) (g.met.C.Zero.zero_fits_law exact)
+      c.turns.search.labels.items inv.wide (heap_items c.turns.search.queue) inv.forest v.1 c.in_default.ensures.taken (λ a. true≢false (sym (c.has_all_labels.ensures.1 a) ∙ c.if-has_all_labels.false));
+  errors = inr refl;
+}
 
 pub returns-in_err-begin : goal.returns-in_err-begin
 returns-in_err-begin g c = record {
@@ -172,24 +185,6 @@ returns-in_err-turn g c = record {
   errors = refused_as _ c.from_residual-in_err-turn.result _ c.from_residual-in_err-turn.ensures.1 (inl c.in_err-turn.ensures.refused);
 }
 
-pub returns-else-has_all_labels-clause-best : goal.returns-else-has_all_labels-clause-best
-returns-else-has_all_labels-clause-best g c = λ start edges test least s d. tt
-
-pub returns-else-has_all_labels-clause-errors : goal.returns-else-has_all_labels-clause-errors
-returns-else-has_all_labels-clause-errors g c = inr refl
-
-pub returns-then-has_all_labels-clause-overflow : goal.returns-then-has_all_labels-clause-overflow
-returns-then-has_all_labels-clause-overflow g c = λ start edges test least s d e. absurd (ok_is_no_error _ _ _ refl e)
-
-pub returns-then-has_all_labels-clause-errors : goal.returns-then-has_all_labels-clause-errors
-returns-then-has_all_labels-clause-errors g c = tt
-
-pub returns-then-is_goal-clause-overflow : goal.returns-then-is_goal-clause-overflow
-returns-then-is_goal-clause-overflow g c = λ start edges test least s d e. absurd (ok_is_no_error _ _ _ refl e)
-
-pub returns-then-is_goal-clause-errors : goal.returns-then-is_goal-clause-errors
-returns-then-is_goal-clause-errors g c = tt
-
 pub turn-requires-clause-forest : goal.turn-requires-clause-forest
 turn-requires-clause-forest g c = c.turns.invariant.forest
 
@@ -204,3 +199,30 @@ turn-requires-clause-ordered g c = c.in-Some.ensures.ordered
 
 pub turn-requires-clause-queue : goal.turn-requires-clause-queue
 turn-requires-clause-queue g c = c.in-Some.ensures.queue
+
+pub begin-requires-clause-one : goal.begin-requires-clause-one
+begin-requires-clause-one g c = c.requires.one
+
+pub begin-requires-clause-unlabelled : goal.begin-requires-clause-unlabelled
+begin-requires-clause-unlabelled g c = c.requires.unlabelled
+
+pub begin-requires-clause-unasked : goal.begin-requires-clause-unasked
+begin-requires-clause-unasked g c = c.requires.unasked
+
+pub begin-requires-clause-nothing_waits : goal.begin-requires-clause-nothing_waits
+begin-requires-clause-nothing_waits g c = c.requires.nothing_waits
+
+pub begin-requires-clause-ordered : goal.begin-requires-clause-ordered
+begin-requires-clause-ordered g c = c.requires.ordered
+
+pub begin-requires-clause-graph : goal.begin-requires-clause-graph
+begin-requires-clause-graph g c = c.requires.graph
+
+pub take_least-requires-clause-ordered : goal.take_least-requires-clause-ordered
+take_least-requires-clause-ordered g c = c.turns.invariant.ordered
+
+pub take_least-requires-clause-queue : goal.take_least-requires-clause-queue
+take_least-requires-clause-queue g c = c.turns.invariant.queue
+
+pub turns-smaller : goal.turns-smaller
+turns-smaller g c = less_left _ _ _ _ _ c.in_ok-turn.ensures.less c.in-Some.ensures.fewer

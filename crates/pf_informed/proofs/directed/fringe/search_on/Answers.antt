@@ -22,6 +22,7 @@ use Rattle.pf_informed.proofs.FringeLemmas.{queue_in}
 use Rattle.pf_informed.proofs.GrowingLemmas.{limit_now}
 use Rattle.pf_informed.proofs.LedAnswers.{led_within, led_estimate, led_asked, led_best, led_none, led_past}
 use Rattle.pf_informed.proofs.LedLemmas.{informed_still, led_grown}
+use Rattle.pf_informed.proofs.WiderLemmas.{less_left_too}
 use Rattle.pf_informed.proofs.NodeWalks.{never_above}
 use Rattle.pf_informed.proofs.Outcomes.{refused_as, if_refused, no_overflow, ok_is_no_error}
 use Rattle.pf_informed.proofs.directed.fringe.search_on.Goals as goal
@@ -43,10 +44,10 @@ turns-init g c =
     let labels = c.begin.new.search.labels.items in
     let kept = c.begin.new.search.estimates.items in
     let heap = heap_items c.begin.new.search.queue in
-    let entries = heap ++ listed c.new-lists.result in
-    let alone : heap ≡ entries = sym (ap (λ (es : List (Entry g.row.C.Denot)). heap ++ es) c.new-lists.ensures.listed ∙ append-nil heap) in
+    let entries = heap ++ listed c.args.lists.now in
+    let alone : heap ≡ entries = sym (ap (λ (es : List (Entry g.row.C.Denot)). heap ++ es) c.requires.unlisted ∙ append-nil heap) in
     let asked : length kept ≡ length keys = b.asked ∙ sym one in
-    let estimate : slice_get kept 0 ≡ Some c.new-lists.result.limit = at_place kept 0 c.index.result.now c.new-lists.result.limit (omega (arith, b.asked)) (sym c.index.ensures ∙ sym c.new-lists.ensures.limit) in
+    let estimate : slice_get kept 0 ≡ Some c.index.result.now = at_place kept 0 c.index.result.now c.index.result.now (omega (arith, b.asked)) (sym c.index.ensures) in
     record {
       forest = b.forest;
       ordered = b.ordered;
@@ -63,7 +64,7 @@ turns-init g c =
           let st = StandsFor-same eq laws keys 0 start s0 s e in
           let within = led_within eq laws value _ _ _ _ _ _ _ start edges test least keys _ _ _ kept now asked s in
           let low = never_above eq laws h now.explores.alike test least now.admissible s0 (within 0 s0 st) u z goes good in
-          let is = led_estimate eq laws value _ _ _ _ _ _ _ start edges test least keys _ _ _ kept now asked s 0 s0 c.new-lists.result.limit st estimate in
+          let is = led_estimate eq laws value _ _ _ _ _ _ _ start edges test least keys _ _ _ kept now asked s 0 s0 c.index.result.now st estimate in
           omega (arith, ints, low, is);
     }
 
@@ -87,39 +88,43 @@ nodes_to-requires-clause-labelled g c =
     let t = MatchOption-at_some _ _ c.in-Some.taken c.in-Some.is c.in_ok-taken.ensures.taken in
     (t.label, t.at)
 
-pub returns-then-is_goal-clause-best : goal.returns-then-is_goal-clause-best
-returns-then-is_goal-clause-best g c = λ start edges test least s d.
-    let eq = g.N.PartialEq.eq in
-    let laws = g.met.N.Eq.laws in
-    let value = g.C.Number.value in
-    let fits = g.C.Number.fits in
-    let exact = g.met.C.Integral.exact_law in
-    let inv = c.turns.invariant in
-    let h = graph_of start edges in
-    let v = inv.searched h test least d in
-    let now = v.0 in
-    let told = c.is_goal.ensures.graph (tested h test) (now.explores, now.tested) in
-    let after = told.0.0 in
-    let t = MatchOption-at_some _ _ c.in-Some.taken c.in-Some.is c.in_ok-taken.ensures.taken in
-    let number = c.in-Some.taken.number in
-    let labels = c.turns.search.labels.items in
-    let estimates = c.turns.search.estimates.items in
-    let entries = heap_items c.turns.search.queue ++ listed c.turns.lists in
-    let keys = c.turns.graph.discovery.nodes.keys in
-    let begins = inv.begins start s in
-    let nodes = c.in_ok-nodes.ensures.nodes in
-    let p = no_negative eq laws h now.explores.alike now.costs in
-    let within = led_within eq laws value _ _ _ _ _ _ _ start edges test least keys _ _ _ estimates now inv.asked begins in
-    let estimated = led_estimate eq laws value _ _ _ _ _ _ _ start edges test least keys _ _ _ estimates now inv.asked begins in
-    let here = begins_all eq laws keys number (subst (λ (n : ℕ). number < n) inv.wide (HasLabel-inside labels number t.label t.at)) in
-    let low = limit_now value fits (IsStep eq h) test p estimates (StandsFor eq keys) labels entries inv.forest (length keys) v.1 least (InReach eq edges (start ∷ [])) within now.admissible.from_zero (never_above eq laws h now.explores.alike test least now.admissible) estimated
-    (led_asked eq laws value _ _ _ _ _ _ _ start edges test least keys _ _ _ estimates now inv.asked begins) (λ x y z. g.C.Number.between_law x y z exact) (g.met.C.Zero.zero_fits_law exact) (λ y. eq start y ≡ true) (λ s0 e. StandsFor-same eq laws keys 0 start s0 begins e)
-    c.turns.lists.limit c.take.new.self.limit c.in_ok-taken.ensures.limit (inv.below start edges test least s d) in
-    let above : (s0 : g.row.N.Denot) → eq start s0 ≡ true → (u : List g.row.N.Denot) (z : ℤ) → GoesAlong (IsStep eq h) s0 u z → test (end_of s0 u) ≡ true → value t.label.cost ≤ℤ z = λ s0 e u z goes good.
-    omega (arith, ints, low s0 e u z goes good, t.within, t.same, estimated number here.0 t.estimate here.1 t.estimated, now.admissible.from_zero here.0 (within number here.0 here.1)) in
-    led_best eq laws value _ _ _ _ _ _ _ start edges test least keys _ _ _ estimates now inv.asked begins fits (λ x y z. g.C.Number.between_law x y z exact) (g.met.C.Zero.zero_fits_law exact)
-    labels inv.wide entries inv.forest v.1 number t.label t.at nodes.0 nodes.1 (λ y k. sym (told.1 y k) ∙ c.if-is_goal.true) above
-    c.is_goal.new.self.discovery.nodes.keys c.is_goal.ensures.grows after.distinct c.in_ok-nodes.nodes.items nodes.2 (value c.in-Some.taken.cost) t.same
+pub returns-then-is_goal : goal.returns-then-is_goal
+returns-then-is_goal g c = record {
+  best = λ start edges test least s d.
+      let eq = g.N.PartialEq.eq in
+      let laws = g.met.N.Eq.laws in
+      let value = g.C.Number.value in
+      let fits = g.C.Number.fits in
+      let exact = g.met.C.Integral.exact_law in
+      let inv = c.turns.invariant in
+      let h = graph_of start edges in
+      let v = inv.searched h test least d in
+      let now = v.0 in
+      let told = c.is_goal.ensures.graph (tested h test) (now.explores, now.tested) in
+      let after = told.0.0 in
+      let t = MatchOption-at_some _ _ c.in-Some.taken c.in-Some.is c.in_ok-taken.ensures.taken in
+      let number = c.in-Some.taken.number in
+      let labels = c.turns.search.labels.items in
+      let estimates = c.turns.search.estimates.items in
+      let entries = heap_items c.turns.search.queue ++ listed c.turns.lists in
+      let keys = c.turns.graph.discovery.nodes.keys in
+      let begins = inv.begins start s in
+      let nodes = c.in_ok-nodes.ensures.nodes in
+      let p = no_negative eq laws h now.explores.alike now.costs in
+      let within = led_within eq laws value _ _ _ _ _ _ _ start edges test least keys _ _ _ estimates now inv.asked begins in
+      let estimated = led_estimate eq laws value _ _ _ _ _ _ _ start edges test least keys _ _ _ estimates now inv.asked begins in
+      let here = begins_all eq laws keys number (subst (λ (n : ℕ). number < n) inv.wide (HasLabel-inside labels number t.label t.at)) in
+      let low = limit_now value fits (IsStep eq h) test p estimates (StandsFor eq keys) labels entries inv.forest (length keys) v.1 least (InReach eq edges (start ∷ [])) within now.admissible.from_zero (never_above eq laws h now.explores.alike test least now.admissible) estimated
+      (led_asked eq laws value _ _ _ _ _ _ _ start edges test least keys _ _ _ estimates now inv.asked begins) (λ x y z. g.C.Number.between_law x y z exact) (g.met.C.Zero.zero_fits_law exact) (λ y. eq start y ≡ true) (λ s0 e. StandsFor-same eq laws keys 0 start s0 begins e)
+      c.turns.lists.limit c.take.new.self.limit c.in_ok-taken.ensures.limit (inv.below start edges test least s d) in
+      let above : (s0 : g.row.N.Denot) → eq start s0 ≡ true → (u : List g.row.N.Denot) (z : ℤ) → GoesAlong (IsStep eq h) s0 u z → test (end_of s0 u) ≡ true → value t.label.cost ≤ℤ z = λ s0 e u z goes good.
+      omega (arith, ints, low s0 e u z goes good, t.within, t.same, estimated number here.0 t.estimate here.1 t.estimated, now.admissible.from_zero here.0 (within number here.0 here.1)) in
+      led_best eq laws value _ _ _ _ _ _ _ start edges test least keys _ _ _ estimates now inv.asked begins fits (λ x y z. g.C.Number.between_law x y z exact) (g.met.C.Zero.zero_fits_law exact)
+      labels inv.wide entries inv.forest v.1 number t.label t.at nodes.0 nodes.1 (λ y k. sym (told.1 y k) ∙ c.if-is_goal.true) above
+      c.is_goal.new.self.discovery.nodes.keys c.is_goal.ensures.grows after.distinct c.in_ok-nodes.nodes.items nodes.2 (value c.in-Some.taken.cost) t.same;
+  overflow = λ start edges test least s d e. absurd (ok_is_no_error _ _ _ refl e);
+  errors = tt;
+}
 
 pub turn-requires-clause-labelled : goal.turn-requires-clause-labelled
 turn-requires-clause-labelled g c =
@@ -195,21 +200,29 @@ turns-preserved g c =
           c.turns.lists.limit c.take.new.self.limit c.in_ok-taken.ensures.limit (inv.below start edges test least s d);
     }
 
-pub returns-then-has_all_labels-clause-best : goal.returns-then-has_all_labels-clause-best
-returns-then-has_all_labels-clause-best g c = λ start edges test least s d.
-    let exact = g.met.C.Integral.exact_law in
-    let inv = c.turns.invariant in
-    let v = inv.searched (graph_of start edges) test least d in
-    led_none g.N.PartialEq.eq g.met.N.Eq.laws g.C.Number.value _ _ _ _ _ _ _ start edges test least _ _ _ _ _ v.0 inv.asked (inv.begins start s) g.C.Number.fits (λ x y z. g.C.Number.between_law x y z exact) (g.met.C.Zero.zero_fits_law exact)
-    c.turns.search.labels.items inv.wide (heap_items c.turns.search.queue ++ listed c.turns.lists) inv.forest v.1 (MatchOption-at_none _ _ c.in_default.is c.in_ok-taken.ensures.taken) (c.has_all_labels.ensures.0 c.if-has_all_labels.true)
+pub returns-then-has_all_labels : goal.returns-then-has_all_labels
+returns-then-has_all_labels g c = record {
+  best = λ start edges test least s d.
+      let exact = g.met.C.Integral.exact_law in
+      let inv = c.turns.invariant in
+      let v = inv.searched (graph_of start edges) test least d in
+      led_none g.N.PartialEq.eq g.met.N.Eq.laws g.C.Number.value _ _ _ _ _ _ _ start edges test least _ _ _ _ _ v.0 inv.asked (inv.begins start s) g.C.Number.fits (λ x y z. g.C.Number.between_law x y z exact) (g.met.C.Zero.zero_fits_law exact)
+      c.turns.search.labels.items inv.wide (heap_items c.turns.search.queue ++ listed c.turns.lists) inv.forest v.1 (MatchOption-at_none _ _ c.in_default.is c.in_ok-taken.ensures.taken) (c.has_all_labels.ensures.0 c.if-has_all_labels.true);
+  overflow = λ start edges test least s d e. absurd (ok_is_no_error _ _ _ refl e);
+  errors = tt;
+}
 
-pub returns-clause-overflow : goal.returns-clause-overflow
-returns-clause-overflow g c = λ start edges test least s d refused.
-    let exact = g.met.C.Integral.exact_law in
-    let inv = c.turns.invariant in
-    let v = inv.searched (graph_of start edges) test least d in
-    led_past g.N.PartialEq.eq g.met.N.Eq.laws g.C.Number.value _ _ _ _ _ _ _ start edges test least _ _ _ _ _ v.0 inv.asked (inv.begins start s) g.C.Number.fits (λ x y z. g.C.Number.between_law x y z exact) (g.met.C.Zero.zero_fits_law exact)
-    c.turns.search.labels.items inv.wide (heap_items c.turns.search.queue ++ listed c.turns.lists) inv.forest v.1 (MatchOption-at_none _ _ c.in_default.is c.in_ok-taken.ensures.taken) (λ a. true≢false (sym (c.has_all_labels.ensures.1 a) ∙ c.if-has_all_labels.false))
+pub returns-else-has_all_labels : goal.returns-else-has_all_labels
+returns-else-has_all_labels g c = record {
+  best = λ start edges test least s d. tt;
+  overflow = λ start edges test least s d refused.
+      let exact = g.met.C.Integral.exact_law in
+      let inv = c.turns.invariant in
+      let v = inv.searched (graph_of start edges) test least d in
+      led_past g.N.PartialEq.eq g.met.N.Eq.laws g.C.Number.value _ _ _ _ _ _ _ start edges test least _ _ _ _ _ v.0 inv.asked (inv.begins start s) g.C.Number.fits (λ x y z. g.C.Number.between_law x y z exact) (g.met.C.Zero.zero_fits_law exact)
+      c.turns.search.labels.items inv.wide (heap_items c.turns.search.queue ++ listed c.turns.lists) inv.forest v.1 (MatchOption-at_none _ _ c.in_default.is c.in_ok-taken.ensures.taken) (λ a. true≢false (sym (c.has_all_labels.ensures.1 a) ∙ c.if-has_all_labels.false));
+  errors = inr refl;
+}
 
 pub returns-in_err-begin : goal.returns-in_err-begin
 returns-in_err-begin g c = record {
@@ -239,24 +252,6 @@ returns-in_err-turn g c = record {
   errors = refused_as _ c.from_residual-in_err-turn.result _ c.from_residual-in_err-turn.ensures.1 (inl c.in_err-turn.ensures.refused);
 }
 
-pub returns-clause-best : goal.returns-clause-best
-returns-clause-best g c = λ start edges test least s d. tt
-
-pub returns-clause-errors : goal.returns-clause-errors
-returns-clause-errors g c = inr refl
-
-pub returns-then-has_all_labels-clause-overflow : goal.returns-then-has_all_labels-clause-overflow
-returns-then-has_all_labels-clause-overflow g c = λ start edges test least s d e. absurd (ok_is_no_error _ _ _ refl e)
-
-pub returns-then-has_all_labels-clause-errors : goal.returns-then-has_all_labels-clause-errors
-returns-then-has_all_labels-clause-errors g c = tt
-
-pub returns-then-is_goal-clause-overflow : goal.returns-then-is_goal-clause-overflow
-returns-then-is_goal-clause-overflow g c = λ start edges test least s d e. absurd (ok_is_no_error _ _ _ refl e)
-
-pub returns-then-is_goal-clause-errors : goal.returns-then-is_goal-clause-errors
-returns-then-is_goal-clause-errors g c = tt
-
 pub turn-requires-clause-forest : goal.turn-requires-clause-forest
 turn-requires-clause-forest g c = c.turns.invariant.forest
 
@@ -274,3 +269,24 @@ nodes_to-requires-clause-forest g c = c.turns.invariant.forest
 
 pub turn-requires-clause-ordered : goal.turn-requires-clause-ordered
 turn-requires-clause-ordered g c = c.in_ok-taken.ensures.ordered
+
+pub begin-requires-clause-one : goal.begin-requires-clause-one
+begin-requires-clause-one g c = c.requires.one
+
+pub begin-requires-clause-unlabelled : goal.begin-requires-clause-unlabelled
+begin-requires-clause-unlabelled g c = c.requires.unlabelled
+
+pub begin-requires-clause-unasked : goal.begin-requires-clause-unasked
+begin-requires-clause-unasked g c = c.requires.unasked
+
+pub begin-requires-clause-nothing_waits : goal.begin-requires-clause-nothing_waits
+begin-requires-clause-nothing_waits g c = c.requires.nothing_waits
+
+pub begin-requires-clause-ordered : goal.begin-requires-clause-ordered
+begin-requires-clause-ordered g c = c.requires.ordered
+
+pub begin-requires-clause-graph : goal.begin-requires-clause-graph
+begin-requires-clause-graph g c = c.requires.graph
+
+pub turns-smaller : goal.turns-smaller
+turns-smaller g c = less_left_too _ _ _ _ _ _ c.in_ok-turn.ensures.less (MatchOption-at_some _ _ c.in-Some.taken c.in-Some.is c.in_ok-taken.ensures.fewer)

@@ -1,191 +1,23 @@
-use Rattle.std.proofs.Common.{◌≡◌, ◌∙◌, [], ◌∷◌, List, ℕ, ℤ, Bool, true, length, sym, subst, arith, inl, slice_get, Option, Some, None, refl, inr}
-use Rattle.std.proofs.lemmas.Int.{ints}
-use Rattle.pf_base.specs.Edges.{InReach}
-use Rattle.pf_core.specs.Nodes.{NodeGraph, StandsFor}
-use Rattle.pf_core.specs.NodeLaws.{StandsFor-one}
-use Rattle.pf_core.proofs.ListLemmas.{at_place}
-use Rattle.pf_core.proofs.NodeLemmas.{StandsFor-same, InReach-same}
-use Rattle.pf_core.proofs.WalkLemmas.{all_starts, only_starts, no_negative, no_walk, best_answer}
-use Rattle.pf_informed.specs.Internal.Rows.{IsTable}
-use Rattle.pf_informed.specs.Internal.Deepening.{IsCutOff}
-use Rattle.pf_informed.proofs.LimitLemmas.{limit_rises, covered_walk, next_limit, none_cut, none_fits, best_way, past_way}
-use Rattle.pf_informed.proofs.NodeWalks.{estimate_is, never_above, no_walk_fits}
-use Rattle.pf_informed.proofs.Outcomes.{refused_as, if_refused, no_overflow, ok_is_no_error}
+use Rattle.std.proofs.Common.{inl}
+use Rattle.pf_informed.proofs.Outcomes.{refused_as, if_refused, no_overflow}
 use Rattle.pf_informed.proofs.directed.idastar.idastar.Goals as goal
 
-abbrev graph_of : {N : Type 0} → N → (N → List (N × ℤ)) → NodeGraph N
-graph_of start edges = record { starts = start ∷ []; edges = edges }
-
-pub limits-init : goal.limits-init
-limits-init g c =
-    let eq = g.N.PartialEq.eq in
-    let laws = g.met.N.Eq.laws in
-    let value = g.C.Number.value in
-    let start = c.args.start.now in
-    let known = c.in_ok-known.known in
-    let keys = known.graph.discovery.nodes.keys in
-    let n = c.in_ok-known.ensures in
-    let asked : length known.estimates.items ≡ length keys = n.estimated ∙ sym n.one in
-    record {
-      begins = n.begins;
-      asked = asked;
-      table = subst (λ (m : ℕ). IsTable m known.rows.steps.items known.rows.spans.items) (sym n.one) n.table;
-      searched = λ edges test least s.
-          let h = graph_of start edges in
-          let k = n.graph edges test least s in
-          let x = c.index-limit.result.now in
-          let at : slice_get known.estimates.items 0 ≡ Some x = at_place known.estimates.items 0 x x (omega (arith, n.estimated)) (sym c.index-limit.ensures) in
-          let is = estimate_is eq laws h k.explores.alike value least k.asked.alike keys k.explores.reached known.estimates.items k.estimated asked 0 start x n.begins at in
-          let reach : (y : g.row.N.Denot) → StandsFor eq keys 0 y → InReach eq edges (start ∷ []) y = λ y t. InReach-same eq laws edges (start ∷ []) t.0 y (k.explores.reached 0 t.0 t.1) t.2 in (
-            k,
-            omega (arith, ints, is),
-            λ s0 e w u goes good.
-                let low = never_above eq laws h k.explores.alike test least k.admissible s0 (reach s0 (StandsFor-same eq laws keys 0 start s0 n.begins e)) w u goes good in
-                let same = k.asked.alike start s0 (reach start n.begins) e in
-                omega (arith, ints, is, low, same),
-          );
-    }
-
-pub nodes_at-requires-clause-inside : goal.nodes_at-requires-clause-inside
-nodes_at-requires-clause-inside g c = λ k m. (rw c.in-Found.is at c.in_ok-numbers.ensures.inside) k (rw c.deref.ensures.value at m)
-
-pub returns-in-Found-clause-best : goal.returns-in-Found-clause-best
-returns-in-Found-clause-best g c = λ edges test least s.
-    let eq = g.N.PartialEq.eq in
-    let laws = g.met.N.Eq.laws in
-    let value = g.C.Number.value in
-    let exact = g.met.C.Integral.exact_law in
-    let start = c.args.start.now in
-    let w = s.weighted in
-    let alike = w.edges_answered.alike in
-    let same_test = w.test_answered.alike in
-    let h = graph_of start edges in
-    let p = no_negative eq laws h alike w.costs in
-    let inv = c.limits.invariant in
-    let v = inv.searched edges test least s in
-    let keys = c.look_through.new.known.graph.discovery.nodes.keys in
-    let told = rw c.in-Found.is at (c.in_ok-numbers.ensures.graph h test least start v.0 inv.begins v.1) in
-    let k = told.0 in
-    let best = best_way eq laws value g.C.Number.fits (λ a b d. g.C.Number.between_law a b d exact) (g.met.C.Zero.zero_fits_law exact) h alike test same_test p keys start c.in-Found.numbers.items (value c.in-Found.cost) (value c.limits.limit) told.1.0 told.1.1 v.2 in
-    best_answer eq laws h alike (λ y. eq start y ≡ true) (all_starts eq start (λ y. eq start y ≡ true) (λ y. ((λ e. e), (λ e. e)))) (only_starts eq start (λ y. eq start y ≡ true) (λ y. ((λ e. e), (λ e. e)))) test same_test
-    keys (StandsFor-one eq laws keys k.explores.distinct) c.in-Found.numbers.items c.in_ok-nodes_at-in-Found.field-0.items (value c.in-Found.cost) best (rw c.deref.ensures.value at c.in_ok-nodes_at-in-Found.ensures.nodes)
-
-pub limits-smaller : goal.limits-smaller
-limits-smaller g c =
-    let value = g.C.Number.value in
-    let eq = g.N.PartialEq.eq in
-    let laws = g.met.N.Eq.laws in
-    let start = c.args.start.now in
+pub search_on-requires-clause-graph : goal.search_on-requires-clause-graph
+search_on-requires-clause-graph g c =
     let r = c.requires.graph in
-    let inv = c.limits.invariant in
-    let v = inv.searched r.0 r.1 r.2 r.3 in
-    let k = v.0 in
-    let b = inv.begins in
-    let from = k.admissible.from_zero start (InReach-same eq laws r.0 (start ∷ []) b.0 start (k.explores.reached 0 b.0 b.1) b.2) in
-    let above = (rw c.in-Missed.is at c.in_ok-numbers.ensures.above) c.in-Some.least c.in-Some.is in
-    let fit = (g.met.C.Cost.range_law (value c.in-Some.least)).0 c.known.ensures in
-    limit_rises (value c.limits.limit) (value c.in-Some.least) (value g.C.Cost.greatest) (omega (arith, ints, from, v.1)) above fit.1
+    let n = c.in_ok-known.ensures in
+    (c.args.start.now, r.0, r.1, r.2, n.begins, n.graph r.0 r.1 r.2 r.3)
 
-pub limits-preserved : goal.limits-preserved
-limits-preserved g c =
-    let eq = g.N.PartialEq.eq in
-    let laws = g.met.N.Eq.laws in
-    let value = g.C.Number.value in
-    let fits = g.C.Number.fits in
-    let exact = g.met.C.Integral.exact_law in
-    let start = c.args.start.now in
-    let inv = c.limits.invariant in
-    let before = c.limits.known.graph.discovery.nodes.keys in
-    let keys = c.look_through.new.known.graph.discovery.nodes.keys in
-    let n = c.in-Some.least in
-    let grows = c.in_ok-numbers.ensures.grows in
-    let above = (rw c.in-Missed.is at c.in_ok-numbers.ensures.above) n c.in-Some.is in
-    record {
-      begins = grows.stays 0 start inv.begins;
-      asked = c.in_ok-numbers.ensures.estimated;
-      table = c.in_ok-numbers.ensures.table;
-      searched = λ edges test least s.
-          let w = s.weighted in
-          let alike = w.edges_answered.alike in
-          let same_test = w.test_answered.alike in
-          let h = graph_of start edges in
-          let p = no_negative eq laws h alike w.costs in
-          let v = inv.searched edges test least s in
-          let k = v.0 in
-          let told = rw c.in-Missed.is at (c.in_ok-numbers.ensures.graph h test least start v.0 inv.begins v.1) in
-          let reach : (y : g.row.N.Denot) → StandsFor eq before 0 y → InReach eq edges (start ∷ []) y = λ y t. InReach-same eq laws edges (start ∷ []) t.0 y (k.explores.reached 0 t.0 t.1) t.2 in (
-            told.0,
-            omega (arith, ints, v.1, above),
-            λ s0 e ws u goes good.
-                let here = StandsFor-same eq laws before 0 start s0 inv.begins e in
-                let same = k.asked.alike start s0 (reach start inv.begins) e in
-                let seen = rw c.in-Missed.is at (c.in_ok-numbers.ensures.graph h test least s0 v.0 here (omega (arith, ints, v.1, same))) in
-                let q = covered_walk eq laws value fits (λ a b d. g.C.Number.between_law a b d exact) (g.met.C.Zero.zero_fits_law exact) h alike test same_test p keys (IsCutOff value fits c.in-Missed.least c.in-Missed.past) s0 (grows.stays 0 s0 here) (reach s0 here) seen.1.0 ws u goes good in
-                let cut = subst (λ (o : Option g.row.C.Denot). IsCutOff value fits o c.in-Missed.past q.0) c.in-Some.is q.3 in
-                next_limit eq laws value fits (λ a b d. g.C.Number.between_law a b d exact) (g.met.C.Zero.zero_fits_law exact) h alike test same_test p n c.in-Missed.past q.0 u c.known.ensures q.1 q.2 cut,
-          );
-    }
-
-pub returns-then-past-clause-overflow : goal.returns-then-past-clause-overflow
-returns-then-past-clause-overflow g c = λ edges test least s refused.
-    let eq = g.N.PartialEq.eq in
-    let laws = g.met.N.Eq.laws in
-    let value = g.C.Number.value in
-    let fits = g.C.Number.fits in
-    let exact = g.met.C.Integral.exact_law in
-    let start = c.args.start.now in
-    let inv = c.limits.invariant in
-    let before = c.limits.known.graph.discovery.nodes.keys in
-    let keys = c.look_through.new.known.graph.discovery.nodes.keys in
-    let grows = c.in_ok-numbers.ensures.grows in
-    let w = s.weighted in
-    let alike = w.edges_answered.alike in
-    let same_test = w.test_answered.alike in
-    let h = graph_of start edges in
-    let p = no_negative eq laws h alike w.costs in
-    let v = inv.searched edges test least s in
-    let k = v.0 in
-    let told = rw c.in-Missed.is at (c.in_ok-numbers.ensures.graph h test least start v.0 inv.begins v.1) in
-    let reach : (y : g.row.N.Denot) → StandsFor eq before 0 y → InReach eq edges (start ∷ []) y = λ y t. InReach-same eq laws edges (start ∷ []) t.0 y (k.explores.reached 0 t.0 t.1) t.2 in (
-      past_way eq laws value fits (λ a b d. g.C.Number.between_law a b d exact) (g.met.C.Zero.zero_fits_law exact) h alike test same_test p least start (inl (laws.refl start)) (told.1.1 c.if-past.true),
-      no_walk_fits eq laws h alike test fits (λ s0 i ws u goes good.
-          let e = all_starts eq start (λ y. eq start y ≡ true) (λ y. ((λ q. q), (λ q. q))) s0 i in
-          let here = StandsFor-same eq laws before 0 start s0 inv.begins e in
-          let same = k.asked.alike start s0 (reach start inv.begins) e in
-          let seen = rw c.in-Missed.is at (c.in_ok-numbers.ensures.graph h test least s0 v.0 here (omega (arith, ints, v.1, same))) in
-          let q = covered_walk eq laws value fits (λ a b d. g.C.Number.between_law a b d exact) (g.met.C.Zero.zero_fits_law exact) h alike test same_test p keys (IsCutOff value fits c.in-Missed.least c.in-Missed.past) s0 (grows.stays 0 s0 here) (reach s0 here) seen.1.0 ws u goes good in
-          let cut = subst (λ (o : Option g.row.C.Denot). IsCutOff value fits o c.in-Missed.past q.0) c.in_default.is q.3 in
-          none_fits eq laws value fits (λ a b d. g.C.Number.between_law a b d exact) (g.met.C.Zero.zero_fits_law exact) h alike test same_test p c.in-Missed.past q.0 u q.1 q.2 cut),
-    )
-
-pub returns-in_default-clause-best : goal.returns-in_default-clause-best
-returns-in_default-clause-best g c = λ edges test least s.
-    let eq = g.N.PartialEq.eq in
-    let laws = g.met.N.Eq.laws in
-    let value = g.C.Number.value in
-    let fits = g.C.Number.fits in
-    let exact = g.met.C.Integral.exact_law in
-    let start = c.args.start.now in
-    let inv = c.limits.invariant in
-    let before = c.limits.known.graph.discovery.nodes.keys in
-    let keys = c.look_through.new.known.graph.discovery.nodes.keys in
-    let grows = c.in_ok-numbers.ensures.grows in
-    let w = s.weighted in
-    let alike = w.edges_answered.alike in
-    let same_test = w.test_answered.alike in
-    let h = graph_of start edges in
-    let p = no_negative eq laws h alike w.costs in
-    let v = inv.searched edges test least s in
-    let k = v.0 in
-    let reach : (y : g.row.N.Denot) → StandsFor eq before 0 y → InReach eq edges (start ∷ []) y = λ y t. InReach-same eq laws edges (start ∷ []) t.0 y (k.explores.reached 0 t.0 t.1) t.2 in
-    no_walk eq laws h alike (λ y. eq start y ≡ true) (all_starts eq start (λ y. eq start y ≡ true) (λ y. ((λ e. e), (λ e. e)))) (only_starts eq start (λ y. eq start y ≡ true) (λ y. ((λ e. e), (λ e. e)))) test
-    (λ s0 e ws u goes good.
-    let here = StandsFor-same eq laws before 0 start s0 inv.begins e in
-    let same = k.asked.alike start s0 (reach start inv.begins) e in
-    let seen = rw c.in-Missed.is at (c.in_ok-numbers.ensures.graph h test least s0 v.0 here (omega (arith, ints, v.1, same))) in
-    let q = covered_walk eq laws value fits (λ a b d. g.C.Number.between_law a b d exact) (g.met.C.Zero.zero_fits_law exact) h alike test same_test p keys (IsCutOff value fits c.in-Missed.least c.in-Missed.past) s0 (grows.stays 0 s0 here) (reach s0 here) seen.1.0 ws u goes good in
-    let cut = subst (λ (o : Option g.row.C.Denot). IsCutOff value fits o c.in-Missed.past q.0) c.in_default.is q.3 in
-    none_cut eq laws value fits (λ a b d. g.C.Number.between_law a b d exact) (g.met.C.Zero.zero_fits_law exact) h alike test same_test p q.0 (subst (λ (b : Bool). IsCutOff value fits None b q.0) c.if-past.false cut))
+pub returns : goal.returns
+returns g c = record {
+  best = λ edges test least s.
+      let n = c.in_ok-known.ensures in
+      c.search_on.ensures.best c.args.start.now edges test least n.begins (n.graph edges test least s);
+  overflow = λ edges test least s.
+      let n = c.in_ok-known.ensures in
+      c.search_on.ensures.overflow c.args.start.now edges test least n.begins (n.graph edges test least s);
+  errors = c.search_on.ensures.errors;
+}
 
 pub returns-in_err-known : goal.returns-in_err-known
 returns-in_err-known g c = record {
@@ -193,48 +25,3 @@ returns-in_err-known g c = record {
   overflow = λ edges test least s e. absurd (no_overflow c.from_residual.result _ c.from_residual.ensures.1 c.in_err-known.ensures.refused e);
   errors = refused_as _ c.from_residual.result _ c.from_residual.ensures.1 (inl c.in_err-known.ensures.refused);
 }
-
-pub returns-in_err-numbers : goal.returns-in_err-numbers
-returns-in_err-numbers g c = record {
-  best = λ edges test least s. if_refused _ c.from_residual-in_err-numbers.result _ c.from_residual-in_err-numbers.ensures.1;
-  overflow = λ edges test least s e. absurd (no_overflow c.from_residual-in_err-numbers.result _ c.from_residual-in_err-numbers.ensures.1 c.in_err-numbers.ensures.refused e);
-  errors = refused_as _ c.from_residual-in_err-numbers.result _ c.from_residual-in_err-numbers.ensures.1 (inl c.in_err-numbers.ensures.refused);
-}
-
-pub returns-in_err-nodes_at-in-Found : goal.returns-in_err-nodes_at-in-Found
-returns-in_err-nodes_at-in-Found g c = record {
-  best = λ edges test least s. if_refused _ c.from_residual-in_err-nodes_at-in-Found.result _ c.from_residual-in_err-nodes_at-in-Found.ensures.1;
-  overflow = λ edges test least s e. absurd (no_overflow c.from_residual-in_err-nodes_at-in-Found.result _ c.from_residual-in_err-nodes_at-in-Found.ensures.1 c.in_err-nodes_at-in-Found.ensures.refused e);
-  errors = refused_as _ c.from_residual-in_err-nodes_at-in-Found.result _ c.from_residual-in_err-nodes_at-in-Found.ensures.1 (inl c.in_err-nodes_at-in-Found.ensures.refused);
-}
-
-pub returns-in-Found-clause-overflow : goal.returns-in-Found-clause-overflow
-returns-in-Found-clause-overflow g c = λ edges test least s e. absurd (ok_is_no_error _ _ _ refl e)
-
-pub returns-in-Found-clause-errors : goal.returns-in-Found-clause-errors
-returns-in-Found-clause-errors g c = tt
-
-pub returns-then-past-clause-best : goal.returns-then-past-clause-best
-returns-then-past-clause-best g c = λ edges test least s. tt
-
-pub returns-then-past-clause-errors : goal.returns-then-past-clause-errors
-returns-then-past-clause-errors g c = inr refl
-
-pub returns-in_default-clause-overflow : goal.returns-in_default-clause-overflow
-returns-in_default-clause-overflow g c = λ edges test least s e. absurd (ok_is_no_error _ _ _ refl e)
-
-pub returns-in_default-clause-errors : goal.returns-in_default-clause-errors
-returns-in_default-clause-errors g c = tt
-
-pub look_through-requires-clause-estimated : goal.look_through-requires-clause-estimated
-look_through-requires-clause-estimated g c = c.limits.invariant.asked
-
-pub look_through-requires-clause-table : goal.look_through-requires-clause-table
-look_through-requires-clause-table g c = c.limits.invariant.table
-
-pub look_through-requires-clause-graph : goal.look_through-requires-clause-graph
-look_through-requires-clause-graph g c =
-    let r = c.requires.graph in
-    let inv = c.limits.invariant in
-    let v = inv.searched r.0 r.1 r.2 r.3 in
-    (graph_of c.args.start.now r.0, r.1, r.2, c.args.start.now, v.0, inv.begins, v.1)

@@ -91,3 +91,9 @@ returns-in-Some-clause-refused g c = tt
 
 pub returns-clause-refused : goal.returns-clause-refused
 returns-clause-refused g c = c.raise_limit.ensures.refused
+
+pub returns-in-Some-clause-queue : goal.returns-in-Some-clause-queue
+returns-in-Some-clause-queue g c = rw c.in_ok-take_in.ensures.emptied c.in_ok-taken.ensures.queue
+
+pub returns-in-Some-clause-limit : goal.returns-in-Some-clause-limit
+returns-in-Some-clause-limit g c = inl (c.in_ok-taken.ensures.limit ∙ c.in_ok-take_in.ensures.limit)

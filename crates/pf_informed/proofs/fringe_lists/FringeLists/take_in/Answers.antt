@@ -48,3 +48,27 @@ returns-in_err-push g c = record {
   count = on_refused _ c.from_residual.result _ c.from_residual.ensures.1;
   refused = refused_as _ c.from_residual.result _ c.from_residual.ensures.1 refl;
 }
+
+pub entries-init : goal.entries-init
+entries-init g c = record { ordered = c.requires.ordered; same = λ e. ((λ h. h), (λ h. h)); later = refl; limit = refl; count = refl }
+
+pub entries-smaller : goal.entries-smaller
+entries-smaller g c = omega (arith, c.in-Some.ensures.first.1)
+
+pub take_first-requires : goal.take_first-requires
+take_first-requires g c = c.entries.invariant.ordered
+
+pub returns-clause-ordered : goal.returns-clause-ordered
+returns-clause-ordered g c = c.in_default.ensures.ordered
+
+pub returns-clause-emptied : goal.returns-clause-emptied
+returns-clause-emptied g c = c.in_default.ensures.first.1
+
+pub returns-clause-later : goal.returns-clause-later
+returns-clause-later g c = c.entries.invariant.later
+
+pub returns-clause-limit : goal.returns-clause-limit
+returns-clause-limit g c = c.entries.invariant.limit
+
+pub returns-clause-refused : goal.returns-clause-refused
+returns-clause-refused g c = tt

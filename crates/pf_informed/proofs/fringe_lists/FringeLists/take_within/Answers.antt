@@ -34,14 +34,17 @@ entries-preserved g c =
       fewer = omega (arith, i.fewer, n.fewer, ap length pushed, length-append current' c.push.new.self.items, length-append later (e ∷ []), length-append current later);
     }
 
-pub returns-else-is_less-clause-queue : goal.returns-else-is_less-clause-queue
-returns-else-is_less-clause-queue g c = queue_rest g.C.Number.value c.args.labels.now.items c.in-Some.entry c.entries.self.current.items c.take_last.new.entries.items c.entries.self.later.items c.in-Some.ensures.taken c.args.estimates.now.items c.entries.invariant.queue
-
-pub returns-else-is_less-clause-taken : goal.returns-else-is_less-clause-taken
-returns-else-is_less-clause-taken g c =
-    let value = g.C.Number.value in
-    let low : value c.in-Some.entry.0.0 ≤ℤ value c.entries.self.limit = omega (arith, ints, c.if-is_less.ensures, ap value c.sum_of.ensures) in
-    taken_within value c.args.labels.now.items c.in-Some.entry c.entries.self.current.items c.take_last.new.entries.items c.entries.self.later.items c.in-Some.ensures.taken c.args.estimates.now.items c.entries.self.limit (listed c.args.self.now) c.entries.invariant.queue c.entries.invariant.waits low
+pub returns-else-is_less : goal.returns-else-is_less
+returns-else-is_less g c = record {
+  limit = c.entries.invariant.limit;
+  queue = queue_rest g.C.Number.value c.args.labels.now.items c.in-Some.entry c.entries.self.current.items c.take_last.new.entries.items c.entries.self.later.items c.in-Some.ensures.taken c.args.estimates.now.items c.entries.invariant.queue;
+  taken =
+      let value = g.C.Number.value in
+      let low : value c.in-Some.entry.0.0 ≤ℤ value c.entries.self.limit = omega (arith, ints, c.if-is_less.ensures, ap value c.sum_of.ensures) in
+      taken_within value c.args.labels.now.items c.in-Some.entry c.entries.self.current.items c.take_last.new.entries.items c.entries.self.later.items c.in-Some.ensures.taken c.args.estimates.now.items c.entries.self.limit (listed c.args.self.now) c.entries.invariant.queue c.entries.invariant.waits low;
+  fewer = omega (arith, c.entries.invariant.fewer, c.in-Some.ensures.fewer, length-append c.entries.self.current.items c.entries.self.later.items, length-append c.take_last.new.entries.items c.entries.self.later.items);
+  refused = tt;
+}
 
 pub returns-clause-queue : goal.returns-clause-queue
 returns-clause-queue g c = queue_in g.C.Number.value c.args.labels.now.items c.args.estimates.now.items (listed c.entries.self) _ c.entries.invariant.queue (none_more g.C.Number.value c.args.labels.now.items c.entries.self.current.items c.take_last.new.entries.items c.entries.self.later.items c.in_default.ensures.taken.0)
@@ -57,3 +60,15 @@ returns-in_err-push g c = record {
   fewer = if_refused _ c.from_residual.result _ c.from_residual.ensures.1;
   refused = refused_as _ c.from_residual.result _ c.from_residual.ensures.1 refl;
 }
+
+pub entries-init : goal.entries-init
+entries-init g c = record { limit = refl; queue = c.requires.queue; waits = λ k l h w. w; fewer = omega arith }
+
+pub entries-smaller : goal.entries-smaller
+entries-smaller g c = omega (arith, c.in-Some.ensures.fewer)
+
+pub returns-clause-limit : goal.returns-clause-limit
+returns-clause-limit g c = c.entries.invariant.limit
+
+pub returns-clause-refused : goal.returns-clause-refused
+returns-clause-refused g c = tt

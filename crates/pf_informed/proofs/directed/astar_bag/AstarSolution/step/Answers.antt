@@ -38,3 +38,15 @@ returns-clause-turn g c =
       ap (paths_of keys) (sym f.left ∙ s.3),
       rw c.reverse.ensures.items (way_nodes g.N.PartialEq.eq g.met.N.Eq.laws keys way c.in_ok-path.path.items inside (rw (c.as_slice.ensures.keys, c.deref.ensures.value) at c.in_ok-path.ensures.nodes)),
     )
+
+pub find-requires : goal.find-requires
+find-requires g c = c.self.invariant.0
+
+pub invariant_of-self : goal.invariant_of-self
+invariant_of-self g c = let f = c.in_err-find.ensures in (rw f.before f.kept, omega (arith, ap length f.before, c.self.invariant.1))
+
+pub invariant_of-self-then-not-branch : goal.invariant_of-self-then-not-branch
+invariant_of-self-then-not-branch g c = let f = c.in_ok-find.ensures in (rw f.before f.kept, omega (arith, ap length f.before, c.self.invariant.1))
+
+pub invariant_of-self-in_err-path : goal.invariant_of-self-in_err-path
+invariant_of-self-in_err-path g c = let f = c.in_ok-find.ensures in (rw f.before f.kept, omega (arith, ap length f.before, c.self.invariant.1))

@@ -1,5 +1,5 @@
 use Rattle.std.proofs.Common.{◌≡◌, ◌<◌, ◌+◌, ◌-◌, [], ◌∷◌, ◌++◌, List, ℕ, true, true≢false, length, ap, ◌∙◌, sym, subst, slice_get, arith, inl, inr, Some}
-use Rattle.std.specs.Prelude.{◌⊎◌, ◌↔◌, ◌+ℤ◌, Contains, reverse}
+use Rattle.std.specs.Prelude.{◌⊎◌, ◌↔◌, ◌+ℤ◌, ◌<ℤ◌, Contains, reverse}
 use Rattle.std.proofs.lemmas.Int.{ints}
 use Rattle.std.proofs.lemmas.List.{length-reverse}
 use Rattle.pf_core.specs.NodeLaws.{StandsFor-one}
@@ -14,24 +14,29 @@ use Rattle.pf_informed.proofs.WayLemmas.{cheap_positive, marked_on, numbers_up, 
 use Rattle.pf_informed.proofs.Outcomes.{refused_as, on_refused, if_refused, Grows-refl}
 use Rattle.pf_informed.proofs.directed.idastar.round.go_on.Goals as goal
 
-pub returns-then-is_marked-clause-less : goal.returns-then-is_marked-clause-less
-returns-then-is_marked-clause-less g c = advanced_less 18446744073709551616 18446744073709551616 (omega arith) c.args.way.now.frame (reverse c.args.way.now.trail.items) c.requires.left
-
-pub returns-then-is_marked-clause-graph : goal.returns-then-is_marked-clause-graph
-returns-then-is_marked-clause-graph g c = λ h test least first k w.
-    let eq = g.N.PartialEq.eq in
-    let laws = g.met.N.Eq.laws in
-    let value = g.C.Number.value in
-    let fits = g.C.Number.fits in
-    let known = c.args.known.now in
-    let way = c.args.way.now in
-    let keys = known.graph.discovery.nodes.keys in
-    let steps = known.rows.steps.items in
-    let step = c.index-step.result.now in
-    let ends = frame_ends eq laws value fits h test least first keys steps known.rows.spans.items k.rows (length keys) c.requires.table way.frame (reverse way.trail.items) way.cut_off.least way.cut_off.past w in
-    let at : slice_get steps way.frame.at ≡ Some step = at_place steps way.frame.at step step (omega (arith, c.requires.left, ends.1)) (sym c.index-step.ensures) in
-    let on : Contains (numbers_of (way.frame ∷ reverse way.trail.items)) step.0 = (c.requires.marked.marked step.0).0 (c.is_marked.ensures.0 c.if-is_marked.true) in
-    (k, skipped eq laws value fits h test least first keys steps known.rows.spans.items k.rows way.frame (reverse way.trail.items) way.cut_off.least way.cut_off.past w c.requires.left step.0 step.1 at on)
+pub returns-then-is_marked : goal.returns-then-is_marked
+returns-then-is_marked g c = record {
+  estimated = c.requires.estimated;
+  table = c.requires.table;
+  grows = Grows-refl _ _;
+  marked = record { marked = c.requires.marked.marked; inside = c.requires.marked.inside; above = c.requires.marked.above };
+  less = advanced_less 18446744073709551616 18446744073709551616 (omega arith) c.args.way.now.frame (reverse c.args.way.now.trail.items) c.requires.left;
+  graph = λ h test least first k w.
+      let eq = g.N.PartialEq.eq in
+      let laws = g.met.N.Eq.laws in
+      let value = g.C.Number.value in
+      let fits = g.C.Number.fits in
+      let known = c.args.known.now in
+      let way = c.args.way.now in
+      let keys = known.graph.discovery.nodes.keys in
+      let steps = known.rows.steps.items in
+      let step = c.index-step.result.now in
+      let ends = frame_ends eq laws value fits h test least first keys steps known.rows.spans.items k.rows (length keys) c.requires.table way.frame (reverse way.trail.items) way.cut_off.least way.cut_off.past w in
+      let at : slice_get steps way.frame.at ≡ Some step = at_place steps way.frame.at step step (omega (arith, c.requires.left, ends.1)) (sym c.index-step.ensures) in
+      let on : Contains (numbers_of (way.frame ∷ reverse way.trail.items)) step.0 = (c.requires.marked.marked step.0).0 (c.is_marked.ensures.0 c.if-is_marked.true) in
+      (k, skipped eq laws value fits h test least first keys steps known.rows.spans.items k.rows way.frame (reverse way.trail.items) way.cut_off.least way.cut_off.past w c.requires.left step.0 step.1 at on);
+  refused = tt;
+}
 
 pub admit-requires-clause-inside : goal.admit-requires-clause-inside
 admit-requires-clause-inside g c =
@@ -106,37 +111,46 @@ admit-requires-clause-estimate g c = λ e found.
     let low = k.admissible.from_zero x.0 (InReach-same eq laws h.edges h.starts x.1.0 x.0 (k.explores.reached step.0 x.1.0 x.1.1) x.1.2) in
     omega (arith, ints, is, low)
 
-pub returns-in_default-clause-less : goal.returns-in_default-clause-less
-returns-in_default-clause-less g c = advanced_less 18446744073709551616 18446744073709551616 (omega arith) c.args.way.now.frame (reverse c.args.way.now.trail.items) c.requires.left
-
-pub returns-in_default-clause-graph : goal.returns-in_default-clause-graph
-returns-in_default-clause-graph g c = λ h test least first k w.
-    let eq = g.N.PartialEq.eq in
-    let laws = g.met.N.Eq.laws in
-    let value = g.C.Number.value in
-    let fits = g.C.Number.fits in
-    let known = c.args.known.now in
-    let way = c.args.way.now in
-    let keys = known.graph.discovery.nodes.keys in
-    let steps = known.rows.steps.items in
-    let step = c.index-step.result.now in
-    let fs = reverse way.trail.items in
-    let ends = frame_ends eq laws value fits h test least first keys steps known.rows.spans.items k.rows (length keys) c.requires.table way.frame fs way.cut_off.least way.cut_off.past w in
-    let at : slice_get steps way.frame.at ≡ Some step = at_place steps way.frame.at step step (omega (arith, c.requires.left, ends.1)) (sym c.index-step.ensures) in
-    let fresh : ¬ (Contains (numbers_of (way.frame ∷ fs)) step.0) = λ m. true≢false (sym (c.is_marked.ensures.1 ((c.requires.marked.marked step.0).1 m)) ∙ c.if-is_marked.false) in
-    let e = estimate_at known.estimates.items step.0 (omega (arith, c.requires.table.inside way.frame.at step.0 step.1 at, c.requires.estimated)) in
-    let there : slice_get c.deref.result.now step.0 ≡ Some e.0 = subst (λ (es : List g.row.C.Denot). slice_get es step.0 ≡ Some e.0) (sym c.deref.ensures.value) e.1 in (
-      k,
-      cut_there eq laws value fits h test least first keys steps known.rows.spans.items k.rows k.explores.alike k.admissible (cheap_positive eq h k.costs)
-          (λ i x s. InReach-same eq laws h.edges h.starts s.0 x (k.explores.reached i s.0 s.1) s.2) (StandsFor-one eq laws keys k.explores.distinct) way.frame fs way.cut_off.least way.cut_off.past w c.requires.left step.0 step.1 at
-          (λ i m. begins_all eq laws keys i (c.requires.marked.inside i m)) fresh e.0
-          (λ x s. estimate_is eq laws h k.explores.alike value least k.asked.alike keys k.explores.reached known.estimates.items k.estimated c.requires.estimated step.0 x e.0 s e.1)
-          c.admit.new.cut_off.least c.admit.new.cut_off.past c.in_default.ensures.kept (c.in_default.ensures.entered e.0 there)
-          (λ q. elim (c.in_default.ensures.past q) as (λ _. (way.cut_off.past ≡ true) ⊎ (¬ (fits (value way.frame.cost +ℤ value step.1 +ℤ value e.0)))) [
-            | inl o ↦ inl o
-            | inr n ↦ inr (n e.0 there)
-          ]),
-    )
+pub returns-in_default : goal.returns-in_default
+returns-in_default g c = record {
+  estimated = c.requires.estimated;
+  table = c.requires.table;
+  grows = Grows-refl _ _;
+  marked = record {
+    marked = c.requires.marked.marked;
+    inside = c.requires.marked.inside;
+    above = λ n q. elim (c.in_default.ensures.above n q) as (λ _. g.C.Number.value c.args.limit <ℤ g.C.Number.value n) [ inl o ↦ c.requires.marked.above n o | inr l ↦ l ];
+  };
+  less = advanced_less 18446744073709551616 18446744073709551616 (omega arith) c.args.way.now.frame (reverse c.args.way.now.trail.items) c.requires.left;
+  graph = λ h test least first k w.
+      let eq = g.N.PartialEq.eq in
+      let laws = g.met.N.Eq.laws in
+      let value = g.C.Number.value in
+      let fits = g.C.Number.fits in
+      let known = c.args.known.now in
+      let way = c.args.way.now in
+      let keys = known.graph.discovery.nodes.keys in
+      let steps = known.rows.steps.items in
+      let step = c.index-step.result.now in
+      let fs = reverse way.trail.items in
+      let ends = frame_ends eq laws value fits h test least first keys steps known.rows.spans.items k.rows (length keys) c.requires.table way.frame fs way.cut_off.least way.cut_off.past w in
+      let at : slice_get steps way.frame.at ≡ Some step = at_place steps way.frame.at step step (omega (arith, c.requires.left, ends.1)) (sym c.index-step.ensures) in
+      let fresh : ¬ (Contains (numbers_of (way.frame ∷ fs)) step.0) = λ m. true≢false (sym (c.is_marked.ensures.1 ((c.requires.marked.marked step.0).1 m)) ∙ c.if-is_marked.false) in
+      let e = estimate_at known.estimates.items step.0 (omega (arith, c.requires.table.inside way.frame.at step.0 step.1 at, c.requires.estimated)) in
+      let there : slice_get c.deref.result.now step.0 ≡ Some e.0 = subst (λ (es : List g.row.C.Denot). slice_get es step.0 ≡ Some e.0) (sym c.deref.ensures.value) e.1 in (
+        k,
+        cut_there eq laws value fits h test least first keys steps known.rows.spans.items k.rows k.explores.alike k.admissible (cheap_positive eq h k.costs)
+            (λ i x s. InReach-same eq laws h.edges h.starts s.0 x (k.explores.reached i s.0 s.1) s.2) (StandsFor-one eq laws keys k.explores.distinct) way.frame fs way.cut_off.least way.cut_off.past w c.requires.left step.0 step.1 at
+            (λ i m. begins_all eq laws keys i (c.requires.marked.inside i m)) fresh e.0
+            (λ x s. estimate_is eq laws h k.explores.alike value least k.asked.alike keys k.explores.reached known.estimates.items k.estimated c.requires.estimated step.0 x e.0 s e.1)
+            c.admit.new.cut_off.least c.admit.new.cut_off.past c.in_default.ensures.kept (c.in_default.ensures.entered e.0 there)
+            (λ q. elim (c.in_default.ensures.past q) as (λ _. (way.cut_off.past ≡ true) ⊎ (¬ (fits (value way.frame.cost +ℤ value step.1 +ℤ value e.0)))) [
+              | inl o ↦ inl o
+              | inr n ↦ inr (n e.0 there)
+            ]),
+      );
+  refused = tt;
+}
 
 pub span_of-requires-clause-inside : goal.span_of-requires-clause-inside
 span_of-requires-clause-inside g c =
@@ -151,135 +165,142 @@ span_of-requires-clause-inside g c =
     let at : slice_get steps way.frame.at ≡ Some step = at_place steps way.frame.at step step (omega (arith, c.requires.left, ends.1)) (sym c.index-step.ensures) in
     c.requires.table.inside way.frame.at step.0 step.1 at
 
-pub returns-in_ok-enter-in-Some-2-clause-marked : goal.returns-in_ok-enter-in-Some-2-clause-marked
-returns-in_ok-enter-in-Some-2-clause-marked g c =
-    let r = c.requires.graph in
-    let k = r.4 in
-    let known = c.args.known.now in
-    let way = c.args.way.now in
-    let keys = known.graph.discovery.nodes.keys in
-    let steps = known.rows.steps.items in
-    let step = c.index-step.result.now in
-    let fs = reverse way.trail.items in
-    let ends = frame_ends g.N.PartialEq.eq g.met.N.Eq.laws g.C.Number.value g.C.Number.fits r.0 r.1 r.2 r.3 keys steps known.rows.spans.items k.rows (length keys) c.requires.table way.frame fs way.cut_off.least way.cut_off.past r.5 in
-    let at : slice_get steps way.frame.at ≡ Some step = at_place steps way.frame.at step step (omega (arith, c.requires.left, ends.1)) (sym c.index-step.ensures) in
-    let inside = c.requires.table.inside way.frame.at step.0 step.1 at in
-    let e = c.in_ok-enter-in-Some-2.ensures in
-    let frames : numbers_of (c.enter.new.self.frame ∷ reverse c.enter.new.self.trail.items) ≡ step.0 ∷ numbers_of (way.frame ∷ fs) = ap (λ (f : Frame g.row.C.Denot). numbers_of (f ∷ reverse c.enter.new.self.trail.items)) e.frame ∙ ap (λ (xs : List (Frame g.row.C.Denot)). step.0 ∷ numbers_of xs) e.below in
-    let grows = c.in_ok-span.ensures.grows in
-    record {
-      marked = subst (λ (ns : List ℕ). (i : ℕ) → IsMarked c.enter.new.self.marks.items i ↔ Contains ns i) (sym frames) (marked_on way.marks.items c.enter.new.self.marks.items (numbers_of (way.frame ∷ fs)) step.0 c.requires.marked.marked e.marked);
-      inside = λ i m. elim (Contains-cases (numbers_of (way.frame ∷ fs)) step.0 i (subst (λ (ns : List ℕ). Contains ns i) frames m)) as (λ _. i < length c.span_of.new.self.graph.discovery.nodes.keys) [
-        | inl q ↦ omega (arith, q, inside, grows.more)
-        | inr q ↦ let l = c.requires.marked.inside i q in omega (arith, l, grows.more)
-      ];
-      above = λ n q. c.requires.marked.above n (sym c.in-Some.ensures.entered.2 ∙ sym (ap (λ o. o.least) e.cut_off) ∙ q);
-    }
-
-pub returns-in_ok-enter-in-Some-2-clause-less : goal.returns-in_ok-enter-in-Some-2-clause-less
-returns-in_ok-enter-in-Some-2-clause-less g c =
-    let way = c.args.way.now in
-    let fs = reverse way.trail.items in
-    let e = c.in_ok-enter-in-Some-2.ensures in
-    let s = c.in-Some-2.span in
-    let has = rw c.in-Some-2.is at c.in_ok-span.ensures.kept in
-    let within = c.in_ok-span.ensures.table.within c.index-step.result.now.0 s has in
-    let steps = c.span_of.new.self.rows.steps in
-    let shallow : length fs < 18446744073709551616 = omega (arith, length-reverse way.trail.items, way.trail.ok.0, way.trail.small) in
-    let frame : Frame g.row.C.Denot = record { number = c.index-step.result.now.0; cost = c.in-Some.cost; at = s.begin; end = s.end } in
-    let short : (frame.end - frame.at) + 1 < 18446744073709551616 = omega (arith, within.1, steps.ok.0, steps.small) in
-    subst (λ (f : Frame g.row.C.Denot). turns_left 18446744073709551616 18446744073709551616 f (reverse c.enter.new.self.trail.items) < turns_left 18446744073709551616 18446744073709551616 way.frame fs) (sym e.frame)
-    (subst (λ (xs : List (Frame g.row.C.Denot)). turns_left 18446744073709551616 18446744073709551616 frame xs < turns_left 18446744073709551616 18446744073709551616 way.frame fs) (sym e.below)
-    (entered_less 18446744073709551616 18446744073709551616 (omega arith) way.frame frame fs shallow short))
-
-pub returns-in_ok-enter-in-Some-2-clause-graph : goal.returns-in_ok-enter-in-Some-2-clause-graph
-returns-in_ok-enter-in-Some-2-clause-graph g c = λ h test least first k w.
-    let eq = g.N.PartialEq.eq in
-    let laws = g.met.N.Eq.laws in
-    let value = g.C.Number.value in
-    let fits = g.C.Number.fits in
-    let known = c.args.known.now in
-    let way = c.args.way.now in
-    let keys = known.graph.discovery.nodes.keys in
-    let steps = known.rows.steps.items in
-    let spans = known.rows.spans.items in
-    let step = c.index-step.result.now in
-    let fs = reverse way.trail.items in
-    let ends = frame_ends eq laws value fits h test least first keys steps spans k.rows (length keys) c.requires.table way.frame fs way.cut_off.least way.cut_off.past w in
-    let at : slice_get steps way.frame.at ≡ Some step = at_place steps way.frame.at step step (omega (arith, c.requires.left, ends.1)) (sym c.index-step.ensures) in
-    let fresh : ¬ (Contains (numbers_of (way.frame ∷ fs)) step.0) = λ m. true≢false (sym (c.is_marked.ensures.1 ((c.requires.marked.marked step.0).1 m)) ∙ c.if-is_marked.false) in
-    let after = c.span_of.new.self in
-    let told = c.in_ok-span.ensures.graph h test least k in
-    let k2 = told.0 in
-    let s = c.in-Some-2.span in
-    let has = rw c.in-Some-2.is at c.in_ok-span.ensures.kept in
-    let within = c.in_ok-span.ensures.table.within step.0 s has in
-    let e = c.in_ok-enter-in-Some-2.ensures in (
-      k2,
-      on_way_as eq laws value fits h test least first after.graph.discovery.nodes.keys after.rows.steps.items after.rows.spans.items k2.rows c.enter.new.self.frame (way.frame ∷ fs) (reverse c.enter.new.self.trail.items) way.cut_off.least c.enter.new.self.cut_off.least way.cut_off.past c.enter.new.self.cut_off.past
-          e.below (ap (λ o. o.least) e.cut_off ∙ c.in-Some.ensures.entered.2) (ap (λ o. o.past) e.cut_off ∙ c.in-Some.ensures.entered.3)
-          (went_on eq laws value fits h test least first keys steps spans k.rows k.explores.alike k.admissible (cheap_positive eq h k.costs)
-          (λ i x t. InReach-same eq laws h.edges h.starts t.0 x (k.explores.reached i t.0 t.1) t.2) (StandsFor-one eq laws keys k.explores.distinct) way.frame fs way.cut_off.least way.cut_off.past w c.requires.left step.0 step.1 at
-          (λ i m. begins_all eq laws keys i (c.requires.marked.inside i m)) fresh after.graph.discovery.nodes.keys after.rows.steps.items after.rows.spans.items c.in_ok-span.ensures.grows c.in_ok-span.ensures.steps c.in_ok-span.ensures.spans
-          k2.rows c.requires.marked.inside c.enter.new.self.frame s has within.0 (ap (λ (f : Frame g.row.C.Denot). f.number) e.frame) (ap (λ (f : Frame g.row.C.Denot). value f.cost) e.frame ∙ c.in-Some.ensures.entered.0) (ap (λ (f : Frame g.row.C.Denot). f.at) e.frame) (ap (λ (f : Frame g.row.C.Denot). f.end) e.frame)),
-    )
-
-pub returns-in_ok-numbers-in-None-clause-marked : goal.returns-in_ok-numbers-in-None-clause-marked
-returns-in_ok-numbers-in-None-clause-marked g c =
-    let r = c.requires.graph in
-    let k = r.4 in
-    let known = c.args.known.now in
-    let way = c.args.way.now in
-    let keys = known.graph.discovery.nodes.keys in
-    let steps = known.rows.steps.items in
-    let step = c.index-step.result.now in
-    let fs = reverse way.trail.items in
-    let ends = frame_ends g.N.PartialEq.eq g.met.N.Eq.laws g.C.Number.value g.C.Number.fits r.0 r.1 r.2 r.3 keys steps known.rows.spans.items k.rows (length keys) c.requires.table way.frame fs way.cut_off.least way.cut_off.past r.5 in
-    let at : slice_get steps way.frame.at ≡ Some step = at_place steps way.frame.at step step (omega (arith, c.requires.left, ends.1)) (sym c.index-step.ensures) in
-    let inside = c.requires.table.inside way.frame.at step.0 step.1 at in
-    let grows = c.in_ok-span.ensures.grows in
-    let numbers : c.in_ok-numbers-in-None.numbers.items ≡ reverse (numbers_of (way.frame ∷ fs)) ++ step.0 ∷ [] = (rw c.deref-in-None.ensures.value at c.in_ok-numbers-in-None.ensures.numbers) ∙ ap (λ (ns : List ℕ). ns ++ step.0 ∷ []) (sym (numbers_up way.frame way.trail.items)) in (
-      tt,
-      λ i m. elim (Contains-append_one (reverse (numbers_of (way.frame ∷ fs))) step.0 i (subst (λ (ns : List ℕ). Contains ns i) numbers m)) as (λ _. i < length c.span_of.new.self.graph.discovery.nodes.keys) [
-        | inl q ↦ let l = c.requires.marked.inside i (Contains-reverse (numbers_of (way.frame ∷ fs)) i q) in omega (arith, l, grows.more)
-        | inr q ↦ omega (arith, q, inside, grows.more)
-      ],
-    )
-
-pub returns-in_ok-numbers-in-None-clause-graph : goal.returns-in_ok-numbers-in-None-clause-graph
-returns-in_ok-numbers-in-None-clause-graph g c = λ h test least first k w.
-    let eq = g.N.PartialEq.eq in
-    let laws = g.met.N.Eq.laws in
-    let value = g.C.Number.value in
-    let fits = g.C.Number.fits in
-    let known = c.args.known.now in
-    let way = c.args.way.now in
-    let keys = known.graph.discovery.nodes.keys in
-    let steps = known.rows.steps.items in
-    let spans = known.rows.spans.items in
-    let step = c.index-step.result.now in
-    let fs = reverse way.trail.items in
-    let ends = frame_ends eq laws value fits h test least first keys steps spans k.rows (length keys) c.requires.table way.frame fs way.cut_off.least way.cut_off.past w in
-    let at : slice_get steps way.frame.at ≡ Some step = at_place steps way.frame.at step step (omega (arith, c.requires.left, ends.1)) (sym c.index-step.ensures) in
-    let fresh : ¬ (Contains (numbers_of (way.frame ∷ fs)) step.0) = λ m. true≢false (sym (c.is_marked.ensures.1 ((c.requires.marked.marked step.0).1 m)) ∙ c.if-is_marked.false) in
-    let after = c.span_of.new.self in
-    let told = rw c.in-None.is at (c.in_ok-span.ensures.graph h test least k) in
-    let numbers : c.in_ok-numbers-in-None.numbers.items ≡ reverse (numbers_of (way.frame ∷ fs)) ++ step.0 ∷ [] = (rw c.deref-in-None.ensures.value at c.in_ok-numbers-in-None.ensures.numbers) ∙ ap (λ (ns : List ℕ). ns ++ step.0 ∷ []) (sym (numbers_up way.frame way.trail.items)) in
-    let e = estimate_at known.estimates.items step.0 (omega (arith, c.requires.table.inside way.frame.at step.0 step.1 at, c.requires.estimated)) in
-    let there : slice_get c.deref.result.now step.0 ≡ Some e.0 = subst (λ (es : List g.row.C.Denot). slice_get es step.0 ≡ Some e.0) (sym c.deref.ensures.value) e.1 in
-    let x = begins_all eq laws keys step.0 (c.requires.table.inside way.frame.at step.0 step.1 at) in
-    let is = estimate_is eq laws h k.explores.alike value least k.asked.alike keys k.explores.reached known.estimates.items k.estimated c.requires.estimated step.0 x.0 e.0 x.1 e.1 in
-    let low = k.admissible.from_zero x.0 (InReach-same eq laws h.edges h.starts x.1.0 x.0 (k.explores.reached step.0 x.1.0 x.1.1) x.1.2) in
-    let below = c.in-Some.ensures.entered.1 e.0 there in (
-      told.0,
-      (
-        arrived eq laws value fits h test least first keys steps spans k.rows k.explores.alike k.admissible (cheap_positive eq h k.costs)
-            (λ i y t. InReach-same eq laws h.edges h.starts t.0 y (k.explores.reached i t.0 t.1) t.2) (StandsFor-one eq laws keys k.explores.distinct) way.frame fs way.cut_off.least way.cut_off.past w c.requires.left step.0 step.1 at
+pub returns-in_ok-enter-in-Some-2 : goal.returns-in_ok-enter-in-Some-2
+returns-in_ok-enter-in-Some-2 g c = record {
+  estimated = c.in_ok-span.ensures.estimated;
+  table = c.in_ok-span.ensures.table;
+  grows = c.in_ok-span.ensures.grows;
+  marked =
+      let r = c.requires.graph in
+      let k = r.4 in
+      let known = c.args.known.now in
+      let way = c.args.way.now in
+      let keys = known.graph.discovery.nodes.keys in
+      let steps = known.rows.steps.items in
+      let step = c.index-step.result.now in
+      let fs = reverse way.trail.items in
+      let ends = frame_ends g.N.PartialEq.eq g.met.N.Eq.laws g.C.Number.value g.C.Number.fits r.0 r.1 r.2 r.3 keys steps known.rows.spans.items k.rows (length keys) c.requires.table way.frame fs way.cut_off.least way.cut_off.past r.5 in
+      let at : slice_get steps way.frame.at ≡ Some step = at_place steps way.frame.at step step (omega (arith, c.requires.left, ends.1)) (sym c.index-step.ensures) in
+      let inside = c.requires.table.inside way.frame.at step.0 step.1 at in
+      let e = c.in_ok-enter-in-Some-2.ensures in
+      let frames : numbers_of (c.enter.new.self.frame ∷ reverse c.enter.new.self.trail.items) ≡ step.0 ∷ numbers_of (way.frame ∷ fs) = ap (λ (f : Frame g.row.C.Denot). numbers_of (f ∷ reverse c.enter.new.self.trail.items)) e.frame ∙ ap (λ (xs : List (Frame g.row.C.Denot)). step.0 ∷ numbers_of xs) e.below in
+      let grows = c.in_ok-span.ensures.grows in
+      record {
+        marked = subst (λ (ns : List ℕ). (i : ℕ) → IsMarked c.enter.new.self.marks.items i ↔ Contains ns i) (sym frames) (marked_on way.marks.items c.enter.new.self.marks.items (numbers_of (way.frame ∷ fs)) step.0 c.requires.marked.marked e.marked);
+        inside = λ i m. elim (Contains-cases (numbers_of (way.frame ∷ fs)) step.0 i (subst (λ (ns : List ℕ). Contains ns i) frames m)) as (λ _. i < length c.span_of.new.self.graph.discovery.nodes.keys) [
+          | inl q ↦ omega (arith, q, inside, grows.more)
+          | inr q ↦ let l = c.requires.marked.inside i q in omega (arith, l, grows.more)
+        ];
+        above = λ n q. c.requires.marked.above n (sym c.in-Some.ensures.entered.2 ∙ sym (ap (λ o. o.least) e.cut_off) ∙ q);
+      };
+  less =
+      let way = c.args.way.now in
+      let fs = reverse way.trail.items in
+      let e = c.in_ok-enter-in-Some-2.ensures in
+      let s = c.in-Some-2.span in
+      let has = rw c.in-Some-2.is at c.in_ok-span.ensures.kept in
+      let within = c.in_ok-span.ensures.table.within c.index-step.result.now.0 s has in
+      let steps = c.span_of.new.self.rows.steps in
+      let shallow : length fs < 18446744073709551616 = omega (arith, length-reverse way.trail.items, way.trail.ok.0, way.trail.small) in
+      let frame : Frame g.row.C.Denot = record { number = c.index-step.result.now.0; cost = c.in-Some.cost; at = s.begin; end = s.end } in
+      let short : (frame.end - frame.at) + 1 < 18446744073709551616 = omega (arith, within.1, steps.ok.0, steps.small) in
+      subst (λ (f : Frame g.row.C.Denot). turns_left 18446744073709551616 18446744073709551616 f (reverse c.enter.new.self.trail.items) < turns_left 18446744073709551616 18446744073709551616 way.frame fs) (sym e.frame)
+      (subst (λ (xs : List (Frame g.row.C.Denot)). turns_left 18446744073709551616 18446744073709551616 frame xs < turns_left 18446744073709551616 18446744073709551616 way.frame fs) (sym e.below)
+      (entered_less 18446744073709551616 18446744073709551616 (omega arith) way.frame frame fs shallow short));
+  graph = λ h test least first k w.
+      let eq = g.N.PartialEq.eq in
+      let laws = g.met.N.Eq.laws in
+      let value = g.C.Number.value in
+      let fits = g.C.Number.fits in
+      let known = c.args.known.now in
+      let way = c.args.way.now in
+      let keys = known.graph.discovery.nodes.keys in
+      let steps = known.rows.steps.items in
+      let spans = known.rows.spans.items in
+      let step = c.index-step.result.now in
+      let fs = reverse way.trail.items in
+      let ends = frame_ends eq laws value fits h test least first keys steps spans k.rows (length keys) c.requires.table way.frame fs way.cut_off.least way.cut_off.past w in
+      let at : slice_get steps way.frame.at ≡ Some step = at_place steps way.frame.at step step (omega (arith, c.requires.left, ends.1)) (sym c.index-step.ensures) in
+      let fresh : ¬ (Contains (numbers_of (way.frame ∷ fs)) step.0) = λ m. true≢false (sym (c.is_marked.ensures.1 ((c.requires.marked.marked step.0).1 m)) ∙ c.if-is_marked.false) in
+      let after = c.span_of.new.self in
+      let told = c.in_ok-span.ensures.graph h test least k in
+      let k2 = told.0 in
+      let s = c.in-Some-2.span in
+      let has = rw c.in-Some-2.is at c.in_ok-span.ensures.kept in
+      let within = c.in_ok-span.ensures.table.within step.0 s has in
+      let e = c.in_ok-enter-in-Some-2.ensures in (
+        k2,
+        on_way_as eq laws value fits h test least first after.graph.discovery.nodes.keys after.rows.steps.items after.rows.spans.items k2.rows c.enter.new.self.frame (way.frame ∷ fs) (reverse c.enter.new.self.trail.items) way.cut_off.least c.enter.new.self.cut_off.least way.cut_off.past c.enter.new.self.cut_off.past
+            e.below (ap (λ o. o.least) e.cut_off ∙ c.in-Some.ensures.entered.2) (ap (λ o. o.past) e.cut_off ∙ c.in-Some.ensures.entered.3)
+            (went_on eq laws value fits h test least first keys steps spans k.rows k.explores.alike k.admissible (cheap_positive eq h k.costs)
+            (λ i x t. InReach-same eq laws h.edges h.starts t.0 x (k.explores.reached i t.0 t.1) t.2) (StandsFor-one eq laws keys k.explores.distinct) way.frame fs way.cut_off.least way.cut_off.past w c.requires.left step.0 step.1 at
             (λ i m. begins_all eq laws keys i (c.requires.marked.inside i m)) fresh after.graph.discovery.nodes.keys after.rows.steps.items after.rows.spans.items c.in_ok-span.ensures.grows c.in_ok-span.ensures.steps c.in_ok-span.ensures.spans
-            told.1 c.in_ok-numbers-in-None.numbers.items numbers (value c.in-Some.cost) c.in-Some.ensures.entered.0,
-        omega (arith, ints, is, low, below),
-      ),
-    )
+            k2.rows c.requires.marked.inside c.enter.new.self.frame s has within.0 (ap (λ (f : Frame g.row.C.Denot). f.number) e.frame) (ap (λ (f : Frame g.row.C.Denot). value f.cost) e.frame ∙ c.in-Some.ensures.entered.0) (ap (λ (f : Frame g.row.C.Denot). f.at) e.frame) (ap (λ (f : Frame g.row.C.Denot). f.end) e.frame)),
+      );
+  refused = tt;
+}
+
+pub returns-in_ok-numbers-in-None : goal.returns-in_ok-numbers-in-None
+returns-in_ok-numbers-in-None g c = record {
+  estimated = c.in_ok-span.ensures.estimated;
+  table = c.in_ok-span.ensures.table;
+  grows = c.in_ok-span.ensures.grows;
+  marked =
+      let r = c.requires.graph in
+      let k = r.4 in
+      let known = c.args.known.now in
+      let way = c.args.way.now in
+      let keys = known.graph.discovery.nodes.keys in
+      let steps = known.rows.steps.items in
+      let step = c.index-step.result.now in
+      let fs = reverse way.trail.items in
+      let ends = frame_ends g.N.PartialEq.eq g.met.N.Eq.laws g.C.Number.value g.C.Number.fits r.0 r.1 r.2 r.3 keys steps known.rows.spans.items k.rows (length keys) c.requires.table way.frame fs way.cut_off.least way.cut_off.past r.5 in
+      let at : slice_get steps way.frame.at ≡ Some step = at_place steps way.frame.at step step (omega (arith, c.requires.left, ends.1)) (sym c.index-step.ensures) in
+      let inside = c.requires.table.inside way.frame.at step.0 step.1 at in
+      let grows = c.in_ok-span.ensures.grows in
+      let numbers : c.in_ok-numbers-in-None.numbers.items ≡ reverse (numbers_of (way.frame ∷ fs)) ++ step.0 ∷ [] = (rw c.deref-in-None.ensures.value at c.in_ok-numbers-in-None.ensures.numbers) ∙ ap (λ (ns : List ℕ). ns ++ step.0 ∷ []) (sym (numbers_up way.frame way.trail.items)) in (
+        tt,
+        λ i m. elim (Contains-append_one (reverse (numbers_of (way.frame ∷ fs))) step.0 i (subst (λ (ns : List ℕ). Contains ns i) numbers m)) as (λ _. i < length c.span_of.new.self.graph.discovery.nodes.keys) [
+          | inl q ↦ let l = c.requires.marked.inside i (Contains-reverse (numbers_of (way.frame ∷ fs)) i q) in omega (arith, l, grows.more)
+          | inr q ↦ omega (arith, q, inside, grows.more)
+        ],
+      );
+  less = tt;
+  graph = λ h test least first k w.
+      let eq = g.N.PartialEq.eq in
+      let laws = g.met.N.Eq.laws in
+      let value = g.C.Number.value in
+      let fits = g.C.Number.fits in
+      let known = c.args.known.now in
+      let way = c.args.way.now in
+      let keys = known.graph.discovery.nodes.keys in
+      let steps = known.rows.steps.items in
+      let spans = known.rows.spans.items in
+      let step = c.index-step.result.now in
+      let fs = reverse way.trail.items in
+      let ends = frame_ends eq laws value fits h test least first keys steps spans k.rows (length keys) c.requires.table way.frame fs way.cut_off.least way.cut_off.past w in
+      let at : slice_get steps way.frame.at ≡ Some step = at_place steps way.frame.at step step (omega (arith, c.requires.left, ends.1)) (sym c.index-step.ensures) in
+      let fresh : ¬ (Contains (numbers_of (way.frame ∷ fs)) step.0) = λ m. true≢false (sym (c.is_marked.ensures.1 ((c.requires.marked.marked step.0).1 m)) ∙ c.if-is_marked.false) in
+      let after = c.span_of.new.self in
+      let told = rw c.in-None.is at (c.in_ok-span.ensures.graph h test least k) in
+      let numbers : c.in_ok-numbers-in-None.numbers.items ≡ reverse (numbers_of (way.frame ∷ fs)) ++ step.0 ∷ [] = (rw c.deref-in-None.ensures.value at c.in_ok-numbers-in-None.ensures.numbers) ∙ ap (λ (ns : List ℕ). ns ++ step.0 ∷ []) (sym (numbers_up way.frame way.trail.items)) in
+      let e = estimate_at known.estimates.items step.0 (omega (arith, c.requires.table.inside way.frame.at step.0 step.1 at, c.requires.estimated)) in
+      let there : slice_get c.deref.result.now step.0 ≡ Some e.0 = subst (λ (es : List g.row.C.Denot). slice_get es step.0 ≡ Some e.0) (sym c.deref.ensures.value) e.1 in
+      let x = begins_all eq laws keys step.0 (c.requires.table.inside way.frame.at step.0 step.1 at) in
+      let is = estimate_is eq laws h k.explores.alike value least k.asked.alike keys k.explores.reached known.estimates.items k.estimated c.requires.estimated step.0 x.0 e.0 x.1 e.1 in
+      let low = k.admissible.from_zero x.0 (InReach-same eq laws h.edges h.starts x.1.0 x.0 (k.explores.reached step.0 x.1.0 x.1.1) x.1.2) in
+      let below = c.in-Some.ensures.entered.1 e.0 there in (
+        told.0,
+        (
+          arrived eq laws value fits h test least first keys steps spans k.rows k.explores.alike k.admissible (cheap_positive eq h k.costs)
+              (λ i y t. InReach-same eq laws h.edges h.starts t.0 y (k.explores.reached i t.0 t.1) t.2) (StandsFor-one eq laws keys k.explores.distinct) way.frame fs way.cut_off.least way.cut_off.past w c.requires.left step.0 step.1 at
+              (λ i m. begins_all eq laws keys i (c.requires.marked.inside i m)) fresh after.graph.discovery.nodes.keys after.rows.steps.items after.rows.spans.items c.in_ok-span.ensures.grows c.in_ok-span.ensures.steps c.in_ok-span.ensures.spans
+              told.1 c.in_ok-numbers-in-None.numbers.items numbers (value c.in-Some.cost) c.in-Some.ensures.entered.0,
+          omega (arith, ints, is, low, below),
+        ),
+      );
+  refused = tt;
+}
 
 pub returns-in_err-span : goal.returns-in_err-span
 returns-in_err-span g c = record {
@@ -314,60 +335,6 @@ returns-in_err-numbers-in-None g c = record {
   refused = refused_as _ c.from_residual-in_err-numbers-in-None.result _ c.from_residual-in_err-numbers-in-None.ensures.1 c.in_err-numbers-in-None.ensures.refused;
 }
 
-pub returns-then-is_marked-clause-estimated : goal.returns-then-is_marked-clause-estimated
-returns-then-is_marked-clause-estimated g c = c.requires.estimated
-
-pub returns-then-is_marked-clause-table : goal.returns-then-is_marked-clause-table
-returns-then-is_marked-clause-table g c = c.requires.table
-
-pub returns-then-is_marked-clause-grows : goal.returns-then-is_marked-clause-grows
-returns-then-is_marked-clause-grows g c = Grows-refl _ _
-
-pub returns-then-is_marked-clause-refused : goal.returns-then-is_marked-clause-refused
-returns-then-is_marked-clause-refused g c = tt
-
-pub returns-in_default-clause-estimated : goal.returns-in_default-clause-estimated
-returns-in_default-clause-estimated g c = c.requires.estimated
-
-pub returns-in_default-clause-table : goal.returns-in_default-clause-table
-returns-in_default-clause-table g c = c.requires.table
-
-pub returns-in_default-clause-grows : goal.returns-in_default-clause-grows
-returns-in_default-clause-grows g c = Grows-refl _ _
-
-pub returns-in_default-clause-refused : goal.returns-in_default-clause-refused
-returns-in_default-clause-refused g c = tt
-
-pub returns-then-is_marked-clause-marked : goal.returns-then-is_marked-clause-marked
-returns-then-is_marked-clause-marked g c = record { marked = c.requires.marked.marked; inside = c.requires.marked.inside; above = c.requires.marked.above }
-
-pub returns-in_ok-enter-in-Some-2-clause-estimated : goal.returns-in_ok-enter-in-Some-2-clause-estimated
-returns-in_ok-enter-in-Some-2-clause-estimated g c = c.in_ok-span.ensures.estimated
-
-pub returns-in_ok-enter-in-Some-2-clause-table : goal.returns-in_ok-enter-in-Some-2-clause-table
-returns-in_ok-enter-in-Some-2-clause-table g c = c.in_ok-span.ensures.table
-
-pub returns-in_ok-enter-in-Some-2-clause-grows : goal.returns-in_ok-enter-in-Some-2-clause-grows
-returns-in_ok-enter-in-Some-2-clause-grows g c = c.in_ok-span.ensures.grows
-
-pub returns-in_ok-enter-in-Some-2-clause-refused : goal.returns-in_ok-enter-in-Some-2-clause-refused
-returns-in_ok-enter-in-Some-2-clause-refused g c = tt
-
-pub returns-in_ok-numbers-in-None-clause-estimated : goal.returns-in_ok-numbers-in-None-clause-estimated
-returns-in_ok-numbers-in-None-clause-estimated g c = c.in_ok-span.ensures.estimated
-
-pub returns-in_ok-numbers-in-None-clause-table : goal.returns-in_ok-numbers-in-None-clause-table
-returns-in_ok-numbers-in-None-clause-table g c = c.in_ok-span.ensures.table
-
-pub returns-in_ok-numbers-in-None-clause-grows : goal.returns-in_ok-numbers-in-None-clause-grows
-returns-in_ok-numbers-in-None-clause-grows g c = c.in_ok-span.ensures.grows
-
-pub returns-in_ok-numbers-in-None-clause-refused : goal.returns-in_ok-numbers-in-None-clause-refused
-returns-in_ok-numbers-in-None-clause-refused g c = tt
-
-pub returns-in_ok-numbers-in-None-clause-less : goal.returns-in_ok-numbers-in-None-clause-less
-returns-in_ok-numbers-in-None-clause-less g c = tt
-
 pub span_of-requires-clause-estimated : goal.span_of-requires-clause-estimated
 span_of-requires-clause-estimated g c = c.requires.estimated
 
@@ -376,3 +343,12 @@ span_of-requires-clause-table g c = c.requires.table
 
 pub span_of-requires-clause-graph : goal.span_of-requires-clause-graph
 span_of-requires-clause-graph g c = let r = c.requires.graph in (r.0, r.1, r.2, r.4)
+
+pub index-step-requires : goal.index-step-requires
+index-step-requires g c =
+    let r = c.requires.graph in
+    let known = c.args.known.now in
+    let way = c.args.way.now in
+    let keys = known.graph.discovery.nodes.keys in
+    let ends = frame_ends g.N.PartialEq.eq g.met.N.Eq.laws g.C.Number.value g.C.Number.fits r.0 r.1 r.2 r.3 keys known.rows.steps.items known.rows.spans.items r.4.rows (length keys) c.requires.table way.frame (reverse way.trail.items) way.cut_off.least way.cut_off.past r.5 in
+    omega (arith, c.requires.left, ends.1, known.rows.steps.ok.0)

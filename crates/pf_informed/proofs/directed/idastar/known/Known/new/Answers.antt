@@ -1,8 +1,7 @@
-use Rattle.std.proofs.Common.{[], ◌∷◌, List, ℤ, slice_get}
+use Rattle.std.proofs.Common.{[], ◌∷◌, List, ℤ}
 use Rattle.pf_core.specs.Nodes.{NodeGraph, StandsFor}
 use Rattle.pf_core.proofs.ListLemmas.{none_in}
 use Rattle.pf_core.proofs.NodeLemmas.{Explores-edges}
-use Rattle.pf_informed.specs.Internal.Estimated.{IsEstimated}
 use Rattle.pf_informed.specs.Internal.Rows.{IsCheapStep}
 use Rattle.pf_informed.proofs.KnownLemmas.{no_rows, no_table}
 use Rattle.pf_informed.proofs.Outcomes.{refused_as, if_refused}
@@ -10,16 +9,6 @@ use Rattle.pf_informed.proofs.directed.idastar.known.Known.new.Goals as goal
 
 abbrev graph_of : {N : Type 0} → N → (N → List (N × ℤ)) → NodeGraph N
 graph_of start edges = record { starts = start ∷ []; edges = edges }
-
-pub ask-requires-clause-graph : goal.ask-requires-clause-graph
-ask-requires-clause-graph g c =
-    let r = c.requires.graph in
-    let s = r.3 in
-    let w = s.weighted in
-    let found = c.in_ok-clone_of in
-    let h = graph_of c.args.start.now r.0 in
-    let x = Explores-edges g.N.PartialEq.eq g.met.N.Eq.laws _ _ _ _ _ _ h found.field-0.keys _ found.ensures.distinct found.ensures.same w.edges_answered in
-    (h, r.2, s.estimate_answered, λ k y q. x.reached k y (rw c.as_slice.ensures.keys at q))
 
 pub returns-clause-begins : goal.returns-clause-begins
 returns-clause-begins g c = (c.in_ok-clone_of.ensures.begins c.args.start.now).1 (g.met.N.Eq.laws.refl c.args.start.now)
@@ -36,14 +25,11 @@ returns-clause-graph g c = λ edges test least s.
     let keys = found.field-0.keys in
     let h = graph_of c.args.start.now edges in
     let x = Explores-edges eq g.met.N.Eq.laws _ _ _ _ _ _ h keys _ found.ensures.distinct found.ensures.same w.edges_answered in
-    let a = c.in_ok-ask.ensures.graph h least s.estimate_answered (λ k y q. x.reached k y (rw c.as_slice.ensures.keys at q)) in
-    let none : IsEstimated value least (slice_get c.as_slice.result.now) c.new-estimates.result.items = λ k y d i j. absurd (none_in k d (rw c.new-estimates.ensures.items at j)) in
-    let known = a.1 none in
     record {
       explores = x;
       tested = w.test_answered;
-      asked = a.0;
-      estimated = rw c.as_slice.ensures.keys at known;
+      asked = s.estimate_answered;
+      estimated = λ k y d i j. absurd (none_in k d (rw c.new-estimates.ensures.items at j));
       rows = no_rows value (IsCheapStep eq h) test (StandsFor eq keys) c.new.result.steps.items c.new.result.spans.items c.new.ensures.spans;
       admissible = s.admissible;
       costs = w.costs;
@@ -53,18 +39,8 @@ pub returns-in_err-clone_of : goal.returns-in_err-clone_of
 returns-in_err-clone_of g c = record {
   one = if_refused _ c.from_residual.result _ c.from_residual.ensures.1;
   begins = if_refused _ c.from_residual.result _ c.from_residual.ensures.1;
-  estimated = if_refused _ c.from_residual.result _ c.from_residual.ensures.1;
+  unasked = if_refused _ c.from_residual.result _ c.from_residual.ensures.1;
   table = if_refused _ c.from_residual.result _ c.from_residual.ensures.1;
   graph = λ edges test least s. if_refused _ c.from_residual.result _ c.from_residual.ensures.1;
   refused = refused_as _ c.from_residual.result _ c.from_residual.ensures.1 c.in_err-clone_of.ensures.refused;
-}
-
-pub returns-in_err-ask : goal.returns-in_err-ask
-returns-in_err-ask g c = record {
-  one = if_refused _ c.from_residual-in_err-ask.result _ c.from_residual-in_err-ask.ensures.1;
-  begins = if_refused _ c.from_residual-in_err-ask.result _ c.from_residual-in_err-ask.ensures.1;
-  estimated = if_refused _ c.from_residual-in_err-ask.result _ c.from_residual-in_err-ask.ensures.1;
-  table = if_refused _ c.from_residual-in_err-ask.result _ c.from_residual-in_err-ask.ensures.1;
-  graph = λ edges test least s. if_refused _ c.from_residual-in_err-ask.result _ c.from_residual-in_err-ask.ensures.1;
-  refused = refused_as _ c.from_residual-in_err-ask.result _ c.from_residual-in_err-ask.ensures.1 c.in_err-ask.ensures.refused;
 }

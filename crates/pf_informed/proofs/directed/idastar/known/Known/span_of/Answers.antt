@@ -1,10 +1,10 @@
-use Rattle.std.proofs.Common.{◌≡◌, List, ℕ, Bool, false, length, ◌∙◌, sym, subst, slice_get, arith, Option, Some, None, is_some, true≢false}
-use Rattle.std.specs.Prelude.{MatchOption}
+use Rattle.std.proofs.Common.{◌≡◌, List, ℕ, Bool, true, false, ap, length, ◌∙◌, sym, subst, slice_get, arith, Option, Some, None, is_some, true≢false}
+use Rattle.std.specs.Prelude.{MatchOption, ⊤}
 use Rattle.pf_core.specs.Nodes.{NodeGraph, TestedGraph, StandsFor}
 use Rattle.pf_core.proofs.ListLemmas.{get-append}
 use Rattle.pf_core.proofs.SearchLemmas.{Grows-trans}
 use Rattle.pf_base.specs.Edges.{InReach}
-use Rattle.pf_informed.specs.Internal.Rows.{IsCheapStep, HasSpan}
+use Rattle.pf_informed.specs.Internal.Rows.{IsCheapStep, IsTable, HasSpan}
 use Rattle.pf_informed.proofs.KnownLemmas.{table_more, rows_more, rows_grown, estimated_grown, cheap_sound, cheap_complete}
 use Rattle.pf_informed.proofs.Outcomes.{refused_as, on_refused, if_refused, Grows-refl}
 use Rattle.pf_informed.proofs.directed.idastar.known.Known.span_of.Goals as goal
@@ -12,32 +12,55 @@ use Rattle.pf_informed.proofs.directed.idastar.known.Known.span_of.Goals as goal
 abbrev tested : {N : Type 0} → NodeGraph N → (N → Bool) → TestedGraph N
 tested g test = record { graph = g; test = test }
 
+-- nothing was kept of the number
+none_of : {A : Type 0} (o : Option A) (P : Type 0) (Q : A → Type 0) → is_some o ≡ false → MatchOption o P Q → P
+none_of None P Q e h = h
+none_of (Some x) P Q e h = absurd (true≢false e)
+
+-- something was kept of the number
+some_of : {A : Type 0} (o : Option A) (P : Type 0) (Q : A → Type 0) → MatchOption o P Q → MatchOption o ⊤ Q
+some_of None P Q h = tt
+some_of (Some x) P Q h = h
+
+some_any : {A : Type 0} (o : Option A) (P : Type 0) → is_some o ≡ true → MatchOption o P (λ _. ⊤)
+some_any None P e = absurd (true≢false (sym e))
+some_any (Some x) P e = tt
+
 pub is_goal-requires-clause-graph : goal.is_goal-requires-clause-graph
 is_goal-requires-clause-graph g c =
     let r = c.requires.graph in
     let k = r.3 in
     (tested r.0 r.1, (k.explores, k.tested))
 
-pub returns-then-is_goal-clause-graph : goal.returns-then-is_goal-clause-graph
-returns-then-is_goal-clause-graph g c = λ h test least k.
-    let eq = g.N.PartialEq.eq in
-    let laws = g.met.N.Eq.laws in
-    let value = g.C.Number.value in
-    let keys = c.args.self.now.graph.discovery.nodes.keys in
-    let now = c.is_goal.new.self.discovery.nodes.keys in
-    let told = c.is_goal.ensures.graph (tested h test) (k.explores, k.tested) in
-    let grows = c.is_goal.ensures.grows in (
-      record {
-        explores = told.0.0;
-        tested = told.0.1;
-        asked = k.asked;
-        estimated = estimated_grown eq laws value least (InReach eq h.edges h.starts) k.asked.alike keys now k.explores.reached grows c.args.self.now.estimates.items c.requires.estimated k.estimated;
-        rows = rows_grown value (IsCheapStep eq h) test (StandsFor eq keys) (StandsFor eq now) (length keys) (length now) c.args.self.now.rows.steps.items c.args.self.now.rows.spans.items grows c.requires.table k.rows;
-        admissible = k.admissible;
-        costs = k.costs;
-      },
-      λ x s. sym (told.1 x (grows.back c.args.number x c.requires.inside s)) ∙ c.if-is_goal.true,
-    )
+pub returns-then-is_goal : goal.returns-then-is_goal
+returns-then-is_goal g c = record {
+  estimated = c.requires.estimated ∙ sym c.is_goal.ensures.same;
+  table = subst (λ (m : ℕ). IsTable m c.args.self.now.rows.steps.items c.args.self.now.rows.spans.items) (sym c.is_goal.ensures.same) c.requires.table;
+  grows = c.is_goal.ensures.grows;
+  steps = λ i x h. h;
+  spans = λ k s h. h;
+  kept = tt;
+  graph = λ h test least k.
+      let eq = g.N.PartialEq.eq in
+      let laws = g.met.N.Eq.laws in
+      let value = g.C.Number.value in
+      let keys = c.args.self.now.graph.discovery.nodes.keys in
+      let now = c.is_goal.new.self.discovery.nodes.keys in
+      let told = c.is_goal.ensures.graph (tested h test) (k.explores, k.tested) in
+      let grows = c.is_goal.ensures.grows in (
+        record {
+          explores = told.0.0;
+          tested = told.0.1;
+          asked = k.asked;
+          estimated = estimated_grown eq laws value least (InReach eq h.edges h.starts) k.asked.alike keys now k.explores.reached grows c.args.self.now.estimates.items c.requires.estimated k.estimated;
+          rows = rows_grown value (IsCheapStep eq h) test (StandsFor eq keys) (StandsFor eq now) (length keys) (length now) c.args.self.now.rows.steps.items c.args.self.now.rows.spans.items grows c.requires.table k.rows;
+          admissible = k.admissible;
+          costs = k.costs;
+        },
+        λ x s. sym (told.1 x (grows.back c.args.number x c.requires.inside s)) ∙ c.if-is_goal.true,
+      );
+  refused = tt;
+}
 
 pub expand-requires-clause-graph : goal.expand-requires-clause-graph
 expand-requires-clause-graph g c =
@@ -52,66 +75,58 @@ ask-requires-clause-graph g c =
     let x = c.in_ok-expand.ensures.graph (tested r.0 r.1) (c.is_goal.ensures.graph (tested r.0 r.1) (k.explores, k.tested)).0 in
     (r.0, r.2, k.asked, λ i y q. x.0.reached i y (rw c.as_slice.ensures.keys at q))
 
-pub returns-clause-grows : goal.returns-clause-grows
-returns-clause-grows g c = Grows-trans _ _ _ _ _ _ c.is_goal.ensures.grows c.in_ok-expand.ensures.grows
-
--- nothing was kept of the number
-none_of : {A : Type 0} (o : Option A) (P : Type 0) (Q : A → Type 0) → is_some o ≡ false → MatchOption o P Q → P
-none_of None P Q e h = h
-none_of (Some x) P Q e h = absurd (true≢false e)
-
-pub returns-clause-table : goal.returns-clause-table
-returns-clause-table g c =
-    let keys = c.args.self.now.graph.discovery.nodes.keys in
-    let after = c.expand.new.self.discovery.nodes.keys in
-    let grows = Grows-trans _ _ _ _ _ _ c.is_goal.ensures.grows c.in_ok-expand.ensures.grows in
-    let row = c.in_ok-expand.ensures.listed in
-    let e = c.in_ok-span.ensures in
-    table_more (length keys) (length after) grows.more c.args.self.now.rows.steps.items c.expand.new.row.steps.items c.keep.new.self.steps.items c.args.self.now.rows.spans.items c.keep.new.self.spans.items c.args.number c.in_ok-span.span
-    (rw c.deref.ensures.value at e.steps) e.span.0 (rw c.deref.ensures.value at e.span.1) e.from c.requires.table (omega (arith, c.requires.inside, grows.more)) (λ i j d at. row.2 j d (row.1.from i j d at))
-
-pub returns-clause-steps : goal.returns-clause-steps
-returns-clause-steps g c = λ i e h. subst (λ (xs : List (ℕ × g.row.C.Denot)). slice_get xs i ≡ Some e) (sym c.in_ok-span.ensures.steps) (get-append c.args.self.now.rows.steps.items c.deref.result.now i e h)
-
-pub returns-clause-spans : goal.returns-clause-spans
-returns-clause-spans g c = λ k s h.
-    let none = none_of c.span-span.result _ _ (sym c.is_some.ensures ∙ c.if-is_some.false) c.span-span.ensures in
-    c.in_ok-span.ensures.others k s (λ e. none s (subst (λ (n : ℕ). HasSpan c.args.self.now.rows.spans.items n s) e h)) h
-
-pub returns-clause-graph : goal.returns-clause-graph
-returns-clause-graph g c = λ h test least k.
-    let eq = g.N.PartialEq.eq in
-    let laws = g.met.N.Eq.laws in
-    let value = g.C.Number.value in
-    let keys = c.args.self.now.graph.discovery.nodes.keys in
-    let between = c.is_goal.new.self.discovery.nodes.keys in
-    let after = c.expand.new.self.discovery.nodes.keys in
-    let told = c.is_goal.ensures.graph (tested h test) (k.explores, k.tested) in
-    let x = c.in_ok-expand.ensures.graph (tested h test) told.0 in
-    let grows = Grows-trans _ _ _ _ _ _ c.is_goal.ensures.grows c.in_ok-expand.ensures.grows in
-    let a = c.in_ok-ask.ensures.graph h least k.asked (λ i y q. x.0.reached i y (rw c.as_slice.ensures.keys at q)) in
-    let before = estimated_grown eq laws value least (InReach eq h.edges h.starts) k.asked.alike keys after k.explores.reached grows c.args.self.now.estimates.items c.requires.estimated k.estimated in
-    let known = a.1 (rw c.as_slice.ensures.keys before) in
-    let row = c.in_ok-expand.ensures.listed in
-    let e = c.in_ok-span.ensures in
-    let number = c.args.number in
-    let here : (y : g.row.N.Denot) → StandsFor eq after number y → StandsFor eq between number y = λ y s. c.in_ok-expand.ensures.grows.back number y (omega (arith, c.requires.inside, c.is_goal.ensures.same)) s in (
-      record {
-        explores = x.0;
-        tested = x.1;
-        asked = a.0;
-        estimated = rw c.as_slice.ensures.keys at known;
-        rows = rows_more (length keys) (length after) grows.more c.args.self.now.rows.steps.items c.expand.new.row.steps.items c.keep.new.self.steps.items c.args.self.now.rows.spans.items c.keep.new.self.spans.items number c.in_ok-span.span
-            (rw c.deref.ensures.value at e.steps) e.span.0 (rw c.deref.ensures.value at e.span.1) e.from c.requires.table value (IsCheapStep eq h) test (StandsFor eq keys) (StandsFor eq after) grows
-            (λ y s. sym (told.1 y (c.is_goal.ensures.grows.back number y c.requires.inside (here y s))) ∙ c.if-is_goal.false)
-            (λ y s. cheap_sound eq laws value h after y c.expand.new.row.steps.items row.0 c.expand.new.row.places.items row.1 (row.4 (tested h test) told.0 y (here y s)))
-            (λ y s. cheap_complete eq laws value h after y c.expand.new.row.steps.items row.0 c.expand.new.row.places.items row.1 (row.4 (tested h test) told.0 y (here y s)))
-            k.rows;
-        admissible = k.admissible;
-        costs = k.costs;
-      },
-      tt,
-    )
+pub returns : goal.returns
+returns g c = record {
+  estimated = rw c.as_slice.ensures.keys at c.in_ok-ask.ensures.all;
+  table =
+      let keys = c.args.self.now.graph.discovery.nodes.keys in
+      let after = c.expand.new.self.discovery.nodes.keys in
+      let grows = Grows-trans _ _ _ _ _ _ c.is_goal.ensures.grows c.in_ok-expand.ensures.grows in
+      let row = c.in_ok-expand.ensures.listed in
+      let e = c.in_ok-span.ensures in
+      table_more (length keys) (length after) grows.more c.args.self.now.rows.steps.items c.expand.new.row.steps.items c.keep.new.self.steps.items c.args.self.now.rows.spans.items c.keep.new.self.spans.items c.args.number c.in_ok-span.span
+      (rw c.deref.ensures.value at e.steps) e.span.0 (rw c.deref.ensures.value at e.span.1) e.from c.requires.table (omega (arith, c.requires.inside, grows.more)) (λ i j d at. row.2 j d (row.1.from i j d at));
+  grows = Grows-trans _ _ _ _ _ _ c.is_goal.ensures.grows c.in_ok-expand.ensures.grows;
+  steps = λ i e h. subst (λ (xs : List (ℕ × g.row.C.Denot)). slice_get xs i ≡ Some e) (sym c.in_ok-span.ensures.steps) (get-append c.args.self.now.rows.steps.items c.deref.result.now i e h);
+  spans = λ k s h.
+      let none = none_of c.span-span.result _ _ (sym c.is_some.ensures ∙ c.if-is_some.false) c.span-span.ensures in
+      c.in_ok-span.ensures.others k s (λ e. none s (subst (λ (n : ℕ). HasSpan c.args.self.now.rows.spans.items n s) e h)) h;
+  kept = c.in_ok-span.ensures.kept;
+  graph = λ h test least k.
+      let eq = g.N.PartialEq.eq in
+      let laws = g.met.N.Eq.laws in
+      let value = g.C.Number.value in
+      let keys = c.args.self.now.graph.discovery.nodes.keys in
+      let between = c.is_goal.new.self.discovery.nodes.keys in
+      let after = c.expand.new.self.discovery.nodes.keys in
+      let told = c.is_goal.ensures.graph (tested h test) (k.explores, k.tested) in
+      let x = c.in_ok-expand.ensures.graph (tested h test) told.0 in
+      let grows = Grows-trans _ _ _ _ _ _ c.is_goal.ensures.grows c.in_ok-expand.ensures.grows in
+      let a = c.in_ok-ask.ensures.graph h least k.asked (λ i y q. x.0.reached i y (rw c.as_slice.ensures.keys at q)) in
+      let before = estimated_grown eq laws value least (InReach eq h.edges h.starts) k.asked.alike keys after k.explores.reached grows c.args.self.now.estimates.items c.requires.estimated k.estimated in
+      let known = a.1 (rw c.as_slice.ensures.keys before) in
+      let row = c.in_ok-expand.ensures.listed in
+      let e = c.in_ok-span.ensures in
+      let number = c.args.number in
+      let here : (y : g.row.N.Denot) → StandsFor eq after number y → StandsFor eq between number y = λ y s. c.in_ok-expand.ensures.grows.back number y (omega (arith, c.requires.inside, c.is_goal.ensures.same)) s in (
+        record {
+          explores = x.0;
+          tested = x.1;
+          asked = a.0;
+          estimated = rw c.as_slice.ensures.keys at known;
+          rows = rows_more (length keys) (length after) grows.more c.args.self.now.rows.steps.items c.expand.new.row.steps.items c.keep.new.self.steps.items c.args.self.now.rows.spans.items c.keep.new.self.spans.items number c.in_ok-span.span
+              (rw c.deref.ensures.value at e.steps) e.span.0 (rw c.deref.ensures.value at e.span.1) e.from c.requires.table value (IsCheapStep eq h) test (StandsFor eq keys) (StandsFor eq after) grows
+              (λ y s. sym (told.1 y (c.is_goal.ensures.grows.back number y c.requires.inside (here y s))) ∙ c.if-is_goal.false)
+              (λ y s. cheap_sound eq laws value h after y c.expand.new.row.steps.items row.0 c.expand.new.row.places.items row.1 (row.4 (tested h test) told.0 y (here y s)))
+              (λ y s. cheap_complete eq laws value h after y c.expand.new.row.steps.items row.0 c.expand.new.row.places.items row.1 (row.4 (tested h test) told.0 y (here y s)))
+              k.rows;
+          admissible = k.admissible;
+          costs = k.costs;
+        },
+        tt,
+      );
+  refused = tt;
+}
 
 pub returns-in_err-expand : goal.returns-in_err-expand
 returns-in_err-expand g c = record {
@@ -149,47 +164,23 @@ returns-in_err-span g c = record {
   refused = refused_as _ c.from_residual-in_err-span.result _ c.from_residual-in_err-span.ensures.1 c.in_err-span.ensures.refused;
 }
 
-pub returns-then-is_some-clause-estimated : goal.returns-then-is_some-clause-estimated
-returns-then-is_some-clause-estimated g c = c.requires.estimated
-
-pub returns-then-is_some-clause-table : goal.returns-then-is_some-clause-table
-returns-then-is_some-clause-table g c = c.requires.table
-
-pub returns-then-is_some-clause-grows : goal.returns-then-is_some-clause-grows
-returns-then-is_some-clause-grows g c = Grows-refl _ _
-
-pub returns-then-is_some-clause-steps : goal.returns-then-is_some-clause-steps
-returns-then-is_some-clause-steps g c = λ i x h. h
-
-pub returns-then-is_some-clause-spans : goal.returns-then-is_some-clause-spans
-returns-then-is_some-clause-spans g c = λ k s h. h
-
-pub returns-then-is_some-clause-refused : goal.returns-then-is_some-clause-refused
-returns-then-is_some-clause-refused g c = tt
-
-pub returns-then-is_goal-clause-grows : goal.returns-then-is_goal-clause-grows
-returns-then-is_goal-clause-grows g c = c.is_goal.ensures.grows
-
-pub returns-then-is_goal-clause-steps : goal.returns-then-is_goal-clause-steps
-returns-then-is_goal-clause-steps g c = λ i x h. h
-
-pub returns-then-is_goal-clause-spans : goal.returns-then-is_goal-clause-spans
-returns-then-is_goal-clause-spans g c = λ k s h. h
-
-pub returns-then-is_goal-clause-kept : goal.returns-then-is_goal-clause-kept
-returns-then-is_goal-clause-kept g c = tt
-
-pub returns-then-is_goal-clause-refused : goal.returns-then-is_goal-clause-refused
-returns-then-is_goal-clause-refused g c = tt
-
-pub returns-then-is_goal-clause-estimated : goal.returns-then-is_goal-clause-estimated
-returns-then-is_goal-clause-estimated g c = c.requires.estimated ∙ sym c.is_goal.ensures.same
-
-pub returns-clause-kept : goal.returns-clause-kept
-returns-clause-kept g c = c.in_ok-span.ensures.kept
-
-pub returns-clause-refused : goal.returns-clause-refused
-returns-clause-refused g c = tt
+pub returns-then-is_some : goal.returns-then-is_some
+returns-then-is_some g c = record {
+  estimated = c.requires.estimated;
+  table = c.requires.table;
+  grows = Grows-refl _ _;
+  steps = λ i x h. h;
+  spans = λ k s h. h;
+  kept = some_of c.span-span.result _ _ c.span-span.ensures;
+  graph = λ h test least k. (k, some_any c.span-span.result _ (sym c.is_some.ensures ∙ c.if-is_some.true));
+  refused = tt;
+}
 
 pub is_goal-requires-clause-inside : goal.is_goal-requires-clause-inside
 is_goal-requires-clause-inside g c = c.requires.inside
+
+pub ask-requires-clause-few : goal.ask-requires-clause-few
+ask-requires-clause-few g c = omega (arith, ap length c.as_slice.ensures.keys, c.requires.estimated, c.is_goal.ensures.same, c.in_ok-expand.ensures.grows.more)
+
+pub expand-requires-clause-inside : goal.expand-requires-clause-inside
+expand-requires-clause-inside g c = omega (arith, c.requires.inside, c.is_goal.ensures.same)

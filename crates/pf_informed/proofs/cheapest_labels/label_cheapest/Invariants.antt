@@ -6,7 +6,7 @@ use Rattle.pf_informed.specs.Internal.Forest.{IsForest, nat_of}
 use Rattle.pf_informed.specs.Internal.Informed.{IsInformed, work_left}
 use Rattle.pf_informed.specs.Internal.Led.{IsLed}
 use Rattle.pf_informed.specs.Internal.Waiting.{entry_cmp, IsQueue}
-use Rattle.pf_informed.proofs.cheapest_labels.search_on.Given as goal
+use Rattle.pf_informed.proofs.cheapest_labels.label_cheapest.Given as goal
 
 abbrev pub invariant-turns : goal.invariant-turns
 invariant-turns g l =
