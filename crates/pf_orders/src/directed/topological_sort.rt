@@ -35,7 +35,7 @@ use std::marker::PhantomData;
 /// The algorithm is depth-first search (R. Tarjan, "Edge-disjoint spanning trees and depth-first search",
 /// 1976), with a stack of its own: its time is of the order of the number of nodes and edges in reach.
 /// `successors` is asked at most once for each node in reach; no clause can count the calls of a function,
-/// so that this is so is to be read in `sort_numbers`.
+/// so that this is so is to be read in `Sorting::walk_on`.
 pub fn topological_sort<N, IN, FN, A>(
     alloc: A,
     roots: &[N],
