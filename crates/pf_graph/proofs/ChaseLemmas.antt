@@ -1,7 +1,6 @@
 -- Two values that follow each other at a fixed distance until they are equal.
-use Rattle.std.proofs.Common.{ℕ, ◌+◌, ◌<◌, ◌≤◌, ◌≡◌, subst, arith, Bool, true, false, inl, inr, ◌⊎◌}
+use Rattle.std.proofs.Common.{ℕ, ◌+◌, ◌<◌, ◌≡◌, subst, arith, Bool, true, false, inl, inr}
 use Rattle.std.specs.Cmp.{IsEquivalence}
-use Rattle.std.specs.Fn.{iterate}
 use Rattle.std.proofs.lemmas.Bool.{cases_lt}
 use Rattle.pf_graph.specs.Cycles.{IsAfter, IsMet, Repeats}
 use Rattle.pf_graph.proofs.CycleLemmas.{after_next, not_same_after}

@@ -1,8 +1,8 @@
 -- Rounds of Floyd's method.
-use Rattle.std.proofs.Common.{ℕ, zero, suc, ◌+◌, ◌-◌, ◌*◌, ◌^◌, ◌<◌, ◌≤◌, ◌≡◌, refl, sym, ◌∙◌, ap, subst, arith, Bool, true, false, inl, inr, ◌⊎◌}
+use Rattle.std.proofs.Common.{ℕ, zero, suc, ◌+◌, ◌*◌, ◌^◌, ◌<◌, ◌≤◌, ◌≡◌, refl, ◌∙◌, subst, arith, Bool, true, false, inl, inr}
 use Rattle.std.specs.Cmp.{IsEquivalence}
 use Rattle.std.specs.Fn.{iterate}
-use Rattle.std.proofs.lemmas.Bool.{cases_lt, cases_eq}
+use Rattle.std.proofs.lemmas.Bool.{cases_lt}
 use Rattle.pf_graph.specs.Cycles.{IsAfter, IsMet, Repeats, IsCycle, IsMeetingOfFloyd, IsMultipleOfFloyd}
 use Rattle.pf_graph.proofs.CycleLemmas.{after_next, after_equal, same_after, not_same_after, cycle_at, cycle_repeats, repeats_rounds, repeats_multiple}
 

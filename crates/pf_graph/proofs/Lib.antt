@@ -11,3 +11,4 @@ pub mod BrentLemmas
 pub mod ChaseLemmas
 pub mod FloydLemmas
 pub mod StepCallers
+pub mod Outcomes

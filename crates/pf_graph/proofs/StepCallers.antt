@@ -1,5 +1,5 @@
 -- How a caller shows that its function answers a step. J is what the values keep: that a call may be made at them, and what their next values need.
-use Rattle.std.proofs.Common.{◌≡◌, ℕ, ℤ, zero, suc, refl, sym, ap, subst, Bool, true, nat_eq}
+use Rattle.std.proofs.Common.{◌≡◌, ℕ, ℤ, zero, suc, sym, subst, Bool, true, nat_eq}
 use Rattle.std.specs.Fn.{Shared, iterate}
 use Rattle.std.specs.Ordering.{int_eq}
 use Rattle.std.specs.Cmp.{signed_Decides}

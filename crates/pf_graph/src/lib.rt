@@ -2,5 +2,6 @@
 #![tactic(auto)]
 
 pub mod directed;
+mod filled;
 pub mod kuhn_munkres;
 pub mod undirected;

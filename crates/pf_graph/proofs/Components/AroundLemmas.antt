@@ -1,6 +1,5 @@
 -- Groups around starts, and their components.
-use Rattle.std.proofs.Common.{ℕ, zero, suc, arith, ◌<◌, ◌+◌, ◌≡◌, refl, sym, ◌∙◌, ap, subst, inl, inr, ◌⊎◌, List, [], ◌∷◌, ◌++◌, Bool, true, length, get_or, take, Vec}
-use Rattle.std.specs.Prelude.{◌↔◌}
+use Rattle.std.proofs.Common.{ℕ, zero, suc, arith, ◌<◌, ◌+◌, ◌≡◌, sym, ◌∙◌, ap, subst, inl, inr, ◌⊎◌, List, [], ◌∷◌, ◌++◌, Bool, true, length, get_or, take, Vec}
 use Rattle.std.specs.Cmp.{IsEquivalence}
 use Rattle.std.specs.HashSet.{HashSet}
 use Rattle.std.proofs.lemmas.List.{take_more}

@@ -5,6 +5,7 @@ ghost use Rattle.pf_base.specs.declared.error.PathError.TheVariants.{OutOfMemory
 ghost use Rattle.pf_graph.specs.Assignments.{number, NumberTable, WeightsFit};
 ghost use Rattle.pf_graph.specs.Internal.Assignment.AssignmentSteps.{holder, flag, raised, IsMatching, IsMatched, IsNext, IsTreeOf, IsNearest, IsAlternatingTree, IsFlipped};
 
+use crate::filled::filled;
 use crate::kuhn_munkres::numbers::plus;
 use crate::kuhn_munkres::tree::Tree;
 use crate::kuhn_munkres::weights::Weights;
@@ -38,10 +39,8 @@ impl<C: SignedCost, A: Allocator + Copy> Matching<C, A> {
         ensures zero { IfOk result (λ m. (j : ℕ) → number C.value m.column_potentials.items j ≡ pos 0) }
         ensures refused { IfErr result (λ e. e ≡ OutOfMemory) }
     {
-        let mut row_of = Vec::new(alloc);
-        row_of.resize(columns, None)?;
-        let mut column_potentials = Vec::new(alloc);
-        column_potentials.resize(columns, C::zero())?;
+        let row_of = filled(alloc, columns, None)?;
+        let column_potentials = filled(alloc, columns, C::zero())?;
         Ok(Matching {
             column_of: Vec::new(alloc),
             row_of,
@@ -49,6 +48,9 @@ impl<C: SignedCost, A: Allocator + Copy> Matching<C, A> {
             column_potentials,
         })
     }
+}
+
+impl<C: SignedCost, A: Allocator> Matching<C, A> {
     /// Raises and lowers the potentials along the tree whose nearest column is this free one, and
     /// augments the matching along the path to it, so that the root of the tree, the next row, is matched.
     fn augment<W>(&mut self, weights: &W, tree: &Tree<C, A>, column: usize) -> Result<(), PathError>

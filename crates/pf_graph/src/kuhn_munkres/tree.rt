@@ -5,6 +5,7 @@ ghost use Rattle.pf_base.specs.declared.error.PathError.TheVariants.{OutOfMemory
 ghost use Rattle.pf_graph.specs.Assignments.{number, NumberTable, WeightsFit};
 ghost use Rattle.pf_graph.specs.Internal.Assignment.AssignmentSteps.{holder, flag, IsNext, IsTreeOf, IsNearest, IsRelaxed, IsScanned, IsFresh};
 
+use crate::filled::filled;
 use crate::kuhn_munkres::matching::Matching;
 use crate::kuhn_munkres::numbers::{is_below, plus};
 use crate::kuhn_munkres::weights::Weights;
@@ -37,12 +38,9 @@ impl<C: SignedCost, A: Allocator + Copy> Tree<C, A> {
         ensures places { IfOk result (λ tree. length tree.places.items ≡ columns) }
         ensures refused { IfErr result (λ e. e ≡ OutOfMemory) }
     {
-        let mut visited = Vec::new(alloc);
-        visited.resize(columns, false)?;
-        let mut distances = Vec::new(alloc);
-        distances.resize(columns, C::zero())?;
-        let mut places = Vec::new(alloc);
-        places.resize(columns, 0)?;
+        let visited = filled(alloc, columns, false)?;
+        let distances = filled(alloc, columns, C::zero())?;
+        let places = filled(alloc, columns, 0)?;
         Ok(Tree {
             rows: Vec::new(alloc),
             visited,
@@ -50,6 +48,9 @@ impl<C: SignedCost, A: Allocator + Copy> Tree<C, A> {
             places,
         })
     }
+}
+
+impl<C: SignedCost, A: Allocator> Tree<C, A> {
     /// Makes all columns unvisited and as far as can be.
     fn clear(&mut self)
         requires distances { length self.old.distances.items ≡ length self.old.visited.items }

@@ -15,7 +15,7 @@ fn group_around<N, IN, A>(alloc: A, start: &N, adjacent: IN) -> Result<Vec<N, A>
 where
     N: Clone,
     IN: IntoIterator<Item = N>,
-    A: Allocator + Copy,
+    A: Allocator,
     requires ends { IsFiniteIterable IN.into_iter_gives IN.IntoIter.can_next IN.IntoIter.remaining adjacent }
     ensures members { IfOk result (λ group. (it : IN.IntoIter) × (xs : List N) × (copy : N) × IN.into_iter_gives adjacent it × Drains IN.IntoIter.next_gives it xs
         × N.is_clone start.now copy × (group.items ≡ xs ++ copy ∷ [])) }

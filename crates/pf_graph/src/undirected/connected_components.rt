@@ -107,8 +107,7 @@ where
     ensures refused { IfErr result (λ e. e ≡ OutOfMemory) }
 {
     let united = unite_groups(alloc, groups)?;
-    let sets = collect_nodes(alloc, united.nodes.as_slice(), &united.first, &united.ids)?;
-    Ok(sets)
+    collect_nodes(alloc, united.nodes.as_slice(), &united.first, &united.ids)
 }
 
 /// The sets of nodes that are connected around some starts.

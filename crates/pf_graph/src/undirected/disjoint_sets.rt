@@ -25,7 +25,7 @@ fn gather_node<'a, N, A>(
 ) -> Result<(), PathError>
 where
     N: Eq + Hash,
-    A: Allocator + Copy,
+    A: Allocator,
     requires gathered { (pairs : List (ℕ × N)) × IsGathered N.eq pairs nodes.old.keys first.old.items vertices.old }
     requires inside { group < length vertices.old }
     ensures gathered { OnOk result ((pairs : List (ℕ × N)) → IsGathered N.eq pairs nodes.old.keys first.old.items vertices.old
@@ -51,7 +51,7 @@ fn gather_group<'a, N, A>(
 ) -> Result<(), PathError>
 where
     N: Eq + Hash,
-    A: Allocator + Copy,
+    A: Allocator,
     requires gathered { (pairs : List (ℕ × N)) × IsGathered N.eq pairs nodes.old.keys first.old.items vertices.old }
     requires inside { group < length vertices.old }
     ensures gathered { OnOk result ((pairs : List (ℕ × N)) → IsGathered N.eq pairs nodes.old.keys first.old.items vertices.old
@@ -73,7 +73,7 @@ fn gather<'a, N, A, B>(
 ) -> Result<(), PathError>
 where
     N: Eq + Hash,
-    A: Allocator + Copy,
+    A: Allocator,
     B: Allocator,
     requires none { IsGathered N.eq [] nodes.old.keys first.old.items vertices.old }
     requires inside { length vertices.old ≡ length groups.now }
@@ -107,7 +107,7 @@ fn identify<N, A, B>(
     groups: &[Vec<N, B>],
 ) -> Result<Vec<usize, A>, PathError>
 where
-    A: Allocator + Copy,
+    A: Allocator,
     B: Allocator,
     requires sound { IsSound vertices.old }
     requires len { length vertices.old ≡ length groups.now }
@@ -145,8 +145,7 @@ where
 {
     let mut nodes = IndexSet::new(alloc);
     let mut first = Vec::new(alloc);
-    let mut vertices = make_sets(alloc, groups.len())?;
-    let ids = gather_and_identify(alloc, &mut nodes, &mut first, &mut vertices, groups)?;
+    let ids = gather_and_identify(alloc, &mut nodes, &mut first, groups)?;
     Ok(DisjointSets { nodes, first, ids })
 }
 
@@ -155,7 +154,6 @@ fn gather_and_identify<'a, N, A, B>(
     alloc: A,
     nodes: &mut Nodes<'a, N, A>,
     first: &mut Vec<usize, A>,
-    vertices: &mut [Vertex],
     groups: &'a [Vec<N, B>],
 ) -> Result<Vec<usize, A>, PathError>
 where
@@ -163,15 +161,13 @@ where
     A: Allocator + Copy,
     B: Allocator,
     requires none { (nodes.old.keys ≡ []) × (first.old.items ≡ []) }
-    requires sound { IsSound vertices.old }
-    requires singletons { IsLabelling (λ x. x) vertices.old }
-    requires inside { length vertices.old ≡ length groups.now }
     ensures united { IfOk result (λ ids. AreDisjointSets N.eq groups.now nodes.new.keys first.new.items ids.items) }
     ensures refused { IfErr result (λ e. e ≡ OutOfMemory) }
 {
+    let mut sets = make_sets(alloc, groups.len())?;
+    let vertices = sets.as_mut_slice();
     gather(nodes, first, vertices, groups)?;
-    let ids = identify(alloc, vertices, groups)?;
-    Ok(ids)
+    identify(alloc, vertices, groups)
 }
 
 /// A map from each node to the identifier of its first group.

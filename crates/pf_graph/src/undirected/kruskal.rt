@@ -64,7 +64,7 @@ fn as_written<'a, N, C, A>(
 ) -> Result<Vec<(&'a N, &'a N, C), A>, PathError>
 where
     C: Drop,
-    A: Allocator + Copy,
+    A: Allocator,
     ensures written { IfOk result (λ edges. AllZip IsWritten chosen.entry.items (map shown edges.items)) }
     ensures refused { IfErr result (λ e. e ≡ OutOfMemory) }
 {
@@ -103,7 +103,7 @@ where
     ensures sorted { IfOk result (IsSorted (λ e f. C.cmp e.2 f.2)) }
     ensures refused { IfErr result (λ e. e ≡ OutOfMemory) }
 {
-    let numbered = number_edges(alloc, edges, |weight| weight.clone())?;
+    let numbered = number_edges(alloc, edges, &|weight| weight.clone())?;
     let chosen = spanning_forest(alloc, numbered.count, numbered.edges)?;
     let written = as_written(alloc, chosen)?;
     Ok(Kruskal {
@@ -118,7 +118,7 @@ fn weights_of<N, C, A>(
 ) -> Result<Vec<C, A>, PathError>
 where
     C: Copy,
-    A: Allocator + Copy,
+    A: Allocator,
     ensures weights { IfOk result (λ weights. weights.items ≡ map (λ e. e.2.weight) chosen.now) }
     ensures refused { IfErr result (λ e. e ≡ OutOfMemory) }
 {
@@ -144,7 +144,7 @@ where
     ensures overflow { result ≡ Err CostOverflow → (forest : List (N × N × C)) × IsLeastForest N.eq C.cmp edges.now forest × ¬ (C.fits (weight_sum C.value forest)) }
     ensures refused { IfErr result (λ e. (e ≡ OutOfMemory) ⊎ (e ≡ CostOverflow)) }
 {
-    let numbered = number_edges(alloc, edges, |weight| Ok(*weight))?;
+    let numbered = number_edges(alloc, edges, &|weight| Ok(*weight))?;
     let chosen = spanning_forest(alloc, numbered.count, numbered.edges)?;
     let weights = weights_of(alloc, &chosen)?;
     match exact_sum(&weights) {

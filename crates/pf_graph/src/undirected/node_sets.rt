@@ -6,6 +6,7 @@ ghost use Rattle.pf_base.specs.Answers.{IsLawfulClone};
 ghost use Rattle.pf_base.specs.declared.error.PathError.TheVariants.{OutOfMemory};
 ghost use Rattle.pf_graph.specs.Internal.Components.DisjointSets.{IsCollected, AreDone};
 
+use crate::filled::filled;
 use pf_base::PathError;
 use std::alloc::Allocator;
 use std::collections::HashSet;
@@ -66,8 +67,7 @@ where
     ensures collected { IfOk result (λ sets. (done : List (ℕ × N)) × (place_of : List (Option ℕ)) × AreDone nodes.now first.now ids.now (length first.now) done × IsCollected N.eq (contains N.eq) done place_of sets.items) }
     ensures refused { IfErr result (λ e. e ≡ OutOfMemory) }
 {
-    let mut place_of = Vec::new(alloc);
-    place_of.resize(ids.len(), None)?;
+    let mut place_of = filled(alloc, ids.len(), None)?;
     let mut sets = Vec::new(alloc);
     collect_into(alloc, &mut place_of, &mut sets, nodes, first, ids)?;
     Ok(sets)

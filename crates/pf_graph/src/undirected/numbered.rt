@@ -24,18 +24,18 @@ fn number_into<'a, N, C, W, F, A>(
     nodes: &mut Nodes<'a, N, A>,
     numbered: &mut Vec<(usize, usize, Weighed<'a, N, C, W>), A>,
     edges: &'a [(N, N, C)],
-    weigh: F,
+    weigh: &F,
 ) -> Result<(), PathError>
 where
     N: Eq + Hash,
     W: Drop,
     F: Fn(&C) -> Result<W, AllocError>,
-    A: Allocator + Copy,
-    requires weighs { F.IsAlwaysCallable weigh }
+    A: Allocator,
+    requires weighs { F.IsAlwaysCallable weigh.now }
     requires none { (nodes.old.keys ≡ []) × (numbered.old.items ≡ []) }
     ensures numbered { OnOk result (IsNumbered N.eq nodes.new.keys edges.now numbered.new.items) }
     ensures in_order { OnOk result (map (λ e. e.2.edge.now) numbered.new.items ≡ edges.now) }
-    ensures weighed { OnOk result (All (IsWeighed F.Fn weigh) numbered.new.items) }
+    ensures weighed { OnOk result (All (IsWeighed F.Fn weigh.now) numbered.new.items) }
     ensures refused { IfErr result (λ e. e ≡ OutOfMemory) }
 {
     for edge in edges {
@@ -52,21 +52,21 @@ where
 pub fn number_edges<'a, N, C, W, F, A>(
     alloc: A,
     edges: &'a [(N, N, C)],
-    weigh: F,
+    weigh: &F,
 ) -> Result<NumberedEdges<'a, N, C, W, A>, PathError>
 where
     N: Eq + Hash,
     W: Drop,
     F: Fn(&C) -> Result<W, AllocError>,
     A: Allocator + Copy,
-    requires weighs { F.IsAlwaysCallable weigh }
+    requires weighs { F.IsAlwaysCallable weigh.now }
     ensures numbered { IfOk result (λ r. (nodes : List (Bor N)) × (length nodes ≡ r.count) × IsNumbered N.eq nodes edges.now r.edges.items) }
     ensures in_order { IfOk result (λ r. map (λ e. e.2.edge.now) r.edges.items ≡ edges.now) }
-    ensures weighed { IfOk result (λ r. All (IsWeighed F.Fn weigh) r.edges.items) }
+    ensures weighed { IfOk result (λ r. All (IsWeighed F.Fn weigh.now) r.edges.items) }
     ensures refused { IfErr result (λ e. e ≡ OutOfMemory) }
 {
-    let mut nodes = IndexSet::new(alloc);
     let mut numbered = Vec::with_capacity(alloc, edges.len())?;
+    let mut nodes = IndexSet::new(alloc);
     number_into(&mut nodes, &mut numbered, edges, weigh)?;
     Ok(NumberedEdges {
         count: nodes.len(),

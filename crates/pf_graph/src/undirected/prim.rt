@@ -11,6 +11,7 @@ ghost use Rattle.pf_graph.specs.Internal.NumberedEdges.{StandsFor};
 ghost use Rattle.pf_graph.specs.GrownTree.{StartsAt, GrowsByLeast, IsLeastAround, AreChosenEitherWay};
 ghost use Rattle.pf_graph.specs.Spanning.{IsForest};
 
+use crate::filled::filled;
 use crate::undirected::frontier::{cover, next_leaving};
 use crate::undirected::numbered::number_edges;
 use crate::undirected::steps::{Step, rows_of};
@@ -82,13 +83,12 @@ where
     ensures refused { IfErr result (λ e. e ≡ OutOfMemory) }
 {
     // Steps refer to the weights where they stand, so none is kept beside the numbers.
-    let numbered = number_edges(alloc, edges, |_| Ok(()))?;
+    let numbered = number_edges(alloc, edges, &|_| Ok(()))?;
     let Some(first) = numbered.edges.first() else {
         return Ok(Vec::new(alloc));
     };
     let start = first.0;
     let rows = rows_of(alloc, numbered.count, &numbered.edges)?;
-    let mut covered = Vec::new(alloc);
-    covered.resize(numbered.count, false)?;
+    let mut covered = filled(alloc, numbered.count, false)?;
     grow(alloc, &rows, &mut covered, start)
 }

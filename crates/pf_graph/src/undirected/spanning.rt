@@ -25,7 +25,7 @@ pub fn copies_of<C, A>(
 ) -> Result<Vec<(usize, usize, C), A>, PathError>
 where
     C: Clone,
-    A: Allocator + Copy,
+    A: Allocator,
     ensures copies { IfOk result (λ copies. HoldsCopies C.is_clone edges.now copies.items) }
     ensures refused { IfErr result (λ e. e ≡ OutOfMemory) }
 {
@@ -45,7 +45,7 @@ fn choose_edges<C, A>(
 ) -> Result<(), PathError>
 where
     C: Ord + Drop,
-    A: Allocator + Copy,
+    A: Allocator,
     requires sound { IsSound vertices.old }
     requires singletons { IsLabelling (λ x. x) vertices.old }
     requires below { AreBelow (length vertices.old) sorted.items }

@@ -17,7 +17,7 @@ pub struct Vertex {
 }
 
 /// As many vertices as `count`, each a set of its own.
-pub fn make_sets<A: Allocator + Copy>(alloc: A, count: usize) -> Result<Vec<Vertex, A>, PathError>
+pub fn make_sets<A: Allocator>(alloc: A, count: usize) -> Result<Vec<Vertex, A>, PathError>
     ensures sound { IfOk result (λ vertices. IsSound vertices.items) }
     ensures len { IfOk result (λ vertices. length vertices.items ≡ count) }
     ensures labels { IfOk result (λ vertices. IsLabelling (λ x. x) vertices.items) }

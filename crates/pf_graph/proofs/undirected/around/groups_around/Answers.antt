@@ -1,4 +1,4 @@
-use Rattle.std.proofs.Common.{rules, ◌≡◌, sym, subst, refl, Bor, take_all, List}
+use Rattle.std.proofs.Common.{rules, ◌≡◌, sym, subst, Bor, take_all}
 use Rattle.pf_base.specs.Walks.{HasNode}
 use Rattle.pf_base.proofs.Asking.{Answers-takes, Answers-gives, Answers-on, Gives-ends, Gives-drains}
 use Rattle.pf_graph.specs.Internal.Components.Around.{AreGroupsAround}

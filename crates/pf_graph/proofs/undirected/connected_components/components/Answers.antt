@@ -1,6 +1,7 @@
 use Rattle.std.proofs.Common.{◌≡◌, sym, subst, ap, ◌∙◌, ◌<◌, length, ℕ, All, Some}
 use Rattle.std.specs.Prelude.{slice_get}
 use Rattle.std.proofs.lemmas.Option.{slice_get-get_or}
+use Rattle.std.proofs.lemmas.Result.{IfOk-weaker}
 use Rattle.pf_graph.specs.Internal.Components.DisjointSets.{AreDone}
 use Rattle.pf_graph.proofs.Components.PairLemmas.{first_id_below}
 use Rattle.pf_graph.proofs.Components.CollectLemmas.{are_components}
@@ -22,10 +23,17 @@ collect_nodes-requires-clause-below g c =
 pub returns-clause-components : goal.returns-clause-components
 returns-clause-components g c =
     let p = c.in_ok-united.ensures.united in
-    let r = c.in_ok-sets.ensures.collected in
-    let done_at : AreDone c.in_ok-united.united.nodes.keys c.in_ok-united.united.first.items c.in_ok-united.united.ids.items (length c.in_ok-united.united.nodes.keys) r.0 =
-    subst (λ (n : ℕ). AreDone c.in_ok-united.united.nodes.keys c.in_ok-united.united.first.items c.in_ok-united.united.ids.items n r.0) (ap length c.deref.ensures.value ∙ p.1.len)
-    (subst (λ ns. AreDone ns c.in_ok-united.united.first.items c.in_ok-united.united.ids.items (length c.deref.result.now) r.0) c.as_slice.ensures.keys
-    (subst (λ fs. AreDone c.as_slice.result.now fs c.in_ok-united.united.ids.items (length c.deref.result.now) r.0) c.deref.ensures.value
+    let u = c.in_ok-united.united in
+    IfOk-weaker c.collect_nodes.result _ _ (λ sets r.
+    let done_at : AreDone u.nodes.keys u.first.items u.ids.items (length u.nodes.keys) r.0 =
+    subst (λ (n : ℕ). AreDone u.nodes.keys u.first.items u.ids.items n r.0) (ap length c.deref.ensures.value ∙ p.1.len)
+    (subst (λ ns. AreDone ns u.first.items u.ids.items (length c.deref.result.now) r.0) c.as_slice.ensures.keys
+    (subst (λ fs. AreDone c.as_slice.result.now fs u.ids.items (length c.deref.result.now) r.0) c.deref.ensures.value
     (subst (λ is. AreDone c.as_slice.result.now c.deref.result.now is (length c.deref.result.now) r.0) c.deref-2.ensures.value r.2))) in
-    are_components g.met.N.Eq.laws c.args.groups.now c.in_ok-united.united.nodes.keys c.in_ok-united.united.first.items p.0 p.1 c.in_ok-united.united.ids.items p.2 p.3 p.4 r.0 done_at r.1 c.in_ok-sets.sets.items r.3
+    are_components g.met.N.Eq.laws c.args.groups.now u.nodes.keys u.first.items p.0 p.1 u.ids.items p.2 p.3 p.4 r.0 done_at r.1 sets.items r.3) c.collect_nodes.ensures.collected
+
+pub returns-clause-refused : goal.returns-clause-refused
+returns-clause-refused g c = c.collect_nodes.ensures.refused
+
+pub collect_nodes-requires-clause-len : goal.collect_nodes-requires-clause-len
+collect_nodes-requires-clause-len g c = ap length c.deref.ensures.value ∙ c.in_ok-united.ensures.united.1.len ∙ sym (ap length c.as_slice.ensures.keys)

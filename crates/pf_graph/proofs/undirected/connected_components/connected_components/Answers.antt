@@ -1,4 +1,4 @@
-use Rattle.std.proofs.Common.{sym, subst, List}
+use Rattle.std.proofs.Common.{sym, subst}
 use Rattle.std.proofs.lemmas.Result.{IfOk-weaker}
 use Rattle.pf_graph.specs.Internal.Components.Around.{AreGroupsAround}
 use Rattle.pf_graph.proofs.Components.AroundLemmas.{components_around}

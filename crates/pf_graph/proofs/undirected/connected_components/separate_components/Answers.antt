@@ -23,3 +23,6 @@ returns-clause-mapped g c =
     (subst (λ ns. MapsByFirst g.N.PartialEq.eq ns c.in_ok-united.united.first.items c.in_ok-united.united.ids.items c.in_ok-of_vertex.of_vertex) c.as_slice.ensures.keys
     (subst (λ fs. MapsByFirst g.N.PartialEq.eq c.as_slice.result.now fs c.in_ok-united.united.ids.items c.in_ok-of_vertex.of_vertex) c.deref.ensures.value
     (subst (λ is. MapsByFirst g.N.PartialEq.eq c.as_slice.result.now c.deref.result.now is c.in_ok-of_vertex.of_vertex) c.deref-2.ensures.value m)))
+
+pub map_nodes-requires-clause-len : goal.map_nodes-requires-clause-len
+map_nodes-requires-clause-len g c = ap length c.deref.ensures.value ∙ c.in_ok-united.ensures.united.1.len ∙ sym (ap length c.as_slice.ensures.keys)

@@ -1,14 +1,36 @@
-use Rattle.std.proofs.Common.{sym, subst, ◌∙◌, []}
+use Rattle.std.proofs.Common.{ap, sym, subst, ◌∙◌, [], length, Result, Ok, Err, IfOk}
+use Rattle.std.proofs.lemmas.Result.{IfOk-weaker}
 use Rattle.pf_graph.specs.Internal.Components.DisjointSets.{IsGathered}
+use Rattle.pf_graph.specs.Internal.UnionFind.{IsSound, IsLabelling}
 use Rattle.pf_graph.proofs.Components.DisjointSetLemmas.{IsGathered-none}
 use Rattle.pf_graph.proofs.undirected.disjoint_sets.gather_and_identify.Goals as goal
 
+both : {T E : Type 0} (r : Result T E) (P Q : T → Type 0) → IfOk r P → IfOk r Q → IfOk r (λ x. P x × Q x)
+both (Ok x) P Q p q = (p, q)
+both (Err e) P Q p q = tt
+
 pub gather-requires-clause-none : goal.gather-requires-clause-none
 gather-requires-clause-none g c =
-    subst (λ ns. IsGathered g.N.PartialEq.eq [] ns c.args.first.now.items c.args.vertices.now) (sym c.requires.none.0)
-    (subst (λ fs. IsGathered g.N.PartialEq.eq [] [] fs c.args.vertices.now) (sym c.requires.none.1) (IsGathered-none g.N.PartialEq.eq c.args.vertices.now c.requires.sound c.requires.singletons))
+    let e = sym c.as_mut_slice-vertices.ensures.value in
+    let sound = subst IsSound e c.in_ok-sets.ensures.sound in
+    let alone = subst (IsLabelling (λ x. x)) e c.in_ok-sets.ensures.labels in
+    subst (λ ns. IsGathered g.N.PartialEq.eq [] ns c.args.first.now.items c.as_mut_slice-vertices.result.now) (sym c.requires.none.0)
+    (subst (λ fs. IsGathered g.N.PartialEq.eq [] [] fs c.as_mut_slice-vertices.result.now) (sym c.requires.none.1) (IsGathered-none g.N.PartialEq.eq c.as_mut_slice-vertices.result.now sound alone))
+
+pub gather-requires-clause-inside : goal.gather-requires-clause-inside
+gather-requires-clause-inside g c = ap length c.as_mut_slice-vertices.ensures.value ∙ c.in_ok-sets.ensures.len
+
+pub identify-requires-clause-sound : goal.identify-requires-clause-sound
+identify-requires-clause-sound g c = c.in_ok-gather.ensures.gathered.sound
+
+pub identify-requires-clause-len : goal.identify-requires-clause-len
+identify-requires-clause-len g c = c.gather.auto.vertices ∙ ap length c.as_mut_slice-vertices.ensures.value ∙ c.in_ok-sets.ensures.len
 
 pub returns-clause-united : goal.returns-clause-united
 returns-clause-united g c =
     let h = c.in_ok-gather.ensures.gathered in
-    (c.gather.new.vertices, h, c.in_ok-ids.ensures.identified h.label h.labels, c.in_ok-ids.ensures.len, c.gather.auto.vertices ∙ c.requires.inside)
+    let n = c.gather.auto.vertices ∙ ap length c.as_mut_slice-vertices.ensures.value ∙ c.in_ok-sets.ensures.len in
+    IfOk-weaker c.identify.result _ _ (λ ids r. (c.gather.new.vertices, h, r.1 h.label h.labels, r.0, n)) (both c.identify.result _ _ c.identify.ensures.len c.identify.ensures.identified)
+
+pub returns-clause-refused : goal.returns-clause-refused
+returns-clause-refused g c = c.identify.ensures.refused

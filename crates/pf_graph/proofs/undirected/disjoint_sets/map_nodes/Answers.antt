@@ -1,6 +1,7 @@
-use Rattle.std.proofs.Common.{◌<◌, refl, arith, length, slice_index_or, ℕ}
+use Rattle.std.proofs.Common.{◌<◌, refl, subst, arith, length, slice_index_or, ℕ, take_all}
 use Rattle.std.proofs.lemmas.List.{get_or_default}
 use Rattle.std.proofs.lemmas.Option.{slice_get-get_or, slice_get_read}
+use Rattle.pf_graph.specs.Internal.Components.DisjointSets.{MapsByFirst}
 use Rattle.pf_graph.proofs.Components.DisjointSetLemmas.{MapsByFirst-more}
 use Rattle.pf_graph.proofs.undirected.disjoint_sets.map_nodes.Goals as goal
 
@@ -14,3 +15,6 @@ loop-place-preserved g c =
     c.in_ok-insert.ensures.updates.0 c.loop-place-test.true (get_or_default first place 0 j c.loop-place-test.true)
     (slice_get_read c.args.nodes.now (length c.args.nodes.now) place c.index-nodes-place.result refl inside c.index-nodes-place.is)
     (slice_get-get_or c.args.ids.now j 0 (c.requires.inside place 0 c.loop-place-test.true)) c.loop-place.invariant
+
+pub returns-clause-maps : goal.returns-clause-maps
+returns-clause-maps g c = subst (λ fs. MapsByFirst g.N.PartialEq.eq c.args.nodes.now fs c.args.ids.now c.loop-place.of_node) (take_all c.loop-place.place c.args.first.now c.loop-place-test.false) c.loop-place.invariant

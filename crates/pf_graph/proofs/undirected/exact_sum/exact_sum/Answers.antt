@@ -1,5 +1,5 @@
 use Rattle.std.proofs.Common.{◌≡◌, sym, ◌∙◌, ap, subst, arith, pos, ℤ, Some, None}
-use Rattle.std.specs.Prelude.{◌<ℤ◌, ◌≤ℤ◌, MatchBool}
+use Rattle.std.specs.Prelude.{◌+ℤ◌, ◌<ℤ◌, ◌≤ℤ◌, MatchBool}
 use Rattle.std.specs.Ordering.{is_some_and, is_lt}
 use Rattle.std.proofs.lemmas.Int.{ints}
 use Rattle.std.proofs.lemmas.Option.{same_Some}
@@ -38,3 +38,9 @@ returns-in_err-sum g c =
     let past = g.met.C.CheckedAdd.checked_add_law c.weights.sum c.in-Some.taken.0 None c.in_err-sum.ensures in
     rw c.from_residual.ensures (past_range value g.C.Number.fits (λ x y z. g.C.Number.between_law x y z g.met.C.Integral.exact_law) c.lt.result c.in-Some.taken.0 c.in-Some.taken.1.now c.weights.left.now (value c.weights.sum) (values_sum value c.args.weights.now)
     c.in-Some.ensures i.rises side' i.fits c.known-in-Some.ensures i.whole past)
+
+pub returns : goal.returns
+returns g c =
+    let value = g.C.Number.value in
+    let whole = subst (λ xs. (value c.weights.sum +ℤ values_sum value xs) ≡ values_sum value c.args.weights.now) c.in_default.ensures c.weights.invariant.whole in
+    omega (arith, ints, whole)

@@ -1,4 +1,4 @@
-use Rattle.std.proofs.Common.{[], ◌∷◌, ◌++◌, ◌≡◌, ◌<◌, ℕ, subst, slice_index_or, length, refl, arith}
+use Rattle.std.proofs.Common.{[], ◌∷◌, ◌++◌, ◌≡◌, ◌<◌, ℕ, sym, subst, slice_index_or, length, refl, arith}
 use Rattle.std.proofs.lemmas.Option.{slice_get-get_or, slice_get_read}
 use Rattle.pf_graph.specs.Internal.Components.DisjointSets.{AreDone}
 use Rattle.pf_graph.proofs.Components.CollectLemmas.{AreDone-none, AreDone-more}
@@ -30,3 +30,10 @@ returns-clause-collected g c =
     let i = c.loop-number.invariant in
     let all : c.loop-number.number ≡ length c.args.first.now = omega arith in
     (i.done, subst (λ n. AreDone c.args.nodes.now c.args.first.now c.args.ids.now n i.done) all i.are_done, i.collected)
+
+pub add_node-requires-clause-inside : goal.add_node-requires-clause-inside
+add_node-requires-clause-inside g c =
+    let j : ℕ = slice_index_or c.args.first.now c.loop-number.number 0 in
+    let id : ℕ = slice_index_or c.args.ids.now j 0 in
+    let inside = c.requires.inside c.loop-number.number 0 c.loop-number-test.true in
+    subst (λ (n : ℕ). id < n) (sym c.loop-number.auto.place_of) (c.requires.below c.loop-number.number 0 c.loop-number-test.true id (slice_get-get_or c.args.ids.now j 0 inside))

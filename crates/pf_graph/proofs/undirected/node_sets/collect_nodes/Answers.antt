@@ -2,19 +2,26 @@ use Rattle.std.proofs.Common.{◌≡◌, sym, subst, ap, ◌∙◌, [], None, le
 use Rattle.std.specs.HashSet.{contains}
 use Rattle.std.proofs.lemmas.List.{length-replicate}
 use Rattle.pf_graph.specs.Internal.Components.DisjointSets.{IsCollected}
-use Rattle.pf_graph.proofs.ListLemmas.{resized}
 use Rattle.pf_graph.proofs.Components.CollectLemmas.{IsCollected-none, no_place}
 use Rattle.pf_graph.proofs.undirected.node_sets.collect_nodes.Goals as goal
 
 pub collect_into-requires-clause-below : goal.collect_into-requires-clause-below
 collect_into-requires-clause-below g c = λ k d l id e.
-    let items : c.deref_mut.result.now ≡ replicate (length c.args.ids.now) None = c.deref_mut.ensures.value ∙ resized (length c.args.ids.now) c.new-place_of.result.items c.resize.new.self.items _ None c.new-place_of.ensures.items c.new-place_of.ensures.len c.in_ok-resize.ensures.items in
+    let items : c.deref_mut.result.now ≡ replicate (length c.args.ids.now) None = c.deref_mut.ensures.value ∙ c.in_ok-place_of.ensures.items in
     let n : length c.deref_mut.result.now ≡ length c.args.ids.now = ap length items ∙ length-replicate (length c.args.ids.now) None in
     rw n (c.requires.below k d l id e)
 
 pub collect_into-requires-clause-none : goal.collect_into-requires-clause-none
 collect_into-requires-clause-none g c =
-    let items : c.deref_mut.result.now ≡ replicate (length c.args.ids.now) None = c.deref_mut.ensures.value ∙ resized (length c.args.ids.now) c.new-place_of.result.items c.resize.new.self.items _ None c.new-place_of.ensures.items c.new-place_of.ensures.len c.in_ok-resize.ensures.items in
+    let items : c.deref_mut.result.now ≡ replicate (length c.args.ids.now) None = c.deref_mut.ensures.value ∙ c.in_ok-place_of.ensures.items in
     subst (λ ps. IsCollected g.N.PartialEq.eq (contains g.N.PartialEq.eq) [] ps c.new-sets.result.items) (sym items)
     (subst (λ ss. IsCollected g.N.PartialEq.eq (contains g.N.PartialEq.eq) [] (replicate (length c.args.ids.now) None) ss) (sym c.new-sets.ensures.items)
     (IsCollected-none g.N.PartialEq.eq (contains g.N.PartialEq.eq) (replicate (length c.args.ids.now) None) (no_place (length c.args.ids.now))))
+
+pub collect_into-requires-clause-inside : goal.collect_into-requires-clause-inside
+collect_into-requires-clause-inside g c = c.requires.inside
+
+pub returns-clause-collected : goal.returns-clause-collected
+returns-clause-collected g c =
+    let h = c.in_ok-collect_into.ensures.collected in
+    (h.0, c.collect_into.new.place_of, h.1, h.2)

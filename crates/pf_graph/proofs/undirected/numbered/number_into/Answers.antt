@@ -12,7 +12,7 @@ loop-edge-init g c = record {
       let e : c.args.nodes.now.keys ≡ [] = c.requires.none.0 in
       subst (λ ns. IsNumbered g.N.PartialEq.eq ns [] c.args.numbered.now.items) (sym e) (subst (λ xs. IsNumbered g.N.PartialEq.eq [] [] xs) (sym c.requires.none.1) (IsNumbered-none g.N.PartialEq.eq));
   in_order = ap (map (λ e. e.2.edge.now)) c.requires.none.1;
-  weighed = All-same (IsWeighed g.F.Fn c.args.weigh) _ _ c.requires.none.1 (All-nil (IsWeighed g.F.Fn c.args.weigh));
+  weighed = All-same (IsWeighed g.F.Fn c.args.weigh.now) _ _ c.requires.none.1 (All-nil (IsWeighed g.F.Fn c.args.weigh.now));
 }
 
 pub loop-edge-preserved : goal.loop-edge-preserved
@@ -29,7 +29,7 @@ loop-edge-preserved g c =
           ∙ map-append (λ e. e.2.edge.now) c.loop-edge.numbered.items _
           ∙ ap (λ xs. xs ++ c.edge-item.result ∷ []) c.loop-edge.invariant.in_order
           ∙ sym (take_more c.args.edges.now c.loop-edge.edge-index c.edge-item.result c.loop-edge-test.true ∙ ap (λ x. take c.loop-edge.edge-index c.args.edges.now ++ x ∷ []) (sym c.edge-item.is));
-      weighed = All-same (IsWeighed g.F.Fn c.args.weigh) _ _ c.in_ok-push.ensures.items (All-push (IsWeighed g.F.Fn c.args.weigh) c.loop-edge.numbered.items _ c.loop-edge.invariant.weighed (record { shown = _; shows = refl; says = record { met = c.in_ok-weight.ensures } }));
+      weighed = All-same (IsWeighed g.F.Fn c.args.weigh.now) _ _ c.in_ok-push.ensures.items (All-push (IsWeighed g.F.Fn c.args.weigh.now) c.loop-edge.numbered.items _ c.loop-edge.invariant.weighed (record { shown = _; shows = refl; says = record { met = c.in_ok-weight.ensures } }));
     }
 
 pub returns-clause-numbered : goal.returns-clause-numbered
@@ -38,3 +38,6 @@ returns-clause-numbered g c =
 
 pub returns-clause-in_order : goal.returns-clause-in_order
 returns-clause-in_order g c = c.loop-edge.invariant.in_order ∙ take_all c.loop-edge.edge-index c.args.edges.now c.loop-edge-test.false
+
+pub returns-clause-weighed : goal.returns-clause-weighed
+returns-clause-weighed g c = c.loop-edge.invariant.weighed

@@ -60,3 +60,24 @@ pub returns-clause-grown : goal.returns-clause-grown
 returns-clause-grown g c = λ nodes edges x r at.
     let i = c.turns.invariant in
     IsGrown-end g.met.N.Eq.laws nodes g.met.C.Ord.total edges c.args.rows.now r x c.turns.covered i.len (heap_items c.turns.queue) i.waits (map shown c.turns.tree.items) (i.grown nodes edges x r at) c.in_default.ensures.taken
+
+pub cover-requires-clause-len : goal.cover-requires-clause-len
+cover-requires-clause-len g c = c.requires.len
+
+pub cover-requires-clause-inside : goal.cover-requires-clause-inside
+cover-requires-clause-inside g c = c.requires.inside
+
+pub cover-requires-clause-steps : goal.cover-requires-clause-steps
+cover-requires-clause-steps g c = c.requires.steps
+
+pub next_leaving-requires-clause-ordered : goal.next_leaving-requires-clause-ordered
+next_leaving-requires-clause-ordered g c = c.turns.invariant.ordered
+
+pub cover-requires-in-Some-clause-len : goal.cover-requires-in-Some-clause-len
+cover-requires-in-Some-clause-len g c = c.turns.invariant.len
+
+pub cover-requires-in-Some-clause-steps : goal.cover-requires-in-Some-clause-steps
+cover-requires-in-Some-clause-steps g c = c.requires.steps
+
+pub cover-requires-in-Some-clause-ordered : goal.cover-requires-in-Some-clause-ordered
+cover-requires-in-Some-clause-ordered g c = c.next_leaving.ensures.ordered

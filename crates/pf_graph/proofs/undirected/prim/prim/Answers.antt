@@ -6,7 +6,7 @@ use Rattle.pf_graph.specs.EdgesByReference.{shown}
 use Rattle.pf_graph.specs.Internal.Spanning.Frontier.{HasStep, HoldSteps, AreRows, IsMarked}
 use Rattle.pf_graph.specs.GrownTree.{GrowsByLeast, IsLeastAround}
 use Rattle.pf_graph.specs.Spanning.{IsForest, AreBelow}
-use Rattle.pf_graph.proofs.ListLemmas.{none_in, resized}
+use Rattle.pf_graph.proofs.ListLemmas.{none_in}
 use Rattle.pf_graph.proofs.Spanning.ForestLemmas.{IsForest-nil}
 use Rattle.pf_graph.proofs.Spanning.NameLemmas.{numbered_below}
 use Rattle.pf_graph.proofs.Spanning.PrimLemmas.{no_mark, no_start, first_is, start_is, are_rows, steps_inside, first_stands, first_inside}
@@ -52,12 +52,12 @@ grow-requires-clause-inside g c =
 
 pub grow-requires-clause-len : goal.grow-requires-clause-len
 grow-requires-clause-len g c =
-    let marks = c.deref_mut.ensures.value ∙ resized c.in_ok-numbered.numbered.count c.new-covered.result.items c.resize.new.self.items _ false c.new-covered.ensures.items c.new-covered.ensures.len c.in_ok-resize.ensures.items in
+    let marks = c.deref_mut.ensures.value ∙ c.in_ok-covered.ensures.items in
     ap length marks ∙ length-replicate c.in_ok-numbered.numbered.count false ∙ sym (ap length c.deref-3.ensures.value ∙ c.in_ok-rows.ensures.len)
 
 pub grow-requires-clause-none : goal.grow-requires-clause-none
 grow-requires-clause-none g c =
-    let marks = c.deref_mut.ensures.value ∙ resized c.in_ok-numbered.numbered.count c.new-covered.result.items c.resize.new.self.items _ false c.new-covered.ensures.items c.new-covered.ensures.len c.in_ok-resize.ensures.items in
+    let marks = c.deref_mut.ensures.value ∙ c.in_ok-covered.ensures.items in
     λ k m. no_mark c.in_ok-numbered.numbered.count k (subst (λ bs. IsMarked true bs k) marks m)
 
 pub grow-requires-clause-steps : goal.grow-requires-clause-steps

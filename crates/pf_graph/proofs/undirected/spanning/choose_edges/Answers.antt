@@ -56,3 +56,12 @@ returns-clause-given g c = λ e h.
     let road = YieldsList-from_vec c.args.sorted.items c.into_iter-edge-iterator.ensures.into_iter_gives.0 (c.into_iter-edge-iterator.ensures.into_iter_gives.1 ∙ len) in
     let all = YieldsList-end road c.edges.yielded c.edges.edge-iterator c.edges.yielded_by c.next.result c.next.new.self c.in-None.is c.next.ensures.steps in
     subst (λ xs. Contains xs e) (sym (map-id c.edges.yielded) ∙ all.0) (c.edges.invariant.grown.from e h)
+
+pub unite-requires-clause-sound : goal.unite-requires-clause-sound
+unite-requires-clause-sound g c = c.edges.invariant.sound
+
+pub returns-clause-forest : goal.returns-clause-forest
+returns-clause-forest g c = c.edges.invariant.grown.forest
+
+pub returns-clause-sorted : goal.returns-clause-sorted
+returns-clause-sorted g c = c.edges.invariant.grown.sorted

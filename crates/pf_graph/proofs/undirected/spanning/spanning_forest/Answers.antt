@@ -2,6 +2,7 @@ use Rattle.std.proofs.Common.{◌<◌, ◌∙◌, sym, ap, subst, rules, length}
 use Rattle.std.specs.Ordering.{is_lt}
 use Rattle.std.proofs.lemmas.List.Sorted.{All-permutation, Contains-permutation, IsPermutation-sym, ranks_by, answers_always}
 use Rattle.pf_graph.specs.Spanning.{AreBelow}
+use Rattle.pf_graph.specs.Internal.UnionFind.{IsSound, IsLabelling}
 use Rattle.pf_graph.proofs.Spanning.CopyLemmas.{least_of_permutation}
 use Rattle.pf_graph.proofs.undirected.spanning.spanning_forest.Goals as goal
 
@@ -22,3 +23,15 @@ returns-clause-least g c =
 pub returns-clause-given : goal.returns-clause-given
 returns-clause-given g c = λ e h.
     Contains-permutation c.sort_unstable_by.new.self.items c.args.edges.items e (IsPermutation-sym c.args.edges.items c.sort_unstable_by.new.self.items c.sort_unstable_by.ensures.permutation) (c.in_ok-choose_edges.ensures.given e h)
+
+pub choose_edges-requires-clause-sound : goal.choose_edges-requires-clause-sound
+choose_edges-requires-clause-sound g c = subst IsSound (sym c.deref_mut.ensures.value) c.in_ok-vertices.ensures.sound
+
+pub choose_edges-requires-clause-singletons : goal.choose_edges-requires-clause-singletons
+choose_edges-requires-clause-singletons g c = subst (IsLabelling (λ x. x)) (sym c.deref_mut.ensures.value) c.in_ok-vertices.ensures.labels
+
+pub returns-clause-forest : goal.returns-clause-forest
+returns-clause-forest g c = c.in_ok-choose_edges.ensures.forest
+
+pub returns-clause-sorted : goal.returns-clause-sorted
+returns-clause-sorted g c = c.in_ok-choose_edges.ensures.sorted

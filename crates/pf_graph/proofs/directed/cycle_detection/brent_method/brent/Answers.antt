@@ -1,5 +1,6 @@
 use Rattle.std.proofs.Common.{arith}
 use Rattle.pf_graph.proofs.CycleLemmas.{cycle_first, cycle_repeats}
+use Rattle.pf_graph.proofs.Outcomes.{refused_as, if_refused}
 use Rattle.pf_graph.proofs.directed.cycle_detection.brent_method.brent.Goals as goal
 
 pub first_value-requires-clause-steps : goal.first_value-requires-clause-steps
@@ -12,3 +13,16 @@ pub returns-clause-cycle : goal.returns-clause-cycle
 returns-clause-cycle g c = λ next a.
     let m = c.in_ok-length.ensures.cycle next a in
     cycle_first g.met.T.Eq.laws a.alike c.in_ok-length.length m.0 c.in_ok-value.index m.1 (c.in_ok-value.ensures.repeats next a) (c.in_ok-value.ensures.first next a)
+
+pub returns-in_err-length : goal.returns-in_err-length
+returns-in_err-length g c = record {
+  cycle = λ next a. if_refused _ c.from_residual.result _ c.from_residual.ensures.1;
+  value = λ next a. if_refused _ c.from_residual.result _ c.from_residual.ensures.1;
+  refused = λ next a. refused_as _ c.from_residual.result _ c.from_residual.ensures.1 (c.in_err-length.ensures.refused next a);
+}
+
+pub returns-clause-value : goal.returns-clause-value
+returns-clause-value g c = λ next a. c.in_ok-value.ensures.value next a
+
+pub returns-clause-refused : goal.returns-clause-refused
+returns-clause-refused g c = λ next a. tt

@@ -1,7 +1,7 @@
-use Rattle.std.proofs.Common.{rules, ◌≡◌, ℕ, ◌+◌, ◌-◌, ◌*◌, ◌<◌, ◌≤◌, arith, subst, sym, ◌∙◌, refl, inl, inr}
-use Rattle.pf_graph.specs.Cycles.{AnswersStep, IsAfter, IsMet, IsCycle, IsStepRefusal}
+use Rattle.std.proofs.Common.{rules, ◌+◌, ◌-◌, arith, inr}
+use Rattle.pf_graph.specs.Cycles.{IsStepRefusal}
 use Rattle.pf_graph.proofs.CycleLemmas.{differ, agree}
-use Rattle.pf_graph.proofs.BrentLemmas.{IsBrentRound, begin_round, next_step, next_power, round_met, round_refused, power_fits}
+use Rattle.pf_graph.proofs.BrentLemmas.{begin_round, next_step, next_power, round_met, round_refused, power_fits}
 use Rattle.pf_graph.proofs.directed.cycle_detection.brent_method.meeting.Goals.{then-length-power+in_ok-power+in_ok-waiting-2, else-length-power}
 use Rattle.pf_graph.proofs.directed.cycle_detection.brent_method.meeting.Goals as goal
 

@@ -1,4 +1,4 @@
-use Rattle.std.proofs.Common.{ℕ, ◌+◌, ◌-◌, ◌^◌}
+use Rattle.std.proofs.Common.{◌+◌, ◌-◌, ◌^◌}
 use Rattle.pf_graph.specs.Cycles.{AnswersStep, IsMet}
 use Rattle.pf_graph.proofs.BrentLemmas.{IsBrentRound}
 use Rattle.pf_graph.proofs.directed.cycle_detection.brent_method.meeting.Given as goal

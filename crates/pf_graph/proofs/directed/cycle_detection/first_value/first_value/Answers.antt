@@ -1,7 +1,7 @@
-use Rattle.std.proofs.Common.{rules, ◌≡◌, ◌<◌, ℕ, ◌+◌, arith, subst, sym, ◌∙◌, true, false}
-use Rattle.pf_graph.specs.Cycles.{AnswersStep, IsAfter, IsMet, Repeats}
+use Rattle.std.proofs.Common.{rules, ◌≡◌, ◌+◌, arith, subst}
+use Rattle.pf_graph.specs.Cycles.{IsAfter}
 use Rattle.pf_graph.proofs.CycleLemmas.{after_next, same_after, differ, agree}
-use Rattle.pf_graph.proofs.ChaseLemmas.{IsChase, chase_on, chase_below}
+use Rattle.pf_graph.proofs.ChaseLemmas.{chase_on, chase_below}
 use Rattle.pf_graph.proofs.directed.cycle_detection.first_value.first_value.Goals as goal
 
 pub loop-init : goal.loop-init

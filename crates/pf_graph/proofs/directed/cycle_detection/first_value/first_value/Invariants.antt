@@ -1,4 +1,4 @@
-use Rattle.std.proofs.Common.{ℕ, ◌-◌}
+use Rattle.std.proofs.Common.{◌-◌}
 use Rattle.pf_graph.specs.Cycles.{AnswersStep, IsAfter, IsMet}
 use Rattle.pf_graph.proofs.ChaseLemmas.{IsChase}
 use Rattle.pf_graph.proofs.directed.cycle_detection.first_value.first_value.Given as goal

@@ -1,5 +1,6 @@
 use Rattle.std.proofs.Common.{sym, ◌∙◌}
 use Rattle.pf_graph.proofs.FloydLemmas.{at_start, behind_start}
+use Rattle.pf_graph.proofs.Outcomes.{refused_as, if_refused}
 use Rattle.pf_graph.proofs.directed.cycle_detection.floyd_method.floyd_partial.Goals as goal
 
 pub returns-then-eq-clause-cycle : goal.returns-then-eq-clause-cycle
@@ -11,3 +12,22 @@ pub returns-clause-cycle : goal.returns-clause-cycle
 returns-clause-cycle g c = λ next a.
     let m = c.in_ok-length.ensures.cycle next a in
     (m.0, m.1, behind_start g.met.T.Eq.laws a.alike c.in_ok-length.value c.in_ok-length.length m.0 c.in_ok-length.steps m.1 m.2 (c.in_ok-length.ensures.value next a) (sym c.eq.ensures ∙ c.if-eq.false))
+
+pub returns-in_err-length : goal.returns-in_err-length
+returns-in_err-length g c = record {
+  cycle = λ next a. if_refused _ c.from_residual.result _ c.from_residual.ensures.1;
+  value = λ next a. if_refused _ c.from_residual.result _ c.from_residual.ensures.1;
+  refused = λ next a. refused_as _ c.from_residual.result _ c.from_residual.ensures.1 (c.in_err-length.ensures.refused next a);
+}
+
+pub returns-then-eq-clause-value : goal.returns-then-eq-clause-value
+returns-then-eq-clause-value g c = λ next a. g.met.T.Eq.laws.symm c.args.start c.in_ok-length.value ∙ sym c.eq.ensures ∙ c.if-eq.true
+
+pub returns-then-eq-clause-refused : goal.returns-then-eq-clause-refused
+returns-then-eq-clause-refused g c = λ next a. tt
+
+pub returns-clause-value : goal.returns-clause-value
+returns-clause-value g c = λ next a. c.in_ok-length.ensures.value next a
+
+pub returns-clause-refused : goal.returns-clause-refused
+returns-clause-refused g c = λ next a. tt

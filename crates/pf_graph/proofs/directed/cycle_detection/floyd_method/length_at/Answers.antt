@@ -1,7 +1,6 @@
-use Rattle.std.proofs.Common.{rules, ◌≡◌, ℕ, ◌+◌, ◌<◌, arith}
-use Rattle.pf_graph.specs.Cycles.{AnswersStep, IsAfter, IsMet, Repeats}
+use Rattle.std.proofs.Common.{rules, ◌+◌, arith}
 use Rattle.pf_graph.proofs.CycleLemmas.{after_equal, same_after, differ, agree}
-use Rattle.pf_graph.proofs.FloydLemmas.{IsLengthSearch, begin_search, next_search, search_below}
+use Rattle.pf_graph.proofs.FloydLemmas.{begin_search, next_search, search_below}
 use Rattle.pf_graph.proofs.directed.cycle_detection.floyd_method.length_at.Goals as goal
 
 pub call-ahead-requires : goal.call-ahead-requires

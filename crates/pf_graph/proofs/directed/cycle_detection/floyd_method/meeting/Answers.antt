@@ -1,7 +1,7 @@
-use Rattle.std.proofs.Common.{rules, ◌≡◌, ℕ, ◌+◌, ◌<◌, arith, inl, inr}
-use Rattle.pf_graph.specs.Cycles.{AnswersStep, IsAfter, IsMet, Repeats, IsStepRefusal}
+use Rattle.std.proofs.Common.{rules, ◌+◌, arith, inr}
+use Rattle.pf_graph.specs.Cycles.{IsStepRefusal}
 use Rattle.pf_graph.proofs.CycleLemmas.{after_next, after_equal, same_after, differ, agree}
-use Rattle.pf_graph.proofs.FloydLemmas.{IsFloydRound, begin_round, next_round, round_met, round_refused}
+use Rattle.pf_graph.proofs.FloydLemmas.{begin_round, next_round, round_met, round_refused}
 use Rattle.pf_graph.proofs.directed.cycle_detection.floyd_method.meeting.Goals as goal
 
 pub call-fast-requires : goal.call-fast-requires

@@ -2,7 +2,7 @@ use Rattle.std.proofs.Common.{rules, ◌≡◌, ◌<◌, ◌++◌, ◌∷◌, []
 use Rattle.std.specs.Prelude.{neg_ℤ, ◌+ℤ◌, ◌-ℤ◌, slice_index, slice_set}
 use Rattle.std.proofs.lemmas.List.{take_at}
 use Rattle.pf_graph.specs.Assignments.{number}
-use Rattle.pf_graph.specs.Internal.Assignment.AssignmentSteps.{holder, flag, raised, IsMatched, IsAlternatingTree, IsFlipped}
+use Rattle.pf_graph.specs.Internal.Assignment.AssignmentSteps.{holder, flag, raised, IsMatching, IsMatched, IsAlternatingTree, IsFlipped}
 use Rattle.pf_graph.proofs.Assignment.MatchingBounds.{step_difference, step_negation, step_sum, step_rest, depth_negation}
 use Rattle.pf_graph.proofs.Assignment.MatchingRaise.{nearest_number, rooted_of, augment_lists}
 use Rattle.pf_graph.proofs.kuhn_munkres.matching.Matching.augment.Goals as goal
@@ -136,3 +136,17 @@ returns-clause-matched g c =
     (subst (λ xs. IsMatched value t column_of (slice_set c.flip_path-left.new.row_of left (Some c.len-root.result)) (slice_set xs c.len-root.result low) vs) (sym fu)
     (subst (λ xs. IsMatched value t column_of (slice_set c.flip_path-left.new.row_of left (Some c.len-root.result)) (slice_set c.lower_rows.new.potentials c.len-root.result low) xs) (sym fv)
     (subst (λ k. IsMatched value t column_of (slice_set c.flip_path-left.new.row_of left (Some k)) (slice_set c.lower_rows.new.potentials k low) c.raise_columns.new.potentials) (sym root) all))))
+
+pub lower_rows-requires-clause-columns : goal.lower_rows-requires-clause-columns
+lower_rows-requires-clause-columns g c = λ i h.
+    let m = c.args.self.now in
+    let inside = c.requires.next.matched.matching.inside i (subst (λ cs. i < length cs) c.deref-3.ensures.value h) in
+    subst (λ cs. slice_index cs i < length c.deref-4.result.now) (sym c.deref-3.ensures.value)
+    (subst (λ (n : ℕ). slice_index m.column_of.items i < n) (sym (ap length c.deref-4.ensures.value ∙ c.requires.tree.visited_len)) inside)
+
+pub flip_path-left-requires-clause-matching : goal.flip_path-left-requires-clause-matching
+flip_path-left-requires-clause-matching g c =
+    let m = c.args.self.now in
+    subst (λ xs. IsMatching (length xs) (length c.deref_mut-4.result.now) (slice_index xs) (holder c.deref_mut-4.result.now)) (sym c.deref_mut-3.ensures.value)
+    (subst (λ xs. IsMatching (length m.column_of.items) (length xs) (slice_index m.column_of.items) (holder xs)) (sym c.deref_mut-4.ensures.value)
+    (subst (λ (n : ℕ). IsMatching (length m.column_of.items) n (slice_index m.column_of.items) (holder m.row_of.items)) (sym c.requires.next.matched.wide) c.requires.next.matched.matching))

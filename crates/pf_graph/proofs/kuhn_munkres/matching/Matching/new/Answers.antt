@@ -2,7 +2,6 @@ use Rattle.std.proofs.Common.{◌≡◌, refl, ap, sym, subst, ◌∙◌, ℕ, z
 use Rattle.std.specs.Prelude.{ℤ, pos}
 use Rattle.pf_graph.specs.Assignments.{number}
 use Rattle.pf_graph.specs.Internal.Assignment.AssignmentSteps.{holder}
-use Rattle.pf_graph.proofs.ListLemmas.{resized}
 use Rattle.pf_graph.proofs.kuhn_munkres.matching.Matching.new.Goals as goal
 
 none_held : (n j : ℕ) → holder (replicate n None) j ≡ None
@@ -16,12 +15,15 @@ all_zero value z e (suc n) zero = e
 all_zero value z e (suc n) (suc j) = all_zero value z e n j
 
 pub returns-clause-free : goal.returns-clause-free
-returns-clause-free g c =
-    let e = resized c.args.columns c.new-row_of.result.items c.resize.new.self.items _ None c.new-row_of.ensures.items c.new-row_of.ensures.len c.in_ok-resize.ensures.items in
-    subst (λ xs. (j : ℕ) → holder xs j ≡ None) (sym e) (none_held c.args.columns)
+returns-clause-free g c = subst (λ xs. (j : ℕ) → holder xs j ≡ None) (sym c.in_ok-row_of.ensures.items) (none_held c.args.columns)
 
 pub returns-clause-zero : goal.returns-clause-zero
 returns-clause-zero g c =
     let z : g.C.Number.value c.zero.result ≡ pos 0 = ap g.C.Number.value c.zero.ensures ∙ g.met.C.Zero.zero_law g.met.C.Integral.exact_law in
-    let e = resized c.args.columns c.new-column_potentials.result.items c.resize-2.new.self.items _ c.zero.result c.new-column_potentials.ensures.items c.new-column_potentials.ensures.len c.in_ok-resize-2.ensures.items in
-    subst (λ xs. (j : ℕ) → number g.C.Number.value xs j ≡ pos 0) (sym e) (all_zero g.C.Number.value c.zero.result z c.args.columns)
+    subst (λ xs. (j : ℕ) → number g.C.Number.value xs j ≡ pos 0) (sym c.in_ok-column_potentials.ensures.items) (all_zero g.C.Number.value c.zero.result z c.args.columns)
+
+pub returns-clause-row_of : goal.returns-clause-row_of
+returns-clause-row_of g c = c.in_ok-row_of.ensures.len
+
+pub returns-clause-column_potentials : goal.returns-clause-column_potentials
+returns-clause-column_potentials g c = c.in_ok-column_potentials.ensures.len

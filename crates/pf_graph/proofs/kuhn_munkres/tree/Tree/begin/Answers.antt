@@ -1,5 +1,5 @@
 use Rattle.std.proofs.Common.{rules, ◌≡◌, ◌<◌, ◌++◌, ◌∷◌, [], arith, ap, sym, subst, ◌∙◌, ℕ, length}
-use Rattle.std.specs.Prelude.{pos, neg_ℤ, ◌+ℤ◌, ◌-ℤ◌, slice_index}
+use Rattle.std.specs.Prelude.{pos, ◌+ℤ◌, ◌-ℤ◌, slice_index}
 use Rattle.pf_graph.specs.Assignments.{number}
 use Rattle.pf_graph.specs.Internal.Assignment.AssignmentSteps.{flag, IsFresh, IsScanned, IsTreeOf}
 use Rattle.pf_graph.proofs.Assignment.MatchingBounds.{column_negation, root_sum, root_difference}
@@ -71,3 +71,18 @@ returns-clause-places g c = c.scan.ensures.places ∙ c.clear-2.ensures.places
 
 pub returns-clause-nearest : goal.returns-clause-nearest
 returns-clause-nearest g c = c.scan.ensures.nearest
+
+pub scan-requires-clause-row_of : goal.scan-requires-clause-row_of
+scan-requires-clause-row_of g c = c.requires.next.matched.wide
+
+pub scan-requires-clause-potentials : goal.scan-requires-clause-potentials
+scan-requires-clause-potentials g c = c.requires.next.matched.columns
+
+pub scan-requires-clause-visited : goal.scan-requires-clause-visited
+scan-requires-clause-visited g c = c.clear-2.ensures.visited ∙ c.requires.visited
+
+pub scan-requires-clause-distances : goal.scan-requires-clause-distances
+scan-requires-clause-distances g c = c.clear-2.ensures.distances ∙ c.requires.distances
+
+pub scan-requires-clause-places : goal.scan-requires-clause-places
+scan-requires-clause-places g c = c.clear-2.ensures.places ∙ c.requires.places

@@ -1,4 +1,4 @@
-use Rattle.std.proofs.Common.{◌<◌, arith, ap, ◌∙◌, length, false}
+use Rattle.std.proofs.Common.{◌<◌, refl, arith, ap, ◌∙◌, length, false}
 use Rattle.std.specs.Prelude.{slice_set, slice_index}
 use Rattle.std.proofs.lemmas.List.{get_or-set_same, get_or-set_other, length-set}
 use Rattle.pf_graph.specs.Assignments.{number}
@@ -22,3 +22,14 @@ loop-column-preserved g c =
       far = λ j h. below_written (number g.C.Number.value (slice_set c.loop-column.self.distances.items k c.greatest.result)) (number g.C.Number.value c.loop-column.self.distances.items) (λ _. g.C.Number.value g.C.Cost.greatest) k (number-set_same g.C.Number.value c.loop-column.self.distances.items k c.greatest.result in_distances ∙ ap g.C.Number.value c.greatest.ensures) (λ n m. number-set_other g.C.Number.value c.loop-column.self.distances.items k n c.greatest.result m) i.far j h;
       root = λ j h. below_written (λ n. slice_index (slice_set c.loop-column.self.places.items k 0) n) (slice_index c.loop-column.self.places.items) (λ _. 0) k (get_or-set_same c.loop-column.self.places.items k 0 0 in_places) (λ n m. get_or-set_other c.loop-column.self.places.items k n 0 0 m) i.root j h;
     }
+
+pub loop-column-init : goal.loop-column-init
+loop-column-init g c = record {
+  rows = refl;
+  visited_len = refl;
+  distances_len = refl;
+  places_len = refl;
+  unvisited = λ j h. absurd (omega (arith, h));
+  far = λ j h. absurd (omega (arith, h));
+  root = λ j h. absurd (omega (arith, h));
+}

@@ -1,5 +1,6 @@
-use Rattle.std.proofs.Common.{arith}
+use Rattle.std.proofs.Common.{sym, ◌∙◌, arith}
 use Rattle.pf_graph.proofs.Assignment.MatchingTree.{tree_count}
+use Rattle.pf_graph.proofs.Outcomes.{refused_as, if_refused, on_refused}
 use Rattle.pf_graph.proofs.kuhn_munkres.tree.Tree.grow.Goals as goal
 
 pub returns-in_err-column-2-clause-rounds : goal.returns-in_err-column-2-clause-rounds
@@ -35,3 +36,40 @@ visits-preserved g c =
     let ticked = i.ticked in
     let rounds = i.rounds in
     record { tree = e.tree; nearest = e.nearest; ticked = omega (arith, ticked); rounds = omega (arith, more, rounds) }
+
+pub returns-in_err-column : goal.returns-in_err-column
+returns-in_err-column g c = record {
+  tree = on_refused _ c.from_residual.result _ c.from_residual.ensures.1;
+  nearest = if_refused _ c.from_residual.result _ c.from_residual.ensures.1;
+  free = if_refused _ c.from_residual.result _ c.from_residual.ensures.1;
+  visited = c.in_err-column.ensures.visited;
+  distances = c.in_err-column.ensures.distances;
+  places = c.in_err-column.ensures.places;
+  refused = refused_as _ c.from_residual.result _ c.from_residual.ensures.1 c.in_err-column.ensures.refused;
+  ticked = omega arith;
+  rounds = omega arith;
+}
+
+pub visit-requires-clause-tree : goal.visit-requires-clause-tree
+visit-requires-clause-tree g c = c.visits.invariant.tree
+
+pub visit-requires-clause-nearest : goal.visit-requires-clause-nearest
+visit-requires-clause-nearest g c = c.visits.invariant.nearest
+
+pub returns-clause-tree : goal.returns-clause-tree
+returns-clause-tree g c = c.visits.invariant.tree
+
+pub returns-clause-nearest : goal.returns-clause-nearest
+returns-clause-nearest g c = c.visits.invariant.nearest
+
+pub returns-clause-visited : goal.returns-clause-visited
+returns-clause-visited g c = c.visits.invariant.tree.visited_len ∙ sym c.requires.visited
+
+pub returns-clause-distances : goal.returns-clause-distances
+returns-clause-distances g c = c.visits.invariant.tree.distances_len ∙ sym c.requires.distances
+
+pub returns-clause-places : goal.returns-clause-places
+returns-clause-places g c = c.visits.invariant.tree.places_len ∙ sym c.requires.places
+
+pub returns-clause-ticked : goal.returns-clause-ticked
+returns-clause-ticked g c = c.visits.invariant.ticked

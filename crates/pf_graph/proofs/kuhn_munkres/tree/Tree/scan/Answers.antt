@@ -1,4 +1,4 @@
-use Rattle.std.proofs.Common.{rules, ℕ, ◌≡◌, ◌+◌, sym, subst, arith, ap, ◌∙◌, false, true, length}
+use Rattle.std.proofs.Common.{rules, ℕ, ◌≡◌, ◌<◌, ◌+◌, refl, sym, subst, arith, ap, ◌∙◌, Some, None, false, true, length}
 use Rattle.std.specs.Prelude.{slice_index, ◌+ℤ◌, ◌-ℤ◌, neg_ℤ}
 use Rattle.std.proofs.lemmas.List.{get_or_default}
 use Rattle.pf_graph.specs.Assignments.{number}
@@ -77,3 +77,35 @@ returns-clause-nearest g c =
     subst (λ n. IsNearest n (flag c.loop-column.self.visited.items) (number value c.loop-column.self.distances.items) c.unwrap.result) e
     (subst (λ xs. IsNearest k (flag xs) (number value c.loop-column.self.distances.items) c.unwrap.result) (sym c.loop-column.invariant.visited)
     (scan_nearest through c.args.place (flag c.args.self.now.visited.items) (number value c.args.self.now.distances.items) (slice_index c.args.self.now.places.items) k (number value c.loop-column.self.distances.items) (slice_index c.loop-column.self.places.items) c.loop-column.nearest c.loop-column.invariant.scanned c.unwrap.result c.unwrap.ensures))
+
+pub loop-column-init : goal.loop-column-init
+loop-column-init g c = record {
+  scanned = record {
+    relaxed = λ j h. absurd (omega (arith, h));
+    distances = λ j h. refl;
+    places = λ j h. refl;
+    none = λ e j h. absurd (omega (arith, h));
+    some = λ n e. absurd (let none : None ≡ Some n = e in cc);
+  };
+  rows = refl;
+  visited = refl;
+  distances_len = refl;
+  places_len = refl;
+}
+
+pub returns-clause-scanned : goal.returns-clause-scanned
+returns-clause-scanned g c =
+    let e : c.loop-column.column ≡ (g.W.Weights.table c.args.weights.now).columns = omega arith in
+    record { relaxed = λ j h. c.loop-column.invariant.scanned.relaxed j (subst (λ (n : ℕ). j < n) (sym e) h) }
+
+pub returns-clause-rows : goal.returns-clause-rows
+returns-clause-rows g c = c.loop-column.invariant.rows
+
+pub returns-clause-visited : goal.returns-clause-visited
+returns-clause-visited g c = c.loop-column.invariant.visited
+
+pub returns-clause-distances : goal.returns-clause-distances
+returns-clause-distances g c = c.loop-column.invariant.distances_len
+
+pub returns-clause-places : goal.returns-clause-places
+returns-clause-places g c = c.loop-column.invariant.places_len

@@ -1,5 +1,5 @@
 use Rattle.std.proofs.Common.{rules, ◌≡◌, ◌<◌, arith, ap, sym, subst, ◌∙◌, ◌∷◌, [], length, length-set, true, false, Some, None}
-use Rattle.std.specs.Prelude.{neg_ℤ, ◌+ℤ◌, ◌-ℤ◌, slice_index, slice_set}
+use Rattle.std.specs.Prelude.{neg_ℤ, ◌+ℤ◌, slice_index, slice_set}
 use Rattle.std.proofs.lemmas.List.{get_or-set_other, length-append}
 use Rattle.pf_graph.specs.Assignments.{number}
 use Rattle.pf_graph.specs.Internal.Assignment.AssignmentSteps.{holder, flag, IsScanned, IsTreeOf}
@@ -116,3 +116,15 @@ returns-clause-distances g c = c.scan.ensures.distances
 
 pub returns-clause-places : goal.returns-clause-places
 returns-clause-places g c = c.scan.ensures.places
+
+pub scan-requires-clause-row_of : goal.scan-requires-clause-row_of
+scan-requires-clause-row_of g c = c.requires.next.matched.wide
+
+pub scan-requires-clause-potentials : goal.scan-requires-clause-potentials
+scan-requires-clause-potentials g c = c.requires.next.matched.columns
+
+pub scan-requires-clause-distances : goal.scan-requires-clause-distances
+scan-requires-clause-distances g c = c.requires.tree.distances_len
+
+pub scan-requires-clause-places : goal.scan-requires-clause-places
+scan-requires-clause-places g c = c.requires.tree.places_len
