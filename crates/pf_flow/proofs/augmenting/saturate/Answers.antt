@@ -10,8 +10,8 @@ use Rattle.pf_flow.proofs.augmenting.saturate.Goals as goal
 kept_len : (n m : ℕ) (xs ys : List ℕ) → length xs ≡ m → length ys ≡ m → n ≡ m → length (take n (xs ++ drop (length xs) ys)) ≡ m
 kept_len n m xs ys e f h = grind (arith, length-take, length-append, length-drop)
 
-pub returns-in_err-found-2-clause-paths : goal.returns-in_err-found-2-clause-paths
-returns-in_err-found-2-clause-paths g c =
+pub returns-in_err-find-2-clause-paths : goal.returns-in_err-find-2-clause-paths
+returns-in_err-find-2-clause-paths g c =
     let i = c.phases.invariant in
     let p = c.augment_phase.ensures in
     ticks_top i.kept p.kept p.labelling c.args.tally.now c.phases.tally c.augment_phase.new.tally i.bound p.bound
@@ -28,7 +28,7 @@ pub phases-preserved : goal.phases-preserved
 phases-preserved g c =
     let i = c.phases.invariant in
     let p = c.augment_phase.ensures in
-    let found = c.in_ok-found-2.ensures in
+    let found = c.in_ok-find-2.ensures in
     let more = p.progress in
     let before = i.ticked in
     let wide = i.path_len in
@@ -55,7 +55,7 @@ returns-clause-paths g c =
 
 pub phases-init : goal.phases-init
 phases-init g c =
-    let f = c.in_ok-found.ensures in
+    let f = c.in_ok-find.ensures in
     record {
       network = c.requires.network;
       kept = capacities_kept (g.S.FlowStore.network c.args.store.now);
@@ -105,20 +105,20 @@ augment_phase-requires-clause-reached g c =
 pub augment_phase-requires-clause-path_len : goal.augment_phase-requires-clause-path_len
 augment_phase-requires-clause-path_len g c = ap length c.deref_mut.ensures.value ∙ c.phases.invariant.path_len
 
-pub returns-in_err-found-2-clause-network : goal.returns-in_err-found-2-clause-network
-returns-in_err-found-2-clause-network g c = c.augment_phase.ensures.network
+pub returns-in_err-find-2-clause-network : goal.returns-in_err-find-2-clause-network
+returns-in_err-find-2-clause-network g c = c.augment_phase.ensures.network
 
-pub returns-in_err-found-2-clause-kept : goal.returns-in_err-found-2-clause-kept
-returns-in_err-found-2-clause-kept g c = capacities_more c.phases.invariant.kept c.augment_phase.ensures.kept
+pub returns-in_err-find-2-clause-kept : goal.returns-in_err-find-2-clause-kept
+returns-in_err-find-2-clause-kept g c = capacities_more c.phases.invariant.kept c.augment_phase.ensures.kept
 
-pub returns-in_err-found-2-clause-ticked : goal.returns-in_err-found-2-clause-ticked
-returns-in_err-found-2-clause-ticked g c =
+pub returns-in_err-find-2-clause-ticked : goal.returns-in_err-find-2-clause-ticked
+returns-in_err-find-2-clause-ticked g c =
     let before = c.phases.invariant.ticked in
     let more = c.augment_phase.ensures.progress in
     omega (arith, before, more)
 
-pub returns-in_err-found-clause-kept : goal.returns-in_err-found-clause-kept
-returns-in_err-found-clause-kept g c = capacities_kept (g.S.FlowStore.network c.args.store.now)
+pub returns-in_err-find-clause-kept : goal.returns-in_err-find-clause-kept
+returns-in_err-find-clause-kept g c = capacities_kept (g.S.FlowStore.network c.args.store.now)
 
 pub returns-in_err-resize-clause-kept : goal.returns-in_err-resize-clause-kept
 returns-in_err-resize-clause-kept g c = capacities_kept (g.S.FlowStore.network c.args.store.now)
@@ -129,12 +129,6 @@ returns-clause-network g c = c.phases.invariant.network
 pub returns-clause-kept : goal.returns-clause-kept
 returns-clause-kept g c = c.phases.invariant.kept
 
-pub returns-clause-levels : goal.returns-clause-levels
-returns-clause-levels g c = c.phases.invariant.levels
-
-pub returns-clause-len : goal.returns-clause-len
-returns-clause-len g c = c.phases.invariant.levels_len
-
 pub returns-clause-stuck : goal.returns-clause-stuck
 returns-clause-stuck g c =
     let i = c.phases.invariant in
@@ -144,7 +138,11 @@ returns-clause-stuck g c =
     let sink = c.sink-sink.ensures ∙ sym i.kept.shape.sink in
     let read = get_or_read levels c.sink-sink.result c.index.result.now (omega (arith, inside, sink, i.levels_len)) c.index.ensures 0 ∙ ap (slice_index levels) sink in
     let top = i.levels.labelling.top M.sink inside in
-    omega (arith, read, top, c.phases-test.false, c.size-size.ensures, i.kept.shape.vertices)
+    record {
+      found = i.levels;
+      len = i.levels_len;
+      top = omega (arith, read, top, c.phases-test.false, c.size-size.ensures, i.kept.shape.vertices);
+    }
 
 pub returns-clause-ticked : goal.returns-clause-ticked
 returns-clause-ticked g c = c.phases.invariant.ticked
