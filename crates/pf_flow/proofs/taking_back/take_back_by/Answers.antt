@@ -1,9 +1,12 @@
 use Rattle.std.proofs.Common.{◌≡◌, ◌∙◌, ◌<◌, ◌-◌, ℕ, Some, arith, length, sym, ap, subst, take}
 use Rattle.std.specs.Prelude.{slice_get}
 use Rattle.std.proofs.lemmas.Int.{ints}
+use Rattle.std.proofs.lemmas.Result.{IfOk-from_err, MatchResult-from_err}
 use Rattle.pf_core.proofs.ListLemmas.{at_place, get_take}
+use Rattle.pf_flow.specs.Internal.Cancelling.{AreInside}
 use Rattle.pf_flow.specs.Internal.Settled.{AreFlowing, IsSettled, AreApart}
-use Rattle.pf_flow.proofs.AgreeLemmas.{network_agrees}
+use Rattle.pf_flow.proofs.AgreeLemmas.{agrees_itself, capacities_agrees, capacities_more, network_agrees}
+use Rattle.pf_flow.proofs.NetworkLemmas.{balanced_of}
 use Rattle.pf_flow.proofs.SettledLemmas.{settled_here}
 use Rattle.pf_flow.proofs.TakeBackLemmas.{plan_flowing, plan_network}
 use Rattle.pf_flow.proofs.taking_back.take_back_by.Goals as goal
@@ -86,3 +89,56 @@ returns-clause-excess g c =
     let was = p.1.total.2 in
     let now_total = c.set_total_capacity.ensures.total in
     omega (arith, ints, e, least, was, now_total)
+
+pub cancel-requires-clause-inside : goal.cancel-requires-clause-inside
+cancel-requires-clause-inside g c = subst (λ (n : ℕ). AreInside n c.args.ends.now) (sym c.size.ensures) c.requires.plan.1.inside
+
+pub cancel-requires-clause-long : goal.cancel-requires-clause-long
+cancel-requires-clause-long g c = c.requires.plan.1.long
+
+pub cancel-requires-clause-amounts : goal.cancel-requires-clause-amounts
+cancel-requires-clause-amounts g c = c.requires.plan.1.amounts
+
+pub cancel-requires-clause-balanced : goal.cancel-requires-clause-balanced
+cancel-requires-clause-balanced g c = c.requires.plan.1.balanced
+
+pub cancel-requires-clause-excess : goal.cancel-requires-clause-excess
+cancel-requires-clause-excess g c = let some = c.requires.some in omega (arith, ints, some)
+
+pub cancel-requires-clause-enough : goal.cancel-requires-clause-enough
+cancel-requires-clause-enough g c = c.requires.enough
+
+pub lower_flows-requires-clause-balanced : goal.lower_flows-requires-clause-balanced
+lower_flows-requires-clause-balanced g c = balanced_of c.requires.network
+
+pub bounds-amounts-count : goal.bounds-amounts-count
+bounds-amounts-count g c =
+    let p = c.requires.plan in
+    omega (arith, p.1.len, p.1.long, c.in_ok-cancel.ensures.lowered.len)
+
+pub returns-clause-kept : goal.returns-clause-kept
+returns-clause-kept g c =
+    let same = capacities_agrees c.set_total_capacity.ensures in
+    let shape = same.shape in
+    capacities_more c.lower_flows.ensures.settled.kept (record {
+      shape = record { vertices = shape.vertices; source = shape.source; sink = shape.sink; details = shape.details; room = shape.room };
+      capacities = record { at = same.capacities.at };
+    })
+
+pub returns-in_err-cancel-clause-network : goal.returns-in_err-cancel-clause-network
+returns-in_err-cancel-clause-network g c = c.requires.network
+
+pub returns-in_err-cancel-clause-kept : goal.returns-in_err-cancel-clause-kept
+returns-in_err-cancel-clause-kept g c = IfOk-from_err _ _ c.from_residual.ensures.0
+
+pub returns-in_err-cancel-clause-lowered : goal.returns-in_err-cancel-clause-lowered
+returns-in_err-cancel-clause-lowered g c = IfOk-from_err _ _ c.from_residual.ensures.0
+
+pub returns-in_err-cancel-clause-total : goal.returns-in_err-cancel-clause-total
+returns-in_err-cancel-clause-total g c = IfOk-from_err _ _ c.from_residual.ensures.0
+
+pub returns-in_err-cancel-clause-excess : goal.returns-in_err-cancel-clause-excess
+returns-in_err-cancel-clause-excess g c = IfOk-from_err _ _ c.from_residual.ensures.0
+
+pub returns-in_err-cancel-clause-unchanged : goal.returns-in_err-cancel-clause-unchanged
+returns-in_err-cancel-clause-unchanged g c = MatchResult-from_err _ _ _ c.from_residual.ensures.0 (λ e. agrees_itself (g.S.FlowStore.network c.args.store.now))
