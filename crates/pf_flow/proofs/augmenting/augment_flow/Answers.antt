@@ -37,32 +37,17 @@ augment_apart-requires-clause-network g c = c.requires
 pub augment_apart-requires-clause-apart : goal.augment_apart-requires-clause-apart
 augment_apart-requires-clause-apart g c = λ e. c.if-source-sink.false (c.source.ensures ∙ e ∙ sym c.sink.ensures)
 
-pub returns-clause-network : goal.returns-clause-network
-returns-clause-network g c = c.augment_apart.ensures.network
-
-pub returns-clause-kept : goal.returns-clause-kept
-returns-clause-kept g c = c.augment_apart.ensures.kept
-
-pub returns-clause-cut : goal.returns-clause-cut
-returns-clause-cut g c = c.augment_apart.ensures.cut
-
-pub returns-clause-total : goal.returns-clause-total
-returns-clause-total g c = c.augment_apart.ensures.total
-
-pub returns-clause-flows : goal.returns-clause-flows
-returns-clause-flows g c = c.augment_apart.ensures.flows
-
-pub returns-clause-cut_edges : goal.returns-clause-cut_edges
-returns-clause-cut_edges g c = c.augment_apart.ensures.cut_edges
-
-pub returns-clause-omitted : goal.returns-clause-omitted
-returns-clause-omitted g c = c.augment_apart.ensures.omitted
-
-pub returns-clause-ticked : goal.returns-clause-ticked
-returns-clause-ticked g c = c.augment_apart.ensures.ticked
-
-pub returns-clause-paths : goal.returns-clause-paths
-returns-clause-paths g c = c.augment_apart.ensures.paths
-
-pub returns-clause-idle : goal.returns-clause-idle
-returns-clause-idle g c = ok_gives c.augment_apart.result c.augment_apart.ensures.total (λ answer worth e. absurd (c.if-source-sink.false (c.source.ensures ∙ e ∙ sym c.sink.ensures)))
+pub returns : goal.returns
+returns g c = record {
+  network = c.augment_apart.ensures.network;
+  kept = c.augment_apart.ensures.kept;
+  cut = c.augment_apart.ensures.cut;
+  total = c.augment_apart.ensures.total;
+  flows = c.augment_apart.ensures.flows;
+  cut_edges = c.augment_apart.ensures.cut_edges;
+  idle = ok_gives c.augment_apart.result c.augment_apart.ensures.total (λ answer worth e. absurd (c.if-source-sink.false (c.source.ensures ∙ e ∙ sym c.sink.ensures)));
+  omitted = c.augment_apart.ensures.omitted;
+  refused = c.augment_apart.ensures.refused;
+  ticked = c.augment_apart.ensures.ticked;
+  paths = c.augment_apart.ensures.paths;
+}
