@@ -1,4 +1,4 @@
-use Rattle.std.proofs.Common.{◌≡◌, ◌∙◌, ◌*◌, ℕ, List, arith, inl, ap, length, subst, sym}
+use Rattle.std.proofs.Common.{◌∙◌, ◌*◌, ℕ, List, arith, inl, ap, length, subst, sym}
 use Rattle.pf_flow.specs.Capacities.{square_table, AreRefused}
 use Rattle.pf_flow.specs.Networks.{HasCapacities, IsFresh}
 use Rattle.pf_flow.proofs.FillLemmas.{fresh_kept, network_of_unused, unused_of_fresh}

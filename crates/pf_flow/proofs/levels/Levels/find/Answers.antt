@@ -1,5 +1,6 @@
 use Rattle.std.proofs.Common.{◌≤◌, length, arith}
 use Rattle.std.proofs.lemmas.Result.{IfOk-from_err}
+use Rattle.pf_flow.proofs.NamedLemmas.{refused_as}
 use Rattle.pf_flow.proofs.LevelLemmas.{levels_of}
 use Rattle.pf_flow.proofs.levels.Levels.find.Goals as goal
 
@@ -14,49 +15,38 @@ loop-at-smaller g c =
 pub loop-at-preserved : goal.loop-at-preserved
 loop-at-preserved g c = record { found = c.in_ok-follow.ensures.found; steps = c.in_ok-follow.ensures.steps }
 
-pub follow-requires-clause-found : goal.follow-requires-clause-found
-follow-requires-clause-found g c = c.loop-at.invariant.found
+pub follow-requires : goal.follow-requires
+follow-requires g c = record {
+  found = c.loop-at.invariant.found;
+  at = omega (arith, c.len.ensures, c.loop-at.self.queue.ok, c.loop-at-test.true);
+  steps = c.loop-at.invariant.steps;
+}
 
-pub follow-requires-clause-at : goal.follow-requires-clause-at
-follow-requires-clause-at g c = omega (arith, c.len.ensures, c.loop-at.self.queue.ok, c.loop-at-test.true)
+pub returns : goal.returns
+returns g c = record {
+  levels =
+      let all : length c.loop-at.self.queue.items ≤ c.loop-at.at = omega (arith, c.len.ensures, c.loop-at.self.queue.ok, c.loop-at-test.false) in
+      levels_of all c.loop-at.invariant.found.search;
+  levels_len = c.loop-at.invariant.found.levels_len;
+  parents_len = c.loop-at.invariant.found.parents_len;
+  steps = c.loop-at.invariant.steps;
+  refused = tt;
+}
 
-pub follow-requires-clause-steps : goal.follow-requires-clause-steps
-follow-requires-clause-steps g c = c.loop-at.invariant.steps
+pub returns-in_err-begin : goal.returns-in_err-begin
+returns-in_err-begin g c = record {
+  levels = IfOk-from_err _ _ c.from_residual.ensures.0;
+  levels_len = IfOk-from_err _ _ c.from_residual.ensures.0;
+  parents_len = IfOk-from_err _ _ c.from_residual.ensures.0;
+  steps = IfOk-from_err _ _ c.from_residual.ensures.0;
+  refused = refused_as _ c.from_residual.result _ c.in_err-begin.ensures.refused c.from_residual.ensures.1;
+}
 
-pub returns-clause-levels : goal.returns-clause-levels
-returns-clause-levels g c =
-    let all : length c.loop-at.self.queue.items ≤ c.loop-at.at = omega (arith, c.len.ensures, c.loop-at.self.queue.ok, c.loop-at-test.false) in
-    levels_of all c.loop-at.invariant.found.search
-
-pub returns-clause-levels_len : goal.returns-clause-levels_len
-returns-clause-levels_len g c = c.loop-at.invariant.found.levels_len
-
-pub returns-clause-parents_len : goal.returns-clause-parents_len
-returns-clause-parents_len g c = c.loop-at.invariant.found.parents_len
-
-pub returns-clause-steps : goal.returns-clause-steps
-returns-clause-steps g c = c.loop-at.invariant.steps
-
-pub returns-in_err-begin-clause-levels : goal.returns-in_err-begin-clause-levels
-returns-in_err-begin-clause-levels g c = IfOk-from_err _ _ c.from_residual.ensures.0
-
-pub returns-in_err-begin-clause-levels_len : goal.returns-in_err-begin-clause-levels_len
-returns-in_err-begin-clause-levels_len g c = IfOk-from_err _ _ c.from_residual.ensures.0
-
-pub returns-in_err-begin-clause-parents_len : goal.returns-in_err-begin-clause-parents_len
-returns-in_err-begin-clause-parents_len g c = IfOk-from_err _ _ c.from_residual.ensures.0
-
-pub returns-in_err-begin-clause-steps : goal.returns-in_err-begin-clause-steps
-returns-in_err-begin-clause-steps g c = IfOk-from_err _ _ c.from_residual.ensures.0
-
-pub returns-in_err-follow-clause-levels : goal.returns-in_err-follow-clause-levels
-returns-in_err-follow-clause-levels g c = IfOk-from_err _ _ c.from_residual-in_err-follow.ensures.0
-
-pub returns-in_err-follow-clause-levels_len : goal.returns-in_err-follow-clause-levels_len
-returns-in_err-follow-clause-levels_len g c = IfOk-from_err _ _ c.from_residual-in_err-follow.ensures.0
-
-pub returns-in_err-follow-clause-parents_len : goal.returns-in_err-follow-clause-parents_len
-returns-in_err-follow-clause-parents_len g c = IfOk-from_err _ _ c.from_residual-in_err-follow.ensures.0
-
-pub returns-in_err-follow-clause-steps : goal.returns-in_err-follow-clause-steps
-returns-in_err-follow-clause-steps g c = IfOk-from_err _ _ c.from_residual-in_err-follow.ensures.0
+pub returns-in_err-follow : goal.returns-in_err-follow
+returns-in_err-follow g c = record {
+  levels = IfOk-from_err _ _ c.from_residual-in_err-follow.ensures.0;
+  levels_len = IfOk-from_err _ _ c.from_residual-in_err-follow.ensures.0;
+  parents_len = IfOk-from_err _ _ c.from_residual-in_err-follow.ensures.0;
+  steps = IfOk-from_err _ _ c.from_residual-in_err-follow.ensures.0;
+  refused = refused_as _ c.from_residual-in_err-follow.result _ c.in_err-follow.ensures.refused c.from_residual-in_err-follow.ensures.1;
+}

@@ -1,4 +1,4 @@
-use Rattle.std.proofs.Common.{rules, length-append, refl, ◌≡◌, ◌<◌, ◌≤◌, ◌+◌, ℕ, List, [], ◌∷◌, ◌++◌, inl, inr, ap, sym, subst, ◌∙◌, length, arith}
+use Rattle.std.proofs.Common.{length-append, refl, ◌≡◌, ◌<◌, ◌≤◌, ◌+◌, ℕ, List, [], ◌∷◌, ◌++◌, inl, inr, ap, sym, subst, ◌∙◌, length, arith}
 use Rattle.std.specs.Prelude.{slice_set, slice_get, slice_index, ◌<ℤ◌, pos, Option, Some, None}
 use Rattle.std.proofs.lemmas.Bool.{cases_eq}
 use Rattle.std.proofs.lemmas.List.{get_or_read}
@@ -11,7 +11,7 @@ use Rattle.pf_flow.specs.Internal.Levels.{HasFound, Reaches}
 use Rattle.pf_flow.specs.Internal.Steps.{AreSteps}
 use Rattle.pf_flow.proofs.LevelListLemmas.{found_more, found_next, known_level, to_reached, levels_kept, from_kept}
 use Rattle.pf_core.proofs.ListLemmas.{on_ok}
-use Rattle.pf_flow.proofs.NamedLemmas.{ok_when}
+use Rattle.pf_flow.proofs.NamedLemmas.{refused_as, ok_when}
 use Rattle.pf_flow.proofs.levels.Levels.follow.Goals as goal
 
 module _ {C : Type 0} (N : Network) (at from level : ℕ) (ends : List (ℕ × C)) where
@@ -73,28 +73,6 @@ module _ {C : Type 0} (N : Network) (at from level : ℕ) (ends : List (ℕ × C
               (subst (Kept (k + 1) levels parents) (sym q.2) (known w (known_level w.0 w.1 to from level i n w.2 w.3)))))
         ]
 
-pub reach-requires-clause-to : goal.reach-requires-clause-to
-reach-requires-clause-to g c =
-    let N = g.S.FlowStore.network c.args.store.now in
-    let i = c.loop-end.invariant in
-    let ends = c.deref-end-items.result.now in
-    let there : slice_get ends c.loop-end.end-index ≡ Some c.end-item.result = slice_get_read ends (length ends) c.loop-end.end-index c.end-item.result refl c.loop-end-test.true c.end-item.is in
-    let listed : ListsNumbers g.C.Number.value N.vertices (N.residual c.index-from.result.now) c.in_ok-ends.ends.items = c.in_ok-ends.ensures.listed in
-    let s = listed.sound c.loop-end.end-index c.end-item.result (ap (λ xs. slice_get xs c.loop-end.end-index) (sym c.deref-end-items.ensures.value) ∙ there) in
-    let inside = s.0 in
-    omega (arith, inside, i.found.levels_len)
-
-pub reach-requires-clause-low : goal.reach-requires-clause-low
-reach-requires-clause-low g c =
-    let i = c.loop-end.invariant in
-    let low = i.found.search.place c.args.at i.more in
-    let level = sym i.level ∙ ap (slice_index c.loop-end.self.levels.items) (sym i.from) in
-    let all = i.found.search.count in
-    omega (arith, low, level, i.more, i.found.levels_len, all)
-
-pub reach-requires-clause-wide : goal.reach-requires-clause-wide
-reach-requires-clause-wide g c = c.loop-end.invariant.found.parents_len ∙ sym c.loop-end.invariant.found.levels_len
-
 pub loop-end-preserved : goal.loop-end-preserved
 loop-end-preserved g c =
     let N = g.S.FlowStore.network c.args.store.now in
@@ -115,51 +93,6 @@ loop-end-preserved g c =
       followed = after.4;
       steps = subst (λ t. AreSteps N.vertices t.targets.items t.places.items t.ends.items) (sym c.reach.ensures.steps) i.steps;
     }
-
-pub add_row-requires-clause-steps : goal.add_row-requires-clause-steps
-add_row-requires-clause-steps g c =
-    let i = c.loop-end.invariant in
-    let steps = c.loop-end.self.steps in
-    subst (λ n. AreSteps n steps.targets.items steps.places.items steps.ends.items) (sym (ap length c.deref-2.ensures.value ∙ i.found.levels_len)) i.steps
-
-pub add_row-requires-clause-from : goal.add_row-requires-clause-from
-add_row-requires-clause-from g c =
-    let i = c.loop-end.invariant in
-    let inside = i.found.search.inside c.args.at i.more in
-    omega (arith, inside, i.from, ap length c.deref-2.ensures.value, i.found.levels_len)
-
-pub returns-clause-steps : goal.returns-clause-steps
-returns-clause-steps g c =
-    let steps = c.add_row.new.self in
-    on_ok c.add_row.result c.add_row.ensures.steps (subst (λ n. AreSteps n steps.targets.items steps.places.items steps.ends.items) (ap length c.deref-2.ensures.value ∙ c.loop-end.invariant.found.levels_len))
-
-pub returns-clause-found : goal.returns-clause-found
-returns-clause-found g c =
-    let N = g.S.FlowStore.network c.args.store.now in
-    let i = c.loop-end.invariant in
-    let listed : ListsNumbers g.C.Number.value N.vertices (N.residual c.index-from.result.now) c.in_ok-ends.ends.items = c.in_ok-ends.ensures.listed in
-    ok_when c.add_row.result (found_next i.found i.more c.index-from.result.now c.index-level.result.now i.from i.level
-    (λ b l r. let q = listed.complete b l r in
-    let there : slice_get c.deref-end-items.result.now q.0 ≡ Some (b, q.1) = ap (λ xs. slice_get xs q.0) c.deref-end-items.ensures.value ∙ q.2 in
-    let inside = slice_get_within c.deref-end-items.result.now q.0 (b, q.1) there in
-    let done = c.loop-end-test.false in
-    i.followed q.0 b q.1 (omega (arith, inside, done)) there))
-
-pub returns-in_err-reach-clause-found : goal.returns-in_err-reach-clause-found
-returns-in_err-reach-clause-found g c = IfOk-from_err _ _ c.from_residual-in_err-reach.ensures.0
-
-pub returns-in_err-reach-clause-steps : goal.returns-in_err-reach-clause-steps
-returns-in_err-reach-clause-steps g c = IfOk-from_err _ _ c.from_residual-in_err-reach.ensures.0
-
-pub add_row-requires-clause-inside : goal.add_row-requires-clause-inside
-add_row-requires-clause-inside g c = λ k to left h.
-    let N = g.S.FlowStore.network c.args.store.now in
-    let listed : ListsNumbers g.C.Number.value N.vertices (N.residual c.index-from.result.now) c.in_ok-ends.ends.items = c.in_ok-ends.ensures.listed in
-    let s = listed.sound k (to, left) (ap (λ xs. slice_get xs k) (sym c.deref.ensures.value) ∙ h) in
-    let inside = s.0 in
-    let wide = c.loop-end.invariant.found.levels_len in
-    let len = ap length c.deref-2.ensures.value in
-    omega (arith, inside, wide, len)
 
 pub index-from-requires : goal.index-from-requires
 index-from-requires g c = omega (arith, c.requires.at, c.args.self.now.queue.ok)
@@ -198,8 +131,75 @@ bounds-end-items-end-index g c = c.loop-end-test.true
 pub loop-end-smaller : goal.loop-end-smaller
 loop-end-smaller g c = omega (arith, c.loop-end-test.true)
 
-pub returns-in_err-ends-clause-found : goal.returns-in_err-ends-clause-found
-returns-in_err-ends-clause-found g c = IfOk-from_err _ _ c.from_residual.ensures.0
+pub reach-requires : goal.reach-requires
+reach-requires g c = record {
+  low =
+      let i = c.loop-end.invariant in
+      let low = i.found.search.place c.args.at i.more in
+      let level = sym i.level ∙ ap (slice_index c.loop-end.self.levels.items) (sym i.from) in
+      let all = i.found.search.count in
+      omega (arith, low, level, i.more, i.found.levels_len, all);
+  to =
+      let N = g.S.FlowStore.network c.args.store.now in
+      let i = c.loop-end.invariant in
+      let ends = c.deref-end-items.result.now in
+      let there : slice_get ends c.loop-end.end-index ≡ Some c.end-item.result = slice_get_read ends (length ends) c.loop-end.end-index c.end-item.result refl c.loop-end-test.true c.end-item.is in
+      let listed : ListsNumbers g.C.Number.value N.vertices (N.residual c.index-from.result.now) c.in_ok-ends.ends.items = c.in_ok-ends.ensures.listed in
+      let s = listed.sound c.loop-end.end-index c.end-item.result (ap (λ xs. slice_get xs c.loop-end.end-index) (sym c.deref-end-items.ensures.value) ∙ there) in
+      let inside = s.0 in
+      omega (arith, inside, i.found.levels_len);
+  wide = c.loop-end.invariant.found.parents_len ∙ sym c.loop-end.invariant.found.levels_len;
+}
 
-pub returns-in_err-ends-clause-steps : goal.returns-in_err-ends-clause-steps
-returns-in_err-ends-clause-steps g c = IfOk-from_err _ _ c.from_residual.ensures.0
+pub add_row-requires : goal.add_row-requires
+add_row-requires g c = record {
+  steps =
+      let i = c.loop-end.invariant in
+      let steps = c.loop-end.self.steps in
+      subst (λ n. AreSteps n steps.targets.items steps.places.items steps.ends.items) (sym (ap length c.deref-2.ensures.value ∙ i.found.levels_len)) i.steps;
+  from =
+      let i = c.loop-end.invariant in
+      let inside = i.found.search.inside c.args.at i.more in
+      omega (arith, inside, i.from, ap length c.deref-2.ensures.value, i.found.levels_len);
+  inside =
+      λ k to left h.
+      let N = g.S.FlowStore.network c.args.store.now in
+      let listed : ListsNumbers g.C.Number.value N.vertices (N.residual c.index-from.result.now) c.in_ok-ends.ends.items = c.in_ok-ends.ensures.listed in
+      let s = listed.sound k (to, left) (ap (λ xs. slice_get xs k) (sym c.deref.ensures.value) ∙ h) in
+      let inside = s.0 in
+      let wide = c.loop-end.invariant.found.levels_len in
+      let len = ap length c.deref-2.ensures.value in
+      omega (arith, inside, wide, len);
+}
+
+pub returns : goal.returns
+returns g c = record {
+  found =
+      let N = g.S.FlowStore.network c.args.store.now in
+      let i = c.loop-end.invariant in
+      let listed : ListsNumbers g.C.Number.value N.vertices (N.residual c.index-from.result.now) c.in_ok-ends.ends.items = c.in_ok-ends.ensures.listed in
+      ok_when c.add_row.result (found_next i.found i.more c.index-from.result.now c.index-level.result.now i.from i.level
+      (λ b l r. let q = listed.complete b l r in
+      let there : slice_get c.deref-end-items.result.now q.0 ≡ Some (b, q.1) = ap (λ xs. slice_get xs q.0) c.deref-end-items.ensures.value ∙ q.2 in
+      let inside = slice_get_within c.deref-end-items.result.now q.0 (b, q.1) there in
+      let done = c.loop-end-test.false in
+      i.followed q.0 b q.1 (omega (arith, inside, done)) there));
+  steps =
+      let steps = c.add_row.new.self in
+      on_ok c.add_row.result c.add_row.ensures.steps (subst (λ n. AreSteps n steps.targets.items steps.places.items steps.ends.items) (ap length c.deref-2.ensures.value ∙ c.loop-end.invariant.found.levels_len));
+  refused = c.add_row.ensures.refused;
+}
+
+pub returns-in_err-ends : goal.returns-in_err-ends
+returns-in_err-ends g c = record {
+  found = IfOk-from_err _ _ c.from_residual.ensures.0;
+  steps = IfOk-from_err _ _ c.from_residual.ensures.0;
+  refused = refused_as _ c.from_residual.result _ c.in_err-ends.ensures.refused c.from_residual.ensures.1;
+}
+
+pub returns-in_err-reach : goal.returns-in_err-reach
+returns-in_err-reach g c = record {
+  found = IfOk-from_err _ _ c.from_residual-in_err-reach.ensures.0;
+  steps = IfOk-from_err _ _ c.from_residual-in_err-reach.ensures.0;
+  refused = refused_as _ c.from_residual-in_err-reach.result _ c.in_err-reach.ensures.refused c.from_residual-in_err-reach.ensures.1;
+}
