@@ -106,6 +106,11 @@ pub ok_gives : {A E : Type 0} {P Q : A → Type 0} (r : Result A E) → IfOk r P
 ok_gives (Ok a) p f = f a p
 ok_gives (Err e) p f = p
 
+-- the same from two facts on it
+pub ok_both : {A E : Type 0} {P Q R : A → Type 0} (r : Result A E) → IfOk r P → IfOk r Q → ((a : A) → P a → Q a → R a) → IfOk r R
+ok_both (Ok a) p q f = f a p q
+ok_both (Err e) p q f = p
+
 -- what holds at all holds where there is an answer
 pub ok_when : {A E P : Type 0} (r : Result A E) → P → OnOk r P
 ok_when (Ok a) p = p

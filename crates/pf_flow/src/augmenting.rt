@@ -1,11 +1,11 @@
 //! Greatest flows along shortest augmenting paths.
 
-ghost use Rattle.std.specs.Prelude.{◌≡◌, ◌≢◌, ◌≤◌, ◌+◌, ◌*◌, pos, true, false, [], length, slice_index, OnOk, IfOk, IfErr};
+ghost use Rattle.std.specs.Prelude.{◌≡◌, ◌≢◌, ◌≤◌, ◌+◌, ◌*◌, pos, true, false, [], OnOk, IfOk, IfErr};
 ghost use Rattle.pf_base.specs.declared.error.PathError.TheVariants.{OutOfMemory};
 ghost use Rattle.pf_flow.specs.Flows.{pair_count};
 ghost use Rattle.pf_flow.specs.Networks.{Network, capacity, KeepsCapacities, IsNetwork, HasCutOfTotal};
 ghost use Rattle.pf_flow.specs.Listings.{ListsFlows, ListsLeastCut};
-ghost use Rattle.pf_flow.specs.Internal.Levels.{AreLevels};
+ghost use Rattle.pf_flow.specs.Internal.Levels.{IsStuck};
 
 use crate::cuts::list_cut;
 use crate::edmonds_karp::EKFlows;
@@ -17,9 +17,14 @@ use pf_base::utils::Tally;
 use pf_base::{PathError, SignedCost};
 use std::alloc::Allocator;
 
-/// Adds flow along shortest paths, in phases of paths of one length, until none is left, and answers
+/// Adds flow along shortest paths, in phases of paths of one length, until none is left. Found are then
 /// the levels of the last search, which does not reach the sink.
-fn saturate<C, S, A>(store: &mut S, alloc: A, tally: &mut Tally) -> Result<Levels<A>, PathError>
+fn saturate<C, S, A>(
+    store: &mut S,
+    alloc: A,
+    found: &mut Levels<A>,
+    tally: &mut Tally,
+) -> Result<(), PathError>
 where
     C: SignedCost,
     S: FlowStore<C>,
@@ -28,9 +33,7 @@ where
     requires apart { (S.network store.old).source ≢ (S.network store.old).sink }
     ensures network { IsNetwork C.fits (S.network store.new) }
     ensures kept { KeepsCapacities (S.network store.old) (S.network store.new) }
-    ensures levels { IfOk result (λ found. AreLevels (S.network store.new) (slice_index found.levels.items) (slice_index found.parents.items)) }
-    ensures len { IfOk result (λ found. length found.levels.items ≡ (S.network store.new).vertices) }
-    ensures stuck { IfOk result (λ found. slice_index found.levels.items (S.network store.new).sink ≡ (S.network store.new).vertices) }
+    ensures stuck { OnOk result (IsStuck (S.network store.new) found.new.levels.items found.new.parents.items) }
     ensures refused { IfErr result (λ e. e ≡ OutOfMemory) }
     ensures ticked { tally.old ≤ tally.new }
     ensures paths { tally.new ≤ tally.old + (S.network store.old).vertices * pair_count (S.network store.old).vertices (capacity (S.network store.old)) }
@@ -39,12 +42,68 @@ where
     let sink = store.sink();
     let mut path = Vec::new(alloc);
     path.resize(size, 0)?;
-    let mut found = Levels::find(alloc, store)?;
+    found.find(alloc, store)?;
     'phases: while found.levels[sink] < size {
-        augment_phase(store, &mut found, &mut path, tally);
-        found = Levels::find(alloc, store)?;
+        augment_phase(store, found, &mut path, tally);
+        found.find(alloc, store)?;
     }
-    Ok(found)
+    Ok(())
+}
+
+/// The answer for a flow with which no augmenting path is left. Given are the levels of a search that
+/// does not reach the sink.
+fn list_answer<C, S, A>(
+    store: &S,
+    alloc: A,
+    found: &Levels<A>,
+) -> Result<EKFlows<usize, C, A>, PathError>
+where
+    C: SignedCost,
+    S: FlowStore<C>,
+    A: Allocator + Copy,
+    requires network { IsNetwork C.fits (S.network store.now) }
+    requires stuck { IsStuck (S.network store.now) found.now.levels.items found.now.parents.items }
+    ensures total { IfOk result (λ answer. C.value answer.1 ≡ (S.network store.now).total) }
+    ensures flows { IfOk result (λ answer. (S.network store.now).details ≡ true → ListsFlows C.value (S.network store.now) answer.0.items) }
+    ensures cut_edges { IfOk result (λ answer. (S.network store.now).details ≡ true → ListsLeastCut C.value (S.network store.now) answer.2.items) }
+    ensures omitted { IfOk result (λ answer. (S.network store.now).details ≡ false → (answer.0.items ≡ []) × (answer.2.items ≡ [])) }
+    ensures refused { IfErr result (λ e. e ≡ OutOfMemory) }
+{
+    let total = store.total_capacity();
+    if !store.has_details() {
+        return Ok((Vec::new(alloc), total, Vec::new(alloc)));
+    }
+    let flows = list_flows(store, alloc)?;
+    let edges = list_cut(alloc, &found.levels, &flows)?;
+    Ok((flows, total, edges))
+}
+
+/// Makes the flow between two vertices a greatest one. Found are then the levels of the last search.
+fn augment_apart<C, S, A>(
+    store: &mut S,
+    alloc: A,
+    found: &mut Levels<A>,
+    tally: &mut Tally,
+) -> Result<EKFlows<usize, C, A>, PathError>
+where
+    C: SignedCost,
+    S: FlowStore<C>,
+    A: Allocator + Copy,
+    requires network { IsNetwork C.fits (S.network store.old) }
+    requires apart { (S.network store.old).source ≢ (S.network store.old).sink }
+    ensures network { IsNetwork C.fits (S.network store.new) }
+    ensures kept { KeepsCapacities (S.network store.old) (S.network store.new) }
+    ensures cut { OnOk result (HasCutOfTotal (S.network store.new)) }
+    ensures total { IfOk result (λ answer. C.value answer.1 ≡ (S.network store.new).total) }
+    ensures flows { IfOk result (λ answer. (S.network store.old).details ≡ true → ListsFlows C.value (S.network store.new) answer.0.items) }
+    ensures cut_edges { IfOk result (λ answer. (S.network store.old).details ≡ true → ListsLeastCut C.value (S.network store.new) answer.2.items) }
+    ensures omitted { IfOk result (λ answer. (S.network store.old).details ≡ false → (answer.0.items ≡ []) × (answer.2.items ≡ [])) }
+    ensures refused { IfErr result (λ e. e ≡ OutOfMemory) }
+    ensures ticked { tally.old ≤ tally.new }
+    ensures paths { tally.new ≤ tally.old + (S.network store.old).vertices * pair_count (S.network store.old).vertices (capacity (S.network store.old)) }
+{
+    saturate(store, alloc, found, tally)?;
+    list_answer(store, alloc, found)
 }
 
 /// Makes the flow a greatest one, with one tick for each path that flow is added along.
@@ -73,12 +132,5 @@ where
     if store.source() == store.sink() {
         return Ok((Vec::new(alloc), store.total_capacity(), Vec::new(alloc)));
     }
-    let found = saturate(store, alloc, tally)?;
-    let total = store.total_capacity();
-    if !store.has_details() {
-        return Ok((Vec::new(alloc), total, Vec::new(alloc)));
-    }
-    let flows = list_flows(store, alloc)?;
-    let edges = list_cut(alloc, &found.levels, &flows)?;
-    Ok((flows, total, edges))
+    augment_apart(store, alloc, &mut Levels::new(alloc), tally)
 }

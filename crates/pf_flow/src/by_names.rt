@@ -134,6 +134,26 @@ where
     Ok(edges)
 }
 
+/// Numbered flows, their total and numbered edges, with the names of the vertices.
+fn name_answer<N, C, A>(
+    alloc: A,
+    names: &[N],
+    answer: &EKFlows<usize, C, A>,
+) -> Result<EKFlows<N, C, A>, PathError>
+where
+    N: Copy,
+    C: SignedCost,
+    A: Allocator + Copy,
+    requires flows { (i : ℕ) (e : (ℕ × ℕ) × C) → slice_get answer.now.0.items i ≡ Some e → (e.0.0 < length names.now) × (e.0.1 < length names.now) }
+    requires cut { (i : ℕ) (e : (ℕ × ℕ) × C) → slice_get answer.now.2.items i ≡ Some e → (e.0.0 < length names.now) × (e.0.1 < length names.now) }
+    ensures named { IfOk result (λ named. AllZip (IsNamed names.now) answer.now.0.items named.0.items × (named.1 ≡ answer.now.1) × AllZip (IsNamed names.now) answer.now.2.items named.2.items) }
+    ensures refused { IfErr result (λ e. e ≡ OutOfMemory) }
+{
+    let flows = name_edges(alloc, names, &answer.0)?;
+    let cut = name_edges(alloc, names, &answer.2)?;
+    Ok((flows, answer.1, cut))
+}
+
 /// Puts the capacities of the edges into a store that has none, and answers a greatest flow in it
 /// and a least cut, with the names of the vertices.
 fn flows_of<N, C, IC, EK>(
@@ -158,10 +178,54 @@ where
     ensures refused { IfErr result (λ e. (e ≡ OutOfMemory) ⊎ AreEdgesRefused N.eq C.value C.fits IC.into_iter_gives IC.IntoIter.next_gives names.now.keys capacities e) }
 {
     put_edges(store, names, capacities)?;
-    let (numbered, total, crossing) = store.augment(alloc)?;
-    let flows = name_edges(alloc, names.as_slice(), &numbered)?;
-    let cut = name_edges(alloc, names.as_slice(), &crossing)?;
-    Ok((flows, total, cut))
+    let answer = store.augment(alloc)?;
+    name_answer(alloc, names.as_slice(), &answer)
+}
+
+/// A store for the vertices with these names, without capacities.
+fn store_between<N, C, EK>(
+    alloc: EK::Alloc,
+    names: &Names<N, EK::Alloc>,
+    source: &N,
+    sink: &N,
+) -> Result<EK, PathError>
+where
+    N: Eq + Hash,
+    C: SignedCost,
+    EK: EdmondsKarp<C>,
+    ensures source { OnOk result (IsKnown N.eq names.now.keys source.now) }
+    ensures sink { OnOk result (IsKnown N.eq names.now.keys sink.now) }
+    ensures fresh { IfOk result (λ store. IsFresh (length names.now.keys) (number_of N.eq names.now.keys source.now) (number_of N.eq names.now.keys sink.now) (EK.FlowStore.network store)) }
+    ensures unused { IfOk result (λ store. IsUnused C.fits (EK.FlowStore.network store)) }
+    ensures none { IfOk result (λ store. HasCapacities (λ a b. pos 0) (EK.FlowStore.network store)) }
+    ensures refused { IfErr result (λ e. (e ≡ OutOfMemory) ⊎ ((e ≡ UnknownVertex) × ((¬ (IsKnown N.eq names.now.keys source.now)) ⊎ (¬ (IsKnown N.eq names.now.keys sink.now))))) }
+{
+    let from = known_number(names, source)?;
+    let to = known_number(names, sink)?;
+    EK::new(alloc, names.len(), from, to)
+}
+
+/// As `edmonds_karp`, for the names of the vertices.
+fn flows_among<N, C, IC, EK>(
+    alloc: EK::Alloc,
+    names: &Names<N, EK::Alloc>,
+    source: &N,
+    sink: &N,
+    capacities: IC,
+) -> Result<EKFlows<N, C, EK::Alloc>, PathError>
+where
+    N: Eq + Hash + Copy,
+    C: SignedCost,
+    IC: IntoIterator<Item = Edge<N, C>> + Drop,
+    EK: EdmondsKarp<C>,
+    requires ends { IsFiniteIterable IC.into_iter_gives IC.IntoIter.can_next IC.IntoIter.remaining capacities }
+    ensures source { OnOk result (IsKnown N.eq names.now.keys source.now) }
+    ensures sink { OnOk result (IsKnown N.eq names.now.keys sink.now) }
+    ensures answer { IfOk result (λ answer. IsAnsweredFor N.eq C.value C.fits IC.into_iter_gives IC.IntoIter.next_gives names.now.keys source.now sink.now capacities answer.0.items (C.value answer.1) answer.2.items) }
+    ensures refused { IfErr result (IsRefusedFor N.eq C.value C.fits IC.into_iter_gives IC.IntoIter.next_gives names.now.keys source.now sink.now capacities) }
+{
+    let mut store: EK = store_between(alloc, names, source, sink)?;
+    flows_of(alloc, &mut store, names, capacities)
 }
 
 /// A greatest flow from a source to a sink, and a least cut, in a store that is made for it.
@@ -203,10 +267,7 @@ where
     ensures refused { IfErr result (IsRefusedFor N.eq C.value C.fits IC.into_iter_gives IC.IntoIter.next_gives (names_of N.eq vertices.now) source.now sink.now capacities) }
 {
     let names = names_among(alloc, vertices)?;
-    let from = known_number(&names, source)?;
-    let to = known_number(&names, sink)?;
-    let mut store = EK::new(alloc, names.len(), from, to)?;
-    flows_of(alloc, &mut store, &names, capacities)
+    flows_among::<N, C, IC, EK>(alloc, &names, source, sink, capacities)
 }
 
 /// As `edmonds_karp`, in a `DenseCapacity`.

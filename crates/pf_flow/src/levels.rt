@@ -1,9 +1,9 @@
 //! Levels of vertices, found by breadth first over residual capacities.
 
-ghost use Rattle.std.specs.Prelude.{◌≡◌, ◌<◌, ◌+◌, length, slice_index, OnOk, IfOk, IfErr};
+ghost use Rattle.std.specs.Prelude.{◌≡◌, ◌<◌, ◌+◌, length, slice_index, OnOk, IfErr};
 ghost use Rattle.pf_base.specs.declared.error.PathError.TheVariants.{OutOfMemory};
 ghost use Rattle.pf_flow.specs.Networks.{Network};
-ghost use Rattle.pf_flow.specs.Internal.Levels.{AreLevels, HasFound, IsTree, IsTreePath};
+ghost use Rattle.pf_flow.specs.Internal.Levels.{AreLevels, HasFound, IsTree, IsTreePath, Reaches};
 ghost use Rattle.pf_flow.specs.Internal.Steps.{AreSteps};
 
 use crate::steps::Steps;
@@ -26,51 +26,56 @@ pub struct Levels<A: Allocator> {
 }
 
 impl<A: Allocator + Copy> Levels<A> {
-    /// The levels of all vertices.
-    pub fn find<C, S>(alloc: A, store: &S) -> Result<Self, PathError>
-    where
-        C: SignedCost,
-        S: FlowStore<C>,
-        ensures levels { IfOk result (λ found. AreLevels (S.network store.now) (slice_index found.levels.items) (slice_index found.parents.items)) }
-        ensures levels_len { IfOk result (λ found. length found.levels.items ≡ (S.network store.now).vertices) }
-        ensures parents_len { IfOk result (λ found. length found.parents.items ≡ (S.network store.now).vertices) }
-        ensures steps { IfOk result (λ found. AreSteps (S.network store.now).vertices found.steps.targets.items found.steps.places.items found.steps.ends.items) }
-        ensures refused { IfErr result (λ e. e ≡ OutOfMemory) }
-    {
-        let mut found = Levels::begin(alloc, store)?;
-        let mut at = 0;
-        while at < found.queue.len() {
-            found.follow(alloc, store, at)?;
-            at += 1;
+    /// No vertices.
+    pub fn new(alloc: A) -> Self {
+        Levels {
+            levels: Vec::new(alloc),
+            parents: Vec::new(alloc),
+            queue: Vec::new(alloc),
+            steps: Steps::new(alloc),
         }
-        Ok(found)
     }
 
-    /// The source alone is reached.
-    fn begin<C, S>(alloc: A, store: &S) -> Result<Self, PathError>
+    /// Finds the levels of all vertices.
+    pub fn find<C, S>(&mut self, alloc: A, store: &S) -> Result<(), PathError>
     where
         C: SignedCost,
         S: FlowStore<C>,
-        ensures found { IfOk result (λ found. HasFound (S.network store.now) found.levels.items found.parents.items found.queue.items 0) }
-        ensures steps { IfOk result (λ found. AreSteps (S.network store.now).vertices found.steps.targets.items found.steps.places.items found.steps.ends.items) }
+        ensures levels { OnOk result (AreLevels (S.network store.now) (slice_index self.new.levels.items) (slice_index self.new.parents.items)) }
+        ensures levels_len { OnOk result (length self.new.levels.items ≡ (S.network store.now).vertices) }
+        ensures parents_len { OnOk result (length self.new.parents.items ≡ (S.network store.now).vertices) }
+        ensures steps { OnOk result (AreSteps (S.network store.now).vertices self.new.steps.targets.items self.new.steps.places.items self.new.steps.ends.items) }
+        ensures refused { IfErr result (λ e. e ≡ OutOfMemory) }
+    {
+        self.begin(store)?;
+        let mut at = 0;
+        while at < self.queue.len() {
+            self.follow(alloc, store, at)?;
+            at += 1;
+        }
+        Ok(())
+    }
+
+    /// Reaches the source alone.
+    fn begin<C, S>(&mut self, store: &S) -> Result<(), PathError>
+    where
+        C: SignedCost,
+        S: FlowStore<C>,
+        ensures found { OnOk result (HasFound (S.network store.now) self.new.levels.items self.new.parents.items self.new.queue.items 0) }
+        ensures steps { OnOk result (AreSteps (S.network store.now).vertices self.new.steps.targets.items self.new.steps.places.items self.new.steps.ends.items) }
         ensures refused { IfErr result (λ e. e ≡ OutOfMemory) }
     {
         let size = store.size();
         let source = store.source();
-        let mut levels = Vec::new(alloc);
-        levels.resize(size, size)?;
-        levels[source] = 0;
-        let mut parents = Vec::new(alloc);
-        parents.resize(size, source)?;
-        let mut queue = Vec::with_capacity(alloc, size)?;
-        queue.push(source)?;
-        let steps = Steps::none(alloc, size)?;
-        Ok(Levels {
-            levels,
-            parents,
-            queue,
-            steps,
-        })
+        self.levels.clear();
+        self.levels.resize(size, size)?;
+        self.levels[source] = 0;
+        self.parents.clear();
+        self.parents.resize(size, source)?;
+        self.queue.clear();
+        self.queue.reserve(size)?;
+        self.queue.push(source)?;
+        self.steps.reset(size)
     }
 
     /// Follows the pairs with residual capacity from the vertex at a place of the queue.
@@ -89,14 +94,25 @@ impl<A: Allocator + Copy> Levels<A> {
         let level = self.levels[from];
         let ends = store.residual_successors(alloc, from)?;
         for end in &ends {
-            let to = end.0;
-            if self.levels[to] == self.levels.len() {
-                self.levels[to] = level + 1;
-                self.parents[to] = from;
-                self.queue.push(to)?;
-            }
+            self.reach(from, level, end.0)?;
         }
-        self.steps.add_row(from, level, &ends, &self.levels)?;
+        self.steps.add_row(from, level, &ends, &self.levels)
+    }
+
+    /// Reaches a vertex from one of a level, if it was not reached before.
+    fn reach(&mut self, from: usize, level: usize, to: usize) -> Result<(), PathError>
+        requires low { level < length self.old.levels.items }
+        requires to { to < length self.old.levels.items }
+        requires wide { length self.old.parents.items ≡ length self.old.levels.items }
+        ensures reached { OnOk result (Reaches from level to self.old.levels.items self.old.parents.items self.old.queue.items self.new.levels.items self.new.parents.items self.new.queue.items) }
+        ensures steps { self.new.steps ≡ self.old.steps }
+        ensures refused { IfErr result (λ e. e ≡ OutOfMemory) }
+    {
+        if self.levels[to] == self.levels.len() {
+            self.levels[to] = level + 1;
+            self.parents[to] = from;
+            self.queue.push(to)?;
+        }
         Ok(())
     }
 

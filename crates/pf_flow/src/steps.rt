@@ -1,6 +1,6 @@
 //! Steps from vertex to vertex that a search for ways has still to try.
 
-ghost use Rattle.std.specs.Prelude.{◌≡◌, ◌<◌, ◌+◌, ℕ, Some, length, slice_get, slice_index, slice_set, OnOk, IfOk, IfErr, IfSome};
+ghost use Rattle.std.specs.Prelude.{◌≡◌, ◌<◌, ◌+◌, ℕ, Some, length, slice_get, slice_index, slice_set, OnOk, IfErr, IfSome};
 ghost use Rattle.pf_base.specs.declared.error.PathError.TheVariants.{OutOfMemory};
 ghost use Rattle.pf_flow.specs.Internal.Steps.{AreSteps};
 
@@ -19,20 +19,26 @@ pub struct Steps<A: Allocator> {
 }
 
 impl<A: Allocator + Copy> Steps<A> {
-    /// No step from any of so many vertices.
-    pub fn none(alloc: A, size: usize) -> Result<Self, PathError>
-        ensures steps { IfOk result (λ steps. AreSteps size steps.targets.items steps.places.items steps.ends.items) }
+    /// No vertices.
+    pub fn new(alloc: A) -> Self {
+        Steps {
+            targets: Vec::new(alloc),
+            places: Vec::new(alloc),
+            ends: Vec::new(alloc),
+        }
+    }
+
+    /// From now on no step leads from any of so many vertices.
+    pub fn reset(&mut self, size: usize) -> Result<(), PathError>
+        ensures steps { OnOk result (AreSteps size self.new.targets.items self.new.places.items self.new.ends.items) }
         ensures refused { IfErr result (λ e. e ≡ OutOfMemory) }
     {
-        let mut places = Vec::new(alloc);
-        places.resize(size, 0)?;
-        let mut ends = Vec::new(alloc);
-        ends.resize(size, 0)?;
-        Ok(Steps {
-            targets: Vec::new(alloc),
-            places,
-            ends,
-        })
+        self.targets.clear();
+        self.places.clear();
+        self.places.resize(size, 0)?;
+        self.ends.clear();
+        self.ends.resize(size, 0)?;
+        Ok(())
     }
 
     /// The steps from a vertex of a level are those to the vertices of the list that are above it.

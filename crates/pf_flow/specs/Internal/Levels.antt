@@ -1,5 +1,5 @@
 -- Levels of vertices, found by breadth first from the source over pairs with residual capacity.
-use Rattle.std.specs.Prelude.{◌≡◌, ◌≢◌, ◌≤◌, ◌<◌, ◌+◌, ◌<ℤ◌, ◌&&◌, ℕ, suc, pos, Bool, List, length, nat_eq, nat_lt, not, slice_index, if◌then◌else◌}
+use Rattle.std.specs.Prelude.{◌≡◌, ◌≢◌, ◌≤◌, ◌<◌, ◌+◌, ◌<ℤ◌, ◌&&◌, ℕ, suc, pos, Bool, List, length, nat_eq, nat_lt, not, slice_index, slice_set, ◌++◌, ◌∷◌, [], if◌then◌else◌}
 use Rattle.pf_flow.specs.Flows.{count_to}
 use Rattle.pf_flow.specs.Networks.{Network}
 use Rattle.pf_flow.specs.Internal.AugmentingPaths.{IsLabelling}
@@ -15,6 +15,12 @@ pub record AreLevels (N : Network) (d parent : ℕ → ℕ) : Type 0 where
   pub labelling : IsLabelling N.vertices N.source N.residual d
   pub parents : HasParents N d parent
   pub closed : (a b : ℕ) → a < N.vertices → b < N.vertices → d a < N.vertices → pos 0 <ℤ N.residual a b → d b < N.vertices
+
+-- the lists of a search that does not reach the sink
+pub record IsStuck (N : Network) (levels parents : List ℕ) : Type 0 where
+  pub found : AreLevels N (slice_index levels) (slice_index parents)
+  pub len : length levels ≡ N.vertices
+  pub top : slice_index levels N.sink ≡ N.vertices
 
 -- how many vertices are not reached
 abbrev pub unreached : ℕ → (ℕ → ℕ) → ℕ
@@ -38,6 +44,11 @@ pub record HasFound (N : Network) (levels parents queue : List ℕ) (at : ℕ) :
   pub search : IsSearch N (slice_index levels) (slice_index parents) (slice_index queue) (length queue) at
   pub levels_len : length levels ≡ N.vertices
   pub parents_len : length parents ≡ N.vertices
+
+-- a vertex is reached from another, one level above it, where it was not reached before
+pub record Reaches (from level to : ℕ) (levels parents queue levels_after parents_after queue_after : List ℕ) : Type 0 where
+  pub new : slice_index levels to ≡ length levels → (levels_after ≡ slice_set levels to (level + 1)) × (parents_after ≡ slice_set parents to from) × (queue_after ≡ queue ++ to ∷ [])
+  pub known : slice_index levels to ≢ length levels → (levels_after ≡ levels) × (parents_after ≡ parents) × (queue_after ≡ queue)
 
 -- a vertex above level 0 that was reached has a vertex before it, one level below
 pub record IsTree (levels parents : List ℕ) : Type 0 where

@@ -1,20 +1,16 @@
 use Rattle.std.proofs.Common.{◌≡◌, ◌++◌, ◌∙◌, sym, ap, ℕ, List, take, drop, arith, length, length-take, length-append, length-drop}
 use Rattle.std.specs.Prelude.{slice_index}
 use Rattle.std.proofs.lemmas.List.{get_or_read, length-replicate}
+use Rattle.std.proofs.lemmas.Result.{IfOk-from_err}
 use Rattle.pf_flow.proofs.LevelListLemmas.{resized}
 use Rattle.pf_flow.proofs.AgreeLemmas.{capacities_kept, capacities_more}
+use Rattle.pf_flow.proofs.NamedLemmas.{refused_as}
 use Rattle.pf_flow.proofs.PhaseLemmas.{ticks_top, ticks_anew, ticks_now}
 use Rattle.pf_flow.proofs.augmenting.saturate.Goals as goal
 
 -- what is written through a slice keeps its length
 kept_len : (n m : ℕ) (xs ys : List ℕ) → length xs ≡ m → length ys ≡ m → n ≡ m → length (take n (xs ++ drop (length xs) ys)) ≡ m
 kept_len n m xs ys e f h = grind (arith, length-take, length-append, length-drop)
-
-pub returns-in_err-found-2-clause-paths : goal.returns-in_err-found-2-clause-paths
-returns-in_err-found-2-clause-paths g c =
-    let i = c.phases.invariant in
-    let p = c.augment_phase.ensures in
-    ticks_top i.kept p.kept p.labelling c.args.tally.now c.phases.tally c.augment_phase.new.tally i.bound p.bound
 
 pub phases-smaller : goal.phases-smaller
 phases-smaller g c =
@@ -28,7 +24,7 @@ pub phases-preserved : goal.phases-preserved
 phases-preserved g c =
     let i = c.phases.invariant in
     let p = c.augment_phase.ensures in
-    let found = c.in_ok-found-2.ensures in
+    let found = c.in_ok-find-2.ensures in
     let more = p.progress in
     let before = i.ticked in
     let wide = i.path_len in
@@ -48,14 +44,9 @@ phases-preserved g c =
       bound = ticks_anew i.kept p.kept p.labelling c.args.tally.now c.phases.tally c.augment_phase.new.tally i.bound p.bound found.levels;
     }
 
-pub returns-clause-paths : goal.returns-clause-paths
-returns-clause-paths g c =
-    let i = c.phases.invariant in
-    ticks_now i.kept i.levels.labelling c.args.tally.now c.phases.tally i.bound
-
 pub phases-init : goal.phases-init
 phases-init g c =
-    let f = c.in_ok-found.ensures in
+    let f = c.in_ok-find.ensures in
     record {
       network = c.requires.network;
       kept = capacities_kept (g.S.FlowStore.network c.args.store.now);
@@ -74,77 +65,67 @@ index-requires g c =
     let inside = (g.met.S.FlowStore.network_law c.phases.store).sink_in in
     omega (arith, inside, c.sink-sink.ensures, i.kept.shape.sink, i.levels_len, c.phases.found.levels.ok)
 
-pub augment_phase-requires-clause-network : goal.augment_phase-requires-clause-network
-augment_phase-requires-clause-network g c = c.phases.invariant.network
-
-pub augment_phase-requires-clause-apart : goal.augment_phase-requires-clause-apart
-augment_phase-requires-clause-apart g c = λ e. c.requires.apart (sym c.phases.invariant.kept.shape.source ∙ e ∙ c.phases.invariant.kept.shape.sink)
-
-pub augment_phase-requires-clause-levels : goal.augment_phase-requires-clause-levels
-augment_phase-requires-clause-levels g c = c.phases.invariant.levels
-
-pub augment_phase-requires-clause-levels_len : goal.augment_phase-requires-clause-levels_len
-augment_phase-requires-clause-levels_len g c = c.phases.invariant.levels_len
-
-pub augment_phase-requires-clause-parents_len : goal.augment_phase-requires-clause-parents_len
-augment_phase-requires-clause-parents_len g c = c.phases.invariant.parents_len
-
-pub augment_phase-requires-clause-steps : goal.augment_phase-requires-clause-steps
-augment_phase-requires-clause-steps g c = c.phases.invariant.steps
-
-pub augment_phase-requires-clause-reached : goal.augment_phase-requires-clause-reached
-augment_phase-requires-clause-reached g c =
-    let i = c.phases.invariant in
-    let M = g.S.FlowStore.network c.phases.store in
-    let levels = c.phases.found.levels.items in
-    let inside = (g.met.S.FlowStore.network_law c.phases.store).sink_in in
-    let sink = c.sink-sink.ensures ∙ sym i.kept.shape.sink in
-    let read = get_or_read levels c.sink-sink.result c.index.result.now (omega (arith, inside, sink, i.levels_len)) c.index.ensures 0 ∙ ap (slice_index levels) sink in
-    omega (arith, read, c.phases-test.true, c.size-size.ensures, i.kept.shape.vertices)
-
-pub augment_phase-requires-clause-path_len : goal.augment_phase-requires-clause-path_len
-augment_phase-requires-clause-path_len g c = ap length c.deref_mut.ensures.value ∙ c.phases.invariant.path_len
-
-pub returns-in_err-found-2-clause-network : goal.returns-in_err-found-2-clause-network
-returns-in_err-found-2-clause-network g c = c.augment_phase.ensures.network
-
-pub returns-in_err-found-2-clause-kept : goal.returns-in_err-found-2-clause-kept
-returns-in_err-found-2-clause-kept g c = capacities_more c.phases.invariant.kept c.augment_phase.ensures.kept
-
-pub returns-in_err-found-2-clause-ticked : goal.returns-in_err-found-2-clause-ticked
-returns-in_err-found-2-clause-ticked g c =
-    let before = c.phases.invariant.ticked in
-    let more = c.augment_phase.ensures.progress in
-    omega (arith, before, more)
-
-pub returns-in_err-found-clause-kept : goal.returns-in_err-found-clause-kept
-returns-in_err-found-clause-kept g c = capacities_kept (g.S.FlowStore.network c.args.store.now)
+pub returns-in_err-find-clause-kept : goal.returns-in_err-find-clause-kept
+returns-in_err-find-clause-kept g c = capacities_kept (g.S.FlowStore.network c.args.store.now)
 
 pub returns-in_err-resize-clause-kept : goal.returns-in_err-resize-clause-kept
 returns-in_err-resize-clause-kept g c = capacities_kept (g.S.FlowStore.network c.args.store.now)
 
-pub returns-clause-network : goal.returns-clause-network
-returns-clause-network g c = c.phases.invariant.network
+pub augment_phase-requires : goal.augment_phase-requires
+augment_phase-requires g c = record {
+  network = c.phases.invariant.network;
+  apart = λ e. c.requires.apart (sym c.phases.invariant.kept.shape.source ∙ e ∙ c.phases.invariant.kept.shape.sink);
+  levels = c.phases.invariant.levels;
+  levels_len = c.phases.invariant.levels_len;
+  parents_len = c.phases.invariant.parents_len;
+  steps = c.phases.invariant.steps;
+  reached =
+      let i = c.phases.invariant in
+      let M = g.S.FlowStore.network c.phases.store in
+      let levels = c.phases.found.levels.items in
+      let inside = (g.met.S.FlowStore.network_law c.phases.store).sink_in in
+      let sink = c.sink-sink.ensures ∙ sym i.kept.shape.sink in
+      let read = get_or_read levels c.sink-sink.result c.index.result.now (omega (arith, inside, sink, i.levels_len)) c.index.ensures 0 ∙ ap (slice_index levels) sink in
+      omega (arith, read, c.phases-test.true, c.size-size.ensures, i.kept.shape.vertices);
+  path_len = ap length c.deref_mut.ensures.value ∙ c.phases.invariant.path_len;
+}
 
-pub returns-clause-kept : goal.returns-clause-kept
-returns-clause-kept g c = c.phases.invariant.kept
+pub returns : goal.returns
+returns g c = record {
+  network = c.phases.invariant.network;
+  kept = c.phases.invariant.kept;
+  stuck =
+      let i = c.phases.invariant in
+      let M = g.S.FlowStore.network c.phases.store in
+      let levels = c.phases.found.levels.items in
+      let inside = (g.met.S.FlowStore.network_law c.phases.store).sink_in in
+      let sink = c.sink-sink.ensures ∙ sym i.kept.shape.sink in
+      let read = get_or_read levels c.sink-sink.result c.index.result.now (omega (arith, inside, sink, i.levels_len)) c.index.ensures 0 ∙ ap (slice_index levels) sink in
+      let top = i.levels.labelling.top M.sink inside in
+      record {
+        found = i.levels;
+        len = i.levels_len;
+        top = omega (arith, read, top, c.phases-test.false, c.size-size.ensures, i.kept.shape.vertices);
+      };
+  refused = tt;
+  ticked = c.phases.invariant.ticked;
+  paths =
+      let i = c.phases.invariant in
+      ticks_now i.kept i.levels.labelling c.args.tally.now c.phases.tally i.bound;
+}
 
-pub returns-clause-levels : goal.returns-clause-levels
-returns-clause-levels g c = c.phases.invariant.levels
-
-pub returns-clause-len : goal.returns-clause-len
-returns-clause-len g c = c.phases.invariant.levels_len
-
-pub returns-clause-stuck : goal.returns-clause-stuck
-returns-clause-stuck g c =
-    let i = c.phases.invariant in
-    let M = g.S.FlowStore.network c.phases.store in
-    let levels = c.phases.found.levels.items in
-    let inside = (g.met.S.FlowStore.network_law c.phases.store).sink_in in
-    let sink = c.sink-sink.ensures ∙ sym i.kept.shape.sink in
-    let read = get_or_read levels c.sink-sink.result c.index.result.now (omega (arith, inside, sink, i.levels_len)) c.index.ensures 0 ∙ ap (slice_index levels) sink in
-    let top = i.levels.labelling.top M.sink inside in
-    omega (arith, read, top, c.phases-test.false, c.size-size.ensures, i.kept.shape.vertices)
-
-pub returns-clause-ticked : goal.returns-clause-ticked
-returns-clause-ticked g c = c.phases.invariant.ticked
+pub returns-in_err-find-2 : goal.returns-in_err-find-2
+returns-in_err-find-2 g c = record {
+  network = c.augment_phase.ensures.network;
+  kept = capacities_more c.phases.invariant.kept c.augment_phase.ensures.kept;
+  stuck = IfOk-from_err _ _ c.from_residual-in_err-find-2.ensures.0;
+  refused = refused_as _ c.from_residual-in_err-find-2.result _ c.in_err-find-2.ensures.refused c.from_residual-in_err-find-2.ensures.1;
+  ticked =
+      let before = c.phases.invariant.ticked in
+      let more = c.augment_phase.ensures.progress in
+      omega (arith, before, more);
+  paths =
+      let i = c.phases.invariant in
+      let p = c.augment_phase.ensures in
+      ticks_top i.kept p.kept p.labelling c.args.tally.now c.phases.tally c.augment_phase.new.tally i.bound p.bound;
+}

@@ -3,37 +3,12 @@ use Rattle.std.specs.Prelude.{◌≤ℤ◌, ◌<ℤ◌, ◌+ℤ◌, unsigned_abs
 use Rattle.std.proofs.lemmas.Int.{ints}
 use Rattle.std.proofs.lemmas.Result.{IfOk-from_err}
 use Rattle.pf_flow.specs.Internal.Cancelling.{Has, AreInside, IsOnce, IsTakenOff, IsLowered, gained, net_of}
+use Rattle.pf_flow.proofs.NamedLemmas.{refused_as}
 use Rattle.pf_flow.proofs.CycleLemmas.{lowered_amounts, lowered_none, lowered_more, circulation_more, cycle_above, through_above}
 use Rattle.pf_flow.proofs.cancelling.cancel.Goals as goal
 
-pub cycle_through-requires-clause-amounts : goal.cycle_through-requires-clause-amounts
-cycle_through-requires-clause-amounts g c = lowered_amounts g.C.Number.value _ c.args.through c.args.amounts.now c.rounds.amounts c.rounds.invariant.lowered
-
-pub cycle_through-requires-clause-through : goal.cycle_through-requires-clause-through
-cycle_through-requires-clause-through g c =
-    let value = g.C.Number.value in
-    let o = through_above value (value c.args.excess) (value c.rounds.rest) c.args.through c.args.amounts.now c.rounds.amounts c.requires.enough c.rounds.invariant.lowered in
-    let l = o.2 in
-    let low = c.rounds.invariant.some in
-    let some : value c.rounds.rest ≢ pos 0 = λ q. true≢false (sym ((c.is_zero.ensures.value g.met.C.Integral.exact_law).1 q) ∙ c.rounds-test.true) in
-    (o.0, o.1, omega (arith, ints, l, low, some))
-
-pub least_amount-amount-requires-clause-amounts : goal.least_amount-amount-requires-clause-amounts
-least_amount-amount-requires-clause-amounts g c = λ k h. cycle_above g.C.Number.value c.args.ends.now c.args.through c.in_ok-cycle.cycle.items c.rounds.amounts
-    (lowered_amounts g.C.Number.value _ c.args.through c.args.amounts.now c.rounds.amounts c.rounds.invariant.lowered) c.in_ok-cycle.ensures.cycle k (subst (λ ks. Has ks k) c.deref.ensures.value h)
-
-pub least_amount-amount-requires-clause-limit : goal.least_amount-amount-requires-clause-limit
-least_amount-amount-requires-clause-limit g c =
-    let value = g.C.Number.value in
-    let low = c.rounds.invariant.some in
-    let some : value c.rounds.rest ≢ pos 0 = λ q. true≢false (sym ((c.is_zero.ensures.value g.met.C.Integral.exact_law).1 q) ∙ c.rounds-test.true) in
-    omega (arith, ints, low, some)
-
-pub take_off-requires-clause-once : goal.take_off-requires-clause-once
-take_off-requires-clause-once g c = subst IsOnce (sym c.deref-in-rounds.ensures.value) c.in_ok-cycle.ensures.cycle.once
-
-pub take_off-requires-clause-each : goal.take_off-requires-clause-each
-take_off-requires-clause-each g c = λ k h. c.least_amount-amount.ensures.each k (subst (λ ks. Has ks k) (c.deref-in-rounds.ensures.value ∙ sym c.deref.ensures.value) h)
+less_abs : (x y : ℤ) → pos 0 ≤ℤ y → y <ℤ x → unsigned_abs y < unsigned_abs x
+less_abs x y l m = grind (arith, ints)
 
 pub minus-rest-requires : goal.minus-rest-requires
 minus-rest-requires g c =
@@ -43,9 +18,6 @@ minus-rest-requires g c =
     let some = e.some in
     let most = e.limited in
     g.C.Number.between_law (pos 0) _ (value c.rounds.rest) exact (g.met.C.Zero.zero_fits_law exact) c.known.ensures (omega (arith, ints, most)) (omega (arith, ints, some))
-
-less_abs : (x y : ℤ) → pos 0 ≤ℤ y → y <ℤ x → unsigned_abs y < unsigned_abs x
-less_abs x y l m = grind (arith, ints)
 
 pub rounds-init : goal.rounds-init
 rounds-init g c = record {
@@ -84,41 +56,64 @@ rounds-preserved g c =
       some = omega (arith, ints, is, most);
     }
 
-pub returns-clause-lowered : goal.returns-clause-lowered
-returns-clause-lowered g c =
-    let value = g.C.Number.value in
-    let none = (c.is_zero.ensures.value g.met.C.Integral.exact_law).0 c.rounds-test.false in
-    subst (λ (z : ℤ). IsLowered value z c.args.through c.args.amounts.now c.rounds.amounts) (omega (arith, ints, none)) c.rounds.invariant.lowered
-
 pub rows_of-requires : goal.rows_of-requires
 rows_of-requires g c = record { inside = c.requires.inside }
 
-pub cycle_through-requires-clause-rows : goal.cycle_through-requires-clause-rows
-cycle_through-requires-clause-rows g c = c.in_ok-rows.ensures.rows
+pub cycle_through-requires : goal.cycle_through-requires
+cycle_through-requires g c = record {
+  rows = c.in_ok-rows.ensures.rows;
+  inside = subst (λ n. AreInside n c.args.ends.now) (sym c.in_ok-rows.ensures.len) c.requires.inside;
+  long = c.rounds.invariant.lowered.len ∙ c.requires.long;
+  amounts = lowered_amounts g.C.Number.value _ c.args.through c.args.amounts.now c.rounds.amounts c.rounds.invariant.lowered;
+  balanced = c.rounds.invariant.balanced;
+  through =
+      let value = g.C.Number.value in
+      let o = through_above value (value c.args.excess) (value c.rounds.rest) c.args.through c.args.amounts.now c.rounds.amounts c.requires.enough c.rounds.invariant.lowered in
+      let l = o.2 in
+      let low = c.rounds.invariant.some in
+      let some : value c.rounds.rest ≢ pos 0 = λ q. true≢false (sym ((c.is_zero.ensures.value g.met.C.Integral.exact_law).1 q) ∙ c.rounds-test.true) in
+      (o.0, o.1, omega (arith, ints, l, low, some));
+}
 
-pub cycle_through-requires-clause-inside : goal.cycle_through-requires-clause-inside
-cycle_through-requires-clause-inside g c = subst (λ n. AreInside n c.args.ends.now) (sym c.in_ok-rows.ensures.len) c.requires.inside
+pub least_amount-amount-requires : goal.least_amount-amount-requires
+least_amount-amount-requires g c = record {
+  amounts =
+      λ k h. cycle_above g.C.Number.value c.args.ends.now c.args.through c.in_ok-cycle.cycle.items c.rounds.amounts
+      (lowered_amounts g.C.Number.value _ c.args.through c.args.amounts.now c.rounds.amounts c.rounds.invariant.lowered) c.in_ok-cycle.ensures.cycle k (subst (λ ks. Has ks k) c.deref.ensures.value h);
+  limit =
+      let value = g.C.Number.value in
+      let low = c.rounds.invariant.some in
+      let some : value c.rounds.rest ≢ pos 0 = λ q. true≢false (sym ((c.is_zero.ensures.value g.met.C.Integral.exact_law).1 q) ∙ c.rounds-test.true) in
+      omega (arith, ints, low, some);
+}
 
-pub cycle_through-requires-clause-long : goal.cycle_through-requires-clause-long
-cycle_through-requires-clause-long g c = c.rounds.invariant.lowered.len ∙ c.requires.long
+pub take_off-requires : goal.take_off-requires
+take_off-requires g c = record {
+  once = subst IsOnce (sym c.deref-in-rounds.ensures.value) c.in_ok-cycle.ensures.cycle.once;
+  amount = omega (arith, ints, c.least_amount-amount.ensures.some);
+  each = λ k h. c.least_amount-amount.ensures.each k (subst (λ ks. Has ks k) (c.deref-in-rounds.ensures.value ∙ sym c.deref.ensures.value) h);
+}
 
-pub cycle_through-requires-clause-balanced : goal.cycle_through-requires-clause-balanced
-cycle_through-requires-clause-balanced g c = c.rounds.invariant.balanced
+pub returns : goal.returns
+returns g c = record {
+  balanced = c.rounds.invariant.balanced;
+  lowered =
+      let value = g.C.Number.value in
+      let none = (c.is_zero.ensures.value g.met.C.Integral.exact_law).0 c.rounds-test.false in
+      subst (λ (z : ℤ). IsLowered value z c.args.through c.args.amounts.now c.rounds.amounts) (omega (arith, ints, none)) c.rounds.invariant.lowered;
+  refused = tt;
+}
 
-pub take_off-requires-clause-amount : goal.take_off-requires-clause-amount
-take_off-requires-clause-amount g c = omega (arith, ints, c.least_amount-amount.ensures.some)
+pub returns-in_err-rows : goal.returns-in_err-rows
+returns-in_err-rows g c = record {
+  balanced = IfOk-from_err _ _ c.from_residual.ensures.0;
+  lowered = IfOk-from_err _ _ c.from_residual.ensures.0;
+  refused = refused_as _ c.from_residual.result _ c.in_err-rows.ensures.refused c.from_residual.ensures.1;
+}
 
-pub returns-clause-balanced : goal.returns-clause-balanced
-returns-clause-balanced g c = c.rounds.invariant.balanced
-
-pub returns-in_err-rows-clause-balanced : goal.returns-in_err-rows-clause-balanced
-returns-in_err-rows-clause-balanced g c = IfOk-from_err _ _ c.from_residual.ensures.0
-
-pub returns-in_err-rows-clause-lowered : goal.returns-in_err-rows-clause-lowered
-returns-in_err-rows-clause-lowered g c = IfOk-from_err _ _ c.from_residual.ensures.0
-
-pub returns-in_err-cycle-clause-balanced : goal.returns-in_err-cycle-clause-balanced
-returns-in_err-cycle-clause-balanced g c = IfOk-from_err _ _ c.from_residual-in_err-cycle.ensures.0
-
-pub returns-in_err-cycle-clause-lowered : goal.returns-in_err-cycle-clause-lowered
-returns-in_err-cycle-clause-lowered g c = IfOk-from_err _ _ c.from_residual-in_err-cycle.ensures.0
+pub returns-in_err-cycle : goal.returns-in_err-cycle
+returns-in_err-cycle g c = record {
+  balanced = IfOk-from_err _ _ c.from_residual-in_err-cycle.ensures.0;
+  lowered = IfOk-from_err _ _ c.from_residual-in_err-cycle.ensures.0;
+  refused = refused_as _ c.from_residual-in_err-cycle.result _ c.in_err-cycle.ensures.refused c.from_residual-in_err-cycle.ensures.1;
+}

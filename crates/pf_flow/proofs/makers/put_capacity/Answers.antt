@@ -46,3 +46,33 @@ returns-clause-sum g c =
     let agrees : Agrees (with_residual c.args.from c.args.to (value c.args.capacity -ℤ N.residual c.args.from c.args.to) N) M =
     residual_agrees c.args.from c.args.to _ c.in_ok-make_room.ensures.same (subst (λ z. Agrees (with_residual c.args.from c.args.to z (g.S.FlowStore.network c.make_room.new.self)) M) more c.add_residual_capacity.ensures) in
     c.in-Some.ensures.1 ∙ same ∙ put_sum c.args.from c.args.to (value c.args.capacity) c.requires.unused agrees
+
+pub exchanged-requires-clause-old : goal.exchanged-requires-clause-old
+exchanged-requires-clause-old g c =
+    let above = c.requires.unused.capacities.at c.args.from c.args.to c.requires.from c.requires.to in
+    let left = unused_residual c.requires.unused c.args.from c.args.to in
+    let old = c.residual_capacity-old.ensures in
+    omega (arith, ints, above, left, old)
+
+pub difference-requires-clause-old : goal.difference-requires-clause-old
+difference-requires-clause-old g c =
+    let above = c.requires.unused.capacities.at c.args.from c.args.to c.requires.from c.requires.to in
+    let left = unused_residual c.requires.unused c.args.from c.args.to in
+    let old = c.residual_capacity-old.ensures in
+    omega (arith, ints, above, left, old)
+
+pub difference-requires-clause-new : goal.difference-requires-clause-new
+difference-requires-clause-new g c =
+    let zero = ap g.C.Number.value c.zero.ensures ∙ g.met.C.Zero.zero_law g.met.C.Integral.exact_law in
+    let low = c.if-is_below.ensures in
+    omega (arith, ints, zero, low)
+
+pub add_residual_capacity-requires-clause-room : goal.add_residual_capacity-requires-clause-room
+add_residual_capacity-requires-clause-room g c = c.in_ok-make_room.ensures.room
+
+pub add_residual_capacity-requires-clause-fits : goal.add_residual_capacity-requires-clause-fits
+add_residual_capacity-requires-clause-fits g c =
+    let same = c.in_ok-make_room.ensures.same.residual.at c.args.from c.args.to in
+    let old = c.residual_capacity-old.ensures in
+    let more = c.difference.ensures in
+    subst g.C.Number.fits (omega (arith, ints, same, old, more)) c.known.ensures

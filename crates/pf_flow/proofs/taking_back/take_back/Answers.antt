@@ -1,4 +1,4 @@
-use Rattle.std.proofs.Common.{◌≡◌, ◌≢◌, ◌∙◌, ◌++◌, ◌∷◌, [], ℕ, Some, List, arith, length, sym, ap, subst}
+use Rattle.std.proofs.Common.{rules, ◌≡◌, ◌≢◌, ◌∙◌, ◌++◌, ◌∷◌, [], ℕ, Some, List, arith, length, sym, ap, subst}
 use Rattle.std.specs.Prelude.{slice_get}
 use Rattle.std.proofs.lemmas.Int.{ints}
 use Rattle.std.proofs.lemmas.Option.{slice_get_within}
@@ -6,60 +6,9 @@ use Rattle.std.proofs.lemmas.Result.{IfOk-from_err, MatchResult-from_err}
 use Rattle.pf_core.proofs.ListLemmas.{get-append, on_ok}
 use Rattle.pf_flow.specs.declared.cancelling.arcs.Arc.{Arc}
 use Rattle.pf_flow.proofs.AgreeLemmas.{agrees_itself}
+use Rattle.pf_flow.proofs.NamedLemmas.{refused_as}
 use Rattle.pf_flow.proofs.TakeBackLemmas.{plan_of, amount_there}
 use Rattle.pf_flow.proofs.taking_back.take_back.Goals as goal
-
-pub take_back_by-requires-clause-plan : goal.take_back_by-requires-clause-plan
-take_back_by-requires-clause-plan g c =
-    let N = g.S.FlowStore.network c.args.store.now in
-    let value = g.C.Number.value in
-    let ends = c.in_ok-ends.ends.items in
-    let xs = c.in_ok-ends.amounts.items in
-    let h = c.in_ok-ends.ensures.flows in
-    let low = c.requires.some in
-    let most = c.requires.most in
-    let apart : N.source ≢ N.sink = λ q. (let none = c.requires.network.idle q c.args.from c.args.to in omega (arith, ints, none, low, most)) in
-    let sink : c.sink.result ≡ N.sink = c.sink.ensures in
-    let source : c.source.result ≡ N.source = c.source.ensures in
-    let all : c.deref-2.result.now ≡ ends ++ record { from = N.sink; to = N.source } ∷ [] = c.deref-2.ensures.value ∙ c.in_ok-push.ensures.items ∙ ap (λ (u : ℕ). ends ++ record { from = u; to = c.source.result } ∷ []) sink ∙ ap (λ (u : ℕ). ends ++ record { from = N.sink; to = u } ∷ []) source in
-    let ys : c.deref_mut.result.now ≡ xs ++ c.total_capacity.result ∷ [] = c.deref_mut.ensures.value ∙ c.in_ok-push-2.ensures.items in
-    let number = c.number_of-through.ensures.number in
-    let at : slice_get ends c.number_of-through.result ≡ Some number.0 = ap (λ (es : List Arc). slice_get es c.number_of-through.result) (sym c.deref.ensures.value) ∙ number.1 in (
-      length ends,
-      plan_of value g.C.Zero.zero (g.met.C.Zero.zero_law g.met.C.Integral.exact_law) N c.requires.network (g.met.S.FlowStore.network_law c.args.store.now) apart ends xs c.total_capacity.result h c.total_capacity.ensures c.deref-2.result.now c.deref_mut.result.now all ys,
-      slice_get_within ends c.number_of-through.result number.0 at,
-    )
-
-pub take_back_by-requires-clause-enough : goal.take_back_by-requires-clause-enough
-take_back_by-requires-clause-enough g c =
-    let N = g.S.FlowStore.network c.args.store.now in
-    let value = g.C.Number.value in
-    let ends = c.in_ok-ends.ends.items in
-    let xs = c.in_ok-ends.amounts.items in
-    let h = c.in_ok-ends.ensures.flows in
-    let k = c.number_of-through.result in
-    let number = c.number_of-through.ensures.number in
-    let at : slice_get ends k ≡ Some number.0 = ap (λ (es : List Arc). slice_get es k) (sym c.deref.ensures.value) ∙ number.1 in
-    let ys : c.deref_mut.result.now ≡ xs ++ c.total_capacity.result ∷ [] = c.deref_mut.ensures.value ∙ c.in_ok-push-2.ensures.items in
-    let there = amount_there value N ends xs h k number.0 at in
-    let from : N.flow number.0.from number.0.to ≡ N.flow c.args.from c.args.to = ap (λ (u : ℕ). N.flow u number.0.to) number.2 ∙ ap (λ (u : ℕ). N.flow c.args.from u) number.3 in
-    let n = there.2 in
-    let most = c.requires.most in
-    (there.0, ap (λ us. slice_get us k) ys ∙ get-append xs (c.total_capacity.result ∷ []) k there.0 there.1, omega (arith, ints, from, n, most))
-
-pub returns-clause-lowered : goal.returns-clause-lowered
-returns-clause-lowered g c = on_ok c.take_back_by.result c.take_back_by.ensures.lowered (λ f.
-    let N = g.S.FlowStore.network c.args.store.now in
-    let M = g.S.FlowStore.network c.take_back_by.new.store in
-    let k = c.number_of-through.result in
-    let ends = c.in_ok-ends.ends.items in
-    let number = c.number_of-through.ensures.number in
-    let at : slice_get ends k ≡ Some number.0 = ap (λ (es : List Arc). slice_get es k) (sym c.deref.ensures.value) ∙ number.1 in
-    let here : slice_get c.deref-2.result.now k ≡ Some number.0 = ap (λ (es : List Arc). slice_get es k) (c.deref-2.ensures.value ∙ c.in_ok-push.ensures.items) ∙ get-append ends _ k number.0 at in
-    let less = f number.0 here in
-    let old : N.flow number.0.from number.0.to ≡ N.flow c.args.from c.args.to = ap (λ (u : ℕ). N.flow u number.0.to) number.2 ∙ ap (λ (u : ℕ). N.flow c.args.from u) number.3 in
-    let new : M.flow number.0.from number.0.to ≡ M.flow c.args.from c.args.to = ap (λ (u : ℕ). M.flow u number.0.to) number.2 ∙ ap (λ (u : ℕ). M.flow c.args.from u) number.3 in
-    omega (arith, ints, less, old, new))
 
 pub flowing-requires : goal.flowing-requires
 flowing-requires g c = c.requires.network
@@ -73,84 +22,104 @@ number_of-through-requires g c =
           (c.in_ok-ends.ensures.flows.complete c.args.from c.args.to c.requires.from c.requires.to (omega (arith, ints, some, most)));
     }
 
-pub take_back_by-requires-clause-network : goal.take_back_by-requires-clause-network
-take_back_by-requires-clause-network g c = c.requires.network
+pub take_back_by-requires : goal.take_back_by-requires
+take_back_by-requires g c = record {
+  network = c.requires.network;
+  apart =
+      λ q.
+      let none = c.requires.network.idle q c.args.from c.args.to in
+      let some = c.requires.some in
+      let most = c.requires.most in
+      omega (arith, ints, none, some, most);
+  plan =
+      let N = g.S.FlowStore.network c.args.store.now in
+      let value = g.C.Number.value in
+      let ends = c.in_ok-ends.ends.items in
+      let xs = c.in_ok-ends.amounts.items in
+      let h = c.in_ok-ends.ensures.flows in
+      let low = c.requires.some in
+      let most = c.requires.most in
+      let apart : N.source ≢ N.sink = λ q. (let none = c.requires.network.idle q c.args.from c.args.to in omega (arith, ints, none, low, most)) in
+      let sink : c.sink.result ≡ N.sink = c.sink.ensures in
+      let source : c.source.result ≡ N.source = c.source.ensures in
+      let all : c.deref-2.result.now ≡ ends ++ record { from = N.sink; to = N.source } ∷ [] = c.deref-2.ensures.value ∙ c.in_ok-push.ensures.items ∙ ap (λ (u : ℕ). ends ++ record { from = u; to = c.source.result } ∷ []) sink ∙ ap (λ (u : ℕ). ends ++ record { from = N.sink; to = u } ∷ []) source in
+      let ys : c.deref_mut.result.now ≡ xs ++ c.total_capacity.result ∷ [] = c.deref_mut.ensures.value ∙ c.in_ok-push-2.ensures.items in
+      let number = c.number_of-through.ensures.number in
+      let at : slice_get ends c.number_of-through.result ≡ Some number.0 = ap (λ (es : List Arc). slice_get es c.number_of-through.result) (sym c.deref.ensures.value) ∙ number.1 in (
+        length ends,
+        plan_of value g.C.Zero.zero (g.met.C.Zero.zero_law g.met.C.Integral.exact_law) N c.requires.network (g.met.S.FlowStore.network_law c.args.store.now) apart ends xs c.total_capacity.result h c.total_capacity.ensures c.deref-2.result.now c.deref_mut.result.now all ys,
+        slice_get_within ends c.number_of-through.result number.0 at,
+      );
+  some = c.requires.some;
+  enough =
+      let N = g.S.FlowStore.network c.args.store.now in
+      let value = g.C.Number.value in
+      let ends = c.in_ok-ends.ends.items in
+      let xs = c.in_ok-ends.amounts.items in
+      let h = c.in_ok-ends.ensures.flows in
+      let k = c.number_of-through.result in
+      let number = c.number_of-through.ensures.number in
+      let at : slice_get ends k ≡ Some number.0 = ap (λ (es : List Arc). slice_get es k) (sym c.deref.ensures.value) ∙ number.1 in
+      let ys : c.deref_mut.result.now ≡ xs ++ c.total_capacity.result ∷ [] = c.deref_mut.ensures.value ∙ c.in_ok-push-2.ensures.items in
+      let there = amount_there value N ends xs h k number.0 at in
+      let from : N.flow number.0.from number.0.to ≡ N.flow c.args.from c.args.to = ap (λ (u : ℕ). N.flow u number.0.to) number.2 ∙ ap (λ (u : ℕ). N.flow c.args.from u) number.3 in
+      let n = there.2 in
+      let most = c.requires.most in
+      (there.0, ap (λ us. slice_get us k) ys ∙ get-append xs (c.total_capacity.result ∷ []) k there.0 there.1, omega (arith, ints, from, n, most));
+}
 
-pub take_back_by-requires-clause-apart : goal.take_back_by-requires-clause-apart
-take_back_by-requires-clause-apart g c = λ q.
-    let none = c.requires.network.idle q c.args.from c.args.to in
-    let some = c.requires.some in
-    let most = c.requires.most in
-    omega (arith, ints, none, some, most)
+pub returns : goal.returns
+returns g c = record {
+  network = c.take_back_by.ensures.network;
+  kept = c.take_back_by.ensures.kept;
+  lowered =
+      on_ok c.take_back_by.result c.take_back_by.ensures.lowered (λ f.
+      let N = g.S.FlowStore.network c.args.store.now in
+      let M = g.S.FlowStore.network c.take_back_by.new.store in
+      let k = c.number_of-through.result in
+      let ends = c.in_ok-ends.ends.items in
+      let number = c.number_of-through.ensures.number in
+      let at : slice_get ends k ≡ Some number.0 = ap (λ (es : List Arc). slice_get es k) (sym c.deref.ensures.value) ∙ number.1 in
+      let here : slice_get c.deref-2.result.now k ≡ Some number.0 = ap (λ (es : List Arc). slice_get es k) (c.deref-2.ensures.value ∙ c.in_ok-push.ensures.items) ∙ get-append ends _ k number.0 at in
+      let less = f number.0 here in
+      let old : N.flow number.0.from number.0.to ≡ N.flow c.args.from c.args.to = ap (λ (u : ℕ). N.flow u number.0.to) number.2 ∙ ap (λ (u : ℕ). N.flow c.args.from u) number.3 in
+      let new : M.flow number.0.from number.0.to ≡ M.flow c.args.from c.args.to = ap (λ (u : ℕ). M.flow u number.0.to) number.2 ∙ ap (λ (u : ℕ). M.flow c.args.from u) number.3 in
+      omega (arith, ints, less, old, new));
+  total = c.take_back_by.ensures.total;
+  excess = c.take_back_by.ensures.excess;
+  unchanged = c.take_back_by.ensures.unchanged;
+  refused = c.take_back_by.ensures.refused;
+}
 
-pub take_back_by-requires-clause-some : goal.take_back_by-requires-clause-some
-take_back_by-requires-clause-some g c = c.requires.some
+pub returns-in_err-ends : goal.returns-in_err-ends
+returns-in_err-ends g c = record {
+  network = c.requires.network;
+  kept = IfOk-from_err _ _ c.from_residual.ensures.0;
+  lowered = IfOk-from_err _ _ c.from_residual.ensures.0;
+  total = IfOk-from_err _ _ c.from_residual.ensures.0;
+  excess = IfOk-from_err _ _ c.from_residual.ensures.0;
+  unchanged = MatchResult-from_err _ _ _ c.from_residual.ensures.0 (λ e. agrees_itself (g.S.FlowStore.network c.args.store.now));
+  refused = refused_as _ c.from_residual.result _ c.in_err-ends.ensures.refused c.from_residual.ensures.1;
+}
 
-pub returns-clause-network : goal.returns-clause-network
-returns-clause-network g c = c.take_back_by.ensures.network
+pub returns-in_err-push : goal.returns-in_err-push
+returns-in_err-push g c = record {
+  network = c.requires.network;
+  kept = IfOk-from_err _ _ c.from_residual-in_err-push.ensures.0;
+  lowered = IfOk-from_err _ _ c.from_residual-in_err-push.ensures.0;
+  total = IfOk-from_err _ _ c.from_residual-in_err-push.ensures.0;
+  excess = IfOk-from_err _ _ c.from_residual-in_err-push.ensures.0;
+  unchanged = MatchResult-from_err _ _ _ c.from_residual-in_err-push.ensures.0 (λ e. agrees_itself (g.S.FlowStore.network c.args.store.now));
+  refused = search rules;
+}
 
-pub returns-clause-kept : goal.returns-clause-kept
-returns-clause-kept g c = c.take_back_by.ensures.kept
-
-pub returns-clause-total : goal.returns-clause-total
-returns-clause-total g c = c.take_back_by.ensures.total
-
-pub returns-clause-excess : goal.returns-clause-excess
-returns-clause-excess g c = c.take_back_by.ensures.excess
-
-pub returns-clause-unchanged : goal.returns-clause-unchanged
-returns-clause-unchanged g c = c.take_back_by.ensures.unchanged
-
-pub returns-in_err-ends-clause-network : goal.returns-in_err-ends-clause-network
-returns-in_err-ends-clause-network g c = c.requires.network
-
-pub returns-in_err-ends-clause-kept : goal.returns-in_err-ends-clause-kept
-returns-in_err-ends-clause-kept g c = IfOk-from_err _ _ c.from_residual.ensures.0
-
-pub returns-in_err-ends-clause-lowered : goal.returns-in_err-ends-clause-lowered
-returns-in_err-ends-clause-lowered g c = IfOk-from_err _ _ c.from_residual.ensures.0
-
-pub returns-in_err-ends-clause-total : goal.returns-in_err-ends-clause-total
-returns-in_err-ends-clause-total g c = IfOk-from_err _ _ c.from_residual.ensures.0
-
-pub returns-in_err-ends-clause-excess : goal.returns-in_err-ends-clause-excess
-returns-in_err-ends-clause-excess g c = IfOk-from_err _ _ c.from_residual.ensures.0
-
-pub returns-in_err-ends-clause-unchanged : goal.returns-in_err-ends-clause-unchanged
-returns-in_err-ends-clause-unchanged g c = MatchResult-from_err _ _ _ c.from_residual.ensures.0 (λ e. agrees_itself (g.S.FlowStore.network c.args.store.now))
-
-pub returns-in_err-push-clause-network : goal.returns-in_err-push-clause-network
-returns-in_err-push-clause-network g c = c.requires.network
-
-pub returns-in_err-push-clause-kept : goal.returns-in_err-push-clause-kept
-returns-in_err-push-clause-kept g c = IfOk-from_err _ _ c.from_residual-in_err-push.ensures.0
-
-pub returns-in_err-push-clause-lowered : goal.returns-in_err-push-clause-lowered
-returns-in_err-push-clause-lowered g c = IfOk-from_err _ _ c.from_residual-in_err-push.ensures.0
-
-pub returns-in_err-push-clause-total : goal.returns-in_err-push-clause-total
-returns-in_err-push-clause-total g c = IfOk-from_err _ _ c.from_residual-in_err-push.ensures.0
-
-pub returns-in_err-push-clause-excess : goal.returns-in_err-push-clause-excess
-returns-in_err-push-clause-excess g c = IfOk-from_err _ _ c.from_residual-in_err-push.ensures.0
-
-pub returns-in_err-push-clause-unchanged : goal.returns-in_err-push-clause-unchanged
-returns-in_err-push-clause-unchanged g c = MatchResult-from_err _ _ _ c.from_residual-in_err-push.ensures.0 (λ e. agrees_itself (g.S.FlowStore.network c.args.store.now))
-
-pub returns-in_err-push-2-clause-network : goal.returns-in_err-push-2-clause-network
-returns-in_err-push-2-clause-network g c = c.requires.network
-
-pub returns-in_err-push-2-clause-kept : goal.returns-in_err-push-2-clause-kept
-returns-in_err-push-2-clause-kept g c = IfOk-from_err _ _ c.from_residual-in_err-push-2.ensures.0
-
-pub returns-in_err-push-2-clause-lowered : goal.returns-in_err-push-2-clause-lowered
-returns-in_err-push-2-clause-lowered g c = IfOk-from_err _ _ c.from_residual-in_err-push-2.ensures.0
-
-pub returns-in_err-push-2-clause-total : goal.returns-in_err-push-2-clause-total
-returns-in_err-push-2-clause-total g c = IfOk-from_err _ _ c.from_residual-in_err-push-2.ensures.0
-
-pub returns-in_err-push-2-clause-excess : goal.returns-in_err-push-2-clause-excess
-returns-in_err-push-2-clause-excess g c = IfOk-from_err _ _ c.from_residual-in_err-push-2.ensures.0
-
-pub returns-in_err-push-2-clause-unchanged : goal.returns-in_err-push-2-clause-unchanged
-returns-in_err-push-2-clause-unchanged g c = MatchResult-from_err _ _ _ c.from_residual-in_err-push-2.ensures.0 (λ e. agrees_itself (g.S.FlowStore.network c.args.store.now))
+pub returns-in_err-push-2 : goal.returns-in_err-push-2
+returns-in_err-push-2 g c = record {
+  network = c.requires.network;
+  kept = IfOk-from_err _ _ c.from_residual-in_err-push-2.ensures.0;
+  lowered = IfOk-from_err _ _ c.from_residual-in_err-push-2.ensures.0;
+  total = IfOk-from_err _ _ c.from_residual-in_err-push-2.ensures.0;
+  excess = IfOk-from_err _ _ c.from_residual-in_err-push-2.ensures.0;
+  unchanged = MatchResult-from_err _ _ _ c.from_residual-in_err-push-2.ensures.0 (λ e. agrees_itself (g.S.FlowStore.network c.args.store.now));
+  refused = search rules;
+}

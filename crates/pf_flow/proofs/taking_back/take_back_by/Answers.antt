@@ -1,88 +1,127 @@
 use Rattle.std.proofs.Common.{◌≡◌, ◌∙◌, ◌<◌, ◌-◌, ℕ, Some, arith, length, sym, ap, subst, take}
 use Rattle.std.specs.Prelude.{slice_get}
 use Rattle.std.proofs.lemmas.Int.{ints}
+use Rattle.std.proofs.lemmas.Result.{IfOk-from_err, MatchResult-from_err}
 use Rattle.pf_core.proofs.ListLemmas.{at_place, get_take}
+use Rattle.pf_flow.specs.Internal.Cancelling.{AreInside}
 use Rattle.pf_flow.specs.Internal.Settled.{AreFlowing, IsSettled, AreApart}
-use Rattle.pf_flow.proofs.AgreeLemmas.{network_agrees}
+use Rattle.pf_flow.proofs.AgreeLemmas.{agrees_itself, capacities_agrees, capacities_more, network_agrees}
+use Rattle.pf_flow.proofs.NamedLemmas.{refused_as}
+use Rattle.pf_flow.proofs.NetworkLemmas.{balanced_of}
 use Rattle.pf_flow.proofs.SettledLemmas.{settled_here}
 use Rattle.pf_flow.proofs.TakeBackLemmas.{plan_flowing, plan_network}
 use Rattle.pf_flow.proofs.taking_back.take_back_by.Goals as goal
 
-pub lower_flows-requires-clause-flowing : goal.lower_flows-requires-clause-flowing
-lower_flows-requires-clause-flowing g c =
-    let N = g.S.FlowStore.network c.args.store.now in
-    let value = g.C.Number.value in
+pub bounds-amounts-count : goal.bounds-amounts-count
+bounds-amounts-count g c =
     let p = c.requires.plan in
-    let count : p.0 ≡ length c.args.ends.now - 1 = omega (arith, p.1.len) in
-    subst (λ (n : ℕ). AreFlowing value n c.args.ends.now c.cancel.new.amounts N) count (plan_flowing value p.0 c.args.ends.now c.args.amounts.now N p.1 _ c.args.through c.cancel.new.amounts c.in_ok-cancel.ensures.lowered)
+    omega (arith, p.1.len, p.1.long, c.in_ok-cancel.ensures.lowered.len)
 
-pub returns-clause-network : goal.returns-clause-network
-returns-clause-network g c =
-    let N = g.S.FlowStore.network c.args.store.now in
-    let M = g.S.FlowStore.network c.lower_flows.new.store in
-    let value = g.C.Number.value in
-    let p = c.requires.plan in
-    let now = c.cancel.new.amounts in
-    let l = c.in_ok-cancel.ensures.lowered in
-    let w = c.index-amounts-count.result in
-    let count : length c.args.ends.now - 1 ≡ p.0 = omega (arith, p.1.len) in
-    let last : slice_get now (length c.args.ends.now - 1) ≡ Some w = at_place now _ _ _ (omega (arith, p.1.len, p.1.long, l.len)) (sym c.index-amounts-count.is) in
-    let at : slice_get now p.0 ≡ Some w = subst (λ (n : ℕ). slice_get now n ≡ Some w) count last in
-    let s = subst (λ (n : ℕ). IsSettled value n c.args.ends.now now N M) count c.lower_flows.ensures.settled in
-    network_agrees c.set_total_capacity.ensures (plan_network value p.0 c.args.ends.now c.args.amounts.now N p.1 _ c.args.through now w M c.requires.network (g.met.S.FlowStore.network_law c.args.store.now) c.requires.apart l c.in_ok-cancel.ensures.balanced at s c.lower_flows.ensures.balanced)
+pub cancel-requires : goal.cancel-requires
+cancel-requires g c = record {
+  inside = subst (λ (n : ℕ). AreInside n c.args.ends.now) (sym c.size.ensures) c.requires.plan.1.inside;
+  long = c.requires.plan.1.long;
+  amounts = c.requires.plan.1.amounts;
+  balanced = c.requires.plan.1.balanced;
+  excess = let some = c.requires.some in omega (arith, ints, some);
+  enough = c.requires.enough;
+}
 
-pub returns-clause-lowered : goal.returns-clause-lowered
-returns-clause-lowered g c = λ e f.
-    let N = g.S.FlowStore.network c.args.store.now in
-    let value = g.C.Number.value in
-    let p = c.requires.plan in
-    let ends = c.args.ends.now in
-    let now = c.cancel.new.amounts in
-    let o = c.requires.enough in
-    let x = c.in_ok-cancel.ensures.lowered.exact o.0 o.1 in
-    let before = p.1.number c.args.through e o.0 p.2 f o.1 in
-    let s = c.lower_flows.ensures.settled in
-    let below : c.args.through < length ends - 1 = omega (arith, p.2, p.1.len) in
-    let here = settled_here value (take (length ends - 1) ends) N.flow (take (length ends - 1) now) c.args.through e x.0 (subst (λ (n : ℕ). AreApart (take n ends)) (omega (arith, p.1.len)) p.1.apart) (get_take (length ends - 1) ends c.args.through e below f) (get_take (length ends - 1) now c.args.through x.0 below x.1) in
-    let after = s.flow.at e.from e.to in
-    let same = c.set_total_capacity.ensures.flow.at e.from e.to in
-    let less = x.2 in
-    omega (arith, ints, before, here, after, same, less)
+pub lower_flows-requires : goal.lower_flows-requires
+lower_flows-requires g c = record {
+  balanced = balanced_of c.requires.network;
+  flowing =
+      let N = g.S.FlowStore.network c.args.store.now in
+      let value = g.C.Number.value in
+      let p = c.requires.plan in
+      let count : p.0 ≡ length c.args.ends.now - 1 = omega (arith, p.1.len) in
+      subst (λ (n : ℕ). AreFlowing value n c.args.ends.now c.cancel.new.amounts N) count (plan_flowing value p.0 c.args.ends.now c.args.amounts.now N p.1 _ c.args.through c.cancel.new.amounts c.in_ok-cancel.ensures.lowered);
+}
 
-pub returns-clause-total : goal.returns-clause-total
-returns-clause-total g c =
-    let value = g.C.Number.value in
-    let p = c.requires.plan in
-    let now = c.cancel.new.amounts in
-    let l = c.in_ok-cancel.ensures.lowered in
-    let w = c.index-amounts-count.result in
-    let count : length c.args.ends.now - 1 ≡ p.0 = omega (arith, p.1.len) in
-    let last : slice_get now (length c.args.ends.now - 1) ≡ Some w = at_place now _ _ _ (omega (arith, p.1.len, p.1.long, l.len)) (sym c.index-amounts-count.is) in
-    let at : slice_get now p.0 ≡ Some w = subst (λ (n : ℕ). slice_get now n ≡ Some w) count last in
-    let o = l.each p.0 p.1.total.0 p.1.total.1 in
-    let same : Some w ≡ Some o.0 = sym at ∙ o.1 in
-    let v : w ≡ o.0 = cc in
-    let e : value w ≡ value o.0 = ap value v in
-    let most = o.2.1 in
-    let was = p.1.total.2 in
-    let now_total = c.set_total_capacity.ensures.total in
-    omega (arith, ints, e, most, was, now_total)
+pub returns : goal.returns
+returns g c = record {
+  network =
+      let N = g.S.FlowStore.network c.args.store.now in
+      let M = g.S.FlowStore.network c.lower_flows.new.store in
+      let value = g.C.Number.value in
+      let p = c.requires.plan in
+      let now = c.cancel.new.amounts in
+      let l = c.in_ok-cancel.ensures.lowered in
+      let w = c.index-amounts-count.result in
+      let count : length c.args.ends.now - 1 ≡ p.0 = omega (arith, p.1.len) in
+      let last : slice_get now (length c.args.ends.now - 1) ≡ Some w = at_place now _ _ _ (omega (arith, p.1.len, p.1.long, l.len)) (sym c.index-amounts-count.is) in
+      let at : slice_get now p.0 ≡ Some w = subst (λ (n : ℕ). slice_get now n ≡ Some w) count last in
+      let s = subst (λ (n : ℕ). IsSettled value n c.args.ends.now now N M) count c.lower_flows.ensures.settled in
+      network_agrees c.set_total_capacity.ensures (plan_network value p.0 c.args.ends.now c.args.amounts.now N p.1 _ c.args.through now w M c.requires.network (g.met.S.FlowStore.network_law c.args.store.now) c.requires.apart l c.in_ok-cancel.ensures.balanced at s c.lower_flows.ensures.balanced);
+  kept =
+      let same = capacities_agrees c.set_total_capacity.ensures in
+      let shape = same.shape in
+      capacities_more c.lower_flows.ensures.settled.kept (record {
+        shape = record { vertices = shape.vertices; source = shape.source; sink = shape.sink; details = shape.details; room = shape.room };
+        capacities = record { at = same.capacities.at };
+      });
+  lowered =
+      λ e f.
+      let N = g.S.FlowStore.network c.args.store.now in
+      let value = g.C.Number.value in
+      let p = c.requires.plan in
+      let ends = c.args.ends.now in
+      let now = c.cancel.new.amounts in
+      let o = c.requires.enough in
+      let x = c.in_ok-cancel.ensures.lowered.exact o.0 o.1 in
+      let before = p.1.number c.args.through e o.0 p.2 f o.1 in
+      let s = c.lower_flows.ensures.settled in
+      let below : c.args.through < length ends - 1 = omega (arith, p.2, p.1.len) in
+      let here = settled_here value (take (length ends - 1) ends) N.flow (take (length ends - 1) now) c.args.through e x.0 (subst (λ (n : ℕ). AreApart (take n ends)) (omega (arith, p.1.len)) p.1.apart) (get_take (length ends - 1) ends c.args.through e below f) (get_take (length ends - 1) now c.args.through x.0 below x.1) in
+      let after = s.flow.at e.from e.to in
+      let same = c.set_total_capacity.ensures.flow.at e.from e.to in
+      let less = x.2 in
+      omega (arith, ints, before, here, after, same, less);
+  total =
+      let value = g.C.Number.value in
+      let p = c.requires.plan in
+      let now = c.cancel.new.amounts in
+      let l = c.in_ok-cancel.ensures.lowered in
+      let w = c.index-amounts-count.result in
+      let count : length c.args.ends.now - 1 ≡ p.0 = omega (arith, p.1.len) in
+      let last : slice_get now (length c.args.ends.now - 1) ≡ Some w = at_place now _ _ _ (omega (arith, p.1.len, p.1.long, l.len)) (sym c.index-amounts-count.is) in
+      let at : slice_get now p.0 ≡ Some w = subst (λ (n : ℕ). slice_get now n ≡ Some w) count last in
+      let o = l.each p.0 p.1.total.0 p.1.total.1 in
+      let same : Some w ≡ Some o.0 = sym at ∙ o.1 in
+      let v : w ≡ o.0 = cc in
+      let e : value w ≡ value o.0 = ap value v in
+      let most = o.2.1 in
+      let was = p.1.total.2 in
+      let now_total = c.set_total_capacity.ensures.total in
+      omega (arith, ints, e, most, was, now_total);
+  excess =
+      let value = g.C.Number.value in
+      let p = c.requires.plan in
+      let now = c.cancel.new.amounts in
+      let l = c.in_ok-cancel.ensures.lowered in
+      let w = c.index-amounts-count.result in
+      let count : length c.args.ends.now - 1 ≡ p.0 = omega (arith, p.1.len) in
+      let last : slice_get now (length c.args.ends.now - 1) ≡ Some w = at_place now _ _ _ (omega (arith, p.1.len, p.1.long, l.len)) (sym c.index-amounts-count.is) in
+      let at : slice_get now p.0 ≡ Some w = subst (λ (n : ℕ). slice_get now n ≡ Some w) count last in
+      let o = l.each p.0 p.1.total.0 p.1.total.1 in
+      let same : Some w ≡ Some o.0 = sym at ∙ o.1 in
+      let v : w ≡ o.0 = cc in
+      let e : value w ≡ value o.0 = ap value v in
+      let least = o.2.2 in
+      let was = p.1.total.2 in
+      let now_total = c.set_total_capacity.ensures.total in
+      omega (arith, ints, e, least, was, now_total);
+  unchanged = tt;
+  refused = tt;
+}
 
-pub returns-clause-excess : goal.returns-clause-excess
-returns-clause-excess g c =
-    let value = g.C.Number.value in
-    let p = c.requires.plan in
-    let now = c.cancel.new.amounts in
-    let l = c.in_ok-cancel.ensures.lowered in
-    let w = c.index-amounts-count.result in
-    let count : length c.args.ends.now - 1 ≡ p.0 = omega (arith, p.1.len) in
-    let last : slice_get now (length c.args.ends.now - 1) ≡ Some w = at_place now _ _ _ (omega (arith, p.1.len, p.1.long, l.len)) (sym c.index-amounts-count.is) in
-    let at : slice_get now p.0 ≡ Some w = subst (λ (n : ℕ). slice_get now n ≡ Some w) count last in
-    let o = l.each p.0 p.1.total.0 p.1.total.1 in
-    let same : Some w ≡ Some o.0 = sym at ∙ o.1 in
-    let v : w ≡ o.0 = cc in
-    let e : value w ≡ value o.0 = ap value v in
-    let least = o.2.2 in
-    let was = p.1.total.2 in
-    let now_total = c.set_total_capacity.ensures.total in
-    omega (arith, ints, e, least, was, now_total)
+pub returns-in_err-cancel : goal.returns-in_err-cancel
+returns-in_err-cancel g c = record {
+  network = c.requires.network;
+  kept = IfOk-from_err _ _ c.from_residual.ensures.0;
+  lowered = IfOk-from_err _ _ c.from_residual.ensures.0;
+  total = IfOk-from_err _ _ c.from_residual.ensures.0;
+  excess = IfOk-from_err _ _ c.from_residual.ensures.0;
+  unchanged = MatchResult-from_err _ _ _ c.from_residual.ensures.0 (λ e. agrees_itself (g.S.FlowStore.network c.args.store.now));
+  refused = refused_as _ c.from_residual.result _ c.in_err-cancel.ensures.refused c.from_residual.ensures.1;
+}

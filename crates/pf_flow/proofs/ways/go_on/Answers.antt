@@ -1,5 +1,6 @@
-use Rattle.std.proofs.Common.{◌-◌, refl, arith}
+use Rattle.std.proofs.Common.{◌-◌, ℕ, refl, sym, subst, arith}
 use Rattle.std.specs.Prelude.{slice_index}
+use Rattle.pf_flow.specs.Internal.Steps.{AreSteps}
 use Rattle.pf_flow.proofs.StepLemmas.{climb_up, climb_passed, work_passed}
 use Rattle.pf_flow.proofs.ways.go_on.Goals as goal
 
@@ -70,3 +71,45 @@ returns-clause-steps g c =
     let b = r.below in
     let p = c.pass_step-2.ensures in
     (climb_passed r.climb (slice_index c.args.path.now (c.args.depth - 1)) (c.args.depth - 1) (omega arith) (omega (arith, b)) refl (r.climb.ahead (c.args.depth - 1) (omega (arith, n))) p.targets p.places p.ends).steps
+
+pub step_from-requires-clause-steps : goal.step_from-requires-clause-steps
+step_from-requires-clause-steps g c =
+    let steps = c.args.steps.now in
+    let w = c.requires.climb.steps in
+    subst (λ (n : ℕ). AreSteps n steps.targets.items steps.places.items steps.ends.items) (sym w.places_len) w
+
+pub step_from-requires-clause-from : goal.step_from-requires-clause-from
+step_from-requires-clause-from g c =
+    let inside = c.requires.climb.way.inside c.args.depth (omega arith) in
+    omega (arith, inside, c.requires.climb.steps.places_len)
+
+pub pass_step-requires-clause-steps : goal.pass_step-requires-clause-steps
+pass_step-requires-clause-steps g c =
+    let steps = c.args.steps.now in
+    let w = c.requires.climb.steps in
+    subst (λ (n : ℕ). AreSteps n steps.targets.items steps.places.items steps.ends.items) (sym w.places_len) w
+
+pub pass_step-requires-clause-from : goal.pass_step-requires-clause-from
+pass_step-requires-clause-from g c =
+    let inside = c.requires.climb.way.inside c.args.depth (omega arith) in
+    omega (arith, inside, c.requires.climb.steps.places_len)
+
+pub pass_step-requires-2-clause-steps : goal.pass_step-requires-2-clause-steps
+pass_step-requires-2-clause-steps g c =
+    let steps = c.args.steps.now in
+    let w = c.requires.climb.steps in
+    subst (λ (n : ℕ). AreSteps n steps.targets.items steps.places.items steps.ends.items) (sym w.places_len) w
+
+pub pass_step-requires-2-clause-from : goal.pass_step-requires-2-clause-from
+pass_step-requires-2-clause-from g c =
+    let inside = c.requires.climb.way.inside (c.args.depth - 1) (omega arith) in
+    omega (arith, inside, c.requires.climb.steps.places_len)
+
+pub is_open-requires-clause-levels_len : goal.is_open-requires-clause-levels_len
+is_open-requires-clause-levels_len g c = c.requires.climb.levels_len
+
+pub is_open-requires-clause-from : goal.is_open-requires-clause-from
+is_open-requires-clause-from g c = c.requires.climb.way.inside c.args.depth (omega arith)
+
+pub is_open-requires-clause-to : goal.is_open-requires-clause-to
+is_open-requires-clause-to g c = omega (arith, c.in-Some.ensures.inside, c.requires.climb.steps.places_len)

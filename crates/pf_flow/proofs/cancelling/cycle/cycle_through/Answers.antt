@@ -1,4 +1,4 @@
-use Rattle.std.proofs.Common.{◌≡◌, ◌<◌, ◌∙◌, ℕ, List, Some, arith, length, refl, sym, ap, subst}
+use Rattle.std.proofs.Common.{rules, ◌≡◌, ◌<◌, ◌∙◌, ℕ, List, Some, arith, length, refl, sym, ap, subst}
 use Rattle.std.specs.Prelude.{slice_get, None}
 use Rattle.std.proofs.lemmas.Int.{ints}
 use Rattle.std.proofs.lemmas.Option.{slice_get-get_or, slice_get_within}
@@ -6,6 +6,7 @@ use Rattle.std.proofs.lemmas.Result.{IfOk-from_err}
 use Rattle.pf_core.proofs.ListLemmas.{at_place}
 use Rattle.pf_flow.specs.declared.cancelling.arcs.Arc.{Arc}
 use Rattle.pf_flow.specs.Internal.Cancelling.{IsCycle, IsWayBack}
+use Rattle.pf_flow.proofs.NamedLemmas.{refused_as}
 use Rattle.pf_flow.proofs.CycleLemmas.{tail_reached, way_begin, way_more, way_end, before_less}
 use Rattle.pf_flow.proofs.cancelling.cycle.cycle_through.Invariants.{arc_at}
 use Rattle.pf_flow.proofs.cancelling.cycle.cycle_through.Goals as goal
@@ -71,22 +72,6 @@ steps-preserved g c =
     let made = way_more value ends c.args.amounts.now (arc_at ends k).to (arc_at ends k).from steps c.in_ok-reached.reached.places.items c.steps.at c.steps.cycle.items s (omega (arith, c.steps-test.true)) at c.in_ok-reached.ensures.reached c.steps.invariant in
     subst (λ way. IsWayBack value ends c.args.amounts.now (arc_at ends k).from steps c.in_ok-reached.reached.places.items s.before way) (sym c.in_ok-push.ensures.items) made
 
-pub returns-clause-cycle : goal.returns-clause-cycle
-returns-clause-cycle g c =
-    let value = g.C.Number.value in
-    let ends = c.args.ends.now in
-    let k = c.args.through in
-    let t = c.requires.through in
-    let steps = c.in_ok-reached.reached.steps.items in
-    let places = c.in_ok-reached.reached.places.items in
-    let below : k < length ends = omega (arith, slice_get_within c.args.amounts.now k t.0 t.1, c.requires.long) in
-    let at : slice_get ends k ≡ Some (arc_at ends k) = slice_get-get_or ends k _ below in
-    let done : c.steps.at ≡ 0 = omega (arith, c.steps-test.false) in
-    let last = subst (λ (n : ℕ). IsWayBack value ends c.args.amounts.now (arc_at ends k).from steps places n c.steps.cycle.items) done c.steps.invariant in
-    let some = t.2 in
-    let made = way_end value ends c.args.amounts.now (arc_at ends k).to (arc_at ends k).from steps places c.steps.cycle.items k (arc_at ends k) c.in_ok-reached.ensures.reached last at refl refl (t.0, t.1, λ q. absurd (omega (arith, ints, q, some))) in
-    subst (λ cycle. IsCycle value ends c.args.amounts.now k cycle) (sym c.in_ok-push-2.ensures.items) made
-
 pub bounds-ends-through : goal.bounds-ends-through
 bounds-ends-through g c =
     let t = c.requires.through in
@@ -97,28 +82,52 @@ offset_bounds-ends-through g c =
     let t = c.requires.through in
     omega (arith, slice_get_within c.args.amounts.now c.args.through t.0 t.1, c.requires.long)
 
-pub search-requires-clause-rows : goal.search-requires-clause-rows
-search-requires-clause-rows g c = c.requires.rows
-
-pub search-requires-clause-long : goal.search-requires-clause-long
-search-requires-clause-long g c = c.requires.long
-
-pub search-requires-clause-inside : goal.search-requires-clause-inside
-search-requires-clause-inside g c = c.requires.inside
-
-pub search-requires-clause-start : goal.search-requires-clause-start
-search-requires-clause-start g c = (c.requires.inside c.args.through (arc_at c.args.ends.now c.args.through) (through_at c.args.ends.now c.args.amounts.now c.requires.long c.args.through c.requires.through)).1
-
 pub index-requires : goal.index-requires
 index-requires g c =
     let l = (c.requires.inside c.args.through (arc_at c.args.ends.now c.args.through) (through_at c.args.ends.now c.args.amounts.now c.requires.long c.args.through c.requires.through)).0 in
     omega (arith, l, c.in_ok-reached.ensures.wide, c.in_ok-reached.reached.places.ok)
 
-pub returns-in_err-reached-clause-cycle : goal.returns-in_err-reached-clause-cycle
-returns-in_err-reached-clause-cycle g c = IfOk-from_err _ _ c.from_residual.ensures.0
+pub search-requires : goal.search-requires
+search-requires g c = record {
+  rows = c.requires.rows;
+  long = c.requires.long;
+  inside = c.requires.inside;
+  start = (c.requires.inside c.args.through (arc_at c.args.ends.now c.args.through) (through_at c.args.ends.now c.args.amounts.now c.requires.long c.args.through c.requires.through)).1;
+}
 
-pub returns-in_err-push-clause-cycle : goal.returns-in_err-push-clause-cycle
-returns-in_err-push-clause-cycle g c = IfOk-from_err _ _ c.from_residual-in_err-push.ensures.0
+pub returns : goal.returns
+returns g c = record {
+  cycle =
+      let value = g.C.Number.value in
+      let ends = c.args.ends.now in
+      let k = c.args.through in
+      let t = c.requires.through in
+      let steps = c.in_ok-reached.reached.steps.items in
+      let places = c.in_ok-reached.reached.places.items in
+      let below : k < length ends = omega (arith, slice_get_within c.args.amounts.now k t.0 t.1, c.requires.long) in
+      let at : slice_get ends k ≡ Some (arc_at ends k) = slice_get-get_or ends k _ below in
+      let done : c.steps.at ≡ 0 = omega (arith, c.steps-test.false) in
+      let last = subst (λ (n : ℕ). IsWayBack value ends c.args.amounts.now (arc_at ends k).from steps places n c.steps.cycle.items) done c.steps.invariant in
+      let some = t.2 in
+      let made = way_end value ends c.args.amounts.now (arc_at ends k).to (arc_at ends k).from steps places c.steps.cycle.items k (arc_at ends k) c.in_ok-reached.ensures.reached last at refl refl (t.0, t.1, λ q. absurd (omega (arith, ints, q, some))) in
+      subst (λ cycle. IsCycle value ends c.args.amounts.now k cycle) (sym c.in_ok-push-2.ensures.items) made;
+  refused = tt;
+}
 
-pub returns-in_err-push-2-clause-cycle : goal.returns-in_err-push-2-clause-cycle
-returns-in_err-push-2-clause-cycle g c = IfOk-from_err _ _ c.from_residual-in_err-push-2.ensures.0
+pub returns-in_err-reached : goal.returns-in_err-reached
+returns-in_err-reached g c = record {
+  cycle = IfOk-from_err _ _ c.from_residual.ensures.0;
+  refused = refused_as _ c.from_residual.result _ c.in_err-reached.ensures.refused c.from_residual.ensures.1;
+}
+
+pub returns-in_err-push : goal.returns-in_err-push
+returns-in_err-push g c = record {
+  cycle = IfOk-from_err _ _ c.from_residual-in_err-push.ensures.0;
+  refused = search rules;
+}
+
+pub returns-in_err-push-2 : goal.returns-in_err-push-2
+returns-in_err-push-2 g c = record {
+  cycle = IfOk-from_err _ _ c.from_residual-in_err-push-2.ensures.0;
+  refused = search rules;
+}

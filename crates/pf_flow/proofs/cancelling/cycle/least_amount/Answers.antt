@@ -1,9 +1,9 @@
-use Rattle.std.proofs.Common.{rules, ◌≡◌, ◌∙◌, Some, arith, get_or, sym, ap, pos, inl, inr}
+use Rattle.std.proofs.Common.{◌≡◌, ◌≤◌, ◌<◌, ◌∙◌, ℕ, List, Some, arith, get_or, length, sym, ap, subst, take_all, pos, inl, inr}
 use Rattle.std.specs.Prelude.{slice_get, ◌≤ℤ◌, ◌<ℤ◌}
 use Rattle.std.proofs.lemmas.Int.{ints}
 use Rattle.std.proofs.lemmas.Option.{slice_get-get_or, slice_get_within}
-use Rattle.pf_core.proofs.ListLemmas.{at_place}
-use Rattle.pf_flow.specs.Internal.Cancelling.{HasAmount}
+use Rattle.pf_core.proofs.ListLemmas.{at_place, none_in}
+use Rattle.pf_flow.specs.Internal.Cancelling.{Has, HasAmount}
 use Rattle.pf_flow.proofs.SearchLemmas.{Has-take}
 use Rattle.pf_flow.proofs.cancelling.cycle.least_amount.Goals as goal
 
@@ -15,7 +15,9 @@ bounds-amounts-number g c =
     slice_get_within c.args.amounts.now k o.0 o.1
 
 pub offset_bounds-amounts-number : goal.offset_bounds-amounts-number
-offset_bounds-amounts-number g c = let l = bounds-amounts-number g c in search rules
+offset_bounds-amounts-number g c =
+    let l : get_or c.args.cycle.now c.arcs.number-index 0 < length c.args.amounts.now = bounds-amounts-number g c in
+    omega (arith, l)
 
 pub arcs-preserved : goal.arcs-preserved
 arcs-preserved g c =
@@ -49,3 +51,25 @@ arcs-preserved g c =
         | inr p ↦ (x, ap (slice_get xs) (sym p) ∙ at, low)
       ];
     }
+
+pub bounds-cycle-number-index : goal.bounds-cycle-number-index
+bounds-cycle-number-index g c = c.arcs-test.true
+
+pub arcs-smaller : goal.arcs-smaller
+arcs-smaller g c = omega (arith, c.arcs-test.true)
+
+pub arcs-init : goal.arcs-init
+arcs-init g c =
+    let limit = c.requires.limit in
+    record { some = limit; limited = omega (arith, ints); each = λ k h. absurd (none_in h.0 k h.1) }
+
+pub returns-clause-some : goal.returns-clause-some
+returns-clause-some g c = c.arcs.invariant.some
+
+pub returns-clause-limited : goal.returns-clause-limited
+returns-clause-limited g c = c.arcs.invariant.limited
+
+pub returns-clause-each : goal.returns-clause-each
+returns-clause-each g c =
+    let all : length c.args.cycle.now ≤ c.arcs.number-index = omega (arith, c.arcs-test.false) in
+    λ k h. c.arcs.invariant.each k (subst (λ (ks : List ℕ). Has ks k) (sym (take_all c.arcs.number-index c.args.cycle.now all)) h)

@@ -1,10 +1,52 @@
-use Rattle.std.proofs.Common.{rules, ◌≤◌, ◌≡◌, length, arith}
+use Rattle.std.proofs.Common.{◌≤◌, length, arith}
+use Rattle.std.proofs.lemmas.Result.{IfOk-from_err}
+use Rattle.pf_flow.proofs.NamedLemmas.{refused_as}
 use Rattle.pf_flow.proofs.LevelLemmas.{levels_of}
 use Rattle.pf_flow.proofs.levels.Levels.find.Goals as goal
 
-pub returns-clause-levels : goal.returns-clause-levels
-returns-clause-levels g c =
-    let len : c.len.result ≡ length c.loop-at.found.queue.items = search rules in
-    let done = c.loop-at-test.false in
-    let all : length c.loop-at.found.queue.items ≤ c.loop-at.at = omega (arith, len, done) in
-    levels_of all c.loop-at.invariant.found.search
+pub loop-at-init : goal.loop-at-init
+loop-at-init g c = record { found = c.in_ok-begin.ensures.found; steps = c.in_ok-begin.ensures.steps }
+
+pub loop-at-smaller : goal.loop-at-smaller
+loop-at-smaller g c =
+    let all = c.loop-at.invariant.found.search.count in
+    omega (arith, all, c.len.ensures, c.loop-at.self.queue.ok, c.loop-at-test.true)
+
+pub loop-at-preserved : goal.loop-at-preserved
+loop-at-preserved g c = record { found = c.in_ok-follow.ensures.found; steps = c.in_ok-follow.ensures.steps }
+
+pub follow-requires : goal.follow-requires
+follow-requires g c = record {
+  found = c.loop-at.invariant.found;
+  at = omega (arith, c.len.ensures, c.loop-at.self.queue.ok, c.loop-at-test.true);
+  steps = c.loop-at.invariant.steps;
+}
+
+pub returns : goal.returns
+returns g c = record {
+  levels =
+      let all : length c.loop-at.self.queue.items ≤ c.loop-at.at = omega (arith, c.len.ensures, c.loop-at.self.queue.ok, c.loop-at-test.false) in
+      levels_of all c.loop-at.invariant.found.search;
+  levels_len = c.loop-at.invariant.found.levels_len;
+  parents_len = c.loop-at.invariant.found.parents_len;
+  steps = c.loop-at.invariant.steps;
+  refused = tt;
+}
+
+pub returns-in_err-begin : goal.returns-in_err-begin
+returns-in_err-begin g c = record {
+  levels = IfOk-from_err _ _ c.from_residual.ensures.0;
+  levels_len = IfOk-from_err _ _ c.from_residual.ensures.0;
+  parents_len = IfOk-from_err _ _ c.from_residual.ensures.0;
+  steps = IfOk-from_err _ _ c.from_residual.ensures.0;
+  refused = refused_as _ c.from_residual.result _ c.in_err-begin.ensures.refused c.from_residual.ensures.1;
+}
+
+pub returns-in_err-follow : goal.returns-in_err-follow
+returns-in_err-follow g c = record {
+  levels = IfOk-from_err _ _ c.from_residual-in_err-follow.ensures.0;
+  levels_len = IfOk-from_err _ _ c.from_residual-in_err-follow.ensures.0;
+  parents_len = IfOk-from_err _ _ c.from_residual-in_err-follow.ensures.0;
+  steps = IfOk-from_err _ _ c.from_residual-in_err-follow.ensures.0;
+  refused = refused_as _ c.from_residual-in_err-follow.result _ c.in_err-follow.ensures.refused c.from_residual-in_err-follow.ensures.1;
+}

@@ -5,8 +5,8 @@ use Rattle.pf_flow.proofs.levels.Levels.find.Given as goal
 
 abbrev pub invariant-loop-at : goal.invariant-loop-at
 invariant-loop-at g l = record {
-  found : HasFound (g.S.FlowStore.network l.store) l.found.levels.items l.found.parents.items l.found.queue.items l.at;
-  steps : AreSteps (g.S.FlowStore.network l.store).vertices l.found.steps.targets.items l.found.steps.places.items l.found.steps.ends.items;
+  found : HasFound (g.S.FlowStore.network l.store) l.self.levels.items l.self.parents.items l.self.queue.items l.at;
+  steps : AreSteps (g.S.FlowStore.network l.store).vertices l.self.steps.targets.items l.self.steps.places.items l.self.steps.ends.items;
 }
 
 abbrev pub decreases-loop-at : goal.decreases-loop-at

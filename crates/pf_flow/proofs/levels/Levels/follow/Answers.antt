@@ -1,4 +1,4 @@
-use Rattle.std.proofs.Common.{rules, length-append, refl, ◌≡◌, ◌<◌, ◌≤◌, ◌+◌, ℕ, List, [], ◌∷◌, ◌++◌, inl, inr, ap, sym, subst, ◌∙◌, length, arith}
+use Rattle.std.proofs.Common.{length-append, refl, ◌≡◌, ◌<◌, ◌≤◌, ◌+◌, ℕ, List, [], ◌∷◌, ◌++◌, inl, inr, ap, sym, subst, ◌∙◌, length, arith}
 use Rattle.std.specs.Prelude.{slice_set, slice_get, slice_index, ◌<ℤ◌, pos, Option, Some, None}
 use Rattle.std.proofs.lemmas.Bool.{cases_eq}
 use Rattle.std.proofs.lemmas.List.{get_or_read}
@@ -7,11 +7,12 @@ use Rattle.std.proofs.lemmas.Result.{IfOk-from_err}
 use Rattle.std.proofs.Math.ListN.{get_or-append}
 use Rattle.pf_flow.specs.Networks.{Network}
 use Rattle.pf_flow.specs.Listings.{ListsNumbers}
-use Rattle.pf_flow.specs.Internal.Levels.{HasFound}
+use Rattle.pf_flow.specs.Internal.Levels.{HasFound, Reaches}
 use Rattle.pf_flow.specs.Internal.Steps.{AreSteps}
 use Rattle.pf_flow.proofs.LevelListLemmas.{found_more, found_next, known_level, to_reached, levels_kept, from_kept}
+use Rattle.pf_core.proofs.ListLemmas.{on_ok}
+use Rattle.pf_flow.proofs.NamedLemmas.{refused_as, ok_when}
 use Rattle.pf_flow.proofs.levels.Levels.follow.Goals as goal
-use Rattle.pf_flow.proofs.levels.Levels.follow.Goals.{then-index-len+in_ok-push, else-index-len}
 
 module _ {C : Type 0} (N : Network) (at from level : ℕ) (ends : List (ℕ × C)) where
   -- what the loop keeps
@@ -57,102 +58,41 @@ module _ {C : Type 0} (N : Network) (at from level : ℕ) (ends : List (ℕ × C
           ],
         )
 
-pub index-requires : goal.index-requires
-index-requires g c =
-    let N = g.S.FlowStore.network c.args.store.now in
-    let there : slice_get c.deref-end-items.result.now c.loop-end.end-index ≡ Some c.end-item.result = slice_get_read c.deref-end-items.result.now (length c.deref-end-items.result.now) c.loop-end.end-index c.end-item.result refl c.loop-end-test.true c.end-item.is in
-    let listed : ListsNumbers g.C.Number.value N.vertices (N.residual c.index-from.result.now) c.in_ok-ends.ends.items = c.in_ok-ends.ensures.listed in
-    let s = listed.sound c.loop-end.end-index c.end-item.result (ap (λ xs. slice_get xs c.loop-end.end-index) (sym c.deref-end-items.ensures.value) ∙ there) in
-    let inside = s.0 in
-    let found = c.loop-end.invariant.found in
-    let w = found.levels_len in
-    let v : c.end-item.result.0 < length c.loop-end.self.levels.items = omega (arith, inside, w) in
-    search rules
-
-pub index_mut-requires : goal.index_mut-requires
-index_mut-requires g c =
-    let N = g.S.FlowStore.network c.args.store.now in
-    let there : slice_get c.deref-end-items.result.now c.loop-end.end-index ≡ Some c.end-item.result = slice_get_read c.deref-end-items.result.now (length c.deref-end-items.result.now) c.loop-end.end-index c.end-item.result refl c.loop-end-test.true c.end-item.is in
-    let listed : ListsNumbers g.C.Number.value N.vertices (N.residual c.index-from.result.now) c.in_ok-ends.ends.items = c.in_ok-ends.ensures.listed in
-    let s = listed.sound c.loop-end.end-index c.end-item.result (ap (λ xs. slice_get xs c.loop-end.end-index) (sym c.deref-end-items.ensures.value) ∙ there) in
-    let inside = s.0 in
-    let found = c.loop-end.invariant.found in
-    let w = found.levels_len in
-    let v : c.end-item.result.0 < length c.loop-end.self.levels.items = omega (arith, inside, w) in
-    search rules
-
-pub index_mut-requires-then-index-len : goal.index_mut-requires-then-index-len
-index_mut-requires-then-index-len g c =
-    let N = g.S.FlowStore.network c.args.store.now in
-    let there : slice_get c.deref-end-items.result.now c.loop-end.end-index ≡ Some c.end-item.result = slice_get_read c.deref-end-items.result.now (length c.deref-end-items.result.now) c.loop-end.end-index c.end-item.result refl c.loop-end-test.true c.end-item.is in
-    let listed : ListsNumbers g.C.Number.value N.vertices (N.residual c.index-from.result.now) c.in_ok-ends.ends.items = c.in_ok-ends.ensures.listed in
-    let s = listed.sound c.loop-end.end-index c.end-item.result (ap (λ xs. slice_get xs c.loop-end.end-index) (sym c.deref-end-items.ensures.value) ∙ there) in
-    let inside = s.0 in
-    let found = c.loop-end.invariant.found in
-    let w = found.parents_len in
-    let v : c.end-item.result.0 < length c.loop-end.self.parents.items = omega (arith, inside, w) in
-    search rules
+    -- an end, reached before or now
+    met : {levels_after parents_after queue_after : List ℕ} → Reaches from level to levels parents queue levels_after parents_after queue_after → Kept k levels parents queue → to < N.vertices → pos 0 <ℤ N.residual from to → Kept (k + 1) levels_after parents_after queue_after
+    met {levels_after} {parents_after} {queue_after} r w i left =
+        let len = w.0.levels_len in
+        elim (cases_eq (slice_index levels to) N.vertices) as (λ _. Kept (k + 1) levels_after parents_after queue_after) [
+          | inl e ↦ (let q = r.new (e ∙ sym len) in
+              subst (λ xs. Kept (k + 1) xs parents_after queue_after) (sym q.0)
+              (subst (λ xs. Kept (k + 1) (slice_set levels to (level + 1)) xs queue_after) (sym q.1)
+              (subst (Kept (k + 1) (slice_set levels to (level + 1)) (slice_set parents to from)) (sym q.2) (fresh w i e left))))
+          | inr n ↦ (let q = r.known (λ e. n (e ∙ len)) in
+              subst (λ xs. Kept (k + 1) xs parents_after queue_after) (sym q.0)
+              (subst (λ xs. Kept (k + 1) levels xs queue_after) (sym q.1)
+              (subst (Kept (k + 1) levels parents) (sym q.2) (known w (known_level w.0 w.1 to from level i n w.2 w.3)))))
+        ]
 
 pub loop-end-preserved : goal.loop-end-preserved
 loop-end-preserved g c =
     let N = g.S.FlowStore.network c.args.store.now in
-    let there : slice_get c.deref-end-items.result.now c.loop-end.end-index ≡ Some c.end-item.result = slice_get_read c.deref-end-items.result.now (length c.deref-end-items.result.now) c.loop-end.end-index c.end-item.result refl c.loop-end-test.true c.end-item.is in
+    let i = c.loop-end.invariant in
+    let ends = c.deref-end-items.result.now in
+    let there : slice_get ends c.loop-end.end-index ≡ Some c.end-item.result = slice_get_read ends (length ends) c.loop-end.end-index c.end-item.result refl c.loop-end-test.true c.end-item.is in
     let listed : ListsNumbers g.C.Number.value N.vertices (N.residual c.index-from.result.now) c.in_ok-ends.ends.items = c.in_ok-ends.ensures.listed in
     let s = listed.sound c.loop-end.end-index c.end-item.result (ap (λ xs. slice_get xs c.loop-end.end-index) (sym c.deref-end-items.ensures.value) ∙ there) in
-    let inside = s.0 in
-    let found = c.loop-end.invariant.found in
-    let positive = s.2 in
-    let value = s.1 in
-    let i = c.loop-end.invariant in
-    let from = c.index-from.result.now in
-    let level = c.index-level.result.now in
-    let before : Kept N c.args.at from level c.deref-end-items.result.now c.loop-end.end-index c.loop-end.self.levels.items c.loop-end.self.parents.items c.loop-end.self.queue.items = (found, i.more, i.from, i.level, i.followed) in
-    let read : c.index.result.now ≡ slice_index c.loop-end.self.levels.items c.end-item.result.0 = get_or_read c.loop-end.self.levels.items c.end-item.result.0 c.index.result.now (let wide = found.levels_len in omega (arith, inside, wide)) c.index.ensures 0 in
-    let len : c.len.result ≡ length c.loop-end.self.levels.items = search rules in
-    let after : Kept N c.args.at from level c.deref-end-items.result.now (c.loop-end.end-index + 1) c.if-index-len.self.levels.items c.if-index-len.self.parents.items c.if-index-len.self.queue.items = elim c.if-index-len.branch [
-      | then-index-len+in_ok-push w ↦ (
-          let t = w.if-index-len.true in
-          let e : c.if-index-len.self.levels.items ≡ slice_set c.loop-end.self.levels.items c.end-item.result.0 (level + 1) = ap (λ s. s.levels.items) w.self-is in
-          let f : c.if-index-len.self.parents.items ≡ slice_set c.loop-end.self.parents.items c.end-item.result.0 from = ap (λ s. s.parents.items) w.self-is in
-          let h : c.if-index-len.self.queue.items ≡ c.loop-end.self.queue.items ++ c.end-item.result.0 ∷ [] = ap (λ s. s.queue.items) w.self-is ∙ w.in_ok-push.ensures.items in
-          let new = sym read ∙ t ∙ len ∙ found.levels_len in
-          let residual = subst (λ z. pos 0 <ℤ z) value positive in
-          subst (λ xs. Kept N c.args.at from level c.deref-end-items.result.now (c.loop-end.end-index + 1) xs c.if-index-len.self.parents.items c.if-index-len.self.queue.items) (sym e)
-          (subst (λ xs. Kept N c.args.at from level c.deref-end-items.result.now (c.loop-end.end-index + 1) (slice_set c.loop-end.self.levels.items c.end-item.result.0 (level + 1)) xs c.if-index-len.self.queue.items) (sym f)
-          (subst (Kept N c.args.at from level c.deref-end-items.result.now (c.loop-end.end-index + 1) (slice_set c.loop-end.self.levels.items c.end-item.result.0 (level + 1)) (slice_set c.loop-end.self.parents.items c.end-item.result.0 from)) (sym h)
-          (fresh N c.args.at from level c.deref-end-items.result.now c.loop-end.end-index c.end-item.result.0 c.end-item.result.1 c.loop-end.self.levels.items c.loop-end.self.parents.items c.loop-end.self.queue.items there before inside new residual))))
-      | else-index-len w ↦ (
-          let old = known_level found i.more c.end-item.result.0 from level inside (λ q. w.if-index-len.false (read ∙ q ∙ sym found.levels_len ∙ sym len)) i.from i.level in
-          subst (λ s. Kept N c.args.at from level c.deref-end-items.result.now (c.loop-end.end-index + 1) s.levels.items s.parents.items s.queue.items) (sym w.self-is)
-          (known N c.args.at from level c.deref-end-items.result.now c.loop-end.end-index c.end-item.result.0 c.end-item.result.1 c.loop-end.self.levels.items c.loop-end.self.parents.items c.loop-end.self.queue.items there before old))
-    ] in
-    let steps : AreSteps N.vertices c.if-index-len.self.steps.targets.items c.if-index-len.self.steps.places.items c.if-index-len.self.steps.ends.items = elim c.if-index-len.branch [
-      | then-index-len+in_ok-push w ↦ subst (λ s. AreSteps N.vertices s.steps.targets.items s.steps.places.items s.steps.ends.items) (sym w.self-is) i.steps
-      | else-index-len w ↦ subst (λ s. AreSteps N.vertices s.steps.targets.items s.steps.places.items s.steps.ends.items) (sym w.self-is) i.steps
-    ] in
-    record { found = after.0; more = after.1; from = after.2; level = after.3; followed = after.4; steps = steps }
-
-pub add_row-requires-clause-inside : goal.add_row-requires-clause-inside
-add_row-requires-clause-inside g c = λ k to left h.
-    let N = g.S.FlowStore.network c.args.store.now in
-    let listed : ListsNumbers g.C.Number.value N.vertices (N.residual c.index-from.result.now) c.in_ok-ends.ends.items = c.in_ok-ends.ensures.listed in
-    let s = listed.sound k (to, left) (ap (λ xs. slice_get xs k) (sym c.deref.ensures.value) ∙ h) in
-    let inside = s.0 in
-    let wide = c.loop-end.invariant.found.levels_len in
-    let len = ap length c.deref-2.ensures.value in
-    omega (arith, inside, wide, len)
-
-pub returns-clause-found : goal.returns-clause-found
-returns-clause-found g c =
-    let N = g.S.FlowStore.network c.args.store.now in
-    let i = c.loop-end.invariant in
-    let listed : ListsNumbers g.C.Number.value N.vertices (N.residual c.index-from.result.now) c.in_ok-ends.ends.items = c.in_ok-ends.ensures.listed in
-    found_next i.found i.more c.index-from.result.now c.index-level.result.now i.from i.level
-    (λ b l r. let q = listed.complete b l r in
-    let there : slice_get c.deref-end-items.result.now q.0 ≡ Some (b, q.1) = ap (λ xs. slice_get xs q.0) c.deref-end-items.ensures.value ∙ q.2 in
-    let inside = slice_get_within c.deref-end-items.result.now q.0 (b, q.1) there in
-    let done = c.loop-end-test.false in
-    i.followed q.0 b q.1 (omega (arith, inside, done)) there)
+    let old = c.loop-end.self in
+    let new = c.reach.new.self in
+    let after = met N c.args.at c.index-from.result.now c.index-level.result.now ends c.loop-end.end-index c.end-item.result.0 c.end-item.result.1 old.levels.items old.parents.items old.queue.items there
+    c.in_ok-reach.ensures.reached (i.found, i.more, i.from, i.level, i.followed) s.0 (subst (λ z. pos 0 <ℤ z) s.1 s.2) in
+    record {
+      found = after.0;
+      more = after.1;
+      from = after.2;
+      level = after.3;
+      followed = after.4;
+      steps = subst (λ t. AreSteps N.vertices t.targets.items t.places.items t.ends.items) (sym c.reach.ensures.steps) i.steps;
+    }
 
 pub index-from-requires : goal.index-from-requires
 index-from-requires g c = omega (arith, c.requires.at, c.args.self.now.queue.ok)
@@ -188,47 +128,78 @@ loop-end-init g c =
 pub bounds-end-items-end-index : goal.bounds-end-items-end-index
 bounds-end-items-end-index g c = c.loop-end-test.true
 
-pub overflow_add-level : goal.overflow_add-level
-overflow_add-level g c =
-    let i = c.loop-end.invariant in
-    let low = i.found.search.place c.args.at i.more in
-    let level = sym i.level ∙ ap (slice_index c.loop-end.self.levels.items) (sym i.from) in
-    omega (arith, low, level, i.more, c.loop-end.self.queue.ok)
-
 pub loop-end-smaller : goal.loop-end-smaller
 loop-end-smaller g c = omega (arith, c.loop-end-test.true)
 
-pub add_row-requires-clause-steps : goal.add_row-requires-clause-steps
-add_row-requires-clause-steps g c =
-    let i = c.loop-end.invariant in
-    let steps = c.loop-end.self.steps in
-    subst (λ n. AreSteps n steps.targets.items steps.places.items steps.ends.items) (sym (ap length c.deref-2.ensures.value ∙ i.found.levels_len)) i.steps
+pub reach-requires : goal.reach-requires
+reach-requires g c = record {
+  low =
+      let i = c.loop-end.invariant in
+      let low = i.found.search.place c.args.at i.more in
+      let level = sym i.level ∙ ap (slice_index c.loop-end.self.levels.items) (sym i.from) in
+      let all = i.found.search.count in
+      omega (arith, low, level, i.more, i.found.levels_len, all);
+  to =
+      let N = g.S.FlowStore.network c.args.store.now in
+      let i = c.loop-end.invariant in
+      let ends = c.deref-end-items.result.now in
+      let there : slice_get ends c.loop-end.end-index ≡ Some c.end-item.result = slice_get_read ends (length ends) c.loop-end.end-index c.end-item.result refl c.loop-end-test.true c.end-item.is in
+      let listed : ListsNumbers g.C.Number.value N.vertices (N.residual c.index-from.result.now) c.in_ok-ends.ends.items = c.in_ok-ends.ensures.listed in
+      let s = listed.sound c.loop-end.end-index c.end-item.result (ap (λ xs. slice_get xs c.loop-end.end-index) (sym c.deref-end-items.ensures.value) ∙ there) in
+      let inside = s.0 in
+      omega (arith, inside, i.found.levels_len);
+  wide = c.loop-end.invariant.found.parents_len ∙ sym c.loop-end.invariant.found.levels_len;
+}
 
-pub add_row-requires-clause-from : goal.add_row-requires-clause-from
-add_row-requires-clause-from g c =
-    let i = c.loop-end.invariant in
-    let inside = i.found.search.inside c.args.at i.more in
-    omega (arith, inside, i.from, ap length c.deref-2.ensures.value, i.found.levels_len)
+pub add_row-requires : goal.add_row-requires
+add_row-requires g c = record {
+  steps =
+      let i = c.loop-end.invariant in
+      let steps = c.loop-end.self.steps in
+      subst (λ n. AreSteps n steps.targets.items steps.places.items steps.ends.items) (sym (ap length c.deref-2.ensures.value ∙ i.found.levels_len)) i.steps;
+  from =
+      let i = c.loop-end.invariant in
+      let inside = i.found.search.inside c.args.at i.more in
+      omega (arith, inside, i.from, ap length c.deref-2.ensures.value, i.found.levels_len);
+  inside =
+      λ k to left h.
+      let N = g.S.FlowStore.network c.args.store.now in
+      let listed : ListsNumbers g.C.Number.value N.vertices (N.residual c.index-from.result.now) c.in_ok-ends.ends.items = c.in_ok-ends.ensures.listed in
+      let s = listed.sound k (to, left) (ap (λ xs. slice_get xs k) (sym c.deref.ensures.value) ∙ h) in
+      let inside = s.0 in
+      let wide = c.loop-end.invariant.found.levels_len in
+      let len = ap length c.deref-2.ensures.value in
+      omega (arith, inside, wide, len);
+}
 
-pub returns-clause-steps : goal.returns-clause-steps
-returns-clause-steps g c =
-    let steps = c.add_row.new.self in
-    subst (λ n. AreSteps n steps.targets.items steps.places.items steps.ends.items) (ap length c.deref-2.ensures.value ∙ c.loop-end.invariant.found.levels_len) c.in_ok-add_row.ensures.steps
+pub returns : goal.returns
+returns g c = record {
+  found =
+      let N = g.S.FlowStore.network c.args.store.now in
+      let i = c.loop-end.invariant in
+      let listed : ListsNumbers g.C.Number.value N.vertices (N.residual c.index-from.result.now) c.in_ok-ends.ends.items = c.in_ok-ends.ensures.listed in
+      ok_when c.add_row.result (found_next i.found i.more c.index-from.result.now c.index-level.result.now i.from i.level
+      (λ b l r. let q = listed.complete b l r in
+      let there : slice_get c.deref-end-items.result.now q.0 ≡ Some (b, q.1) = ap (λ xs. slice_get xs q.0) c.deref-end-items.ensures.value ∙ q.2 in
+      let inside = slice_get_within c.deref-end-items.result.now q.0 (b, q.1) there in
+      let done = c.loop-end-test.false in
+      i.followed q.0 b q.1 (omega (arith, inside, done)) there));
+  steps =
+      let steps = c.add_row.new.self in
+      on_ok c.add_row.result c.add_row.ensures.steps (subst (λ n. AreSteps n steps.targets.items steps.places.items steps.ends.items) (ap length c.deref-2.ensures.value ∙ c.loop-end.invariant.found.levels_len));
+  refused = c.add_row.ensures.refused;
+}
 
-pub returns-in_err-ends-clause-found : goal.returns-in_err-ends-clause-found
-returns-in_err-ends-clause-found g c = IfOk-from_err _ _ c.from_residual.ensures.0
+pub returns-in_err-ends : goal.returns-in_err-ends
+returns-in_err-ends g c = record {
+  found = IfOk-from_err _ _ c.from_residual.ensures.0;
+  steps = IfOk-from_err _ _ c.from_residual.ensures.0;
+  refused = refused_as _ c.from_residual.result _ c.in_err-ends.ensures.refused c.from_residual.ensures.1;
+}
 
-pub returns-in_err-push-clause-found : goal.returns-in_err-push-clause-found
-returns-in_err-push-clause-found g c = IfOk-from_err _ _ c.from_residual-in_err-push.ensures.0
-
-pub returns-in_err-add_row-clause-found : goal.returns-in_err-add_row-clause-found
-returns-in_err-add_row-clause-found g c = IfOk-from_err _ _ c.from_residual-in_err-add_row.ensures.0
-
-pub returns-in_err-ends-clause-steps : goal.returns-in_err-ends-clause-steps
-returns-in_err-ends-clause-steps g c = IfOk-from_err _ _ c.from_residual.ensures.0
-
-pub returns-in_err-push-clause-steps : goal.returns-in_err-push-clause-steps
-returns-in_err-push-clause-steps g c = IfOk-from_err _ _ c.from_residual-in_err-push.ensures.0
-
-pub returns-in_err-add_row-clause-steps : goal.returns-in_err-add_row-clause-steps
-returns-in_err-add_row-clause-steps g c = IfOk-from_err _ _ c.from_residual-in_err-add_row.ensures.0
+pub returns-in_err-reach : goal.returns-in_err-reach
+returns-in_err-reach g c = record {
+  found = IfOk-from_err _ _ c.from_residual-in_err-reach.ensures.0;
+  steps = IfOk-from_err _ _ c.from_residual-in_err-reach.ensures.0;
+  refused = refused_as _ c.from_residual-in_err-reach.result _ c.in_err-reach.ensures.refused c.from_residual-in_err-reach.ensures.1;
+}

@@ -1,9 +1,9 @@
-use Rattle.std.proofs.Common.{◌≡◌, ◌∙◌, sym, subst, pos, length, []}
+use Rattle.std.proofs.Common.{arith, ◌≡◌, ◌∙◌, sym, subst, pos, length, []}
 use Rattle.std.specs.Prelude.{◌<ℤ◌}
 use Rattle.std.proofs.lemmas.List.{get_or_default}
 use Rattle.std.proofs.lemmas.Result.{IfOk-weaker}
 use Rattle.pf_flow.specs.Listings.{ListsVertices}
-use Rattle.pf_flow.specs.SparseRows.{amount_to, row_at, AreBelow}
+use Rattle.pf_flow.specs.SparseRows.{amount_to, ends, row_at, AreBelow, Rises}
 use Rattle.pf_flow.proofs.sparse_capacity.SparseCapacityFlowStore.flows_from.Goals as goal
 
 pub returns-clause-listed : goal.returns-clause-listed
@@ -11,4 +11,12 @@ returns-clause-listed g c =
     let rows = c.args.self.now.rows.items in
     let n = length rows in
     let here : c.edges.result.now ≡ row_at rows c.args.from = c.edges.ensures ∙ c.index.ensures ∙ get_or_default rows c.args.from _ [] c.requires in
-    IfOk-weaker c.flow_ends.result _ _ (λ ends h. subst (λ row. ListsVertices n (λ to. pos 0 <ℤ amount_to (λ e. g.C.Number.value e.flow) row to) ends.items) here (h n (subst (λ row. AreBelow n row) (sym here) (c.args.self.now.stored.below c.args.from)))) c.flow_ends.ensures.listed
+    IfOk-weaker c.flow_ends.result _ _ (λ list h. subst (λ row. ListsVertices n (λ to. pos 0 <ℤ amount_to (λ e. g.C.Number.value e.flow) row to) list.items) here (h n (subst (λ row. AreBelow n row) (sym here) (c.args.self.now.stored.below c.args.from)))) c.flow_ends.ensures.listed
+
+pub index-requires : goal.index-requires
+index-requires g c = omega (arith, c.requires, c.args.self.now.rows.ok)
+
+pub flow_ends-requires : goal.flow_ends-requires
+flow_ends-requires g c =
+    let here : c.edges.result.now ≡ row_at c.args.self.now.rows.items c.args.from = c.edges.ensures ∙ c.index.ensures ∙ get_or_default c.args.self.now.rows.items c.args.from _ [] c.requires in
+    subst (λ row. Rises 0 (ends row)) (sym here) (c.args.self.now.stored.rises c.args.from)

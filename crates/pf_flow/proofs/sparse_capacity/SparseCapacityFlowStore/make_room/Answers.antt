@@ -176,3 +176,19 @@ returns-clause-room g c =
     c.index_mut-2.result.now c.index_mut-2.ensures.value c.insert-2.new.self c.in_default.ensures.ok in
     let widens = widened_twice source sink rows stored d e c.if-from-to.false c.requires.from c.requires.to fresh in
     subst (λ r. has_end (ends (row_at r from)) to ≡ true) (sym second) widens.there
+
+pub index-requires : goal.index-requires
+index-requires g c = omega (arith, c.requires.from, c.args.self.now.rows.ok)
+
+pub index_mut-requires : goal.index_mut-requires
+index_mut-requires g c = omega (arith, c.requires.from, c.args.self.now.rows.ok)
+
+pub has-requires : goal.has-requires
+has-requires g c =
+    let rows = c.args.self.now.rows.items in
+    subst (λ row. Rises 0 (ends row)) (sym (c.index.ensures ∙ get_or_default rows c.args.from _ [] c.requires.from)) (c.args.self.now.stored.rises c.args.from)
+
+pub insert-requires : goal.insert-requires
+insert-requires g c =
+    let rows = c.args.self.now.rows.items in
+    subst (λ row. Rises 0 (ends row)) (sym (c.index_mut.ensures.value ∙ get_or_default rows c.args.from _ [] c.requires.from)) (c.args.self.now.stored.rises c.args.from)

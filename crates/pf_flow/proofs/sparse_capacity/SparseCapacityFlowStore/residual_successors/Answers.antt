@@ -1,8 +1,8 @@
-use Rattle.std.proofs.Common.{◌≡◌, ◌∙◌, sym, subst, length, []}
+use Rattle.std.proofs.Common.{arith, ◌≡◌, ◌∙◌, sym, subst, length, []}
 use Rattle.std.proofs.lemmas.List.{get_or_default}
 use Rattle.std.proofs.lemmas.Result.{IfOk-weaker}
 use Rattle.pf_flow.specs.Listings.{ListsNumbers}
-use Rattle.pf_flow.specs.SparseRows.{amount_to, row_at, AreBelow}
+use Rattle.pf_flow.specs.SparseRows.{amount_to, ends, row_at, AreBelow, Rises}
 use Rattle.pf_flow.proofs.sparse_capacity.SparseCapacityFlowStore.residual_successors.Goals as goal
 
 pub returns-clause-listed : goal.returns-clause-listed
@@ -10,4 +10,12 @@ returns-clause-listed g c =
     let rows = c.args.self.now.rows.items in
     let n = length rows in
     let here : c.edges.result.now ≡ row_at rows c.args.from = c.edges.ensures ∙ c.index.ensures ∙ get_or_default rows c.args.from _ [] c.requires in
-    IfOk-weaker c.residual_ends.result _ _ (λ ends h. subst (λ row. ListsNumbers g.C.Number.value n (amount_to (λ e. g.C.Number.value e.residual) row) ends.items) here (h n (subst (λ row. AreBelow n row) (sym here) (c.args.self.now.stored.below c.args.from)))) c.residual_ends.ensures.listed
+    IfOk-weaker c.residual_ends.result _ _ (λ list h. subst (λ row. ListsNumbers g.C.Number.value n (amount_to (λ e. g.C.Number.value e.residual) row) list.items) here (h n (subst (λ row. AreBelow n row) (sym here) (c.args.self.now.stored.below c.args.from)))) c.residual_ends.ensures.listed
+
+pub index-requires : goal.index-requires
+index-requires g c = omega (arith, c.requires, c.args.self.now.rows.ok)
+
+pub residual_ends-requires : goal.residual_ends-requires
+residual_ends-requires g c =
+    let here : c.edges.result.now ≡ row_at c.args.self.now.rows.items c.args.from = c.edges.ensures ∙ c.index.ensures ∙ get_or_default c.args.self.now.rows.items c.args.from _ [] c.requires in
+    subst (λ row. Rises 0 (ends row)) (sym here) (c.args.self.now.stored.rises c.args.from)

@@ -1,0 +1,25 @@
+use Rattle.std.proofs.Common.{◌≡◌, refl, subst}
+use Rattle.std.specs.Prelude.{Some, slice_get}
+use Rattle.std.specs.List.{AllZip}
+use Rattle.std.proofs.lemmas.Result.{IfOk-from_err}
+use Rattle.pf_flow.specs.NamedNetworks.{IsNamed}
+use Rattle.pf_flow.proofs.by_names.name_answer.Goals as goal
+
+pub name_edges-requires : goal.name_edges-requires
+name_edges-requires g c = record { inside = λ i e h. c.requires.flows i e (subst (λ xs. slice_get xs i ≡ Some e) c.deref.ensures.value h) }
+
+pub name_edges-requires-2 : goal.name_edges-requires-2
+name_edges-requires-2 g c = record { inside = λ i e h. c.requires.cut i e (subst (λ xs. slice_get xs i ≡ Some e) c.deref-2.ensures.value h) }
+
+pub returns-clause-named : goal.returns-clause-named
+returns-clause-named g c = (
+  subst (λ es. AllZip (IsNamed c.args.names.now) es c.in_ok-flows.flows.items) c.deref.ensures.value c.in_ok-flows.ensures.named,
+  refl,
+  subst (λ es. AllZip (IsNamed c.args.names.now) es c.in_ok-cut.cut.items) c.deref-2.ensures.value c.in_ok-cut.ensures.named,
+)
+
+pub returns-in_err-flows-clause-named : goal.returns-in_err-flows-clause-named
+returns-in_err-flows-clause-named g c = IfOk-from_err _ _ c.from_residual.ensures.0
+
+pub returns-in_err-cut-clause-named : goal.returns-in_err-cut-clause-named
+returns-in_err-cut-clause-named g c = IfOk-from_err _ _ c.from_residual-in_err-cut.ensures.0
