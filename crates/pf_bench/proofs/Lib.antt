@@ -3,3 +3,4 @@ mod BoardMirror
 mod CrossMirror
 mod BoardEstimate
 mod TileEstimate
+pub mod Shown

@@ -7,14 +7,11 @@ use borrow.Author.Tests.{eqb-true}
 use Rattle.pf_base.specs.Successors.{HasSuccessor}
 use Rattle.pf_base.specs.Walks.{IsReachable}
 use Rattle.pf_base.proofs.Tables.{between, successors_keep}
+use Rattle.pf_bench.specs.Steps.{ends_after}
 
 -- the ends of some edges
 abbrev pub ends : List (ℕ × ℕ) → List ℕ
 ends es = map (λ (e : ℕ × ℕ). e.0) es
-
--- the ends of the edges of a node
-abbrev pub ends_after : List ℕ → List (ℕ × ℕ) → ℕ → List ℕ
-ends_after offsets edges n = ends (between offsets edges n)
 
 ends_all : (P : ℕ → Type 0) (es : List (ℕ × ℕ)) → AllByRecursion (λ (e : ℕ × ℕ). P e.0) es → AllByRecursion P (ends es)
 ends_all P [] a = tt

@@ -52,3 +52,7 @@ cells_from size cell = filter_map (entered_cell size cell) four_directions
 -- what stands between the offsets of a node
 abbrev pub row_of : List ℕ → List (ℕ × ℕ) → ℕ → List (ℕ × ℕ)
 row_of offsets edges n = take (slice_index offsets (n + 1) - slice_index offsets n) (drop (slice_index offsets n) edges)
+
+-- where the edges of a node lead
+abbrev pub ends_after : List ℕ → List (ℕ × ℕ) → ℕ → List ℕ
+ends_after offsets edges n = map (λ (e : ℕ × ℕ). e.0) (row_of offsets edges n)

@@ -1,12 +1,10 @@
 //! The calls of the library, each on its input, and what they print.
 
 pub mod board;
-mod checks;
+pub mod checks;
 pub mod cycles;
 pub mod edges;
-pub mod flows;
 pub mod grids;
-pub mod groups;
 pub mod informed;
 pub mod orders;
 pub mod puzzle;

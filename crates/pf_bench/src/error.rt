@@ -8,7 +8,7 @@ use std::alloc::{AllocError, AllocFailed};
 use thiserror::Error;
 
 /// Why a run prints no line.
-#[derive(Clone, Copy, Debug, PartialEq, Eq, Error)]
+#[derive(Clone, Copy, Debug, Error)]
 pub enum BenchError {
     #[error("usage: pf_bench JOB SIZE REPEATS, with SIZE from 1 and REPEATS from 0")]
     Usage,

@@ -10,15 +10,16 @@ mod groups;
 mod network;
 mod puzzle;
 mod rows;
+mod steps;
 mod table;
 
 use crate::error::BenchError;
-pub use crate::inputs::board::{Board, Cell, Direction, distance};
+pub use crate::inputs::board::{Board, Cell, distance};
 pub use crate::inputs::edges::{WeightedEdge, edges, edges_from_first};
 pub use crate::inputs::grid::grid;
 pub use crate::inputs::groups::groups;
 pub use crate::inputs::network::Network;
-pub use crate::inputs::puzzle::{Tiles, blank_of, estimate, puzzle, slide, solved};
+pub use crate::inputs::puzzle::{Tiles, estimate, moves_from, puzzle, solved};
 pub use crate::inputs::rows::Rows;
 pub use crate::inputs::table::table;
 use std::alloc::Global;

@@ -20,22 +20,16 @@ use std::{env, io};
 
 /// What a command line asks for.
 #[derive(Drop)]
-struct Request {
-    job: String,
+struct Request<'a> {
+    job: &'a str,
     size: usize,
     repeats: Repeats,
     ghost from_one: { 0 < size },
 }
 
 /// The request that the words after the program's name spell.
-fn requested(words: Vec<String>) -> Result<Request, BenchError> {
-    let mut words = words.into_iter();
-    let (Some(job), Some(size), Some(repeats), None) = (
-        words.next(),
-        words.next(),
-        words.next(),
-        words.next(),
-    ) else {
+fn requested(words: &[String]) -> Result<Request<'_>, BenchError> {
+    let [job, size, repeats] = words else {
         return Err(BenchError::Usage);
     };
     match (
@@ -43,7 +37,7 @@ fn requested(words: Vec<String>) -> Result<Request, BenchError> {
         repeats.as_str().parse::<u64>(),
     ) {
         (Ok(size), Ok(repeats)) if size > 0 => Ok(Request {
-            job,
+            job: job.as_str(),
             size,
             repeats: Repeats(repeats),
         }),
@@ -67,19 +61,23 @@ fn words(rt: &HostRuntime) -> Result<Vec<String>, BenchError> {
 }
 
 /// Runs the job that is asked for, and prints its line. No answer is printed as -1.
-fn answer(rt: &HostRuntime) -> Result<(), BenchError> {
-    let request = requested(words(rt)?)?;
-    let Some(job) = Job::named(request.job.as_str()) else {
+fn perform(rt: &HostRuntime, words: &[String]) -> Result<(), BenchError> {
+    let request = requested(words)?;
+    let (name, size) = (request.job, request.size);
+    let Some(job) = Job::named(name) else {
         return Err(BenchError::UnknownJob);
     };
-    let check = job.run(rt.alloc(), request.size, request.repeats)?;
-    let name = &request.job;
-    let size = request.size;
-    let printed = match check {
+    let printed = match job.run(rt.alloc(), size, request.repeats)? {
         Some(check) => println!(rt; "{name} {size} {check}"),
         None => println!(rt; "{name} {size} -1"),
     };
     printed.map_err(|_| BenchError::WriteFailed)
+}
+
+/// Performs what the command line asks for.
+fn answer(rt: &HostRuntime) -> Result<(), BenchError> {
+    let words = words(rt)?;
+    perform(rt, &words)
 }
 
 fn main(rt: HostRuntime) -> ExitCode {

@@ -1,6 +1,7 @@
 //! Calls that are made again and again.
 
 use crate::error::BenchError;
+use std::alloc::Global;
 
 /// What a job prints of its last result. `None`: the call had no answer.
 pub type Check = Option<u64>;
@@ -30,6 +31,33 @@ impl Repeats {
         }
         Ok(check(call()?))
     }
+
+    /// The same for a call on an input.
+    pub fn on<I, R, E, F, G>(
+        self,
+        alloc: Global,
+        input: &I,
+        mut call: F,
+        check: G,
+    ) -> Result<Check, BenchError>
+    where
+        R: Drop,
+        E: Drop,
+        BenchError: From<E>,
+        F: FnMut(Global, &I) -> Result<R, E>,
+        G: FnOnce(R) -> Check,
+        requires callable { F.IsAlwaysCallable call }
+        requires checkable { G.IsAlwaysCallable check }
+    {
+        for _call in 1..self.0 {
+            let _ = call(alloc, input)?;
+        }
+        if self.0 == 0 {
+            return Ok(Some(0));
+        }
+        Ok(check(call(alloc, input)?))
+    }
+
     /// Makes the call so often, and answers the greatest number that it gave. Where all are the same,
     /// that is the last one, and no call can be left out.
     pub fn greatest<E, F>(self, mut call: F) -> Result<Check, BenchError>

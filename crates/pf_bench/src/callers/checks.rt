@@ -1,5 +1,6 @@
 //! What is printed of a result.
 
+use crate::callers::orders::Groups;
 use crate::repeats::Check;
 use pf_matrix::Matrix;
 use pf_search::directed::dijkstra::Parents;
@@ -87,4 +88,31 @@ pub fn costs_of<P: Drop>(paths: Vec<(P, u32)>) -> Check {
 /// The total of a flow.
 pub fn flow_of<F: Drop>((_, total, _): (F, i64, F)) -> Check {
     u64::try_from(total).ok()
+}
+
+/// How many components there are.
+pub fn components_of<C: Drop>(components: Vec<C>) -> Check {
+    Some(components.len() as u64)
+}
+
+/// How many nodes stand in an order.
+pub fn order_of(order: Result<Vec<usize>, usize>) -> Check {
+    match order {
+        Ok(order) => Some(order.len() as u64),
+        Err(_) => None,
+    }
+}
+
+/// The sum over groups, numbered from 0, of number times nodes.
+pub fn depth_sum(groups: Groups) -> Check {
+    let Ok(groups) = groups else {
+        return None;
+    };
+    let mut sum = 0u64;
+    let mut depth = 0u64;
+    for group in &groups {
+        sum = sum.wrapping_add(depth.wrapping_mul(group.len() as u64));
+        depth = depth.wrapping_add(1);
+    }
+    Some(sum)
 }

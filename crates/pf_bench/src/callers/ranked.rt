@@ -1,11 +1,6 @@
 //! The cheapest paths in rows, one after the other, from the first node to the last.
 
-ghost use Rattle.std.specs.Prelude.{◌<◌};
-
-use crate::callers::checks::costs_of;
-use crate::error::BenchError;
 use crate::inputs::Rows;
-use crate::repeats::{Check, Repeats};
 use pf_base::PathError;
 use pf_yen::directed::yen::yen;
 use std::alloc::Global;
@@ -14,7 +9,7 @@ use std::alloc::Global;
 const PATHS: usize = 10;
 
 /// The cheapest paths of `yen`, each with its cost.
-fn cheapest_paths(alloc: Global, rows: &Rows) -> Result<Vec<(Vec<usize>, u32)>, PathError> {
+pub fn cheapest_paths(alloc: Global, rows: &Rows) -> Result<Vec<(Vec<usize>, u32)>, PathError> {
     let goal = rows.last_node();
     yen(
         alloc,
@@ -23,12 +18,4 @@ fn cheapest_paths(alloc: Global, rows: &Rows) -> Result<Vec<(Vec<usize>, u32)>, 
         |node| *node == goal,
         PATHS,
     )
-}
-
-/// The sum of the costs.
-pub fn yen_rows(alloc: Global, size: usize, repeats: Repeats) -> Result<Check, BenchError>
-    requires { 0 < size }
-{
-    let rows = Rows::random(alloc, size)?;
-    repeats.check(|| cheapest_paths(alloc, &rows), costs_of)
 }

@@ -5,13 +5,17 @@ ghost use Rattle.pf_bench.specs.Steps.{moved_to, steps_between};
 
 use crate::draw::Draws;
 use crate::error::BenchError;
+use crate::inputs::steps::{Moves, Steps};
 use std::alloc::Global;
 
 /// Row and column.
 pub type Cell = (usize, usize);
 
 /// Steps down and to the right.
-pub type Direction = (isize, isize);
+type Direction = (isize, isize);
+
+/// Right, down, left, up.
+const DIRECTIONS: [Direction; 4] = [(0, 1), (1, 0), (0, -1), (-1, 0)];
 
 /// A square of heights, row by row. A step costs the height of the cell that it enters.
 #[derive(Drop)]
@@ -45,7 +49,8 @@ fn moved(from: usize, step: isize, size: usize) -> Option<usize>
 }
 
 impl Board {
-    ghost use Rattle.pf_bench.specs.Steps.{crossed, entered, entered_cell, height_of};
+    ghost use Rattle.std.specs.List.{filter_map};
+    ghost use Rattle.pf_bench.specs.Steps.{cells_from, crossed, entered, entered_cell, four_directions, height_of};
 
     /// A board with heights from 1 to 9.
     pub fn random(alloc: Global, size: usize) -> Result<Board, BenchError>
@@ -95,7 +100,7 @@ impl Board {
     }
 
     /// The cell that a step leads to, where it is on the board.
-    pub fn enter_cell(&self, from: Cell, direction: Direction) -> Option<Cell>
+    fn enter_cell(&self, from: Cell, direction: Direction) -> Option<Cell>
         ensures found { result ≡ entered_cell self.now.size from direction }
         ensures inside { IfSome result (λ to. (to.0 < self.now.size) × (to.1 < self.now.size)) }
     {
@@ -116,19 +121,110 @@ impl Board {
         }
     }
 
-    /// The cell that a step leads to, with the sum of the heights of both cells.
-    pub fn cross(&self, from: Cell, direction: Direction) -> Option<(Cell, u32)>
-        ensures { result ≡ crossed self.now.heights.items self.now.size from direction }
+    /// The cells that the steps from a cell lead to.
+    pub fn cells_from(&self, cell: Cell) -> Steps<'_, Plain<'_>>
+        ensures { result ≡ cells_from self.now.size cell }
     {
-        let to = self.enter_cell(from, direction)?;
-        Some((to, self.height(from) + self.height(to)))
+        Steps::new(
+            Plain {
+                board: self,
+                from: cell,
+            },
+            &DIRECTIONS,
+        )
     }
 
-    /// The same cell, with its height.
-    pub fn enter(&self, from: Cell, direction: Direction) -> Option<(Cell, u32)>
-        ensures { result ≡ entered self.now.heights.items self.now.size from direction }
+    /// The same cells, each with its height.
+    pub fn entries_from(&self, cell: Cell) -> Steps<'_, Entering<'_>>
+        ensures { result ≡ filter_map (entered self.now.heights.items self.now.size cell) four_directions }
     {
-        let to = self.enter_cell(from, direction)?;
-        Some((to, u32::from(self.heights[to.0 * self.size + to.1])))
+        Steps::new(
+            Entering {
+                board: self,
+                from: cell,
+            },
+            &DIRECTIONS,
+        )
+    }
+
+    /// The same cells, each with the sum of the heights of both cells.
+    pub fn crossings_from(&self, cell: Cell) -> Steps<'_, Crossing<'_>>
+        ensures { result ≡ filter_map (crossed self.now.heights.items self.now.size cell) four_directions }
+    {
+        Steps::new(
+            Crossing {
+                board: self,
+                from: cell,
+            },
+            &DIRECTIONS,
+        )
+    }
+}
+
+/// A cell whose steps cost nothing.
+#[derive(Clone, Copy)]
+pub struct Plain<'a> {
+    board: &'a Board,
+    from: Cell,
+}
+
+impl<'a> Moves for Plain<'a> {
+    ghost use Rattle.pf_bench.specs.Steps.{entered_cell};
+
+    type Direction = Direction;
+
+    type Step = Cell;
+
+    ghost step = { λ s direction. entered_cell s.board.now.size s.from direction };
+
+    fn step(&self, direction: &Direction) -> Option<Cell> {
+        self.board.enter_cell(self.from, *direction)
+    }
+}
+
+/// A cell whose steps cost the height of the cell that they enter.
+#[derive(Clone, Copy)]
+pub struct Entering<'a> {
+    board: &'a Board,
+    from: Cell,
+}
+
+impl<'a> Moves for Entering<'a> {
+    ghost use Rattle.pf_bench.specs.Steps.{entered};
+
+    type Direction = Direction;
+
+    type Step = (Cell, u32);
+
+    ghost step = { λ s direction. entered s.board.now.heights.items s.board.now.size s.from direction };
+
+    fn step(&self, direction: &Direction) -> Option<(Cell, u32)> {
+        let to = self.board.enter_cell(self.from, *direction)?;
+        Some((
+            to,
+            u32::from(self.board.heights[to.0 * self.board.size + to.1]),
+        ))
+    }
+}
+
+/// A cell whose steps cost its own height and that of the cell that they enter.
+#[derive(Clone, Copy)]
+pub struct Crossing<'a> {
+    board: &'a Board,
+    from: Cell,
+}
+
+impl<'a> Moves for Crossing<'a> {
+    ghost use Rattle.pf_bench.specs.Steps.{crossed};
+
+    type Direction = Direction;
+
+    type Step = (Cell, u32);
+
+    ghost step = { λ s direction. crossed s.board.now.heights.items s.board.now.size s.from direction };
+
+    fn step(&self, direction: &Direction) -> Option<(Cell, u32)> {
+        let to = self.board.enter_cell(self.from, *direction)?;
+        Some((to, self.board.height(self.from) + self.board.height(to)))
     }
 }

@@ -1,15 +1,20 @@
 //! The 15-puzzle.
 
 ghost use Rattle.std.specs.Prelude.{◌≡◌, ◌≤◌};
-ghost use Rattle.pf_bench.specs.Tiles.{blank_in, distance_below, moved_blank, slid_from, solved_tiles, tile_distance};
+ghost use Rattle.std.specs.List.{filter_map};
+ghost use Rattle.pf_bench.specs.Tiles.{blank_in, distance_below, four_moves, moved_blank, slid, slid_from, solved_tiles, tile_distance};
 
 use crate::draw::Draws;
+use crate::inputs::steps::{Moves, Steps};
 
 /// The tiles row by row, 0 for the blank.
 pub type Tiles = [u8; 16];
 
 /// How many places there are.
 const PLACES: usize = 16;
+
+/// Up, down, left, right.
+const DIRECTIONS: [usize; 4] = [0, 1, 2, 3];
 
 /// Each tile at its place.
 pub fn solved() -> Tiles
@@ -19,7 +24,7 @@ pub fn solved() -> Tiles
 }
 
 /// The place of the blank, or the number of places.
-pub fn blank_of(tiles: &Tiles) -> usize
+fn blank_of(tiles: &Tiles) -> usize
     ensures { result ≡ blank_in tiles.now }
 {
     for place in 0..PLACES {
@@ -48,7 +53,7 @@ fn moved(blank: usize, direction: usize) -> Option<usize>
 }
 
 /// The tiles after a move of the blank from its place, at the cost 1.
-pub fn slide(tiles: Tiles, blank: usize, direction: usize) -> Option<(Tiles, u32)>
+fn slide(tiles: Tiles, blank: usize, direction: usize) -> Option<(Tiles, u32)>
     ensures { result ≡ slid_from tiles blank direction }
 {
     if blank >= PLACES {
@@ -62,6 +67,40 @@ pub fn slide(tiles: Tiles, blank: usize, direction: usize) -> Option<(Tiles, u32
     next[blank] = tiles[to];
     next[to] = 0;
     Some((next, 1))
+}
+
+/// Tiles with the place of their blank.
+#[derive(Clone, Copy)]
+pub struct Sliding {
+    tiles: Tiles,
+    blank: usize,
+}
+
+impl Moves for Sliding {
+    ghost use Rattle.pf_bench.specs.Tiles.{slid_from};
+
+    type Direction = usize;
+
+    type Step = (Tiles, u32);
+
+    ghost step = { λ s direction. slid_from s.tiles s.blank direction };
+
+    fn step(&self, direction: &usize) -> Option<(Tiles, u32)> {
+        slide(self.tiles, self.blank, *direction)
+    }
+}
+
+/// The tiles after each move of the blank, each at the cost 1.
+pub fn moves_from(tiles: Tiles) -> Steps<'static, Sliding>
+    ensures { result ≡ filter_map (slid tiles) four_moves }
+{
+    Steps::new(
+        Sliding {
+            tiles,
+            blank: blank_of(&tiles),
+        },
+        &DIRECTIONS,
+    )
 }
 
 /// The rows and the columns from a place to that of a tile.

@@ -1,11 +1,13 @@
 //! A directed graph in compact form.
 
 ghost use Rattle.std.specs.Prelude.{◌≡◌, ◌<◌, ◌≤◌, ◌+◌, All, length};
+ghost use Rattle.std.specs.Iterator.{YieldsFirst, item_count};
 ghost use Rattle.std.specs.List.Sorted.{IsNonDecreasing};
 
 use crate::draw::Draws;
 use crate::error::BenchError;
 use std::alloc::Global;
+use std::marker::Model;
 
 /// How many edges are drawn for a node.
 const EDGES: usize = 5;
@@ -26,7 +28,7 @@ pub struct Rows {
 }
 
 impl Rows {
-    ghost use Rattle.pf_bench.specs.Steps.{row_of};
+    ghost use Rattle.pf_bench.specs.Steps.{ends_after, row_of};
 
     /// Each node has 5 edges. Loops and parallel edges occur.
     pub fn random(alloc: Global, size: usize) -> Result<Rows, BenchError>
@@ -97,5 +99,42 @@ impl Rows {
         ensures { result.now ≡ row_of self.now.offsets.items self.now.edges.items node }
     {
         &self.edges[self.offsets[node]..self.offsets[node + 1]]
+    }
+    /// Where the edges from a node lead.
+    pub fn ends_from(&self, node: usize) -> Ends<'_>
+        requires { node + 1 < length self.now.offsets.items }
+        ensures { result ≡ ends_after self.now.offsets.items self.now.edges.items node }
+    {
+        Ends {
+            rest: self.edges_from(node),
+        }
+    }
+}
+
+/// Where the edges of a node that are left lead. A contract sees the list of these nodes.
+#[derive(Drop)]
+pub struct Ends<'a> {
+    rest: &'a [(usize, u32)],
+}
+
+impl<'a> Model for Ends<'a> {
+    ghost use Rattle.std.specs.Prelude.{List, map, ℕ};
+
+    ghost Value = { List ℕ };
+
+    ghost view = { λ s. map (λ (e : ℕ × ℕ). e.0) s.rest.now };
+}
+
+impl<'a> Iterator for Ends<'a> {
+    type Item = usize;
+
+    ghost next_gives = { YieldsFirst (λ nodes. nodes) };
+
+    ghost remaining = { item_count (λ nodes. nodes) };
+
+    fn next(&mut self) -> Option<usize> {
+        let (edge, rest) = self.rest.split_first()?;
+        self.rest = rest;
+        Some(edge.0)
     }
 }

@@ -2,8 +2,14 @@
 
 ghost use Rattle.std.specs.Prelude.{◌<◌};
 
-use crate::callers::{board, informed, tables};
+use crate::callers::board::{
+    cheapest, cheapest_between, deepened, fewest, fewest_between, mapped, reached,
+    reached_in_preorder, summed,
+};
+use crate::callers::checks::{cost_of, count_of, edges_of, map_costs_of, nodes_of, sum_of};
+use crate::callers::informed::{by_astar, by_fringe, listed_nodes};
 use crate::error::BenchError;
+use crate::inputs::Board;
 use crate::repeats::{Check, Repeats};
 use std::alloc::Global;
 
@@ -22,53 +28,37 @@ pub enum BoardJob {
     Astar,
     Fringe,
     AstarBag,
-    BfsTable,
-    DijkstraTable,
 }
 
 impl BoardJob {
-    /// The job of this name.
-    pub fn named(name: &str) -> Option<BoardJob> {
-        Some(match name {
-            "bfs-board" => BoardJob::Bfs,
-            "bfs_reach-board" => BoardJob::BfsReach,
-            "bfs_bidirectional-board" => BoardJob::BfsBidirectional,
-            "dfs_reach-board" => BoardJob::DfsReach,
-            "iddfs-board" => BoardJob::Iddfs,
-            "dijkstra-board" => BoardJob::Dijkstra,
-            "dijkstra_all-board" => BoardJob::DijkstraAll,
-            "dijkstra_reach-board" => BoardJob::DijkstraReach,
-            "dijkstra_bidirectional-board" => BoardJob::DijkstraBidirectional,
-            "astar-board" => BoardJob::Astar,
-            "fringe-board" => BoardJob::Fringe,
-            "astar_bag-board" => BoardJob::AstarBag,
-            "bfs-board-table" => BoardJob::BfsTable,
-            "dijkstra-board-table" => BoardJob::DijkstraTable,
-            _ => return None,
-        })
-    }
-
     /// Runs it on the input of this size.
     pub fn run(self, alloc: Global, size: usize, repeats: Repeats) -> Result<Check, BenchError>
         requires { 0 < size }
     {
+        let board = match self {
+            BoardJob::AstarBag => Board::flat(alloc, size)?,
+            _ => Board::random(alloc, size)?,
+        };
+        self.repeat(alloc, &board, repeats)
+    }
+
+    /// Makes the call on a board so often.
+    fn repeat(self, alloc: Global, board: &Board, repeats: Repeats) -> Result<Check, BenchError> {
         match self {
-            BoardJob::Bfs => board::bfs_board(alloc, size, repeats),
-            BoardJob::BfsReach => board::bfs_reach_board(alloc, size, repeats),
-            BoardJob::BfsBidirectional => board::bfs_bidirectional_board(alloc, size, repeats),
-            BoardJob::DfsReach => board::dfs_reach_board(alloc, size, repeats),
-            BoardJob::Iddfs => board::iddfs_board(alloc, size, repeats),
-            BoardJob::Dijkstra => board::dijkstra_board(alloc, size, repeats),
-            BoardJob::DijkstraAll => board::dijkstra_all_board(alloc, size, repeats),
-            BoardJob::DijkstraReach => board::dijkstra_reach_board(alloc, size, repeats),
+            BoardJob::Bfs => repeats.on(alloc, board, fewest, edges_of),
+            BoardJob::BfsReach => repeats.on(alloc, board, reached, count_of),
+            BoardJob::BfsBidirectional => repeats.on(alloc, board, fewest_between, edges_of),
+            BoardJob::DfsReach => repeats.on(alloc, board, reached_in_preorder, count_of),
+            BoardJob::Iddfs => repeats.on(alloc, board, deepened, edges_of),
+            BoardJob::Dijkstra => repeats.on(alloc, board, cheapest, cost_of),
+            BoardJob::DijkstraAll => repeats.on(alloc, board, mapped, map_costs_of),
+            BoardJob::DijkstraReach => repeats.on(alloc, board, summed, sum_of),
             BoardJob::DijkstraBidirectional => {
-                board::dijkstra_bidirectional_board(alloc, size, repeats)
+                repeats.on(alloc, board, cheapest_between, cost_of)
             }
-            BoardJob::Astar => informed::astar_board(alloc, size, repeats),
-            BoardJob::Fringe => informed::fringe_board(alloc, size, repeats),
-            BoardJob::AstarBag => informed::astar_bag_board(alloc, size, repeats),
-            BoardJob::BfsTable => tables::bfs_board(alloc, size, repeats),
-            BoardJob::DijkstraTable => tables::dijkstra_board(alloc, size, repeats),
+            BoardJob::Astar => repeats.on(alloc, board, by_astar, cost_of),
+            BoardJob::Fringe => repeats.on(alloc, board, by_fringe, cost_of),
+            BoardJob::AstarBag => repeats.on(alloc, board, listed_nodes, nodes_of),
         }
     }
 }

@@ -1,8 +1,11 @@
 //! Calls of a grid.
 
-use crate::callers::grids;
+use crate::callers::checks::size_of;
+use crate::callers::grids::{edges, fill, invert, middle_vertex, sum};
 use crate::error::BenchError;
+use crate::inputs::grid;
 use crate::repeats::{Check, Repeats};
+use pf_grid::Grid;
 use std::alloc::Global;
 
 /// A call of a grid.
@@ -17,28 +20,22 @@ pub enum GridJob {
 }
 
 impl GridJob {
-    /// The job of this name.
-    pub fn named(name: &str) -> Option<GridJob> {
-        Some(match name {
-            "grid_fill-grid" => GridJob::Fill,
-            "grid_invert-grid" => GridJob::Invert,
-            "grid_iter-grid" => GridJob::Iter,
-            "grid_edges-grid" => GridJob::Edges,
-            "grid_bfs-grid" => GridJob::Bfs,
-            "grid_dfs-grid" => GridJob::Dfs,
-            _ => return None,
-        })
-    }
-
     /// Runs it on the input of this size.
     pub fn run(self, alloc: Global, size: usize, repeats: Repeats) -> Result<Check, BenchError> {
+        let mut grid = grid(alloc, size)?;
+        self.repeat(&mut grid, repeats)
+    }
+
+    /// Makes the call on a grid so often.
+    fn repeat(self, grid: &mut Grid, repeats: Repeats) -> Result<Check, BenchError> {
+        let vertex = middle_vertex(grid);
         match self {
-            GridJob::Fill => grids::grid_fill_grid(alloc, size, repeats),
-            GridJob::Invert => grids::grid_invert_grid(alloc, size, repeats),
-            GridJob::Iter => grids::grid_iter_grid(alloc, size, repeats),
-            GridJob::Edges => grids::grid_edges_grid(alloc, size, repeats),
-            GridJob::Bfs => grids::grid_bfs_grid(alloc, size, repeats),
-            GridJob::Dfs => grids::grid_dfs_grid(alloc, size, repeats),
+            GridJob::Fill => repeats.greatest(|| fill(grid)),
+            GridJob::Invert => repeats.greatest(|| invert(grid)),
+            GridJob::Iter => repeats.greatest(|| sum(grid, vertex)),
+            GridJob::Edges => repeats.greatest(|| edges(grid, vertex)),
+            GridJob::Bfs => repeats.check(|| grid.bfs_reachable(vertex, |_| true), size_of),
+            GridJob::Dfs => repeats.check(|| grid.dfs_reachable(vertex, |_| true), size_of),
         }
     }
 }

@@ -2,9 +2,15 @@
 
 ghost use Rattle.std.specs.Prelude.{◌<◌};
 
-use crate::callers::{cycles, edges, flows, groups};
+use crate::callers::checks::{components_of, flow_of, steps_of};
+use crate::callers::cycles::cycle;
+use crate::callers::edges::{tree_weight, weight, weight_by_number};
 use crate::error::BenchError;
+use crate::inputs::{Network, edges, edges_from_first, groups};
 use crate::repeats::{Check, Repeats};
+use pf_flow::edmonds_karp::{edmonds_karp_dense, edmonds_karp_sparse};
+use pf_graph::undirected::connected_components::components;
+use pf_graph::undirected::prim::prim;
 use std::alloc::Global;
 
 /// Spanning edges, components, flows or cycles.
@@ -20,32 +26,55 @@ pub enum NetworkJob {
 }
 
 impl NetworkJob {
-    /// The job of this name.
-    pub fn named(name: &str) -> Option<NetworkJob> {
-        Some(match name {
-            "kruskal_indices-edges" => NetworkJob::KruskalIndices,
-            "kruskal-edges" => NetworkJob::Kruskal,
-            "prim-edges" => NetworkJob::Prim,
-            "components-groups" => NetworkJob::Components,
-            "flow_dense-network" => NetworkJob::FlowDense,
-            "flow_sparse-layers" => NetworkJob::FlowSparse,
-            "brent-step" => NetworkJob::Brent,
-            _ => return None,
-        })
-    }
-
     /// Runs it on the input of this size.
     pub fn run(self, alloc: Global, size: usize, repeats: Repeats) -> Result<Check, BenchError>
         requires { 0 < size }
     {
         match self {
-            NetworkJob::KruskalIndices => edges::kruskal_indices_edges(alloc, size, repeats),
-            NetworkJob::Kruskal => edges::kruskal_edges(alloc, size, repeats),
-            NetworkJob::Prim => edges::prim_edges(alloc, size, repeats),
-            NetworkJob::Components => groups::components_groups(alloc, size, repeats),
-            NetworkJob::FlowDense => flows::flow_dense_network(alloc, size, repeats),
-            NetworkJob::FlowSparse => flows::flow_sparse_layers(alloc, size, repeats),
-            NetworkJob::Brent => cycles::brent_step(size, repeats),
+            NetworkJob::KruskalIndices => {
+                let edges = edges(alloc, size)?;
+                repeats.check(|| weight_by_number(alloc, size, &edges), Some)
+            }
+            NetworkJob::Kruskal => {
+                let edges = edges(alloc, size)?;
+                repeats.check(|| weight(alloc, &edges), Some)
+            }
+            NetworkJob::Prim => {
+                let edges = edges_from_first(alloc, size)?;
+                repeats.check(|| prim(alloc, &edges), tree_weight)
+            }
+            NetworkJob::Components => {
+                let groups = groups(alloc, size)?;
+                repeats.check(|| components(alloc, &groups), components_of)
+            }
+            NetworkJob::FlowDense => repeat_dense(alloc, &Network::dense(alloc, size)?, repeats),
+            NetworkJob::FlowSparse => {
+                repeat_sparse(alloc, &Network::in_layers(alloc, size)?, repeats)
+            }
+            NetworkJob::Brent => {
+                let modulus = size as u64;
+                repeats.check(|| cycle(modulus), steps_of)
+            }
         }
     }
+}
+
+/// Finds a flow over a square of capacities so often.
+fn repeat_dense(alloc: Global, network: &Network, repeats: Repeats) -> Result<Check, BenchError> {
+    let (vertices, capacities) = (network.vertices(), network.capacities());
+    let (source, sink) = (0, network.sink());
+    repeats.check(
+        || edmonds_karp_dense(alloc, vertices, &source, &sink, capacities.iter().copied()),
+        flow_of,
+    )
+}
+
+/// Finds a flow over lists of capacities so often.
+fn repeat_sparse(alloc: Global, network: &Network, repeats: Repeats) -> Result<Check, BenchError> {
+    let (vertices, capacities) = (network.vertices(), network.capacities());
+    let (source, sink) = (0, network.sink());
+    repeats.check(
+        || edmonds_karp_sparse(alloc, vertices, &source, &sink, capacities.iter().copied()),
+        flow_of,
+    )
 }

@@ -1,7 +1,9 @@
 //! Searches for the solved 15-puzzle.
 
-use crate::callers::puzzle;
+use crate::callers::checks::cost_of;
+use crate::callers::puzzle::{by_astar, by_idastar};
 use crate::error::BenchError;
+use crate::inputs::puzzle;
 use crate::repeats::{Check, Repeats};
 use std::alloc::Global;
 
@@ -13,20 +15,12 @@ pub enum PuzzleJob {
 }
 
 impl PuzzleJob {
-    /// The job of this name.
-    pub fn named(name: &str) -> Option<PuzzleJob> {
-        Some(match name {
-            "astar-puzzle" => PuzzleJob::Astar,
-            "idastar-puzzle" => PuzzleJob::Idastar,
-            _ => return None,
-        })
-    }
-
     /// Runs it from a state that is so many moves from the solved one.
     pub fn run(self, alloc: Global, moves: usize, repeats: Repeats) -> Result<Check, BenchError> {
+        let start = puzzle(moves);
         match self {
-            PuzzleJob::Astar => puzzle::astar_puzzle(alloc, moves, repeats),
-            PuzzleJob::Idastar => puzzle::idastar_puzzle(alloc, moves, repeats),
+            PuzzleJob::Astar => repeats.on(alloc, &start, by_astar, cost_of),
+            PuzzleJob::Idastar => repeats.on(alloc, &start, by_idastar, cost_of),
         }
     }
 }

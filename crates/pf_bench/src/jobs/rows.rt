@@ -2,8 +2,11 @@
 
 ghost use Rattle.std.specs.Prelude.{◌<◌};
 
-use crate::callers::{orders, ranked, rows, tables};
+use crate::callers::checks::{cost_of, costs_of, edges_of, ends_at, map_costs_of, sum_of};
+use crate::callers::ranked::cheapest_paths;
+use crate::callers::rows::{cheapest, first_path, mapped, shortest_loop, summed};
 use crate::error::BenchError;
+use crate::inputs::Rows;
 use crate::repeats::{Check, Repeats};
 use std::alloc::Global;
 
@@ -16,45 +19,29 @@ pub enum RowsJob {
     DijkstraAll,
     DijkstraReach,
     Yen,
-    Scc,
-    TopologicalSort,
-    Groups,
-    DijkstraTable,
 }
 
 impl RowsJob {
-    /// The job of this name.
-    pub fn named(name: &str) -> Option<RowsJob> {
-        Some(match name {
-            "bfs_loop-rows" => RowsJob::BfsLoop,
-            "dfs-rows" => RowsJob::Dfs,
-            "dijkstra-rows" => RowsJob::Dijkstra,
-            "dijkstra_all-rows" => RowsJob::DijkstraAll,
-            "dijkstra_reach-rows" => RowsJob::DijkstraReach,
-            "yen-rows" => RowsJob::Yen,
-            "scc-rows" => RowsJob::Scc,
-            "topological_sort-dag" => RowsJob::TopologicalSort,
-            "groups-dag" => RowsJob::Groups,
-            "dijkstra-rows-table" => RowsJob::DijkstraTable,
-            _ => return None,
-        })
-    }
-
     /// Runs it on the input of this size.
     pub fn run(self, alloc: Global, size: usize, repeats: Repeats) -> Result<Check, BenchError>
         requires { 0 < size }
     {
+        let rows = Rows::random(alloc, size)?;
+        self.repeat(alloc, &rows, repeats)
+    }
+
+    /// Makes the call on rows so often.
+    fn repeat(self, alloc: Global, rows: &Rows, repeats: Repeats) -> Result<Check, BenchError> {
         match self {
-            RowsJob::BfsLoop => rows::bfs_loop_rows(alloc, size, repeats),
-            RowsJob::Dfs => rows::dfs_rows(alloc, size, repeats),
-            RowsJob::Dijkstra => rows::dijkstra_rows(alloc, size, repeats),
-            RowsJob::DijkstraAll => rows::dijkstra_all_rows(alloc, size, repeats),
-            RowsJob::DijkstraReach => rows::dijkstra_reach_rows(alloc, size, repeats),
-            RowsJob::Yen => ranked::yen_rows(alloc, size, repeats),
-            RowsJob::Scc => orders::scc_rows(alloc, size, repeats),
-            RowsJob::TopologicalSort => orders::topological_sort_dag(alloc, size, repeats),
-            RowsJob::Groups => orders::groups_dag(alloc, size, repeats),
-            RowsJob::DijkstraTable => tables::dijkstra_rows(alloc, size, repeats),
+            RowsJob::BfsLoop => repeats.on(alloc, rows, shortest_loop, edges_of),
+            RowsJob::Dfs => {
+                let last = rows.last_node();
+                repeats.on(alloc, rows, first_path, |path| ends_at(path, last))
+            }
+            RowsJob::Dijkstra => repeats.on(alloc, rows, cheapest, cost_of),
+            RowsJob::DijkstraAll => repeats.on(alloc, rows, mapped, map_costs_of),
+            RowsJob::DijkstraReach => repeats.on(alloc, rows, summed, sum_of),
+            RowsJob::Yen => repeats.on(alloc, rows, cheapest_paths, costs_of),
         }
     }
 }

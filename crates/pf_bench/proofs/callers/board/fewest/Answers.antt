@@ -1,16 +1,16 @@
-use Rattle.std.proofs.Common.{rules, ap}
-use Rattle.pf_base.proofs.Callers.{test_of}
-use Rattle.pf_base.proofs.Tables.{grid_successors, pair_refl, pair_exact}
-use Rattle.pf_bench.specs.Steps.{cells_from, entered_cell, four_directions, same_cell}
+use Rattle.std.proofs.Common.{rules}
+use Rattle.pf_base.proofs.Tables.{pair_refl, pair_exact}
+use Rattle.pf_bench.specs.Steps.{cells_from, same_cell}
+use Rattle.pf_bench.proofs.Shown.{goal_test, shown_successors}
 use Rattle.pf_bench.proofs.callers.board.fewest.Goals as goal
 
 pub bfs-requires-clause-graph : goal.bfs-requires-clause-graph
 bfs-requires-clause-graph c =
-    let goal_cell = c.last_cell-goal.result in (
+    let last = c.last_cell-goal.result in (
       cells_from c.args.board.now.size,
-      (λ cell. same_cell cell goal_cell),
+      (λ cell. same_cell cell last),
       record {
-        successors_answered = grid_successors four_directions (entered_cell c.args.board.now.size) pair_refl pair_exact (λ x. search rules) (λ x r t k. (search rules, search rules, λ d. search rules, λ d o q l. (search rules, search rules)));
-        test_answered = test_of (λ cell. same_cell cell goal_cell) (λ x y w e. ap (λ cell. same_cell cell goal_cell) (pair_exact x y e)) (λ x w. search rules) (λ x r t w k. (search rules, search rules));
+        successors_answered = shown_successors pair_refl pair_exact (cells_from c.args.board.now.size) (λ x w. search rules) (λ x r t w k. (search rules, λ it b. (search rules, search rules, search rules)));
+        test_answered = goal_test last (λ x. search rules) (λ x r t k. (search rules, search rules));
       },
     )

@@ -1,5 +1,5 @@
 use Rattle.std.proofs.Common.{◌≡◌, ◌<◌, ℕ, Some, slice_get}
-use Rattle.pf_bench.proofs.callers.orders.numbered.Given as goal
+use Rattle.pf_bench.proofs.callers.orders.Numbered.all.Given as goal
 
 -- the nodes so far
 abbrev pub invariant-nodes : goal.invariant-nodes
