@@ -1,4 +1,4 @@
-use Rattle.std.proofs.Common.{rules, ℕ, ◌+◌, ◌<◌, length}
+use Rattle.std.proofs.Common.{rules, ◌+◌, ◌<◌, length}
 use Rattle.pf_base.proofs.Tables.{nat_successors}
 use Rattle.pf_bench.specs.Steps.{ends_after}
 use Rattle.pf_bench.proofs.RowEnds.{all_at, has_rows}
