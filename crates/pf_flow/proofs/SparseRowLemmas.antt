@@ -2,8 +2,9 @@
 use Rattle.std.proofs.Common.{◌≡◌, ◌≢◌, ◌∙◌, refl, sym, ap, subst, ◌<◌, ◌≤◌, ◌+ℤ◌, ℕ, ℤ, zero, suc, pos, arith, Bool, true, false, true≢false, List, [], ◌∷◌, length, nat_eq, if◌then◌else◌, eq-eqb}
 use Rattle.std.proofs.Math.Dec.{ltb}
 use Rattle.std.proofs.Math.Seq.{map-set_same}
-use Rattle.std.specs.Prelude.{slice_index_or, slice_set}
+use Rattle.std.specs.Prelude.{◌-◌, Some, slice_get, slice_index_or, slice_set}
 use Rattle.std.specs.List.{insert, remove}
+use Rattle.std.proofs.lemmas.Option.{get_or_from_slice_get}
 use borrow.Author.Tests.{eqb-true, eqb-false, ne_eqb, lt-ltb, le-ltb, ltb-true, ltb-false}
 use Rattle.pf_flow.specs.SparseRows.{ends, Rises, has_end, place_of, amount_to, IsRowChanged, with_edge, without_edge, end_after, AreBelow}
 use Rattle.pf_flow.specs.Internal.SparseLaws.{amount_none}
@@ -47,6 +48,33 @@ place_is (e ∷ es) b zero l below from = rw (le-ltb e.to b (from 0 e (omega ari
 place_is (e ∷ es) b (suc p) l below from =
     let rest = place_is es b p (omega (arith, l)) (λ k d m. below (suc k) d (omega (arith, m))) (λ k d m n. from (suc k) d (omega (arith, m)) (omega (arith, n))) in
     rw (lt-ltb e.to b (below 0 e (omega arith))) (ap (λ n. suc n) rest)
+
+-- where the last end is below b, the place of b is behind all
+pub past_last : {C : Type 0} → (row : List (Edge C)) (b : ℕ) (last : Edge C) → Rises 0 (ends row) → slice_get row (length row - 1) ≡ Some last → last.to < b → length row ≡ place_of (ends row) b
+past_last row b last r at less = place_is row b (length row) (omega arith) below (λ k d l m. absurd (omega (arith, l, m)))
+  where
+    below : (k : ℕ) (d : Edge _) → k < length row → (slice_index_or row k d).to < b
+    below k d l =
+        let h = rising_or_same 0 row k (length row - 1) d r (omega (arith, l)) (omega (arith, l)) in
+        let e : (slice_index_or row (length row - 1) d).to ≡ last.to = ap (λ (x : Edge _). x.to) (get_or_from_slice_get row (length row - 1) last d at) in
+        omega (arith, h, e, less)
+
+-- where the last end is b, the place of b is the last
+pub at_last : {C : Type 0} → (row : List (Edge C)) (b : ℕ) (last : Edge C) → Rises 0 (ends row) → slice_get row (length row - 1) ≡ Some last → last.to ≡ b → length row - 1 ≡ place_of (ends row) b
+at_last row b last r at same = place_is row b (length row - 1) (omega arith) below from
+  where
+    end_at : (d : Edge _) → (slice_index_or row (length row - 1) d).to ≡ b
+    end_at d = ap (λ (x : Edge _). x.to) (get_or_from_slice_get row (length row - 1) last d at) ∙ same
+
+    below : (k : ℕ) (d : Edge _) → k < length row - 1 → (slice_index_or row k d).to < b
+    below k d l =
+        let h = rising 0 row k (length row - 1) d r l (omega (arith, l)) in
+        omega (arith, h, end_at d)
+
+    from : (k : ℕ) (d : Edge _) → length row - 1 ≤ k → k < length row → b ≤ (slice_index_or row k d).to
+    from k d l m =
+        let h = rising_or_same 0 row (length row - 1) k d r l m in
+        omega (arith, h, end_at d)
 
 or_true : (t u : Bool) → u ≡ true → (if t then true else u) ≡ true
 or_true true u h = refl

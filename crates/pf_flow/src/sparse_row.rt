@@ -69,7 +69,12 @@ fn place<C>(row: &[Edge<C>], to: usize) -> usize
     ensures place { result ≡ place_of (ends row.now) to }
     ensures bound { result ≤ length row.now }
 {
-    row.partition_point(|edge| edge.to < to)
+    // Edges are often put in by rising ends: then no edge but the last is looked at.
+    match row.last() {
+        Some(last) if last.to < to => row.len(),
+        Some(last) if last.to == to => row.len() - 1,
+        _ => row.partition_point(|edge| edge.to < to),
+    }
 }
 
 /// The place of the edge to a vertex.
