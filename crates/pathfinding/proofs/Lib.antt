@@ -15,6 +15,7 @@ pub mod NetworkPaths
 pub mod SpanningLemmas
 pub mod DecimalLemmas
 pub mod FlowNames
+pub mod FlowOrder
 pub mod FlowLemmas
 pub mod Outcomes
 pub mod Tables
