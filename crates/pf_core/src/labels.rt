@@ -88,7 +88,11 @@ pub fn fill<C: Copy, A: Allocator>(
     Ok(())
 }
 
-/// Makes room for the labels of the nodes that were found.
+/// As many nodes as a queue can have, which keeps numbers of 32 bits: its entries are small then, and a
+/// search spends most of its time among them.
+const MOST_QUEUED: usize = 0x1_0000_0000;
+
+/// Makes room for the labels of the nodes that were found, all of which may wait in a queue.
 pub fn widen<C: Cost, A: Allocator>(
     labels: &mut Vec<Slot<C>, A>,
     found: usize,
@@ -96,9 +100,12 @@ pub fn widen<C: Cost, A: Allocator>(
     requires { length labels.old.items ≤ found }
     ensures widened { OnOk result (Widened found labels.old.items labels.new.items) }
     ensures kept { OnErr result (labels.new.items ≡ labels.old.items) }
-    ensures few { OnOk result (found ≤ 2 ^ 62) }
+    ensures few { OnOk result (found ≤ 2 ^ 32) }
     ensures refused { IfErr result (λ e. e ≡ PathError.OutOfMemory) }
 {
+    if found > MOST_QUEUED {
+        return Err(PathError::OutOfMemory);
+    }
     fill(labels, found, Slot::none(C::zero()))
 }
 

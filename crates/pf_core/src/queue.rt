@@ -19,10 +19,10 @@ use std::cmp::Reverse;
 use std::collections::BinaryHeap;
 
 /// The costs of labels with their numbers. Of equal costs the lower number comes first.
-pub type Queue<C, A> = BinaryHeap<Reverse<(C, usize)>, A>;
+pub type Queue<C, A> = BinaryHeap<Reverse<(C, u32)>, A>;
 
 /// The first entry, which costs least.
-fn peek_least<C: Cost, A: Allocator>(queue: &Queue<C, A>) -> Option<Reverse<(C, usize)>>
+fn peek_least<C: Cost, A: Allocator>(queue: &Queue<C, A>) -> Option<Reverse<(C, u32)>>
     requires { IsHeap (entry_cmp C.cmp) (heap_items queue.now) }
     ensures first { IfSome result (λ e. e ≡ slice_index_or (heap_items queue.now) 0 e) }
     ensures least { MatchOption result (heap_items queue.now ≡ [])
@@ -33,7 +33,7 @@ fn peek_least<C: Cost, A: Allocator>(queue: &Queue<C, A>) -> Option<Reverse<(C, 
 }
 
 /// Takes out the first entry, which is `entry`.
-fn take_out<C: Cost, A: Allocator>(queue: &mut Queue<C, A>, entry: Reverse<(C, usize)>)
+fn take_out<C: Cost, A: Allocator>(queue: &mut Queue<C, A>, entry: Reverse<(C, u32)>)
     requires ordered { IsHeap (entry_cmp C.cmp) (heap_items queue.old) }
     requires first { entry ≡ slice_index_or (heap_items queue.old) 0 entry }
     requires there { Contains (heap_items queue.old) entry }
@@ -60,7 +60,7 @@ pub fn least_open<C: Cost, A: Allocator>(
     ensures first { IfSome result (λ k. IsFirst (by_cost C.value) labels.now.items k) }
 {
     'entries: while let Some(entry) = peek_least(queue) {
-        let number = entry.0.1;
+        let number = entry.0.1 as usize;
         if is_open(labels, number) {
             return Some(number);
         }
@@ -71,6 +71,7 @@ pub fn least_open<C: Cost, A: Allocator>(
 
 /// Puts in an entry, for which there is room.
 fn push_entry<C: Cost, A: Allocator>(queue: &mut Queue<C, A>, cost: C, number: usize)
+    requires few { number < 2 ^ 32 }
     requires room { heap_len queue.old < heap_capacity queue.old }
     requires ordered { IsHeap (entry_cmp C.cmp) (heap_items queue.old) }
     ensures ordered { IsHeap (entry_cmp C.cmp) (heap_items queue.new) }
@@ -78,7 +79,7 @@ fn push_entry<C: Cost, A: Allocator>(queue: &mut Queue<C, A>, cost: C, number: u
     ensures len { heap_len queue.new ≡ heap_len queue.old + 1 }
     ensures capacity { heap_capacity queue.old ≤ heap_capacity queue.new }
 {
-    if queue.push(Reverse((cost, number))).is_err() {
+    if queue.push(Reverse((cost, number as u32))).is_err() {
         unreachable!();
     }
 }
@@ -95,7 +96,8 @@ fn lower<C: Cost, A: Allocator>(
 )
     requires room { heap_len queue.old < heap_capacity queue.old }
     requires inside { next < length labels.old.items }
-    requires few { parent < 2 ^ 62 }
+    requires few { length labels.old.items ≤ 2 ^ 32 }
+    requires parent { parent < length labels.old.items }
     requires ordered { IsHeap (entry_cmp C.cmp) (heap_items queue.old) }
     requires queue { IsQueue C.value labels.old.items (heap_items queue.old) }
     ensures ordered { IsHeap (entry_cmp C.cmp) (heap_items queue.new) }
@@ -121,7 +123,8 @@ fn take_step<C: Cost, A: Allocator>(
 )
     requires room { heap_len queue.old < heap_capacity queue.old }
     requires inside { next < length labels.old.items }
-    requires few { parent < 2 ^ 62 }
+    requires few { length labels.old.items ≤ 2 ^ 32 }
+    requires parent { parent < length labels.old.items }
     requires ordered { IsHeap (entry_cmp C.cmp) (heap_items queue.old) }
     requires queue { IsQueue C.value labels.old.items (heap_items queue.old) }
     ensures ordered { IsHeap (entry_cmp C.cmp) (heap_items queue.new) }
@@ -146,7 +149,8 @@ pub fn relax<C: Cost, A: Allocator>(
 )
     requires room { heap_len queue.old + length row.now ≤ heap_capacity queue.old }
     requires inside { (j : ℕ) (c : C) → Contains row.now (j, c) → j < length labels.old.items }
-    requires few { parent < 2 ^ 62 }
+    requires few { length labels.old.items ≤ 2 ^ 32 }
+    requires parent { parent < length labels.old.items }
     requires ordered { IsHeap (entry_cmp C.cmp) (heap_items queue.old) }
     requires queue { IsQueue C.value labels.old.items (heap_items queue.old) }
     ensures ordered { IsHeap (entry_cmp C.cmp) (heap_items queue.new) }

@@ -44,7 +44,7 @@ impl<C: Cost, A: Allocator + Copy> Search<C, A> {
         widen(&mut labels, found)?;
         labels[start] = Slot::first(nothing);
         let mut queue = BinaryHeap::new(alloc);
-        queue.push(Reverse((nothing, start)))?;
+        queue.push(Reverse((nothing, start as u32)))?;
         Ok(Search {
             labels,
             queue,

@@ -11,7 +11,7 @@ ghost use Rattle.pf_informed.specs.Internal.Waiting.{Entry, entry_cmp, IsQueue};
 ghost use Rattle.pf_informed.specs.Internal.Fringe.{listed, StillWait, NothingWaits, IsNextEntry, IsBelowWaiting, IsTakenWithin};
 
 use crate::labels::is_lower;
-use crate::queue::{Queue, Taken, take_first};
+use crate::queue::{Queue, Taken, Waiting, take_first};
 use pf_base::{Cost, PathError};
 use pf_core::slot::Slot;
 use std::alloc::Allocator;
@@ -23,16 +23,16 @@ use std::mem;
 /// than the limit. Both hold entries as those of the queue.
 #[derive(Drop)]
 pub(crate) struct FringeLists<C: Cost, A: Allocator> {
-    pub current: Vec<(Reverse<C>, C, usize), A>,
-    pub later: Vec<(Reverse<C>, C, usize), A>,
+    pub current: Vec<Waiting<C>, A>,
+    pub later: Vec<Waiting<C>, A>,
     pub limit: C,
 }
 
 /// Takes out the last entry that is not stale. Stale entries behind it are taken out on the way.
 fn take_last<C: Cost, A: Allocator>(
     labels: &Vec<Slot<C>, A>,
-    entries: &mut Vec<(Reverse<C>, C, usize), A>,
-) -> Option<(Reverse<C>, C, usize)>
+    entries: &mut Vec<Waiting<C>, A>,
+) -> Option<Waiting<C>>
     requires labelled { (e : Entry C) → Contains entries.old.items e → (l : Label C) × HasLabel labels.now.items e.2 l }
     ensures taken { MatchOption result
         ((entries.new.items ≡ []) × StillWait C.value labels.now.items entries.old.items [])
@@ -40,7 +40,7 @@ fn take_last<C: Cost, A: Allocator>(
     ensures fewer { MatchOption result (entries.new.items ≡ []) (λ _. length entries.new.items + 1 ≤ length entries.old.items) }
 {
     'entries: while let Some(entry) = entries.pop() {
-        if !is_lower(labels, entry.2, entry.1) {
+        if !is_lower(labels, entry.2 as usize, entry.1) {
             return Some(entry);
         }
     }
@@ -48,7 +48,7 @@ fn take_last<C: Cost, A: Allocator>(
 }
 
 /// The label's cost and the estimate together.
-fn sum_of<C: Cost>(entry: &(Reverse<C>, C, usize)) -> C
+fn sum_of<C: Cost>(entry: &Waiting<C>) -> C
     ensures { result ≡ entry.now.0.0 }
 {
     let (Reverse(sum), _, _) = entry;
@@ -56,10 +56,7 @@ fn sum_of<C: Cost>(entry: &(Reverse<C>, C, usize)) -> C
 }
 
 /// Keeps the entry of the lesser sum, and hands back the other.
-fn keep_least<C: Cost>(
-    least: &mut (Reverse<C>, C, usize),
-    entry: (Reverse<C>, C, usize),
-) -> (Reverse<C>, C, usize)
+fn keep_least<C: Cost>(least: &mut Waiting<C>, entry: Waiting<C>) -> Waiting<C>
     ensures least { C.value least.new.0.0 ≤ℤ C.value result.0.0 }
     ensures both { ((least.new ≡ least.old) × (result ≡ entry)) ⊎ ((least.new ≡ entry) × (result ≡ least.old)) }
 {
@@ -140,7 +137,7 @@ impl<C: Cost, A: Allocator + Copy> FringeLists<C, A> {
                 self.later.push(entry)?;
             } else {
                 return Ok(Some(Taken {
-                    number: entry.2,
+                    number: entry.2 as usize,
                     cost: entry.1,
                 }));
             }
@@ -176,7 +173,7 @@ impl<C: Cost, A: Allocator + Copy> FringeLists<C, A> {
         self.limit = sum_of(&least);
         self.limit.known();
         Ok(Some(Taken {
-            number: least.2,
+            number: least.2 as usize,
             cost: least.1,
         }))
     }

@@ -37,16 +37,22 @@ pub(crate) fn lowers<C: Cost>(labels: &[Slot<C>], number: usize, cost: C) -> boo
     }
 }
 
-/// Makes room for the labels of the nodes that were found.
+/// As many nodes as the queue can have, which keeps numbers of 32 bits.
+const MOST_QUEUED: usize = 0x1_0000_0000;
+
+/// Makes room for the labels of the nodes that were found, all of which may wait in the queue.
 pub(crate) fn make_room<C: Cost, A: Allocator>(
     labels: &mut Vec<Slot<C>, A>,
     found: usize,
 ) -> Result<(), PathError>
     requires { length labels.old.items ≤ found }
     ensures wider { OnOk result (labels.new.items ≡ labels.old.items ++ replicate (found - length labels.old.items) None) }
-    ensures few { OnOk result (found ≤ 2 ^ 62) }
+    ensures few { OnOk result (found ≤ 2 ^ 32) }
     ensures refused { IfErr result (λ e. e ≡ PathError.OutOfMemory) }
 {
+    if found > MOST_QUEUED {
+        return Err(PathError::OutOfMemory);
+    }
     fill(labels, found, Slot::none(C::zero()))
 }
 

@@ -19,9 +19,13 @@ use std::alloc::Allocator;
 use std::cmp::Reverse;
 use std::collections::BinaryHeap;
 
-/// The cost of a label and the estimate of its node together, the cost alone, and the number. The
-/// least sum comes first, and of equal sums the greatest cost, since fewer nodes are opened then.
-pub(crate) type Queue<C, A> = BinaryHeap<(Reverse<C>, C, usize), A>;
+/// The cost of a label and the estimate of its node together, the cost alone, and the number, in 32
+/// bits, since a search spends most of its time among these.
+pub(crate) type Waiting<C> = (Reverse<C>, C, u32);
+
+/// What waits. The least sum comes first, and of equal sums the greatest cost, since fewer nodes are
+/// opened then.
+pub(crate) type Queue<C, A> = BinaryHeap<Waiting<C>, A>;
 
 /// A number that is taken out of the queue, and the cost of its label.
 #[derive(Drop)]
@@ -31,9 +35,7 @@ pub(crate) struct Taken<C> {
 }
 
 /// Takes out the first entry, whose sum is the least.
-pub(crate) fn take_first<C: Cost, A: Allocator>(
-    queue: &mut Queue<C, A>,
-) -> Option<(Reverse<C>, C, usize)>
+pub(crate) fn take_first<C: Cost, A: Allocator>(queue: &mut Queue<C, A>) -> Option<Waiting<C>>
     requires { IsHeap (entry_cmp C.cmp) (heap_items queue.old) }
     ensures ordered { IsHeap (entry_cmp C.cmp) (heap_items queue.new) }
     ensures first { MatchOption result ((heap_items queue.old ≡ []) × (heap_items queue.new ≡ []))
@@ -59,9 +61,10 @@ pub(crate) fn take_least<C: Cost, A: Allocator>(
     ensures fewer { MatchOption result (heap_len queue.new ≤ heap_len queue.old) (λ r. heap_len queue.new + 1 ≤ heap_len queue.old) }
 {
     'entries: while let Some(entry) = take_first(queue) {
-        if !is_lower(labels, entry.2, entry.1) {
+        let number = entry.2 as usize;
+        if !is_lower(labels, number, entry.1) {
             return Some(Taken {
-                number: entry.2,
+                number,
                 cost: entry.1,
             });
         }
@@ -71,6 +74,7 @@ pub(crate) fn take_least<C: Cost, A: Allocator>(
 
 /// Puts in an entry, for which there is room.
 fn push_entry<C: Cost, A: Allocator>(queue: &mut Queue<C, A>, sum: C, cost: C, number: usize)
+    requires few { number < 2 ^ 32 }
     requires room { heap_len queue.old < heap_capacity queue.old }
     requires ordered { IsHeap (entry_cmp C.cmp) (heap_items queue.old) }
     ensures ordered { IsHeap (entry_cmp C.cmp) (heap_items queue.new) }
@@ -78,7 +82,7 @@ fn push_entry<C: Cost, A: Allocator>(queue: &mut Queue<C, A>, sum: C, cost: C, n
     ensures len { heap_len queue.new ≡ heap_len queue.old + 1 }
     ensures capacity { heap_capacity queue.old ≤ heap_capacity queue.new }
 {
-    if queue.push((Reverse(sum), cost, number)).is_err() {
+    if queue.push((Reverse(sum), cost, number as u32)).is_err() {
         unreachable!();
     }
 }
@@ -97,7 +101,8 @@ fn take_step<C: Cost, A: Allocator>(
     requires room { heap_len queue.old < heap_capacity queue.old }
     requires inside { next < length labels.old.items }
     requires wide { length estimates.now.items ≡ length labels.old.items }
-    requires few { parent < 2 ^ 62 }
+    requires few { length labels.old.items ≤ 2 ^ 32 }
+    requires parent { parent < length labels.old.items }
     requires price { pos 0 ≤ℤ C.value price }
     requires here { HasLabel labels.old.items parent label.now }
     requires forest { IsForest C.value labels.old.items }
@@ -137,7 +142,8 @@ pub(crate) fn relax<C: Cost, A: Allocator>(
     requires room { heap_len queue.old + length row.now ≤ heap_capacity queue.old }
     requires inside { (j : ℕ) (c : C) → Contains row.now (j, c) → j < length labels.old.items }
     requires wide { length estimates.now.items ≡ length labels.old.items }
-    requires few { parent < 2 ^ 62 }
+    requires few { length labels.old.items ≤ 2 ^ 32 }
+    requires parent { parent < length labels.old.items }
     requires prices { (j : ℕ) (c : C) → Contains row.now (j, c) → pos 0 ≤ℤ C.value c }
     requires here { HasLabel labels.old.items parent label.now }
     requires forest { IsForest C.value labels.old.items }

@@ -31,7 +31,20 @@ relax-requires-clause-inside g c = λ j d h.
     subst (λ (n : ℕ). j < n) (sym (len_settled g.C.Number.value c.args.number l c.args.self.now.labels.items _ _ z c.args.found w is)) (c.requires.ends j d ((row (j, d)).0 (rw whole at h)))
 
 pub relax-requires-clause-few : goal.relax-requires-clause-few
-relax-requires-clause-few g c = omega (arith, HasLabel-inside c.args.self.now.labels.items c.args.number c.label_of-label.result c.label_of-label.ensures, c.requires.wide, c.in_ok-widen.ensures.few)
+relax-requires-clause-few g c =
+    let l = c.label_of-label.result in
+    let w = c.in_ok-widen.ensures.widened in
+    let z = least_is (by_cost g.C.Number.value) c.args.self.now.labels.items c.args.number c.requires.least.0 l c.requires.least.1 c.label_of-label.ensures in
+    let is = c.settle.ensures l (w.stays c.args.number l c.label_of-label.ensures) in
+    omega (arith, len_settled g.C.Number.value c.args.number l c.args.self.now.labels.items _ _ z c.args.found w is, c.in_ok-widen.ensures.few)
+
+pub relax-requires-clause-parent : goal.relax-requires-clause-parent
+relax-requires-clause-parent g c =
+    let l = c.label_of-label.result in
+    let w = c.in_ok-widen.ensures.widened in
+    let z = least_is (by_cost g.C.Number.value) c.args.self.now.labels.items c.args.number c.requires.least.0 l c.requires.least.1 c.label_of-label.ensures in
+    let is = c.settle.ensures l (w.stays c.args.number l c.label_of-label.ensures) in
+    omega (arith, HasLabel-inside c.args.self.now.labels.items c.args.number l c.label_of-label.ensures, c.requires.wide, len_settled g.C.Number.value c.args.number l c.args.self.now.labels.items _ _ z c.args.found w is)
 
 pub relax-requires-clause-queue : goal.relax-requires-clause-queue
 relax-requires-clause-queue g c =

@@ -27,8 +27,18 @@ relax-requires-clause-inside g c = λ j d h.
 
 pub relax-requires-clause-few : goal.relax-requires-clause-few
 relax-requires-clause-few g c =
+    let labels = c.args.self.now.labels.items in
+    let len : c.len-2.result ≡ length c.args.self.now.estimates.items = search rules in
+    let is = rw len at c.in_ok-make_room.ensures.wider in
+    omega (arith, len, length_wider g.C.Number.value labels c.make_room.new.labels.items (length c.args.self.now.estimates.items) c.requires.few is, c.in_ok-make_room.ensures.few)
+
+pub relax-requires-clause-parent : goal.relax-requires-clause-parent
+relax-requires-clause-parent g c =
+    let labels = c.args.self.now.labels.items in
     let l = c.requires.labelled in
-    omega (arith, HasLabel-inside c.args.self.now.labels.items c.args.number l.0 l.1, c.requires.few, c.in_ok-make_room.ensures.few)
+    let len : c.len-2.result ≡ length c.args.self.now.estimates.items = search rules in
+    let is = rw len at c.in_ok-make_room.ensures.wider in
+    omega (arith, HasLabel-inside labels c.args.number l.0 l.1, c.requires.few, length_wider g.C.Number.value labels c.make_room.new.labels.items (length c.args.self.now.estimates.items) c.requires.few is)
 
 pub relax-requires-clause-prices : goal.relax-requires-clause-prices
 relax-requires-clause-prices g c = λ j d h. c.requires.prices j d (rw c.deref.ensures.value at h)
