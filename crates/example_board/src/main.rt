@@ -29,24 +29,50 @@ fn positions(alloc: Global, path: &[usize]) -> Result<Vec<(usize, usize)>, anyho
     Ok(positions)
 }
 
-fn main(rt: HostRuntime) -> Result<(), anyhow::Error> {
-    let alloc = rt.alloc();
+/// The cells of the maze, the first row first.
+fn cells(alloc: Global) -> Result<Vec<Option<u32>>, anyhow::Error> {
     let mut cells = Vec::new(alloc);
     for line in MAZE {
         for cell in line.chars() {
             cells.push(cost_of(cell))?;
         }
     }
-    let board = Board::new(ROWS, COLUMNS, &cells, Steps::Four)?;
-    let from = board.number_of(0, 0);
-    let to = board.number_of(0, 6);
-    match bfs(alloc, &board, from, to)? {
-        Some(path) => println!(rt; "fewest steps: {:?}", positions(alloc, &path)?)?,
-        None => rt.println("no way")?,
-    }
-    match dijkstra(alloc, &board, from, to)? {
-        Some((path, cost)) => println!(rt; "cost {cost}: {:?}", positions(alloc, &path)?)?,
+    Ok(cells)
+}
+
+/// Prints a way with fewest steps.
+fn print_fewest_steps(
+    rt: &HostRuntime,
+    board: &Board<'_, u32>,
+    from: usize,
+    to: usize,
+) -> Result<(), anyhow::Error> {
+    match bfs(rt.alloc(), board, from, to)? {
+        Some(path) => println!(rt; "fewest steps: {:?}", positions(rt.alloc(), &path)?)?,
         None => rt.println("no way")?,
     }
     Ok(())
+}
+
+/// Prints a way that costs least.
+fn print_cheapest(
+    rt: &HostRuntime,
+    board: &Board<'_, u32>,
+    from: usize,
+    to: usize,
+) -> Result<(), anyhow::Error> {
+    match dijkstra(rt.alloc(), board, from, to)? {
+        Some((path, cost)) => println!(rt; "cost {cost}: {:?}", positions(rt.alloc(), &path)?)?,
+        None => rt.println("no way")?,
+    }
+    Ok(())
+}
+
+fn main(rt: HostRuntime) -> Result<(), anyhow::Error> {
+    let cells = cells(rt.alloc())?;
+    let board = Board::new(ROWS, COLUMNS, &cells, Steps::Four)?;
+    let from = board.number_of(0, 0);
+    let to = board.number_of(0, 6);
+    print_fewest_steps(&rt, &board, from, to)?;
+    print_cheapest(&rt, &board, from, to)
 }

@@ -14,19 +14,21 @@ const ROADS: [(&str, &str, u32); 7] = [
     ("Denby", "Elmore", 2),
 ];
 
-fn main(rt: HostRuntime) -> Result<(), anyhow::Error> {
-    let alloc = rt.alloc();
-    let roads = ROADS;
-    let map = EdgeList::new(alloc, &roads)?;
-    match map.dijkstra(alloc, &"Arden", &"Elmore")? {
-        Some((places, cost)) => {
-            print!(rt; "{cost}:")?;
-            for place in places {
-                print!(rt; " {place}")?;
-            }
-            rt.println("")?
-        }
-        None => rt.println("no way")?,
+/// Prints a cost, and the places on the way behind it.
+fn show(rt: &HostRuntime, cost: u32, places: &[&&str]) -> Result<(), anyhow::Error> {
+    print!(rt; "{cost}:")?;
+    for place in places {
+        print!(rt; " {place}")?;
     }
+    rt.println("")?;
     Ok(())
+}
+
+fn main(rt: HostRuntime) -> Result<(), anyhow::Error> {
+    let roads = ROADS;
+    let map = EdgeList::new(rt.alloc(), &roads)?;
+    match map.dijkstra(rt.alloc(), &"Arden", &"Elmore")? {
+        Some((places, cost)) => show(&rt, cost, &places),
+        None => Ok(rt.println("no way")?),
+    }
 }
