@@ -8,8 +8,8 @@ pub mod grid;
 mod macros;
 pub mod matrix;
 pub mod prelude;
-pub mod routes;
 pub mod undirected;
 
 pub use pf_base::{NodeRefs, cost, error, noderefs, utils};
 pub use pf_graph::kuhn_munkres;
+pub use pf_routes::routes;

@@ -4,7 +4,7 @@
 mod keyed;
 
 use crate::keyed::Keys;
-use pathfinding::routes::{Command, Noted, RouteError, command, run_with_hasher};
+use pf_routes::routes::{Command, Noted, RouteError, command, run_with_hasher};
 use std::io::{ErrorKind, Write};
 use std::process::ExitCode;
 use std::{env, io};

@@ -1,0 +1,16 @@
+-- What holds of a result or an option that is known.
+use Rattle.std.proofs.Common.{◌≡◌, Ok, Err, Result, subst, Option, Some, None}
+use Rattle.std.specs.Prelude.{IfErr, MatchOption}
+use Rattle.std.specs.Result.{IsErrAnd}
+use Rattle.pf_routes.specs.declared.routes.error.RouteError.{RouteError}
+
+-- what holds of the error
+pub refused_by : {X : Type 0} (Q P : RouteError → Type 0) (r : Result X RouteError) → ((e : RouteError) → Q e → P e) → IsErrAnd r Q → IfErr r P
+refused_by Q P (Ok x) h k = tt
+refused_by Q P (Err e) h k = h e k
+
+pub at_some : {X : Type 0} (P : Type 0) (Q : X → Type 0) (o : Option X) (x : X) → o ≡ Some x → MatchOption o P Q → Q x
+at_some P Q o x e h = subst (λ o. MatchOption o P Q) e h
+
+pub at_none : {X : Type 0} (P : Type 0) (Q : X → Type 0) (o : Option X) → o ≡ None → MatchOption o P Q → P
+at_none P Q o e h = subst (λ o. MatchOption o P Q) e h

@@ -1,0 +1,25 @@
+use Rattle.std.proofs.Common.{◌≡◌, ◌<◌, ◌==◌, false, List, [], ◌∷◌, ◌++◌, length, map, ap, ◌∙◌, arith}
+use Rattle.std.proofs.lemmas.List.{take_all}
+use Rattle.pf_routes.specs.AnswerText.{path_line}
+use Rattle.pf_routes.specs.Internal.NameTable.{name_in}
+use Rattle.pf_routes.proofs.PathText.{lines_of_paths, lines_more, lines_are_text}
+use Rattle.pf_routes.proofs.routes.path_text.write_paths.Goals as goal
+
+not_empty : {X : Type 0} (xs : List X) → false ≡ (length xs == 0) → 0 < length xs
+not_empty [] e = cc
+not_empty (x ∷ xs) e = omega arith
+
+pub loop-path-preserved : goal.loop-path-preserved
+loop-path-preserved g c =
+    let path = c.path-item.result in
+    let names = c.args.names.now in
+    let lines = c.loop-path.lines.items in
+    c.in_ok-extend_from_slice.ensures.items
+    ∙ ap (λ l. lines ++ l) (c.as_slice-in-loop-path.ensures.value ∙ c.in_ok-line.ensures ∙ ap (λ ns. path_line path.1 (map (name_in names) ns)) c.as_slice.ensures.value)
+    ∙ lines_more names lines c.args.paths.now c.loop-path.path-index path c.loop-path-test.true c.path-item.is c.loop-path.invariant
+
+pub returns : goal.returns
+returns g c =
+    let paths = c.args.paths.now in
+    lines_are_text c.args.names.now c.loop-path.lines.items paths (not_empty paths c.if-is_empty.ensures)
+    (c.loop-path.invariant ∙ ap (lines_of_paths c.args.names.now) (take_all c.loop-path.path-index paths (omega arith)))

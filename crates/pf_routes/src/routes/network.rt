@@ -1,0 +1,100 @@
+//! Edges as a graph of numbered names.
+
+ghost use Rattle.std.specs.Prelude.{IfOk, IfErr};
+ghost use Rattle.pf_routes.specs.Internal.Parsed.{HoldsOfEdges, RefusesText};
+
+use crate::routes::error::RouteError;
+use crate::routes::graph::Graph;
+use crate::routes::links::{Link, number, read_links};
+use crate::routes::name_table::NameTable;
+use indexmap::IndexSet;
+use std::alloc::Allocator;
+use std::hash::BuildHasher;
+
+/// Names, and the links between their numbers.
+#[derive(Drop)]
+pub(crate) struct Linked<A: Allocator + Copy> {
+    pub(crate) names: NameTable<A>,
+    pub(crate) links: Vec<Link, A>,
+}
+
+impl<A: Allocator + Copy> Linked<A> {
+    ghost use Rattle.pf_routes.specs.Internal.Network.{LinksEdges, NumbersEdges};
+
+    /// The edges of a text, by the numbers of their names.
+    pub(crate) fn read<S: BuildHasher + Drop>(
+        alloc: A,
+        text: &[u8],
+        hash_builder: S,
+    ) -> Result<Self, RouteError>
+        ensures ok { IfOk result (λ linked. HoldsOfEdges text.now (λ edges. LinksEdges linked edges)) }
+        ensures err { IfErr result (λ e. RefusesText e text.now) }
+    {
+        let mut names = IndexSet::with_hasher(alloc, hash_builder);
+        let links = read_links(alloc, &mut names, text)?;
+        let names = NameTable::of(alloc, names.as_slice())?;
+        Ok(Linked { names, links })
+    }
+
+    /// The same, with the numbers of two names, which are numbered first.
+    pub(crate) fn read_with_ends<S: BuildHasher + Drop>(
+        alloc: A,
+        from: &[u8],
+        to: &[u8],
+        text: &[u8],
+        hash_builder: S,
+    ) -> Result<(Self, usize, usize), RouteError>
+        ensures ok { IfOk result (λ r. HoldsOfEdges text.now (λ edges. NumbersEdges r.0 r.1 r.2 edges from.now to.now)) }
+        ensures err { IfErr result (λ e. RefusesText e text.now) }
+    {
+        let mut names = IndexSet::with_hasher(alloc, hash_builder);
+        let from = number(&mut names, from)?;
+        let to = number(&mut names, to)?;
+        let links = read_links(alloc, &mut names, text)?;
+        let names = NameTable::of(alloc, names.as_slice())?;
+        Ok((Linked { names, links }, from, to))
+    }
+}
+
+/// Names, the graph of their numbers, and the numbers of the two names that a command asks about.
+#[derive(Drop)]
+pub(crate) struct Network<A: Allocator + Copy> {
+    pub(crate) names: NameTable<A>,
+    pub(crate) graph: Graph<A>,
+    pub(crate) from: usize,
+    pub(crate) to: usize,
+}
+
+impl<A: Allocator + Copy> Network<A> {
+    ghost use Rattle.pf_routes.specs.Internal.Network.{IsNetworkOf};
+
+    /// The network of the edges of a text.
+    pub(crate) fn read<S: BuildHasher + Drop>(
+        alloc: A,
+        from: &[u8],
+        to: &[u8],
+        text: Vec<u8, A>,
+        hash_builder: S,
+    ) -> Result<Self, RouteError>
+        ensures ok { IfOk result (λ network. HoldsOfEdges text.items (λ edges. IsNetworkOf network edges from.now to.now)) }
+        ensures err { IfErr result (λ e. RefusesText e text.items) }
+    {
+        let (linked, from, to) = Linked::read_with_ends(
+            alloc,
+            from,
+            to,
+            text.as_slice(),
+            hash_builder,
+        )?;
+        // The text is given back before the graph takes its memory.
+        drop(text);
+        let Linked { names, links } = linked;
+        let graph = Graph::new(alloc, names.len(), links.as_slice())?;
+        Ok(Network {
+            names,
+            graph,
+            from,
+            to,
+        })
+    }
+}
