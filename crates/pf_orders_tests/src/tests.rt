@@ -1,4 +1,5 @@
 mod components;
 mod refusals;
+mod rows;
 mod small_graphs;
 mod topological_orders;
