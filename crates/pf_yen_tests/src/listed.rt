@@ -6,7 +6,7 @@ ghost use Rattle.pf_base.specs.Edges.{IsWeightedSearch};
 use edge_lists::edges_from;
 use pf_base::{EdgeFunction, NodeTest, PathError};
 use pf_yen::directed::yen::{YenPaths, yen, yen_paths};
-use std::alloc::{Allocator, Global};
+use std::alloc::{AllocError, Allocator, Global};
 
 /// An edge: from, to, cost.
 pub(crate) type Edge = (usize, usize, u8);
@@ -17,21 +17,20 @@ pub(crate) type Path<A> = (Vec<usize, A>, u8);
 /// The paths that calls of `next` answered, and what each call told: a cost, a refusal or `None`.
 pub(crate) type Steps<A> = (Vec<Path<A>>, Vec<Option<Result<u8, PathError>>>);
 
-/// What the first calls of `next` answer. After each `None` the walk is resumed.
-fn steps_of<IN, FN, FS, A>(
-    ample: Global,
-    mut walk: YenPaths<usize, u8, IN, FN, FS, A>,
+/// Adds what the first calls of `next` answer. After each `None` the walk is resumed.
+fn add_steps<IN, FN, FS, A>(
+    walk: &mut YenPaths<usize, u8, IN, FN, FS, A>,
     calls: usize,
-) -> Result<Steps<A>, PathError>
+    steps: &mut Steps<A>,
+) -> Result<(), AllocError>
 where
     IN: IntoIterator<Item = (usize, u8)>,
     FN: FnMut(&usize) -> IN,
     FS: FnMut(&usize) -> bool,
     A: Allocator + Copy,
-    requires { ⟦<YenPaths<usize, u8, IN, FN, FS, A> as Iterator>⟧.can_next walk }
+    requires { ⟦<YenPaths<usize, u8, IN, FN, FS, A> as Iterator>⟧.can_next walk.old }
 {
-    let mut paths = Vec::new(ample);
-    let mut told = Vec::new(ample);
+    let (paths, told) = steps;
     'calls: for _ in 0..calls {
         match walk.next() {
             Some(Ok(path)) => {
@@ -45,7 +44,25 @@ where
             }
         }
     }
-    Ok((paths, told))
+    Ok(())
+}
+
+/// What the first calls of `next` answer, with `resume` after each `None`.
+fn steps_of<IN, FN, FS, A>(
+    ample: Global,
+    walk: &mut YenPaths<usize, u8, IN, FN, FS, A>,
+    calls: usize,
+) -> Result<Steps<A>, PathError>
+where
+    IN: IntoIterator<Item = (usize, u8)>,
+    FN: FnMut(&usize) -> IN,
+    FS: FnMut(&usize) -> bool,
+    A: Allocator + Copy,
+    requires { ⟦<YenPaths<usize, u8, IN, FN, FS, A> as Iterator>⟧.can_next walk.old }
+{
+    let mut steps = (Vec::new(ample), Vec::new(ample));
+    add_steps(walk, calls, &mut steps)?;
+    Ok(steps)
 }
 
 /// What the two searches answer.
@@ -74,7 +91,7 @@ where
         × IsWeightedSearch nat_eq edges (from ∷ []) (⟦<FN as EdgeFunction<usize, u8>>⟧.answers successors) (⟦<FS as NodeTest<usize>>⟧.answers success) test }
 {
     let steps = match yen_paths(alloc, &from, successors, success) {
-        Ok(walk) => steps_of(ample, walk, calls),
+        Ok(mut walk) => steps_of(ample, &mut walk, calls),
         Err(refusal) => Err(refusal),
     };
     (steps, yen(alloc, &from, successors, success, k))

@@ -40,6 +40,23 @@ fn add_longer_ways(
     Ok(())
 }
 
+/// Puts a way with the paths, where it ends at one of two goals, and otherwise each way that is one
+/// step longer with the ways.
+fn go_on(
+    alloc: Global,
+    edges: &[Edge],
+    goals: (usize, usize),
+    way: Path<Global>,
+    paths: &mut Vec<Path<Global>>,
+    ways: &mut Vec<Path<Global>>,
+) -> Result<(), AllocError> {
+    match way.0.last().copied() {
+        Some(last) if last == goals.0 || last == goals.1 => Ok(paths.push(way)?),
+        Some(last) => add_longer_ways(alloc, edges, &way, last, ways),
+        None => Ok(()),
+    }
+}
+
 /// All clean paths from a node to one of two goals, by rising cost and then by rising number of nodes.
 pub(crate) fn clean_paths(
     alloc: Global,
@@ -47,19 +64,13 @@ pub(crate) fn clean_paths(
     from: usize,
     goals: (usize, usize),
 ) -> Result<Vec<Path<Global>>, AllocError> {
-    let mut paths = Vec::new(alloc);
     let mut ways = vec![in alloc; (vec![in alloc; from]?, 0u8)]?;
+    let mut paths = Vec::new(alloc);
     for _ in 0..10_000u32 {
         let Some(way) = ways.pop() else {
             break;
         };
-        if let Some(last) = way.0.last().copied() {
-            if last == goals.0 || last == goals.1 {
-                paths.push(way)?;
-            } else {
-                add_longer_ways(alloc, edges, &way, last, &mut ways)?;
-            }
-        }
+        go_on(alloc, edges, goals, way, &mut paths, &mut ways)?;
     }
     paths.sort_unstable_by_key(|path| (path.1, path.0.len()));
     Ok(paths)

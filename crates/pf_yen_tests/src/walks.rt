@@ -9,7 +9,6 @@ use std::alloc::Global;
 /// What the clean paths from 9 to 0 cost, in turn, where a step to the half costs 3 and one to the
 /// quarter 7.
 pub fn costs_to_zero(alloc: Global, limit: usize) -> Result<Vec<u64>, PathError> {
-    let mut costs = Vec::new(alloc);
     let walk = yen_paths(
         alloc,
         &9u64,
@@ -18,6 +17,7 @@ pub fn costs_to_zero(alloc: Global, limit: usize) -> Result<Vec<u64>, PathError>
         { [(*n / 2, 3), (*n / 4, 7)] },
         |n: &u64| *n == 0,
     )?;
+    let mut costs = Vec::new(alloc);
     for item in walk.take(limit) {
         let (_, cost) = item?;
         costs.push(cost)?;

@@ -6,7 +6,7 @@ use crate::tests::rows::FIVE_PATHS;
 use pf_base::PathError;
 use refusing_allocator::Refusing;
 use std::alloc::{Allocator, Global};
-use std::test::Fail;
+use std::process::Abort;
 
 /// How many refusals for want of memory the walk told, if it gave all paths all the same and then
 /// none, or was not made.
@@ -48,15 +48,15 @@ fn refusals(heap: &Refusing<Global>, ample: Global, all: &[Path<Global>]) -> Opt
 }
 
 #[test]
-fn searches_refuse_each_growth(rt: HostRuntime) -> Result<(), Fail> {
-    let all = clean_paths(rt.alloc(), &FIVE_PATHS, 0, (5, 5))?;
+fn searches_refuse_each_growth(rt: HostRuntime) {
+    let all = clean_paths(rt.alloc(), &FIVE_PATHS, 0, (5, 5)).expect(&rt, "memory for paths");
     for growth in 0..1_000u64 {
         let heap = Refusing::new(rt.alloc());
         heap.refuse(growth, 1);
         let told = refusals(&heap, rt.alloc(), &all);
         if heap.pending() > 0 {
             assert!(rt; growth > 40 && told == Some(0));
-            return Ok(());
+            return;
         }
         assert!(rt; told == Some(1), "growth {growth}");
     }

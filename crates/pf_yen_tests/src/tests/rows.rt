@@ -1,10 +1,10 @@
 //! The worked paths over lists of edges.
 
-use crate::listed::{Edge, search_list};
+use crate::listed::{Edge, Path, search_list};
 use crate::plain::{are_by_length, are_cheapest, clean_paths, times};
 use pf_base::PathError;
 use std::alloc::Global;
-use std::test::Fail;
+use std::process::Abort;
 
 /// A list of edges, and what is to be answered from 0.
 struct Row<'a> {
@@ -92,7 +92,7 @@ const BETWEEN: [Edge; 7] = [
 /// Two ways from 0 to 3 that cost the same.
 const EQUAL: [Edge; 4] = [(0, 1, 1), (0, 2, 1), (1, 3, 1), (2, 3, 1)];
 
-const ROWS: [Row<'static>; 12] = [
+static ROWS: [Row<'static>; 12] = [
     Row {
         edges: &FIVE_PATHS,
         goals: (5, 5),
@@ -229,33 +229,35 @@ const ROWS: [Row<'static>; 12] = [
     },
 ];
 
-/// Whether the searches answer what the row says.
-fn answers(alloc: Global, row: &Row<'_>) -> Result<bool, PathError> {
-    let all = clean_paths(alloc, row.edges, 0, row.goals)?;
-    let calls = row.told.len();
-    let (steps, gathered) = search_list(alloc, alloc, row.edges, 0, row.goals, calls, row.k);
-    let (paths, told) = steps?;
-    let gathered = gathered?;
+/// Whether these are the gathered paths of a row.
+fn are_gathered(row: &Row<'_>, gathered: &[Path<Global>], all: &[Path<Global>]) -> bool {
     for (nodes, cost) in row.paths {
-        if times(nodes, *cost, &gathered) != 1 {
-            return Ok(false);
+        if times(nodes, *cost, gathered) != 1 {
+            return false;
         }
     }
-    Ok(
-        told.as_slice() == row.told
-            && are_cheapest(&paths, &all)
-            && gathered.len() == row.count
-            && are_cheapest(&gathered, &all)
-            && are_by_length(&gathered),
-    )
+    gathered.len() == row.count && are_cheapest(gathered, all) && are_by_length(gathered)
+}
+
+/// Whether the searches answer what the row says.
+fn answers(alloc: Global, row: &Row<'_>, all: &[Path<Global>]) -> bool {
+    let calls = row.told.len();
+    match &search_list(alloc, alloc, row.edges, 0, row.goals, calls, row.k) {
+        (Ok((paths, told)), Ok(gathered)) => {
+            told.as_slice() == row.told
+                && are_cheapest(paths, all)
+                && are_gathered(row, gathered, all)
+        }
+        _ => false,
+    }
 }
 
 #[test]
-fn searches_answer_the_worked_paths(rt: HostRuntime) -> Result<(), Fail> {
+fn searches_answer_the_worked_paths(rt: HostRuntime) {
     for (number, row) in ROWS.iter().enumerate() {
-        assert!(rt; answers(rt.alloc(), row)?, "row {number}");
+        let all = clean_paths(rt.alloc(), row.edges, 0, row.goals).expect(&rt, "memory for paths");
+        assert!(rt; answers(rt.alloc(), row, &all), "row {number}");
     }
     let (_, dear) = search_list(rt.alloc(), rt.alloc(), &DEAR, 0, (1, 1), 0, 2);
     assert!(rt; matches!(dear, Err(PathError::CostOverflow)));
-    Ok(())
 }

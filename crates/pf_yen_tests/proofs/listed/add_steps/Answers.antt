@@ -1,5 +1,5 @@
-use Rattle.pf_yen_tests.proofs.listed.steps_of.Goals.{in-Some-Ok+in_ok-push-in-Some-Ok+in_ok-push-in-Some-Ok-2, in-Some-Err+in_ok-push-in-Some-Err, in-None+in_ok-push-in-None}
-use Rattle.pf_yen_tests.proofs.listed.steps_of.Goals as goal
+use Rattle.pf_yen_tests.proofs.listed.add_steps.Goals.{in-Some-Ok+in_ok-push-in-Some-Ok+in_ok-push-in-Some-Ok-2, in-Some-Err+in_ok-push-in-Some-Err, in-None+in_ok-push-in-None}
+use Rattle.pf_yen_tests.proofs.listed.add_steps.Goals as goal
 
 pub calls-preserved : goal.calls-preserved
 calls-preserved g c =
