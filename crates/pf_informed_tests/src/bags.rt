@@ -11,7 +11,7 @@ use pf_base::PathError;
 use pf_informed::directed::astar_bag::{AstarSolution, astar_bag, astar_bag_collect};
 use refusing_allocator::Refusing;
 use std::alloc::{AllocError, Allocator, Global};
-use std::test::Fail;
+use std::process::Abort;
 
 /// All cheapest clean paths from a node to one of two goals, and their cost.
 pub fn cheapest_in_list<A>(
@@ -98,8 +98,8 @@ fn are_paths<A: Allocator>(paths: &Vec<Vec<usize, A>, A>, expected: &[&[usize]])
 }
 
 /// Whether the answer has this cost and these paths.
-pub(crate) fn has_paths<A: Allocator>(answer: Found<A>, cost: u8, expected: &[&[usize]]) -> bool {
-    matches!(answer, Ok(Some((paths, found))) if found == cost && are_paths(&paths, expected))
+pub(crate) fn has_paths<A: Allocator>(answer: &Found<A>, cost: u8, expected: &[&[usize]]) -> bool {
+    matches!(answer, Ok(Some((paths, found))) if *found == cost && are_paths(paths, expected))
 }
 
 /// From 1 over 2 and 3 to the goals 4 and 7.
@@ -127,43 +127,48 @@ const FREE_CYCLE: [Edge; 6] = [
 /// The paths of that.
 const ROUND: [&[usize]; 4] = [&[0, 1, 2, 3], &[0, 1, 3], &[0, 2, 1, 3], &[0, 2, 3]];
 
+/// Edges, a node, two goals, and what the cheapest paths from that node to these cost and are.
+type Row<'a> = (&'a [Edge], usize, (usize, usize), u8, &'a [&'a [usize]]);
+
+/// The worked rows.
+static ROWS: [Row<'static>; 6] = [
+    (
+        &DIAMOND,
+        1,
+        (4, 7),
+        4,
+        &[&[1, 2, 4], &[1, 2, 5, 6, 7], &[1, 3, 4], &[1, 3, 5, 6, 7]],
+    ),
+    (
+        &[(0, 1, 0), (0, 2, 1), (1, 0, 0), (1, 2, 1)],
+        0,
+        (2, 2),
+        1,
+        &[&[0, 1, 2], &[0, 2]],
+    ),
+    (&FREE_CYCLE, 0, (3, 3), 0, &ROUND),
+    (
+        &[(0, 1, 1), (0, 2, 1), (1, 2, 0)],
+        0,
+        (1, 2),
+        1,
+        &[&[0, 1], &[0, 2]],
+    ),
+    (&[(0, 0, 0), (0, 1, 0), (1, 0, 0)], 0, (0, 0), 0, &[&[0]]),
+    (
+        &[(0, 1, 5), (0, 1, 2), (0, 1, 2), (1, 2, 3)],
+        0,
+        (2, 2),
+        5,
+        &[&[0, 1, 2]],
+    ),
+];
+
 #[test]
 fn rows_of_all_cheapest_paths(rt: HostRuntime) {
-    let rows: [(&[Edge], usize, (usize, usize), u8, &[&[usize]]); 6] = [
-        (
-            &DIAMOND,
-            1,
-            (4, 7),
-            4,
-            &[&[1, 2, 4], &[1, 2, 5, 6, 7], &[1, 3, 4], &[1, 3, 5, 6, 7]],
-        ),
-        (
-            &[(0, 1, 0), (0, 2, 1), (1, 0, 0), (1, 2, 1)],
-            0,
-            (2, 2),
-            1,
-            &[&[0, 1, 2], &[0, 2]],
-        ),
-        (&FREE_CYCLE, 0, (3, 3), 0, &ROUND),
-        (
-            &[(0, 1, 1), (0, 2, 1), (1, 2, 0)],
-            0,
-            (1, 2),
-            1,
-            &[&[0, 1], &[0, 2]],
-        ),
-        (&[(0, 0, 0), (0, 1, 0), (1, 0, 0)], 0, (0, 0), 0, &[&[0]]),
-        (
-            &[(0, 1, 5), (0, 1, 2), (0, 1, 2), (1, 2, 3)],
-            0,
-            (2, 2),
-            5,
-            &[&[0, 1, 2]],
-        ),
-    ];
-    for (edges, from, goals, cost, expected) in rows {
-        let answer = gathered_in_list(rt.alloc(), edges, &[], &[], from, goals);
-        assert!(rt; has_paths(answer, cost, expected));
+    for (edges, from, goals, cost, expected) in &ROWS {
+        let answer = gathered_in_list(rt.alloc(), edges, &[], &[], *from, *goals);
+        assert!(rt; has_paths(&answer, *cost, expected));
     }
     assert!(rt;
         matches!(
@@ -188,15 +193,15 @@ fn rungs(alloc: Global) -> Result<Vec<Edge>, AllocError> {
 /// From 0 to 30, from each number to the next one, and from one that is not 2 more than a multiple of 3
 /// to the one after that.
 #[test]
-fn a_thousand_paths_are_different(rt: HostRuntime) -> Result<(), Fail> {
-    let edges = rungs(rt.alloc())?;
+fn a_thousand_paths_are_different(rt: HostRuntime) {
+    let edges = rungs(rt.alloc()).expect(&rt, "memory for the edges");
     let mut halves = [0u8; 31];
     for node in 0..31u8 {
         halves[usize::from(node)] = (30 - node) / 2;
     }
     assert!(rt; are_bounds(&edges, &halves, 30));
-    let found = gathered_in_list(rt.alloc(), &edges, &halves, &halves, 0, (30, 30))?;
-    let Some((paths, cost)) = found else {
+    let found = gathered_in_list(rt.alloc(), &edges, &halves, &halves, 0, (30, 30));
+    let Ok(Some((paths, cost))) = found else {
         panic!(rt; "no path");
     };
     let once = paths.iter().all(|path| paths
@@ -205,13 +210,12 @@ fn a_thousand_paths_are_different(rt: HostRuntime) -> Result<(), Fail> {
         .count()
         == 1);
     assert!(rt; cost == 20 && paths.len() == 1024 && once);
-    Ok(())
 }
 
 /// The next paths, up to ten.
 fn next_paths(
     alloc: Global,
-    mut solution: AstarSolution<usize, Global>,
+    solution: &mut AstarSolution<usize, Global>,
 ) -> Result<Vec<Vec<usize>>, PathError> {
     let mut paths = Vec::new(alloc);
     for _ in 0..10u64 {
@@ -225,50 +229,51 @@ fn next_paths(
 
 /// After each number of steps a clone goes on as the original does.
 #[test]
-fn a_clone_yields_what_the_original_would(rt: HostRuntime) -> Result<(), Fail> {
+fn a_clone_yields_what_the_original_would(rt: HostRuntime) {
     for steps in 0..5usize {
-        let found = cheapest_in_list(rt.alloc(), &FREE_CYCLE, 0, (3, 3))?;
+        let answer = cheapest_in_list(rt.alloc(), &FREE_CYCLE, 0, (3, 3));
+        let found = answer.expect(&rt, "memory for the search");
         let Some((mut solution, _)) = found else {
             panic!(rt; "no path");
         };
         for _ in 0..steps {
             assert!(rt; matches!(solution.next(), Some(Ok(_))));
         }
-        let copy = next_paths(rt.alloc(), solution.clone()?)?;
-        assert!(rt; copy.len() + steps == 4);
-        assert!(rt; next_paths(rt.alloc(), solution)? == copy);
+        let mut copy = solution.clone().expect(&rt, "memory for a clone");
+        let copied = next_paths(rt.alloc(), &mut copy).expect(&rt, "memory for paths");
+        assert!(rt; copied.len() + steps == 4);
+        let rest = next_paths(rt.alloc(), &mut solution).expect(&rt, "memory for paths");
+        assert!(rt; rest == copied);
     }
-    Ok(())
 }
 
-/// The paths that an iterator gives that is resumed after each refusal, or `None` where it gives
-/// something between a refusal and `resume`.
-fn resumed(
+/// Adds the paths that an iterator gives that is resumed after each refusal, and answers whether it
+/// came to its end and gave nothing between a refusal and `resume`.
+fn add_resumed(
     ample: Global,
-    mut solution: AstarSolution<usize, &Refusing<Global>>,
-) -> Option<Vec<Vec<usize>>> {
-    let mut paths = Vec::new(ample);
+    solution: &mut AstarSolution<usize, &Refusing<Global>>,
+    paths: &mut Vec<Vec<usize>>,
+) -> Result<bool, AllocError> {
     for _ in 0..1_000u64 {
         match solution.next() {
-            Some(Ok(path)) => {
-                let copy = Vec::from_slice(ample, &path).ok()?;
-                paths.push(copy).ok()?;
-            }
+            Some(Ok(path)) => paths.push(Vec::from_slice(ample, &path)?)?,
             Some(Err(_)) => {
                 if solution.next().is_some() {
-                    return None;
+                    return Ok(false);
                 }
                 solution.resume();
             }
-            None => return Some(paths),
+            None => return Ok(true),
         }
     }
-    None
+    Ok(false)
 }
 
-/// Whether these are all cheapest paths of `FREE_CYCLE`.
-fn are_round(paths: Option<Vec<Vec<usize>>>) -> bool {
-    matches!(paths, Some(given) if are_paths(&given, &ROUND))
+/// Whether an iterator that is resumed after each refusal gives all cheapest paths of `FREE_CYCLE`.
+fn gives_round(ample: Global, mut solution: AstarSolution<usize, &Refusing<Global>>) -> bool {
+    let mut paths = Vec::new(ample);
+    let ended = add_resumed(ample, &mut solution, &mut paths);
+    matches!(ended, Ok(true)) && are_paths(&paths, &ROUND)
 }
 
 /// Whether a run under this allocator answers the only right answer, by a copy of the iterator too,
@@ -277,9 +282,7 @@ fn is_right(heap: &Refusing<Global>, ample: Global) -> Option<bool> {
     match cheapest_in_list(heap, &FREE_CYCLE, 0, (3, 3)) {
         Ok(Some((solution, cost))) => {
             let copy = solution.clone().ok()?;
-            let copied = resumed(ample, copy);
-            let paths = resumed(ample, solution);
-            Some(cost == 0 && are_round(copied) && are_round(paths))
+            Some(cost == 0 && gives_round(ample, copy) && gives_round(ample, solution))
         }
         Err(PathError::OutOfMemory) => None,
         _ => Some(false),
@@ -316,7 +319,7 @@ fn a_gathering_refuses_each_growth(rt: HostRuntime) {
         heap.refuse(growth, 1);
         let found = gathered_in_list(&heap, &FREE_CYCLE, &[], &[], 0, (3, 3));
         if heap.pending() > 0 {
-            assert!(rt; growth > 20 && has_paths(found, 0, &ROUND));
+            assert!(rt; growth > 20 && has_paths(&found, 0, &ROUND));
             return;
         }
         assert!(rt; matches!(found, Err(PathError::OutOfMemory)));

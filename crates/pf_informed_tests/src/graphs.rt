@@ -59,7 +59,7 @@ fn direct(edges: &[Edge], from: usize, to: usize) -> u8 {
 
 /// Whether the answer is the cheaper of two lists of nodes, both where they cost alike, or none where
 /// there is no way by either.
-fn is_cheaper(answer: Found<Global>, first: (&[usize], u8), second: (&[usize], u8)) -> bool {
+fn is_cheaper(answer: &Found<Global>, first: (&[usize], u8), second: (&[usize], u8)) -> bool {
     let cost = first.1.min(second.1);
     if cost >= NONE {
         matches!(answer, Ok(None))
@@ -77,38 +77,45 @@ fn is_cheaper(answer: Found<Global>, first: (&[usize], u8), second: (&[usize], u
 fn paths_to_last(alloc: Global, edges: &[Edge], estimates: &[u8], costs: &[u8]) -> bool {
     let over = direct(edges, 0, 1).saturating_add(direct(edges, 1, 2));
     let answer = gathered_in_list(alloc, edges, estimates, costs, 0, (2, 2));
-    is_cheaper(answer, (&[0, 2], direct(edges, 0, 2)), (&[0, 1, 2], over))
+    is_cheaper(&answer, (&[0, 2], direct(edges, 0, 2)), (&[0, 1, 2], over))
 }
 
 /// The same from 0 to the first of 1 and 2.
 fn paths_to_either(alloc: Global, edges: &[Edge]) -> bool {
     let answer = gathered_in_list(alloc, edges, &[], &[], 0, (1, 2));
     let (first, second) = (direct(edges, 0, 1), direct(edges, 0, 2));
-    is_cheaper(answer, (&[0, 1], first), (&[0, 2], second))
+    is_cheaper(&answer, (&[0, 1], first), (&[0, 2], second))
 }
 
-/// The three searches and all cheapest paths, under every admissible estimate up to 2.
+/// Whether the three searches and all cheapest paths are right, under every admissible estimate up to 2.
+fn agrees(alloc: Global, edges: &[Edge]) -> bool {
+    let costs = remaining(edges);
+    if !are_bounds(edges, &costs, 2) {
+        return false;
+    }
+    let cost = if costs[0] < NONE {
+        Some(costs[0])
+    } else {
+        None
+    };
+    for choice in 0..9u8 {
+        let estimates = [choice % 3, choice / 3];
+        if estimates[0] <= costs[0]
+            && estimates[1] <= costs[1]
+            && !(all_cost(alloc, edges, &estimates, &costs, (0, 2), cost)
+                && paths_to_last(alloc, edges, &estimates, &costs))
+        {
+            return false;
+        }
+    }
+    paths_to_either(alloc, edges)
+}
+
 #[test]
 fn small_graphs_agree_with_plain_programs(rt: HostRuntime) {
     for choices in 0..CHOICES * CHOICES * CHOICES * CHOICES {
         if let Some(edges) = graph_of(choices) {
-            let costs = remaining(&edges);
-            if !are_bounds(&edges, &costs, 2) {
-                panic!(rt; "no estimates");
-            }
-            let cost = if costs[0] < NONE {
-                Some(costs[0])
-            } else {
-                None
-            };
-            for choice in 0..9u8 {
-                let estimates = [choice % 3, choice / 3];
-                if estimates[0] <= costs[0] && estimates[1] <= costs[1] {
-                    assert!(rt; all_cost(rt.alloc(), &edges, &estimates, &costs, (0, 2), cost));
-                    assert!(rt; paths_to_last(rt.alloc(), &edges, &estimates, &costs));
-                }
-            }
-            assert!(rt; paths_to_either(rt.alloc(), &edges));
+            assert!(rt; agrees(rt.alloc(), &edges), "choices {choices}");
         }
     }
 }

@@ -8,7 +8,7 @@ use pf_base::PathError;
 use pf_informed::directed::idastar::idastar;
 use refusing_allocator::Refusing;
 use std::alloc::{AllocError, Allocator, Global};
-use std::test::Fail;
+use std::process::Abort;
 
 /// A cheapest path by `idastar`, with its cost.
 pub(crate) fn by_idastar<A>(
@@ -88,8 +88,8 @@ fn knight_moves(alloc: Global) -> Result<Vec<Edge>, AllocError> {
 
 /// From the field in row 1 and column 1 to that in row 4 and column 6.
 #[test]
-fn a_knight_needs_four_moves(rt: HostRuntime) -> Result<(), Fail> {
-    let moves = knight_moves(rt.alloc())?;
+fn a_knight_needs_four_moves(rt: HostRuntime) {
+    let moves = knight_moves(rt.alloc()).expect(&rt, "memory for the moves");
     let mut estimates = [0u8; 64];
     for field in 0..64u8 {
         let steps = (field / 8)
@@ -102,7 +102,6 @@ fn a_knight_needs_four_moves(rt: HostRuntime) -> Result<(), Fail> {
     }
     assert_eq!(rt; moves.len(), 336);
     assert!(rt; all_cost(rt.alloc(), &moves, &estimates, &estimates, (9, 38), Some(4)));
-    Ok(())
 }
 
 #[test]
