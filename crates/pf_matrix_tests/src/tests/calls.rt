@@ -3,6 +3,7 @@
 use super::changes::{Change, outcome_of_changes};
 use super::columns::{Column, outcome_of_columns};
 use super::copies::{Copied, outcome_of_copy};
+use super::floods::outcome_of_flood;
 use super::makers::{Maker, made};
 use super::refusals::{Outcome, outcome_of};
 use super::words::{WordCall, outcome_of_words};
@@ -24,6 +25,8 @@ pub(super) enum Call<'a> {
     Columns(Shape<'a>, &'a [Column<'a>]),
     /// A matrix is made, copied or changed whose values take memory.
     Words(WordCall, Answer<'a>),
+    /// A board is flooded.
+    Flood,
 }
 
 impl Call<'_> {
@@ -42,6 +45,7 @@ impl Call<'_> {
             Call::Change(shape, changes) => outcome_of_changes(heap, growth, *shape, changes),
             Call::Columns(shape, columns) => outcome_of_columns(heap, growth, *shape, columns),
             Call::Words(call, answer) => outcome_of_words(heap, growth, call, *answer),
+            Call::Flood => outcome_of_flood(heap, growth),
         }
     }
 }

@@ -117,152 +117,172 @@ pub(super) fn outcome_of_changes(
     Ok(Outcome::Answered)
 }
 
+/// A write or a loan outside.
+const OUTSIDE: Answer<'static> = Err(MatrixFormatError::WrongIndex);
+
+/// Changes that take memory.
+const GROWING: &[Call<'static>] = &[
+    Call::Change(SIX, &[(Change::Fill(7), Ok(Shape(2, 3, &[7; 6])))]),
+    Call::Change(
+        SIX,
+        &[(
+            Change::Extend(&[7, 8, 9]),
+            Ok(Shape(3, 3, &[1, 2, 3, 4, 5, 6, 7, 8, 9])),
+        )],
+    ),
+    Call::Change(
+        SIX,
+        &[(Change::Transpose, Ok(Shape(3, 2, &[1, 4, 2, 5, 3, 6])))],
+    ),
+    Call::Change(
+        FOUR,
+        &[
+            (
+                Change::Extend(&[5, 6]),
+                Ok(Shape(3, 2, &[1, 2, 3, 4, 5, 6])),
+            ),
+            (Change::Fill(7), Ok(Shape(3, 2, &[7; 6]))),
+        ],
+    ),
+];
+
+/// Rows that no matrix takes.
+const REFUSED_ROWS: &[(Change<'static>, Answer<'static>)] = &[
+    (Change::Extend(&[]), Err(MatrixFormatError::EmptyRow)),
+    (Change::Extend(&[1]), Err(MatrixFormatError::WrongLength)),
+];
+
+/// Changes that are refused.
+const UNFIT: &[Call<'static>] = &[
+    Call::Change(SIX, REFUSED_ROWS),
+    Call::Change(FOUR, REFUSED_ROWS),
+];
+
+/// Changes that write values.
+const WRITES: &[Call<'static>] = &[
+    Call::Change(
+        FOUR,
+        &[
+            (Change::At((0, 1), 7), Ok(Shape(2, 2, &[1, 7, 3, 4]))),
+            (
+                Change::AtReference((1, 0), 8),
+                Ok(Shape(2, 2, &[1, 7, 8, 4])),
+            ),
+            (Change::Lent((1, 1), 9), Ok(Shape(2, 2, &[1, 7, 8, 9]))),
+            (Change::Lent((2, 0), 6), OUTSIDE),
+        ],
+    ),
+    Call::Change(
+        FOUR,
+        &[
+            (Change::Lent((0, 0), 7), Ok(Shape(2, 2, &[7, 2, 3, 4]))),
+            (Change::Lent((0, 2), 6), OUTSIDE),
+            (
+                Change::AtReference((0, 1), 8),
+                Ok(Shape(2, 2, &[7, 8, 3, 4])),
+            ),
+            (Change::Reversed, Ok(Shape(2, 2, &[4, 3, 8, 7]))),
+        ],
+    ),
+    Call::Change(
+        FOUR,
+        &[
+            (Change::Values(5), Ok(Shape(2, 2, &[5, 5, 5, 5]))),
+            (Change::Item((1, 0), 6), Ok(Shape(2, 2, &[5, 5, 6, 5]))),
+            (Change::Reversed, Ok(Shape(2, 2, &[5, 6, 5, 5]))),
+        ],
+    ),
+    Call::Change(
+        SIX,
+        &[(Change::FirstColumn, Ok(Shape(2, 3, &[0, 2, 3, 0, 5, 6])))],
+    ),
+];
+
+/// Changes that move values.
+const MOVES: &[Call<'static>] = &[
+    Call::Change(
+        SIX,
+        &[(
+            Change::Swap((0, 0), (1, 2)),
+            Ok(Shape(2, 3, &[6, 2, 3, 4, 5, 1])),
+        )],
+    ),
+    Call::Change(
+        FOUR,
+        &[
+            (Change::Swap((0, 0), (1, 1)), Ok(Shape(2, 2, &[4, 2, 3, 1]))),
+            (Change::SetSlice((1, 1)), Ok(Shape(2, 2, &[4, 2, 3, 9]))),
+            (Change::At((0, 1), 9), Ok(Shape(2, 2, &[4, 9, 3, 9]))),
+        ],
+    ),
+    Call::Change(
+        SIX,
+        &[
+            (
+                Change::SetSlice((1, 2)),
+                Ok(Shape(2, 3, &[1, 2, 3, 4, 5, 9])),
+            ),
+            (
+                Change::SetSlice((2, 0)),
+                Ok(Shape(2, 3, &[1, 2, 3, 4, 5, 9])),
+            ),
+        ],
+    ),
+    Call::Change(
+        SIX,
+        &[
+            (Change::FlipLr, Ok(Shape(2, 3, &[3, 2, 1, 6, 5, 4]))),
+            (Change::FlipUd, Ok(Shape(2, 3, &[6, 5, 4, 3, 2, 1]))),
+        ],
+    ),
+];
+
+/// Changes that turn or flip a square.
+const TURNS: &[Call<'static>] = &[
+    Call::Change(
+        FOUR,
+        &[
+            (Change::Transpose, Ok(Shape(2, 2, &[1, 3, 2, 4]))),
+            (Change::FlipLr, Ok(Shape(2, 2, &[3, 1, 4, 2]))),
+            (Change::FlipUd, Ok(Shape(2, 2, &[4, 2, 3, 1]))),
+        ],
+    ),
+    Call::Change(
+        FOUR,
+        &[(Change::RotateCw(1), Ok(Shape(2, 2, &[3, 1, 4, 2])))],
+    ),
+    Call::Change(
+        FOUR,
+        &[
+            (Change::RotateCcw(1), Ok(Shape(2, 2, &[2, 4, 1, 3]))),
+            (Change::RotateCw(2), Ok(Shape(2, 2, &[3, 1, 4, 2]))),
+            (Change::RotateCw(3), Ok(Shape(2, 2, &[1, 2, 3, 4]))),
+            (Change::RotateCcw(4), Ok(Shape(2, 2, &[1, 2, 3, 4]))),
+        ],
+    ),
+];
+
 #[test]
 fn changes_refuse_each_growth(rt: HostRuntime) {
-    let calls = [
-        Call::Change(SIX, &[(Change::Fill(7), Ok(Shape(2, 3, &[7; 6])))]),
-        Call::Change(
-            SIX,
-            &[(
-                Change::Extend(&[7, 8, 9]),
-                Ok(Shape(3, 3, &[1, 2, 3, 4, 5, 6, 7, 8, 9])),
-            )],
-        ),
-        Call::Change(
-            SIX,
-            &[(Change::Transpose, Ok(Shape(3, 2, &[1, 4, 2, 5, 3, 6])))],
-        ),
-        Call::Change(
-            FOUR,
-            &[
-                (Change::Extend(&[5, 6]), Ok(Shape(3, 2, SIX.2))),
-                (Change::Fill(7), Ok(Shape(3, 2, &[7; 6]))),
-            ],
-        ),
-    ];
-    refuse_each_growth(&rt, rt.alloc(), Growths::AtLeast(1), &calls);
+    refuse_each_growth(&rt, rt.alloc(), Growths::AtLeast(1), GROWING);
 }
 
 #[test]
 fn rows_that_do_not_fit_are_refused(rt: HostRuntime) {
-    let changes = [
-        (Change::Extend(&[]), Err(MatrixFormatError::EmptyRow)),
-        (Change::Extend(&[1]), Err(MatrixFormatError::WrongLength)),
-    ];
-    let calls = [Call::Change(SIX, &changes), Call::Change(FOUR, &changes)];
-    refuse_each_growth(&rt, rt.alloc(), Growths::Exactly(0), &calls);
+    refuse_each_growth(&rt, rt.alloc(), Growths::Exactly(0), UNFIT);
 }
 
 #[test]
 fn writes_take_no_memory(rt: HostRuntime) {
-    let outside = Err(MatrixFormatError::WrongIndex);
-    let calls = [
-        Call::Change(
-            FOUR,
-            &[
-                (Change::At((0, 1), 7), Ok(Shape(2, 2, &[1, 7, 3, 4]))),
-                (
-                    Change::AtReference((1, 0), 8),
-                    Ok(Shape(2, 2, &[1, 7, 8, 4])),
-                ),
-                (Change::Lent((1, 1), 9), Ok(Shape(2, 2, &[1, 7, 8, 9]))),
-                (Change::Lent((2, 0), 6), outside),
-            ],
-        ),
-        Call::Change(
-            FOUR,
-            &[
-                (Change::Lent((0, 0), 7), Ok(Shape(2, 2, &[7, 2, 3, 4]))),
-                (Change::Lent((0, 2), 6), outside),
-                (
-                    Change::AtReference((0, 1), 8),
-                    Ok(Shape(2, 2, &[7, 8, 3, 4])),
-                ),
-                (Change::Reversed, Ok(Shape(2, 2, &[4, 3, 8, 7]))),
-            ],
-        ),
-        Call::Change(
-            FOUR,
-            &[
-                (Change::Values(5), Ok(Shape(2, 2, &[5, 5, 5, 5]))),
-                (Change::Item((1, 0), 6), Ok(Shape(2, 2, &[5, 5, 6, 5]))),
-                (Change::Reversed, Ok(Shape(2, 2, &[5, 6, 5, 5]))),
-            ],
-        ),
-        Call::Change(
-            SIX,
-            &[(Change::FirstColumn, Ok(Shape(2, 3, &[0, 2, 3, 0, 5, 6])))],
-        ),
-    ];
-    refuse_each_growth(&rt, rt.alloc(), Growths::Exactly(0), &calls);
+    refuse_each_growth(&rt, rt.alloc(), Growths::Exactly(0), WRITES);
 }
 
 #[test]
 fn moves_take_no_memory(rt: HostRuntime) {
-    let calls = [
-        Call::Change(
-            SIX,
-            &[(
-                Change::Swap((0, 0), (1, 2)),
-                Ok(Shape(2, 3, &[6, 2, 3, 4, 5, 1])),
-            )],
-        ),
-        Call::Change(
-            FOUR,
-            &[
-                (Change::Swap((0, 0), (1, 1)), Ok(Shape(2, 2, &[4, 2, 3, 1]))),
-                (Change::SetSlice((1, 1)), Ok(Shape(2, 2, &[4, 2, 3, 9]))),
-                (Change::At((0, 1), 9), Ok(Shape(2, 2, &[4, 9, 3, 9]))),
-            ],
-        ),
-        Call::Change(
-            SIX,
-            &[
-                (
-                    Change::SetSlice((1, 2)),
-                    Ok(Shape(2, 3, &[1, 2, 3, 4, 5, 9])),
-                ),
-                (
-                    Change::SetSlice((2, 0)),
-                    Ok(Shape(2, 3, &[1, 2, 3, 4, 5, 9])),
-                ),
-            ],
-        ),
-        Call::Change(
-            SIX,
-            &[
-                (Change::FlipLr, Ok(Shape(2, 3, &[3, 2, 1, 6, 5, 4]))),
-                (Change::FlipUd, Ok(Shape(2, 3, &[6, 5, 4, 3, 2, 1]))),
-            ],
-        ),
-    ];
-    refuse_each_growth(&rt, rt.alloc(), Growths::Exactly(0), &calls);
+    refuse_each_growth(&rt, rt.alloc(), Growths::Exactly(0), MOVES);
 }
 
 #[test]
 fn turns_of_a_square_take_no_memory(rt: HostRuntime) {
-    let calls = [
-        Call::Change(
-            FOUR,
-            &[
-                (Change::Transpose, Ok(Shape(2, 2, &[1, 3, 2, 4]))),
-                (Change::FlipLr, Ok(Shape(2, 2, &[3, 1, 4, 2]))),
-                (Change::FlipUd, Ok(Shape(2, 2, &[4, 2, 3, 1]))),
-            ],
-        ),
-        Call::Change(
-            FOUR,
-            &[(Change::RotateCw(1), Ok(Shape(2, 2, &[3, 1, 4, 2])))],
-        ),
-        Call::Change(
-            FOUR,
-            &[
-                (Change::RotateCcw(1), Ok(Shape(2, 2, &[2, 4, 1, 3]))),
-                (Change::RotateCw(2), Ok(Shape(2, 2, &[3, 1, 4, 2]))),
-                (Change::RotateCw(3), Ok(Shape(2, 2, &[1, 2, 3, 4]))),
-                (Change::RotateCcw(4), Ok(Shape(2, 2, &[1, 2, 3, 4]))),
-            ],
-        ),
-    ];
-    refuse_each_growth(&rt, rt.alloc(), Growths::Exactly(0), &calls);
+    refuse_each_growth(&rt, rt.alloc(), Growths::Exactly(0), TURNS);
 }

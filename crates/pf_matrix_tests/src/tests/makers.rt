@@ -2,11 +2,11 @@
 
 use super::calls::Call;
 use super::refusals::{Growths, Outcome, outcome_of, refuse_each_growth};
-use super::{FOUR, Refused, SIX, Shape, matrix_of};
+use super::{Answer, FOUR, Refused, SIX, Shape, matrix_of};
 use pf_matrix::{Matrix, MatrixFormatError, from_slices, matrix};
 use refusing_allocator::Refusing;
 use std::alloc::Global;
-use std::test::Fail;
+use std::process::Abort;
 
 /// A call that makes a matrix.
 #[derive(Clone, Copy)]
@@ -128,85 +128,105 @@ fn made_of_rows(
     }
 }
 
+/// Values or rows of another number than wanted.
+const ANOTHER_LENGTH: Answer<'static> = Err(MatrixFormatError::WrongLength);
+
+/// Rows without values.
+const EMPTY_ROW: Answer<'static> = Err(MatrixFormatError::EmptyRow);
+
+/// Makers that take memory.
+const GROWING: &[Call<'static>] = &[
+    Call::Make(Maker::Sizes(SizeMaker::Sevens), Ok(Shape(2, 3, &[7; 6]))),
+    Call::Make(
+        Maker::Sizes(SizeMaker::SquareOfSevens),
+        Ok(Shape(2, 2, &[7; 4])),
+    ),
+    Call::Make(
+        Maker::Sizes(SizeMaker::Function),
+        Ok(Shape(2, 3, &[1, 0, 0, 0, 1, 0])),
+    ),
+    Call::Make(Maker::Mapped, Ok(Shape(2, 3, &[1, 0, 1, 0, 1, 0]))),
+    Call::Make(Maker::Rows(RowMaker::Lists), Ok(FOUR)),
+    Call::Make(Maker::Rows(RowMaker::Values), Ok(FOUR)),
+    Call::Make(Maker::Rows(RowMaker::EndedValues), Ok(FOUR)),
+    Call::Make(Maker::Rows(RowMaker::Slices), Ok(FOUR)),
+    Call::Make(Maker::Rows(RowMaker::Arrays), Ok(FOUR)),
+    Call::Make(Maker::Rows(RowMaker::Uneven), ANOTHER_LENGTH),
+];
+
+/// A maker that takes memory twice.
+const LONG: &[Call<'static>] = &[Call::Make(
+    Maker::Rows(RowMaker::LongArrays),
+    Ok(Shape(2, 40, &[7; 80])),
+)];
+
+/// Makers that take no memory.
+const STILL: &[Call<'static>] = &[
+    Call::Make(Maker::Sizes(SizeMaker::Empty), Ok(Shape(0, 5, &[]))),
+    Call::Make(Maker::List(2, 2, &[1, 2, 3, 4]), Ok(FOUR)),
+    Call::Make(Maker::List(2, 2, &[1, 2, 3]), ANOTHER_LENGTH),
+    Call::Make(Maker::List(2, 0, &[]), EMPTY_ROW),
+    Call::Make(Maker::List(usize::MAX, 2, &[]), ANOTHER_LENGTH),
+    Call::Make(Maker::List(usize::MAX, 0, &[]), EMPTY_ROW),
+    Call::Make(Maker::SquareList(&[1, 2, 3, 4]), Ok(FOUR)),
+    Call::Make(Maker::SquareList(&[1, 2, 3]), ANOTHER_LENGTH),
+    Call::Make(Maker::SquareList(&[]), Ok(Shape(0, 0, &[]))),
+    Call::Make(Maker::Rows(RowMaker::Nothing), Ok(Shape(0, 0, &[]))),
+    Call::Make(Maker::Rows(RowMaker::EmptyRow), EMPTY_ROW),
+    Call::Make(Maker::Rows(RowMaker::EmptyArrays), EMPTY_ROW),
+];
+
 #[test]
 fn makers_refuse_each_growth(rt: HostRuntime) {
-    let uneven = Err(MatrixFormatError::WrongLength);
-    let calls = [
-        Call::Make(Maker::Sizes(SizeMaker::Sevens), Ok(Shape(2, 3, &[7; 6]))),
-        Call::Make(
-            Maker::Sizes(SizeMaker::SquareOfSevens),
-            Ok(Shape(2, 2, &[7; 4])),
-        ),
-        Call::Make(
-            Maker::Sizes(SizeMaker::Function),
-            Ok(Shape(2, 3, &[1, 0, 0, 0, 1, 0])),
-        ),
-        Call::Make(Maker::Mapped, Ok(Shape(2, 3, &[1, 0, 1, 0, 1, 0]))),
-        Call::Make(Maker::Rows(RowMaker::Lists), Ok(FOUR)),
-        Call::Make(Maker::Rows(RowMaker::Values), Ok(FOUR)),
-        Call::Make(Maker::Rows(RowMaker::EndedValues), Ok(FOUR)),
-        Call::Make(Maker::Rows(RowMaker::Slices), Ok(FOUR)),
-        Call::Make(Maker::Rows(RowMaker::Arrays), Ok(FOUR)),
-        Call::Make(Maker::Rows(RowMaker::Uneven), uneven),
-    ];
-    refuse_each_growth(&rt, rt.alloc(), Growths::AtLeast(1), &calls);
-    let long = Call::Make(
-        Maker::Rows(RowMaker::LongArrays),
-        Ok(Shape(2, 40, &[7; 80])),
-    );
-    refuse_each_growth(&rt, rt.alloc(), Growths::AtLeast(2), &[long]);
+    refuse_each_growth(&rt, rt.alloc(), Growths::AtLeast(1), GROWING);
+    refuse_each_growth(&rt, rt.alloc(), Growths::AtLeast(2), LONG);
 }
 
 #[test]
 fn makers_take_no_memory(rt: HostRuntime) {
-    let empty_row = Err(MatrixFormatError::EmptyRow);
-    let another_length = Err(MatrixFormatError::WrongLength);
-    let calls = [
-        Call::Make(Maker::Sizes(SizeMaker::Empty), Ok(Shape(0, 5, &[]))),
-        Call::Make(Maker::List(2, 2, FOUR.2), Ok(FOUR)),
-        Call::Make(Maker::List(2, 2, &[1, 2, 3]), another_length),
-        Call::Make(Maker::List(2, 0, &[]), empty_row),
-        Call::Make(Maker::List(usize::MAX, 2, &[]), another_length),
-        Call::Make(Maker::List(usize::MAX, 0, &[]), empty_row),
-        Call::Make(Maker::SquareList(FOUR.2), Ok(FOUR)),
-        Call::Make(Maker::SquareList(&[1, 2, 3]), another_length),
-        Call::Make(Maker::SquareList(&[]), Ok(Shape(0, 0, &[]))),
-        Call::Make(Maker::Rows(RowMaker::Nothing), Ok(Shape(0, 0, &[]))),
-        Call::Make(Maker::Rows(RowMaker::EmptyRow), empty_row),
-        Call::Make(Maker::Rows(RowMaker::EmptyArrays), empty_row),
-    ];
-    refuse_each_growth(&rt, rt.alloc(), Growths::Exactly(0), &calls);
+    refuse_each_growth(&rt, rt.alloc(), Growths::Exactly(0), STILL);
 }
 
 #[test]
-fn asks_once_a_position(rt: HostRuntime) -> Result<(), Fail> {
+fn asks_once_a_position(rt: HostRuntime) {
     for (rows, columns, positions) in [(0usize, 2usize, 0u64), (1, 1, 1), (2, 3, 6)] {
         let mut calls = 0u64;
         let m = Matrix::from_fn(rt.alloc(), rows, columns, |position: (usize, usize)| {
             calls = calls.saturating_add(1);
             position.0
-        })?;
-        assert_eq!(rt; calls, positions, "{rows} times {columns}");
-        let mut calls = 0u64;
-        let mapped = m.map(|row: usize| {
-            calls = calls.saturating_add(1);
-            row
-        })?;
-        assert_eq!(rt; calls, positions, "{rows} times {columns}, mapped");
+        })
+        .expect(&rt, "memory");
+        let mut mapped_calls = 0u64;
+        let mapped = m
+            .map(|row: usize| {
+                mapped_calls = mapped_calls.saturating_add(1);
+                row
+            })
+            .expect(&rt, "memory");
+        assert!(rt;
+            calls == positions && mapped_calls == positions,
+            "{rows} times {columns}"
+        );
         assert!(rt; mapped.rows() == rows && mapped.columns() == columns);
     }
-    Ok(())
+}
+
+/// The matrix of the rows [1, 2] and this one, as lists.
+fn made_of_lists(
+    rt: &impl Abort,
+    alloc: Global,
+    last: &[u8],
+) -> Result<Matrix<u8>, MatrixFormatError> {
+    let first = vec![in alloc; 1u8, 2].expect(rt, "memory");
+    let last = last.to_vec(alloc).expect(rt, "memory");
+    let rows = vec![in alloc; first, last].expect(rt, "memory");
+    Matrix::from_rows(alloc, rows)
 }
 
 #[test]
-fn makes_of_lists_of_rows(rt: HostRuntime) -> Result<(), Fail> {
-    for (last, answer) in [
-        ([3, 4].as_slice(), Ok(FOUR)),
-        (&[3], Err(MatrixFormatError::WrongLength)),
-    ] {
-        let rows = vec![in rt.alloc(); vec![in rt.alloc(); 1u8, 2]?, last.to_vec(rt.alloc())?]?;
-        let made = Matrix::from_rows(rt.alloc(), rows);
-        assert_eq!(rt; outcome_of(made, answer), Outcome::Answered);
+fn makes_of_lists_of_rows(rt: HostRuntime) {
+    for (last, answer) in [([3, 4].as_slice(), Ok(FOUR)), (&[3], ANOTHER_LENGTH)] {
+        let outcome = outcome_of(made_of_lists(&rt, rt.alloc(), last), answer);
+        assert!(rt; outcome == Outcome::Answered);
     }
-    Ok(())
 }

@@ -51,19 +51,16 @@ fn growths_of(rt: &impl Abort, alloc: Global, number: u64, call: &Call<'_>) -> u
     for growth in 0..1_000u64 {
         let heap = Refusing::new(alloc);
         let outcome = call.outcome(&heap, growth);
-        if heap.pending() > 0 {
-            assert_eq!(rt;
-                outcome,
-                Ok(Outcome::Answered),
-                "call {number} with no refusal"
-            );
+        let is_refused = heap.pending() == 0;
+        let wanted = if is_refused {
+            Outcome::OutOfMemory
+        } else {
+            Outcome::Answered
+        };
+        assert_eq!(rt; outcome, Ok(wanted), "call {number}, growth {growth}");
+        if !is_refused {
             return growth;
         }
-        assert_eq!(rt;
-            outcome,
-            Ok(Outcome::OutOfMemory),
-            "call {number}, growth {growth}"
-        );
     }
     panic!(rt; "every run of call {number} met a refusal")
 }

@@ -84,16 +84,18 @@ pub(super) fn outcome_of_words(
     Ok(outcome)
 }
 
+/// Calls that make words anew.
+const CLONING: &[Call<'static>] = &[
+    Call::Words(WordCall::New, Ok(Shape(1, 3, b"ccc"))),
+    Call::Words(WordCall::Copy(Copied::Clone), Ok(WORDS)),
+    Call::Words(WordCall::Copy(Copied::Slice((0, 1), (0, 2))), Ok(WORDS)),
+    Call::Words(WordCall::Copy(Copied::FlippedLr), Ok(Shape(1, 2, b"ba"))),
+    Call::Words(WordCall::Copy(Copied::Transposed), Ok(Shape(2, 1, b"ab"))),
+    Call::Words(WordCall::Fill, Ok(Shape(1, 2, b"cc"))),
+    Call::Words(WordCall::Extend, Ok(Shape(2, 2, b"abab"))),
+];
+
 #[test]
 fn clones_of_values_are_refused(rt: HostRuntime) {
-    let calls = [
-        Call::Words(WordCall::New, Ok(Shape(1, 3, b"ccc"))),
-        Call::Words(WordCall::Copy(Copied::Clone), Ok(WORDS)),
-        Call::Words(WordCall::Copy(Copied::Slice((0, 1), (0, 2))), Ok(WORDS)),
-        Call::Words(WordCall::Copy(Copied::FlippedLr), Ok(Shape(1, 2, b"ba"))),
-        Call::Words(WordCall::Copy(Copied::Transposed), Ok(Shape(2, 1, b"ab"))),
-        Call::Words(WordCall::Fill, Ok(Shape(1, 2, b"cc"))),
-        Call::Words(WordCall::Extend, Ok(Shape(2, 2, b"abab"))),
-    ];
-    refuse_each_growth(&rt, rt.alloc(), Growths::AtLeast(2), &calls);
+    refuse_each_growth(&rt, rt.alloc(), Growths::AtLeast(2), CLONING);
 }
