@@ -7,7 +7,6 @@ use pf_graph::undirected::connected_components::{
     ConnectedComponents, SetIn, connected_components,
 };
 use std::alloc::Allocator;
-use std::test::Fail;
 
 /// The sets around 1 and 4, where even numbers have the first four even ones next to them, and odd
 /// numbers the first four odd ones, and how often the function was called.
@@ -72,8 +71,7 @@ pub(crate) fn is_around_two<A: Allocator + Copy>(alloc: A) -> Result<bool, PathE
 }
 
 #[test]
-fn connects_starts_by_a_shared_node(rt: HostRuntime) -> Result<(), Fail> {
-    let sets = around_a_shared_node(rt.alloc())?;
+fn connects_starts_by_a_shared_node(rt: HostRuntime) {
+    let sets = around_a_shared_node(rt.alloc()).expect(&rt, "memory");
     assert!(rt; sets.len() == 1 && sets[0].len() == 3);
-    Ok(())
 }

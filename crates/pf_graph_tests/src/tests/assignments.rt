@@ -13,7 +13,6 @@ use refusing_allocator::Refusing;
 use std::alloc::Allocator;
 use std::cell::Cell;
 use std::process::Abort;
-use std::test::Fail;
 
 /// Which total a search is for.
 #[derive(Clone, Copy)]
@@ -42,7 +41,7 @@ fn assigned<A: Allocator + Copy>(
 /// Rows of weights, which total is asked for, what it is, and the columns where no others give it.
 type Assignment<'a> = (&'a [&'a [i32]], Best, i32, Option<&'a [usize]>);
 
-const ASSIGNMENTS: [Assignment<'static>; 18] = [
+const ASSIGNMENTS: &[Assignment<'static>] = &[
     (&[&[1]], Best::Greatest, 1, Some(&[0])),
     (&[&[1, 1], &[1, 1]], Best::Greatest, 2, None),
     (&[&[1, 2], &[1, 1]], Best::Greatest, 3, Some(&[1, 0])),
@@ -130,37 +129,33 @@ const ASSIGNMENTS: [Assignment<'static>; 18] = [
 ];
 
 #[test]
-fn finds_the_best(rt: HostRuntime) -> Result<(), Fail> {
+fn finds_the_best(rt: HostRuntime) {
     let alloc = rt.alloc();
     for (number, (rows, best, expected, chosen)) in ASSIGNMENTS.iter().enumerate() {
-        let table = from_slices(alloc, rows)?;
-        let (total, columns) = assigned(&rt, alloc, &table, *best)?;
+        let table = from_slices(alloc, rows).expect(&rt, "memory");
+        let (total, columns) = assigned(&rt, alloc, &table, *best).expect(&rt, "memory");
         assert!(rt;
-            total == *expected && columns.len() == table.rows(),
+            total == *expected
+                && columns.len() == table.rows()
+                && (chosen.is_none() || *chosen == Some(columns.as_slice())),
             "row {number}: {total}"
         );
-        assert!(rt;
-            chosen.is_none() || *chosen == Some(columns.as_slice()),
-            "row {number}"
-        );
     }
-    Ok(())
 }
 
 #[test]
-fn weights_fit_up_to_a_sixth(rt: HostRuntime) -> Result<(), Fail> {
+fn weights_fit_up_to_a_sixth(rt: HostRuntime) {
     let alloc = rt.alloc();
     for (weight, fits) in [(21i8, true), (-21, true), (22, false), (-128, false)] {
-        let table = matrix![in alloc; [weight]]?;
+        let table = matrix![in alloc; [weight]].expect(&rt, "memory");
         assert!(rt; table.rows() <= table.columns());
         let as_found = weights_fit(&table);
-        assert_eq!(rt; as_found, fits, "{weight}");
+        assert!(rt; as_found == fits, "{weight}");
         if as_found {
-            let (total, columns) = kuhn_munkres(alloc, &table)?;
+            let (total, columns) = kuhn_munkres(alloc, &table).expect(&rt, "memory");
             assert!(rt; total == weight && columns.as_slice() == [0usize].as_slice());
         }
     }
-    Ok(())
 }
 
 /// A square table of row times column, or of the negations of that. Each read of a weight is counted
@@ -245,8 +240,13 @@ fn weights_fit_where_there_are_none(rt: HostRuntime) {
     );
 }
 
+/// Whether a search found this total by these columns.
+fn is_best(found: Result<(i64, Vec<usize>), PathError>, total: i64, columns: &[usize]) -> bool {
+    matches!(found, Ok((best, chosen)) if best == total && chosen.as_slice() == columns)
+}
+
 #[test]
-fn assigns_a_table_of_ones_own(rt: HostRuntime) -> Result<(), Fail> {
+fn assigns_a_table_of_ones_own(rt: HostRuntime) {
     let alloc = rt.alloc();
     let reads = Cell::new(0u64);
     let small = Products {
@@ -255,20 +255,17 @@ fn assigns_a_table_of_ones_own(rt: HostRuntime) -> Result<(), Fail> {
         reads: &reads,
     };
     assert!(rt; weights_fit(&small));
-    let (total, columns) = kuhn_munkres(alloc, &small)?;
-    assert!(rt; total == 5 && columns.as_slice() == [0usize, 1, 2].as_slice());
-    let (total, columns) = kuhn_munkres_min(alloc, &small)?;
-    assert!(rt; total == 1 && columns.as_slice() == [2usize, 1, 0].as_slice());
-    Ok(())
+    assert!(rt; is_best(kuhn_munkres(alloc, &small), 5, &[0, 1, 2]));
+    assert!(rt; is_best(kuhn_munkres_min(alloc, &small), 1, &[2, 1, 0]));
 }
 
 #[test]
-fn lines_up_players(rt: HostRuntime) -> Result<(), Fail> {
+fn lines_up_players(rt: HostRuntime) {
     let scores = Scores {
         rows: &[[3, 1, 2], [5, 7, 1]],
         negated: false,
     };
-    let lineup = best_lineup(rt.alloc(), &scores)?;
+    let lineup = best_lineup(rt.alloc(), &scores).expect(&rt, "memory");
     assert!(rt;
         matches!(&lineup, Some((10, positions)) if positions.as_slice() == [0usize, 1].as_slice())
     );
@@ -276,12 +273,11 @@ fn lines_up_players(rt: HostRuntime) -> Result<(), Fail> {
         rows: &[[0; 3]; 4],
         negated: false,
     };
-    assert!(rt; best_lineup(rt.alloc(), &many)?.is_none());
-    Ok(())
+    assert!(rt; matches!(best_lineup(rt.alloc(), &many), Ok(None)));
 }
 
 #[test]
-fn reads_few_weights(rt: HostRuntime) -> Result<(), Fail> {
+fn reads_few_weights(rt: HostRuntime) {
     let alloc = rt.alloc();
     let reads = Cell::new(0u64);
     let large = Products {
@@ -291,17 +287,14 @@ fn reads_few_weights(rt: HostRuntime) -> Result<(), Fail> {
     };
     assert!(rt; weights_fit(&large));
     let mut tally = Tally::new();
-    let (total, columns) = kuhn_munkres_tallied(alloc, &large, &mut tally)?;
-    assert_eq!(rt; total, 4324);
-    assert_eq!(rt; columns.len(), 24);
+    let (total, columns) = kuhn_munkres_tallied(alloc, &large, &mut tally).expect(&rt, "memory");
+    assert!(rt; total == 4324 && columns.len() == 24);
     for (row, column) in columns.iter().enumerate() {
-        assert_eq!(rt; row, *column);
+        assert!(rt; row == *column);
     }
-    let (total, columns) = kuhn_munkres_min(alloc, &large)?;
-    assert_eq!(rt; total, 2024);
-    assert_eq!(rt; columns.len(), 24);
+    let (total, columns) = kuhn_munkres_min(alloc, &large).expect(&rt, "memory");
+    assert!(rt; total == 2024 && columns.len() == 24);
     assert!(rt; reads.get() <= 20_000, "{}", reads.get());
-    Ok(())
 }
 
 fn square<A: Allocator + Copy>(alloc: A) -> Result<Matrix<i32, A>, MatrixFormatError> {
@@ -325,10 +318,9 @@ pub(crate) fn is_assigned<A: Allocator + Copy>(
 }
 
 #[test]
-fn the_test_takes_no_memory(rt: HostRuntime) -> Result<(), Fail> {
+fn the_test_takes_no_memory(rt: HostRuntime) {
     let heap = Refusing::new(rt.alloc());
-    let table = square(&heap)?;
+    let table = square(&heap).expect(&rt, "memory");
     heap.refuse(0, u64::MAX);
     assert!(rt; weights_fit(&table));
-    Ok(())
 }

@@ -12,9 +12,8 @@ use pf_graph::undirected::prim::prim;
 use refusing_allocator::Refusing;
 use std::alloc::Global;
 use std::process::Abort;
-use std::test::Fail;
 
-const EDGES: [(usize, usize, u32); 5] = [(0, 1, 4), (1, 2, 1), (2, 0, 3), (3, 4, 9), (3, 3, 0)];
+const EDGES: &[(usize, usize, u32)] = &[(0, 1, 4), (1, 2, 1), (2, 0, 3), (3, 4, 9), (3, 3, 0)];
 
 /// How a call ended.
 #[derive(Clone, Copy, Debug, PartialEq, Eq)]
@@ -60,24 +59,18 @@ enum Spanning {
 fn is_spanned(heap: &Refusing<Global>, call: Spanning) -> Result<bool, PathError> {
     match call {
         Spanning::Indices => {
-            let mut chosen = kruskal_indices(heap, 5, &EDGES)?;
-            Ok(
-                chosen.next() == Some((1, 2, 1))
-                    && chosen.next() == Some((2, 0, 3))
-                    && chosen.next() == Some((3, 4, 9))
-                    && chosen.next().is_none(),
-            )
+            Ok(kruskal_indices(heap, 5, EDGES)?.eq([(1, 2, 1), (2, 0, 3), (3, 4, 9)]))
         }
         Spanning::Names => {
             let mut weights = 0u64;
-            for edge in kruskal(heap, &EDGES)? {
+            for edge in kruskal(heap, EDGES)? {
                 weights = weights.wrapping_mul(10).wrapping_add(u64::from(edge.2));
             }
             Ok(weights == 139)
         }
-        Spanning::Weight => Ok(spanning_weight(heap, &EDGES)? == 13),
+        Spanning::Weight => Ok(spanning_weight(heap, EDGES)? == 13),
         Spanning::Tree => {
-            Ok(prim(heap, &EDGES)?.as_slice() == [(&0, &2, 3), (&2, &1, 1)].as_slice())
+            Ok(prim(heap, EDGES)?.as_slice() == [(&0, &2, 3), (&2, &1, 1)].as_slice())
         }
     }
 }
@@ -156,15 +149,20 @@ fn refuse_each_growth(rt: &impl Abort, alloc: Global, number: usize, call: Call<
     panic!(rt; "every run of call {number} met a refusal")
 }
 
+/// A list of two numbers.
+fn pair(rt: &impl Abort, alloc: Global, numbers: [u32; 2]) -> Vec<u32> {
+    numbers.as_slice().to_vec(alloc).expect(rt, "memory")
+}
+
 #[test]
-fn calls_refuse_each_growth(rt: HostRuntime) -> Result<(), Fail> {
+fn calls_refuse_each_growth(rt: HostRuntime) {
     let alloc = rt.alloc();
     let groups = [
-        vec![in alloc; 1u32, 2]?,
-        vec![in alloc; 3, 4]?,
+        pair(&rt, alloc, [1, 2]),
+        pair(&rt, alloc, [3, 4]),
         Vec::new(alloc),
-        vec![in alloc; 1, 4]?,
-        vec![in alloc; 5, 5]?,
+        pair(&rt, alloc, [1, 4]),
+        pair(&rt, alloc, [5, 5]),
     ];
     let calls = [
         (Call::Span(Spanning::Indices), 2),
@@ -182,14 +180,13 @@ fn calls_refuse_each_growth(rt: HostRuntime) -> Result<(), Fail> {
         let growths = refuse_each_growth(&rt, alloc, number, *call);
         assert!(rt; growths > *fewer, "call {number} makes {growths} growths");
     }
-    Ok(())
 }
 
 #[test]
-fn a_made_iterator_takes_no_memory(rt: HostRuntime) -> Result<(), Fail> {
+fn a_made_iterator_takes_no_memory(rt: HostRuntime) {
     let heap = Refusing::new(rt.alloc());
-    let mut indices = kruskal_indices(&heap, 5, &EDGES)?;
-    let mut names = kruskal(&heap, &EDGES)?;
+    let mut indices = kruskal_indices(&heap, 5, EDGES).expect(&rt, "memory");
+    let mut names = kruskal(&heap, EDGES).expect(&rt, "memory");
     heap.refuse(0, u64::MAX);
     for weight in [1u32, 3, 9] {
         assert!(rt;
@@ -198,6 +195,5 @@ fn a_made_iterator_takes_no_memory(rt: HostRuntime) -> Result<(), Fail> {
         );
     }
     assert!(rt; indices.next().is_none() && names.next().is_none());
-    assert_eq!(rt; heap.pending(), u64::MAX);
-    Ok(())
+    assert!(rt; heap.pending() == u64::MAX);
 }
