@@ -2,7 +2,6 @@
 
 use pf_grid::{Coordinate, Grid, GridError};
 use std::alloc::Global;
-use std::test::Fail;
 
 /// The sizes of a grid, `None` where a difference does not fit, or a refusal.
 type Sizes = Result<Option<(usize, usize)>, GridError>;
@@ -16,7 +15,7 @@ fn sizes_of<T: Coordinate>(alloc: Global, points: &[(T, T)]) -> Sizes {
 }
 
 #[test]
-fn sizes_by_exact_differences(rt: HostRuntime) -> Result<(), Fail> {
+fn sizes_by_exact_differences(rt: HostRuntime) {
     let alloc = rt.alloc();
     let far = 1u128 << 64;
     let cases: [(Sizes, Sizes); 18] = [
@@ -89,40 +88,34 @@ fn sizes_by_exact_differences(rt: HostRuntime) -> Result<(), Fail> {
     for (found, want) in cases {
         assert!(rt; found == want);
     }
-    Ok(())
 }
 
 #[test]
-fn ends_of_a_type(rt: HostRuntime) -> Result<(), Fail> {
+fn ends_of_a_type(rt: HostRuntime) {
     let points = [(i8::MIN, 0), (i8::MAX, 0)];
-    let made = Grid::from_coordinates(rt.alloc(), &points)?;
-    assert!(rt; made.is_some());
-    for grid in made {
-        assert!(rt; grid.width() == 256 && grid.height() == 1);
-        assert!(rt; grid.iter().eq([(0, 0), (255, 0)]));
-    }
-    Ok(())
+    let made = Grid::from_coordinates(rt.alloc(), &points).expect(&rt, "memory");
+    let grid = made.expect(&rt, "differences that fit");
+    assert!(rt; grid.width() == 256 && grid.height() == 1);
+    assert!(rt; grid.iter().eq([(0, 0), (255, 0)]));
 }
 
 #[test]
-fn no_points(rt: HostRuntime) -> Result<(), Fail> {
+fn no_points(rt: HostRuntime) {
     let points: [(u8, u8); 0] = [];
     assert!(rt; sizes_of(rt.alloc(), &points) == Ok(Some((0, 0))));
-    Ok(())
 }
 
 #[test]
-fn points_as_text(rt: HostRuntime) -> Result<(), Fail> {
+fn points_as_text(rt: HostRuntime) {
     let alloc = rt.alloc();
     let points = [(-16, -15), (-16, -16), (-15, -16)];
-    let made: Option<Grid<Global>> = Grid::from_coordinates::<i32>(alloc, &points)?;
-    assert!(rt; made.is_some());
-    for grid in made {
-        for (reversed, want) in [(false, "▓▓\n▓░"), (true, "▓░\n▓▓")] {
-            let mut text = String::new(alloc);
-            grid.append_text(&mut text, '▓', '░', reversed)?;
-            assert!(rt; text.as_str() == want);
-        }
+    let made: Option<Grid<Global>> = Grid::from_coordinates::<i32>(alloc, &points).expect(
+        &rt, "memory",
+    );
+    let grid = made.expect(&rt, "differences that fit");
+    for (reversed, want) in [(false, "▓▓\n▓░"), (true, "▓░\n▓▓")] {
+        let mut text = String::new(alloc);
+        assert!(rt; grid.append_text(&mut text, '▓', '░', reversed).is_ok());
+        assert!(rt; text.as_str() == want);
     }
-    Ok(())
 }

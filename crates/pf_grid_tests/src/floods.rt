@@ -1,7 +1,7 @@
 //! What a flood reaches.
 
-use pf_grid::Grid;
-use std::test::Fail;
+use pf_grid::{Grid, GridError};
+use std::collections::BTreeSet;
 
 /// The vertices of the grid below, four columns wide and three rows high:
 ///
@@ -16,7 +16,7 @@ const VERTICES: [(usize, usize); 6] = [(0, 0), (1, 0), (1, 1), (3, 1), (2, 2), (
 /// reached, by columns.
 type Flood<'a> = ((usize, usize), bool, (usize, usize), &'a [(usize, usize)]);
 
-const CASES: [Flood<'static>; 8] = [
+const CASES: &[Flood<'static>] = &[
     ((0, 0), false, (9, 9), &[(0, 0), (1, 0), (1, 1)]),
     (
         (0, 0),
@@ -35,31 +35,38 @@ const CASES: [Flood<'static>; 8] = [
     ((9, 9), true, (0, 0), &[(9, 9)]),
 ];
 
+/// Whether a flood reached these positions.
+fn has_reached(
+    flood: Result<BTreeSet<(usize, usize)>, GridError>,
+    positions: &[(usize, usize)],
+) -> bool {
+    match flood {
+        Ok(reached) => reached.into_iter().eq(positions.iter().copied()),
+        Err(_) => false,
+    }
+}
+
 #[test]
-fn floods_over_vertices(rt: HostRuntime) -> Result<(), Fail> {
-    let mut grid = Grid::from_vertices(rt.alloc(), VERTICES)?;
-    for (start, diagonal, barred, want) in CASES {
+fn floods_over_vertices(rt: HostRuntime) {
+    let mut grid = Grid::from_vertices(rt.alloc(), VERTICES).expect(&rt, "memory");
+    for &(start, diagonal, barred, want) in CASES {
         if diagonal {
             grid.enable_diagonal_mode();
         } else {
             grid.disable_diagonal_mode();
         }
         let takes = |position: (usize, usize)| position != barred;
-        let breadth = grid.bfs_reachable(start, takes)?;
-        assert!(rt; breadth.into_iter().eq(want.iter().copied()));
-        let depth = grid.dfs_reachable(start, takes)?;
-        assert!(rt; depth.into_iter().eq(want.iter().copied()));
+        assert!(rt; has_reached(grid.bfs_reachable(start, takes), want));
+        assert!(rt; has_reached(grid.dfs_reachable(start, takes), want));
     }
-    Ok(())
 }
 
 #[test]
-fn floods_from_outside(rt: HostRuntime) -> Result<(), Fail> {
-    let mut grid = Grid::new(rt.alloc(), 2, 2)?;
+fn floods_from_outside(rt: HostRuntime) {
+    let mut grid = Grid::new(rt.alloc(), 2, 2).expect(&rt, "memory");
     grid.fill();
-    let reached = grid.bfs_reachable((9, 9), |_position: (usize, usize)| true)?;
-    assert!(rt; reached.into_iter().eq([(9, 9)]));
-    let all = grid.dfs_reachable((1, 1), |_position: (usize, usize)| true)?;
-    assert!(rt; all.into_iter().eq([(0, 0), (0, 1), (1, 0), (1, 1)]));
-    Ok(())
+    let always = |_position: (usize, usize)| true;
+    assert!(rt; has_reached(grid.bfs_reachable((9, 9), always), &[(9, 9)]));
+    let all = [(0, 0), (0, 1), (1, 0), (1, 1)];
+    assert!(rt; has_reached(grid.dfs_reachable((1, 1), always), &all));
 }

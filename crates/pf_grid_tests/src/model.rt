@@ -1,8 +1,8 @@
 //! Lists of calls beside a plain table of the same sizes.
 
-use pf_grid::Grid;
-use std::alloc::{AllocError, Global};
-use std::test::Fail;
+use pf_grid::{Grid, GridError};
+use std::alloc::Global;
+use std::process::Abort;
 
 const WIDTHS: [usize; 6] = [0, 1, 63, 64, 65, 130];
 
@@ -28,7 +28,8 @@ fn after(call: u64, here: bool, border: bool, was: bool) -> bool {
     }
 }
 
-fn change(grid: &mut Grid<Global>, call: u64, position: (usize, usize)) -> Result<(), Fail> {
+/// Makes the call of this number at a position.
+fn change(grid: &mut Grid<Global>, call: u64, position: (usize, usize)) -> Result<(), GridError> {
     match call {
         0..=9 => {
             grid.add_vertex(position)?;
@@ -53,44 +54,61 @@ fn change(grid: &mut Grid<Global>, call: u64, position: (usize, usize)) -> Resul
     Ok(())
 }
 
+/// A position, and whether it is a vertex.
+type Place = ((usize, usize), bool);
+
 /// All positions by rows, none of which is a vertex.
-fn empty_table(alloc: Global, width: usize) -> Result<Vec<((usize, usize), bool)>, AllocError> {
+fn empty_table(rt: &impl Abort, alloc: Global, width: usize) -> Vec<Place> {
     let mut table = Vec::new(alloc);
     for y in 0..HEIGHT {
         for x in 0..width {
-            table.push(((x, y), false))?;
+            table.push(((x, y), false)).expect(rt, "memory");
         }
     }
-    Ok(table)
+    table
+}
+
+/// Makes of each place of a table what a call makes of it.
+fn change_table(table: &mut [Place], width: usize, call: u64, position: (usize, usize)) {
+    let last = width.saturating_sub(1);
+    for (at, is_vertex) in table.iter_mut() {
+        let border = at.0 == 0 || at.1 == 0 || at.1 == HEIGHT - 1 || at.0 == last;
+        *is_vertex = after(call, *at == position, border, *is_vertex);
+    }
+}
+
+/// Whether a grid has the vertices of this table.
+fn is_as_table(grid: &Grid<Global>, table: &[Place]) -> bool {
+    let mut vertices = grid.iter();
+    let mut count = 0usize;
+    for (at, is_vertex) in table {
+        if *is_vertex {
+            if vertices.next() != Some(*at) {
+                return false;
+            }
+            count = count.saturating_add(1);
+        }
+    }
+    vertices.next().is_none()
+        && grid.vertices_len() == count
+        && grid.is_empty() == (count == 0)
+        && grid.is_full() == (count == table.len())
 }
 
 #[test]
-fn as_a_plain_table(rt: HostRuntime) -> Result<(), Fail> {
+fn as_a_plain_table(rt: HostRuntime) {
     let alloc = rt.alloc();
     let mut state = 88_172_645_463_325_252u64;
     for width in WIDTHS {
-        let mut grid = Grid::new(alloc, width, HEIGHT)?;
-        let mut table = empty_table(alloc, width)?;
-        let last = width.saturating_sub(1);
+        let mut grid = Grid::new(alloc, width, HEIGHT).expect(&rt, "memory");
+        let mut table = empty_table(&rt, alloc, width);
         for _ in 0..200u64 {
             state = next_number(state);
             let call = state % 20;
             let position = ((state >> 8) as usize % 131, (state >> 32) as usize % 6);
-            change(&mut grid, call, position)?;
-            let mut vertices: Vec<(usize, usize)> = Vec::new(alloc);
-            for (at, is_vertex) in table.iter_mut() {
-                let border = at.0 == 0 || at.1 == 0 || at.1 == HEIGHT - 1 || at.0 == last;
-                *is_vertex = after(call, *at == position, border, *is_vertex);
-                if *is_vertex {
-                    vertices.push(*at)?;
-                }
-            }
-            assert!(rt; grid.iter().eq(vertices.as_slice().iter().copied()));
-            assert!(rt;
-                grid.vertices_len() == vertices.len() && grid.is_empty() == vertices.is_empty()
-            );
-            assert!(rt; grid.is_full() == (vertices.len() == table.len()));
+            change(&mut grid, call, position).expect(&rt, "memory");
+            change_table(&mut table, width, call, position);
+            assert!(rt; is_as_table(&grid, &table));
         }
     }
-    Ok(())
 }

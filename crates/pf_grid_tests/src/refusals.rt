@@ -4,7 +4,7 @@ use pf_grid::{Grid, GridError};
 use pf_matrix::{Matrix, matrix};
 use refusing_allocator::Refusing;
 use std::alloc::Global;
-use std::test::Fail;
+use std::process::Abort;
 
 #[derive(Clone, Copy)]
 enum Call {
@@ -20,7 +20,7 @@ enum Call {
     Clone,
 }
 
-const CALLS: [Call; 10] = [
+const CALLS: &[Call] = &[
     Call::New,
     Call::FromVertices,
     Call::FromMatrix,
@@ -33,6 +33,11 @@ const CALLS: [Call; 10] = [
     Call::Clone,
 ];
 
+/// Whether a call was refused with out of memory.
+fn is_out_of_memory<T: Drop>(answer: Result<T, GridError>) -> bool {
+    matches!(answer, Err(GridError::OutOfMemory))
+}
+
 /// Makes a call, and answers whether it was refused with out of memory.
 fn is_refused<'h>(
     call: Call,
@@ -42,24 +47,16 @@ fn is_refused<'h>(
 ) -> bool {
     let always = |_position: (usize, usize)| true;
     match call {
-        Call::New => Grid::new(heap, 3, 3).err() == Some(GridError::OutOfMemory),
-        Call::FromVertices => {
-            Grid::from_vertices(heap, [(1, 2), (3, 0)]).err() == Some(GridError::OutOfMemory)
-        }
-        Call::FromMatrix => {
-            Grid::from_matrix(heap, matrix).err() == Some(GridError::OutOfMemory)
-        }
+        Call::New => is_out_of_memory(Grid::new(heap, 3, 3)),
+        Call::FromVertices => is_out_of_memory(Grid::from_vertices(heap, [(1, 2), (3, 0)])),
+        Call::FromMatrix => is_out_of_memory(Grid::from_matrix(heap, matrix)),
         Call::FromCoordinates => {
-            Grid::from_coordinates(heap, &[(-3, 2), (4, 2)]).err() == Some(GridError::OutOfMemory)
+            is_out_of_memory(Grid::from_coordinates(heap, &[(-3, 2), (4, 2)]))
         }
-        Call::Neighbours => grid.neighbours((1, 1)).err() == Some(GridError::OutOfMemory),
-        Call::BreadthFlood => {
-            grid.bfs_reachable((1, 1), always).err() == Some(GridError::OutOfMemory)
-        }
-        Call::DepthFlood => {
-            grid.dfs_reachable((2, 2), always).err() == Some(GridError::OutOfMemory)
-        }
-        Call::Resize => grid.resize(70, 2) == Err(GridError::OutOfMemory),
+        Call::Neighbours => is_out_of_memory(grid.neighbours((1, 1))),
+        Call::BreadthFlood => is_out_of_memory(grid.bfs_reachable((1, 1), always)),
+        Call::DepthFlood => is_out_of_memory(grid.dfs_reachable((2, 2), always)),
+        Call::Resize => is_out_of_memory(grid.resize(70, 2)),
         Call::Text => {
             let mut text = String::new(heap);
             grid.append_text(&mut text, '#', '.', false).is_err() && text.as_str() == ""
@@ -68,27 +65,44 @@ fn is_refused<'h>(
     }
 }
 
-#[test]
-fn each_growth_refused(rt: HostRuntime) -> Result<(), Fail> {
-    let matrix = matrix![in rt.alloc(); [true, false, true], [false, true, true]]?;
-    for call in CALLS {
-        let mut refusals = 0u64;
-        for growth in 0..100u64 {
-            let heap = Refusing::new(rt.alloc());
-            let mut grid = Grid::from_vertices(&heap, [(0, 0), (1, 1), (2, 2)])?;
-            let before = grid.clone()?;
-            heap.refuse(growth, 1);
-            let refused = is_refused(call, &heap, &mut grid, &matrix);
-            if heap.pending() > 0 {
-                break;
-            }
-            heap.refuse(0, 0);
-            assert!(rt; refused && grid == before && grid.width() == 3 && grid.height() == 3);
-            refusals = refusals.saturating_add(1);
-        }
-        assert!(rt; refusals > 0);
+/// Makes a call with this growth refused, and answers whether the growth was made. The call then has
+/// to be refused, and to leave the grid as it was.
+fn meets_refusal(
+    rt: &impl Abort,
+    alloc: Global,
+    call: Call,
+    growth: u64,
+    matrix: &Matrix<bool, Global>,
+) -> bool {
+    let heap = Refusing::new(alloc);
+    let mut grid = Grid::from_vertices(&heap, [(0, 0), (1, 1), (2, 2)]).expect(rt, "memory");
+    let before = grid.clone().expect(rt, "memory");
+    heap.refuse(growth, 1);
+    let refused = is_refused(call, &heap, &mut grid, matrix);
+    if heap.pending() > 0 {
+        return false;
     }
-    Ok(())
+    assert!(rt; refused && grid == before && grid.width() == 3 && grid.height() == 3);
+    true
+}
+
+/// How many growths a call makes.
+fn growths_of(rt: &impl Abort, alloc: Global, call: Call, matrix: &Matrix<bool, Global>) -> u64 {
+    for growth in 0..100u64 {
+        if !meets_refusal(rt, alloc, call, growth, matrix) {
+            return growth;
+        }
+    }
+    100
+}
+
+#[test]
+fn each_growth_refused(rt: HostRuntime) {
+    let alloc = rt.alloc();
+    let matrix = matrix![in alloc; [true, false, true], [false, true, true]].expect(&rt, "memory");
+    for call in CALLS {
+        assert!(rt; growths_of(&rt, alloc, *call, &matrix) > 0);
+    }
 }
 
 /// The edges between the positions around the centre of a grid of three columns and three rows, in
@@ -109,18 +123,21 @@ const AROUND_THE_CENTRE: [((usize, usize), (usize, usize)); 12] = [
 ];
 
 #[test]
-fn calls_without_memory(rt: HostRuntime) -> Result<(), Fail> {
+fn calls_without_memory(rt: HostRuntime) {
     let heap = Refusing::new(rt.alloc());
-    let mut grid = Grid::from_vertices(&heap, [(0, 0), (1, 1), (2, 2)])?;
+    let mut grid = Grid::from_vertices(&heap, [(0, 0), (1, 1), (2, 2)]).expect(&rt, "memory");
     heap.refuse(0, u64::MAX);
-    assert!(rt; grid.add_vertex((0, 1)) == Ok(true) && grid.add_vertex((0, 1)) == Ok(false));
-    assert!(rt; grid.remove_vertex((0, 1)) == Ok(true) && grid.remove_vertex((0, 1)) == Ok(false));
-    assert!(rt; grid.add_borders() == Ok(6) && grid.is_full() && !grid.fill());
-    assert!(rt; grid.remove_borders() == Ok(8) && grid.vertices_len() == 1);
+    for changed in [true, false] {
+        assert!(rt; matches!(grid.add_vertex((0, 1)), Ok(added) if added == changed));
+    }
+    for changed in [true, false] {
+        assert!(rt; matches!(grid.remove_vertex((0, 1)), Ok(removed) if removed == changed));
+    }
+    assert!(rt; matches!(grid.add_borders(), Ok(6)) && grid.is_full() && !grid.fill());
+    assert!(rt; matches!(grid.remove_borders(), Ok(8)) && grid.vertices_len() == 1);
     grid.invert();
     grid.enable_diagonal_mode();
     assert!(rt; grid.has_edge((0, 1), (1, 0)) && grid.edges().eq(AROUND_THE_CENTRE));
     assert!(rt; grid.clear() && !grid.clear() && grid.iter().next().is_none());
     assert!(rt; heap.pending() == u64::MAX);
-    Ok(())
 }
