@@ -2,9 +2,10 @@
 
 use crate::both_ends::fewest_between_in_pairs;
 use crate::tests::answers::{is_no_path, is_path};
-use crate::tests::refusals::{Outcome, refuse_each_growth};
+use crate::tests::refusals::{Call, refuse_each_growth};
 use pf_base::{NodeRefs, PathError};
-use std::alloc::Allocator;
+use refusing_allocator::Refusing;
+use std::alloc::Global;
 
 const CHAIN: [(char, char); 4] = [('a', 'b'), ('b', 'c'), ('c', 'd'), ('d', 'e')];
 
@@ -22,16 +23,6 @@ const TWO_WAYS: [(char, char); 9] = [
     ('h', 'e'),
 ];
 
-/// A path with fewest edges from these starts to these ends.
-fn path_between<A: Allocator + Copy>(
-    alloc: A,
-    edges: &[(char, char)],
-    starts: &NodeRefs<'_, char>,
-    ends: &NodeRefs<'_, char>,
-) -> Result<Option<Vec<char, A>>, PathError> {
-    fewest_between_in_pairs(alloc, edges, starts, ends)
-}
-
 #[test]
 fn a_path_leads_from_a_start_to_an_end(rt: HostRuntime) {
     let cases: [(&[(char, char)], &[char], &[char], Option<&[char]>); 6] = [
@@ -45,13 +36,9 @@ fn a_path_leads_from_a_start_to_an_end(rt: HostRuntime) {
         (&CHAIN, &['a'], &[], None),
     ];
     for (edges, from, to, want) in cases {
-        let (Ok(starts), Ok(ends)) = (
-            NodeRefs::from_nodes(rt.alloc(), from),
-            NodeRefs::from_nodes(rt.alloc(), to),
-        ) else {
-            panic!(rt; "out of memory");
-        };
-        let answer = path_between(rt.alloc(), edges, &starts, &ends);
+        let starts = NodeRefs::from_nodes(rt.alloc(), from).expect(&rt, "memory");
+        let ends = NodeRefs::from_nodes(rt.alloc(), to).expect(&rt, "memory");
+        let answer = fewest_between_in_pairs(rt.alloc(), edges, &starts, &ends);
         let holds = match want {
             Some(path) => is_path(answer, path),
             None => is_no_path(answer),
@@ -60,24 +47,15 @@ fn a_path_leads_from_a_start_to_an_end(rt: HostRuntime) {
     }
 }
 
+/// Whether a search from both ends answers the only right path.
+pub fn is_right(heap: &Refusing<Global>, ample: Global) -> Result<bool, PathError> {
+    let starts = NodeRefs::from_one(ample, &'s')?;
+    let ends = NodeRefs::from_one(ample, &'e')?;
+    let found = fewest_between_in_pairs(heap, &TWO_WAYS, &starts, &ends)?;
+    Ok(is_path(Ok(found), &['s', 'g', 'h', 'e']))
+}
+
 #[test]
 fn a_search_from_both_ends_refuses_each_growth(rt: HostRuntime) {
-    let from = 's';
-    let to = 'e';
-    let (Ok(starts), Ok(ends)) = (
-        NodeRefs::from_one(rt.alloc(), &from),
-        NodeRefs::from_one(rt.alloc(), &to),
-    ) else {
-        panic!(rt; "out of memory");
-    };
-    let growths = refuse_each_growth(&rt, rt.alloc(), |heap| {
-        match path_between(heap, &TWO_WAYS, &starts, &ends) {
-            Ok(Some(path)) if path.as_slice() == ['s', 'g', 'h', 'e'].as_slice() => {
-                Outcome::Answered
-            }
-            Err(PathError::OutOfMemory) => Outcome::OutOfMemory,
-            _ => Outcome::Wrong,
-        }
-    });
-    assert!(rt; growths > 2);
+    assert!(rt; refuse_each_growth(&rt, rt.alloc(), Call::BothEnds) > 2);
 }

@@ -42,25 +42,70 @@ pub fn rows_of(
     Ok(rows)
 }
 
+/// What the cheapest edge from one node to another costs, or `None` where there is none.
+fn edge_cost(edges: &[Edge], from: u8, to: u8) -> Option<u32> {
+    let mut least: Option<u32> = None;
+    for edge in edges {
+        if edge.0 == from && edge.1 == to {
+            least = match least {
+                Some(cost) => Some(cost.min(edge.2)),
+                None => Some(edge.2),
+            };
+        }
+    }
+    least
+}
+
 /// What a path costs where each step takes its cheapest edge, or `None` where a step has no edge.
 fn path_cost(edges: &[Edge], path: &[u8]) -> Option<u32> {
     let mut total = 0u32;
     for (from, to) in path.iter().zip(path.iter().skip(1)) {
-        let step = edges
-            .iter()
-            .filter(|edge| edge.0 == *from && edge.1 == *to)
-            .map(|edge| edge.2)
-            .min()?;
-        total = total.saturating_add(step);
+        total = total.saturating_add(edge_cost(edges, *from, *to)?);
     }
     Some(total)
 }
 
+/// Whether no node stands twice.
+fn are_distinct(nodes: &[u8]) -> bool {
+    for (place, node) in nodes.iter().enumerate() {
+        for later in nodes.iter().skip(place).skip(1) {
+            if *later == *node {
+                return false;
+            }
+        }
+    }
+    true
+}
+
 /// Whether a path leads from the node 0 to `to`, and no node stands twice.
 fn leads_to(path: &[u8], to: u8) -> bool {
-    path.first().copied() == Some(0)
-        && path.last().copied() == Some(to)
-        && path.iter().all(|node| path.iter().filter(|other| *other == node).count() < 2)
+    path.first().copied() == Some(0) && path.last().copied() == Some(to) && are_distinct(path)
+}
+
+/// Whether the answer is a path at this cost, or that there is none where this is `None`.
+fn is_cost(answer: Result<Option<(Vec<usize>, u32)>, PathError>, cost: Option<u32>) -> bool {
+    match &answer {
+        Ok(Some((_, price))) => cost == Some(*price),
+        Ok(None) => cost.is_none(),
+        Err(_) => false,
+    }
+}
+
+/// Whether the answer is a path from the node 0 to a node at this cost, which its edges cost, or that
+/// there is none where this is `None`.
+fn is_cheapest(
+    answer: Result<Option<(Vec<u8>, u32)>, PathError>,
+    edges: &[Edge],
+    to: u8,
+    least: Option<u32>,
+) -> bool {
+    match &answer {
+        Ok(Some((path, cost))) => {
+            least == Some(*cost) && leads_to(path, to) && path_cost(edges, path) == least
+        }
+        Ok(None) => least.is_none(),
+        Err(_) => false,
+    }
 }
 
 /// Whether both callers of `dijkstra` answer the least cost from the node 0 to a node, and the path
@@ -70,19 +115,32 @@ fn costs_agree(
     edges: &[Edge],
     rows: &[Vec<(usize, u32)>],
     to: u8,
-) -> Result<bool, PathError>
+) -> Result<bool, AllocError>
     requires inside { 0 < length rows.now }
     requires in_range { All (λ row. All (λ e. e.0 < length rows.now) row.items) rows.now }
 {
     let least = least_cost(alloc, rows, 0, usize::from(to))?;
-    let in_rows = cheapest_in_rows(alloc, rows, 0, usize::from(to))?.map(|found| found.1);
-    let holds = match cheapest_in_list(alloc, edges, 0, to)? {
-        None => least.is_none(),
-        Some((path, cost)) => {
-            least == Some(cost) && leads_to(&path, to) && path_cost(edges, &path) == least
+    let is_cost = is_cost(cheapest_in_rows(alloc, rows, 0, usize::from(to)), least);
+    Ok(is_cheapest(cheapest_in_list(alloc, edges, 0, to), edges, to, least) && is_cost)
+}
+
+/// Whether the answer is a path from the node 0 to a node with this number of edges, or that there is
+/// none where this is `None`.
+fn is_fewest(
+    answer: Result<Option<Vec<u8>>, PathError>,
+    edges: &[Edge],
+    to: u8,
+    least: Option<usize>,
+) -> bool {
+    match &answer {
+        Ok(Some(path)) => {
+            least == path.len().checked_sub(1)
+                && leads_to(path, to)
+                && path_cost(edges, path).is_some()
         }
-    };
-    Ok(holds && in_rows == least)
+        Ok(None) => least.is_none(),
+        Err(_) => false,
+    }
 }
 
 /// Whether `bfs` answers a path from the node 0 to a node, of the least number of edges.
@@ -96,14 +154,8 @@ fn lengths_agree(
     let least = least_edges(alloc, rows, 0, usize::from(to))?;
     let start = 0u8;
     let starts = NodeRefs::from_one(alloc, &start)?;
-    Ok(match fewest_in_pairs(alloc, pairs, &starts, &[to])? {
-        None => least.is_none(),
-        Some(path) => {
-            least == path.len().checked_sub(1)
-                && leads_to(&path, to)
-                && path_cost(edges, &path).is_some()
-        }
-    })
+    let answer = fewest_in_pairs(alloc, pairs, &starts, &[to]);
+    Ok(is_fewest(answer, edges, to, least))
 }
 
 /// Compares the answers from the node 0 to each of the nodes below `nodes`.
@@ -113,13 +165,12 @@ pub fn compare(
     nodes: u8,
     edges: &[Edge],
     rows: &[Vec<(usize, u32)>],
-) -> Result<(), PathError> {
-    let pairs = pairs_of(alloc, edges)?;
+) {
+    let pairs = pairs_of(alloc, edges).expect(rt, "memory");
     assert!(rt; rows.len() > 0 && leads_to_rows(rows));
     for to in 0..nodes {
-        let costs = costs_agree(alloc, edges, rows, to)?;
-        let lengths = lengths_agree(alloc, edges, &pairs, rows, to)?;
+        let costs = costs_agree(alloc, edges, rows, to).expect(rt, "memory");
+        let lengths = lengths_agree(alloc, edges, &pairs, rows, to).expect(rt, "memory");
         assert!(rt; costs && lengths, "{edges:?} to {to}: {costs}, {lengths}");
     }
-    Ok(())
 }

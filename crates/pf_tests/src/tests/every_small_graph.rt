@@ -7,7 +7,6 @@ use crate::plain::least_cost;
 use crate::tests::compared::{Edge, compare, rows_of};
 use std::alloc::{AllocError, Global};
 use std::process::Abort;
-use std::test::Fail;
 
 /// How many edges there are between three nodes at three costs.
 const EDGES: u32 = 27;
@@ -46,31 +45,24 @@ fn cheapest_walk(edges: &[Edge], from: u8, to: u8, steps: u32) -> Option<u32> {
 }
 
 /// Compares the least costs from the first node to each of the three with those of every walk.
-fn compare_walks(
-    rt: &impl Abort,
-    alloc: Global,
-    edges: &[Edge],
-    rows: &[Vec<(usize, u32)>],
-) -> Result<(), AllocError> {
+fn compare_walks(rt: &impl Abort, alloc: Global, edges: &[Edge], rows: &[Vec<(usize, u32)>]) {
     for to in 0..3u8 {
-        let least = least_cost(alloc, rows, 0, usize::from(to))?;
+        let least = least_cost(alloc, rows, 0, usize::from(to)).expect(rt, "memory");
         let walk = cheapest_walk(edges, 0, to, 3);
         assert!(rt; least == walk, "{edges:?} to {to}: {least:?}, {walk:?}");
     }
-    Ok(())
 }
 
 #[test]
-fn answers_agree(rt: HostRuntime) -> Result<(), Fail> {
+fn answers_agree(rt: HostRuntime) {
     let mut lists = 1u32;
     for len in 0..5usize {
         for code in 0..lists {
-            let edges = list_of(rt.alloc(), code, len)?;
-            let rows = rows_of(rt.alloc(), 3, &edges)?;
-            compare(&rt, rt.alloc(), 3, &edges, &rows)?;
-            compare_walks(&rt, rt.alloc(), &edges, &rows)?;
+            let edges = list_of(rt.alloc(), code, len).expect(&rt, "memory");
+            let rows = rows_of(rt.alloc(), 3, &edges).expect(&rt, "memory");
+            compare(&rt, rt.alloc(), 3, &edges, &rows);
+            compare_walks(&rt, rt.alloc(), &edges, &rows);
         }
         lists = lists.saturating_mul(EDGES);
     }
-    Ok(())
 }

@@ -6,11 +6,11 @@ use crate::both_ends::fewest_between_in_pairs;
 use crate::fewest::{deepened_in_pairs, fewest_in_pairs};
 use crate::no_case::NoCase;
 use crate::tests::answers::{is_no_path, is_path};
-use crate::tests::refusals::{Outcome, refuse_each_growth};
+use crate::tests::refusals::{Call, refuse_each_growth};
 use pf_base::{NodeRefs, PathError};
+use refusing_allocator::Refusing;
 use std::alloc::{AllocError, Global};
 use std::hash::Hash;
-use std::test::Fail;
 
 /// A path with fewest edges from one of these starts to one of these goals.
 fn fewest_from<N>(
@@ -57,25 +57,31 @@ fn is_way(fields: &[Field], from: Field, to: Field, count: usize) -> bool {
 }
 
 #[test]
-fn a_knight_needs_four_moves(rt: HostRuntime) -> Result<(), Fail> {
-    let moves = knight_moves(rt.alloc())?;
+fn a_knight_needs_four_moves(rt: HostRuntime) {
+    let moves = knight_moves(rt.alloc()).expect(&rt, "memory");
     let (from, to) = ((1, 1), (4, 6));
     let answer = fewest_from(rt.alloc(), &moves, &[from], &[to]);
     assert!(rt; moves.len() == 336);
     assert!(rt; matches!(&answer, Ok(Some(path)) if is_way(path, from, to, 5)));
     let answer = deepened_in_pairs(rt.alloc(), &moves, from, &[to]);
     assert!(rt; matches!(&answer, Ok(Some(path)) if is_way(path, from, to, 5)));
-    let starts = NodeRefs::from_one(rt.alloc(), &from)?;
-    let ends = NodeRefs::from_one(rt.alloc(), &to)?;
+    let starts = NodeRefs::from_one(rt.alloc(), &from).expect(&rt, "memory");
+    let ends = NodeRefs::from_one(rt.alloc(), &to).expect(&rt, "memory");
     let answer = fewest_between_in_pairs(rt.alloc(), &moves, &starts, &ends);
     assert!(rt; matches!(&answer, Ok(Some(path)) if is_way(path, from, to, 5)));
-    Ok(())
+}
+
+/// A way round, a shorter one, and a ring that leads back.
+const RINGED: [(u8, u8); 7] = [(1, 2), (2, 3), (3, 1), (3, 4), (1, 5), (5, 4), (4, 6)];
+
+/// Whether a search by depth limits that grow answers the only right path.
+pub fn is_deepened(heap: &Refusing<Global>) -> Result<bool, PathError> {
+    let found = deepened_in_pairs(heap, &RINGED, 1, &[6])?;
+    Ok(is_path(Ok(found), &[1, 5, 4, 6]))
 }
 
 #[test]
 fn paths_are_looked_through_by_length(rt: HostRuntime) {
-    // A way round, a shorter one, and a ring that leads back.
-    let edges = [(1, 2), (2, 3), (3, 1), (3, 4), (1, 5), (5, 4), (4, 6)];
     let cases: [(u8, &[u8], Option<&[u8]>); 4] = [
         (1, &[6], Some(&[1, 5, 4, 6])),
         (3, &[2, 6], Some(&[3, 1, 2])),
@@ -84,21 +90,14 @@ fn paths_are_looked_through_by_length(rt: HostRuntime) {
         (6, &[1], None),
     ];
     for (start, goals, want) in cases {
-        let answer = deepened_in_pairs(rt.alloc(), &edges, start, goals);
+        let answer = deepened_in_pairs(rt.alloc(), &RINGED, start, goals);
         let holds = match want {
             Some(path) => is_path(answer, path),
             None => is_no_path(answer),
         };
         assert!(rt; holds, "{start}: {goals:?}");
     }
-    let growths = refuse_each_growth(&rt, rt.alloc(), |heap| {
-        match deepened_in_pairs(heap, &edges, 1, &[6]) {
-            Ok(Some(path)) if path.as_slice() == [1u8, 5, 4, 6].as_slice() => Outcome::Answered,
-            Err(PathError::OutOfMemory) => Outcome::OutOfMemory,
-            _ => Outcome::Wrong,
-        }
-    });
-    assert!(rt; growths > 2);
+    assert!(rt; refuse_each_growth(&rt, rt.alloc(), Call::Deepened) > 2);
 }
 
 #[test]

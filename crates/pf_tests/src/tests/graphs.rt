@@ -2,14 +2,13 @@
 
 use crate::ring::{Ring, first_target, way_round, way_to_marked};
 use crate::tests::answers::{is_no_path, is_path, is_path_at};
-use crate::tests::refusals::{Outcome, refuse_each_growth};
+use crate::tests::refusals::{Call, refuse_each_growth};
 use pf_base::PathError;
 use pf_tables::{
     Board, CompactRows, Costless, EdgeList, EdgeListError, Rows, Steps, TableError, bfs, dijkstra,
 };
 use refusing_allocator::Refusing;
 use std::alloc::Global;
-use std::test::Fail;
 
 /// The edges from five nodes.
 const ROWS: [&[(usize, u32)]; 5] = [
@@ -26,76 +25,63 @@ fn is_refused<T: Drop>(made: Result<T, TableError>, want: TableError) -> bool {
 }
 
 #[test]
-fn searches_over_rows(rt: HostRuntime) -> Result<(), Fail> {
+fn searches_over_rows(rt: HostRuntime) {
     let alloc = rt.alloc();
     let rows = ROWS;
-    let graph = Rows::new(&rows)?;
+    let graph = Rows::new(&rows).expect(&rt, "a graph");
     assert!(rt; is_path_at(dijkstra(alloc, &graph, 0, 4), &[0, 1, 3, 4], 11));
     assert!(rt; is_path(bfs(alloc, &graph, 0, 4), &[0, 2, 4]));
-    assert!(rt; is_no_path(dijkstra(alloc, &graph, 4, 0)));
-    assert!(rt; is_no_path(bfs(alloc, &graph, 4, 0)));
-    let marks = [false, false, false, true, true];
-    assert!(rt; is_path_at(dijkstra(alloc, &graph, 0, marks.as_slice()), &[0, 1, 3], 9));
-    assert!(rt; first_target(&graph) == Some(1));
-    Ok(())
-}
-
-#[test]
-fn searches_from_and_to_numbers_that_are_no_nodes(rt: HostRuntime) -> Result<(), Fail> {
-    let alloc = rt.alloc();
-    let rows = ROWS;
-    let graph = Rows::new(&rows)?;
+    // A number that is no node is a path to itself alone.
     assert!(rt; is_path_at(dijkstra(alloc, &graph, 5, 5), &[5], 0));
     assert!(rt; is_path(bfs(alloc, &graph, 5, 5), &[5]));
-    for (from, to) in [(5, 0), (0, 5)] {
+    for (from, to) in [(4, 0), (5, 0), (0, 5)] {
         assert!(rt;
             is_no_path(dijkstra(alloc, &graph, from, to)),
             "{from} to {to}"
         );
         assert!(rt; is_no_path(bfs(alloc, &graph, from, to)), "{from} to {to}");
     }
-    Ok(())
+    let marks = [false, false, false, true, true];
+    assert!(rt; is_path_at(dijkstra(alloc, &graph, 0, marks.as_slice()), &[0, 1, 3], 9));
+    assert!(rt; first_target(&graph) == Some(1));
 }
 
 #[test]
-fn searches_over_compact_rows(rt: HostRuntime) -> Result<(), Fail> {
+fn searches_over_compact_rows(rt: HostRuntime) {
     let alloc = rt.alloc();
     let offsets = [0, 2, 4, 6, 7, 7];
     let edges = [(1, 4u32), (2, 2), (2, 1), (3, 5), (3, 8), (4, 10), (4, 2)];
-    let graph = CompactRows::new(&offsets, edges.as_slice())?;
+    let graph = CompactRows::new(&offsets, edges.as_slice()).expect(&rt, "a graph");
     assert!(rt; is_path_at(dijkstra(alloc, &graph, 0, 4), &[0, 1, 3, 4], 11));
     let targets = [1usize, 2, 2, 3, 3, 4, 4];
-    let graph = CompactRows::new(&offsets, targets.as_slice())?;
+    let graph = CompactRows::new(&offsets, targets.as_slice()).expect(&rt, "a graph");
     let marks = [false, false, false, false, true];
     assert!(rt; is_path(way_to_marked(alloc, &graph, 0, &marks), &[0, 2, 4]));
     assert!(rt; is_path_at(dijkstra(alloc, &graph, 3, 4), &[3, 4], Costless));
-    Ok(())
 }
 
 #[test]
-fn searches_over_boards_and_rings(rt: HostRuntime) -> Result<(), Fail> {
+fn searches_over_boards_and_rings(rt: HostRuntime) {
     let alloc = rt.alloc();
     let one = Some(1u32);
     let cells = [one, None, one, Some(9), one, one, one, one, one];
-    let board = Board::new(3, 3, &cells, Steps::Four)?;
+    let board = Board::new(3, 3, &cells, Steps::Four).expect(&rt, "a board");
     let to = board.number_of(0, 2);
     assert!(rt; to == 2 && board.position_of(5) == (1, 2));
     assert!(rt; is_path_at(dijkstra(alloc, &board, 0, to), &[0, 3, 4, 5, 2], 12));
     assert!(rt; is_path(bfs(alloc, &board, 0, to), &[0, 3, 4, 5, 2]));
-    let board = Board::new(3, 3, &cells, Steps::Eight)?;
+    let board = Board::new(3, 3, &cells, Steps::Eight).expect(&rt, "a board");
     assert!(rt; is_path_at(dijkstra(alloc, &board, 0, to), &[0, 4, 2], 2));
     assert!(rt; is_path_at(way_round(alloc, &Ring { nodes: 5 }, 3, 1), &[3, 4, 0, 1], 3));
-    Ok(())
 }
 
 #[test]
-fn a_sum_that_does_not_fit(rt: HostRuntime) -> Result<(), Fail> {
+fn a_sum_that_does_not_fit(rt: HostRuntime) {
     let alloc = rt.alloc();
     let rows: [&[(usize, u8)]; 3] = [&[(1, 200)], &[(2, 100)], &[]];
-    let graph = Rows::new(&rows)?;
+    let graph = Rows::new(&rows).expect(&rt, "a graph");
     assert!(rt; is_path_at(dijkstra(alloc, &graph, 0, 1), &[0, 1], 200));
     assert!(rt; matches!(dijkstra(alloc, &graph, 0, 2), Err(PathError::CostOverflow)));
-    Ok(())
 }
 
 #[test]
@@ -141,32 +127,20 @@ fn makers_name_the_first_fault(rt: HostRuntime) {
     }
 }
 
-/// How a search ended, whether or not it answered as it does with ample memory.
-fn outcome_of(is_right: Result<bool, PathError>) -> Outcome {
-    match is_right {
-        Ok(true) => Outcome::Answered,
-        Err(PathError::OutOfMemory) => Outcome::OutOfMemory,
-        _ => Outcome::Wrong,
-    }
-}
-
 /// Whether the searches answer the only right paths.
-fn is_right(
-    heap: &Refusing<Global>,
-    graph: &Rows<'_, &[(usize, u32)], u32>,
-) -> Result<bool, PathError> {
-    let cheapest = dijkstra(heap, graph, 0, 4)?;
-    let fewest = bfs(heap, graph, 0, 4)?;
+pub fn is_right(heap: &Refusing<Global>) -> Result<bool, PathError> {
+    let rows = ROWS;
+    let Ok(graph) = Rows::new(&rows) else {
+        return Ok(false);
+    };
+    let cheapest = dijkstra(heap, &graph, 0, 4)?;
+    let fewest = bfs(heap, &graph, 0, 4)?;
     Ok(is_path_at(Ok(cheapest), &[0, 1, 3, 4], 11) && is_path(Ok(fewest), &[0, 2, 4]))
 }
 
 #[test]
-fn searches_refuse_each_growth(rt: HostRuntime) -> Result<(), Fail> {
-    let rows = ROWS;
-    let graph = Rows::new(&rows)?;
-    let growths = refuse_each_growth(&rt, rt.alloc(), |heap| outcome_of(is_right(heap, &graph)));
-    assert!(rt; growths > 6);
-    Ok(())
+fn searches_refuse_each_growth(rt: HostRuntime) {
+    assert!(rt; refuse_each_growth(&rt, rt.alloc(), Call::Tables) > 6);
 }
 
 /// The edges between five letters, which are those of `ROWS`.
@@ -181,11 +155,9 @@ const EDGES: [(char, char, u32); 7] = [
 ];
 
 /// Whether an edge list is made, has the only right path from a to e, and tells names.
-fn is_right_by_names(
-    heap: &Refusing<Global>,
-    edges: &[(char, char, u32)],
-) -> Result<bool, PathError> {
-    let list = match EdgeList::new(heap, edges) {
+pub fn is_right_by_names(heap: &Refusing<Global>) -> Result<bool, PathError> {
+    let edges = EDGES;
+    let list = match EdgeList::new(heap, &edges) {
         Ok(list) => list,
         Err(EdgeListError::OutOfMemory) => return Err(PathError::OutOfMemory),
         Err(_) => return Ok(false),
@@ -202,19 +174,13 @@ fn is_right_by_names(
 }
 
 #[test]
-fn edge_lists(rt: HostRuntime) -> Result<(), Fail> {
+fn edge_lists(rt: HostRuntime) {
+    assert!(rt; refuse_each_growth(&rt, rt.alloc(), Call::EdgeList) > 6);
     let edges = EDGES;
-    let growths = refuse_each_growth(
-        &rt,
-        rt.alloc(),
-        |heap| outcome_of(is_right_by_names(heap, &edges)),
-    );
-    assert!(rt; growths > 6);
-    let list = EdgeList::new(rt.alloc(), &edges)?;
+    let list = EdgeList::new(rt.alloc(), &edges).expect(&rt, "memory");
     assert!(rt; list.number_of(&'f').is_none());
     assert!(rt; list.len() > 3 && *list.name_of(3) == 'd');
     let negative = [('a', 'b', 1i16), ('b', 'a', -1)];
     let refused = EdgeList::new(rt.alloc(), &negative);
     assert!(rt; matches!(refused, Err(EdgeListError::NegativeCost { edge: 1 })));
-    Ok(())
 }

@@ -2,21 +2,13 @@
 
 use crate::loops::loop_in_pairs;
 use crate::tests::answers::{is_no_path, is_path};
-use crate::tests::refusals::{Outcome, refuse_each_growth};
+use crate::tests::refusals::{Call, refuse_each_growth};
 use pf_base::{NodeRefs, PathError};
-use std::alloc::Allocator;
+use refusing_allocator::Refusing;
+use std::alloc::Global;
 
 /// The edges of the graph in which 8 and 9 follow each other, 7 leads to both, and both lead to 7.
 const NEIGHBOURS: [(u8, u8); 5] = [(7, 8), (7, 9), (8, 7), (8, 9), (9, 7)];
-
-/// A loop with fewest edges from one of these starts.
-fn loop_from<A: Allocator + Copy>(
-    alloc: A,
-    edges: &[(u8, u8)],
-    starts: &NodeRefs<'_, u8>,
-) -> Result<Option<Vec<u8, A>>, PathError> {
-    loop_in_pairs(alloc, edges, starts)
-}
 
 #[test]
 fn the_shortest_way_back_is_taken(rt: HostRuntime) {
@@ -33,10 +25,8 @@ fn the_shortest_way_back_is_taken(rt: HostRuntime) {
         (&NEIGHBOURS, &[], None),
     ];
     for (edges, nodes, want) in cases {
-        let Ok(starts) = NodeRefs::from_nodes(rt.alloc(), nodes) else {
-            panic!(rt; "out of memory");
-        };
-        let answer = loop_from(rt.alloc(), edges, &starts);
+        let starts = NodeRefs::from_nodes(rt.alloc(), nodes).expect(&rt, "memory");
+        let answer = loop_in_pairs(rt.alloc(), edges, &starts);
         let holds = match want {
             Some(path) => is_path(answer, path),
             None => is_no_path(answer),
@@ -45,18 +35,14 @@ fn the_shortest_way_back_is_taken(rt: HostRuntime) {
     }
 }
 
+/// Whether the only right loop is answered.
+pub fn is_right(heap: &Refusing<Global>, ample: Global) -> Result<bool, PathError> {
+    let starts = NodeRefs::from_one(ample, &8u8)?;
+    let found = loop_in_pairs(heap, &NEIGHBOURS, &starts)?;
+    Ok(is_path(Ok(found), &[8, 7, 8]))
+}
+
 #[test]
 fn a_loop_refuses_each_growth(rt: HostRuntime) {
-    let node = 8u8;
-    let Ok(starts) = NodeRefs::from_one(rt.alloc(), &node) else {
-        panic!(rt; "out of memory");
-    };
-    let growths = refuse_each_growth(&rt, rt.alloc(), |heap| {
-        match loop_from(heap, &NEIGHBOURS, &starts) {
-            Ok(Some(path)) if path.as_slice() == [8, 7, 8].as_slice() => Outcome::Answered,
-            Err(PathError::OutOfMemory) => Outcome::OutOfMemory,
-            _ => Outcome::Wrong,
-        }
-    });
-    assert!(rt; growths > 2);
+    assert!(rt; refuse_each_growth(&rt, rt.alloc(), Call::Loop) > 2);
 }

@@ -9,7 +9,6 @@ use crate::no_case::NoCase;
 use pf_base::{NodeRefs, PathError};
 use std::alloc::Allocator;
 use std::hash::Hash;
-use std::test::Fail;
 
 /// Clones of the nodes, in the order of the set.
 fn clones_of<N, A>(alloc: A, starts: &NodeRefs<'_, N, A>) -> Result<Vec<N, A>, PathError>
@@ -65,25 +64,6 @@ fn product_of(nodes: NodeRefs<'_, u32>) -> (u32, bool) {
     (product, all.next().is_none())
 }
 
-/// Whether a set of no nodes has none, by each call that tells it.
-fn is_empty_without_nodes<A>(alloc: A) -> Result<bool, PathError>
-where
-    A: Allocator + Copy,
-{
-    let none = set_of(alloc, &[0u32; 0])?;
-    Ok(none.is_empty() && none.len() == 0 && none.iter().next().is_none())
-}
-
-/// What `==` and `!=` answer about the sets of two lists of nodes.
-fn compared<A>(alloc: A, left: &[u32], right: &[u32]) -> Result<(bool, bool), PathError>
-where
-    A: Allocator + Copy,
-{
-    let left = set_of(alloc, left)?;
-    let right = set_of(alloc, right)?;
-    Ok((left == right, left != right))
-}
-
 /// Whether a clone of the set of these nodes is equal to that set, and gives as many.
 pub fn is_cloned<A>(alloc: A, nodes: &[u32]) -> Result<bool, PathError>
 where
@@ -91,52 +71,54 @@ where
 {
     let set = set_of(alloc, nodes)?;
     let copy = set.clone()?;
-    Ok(copy == set && count_of(copy) == nodes.len())
+    let is_equal = copy == set;
+    Ok(count_of(copy) == nodes.len() && is_equal)
 }
 
 #[test]
-fn equal_nodes_are_one(rt: HostRuntime) -> Result<(), Fail> {
+fn equal_nodes_are_one(rt: HostRuntime) {
     let letters = [NoCase { name: "A" }, NoCase { name: "a" }];
-    let nodes = NodeRefs::from_nodes(rt.alloc(), &letters)?;
-    let one = NodeRefs::from_one(rt.alloc(), &letters[1])?;
+    let nodes = NodeRefs::from_nodes(rt.alloc(), &letters).expect(&rt, "memory");
+    let one = NodeRefs::from_one(rt.alloc(), &letters[1]).expect(&rt, "memory");
     assert!(rt; nodes.len() == 1 && nodes == one);
     for (name, is_node) in [("A", true), ("a", true), ("b", false)] {
         assert!(rt; nodes.contains(&NoCase { name }) == is_node, "{name}");
     }
-    Ok(())
 }
 
 #[test]
-fn sets_of_one_and_of_no_node(rt: HostRuntime) -> Result<(), Fail> {
-    let one = NodeRefs::from_one(rt.alloc(), &7u32)?;
+fn sets_of_one_and_of_no_node(rt: HostRuntime) {
+    let one = NodeRefs::from_one(rt.alloc(), &7u32).expect(&rt, "memory");
     assert!(rt; !one.is_empty() && one.len() == 1 && one.contains(&7) && !one.contains(&8));
-    let text = format!(in rt.alloc(); "{one:?}")?;
+    let text = format!(in rt.alloc(); "{one:?}").expect(&rt, "memory");
     assert_eq!(rt; text.as_str(), "{7}");
-    assert!(rt; is_empty_without_nodes(rt.alloc())?);
-    Ok(())
+    let none = set_of(rt.alloc(), &[0u32; 0]).expect(&rt, "memory");
+    assert!(rt; none.is_empty() && none.len() == 0 && none.iter().next().is_none());
 }
 
 #[test]
-fn gives_each_node_once(rt: HostRuntime) -> Result<(), Fail> {
-    let nodes = set_of(rt.alloc(), &[3u32, 1, 3, 2, 1])?;
-    let mut clones = clones_of(rt.alloc(), &nodes)?;
-    clones.sort()?;
+fn gives_each_node_once(rt: HostRuntime) {
+    let nodes = set_of(rt.alloc(), &[3u32, 1, 3, 2, 1]).expect(&rt, "memory");
+    let mut clones = clones_of(rt.alloc(), &nodes).expect(&rt, "memory");
+    clones.sort().expect(&rt, "memory");
     assert!(rt; nodes.len() == 3 && clones.as_slice() == [1, 2, 3].as_slice());
     assert!(rt; sum_of(&nodes) == 6 && product_of(nodes) == (6, true));
-    Ok(())
 }
 
 #[test]
-fn equal_sets_may_differ_in_order(rt: HostRuntime) -> Result<(), Fail> {
+fn equal_sets_may_differ_in_order(rt: HostRuntime) {
     let cases: [(&[u32], &[u32], bool); 3] = [
         (&[1, 2, 3], &[3, 2, 1, 2], true),
         (&[1, 2, 3], &[1, 2], false),
         (&[1, 2], &[1, 2, 3], false),
     ];
     for (left, right, equal) in cases {
-        let answers = compared(rt.alloc(), left, right)?;
-        assert!(rt; answers == (equal, !equal), "{left:?}, {right:?}");
+        let first = set_of(rt.alloc(), left).expect(&rt, "memory");
+        let second = set_of(rt.alloc(), right).expect(&rt, "memory");
+        assert!(rt;
+            (first == second) == equal && (first != second) != equal,
+            "{left:?}, {right:?}"
+        );
     }
-    assert!(rt; is_cloned(rt.alloc(), &[1, 2, 3])?);
-    Ok(())
+    assert!(rt; matches!(is_cloned(rt.alloc(), &[1, 2, 3]), Ok(true)));
 }

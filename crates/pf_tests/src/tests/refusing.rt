@@ -1,9 +1,9 @@
 //! Which requests the allocator for tests refuses.
 
-use crate::tests::refusals::{Outcome, numbers_below, refuse_each_growth};
+use crate::tests::refusals::{Call, numbers_below, refuse_each_growth};
+use pf_base::PathError;
 use refusing_allocator::Refusing;
 use std::alloc::Global;
-use std::test::Fail;
 
 /// Whether the allocator grants a request.
 fn grants(heap: &Refusing<Global>) -> bool {
@@ -60,34 +60,30 @@ fn refuses_every_request_until_told_otherwise(rt: HostRuntime) {
     assert!(rt; grants(&heap));
 }
 
+/// Whether a box keeps its contents while a vector grows.
+pub fn is_kept(heap: &Refusing<Global>) -> Result<bool, PathError> {
+    let kept = Box::new(heap, 7u64)?;
+    let answer = numbers_below(heap, 100);
+    if *kept != 7 {
+        return Ok(false);
+    }
+    let numbers = answer?;
+    Ok(numbers.iter().copied().eq(0..100))
+}
+
 /// What was granted before a refusal keeps its contents, and goes back to the inner allocator.
 #[test]
 fn a_refused_growth_leaves_the_rest_as_it_was(rt: HostRuntime) {
-    let growths = refuse_each_growth(&rt, rt.alloc(), |heap| {
-        let Ok(kept) = Box::new(heap, 7u64) else {
-            return Outcome::OutOfMemory;
-        };
-        let answer = numbers_below(heap, 100);
-        if *kept != 7 {
-            return Outcome::Wrong;
-        }
-        match answer {
-            Ok(numbers) if numbers.iter().copied().eq(0..100) => Outcome::Answered,
-            Ok(_) => Outcome::Wrong,
-            Err(_) => Outcome::OutOfMemory,
-        }
-    });
-    assert!(rt; growths > 2);
+    assert!(rt; refuse_each_growth(&rt, rt.alloc(), Call::Growing) > 2);
 }
 
 /// A `shrink_to_fit` that is refused says nothing, and leaves the vector as it was.
 #[test]
-fn a_refused_shrink_is_silent(rt: HostRuntime) -> Result<(), Fail> {
+fn a_refused_shrink_is_silent(rt: HostRuntime) {
     let heap = Refusing::new(rt.alloc());
-    let mut items = Vec::with_capacity(&heap, 10)?;
-    items.push(1u8)?;
+    let mut items = Vec::with_capacity(&heap, 10).expect(&rt, "memory");
+    items.push(1u8).expect(&rt, "memory");
     heap.refuse(0, 1);
     items.shrink_to_fit();
     assert!(rt; heap.pending() == 0 && items.capacity() == 10);
-    Ok(())
 }
