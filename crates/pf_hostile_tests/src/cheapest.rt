@@ -62,15 +62,6 @@ pub const COST_CALLS: [CostCall; 10] = [
 /// A path with its cost, if there is one.
 pub type Found<N, C> = Result<Option<(Vec<N>, C)>, PathError>;
 
-/// Whether the answer is this path at this cost.
-pub fn is_path_at<N, C>(found: Found<N, C>, path: &[N], cost: C) -> bool
-where
-    N: PartialEq + Copy,
-    C: PartialEq + Copy,
-{
-    matches!(found, Ok(Some((nodes, price))) if nodes.as_slice() == path && price == cost)
-}
-
 /// How many steps of a walk are gone at most.
 const LIMIT: usize = 2_000_000;
 
@@ -107,7 +98,10 @@ where
         }
     }
     path.reverse();
-    Ok(cost.map(|cost| (path, cost)))
+    match cost {
+        Some(cost) => Ok(Some((path, cost))),
+        None => Ok(None),
+    }
 }
 
 /// The path by `dijkstra_all`.

@@ -64,11 +64,6 @@ pub const COMPONENT_CALLS: [PlainCall; 3] = [
 /// such path or order.
 pub type Lists<N> = Result<Vec<Vec<N>>, PathError>;
 
-/// Whether there is a path, and it is this one.
-pub fn is_path<N: PartialEq + Copy>(found: Option<Vec<N>>, path: &[N]) -> bool {
-    matches!(found, Some(nodes) if nodes.as_slice() == path)
-}
-
 /// How many steps of a walk are gone at most.
 const LIMIT: usize = 2_000_000;
 

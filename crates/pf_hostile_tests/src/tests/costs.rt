@@ -4,7 +4,7 @@ use crate::cheapest::{COST_CALLS, CostCall, Found};
 use crate::listed::{cheapest_between_in_list, cheapest_in_list};
 use crate::minutes::Minutes;
 use pf_base::{Cost, PathError};
-use pf_flow::edmonds_karp::{edmonds_karp_dense, edmonds_karp_sparse};
+use pf_flow::edmonds_karp::{EKFlows, edmonds_karp_dense, edmonds_karp_sparse};
 use std::alloc::Global;
 
 /// An edge between letters.
@@ -13,16 +13,18 @@ type Edge<C> = (char, char, C);
 /// The two paths from s to t.
 const PATHS: [&[char]; 2] = [&['s', 't'], &['s', 'a', 't']];
 
+/// Whether the answer is this path at this cost.
+fn is_path_at<C: Cost>(found: &Found<char, C>, path: &[char], cost: C) -> bool {
+    matches!(found, Ok(Some((nodes, price))) if nodes.as_slice() == path && *price == cost)
+}
+
 /// Whether the answer is one of the two paths at this cost, or is that costs do not fit, where there
 /// is none.
 fn is_wanted<C: Cost>(found: Found<char, C>, cost: Option<C>) -> bool {
-    let paths = PATHS;
-    match (found, cost) {
-        (Ok(Some((path, price))), Some(cost)) => {
-            price == cost && paths.iter().any(|known| path.as_slice() == *known)
-        }
-        (Err(PathError::CostOverflow), None) => true,
-        _ => false,
+    let [short, long] = PATHS;
+    match cost {
+        Some(cost) => is_path_at(&found, short, cost) || is_path_at(&found, long, cost),
+        None => matches!(found, Err(PathError::CostOverflow)),
     }
 }
 
@@ -122,20 +124,23 @@ fn costs_of_a_type_of_ones_own(rt: HostRuntime) {
     }
 }
 
+/// Whether the answer is a flow of 27 where the capacities fit, and is else that they do not.
+fn is_flow_of_27(answer: Result<EKFlows<char, i8>, PathError>, fits: bool) -> bool {
+    match &answer {
+        Ok((_, total, _)) => fits && *total == 27,
+        Err(refusal) => !fits && *refusal == PathError::CostOverflow,
+    }
+}
+
 #[test]
 fn capacities(rt: HostRuntime) {
     // All capacities together come to 127, and then to 128.
     for (capacity, fits) in [(27i8, true), (28, false)] {
         let pipes = [(('s', 'a'), 100), (('a', 't'), capacity)];
         let vertices = ['s', 'a', 't'];
-        for answer in [
-            edmonds_karp_dense(rt.alloc(), &vertices, &'s', &'t', pipes),
-            edmonds_karp_sparse(rt.alloc(), &vertices, &'s', &'t', pipes),
-        ] {
-            match answer {
-                Ok((_, total, _)) => assert!(rt; fits && total == 27),
-                Err(refusal) => assert!(rt; !fits && refusal == PathError::CostOverflow),
-            }
-        }
+        let dense = edmonds_karp_dense(rt.alloc(), &vertices, &'s', &'t', pipes);
+        assert!(rt; is_flow_of_27(dense, fits));
+        let sparse = edmonds_karp_sparse(rt.alloc(), &vertices, &'s', &'t', pipes);
+        assert!(rt; is_flow_of_27(sparse, fits));
     }
 }

@@ -5,7 +5,6 @@ use pathfinding::routes::{Command, Noted, RouteError, run};
 use std::alloc::Global;
 use std::io;
 use std::io::{Error, ErrorKind, Read, Write};
-use std::test::Fail;
 
 /// When a device fails, and how.
 #[derive(Clone, Copy, Debug)]
@@ -141,14 +140,14 @@ fn ends_at_failed_read(alloc: Global, command: &Command, row: Row<'_>, failing: 
 }
 
 #[test]
-fn a_run_ends_at_the_first_failed_read(rt: HostRuntime) -> Result<(), Fail> {
+fn a_run_ends_at_the_first_failed_read(rt: HostRuntime) {
     let kinds = [
         ErrorKind::ConnectionReset,
         ErrorKind::UnexpectedEof,
         ErrorKind::WouldBlock,
     ];
     for row in ROWS {
-        let command = spelled(rt.alloc(), row.0)?;
+        let command = spelled(rt.alloc(), row.0).expect(&rt, "a command");
         for kind in kinds {
             for recovers in [false, true] {
                 for after in [0, 1, 6, 20, 46, row.1.len(), 100] {
@@ -165,7 +164,6 @@ fn a_run_ends_at_the_first_failed_read(rt: HostRuntime) -> Result<(), Fail> {
             }
         }
     }
-    Ok(())
 }
 
 /// Whether a run writes a beginning of the answer for which the writer has room, notes a failure
@@ -192,14 +190,14 @@ fn ends_at_failed_write(alloc: Global, command: &Command, row: Row<'_>, failing:
 }
 
 #[test]
-fn a_run_ends_at_the_first_failed_write(rt: HostRuntime) -> Result<(), Fail> {
+fn a_run_ends_at_the_first_failed_write(rt: HostRuntime) {
     let kinds = [
         None,
         Some(ErrorKind::BrokenPipe),
         Some(ErrorKind::Interrupted),
     ];
     for row in ROWS {
-        let command = spelled(rt.alloc(), row.0)?;
+        let command = spelled(rt.alloc(), row.0).expect(&rt, "a command");
         for kind in kinds {
             for recovers in [false, true] {
                 for after in [0, 1, 3, 8, 9, 11, 12, 23, 24, 100] {
@@ -216,7 +214,6 @@ fn a_run_ends_at_the_first_failed_write(rt: HostRuntime) -> Result<(), Fail> {
             }
         }
     }
-    Ok(())
 }
 
 #[test]

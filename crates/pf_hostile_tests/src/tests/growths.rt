@@ -1,22 +1,25 @@
 //! Each growth refused in turn, of calls for which the tests of no other crate do it: a call answers
 //! that it was out of memory, until no request is refused and it answers as it does with ample memory.
 
+ghost use Rattle.std.specs.Prelude.{◌≡◌};
+
 use crate::table_parents::all_from;
+use pathfinding::directed::dijkstra::Parents;
 use pathfinding::directed::edmonds_karp::{
-    DenseCapacity, Edge, EdmondsKarp, SparseCapacity, edmonds_karp_dense, edmonds_karp_sparse,
+    DenseCapacity, EKFlows, Edge, EdmondsKarp, SparseCapacity, edmonds_karp_dense,
+    edmonds_karp_sparse,
 };
 use pathfinding::error::PathError;
 use pathfinding::graphs::{
-    Graph, Rows, bfs_loop, dfs, dijkstra_partial, iddfs, strongly_connected_component,
+    Rows, bfs_loop, dfs, dijkstra_partial, iddfs, strongly_connected_component,
     strongly_connected_components, topological_sort, topological_sort_into_groups,
 };
 use pathfinding::matrix::{Matrix, MatrixFormatError};
 use pathfinding::noderefs::NodeRefs;
 use pathfinding::utils::Tally;
 use refusing_allocator::Refusing;
-use std::alloc::{Allocator, Global};
+use std::alloc::Global;
 use std::process::Abort;
-use std::test::Fail;
 
 /// A call that takes memory.
 #[derive(Clone, Copy, Debug)]
@@ -82,43 +85,72 @@ const ROUND: [&[(usize, u32)]; 4] = [&[(1, 1), (2, 9)], &[(2, 5), (3, 1)], &[(0,
 /// The edges from three nodes, without a cycle.
 const IN_ORDER: [&[(usize, u32)]; 3] = [&[(1, 1), (2, 1)], &[(2, 1)], &[]];
 
-/// Whether a path is found, and is this one.
-fn is_path<A: Allocator>(found: &Option<Vec<usize, A>>, path: &[usize]) -> bool {
-    matches!(found, Some(nodes) if nodes.as_slice() == path)
+/// A graph in a table of rows.
+type Table<'a> = Rows<'a, &'a [(usize, u32)], u32>;
+
+/// What the calls are asked about, in ample memory.
+#[derive(Drop)]
+struct Asked<'a> {
+    /// The table `ROUND`.
+    round: Table<'a>,
+    /// The table `IN_ORDER`.
+    in_order: Table<'a>,
+    /// The node 1.
+    starts: NodeRefs<'a, usize>,
+}
+
+/// The heap that refuses growths.
+type Heap<'h> = &'h Refusing<Global>;
+
+/// Whether the answer is this path.
+fn is_path(
+    found: Result<Option<Vec<usize, Heap<'_>>>, PathError>,
+    path: &[usize],
+) -> Result<bool, PathError> {
+    let found = found?;
+    Ok(matches!(&found, Some(nodes) if nodes.as_slice() == path))
+}
+
+/// Whether the answer is all parents in the table `ROUND` from the node 0.
+fn are_parents(found: Result<Parents<usize, u32, Heap<'_>>, PathError>) -> Result<bool, PathError> {
+    let parents = found?;
+    Ok(parents.len() == 3 && parents.get(&2).copied() == Some((1, 6)))
+}
+
+/// Whether the answer is the parents that are known in the table `ROUND` at the node 1.
+fn are_parents_so_far(
+    found: Result<(Parents<usize, u32, Heap<'_>>, Option<usize>), PathError>,
+) -> Result<bool, PathError> {
+    let (parents, stopped) = found?;
+    Ok(parents.get(&2).copied() == Some((0, 9)) && stopped == Some(1))
 }
 
 /// Whether a call over the table `ROUND` answers the only right answer.
-fn is_right_round<G: Graph<u32>>(
-    heap: &Refusing<Global>,
-    graph: &G,
+fn is_right_round(
+    heap: Heap<'_>,
+    graph: &Table<'_>,
     starts: &NodeRefs<'_, usize>,
     call: RoundCall,
 ) -> Result<bool, PathError> {
     match call {
-        RoundCall::Parents => {
-            let parents = all_from(heap, graph, 0)?;
-            Ok(parents.len() == 3 && parents.get(&2).copied() == Some((1, 6)))
-        }
-        RoundCall::PartOfParents => {
-            let (parents, stopped) = dijkstra_partial(heap, graph, 0, 1)?;
-            Ok(parents.get(&2).copied() == Some((0, 9)) && stopped == Some(1))
-        }
-        RoundCall::Depth => Ok(is_path(&dfs(heap, graph, 0, 3)?, &[0, 1, 3])),
-        RoundCall::Deepened => Ok(is_path(&iddfs(heap, graph, 0, 3)?, &[0, 1, 3])),
-        RoundCall::Loop => Ok(is_path(&bfs_loop(heap, graph, starts)?, &[1, 2, 0, 1])),
+        RoundCall::Parents => are_parents(all_from(heap, graph, 0)),
+        RoundCall::PartOfParents => are_parents_so_far(dijkstra_partial(heap, graph, 0, 1)),
+        RoundCall::Depth => is_path(dfs(heap, graph, 0, 3), &[0, 1, 3]),
+        RoundCall::Deepened => is_path(iddfs(heap, graph, 0, 3), &[0, 1, 3]),
+        RoundCall::Loop => is_path(bfs_loop(heap, graph, starts), &[1, 2, 0, 1]),
         RoundCall::Component => Ok(strongly_connected_component(heap, graph, 2)?.len() == 3),
         RoundCall::Components => Ok(strongly_connected_components(heap, graph, &[0])?.len() == 2),
     }
 }
 
 /// Whether the nodes of the table `IN_ORDER` are put in their only order.
-fn is_in_order<G: Graph<u32>>(heap: &Refusing<Global>, graph: &G) -> Result<bool, PathError> {
+fn is_in_order(heap: Heap<'_>, graph: &Table<'_>) -> Result<bool, PathError> {
     let order = topological_sort(heap, graph, &[0])?;
     Ok(matches!(&order, Ok(nodes) if nodes.as_slice() == [0, 1, 2].as_slice()))
 }
 
 /// Whether the nodes of the table `IN_ORDER` are put in their only groups.
-fn is_grouped<G: Graph<u32>>(heap: &Refusing<Global>, graph: &G) -> Result<bool, PathError> {
+fn is_grouped(heap: Heap<'_>, graph: &Table<'_>) -> Result<bool, PathError> {
     let groups = topological_sort_into_groups(heap, graph, &[2, 1, 0])?;
     Ok(matches!(&groups, Ok(groups) if groups.len() == 3))
 }
@@ -135,86 +167,84 @@ const PIPES: [Edge<u32, i64>; 5] = [
 /// The capacities between four vertices, by rows: the same pipes from 0 over 1 and 2 to 3.
 const SQUARE: [i64; 16] = [0, 3, 2, 0, 0, 0, 1, 2, 0, 0, 0, 3, 0, 0, 0, 0];
 
-/// Whether these are a greatest flow and the least cut between the vertices 10 and 20.
-fn is_flow<A: Allocator>(total: i64, cut: &Vec<Edge<u32, i64>, A>) -> bool {
-    total == 5 && cut.as_slice() == [((10, 40), 3), ((10, 30), 2)].as_slice()
+/// Whether the answer is a greatest flow and the least cut between the vertices 10 and 20.
+fn is_flow(answer: Result<EKFlows<u32, i64, Heap<'_>>, PathError>) -> Result<bool, PathError> {
+    let (_, total, cut) = answer?;
+    Ok(total == 5 && cut.as_slice() == [((10, 40), 3), ((10, 30), 2)].as_slice())
 }
 
-/// Whether stores of the square are made, and one of them is filled and copied.
-fn is_filled<'h, S>(heap: &'h Refusing<Global>) -> Result<bool, PathError>
+/// Whether a store of the square is filled and copied.
+fn is_flowing<'h, S>(heap: Heap<'h>, square: &Matrix<i64, Heap<'h>>) -> Result<bool, PathError>
 where
-    S: EdmondsKarp<i64, Alloc = &'h Refusing<Global>> + Clone,
+    S: EdmondsKarp<i64, Alloc = Heap<'h>> + Clone,
+    requires rows { square.now.rows ≡ 4 }
+    requires columns { square.now.columns ≡ 4 }
 {
-    let Ok(square) = Matrix::from_vec(4, 4, Vec::from_slice(heap, &SQUARE)?) else {
-        return Ok(false);
-    };
-    let mut store = S::from_matrix(heap, 0, 3, &square)?;
-    let listed = S::from_vec(heap, 0, 3, &SQUARE)?;
+    let mut store = S::from_matrix(heap, 0, 3, square)?;
     let (_, total, _) = store.augment_tallied(heap, &mut Tally::new())?;
-    if store.size() < 4 {
+    if total != 5 || store.size() < 4 {
         return Ok(false);
     }
     let ends = store.flows_from(heap, 1)?;
     let copy = store.clone()?;
-    Ok(
-        total == 5
-            && copy.total_capacity() == 5
-            && listed.total_capacity() == 0
-            && ends.as_slice() == [2, 3].as_slice(),
-    )
+    Ok(copy.total_capacity() == 5 && ends.as_slice() == [2, 3].as_slice())
+}
+
+/// Whether stores of the square are made, and one of them is filled and copied.
+fn is_filled<'h, S>(heap: Heap<'h>) -> Result<bool, PathError>
+where
+    S: EdmondsKarp<i64, Alloc = Heap<'h>> + Clone,
+{
+    let Ok(square) = Matrix::from_vec(4, 4, Vec::from_slice(heap, &SQUARE)?) else {
+        return Ok(false);
+    };
+    let is_flowing = is_flowing::<S>(heap, &square)?;
+    Ok(is_flowing && S::from_vec(heap, 0, 3, &SQUARE)?.total_capacity() == 0)
+}
+
+/// A test that each position passes.
+fn is_any(_position: (usize, usize)) -> bool {
+    true
 }
 
 /// How many positions a flood of a matrix of two rows and three columns reaches by a walk in depth.
-fn flooded(heap: &Refusing<Global>) -> Result<usize, MatrixFormatError> {
+fn flooded(heap: Heap<'_>) -> Result<usize, MatrixFormatError> {
     let board = Matrix::new(heap, 2, 3, 0u8)?;
-    let reached = board.dfs_reachable((0, 0), true, |_position: (usize, usize)| true)?;
+    let reached = board.dfs_reachable((0, 0), true, is_any)?;
     Ok(reached.len())
 }
 
-/// Whether a call answers the only right answer. What it is asked about lies in ample memory.
-fn is_right(
-    heap: &Refusing<Global>,
-    starts: &NodeRefs<'_, usize>,
-    call: Call,
-) -> Result<bool, PathError> {
-    let (round, in_order) = (ROUND, IN_ORDER);
-    let (Ok(round), Ok(in_order)) = (Rows::new(&round), Rows::new(&in_order)) else {
-        return Ok(false);
-    };
+/// Whether the flood reaches all positions.
+fn is_flooded(heap: Heap<'_>) -> Result<bool, PathError> {
+    match flooded(heap) {
+        Ok(reached) => Ok(reached == 6),
+        Err(MatrixFormatError::OutOfMemory) => Err(PathError::OutOfMemory),
+        Err(_) => Ok(false),
+    }
+}
+
+/// Whether a call answers the only right answer.
+fn is_right(heap: Heap<'_>, asked: &Asked<'_>, call: Call) -> Result<bool, PathError> {
+    let vertices = [10, 40, 30, 20];
     match call {
-        Call::Round(call) => is_right_round(heap, &round, starts, call),
-        Call::Order => is_in_order(heap, &in_order),
-        Call::Groups => is_grouped(heap, &in_order),
-        Call::DenseFlow => {
-            let (_, total, cut) = edmonds_karp_dense(heap, &[10, 40, 30, 20], &10, &20, PIPES)?;
-            Ok(is_flow(total, &cut))
-        }
-        Call::SparseFlow => {
-            let (_, total, cut) = edmonds_karp_sparse(heap, &[10, 40, 30, 20], &10, &20, PIPES)?;
-            Ok(is_flow(total, &cut))
-        }
-        Call::DenseStore => is_filled::<DenseCapacity<i64, &Refusing<Global>>>(heap),
-        Call::SparseStore => is_filled::<SparseCapacity<i64, &Refusing<Global>>>(heap),
-        Call::DepthFlood => match flooded(heap) {
-            Ok(reached) => Ok(reached == 6),
-            Err(MatrixFormatError::OutOfMemory) => Err(PathError::OutOfMemory),
-            Err(_) => Ok(false),
-        },
+        Call::Round(call) => is_right_round(heap, &asked.round, &asked.starts, call),
+        Call::Order => is_in_order(heap, &asked.in_order),
+        Call::Groups => is_grouped(heap, &asked.in_order),
+        Call::DenseFlow => is_flow(edmonds_karp_dense(heap, &vertices, &10, &20, PIPES)),
+        Call::SparseFlow => is_flow(edmonds_karp_sparse(heap, &vertices, &10, &20, PIPES)),
+        Call::DenseStore => is_filled::<DenseCapacity<i64, Heap<'_>>>(heap),
+        Call::SparseStore => is_filled::<SparseCapacity<i64, Heap<'_>>>(heap),
+        Call::DepthFlood => is_flooded(heap),
     }
 }
 
 /// Runs a call with growth 0, 1, 2, .. refused alone, until a run meets no refusal, and answers how
 /// many growths that run made. Each run before it has to answer that it was out of memory.
-fn refuse_each_growth(
-    rt: &impl Abort,
-    ample: Global,
-    starts: &NodeRefs<'_, usize>,
-    call: Call,
-) -> u64 {
+fn refuse_each_growth(rt: &impl Abort, ample: Global, asked: &Asked<'_>, call: Call) -> u64 {
     for growth in 0..1_000u64 {
         let heap = Refusing::new(ample);
         heap.refuse(growth, 1);
-        let answer = is_right(&heap, starts, call);
+        let answer = is_right(&heap, asked, call);
         if heap.pending() > 0 {
             assert!(rt; matches!(answer, Ok(true)), "{call:?} with no refusal");
             return growth;
@@ -228,12 +258,15 @@ fn refuse_each_growth(
 }
 
 #[test]
-fn calls_refuse_each_growth(rt: HostRuntime) -> Result<(), Fail> {
-    let start = 1usize;
-    let starts = NodeRefs::from_one(rt.alloc(), &start)?;
+fn calls_refuse_each_growth(rt: HostRuntime) {
+    let (round, in_order, start) = (ROUND, IN_ORDER, 1usize);
+    let asked = Asked {
+        round: Rows::new(&round).expect(&rt, "a graph"),
+        in_order: Rows::new(&in_order).expect(&rt, "a graph"),
+        starts: NodeRefs::from_one(rt.alloc(), &start).expect(&rt, "memory"),
+    };
     for (call, least) in CALLS {
-        let growths = refuse_each_growth(&rt, rt.alloc(), &starts, call);
+        let growths = refuse_each_growth(&rt, rt.alloc(), &asked, call);
         assert!(rt; growths >= least, "{call:?} makes {growths} growths");
     }
-    Ok(())
 }

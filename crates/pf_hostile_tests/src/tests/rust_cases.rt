@@ -3,16 +3,17 @@
 
 use pathfinding::error::PathError;
 use pathfinding::graphs::{
-    EdgeList, Graph, Rows, bfs, bfs_loop, strongly_connected_component,
-    strongly_connected_components, topological_sort, topological_sort_into_groups,
+    EdgeList, Rows, bfs, bfs_loop, strongly_connected_component, strongly_connected_components,
+    topological_sort, topological_sort_into_groups,
 };
 use pathfinding::grid::Grid;
 use pathfinding::matrix::{Matrix, directions};
 use pathfinding::noderefs::NodeRefs;
-use pathfinding::undirected::connected_components::{components, separate_components};
+use pathfinding::undirected::connected_components::{
+    MapIn, SetIn, components, separate_components,
+};
 use pathfinding::undirected::kruskal::kruskal;
 use std::alloc::{AllocError, Global};
-use std::test::Fail;
 
 /// The nodes after each of sixteen nodes.
 const SIXTEEN: [&[usize]; 16] = [
@@ -64,45 +65,67 @@ const REACHED: [&[usize]; 16] = [
     &[15],
 ];
 
-/// The least nodes of these components in rising order, or `None` where one of them is not one of
-/// `COMPONENTS`.
-fn least_of(alloc: Global, found: Vec<Vec<usize>>) -> Result<Option<Vec<usize>>, AllocError> {
-    let mut least = Vec::new(alloc);
-    for mut component in found {
-        component.sort()?;
-        if !COMPONENTS
-            .iter()
-            .any(|nodes| *nodes == component.as_slice())
-        {
-            return Ok(None);
-        }
-        if let Some(node) = component.first() {
-            least.push(*node)?;
+/// Whether these are the wanted nodes, each once, in any order.
+fn are_same(nodes: &[usize], wanted: &[usize]) -> bool {
+    for node in wanted {
+        if !nodes.contains(node) {
+            return false;
         }
     }
-    least.sort()?;
-    Ok(Some(least))
+    nodes.len() == wanted.len()
+}
+
+/// Whether these nodes are one of the components.
+fn is_component(nodes: &[usize]) -> bool {
+    for component in COMPONENTS {
+        if are_same(nodes, component) {
+            return true;
+        }
+    }
+    false
+}
+
+/// Whether one of the lists has a node.
+fn has_node(lists: &[Vec<usize>], node: usize) -> bool {
+    for list in lists {
+        if list.contains(&node) {
+            return true;
+        }
+    }
+    false
+}
+
+/// Whether these are the components that have these least nodes, in any order.
+fn are_components(found: Result<Vec<Vec<usize>>, PathError>, least: &[usize]) -> bool {
+    let Ok(found) = &found else {
+        return false;
+    };
+    for nodes in found {
+        if !is_component(nodes) {
+            return false;
+        }
+    }
+    for node in least {
+        if !has_node(found, *node) {
+            return false;
+        }
+    }
+    found.len() == least.len()
 }
 
 #[test]
-fn sixteen_nodes_in_six_components(rt: HostRuntime) -> Result<(), Fail> {
+fn sixteen_nodes_in_six_components(rt: HostRuntime) {
     let rows = SIXTEEN;
-    let graph = Rows::new(&rows)?;
+    let graph = Rows::new(&rows).expect(&rt, "a graph");
     for (node, reached) in REACHED.iter().enumerate() {
-        let found = strongly_connected_components(rt.alloc(), &graph, &[node])?;
-        let least = least_of(rt.alloc(), found)?;
+        let found = strongly_connected_components(rt.alloc(), &graph, &[node]);
+        assert!(rt; are_components(found, reached), "from {node}");
+        let own = strongly_connected_component(rt.alloc(), &graph, node);
         assert!(rt;
-            least.is_some_and(|nodes| nodes.as_slice() == *reached),
-            "from {node}"
+            matches!(&own, Ok(nodes) if nodes.contains(&node) && is_component(nodes)),
+            "of {node}"
         );
-        let mut own = strongly_connected_component(rt.alloc(), &graph, node)?;
-        own.sort()?;
-        let is_component = COMPONENTS
-            .iter()
-            .any(|nodes| nodes.contains(&node) && *nodes == own.as_slice());
-        assert!(rt; is_component, "of {node}");
     }
-    Ok(())
 }
 
 /// The nodes after each node, groups, and the nodes that are in no group.
@@ -123,37 +146,35 @@ const GROUPED: [Grouped<'static>; 7] = [
 ];
 
 /// Whether these are the wanted groups, each in any order.
-fn are_groups(groups: Vec<Vec<usize>>, wanted: &[&[usize]]) -> Result<bool, AllocError> {
-    let mut rest = wanted.iter();
-    for mut group in groups {
-        group.sort()?;
-        if !rest.next().is_some_and(|nodes| *nodes == group.as_slice()) {
-            return Ok(false);
+fn are_groups(groups: &[Vec<usize>], wanted: &[&[usize]]) -> bool {
+    for (group, nodes) in groups.iter().zip(wanted) {
+        if !are_same(group, nodes) {
+            return false;
         }
     }
-    Ok(rest.next().is_none())
+    groups.len() == wanted.len()
+}
+
+/// The groups of all nodes, or groups and the nodes that are in none.
+type Groups = Result<Vec<Vec<usize>>, (Vec<Vec<usize>>, Vec<usize>)>;
+
+/// Whether the answer is these groups, and these nodes in none.
+fn is_grouped(answer: Result<Groups, PathError>, groups: &[&[usize]], remaining: &[usize]) -> bool {
+    match &answer {
+        Ok(Ok(found)) => are_groups(found, groups) && remaining.is_empty(),
+        Ok(Err((found, left))) => are_groups(found, groups) && are_same(left, remaining),
+        Err(_) => false,
+    }
 }
 
 #[test]
-fn groups_by_depth(rt: HostRuntime) -> Result<(), Fail> {
+fn groups_by_depth(rt: HostRuntime) {
     for (rows, groups, remaining) in GROUPED {
-        let graph = Rows::new(rows)?;
-        let mut nodes = Vec::new(rt.alloc());
-        for node in 0..rows.len() {
-            nodes.push(node)?;
-        }
-        let answer = topological_sort_into_groups(rt.alloc(), &graph, &nodes)?;
-        let (found, mut left) = match answer {
-            Ok(found) => (found, Vec::new(rt.alloc())),
-            Err(both) => both,
-        };
-        left.sort()?;
-        assert!(rt;
-            are_groups(found, groups)? && left.as_slice() == remaining,
-            "{rows:?}"
-        );
+        let graph = Rows::new(rows).expect(&rt, "a graph");
+        let nodes: Vec<usize> = (0..rows.len()).collect(rt.alloc()).expect(&rt, "memory");
+        let answer = topological_sort_into_groups(rt.alloc(), &graph, &nodes);
+        assert!(rt; is_grouped(answer, groups, remaining), "{rows:?}");
     }
-    Ok(())
 }
 
 /// For each number below 1000 its multiples that are greater than it and below 1000.
@@ -183,42 +204,33 @@ fn are_behind_divisors(numbers: &[usize]) -> bool {
     true
 }
 
-#[test]
-fn divisors_come_first(rt: HostRuntime) -> Result<(), Fail> {
-    let rows = multiples(rt.alloc())?;
-    let graph = Rows::new(&rows)?;
-    // The numbers 1 to 999 in a mixed order.
-    let mut numbers = Vec::new(rt.alloc());
+/// The numbers 1 to 999 in a mixed order.
+fn mixed_numbers(alloc: Global) -> Result<Vec<usize>, AllocError> {
+    let mut numbers = Vec::new(alloc);
     for step in 0..999usize {
         numbers.push(step * 7 % 999 + 1)?;
     }
-    let Ok(order) = topological_sort(rt.alloc(), &graph, &numbers)? else {
-        panic!(rt; "a cycle");
-    };
-    assert!(rt; order.len() == 999 && are_behind_divisors(&order));
-    Ok(())
-}
-
-/// Whether the nodes 7 to 9, to which all others lead, are found to be on cycles by three calls.
-fn is_cyclic<G: Graph<C>, C: pathfinding::cost::Cost>(
-    alloc: Global,
-    graph: &G,
-) -> Result<bool, PathError> {
-    let start = 8usize;
-    let starts = NodeRefs::from_one(alloc, &start)?;
-    let order = topological_sort(alloc, graph, &[5, 1])?;
-    let ring = bfs_loop(alloc, graph, &starts)?;
-    let mut component = strongly_connected_component(alloc, graph, 8)?;
-    component.sort()?;
-    Ok(
-        matches!(order, Err(7..=9))
-            && matches!(&ring, Some(nodes) if nodes.as_slice() == [8, 7, 8].as_slice())
-            && component.as_slice() == [7, 8, 9].as_slice(),
-    )
+    Ok(numbers)
 }
 
 #[test]
-fn a_cycle_is_in_the_way_of_an_order(rt: HostRuntime) -> Result<(), Fail> {
+fn divisors_come_first(rt: HostRuntime) {
+    let rows = multiples(rt.alloc()).expect(&rt, "memory");
+    let graph = Rows::new(&rows).expect(&rt, "a graph");
+    let numbers = mixed_numbers(rt.alloc()).expect(&rt, "memory");
+    let order = topological_sort(rt.alloc(), &graph, &numbers);
+    assert!(rt;
+        matches!(&order, Ok(Ok(order)) if order.len() == 999 && are_behind_divisors(order))
+    );
+}
+
+/// Whether the answer is this path.
+fn is_path(found: Result<Option<Vec<usize>>, PathError>, path: &[usize]) -> bool {
+    matches!(&found, Ok(Some(nodes)) if nodes.as_slice() == path)
+}
+
+#[test]
+fn a_cycle_is_in_the_way_of_an_order(rt: HostRuntime) {
     let rows: [&[usize]; 10] = [
         &[1, 2, 7],
         &[2, 3, 7],
@@ -231,12 +243,19 @@ fn a_cycle_is_in_the_way_of_an_order(rt: HostRuntime) -> Result<(), Fail> {
         &[7, 9],
         &[7],
     ];
-    assert!(rt; is_cyclic(rt.alloc(), &Rows::new(&rows)?)?);
+    let graph = Rows::new(&rows).expect(&rt, "a graph");
+    // The nodes 7 to 9, to which all others lead, are on cycles.
+    let order = topological_sort(rt.alloc(), &graph, &[5, 1]);
+    assert!(rt; matches!(order, Ok(Err(7..=9))));
+    let start = 8usize;
+    let starts = NodeRefs::from_one(rt.alloc(), &start).expect(&rt, "memory");
+    assert!(rt; is_path(bfs_loop(rt.alloc(), &graph, &starts), &[8, 7, 8]));
+    let component = strongly_connected_component(rt.alloc(), &graph, 8);
+    assert!(rt; matches!(&component, Ok(nodes) if are_same(nodes, &[7, 8, 9])));
     // Both ways between six nodes.
     let rows: [&[usize]; 6] = [&[1, 2], &[0, 3, 4], &[0, 5], &[1], &[1, 5], &[2, 4]];
-    let path = bfs(rt.alloc(), &Rows::new(&rows)?, 0, 5)?;
-    assert!(rt; path.is_some_and(|nodes| nodes.as_slice() == [0, 2, 5].as_slice()));
-    Ok(())
+    let graph = Rows::new(&rows).expect(&rt, "a graph");
+    assert!(rt; is_path(bfs(rt.alloc(), &graph, 0, 5), &[0, 2, 5]));
 }
 
 /// Roads between five cities, in both directions.
@@ -255,20 +274,27 @@ const ROADS: [(&str, &str, u32); 12] = [
     ("E", "D", 5),
 ];
 
-#[test]
-fn roads_between_cities(rt: HostRuntime) -> Result<(), Fail> {
-    let roads = ROADS;
-    let map = EdgeList::new(rt.alloc(), &roads)?;
-    for (to, names, cost) in [("D", ["A", "B", "D"], 22), ("E", ["A", "B", "E"], 18)] {
-        let Some((places, found)) = map.dijkstra(rt.alloc(), &"A", &to)? else {
-            return Err(Fail::new("no way from city to city"));
-        };
-        assert!(rt;
-            found == cost && places.iter().map(|place| **place).eq(names),
-            "cost {cost}"
-        );
+/// Whether a way leads over these cities at this cost.
+fn is_way(found: Result<Option<(Vec<&&str>, u32)>, PathError>, cities: &[&str], cost: u32) -> bool {
+    let Ok(Some((places, price))) = &found else {
+        return false;
+    };
+    for (place, city) in places.iter().zip(cities) {
+        if **place != *city {
+            return false;
+        }
     }
-    Ok(())
+    places.len() == cities.len() && *price == cost
+}
+
+#[test]
+fn roads_between_cities(rt: HostRuntime) {
+    let roads = ROADS;
+    let map = EdgeList::new(rt.alloc(), &roads).expect(&rt, "memory");
+    for (to, cities, cost) in [("D", ["A", "B", "D"], 22), ("E", ["A", "B", "E"], 18)] {
+        let found = map.dijkstra(rt.alloc(), &"A", &to);
+        assert!(rt; is_way(found, &cities, cost), "cost {cost}");
+    }
 }
 
 /// Groups of nodes, and the parts that they join.
@@ -287,73 +313,141 @@ const JOINED: [Joined<'static>; 4] = [
     (&[&[1, 2], &[3, 4], &[], &[1, 4, 7]], &[&[1, 2, 3, 4, 7]]),
 ];
 
-/// Whether groups are joined to these parts and no others, as sets and by numbers.
-fn are_joined(alloc: Global, groups: &[Vec<u32>], parts: &[&[u32]]) -> Result<bool, PathError> {
-    let sets = components(alloc, groups)?;
-    let (numbers, of_groups) = separate_components(alloc, groups)?;
+/// Whether a set has the nodes of a part and no others.
+fn is_part(set: &SetIn<u32, Global>, part: &[u32]) -> bool {
+    for node in part {
+        if !set.contains(node) {
+            return false;
+        }
+    }
+    set.len() == part.len()
+}
+
+/// Whether one of the sets has the nodes of a part and no others.
+fn has_part(sets: &[SetIn<u32, Global>], part: &[u32]) -> bool {
+    for set in sets {
+        if is_part(set, part) {
+            return true;
+        }
+    }
+    false
+}
+
+/// Whether the sets are the parts, in any order.
+fn are_parts(sets: Result<Vec<SetIn<u32, Global>>, PathError>, parts: &[&[u32]]) -> bool {
+    let Ok(sets) = &sets else {
+        return false;
+    };
     for part in parts {
-        let number = part.first().and_then(|node| numbers.get(&node).copied());
-        let is_part = sets.iter().any(|set| set.len() == part.len()
-            && part.iter().all(|node| set.contains(node)));
-        let is_numbered = part
-            .iter()
-            .all(|node| numbers.get(&node).copied() == number);
-        let mut members = 0usize;
-        for (_, other) in &numbers {
-            if Some(*other) == number {
-                members = members.saturating_add(1);
-            }
-        }
-        if !is_part || !is_numbered || members != part.len() {
-            return Ok(false);
+        if !has_part(sets, part) {
+            return false;
         }
     }
-    for (group, number) in groups.iter().zip(&of_groups) {
-        let wanted = match group.first() {
-            Some(node) => numbers.get(&node).copied(),
-            None => Some(usize::MAX),
-        };
-        if wanted != Some(*number) {
-            return Ok(false);
+    sets.len() == parts.len()
+}
+
+/// A number for each node.
+type Numbers<'a> = MapIn<&'a u32, usize, Global>;
+
+/// How many nodes have this number.
+fn count_with(numbers: &Numbers<'_>, number: usize) -> usize {
+    let mut count = 0usize;
+    for (_, other) in numbers {
+        if *other == number {
+            count = count.saturating_add(1);
         }
     }
-    Ok(sets.len() == parts.len() && of_groups.len() == groups.len())
+    count
+}
+
+/// Whether the nodes of a part have one number, which no other node has.
+fn is_numbered<'a>(numbers: &Numbers<'a>, part: &'a [u32]) -> bool {
+    let Some(number) = number_of(numbers, part) else {
+        return false;
+    };
+    for node in part {
+        if numbers.get(&node).copied() != Some(number) {
+            return false;
+        }
+    }
+    count_with(numbers, number) == part.len()
+}
+
+/// The number of a group, which is that of its first node; `usize::MAX` where the group is empty.
+fn number_of<'a>(numbers: &Numbers<'a>, group: &'a [u32]) -> Option<usize> {
+    match group.first() {
+        Some(node) => numbers.get(&node).copied(),
+        None => Some(usize::MAX),
+    }
+}
+
+/// Whether nodes and groups have numbers by the parts that they are in.
+fn are_numbered<'a>(
+    numbered: Result<(Numbers<'a>, Vec<usize>), PathError>,
+    groups: &'a [Vec<u32>],
+    parts: &[&'a [u32]],
+) -> bool {
+    let Ok((numbers, of_groups)) = &numbered else {
+        return false;
+    };
+    for part in parts {
+        if !is_numbered(numbers, part) {
+            return false;
+        }
+    }
+    for (group, number) in groups.iter().zip(of_groups) {
+        if number_of(numbers, group) != Some(*number) {
+            return false;
+        }
+    }
+    of_groups.len() == groups.len()
+}
+
+/// Vectors of these slices.
+fn vectors_of(alloc: Global, slices: &[&[u32]]) -> Result<Vec<Vec<u32>>, AllocError> {
+    let mut vectors = Vec::new(alloc);
+    for slice in slices {
+        vectors.push(slice.to_vec(alloc)?)?;
+    }
+    Ok(vectors)
 }
 
 #[test]
-fn groups_that_share_nodes_are_joined(rt: HostRuntime) -> Result<(), Fail> {
+fn groups_that_share_nodes_are_joined(rt: HostRuntime) {
     for (slices, parts) in JOINED {
-        let mut groups = Vec::new(rt.alloc());
-        for slice in slices {
-            groups.push(slice.to_vec(rt.alloc())?)?;
-        }
-        assert!(rt; are_joined(rt.alloc(), &groups, parts)?, "{slices:?}");
+        let groups = vectors_of(rt.alloc(), slices).expect(&rt, "memory");
+        assert!(rt;
+            are_parts(components(rt.alloc(), &groups), parts),
+            "{slices:?}"
+        );
+        let numbered = separate_components(rt.alloc(), &groups);
+        assert!(rt; are_numbered(numbered, &groups, parts), "{slices:?}");
     }
-    Ok(())
 }
 
 #[test]
-fn edges_of_a_grid_span_it(rt: HostRuntime) -> Result<(), Fail> {
-    let mut grid = Grid::new(rt.alloc(), 2, 2)?;
+fn edges_of_a_grid_span_it(rt: HostRuntime) {
+    let mut grid = Grid::new(rt.alloc(), 2, 2).expect(&rt, "memory");
     grid.fill();
     let mut edges = Vec::new(rt.alloc());
     for (from, to) in grid.edges() {
-        edges.push((from, to, from.1.min(to.1)))?;
+        edges
+            .push((from, to, from.1.min(to.1)))
+            .expect(&rt, "memory");
     }
     assert_eq!(rt; edges.len(), 4);
     // Three edges of weight 0 join all, in an order that is open.
     let mut chosen = 0usize;
-    for (from, to, weight) in kruskal(rt.alloc(), &edges)? {
+    for (from, to, weight) in kruskal(rt.alloc(), &edges).expect(&rt, "memory") {
         assert!(rt; weight == 0 && from.1.min(to.1) == 0);
         chosen = chosen.saturating_add(1);
     }
     assert_eq!(rt; chosen, 3);
-    Ok(())
 }
 
 #[test]
-fn moves_on_a_board(rt: HostRuntime) -> Result<(), Fail> {
-    let board = Matrix::new_square(rt.alloc(), 8, '.')?;
+fn moves_on_a_board(rt: HostRuntime) {
+    let board = Matrix::new_square(rt.alloc(), 8, '.').expect(&rt, "memory");
     assert!(rt; board.move_in_direction((1, 1), (2, 1)) == Some((3, 2)));
     assert!(rt;
         board
@@ -365,14 +459,14 @@ fn moves_on_a_board(rt: HostRuntime) -> Result<(), Fail> {
             .in_direction((3, 2), directions::NW)
             .eq([(2, 1), (1, 0)])
     );
-    Ok(())
 }
 
 #[test]
-fn points_as_a_grid(rt: HostRuntime) -> Result<(), Fail> {
-    let grid = Grid::from_vertices(rt.alloc(), [(0, 0), (2, 2), (3, 2)])?;
+fn points_as_a_grid(rt: HostRuntime) {
+    let points = [(0, 0), (2, 2), (3, 2)];
+    let grid = Grid::from_vertices(rt.alloc(), points).expect(&rt, "memory");
     let mut text = String::new(rt.alloc());
-    grid.append_text(&mut text, '#', '.', false)?;
+    grid.append_text(&mut text, '#', '.', false)
+        .expect(&rt, "memory");
     assert_eq!(rt; text.as_str(), "#...\n....\n..##");
-    Ok(())
 }

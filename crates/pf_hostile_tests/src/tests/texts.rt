@@ -2,7 +2,6 @@
 
 use pathfinding::routes::{Command, Noted, command, run};
 use std::alloc::{AllocError, Global};
-use std::test::Fail;
 
 /// What is printed: on standard output with status 0, or on standard error with status 1, where
 /// standard output stays empty.
@@ -291,33 +290,28 @@ const BAD_LINES: [&[u8]; 67] = [
     b"a\xc2\xa0b 1",
 ];
 
-/// The command that words parted by spaces spell.
-pub fn spelled(alloc: Global, line: &str) -> Result<Command, Fail> {
+/// The command that words parted by spaces spell, where they spell one and memory is left.
+pub fn spelled(alloc: Global, line: &str) -> Option<Command> {
     let mut words = Vec::new(alloc);
     for word in line.split(' ') {
-        words.push(String::from_str(alloc, word)?)?;
+        words.push(String::from_str(alloc, word).ok()?).ok()?;
     }
-    Ok(command(words).ok_or("no command")?)
+    command(words)
 }
 
 /// Whether this is printed for a command about a text.
-fn prints(
-    alloc: Global,
-    command: &Command,
-    text: &[u8],
-    want: Printed<'_>,
-) -> Result<bool, AllocError> {
+fn prints(alloc: Global, command: &Command, text: &[u8], want: Printed<'_>) -> bool {
     let mut input = Noted::new(text);
     let mut output = Noted::new(Vec::new(alloc));
     let told = run(alloc, command, &mut input, &mut output);
     let written = output.into_inner();
     match (told, want) {
-        (Ok(()), Ok(bytes)) => Ok(written.as_slice() == bytes),
+        (Ok(()), Ok(bytes)) => written.as_slice() == bytes,
         (Err(fault), Err(line)) => {
-            let told = format!(in alloc; "{fault}\n")?;
-            Ok(written.is_empty() && told.as_str() == line)
+            let told = format!(in alloc; "{fault}\n");
+            written.is_empty() && matches!(&told, Ok(told) if told.as_str() == line)
         }
-        _ => Ok(false),
+        _ => false,
     }
 }
 
@@ -327,27 +321,27 @@ fn first_wrong(
     commands: &[Command],
     text: &[u8],
     want: &[Printed<'_>; 6],
-) -> Result<Option<usize>, AllocError> {
+) -> Option<usize> {
     for (number, (command, want)) in commands.iter().zip(want.iter()).enumerate() {
-        if !prints(alloc, command, text, *want)? {
-            return Ok(Some(number));
+        if !prints(alloc, command, text, *want) {
+            return Some(number);
         }
     }
-    Ok(None)
+    None
 }
 
-/// The commands that each text is asked.
-fn commands(alloc: Global) -> Result<Vec<Command>, Fail> {
+/// The commands that each text is asked, where memory is left.
+fn commands(alloc: Global) -> Option<Vec<Command>> {
     let mut commands = Vec::new(alloc);
     for line in COMMANDS {
-        commands.push(spelled(alloc, line)?)?;
+        commands.push(spelled(alloc, line)?).ok()?;
     }
-    Ok(commands)
+    Some(commands)
 }
 
 #[test]
-fn texts_that_say_the_same_are_answered_alike(rt: HostRuntime) -> Result<(), Fail> {
-    let commands = commands(rt.alloc())?;
+fn texts_that_say_the_same_are_answered_alike(rt: HostRuntime) {
+    let commands = commands(rt.alloc()).expect(&rt, "commands");
     let groups: [(&[&[u8]], [Printed; 6]); 3] = [
         (&BLANK, NOTHING),
         (&ONE_EDGE, SEVEN),
@@ -355,27 +349,19 @@ fn texts_that_say_the_same_are_answered_alike(rt: HostRuntime) -> Result<(), Fai
     ];
     for (texts, want) in groups {
         for text in texts {
-            assert_eq!(rt;
-                first_wrong(rt.alloc(), &commands, text, &want)?,
-                None,
-                "{text:?}"
-            );
+            let wrong = first_wrong(rt.alloc(), &commands, text, &want);
+            assert_eq!(rt; wrong, None, "{text:?}");
         }
     }
-    Ok(())
 }
 
 #[test]
-fn other_texts_are_answered(rt: HostRuntime) -> Result<(), Fail> {
-    let commands = commands(rt.alloc())?;
+fn other_texts_are_answered(rt: HostRuntime) {
+    let commands = commands(rt.alloc()).expect(&rt, "commands");
     for (text, want) in OTHERS {
-        assert_eq!(rt;
-            first_wrong(rt.alloc(), &commands, text, &want)?,
-            None,
-            "{text:?}"
-        );
+        let wrong = first_wrong(rt.alloc(), &commands, text, &want);
+        assert_eq!(rt; wrong, None, "{text:?}");
     }
-    Ok(())
 }
 
 /// These bytes, one part after the other.
@@ -390,8 +376,8 @@ fn joined(alloc: Global, parts: &[&[u8]]) -> Result<Vec<u8>, AllocError> {
 /// A bad line is told by its number, blank lines counted, wherever it stands: alone, and behind edges
 /// whose costs do not fit and before another bad line.
 #[test]
-fn the_first_bad_line_is_told(rt: HostRuntime) -> Result<(), Fail> {
-    let commands = commands(rt.alloc())?;
+fn the_first_bad_line_is_told(rt: HostRuntime) {
+    let commands = commands(rt.alloc()).expect(&rt, "commands");
     let fourth_bad = [Err("line 4: bad edge\n"); 6];
     for line in BAD_LINES {
         let within = [
@@ -401,22 +387,18 @@ fn the_first_bad_line_is_told(rt: HostRuntime) -> Result<(), Fail> {
         ];
         let rows: [(&[&[u8]], [Printed; 6]); 2] = [(&[line], FIRST_BAD), (&within, fourth_bad)];
         for (parts, want) in rows {
-            let text = joined(rt.alloc(), parts)?;
-            assert_eq!(rt;
-                first_wrong(rt.alloc(), &commands, text.as_slice(), &want)?,
-                None,
-                "{text:?}"
-            );
+            let text = joined(rt.alloc(), parts).expect(&rt, "memory");
+            let wrong = first_wrong(rt.alloc(), &commands, text.as_slice(), &want);
+            assert_eq!(rt; wrong, None, "{text:?}");
         }
     }
-    Ok(())
 }
 
 /// Each of the 256 bytes in the names of an edge from a node to itself, behind the digits of its cost, and
 /// alone on a line: where the line is good, it changes no answer about the edge on the next line.
 #[test]
-fn each_byte_is_of_its_kind(rt: HostRuntime) -> Result<(), Fail> {
-    let commands = commands(rt.alloc())?;
+fn each_byte_is_of_its_kind(rt: HostRuntime) {
+    let commands = commands(rt.alloc()).expect(&rt, "commands");
     for byte in 0..=u8::MAX {
         let is_gap = byte == b' ' || byte == b'\t';
         let is_end = byte == b'\r' || byte == b'\n';
@@ -435,14 +417,10 @@ fn each_byte_is_of_its_kind(rt: HostRuntime) -> Result<(), Fail> {
         ];
         for (text, is_good) in texts {
             let want = if is_good { SEVEN } else { FIRST_BAD };
-            assert_eq!(rt;
-                first_wrong(rt.alloc(), &commands, text, &want)?,
-                None,
-                "{text:?}"
-            );
+            let wrong = first_wrong(rt.alloc(), &commands, text, &want);
+            assert_eq!(rt; wrong, None, "{text:?}");
         }
     }
-    Ok(())
 }
 
 /// A megabyte of one byte, between these bytes.
@@ -471,27 +449,22 @@ const LONG: [(&[u8], u8, &[u8], [Printed; 6]); 12] = [
 ];
 
 #[test]
-fn lines_of_a_megabyte_are_read(rt: HostRuntime) -> Result<(), Fail> {
-    let commands = commands(rt.alloc())?;
+fn lines_of_a_megabyte_are_read(rt: HostRuntime) {
+    let commands = commands(rt.alloc()).expect(&rt, "commands");
     for (front, byte, back, want) in LONG {
-        let text = long(rt.alloc(), front, byte, back)?;
-        assert_eq!(rt;
-            first_wrong(rt.alloc(), &commands, text.as_slice(), &want)?,
-            None,
-            "{front:?} {byte} {back:?}"
-        );
+        let text = long(rt.alloc(), front, byte, back).expect(&rt, "memory");
+        let wrong = first_wrong(rt.alloc(), &commands, text.as_slice(), &want);
+        assert_eq!(rt; wrong, None, "{front:?} {byte} {back:?}");
     }
-    Ok(())
 }
 
 #[test]
-fn a_name_of_a_megabyte_comes_back_whole(rt: HostRuntime) -> Result<(), Fail> {
-    let spanning = spelled(rt.alloc(), "kruskal")?;
+fn a_name_of_a_megabyte_comes_back_whole(rt: HostRuntime) {
+    let spanning = spelled(rt.alloc(), "kruskal").expect(&rt, "a command");
     let cases: [(&[u8], &[u8]); 2] = [(b"", b" b 1\n"), (b"a ", b" 1\n")];
     for (front, back) in cases {
-        let text = long(rt.alloc(), front, b'x', back)?;
-        let is_whole = prints(rt.alloc(), &spanning, text.as_slice(), Ok(text.as_slice()))?;
+        let text = long(rt.alloc(), front, b'x', back).expect(&rt, "memory");
+        let is_whole = prints(rt.alloc(), &spanning, text.as_slice(), Ok(text.as_slice()));
         assert!(rt; is_whole, "{front:?} {back:?}");
     }
-    Ok(())
 }
