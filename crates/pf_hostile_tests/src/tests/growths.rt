@@ -1,8 +1,6 @@
 //! Each growth refused in turn, of calls for which the tests of no other crate do it: a call answers
 //! that it was out of memory, until no request is refused and it answers as it does with ample memory.
 
-ghost use Rattle.std.specs.Prelude.{◌≡◌};
-
 use crate::table_parents::all_from;
 use pathfinding::directed::dijkstra::Parents;
 use pathfinding::directed::edmonds_karp::{
@@ -177,9 +175,10 @@ fn is_flow(answer: Result<EKFlows<u32, i64, Heap<'_>>, PathError>) -> Result<boo
 fn is_flowing<'h, S>(heap: Heap<'h>, square: &Matrix<i64, Heap<'h>>) -> Result<bool, PathError>
 where
     S: EdmondsKarp<i64, Alloc = Heap<'h>> + Clone,
-    requires rows { square.now.rows ≡ 4 }
-    requires columns { square.now.columns ≡ 4 }
 {
+    if square.rows() != 4 || square.columns() != 4 {
+        return Ok(false);
+    }
     let mut store = S::from_matrix(heap, 0, 3, square)?;
     let (_, total, _) = store.augment_tallied(heap, &mut Tally::new())?;
     if total != 5 || store.size() < 4 {

@@ -24,6 +24,8 @@ pub(super) enum Outcome {
 pub(super) enum Growths {
     Exactly(u64),
     AtLeast(u64),
+    /// No fewer than the first number, and no more than the second.
+    Between(u64, u64),
 }
 
 /// Runs each of these calls with growth 0, 1, 2, .. refused alone, until a run meets no refusal and
@@ -40,6 +42,7 @@ pub(super) fn refuse_each_growth(
         let as_expected = match expected {
             Growths::Exactly(all) => growths == all,
             Growths::AtLeast(least) => growths >= least,
+            Growths::Between(least, most) => least <= growths && growths <= most,
         };
         assert!(rt; as_expected, "call {number} makes {growths} growths");
     }
