@@ -19,8 +19,6 @@ mod named;
 #[cfg(test)]
 mod no_case;
 #[cfg(test)]
-mod plain;
-#[cfg(test)]
 mod preorder;
 #[cfg(test)]
 mod reach;
