@@ -3,128 +3,132 @@
 use pf_base::utils::{Tally, constrain, in_direction, move_in_direction, uint_sqrt};
 use std::mem;
 
+/// A row and a column, or how many there are of each.
+type Cell = (usize, usize);
+
+/// How far a move goes.
+type Direction = (isize, isize);
+
+/// Numbers and their roots.
+const ROOTS: &[(u64, Option<u64>)] = &[
+    (0, Some(0)),
+    (1, Some(1)),
+    (2, None),
+    (10, None),
+    (49, Some(7)),
+    (100, Some(10)),
+    (255, None),
+    (152399025, Some(12345)),
+    (18446744065119617024, None),
+    (18446744065119617025, Some(4294967295)),
+    (18446744065119617026, None),
+    (u64::MAX, None),
+];
+
 #[test]
 fn square_roots(rt: HostRuntime) {
-    for (n, root) in [
-        (0u8, Some(0u8)),
-        (1, Some(1)),
-        (2, None),
-        (10, None),
-        (100, Some(10)),
-        (225, Some(15)),
-        (255, None),
-    ] {
-        assert!(rt; uint_sqrt(n) == root, "the root of {n}");
+    for (number, root) in ROOTS {
+        assert!(rt; uint_sqrt(*number) == *root, "the root of {number}");
     }
-    for (n, root) in [
-        (0u64, Some(0u64)),
-        (1, Some(1)),
-        (2, None),
-        (49, Some(7)),
-        (255, None),
-        (18446744065119617024, None),
-        (18446744065119617025, Some(4294967295)),
-        (18446744065119617026, None),
-        (u64::MAX, None),
-    ] {
-        assert!(rt; uint_sqrt(n) == root, "the root of {n}");
-    }
-    assert!(rt; uint_sqrt(65025u16) == Some(255));
-    assert!(rt; uint_sqrt(152399025u32) == Some(12345));
-    assert!(rt; uint_sqrt(49usize) == Some(7));
+    assert!(rt; uint_sqrt(225u8) == Some(15) && uint_sqrt(255u8).is_none());
     let square = 340282366920938463426481119284349108225u128;
-    assert!(rt; uint_sqrt(square) == Some(18446744073709551615));
-    assert!(rt; uint_sqrt(u128::MAX).is_none());
+    assert!(rt; uint_sqrt(square) == Some(18446744073709551615) && uint_sqrt(u128::MAX).is_none());
 }
+
+/// Values, how many numbers there are from 0 on, and the remainders.
+const REMAINDERS: &[(isize, usize, usize)] = &[
+    (5, 7, 5),
+    (-30, 7, 5),
+    (isize::MIN, 2, 0),
+    (30, 7, 2),
+    (-28, 7, 0),
+    (-1, usize::MAX, usize::MAX - 1),
+    (isize::MIN, usize::MAX, 9223372036854775807),
+];
 
 #[test]
 fn remainders(rt: HostRuntime) {
-    for (value, upper, remainder) in [
-        (5, 7, 5),
-        (-30, 7, 5),
-        (isize::MIN, 2, 0),
-        (30, 7, 2),
-        (-28, 7, 0),
-        (-1, usize::MAX, usize::MAX - 1),
-        (isize::MIN, usize::MAX, 9223372036854775807),
-    ] {
-        assert_eq!(rt; constrain(value, upper), remainder, "{value} by {upper}");
+    for (value, upper, remainder) in REMAINDERS {
+        assert!(rt;
+            *upper > 0 && constrain(*value, *upper) == *remainder,
+            "{value} by {upper}"
+        );
     }
 }
+
+/// Cells of a board of 8 by 8, directions, and where these lead.
+const MOVES: &[(Cell, Direction, Option<Cell>)] = &[
+    ((1, 1), (1, 3), Some((2, 4))),
+    ((1, 1), (-1, -1), Some((0, 0))),
+    ((5, 5), (-1, -2), Some((4, 3))),
+    ((1, 1), (-1, -2), None),
+    ((0, 0), (-1, -1), None),
+    ((7, 0), (1, -1), None),
+    ((8, 8), (-1, -1), None),
+    ((1, 1), (isize::MAX, 0), None),
+    ((0, 1), (isize::MIN, 0), None),
+    ((1, 1), (0, 0), None),
+    ((8, 1), (-1, 0), None),
+    ((7, 7), (0, 1), None),
+];
 
 #[test]
 fn moves(rt: HostRuntime) {
-    for (start, direction, target) in [
-        ((1, 1), (1, 3), Some((2, 4))),
-        ((1, 1), (-1, -1), Some((0, 0))),
-        ((5, 5), (-1, -2), Some((4, 3))),
-        ((1, 1), (-1, -2), None),
-        ((0, 0), (-1, -1), None),
-        ((7, 0), (1, -1), None),
-        ((8, 8), (-1, -1), None),
-        ((1, 1), (isize::MAX, 0), None),
-        ((0, 1), (isize::MIN, 0), None),
-        ((1, 1), (0, 0), None),
-        ((8, 1), (-1, 0), None),
-        ((7, 7), (0, 1), None),
-    ] {
-        let (row, column) = start;
-        assert_eq!(rt;
-            move_in_direction(start, direction, (8, 8)),
-            target,
-            "from ({row}, {column})"
+    for (start, direction, target) in MOVES {
+        assert!(rt;
+            move_in_direction(*start, *direction, (8, 8)) == *target,
+            "{start:?}"
         );
     }
 }
 
+/// Cells, directions, sizes of boards, and the cells to which the directions lead.
+const RAYS: &[(Cell, Direction, Cell, &[Cell])] = &[
+    ((1, 1), (1, 3), (8, 8), &[(2, 4), (3, 7)]),
+    ((1, 1), (1, 3), (2, 4), &[]),
+    ((0, 0), (1, 2), (8, 8), &[(1, 2), (2, 4), (3, 6)]),
+    ((0, 0), (-1, -1), (8, 8), &[]),
+    ((0, 7), (-1, 1), (8, 8), &[]),
+    ((0, 7), (0, 0), (8, 8), &[]),
+    ((0, 8), (-1, 1), (8, 8), &[]),
+    ((8, 0), (-1, 1), (8, 8), &[]),
+    ((8, 8), (-1, -1), (8, 8), &[]),
+    ((1, 1), (0, 0), (8, 8), &[]),
+    ((8, 1), (-1, 0), (8, 8), &[]),
+    (
+        (7, 3),
+        (-1, 0),
+        (8, 8),
+        &[(6, 3), (5, 3), (4, 3), (3, 3), (2, 3), (1, 3), (0, 3)],
+    ),
+    (
+        (0, 0),
+        (1, 1),
+        (8, 9),
+        &[(1, 1), (2, 2), (3, 3), (4, 4), (5, 5), (6, 6), (7, 7)],
+    ),
+    (
+        (0, 0),
+        (0, isize::MAX),
+        (1, usize::MAX),
+        &[(0, 9223372036854775807), (0, 18446744073709551614)],
+    ),
+];
+
 #[test]
 fn rays(rt: HostRuntime) {
-    let cases: [(
-        (usize, usize),
-        (isize, isize),
-        (usize, usize),
-        &[(usize, usize)],
-    ); 12] = [
-        ((1, 1), (1, 3), (8, 8), &[(2, 4), (3, 7)]),
-        ((1, 1), (1, 3), (2, 4), &[]),
-        ((0, 0), (1, 2), (8, 8), &[(1, 2), (2, 4), (3, 6)]),
-        ((0, 0), (-1, -1), (8, 8), &[]),
-        ((0, 7), (-1, 1), (8, 8), &[]),
-        ((0, 7), (0, 0), (8, 8), &[]),
-        ((0, 8), (-1, 1), (8, 8), &[]),
-        ((8, 0), (-1, 1), (8, 8), &[]),
-        ((8, 8), (-1, -1), (8, 8), &[]),
-        ((1, 1), (0, 0), (8, 8), &[]),
-        ((8, 1), (-1, 0), (8, 8), &[]),
-        (
-            (0, 0),
-            (0, isize::MAX),
-            (1, usize::MAX),
-            &[(0, 9223372036854775807), (0, 18446744073709551614)],
-        ),
-    ];
-    for (start, direction, dimensions, targets) in cases {
-        let mut ray = in_direction(start, direction, dimensions);
-        for target in targets {
-            assert!(rt; ray.next() == Some(*target), "{start:?} to {direction:?}");
-        }
+    for (start, direction, dimensions, targets) in RAYS {
+        let ray = in_direction(*start, *direction, *dimensions);
         assert!(rt;
-            ray.next().is_none() && ray.next().is_none(),
+            ray.eq(targets.iter().copied()),
             "{start:?} to {direction:?}"
         );
     }
-    let mut rows = 0usize;
-    for (row, column) in in_direction((0, 0), (1, 1), (8, 9)) {
-        assert_eq!(rt; row, column);
-        rows = rows.saturating_add(row);
-    }
-    assert_eq!(rt; rows, 28);
-    assert_eq!(rt; in_direction((7, 3), (-1, 0), (8, 8)).last(), Some((0, 3)));
 }
 
 #[test]
 fn a_tally_has_no_size(rt: HostRuntime) {
     let mut tally = Tally::new();
     tally.tick();
-    assert_eq!(rt; mem::size_of::<Tally>(), 0);
+    assert!(rt; mem::size_of::<Tally>() == 0);
 }
