@@ -1,44 +1,21 @@
 //! Callers of searches and walks in preorder.
 
-ghost use Rattle.std.specs.Prelude.{◌≡◌, ◌<◌, [], ◌∷◌, All, IfOk, IfErr, MatchOption, length};
-ghost use Rattle.edge_lists.specs.Pairs.{nodes_after};
-ghost use Rattle.pf_base.specs.Answers.{IsLawfulClone};
-ghost use Rattle.pf_base.specs.Mirrors.{is_among};
-ghost use Rattle.pf_base.specs.Successors.{HasSuccessor};
-ghost use Rattle.pf_base.specs.Walks.{HasNoGoalWalk, IsGoalPath};
-ghost use Rattle.pf_search.specs.Preorder.{IsFirstTreePath};
+ghost use Rattle.std.specs.Prelude.{◌<◌, All, length};
 
-use crate::fewest::is_one_of;
 use edge_lists::nodes_after;
 use pf_base::PathError;
 use pf_search::directed::dfs::{dfs, dfs_reach};
-use std::alloc::{Allocator, Global};
-use std::hash::Hash;
+use std::alloc::Global;
 
-/// The first path in preorder, in a graph that is given as a list of edges (from, to), from the start
-/// to one of the goals, or `None` exactly where no walk leads there.
-pub fn first_in_pairs<N, A>(
-    alloc: A,
-    edges: &[(N, N)],
-    start: N,
-    goals: &[N],
-) -> Result<Option<Vec<N, A>>, PathError>
-where
-    N: Eq + Hash + Copy,
-    A: Allocator + Copy,
-    requires clones { IsLawfulClone N.eq N.is_clone }
-    ensures first { IfOk result (λ answer. MatchOption answer
-        (HasNoGoalWalk N.eq (HasSuccessor N.eq (nodes_after N.eq edges.now)) (start ∷ []) (is_among N.eq goals.now))
-        (λ path. IsGoalPath N.eq (HasSuccessor N.eq (nodes_after N.eq edges.now)) (start ∷ []) (is_among N.eq goals.now) path.items
-        × IsFirstTreePath N.eq (nodes_after N.eq edges.now) start (is_among N.eq goals.now) path.items)) }
-    ensures errors { IfErr result (λ e. e ≡ PathError.OutOfMemory) }
-{
-    dfs(
-        alloc,
-        start,
-        |n| nodes_after(edges, *n),
-        |n| is_one_of(goals, n),
-    )
+/// The first path in preorder from the start to the goal, in a graph that is given as a list of edges
+/// (from, to).
+pub fn first_in_pairs(
+    alloc: Global,
+    edges: &[(u8, u8)],
+    start: u8,
+    goal: u8,
+) -> Result<Option<Vec<u8>>, PathError> {
+    dfs(alloc, start, |n| nodes_after(edges, *n), |n| *n == goal)
 }
 
 /// The nodes that come in the first `limit` steps of a walk in preorder, in a table in which each row

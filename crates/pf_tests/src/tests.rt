@@ -1,5 +1,4 @@
 mod answers;
-mod both_ends;
 mod calls;
 mod compact;
 mod costs;

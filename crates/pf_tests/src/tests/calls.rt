@@ -2,18 +2,17 @@
 
 ghost use Rattle.std.specs.Prelude.{◌<◌, All, length};
 
-use crate::tests::answers::is_path_at;
+use crate::tests::answers::is_cheapest;
+use crate::tests::kinds::are_inside;
 use pf_base::PathError;
 use pf_base::utils::Tally;
 use pf_search::directed::dijkstra::{dijkstra, dijkstra_tallied};
-use std::alloc::Allocator;
+use std::alloc::Global;
 use std::cell::Cell;
 
 /// Whether there is no path from the node 0 to a node that passes no test, and how often the
 /// successors were asked for.
-fn calls_without_success<A>(alloc: A, rows: &[&[(usize, u32)]]) -> Result<(bool, u64), PathError>
-where
-    A: Allocator + Copy,
+fn calls_without_success(alloc: Global, rows: &[&[(usize, u32)]]) -> Result<(bool, u64), PathError>
     requires inside { 0 < length rows.now }
     requires in_range { All (λ row. All (λ e. e.0 < length rows.now) row.now) rows.now }
 {
@@ -31,9 +30,7 @@ where
 }
 
 /// A cheapest path from the node 0 to the node 3, by the call that counts for its contract.
-fn tallied<A>(alloc: A, rows: &[&[(usize, u32)]]) -> Result<Option<(Vec<usize, A>, u32)>, PathError>
-where
-    A: Allocator + Copy,
+fn tallied(alloc: Global, rows: &[&[(usize, u32)]]) -> Result<Option<(Vec<usize>, u32)>, PathError>
     requires inside { 0 < length rows.now }
     requires in_range { All (λ row. All (λ e. e.0 < length rows.now) row.now) rows.now }
 {
@@ -47,17 +44,14 @@ where
     )
 }
 
+/// The edges s: a5 b1, a: t9, b: a1, of the nodes 0 to 3.
+const ROWS: &[&[(usize, u32)]] = &[&[(1, 5), (2, 1)], &[(3, 9)], &[(1, 1)], &[]];
+
 #[test]
 fn counted_calls_answer(rt: HostRuntime) {
-    // s: a5 b1, a: t9, b: a1, as the nodes 0 to 3
-    let rows: [&[(usize, u32)]; 4] = [&[(1, 5), (2, 1)], &[(3, 9)], &[(1, 1)], &[]];
-    let counted = calls_without_success(rt.alloc(), &rows);
-    assert!(rt;
-        matches!(counted, Ok((true, calls)) if calls <= 4),
-        "each node at most once"
-    );
-    assert!(rt;
-        is_path_at(tallied(rt.alloc(), &rows), &[0, 2, 1, 3], 11),
-        "tallied"
-    );
+    assert!(rt; ROWS.len() > 0 && are_inside(ROWS));
+    // Each node is asked at most once.
+    let counted = calls_without_success(rt.alloc(), ROWS);
+    assert!(rt; matches!(counted, Ok((true, calls)) if calls <= 4));
+    assert!(rt; is_cheapest(tallied(rt.alloc(), ROWS), Some((&[0, 2, 1, 3], 11))));
 }

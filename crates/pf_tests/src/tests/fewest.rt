@@ -1,47 +1,29 @@
 //! Worked examples of paths with fewest edges.
 
-ghost use Rattle.pf_base.specs.Answers.{IsLawfulClone};
-
 use crate::both_ends::fewest_between_in_pairs;
-use crate::fewest::{deepened_in_pairs, fewest_in_pairs};
-use crate::no_case::NoCase;
-use crate::tests::answers::{is_no_path, is_path};
-use crate::tests::refusals::{Call, refuse_each_growth};
-use pf_base::{NodeRefs, PathError};
+use crate::fewest::{Found, deepened_in_pairs, fewest_in_pairs};
+use crate::tests::answers::is_path;
+use pf_base::NodeRefs;
 use refusing_allocator::Refusing;
 use std::alloc::{AllocError, Global};
-use std::hash::Hash;
 
-/// A path with fewest edges from one of these starts to one of these goals.
-fn fewest_from<N>(
-    alloc: Global,
-    edges: &[(N, N)],
-    starts: &[N],
-    goals: &[N],
-) -> Result<Option<Vec<N>>, PathError>
-where
-    N: Eq + Hash + Copy,
-    requires clones { IsLawfulClone N.eq N.is_clone }
-{
-    let starts = NodeRefs::from_nodes(alloc, starts)?;
-    fewest_in_pairs(alloc, edges, &starts, goals)
+/// The field of a chess board at a column and a row, each from 0 to 7.
+fn field(column: u8, row: u8) -> u8 {
+    column.wrapping_mul(8).wrapping_add(row)
 }
 
-/// A field of a chess board.
-type Field = (u8, u8);
-
-/// The knight's moves between the fields 0 to 7 of each way, each in both directions.
-fn knight_moves(alloc: Global) -> Result<Vec<(Field, Field)>, AllocError> {
+/// The knight's moves between the fields, each in both directions.
+fn knight_moves(alloc: Global) -> Result<Vec<(u8, u8)>, AllocError> {
     let mut moves = Vec::new(alloc);
     for x in 0..8u8 {
         for y in 0..8u8 {
             for (right, up) in [(1, 2), (2, 1)] {
                 let (far, high) = (x + right, y + up);
                 if far < 8 && high < 8 {
-                    for (from, to) in [((x, y), (far, high)), ((far, y), (x, high))] {
-                        moves.push((from, to))?;
-                        moves.push((to, from))?;
-                    }
+                    moves.push((field(x, y), field(far, high)))?;
+                    moves.push((field(far, high), field(x, y)))?;
+                    moves.push((field(far, y), field(x, high)))?;
+                    moves.push((field(x, high), field(far, y)))?;
                 }
             }
         }
@@ -49,87 +31,84 @@ fn knight_moves(alloc: Global) -> Result<Vec<(Field, Field)>, AllocError> {
     Ok(moves)
 }
 
-/// Whether as many fields as `count` lead from one field to another.
-fn is_way(fields: &[Field], from: Field, to: Field, count: usize) -> bool {
-    fields.len() == count
-        && fields.first().copied() == Some(from)
-        && fields.last().copied() == Some(to)
+/// Whether the answer is a way of five fields from one field to another.
+fn is_way(answer: Found<'_>, from: u8, to: u8) -> bool {
+    matches!(
+        &answer,
+        Ok(Some(fields)) if fields.len() == 5
+            && fields.first().copied() == Some(from)
+            && fields.last().copied() == Some(to)
+    )
 }
 
 #[test]
 fn a_knight_needs_four_moves(rt: HostRuntime) {
     let moves = knight_moves(rt.alloc()).expect(&rt, "memory");
-    let (from, to) = ((1, 1), (4, 6));
-    let answer = fewest_from(rt.alloc(), &moves, &[from], &[to]);
-    assert!(rt; moves.len() == 336);
-    assert!(rt; matches!(&answer, Ok(Some(path)) if is_way(path, from, to, 5)));
-    let answer = deepened_in_pairs(rt.alloc(), &moves, from, &[to]);
-    assert!(rt; matches!(&answer, Ok(Some(path)) if is_way(path, from, to, 5)));
+    let (from, to) = (field(1, 1), field(4, 6));
     let starts = NodeRefs::from_one(rt.alloc(), &from).expect(&rt, "memory");
     let ends = NodeRefs::from_one(rt.alloc(), &to).expect(&rt, "memory");
-    let answer = fewest_between_in_pairs(rt.alloc(), &moves, &starts, &ends);
-    assert!(rt; matches!(&answer, Ok(Some(path)) if is_way(path, from, to, 5)));
+    let heap = Refusing::new(rt.alloc());
+    assert!(rt; moves.len() == 336);
+    assert!(rt;
+        is_way(fewest_in_pairs(&heap, &moves, &starts, &[to]), from, to),
+        "bfs"
+    );
+    assert!(rt;
+        is_way(deepened_in_pairs(&heap, &moves, from, to), from, to),
+        "iddfs"
+    );
+    let between = fewest_between_in_pairs(&heap, &moves, &starts, &ends);
+    assert!(rt; is_way(between, from, to), "bfs_bidirectional");
 }
 
-/// A way round, a shorter one, and a ring that leads back.
-const RINGED: [(u8, u8); 7] = [(1, 2), (2, 3), (3, 1), (3, 4), (1, 5), (5, 4), (4, 6)];
+/// Edges that follow one another.
+const CHAIN: &[(u8, u8)] = &[(1, 2), (2, 3), (3, 4), (4, 5)];
 
-/// Whether a search by depth limits that grow answers the only right path.
-pub fn is_deepened(heap: &Refusing<Global>) -> Result<bool, PathError> {
-    let found = deepened_in_pairs(heap, &RINGED, 1, &[6])?;
-    Ok(is_path(Ok(found), &[1, 5, 4, 6]))
-}
+/// From 1 over 2, 4 and 7 to 10, and over 3 and 8 with one edge less. The way back from 10 meets 4 first
+/// where it leaves out half of a level.
+const TWO_WAYS: &[(u8, u8)] = &[
+    (1, 2),
+    (1, 3),
+    (2, 4),
+    (2, 5),
+    (2, 6),
+    (4, 7),
+    (7, 10),
+    (3, 8),
+    (8, 10),
+];
+
+/// Edges, starts and ends, and the only path with fewest edges.
+type Ways = (
+    &'static [(u8, u8)],
+    &'static [u8],
+    &'static [u8],
+    Option<&'static [u8]>,
+);
+
+const WAYS: &[Ways] = &[
+    (CHAIN, &[1, 2], &[4, 5], Some(&[2, 3, 4])),
+    (TWO_WAYS, &[1], &[10], Some(&[1, 3, 8, 10])),
+    // A start that is an end is a path alone.
+    (CHAIN, &[1, 3], &[4, 3], Some(&[3])),
+    // No walk leads against the edges, nor to a node that stands in no edge.
+    (CHAIN, &[5], &[1], None),
+    (CHAIN, &[1, 2], &[6], None),
+    (CHAIN, &[], &[1], None),
+    (CHAIN, &[1], &[], None),
+];
 
 #[test]
-fn paths_are_looked_through_by_length(rt: HostRuntime) {
-    let cases: [(u8, &[u8], Option<&[u8]>); 4] = [
-        (1, &[6], Some(&[1, 5, 4, 6])),
-        (3, &[2, 6], Some(&[3, 1, 2])),
-        // A start that is a goal is a path alone.
-        (2, &[2, 4], Some(&[2])),
-        (6, &[1], None),
-    ];
-    for (start, goals, want) in cases {
-        let answer = deepened_in_pairs(rt.alloc(), &RINGED, start, goals);
-        let holds = match want {
-            Some(path) => is_path(answer, path),
-            None => is_no_path(answer),
-        };
-        assert!(rt; holds, "{start}: {goals:?}");
+fn the_nearest_start_and_end_are_taken(rt: HostRuntime) {
+    let heap = Refusing::new(rt.alloc());
+    for (edges, from, to, want) in WAYS {
+        let starts = NodeRefs::from_nodes(rt.alloc(), *from).expect(&rt, "memory");
+        let ends = NodeRefs::from_nodes(rt.alloc(), *to).expect(&rt, "memory");
+        assert!(rt;
+            is_path(fewest_in_pairs(&heap, edges, &starts, to), *want),
+            "{from:?}"
+        );
+        let between = fewest_between_in_pairs(&heap, edges, &starts, &ends);
+        assert!(rt; is_path(between, *want), "{from:?}, from both ends");
     }
-    assert!(rt; refuse_each_growth(&rt, rt.alloc(), Call::Deepened) > 2);
-}
-
-#[test]
-fn the_nearest_start_and_goal_are_taken(rt: HostRuntime) {
-    let chain = [('a', 'b'), ('b', 'c'), ('c', 'd'), ('d', 'e')];
-    let cases: [(&[char], &[char], Option<&[char]>); 4] = [
-        (&['a', 'b'], &['d', 'e'], Some(&['b', 'c', 'd'])),
-        // A start that is a goal is a path alone.
-        (&['a', 'b'], &['e', 'b'], Some(&['b'])),
-        (&['a', 'b'], &['f'], None),
-        // No starts have no path.
-        (&[], &['a', 'b'], None),
-    ];
-    for (starts, goals, want) in cases {
-        let answer = fewest_from(rt.alloc(), &chain, starts, goals);
-        let holds = match want {
-            Some(path) => is_path(answer, path),
-            None => is_no_path(answer),
-        };
-        assert!(rt; holds, "{goals:?}");
-    }
-}
-
-#[test]
-fn equal_nodes_are_one_start(rt: HostRuntime) {
-    let names = [NoCase { name: "a" }, NoCase { name: "A" }];
-    let starts = NodeRefs::from_nodes(rt.alloc(), &names);
-    assert!(rt; matches!(&starts, Ok(starts) if starts.len() == 1));
-    let edges = [
-        (NoCase { name: "a" }, NoCase { name: "B" }),
-        (NoCase { name: "b" }, NoCase { name: "C" }),
-    ];
-    let answer = fewest_from(rt.alloc(), &edges, &names, &[NoCase { name: "c" }]);
-    assert!(rt; matches!(&answer, Ok(Some(path)) if path.len() == 3));
 }

@@ -1,16 +1,16 @@
 //! Searches over edge lists by name.
 
+use crate::fewest::Heap;
 use crate::named::cheapest_way;
 use crate::no_case::NoCase;
-use crate::tests::answers::{is_no_path, is_path, is_path_at};
-use crate::tests::refusals::{Call, refuse_each_growth};
+use crate::tests::answers::Outcome;
+use crate::tests::list::SPELLED;
 use pf_base::PathError;
 use pf_tables::EdgeList;
 use refusing_allocator::Refusing;
-use std::alloc::Global;
 
 /// One-way roads between five places.
-const ROADS: [(char, char, u32); 7] = [
+pub const ROADS: &[(char, char, u32)] = &[
     ('a', 'b', 4),
     ('a', 'c', 2),
     ('b', 'c', 1),
@@ -20,43 +20,70 @@ const ROADS: [(char, char, u32); 7] = [
     ('d', 'e', 2),
 ];
 
-#[test]
-fn routes_between_names(rt: HostRuntime) {
-    let alloc = rt.alloc();
-    let roads = ROADS;
-    let list = EdgeList::new(alloc, &roads).expect(&rt, "memory");
-    // The cheapest way with its cost, and the way with fewest edges.
-    let cases: [(char, char, &[&char], u32, &[&char]); 3] = [
-        ('a', 'e', &[&'a', &'b', &'d', &'e'], 11, &[&'a', &'c', &'e']),
-        ('c', 'c', &[&'c'], 0, &[&'c']),
-        ('z', 'z', &[&'z'], 0, &[&'z']),
-    ];
-    for (from, to, cheapest, cost, fewest) in cases {
-        assert!(rt; is_path_at(list.dijkstra(alloc, &from, &to), cheapest, cost));
-        assert!(rt; is_path(list.bfs(alloc, &from, &to), fewest));
+/// Whether these are the places.
+fn are_places(places: &[&char], names: &[char]) -> bool {
+    for (place, name) in places.iter().zip(names) {
+        if **place != *name {
+            return false;
+        }
     }
-    assert!(rt;
-        is_path_at(
-            cheapest_way(alloc, &list, &'b', &'e'),
-            &[&'b', &'d', &'e'],
-            7
-        )
-    );
+    places.len() == names.len()
 }
 
-#[test]
-fn names_without_a_way(rt: HostRuntime) {
-    let alloc = rt.alloc();
-    let roads = ROADS;
-    let list = EdgeList::new(alloc, &roads).expect(&rt, "memory");
-    // No way leads back, nor from or to a name that stands in no edge.
-    for (from, to) in [('e', 'a'), ('a', 'z'), ('z', 'a'), ('y', 'z')] {
-        assert!(rt;
-            is_no_path(list.dijkstra(alloc, &from, &to)),
-            "{from} to {to}"
-        );
-        assert!(rt; is_no_path(list.bfs(alloc, &from, &to)), "{from} to {to}");
+/// How a search ended that has to answer the way over these places.
+pub fn way_outcome(
+    answer: Result<Option<Vec<&char, Heap<'_>>>, PathError>,
+    names: &[char],
+) -> Outcome {
+    match &answer {
+        Ok(Some(places)) => Outcome::of_answer(are_places(places, names)),
+        Ok(None) => Outcome::of_answer(names.is_empty()),
+        Err(refusal) => Outcome::of_refusal(*refusal),
     }
+}
+
+/// The same of a way at this cost.
+pub fn cheapest_way_outcome(
+    answer: Result<Option<(Vec<&char, Heap<'_>>, u32)>, PathError>,
+    names: &[char],
+    price: u32,
+) -> Outcome {
+    match &answer {
+        Ok(Some((places, cost))) => {
+            Outcome::of_answer(are_places(places, names) && *cost == price)
+        }
+        Ok(None) => Outcome::of_answer(names.is_empty()),
+        Err(refusal) => Outcome::of_refusal(*refusal),
+    }
+}
+
+/// Two places, the cheapest way from one to the other, what it costs, and the way with fewest roads; no
+/// places where there is none.
+type Ways = (char, char, &'static [char], u32, &'static [char]);
+
+const WAYS: &[Ways] = &[
+    ('a', 'e', &['a', 'b', 'd', 'e'], 11, &['a', 'c', 'e']),
+    ('c', 'c', &['c'], 0, &['c']),
+    // No way leads back, nor from or to a name that stands in no edge, but to itself.
+    ('e', 'a', &[], 0, &[]),
+    ('a', 'z', &[], 0, &[]),
+    ('z', 'a', &[], 0, &[]),
+    ('y', 'z', &[], 0, &[]),
+    ('z', 'z', &['z'], 0, &['z']),
+];
+
+#[test]
+fn ways_between_names(rt: HostRuntime) {
+    let heap = Refusing::new(rt.alloc());
+    let roads = EdgeList::new(&heap, ROADS).expect(&rt, "memory");
+    for (from, to, cheapest, cost, fewest) in WAYS {
+        let way = cheapest_way_outcome(cheapest_way(&heap, &roads, from, to), cheapest, *cost);
+        assert!(rt; way == Outcome::Right, "{from} to {to}");
+        let way = way_outcome(roads.bfs(&heap, from, to), fewest);
+        assert!(rt; way == Outcome::Right, "{from} to {to}");
+    }
+    assert!(rt; roads.number_of(&'d') == Some(3) && roads.number_of(&'f').is_none());
+    assert!(rt; roads.len() > 3 && *roads.name_of(3) == 'd');
 }
 
 /// Whether the places are spelled like this.
@@ -72,56 +99,16 @@ fn are_spelled(places: &[&NoCase<'_>], spellings: &[&str]) -> bool {
 #[test]
 fn names_that_ignore_letter_case(rt: HostRuntime) {
     let alloc = rt.alloc();
-    // The harbour is first met as `HARBOUR`, and the mill makes it cheaper.
-    let roads = [
-        (NoCase { name: "HOME" }, NoCase { name: "Mill" }, 2u32),
-        (NoCase { name: "Home" }, NoCase { name: "HARBOUR" }, 9),
-        (NoCase { name: "MILL" }, NoCase { name: "Harbour" }, 3),
-    ];
-    let list = EdgeList::new(alloc, &roads).expect(&rt, "memory");
+    let roads = EdgeList::new(alloc, SPELLED).expect(&rt, "memory");
     let from = NoCase { name: "home" };
     let to = NoCase { name: "harbour" };
-    let way = list.dijkstra(alloc, &from, &to);
+    let cheapest = roads.dijkstra(alloc, &from, &to);
     assert!(rt;
-        matches!(&way, Ok(Some((places, 5))) if are_spelled(places, &["HOME", "Mill", "HARBOUR"]))
+        matches!(&cheapest, Ok(Some((places, 5))) if are_spelled(places, &["HOME", "Mill", "HARBOUR"]))
     );
-    let cases: [(NoCase, NoCase, &[&str]); 2] = [
-        (from, to, &["HOME", "HARBOUR"]),
-        (NoCase { name: "inn" }, NoCase { name: "INN" }, &["inn"]),
-    ];
-    for (from, to, spellings) in cases {
-        let way = list.bfs(alloc, &from, &to);
-        assert!(rt; matches!(&way, Ok(Some(places)) if are_spelled(places, spellings)));
-    }
-}
-
-/// Whether the searches by name answer the only right paths. The list lies in ample memory.
-pub fn is_right(heap: &Refusing<Global>, ample: Global) -> Result<bool, PathError> {
-    let roads = ROADS;
-    let Ok(list) = EdgeList::new(ample, &roads) else {
-        return Ok(false);
-    };
-    let cheapest = list.dijkstra(heap, &'a', &'e')?;
-    let fewest = list.bfs(heap, &'a', &'e')?;
-    let alone = list.bfs(heap, &'z', &'z')?;
-    Ok(
-        is_path_at(Ok(cheapest), &[&'a', &'b', &'d', &'e'], 11)
-            && is_path(Ok(fewest), &[&'a', &'c', &'e'])
-            && is_path(Ok(alone), &[&'z']),
-    )
-}
-
-#[test]
-fn searches_by_name_refuse_each_growth_and_sums_that_do_not_fit(rt: HostRuntime) {
-    let alloc = rt.alloc();
-    assert!(rt; refuse_each_growth(&rt, alloc, Call::Names) > 6);
-    let dear = [('a', 'b', 200u8), ('b', 'c', 100)];
-    let list = EdgeList::new(alloc, &dear).expect(&rt, "memory");
-    assert!(rt; is_path_at(list.dijkstra(alloc, &'a', &'b'), &[&'a', &'b'], 200));
-    assert!(rt;
-        matches!(
-            list.dijkstra(alloc, &'a', &'c'),
-            Err(PathError::CostOverflow)
-        )
-    );
+    let fewest = roads.bfs(alloc, &from, &to);
+    assert!(rt; matches!(&fewest, Ok(Some(places)) if are_spelled(places, &["HOME", "HARBOUR"])));
+    // Two spellings of a name that stands in no edge.
+    let alone = roads.bfs(alloc, &NoCase { name: "inn" }, &NoCase { name: "INN" });
+    assert!(rt; matches!(&alone, Ok(Some(places)) if are_spelled(places, &["inn"])));
 }

@@ -1,72 +1,231 @@
 //! Each growth refused in turn: a call answers out of memory and nothing else, until no request is
 //! refused and it answers as it does with ample memory.
 
-use crate::fewest::fewest_in_pairs;
-use crate::tests::answers::{is_path, is_path_at};
-use crate::tests::kinds::by_array;
-use crate::tests::noderefs::is_cloned;
+use crate::both_ends::fewest_between_in_pairs;
+use crate::fewest::{Heap, deepened_in_pairs, fewest_in_pairs};
+use crate::list::cheapest_in_list;
+use crate::loops::loop_in_pairs;
+use crate::tests::answers::{Outcome, cheapest_outcome, path_outcome};
+use crate::tests::graphs::ROWS;
+use crate::tests::names::{ROADS, cheapest_way_outcome, way_outcome};
 use crate::tests::routes::{SEVEN, SEVEN_ANSWERS, spelled};
-use crate::tests::{both_ends, fewest, graphs, loops, names, refusing};
 use pathfinding::routes::{Command, Noted, RouteError, run};
 use pf_base::{NodeRefs, PathError};
+use pf_tables::{EdgeList, EdgeListError, Rows, bfs, dijkstra};
 use refusing_allocator::Refusing;
-use std::alloc::{AllocError, Allocator, Global};
+use std::alloc::Global;
 use std::process::Abort;
-
-/// How a call ended.
-#[derive(Clone, Copy, Debug, PartialEq, Eq)]
-pub enum Outcome {
-    /// It answered out of memory.
-    OutOfMemory,
-    /// It answered as it does with ample memory.
-    Answered,
-    /// It did neither.
-    Wrong,
-}
 
 /// A call that takes memory.
 #[derive(Clone, Copy, Debug)]
-pub enum Call<'a> {
-    /// A cheapest path over 60 nodes, two edges from each.
-    CheapestPath,
-    /// A path with fewest edges.
-    FewestEdges,
-    /// The same by depth limits that grow.
-    Deepened,
-    /// The same from both ends.
-    BothEnds,
-    /// A loop with fewest edges.
-    Loop,
-    /// Searches over a table.
-    Tables,
+enum Call {
+    /// A search over edges in a list.
+    Search(Search),
+    /// `dijkstra` over a table.
+    CheapestInTable,
+    /// `bfs` over a table.
+    FewestInTable,
     /// A list of edges, and what it tells of names.
     EdgeList,
-    /// Searches by name.
-    Names,
+    /// A cheapest way by name.
+    CheapestByName,
+    /// A way with fewest edges by name.
+    FewestByName,
+    /// The same to a name that stands in no edge, from that name.
+    AloneByName,
     /// A set of one node.
     SetOfOne,
     /// A set of many nodes, and a clone of it.
     SetOfMany,
-    /// A vector that grows beside a box.
-    Growing,
-    /// A command over the seven edges, and what is written for it.
-    Run(&'a Command, &'a [u8]),
+}
+
+/// A search over edges in a list.
+#[derive(Clone, Copy, Debug)]
+enum Search {
+    /// `dijkstra`.
+    Cheapest,
+    /// `bfs`.
+    Fewest,
+    /// `iddfs`.
+    Deepened,
+    /// `bfs_bidirectional`.
+    BothEnds,
+    /// `bfs_loop`.
+    Loop,
+}
+
+/// Each call, and how many growths it makes at the least.
+const CALLS: &[(Call, u64)] = &[
+    (Call::Search(Search::Cheapest), 3),
+    (Call::Search(Search::Fewest), 3),
+    (Call::Search(Search::Deepened), 3),
+    (Call::Search(Search::BothEnds), 3),
+    (Call::Search(Search::Loop), 3),
+    (Call::CheapestInTable, 3),
+    (Call::FewestInTable, 3),
+    (Call::EdgeList, 7),
+    (Call::CheapestByName, 3),
+    (Call::FewestByName, 3),
+    (Call::AloneByName, 1),
+    (Call::SetOfOne, 1),
+    (Call::SetOfMany, 3),
+];
+
+/// What the calls are asked about, in ample memory.
+#[derive(Drop)]
+struct Asked<'a> {
+    /// The node 1.
+    starts: NodeRefs<'a, u8>,
+    /// The node 6.
+    ends: NodeRefs<'a, u8>,
+    /// The table `ROWS`.
+    rows: Rows<'a, &'a [(usize, u32)], u32>,
+    /// The list `ROADS`.
+    roads: EdgeList<'a, char, u32>,
+}
+
+/// A way round, a shorter one, a ring that leads back, and nodes that lead nowhere.
+const RINGED: &[(u8, u8)] = &[
+    (1, 7),
+    (1, 8),
+    (1, 9),
+    (1, 10),
+    (1, 11),
+    (1, 12),
+    (1, 13),
+    (1, 14),
+    (1, 15),
+    (1, 2),
+    (2, 3),
+    (3, 1),
+    (3, 4),
+    (1, 5),
+    (5, 4),
+    (4, 6),
+];
+
+/// The same edges with costs, by which the way round is cheaper.
+const PRICED: &[(u8, u8, u32)] = &[
+    (1, 7, 1),
+    (1, 8, 1),
+    (1, 9, 1),
+    (1, 10, 1),
+    (1, 11, 1),
+    (1, 12, 1),
+    (1, 13, 1),
+    (1, 14, 1),
+    (1, 15, 1),
+    (1, 2, 1),
+    (2, 3, 1),
+    (3, 1, 1),
+    (3, 4, 1),
+    (1, 5, 9),
+    (5, 4, 9),
+    (4, 6, 1),
+];
+
+/// How a search over edges in a list ended.
+fn search_outcome(
+    heap: Heap<'_>,
+    starts: &NodeRefs<'_, u8>,
+    ends: &NodeRefs<'_, u8>,
+    search: Search,
+) -> Outcome {
+    let short: Option<&[u8]> = Some(&[1, 5, 4, 6]);
+    match search {
+        Search::Cheapest => cheapest_outcome(
+            cheapest_in_list(heap, PRICED, 1, 6),
+            Some((&[1, 2, 3, 4, 6], 4)),
+        ),
+        Search::Fewest => path_outcome(fewest_in_pairs(heap, RINGED, starts, &[6]), short),
+        Search::Deepened => path_outcome(deepened_in_pairs(heap, RINGED, 1, 6), short),
+        Search::BothEnds => path_outcome(
+            fewest_between_in_pairs(heap, RINGED, starts, ends),
+            short,
+        ),
+        Search::Loop => path_outcome(loop_in_pairs(heap, RINGED, starts), Some(&[1, 2, 3, 1])),
+    }
+}
+
+/// How the making of a list of edges ended, and of names from it.
+fn list_outcome(heap: Heap<'_>) -> Outcome {
+    let list = match EdgeList::new(heap, ROADS) {
+        Ok(list) => list,
+        Err(EdgeListError::OutOfMemory) => return Outcome::OutOfMemory,
+        Err(_) => return Outcome::Wrong,
+    };
+    if list.len() != 5 {
+        return Outcome::Wrong;
+    }
+    match list.names_of(heap, &[4, 0]) {
+        Ok(names) => Outcome::of_answer(names.as_slice() == [&'e', &'a'].as_slice()),
+        Err(refusal) => Outcome::of_refusal(refusal),
+    }
+}
+
+/// How the making of a set of one node ended.
+fn one_outcome(heap: Heap<'_>) -> Outcome {
+    match NodeRefs::from_one(heap, &7u32) {
+        Ok(set) => Outcome::of_answer(set.len() == 1),
+        Err(refusal) => Outcome::of_refusal(refusal),
+    }
+}
+
+/// Numbers, more than a set has room for at first.
+const MANY: &[u32] = &[
+    0, 1, 2, 3, 4, 5, 6, 7, 8, 9, 10, 11, 12, 13, 14, 15, 16, 17, 18, 19,
+];
+
+/// How the making of a set of many nodes ended, and of a clone of it.
+fn many_outcome(heap: Heap<'_>) -> Outcome {
+    let set = match NodeRefs::from_nodes(heap, MANY) {
+        Ok(set) => set,
+        Err(refusal) => return Outcome::of_refusal(refusal),
+    };
+    match set.clone() {
+        Ok(copy) => Outcome::of_answer(copy == set && set.len() == MANY.len()),
+        Err(_) => Outcome::OutOfMemory,
+    }
+}
+
+/// How a call ended. What it is asked about lies in ample memory.
+fn outcome_of(heap: Heap<'_>, asked: &Asked<'_>, call: Call) -> Outcome {
+    match call {
+        Call::Search(search) => search_outcome(heap, &asked.starts, &asked.ends, search),
+        Call::CheapestInTable => cheapest_outcome(
+            dijkstra(heap, &asked.rows, 0, 4),
+            Some((&[0, 1, 3, 4], 11)),
+        ),
+        Call::FewestInTable => path_outcome(bfs(heap, &asked.rows, 0, 4), Some(&[0, 2, 4])),
+        Call::EdgeList => list_outcome(heap),
+        Call::CheapestByName => {
+            cheapest_way_outcome(
+                asked.roads.dijkstra(heap, &'a', &'e'),
+                &['a', 'b', 'd', 'e'],
+                11,
+            )
+        }
+        Call::FewestByName => way_outcome(asked.roads.bfs(heap, &'a', &'e'), &['a', 'c', 'e']),
+        Call::AloneByName => way_outcome(asked.roads.bfs(heap, &'z', &'z'), &['z']),
+        Call::SetOfOne => one_outcome(heap),
+        Call::SetOfMany => many_outcome(heap),
+    }
 }
 
 /// Runs a call with growth 0, 1, 2, .. refused alone, until a run meets no refusal, and answers how
 /// many growths that run made. Each run before it has to answer out of memory.
-pub fn refuse_each_growth(rt: &impl Abort, ample: Global, call: Call<'_>) -> u64 {
+fn refuse_each_growth(rt: &impl Abort, ample: Global, asked: &Asked<'_>, call: Call) -> u64 {
     for growth in 0..100_000u64 {
         let heap = Refusing::new(ample);
         heap.refuse(growth, 1);
-        let outcome = outcome_of(&heap, ample, call);
+        let outcome = outcome_of(&heap, asked, call);
         let is_refused = heap.pending() == 0;
         let want = if is_refused {
             Outcome::OutOfMemory
         } else {
-            Outcome::Answered
+            Outcome::Right
         };
-        assert_eq!(rt; outcome, want, "{call:?}, growth {growth}");
+        assert!(rt; outcome == want, "{call:?}, growth {growth}");
         if !is_refused {
             return growth;
         }
@@ -74,107 +233,64 @@ pub fn refuse_each_growth(rt: &impl Abort, ample: Global, call: Call<'_>) -> u64
     panic!(rt; "every run met a refusal")
 }
 
-/// The numbers below `count`, in a vector that grows as it is filled.
-pub fn numbers_below<A>(alloc: A, count: u32) -> Result<Vec<u32, A>, AllocError>
-where
-    A: Allocator + Copy,
-{
-    let mut numbers = Vec::new(alloc);
-    for number in 0..count {
-        numbers.push(number)?;
+/// What the calls are asked about.
+fn all_asked(rt: &impl Abort, ample: Global) -> Asked<'static> {
+    Asked {
+        starts: NodeRefs::from_one(ample, &1).expect(rt, "memory"),
+        ends: NodeRefs::from_one(ample, &6).expect(rt, "memory"),
+        rows: Rows::new(ROWS).expect(rt, "a graph"),
+        roads: EdgeList::new(ample, ROADS).expect(rt, "memory"),
     }
-    Ok(numbers)
-}
-
-/// Whether a cheapest path over 60 nodes is the only one.
-fn is_cheapest(heap: &Refusing<Global>) -> Result<bool, PathError> {
-    let found = by_array(heap, 60, 59)?;
-    Ok(is_path_at(Ok(found), &[1, 2, 3, 6, 7, 14, 28, 29, 58, 59], 22))
-}
-
-/// Whether a path with fewest edges is the only one.
-fn is_fewest(heap: &Refusing<Global>, ample: Global) -> Result<bool, PathError> {
-    let edges = [(1, 2), (2, 3), (1, 4), (4, 3), (3, 5), (4, 5), (5, 6)];
-    let starts = NodeRefs::from_one(ample, &1)?;
-    let found = fewest_in_pairs(heap, &edges, &starts, &[6])?;
-    Ok(is_path(Ok(found), &[1, 4, 5, 6]))
-}
-
-/// Whether a set of many nodes is cloned. The nodes lie in ample memory.
-fn is_set_cloned(heap: &Refusing<Global>, ample: Global) -> Result<bool, PathError> {
-    let nodes = numbers_below(ample, 100)?;
-    is_cloned(heap, &nodes)
-}
-
-/// How a call ended that is to answer true.
-fn ended(answer: Result<bool, PathError>) -> Outcome {
-    match answer {
-        Ok(true) => Outcome::Answered,
-        Err(PathError::OutOfMemory) => Outcome::OutOfMemory,
-        _ => Outcome::Wrong,
-    }
-}
-
-/// How a call ended. What it is asked about lies in ample memory.
-fn outcome_of(heap: &Refusing<Global>, ample: Global, call: Call<'_>) -> Outcome {
-    match call {
-        Call::CheapestPath => ended(is_cheapest(heap)),
-        Call::FewestEdges => ended(is_fewest(heap, ample)),
-        Call::Deepened => ended(fewest::is_deepened(heap)),
-        Call::BothEnds => ended(both_ends::is_right(heap, ample)),
-        Call::Loop => ended(loops::is_right(heap, ample)),
-        Call::Tables => ended(graphs::is_right(heap)),
-        Call::EdgeList => ended(graphs::is_right_by_names(heap)),
-        Call::Names => ended(names::is_right(heap, ample)),
-        Call::SetOfOne => ended(is_set_of_one(heap)),
-        Call::SetOfMany => ended(is_set_cloned(heap, ample)),
-        Call::Growing => ended(refusing::is_kept(heap)),
-        Call::Run(command, answer) => run_outcome(heap, ample, command, answer),
-    }
-}
-
-/// Whether a set of one node has one.
-fn is_set_of_one(heap: &Refusing<Global>) -> Result<bool, PathError> {
-    Ok(NodeRefs::from_one(heap, &7)?.len() == 1)
 }
 
 #[test]
-fn searches_and_sets_refuse_each_growth(rt: HostRuntime) {
-    for (call, least) in [
-        (Call::CheapestPath, 2),
-        (Call::FewestEdges, 2),
-        (Call::SetOfOne, 1),
-        (Call::SetOfMany, 2),
-    ] {
-        let growths = refuse_each_growth(&rt, rt.alloc(), call);
-        assert!(rt; growths >= least, "{call:?}");
+fn calls_refuse_each_growth(rt: HostRuntime) {
+    let asked = all_asked(&rt, rt.alloc());
+    for (call, least) in CALLS {
+        let growths = refuse_each_growth(&rt, rt.alloc(), &asked, *call);
+        assert!(rt; growths >= *least, "{call:?} makes {growths} growths");
     }
 }
 
-/// Runs a command over the seven edges, and compares all that was written with the only answer.
-fn run_outcome(
-    heap: &Refusing<Global>,
-    ample: Global,
-    command: &Command,
-    answer: &[u8],
-) -> Outcome {
+/// How a command over the seven edges ended, by all that was written.
+fn run_outcome(heap: Heap<'_>, ample: Global, command: &Command, answer: &[u8]) -> Outcome {
     let mut input = Noted::new(SEVEN);
     let mut output = Noted::new(Vec::new(ample));
     let result = run(heap, command, &mut input, &mut output);
     let failed = input.failed() || output.failed();
     let written = output.into_inner();
     match result {
-        Ok(()) if !failed && written.as_slice() == answer => Outcome::Answered,
+        Ok(()) if !failed && written.as_slice() == answer => Outcome::Right,
         Err(RouteError::OutOfMemory) if !failed && written.is_empty() => Outcome::OutOfMemory,
         _ => Outcome::Wrong,
     }
+}
+
+/// The same for a command over the seven edges, for which `answer` is written.
+fn refuse_each_growth_of_run(
+    rt: &impl Abort,
+    ample: Global,
+    command: &Command,
+    answer: &[u8],
+) -> u64 {
+    for growth in 0..100_000u64 {
+        let heap = Refusing::new(ample);
+        heap.refuse(growth, 1);
+        let outcome = run_outcome(&heap, ample, command, answer);
+        if heap.pending() > 0 {
+            assert!(rt; outcome == Outcome::Right, "with no refusal");
+            return growth;
+        }
+        assert!(rt; outcome == Outcome::OutOfMemory, "growth {growth}");
+    }
+    panic!(rt; "every run met a refusal")
 }
 
 #[test]
 fn run_refuses_each_growth(rt: HostRuntime) {
     for (line, answer) in SEVEN_ANSWERS {
         let command = spelled(rt.alloc(), line).expect(&rt, "a command");
-        let growths = refuse_each_growth(&rt, rt.alloc(), Call::Run(&command, answer));
+        let growths = refuse_each_growth_of_run(&rt, rt.alloc(), &command, answer);
         assert!(rt; growths > 1, "{line}");
     }
 }

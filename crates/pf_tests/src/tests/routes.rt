@@ -1,44 +1,14 @@
 //! Runs of `routes` over memory.
 
-ghost use Rattle.std.specs.Prelude.{◌≡◌, [], ℕ, List, Ok, Err, OnOk};
-ghost use Rattle.pathfinding.specs.AnswerText.{IsAnswer, Overflows};
-ghost use Rattle.pathfinding.specs.EdgeText.{Edge, edge_text};
-
 use pathfinding::routes::{Command, Noted, RouteError, command, run, run_with_hasher};
 use std::alloc::{AllocError, Global};
-use std::hash::{BuildHasher, Hasher, RandomState};
-
-/// A hasher under which all names collide.
-#[derive(Clone, Copy)]
-struct OneHash;
-
-impl Hasher for OneHash {
-    ghost write = { λ h bytes. h };
-
-    ghost finish = { λ h. 7 };
-
-    fn finish(&self) -> u64 {
-        7
-    }
-
-    fn write(&mut self, _bytes: &[u8]) {}
-}
-
-impl BuildHasher for OneHash {
-    type Hasher = OneHash;
-
-    ghost build_hasher = { λ h. h };
-
-    fn build_hasher(&self) -> OneHash {
-        *self
-    }
-}
+use std::hash::RandomState;
 
 /// Seven edges between five nodes.
 pub const SEVEN: &[u8] = b"A B 4\nA C 2\nB C 1\nB D 5\nC D 8\nC E 10\nD E 2\n";
 
 /// A command of each kind about the seven edges, and what is written for it.
-pub const SEVEN_ANSWERS: [(&str, &[u8]); 6] = [
+pub const SEVEN_ANSWERS: &[(&str, &[u8])] = &[
     ("dijkstra A E", b"11: A B D E\n"),
     ("bfs A E", b"2: A C E\n"),
     ("kruskal", b"B C 1\nA C 2\nD E 2\nB D 5\n"),
@@ -54,7 +24,7 @@ pub const SEVEN_ANSWERS: [(&str, &[u8]); 6] = [
 const FIVE: &[u8] = b"s a 1\na t 1\na b 1\na b 3\nb t 1\n";
 
 /// Commands, edges, and what is written for them.
-const ANSWERS: [(&str, &[u8], &[u8]); 43] = [
+const ANSWERS: &[(&str, &[u8], &[u8])] = &[
     ("dijkstra A E", SEVEN, b"11: A B D E\n"),
     ("dijkstra A A", b"", b"0: A\n"),
     ("dijkstra a c", b"", b"none\n"),
@@ -142,7 +112,7 @@ const ANSWERS: [(&str, &[u8], &[u8]); 43] = [
 ];
 
 /// Commands, edges, and the fault that they have.
-const FAULTS: [(&str, &[u8], RouteError); 19] = [
+const FAULTS: &[(&str, &[u8], RouteError)] = &[
     ("dijkstra a c", b"a b 1\nb c x\n", RouteError::BadEdge(2)),
     (
         "dijkstra a c",
@@ -215,18 +185,6 @@ pub fn spelled(alloc: Global, line: &str) -> Option<Command> {
     asked(alloc, line).ok()?
 }
 
-/// What a run over memory answers, and all that it wrote.
-fn run_over(alloc: Global, command: &Command, text: &[u8]) -> (Result<(), RouteError>, Vec<u8>)
-    ensures answer { OnOk result.0 ((edges : List Edge) × (edge_text text.now ≡ Ok edges) × IsAnswer command.now edges result.1.items) }
-    ensures bad_edge { (line : ℕ) → result.0 ≡ Err (RouteError.BadEdge line) → (edge_text text.now ≡ Err line) × (result.1.items ≡ []) }
-    ensures overflow { result.0 ≡ Err RouteError.CostOverflow → ((edges : List Edge) × (edge_text text.now ≡ Ok edges) × Overflows command.now edges) × (result.1.items ≡ []) }
-{
-    let mut input = Noted::new(text);
-    let mut output = Noted::new(Vec::new(alloc));
-    let result = run(alloc, command, &mut input, &mut output);
-    (result, output.into_inner())
-}
-
 /// Whether a run over memory writes this and answers Ok, or writes nothing and answers this fault.
 fn is_answered(
     alloc: Global,
@@ -234,7 +192,10 @@ fn is_answered(
     text: &[u8],
     want: Result<&[u8], RouteError>,
 ) -> bool {
-    let (result, written) = run_over(alloc, command, text);
+    let mut input = Noted::new(text);
+    let mut output = Noted::new(Vec::new(alloc));
+    let result = run(alloc, command, &mut input, &mut output);
+    let written = output.into_inner();
     match (result, want) {
         (Ok(()), Ok(bytes)) => written.as_slice() == bytes,
         (Err(fault), Err(wanted)) => fault == wanted && written.is_empty(),
@@ -243,109 +204,105 @@ fn is_answered(
 }
 
 #[test]
-fn answers_are_written_and_faults_write_nothing(rt: HostRuntime) {
-    let alloc = rt.alloc();
+fn answers_are_written(rt: HostRuntime) {
     for (line, text, want) in ANSWERS {
-        let command = spelled(alloc, line).expect(&rt, "a command");
+        let command = spelled(rt.alloc(), line).expect(&rt, "a command");
         assert!(rt;
-            is_answered(alloc, &command, text, Ok(want)),
-            "{line} of {text:?}"
-        );
-    }
-    for (line, text, want) in FAULTS {
-        let command = spelled(alloc, line).expect(&rt, "a command");
-        assert!(rt;
-            is_answered(alloc, &command, text, Err(want)),
+            is_answered(rt.alloc(), &command, text, Ok(*want)),
             "{line} of {text:?}"
         );
     }
 }
 
 #[test]
-fn wrong_words_are_no_command(rt: HostRuntime) {
-    let wrong = [
-        "walk",
-        "walk a b",
-        "bfs a",
-        "bfs a b c",
-        "BFS a b",
-        "bfs a b\u{7f}",
-        "dijkstra a",
-        "dijkstra a b c",
-        "Dijkstra a b",
-        "dijkstra a ",
-        "dijkstra a\tb c",
-        "dijkstra a b\u{7f}",
-        "kruskal a",
-        "kruskal a b",
-        "Kruskal",
-        "yen",
-        "yen a",
-        "yen a b",
-        "yen a b 1 2",
-        "yen a b c",
-        "yen a b +1",
-        "yen a b -1",
-        "yen a b 1x",
-        "yen a b ",
-        "yen a b All",
-        "yen a b all ",
-        "yen a b 18446744073709551616",
-        "yen a\t b 1",
-        "yen a b\u{7f} 1",
-        "yen a b\u{7f} all",
-        "Yen a b 1",
-        "flow",
-        "flow s",
-        "flow s t u",
-        "flow s t\u{7f}",
-        "Flow s t",
-        "bfs a b all",
-        "dijkstra a b 1",
-        "",
-    ];
-    for line in wrong {
-        assert!(rt; matches!(&asked(rt.alloc(), line), Ok(None)), "{line}");
-    }
-    assert!(rt; command(Vec::new(rt.alloc())).is_none());
-    for line in [
-        "dijkstra ! ~",
-        "bfs ! ~",
-        "flow ! ~",
-        "yen ! ~ 0",
-        "yen ! ~ all",
-        "yen all all all",
-        "yen a b 00018446744073709551615",
-    ] {
-        assert!(rt; spelled(rt.alloc(), line).is_some(), "{line}");
+fn faults_write_nothing(rt: HostRuntime) {
+    for (line, text, fault) in FAULTS {
+        let command = spelled(rt.alloc(), line).expect(&rt, "a command");
+        assert!(rt;
+            is_answered(rt.alloc(), &command, text, Err(*fault)),
+            "{line} of {text:?}"
+        );
     }
 }
 
-/// Whether a run over the seven edges writes this, by the hasher.
-fn writes<S: BuildHasher + Drop>(
-    alloc: Global,
-    command: &Command,
-    hash_builder: S,
-    want: &[u8],
-) -> bool {
+/// Words that spell no command.
+const WRONG: &[&str] = &[
+    "walk",
+    "walk a b",
+    "bfs a",
+    "bfs a b c",
+    "BFS a b",
+    "bfs a b\u{7f}",
+    "dijkstra a",
+    "dijkstra a b c",
+    "Dijkstra a b",
+    "dijkstra a ",
+    "dijkstra a\tb c",
+    "dijkstra a b\u{7f}",
+    "kruskal a",
+    "kruskal a b",
+    "Kruskal",
+    "yen",
+    "yen a",
+    "yen a b",
+    "yen a b 1 2",
+    "yen a b c",
+    "yen a b +1",
+    "yen a b -1",
+    "yen a b 1x",
+    "yen a b ",
+    "yen a b All",
+    "yen a b all ",
+    "yen a b 18446744073709551616",
+    "yen a\t b 1",
+    "yen a b\u{7f} 1",
+    "yen a b\u{7f} all",
+    "Yen a b 1",
+    "flow",
+    "flow s",
+    "flow s t u",
+    "flow s t\u{7f}",
+    "Flow s t",
+    "bfs a b all",
+    "dijkstra a b 1",
+    "",
+];
+
+/// Words that spell one.
+const COMMANDS: &[&str] = &[
+    "dijkstra ! ~",
+    "bfs ! ~",
+    "flow ! ~",
+    "yen ! ~ 0",
+    "yen ! ~ all",
+    "yen all all all",
+    "yen a b 00018446744073709551615",
+];
+
+#[test]
+fn wrong_words_are_no_command(rt: HostRuntime) {
+    for line in WRONG {
+        assert!(rt; matches!(&asked(rt.alloc(), line), Ok(None)), "{line}");
+    }
+    for line in COMMANDS {
+        assert!(rt; spelled(rt.alloc(), line).is_some(), "{line}");
+    }
+    assert!(rt; command(Vec::new(rt.alloc())).is_none());
+}
+
+/// Whether a run over the seven edges writes this, by hashes of these seeds.
+fn is_written(alloc: Global, command: &Command, seeds: RandomState, want: &[u8]) -> bool {
     let mut input = Noted::new(SEVEN);
     let mut output = Noted::new(Vec::new(alloc));
-    let result = run_with_hasher(alloc, command, &mut input, &mut output, hash_builder);
+    let result = run_with_hasher(alloc, command, &mut input, &mut output, seeds);
     result.is_ok() && output.into_inner().as_slice() == want
 }
 
 #[test]
-fn any_hasher_gives_the_same_answers(rt: HostRuntime) {
+fn any_seed_gives_the_same_answers(rt: HostRuntime) {
     let seeds = RandomState::new(&rt).expect(&rt, "seeds");
     for (line, want) in SEVEN_ANSWERS {
         let command = spelled(rt.alloc(), line).expect(&rt, "a command");
-        assert!(rt;
-            writes(rt.alloc(), &command, seeds, want),
-            "{line}, by a random seed"
-        );
-        assert!(rt;
-            writes(rt.alloc(), &command, OneHash, want),
-            "{line}, all colliding"
-        );
+        assert!(rt; is_written(rt.alloc(), &command, seeds, want), "{line}");
     }
 }

@@ -5,11 +5,10 @@ ghost use Rattle.std.specs.Prelude.{◌<◌, All, length, IsTrue};
 use crate::preorder::{first_in_pairs, preorder_in_rows};
 use crate::reach::{Given, given_in_rows};
 use crate::rows::{cheapest_in_rows, fewest_in_rows, leads_to_rows};
-use crate::tests::answers::{is_no_path, is_path, is_path_at};
+use crate::tests::answers::{is_cheapest, is_path};
 use crate::tests::kinds::by_rows;
 use pf_base::{NodeRefs, PathError};
 use std::alloc::{AllocError, Global};
-use std::process::Abort;
 
 /// A table of these rows.
 fn table_of<E: Copy>(alloc: Global, rows: &[&[E]]) -> Result<Vec<Vec<E>>, AllocError> {
@@ -27,28 +26,41 @@ fn leads_inside(rows: &[Vec<usize>]) -> bool
     rows.iter().all(|row| row.iter().all(|n| *n < rows.len()))
 }
 
+/// The edges from three nodes.
+const ROWS: &[&[(usize, u32)]] = &[&[(2, 9), (1, 3)], &[(2, 4), (0, 0)], &[(2, 0), (2, 1)]];
+
 #[test]
 fn cheapest_paths(rt: HostRuntime) {
-    let rows: [&[(usize, u32)]; 3] = [&[(2, 9), (1, 3)], &[(2, 4), (0, 0)], &[(2, 0), (2, 1)]];
-    let table = table_of(rt.alloc(), &rows).expect(&rt, "memory");
+    let table = table_of(rt.alloc(), ROWS).expect(&rt, "memory");
     assert!(rt; table.len() > 2 && leads_to_rows(&table));
-    assert!(rt; is_path_at(by_rows(rt.alloc(), &table), &[0, 1, 2], 7));
-    assert!(rt; is_path_at(cheapest_in_rows(rt.alloc(), &table, 1, 2), &[1, 2], 4));
+    assert!(rt; is_cheapest(by_rows(rt.alloc(), &table), Some((&[0, 1, 2], 7))));
+    assert!(rt;
+        is_cheapest(
+            cheapest_in_rows(rt.alloc(), &table, 1, 2),
+            Some((&[1, 2], 4))
+        )
+    );
 }
+
+/// The nodes after five nodes.
+const NEXT: &[&[usize]] = &[&[1, 2], &[2, 3], &[3, 4], &[4, 4], &[4, 4]];
 
 #[test]
 fn fewest_edges(rt: HostRuntime) {
-    let rows: [&[usize]; 5] = [&[1, 2], &[2, 3], &[3, 4], &[4, 4], &[4, 4]];
-    let table = table_of(rt.alloc(), &rows).expect(&rt, "memory");
-    let start = 0usize;
-    let starts = NodeRefs::from_one(rt.alloc(), &start).expect(&rt, "memory");
+    let table = table_of(rt.alloc(), NEXT).expect(&rt, "memory");
+    let starts = NodeRefs::from_one(rt.alloc(), &0usize).expect(&rt, "memory");
     assert!(rt; table.len() > 4 && leads_inside(&table));
-    assert!(rt; is_path(fewest_in_rows(rt.alloc(), &table, &starts, 4), &[0, 2, 4]));
-    assert!(rt; is_no_path(fewest_in_rows(rt.alloc(), &table, &starts, 5)));
+    assert!(rt;
+        is_path(
+            fewest_in_rows(rt.alloc(), &table, &starts, 4),
+            Some(&[0, 2, 4])
+        )
+    );
+    assert!(rt; is_path(fewest_in_rows(rt.alloc(), &table, &starts, 5), None));
 }
 
 /// Each node up to 10 is followed by those that are greater by 2 and by 5, up to 10.
-const BY_TWO_AND_FIVE: [&[usize]; 11] = [
+const BY_TWO_AND_FIVE: &[&[usize]] = &[
     &[2, 5],
     &[3, 6],
     &[4, 7],
@@ -63,7 +75,7 @@ const BY_TWO_AND_FIVE: [&[usize]; 11] = [
 ];
 
 /// Each node up to 10 is followed by those that are greater by 1 and by 5, up to 10.
-const BY_ONE_AND_FIVE: [&[usize]; 11] = [
+const BY_ONE_AND_FIVE: &[&[usize]] = &[
     &[1, 5],
     &[2, 6],
     &[3, 7],
@@ -78,7 +90,7 @@ const BY_ONE_AND_FIVE: [&[usize]; 11] = [
 ];
 
 /// Each number leads to its double and its triple, up to 14.
-const DOUBLES_AND_TRIPLES: [&[usize]; 15] = [
+const DOUBLES_AND_TRIPLES: &[&[usize]] = &[
     &[0, 0],
     &[2, 3],
     &[4, 6],
@@ -96,14 +108,9 @@ const DOUBLES_AND_TRIPLES: [&[usize]; 15] = [
     &[],
 ];
 
-/// Whether these nodes come in the first `limit` steps of a walk in preorder from a node.
-fn comes_in_preorder(
-    alloc: Global,
-    table: &[Vec<usize>],
-    from: usize,
-    limit: usize,
-    nodes: &[usize],
-) -> bool {
+/// Whether these nodes come in the first `limit` steps of a walk in preorder from the first of them.
+fn comes_in_preorder(alloc: Global, table: &[Vec<usize>], limit: usize, nodes: &[usize]) -> bool {
+    let from = nodes.first().copied().unwrap_or(0);
     if from >= table.len() || !leads_inside(table) {
         return false;
     }
@@ -113,19 +120,21 @@ fn comes_in_preorder(
     )
 }
 
+/// The nodes after each node, how many steps are taken from the first of some nodes, and these nodes,
+/// which come in turn.
+const PREORDERS: &[(&[&[usize]], usize, &[usize])] = &[
+    (BY_TWO_AND_FIVE, 20, &[0, 2, 4, 6, 8, 10, 9, 7, 5]),
+    (BY_TWO_AND_FIVE, 1, &[0]),
+    (BY_ONE_AND_FIVE, 20, &[0, 1, 2, 3, 4, 5, 6, 7, 8, 9, 10]),
+    (DOUBLES_AND_TRIPLES, 20, &[1, 2, 4, 8, 12, 6, 3, 9]),
+];
+
 #[test]
 fn preorders(rt: HostRuntime) {
-    let cases: [(&[&[usize]], usize, usize, &[usize]); 5] = [
-        (&BY_TWO_AND_FIVE, 0, 20, &[0, 2, 4, 6, 8, 10, 9, 7, 5]),
-        (&BY_TWO_AND_FIVE, 0, 1, &[0]),
-        (&BY_ONE_AND_FIVE, 0, 20, &[0, 1, 2, 3, 4, 5, 6, 7, 8, 9, 10]),
-        (&BY_ONE_AND_FIVE, 0, 1, &[0]),
-        (&DOUBLES_AND_TRIPLES, 1, 20, &[1, 2, 4, 8, 12, 6, 3, 9]),
-    ];
-    for (rows, from, limit, nodes) in cases {
+    for (rows, limit, nodes) in PREORDERS {
         let table = table_of(rt.alloc(), rows).expect(&rt, "memory");
         assert!(rt;
-            comes_in_preorder(rt.alloc(), &table, from, limit, nodes),
+            comes_in_preorder(rt.alloc(), &table, *limit, nodes),
             "{rows:?}"
         );
     }
@@ -145,11 +154,11 @@ fn repeated_edges(alloc: Global) -> Result<Vec<Vec<usize>>, AllocError> {
 fn a_preorder_of_repeated_edges(rt: HostRuntime) {
     let table = repeated_edges(rt.alloc()).expect(&rt, "memory");
     let nodes: Vec<usize> = (0..201usize).collect(rt.alloc()).expect(&rt, "memory");
-    assert!(rt; comes_in_preorder(rt.alloc(), &table, 0, 300, &nodes));
+    assert!(rt; comes_in_preorder(rt.alloc(), &table, 300, &nodes));
 }
 
 /// From a number to its square and to the next one, up to 17.
-const SQUARES: [(u64, u64); 9] = [
+const SQUARES: &[(u8, u8)] = &[
     (1, 1),
     (1, 2),
     (2, 4),
@@ -163,43 +172,55 @@ const SQUARES: [(u64, u64); 9] = [
 
 #[test]
 fn first_paths_in_preorder(rt: HostRuntime) {
-    let edges = SQUARES;
-    assert!(rt;
-        is_path(
-            first_in_pairs(rt.alloc(), &edges, 1, &[17]),
-            &[1, 2, 4, 16, 17]
-        )
-    );
-    assert!(rt; is_no_path(first_in_pairs(rt.alloc(), &edges, 4, &[2])));
+    let first = first_in_pairs(rt.alloc(), SQUARES, 1, 17);
+    assert!(rt; is_path(first, Some(&[1, 2, 4, 16, 17])));
+    assert!(rt; is_path(first_in_pairs(rt.alloc(), SQUARES, 4, 2), None));
 }
 
-/// What comes in the first `limit` steps of a walk by rising cost from the node 0, in a table of these
-/// rows.
-fn given_from_first(
-    rt: &impl Abort,
+/// Whether this comes in the first `limit` steps of a walk by rising cost from the node 0, in a table of
+/// these rows.
+fn comes_by_cost(
     alloc: Global,
     rows: &[&[(usize, u32)]],
     limit: usize,
-) -> Result<Vec<Given>, PathError> {
-    let table = table_of(alloc, rows)?;
-    assert!(rt; table.len() > 0 && leads_to_rows(&table));
-    given_in_rows(alloc, &table, 0, limit)
+    want: Result<&[Given], PathError>,
+) -> bool {
+    let Ok(table) = table_of(alloc, rows) else {
+        return false;
+    };
+    if table.len() == 0 || !leads_to_rows(&table) {
+        return false;
+    }
+    match (&given_in_rows(alloc, &table, 0, limit), want) {
+        (Ok(given), Ok(items)) => given.as_slice() == items,
+        (Err(refusal), Err(wanted)) => *refusal == wanted,
+        _ => false,
+    }
 }
 
-/// Whether the answer is that these come.
-fn is_given(given: Result<Vec<Given>, PathError>, items: &[Given]) -> bool {
-    matches!(&given, Ok(given) if given.as_slice() == items)
-}
+/// A table in which a step does not fit where its node comes third.
+const DEAR: &[&[(usize, u32)]] = &[&[(1, 1), (2, u32::MAX - 9)], &[], &[(3, 10)], &[]];
+
+/// The edges from each node, how many steps are taken, and what comes in them.
+type Steps = (
+    &'static [&'static [(usize, u32)]],
+    usize,
+    Result<&'static [Given], PathError>,
+);
+
+const STEPS: &[Steps] = &[
+    (
+        &[&[(1, 2), (2, 5)], &[(2, 2)], &[]],
+        9,
+        Ok(&[(0, None, 0), (1, Some(0), 2), (2, Some(1), 4)]),
+    ),
+    (DEAR, 2, Ok(&[(0, None, 0), (1, Some(0), 1)])),
+    (DEAR, 3, Err(PathError::CostOverflow)),
+];
 
 #[test]
 fn nodes_by_rising_cost(rt: HostRuntime) {
-    let rows: [&[(usize, u32)]; 3] = [&[(1, 2), (2, 5)], &[(2, 2)], &[]];
-    let given = given_from_first(&rt, rt.alloc(), &rows, 9);
-    assert!(rt; is_given(given, &[(0, None, 0), (1, Some(0), 2), (2, Some(1), 4)]));
-    // A step that does not fit is refused where its node comes next.
-    let rows: [&[(usize, u32)]; 4] = [&[(1, 1), (2, u32::MAX - 9)], &[], &[(3, 10)], &[]];
-    let given = given_from_first(&rt, rt.alloc(), &rows, 2);
-    assert!(rt; is_given(given, &[(0, None, 0), (1, Some(0), 1)]));
-    let refused = given_from_first(&rt, rt.alloc(), &rows, 3);
-    assert!(rt; matches!(refused, Err(PathError::CostOverflow)));
+    for (rows, limit, want) in STEPS {
+        assert!(rt; comes_by_cost(rt.alloc(), rows, *limit, *want), "{rows:?}");
+    }
 }

@@ -6,7 +6,7 @@ use Rattle.pf_base.proofs.Tables.{rows_graph}
 use Rattle.pf_tests.proofs.tests.calls.calls_without_success.Goals as goal
 
 pub dijkstra-requires-clause-graph : goal.dijkstra-requires-clause-graph
-dijkstra-requires-clause-graph g c =
+dijkstra-requires-clause-graph c =
     let items : Bor (List (ℕ × ℕ)) → List (ℕ × ℕ) = λ row. row.now in (
       (λ n. valued (λ z. pos z) (row_at items c.args.rows.now n)),
       (λ n. false),

@@ -6,7 +6,7 @@ use Rattle.pf_base.proofs.Tables.{rows_graph}
 use Rattle.pf_tests.proofs.tests.calls.tallied.Goals as goal
 
 pub dijkstra_tallied-requires-clause-graph : goal.dijkstra_tallied-requires-clause-graph
-dijkstra_tallied-requires-clause-graph g c =
+dijkstra_tallied-requires-clause-graph c =
     let items : Bor (List (ℕ × ℕ)) → List (ℕ × ℕ) = λ row. row.now in (
       (λ n. valued (λ z. pos z) (row_at items c.args.rows.now n)),
       (λ n. n == 3),

@@ -7,7 +7,7 @@ use Rattle.pf_base.proofs.Reach.{nat_reach_keeps, unsigned_cost}
 use Rattle.pf_tests.proofs.tests.kinds.by_array.Goals as goal
 
 pub dijkstra-requires-clause-graph : goal.dijkstra-requires-clause-graph
-dijkstra-requires-clause-graph g c =
+dijkstra-requires-clause-graph c =
     let count = c.args.count in
     let listed : ℕ → List (ℕ × ℕ) = λ n. ((n + 1) % count, 2) ∷ (n * 2 % count, 3) ∷ [] in
     let edges : ℕ → List (ℕ × ℤ) = λ n. ((n + 1) % count, pos 2) ∷ (n * 2 % count, pos 3) ∷ [] in

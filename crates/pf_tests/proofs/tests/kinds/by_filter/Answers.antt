@@ -8,7 +8,7 @@ use Rattle.pf_base.proofs.Reach.{nat_reach_keeps, row_at, row_at-index, row_all,
 use Rattle.pf_tests.proofs.tests.kinds.by_filter.Goals as goal
 
 pub dijkstra-requires-clause-graph : goal.dijkstra-requires-clause-graph
-dijkstra-requires-clause-graph g c =
+dijkstra-requires-clause-graph c =
     let rows : List (Bor (List (ℕ × ℕ))) = c.args.rows.now in
     let row : ℕ → List (ℕ × ℕ) = row_at (λ (row : Bor (List (ℕ × ℕ))). row.now) rows in
     let cheap : ℕ × ℕ → _ = λ e. nat_lt e.1 c.args.limit in

@@ -5,7 +5,7 @@ use Rattle.pf_base.proofs.Reach.{unsigned_cost}
 use Rattle.pf_tests.proofs.tests.kinds.by_lent_counter.Goals as goal
 
 pub dijkstra-requires-clause-graph : goal.dijkstra-requires-clause-graph
-dijkstra-requires-clause-graph g c =
+dijkstra-requires-clause-graph c =
     let listed : ℕ → List (ℕ × ℕ) = λ n. (98, 1) ∷ [] in (
       (λ n. (98, pos 1) ∷ []),
       (λ n. n == 99),

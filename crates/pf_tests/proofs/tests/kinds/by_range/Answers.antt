@@ -7,7 +7,7 @@ use Rattle.pf_base.proofs.Reach.{unsigned_cost}
 use Rattle.pf_tests.proofs.tests.kinds.by_range.Goals as goal
 
 pub dijkstra-requires-clause-graph : goal.dijkstra-requires-clause-graph
-dijkstra-requires-clause-graph g c =
+dijkstra-requires-clause-graph c =
     let listed : ℕ → List (ℕ × ℕ) = λ n. map (λ m. (m, 5)) (range_with_len n (10 - n)) in (
       (λ n. valued (λ z. pos z) (listed n)),
       (λ n. n == 7),

@@ -6,7 +6,7 @@ use Rattle.pf_base.proofs.Reach.{row_at, row_at-index, nat_reach_keeps, row_all,
 use Rattle.pf_tests.proofs.tests.kinds.by_rows.Goals as goal
 
 pub dijkstra-requires-clause-graph : goal.dijkstra-requires-clause-graph
-dijkstra-requires-clause-graph g c =
+dijkstra-requires-clause-graph c =
     let rows : List (Vec (ℕ × ℕ) Global) = c.args.rows.now.items in
     let listed : ℕ → List (ℕ × ℕ) = row_at (λ (row : Vec (ℕ × ℕ) Global). row.items) rows in
     let below = nat_reach_keeps (λ z. pos z) listed (λ n. n < length rows) 0 c.requires.inside (λ n p. row_all (λ (e : ℕ × ℕ). e.0 < length rows) (λ (row : Vec (ℕ × ℕ) Global). row.items) rows c.requires.in_range n) in (

@@ -6,7 +6,7 @@ use Rattle.pf_base.proofs.Reach.{no_negative_edge}
 use Rattle.pf_tests.proofs.tests.kinds.by_signed.Goals as goal
 
 pub dijkstra-requires-clause-graph : goal.dijkstra-requires-clause-graph
-dijkstra-requires-clause-graph g c =
+dijkstra-requires-clause-graph c =
     let edges : Bool → List (Bool × ℤ) = λ n. (not n, pos 3) ∷ [] in (
       edges,
       (λ n. n),
