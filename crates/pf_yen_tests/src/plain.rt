@@ -1,7 +1,12 @@
-//! All clean paths by a plain program, and whether given paths are the cheapest of these.
+//! All clean paths by a plain program.
 
-use crate::listed::{Edge, Path};
-use std::alloc::{AllocError, Allocator, Global};
+use std::alloc::{AllocError, Global};
+
+/// An edge: from, to, cost.
+pub(crate) type Edge = (usize, usize, u8);
+
+/// A path with its cost.
+pub(crate) type Path = (Vec<usize>, u8);
 
 /// The nodes of the graphs are the numbers below this one.
 const NODES: usize = 8;
@@ -24,9 +29,9 @@ fn cheapest_edge(edges: &[Edge], from: usize, to: usize) -> Option<u8> {
 fn add_longer_ways(
     alloc: Global,
     edges: &[Edge],
-    way: &Path<Global>,
+    way: &Path,
     last: usize,
-    ways: &mut Vec<Path<Global>>,
+    ways: &mut Vec<Path>,
 ) -> Result<(), AllocError> {
     for next in 0..NODES {
         if !way.0.contains(&next) {
@@ -46,9 +51,9 @@ fn go_on(
     alloc: Global,
     edges: &[Edge],
     goals: (usize, usize),
-    way: Path<Global>,
-    paths: &mut Vec<Path<Global>>,
-    ways: &mut Vec<Path<Global>>,
+    way: Path,
+    paths: &mut Vec<Path>,
+    ways: &mut Vec<Path>,
 ) -> Result<(), AllocError> {
     match way.0.last().copied() {
         Some(last) if last == goals.0 || last == goals.1 => Ok(paths.push(way)?),
@@ -57,14 +62,13 @@ fn go_on(
     }
 }
 
-/// All clean paths from a node to one of two goals, by rising cost and then by rising number of nodes.
+/// All clean paths from 0 to one of two goals, by rising cost and then by rising number of nodes.
 pub(crate) fn clean_paths(
     alloc: Global,
     edges: &[Edge],
-    from: usize,
     goals: (usize, usize),
-) -> Result<Vec<Path<Global>>, AllocError> {
-    let mut ways = vec![in alloc; (vec![in alloc; from]?, 0u8)]?;
+) -> Result<Vec<Path>, AllocError> {
+    let mut ways = vec![in alloc; (vec![in alloc; 0]?, 0u8)]?;
     let mut paths = Vec::new(alloc);
     for _ in 0..10_000u32 {
         let Some(way) = ways.pop() else {
@@ -74,41 +78,4 @@ pub(crate) fn clean_paths(
     }
     paths.sort_unstable_by_key(|path| (path.1, path.0.len()));
     Ok(paths)
-}
-
-/// How often a path stands, at this cost, among these.
-pub(crate) fn times<A: Allocator>(nodes: &[usize], cost: u8, among: &[Path<A>]) -> u32 {
-    let mut times = 0u32;
-    for path in among {
-        if path.1 == cost && path.0.as_slice() == nodes {
-            times = times.saturating_add(1);
-        }
-    }
-    times
-}
-
-/// Whether the paths are among all clean paths, each once, by rising cost, and none that is left out
-/// costs less than one of them.
-pub(crate) fn are_cheapest<A: Allocator>(paths: &[Path<A>], all: &[Path<Global>]) -> bool {
-    for (path, plain) in paths.iter().zip(all) {
-        if path.1 != plain.1
-            || times(&path.0, path.1, all) != 1
-            || times(&path.0, path.1, paths) != 1
-        {
-            return false;
-        }
-    }
-    paths.len() <= all.len()
-}
-
-/// Whether those of one cost come by rising number of nodes.
-pub(crate) fn are_by_length<A: Allocator>(paths: &[Path<A>]) -> bool {
-    let (mut cost, mut length) = (0u8, 0usize);
-    for path in paths {
-        if path.1 == cost && path.0.len() < length {
-            return false;
-        }
-        (cost, length) = (path.1, path.0.len());
-    }
-    true
 }

@@ -1,7 +1,7 @@
 use Rattle.std.proofs.Common.{ℕ, ℤ, Bool, List, nat_eq, pos}
 use Rattle.std.specs.Int.{FitsUnsignedBits}
 use Rattle.pf_yen.specs.Walk.{IsPathWalk, Searches}
-use Rattle.pf_yen_tests.proofs.listed.add_steps.Given as goal
+use Rattle.pf_yen_tests.proofs.listed.steps_of.Given as goal
 
 abbrev pub invariant-calls : goal.invariant-calls
 invariant-calls g l =
