@@ -1,9 +1,12 @@
 //! A caller over a list of edges between numbers, and what its searches tell of the clean paths that a
 //! plain program lists.
 
+ghost use Rattle.std.specs.Prelude.{ℕ, ℤ, Bool, List, [], ◌∷◌, nat_eq};
+ghost use Rattle.pf_base.specs.Edges.{IsWeightedSearch};
+
 use crate::plain::{Edge, Path};
 use edge_lists::edges_from;
-use pf_base::PathError;
+use pf_base::{EdgeFunction, NodeTest, PathError};
 use pf_yen::directed::yen::{YenPaths, yen, yen_paths};
 use refusing_allocator::Refusing;
 use std::alloc::Global;
@@ -70,20 +73,37 @@ fn steps_in(
     }
 }
 
+/// What the calls of `next` over the clean paths from 0 tell.
+fn walk<IN, FN, FS>(
+    heap: Heap<'_>,
+    successors: FN,
+    success: FS,
+    all: &[Path],
+) -> Result<Steps, PathError>
+where
+    IN: IntoIterator<Item = (usize, u8)>,
+    FN: FnMut(&usize) -> IN,
+    FS: FnMut(&usize) -> bool,
+    requires { (edges : ℕ → List (ℕ × ℤ)) × (test : ℕ → Bool)
+        × IsWeightedSearch nat_eq edges (0 ∷ []) (⟦<FN as EdgeFunction<usize, u8>>⟧.answers successors) (⟦<FS as NodeTest<usize>>⟧.answers success) test }
+{
+    match yen_paths(heap, &0, successors, success) {
+        Ok(mut walk) => Ok(steps_of(&mut walk, all)),
+        Err(refusal) => Err(refusal),
+    }
+}
+
 /// What the searches from 0 to one of two goals in a list of edges tell, the second of `k` paths.
-pub(crate) fn search_list<'a>(
-    heap: Heap<'a>,
-    edges: &'a [Edge],
+pub(crate) fn search_list(
+    heap: Heap<'_>,
+    edges: &[Edge],
     goals: (usize, usize),
     k: usize,
     all: &[Path],
 ) -> Searches {
-    let successors = move |n: &usize| edges_from(edges, *n);
-    let success = move |n: &usize| *n == goals.0 || *n == goals.1;
-    let walked = match yen_paths(heap, &0, successors, success) {
-        Ok(mut walk) => Ok(steps_of(&mut walk, all)),
-        Err(refusal) => Err(refusal),
-    };
+    let successors = |n: &usize| edges_from(edges, *n);
+    let success = |n: &usize| *n == goals.0 || *n == goals.1;
+    let walked = walk(heap, successors, success, all);
     let gathered = yen(heap, &0, successors, success, k);
     (walked, steps_in(gathered, all))
 }

@@ -1,6 +1,6 @@
 //! The worked paths, each growth refused in turn, and small graphs against the plain program.
 
-use crate::listed::{Steps, place_of, search_list};
+use crate::listed::{Searches, Steps, Told, place_of, search_list};
 use crate::plain::{Edge, Path, clean_paths};
 use pf_base::PathError;
 use refusing_allocator::Refusing;
@@ -265,17 +265,6 @@ fn count_of(steps: &Steps, all: &[Path]) -> Option<usize> {
     Some(count)
 }
 
-/// How many refusals for want of memory are told.
-fn refusals_in(steps: &Steps) -> u64 {
-    let mut refusals = 0u64;
-    for step in steps {
-        if matches!(step, Some(Err(PathError::OutOfMemory))) {
-            refusals = refusals.saturating_add(1);
-        }
-    }
-    refusals
-}
-
 /// Whether so many paths are gathered, the cheapest, and those of one cost by rising number of nodes.
 fn are_gathered(steps: &Steps, count: usize, all: &[Path]) -> bool {
     let (mut cost, mut length) = (0u8, 0usize);
@@ -292,16 +281,18 @@ fn are_gathered(steps: &Steps, count: usize, all: &[Path]) -> bool {
     count_of(steps, all) == Some(count)
 }
 
+/// What a call of `next` tells, with the cost of its path.
+fn cost_of(step: Told, all: &[Path]) -> Option<Result<u8, PathError>> {
+    match step? {
+        Ok(place) => Some(Ok(cost_at(all, place)?)),
+        Err(refusal) => Some(Err(refusal)),
+    }
+}
+
 /// Whether the calls of `next` tell what the row says, as far as it says it.
 fn are_told(steps: &Steps, row: &Row<'_>, all: &[Path]) -> bool {
     for (step, told) in steps.iter().zip(row.told) {
-        let is_told = match (step, told) {
-            (Some(Ok(place)), Some(Ok(cost))) => cost_at(all, *place) == Some(*cost),
-            (Some(Err(refusal)), Some(Err(wanted))) => *refusal == *wanted,
-            (None, None) => true,
-            _ => false,
-        };
-        if !is_told {
+        if cost_of(*step, all) != *told {
             return false;
         }
     }
@@ -318,22 +309,31 @@ fn have_paths(steps: &Steps, row: &Row<'_>, all: &[Path]) -> bool {
     true
 }
 
-/// Whether the searches answer what the row says.
-fn is_answered(ample: Global, row: &Row<'_>) -> bool {
-    let Ok(all) = clean_paths(ample, row.edges, row.goals) else {
-        return false;
+/// Whether what the searches answer is what the row says.
+fn are_answers(searches: Searches, row: &Row<'_>, all: &[Path]) -> bool {
+    let (walked, gathered) = searches;
+    let is_walked = match walked {
+        Ok(steps) => are_told(&steps, row, all),
+        Err(_) => false,
     };
-    let heap = Refusing::new(ample);
-    let (walked, gathered) = search_list(&heap, row.edges, row.goals, row.k, &all);
-    let is_walked = matches!(&walked, Ok(steps) if are_told(steps, row, &all));
-    let is_gathered = match (&gathered, row.gathered) {
-        (Ok(steps), Ok(count)) => {
-            are_gathered(steps, count, &all) && have_paths(steps, row, &all)
-        }
-        (Err(refusal), Err(wanted)) => *refusal == wanted,
+    let is_gathered = match (gathered, row.gathered) {
+        (Ok(steps), Ok(count)) => are_gathered(&steps, count, all) && have_paths(&steps, row, all),
+        (Err(refusal), Err(wanted)) => refusal == wanted,
         _ => false,
     };
     is_walked && is_gathered
+}
+
+/// Whether the searches answer what the row says.
+fn is_answered(ample: Global, row: &Row<'_>) -> bool {
+    match clean_paths(ample, row.edges, row.goals) {
+        Ok(all) => {
+            let heap = Refusing::new(ample);
+            let searches = search_list(&heap, row.edges, row.goals, row.k, &all);
+            are_answers(searches, row, &all)
+        }
+        Err(_) => false,
+    }
 }
 
 #[test]
@@ -343,36 +343,59 @@ fn searches_answer_the_worked_paths(rt: HostRuntime) {
     }
 }
 
-/// How many refusals the two searches told, if all else that they answer is right: the walk gives all
-/// paths all the same and then none, or was not made.
-fn refusals_of(heap: &Refusing<Global>, all: &[Path]) -> Option<u64> {
-    let (walked, gathered) = search_list(heap, FIVE_PATHS, (5, 5), 4, all);
-    let told = match &walked {
-        Ok(steps) if count_of(steps, all) == Some(5) && steps[7].is_none() => refusals_in(steps),
-        Err(PathError::OutOfMemory) => 1,
-        _ => return None,
-    };
-    match &gathered {
-        Ok(steps) if are_gathered(steps, 4, all) => Some(told),
-        Err(PathError::OutOfMemory) if told == 0 => Some(1),
-        _ => None,
+/// How many refusals for want of memory a walk tells that gives all paths all the same and then none.
+fn refusals_in(steps: &Steps, all: &[Path]) -> Option<u64> {
+    let mut refusals = 0u64;
+    for step in steps {
+        if *step == Some(Err(PathError::OutOfMemory)) {
+            refusals = refusals.saturating_add(1);
+        }
     }
+    if count_of(steps, all) == Some(all.len()) && steps[7].is_none() {
+        Some(refusals)
+    } else {
+        None
+    }
+}
+
+/// How many refusals for want of memory the two searches tell, if all else that they answer is right.
+fn refusals_of(searches: Searches, all: &[Path]) -> Option<u64> {
+    let (walked, gathered) = searches;
+    let told = match walked {
+        Ok(steps) => refusals_in(&steps, all)?,
+        Err(PathError::OutOfMemory) => 1,
+        Err(_) => return None,
+    };
+    let is_gathered = match gathered {
+        Ok(steps) => are_gathered(&steps, 4, all),
+        Err(PathError::OutOfMemory) => return told.checked_add(1),
+        Err(_) => false,
+    };
+    if is_gathered { Some(told) } else { None }
+}
+
+/// How many growths the searches make, if just one refusal is told where one of these alone is refused,
+/// and none where none is.
+fn growths_of(ample: Global, all: &[Path]) -> Option<u64> {
+    for growth in 0..1_000u64 {
+        let heap = Refusing::new(ample);
+        heap.refuse(growth, 1);
+        let told = refusals_of(search_list(&heap, FIVE_PATHS, (5, 5), 4, all), all);
+        if heap.pending() > 0 {
+            return if told == Some(0) { Some(growth) } else { None };
+        }
+        if told != Some(1) {
+            return None;
+        }
+    }
+    None
 }
 
 #[test]
 fn searches_refuse_each_growth(rt: HostRuntime) {
     let all = clean_paths(rt.alloc(), FIVE_PATHS, (5, 5)).expect(&rt, "memory for paths");
-    for growth in 0..1_000u64 {
-        let heap = Refusing::new(rt.alloc());
-        heap.refuse(growth, 1);
-        let told = refusals_of(&heap, &all);
-        if heap.pending() > 0 {
-            assert!(rt; growth > 40 && told == Some(0));
-            return;
-        }
-        assert!(rt; told == Some(1), "growth {growth}");
-    }
-    panic!(rt; "every run met a refusal")
+    let growths = growths_of(rt.alloc(), &all);
+    assert!(rt; matches!(growths, Some(41..)), "{growths:?}");
 }
 
 /// The pairs of nodes, at first those whose edges can lie on a clean path from 0 to 3.
@@ -407,24 +430,35 @@ fn edges_in(alloc: Global, set: u64) -> Result<Vec<Edge>, AllocError> {
     Ok(edges)
 }
 
-/// Whether the searches from 0 in a set of edges answer what the plain program does: the walk all clean
-/// paths and then none, and the other search the first of them.
-fn agrees(ample: Global, set: u64, goals: (usize, usize)) -> bool {
-    let Ok(edges) = edges_in(ample, set) else {
-        return false;
-    };
-    let Ok(all) = clean_paths(ample, &edges, goals) else {
-        return false;
-    };
-    let heap = Refusing::new(ample);
-    let k = edges.len() / 2;
-    match &search_list(&heap, &edges, goals, k, &all) {
+/// Whether the walk gives all clean paths and then none, and the other search the first `k` of them.
+fn are_all(searches: Searches, k: usize, all: &[Path]) -> bool {
+    match searches {
         (Ok(steps), Ok(gathered)) => {
-            count_of(steps, &all) == Some(all.len())
+            count_of(&steps, all) == Some(all.len())
                 && steps.get(all.len()) == Some(&None)
-                && are_gathered(gathered, all.len().min(k), &all)
+                && are_gathered(&gathered, all.len().min(k), all)
         }
         _ => false,
+    }
+}
+
+/// Whether the searches from 0 answer what the plain program does.
+fn agree(ample: Global, edges: &[Edge], goals: (usize, usize)) -> bool {
+    match clean_paths(ample, edges, goals) {
+        Ok(all) => {
+            let heap = Refusing::new(ample);
+            let k = edges.len() / 2;
+            are_all(search_list(&heap, edges, goals, k, &all), k, &all)
+        }
+        Err(_) => false,
+    }
+}
+
+/// The same in a set of edges.
+fn agree_in(ample: Global, set: u64, goals: (usize, usize)) -> bool {
+    match edges_in(ample, set) {
+        Ok(edges) => agree(ample, &edges, goals),
+        Err(_) => false,
     }
 }
 
@@ -435,7 +469,7 @@ fn graphs_of_edges_on_paths_agree(rt: HostRuntime) {
     for set in 0..1u64 << 21 {
         if set.count_ones() <= 6 {
             for goal in [1, 3] {
-                assert!(rt; agrees(rt.alloc(), set, (3, goal)), "set {set}, {goal}");
+                assert!(rt; agree_in(rt.alloc(), set, (3, goal)), "set {set}, {goal}");
             }
             graphs = graphs.saturating_add(1);
         }
@@ -460,6 +494,6 @@ fn set_of(code: u64) -> u64 {
 fn graphs_of_any_edges_agree(rt: HostRuntime) {
     for graph in 0..17_000u64 {
         let set = set_of(graph * 719_503);
-        assert!(rt; agrees(rt.alloc(), set, (3, 2)), "set {set}");
+        assert!(rt; agree_in(rt.alloc(), set, (3, 2)), "set {set}");
     }
 }
