@@ -4,20 +4,21 @@ use Rattle.edge_lists.proofs.Callers.{edges_from_answered}
 use Rattle.edge_lists.specs.Lists.{edges_from, ends_from}
 use Rattle.pf_base.proofs.Callers.{nat_test}
 use Rattle.pf_base.proofs.Reach.{unsigned_cost}
-use Rattle.pf_search_tests.proofs.maps.partial_in_list.Goals as goal
+use Rattle.pf_search_tests.proofs.lists.mapped.Goals as goal
 
 pub dijkstra_partial-requires-clause-graph : goal.dijkstra_partial-requires-clause-graph
-dijkstra_partial-requires-clause-graph g c =
+dijkstra_partial-requires-clause-graph c =
     let edges = c.args.edges.now in (
       edges_from nat_eq edges (λ z. pos z),
-      (λ n. nat_eq n c.args.stop),
+      (λ n. nat_eq n c.in-Some.stop),
       record {
         edges_answered = edges_from_answered nat_eq_equiv edges (λ x w. search rules) (λ x r t w k. (search rules, λ it b. (search rules, search rules, search rules)));
-        test_answered = nat_test (λ n. nat_eq n c.args.stop) (λ x w. search rules) (λ x r t w k. search rules);
+        test_answered = nat_test (λ n. nat_eq n c.in-Some.stop) (λ x w. search rules) (λ x r t w k. search rules);
         costs = unsigned_cost nat_eq (ends_from nat_eq edges) (c.args.from ∷ []);
       },
     )
 
-pub returns : goal.returns
-unfolding dijkstra_partial-requires-clause-graph
-returns g c = let p = dijkstra_partial-requires-clause-graph g c.before in c.dijkstra_partial.ensures.partial p.0 p.1 p.2
+pub dijkstra_all-requires-clause-graph : goal.dijkstra_all-requires-clause-graph
+dijkstra_all-requires-clause-graph c =
+    let edges = c.args.edges.now in
+    (edges_from nat_eq edges (λ z. pos z), edges_from_answered nat_eq_equiv edges (λ x w. search rules) (λ x r t w k. (search rules, λ it b. (search rules, search rules, search rules))), unsigned_cost nat_eq (ends_from nat_eq edges) (c.args.from ∷ []))

@@ -1,10 +1,10 @@
 use Rattle.std.proofs.Common.{arith, ◌/◌, ◌<◌, nat_eq}
 use Rattle.std.specs.HashMap.{get}
 use Rattle.pf_search_tests.proofs.Halves.{falls_more}
-use Rattle.pf_search_tests.proofs.maps.halves.Goals as goal
+use Rattle.pf_search_tests.proofs.parents.halves.Goals as goal
 
 pub loop-number-preserved : goal.loop-number-preserved
-loop-number-preserved g c =
+loop-number-preserved c =
     let v = c.loop-number.invariant in
     let n = c.loop-number.number in
     let half : n / 2 < n = omega (arith, v.positive) in
