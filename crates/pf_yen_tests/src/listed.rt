@@ -30,7 +30,7 @@ pub(crate) type Searches = (Result<Steps, PathError>, Result<Steps, PathError>);
 /// The place of a path in the list of all, or the number of these where it is none of them.
 pub(crate) fn place_of(nodes: &[usize], cost: u8, all: &[Path]) -> usize {
     for (place, path) in all.iter().enumerate() {
-        if path.1 == cost && path.0.as_slice() == nodes {
+        if path.cost == cost && path.has_nodes(nodes) {
             return place;
         }
     }
@@ -64,8 +64,10 @@ fn steps_in(
     match gathered {
         Ok(paths) => {
             let mut steps = [None; 8];
-            for (step, path) in steps.iter_mut().zip(&paths) {
-                *step = Some(Ok(place_of(&path.0, path.1, all)));
+            for (number, path) in paths.iter().enumerate() {
+                if number < 8 {
+                    steps[number] = Some(Ok(place_of(&path.0, path.1, all)));
+                }
             }
             Ok(steps)
         }

@@ -5,11 +5,44 @@ use std::alloc::{AllocError, Global};
 /// An edge: from, to, cost.
 pub(crate) type Edge = (usize, usize, u8);
 
-/// A path with its cost.
-pub(crate) type Path = (Vec<usize>, u8);
-
 /// The nodes of the graphs are the numbers below this one.
 const NODES: usize = 8;
+
+/// A path from 0, with its cost. Places behind its nodes have `NODES`.
+#[derive(Clone, Copy)]
+pub(crate) struct Path {
+    nodes: [usize; NODES],
+    last: usize,
+    pub(crate) length: usize,
+    pub(crate) cost: u8,
+}
+
+/// The path of 0 alone.
+const START: Path = Path {
+    nodes: [0, NODES, NODES, NODES, NODES, NODES, NODES, NODES],
+    last: 0,
+    length: 1,
+    cost: 0,
+};
+
+impl Path {
+    /// Whether these are its nodes.
+    pub(crate) fn has_nodes(&self, nodes: &[usize]) -> bool {
+        nodes.len() == self.length && self.nodes.starts_with(nodes)
+    }
+
+    /// The path that leads on to a node at this price.
+    fn longer(self, node: usize, price: u8) -> Path {
+        let mut path = self;
+        if path.length < NODES {
+            path.nodes[path.length] = node;
+            path.length += 1;
+        }
+        path.last = node;
+        path.cost = path.cost.saturating_add(price);
+        path
+    }
+}
 
 /// What the cheapest of the edges from a node to a node costs.
 fn cheapest_edge(edges: &[Edge], from: usize, to: usize) -> Option<u8> {
@@ -25,41 +58,27 @@ fn cheapest_edge(edges: &[Edge], from: usize, to: usize) -> Option<u8> {
     cheapest
 }
 
-/// Adds each way that is one step longer and meets no node again.
-fn add_longer_ways(
-    alloc: Global,
-    edges: &[Edge],
-    way: &Path,
-    last: usize,
-    ways: &mut Vec<Path>,
-) -> Result<(), AllocError> {
-    for next in 0..NODES {
-        if !way.0.contains(&next) {
-            if let Some(price) = cheapest_edge(edges, last, next) {
-                let mut nodes = Vec::from_slice(alloc, &way.0)?;
-                nodes.push(next)?;
-                ways.push((nodes, way.1.saturating_add(price)))?;
-            }
-        }
-    }
-    Ok(())
-}
-
 /// Puts a way with the paths, where it ends at one of two goals, and otherwise each way that is one
-/// step longer with the ways.
+/// step longer, and meets no node again, with the ways.
 fn go_on(
-    alloc: Global,
     edges: &[Edge],
     goals: (usize, usize),
     way: Path,
     paths: &mut Vec<Path>,
     ways: &mut Vec<Path>,
 ) -> Result<(), AllocError> {
-    match way.0.last().copied() {
-        Some(last) if last == goals.0 || last == goals.1 => Ok(paths.push(way)?),
-        Some(last) => add_longer_ways(alloc, edges, &way, last, ways),
-        None => Ok(()),
+    if way.last == goals.0 || way.last == goals.1 {
+        paths.push(way)?;
+        return Ok(());
     }
+    for next in 0..NODES {
+        if !way.nodes.contains(&next) {
+            if let Some(price) = cheapest_edge(edges, way.last, next) {
+                ways.push(way.longer(next, price))?;
+            }
+        }
+    }
+    Ok(())
 }
 
 /// All clean paths from 0 to one of two goals, by rising cost and then by rising number of nodes.
@@ -68,14 +87,14 @@ pub(crate) fn clean_paths(
     edges: &[Edge],
     goals: (usize, usize),
 ) -> Result<Vec<Path>, AllocError> {
-    let mut ways = vec![in alloc; (vec![in alloc; 0]?, 0u8)]?;
+    let mut ways = vec![in alloc; START]?;
     let mut paths = Vec::new(alloc);
     for _ in 0..10_000u32 {
         let Some(way) = ways.pop() else {
             break;
         };
-        go_on(alloc, edges, goals, way, &mut paths, &mut ways)?;
+        go_on(edges, goals, way, &mut paths, &mut ways)?;
     }
-    paths.sort_unstable_by_key(|path| (path.1, path.0.len()));
+    paths.sort_unstable_by_key(|path| (path.cost, path.length));
     Ok(paths)
 }
