@@ -1,3 +1,1 @@
-mod BoardLemmas
-mod ListedLemmas
-mod BagLemmas
+pub mod ListedLemmas

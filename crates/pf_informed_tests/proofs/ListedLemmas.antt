@@ -48,10 +48,7 @@ module _ (bounds : List ℕ) where
   at_end : (edges : List (ℕ × ℕ × ℕ)) (to x : ℕ) → AreBounds edges bounds to → nat_eq x to ≡ true → slice_index bounds x ≡ 0
   at_end edges to x b e = subst (λ (n : ℕ). slice_index bounds n ≡ 0) (sym (eqb-true x to e)) b.at_end
 
-  pub bounded : (edges : List (ℕ × ℕ × ℕ)) (estimates : List ℕ) (from to : ℕ) → AreBounds edges bounds to → IsAdmissible nat_eq (edges_of edges) (from ∷ []) (λ n. nat_eq n to) (λ n. pos (estimate_of_node estimates bounds n))
-  bounded edges estimates from to b = bounded_where edges estimates from (λ n. nat_eq n to) b.along (λ x e. at_end edges to x b e)
-
-  -- the same for two ends
+  -- so it is where the bound is 0 at two ends
   pub bounded_twice : (edges : List (ℕ × ℕ × ℕ)) (estimates : List ℕ) (from : ℕ) (to : ℕ × ℕ) → AreBounds edges bounds to.0 → AreBounds edges bounds to.1 → IsAdmissible nat_eq (edges_of edges) (from ∷ []) (λ n. nat_eq n to.0 || nat_eq n to.1) (λ n. pos (estimate_of_node estimates bounds n))
   bounded_twice edges estimates from to first second = bounded_where edges estimates from (λ n. nat_eq n to.0 || nat_eq n to.1) first.along (λ x e. either x (nat_eq x to.0) refl e)
     where

@@ -1,8 +1,8 @@
 //! All graphs of three nodes with at most four edges of costs up to 2, against plain programs.
 
-use crate::bags::{Found, gathered_in_list, has_paths};
-use crate::limits::all_cost;
-use crate::listed::{Edge, are_bounds, entry};
+use crate::listed::{Call, Edge, Task, all_cost, entry, searched};
+use crate::seen::Lists;
+use refusing_allocator::Refusing;
 use std::alloc::Global;
 
 /// What stands for a cost where there is no way.
@@ -19,13 +19,17 @@ fn edge_of(choice: usize) -> Edge {
     }
 }
 
+/// Whether two choices stand in rising order, or are none both.
+fn are_rising(low: usize, high: usize) -> bool {
+    low < high || low == 0 && high == 0
+}
+
 /// The edges of four choices, or `None` where these do not stand in rising order.
 fn graph_of(choices: usize) -> Option<[Edge; 4]> {
     let (a, b) = (choices % CHOICES, choices / CHOICES % CHOICES);
     let rest = choices / CHOICES / CHOICES;
     let (c, d) = (rest % CHOICES, rest / CHOICES);
-    let rising = |low: usize, high: usize| low < high || low == 0 && high == 0;
-    if rising(a, b) && rising(b, c) && rising(c, d) {
+    if are_rising(a, b) && are_rising(b, c) && are_rising(c, d) {
         Some([edge_of(a), edge_of(b), edge_of(c), edge_of(d)])
     } else {
         None
@@ -57,65 +61,102 @@ fn direct(edges: &[Edge], from: usize, to: usize) -> u8 {
     cost
 }
 
-/// Whether the answer is the cheaper of two lists of nodes, both where they cost alike, or none where
-/// there is no way by either.
-fn is_cheaper(answer: &Found<Global>, first: (&[usize], u8), second: (&[usize], u8)) -> bool {
-    let cost = first.1.min(second.1);
-    if cost >= NONE {
-        matches!(answer, Ok(None))
-    } else if first.1 < second.1 {
-        has_paths(answer, cost, &[first.0])
-    } else if second.1 < first.1 {
-        has_paths(answer, cost, &[second.0])
+/// Whether a search answers these paths at this cost, or none where there is no way.
+fn are_paths(ample: Global, task: &Task<'_>, paths: Lists<'_>, cost: u8) -> bool {
+    let heap = Refusing::new(ample);
+    let answer = searched(&heap, ample, Call::Gathered, task, paths);
+    if cost < NONE {
+        answer == Some(Ok(Some((cost, paths.len(), true))))
     } else {
-        has_paths(answer, cost, &[first.0, second.0])
+        answer == Some(Ok(None))
+    }
+}
+
+/// Whether a search answers the cheaper of two lists of nodes, both where they cost alike, or none
+/// where there is no way by either.
+fn is_cheaper(
+    ample: Global,
+    task: &Task<'_>,
+    first: (&[usize], u8),
+    second: (&[usize], u8),
+) -> bool {
+    let (nodes, cost) = first;
+    let (others, other) = second;
+    if cost < other {
+        are_paths(ample, task, &[nodes], cost)
+    } else if other < cost {
+        are_paths(ample, task, &[others], other)
+    } else {
+        are_paths(ample, task, &[nodes, others], cost)
     }
 }
 
 /// Whether the cheapest paths from 0 to 2 are those of a plain program, which tries both clean paths
 /// that there can be.
-fn paths_to_last(alloc: Global, edges: &[Edge], estimates: &[u8], costs: &[u8]) -> bool {
-    let over = direct(edges, 0, 1).saturating_add(direct(edges, 1, 2));
-    let answer = gathered_in_list(alloc, edges, estimates, costs, 0, (2, 2));
-    is_cheaper(&answer, (&[0, 2], direct(edges, 0, 2)), (&[0, 1, 2], over))
+fn paths_to_last(ample: Global, task: &Task<'_>) -> bool {
+    let over = direct(task.edges, 0, 1).saturating_add(direct(task.edges, 1, 2));
+    is_cheaper(
+        ample,
+        task,
+        (&[0, 2], direct(task.edges, 0, 2)),
+        (&[0, 1, 2], over),
+    )
 }
 
 /// The same from 0 to the first of 1 and 2.
-fn paths_to_either(alloc: Global, edges: &[Edge]) -> bool {
-    let answer = gathered_in_list(alloc, edges, &[], &[], 0, (1, 2));
-    let (first, second) = (direct(edges, 0, 1), direct(edges, 0, 2));
-    is_cheaper(&answer, (&[0, 1], first), (&[0, 2], second))
+fn paths_to_either(ample: Global, edges: &[Edge]) -> bool {
+    let task = Task {
+        edges,
+        from: 0,
+        goals: (1, 2),
+        estimates: &[],
+        bounds: &[],
+    };
+    is_cheaper(
+        ample,
+        &task,
+        (&[0, 1], direct(edges, 0, 1)),
+        (&[0, 2], direct(edges, 0, 2)),
+    )
 }
 
-/// Whether the three searches and all cheapest paths are right, under every admissible estimate up to 2.
-fn agrees(alloc: Global, edges: &[Edge]) -> bool {
-    let costs = remaining(edges);
-    if !are_bounds(edges, &costs, 2) {
-        return false;
-    }
+/// Whether the searches from 0 to 2 are right, led by these estimates.
+fn agree_by(ample: Global, edges: &[Edge], estimates: &[u8], costs: &[u8; 3]) -> bool {
+    let task = Task {
+        edges,
+        from: 0,
+        goals: (2, 2),
+        estimates,
+        bounds: costs,
+    };
     let cost = if costs[0] < NONE {
         Some(costs[0])
     } else {
         None
     };
+    all_cost(&Refusing::new(ample), ample, &task, cost) && paths_to_last(ample, &task)
+}
+
+/// Whether the three searches and all cheapest paths are right, under every admissible estimate up to 2.
+fn agree(ample: Global, edges: &[Edge]) -> bool {
+    let costs = remaining(edges);
     for choice in 0..9u8 {
         let estimates = [choice % 3, choice / 3];
         if estimates[0] <= costs[0]
             && estimates[1] <= costs[1]
-            && !(all_cost(alloc, edges, &estimates, &costs, (0, 2), cost)
-                && paths_to_last(alloc, edges, &estimates, &costs))
+            && !agree_by(ample, edges, &estimates, &costs)
         {
             return false;
         }
     }
-    paths_to_either(alloc, edges)
+    paths_to_either(ample, edges)
 }
 
 #[test]
 fn small_graphs_agree_with_plain_programs(rt: HostRuntime) {
     for choices in 0..CHOICES * CHOICES * CHOICES * CHOICES {
         if let Some(edges) = graph_of(choices) {
-            assert!(rt; agrees(rt.alloc(), &edges), "choices {choices}");
+            assert!(rt; agree(rt.alloc(), &edges), "choices {choices}");
         }
     }
 }

@@ -1,19 +1,15 @@
-//! Tests of the calls of `pf_informed`, and callers that show how they are proved.
+//! Tests of the calls of `pf_informed`, over lists of edges.
 #![tactic(auto)]
 
 #[cfg(test)]
-mod bags;
-#[cfg(test)]
-mod board;
+mod boards;
 #[cfg(test)]
 mod graphs;
-#[cfg(test)]
-mod limits;
 #[cfg(test)]
 mod listed;
 #[cfg(test)]
 mod puzzle;
 #[cfg(test)]
-mod refusals;
+mod rows;
 #[cfg(test)]
-mod rounds;
+mod seen;

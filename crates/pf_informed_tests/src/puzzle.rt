@@ -1,8 +1,9 @@
 //! The positions of the 15-puzzle near the solved one, numbered, and the moves between them as a list
 //! of edges.
 
-use crate::limits::all_cost;
-use crate::listed::{Edge, are_bounds};
+use crate::listed::{Edge, Task, all_cost};
+use refusing_allocator::Refusing;
+use std::alloc::Global;
 
 /// The tiles row by row, 0 the blank.
 type Tiles = [u8; 16];
@@ -11,7 +12,7 @@ type Tiles = [u8; 16];
 const SOLVED: Tiles = [1, 2, 3, 4, 5, 6, 7, 8, 9, 10, 11, 12, 13, 14, 15, 0];
 
 /// How many positions are 0, 1, 2 and up to 6 moves from the solved one, as published.
-const POSITIONS: [usize; 7] = [1, 2, 4, 10, 24, 54, 107];
+static POSITIONS: [usize; 7] = [1, 2, 4, 10, 24, 54, 107];
 
 /// How many those are.
 const PLACES: usize = 202;
@@ -27,11 +28,12 @@ struct Near {
 impl Near {
     /// The number of a position, which is added at so many moves where it is new and has a place.
     fn number(&mut self, position: Tiles, moves: u8) -> Option<usize> {
-        let known = self
-            .positions
-            .iter()
-            .take(self.count)
-            .position(|known| *known == position);
+        let mut known = None;
+        for (number, place) in self.positions.iter().enumerate().take(self.count) {
+            if *place == position {
+                known = Some(number);
+            }
+        }
         if known.is_none() && self.count < PLACES {
             self.positions[self.count] = position;
             self.moves[self.count] = moves;
@@ -108,34 +110,49 @@ fn near_solved() -> (Near, [Edge; 4 * PLACES]) {
     (near, edges)
 }
 
-#[test]
-fn first_positions_are_as_far_as_their_list_says(rt: HostRuntime) {
-    let (near, edges) = near_solved();
-    for (moves, positions) in POSITIONS.iter().enumerate() {
-        let found = near
-            .moves
-            .iter()
-            .filter(|found| usize::from(**found) == moves);
-        assert!(rt; found.count() == *positions);
+/// How many positions are so many moves away.
+fn count_at(near: &Near, moves: usize) -> usize {
+    let mut count = 0usize;
+    for found in &near.moves {
+        if usize::from(*found) == moves {
+            count = count.saturating_add(1);
+        }
     }
+    count
+}
+
+/// How far each position is from the solved one by the places of its tiles.
+fn distances_in(near: &Near) -> [u8; PLACES] {
     let mut distances = [0u8; PLACES];
     for number in 0..PLACES {
         distances[number] = far(near.positions[number]);
     }
-    if !are_bounds(&edges, &distances, 0) {
-        panic!(rt; "no estimates");
+    distances
+}
+
+/// Whether the searches from a position take as many moves to the solved one.
+fn agree(ample: Global, edges: &[Edge], distances: &[u8], from: usize, moves: u8) -> bool {
+    let task = Task {
+        edges,
+        from,
+        goals: (0, 0),
+        estimates: distances,
+        bounds: distances,
+    };
+    all_cost(&Refusing::new(ample), ample, &task, Some(moves))
+}
+
+#[test]
+fn first_positions_are_as_far_as_their_list_says(rt: HostRuntime) {
+    let (near, edges) = near_solved();
+    for (moves, positions) in POSITIONS.iter().enumerate() {
+        assert!(rt; count_at(&near, moves) == *positions, "{moves} moves");
     }
-    for number in 0..PLACES {
-        let moves = Some(near.moves[number]);
+    let distances = distances_in(&near);
+    for (number, moves) in near.moves.iter().enumerate() {
         assert!(rt;
-            all_cost(
-                rt.alloc(),
-                &edges,
-                &distances,
-                &distances,
-                (number, 0),
-                moves
-            )
+            agree(rt.alloc(), &edges, &distances, number, *moves),
+            "{number}"
         );
     }
 }

@@ -1,11 +1,5 @@
-//! Tests of the calls of `pf_orders`, and callers that show how they are proved.
+//! Tests of the calls of `pf_orders`, over lists of edges.
 #![tactic(auto)]
 
 #[cfg(test)]
-mod component_callers;
-#[cfg(test)]
-mod counted;
-#[cfg(test)]
-mod pairs;
-#[cfg(test)]
-mod tests;
+mod rows;

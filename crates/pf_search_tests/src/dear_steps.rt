@@ -6,25 +6,21 @@ use pf_base::PathError;
 use pf_search::directed::dijkstra::{DijkstraReachableItem, dijkstra_reach};
 use std::alloc::Global;
 
-/// What a step tells.
-#[derive(Clone, Copy, Debug, PartialEq, Eq)]
-pub enum Told {
-    Node(u64),
-    Refused(PathError),
-    End,
-}
+/// What a step tells: a node, a refusal, or that there is none.
+type Told = Option<Result<u64, PathError>>;
 
+/// What is told of a step.
 fn outcome_of(step: Option<Result<DijkstraReachableItem<u64, u64>, PathError>>) -> Told {
     match step {
-        Some(Ok(item)) => Told::Node(item.node),
-        Some(Err(refusal)) => Told::Refused(refusal),
-        None => Told::End,
+        Some(Ok(item)) => Some(Ok(item.node)),
+        Some(Err(refusal)) => Some(Err(refusal)),
+        None => None,
     }
 }
 
 /// What the steps of a walk from 9 tell, where each number leads to its half and two such steps cost
 /// more than fits: the first three, and one more after `resume`.
-pub fn steps_to_halves(alloc: Global) -> Result<[Told; 4], PathError> {
+fn steps_to_halves(alloc: Global) -> Result<[Told; 4], PathError> {
     let mut walk = dijkstra_reach(
         alloc,
         &9u64,
@@ -38,4 +34,11 @@ pub fn steps_to_halves(alloc: Global) -> Result<[Told; 4], PathError> {
     walk.resume();
     let again = outcome_of(walk.next());
     Ok([first, dear, rest, again])
+}
+
+#[test]
+fn a_step_that_does_not_fit_is_refused_again(rt: HostRuntime) {
+    let overflow = Some(Err(PathError::CostOverflow));
+    let told = steps_to_halves(rt.alloc());
+    assert!(rt; told == Ok([Some(Ok(9)), overflow, None, overflow]));
 }

@@ -1,4 +1,4 @@
-//! Tests of the calls of `pf_yen`, and callers that show how they are proved.
+//! Tests of the calls of `pf_yen`, through a caller over lists of edges.
 #![tactic(auto)]
 
 #[cfg(test)]
@@ -7,5 +7,3 @@ mod listed;
 mod plain;
 #[cfg(test)]
 mod tests;
-#[cfg(test)]
-mod walks;

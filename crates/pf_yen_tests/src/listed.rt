@@ -1,122 +1,111 @@
-//! A caller over a list of edges between numbers.
+//! A caller over a list of edges between numbers, and what its searches tell of the clean paths that a
+//! plain program lists.
 
 ghost use Rattle.std.specs.Prelude.{ℕ, ℤ, Bool, List, [], ◌∷◌, nat_eq};
 ghost use Rattle.pf_base.specs.Edges.{IsWeightedSearch};
 
+use crate::plain::{Edge, Path};
 use edge_lists::edges_from;
 use pf_base::{EdgeFunction, NodeTest, PathError};
 use pf_yen::directed::yen::{YenPaths, yen, yen_paths};
-use std::alloc::{AllocError, Allocator, Global};
+use refusing_allocator::Refusing;
+use std::alloc::Global;
 
-/// An edge: from, to, cost.
-pub(crate) type Edge = (usize, usize, u8);
+/// An allocator that may refuse.
+type Heap<'a> = &'a Refusing<Global>;
 
-/// A path with its cost.
-pub(crate) type Path<A> = (Vec<usize, A>, u8);
+/// A path of a search, with its cost.
+type Found<'a> = (Vec<usize, Heap<'a>>, u8);
 
-/// The paths that calls of `next` answered, and what each call told: a cost, a refusal or `None`.
-pub(crate) type Steps<A> = (Vec<Path<A>>, Vec<Option<Result<u8, PathError>>>);
+/// What a call of `next` tells: a path, by its place in the list of all clean paths, a refusal, or that
+/// there is no path.
+pub(crate) type Told = Option<Result<usize, PathError>>;
 
-/// Adds what the first calls of `next` answer. After each `None` the walk is resumed.
-fn add_steps<IN, FN, FS, A>(
-    walk: &mut YenPaths<usize, u8, IN, FN, FS, A>,
-    calls: usize,
-    steps: &mut Steps<A>,
-) -> Result<(), AllocError>
-where
-    IN: IntoIterator<Item = (usize, u8)>,
-    FN: FnMut(&usize) -> IN,
-    FS: FnMut(&usize) -> bool,
-    A: Allocator + Copy,
-    requires { ⟦<YenPaths<usize, u8, IN, FN, FS, A> as Iterator>⟧.can_next walk.old }
-{
-    let (paths, told) = steps;
-    'calls: for _ in 0..calls {
-        match walk.next() {
-            Some(Ok(path)) => {
-                told.push(Some(Ok(path.1)))?;
-                paths.push(path)?;
-            }
-            Some(Err(refusal)) => told.push(Some(Err(refusal)))?,
-            None => {
-                walk.resume();
-                told.push(None)?;
-            }
+/// What as many calls tell as any list here has paths, and three more.
+pub(crate) type Steps = [Told; 8];
+
+/// What the two searches tell: the calls of `next` one by one, and the gathered paths in their order.
+pub(crate) type Searches = (Result<Steps, PathError>, Result<Steps, PathError>);
+
+/// The place of a path in the list of all, or the number of these where it is none of them.
+pub(crate) fn place_of(nodes: &[usize], cost: u8, all: &[Path]) -> usize {
+    for (place, path) in all.iter().enumerate() {
+        if path.cost == cost && path.has_nodes(nodes) {
+            return place;
         }
     }
-    Ok(())
+    all.len()
 }
 
-/// What the first calls of `next` answer, with `resume` after each `None`.
-fn steps_of<IN, FN, FS, A>(
-    ample: Global,
-    walk: &mut YenPaths<usize, u8, IN, FN, FS, A>,
-    calls: usize,
-) -> Result<Steps<A>, PathError>
+/// What the calls of `next` tell, with `resume` after each `None`.
+fn steps_of<IN, FN, FS>(walk: &mut YenPaths<usize, u8, IN, FN, FS, Heap<'_>>, all: &[Path]) -> Steps
 where
     IN: IntoIterator<Item = (usize, u8)>,
     FN: FnMut(&usize) -> IN,
     FS: FnMut(&usize) -> bool,
-    A: Allocator + Copy,
-    requires { ⟦<YenPaths<usize, u8, IN, FN, FS, A> as Iterator>⟧.can_next walk.old }
+    requires { ⟦<YenPaths<usize, u8, IN, FN, FS, Heap<'static>> as Iterator>⟧.can_next walk.old }
 {
-    let mut steps = (Vec::new(ample), Vec::new(ample));
-    add_steps(walk, calls, &mut steps)?;
-    Ok(steps)
+    let mut steps = [None; 8];
+    'calls: for call in 0..8usize {
+        match walk.next() {
+            Some(Ok((nodes, cost))) => steps[call] = Some(Ok(place_of(&nodes, cost, all))),
+            Some(Err(refusal)) => steps[call] = Some(Err(refusal)),
+            None => walk.resume(),
+        }
+    }
+    steps
 }
 
-/// What the two searches answer.
-pub(crate) type Found<A> = (
-    Result<Steps<A>, PathError>,
-    Result<Vec<Path<A>, A>, PathError>,
-);
+/// The gathered paths, as calls of `next` would tell them.
+fn steps_in(
+    gathered: Result<Vec<Found<'_>, Heap<'_>>, PathError>,
+    all: &[Path],
+) -> Result<Steps, PathError> {
+    match gathered {
+        Ok(paths) => {
+            let mut steps = [None; 8];
+            for (number, path) in paths.iter().enumerate() {
+                if number < 8 {
+                    steps[number] = Some(Ok(place_of(&path.0, path.1, all)));
+                }
+            }
+            Ok(steps)
+        }
+        Err(refusal) => Err(refusal),
+    }
+}
 
-/// The first calls of `next` over the clean paths from a node, with `resume` after each `None`, and
-/// beside that the `k` cheapest of these paths.
-fn search<IN, FN, FS, A>(
-    alloc: A,
-    ample: Global,
-    from: usize,
+/// What the calls of `next` over the clean paths from 0 tell.
+fn walk<IN, FN, FS>(
+    heap: Heap<'_>,
     successors: FN,
     success: FS,
-    calls: usize,
-    k: usize,
-) -> Found<A>
+    all: &[Path],
+) -> Result<Steps, PathError>
 where
     IN: IntoIterator<Item = (usize, u8)>,
-    FN: FnMut(&usize) -> IN + Copy,
-    FS: FnMut(&usize) -> bool + Copy,
-    A: Allocator + Copy,
+    FN: FnMut(&usize) -> IN,
+    FS: FnMut(&usize) -> bool,
     requires { (edges : ℕ → List (ℕ × ℤ)) × (test : ℕ → Bool)
-        × IsWeightedSearch nat_eq edges (from ∷ []) (⟦<FN as EdgeFunction<usize, u8>>⟧.answers successors) (⟦<FS as NodeTest<usize>>⟧.answers success) test }
+        × IsWeightedSearch nat_eq edges (0 ∷ []) (⟦<FN as EdgeFunction<usize, u8>>⟧.answers successors) (⟦<FS as NodeTest<usize>>⟧.answers success) test }
 {
-    let steps = match yen_paths(alloc, &from, successors, success) {
-        Ok(mut walk) => steps_of(ample, &mut walk, calls),
+    match yen_paths(heap, &0, successors, success) {
+        Ok(mut walk) => Ok(steps_of(&mut walk, all)),
         Err(refusal) => Err(refusal),
-    };
-    (steps, yen(alloc, &from, successors, success, k))
+    }
 }
 
-/// The same over the clean paths from a node to one of two goals in a list of edges.
-pub(crate) fn search_list<A>(
-    alloc: A,
-    ample: Global,
+/// What the searches from 0 to one of two goals in a list of edges tell, the second of `k` paths.
+pub(crate) fn search_list(
+    heap: Heap<'_>,
     edges: &[Edge],
-    from: usize,
     goals: (usize, usize),
-    calls: usize,
     k: usize,
-) -> Found<A>
-where
-    A: Allocator + Copy,
-{
-    search(
-        alloc,
-        ample,
-        from,
-        |n| edges_from(edges, *n),
-        |n| *n == goals.0 || *n == goals.1,
-        calls,
-        k,
-    )
+    all: &[Path],
+) -> Searches {
+    let successors = |n: &usize| edges_from(edges, *n);
+    let success = |n: &usize| *n == goals.0 || *n == goals.1;
+    let walked = walk(heap, successors, success, all);
+    let gathered = yen(heap, &0, successors, success, k);
+    (walked, steps_in(gathered, all))
 }

@@ -1,4 +1,0 @@
-mod both_ends;
-mod dear_step;
-mod endless;
-mod maps;
