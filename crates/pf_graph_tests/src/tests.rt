@@ -1,6 +1,11 @@
 mod around;
 mod assignments;
 mod cycles;
-mod prim;
 mod refusals;
-mod rows;
+mod spanning;
+
+use refusing_allocator::Refusing;
+use std::alloc::Global;
+
+/// A heap that refuses requests.
+type Heap<'h> = &'h Refusing<Global>;

@@ -4,10 +4,6 @@
 #[cfg(test)]
 mod callers;
 #[cfg(test)]
-mod coordinates;
-#[cfg(test)]
-mod floods;
-#[cfg(test)]
 mod model;
 #[cfg(test)]
 mod refusals;

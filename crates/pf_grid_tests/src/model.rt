@@ -1,10 +1,10 @@
 //! Lists of calls beside a plain table of the same sizes.
 
-use pf_grid::{Grid, GridError};
+use pf_grid::Grid;
 use std::alloc::Global;
 use std::process::Abort;
 
-const WIDTHS: [usize; 6] = [0, 1, 63, 64, 65, 130];
+const WIDTHS: &[usize] = &[0, 1, 63, 64, 65, 130];
 
 const HEIGHT: usize = 5;
 
@@ -28,22 +28,14 @@ fn after(call: u64, here: bool, border: bool, was: bool) -> bool {
     }
 }
 
-/// Makes the call of this number at a position.
-fn change(grid: &mut Grid<Global>, call: u64, position: (usize, usize)) -> Result<(), GridError> {
+/// Makes the call of this number at a position, and answers whether it was refused.
+fn is_refused(grid: &mut Grid, call: u64, position: (usize, usize)) -> bool {
     match call {
-        0..=9 => {
-            grid.add_vertex(position)?;
-        }
-        10..=14 => {
-            grid.remove_vertex(position)?;
-        }
+        0..=9 => return grid.add_vertex(position).is_err(),
+        10..=14 => return grid.remove_vertex(position).is_err(),
         15 => grid.invert(),
-        16 => {
-            grid.add_borders()?;
-        }
-        17 => {
-            grid.remove_borders()?;
-        }
+        16 => return grid.add_borders().is_err(),
+        17 => return grid.remove_borders().is_err(),
         18 => {
             grid.fill();
         }
@@ -51,7 +43,7 @@ fn change(grid: &mut Grid<Global>, call: u64, position: (usize, usize)) -> Resul
             grid.clear();
         }
     }
-    Ok(())
+    false
 }
 
 /// A position, and whether it is a vertex.
@@ -78,7 +70,7 @@ fn change_table(table: &mut [Place], width: usize, call: u64, position: (usize, 
 }
 
 /// Whether a grid has the vertices of this table.
-fn is_as_table(grid: &Grid<Global>, table: &[Place]) -> bool {
+fn is_as_table(grid: &Grid, table: &[Place]) -> bool {
     let mut vertices = grid.iter();
     let mut count = 0usize;
     for (at, is_vertex) in table {
@@ -99,14 +91,14 @@ fn is_as_table(grid: &Grid<Global>, table: &[Place]) -> bool {
 fn as_a_plain_table(rt: HostRuntime) {
     let alloc = rt.alloc();
     let mut state = 88_172_645_463_325_252u64;
-    for width in WIDTHS {
+    for width in WIDTHS.iter().copied() {
         let mut grid = Grid::new(alloc, width, HEIGHT).expect(&rt, "memory");
         let mut table = empty_table(&rt, alloc, width);
         for _ in 0..200u64 {
             state = next_number(state);
             let call = state % 20;
             let position = ((state >> 8) as usize % 131, (state >> 32) as usize % 6);
-            change(&mut grid, call, position).expect(&rt, "memory");
+            assert!(rt; !is_refused(&mut grid, call, position));
             change_table(&mut table, width, call, position);
             assert!(rt; is_as_table(&grid, &table));
         }

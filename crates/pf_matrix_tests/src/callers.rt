@@ -20,18 +20,6 @@ pub fn turned_board<A: Allocator + Copy>(
     board.rotated_cw(1)
 }
 
-/// Sets each number of the first column to 0. The sizes stay.
-pub fn clear_first_column<A: Allocator>(board: &mut Matrix<u8, A>)
-    ensures rows { board.new.rows ≡ board.old.rows }
-    ensures columns { board.new.columns ≡ board.old.columns }
-{
-    for (position, value) in board.items_mut() {
-        if position.1 == 0 {
-            *value = 0;
-        }
-    }
-}
-
 /// A copy of a board that is made position by position.
 pub fn copied_board<A: Allocator + Copy>(
     alloc: A,

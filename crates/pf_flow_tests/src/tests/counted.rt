@@ -1,13 +1,9 @@
-//! How often a store and an iterator of the caller's own are called.
+//! How often a store of the caller's own is called.
 
-use crate::tests::names::PLACES;
 use pf_base::PathError;
-use pf_flow::edmonds_karp::{
-    DenseCapacity, Edge, EdmondsKarp, FlowStore, SparseCapacity, edmonds_karp,
-};
+use pf_flow::edmonds_karp::{DenseCapacity, EdmondsKarp, FlowStore};
 use pf_matrix::Matrix;
 use std::alloc::{Allocator, Global};
-use std::test::Fail;
 
 /// A store that hands every call on to another one, and counts those of `add_flow`.
 #[derive(Drop)]
@@ -119,44 +115,7 @@ fn additions(alloc: Global) -> Result<(i64, u64), PathError> {
 }
 
 #[test]
-fn flow_is_added_to_few_pairs(rt: HostRuntime) -> Result<(), Fail> {
-    let (total, calls) = additions(rt.alloc())?;
-    assert!(rt;
-        total == 2000 && calls > 0 && calls <= 120,
-        "{total}, {calls} calls"
-    );
-    Ok(())
-}
-
-/// How many of the edges a call asks for, and why it refuses them.
-fn asked<S: EdmondsKarp<i64, Alloc = Global>>(
-    alloc: Global,
-    edges: &[Edge<u32, i64>],
-) -> (usize, Option<PathError>) {
-    let mut count = 0usize;
-    let counted = edges.iter().map(|edge| {
-        count = count.wrapping_add(1);
-        *edge
-    });
-    let answer = edmonds_karp::<_, _, _, S>(alloc, &PLACES, &10, &20, counted);
-    (count, answer.err())
-}
-
-#[test]
-fn edges_behind_a_refused_one_are_not_asked_for(rt: HostRuntime) {
-    let alloc = rt.alloc();
-    for (second, wanted) in [
-        (((40, 30), 1), (4, None)),
-        (((40, 50), 1), (2, Some(PathError::UnknownVertex))),
-        (((40, 30), -1), (2, Some(PathError::NegativeCapacity))),
-        (((40, 30), i64::MAX), (2, Some(PathError::CostOverflow))),
-    ] {
-        let edges = [((10, 40), 3), second, ((40, 20), 2), ((10, 30), 2)];
-        assert_eq!(rt; asked::<DenseCapacity<i64>>(alloc, &edges), wanted, "dense");
-        assert_eq!(rt;
-            asked::<SparseCapacity<i64>>(alloc, &edges),
-            wanted,
-            "sparse"
-        );
-    }
+fn flow_is_added_to_few_pairs(rt: HostRuntime) {
+    let counted = additions(rt.alloc());
+    assert!(rt; matches!(counted, Ok((2000, 1..=120))), "{counted:?}");
 }

@@ -1,18 +1,92 @@
 //! Networks whose vertices have names, with both stores.
 
 use pf_base::PathError;
-use pf_flow::edmonds_karp::{EKFlows, Edge, edmonds_karp_dense, edmonds_karp_sparse};
+use pf_flow::edmonds_karp::{DenseCapacity, EKFlows, Edge, edmonds_karp, edmonds_karp_sparse};
 use std::alloc::Global;
-use std::test::Fail;
+use std::cell::Cell;
+
+/// Edges between vertices, or flows, or a cut.
+type Edges<'a> = &'a [Edge<u32, i64>];
 
 /// Flows, total and cut, or a refusal.
-type Wanted<'a> = Result<(&'a [Edge<u32, i64>], i64, &'a [Edge<u32, i64>]), PathError>;
+type Wanted<'a> = Result<(Edges<'a>, i64, Edges<'a>), PathError>;
 
-/// Source, sink, edges, and what is wanted for them.
-type Row<'a> = (u32, u32, &'a [Edge<u32, i64>], Wanted<'a>);
+/// Source, sink, edges, how many of these are asked for, and what is wanted for them.
+type Row<'a> = (u32, u32, Edges<'a>, usize, Wanted<'a>);
 
 /// The vertices, of which one is listed twice.
-pub const PLACES: [u32; 5] = [40, 10, 40, 30, 20];
+const PLACES: &[u32] = &[40, 10, 40, 30, 20];
+
+const ROWS: &[Row<'static>] = &[
+    // from 10 over 40 and 30 to 20
+    (
+        10,
+        20,
+        &[
+            ((10, 40), 3),
+            ((10, 30), 2),
+            ((40, 30), 1),
+            ((40, 20), 2),
+            ((30, 20), 3),
+        ],
+        5,
+        Ok((
+            &[
+                ((40, 30), 1),
+                ((40, 20), 2),
+                ((10, 40), 3),
+                ((10, 30), 2),
+                ((30, 20), 3),
+            ],
+            5,
+            &[((10, 40), 3), ((10, 30), 2)],
+        )),
+    ),
+    // the last capacity of a pair counts
+    (
+        10,
+        20,
+        &[((10, 20), 7), ((10, 20), 4)],
+        2,
+        Ok((&[((10, 20), 4)], 4, &[((10, 20), 4)])),
+    ),
+    // so does its share of the sum
+    (
+        10,
+        20,
+        &[((10, 20), i64::MAX), ((10, 20), 1), ((20, 10), 2)],
+        3,
+        Ok((&[((10, 20), 1)], 1, &[((10, 20), 1)])),
+    ),
+    // source and sink are one vertex
+    (10, 10, &[((10, 20), 7)], 1, Ok((&[], 0, &[]))),
+    // a source that is not listed, before an edge that is refused
+    (50, 20, &[((10, 20), -1)], 0, Err(PathError::UnknownVertex)),
+    // the end of an edge that is not listed, before its capacity
+    (10, 20, &[((10, 50), -1)], 1, Err(PathError::UnknownVertex)),
+    // edges behind one that is refused are not asked for
+    (
+        10,
+        20,
+        &[((10, 40), 3), ((40, 50), 1), ((40, 20), 2)],
+        2,
+        Err(PathError::UnknownVertex),
+    ),
+    (
+        10,
+        20,
+        &[((10, 20), 1), ((20, 10), -1), ((50, 10), 1)],
+        2,
+        Err(PathError::NegativeCapacity),
+    ),
+    (
+        10,
+        20,
+        &[((10, 20), i64::MAX), ((20, 10), 1), ((20, 10), -1)],
+        2,
+        Err(PathError::CostOverflow),
+    ),
+];
 
 /// Whether this is the answer that is wanted.
 fn is_wanted(answer: Result<EKFlows<u32, i64>, PathError>, wanted: Wanted<'_>) -> bool {
@@ -25,75 +99,28 @@ fn is_wanted(answer: Result<EKFlows<u32, i64>, PathError>, wanted: Wanted<'_>) -
     }
 }
 
-/// Whether both stores answer what is wanted.
-fn is_as_wanted(alloc: Global, row: Row<'_>) -> bool {
-    let (source, sink, edges, wanted) = row;
-    let dense = edmonds_karp_dense(alloc, &PLACES, &source, &sink, edges.iter().copied());
-    let sparse = edmonds_karp_sparse(alloc, &PLACES, &source, &sink, edges.iter().copied());
-    is_wanted(dense, wanted) && is_wanted(sparse, wanted)
+/// Whether both stores answer what is wanted, and ask for as many edges as they should.
+fn is_as_wanted(alloc: Global, row: &Row<'_>) -> bool {
+    let (source, sink, edges, asked, wanted) = row;
+    let count = Cell::new(0usize);
+    let counted = |edge: &Edge<u32, i64>| {
+        count.set(count.get().wrapping_add(1));
+        *edge
+    };
+    let dense = edmonds_karp::<_, _, _, DenseCapacity<i64>>(
+        alloc,
+        PLACES,
+        source,
+        sink,
+        edges.iter().map(counted),
+    );
+    let sparse = edmonds_karp_sparse(alloc, PLACES, source, sink, edges.iter().map(counted));
+    is_wanted(dense, *wanted) && is_wanted(sparse, *wanted) && count.get() == asked.wrapping_mul(2)
 }
 
 #[test]
-fn worked_rows_of_names(rt: HostRuntime) -> Result<(), Fail> {
-    let rows: [Row<'_>; 8] = [
-        // from 10 over 40 and 30 to 20
-        (
-            10,
-            20,
-            &[
-                ((10, 40), 3),
-                ((10, 30), 2),
-                ((40, 30), 1),
-                ((40, 20), 2),
-                ((30, 20), 3),
-            ],
-            Ok((
-                &[
-                    ((40, 30), 1),
-                    ((40, 20), 2),
-                    ((10, 40), 3),
-                    ((10, 30), 2),
-                    ((30, 20), 3),
-                ],
-                5,
-                &[((10, 40), 3), ((10, 30), 2)],
-            )),
-        ),
-        // the last capacity of a pair counts
-        (
-            10,
-            20,
-            &[((10, 20), 7), ((10, 20), 4)],
-            Ok((&[((10, 20), 4)], 4, &[((10, 20), 4)])),
-        ),
-        // so does its share of the sum
-        (
-            10,
-            20,
-            &[((10, 20), i64::MAX), ((10, 20), 1), ((20, 10), 2)],
-            Ok((&[((10, 20), 1)], 1, &[((10, 20), 1)])),
-        ),
-        // source and sink are one vertex
-        (10, 10, &[((10, 20), 7)], Ok((&[], 0, &[]))),
-        // a source that is not listed, before an edge that is refused
-        (50, 20, &[((10, 20), -1)], Err(PathError::UnknownVertex)),
-        // the end of an edge that is not listed, before its capacity
-        (10, 20, &[((10, 50), -1)], Err(PathError::UnknownVertex)),
-        (
-            10,
-            20,
-            &[((10, 20), 1), ((20, 10), -1), ((50, 10), 1)],
-            Err(PathError::NegativeCapacity),
-        ),
-        (
-            10,
-            20,
-            &[((10, 20), i64::MAX), ((20, 10), 1), ((20, 10), -1)],
-            Err(PathError::CostOverflow),
-        ),
-    ];
-    for (number, row) in rows.iter().enumerate() {
-        assert!(rt; is_as_wanted(rt.alloc(), *row), "row {number}");
+fn worked_rows_of_names(rt: HostRuntime) {
+    for (number, row) in ROWS.iter().enumerate() {
+        assert!(rt; is_as_wanted(rt.alloc(), row), "row {number}");
     }
-    Ok(())
 }

@@ -1,7 +1,7 @@
 //! A plain greatest flow over a table of four vertices: unit by unit, along ways that a depth first
 //! search finds.
 
-use std::alloc::{AllocError, Global};
+ghost use Rattle.std.specs.Prelude.{◌<◌, IfSome};
 
 /// How many vertices the small networks have.
 pub const VERTICES: usize = 4;
@@ -34,16 +34,13 @@ pub fn sum(table: &Table) -> i64 {
     sum
 }
 
-/// What a depth first search found.
-pub enum Found {
-    /// A way to the sink.
-    Way(Vec<usize>),
-    /// There is none: which vertices are in reach of the source.
-    Reached([bool; 4]),
-}
+/// Whether a search reached each of the vertices.
+pub type Reached = [bool; 4];
 
 /// The first vertex that is not reached yet and to which a number above zero leads.
-fn next_vertex(table: &Table, reached: &[bool; 4], vertex: usize) -> Option<usize> {
+fn next_vertex(table: &Table, reached: &Reached, vertex: usize) -> Option<usize>
+    ensures { IfSome result (λ next. next < 4) }
+{
     for next in 0..VERTICES {
         if !reached[next] && number(table, vertex, next) > 0 {
             return Some(next);
@@ -52,60 +49,57 @@ fn next_vertex(table: &Table, reached: &[bool; 4], vertex: usize) -> Option<usiz
     None
 }
 
-/// Searches the sink from the source, depth first.
-fn search(alloc: Global, table: &Table, source: usize, sink: usize) -> Result<Found, AllocError> {
+/// Searches the sink from the source, depth first. Answers from where each vertex was reached, and
+/// which were, up to the sink.
+fn search(table: &Table, source: usize, sink: usize) -> ([usize; 4], Reached) {
+    let mut before = [source; 4];
     let mut reached = [false; 4];
-    let mut way = Vec::new(alloc);
-    let mut entered = Some(source);
+    let mut vertex = source;
     // each round enters a vertex or leaves one
-    for _round in 0..2 * VERTICES + 1 {
-        match entered {
-            Some(vertex) => {
-                if vertex < VERTICES {
-                    reached[vertex] = true;
-                }
-                way.push(vertex)?;
-            }
-            None => {
-                way.pop();
-            }
+    for _round in 0..2 * VERTICES {
+        if vertex >= VERTICES {
+            break;
         }
-        match way.last() {
-            Some(last) if *last == sink => return Ok(Found::Way(way)),
-            Some(last) => entered = next_vertex(table, &reached, *last),
-            None => return Ok(Found::Reached(reached)),
+        reached[vertex] = true;
+        if vertex == sink {
+            break;
+        }
+        match next_vertex(table, &reached, vertex) {
+            Some(next) => {
+                before[next] = vertex;
+                vertex = next;
+            }
+            None => vertex = before[vertex],
         }
     }
-    Ok(Found::Reached(reached))
+    (before, reached)
 }
 
-/// Moves one unit of what is left along a way.
-fn move_unit(left: &mut Table, way: &[usize]) {
-    let mut before = None;
-    for vertex in way {
-        if let Some(from) = before {
-            let there = number(left, from, *vertex).wrapping_sub(1);
-            set_number(left, from, *vertex, there);
-            let back = number(left, *vertex, from).wrapping_add(1);
-            set_number(left, *vertex, from, back);
+/// Moves one unit of what is left to the sink, back along the way on which it was reached.
+fn move_unit(left: &mut Table, before: &[usize; 4], source: usize, sink: usize) {
+    let mut to = sink;
+    for _step in 0..VERTICES {
+        if to == source || to >= VERTICES {
+            return;
         }
-        before = Some(*vertex);
+        let from = before[to];
+        let there = number(left, from, to).wrapping_sub(1);
+        set_number(left, from, to, there);
+        let back = number(left, to, from).wrapping_add(1);
+        set_number(left, to, from, back);
+        to = from;
     }
 }
 
-/// The value of a greatest flow, and the smallest source side of a least cut.
-pub fn greatest_flow(
-    alloc: Global,
-    capacities: &Table,
-    source: usize,
-    sink: usize,
-) -> Result<(i64, [bool; 4]), AllocError> {
+/// The value of a greatest flow from vertex 0, and the smallest source side of a least cut.
+pub fn greatest_flow(capacities: &Table, sink: usize) -> (i64, Reached) {
     let mut left = *capacities;
     for total in 0..100i64 {
-        match search(alloc, &left, source, sink)? {
-            Found::Way(way) => move_unit(&mut left, &way),
-            Found::Reached(reached) => return Ok((total, reached)),
+        let (before, reached) = search(&left, 0, sink);
+        if sink >= VERTICES || !reached[sink] {
+            return (total, reached);
         }
+        move_unit(&mut left, &before, 0, sink);
     }
-    Ok((-1, [false; 4]))
+    (-1, [false; 4])
 }

@@ -8,13 +8,12 @@ use pf_base::PathError;
 use pf_flow::edmonds_karp::{DenseCapacity, EdmondsKarp, SparseCapacity};
 use refusing_allocator::Refusing;
 use std::alloc::{Allocator, Global};
-use std::test::Fail;
 
 /// A greatest flow from source 0 over a 1 and b 2 to sink 3, through all five pairs.
 const FILL: Step<'static> = Step::Augment(5, &[((0, 1), 3), ((0, 2), 2)]);
 
 /// What is done before the calls.
-const BEFORE: [Step<'static>; 6] = [
+const BEFORE: &[Step<'static>] = &[
     Step::Set(0, 1, 3),
     Step::Set(0, 2, 2),
     Step::Set(1, 2, 1),
@@ -33,15 +32,63 @@ const FLOWS: Step<'static> = Step::Flows(&[
 ]);
 
 /// A call whose growths are refused.
-#[derive(Drop)]
 struct Refused<'a> {
-    /// How many calls there are before it.
+    /// How many calls of `BEFORE` are made before it.
     before: usize,
     /// The call.
     call: Step<'a>,
     /// What holds before the call and after its refusal.
     kept: Step<'a>,
+    /// How many growths it makes at the least in a dense store.
+    dense_growths: u64,
+    /// The same in a sparse store.
+    sparse_growths: u64,
 }
+
+const CASES: &[Refused<'static>] = &[
+    Refused {
+        before: 0,
+        call: Step::Set(0, 1, 3),
+        kept: Step::Pipe(0, 1, 0, 0),
+        dense_growths: 0,
+        sparse_growths: 2,
+    },
+    Refused {
+        before: 5,
+        call: FILL,
+        kept: Step::Sum(11),
+        dense_growths: 4,
+        sparse_growths: 4,
+    },
+    Refused {
+        before: 6,
+        call: FILL,
+        kept: FLOWS,
+        dense_growths: 1,
+        sparse_growths: 1,
+    },
+    Refused {
+        before: 6,
+        call: Step::Set(1, 3, 1),
+        kept: FLOWS,
+        dense_growths: 4,
+        sparse_growths: 4,
+    },
+    Refused {
+        before: 6,
+        call: FLOWS,
+        kept: Step::Total(5),
+        dense_growths: 1,
+        sparse_growths: 1,
+    },
+    Refused {
+        before: 6,
+        call: Step::Left(3, &[(1, 2), (2, 3)]),
+        kept: FLOWS,
+        dense_growths: 1,
+        sparse_growths: 1,
+    },
+];
 
 /// The capacities after so many calls.
 fn capacities(before: usize) -> Table {
@@ -61,9 +108,21 @@ fn prepared<A: Allocator + Copy, S: EdmondsKarp<i64, Alloc = A>>(
 ) -> Result<Pipes<S>, PathError> {
     let mut pipes = Pipes::new(alloc, VERTICES, 0, 3)?;
     for step in BEFORE.iter().take(before) {
-        is_done(alloc, &mut pipes, *step)?;
+        is_done(alloc, &mut pipes, step)?;
     }
     Ok(pipes)
+}
+
+/// Whether pipes are as a refused call has to leave them, and the call goes through when it is made
+/// again.
+fn go_on<A: Allocator + Copy, S: EdmondsKarp<i64, Alloc = A>>(
+    alloc: A,
+    pipes: &mut Pipes<S>,
+    refused: &Refused<'_>,
+) -> bool {
+    is_feasible(pipes, &capacities(refused.before), 3)
+        && is_done(alloc, pipes, &refused.kept) == Ok(true)
+        && is_done(alloc, pipes, &refused.call) == Ok(true)
 }
 
 /// How many growths a call makes, if with each of them refused it answers that it was out of memory,
@@ -72,28 +131,26 @@ fn growths<A: Allocator + Copy, S: EdmondsKarp<i64, Alloc = A>>(
     heap: &Refusing<Global>,
     alloc: A,
     refused: &Refused<'_>,
-) -> Result<Option<u64>, PathError> {
+) -> Option<u64> {
     for growth in 0..1_000u64 {
         heap.refuse(0, 0);
-        let mut pipes: Pipes<S> = prepared(alloc, refused.before)?;
+        let Ok(mut pipes) = prepared::<A, S>(alloc, refused.before) else {
+            return None;
+        };
         heap.refuse(growth, 1);
-        let answer = is_done(alloc, &mut pipes, refused.call);
+        let answer = is_done(alloc, &mut pipes, &refused.call);
         if heap.pending() > 0 {
-            return Ok(if matches!(answer, Ok(true)) {
+            return if answer == Ok(true) {
                 Some(growth)
             } else {
                 None
-            });
+            };
         }
-        let is_as_wanted = matches!(answer, Err(PathError::OutOfMemory))
-            && is_feasible(&pipes, &capacities(refused.before), 0, 3)
-            && is_done(alloc, &mut pipes, refused.kept)?
-            && is_done(alloc, &mut pipes, refused.call)?;
-        if !is_as_wanted {
-            return Ok(None);
+        if answer != Err(PathError::OutOfMemory) || !go_on(alloc, &mut pipes, refused) {
+            return None;
         }
     }
-    Ok(None)
+    None
 }
 
 /// How many growths the making of a store makes, if it is refused with each of them.
@@ -103,44 +160,27 @@ fn growths_of_new<A: Allocator + Copy, S: EdmondsKarp<i64, Alloc = A>>(
 ) -> Option<u64> {
     for growth in 0..1_000u64 {
         heap.refuse(growth, 1);
-        let answer: Result<Pipes<S>, PathError> = Pipes::new(alloc, VERTICES, 0, 3);
-        let is_made = answer.is_ok();
-        if heap.pending() > 0 {
-            return if is_made { Some(growth) } else { None };
-        }
+        let is_made = prepared::<A, S>(alloc, 0).is_ok();
         if is_made {
-            return None;
+            return if heap.pending() > 0 {
+                Some(growth)
+            } else {
+                None
+            };
         }
     }
     None
 }
 
 #[test]
-fn each_growth_is_refused(rt: HostRuntime) -> Result<(), Fail> {
-    let cases = [
-        (0, Step::Set(0, 1, 3), Step::Pipe(0, 1, 0, 0), 0, 2),
-        (5, FILL, Step::Sum(11), 4, 4),
-        (6, FILL, FLOWS, 1, 1),
-        (6, Step::Set(1, 3, 1), FLOWS, 4, 4),
-        (6, FLOWS, Step::Total(5), 1, 1),
-        (6, Step::Left(3, &[(1, 2), (2, 3)]), FLOWS, 1, 1),
-    ];
+fn each_growth_is_refused(rt: HostRuntime) {
     let heap = Refusing::new(rt.alloc());
-    for (number, (before, call, kept, dense_least, sparse_least)) in cases.iter().enumerate() {
-        let refused = Refused {
-            before: *before,
-            call: *call,
-            kept: *kept,
-        };
-        let dense = growths::<_, DenseCapacity<i64, &Refusing<Global>>>(&heap, &heap, &refused)?;
+    for (number, case) in CASES.iter().enumerate() {
+        let dense = growths::<_, DenseCapacity<i64, &Refusing<Global>>>(&heap, &heap, case);
+        let sparse = growths::<_, SparseCapacity<i64, &Refusing<Global>>>(&heap, &heap, case);
         assert!(rt;
-            matches!(dense, Some(made) if made >= *dense_least),
-            "dense, case {number}: {dense:?}"
-        );
-        let sparse = growths::<_, SparseCapacity<i64, &Refusing<Global>>>(&heap, &heap, &refused)?;
-        assert!(rt;
-            matches!(sparse, Some(made) if made >= *sparse_least),
-            "sparse, case {number}: {sparse:?}"
+            dense >= Some(case.dense_growths) && sparse >= Some(case.sparse_growths),
+            "case {number}"
         );
     }
     assert!(rt;
@@ -149,5 +189,4 @@ fn each_growth_is_refused(rt: HostRuntime) -> Result<(), Fail> {
     assert!(rt;
         growths_of_new::<_, SparseCapacity<i64, &Refusing<Global>>>(&heap, &heap) == Some(1)
     );
-    Ok(())
 }

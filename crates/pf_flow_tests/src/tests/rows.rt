@@ -4,13 +4,11 @@ use crate::pipes::Pipes;
 use pf_base::PathError;
 use pf_flow::edmonds_karp::{DenseCapacity, EdmondsKarp, SparseCapacity};
 use std::alloc::{Allocator, Global};
-use std::test::Fail;
 
 /// A pair of vertices with a number.
 pub type Numbered = ((usize, usize), i64);
 
 /// A call, and what is wanted of it.
-#[derive(Clone, Copy, Debug)]
 pub enum Step<'a> {
     /// A capacity that is changed.
     Set(usize, usize, i64),
@@ -36,56 +34,34 @@ pub enum Step<'a> {
 pub fn is_done<A: Allocator + Copy, S: EdmondsKarp<i64>>(
     alloc: A,
     pipes: &mut Pipes<S>,
-    step: Step<'_>,
+    step: &Step<'_>,
 ) -> Result<bool, PathError> {
     match step {
-        Step::Set(from, to, capacity) => pipes.set(alloc, from, to, capacity)?,
+        Step::Set(from, to, capacity) => pipes.set(alloc, *from, *to, *capacity)?,
         Step::Refuse(from, to, capacity, refusal) => {
-            return Ok(pipes.set(alloc, from, to, capacity) == Err(refusal));
+            return Ok(pipes.set(alloc, *from, *to, *capacity) == Err(*refusal));
         }
         Step::Augment(total, cut) => {
             let (_, found, edges) = pipes.fill(alloc)?;
-            return Ok(found == total && edges.as_slice() == cut);
+            return Ok(found == *total && edges.as_slice() == *cut);
         }
-        Step::Flows(flows) => return Ok(pipes.flows(alloc)?.as_slice() == flows),
-        Step::Total(total) => return Ok(pipes.total() == total),
-        Step::Sum(sum) => return Ok(pipes.sum() == sum),
-        Step::Pipe(from, to, flow, left) => return Ok(pipes.pipe(from, to) == Some((flow, left))),
-        Step::Left(from, left) => return Ok(pipes.left_from(alloc, from)?.as_slice() == left),
+        Step::Flows(flows) => return Ok(pipes.flows(alloc)?.as_slice() == *flows),
+        Step::Total(total) => return Ok(pipes.total() == *total),
+        Step::Sum(sum) => return Ok(pipes.sum() == *sum),
+        Step::Pipe(from, to, flow, left) => {
+            return Ok(pipes.pipe(*from, *to) == Some((*flow, *left)));
+        }
+        Step::Left(from, left) => return Ok(pipes.left_from(alloc, *from)?.as_slice() == *left),
         Step::BeBrief => pipes.be_brief(),
     }
     Ok(true)
 }
 
 /// Vertices, source, sink, and calls.
-#[derive(Clone, Copy)]
-pub struct Case<'a> {
-    /// The number of vertices.
-    pub size: usize,
-    /// The source.
-    pub source: usize,
-    /// The sink.
-    pub sink: usize,
-    /// The calls.
-    pub steps: &'a [Step<'a>],
-}
-
-/// The number of the first call that does not answer what is wanted of it.
-fn first_fault<S: EdmondsKarp<i64, Alloc = Global>>(
-    alloc: Global,
-    case: Case<'_>,
-) -> Result<Option<usize>, PathError> {
-    let mut pipes: Pipes<S> = Pipes::new(alloc, case.size, case.source, case.sink)?;
-    for (number, step) in case.steps.iter().enumerate() {
-        if !is_done(alloc, &mut pipes, *step)? {
-            return Ok(Some(number));
-        }
-    }
-    Ok(None)
-}
+type Case<'a> = (usize, usize, usize, &'a [Step<'a>]);
 
 /// Source 0, a 1, b 2, sink 3: a least cut moves when a pipe is narrowed.
-const NARROWED: [Step<'static>; 12] = [
+const NARROWED: &[Step<'static>] = &[
     Step::Set(0, 1, 3),
     Step::Set(0, 2, 2),
     Step::Set(1, 2, 1),
@@ -101,7 +77,7 @@ const NARROWED: [Step<'static>; 12] = [
 ];
 
 /// The only pipe to the sink is closed.
-const CLOSED: [Step<'static>; 7] = [
+const CLOSED: &[Step<'static>] = &[
     Step::Set(0, 1, 3),
     Step::Set(1, 2, 3),
     Step::Augment(3, &[((0, 1), 3)]),
@@ -112,7 +88,7 @@ const CLOSED: [Step<'static>; 7] = [
 ];
 
 /// A pipe that a flow goes through is closed, and the flow finds another way.
-const REROUTED: [Step<'static>; 17] = [
+const REROUTED: &[Step<'static>] = &[
     Step::Set(0, 1, 1),
     Step::Set(1, 2, 1),
     Step::Set(2, 4, 1),
@@ -140,7 +116,7 @@ const REROUTED: [Step<'static>; 17] = [
 ];
 
 /// Capacities both ways and round a vertex.
-const BOTH_WAYS: [Step<'static>; 13] = [
+const BOTH_WAYS: &[Step<'static>] = &[
     Step::Set(0, 1, 5),
     Step::Set(1, 0, 3),
     Step::Set(1, 3, 4),
@@ -157,7 +133,7 @@ const BOTH_WAYS: [Step<'static>; 13] = [
 ];
 
 /// Capacities that are refused leave all as it was.
-const REFUSED: [Step<'static>; 9] = [
+const REFUSED: &[Step<'static>] = &[
     Step::Set(0, 1, i64::MAX - 27),
     Step::Refuse(1, 0, 28, PathError::CostOverflow),
     Step::Pipe(1, 0, 0, 0),
@@ -170,7 +146,7 @@ const REFUSED: [Step<'static>; 9] = [
 ];
 
 /// Wide pipes, and a narrow one between them.
-const WIDE: [Step<'static>; 7] = [
+const WIDE: &[Step<'static>] = &[
     Step::Set(0, 1, 1000),
     Step::Set(0, 2, 1000),
     Step::Set(1, 3, 1000),
@@ -182,7 +158,7 @@ const WIDE: [Step<'static>; 7] = [
 
 /// Pipes between seven vertices that are put in one after the other: the first ten lead nowhere or to a
 /// flow of one.
-const GROWN: [Step<'static>; 22] = [
+const GROWN: &[Step<'static>] = &[
     Step::Set(0, 1, 3),
     Step::Augment(0, &[]),
     Step::Set(0, 3, 3),
@@ -208,7 +184,7 @@ const GROWN: [Step<'static>; 22] = [
 ];
 
 /// An upper branch over 1 and 2 and a lower one over 4 and 5, whose capacities change one at a time.
-const BRANCHES: [Step<'static>; 25] = [
+const BRANCHES: &[Step<'static>] = &[
     Step::Set(0, 1, 6),
     Step::Set(1, 2, 5),
     Step::Set(2, 3, 7),
@@ -237,7 +213,7 @@ const BRANCHES: [Step<'static>; 25] = [
 ];
 
 /// The last pipe is narrowed below its flow.
-const LOWERED: [Step<'static>; 12] = [
+const LOWERED: &[Step<'static>] = &[
     Step::Set(0, 1, 2),
     Step::Set(0, 2, 2),
     Step::Set(1, 3, 1),
@@ -253,7 +229,7 @@ const LOWERED: [Step<'static>; 12] = [
 ];
 
 /// Pipes that lead back, one of them from the sink to the source.
-const BACKWARD: [Step<'static>; 12] = [
+const BACKWARD: &[Step<'static>] = &[
     Step::Set(0, 1, 5),
     Step::Set(0, 3, 6),
     Step::Set(1, 2, 4),
@@ -269,7 +245,7 @@ const BACKWARD: [Step<'static>; 12] = [
 ];
 
 /// Eight vertices, of which the least cut leaves two on the side of the sink.
-const EIGHT: [Step<'static>; 17] = [
+const EIGHT: &[Step<'static>] = &[
     Step::Set(0, 1, 10),
     Step::Set(0, 3, 5),
     Step::Set(0, 5, 15),
@@ -290,49 +266,44 @@ const EIGHT: [Step<'static>; 17] = [
 ];
 
 /// Source and sink are one vertex.
-const ONE_VERTEX: [Step<'static>; 3] = [
-    Step::Set(0, 0, 5),
-    Step::Augment(0, &[]),
-    Step::Flows(&[]),
+const ONE_VERTEX: &[Step<'static>] = &[Step::Set(0, 0, 5), Step::Augment(0, &[]), Step::Flows(&[])];
+
+/// Lists of calls, with vertices, source and sink.
+const CASES: &[Case<'static>] = &[
+    (4, 0, 3, NARROWED),
+    (3, 0, 2, CLOSED),
+    (5, 0, 4, REROUTED),
+    (4, 0, 3, BOTH_WAYS),
+    (2, 0, 1, REFUSED),
+    (1, 0, 0, ONE_VERTEX),
+    (4, 0, 3, WIDE),
+    (7, 0, 6, GROWN),
+    (6, 0, 3, BRANCHES),
+    (6, 0, 5, LOWERED),
+    (6, 0, 5, BACKWARD),
+    (8, 0, 7, EIGHT),
+    (2, 0, 1, &[Step::Augment(0, &[]), Step::Flows(&[])]),
 ];
 
-/// A list of calls, with vertices, source and sink.
-type Listed<'a> = (usize, usize, usize, &'a [Step<'a>]);
-
-/// Whether all calls of a list answer what is wanted of them, with both stores.
-fn is_as_wanted(alloc: Global, listed: Listed<'_>) -> Result<bool, PathError> {
-    let (size, source, sink, steps) = listed;
-    let case = Case {
-        size,
-        source,
-        sink,
-        steps,
-    };
-    let dense = first_fault::<DenseCapacity<i64>>(alloc, case)?;
-    let sparse = first_fault::<SparseCapacity<i64>>(alloc, case)?;
-    Ok(dense.is_none() && sparse.is_none())
+/// Whether all calls of a case answer what is wanted of them.
+fn is_case_done<S: EdmondsKarp<i64, Alloc = Global>>(
+    alloc: Global,
+    case: &Case<'_>,
+) -> Result<bool, PathError> {
+    let mut pipes: Pipes<S> = Pipes::new(alloc, case.0, case.1, case.2)?;
+    for step in case.3 {
+        if is_done(alloc, &mut pipes, step) != Ok(true) {
+            return Ok(false);
+        }
+    }
+    Ok(true)
 }
 
 #[test]
-fn worked_lists_of_changes(rt: HostRuntime) -> Result<(), Fail> {
-    let alloc = rt.alloc();
-    let cases: [Listed<'_>; 13] = [
-        (4, 0, 3, &NARROWED),
-        (3, 0, 2, &CLOSED),
-        (5, 0, 4, &REROUTED),
-        (4, 0, 3, &BOTH_WAYS),
-        (2, 0, 1, &REFUSED),
-        (1, 0, 0, &ONE_VERTEX),
-        (4, 0, 3, &WIDE),
-        (7, 0, 6, &GROWN),
-        (6, 0, 3, &BRANCHES),
-        (6, 0, 5, &LOWERED),
-        (6, 0, 5, &BACKWARD),
-        (8, 0, 7, &EIGHT),
-        (2, 0, 1, &[Step::Augment(0, &[]), Step::Flows(&[])]),
-    ];
-    for (number, case) in cases.iter().enumerate() {
-        assert!(rt; is_as_wanted(alloc, *case)?, "case {number}");
+fn worked_lists_of_changes(rt: HostRuntime) {
+    for (number, case) in CASES.iter().enumerate() {
+        let dense = is_case_done::<DenseCapacity<i64>>(rt.alloc(), case);
+        let sparse = is_case_done::<SparseCapacity<i64>>(rt.alloc(), case);
+        assert!(rt; (dense, sparse) == (Ok(true), Ok(true)), "case {number}");
     }
-    Ok(())
 }

@@ -1,11 +1,10 @@
 //! Random changes of networks of four vertices with capacities 0 to 2, against the plain program.
 
 use crate::pipes::Pipes;
-use crate::tests::plain::{Table, VERTICES, greatest_flow, number, set_number, sum};
+use crate::tests::plain::{Reached, Table, VERTICES, greatest_flow, number, set_number, sum};
 use pf_base::PathError;
 use pf_flow::edmonds_karp::{DenseCapacity, EdmondsKarp, SparseCapacity};
 use std::alloc::Global;
-use std::test::Fail;
 
 /// Numbers that look random (Knuth's linear congruential generator for 64 bits).
 #[derive(Drop)]
@@ -15,107 +14,125 @@ struct Dice {
 
 impl Dice {
     /// A number below `most`, where `most` is above 0.
-    fn below(&mut self, most: usize) -> usize {
+    fn below(&mut self, most: u32) -> u32 {
         self.state = self
             .state
             .wrapping_mul(6_364_136_223_846_793_005)
             .wrapping_add(1_442_695_040_888_963_407);
-        ((self.state >> 33) as usize).checked_rem(most).unwrap_or(0)
+        ((self.state >> 33) as u32).checked_rem(most).unwrap_or(0)
     }
+}
+
+/// What leaves a vertex, if the flows at it are antisymmetric and within these capacities.
+fn outflow<S: EdmondsKarp<i64>>(pipes: &Pipes<S>, capacities: &Table, from: usize) -> Option<i64> {
+    let mut leaves = 0i64;
+    for to in 0..VERTICES {
+        let (flow, left) = pipes.pipe(from, to)?;
+        let (back, _) = pipes.pipe(to, from)?;
+        let is_within = left >= 0 && flow.wrapping_add(left) == number(capacities, from, to);
+        if !is_within || flow.wrapping_add(back) != 0 {
+            return None;
+        }
+        leaves = leaves.wrapping_add(flow);
+    }
+    Some(leaves)
 }
 
 /// Whether the pipes have these capacities, and flows that are antisymmetric, within them and
-/// conserved, and of which `total` leaves the source.
-pub fn is_feasible<S: EdmondsKarp<i64>>(
-    pipes: &Pipes<S>,
-    capacities: &Table,
-    source: usize,
-    sink: usize,
-) -> bool {
-    let mut fine = pipes.sum() == sum(capacities);
-    for from in 0..VERTICES {
-        let mut leaves = 0i64;
-        for to in 0..VERTICES {
-            match (pipes.pipe(from, to), pipes.pipe(to, from)) {
-                (Some((flow, left)), Some((back, _))) => {
-                    leaves = leaves.wrapping_add(flow);
-                    fine = fine
-                        && left >= 0
-                        && flow.wrapping_add(left) == number(capacities, from, to)
-                        && flow.wrapping_add(back) == 0;
-                }
-                _ => fine = false,
-            }
+/// conserved, and of which the total leaves the source 0.
+pub fn is_feasible<S: EdmondsKarp<i64>>(pipes: &Pipes<S>, capacities: &Table, sink: usize) -> bool {
+    for vertex in 0..VERTICES {
+        let wanted = match vertex {
+            0 => pipes.total(),
+            _ if vertex == sink => pipes.total().wrapping_neg(),
+            _ => 0,
+        };
+        if outflow(pipes, capacities, vertex) != Some(wanted) {
+            return false;
         }
-        fine = fine && (leaves == 0 || from == source || from == sink);
-        fine = fine && (leaves == pipes.total() || from != source);
     }
-    fine
+    pipes.sum() == sum(capacities)
 }
 
 /// Whether these are the pairs with capacity that leave the side, in rising order.
-fn is_cut(cut: &[((usize, usize), i64)], capacities: &Table, side: [bool; 4]) -> bool {
+fn is_cut(cut: &[((usize, usize), i64)], capacities: &Table, side: &Reached) -> bool {
     let mut listed = cut.iter();
-    let mut fine = true;
     for from in 0..VERTICES {
         for to in 0..VERTICES {
             let capacity = number(capacities, from, to);
-            if side[from] && !side[to] && capacity > 0 {
-                fine = fine && listed.next().copied() == Some(((from, to), capacity));
+            let is_leaving = side[from] && !side[to] && capacity > 0;
+            if is_leaving && listed.next() != Some(&((from, to), capacity)) {
+                return false;
             }
         }
     }
-    fine && listed.next().is_none()
+    listed.next().is_none()
 }
 
-/// Changes capacities by the dice, with a greatest flow after some of the changes. Answers the first
-/// change after which something is not as the plain program has it.
-fn first_fault<S: EdmondsKarp<i64, Alloc = Global>>(
+/// Whether the pipes are filled by a greatest flow, and the cut is the least one that the plain
+/// program has.
+fn are_filled<S: EdmondsKarp<i64, Alloc = Global>>(
+    alloc: Global,
+    pipes: &mut Pipes<S>,
+    capacities: &Table,
+    sink: usize,
+) -> Result<bool, PathError> {
+    let (_, total, cut) = pipes.fill(alloc)?;
+    let (greatest, side) = greatest_flow(capacities, sink);
+    Ok(total == greatest && is_cut(&cut, capacities, &side) && is_feasible(pipes, capacities, sink))
+}
+
+/// Changes a capacity by the dice, and fills the pipes after some of the changes. Answers whether all
+/// is as the plain program has it.
+fn are_changed<S: EdmondsKarp<i64, Alloc = Global>>(
+    alloc: Global,
+    pipes: &mut Pipes<S>,
+    capacities: &mut Table,
+    dice: &mut Dice,
+    sink: usize,
+) -> Result<bool, PathError> {
+    let (from, to) = (dice.below(4) as usize, dice.below(4) as usize);
+    let capacity = i64::from(dice.below(3));
+    pipes.set(alloc, from, to, capacity)?;
+    set_number(capacities, from, to, capacity);
+    if !is_feasible(pipes, capacities, sink) {
+        return Ok(false);
+    }
+    if dice.below(2) == 0 {
+        are_filled(alloc, pipes, capacities, sink)
+    } else {
+        Ok(true)
+    }
+}
+
+/// Whether a list of changes by the dice leads to what the plain program has.
+fn is_as_plain<S: EdmondsKarp<i64, Alloc = Global>>(
     alloc: Global,
     seed: u64,
     sink: usize,
-) -> Result<Option<u32>, PathError> {
+) -> Result<bool, PathError> {
     let mut dice = Dice { state: seed };
     let mut capacities = [0i64; 16];
     let mut pipes: Pipes<S> = Pipes::new(alloc, VERTICES, 0, sink)?;
-    for round in 0..400u32 {
-        let (from, to) = (dice.below(VERTICES), dice.below(VERTICES));
-        let capacity = match dice.below(3) {
-            0 => 0i64,
-            1 => 1,
-            _ => 2,
-        };
-        pipes.set(alloc, from, to, capacity)?;
-        set_number(&mut capacities, from, to, capacity);
-        if !is_feasible(&pipes, &capacities, 0, sink) {
-            return Ok(Some(round));
-        }
-        if dice.below(2) == 0 {
-            let (_, total, cut) = pipes.fill(alloc)?;
-            let (greatest, side) = greatest_flow(alloc, &capacities, 0, sink)?;
-            if total != greatest
-                || !is_cut(&cut, &capacities, side)
-                || !is_feasible(&pipes, &capacities, 0, sink)
-            {
-                return Ok(Some(round));
-            }
+    for _change in 0..400u32 {
+        let answer = are_changed(alloc, &mut pipes, &mut capacities, &mut dice, sink);
+        if answer != Ok(true) {
+            return answer;
         }
     }
-    Ok(None)
+    Ok(true)
 }
 
 #[test]
-fn small_networks_are_as_the_plain_program_has_them(rt: HostRuntime) -> Result<(), Fail> {
-    let alloc = rt.alloc();
+fn small_networks_are_as_the_plain_program_has_them(rt: HostRuntime) {
     for seed in 1..40u64 {
         for sink in 1..VERTICES {
-            let dense = first_fault::<DenseCapacity<i64>>(alloc, seed, sink)?;
-            let sparse = first_fault::<SparseCapacity<i64>>(alloc, seed, sink)?;
+            let dense = is_as_plain::<DenseCapacity<i64>>(rt.alloc(), seed, sink);
+            let sparse = is_as_plain::<SparseCapacity<i64>>(rt.alloc(), seed, sink);
             assert!(rt;
-                dense.is_none() && sparse.is_none(),
-                "seed {seed}, sink {sink}: {dense:?}, {sparse:?}"
+                (dense, sparse) == (Ok(true), Ok(true)),
+                "seed {seed}, sink {sink}"
             );
         }
     }
-    Ok(())
 }

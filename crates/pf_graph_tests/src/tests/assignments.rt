@@ -1,45 +1,27 @@
-//! Best assignments: worked values, and tables of one's own, one of which counts its reads.
+//! Best assignments: worked values, and a table of one's own that counts its reads.
 
-ghost use Rattle.std.specs.Prelude.{◌≤◌, ◌<◌};
+ghost use Rattle.std.specs.Prelude.{◌≤◌};
 
-use crate::lineup::{Scores, best_lineup};
+use crate::tests::Heap;
 use pf_base::PathError;
 use pf_base::utils::Tally;
 use pf_graph::kuhn_munkres::{
     Weights, kuhn_munkres, kuhn_munkres_min, kuhn_munkres_tallied, weights_fit,
 };
-use pf_matrix::{Matrix, MatrixFormatError, from_slices, matrix};
+use pf_matrix::{Matrix, MatrixFormatError, from_slices};
 use refusing_allocator::Refusing;
-use std::alloc::Allocator;
 use std::cell::Cell;
-use std::process::Abort;
 
 /// Which total a search is for.
-#[derive(Clone, Copy)]
-pub(crate) enum Best {
+pub(super) enum Best {
     /// The greatest, by `kuhn_munkres`.
     Greatest,
     /// The least, by `kuhn_munkres_min`.
     Least,
 }
 
-/// The best total and the columns, where the table is one that both searches take.
-fn assigned<A: Allocator + Copy>(
-    rt: &impl Abort,
-    alloc: A,
-    weights: &Matrix<i32, A>,
-    best: Best,
-) -> Result<(i32, Vec<usize, A>), PathError> {
-    assert!(rt; weights.rows() <= weights.columns());
-    assert!(rt; weights_fit(weights));
-    match best {
-        Best::Greatest => kuhn_munkres(alloc, weights),
-        Best::Least => kuhn_munkres_min(alloc, weights),
-    }
-}
-
 /// Rows of weights, which total is asked for, what it is, and the columns where no others give it.
-type Assignment<'a> = (&'a [&'a [i32]], Best, i32, Option<&'a [usize]>);
+pub(super) type Assignment<'a> = (&'a [&'a [i32]], Best, i32, Option<&'a [usize]>);
 
 const ASSIGNMENTS: &[Assignment<'static>] = &[
     (&[&[1]], Best::Greatest, 1, Some(&[0])),
@@ -128,33 +110,56 @@ const ASSIGNMENTS: &[Assignment<'static>] = &[
     ),
 ];
 
+/// The best total and the columns. The table has to be one that both searches take.
+fn assigned<'h>(
+    heap: Heap<'h>,
+    weights: &Matrix<i32, Heap<'h>>,
+    best: &Best,
+) -> Result<(i32, Vec<usize, Heap<'h>>), PathError> {
+    if weights.rows() > weights.columns() || !weights_fit(weights) {
+        return Err(PathError::CostOverflow);
+    }
+    match best {
+        Best::Greatest => kuhn_munkres(heap, weights),
+        Best::Least => kuhn_munkres_min(heap, weights),
+    }
+}
+
+/// Whether a search over a table, which is made of the same memory, answers what it should.
+pub(super) fn is_assigned(heap: Heap<'_>, wanted: &Assignment<'_>) -> Result<bool, PathError> {
+    let (rows, best, total, chosen) = wanted;
+    let table = match from_slices(heap, rows) {
+        Ok(table) => table,
+        Err(MatrixFormatError::OutOfMemory) => return Err(PathError::OutOfMemory),
+        Err(_) => return Ok(false),
+    };
+    let (found, columns) = assigned(heap, &table, best)?;
+    Ok(
+        found == *total
+            && columns.len() == rows.len()
+            && (chosen.is_none() || *chosen == Some(columns.as_slice())),
+    )
+}
+
 #[test]
 fn finds_the_best(rt: HostRuntime) {
-    let alloc = rt.alloc();
-    for (number, (rows, best, expected, chosen)) in ASSIGNMENTS.iter().enumerate() {
-        let table = from_slices(alloc, rows).expect(&rt, "memory");
-        let (total, columns) = assigned(&rt, alloc, &table, *best).expect(&rt, "memory");
-        assert!(rt;
-            total == *expected
-                && columns.len() == table.rows()
-                && (chosen.is_none() || *chosen == Some(columns.as_slice())),
-            "row {number}: {total}"
-        );
+    let heap = Refusing::new(rt.alloc());
+    for (number, wanted) in ASSIGNMENTS.iter().enumerate() {
+        assert!(rt; is_assigned(&heap, wanted) == Ok(true), "row {number}");
     }
 }
 
 #[test]
-fn weights_fit_up_to_a_sixth(rt: HostRuntime) {
-    let alloc = rt.alloc();
-    for (weight, fits) in [(21i8, true), (-21, true), (22, false), (-128, false)] {
-        let table = matrix![in alloc; [weight]].expect(&rt, "memory");
-        assert!(rt; table.rows() <= table.columns());
-        let as_found = weights_fit(&table);
-        assert!(rt; as_found == fits, "{weight}");
-        if as_found {
-            let (total, columns) = kuhn_munkres(alloc, &table).expect(&rt, "memory");
-            assert!(rt; total == weight && columns.as_slice() == [0usize].as_slice());
-        }
+fn the_test_takes_no_memory(rt: HostRuntime) {
+    let heap = Refusing::new(rt.alloc());
+    for (weight, fits) in [(21i8, true), (22, false), (-128, false)] {
+        let table = Matrix::new(&heap, 1, 1, weight).expect(&rt, "memory");
+        heap.refuse(0, u64::MAX);
+        assert!(rt;
+            weights_fit(&table) == fits && heap.pending() == u64::MAX,
+            "{weight}"
+        );
+        heap.refuse(0, 0);
     }
 }
 
@@ -196,86 +201,6 @@ impl Weights<i64> for Products<'_> {
     }
 }
 
-/// So many rows and columns of zeros.
-#[derive(Drop)]
-struct Zeros {
-    rows: usize,
-    columns: usize,
-}
-
-impl Weights<i64> for Zeros {
-    ghost use Rattle.std.specs.Prelude.{pos};
-
-    ghost table = { λ s. record { rows = s.rows; columns = s.columns; at = λ r c. pos 0 } };
-
-    fn rows(&self) -> usize {
-        self.rows
-    }
-
-    fn columns(&self) -> usize {
-        self.columns
-    }
-
-    fn at(&self, _row: usize, _column: usize) -> i64 {
-        0
-    }
-
-    fn neg(&self) -> Result<Self, PathError> {
-        Ok(Zeros {
-            rows: self.rows,
-            columns: self.columns,
-        })
-    }
-}
-
-#[test]
-fn weights_fit_where_there_are_none(rt: HostRuntime) {
-    let rows = usize::MAX;
-    assert!(rt; weights_fit(&Zeros { rows, columns: 0 }));
-    assert!(rt;
-        weights_fit(&Zeros {
-            rows: 2,
-            columns: 3
-        })
-    );
-}
-
-/// Whether a search found this total by these columns.
-fn is_best(found: Result<(i64, Vec<usize>), PathError>, total: i64, columns: &[usize]) -> bool {
-    matches!(found, Ok((best, chosen)) if best == total && chosen.as_slice() == columns)
-}
-
-#[test]
-fn assigns_a_table_of_ones_own(rt: HostRuntime) {
-    let alloc = rt.alloc();
-    let reads = Cell::new(0u64);
-    let small = Products {
-        size: 3,
-        negated: false,
-        reads: &reads,
-    };
-    assert!(rt; weights_fit(&small));
-    assert!(rt; is_best(kuhn_munkres(alloc, &small), 5, &[0, 1, 2]));
-    assert!(rt; is_best(kuhn_munkres_min(alloc, &small), 1, &[2, 1, 0]));
-}
-
-#[test]
-fn lines_up_players(rt: HostRuntime) {
-    let scores = Scores {
-        rows: &[[3, 1, 2], [5, 7, 1]],
-        negated: false,
-    };
-    let lineup = best_lineup(rt.alloc(), &scores).expect(&rt, "memory");
-    assert!(rt;
-        matches!(&lineup, Some((10, positions)) if positions.as_slice() == [0usize, 1].as_slice())
-    );
-    let many = Scores {
-        rows: &[[0; 3]; 4],
-        negated: false,
-    };
-    assert!(rt; matches!(best_lineup(rt.alloc(), &many), Ok(None)));
-}
-
 #[test]
 fn reads_few_weights(rt: HostRuntime) {
     let alloc = rt.alloc();
@@ -295,32 +220,4 @@ fn reads_few_weights(rt: HostRuntime) {
     let (total, columns) = kuhn_munkres_min(alloc, &large).expect(&rt, "memory");
     assert!(rt; total == 2024 && columns.len() == 24);
     assert!(rt; reads.get() <= 20_000, "{}", reads.get());
-}
-
-fn square<A: Allocator + Copy>(alloc: A) -> Result<Matrix<i32, A>, MatrixFormatError> {
-    matrix![in alloc; [100, 110, 90], [95, 130, 75], [95, 140, 65]]
-}
-
-/// Whether a search over the square table, made of the same memory, finds this total.
-pub(crate) fn is_assigned<A: Allocator + Copy>(
-    rt: &impl Abort,
-    alloc: A,
-    best: Best,
-    expected: i32,
-) -> Result<bool, PathError> {
-    let table = match square(alloc) {
-        Ok(table) => table,
-        Err(MatrixFormatError::OutOfMemory) => return Err(PathError::OutOfMemory),
-        Err(_) => return Ok(false),
-    };
-    let (total, columns) = assigned(rt, alloc, &table, best)?;
-    Ok(total == expected && columns.len() == 3)
-}
-
-#[test]
-fn the_test_takes_no_memory(rt: HostRuntime) {
-    let heap = Refusing::new(rt.alloc());
-    let table = square(&heap).expect(&rt, "memory");
-    heap.refuse(0, u64::MAX);
-    assert!(rt; weights_fit(&table));
 }

@@ -1,124 +1,317 @@
 //! Each growth refused in turn: a call answers out of memory and leaves what it was lent as it was,
 //! until no request is refused and it answers as it does with ample memory.
 
-use super::calls::Call;
-use super::{Answer, Numbered, Shape, shows};
-use pf_matrix::{Matrix, MatrixFormatError};
+ghost use Rattle.pf_matrix.specs.Arrange.{CanTurn};
+
+use super::words::{WordCall, answers_in_words};
+use super::{FOUR, Heap, Numbers, SIX, Shape, matrix_of, shows};
+use pf_matrix::{Matrix, MatrixFormatError, from_slices, matrix};
 use refusing_allocator::Refusing;
-use std::alloc::{Allocator, Global};
-use std::process::Abort;
+use std::alloc::Global;
 
-/// How a call ended.
-#[derive(Clone, Copy, Debug, PartialEq, Eq)]
-pub(super) enum Outcome {
-    /// It answered out of memory.
-    OutOfMemory,
-    /// It answered as it does with ample memory.
-    Answered,
-    /// It did neither.
-    Wrong,
+/// A call that takes memory, and what it is to answer.
+pub(super) enum Call<'a> {
+    /// A matrix is made.
+    Make(Maker, Shape<'a>),
+    /// `SIX` is copied.
+    Copy(Copied, Shape<'a>),
+    /// `SIX` is changed.
+    Change(Change<'a>, Shape<'a>),
+    /// `from_fn`, and `map` of what it makes.
+    Functions,
+    /// A walk by the columns of `SIX`.
+    Columns,
+    /// A walk by the columns of a matrix without rows.
+    EmptyColumns,
+    /// A flood of `SIX`.
+    Flood,
+    /// Floods of `FOUR` from a position outside.
+    FloodFromOutside,
+    /// A matrix is copied or changed whose values take memory.
+    Words(WordCall),
 }
 
-/// How many growths a call makes with ample memory.
-#[derive(Clone, Copy)]
-pub(super) enum Growths {
-    Exactly(u64),
-    AtLeast(u64),
-    /// No fewer than the first number, and no more than the second.
-    Between(u64, u64),
+/// A call that makes a matrix.
+pub(super) enum Maker {
+    /// `matrix!` of no rows.
+    Nothing,
+    /// `new`, of 2 rows and 3 columns of sevens.
+    Sevens,
+    /// `new_square`, of 2 rows of sevens.
+    SquareOfSevens,
+    /// `from_slices` of [1, 2] and [3, 4].
+    Slices,
+    /// `matrix!` of [1, 2] and [3, 4].
+    Lists,
+    /// `matrix!` of 1, 2 and 3, 4.
+    Values,
+    /// `from_rows` of [1, 2] and [3, 4].
+    Rows,
+    /// `from_rows` of two rows of 40 sevens, which takes memory twice.
+    LongRows,
 }
 
-/// Runs each of these calls with growth 0, 1, 2, .. refused alone, until a run meets no refusal and
-/// answers, which has to make as many growths as said. Each run before it has to answer out of
-/// memory.
-pub(super) fn refuse_each_growth(
-    rt: &impl Abort,
-    alloc: Global,
-    expected: Growths,
-    calls: &[Call<'_>],
-) {
-    for (number, call) in (0..u64::MAX).zip(calls) {
-        let growths = growths_of(rt, alloc, number, call);
-        let as_expected = match expected {
-            Growths::Exactly(all) => growths == all,
-            Growths::AtLeast(least) => growths >= least,
-            Growths::Between(least, most) => least <= growths && growths <= most,
-        };
-        assert!(rt; as_expected, "call {number} makes {growths} growths");
+/// A call that copies a matrix.
+pub(super) enum Copied {
+    Clone,
+    /// Rows 0 and 1, and column 1.
+    Slice,
+    FlippedLr,
+    FlippedUd,
+    Transposed,
+    RotatedCw(usize),
+    RotatedCcw(usize),
+}
+
+/// A call that changes a matrix.
+pub(super) enum Change<'a> {
+    Fill(u8),
+    Extend(&'a [u8]),
+    Transpose,
+}
+
+/// The matrix that a call makes.
+fn made<'h>(heap: Heap<'h>, maker: &Maker) -> Result<Numbers<'h>, MatrixFormatError> {
+    match maker {
+        Maker::Nothing => matrix![in heap],
+        Maker::Sevens => Matrix::new(heap, 2, 3, 7),
+        Maker::SquareOfSevens => Matrix::new_square(heap, 2, 7),
+        Maker::Slices => from_slices(heap, &[&[1, 2], &[3, 4]]),
+        Maker::Lists => matrix![in heap; [1, 2], [3, 4],],
+        Maker::Values => matrix![in heap; 1, 2,; 3, 4;],
+        Maker::Rows => Matrix::from_rows(heap, [[1, 2], [3, 4]]),
+        Maker::LongRows => Matrix::from_rows(heap, [[7; 40]; 2]),
     }
 }
 
-/// Runs a call with each growth refused in turn, and answers how many growths it makes with ample
-/// memory.
-fn growths_of(rt: &impl Abort, alloc: Global, number: u64, call: &Call<'_>) -> u64 {
-    for growth in 0..1_000u64 {
+/// The copy that a call makes.
+fn copy_of<'h>(matrix: &Numbers<'h>, copied: &Copied) -> Result<Numbers<'h>, MatrixFormatError>
+    requires { CanTurn matrix.now }
+{
+    match copied {
+        Copied::Clone => Ok(matrix.clone()?),
+        Copied::Slice => matrix.slice(0..2, 1..2),
+        Copied::FlippedLr => matrix.flipped_lr(),
+        Copied::FlippedUd => matrix.flipped_ud(),
+        Copied::Transposed => matrix.transposed(),
+        Copied::RotatedCw(times) => matrix.rotated_cw(*times),
+        Copied::RotatedCcw(times) => matrix.rotated_ccw(*times),
+    }
+}
+
+/// Makes a change.
+fn make_change(matrix: &mut Numbers<'_>, change: &Change<'_>) -> Result<(), MatrixFormatError>
+    requires { CanTurn matrix.old }
+{
+    match change {
+        Change::Fill(value) => matrix.fill(*value),
+        Change::Extend(row) => matrix.extend(row),
+        Change::Transpose => matrix.transpose(),
+    }
+}
+
+/// Whether a matrix was made that has this shape.
+fn is_made(
+    made: Result<Numbers<'_>, MatrixFormatError>,
+    shape: Shape<'_>,
+) -> Result<bool, MatrixFormatError> {
+    let matrix = made?;
+    Ok(shows(&matrix, shape))
+}
+
+/// Whether a copy of `SIX` has this shape.
+fn is_copied(heap: Heap<'_>, copied: &Copied, shape: Shape<'_>) -> Result<bool, MatrixFormatError> {
+    let six = matrix_of(heap, SIX)?;
+    is_made(copy_of(&six, copied), shape)
+}
+
+/// Whether a change gives `SIX` this shape. A refused one has to leave it as it was.
+fn is_changed(
+    heap: Heap<'_>,
+    change: &Change<'_>,
+    shape: Shape<'_>,
+) -> Result<bool, MatrixFormatError> {
+    let mut six = matrix_of(heap, SIX)?;
+    match make_change(&mut six, change) {
+        Ok(()) => Ok(shows(&six, shape)),
+        Err(error) if shows(&six, SIX) => Err(error),
+        Err(_) => Ok(false),
+    }
+}
+
+/// Whether `from_fn` and `map` make what their functions give, which they call once a position.
+fn are_made_by_functions(heap: Heap<'_>) -> Result<bool, MatrixFormatError> {
+    let mut calls = 0u8;
+    let rows = Matrix::from_fn(heap, 2, 3, |position: (usize, usize)| {
+        calls = calls.wrapping_add(1);
+        position.0
+    })?;
+    let mut mapped_calls = 0u8;
+    let mapped = rows.map(|row: usize| {
+        mapped_calls = mapped_calls.wrapping_add(1);
+        if row == 0 { 7u8 } else { 8 }
+    })?;
+    Ok(calls == 6 && mapped_calls == 6 && shows(&mapped, (2, 3, &[7, 7, 7, 8, 8, 8])))
+}
+
+/// Whether a column has these values.
+fn is_column(
+    column: Option<Result<Vec<&u8, Heap<'_>>, MatrixFormatError>>,
+    values: &[u8],
+) -> Result<bool, MatrixFormatError> {
+    match column {
+        Some(Ok(column)) => Ok(column.iter().copied().eq(values)),
+        Some(Err(error)) => Err(error),
+        None => Ok(false),
+    }
+}
+
+/// Whether a walk gives the three columns of `SIX` from both ends. A refused column is answered in
+/// its place, and the others are given.
+fn gives_columns(six: &Numbers<'_>) -> Result<bool, MatrixFormatError> {
+    let mut columns = six.column_iter();
+    let first = is_column(columns.next(), &[1, 4]);
+    let last = is_column(columns.next_back(), &[3, 6]);
+    let middle = is_column(columns.next(), &[2, 5]);
+    let is_whole = columns.next().is_none() && columns.next_back().is_none();
+    match (first, last, middle) {
+        (Ok(true), Ok(true), answer) | (Ok(true), answer, Ok(true)) | (answer, Ok(true), Ok(true))
+            if is_whole => { answer }
+        _ => Ok(false),
+    }
+}
+
+/// Whether the columns of a matrix without rows have no values.
+fn gives_empty_columns(none: &Numbers<'_>) -> Result<bool, MatrixFormatError> {
+    let mut columns = none.column_iter();
+    let is_first_empty = is_column(columns.next(), &[])?;
+    Ok(is_first_empty && is_column(columns.next_back(), &[])?)
+}
+
+/// A test that each position passes.
+fn is_any(_position: (usize, usize)) -> bool {
+    true
+}
+
+/// Whether a flood reaches the whole matrix.
+fn reaches_all(six: &Numbers<'_>) -> Result<bool, MatrixFormatError> {
+    let reached = six.bfs_reachable((0, 0), true, is_any)?;
+    Ok(reached.len() == 6)
+}
+
+/// Whether floods from a position outside reach nothing else.
+fn reaches_nothing(four: &Numbers<'_>) -> Result<bool, MatrixFormatError> {
+    let breadth = four.bfs_reachable((9, 9), true, is_any)?;
+    let depth = four.dfs_reachable((9, 9), true, is_any)?;
+    Ok(
+        breadth.len() == 1
+            && depth.len() == 1
+            && breadth.contains(&(9, 9))
+            && depth.contains(&(9, 9)),
+    )
+}
+
+/// Whether a call answers the only right answer.
+fn is_right(heap: Heap<'_>, call: &Call<'_>) -> Result<bool, MatrixFormatError> {
+    match call {
+        Call::Make(maker, shape) => is_made(made(heap, maker), *shape),
+        Call::Copy(copied, shape) => is_copied(heap, copied, *shape),
+        Call::Change(change, shape) => is_changed(heap, change, *shape),
+        Call::Functions => are_made_by_functions(heap),
+        Call::Columns => gives_columns(&matrix_of(heap, SIX)?),
+        Call::EmptyColumns => gives_empty_columns(&Matrix::new_empty(heap, usize::MAX)),
+        Call::Flood => reaches_all(&matrix_of(heap, SIX)?),
+        Call::FloodFromOutside => reaches_nothing(&matrix_of(heap, FOUR)?),
+        Call::Words(call) => answers_in_words(heap, call),
+    }
+}
+
+/// How many growths a call makes with ample memory, where each run with one of them refused answers
+/// out of memory.
+fn growths_of(alloc: Global, call: &Call<'_>) -> Option<u64> {
+    for growth in 0..100u64 {
         let heap = Refusing::new(alloc);
-        let outcome = call.outcome(&heap, growth);
-        let is_refused = heap.pending() == 0;
-        let wanted = if is_refused {
-            Outcome::OutOfMemory
-        } else {
-            Outcome::Answered
-        };
-        assert_eq!(rt; outcome, Ok(wanted), "call {number}, growth {growth}");
-        if !is_refused {
-            return growth;
+        heap.refuse(growth, 1);
+        let answer = is_right(&heap, call);
+        if heap.pending() > 0 {
+            return if answer == Ok(true) {
+                Some(growth)
+            } else {
+                None
+            };
+        }
+        if answer != Err(MatrixFormatError::OutOfMemory) {
+            return None;
         }
     }
-    panic!(rt; "every run of call {number} met a refusal")
+    None
 }
 
-/// How a call ended that answers an error.
-fn outcome_of_error(error: MatrixFormatError, answer: Answer<'_>) -> Outcome {
-    match answer {
-        Err(expected) if error == expected => Outcome::Answered,
-        _ if error == MatrixFormatError::OutOfMemory => Outcome::OutOfMemory,
-        _ => Outcome::Wrong,
-    }
-}
+/// Calls, and how many growths they make at the least. That of `SIX` is one of them.
+const CALLS: &[(Call<'static>, u64)] = &[
+    (Call::Make(Maker::Nothing, (0, 0, &[])), 0),
+    (Call::Make(Maker::Sevens, (2, 3, &[7; 6])), 1),
+    (Call::Make(Maker::SquareOfSevens, (2, 2, &[7; 4])), 1),
+    (Call::Make(Maker::Slices, FOUR), 1),
+    (Call::Make(Maker::Lists, FOUR), 1),
+    (Call::Make(Maker::Values, FOUR), 1),
+    (Call::Make(Maker::Rows, FOUR), 1),
+    (Call::Make(Maker::LongRows, (2, 40, &[7; 80])), 2),
+    (Call::Functions, 2),
+    (Call::Copy(Copied::Clone, SIX), 2),
+    (Call::Copy(Copied::Slice, (2, 1, &[2, 5])), 2),
+    (
+        Call::Copy(Copied::FlippedLr, (2, 3, &[3, 2, 1, 6, 5, 4])),
+        2,
+    ),
+    (
+        Call::Copy(Copied::FlippedUd, (2, 3, &[4, 5, 6, 1, 2, 3])),
+        2,
+    ),
+    (
+        Call::Copy(Copied::Transposed, (3, 2, &[1, 4, 2, 5, 3, 6])),
+        2,
+    ),
+    (
+        Call::Copy(Copied::RotatedCw(1), (3, 2, &[4, 1, 5, 2, 6, 3])),
+        2,
+    ),
+    (
+        Call::Copy(Copied::RotatedCw(usize::MAX), (3, 2, &[3, 6, 2, 5, 1, 4])),
+        2,
+    ),
+    (
+        Call::Copy(Copied::RotatedCcw(2), (2, 3, &[6, 5, 4, 3, 2, 1])),
+        2,
+    ),
+    (Call::Change(Change::Fill(7), (2, 3, &[7; 6])), 2),
+    (
+        Call::Change(
+            Change::Extend(&[7, 8, 9]),
+            (3, 3, &[1, 2, 3, 4, 5, 6, 7, 8, 9]),
+        ),
+        2,
+    ),
+    (
+        Call::Change(Change::Transpose, (3, 2, &[1, 4, 2, 5, 3, 6])),
+        2,
+    ),
+    (Call::Columns, 4),
+    (Call::EmptyColumns, 0),
+    (Call::Flood, 2),
+    (Call::FloodFromOutside, 3),
+    (Call::Words(WordCall::Clone), 6),
+    (Call::Words(WordCall::Slice), 6),
+    (Call::Words(WordCall::FlippedLr), 6),
+    (Call::Words(WordCall::Transposed), 6),
+    (Call::Words(WordCall::Fill), 6),
+    (Call::Words(WordCall::Extend), 6),
+];
 
-/// How a call ended that makes a matrix.
-pub(super) fn outcome_of<C: Numbered + Drop, A: Allocator>(
-    made: Result<Matrix<C, A>, MatrixFormatError>,
-    answer: Answer<'_>,
-) -> Outcome {
-    match made {
-        Ok(matrix) => shown(&matrix, answer),
-        Err(error) => outcome_of_error(error, answer),
-    }
-}
-
-/// How a call ended that changes a matrix, which it has to leave in the shape before where it
-/// answers an error.
-pub(super) fn outcome_in_place<C: Numbered, A: Allocator>(
-    matrix: &Matrix<C, A>,
-    changed: Result<(), MatrixFormatError>,
-    before: Shape<'_>,
-    answer: Answer<'_>,
-) -> Outcome {
-    match changed {
-        Ok(()) => shown(matrix, answer),
-        Err(error) => kept(matrix, before, outcome_of_error(error, answer)),
-    }
-}
-
-/// How a call ended after which a matrix shows what it answered.
-fn shown<C: Numbered, A: Allocator>(matrix: &Matrix<C, A>, answer: Answer<'_>) -> Outcome {
-    match answer {
-        Ok(shape) => kept(matrix, shape, Outcome::Answered),
-        Err(_) => Outcome::Wrong,
-    }
-}
-
-/// The outcome of a call, where this matrix has this shape.
-pub(super) fn kept<C: Numbered, A: Allocator>(
-    matrix: &Matrix<C, A>,
-    shape: Shape<'_>,
-    outcome: Outcome,
-) -> Outcome {
-    if shows(matrix, shape) {
-        outcome
-    } else {
-        Outcome::Wrong
+#[test]
+fn calls_refuse_each_growth(rt: HostRuntime) {
+    for (number, (call, least)) in CALLS.iter().enumerate() {
+        let growths = growths_of(rt.alloc(), call);
+        assert!(rt; growths >= Some(*least), "call {number}");
     }
 }

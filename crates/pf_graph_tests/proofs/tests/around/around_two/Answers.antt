@@ -9,7 +9,7 @@ abbrev listed : ℕ → List ℕ
 listed n = if n % 2 == 0 then 2 ∷ 4 ∷ 6 ∷ 8 ∷ [] else 1 ∷ 3 ∷ 5 ∷ 7 ∷ []
 
 pub connected_components-requires-clause-graph : goal.connected_components-requires-clause-graph
-connected_components-requires-clause-graph g c = (
+connected_components-requires-clause-graph c = (
   listed,
   successors_by listed listed (λ s. Unit {0}) tt
       (λ x w. SameNodes-refl nat_eq nat_refl (listed x))

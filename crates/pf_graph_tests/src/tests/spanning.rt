@@ -1,12 +1,13 @@
-//! Worked examples of `prim`.
+//! Worked examples of spanning edges.
 
-use crate::callers::pipes;
+use pf_graph::undirected::kruskal::{kruskal, spanning_weight};
 use pf_graph::undirected::prim::prim;
 use std::alloc::Global;
 
 /// Edges between letters, with their weights.
 type Edges<'a> = &'a [(char, char, u32)];
 
+/// Five nodes, each weight once.
 const SEVEN: &[(char, char, u32)] = &[
     ('a', 'b', 3),
     ('a', 'e', 1),
@@ -47,8 +48,18 @@ const FIVE: &[(char, char, u32)] = &[
     ('D', 'E', 1),
 ];
 
+/// Edges that `kruskal` chooses, and the sum of their weights.
+const CHOSEN: &[(Edges<'static>, Edges<'static>, u32)] = &[
+    (
+        SEVEN,
+        &[('a', 'e', 1), ('c', 'd', 2), ('a', 'b', 3), ('b', 'c', 5)],
+        11,
+    ),
+    (&[('a', 'a', 1)], &[], 0),
+];
+
 /// Edges, and those of the tree that grows over them.
-const CASES: &[(Edges<'static>, Edges<'static>)] = &[
+const GROWN: &[(Edges<'static>, Edges<'static>)] = &[
     (
         SEVEN,
         &[('a', 'e', 1), ('a', 'b', 3), ('b', 'c', 5), ('c', 'd', 2)],
@@ -77,51 +88,41 @@ const CASES: &[(Edges<'static>, Edges<'static>)] = &[
     ),
     // What is not joined to the start is left out.
     (&[('b', 'c', 1), ('d', 'e', 2)], &[('b', 'c', 1)]),
-    (&[], &[]),
-    (&[('a', 'a', 1)], &[]),
-    // After b, the edges from a and from b to other nodes weigh the same: a is less.
-    (
-        &[('b', 'a', 1), ('b', 'c', 2), ('a', 'd', 2)],
-        &[('b', 'a', 1), ('a', 'd', 2), ('b', 'c', 2)],
-    ),
-    // Three edges from a weigh the same: the least new end comes first.
-    (
-        &[('a', 'd', 2), ('c', 'a', 2), ('a', 'b', 2)],
-        &[('a', 'b', 2), ('a', 'c', 2), ('a', 'd', 2)],
-    ),
 ];
 
+/// Whether `kruskal` chooses these edges, and none after them.
+fn chooses(alloc: Global, edges: Edges<'_>, expected: Edges<'_>) -> bool {
+    let Ok(mut chosen) = kruskal(alloc, edges) else {
+        return false;
+    };
+    for edge in expected {
+        if chosen.next() != Some((&edge.0, &edge.1, edge.2)) {
+            return false;
+        }
+    }
+    chosen.next().is_none() && chosen.next().is_none()
+}
+
 /// Whether `prim` grows a tree of these edges.
-fn grows(alloc: Global, edges: Edges<'_>, expected: Edges<'_>) -> bool {
+fn grows(alloc: Global, edges: Edges<'_>, grown: Edges<'_>) -> bool {
     let Ok(tree) = prim(alloc, edges) else {
         return false;
     };
-    for (edge, wanted) in tree.iter().zip(expected) {
+    for (edge, wanted) in tree.iter().zip(grown) {
         if *edge != (&wanted.0, &wanted.1, wanted.2) {
             return false;
         }
     }
-    tree.len() == expected.len()
+    tree.len() == grown.len()
 }
 
 #[test]
-fn grows_by_the_least_edge(rt: HostRuntime) {
-    for (number, (edges, expected)) in CASES.iter().enumerate() {
-        assert!(rt; grows(rt.alloc(), edges, expected), "case {number}");
+fn spans_by_least_weights(rt: HostRuntime) {
+    for (edges, chosen, total) in CHOSEN {
+        assert!(rt; chooses(rt.alloc(), edges, chosen), "a sum of {total}");
+        assert!(rt; spanning_weight(rt.alloc(), edges) == Ok(*total));
     }
-}
-
-#[test]
-fn grows_over_names_with_weights_that_are_no_numbers(rt: HostRuntime) {
-    let edges = [("b", "c", 'y'), ("c", "a", 'x'), ("a", "b", 'z')];
-    let tree = prim(rt.alloc(), &edges).expect(&rt, "memory");
-    let expected = [(&"b", &"c", 'y'), (&"c", &"a", 'x')];
-    assert!(rt; tree.as_slice() == expected.as_slice());
-}
-
-#[test]
-fn lays_pipes_from_the_first_house(rt: HostRuntime) {
-    let offers = [(0, 1, 5u64), (2, 0, 1), (3, 4, 2)];
-    let tree = pipes(rt.alloc(), &offers).expect(&rt, "memory");
-    assert!(rt; tree.as_slice() == [(&0, &2, 1), (&0, &1, 5)].as_slice());
+    for (number, (edges, grown)) in GROWN.iter().enumerate() {
+        assert!(rt; grows(rt.alloc(), edges, grown), "case {number}");
+    }
 }

@@ -1,0 +1,60 @@
+//! Texts, directions and laws.
+
+use pf_matrix::directions::{DIRECTIONS_4, DIRECTIONS_8, E, N, NE, NW, S, SE, SW, W};
+use pf_matrix::{MatrixFormatError, laws, matrix};
+use std::alloc::AllocError;
+use std::marker::PhantomData;
+
+/// The refusals and their texts.
+const TEXTS: &[(MatrixFormatError, &str)] = &[
+    (MatrixFormatError::EmptyRow, "matrix rows cannot be empty"),
+    (
+        MatrixFormatError::WrongIndex,
+        "index does not point to data inside the matrix",
+    ),
+    (
+        MatrixFormatError::WrongLength,
+        "provided data does not correspond to the expected length",
+    ),
+    (MatrixFormatError::OutOfMemory, "out of memory"),
+];
+
+#[test]
+fn texts_of_refusals_and_of_a_matrix(rt: HostRuntime) {
+    for (error, text) in TEXTS {
+        let shown = format!(in rt.alloc(); "{error}").expect(&rt, "memory");
+        assert!(rt; shown.as_str() == *text, "{text}");
+    }
+    assert!(rt; MatrixFormatError::from(AllocError) == MatrixFormatError::OutOfMemory);
+    let four = matrix![in rt.alloc(); 1u8, 2; 3, 4].expect(&rt, "memory");
+    let shown = format!(in rt.alloc(); "{four:?}").expect(&rt, "memory");
+    assert!(rt; shown.as_str() == "Matrix { rows: 2, columns: 2, data: [1, 2, 3, 4] }");
+}
+
+/// A number of rows and one of columns, which may be below zero.
+type Step = (isize, isize);
+
+/// Lists of directions, and what they are.
+const LISTS: &[(&[Step], &[Step])] = &[
+    (&[E, S, W, N], &[(0, 1), (1, 0), (0, -1), (-1, 0)]),
+    (&[NE, SE, SW, NW], &[(-1, 1), (1, 1), (1, -1), (-1, -1)]),
+    (&DIRECTIONS_4, &[E, S, W, N]),
+    (&DIRECTIONS_8, &[NE, E, SE, S, SW, W, NW, N]),
+];
+
+#[test]
+fn directions_have_their_steps_and_order(rt: HostRuntime) {
+    for (directions, steps) in LISTS {
+        assert!(rt; directions == steps);
+    }
+}
+
+#[test]
+fn laws_can_be_called() {
+    laws::two_flips_lr(PhantomData::<u8>);
+    laws::two_flips_ud(PhantomData::<u8>);
+    laws::two_transpositions(PhantomData::<u8>);
+    laws::four_quarter_turns(PhantomData::<u8>);
+    laws::turns_undone(PhantomData::<u8>);
+    laws::equal_hash_alike(PhantomData::<u8>);
+}
