@@ -1,2 +1,3 @@
 mod ChainLemmas
+mod LetterLemmas
 mod ListLemmas

@@ -9,7 +9,6 @@ use crate::cycles::{Cycles, cycles_by};
 use crate::plain::{Lists, PlainCall, plain};
 use pf_base::{NodeRefs, PathError};
 use pf_graph::undirected::connected_components::{SetIn, connected_components};
-use pf_orders::directed::topological_sort::topological_sort_into_groups;
 use pf_search::directed::bfs::bfs_bidirectional;
 use pf_search::directed::dijkstra::dijkstra_bidirectional;
 use std::alloc::Global;
@@ -64,22 +63,20 @@ pub fn cheapest_between_in_ring(alloc: Global, last: usize) -> Found<usize, usiz
     )
 }
 
-/// What a call without costs answers from `last`, for a search to 0, where `back` comes after 0.
+/// What a call without costs answers from `last`, for a search to 0, where `back` comes after 0. Where
+/// that is 0 itself, the numbers are a chain.
 pub fn plain_in_ring(alloc: Global, call: PlainCall, last: usize, back: usize) -> Lists<usize> {
+    let starts = NodeRefs::from_one(alloc, &last)?;
     plain(
         alloc,
         call,
         last,
+        &starts,
         |n: &usize| -> [usize; 1]
             ensures { result ≡ next_lower back n.now ∷ [] }
         { [lower(*n, back)] },
         |n| *n == 0,
     )
-}
-
-/// The same, where nothing comes after 0.
-pub fn plain_in_chain(alloc: Global, call: PlainCall, last: usize) -> Lists<usize> {
-    plain(alloc, call, last, |n| n.saturating_sub(1)..*n, |n| *n == 0)
 }
 
 /// A path with fewest edges from `last` to 0 by `bfs_bidirectional`, where `last` comes after 0.
@@ -99,15 +96,6 @@ pub fn fewest_between_in_ring(alloc: Global, last: usize) -> Result<Option<Vec<u
     )
 }
 
-/// The numbers in groups by depth, where nothing comes after 0; `None` where there is a cycle.
-pub fn groups_in_chain(
-    alloc: Global,
-    numbers: &[usize],
-) -> Result<Option<Vec<Vec<usize>>>, PathError> {
-    let answer = topological_sort_into_groups(alloc, numbers, |n| n.saturating_sub(1)..*n)?;
-    Ok(answer.ok())
-}
-
 /// The sets of numbers around some starts, each of which has the next lower one beside it.
 pub fn sets_in_chain(
     alloc: Global,
@@ -117,6 +105,6 @@ pub fn sets_in_chain(
 }
 
 /// The cycle that steps from `start` lead to, where `back` comes after 0, by each of the four calls.
-pub fn cycles_in_ring(start: usize, back: usize) -> Result<Cycles<usize>, PathError> {
+pub fn cycles_in_ring(start: usize, back: usize) -> Cycles<usize> {
     cycles_by(start, |n| lower(n, back))
 }

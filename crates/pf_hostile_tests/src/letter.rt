@@ -13,7 +13,7 @@ use std::cmp::Ordering;
 use std::hash::{Hash, Hasher};
 
 /// An ASCII letter. Its case tells no two letters apart, and a copy keeps it.
-#[derive(Clone, Copy, Debug)]
+#[derive(Clone, Copy)]
 pub struct Letter {
     pub byte: u8,
 }

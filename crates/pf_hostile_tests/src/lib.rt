@@ -9,6 +9,8 @@ mod cheapest;
 #[cfg(test)]
 mod cycles;
 #[cfg(test)]
+mod flows;
+#[cfg(test)]
 mod letter;
 #[cfg(test)]
 mod listed;
@@ -22,3 +24,5 @@ mod plain;
 mod table_parents;
 #[cfg(test)]
 mod tests;
+#[cfg(test)]
+mod walks;

@@ -1,10 +1,9 @@
-//! Callers over lists of edges (from, to, cost) between nodes of any type.
+//! Callers over lists of edges (from, to, cost) between letters.
 
 ghost use Rattle.std.specs.Prelude.{◌≤ℤ◌, All, IsTrue, pos};
-ghost use Rattle.std.specs.Mem.{FitsInMemory};
-ghost use Rattle.pf_base.specs.Answers.{IsLawfulClone};
 
 use crate::cheapest::{CostCall, Found, cheapest};
+use crate::letter::Letter;
 use crate::plain::{Lists, PlainCall, plain};
 use edge_lists::{edges_from, edges_to, nodes_after, nodes_before};
 use pf_base::{Cost, NodeRefs, PathError};
@@ -13,7 +12,9 @@ use pf_orders::directed::topological_sort::topological_sort_into_groups;
 use pf_search::directed::bfs::bfs_bidirectional;
 use pf_search::directed::dijkstra::dijkstra_bidirectional;
 use std::alloc::Global;
-use std::hash::Hash;
+
+/// An edge between letters, at a cost.
+pub type Edge<C> = (Letter, Letter, C);
 
 /// Whether the cost is not less than nothing.
 fn is_from_zero<C: Cost>(cost: C) -> bool
@@ -23,26 +24,21 @@ fn is_from_zero<C: Cost>(cost: C) -> bool
 }
 
 /// Whether no edge costs less than nothing.
-fn are_from_zero<N, C: Cost>(edges: &[(N, N, C)]) -> bool
+fn are_from_zero<C: Cost>(edges: &[Edge<C>]) -> bool
     ensures { IsTrue result → All (λ e. pos 0 ≤ℤ C.value e.2) edges.now }
 {
     edges.iter().all(|edge| is_from_zero(edge.2))
 }
 
-/// A cheapest path from one node to another, as a call answers it. Costs below nothing are refused as
-/// negative capacities are.
-pub fn cheapest_in_list<N, C>(
+/// A cheapest path from one letter to another, as a call answers it. Costs below nothing are refused
+/// as negative capacities are.
+pub fn cheapest_in_list<C: Cost>(
     alloc: Global,
     call: CostCall,
-    edges: &[(N, N, C)],
-    from: N,
-    to: N,
-) -> Found<N, C>
-where
-    N: Eq + Hash + Copy,
-    C: Cost,
-    requires clones { IsLawfulClone N.eq N.is_clone }
-{
+    edges: &[Edge<C>],
+    from: Letter,
+    to: Letter,
+) -> Found<Letter, C> {
     if !are_from_zero(edges) {
         return Err(PathError::NegativeCapacity);
     }
@@ -58,17 +54,12 @@ where
 }
 
 /// The same by `dijkstra_bidirectional`.
-pub fn cheapest_between_in_list<N, C>(
+pub fn cheapest_between_in_list<C: Cost>(
     alloc: Global,
-    edges: &[(N, N, C)],
-    from: N,
-    to: N,
-) -> Found<N, C>
-where
-    N: Eq + Hash + Copy,
-    C: Cost,
-    requires clones { IsLawfulClone N.eq N.is_clone }
-{
+    edges: &[Edge<C>],
+    from: Letter,
+    to: Letter,
+) -> Found<Letter, C> {
     if !are_from_zero(edges) {
         return Err(PathError::NegativeCapacity);
     }
@@ -81,33 +72,32 @@ where
     )
 }
 
-/// What a call without costs answers from one node, for a search to another one.
-pub fn plain_in_list<N, C>(
+/// What a call without costs answers from one letter, for a search to another one.
+pub fn plain_in_list(
     alloc: Global,
     call: PlainCall,
-    edges: &[(N, N, C)],
-    from: N,
-    to: N,
-) -> Lists<N>
-where
-    N: Eq + Hash + Copy,
-    requires clones { IsLawfulClone N.eq N.is_clone }
-    requires room { FitsInMemory N.row }
-{
-    plain(alloc, call, from, |n| nodes_after(edges, *n), |n| *n == to)
+    edges: &[Edge<u8>],
+    from: Letter,
+    to: Letter,
+) -> Lists<Letter> {
+    let starts = NodeRefs::from_one(alloc, &from)?;
+    plain(
+        alloc,
+        call,
+        from,
+        &starts,
+        |n| nodes_after(edges, *n),
+        |n| *n == to,
+    )
 }
 
-/// A path with fewest edges from one node to another, by `bfs_bidirectional`.
-pub fn fewest_between_in_list<N, C>(
+/// A path with fewest edges from one letter to another, by `bfs_bidirectional`.
+pub fn fewest_between_in_list(
     alloc: Global,
-    edges: &[(N, N, C)],
-    from: N,
-    to: N,
-) -> Result<Option<Vec<N>>, PathError>
-where
-    N: Eq + Hash + Copy,
-    requires clones { IsLawfulClone N.eq N.is_clone }
-{
+    edges: &[Edge<u8>],
+    from: Letter,
+    to: Letter,
+) -> Result<Option<Vec<Letter>>, PathError> {
     let starts = NodeRefs::from_one(alloc, &from)?;
     let ends = NodeRefs::from_one(alloc, &to)?;
     bfs_bidirectional(
@@ -119,32 +109,23 @@ where
     )
 }
 
-/// The nodes in groups by depth, and those that are in none.
-pub fn groups_in_list<N, C>(
+/// Groups of letters by depth, or those that are found and the letters that are in none.
+pub type Groups = Result<Vec<Vec<Letter>>, (Vec<Vec<Letter>>, Vec<Letter>)>;
+
+/// The letters in groups by depth.
+pub fn groups_in_list(
     alloc: Global,
-    edges: &[(N, N, C)],
-    nodes: &[N],
-) -> Result<(Vec<Vec<N>>, Vec<N>), PathError>
-where
-    N: Eq + Hash + Copy,
-    requires clones { IsLawfulClone N.eq N.is_clone }
-{
-    let answer = topological_sort_into_groups(alloc, nodes, |n| nodes_after(edges, *n))?;
-    Ok(match answer {
-        Ok(groups) => (groups, Vec::new(alloc)),
-        Err(both) => both,
-    })
+    edges: &[Edge<u8>],
+    letters: &[Letter],
+) -> Result<Groups, PathError> {
+    topological_sort_into_groups(alloc, letters, |n| nodes_after(edges, *n))
 }
 
-/// The sets of nodes around some starts that edges from them join.
-pub fn sets_in_list<N, C>(
+/// The sets of letters around some starts that edges from them join.
+pub fn sets_in_list(
     alloc: Global,
-    edges: &[(N, N, C)],
-    starts: &[N],
-) -> Result<Vec<SetIn<N, Global>>, PathError>
-where
-    N: Eq + Hash + Copy,
-    requires clones { IsLawfulClone N.eq N.is_clone }
-{
+    edges: &[Edge<u8>],
+    starts: &[Letter],
+) -> Result<Vec<SetIn<Letter, Global>>, PathError> {
     connected_components(alloc, starts, |n| nodes_after(edges, *n))
 }

@@ -4,7 +4,6 @@ ghost use Rattle.std.specs.Prelude.{◌≡◌, if◌then◌else◌};
 ghost use Rattle.pf_base.specs.Answers.{IsLawfulClone};
 
 use crate::cycles::{Cycles, cycles_by};
-use pf_base::PathError;
 
 /// The value after a value: `second` after all but `second`, and `third` after that.
 fn after<T: Eq + Copy>(value: T, second: T, third: T) -> T
@@ -14,7 +13,7 @@ fn after<T: Eq + Copy>(value: T, second: T, third: T) -> T
 }
 
 /// The cycle that `first` leads to, by each of the four calls.
-pub fn cycles_of_names<T: Eq + Copy>(first: T, second: T, third: T) -> Result<Cycles<T>, PathError>
+pub fn cycles_of_names<T: Eq + Copy>(first: T, second: T, third: T) -> Cycles<T>
     requires clones { IsLawfulClone T.eq T.is_clone }
 {
     cycles_by(first, |value| after(value, second, third))

@@ -1,11 +1,11 @@
 //! The calls over graphs without costs, behind one function.
 
-ghost use Rattle.std.specs.Prelude.{◌∷◌, [], List, Bool};
+ghost use Rattle.std.specs.Prelude.{◌≡◌, ◌∷◌, [], List, Bool};
 ghost use Rattle.std.specs.Mem.{FitsInMemory};
 ghost use Rattle.pf_base.specs.Answers.{IsLawfulClone};
-ghost use Rattle.pf_base.specs.Successors.{HasSuccessor, IsUnweightedSearch};
-ghost use Rattle.pf_base.specs.Walks.{IsReachable};
+ghost use Rattle.pf_base.specs.Successors.{IsUnweightedSearch};
 
+use crate::walks::all_of;
 use pf_base::{NodeRefs, NodeTest, PathError, SuccessorFunction};
 use pf_orders::directed::strongly_connected_components::{
     strongly_connected_component, strongly_connected_components, strongly_connected_components_from,
@@ -18,7 +18,7 @@ use std::alloc::Global;
 use std::hash::Hash;
 
 /// A call from one node.
-#[derive(Clone, Copy, Debug, PartialEq, Eq)]
+#[derive(Clone, Copy)]
 pub enum PlainCall {
     /// `bfs`.
     Bfs,
@@ -43,7 +43,7 @@ pub enum PlainCall {
 }
 
 /// The calls that answer one list, whose order is known where each node has one successor at most.
-pub const LIST_CALLS: [PlainCall; 7] = [
+pub const LIST_CALLS: &[PlainCall] = &[
     PlainCall::Bfs,
     PlainCall::Loop,
     PlainCall::BreadthWalk,
@@ -54,7 +54,7 @@ pub const LIST_CALLS: [PlainCall; 7] = [
 ];
 
 /// The calls that answer components.
-pub const COMPONENT_CALLS: [PlainCall; 3] = [
+pub const COMPONENT_CALLS: &[PlainCall] = &[
     PlainCall::Component,
     PlainCall::ComponentsFrom,
     PlainCall::Components,
@@ -64,121 +64,36 @@ pub const COMPONENT_CALLS: [PlainCall; 3] = [
 /// such path or order.
 pub type Lists<N> = Result<Vec<Vec<N>>, PathError>;
 
-/// How many steps of a walk are gone at most.
-const LIMIT: usize = 2_000_000;
-
-/// The list, if there is one, in a list.
-fn alone<N: Copy>(alloc: Global, list: Option<Vec<N>>) -> Lists<N> {
+/// The list in a list.
+fn alone<N: Copy>(alloc: Global, list: Result<Vec<N>, PathError>) -> Lists<N> {
     let mut lists = Vec::new(alloc);
-    if let Some(list) = list {
-        lists.push(list)?;
-    }
+    lists.push(list?)?;
     Ok(lists)
 }
 
-/// What `bfs_reach` gives.
-fn breadth_walk<N, IN, FN>(alloc: Global, start: N, successors: FN) -> Result<Vec<N>, PathError>
-where
-    N: Eq + Hash + Copy,
-    IN: IntoIterator<Item = N>,
-    FN: FnMut(&N) -> IN,
-    requires clones { IsLawfulClone N.eq N.is_clone }
-    requires graph { (next : N → List N) × ⟦<FN as SuccessorFunction<N>>⟧.answers successors (IsReachable N.eq (HasSuccessor N.eq next) (start ∷ [])) next }
-{
-    let mut given = Vec::new(alloc);
-    let walk = bfs_reach(alloc, start, successors)?;
-    for node in walk.take(LIMIT) {
-        given.push(node?)?;
-    }
-    Ok(given)
-}
-
-/// What `dfs_reach` gives.
-fn depth_walk<N, IN, FN>(alloc: Global, start: N, successors: FN) -> Result<Vec<N>, PathError>
-where
-    N: Eq + Hash + Copy,
-    IN: IntoIterator<Item = N>,
-    FN: FnMut(&N) -> IN,
-    requires clones { IsLawfulClone N.eq N.is_clone }
-    requires graph { (next : N → List N) × ⟦<FN as SuccessorFunction<N>>⟧.answers successors (IsReachable N.eq (HasSuccessor N.eq next) (start ∷ [])) next }
-{
-    let mut given = Vec::new(alloc);
-    let walk = dfs_reach(alloc, start, successors)?;
-    for node in walk.take(LIMIT) {
-        given.push(node?)?;
-    }
-    Ok(given)
-}
-
-/// The path by `bfs`.
-fn by_bfs<N, IN, FN, FS>(
-    alloc: Global,
-    start: &N,
-    successors: FN,
-    success: FS,
-) -> Result<Option<Vec<N>>, PathError>
-where
-    N: Eq + Hash + Copy,
-    IN: IntoIterator<Item = N>,
-    FN: FnMut(&N) -> IN,
-    FS: FnMut(&N) -> bool,
-    requires clones { IsLawfulClone N.eq N.is_clone }
-    requires graph { (next : N → List N) × (test : N → Bool)
-        × IsUnweightedSearch N.eq next (start.now ∷ []) (⟦<FN as SuccessorFunction<N>>⟧.answers successors) (⟦<FS as NodeTest<N>>⟧.answers success) test }
-{
-    let starts = NodeRefs::from_one(alloc, start)?;
-    bfs(alloc, &starts, successors, success)
-}
-
-/// The loop by `bfs_loop`.
-fn by_loop<N, IN, FN>(alloc: Global, start: &N, successors: FN) -> Result<Option<Vec<N>>, PathError>
-where
-    N: Eq + Hash + Copy,
-    IN: IntoIterator<Item = N>,
-    FN: FnMut(&N) -> IN,
-    requires clones { IsLawfulClone N.eq N.is_clone }
-    requires graph { (next : N → List N) × ⟦<FN as SuccessorFunction<N>>⟧.answers successors (IsReachable N.eq (HasSuccessor N.eq next) (start.now ∷ [])) next }
-{
-    let starts = NodeRefs::from_one(alloc, start)?;
-    bfs_loop(alloc, &starts, successors)
-}
-
-/// The one list that a call answers, or `None`.
-fn list_by<N, IN, FN, FS>(
-    alloc: Global,
-    call: PlainCall,
-    start: N,
-    successors: FN,
-    success: FS,
-) -> Result<Option<Vec<N>>, PathError>
-where
-    N: Eq + Hash + Copy,
-    IN: IntoIterator<Item = N>,
-    FN: FnMut(&N) -> IN,
-    FS: FnMut(&N) -> bool,
-    requires clones { IsLawfulClone N.eq N.is_clone }
-    requires room { FitsInMemory N.row }
-    requires graph { (next : N → List N) × (test : N → Bool)
-        × IsUnweightedSearch N.eq next (start ∷ []) (⟦<FN as SuccessorFunction<N>>⟧.answers successors) (⟦<FS as NodeTest<N>>⟧.answers success) test }
-{
-    match call {
-        PlainCall::Bfs => by_bfs(alloc, &start, successors, success),
-        PlainCall::Loop => by_loop(alloc, &start, successors),
-        PlainCall::BreadthWalk => Ok(Some(breadth_walk(alloc, start, successors)?)),
-        PlainCall::Dfs => dfs(alloc, start, successors, success),
-        PlainCall::DepthWalk => Ok(Some(depth_walk(alloc, start, successors)?)),
-        PlainCall::Iddfs => iddfs(alloc, start, successors, success),
-        PlainCall::Order => Ok(topological_sort(alloc, &[start], successors)?.ok()),
-        PlainCall::Component => Ok(Some(strongly_connected_component(alloc, &start, successors)?)),
-        PlainCall::ComponentsFrom | PlainCall::Components => Ok(None),
+/// The list, if there is one, in a list.
+fn alone_or_none<N: Copy>(alloc: Global, list: Result<Option<Vec<N>>, PathError>) -> Lists<N> {
+    match list? {
+        Some(list) => alone(alloc, Ok(list)),
+        None => Ok(Vec::new(alloc)),
     }
 }
 
-/// What a call from a node answers. The searches go to a node that passes `success`.
+/// The order, if there is one, in a list.
+fn order_or_none<N: Copy>(alloc: Global, order: Result<Result<Vec<N>, N>, PathError>) -> Lists<N> {
+    match order? {
+        Ok(order) => alone(alloc, Ok(order)),
+        Err(_) => Ok(Vec::new(alloc)),
+    }
+}
+
+/// What a call from a node answers, of which `starts` is the set. The searches go to a node that
+/// passes `success`.
 pub fn plain<N, IN, FN, FS>(
     alloc: Global,
     call: PlainCall,
     start: N,
+    starts: &NodeRefs<'_, N>,
     successors: FN,
     success: FS,
 ) -> Lists<N>
@@ -189,15 +104,25 @@ where
     FS: FnMut(&N) -> bool,
     requires clones { IsLawfulClone N.eq N.is_clone }
     requires room { FitsInMemory N.row }
+    requires one { starts.now ≡ start ∷ [] }
     requires graph { (next : N → List N) × (test : N → Bool)
         × IsUnweightedSearch N.eq next (start ∷ []) (⟦<FN as SuccessorFunction<N>>⟧.answers successors) (⟦<FS as NodeTest<N>>⟧.answers success) test }
 {
     match call {
+        PlainCall::Bfs => alone_or_none(alloc, bfs(alloc, starts, successors, success)),
+        PlainCall::Loop => alone_or_none(alloc, bfs_loop(alloc, starts, successors)),
+        PlainCall::BreadthWalk => alone(alloc, all_of(alloc, bfs_reach(alloc, start, successors))),
+        PlainCall::Dfs => alone_or_none(alloc, dfs(alloc, start, successors, success)),
+        PlainCall::DepthWalk => alone(alloc, all_of(alloc, dfs_reach(alloc, start, successors))),
+        PlainCall::Iddfs => alone_or_none(alloc, iddfs(alloc, start, successors, success)),
+        PlainCall::Order => order_or_none(alloc, topological_sort(alloc, &[start], successors)),
+        PlainCall::Component => {
+            alone(
+                alloc,
+                strongly_connected_component(alloc, &start, successors),
+            )
+        }
         PlainCall::ComponentsFrom => strongly_connected_components_from(alloc, &start, successors),
         PlainCall::Components => strongly_connected_components(alloc, &[start], successors),
-        _ => {
-            let list = list_by(alloc, call, start, successors, success)?;
-            alone(alloc, list)
-        }
     }
 }

@@ -1,12 +1,10 @@
 //! Chains and rings of a million numbers: no call goes as deep in the machine as the graph is.
 
-ghost use Rattle.std.specs.Prelude.{◌≤◌};
-
 use crate::chained::{
     cheapest_between_in_ring, cheapest_in_ring, cycles_in_ring, fewest_between_in_ring,
-    groups_in_chain, plain_in_chain, plain_in_ring, sets_in_chain,
+    plain_in_ring, sets_in_chain,
 };
-use crate::cheapest::COST_CALLS;
+use crate::cheapest::{COST_CALLS, Found};
 use crate::plain::{COMPONENT_CALLS, LIST_CALLS, Lists, PlainCall};
 use pf_base::PathError;
 use pf_flow::edmonds_karp::{EKFlows, Edge, edmonds_karp_dense, edmonds_karp_sparse};
@@ -17,8 +15,9 @@ use pf_graph::undirected::kruskal::{kruskal, kruskal_indices};
 use pf_graph::undirected::prim::prim;
 use pf_grid::Grid;
 use pf_matrix::Matrix;
-use pf_tables::CompactRows;
-use std::alloc::{AllocError, Global};
+use pf_table_searches::{dfs, dijkstra_all, topological_sort, topological_sort_into_groups};
+use pf_tables::{CompactRows, bfs, dijkstra};
+use std::alloc::Global;
 
 /// The last number.
 const LAST: usize = 1_000_000;
@@ -30,9 +29,21 @@ const SIDE: usize = 1_000;
 /// as the third power of the depth.
 const SHORT_LAST: usize = 500;
 
+/// Whether the numbers fall by 1 from the last one on, and begin again behind 0.
+fn fall(numbers: &[usize], last: usize) -> bool {
+    let mut wanted = last;
+    for number in numbers {
+        if *number != wanted {
+            return false;
+        }
+        wanted = if wanted == 0 { last } else { wanted - 1 };
+    }
+    true
+}
+
 /// Whether the numbers fall by 1 from the last one to 0.
 fn fall_to_zero(numbers: &[usize]) -> bool {
-    numbers.iter().copied().eq((0..LAST + 1).rev())
+    numbers.len() == LAST + 1 && fall(numbers, LAST)
 }
 
 /// Whether there is a path, and it leads down to 0.
@@ -41,66 +52,52 @@ fn is_path_down(found: Result<Option<Vec<usize>>, PathError>) -> bool {
 }
 
 /// Whether there is a path, and it leads down to 0, at a cost of 1 for each step.
-fn is_way_down<C: PartialEq + Drop>(
-    found: Result<Option<(Vec<usize>, C)>, PathError>,
-    cost: C,
-) -> bool {
-    matches!(&found, Ok(Some((path, price))) if fall_to_zero(path) && *price == cost)
+fn is_way_down(found: Found<usize, usize>) -> bool {
+    matches!(&found, Ok(Some((path, price))) if fall_to_zero(path) && *price == LAST)
 }
 
 #[test]
 fn cheapest_paths(rt: HostRuntime) {
-    for call in COST_CALLS {
-        let found = cheapest_in_ring(rt.alloc(), call, LAST, LAST);
-        assert!(rt; is_way_down(found, LAST), "{call:?}");
+    for (number, call) in COST_CALLS.iter().enumerate() {
+        let found = cheapest_in_ring(rt.alloc(), *call, LAST, LAST);
+        assert!(rt; is_way_down(found), "call {number}");
     }
-    let found = cheapest_between_in_ring(rt.alloc(), LAST);
-    assert!(rt; is_way_down(found, LAST));
-}
-
-/// The last number for a call.
-fn last_for(call: PlainCall) -> usize
-    ensures { result ≤ 1000000 }
-{
-    if call == PlainCall::Iddfs {
-        SHORT_LAST
-    } else {
-        LAST
-    }
+    assert!(rt; is_way_down(cheapest_between_in_ring(rt.alloc(), LAST)));
 }
 
 /// Whether there is one list, the numbers from `last` down to 0 and then from `last` on again, as
 /// many as `length`; or no list, where that is 0.
 fn is_list(lists: Lists<usize>, last: usize, length: usize) -> bool {
-    let Ok(lists) = &lists else {
-        return false;
-    };
-    match lists.first() {
-        Some(list) => {
-            lists.len() == 1
-                && list.iter().copied().eq(
-                    (0..last.saturating_add(1)).rev().chain([last]).take(length),
-                )
-        }
-        None => length == 0,
+    match &lists {
+        Ok(lists) => match lists.first() {
+            Some(list) => lists.len() == 1 && list.len() == length && fall(list, last),
+            None => length == 0,
+        },
+        Err(_) => false,
     }
 }
 
 #[test]
 fn paths_walks_and_orders(rt: HostRuntime) {
-    for call in LIST_CALLS {
-        let last = last_for(call);
-        let all = last + 1;
-        // How many numbers there are on the chain, and on the ring.
-        let (on_chain, on_ring) = match call {
-            PlainCall::Loop => (0, all + 1),
-            PlainCall::Order => (all, 0),
-            _ => (all, all),
+    for (number, call) in LIST_CALLS.iter().enumerate() {
+        let last = if matches!(call, PlainCall::Iddfs) {
+            SHORT_LAST
+        } else {
+            LAST
         };
-        let lists = plain_in_chain(rt.alloc(), call, last);
-        assert!(rt; is_list(lists, last, on_chain), "{call:?} on the chain");
-        let lists = plain_in_ring(rt.alloc(), call, last, last);
-        assert!(rt; is_list(lists, last, on_ring), "{call:?} on the ring");
+        // How many numbers there are on the chain, whose last number leads to itself, and on the ring.
+        let (on_chain, on_ring) = match call {
+            PlainCall::Loop => (0, last + 2),
+            PlainCall::Order => (0, 0),
+            _ => (last + 1, last + 1),
+        };
+        let lists = plain_in_ring(rt.alloc(), *call, last, 0);
+        assert!(rt;
+            is_list(lists, last, on_chain),
+            "call {number} on the chain"
+        );
+        let lists = plain_in_ring(rt.alloc(), *call, last, last);
+        assert!(rt; is_list(lists, last, on_ring), "call {number} on the ring");
     }
     assert!(rt; is_path_down(fewest_between_in_ring(rt.alloc(), LAST)));
 }
@@ -120,36 +117,26 @@ fn have_lengths(lists: Lists<usize>, count: usize, length: usize) -> bool {
 
 #[test]
 fn strong_components(rt: HostRuntime) {
-    for call in COMPONENT_CALLS {
+    for (number, call) in COMPONENT_CALLS.iter().enumerate() {
         // How many components there are on the chain, each of one number.
-        let count = if call == PlainCall::Component {
+        let count = if matches!(call, PlainCall::Component) {
             1
         } else {
             LAST + 1
         };
-        let lists = plain_in_chain(rt.alloc(), call, LAST);
-        assert!(rt; have_lengths(lists, count, 1), "{call:?} on the chain");
-        let lists = plain_in_ring(rt.alloc(), call, LAST, LAST);
-        assert!(rt; have_lengths(lists, 1, LAST + 1), "{call:?} on the ring");
+        let lists = plain_in_ring(rt.alloc(), *call, LAST, 0);
+        assert!(rt; have_lengths(lists, count, 1), "call {number} on the chain");
+        let lists = plain_in_ring(rt.alloc(), *call, LAST, LAST);
+        assert!(rt;
+            have_lengths(lists, 1, LAST + 1),
+            "call {number} on the ring"
+        );
     }
 }
 
-/// The numbers from 0 to `last`.
-fn numbers_to(alloc: Global, last: usize) -> Result<Vec<usize>, AllocError> {
-    (0..=last).collect(alloc)
-}
-
-/// Whether these are groups of one number each, the last number first.
-fn are_alone(groups: Result<Option<Vec<Vec<usize>>>, PathError>, numbers: &[usize]) -> bool {
-    let Ok(Some(groups)) = &groups else {
-        return false;
-    };
-    for (group, number) in groups.iter().rev().zip(numbers) {
-        if group.as_slice() != [*number].as_slice() {
-            return false;
-        }
-    }
-    groups.len() == numbers.len()
+/// The numbers from 0 to `last`, where memory is left.
+fn numbers_to(alloc: Global, last: usize) -> Option<Vec<usize>> {
+    (0..=last).collect(alloc).ok()
 }
 
 /// Whether there is one set, of as many numbers as `size`.
@@ -158,31 +145,26 @@ fn is_one_set(sets: &[SetIn<usize, Global>], size: usize) -> bool {
 }
 
 #[test]
-fn groups_and_sets(rt: HostRuntime) {
+fn sets_and_cycles(rt: HostRuntime) {
     let numbers = numbers_to(rt.alloc(), LAST).expect(&rt, "memory");
-    assert!(rt; are_alone(groups_in_chain(rt.alloc(), &numbers), &numbers));
     let sets = sets_in_chain(rt.alloc(), &numbers).expect(&rt, "memory");
     assert!(rt; is_one_set(&sets, numbers.len()));
-}
-
-#[test]
-fn cycles(rt: HostRuntime) {
     // Half of the steps and one more lead to the cycle of the numbers below the half.
     let half = LAST / 2;
-    let answers = cycles_in_ring(LAST, half - 1).expect(&rt, "cycles");
-    let (floyd, brent, near_floyd, near_brent) = answers;
-    assert_eq!(rt; floyd, (half, half - 1, half + 1));
-    assert_eq!(rt; brent, (half, half - 1, half + 1));
-    assert!(rt; near_floyd.0 == half && near_brent.0 == half);
+    let (floyd, brent, near_floyd, near_brent) = cycles_in_ring(LAST, half - 1);
+    let exact = Ok((half, half - 1, half + 1));
+    assert!(rt; floyd == exact && brent == exact);
+    assert!(rt; matches!(near_floyd, Ok((length, _, _)) if length == half));
+    assert!(rt; matches!(near_brent, Ok((length, _, _)) if length == half));
 }
 
-/// An edge from each number to the next higher one.
-fn edges_to(alloc: Global, last: usize) -> Result<Vec<(usize, usize, u32)>, AllocError> {
+/// An edge of weight 1 from each number to the next higher one, where memory is left.
+fn edges_to(alloc: Global, last: usize) -> Option<Vec<(usize, usize, u32)>> {
     let mut edges = Vec::new(alloc);
     for number in 0..last {
-        edges.push((number, number + 1, 1))?;
+        edges.push((number, number + 1, 1)).ok()?;
     }
-    Ok(edges)
+    Some(edges)
 }
 
 #[test]
@@ -196,13 +178,13 @@ fn spanning_edges(rt: HostRuntime) {
     assert!(rt; tree.len() == LAST);
 }
 
-/// Groups of each number and the next higher one.
-fn pairs_to(alloc: Global, last: usize) -> Result<Vec<Vec<usize>>, AllocError> {
+/// Groups of each number and the next higher one, where memory is left.
+fn pairs_to(alloc: Global, last: usize) -> Option<Vec<Vec<usize>>> {
     let mut groups = Vec::new(alloc);
     for number in 0..last {
-        groups.push(vec![in alloc; number, number + 1]?)?;
+        groups.push(vec![in alloc; number, number + 1].ok()?).ok()?;
     }
-    Ok(groups)
+    Some(groups)
 }
 
 /// Whether all these are one number.
@@ -227,13 +209,13 @@ fn components_of_groups(rt: HostRuntime) {
     assert!(rt; of_number.len() == LAST + 1);
 }
 
-/// An edge that holds 1 from each number to the next higher one.
-fn pipes_to(alloc: Global, last: usize) -> Result<Vec<Edge<usize, i64>>, AllocError> {
+/// An edge that holds 1 from each number to the next higher one, where memory is left.
+fn pipes_to(alloc: Global, last: usize) -> Option<Vec<Edge<usize, i64>>> {
     let mut pipes = Vec::new(alloc);
     for number in 0..last {
-        pipes.push(((number, number + 1), 1))?;
+        pipes.push(((number, number + 1), 1)).ok()?;
     }
-    Ok(pipes)
+    Some(pipes)
 }
 
 /// Whether the flow is 1 on each of so many edges.
@@ -258,39 +240,64 @@ fn flows(rt: HostRuntime) {
     assert!(rt; is_flow_of_one(dense, SIDE - 1));
 }
 
-/// The edges of the numbers from 0 to `last`: 0 has none, and each other one has one to the next lower
-/// one, at cost 1.
-fn edges_down(alloc: Global, last: usize) -> Result<Vec<(usize, u32)>, AllocError> {
+/// The edges of the numbers from 0 to `last`, where memory is left: 0 has none, and each other one has
+/// one to the next lower one, at cost 1.
+fn edges_down(alloc: Global, last: usize) -> Option<Vec<(usize, usize)>> {
     let mut edges = Vec::new(alloc);
     for number in 0..last {
-        edges.push((number, 1))?;
+        edges.push((number, 1)).ok()?;
     }
-    Ok(edges)
+    Some(edges)
 }
 
 /// Where the edges of each number from 0 to `last` begin and where the last one ends, where 0 has none
 /// and each other number has one.
-fn offsets_to(alloc: Global, last: usize) -> Result<Vec<usize>, AllocError> {
-    let mut offsets = vec![in alloc; 0usize]?;
+fn offsets_to(alloc: Global, last: usize) -> Option<Vec<usize>> {
+    let mut offsets = vec![in alloc; 0usize].ok()?;
     for number in 0..=last {
-        offsets.push(number)?;
+        offsets.push(number).ok()?;
     }
-    Ok(offsets)
+    Some(offsets)
 }
 
+/// Whether the answer is an order of the numbers down to 0.
+fn is_order_down(order: Result<Result<Vec<usize>, usize>, PathError>) -> bool {
+    matches!(&order, Ok(Ok(numbers)) if fall_to_zero(numbers))
+}
+
+/// Groups by depth, or those that are found and the numbers that are in none.
+type Groups = Result<Vec<Vec<usize>>, (Vec<Vec<usize>>, Vec<usize>)>;
+
+/// Whether the answer is groups of one number each, the last number first.
+fn are_groups_down(answer: Result<Groups, PathError>) -> bool {
+    let Ok(Ok(groups)) = &answer else {
+        return false;
+    };
+    let mut left = groups.len();
+    for group in groups {
+        left = left.saturating_sub(1);
+        if group.as_slice() != [left].as_slice() {
+            return false;
+        }
+    }
+    groups.len() == LAST + 1
+}
+
+/// A chain in a table.
 #[test]
 fn tables(rt: HostRuntime) {
     let alloc = rt.alloc();
     let offsets = offsets_to(alloc, LAST).expect(&rt, "memory");
     let edges = edges_down(alloc, LAST).expect(&rt, "memory");
     let graph = CompactRows::new(&offsets, edges.as_slice()).expect(&rt, "a graph");
-    assert!(rt; is_way_down(pf_tables::dijkstra(alloc, &graph, LAST, 0), LAST as u32));
-    assert!(rt; is_path_down(pf_tables::bfs(alloc, &graph, LAST, 0)));
-    assert!(rt; is_path_down(pf_table_searches::dfs(alloc, &graph, LAST, 0)));
-    let parents = pf_table_searches::dijkstra_all(alloc, &graph, LAST).expect(&rt, "parents");
+    assert!(rt; is_way_down(dijkstra(alloc, &graph, LAST, 0)));
+    assert!(rt; is_path_down(bfs(alloc, &graph, LAST, 0)));
+    assert!(rt; is_path_down(dfs(alloc, &graph, LAST, 0)));
+    let parents = dijkstra_all(alloc, &graph, LAST).expect(&rt, "parents");
     assert!(rt; parents.len() == LAST && parents.contains_key(&0));
-    let order = pf_table_searches::topological_sort(alloc, &graph, &[LAST]).expect(&rt, "memory");
-    assert!(rt; matches!(&order, Ok(numbers) if fall_to_zero(numbers)));
+    assert!(rt; is_order_down(topological_sort(alloc, &graph, &[LAST])));
+    let numbers = numbers_to(alloc, LAST).expect(&rt, "memory");
+    assert!(rt; are_groups_down(topological_sort_into_groups(alloc, &graph, &numbers)));
 }
 
 /// A test that each position passes.

@@ -1,13 +1,13 @@
 //! Readers and writers that fail, under each command of `routes`.
 
 use crate::tests::texts::spelled;
-use pathfinding::routes::{Command, Noted, RouteError, run};
+use pf_routes::routes::{Command, Noted, RouteError, run};
 use std::alloc::Global;
 use std::io;
 use std::io::{Error, ErrorKind, Read, Write};
 
 /// When a device fails, and how.
-#[derive(Clone, Copy, Debug)]
+#[derive(Clone, Copy)]
 struct Failing {
     /// How many bytes it gives or takes before it fails.
     after: usize,
@@ -88,7 +88,7 @@ const SEVEN: &[u8] = b"A B 4\nA C 2\nB C 1\nB D 5\nC D 8\nC E 10\nD E 2\n";
 type Row<'a> = (&'a str, &'a [u8], Result<&'a [u8], RouteError>);
 
 /// Answers of each command, an answer of no bytes, and faults.
-const ROWS: [Row; 11] = [
+const ROWS: &[Row<'static>] = &[
     ("dijkstra A E", SEVEN, Ok(b"11: A B D E\n")),
     ("bfs A E", SEVEN, Ok(b"2: A C E\n")),
     ("kruskal", SEVEN, Ok(b"B C 1\nA C 2\nD E 2\nB D 5\n")),
@@ -114,12 +114,35 @@ const ROWS: [Row; 11] = [
     ),
 ];
 
+/// What is told of a fault, or of none, and what is written.
+type Outcome<'a> = (Result<(), RouteError>, &'a [u8]);
+
+/// The outcome of a run whose devices do not fail.
+fn outcome_of<'a>(answer: Result<&'a [u8], RouteError>) -> Outcome<'a> {
+    match answer {
+        Ok(bytes) => (Ok(()), bytes),
+        Err(fault) => (Err(fault), b""),
+    }
+}
+
+/// The outcome of a run over a reader that fails: the failed read, where the text has not ended before.
+fn outcome_of_reading<'a>(row: &Row<'a>, failing: Failing) -> Outcome<'a> {
+    if failing.after <= row.1.len() {
+        (Err(RouteError::ReadFailed), b"")
+    } else {
+        outcome_of(row.2)
+    }
+}
+
 /// Whether a run over a reader that fails ends with that failed read, reads no further and writes
 /// nothing, and answers where the text ends before.
-fn ends_at_failed_read(alloc: Global, command: &Command, row: Row<'_>, failing: Failing) -> bool {
-    let (_, text, answer) = row;
-    let given = text.len().min(failing.after);
-    let fails = failing.after <= text.len();
+fn ends_at_failed_read(
+    alloc: Global,
+    command: &Command,
+    row: &Row<'static>,
+    failing: Failing,
+) -> bool {
+    let text = row.1;
     let mut input = Noted::new(Broken {
         left: text,
         failing,
@@ -128,49 +151,34 @@ fn ends_at_failed_read(alloc: Global, command: &Command, row: Row<'_>, failing: 
     let mut output = Noted::new(Vec::new(alloc));
     let is_fresh = !input.failed();
     let result = run(alloc, command, &mut input, &mut output);
+    let fails = failing.after <= text.len();
     let is_noted = input.failed() == fails && !output.failed();
-    let is_rest = input.into_inner().left == &text[given..];
+    let is_rest = input.into_inner().left == &text[text.len().min(failing.after)..];
     let written = output.into_inner();
-    let (told, bytes): (_, &[u8]) = match answer {
-        _ if fails => (Err(RouteError::ReadFailed), b""),
-        Ok(bytes) => (Ok(()), bytes),
-        Err(fault) => (Err(fault), b""),
-    };
+    let (told, bytes) = outcome_of_reading(row, failing);
     is_fresh && is_noted && is_rest && result == told && written.as_slice() == bytes
 }
 
-#[test]
-fn a_run_ends_at_the_first_failed_read(rt: HostRuntime) {
-    let kinds = [
-        ErrorKind::ConnectionReset,
-        ErrorKind::UnexpectedEof,
-        ErrorKind::WouldBlock,
-    ];
-    for row in ROWS {
-        let command = spelled(rt.alloc(), row.0).expect(&rt, "a command");
-        for kind in kinds {
-            for recovers in [false, true] {
-                for after in [0, 1, 6, 20, 46, row.1.len(), 100] {
-                    let failing = Failing {
-                        after,
-                        kind: Some(kind),
-                        recovers,
-                    };
-                    assert!(rt;
-                        ends_at_failed_read(rt.alloc(), &command, row, failing),
-                        "{row:?}, {failing:?}"
-                    );
-                }
-            }
-        }
+/// The outcome of a run over a writer that fails: a beginning of the answer and the failed write, where
+/// the writer has no room for all of it.
+fn outcome_of_writing<'a>(row: &Row<'a>, failing: Failing) -> Outcome<'a> {
+    let (told, bytes) = outcome_of(row.2);
+    if failing.after < bytes.len() {
+        (Err(RouteError::WriteFailed), &bytes[..failing.after])
+    } else {
+        (told, bytes)
     }
 }
 
 /// Whether a run writes a beginning of the answer for which the writer has room, notes a failure
 /// where that is not all, and writes no further.
-fn ends_at_failed_write(alloc: Global, command: &Command, row: Row<'_>, failing: Failing) -> bool {
-    let (_, text, answer) = row;
-    let mut input = Noted::new(text);
+fn ends_at_failed_write(
+    alloc: Global,
+    command: &Command,
+    row: &Row<'static>,
+    failing: Failing,
+) -> bool {
+    let mut input = Noted::new(row.1);
     let mut output = Noted::new(Narrow {
         taken: Vec::new(alloc),
         failing,
@@ -179,61 +187,90 @@ fn ends_at_failed_write(alloc: Global, command: &Command, row: Row<'_>, failing:
     let result = run(alloc, command, &mut input, &mut output);
     let is_noted = output.failed() == (result == Err(RouteError::WriteFailed));
     let taken = output.into_inner().taken;
-    let (told, bytes): (_, &[u8]) = match answer {
-        Ok(bytes) if failing.after < bytes.len() => {
-            (Err(RouteError::WriteFailed), &bytes[..failing.after])
-        }
-        Ok(bytes) => (Ok(()), bytes),
-        Err(fault) => (Err(fault), b""),
-    };
+    let (told, bytes) = outcome_of_writing(row, failing);
     !input.failed() && is_noted && result == told && taken.as_slice() == bytes
 }
 
-#[test]
-fn a_run_ends_at_the_first_failed_write(rt: HostRuntime) {
-    let kinds = [
-        None,
-        Some(ErrorKind::BrokenPipe),
-        Some(ErrorKind::Interrupted),
-    ];
-    for row in ROWS {
-        let command = spelled(rt.alloc(), row.0).expect(&rt, "a command");
-        for kind in kinds {
-            for recovers in [false, true] {
-                for after in [0, 1, 3, 8, 9, 11, 12, 23, 24, 100] {
-                    let failing = Failing {
-                        after,
-                        kind,
-                        recovers,
-                    };
-                    assert!(rt;
-                        ends_at_failed_write(rt.alloc(), &command, row, failing),
-                        "{row:?}, {failing:?}"
-                    );
-                }
-            }
+/// The errors that readers answer.
+const READ_KINDS: &[ErrorKind] = &[
+    ErrorKind::ConnectionReset,
+    ErrorKind::UnexpectedEof,
+    ErrorKind::WouldBlock,
+];
+
+/// What writers answer that take no more: nothing, and errors.
+const WRITE_KINDS: &[Option<ErrorKind>] = &[
+    None,
+    Some(ErrorKind::BrokenPipe),
+    Some(ErrorKind::Interrupted),
+];
+
+/// Whether runs end as they have to, over readers and writers that fail behind so many bytes.
+fn end_at_failures(
+    alloc: Global,
+    command: &Command,
+    row: &Row<'static>,
+    after: usize,
+    recovers: bool,
+) -> bool {
+    for kind in READ_KINDS {
+        let failing = Failing {
+            after,
+            kind: Some(*kind),
+            recovers,
+        };
+        if !ends_at_failed_read(alloc, command, row, failing) {
+            return false;
         }
     }
+    for kind in WRITE_KINDS {
+        let failing = Failing {
+            after,
+            kind: *kind,
+            recovers,
+        };
+        if !ends_at_failed_write(alloc, command, row, failing) {
+            return false;
+        }
+    }
+    true
+}
+
+#[test]
+fn a_run_ends_at_the_first_failed_read_or_write(rt: HostRuntime) {
+    for row in ROWS {
+        let line = row.0;
+        let command = spelled(rt.alloc(), line).expect(&rt, "a command");
+        for after in [0, 1, 3, 6, 8, 9, 11, 12, 20, 23, 24, 46, row.1.len(), 100] {
+            assert!(rt;
+                end_at_failures(rt.alloc(), &command, row, after, false)
+                    && end_at_failures(rt.alloc(), &command, row, after, true),
+                "{line}, failing after {after}"
+            );
+        }
+    }
+}
+
+/// Whether a flush of a writer with this answer is noted as failed where it fails.
+fn notes_flush(alloc: Global, kind: Option<ErrorKind>) -> bool {
+    let failing = Failing {
+        after: 0,
+        kind,
+        recovers: false,
+    };
+    let mut output = Noted::new(Narrow {
+        taken: Vec::new(alloc),
+        failing,
+        has_failed: false,
+    });
+    let fails = kind.is_some();
+    output.flush().is_err() == fails && output.failed() == fails
 }
 
 #[test]
 fn failed_flushes_and_short_reads_are_noted(rt: HostRuntime) {
-    for kind in [None, Some(ErrorKind::BrokenPipe)] {
-        let mut output = Noted::new(Narrow {
-            taken: Vec::new(rt.alloc()),
-            failing: Failing {
-                after: 0,
-                kind,
-                recovers: false,
-            },
-            has_failed: false,
-        });
-        let fails = kind.is_some();
-        assert!(rt;
-            output.flush().is_err() == fails && output.failed() == fails,
-            "{kind:?}"
-        );
-    }
+    assert!(rt; notes_flush(rt.alloc(), None));
+    assert!(rt; notes_flush(rt.alloc(), Some(ErrorKind::BrokenPipe)));
     let mut input = Noted::new(b"ab".as_slice());
     let mut buf = [0u8; 3];
     assert!(rt; input.read_exact(&mut buf).is_err() && input.failed());

@@ -1,15 +1,16 @@
 //! Names that ignore letter case, through each call that compares nodes.
 
 use crate::cheapest::{COST_CALLS, Found};
+use crate::flows::{Pipe, flow_through};
 use crate::letter::Letter;
 use crate::listed::{
-    cheapest_between_in_list, cheapest_in_list, fewest_between_in_list, groups_in_list,
-    plain_in_list, sets_in_list,
+    Edge, Groups, cheapest_between_in_list, cheapest_in_list, fewest_between_in_list,
+    groups_in_list, plain_in_list, sets_in_list,
 };
 use crate::names::cycles_of_names;
 use crate::plain::{COMPONENT_CALLS, LIST_CALLS, Lists, PlainCall};
 use pf_base::PathError;
-use pf_flow::edmonds_karp::{EKFlows, edmonds_karp_dense, edmonds_karp_sparse};
+use pf_flow::edmonds_karp::EKFlows;
 use pf_graph::undirected::connected_components::{
     SetIn, component_index, components, separate_components,
 };
@@ -17,106 +18,96 @@ use pf_graph::undirected::kruskal::kruskal;
 use pf_graph::undirected::prim::prim;
 use std::alloc::Global;
 
-/// An edge between names, at a cost.
-type Edge = (Letter, Letter, u8);
-
-/// A pair of names, and what flows between them.
-type Flow = ((Letter, Letter), i8);
-
 /// The names of the nodes, each spelled in another way than in the edges.
-const NAMES: [Letter; 3] = [
-    Letter { byte: b'A' },
-    Letter { byte: b'b' },
-    Letter { byte: b'c' },
-];
+const A: Letter = Letter { byte: b'A' };
+
+const B: Letter = Letter { byte: b'b' };
+
+const C: Letter = Letter { byte: b'c' };
+
+/// The same names as the edges spell them.
+const A_IN_EDGES: Letter = Letter { byte: b'a' };
+
+const B_IN_EDGES: Letter = Letter { byte: b'B' };
+
+const C_IN_EDGES: Letter = Letter { byte: b'C' };
+
+/// A path through all names.
+const PATH: &[Letter] = &[A, B, C];
+
+/// A way through all names that ends where it began.
+const AROUND: &[Letter] = &[A, B, C, A];
 
 /// From a to b, and from b to c.
-const CHAIN: [Edge; 2] = [
-    (Letter { byte: b'a' }, Letter { byte: b'B' }, 1),
-    (Letter { byte: b'b' }, Letter { byte: b'C' }, 1),
-];
+const CHAIN: &[Edge<u8>] = &[(A_IN_EDGES, B_IN_EDGES, 1), (B, C_IN_EDGES, 1)];
 
 /// From a to b, from b to c, and from c to a.
-const RING: [Edge; 3] = [
-    (Letter { byte: b'a' }, Letter { byte: b'B' }, 1),
-    (Letter { byte: b'b' }, Letter { byte: b'C' }, 1),
-    (Letter { byte: b'c' }, Letter { byte: b'A' }, 1),
-];
+const RING: &[Edge<u8>] = &[(A_IN_EDGES, B_IN_EDGES, 1), (B, C_IN_EDGES, 1), (C, A, 1)];
 
 /// Whether the answer is a path through all names at a cost of 2.
 fn is_way(found: Found<Letter, u8>) -> bool {
-    let names = NAMES;
-    matches!(&found, Ok(Some((nodes, 2))) if nodes.as_slice() == names.as_slice())
+    matches!(&found, Ok(Some((nodes, 2))) if nodes.as_slice() == PATH)
 }
 
 #[test]
 fn cheapest_paths(rt: HostRuntime) {
-    let names = NAMES;
-    for edges in [CHAIN.as_slice(), RING.as_slice()] {
+    for edges in [CHAIN, RING] {
         for call in COST_CALLS {
-            let found = cheapest_in_list(rt.alloc(), call, edges, names[0], names[2]);
-            assert!(rt; is_way(found), "{call:?}");
+            assert!(rt; is_way(cheapest_in_list(rt.alloc(), *call, edges, A, C)));
         }
-        let found = cheapest_between_in_list(rt.alloc(), edges, names[0], names[2]);
-        assert!(rt; is_way(found));
+        assert!(rt; is_way(cheapest_between_in_list(rt.alloc(), edges, A, C)));
     }
 }
 
-/// Whether there is one list, the names from the first one on and then the first one again, as many
-/// as `length`; or no list, where that is 0.
-fn is_list(lists: Lists<Letter>, length: usize) -> bool {
-    let names = NAMES;
-    let Ok(lists) = &lists else {
-        return false;
-    };
-    match lists.first() {
-        Some(list) => { lists.len() == 1 && list.iter().eq(names.iter().cycle().take(length)) }
-        None => length == 0,
+/// Whether there is this one list, or none, where this is empty.
+fn is_list(lists: Lists<Letter>, wanted: &[Letter]) -> bool {
+    match &lists {
+        Ok(lists) => match lists.first() {
+            Some(list) => lists.len() == 1 && list.as_slice() == wanted,
+            None => wanted.is_empty(),
+        },
+        Err(_) => false,
     }
 }
 
 /// Whether the answer is a path through all names.
 fn is_path(found: Result<Option<Vec<Letter>>, PathError>) -> bool {
-    let names = NAMES;
-    matches!(&found, Ok(Some(nodes)) if nodes.as_slice() == names.as_slice())
+    matches!(&found, Ok(Some(nodes)) if nodes.as_slice() == PATH)
+}
+
+/// The lists that a call answers on the chain and on the ring.
+fn wanted_of(call: PlainCall) -> (&'static [Letter], &'static [Letter]) {
+    match call {
+        PlainCall::Loop => (&[], AROUND),
+        PlainCall::Order => (PATH, &[]),
+        _ => (PATH, PATH),
+    }
 }
 
 #[test]
 fn paths_walks_and_orders(rt: HostRuntime) {
-    let names = NAMES;
     for call in LIST_CALLS {
-        // How many names there are on the chain, and on the ring.
-        let (on_chain, on_ring) = match call {
-            PlainCall::Loop => (0, 4),
-            PlainCall::Order => (3, 0),
-            _ => (3, 3),
-        };
-        for (edges, length) in [(CHAIN.as_slice(), on_chain), (RING.as_slice(), on_ring)] {
-            let lists = plain_in_list(rt.alloc(), call, edges, names[0], names[2]);
-            assert!(rt; is_list(lists, length), "{call:?}");
-        }
+        let (on_chain, on_ring) = wanted_of(*call);
+        assert!(rt; is_list(plain_in_list(rt.alloc(), *call, CHAIN, A, C), on_chain));
+        assert!(rt; is_list(plain_in_list(rt.alloc(), *call, RING, A, C), on_ring));
     }
-    for edges in [CHAIN.as_slice(), RING.as_slice()] {
-        let found = fewest_between_in_list(rt.alloc(), edges, names[0], names[2]);
-        assert!(rt; is_path(found));
-    }
+    assert!(rt; is_path(fewest_between_in_list(rt.alloc(), CHAIN, A, C)));
+    assert!(rt; is_path(fewest_between_in_list(rt.alloc(), RING, A, C)));
 }
 
-/// In how many of the lists a name is.
-fn count_with(lists: &[Vec<Letter>], name: Letter) -> usize {
-    let mut count = 0usize;
+/// Whether one of the lists has a name.
+fn has_name(lists: &[Vec<Letter>], name: Letter) -> bool {
     for list in lists {
         if list.contains(&name) {
-            count = count.saturating_add(1);
+            return true;
         }
     }
-    count
+    false
 }
 
-/// Whether there are as many lists as `count`, each of as many names as `length`, and as many names as
-/// `alone` are in just one of them.
-fn are_components(lists: Lists<Letter>, count: usize, length: usize, alone: usize) -> bool {
-    let names = NAMES;
+/// Whether there are as many lists as `count`, each of as many names as `length`, and they have the
+/// first names, each once.
+fn are_components(lists: Lists<Letter>, count: usize, length: usize) -> bool {
     let Ok(lists) = &lists else {
         return false;
     };
@@ -125,35 +116,36 @@ fn are_components(lists: Lists<Letter>, count: usize, length: usize, alone: usiz
             return false;
         }
     }
-    let mut in_one = 0usize;
-    for name in names {
-        if count_with(lists, name) == 1 {
-            in_one = in_one.saturating_add(1);
+    for name in PATH.iter().take(count.saturating_mul(length)) {
+        if !has_name(lists, *name) {
+            return false;
         }
     }
-    lists.len() == count && in_one == alone
+    lists.len() == count
 }
 
 #[test]
 fn strong_components(rt: HostRuntime) {
-    let names = NAMES;
     for call in COMPONENT_CALLS {
         // How many components there are on the chain, each of one name.
-        let count = if call == PlainCall::Component { 1 } else { 3 };
-        for (edges, count, length, alone) in [
-            (CHAIN.as_slice(), count, 1, count),
-            (RING.as_slice(), 1, 3, 3),
-        ] {
-            let lists = plain_in_list(rt.alloc(), call, edges, names[0], names[2]);
-            assert!(rt; are_components(lists, count, length, alone), "{call:?}");
-        }
+        let count = if matches!(call, PlainCall::Component) {
+            1
+        } else {
+            3
+        };
+        let lists = plain_in_list(rt.alloc(), *call, CHAIN, A, C);
+        assert!(rt; are_components(lists, count, 1));
+        let lists = plain_in_list(rt.alloc(), *call, RING, A, C);
+        assert!(rt; are_components(lists, 1, 3));
     }
 }
 
-/// Whether each group is one name, in the order of the names.
-fn are_alone(groups: &[Vec<Letter>]) -> bool {
-    let names = NAMES;
-    for (group, name) in groups.iter().zip(&names) {
+/// Whether the groups of the chain are one name each, in the order of the names.
+fn are_alone(answer: Result<Groups, PathError>) -> bool {
+    let Ok(Ok(groups)) = &answer else {
+        return false;
+    };
+    for (group, name) in groups.iter().zip(PATH) {
         if group.len() != 1 || !group.contains(name) {
             return false;
         }
@@ -162,12 +154,14 @@ fn are_alone(groups: &[Vec<Letter>]) -> bool {
 }
 
 /// Whether all names are in one set, and nothing else is.
-fn is_one_set(sets: &[SetIn<Letter, Global>]) -> bool {
-    let names = NAMES;
+fn is_one_set(sets: Result<Vec<SetIn<Letter, Global>>, PathError>) -> bool {
+    let Ok(sets) = &sets else {
+        return false;
+    };
     if sets.len() != 1 || sets[0].len() != 3 {
         return false;
     }
-    for name in &names {
+    for name in PATH {
         if !sets[0].contains(name) {
             return false;
         }
@@ -177,36 +171,25 @@ fn is_one_set(sets: &[SetIn<Letter, Global>]) -> bool {
 
 #[test]
 fn groups_and_sets(rt: HostRuntime) {
-    let names = NAMES;
-    let answer = groups_in_list(rt.alloc(), &CHAIN, &names);
-    assert!(rt; matches!(&answer, Ok((groups, rest)) if are_alone(groups) && rest.is_empty()));
-    let answer = groups_in_list(rt.alloc(), &RING, &names);
-    assert!(rt; matches!(&answer, Ok((groups, rest)) if groups.is_empty() && rest.len() == 3));
-    // The sets around "A", "b", "c" and "B".
-    let starts = [names[0], names[1], names[2], CHAIN[0].1];
-    let sets = sets_in_list(rt.alloc(), &CHAIN, &starts);
-    assert!(rt; matches!(&sets, Ok(sets) if is_one_set(sets)));
+    assert!(rt; are_alone(groups_in_list(rt.alloc(), CHAIN, PATH)));
+    let answer = groups_in_list(rt.alloc(), RING, PATH);
+    assert!(rt; matches!(&answer, Ok(Err((groups, rest))) if groups.is_empty() && rest.len() == 3));
+    assert!(rt; is_one_set(sets_in_list(rt.alloc(), CHAIN, &[A, B, C, B_IN_EDGES])));
 }
 
 #[test]
 fn cycles(rt: HostRuntime) {
-    let names = NAMES;
     // "A" leads to "b", "b" to "C" and "c" to "b"; the calls named partial answer a later value of the cycle.
-    let answers = cycles_of_names(names[0], names[1], CHAIN[1].1).expect(&rt, "cycles");
-    let (floyd, brent, near_floyd, near_brent) = answers;
-    assert_eq!(rt; floyd, (2, names[1], 1));
-    assert_eq!(rt; brent, (2, names[1], 1));
-    assert_eq!(rt; near_floyd, (2, names[2], 2));
-    assert_eq!(rt; near_brent, (2, names[1], 3));
+    let (floyd, brent, near_floyd, near_brent) = cycles_of_names(A, B, C_IN_EDGES);
+    assert!(rt; floyd == Ok((2, B, 1)) && brent == Ok((2, B, 1)));
+    assert!(rt; near_floyd == Ok((2, C, 2)) && near_brent == Ok((2, B, 3)));
 }
 
 #[test]
 fn components_of_groups(rt: HostRuntime) {
     let alloc = rt.alloc();
-    let names = NAMES;
-    let [(a, also_b, _), (b, c, _)] = CHAIN;
-    let first = vec![in alloc; a, also_b].expect(&rt, "memory");
-    let second = vec![in alloc; b, c].expect(&rt, "memory");
+    let first = vec![in alloc; A_IN_EDGES, B_IN_EDGES].expect(&rt, "memory");
+    let second = vec![in alloc; B, C_IN_EDGES].expect(&rt, "memory");
     let groups = [first, second];
     let numbered = separate_components(alloc, &groups).expect(&rt, "memory");
     let (of_name, ids) = numbered;
@@ -214,30 +197,40 @@ fn components_of_groups(rt: HostRuntime) {
     let sets = components(alloc, &groups).expect(&rt, "memory");
     assert!(rt; sets.len() == 1 && sets[0].len() == 3);
     let of_name = component_index(alloc, &sets).expect(&rt, "memory");
-    for name in &names {
+    for name in PATH {
         assert!(rt; of_name.get(name).copied() == Some(0));
     }
 }
 
+/// Edges between names, at weights that rise in another order than the names.
+const WEIGHTED: &[Edge<u8>] = &[(A_IN_EDGES, B_IN_EDGES, 2), (C, A, 1), (B, C_IN_EDGES, 3)];
+
+/// The tree of the weighted edges, from its first name on.
+const GROWN: &[Edge<u8>] = &[(A, C, 1), (A, B, 2)];
+
+/// Whether a tree is that of the weighted edges.
+fn is_grown(tree: Result<Vec<(&Letter, &Letter, u8)>, PathError>) -> bool {
+    let Ok(tree) = &tree else {
+        return false;
+    };
+    for (edge, wanted) in tree.iter().zip(GROWN) {
+        if *edge.0 != wanted.0 || *edge.1 != wanted.1 || edge.2 != wanted.2 {
+            return false;
+        }
+    }
+    tree.len() == GROWN.len()
+}
+
 #[test]
 fn spanning_edges(rt: HostRuntime) {
-    let alloc = rt.alloc();
     // The last edge closes a cycle.
-    let edges = RING;
-    let chosen = kruskal(alloc, &edges).expect(&rt, "memory");
+    let chosen = kruskal(rt.alloc(), RING).expect(&rt, "memory");
     assert!(rt; chosen.count() == 2);
-    let edges = [
-        (Letter { byte: b'a' }, Letter { byte: b'B' }, 2u8),
-        (Letter { byte: b'c' }, Letter { byte: b'A' }, 1),
-        (Letter { byte: b'b' }, Letter { byte: b'C' }, 3),
-    ];
-    let tree = prim(alloc, &edges).expect(&rt, "memory");
-    let wanted = [(&edges[1].1, &edges[1].0, 1), (&edges[0].0, &edges[0].1, 2)];
-    assert_eq!(rt; tree.as_slice(), wanted.as_slice());
+    assert!(rt; is_grown(prim(rt.alloc(), WEIGHTED)));
 }
 
 /// Whether a flow of 2 goes along these edges, and the last of them is the least cut.
-fn is_flow(answer: Result<EKFlows<Letter, i8>, PathError>, edges: &[Flow; 2]) -> bool {
+fn is_flow(answer: Result<EKFlows<Letter, i8>, PathError>, edges: &[Pipe; 2]) -> bool {
     matches!(
         &answer,
         Ok((flows, total, cut)) if flows.as_slice() == edges.as_slice()
@@ -248,18 +241,13 @@ fn is_flow(answer: Result<EKFlows<Letter, i8>, PathError>, edges: &[Flow; 2]) ->
 
 #[test]
 fn flows(rt: HostRuntime) {
-    let alloc = rt.alloc();
-    let names = NAMES;
-    let [(a, also_b, _), (b, c, _)] = CHAIN;
+    let to_b = (A_IN_EDGES, B_IN_EDGES);
+    let to_c = (B, C_IN_EDGES);
     // The last capacity of a pair of names counts.
-    let pipes = [((a, b), 9i8), ((b, c), 2), ((names[0], also_b), 3)];
-    let wanted = [((a, b), 2), ((b, c), 2)];
-    assert!(rt;
-        is_flow(edmonds_karp_dense(alloc, &names, &a, &c, pipes), &wanted),
-        "dense"
-    );
-    assert!(rt;
-        is_flow(edmonds_karp_sparse(alloc, &names, &a, &c, pipes), &wanted),
-        "sparse"
-    );
+    let pipes = [(to_b, 9), (to_c, 2), ((A, B_IN_EDGES), 3)];
+    let wanted = [(to_b, 2), (to_c, 2)];
+    for is_dense in [true, false] {
+        let answer = flow_through(rt.alloc(), is_dense, [A, B, C], &pipes);
+        assert!(rt; is_flow(answer, &wanted), "dense: {is_dense}");
+    }
 }

@@ -1,22 +1,20 @@
 //! Cases that the tests and the documentation of the Rust crate have, and that stand in no other crate
 //! of tests: over graphs in tables, groups, matrices and grids.
 
-use pathfinding::error::PathError;
-use pathfinding::graphs::{
-    EdgeList, Rows, bfs, bfs_loop, strongly_connected_component, strongly_connected_components,
-    topological_sort, topological_sort_into_groups,
+use pf_base::{NodeRefs, PathError};
+use pf_graph::undirected::connected_components::{MapIn, SetIn, components, separate_components};
+use pf_graph::undirected::kruskal::kruskal;
+use pf_grid::Grid;
+use pf_matrix::{Matrix, directions};
+use pf_table_searches::{
+    bfs_loop, strongly_connected_component, strongly_connected_components, topological_sort,
+    topological_sort_into_groups,
 };
-use pathfinding::grid::Grid;
-use pathfinding::matrix::{Matrix, directions};
-use pathfinding::noderefs::NodeRefs;
-use pathfinding::undirected::connected_components::{
-    MapIn, SetIn, components, separate_components,
-};
-use pathfinding::undirected::kruskal::kruskal;
-use std::alloc::{AllocError, Global};
+use pf_tables::{EdgeList, Rows, bfs};
+use std::alloc::Global;
 
 /// The nodes after each of sixteen nodes.
-const SIXTEEN: [&[usize]; 16] = [
+const SIXTEEN: &[&[usize]] = &[
     &[2],
     &[0, 5],
     &[1, 4],
@@ -36,7 +34,7 @@ const SIXTEEN: [&[usize]; 16] = [
 ];
 
 /// Their strong components.
-const COMPONENTS: [&[usize]; 6] = [
+const COMPONENTS: &[&[usize]] = &[
     &[0, 1, 2, 3, 4],
     &[5],
     &[6, 7, 8],
@@ -46,7 +44,7 @@ const COMPONENTS: [&[usize]; 6] = [
 ];
 
 /// The least nodes of the components that each node reaches.
-const REACHED: [&[usize]; 16] = [
+const REACHED: &[&[usize]] = &[
     &[0, 5, 6, 9, 13, 15],
     &[0, 5, 6, 9, 13, 15],
     &[0, 5, 6, 9, 13, 15],
@@ -115,8 +113,7 @@ fn are_components(found: Result<Vec<Vec<usize>>, PathError>, least: &[usize]) ->
 
 #[test]
 fn sixteen_nodes_in_six_components(rt: HostRuntime) {
-    let rows = SIXTEEN;
-    let graph = Rows::new(&rows).expect(&rt, "a graph");
+    let graph = Rows::new(SIXTEEN).expect(&rt, "a graph");
     for (node, reached) in REACHED.iter().enumerate() {
         let found = strongly_connected_components(rt.alloc(), &graph, &[node]);
         assert!(rt; are_components(found, reached), "from {node}");
@@ -131,7 +128,7 @@ fn sixteen_nodes_in_six_components(rt: HostRuntime) {
 /// The nodes after each node, groups, and the nodes that are in no group.
 type Grouped<'a> = (&'a [&'a [usize]], &'a [&'a [usize]], &'a [usize]);
 
-const GROUPED: [Grouped<'static>; 7] = [
+const GROUPED: &[Grouped<'static>] = &[
     (&[], &[], &[]),
     (&[&[], &[], &[]], &[&[0, 1, 2]], &[]),
     (&[&[1, 2], &[3], &[3], &[]], &[&[0], &[1, 2], &[3]], &[]),
@@ -169,31 +166,49 @@ fn is_grouped(answer: Result<Groups, PathError>, groups: &[&[usize]], remaining:
 
 #[test]
 fn groups_by_depth(rt: HostRuntime) {
+    let nodes = [0, 1, 2, 3, 4, 5];
     for (rows, groups, remaining) in GROUPED {
         let graph = Rows::new(rows).expect(&rt, "a graph");
-        let nodes: Vec<usize> = (0..rows.len()).collect(rt.alloc()).expect(&rt, "memory");
-        let answer = topological_sort_into_groups(rt.alloc(), &graph, &nodes);
+        let nodes = nodes.get(..rows.len()).expect(&rt, "as many nodes");
+        let answer = topological_sort_into_groups(rt.alloc(), &graph, nodes);
         assert!(rt; is_grouped(answer, groups, remaining), "{rows:?}");
     }
 }
 
-/// For each number below 1000 its multiples that are greater than it and below 1000.
-fn multiples(alloc: Global) -> Result<Vec<Vec<usize>>, AllocError> {
-    let mut rows = Vec::new(alloc);
-    for number in 0..1000usize {
-        let mut row = Vec::new(alloc);
-        for other in 1..1000usize {
-            if other > number && other.checked_rem(number) == Some(0) {
-                row.push(other)?;
-            }
+/// The multiples of a number that are greater than it and below 1000, where memory is left.
+fn multiples_of(alloc: Global, number: usize) -> Option<Vec<usize>> {
+    let mut multiples = Vec::new(alloc);
+    for other in 1..1000usize {
+        if other > number && other.checked_rem(number) == Some(0) {
+            multiples.push(other).ok()?;
         }
-        rows.push(row)?;
     }
-    Ok(rows)
+    Some(multiples)
 }
 
-/// Whether no number stands behind one of its multiples.
-fn are_behind_divisors(numbers: &[usize]) -> bool {
+/// The multiples of each number below 1000, where memory is left.
+fn all_multiples(alloc: Global) -> Option<Vec<Vec<usize>>> {
+    let mut rows = Vec::new(alloc);
+    for number in 0..1000 {
+        rows.push(multiples_of(alloc, number)?).ok()?;
+    }
+    Some(rows)
+}
+
+/// The numbers 1 to 999 in a mixed order, where memory is left.
+fn mixed_numbers(alloc: Global) -> Option<Vec<usize>> {
+    let mut numbers = Vec::new(alloc);
+    for step in 0..999usize {
+        numbers.push(step * 7 % 999 + 1).ok()?;
+    }
+    Some(numbers)
+}
+
+/// Whether these are 999 numbers, none of which stands behind one of its multiples.
+fn are_behind_divisors(order: Result<Result<Vec<usize>, usize>, PathError>) -> bool {
+    let Ok(Ok(numbers)) = &order else {
+        return false;
+    };
     for (place, number) in numbers.iter().enumerate() {
         for later in numbers.iter().skip(place) {
             if *later < *number && number.checked_rem(*later) == Some(0) {
@@ -201,28 +216,33 @@ fn are_behind_divisors(numbers: &[usize]) -> bool {
             }
         }
     }
-    true
-}
-
-/// The numbers 1 to 999 in a mixed order.
-fn mixed_numbers(alloc: Global) -> Result<Vec<usize>, AllocError> {
-    let mut numbers = Vec::new(alloc);
-    for step in 0..999usize {
-        numbers.push(step * 7 % 999 + 1)?;
-    }
-    Ok(numbers)
+    numbers.len() == 999
 }
 
 #[test]
 fn divisors_come_first(rt: HostRuntime) {
-    let rows = multiples(rt.alloc()).expect(&rt, "memory");
+    let rows = all_multiples(rt.alloc()).expect(&rt, "memory");
     let graph = Rows::new(&rows).expect(&rt, "a graph");
     let numbers = mixed_numbers(rt.alloc()).expect(&rt, "memory");
-    let order = topological_sort(rt.alloc(), &graph, &numbers);
-    assert!(rt;
-        matches!(&order, Ok(Ok(order)) if order.len() == 999 && are_behind_divisors(order))
-    );
+    assert!(rt; are_behind_divisors(topological_sort(rt.alloc(), &graph, &numbers)));
 }
+
+/// Ten nodes, of which the last three are on cycles and all others lead to them.
+const TEN: &[&[usize]] = &[
+    &[1, 2, 7],
+    &[2, 3, 7],
+    &[3, 4, 7],
+    &[4, 5, 7],
+    &[5, 6, 7],
+    &[6, 7, 7],
+    &[7, 8, 7],
+    &[8, 9],
+    &[7, 9],
+    &[7],
+];
+
+/// Both ways between six nodes.
+const SIX: &[&[usize]] = &[&[1, 2], &[0, 3, 4], &[0, 5], &[1], &[1, 5], &[2, 4]];
 
 /// Whether the answer is this path.
 fn is_path(found: Result<Option<Vec<usize>>, PathError>, path: &[usize]) -> bool {
@@ -231,20 +251,7 @@ fn is_path(found: Result<Option<Vec<usize>>, PathError>, path: &[usize]) -> bool
 
 #[test]
 fn a_cycle_is_in_the_way_of_an_order(rt: HostRuntime) {
-    let rows: [&[usize]; 10] = [
-        &[1, 2, 7],
-        &[2, 3, 7],
-        &[3, 4, 7],
-        &[4, 5, 7],
-        &[5, 6, 7],
-        &[6, 7, 7],
-        &[7, 8, 7],
-        &[8, 9],
-        &[7, 9],
-        &[7],
-    ];
-    let graph = Rows::new(&rows).expect(&rt, "a graph");
-    // The nodes 7 to 9, to which all others lead, are on cycles.
+    let graph = Rows::new(TEN).expect(&rt, "a graph");
     let order = topological_sort(rt.alloc(), &graph, &[5, 1]);
     assert!(rt; matches!(order, Ok(Err(7..=9))));
     let start = 8usize;
@@ -252,14 +259,12 @@ fn a_cycle_is_in_the_way_of_an_order(rt: HostRuntime) {
     assert!(rt; is_path(bfs_loop(rt.alloc(), &graph, &starts), &[8, 7, 8]));
     let component = strongly_connected_component(rt.alloc(), &graph, 8);
     assert!(rt; matches!(&component, Ok(nodes) if are_same(nodes, &[7, 8, 9])));
-    // Both ways between six nodes.
-    let rows: [&[usize]; 6] = [&[1, 2], &[0, 3, 4], &[0, 5], &[1], &[1, 5], &[2, 4]];
-    let graph = Rows::new(&rows).expect(&rt, "a graph");
+    let graph = Rows::new(SIX).expect(&rt, "a graph");
     assert!(rt; is_path(bfs(rt.alloc(), &graph, 0, 5), &[0, 2, 5]));
 }
 
 /// Roads between five cities, in both directions.
-const ROADS: [(&str, &str, u32); 12] = [
+const ROADS: &[(&str, &str, u32)] = &[
     ("A", "B", 10),
     ("B", "A", 10),
     ("A", "C", 15),
@@ -289,28 +294,30 @@ fn is_way(found: Result<Option<(Vec<&&str>, u32)>, PathError>, cities: &[&str], 
 
 #[test]
 fn roads_between_cities(rt: HostRuntime) {
-    let roads = ROADS;
-    let map = EdgeList::new(rt.alloc(), &roads).expect(&rt, "memory");
+    let map = EdgeList::new(rt.alloc(), ROADS).expect(&rt, "memory");
     for (to, cities, cost) in [("D", ["A", "B", "D"], 22), ("E", ["A", "B", "E"], 18)] {
         let found = map.dijkstra(rt.alloc(), &"A", &to);
         assert!(rt; is_way(found, &cities, cost), "cost {cost}");
     }
 }
 
-/// Groups of nodes, and the parts that they join.
-type Joined<'a> = (&'a [&'a [u32]], &'a [&'a [u32]]);
+/// Groups of nodes, of which the third shares no node with the others, the parts that they join, and
+/// how many nodes there are.
+type Joined<'a> = (&'a [&'a [u32]], &'a [&'a [u32]], usize);
 
-const JOINED: [Joined<'static>; 4] = [
+const JOINED: &[Joined<'static>] = &[
     (
         &[&[1, 2], &[3, 4], &[5, 6], &[1, 4]],
         &[&[1, 2, 3, 4], &[5, 6]],
+        6,
     ),
-    (&[&[1, 2], &[3, 4], &[], &[1, 4]], &[&[1, 2, 3, 4]]),
+    (&[&[1, 2], &[3, 4], &[], &[1, 4]], &[&[1, 2, 3, 4]], 4),
     (
         &[&[1, 2], &[3, 4], &[5, 6], &[1, 4, 7]],
         &[&[1, 2, 3, 4, 7], &[5, 6]],
+        7,
     ),
-    (&[&[1, 2], &[3, 4], &[], &[1, 4, 7]], &[&[1, 2, 3, 4, 7]]),
+    (&[&[1, 2], &[3, 4], &[], &[1, 4, 7]], &[&[1, 2, 3, 4, 7]], 5),
 ];
 
 /// Whether a set has the nodes of a part and no others.
@@ -349,79 +356,55 @@ fn are_parts(sets: Result<Vec<SetIn<u32, Global>>, PathError>, parts: &[&[u32]])
 /// A number for each node.
 type Numbers<'a> = MapIn<&'a u32, usize, Global>;
 
-/// How many nodes have this number.
-fn count_with(numbers: &Numbers<'_>, number: usize) -> usize {
-    let mut count = 0usize;
-    for (_, other) in numbers {
-        if *other == number {
-            count = count.saturating_add(1);
-        }
-    }
-    count
-}
-
-/// Whether the nodes of a part have one number, which no other node has.
-fn is_numbered<'a>(numbers: &Numbers<'a>, part: &'a [u32]) -> bool {
-    let Some(number) = number_of(numbers, part) else {
-        return false;
-    };
-    for node in part {
+/// Whether the nodes of a group have its number, which is `usize::MAX` where there are none.
+fn have_number<'a>(numbers: &Numbers<'a>, group: &'a [u32], number: usize) -> bool {
+    for node in group {
         if numbers.get(&node).copied() != Some(number) {
             return false;
         }
     }
-    count_with(numbers, number) == part.len()
+    !group.is_empty() || number == usize::MAX
 }
 
-/// The number of a group, which is that of its first node; `usize::MAX` where the group is empty.
-fn number_of<'a>(numbers: &Numbers<'a>, group: &'a [u32]) -> Option<usize> {
-    match group.first() {
-        Some(node) => numbers.get(&node).copied(),
-        None => Some(usize::MAX),
-    }
-}
-
-/// Whether nodes and groups have numbers by the parts that they are in.
+/// Whether so many nodes have a number, each that of its groups, and the third group has another one
+/// than the first.
 fn are_numbered<'a>(
     numbered: Result<(Numbers<'a>, Vec<usize>), PathError>,
     groups: &'a [Vec<u32>],
-    parts: &[&'a [u32]],
+    count: usize,
 ) -> bool {
     let Ok((numbers, of_groups)) = &numbered else {
         return false;
     };
-    for part in parts {
-        if !is_numbered(numbers, part) {
-            return false;
-        }
-    }
     for (group, number) in groups.iter().zip(of_groups) {
-        if number_of(numbers, group) != Some(*number) {
+        if !have_number(numbers, group, *number) {
             return false;
         }
     }
-    of_groups.len() == groups.len()
+    numbers.len() == count
+        && of_groups.len() == groups.len()
+        && of_groups.first() != of_groups.get(2)
 }
 
-/// Vectors of these slices.
-fn vectors_of(alloc: Global, slices: &[&[u32]]) -> Result<Vec<Vec<u32>>, AllocError> {
+/// Vectors of these slices, where memory is left.
+fn vectors_of(alloc: Global, slices: &[&[u32]]) -> Option<Vec<Vec<u32>>> {
     let mut vectors = Vec::new(alloc);
     for slice in slices {
-        vectors.push(slice.to_vec(alloc)?)?;
+        vectors.push(slice.to_vec(alloc).ok()?).ok()?;
     }
-    Ok(vectors)
+    Some(vectors)
 }
 
 #[test]
 fn groups_that_share_nodes_are_joined(rt: HostRuntime) {
-    for (slices, parts) in JOINED {
+    for (row, (slices, parts, count)) in JOINED.iter().enumerate() {
         let groups = vectors_of(rt.alloc(), slices).expect(&rt, "memory");
         assert!(rt;
             are_parts(components(rt.alloc(), &groups), parts),
-            "{slices:?}"
+            "row {row}"
         );
         let numbered = separate_components(rt.alloc(), &groups);
-        assert!(rt; are_numbered(numbered, &groups, parts), "{slices:?}");
+        assert!(rt; are_numbered(numbered, &groups, *count), "row {row}");
     }
 }
 
@@ -435,14 +418,14 @@ fn edges_of_a_grid_span_it(rt: HostRuntime) {
             .push((from, to, from.1.min(to.1)))
             .expect(&rt, "memory");
     }
-    assert_eq!(rt; edges.len(), 4);
+    assert!(rt; edges.len() == 4);
     // Three edges of weight 0 join all, in an order that is open.
     let mut chosen = 0usize;
     for (from, to, weight) in kruskal(rt.alloc(), &edges).expect(&rt, "memory") {
         assert!(rt; weight == 0 && from.1.min(to.1) == 0);
         chosen = chosen.saturating_add(1);
     }
-    assert_eq!(rt; chosen, 3);
+    assert!(rt; chosen == 3);
 }
 
 #[test]
@@ -468,5 +451,5 @@ fn points_as_a_grid(rt: HostRuntime) {
     let mut text = String::new(rt.alloc());
     grid.append_text(&mut text, '#', '.', false)
         .expect(&rt, "memory");
-    assert_eq!(rt; text.as_str(), "#...\n....\n..##");
+    assert!(rt; text.as_str() == "#...\n....\n..##");
 }

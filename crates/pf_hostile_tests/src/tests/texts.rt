@@ -1,14 +1,14 @@
 //! Broken and unusual texts of edges, each asked by all commands of `routes`.
 
-use pathfinding::routes::{Command, Noted, command, run};
-use std::alloc::{AllocError, Global};
+use pf_routes::routes::{Command, Noted, RouteError, command, run};
+use std::alloc::Global;
 
 /// What is printed: on standard output with status 0, or on standard error with status 1, where
 /// standard output stays empty.
 type Printed<'a> = Result<&'a [u8], &'a str>;
 
 /// The commands that each text is asked.
-pub const COMMANDS: [&str; 6] = [
+const COMMANDS: &[&str] = &[
     "dijkstra a b",
     "bfs a b",
     "kruskal",
@@ -18,7 +18,7 @@ pub const COMMANDS: [&str; 6] = [
 ];
 
 /// What the commands print about no edges.
-const NOTHING: [Printed; 6] = [
+const NOTHING: &[Printed<'static>] = &[
     Ok(b"none\n"),
     Ok(b"none\n"),
     Ok(b""),
@@ -28,7 +28,7 @@ const NOTHING: [Printed; 6] = [
 ];
 
 /// What they print about an edge from a to b at cost 7.
-const SEVEN: [Printed; 6] = [
+const SEVEN: &[Printed<'static>] = &[
     Ok(b"7: a b\n"),
     Ok(b"1: a b\n"),
     Ok(b"a b 7\n"),
@@ -38,7 +38,7 @@ const SEVEN: [Printed; 6] = [
 ];
 
 /// What they print about edges from a to c at cost 1 and from c to b at cost 2.
-const TWO: [Printed; 6] = [
+const TWO: &[Printed<'static>] = &[
     Ok(b"3: a c b\n"),
     Ok(b"2: a c b\n"),
     Ok(b"a c 1\nc b 2\n"),
@@ -47,81 +47,112 @@ const TWO: [Printed; 6] = [
     Ok(b"1\na c 1\n"),
 ];
 
+/// What they print about an edge from a to b at the greatest cost.
+const GREATEST: &[Printed<'static>] = &[
+    Ok(b"18446744073709551615: a b\n"),
+    Ok(b"1: a b\n"),
+    Ok(b"a b 18446744073709551615\n"),
+    Ok(b"18446744073709551615: a b\n"),
+    Ok(b"18446744073709551615: a b\n"),
+    Ok(b"18446744073709551615\na b 18446744073709551615\n"),
+];
+
 /// What they print where the first line is bad.
-const FIRST_BAD: [Printed; 6] = [Err("line 1: bad edge\n"); 6];
-
-/// Texts without an edge.
-const BLANK: [&[u8]; 12] = [
-    b"",
-    b"\n",
-    b"\n\n\n",
-    b" ",
-    b"\t",
-    b"   \n \t \n\t\t",
-    b"\r",
-    b"\r\n",
-    b"\r\n\r\n\r\n",
-    b" \r\n\t\r\n",
-    b"\t\r",
-    b" \n\r\n\n \r",
+const FIRST_BAD: &[Printed<'static>] = &[
+    Err("line 1: bad edge\n"),
+    Err("line 1: bad edge\n"),
+    Err("line 1: bad edge\n"),
+    Err("line 1: bad edge\n"),
+    Err("line 1: bad edge\n"),
+    Err("line 1: bad edge\n"),
 ];
 
-/// Texts of one edge, from a to b at cost 7.
-const ONE_EDGE: [&[u8]; 14] = [
-    b"a b 7\n",
-    b"a b 7",
-    b"a b 7\r",
-    b"a b 7\r\n",
-    b"a b 7 ",
-    b"a b 7\t\r",
-    b"\ta b 7",
-    b"a\tb\t7",
-    b"\r\n\n a\tb 007 \r\n",
-    b"\n\r\na b 7\n\n\n",
-    b" \ta \t b\t\t7\t \r\n \t\r\n",
-    b"a b 7\n \t",
-    b"a b 7\n\r",
-    b"a b 0000000000000000000000000000000000000007\n",
+/// What they print where the fourth line is the first bad one.
+const FOURTH_BAD: &[Printed<'static>] = &[
+    Err("line 4: bad edge\n"),
+    Err("line 4: bad edge\n"),
+    Err("line 4: bad edge\n"),
+    Err("line 4: bad edge\n"),
+    Err("line 4: bad edge\n"),
+    Err("line 4: bad edge\n"),
 ];
 
-/// Texts of two edges, from a to c at cost 1 and from c to b at cost 2.
-const TWO_EDGES: [&[u8]; 6] = [
-    b"a c 1\nc b 2\n",
-    b"a c 1\nc b 2",
-    b"a c 1\r\nc b 2\r",
-    b"a c 1\n\nc b 2\n\n",
-    b"\ta c 01\n \r\n c b 02",
-    b"a c 1 \r\n\tc\tb\t2\t\r\n",
+/// What they print where the line behind a megabyte of line ends is bad.
+const LATE_BAD: &[Printed<'static>] = &[
+    Err("line 1048577: bad edge\n"),
+    Err("line 1048577: bad edge\n"),
+    Err("line 1048577: bad edge\n"),
+    Err("line 1048577: bad edge\n"),
+    Err("line 1048577: bad edge\n"),
+    Err("line 1048577: bad edge\n"),
 ];
 
-/// Texts of edges that each says something else, and what is printed about them.
-const OTHERS: [(&[u8], [Printed; 6]); 10] = [
+/// Texts about which the commands print the same, and what they print.
+type Alike<'a> = (&'a [&'a [u8]], &'a [Printed<'a>]);
+
+/// Texts of good lines.
+const GOOD: &[Alike<'static>] = &[
+    // No edge.
+    (
+        &[
+            b"",
+            b"\n",
+            b"\n\n\n",
+            b" ",
+            b"\t",
+            b"   \n \t \n\t\t",
+            b"\r",
+            b"\r\n",
+            b"\r\n\r\n\r\n",
+            b" \r\n\t\r\n",
+            b"\t\r",
+            b" \n\r\n\n \r",
+        ],
+        NOTHING,
+    ),
+    // One edge, from a to b at cost 7.
+    (
+        &[
+            b"a b 7\n",
+            b"a b 7",
+            b"a b 7\r",
+            b"a b 7\r\n",
+            b"a b 7 ",
+            b"a b 7\t\r",
+            b"\ta b 7",
+            b"a\tb\t7",
+            b"\r\n\n a\tb 007 \r\n",
+            b"\n\r\na b 7\n\n\n",
+            b" \ta \t b\t\t7\t \r\n \t\r\n",
+            b"a b 7\n \t",
+            b"a b 7\n\r",
+            b"a b 0000000000000000000000000000000000000007\n",
+        ],
+        SEVEN,
+    ),
+    // Two edges, from a to c at cost 1 and from c to b at cost 2.
+    (
+        &[
+            b"a c 1\nc b 2\n",
+            b"a c 1\nc b 2",
+            b"a c 1\r\nc b 2\r",
+            b"a c 1\n\nc b 2\n\n",
+            b"\ta c 01\n \r\n c b 02",
+            b"a c 1 \r\n\tc\tb\t2\t\r\n",
+        ],
+        TWO,
+    ),
     // The greatest cost, with leading zeros too, and the least.
     (
-        b"a b 18446744073709551615",
-        [
-            Ok(b"18446744073709551615: a b\n"),
-            Ok(b"1: a b\n"),
-            Ok(b"a b 18446744073709551615\n"),
-            Ok(b"18446744073709551615: a b\n"),
-            Ok(b"18446744073709551615: a b\n"),
-            Ok(b"18446744073709551615\na b 18446744073709551615\n"),
+        &[
+            b"a b 18446744073709551615",
+            b"a b 0000000000000000000018446744073709551615\r\n",
         ],
+        GREATEST,
     ),
     (
-        b"a b 0000000000000000000018446744073709551615\r\n",
-        [
-            Ok(b"18446744073709551615: a b\n"),
-            Ok(b"1: a b\n"),
-            Ok(b"a b 18446744073709551615\n"),
-            Ok(b"18446744073709551615: a b\n"),
-            Ok(b"18446744073709551615: a b\n"),
-            Ok(b"18446744073709551615\na b 18446744073709551615\n"),
-        ],
-    ),
-    (
-        b"a b 0000000000000000000000000000000000000000",
-        [
+        &[b"a b 0000000000000000000000000000000000000000"],
+        &[
             Ok(b"0: a b\n"),
             Ok(b"1: a b\n"),
             Ok(b"a b 0\n"),
@@ -132,8 +163,8 @@ const OTHERS: [(&[u8], [Printed; 6]); 10] = [
     ),
     // A sum that just fits, one that does not, and costs that are never added.
     (
-        b"a c 18446744073709551614\nc b 1\n",
-        [
+        &[b"a c 18446744073709551614\nc b 1\n"],
+        &[
             Ok(b"18446744073709551615: a c b\n"),
             Ok(b"2: a c b\n"),
             Ok(b"c b 1\na c 18446744073709551614\n"),
@@ -143,8 +174,8 @@ const OTHERS: [(&[u8], [Printed; 6]); 10] = [
         ],
     ),
     (
-        b"a c 18446744073709551615\nc b 1\n",
-        [
+        &[b"a c 18446744073709551615\nc b 1\n"],
+        &[
             Err("cost overflow\n"),
             Ok(b"2: a c b\n"),
             Ok(b"c b 1\na c 18446744073709551615\n"),
@@ -154,8 +185,8 @@ const OTHERS: [(&[u8], [Printed; 6]); 10] = [
         ],
     ),
     (
-        b"x y 18446744073709551615\ny z 18446744073709551614\na b 7",
-        [
+        &[b"x y 18446744073709551615\ny z 18446744073709551614\na b 7"],
+        &[
             Ok(b"7: a b\n"),
             Ok(b"1: a b\n"),
             Ok(b"a b 7\ny z 18446744073709551614\nx y 18446744073709551615\n"),
@@ -166,8 +197,8 @@ const OTHERS: [(&[u8], [Printed; 6]); 10] = [
     ),
     // Names of signs and digits, which letter case tells apart.
     (
-        b"! ~ 1\n-1 +1 5\n1 2 3\nA b 8\na B 9\n",
-        [
+        &[b"! ~ 1\n-1 +1 5\n1 2 3\nA b 8\na B 9\n"],
+        &[
             Ok(b"none\n"),
             Ok(b"none\n"),
             Ok(b"! ~ 1\n1 2 3\n-1 +1 5\nA b 8\na B 9\n"),
@@ -178,8 +209,8 @@ const OTHERS: [(&[u8], [Printed; 6]); 10] = [
     ),
     // A line of one field follows no rule of its own where it has three.
     (
-        b"none none 4\nline 1: 2\n",
-        [
+        &[b"none none 4\nline 1: 2\n"],
+        &[
             Ok(b"none\n"),
             Ok(b"none\n"),
             Ok(b"line 1: 2\n"),
@@ -190,8 +221,8 @@ const OTHERS: [(&[u8], [Printed; 6]); 10] = [
     ),
     // Edges from a node to itself, back, and twice the same at other costs.
     (
-        b"a b 5\na a 0\nb b 0\na b 3\nb a 1\n",
-        [
+        &[b"a b 5\na a 0\nb b 0\na b 3\nb a 1\n"],
+        &[
             Ok(b"3: a b\n"),
             Ok(b"1: a b\n"),
             Ok(b"b a 1\n"),
@@ -202,8 +233,8 @@ const OTHERS: [(&[u8], [Printed; 6]); 10] = [
     ),
     // The path of fewest edges is not the cheapest.
     (
-        b"a b 5\na c 1\nc b 2\n",
-        [
+        &[b"a b 5\na c 1\nc b 2\n"],
+        &[
             Ok(b"3: a c b\n"),
             Ok(b"1: a b\n"),
             Ok(b"a c 1\nc b 2\n"),
@@ -215,7 +246,7 @@ const OTHERS: [(&[u8], [Printed; 6]); 10] = [
 ];
 
 /// Lines that are neither an edge nor blank.
-const BAD_LINES: [&[u8]; 67] = [
+const BAD_LINES: &[&[u8]] = &[
     // One, two, four and five fields.
     b"a",
     b" a ",
@@ -290,6 +321,25 @@ const BAD_LINES: [&[u8]; 67] = [
     b"a\xc2\xa0b 1",
 ];
 
+/// A pattern, the byte of which a megabyte stands in the place of its `?`, and what is printed about
+/// that text.
+type Long<'a> = (&'a [u8], u8, &'a [Printed<'a>]);
+
+const LONG: &[Long<'static>] = &[
+    (b"?", b' ', NOTHING),
+    (b"?", b'\n', NOTHING),
+    (b"?a b 7", b'\t', SEVEN),
+    (b"?a b 7\r", b'\n', SEVEN),
+    (b"a?b 7\n", b' ', SEVEN),
+    (b"a b ?7\n", b'0', SEVEN),
+    (b"a b 7?\r\n", b' ', SEVEN),
+    (b"a b ?\n", b'9', FIRST_BAD),
+    (b"?", b'x', FIRST_BAD),
+    (b"a b 7?\n", b'\r', FIRST_BAD),
+    (b"a b 7?\na b 7\n", b'\0', FIRST_BAD),
+    (b"?a b", b'\n', LATE_BAD),
+];
+
 /// The command that words parted by spaces spell, where they spell one and memory is left.
 pub fn spelled(alloc: Global, line: &str) -> Option<Command> {
     let mut words = Vec::new(alloc);
@@ -297,37 +347,6 @@ pub fn spelled(alloc: Global, line: &str) -> Option<Command> {
         words.push(String::from_str(alloc, word).ok()?).ok()?;
     }
     command(words)
-}
-
-/// Whether this is printed for a command about a text.
-fn prints(alloc: Global, command: &Command, text: &[u8], want: Printed<'_>) -> bool {
-    let mut input = Noted::new(text);
-    let mut output = Noted::new(Vec::new(alloc));
-    let told = run(alloc, command, &mut input, &mut output);
-    let written = output.into_inner();
-    match (told, want) {
-        (Ok(()), Ok(bytes)) => written.as_slice() == bytes,
-        (Err(fault), Err(line)) => {
-            let told = format!(in alloc; "{fault}\n");
-            written.is_empty() && matches!(&told, Ok(told) if told.as_str() == line)
-        }
-        _ => false,
-    }
-}
-
-/// The number of the first command that does not print what it has to about a text.
-fn first_wrong(
-    alloc: Global,
-    commands: &[Command],
-    text: &[u8],
-    want: &[Printed<'_>; 6],
-) -> Option<usize> {
-    for (number, (command, want)) in commands.iter().zip(want.iter()).enumerate() {
-        if !prints(alloc, command, text, *want) {
-            return Some(number);
-        }
-    }
-    None
 }
 
 /// The commands that each text is asked, where memory is left.
@@ -339,132 +358,146 @@ fn commands(alloc: Global) -> Option<Vec<Command>> {
     Some(commands)
 }
 
-#[test]
-fn texts_that_say_the_same_are_answered_alike(rt: HostRuntime) {
-    let commands = commands(rt.alloc()).expect(&rt, "commands");
-    let groups: [(&[&[u8]], [Printed; 6]); 3] = [
-        (&BLANK, NOTHING),
-        (&ONE_EDGE, SEVEN),
-        (&TWO_EDGES, TWO),
-    ];
-    for (texts, want) in groups {
-        for text in texts {
-            let wrong = first_wrong(rt.alloc(), &commands, text, &want);
-            assert_eq!(rt; wrong, None, "{text:?}");
+/// The text that a pattern spells, in which the filling stands in the place of each `?`, where memory
+/// is left.
+fn filled(alloc: Global, pattern: &[u8], filling: &[u8]) -> Option<Vec<u8>> {
+    let mut text = Vec::new(alloc);
+    for byte in pattern {
+        if *byte == b'?' {
+            text.extend_from_slice(filling).ok()?;
+        } else {
+            text.push(*byte).ok()?;
         }
     }
+    Some(text)
+}
+
+/// Whether this line is told of a fault.
+fn is_told(alloc: Global, fault: RouteError, line: &str) -> bool {
+    let told = format!(in alloc; "{fault}\n");
+    matches!(&told, Ok(told) if told.as_str() == line)
+}
+
+/// Whether this is printed for a command about a text.
+fn prints(alloc: Global, command: &Command, text: &[u8], want: Printed<'_>) -> bool {
+    let mut input = Noted::new(text);
+    let mut output = Noted::new(Vec::new(alloc));
+    let told = run(alloc, command, &mut input, &mut output);
+    let written = output.into_inner();
+    match (told, want) {
+        (Ok(()), Ok(bytes)) => written.as_slice() == bytes,
+        (Err(fault), Err(line)) => written.is_empty() && is_told(alloc, fault, line),
+        _ => false,
+    }
+}
+
+/// Whether each command prints what it has to about a text.
+fn all_print(alloc: Global, commands: &[Command], text: &[u8], wanted: &[Printed<'_>]) -> bool {
+    for (command, want) in commands.iter().zip(wanted) {
+        if !prints(alloc, command, text, *want) {
+            return false;
+        }
+    }
+    true
+}
+
+/// The same about the text that a pattern and its filling spell.
+fn all_print_filled(
+    alloc: Global,
+    commands: &[Command],
+    pattern: &[u8],
+    filling: &[u8],
+    wanted: &[Printed<'_>],
+) -> bool {
+    match filled(alloc, pattern, filling) {
+        Some(text) => all_print(alloc, commands, text.as_slice(), wanted),
+        None => false,
+    }
 }
 
 #[test]
-fn other_texts_are_answered(rt: HostRuntime) {
+fn good_texts_are_answered(rt: HostRuntime) {
     let commands = commands(rt.alloc()).expect(&rt, "commands");
-    for (text, want) in OTHERS {
-        let wrong = first_wrong(rt.alloc(), &commands, text, &want);
-        assert_eq!(rt; wrong, None, "{text:?}");
+    for (texts, wanted) in GOOD {
+        for text in *texts {
+            assert!(rt; all_print(rt.alloc(), &commands, text, wanted), "{text:?}");
+        }
     }
-}
-
-/// These bytes, one part after the other.
-fn joined(alloc: Global, parts: &[&[u8]]) -> Result<Vec<u8>, AllocError> {
-    let mut text = Vec::new(alloc);
-    for part in parts {
-        text.extend_from_slice(part)?;
-    }
-    Ok(text)
 }
 
 /// A bad line is told by its number, blank lines counted, wherever it stands: alone, and behind edges
 /// whose costs do not fit and before another bad line.
 #[test]
 fn the_first_bad_line_is_told(rt: HostRuntime) {
-    let commands = commands(rt.alloc()).expect(&rt, "commands");
-    let fourth_bad = [Err("line 4: bad edge\n"); 6];
+    let alloc = rt.alloc();
+    let commands = commands(alloc).expect(&rt, "commands");
+    let within = b"a c 18446744073709551615\n\r\nc b 1\n?\nx\n";
     for line in BAD_LINES {
-        let within = [
-            b"a c 18446744073709551615\n\r\nc b 1\n".as_slice(),
-            line,
-            b"\nx\n",
-        ];
-        let rows: [(&[&[u8]], [Printed; 6]); 2] = [(&[line], FIRST_BAD), (&within, fourth_bad)];
-        for (parts, want) in rows {
-            let text = joined(rt.alloc(), parts).expect(&rt, "memory");
-            let wrong = first_wrong(rt.alloc(), &commands, text.as_slice(), &want);
-            assert_eq!(rt; wrong, None, "{text:?}");
-        }
+        assert!(rt;
+            all_print(alloc, &commands, line, FIRST_BAD)
+                && all_print_filled(alloc, &commands, within, line, FOURTH_BAD),
+            "{line:?}"
+        );
     }
 }
 
-/// Each of the 256 bytes in the names of an edge from a node to itself, behind the digits of its cost, and
-/// alone on a line: where the line is good, it changes no answer about the edge on the next line.
+/// What is printed about an edge from a to b at cost 7 behind a line that is good or bad.
+fn wanted_behind(is_good: bool) -> &'static [Printed<'static>] {
+    if is_good { SEVEN } else { FIRST_BAD }
+}
+
+/// Whether a byte is of its kind in the names of an edge from a node to itself, behind the digits of
+/// its cost, and alone on a line: where the line is good, it changes no answer about the edge on the
+/// next line.
+fn is_of_its_kind(alloc: Global, commands: &[Command], byte: u8) -> bool {
+    let is_gap = byte == b' ' || byte == b'\t';
+    let is_blank = is_gap || byte == b'\r' || byte == b'\n';
+    let named = wanted_behind(is_gap || (b'!'..=b'~').contains(&byte));
+    let priced = wanted_behind(is_blank || byte.is_ascii_digit());
+    let alone = wanted_behind(is_blank);
+    let filling = [byte];
+    all_print_filled(alloc, commands, b"a? a? 7\na b 7", &filling, named)
+        && all_print_filled(alloc, commands, b"a a 7?\na b 7", &filling, priced)
+        && all_print_filled(alloc, commands, b"?\na b 7", &filling, alone)
+}
+
 #[test]
 fn each_byte_is_of_its_kind(rt: HostRuntime) {
     let commands = commands(rt.alloc()).expect(&rt, "commands");
     for byte in 0..=u8::MAX {
-        let is_gap = byte == b' ' || byte == b'\t';
-        let is_end = byte == b'\r' || byte == b'\n';
-        let is_visible = (b'!'..=b'~').contains(&byte);
-        let named = [
-            b'a', byte, b' ', b'a', byte, b' ', b'7', b'\n', b'a', b' ', b'b', b' ', b'7',
-        ];
-        let priced = [
-            b'a', b' ', b'a', b' ', b'7', byte, b'\n', b'a', b' ', b'b', b' ', b'7',
-        ];
-        let alone = [byte, b'\n', b'a', b' ', b'b', b' ', b'7'];
-        let texts: [(&[u8], bool); 3] = [
-            (&named, is_gap || is_visible),
-            (&priced, is_gap || is_end || byte.is_ascii_digit()),
-            (&alone, is_gap || is_end),
-        ];
-        for (text, is_good) in texts {
-            let want = if is_good { SEVEN } else { FIRST_BAD };
-            let wrong = first_wrong(rt.alloc(), &commands, text, &want);
-            assert_eq!(rt; wrong, None, "{text:?}");
-        }
+        assert!(rt; is_of_its_kind(rt.alloc(), &commands, byte), "{byte}");
     }
 }
 
-/// A megabyte of one byte, between these bytes.
-fn long(alloc: Global, front: &[u8], byte: u8, back: &[u8]) -> Result<Vec<u8>, AllocError> {
-    let mut text = Vec::from_slice(alloc, front)?;
-    let end = text.len().saturating_add(1_048_576);
-    text.resize(end, byte)?;
-    text.extend_from_slice(back)?;
-    Ok(text)
+/// A megabyte of one byte, where memory is left.
+fn megabyte_of(alloc: Global, byte: u8) -> Option<Vec<u8>> {
+    vec![in alloc; byte; 1_048_576].ok()
 }
-
-/// Texts with a megabyte of one byte in them, and what is printed about them.
-const LONG: [(&[u8], u8, &[u8], [Printed; 6]); 12] = [
-    (b"", b' ', b"", NOTHING),
-    (b"", b'\n', b"", NOTHING),
-    (b"", b'\t', b"a b 7", SEVEN),
-    (b"", b'\n', b"a b 7\r", SEVEN),
-    (b"a", b' ', b"b 7\n", SEVEN),
-    (b"a b ", b'0', b"7\n", SEVEN),
-    (b"a b 7", b' ', b"\r\n", SEVEN),
-    (b"a b ", b'9', b"\n", FIRST_BAD),
-    (b"", b'x', b"", FIRST_BAD),
-    (b"a b 7", b'\r', b"\n", FIRST_BAD),
-    (b"a b 7", b'\0', b"\na b 7\n", FIRST_BAD),
-    (b"", b'\n', b"a b", [Err("line 1048577: bad edge\n"); 6]),
-];
 
 #[test]
 fn lines_of_a_megabyte_are_read(rt: HostRuntime) {
     let commands = commands(rt.alloc()).expect(&rt, "commands");
-    for (front, byte, back, want) in LONG {
-        let text = long(rt.alloc(), front, byte, back).expect(&rt, "memory");
-        let wrong = first_wrong(rt.alloc(), &commands, text.as_slice(), &want);
-        assert_eq!(rt; wrong, None, "{front:?} {byte} {back:?}");
+    for (pattern, byte, wanted) in LONG {
+        let filling = megabyte_of(rt.alloc(), *byte).expect(&rt, "memory");
+        assert!(rt;
+            all_print_filled(rt.alloc(), &commands, pattern, &filling, wanted),
+            "{pattern:?}"
+        );
+    }
+}
+
+/// Whether the text of an edge with a long name, which a pattern spells, is the answer to itself.
+fn comes_back(alloc: Global, command: &Command, pattern: &[u8], name: &[u8]) -> bool {
+    match filled(alloc, pattern, name) {
+        Some(text) => prints(alloc, command, text.as_slice(), Ok(text.as_slice())),
+        None => false,
     }
 }
 
 #[test]
 fn a_name_of_a_megabyte_comes_back_whole(rt: HostRuntime) {
     let spanning = spelled(rt.alloc(), "kruskal").expect(&rt, "a command");
-    let cases: [(&[u8], &[u8]); 2] = [(b"", b" b 1\n"), (b"a ", b" 1\n")];
-    for (front, back) in cases {
-        let text = long(rt.alloc(), front, b'x', back).expect(&rt, "memory");
-        let is_whole = prints(rt.alloc(), &spanning, text.as_slice(), Ok(text.as_slice()));
-        assert!(rt; is_whole, "{front:?} {back:?}");
-    }
+    let name = megabyte_of(rt.alloc(), b'x').expect(&rt, "memory");
+    assert!(rt; comes_back(rt.alloc(), &spanning, b"? b 1\n", &name));
+    assert!(rt; comes_back(rt.alloc(), &spanning, b"a ? 1\n", &name));
 }

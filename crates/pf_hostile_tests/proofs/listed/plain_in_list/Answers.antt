@@ -2,17 +2,16 @@ use Rattle.std.proofs.Common.{rules}
 use Rattle.edge_lists.proofs.Callers.{nodes_answered}
 use Rattle.edge_lists.specs.Chosen.{chosen}
 use Rattle.pf_base.proofs.Callers.{test_of}
+use Rattle.pf_hostile_tests.proofs.LetterLemmas.{alike, alike_laws}
 use Rattle.pf_hostile_tests.proofs.listed.plain_in_list.Goals as goal
 
 pub plain-requires-clause-graph : goal.plain-requires-clause-graph
-plain-requires-clause-graph g c =
-    let eq = g.N.PartialEq.eq in
-    let laws = g.met.N.Eq.laws in
+plain-requires-clause-graph c =
     let edges = c.args.edges.now in (
-      chosen eq (λ e. e.0) (λ e. e.1) edges,
-      (λ n. eq n c.args.to),
+      chosen alike (λ e. e.0) (λ e. e.1) edges,
+      (λ n. alike n c.args.to),
       record {
-        successors_answered = nodes_answered laws (λ e. e.0) (λ e. e.1) edges (λ x w. search rules) (λ x r t w k. (search rules, λ it b. (search rules, search rules, search rules)));
-        test_answered = test_of (λ n. eq n c.args.to) (λ x y w e. laws.congr x y c.args.to e) (λ x w. search rules) (λ x r t w k. (search rules, search rules));
+        successors_answered = nodes_answered alike_laws (λ e. e.0) (λ e. e.1) edges (λ x w. search rules) (λ x r t w k. (search rules, λ it b. (search rules, search rules, search rules)));
+        test_answered = test_of (λ n. alike n c.args.to) (λ x y w e. alike_laws.congr x y c.args.to e) (λ x w. search rules) (λ x r t w k. (search rules, search rules));
       },
     )
