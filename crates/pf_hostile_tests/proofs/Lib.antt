@@ -1,3 +1,2 @@
 mod ChainLemmas
-mod LetterLemmas
 mod ListLemmas

@@ -2,7 +2,7 @@ use Rattle.std.proofs.Common.{rules, ◌∷◌, []}
 use Rattle.edge_lists.proofs.Callers.{edges_from_answered, edges_to_answered}
 use Rattle.edge_lists.proofs.ChosenLemmas.{edges_from-from_zero, edges_to-from_zero, enters, leaves}
 use Rattle.edge_lists.specs.Lists.{edges_from, edges_to}
-use Rattle.pf_hostile_tests.proofs.LetterLemmas.{alike, alike_laws}
+use Rattle.pf_hostile_tests.proofs.listed.LetterLemmas.{alike, alike_laws}
 use Rattle.pf_hostile_tests.proofs.listed.cheapest_between_in_list.Goals as goal
 
 pub dijkstra_bidirectional-requires-clause-graph : goal.dijkstra_bidirectional-requires-clause-graph

@@ -5,7 +5,7 @@ use Rattle.edge_lists.specs.Lists.{edges_from}
 use Rattle.pf_base.proofs.Callers.{test_of}
 use Rattle.pf_informed.proofs.Callers.{estimate_of}
 use Rattle.pf_hostile_tests.proofs.ListLemmas.{zero_admissible}
-use Rattle.pf_hostile_tests.proofs.LetterLemmas.{alike, alike_laws}
+use Rattle.pf_hostile_tests.proofs.listed.LetterLemmas.{alike, alike_laws}
 use Rattle.pf_hostile_tests.proofs.listed.cheapest_in_list.Goals as goal
 
 pub cheapest-requires-clause-graph : goal.cheapest-requires-clause-graph

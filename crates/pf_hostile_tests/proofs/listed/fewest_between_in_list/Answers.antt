@@ -2,7 +2,7 @@ use Rattle.std.proofs.Common.{rules}
 use Rattle.edge_lists.proofs.Callers.{nodes_answered}
 use Rattle.edge_lists.proofs.ChosenLemmas.{nodes_mirror}
 use Rattle.edge_lists.specs.Chosen.{chosen}
-use Rattle.pf_hostile_tests.proofs.LetterLemmas.{alike, alike_laws}
+use Rattle.pf_hostile_tests.proofs.listed.LetterLemmas.{alike, alike_laws}
 use Rattle.pf_hostile_tests.proofs.listed.fewest_between_in_list.Goals as goal
 
 pub bfs_bidirectional-requires-clause-graph : goal.bfs_bidirectional-requires-clause-graph

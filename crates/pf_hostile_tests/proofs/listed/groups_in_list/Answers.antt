@@ -1,7 +1,7 @@
 use Rattle.std.proofs.Common.{rules}
 use Rattle.edge_lists.proofs.Callers.{nodes_answered}
 use Rattle.edge_lists.specs.Chosen.{chosen}
-use Rattle.pf_hostile_tests.proofs.LetterLemmas.{alike, alike_laws}
+use Rattle.pf_hostile_tests.proofs.listed.LetterLemmas.{alike, alike_laws}
 use Rattle.pf_hostile_tests.proofs.listed.groups_in_list.Goals as goal
 
 pub topological_sort_into_groups-requires-clause-graph : goal.topological_sort_into_groups-requires-clause-graph
