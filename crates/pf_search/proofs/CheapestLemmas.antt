@@ -8,6 +8,7 @@ use Rattle.std.specs.Fn.{Mut}
 use Rattle.std.specs.Iterator.{Count}
 use Rattle.std.proofs.lemmas.Int.{ints}
 use Rattle.pf_base.specs.declared.error.PathError.{PathError}
+use Rattle.pf_base.specs.Answers.{SameNodes}
 use Rattle.pf_base.specs.Walks.{HasNode, IsWalk, BeginsAt, EndsAt, end_of}
 use Rattle.pf_base.specs.Edges.{IsSuccessor, IsCheapestGoalPath}
 use Rattle.pf_core.specs.declared.labels.Label.{Label}
@@ -287,14 +288,14 @@ module _ {N : Type 0} (eq : N → N → Bool) (laws : IsEquivalence eq) where
         → IsOne (record t { refused = is_err r }) × CheapestStep eq value edges start fits s (result_transpose r) (record t { refused = is_err r })
     step_of fits s t (Ok (Some x)) h m (w, q) = (marked t false w, (h, refl, q.0, q.1))
     step_of fits s t (Ok None) h m (w, q) = (marked t false w, (inr q.0, subst (λ (c : Bool). record t { refused = c } ≡ s) (m ∙ h) q.1))
-    step_of fits s t (Err x) h m (w, q) = (marked t true w, (h, refl, q.0, q.1, q.2))
+    step_of fits s t (Err x) h m (w, q) = (marked t true w, (h, refl, q.0, q.1, q.2, q.3, q.4))
 
 -- a step was refused, for this
 module _ {N C F : Type 0} (eq : N → N → Bool) (value : C → ℤ) (edges : N → List (N × ℤ)) (start : N) (fits : ℤ → Type 0) (s t : CheapestWalk N C F) where
-  pub turn_refused : (r : Result (Option (DijkstraReachableItem N C)) PathError) (refusal : PathError) → IsErrAnd r (λ e. e ≡ refusal) → RefusedFor eq value edges start fits s refusal → IsLeft eq value edges start s → GivesNoMore eq s t
+  pub turn_refused : (r : Result (Option (DijkstraReachableItem N C)) PathError) (refusal : PathError) → IsErrAnd r (λ e. e ≡ refusal) → RefusedFor eq value edges start fits s refusal → IsLeft eq value edges start s → GivesNoMore eq s t → t.labels ≡ s.labels → SameNodes eq t.nodes s.nodes
       → CheapestTurn eq value edges start fits s r t
-  turn_refused (Ok x) refusal e f l m = absurd e
-  turn_refused (Err x) refusal e f l m = (subst (λ (y : PathError). RefusedFor eq value edges start fits s y) (sym e) f, l, m)
+  turn_refused (Ok x) refusal e f l m same found = absurd e
+  turn_refused (Err x) refusal e f l m same found = (subst (λ (y : PathError). RefusedFor eq value edges start fits s y) (sym e) f, l, m, same, found)
 
   -- the mark of a refusal is no part of the step before which it stands
   pub marked_bar : (b : Bool) → IsBarred eq value edges start fits t → IsBarred eq value edges start fits (record t { refused = b })

@@ -2,6 +2,7 @@
 use Rattle.std.specs.Prelude.{◌≡◌, ◌⊎◌, ◌↔◌, ◌≤ℤ◌, ◌+ℤ◌, ℕ, ℤ, pos, Bool, true, false, List, [], ◌∷◌, Option, Some, None, Result, Ok, Err, MatchOption, nat_eq, refl}
 use Rattle.std.specs.Coded.{Coded, code_by, coded×, coded_bool, coded_ℕ, coded_list, coded_option}
 use Rattle.pf_base.specs.declared.error.PathError.{PathError}
+use Rattle.pf_base.specs.Answers.{SameNodes}
 use Rattle.pf_base.specs.Edges.{InReach, StepCosts, HasNoNegativeCost, NoGoalWalkCostsLess, IsCheapestGoalPath}
 use Rattle.pf_core.specs.declared.labels.Label.{Label}
 use Rattle.pf_core.specs.Labels.{Labels, HasLabel, by_cost}
@@ -104,11 +105,11 @@ module _ {N C F : Type 0} (eq : N → N → Bool) where
     abbrev pub RefusedFor : (ℤ → Type 0) → CheapestWalk N C F → PathError → Type 0
     RefusedFor fits walk refusal = (refusal ≡ PathError.OutOfMemory) ⊎ ((refusal ≡ PathError.CostOverflow) × IsNextPastRange fits walk)
 
-    -- what a step of a walk that was not refused before gives, and how it leaves the walk: an item, no item, or a refusal
+    -- what a step of a walk that was not refused before gives, and how it leaves the walk: an item, no item, or a refusal, after which the given nodes, the labels and the found nodes are as before
     abbrev pub CheapestTurn : (ℤ → Type 0) → CheapestWalk N C F → Result (Option (DijkstraReachableItem N C)) PathError → CheapestWalk N C F → Type 0
     CheapestTurn fits walk (Ok (Some item)) after = IsNextByCost walk item × GivesMore walk item after
     CheapestTurn fits walk (Ok None) after = AllGiven walk × (after ≡ walk)
-    CheapestTurn fits walk (Err refusal) after = RefusedFor fits walk refusal × IsLeft walk × GivesNoMore walk after
+    CheapestTurn fits walk (Err refusal) after = RefusedFor fits walk refusal × IsLeft walk × GivesNoMore walk after × (after.labels ≡ walk.labels) × SameNodes eq after.nodes walk.nodes
 
     -- a step that does not fit is refused again: where the walk stands before one, a step of a walk that was not refused before gives neither an item nor the end, and a step that is refused leaves the walk before it
     abbrev pub TurnKeepsBar : (ℤ → Type 0) → CheapestWalk N C F → Result (Option (DijkstraReachableItem N C)) PathError → CheapestWalk N C F → Type 0
@@ -124,8 +125,8 @@ module _ {N C F : Type 0} (eq : N → N → Bool) where
     -- What a call of `next` gives, and how it leaves the walk.
     -- an item: the next by rising cost, which is one of the given ones from then on
     -- no item: the last step was refused, or each node in reach was given; the walk stays as it was
-    -- a refusal, which can come only where a node is left to give: the given nodes stay as they were
+    -- a refusal, which can come only where a node is left to give: the given nodes, the labels and the found nodes stay as they were
     abbrev pub CheapestStep : (ℤ → Type 0) → CheapestWalk N C F → Option (Result (DijkstraReachableItem N C) PathError) → CheapestWalk N C F → Type 0
     CheapestStep fits walk (Some (Ok item)) after = (walk.refused ≡ false) × (after.refused ≡ false) × IsNextByCost walk item × GivesMore walk item after
     CheapestStep fits walk None after = ((walk.refused ≡ true) ⊎ AllGiven walk) × (after ≡ walk)
-    CheapestStep fits walk (Some (Err refusal)) after = (walk.refused ≡ false) × (after.refused ≡ true) × RefusedFor fits walk refusal × IsLeft walk × GivesNoMore walk after
+    CheapestStep fits walk (Some (Err refusal)) after = (walk.refused ≡ false) × (after.refused ≡ true) × RefusedFor fits walk refusal × IsLeft walk × GivesNoMore walk after × (after.labels ≡ walk.labels) × SameNodes eq after.nodes walk.nodes

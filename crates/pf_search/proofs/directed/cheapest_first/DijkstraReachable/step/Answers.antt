@@ -1,11 +1,14 @@
 use Rattle.std.proofs.Common.{Err, ◌≡◌, ◌∙◌, sym, ap, refl, arith, length, inl, inr, nat_eq}
 use Rattle.pf_base.specs.declared.error.PathError.{PathError}
+use Rattle.pf_base.proofs.Callers.{SameNodes-refl}
 use Rattle.pf_core.specs.Labels.{by_cost}
 use Rattle.pf_core.specs.Nodes.{IsStep}
 use Rattle.pf_core.proofs.LabelLemmas.{HasLabel-inside, parent_labelled}
 use Rattle.pf_core.proofs.TurnLemmas.{least_is}
 use Rattle.pf_core.proofs.SearchLemmas.{search_grows}
 use Rattle.pf_search.specs.CheapestFirst.{RefusedFor, IsBarred}
+use Rattle.pf_search.proofs.BreadthLemmas.{Same-sym}
+use Rattle.pf_search.proofs.BreadthSteps.{kept_all}
 use Rattle.pf_search.proofs.CheapestLemmas.{seen, costs, all_given, stands_at, left_at, next_is, past_at, goes_on, no_more, one_more, turn_refused, ended_bar, bar_kept, no_bar, bar_refused}
 use Rattle.pf_search.proofs.directed.cheapest_first.DijkstraReachable.step.Goals as goal
 
@@ -44,7 +47,7 @@ returns-in_err-item-clause-steps g c = λ edges start w.
     rw (← c.self.view_is, c.in-Some.ensures.same) (
       v,
       turn_refused eq g.C.Number.value edges start g.C.Number.fits s s c.from_residual.result c.in_err-item.field-0.0 c.from_residual.ensures.1
-          (inl c.in_err-item.ensures.refused) (left_at eq laws g.C.Number.value _ _ _ _ _ edges start s v c.self.invariant.0.tree c.in-Some.number z.0 z.1) (λ x cost. ((λ h. h), λ h. h)),
+          (inl c.in_err-item.ensures.refused) (left_at eq laws g.C.Number.value _ _ _ _ _ edges start s v c.self.invariant.0.tree c.in-Some.number z.0 z.1) (λ x cost. ((λ h. h), λ h. h)) refl (SameNodes-refl eq laws.refl i.discovery.nodes.keys),
     )
 
 pub turn-requires-clause-least : goal.turn-requires-clause-least
@@ -80,7 +83,8 @@ returns-in_err-turn-clause-steps g c = λ edges start w.
     rw (← c.self.view_is, e.kept.1, same) (
       goes_on eq laws g.C.Number.value _ _ _ _ _ edges start s v tree wide t e.grows explored search,
       turn_refused eq g.C.Number.value edges start g.C.Number.fits s t c.from_residual-in_err-turn.result c.in_err-turn.field-0.0 c.from_residual-in_err-turn.ensures.1
-          why (left_at eq laws g.C.Number.value _ _ _ _ _ edges start s v tree c.in-Some.number z.0 z.1) (no_more eq laws g.C.Number.value _ _ _ _ _ edges start s v tree wide t e.grows explored refl),
+          why (left_at eq laws g.C.Number.value _ _ _ _ _ edges start s v tree c.in-Some.number z.0 z.1) (no_more eq laws g.C.Number.value _ _ _ _ _ edges start s v tree wide t e.grows explored refl)
+          refl (Same-sym eq laws i.discovery.nodes.keys new.nodes.keys (kept_all eq laws i.discovery.nodes.keys new.nodes.keys e.grows e.kept.0)),
     )
 
 pub returns-clause-steps : goal.returns-clause-steps
