@@ -53,6 +53,6 @@ module _ {N : Type 0} (eq : N → N → Bool) (edges : N → List (N × ℤ)) (s
       pub rising : (g : List N × C) → Contains given g → value g.1 ≤ℤ value cost
       pub none_cheaper : (other : List N) (u : ℤ) → IsCleanPath other → WalkCosts eq edges other u → ¬ (WasGiven given other) → value cost ≤ℤ u
 
-    -- why a step may be refused: for want of memory, or since a path and one step more cost more than fits; before the first path, no node that passes is then cheaper than the end of that path, which is a cheapest one
+    -- why a step may be refused: for want of memory, or since a path and one step more cost more than fits; before the first path, also a cheapest path to some node and one step more, where no node that passes is cheaper than that node
     abbrev pub RefusedFor : (ℤ → Type 0) → List (List N × C) → PathError → Type 0
     RefusedFor fits given refusal = (refusal ≡ PathError.OutOfMemory) ⊎ ((refusal ≡ PathError.CostOverflow) × IsPathPastRange fits × (given ≡ [] → IsPastRange eq edges (start ∷ []) test fits))

@@ -225,8 +225,9 @@ where
 /// `successors` lists the edges of a node, each as the node that it leads to and its cost; where
 /// several edges lead to one node, a step costs what the cheapest of them costs. It must answer alike
 /// for equal nodes at every call, and no cost in reach of `start` may be negative; `success` must
-/// answer alike too. Both are asked of nodes in reach alone, in the first call of `next`, which goes
-/// through all of them that a clean path may meet: the reach must be finite.
+/// answer alike too. Both are asked of nodes in reach alone, in the first calls of `next`, until one of
+/// them is not refused: it goes through all nodes that a clean path may meet, so that the reach must be
+/// finite.
 ///
 /// # Errors
 ///
@@ -234,8 +235,8 @@ where
 ///
 /// - `Err(CostOverflow)` only where a path from `start`, in which no node stands twice and none passes
 ///   `success`, and one step more, by the cheapest of the parallel edges, cost more than `C` can hold;
-///   before the first path was given, only where that path is also a cheapest one to its end and no
-///   node that passes is cheaper;
+///   before the first path was given, also only where a cheapest path to some node and one step more
+///   cost more than `C` can hold and no node that passes is cheaper than that node, as for `dijkstra`;
 /// - `Err(OutOfMemory)` where a request for memory was refused.
 ///
 /// A refused step loses no path; the walk then answers `None` until `resume` is called, and tries the
