@@ -8,6 +8,10 @@ use Rattle.pf_routes.specs.declared.routes.commands.Command.{Command}
 use Rattle.pf_routes.specs.declared.routes.error.RouteError.{RouteError}
 use Rattle.pf_routes.specs.declared.routes.error.RouteError.TheVariants.{BadEdge, CostOverflow, OutOfMemory, ReadFailed, WriteFailed}
 
+-- of the input some text was read, or none, and no more than that is gone
+abbrev pub HasReadSome : Option (List ℕ) → Option (List ℕ) → Type 0
+HasReadSome old new = (text : List ℕ) × Consumes old new text
+
 -- the input was read to its end, and was this text
 pub record IsWhole (old new : Option (List ℕ)) (text : List ℕ) : Type 0 where
   pub read : Consumes old new text
@@ -51,6 +55,6 @@ pub record Broken (command : Command) (in-old in-new out-old out-new : Option (L
 abbrev pub Refused : RouteError → Command → (in-old in-new : Option (List ℕ)) (in-failed : Bool) (out-old out-new : Option (List ℕ)) (out-failed : Bool) → Type 0
 Refused (BadEdge line) command in-old in-new in-failed out-old out-new out-failed = HasBadLine in-old in-new line × Keeps out-old out-new
 Refused CostOverflow command in-old in-new in-failed out-old out-new out-failed = Overflowed command in-old in-new × Keeps out-old out-new
-Refused OutOfMemory command in-old in-new in-failed out-old out-new out-failed = Keeps out-old out-new
-Refused ReadFailed command in-old in-new in-failed out-old out-new out-failed = IsTrue in-failed × Keeps out-old out-new
+Refused OutOfMemory command in-old in-new in-failed out-old out-new out-failed = HasReadSome in-old in-new × Keeps out-old out-new
+Refused ReadFailed command in-old in-new in-failed out-old out-new out-failed = IsTrue in-failed × HasReadSome in-old in-new × Keeps out-old out-new
 Refused WriteFailed command in-old in-new in-failed out-old out-new out-failed = IsTrue out-failed × Broken command in-old in-new out-old out-new

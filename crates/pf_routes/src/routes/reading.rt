@@ -1,7 +1,8 @@
 //! Reading to the end.
 
-ghost use Rattle.std.specs.Prelude.{◌≡◌, ◌≢◌, ◌⊎◌, Err, IfOk, IfErr, OnOk, IsTrue};
+ghost use Rattle.std.specs.Prelude.{◌≡◌, ◌≢◌, ◌⊎◌, Err, IfOk, IfErr, OnOk, OnErr, IsTrue};
 ghost use Rattle.std.specs.Io.KnownBytes.{Consumes, IsAtEnd};
+ghost use Rattle.pf_routes.specs.Run.{HasReadSome};
 
 use crate::routes::error::RouteError;
 use crate::routes::source::Source;
@@ -16,6 +17,7 @@ pub(crate) fn read_whole<I: Source, A: Allocator + Copy>(
 ) -> Result<Vec<u8, A>, RouteError>
     ensures read { IfOk result (λ text. Consumes (I.left input.old) (I.left input.new) text.items) }
     ensures end { OnOk result (IsAtEnd (I.left input.new)) }
+    ensures some { OnErr result (HasReadSome (I.left input.old) (I.left input.new)) }
     ensures errors { IfErr result (λ e. (e ≡ RouteError.OutOfMemory) ⊎ ((e ≡ RouteError.ReadFailed) × IsTrue (I.failed input.new))) }
     ensures unfailed { result ≢ Err RouteError.ReadFailed → I.failed input.new ≡ I.failed input.old }
 {

@@ -41,7 +41,8 @@ fn answer_whole<I: Source, O: Sink, S: BuildHasher + Drop, A: Allocator + Copy>(
 /// Everything is read before anything is written, and no memory is taken after the first write. A
 /// failed read is told before a bad edge, that before a cost overflow, and that before a failed
 /// write; out of memory may be told at any point before the first write. With every error but
-/// `WriteFailed` nothing was written, with that one a beginning of an answer.
+/// `WriteFailed` nothing was written, with that one a beginning of an answer. Out of memory and a
+/// failed read leave what stands behind the bytes that were read; with all else the input is at its end.
 ///
 /// The first read that fails ends the run with `ReadFailed`, and the first write that fails with
 /// `WriteFailed`. With any other answer `failed()` of the reader, or of the writer, is what it was.
@@ -69,7 +70,7 @@ pub fn run<I: Read, O: Write, A: Allocator + Copy>(
 
 /// The same as `run`, where names are numbered by the given hasher.
 ///
-/// Its answer is the same whatever the hasher; only the time depends on it. With a seed that nobody can
+/// The contract is the same for every hasher; the time depends on it. With a seed that nobody can
 /// foresee, as that of `RandomState`, nobody can choose names that collide.
 pub fn run_with_hasher<I: Read, O: Write, S: BuildHasher + Drop, A: Allocator + Copy>(
     alloc: A,
