@@ -81,7 +81,7 @@ pub(crate) fn of_paths(gathered: Gathered<'_>, wanted: Lists<'_>) -> Answer {
 }
 
 /// Adds the paths that an iterator gives that is resumed after each refusal, and answers whether it
-/// came to its end and gave nothing between a refusal and `resume`.
+/// came to its end, for good, and gave nothing between a refusal and `resume`.
 fn add_resumed<'a>(
     solution: &mut AstarSolution<usize, Heap<'a>>,
     paths: &mut Vec<Vec<usize, Heap<'a>>>,
@@ -99,7 +99,11 @@ fn add_resumed<'a>(
                 }
                 solution.resume();
             }
-            None => return true,
+            None => {
+                let is_over = solution.next().is_none();
+                solution.resume();
+                return is_over && solution.next().is_none();
+            }
         }
     }
     false

@@ -3,10 +3,13 @@
 
 use edge_lists::nodes_after;
 use pf_base::PathError;
+use pf_base::utils::Tally;
 use pf_orders::directed::strongly_connected_components::{
     strongly_connected_component, strongly_connected_components, strongly_connected_components_from,
 };
-use pf_orders::directed::topological_sort::{topological_sort, topological_sort_into_groups};
+use pf_orders::directed::topological_sort::{
+    topological_sort, topological_sort_into_groups, topological_sort_tallied,
+};
 use refusing_allocator::Refusing;
 use std::alloc::Global;
 use std::cell::Cell;
@@ -35,6 +38,8 @@ enum Call<'a> {
     One(usize),
     /// An order of the nodes in reach of these ones.
     Order(&'a [usize]),
+    /// The same, with a tally of what is asked.
+    TalliedOrder(&'a [usize]),
     /// The groups of these nodes by depth.
     Groups(&'a [usize]),
 }
@@ -119,6 +124,8 @@ const ROWS: &[Row<'static>] = &[
     (STEPS, Call::Order(&[5, 1]), &[FROM_ONE], &[]),
     (STEPS, Call::Order(&[]), &[&[]], &[]),
     (&[], Call::Order(&[3, 3]), &[&[3]], &[]),
+    (STEPS, Call::TalliedOrder(&[5, 1]), &[FROM_ONE], &[]),
+    (SELF_EDGE, Call::TalliedOrder(&[0]), &[], &[3]),
     (SELF_EDGE, Call::Order(&[3]), &[], &[3]),
     (SELF_EDGE, Call::Order(&[0]), &[], &[3]),
     (BEHIND_CYCLE, Call::Order(&[4, 0]), &[], &[2, 3]),
@@ -258,6 +265,11 @@ fn is_answered(heap: Heap<'_>, row: &Row<'_>, asked: &Cell<u64>) -> Result<bool,
             is_component(strongly_connected_component(heap, &node, successors), lists)
         }
         Call::Order(roots) => is_order(topological_sort(heap, roots, successors), lists, left),
+        Call::TalliedOrder(roots) => is_order(
+            topological_sort_tallied(heap, roots, successors, &mut Tally::new()),
+            lists,
+            left,
+        ),
         Call::Groups(nodes) => are_groups(
             topological_sort_into_groups(heap, nodes, successors),
             lists,

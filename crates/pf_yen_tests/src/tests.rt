@@ -55,6 +55,9 @@ const ROADS: &[Edge] = &[
 /// The way from 0 to 1 over 2 costs more than fits.
 const DEAR: &[Edge] = &[(0, 1, 1), (0, 2, 200), (2, 1, 100)];
 
+/// The way from 0 to 1 over 3 costs more than fits, and leaves the second path.
+const DEAR_BEHIND: &[Edge] = &[(0, 1, 1), (0, 2, 2), (2, 1, 0), (2, 3, 200), (3, 1, 100)];
+
 /// A cycle that the goal 6 is not behind.
 const CYCLE: &[Edge] = &[
     (0, 1, 3),
@@ -94,7 +97,7 @@ const BETWEEN: &[Edge] = &[
 const EQUAL: &[Edge] = &[(0, 1, 1), (0, 2, 1), (1, 3, 1), (2, 3, 1)];
 
 /// The worked paths.
-static ROWS: [Row<'static>; 13] = [
+static ROWS: [Row<'static>; 14] = [
     Row {
         edges: FIVE_PATHS,
         goals: (5, 5),
@@ -236,6 +239,21 @@ static ROWS: [Row<'static>; 13] = [
         k: 2,
         gathered: Err(PathError::CostOverflow),
         paths: &[],
+    },
+    // The second path is given before what leaves it is searched.
+    Row {
+        edges: DEAR_BEHIND,
+        goals: (1, 1),
+        told: &[
+            Some(Ok(1)),
+            Some(Ok(2)),
+            Some(Err(PathError::CostOverflow)),
+            None,
+            Some(Err(PathError::CostOverflow)),
+        ],
+        k: 2,
+        gathered: Ok(2),
+        paths: &[(&[0, 1], 1), (&[0, 2, 1], 2)],
     },
 ];
 

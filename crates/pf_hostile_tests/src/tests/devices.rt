@@ -267,6 +267,55 @@ fn notes_flush(alloc: Global, kind: Option<ErrorKind>) -> bool {
     output.flush().is_err() == fails && output.failed() == fails
 }
 
+/// Whether `write_all` of three bytes answers and notes what a writer with room for so many does, which
+/// takes no more than fits.
+fn notes_write_all(alloc: Global, after: usize) -> bool {
+    let failing = Failing {
+        after,
+        kind: Some(ErrorKind::BrokenPipe),
+        recovers: false,
+    };
+    let mut output = Noted::new(Narrow {
+        taken: Vec::new(alloc),
+        failing,
+        has_failed: false,
+    });
+    let is_told = match output.write_all(b"abc") {
+        Ok(()) => after >= 3,
+        Err(error) => after < 3 && error.kind() == ErrorKind::BrokenPipe,
+    };
+    let is_noted = output.failed() == (after < 3);
+    let taken = output.into_inner().taken;
+    is_told && is_noted && taken.as_slice() == &b"abc"[..after.min(3)]
+}
+
+/// Whether `read_exact` of two bytes answers and notes what a reader that fails behind so many does.
+fn notes_read_exact(after: usize) -> bool {
+    let failing = Failing {
+        after,
+        kind: Some(ErrorKind::ConnectionReset),
+        recovers: false,
+    };
+    let mut input = Noted::new(Broken {
+        left: b"abc",
+        failing,
+        has_failed: false,
+    });
+    let mut buf = [0u8; 2];
+    let is_told = match input.read_exact(&mut buf) {
+        Ok(()) => after >= 2 && buf == *b"ab",
+        Err(error) => after < 2 && error.kind() == ErrorKind::ConnectionReset,
+    };
+    is_told && input.failed() == (after < 2)
+}
+
+#[test]
+fn whole_reads_and_writes_are_noted(rt: HostRuntime) {
+    for after in [0, 1, 2, 3, 4] {
+        assert!(rt; notes_write_all(rt.alloc(), after) && notes_read_exact(after), "{after}");
+    }
+}
+
 #[test]
 fn failed_flushes_and_short_reads_are_noted(rt: HostRuntime) {
     assert!(rt; notes_flush(rt.alloc(), None));

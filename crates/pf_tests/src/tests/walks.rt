@@ -3,6 +3,7 @@
 ghost use Rattle.std.specs.Prelude.{◌≡◌, ◌∷◌, []};
 
 use crate::walks::walked;
+use edge_lists::nodes_after;
 use pf_base::PathError;
 use pf_search::directed::bfs::{BfsReachable, bfs_reach};
 use pf_search::directed::dfs::{DfsReachable, dfs_reach};
@@ -139,12 +140,33 @@ fn gather<W: Resumable + Drop>(ample: Global, mut walk: W) -> Result<Gathered, F
     Err(Fail::new("the walk goes on"))
 }
 
-/// The walks from 3 where the nodes 1 to 5 follow each node.
+/// Edges from each number to the next one and to the fifth one behind it, up to 10.
+const BY_ONE_AND_FIVE: &[(u64, u64)] = &[
+    (0, 1),
+    (0, 5),
+    (1, 2),
+    (1, 6),
+    (2, 3),
+    (2, 7),
+    (3, 4),
+    (3, 8),
+    (4, 5),
+    (4, 9),
+    (5, 6),
+    (5, 10),
+    (6, 7),
+    (7, 8),
+    (8, 9),
+    (9, 10),
+];
+
+/// The walks from 3 where the nodes 1 to 5 follow each node, and one from 0.
 #[derive(Clone, Copy, Debug)]
 enum Walk {
     Breadth,
     Preorder,
     Cheapest,
+    PreorderByOneAndFive,
 }
 
 impl Walk {
@@ -175,6 +197,10 @@ impl Walk {
                     Ok(walk) => Ok(Some(gather(ample, walk)?)),
                     Err(_) => Ok(None),
                 }
+            }
+            Walk::PreorderByOneAndFive => {
+                let walk = dfs_reach(alloc, 0u64, |n: &u64| nodes_after(BY_ONE_AND_FIVE, *n))?;
+                Ok(Some(gather(ample, walk)?))
             }
         }
     }
@@ -210,6 +236,22 @@ impl Walk {
                 ],
                 &[0, 0, 0, 0, 0],
             ),
+            Walk::PreorderByOneAndFive => (
+                &[
+                    (0, None, 0),
+                    (1, None, 0),
+                    (2, None, 0),
+                    (3, None, 0),
+                    (4, None, 0),
+                    (5, None, 0),
+                    (6, None, 0),
+                    (7, None, 0),
+                    (8, None, 0),
+                    (9, None, 0),
+                    (10, None, 0),
+                ],
+                &[1, 2, 3, 4, 5, 5, 5, 4, 3, 2, 1, 0],
+            ),
         }
     }
 }
@@ -217,7 +259,12 @@ impl Walk {
 #[test]
 fn a_refused_step_loses_nothing(rt: HostRuntime) -> Result<(), Fail> {
     let ample = rt.alloc();
-    for walk in [Walk::Breadth, Walk::Preorder, Walk::Cheapest] {
+    for walk in [
+        Walk::Breadth,
+        Walk::Preorder,
+        Walk::Cheapest,
+        Walk::PreorderByOneAndFive,
+    ] {
         let (given, bounds) = walk.want();
         let mut refusals = 0u64;
         'growths: for growth in 0..100u64 {

@@ -28,3 +28,8 @@ pub topological_sort_into_groups-requires-clause-graph : goal.topological_sort_i
 topological_sort_into_groups-requires-clause-graph c =
     let edges = c.args.row.now.0.now in
     (nodes_after nat_eq edges, nodes_after_answered nat_eq_equiv edges (λ x w. search rules) (λ x r t w k. (search rules, λ it b. (search rules, search rules, search rules))))
+
+pub topological_sort_tallied-requires-clause-graph : goal.topological_sort_tallied-requires-clause-graph
+topological_sort_tallied-requires-clause-graph c =
+    let edges = c.args.row.now.0.now in
+    (nodes_after nat_eq edges, nodes_after_answered nat_eq_equiv edges (λ x w. search rules) (λ x r t w k. (search rules, λ it b. (search rules, search rules, search rules))))
