@@ -7,20 +7,26 @@ use Rattle.pf_matrix.specs.Equality.{IsCopyOf}
 use Rattle.pf_matrix.specs.Internal.Turning.{IsFlippedFor}
 use Rattle.pf_matrix.proofs.TableLemmas.{place_in}
 
-module _ {C : Type 0} (like : C → C → Type 0) where
-  -- what is arranged once more
-  pub arranged_then : (h w h' w' : ℕ) (f g k : ℕ → ℕ → ℕ × ℕ) (m n o : Table C) → IsArranged like h w f m n → IsArranged itself h' w' g n o
-      → ((r c : ℕ) → r < h' → c < w' → ((g r c).0 < h) × ((g r c).1 < w) × (f (g r c).0 (g r c).1 ≡ k r c)) → IsArranged like h' w' k m o
-  arranged_then h w h' w' f g k m n o a b in_range = record {
+-- What is arranged once more, where a value that stands to another as `first` says, and this one to a third as `second` says, stands to the third as `both` says.
+module _ {C : Type 0} (first second both : C → C → Type 0) (joined : (x y z : C) → first x y → second y z → both x z) where
+  pub arranged_by_both : (h w h' w' : ℕ) (f g k : ℕ → ℕ → ℕ × ℕ) (m n o : Table C) → IsArranged first h w f m n → IsArranged second h' w' g n o
+      → ((r c : ℕ) → r < h' → c < w' → ((g r c).0 < h) × ((g r c).1 < w) × (f (g r c).0 (g r c).1 ≡ k r c)) → IsArranged both h' w' k m o
+  arranged_by_both h w h' w' f g k m n o a b in_range = record {
     rows = b.rows;
     columns = b.columns;
     values = λ r c d p q.
         let at = in_range r c p q in
-        let step : like (value_at m (k r c).0 (k r c).1 d) (value_at n (g r c).0 (g r c).1 d) =
-        subst (λ (x : ℕ × ℕ). like (value_at m x.0 x.1 d) (value_at n (g r c).0 (g r c).1 d)) at.2 (a.values (g r c).0 (g r c).1 d at.0 at.1) in
-        subst (λ y. like (value_at m (k r c).0 (k r c).1 d) y) (sym (b.values r c d p q)) step;
+        let step : first (value_at m (k r c).0 (k r c).1 d) (value_at n (g r c).0 (g r c).1 d) =
+        subst (λ (x : ℕ × ℕ). first (value_at m x.0 x.1 d) (value_at n (g r c).0 (g r c).1 d)) at.2 (a.values (g r c).0 (g r c).1 d at.0 at.1) in
+        joined (value_at m (k r c).0 (k r c).1 d) (value_at n (g r c).0 (g r c).1 d) (value_at o r c d) step (b.values r c d p q);
     matrix = b.matrix;
   }
+
+module _ {C : Type 0} (like : C → C → Type 0) where
+  -- what is arranged once more in place
+  pub arranged_then : (h w h' w' : ℕ) (f g k : ℕ → ℕ → ℕ × ℕ) (m n o : Table C) → IsArranged like h w f m n → IsArranged itself h' w' g n o
+      → ((r c : ℕ) → r < h' → c < w' → ((g r c).0 < h) × ((g r c).1 < w) × (f (g r c).0 (g r c).1 ≡ k r c)) → IsArranged like h' w' k m o
+  arranged_then = arranged_by_both like itself like (λ x y z a e. subst (λ v. like x v) (sym e) a)
 
   -- the same sizes by other names
   pub arranged_sizes : (h w h' w' : ℕ) (f : ℕ → ℕ → ℕ × ℕ) (m n : Table C) → h ≡ h' → w ≡ w' → IsArranged like h w f m n → IsArranged like h' w' f m n

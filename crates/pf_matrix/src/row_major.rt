@@ -1,6 +1,6 @@
 //! Values in row-major order, the first row first: what is done to them in place, and clones of them.
 
-ghost use Rattle.std.specs.Prelude.{◌≡◌, ℕ, ◌+◌, ◌-◌, ◌*◌, ◌^◌, ◌<◌, ◌≤◌, ◌≢◌, length, slice_index_or, vec_len, IfOk};
+ghost use Rattle.std.specs.Prelude.{◌≡◌, ℕ, ◌+◌, ◌-◌, ◌*◌, ◌^◌, ◌<◌, ◌≤◌, ◌≢◌, length, slice_index_or, vec_len, IfOk, IsOk};
 ghost use Rattle.pf_matrix.specs.Arrange.{IsCovered};
 
 use std::alloc::{AllocError, Allocator};
@@ -84,7 +84,8 @@ fn write_at<C: Copy>(values: &mut [C], begin: usize, part: &[C])
     values[begin..begin + part.len()].copy_from_slice(part);
 }
 
-/// Clones of the values in `size.0` rows and `size.1` columns from the position `from` on.
+/// Clones of the values in `size.0` rows and `size.1` columns from the position `from` on. No rows are
+/// never refused.
 pub(crate) fn cloned_part<C: Clone + Drop, A: Allocator>(
     alloc: A,
     all: &[C],
@@ -98,6 +99,7 @@ pub(crate) fn cloned_part<C: Clone + Drop, A: Allocator>(
     requires fits { size.0 * size.1 < 2 ^ 64 }
     ensures len { IfOk result (λ v. vec_len v ≡ size.0 * size.1) }
     ensures values { IfOk result (λ v. (r c : ℕ) (d : C) → r < size.0 → c < size.1 → C.is_clone (slice_index_or all.now ((from.0 + r) * columns + (from.1 + c)) d) (slice_index_or v.items (r * size.1 + c) d)) }
+    ensures no_rows { size.0 ≡ 0 → IsOk result }
 {
     let mut values = Vec::with_capacity(alloc, size.0 * size.1)?;
     for row in 0..size.0 {

@@ -3,7 +3,7 @@
 //! A copy has clones of the values, and takes its memory from the allocator of the matrix, which stays
 //! as it was.
 
-ghost use Rattle.std.specs.Prelude.{◌≡◌, ◌⊎◌, ◌↔◌, ◌+◌, ◌<◌, ◌≤◌, IfOk, IfErr, IsErrOf};
+ghost use Rattle.std.specs.Prelude.{◌≡◌, ◌⊎◌, ◌↔◌, ◌+◌, ◌<◌, ◌≤◌, IfOk, IfErr, IsErrOf, IsOk};
 ghost use Rattle.pf_matrix.specs.Arrange.{IsArranged, IsOverwritten, IsPart, IsWithin};
 ghost use Rattle.pf_matrix.specs.declared.error.MatrixFormatError.TheVariants.{EmptyRow, WrongIndex, OutOfMemory};
 
@@ -17,7 +17,7 @@ impl<C: Clone + Drop, A: Allocator + Copy> Matrix<C, A> {
     /// The part of the matrix in these rows and columns.
     ///
     /// `WrongIndex` where a range is reversed or ends past the matrix; else `EmptyRow` where there
-    /// are rows without columns. No rows with columns give an empty matrix.
+    /// are rows without columns. No rows inside give an empty matrix, and are never refused.
     pub fn slice(
         &self,
         rows: Range<usize>,
@@ -26,6 +26,7 @@ impl<C: Clone + Drop, A: Allocator + Copy> Matrix<C, A> {
         ensures part { IfOk result (IsPart C.is_clone rows columns self.now) }
         ensures wrong_index { IsErrOf result WrongIndex ↔ ¬ (IsWithin self.now rows columns) }
         ensures empty_row { IsErrOf result EmptyRow ↔ (IsWithin self.now rows columns × (rows.start < rows.end) × (columns.start ≡ columns.end)) }
+        ensures no_rows { IsWithin self.now rows columns → rows.start ≡ rows.end → IsOk result }
         ensures refused { IfErr result (λ e. (e ≡ WrongIndex) ⊎ (e ≡ EmptyRow) ⊎ (e ≡ OutOfMemory)) }
     {
         if rows.start > rows.end
@@ -53,6 +54,7 @@ impl<C: Clone + Drop, A: Allocator + Copy> Matrix<C, A> {
         requires columns { from.1 + width ≤ self.now.columns }
         requires filled { 0 < height → 0 < width }
         ensures part { IfOk result (IsArranged C.is_clone height width (λ r c. (from.0 + r, from.1 + c)) self.now) }
+        ensures no_rows { height ≡ 0 → IsOk result }
         ensures refused { IfErr result (λ e. e ≡ OutOfMemory) }
     {
         let alloc = *self.values.allocator();
