@@ -10,8 +10,9 @@ use crate::grid::Grid;
 use std::alloc::Allocator;
 
 impl<A: Allocator + Copy> Grid<A> {
-    /// The smallest grid that reaches all of the positions given, which are its vertices: a slice of
-    /// positions, or any other iterable of them that ends. Steps are not diagonal.
+    /// The smallest grid that reaches all of the positions given, which are its vertices: an array or a
+    /// vector of positions, `slice.iter().copied()`, or any other iterable of them that ends. Steps are
+    /// not diagonal.
     ///
     /// # Errors
     ///

@@ -87,8 +87,8 @@ impl<A: Allocator> Grid<A> {
         }
     }
 
-    /// The position inside that is as many whole widths and whole heights away: x is taken by the
-    /// width, and y by the height.
+    /// The position inside whose x is the remainder of x by the width, and whose y is that of y by the
+    /// height: the remainders that are not negative.
     pub fn constrain(&self, position: (isize, isize)) -> (usize, usize)
         requires width { 0 < self.now.width }
         requires height { 0 < self.now.height }
