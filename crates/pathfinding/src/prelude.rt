@@ -77,6 +77,7 @@ pub use pf_matrix::Neighbours;
 pub use pf_matrix::RowIterator;
 pub use pf_matrix::directions;
 pub use pf_matrix::from_slices;
+pub use pf_matrix::laws::equal_copies;
 pub use pf_matrix::laws::equal_hash_alike;
 pub use pf_matrix::laws::four_quarter_turns;
 pub use pf_matrix::laws::turns_undone;

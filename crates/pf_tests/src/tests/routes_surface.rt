@@ -14,8 +14,8 @@ mod paths {
         DIRECTIONS_4, DIRECTIONS_8, E, N, NE, NW, S, SE, SW, W,
     };
     pub use pathfinding::matrix::laws::{
-        equal_hash_alike, four_quarter_turns, turns_undone, two_flips_lr, two_flips_ud,
-        two_transpositions,
+        equal_copies, equal_hash_alike, four_quarter_turns, turns_undone, two_flips_lr,
+        two_flips_ud, two_transpositions,
     };
     pub use pathfinding::matrix::{
         ColumnIterator, Items, ItemsMut, Keys, Matrix, MatrixFormatError, Neighbours, RowIterator,
@@ -151,6 +151,7 @@ mod in_prelude {
     pub use pathfinding::prelude::dijkstra_tallied;
     pub use pathfinding::prelude::directions::DIRECTIONS_4;
     pub use pathfinding::prelude::directions::DIRECTIONS_8;
+    pub use pathfinding::prelude::equal_copies;
     pub use pathfinding::prelude::equal_hash_alike;
     pub use pathfinding::prelude::fewest_edges_have_one_length;
     pub use pathfinding::prelude::fewest_edges_of_cheapest;
