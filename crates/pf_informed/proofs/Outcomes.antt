@@ -1,6 +1,6 @@
 -- What a call hands on of a refusal.
 use Rattle.std.proofs.Common.{◌≡◌, ◌∙◌, ℕ, sym, subst, refl, arith}
-use Rattle.std.specs.Prelude.{Result, Ok, Err, Option, Some, None, IfOk, OnOk, IfErr, IsErrAnd, MatchOption}
+use Rattle.std.specs.Prelude.{Result, Ok, Err, Option, Some, None, IfOk, OnOk, OnErr, IfErr, IsErrAnd, MatchOption}
 use Rattle.pf_base.specs.declared.error.PathError.{PathError}
 use Rattle.pf_base.specs.declared.error.PathError.TheVariants.{OutOfMemory, CostOverflow}
 use Rattle.pf_core.specs.Numbered.{Grows}
@@ -28,6 +28,10 @@ module _ {T E : Type 0} where
   pub if_refused : (P : T → Type 0) (r : Result T E) (e : E) → IsErrAnd r (λ x. x ≡ e) → IfOk r P
   if_refused P (Ok x) e h = absurd h
   if_refused P (Err x) e h = tt
+
+  pub on_error : (P : Type 0) (r : Result T E) → P → OnErr r P
+  on_error P (Ok x) p = tt
+  on_error P (Err e) p = p
 
   pub ok_is_no_error : (r : Result T E) (x : T) (e : E) → r ≡ Ok x → r ≡ Err e → ⊥
   ok_is_no_error r x e p q =

@@ -10,7 +10,7 @@ use Rattle.pf_core.specs.declared.depth_first.Branch.{Branch}
 use Rattle.pf_core.specs.DepthFirst.{branches_at}
 use Rattle.pf_core.proofs.ListLemmas.{bool_dec, none_in, get_set, take_get, get_take, reverse-cons, Contains-head, Contains-tail, Contains-cases}
 use Rattle.pf_core.proofs.PathLemmas.{HasNode-append_cases, NoRepeats-append}
-use Rattle.pf_informed.specs.Internal.Ways.{each_of, is_in, ways, ways_to, tries, ways_left, tries_left, IsRising, AreWays, IsWhole}
+use Rattle.pf_informed.specs.Internal.Ways.{each_of, is_in, ways, ways_to, tries, ways_left, tries_left, nothing_waits, IsRising, AreWays, IsWhole}
 use Rattle.pf_informed.proofs.PathUp.{few_below, HasNode-reverse}
 use Rattle.pf_informed.proofs.EstimateLemmas.{get_pushed}
 
@@ -31,6 +31,15 @@ sum_by-branches f h d same (p ∷ ps) =
     let left : sum_by f (b ∷ branches_at d ps) ≡ f b + sum_by f (branches_at d ps) = sum_by-cons f b (branches_at d ps) in
     let right : sum_by h (p ∷ ps) ≡ h p + sum_by h ps = sum_by-cons h p ps in
     omega (arith, left, right, same p, sum_by-branches f h d same ps)
+
+-- ---- branches that wait
+pub some_wait : (rest : List Branch) (b : Branch) → rest ++ b ∷ [] ≢ []
+some_wait [] b h = cc
+some_wait (c ∷ rest) b h = cc
+
+pub not_idle : (waiting : List Branch) → waiting ≢ [] → nothing_waits waiting ≡ false
+not_idle [] h = absurd (h refl)
+not_idle (b ∷ bs) h = refl
 
 -- ---- depths that do not fall
 pub rising_last : (low top : ℕ) (bs : List Branch) (b : Branch) → IsRising low top (bs ++ b ∷ []) → IsRising low b.depth bs × (b.depth ≤ top) × (low ≤ b.depth)

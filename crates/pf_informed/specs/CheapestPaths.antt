@@ -45,17 +45,18 @@ module _ {N : Type 0} (eq : N → N → Bool) (edges : N → List (N × ℤ)) (s
 abbrev pub lists_in : {N Z : Type 0} → List (Vec N Z) → List (List N)
 lists_in {N} {Z} vectors = map (λ (v : Vec N Z). v.items) vectors
 
--- what a caller sees of an iterator over paths: the paths still to come, in order, and whether the last step was refused
+-- what a caller sees of an iterator over paths: the paths still to come, in order, whether the last step was refused, and whether the iterator is at its end
 pub record PathsToCome (N : Type 0) : Type 0 where
   pub left : List (List N)
   pub refused : Bool
+  pub ended : Bool
 
 abbrev pub paths_to_come_code : {N : Type 0} → Coded N → Coded (PathsToCome N)
-paths_to_come_code {N} n = code_by (List (List N) × Bool) (coded× (coded_list (coded_list n)) coded_bool) (λ s. (s.left, s.refused)) (λ p. record { left = p.0; refused = p.1 }) (λ _. refl)
+paths_to_come_code {N} n = code_by (List (List N) × (Bool × Bool)) (coded× (coded_list (coded_list n)) (coded× coded_bool coded_bool)) (λ s. (s.left, (s.refused, s.ended))) (λ p. record { left = p.0; refused = p.1.0; ended = p.1.1 }) (λ _. refl)
 
--- as many paths are to come, place by place of clones of the nodes, and the last step was refused in both or in neither
+-- as many paths are to come, place by place of clones of the nodes; the last step was refused in both or in neither, and both are at their ends or neither is
 abbrev pub IsPathsClone : {N : Type 0} → (N → N → Type 0) → PathsToCome N → PathsToCome N → Type 0
-IsPathsClone is_clone s t = AllZip (AllZip is_clone) s.left t.left × (t.refused ≡ s.refused)
+IsPathsClone is_clone s t = AllZip (AllZip is_clone) s.left t.left × (t.refused ≡ s.refused) × (t.ended ≡ s.ended)
 
 -- at most so many items are to come: the paths, and a refusal
 abbrev pub most_items : {N : Type 0} → PathsToCome N → ℕ
@@ -64,9 +65,10 @@ most_items s = if s.refused then length s.left else suc (length s.left)
 -- What a call of `next` gives, and how it leaves the iterator.
 module _ {N Z : Type 0} (eq : N → N → Bool) where
   -- a path: that which came next, of the same nodes, and then the others are to come
-  -- no path: the last step was refused, or no path is to come; the iterator stays as it was
+  -- no path: the last step was refused, and the iterator stays as it was; or no path is to come, and the iterator is at its end from then on
   -- a refusal for want of memory: the same paths are to come
+  -- At its end the iterator gives neither a path nor a refusal.
   abbrev pub PathsStep : PathsToCome N → Option (Result (Vec N Z) PathError) → PathsToCome N → Type 0
-  PathsStep s (Some (Ok nodes)) t = (s.refused ≡ false) × (t.refused ≡ false) × ((path : List N) × (s.left ≡ path ∷ t.left) × SameNodes eq nodes.items path)
-  PathsStep s None t = ((s.refused ≡ true) ⊎ (s.left ≡ [])) × (t ≡ s)
-  PathsStep s (Some (Err refusal)) t = (refusal ≡ PathError.OutOfMemory) × (s.refused ≡ false) × (t.refused ≡ true) × (t.left ≡ s.left)
+  PathsStep s (Some (Ok nodes)) t = (s.refused ≡ false) × (s.ended ≡ false) × (t.refused ≡ false) × ((path : List N) × (s.left ≡ path ∷ t.left) × SameNodes eq nodes.items path)
+  PathsStep s None t = ((s.refused ≡ true) × (t ≡ s)) ⊎ ((s.left ≡ []) × (t ≡ record s { ended = true }))
+  PathsStep s (Some (Err refusal)) t = (refusal ≡ PathError.OutOfMemory) × (s.refused ≡ false) × (s.ended ≡ false) × (t ≡ record s { refused = true })

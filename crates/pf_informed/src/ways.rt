@@ -1,6 +1,6 @@
 //! Ways back from goals to number 0, one at a time.
 
-ghost use Rattle.std.specs.Prelude.{◌≡◌, ◌<◌, ◌≤◌, ◌+◌, ◌-◌, ◌++◌, ◌∷◌, [], ℕ, List, Some, OnOk, OnErr, IfOk, IfErr, MatchBool, MatchOption, Contains, length, nat_eq, reverse, slice_get, slice_set, take};
+ghost use Rattle.std.specs.Prelude.{◌≡◌, ◌≢◌, ◌<◌, ◌≤◌, ◌+◌, ◌-◌, ◌++◌, ◌∷◌, [], ℕ, List, Some, Ok, false, OnOk, OnErr, IfOk, IfErr, MatchBool, MatchOption, Contains, length, nat_eq, reverse, slice_get, slice_set, take};
 ghost use Rattle.pf_base.specs.Walks.{HasNode};
 ghost use Rattle.pf_core.specs.declared.depth_first.Branch.{Branch};
 ghost use Rattle.pf_core.specs.DepthFirst.{branches_at};
@@ -152,6 +152,8 @@ impl<A: Allocator + Copy> Ways<A> {
         ensures whole { IfOk result (λ found. MatchBool found
             (IsWhole (before_in self.old.before.items) (length self.old.before.items) self.new.way.items self.new.waiting.items)
             (self.new.waiting.items ≡ [])) }
+        ensures idle { self.old.waiting.items ≡ [] → result ≡ Ok false }
+        ensures waits { OnErr result (self.new.waiting.items ≢ []) }
         ensures refused { IfErr result (λ e. e ≡ PathError.OutOfMemory) }
     {
         'branches: while let Some(branch) = self.last_branch() {

@@ -1,5 +1,5 @@
 -- Ways back from goals to number 0, over the numbers before each number.
-use Rattle.std.specs.Prelude.{◌≡◌, ◌<◌, ◌≤◌, ◌-◌, ◌++◌, ℕ, zero, suc, Bool, if◌then◌else◌, List, [], ◌∷◌, Option, Some, None, Result, Ok, Err, Vec, Contains, length, map, nat_eq, reverse, slice_get, take, ⊤}
+use Rattle.std.specs.Prelude.{◌≡◌, ◌<◌, ◌≤◌, ◌-◌, ◌++◌, ℕ, zero, suc, Bool, true, false, if◌then◌else◌, List, [], ◌∷◌, Option, Some, None, Result, Ok, Err, Vec, Contains, length, map, nat_eq, reverse, slice_get, take, ⊤}
 use Rattle.std.specs.List.{AllZip, list_any, sum_by}
 use Rattle.pf_base.specs.declared.error.PathError.{PathError}
 use Rattle.pf_base.specs.Answers.{SameNodes}
@@ -50,6 +50,11 @@ module _ (before : ℕ → List ℕ) where
   abbrev pub tries_left : ℕ → List Branch → ℕ
   tries_left n waiting = sum_by (λ (b : Branch). tries (n - b.depth) b.number) waiting
 
+-- no branch waits
+abbrev pub nothing_waits : List Branch → Bool
+nothing_waits [] = true
+nothing_waits (b ∷ bs) = false
+
 -- the depths of the branches do not fall, and lie between these
 abbrev pub IsRising : ℕ → ℕ → List Branch → Type 0
 IsRising low top [] = ⊤
@@ -85,9 +90,9 @@ paths_of keys ks = map (nodes_of keys) ks
 -- what a step of an iterator that was not refused before gives, and how it leaves it: a path, no path, or a refusal
 module _ {N Z : Type 0} (eq : N → N → Bool) where
   abbrev pub PathsTurn : PathsToCome N → Result (Option (Vec N Z)) PathError → PathsToCome N → Type 0
-  PathsTurn s (Ok (Some nodes)) t = (path : List N) × (s.left ≡ path ∷ t.left) × SameNodes eq nodes.items path
-  PathsTurn s (Ok None) t = (s.left ≡ []) × (t.left ≡ s.left)
-  PathsTurn s (Err refusal) t = t.left ≡ s.left
+  PathsTurn s (Ok (Some nodes)) t = (s.ended ≡ false) × ((path : List N) × (s.left ≡ path ∷ t.left) × SameNodes eq nodes.items path)
+  PathsTurn s (Ok None) t = (s.left ≡ []) × (t.left ≡ s.left) × (t.ended ≡ true)
+  PathsTurn s (Err refusal) t = (t.left ≡ s.left) × (s.ended ≡ false) × (t.ended ≡ false)
 
   -- these vectors hold the nodes of these paths, in turn
   abbrev pub AreGathered : List (Vec N Z) → List (List N) → Type 0

@@ -37,19 +37,20 @@ pub struct AstarSolution<N: Eq + Hash, A: Allocator = Global> {
 impl<N: Eq + Hash, A: Allocator> Model for AstarSolution<N, A> {
     ghost use Rattle.std.specs.Prelude.{◌≤◌, length};
     ghost use Rattle.pf_informed.specs.CheapestPaths.{PathsToCome, paths_to_come_code};
-    ghost use Rattle.pf_informed.specs.Internal.Ways.{AreWays, before_in, paths_of, ways_left};
+    ghost use Rattle.pf_informed.specs.Internal.Ways.{AreWays, before_in, nothing_waits, paths_of, ways_left};
 
     ghost Value = { PathsToCome N };
 
     ghost coded = { paths_to_come_code N.code };
 
-    ghost view = { λ s. record { left = paths_of s.nodes.keys (ways_left (before_in s.ways.before.items) (length s.ways.before.items) s.ways.way.items s.ways.waiting.items); refused = s.refused } };
+    ghost view = { λ s. record { left = paths_of s.nodes.keys (ways_left (before_in s.ways.before.items) (length s.ways.before.items) s.ways.way.items s.ways.waiting.items); refused = s.refused; ended = nothing_waits s.ways.waiting.items } };
 
     ghost invariant = { λ s. AreWays (length s.ways.before.items) (before_in s.ways.before.items) s.ways.way.items s.ways.places.items s.ways.waiting.items × (length s.ways.before.items ≤ length s.nodes.keys) };
 }
 
-/// A clone has the paths to come that the original has, in the same order, of clones of the nodes, and
-/// was refused where the original was. The only error is a refused request for memory.
+/// A clone has the paths to come that the original has, in the same order, of clones of the nodes; it
+/// was refused where the original was, and is at its end where the original is. The only error is a
+/// refused request for memory.
 impl<N, A> Clone for AstarSolution<N, A>
 where
     N: Eq + Hash + Clone + Drop,
@@ -240,8 +241,10 @@ where
 /// - `CostOverflow`: only where the cost of some path from `start`, in which no node stands twice, and
 ///   the estimate of its last node do not fit `C` together, and no walk to a node that passes has a
 ///   cost that fits.
-/// - `OutOfMemory`: a request for memory was refused. A step of the iterator that is refused leaves it
-///   as it was; it then answers `None` until `resume` is called, and tries the same step again.
+/// - `OutOfMemory`: a request for memory was refused. A step of the iterator that is refused leaves the
+///   paths to come as they were; the iterator then answers `None` until `resume` is called, and tries
+///   the same step again. Where no path is left, `None` comes for good, though with cycles that cost
+///   nothing a step before the first such `None` can be refused still.
 ///
 /// The algorithm is A* (P. E. Hart, N. J. Nilsson, B. Raphael, "A formal basis for the heuristic
 /// determination of minimum cost paths", 1968), which goes on until all that waits costs more than

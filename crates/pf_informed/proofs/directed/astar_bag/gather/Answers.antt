@@ -9,9 +9,9 @@ paths-preserved g c =
     let s = rw c.in_ok-path.was at c.in-Some.ensures.steps in
     let i = c.paths.invariant in
     let given = i.gathered in
-    let next = s.2 in
+    let next = s.3 in
     record {
-      ready = s.1;
+      ready = s.2;
       gathered = (
         given.0 ++ next.0 ∷ [],
         given.1 ∙ ap (λ xs. given.0 ++ xs) next.1 ∙ sym (append_assoc given.0 (next.0 ∷ []) c.next.new.self.left),
@@ -23,7 +23,7 @@ pub returns-clause-all : goal.returns-clause-all
 returns-clause-all g c =
     let i = c.paths.invariant in
     let given = i.gathered in
-    elim c.in_default.ensures.steps.0 as (λ _. AreGathered g.N.PartialEq.eq c.paths.paths.items c.args.solution.left) [
-      | inl refused ↦ absurd (true≢false (sym refused ∙ i.ready))
-      | inr none ↦ subst (AreGathered g.N.PartialEq.eq c.paths.paths.items) (sym (given.1 ∙ ap (λ xs. given.0 ++ xs) none ∙ append-nil given.0)) given.2
+    elim c.in_default.ensures.steps as (λ _. AreGathered g.N.PartialEq.eq c.paths.paths.items c.args.solution.left) [
+      | inl refused ↦ absurd (true≢false (sym refused.0 ∙ i.ready))
+      | inr none ↦ subst (AreGathered g.N.PartialEq.eq c.paths.paths.items) (sym (given.1 ∙ ap (λ xs. given.0 ++ xs) none.0 ∙ append-nil given.0)) given.2
     ]

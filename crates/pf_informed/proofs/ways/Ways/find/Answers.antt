@@ -1,5 +1,6 @@
 use Rattle.std.proofs.Common.{rules, ◌≡◌, ◌≢◌, ◌∙◌, sym, ap, arith, length}
-use Rattle.pf_informed.proofs.WaysLemmas.{rising_last, branch_inside, left_dropped, kept_dropped, fewer_dropped, few, kept_same, left_same, whole, kept_opened, left_opened, fewer_opened}
+use Rattle.pf_informed.proofs.WaysLemmas.{some_wait, rising_last, branch_inside, left_dropped, kept_dropped, fewer_dropped, few, kept_same, left_same, whole, kept_opened, left_opened, fewer_opened}
+use Rattle.pf_informed.proofs.Outcomes.{on_error}
 use Rattle.pf_informed.proofs.ways.Ways.find.Goals as goal
 
 pub is_on_way-requires-clause-inside : goal.is_on_way-requires-clause-inside
@@ -32,6 +33,7 @@ branches-preserved-then-is_on_way g c =
     let d = c.drop_branch.ensures in
     let on = sym c.is_on_way.ensures ∙ c.if-is_on_way.true in
     record {
+      some = λ none. absurd (some_wait s.0 c.in-Some.branch (sym s.1 ∙ i.some none));
       before = d.before ∙ i.before;
       kept = rw (d.way, d.places, d.waiting s.0 c.in-Some.branch s.1) (kept_dropped _ _ _ _ s.0 c.in-Some.branch a);
       left = rw (d.way, d.waiting s.0 c.in-Some.branch s.1) (left_dropped _ _ _ _ s.0 c.in-Some.branch a on ∙ left);
@@ -113,6 +115,7 @@ branches-preserved g c =
     let on : c.in-Some.branch.number ≢ 0 = search rules in
     let w = rw (e.before, i.before) at (o.waiting s.0 (e.waiting ∙ s.1)) in
     record {
+      some = λ none. absurd (some_wait s.0 c.in-Some.branch (sym s.1 ∙ i.some none));
       before = o.before ∙ e.before ∙ i.before;
       kept = rw (o.way, o.places, e.way, e.places, w) (kept_opened _ _ _ _ s.0 c.in-Some.branch a off on);
       left = rw (o.way, e.way, w) (left_opened _ _ _ _ s.0 c.in-Some.branch a off on ∙ left);
@@ -138,3 +141,33 @@ returns-in_err-open-clause-left g c =
     let o = c.in_err-open.ensures in
     let off = sym c.is_on_way.ensures ∙ c.if-is_on_way.false in
     rw (o.way, o.stays, e.way, e.waiting, s.1) (left_same _ _ _ _ s.0 c.in-Some.branch a off ∙ left)
+
+pub returns-then-branch-eq0-clause-idle : goal.returns-then-branch-eq0-clause-idle
+returns-then-branch-eq0-clause-idle g c = λ none.
+    let i = c.branches.invariant in
+    let s = c.in-Some.ensures in
+    absurd (some_wait s.0 c.in-Some.branch (sym s.1 ∙ i.some none))
+
+pub returns-in_err-enter-clause-idle : goal.returns-in_err-enter-clause-idle
+returns-in_err-enter-clause-idle g c = λ none.
+    let i = c.branches.invariant in
+    let s = c.in-Some.ensures in
+    absurd (some_wait s.0 c.in-Some.branch (sym s.1 ∙ i.some none))
+
+pub returns-in_err-enter-clause-waits : goal.returns-in_err-enter-clause-waits
+returns-in_err-enter-clause-waits g c =
+    let s = c.in-Some.ensures in
+    let e = c.in_err-enter.ensures in
+    on_error _ c.from_residual.result (λ none. some_wait s.0 c.in-Some.branch (sym (e.waiting ∙ s.1) ∙ none))
+
+pub returns-in_err-open-clause-idle : goal.returns-in_err-open-clause-idle
+returns-in_err-open-clause-idle g c = λ none.
+    let i = c.branches.invariant in
+    let s = c.in-Some.ensures in
+    absurd (some_wait s.0 c.in-Some.branch (sym s.1 ∙ i.some none))
+
+pub returns-in_err-open-clause-waits : goal.returns-in_err-open-clause-waits
+returns-in_err-open-clause-waits g c =
+    let s = c.in-Some.ensures in
+    let same = c.in_err-open.ensures.stays ∙ c.in_ok-enter.ensures.waiting ∙ s.1 in
+    on_error _ c.from_residual-in_err-open.result (λ none. some_wait s.0 c.in-Some.branch (sym same ∙ none))

@@ -1,10 +1,11 @@
 use Rattle.std.proofs.Common.{◌<◌, ◌∙◌, ap, sym, arith, length, nat_eq, ℕ}
 use Rattle.std.specs.Prelude.{reverse}
 use Rattle.pf_base.specs.Walks.{HasNode}
-use Rattle.pf_informed.specs.Internal.Ways.{nodes_of, paths_of}
+use Rattle.pf_informed.specs.Internal.Ways.{nodes_of, nothing_waits, paths_of}
 use Rattle.pf_informed.proofs.BagLemmas.{way_nodes}
 use Rattle.pf_informed.proofs.WayLaws.{HasNode_of}
-use Rattle.pf_informed.proofs.WaysLemmas.{kept_dropped}
+use Rattle.pf_informed.proofs.SolutionLemmas.{turn_refused}
+use Rattle.pf_informed.proofs.WaysLemmas.{kept_dropped, not_idle, some_wait}
 use Rattle.pf_informed.proofs.directed.astar_bag.AstarSolution.step.Goals as goal
 
 pub clones_at-requires-clause-inside : goal.clones_at-requires-clause-inside
@@ -34,9 +35,12 @@ returns-clause-turn g c =
     let way = c.find.new.self.way.items in
     let inside : (j : ℕ) → HasNode nat_eq way j → j < length keys = λ j h. let kept = f.kept in omega (arith, kept.inside j h, c.self.invariant.1) in
     rw (← c.self.view_is, same, d.way, w) (
-      nodes_of keys (reverse way),
-      ap (paths_of keys) (sym f.left ∙ s.3),
-      rw c.reverse.ensures.items (way_nodes g.N.PartialEq.eq g.met.N.Eq.laws keys way c.in_ok-path.path.items inside (rw (c.as_slice.ensures.keys, c.deref.ensures.value) at c.in_ok-path.ensures.nodes)),
+      not_idle _ (λ none. (let both = rw c.if-not-branch.false at f.idle none in cc)),
+      (
+        nodes_of keys (reverse way),
+        ap (paths_of keys) (sym f.left ∙ s.3),
+        rw c.reverse.ensures.items (way_nodes g.N.PartialEq.eq g.met.N.Eq.laws keys way c.in_ok-path.path.items inside (rw (c.as_slice.ensures.keys, c.deref.ensures.value) at c.in_ok-path.ensures.nodes)),
+      ),
     )
 
 pub find-requires : goal.find-requires
@@ -50,3 +54,23 @@ invariant_of-self-then-not-branch g c = let f = c.in_ok-find.ensures in (rw f.be
 
 pub invariant_of-self-in_err-path : goal.invariant_of-self-in_err-path
 invariant_of-self-in_err-path g c = let f = c.in_ok-find.ensures in (rw f.before f.kept, omega (arith, ap length f.before, c.self.invariant.1))
+
+pub returns-then-not-branch-clause-turn : goal.returns-then-not-branch-clause-turn
+returns-then-not-branch-clause-turn g c =
+    let f = c.in_ok-find.ensures in
+    let none = rw c.if-not-branch.true at f.whole in
+    let keys = c.self.inside.nodes.keys in
+    rw (← c.self.view_is, f.before) (ap (paths_of keys) (sym (rw none at f.left)), ap (paths_of keys) f.left, ap nothing_waits none)
+
+pub returns-in_err-find-clause-turn : goal.returns-in_err-find-clause-turn
+returns-in_err-find-clause-turn g c =
+    let f = c.in_err-find.ensures in
+    let keys = c.self.inside.nodes.keys in
+    rw (← c.self.view_is, f.before) (turn_refused g.N.PartialEq.eq _ _ c.self.inside.refused _ _ c.from_residual.result _ c.from_residual.ensures.1 (ap (paths_of keys) f.left) (not_idle _ (λ none. (let both = f.idle none in cc))) (not_idle _ f.waits))
+
+pub returns-in_err-path-clause-turn : goal.returns-in_err-path-clause-turn
+returns-in_err-path-clause-turn g c =
+    let f = c.in_ok-find.ensures in
+    let s = rw c.if-not-branch.false at f.whole in
+    let keys = c.self.inside.nodes.keys in
+    rw (← c.self.view_is, f.before) (turn_refused g.N.PartialEq.eq _ _ c.self.inside.refused _ _ c.from_residual-in_err-path.result _ c.from_residual-in_err-path.ensures.1 (ap (paths_of keys) f.left) (not_idle _ (λ none. (let both = rw c.if-not-branch.false at f.idle none in cc))) (not_idle _ (λ none. some_wait s.0 s.1 (sym s.2 ∙ none))))

@@ -1,6 +1,7 @@
-use Rattle.std.proofs.Common.{arith, refl}
+use Rattle.std.proofs.Common.{arith, refl, ap}
 use Rattle.std.specs.List.{each_same}
 use Rattle.std.proofs.lemmas.Slice.Zip.{AllZip-long}
+use Rattle.pf_informed.specs.Internal.Ways.{nothing_waits}
 use Rattle.pf_informed.proofs.CloneLemmas.{ways_clone, left_clone}
 use Rattle.pf_informed.proofs.directed.astar_bag.AstarSolutionClone.clone.Goals as goal
 
@@ -16,4 +17,4 @@ pub returns : goal.returns
 returns g c =
     let w = c.in_ok-ways.ensures.cases in
     let k = c.in_ok-nodes.ensures.cases in
-    rw (← c.self.view_is) (record { cases = (left_clone _ (λ u v r. each_same u.items v.items r.0) c.self.inside.ways.before.items c.in_ok-ways.ways.before.items w.0.0 g.N.Clone.is_clone _ _ k _ _ _ _ (each_same _ _ w.1.0.0) (each_same _ _ w.1.1.1.0), refl) })
+    rw (← c.self.view_is) (record { cases = (left_clone _ (λ u v r. each_same u.items v.items r.0) c.self.inside.ways.before.items c.in_ok-ways.ways.before.items w.0.0 g.N.Clone.is_clone _ _ k _ _ _ _ (each_same _ _ w.1.0.0) (each_same _ _ w.1.1.1.0), refl, ap nothing_waits (each_same _ _ w.1.1.1.0)) })
