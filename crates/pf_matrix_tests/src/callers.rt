@@ -1,13 +1,14 @@
 //! Callers that know matrices by their contracts alone.
 
-ghost use Rattle.std.specs.Prelude.{◌≡◌, ◌+◌, ◌*◌, ◌/◌, ◌<◌, ℕ, Bool, false, List, map, All, IfOk, nat_eq, slice_index_or};
+ghost use Rattle.std.specs.Prelude.{◌≡◌, ◌+◌, ◌*◌, ◌/◌, ◌<◌, ℕ, Bool, true, false, List, map, All, IfOk, nat_eq, slice_index_or};
 ghost use Rattle.pf_matrix.specs.Arrange.{CanTurn, IsCopied, IsRotatedCw, itself};
 ghost use Rattle.pf_matrix.specs.Floods.{IsFlood, answer_at};
 ghost use Rattle.pf_matrix.specs.Tables.{HasPosition, value_at};
 
-use pf_matrix::{Matrix, MatrixFormatError};
+use pf_matrix::{Matrix, MatrixFormatError, laws};
 use std::alloc::Allocator;
 use std::collections::BTreeSet;
+use std::marker::PhantomData;
 
 /// The numbers of a board that is turned to the right once. The copy has the very numbers, since a
 /// clone of a number is the number.
@@ -46,6 +47,20 @@ pub fn hundred_divided<A: Allocator + Copy>(
     ensures values { IfOk result (λ divided. divided.values ≡ map (λ x. 100 / x) board.values) }
 {
     board.map(|value: u8| 100 / value)
+}
+
+/// Whether a board of texts equals what two copies with left and right exchanged make of it, as it
+/// does: a clone of a text has the same text.
+pub fn equals_flipped_twice<A: Allocator + Copy>(
+    board: &Matrix<String<A>, A>,
+) -> Result<bool, MatrixFormatError>
+    ensures { IfOk result (λ equal. equal ≡ true) }
+{
+    laws::equal_copies(PhantomData::<String<A>>);
+    let _rows = board.rows();
+    let flipped = board.flipped_lr()?;
+    let back = flipped.flipped_lr()?;
+    Ok(*board == back)
 }
 
 /// The positions that are reached from `start` over numbers that are 0.

@@ -12,7 +12,9 @@ use std::alloc::Global;
 /// A call that takes memory, and what it is to answer.
 pub(super) enum Call<'a> {
     /// A matrix is made.
-    Make(Maker, Shape<'a>),
+    Make(Maker<'a>, Shape<'a>),
+    /// None is made, for this reason.
+    MakeNone(Maker<'a>, MatrixFormatError),
     /// `SIX` is copied.
     Copy(Copied, Shape<'a>),
     /// `SIX` is changed.
@@ -32,7 +34,7 @@ pub(super) enum Call<'a> {
 }
 
 /// A call that makes a matrix.
-pub(super) enum Maker {
+pub(super) enum Maker<'a> {
     /// `matrix!` of no rows.
     Nothing,
     /// `new`, of 2 rows and 3 columns of sevens.
@@ -47,8 +49,18 @@ pub(super) enum Maker {
     Values,
     /// `from_rows` of [1, 2] and [3, 4].
     Rows,
+    /// `matrix!` of [1, 2] and [3].
+    UnevenLists,
+    /// `matrix!` of a row without values.
+    EmptyList,
+    /// `matrix!` of a row without values and [1].
+    EmptyFirstList,
     /// `from_rows` of two rows of 40 sevens, which takes memory twice.
     LongRows,
+    /// `from_rows` of vectors of these values.
+    Vectors(&'a [&'a [u8]]),
+    /// `slice`, of no rows and the first two columns of a matrix of 4 rows and 4 columns.
+    SliceOfNoRows,
 }
 
 /// A call that copies a matrix.
@@ -70,8 +82,20 @@ pub(super) enum Change<'a> {
     Transpose,
 }
 
+/// Vectors of these values.
+fn vectors_of<'h>(
+    heap: Heap<'h>,
+    rows: &[&[u8]],
+) -> Result<Vec<Vec<u8, Heap<'h>>, Heap<'h>>, MatrixFormatError> {
+    let mut vectors = Vec::new(heap);
+    for row in rows {
+        vectors.push(row.to_vec(heap)?)?;
+    }
+    Ok(vectors)
+}
+
 /// The matrix that a call makes.
-fn made<'h>(heap: Heap<'h>, maker: &Maker) -> Result<Numbers<'h>, MatrixFormatError> {
+fn made<'h>(heap: Heap<'h>, maker: &Maker<'_>) -> Result<Numbers<'h>, MatrixFormatError> {
     match maker {
         Maker::Nothing => matrix![in heap],
         Maker::Sevens => Matrix::new(heap, 2, 3, 7),
@@ -80,7 +104,12 @@ fn made<'h>(heap: Heap<'h>, maker: &Maker) -> Result<Numbers<'h>, MatrixFormatEr
         Maker::Lists => matrix![in heap; [1, 2], [3, 4],],
         Maker::Values => matrix![in heap; 1, 2,; 3, 4;],
         Maker::Rows => Matrix::from_rows(heap, [[1, 2], [3, 4]]),
+        Maker::UnevenLists => matrix![in heap; [1, 2], [3]],
+        Maker::EmptyList => matrix![in heap; []],
+        Maker::EmptyFirstList => matrix![in heap; [], [1]],
         Maker::LongRows => Matrix::from_rows(heap, [[7; 40]; 2]),
+        Maker::Vectors(rows) => Matrix::from_rows(heap, vectors_of(heap, rows)?),
+        Maker::SliceOfNoRows => Matrix::new_square(heap, 4, 7)?.slice(0..0, 0..2),
     }
 }
 
@@ -117,6 +146,18 @@ fn is_made(
 ) -> Result<bool, MatrixFormatError> {
     let matrix = made?;
     Ok(shows(&matrix, shape))
+}
+
+/// Whether no matrix was made, for this reason.
+fn is_refused(
+    made: Result<Numbers<'_>, MatrixFormatError>,
+    reason: MatrixFormatError,
+) -> Result<bool, MatrixFormatError> {
+    match made {
+        Ok(_) => Ok(false),
+        Err(MatrixFormatError::OutOfMemory) => Err(MatrixFormatError::OutOfMemory),
+        Err(error) => Ok(error == reason),
+    }
 }
 
 /// Whether a copy of `SIX` has this shape.
@@ -215,6 +256,7 @@ fn reaches_nothing(four: &Numbers<'_>) -> Result<bool, MatrixFormatError> {
 fn is_right(heap: Heap<'_>, call: &Call<'_>) -> Result<bool, MatrixFormatError> {
     match call {
         Call::Make(maker, shape) => is_made(made(heap, maker), *shape),
+        Call::MakeNone(maker, reason) => is_refused(made(heap, maker), *reason),
         Call::Copy(copied, shape) => is_copied(heap, copied, *shape),
         Call::Change(change, shape) => is_changed(heap, change, *shape),
         Call::Functions => are_made_by_functions(heap),
@@ -257,6 +299,36 @@ const CALLS: &[(Call<'static>, u64)] = &[
     (Call::Make(Maker::Values, FOUR), 1),
     (Call::Make(Maker::Rows, FOUR), 1),
     (Call::Make(Maker::LongRows, (2, 40, &[7; 80])), 2),
+    (Call::Make(Maker::Vectors(&[&[1, 2], &[3, 4]]), FOUR), 4),
+    (Call::Make(Maker::Vectors(&[]), (0, 0, &[])), 0),
+    (
+        Call::MakeNone(
+            Maker::Vectors(&[&[1, 2], &[3]]),
+            MatrixFormatError::WrongLength,
+        ),
+        4,
+    ),
+    (
+        Call::MakeNone(Maker::Vectors(&[&[], &[1]]), MatrixFormatError::WrongLength),
+        3,
+    ),
+    (
+        Call::MakeNone(Maker::Vectors(&[&[], &[]]), MatrixFormatError::EmptyRow),
+        1,
+    ),
+    (
+        Call::MakeNone(Maker::UnevenLists, MatrixFormatError::WrongLength),
+        1,
+    ),
+    (
+        Call::MakeNone(Maker::EmptyList, MatrixFormatError::EmptyRow),
+        0,
+    ),
+    (
+        Call::MakeNone(Maker::EmptyFirstList, MatrixFormatError::EmptyRow),
+        0,
+    ),
+    (Call::Make(Maker::SliceOfNoRows, (0, 2, &[])), 1),
     (Call::Functions, 2),
     (Call::Copy(Copied::Clone, SIX), 2),
     (Call::Copy(Copied::Slice, (2, 1, &[2, 5])), 2),

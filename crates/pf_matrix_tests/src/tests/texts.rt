@@ -56,6 +56,6 @@ fn laws_can_be_called() {
     laws::two_transpositions(PhantomData::<u8>);
     laws::four_quarter_turns(PhantomData::<u8>);
     laws::turns_undone(PhantomData::<u8>);
-    laws::equal_copies(PhantomData::<u8>);
+    laws::equal_copies(PhantomData::<String>);
     laws::equal_hash_alike(PhantomData::<u8>);
 }

@@ -18,7 +18,7 @@ pub(super) enum WordCall {
     Slice,
     FlippedLr,
     Transposed,
-    /// It is filled with "a".
+    /// It is filled with "b".
     Fill,
     /// It is extended by the row ["a", "a"].
     Extend,
@@ -31,14 +31,25 @@ fn words_of(heap: Heap<'_>) -> Result<Words<'_>, MatrixFormatError>
     Matrix::new(heap, 1, 2, vec![in heap; b'a']?)
 }
 
-/// Whether each word is "a".
-fn are_words(words: &Words<'_>) -> bool {
+/// The letter of each word after a call, and the numbers of rows and of columns.
+fn shape_after(call: &WordCall) -> (u8, usize, usize) {
+    match call {
+        WordCall::Clone | WordCall::Slice | WordCall::FlippedLr => (b'a', 1, 2),
+        WordCall::Transposed => (b'a', 2, 1),
+        WordCall::Fill => (b'b', 1, 2),
+        WordCall::Extend => (b'a', 2, 2),
+    }
+}
+
+/// Whether a matrix has these sizes, and each of its words is this letter.
+fn are_words(words: &Words<'_>, shape: (u8, usize, usize)) -> bool {
+    let letter = [shape.0];
     for word in words.values() {
-        if word.as_slice() != b"a".as_slice() {
+        if word.as_slice() != letter.as_slice() {
             return false;
         }
     }
-    true
+    words.rows() == shape.1 && words.columns() == shape.2
 }
 
 /// The copy that a call makes.
@@ -60,7 +71,7 @@ fn make_change<'h>(
     call: &WordCall,
 ) -> Result<(), MatrixFormatError> {
     match call {
-        WordCall::Fill => words.fill(vec![in heap; b'a']?),
+        WordCall::Fill => words.fill(vec![in heap; b'b']?),
         _ => {
             let row = words_of(heap)?;
             words.extend(row.as_slice())
@@ -69,22 +80,26 @@ fn make_change<'h>(
 }
 
 /// Whether a copy has the right words.
-fn is_copied(copy: Result<Words<'_>, MatrixFormatError>) -> Result<bool, MatrixFormatError> {
+fn is_copied(
+    copy: Result<Words<'_>, MatrixFormatError>,
+    shape: (u8, usize, usize),
+) -> Result<bool, MatrixFormatError> {
     let words = copy?;
-    Ok(are_words(&words))
+    Ok(are_words(&words, shape))
 }
 
-/// Whether a call answers the only right answer.
+/// Whether a call answers the only right answer. A refused change has to leave the words as they were.
 pub(super) fn answers_in_words(heap: Heap<'_>, call: &WordCall) -> Result<bool, MatrixFormatError> {
     let mut words = words_of(heap)?;
     match call {
         WordCall::Fill | WordCall::Extend => {
             let changed = make_change(heap, &mut words, call);
             match changed {
-                Ok(()) => Ok(are_words(&words)),
-                Err(error) => Err(error),
+                Ok(()) => Ok(are_words(&words, shape_after(call))),
+                Err(error) if are_words(&words, (b'a', 1, 2)) => Err(error),
+                Err(_) => Ok(false),
             }
         }
-        _ => is_copied(copy_of(&words, call)),
+        _ => is_copied(copy_of(&words, call), shape_after(call)),
     }
 }
