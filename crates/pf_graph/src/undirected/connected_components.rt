@@ -71,7 +71,8 @@ where
 /// The index of the set that a node is in, for all nodes of the sets.
 ///
 /// The map has exactly the nodes of the sets, as keys that are equal to them. A node in several sets
-/// has the greatest of their indices. The only error is `OutOfMemory`.
+/// has the greatest of their indices. A clone of a node must be equal to it. The only error is
+/// `OutOfMemory`.
 pub fn component_index<N, S, A, B>(
     alloc: A,
     components: &[HashSet<N, S, B>],
@@ -95,8 +96,8 @@ where
 /// The sets of vertices that chains of groups with shared vertices join.
 ///
 /// Each set has exactly the vertices of the groups that such chains join, as nodes that are equal to
-/// them, and each vertex is in one set; empty groups give none. The order of the sets is open. The
-/// only error is `OutOfMemory`.
+/// them, and each vertex is in one set; empty groups give none. The order of the sets is open. A clone
+/// of a vertex must be equal to it. The only error is `OutOfMemory`.
 pub fn components<N, A, B>(alloc: A, groups: &[Vec<N, B>]) -> Result<Vec<SetIn<N, A>, A>, PathError>
 where
     N: Eq + Hash + Clone,
@@ -116,8 +117,8 @@ where
 /// one node is connected. Each set has exactly the nodes of one such class, as nodes that are equal to
 /// them, and each start and each node that is listed for one is in one set. `adjacent` must answer
 /// alike for equal nodes at every call, and is called on the starts alone, once on each: what it would
-/// list for other nodes connects nothing. The order of the sets is open. The only error is
-/// `OutOfMemory`.
+/// list for other nodes connects nothing. The order of the sets is open. A clone of a node must be
+/// equal to it. The only error is `OutOfMemory`.
 pub fn connected_components<N, IN, FN, A>(
     alloc: A,
     starts: &[N],

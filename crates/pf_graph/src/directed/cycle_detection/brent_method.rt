@@ -57,8 +57,8 @@ where
 ///
 /// # Errors
 ///
-/// `OutOfMemory`: a clone of a value was refused. `StepOverflow`: 4 times the sum of index and length
-/// does not fit `usize`, or no value ever comes again.
+/// `OutOfMemory`: a clone of a value was refused. `StepOverflow` comes only where 4 times the sum of
+/// index and length does not fit `usize`, or where no value ever comes again.
 ///
 /// The algorithm is Brent's (R. P. Brent, "An improved Monte Carlo factorization algorithm", 1980):
 /// it keeps two values, and makes each step once.
@@ -87,8 +87,8 @@ where
 ///
 /// # Errors
 ///
-/// `OutOfMemory`: a clone of a value was refused. `StepOverflow`: 4 times the sum of index and length
-/// does not fit `usize`, or no value ever comes again.
+/// `OutOfMemory`: a clone of a value was refused. `StepOverflow` comes only where 4 times the sum of
+/// index and length does not fit `usize`, or where no value ever comes again.
 ///
 /// The algorithm is Brent's (R. P. Brent, "An improved Monte Carlo factorization algorithm", 1980):
 /// it keeps two values, and its time is of the order of the index and the length.

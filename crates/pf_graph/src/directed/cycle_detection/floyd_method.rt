@@ -77,8 +77,8 @@ where
 ///
 /// # Errors
 ///
-/// `OutOfMemory`: a clone of a value was refused. `StepOverflow`: 4 times the sum of index and length
-/// does not fit `usize`, or no value ever comes again.
+/// `OutOfMemory`: a clone of a value was refused. `StepOverflow` comes only where 4 times the sum of
+/// index and length does not fit `usize`, or where no value ever comes again.
 ///
 /// The algorithm is Floyd's, of a slow and a fast value (D. E. Knuth, "The Art of Computer
 /// Programming", volume 2, 1969, section 3.1): it keeps two values.
@@ -112,8 +112,8 @@ where
 ///
 /// # Errors
 ///
-/// `OutOfMemory`: a clone of a value was refused. `StepOverflow`: 4 times the sum of index and length
-/// does not fit `usize`, or no value ever comes again.
+/// `OutOfMemory`: a clone of a value was refused. `StepOverflow` comes only where 4 times the sum of
+/// index and length does not fit `usize`, or where no value ever comes again.
 ///
 /// The algorithm is Floyd's, of a slow and a fast value (D. E. Knuth, "The Art of Computer
 /// Programming", volume 2, 1969, section 3.1): it keeps two values, and its time is of the order of
