@@ -1,9 +1,11 @@
-//! Each growth refused in turn: a call answers out of memory, and leaves what it was lent as it was.
+//! Each growth refused in turn: a call answers out of memory and leaves what it was lent as it was,
+//! until no request is refused and it gives its right answer.
 
 use pf_grid::{Grid, GridError};
 use pf_matrix::{Matrix, matrix};
 use refusing_allocator::Refusing;
 use std::alloc::Global;
+use std::collections::BTreeSet;
 
 /// A heap that refuses requests.
 type Heap<'h> = &'h Refusing<Global>;
@@ -43,53 +45,106 @@ fn is_any(_position: (usize, usize)) -> bool {
     true
 }
 
-/// Why a text is refused, which then has to be empty.
-fn refusal_of_text<'h>(heap: Heap<'h>, grid: &Grid<Heap<'h>>) -> Option<GridError> {
-    let mut text = String::new(heap);
-    let written = grid.append_text(&mut text, '#', '.', false);
-    if text.is_empty() { written.err() } else { None }
+/// Whether a grid has these sizes and vertices.
+fn is_grid(grid: &Grid<Heap<'_>>, sizes: (usize, usize), vertices: &[(usize, usize)]) -> bool {
+    (grid.width(), grid.height()) == sizes && grid.iter().eq(vertices.iter().copied())
 }
 
-/// Why a call is refused, if it is.
-fn refusal_of<'h>(
+/// Whether steps in a grid are diagonal, by an edge that it has in this mode alone.
+fn is_diagonal(grid: &Grid<Heap<'_>>) -> bool {
+    grid.has_edge((0, 0), (1, 1))
+}
+
+/// Whether a grid is that of `VERTICES` in diagonal mode.
+fn is_as_made(grid: &Grid<Heap<'_>>) -> bool {
+    is_grid(grid, (3, 3), &VERTICES) && is_diagonal(grid)
+}
+
+/// Whether a grid was made that has these sizes and vertices.
+fn is_made(
+    made: Result<Grid<Heap<'_>>, GridError>,
+    sizes: (usize, usize),
+    vertices: &[(usize, usize)],
+) -> Result<bool, GridError> {
+    let grid = made?;
+    Ok(is_grid(&grid, sizes, vertices))
+}
+
+/// Whether a grid is made of the points (-3, 2) and (4, 2).
+fn is_made_of_points(heap: Heap<'_>) -> Result<bool, GridError> {
+    match Grid::from_coordinates(heap, &[(-3, 2), (4, 2)])? {
+        Some(grid) => Ok(is_grid(&grid, (8, 1), &[(0, 0), (7, 0)])),
+        None => Ok(false),
+    }
+}
+
+/// Whether a flood reached `VERTICES`.
+fn is_reached<'h>(
+    flood: Result<BTreeSet<(usize, usize), Heap<'h>>, GridError>,
+) -> Result<bool, GridError> {
+    let reached = flood?;
+    Ok(reached.into_iter().eq(VERTICES))
+}
+
+/// Whether the grid shows as its text. A refused one has to be empty.
+fn is_shown<'h>(heap: Heap<'h>, grid: &Grid<Heap<'h>>) -> Result<bool, GridError> {
+    let mut text = String::new(heap);
+    match grid.append_text(&mut text, '#', '.', false) {
+        Ok(()) => Ok(text.as_str() == "#..\n.#.\n..#"),
+        Err(error) if text.is_empty() => Err(error),
+        Err(_) => Ok(false),
+    }
+}
+
+/// Whether a call answers the only right answer.
+fn is_right<'h>(
     call: &Call,
     heap: Heap<'h>,
     grid: &mut Grid<Heap<'h>>,
     matrix: &Matrix<bool>,
-) -> Option<GridError> {
+) -> Result<bool, GridError> {
     match call {
-        Call::New => Grid::new(heap, 3, 3).err(),
-        Call::FromVertices => Grid::from_vertices(heap, [(1, 2), (3, 0)]).err(),
-        Call::FromMatrix => Grid::from_matrix(heap, matrix).err(),
-        Call::FromCoordinates => Grid::from_coordinates(heap, &[(-3, 2), (4, 2)]).err(),
-        Call::Neighbours => grid.neighbours((1, 1)).err(),
-        Call::BreadthFlood => grid.bfs_reachable((1, 1), is_any).err(),
-        Call::DepthFlood => grid.dfs_reachable((2, 2), is_any).err(),
-        Call::Resize => grid.resize(70, 2).err(),
-        Call::Text => refusal_of_text(heap, grid),
-        Call::Clone => grid.clone().err().map(GridError::from),
+        Call::New => is_made(Grid::new(heap, 3, 3), (3, 3), &[]),
+        Call::FromVertices => {
+            let made = Grid::from_vertices(heap, [(1, 2), (3, 0)]);
+            is_made(made, (4, 3), &[(3, 0), (1, 2)])
+        }
+        Call::FromMatrix => {
+            let made = Grid::from_matrix(heap, matrix);
+            is_made(made, (3, 2), &[(0, 0), (2, 0), (1, 1), (2, 1)])
+        }
+        Call::FromCoordinates => is_made_of_points(heap),
+        Call::Neighbours => Ok(grid.neighbours((1, 1))?.as_slice() == [(0, 0), (2, 2)].as_slice()),
+        Call::BreadthFlood => is_reached(grid.bfs_reachable((1, 1), is_any)),
+        Call::DepthFlood => is_reached(grid.dfs_reachable((2, 2), is_any)),
+        Call::Resize => {
+            let is_less = grid.resize(70, 2)?;
+            Ok(is_less && is_grid(grid, (70, 2), &[(0, 0), (1, 1)]) && is_diagonal(grid))
+        }
+        Call::Text => is_shown(heap, grid),
+        Call::Clone => Ok(is_as_made(&grid.clone()?)),
     }
 }
 
-/// How many growths a call makes, where it is refused with each of them and leaves the grid as it
-/// was.
+/// How many growths a call makes until it gives its right answer, where it is refused with each of
+/// them and leaves the grid as it was.
 fn growths_of(alloc: Global, call: &Call, matrix: &Matrix<bool>) -> Option<u64> {
     for growth in 0..100u64 {
         let heap = Refusing::new(alloc);
         let Ok(mut grid) = Grid::from_vertices(&heap, VERTICES) else {
             return None;
         };
+        grid.enable_diagonal_mode();
         heap.refuse(growth, 1);
-        let refusal = refusal_of(call, &heap, &mut grid, matrix);
+        let answer = is_right(call, &heap, &mut grid, matrix);
         if heap.pending() > 0 {
-            return if refusal.is_none() {
+            return if answer == Ok(true) {
                 Some(growth)
             } else {
                 None
             };
         }
-        let is_as_before = grid.width() == 3 && grid.height() == 3 && grid.iter().eq(VERTICES);
-        if refusal != Some(GridError::OutOfMemory) || !is_as_before {
+        if answer != Err(GridError::OutOfMemory) || !is_as_made(&grid) {
             return None;
         }
     }
