@@ -1,7 +1,6 @@
 -- Two square tables as a network.
 use Rattle.std.specs.Prelude.{◌≡◌, ◌<◌, ◌+◌, ◌*◌, ◌+ℤ◌, ◌&&◌, ℕ, ℤ, pos, Bool, nat_eq, if◌then◌else◌}
 use Rattle.std.proofs.Common.{ltb}
-use Rattle.pf_matrix.specs.Equality.{IsCopyOf}
 use Rattle.pf_matrix.specs.Tables.{Table, IsMatrix}
 use Rattle.pf_flow.specs.Capacities.{number}
 use Rattle.pf_flow.specs.Flows.{PairTable, pair_sum}
@@ -57,11 +56,11 @@ pub record IsTableChanged {C : Type 0} (value : C → ℤ) (from to : ℕ) (more
 pub record IsZeroTable {C : Type 0} (value : C → ℤ) (n : ℕ) (m : Table C) : Type 0 where
   pub at : (a b : ℕ) → table_number value n m a b ≡ pos 0
 
--- a copy of a store: tables with clones of the numbers, and the rest the same
-pub record IsStoreCopy {C : Type 0} (clones : C → C → Type 0) (residuals flows : Table C) (source sink : ℕ) (total : C) (details : Bool)
+-- the same store: the same tables, and the rest the same
+pub record AreSameTables {C : Type 0} (residuals flows : Table C) (source sink : ℕ) (total : C) (details : Bool)
     (residuals' flows' : Table C) (source' sink' : ℕ) (total' : C) (details' : Bool) : Type 0 where
-  pub left : IsCopyOf clones residuals residuals'
-  pub carried : IsCopyOf clones flows flows'
+  pub same_residuals : residuals' ≡ residuals
+  pub same_flows : flows' ≡ flows
   pub same_source : source' ≡ source
   pub same_sink : sink' ≡ sink
   pub same_total : total' ≡ total

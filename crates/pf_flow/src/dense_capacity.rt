@@ -4,7 +4,7 @@ ghost use Rattle.std.specs.Prelude.{◌≡◌, ◌<◌, ◌*◌, ◌^◌, ◌<�
 ghost use Rattle.pf_base.specs.declared.error.PathError.TheVariants.{OutOfMemory};
 ghost use Rattle.pf_matrix.specs.Tables.{IsMatrix};
 ghost use Rattle.std.specs.Option.{ForSome};
-ghost use Rattle.pf_flow.specs.DenseStores.{AreTables, IsSquare, IsZeroTable, IsStoreCopy, tables_network, table_number, table_sum};
+ghost use Rattle.pf_flow.specs.DenseStores.{AreTables, IsSquare, IsZeroTable, AreSameTables, tables_network, table_number, table_sum};
 ghost use Rattle.pf_flow.specs.Internal.DenseLaws.{tables_law};
 ghost use Rattle.pf_flow.specs.Listings.{ListsNumbers, ListsVertices};
 
@@ -18,8 +18,12 @@ use std::alloc::{AllocError, Allocator, Global};
 
 /// A store that keeps the residual capacity and the flow of each pair of vertices in two square
 /// matrices. Each pair has room from the start.
-#[derive(Debug, Drop)]
+#[derive(Drop)]
+#[derive_where(Debug; C, A)]
 pub struct DenseCapacity<C: SignedCost, A: Allocator = Global> {
+    // Where the tables of a clone take their memory.
+    #[derive_where(skip)]
+    alloc: A,
     residuals: Matrix<C, A>,
     flows: Matrix<C, A>,
     source: usize,
@@ -91,6 +95,20 @@ fn zero_table<C: SignedCost, A: Allocator + Copy>(
         Ok(table) => Ok(table),
         Err(_) => Err(PathError::OutOfMemory),
     }
+}
+
+/// A table of the same numbers. They are copied, and no `clone` of theirs is called.
+fn copy_of<C: Copy, A: Allocator>(
+    alloc: A,
+    table: &Matrix<C, A>,
+) -> Result<Matrix<C, A>, AllocError>
+    ensures { IfOk result (λ copy. copy ≡ table.now) }
+{
+    let values = Vec::from_slice(alloc, table.as_slice())?;
+    let Ok(copy) = Matrix::from_vec(table.rows(), table.columns(), values) else {
+        unreachable!()
+    };
+    Ok(copy)
 }
 
 impl<C: SignedCost, A: Allocator + Copy> FlowStore<C> for DenseCapacity<C, A> {
@@ -186,6 +204,7 @@ impl<C: SignedCost, A: Allocator + Copy> EdmondsKarp<C> for DenseCapacity<C, A> 
         let residuals = zero_table(alloc, size)?;
         let flows = zero_table(alloc, size)?;
         Ok(DenseCapacity {
+            alloc,
             residuals,
             flows,
             source,
@@ -197,14 +216,15 @@ impl<C: SignedCost, A: Allocator + Copy> EdmondsKarp<C> for DenseCapacity<C, A> 
     }
 }
 
-/// A clone has clones of the numbers.
+/// A clone holds the same network.
 impl<C: SignedCost, A: Allocator + Copy> Clone for DenseCapacity<C, A> {
-    ghost is_clone = { λ s t. IsStoreCopy C.is_clone s.residuals s.flows s.source s.sink s.total s.details t.residuals t.flows t.source t.sink t.total t.details };
+    ghost is_clone = { λ s t. AreSameTables s.residuals s.flows s.source s.sink s.total s.details t.residuals t.flows t.source t.sink t.total t.details };
 
     fn clone(&self) -> Result<Self, AllocError> {
-        let residuals = self.residuals.clone()?;
-        let flows = self.flows.clone()?;
+        let residuals = copy_of(self.alloc, &self.residuals)?;
+        let flows = copy_of(self.alloc, &self.flows)?;
         Ok(DenseCapacity {
+            alloc: self.alloc,
             residuals,
             flows,
             source: self.source,
