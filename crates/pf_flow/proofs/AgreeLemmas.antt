@@ -1,6 +1,6 @@
 -- Networks that agree.
 use Rattle.std.proofs.Common.{◌≡◌, ◌∙◌, refl, sym, ap, subst, ℤ}
-use Rattle.pf_flow.specs.Networks.{Network, capacity, Agrees, KeepsShape, KeepsCapacities, IsNetwork}
+use Rattle.pf_flow.specs.Networks.{Network, capacity, Agrees, KeepsShape, KeepsCapacities, IsNetwork, HasTotalOfFlow}
 use Rattle.pf_flow.specs.Internal.Balances.{IsBalanced}
 
 -- a network is the one that it agrees with, with its own room
@@ -21,6 +21,10 @@ balanced_agrees {fits} {M = M} a w = subst (IsBalanced fits) (agreed a) (record 
 
 pub network_agrees : {fits : ℤ → Type 0} {N M : Network} → Agrees N M → IsNetwork fits N → IsNetwork fits M
 network_agrees {fits} {M = M} a w = subst (IsNetwork fits) (agreed a) (record { feasible = w.feasible; value = w.value; above = w.above; idle = w.idle; capacities = w.capacities; sum = w.sum })
+
+-- what the law of one total asks of a network
+pub total_of_network : {fits : ℤ → Type 0} {N : Network} → IsNetwork fits N → HasTotalOfFlow N
+total_of_network w = record { value = w.value; idle = w.idle }
 
 pub shape_agrees : {N M : Network} → Agrees N M → KeepsShape N M
 shape_agrees w = record { vertices = w.vertices; source = w.source; sink = w.sink; details = w.details; room = w.room }

@@ -83,6 +83,11 @@ pub record IsNetwork (fits : ℤ → Type 0) (N : Network) : Type 0 where
   pub capacities : IsNonNegative N.vertices (capacity N)
   pub sum : fits (capacity_sum N)
 
+-- a part of IsNetwork: the total is the value of the flow, and there is no flow where source and sink are one
+pub record HasTotalOfFlow (N : Network) : Type 0 where
+  pub value : flow_value N.vertices N.source N.flow ≡ N.total
+  pub idle : N.source ≡ N.sink → (a b : ℕ) → N.flow a b ≡ pos 0
+
 -- so many vertices, this source and sink, no flow, and flows and cuts are listed
 pub record IsFresh (size from to : ℕ) (N : Network) : Type 0 where
   pub vertices : N.vertices ≡ size

@@ -1,7 +1,9 @@
-use Rattle.std.proofs.Common.{◌≡◌, ◌∙◌, sym, ap, subst, arith, ℕ, Bool}
+use Rattle.std.proofs.Common.{◌≡◌, ◌≢◌, ◌∙◌, ◌⊎◌, inl, inr, sym, ap, subst, arith, ℕ, pos, Bool}
+use Rattle.std.proofs.lemmas.Bool.{cases_eq}
 use Rattle.std.proofs.lemmas.Int.{ints}
 use Rattle.pf_flow.specs.Flows.{PairTable, cut_capacity, IsLeastCut}
-use Rattle.pf_flow.specs.Networks.{Network, capacity, HasSameCapacities}
+use Rattle.pf_flow.specs.Networks.{Network, capacity, HasSameCapacities, HasCutOfTotal, HasTotalOfFlow}
+use Rattle.pf_flow.proofs.SumLemmas.{sum_none}
 use Rattle.pf_flow.proofs.laws.stores_report_one_total.Goals as goal
 
 -- the capacity of a least cut is one
@@ -24,9 +26,23 @@ capacity_same {N} {M} w side =
     let same : capacity N ≡ capacity M = λ i a b. w.capacities.at a b i in
     ap (λ n. cut_capacity n side (capacity M)) w.vertices ∙ ap (cut_capacity N.vertices side) (sym same)
 
-pub returns : goal.returns
-returns c = λ N M w apart h k.
+apart_total : (N M : Network) → HasSameCapacities N M → N.source ≢ N.sink → HasCutOfTotal N → HasCutOfTotal M → M.total ≡ N.total
+apart_total N M w apart h k =
     let one = h apart in
     let other = k (λ e. apart (sym w.source ∙ e ∙ w.sink)) in
     let same = one_capacity N.vertices N.source N.sink (capacity N) one.0 other.0 one.1.smallest.least_cut (least_same w other.0 other.1.smallest.least_cut) in
     sym other.1.worth ∙ capacity_same w other.0 ∙ sym same ∙ one.1.worth
+
+-- where source and sink are one, the total is 0
+no_total : (N : Network) → HasTotalOfFlow N → N.source ≡ N.sink → N.total ≡ pos 0
+no_total N w e = sym w.value ∙ sum_none (N.flow N.source) N.vertices (λ a l. w.idle e N.source a)
+
+one_total : (N M : Network) → HasSameCapacities N M → HasTotalOfFlow N → HasTotalOfFlow M → HasCutOfTotal N → HasCutOfTotal M → (N.source ≡ N.sink) ⊎ (N.source ≡ N.sink → ⊥) → M.total ≡ N.total
+one_total N M w left right h k (inl e) = no_total M right (w.source ∙ e ∙ sym w.sink) ∙ sym (no_total N left e)
+one_total N M w left right h k (inr apart) = apart_total N M w apart h k
+
+pub returns-clause-apart : goal.returns-clause-apart
+returns-clause-apart c = apart_total
+
+pub returns-clause-total : goal.returns-clause-total
+returns-clause-total c = λ N M w left right h k. one_total N M w left right h k (cases_eq N.source N.sink)
