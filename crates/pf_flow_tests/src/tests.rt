@@ -5,3 +5,4 @@ mod refusals;
 mod rows;
 mod small_networks;
 mod squares;
+mod still;
