@@ -312,7 +312,10 @@ fn notes_read_exact(after: usize) -> bool {
 #[test]
 fn whole_reads_and_writes_are_noted(rt: HostRuntime) {
     for after in [0, 1, 2, 3, 4] {
-        assert!(rt; notes_write_all(rt.alloc(), after) && notes_read_exact(after), "{after}");
+        assert!(rt;
+            notes_write_all(rt.alloc(), after) && notes_read_exact(after),
+            "{after}"
+        );
     }
 }
 
