@@ -1,8 +1,26 @@
 use Rattle.std.proofs.Common.{◌∙◌, ap, sym, [], Bor}
+use Rattle.std.specs.Prelude.{Result, Ok, Err, IsErrAnd, IfErr}
+use Rattle.std.proofs.lemmas.Result.{IfOk-from_err}
 use Rattle.indexmap.specs.IndexSet.{insert_key}
 use Rattle.indexmap.proofs.SetLemmas.{set_all_push}
 use Rattle.pf_base.proofs.NodeRefsLemmas.{NoRepeats-distinct, HasSameNodes-insert_all}
 use Rattle.pf_base.proofs.noderefs.NodeRefs.from_nodes.Goals as goal
+
+refused_by : {T E : Type 0} (P : E → Type 0) (r : Result T E) → IsErrAnd r P → IfErr r P
+refused_by P (Ok x) h = absurd h
+refused_by P (Err e) h = h
+
+pub loop-node-init : goal.loop-node-init
+loop-node-init g c = (c.new-kept.ensures.empty, c.new-kept.ensures.unique)
+
+pub returns-in_err-insert : goal.returns-in_err-insert
+returns-in_err-insert g c =
+    let r = c.from_residual in
+    record {
+      given = IfOk-from_err _ _ r.ensures.0;
+      once = IfOk-from_err _ _ r.ensures.0;
+      refused = refused_by _ r.result r.ensures.1;
+    }
 
 pub loop-node-preserved : goal.loop-node-preserved
 loop-node-preserved g c =

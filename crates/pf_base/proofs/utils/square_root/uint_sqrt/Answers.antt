@@ -24,3 +24,6 @@ returns-else-eq-clause-none g c =
     λ root e.
     let square = root_is root _ _ (low c.candidate-root.result) (low c.args.n) c.candidate-root.ensures.only e in
     let same = (g.met.T.Number.eq_law c.mul.result c.args.n exact).1 (product ∙ square) in cc (same, c.eq.ensures, c.if-eq.false)
+
+pub returns-else-eq-clause-found : goal.returns-else-eq-clause-found
+returns-else-eq-clause-found g c = tt
