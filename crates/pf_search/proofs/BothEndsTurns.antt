@@ -17,19 +17,19 @@ use Rattle.pf_core.proofs.SearchLemmas.{search_grows, start_alone}
 use Rattle.pf_search.specs.declared.directed.dijkstra.both_ends.Meeting.{Meeting}
 use Rattle.pf_search.specs.BothEnds.{IsCostMirror}
 use Rattle.pf_search.specs.Internal.BothEnds.{from_one, bound, IsMeeting, NoneBelowAt, IsHalf, IsPair, AreEnds, NoWalkAcross, NoWalkAcrossBelow}
-use Rattle.pf_search.proofs.BothEndsLemmas.{walks_low, pair_turned, meeting_stays, meeting_swap}
+use Rattle.pf_search.proofs.BothEndsLemmas.{walks_low, pair_turned, meeting_stays, meeting_swap, pair_swap}
 
-pub some_map : {A : Type 0} (P Q : A → Type 0) → ((x : A) → P x → Q x) → (o : Option A) → IfSome o P → IfSome o Q
+some_map : {A : Type 0} (P Q : A → Type 0) → ((x : A) → P x → Q x) → (o : Option A) → IfSome o P → IfSome o Q
 some_map P Q f None h = h
 some_map P Q f (Some x) h = f x h
 
 -- what is one of two meetings is as both are
-pub some_one : {A : Type 0} (P : A → Type 0) (o a b : Option A) → (o ≡ a) ⊎ (o ≡ b) → IfSome a P → IfSome b P → IfSome o P
+some_one : {A : Type 0} (P : A → Type 0) (o a b : Option A) → (o ≡ a) ⊎ (o ≡ b) → IfSome a P → IfSome b P → IfSome o P
 some_one {A} P o a b (inl e) x y = subst (λ (q : Option A). IfSome q P) (sym e) x
 some_one {A} P o a b (inr e) x y = subst (λ (q : Option A). IfSome q P) (sym e) y
 
 module _ {N C : Type 0} (eq : N → N → Bool) (value : C → ℤ) where
-  pub none_weaker : (keys others : List N) (labels labels' : Labels C) (t t2 : ℤ) (n : ℕ) → t2 ≤ℤ t → NoneBelowAt eq value keys others labels labels' t n → NoneBelowAt eq value keys others labels labels' t2 n
+  none_weaker : (keys others : List N) (labels labels' : Labels C) (t t2 : ℤ) (n : ℕ) → t2 ≤ℤ t → NoneBelowAt eq value keys others labels labels' t n → NoneBelowAt eq value keys others labels labels' t2 n
   none_weaker keys others labels labels' t t2 n less none = λ k l m x a b d e pl pm. omega (arith, ints, less, none k l m x a b d e pl pm)
 
 module _ {N C : Type 0} (eq : N → N → Bool) (laws : IsEquivalence eq) (value : C → ℤ) (fits : ℤ → Type 0) where
@@ -67,7 +67,7 @@ module _ {N C : Type 0} (eq : N → N → Bool) (laws : IsEquivalence eq) (value
 
   module _ (edges previous : N → List (N × ℤ)) (start end : N) (keys others : List N) (labels labels' : Labels C) where
     -- both sides after a turn of the way back that was refused
-    pub pair_kept : (t : ℤ) → IsPair eq value fits edges previous start end keys others labels labels' t → (others2 : List N) → Grows (length others) (length others2) (StandsFor eq others) (StandsFor eq others2) → IsDistinct eq others2 → length labels' ≡ length others
+    pair_kept : (t : ℤ) → IsPair eq value fits edges previous start end keys others labels labels' t → (others2 : List N) → Grows (length others) (length others2) (StandsFor eq others) (StandsFor eq others2) → IsDistinct eq others2 → length labels' ≡ length others
         → IsPair eq value fits edges previous start end keys others2 labels labels' t
     pair_kept t pair others2 grows distinct wide = record {
       forth = pair.forth;
@@ -76,7 +76,7 @@ module _ {N C : Type 0} (eq : N → N → Bool) (laws : IsEquivalence eq) (value
       seen = λ j k l m x a b d e s. pair.seen j k l m x a (grows.back k x (omega (arith, HasLabel-inside labels' k m e, wide)) b) d e s;
     }
 
-    pub meeting_kept : (others2 : List N) → Grows (length others) (length others2) (StandsFor eq others) (StandsFor eq others2) → (m : Meeting C) → IsMeeting eq value keys others labels labels' m → IsMeeting eq value keys others2 labels labels' m
+    meeting_kept : (others2 : List N) → Grows (length others) (length others2) (StandsFor eq others) (StandsFor eq others2) → (m : Meeting C) → IsMeeting eq value keys others labels labels' m → IsMeeting eq value keys others2 labels labels' m
     meeting_kept others2 grows m w = record {
       node = w.node;
       stands_here = w.stands_here;
@@ -87,6 +87,15 @@ module _ {N C : Type 0} (eq : N → N → Bool) (laws : IsEquivalence eq) (value
       labelled_across = w.labelled_across;
       sum = w.sum;
     }
+
+    -- both sides and their best meeting after a refused turn of the second, which found nodes at most
+    pub both_kept : (t : ℤ) → IsPair eq value fits edges previous start end keys others labels labels' t → (others2 : List N) → Grows (length others) (length others2) (StandsFor eq others) (StandsFor eq others2) → IsDistinct eq others2 → length labels' ≡ length others
+        → (now now' : Labels C) → now ≡ labels → now' ≡ labels' → (best : Option (Meeting C)) → IfSome best (IsMeeting eq value keys others labels labels')
+        → IsPair eq value fits edges previous start end keys others2 now now' t × IfSome best (IsMeeting eq value keys others2 now now')
+    both_kept t pair others2 grows distinct wide now now' same same' best w =
+        subst (λ (a : Labels C). IsPair eq value fits edges previous start end keys others2 a now' t × IfSome best (IsMeeting eq value keys others2 a now')) (sym same)
+        (subst (λ (b : Labels C). IsPair eq value fits edges previous start end keys others2 labels b t × IfSome best (IsMeeting eq value keys others2 labels b)) (sym same')
+        (pair_kept t pair others2 grows distinct wide, some_map (IsMeeting eq value keys others labels labels') (IsMeeting eq value keys others2 labels labels') (meeting_kept others2 grows) best w))
 
     -- what the best meeting says, where the least open labels do not undercut it
     pub decided : (greatest : ℤ) (best : Option (Meeting C)) → IsPair eq value fits edges previous start end keys others labels labels' (bound value greatest best) → (a b : ℤ) → IsLow (by_cost value) labels a → IsLow (by_cost value) labels' b
@@ -109,21 +118,70 @@ module _ {N C : Type 0} (eq : N → N → Bool) (laws : IsEquivalence eq) (value
     half2 = half_turned edges start keys labels pair.forth keys2 grows distinct labels2 search tree n l turned fit
 
     -- both sides after a turn of the first
-    pub both_turned : length labels ≡ length keys → HasLabel labels n l → (t2 : ℤ) → t2 ≤ℤ t → NoneBelowAt eq value keys2 others labels2 labels' t2 n → IsPair eq value fits edges previous start end keys2 others labels2 labels' t2
+    both_turned : length labels ≡ length keys → HasLabel labels n l → (t2 : ℤ) → t2 ≤ℤ t → NoneBelowAt eq value keys2 others labels2 labels' t2 n → IsPair eq value fits edges previous start end keys2 others labels2 labels' t2
     both_turned wide at t2 less none = pair_turned eq laws value fits edges previous start end keys others labels labels' t pair keys2 labels2 half2 grows wide n l at turned t2 less none
 
-    pub meeting_turned : (m : Meeting C) → IsMeeting eq value keys others labels labels' m → IsMeeting eq value keys2 others labels2 labels' m
+    meeting_turned : (m : Meeting C) → IsMeeting eq value keys others labels labels' m → IsMeeting eq value keys2 others labels2 labels' m
     meeting_turned m w = meeting_stays eq laws value fits edges start keys labels pair.forth keys2 labels2 half2 grows n l turned others labels' m w
 
   -- a meeting that is turned about
-  pub bound_about : (greatest : ℤ) (o r : Option (Meeting C)) → MatchOption o (r ≡ None) (λ m. r ≡ Some (record { here = m.across; across = m.here; cost = m.cost })) → bound value greatest r ≡ bound value greatest o
+  bound_about : (greatest : ℤ) (o r : Option (Meeting C)) → MatchOption o (r ≡ None) (λ m. r ≡ Some (record { here = m.across; across = m.here; cost = m.cost })) → bound value greatest r ≡ bound value greatest o
   bound_about greatest None r e = ap (bound value greatest) e
   bound_about greatest (Some m) r e = ap (bound value greatest) e
 
-  pub meets_about : (keys others : List N) (labels labels' : Labels C) (o r : Option (Meeting C)) → MatchOption o (r ≡ None) (λ m. r ≡ Some (record { here = m.across; across = m.here; cost = m.cost }))
+  meets_about : (keys others : List N) (labels labels' : Labels C) (o r : Option (Meeting C)) → MatchOption o (r ≡ None) (λ m. r ≡ Some (record { here = m.across; across = m.here; cost = m.cost }))
       → IfSome o (IsMeeting eq value others keys labels' labels) → IfSome r (IsMeeting eq value keys others labels labels')
   meets_about keys others labels labels' None r e h = subst (λ (q : Option (Meeting C)). IfSome q (IsMeeting eq value keys others labels labels')) (sym e) tt
   meets_about keys others labels labels' (Some m) r e h = subst (λ (q : Option (Meeting C)). IfSome q (IsMeeting eq value keys others labels labels')) (sym e) (meeting_swap eq laws value fits others keys labels' labels m h)
+
+  -- both sides and their best meeting after a turn of one of them, from the number n; before it, `least` was called on both
+  module _ (edges previous : N → List (N × ℤ)) (start end : N) (keys others : List N) (labels labels' : Labels C) (greatest : ℤ) (best : Option (Meeting C)) (pair : IsPair eq value fits edges previous start end keys others labels labels' (bound value greatest best))
+      (meets : IfSome best (IsMeeting eq value keys others labels labels')) (now now' labels2 : Labels C) (same : now ≡ labels) (same' : now' ≡ labels') (tree : IsTree labels2) (n : ℕ) (l : Label C) (cost : C) (fit : fits (value cost)) (chosen : Option (Meeting C)) (less : bound value greatest chosen ≤ℤ bound value greatest best) where
+    pub turned_forth : (keys2 : List N) → Grows (length keys) (length keys2) (StandsFor eq keys) (StandsFor eq keys2) → IsDistinct eq keys2
+        → (IsSearch (by_cost value) (IsStep eq (from_one start edges)) (λ k. nat_eq k 0) (StandsFor eq keys) now → IsSearch (by_cost value) (IsStep eq (from_one start edges)) (λ k. nat_eq k 0) (StandsFor eq keys2) labels2)
+        → HasLabel labels n l → ((m : Label C) → HasLabel now n m → Turned n m now labels2) → ((m : Label C) → HasLabel now n m → cost ≡ m.cost) → length labels ≡ length keys
+        → (found : Option (Meeting C)) → IfSome found (λ m. (m.here ≡ n) × IsMeeting eq value keys2 others labels2 now' m) → NoneBelowAt eq value keys2 others labels2 now' (bound value greatest found) n
+        → (chosen ≡ best) ⊎ (chosen ≡ found) → bound value greatest chosen ≤ℤ bound value greatest found
+        → IsPair eq value fits edges previous start end keys2 others labels2 now' (bound value greatest chosen) × IfSome chosen (IsMeeting eq value keys2 others labels2 now')
+    turned_forth keys2 grows distinct search at turned costs wide found met none one low =
+        let here : HasLabel now n l = subst (λ (a : Labels C). HasLabel a n l) (sym same) at in
+        let t : Turned n l labels labels2 = subst (λ (a : Labels C). Turned n l a labels2) same (turned l here) in
+        let f : fits (value l.cost) = subst (λ (x : C). fits (value x)) (costs l here) fit in
+        let s = search (subst (λ (a : Labels C). IsSearch (by_cost value) (IsStep eq (from_one start edges)) (λ k. nat_eq k 0) (StandsFor eq keys) a) (sym same) (pair.forth).search) in
+        let m = meeting_turned edges previous start end keys others labels labels' (bound value greatest best) pair keys2 grows distinct labels2 s tree n l t f in
+        subst (λ (b : Labels C). IsPair eq value fits edges previous start end keys2 others labels2 b (bound value greatest chosen) × IfSome chosen (IsMeeting eq value keys2 others labels2 b)) (sym same') (
+          both_turned edges previous start end keys others labels labels' (bound value greatest best) pair keys2 grows distinct labels2 s tree n l t f wide at (bound value greatest chosen) less
+              (none_weaker eq value keys2 others labels2 labels' (bound value greatest found) (bound value greatest chosen) n low (subst (λ (b : Labels C). NoneBelowAt eq value keys2 others labels2 b (bound value greatest found) n) same' none)),
+          some_one (IsMeeting eq value keys2 others labels2 labels') chosen best found one (some_map (IsMeeting eq value keys others labels labels') (IsMeeting eq value keys2 others labels2 labels') m best meets)
+              (some_map (λ (q : Meeting C). (q.here ≡ n) × IsMeeting eq value keys2 others labels2 labels' q) (IsMeeting eq value keys2 others labels2 labels') (λ q h. h.1) found
+              (subst (λ (b : Labels C). IfSome found (λ q. (q.here ≡ n) × IsMeeting eq value keys2 others labels2 b q)) same' met)),
+        )
+
+    pub turned_back : (others2 : List N) → Grows (length others) (length others2) (StandsFor eq others) (StandsFor eq others2) → IsDistinct eq others2
+        → (IsSearch (by_cost value) (IsStep eq (from_one end previous)) (λ k. nat_eq k 0) (StandsFor eq others) now' → IsSearch (by_cost value) (IsStep eq (from_one end previous)) (λ k. nat_eq k 0) (StandsFor eq others2) labels2)
+        → HasLabel labels' n l → ((m : Label C) → HasLabel now' n m → Turned n m now' labels2) → ((m : Label C) → HasLabel now' n m → cost ≡ m.cost) → length labels' ≡ length others
+        → (found about : Option (Meeting C)) → MatchOption found (about ≡ None) (λ m. about ≡ Some (record { here = m.across; across = m.here; cost = m.cost }))
+        → IfSome found (λ m. (m.here ≡ n) × IsMeeting eq value others2 keys labels2 now m) → NoneBelowAt eq value others2 keys labels2 now (bound value greatest found) n
+        → (chosen ≡ best) ⊎ (chosen ≡ about) → bound value greatest chosen ≤ℤ bound value greatest about
+        → IsPair eq value fits edges previous start end keys others2 now labels2 (bound value greatest chosen) × IfSome chosen (IsMeeting eq value keys others2 now labels2)
+    turned_back others2 grows distinct search at turned costs wide found about is met none one low =
+        let here : HasLabel now' n l = subst (λ (a : Labels C). HasLabel a n l) (sym same') at in
+        let t : Turned n l labels' labels2 = subst (λ (a : Labels C). Turned n l a labels2) same' (turned l here) in
+        let f : fits (value l.cost) = subst (λ (x : C). fits (value x)) (costs l here) fit in
+        let s = search (subst (λ (a : Labels C). IsSearch (by_cost value) (IsStep eq (from_one end previous)) (λ k. nat_eq k 0) (StandsFor eq others) a) (sym same') (pair.back).search) in
+        let swapped = pair_swap eq laws value fits edges previous start end keys others labels labels' (bound value greatest best) pair in
+        let lower : bound value greatest chosen ≤ℤ bound value greatest found = subst (λ (z : ℤ). bound value greatest chosen ≤ℤ z) (bound_about greatest found about is) low in
+        let turn = both_turned previous edges end start others keys labels' labels (bound value greatest best) swapped others2 grows distinct labels2 s tree n l t f wide at (bound value greatest chosen) less
+        (none_weaker eq value others2 keys labels2 labels (bound value greatest found) (bound value greatest chosen) n lower (subst (λ (b : Labels C). NoneBelowAt eq value others2 keys labels2 b (bound value greatest found) n) same none)) in
+        let m = meeting_turned previous edges end start others keys labels' labels (bound value greatest best) swapped others2 grows distinct labels2 s tree n l t f in
+        subst (λ (a : Labels C). IsPair eq value fits edges previous start end keys others2 a labels2 (bound value greatest chosen) × IfSome chosen (IsMeeting eq value keys others2 a labels2)) (sym same) (
+          pair_swap eq laws value fits previous edges end start others2 keys labels2 labels (bound value greatest chosen) turn,
+          some_one (IsMeeting eq value keys others2 labels labels2) chosen best about one
+              (some_map (IsMeeting eq value keys others labels labels') (IsMeeting eq value keys others2 labels labels2) (λ q h. meeting_swap eq laws value fits others2 keys labels2 labels _ (m _ (meeting_swap eq laws value fits keys others labels labels' q h))) best meets)
+              (meets_about keys others2 labels labels2 found about is
+              (some_map (λ (q : Meeting C). (q.here ≡ n) × IsMeeting eq value others2 keys labels2 labels q) (IsMeeting eq value others2 keys labels2 labels) (λ q h. h.1) found
+              (subst (λ (b : Labels C). IfSome found (λ q. (q.here ≡ n) × IsMeeting eq value others2 keys labels2 b q)) same met))),
+        )
 
   -- one side before its first turn: the start alone has a label
   module _ (edges : N → List (N × ℤ)) (start : N) (keys : List N) (labels : Labels C) (first : Label C) (opened : first.settled ≡ false) (only : (k : ℕ) (l : Label C) → HasLabel labels k l → (k ≡ 0) × (l ≡ first)) where

@@ -194,3 +194,7 @@ module _ {N : Type 0} (eq : N → N → Bool) (laws : IsEquivalence eq) where
 pub start_waits : {N : Type 0} (start : Option N) (nodes : List N) (k : ℕ) (n : N) → IsPlace start nodes k → start ≡ Some n → k < length (found_or start nodes)
 start_waits None nodes k n p e = cc
 start_waits (Some m) nodes k n p e = omega (arith, p.1)
+
+pub placed : {N : Type 0} (start : Option N) (nodes : List N) (k : ℕ) → IsPlace start nodes k → k ≤ length (found_or start nodes)
+placed None nodes k p = p
+placed (Some m) nodes k p = omega (arith, p.1)

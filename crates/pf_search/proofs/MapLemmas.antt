@@ -1,5 +1,5 @@
 -- Lemmas on the map that is made of labels.
-use Rattle.std.proofs.Common.{◌≡◌, ℕ, ◌+◌, ◌<◌, ◌≤◌, Bool, true, false, true≢false, Option, Some, List, ◌∙◌, length, refl, sym, ap, subst, arith, inl, inr, cond, get_or}
+use Rattle.std.proofs.Common.{◌≡◌, ℕ, ◌+◌, ◌<◌, ◌≤◌, Bool, true, false, true≢false, Option, Some, None, List, ◌∙◌, length, refl, sym, ap, subst, arith, inl, inr, cond, get_or}
 use Rattle.std.specs.Prelude.{slice_get}
 use Rattle.std.specs.Cmp.{IsEquivalence}
 use Rattle.std.proofs.lemmas.Option.{same_Some}
@@ -22,6 +22,15 @@ label_none labels n o p inside is same none l h = none l (same ∙ same_Some o (
 module _ {N C : Type 0} (eq : N → N → Bool) (laws : IsEquivalence eq) (nodes : List N) (labels : Labels C) where
   wider : (n : ℕ) (x parent : N) (cost : C) → IsLabelOf eq nodes labels n x parent cost → IsLabelOf eq nodes labels (n + 1) x parent cost
   wider n x parent cost h = record { number = h.number; label = h.label; inside = (h.inside.0, omega (arith, h.inside.1)); here = h.here; at = h.at; behind = h.behind; is = h.is }
+
+  -- no label was put in yet
+  pub maps_none : (entry : N → Option (N × C)) → ((x : N) → entry x ≡ None) → MapsLabels eq nodes labels 1 entry
+  maps_none entry none = record {
+    from = λ x parent cost e.
+        let both : None ≡ Some (parent, cost) = sym (none x) ∙ e in
+        cc;
+    to = λ k l x i here at. absurd (omega (arith, i.0, i.1));
+  }
 
   -- the number has no label
   pub maps_same : (n : ℕ) (entry : N → Option (N × C)) → ((l : Label C) → ¬ (HasLabel labels n l)) → MapsLabels eq nodes labels n entry → MapsLabels eq nodes labels (n + 1) entry

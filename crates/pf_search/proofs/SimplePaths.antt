@@ -1,19 +1,19 @@
 -- Each walk to a goal holds a path to it, and paths are looked through step by step.
 use Rattle.std.proofs.Common.{◌≡◌, ℕ, zero, suc, ◌<◌, ◌≤◌, ◌-◌, ◌||◌, Bool, true, false, Some, slice_get, slice_index_or, reverse, take, List, [], ◌∷◌, ◌++◌, ◌∙◌, length, refl, sym, ap, subst, arith, inl, inr, true≢false}
-use Rattle.std.specs.Prelude.{◌⊎◌, Contains}
+use Rattle.std.specs.Prelude.{◌⊎◌, Contains, MatchBool}
 use Rattle.std.specs.Borrow.{Bor}
 use Rattle.std.specs.Fn.{Called, Mut}
 use Rattle.std.specs.Cmp.{IsEquivalence}
 use Rattle.std.specs.List.{list_any}
 use Rattle.std.proofs.lemmas.List.{append_assoc}
-use Rattle.std.proofs.lemmas.List.Elements.{Contains-append_left, Contains-push}
+use Rattle.std.proofs.lemmas.List.Elements.{Contains-append_left, Contains-push, Contains-push_cases}
 use Rattle.pf_base.specs.Walks.{HasNode, NoRepeats, Follows, end_of, IsGoalWalk, IsGoalPath, HasNoGoalWalk, IsReachable}
 use Rattle.pf_base.specs.Successors.{HasSuccessor, IsFewestEdgesGoalPath}
 use Rattle.pf_base.specs.Answers.{SameNodes, AnswersTest}
 use Rattle.pf_base.proofs.Asking.{Answers-gives, Answers-on}
-use Rattle.pf_core.proofs.ListLemmas.{or_left, or_right, or_cases, at_place, Contains-head, Contains-tail, Contains-cases, reverse-cons}
+use Rattle.pf_core.proofs.ListLemmas.{or_left, or_right, or_cases, at_place, Contains-head, Contains-tail, Contains-cases, reverse-cons, Contains-reverse}
 use Rattle.pf_core.proofs.PathLemmas.{NoRepeats-append}
-use Rattle.pf_search.specs.Internal.Deepening.{IsPathFrom, NoGoalBeyond}
+use Rattle.pf_search.specs.Internal.Deepening.{IsPathFrom, FollowsEnd, NoGoalBeyond}
 
 module _ {N : Type 0} (eq : N → N → Bool) (laws : IsEquivalence eq) where
   eq_sym : (x y : N) → eq x y ≡ true → eq y x ≡ true
@@ -201,6 +201,14 @@ module _ {N : Type 0} (eq : N → N → Bool) (laws : IsEquivalence eq) where
             let q = shorten v s r (follows_alike v a s reach (eq_sym s a e) g.walks) (ends_alike v a s reach (eq_sym s a e) g.ends) in
             (q.nodes, omega (arith, q.short), record { goes = record { walks = q.goes; begins = begin; ends = q.ends }; distinct = (q.apart, q.distinct) })
 
+-- what stands in a list in reverse
+in_reverse : {A : Type 0} (xs : List A) (y : A) → Contains xs y → Contains (reverse xs) y
+in_reverse [] y m = m
+in_reverse (x ∷ xs) y m = subst (λ zs. Contains zs y) (sym (reverse-cons x xs)) (elim (Contains-cases xs x y m) as (λ _. Contains (reverse xs ++ x ∷ []) y) [
+  | inl e ↦ subst (λ z. Contains (reverse xs ++ x ∷ []) z) e (Contains-push (reverse xs) x)
+  | inr k ↦ Contains-append_left (reverse xs) (x ∷ []) y (in_reverse xs y k)
+])
+
 -- ---- a path that is looked through, seen from the node at its end
 
 module _ {N : Type 0} (eq : N → N → Bool) (laws : IsEquivalence eq) (next : N → List N) (starts : List N) where
@@ -208,11 +216,11 @@ module _ {N : Type 0} (eq : N → N → Bool) (laws : IsEquivalence eq) (next : 
   last_get [] a x h = cc
   last_get (b ∷ v) a x h = last_get v b x h
 
-  pub has_found : (p : List N) (x : N) → list_any (λ y. eq y x) p ≡ true → HasNode eq p x
+  has_found : (p : List N) (x : N) → list_any (λ y. eq y x) p ≡ true → HasNode eq p x
   has_found [] x h = absurd (true≢false (sym h))
   has_found (y ∷ p) x h = elim (or_cases (eq y x) (list_any (λ z. eq z x) p) h) [ inl e ↦ inl e | inr r ↦ inr (has_found p x r) ]
 
-  pub not_found : (p : List N) (x : N) → list_any (λ y. eq y x) p ≡ false → ¬ (HasNode eq p x)
+  not_found : (p : List N) (x : N) → list_any (λ y. eq y x) p ≡ false → ¬ (HasNode eq p x)
   not_found [] x h k = k
   not_found (y ∷ p) x h (inl e) = true≢false (sym e ∙ or_left (eq y x) (list_any (λ z. eq z x) p) h)
   not_found (y ∷ p) x h (inr k) = not_found p x (or_right (eq y x) (list_any (λ z. eq z x) p) h) k
@@ -223,7 +231,7 @@ module _ {N : Type 0} (eq : N → N → Bool) (laws : IsEquivalence eq) (next : 
   here_reached (a ∷ v) here g at = record { walk = a ∷ v; goes = record { walks = g.goes.walks; begins = g.goes.begins; ends = subst (λ x. eq x here ≡ true) (sym (last_get v a here (subst (λ n. slice_get (a ∷ v) n ≡ Some here) (omega arith) at))) (laws.refl here) } }
 
   -- it is a goal path where that node passes
-  pub found_here : (test : N → Bool) (p : List N) (here : N) → IsPathFrom eq next starts p → slice_get p (length p - 1) ≡ Some here → test here ≡ true → IsGoalPath eq (HasSuccessor eq next) starts test p
+  found_here : (test : N → Bool) (p : List N) (here : N) → IsPathFrom eq next starts p → slice_get p (length p - 1) ≡ Some here → test here ≡ true → IsGoalPath eq (HasSuccessor eq next) starts test p
   found_here test [] here g at t = absurd g.goes.walks
   found_here test (a ∷ v) here g at t = record {
     goes = record { walks = g.goes.walks; begins = g.goes.begins; ends = subst (λ x. test x ≡ true) (sym (last_get v a here (subst (λ n. slice_get (a ∷ v) n ≡ Some here) (omega arith) at))) t };
@@ -231,7 +239,7 @@ module _ {N : Type 0} (eq : N → N → Bool) (laws : IsEquivalence eq) (next : 
   }
 
   -- and it goes on to each successor that is not on it
-  pub one_more : (p answer : List N) (here y : N) → IsPathFrom eq next starts p → slice_get p (length p - 1) ≡ Some here → SameNodes eq answer (next here) → Contains answer y → ¬ (HasNode eq p y) → IsPathFrom eq next starts (p ++ y ∷ [])
+  one_more : (p answer : List N) (here y : N) → IsPathFrom eq next starts p → slice_get p (length p - 1) ≡ Some here → SameNodes eq answer (next here) → Contains answer y → ¬ (HasNode eq p y) → IsPathFrom eq next starts (p ++ y ∷ [])
   one_more [] answer here y g at s m n = absurd g.goes.walks
   one_more (a ∷ v) answer here y g at s m n =
       let last = last_get v a here (subst (λ k. slice_get (a ∷ v) k ≡ Some here) (omega arith) at) in
@@ -244,19 +252,29 @@ module _ {N : Type 0} (eq : N → N → Bool) (laws : IsEquivalence eq) (next : 
       has_item [] x m = absurd (omega (arith, m.1))
       has_item (z ∷ xs) x m = elim (Contains-cases xs z x m) as (λ _. HasNode eq (z ∷ xs) x) [ inl e ↦ inl (subst (λ u. eq u x ≡ true) (sym e) (laws.refl x)) | inr k ↦ inr (has_item xs x k) ]
 
+  -- a path to which a node that follows was added
+  pub pushed_on : (p now seen pushed answer waiting rest : List N) (y : N) → IsPathFrom eq next starts p → FollowsEnd eq next p answer → ((x : N) → Contains waiting x → Contains answer x) → waiting ≡ rest ++ y ∷ []
+      → now ≡ p → seen ≡ now → false ≡ list_any (λ x. eq x y) seen → pushed ≡ now ++ y ∷ [] → IsPathFrom eq next starts pushed × (pushed ≡ p ++ y ∷ [])
+  pushed_on p now seen pushed answer waiting rest y g f below w same at new e =
+      let fresh : list_any (λ x. eq x y) p ≡ false = subst (λ xs. list_any (λ x. eq x y) xs ≡ false) (at ∙ same) (sym new) in
+      let m : Contains answer y = below y (subst (λ xs. Contains xs y) (sym w) (Contains-push rest y)) in
+      let whole : pushed ≡ p ++ y ∷ [] = e ∙ ap (λ xs. xs ++ y ∷ []) same in
+      let more = one_more p f.listed f.here y g f.at f.same (Contains-reverse f.listed y (subst (λ xs. Contains xs y) f.reversed m)) (not_found p y fresh) in
+      (subst (λ xs. IsPathFrom eq next starts xs) (sym whole) more, whole)
+
   module _ (test : N → Bool) where
     -- more paths may have been cut off
-    pub cut_more : (cut deeper : Bool) (k : ℕ) (p : List N) → NoGoalBeyond eq next starts test cut k p → NoGoalBeyond eq next starts test (cut || deeper) k p
+    cut_more : (cut deeper : Bool) (k : ℕ) (p : List N) → NoGoalBeyond eq next starts test cut k p → NoGoalBeyond eq next starts test (cut || deeper) k p
     cut_more true deeper k p h = h
     cut_more false deeper k p h = λ w short. h w (λ e. absurd (true≢false (sym e)))
 
-    pub cut_deeper : (cut deeper : Bool) (k : ℕ) (p : List N) → NoGoalBeyond eq next starts test deeper k p → NoGoalBeyond eq next starts test (cut || deeper) k p
+    cut_deeper : (cut deeper : Bool) (k : ℕ) (p : List N) → NoGoalBeyond eq next starts test deeper k p → NoGoalBeyond eq next starts test (cut || deeper) k p
     cut_deeper true true k p h = h
     cut_deeper true false k p h = λ w short. h w (λ e. absurd (true≢false (sym e)))
     cut_deeper false deeper k p h = h
 
     -- nothing is found at the end of a path that may not go on
-    pub none_here : (p : List N) (here : N) → IsPathFrom eq next starts p → slice_get p (length p - 1) ≡ Some here → test here ≡ false → NoGoalBeyond eq next starts test true 0 p
+    none_here : (p : List N) (here : N) → IsPathFrom eq next starts p → slice_get p (length p - 1) ≡ Some here → test here ≡ false → NoGoalBeyond eq next starts test true 0 p
     none_here [] here g at t w short k = absurd g.goes.walks
     none_here (a ∷ v) here g at t [] short k =
         let last = last_get v a here (subst (λ n. slice_get (a ∷ v) n ≡ Some here) (omega arith) at) in
@@ -267,7 +285,7 @@ module _ {N : Type 0} (eq : N → N → Bool) (laws : IsEquivalence eq) (next : 
         nil_right (x ∷ xs) = ap (λ ys. x ∷ ys) (nil_right xs)
     none_here (a ∷ v) here g at t (b ∷ w) short k = absurd (omega (arith, short refl))
 
-    pub none_past : ((x y : N) → IsReachable eq (HasSuccessor eq next) starts x → eq x y ≡ true → SameNodes eq (next x) (next y))
+    none_past : ((x y : N) → IsReachable eq (HasSuccessor eq next) starts x → eq x y ≡ true → SameNodes eq (next x) (next y))
         → ((x y : N) → IsReachable eq (HasSuccessor eq next) starts x → eq x y ≡ true → test x ≡ test y)
         → (cut : Bool) (steps : ℕ) (p answer : List N) (here : N) → ¬ (steps ≡ 0) → IsPathFrom eq next starts p → slice_get p (length p - 1) ≡ Some here → test here ≡ false → SameNodes eq answer (next here)
         → ((y : N) → Contains answer y → HasNode eq p y ⊎ NoGoalBeyond eq next starts test cut (steps - 1) (p ++ y ∷ []))
@@ -279,6 +297,54 @@ module _ {N : Type 0} (eq : N → N → Bool) (laws : IsEquivalence eq) (next : 
         none_beyond eq laws next starts alike test test_alike cut k a v answer g.goes.begins g.goes.walks (subst (λ x. test x ≡ false) (sym last) t) (subst (λ x. SameNodes eq answer (next x)) (sym last) s)
         (λ y m. subst (λ n. HasNode eq (a ∷ v) y ⊎ NoGoalBeyond eq next starts test cut n ((a ∷ v) ++ y ∷ [])) (omega arith) (each y m))
 
+    -- what is known of the nodes that follow once the last that waited was on the path, or was looked through
+    module _ (cut : Bool) (k : ℕ) (p answer waiting rest : List N) (y : N) (w : waiting ≡ rest ++ y ∷ []) (each : (x : N) → Contains answer x → Contains waiting x ⊎ (HasNode eq p x ⊎ NoGoalBeyond eq next starts test cut k (p ++ x ∷ []))) where
+      pub left_same : (now seen : List N) → now ≡ p → seen ≡ now → true ≡ list_any (λ x. eq x y) seen → (x : N) → Contains answer x → Contains rest x ⊎ (HasNode eq p x ⊎ NoGoalBeyond eq next starts test cut k (p ++ x ∷ []))
+      left_same now seen same at old x m =
+          let has = has_found p y (subst (λ xs. list_any (λ x. eq x y) xs ≡ true) (at ∙ same) (sym old)) in
+          elim (each x m) as (λ _. Contains rest x ⊎ (HasNode eq p x ⊎ NoGoalBeyond eq next starts test cut k (p ++ x ∷ []))) [
+            | inl h ↦ elim (Contains-push_cases rest y x (subst (λ xs. Contains xs x) w h)) as (λ _. Contains rest x ⊎ (HasNode eq p x ⊎ NoGoalBeyond eq next starts test cut k (p ++ x ∷ []))) [
+              | inl i ↦ inl i
+              | inr e ↦ inr (inl (subst (λ z. HasNode eq p z) e has))
+            ]
+            | inr h ↦ inr h
+          ]
+
+      pub left_more : (deeper : Bool) (pushed : List N) → pushed ≡ p ++ y ∷ [] → NoGoalBeyond eq next starts test deeper k pushed → (x : N) → Contains answer x → Contains rest x ⊎ (HasNode eq p x ⊎ NoGoalBeyond eq next starts test (cut || deeper) k (p ++ x ∷ []))
+      left_more deeper pushed e none x m =
+          elim (each x m) as (λ _. Contains rest x ⊎ (HasNode eq p x ⊎ NoGoalBeyond eq next starts test (cut || deeper) k (p ++ x ∷ []))) [
+            | inl h ↦ elim (Contains-push_cases rest y x (subst (λ xs. Contains xs x) w h)) as (λ _. Contains rest x ⊎ (HasNode eq p x ⊎ NoGoalBeyond eq next starts test (cut || deeper) k (p ++ x ∷ []))) [
+              | inl i ↦ inl i
+              | inr q ↦ inr (inr (cut_deeper cut deeper k (p ++ x ∷ []) (subst (λ z. NoGoalBeyond eq next starts test deeper k (p ++ z ∷ [])) q (subst (λ xs. NoGoalBeyond eq next starts test deeper k xs) e none))))
+            ]
+            | inr h ↦ elim h as (λ _. Contains rest x ⊎ (HasNode eq p x ⊎ NoGoalBeyond eq next starts test (cut || deeper) k (p ++ x ∷ []))) [
+              | inl i ↦ inr (inl i)
+              | inr n ↦ inr (inr (cut_more cut deeper k (p ++ x ∷ []) n))
+            ]
+          ]
+
+    -- what the test of the node at its end tells of a path
+    pub end_told : (p : List N) (here : N) → IsPathFrom eq next starts p → slice_get p (length p - 1) ≡ Some here → (b : Bool) → b ≡ test here → MatchBool b (IsGoalPath eq (HasSuccessor eq next) starts test p) (NoGoalBeyond eq next starts test true 0 p)
+    end_told p here g at true e = found_here test p here g at (sym e)
+    end_told p here g at false e = none_here p here g at (sym e)
+
+    -- Nothing is found beyond a path where nothing is found at its end, nor beyond it with each node that follows.
+    pub none_left : ((x y : N) → IsReachable eq (HasSuccessor eq next) starts x → eq x y ≡ true → SameNodes eq (next x) (next y))
+        → ((x y : N) → IsReachable eq (HasSuccessor eq next) starts x → eq x y ≡ true → test x ≡ test y)
+        → (cut : Bool) (steps : ℕ) (p answer : List N) → ¬ (steps ≡ 0) → IsPathFrom eq next starts p → FollowsEnd eq next p answer → NoGoalBeyond eq next starts test true 0 p
+        → ((y : N) → Contains answer y → HasNode eq p y ⊎ NoGoalBeyond eq next starts test cut (steps - 1) (p ++ y ∷ []))
+        → NoGoalBeyond eq next starts test cut steps p
+    none_left alike test_alike cut steps p answer more g f none each = none_past alike test_alike cut steps p f.listed f.here more g f.at (fails (test f.here) refl) f.same
+        (λ y m. each y (subst (λ xs. Contains xs y) (sym f.reversed) (in_reverse f.listed y m)))
+      where
+        nil_right : (xs : List N) → xs ++ [] ≡ xs
+        nil_right [] = refl
+        nil_right (x ∷ xs) = ap (λ ys. x ∷ ys) (nil_right xs)
+
+        fails : (b : Bool) → test f.here ≡ b → test f.here ≡ false
+        fails true e = absurd (none [] (λ _. omega arith) (subst (λ q. IsGoalPath eq (HasSuccessor eq next) starts test q) (sym (nil_right p)) (found_here test p f.here g f.at e)))
+        fails false e = e
+
 -- the last node of a path is where it is read
 pub last_at : {N : Type 0} (eq : N → N → Bool) (next : N → List N) (starts : List N) (p : List N) (n : ℕ) (here : N) → IsPathFrom eq next starts p → n ≡ length p → here ≡ slice_index_or p (n - 1) here → slice_get p (length p - 1) ≡ Some here
 last_at eq next starts [] n here g l e = absurd g.goes.walks
@@ -289,19 +355,14 @@ module _ {F N : Type 0} (calls : Mut F (Bor N × Unit {0}) Bool) (eq : N → N �
   pub test_on : (f f' : F) (x : Bor N) (r : Bool) → AnswersTest calls eq f within test → within x.now → Called calls f (x, tt) r f' → AnswersTest calls eq f' within test × (r ≡ test x.now)
   test_on f f' x r a w called = (record { alike = a.alike; answers = Answers-on calls within _ a.answers x w r f' called }, Answers-gives calls within _ a.answers x w r f' called)
 
--- what stands in a list in reverse
-pub in_reverse : {A : Type 0} (xs : List A) (y : A) → Contains xs y → Contains (reverse xs) y
-in_reverse [] y m = m
-in_reverse (x ∷ xs) y m = subst (λ zs. Contains zs y) (sym (reverse-cons x xs)) (elim (Contains-cases xs x y m) as (λ _. Contains (reverse xs ++ x ∷ []) y) [
-  | inl e ↦ subst (λ z. Contains (reverse xs ++ x ∷ []) z) e (Contains-push (reverse xs) x)
-  | inr k ↦ Contains-append_left (reverse xs) (x ∷ []) y (in_reverse xs y k)
-])
-
 -- a list without the element that was put at its end
-pub take_push : {A : Type 0} (xs : List A) (x : A) (n : ℕ) → n ≡ length xs → take n (xs ++ x ∷ []) ≡ xs
-take_push [] x n e = rw e refl
-take_push (y ∷ ys) x zero e = absurd (omega (arith, e))
-take_push (y ∷ ys) x (suc n) e = ap (λ zs. y ∷ zs) (take_push ys x n (omega (arith, e)))
+pub cut_back : {A : Type 0} (xs pushed left back : List A) (x : A) (n : ℕ) → pushed ≡ xs ++ x ∷ [] → left ≡ pushed → back ≡ take n left → n ≡ length xs → back ≡ xs
+cut_back {A = A} xs pushed left back x n e s t l = t ∙ ap (take n) (s ∙ e) ∙ take_push xs n l
+  where
+    take_push : (ys : List A) (n : ℕ) → n ≡ length ys → take n (ys ++ x ∷ []) ≡ ys
+    take_push [] n e = rw e refl
+    take_push (y ∷ ys) zero e = absurd (omega (arith, e))
+    take_push (y ∷ ys) (suc n) e = ap (λ zs. y ∷ zs) (take_push ys n (omega (arith, e)))
 
 -- a path has a node
 pub has_end : {N : Type 0} (eq : N → N → Bool) (next : N → List N) (starts : List N) (p : List N) → IsPathFrom eq next starts p → 0 < length p

@@ -1,12 +1,14 @@
 -- What contracts of private functions say of a search by rising cost from both ends.
-use Rattle.std.specs.Prelude.{◌≡◌, ◌⊎◌, ◌↔◌, ◌≤ℤ◌, ◌+ℤ◌, ℕ, ℤ, pos, Bool, true, List, [], ◌∷◌, Option, Some, None, nat_eq, Contains}
+use Rattle.std.specs.Prelude.{◌≡◌, ◌⊎◌, ◌↔◌, ◌≤ℤ◌, ◌+ℤ◌, ℕ, ℤ, pos, Bool, true, List, [], ◌∷◌, Option, Some, None, nat_eq, length, Contains}
+use Rattle.std.specs.declared.cmp.Ordering.{Ordering}
 use Rattle.pf_base.specs.Walks.{end_of}
 use Rattle.pf_base.specs.Edges.{InReach, HasNoNegativeCost}
 use Rattle.pf_base.specs.Answers.{ListsEdges}
 use Rattle.pf_core.specs.declared.labels.Label.{Label}
 use Rattle.pf_core.specs.Labels.{Labels, HasLabel, IsTree, IsChain, by_cost}
 use Rattle.pf_core.specs.Nodes.{NodeGraph, StandsFor, IsStep}
-use Rattle.pf_core.specs.Search.{IsSearch}
+use Rattle.pf_core.specs.Queue.{Entries}
+use Rattle.pf_core.specs.Search.{IsSearch, IsSound}
 use Rattle.pf_core.specs.Steps.{GoesAlong}
 use Rattle.pf_search.specs.declared.directed.dijkstra.both_ends.Meeting.{Meeting}
 use Rattle.pf_search.specs.BothEnds.{IsCostMirror}
@@ -19,6 +21,13 @@ from_one start edges = record { starts = start ∷ []; edges = edges }
 abbrev pub bound : {C : Type 0} → (C → ℤ) → ℤ → Option (Meeting C) → ℤ
 bound value greatest None = greatest +ℤ pos 1
 bound value greatest (Some m) = value m.cost
+
+-- Without the graphs: both searches are sound, and have a slot for each number that was found.
+pub record AreSound {N C : Type 0} (cmp : C → C → Ordering) (value : C → ℤ) (keys others : List N) (labels labels' : Labels C) (entries entries' : Entries C) : Type 0 where
+  pub forth : IsSound cmp value labels entries
+  pub back : IsSound cmp value labels' entries'
+  pub wide_forth : length labels ≡ length keys
+  pub wide_back : length labels' ≡ length others
 
 module _ {N C : Type 0} (eq : N → N → Bool) (value : C → ℤ) where
   -- the two numbers stand for one node, and its labels on both sides sum to no more than the cost

@@ -1,9 +1,19 @@
 -- What a search to a growing depth knows of the paths that it looked through.
-use Rattle.std.specs.Prelude.{◌≡◌, ◌≤◌, ◌+◌, ◌++◌, ℕ, Bool, true, List, length}
+use Rattle.std.specs.Prelude.{◌≡◌, ◌≤◌, ◌+◌, ◌-◌, ◌++◌, ℕ, Bool, true, Some, List, length, slice_get, reverse}
 use Rattle.pf_base.specs.Walks.{IsGoalPath}
 use Rattle.pf_base.specs.Successors.{HasSuccessor}
+use Rattle.pf_base.specs.Answers.{SameNodes}
 use Rattle.pf_search.specs.declared.directed.iddfs.Deepened.{Deepened}
 use Rattle.pf_search.specs.declared.directed.iddfs.Deepened.TheVariants.{Found, Missed}
+
+module _ {N : Type 0} (eq : N → N → Bool) (next : N → List N) where
+  -- a list has the nodes that follow the end of a path, the last one first
+  pub record FollowsEnd (path answer : List N) : Type 0 where
+    pub here : N
+    pub at : slice_get path (length path - 1) ≡ Some here
+    pub listed : List N
+    pub same : SameNodes eq listed (next here)
+    pub reversed : answer ≡ reverse listed
 
 module _ {N : Type 0} (eq : N → N → Bool) (next : N → List N) (starts : List N) where
   -- a path from a start

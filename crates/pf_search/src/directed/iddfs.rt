@@ -1,11 +1,10 @@
 //! Paths with fewest edges by depth limits that grow (iterative deepening).
 
-ghost use Rattle.std.specs.Prelude.{◌≡◌, ◌≤◌, ◌+◌, List, Bool, true, false, [], ◌∷◌, IfOk, IfErr, MatchOption, length};
+ghost use Rattle.std.specs.Prelude.{◌≡◌, ◌≤◌, ◌+◌, List, Bool, true, false, [], ◌∷◌, IfOk, IfErr, MatchBool, MatchOption, length};
 ghost use Rattle.std.specs.Iterator.{IsFiniteIterable, Drains};
-ghost use Rattle.pf_base.specs.Walks.{HasNoGoalWalk, IsReachable};
+ghost use Rattle.pf_base.specs.Walks.{HasNoGoalWalk, IsReachable, IsGoalPath};
 ghost use Rattle.pf_base.specs.Successors.{HasSuccessor, IsUnweightedSearch, IsFewestEdgesGoalPath};
-ghost use Rattle.pf_base.specs.Answers.{SameNodes};
-ghost use Rattle.pf_search.specs.Internal.Deepening.{IsPathFrom, Deepens};
+ghost use Rattle.pf_search.specs.Internal.Deepening.{IsPathFrom, FollowsEnd, NoGoalBeyond, Deepens};
 
 use pf_base::{NodeTest, PathError, SuccessorFunction};
 use std::alloc::Allocator;
@@ -36,8 +35,31 @@ where
     Ok(answer)
 }
 
-/// The successors of a node, in order.
-fn answer_of<N, IN, FN, A>(alloc: A, successors: &mut FN, node: &N) -> Result<Vec<N, A>, PathError>
+/// Does the node at the end of a path pass?
+fn end_passes<N, FS, A>(path: &Vec<N, A>, success: &mut FS) -> bool
+where
+    N: Eq,
+    FS: FnMut(&N) -> bool,
+    A: Allocator,
+    requires { (next : N → List N) × (starts : List N) × (test : N → Bool)
+        × ⟦<FS as NodeTest<N>>⟧.answers success.old (IsReachable N.eq (HasSuccessor N.eq next) starts) test
+        × IsPathFrom N.eq next starts path.now.items }
+    ensures { (next : N → List N) (starts : List N) (test : N → Bool)
+        → ⟦<FS as NodeTest<N>>⟧.answers success.old (IsReachable N.eq (HasSuccessor N.eq next) starts) test
+        → IsPathFrom N.eq next starts path.now.items
+        → ⟦<FS as NodeTest<N>>⟧.answers success.new (IsReachable N.eq (HasSuccessor N.eq next) starts) test
+        × MatchBool result (IsGoalPath N.eq (HasSuccessor N.eq next) starts test path.now.items) (NoGoalBeyond N.eq next starts test true 0 path.now.items) }
+{
+    let here = path.len() - 1;
+    success(&path[here])
+}
+
+/// The successors of the node at the end of a path, the last one first.
+fn answer_of<N, IN, FN, A>(
+    alloc: A,
+    path: &Vec<N, A>,
+    successors: &mut FN,
+) -> Result<Vec<N, A>, PathError>
 where
     N: Eq + Drop,
     IN: IntoIterator<Item = N>,
@@ -45,16 +67,19 @@ where
     A: Allocator + Copy,
     requires graph { (next : N → List N) × (starts : List N)
         × ⟦<FN as SuccessorFunction<N>>⟧.answers successors.old (IsReachable N.eq (HasSuccessor N.eq next) starts) next
-        × IsReachable N.eq (HasSuccessor N.eq next) starts node.now }
+        × IsPathFrom N.eq next starts path.now.items }
     ensures graph { (next : N → List N) (starts : List N)
         → ⟦<FN as SuccessorFunction<N>>⟧.answers successors.old (IsReachable N.eq (HasSuccessor N.eq next) starts) next
-        → IsReachable N.eq (HasSuccessor N.eq next) starts node.now
+        → IsPathFrom N.eq next starts path.now.items
         → ⟦<FN as SuccessorFunction<N>>⟧.answers successors.new (IsReachable N.eq (HasSuccessor N.eq next) starts) next
-        × IfOk result (λ answer. SameNodes N.eq answer.items (next node.now)) }
+        × IfOk result (λ answer. FollowsEnd N.eq next path.now.items answer.items) }
     ensures refused { IfErr result (λ e. e ≡ PathError.OutOfMemory) }
 {
-    let items = successors(node);
-    collected(alloc, items)
+    let here = path.len() - 1;
+    let items = successors(&path[here]);
+    let mut answer = collected(alloc, items)?;
+    answer.reverse();
+    Ok(answer)
 }
 
 /// Looks for a path to a node that passes among those that go on from `path` by at most `steps`
@@ -82,15 +107,14 @@ where
         × Deepens N.eq next starts test steps found path.old.items path.new.items) }
     ensures refused { IfErr result (λ e. e ≡ PathError.OutOfMemory) }
 {
-    let here = path.len() - 1;
-    if success(&path[here]) {
+    if end_passes(path, success) {
         return Ok(Deepened::Found);
     }
     if steps == 0 {
         return Ok(Deepened::Missed { cut: true });
     }
-    let mut answer = answer_of(alloc, successors, &path[here])?;
-    answer.reverse();
+    let mut answer = answer_of(alloc, path, successors)?;
+    let length = path.len();
     let mut cut = false;
     'answer: while let Some(next) = answer.pop() {
         if !path.contains(&next) {
@@ -99,7 +123,7 @@ where
                 Deepened::Found => return Ok(Deepened::Found),
                 Deepened::Missed { cut: deeper } => cut |= deeper,
             }
-            path.truncate(here + 1);
+            path.truncate(length);
         }
     }
     Ok(Deepened::Missed { cut })

@@ -8,14 +8,13 @@ ghost use Rattle.pf_base.specs.Edges.{IsSuccessor, IsCheapestGoalPath, IsPastRan
 ghost use Rattle.pf_base.specs.Answers.{IsLawfulClone};
 ghost use Rattle.pf_core.specs.declared.labels.Label.{Label};
 ghost use Rattle.pf_core.specs.Labels.{HasLabel, IsTree};
-ghost use Rattle.pf_core.specs.Search.{IsSound};
 ghost use Rattle.pf_core.specs.Nodes.{Explores, StandsFor};
 ghost use Rattle.pf_search.specs.BothEnds.{IsWeightedSearchFromBothEnds};
-ghost use Rattle.pf_search.specs.Internal.BothEnds.{from_one, bound, IsMeeting, NoneBelowAt, AreHalves, IsPair, AreEnds, NoWalkAcross, NoWalkAcrossBelow};
+ghost use Rattle.pf_search.specs.Internal.BothEnds.{from_one, bound, AreSound, IsMeeting, NoneBelowAt, AreHalves, IsPair, AreEnds, NoWalkAcross, NoWalkAcrossBelow};
 
 use pf_base::{Cost, EdgeFunction, PathError};
 use pf_core::both_ends::Halves;
-use pf_core::discovery::{Discovery, Weighted, clone_of};
+use pf_core::discovery::{Discovery, Nodes, Weighted, clone_of};
 use pf_core::labels::{label_of, path_to};
 use pf_core::search::Search;
 use pf_core::two_sided::TwoSided;
@@ -34,26 +33,26 @@ struct Meeting<C> {
 
 /// The meeting at a node of one side, if the other side has a label for it and the two costs have a
 /// sum.
-fn meeting_at<N, C, IN, FN, IM, FM, A>(
-    graph: &Discovery<N, Weighted, IN, FN, A>,
+fn meeting_at<N, C, A>(
+    nodes: &Nodes<N, A>,
     search: &Search<C, A>,
-    other_graph: &Discovery<N, Weighted, IM, FM, A>,
+    other_nodes: &Nodes<N, A>,
     other_search: &Search<C, A>,
     number: usize,
 ) -> Option<Meeting<C>>
 where
-    N: Eq + Hash + Drop,
+    N: Eq + Hash,
     C: Cost,
-    A: Allocator + Copy,
-    requires inside { number < length graph.now.nodes.keys }
+    A: Allocator,
+    requires inside { number < length nodes.now.keys }
     requires labelled { (l : Label C) × HasLabel search.now.labels.items number l }
-    requires wide { length other_search.now.labels.items ≡ length other_graph.now.nodes.keys }
-    requires one { (i j : ℕ) (x : N) → StandsFor N.eq other_graph.now.nodes.keys i x → StandsFor N.eq other_graph.now.nodes.keys j x → i ≡ j }
-    ensures meets { IfSome result (λ m. (m.here ≡ number) × IsMeeting N.eq C.value graph.now.nodes.keys other_graph.now.nodes.keys search.now.labels.items other_search.now.labels.items m) }
-    ensures low { NoneBelowAt N.eq C.value graph.now.nodes.keys other_graph.now.nodes.keys search.now.labels.items other_search.now.labels.items (bound C.value (C.value C.greatest) result) number }
+    requires wide { length other_search.now.labels.items ≡ length other_nodes.now.keys }
+    requires one { (i j : ℕ) (x : N) → StandsFor N.eq other_nodes.now.keys i x → StandsFor N.eq other_nodes.now.keys j x → i ≡ j }
+    ensures meets { IfSome result (λ m. (m.here ≡ number) × IsMeeting N.eq C.value nodes.now.keys other_nodes.now.keys search.now.labels.items other_search.now.labels.items m) }
+    ensures low { NoneBelowAt N.eq C.value nodes.now.keys other_nodes.now.keys search.now.labels.items other_search.now.labels.items (bound C.value (C.value C.greatest) result) number }
 {
-    let nodes = graph.nodes.as_slice();
-    let Some(across) = other_graph.nodes.get_index_of(&nodes[number]) else {
+    let found = nodes.as_slice();
+    let Some(across) = other_nodes.get_index_of(&found[number]) else {
         return None;
     };
     let Some(there) = other_search.labels[across].label() else {
@@ -165,30 +164,20 @@ where
     IM: IntoIterator<Item = (N, C)>,
     FM: FnMut(&N) -> IM,
     A: Allocator + Copy,
-    requires sound_forth { IsSound C.cmp C.value forth.old.labels.items (heap_items forth.old.queue) }
-    requires sound_back { IsSound C.cmp C.value back.old.labels.items (heap_items back.old.queue) }
-    requires wide_forth { length forth.old.labels.items ≡ length graph.old.forth.nodes.keys }
-    requires wide_back { length back.old.labels.items ≡ length graph.old.back.nodes.keys }
+    requires sound { AreSound C.cmp C.value graph.old.forth.nodes.keys graph.old.back.nodes.keys forth.old.labels.items back.old.labels.items (heap_items forth.old.queue) (heap_items back.old.queue) }
     requires pair { (edges previous : N → List (N × ℤ)) × (start end : N)
         × Explores N.eq C.value (λ e. e) IN.into_iter_gives IN.IntoIter.can_next IN.IntoIter.remaining IN.IntoIter.next_gives FN.FnMut (from_one start edges) graph.old.forth.nodes.keys graph.old.forth.successors
         × Explores N.eq C.value (λ e. e) IM.into_iter_gives IM.IntoIter.can_next IM.IntoIter.remaining IM.IntoIter.next_gives FM.FnMut (from_one end previous) graph.old.back.nodes.keys graph.old.back.successors
         × IsPair N.eq C.value C.fits edges previous start end graph.old.forth.nodes.keys graph.old.back.nodes.keys forth.old.labels.items back.old.labels.items (C.value C.greatest +ℤ pos 1) }
-    ensures sound_forth { OnOk result (IsSound C.cmp C.value forth.new.labels.items (heap_items forth.new.queue)) }
-    ensures sound_back { OnOk result (IsSound C.cmp C.value back.new.labels.items (heap_items back.new.queue)) }
-    ensures wide_forth { OnOk result (length forth.new.labels.items ≡ length graph.new.forth.nodes.keys) }
-    ensures wide_back { OnOk result (length back.new.labels.items ≡ length graph.new.back.nodes.keys) }
-    ensures meets { IfOk result (λ answer. IfSome answer (λ m. IsMeeting N.eq C.value graph.new.forth.nodes.keys graph.new.back.nodes.keys forth.new.labels.items back.new.labels.items m)) }
+    ensures sound { OnOk result (AreSound C.cmp C.value graph.new.forth.nodes.keys graph.new.back.nodes.keys forth.new.labels.items back.new.labels.items (heap_items forth.new.queue) (heap_items back.new.queue)) }
     ensures best { (edges previous : N → List (N × ℤ)) (start end : N)
         → Explores N.eq C.value (λ e. e) IN.into_iter_gives IN.IntoIter.can_next IN.IntoIter.remaining IN.IntoIter.next_gives FN.FnMut (from_one start edges) graph.old.forth.nodes.keys graph.old.forth.successors
         → Explores N.eq C.value (λ e. e) IM.into_iter_gives IM.IntoIter.can_next IM.IntoIter.remaining IM.IntoIter.next_gives FM.FnMut (from_one end previous) graph.old.back.nodes.keys graph.old.back.successors
         → IsPair N.eq C.value C.fits edges previous start end graph.old.forth.nodes.keys graph.old.back.nodes.keys forth.old.labels.items back.old.labels.items (C.value C.greatest +ℤ pos 1)
         → IfOk result (λ answer. IsPair N.eq C.value C.fits edges previous start end graph.new.forth.nodes.keys graph.new.back.nodes.keys forth.new.labels.items back.new.labels.items (bound C.value (C.value C.greatest) answer)
-        × MatchOption answer (NoWalkAcross N.eq C.value edges start end) (λ m. NoWalkAcrossBelow N.eq C.value edges start end (C.value m.cost))) }
-    ensures overflow { (edges previous : N → List (N × ℤ)) (start end : N)
-        → Explores N.eq C.value (λ e. e) IN.into_iter_gives IN.IntoIter.can_next IN.IntoIter.remaining IN.IntoIter.next_gives FN.FnMut (from_one start edges) graph.old.forth.nodes.keys graph.old.forth.successors
-        → Explores N.eq C.value (λ e. e) IM.into_iter_gives IM.IntoIter.can_next IM.IntoIter.remaining IM.IntoIter.next_gives FM.FnMut (from_one end previous) graph.old.back.nodes.keys graph.old.back.successors
-        → IsPair N.eq C.value C.fits edges previous start end graph.old.forth.nodes.keys graph.old.back.nodes.keys forth.old.labels.items back.old.labels.items (C.value C.greatest +ℤ pos 1)
-        → result ≡ Err PathError.CostOverflow → IsPastRange N.eq edges (start ∷ []) (N.eq end) C.fits }
+        × IfSome answer (λ m. IsMeeting N.eq C.value graph.new.forth.nodes.keys graph.new.back.nodes.keys forth.new.labels.items back.new.labels.items m)
+        × MatchOption answer (NoWalkAcross N.eq C.value edges start end) (λ m. NoWalkAcrossBelow N.eq C.value edges start end (C.value m.cost)))
+        × (result ≡ Err PathError.CostOverflow → IsPastRange N.eq edges (start ∷ []) (N.eq end) C.fits) }
     ensures errors { IfErr result (λ e. (e ≡ PathError.OutOfMemory) ⊎ (e ≡ PathError.CostOverflow)) }
 {
     let mut best: Option<Meeting<C>> = None;
@@ -204,12 +193,18 @@ where
         }
         if back_is_over || waits_for_no_more(forth, back) {
             forth.turn(&mut graph.forth, number)?;
-            let found = meeting_at(&graph.forth, forth, &graph.back, back, number);
+            let found = meeting_at(&graph.forth.nodes, forth, &graph.back.nodes, back, number);
             best = cheaper(best, found);
         } else {
             match back.turn(&mut graph.back, across) {
                 Ok(()) => {
-                    let found = meeting_at(&graph.back, back, &graph.forth, forth, across);
+                    let found = meeting_at(
+                        &graph.back.nodes,
+                        back,
+                        &graph.forth.nodes,
+                        forth,
+                        across,
+                    );
                     best = cheaper(best, turned_about(found));
                 }
                 Err(PathError::CostOverflow) => back_is_over = true,
@@ -222,32 +217,32 @@ where
 
 /// The first node of the half on the way forth at which both sides meet at no more than this cost, with
 /// its place in the half.
-fn first_on<N, C, IN, FN, IM, FM, A>(
-    graph: &Discovery<N, Weighted, IN, FN, A>,
+fn first_on<N, C, A>(
+    nodes: &Nodes<N, A>,
     search: &Search<C, A>,
-    other_graph: &Discovery<N, Weighted, IM, FM, A>,
+    other_nodes: &Nodes<N, A>,
     other_search: &Search<C, A>,
     numbers: &[usize],
     cost: C,
 ) -> Option<(usize, Meeting<C>)>
 where
-    N: Eq + Hash + Drop,
+    N: Eq + Hash,
     C: Cost,
-    A: Allocator + Copy,
-    requires inside { (k : ℕ) → Contains numbers.now k → k < length graph.now.nodes.keys }
+    A: Allocator,
+    requires inside { (k : ℕ) → Contains numbers.now k → k < length nodes.now.keys }
     requires labelled { (k : ℕ) → Contains numbers.now k → (l : Label C) × HasLabel search.now.labels.items k l }
-    requires wide { length other_search.now.labels.items ≡ length other_graph.now.nodes.keys }
-    requires one { (i j : ℕ) (x : N) → StandsFor N.eq other_graph.now.nodes.keys i x → StandsFor N.eq other_graph.now.nodes.keys j x → i ≡ j }
+    requires wide { length other_search.now.labels.items ≡ length other_nodes.now.keys }
+    requires one { (i j : ℕ) (x : N) → StandsFor N.eq other_nodes.now.keys i x → StandsFor N.eq other_nodes.now.keys j x → i ≡ j }
     ensures first { MatchOption result
-        ((k : ℕ) → Contains numbers.now k → NoneBelowAt N.eq C.value graph.now.nodes.keys other_graph.now.nodes.keys search.now.labels.items other_search.now.labels.items (C.value cost +ℤ pos 1) k)
+        ((k : ℕ) → Contains numbers.now k → NoneBelowAt N.eq C.value nodes.now.keys other_nodes.now.keys search.now.labels.items other_search.now.labels.items (C.value cost +ℤ pos 1) k)
         (λ r. (slice_get numbers.now r.0 ≡ Some r.1.here)
-        × IsMeeting N.eq C.value graph.now.nodes.keys other_graph.now.nodes.keys search.now.labels.items other_search.now.labels.items r.1
+        × IsMeeting N.eq C.value nodes.now.keys other_nodes.now.keys search.now.labels.items other_search.now.labels.items r.1
         × (C.value r.1.cost ≤ℤ C.value cost)
-        × ((k : ℕ) → Contains (take r.0 numbers.now) k → NoneBelowAt N.eq C.value graph.now.nodes.keys other_graph.now.nodes.keys search.now.labels.items other_search.now.labels.items (C.value cost +ℤ pos 1) k)) }
+        × ((k : ℕ) → Contains (take r.0 numbers.now) k → NoneBelowAt N.eq C.value nodes.now.keys other_nodes.now.keys search.now.labels.items other_search.now.labels.items (C.value cost +ℤ pos 1) k)) }
 {
     cost.known();
     'numbers: for (place, number) in numbers.iter().enumerate() {
-        if let Some(meeting) = meeting_at(graph, search, other_graph, other_search, *number) {
+        if let Some(meeting) = meeting_at(nodes, search, other_nodes, other_search, *number) {
             if is_at_most(meeting.cost, cost) {
                 return Some((place, meeting));
             }
@@ -285,7 +280,14 @@ where
     ensures refused { IfErr result (λ e. e ≡ PathError.OutOfMemory) }
 {
     let mut numbers = path_to(alloc, &forth.labels, best.here)?;
-    let first = first_on(&graph.forth, forth, &graph.back, back, &numbers, best.cost);
+    let first = first_on(
+        &graph.forth.nodes,
+        forth,
+        &graph.back.nodes,
+        back,
+        &numbers,
+        best.cost,
+    );
     let Some((place, meeting)) = first else {
         unreachable!();
     };
@@ -315,10 +317,7 @@ where
     FM: FnMut(&N) -> IM,
     A: Allocator + Copy,
     requires clones { IsLawfulClone N.eq N.is_clone }
-    requires sound_forth { IsSound C.cmp C.value forth.old.labels.items (heap_items forth.old.queue) }
-    requires sound_back { IsSound C.cmp C.value back.old.labels.items (heap_items back.old.queue) }
-    requires wide_forth { length forth.old.labels.items ≡ length graph.old.forth.nodes.keys }
-    requires wide_back { length back.old.labels.items ≡ length graph.old.back.nodes.keys }
+    requires sound { AreSound C.cmp C.value graph.old.forth.nodes.keys graph.old.back.nodes.keys forth.old.labels.items back.old.labels.items (heap_items forth.old.queue) (heap_items back.old.queue) }
     requires pair { (edges previous : N → List (N × ℤ)) × (start end : N)
         × Explores N.eq C.value (λ e. e) IN.into_iter_gives IN.IntoIter.can_next IN.IntoIter.remaining IN.IntoIter.next_gives FN.FnMut (from_one start edges) graph.old.forth.nodes.keys graph.old.forth.successors
         × Explores N.eq C.value (λ e. e) IM.into_iter_gives IM.IntoIter.can_next IM.IntoIter.remaining IM.IntoIter.next_gives FM.FnMut (from_one end previous) graph.old.back.nodes.keys graph.old.back.successors
@@ -329,12 +328,8 @@ where
         → IsPair N.eq C.value C.fits edges previous start end graph.old.forth.nodes.keys graph.old.back.nodes.keys forth.old.labels.items back.old.labels.items (C.value C.greatest +ℤ pos 1)
         → IfOk result (λ answer. MatchOption answer
         (HasNoGoalWalk N.eq (IsSuccessor N.eq edges) (start ∷ []) (N.eq end))
-        (λ found. IsCheapestGoalPath N.eq edges (start ∷ []) (N.eq end) found.0.items (C.value found.1))) }
-    ensures overflow { (edges previous : N → List (N × ℤ)) (start end : N)
-        → Explores N.eq C.value (λ e. e) IN.into_iter_gives IN.IntoIter.can_next IN.IntoIter.remaining IN.IntoIter.next_gives FN.FnMut (from_one start edges) graph.old.forth.nodes.keys graph.old.forth.successors
-        → Explores N.eq C.value (λ e. e) IM.into_iter_gives IM.IntoIter.can_next IM.IntoIter.remaining IM.IntoIter.next_gives FM.FnMut (from_one end previous) graph.old.back.nodes.keys graph.old.back.successors
-        → IsPair N.eq C.value C.fits edges previous start end graph.old.forth.nodes.keys graph.old.back.nodes.keys forth.old.labels.items back.old.labels.items (C.value C.greatest +ℤ pos 1)
-        → result ≡ Err PathError.CostOverflow → IsPastRange N.eq edges (start ∷ []) (N.eq end) C.fits }
+        (λ found. IsCheapestGoalPath N.eq edges (start ∷ []) (N.eq end) found.0.items (C.value found.1)))
+        × (result ≡ Err PathError.CostOverflow → IsPastRange N.eq edges (start ∷ []) (N.eq end) C.fits) }
     ensures errors { IfErr result (λ e. (e ≡ PathError.OutOfMemory) ⊎ (e ≡ PathError.CostOverflow)) }
 {
     match best_meeting(graph, forth, back)? {
@@ -373,12 +368,8 @@ where
         → AreEnds N.eq edges previous start end graph.old.forth.nodes.keys graph.old.back.nodes.keys
         → IfOk result (λ answer. MatchOption answer
         (HasNoGoalWalk N.eq (IsSuccessor N.eq edges) (start ∷ []) (N.eq end))
-        (λ found. IsCheapestGoalPath N.eq edges (start ∷ []) (N.eq end) found.0.items (C.value found.1))) }
-    ensures overflow { (edges previous : N → List (N × ℤ)) (start end : N)
-        → Explores N.eq C.value (λ e. e) IN.into_iter_gives IN.IntoIter.can_next IN.IntoIter.remaining IN.IntoIter.next_gives FN.FnMut (from_one start edges) graph.old.forth.nodes.keys graph.old.forth.successors
-        → Explores N.eq C.value (λ e. e) IM.into_iter_gives IM.IntoIter.can_next IM.IntoIter.remaining IM.IntoIter.next_gives FM.FnMut (from_one end previous) graph.old.back.nodes.keys graph.old.back.successors
-        → AreEnds N.eq edges previous start end graph.old.forth.nodes.keys graph.old.back.nodes.keys
-        → result ≡ Err PathError.CostOverflow → IsPastRange N.eq edges (start ∷ []) (N.eq end) C.fits }
+        (λ found. IsCheapestGoalPath N.eq edges (start ∷ []) (N.eq end) found.0.items (C.value found.1)))
+        × (result ≡ Err PathError.CostOverflow → IsPastRange N.eq edges (start ∷ []) (N.eq end) C.fits) }
     ensures errors { IfErr result (λ e. (e ≡ PathError.OutOfMemory) ⊎ (e ≡ PathError.CostOverflow)) }
 {
     let mut forth = Search::begin(alloc, graph.forth.nodes.len(), 0)?;

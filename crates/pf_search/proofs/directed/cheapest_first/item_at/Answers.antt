@@ -1,4 +1,4 @@
-use Rattle.std.proofs.Common.{◌≡◌, ◌<◌, ◌∙◌, sym, ap, subst, length, Some, slice_get, refl, ℕ}
+use Rattle.std.proofs.Common.{◌≡◌, ◌<◌, ◌∙◌, sym, ap, subst, length, Some, slice_get, refl, ℕ, arith}
 use Rattle.std.specs.Prelude.{MatchOption}
 use Rattle.std.proofs.lemmas.Option.{same_Some}
 use Rattle.std.proofs.lemmas.Result.{IfOk-from_err}
@@ -23,6 +23,12 @@ bounds-nodes-parent g c =
     let before : l.parent ≡ c.in-Some.parent = sym (ap (λ (n : Label g.row.C.Denot). n.parent) same) ∙ q.2 in
     let deep : 0 < l.depth = subst (λ (n : Label g.row.C.Denot). 0 < n.depth) same q.3 in
     subst (λ (n : ℕ). n < length c.args.nodes.now) before (c.requires.behind l at deep)
+
+pub offset_bounds-nodes-parent : goal.offset_bounds-nodes-parent
+offset_bounds-nodes-parent g c = omega (arith, bounds-nodes-parent g c)
+
+pub index-requires : goal.index-requires
+index-requires g c = omega (arith, HasLabel-inside c.args.labels.now.items c.args.number c.requires.labelled.0 c.requires.labelled.1, c.args.labels.now.ok)
 
 pub returns-clause-item : goal.returns-clause-item
 returns-clause-item g c =

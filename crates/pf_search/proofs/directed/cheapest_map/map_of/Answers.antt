@@ -1,9 +1,9 @@
-use Rattle.std.proofs.Common.{arith, sym}
+use Rattle.std.proofs.Common.{arith, sym, refl}
 use Rattle.std.specs.HashMap.{get}
 use Rattle.std.proofs.lemmas.Result.{IfOk-from_err}
 use Rattle.pf_core.proofs.LabelLemmas.{HasLabel-inside}
 use Rattle.pf_core.proofs.ListLemmas.{at_place}
-use Rattle.pf_search.proofs.MapLemmas.{label_read, label_none, maps_same, maps_more, maps_whole}
+use Rattle.pf_search.proofs.MapLemmas.{label_read, label_none, maps_none, maps_same, maps_more, maps_whole}
 use Rattle.pf_search.proofs.directed.cheapest_map.map_of.Goals.{in-Some+in_ok-parent+in_ok-node+in_ok-insert, in_default}
 use Rattle.pf_search.proofs.directed.cheapest_map.map_of.Goals as goal
 
@@ -12,6 +12,12 @@ bounds-nodes-label g c = c.requires.behind c.numbers.number c.in-Some.label c.nu
 
 pub offset_bounds-nodes-label : goal.offset_bounds-nodes-label
 offset_bounds-nodes-label g c = omega (arith, bounds-nodes-label g c)
+
+pub numbers-init : goal.numbers-init
+numbers-init g c = record {
+  positive = omega arith;
+  maps = maps_none g.N.PartialEq.eq g.met.N.Eq.laws c.args.nodes.now c.args.labels.now _ (λ x. rw c.in_ok-parents.ensures.empty refl);
+}
 
 pub numbers-preserved : goal.numbers-preserved
 numbers-preserved g c =
@@ -52,3 +58,9 @@ returns-in_err-node-clause-maps g c = IfOk-from_err _ _ c.from_residual-in_err-n
 
 pub returns-in_err-insert-clause-maps : goal.returns-in_err-insert-clause-maps
 returns-in_err-insert-clause-maps g c = IfOk-from_err _ _ c.from_residual-in_err-insert.ensures.0
+
+pub bounds-nodes-number : goal.bounds-nodes-number
+bounds-nodes-number g c = omega (arith, c.requires.wide, c.numbers-test.true)
+
+pub offset_bounds-nodes-number : goal.offset_bounds-nodes-number
+offset_bounds-nodes-number g c = omega (arith, bounds-nodes-number g c)

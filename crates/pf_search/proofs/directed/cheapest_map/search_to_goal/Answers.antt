@@ -193,3 +193,39 @@ returns-in_err-search-clause-overflow g c = λ _ _ _ e. absurd (no_overflow c.fr
 
 pub returns-in_err-turn-clause-errors : goal.returns-in_err-turn-clause-errors
 returns-in_err-turn-clause-errors g c = refused_as _ c.from_residual-in_err-turn.result c.in_err-turn.field-0.0 c.from_residual-in_err-turn.ensures.1 c.in_err-turn.ensures.errors
+
+pub turn-requires-clause-sound : goal.turn-requires-clause-sound
+turn-requires-clause-sound g c = c.in-Some.ensures.sound
+
+pub turn-requires-clause-wide : goal.turn-requires-clause-wide
+turn-requires-clause-wide g c = rw c.in-Some.ensures.same (c.turns.invariant.wide ∙ sym c.is_goal.ensures.same)
+
+pub returns-then-is_goal-clause-graph : goal.returns-then-is_goal-clause-graph
+returns-then-is_goal-clause-graph g c = λ h x. (c.is_goal.ensures.graph h (c.turns.invariant.explored h x)).0
+
+pub returns-then-is_goal-clause-grows : goal.returns-then-is_goal-clause-grows
+returns-then-is_goal-clause-grows g c = Grows-trans _ _ _ _ _ _ c.turns.invariant.grown c.is_goal.ensures.grows
+
+pub returns-then-is_goal-clause-wide : goal.returns-then-is_goal-clause-wide
+returns-then-is_goal-clause-wide g c = rw c.in-Some.ensures.same (c.turns.invariant.wide ∙ sym c.is_goal.ensures.same)
+
+pub returns-then-is_goal-clause-tree : goal.returns-then-is_goal-clause-tree
+returns-then-is_goal-clause-tree g c = c.in-Some.ensures.sound.tree
+
+pub returns-in_err-search-clause-graph : goal.returns-in_err-search-clause-graph
+returns-in_err-search-clause-graph g c = λ h x. x
+
+pub returns-in_err-search-clause-grows : goal.returns-in_err-search-clause-grows
+returns-in_err-search-clause-grows g c = record { more = omega arith; stays = λ k x h. h; back = λ k x i h. h }
+
+pub returns-in_err-turn-clause-grows : goal.returns-in_err-turn-clause-grows
+returns-in_err-turn-clause-grows g c = Grows-trans _ _ _ _ _ _ c.turns.invariant.grown (Grows-trans _ _ _ _ _ _ c.is_goal.ensures.grows c.in_err-turn.ensures.grows)
+
+pub returns-clause-wide : goal.returns-clause-wide
+returns-clause-wide g c = rw c.least.ensures.same c.turns.invariant.wide
+
+pub returns-clause-tree : goal.returns-clause-tree
+returns-clause-tree g c = c.least.ensures.sound.tree
+
+pub returns-clause-goal : goal.returns-clause-goal
+returns-clause-goal g c = λ h x. tt

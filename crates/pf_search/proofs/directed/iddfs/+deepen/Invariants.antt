@@ -18,10 +18,10 @@ invariant-answer g l =
     let answers = λ (f : g.row.FN.Denot). AnswersSuccessors g.FN.FnMut g.IN.IntoIterator.into_iter_gives g.IN.IntoIter.Iterator.can_next g.IN.IntoIter.Iterator.remaining g.IN.IntoIter.Iterator.next_gives eq f in
     let tests = λ (f : g.row.FS.Denot). AnswersTest g.FS.FnMut eq f in
     record {
-      same : l.path.items ≡ l.fn.path.items;
       below : (y : g.row.N.Denot) → Contains l.answer.items y → Contains l.initial.answer.items y;
       searched : (next : g.row.N.Denot → List g.row.N.Denot) (starts : List g.row.N.Denot) (test : g.row.N.Denot → Bool)
           → IsUnweightedSearch eq next starts (answers l.fn.successors) (tests l.fn.success) test → IsPathFrom eq next starts l.fn.path.items
-          → IsUnweightedSearch eq next starts (answers l.successors) (tests l.success) test
+          → (l.path.items ≡ l.fn.path.items)
+          × IsUnweightedSearch eq next starts (answers l.successors) (tests l.success) test
           × ((y : g.row.N.Denot) → Contains l.initial.answer.items y → Contains l.answer.items y ⊎ (HasNode eq l.fn.path.items y ⊎ NoGoalBeyond eq next starts test l.cut (l.fn.steps - 1) (l.fn.path.items ++ y ∷ [])));
     }

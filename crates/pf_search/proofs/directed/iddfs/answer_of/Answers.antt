@@ -1,27 +1,55 @@
-use Rattle.std.proofs.Common.{rules, ◌≡◌, sym, subst, Bor}
-use Rattle.std.proofs.lemmas.Result.{IfOk-weaker}
+use Rattle.std.proofs.Common.{rules, ◌≡◌, sym, subst, arith, Bor}
+use Rattle.std.proofs.lemmas.Result.{IfOk-from_err}
 use Rattle.pf_base.specs.Walks.{IsReachable}
 use Rattle.pf_base.specs.Successors.{HasSuccessor}
 use Rattle.pf_base.proofs.Asking.{Answers-takes, Answers-gives, Answers-on, Gives-ends, Gives-drains}
+use Rattle.pf_search.proofs.SimplePaths.{here_reached, last_at, has_end}
+use Rattle.pf_search.proofs.ResultLemmas.{refused_as}
 use Rattle.pf_search.proofs.directed.iddfs.answer_of.Goals as goal
+
+pub overflow_sub-here : goal.overflow_sub-here
+overflow_sub-here g c = let r = c.requires.graph in omega (arith, c.len-here.ensures, has_end g.N.PartialEq.eq r.0 r.1 c.args.path.now.items r.3)
 
 pub successors-items-requires : goal.successors-items-requires
 successors-items-requires g c =
     let r = c.requires.graph in
-    let may : (p : Bor g.row.N.Denot) → p.now ≡ c.args.node.now → g.FN.FnMut.pre c.args.successors.now (p, tt) = λ p e. Answers-takes _ _ _ r.2.answers p (subst (IsReachable g.N.PartialEq.eq (HasSuccessor g.N.PartialEq.eq r.0) r.1) (sym e) r.3) in
+    let eq = g.N.PartialEq.eq in
+    let at = last_at eq r.0 r.1 c.args.path.now.items c.len-here.result c.index.result.now r.3 (omega (arith, c.len-here.ensures, c.args.path.now.ok)) c.index.ensures in
+    let reach = here_reached eq g.met.N.Eq.laws r.0 r.1 c.args.path.now.items c.index.result.now r.3 at in
+    let may : (p : Bor g.row.N.Denot) → p.now ≡ c.index.result.now → g.FN.FnMut.pre c.args.successors.now (p, tt) = λ p e. Answers-takes _ _ _ r.2.answers p (subst (IsReachable eq (HasSuccessor eq r.0) r.1) (sym e) reach) in
     search (rules, may)
 
 pub collected-requires : goal.collected-requires
 collected-requires g c =
     let r = c.requires.graph in
-    record { ends = Gives-ends _ _ _ _ _ _ (Answers-gives _ _ _ r.2.answers _ r.3 c.successors-items.result c.successors-items.new.self c.successors-items.ensures) }
+    let eq = g.N.PartialEq.eq in
+    let at = last_at eq r.0 r.1 c.args.path.now.items c.len-here.result c.index.result.now r.3 (omega (arith, c.len-here.ensures, c.args.path.now.ok)) c.index.ensures in
+    let reach = here_reached eq g.met.N.Eq.laws r.0 r.1 c.args.path.now.items c.index.result.now r.3 at in
+    record { ends = Gives-ends _ _ _ _ _ _ (Answers-gives _ _ _ r.2.answers _ reach c.successors-items.result c.successors-items.new.self c.successors-items.ensures) }
 
 pub returns-clause-graph : goal.returns-clause-graph
-returns-clause-graph g c = λ next starts a r.
-    let gives = Answers-gives _ _ _ a.answers _ r c.successors-items.result c.successors-items.new.self c.successors-items.ensures in (
-      record { alike = a.alike; answers = Answers-on _ _ _ a.answers _ r c.successors-items.result c.successors-items.new.self c.successors-items.ensures },
-      IfOk-weaker c.collected.result _ _ (λ answer h. Gives-drains _ _ _ _ _ _ gives h.0 answer.items h.1 h.2) c.collected.ensures.all,
+returns-clause-graph g c = λ next starts a p.
+    let eq = g.N.PartialEq.eq in
+    let path = c.args.path.now.items in
+    let here = c.index.result.now in
+    let at = last_at eq next starts path c.len-here.result here p (omega (arith, c.len-here.ensures, c.args.path.now.ok)) c.index.ensures in
+    let reach = here_reached eq g.met.N.Eq.laws next starts path here p at in
+    let gives = Answers-gives _ _ _ a.answers _ reach c.successors-items.result c.successors-items.new.self c.successors-items.ensures in
+    let all = c.in_ok-answer.ensures.all in (
+      record { alike = a.alike; answers = Answers-on _ _ _ a.answers _ reach c.successors-items.result c.successors-items.new.self c.successors-items.ensures },
+      record { here = here; at = at; listed = c.in_ok-answer.answer.items; same = Gives-drains _ _ _ _ _ _ gives all.0 c.in_ok-answer.answer.items all.1 all.2; reversed = c.reverse.ensures.items },
     )
 
-pub returns-clause-refused : goal.returns-clause-refused
-returns-clause-refused g c = c.collected.ensures.refused
+pub returns-in_err-answer-clause-graph : goal.returns-in_err-answer-clause-graph
+returns-in_err-answer-clause-graph g c = λ next starts a p.
+    let eq = g.N.PartialEq.eq in
+    let path = c.args.path.now.items in
+    let here = c.index.result.now in
+    let at = last_at eq next starts path c.len-here.result here p (omega (arith, c.len-here.ensures, c.args.path.now.ok)) c.index.ensures in
+    let reach = here_reached eq g.met.N.Eq.laws next starts path here p at in (
+      record { alike = a.alike; answers = Answers-on _ _ _ a.answers _ reach c.successors-items.result c.successors-items.new.self c.successors-items.ensures },
+      IfOk-from_err _ _ c.from_residual.ensures.0,
+    )
+
+pub returns-in_err-answer-clause-refused : goal.returns-in_err-answer-clause-refused
+returns-in_err-answer-clause-refused g c = refused_as _ c.from_residual.result c.in_err-answer.field-0.0 c.from_residual.ensures.1 c.in_err-answer.ensures.refused

@@ -71,3 +71,6 @@ returns-in-Found-clause-errors g c = tt
 
 pub returns-in-Missed-false-clause-errors : goal.returns-in-Missed-false-clause-errors
 returns-in-Missed-false-clause-errors g c = tt
+
+pub returns-clause-best : goal.returns-clause-best
+returns-clause-best g c = λ _ _ _. tt

@@ -1,7 +1,7 @@
 use Rattle.std.proofs.Common.{◌≤◌, ◌<◌, ◌+◌, length, false, refl, ap, arith}
 use Rattle.pf_base.proofs.Callers.{SameNodes-refl}
 use Rattle.pf_search.specs.Internal.Breadth.{found_or}
-use Rattle.pf_search.proofs.BreadthSteps.{turn_refused, none_waits, start_waits, marked}
+use Rattle.pf_search.proofs.BreadthSteps.{turn_refused, none_waits, start_waits, placed, marked}
 use Rattle.pf_search.proofs.ResultLemmas.{refused_as}
 use Rattle.pf_search.proofs.directed.breadth.BfsReachable.step.Goals as goal
 
@@ -68,3 +68,28 @@ returns-then-self-len-clause-refused g c = tt
 
 pub returns-in_err-node-clause-refused : goal.returns-in_err-node-clause-refused
 returns-in_err-node-clause-refused g c = refused_as _ c.from_residual-in_err-node.result c.in_err-node.field-0.0 c.from_residual-in_err-node.ensures.1 c.in_err-node.ensures.refused
+
+pub give-requires-clause-inside : goal.give-requires-clause-inside
+give-requires-clause-inside g c = omega (arith, c.len.ensures.len, c.if-self-len.false)
+
+pub give-requires-clause-walk : goal.give-requires-clause-walk
+give-requires-clause-walk g c =
+    let r = c.requires.walk in
+    let i = c.self.inside in
+    let v = rw (← c.self.view_is) at r.2 in
+    (r.0, r.1, rw c.in_ok-put_start.ensures.put.1 (marked g.N.PartialEq.eq g.met.N.Eq.laws _ _ _ _ _ r.0 r.1 (found_or i.start i.discovery.nodes.keys) i.given i.refused false i.discovery.successors v))
+
+pub invariant_of-self : goal.invariant_of-self
+invariant_of-self g c = let s = c.in_err-put_start.ensures.stays in rw (s.2, s.3) c.self.invariant
+
+pub invariant_of-self-then-self-len : goal.invariant_of-self-then-self-len
+invariant_of-self-then-self-len g c =
+    let s = c.in_ok-put_start.ensures.put in
+    let i = c.self.inside in
+    rw (s.0, s.1) (placed i.start i.discovery.nodes.keys i.given c.self.invariant)
+
+pub invariant_of-self-in_err-node : goal.invariant_of-self-in_err-node
+invariant_of-self-in_err-node g c = rw c.in_ok-put_start.ensures.put.0 (omega (arith, c.in_err-node.ensures.more, c.len.ensures.len, c.if-self-len.false))
+
+pub invariant_of-self-2 : goal.invariant_of-self-2
+invariant_of-self-2 g c = rw c.in_ok-put_start.ensures.put.0 (omega (arith, c.in_ok-node.ensures.more, c.len.ensures.len, c.if-self-len.false))

@@ -1,5 +1,5 @@
 use Rattle.std.proofs.Common.{false}
-use Rattle.pf_search.proofs.CheapestLemmas.{seen, marked_bar}
+use Rattle.pf_search.proofs.CheapestLemmas.{seen, marked, marked_bar}
 use Rattle.pf_search.proofs.directed.cheapest_first.DijkstraReachable.resume.Goals as goal
 
 pub returns-clause-bar : goal.returns-clause-bar
@@ -7,3 +7,9 @@ returns-clause-bar g c = λ edges start b.
     let i = c.self.inside in
     let s = seen i.discovery.nodes.keys i.search.labels.items i.refused i.discovery.successors in
     marked_bar g.N.PartialEq.eq g.C.Number.value edges start g.C.Number.fits s s false (rw (← c.self.view_is) at b)
+
+pub returns-clause-graph : goal.returns-clause-graph
+returns-clause-graph g c = λ edges start w.
+    let i = c.self.inside in
+    let s = seen i.discovery.nodes.keys i.search.labels.items i.refused i.discovery.successors in
+    marked g.N.PartialEq.eq g.met.N.Eq.laws g.C.Number.value _ _ _ _ _ edges start s false (rw (← c.self.view_is) at w)

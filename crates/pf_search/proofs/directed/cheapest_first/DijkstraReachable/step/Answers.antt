@@ -167,3 +167,21 @@ returns-clause-bars g c = λ edges start w.
 
 pub item_at-requires-clause-clones : goal.item_at-requires-clause-clones
 item_at-requires-clause-clones g c = c.requires.clones
+
+pub invariant_of-self : goal.invariant_of-self
+invariant_of-self g c = (c.in_default.ensures.sound, rw c.in_default.ensures.same c.self.invariant.1)
+
+pub invariant_of-self-in_err-item : goal.invariant_of-self-in_err-item
+invariant_of-self-in_err-item g c = (c.in-Some.ensures.sound, rw c.in-Some.ensures.same c.self.invariant.1)
+
+pub invariant_of-self-in_err-turn : goal.invariant_of-self-in_err-turn
+invariant_of-self-in_err-turn g c = (c.in_err-turn.ensures.sound, c.in_err-turn.ensures.wide)
+
+pub invariant_of-self-2 : goal.invariant_of-self-2
+invariant_of-self-2 g c = (c.in_ok-turn.ensures.sound, c.in_ok-turn.ensures.wide)
+
+pub turn-requires-clause-sound : goal.turn-requires-clause-sound
+turn-requires-clause-sound g c = c.in-Some.ensures.sound
+
+pub turn-requires-clause-wide : goal.turn-requires-clause-wide
+turn-requires-clause-wide g c = rw c.in-Some.ensures.same c.self.invariant.1

@@ -21,11 +21,11 @@ invariant-turns g l =
       wide_back : length l.back.labels.items ≡ length l.graph.back.nodes.keys;
       explored_forth : (h : NodeGraph g.row.N.Denot) → explores h l.fn.graph.forth.nodes.keys l.fn.graph.forth.successors → explores h l.graph.forth.nodes.keys l.graph.forth.successors;
       explored_back : (h : NodeGraph g.row.N.Denot) → explores_back h l.fn.graph.back.nodes.keys l.fn.graph.back.successors → explores_back h l.graph.back.nodes.keys l.graph.back.successors;
-      meets : IfSome l.best (λ m. IsMeeting eq value l.graph.forth.nodes.keys l.graph.back.nodes.keys l.forth.labels.items l.back.labels.items m);
       pair : (edges previous : g.row.N.Denot → List (g.row.N.Denot × ℤ)) (start end : g.row.N.Denot)
           → explores (from_one start edges) l.fn.graph.forth.nodes.keys l.fn.graph.forth.successors → explores_back (from_one end previous) l.fn.graph.back.nodes.keys l.fn.graph.back.successors
           → IsPair eq value g.C.Number.fits edges previous start end l.fn.graph.forth.nodes.keys l.fn.graph.back.nodes.keys l.fn.forth.labels.items l.fn.back.labels.items (top +ℤ pos 1)
-          → IsPair eq value g.C.Number.fits edges previous start end l.graph.forth.nodes.keys l.graph.back.nodes.keys l.forth.labels.items l.back.labels.items (bound value top l.best);
+          → IsPair eq value g.C.Number.fits edges previous start end l.graph.forth.nodes.keys l.graph.back.nodes.keys l.forth.labels.items l.back.labels.items (bound value top l.best)
+          × IfSome l.best (λ m. IsMeeting eq value l.graph.forth.nodes.keys l.graph.back.nodes.keys l.forth.labels.items l.back.labels.items m);
     }
 
 abbrev pub decreases-turns : goal.decreases-turns

@@ -34,7 +34,7 @@ returns-clause-best g c = λ edges previous s.
     let found_back = c.in_ok-clone_of-2 in
     let x = Explores-edges eq laws _ _ _ _ _ _ (from_one start edges) found.field-0.keys _ found.ensures.distinct found.ensures.same s.edges_answered in
     let y = Explores-edges eq laws _ _ _ _ _ _ (from_one end previous) found_back.field-0.keys _ found_back.ensures.distinct found_back.ensures.same s.previous_answered in
-    c.path_between.ensures.best edges previous start end x y (record { begins = found.ensures.begins; begins_back = found_back.ensures.begins; mirror = s.mirror; costs = s.costs; costs_back = s.costs_back })
+    (c.path_between.ensures.best edges previous start end x y (record { begins = found.ensures.begins; begins_back = found_back.ensures.begins; mirror = s.mirror; costs = s.costs; costs_back = s.costs_back })).0
 
 pub returns-clause-overflow : goal.returns-clause-overflow
 returns-clause-overflow g c = λ edges previous s.
@@ -46,7 +46,7 @@ returns-clause-overflow g c = λ edges previous s.
     let found_back = c.in_ok-clone_of-2 in
     let x = Explores-edges eq laws _ _ _ _ _ _ (from_one start edges) found.field-0.keys _ found.ensures.distinct found.ensures.same s.edges_answered in
     let y = Explores-edges eq laws _ _ _ _ _ _ (from_one end previous) found_back.field-0.keys _ found_back.ensures.distinct found_back.ensures.same s.previous_answered in
-    c.path_between.ensures.overflow edges previous start end x y (record { begins = found.ensures.begins; begins_back = found_back.ensures.begins; mirror = s.mirror; costs = s.costs; costs_back = s.costs_back })
+    (c.path_between.ensures.best edges previous start end x y (record { begins = found.ensures.begins; begins_back = found_back.ensures.begins; mirror = s.mirror; costs = s.costs; costs_back = s.costs_back })).1
 
 pub path_between-requires-clause-clones : goal.path_between-requires-clause-clones
 path_between-requires-clause-clones g c = c.requires.clones

@@ -6,36 +6,38 @@ use Rattle.pf_search.proofs.ResultLemmas.{ok_is_no_error, if_refused, no_overflo
 use Rattle.pf_search.proofs.directed.dijkstra.both_ends.path_across.Goals as goal
 
 pub returns-in_err-best_meeting-clause-best : goal.returns-in_err-best_meeting-clause-best
-returns-in_err-best_meeting-clause-best g c = λ edges previous start end x y p. if_refused _ c.from_residual.result c.in_err-best_meeting.field-0.0 c.from_residual.ensures.1
-
-pub returns-in_err-best_meeting-clause-overflow : goal.returns-in_err-best_meeting-clause-overflow
-returns-in_err-best_meeting-clause-overflow g c = λ edges previous start end x y p e.
-    c.in_err-best_meeting.ensures.overflow edges previous start end x y p (ap Err (sym (rw e at c.from_residual.ensures.1)))
+returns-in_err-best_meeting-clause-best g c = λ edges previous start end x y p. (
+  if_refused _ c.from_residual.result c.in_err-best_meeting.field-0.0 c.from_residual.ensures.1,
+  λ e. (c.in_err-best_meeting.ensures.best edges previous start end x y p).1 (ap Err (sym (rw e at c.from_residual.ensures.1))),
+)
 
 pub returns-in_err-best_meeting-clause-errors : goal.returns-in_err-best_meeting-clause-errors
 returns-in_err-best_meeting-clause-errors g c = refused_as _ c.from_residual.result c.in_err-best_meeting.field-0.0 c.from_residual.ensures.1 c.in_err-best_meeting.ensures.errors
 
 pub returns-in-None-clause-best : goal.returns-in-None-clause-best
 returns-in-None-clause-best g c = λ edges previous start end x y p.
-    let q = rw c.in-None.is at (c.in_ok-best_meeting.ensures.best edges previous start end x y p) in
-    no_walk_across g.N.PartialEq.eq g.met.N.Eq.laws g.C.Number.value g.C.Number.fits edges start _ _ (q.0).forth end q.1
+    let q = rw c.in-None.is at (c.in_ok-best_meeting.ensures.best edges previous start end x y p).0 in
+    (no_walk_across g.N.PartialEq.eq g.met.N.Eq.laws g.C.Number.value g.C.Number.fits edges start _ _ (q.0).forth end q.2, λ e. absurd (ok_is_no_error _ _ _ refl e))
 
 pub path_through-requires-clause-trees : goal.path_through-requires-clause-trees
-path_through-requires-clause-trees g c = (c.in_ok-best_meeting.ensures.sound_forth.tree, c.in_ok-best_meeting.ensures.sound_back.tree)
+path_through-requires-clause-trees g c = (c.in_ok-best_meeting.ensures.sound.forth.tree, c.in_ok-best_meeting.ensures.sound.back.tree)
 
 pub path_through-requires-clause-wide_forth : goal.path_through-requires-clause-wide_forth
-path_through-requires-clause-wide_forth g c = c.in_ok-best_meeting.ensures.wide_forth
+path_through-requires-clause-wide_forth g c = c.in_ok-best_meeting.ensures.sound.wide_forth
 
 pub path_through-requires-clause-wide_back : goal.path_through-requires-clause-wide_back
-path_through-requires-clause-wide_back g c = c.in_ok-best_meeting.ensures.wide_back
+path_through-requires-clause-wide_back g c = c.in_ok-best_meeting.ensures.sound.wide_back
 
 pub path_through-requires-clause-meets : goal.path_through-requires-clause-meets
-path_through-requires-clause-meets g c = rw c.in-Some.is at c.in_ok-best_meeting.ensures.meets
+path_through-requires-clause-meets g c =
+    let r = c.requires.pair in
+    let q = rw c.in-Some.is at (c.in_ok-best_meeting.ensures.best r.0 r.1 r.2 r.3 r.4 r.5 r.6).0 in
+    q.1
 
 pub path_through-requires-clause-one : goal.path_through-requires-clause-one
 path_through-requires-clause-one g c =
     let r = c.requires.pair in
-    let q = (c.in_ok-best_meeting.ensures.best r.0 r.1 r.2 r.3 r.4 r.5 r.6).0 in
+    let q = (c.in_ok-best_meeting.ensures.best r.0 r.1 r.2 r.3 r.4 r.5 r.6).0.0 in
     (q.back).one
 
 pub path_through-requires-clause-costs : goal.path_through-requires-clause-costs
@@ -45,32 +47,26 @@ path_through-requires-clause-costs g c = λ k l h.
     let laws = g.met.N.Eq.laws in
     let value = g.C.Number.value in
     let fits = g.C.Number.fits in
-    let q = (c.in_ok-best_meeting.ensures.best r.0 r.1 r.2 r.3 r.4 r.5 r.6).0 in
+    let q = (c.in_ok-best_meeting.ensures.best r.0 r.1 r.2 r.3 r.4 r.5 r.6).0.0 in
     elim h as (λ _. pos 0 ≤ℤ value l.cost) [
       | inl f ↦ (labelled_node eq laws value fits r.0 r.2 _ _ q.forth k l f).3
       | inr f ↦ (labelled_node eq laws value fits r.1 r.3 _ _ q.back k l f).3
     ]
 
 pub returns-in_err-path-in-Some-clause-best : goal.returns-in_err-path-in-Some-clause-best
-returns-in_err-path-in-Some-clause-best g c = λ edges previous start end x y p. if_refused _ c.from_residual-in_err-path-in-Some.result c.in_err-path-in-Some.field-0.0 c.from_residual-in_err-path-in-Some.ensures.1
-
-pub returns-in_err-path-in-Some-clause-overflow : goal.returns-in_err-path-in-Some-clause-overflow
-returns-in_err-path-in-Some-clause-overflow g c = λ edges previous start end x y p e. absurd (no_overflow c.from_residual-in_err-path-in-Some.result c.in_err-path-in-Some.field-0.0 c.from_residual-in_err-path-in-Some.ensures.1 c.in_err-path-in-Some.ensures.refused e)
+returns-in_err-path-in-Some-clause-best g c = λ edges previous start end x y p. (
+  if_refused _ c.from_residual-in_err-path-in-Some.result c.in_err-path-in-Some.field-0.0 c.from_residual-in_err-path-in-Some.ensures.1,
+  λ e. absurd (no_overflow c.from_residual-in_err-path-in-Some.result c.in_err-path-in-Some.field-0.0 c.from_residual-in_err-path-in-Some.ensures.1 c.in_err-path-in-Some.ensures.refused e),
+)
 
 pub returns-in_err-path-in-Some-clause-errors : goal.returns-in_err-path-in-Some-clause-errors
 returns-in_err-path-in-Some-clause-errors g c = refused_as _ c.from_residual-in_err-path-in-Some.result c.in_err-path-in-Some.field-0.0 c.from_residual-in_err-path-in-Some.ensures.1 (inl c.in_err-path-in-Some.ensures.refused)
 
 pub returns-in_ok-path-in-Some-clause-best : goal.returns-in_ok-path-in-Some-clause-best
 returns-in_ok-path-in-Some-clause-best g c = λ edges previous start end x y p.
-    let q = rw c.in-Some.is at (c.in_ok-best_meeting.ensures.best edges previous start end x y p) in
+    let q = rw c.in-Some.is at (c.in_ok-best_meeting.ensures.best edges previous start end x y p).0 in
     let w = c.in_ok-path-in-Some.ensures.path in
-    rw w.7 (joined_halves g.N.PartialEq.eq g.met.N.Eq.laws g.C.Number.value g.C.Number.fits edges previous start end _ _ _ _ _ q.0 (g.C.Number.value c.in-Some.meeting.cost) w.0 w.1 w.4 q.1 w.2 w.3 w.5 w.6)
-
-pub returns-in-None-clause-overflow : goal.returns-in-None-clause-overflow
-returns-in-None-clause-overflow g c = λ edges previous start end x y p e. absurd (ok_is_no_error _ _ _ refl e)
-
-pub returns-in_ok-path-in-Some-clause-overflow : goal.returns-in_ok-path-in-Some-clause-overflow
-returns-in_ok-path-in-Some-clause-overflow g c = λ edges previous start end x y p e. absurd (ok_is_no_error _ _ _ refl e)
+    (rw w.7 (joined_halves g.N.PartialEq.eq g.met.N.Eq.laws g.C.Number.value g.C.Number.fits edges previous start end _ _ _ _ _ q.0 (g.C.Number.value c.in-Some.meeting.cost) w.0 w.1 w.4 q.2 w.2 w.3 w.5 w.6), λ e. absurd (ok_is_no_error _ _ _ refl e))
 
 pub path_through-requires-clause-clones : goal.path_through-requires-clause-clones
 path_through-requires-clause-clones g c = c.requires.clones
@@ -81,17 +77,8 @@ returns-in-None-clause-errors g c = tt
 pub returns-in_ok-path-in-Some-clause-errors : goal.returns-in_ok-path-in-Some-clause-errors
 returns-in_ok-path-in-Some-clause-errors g c = tt
 
-pub best_meeting-requires-clause-sound_forth : goal.best_meeting-requires-clause-sound_forth
-best_meeting-requires-clause-sound_forth g c = c.requires.sound_forth
-
-pub best_meeting-requires-clause-sound_back : goal.best_meeting-requires-clause-sound_back
-best_meeting-requires-clause-sound_back g c = c.requires.sound_back
-
-pub best_meeting-requires-clause-wide_forth : goal.best_meeting-requires-clause-wide_forth
-best_meeting-requires-clause-wide_forth g c = c.requires.wide_forth
-
-pub best_meeting-requires-clause-wide_back : goal.best_meeting-requires-clause-wide_back
-best_meeting-requires-clause-wide_back g c = c.requires.wide_back
+pub best_meeting-requires-clause-sound : goal.best_meeting-requires-clause-sound
+best_meeting-requires-clause-sound g c = c.requires.sound
 
 pub best_meeting-requires-clause-pair : goal.best_meeting-requires-clause-pair
 best_meeting-requires-clause-pair g c = c.requires.pair

@@ -5,20 +5,6 @@ use Rattle.pf_search.proofs.DepthWalkLemmas.{looked, leads_inside, err_goes, ref
 use Rattle.pf_search.proofs.ResultLemmas.{refused_as}
 use Rattle.pf_search.proofs.directed.preorder.DfsReachable.step.Goals as goal
 
-pub offset_bounds-as_slice-branch : goal.offset_bounds-as_slice-branch
-offset_bounds-as_slice-branch g c =
-    let eq = g.N.PartialEq.eq in
-    let laws = g.met.N.Eq.laws in
-    let i = c.self.inside in
-    let put = c.in_ok-put_start.ensures.put in
-    let k = c.next_branch.new.self in
-    let r = c.requires.graph in
-    let b = c.in-Some.ensures in
-    let v = rw (← c.self.view_is) at r.3 in
-    let t : DepthWalk g.row.N.Denot g.row.FN.Denot = record { found = c.put_start.new.nodes.keys; given = length k.given.items; visited = k.visited.items; path = k.path.items; waiting = k.waiting.items; refused = i.refused; successors = i.graph.successors } in
-    let m = looked eq laws _ _ _ _ _ r.0 r.1 r.2 _ t b.dropped.0 v put.1 (ap length b.given) b.visited b.path refl b.dropped.1 b.dropped.2 in
-    omega (arith, ap length c.as_slice.ensures.keys, (leads_inside eq laws r.0 r.1 r.2 t c.in-Some.branch m.stands b.next).0)
-
 pub bounds-as_slice-branch : goal.bounds-as_slice-branch
 bounds-as_slice-branch g c =
     let eq = g.N.PartialEq.eq in
@@ -32,6 +18,9 @@ bounds-as_slice-branch g c =
     let t : DepthWalk g.row.N.Denot g.row.FN.Denot = record { found = c.put_start.new.nodes.keys; given = length k.given.items; visited = k.visited.items; path = k.path.items; waiting = k.waiting.items; refused = i.refused; successors = i.graph.successors } in
     let m = looked eq laws _ _ _ _ _ r.0 r.1 r.2 _ t b.dropped.0 v put.1 (ap length b.given) b.visited b.path refl b.dropped.1 b.dropped.2 in
     omega (arith, ap length c.as_slice.ensures.keys, (leads_inside eq laws r.0 r.1 r.2 t c.in-Some.branch m.stands b.next).0)
+
+pub offset_bounds-as_slice-branch : goal.offset_bounds-as_slice-branch
+offset_bounds-as_slice-branch g c = omega (arith, bounds-as_slice-branch g c)
 
 pub put_start-requires : goal.put_start-requires
 put_start-requires g c = empty_before c.self.inside.start c.self.inside.graph.nodes.keys _ c.self.invariant
@@ -153,3 +142,18 @@ returns-in_ok-visit-in-Some-clause-refused g c = tt
 
 pub returns-in_err-visit-in-Some-clause-refused : goal.returns-in_err-visit-in-Some-clause-refused
 returns-in_err-visit-in-Some-clause-refused g c = refused_as _ c.from_residual-in_err-visit-in-Some.result c.in_err-visit-in-Some.field-0.0 c.from_residual-in_err-visit-in-Some.ensures.1 c.in_err-visit-in-Some.ensures.refused
+
+pub invariant_of-self : goal.invariant_of-self
+invariant_of-self g c = let s = c.in_err-put_start.ensures.stays in rw (s.2, s.3) c.self.invariant
+
+pub invariant_of-self-in-None : goal.invariant_of-self-in-None
+invariant_of-self-in-None g c = rw c.in_ok-put_start.ensures.put.0 tt
+
+pub invariant_of-self-in_err-node-in-Some : goal.invariant_of-self-in_err-node-in-Some
+invariant_of-self-in_err-node-in-Some g c = rw c.in_ok-put_start.ensures.put.0 tt
+
+pub invariant_of-self-in_err-visit-in-Some : goal.invariant_of-self-in_err-visit-in-Some
+invariant_of-self-in_err-visit-in-Some g c = rw c.in_ok-put_start.ensures.put.0 tt
+
+pub invariant_of-self-in-Some : goal.invariant_of-self-in-Some
+invariant_of-self-in-Some g c = rw c.in_ok-put_start.ensures.put.0 tt

@@ -1,4 +1,4 @@
-use Rattle.std.proofs.Common.{sym, ap, length, ◌∙◌}
+use Rattle.std.proofs.Common.{sym, ap, length, refl, inl, ◌∙◌}
 use Rattle.pf_search.specs.DepthWalks.{DepthWalk}
 use Rattle.pf_search.specs.Internal.Breadth.{found_or}
 use Rattle.pf_search.proofs.DepthWalkLemmas.{any_some, step_of, goes_again}
@@ -26,3 +26,6 @@ returns-then-self-clause-refused g c = tt
 
 pub step-step-requires-clause-clones : goal.step-step-requires-clause-clones
 step-step-requires-clause-clones g c = c.requires.0
+
+pub returns-then-self-clause-steps : goal.returns-then-self-clause-steps
+returns-then-self-clause-steps g c = λ next start paths w. rw (← c.self.view_is) (refl, rw (← c.self.view_is) at w, inl (c.if-self.true, refl))
