@@ -1,7 +1,8 @@
 -- Boards of cells.
-use Rattle.std.proofs.Common.{◌≡◌, inl, inr, ℕ, zero, suc, ◌+◌, ◌*◌, ◌/◌, ◌<◌, sym, ◌∙◌, refl, ap, arith, List, [], ◌∷◌, length, get_or}
+use Rattle.std.proofs.Common.{◌≡◌, ◌≢◌, eq-eqb, inl, inr, ℕ, zero, suc, ◌+◌, ◌*◌, ◌/◌, ◌^◌, ◌<◌, Bool, true, false, not, true≢false, nat_eq, sym, ◌∙◌, refl, ap, arith, List, [], ◌∷◌, length, get_or}
 use Rattle.std.specs.Prelude.{◌≤ℤ◌, ℤ, pos, Option, Some, None, slice_get, map}
-use Rattle.std.specs.Option.{option_and_then, option_map}
+use Rattle.std.specs.Option.{SomeIff, option_eq, option_and_then, option_map}
+use Rattle.std.proofs.lemmas.Bool.{eqb-true}
 use Rattle.std.proofs.lemmas.Option.{slice_get-map, slice_get-get_or, slice_get_read, slice_get_within, option_and_then_some}
 use Rattle.std.proofs.lemmas.Nat.{mul-add-lt}
 use Rattle.std.proofs.Math.Nat.{div-lt_iff_lt-mul}
@@ -23,6 +24,20 @@ one_more_cell cells number cell inside read sound before k cost l e = elim (less
   | inl b ↦ before k cost b e
   | inr s ↦ sound cost (some_same (sym (slice_get_read cells (length cells) number cell refl inside read) ∙ ap (slice_get cells) (sym s) ∙ e))
 ]
+
+-- the number of cells that is the product of the rows and columns
+pub sized_as : (r : Option ℕ) (product count : ℕ) → SomeIff r (product < 2 ^ 64) product → false ≡ not (option_eq nat_eq r (Some count)) → count ≡ product
+sized_as None product count h e = absurd (true≢false (sym e))
+sized_as (Some x) product count h e = by (nat_eq x count) refl e
+  where
+    by : (b : Bool) → nat_eq x count ≡ b → false ≡ not b → count ≡ product
+    by true t f = sym (eqb-true x count t) ∙ h.1
+    by false t f = absurd (true≢false (sym f))
+
+-- the number of cells that is not the product
+pub not_sized : (r : Option ℕ) (product count : ℕ) → SomeIff r (product < 2 ^ 64) product → true ≡ not (option_eq nat_eq r (Some count)) → count < 2 ^ 64 → count ≢ product
+not_sized None product count h e small same = h (omega (arith, small, same))
+not_sized (Some x) product count h e small same = true≢false (e ∙ ap not (eq-eqb x count (h.1 ∙ sym same)))
 
 -- ---- rows and columns
 
@@ -59,6 +74,10 @@ direction_at Four (suc (suc zero)) d h = refl
 direction_at Four (suc (suc (suc zero))) d h = refl
 direction_at Four (suc (suc (suc (suc n)))) d h = absurd (omega (arith, h))
 direction_at Eight place d h = slice_get-get_or eight place d h
+
+pub place_bound : (steps : Steps) (place : ℕ) → place < length (directions_of steps) → place < 8
+place_bound Four place l = omega arith
+place_bound Eight place l = l
 
 pub step_at : {C : Type 0} (board : Cells C) (node place : ℕ) (direction : ℤ × ℤ) → slice_get board.directions place ≡ Some direction → slice_get (steps_from board node) place ≡ Some (step_from board node direction)
 step_at board node place direction e = slice_get-map _ board.directions place ∙ ap (option_map (step_from board node)) e

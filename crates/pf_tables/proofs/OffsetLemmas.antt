@@ -26,6 +26,12 @@ offset_within offsets edges node h l =
     let last : slice_index offsets (node + (top - node)) ≡ edges = ap (slice_index offsets) e ∙ h.last in
     omega (arith, rise, last)
 
+pub node_below : {node count : ℕ} → node < count - 1 → node < count
+node_below l = omega arith
+
+pub place_below : (first : ℕ) {place long next edges : ℕ} → place < long → long ≡ next - first → next ≤ edges → first + place < edges
+place_below first l e h = omega arith
+
 module _ {C : Type 0} (offsets : List ℕ) (edges : List (ℕ × C)) (h : IsOffsets offsets (length edges)) (node : ℕ) (inside : node < length offsets - 1) where
   pub next_within : slice_index offsets (node + 1) ≤ length edges
   next_within = offset_within offsets (length edges) (node + 1) h (omega (arith, inside))

@@ -15,6 +15,11 @@ pub on_refused : {T E : Type 0} (P : Type 0) (r : Result T E) → IsErr r → On
 on_refused P (Ok x) h = absurd (false≢true h)
 on_refused P (Err e) h = tt
 
+-- what holds at any outcome
+pub on_any : {T E P : Type 0} (r : Result T E) → P → OnOk r P
+on_any (Ok x) p = p
+on_any (Err e) p = tt
+
 -- the error that `?` handed on
 pub error_of : {T E : Type 0} (r : Result T E) (e f : E) → IsErrAnd r (λ x. x ≡ e) → r ≡ Err f → e ≡ f
 error_of (Ok x) e f h q = absurd h

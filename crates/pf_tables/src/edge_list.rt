@@ -11,8 +11,8 @@ ghost use Rattle.pf_tables.specs.EdgeLists.{AreNumbered, CostsFromZeroTo, HasEdg
 use crate::checks::is_negative;
 use crate::error::EdgeListError;
 use crate::graph::Graph;
-use crate::layout::lay_out;
-use crate::names::{Names, Numbered, names_at, number_edges};
+use crate::names::{Names, lay_out_by_name, names_at};
+use indexmap::IndexSet;
 use pf_base::{Cost, PathError};
 use std::alloc::{Allocator, Global};
 use std::hash::Hash;
@@ -79,9 +79,8 @@ impl<'e, N: Eq + Hash, C: Cost, A: Allocator + Copy> EdgeList<'e, N, C, A> {
         if let Some(edge) = negative_edge(edges) {
             return Err(EdgeListError::NegativeCost { edge });
         }
-        let numbered = number_edges(alloc, edges)?;
-        let (offsets, targets) = lay_out(alloc, numbered.names.len(), &numbered.edges)?;
-        let Numbered { names, edges: _ } = numbered;
+        let mut names = IndexSet::new(alloc);
+        let (offsets, targets) = lay_out_by_name(alloc, &mut names, edges)?;
         Ok(EdgeList {
             edges,
             names,

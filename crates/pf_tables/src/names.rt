@@ -1,24 +1,20 @@
 //! Names that are numbered in the order in which they are first met.
 
-ghost use Rattle.std.specs.Prelude.{◌≡◌, ◌<◌, ℕ, [], Some, Contains, map, length, slice_get, IfOk, IfErr, OnOk};
+ghost use Rattle.std.specs.Prelude.{◌≡◌, ◌<◌, ℕ, [], Some, Contains, length, slice_get, IfOk, IfErr, OnOk};
 ghost use Rattle.std.specs.List.{AllZip};
 ghost use Rattle.pf_base.specs.NodeRefs.{nodes_of};
-ghost use Rattle.pf_tables.specs.EdgeLists.{names_of, number_in};
+ghost use Rattle.pf_tables.specs.EdgeLists.{names_of};
+ghost use Rattle.pf_tables.specs.Layouts.{AreOffsets, ArePlaced, numbered_ends};
 
+use crate::layout::lay_out;
 use indexmap::IndexSet;
+use num_traits::Zero;
 use pf_base::PathError;
 use std::alloc::{AllocError, Allocator};
 use std::hash::{BuildHasherDefault, FoldHasher, Hash};
 
 /// Names that others own, each once; the place of a name is its number.
 pub type Names<'e, N, A> = IndexSet<&'e N, BuildHasherDefault<FoldHasher>, A>;
-
-/// The names of edges, and the edges between their numbers.
-#[derive(Drop)]
-pub struct Numbered<'e, N: Eq + Hash, C, A: Allocator> {
-    pub names: Names<'e, N, A>,
-    pub edges: Vec<(usize, usize, C), A>,
-}
 
 /// Numbers the names of edges, and puts the edges between the numbers into `numbered`.
 fn add_edges<'e, N, C, A>(
@@ -33,7 +29,7 @@ where
     requires first { names.old.keys ≡ [] }
     requires none { numbered.old.items ≡ [] }
     ensures names { OnOk result (nodes_of names.new.keys ≡ names_of N.eq edges.now) }
-    ensures numbered { OnOk result (numbered.new.items ≡ map (λ e. (number_in N.eq (names_of N.eq edges.now) e.0, number_in N.eq (names_of N.eq edges.now) e.1, e.2)) edges.now) }
+    ensures numbered { OnOk result (numbered.new.items ≡ numbered_ends N.eq edges.now) }
 {
     for edge in edges {
         let from = names.insert_full(&edge.0)?.0;
@@ -43,25 +39,24 @@ where
     Ok(())
 }
 
-/// Numbers the names of edges, and gives the edges between the numbers.
-pub fn number_edges<'e, N, C, A>(
+/// Numbers the names of edges, and lays the edges between the numbers out.
+pub fn lay_out_by_name<'e, N, C, A>(
     alloc: A,
+    names: &mut Names<'e, N, A>,
     edges: &'e [(N, N, C)],
-) -> Result<Numbered<'e, N, C, A>, AllocError>
+) -> Result<(Vec<usize, A>, Vec<(usize, C), A>), AllocError>
 where
     N: Eq + Hash,
-    C: Copy,
+    C: Copy + Zero,
     A: Allocator + Copy,
-    ensures names { IfOk result (λ r. nodes_of r.names.keys ≡ names_of N.eq edges.now) }
-    ensures numbered { IfOk result (λ r. r.edges.items ≡ map (λ e. (number_in N.eq (names_of N.eq edges.now) e.0, number_in N.eq (names_of N.eq edges.now) e.1, e.2)) edges.now) }
+    requires { names.old.keys ≡ [] }
+    ensures names { OnOk result (nodes_of names.new.keys ≡ names_of N.eq edges.now) }
+    ensures offsets { IfOk result (λ laid. AreOffsets (length (names_of N.eq edges.now)) (numbered_ends N.eq edges.now) laid.0.items) }
+    ensures targets { IfOk result (λ laid. ArePlaced (length (names_of N.eq edges.now)) (numbered_ends N.eq edges.now) laid.1.items) }
 {
     let mut numbered = Vec::with_capacity(alloc, edges.len())?;
-    let mut names = IndexSet::new(alloc);
-    add_edges(&mut names, &mut numbered, edges)?;
-    Ok(Numbered {
-        names,
-        edges: numbered,
-    })
+    add_edges(names, &mut numbered, edges)?;
+    lay_out(alloc, names.len(), &numbered)
 }
 
 /// The names that have these numbers, in their order.

@@ -1,7 +1,13 @@
-use Rattle.std.proofs.Common.{◌≡◌, refl, length, Some, slice_get}
+use Rattle.std.proofs.Common.{arith, ℕ, ◌<◌, ◌≡◌, refl, length, Some, slice_get}
 use Rattle.std.proofs.lemmas.Option.{slice_get_read}
 use Rattle.pf_tables.proofs.EdgeListLemmas.{one_more_edge}
 use Rattle.pf_tables.proofs.edge_list.negative_edge.Goals as goal
+
+none_below : {k : ℕ} → k < 0 → ⊥
+none_below l = omega arith
+
+pub loop-number-init : goal.loop-number-init
+loop-number-init g c = λ k e l h. absurd (none_below l)
 
 pub returns-then-is_negative : goal.returns-then-is_negative
 returns-then-is_negative g c =

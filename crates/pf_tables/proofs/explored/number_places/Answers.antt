@@ -1,4 +1,4 @@
-use Rattle.std.proofs.Common.{refl, ℕ, map, ◌≡◌, Some, ◌∙◌, ap, inl, arith, [], ◌∷◌, ◌++◌, take_all, take, length, nat_eq}
+use Rattle.std.proofs.Common.{◌<◌, subst, refl, ℕ, map, ◌≡◌, Some, ◌∙◌, ap, inl, arith, [], ◌∷◌, ◌++◌, take_all, take, length, nat_eq}
 use Rattle.pf_core.proofs.NodeLemmas.{take_longer, Numbers-grow, Numbers-push, AddedFrom-push, AddsNode-stays}
 use Rattle.std.proofs.lemmas.List.{map-append}
 use Rattle.std.proofs.lemmas.Cmp.{nat_eq_equiv}
@@ -24,6 +24,12 @@ loop-place-init g c =
       distinct = λ d. d;
     }
 
+pub edge-requires-clause-node : goal.edge-requires-clause-node
+edge-requires-clause-node g c = c.requires.inside
+
+pub edge-requires-clause-place : goal.edge-requires-clause-place
+edge-requires-clause-place g c = subst (λ n. c.loop-place.place < n) c.places-place-end.ensures c.loop-place-test.true
+
 pub number_edge-requires-clause-index : goal.number_edge-requires-clause-index
 number_edge-requires-clause-index g c = c.loop-place.invariant.index
 
@@ -32,8 +38,20 @@ number_edge-requires-clause-inside g c =
     let l = c.known.ensures.inside c.args.node c.loop-place.place c.in-Some.edge c.requires.inside c.in-Some.ensures in
     omega (arith, l, c.loop-place.invariant.wide)
 
+pub forget-requires-clause-index : goal.forget-requires-clause-index
+forget-requires-clause-index g c = c.in-Err.ensures.index
+
 pub forget-requires-clause-inside : goal.forget-requires-clause-inside
 forget-requires-clause-inside g c = let v = c.loop-place.invariant in omega (arith, v.longer, c.in-Err.ensures.added.longer)
+
+pub returns-in-Err-clause-index : goal.returns-in-Err-clause-index
+returns-in-Err-clause-index g c = c.forget.ensures.index
+
+pub returns-in-Err-clause-wide : goal.returns-in-Err-clause-wide
+returns-in-Err-clause-wide g c = c.forget.ensures.wide ∙ c.in-Err.ensures.wide ∙ c.loop-place.invariant.wide
+
+pub returns-in-Err-clause-refused : goal.returns-in-Err-clause-refused
+returns-in-Err-clause-refused g c = c.in-Err.ensures.refused
 
 pub returns-in-Err-clause-stays : goal.returns-in-Err-clause-stays
 returns-in-Err-clause-stays g c =
@@ -107,6 +125,9 @@ returns-clause-numbered g c =
 
 pub returns-clause-index : goal.returns-clause-index
 returns-clause-index g c = c.loop-place.invariant.index
+
+pub returns-clause-wide : goal.returns-clause-wide
+returns-clause-wide g c = c.loop-place.invariant.wide
 
 pub returns-clause-distinct : goal.returns-clause-distinct
 returns-clause-distinct g c = c.loop-place.invariant.distinct

@@ -1,18 +1,19 @@
-use Rattle.std.proofs.Common.{rules, ◌≡◌, sym, ◌∙◌, ap, subst, length}
-use Rattle.std.proofs.lemmas.List.{length-map}
+use Rattle.std.proofs.Common.{refl, sym, ap, subst, length}
 use Rattle.std.proofs.lemmas.Result.{IfOk-from_err}
 use Rattle.pf_base.specs.Walks.{NoRepeats}
 use Rattle.pf_base.specs.NodeRefs.{nodes_of}
-use Rattle.pf_base.proofs.NodeRefsLemmas.{NoRepeats-distinct}
-use Rattle.pf_tables.specs.EdgeLists.{CostsFromZeroTo, names_of}
-use Rattle.pf_tables.specs.Layouts.{AreOffsets, ArePlaced}
-use Rattle.pf_tables.proofs.EdgeListLemmas.{has_edges_by_name, come_from_names, laid_out, edge_list_graph}
+use Rattle.pf_tables.specs.EdgeLists.{names_of}
+use Rattle.pf_tables.specs.Layouts.{numbered_ends}
+use Rattle.pf_tables.proofs.EdgeListLemmas.{has_edges_by_name, laid_out, edge_list_graph}
 use Rattle.pf_tables.proofs.Outcomes.{refused_as}
-use Rattle.pf_tables.proofs.NumberedNames.{all_named, number_stands, names_are_ends}
+use Rattle.pf_tables.proofs.NumberedNames.{all_named, number_stands, names_apart, names_are_ends}
 use Rattle.pf_tables.proofs.edge_list.EdgeList.new.Goals as goal
 
-pub returns-in_err-numbered : goal.returns-in_err-numbered
-returns-in_err-numbered g c =
+pub lay_out_by_name-requires : goal.lay_out_by_name-requires
+lay_out_by_name-requires g c = c.new-names.ensures.empty
+
+pub returns-in_err-offsets : goal.returns-in_err-offsets
+returns-in_err-offsets g c =
     let r = c.from_residual in
     record {
       edges = IfOk-from_err _ _ r.ensures.0;
@@ -21,43 +22,23 @@ returns-in_err-numbered g c =
       numbered = IfOk-from_err _ _ r.ensures.0;
       places = IfOk-from_err _ _ r.ensures.0;
       sound = IfOk-from_err _ _ r.ensures.0;
-      fault = refused_as _ r.result _ r.ensures.1 (search rules);
-    }
-
-pub lay_out-requires-clause-inside : goal.lay_out-requires-clause-inside
-lay_out-requires-clause-inside g c =
-    let keys = c.in_ok-numbered.numbered.names.keys in
-    let count : c.len.result ≡ length (names_of g.N.PartialEq.eq c.args.edges.now) = c.len.ensures.len ∙ sym (length-map keys _) ∙ ap length c.in_ok-numbered.ensures.names in
-    come_from_names g.met.N.Eq.laws g.C.Number.value c.args.edges.now c.len.result count c.deref.result.now (c.deref.ensures.value ∙ c.in_ok-numbered.ensures.numbered)
-
-pub returns-in_err-offsets : goal.returns-in_err-offsets
-returns-in_err-offsets g c =
-    let r = c.from_residual-in_err-offsets in
-    record {
-      edges = IfOk-from_err _ _ r.ensures.0;
-      names = IfOk-from_err _ _ r.ensures.0;
-      apart = IfOk-from_err _ _ r.ensures.0;
-      numbered = IfOk-from_err _ _ r.ensures.0;
-      places = IfOk-from_err _ _ r.ensures.0;
-      sound = IfOk-from_err _ _ r.ensures.0;
-      fault = refused_as _ r.result _ r.ensures.1 (search rules);
+      fault = refused_as _ r.result _ r.ensures.1 c.in_default.ensures;
     }
 
 pub invariant_of-result : goal.invariant_of-result
 invariant_of-result g c =
-    let keys = c.in_ok-numbered.numbered.names.keys in
-    let es = c.in_ok-numbered.numbered.edges.items in
-    let costs : CostsFromZeroTo g.C.Number.value c.args.edges.now (length c.args.edges.now) = search rules in
-    laid_out g.met.N.Eq.laws g.C.Number.value c.args.edges.now (nodes_of keys) c.in_ok-numbered.ensures.names (NoRepeats-distinct g.met.N.Eq.laws keys c.len.ensures.unique) costs
-    c.len.result (c.len.ensures.len ∙ sym (length-map keys _)) es c.in_ok-numbered.ensures.numbered
-    c.in_ok-offsets.offsets.items (subst (λ xs. AreOffsets c.len.result xs c.in_ok-offsets.offsets.items) c.deref.ensures.value c.in_ok-offsets.ensures.offsets)
-    c.in_ok-offsets.targets.items (subst (λ n. ArePlaced n es c.in_ok-offsets.targets.items) (c.len.ensures.len ∙ sym c.len.ensures.len) (subst (λ xs. ArePlaced c.len.result xs c.in_ok-offsets.targets.items) c.deref.ensures.value c.in_ok-offsets.ensures.targets))
+    let laws = g.met.N.Eq.laws in
+    let edges = c.args.edges.now in
+    let made = c.in_ok-offsets.ensures in
+    let apart : NoRepeats g.N.PartialEq.eq (nodes_of c.lay_out_by_name.new.names.keys) = subst (NoRepeats g.N.PartialEq.eq) (sym made.names) (names_apart laws edges) in
+    laid_out laws g.C.Number.value edges (nodes_of c.lay_out_by_name.new.names.keys) made.names apart c.in_default.ensures
+    (length (names_of g.N.PartialEq.eq edges)) (ap length (sym made.names)) (numbered_ends g.N.PartialEq.eq edges) refl c.in_ok-offsets.offsets.items made.offsets c.in_ok-offsets.targets.items made.targets
 
 pub returns-clause-names : goal.returns-clause-names
 returns-clause-names g c = names_are_ends g.met.N.Eq.laws c.args.edges.now
 
 pub returns-clause-apart : goal.returns-clause-apart
-returns-clause-apart g c = subst (NoRepeats g.N.PartialEq.eq) c.in_ok-numbered.ensures.names (NoRepeats-distinct g.met.N.Eq.laws c.in_ok-numbered.numbered.names.keys c.len.ensures.unique)
+returns-clause-apart g c = names_apart g.met.N.Eq.laws c.args.edges.now
 
 pub returns-clause-numbered : goal.returns-clause-numbered
 returns-clause-numbered g c = λ k e h.
@@ -71,11 +52,9 @@ returns-clause-places g c = has_edges_by_name g.met.N.Eq.laws c.args.edges.now
 
 pub returns-clause-sound : goal.returns-clause-sound
 returns-clause-sound g c =
-    let keys = c.in_ok-numbered.numbered.names.keys in
-    let es = c.in_ok-numbered.numbered.edges.items in
-    let costs : CostsFromZeroTo g.C.Number.value c.args.edges.now (length c.args.edges.now) = search rules in
-    edge_list_graph g.met.N.Eq.laws g.C.Number.value c.args.edges.now (nodes_of keys) c.in_ok-offsets.offsets.items c.in_ok-offsets.targets.items
-    (laid_out g.met.N.Eq.laws g.C.Number.value c.args.edges.now (nodes_of keys) c.in_ok-numbered.ensures.names (NoRepeats-distinct g.met.N.Eq.laws keys c.len.ensures.unique) costs
-    c.len.result (c.len.ensures.len ∙ sym (length-map keys _)) es c.in_ok-numbered.ensures.numbered
-    c.in_ok-offsets.offsets.items (subst (λ xs. AreOffsets c.len.result xs c.in_ok-offsets.offsets.items) c.deref.ensures.value c.in_ok-offsets.ensures.offsets)
-    c.in_ok-offsets.targets.items (subst (λ n. ArePlaced n es c.in_ok-offsets.targets.items) (c.len.ensures.len ∙ sym c.len.ensures.len) (subst (λ xs. ArePlaced c.len.result xs c.in_ok-offsets.targets.items) c.deref.ensures.value c.in_ok-offsets.ensures.targets)))
+    let laws = g.met.N.Eq.laws in
+    let edges = c.args.edges.now in
+    let made = c.in_ok-offsets.ensures in
+    edge_list_graph laws g.C.Number.value edges (names_of g.N.PartialEq.eq edges) c.in_ok-offsets.offsets.items c.in_ok-offsets.targets.items
+    (laid_out laws g.C.Number.value edges (names_of g.N.PartialEq.eq edges) refl (names_apart laws edges) c.in_default.ensures
+    (length (names_of g.N.PartialEq.eq edges)) refl (numbered_ends g.N.PartialEq.eq edges) refl c.in_ok-offsets.offsets.items made.offsets c.in_ok-offsets.targets.items made.targets)

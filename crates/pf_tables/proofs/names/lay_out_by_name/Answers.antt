@@ -1,0 +1,53 @@
+use Rattle.std.proofs.Common.{◌≡◌, sym, ◌∙◌, ap, subst, length}
+use Rattle.std.specs.Prelude.{IfOk}
+use Rattle.std.proofs.lemmas.List.{length-map}
+use Rattle.std.proofs.lemmas.Result.{IfOk-from_err}
+use Rattle.pf_tables.specs.EdgeLists.{names_of}
+use Rattle.pf_tables.specs.Layouts.{AreOffsets, ArePlaced, numbered_ends}
+use Rattle.pf_tables.proofs.EdgeListLemmas.{come_from_names}
+use Rattle.pf_tables.proofs.Outcomes.{on_refused, on_any}
+use Rattle.pf_tables.proofs.names.lay_out_by_name.Goals as goal
+
+pub returns-in_err-numbered : goal.returns-in_err-numbered
+returns-in_err-numbered g c =
+    let r = c.from_residual in
+    record {
+      names = on_refused _ _ r.ensures.0;
+      offsets = IfOk-from_err _ _ r.ensures.0;
+      targets = IfOk-from_err _ _ r.ensures.0;
+    }
+
+pub returns-in_err-add_edges : goal.returns-in_err-add_edges
+returns-in_err-add_edges g c =
+    let r = c.from_residual-in_err-add_edges in
+    record {
+      names = on_refused _ _ r.ensures.0;
+      offsets = IfOk-from_err _ _ r.ensures.0;
+      targets = IfOk-from_err _ _ r.ensures.0;
+    }
+
+pub add_edges-requires : goal.add_edges-requires
+add_edges-requires g c = record { first = c.requires; none = c.in_ok-numbered.ensures.items }
+
+pub lay_out-requires : goal.lay_out-requires
+lay_out-requires g c =
+    let added = c.in_ok-add_edges.ensures in
+    let count : c.len.result ≡ length (names_of g.N.PartialEq.eq c.args.edges.now) = c.len.ensures.len ∙ sym (length-map c.add_edges.new.names.keys _) ∙ ap length added.names in
+    record {
+      few = c.len.ensures.small;
+      short = c.deref.type_inv.0;
+      inside = come_from_names g.met.N.Eq.laws g.C.Number.value c.args.edges.now c.len.result count c.deref.result.now (c.deref.ensures.value ∙ added.numbered);
+    }
+
+pub returns : goal.returns
+returns g c =
+    let r = c.lay_out in
+    let added = c.in_ok-add_edges.ensures in
+    let ends = numbered_ends g.N.PartialEq.eq c.args.edges.now in
+    let count : c.len.result ≡ length (names_of g.N.PartialEq.eq c.args.edges.now) = c.len.ensures.len ∙ sym (length-map c.add_edges.new.names.keys _) ∙ ap length added.names in
+    let same : c.deref.result.now ≡ ends = c.deref.ensures.value ∙ added.numbered in
+    record {
+      names = on_any r.result added.names;
+      offsets = subst (λ n. IfOk r.result (λ laid. AreOffsets n ends laid.0.items)) count (subst (λ es. IfOk r.result (λ laid. AreOffsets c.len.result es laid.0.items)) same r.ensures.offsets);
+      targets = subst (λ n. IfOk r.result (λ laid. ArePlaced n ends laid.1.items)) count (subst (λ es. IfOk r.result (λ laid. ArePlaced c.len.result es laid.1.items)) same r.ensures.targets);
+    }
