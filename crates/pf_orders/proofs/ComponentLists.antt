@@ -1,5 +1,5 @@
 -- Lemmas on what a list has at a place.
-use Rattle.std.proofs.Common.{◌≡◌, ◌≢◌, ℕ, zero, suc, ◌<◌, ◌≤◌, ◌+◌, ◌-◌, List, [], ◌∷◌, ◌++◌, ◌∙◌, length, take, drop, replicate, Some, None, slice_get, refl, sym, ap, subst, arith, inl, inr, add-one, get_or, Vec, length-append}
+use Rattle.std.proofs.Common.{◌≡◌, ◌≢◌, ℕ, zero, suc, ◌<◌, ◌≤◌, ◌+◌, ◌-◌, List, [], ◌∷◌, ◌++◌, ◌∙◌, length, take, drop, replicate, Option, Some, None, slice_get, refl, sym, ap, subst, arith, inl, inr, add-one, get_or, Vec, length-append}
 use Rattle.std.specs.Prelude.{◌⊎◌, slice_set, Contains, map, Result, Ok, Err, IfOk}
 use Rattle.std.proofs.lemmas.List.{map-append, append-nil}
 use Rattle.std.specs.List.{AllZip}
@@ -176,3 +176,7 @@ last_list vs rest v e =
 pub if_ok : {A E : Type 0} (P Q : A → Type 0) (r : Result A E) → ((a : A) → P a → Q a) → IfOk r P → IfOk r Q
 if_ok P Q (Ok a) f h = f a h
 if_ok P Q (Err e) f h = tt
+
+-- the last element, as it is read
+pub last_waits : (xs ys : List ℕ) (o : Option ℕ) (number : ℕ) → ys ≡ xs → o ≡ slice_get ys (length ys - 1) → o ≡ Some number → IsAt xs (length xs - 1) number
+last_waits xs ys o number e at is = rw e at (sym at ∙ is)

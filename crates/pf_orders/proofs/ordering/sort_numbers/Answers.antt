@@ -1,6 +1,6 @@
 use Rattle.std.proofs.Common.{arith}
 use Rattle.std.proofs.lemmas.Result.{IfOk-from_err}
-use Rattle.pf_orders.proofs.Outcomes.{refused_as}
+use Rattle.pf_orders.proofs.Outcomes.{refused_as, Grows-itself}
 use Rattle.pf_orders.proofs.ordering.sort_numbers.Goals as goal
 
 pub walk_on-cycle-requires : goal.walk_on-cycle-requires
@@ -15,7 +15,7 @@ walk_on-cycle-requires g c =
 
 pub returns-in_err-walk : goal.returns-in_err-walk
 returns-in_err-walk g c = record {
-  grows = record { more = omega arith; stays = λ k x h. h; back = λ k x i h. h };
+  grows = Grows-itself _ _;
   graph = λ h x. x;
   order = λ h x. IfOk-from_err _ _ c.from_residual.ensures.0;
   cycle = IfOk-from_err _ _ c.from_residual.ensures.0;
@@ -24,3 +24,46 @@ returns-in_err-walk g c = record {
   asked = omega arith;
   errors = refused_as _ c.from_residual.result _ c.from_residual.ensures.1 c.in_err-walk.ensures.refused;
 }
+
+pub returns-in_err-number : goal.returns-in_err-number
+returns-in_err-number g c =
+    let e = c.in_err-number.ensures in
+    let r = c.from_residual-in_err-number in
+    record {
+      grows = e.grows;
+      graph = e.graph;
+      order = λ h x. IfOk-from_err _ _ r.ensures.0;
+      cycle = IfOk-from_err _ _ r.ensures.0;
+      on_cycle = λ h x. IfOk-from_err _ _ r.ensures.0;
+      ticked = e.ticked;
+      asked = e.asked;
+      errors = refused_as _ r.result _ r.ensures.1 e.refused;
+    }
+
+pub returns-in-Some : goal.returns-in-Some
+returns-in-Some g c =
+    let e = c.in_ok-number.ensures in
+    record {
+      grows = e.grows;
+      graph = e.graph;
+      order = λ h x. tt;
+      cycle = rw c.in-Some.is at e.cycle;
+      on_cycle = λ h x. rw c.in-Some.is at (e.on_cycle h x);
+      ticked = e.ticked;
+      asked = e.asked;
+      errors = tt;
+    }
+
+pub returns-in-None : goal.returns-in-None
+returns-in-None g c =
+    let e = c.in_ok-number.ensures in
+    record {
+      grows = e.grows;
+      graph = e.graph;
+      order = λ h x. rw c.into_order-order.ensures (rw c.in-None.is at (e.order h x));
+      cycle = tt;
+      on_cycle = λ h x. tt;
+      ticked = e.ticked;
+      asked = e.asked;
+      errors = tt;
+    }

@@ -1,8 +1,9 @@
-use Rattle.std.proofs.Common.{rules, ◌≡◌, ◌+◌, ◌-◌, ◌∙◌, ◌++◌, ◌∷◌, [], ℕ, List, arith, get_or, take, slice_get, Some, subst, sym, ap}
+use Rattle.std.proofs.Common.{rules, ◌≡◌, ◌+◌, ◌-◌, ◌∙◌, ◌++◌, ◌∷◌, [], ℕ, List, arith, get_or, take, slice_get, Some, subst, sym, ap, refl}
 use Rattle.std.specs.Prelude.{slice_set}
-use Rattle.std.proofs.lemmas.List.{take_more, append_assoc}
+use Rattle.std.proofs.lemmas.List.{take_more, take_all, append_assoc}
 use Rattle.pf_core.proofs.ListLemmas.{at_place, Contains-index}
 use Rattle.pf_orders.specs.Rounds.{Falls, AreFreed}
+use Rattle.pf_orders.proofs.Outcomes.{refused_as, on_refused}
 use Rattle.pf_orders.proofs.OrderLemmas.{member_of}
 use Rattle.pf_orders.proofs.RoundLemmas.{count_above, falls_more, freed_same, freed_more}
 use Rattle.pf_orders.proofs.rounds.release.Goals.{then-count-eq0+in_ok-push, else-count-eq0}
@@ -58,4 +59,22 @@ targets-preserved g c =
             let e : c.if-count-eq0.next.items ≡ c.targets.next.items = search rules in
             (freed, e ∙ v.freed.1, freed_same (take i row) old counts freed t (count - 1) v.falls v.freed.2 at1 not_zero)
       ];
+    }
+
+pub returns-in_err-push : goal.returns-in_err-push
+returns-in_err-push g c =
+    let r = c.from_residual in
+    record {
+      falls = on_refused _ _ r.ensures.0;
+      freed = on_refused _ _ r.ensures.0;
+      refused = refused_as _ r.result _ r.ensures.1 refl;
+    }
+
+pub returns : goal.returns
+returns g c =
+    let v = c.targets.invariant in
+    record {
+      falls = subst (λ (ks : List ℕ). Falls ks c.args.counts.now.items c.targets.counts.items) (take_all _ _ c.targets-test.false) v.falls;
+      freed = v.freed;
+      refused = tt;
     }

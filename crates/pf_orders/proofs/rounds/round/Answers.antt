@@ -1,6 +1,9 @@
-use Rattle.std.proofs.Common.{◌≡◌, ◌∙◌, [], ℕ, arith, get_or, take, slice_get, Some, sym, ap}
+use Rattle.std.proofs.Common.{◌≡◌, ◌∙◌, [], ℕ, List, arith, get_or, take, slice_get, Some, subst, sym, ap}
 use Rattle.std.specs.Prelude.{Vec}
-use Rattle.std.proofs.lemmas.List.{take_more}
+use Rattle.std.proofs.lemmas.List.{take_more, take_all}
+use Rattle.std.proofs.lemmas.Result.{IfOk-from_err}
+use Rattle.pf_orders.specs.Rounds.{IsRound}
+use Rattle.pf_orders.proofs.Outcomes.{refused_as}
 use Rattle.pf_core.proofs.ListLemmas.{at_place, Contains-index}
 use Rattle.pf_orders.proofs.OrderLemmas.{member_of}
 use Rattle.pf_orders.proofs.RoundLemmas.{round_more, row_enough}
@@ -57,3 +60,17 @@ numbers-preserved g c =
     let f = e.freed in
     rw (take_more group i 0 c.numbers-test.true, f.1)
     (round_more rows t row c.replace-row.new.dest at none c.numbers.counts.items c.release.new.counts.items f.0 v.counted falls f.2 (take i group) c.numbers.next.items c.args.counts.now.items c.args.rows.now.items v)
+
+pub returns-in_err-release : goal.returns-in_err-release
+returns-in_err-release g c =
+    let r = c.from_residual in
+    record {
+      round = IfOk-from_err _ _ r.ensures.0;
+      refused = refused_as _ r.result _ r.ensures.1 c.in_err-release.ensures.refused;
+    }
+
+pub returns : goal.returns
+returns g c = record {
+  round = subst (λ (ks : List ℕ). IsRound ks c.numbers.next.items c.args.counts.now.items c.numbers.counts.items c.args.rows.now.items c.numbers.rows.items) (take_all _ _ c.numbers-test.false) c.numbers.invariant;
+  refused = tt;
+}

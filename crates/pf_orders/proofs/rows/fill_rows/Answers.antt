@@ -9,10 +9,25 @@ use Rattle.pf_core.proofs.ListLemmas.{none_in}
 use Rattle.pf_core.proofs.PathLemmas.{AllZip-map}
 use Rattle.pf_orders.specs.Rounds.{AreCounted}
 use Rattle.pf_orders.proofs.ComponentLists.{at_replicate}
-use Rattle.pf_orders.proofs.Outcomes.{on_refused, ok_is_no_error}
+use Rattle.pf_orders.proofs.Outcomes.{on_refused, ok_is_no_error, Grows-itself}
 use Rattle.pf_orders.proofs.OrderLemmas.{step_of, of_step, of_member, node_of_row}
 use Rattle.pf_orders.proofs.RoundLemmas.{counted_none, counted_push, at_push, get_length, only_memory, memory_of}
 use Rattle.pf_orders.proofs.rows.fill_rows.Goals as goal
+
+no_more : (now old : ℕ) → now ≡ old → now ≤ old
+no_more now old e = omega arith
+
+not_below : (k n : ℕ) → k ≡ n → ¬ (k < n)
+not_below k n e h = omega arith
+
+goes_below : (k rows number count : ℕ) → k < rows → rows ≡ number → number < count → k < count
+goes_below k rows number count h e l = omega arith
+
+counted : (j found count long : ℕ) → j < found → found ≤ count → long ≡ count → j < long
+counted j found count long h l e = omega arith
+
+still_same : (new count now old : ℕ) → new ≤ count → now ≡ old → now ≤ new → count ≡ old → new ≡ old
+still_same new count now old l e m f = omega arith
 
 pub numbers-init : goal.numbers-init
 numbers-init g c =
@@ -20,7 +35,7 @@ numbers-init g c =
     let found = g.G.NumberedGraph.found c.args.graph.now in
     record {
       same = refl;
-      grown = record { more = omega arith; stays = λ k x h. h; back = λ k x i h. h };
+      grown = Grows-itself _ _;
       explored = λ h x. x;
       counted = rw r.empty (counted_none c.args.counts.now.items (λ j n at. sym (at_replicate found 0 j n (subst (λ xs. slice_get xs j ≡ Some n) r.zeros at))));
       long = ap length r.zeros ∙ length-replicate _ 0 ∙ sym c.found-count.ensures;
@@ -32,7 +47,7 @@ pub expand-requires : goal.expand-requires
 expand-requires g c =
     let v = c.numbers.invariant in
     let r = c.requires.graph in
-    record { inside = omega (arith, c.numbers-test.true, c.found-count.ensures, v.same); graph = (r.0, v.explored r.0 r.1) }
+    record { inside = subst (λ (n : ℕ). c.numbers.number < n) (c.found-count.ensures ∙ sym v.same) c.numbers-test.true; graph = (r.0, v.explored r.0 r.1) }
 
 pub returns-in_err-expand : goal.returns-in_err-expand
 returns-in_err-expand g c = record {
@@ -62,13 +77,13 @@ returns-then-found-count g c = record {
       let number = c.numbers.number in
       let count = g.G.NumberedGraph.found c.args.graph.now in
       let stands = g.G.NumberedGraph.stands c.expand.new.self in
-      let below : number < count = omega (arith, c.numbers-test.true, c.found-count.ensures) in
-      let more : count < g.G.NumberedGraph.found c.expand.new.self = omega (arith, c.if-found-count.true, c.found.ensures, c.found-count.ensures) in
+      let below : number < count = subst (λ (n : ℕ). number < n) c.found-count.ensures c.numbers-test.true in
+      let more : count < g.G.NumberedGraph.found c.expand.new.self = rw (c.found-count.ensures, c.found.ensures) at c.if-found-count.true in
       let s = c.requires.begins number below in
       let here = v.grown.stays number s.0 s.1 in
       let p = e.placed in
       let l = e.listed in
-      let fresh = l.3 count (omega (arith, v.same)) more in
+      let fresh = l.3 count (no_more _ _ v.same) more in
       let in_row = subst (λ (ks : List ℕ). Contains ks count) (sym l.1 ∙ p.1) (of_step l.0 count fresh.0 fresh.1) in
       let z = ends_stand stands p.0 _ (p.2 h (v.explored h x) s.0 here) in
       let y = node_of_row stands (map (λ (t : ℕ × _). t.0) p.0) (g.G.NumberedGraph.successors h s.0) count z in_row in (
@@ -76,7 +91,7 @@ returns-then-found-count g c = record {
         y.0,
         (number, below, e.grows.stays number s.0 here),
         y.1,
-        (λ k. let same = g.met.G.NumberedGraph.one_law _ h (e.graph h (v.explored h x)) k.0 count y.0 k.2 y.2 in let l = k.1 in omega (arith, same, l)),
+        (λ k. let same = g.met.G.NumberedGraph.one_law _ h (e.graph h (v.explored h x)) k.0 count y.0 k.2 y.2 in not_below _ _ same k.1),
       );
   errors = inr refl;
 }
@@ -86,10 +101,9 @@ count_row-requires g c = λ j h.
     let v = c.numbers.invariant in
     let e = c.in_ok-expand.ensures in
     let l = e.listed in
-    let none : g.G.NumberedGraph.found c.expand.new.self ≤ c.found-count.result = omega (arith, c.if-found-count.false, c.found.ensures) in
+    let none : g.G.NumberedGraph.found c.expand.new.self ≤ c.found-count.result = rw c.found.ensures at c.if-found-count.false in
     let s = step_of l.0 j (subst (λ (ks : List ℕ). Contains ks j) (c.deref.ensures.value ∙ l.1) (of_member c.deref.result.now j h)) in
-    let b = l.2 j s.0 s.1 in
-    omega (arith, b, none, v.long)
+    counted _ _ _ _ (l.2 j s.0 s.1) none v.long
 
 pub returns-in_err-count_row : goal.returns-in_err-count_row
 returns-in_err-count_row g c = record {
@@ -135,14 +149,15 @@ numbers-preserved g c =
     let stands = g.G.NumberedGraph.stands c.expand.new.self in
     let row = c.expand.new.row in
     let rows = c.numbers.rows.items in
-    let none : g.G.NumberedGraph.found c.expand.new.self ≤ c.found-count.result = omega (arith, c.if-found-count.false, c.found.ensures) in
+    let none : g.G.NumberedGraph.found c.expand.new.self ≤ c.found-count.result = rw c.found.ensures at c.if-found-count.false in
     let l = e.listed in
     let p = e.placed in
     let pushed : c.push.new.self.items ≡ rows ++ row ∷ [] = c.in_ok-push.ensures.items in
+    let all = c.found-count.ensures ∙ sym v.same in
     let falls = rw c.deref.ensures.value at c.in_ok-count_row.ensures.counted in
-    let below : (j : ℕ) → _ → j < length c.numbers.counts.items = λ j h. let s = step_of l.0 j (subst (λ (ks : List ℕ). Contains ks j) l.1 (of_member row.items j h)) in let b = l.2 j s.0 s.1 in omega (arith, b, none, v.long) in
+    let below : (j : ℕ) → _ → j < length c.numbers.counts.items = λ j h. let s = step_of l.0 j (subst (λ (ks : List ℕ). Contains ks j) l.1 (of_member row.items j h)) in counted _ _ _ _ (l.2 j s.0 s.1) none v.long in
     record {
-      same = omega (arith, none, v.same, e.grows.more, c.found-count.ensures);
+      same = still_same _ _ _ _ none v.same e.grows.more c.found-count.ensures;
       grown = Grows-trans _ _ _ _ _ _ v.grown e.grows;
       explored = λ h x. e.graph h (v.explored h x);
       counted = subst (λ rs. AreCounted rs c.count_row.new.counts.items) (sym pushed) (counted_push rows row c.numbers.counts.items c.count_row.new.counts.items v.counted falls below);
@@ -150,12 +165,11 @@ numbers-preserved g c =
       wide = ap length pushed ∙ get_length rows row ∙ ap (λ n. n + 1) v.wide;
       listed = λ h x k r n at s. elim (at_push rows row r k (subst (λ rs. slice_get rs k ≡ Some r) pushed at)) as (λ _. AllZip stands r.items (g.G.NumberedGraph.successors h n)) [
         | inl q ↦
-            let low = slice_get_within rows k r q in
-            let small : k < g.G.NumberedGraph.found c.numbers.graph = omega (arith, low, v.wide, v.same, c.numbers-test.true, c.found-count.ensures) in
+            let small : k < g.G.NumberedGraph.found c.numbers.graph = subst (λ (n : ℕ). k < n) all (goes_below k _ _ _ (slice_get_within rows k r q) v.wide c.numbers-test.true) in
             AllZip-map (g.G.NumberedGraph.stands c.numbers.graph) stands e.grows.stays r.items (g.G.NumberedGraph.successors h n) (v.listed h x k r n q (e.grows.back k n small s))
         | inr q ↦
             let this : k ≡ c.numbers.number = q.0 ∙ v.wide in
-            let small : k < g.G.NumberedGraph.found c.numbers.graph = omega (arith, this, v.same, c.numbers-test.true, c.found-count.ensures) in
+            let small : k < g.G.NumberedGraph.found c.numbers.graph = subst (λ (n : ℕ). k < n) all (subst (λ (n : ℕ). n < c.found-count.result) (sym this) c.numbers-test.true) in
             let old = subst (λ (i : ℕ). g.G.NumberedGraph.stands c.numbers.graph i n) this (e.grows.back k n small s) in
             let z = ends_stand stands p.0 _ (p.2 h (v.explored h x) n old) in
             subst (λ (w : Vec ℕ g.row.A.Denot). AllZip stands w.items (g.G.NumberedGraph.successors h n)) q.1 (subst (λ (ks : List ℕ). AllZip stands ks (g.G.NumberedGraph.successors h n)) (sym p.1) z)

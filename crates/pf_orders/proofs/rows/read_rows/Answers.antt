@@ -1,7 +1,7 @@
-use Rattle.std.proofs.Common.{◌≡◌, ◌∙◌, ap, Err, replicate}
+use Rattle.std.proofs.Common.{◌≡◌, ◌∙◌, refl, ap, inl, Err, replicate}
 use Rattle.std.proofs.lemmas.Result.{IfOk-from_err}
 use Rattle.pf_orders.proofs.ComponentLists.{resized_none}
-use Rattle.pf_orders.proofs.Outcomes.{refused_as, error_of}
+use Rattle.pf_orders.proofs.Outcomes.{refused_as, error_of, none_unknown, ok_is_no_error, Grows-itself}
 use Rattle.pf_orders.proofs.rows.read_rows.Goals as goal
 
 pub fill_rows-requires : goal.fill_rows-requires
@@ -26,3 +26,48 @@ returns-in_err-fill_rows g c = record {
   unknown = λ h x u. c.in_err-fill_rows.ensures.unknown h x (ap Err (error_of _ _ _ c.from_residual-in_err-fill_rows.ensures.1 u));
   errors = refused_as _ _ _ c.from_residual-in_err-fill_rows.ensures.1 c.in_err-fill_rows.ensures.errors;
 }
+
+pub returns-in_err-rows : goal.returns-in_err-rows
+returns-in_err-rows g c =
+    let r = c.from_residual in
+    record {
+      graph = λ h x. x;
+      grows = Grows-itself _ _;
+      same = IfOk-from_err _ _ r.ensures.0;
+      counted = IfOk-from_err _ _ r.ensures.0;
+      wide = IfOk-from_err _ _ r.ensures.0;
+      long = IfOk-from_err _ _ r.ensures.0;
+      listed = λ h x. IfOk-from_err _ _ r.ensures.0;
+      unknown = λ h x u. absurd (none_unknown r.result r.ensures.1 u);
+      errors = refused_as _ r.result _ r.ensures.1 (inl refl);
+    }
+
+pub returns-in_err-resize : goal.returns-in_err-resize
+returns-in_err-resize g c =
+    let r = c.from_residual-in_err-resize in
+    record {
+      graph = λ h x. x;
+      grows = Grows-itself _ _;
+      same = IfOk-from_err _ _ r.ensures.0;
+      counted = IfOk-from_err _ _ r.ensures.0;
+      wide = IfOk-from_err _ _ r.ensures.0;
+      long = IfOk-from_err _ _ r.ensures.0;
+      listed = λ h x. IfOk-from_err _ _ r.ensures.0;
+      unknown = λ h x u. absurd (none_unknown r.result r.ensures.1 u);
+      errors = refused_as _ r.result _ r.ensures.1 (inl refl);
+    }
+
+pub returns : goal.returns
+returns g c =
+    let e = c.in_ok-fill_rows.ensures in
+    record {
+      graph = e.graph;
+      grows = e.grows;
+      same = e.same;
+      counted = e.counted;
+      wide = e.wide;
+      long = e.long;
+      listed = e.listed;
+      unknown = λ h x u. absurd (ok_is_no_error u);
+      errors = tt;
+    }

@@ -5,10 +5,10 @@ use Rattle.std.proofs.lemmas.Result.{IfOk-from_err}
 use Rattle.std.proofs.lemmas.Option.{slice_get_within, slice_get_read}
 use Rattle.pf_orders.specs.declared.component_search.Place.TheVariants.{New, Open, Closed}
 use Rattle.pf_orders.specs.ComponentSearch.{IsAt}
-use Rattle.pf_orders.proofs.ComponentLists.{ends_at, at_ends, none_left, popped}
+use Rattle.pf_orders.proofs.ComponentLists.{ends_at, at_ends, none_left, popped, last_waits}
 use Rattle.pf_orders.proofs.ComponentPlaces.{placed_pop, placed_join, placed_visit, placed_close, none_open}
 use Rattle.pf_orders.proofs.ComponentPaths.{path_pass, path_join, path_visit, path_close, closing_close, closing_grows, row_linked, row_complete}
-use Rattle.pf_orders.proofs.Outcomes.{refused_as, on_refused}
+use Rattle.pf_orders.proofs.Outcomes.{refused_as, on_refused, Grows-itself}
 use Rattle.pf_orders.proofs.component_search.ComponentSearch.turn.Goals as goal
 
 pub close-requires : goal.close-requires
@@ -24,7 +24,7 @@ pub returns-in_err-close : goal.returns-in_err-close
 returns-in_err-close g c =
     let r = c.from_residual in
     record {
-      grows = record { more = omega arith; stays = λ k x h. h; back = λ k x i h. h };
+      grows = Grows-itself _ _;
       graph = λ h x. x;
       placed = on_refused _ _ r.ensures.0;
       path = on_refused _ _ r.ensures.0;
@@ -35,7 +35,7 @@ returns-in_err-close g c =
 
 pub returns-in-Some : goal.returns-in-Some
 returns-in-Some g c = record {
-  grows = record { more = omega arith; stays = λ k x h. h; back = λ k x i h. h };
+  grows = Grows-itself _ _;
   graph = λ h x. x;
   placed =
       let s = c.in-Some.ensures.spent in
@@ -55,7 +55,7 @@ returns-in-Some g c = record {
 
 pub returns-in_default-copied : goal.returns-in_default-copied
 returns-in_default-copied g c = record {
-  grows = record { more = omega arith; stays = λ k x h. h; back = λ k x i h. h };
+  grows = Grows-itself _ _;
   graph = λ h x. x;
   placed =
       c.requires.placed;
@@ -70,23 +70,23 @@ returns-in_default-copied g c = record {
 
 pub index-requires : goal.index-requires
 index-requires g c =
-    let last : IsAt c.args.self.now.waiting.items (length c.args.self.now.waiting.items - 1) c.in-Some-copied.number = cc in
+    let last : IsAt c.args.self.now.waiting.items (length c.args.self.now.waiting.items - 1) c.in-Some-copied.number = last_waits _ _ _ _ c.deref.ensures.value (c.copied.ensures ∙ c.last.ensures.value) c.in-Some-copied.is in
     let below = c.requires.placed.waits _ _ last in
     omega (arith, below, c.requires.placed.long, c.args.self.now.places.ok)
 
 pub expand-requires : goal.expand-requires
 expand-requires g c =
-    let last : IsAt c.args.self.now.waiting.items (length c.args.self.now.waiting.items - 1) c.in-Some-copied.number = cc in
+    let last : IsAt c.args.self.now.waiting.items (length c.args.self.now.waiting.items - 1) c.in-Some-copied.number = last_waits _ _ _ _ c.deref.ensures.value (c.copied.ensures ∙ c.last.ensures.value) c.in-Some-copied.is in
     let below = c.requires.placed.waits _ _ last in
     record { inside = below; graph = c.requires.graph }
 
 pub visit-requires : goal.visit-requires
 visit-requires g c =
-    let last : IsAt c.args.self.now.waiting.items (length c.args.self.now.waiting.items - 1) c.in-Some-copied.number = cc in
+    let last : IsAt c.args.self.now.waiting.items (length c.args.self.now.waiting.items - 1) c.in-Some-copied.number = last_waits _ _ _ _ c.deref.ensures.value (c.copied.ensures ∙ c.last.ensures.value) c.in-Some-copied.is in
     let below = c.requires.placed.waits _ _ last in
     record {
-      inside = omega (arith, below, c.requires.placed.long);
-      found = omega (arith, c.requires.placed.long, c.in_ok-expand-in-New.ensures.grows.more, c.found.ensures);
+      inside = rw c.requires.placed.long below;
+      found = rw (c.requires.placed.long, c.found.ensures) c.in_ok-expand-in-New.ensures.grows.more;
     }
 
 pub returns-in_err-expand-in-New : goal.returns-in_err-expand-in-New
@@ -120,8 +120,8 @@ returns-in_ok-visit-in-New g c = record {
   grows = c.in_ok-expand-in-New.ensures.grows;
   graph = c.in_ok-expand-in-New.ensures.graph;
   placed =
-      let last : IsAt c.args.self.now.waiting.items (length c.args.self.now.waiting.items - 1) c.in-Some-copied.number = cc in
-      let inside : c.in-Some-copied.number < length c.args.self.now.places.items = let l = c.requires.placed.waits _ _ last in omega (arith, l, c.requires.placed.long) in
+      let last : IsAt c.args.self.now.waiting.items (length c.args.self.now.waiting.items - 1) c.in-Some-copied.number = last_waits _ _ _ _ c.deref.ensures.value (c.copied.ensures ∙ c.last.ensures.value) c.in-Some-copied.is in
+      let inside : c.in-Some-copied.number < length c.args.self.now.places.items = rw c.requires.placed.long (c.requires.placed.waits _ _ last) in
       let new : IsAt c.args.self.now.places.items c.in-Some-copied.number New = slice_get_read c.args.self.now.places.items _ c.in-Some-copied.number c.index.result.now refl inside c.index.ensures ∙ ap Some c.in-New.is in
       let l = c.in_ok-expand-in-New.ensures.listed in
       let e = c.in_ok-visit-in-New.ensures in
@@ -130,9 +130,9 @@ returns-in_ok-visit-in-New g c = record {
       (λ i j a. let q = ends_at l.0 i j (rw row at a) in l.2 j q.0 q.1)
       (λ j low high. let q = l.3 j low high in rw row (at_ends l.0 j q.0 q.1)));
   path = λ h x o.
-      let last : IsAt c.args.self.now.waiting.items (length c.args.self.now.waiting.items - 1) c.in-Some-copied.number = cc in
+      let last : IsAt c.args.self.now.waiting.items (length c.args.self.now.waiting.items - 1) c.in-Some-copied.number = last_waits _ _ _ _ c.deref.ensures.value (c.copied.ensures ∙ c.last.ensures.value) c.in-Some-copied.is in
       let below = c.requires.placed.waits _ _ last in
-      let inside : c.in-Some-copied.number < length c.args.self.now.places.items = omega (arith, below, c.requires.placed.long) in
+      let inside : c.in-Some-copied.number < length c.args.self.now.places.items = rw c.requires.placed.long below in
       let new : IsAt c.args.self.now.places.items c.in-Some-copied.number New = slice_get_read c.args.self.now.places.items _ c.in-Some-copied.number c.index.result.now refl inside c.index.ensures ∙ ap Some c.in-New.is in
       let l = c.in_ok-expand-in-New.ensures.listed in
       let e = c.in_ok-visit-in-New.ensures in
@@ -146,24 +146,24 @@ returns-in_ok-visit-in-New g c = record {
   closing = λ h x o k.
       let p = c.requires.placed in
       rw c.in_ok-visit-in-New.ensures.components
-      (closing_grows _ _ _ _ _ c.in_ok-expand-in-New.ensures.grows _ (λ i k m. let l = slice_get_within c.args.self.now.places.items k Closed (p.closed i k m) in omega (arith, l, p.long)) k);
+      (closing_grows _ _ _ _ _ c.in_ok-expand-in-New.ensures.grows _ (λ i k m. rw p.long at (slice_get_within c.args.self.now.places.items k Closed (p.closed i k m))) k);
   ended = λ e. absurd (true≢false e);
   refused = tt;
 }
 
 pub returns-in-Open : goal.returns-in-Open
 returns-in-Open g c = record {
-  grows = record { more = omega arith; stays = λ k x h. h; back = λ k x i h. h };
+  grows = Grows-itself _ _;
   graph = λ h x. x;
   placed =
-      let last : IsAt c.args.self.now.waiting.items (length c.args.self.now.waiting.items - 1) c.in-Some-copied.number = cc in
-      let inside : c.in-Some-copied.number < length c.args.self.now.places.items = let l = c.requires.placed.waits _ _ last in omega (arith, l, c.requires.placed.long) in
+      let last : IsAt c.args.self.now.waiting.items (length c.args.self.now.waiting.items - 1) c.in-Some-copied.number = last_waits _ _ _ _ c.deref.ensures.value (c.copied.ensures ∙ c.last.ensures.value) c.in-Some-copied.is in
+      let inside : c.in-Some-copied.number < length c.args.self.now.places.items = rw c.requires.placed.long (c.requires.placed.waits _ _ last) in
       let at : IsAt c.args.self.now.places.items c.in-Some-copied.number (Open c.in-Open.place) = slice_get_read c.args.self.now.places.items _ c.in-Some-copied.number c.index.result.now refl inside c.index.ensures ∙ ap Some c.in-Open.is in
       let visited = c.requires.placed.back c.in-Open.place c.in-Some-copied.number at in
       rw (popped _ _ _ _ c.pop.ensures.rest c.deref.ensures.len c.deref.ensures.value) (placed_join _ _ _ _ _ _ (placed_pop _ _ _ _ _ _ c.requires.placed c.in-Some-copied.number last (inr (c.in-Open.place, visited)) c.in_default.ensures.left) c.in-Open.place c.in-Some-copied.number _ visited c.join_segments.ensures);
   path = λ h x o.
-      let last : IsAt c.args.self.now.waiting.items (length c.args.self.now.waiting.items - 1) c.in-Some-copied.number = cc in
-      let inside : c.in-Some-copied.number < length c.args.self.now.places.items = let l = c.requires.placed.waits _ _ last in omega (arith, l, c.requires.placed.long) in
+      let last : IsAt c.args.self.now.waiting.items (length c.args.self.now.waiting.items - 1) c.in-Some-copied.number = last_waits _ _ _ _ c.deref.ensures.value (c.copied.ensures ∙ c.last.ensures.value) c.in-Some-copied.is in
+      let inside : c.in-Some-copied.number < length c.args.self.now.places.items = rw c.requires.placed.long (c.requires.placed.waits _ _ last) in
       let at : IsAt c.args.self.now.places.items c.in-Some-copied.number (Open c.in-Open.place) = slice_get_read c.args.self.now.places.items _ c.in-Some-copied.number c.index.result.now refl inside c.index.ensures ∙ ap Some c.in-Open.is in
       let visited = c.requires.placed.back c.in-Open.place c.in-Some-copied.number at in
       rw (popped _ _ _ _ c.pop.ensures.rest c.deref.ensures.len c.deref.ensures.value) (path_join _ _ _ _ _ _ _ _ c.requires.placed o c.in-Some-copied.number last c.in_default.ensures.left c.in-Open.place _ visited c.join_segments.ensures);
@@ -174,16 +174,16 @@ returns-in-Open g c = record {
 
 pub returns-in-Closed : goal.returns-in-Closed
 returns-in-Closed g c = record {
-  grows = record { more = omega arith; stays = λ k x h. h; back = λ k x i h. h };
+  grows = Grows-itself _ _;
   graph = λ h x. x;
   placed =
-      let last : IsAt c.args.self.now.waiting.items (length c.args.self.now.waiting.items - 1) c.in-Some-copied.number = cc in
-      let inside : c.in-Some-copied.number < length c.args.self.now.places.items = let l = c.requires.placed.waits _ _ last in omega (arith, l, c.requires.placed.long) in
+      let last : IsAt c.args.self.now.waiting.items (length c.args.self.now.waiting.items - 1) c.in-Some-copied.number = last_waits _ _ _ _ c.deref.ensures.value (c.copied.ensures ∙ c.last.ensures.value) c.in-Some-copied.is in
+      let inside : c.in-Some-copied.number < length c.args.self.now.places.items = rw c.requires.placed.long (c.requires.placed.waits _ _ last) in
       let at : IsAt c.args.self.now.places.items c.in-Some-copied.number Closed = slice_get_read c.args.self.now.places.items _ c.in-Some-copied.number c.index.result.now refl inside c.index.ensures ∙ ap Some c.in-Closed.is in
       rw (popped _ _ _ _ c.pop-in-Closed.ensures.rest c.deref.ensures.len c.deref.ensures.value) (placed_pop _ _ _ _ _ _ c.requires.placed c.in-Some-copied.number last (inl at) c.in_default.ensures.left);
   path = λ h x o.
-      let last : IsAt c.args.self.now.waiting.items (length c.args.self.now.waiting.items - 1) c.in-Some-copied.number = cc in
-      let inside : c.in-Some-copied.number < length c.args.self.now.places.items = let l = c.requires.placed.waits _ _ last in omega (arith, l, c.requires.placed.long) in
+      let last : IsAt c.args.self.now.waiting.items (length c.args.self.now.waiting.items - 1) c.in-Some-copied.number = last_waits _ _ _ _ c.deref.ensures.value (c.copied.ensures ∙ c.last.ensures.value) c.in-Some-copied.is in
+      let inside : c.in-Some-copied.number < length c.args.self.now.places.items = rw c.requires.placed.long (c.requires.placed.waits _ _ last) in
       let at : IsAt c.args.self.now.places.items c.in-Some-copied.number Closed = slice_get_read c.args.self.now.places.items _ c.in-Some-copied.number c.index.result.now refl inside c.index.ensures ∙ ap Some c.in-Closed.is in
       rw (popped _ _ _ _ c.pop-in-Closed.ensures.rest c.deref.ensures.len c.deref.ensures.value) (path_pass _ _ _ _ _ _ _ _ c.requires.placed o c.in-Some-copied.number last at);
   closing = λ h x o k. k;

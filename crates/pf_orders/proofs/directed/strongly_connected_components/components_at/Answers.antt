@@ -1,5 +1,6 @@
-use Rattle.std.proofs.Common.{refl}
-use Rattle.std.proofs.lemmas.List.{map-append}
+use Rattle.std.proofs.Common.{refl, arith, ℕ}
+use Rattle.std.specs.Prelude.{Vec}
+use Rattle.std.proofs.lemmas.List.{map-append, length-map, take_all}
 use Rattle.std.proofs.lemmas.Result.{IfOk-from_err}
 use Rattle.pf_orders.specs.Components.{lists_of}
 use Rattle.pf_orders.proofs.ComponentLists.{contained_at, zip_one_more, list_at}
@@ -45,3 +46,14 @@ components-preserved g c =
     let i = c.components.component-index in
     let at = list_at c.args.components.now i c.component-item.result c.components-test.true c.component-item.is in
     rw c.in_ok-push.ensures.items (rw map-append (zip_one_more _ (lists_of c.args.components.now) i c.component-item.result.items (lists_of c.components.answer.items) c.in_ok-clones.clones.items at c.components.invariant (rw c.deref.ensures.value at c.in_ok-clones.ensures.nodes)))
+
+pub clones_at-requires-clause-clones : goal.clones_at-requires-clause-clones
+clones_at-requires-clause-clones g c = c.requires.clones
+
+pub returns : goal.returns
+returns g c =
+    let all = length-map c.args.components.now (λ (v : Vec ℕ g.row.A.Denot). v.items) in
+    record {
+      nodes = rw (take_all c.components.component-index (lists_of c.args.components.now) (omega (arith, all, c.components-test.false))) at c.components.invariant;
+      refused = tt;
+    }

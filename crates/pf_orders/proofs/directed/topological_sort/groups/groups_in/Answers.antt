@@ -1,4 +1,4 @@
-use Rattle.std.proofs.Common.{rules, ◌≡◌, ◌<◌, ◌∙◌, ℕ, List, [], arith, length, ap, sym, subst}
+use Rattle.std.proofs.Common.{rules, ◌≡◌, ◌<◌, ◌∙◌, ℕ, List, [], length, ap, sym, subst}
 use Rattle.std.specs.Prelude.{Err}
 use Rattle.std.specs.List.{AllZip}
 use Rattle.std.proofs.lemmas.Result.{IfOk-from_err}
@@ -99,7 +99,7 @@ returns-then-is_empty g c = record {
       let y = e.graph (graph_of nodes next) x in
       let same : HasSameNodes eq keys nodes = same_grown eq laws first keys nodes found e.grows e.same in
       let wide : length rows ≡ length keys = e.wide ∙ sym e.same in
-      let inside : (i j : ℕ) → Targets rows i j → j < length keys = λ i j t. let l = e.counted.inside i j t in omega (arith, l, e.long, e.same) in
+      let inside : (i j : ℕ) → Targets rows i j → j < length keys = λ i j t. subst (λ (n : ℕ). j < n) (e.long ∙ sym e.same) (e.counted.inside i j t) in
       let listed = e.listed (graph_of nodes next) x in
       let groups = c.in_ok-levels.levels.groups.items in
       let remaining = c.in_ok-levels.levels.remaining.items in
@@ -119,7 +119,7 @@ returns-then-is_empty g c = record {
       let y = e.graph (graph_of nodes next) x in
       let same : HasSameNodes eq keys nodes = same_grown eq laws first keys nodes found e.grows e.same in
       let wide : length rows ≡ length keys = e.wide ∙ sym e.same in
-      let inside : (i j : ℕ) → Targets rows i j → j < length keys = λ i j t. let l = e.counted.inside i j t in omega (arith, l, e.long, e.same) in
+      let inside : (i j : ℕ) → Targets rows i j → j < length keys = λ i j t. subst (λ (n : ℕ). j < n) (e.long ∙ sym e.same) (e.counted.inside i j t) in
       let listed = e.listed (graph_of nodes next) x in
       closed eq laws next nodes keys same y.distinct rows wide inside listed;
   unknown = λ nodes next found a e. absurd (ok_is_no_error e);
@@ -160,7 +160,7 @@ returns g c = record {
       let y = e.graph (graph_of nodes next) x in
       let same : HasSameNodes eq keys nodes = same_grown eq laws first keys nodes found e.grows e.same in
       let wide : length rows ≡ length keys = e.wide ∙ sym e.same in
-      let inside : (i j : ℕ) → Targets rows i j → j < length keys = λ i j t. let l = e.counted.inside i j t in omega (arith, l, e.long, e.same) in
+      let inside : (i j : ℕ) → Targets rows i j → j < length keys = λ i j t. subst (λ (n : ℕ). j < n) (e.long ∙ sym e.same) (e.counted.inside i j t) in
       let listed = e.listed (graph_of nodes next) x in
       let groups = c.in_ok-levels.levels.groups.items in
       let remaining = c.in_ok-levels.levels.remaining.items in
@@ -184,7 +184,7 @@ returns g c = record {
       let y = e.graph (graph_of nodes next) x in
       let same : HasSameNodes eq keys nodes = same_grown eq laws first keys nodes found e.grows e.same in
       let wide : length rows ≡ length keys = e.wide ∙ sym e.same in
-      let inside : (i j : ℕ) → Targets rows i j → j < length keys = λ i j t. let l = e.counted.inside i j t in omega (arith, l, e.long, e.same) in
+      let inside : (i j : ℕ) → Targets rows i j → j < length keys = λ i j t. subst (λ (n : ℕ). j < n) (e.long ∙ sym e.same) (e.counted.inside i j t) in
       let listed = e.listed (graph_of nodes next) x in
       closed eq laws next nodes keys same y.distinct rows wide inside listed;
   unknown = λ nodes next found a e. absurd (ok_is_no_error e);
