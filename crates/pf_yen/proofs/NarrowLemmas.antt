@@ -1,11 +1,15 @@
 -- What a row of the steps that are left says.
-use Rattle.std.proofs.Common.{◌≡◌, ℕ, ◌<◌, refl, sym, subst, arith, inl, inr, Bool, true, List, [], ◌∷◌, length, cond, ℤ}
-use Rattle.std.specs.Prelude.{Contains, filter, map}
+use Rattle.std.proofs.Common.{◌≡◌, ◌∙◌, ℕ, ◌<◌, ◌+◌, refl, sym, ap, subst, arith, inl, inr, Bool, true, false, not, List, [], ◌∷◌, ◌++◌, length, take, get_or, cond, ℤ, Option, Some, None}
+use Rattle.std.specs.Prelude.{Contains, filter, map, nat_eq, slice_get}
 use Rattle.std.specs.List.{AllZip}
+use Rattle.std.proofs.lemmas.Bool.{eq-eqb, ne_eqb}
+use Rattle.std.proofs.lemmas.List.{append-nil, take_more}
+use Rattle.std.proofs.lemmas.List.Elements.{filter-append}
+use Rattle.std.proofs.lemmas.Option.{slice_get_read}
 use Rattle.pf_core.specs.Numbered.{ListsSteps, NumbersInOrder}
 use Rattle.pf_core.proofs.ListLemmas.{bool_dec, Contains-head, Contains-tail, Contains-cases}
 use Rattle.pf_yen.specs.Known.{row_of}
-use Rattle.pf_yen.specs.Narrow.{NarrowGraph, allows, narrow_row, NarrowStep, StandsForItself, EndsInside}
+use Rattle.pf_yen.specs.Narrow.{NarrowGraph, is_in, allows, narrow_row, NarrowStep, StandsForItself, EndsInside}
 
 pub in_none : {X : Type 0} (x : X) → Contains [] x → ⊥
 in_none x h = omega (arith, h.1)
@@ -29,6 +33,31 @@ filter-Contains p (y ∷ ys) x h t = elim (Contains-cases ys y x h) as (λ _. Co
     | inr s ↦ subst (λ (b : Bool). Contains (cond b (y ∷ filter p ys) (filter p ys)) x) (sym s) (filter-Contains p ys x q t)
   ]
 ]
+
+-- one element more passes a test, or is left out
+module _ {X : Type 0} (p : X → Bool) (xs : List X) (i : ℕ) (x : X) (inside : i < length xs) (at : x ≡ get_or xs i x) where
+  one_more : filter p (take (i + 1) xs) ≡ filter p (take i xs) ++ filter p (x ∷ [])
+  one_more = ap (filter p) (take_more xs i x inside ∙ ap (λ y. take i xs ++ y ∷ []) (sym at)) ∙ filter-append p (take i xs) (x ∷ [])
+
+  pub passes_too : p x ≡ true → filter p (take (i + 1) xs) ≡ filter p (take i xs) ++ x ∷ []
+  passes_too t = one_more ∙ ap (λ (b : Bool). filter p (take i xs) ++ cond b (x ∷ []) []) t
+
+  pub left_out : p x ≡ false → filter p (take (i + 1) xs) ≡ filter p (take i xs)
+  left_out f = one_more ∙ ap (λ (b : Bool). filter p (take i xs) ++ cond b (x ∷ []) []) f ∙ append-nil (filter p (take i xs))
+
+-- whether a step is left, by the onward number as it is read
+module _ {C : Type 0} (g : NarrowGraph C) (a b : ℕ) (o : Option ℕ) (inside : a < length g.onward) (at : o ≡ get_or g.onward a o) where
+  read : slice_get g.onward a ≡ Some o
+  read = slice_get_read g.onward (length g.onward) a o refl inside at
+
+  pub allows_onward : (only : ℕ) → o ≡ Some only → nat_eq b only ≡ allows g a b
+  allows_onward only is = rw (read, is) refl
+
+  pub allows_elsewhere : o ≡ None → ¬ (a ≡ g.spur) → not (nat_eq a g.spur) ≡ allows g a b
+  allows_elsewhere is away = rw (read, is, ne_eqb a g.spur away) refl
+
+  pub allows_at_spur : o ≡ None → a ≡ g.spur → (hit : Bool) → hit ≡ is_in g.banned b → not hit ≡ allows g a b
+  allows_at_spur is here hit e = rw (read, is, eq-eqb a g.spur here) (ap not e)
 
 module _ {C : Type 0} where
   -- the ends of a row stand for themselves

@@ -16,7 +16,7 @@ use Rattle.pf_yen.specs.declared.candidate.Candidate.{Candidate}
 use Rattle.pf_yen.specs.Known.{KnownGraph, KnownStep, is_goal, IsWhole}
 use Rattle.pf_yen.specs.Narrow.{NarrowGraph, NarrowStep, StandsForItself, allows, allows_by, is_in}
 use Rattle.pf_yen.specs.Classes.{Plan, in_class, is_member, IsCheapestOfClass, IsCheapestAlong, HasNoneAlong, IsSplit, IsPartition, plan_of}
-use Rattle.pf_yen.specs.Plans.{first_cmp, chosen_plan, as_list, NoneBelow, IsFirst, GoesOn}
+use Rattle.pf_yen.specs.Plans.{first_cmp, chosen_plan, as_list, last_given, NoneBelow, IsFirst, GoesOn}
 use Rattle.pf_yen.proofs.NarrowLemmas.{in_none}
 use Rattle.pf_yen.proofs.ClassLemmas.{any_goes_on, split_partition, first_partition, no_partition}
 use Rattle.pf_yen.proofs.NarrowWalks.{is_known, is_left, goes_known, open_walk}
@@ -155,3 +155,9 @@ module _ {C : Type 0} (value : C → ℤ) (g : NarrowGraph C) (n : ℕ) (bare : 
     too_dear = λ z s. d.too_dear z (is_left value g (end_of d.first d.nodes) z d.next s (all_allowed (end_of d.first d.nodes) d.next));
     none_cheaper = λ s h w u t e. d.none_cheaper s h w u (narrow_all w s u t) e;
   }
+
+-- where the chosen candidate was given, the paths that were given last are not none
+pub given_due : {C A : Type 0} (b : Bool) (chosen : Option (Candidate C A)) (c : Candidate C A) → b ≡ true → chosen ≡ Some c → ¬ (last_given b (chosen_plan chosen) ≡ [])
+given_due b chosen c given is none =
+    let some : last_given true (chosen_plan (Some c)) ≡ [] = rw (given, is) at none in
+    cc

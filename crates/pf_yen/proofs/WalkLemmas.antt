@@ -87,6 +87,20 @@ pub bars_anew : {N C F S X : Type 0} (s t : PathWalk N C F S) (r : Result X Path
 bars_anew s t (Ok x) free over = (free, λ b. let e = over.0 b in cc)
 bars_anew s t (Err x) free over = (λ b. absurd (free b), (λ b. let e = over.0 b in cc, λ e. over.1 (ap Err e)))
 
+-- a refusal that is handed on
+pub bars_refused : {N C F S X : Type 0} (s t : PathWalk N C F S) (r : Result X PathError) (x : PathError) → IsErrAnd r (λ e. e ≡ x) → (IsBarred s → x ≡ PathError.CostOverflow) → IsBarred t ↔ (x ≡ PathError.CostOverflow) → TurnKeepsBar s r t
+bars_refused s t (Ok y) x e was over = absurd e
+bars_refused s t (Err y) x e was over = (λ b. e ∙ was b, (λ b. e ∙ over.0 b, λ h. over.1 (sym e ∙ h)))
+
+-- a refusal for want of memory, where the walk stands before no step that was refused for a cost overflow
+pub bars_without_memory : {N C F S X : Type 0} (s t : PathWalk N C F S) (r : Result X PathError) (x : PathError) → IsErrAnd r (λ e. e ≡ x) → x ≡ PathError.OutOfMemory → ¬ (IsBarred s) → ¬ (IsBarred t) → TurnKeepsBar s r t
+bars_without_memory s t r x e m free after = bars_refused s t r x e (λ b. absurd (free b)) (λ b. absurd (after b), λ h. cc)
+
+-- what a step keeps of the bar rests on whether the walk stood before one alone
+pub bars_same : {N C F S X : Type 0} (s u t : PathWalk N C F S) (r : Result X PathError) → (IsBarred s → IsBarred u) → TurnKeepsBar u r t → TurnKeepsBar s r t
+bars_same s u t (Ok x) on q = (λ b. q.0 (on b), q.1)
+bars_same s u t (Err x) on q = (λ b. q.0 (on b), q.1)
+
 -- a call of `next` is a step, which marks a refusal
 pub bars_of : {N C F S X : Type 0} (s t : PathWalk N C F S) (r : Result (Option X) PathError) → TurnKeepsBar s r t → StepKeepsBar s (result_transpose r) (record t { refused = is_err r })
 bars_of s t (Ok (Some x)) q = q

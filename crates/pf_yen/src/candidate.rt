@@ -1,10 +1,8 @@
 //! Paths that wait to be given, in the order of their costs.
 
-ghost use Rattle.std.proofs.Common.{rules};
-ghost use Rattle.std.specs.Cmp.{partial_equiv_from_equiv, partial_order_from_own_ties, back_equiv, back_total};
-ghost use Rattle.std.specs.Cmp.Rules.{comparing};
-ghost use Rattle.std.specs.Ordering.{on, as_partial_cmp};
-ghost use Rattle.std.proofs.lemmas.Cmp.{on_equiv, on_total};
+ghost use Rattle.std.specs.Prelude.{refl};
+ghost use Rattle.std.specs.Cmp.{partial_equiv_from_equiv, po, back_equiv, back_total, on_equiv, on_total};
+ghost use Rattle.std.specs.Ordering.{as_partial_cmp};
 
 use pf_base::Cost;
 use std::alloc::Allocator;
@@ -39,7 +37,7 @@ impl<C: Cost, A: Allocator> Eq for Candidate<C, A> {
 impl<C: Cost, A: Allocator> PartialOrd for Candidate<C, A> {
     ghost partial_cmp = { as_partial_cmp (λ x y. C.cmp y.cost x.cost) };
 
-    ghost laws = { partial_order_from_own_ties (Prim.search (comparing, rules)) (Prim.search (comparing, rules)) };
+    ghost laws = { po (back_total (on_total (λ x. x.cost) C.Ord.total)) (λ x y. C.matches_eq y.cost x.cost) };
 
     fn partial_cmp(&self, other: &Self) -> Option<Ordering> {
         Some(self.cmp(other))
@@ -51,7 +49,7 @@ impl<C: Cost, A: Allocator> Ord for Candidate<C, A> {
 
     ghost total = { back_total (on_total (λ x. x.cost) C.Ord.total) };
 
-    ghost matches_partial_cmp = { Prim.search (comparing, rules) };
+    ghost matches_partial_cmp = { λ x y. refl };
 
     ghost matches_eq = { λ x y. C.matches_eq y.cost x.cost };
 

@@ -196,7 +196,7 @@ where
     }
 
     /// The next path, or `None` where each was given. Where the step is refused, no plan is lost.
-    fn step(&mut self) -> Result<Option<(Vec<N, A>, C)>, PathError>
+    pub(crate) fn step(&mut self) -> Result<Option<(Vec<N, A>, C)>, PathError>
         requires clones { IsLawfulClone N.eq N.is_clone }
         requires walk { (edges : N → List (N × ℤ)) × (start : N) × (test : N → Bool)
             × IsPathWalk N.eq C.value edges start test C.fits (Searches N.eq C.value IN.into_iter_gives IN.IntoIter.can_next IN.IntoIter.remaining IN.IntoIter.next_gives FN.FnMut FS.FnMut) self.old }

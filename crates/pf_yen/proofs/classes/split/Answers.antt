@@ -1,7 +1,7 @@
 use Rattle.std.proofs.Common.{◌≡◌, ◌∙◌, sym, ap, subst, length, arith, take, drop, map, ◌++◌, [], ◌∷◌, Err, List, ℕ, ◌<◌, ◌+◌, Some, inl, refl}
 use Rattle.std.specs.Prelude.{slice_set, slice_index_or}
 use Rattle.std.proofs.lemmas.List.{length-set, map-append}
-use Rattle.pf_base.specs.declared.error.PathError.TheVariants.{CostOverflow}
+use Rattle.pf_base.specs.declared.error.PathError.TheVariants.{CostOverflow, OutOfMemory}
 use Rattle.pf_yen.specs.declared.candidate.Candidate.{Candidate}
 use Rattle.pf_yen.specs.Known.{KnownGraph}
 use Rattle.pf_yen.specs.Narrow.{NarrowGraph}
@@ -111,3 +111,36 @@ narrowed_along-requires-clause-whole g c = c.requires.whole
 
 pub narrowed_along-requires-clause-some : goal.narrowed_along-requires-clause-some
 narrowed_along-requires-clause-some g c = c.requires.some
+
+pub returns-in_err-extend_from_slice-clause-errors : goal.returns-in_err-extend_from_slice-clause-errors
+returns-in_err-extend_from_slice-clause-errors g c = refused_as _ c.from_residual-in_err-extend_from_slice.result OutOfMemory c.from_residual-in_err-extend_from_slice.ensures.1 (inl refl)
+
+pub returns-in_err-extend_from_slice-clause-overflow : goal.returns-in_err-extend_from_slice-clause-overflow
+returns-in_err-extend_from_slice-clause-overflow g c = λ e. absurd (no_overflow c.from_residual-in_err-extend_from_slice.result OutOfMemory c.from_residual-in_err-extend_from_slice.ensures.1 refl e)
+
+pub returns-in_err-push-clause-errors : goal.returns-in_err-push-clause-errors
+returns-in_err-push-clause-errors g c = refused_as _ c.from_residual-in_err-push.result OutOfMemory c.from_residual-in_err-push.ensures.1 (inl refl)
+
+pub returns-in_err-push-clause-overflow : goal.returns-in_err-push-clause-overflow
+returns-in_err-push-clause-overflow g c = λ e. absurd (no_overflow c.from_residual-in_err-push.result OutOfMemory c.from_residual-in_err-push.ensures.1 refl e)
+
+pub returns-in_err-push-2-clause-errors : goal.returns-in_err-push-2-clause-errors
+returns-in_err-push-2-clause-errors g c = refused_as _ c.from_residual-in_err-push-2.result OutOfMemory c.from_residual-in_err-push-2.ensures.1 (inl refl)
+
+pub returns-in_err-push-2-clause-overflow : goal.returns-in_err-push-2-clause-overflow
+returns-in_err-push-2-clause-overflow g c = λ e. absurd (no_overflow c.from_residual-in_err-push-2.result OutOfMemory c.from_residual-in_err-push-2.ensures.1 refl e)
+
+pub narrowed_along-requires-clause-clean : goal.narrowed_along-requires-clause-clean
+narrowed_along-requires-clause-clean g c = rw c.deref.ensures.value (_, c.requires.cheapest.clean)
+
+pub narrowed_along-requires-clause-inside : goal.narrowed_along-requires-clause-inside
+narrowed_along-requires-clause-inside g c = rw c.deref.ensures.value c.requires.cheapest.inside
+
+pub least_of_class-requires-clause-whole : goal.least_of_class-requires-clause-whole
+least_of_class-requires-clause-whole g c = rw c.places.invariant.known c.requires.whole
+
+pub least_of_class-requires-clause-some : goal.least_of_class-requires-clause-some
+least_of_class-requires-clause-some g c = rw c.places.invariant.known c.requires.some
+
+pub least_of_class-requires-clause-wide : goal.least_of_class-requires-clause-wide
+least_of_class-requires-clause-wide g c = rw c.places.invariant.known c.places.invariant.wide

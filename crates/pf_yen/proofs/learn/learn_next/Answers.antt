@@ -8,6 +8,7 @@ use Rattle.pf_yen.proofs.NarrowLemmas.{in_none}
 use Rattle.pf_yen.proofs.LearnLemmas.{learned_grow, learned_add, lists_live, lists_none}
 use Rattle.pf_yen.proofs.learn.learn_next.Goals.{then-not-goal+in_ok-expand, else-not-goal}
 use Rattle.std.proofs.lemmas.Result.{IfOk-from_err}
+use Rattle.pf_yen.proofs.ResultLemmas.{refused_as}
 use Rattle.pf_yen.proofs.learn.learn_next.Goals as goal
 
 pub returns-in_err-expand-clause-learned : goal.returns-in_err-expand-clause-learned
@@ -100,3 +101,21 @@ returns-clause-graph g c = λ h x.
       | then-not-goal+in_ok-expand w ↦ rw w.graph-is (w.in_ok-expand.ensures.graph h y)
       | else-not-goal w ↦ rw w.graph-is y
     ]
+
+pub is_goal-goal-requires-clause-inside : goal.is_goal-goal-requires-clause-inside
+is_goal-goal-requires-clause-inside g c = rw c.len-number.ensures c.requires.inside
+
+pub is_goal-goal-requires-clause-graph : goal.is_goal-goal-requires-clause-graph
+is_goal-goal-requires-clause-graph g c = c.requires.graph
+
+pub expand-requires-clause-inside : goal.expand-requires-clause-inside
+expand-requires-clause-inside g c = rw c.len-number.ensures (omega (arith, c.requires.inside, c.is_goal-goal.ensures.same))
+
+pub expand-requires-clause-graph : goal.expand-requires-clause-graph
+expand-requires-clause-graph g c = let r = c.requires.graph in (r.0, (c.is_goal-goal.ensures.graph r.0 r.1).0)
+
+pub returns-in_err-expand-clause-refused : goal.returns-in_err-expand-clause-refused
+returns-in_err-expand-clause-refused g c = refused_as _ c.from_residual.result c.in_err-expand.field-0.0 c.from_residual.ensures.1 c.in_err-expand.ensures.refused.0
+
+pub returns-clause-refused : goal.returns-clause-refused
+returns-clause-refused g c = c.add.ensures.refused

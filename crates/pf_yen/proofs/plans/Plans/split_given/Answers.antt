@@ -1,14 +1,15 @@
-use Rattle.std.proofs.Common.{rules, ◌≡◌, true, map, ◌++◌, Err, ap, refl}
+use Rattle.std.proofs.Common.{rules, ◌≡◌, true, map, ◌++◌, Err, ap, refl, inl}
 use Rattle.std.specs.BinaryHeap.{heap_items}
 use Rattle.std.proofs.lemmas.List.{map-append}
 use Rattle.std.proofs.lemmas.List.Sorted.{IsPermutation-map}
 use Rattle.pf_core.proofs.ListLemmas.{Contains-head}
 use Rattle.pf_yen.specs.Classes.{plan_of}
 use Rattle.pf_yen.specs.Plans.{GoesOn, as_list, chosen_plan, waiting_plans, last_given}
-use Rattle.pf_yen.proofs.PlanLemmas.{split_goes_on, no_change}
+use Rattle.pf_yen.proofs.PlanLemmas.{split_goes_on, no_change, given_due}
 use Rattle.pf_yen.proofs.plans.Plans.split_given.Goals.{in-Some+in_ok-split+in_ok-append, in_default}
 use Rattle.std.proofs.lemmas.Result.{IfOk-from_err}
-use Rattle.pf_yen.proofs.ResultLemmas.{handed_on, ok_is_no_error, refused_as}
+use Rattle.pf_base.specs.declared.error.PathError.TheVariants.{OutOfMemory}
+use Rattle.pf_yen.proofs.ResultLemmas.{handed_on, no_overflow, ok_is_no_error, refused_as}
 use Rattle.pf_yen.proofs.plans.Plans.split_given.Goals as goal
 
 pub split-requires-clause-cheapest : goal.split-requires-clause-cheapest
@@ -89,3 +90,43 @@ returns-in_err-split-clause-kept g c = refused_as _ c.from_residual.result c.in_
 
 pub returns-in_err-split-clause-ordered : goal.returns-in_err-split-clause-ordered
 returns-in_err-split-clause-ordered g c = c.requires.ordered
+
+pub returns-in_err-append-clause-errors : goal.returns-in_err-append-clause-errors
+returns-in_err-append-clause-errors g c = refused_as _ c.from_residual-in_err-append.result OutOfMemory c.from_residual-in_err-append.ensures.1 (inl refl)
+
+pub returns-in_err-append-clause-overflow : goal.returns-in_err-append-clause-overflow
+returns-in_err-append-clause-overflow g c = λ e. absurd (no_overflow c.from_residual-in_err-append.result OutOfMemory c.from_residual-in_err-append.ensures.1 refl e)
+
+pub returns-in_err-append-clause-due : goal.returns-in_err-append-clause-due
+returns-in_err-append-clause-due g c = refused_as _ c.from_residual-in_err-append.result OutOfMemory c.from_residual-in_err-append.ensures.1 (given_due _ _ _ (search rules) c.in-Some.is)
+
+pub returns-in_err-split-clause-due : goal.returns-in_err-split-clause-due
+returns-in_err-split-clause-due g c = refused_as _ c.from_residual.result c.in_err-split.field-0.0 c.from_residual.ensures.1 (given_due _ _ _ (search rules) c.in-Some.is)
+
+pub returns-in_err-split-clause-has_begun : goal.returns-in_err-split-clause-has_begun
+returns-in_err-split-clause-has_begun g c = refl
+
+pub returns-then-not-self-clause-ordered : goal.returns-then-not-self-clause-ordered
+returns-then-not-self-clause-ordered g c = c.requires.ordered
+
+pub returns-then-not-self-clause-has_begun : goal.returns-then-not-self-clause-has_begun
+returns-then-not-self-clause-has_begun g c = refl
+
+pub returns-clause-is_given : goal.returns-clause-is_given
+returns-clause-is_given g c = refl
+
+pub returns-in_err-append-clause-kept : goal.returns-in_err-append-clause-kept
+returns-in_err-append-clause-kept g c = refused_as _ c.from_residual-in_err-append.result OutOfMemory c.from_residual-in_err-append.ensures.1 (refl, c.in_err-append.ensures.err.0, refl)
+
+pub returns-in_err-append-clause-ordered : goal.returns-in_err-append-clause-ordered
+returns-in_err-append-clause-ordered g c = rw c.in_err-append.ensures.err.0 c.requires.ordered
+
+pub returns-in_err-append-clause-has_begun : goal.returns-in_err-append-clause-has_begun
+returns-in_err-append-clause-has_begun g c = refl
+
+pub returns-clause-has_begun : goal.returns-clause-has_begun
+returns-clause-has_begun g c =
+    elim c.match-self.branch as (λ _. c.match-self.self.has_begun ≡ c.args.self.now.has_begun) [
+      | in-Some+in_ok-split+in_ok-append w ↦ rw w.self-is refl
+      | in_default w ↦ rw w.self-is refl
+    ]

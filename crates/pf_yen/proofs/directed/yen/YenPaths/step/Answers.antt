@@ -1,5 +1,6 @@
-use Rattle.std.proofs.Common.{◌∙◌, refl}
-use Rattle.pf_yen.proofs.WalkLemmas.{turn_refused, turn_same}
+use Rattle.std.proofs.Common.{◌∙◌, refl, sym, ap, inl, true≢false}
+use Rattle.pf_yen.specs.Walk.{PathWalk, IsBarred}
+use Rattle.pf_yen.proofs.WalkLemmas.{turn_refused, turn_same, bars_refused, bars_without_memory, bars_same}
 use Rattle.pf_yen.proofs.directed.yen.YenPaths.step.Goals as goal
 
 pub returns-then-self-clause-steps : goal.returns-then-self-clause-steps
@@ -7,6 +8,43 @@ returns-then-self-clause-steps g c = λ edges start test w.
     let v = rw (← c.self.view_is) at w in
     let q = v.bar c.if-self.true in
     rw (← c.self.view_is) (v, (q.0, refl, q.1))
+
+pub returns-then-self-clause-bars : goal.returns-then-self-clause-bars
+returns-then-self-clause-bars g c = rw (← c.self.view_is) (λ _. refl, (λ _. refl, λ _. c.if-self.true))
+
+pub returns-then-self-clause-same : goal.returns-then-self-clause-same
+returns-then-self-clause-same g c = refl
+
+pub learn_graph-requires : goal.learn_graph-requires
+learn_graph-requires g c = record { walk = c.requires.walk }
+
+pub returns-in_err-learn_graph-clause-steps : goal.returns-in_err-learn_graph-clause-steps
+returns-in_err-learn_graph-clause-steps g c = λ edges start test w.
+    let l = c.in_err-learn_graph.ensures in
+    (l.walk edges start test w, turn_refused g.C.Number.value edges start test g.N.PartialEq.eq g.C.Number.fits c.args.self.now c.learn_graph.new.self c.from_residual.result c.in_err-learn_graph.field-0.0 c.from_residual.ensures.1 (inl l.refused) l.given (λ h. l.ended h))
+
+pub returns-in_err-learn_graph-clause-bars : goal.returns-in_err-learn_graph-clause-bars
+returns-in_err-learn_graph-clause-bars g c =
+    let l = c.in_err-learn_graph.ensures in
+    let free : ¬ (IsBarred c.args.self.now) = λ b. true≢false (sym b ∙ sym (ap (λ (v : PathWalk g.row.N.Denot g.row.C.Denot g.row.FN.Denot g.row.FS.Denot). v.barred) c.self.view_is) ∙ c.if-self.false) in
+    bars_without_memory c.args.self.now c.learn_graph.new.self c.from_residual.result c.in_err-learn_graph.field-0.0 c.from_residual.ensures.1 l.refused free (λ b. free (sym l.bar ∙ b))
+
+pub returns-in_err-learn_graph-clause-same : goal.returns-in_err-learn_graph-clause-same
+returns-in_err-learn_graph-clause-same g c = c.in_err-learn_graph.ensures.same
+
+pub choose-requires-clause-walk : goal.choose-requires-clause-walk
+choose-requires-clause-walk g c =
+    let r = c.requires.walk in
+    (r.0, r.1, r.2, c.in_ok-learn_graph.ensures.walk r.0 r.1 r.2 r.3)
+
+pub choose-requires-clause-known : goal.choose-requires-clause-known
+choose-requires-clause-known g c =
+    let r = c.requires.walk in
+    c.in_ok-learn_graph.ensures.known r.0 r.1 r.2 r.3
+
+pub choose-requires-clause-free : goal.choose-requires-clause-free
+choose-requires-clause-free g c = λ b.
+    true≢false (sym b ∙ c.in_ok-learn_graph.ensures.bar ∙ sym (ap (λ (v : PathWalk g.row.N.Denot g.row.C.Denot g.row.FN.Denot g.row.FS.Denot). v.barred) c.self.view_is) ∙ c.if-self.false)
 
 pub returns-in_err-choose-clause-steps : goal.returns-in_err-choose-clause-steps
 returns-in_err-choose-clause-steps g c = λ edges start test w.
@@ -16,10 +54,31 @@ returns-in_err-choose-clause-steps g c = λ edges start test w.
     let why = rw l.given at (e.refused edges start test v) in
     (e.walk edges start test v, turn_refused g.C.Number.value edges start test g.N.PartialEq.eq g.C.Number.fits c.args.self.now c.choose.new.self c.from_residual-in_err-choose.result c.in_err-choose.field-0.0 c.from_residual-in_err-choose.ensures.1 why (e.given ∙ l.given) (λ h. e.ended (l.ended h)))
 
+pub returns-in_err-choose-clause-bars : goal.returns-in_err-choose-clause-bars
+returns-in_err-choose-clause-bars g c =
+    let l = c.in_ok-learn_graph.ensures in
+    let e = c.in_err-choose.ensures in
+    bars_refused c.args.self.now c.choose.new.self c.from_residual-in_err-choose.result c.in_err-choose.field-0.0 c.from_residual-in_err-choose.ensures.1 (λ b. e.bars.0 (l.bar ∙ b)) e.bars.1
+
+pub returns-in_err-choose-clause-same : goal.returns-in_err-choose-clause-same
+returns-in_err-choose-clause-same g c = c.in_err-choose.ensures.same ∙ c.in_ok-learn_graph.ensures.same
+
+pub give-requires-clause-clones : goal.give-requires-clause-clones
+give-requires-clause-clones g c = c.requires.clones
+
 pub give-requires-clause-walk : goal.give-requires-clause-walk
 give-requires-clause-walk g c =
     let r = c.requires.walk in
     (r.0, r.1, r.2, c.in_ok-choose.ensures.walk r.0 r.1 r.2 (c.in_ok-learn_graph.ensures.walk r.0 r.1 r.2 r.3))
+
+pub give-requires-clause-ready : goal.give-requires-clause-ready
+give-requires-clause-ready g c = c.in_ok-choose.ensures.begun
+
+pub give-requires-clause-none : goal.give-requires-clause-none
+give-requires-clause-none g c = c.in_ok-choose.ensures.none
+
+pub give-requires-clause-free : goal.give-requires-clause-free
+give-requires-clause-free g c = c.in_ok-choose.ensures.bars.1
 
 pub returns-clause-steps : goal.returns-clause-steps
 returns-clause-steps g c = λ edges start test w.
@@ -28,5 +87,11 @@ returns-clause-steps g c = λ edges start test w.
     let q = c.give.ensures.steps edges start test (e.walk edges start test (l.walk edges start test w)) in
     (q.0, turn_same g.C.Number.value edges start test g.N.PartialEq.eq g.C.Number.fits c.args.self.now c.choose.new.self c.give.new.self c.give.result (e.given ∙ l.given) (λ h. e.ended (l.ended h)) q.1)
 
-pub give-requires-clause-clones : goal.give-requires-clause-clones
-give-requires-clause-clones g c = c.requires.clones
+pub returns-clause-bars : goal.returns-clause-bars
+returns-clause-bars g c =
+    let l = c.in_ok-learn_graph.ensures in
+    let e = c.in_ok-choose.ensures in
+    bars_same c.args.self.now c.choose.new.self c.give.new.self c.give.result (λ b. absurd (e.bars.0 (l.bar ∙ b))) c.give.ensures.bars
+
+pub returns-clause-same : goal.returns-clause-same
+returns-clause-same g c = c.give.ensures.same ∙ c.in_ok-choose.ensures.same ∙ c.in_ok-learn_graph.ensures.same
