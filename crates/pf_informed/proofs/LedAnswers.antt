@@ -1,6 +1,6 @@
 -- What a search led by estimates answers, once it ends.
 use Rattle.std.proofs.Common.{◌≡◌, ◌<◌, ℕ, ℤ, pos, Bool, true, List, [], ◌∷◌, length, slice_get, subst, sym, arith, inl}
-use Rattle.std.specs.Prelude.{◌≤ℤ◌, Option, Some, All, IsSome}
+use Rattle.std.specs.Prelude.{◌≤ℤ◌, ◌⊎◌, Option, Some, All, IsSome}
 use Rattle.std.specs.Borrow.{Bor}
 use Rattle.std.specs.Cmp.{IsEquivalence}
 use Rattle.std.specs.Fn.{Mut}
@@ -23,9 +23,11 @@ use Rattle.pf_core.proofs.UnitLemmas.{begins_all}
 use Rattle.pf_core.proofs.WalkLemmas.{all_starts, only_starts, no_negative, no_walk, best_answer}
 use Rattle.pf_informed.specs.Estimates.{IsPastRangeWithEstimate, NoGoalWalkFits}
 use Rattle.pf_informed.specs.Internal.Forest.{IsForest}
+use Rattle.pf_informed.specs.Internal.Fringe.{IsBelowGoals, IsBelowWaiting, IsTakenWithin}
 use Rattle.pf_informed.specs.Internal.Informed.{IsInformed}
 use Rattle.pf_informed.specs.Internal.Led.{IsLed}
 use Rattle.pf_informed.specs.Internal.Waiting.{Entry, IsWaiting, IsTaken, IsQueue}
+use Rattle.pf_informed.proofs.GrowingLemmas.{limit_now}
 use Rattle.pf_informed.proofs.InformedLemmas.{goal_above, no_goal_fits, no_goal, best_path}
 use Rattle.pf_informed.proofs.NodeWalks.{never_above, stands_reached, estimate_is, overflow_at, no_walk_fits, estimate_at}
 use Rattle.pf_informed.proofs.WiderLemmas.{all_labelled, some_unlabelled, no_label}
@@ -61,6 +63,18 @@ module _ {N C I S FN FS FH : Type 0} (eq : N → N → Bool) (laws : IsEquivalen
         let low = goal_above value fits (IsStep eq graph) test (no_negative eq laws graph led.explores.alike led.costs) kept (StandsFor eq keys) labels entries forest (length keys) informed least s (begins_at s e) (InReach eq edges (start ∷ [])) led_within
         led.admissible.from_zero (never_above eq laws graph led.explores.alike test least led.admissible) led_estimate led_asked between nothing number cost entries' t q fit here.0 here.1 w u goes good in
         omega (arith, ints, low, t.same)
+
+    -- no walk to a goal costs less than the limit, which stayed or was raised to the least sum that waits
+    pub led_limit : (old new : C) → (new ≡ old) ⊎ (fits (value new) × IsBelowWaiting value labels kept entries new) → IsBelowGoals (IsStep eq graph) test (λ s. eq start s ≡ true) (value old) → IsBelowGoals (IsStep eq graph) test (λ s. eq start s ≡ true) (value new)
+    led_limit = limit_now value fits (IsStep eq graph) test (no_negative eq laws graph led.explores.alike led.costs) kept (StandsFor eq keys) labels entries forest (length keys) informed least (InReach eq edges (start ∷ [])) led_within
+        led.admissible.from_zero (never_above eq laws graph led.explores.alike test least led.admissible) led_estimate led_asked between nothing is_start begins_at
+
+    -- no walk to a goal costs less than what is taken out within such a limit
+    pub led_in_limit : (number : ℕ) (cost limit : C) (entries' : List (Entry C)) (t : IsTakenWithin value labels kept number cost limit entries entries') → IsBelowGoals (IsStep eq graph) test (λ s. eq start s ≡ true) (value limit)
+        → (s : N) → eq start s ≡ true → (w : List N) (u : ℤ) → GoesAlong (IsStep eq graph) s w u → test (end_of s w) ≡ true → value t.label.cost ≤ℤ u
+    led_in_limit number cost limit entries' t low s e w u goes good =
+        let here = begins_all eq laws keys number (subst (λ (n : ℕ). number < n) wide (HasLabel-inside labels number t.label t.at)) in
+        omega (arith, ints, low s e w u goes good, t.within, t.same, led_estimate number here.0 t.estimate here.1 t.estimated, led.admissible.from_zero here.0 (led_within number here.0 here.1))
 
     -- the path to a goal that no walk undercuts
     pub led_best : (number : ℕ) (label : Label C) → HasLabel labels number label → (numbers : List ℕ) → IsChain labels number numbers → ((x : N) → StandsFor eq keys number x → test x ≡ true)

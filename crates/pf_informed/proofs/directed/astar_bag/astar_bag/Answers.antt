@@ -44,3 +44,18 @@ returns-in_err-clone_of g c = record {
   overflow = λ edges test least s e. absurd (no_overflow c.from_residual.result _ c.from_residual.ensures.1 c.in_err-clone_of.ensures.refused e);
   errors = refused_as _ c.from_residual.result _ c.from_residual.ensures.1 (inl c.in_err-clone_of.ensures.refused);
 }
+
+pub find_ways-found-requires-clause-unlabelled : goal.find_ways-found-requires-clause-unlabelled
+find_ways-found-requires-clause-unlabelled g c = c.new-search.ensures.labels
+
+pub find_ways-found-requires-clause-unasked : goal.find_ways-found-requires-clause-unasked
+find_ways-found-requires-clause-unasked g c = c.new-search.ensures.estimates
+
+pub find_ways-found-requires-clause-nothing_waits : goal.find_ways-found-requires-clause-nothing_waits
+find_ways-found-requires-clause-nothing_waits g c = c.new-search.ensures.queue
+
+pub find_ways-found-requires-clause-ordered : goal.find_ways-found-requires-clause-ordered
+find_ways-found-requires-clause-ordered g c = c.new-search.ensures.ordered
+
+pub find_ways-found-requires-clause-one : goal.find_ways-found-requires-clause-one
+find_ways-found-requires-clause-one g c = c.in_ok-clone_of.ensures.one

@@ -14,17 +14,25 @@ graph_of start edges = record { starts = start ∷ []; edges = edges }
 abbrev tested : {N : Type 0} → N → (N → List (N × ℤ)) → (N → Bool) → TestedGraph N
 tested start edges test = record { graph = graph_of start edges; test = test }
 
-pub label_cheapest-requires : goal.label_cheapest-requires
-label_cheapest-requires g c =
+pub label_cheapest-requires-clause-one : goal.label_cheapest-requires-clause-one
+label_cheapest-requires-clause-one g c = c.requires.one
+
+pub label_cheapest-requires-clause-unlabelled : goal.label_cheapest-requires-clause-unlabelled
+label_cheapest-requires-clause-unlabelled g c = c.requires.unlabelled
+
+pub label_cheapest-requires-clause-unasked : goal.label_cheapest-requires-clause-unasked
+label_cheapest-requires-clause-unasked g c = c.requires.unasked
+
+pub label_cheapest-requires-clause-nothing_waits : goal.label_cheapest-requires-clause-nothing_waits
+label_cheapest-requires-clause-nothing_waits g c = c.requires.nothing_waits
+
+pub label_cheapest-requires-clause-ordered : goal.label_cheapest-requires-clause-ordered
+label_cheapest-requires-clause-ordered g c = c.requires.ordered
+
+pub label_cheapest-requires-clause-graph : goal.label_cheapest-requires-clause-graph
+label_cheapest-requires-clause-graph g c =
     let r = c.requires.graph in
-    record {
-      one = c.requires.one;
-      unlabelled = c.requires.unlabelled;
-      unasked = c.requires.unasked;
-      nothing_waits = c.requires.nothing_waits;
-      ordered = c.requires.ordered;
-      graph = (graph_of r.0 r.1, r.2, r.3, r.5);
-    }
+    (graph_of r.0 r.1, r.2, r.3, r.5)
 
 pub tight_edges-requires-clause-found : goal.tight_edges-requires-clause-found
 tight_edges-requires-clause-found g c =

@@ -37,3 +37,21 @@ returns-in_err-clone_of g c = record {
 
 pub search_on-requires-clause-unlisted : goal.search_on-requires-clause-unlisted
 search_on-requires-clause-unlisted g c = c.new-lists.ensures.listed
+
+pub search_on-requires-clause-clones : goal.search_on-requires-clause-clones
+search_on-requires-clause-clones g c = c.requires.clones
+
+pub search_on-requires-clause-unlabelled : goal.search_on-requires-clause-unlabelled
+search_on-requires-clause-unlabelled g c = c.new-search.ensures.labels
+
+pub search_on-requires-clause-unasked : goal.search_on-requires-clause-unasked
+search_on-requires-clause-unasked g c = c.new-search.ensures.estimates
+
+pub search_on-requires-clause-nothing_waits : goal.search_on-requires-clause-nothing_waits
+search_on-requires-clause-nothing_waits g c = c.new-search.ensures.queue
+
+pub search_on-requires-clause-ordered : goal.search_on-requires-clause-ordered
+search_on-requires-clause-ordered g c = c.new-search.ensures.ordered
+
+pub search_on-requires-clause-one : goal.search_on-requires-clause-one
+search_on-requires-clause-one g c = c.in_ok-clone_of.ensures.one

@@ -1,26 +1,20 @@
-use Rattle.std.proofs.Common.{◌≡◌, ◌<◌, ◌∙◌, [], ◌∷◌, List, ℕ, ℤ, Bool, true, false, true≢false, ap, sym, subst, arith, length, slice_get, Some, refl, inl, inr}
-use Rattle.std.specs.Prelude.{◌≤ℤ◌, ◌++◌}
+use Rattle.std.proofs.Common.{◌≡◌, ◌<◌, ◌∙◌, [], ◌∷◌, List, ℕ, ℤ, Bool, false, true≢false, ap, sym, subst, arith, length, slice_get, Some, refl, inl, inr}
+use Rattle.std.specs.Prelude.{◌++◌}
 use Rattle.std.specs.BinaryHeap.{heap_items}
 use Rattle.std.proofs.lemmas.Int.{ints}
 use Rattle.std.proofs.lemmas.List.{append-nil}
 use Rattle.std.proofs.lemmas.List.Elements.{Contains-append_left}
 use Rattle.std.proofs.lemmas.Option.{MatchOption-at_some, MatchOption-at_none}
-use Rattle.pf_base.specs.Edges.{InReach}
-use Rattle.pf_base.specs.Walks.{end_of}
 use Rattle.pf_core.specs.Nodes.{NodeGraph, TestedGraph, StandsFor, IsStep}
-use Rattle.pf_core.specs.Steps.{GoesAlong}
 use Rattle.pf_core.proofs.LabelLemmas.{HasLabel-inside}
 use Rattle.pf_core.proofs.ListLemmas.{at_place}
 use Rattle.pf_core.proofs.NodeLemmas.{StandsFor-same}
 use Rattle.pf_core.proofs.SearchLemmas.{Grows-trans}
-use Rattle.pf_core.proofs.UnitLemmas.{begins_all}
-use Rattle.pf_core.proofs.WalkLemmas.{no_negative}
 use Rattle.pf_informed.specs.Internal.Fringe.{listed}
 use Rattle.pf_informed.specs.Internal.Informed.{IsInformed}
 use Rattle.pf_informed.specs.Internal.Waiting.{Entry, IsQueue}
 use Rattle.pf_informed.proofs.FringeLemmas.{queue_in}
-use Rattle.pf_informed.proofs.GrowingLemmas.{limit_now}
-use Rattle.pf_informed.proofs.LedAnswers.{led_within, led_estimate, led_asked, led_best, led_none, led_past}
+use Rattle.pf_informed.proofs.LedAnswers.{led_within, led_estimate, led_limit, led_in_limit, led_best, led_none, led_past}
 use Rattle.pf_informed.proofs.LedLemmas.{informed_still, led_grown}
 use Rattle.pf_informed.proofs.WiderLemmas.{less_left_too}
 use Rattle.pf_informed.proofs.NodeWalks.{never_above}
@@ -110,16 +104,11 @@ returns-then-is_goal g c = record {
       let keys = c.turns.graph.discovery.nodes.keys in
       let begins = inv.begins start s in
       let nodes = c.in_ok-nodes.ensures.nodes in
-      let p = no_negative eq laws h now.explores.alike now.costs in
-      let within = led_within eq laws value _ _ _ _ _ _ _ start edges test least keys _ _ _ estimates now inv.asked begins in
-      let estimated = led_estimate eq laws value _ _ _ _ _ _ _ start edges test least keys _ _ _ estimates now inv.asked begins in
-      let here = begins_all eq laws keys number (subst (λ (n : ℕ). number < n) inv.wide (HasLabel-inside labels number t.label t.at)) in
-      let low = limit_now value fits (IsStep eq h) test p estimates (StandsFor eq keys) labels entries inv.forest (length keys) v.1 least (InReach eq edges (start ∷ [])) within now.admissible.from_zero (never_above eq laws h now.explores.alike test least now.admissible) estimated
-      (led_asked eq laws value _ _ _ _ _ _ _ start edges test least keys _ _ _ estimates now inv.asked begins) (λ x y z. g.C.Number.between_law x y z exact) (g.met.C.Zero.zero_fits_law exact) (λ y. eq start y ≡ true) (λ s0 e. StandsFor-same eq laws keys 0 start s0 begins e)
-      c.turns.lists.limit c.take.new.self.limit c.in_ok-taken.ensures.limit (inv.below start edges test least s d) in
-      let above : (s0 : g.row.N.Denot) → eq start s0 ≡ true → (u : List g.row.N.Denot) (z : ℤ) → GoesAlong (IsStep eq h) s0 u z → test (end_of s0 u) ≡ true → value t.label.cost ≤ℤ z = λ s0 e u z goes good.
-      omega (arith, ints, low s0 e u z goes good, t.within, t.same, estimated number here.0 t.estimate here.1 t.estimated, now.admissible.from_zero here.0 (within number here.0 here.1)) in
-      led_best eq laws value _ _ _ _ _ _ _ start edges test least keys _ _ _ estimates now inv.asked begins fits (λ x y z. g.C.Number.between_law x y z exact) (g.met.C.Zero.zero_fits_law exact)
+      let between = λ (x y z : ℤ). g.C.Number.between_law x y z exact in
+      let nothing = g.met.C.Zero.zero_fits_law exact in
+      let low = led_limit eq laws value _ _ _ _ _ _ _ start edges test least keys _ _ _ estimates now inv.asked begins fits between nothing labels inv.wide entries inv.forest v.1 c.turns.lists.limit c.take.new.self.limit c.in_ok-taken.ensures.limit (inv.below start edges test least s d) in
+      let above = led_in_limit eq laws value _ _ _ _ _ _ _ start edges test least keys _ _ _ estimates now inv.asked begins fits between nothing labels inv.wide entries inv.forest v.1 number c.in-Some.taken.cost c.take.new.self.limit (heap_items c.take.new.queue ++ listed c.take.new.self) t low in
+      led_best eq laws value _ _ _ _ _ _ _ start edges test least keys _ _ _ estimates now inv.asked begins fits between nothing
       labels inv.wide entries inv.forest v.1 number t.label t.at nodes.0 nodes.1 (λ y k. sym (told.1 y k) ∙ c.if-is_goal.true) above
       c.is_goal.new.self.discovery.nodes.keys c.is_goal.ensures.grows after.distinct c.in_ok-nodes.nodes.items nodes.2 (value c.in-Some.taken.cost) t.same;
   overflow = λ start edges test least s d e. absurd (ok_is_no_error _ _ _ refl e);
@@ -193,11 +182,8 @@ turns-preserved g c =
           let v = inv.searched h test least d in
           let now = v.0 in
           let begins = inv.begins start s in
-          limit_now value fits (IsStep eq h) test (no_negative eq laws h now.explores.alike now.costs) estimates (StandsFor eq keys) labels entries inv.forest (length keys) v.1 least (InReach eq edges (start ∷ []))
-          (led_within eq laws value _ _ _ _ _ _ _ start edges test least keys _ _ _ estimates now inv.asked begins) now.admissible.from_zero (never_above eq laws h now.explores.alike test least now.admissible)
-          (led_estimate eq laws value _ _ _ _ _ _ _ start edges test least keys _ _ _ estimates now inv.asked begins) (led_asked eq laws value _ _ _ _ _ _ _ start edges test least keys _ _ _ estimates now inv.asked begins)
-          (λ x y z. g.C.Number.between_law x y z exact) (g.met.C.Zero.zero_fits_law exact) (λ y. eq start y ≡ true) (λ s0 e. StandsFor-same eq laws keys 0 start s0 begins e)
-          c.turns.lists.limit c.take.new.self.limit c.in_ok-taken.ensures.limit (inv.below start edges test least s d);
+          led_limit eq laws value _ _ _ _ _ _ _ start edges test least keys _ _ _ estimates now inv.asked begins fits (λ x y z. g.C.Number.between_law x y z exact) (g.met.C.Zero.zero_fits_law exact)
+          labels inv.wide entries inv.forest v.1 c.turns.lists.limit c.take.new.self.limit c.in_ok-taken.ensures.limit (inv.below start edges test least s d);
     }
 
 pub returns-then-has_all_labels : goal.returns-then-has_all_labels

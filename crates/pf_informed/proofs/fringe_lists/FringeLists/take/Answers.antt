@@ -1,4 +1,4 @@
-use Rattle.std.proofs.Common.{◌≡◌, ◌++◌, ◌∙◌, inl, inr}
+use Rattle.std.proofs.Common.{◌≡◌, ◌+◌, ◌≤◌, ◌++◌, ◌∙◌, ℕ, List, ap, arith, length, length-append, inl, inr}
 use Rattle.std.specs.Prelude.{◌⊎◌}
 use Rattle.std.specs.BinaryHeap.{heap_items}
 use Rattle.std.proofs.lemmas.Option.{MatchOption-at_some, MatchOption-at_none}
@@ -7,6 +7,14 @@ use Rattle.pf_informed.specs.Internal.Fringe.{listed, IsBelowWaiting}
 use Rattle.pf_informed.proofs.FringeLemmas.{moved_from, queue_in, moved_wait, nothing_before, below_before, taken_before}
 use Rattle.pf_informed.proofs.Outcomes.{answer_or_none, refused_as, on_refused, if_refused}
 use Rattle.pf_informed.proofs.fringe_lists.FringeLists.take.Goals as goal
+
+-- what is left in all, once entries went from the queue to the lists
+module _ {A : Type 0} (a b a' b' : List A) (h h' n m : ℕ) where
+  as_many : h' + length a' ≡ h + length a → b' ≡ b → n ≤ m → m ≤ length (a' ++ b') → h' + n ≤ h + length (a ++ b)
+  as_many count same le over = omega (arith, ap length same, length-append a b, length-append a' b')
+
+  one_fewer : h' + length a' ≡ h + length a → b' ≡ b → n + 1 ≤ m → m ≤ length (a' ++ b') → h' + n + 1 ≤ h + length (a ++ b)
+  one_fewer count same le over = omega (arith, ap length same, length-append a b, length-append a' b')
 
 pub take_within-requires : goal.take_within-requires
 take_within-requires g c =
@@ -97,3 +105,35 @@ returns-in-Some-clause-queue g c = rw c.in_ok-take_in.ensures.emptied c.in_ok-ta
 
 pub returns-in-Some-clause-limit : goal.returns-in-Some-clause-limit
 returns-in-Some-clause-limit g c = inl (c.in_ok-taken.ensures.limit ∙ c.in_ok-take_in.ensures.limit)
+
+pub take_in-requires : goal.take_in-requires
+take_in-requires g c = record { ordered = c.requires.ordered }
+
+pub raise_limit-requires-clause-over : goal.raise_limit-requires-clause-over
+raise_limit-requires-clause-over g c = (MatchOption-at_none _ _ c.in_default.is c.in_ok-taken.ensures.taken).0
+
+pub raise_limit-requires-clause-queue : goal.raise_limit-requires-clause-queue
+raise_limit-requires-clause-queue g c = c.in_ok-taken.ensures.queue
+
+pub returns-clause-ordered : goal.returns-clause-ordered
+returns-clause-ordered g c = on_ok c.raise_limit.result c.raise_limit.ensures.queue (λ _. c.in_ok-take_in.ensures.ordered)
+
+pub returns-clause-queue : goal.returns-clause-queue
+returns-clause-queue g c = on_ok c.raise_limit.result c.raise_limit.ensures.queue (λ q. rw c.in_ok-take_in.ensures.emptied q)
+
+pub returns-clause-fewer : goal.returns-clause-fewer
+returns-clause-fewer g c =
+    let t = c.in_ok-take_in.ensures in
+    let old = c.args.self.now in
+    let mid = c.take_in.new.self in
+    let over = MatchOption-at_none _ _ c.in_default.is c.in_ok-taken.ensures.fewer in
+    answer_or_none _ _ _ _ c.raise_limit.result
+    (λ none. as_many old.current.items old.later.items mid.current.items mid.later.items _ _ _ _ t.count t.later none over)
+    (λ x some. one_fewer old.current.items old.later.items mid.current.items mid.later.items _ _ _ _ t.count t.later some over) c.raise_limit.ensures.fewer
+
+pub returns-in-Some-clause-fewer : goal.returns-in-Some-clause-fewer
+returns-in-Some-clause-fewer g c =
+    let t = c.in_ok-take_in.ensures in
+    let old = c.args.self.now in
+    let mid = c.take_in.new.self in
+    one_fewer old.current.items old.later.items mid.current.items mid.later.items _ _ _ _ t.count t.later (MatchOption-at_some _ _ c.in-Some.taken c.in-Some.is c.in_ok-taken.ensures.fewer) (omega arith)

@@ -1,6 +1,6 @@
-use Rattle.std.proofs.Common.{arith, ◌++◌, ◌∷◌, [], List, ap, subst, sym, length, length-append, refl}
+use Rattle.std.proofs.Common.{◌≡◌, ◌+◌, arith, ◌++◌, ◌∷◌, [], List, ap, subst, sym, length, length-append, refl}
 use Rattle.std.specs.Prelude.{Contains, IsPermutation, ◌↔◌}
-use Rattle.std.specs.BinaryHeap.{heap_items}
+use Rattle.std.specs.BinaryHeap.{heap_items, heap_len}
 use Rattle.std.proofs.lemmas.List.{take_at}
 use Rattle.std.proofs.lemmas.List.Sorted.{Contains-permutation, IsPermutation-sym, length_permutation}
 use Rattle.pf_informed.specs.Internal.Waiting.{Entry}
@@ -72,3 +72,18 @@ returns-clause-limit g c = c.entries.invariant.limit
 
 pub returns-clause-refused : goal.returns-clause-refused
 returns-clause-refused g c = tt
+
+pub reverse_from-requires : goal.reverse_from-requires
+reverse_from-requires g c =
+    let none = c.in_default.ensures.first.0 in
+    omega (arith, c.len-from.ensures, c.args.self.now.current.ok.0, c.entries.invariant.count, ap length none, c.entries.queue.data.ok.0, ap length c.deref_mut.ensures.value)
+
+pub returns-clause-count : goal.returns-clause-count
+returns-clause-count g c =
+    let before = c.entries.self.current.items in
+    let after = c.reverse_from.new.elements in
+    let moved : IsPermutation before after = rw c.deref_mut.ensures.value at c.reverse_from.ensures in
+    let none = c.in_default.ensures.first in
+    let same = length_permutation before after moved in
+    subst (λ (xs : List (Entry g.row.C.Denot)). heap_len c.take_first.new.queue + length xs ≡ heap_len c.args.queue.now + length c.args.self.now.current.items) (sym (take_at after _ _ (omega (arith, same, c.deref_mut.ensures.len))))
+    (omega (arith, same, c.entries.invariant.count, ap length none.0, ap length none.1, c.entries.queue.data.ok.0, c.take_first.new.queue.data.ok.0))

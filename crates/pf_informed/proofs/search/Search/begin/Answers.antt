@@ -1,5 +1,5 @@
 use Rattle.pf_informed.proofs.Outcomes.{refused_as, on_refused}
-use Rattle.std.proofs.Common.{refl}
+use Rattle.std.proofs.Common.{refl, arith}
 use Rattle.pf_informed.proofs.search.Search.begin.Goals as goal
 
 pub returns-in_err-push : goal.returns-in_err-push
@@ -19,3 +19,15 @@ returns-in_err-push-2 g c = record {
   waiting = on_refused _ c.from_residual-in_err-push-2.result _ c.from_residual-in_err-push-2.ensures.1;
   refused = refused_as _ c.from_residual-in_err-push-2.result _ c.from_residual-in_err-push-2.ensures.1 refl;
 }
+
+pub index-requires : goal.index-requires
+index-requires g c = omega (arith, c.requires.estimated)
+
+pub returns-clause-estimates : goal.returns-clause-estimates
+returns-clause-estimates g c = refl
+
+pub returns-clause-labelled : goal.returns-clause-labelled
+returns-clause-labelled g c = rw (c.in_ok-push-2.ensures.items, c.requires.unlabelled, c.first.ensures, c.zero-nothing.ensures) refl
+
+pub returns-clause-refused : goal.returns-clause-refused
+returns-clause-refused g c = tt

@@ -1,4 +1,4 @@
-use Rattle.std.proofs.Common.{rules, arith, ◌≡◌, ◌<◌, ◌∙◌, subst, sym, ℕ, length, refl}
+use Rattle.std.proofs.Common.{arith, ◌≡◌, ◌<◌, ◌∙◌, subst, sym, ℕ, length, refl}
 use Rattle.std.specs.BinaryHeap.{heap_items, heap_len}
 use Rattle.pf_core.specs.declared.labels.Label.{Label}
 use Rattle.pf_core.proofs.LabelLemmas.{HasLabel-inside, label_is}
@@ -11,7 +11,7 @@ use Rattle.pf_informed.proofs.search.Search.follow.Goals as goal
 pub label_of-label-requires : goal.label_of-label-requires
 label_of-label-requires g c =
     let labels = c.args.self.now.labels.items in
-    let len : c.len-2.result ≡ length c.args.self.now.estimates.items = search rules in
+    let len : c.len-2.result ≡ length c.args.self.now.estimates.items = c.len-2.ensures ∙ c.args.self.now.estimates.ok.0 in
     let is = rw len at c.in_ok-make_room.ensures.wider in
     let w = widened g.C.Number.value labels c.make_room.new.labels.items (length c.args.self.now.estimates.items) c.requires.few is in
     let l = c.requires.labelled in
@@ -20,7 +20,7 @@ label_of-label-requires g c =
 pub relax-requires-clause-inside : goal.relax-requires-clause-inside
 relax-requires-clause-inside g c = λ j d h.
     let labels = c.args.self.now.labels.items in
-    let len : c.len-2.result ≡ length c.args.self.now.estimates.items = search rules in
+    let len : c.len-2.result ≡ length c.args.self.now.estimates.items = c.len-2.ensures ∙ c.args.self.now.estimates.ok.0 in
     let is = rw len at c.in_ok-make_room.ensures.wider in
     let wide = length_wider g.C.Number.value labels c.make_room.new.labels.items (length c.args.self.now.estimates.items) c.requires.few is in
     subst (λ (n : ℕ). j < n) (sym wide) (c.requires.ends j d (rw c.deref.ensures.value at h))
@@ -28,7 +28,7 @@ relax-requires-clause-inside g c = λ j d h.
 pub relax-requires-clause-few : goal.relax-requires-clause-few
 relax-requires-clause-few g c =
     let labels = c.args.self.now.labels.items in
-    let len : c.len-2.result ≡ length c.args.self.now.estimates.items = search rules in
+    let len : c.len-2.result ≡ length c.args.self.now.estimates.items = c.len-2.ensures ∙ c.args.self.now.estimates.ok.0 in
     let is = rw len at c.in_ok-make_room.ensures.wider in
     omega (arith, len, length_wider g.C.Number.value labels c.make_room.new.labels.items (length c.args.self.now.estimates.items) c.requires.few is, c.in_ok-make_room.ensures.few)
 
@@ -36,7 +36,7 @@ pub relax-requires-clause-parent : goal.relax-requires-clause-parent
 relax-requires-clause-parent g c =
     let labels = c.args.self.now.labels.items in
     let l = c.requires.labelled in
-    let len : c.len-2.result ≡ length c.args.self.now.estimates.items = search rules in
+    let len : c.len-2.result ≡ length c.args.self.now.estimates.items = c.len-2.ensures ∙ c.args.self.now.estimates.ok.0 in
     let is = rw len at c.in_ok-make_room.ensures.wider in
     omega (arith, HasLabel-inside labels c.args.number l.0 l.1, c.requires.few, length_wider g.C.Number.value labels c.make_room.new.labels.items (length c.args.self.now.estimates.items) c.requires.few is)
 
@@ -46,7 +46,7 @@ relax-requires-clause-prices g c = λ j d h. c.requires.prices j d (rw c.deref.e
 pub relax-requires-clause-forest : goal.relax-requires-clause-forest
 relax-requires-clause-forest g c =
     let labels = c.args.self.now.labels.items in
-    let len : c.len-2.result ≡ length c.args.self.now.estimates.items = search rules in
+    let len : c.len-2.result ≡ length c.args.self.now.estimates.items = c.len-2.ensures ∙ c.args.self.now.estimates.ok.0 in
     let is = rw len at c.in_ok-make_room.ensures.wider in
     let w = widened g.C.Number.value labels c.make_room.new.labels.items (length c.args.self.now.estimates.items) c.requires.few is in
     forest_wider g.C.Number.value labels c.make_room.new.labels.items w.stays w.from c.requires.forest
@@ -54,7 +54,7 @@ relax-requires-clause-forest g c =
 pub relax-requires-clause-queue : goal.relax-requires-clause-queue
 relax-requires-clause-queue g c =
     let labels = c.args.self.now.labels.items in
-    let len : c.len-2.result ≡ length c.args.self.now.estimates.items = search rules in
+    let len : c.len-2.result ≡ length c.args.self.now.estimates.items = c.len-2.ensures ∙ c.args.self.now.estimates.ok.0 in
     let is = rw len at c.in_ok-make_room.ensures.wider in
     let w = widened g.C.Number.value labels c.make_room.new.labels.items (length c.args.self.now.estimates.items) c.requires.few is in
     rw c.in_ok-reserve.ensures.items (queue_wider g.C.Number.value labels c.make_room.new.labels.items w.stays c.args.self.now.estimates.items (heap_items c.args.self.now.queue) c.requires.queue)
@@ -62,7 +62,7 @@ relax-requires-clause-queue g c =
 pub returns-clause-followed : goal.returns-clause-followed
 returns-clause-followed g c = λ l h.
     let labels = c.args.self.now.labels.items in
-    let len : c.len-2.result ≡ length c.args.self.now.estimates.items = search rules in
+    let len : c.len-2.result ≡ length c.args.self.now.estimates.items = c.len-2.ensures ∙ c.args.self.now.estimates.ok.0 in
     let is = rw len at c.in_ok-make_room.ensures.wider in
     let w = widened g.C.Number.value labels c.make_room.new.labels.items (length c.args.self.now.estimates.items) c.requires.few is in
     let same : c.label_of-label.result ≡ l = label_is c.make_room.new.labels.items c.args.number c.label_of-label.result l c.label_of-label.ensures (w.stays c.args.number l h) in
@@ -76,7 +76,7 @@ returns-clause-followed g c = λ l h.
 pub returns-clause-wide : goal.returns-clause-wide
 returns-clause-wide g c =
     let labels = c.args.self.now.labels.items in
-    let len : c.len-2.result ≡ length c.args.self.now.estimates.items = search rules in
+    let len : c.len-2.result ≡ length c.args.self.now.estimates.items = c.len-2.ensures ∙ c.args.self.now.estimates.ok.0 in
     let is = rw len at c.in_ok-make_room.ensures.wider in
     c.relax.ensures.eased.len ∙ length_wider g.C.Number.value labels c.make_room.new.labels.items (length c.args.self.now.estimates.items) c.requires.few is
 
@@ -84,7 +84,7 @@ pub returns-clause-less : goal.returns-clause-less
 returns-clause-less g c =
     let labels = c.args.self.now.labels.items in
     let top = nat_of (g.C.Number.value g.C.Cost.greatest) in
-    let len : c.len-2.result ≡ length c.args.self.now.estimates.items = search rules in
+    let len : c.len-2.result ≡ length c.args.self.now.estimates.items = c.len-2.ensures ∙ c.args.self.now.estimates.ok.0 in
     let is = rw len at c.in_ok-make_room.ensures.wider in
     let w = work_wider g.C.Number.value labels c.make_room.new.labels.items (length c.args.self.now.estimates.items) c.requires.few is top (heap_len c.args.self.now.queue) (omega (arith, c.in_ok-make_room.ensures.few)) in
     less_work g.C.Number.value top c.make_room.new.labels.items c.relax.new.labels.items (heap_len c.reserve.new.self) (heap_len c.relax.new.queue) (heap_len c.args.self.now.queue) labels c.relax.ensures.eased.len c.relax.ensures.less c.in_ok-reserve.ensures.len w
