@@ -1,6 +1,6 @@
 -- Rows that are put in one after another.
 use Rattle.std.proofs.Common.{◌≡◌, ℕ, ◌+◌, ◌*◌, ◌<◌, refl, sym, ap, ◌∙◌, arith, List, [], ◌∷◌, ◌++◌, length, length-append, add-zero, take, drop, get_or, Some, None, Ok, Err, Option, inl, inr, ◌⊎◌}
-use Rattle.std.specs.Prelude.{◌≢◌, ◌/◌, MatchOption, Result, IsErrAnd, unwrap_or}
+use Rattle.std.specs.Prelude.{◌≢◌, ◌/◌, MatchOption, OnErr, Result, IsErrAnd, unwrap_or}
 use Rattle.std.specs.Borrow.{Bor}
 use Rattle.std.specs.List.{AllZip}
 use Rattle.std.proofs.lemmas.Bool.Decides.{nat_tests}
@@ -67,6 +67,10 @@ module _ {C : Type 0} where
   -- as many values as this number of rows of this width
   pub rows_matrix : (lists : List (List C)) (values : List C) (n w : ℕ) → 0 < w → n ≡ length values → values ≡ flat lists → AllOfLength w lists → n / w ≡ length lists
   rows_matrix lists values n w h e f a = ap (λ k. k / w) (e ∙ ap length f ∙ length-flat w lists a ∙ sym (add-zero (length lists * w))) ∙ div-mul-add (length lists) w 0 h
+
+pub on_err : {T E P : Type 0} (r : Result T E) → P → OnErr r P
+on_err (Ok x) p = tt
+on_err (Err e) p = p
 
 -- which error it is that `?` hands on
 pub refused_is : {T E : Type 0} (r : Result T E) (e v : E) → IsErrAnd r (λ x. x ≡ e) → r ≡ Err v → v ≡ e

@@ -49,10 +49,10 @@ impl<C, A: Allocator + Copy> Matrix<C, A> {
                 .neighbours(*position, diagonals)
                 .filter(move |neighbour| is_taken(table, *neighbour))
         });
-        let Ok(walk) = walk else {
+        let Ok(mut walk) = walk else {
             return Err(MatrixFormatError::OutOfMemory);
         };
-        gather_breadth(alloc, walk, self.rows * self.columns)
+        gather_breadth(alloc, &mut walk, self.rows * self.columns)
     }
 
     /// The positions that are reached from `start` by steps to neighbours that `predicate` takes, as
@@ -116,7 +116,7 @@ where
 /// All positions of a walk in breadth order, of which there are at most `places` and one more.
 fn gather_breadth<IN, FN, A>(
     alloc: A,
-    mut walk: BfsReachable<(usize, usize), IN, FN, A>,
+    walk: &mut BfsReachable<(usize, usize), IN, FN, A>,
     places: usize,
 ) -> Result<BTreeSet<(usize, usize), A>, MatrixFormatError>
 where
@@ -124,18 +124,18 @@ where
     FN: FnMut(&(usize, usize)) -> IN,
     A: Allocator + Copy,
     requires walk { (next : ℕ × ℕ → List (ℕ × ℕ)) × (start : ℕ × ℕ)
-        × IsBreadthWalk same_position (⟦<FN as SuccessorFunction<(usize, usize)>>⟧.answers) next start walk
+        × IsBreadthWalk same_position (⟦<FN as SuccessorFunction<(usize, usize)>>⟧.answers) next start walk.old
         × IsWithinPlaces next start places }
-    requires fresh { walk.given ≡ [] }
-    requires going { walk.refused ≡ false }
+    requires fresh { walk.old.given ≡ [] }
+    requires going { walk.old.refused ≡ false }
     ensures reached { (next : ℕ × ℕ → List (ℕ × ℕ)) (start : ℕ × ℕ)
-        → IsBreadthWalk same_position (⟦<FN as SuccessorFunction<(usize, usize)>>⟧.answers) next start walk
+        → IsBreadthWalk same_position (⟦<FN as SuccessorFunction<(usize, usize)>>⟧.answers) next start walk.old
         → IfOk result (HasReached next start) }
     ensures refused { IfErr result (λ e. e ≡ OutOfMemory) }
 {
     breadth_order_is_reach(PhantomData::<(usize, usize)>);
     let mut reached = Vec::new(alloc);
-    'steps: while let Some(position) = next_position(&mut walk)? {
+    'steps: while let Some(position) = next_position(walk)? {
         reached.push(position)?;
     }
     Ok(set_of(alloc, &reached)?)

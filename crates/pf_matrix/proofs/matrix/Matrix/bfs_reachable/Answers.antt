@@ -28,12 +28,15 @@ gather_breadth-requires g c =
     }
 
 pub returns-clause-reached : goal.returns-clause-reached
-unfolding gather_breadth-requires
 returns-clause-reached g c =
     let m = c.in_ok-passing.passing in
     let sizes = c.in_ok-passing.ensures in
-    let r = gather_breadth-requires g c.before.before in
+    let passes = answer_at m.rows m.columns m.values in
+    let next = passing_around m.rows m.columns c.args.diagonals passes in
+    let walks = c.in-Ok.ensures.graph next
+    (filtered_successors (λ ps. ⊤) (item_count (λ ps. ps)) passes (λ p. neighbours_of m.rows m.columns p.0 p.1 c.args.diagonals) (λ ps. (tt, tt)) (λ x. tt)
+    (λ x r t k. (search rules, search rules, (λ y. tt), (λ y b q l. (search rules, search rules))))) in
     let rows = sizes.rows ∙ ap (λ t. t.rows) c.self.view_is in
     let columns = sizes.columns ∙ ap (λ t. t.columns) c.self.view_is in
-    MatchResult-weaker c.gather_breadth.result (c.gather_breadth.ensures.reached r.walk.0 r.walk.1 r.walk.2)
+    MatchResult-weaker c.gather_breadth.result (c.gather_breadth.ensures.reached next c.args.start walks)
     (λ reached h. (m.values, given_on (ap (λ t. positions_of t) c.self.view_is) sizes.values, record { exactly = subst (λ (z : ℕ × ℕ). HasReached (passing_around z.0 z.1 c.args.diagonals (answer_at z.0 z.1 m.values)) c.args.start reached) (λ i. (rows i, columns i)) h })) (λ e t. tt)

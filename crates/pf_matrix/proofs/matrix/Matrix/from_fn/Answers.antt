@@ -5,6 +5,9 @@ use Rattle.pf_matrix.proofs.CallLemmas.{callable_first, callable_rest}
 use Rattle.pf_matrix.proofs.PositionLemmas.{length-positions}
 use Rattle.pf_matrix.proofs.matrix.Matrix.from_fn.Goals as goal
 
+pub of-position-items-requires : goal.of-position-items-requires
+of-position-items-requires g c = c.requires.filled
+
 pub loop-position-init : goal.loop-position-init
 loop-position-init g c =
     let all : c.into_iter-position-iterator.result ≡ positions c.args.rows c.args.columns = c.into_iter-position-iterator.ensures.into_iter_gives ∙ c.of-position-items.ensures in
@@ -29,3 +32,17 @@ loop-position-preserved g c =
 pub returns-clause-values : goal.returns-clause-values
 returns-clause-values g c =
     record { each = simp append-nil at (c.loop-position.invariant.calls [] (rw c.in-None.ensures.steps.0 tt)) }
+
+pub invariant_of-result : goal.invariant_of-result
+invariant_of-result g c = record {
+  sized = omega (arith, c.loop-position.invariant.count, ap length c.in-None.ensures.steps.0);
+  filled = c.requires.filled;
+  fits = c.requires.fits;
+}
+
+pub returns-clause-matrix : goal.returns-clause-matrix
+returns-clause-matrix g c = record {
+  sized = omega (arith, c.loop-position.invariant.count, ap length c.in-None.ensures.steps.0);
+  filled = c.requires.filled;
+  fits = c.requires.fits;
+}

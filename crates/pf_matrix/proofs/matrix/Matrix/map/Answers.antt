@@ -41,3 +41,12 @@ invariant_of-result g c =
       filled = c.self.invariant.filled;
       fits = c.self.invariant.fits;
     }
+
+pub returns-clause-rows : goal.returns-clause-rows
+returns-clause-rows g c = ap (λ t. t.rows) c.self.view_is
+
+pub returns-clause-columns : goal.returns-clause-columns
+returns-clause-columns g c = ap (λ t. t.columns) c.self.view_is
+
+pub returns-clause-matrix : goal.returns-clause-matrix
+returns-clause-matrix g c = invariant_of-result g c.before

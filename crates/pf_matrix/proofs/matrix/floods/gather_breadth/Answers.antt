@@ -4,7 +4,7 @@ use Rattle.pf_matrix.proofs.FloodLemmas.{at_none, at_some, contains_node, few_am
 use Rattle.pf_matrix.proofs.matrix.floods.gather_breadth.Goals as goal
 
 pub steps-init : goal.steps-init
-steps-init g c = gathers_none _ c.args.walk c.new-reached.result.items c.requires.fresh c.requires.going (search rules)
+steps-init g c = gathers_none _ c.args.walk.now c.new-reached.result.items c.requires.fresh c.requires.going (search rules)
 
 pub next_position-requires : goal.next_position-requires
 next_position-requires g c =
@@ -28,7 +28,7 @@ pub steps-preserved : goal.steps-preserved
 steps-preserved g c =
     let r = c.requires.walk in
     let step = at_some _ _ c.in_ok-position.field-0 c.in-Some.position c.in-Some.is (c.in_ok-position.ensures.steps r.0 r.1 (c.steps.invariant.kept r.0 r.1 r.2)).1 in
-    gathers_more _ c.args.walk c.steps.walk c.next_position.new.walk c.steps.reached.items c.push.new.self.items c.in-Some.position
+    gathers_more _ c.args.walk.now c.steps.walk c.next_position.new.walk c.steps.reached.items c.push.new.self.items c.in-Some.position
     c.steps.invariant (λ next start w. (c.in_ok-position.ensures.steps next start w).0) step.0 step.1 (search rules)
 
 pub returns-clause-reached : goal.returns-clause-reached
