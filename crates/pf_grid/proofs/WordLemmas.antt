@@ -1,11 +1,11 @@
 -- Bits in words: what one written word does to all bits.
-use Rattle.std.proofs.Common.{◌≡◌, ◌≢◌, ℕ, ◌+◌, ◌-◌, ◌*◌, ◌/◌, ◌%◌, ◌^◌, ◌<◌, ◌≤◌, ◌∙◌, refl, sym, ap, arith, min, suc, inl, inr, Bool, true, false, not, ◌||◌, ◌&&◌, nat_eq, nat_lt, List, length, get_or, bit_and, bit_or}
+use Rattle.std.proofs.Common.{◌≡◌, ◌≢◌, ℕ, ◌+◌, ◌-◌, ◌*◌, ◌/◌, ◌%◌, ◌^◌, ◌<◌, ◌≤◌, ◌∙◌, refl, sym, ap, arith, min, suc, inl, inr, replicate, Bool, true, false, not, ◌||◌, ◌&&◌, nat_eq, nat_lt, List, length, get_or, bit_and, bit_or}
 use Rattle.std.specs.Prelude.{slice_set, if◌then◌else◌}
 use Rattle.std.specs.Int.{bit_at, bit_not, w64}
 use Rattle.std.proofs.Math.Nat.{mul-le-mul_right, suc-mul, mul_comm, min-zero}
 use Rattle.std.proofs.lemmas.Bool.{cases_eq, cases_lt, cases_Bool, eq-eqb, eqb-true, lt-ltb, le-ltb}
 use Rattle.std.proofs.lemmas.Bool.Decides.{nat_tests}
-use Rattle.std.proofs.lemmas.List.{get_or-set_same, get_or-set_other}
+use Rattle.std.proofs.lemmas.List.{get_or-set_same, get_or-set_other, get_or-replicate, get_or_past, length-replicate}
 use Rattle.std.proofs.lemmas.Nat.{same_from_place, one_shl}
 use Rattle.std.proofs.lemmas.Nat.Bits.{bit_at_set_same, bit_at_set_other, bit_at_clear_same, bit_at_clear_other, bit_at_and, bit_at_ones, bit_at_ones_above, bit_at-lt, bit_at-zero, bit_at_not}
 use Rattle.pf_grid.specs.Internal.Words.{bit, row_words}
@@ -161,6 +161,19 @@ place_in per_row height x y h k = let r = row_in per_row height y k in omega ari
 
 pub no_bit : (i : ℕ) → nat_eq (bit_at 0 i) 1 ≡ false
 no_bit i = ap (λ k. nat_eq k 1) (bit_at-zero i)
+
+abbrev zeros : ℕ → List ℕ
+zeros k = replicate k 0
+
+zero_at : (k i : ℕ) → get_or (zeros k) i 0 ≡ 0
+zero_at k i = elim (cases_lt i k) as (λ _. get_or (zeros k) i 0 ≡ 0) [
+  | inl p ↦ get_or-replicate k i 0 0 p
+  | inr p ↦ get_or_past (zeros k) i 0 (omega (arith, length-replicate {A = ℕ} k 0, p))
+]
+
+-- words of 0 have no bit
+pub no_bits : (words : List ℕ) (k per_row x y : ℕ) → words ≡ replicate k 0 → bit words per_row x y ≡ false
+no_bits words k per_row x y e = bit_from_word words per_row x y 0 (ap (λ ws. get_or ws (y * per_row + x / 64) 0) e ∙ zero_at k (y * per_row + x / 64)) ∙ no_bit (x % 64)
 
 pub all_bits : (i : ℕ) → i < 64 → nat_eq (bit_at (2 ^ 64 - 1) i) 1 ≡ true
 all_bits i h = ap (λ k. nat_eq k 1) (bit_at_ones 64 i h)

@@ -1,6 +1,7 @@
 use Rattle.std.proofs.Common.{◌≡◌, ◌∙◌, ◌+◌, Bool, true, false, ◌||◌, take, get_or, ap, sym, refl, arith}
 use Rattle.std.specs.Prelude.{if◌then◌else◌}
-use Rattle.std.proofs.lemmas.List.{take_more}
+use Rattle.std.proofs.lemmas.List.{take_all, take_more}
+use Rattle.std.proofs.lemmas.Result.{IfOk-from_err}
 use Rattle.pf_grid.specs.Positions.{grid_of, is_position}
 use Rattle.pf_grid.specs.Vertices.{width_of, height_of, listed}
 use Rattle.pf_grid.proofs.CellLemmas.{put_more}
@@ -28,3 +29,14 @@ loop-position-preserved g c =
     let p = get_or ps i (0, 0) in
     put_more (grid_of (width_of ps) (height_of ps) false (λ x y. false)) c.loop-position.grid c.put.new.self p true (listed (take i ps)) (listed (take (i + 1) ps)) c.loop-position.invariant c.put.ensures (λ x y a b.
     or_if (is_position p x y) (listed (take i ps) x y) ∙ sym (any_more (λ q. is_position q x y) (take i ps) p) ∙ ap (λ l. listed l x y) (sym (take_more ps i (0, 0) c.loop-position-test.true)))
+
+pub loop-position-init : goal.loop-position-init
+loop-position-init g c = c.in_ok-grid.ensures.made ∙ (λ i. grid_of (c.in-Some.ensures.0 i) (c.in-Some.ensures.1 i) false (λ x y. false))
+
+pub returns-clause-made : goal.returns-clause-made
+returns-clause-made g c =
+    let ps = c.args.positions.now in
+    c.loop-position.invariant ∙ ap (λ qs. grid_of (width_of ps) (height_of ps) false (listed qs)) (take_all c.loop-position.position-index ps c.loop-position-test.false)
+
+pub returns-in_err-grid-clause-made : goal.returns-in_err-grid-clause-made
+returns-in_err-grid-clause-made g c = IfOk-from_err _ _ c.from_residual.ensures.0

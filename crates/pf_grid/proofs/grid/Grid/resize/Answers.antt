@@ -3,6 +3,7 @@ use Rattle.std.specs.Prelude.{if◌then◌else◌}
 use Rattle.std.specs.List.{list_any}
 use Rattle.std.proofs.lemmas.Bool.{lt-ltb, le-ltb, cases_lt, cases_Bool}
 use Rattle.std.proofs.lemmas.List.{append-nil, append_assoc}
+use Rattle.std.proofs.lemmas.Result.{IfOk-from_err}
 use Rattle.pf_grid.specs.Positions.{grid_of, has, in_mode, is_position}
 use Rattle.pf_grid.specs.Vertices.{listed, vertices_of}
 use Rattle.pf_grid.proofs.CellLemmas.{put_more, same_grids}
@@ -31,6 +32,9 @@ elsewhere w h v x y p q out = elim (cases_Bool (is_position v x y)) as (λ _. is
   | inl i ↦ let at = same_coordinates v x y i in absurd (true≢false (sym (inside_both w h v.0 v.1 (omega (arith, at.0)) (omega (arith, at.1))) ∙ out))
   | inr e ↦ e
 ]
+
+pub put-requires : goal.put-requires
+put-requires g c = c.is_inside.ensures.0 c.if-is_inside.true
 
 pub loop-vertex-preserved-then-is_inside : goal.loop-vertex-preserved-then-is_inside
 loop-vertex-preserved-then-is_inside g c =
@@ -72,3 +76,23 @@ returns-clause-resized g c =
     ap (λ z. in_mode z c.self.inside.diagonal) (c.resized-2.view_is ∙ c.loop-vertex.invariant.kept)
     ∙ ap (λ d. grid_of w h d (listed ps)) (ap (λ z. z.diagonal) c.self.view_is)
     ∙ same_grids w h now.diagonal (listed ps) (has now) (λ x y i j. ap (λ l. listed l x y) all ∙ listed_vertices now x y)
+
+pub returns-in_err-resized-clause-resized : goal.returns-in_err-resized-clause-resized
+returns-in_err-resized-clause-resized g c = IfOk-from_err _ _ c.from_residual.ensures.0
+
+pub returns-in_err-resized-clause-lost : goal.returns-in_err-resized-clause-lost
+returns-in_err-resized-clause-lost g c = IfOk-from_err _ _ c.from_residual.ensures.0
+
+pub loop-vertex-init : goal.loop-vertex-init
+loop-vertex-init g c = record {
+  all = c.into_iter-vertex-iterator.ensures.into_iter_gives ∙ c.iter-vertex-items.ensures.vertices;
+  kept = c.in_ok-resized.ensures.made;
+  lost = refl;
+}
+
+pub returns-clause-lost : goal.returns-clause-lost
+returns-clause-lost g c =
+    let now = c.args.self.now in
+    let ps = c.loop-vertex.yielded in
+    let all : ps ≡ vertices_of now = sym (append-nil ps) ∙ ap (λ l. ps ++ l) (sym c.in-None.ensures.steps.0) ∙ c.loop-vertex.invariant.all in
+    c.loop-vertex.invariant.lost ∙ ap (λ l. list_any (λ p. not (nat_lt p.0 c.args.width && nat_lt p.1 c.args.height)) l) all

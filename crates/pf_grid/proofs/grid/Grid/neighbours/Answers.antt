@@ -1,0 +1,29 @@
+use Rattle.std.proofs.Common.{◌∙◌, ◌++◌, [], ◌∷◌, sym, ap}
+use Rattle.std.proofs.lemmas.List.{append-nil, append_assoc}
+use Rattle.std.proofs.lemmas.Result.{IfOk-from_err}
+use Rattle.pf_grid.proofs.grid.Grid.neighbours.Goals as goal
+
+pub returns-in_err-found-clause-neighbours : goal.returns-in_err-found-clause-neighbours
+returns-in_err-found-clause-neighbours g c = IfOk-from_err _ _ c.from_residual.ensures.0
+
+pub loop-neighbour-init : goal.loop-neighbour-init
+loop-neighbour-init g c =
+    ap (λ l. l ++ c.into_iter-neighbour-iterator.result) c.in_ok-found.ensures.items
+    ∙ c.into_iter-neighbour-iterator.ensures.into_iter_gives
+    ∙ c.around-neighbour-items.ensures
+
+pub loop-neighbour-preserved : goal.loop-neighbour-preserved
+loop-neighbour-preserved g c =
+    let found = c.loop-neighbour.found.items in
+    ap (λ l. l ++ c.next.new.self) c.in_ok-push.ensures.items
+    ∙ append_assoc found (c.in-Some.neighbour ∷ []) c.next.new.self
+    ∙ ap (λ l. found ++ l) (sym c.in-Some.ensures.steps)
+    ∙ c.loop-neighbour.invariant
+
+pub returns-in_err-push-clause-neighbours : goal.returns-in_err-push-clause-neighbours
+returns-in_err-push-clause-neighbours g c = IfOk-from_err _ _ c.from_residual-in_err-push.ensures.0
+
+pub returns-clause-neighbours : goal.returns-clause-neighbours
+returns-clause-neighbours g c =
+    let found = c.loop-neighbour.found.items in
+    sym (append-nil found) ∙ ap (λ l. found ++ l) (sym c.in-None.ensures.steps.0) ∙ c.loop-neighbour.invariant
