@@ -15,3 +15,7 @@ module _ {T E : Type 0} where
   pub on_refused : (P : Type 0) (r : Result T E) (e : E) → IsErrAnd r (λ x. x ≡ e) → OnOk r P
   on_refused P (Ok x) e h = absurd h
   on_refused P (Err x) e h = tt
+
+  pub refused_by : (P : E → Type 0) (r : Result T E) → IsErrAnd r P → IfErr r P
+  refused_by P (Ok x) h = tt
+  refused_by P (Err x) h = h

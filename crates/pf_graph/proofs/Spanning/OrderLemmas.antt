@@ -20,7 +20,7 @@ reverse_lt Less n = refl
 reverse_lt Equal n = refl
 reverse_lt Greater n = absurd (n refl)
 
-lt_reverse : (o : Ordering) → is_lt o ≡ false → ordering_reverse o ≢ Greater
+pub lt_reverse : (o : Ordering) → is_lt o ≡ false → ordering_reverse o ≢ Greater
 lt_reverse Less e = λ g. cc
 lt_reverse Equal e = λ g. cc
 lt_reverse Greater e = λ g. cc

@@ -3,6 +3,7 @@ use Rattle.std.specs.Prelude.{neg_ℤ}
 use Rattle.std.proofs.lemmas.Int.{ints}
 use Rattle.pf_graph.specs.Assignments.{assignment_total}
 use Rattle.pf_graph.proofs.Assignment.MatchingBest.{fit_negated, assignment_negated, total_negated, least_of, total_fits, negation_fits}
+use Rattle.pf_graph.proofs.Outcomes.{refused_as, if_refused}
 use Rattle.pf_graph.proofs.kuhn_munkres.kuhn_munkres_min.Goals as goal
 
 pub neg-requires : goal.neg-requires
@@ -37,3 +38,19 @@ returns-clause-total g c =
 
 pub returns-clause-least : goal.returns-clause-least
 returns-clause-least g c = least_of (g.W.Weights.table c.args.weights.now) (g.W.Weights.table c.in_ok-negated.negated) c.in_ok-negated.ensures.negated c.in_ok-total.columns.items c.in_ok-total.ensures.best
+
+pub returns-in_err-negated : goal.returns-in_err-negated
+returns-in_err-negated g c = record {
+  assignment = if_refused _ c.from_residual.result _ c.from_residual.ensures.1;
+  total = if_refused _ c.from_residual.result _ c.from_residual.ensures.1;
+  least = if_refused _ c.from_residual.result _ c.from_residual.ensures.1;
+  refused = refused_as _ c.from_residual.result _ c.from_residual.ensures.1 c.in_err-negated.ensures.refused;
+}
+
+pub returns-in_err-total : goal.returns-in_err-total
+returns-in_err-total g c = record {
+  assignment = if_refused _ c.from_residual-in_err-total.result _ c.from_residual-in_err-total.ensures.1;
+  total = if_refused _ c.from_residual-in_err-total.result _ c.from_residual-in_err-total.ensures.1;
+  least = if_refused _ c.from_residual-in_err-total.result _ c.from_residual-in_err-total.ensures.1;
+  refused = refused_as _ c.from_residual-in_err-total.result _ c.from_residual-in_err-total.ensures.1 c.in_err-total.ensures.refused;
+}

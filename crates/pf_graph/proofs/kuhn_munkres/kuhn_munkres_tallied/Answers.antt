@@ -1,8 +1,15 @@
-use Rattle.std.proofs.Common.{rules, ◌≡◌, ◌+◌, ◌∙◌, ap, ℕ, arith, length}
+use Rattle.std.proofs.Common.{rules, ◌≡◌, ◌≤◌, ◌+◌, ◌∙◌, ap, ℕ, arith, length}
 use Rattle.std.proofs.lemmas.Nat.{mul-le}
 use Rattle.pf_graph.specs.Assignments.{assignment_total}
 use Rattle.pf_graph.proofs.Assignment.MatchingBest.{best_of, matched_none}
+use Rattle.pf_graph.proofs.Outcomes.{refused_as, if_refused}
 use Rattle.pf_graph.proofs.kuhn_munkres.kuhn_munkres_tallied.Goals as goal
+
+refl_le : (n : ℕ) → n ≤ n
+refl_le n = omega arith
+
+more_le : (n k : ℕ) → n ≤ n + k
+more_le n k = omega arith
 
 pub loop-row-init : goal.loop-row-init
 loop-row-init g c =
@@ -50,13 +57,42 @@ match_row-requires-clause-left g c = let r = c.loop-row.invariant.rows in omega 
 pub returns-clause-total : goal.returns-clause-total
 returns-clause-total g c = c.total_of-total.ensures ∙ ap (assignment_total (g.W.Weights.table c.args.weights.now)) c.deref.ensures.value
 
-pub returns-in_err-match_row-clause-rounds : goal.returns-in_err-match_row-clause-rounds
-returns-in_err-match_row-clause-rounds g c =
+pub returns-in_err-matching : goal.returns-in_err-matching
+returns-in_err-matching g c = record {
+  assignment = if_refused _ c.from_residual.result _ c.from_residual.ensures.1;
+  total = if_refused _ c.from_residual.result _ c.from_residual.ensures.1;
+  best = if_refused _ c.from_residual.result _ c.from_residual.ensures.1;
+  refused = refused_as _ c.from_residual.result _ c.from_residual.ensures.1 c.in_err-matching.ensures.refused;
+  ticked = refl_le _;
+  rounds = more_le _ _;
+}
+
+pub returns-in_err-tree : goal.returns-in_err-tree
+returns-in_err-tree g c = record {
+  assignment = if_refused _ c.from_residual-in_err-tree.result _ c.from_residual-in_err-tree.ensures.1;
+  total = if_refused _ c.from_residual-in_err-tree.result _ c.from_residual-in_err-tree.ensures.1;
+  best = if_refused _ c.from_residual-in_err-tree.result _ c.from_residual-in_err-tree.ensures.1;
+  refused = refused_as _ c.from_residual-in_err-tree.result _ c.from_residual-in_err-tree.ensures.1 c.in_err-tree.ensures.refused;
+  ticked = refl_le _;
+  rounds = more_le _ _;
+}
+
+pub returns-in_err-match_row : goal.returns-in_err-match_row
+returns-in_err-match_row g c =
     let rows = (g.W.Weights.table c.args.weights.now).rows in
     let most = mul-le (c.loop-row._row + 1) rows rows rows (omega arith) (omega arith) in
     let before = c.loop-row.invariant.rounds in
     let last = c.in_err-match_row.ensures.rounds in
-    omega (arith, most, before, last)
+    let ticked = c.loop-row.invariant.ticked in
+    let more = c.in_err-match_row.ensures.ticked in
+    record {
+      assignment = if_refused _ c.from_residual-in_err-match_row.result _ c.from_residual-in_err-match_row.ensures.1;
+      total = if_refused _ c.from_residual-in_err-match_row.result _ c.from_residual-in_err-match_row.ensures.1;
+      best = if_refused _ c.from_residual-in_err-match_row.result _ c.from_residual-in_err-match_row.ensures.1;
+      refused = refused_as _ c.from_residual-in_err-match_row.result _ c.from_residual-in_err-match_row.ensures.1 c.in_err-match_row.ensures.refused;
+      ticked = omega (arith, ticked, more);
+      rounds = omega (arith, most, before, last);
+    }
 
 pub returns-clause-assignment : goal.returns-clause-assignment
 returns-clause-assignment g c =

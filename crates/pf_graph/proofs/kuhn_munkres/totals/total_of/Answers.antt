@@ -1,7 +1,8 @@
-use Rattle.std.proofs.Common.{ℕ, ◌<◌, ◌+◌, arith}
-use Rattle.std.specs.Prelude.{slice_index}
+use Rattle.std.proofs.Common.{ℕ, ◌<◌, ◌+◌, arith, ap, ◌∙◌, add-one}
+use Rattle.std.specs.Prelude.{slice_index, ◌+ℤ◌}
 use Rattle.std.proofs.lemmas.Int.{ints}
 use Rattle.pf_graph.proofs.Assignment.MatchingWeights.{room, sum_to-bound}
+use Rattle.pf_graph.specs.Assignments.{sum_to}
 use Rattle.pf_graph.proofs.kuhn_munkres.totals.total_of.Goals as goal
 
 pub plus-total-requires-clause-negation : goal.plus-total-requires-clause-negation
@@ -30,3 +31,10 @@ plus-total-requires-clause-sum g c =
     let b0 = b.0 in
     let b1 = b.1 in
     room g.C.Number.fits (λ x y z. g.C.Number.between_law x y z g.met.C.Integral.exact_law) t c.requires.fit (c.loop-row.row + 1) (omega (arith, row)) _ (omega (arith, ints, b0, s0, e, i)) (omega (arith, ints, b1, s1, e, i))
+
+pub loop-row-preserved : goal.loop-row-preserved
+loop-row-preserved g c =
+    let value = g.C.Number.value in
+    let t = g.W.Weights.table c.args.weights.now in
+    let f = λ (r : ℕ). t.at r (slice_index c.args.column_of.now r) in
+    rw add-one (c.plus-total.ensures ∙ ap (λ z. z +ℤ value c.at.result) c.loop-row.invariant ∙ ap (λ z. sum_to f c.loop-row.row +ℤ z) c.at.ensures)

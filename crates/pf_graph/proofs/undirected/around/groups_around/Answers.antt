@@ -3,6 +3,8 @@ use Rattle.pf_base.specs.Walks.{HasNode}
 use Rattle.pf_base.proofs.Asking.{Answers-takes, Answers-gives, Answers-on, Gives-ends, Gives-drains}
 use Rattle.pf_graph.specs.Internal.Components.Around.{AreGroupsAround}
 use Rattle.pf_graph.proofs.Components.AroundLemmas.{group_made, groups_more, node_at}
+use Rattle.std.proofs.lemmas.Result.{IfOk-from_err}
+use Rattle.pf_graph.proofs.Outcomes.{refused_by, refused_as, if_refused}
 use Rattle.pf_graph.proofs.undirected.around.groups_around.Goals as goal
 
 pub adjacent-items-requires : goal.adjacent-items-requires
@@ -40,3 +42,21 @@ loop-start-preserved g c =
 pub returns-clause-groups : goal.returns-clause-groups
 returns-clause-groups g c = λ next a.
     subst (λ xs. AreGroupsAround g.N.PartialEq.eq next xs c.loop-start.groups.items) (take_all c.loop-start.start-index c.args.starts.now c.loop-start-test.false) (c.loop-start.invariant.groups next a)
+
+pub returns-in_err-groups : goal.returns-in_err-groups
+returns-in_err-groups g c = record {
+  groups = IfOk-from_err _ _ c.from_residual.ensures.0;
+  refused = refused_by _ c.from_residual.result c.from_residual.ensures.1;
+}
+
+pub returns-in_err-group_around : goal.returns-in_err-group_around
+returns-in_err-group_around g c = record {
+  groups = if_refused _ c.from_residual-in_err-group_around.result _ c.from_residual-in_err-group_around.ensures.1;
+  refused = refused_as _ c.from_residual-in_err-group_around.result _ c.from_residual-in_err-group_around.ensures.1 c.in_err-group_around.ensures.refused;
+}
+
+pub returns-in_err-push : goal.returns-in_err-push
+returns-in_err-push g c = record {
+  groups = IfOk-from_err _ _ c.from_residual-in_err-push.ensures.0;
+  refused = refused_by _ c.from_residual-in_err-push.result c.from_residual-in_err-push.ensures.1;
+}

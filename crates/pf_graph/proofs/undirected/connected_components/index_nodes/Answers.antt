@@ -3,6 +3,8 @@ use Rattle.std.specs.HashMap.{get}
 use Rattle.std.specs.List.{list_any}
 use Rattle.std.proofs.lemmas.List.{append_assoc, append-nil}
 use Rattle.pf_graph.proofs.Components.IndexLemmas.{index_more}
+use Rattle.std.proofs.lemmas.Result.{IfOk-from_err}
+use Rattle.pf_graph.proofs.Outcomes.{refused_by}
 use Rattle.pf_graph.proofs.undirected.connected_components.index_nodes.Goals as goal
 
 pub loop-node-init : goal.loop-node-init
@@ -22,3 +24,15 @@ pub returns-clause-indexed : goal.returns-clause-indexed
 returns-clause-indexed g c = λ x.
     let i = c.loop-node.invariant in
     i.indexed x ∙ ap (λ xs. if list_any (g.N.PartialEq.eq x) xs then Some c.args.index else get g.N.PartialEq.eq c.args.of_node.now x) (sym (append-nil i.done) ∙ ap (λ xs. i.done ++ xs) (sym c.in-None.ensures.steps.0) ∙ i.all)
+
+pub returns-in_err-clone : goal.returns-in_err-clone
+returns-in_err-clone g c = record {
+  indexed = IfOk-from_err _ _ c.from_residual.ensures.0;
+  refused = refused_by _ c.from_residual.result c.from_residual.ensures.1;
+}
+
+pub returns-in_err-insert : goal.returns-in_err-insert
+returns-in_err-insert g c = record {
+  indexed = IfOk-from_err _ _ c.from_residual-in_err-insert.ensures.0;
+  refused = refused_by _ c.from_residual-in_err-insert.result c.from_residual-in_err-insert.ensures.1;
+}

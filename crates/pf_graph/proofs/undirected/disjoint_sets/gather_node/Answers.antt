@@ -5,6 +5,8 @@ use Rattle.std.proofs.lemmas.Option.{slice_get_read, slice_get_within}
 use Rattle.pf_graph.specs.Internal.Components.DisjointSets.{IsGathered}
 use Rattle.std.specs.Prelude.{slice_get, Some}
 use Rattle.pf_graph.proofs.Components.DisjointSetLemmas.{added_new, added_known, merged_anyway, gathered_again, gathered_new}
+use Rattle.std.proofs.lemmas.Result.{IfOk-from_err}
+use Rattle.pf_graph.proofs.Outcomes.{refused_by}
 use Rattle.pf_graph.proofs.undirected.disjoint_sets.gather_node.Goals as goal
 
 pub returns-in_ok-push-clause-gathered : goal.returns-in_ok-push-clause-gathered
@@ -31,3 +33,15 @@ returns-else-added-clause-gathered g c = λ pairs h.
 
 pub unite-requires-clause-sound : goal.unite-requires-clause-sound
 unite-requires-clause-sound g c = c.requires.gathered.1.sound
+
+pub returns-in_err-number : goal.returns-in_err-number
+returns-in_err-number g c = record {
+  gathered = IfOk-from_err _ _ c.from_residual.ensures.0;
+  refused = refused_by _ c.from_residual.result c.from_residual.ensures.1;
+}
+
+pub returns-in_err-push : goal.returns-in_err-push
+returns-in_err-push g c = record {
+  gathered = IfOk-from_err _ _ c.from_residual-in_err-push.ensures.0;
+  refused = refused_by _ c.from_residual-in_err-push.result c.from_residual-in_err-push.ensures.1;
+}

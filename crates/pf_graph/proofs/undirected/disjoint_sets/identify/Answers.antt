@@ -1,6 +1,8 @@
 use Rattle.std.proofs.Common.{sym, subst, ◌∙◌, ap, ℕ, length, take, take_all, ◌+◌, arith, length-append}
 use Rattle.pf_graph.specs.Internal.Components.DisjointSets.{IsIdOf, Identifies}
 use Rattle.pf_graph.proofs.Components.DisjointSetLemmas.{Identifies-more}
+use Rattle.std.proofs.lemmas.Result.{IfOk-from_err}
+use Rattle.pf_graph.proofs.Outcomes.{refused_by}
 use Rattle.pf_graph.proofs.undirected.disjoint_sets.identify.Goals as goal
 
 pub loop-group-preserved : goal.loop-group-preserved
@@ -22,3 +24,17 @@ loop-group-preserved g c =
 pub returns-clause-identified : goal.returns-clause-identified
 returns-clause-identified g c = λ label l.
     subst (λ gs. Identifies label (length c.args.groups.now) gs c.loop-group.ids.items) (take_all c.loop-group.group c.args.groups.now c.loop-group-test.false) (c.loop-group.invariant.labels label l).1
+
+pub returns-in_err-ids : goal.returns-in_err-ids
+returns-in_err-ids g c = record {
+  len = IfOk-from_err _ _ c.from_residual.ensures.0;
+  identified = IfOk-from_err _ _ c.from_residual.ensures.0;
+  refused = refused_by _ c.from_residual.result c.from_residual.ensures.1;
+}
+
+pub returns-in_err-push : goal.returns-in_err-push
+returns-in_err-push g c = record {
+  len = IfOk-from_err _ _ c.from_residual-in_err-push.ensures.0;
+  identified = IfOk-from_err _ _ c.from_residual-in_err-push.ensures.0;
+  refused = refused_by _ c.from_residual-in_err-push.result c.from_residual-in_err-push.ensures.1;
+}

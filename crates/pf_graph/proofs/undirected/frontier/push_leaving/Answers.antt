@@ -5,6 +5,8 @@ use Rattle.std.proofs.lemmas.List.{take_more}
 use Rattle.pf_graph.specs.Internal.Spanning.Frontier.{IsMarked, Gains, waiting_order}
 use Rattle.pf_graph.proofs.ListLemmas.{get_contains}
 use Rattle.pf_graph.proofs.Spanning.FrontierLemmas.{Gains-skip, Gains-push}
+use Rattle.std.proofs.lemmas.Result.{IfOk-from_err}
+use Rattle.pf_graph.proofs.Outcomes.{refused_by}
 use Rattle.pf_graph.proofs.undirected.frontier.push_leaving.Goals as goal
 use Rattle.pf_graph.proofs.undirected.frontier.push_leaving.Goals.{then-not-covered-step+in_ok-push, else-not-covered-step}
 
@@ -34,3 +36,10 @@ steps-preserved g c =
                 (Gains-skip before covered (heap_items c.args.queue.now) (heap_items c.steps.queue) s stale c.steps.invariant.gains));
           }
     ]
+
+pub returns-in_err-push : goal.returns-in_err-push
+returns-in_err-push g c = record {
+  ordered = IfOk-from_err _ _ c.from_residual.ensures.0;
+  gains = IfOk-from_err _ _ c.from_residual.ensures.0;
+  refused = refused_by _ c.from_residual.result c.from_residual.ensures.1;
+}

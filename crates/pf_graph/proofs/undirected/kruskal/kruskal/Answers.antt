@@ -6,6 +6,7 @@ use Rattle.pf_graph.specs.declared.undirected.weighed.Weighed.{Weighed}
 use Rattle.pf_graph.specs.Spanning.{IsForest, IsLeastUnderEveryBound, AreChosenFrom}
 use Rattle.pf_graph.proofs.Spanning.NameLemmas.{numbered_below, written_forest, written_least, written_given, written_sorted}
 use Rattle.pf_graph.proofs.undirected.kruskal.kruskal.Given.{Over}
+use Rattle.pf_graph.proofs.Outcomes.{refused_as, if_refused}
 use Rattle.pf_graph.proofs.undirected.kruskal.kruskal.Goals as goal
 use Rattle.pf_graph.proofs.undirected.kruskal.kruskal.Goals.{After-into_iter}
 
@@ -39,3 +40,30 @@ pub returns-clause-sorted : goal.returns-clause-sorted
 returns-clause-sorted g c =
     subst (λ xs. IsSorted (λ (e f : g.row.N.Denot × g.row.N.Denot × g.row.C.Denot). g.C.Ord.cmp e.2 f.2) (map shown xs)) (sym c.into_iter.ensures.rest)
     (written_sorted g.C.Ord.cmp c.in_ok-chosen.chosen.items (map shown c.in_ok-written.written.items) c.in_ok-written.ensures.written c.in_ok-chosen.ensures.sorted)
+
+pub returns-in_err-numbered : goal.returns-in_err-numbered
+returns-in_err-numbered g c = record {
+  forest = if_refused _ c.from_residual.result _ c.from_residual.ensures.1;
+  least = if_refused _ c.from_residual.result _ c.from_residual.ensures.1;
+  as_written = if_refused _ c.from_residual.result _ c.from_residual.ensures.1;
+  sorted = if_refused _ c.from_residual.result _ c.from_residual.ensures.1;
+  refused = refused_as _ c.from_residual.result _ c.from_residual.ensures.1 c.in_err-numbered.ensures.refused;
+}
+
+pub returns-in_err-chosen : goal.returns-in_err-chosen
+returns-in_err-chosen g c = record {
+  forest = if_refused _ c.from_residual-in_err-chosen.result _ c.from_residual-in_err-chosen.ensures.1;
+  least = if_refused _ c.from_residual-in_err-chosen.result _ c.from_residual-in_err-chosen.ensures.1;
+  as_written = if_refused _ c.from_residual-in_err-chosen.result _ c.from_residual-in_err-chosen.ensures.1;
+  sorted = if_refused _ c.from_residual-in_err-chosen.result _ c.from_residual-in_err-chosen.ensures.1;
+  refused = refused_as _ c.from_residual-in_err-chosen.result _ c.from_residual-in_err-chosen.ensures.1 c.in_err-chosen.ensures.refused;
+}
+
+pub returns-in_err-written : goal.returns-in_err-written
+returns-in_err-written g c = record {
+  forest = if_refused _ c.from_residual-in_err-written.result _ c.from_residual-in_err-written.ensures.1;
+  least = if_refused _ c.from_residual-in_err-written.result _ c.from_residual-in_err-written.ensures.1;
+  as_written = if_refused _ c.from_residual-in_err-written.result _ c.from_residual-in_err-written.ensures.1;
+  sorted = if_refused _ c.from_residual-in_err-written.result _ c.from_residual-in_err-written.ensures.1;
+  refused = refused_as _ c.from_residual-in_err-written.result _ c.from_residual-in_err-written.ensures.1 c.in_err-written.ensures.refused;
+}

@@ -1,13 +1,21 @@
-use Rattle.std.proofs.Common.{◌≡◌, ℕ, sym, ap, subst, ◌∙◌, rules}
-use Rattle.std.specs.Prelude.{All, map}
+use Rattle.std.proofs.Common.{◌≡◌, ℕ, sym, ap, subst, ◌∙◌, rules, inl}
+use Rattle.std.specs.Prelude.{All, map, Result, Ok, Err, IsErrAnd}
 use Rattle.std.specs.List.Sorted.{IsSorted}
 use Rattle.pf_graph.specs.declared.undirected.weighed.Weighed.{Weighed}
 use Rattle.pf_graph.specs.Spanning.{IsLeastForest}
 use Rattle.pf_graph.proofs.Spanning.NameLemmas.{numbered_below}
 use Rattle.pf_graph.proofs.Spanning.WeightLemmas.{written_of, sorted_keys, least_forest, sum_of_forest}
 use Rattle.pf_graph.proofs.undirected.kruskal.spanning_weight.Given.{Over}
+use Rattle.pf_graph.proofs.Outcomes.{if_refused, refused_as}
+use Rattle.pf_base.specs.declared.error.PathError.{PathError}
+use Rattle.pf_base.specs.declared.error.PathError.TheVariants.{OutOfMemory, CostOverflow}
 use Rattle.pf_graph.proofs.undirected.kruskal.spanning_weight.Goals as goal
 use Rattle.pf_graph.proofs.undirected.kruskal.spanning_weight.Goals.{After-deref-2}
+
+-- a refusal for memory is no overflow
+not_overflow : {T : Type 0} (r : Result T PathError) (e : PathError) → IsErrAnd r (λ x. x ≡ e) → e ≡ OutOfMemory → r ≡ Err CostOverflow → ⊥
+not_overflow (Ok x) e h m o = absurd h
+not_overflow (Err x) e h m o = let same : x ≡ OutOfMemory = h ∙ m in cc
 
 pub spanning_forest-requires : goal.spanning_forest-requires
 spanning_forest-requires g c =
@@ -41,3 +49,24 @@ returns-clause-overflow g c = λ _.
       chosen-forest g d,
       λ fits. c.in-None.ensures (subst (λ z. g.C.Number.fits z) (sym (sum_of_forest g.C.Number.value c.in_ok-chosen.chosen.items c.deref-2.result.now (weights-are g d))) fits),
     )
+
+pub returns-in_err-numbered : goal.returns-in_err-numbered
+returns-in_err-numbered g c = record {
+  total = if_refused _ c.from_residual.result _ c.from_residual.ensures.1;
+  overflow = λ e. absurd (not_overflow c.from_residual.result _ c.from_residual.ensures.1 c.in_err-numbered.ensures.refused e);
+  refused = refused_as _ c.from_residual.result _ c.from_residual.ensures.1 (inl c.in_err-numbered.ensures.refused);
+}
+
+pub returns-in_err-chosen : goal.returns-in_err-chosen
+returns-in_err-chosen g c = record {
+  total = if_refused _ c.from_residual-in_err-chosen.result _ c.from_residual-in_err-chosen.ensures.1;
+  overflow = λ e. absurd (not_overflow c.from_residual-in_err-chosen.result _ c.from_residual-in_err-chosen.ensures.1 c.in_err-chosen.ensures.refused e);
+  refused = refused_as _ c.from_residual-in_err-chosen.result _ c.from_residual-in_err-chosen.ensures.1 (inl c.in_err-chosen.ensures.refused);
+}
+
+pub returns-in_err-weights : goal.returns-in_err-weights
+returns-in_err-weights g c = record {
+  total = if_refused _ c.from_residual-in_err-weights.result _ c.from_residual-in_err-weights.ensures.1;
+  overflow = λ e. absurd (not_overflow c.from_residual-in_err-weights.result _ c.from_residual-in_err-weights.ensures.1 c.in_err-weights.ensures.refused e);
+  refused = refused_as _ c.from_residual-in_err-weights.result _ c.from_residual-in_err-weights.ensures.1 (inl c.in_err-weights.ensures.refused);
+}

@@ -4,6 +4,8 @@ use Rattle.std.specs.List.{list_any}
 use Rattle.std.proofs.lemmas.Option.{slice_get-get_or, slice_get_read}
 use Rattle.pf_graph.specs.Internal.Components.DisjointSets.{IsCollected}
 use Rattle.pf_graph.proofs.Components.CollectLemmas.{collected_again, collected_new}
+use Rattle.std.proofs.lemmas.Result.{IfOk-from_err}
+use Rattle.pf_graph.proofs.Outcomes.{refused_by}
 use Rattle.pf_graph.proofs.undirected.node_sets.add_node.Goals as goal
 
 pub returns-in_ok-insert-in-Some-clause-collected : goal.returns-in_ok-insert-in-Some-clause-collected
@@ -29,3 +31,27 @@ index_mut-requires g c =
     let inside = c.requires.collected.1.inside c.args.id c.in-Some.place at in
     let n : vec_len c.args.sets.now ≡ length c.args.sets.now.items = search rules in
     omega (arith, inside, n)
+
+pub returns-in_err-copy : goal.returns-in_err-copy
+returns-in_err-copy g c = record {
+  collected = IfOk-from_err _ _ c.from_residual.ensures.0;
+  refused = refused_by _ c.from_residual.result c.from_residual.ensures.1;
+}
+
+pub returns-in_err-insert-in-Some : goal.returns-in_err-insert-in-Some
+returns-in_err-insert-in-Some g c = record {
+  collected = IfOk-from_err _ _ c.from_residual-in_err-insert-in-Some.ensures.0;
+  refused = refused_by _ c.from_residual-in_err-insert-in-Some.result c.from_residual-in_err-insert-in-Some.ensures.1;
+}
+
+pub returns-in_err-insert-in-None : goal.returns-in_err-insert-in-None
+returns-in_err-insert-in-None g c = record {
+  collected = IfOk-from_err _ _ c.from_residual-in_err-insert-in-None.ensures.0;
+  refused = refused_by _ c.from_residual-in_err-insert-in-None.result c.from_residual-in_err-insert-in-None.ensures.1;
+}
+
+pub returns-in_err-push-in-None : goal.returns-in_err-push-in-None
+returns-in_err-push-in-None g c = record {
+  collected = IfOk-from_err _ _ c.from_residual-in_err-push-in-None.ensures.0;
+  refused = refused_by _ c.from_residual-in_err-push-in-None.result c.from_residual-in_err-push-in-None.ensures.1;
+}

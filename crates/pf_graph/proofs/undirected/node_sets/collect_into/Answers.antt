@@ -2,6 +2,7 @@ use Rattle.std.proofs.Common.{[], ◌∷◌, ◌++◌, ◌≡◌, ◌<◌, ℕ, 
 use Rattle.std.proofs.lemmas.Option.{slice_get-get_or, slice_get_read}
 use Rattle.pf_graph.specs.Internal.Components.DisjointSets.{AreDone}
 use Rattle.pf_graph.proofs.Components.CollectLemmas.{AreDone-none, AreDone-more}
+use Rattle.pf_graph.proofs.Outcomes.{refused_as, on_refused}
 use Rattle.pf_graph.proofs.undirected.node_sets.collect_into.Goals as goal
 
 pub loop-number-init : goal.loop-number-init
@@ -37,3 +38,9 @@ add_node-requires-clause-inside g c =
     let id : ℕ = slice_index_or c.args.ids.now j 0 in
     let inside = c.requires.inside c.loop-number.number 0 c.loop-number-test.true in
     subst (λ (n : ℕ). id < n) (sym c.loop-number.auto.place_of) (c.requires.below c.loop-number.number 0 c.loop-number-test.true id (slice_get-get_or c.args.ids.now j 0 inside))
+
+pub returns-in_err-add_node : goal.returns-in_err-add_node
+returns-in_err-add_node g c = record {
+  collected = on_refused _ c.from_residual.result _ c.from_residual.ensures.1;
+  refused = refused_as _ c.from_residual.result _ c.from_residual.ensures.1 c.in_err-add_node.ensures.refused;
+}

@@ -4,6 +4,8 @@ use Rattle.std.proofs.lemmas.List.{map-append, take_more}
 use Rattle.std.proofs.lemmas.List.Elements.{All-nil, All-push, All-same}
 use Rattle.pf_graph.specs.Internal.NumberedEdges.{IsNumbered, IsWeighed}
 use Rattle.pf_graph.proofs.NumberLemmas.{IsNumbered-none, IsNumbered-more}
+use Rattle.std.proofs.lemmas.Result.{IfOk-from_err}
+use Rattle.pf_graph.proofs.Outcomes.{refused_by}
 use Rattle.pf_graph.proofs.undirected.numbered.number_into.Goals as goal
 
 pub loop-edge-init : goal.loop-edge-init
@@ -41,3 +43,35 @@ returns-clause-in_order g c = c.loop-edge.invariant.in_order ∙ take_all c.loop
 
 pub returns-clause-weighed : goal.returns-clause-weighed
 returns-clause-weighed g c = c.loop-edge.invariant.weighed
+
+pub returns-in_err-from : goal.returns-in_err-from
+returns-in_err-from g c = record {
+  numbered = IfOk-from_err _ _ c.from_residual.ensures.0;
+  in_order = IfOk-from_err _ _ c.from_residual.ensures.0;
+  weighed = IfOk-from_err _ _ c.from_residual.ensures.0;
+  refused = refused_by _ c.from_residual.result c.from_residual.ensures.1;
+}
+
+pub returns-in_err-to : goal.returns-in_err-to
+returns-in_err-to g c = record {
+  numbered = IfOk-from_err _ _ c.from_residual-in_err-to.ensures.0;
+  in_order = IfOk-from_err _ _ c.from_residual-in_err-to.ensures.0;
+  weighed = IfOk-from_err _ _ c.from_residual-in_err-to.ensures.0;
+  refused = refused_by _ c.from_residual-in_err-to.result c.from_residual-in_err-to.ensures.1;
+}
+
+pub returns-in_err-weight : goal.returns-in_err-weight
+returns-in_err-weight g c = record {
+  numbered = IfOk-from_err _ _ c.from_residual-in_err-weight.ensures.0;
+  in_order = IfOk-from_err _ _ c.from_residual-in_err-weight.ensures.0;
+  weighed = IfOk-from_err _ _ c.from_residual-in_err-weight.ensures.0;
+  refused = refused_by _ c.from_residual-in_err-weight.result c.from_residual-in_err-weight.ensures.1;
+}
+
+pub returns-in_err-push : goal.returns-in_err-push
+returns-in_err-push g c = record {
+  numbered = IfOk-from_err _ _ c.from_residual-in_err-push.ensures.0;
+  in_order = IfOk-from_err _ _ c.from_residual-in_err-push.ensures.0;
+  weighed = IfOk-from_err _ _ c.from_residual-in_err-push.ensures.0;
+  refused = refused_by _ c.from_residual-in_err-push.result c.from_residual-in_err-push.ensures.1;
+}

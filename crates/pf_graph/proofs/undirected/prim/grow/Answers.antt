@@ -6,6 +6,8 @@ use Rattle.pf_graph.specs.EdgesByReference.{shown}
 use Rattle.pf_graph.specs.Internal.Spanning.Frontier.{WaitsSave, IsGrown}
 use Rattle.pf_graph.proofs.Spanning.FrontierLemmas.{open_count, open_less, WaitsSave-start, WaitsSave-taken}
 use Rattle.pf_graph.proofs.Spanning.GrowLemmas.{IsGrown-start, IsGrown-push, IsGrown-end}
+use Rattle.pf_graph.proofs.Outcomes.{refused_as, if_refused, refused_by}
+use Rattle.std.proofs.lemmas.Result.{IfOk-from_err}
 use Rattle.pf_graph.proofs.undirected.prim.grow.Goals as goal
 
 pub cover-requires-clause-waits : goal.cover-requires-clause-waits
@@ -81,3 +83,27 @@ cover-requires-in-Some-clause-steps g c = c.requires.steps
 
 pub cover-requires-in-Some-clause-ordered : goal.cover-requires-in-Some-clause-ordered
 cover-requires-in-Some-clause-ordered g c = c.next_leaving.ensures.ordered
+
+pub returns-in_err-cover : goal.returns-in_err-cover
+returns-in_err-cover g c = record {
+  grown = if_refused _ c.from_residual.result _ c.from_residual.ensures.1;
+  refused = refused_as _ c.from_residual.result _ c.from_residual.ensures.1 c.in_err-cover.ensures.refused;
+}
+
+pub returns-in_err-clone : goal.returns-in_err-clone
+returns-in_err-clone g c = record {
+  grown = IfOk-from_err _ _ c.from_residual-in_err-clone.ensures.0;
+  refused = refused_by _ c.from_residual-in_err-clone.result c.from_residual-in_err-clone.ensures.1;
+}
+
+pub returns-in_err-push : goal.returns-in_err-push
+returns-in_err-push g c = record {
+  grown = IfOk-from_err _ _ c.from_residual-in_err-push.ensures.0;
+  refused = refused_by _ c.from_residual-in_err-push.result c.from_residual-in_err-push.ensures.1;
+}
+
+pub returns-in_err-cover-2 : goal.returns-in_err-cover-2
+returns-in_err-cover-2 g c = record {
+  grown = if_refused _ c.from_residual-in_err-cover-2.result _ c.from_residual-in_err-cover-2.ensures.1;
+  refused = refused_as _ c.from_residual-in_err-cover-2.result _ c.from_residual-in_err-cover-2.ensures.1 c.in_err-cover-2.ensures.refused;
+}

@@ -11,6 +11,7 @@ use Rattle.pf_graph.proofs.Spanning.ForestLemmas.{IsForest-nil}
 use Rattle.pf_graph.proofs.Spanning.NameLemmas.{numbered_below}
 use Rattle.pf_graph.proofs.Spanning.PrimLemmas.{no_mark, no_start, first_is, start_is, are_rows, steps_inside, first_stands, first_inside}
 use Rattle.pf_graph.proofs.Spanning.TreeLemmas.{grown_forest, grown_least}
+use Rattle.pf_graph.proofs.Outcomes.{refused_as, if_refused}
 use Rattle.pf_graph.proofs.undirected.prim.prim.Goals as goal
 
 pub returns-in_default-clause-none : goal.returns-in_default-clause-none
@@ -128,3 +129,33 @@ returns-clause-as_written g c =
     let rows = subst (λ rs. AreRows g.N.PartialEq.eq n.0 edges rs) (sym c.deref-3.ensures.value) (are_rows edges numbered in_order n.0 n.2 c.in_ok-rows.rows.items steps len) in
     let stands = first_stands edges numbered in_order n.0 n.2 c.in_ok-rows.rows.items steps len first at in
     IfOk-weaker c.grow.result _ _ (λ tree p. let q = p n.0 edges first.2.edge.now.0 rows stands in q.1) c.grow.ensures.grown
+
+pub returns-in_err-numbered : goal.returns-in_err-numbered
+returns-in_err-numbered g c = record {
+  none = λ _. if_refused _ c.from_residual.result _ c.from_residual.ensures.1;
+  grown = if_refused _ c.from_residual.result _ c.from_residual.ensures.1;
+  forest = if_refused _ c.from_residual.result _ c.from_residual.ensures.1;
+  least = if_refused _ c.from_residual.result _ c.from_residual.ensures.1;
+  as_written = if_refused _ c.from_residual.result _ c.from_residual.ensures.1;
+  refused = refused_as _ c.from_residual.result _ c.from_residual.ensures.1 c.in_err-numbered.ensures.refused;
+}
+
+pub returns-in_err-rows : goal.returns-in_err-rows
+returns-in_err-rows g c = record {
+  none = λ _. if_refused _ c.from_residual-in_err-rows.result _ c.from_residual-in_err-rows.ensures.1;
+  grown = if_refused _ c.from_residual-in_err-rows.result _ c.from_residual-in_err-rows.ensures.1;
+  forest = if_refused _ c.from_residual-in_err-rows.result _ c.from_residual-in_err-rows.ensures.1;
+  least = if_refused _ c.from_residual-in_err-rows.result _ c.from_residual-in_err-rows.ensures.1;
+  as_written = if_refused _ c.from_residual-in_err-rows.result _ c.from_residual-in_err-rows.ensures.1;
+  refused = refused_as _ c.from_residual-in_err-rows.result _ c.from_residual-in_err-rows.ensures.1 c.in_err-rows.ensures.refused;
+}
+
+pub returns-in_err-covered : goal.returns-in_err-covered
+returns-in_err-covered g c = record {
+  none = λ _. if_refused _ c.from_residual-in_err-covered.result _ c.from_residual-in_err-covered.ensures.1;
+  grown = if_refused _ c.from_residual-in_err-covered.result _ c.from_residual-in_err-covered.ensures.1;
+  forest = if_refused _ c.from_residual-in_err-covered.result _ c.from_residual-in_err-covered.ensures.1;
+  least = if_refused _ c.from_residual-in_err-covered.result _ c.from_residual-in_err-covered.ensures.1;
+  as_written = if_refused _ c.from_residual-in_err-covered.result _ c.from_residual-in_err-covered.ensures.1;
+  refused = refused_as _ c.from_residual-in_err-covered.result _ c.from_residual-in_err-covered.ensures.1 c.in_err-covered.ensures.refused;
+}

@@ -4,6 +4,8 @@ use Rattle.std.proofs.lemmas.List.{map-id}
 use Rattle.std.proofs.lemmas.Iterator.Adapters.{YieldsList-from_vec}
 use Rattle.std.proofs.lemmas.Iterator.Consumers.{YieldsList-so_far, YieldsList-turn, YieldsList-end}
 use Rattle.pf_graph.proofs.Spanning.KruskalLemmas.{Grown, Grown-start, Grown-take, Grown-skip, heavy}
+use Rattle.std.proofs.lemmas.Result.{IfOk-from_err}
+use Rattle.pf_graph.proofs.Outcomes.{refused_by}
 use Rattle.pf_graph.proofs.undirected.spanning.choose_edges.Goals as goal
 
 pub edges-init : goal.edges-init
@@ -65,3 +67,12 @@ returns-clause-forest g c = c.edges.invariant.grown.forest
 
 pub returns-clause-sorted : goal.returns-clause-sorted
 returns-clause-sorted g c = c.edges.invariant.grown.sorted
+
+pub returns-in_err-push : goal.returns-in_err-push
+returns-in_err-push g c = record {
+  forest = IfOk-from_err _ _ c.from_residual.ensures.0;
+  least = IfOk-from_err _ _ c.from_residual.ensures.0;
+  given = IfOk-from_err _ _ c.from_residual.ensures.0;
+  sorted = IfOk-from_err _ _ c.from_residual.ensures.0;
+  refused = refused_by _ c.from_residual.result c.from_residual.ensures.1;
+}

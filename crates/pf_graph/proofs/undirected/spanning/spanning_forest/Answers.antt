@@ -4,6 +4,8 @@ use Rattle.std.proofs.lemmas.List.Sorted.{All-permutation, Contains-permutation,
 use Rattle.pf_graph.specs.Spanning.{AreBelow}
 use Rattle.pf_graph.specs.Internal.UnionFind.{IsSound, IsLabelling}
 use Rattle.pf_graph.proofs.Spanning.CopyLemmas.{least_of_permutation}
+use Rattle.pf_graph.proofs.Outcomes.{refused_as, if_refused, refused_by}
+use Rattle.std.proofs.lemmas.Result.{IfOk-from_err}
 use Rattle.pf_graph.proofs.undirected.spanning.spanning_forest.Goals as goal
 
 pub choose_edges-requires-clause-below : goal.choose_edges-requires-clause-below
@@ -35,3 +37,30 @@ returns-clause-forest g c = c.in_ok-choose_edges.ensures.forest
 
 pub returns-clause-sorted : goal.returns-clause-sorted
 returns-clause-sorted g c = c.in_ok-choose_edges.ensures.sorted
+
+pub returns-in_err-vertices : goal.returns-in_err-vertices
+returns-in_err-vertices g c = record {
+  forest = if_refused _ c.from_residual.result _ c.from_residual.ensures.1;
+  least = if_refused _ c.from_residual.result _ c.from_residual.ensures.1;
+  given = if_refused _ c.from_residual.result _ c.from_residual.ensures.1;
+  sorted = if_refused _ c.from_residual.result _ c.from_residual.ensures.1;
+  refused = refused_as _ c.from_residual.result _ c.from_residual.ensures.1 c.in_err-vertices.ensures.refused;
+}
+
+pub returns-in_err-chosen : goal.returns-in_err-chosen
+returns-in_err-chosen g c = record {
+  forest = IfOk-from_err _ _ c.from_residual-in_err-chosen.ensures.0;
+  least = IfOk-from_err _ _ c.from_residual-in_err-chosen.ensures.0;
+  given = IfOk-from_err _ _ c.from_residual-in_err-chosen.ensures.0;
+  sorted = IfOk-from_err _ _ c.from_residual-in_err-chosen.ensures.0;
+  refused = refused_by _ c.from_residual-in_err-chosen.result c.from_residual-in_err-chosen.ensures.1;
+}
+
+pub returns-in_err-choose_edges : goal.returns-in_err-choose_edges
+returns-in_err-choose_edges g c = record {
+  forest = if_refused _ c.from_residual-in_err-choose_edges.result _ c.from_residual-in_err-choose_edges.ensures.1;
+  least = if_refused _ c.from_residual-in_err-choose_edges.result _ c.from_residual-in_err-choose_edges.ensures.1;
+  given = if_refused _ c.from_residual-in_err-choose_edges.result _ c.from_residual-in_err-choose_edges.ensures.1;
+  sorted = if_refused _ c.from_residual-in_err-choose_edges.result _ c.from_residual-in_err-choose_edges.ensures.1;
+  refused = refused_as _ c.from_residual-in_err-choose_edges.result _ c.from_residual-in_err-choose_edges.ensures.1 c.in_err-choose_edges.ensures.refused;
+}

@@ -1,5 +1,6 @@
 use Rattle.std.proofs.Common.{◌<◌, ◌∙◌, ℕ, sym, subst, refl}
 use Rattle.pf_graph.proofs.Spanning.StepLemmas.{HoldSteps-none, HoldSteps-more}
+use Rattle.pf_graph.proofs.Outcomes.{refused_as, if_refused}
 use Rattle.pf_graph.proofs.undirected.steps.rows_of.Goals as goal
 
 pub loop-numbered-init : goal.loop-numbered-init
@@ -21,3 +22,24 @@ pub add_step-requires-in-loop-numbered : goal.add_step-requires-in-loop-numbered
 add_step-requires-in-loop-numbered g c =
     let below = subst (λ e. (e.0 < c.args.count) × (e.1 < c.args.count)) (sym c.numbered-item.is) (c.requires.below c.loop-numbered.numbered-index c.numbered-item.result c.loop-numbered-test.true) in
     record { inside = subst (λ (n : ℕ). c.numbered-item.result.1 < n) (sym (c.in_ok-add_step.ensures.len ∙ c.loop-numbered.invariant.len)) below.1 }
+
+pub returns-in_err-rows : goal.returns-in_err-rows
+returns-in_err-rows g c = record {
+  len = if_refused _ c.from_residual.result _ c.from_residual.ensures.1;
+  steps = if_refused _ c.from_residual.result _ c.from_residual.ensures.1;
+  refused = refused_as _ c.from_residual.result _ c.from_residual.ensures.1 c.in_err-rows.ensures.refused;
+}
+
+pub returns-in_err-add_step : goal.returns-in_err-add_step
+returns-in_err-add_step g c = record {
+  len = if_refused _ c.from_residual-in_err-add_step.result _ c.from_residual-in_err-add_step.ensures.1;
+  steps = if_refused _ c.from_residual-in_err-add_step.result _ c.from_residual-in_err-add_step.ensures.1;
+  refused = refused_as _ c.from_residual-in_err-add_step.result _ c.from_residual-in_err-add_step.ensures.1 c.in_err-add_step.ensures.refused;
+}
+
+pub returns-in_err-add_step-2 : goal.returns-in_err-add_step-2
+returns-in_err-add_step-2 g c = record {
+  len = if_refused _ c.from_residual-in_err-add_step-2.result _ c.from_residual-in_err-add_step-2.ensures.1;
+  steps = if_refused _ c.from_residual-in_err-add_step-2.result _ c.from_residual-in_err-add_step-2.ensures.1;
+  refused = refused_as _ c.from_residual-in_err-add_step-2.result _ c.from_residual-in_err-add_step-2.ensures.1 c.in_err-add_step-2.ensures.refused;
+}

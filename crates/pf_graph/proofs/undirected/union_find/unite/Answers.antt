@@ -1,4 +1,4 @@
-use Rattle.std.proofs.Common.{sym, ◌∙◌}
+use Rattle.std.proofs.Common.{refl, sym, ◌∙◌}
 use Rattle.pf_graph.proofs.UnionFindLemmas.{Merges-at, Merges-at_other}
 use Rattle.pf_graph.proofs.undirected.union_find.unite.Goals as goal
 
@@ -19,3 +19,9 @@ returns-else-vertices-first-clause-labels c = λ label l.
     let at_one = other.0.at_root c.find-first.result (c.find-second.ensures.roots c.find-first.result c.find-first.ensures.root) in
     let at_other = other.0.at_root c.find-second.result c.find-second.ensures.root in
     (after.0, after.1, (λ e. c.if-first-second.false (one.1 ∙ e ∙ sym other.1), Merges-at label _ _ _ _ after.0 (at_one ∙ one.1) (at_other ∙ other.1) after.2))
+
+pub returns-then-first-second-clause-labels : goal.returns-then-first-second-clause-labels
+returns-then-first-second-clause-labels c = λ label l.
+    let one = c.find-first.ensures.labels label l in
+    let other = c.find-second.ensures.labels label one.0 in
+    (label, other.0, (sym one.1 ∙ c.if-first-second.true ∙ other.1, λ x. refl))

@@ -1,9 +1,17 @@
-use Rattle.std.proofs.Common.{rules, ◌+◌, ◌-◌, arith, inr}
+use Rattle.std.proofs.Common.{rules, ◌+◌, ◌-◌, arith, inr, inl}
 use Rattle.pf_graph.specs.Cycles.{IsStepRefusal}
 use Rattle.pf_graph.proofs.CycleLemmas.{differ, agree}
 use Rattle.pf_graph.proofs.BrentLemmas.{begin_round, next_step, next_power, round_met, round_refused, power_fits}
 use Rattle.pf_graph.proofs.directed.cycle_detection.brent_method.meeting.Goals.{then-length-power+in_ok-power+in_ok-waiting-2, else-length-power}
+use Rattle.std.specs.Prelude.{Result, Ok, Err, IfErr, IsErrAnd}
+use Rattle.std.proofs.lemmas.Result.{IfOk-from_err}
+use Rattle.pf_graph.proofs.Outcomes.{refused_as}
 use Rattle.pf_graph.proofs.directed.cycle_detection.brent_method.meeting.Goals as goal
+
+-- what an error that a call hands on is
+refusal : {T E : Type 0} (P Q : E → Type 0) → ((e : E) → P e → Q e) → (r : Result T E) → IsErrAnd r P → IfErr r Q
+refusal P Q f (Ok x) h = absurd h
+refusal P Q f (Err x) h = f x h
 
 pub loop-power-init : goal.loop-power-init
 loop-power-init g c = λ next a.
@@ -17,7 +25,7 @@ returns-in_err-power-clause-refused g c = λ next a.
     let differs = differ (g.T.PartialEq.eq c.loop-power.waiting c.loop-power.moving) c.ne.result c.ne.ensures c.loop-power-test.true in
     let past = round_refused g.met.T.Eq.laws a.alike c.loop-power.waiting c.loop-power.moving c.loop-power.power c.loop-power.length (c.loop-power.invariant next a) differs c.if-length-power.true c.in_err-power.ensures.refused.1 in
     let refused : IsStepRefusal g.T.PartialEq.eq next c.args.start.now c.in_err-power.field-0.0 = inr (c.in_err-power.ensures.refused.0, past) in
-    search (rules, refused)
+    refused_as (IsStepRefusal g.T.PartialEq.eq next c.args.start.now) c.from_residual-in_err-power.result c.in_err-power.field-0.0 c.from_residual-in_err-power.ensures.1 refused
 
 pub step-moving-requires : goal.step-moving-requires
 step-moving-requires g c =
@@ -75,3 +83,30 @@ returns-clause-cycle g c = λ next a.
 
 pub returns-clause-value : goal.returns-clause-value
 returns-clause-value g c = λ next a. (c.loop-power.invariant next a).moves
+
+pub returns-in_err-power-clause-cycle : goal.returns-in_err-power-clause-cycle
+returns-in_err-power-clause-cycle g c = λ next a. IfOk-from_err _ _ c.from_residual-in_err-power.ensures.0
+
+pub returns-in_err-power-clause-value : goal.returns-in_err-power-clause-value
+returns-in_err-power-clause-value g c = λ next a. IfOk-from_err _ _ c.from_residual-in_err-power.ensures.0
+
+pub returns-in_err-waiting : goal.returns-in_err-waiting
+returns-in_err-waiting g c = record {
+  cycle = λ next a. IfOk-from_err _ _ c.from_residual.ensures.0;
+  value = λ next a. IfOk-from_err _ _ c.from_residual.ensures.0;
+  refused = λ next a. refusal _ (IsStepRefusal g.T.PartialEq.eq next c.args.start.now) (λ e m. inl m) c.from_residual.result c.from_residual.ensures.1;
+}
+
+pub returns-in_err-clone : goal.returns-in_err-clone
+returns-in_err-clone g c = record {
+  cycle = λ next a. IfOk-from_err _ _ c.from_residual-in_err-clone.ensures.0;
+  value = λ next a. IfOk-from_err _ _ c.from_residual-in_err-clone.ensures.0;
+  refused = λ next a. refusal _ (IsStepRefusal g.T.PartialEq.eq next c.args.start.now) (λ e m. inl m) c.from_residual-in_err-clone.result c.from_residual-in_err-clone.ensures.1;
+}
+
+pub returns-in_err-waiting-2 : goal.returns-in_err-waiting-2
+returns-in_err-waiting-2 g c = record {
+  cycle = λ next a. IfOk-from_err _ _ c.from_residual-in_err-waiting-2.ensures.0;
+  value = λ next a. IfOk-from_err _ _ c.from_residual-in_err-waiting-2.ensures.0;
+  refused = λ next a. refusal _ (IsStepRefusal g.T.PartialEq.eq next c.args.start.now) (λ e m. inl m) c.from_residual-in_err-waiting-2.result c.from_residual-in_err-waiting-2.ensures.1;
+}

@@ -1,8 +1,16 @@
-use Rattle.std.proofs.Common.{rules, ◌+◌, arith, inr}
+use Rattle.std.proofs.Common.{rules, ◌+◌, arith, inr, inl}
 use Rattle.pf_graph.specs.Cycles.{IsStepRefusal}
 use Rattle.pf_graph.proofs.CycleLemmas.{after_next, after_equal, same_after, differ, agree}
 use Rattle.pf_graph.proofs.FloydLemmas.{begin_round, next_round, round_met, round_refused}
+use Rattle.std.specs.Prelude.{Result, Ok, Err, IfErr, IsErrAnd}
+use Rattle.std.proofs.lemmas.Result.{IfOk-from_err}
+use Rattle.pf_graph.proofs.Outcomes.{refused_as}
 use Rattle.pf_graph.proofs.directed.cycle_detection.floyd_method.meeting.Goals as goal
+
+-- what an error that a call hands on is
+refusal : {T E : Type 0} (P Q : E → Type 0) → ((e : E) → P e → Q e) → (r : Result T E) → IsErrAnd r P → IfErr r Q
+refusal P Q f (Ok x) h = absurd h
+refusal P Q f (Err x) h = f x h
 
 pub call-fast-requires : goal.call-fast-requires
 call-fast-requires g c =
@@ -27,7 +35,7 @@ returns-in_err-steps-clause-refused g c = λ next a.
     let differs = differ (g.T.PartialEq.eq c.loop-steps.slow c.loop-steps.fast) c.ne.result c.ne.ensures c.loop-steps-test.true in
     let past = round_refused g.met.T.Eq.laws a.alike c.loop-steps.slow c.loop-steps.fast c.loop-steps.steps (c.loop-steps.invariant next a) differs c.in_err-steps.ensures.refused.1 in
     let refused : IsStepRefusal g.T.PartialEq.eq next c.args.start.now c.in_err-steps.field-0.0 = inr (c.in_err-steps.ensures.refused.0, past) in
-    search (rules, refused)
+    refused_as (IsStepRefusal g.T.PartialEq.eq next c.args.start.now) c.from_residual-in_err-steps.result c.in_err-steps.field-0.0 c.from_residual-in_err-steps.ensures.1 refused
 
 pub step-slow-requires : goal.step-slow-requires
 step-slow-requires g c =
@@ -82,3 +90,30 @@ returns-clause-cycle g c = λ next a.
 
 pub returns-clause-value : goal.returns-clause-value
 returns-clause-value g c = λ next a. (c.loop-steps.invariant next a).slow_at
+
+pub returns-in_err-steps-clause-cycle : goal.returns-in_err-steps-clause-cycle
+returns-in_err-steps-clause-cycle g c = λ next a. IfOk-from_err _ _ c.from_residual-in_err-steps.ensures.0
+
+pub returns-in_err-steps-clause-value : goal.returns-in_err-steps-clause-value
+returns-in_err-steps-clause-value g c = λ next a. IfOk-from_err _ _ c.from_residual-in_err-steps.ensures.0
+
+pub returns-in_err-clone : goal.returns-in_err-clone
+returns-in_err-clone g c = record {
+  cycle = λ next a. IfOk-from_err _ _ c.from_residual.ensures.0;
+  value = λ next a. IfOk-from_err _ _ c.from_residual.ensures.0;
+  refused = λ next a. refusal _ (IsStepRefusal g.T.PartialEq.eq next c.args.start.now) (λ e m. inl m) c.from_residual.result c.from_residual.ensures.1;
+}
+
+pub returns-in_err-clone-2 : goal.returns-in_err-clone-2
+returns-in_err-clone-2 g c = record {
+  cycle = λ next a. IfOk-from_err _ _ c.from_residual-in_err-clone-2.ensures.0;
+  value = λ next a. IfOk-from_err _ _ c.from_residual-in_err-clone-2.ensures.0;
+  refused = λ next a. refusal _ (IsStepRefusal g.T.PartialEq.eq next c.args.start.now) (λ e m. inl m) c.from_residual-in_err-clone-2.result c.from_residual-in_err-clone-2.ensures.1;
+}
+
+pub returns-in_err-length : goal.returns-in_err-length
+returns-in_err-length g c = record {
+  cycle = λ next a. IfOk-from_err _ _ c.from_residual-in_err-length.ensures.0;
+  value = λ next a. IfOk-from_err _ _ c.from_residual-in_err-length.ensures.0;
+  refused = λ next a. refused_as (IsStepRefusal g.T.PartialEq.eq next c.args.start.now) c.from_residual-in_err-length.result _ c.from_residual-in_err-length.ensures.1 (inl c.in_err-length.ensures.refused);
+}

@@ -1,10 +1,12 @@
-use Rattle.std.proofs.Common.{rules, ◌≡◌, ◌<◌, ◌++◌, ◌∷◌, [], arith, ap, sym, subst, ◌∙◌, ℕ, length, true, Some, take, drop}
+use Rattle.std.proofs.Common.{rules, ◌≡◌, ◌<◌, ◌≤◌, ◌+◌, ◌++◌, ◌∷◌, [], arith, ap, sym, subst, ◌∙◌, ℕ, length, true, Some, take, drop}
 use Rattle.std.specs.Prelude.{neg_ℤ, ◌+ℤ◌, ◌-ℤ◌, slice_index, slice_set}
 use Rattle.std.proofs.lemmas.List.{take_at}
+use Rattle.std.proofs.lemmas.Result.{IfOk-from_err}
 use Rattle.pf_graph.specs.Assignments.{number}
 use Rattle.pf_graph.specs.Internal.Assignment.AssignmentSteps.{holder, flag, raised, IsMatching, IsMatched, IsAlternatingTree, IsFlipped}
 use Rattle.pf_graph.proofs.Assignment.MatchingBounds.{step_difference, step_negation, step_sum, step_rest, depth_negation}
 use Rattle.pf_graph.proofs.Assignment.MatchingRaise.{nearest_number, rooted_of, augment_lists}
+use Rattle.pf_graph.proofs.Outcomes.{refused_by}
 use Rattle.pf_graph.proofs.kuhn_munkres.matching.Matching.augment.Goals as goal
 
 pub raise_columns-requires-clause-difference : goal.raise_columns-requires-clause-difference
@@ -112,10 +114,10 @@ returns-clause-matched g c =
     (subst (λ xs. IsFlipped (length c.deref_mut-3.result.now) (length c.deref_mut-4.result.now) (length c.deref-6.result.now) c.args.column (slice_index c.deref_mut-3.result.now) (holder c.deref_mut-4.result.now) (slice_index c.deref-6.result.now) (slice_index xs) (slice_index c.flip_path-left.new.column_of) (holder c.flip_path-left.new.row_of) c.flip_path-left.result) c.deref-7.ensures.value c.flip_path-left.ensures.flipped))) in
     let last = subst (λ xs. slice_index xs c.flip_path-left.result ≡ 0) c.deref-7.ensures.value c.flip_path-left.ensures.root in
     let root : c.len-root.result ≡ length m.column_of.items = search rules in
-    let lr : length c.flip_path-left.new.row_of ≡ length m.row_of.items = search rules in
-    let lc : length c.flip_path-left.new.column_of ≡ length m.column_of.items = search rules in
-    let lu : length c.lower_rows.new.potentials ≡ length m.row_potentials.items = search rules in
-    let lv : length c.raise_columns.new.potentials ≡ length m.column_potentials.items = search rules in
+    let lr : length c.flip_path-left.new.row_of ≡ length m.row_of.items = c.flip_path-left.auto.row_of ∙ ap length c.deref_mut-4.ensures.value in
+    let lc : length c.flip_path-left.new.column_of ≡ length m.column_of.items = c.flip_path-left.auto.column_of ∙ ap length c.deref_mut-3.ensures.value in
+    let lu : length c.lower_rows.new.potentials ≡ length m.row_potentials.items = c.lower_rows.auto.potentials ∙ ap length c.deref_mut-2.ensures.value in
+    let lv : length c.raise_columns.new.potentials ≡ length m.column_potentials.items = c.raise_columns.auto.potentials ∙ ap length c.deref_mut.ensures.value in
     let nr : m.row_of.len ≡ length m.row_of.items = search rules in
     let nc : m.column_of.len ≡ length m.column_of.items = search rules in
     let nu : m.row_potentials.len ≡ length m.row_potentials.items = search rules in
@@ -150,3 +152,35 @@ flip_path-left-requires-clause-matching g c =
     subst (λ xs. IsMatching (length xs) (length c.deref_mut-4.result.now) (slice_index xs) (holder c.deref_mut-4.result.now)) (sym c.deref_mut-3.ensures.value)
     (subst (λ xs. IsMatching (length m.column_of.items) (length xs) (slice_index m.column_of.items) (holder xs)) (sym c.deref_mut-4.ensures.value)
     (subst (λ (n : ℕ). IsMatching (length m.column_of.items) n (slice_index m.column_of.items) (holder m.row_of.items)) (sym c.requires.next.matched.wide) c.requires.next.matched.matching))
+
+pub raise_columns-requires-clause-visited : goal.raise_columns-requires-clause-visited
+raise_columns-requires-clause-visited g c = ap length c.deref.ensures.value ∙ c.requires.tree.visited_len ∙ sym (ap length c.deref_mut.ensures.value ∙ c.requires.next.matched.columns)
+
+pub raise_columns-requires-clause-distances : goal.raise_columns-requires-clause-distances
+raise_columns-requires-clause-distances g c = ap length c.deref-2.ensures.value ∙ c.requires.tree.distances_len ∙ sym (ap length c.deref_mut.ensures.value ∙ c.requires.next.matched.columns)
+
+below_next : (n k : ℕ) → k ≡ n + 1 → n ≤ k
+below_next n k e = omega (arith, e)
+
+pub lower_rows-requires-clause-rows : goal.lower_rows-requires-clause-rows
+lower_rows-requires-clause-rows g c = below_next _ _ (ap length c.deref_mut-2.ensures.value ∙ c.requires.next.rows ∙ ap (λ (n : ℕ). n + 1) (sym (ap length c.deref-3.ensures.value)))
+
+pub lower_rows-requires-clause-distances : goal.lower_rows-requires-clause-distances
+lower_rows-requires-clause-distances g c = ap length c.deref-5.ensures.value ∙ c.requires.tree.distances_len ∙ sym (ap length c.deref-4.ensures.value ∙ c.requires.tree.visited_len)
+
+pub flip_path-left-requires-clause-places : goal.flip_path-left-requires-clause-places
+flip_path-left-requires-clause-places g c = ap length c.deref-7.ensures.value ∙ c.requires.tree.places_len ∙ sym (ap length c.deref_mut-4.ensures.value ∙ c.requires.next.matched.wide)
+
+pub flip_path-left-requires-clause-inside : goal.flip_path-left-requires-clause-inside
+flip_path-left-requires-clause-inside g c = subst (λ (n : ℕ). c.args.column < n) (sym (ap length c.deref_mut-4.ensures.value ∙ c.requires.next.matched.wide)) c.requires.nearest.inside
+
+pub flip_path-left-requires-clause-free : goal.flip_path-left-requires-clause-free
+flip_path-left-requires-clause-free g c = ap (λ xs. holder xs c.args.column) c.deref_mut-4.ensures.value ∙ c.requires.free
+
+pub returns-in_err-push : goal.returns-in_err-push
+returns-in_err-push g c = record {
+  matched = IfOk-from_err _ _ c.from_residual.ensures.0;
+  rows = IfOk-from_err _ _ c.from_residual.ensures.0;
+  row_potentials = IfOk-from_err _ _ c.from_residual.ensures.0;
+  refused = refused_by _ c.from_residual.result c.from_residual.ensures.1;
+}

@@ -2,6 +2,7 @@ use Rattle.std.proofs.Common.{◌≡◌, refl, ap, sym, subst, ◌∙◌, ℕ, z
 use Rattle.std.specs.Prelude.{ℤ, pos}
 use Rattle.pf_graph.specs.Assignments.{number}
 use Rattle.pf_graph.specs.Internal.Assignment.AssignmentSteps.{holder}
+use Rattle.pf_graph.proofs.Outcomes.{refused_as, if_refused}
 use Rattle.pf_graph.proofs.kuhn_munkres.matching.Matching.new.Goals as goal
 
 none_held : (n j : ℕ) → holder (replicate n None) j ≡ None
@@ -27,3 +28,25 @@ returns-clause-row_of g c = c.in_ok-row_of.ensures.len
 
 pub returns-clause-column_potentials : goal.returns-clause-column_potentials
 returns-clause-column_potentials g c = c.in_ok-column_potentials.ensures.len
+
+pub returns-in_err-row_of : goal.returns-in_err-row_of
+returns-in_err-row_of g c = record {
+  rows = if_refused _ c.from_residual.result _ c.from_residual.ensures.1;
+  row_potentials = if_refused _ c.from_residual.result _ c.from_residual.ensures.1;
+  row_of = if_refused _ c.from_residual.result _ c.from_residual.ensures.1;
+  column_potentials = if_refused _ c.from_residual.result _ c.from_residual.ensures.1;
+  free = if_refused _ c.from_residual.result _ c.from_residual.ensures.1;
+  zero = if_refused _ c.from_residual.result _ c.from_residual.ensures.1;
+  refused = refused_as _ c.from_residual.result _ c.from_residual.ensures.1 c.in_err-row_of.ensures.refused;
+}
+
+pub returns-in_err-column_potentials : goal.returns-in_err-column_potentials
+returns-in_err-column_potentials g c = record {
+  rows = if_refused _ c.from_residual-in_err-column_potentials.result _ c.from_residual-in_err-column_potentials.ensures.1;
+  row_potentials = if_refused _ c.from_residual-in_err-column_potentials.result _ c.from_residual-in_err-column_potentials.ensures.1;
+  row_of = if_refused _ c.from_residual-in_err-column_potentials.result _ c.from_residual-in_err-column_potentials.ensures.1;
+  column_potentials = if_refused _ c.from_residual-in_err-column_potentials.result _ c.from_residual-in_err-column_potentials.ensures.1;
+  free = if_refused _ c.from_residual-in_err-column_potentials.result _ c.from_residual-in_err-column_potentials.ensures.1;
+  zero = if_refused _ c.from_residual-in_err-column_potentials.result _ c.from_residual-in_err-column_potentials.ensures.1;
+  refused = refused_as _ c.from_residual-in_err-column_potentials.result _ c.from_residual-in_err-column_potentials.ensures.1 c.in_err-column_potentials.ensures.refused;
+}

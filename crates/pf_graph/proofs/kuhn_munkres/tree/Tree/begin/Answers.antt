@@ -1,9 +1,11 @@
-use Rattle.std.proofs.Common.{rules, ◌≡◌, ◌<◌, ◌++◌, ◌∷◌, [], arith, ap, sym, subst, ◌∙◌, ℕ, length}
+use Rattle.std.proofs.Common.{rules, ◌≡◌, ◌<◌, ◌++◌, ◌∷◌, [], arith, ap, sym, subst, ◌∙◌, ℕ, length, refl}
 use Rattle.std.specs.Prelude.{pos, ◌+ℤ◌, ◌-ℤ◌, slice_index}
 use Rattle.pf_graph.specs.Assignments.{number}
 use Rattle.pf_graph.specs.Internal.Assignment.AssignmentSteps.{flag, IsFresh, IsScanned, IsTreeOf}
 use Rattle.pf_graph.proofs.Assignment.MatchingBounds.{column_negation, root_sum, root_difference}
 use Rattle.pf_graph.proofs.Assignment.MatchingTree.{tree_of_root}
+use Rattle.std.proofs.lemmas.Result.{IfOk-from_err}
+use Rattle.pf_graph.proofs.Outcomes.{refused_by}
 use Rattle.pf_graph.proofs.kuhn_munkres.tree.Tree.begin.Goals as goal
 
 pub scan-requires-clause-row : goal.scan-requires-clause-row
@@ -86,3 +88,14 @@ scan-requires-clause-distances g c = c.clear-2.ensures.distances ∙ c.requires.
 
 pub scan-requires-clause-places : goal.scan-requires-clause-places
 scan-requires-clause-places g c = c.clear-2.ensures.places ∙ c.requires.places
+
+pub returns-in_err-push : goal.returns-in_err-push
+returns-in_err-push g c = record {
+  tree = IfOk-from_err _ _ c.from_residual.ensures.0;
+  one = IfOk-from_err _ _ c.from_residual.ensures.0;
+  nearest = IfOk-from_err _ _ c.from_residual.ensures.0;
+  visited = refl;
+  distances = refl;
+  places = refl;
+  refused = refused_by _ c.from_residual.result c.from_residual.ensures.1;
+}

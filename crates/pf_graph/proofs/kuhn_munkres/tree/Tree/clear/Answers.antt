@@ -33,3 +33,15 @@ loop-column-init g c = record {
   far = λ j h. absurd (omega (arith, h));
   root = λ j h. absurd (omega (arith, h));
 }
+
+pub returns-clause-rows : goal.returns-clause-rows
+returns-clause-rows g c = c.loop-column.invariant.rows
+
+pub returns-clause-visited : goal.returns-clause-visited
+returns-clause-visited g c = c.loop-column.invariant.visited_len
+
+pub returns-clause-distances : goal.returns-clause-distances
+returns-clause-distances g c = c.loop-column.invariant.distances_len
+
+pub returns-clause-places : goal.returns-clause-places
+returns-clause-places g c = c.loop-column.invariant.places_len

@@ -3,11 +3,23 @@ use Rattle.pf_graph.proofs.Assignment.MatchingTree.{tree_count}
 use Rattle.pf_graph.proofs.Outcomes.{refused_as, if_refused, on_refused}
 use Rattle.pf_graph.proofs.kuhn_munkres.tree.Tree.grow.Goals as goal
 
-pub returns-in_err-column-2-clause-rounds : goal.returns-in_err-column-2-clause-rounds
-returns-in_err-column-2-clause-rounds g c =
-    let t = c.visits.invariant.rounds in
-    let k = tree_count c.requires.next c.visits.invariant.tree in
-    omega (arith, t, k)
+pub returns-in_err-column-2 : goal.returns-in_err-column-2
+returns-in_err-column-2 g c =
+    let e = c.in_err-column-2.ensures in
+    let i = c.visits.invariant in
+    let t = i.rounds in
+    let k = tree_count c.requires.next i.tree in
+    record {
+      tree = on_refused _ c.from_residual-in_err-column-2.result _ c.from_residual-in_err-column-2.ensures.1;
+      nearest = if_refused _ c.from_residual-in_err-column-2.result _ c.from_residual-in_err-column-2.ensures.1;
+      free = if_refused _ c.from_residual-in_err-column-2.result _ c.from_residual-in_err-column-2.ensures.1;
+      visited = e.visited ∙ i.tree.visited_len ∙ sym c.requires.visited;
+      distances = e.distances ∙ i.tree.distances_len ∙ sym c.requires.distances;
+      places = e.places ∙ i.tree.places_len ∙ sym c.requires.places;
+      refused = refused_as _ c.from_residual-in_err-column-2.result _ c.from_residual-in_err-column-2.ensures.1 e.refused;
+      ticked = i.ticked;
+      rounds = omega (arith, t, k);
+    }
 
 pub visits-smaller : goal.visits-smaller
 visits-smaller g c =

@@ -1,5 +1,5 @@
-use Rattle.std.proofs.Common.{rules, ℕ, ◌≡◌, ◌<◌, ◌+◌, refl, sym, subst, arith, ap, ◌∙◌, Some, None, false, true, length}
-use Rattle.std.specs.Prelude.{slice_index, ◌+ℤ◌, ◌-ℤ◌, neg_ℤ}
+use Rattle.std.proofs.Common.{rules, ℕ, ◌≡◌, ◌<◌, ◌+◌, refl, sym, subst, arith, ap, ◌∙◌, Some, None, false, true, length, Option, ◌≤◌, true≢false}
+use Rattle.std.specs.Prelude.{slice_index, ◌+ℤ◌, ◌-ℤ◌, neg_ℤ, is_some}
 use Rattle.std.proofs.lemmas.List.{get_or_default}
 use Rattle.pf_graph.specs.Assignments.{number}
 use Rattle.pf_graph.specs.Internal.Assignment.AssignmentSteps.{flag, IsRelaxed, IsNearest}
@@ -109,3 +109,28 @@ returns-clause-distances g c = c.loop-column.invariant.distances_len
 
 pub returns-clause-places : goal.returns-clause-places
 returns-clause-places g c = c.loop-column.invariant.places_len
+
+some_of : {T : Type 0} (o : Option T) → ¬ (o ≡ None) → is_some o ≡ true
+some_of None h = absurd (h refl)
+some_of (Some x) h = refl
+
+below_end : (j end k : ℕ) → j < end → end ≤ k → j < k
+below_end j end k l h = omega arith
+
+pub unwrap-requires : goal.unwrap-requires
+unwrap-requires g c =
+    let left = c.requires.left in
+    let within = subst (λ (n : ℕ). left.0 < n) (sym c.columns-column-end.ensures) left.1 in
+    some_of c.loop-column.nearest (λ e. true≢false (sym (c.loop-column.invariant.scanned.none e left.0 (below_end _ _ _ within c.loop-column-test.false)) ∙ left.2))
+
+pub relax-requires-clause-distance : goal.relax-requires-clause-distance
+relax-requires-clause-distance g c = subst (λ (n : ℕ). c.loop-column.column < n) (sym (c.loop-column.invariant.distances_len ∙ c.requires.distances)) (subst (λ (n : ℕ). c.loop-column.column < n) c.columns-column-end.ensures c.loop-column-test.true)
+
+pub relax-requires-clause-before : goal.relax-requires-clause-before
+relax-requires-clause-before g c = subst (λ (n : ℕ). c.loop-column.column < n) (sym (c.loop-column.invariant.places_len ∙ c.requires.places)) (subst (λ (n : ℕ). c.loop-column.column < n) c.columns-column-end.ensures c.loop-column-test.true)
+
+pub nearer-requires-clause-inside : goal.nearer-requires-clause-inside
+nearer-requires-clause-inside g c = subst (λ (n : ℕ). c.loop-column.column < n) (sym (c.relax.ensures.distances_len ∙ c.loop-column.invariant.distances_len ∙ c.requires.distances)) (subst (λ (n : ℕ). c.loop-column.column < n) c.columns-column-end.ensures c.loop-column-test.true)
+
+pub nearer-requires-clause-wide : goal.nearer-requires-clause-wide
+nearer-requires-clause-wide g c = ap length c.deref.ensures.value ∙ c.requires.row_of ∙ sym (c.relax.ensures.distances_len ∙ c.loop-column.invariant.distances_len ∙ c.requires.distances)

@@ -1,4 +1,4 @@
-use Rattle.std.proofs.Common.{rules, ◌≡◌, ◌<◌, arith, ap, sym, subst, ◌∙◌, ◌∷◌, [], length, length-set, true, false, Some, None}
+use Rattle.std.proofs.Common.{rules, ◌≡◌, ◌<◌, arith, ap, sym, subst, ◌∙◌, ◌∷◌, [], length, length-set, true, false, Some, None, refl}
 use Rattle.std.specs.Prelude.{neg_ℤ, ◌+ℤ◌, slice_index, slice_set}
 use Rattle.std.proofs.lemmas.List.{get_or-set_other, length-append}
 use Rattle.pf_graph.specs.Assignments.{number}
@@ -6,6 +6,8 @@ use Rattle.pf_graph.specs.Internal.Assignment.AssignmentSteps.{holder, flag, IsS
 use Rattle.pf_graph.proofs.Assignment.MatchingNumbers.{number-at}
 use Rattle.pf_graph.proofs.Assignment.MatchingBounds.{free, unvisited, column_negation, row_negation, row_sum, path_sum, path_difference}
 use Rattle.pf_graph.proofs.Assignment.MatchingTree.{tree_of_more}
+use Rattle.std.proofs.lemmas.Result.{IfOk-from_err}
+use Rattle.pf_graph.proofs.Outcomes.{refused_by}
 use Rattle.pf_graph.proofs.kuhn_munkres.tree.Tree.visit.Goals as goal
 
 pub index-requires-2 : goal.index-requires-2
@@ -128,3 +130,14 @@ scan-requires-clause-distances g c = c.requires.tree.distances_len
 
 pub scan-requires-clause-places : goal.scan-requires-clause-places
 scan-requires-clause-places g c = c.requires.tree.places_len
+
+pub returns-in_err-push : goal.returns-in_err-push
+returns-in_err-push g c = record {
+  tree = IfOk-from_err _ _ c.from_residual.ensures.0;
+  more = IfOk-from_err _ _ c.from_residual.ensures.0;
+  nearest = IfOk-from_err _ _ c.from_residual.ensures.0;
+  visited = refl;
+  distances = refl;
+  places = refl;
+  refused = refused_by _ c.from_residual.result c.from_residual.ensures.1;
+}

@@ -2,6 +2,8 @@ use Rattle.std.proofs.Common.{◌<◌, arith, ap, sym, subst, length, ◌*◌}
 use Rattle.std.specs.Prelude.{neg_ℤ}
 use Rattle.pf_graph.specs.Assignments.{number}
 use Rattle.pf_graph.proofs.Assignment.MatchingWeights.{position_of}
+use Rattle.std.proofs.lemmas.Result.{IfOk-from_err}
+use Rattle.pf_graph.proofs.Outcomes.{refused_by}
 use Rattle.pf_graph.proofs.kuhn_munkres.weights.MatrixWeights.neg.Goals as goal
 
 pub write_negations-requires-clause-fits : goal.write_negations-requires-clause-fits
@@ -12,3 +14,9 @@ write_negations-requires-clause-fits g c = λ k h.
     let p = position_of m.rows m.columns k l in
     subst (λ xs. g.C.Number.fits (neg_ℤ (number g.C.Number.value xs k))) (sym v)
     (subst (λ j. g.C.Number.fits (neg_ℤ (number g.C.Number.value m.values j))) (sym p.4) (c.requires p.0 p.1 p.2 p.3))
+
+pub returns-in_err-negated : goal.returns-in_err-negated
+returns-in_err-negated g c = record {
+  negated = IfOk-from_err _ _ c.from_residual.ensures.0;
+  refused = refused_by _ c.from_residual.result c.from_residual.ensures.1;
+}
