@@ -23,6 +23,14 @@ get_last [] x = refl
 get_last (y ∷ xs) x = get_last xs x
 
 module _ {C : Type 0} (value : C → ℤ) (n : ℕ) (table : PairTable) where
+  -- no pair is chosen
+  pub lists_none : (chosen : ℕ → ℕ → Type 0) → ((a b : ℕ) → chosen a b → ⊥) → ListsPairs value n chosen table []
+  lists_none chosen never = record {
+    rising = λ i j d e l p q. absurd (none_in i d p);
+    sound = λ i e p. absurd (none_in i e p);
+    complete = λ a b l m p. absurd (never a b p);
+  }
+
   -- the same pairs in other words
   pub lists_same : (chosen chosen' : ℕ → ℕ → Type 0) (edges : List ((ℕ × ℕ) × C)) → ((a b : ℕ) → a < n → b < n → chosen a b → chosen' a b) → ((a b : ℕ) → a < n → b < n → chosen' a b → chosen a b)
       → ListsPairs value n chosen table edges → ListsPairs value n chosen' table edges

@@ -1,5 +1,8 @@
-use Rattle.std.proofs.Common.{◌∙◌, sym, arith}
+use Rattle.std.proofs.Common.{◌∙◌, sym, subst, arith}
+use Rattle.std.proofs.lemmas.Int.{ints}
+use Rattle.pf_flow.specs.Listings.{ListsFlows}
 use Rattle.pf_flow.proofs.AgreeLemmas.{capacities_kept}
+use Rattle.pf_flow.proofs.ChangeListings.{lists_none}
 use Rattle.pf_flow.proofs.NamedLemmas.{ok_gives}
 use Rattle.pf_flow.proofs.NetworkLemmas.{idle_total}
 use Rattle.pf_flow.proofs.augmenting.augment_flow.Goals as goal
@@ -18,6 +21,12 @@ returns-then-source-sink-clause-cut g c = λ apart. absurd (apart (sym c.source.
 
 pub returns-then-source-sink-clause-total : goal.returns-then-source-sink-clause-total
 returns-then-source-sink-clause-total g c = c.total_capacity.ensures
+
+pub returns-then-source-sink-clause-flows : goal.returns-then-source-sink-clause-flows
+returns-then-source-sink-clause-flows g c = λ details.
+    let N = g.S.FlowStore.network c.args.store.now in
+    let idle = c.requires.idle (sym c.source.ensures ∙ c.if-source-sink.true ∙ c.sink.ensures) in
+    subst (ListsFlows g.C.Number.value N) (sym c.new.ensures.items) (lists_none g.C.Number.value N.vertices N.flow _ (λ a b p. let none = idle a b in omega (arith, ints, p, none)))
 
 pub returns-then-source-sink-clause-cut_edges : goal.returns-then-source-sink-clause-cut_edges
 returns-then-source-sink-clause-cut_edges g c = λ details apart. absurd (apart (sym c.source.ensures ∙ c.if-source-sink.true ∙ c.sink.ensures))

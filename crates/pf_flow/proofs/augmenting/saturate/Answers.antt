@@ -4,7 +4,7 @@ use Rattle.std.proofs.lemmas.List.{get_or_read, length-replicate}
 use Rattle.std.proofs.lemmas.Result.{IfOk-from_err}
 use Rattle.pf_flow.proofs.LevelListLemmas.{resized}
 use Rattle.pf_flow.proofs.AgreeLemmas.{capacities_kept, capacities_more}
-use Rattle.pf_flow.proofs.NamedLemmas.{refused_as}
+use Rattle.pf_flow.proofs.NamedLemmas.{refused_as, refused_by}
 use Rattle.pf_flow.proofs.PhaseLemmas.{ticks_top, ticks_anew, ticks_now}
 use Rattle.pf_flow.proofs.augmenting.saturate.Goals as goal
 
@@ -65,11 +65,25 @@ index-requires g c =
     let inside = (g.met.S.FlowStore.network_law c.phases.store).sink_in in
     omega (arith, inside, c.sink-sink.ensures, i.kept.shape.sink, i.levels_len, c.phases.found.levels.ok)
 
-pub returns-in_err-find-clause-kept : goal.returns-in_err-find-clause-kept
-returns-in_err-find-clause-kept g c = capacities_kept (g.S.FlowStore.network c.args.store.now)
+pub returns-in_err-find : goal.returns-in_err-find
+returns-in_err-find g c = record {
+  network = c.requires.network;
+  kept = capacities_kept (g.S.FlowStore.network c.args.store.now);
+  stuck = IfOk-from_err _ _ c.from_residual-in_err-find.ensures.0;
+  refused = refused_as _ c.from_residual-in_err-find.result _ c.in_err-find.ensures.refused c.from_residual-in_err-find.ensures.1;
+  ticked = omega arith;
+  paths = omega arith;
+}
 
-pub returns-in_err-resize-clause-kept : goal.returns-in_err-resize-clause-kept
-returns-in_err-resize-clause-kept g c = capacities_kept (g.S.FlowStore.network c.args.store.now)
+pub returns-in_err-resize : goal.returns-in_err-resize
+returns-in_err-resize g c = record {
+  network = c.requires.network;
+  kept = capacities_kept (g.S.FlowStore.network c.args.store.now);
+  stuck = IfOk-from_err _ _ c.from_residual.ensures.0;
+  refused = refused_by _ _ c.from_residual.result (λ e h. h) c.from_residual.ensures.1;
+  ticked = omega arith;
+  paths = omega arith;
+}
 
 pub augment_phase-requires : goal.augment_phase-requires
 augment_phase-requires g c = record {

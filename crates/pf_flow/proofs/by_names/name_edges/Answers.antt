@@ -4,6 +4,8 @@ use Rattle.std.proofs.lemmas.List.{take_more}
 use Rattle.pf_core.proofs.ListLemmas.{at_place}
 use Rattle.pf_core.proofs.PathLemmas.{AllZip-append}
 use Rattle.pf_flow.specs.NamedNetworks.{IsNamed}
+use Rattle.std.proofs.lemmas.Result.{IfOk-from_err}
+use Rattle.pf_flow.proofs.NamedLemmas.{refused_by}
 use Rattle.pf_flow.proofs.by_names.name_edges.Goals as goal
 
 pub bounds-names-from : goal.bounds-names-from
@@ -40,3 +42,15 @@ numbered-init g c = rw c.in_ok-edges.ensures.items tt
 
 pub returns-clause-named : goal.returns-clause-named
 returns-clause-named g c = subst (λ ns. AllZip (IsNamed c.args.names.now) ns c.numbered.edges.items) (take_all c.numbered.edge-index c.args.numbered.now c.numbered-test.false) c.numbered.invariant
+
+pub returns-in_err-edges-clause-named : goal.returns-in_err-edges-clause-named
+returns-in_err-edges-clause-named g c = IfOk-from_err _ _ c.from_residual.ensures.0
+
+pub returns-in_err-edges-clause-refused : goal.returns-in_err-edges-clause-refused
+returns-in_err-edges-clause-refused g c = refused_by _ _ c.from_residual.result (λ e h. h) c.from_residual.ensures.1
+
+pub returns-in_err-push-clause-named : goal.returns-in_err-push-clause-named
+returns-in_err-push-clause-named g c = IfOk-from_err _ _ c.from_residual-in_err-push.ensures.0
+
+pub returns-in_err-push-clause-refused : goal.returns-in_err-push-clause-refused
+returns-in_err-push-clause-refused g c = refused_by _ _ c.from_residual-in_err-push.result (λ e h. h) c.from_residual-in_err-push.ensures.1

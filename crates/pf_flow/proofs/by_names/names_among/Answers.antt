@@ -3,6 +3,8 @@ use Rattle.std.proofs.lemmas.List.{take_more}
 use Rattle.std.proofs.lemmas.List.Sums.{fold-append}
 use Rattle.indexmap.specs.IndexSet.{insert_key}
 use Rattle.pf_flow.specs.NamedNetworks.{names_of}
+use Rattle.pf_flow.proofs.NamedLemmas.{refused_by}
+use Rattle.std.proofs.lemmas.Result.{IfOk-from_err}
 use Rattle.pf_flow.proofs.by_names.names_among.Goals as goal
 
 pub vertices-preserved : goal.vertices-preserved
@@ -16,3 +18,9 @@ vertices-preserved g c =
 
 pub returns-clause-names : goal.returns-clause-names
 returns-clause-names g c = c.vertices.invariant ∙ ap (names_of g.N.PartialEq.eq) (take_all c.vertices.vertex-index c.args.vertices.now c.vertices-test.false)
+
+pub returns-in_err-insert-clause-names : goal.returns-in_err-insert-clause-names
+returns-in_err-insert-clause-names g c = IfOk-from_err _ _ c.from_residual.ensures.0
+
+pub returns-in_err-insert-clause-refused : goal.returns-in_err-insert-clause-refused
+returns-in_err-insert-clause-refused g c = refused_by _ _ c.from_residual.result (λ e h. h) c.from_residual.ensures.1

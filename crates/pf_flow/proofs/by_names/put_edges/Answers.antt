@@ -1,4 +1,5 @@
 use Rattle.std.proofs.Common.{◌≡◌, ◌∙◌, ◌⊎◌, inl, inr, sym, ap, subst}
+use Rattle.std.proofs.lemmas.Result.{IfOk-from_err}
 use Rattle.pf_flow.proofs.AgreeLemmas.{capacities_kept, shape_more}
 use Rattle.pf_flow.proofs.NetworkLemmas.{none_sum}
 use Rattle.pf_flow.proofs.NamedLemmas.{refused_by, yields_more}
@@ -66,3 +67,12 @@ returns-clause-unused g c = c.edges.invariant.unused
 
 pub returns-clause-shape : goal.returns-clause-shape
 returns-clause-shape g c = c.edges.invariant.shape
+
+pub returns-in_err-sum-clause-unused : goal.returns-in_err-sum-clause-unused
+returns-in_err-sum-clause-unused g c = IfOk-from_err _ _ c.from_residual.ensures.0
+
+pub returns-in_err-sum-clause-shape : goal.returns-in_err-sum-clause-shape
+returns-in_err-sum-clause-shape g c = IfOk-from_err _ _ c.from_residual.ensures.0
+
+pub returns-in_err-sum-clause-capacities : goal.returns-in_err-sum-clause-capacities
+returns-in_err-sum-clause-capacities g c = IfOk-from_err _ _ c.from_residual.ensures.0

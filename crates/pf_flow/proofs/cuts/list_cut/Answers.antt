@@ -1,9 +1,11 @@
-use Rattle.std.proofs.Common.{◌≡◌, ◌<◌, ◌+◌, ◌∙◌, refl, sym, ap, ℕ, Bool, true, false, cond, List, [], ◌∷◌, ◌++◌, length, take, get_or}
+use Rattle.std.proofs.Common.{◌≡◌, ◌<◌, ◌+◌, ◌∙◌, refl, sym, ap, ℕ, Bool, true, false, cond, List, [], ◌∷◌, ◌++◌, length, take, take_all, arith, get_or}
 use Rattle.std.specs.List.{filter}
 use Rattle.std.proofs.lemmas.Option.{slice_get_read}
 use Rattle.std.proofs.lemmas.List.Elements.{filter_more}
 use Rattle.std.proofs.lemmas.List.{append-nil}
+use Rattle.std.proofs.lemmas.Result.{IfOk-from_err}
 use Rattle.pf_flow.specs.Internal.Levels.{leaves}
+use Rattle.pf_flow.proofs.NamedLemmas.{refused_by}
 use Rattle.pf_flow.proofs.cuts.list_cut.Goals as goal
 use Rattle.pf_flow.proofs.cuts.list_cut.Goals.{then-leaves_reached+in_ok-push, else-leaves_reached}
 
@@ -30,3 +32,15 @@ loop-edge-preserved g c = elim c.if-leaves_reached.branch [
   | else-leaves_reached w ↦ left_out (λ e. leaves c.args.levels.now e.0.0 e.0.1) c.args.flows.now c.loop-edge.edge-index c.edge-item.result c.loop-edge-test.true c.edge-item.is
       c.loop-edge.edges.items c.if-leaves_reached.edges.items c.loop-edge.invariant (ap (λ v. v.items) w.edges-is) (sym c.leaves_reached.ensures ∙ w.if-leaves_reached.false)
 ]
+
+pub loop-edge-init : goal.loop-edge-init
+loop-edge-init g c = c.new-edges.ensures.items
+
+pub returns-clause-edges : goal.returns-clause-edges
+returns-clause-edges g c = c.loop-edge.invariant ∙ ap (filter (λ e. leaves c.args.levels.now e.0.0 e.0.1)) (take_all c.loop-edge.edge-index c.args.flows.now (omega (arith, c.loop-edge-test.false)))
+
+pub returns-in_err-push-clause-edges : goal.returns-in_err-push-clause-edges
+returns-in_err-push-clause-edges g c = IfOk-from_err _ _ c.from_residual.ensures.0
+
+pub returns-in_err-push-clause-refused : goal.returns-in_err-push-clause-refused
+returns-in_err-push-clause-refused g c = refused_by _ _ c.from_residual.result (λ e h. h) c.from_residual.ensures.1

@@ -4,6 +4,8 @@ use Rattle.pf_flow.specs.Listings.{ListsVertices}
 use Rattle.pf_flow.specs.DenseStores.{table_number}
 use Rattle.pf_flow.proofs.DenseLemmas.{number_inside}
 use Rattle.pf_flow.proofs.StoreListings.{vertices_more, vertices_same, never_above}
+use Rattle.pf_flow.proofs.NamedLemmas.{refused_by}
+use Rattle.std.proofs.lemmas.Result.{IfOk-from_err}
 use Rattle.pf_flow.proofs.dense_capacity.vertices_above.Goals.{then-is_below+in_ok-push, else-is_below}
 use Rattle.pf_flow.proofs.dense_capacity.vertices_above.Goals as goal
 
@@ -30,3 +32,9 @@ returns-clause-listed g c =
     let m = c.args.table.now in
     let done : c.loop-to.to ≡ m.rows = omega (arith, c.rows-to-end.ensures.rows) in
     subst (λ k. ListsVertices k (λ to. pos 0 <ℤ table_number g.C.Number.value m.rows m c.args.from to) c.loop-to.list.items) done c.loop-to.invariant
+
+pub returns-in_err-push-clause-listed : goal.returns-in_err-push-clause-listed
+returns-in_err-push-clause-listed g c = IfOk-from_err _ _ c.from_residual.ensures.0
+
+pub returns-in_err-push-clause-refused : goal.returns-in_err-push-clause-refused
+returns-in_err-push-clause-refused g c = refused_by _ _ c.from_residual.result (λ e h. h) c.from_residual.ensures.1

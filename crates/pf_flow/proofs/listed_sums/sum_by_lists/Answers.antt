@@ -7,6 +7,8 @@ use Rattle.pf_flow.specs.Internal.PartSums.{IsPartSum}
 use Rattle.pf_flow.proofs.ChangeSums.{residual_sum}
 use Rattle.pf_flow.proofs.NetworkLemmas.{balanced_of}
 use Rattle.pf_flow.proofs.PartSums.{part_begin, part_next, part_end, part_sum_fits}
+use Rattle.std.proofs.lemmas.Result.{IfOk-from_err}
+use Rattle.pf_flow.proofs.NamedLemmas.{refused_as}
 use Rattle.pf_flow.proofs.listed_sums.sum_by_lists.Goals as goal
 
 pub ends-init : goal.ends-init
@@ -55,3 +57,9 @@ returns-clause-sum g c =
     let N = g.S.FlowStore.network c.args.store.now in
     let all : c.rows.from ≡ N.vertices = omega (arith, c.size-from-end.ensures, c.rows-test.false, c.rows.auto.from-end) in
     c.rows.invariant ∙ ap (sum_to (λ a. sum_to (N.residual a) N.vertices)) all ∙ residual_sum (balanced_of c.requires)
+
+pub returns-in_err-ends-clause-sum : goal.returns-in_err-ends-clause-sum
+returns-in_err-ends-clause-sum g c = IfOk-from_err _ _ c.from_residual.ensures.0
+
+pub returns-in_err-ends-clause-refused : goal.returns-in_err-ends-clause-refused
+returns-in_err-ends-clause-refused g c = refused_as _ c.from_residual.result _ c.in_err-ends.ensures.refused c.from_residual.ensures.1

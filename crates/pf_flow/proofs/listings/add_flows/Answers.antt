@@ -2,6 +2,8 @@ use Rattle.std.proofs.Common.{◌+◌, arith, get_or, sym, subst}
 use Rattle.std.proofs.lemmas.Option.{slice_get-get_or}
 use Rattle.pf_flow.specs.Internal.Prefixes.{ListsFlowsTo}
 use Rattle.pf_flow.proofs.ChangeListings.{flows_begin, flows_more, flows_end}
+use Rattle.pf_flow.proofs.NamedLemmas.{refused_by}
+use Rattle.std.proofs.lemmas.Result.{IfOk-from_err}
 use Rattle.pf_flow.proofs.listings.add_flows.Goals as goal
 
 pub ends-init : goal.ends-init
@@ -21,3 +23,9 @@ ends-preserved g c =
 
 pub returns-clause-listed : goal.returns-clause-listed
 returns-clause-listed g c = flows_end g.C.Number.value (g.S.FlowStore.network c.args.store.now) c.args.from c.requires.from c.args.ends.now c.requires.ends c.ends.to-index (omega arith) c.ends.flows.items c.ends.invariant
+
+pub returns-in_err-push-clause-listed : goal.returns-in_err-push-clause-listed
+returns-in_err-push-clause-listed g c = IfOk-from_err _ _ c.from_residual.ensures.0
+
+pub returns-in_err-push-clause-refused : goal.returns-in_err-push-clause-refused
+returns-in_err-push-clause-refused g c = refused_by _ _ c.from_residual.result (λ e h. h) c.from_residual.ensures.1

@@ -1,9 +1,10 @@
 use Rattle.std.proofs.Common.{◌∙◌, arith, inr, refl, sym, ap, subst}
 use Rattle.std.specs.Prelude.{◌-ℤ◌}
 use Rattle.std.proofs.lemmas.Int.{ints}
+use Rattle.std.proofs.lemmas.Result.{IfOk-from_err}
 use Rattle.pf_flow.specs.Networks.{Agrees, with_residual}
 use Rattle.pf_flow.proofs.SumLemmas.{pair_sum_has}
-use Rattle.pf_flow.proofs.FillLemmas.{unused_residual, residual_agrees, exchanged_sum, put_sum, put_unused}
+use Rattle.pf_flow.proofs.FillLemmas.{unused_residual, residual_agrees, exchanged_sum, put_changed, put_sum, put_unused}
 use Rattle.pf_flow.proofs.makers.put_capacity.Goals as goal
 
 pub exchanged-requires-clause-within : goal.exchanged-requires-clause-within
@@ -47,6 +48,16 @@ returns-clause-sum g c =
     residual_agrees c.args.from c.args.to _ c.in_ok-make_room.ensures.same (subst (λ z. Agrees (with_residual c.args.from c.args.to z (g.S.FlowStore.network c.make_room.new.self)) M) more c.add_residual_capacity.ensures) in
     c.in-Some.ensures.1 ∙ same ∙ put_sum c.args.from c.args.to (value c.args.capacity) c.requires.unused agrees
 
+pub returns-clause-changed : goal.returns-clause-changed
+returns-clause-changed g c =
+    let N = g.S.FlowStore.network c.args.store.now in
+    let M = g.S.FlowStore.network c.add_residual_capacity.new.self in
+    let value = g.C.Number.value in
+    let more = c.difference.ensures ∙ ap (λ z. value c.args.capacity -ℤ z) c.residual_capacity-old.ensures in
+    let agrees : Agrees (with_residual c.args.from c.args.to (value c.args.capacity -ℤ N.residual c.args.from c.args.to) N) M =
+    residual_agrees c.args.from c.args.to _ c.in_ok-make_room.ensures.same (subst (λ z. Agrees (with_residual c.args.from c.args.to z (g.S.FlowStore.network c.make_room.new.self)) M) more c.add_residual_capacity.ensures) in
+    put_changed c.args.from c.args.to (value c.args.capacity) c.requires.unused agrees
+
 pub exchanged-requires-clause-old : goal.exchanged-requires-clause-old
 exchanged-requires-clause-old g c =
     let above = c.requires.unused.capacities.at c.args.from c.args.to c.requires.from c.requires.to in
@@ -76,3 +87,12 @@ add_residual_capacity-requires-clause-fits g c =
     let old = c.residual_capacity-old.ensures in
     let more = c.difference.ensures in
     subst g.C.Number.fits (omega (arith, ints, same, old, more)) c.known.ensures
+
+pub returns-in_err-make_room-clause-unused : goal.returns-in_err-make_room-clause-unused
+returns-in_err-make_room-clause-unused g c = IfOk-from_err _ _ c.from_residual.ensures.0
+
+pub returns-in_err-make_room-clause-sum : goal.returns-in_err-make_room-clause-sum
+returns-in_err-make_room-clause-sum g c = IfOk-from_err _ _ c.from_residual.ensures.0
+
+pub returns-in_err-make_room-clause-changed : goal.returns-in_err-make_room-clause-changed
+returns-in_err-make_room-clause-changed g c = IfOk-from_err _ _ c.from_residual.ensures.0

@@ -2,6 +2,8 @@ use Rattle.std.proofs.Common.{◌+◌, ◌∙◌, ◌∷◌, ◌++◌, [], ℕ, 
 use Rattle.std.proofs.lemmas.List.{length_push}
 use Rattle.pf_flow.specs.SparseStores.{AreEmpty}
 use Rattle.pf_flow.proofs.SparseStoreLemmas.{empty_more}
+use Rattle.std.proofs.lemmas.Result.{IfOk-from_err}
+use Rattle.pf_flow.proofs.NamedLemmas.{refused_by}
 use Rattle.pf_flow.proofs.sparse_capacity.empty_rows.Goals as goal
 
 pub loop-init : goal.loop-init
@@ -22,3 +24,21 @@ returns-clause-len g c = omega (arith, c.loop.invariant.0)
 
 pub returns-clause-empty : goal.returns-clause-empty
 returns-clause-empty g c = c.loop.invariant.1
+
+pub returns-in_err-rows-clause-len : goal.returns-in_err-rows-clause-len
+returns-in_err-rows-clause-len g c = IfOk-from_err _ _ c.from_residual.ensures.0
+
+pub returns-in_err-rows-clause-empty : goal.returns-in_err-rows-clause-empty
+returns-in_err-rows-clause-empty g c = IfOk-from_err _ _ c.from_residual.ensures.0
+
+pub returns-in_err-rows-clause-refused : goal.returns-in_err-rows-clause-refused
+returns-in_err-rows-clause-refused g c = refused_by _ _ c.from_residual.result (λ e h. h) c.from_residual.ensures.1
+
+pub returns-in_err-push-clause-len : goal.returns-in_err-push-clause-len
+returns-in_err-push-clause-len g c = IfOk-from_err _ _ c.from_residual-in_err-push.ensures.0
+
+pub returns-in_err-push-clause-empty : goal.returns-in_err-push-clause-empty
+returns-in_err-push-clause-empty g c = IfOk-from_err _ _ c.from_residual-in_err-push.ensures.0
+
+pub returns-in_err-push-clause-refused : goal.returns-in_err-push-clause-refused
+returns-in_err-push-clause-refused g c = refused_by _ _ c.from_residual-in_err-push.result (λ e h. h) c.from_residual-in_err-push.ensures.1

@@ -3,6 +3,8 @@ use Rattle.std.specs.Prelude.{◌<ℤ◌, ◌≤ℤ◌}
 use Rattle.pf_flow.specs.Listings.{ListsNumbers}
 use Rattle.pf_flow.specs.SparseRows.{amount_to, end_after}
 use Rattle.pf_flow.proofs.SparseListings.{numbers_listed, numbers_skipped, numbers_done}
+use Rattle.pf_flow.proofs.NamedLemmas.{refused_by}
+use Rattle.std.proofs.lemmas.Result.{IfOk-from_err}
 use Rattle.pf_flow.proofs.sparse_row.residual_ends.Goals.{then-is_below+in_ok-push, else-is_below}
 use Rattle.pf_flow.proofs.sparse_row.residual_ends.Goals as goal
 
@@ -25,3 +27,9 @@ loop-edge-preserved g c =
 
 pub returns-clause-listed : goal.returns-clause-listed
 returns-clause-listed g c n below = numbers_done c.args.row.now c.requires c.loop-edge.edge-index (omega arith) n below g.C.Number.value (λ e. e.residual) c.loop-edge.list.items c.loop-edge.invariant
+
+pub returns-in_err-push-clause-listed : goal.returns-in_err-push-clause-listed
+returns-in_err-push-clause-listed g c = IfOk-from_err _ _ c.from_residual.ensures.0
+
+pub returns-in_err-push-clause-refused : goal.returns-in_err-push-clause-refused
+returns-in_err-push-clause-refused g c = refused_by _ _ c.from_residual.result (λ e h. h) c.from_residual.ensures.1

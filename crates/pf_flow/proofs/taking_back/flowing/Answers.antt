@@ -3,6 +3,8 @@ use Rattle.std.proofs.lemmas.List.{take_all, take_more, map-append}
 use Rattle.pf_flow.specs.declared.cancelling.arcs.Arc.{Arc}
 use Rattle.pf_flow.specs.Internal.Settled.{arc_of, HoldFlows}
 use Rattle.pf_flow.proofs.TakeBackLemmas.{hold_flows}
+use Rattle.std.proofs.lemmas.Result.{IfOk-from_err}
+use Rattle.pf_flow.proofs.NamedLemmas.{refused_as, refused_by}
 use Rattle.pf_flow.proofs.taking_back.flowing.Goals as goal
 
 pub returns-clause-flows : goal.returns-clause-flows
@@ -40,3 +42,21 @@ flows-preserved g c =
       ends = c.in_ok-push.ensures.items ∙ ap (λ es. es ++ arc_of flow ∷ []) c.flows.invariant.ends ∙ sym (map-append arc_of so_far (flow ∷ [])) ∙ ap (map arc_of) more;
       amounts = c.in_ok-push-2.ensures.items ∙ ap (λ xs. xs ++ flow.1 ∷ []) c.flows.invariant.amounts ∙ sym (map-append (λ (f : (ℕ × ℕ) × g.row.C.Denot). f.1) so_far (flow ∷ [])) ∙ ap (map (λ (f : (ℕ × ℕ) × g.row.C.Denot). f.1)) more;
     }
+
+pub returns-in_err-flows-clause-flows : goal.returns-in_err-flows-clause-flows
+returns-in_err-flows-clause-flows g c = IfOk-from_err _ _ c.from_residual.ensures.0
+
+pub returns-in_err-flows-clause-refused : goal.returns-in_err-flows-clause-refused
+returns-in_err-flows-clause-refused g c = refused_as _ c.from_residual.result _ c.in_err-flows.ensures.refused c.from_residual.ensures.1
+
+pub returns-in_err-push-clause-flows : goal.returns-in_err-push-clause-flows
+returns-in_err-push-clause-flows g c = IfOk-from_err _ _ c.from_residual-in_err-push.ensures.0
+
+pub returns-in_err-push-clause-refused : goal.returns-in_err-push-clause-refused
+returns-in_err-push-clause-refused g c = refused_by _ _ c.from_residual-in_err-push.result (λ e h. h) c.from_residual-in_err-push.ensures.1
+
+pub returns-in_err-push-2-clause-flows : goal.returns-in_err-push-2-clause-flows
+returns-in_err-push-2-clause-flows g c = IfOk-from_err _ _ c.from_residual-in_err-push-2.ensures.0
+
+pub returns-in_err-push-2-clause-refused : goal.returns-in_err-push-2-clause-refused
+returns-in_err-push-2-clause-refused g c = refused_by _ _ c.from_residual-in_err-push-2.result (λ e h. h) c.from_residual-in_err-push-2.ensures.1

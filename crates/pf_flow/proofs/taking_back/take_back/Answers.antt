@@ -1,4 +1,4 @@
-use Rattle.std.proofs.Common.{rules, ◌≡◌, ◌≢◌, ◌∙◌, ◌++◌, ◌∷◌, [], ℕ, Some, List, arith, length, sym, ap, subst}
+use Rattle.std.proofs.Common.{◌≡◌, ◌≢◌, ◌∙◌, ◌++◌, ◌∷◌, [], ℕ, Some, List, arith, length, sym, ap, subst}
 use Rattle.std.specs.Prelude.{slice_get}
 use Rattle.std.proofs.lemmas.Int.{ints}
 use Rattle.std.proofs.lemmas.Option.{slice_get_within}
@@ -6,7 +6,7 @@ use Rattle.std.proofs.lemmas.Result.{IfOk-from_err, MatchResult-from_err}
 use Rattle.pf_core.proofs.ListLemmas.{get-append, on_ok}
 use Rattle.pf_flow.specs.declared.cancelling.arcs.Arc.{Arc}
 use Rattle.pf_flow.proofs.AgreeLemmas.{agrees_itself}
-use Rattle.pf_flow.proofs.NamedLemmas.{refused_as}
+use Rattle.pf_flow.proofs.NamedLemmas.{refused_as, refused_by}
 use Rattle.pf_flow.proofs.TakeBackLemmas.{plan_of, amount_there}
 use Rattle.pf_flow.proofs.taking_back.take_back.Goals as goal
 
@@ -110,7 +110,7 @@ returns-in_err-push g c = record {
   total = IfOk-from_err _ _ c.from_residual-in_err-push.ensures.0;
   excess = IfOk-from_err _ _ c.from_residual-in_err-push.ensures.0;
   unchanged = MatchResult-from_err _ _ _ c.from_residual-in_err-push.ensures.0 (λ e. agrees_itself (g.S.FlowStore.network c.args.store.now));
-  refused = search rules;
+  refused = refused_by _ _ c.from_residual-in_err-push.result (λ e h. h) c.from_residual-in_err-push.ensures.1;
 }
 
 pub returns-in_err-push-2 : goal.returns-in_err-push-2
@@ -121,5 +121,5 @@ returns-in_err-push-2 g c = record {
   total = IfOk-from_err _ _ c.from_residual-in_err-push-2.ensures.0;
   excess = IfOk-from_err _ _ c.from_residual-in_err-push-2.ensures.0;
   unchanged = MatchResult-from_err _ _ _ c.from_residual-in_err-push-2.ensures.0 (λ e. agrees_itself (g.S.FlowStore.network c.args.store.now));
-  refused = search rules;
+  refused = refused_by _ _ c.from_residual-in_err-push-2.result (λ e h. h) c.from_residual-in_err-push-2.ensures.1;
 }

@@ -6,6 +6,8 @@ use Rattle.pf_core.proofs.ListLemmas.{at_place}
 use Rattle.pf_flow.specs.declared.cancelling.arcs.Arc.{Arc}
 use Rattle.pf_flow.specs.Internal.Cancelling.{AreRows}
 use Rattle.pf_flow.proofs.SearchLemmas.{rows_begin, rows_more}
+use Rattle.std.proofs.lemmas.Result.{IfOk-from_err}
+use Rattle.pf_flow.proofs.NamedLemmas.{refused_as, refused_by}
 use Rattle.pf_flow.proofs.cancelling.arcs.rows_of.Goals as goal
 
 abbrev none : Arc
@@ -35,3 +37,21 @@ arcs-preserved g c =
       len = length-set rows e.from c.push.new.self ∙ c.arcs.invariant.len;
       rows = subst (λ (es : List Arc). AreRows es (slice_set rows e.from c.push.new.self)) (sym (take_more ends i none c.arcs-test.true)) (rows_more (take i ends) rows e c.index_mut.result.now c.push.new.self at is c.arcs.invariant.rows);
     }
+
+pub returns-in_err-rows-clause-len : goal.returns-in_err-rows-clause-len
+returns-in_err-rows-clause-len g c = IfOk-from_err _ _ c.from_residual.ensures.0
+
+pub returns-in_err-rows-clause-rows : goal.returns-in_err-rows-clause-rows
+returns-in_err-rows-clause-rows g c = IfOk-from_err _ _ c.from_residual.ensures.0
+
+pub returns-in_err-rows-clause-refused : goal.returns-in_err-rows-clause-refused
+returns-in_err-rows-clause-refused g c = refused_as _ c.from_residual.result _ c.in_err-rows.ensures.refused c.from_residual.ensures.1
+
+pub returns-in_err-push-clause-len : goal.returns-in_err-push-clause-len
+returns-in_err-push-clause-len g c = IfOk-from_err _ _ c.from_residual-in_err-push.ensures.0
+
+pub returns-in_err-push-clause-rows : goal.returns-in_err-push-clause-rows
+returns-in_err-push-clause-rows g c = IfOk-from_err _ _ c.from_residual-in_err-push.ensures.0
+
+pub returns-in_err-push-clause-refused : goal.returns-in_err-push-clause-refused
+returns-in_err-push-clause-refused g c = refused_by _ _ c.from_residual-in_err-push.result (λ e h. h) c.from_residual-in_err-push.ensures.1

@@ -1,4 +1,4 @@
-use Rattle.std.proofs.Common.{rules, ◌≡◌, ◌<◌, ◌∙◌, ℕ, List, Some, arith, length, refl, sym, ap, subst}
+use Rattle.std.proofs.Common.{◌≡◌, ◌<◌, ◌∙◌, ℕ, List, Some, arith, length, refl, sym, ap, subst}
 use Rattle.std.specs.Prelude.{slice_get, None}
 use Rattle.std.proofs.lemmas.Int.{ints}
 use Rattle.std.proofs.lemmas.Option.{slice_get-get_or, slice_get_within}
@@ -6,7 +6,7 @@ use Rattle.std.proofs.lemmas.Result.{IfOk-from_err}
 use Rattle.pf_core.proofs.ListLemmas.{at_place}
 use Rattle.pf_flow.specs.declared.cancelling.arcs.Arc.{Arc}
 use Rattle.pf_flow.specs.Internal.Cancelling.{IsCycle, IsWayBack}
-use Rattle.pf_flow.proofs.NamedLemmas.{refused_as}
+use Rattle.pf_flow.proofs.NamedLemmas.{refused_as, refused_by}
 use Rattle.pf_flow.proofs.CycleLemmas.{tail_reached, way_begin, way_more, way_end, before_less}
 use Rattle.pf_flow.proofs.cancelling.cycle.cycle_through.Invariants.{arc_at}
 use Rattle.pf_flow.proofs.cancelling.cycle.cycle_through.Goals as goal
@@ -123,11 +123,11 @@ returns-in_err-reached g c = record {
 pub returns-in_err-push : goal.returns-in_err-push
 returns-in_err-push g c = record {
   cycle = IfOk-from_err _ _ c.from_residual-in_err-push.ensures.0;
-  refused = search rules;
+  refused = refused_by _ _ c.from_residual-in_err-push.result (λ e h. h) c.from_residual-in_err-push.ensures.1;
 }
 
 pub returns-in_err-push-2 : goal.returns-in_err-push-2
 returns-in_err-push-2 g c = record {
   cycle = IfOk-from_err _ _ c.from_residual-in_err-push-2.ensures.0;
-  refused = search rules;
+  refused = refused_by _ _ c.from_residual-in_err-push-2.result (λ e h. h) c.from_residual-in_err-push-2.ensures.1;
 }

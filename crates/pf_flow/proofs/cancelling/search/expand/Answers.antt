@@ -3,6 +3,8 @@ use Rattle.std.proofs.lemmas.List.{take_all}
 use Rattle.std.proofs.lemmas.Option.{slice_get-get_or}
 use Rattle.pf_flow.specs.Internal.Cancelling.{Has}
 use Rattle.pf_flow.proofs.SearchLemmas.{extends_same, extends_then, leads_more}
+use Rattle.std.proofs.lemmas.Result.{IfOk-from_err}
+use Rattle.pf_flow.proofs.NamedLemmas.{refused_as}
 use Rattle.pf_flow.proofs.cancelling.search.expand.Goals as goal
 
 pub follow-requires-clause-start : goal.follow-requires-clause-start
@@ -45,3 +47,15 @@ pub returns-clause-expanded : goal.returns-clause-expanded
 returns-clause-expanded g c =
     let all : length c.args.row.now ≤ c.arcs.number-index = omega arith in
     λ k e h. c.arcs.invariant.leads k e (subst (λ ks. Has ks k) (sym (take_all c.arcs.number-index c.args.row.now all)) h)
+
+pub returns-in_err-follow-clause-reached : goal.returns-in_err-follow-clause-reached
+returns-in_err-follow-clause-reached g c = IfOk-from_err _ _ c.from_residual.ensures.0
+
+pub returns-in_err-follow-clause-extends : goal.returns-in_err-follow-clause-extends
+returns-in_err-follow-clause-extends g c = IfOk-from_err _ _ c.from_residual.ensures.0
+
+pub returns-in_err-follow-clause-expanded : goal.returns-in_err-follow-clause-expanded
+returns-in_err-follow-clause-expanded g c = IfOk-from_err _ _ c.from_residual.ensures.0
+
+pub returns-in_err-follow-clause-refused : goal.returns-in_err-follow-clause-refused
+returns-in_err-follow-clause-refused g c = refused_as _ c.from_residual.result _ c.in_err-follow.ensures.refused c.from_residual.ensures.1

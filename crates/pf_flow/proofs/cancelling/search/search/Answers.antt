@@ -6,6 +6,7 @@ use Rattle.std.proofs.lemmas.Result.{IfOk-from_err}
 use Rattle.pf_core.proofs.ListLemmas.{at_place}
 use Rattle.pf_flow.specs.Internal.Cancelling.{AreInside, IsReached, IsExpanded, Has}
 use Rattle.pf_flow.proofs.SearchLemmas.{reached_begin, expanded_more, extends_back}
+use Rattle.pf_flow.proofs.NamedLemmas.{refused_as}
 use Rattle.pf_flow.proofs.cancelling.search.search.Goals as goal
 
 pub steps-init : goal.steps-init
@@ -119,3 +120,9 @@ returns-in_err-expand-clause-wide g c = IfOk-from_err _ _ c.from_residual-in_err
 
 pub returns-in_err-expand-clause-whole : goal.returns-in_err-expand-clause-whole
 returns-in_err-expand-clause-whole g c = IfOk-from_err _ _ c.from_residual-in_err-expand.ensures.0
+
+pub returns-in_err-reached-clause-refused : goal.returns-in_err-reached-clause-refused
+returns-in_err-reached-clause-refused g c = refused_as _ c.from_residual.result _ c.in_err-reached.ensures.refused c.from_residual.ensures.1
+
+pub returns-in_err-expand-clause-refused : goal.returns-in_err-expand-clause-refused
+returns-in_err-expand-clause-refused g c = refused_as _ c.from_residual-in_err-expand.result _ c.in_err-expand.ensures.refused c.from_residual-in_err-expand.ensures.1

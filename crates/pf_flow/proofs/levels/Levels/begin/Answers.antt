@@ -1,11 +1,11 @@
-use Rattle.std.proofs.Common.{rules, ◌≡◌, ◌∷◌, ◌++◌, [], ap, subst, arith, ◌∙◌, ℕ, List, length, replicate}
+use Rattle.std.proofs.Common.{◌≡◌, ◌∷◌, ◌++◌, [], ap, subst, arith, ◌∙◌, ℕ, List, length, replicate}
 use Rattle.std.specs.Prelude.{slice_set}
 use Rattle.std.proofs.lemmas.List.{length-set, length-replicate}
 use Rattle.std.proofs.lemmas.Result.{IfOk-from_err}
 use Rattle.pf_core.proofs.ListLemmas.{on_ok}
 use Rattle.pf_flow.specs.Internal.Steps.{AreSteps}
 use Rattle.pf_flow.proofs.LevelListLemmas.{resized, found_begun}
-use Rattle.pf_flow.proofs.NamedLemmas.{ok_when}
+use Rattle.pf_flow.proofs.NamedLemmas.{ok_when, refused_by}
 use Rattle.pf_flow.proofs.levels.Levels.begin.Goals as goal
 
 pub index_mut-requires : goal.index_mut-requires
@@ -40,26 +40,26 @@ pub returns-in_err-resize : goal.returns-in_err-resize
 returns-in_err-resize g c = record {
   found = IfOk-from_err _ _ c.from_residual.ensures.0;
   steps = IfOk-from_err _ _ c.from_residual.ensures.0;
-  refused = search rules;
+  refused = refused_by _ _ c.from_residual.result (λ e h. h) c.from_residual.ensures.1;
 }
 
 pub returns-in_err-resize-2 : goal.returns-in_err-resize-2
 returns-in_err-resize-2 g c = record {
   found = IfOk-from_err _ _ c.from_residual-in_err-resize-2.ensures.0;
   steps = IfOk-from_err _ _ c.from_residual-in_err-resize-2.ensures.0;
-  refused = search rules;
+  refused = refused_by _ _ c.from_residual-in_err-resize-2.result (λ e h. h) c.from_residual-in_err-resize-2.ensures.1;
 }
 
 pub returns-in_err-reserve : goal.returns-in_err-reserve
 returns-in_err-reserve g c = record {
   found = IfOk-from_err _ _ c.from_residual-in_err-reserve.ensures.0;
   steps = IfOk-from_err _ _ c.from_residual-in_err-reserve.ensures.0;
-  refused = search rules;
+  refused = refused_by _ _ c.from_residual-in_err-reserve.result (λ e h. h) c.from_residual-in_err-reserve.ensures.1;
 }
 
 pub returns-in_err-push : goal.returns-in_err-push
 returns-in_err-push g c = record {
   found = IfOk-from_err _ _ c.from_residual-in_err-push.ensures.0;
   steps = IfOk-from_err _ _ c.from_residual-in_err-push.ensures.0;
-  refused = search rules;
+  refused = refused_by _ _ c.from_residual-in_err-push.result (λ e h. h) c.from_residual-in_err-push.ensures.1;
 }

@@ -1,6 +1,8 @@
 use Rattle.std.proofs.Common.{◌∙◌, ap}
 use Rattle.pf_flow.proofs.NetworkLemmas.{network_of_fresh}
 use Rattle.pf_flow.proofs.SparseStoreLemmas.{empty_fresh, empty_capacities}
+use Rattle.std.proofs.lemmas.Result.{IfOk-from_err}
+use Rattle.pf_flow.proofs.NamedLemmas.{refused_as}
 use Rattle.pf_flow.proofs.sparse_capacity.SparseCapacityEdmondsKarp.new.Goals as goal
 
 pub returns-clause-network : goal.returns-clause-network
@@ -25,3 +27,15 @@ pub returns-clause-capacities : goal.returns-clause-capacities
 returns-clause-capacities g c =
     let value = g.C.Number.value in
     empty_capacities value c.in_ok-rows.rows.items c.args.source c.args.sink (value c.zero.result) c.in_ok-rows.ensures.empty
+
+pub returns-in_err-rows-clause-fresh : goal.returns-in_err-rows-clause-fresh
+returns-in_err-rows-clause-fresh g c = IfOk-from_err _ _ c.from_residual.ensures.0
+
+pub returns-in_err-rows-clause-capacities : goal.returns-in_err-rows-clause-capacities
+returns-in_err-rows-clause-capacities g c = IfOk-from_err _ _ c.from_residual.ensures.0
+
+pub returns-in_err-rows-clause-network : goal.returns-in_err-rows-clause-network
+returns-in_err-rows-clause-network g c = IfOk-from_err _ _ c.from_residual.ensures.0
+
+pub returns-in_err-rows-clause-refused : goal.returns-in_err-rows-clause-refused
+returns-in_err-rows-clause-refused g c = refused_as _ c.from_residual.result _ c.in_err-rows.ensures.refused c.from_residual.ensures.1

@@ -1,5 +1,6 @@
 use Rattle.std.proofs.Common.{◌≡◌, refl, arith, ◌∙◌, sym, ap, subst, [], true, false, slice_set}
-use Rattle.std.proofs.lemmas.List.{get_or_default}
+use Rattle.std.specs.Prelude.{◌<◌}
+use Rattle.std.proofs.lemmas.List.{get_or_default, get_or-set_other, length-set, set-get_or}
 use Rattle.std.proofs.lemmas.Option.{none-some}
 use Rattle.pf_flow.specs.Networks.{Agrees}
 use Rattle.pf_flow.specs.SparseRows.{ends, Rises, has_end, row_at, with_edge}
@@ -192,3 +193,48 @@ pub insert-requires : goal.insert-requires
 insert-requires g c =
     let rows = c.args.self.now.rows.items in
     subst (λ row. Rises 0 (ends row)) (sym (c.index_mut.ensures.value ∙ get_or_default rows c.args.from _ [] c.requires.from)) (c.args.self.now.stored.rises c.args.from)
+
+pub returns-then-has-clause-same : goal.returns-then-has-clause-same
+returns-then-has-clause-same g c =
+    let s = c.args.self.now in
+    rows_same g.C.Number.value s.source s.sink (g.C.Number.value s.total) s.details s.rows.items s.rows.items refl (λ a. refl)
+
+pub returns-then-has-clause-room : goal.returns-then-has-clause-room
+returns-then-has-clause-room g c =
+    let rows = c.args.self.now.rows.items in
+    sym (ap (λ r. has_end (ends r) c.args.to) (c.index.ensures ∙ get_or_default rows c.args.from _ [] c.requires.from)) ∙ sym c.has.ensures ∙ c.if-has.true
+
+pub index_mut-requires-2 : goal.index_mut-requires-2
+index_mut-requires-2 g c = omega (arith, c.requires.to, c.args.self.now.rows.ok)
+
+pub insert-requires-2 : goal.insert-requires-2
+insert-requires-2 g c =
+    let rows = c.args.self.now.rows.items in
+    let from = c.args.from in
+    let to = c.args.to in
+    let once = slice_set rows from c.insert.new.self in
+    let inside = subst (λ n. to < n) (sym (length-set rows from c.insert.new.self)) c.requires.to in
+    let there : c.index_mut-2.result.now ≡ row_at rows to = c.index_mut-2.ensures.value ∙ get_or_default once to _ [] inside ∙ get_or-set_other rows from to c.insert.new.self [] (λ e. c.if-from-to.false (sym e)) in
+    subst (λ row. Rises 0 (ends row)) (sym there) (c.args.self.now.stored.rises to)
+
+pub index_mut-requires-in-Err : goal.index_mut-requires-in-Err
+index_mut-requires-in-Err g c = omega (arith, c.requires.from, c.args.self.now.rows.ok)
+
+pub invariant_of-self : goal.invariant_of-self
+invariant_of-self g c =
+    let s = c.args.self.now in
+    let rows = s.rows.items in
+    let from = c.args.from in
+    let back = ap (slice_set rows from) (c.in_err-insert.ensures.unchanged ∙ c.index_mut.ensures.value ∙ get_or_default rows from _ [] c.requires.from) ∙ set-get_or rows from [] in
+    record { stored = subst (λ r. AreRows s.source s.sink r) (sym back) s.stored; summed = λ z e. absurd (none-some z e) }
+
+pub returns-in_err-insert-clause-same : goal.returns-in_err-insert-clause-same
+returns-in_err-insert-clause-same g c =
+    let s = c.args.self.now in
+    let rows = s.rows.items in
+    let from = c.args.from in
+    let value = g.C.Number.value in
+    let total = value s.total in
+    let back = ap (slice_set rows from) (c.in_err-insert.ensures.unchanged ∙ c.index_mut.ensures.value ∙ get_or_default rows from _ [] c.requires.from) ∙ set-get_or rows from [] in
+    subst (λ r. Agrees (rows_network value rows s.source s.sink total s.details) (rows_network value r s.source s.sink total s.details)) (sym back)
+    (rows_same value s.source s.sink total s.details rows rows refl (λ a. refl))

@@ -2,6 +2,8 @@ use Rattle.std.proofs.Common.{◌<◌, refl, sym, subst, length, arith, List, �
 use Rattle.std.proofs.lemmas.Option.{slice_get_read}
 use Rattle.pf_flow.specs.Internal.Steps.{AreSteps}
 use Rattle.pf_flow.proofs.StepLemmas.{placed, targeted, ended}
+use Rattle.std.proofs.lemmas.Result.{IfOk-from_err}
+use Rattle.pf_flow.proofs.NamedLemmas.{refused_by}
 use Rattle.pf_flow.proofs.steps.Steps.add_row.Goals as goal
 use Rattle.pf_flow.proofs.steps.Steps.add_row.Goals.{then-levels-to+in_ok-push, else-levels-to}
 
@@ -45,3 +47,9 @@ loop-end-smaller g c = omega arith
 
 pub index_mut-requires-2 : goal.index_mut-requires-2
 index_mut-requires-2 g c = omega (arith, c.requires.from, c.loop-end.invariant.ends_len, c.loop-end.self.ends.ok)
+
+pub returns-in_err-push-clause-steps : goal.returns-in_err-push-clause-steps
+returns-in_err-push-clause-steps g c = IfOk-from_err _ _ c.from_residual.ensures.0
+
+pub returns-in_err-push-clause-refused : goal.returns-in_err-push-clause-refused
+returns-in_err-push-clause-refused g c = refused_by _ _ c.from_residual.result (λ e h. h) c.from_residual.ensures.1

@@ -1,0 +1,18 @@
+use Rattle.std.proofs.Common.{◌∙◌, arith, inl, inr, refl, ap}
+use Rattle.std.proofs.lemmas.Int.{ints}
+use Rattle.pf_flow.proofs.changes.plan_change.Goals as goal
+
+pub returns-then-is_below-clause-refused : goal.returns-then-is_below-clause-refused
+returns-then-is_below-clause-refused g c =
+    let zero = ap g.C.Number.value c.zero.ensures ∙ g.met.C.Zero.zero_law g.met.C.Integral.exact_law in
+    let low = c.if-is_below.ensures in
+    inr (inl (refl, omega (arith, ints, zero, low)))
+
+pub sum_after-requires-clause-old : goal.sum_after-requires-clause-old
+sum_after-requires-clause-old g c = c.capacity_of-old.ensures
+
+pub returns-clause-low : goal.returns-clause-low
+returns-clause-low g c =
+    let zero = ap g.C.Number.value c.zero.ensures ∙ g.met.C.Zero.zero_law g.met.C.Integral.exact_law in
+    let low = c.if-is_below.ensures in
+    omega (arith, ints, zero, low)
