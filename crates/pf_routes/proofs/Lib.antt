@@ -8,6 +8,7 @@ pub mod Costless
 pub mod Naming
 pub mod CleanNames
 pub mod RankedNames
+pub mod MoreItems
 pub mod PathText
 pub mod NameGraph
 pub mod Networks

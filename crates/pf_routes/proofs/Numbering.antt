@@ -1,9 +1,11 @@
 -- Names by their numbers, and the lines that links stand for.
-use Rattle.std.proofs.Common.{◌≡◌, ℕ, zero, suc, ◌+◌, ◌<◌, ◌≤◌, List, [], ◌∷◌, ◌++◌, map, length, refl, sym, ap, ◌∙◌, subst, arith, take, get_or, Option, Some, None, Result, Ok, Err, Bor, append_assoc, append-nil}
-use Rattle.std.specs.Prelude.{slice_get, IfSome}
-use Rattle.std.specs.List.{position_from, filter_map, AllZip}
+use Rattle.std.proofs.Common.{◌≡◌, ℕ, zero, suc, ◌+◌, ◌<◌, ◌≤◌, List, [], ◌∷◌, ◌++◌, map, length, length-append, refl, sym, ap, ◌∙◌, subst, arith, take, get_or, Bool, true, false, Option, Some, None, Result, Ok, Err, Bor, append_assoc, append-nil}
+use Rattle.std.specs.Prelude.{slice_get, if◌then◌else◌, IfSome}
+use Rattle.std.specs.List.{list_any, position_from, filter_map, AllZip}
+use Rattle.std.specs.Str.{bytes_eq}
 use Rattle.std.proofs.lemmas.Iterator.Adapters.{position_from-zero}
 use Rattle.std.proofs.lemmas.List.{map-append, take_more}
+use Rattle.indexmap.specs.IndexSet.{insert_key}
 use Rattle.pf_routes.specs.EdgeText.{Edge, Line, Blank, Holds, Bad, line_of, said_by, is_bad, edge_in, first_bad_or, edge_text}
 use Rattle.pf_routes.specs.Internal.Fields.{lines_left}
 use Rattle.pf_routes.specs.Internal.Links.{name_at, edge_between, edges_between, AllBelow, KeepsNames, IsNumberOf}
@@ -33,6 +35,19 @@ keeps-trans a b c ab bc = record {
 
 pub keeps-refl : (a : List (Bor (List ℕ))) → KeepsNames a a
 keeps-refl a = record { longer = omega arith; same = λ n l. refl }
+
+name_at-front : (keys more : List (Bor (List ℕ))) (n : ℕ) → n < length keys → name_at (keys ++ more) n ≡ name_at keys n
+name_at-front [] more n lt = absurd (omega (arith, lt))
+name_at-front (x ∷ keys) more zero lt = refl
+name_at-front (x ∷ keys) more (suc n) lt = name_at-front keys more n (omega (arith, lt))
+
+-- names keep their numbers where one more is put in
+pub keeps-insert : (old new : List (Bor (List ℕ))) (key : Bor (List ℕ)) → new ≡ insert_key (λ a b. bytes_eq a.now b.now) old key → KeepsNames old new
+keeps-insert old new key e = subst (KeepsNames old) (sym e) (kept (list_any (λ k. bytes_eq key.now k.now) old))
+  where
+    kept : (known : Bool) → KeepsNames old (if known then old else old ++ key ∷ [])
+    kept true = keeps-refl old
+    kept false = record { longer = omega (arith, length-append old (key ∷ [])); same = λ n l. name_at-front old (key ∷ []) n l }
 
 edge-kept : (old new : List (Bor (List ℕ))) (l : Link) → KeepsNames old new → l.source < length old → l.target < length old → edge_between new l ≡ edge_between old l
 edge-kept old new l kept s t =

@@ -1,15 +1,22 @@
 -- What a network stands for.
-use Rattle.std.specs.Prelude.{◌≡◌, ℕ, ◌<◌, List, length}
+use Rattle.std.specs.Prelude.{◌≡◌, ℕ, ◌<◌, List, length, Ok}
 use Rattle.std.specs.Borrow.{Bor}
 use Rattle.std.specs.List.{IsDistinct}
 use Rattle.std.specs.Str.{bytes_eq}
-use Rattle.pf_routes.specs.EdgeText.{Edge}
+use Rattle.pf_routes.specs.EdgeText.{Edge, edge_text}
 use Rattle.pf_routes.specs.Internal.Graph.{row_of, node_count}
 use Rattle.pf_routes.specs.Internal.Links.{name_at, edges_between, AllBelow, steps_from}
 use Rattle.pf_routes.specs.Internal.NameTable.{HoldsNames}
 use Rattle.pf_routes.specs.declared.routes.links.Link.{Link}
 use Rattle.pf_routes.specs.declared.routes.network.Linked.{Linked}
 use Rattle.pf_routes.specs.declared.routes.network.Network.{Network}
+
+-- the links are the edges of the text, between the numbers of these names, which the table has
+pub record LinksNames {A : Type 0} (linked : Linked A) (names : List (Bor (List ℕ))) (text : List ℕ) : Type 0 where
+  pub kept : HoldsNames linked.names names
+  pub spelled : edge_text text ≡ Ok (edges_between names linked.links.items)
+  pub below : AllBelow (length names) linked.links.items
+  pub distinct : IsDistinct (λ a b. bytes_eq a.now b.now) names
 
 -- the links are these edges, between the numbers of names that the table has
 pub record LinksEdges {A : Type 0} (linked : Linked A) (edges : List Edge) : Type 0 where

@@ -1,11 +1,12 @@
 //! Edges as a graph of numbered names.
 
-ghost use Rattle.std.specs.Prelude.{IfOk, IfErr};
+ghost use Rattle.std.specs.Prelude.{IfOk, IfErr, OnOk};
+ghost use Rattle.pf_routes.specs.Internal.Links.{KeepsNames};
 ghost use Rattle.pf_routes.specs.Internal.Parsed.{HoldsOfEdges, RefusesText};
 
 use crate::routes::error::RouteError;
 use crate::routes::graph::Graph;
-use crate::routes::links::{Link, number, read_links};
+use crate::routes::links::{Link, Names, number, read_links};
 use crate::routes::name_table::NameTable;
 use indexmap::IndexSet;
 use std::alloc::Allocator;
@@ -19,7 +20,7 @@ pub(crate) struct Linked<A: Allocator + Copy> {
 }
 
 impl<A: Allocator + Copy> Linked<A> {
-    ghost use Rattle.pf_routes.specs.Internal.Network.{LinksEdges, NumbersEdges};
+    ghost use Rattle.pf_routes.specs.Internal.Network.{LinksEdges, LinksNames, NumbersEdges};
 
     /// The edges of a text, by the numbers of their names.
     pub(crate) fn read<S: BuildHasher + Drop>(
@@ -31,9 +32,7 @@ impl<A: Allocator + Copy> Linked<A> {
         ensures err { IfErr result (λ e. RefusesText e text.now) }
     {
         let mut names = IndexSet::with_hasher(alloc, hash_builder);
-        let links = read_links(alloc, &mut names, text)?;
-        let names = NameTable::of(alloc, names.as_slice())?;
-        Ok(Linked { names, links })
+        Self::read_into(alloc, &mut names, text)
     }
 
     /// The same, with the numbers of two names, which are numbered first.
@@ -48,11 +47,39 @@ impl<A: Allocator + Copy> Linked<A> {
         ensures err { IfErr result (λ e. RefusesText e text.now) }
     {
         let mut names = IndexSet::with_hasher(alloc, hash_builder);
-        let from = number(&mut names, from)?;
-        let to = number(&mut names, to)?;
-        let links = read_links(alloc, &mut names, text)?;
+        Self::read_with_ends_into(alloc, &mut names, from, to, text)
+    }
+
+    /// The edges of a text, by the numbers of their names. Those that are new are added to the names.
+    fn read_into<'a, S: BuildHasher>(
+        alloc: A,
+        names: &mut Names<'a, S, A>,
+        text: &'a [u8],
+    ) -> Result<Self, RouteError>
+        ensures ok { IfOk result (λ linked. LinksNames linked names.new.keys text.now) }
+        ensures kept { OnOk result (KeepsNames names.old.keys names.new.keys) }
+        ensures err { IfErr result (λ e. RefusesText e text.now) }
+    {
+        let links = read_links(alloc, names, text)?;
         let names = NameTable::of(alloc, names.as_slice())?;
-        Ok((Linked { names, links }, from, to))
+        Ok(Linked { names, links })
+    }
+
+    /// The same, with the numbers of two names.
+    fn read_with_ends_into<'a, S: BuildHasher>(
+        alloc: A,
+        names: &mut Names<'a, S, A>,
+        from: &'a [u8],
+        to: &'a [u8],
+        text: &'a [u8],
+    ) -> Result<(Self, usize, usize), RouteError>
+        ensures ok { IfOk result (λ r. HoldsOfEdges text.now (λ edges. NumbersEdges r.0 r.1 r.2 edges from.now to.now)) }
+        ensures err { IfErr result (λ e. RefusesText e text.now) }
+    {
+        let from = number(names, from)?;
+        let to = number(names, to)?;
+        let linked = Self::read_into(alloc, names, text)?;
+        Ok((linked, from, to))
     }
 }
 

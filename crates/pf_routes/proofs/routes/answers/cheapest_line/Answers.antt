@@ -69,3 +69,6 @@ returns-in_err-from_slice-in-None-clause-err g c = refused_by _ _ c.from_residua
 
 pub returns-in_err-write_path-in-Some-clause-err : goal.returns-in_err-write_path-in-Some-clause-err
 returns-in_err-write_path-in-Some-clause-err g c = refused_by _ _ c.from_residual-in_err-write_path-in-Some.result (no_memory _ c.args.text.items) c.from_residual-in_err-write_path-in-Some.ensures.1
+
+pub returns-clause-err : goal.returns-clause-err
+returns-clause-err g c = tt

@@ -1,13 +1,19 @@
-use Rattle.std.proofs.Common.{◌≡◌, ◌<◌, ◌==◌, false, List, [], ◌∷◌, ◌++◌, length, map, ap, ◌∙◌, arith}
+use Rattle.std.proofs.Common.{◌≡◌, ◌<◌, ◌==◌, false, ℕ, List, [], ◌∷◌, ◌++◌, length, map, sym, ap, subst, ◌∙◌, arith}
+use Rattle.std.specs.Prelude.{All}
 use Rattle.std.proofs.lemmas.List.{take_all}
 use Rattle.pf_routes.specs.AnswerText.{path_line}
-use Rattle.pf_routes.specs.Internal.NameTable.{name_in}
+use Rattle.pf_routes.specs.Internal.NameTable.{name_in, table_len}
 use Rattle.pf_routes.proofs.PathText.{lines_of_paths, lines_more, lines_are_text}
 use Rattle.pf_routes.proofs.routes.path_text.write_paths.Goals as goal
 
 not_empty : {X : Type 0} (xs : List X) → false ≡ (length xs == 0) → 0 < length xs
 not_empty [] e = cc
 not_empty (x ∷ xs) e = omega arith
+
+pub write_path-requires : goal.write_path-requires
+write_path-requires g c =
+    let below = λ (ns : List ℕ). All (λ n. n < table_len c.args.names.now) ns in
+    subst below (sym c.as_slice.ensures.value) (subst (λ p. below p.0.items) (sym c.path-item.is) (c.requires c.loop-path.path-index c.path-item.result c.loop-path-test.true))
 
 pub loop-path-preserved : goal.loop-path-preserved
 loop-path-preserved g c =

@@ -4,3 +4,6 @@ use Rattle.pf_routes.proofs.routes.reading.read_whole.Goals as goal
 
 pub returns-in_err-extend_from_slice-in-Ok-clause-some : goal.returns-in_err-extend_from_slice-in-Ok-clause-some
 returns-in_err-extend_from_slice-in-Ok-clause-some g c = on_error _ c.from_residual.result (_, Consumes-trans _ _ _ _ _ c.loop-text.invariant.read c.in-Ok.ensures.bytes.0)
+
+pub returns-in-Ok-eq0-clause-errors : goal.returns-in-Ok-eq0-clause-errors
+returns-in-Ok-eq0-clause-errors g c = tt

@@ -1,4 +1,4 @@
-use Rattle.std.proofs.Common.{ℕ, zero, suc, ◌+◌, ◌-◌, ◌≡◌, nat_eq, nat_lt, Bool, true, false, ◌||◌, ◌&&◌, List, ◌++◌, Option, arith, length, take, drop, refl, subst, sym, ap, ◌∙◌, take-add, length-take, length-drop}
+use Rattle.std.proofs.Common.{ℕ, zero, suc, ◌+◌, ◌-◌, ◌≡◌, nat_eq, nat_lt, Bool, true, false, ◌||◌, ◌&&◌, List, ◌++◌, Option, arith, length, take, drop, refl, subst, sym, ap, ◌∙◌, take-add, length-take, length-drop, take_all}
 use Rattle.std.specs.Io.KnownBytes.{Appends}
 use Rattle.std.proofs.KnownBytes.{Appends-trans}
 use Rattle.std.proofs.Math.Dec.{eqb-suc-zero}
@@ -23,3 +23,9 @@ loop-at-preserved g c = record {
   written = written_more _ _ _ c.args.bytes.now c.loop-at.at c.in-Ok.count c.loop-at.invariant.written c.in-Ok.ensures.bytes;
   unfailed = took_some c.in-Ok.count _ _ _ _ c.in-Ok.ensures.noted c.in-Ok.count-test.1 c.loop-at.invariant.unfailed;
 }
+
+pub returns-clause-ok : goal.returns-clause-ok
+returns-clause-ok g c = subst (Appends _ _) (take_all c.loop-at.at c.args.bytes.now c.loop-at-test.false) c.loop-at.invariant.written
+
+pub returns-clause-errors : goal.returns-clause-errors
+returns-clause-errors g c = tt
