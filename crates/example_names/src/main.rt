@@ -4,7 +4,7 @@
 use pf_tables::EdgeList;
 
 /// Roads, each from one place to another, and what it costs to take it.
-const ROADS: [(&str, &str, u32); 7] = [
+const ROADS: &[(&str, &str, u32)] = &[
     ("Arden", "Byford", 4),
     ("Arden", "Copley", 2),
     ("Byford", "Copley", 1),
@@ -14,21 +14,24 @@ const ROADS: [(&str, &str, u32); 7] = [
     ("Denby", "Elmore", 2),
 ];
 
-/// Prints a cost, and the places on the way behind it.
-fn show(rt: &HostRuntime, cost: u32, places: &[&&str]) -> Result<(), anyhow::Error> {
+/// Prints the cheapest way from one place to another: what it costs, and the places on it.
+fn print_way(
+    rt: &HostRuntime,
+    map: &EdgeList<'_, &str, u32>,
+    from: &str,
+    to: &str,
+) -> Result<(), anyhow::Error> {
+    let Some((places, cost)) = map.dijkstra(rt.alloc(), &from, &to)? else {
+        return Ok(rt.println("no way")?);
+    };
     print!(rt; "{cost}:")?;
     for place in places {
         print!(rt; " {place}")?;
     }
-    rt.println("")?;
-    Ok(())
+    Ok(rt.println("")?)
 }
 
 fn main(rt: HostRuntime) -> Result<(), anyhow::Error> {
-    let roads = ROADS;
-    let map = EdgeList::new(rt.alloc(), &roads)?;
-    match map.dijkstra(rt.alloc(), &"Arden", &"Elmore")? {
-        Some((places, cost)) => show(&rt, cost, &places),
-        None => Ok(rt.println("no way")?),
-    }
+    let map = EdgeList::new(rt.alloc(), ROADS)?;
+    print_way(&rt, &map, "Arden", "Elmore")
 }

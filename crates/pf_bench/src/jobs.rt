@@ -37,7 +37,7 @@ pub enum Job {
 }
 
 /// The jobs, each under the name of its call and that of its input.
-const JOBS: [(&str, Job); 45] = [
+const JOBS: &[(&str, Job)] = &[
     ("bfs-board", Job::Board(BoardJob::Bfs)),
     ("bfs_reach-board", Job::Board(BoardJob::BfsReach)),
     (
@@ -106,7 +106,7 @@ const JOBS: [(&str, Job); 45] = [
 impl Job {
     /// The job of this name.
     pub fn named(name: &str) -> Option<Job> {
-        for job in &JOBS {
+        for job in JOBS {
             if job.0 == name {
                 return Some(job.1);
             }

@@ -102,11 +102,11 @@ impl<S: EdmondsKarp<i64>> EdmondsKarp<i64> for Counting<S> {
 
 /// Wide pipes from 0 over 1 and 2 to 3, by rows, and a narrow one from 1 to 2. Paths that go through the
 /// narrow one each time, there and back, add 1 each, so that there are 2,000 of them.
-const WIDE: [i64; 16] = [0, 1000, 1000, 0, 0, 0, 1, 1000, 0, 0, 0, 1000, 0, 0, 0, 0];
+const WIDE: &[i64] = &[0, 1000, 1000, 0, 0, 0, 1, 1000, 0, 0, 0, 1000, 0, 0, 0, 0];
 
 /// The total of a greatest flow through `WIDE`, and how often flow was added to a pair.
 fn additions(alloc: Global) -> Result<(i64, u64), PathError> {
-    let Ok(wide) = Matrix::from_vec(4, 4, Vec::from_slice(alloc, &WIDE)?) else {
+    let Ok(wide) = Matrix::from_vec(4, 4, Vec::from_slice(alloc, WIDE)?) else {
         return Err(PathError::OutOfMemory);
     };
     let mut store: Counting<DenseCapacity<i64>> = Counting::from_matrix(alloc, 0, 3, &wide)?;

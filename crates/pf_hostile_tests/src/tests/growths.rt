@@ -60,7 +60,7 @@ enum RoundCall {
 }
 
 /// Each call, and how many growths it makes at the least.
-const CALLS: [(Call, u64); 14] = [
+const CALLS: &[(Call, u64)] = &[
     (Call::Round(RoundCall::Parents), 6),
     (Call::Round(RoundCall::PartOfParents), 6),
     (Call::Round(RoundCall::Depth), 4),
@@ -78,10 +78,10 @@ const CALLS: [(Call, u64); 14] = [
 ];
 
 /// The edges from four nodes, of which the first three are on cycles.
-const ROUND: [&[(usize, u32)]; 4] = [&[(1, 1), (2, 9)], &[(2, 5), (3, 1)], &[(0, 0)], &[]];
+const ROUND: &[&[(usize, u32)]] = &[&[(1, 1), (2, 9)], &[(2, 5), (3, 1)], &[(0, 0)], &[]];
 
 /// The edges from three nodes, without a cycle.
-const IN_ORDER: [&[(usize, u32)]; 3] = [&[(1, 1), (2, 1)], &[(2, 1)], &[]];
+const IN_ORDER: &[&[(usize, u32)]] = &[&[(1, 1), (2, 1)], &[(2, 1)], &[]];
 
 /// A graph in a table of rows.
 type Table<'a> = Rows<'a, &'a [(usize, u32)], u32>;
@@ -163,7 +163,7 @@ const PIPES: [Edge<u32, i64>; 5] = [
 ];
 
 /// The capacities between four vertices, by rows: the same pipes from 0 over 1 and 2 to 3.
-const SQUARE: [i64; 16] = [0, 3, 2, 0, 0, 0, 1, 2, 0, 0, 0, 3, 0, 0, 0, 0];
+const SQUARE: &[i64] = &[0, 3, 2, 0, 0, 0, 1, 2, 0, 0, 0, 3, 0, 0, 0, 0];
 
 /// Whether the answer is a greatest flow and the least cut between the vertices 10 and 20.
 fn is_flow(answer: Result<EKFlows<u32, i64, Heap<'_>>, PathError>) -> Result<bool, PathError> {
@@ -194,11 +194,11 @@ fn is_filled<'h, S>(heap: Heap<'h>) -> Result<bool, PathError>
 where
     S: EdmondsKarp<i64, Alloc = Heap<'h>> + Clone,
 {
-    let Ok(square) = Matrix::from_vec(4, 4, Vec::from_slice(heap, &SQUARE)?) else {
+    let Ok(square) = Matrix::from_vec(4, 4, Vec::from_slice(heap, SQUARE)?) else {
         return Ok(false);
     };
     let is_flowing = is_flowing::<S>(heap, &square)?;
-    Ok(is_flowing && S::from_vec(heap, 0, 3, &SQUARE)?.total_capacity() == 0)
+    Ok(is_flowing && S::from_vec(heap, 0, 3, SQUARE)?.total_capacity() == 0)
 }
 
 /// A test that each position passes.
@@ -258,14 +258,14 @@ fn refuse_each_growth(rt: &impl Abort, ample: Global, asked: &Asked<'_>, call: C
 
 #[test]
 fn calls_refuse_each_growth(rt: HostRuntime) {
-    let (round, in_order, start) = (ROUND, IN_ORDER, 1usize);
+    let start = 1usize;
     let asked = Asked {
-        round: Rows::new(&round).expect(&rt, "a graph"),
-        in_order: Rows::new(&in_order).expect(&rt, "a graph"),
+        round: Rows::new(ROUND).expect(&rt, "a graph"),
+        in_order: Rows::new(IN_ORDER).expect(&rt, "a graph"),
         starts: NodeRefs::from_one(rt.alloc(), &start).expect(&rt, "memory"),
     };
     for (call, least) in CALLS {
-        let growths = refuse_each_growth(&rt, rt.alloc(), &asked, call);
-        assert!(rt; growths >= least, "{call:?} makes {growths} growths");
+        let growths = refuse_each_growth(&rt, rt.alloc(), &asked, *call);
+        assert!(rt; growths >= *least, "{call:?} makes {growths} growths");
     }
 }
