@@ -1,0 +1,2 @@
+pub mod AssignmentProducts
+pub mod Scores

@@ -1,7 +1,10 @@
-//! Tests of matrices, and a caller that shows how their contracts are used.
+//! Tests of matrices, of grids, and of the calls of `pf_graph`, with callers that show how their
+//! contracts are used. All of it is read for the tests alone, so that it is proved once.
 #![tactic(auto)]
 
 #[cfg(test)]
-mod callers;
+mod graph;
 #[cfg(test)]
-mod tests;
+mod grid;
+#[cfg(test)]
+mod matrix;

@@ -1,12 +1,12 @@
-//! Tests of the searches of `pf_search`. All of it is read for the tests alone, so that it is proved
-//! once.
+//! Tests of searches: those of `pf_search`, those of `pf_informed`, orders and components of `pf_orders`,
+//! and ranked paths of `pf_yen`. All of it is read for the tests alone, so that it is proved once.
 #![tactic(auto)]
 
 #[cfg(test)]
-mod dear_steps;
+mod informed;
 #[cfg(test)]
-mod lists;
+mod orders;
 #[cfg(test)]
-mod parents;
+mod search;
 #[cfg(test)]
-mod rows;
+mod yen;

@@ -1,2 +1,0 @@
-pub mod AssignmentProducts
-pub mod Scores

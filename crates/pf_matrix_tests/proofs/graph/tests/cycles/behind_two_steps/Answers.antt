@@ -1,0 +1,24 @@
+use Rattle.std.proofs.Common.{rules, ◌≡◌, ◌<◌, ℕ, ℤ, pos, negsuc, arith}
+use Rattle.std.specs.Prelude.{◌≤ℤ◌, ◌+ℤ◌, unsigned_abs, int_rem}
+use Rattle.std.proofs.lemmas.Int.{ints, rem_below}
+use Rattle.pf_graph.proofs.StepCallers.{int_step}
+use Rattle.pf_matrix_tests.proofs.graph.tests.cycles.behind_two_steps.Goals as goal
+
+abbrev moved : ℤ → ℤ
+moved x = int_rem (x +ℤ pos 5) (pos 6) +ℤ pos 3
+
+abbrev IsNear : ℤ → Type 0
+IsNear x = (negsuc 9 ≤ℤ x) × (x ≤ℤ pos 8)
+
+near : (z : ℤ) → unsigned_abs z < 6 → IsNear (z +ℤ pos 3)
+near (pos n) l = (omega (arith, ints), omega (arith, ints))
+near (negsuc n) l = (omega (arith, ints), omega (arith, ints))
+
+keeps : (x : ℤ) → IsNear x → IsNear (moved x)
+keeps x j = near (int_rem (x +ℤ pos 5) (pos 6)) (rem_below (x +ℤ pos 5) (pos 6) (omega arith))
+
+pub floyd-requires-clause-steps : goal.floyd-requires-clause-steps
+floyd-requires-clause-steps c = (moved, int_step moved (negsuc 9) IsNear (omega (arith, ints), omega (arith, ints)) keeps (λ x j. search rules) (λ x r j p. search rules))
+
+pub brent-requires-clause-steps : goal.brent-requires-clause-steps
+brent-requires-clause-steps c = (moved, int_step moved (negsuc 9) IsNear (omega (arith, ints), omega (arith, ints)) keeps (λ x j. search rules) (λ x r j p. search rules))

@@ -1,0 +1,8 @@
+//! Tests of the calls of `pf_informed`, over lists of edges.
+
+mod boards;
+mod graphs;
+mod listed;
+mod puzzle;
+mod rows;
+mod seen;
