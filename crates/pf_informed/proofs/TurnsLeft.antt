@@ -17,6 +17,9 @@ positive : (m n : ℕ) → 0 < m → 0 < m ^ n
 positive m zero h = omega (arith, pow-zero m)
 positive m (suc n) h = let p = scaled 0 m (m ^ n) h (positive m n h) in omega (arith, pow-succ' m n, p)
 
+pub some_turns : 0 < 18446744073709551616
+some_turns = omega arith
+
 module _ {C : Type 0} (most deep : ℕ) (some : 0 < most) where
   -- one place of the last frame was looked at
   pub advanced_less : (f : Frame C) (fs : List (Frame C)) → f.at < f.end → turns_left most deep (record f { at = f.at + 1 }) fs < turns_left most deep f fs

@@ -1,5 +1,5 @@
 -- The turns of a depth-first search to a limit over nodes.
-use Rattle.std.proofs.Common.{ℕ, ◌+◌, ◌<◌, ◌≤◌, ◌≡◌, refl, sym, ◌∙◌, ap, subst, arith, Bool, true, false, true≢false, List, [], ◌∷◌, ◌++◌, length, inl, inr, ℤ, pos, nat_eq, Option, Some, None}
+use Rattle.std.proofs.Common.{ℕ, ◌+◌, ◌<◌, ◌≤◌, ◌≡◌, refl, sym, ◌∙◌, ap, subst, arith, Bool, true, false, true≢false, List, [], ◌∷◌, ◌++◌, length, inl, inr, ℤ, pos, nat_eq, Option, Some, None, get_or}
 use Rattle.std.specs.Prelude.{◌↔◌, ◌≤ℤ◌, ◌+ℤ◌, ◌⊎◌, Contains, reverse, slice_get, map}
 use Rattle.std.specs.Cmp.{IsEquivalence}
 use Rattle.std.specs.List.{AllZip}
@@ -13,7 +13,7 @@ use Rattle.pf_core.specs.Nodes.{NodeGraph, StandsFor}
 use Rattle.pf_core.specs.NodeLaws.{StandsFor-inside}
 use Rattle.pf_core.specs.Numbered.{Grows}
 use Rattle.pf_core.proofs.FrontierLemmas.{walk_positive}
-use Rattle.pf_core.proofs.ListLemmas.{reverse-cons, Contains-head, Contains-tail, Contains-cases}
+use Rattle.pf_core.proofs.ListLemmas.{at_place, reverse-cons, Contains-head, Contains-tail, Contains-cases}
 use Rattle.pf_core.proofs.PathLemmas.{AllZip-map}
 use Rattle.pf_core.proofs.WalkLemmas.{distinct_nodes}
 use Rattle.pf_informed.specs.Estimates.{IsAdmissible}
@@ -65,11 +65,23 @@ numbers_map {C} (f ∷ fs) = reverse-cons f.number (numbers_of fs) ∙ ap (λ ns
 pub numbers_up : {C : Type 0} (f : Frame C) (trail : List (Frame C)) → reverse (numbers_of (f ∷ reverse trail)) ≡ map (λ (h : Frame C). h.number) trail ++ f.number ∷ []
 numbers_up {C} f trail = reverse-cons f.number (numbers_of (reverse trail)) ∙ ap (λ ns. ns ++ f.number ∷ []) (numbers_map (reverse trail) ∙ ap (map (λ (h : Frame C). h.number)) (reverse-reverse trail))
 
+-- a number that was found stays one of those that were
+pub still_found : (i m n : ℕ) → i < m → m ≤ n → i < n
+still_found i m n h l = omega (arith, h, l)
+
+-- a sum within a limit, of which one part is not below 0
+pub part_within : (s e l m : ℤ) → e ≡ l → pos 0 ≤ℤ l → (s +ℤ e) ≤ℤ m → s ≤ℤ m
+part_within s e l m is low h = omega (arith, ints, is, low, h)
+
 module _ {N C : Type 0} (eq : N → N → Bool) (laws : IsEquivalence eq) (value : C → ℤ) (fits : ℤ → Type 0) (g : NodeGraph N) (test : N → Bool) (least : N → ℤ) (first : N) where
   module _ (keys : List N) (steps : List (ℕ × C)) (spans : List (Option Span)) (rows : HasRows value (IsCheapStep eq g) test (StandsFor eq keys) steps spans) where
     -- the end of the last frame's row lies within the steps
     pub frame_ends : (found : ℕ) → IsTable found steps spans → (f : Frame C) (fs : List (Frame C)) (cut : Option C) (past : Bool) → IsOnWay eq value fits g test least first keys steps spans f fs cut past → (f.at ≤ f.end) × (f.end ≤ length steps)
     frame_ends found t f fs cut past h = let b = h.trail.0 in let w = t.within f.number b.span b.has in (b.stops, omega (arith, b.ends, w.1))
+
+    -- the step that the last frame is at
+    pub step_at : (found : ℕ) → IsTable found steps spans → (f : Frame C) (fs : List (Frame C)) (cut : Option C) (past : Bool) → IsOnWay eq value fits g test least first keys steps spans f fs cut past → f.at < f.end → (x : ℕ × C) → get_or steps f.at x ≡ x → slice_get steps f.at ≡ Some x
+    step_at found t f fs cut past h inside x e = let b = frame_ends found t f fs cut past h in at_place steps f.at x x (omega (arith, inside, b.1)) e
 
     -- the frame below is at a step
     pub room : (f : Frame C) (fs : List (Frame C)) (cut : Option C) (past : Bool) → IsOnWay eq value fits g test least first keys steps spans f fs cut past → (e : Frame C) (es : List (Frame C)) → fs ≡ e ∷ es → e.at < e.end

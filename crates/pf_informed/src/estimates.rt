@@ -6,31 +6,35 @@ ghost use Rattle.pf_core.specs.Nodes.{NodeGraph};
 ghost use Rattle.pf_informed.specs.Estimates.{AnswersEstimate};
 ghost use Rattle.pf_informed.specs.Internal.Estimated.{IsEstimated};
 
-use pf_base::{Cost, PathError};
+use pf_base::PathError;
+use pf_core::discovery::Weighted;
+use pf_core::tested::Tested;
 use std::alloc::Allocator;
+use std::hash::Hash;
 
 /// Asks for the estimates of the nodes behind those that were asked for, and keeps them.
-pub(crate) fn ask<N, C, FH, A>(
-    nodes: &[N],
+pub(crate) fn ask<N, C, IN, FN, FH, FS, A>(
+    graph: &Tested<N, Weighted, IN, FN, FS, A>,
     estimate: &mut FH,
     estimates: &mut Vec<C, A>,
 ) -> Result<(), PathError>
 where
-    N: Eq,
-    C: Cost,
+    N: Eq + Hash + Drop,
+    C: Copy,
     FH: FnMut(&N) -> C,
     A: Allocator,
-    requires few { length estimates.old.items ≤ length nodes.now }
-    requires graph { (g : NodeGraph N) × (h : N → ℤ) × AnswersEstimate FH.FnMut N.eq C.value estimate.old (InReach N.eq g.edges g.starts) h
-        × ((k : ℕ) (x : N) → slice_get nodes.now k ≡ Some x → InReach N.eq g.edges g.starts x) }
-    ensures all { OnOk result (length estimates.new.items ≡ length nodes.now) }
-    ensures graph { OnOk result ((g : NodeGraph N) (h : N → ℤ) → AnswersEstimate FH.FnMut N.eq C.value estimate.old (InReach N.eq g.edges g.starts) h
-        → ((k : ℕ) (x : N) → slice_get nodes.now k ≡ Some x → InReach N.eq g.edges g.starts x)
-        → AnswersEstimate FH.FnMut N.eq C.value estimate.new (InReach N.eq g.edges g.starts) h
-        × (IsEstimated C.value h (slice_get nodes.now) estimates.old.items → IsEstimated C.value h (slice_get nodes.now) estimates.new.items)) }
+    requires few { length estimates.old.items ≤ length graph.now.discovery.nodes.keys }
+    requires graph { (value : C → ℤ) × (g : NodeGraph N) × (h : N → ℤ) × AnswersEstimate FH.FnMut N.eq value estimate.old (InReach N.eq g.edges g.starts) h
+        × ((k : ℕ) (x : N) → slice_get graph.now.discovery.nodes.keys k ≡ Some x → InReach N.eq g.edges g.starts x) }
+    ensures all { OnOk result (length estimates.new.items ≡ length graph.now.discovery.nodes.keys) }
+    ensures graph { OnOk result ((value : C → ℤ) (g : NodeGraph N) (h : N → ℤ) → AnswersEstimate FH.FnMut N.eq value estimate.old (InReach N.eq g.edges g.starts) h
+        → ((k : ℕ) (x : N) → slice_get graph.now.discovery.nodes.keys k ≡ Some x → InReach N.eq g.edges g.starts x)
+        → AnswersEstimate FH.FnMut N.eq value estimate.new (InReach N.eq g.edges g.starts) h
+        × (IsEstimated value h (slice_get graph.now.discovery.nodes.keys) estimates.old.items → IsEstimated value h (slice_get graph.now.discovery.nodes.keys) estimates.new.items)) }
     ensures kept { OnOk result ((k : ℕ) (c : C) → slice_get estimates.old.items k ≡ Some c → slice_get estimates.new.items k ≡ Some c) }
     ensures refused { IfErr result (λ e. e ≡ PathError.OutOfMemory) }
 {
+    let nodes = graph.discovery.nodes.as_slice();
     'nodes: for number in estimates.len()..nodes.len() {
         let asked = estimate(&nodes[number]);
         estimates.push(asked)?;

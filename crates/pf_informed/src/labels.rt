@@ -1,6 +1,6 @@
 //! Labels that any later step may lower.
 
-ghost use Rattle.std.specs.Prelude.{◌≡◌, ◌<◌, ◌≤◌, ◌≤ℤ◌, ◌<ℤ◌, ◌++◌, ◌-◌, ◌^◌, ℕ, None, Contains, OnOk, IfOk, IfErr, replicate, MatchBool, MatchOption, length};
+ghost use Rattle.std.specs.Prelude.{◌≡◌, ◌<◌, ◌≤◌, ◌≤ℤ◌, ◌<ℤ◌, ◌++◌, ◌-◌, ◌^◌, ℕ, ℤ, None, Contains, OnOk, IfOk, IfErr, replicate, MatchBool, MatchOption, length};
 ghost use Rattle.pf_core.specs.declared.labels.Label.{Label};
 ghost use Rattle.pf_core.specs.Labels.{HasLabel, IsChain};
 ghost use Rattle.pf_informed.specs.Internal.Forest.{IsForest};
@@ -67,12 +67,12 @@ fn parent_of<C: Copy>(labels: &[Slot<C>], number: usize) -> Option<usize>
 }
 
 /// The numbers on the path to `last`, from number 0 on.
-pub(crate) fn path_to<C: Cost, A: Allocator + Copy>(
+pub(crate) fn path_to<C: Copy, A: Allocator + Copy>(
     alloc: A,
     labels: &[Slot<C>],
     last: usize,
 ) -> Result<Vec<usize, A>, PathError>
-    requires forest { IsForest C.value labels.now }
+    requires forest { (value : C → ℤ) × IsForest value labels.now }
     requires labelled { (l : Label C) × HasLabel labels.now last l }
     ensures chain { IfOk result (λ numbers. IsChain labels.now last numbers.items) }
     ensures inside { IfOk result (λ numbers. (k : ℕ) → Contains numbers.items k → k < length labels.now) }

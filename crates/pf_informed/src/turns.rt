@@ -58,13 +58,8 @@ where
         × ((passes : N → Bool) → IsInformed C.value C.fits search.new.estimates.items (IsStep N.eq g) passes (StandsFor N.eq graph.now.discovery.nodes.keys) search.new.labels.items (heap_items search.new.queue) (length graph.now.discovery.nodes.keys))) }
     ensures refused { IfErr result (λ e. e ≡ PathError.OutOfMemory) }
 {
-    ask(
-        graph.discovery.nodes.as_slice(),
-        estimate,
-        &mut search.estimates,
-    )?;
-    search.begin()?;
-    Ok(())
+    ask(graph, estimate, &mut search.estimates)?;
+    search.begin()
 }
 
 /// Opens a number that was taken out: finds what its node leads to, asks for the estimates of what is
@@ -113,13 +108,8 @@ where
     ensures refused { IfErr result (λ e. e ≡ PathError.OutOfMemory) }
 {
     graph.expand(number, &mut search.row)?;
-    ask(
-        graph.discovery.nodes.as_slice(),
-        estimate,
-        &mut search.estimates,
-    )?;
-    search.follow(number)?;
-    Ok(())
+    ask(graph, estimate, &mut search.estimates)?;
+    search.follow(number)
 }
 
 /// Clones of the nodes on the path to a number.

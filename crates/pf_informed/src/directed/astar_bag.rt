@@ -188,18 +188,18 @@ fn solution_of<N, C, A>(
 ) -> Result<Option<(AstarSolution<N, A>, C)>, PathError>
 where
     N: Eq + Hash + Drop,
-    C: Cost,
+    C: Copy,
     A: Allocator,
     requires { IfOk found (λ answer. MatchOption answer ⊤
         (λ found. AreWays (length found.0.before.items) (before_in found.0.before.items) found.0.way.items found.0.places.items found.0.waiting.items × (length found.0.before.items ≤ length nodes.keys))) }
 
-    ensures all { (start : N) (edges : N → List (N × ℤ)) (test : N → Bool)
+    ensures all { (value : C → ℤ) (start : N) (edges : N → List (N × ℤ)) (test : N → Bool)
         → IfOk found (λ answer. MatchOption answer
         (HasNoGoalWalk N.eq (IsSuccessor N.eq edges) (start ∷ []) test)
-        (λ found. AreCheapestCleanPaths N.eq edges (start ∷ []) test (paths_of nodes.keys (ways_left (before_in found.0.before.items) (length found.0.before.items) found.0.way.items found.0.waiting.items)) (C.value found.1)))
+        (λ found. AreCheapestCleanPaths N.eq edges (start ∷ []) test (paths_of nodes.keys (ways_left (before_in found.0.before.items) (length found.0.before.items) found.0.way.items found.0.waiting.items)) (value found.1)))
         → IfOk result (λ answer. MatchOption answer
         (HasNoGoalWalk N.eq (IsSuccessor N.eq edges) (start ∷ []) test)
-        (λ found. AreCheapestCleanPaths N.eq edges (start ∷ []) test found.0.left (C.value found.1))) }
+        (λ found. AreCheapestCleanPaths N.eq edges (start ∷ []) test found.0.left (value found.1))) }
 
     ensures ready { IfOk result (λ answer. MatchOption answer ⊤ (λ found. found.0.refused ≡ false)) }
     ensures errors { (e : PathError) → result ≡ Err e → found ≡ Err e }
@@ -296,13 +296,16 @@ where
 }
 
 /// The paths that an iterator gives.
-fn gather<N, A>(alloc: A, mut solution: AstarSolution<N, A>) -> Result<Vec<Vec<N, A>, A>, PathError>
+fn gather<N, A>(
+    alloc: A,
+    solution: &mut AstarSolution<N, A>,
+) -> Result<Vec<Vec<N, A>, A>, PathError>
 where
     N: Eq + Hash + Clone + Drop,
     A: Allocator + Copy,
     requires clones { IsLawfulClone N.eq N.is_clone }
-    requires ready { solution.refused ≡ false }
-    ensures all { IfOk result (λ paths. AreGathered N.eq paths.items solution.left) }
+    requires ready { solution.old.refused ≡ false }
+    ensures all { IfOk result (λ paths. AreGathered N.eq paths.items solution.old.left) }
     ensures refused { IfErr result (λ e. e ≡ PathError.OutOfMemory) }
 {
     let mut paths = Vec::new(alloc);
@@ -350,9 +353,11 @@ where
 
     ensures errors { IfErr result (λ e. (e ≡ PathError.OutOfMemory) ⊎ (e ≡ PathError.CostOverflow)) }
 {
-    let Some((solution, cost)) = astar_bag(alloc, start, successors, estimate, success)? else {
+    let Some((mut solution, cost)) = astar_bag(alloc, start, successors, estimate, success)? else {
         return Ok(None);
     };
-    let paths = gather(alloc, solution)?;
+    let paths = gather(alloc, &mut solution);
+    drop(solution);
+    let paths = paths?;
     Ok(Some((paths, cost)))
 }

@@ -61,11 +61,7 @@ where
 
     ensures errors { IfErr result (λ e. (e ≡ PathError.OutOfMemory) ⊎ (e ≡ PathError.CostOverflow)) }
 {
-    ask(
-        known.graph.discovery.nodes.as_slice(),
-        &mut known.estimate,
-        &mut known.estimates,
-    )?;
+    ask(&known.graph, &mut known.estimate, &mut known.estimates)?;
     let mut limit = known.estimates[0];
     'limits: loop {
         match look_through(alloc, known, limit)? {

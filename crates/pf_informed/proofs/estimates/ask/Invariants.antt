@@ -9,8 +9,8 @@ abbrev pub invariant-nodes : goal.invariant-nodes
 invariant-nodes g l = record {
   len : length l.estimates.items ≡ l.number;
   kept : (k : ℕ) (c : g.row.C.Denot) → slice_get l.fn.estimates.items k ≡ Some c → slice_get l.estimates.items k ≡ Some c;
-  answered : (s : NodeGraph g.row.N.Denot) (h : g.row.N.Denot → ℤ) → AnswersEstimate g.FH.FnMut g.N.PartialEq.eq g.C.Number.value l.fn.estimate (InReach g.N.PartialEq.eq s.edges s.starts) h
-      → ((k : ℕ) (x : g.row.N.Denot) → slice_get l.nodes k ≡ Some x → InReach g.N.PartialEq.eq s.edges s.starts x)
-      → AnswersEstimate g.FH.FnMut g.N.PartialEq.eq g.C.Number.value l.estimate (InReach g.N.PartialEq.eq s.edges s.starts) h
-      × (IsEstimated g.C.Number.value h (slice_get l.nodes) l.fn.estimates.items → IsEstimated g.C.Number.value h (slice_get l.nodes) l.estimates.items);
+  answered : (value : g.row.C.Denot → ℤ) (s : NodeGraph g.row.N.Denot) (h : g.row.N.Denot → ℤ) → AnswersEstimate g.FH.FnMut g.N.PartialEq.eq value l.fn.estimate (InReach g.N.PartialEq.eq s.edges s.starts) h
+      → ((k : ℕ) (x : g.row.N.Denot) → slice_get l.fn.graph.discovery.nodes.keys k ≡ Some x → InReach g.N.PartialEq.eq s.edges s.starts x)
+      → AnswersEstimate g.FH.FnMut g.N.PartialEq.eq value l.estimate (InReach g.N.PartialEq.eq s.edges s.starts) h
+      × (IsEstimated value h (slice_get l.fn.graph.discovery.nodes.keys) l.fn.estimates.items → IsEstimated value h (slice_get l.fn.graph.discovery.nodes.keys) l.estimates.items);
 }

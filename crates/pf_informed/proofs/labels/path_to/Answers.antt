@@ -21,8 +21,8 @@ pub climb-smaller : goal.climb-smaller
 climb-smaller g c =
     let labels = c.args.labels.now in
     let p = c.in-Some.ensures in
-    let m = c.requires.forest.falls c.climb.at p.0 p.1 p.3 in
-    let up = c.requires.forest.climbs c.in-Some.parent m.0 (subst (λ (k : ℕ). HasLabel labels k m.0) p.2 m.1) in
+    let m = c.requires.forest.1.falls c.climb.at p.0 p.1 p.3 in
+    let up = c.requires.forest.1.climbs c.in-Some.parent m.0 (subst (λ (k : ℕ). HasLabel labels k m.0) p.2 m.1) in
     let chain : Climbs labels c.climb.at (c.in-Some.parent ∷ up.0) = (p.0, p.1, p.2, p.3, up.1) in
     let now = steps_are labels (c.in-Some.parent ∷ up.0) c.climb.at (length labels) chain (omega (arith, chain_short labels (c.in-Some.parent ∷ up.0) c.climb.at chain)) in
     let next = steps_are labels up.0 c.in-Some.parent (length labels) up.1 (omega (arith, chain_short labels up.0 c.in-Some.parent up.1)) in
@@ -33,7 +33,7 @@ climb-preserved g c =
     let i = c.climb.invariant in
     let p = c.in-Some.ensures in
     let e = c.in_ok-push-2.ensures.items in
-    let up = c.requires.forest.falls c.climb.at p.0 p.1 p.3 in
+    let up = c.requires.forest.1.falls c.climb.at p.0 p.1 p.3 in
     let at : HasLabel c.args.labels.now c.in-Some.parent up.0 = subst (λ (k : ℕ). HasLabel c.args.labels.now k up.0) p.2 up.1 in
     record {
       labelled = (up.0, at);

@@ -23,3 +23,20 @@ entries-preserved g c =
       waits = λ k m h w. waits_on g.C.Number.value c.args.labels.now.items c.args.estimates.now.items _ _ c.in-Some.entry i.queue c.in-Some.ensures.first.0 c.if-not-is_lower.ensures k m h (i.waits k m h w);
       fewer = omega (arith, c.in-Some.ensures.first.1, i.fewer);
     }
+
+pub entries-init : goal.entries-init
+entries-init g c = record {
+  ordered = c.requires.ordered;
+  queue = c.requires.queue;
+  waits = λ k m h w. w;
+  fewer = omega arith;
+}
+
+pub take_first-requires : goal.take_first-requires
+take_first-requires g c = c.entries.invariant.ordered
+
+pub returns-then-not-is_lower-clause-ordered : goal.returns-then-not-is_lower-clause-ordered
+returns-then-not-is_lower-clause-ordered g c = c.take_first.ensures.ordered
+
+pub returns-clause-ordered : goal.returns-clause-ordered
+returns-clause-ordered g c = c.take_first.ensures.ordered

@@ -4,6 +4,7 @@ use Rattle.std.proofs.lemmas.List.{take_all}
 use Rattle.pf_core.proofs.ListLemmas.{Contains-take, Contains-take_more, Contains-take_here}
 use Rattle.pf_informed.specs.Internal.Tight.{IsTightStep}
 use Rattle.pf_informed.specs.Internal.Ways.{before_in}
+use Rattle.pf_informed.proofs.Outcomes.{refused_as, on_refused}
 use Rattle.pf_informed.proofs.TightLemmas.{linked_start, linked_more}
 use Rattle.pf_informed.proofs.tight.link_row.Goals as goal
 
@@ -31,3 +32,20 @@ steps-preserved g c =
 pub returns-clause-linked : goal.returns-clause-linked
 returns-clause-linked g c =
     rw (take_all c.steps.next-index c.args.row.now c.steps-test.false) at c.steps.invariant.linked
+
+pub returns-clause-wide : goal.returns-clause-wide
+returns-clause-wide g c = c.steps.invariant.wide
+
+pub returns-clause-up_to : goal.returns-clause-up_to
+returns-clause-up_to g c = c.steps.invariant.up_to
+
+pub link_step-requires : goal.link_step-requires
+link_step-requires g c = record { wide = c.steps.invariant.wide; up_to = c.steps.invariant.up_to }
+
+pub returns-in_err-link_step : goal.returns-in_err-link_step
+returns-in_err-link_step g c = record {
+  wide = on_refused _ c.from_residual.result _ c.from_residual.ensures.1;
+  up_to = on_refused _ c.from_residual.result _ c.from_residual.ensures.1;
+  linked = on_refused _ c.from_residual.result _ c.from_residual.ensures.1;
+  refused = refused_as _ c.from_residual.result _ c.from_residual.ensures.1 c.in_err-link_step.ensures.refused;
+}

@@ -42,3 +42,9 @@ returns-clause-linked g c =
     let inside : c.args.next < length c.args.before.now.items = omega (arith, HasLabel-inside c.args.labels.now c.args.next t.0 t.1, c.requires.wide) in
     let same : before_in c.args.before.now.items c.args.next ≡ c.index_mut.result.now.items = ap items_or_none (at_place _ _ _ _ inside (sym c.index_mut.ensures.value)) in
     on_ok c.link.result c.link.ensures.linked (λ w. linked_set c.args.before.now.items c.args.next c.link.new.row inside c.args.number (rw same w) (λ j. IsTightStep g.C.Number.value c.args.labels.now j (g.C.Number.value c.args.cost) c.args.price) t)
+
+pub returns-then-not-is_tight-clause-wide : goal.returns-then-not-is_tight-clause-wide
+returns-then-not-is_tight-clause-wide g c = c.requires.wide
+
+pub returns-then-not-is_tight-clause-up_to : goal.returns-then-not-is_tight-clause-up_to
+returns-then-not-is_tight-clause-up_to g c = c.requires.up_to

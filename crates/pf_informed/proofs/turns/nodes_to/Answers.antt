@@ -12,3 +12,6 @@ nodes_at-requires-clause-inside g c = λ k h. subst (λ (n : ℕ). k < n) c.requ
 
 pub returns-clause-nodes : goal.returns-clause-nodes
 returns-clause-nodes g c = IfOk-weaker c.nodes_at.result _ _ (λ nodes zip. (c.in_ok-numbers.numbers.items, rw c.deref.ensures.value at c.in_ok-numbers.ensures.chain, rw c.deref-2.ensures.value at zip)) c.nodes_at.ensures.nodes
+
+pub path_to-requires-clause-forest : goal.path_to-requires-clause-forest
+path_to-requires-clause-forest g c = (g.C.Number.value, rw c.deref.ensures.value c.requires.forest)

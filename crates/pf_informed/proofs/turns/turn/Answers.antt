@@ -1,15 +1,17 @@
-use Rattle.std.proofs.Common.{◌<◌, ◌∙◌, ℕ, Bool, sym, ap, subst, arith, length}
+use Rattle.std.proofs.Common.{◌<◌, ◌≤◌, ◌∙◌, ℕ, Bool, sym, ap, subst, arith, length}
 use Rattle.std.specs.Prelude.{◌++◌}
 use Rattle.std.specs.BinaryHeap.{heap_items}
 use Rattle.pf_base.specs.Edges.{InReach}
 use Rattle.pf_core.specs.Nodes.{NodeGraph, TestedGraph, StandsFor, IsStep}
 use Rattle.pf_core.proofs.LabelLemmas.{HasLabel-inside}
+use Rattle.pf_core.proofs.ListLemmas.{on_ok}
 use Rattle.pf_core.proofs.UnitLemmas.{begins_all}
 use Rattle.pf_core.proofs.WalkLemmas.{no_negative}
 use Rattle.pf_informed.proofs.GrowingLemmas.{follows_beside, queue_beside}
 use Rattle.pf_informed.proofs.InformedLemmas.{queue_kept, informed_opened}
 use Rattle.pf_informed.proofs.KnownLemmas.{estimated_grown}
 use Rattle.pf_informed.proofs.Outcomes.{refused_as, on_refused}
+use Rattle.pf_informed.proofs.TightLemmas.{both_ok}
 use Rattle.pf_informed.proofs.turns.turn.Goals as goal
 
 abbrev tested : {N : Type 0} → NodeGraph N → (N → Bool) → TestedGraph N
@@ -31,12 +33,12 @@ ask-requires-clause-graph g c =
     let r = c.requires.graph in
     let d = r.3 in
     let x = c.in_ok-expand.ensures.graph (tested r.0 r.1) (d.explores, d.tested) in
-    (r.0, r.2, d.asked, λ k y q. x.0.reached k y (rw c.as_slice.ensures.keys at q))
+    (g.C.Number.value, r.0, r.2, d.asked, x.0.reached)
 
 pub follow-requires-clause-ends : goal.follow-requires-clause-ends
 follow-requires-clause-ends g c = λ j d m.
     let row = c.in_ok-expand.ensures.listed in
-    subst (λ (n : ℕ). j < n) (sym (c.in_ok-ask.ensures.all ∙ ap length c.as_slice.ensures.keys)) (row.2 j d (rw row.1 at m))
+    subst (λ (n : ℕ). j < n) (sym c.in_ok-ask.ensures.all) (row.2 j d (rw row.1 at m))
 
 pub follow-requires-clause-prices : goal.follow-requires-clause-prices
 follow-requires-clause-prices g c = λ j d m.
@@ -56,61 +58,60 @@ pub follow-requires-clause-queue : goal.follow-requires-clause-queue
 follow-requires-clause-queue g c = queue_kept g.C.Number.value c.args.search.now.labels.items c.args.search.now.estimates.items c.ask.new.estimates.items (heap_items c.args.search.now.queue) c.in_ok-ask.ensures.kept c.requires.queue
 
 pub returns : goal.returns
-returns g c = record {
-  wide = c.in_ok-follow.ensures.wide ∙ ap length c.in_ok-follow.ensures.estimates ∙ c.in_ok-ask.ensures.all ∙ ap length c.as_slice.ensures.keys;
-  asked = ap length c.in_ok-follow.ensures.estimates ∙ c.in_ok-ask.ensures.all ∙ ap length c.as_slice.ensures.keys;
-  grows = c.in_ok-expand.ensures.grows;
-  forest = c.in_ok-follow.ensures.forest;
-  ordered = c.in_ok-follow.ensures.ordered;
-  queue = λ rest q.
-      let value = g.C.Number.value in
-      let f = c.in_ok-follow.ensures in
-      let l = c.requires.labelled in
-      let row = c.in_ok-expand.ensures.listed in
-      let labels = c.args.search.now.labels.items in
-      let heap = heap_items c.args.search.now.queue in
-      let estimates = c.ask.new.estimates.items in
-      let followed = rw (f.estimates, row.1) at (f.followed l.0 l.1) in
-      let waited = queue_kept value labels c.args.search.now.estimates.items estimates (heap ++ rest) c.in_ok-ask.ensures.kept q in
-      rw f.estimates (queue_beside value g.C.Number.fits estimates c.args.number l.0 _ labels c.follow.new.self.labels.items heap (heap_items c.follow.new.self.queue) rest followed waited (rw f.estimates at f.queue));
-  less = c.in_ok-follow.ensures.less;
-  graph = λ h test least d.
-      let eq = g.N.PartialEq.eq in
-      let laws = g.met.N.Eq.laws in
-      let value = g.C.Number.value in
-      let f = c.in_ok-follow.ensures in
-      let l = c.requires.labelled in
-      let number = c.args.number in
-      let old = c.args.graph.now.discovery.nodes.keys in
-      let keys = c.expand.new.self.discovery.nodes.keys in
-      let labels = c.args.search.now.labels.items in
-      let estimates = c.args.search.now.estimates.items in
-      let asked = c.ask.new.estimates.items in
-      let heap = heap_items c.args.search.now.queue in
-      let grown = c.in_ok-expand.ensures.grows in
-      let row = c.in_ok-expand.ensures.listed in
-      let x = c.in_ok-expand.ensures.graph (tested h test) (d.explores, d.tested) in
-      let a = c.in_ok-ask.ensures.graph h least d.asked (λ k y q. x.0.reached k y (rw c.as_slice.ensures.keys at q)) in
-      let before = estimated_grown eq laws value least (InReach eq h.edges h.starts) d.asked.alike old keys d.explores.reached grown estimates c.requires.asked d.estimated in
-      let known = a.1 (rw c.as_slice.ensures.keys before) in (
-        record {
-          explores = x.0;
-          tested = x.1;
-          asked = a.0;
-          estimated = rw f.estimates (rw c.as_slice.ensures.keys at known);
-          admissible = d.admissible;
-          costs = d.costs;
-        },
-        λ passes entries rest fails left i.
-            let someone = begins_all eq laws old number (subst (λ (n : ℕ). number < n) c.requires.wide (HasLabel-inside labels number l.0 l.1)) in
-            let followed = rw (f.estimates, row.1) at (f.followed l.0 l.1) in
-            let whole = follows_beside value g.C.Number.fits asked number l.0 _ labels c.follow.new.self.labels.items heap (heap_items c.follow.new.self.queue) rest followed in
-            let opened = informed_opened value g.C.Number.fits (IsStep eq h) passes estimates asked c.in_ok-ask.ensures.kept (length old) (length keys) (StandsFor eq old) (StandsFor eq keys) grown labels c.follow.new.self.labels.items (omega (arith, c.requires.wide))
-            entries (heap ++ rest) (heap_items c.follow.new.self.queue ++ rest) number l.0 l.1 left fails row.0 (λ y k. row.4 (tested h test) (d.explores, d.tested) y k) row.3 someone whole c.requires.forest i in
-            rw f.estimates opened,
-      );
-  refused = tt;
-}
+returns g c =
+    let f = c.follow.ensures in
+    record {
+      wide = on_ok c.follow.result f.wide (λ w. w ∙ ap length f.estimates ∙ c.in_ok-ask.ensures.all);
+      asked = on_ok c.follow.result f.wide (λ _. ap length f.estimates ∙ c.in_ok-ask.ensures.all);
+      grows = c.in_ok-expand.ensures.grows;
+      forest = f.forest;
+      ordered = f.ordered;
+      queue = on_ok c.follow.result (both_ok _ _ c.follow.result f.followed f.queue) (λ w rest q.
+          let value = g.C.Number.value in
+          let l = c.requires.labelled in
+          let row = c.in_ok-expand.ensures.listed in
+          let labels = c.args.search.now.labels.items in
+          let heap = heap_items c.args.search.now.queue in
+          let estimates = c.ask.new.estimates.items in
+          let followed = rw (f.estimates, row.1) at (w.0 l.0 l.1) in
+          let waited = queue_kept value labels c.args.search.now.estimates.items estimates (heap ++ rest) c.in_ok-ask.ensures.kept q in
+          rw f.estimates (queue_beside value g.C.Number.fits estimates c.args.number l.0 _ labels c.follow.new.self.labels.items heap (heap_items c.follow.new.self.queue) rest followed waited (rw f.estimates at w.1)));
+      less = f.less;
+      graph = on_ok c.follow.result f.followed (λ w h test least d.
+          let eq = g.N.PartialEq.eq in
+          let laws = g.met.N.Eq.laws in
+          let value = g.C.Number.value in
+          let l = c.requires.labelled in
+          let number = c.args.number in
+          let old = c.args.graph.now.discovery.nodes.keys in
+          let keys = c.expand.new.self.discovery.nodes.keys in
+          let labels = c.args.search.now.labels.items in
+          let estimates = c.args.search.now.estimates.items in
+          let asked = c.ask.new.estimates.items in
+          let heap = heap_items c.args.search.now.queue in
+          let grown = c.in_ok-expand.ensures.grows in
+          let row = c.in_ok-expand.ensures.listed in
+          let x = c.in_ok-expand.ensures.graph (tested h test) (d.explores, d.tested) in
+          let a = c.in_ok-ask.ensures.graph value h least d.asked x.0.reached in
+          let before = estimated_grown eq laws value least (InReach eq h.edges h.starts) d.asked.alike old keys d.explores.reached grown estimates c.requires.asked d.estimated in (
+            record {
+              explores = x.0;
+              tested = x.1;
+              asked = a.0;
+              estimated = rw f.estimates (a.1 before);
+              admissible = d.admissible;
+              costs = d.costs;
+            },
+            λ passes entries rest fails left i.
+                let someone = begins_all eq laws old number (subst (λ (n : ℕ). number < n) c.requires.wide (HasLabel-inside labels number l.0 l.1)) in
+                let followed = rw (f.estimates, row.1) at (w l.0 l.1) in
+                let whole = follows_beside value g.C.Number.fits asked number l.0 _ labels c.follow.new.self.labels.items heap (heap_items c.follow.new.self.queue) rest followed in
+                let opened = informed_opened value g.C.Number.fits (IsStep eq h) passes estimates asked c.in_ok-ask.ensures.kept (length old) (length keys) (StandsFor eq old) (StandsFor eq keys) grown labels c.follow.new.self.labels.items (omega (arith, c.requires.wide))
+                entries (heap ++ rest) (heap_items c.follow.new.self.queue ++ rest) number l.0 l.1 left fails row.0 (λ y k. row.4 (tested h test) (d.explores, d.tested) y k) row.3 someone whole c.requires.forest i in
+                rw f.estimates opened,
+          ));
+      refused = f.refused;
+    }
 
 pub returns-in_err-expand : goal.returns-in_err-expand
 returns-in_err-expand g c = record {
@@ -138,19 +139,6 @@ returns-in_err-ask g c = record {
   refused = refused_as _ c.from_residual-in_err-ask.result _ c.from_residual-in_err-ask.ensures.1 c.in_err-ask.ensures.refused;
 }
 
-pub returns-in_err-follow : goal.returns-in_err-follow
-returns-in_err-follow g c = record {
-  wide = on_refused _ c.from_residual-in_err-follow.result _ c.from_residual-in_err-follow.ensures.1;
-  asked = on_refused _ c.from_residual-in_err-follow.result _ c.from_residual-in_err-follow.ensures.1;
-  grows = c.in_ok-expand.ensures.grows;
-  forest = on_refused _ c.from_residual-in_err-follow.result _ c.from_residual-in_err-follow.ensures.1;
-  ordered = on_refused _ c.from_residual-in_err-follow.result _ c.from_residual-in_err-follow.ensures.1;
-  queue = on_refused _ c.from_residual-in_err-follow.result _ c.from_residual-in_err-follow.ensures.1;
-  less = on_refused _ c.from_residual-in_err-follow.result _ c.from_residual-in_err-follow.ensures.1;
-  graph = on_refused _ c.from_residual-in_err-follow.result _ c.from_residual-in_err-follow.ensures.1;
-  refused = refused_as _ c.from_residual-in_err-follow.result _ c.from_residual-in_err-follow.ensures.1 c.in_err-follow.ensures.refused;
-}
-
 pub follow-requires-clause-labelled : goal.follow-requires-clause-labelled
 follow-requires-clause-labelled g c = c.requires.labelled
 
@@ -159,3 +147,11 @@ follow-requires-clause-forest g c = c.requires.forest
 
 pub follow-requires-clause-ordered : goal.follow-requires-clause-ordered
 follow-requires-clause-ordered g c = c.requires.ordered
+
+pub ask-requires-clause-few : goal.ask-requires-clause-few
+ask-requires-clause-few g c = subst (λ (n : ℕ). n ≤ length c.expand.new.self.discovery.nodes.keys) (sym c.requires.asked) c.in_ok-expand.ensures.grows.more
+
+pub follow-requires-clause-few : goal.follow-requires-clause-few
+follow-requires-clause-few g c =
+    let asked = c.ask.new.estimates.items in
+    subst (λ (n : ℕ). n ≤ length asked) (sym c.requires.wide) (subst (λ (n : ℕ). length c.args.graph.now.discovery.nodes.keys ≤ n) (sym c.in_ok-ask.ensures.all) c.in_ok-expand.ensures.grows.more)

@@ -10,13 +10,13 @@ use std::alloc::Allocator;
 
 /// The steps from one node, at most one to each number.
 #[derive(Drop)]
-pub(crate) struct CheapestRow<C: Cost, A: Allocator> {
+pub(crate) struct CheapestRow<C: Copy, A: Allocator> {
     pub steps: Vec<(usize, C), A>,
     /// By number, where the step to it stands, if there is one: else it is of no meaning.
     pub places: Vec<usize, A>,
 }
 
-impl<C: Cost, A: Allocator + Copy> CheapestRow<C, A> {
+impl<C: Copy, A: Allocator + Copy> CheapestRow<C, A> {
     /// No steps.
     pub fn new(alloc: A) -> Self {
         CheapestRow {
@@ -26,7 +26,7 @@ impl<C: Cost, A: Allocator + Copy> CheapestRow<C, A> {
     }
 }
 
-impl<C: Cost, A: Allocator> CheapestRow<C, A> {
+impl<C: Copy, A: Allocator> CheapestRow<C, A> {
     /// Where the step to a number stands.
     fn place_of(&self, number: usize) -> Option<usize>
         ensures { MatchOption result
@@ -56,7 +56,9 @@ impl<C: Cost, A: Allocator> CheapestRow<C, A> {
         self.steps.push((number, cost))?;
         Ok(())
     }
+}
 
+impl<C: Cost, A: Allocator> CheapestRow<C, A> {
     /// Lowers the cost of a step, if it is above this one.
     fn lower(&mut self, place: usize, cost: C)
         requires { place < length self.old.steps.items }

@@ -27,7 +27,7 @@ fn is_below<C: Cost>(sum: C, least: Option<C>) -> bool
     }
 }
 
-impl<C: Cost> CutOff<C> {
+impl<C: Copy> CutOff<C> {
     /// Nothing was cut off yet.
     pub fn new() -> Self
         ensures least { result.least ≡ None }
@@ -38,7 +38,9 @@ impl<C: Cost> CutOff<C> {
             past: false,
         }
     }
+}
 
+impl<C: Cost> CutOff<C> {
     /// Notes a sum.
     fn put(&mut self, sum: C)
         ensures past { self.new.past ≡ self.old.past }

@@ -117,11 +117,7 @@ where
             return Ok(None);
         }
         self.graph.expand(number, &mut self.row)?;
-        ask(
-            self.graph.discovery.nodes.as_slice(),
-            &mut self.estimate,
-            &mut self.estimates,
-        )?;
+        ask(&self.graph, &mut self.estimate, &mut self.estimates)?;
         let span = self.rows.keep(number, &self.row.steps)?;
         Ok(Some(span))
     }

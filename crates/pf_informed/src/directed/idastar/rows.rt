@@ -5,7 +5,7 @@ ghost use Rattle.pf_informed.specs.declared.directed.idastar.rows.Span.{Span};
 ghost use Rattle.pf_informed.specs.Internal.Rows.{HasSpan};
 
 use crate::directed::idastar::widen::widen;
-use pf_base::{Cost, PathError};
+use pf_base::PathError;
 use std::alloc::Allocator;
 
 /// Where the steps from a number stand: from `begin` on, and before `end`.
@@ -17,12 +17,12 @@ pub(crate) struct Span {
 
 /// The steps from the numbers that were asked for.
 #[derive(Drop)]
-pub(crate) struct Rows<C: Cost, A: Allocator> {
+pub(crate) struct Rows<C: Copy, A: Allocator> {
     pub steps: Vec<(usize, C), A>,
     pub spans: Vec<Option<Span>, A>,
 }
 
-impl<C: Cost, A: Allocator + Copy> Rows<C, A> {
+impl<C: Copy, A: Allocator + Copy> Rows<C, A> {
     /// No steps.
     pub fn new(alloc: A) -> Self
         ensures steps { result.steps.items ≡ [] }
@@ -35,7 +35,7 @@ impl<C: Cost, A: Allocator + Copy> Rows<C, A> {
     }
 }
 
-impl<C: Cost, A: Allocator> Rows<C, A> {
+impl<C: Copy, A: Allocator> Rows<C, A> {
     /// Where the steps from a number stand, if they are here.
     pub fn span(&self, number: usize) -> Option<Span>
         ensures { MatchOption result ((s : Span) → ¬ (HasSpan self.now.spans.items number s)) (λ s. HasSpan self.now.spans.items number s) }

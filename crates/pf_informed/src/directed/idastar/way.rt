@@ -7,7 +7,7 @@ ghost use Rattle.pf_informed.specs.Internal.Deepening.{IsMarked};
 use crate::directed::idastar::cut_off::CutOff;
 use crate::directed::idastar::marks::{mark, unmark};
 use crate::directed::idastar::rows::Span;
-use pf_base::{Cost, PathError};
+use pf_base::PathError;
 use std::alloc::Allocator;
 
 /// A node on the way: its number, the cost of the way to it, and the places of its steps that are left.
@@ -22,14 +22,14 @@ pub(crate) struct Frame<C: Copy> {
 /// The way to a node: its frame, those below it from the start on, the marks of their numbers, and
 /// what was cut off so far.
 #[derive(Drop)]
-pub(crate) struct Way<C: Cost, A: Allocator> {
+pub(crate) struct Way<C: Copy, A: Allocator> {
     pub frame: Frame<C>,
     pub trail: Vec<Frame<C>, A>,
     pub marks: Vec<bool, A>,
     pub cut_off: CutOff<C>,
 }
 
-impl<C: Cost, A: Allocator + Copy> Way<C, A> {
+impl<C: Copy, A: Allocator + Copy> Way<C, A> {
     /// The way to the number 0 alone, whose steps stand at `span`.
     pub fn begin(alloc: A, cost: C, span: Span) -> Result<Self, PathError>
         ensures frame { IfOk result (λ way. way.frame ≡ record { number = 0; cost = cost; at = span.begin; end = span.end }) }
@@ -55,7 +55,7 @@ impl<C: Cost, A: Allocator + Copy> Way<C, A> {
     }
 }
 
-impl<C: Cost, A: Allocator> Way<C, A> {
+impl<C: Copy, A: Allocator> Way<C, A> {
     /// Goes back to the frame below, and to its next step. Where there is none, it answers `false`.
     pub fn leave(&mut self) -> bool
         requires marked { IsMarked self.old.marks.items self.old.frame.number }

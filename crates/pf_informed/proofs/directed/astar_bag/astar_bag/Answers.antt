@@ -24,7 +24,7 @@ returns g c = record {
   all = λ edges test least s.
       let found = c.in_ok-clone_of in
       let start = c.args.start.now in
-      c.solution_of.ensures.all start edges test
+      c.solution_of.ensures.all g.C.Number.value start edges test
       (c.find_ways-found.ensures.all start edges test least ((found.ensures.begins start).1 (g.met.N.Eq.laws.refl start))
       (led_begin g.N.PartialEq.eq g.met.N.Eq.laws g.C.Number.value _ _ _ _ _ _ _ start edges test least found.field-0.keys _ _ _ _ found.ensures.distinct found.ensures.same c.new-search.ensures.estimates s));
   ready = c.solution_of.ensures.ready;

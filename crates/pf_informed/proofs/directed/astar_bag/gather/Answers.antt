@@ -23,7 +23,7 @@ pub returns-clause-all : goal.returns-clause-all
 returns-clause-all g c =
     let i = c.paths.invariant in
     let given = i.gathered in
-    elim c.in_default.ensures.steps as (λ _. AreGathered g.N.PartialEq.eq c.paths.paths.items c.args.solution.left) [
+    elim c.in_default.ensures.steps as (λ _. AreGathered g.N.PartialEq.eq c.paths.paths.items c.args.solution.now.left) [
       | inl refused ↦ absurd (true≢false (sym refused.0 ∙ i.ready))
       | inr none ↦ subst (AreGathered g.N.PartialEq.eq c.paths.paths.items) (sym (given.1 ∙ ap (λ xs. given.0 ++ xs) none.0 ∙ append-nil given.0)) given.2
     ]

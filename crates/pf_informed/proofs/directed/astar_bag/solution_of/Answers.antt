@@ -6,7 +6,7 @@ pub invariant_of-solution : goal.invariant_of-solution
 invariant_of-solution g c = rw (c.in-Ok-Some.is, c.in-Ok-Some.field-0-is) at c.requires
 
 pub returns-in-Ok-Some-clause-all : goal.returns-in-Ok-Some-clause-all
-returns-in-Ok-Some-clause-all g c = λ start edges test h. rw (c.in-Ok-Some.is, c.in-Ok-Some.field-0-is) at h
+returns-in-Ok-Some-clause-all g c = λ value start edges test h. rw (c.in-Ok-Some.is, c.in-Ok-Some.field-0-is) at h
 
 pub returns-in-Ok-Some-clause-ready : goal.returns-in-Ok-Some-clause-ready
 returns-in-Ok-Some-clause-ready g c = refl
@@ -15,7 +15,7 @@ pub returns-in-Ok-Some-clause-errors : goal.returns-in-Ok-Some-clause-errors
 returns-in-Ok-Some-clause-errors g c = λ e q. absurd (ok_is_no_error _ _ _ refl q)
 
 pub returns-in-Ok-None-clause-all : goal.returns-in-Ok-None-clause-all
-returns-in-Ok-None-clause-all g c = λ start edges test h. rw (c.in-Ok-None.is, c.in-Ok-None.field-0-is) at h
+returns-in-Ok-None-clause-all g c = λ value start edges test h. rw (c.in-Ok-None.is, c.in-Ok-None.field-0-is) at h
 
 pub returns-in-Ok-None-clause-ready : goal.returns-in-Ok-None-clause-ready
 returns-in-Ok-None-clause-ready g c = tt
@@ -24,7 +24,7 @@ pub returns-in-Ok-None-clause-errors : goal.returns-in-Ok-None-clause-errors
 returns-in-Ok-None-clause-errors g c = λ e q. absurd (ok_is_no_error _ _ _ refl q)
 
 pub returns-in-Err-clause-all : goal.returns-in-Err-clause-all
-returns-in-Err-clause-all g c = λ start edges test h. tt
+returns-in-Err-clause-all g c = λ value start edges test h. tt
 
 pub returns-in-Err-clause-ready : goal.returns-in-Err-clause-ready
 returns-in-Err-clause-ready g c = tt

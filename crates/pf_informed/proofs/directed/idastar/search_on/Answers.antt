@@ -24,7 +24,7 @@ pub ask-requires-clause-graph : goal.ask-requires-clause-graph
 ask-requires-clause-graph g c =
     let r = c.requires.graph in
     let k = r.5 in
-    (graph_of r.0 r.1, r.3, k.asked, λ i y q. k.explores.reached i y (rw c.as_slice.ensures.keys at q))
+    (g.C.Number.value, graph_of r.0 r.1, r.3, k.asked, k.explores.reached)
 
 pub limits-init : goal.limits-init
 limits-init g c =
@@ -35,17 +35,15 @@ limits-init g c =
     let keys = known.graph.discovery.nodes.keys in
     let kept = c.ask.new.estimates.items in
     let one = c.requires.one in
-    let asked : length kept ≡ length keys = rw c.as_slice.ensures.keys at c.in_ok-ask.ensures.all in
+    let asked : length kept ≡ length keys = c.in_ok-ask.ensures.all in
     record {
       begins = λ x s. s;
       asked = asked;
       table = subst (λ (m : ℕ). IsTable m known.rows.steps.items known.rows.spans.items) (sym one) c.requires.table;
       searched = λ start edges test least b k.
           let h = graph_of start edges in
-          let a = c.in_ok-ask.ensures.graph h least k.asked (λ i y q. k.explores.reached i y (rw c.as_slice.ensures.keys at q)) in
-          let before : IsEstimated value least (slice_get c.as_slice.result.now) known.estimates.items = rw c.as_slice.ensures.keys k.estimated in
-          let after = a.1 before in
-          let estimated : IsEstimated value least (slice_get keys) kept = rw c.as_slice.ensures.keys at after in
+          let a = c.in_ok-ask.ensures.graph value h least k.asked k.explores.reached in
+          let estimated : IsEstimated value least (slice_get keys) kept = a.1 k.estimated in
           let x = c.index-limit.result.now in
           let at : slice_get kept 0 ≡ Some x = at_place kept 0 x x (omega (arith, asked, one)) (sym c.index-limit.ensures) in
           let is = estimate_is eq laws h k.explores.alike value least k.asked.alike keys k.explores.reached kept estimated asked 0 start x b at in

@@ -118,3 +118,25 @@ returns-clause-estimates g c = refl
 
 pub returns-clause-refused : goal.returns-clause-refused
 returns-clause-refused g c = tt
+
+pub relax-requires-clause-here : goal.relax-requires-clause-here
+relax-requires-clause-here g c = c.label_of-label.ensures
+
+pub relax-requires-clause-ordered : goal.relax-requires-clause-ordered
+relax-requires-clause-ordered g c = rw c.in_ok-reserve.ensures.items c.requires.ordered
+
+pub relax-requires-clause-wide : goal.relax-requires-clause-wide
+relax-requires-clause-wide g c =
+    let labels = c.args.self.now.labels.items in
+    let len : c.len-2.result ≡ length c.args.self.now.estimates.items = c.len-2.ensures ∙ c.args.self.now.estimates.ok.0 in
+    let is = rw len at c.in_ok-make_room.ensures.wider in
+    sym (length_wider g.C.Number.value labels c.make_room.new.labels.items (length c.args.self.now.estimates.items) c.requires.few is)
+
+pub returns-clause-forest : goal.returns-clause-forest
+returns-clause-forest g c = c.relax.ensures.forest
+
+pub returns-clause-ordered : goal.returns-clause-ordered
+returns-clause-ordered g c = c.relax.ensures.ordered
+
+pub returns-clause-queue : goal.returns-clause-queue
+returns-clause-queue g c = c.relax.ensures.queue

@@ -1,6 +1,7 @@
-use Rattle.std.proofs.Common.{rules, ◌≡◌, length}
+use Rattle.std.proofs.Common.{rules, ◌≡◌, length, refl}
 use Rattle.pf_core.specs.DepthFirst.{branches_at}
 use Rattle.pf_informed.specs.Internal.Ways.{before_in}
+use Rattle.pf_informed.proofs.Outcomes.{refused_as, if_refused}
 use Rattle.pf_informed.proofs.WaysLemmas.{start_ways, start_left}
 use Rattle.pf_informed.proofs.ways.Ways.new.Goals as goal
 
@@ -14,3 +15,22 @@ pub returns-clause-left : goal.returns-clause-left
 returns-clause-left g c =
     let put : c.put_branches.new.waiting.items ≡ branches_at 0 c.args.goals.now = search rules in
     rw put (start_left (length c.args.before.items) (before_in c.args.before.items) _ c.args.goals.now c.new.ensures.items)
+
+pub returns-clause-before : goal.returns-clause-before
+returns-clause-before g c = refl
+
+pub returns-in_err-resize : goal.returns-in_err-resize
+returns-in_err-resize g c = record {
+  before = if_refused _ c.from_residual.result _ c.from_residual.ensures.1;
+  ways = if_refused _ c.from_residual.result _ c.from_residual.ensures.1;
+  left = if_refused _ c.from_residual.result _ c.from_residual.ensures.1;
+  refused = refused_as _ c.from_residual.result _ c.from_residual.ensures.1 refl;
+}
+
+pub returns-in_err-put_branches : goal.returns-in_err-put_branches
+returns-in_err-put_branches g c = record {
+  before = if_refused _ c.from_residual-in_err-put_branches.result _ c.from_residual-in_err-put_branches.ensures.1;
+  ways = if_refused _ c.from_residual-in_err-put_branches.result _ c.from_residual-in_err-put_branches.ensures.1;
+  left = if_refused _ c.from_residual-in_err-put_branches.result _ c.from_residual-in_err-put_branches.ensures.1;
+  refused = refused_as _ c.from_residual-in_err-put_branches.result _ c.from_residual-in_err-put_branches.ensures.1 c.in_err-put_branches.ensures.refused;
+}

@@ -1,4 +1,4 @@
-use Rattle.std.proofs.Common.{◌≡◌, pos, Some, None, subst, ap, ◌∙◌, arith, inl, inr, refl}
+use Rattle.std.proofs.Common.{◌≡◌, pos, Some, None, subst, ap, ◌∙◌, arith, inl, inr, refl, sym}
 use Rattle.std.specs.Prelude.{◌<ℤ◌, ◌≤ℤ◌, ◌+ℤ◌, ◌⊎◌}
 use Rattle.std.specs.Ordering.{is_some_and, is_le}
 use Rattle.std.proofs.lemmas.Int.{ints}
@@ -75,3 +75,24 @@ returns-else-le-clause-above g c = λ n e.
       | inl h ↦ inl h
       | inr h ↦ inr (omega (arith, ints, above, ap value h))
     ]
+
+pub returns-then-le-clause-kept : goal.returns-then-le-clause-kept
+returns-then-le-clause-kept g c = λ u h. h
+
+pub returns-then-le-clause-past : goal.returns-then-le-clause-past
+returns-then-le-clause-past g c = λ q. inl q
+
+pub returns-then-le-clause-above : goal.returns-then-le-clause-above
+returns-then-le-clause-above g c = λ n q. inl q
+
+pub returns-in_default-clause-above : goal.returns-in_default-clause-above
+returns-in_default-clause-above g c = λ n q. inl q
+
+pub returns-in_default-checked_add-clause-above : goal.returns-in_default-checked_add-clause-above
+returns-in_default-checked_add-clause-above g c = λ n q. inl q
+
+pub returns-else-le-clause-kept : goal.returns-else-le-clause-kept
+returns-else-le-clause-kept g c = c.put.ensures.kept
+
+pub returns-else-le-clause-past : goal.returns-else-le-clause-past
+returns-else-le-clause-past g c = λ q. inl (sym c.put.ensures.past ∙ q)

@@ -1,16 +1,15 @@
-use Rattle.std.proofs.Common.{◌≡◌, ◌<◌, ◌+◌, ◌-◌, [], ◌∷◌, ◌++◌, List, ℕ, true, true≢false, length, ap, ◌∙◌, sym, subst, slice_get, arith, inl, inr, Some}
-use Rattle.std.specs.Prelude.{◌⊎◌, ◌↔◌, ◌+ℤ◌, ◌<ℤ◌, Contains, reverse}
-use Rattle.std.proofs.lemmas.Int.{ints}
+use Rattle.std.proofs.Common.{◌≡◌, ◌<◌, ◌+◌, ◌-◌, [], ◌∷◌, ◌++◌, List, ℕ, true, true≢false, length, ap, ◌∙◌, sym, subst, slice_get, arith, inl, inr, Some, ℤ, pos}
+use Rattle.std.specs.Prelude.{◌⊎◌, ◌↔◌, ◌+ℤ◌, ◌<ℤ◌, ◌≤ℤ◌, Contains, reverse}
 use Rattle.std.proofs.lemmas.List.{length-reverse}
 use Rattle.pf_core.specs.NodeLaws.{StandsFor-one}
-use Rattle.pf_core.proofs.ListLemmas.{at_place, Contains-cases, Contains-reverse, Contains-append_one}
+use Rattle.pf_core.proofs.ListLemmas.{Contains-cases, Contains-reverse, Contains-append_one}
 use Rattle.pf_core.proofs.NodeLemmas.{InReach-same}
 use Rattle.pf_core.proofs.UnitLemmas.{begins_all}
 use Rattle.pf_informed.specs.declared.directed.idastar.way.Frame.{Frame}
 use Rattle.pf_informed.specs.Internal.Deepening.{IsMarked, numbers_of, turns_left}
 use Rattle.pf_informed.proofs.NodeWalks.{estimate_is, estimate_at}
-use Rattle.pf_informed.proofs.TurnsLeft.{advanced_less, entered_less}
-use Rattle.pf_informed.proofs.WayLemmas.{cheap_positive, marked_on, numbers_up, frame_ends, on_way_as, skipped, cost_from_zero, price_from_zero, cut_there, went_on, arrived}
+use Rattle.pf_informed.proofs.TurnsLeft.{some_turns, advanced_less, entered_less}
+use Rattle.pf_informed.proofs.WayLemmas.{cheap_positive, marked_on, numbers_up, frame_ends, step_at, still_found, part_within, on_way_as, skipped, cost_from_zero, price_from_zero, cut_there, went_on, arrived}
 use Rattle.pf_informed.proofs.Outcomes.{refused_as, on_refused, if_refused, Grows-refl}
 use Rattle.pf_informed.proofs.directed.idastar.round.go_on.Goals as goal
 
@@ -20,7 +19,7 @@ returns-then-is_marked g c = record {
   table = c.requires.table;
   grows = Grows-refl _ _;
   marked = record { marked = c.requires.marked.marked; inside = c.requires.marked.inside; above = c.requires.marked.above };
-  less = advanced_less 18446744073709551616 18446744073709551616 (omega arith) c.args.way.now.frame (reverse c.args.way.now.trail.items) c.requires.left;
+  less = advanced_less 18446744073709551616 18446744073709551616 some_turns c.args.way.now.frame (reverse c.args.way.now.trail.items) c.requires.left;
   graph = λ h test least first k w.
       let eq = g.N.PartialEq.eq in
       let laws = g.met.N.Eq.laws in
@@ -31,8 +30,7 @@ returns-then-is_marked g c = record {
       let keys = known.graph.discovery.nodes.keys in
       let steps = known.rows.steps.items in
       let step = c.index-step.result.now in
-      let ends = frame_ends eq laws value fits h test least first keys steps known.rows.spans.items k.rows (length keys) c.requires.table way.frame (reverse way.trail.items) way.cut_off.least way.cut_off.past w in
-      let at : slice_get steps way.frame.at ≡ Some step = at_place steps way.frame.at step step (omega (arith, c.requires.left, ends.1)) (sym c.index-step.ensures) in
+      let at = step_at eq laws value fits h test least first keys steps known.rows.spans.items k.rows (length keys) c.requires.table way.frame (reverse way.trail.items) way.cut_off.least way.cut_off.past w c.requires.left step (sym c.index-step.ensures) in
       let on : Contains (numbers_of (way.frame ∷ reverse way.trail.items)) step.0 = (c.requires.marked.marked step.0).0 (c.is_marked.ensures.0 c.if-is_marked.true) in
       (k, skipped eq laws value fits h test least first keys steps known.rows.spans.items k.rows way.frame (reverse way.trail.items) way.cut_off.least way.cut_off.past w c.requires.left step.0 step.1 at on);
   refused = tt;
@@ -47,10 +45,9 @@ admit-requires-clause-inside g c =
     let keys = known.graph.discovery.nodes.keys in
     let steps = known.rows.steps.items in
     let step = c.index-step.result.now in
-    let ends = frame_ends g.N.PartialEq.eq g.met.N.Eq.laws g.C.Number.value g.C.Number.fits r.0 r.1 r.2 r.3 keys steps known.rows.spans.items k.rows (length keys) c.requires.table way.frame (reverse way.trail.items) way.cut_off.least way.cut_off.past r.5 in
-    let at : slice_get steps way.frame.at ≡ Some step = at_place steps way.frame.at step step (omega (arith, c.requires.left, ends.1)) (sym c.index-step.ensures) in
+    let at = step_at g.N.PartialEq.eq g.met.N.Eq.laws g.C.Number.value g.C.Number.fits r.0 r.1 r.2 r.3 keys steps known.rows.spans.items k.rows (length keys) c.requires.table way.frame (reverse way.trail.items) way.cut_off.least way.cut_off.past r.5 c.requires.left step (sym c.index-step.ensures) in
     let inside = c.requires.table.inside way.frame.at step.0 step.1 at in
-    omega (arith, inside, c.requires.estimated, ap length c.deref.ensures.value)
+    subst (λ (n : ℕ). step.0 < n) (sym (ap length c.deref.ensures.value ∙ c.requires.estimated)) inside
 
 pub admit-requires-clause-cost : goal.admit-requires-clause-cost
 admit-requires-clause-cost g c =
@@ -65,8 +62,7 @@ admit-requires-clause-cost g c =
     let steps = known.rows.steps.items in
     let step = c.index-step.result.now in
     let fs = reverse way.trail.items in
-    let ends = frame_ends eq laws g.C.Number.value g.C.Number.fits h r.1 r.2 r.3 keys steps known.rows.spans.items k.rows (length keys) c.requires.table way.frame fs way.cut_off.least way.cut_off.past r.5 in
-    let at : slice_get steps way.frame.at ≡ Some step = at_place steps way.frame.at step step (omega (arith, c.requires.left, ends.1)) (sym c.index-step.ensures) in
+    let at = step_at eq laws g.C.Number.value g.C.Number.fits h r.1 r.2 r.3 keys steps known.rows.spans.items k.rows (length keys) c.requires.table way.frame fs way.cut_off.least way.cut_off.past r.5 c.requires.left step (sym c.index-step.ensures) in
     cost_from_zero eq laws g.C.Number.value g.C.Number.fits h r.1 r.2 r.3 keys steps known.rows.spans.items k.rows k.explores.alike k.admissible (cheap_positive eq h k.costs)
     (λ i x s. InReach-same eq laws h.edges h.starts s.0 x (k.explores.reached i s.0 s.1) s.2) (StandsFor-one eq laws keys k.explores.distinct) way.frame fs way.cut_off.least way.cut_off.past r.5 c.requires.left step.0 step.1 at
     (λ i m. begins_all eq laws keys i (c.requires.marked.inside i m))
@@ -84,8 +80,7 @@ admit-requires-clause-price g c =
     let steps = known.rows.steps.items in
     let step = c.index-step.result.now in
     let fs = reverse way.trail.items in
-    let ends = frame_ends eq laws g.C.Number.value g.C.Number.fits h r.1 r.2 r.3 keys steps known.rows.spans.items k.rows (length keys) c.requires.table way.frame fs way.cut_off.least way.cut_off.past r.5 in
-    let at : slice_get steps way.frame.at ≡ Some step = at_place steps way.frame.at step step (omega (arith, c.requires.left, ends.1)) (sym c.index-step.ensures) in
+    let at = step_at eq laws g.C.Number.value g.C.Number.fits h r.1 r.2 r.3 keys steps known.rows.spans.items k.rows (length keys) c.requires.table way.frame fs way.cut_off.least way.cut_off.past r.5 c.requires.left step (sym c.index-step.ensures) in
     price_from_zero eq laws g.C.Number.value g.C.Number.fits h r.1 r.2 r.3 keys steps known.rows.spans.items k.rows k.explores.alike k.admissible (cheap_positive eq h k.costs)
     (λ i x s. InReach-same eq laws h.edges h.starts s.0 x (k.explores.reached i s.0 s.1) s.2) (StandsFor-one eq laws keys k.explores.distinct) way.frame fs way.cut_off.least way.cut_off.past r.5 c.requires.left step.0 step.1 at
     (λ i m. begins_all eq laws keys i (c.requires.marked.inside i m))
@@ -103,13 +98,12 @@ admit-requires-clause-estimate g c = λ e found.
     let keys = known.graph.discovery.nodes.keys in
     let steps = known.rows.steps.items in
     let step = c.index-step.result.now in
-    let ends = frame_ends eq laws value g.C.Number.fits h r.1 r.2 r.3 keys steps known.rows.spans.items k.rows (length keys) c.requires.table way.frame (reverse way.trail.items) way.cut_off.least way.cut_off.past r.5 in
-    let at : slice_get steps way.frame.at ≡ Some step = at_place steps way.frame.at step step (omega (arith, c.requires.left, ends.1)) (sym c.index-step.ensures) in
+    let at = step_at eq laws value g.C.Number.fits h r.1 r.2 r.3 keys steps known.rows.spans.items k.rows (length keys) c.requires.table way.frame (reverse way.trail.items) way.cut_off.least way.cut_off.past r.5 c.requires.left step (sym c.index-step.ensures) in
     let x = begins_all eq laws keys step.0 (c.requires.table.inside way.frame.at step.0 step.1 at) in
     let there : slice_get known.estimates.items step.0 ≡ Some e = subst (λ (es : List g.row.C.Denot). slice_get es step.0 ≡ Some e) c.deref.ensures.value found in
     let is = estimate_is eq laws h k.explores.alike value r.2 k.asked.alike keys k.explores.reached known.estimates.items k.estimated c.requires.estimated step.0 x.0 e x.1 there in
     let low = k.admissible.from_zero x.0 (InReach-same eq laws h.edges h.starts x.1.0 x.0 (k.explores.reached step.0 x.1.0 x.1.1) x.1.2) in
-    omega (arith, ints, is, low)
+    subst (λ (z : ℤ). pos 0 ≤ℤ z) (sym is) low
 
 pub returns-in_default : goal.returns-in_default
 returns-in_default g c = record {
@@ -121,7 +115,7 @@ returns-in_default g c = record {
     inside = c.requires.marked.inside;
     above = λ n q. elim (c.in_default.ensures.above n q) as (λ _. g.C.Number.value c.args.limit <ℤ g.C.Number.value n) [ inl o ↦ c.requires.marked.above n o | inr l ↦ l ];
   };
-  less = advanced_less 18446744073709551616 18446744073709551616 (omega arith) c.args.way.now.frame (reverse c.args.way.now.trail.items) c.requires.left;
+  less = advanced_less 18446744073709551616 18446744073709551616 some_turns c.args.way.now.frame (reverse c.args.way.now.trail.items) c.requires.left;
   graph = λ h test least first k w.
       let eq = g.N.PartialEq.eq in
       let laws = g.met.N.Eq.laws in
@@ -133,10 +127,9 @@ returns-in_default g c = record {
       let steps = known.rows.steps.items in
       let step = c.index-step.result.now in
       let fs = reverse way.trail.items in
-      let ends = frame_ends eq laws value fits h test least first keys steps known.rows.spans.items k.rows (length keys) c.requires.table way.frame fs way.cut_off.least way.cut_off.past w in
-      let at : slice_get steps way.frame.at ≡ Some step = at_place steps way.frame.at step step (omega (arith, c.requires.left, ends.1)) (sym c.index-step.ensures) in
+      let at = step_at eq laws value fits h test least first keys steps known.rows.spans.items k.rows (length keys) c.requires.table way.frame fs way.cut_off.least way.cut_off.past w c.requires.left step (sym c.index-step.ensures) in
       let fresh : ¬ (Contains (numbers_of (way.frame ∷ fs)) step.0) = λ m. true≢false (sym (c.is_marked.ensures.1 ((c.requires.marked.marked step.0).1 m)) ∙ c.if-is_marked.false) in
-      let e = estimate_at known.estimates.items step.0 (omega (arith, c.requires.table.inside way.frame.at step.0 step.1 at, c.requires.estimated)) in
+      let e = estimate_at known.estimates.items step.0 (subst (λ (n : ℕ). step.0 < n) (sym c.requires.estimated) (c.requires.table.inside way.frame.at step.0 step.1 at)) in
       let there : slice_get c.deref.result.now step.0 ≡ Some e.0 = subst (λ (es : List g.row.C.Denot). slice_get es step.0 ≡ Some e.0) (sym c.deref.ensures.value) e.1 in (
         k,
         cut_there eq laws value fits h test least first keys steps known.rows.spans.items k.rows k.explores.alike k.admissible (cheap_positive eq h k.costs)
@@ -161,8 +154,7 @@ span_of-requires-clause-inside g c =
     let keys = known.graph.discovery.nodes.keys in
     let steps = known.rows.steps.items in
     let step = c.index-step.result.now in
-    let ends = frame_ends g.N.PartialEq.eq g.met.N.Eq.laws g.C.Number.value g.C.Number.fits r.0 r.1 r.2 r.3 keys steps known.rows.spans.items k.rows (length keys) c.requires.table way.frame (reverse way.trail.items) way.cut_off.least way.cut_off.past r.5 in
-    let at : slice_get steps way.frame.at ≡ Some step = at_place steps way.frame.at step step (omega (arith, c.requires.left, ends.1)) (sym c.index-step.ensures) in
+    let at = step_at g.N.PartialEq.eq g.met.N.Eq.laws g.C.Number.value g.C.Number.fits r.0 r.1 r.2 r.3 keys steps known.rows.spans.items k.rows (length keys) c.requires.table way.frame (reverse way.trail.items) way.cut_off.least way.cut_off.past r.5 c.requires.left step (sym c.index-step.ensures) in
     c.requires.table.inside way.frame.at step.0 step.1 at
 
 pub returns-in_ok-enter-in-Some-2 : goal.returns-in_ok-enter-in-Some-2
@@ -179,8 +171,7 @@ returns-in_ok-enter-in-Some-2 g c = record {
       let steps = known.rows.steps.items in
       let step = c.index-step.result.now in
       let fs = reverse way.trail.items in
-      let ends = frame_ends g.N.PartialEq.eq g.met.N.Eq.laws g.C.Number.value g.C.Number.fits r.0 r.1 r.2 r.3 keys steps known.rows.spans.items k.rows (length keys) c.requires.table way.frame fs way.cut_off.least way.cut_off.past r.5 in
-      let at : slice_get steps way.frame.at ≡ Some step = at_place steps way.frame.at step step (omega (arith, c.requires.left, ends.1)) (sym c.index-step.ensures) in
+      let at = step_at g.N.PartialEq.eq g.met.N.Eq.laws g.C.Number.value g.C.Number.fits r.0 r.1 r.2 r.3 keys steps known.rows.spans.items k.rows (length keys) c.requires.table way.frame fs way.cut_off.least way.cut_off.past r.5 c.requires.left step (sym c.index-step.ensures) in
       let inside = c.requires.table.inside way.frame.at step.0 step.1 at in
       let e = c.in_ok-enter-in-Some-2.ensures in
       let frames : numbers_of (c.enter.new.self.frame ∷ reverse c.enter.new.self.trail.items) ≡ step.0 ∷ numbers_of (way.frame ∷ fs) = ap (λ (f : Frame g.row.C.Denot). numbers_of (f ∷ reverse c.enter.new.self.trail.items)) e.frame ∙ ap (λ (xs : List (Frame g.row.C.Denot)). step.0 ∷ numbers_of xs) e.below in
@@ -188,8 +179,8 @@ returns-in_ok-enter-in-Some-2 g c = record {
       record {
         marked = subst (λ (ns : List ℕ). (i : ℕ) → IsMarked c.enter.new.self.marks.items i ↔ Contains ns i) (sym frames) (marked_on way.marks.items c.enter.new.self.marks.items (numbers_of (way.frame ∷ fs)) step.0 c.requires.marked.marked e.marked);
         inside = λ i m. elim (Contains-cases (numbers_of (way.frame ∷ fs)) step.0 i (subst (λ (ns : List ℕ). Contains ns i) frames m)) as (λ _. i < length c.span_of.new.self.graph.discovery.nodes.keys) [
-          | inl q ↦ omega (arith, q, inside, grows.more)
-          | inr q ↦ let l = c.requires.marked.inside i q in omega (arith, l, grows.more)
+          | inl q ↦ subst (λ (n : ℕ). n < length c.span_of.new.self.graph.discovery.nodes.keys) q (still_found _ _ _ inside grows.more)
+          | inr q ↦ still_found _ _ _ (c.requires.marked.inside i q) grows.more
         ];
         above = λ n q. c.requires.marked.above n (sym c.in-Some.ensures.entered.2 ∙ sym (ap (λ o. o.least) e.cut_off) ∙ q);
       };
@@ -206,7 +197,7 @@ returns-in_ok-enter-in-Some-2 g c = record {
       let short : (frame.end - frame.at) + 1 < 18446744073709551616 = omega (arith, within.1, steps.ok.0, steps.small) in
       subst (λ (f : Frame g.row.C.Denot). turns_left 18446744073709551616 18446744073709551616 f (reverse c.enter.new.self.trail.items) < turns_left 18446744073709551616 18446744073709551616 way.frame fs) (sym e.frame)
       (subst (λ (xs : List (Frame g.row.C.Denot)). turns_left 18446744073709551616 18446744073709551616 frame xs < turns_left 18446744073709551616 18446744073709551616 way.frame fs) (sym e.below)
-      (entered_less 18446744073709551616 18446744073709551616 (omega arith) way.frame frame fs shallow short));
+      (entered_less 18446744073709551616 18446744073709551616 some_turns way.frame frame fs shallow short));
   graph = λ h test least first k w.
       let eq = g.N.PartialEq.eq in
       let laws = g.met.N.Eq.laws in
@@ -219,8 +210,7 @@ returns-in_ok-enter-in-Some-2 g c = record {
       let spans = known.rows.spans.items in
       let step = c.index-step.result.now in
       let fs = reverse way.trail.items in
-      let ends = frame_ends eq laws value fits h test least first keys steps spans k.rows (length keys) c.requires.table way.frame fs way.cut_off.least way.cut_off.past w in
-      let at : slice_get steps way.frame.at ≡ Some step = at_place steps way.frame.at step step (omega (arith, c.requires.left, ends.1)) (sym c.index-step.ensures) in
+      let at = step_at eq laws value fits h test least first keys steps spans k.rows (length keys) c.requires.table way.frame fs way.cut_off.least way.cut_off.past w c.requires.left step (sym c.index-step.ensures) in
       let fresh : ¬ (Contains (numbers_of (way.frame ∷ fs)) step.0) = λ m. true≢false (sym (c.is_marked.ensures.1 ((c.requires.marked.marked step.0).1 m)) ∙ c.if-is_marked.false) in
       let after = c.span_of.new.self in
       let told = c.in_ok-span.ensures.graph h test least k in
@@ -254,15 +244,14 @@ returns-in_ok-numbers-in-None g c = record {
       let steps = known.rows.steps.items in
       let step = c.index-step.result.now in
       let fs = reverse way.trail.items in
-      let ends = frame_ends g.N.PartialEq.eq g.met.N.Eq.laws g.C.Number.value g.C.Number.fits r.0 r.1 r.2 r.3 keys steps known.rows.spans.items k.rows (length keys) c.requires.table way.frame fs way.cut_off.least way.cut_off.past r.5 in
-      let at : slice_get steps way.frame.at ≡ Some step = at_place steps way.frame.at step step (omega (arith, c.requires.left, ends.1)) (sym c.index-step.ensures) in
+      let at = step_at g.N.PartialEq.eq g.met.N.Eq.laws g.C.Number.value g.C.Number.fits r.0 r.1 r.2 r.3 keys steps known.rows.spans.items k.rows (length keys) c.requires.table way.frame fs way.cut_off.least way.cut_off.past r.5 c.requires.left step (sym c.index-step.ensures) in
       let inside = c.requires.table.inside way.frame.at step.0 step.1 at in
       let grows = c.in_ok-span.ensures.grows in
       let numbers : c.in_ok-numbers-in-None.numbers.items ≡ reverse (numbers_of (way.frame ∷ fs)) ++ step.0 ∷ [] = (rw c.deref-in-None.ensures.value at c.in_ok-numbers-in-None.ensures.numbers) ∙ ap (λ (ns : List ℕ). ns ++ step.0 ∷ []) (sym (numbers_up way.frame way.trail.items)) in (
         tt,
         λ i m. elim (Contains-append_one (reverse (numbers_of (way.frame ∷ fs))) step.0 i (subst (λ (ns : List ℕ). Contains ns i) numbers m)) as (λ _. i < length c.span_of.new.self.graph.discovery.nodes.keys) [
-          | inl q ↦ let l = c.requires.marked.inside i (Contains-reverse (numbers_of (way.frame ∷ fs)) i q) in omega (arith, l, grows.more)
-          | inr q ↦ omega (arith, q, inside, grows.more)
+          | inl q ↦ still_found _ _ _ (c.requires.marked.inside i (Contains-reverse (numbers_of (way.frame ∷ fs)) i q)) grows.more
+          | inr q ↦ subst (λ (n : ℕ). n < length c.span_of.new.self.graph.discovery.nodes.keys) q (still_found _ _ _ inside grows.more)
         ],
       );
   less = tt;
@@ -278,13 +267,12 @@ returns-in_ok-numbers-in-None g c = record {
       let spans = known.rows.spans.items in
       let step = c.index-step.result.now in
       let fs = reverse way.trail.items in
-      let ends = frame_ends eq laws value fits h test least first keys steps spans k.rows (length keys) c.requires.table way.frame fs way.cut_off.least way.cut_off.past w in
-      let at : slice_get steps way.frame.at ≡ Some step = at_place steps way.frame.at step step (omega (arith, c.requires.left, ends.1)) (sym c.index-step.ensures) in
+      let at = step_at eq laws value fits h test least first keys steps spans k.rows (length keys) c.requires.table way.frame fs way.cut_off.least way.cut_off.past w c.requires.left step (sym c.index-step.ensures) in
       let fresh : ¬ (Contains (numbers_of (way.frame ∷ fs)) step.0) = λ m. true≢false (sym (c.is_marked.ensures.1 ((c.requires.marked.marked step.0).1 m)) ∙ c.if-is_marked.false) in
       let after = c.span_of.new.self in
       let told = rw c.in-None.is at (c.in_ok-span.ensures.graph h test least k) in
       let numbers : c.in_ok-numbers-in-None.numbers.items ≡ reverse (numbers_of (way.frame ∷ fs)) ++ step.0 ∷ [] = (rw c.deref-in-None.ensures.value at c.in_ok-numbers-in-None.ensures.numbers) ∙ ap (λ (ns : List ℕ). ns ++ step.0 ∷ []) (sym (numbers_up way.frame way.trail.items)) in
-      let e = estimate_at known.estimates.items step.0 (omega (arith, c.requires.table.inside way.frame.at step.0 step.1 at, c.requires.estimated)) in
+      let e = estimate_at known.estimates.items step.0 (subst (λ (n : ℕ). step.0 < n) (sym c.requires.estimated) (c.requires.table.inside way.frame.at step.0 step.1 at)) in
       let there : slice_get c.deref.result.now step.0 ≡ Some e.0 = subst (λ (es : List g.row.C.Denot). slice_get es step.0 ≡ Some e.0) (sym c.deref.ensures.value) e.1 in
       let x = begins_all eq laws keys step.0 (c.requires.table.inside way.frame.at step.0 step.1 at) in
       let is = estimate_is eq laws h k.explores.alike value least k.asked.alike keys k.explores.reached known.estimates.items k.estimated c.requires.estimated step.0 x.0 e.0 x.1 e.1 in
@@ -296,7 +284,7 @@ returns-in_ok-numbers-in-None g c = record {
               (λ i y t. InReach-same eq laws h.edges h.starts t.0 y (k.explores.reached i t.0 t.1) t.2) (StandsFor-one eq laws keys k.explores.distinct) way.frame fs way.cut_off.least way.cut_off.past w c.requires.left step.0 step.1 at
               (λ i m. begins_all eq laws keys i (c.requires.marked.inside i m)) fresh after.graph.discovery.nodes.keys after.rows.steps.items after.rows.spans.items c.in_ok-span.ensures.grows c.in_ok-span.ensures.steps c.in_ok-span.ensures.spans
               told.1 c.in_ok-numbers-in-None.numbers.items numbers (value c.in-Some.cost) c.in-Some.ensures.entered.0,
-          omega (arith, ints, is, low, below),
+          part_within _ _ _ _ is low below,
         ),
       );
   refused = tt;
@@ -352,3 +340,21 @@ index-step-requires g c =
     let keys = known.graph.discovery.nodes.keys in
     let ends = frame_ends g.N.PartialEq.eq g.met.N.Eq.laws g.C.Number.value g.C.Number.fits r.0 r.1 r.2 r.3 keys known.rows.steps.items known.rows.spans.items r.4.rows (length keys) c.requires.table way.frame (reverse way.trail.items) way.cut_off.least way.cut_off.past r.5 in
     omega (arith, c.requires.left, ends.1, known.rows.steps.ok.0)
+
+pub overflow_add-way : goal.overflow_add-way
+overflow_add-way g c =
+    let r = c.requires.graph in
+    let known = c.args.known.now in
+    let way = c.args.way.now in
+    let keys = known.graph.discovery.nodes.keys in
+    let ends = frame_ends g.N.PartialEq.eq g.met.N.Eq.laws g.C.Number.value g.C.Number.fits r.0 r.1 r.2 r.3 keys known.rows.steps.items known.rows.spans.items r.4.rows (length keys) c.requires.table way.frame (reverse way.trail.items) way.cut_off.least way.cut_off.past r.5 in
+    omega (arith, c.requires.left, ends.1, known.rows.steps.ok.0, known.rows.steps.small)
+
+pub overflow_add-way-in_default : goal.overflow_add-way-in_default
+overflow_add-way-in_default g c =
+    let r = c.requires.graph in
+    let known = c.args.known.now in
+    let way = c.args.way.now in
+    let keys = known.graph.discovery.nodes.keys in
+    let ends = frame_ends g.N.PartialEq.eq g.met.N.Eq.laws g.C.Number.value g.C.Number.fits r.0 r.1 r.2 r.3 keys known.rows.steps.items known.rows.spans.items r.4.rows (length keys) c.requires.table way.frame (reverse way.trail.items) way.cut_off.least way.cut_off.past r.5 in
+    omega (arith, c.requires.left, ends.1, known.rows.steps.ok.0, known.rows.steps.small)

@@ -6,7 +6,7 @@ use Rattle.pf_core.proofs.NodeLemmas.{InReach-same}
 use Rattle.pf_core.proofs.SearchLemmas.{Grows-trans}
 use Rattle.pf_informed.specs.declared.directed.idastar.way.Frame.{Frame}
 use Rattle.pf_informed.specs.Internal.Deepening.{IsMarked, numbers_of}
-use Rattle.pf_informed.proofs.WayLemmas.{marked_on, on_way_as, begun, start_way}
+use Rattle.pf_informed.proofs.WayLemmas.{still_found, marked_on, on_way_as, begun, start_way}
 use Rattle.pf_informed.proofs.Outcomes.{refused_as, on_refused, if_refused}
 use Rattle.pf_informed.proofs.directed.idastar.round.look_through.Goals as goal
 
@@ -191,3 +191,11 @@ turn-requires-clause-marked g c = c.turns.invariant.marked
 
 pub turns-smaller : goal.turns-smaller
 turns-smaller g c = rw c.in_default-2.is at c.in_ok-round.ensures.less
+
+pub returns-in_default-clause-inside : goal.returns-in_default-clause-inside
+returns-in_default-clause-inside g c = λ i m.
+    let keys = c.span_of.new.self.graph.discovery.nodes.keys in
+    elim (Contains-cases [] 0 i (subst (λ (ns : List ℕ). Contains ns i) c.in_ok-numbers.ensures.numbers m)) as (λ _. i < length keys) [
+      | inl q ↦ subst (λ (n : ℕ). n < length keys) q (still_found _ _ _ c.requires.begun c.in_ok-span.ensures.grows.more)
+      | inr q ↦ absurd (omega (arith, q.1))
+    ]

@@ -111,3 +111,8 @@ go_on-requires-clause-marked g c = c.requires.marked
 
 pub go_on-requires-clause-graph : goal.go_on-requires-clause-graph
 go_on-requires-clause-graph g c = c.requires.graph
+
+pub returns-then-way : goal.returns-then-way
+returns-then-way g c =
+    let e = c.go_on.ensures in
+    record { estimated = e.estimated; table = e.table; grows = e.grows; marked = e.marked; less = e.less; graph = e.graph; refused = e.refused }

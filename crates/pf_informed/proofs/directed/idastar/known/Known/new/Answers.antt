@@ -44,3 +44,9 @@ returns-in_err-clone_of g c = record {
   graph = λ edges test least s. if_refused _ c.from_residual.result _ c.from_residual.ensures.1;
   refused = refused_as _ c.from_residual.result _ c.from_residual.ensures.1 c.in_err-clone_of.ensures.refused;
 }
+
+pub returns-clause-one : goal.returns-clause-one
+returns-clause-one g c = c.in_ok-clone_of.ensures.one
+
+pub returns-clause-unasked : goal.returns-clause-unasked
+returns-clause-unasked g c = c.new-estimates.ensures.items

@@ -1,4 +1,4 @@
-use Rattle.std.proofs.Common.{◌≡◌, List, ℕ, Bool, true, false, ap, length, ◌∙◌, sym, subst, slice_get, arith, Option, Some, None, is_some, true≢false}
+use Rattle.std.proofs.Common.{◌≡◌, List, ℕ, Bool, true, false, length, ◌∙◌, sym, subst, slice_get, arith, Option, Some, None, is_some, true≢false}
 use Rattle.std.specs.Prelude.{MatchOption, ⊤}
 use Rattle.pf_core.specs.Nodes.{NodeGraph, TestedGraph, StandsFor}
 use Rattle.pf_core.proofs.ListLemmas.{get-append}
@@ -73,11 +73,11 @@ ask-requires-clause-graph g c =
     let r = c.requires.graph in
     let k = r.3 in
     let x = c.in_ok-expand.ensures.graph (tested r.0 r.1) (c.is_goal.ensures.graph (tested r.0 r.1) (k.explores, k.tested)).0 in
-    (r.0, r.2, k.asked, λ i y q. x.0.reached i y (rw c.as_slice.ensures.keys at q))
+    (g.C.Number.value, r.0, r.2, k.asked, x.0.reached)
 
 pub returns : goal.returns
 returns g c = record {
-  estimated = rw c.as_slice.ensures.keys at c.in_ok-ask.ensures.all;
+  estimated = c.in_ok-ask.ensures.all;
   table =
       let keys = c.args.self.now.graph.discovery.nodes.keys in
       let after = c.expand.new.self.discovery.nodes.keys in
@@ -102,9 +102,9 @@ returns g c = record {
       let told = c.is_goal.ensures.graph (tested h test) (k.explores, k.tested) in
       let x = c.in_ok-expand.ensures.graph (tested h test) told.0 in
       let grows = Grows-trans _ _ _ _ _ _ c.is_goal.ensures.grows c.in_ok-expand.ensures.grows in
-      let a = c.in_ok-ask.ensures.graph h least k.asked (λ i y q. x.0.reached i y (rw c.as_slice.ensures.keys at q)) in
+      let a = c.in_ok-ask.ensures.graph value h least k.asked x.0.reached in
       let before = estimated_grown eq laws value least (InReach eq h.edges h.starts) k.asked.alike keys after k.explores.reached grows c.args.self.now.estimates.items c.requires.estimated k.estimated in
-      let known = a.1 (rw c.as_slice.ensures.keys before) in
+      let known = a.1 before in
       let row = c.in_ok-expand.ensures.listed in
       let e = c.in_ok-span.ensures in
       let number = c.args.number in
@@ -113,7 +113,7 @@ returns g c = record {
           explores = x.0;
           tested = x.1;
           asked = a.0;
-          estimated = rw c.as_slice.ensures.keys at known;
+          estimated = known;
           rows = rows_more (length keys) (length after) grows.more c.args.self.now.rows.steps.items c.expand.new.row.steps.items c.keep.new.self.steps.items c.args.self.now.rows.spans.items c.keep.new.self.spans.items number c.in_ok-span.span
               (rw c.deref.ensures.value at e.steps) e.span.0 (rw c.deref.ensures.value at e.span.1) e.from c.requires.table value (IsCheapStep eq h) test (StandsFor eq keys) (StandsFor eq after) grows
               (λ y s. sym (told.1 y (c.is_goal.ensures.grows.back number y c.requires.inside (here y s))) ∙ c.if-is_goal.false)
@@ -180,7 +180,7 @@ pub is_goal-requires-clause-inside : goal.is_goal-requires-clause-inside
 is_goal-requires-clause-inside g c = c.requires.inside
 
 pub ask-requires-clause-few : goal.ask-requires-clause-few
-ask-requires-clause-few g c = omega (arith, ap length c.as_slice.ensures.keys, c.requires.estimated, c.is_goal.ensures.same, c.in_ok-expand.ensures.grows.more)
+ask-requires-clause-few g c = omega (arith, c.requires.estimated, c.is_goal.ensures.same, c.in_ok-expand.ensures.grows.more)
 
 pub expand-requires-clause-inside : goal.expand-requires-clause-inside
 expand-requires-clause-inside g c = omega (arith, c.requires.inside, c.is_goal.ensures.same)

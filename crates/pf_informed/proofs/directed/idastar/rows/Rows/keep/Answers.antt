@@ -1,5 +1,6 @@
-use Rattle.std.proofs.Common.{◌∙◌, Some, arith}
+use Rattle.std.proofs.Common.{◌∙◌, Some, arith, refl}
 use Rattle.pf_informed.specs.declared.directed.idastar.rows.Span.{Span}
+use Rattle.pf_informed.proofs.Outcomes.{refused_as, on_refused, if_refused}
 use Rattle.pf_informed.proofs.RowLemmas.{set_here, set_other, written_from}
 use Rattle.pf_informed.proofs.directed.idastar.rows.Rows.keep.Goals as goal
 
@@ -25,3 +26,23 @@ pub returns-clause-from : goal.returns-clause-from
 returns-clause-from g c =
     let span : Span = record { begin = c.len-begin.result; end = c.len.result } in
     written_from c.args.self.now.spans.items c.widen.new.items.items c.args.number span c.in_ok-widen.ensures.long c.in_ok-widen.ensures.from
+
+pub returns-in_err-extend_from_slice : goal.returns-in_err-extend_from_slice
+returns-in_err-extend_from_slice g c = record {
+  steps = on_refused _ c.from_residual.result _ c.from_residual.ensures.1;
+  span = if_refused _ c.from_residual.result _ c.from_residual.ensures.1;
+  kept = if_refused _ c.from_residual.result _ c.from_residual.ensures.1;
+  others = on_refused _ c.from_residual.result _ c.from_residual.ensures.1;
+  from = if_refused _ c.from_residual.result _ c.from_residual.ensures.1;
+  refused = refused_as _ c.from_residual.result _ c.from_residual.ensures.1 refl;
+}
+
+pub returns-in_err-widen : goal.returns-in_err-widen
+returns-in_err-widen g c = record {
+  steps = on_refused _ c.from_residual-in_err-widen.result _ c.from_residual-in_err-widen.ensures.1;
+  span = if_refused _ c.from_residual-in_err-widen.result _ c.from_residual-in_err-widen.ensures.1;
+  kept = if_refused _ c.from_residual-in_err-widen.result _ c.from_residual-in_err-widen.ensures.1;
+  others = on_refused _ c.from_residual-in_err-widen.result _ c.from_residual-in_err-widen.ensures.1;
+  from = if_refused _ c.from_residual-in_err-widen.result _ c.from_residual-in_err-widen.ensures.1;
+  refused = refused_as _ c.from_residual-in_err-widen.result _ c.from_residual-in_err-widen.ensures.1 c.in_err-widen.ensures.refused;
+}

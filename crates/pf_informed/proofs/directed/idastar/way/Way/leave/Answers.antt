@@ -1,4 +1,4 @@
-use Rattle.std.proofs.Common.{[], ◌∷◌, refl, ap, ◌∙◌}
+use Rattle.std.proofs.Common.{[], ◌∷◌, refl, ap, ◌∙◌, arith}
 use Rattle.std.specs.Prelude.{reverse}
 use Rattle.std.proofs.lemmas.List.{reverse-append}
 use Rattle.pf_informed.proofs.directed.idastar.way.Way.leave.Goals as goal
@@ -12,3 +12,12 @@ returns-clause-below g c = (
   refl,
   c.unmark.ensures,
 )
+
+pub returns-clause-cut_off : goal.returns-clause-cut_off
+returns-clause-cut_off g c = refl
+
+pub overflow_add-self : goal.overflow_add-self
+overflow_add-self g c =
+    let trail = c.pop.new.self.items in
+    let below = c.requires.room c.in-Some.parent (reverse trail) (ap reverse c.in-Some.ensures.items ∙ reverse-append trail (c.in-Some.parent ∷ [])) in
+    omega (arith, below)
