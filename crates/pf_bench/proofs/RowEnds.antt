@@ -1,5 +1,5 @@
 -- The ends of the edges of each node, in rows of edges.
-use Rattle.std.proofs.Common.{ℕ, suc, ◌+◌, ◌<◌, ◌≡◌, List, [], ◌∷◌, Some, length, refl, subst, drop, slice_get, slice_index, nat_eq}
+use Rattle.std.proofs.Common.{ℕ, ◌+◌, ◌<◌, ◌≡◌, List, [], ◌∷◌, length, subst, drop, slice_index, nat_eq}
 use Rattle.std.specs.Prelude.{map, All}
 use Rattle.std.specs.List.{AllByRecursion}
 use Rattle.std.proofs.lemmas.List.Elements.{recursion_from_All, All-take, All-drop}
@@ -32,8 +32,3 @@ has_rows offsets edges starts begins in_range =
 pub has_row : (offsets : List ℕ) (edges : List (ℕ × ℕ)) → 0 + 1 < length offsets → All (λ (e : ℕ × ℕ). e.0 + 1 < length offsets) edges
     → (x : ℕ) → IsReachable nat_eq (HasSuccessor nat_eq (ends_after offsets edges)) (0 ∷ []) x → x + 1 < length offsets
 has_row offsets edges first in_range = has_rows offsets edges (0 ∷ []) (first, tt) in_range
-
--- what holds at each place of a list holds of all
-pub all_at : (P : ℕ → Type 0) (xs : List ℕ) → ((i n : ℕ) → slice_get xs i ≡ Some n → P n) → AllByRecursion P xs
-all_at P [] h = tt
-all_at P (x ∷ xs) h = (h 0 x refl, all_at P xs (λ i n e. h (suc i) n e))

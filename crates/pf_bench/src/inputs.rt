@@ -14,7 +14,7 @@ mod steps;
 mod table;
 
 use crate::error::BenchError;
-pub use crate::inputs::board::{Board, Cell, distance};
+pub use crate::inputs::board::{Board, Cell, HIGHEST, START, distance};
 pub use crate::inputs::edges::{WeightedEdge, edges, edges_from_first};
 pub use crate::inputs::grid::grid;
 pub use crate::inputs::groups::groups;

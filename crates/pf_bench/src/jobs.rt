@@ -2,60 +2,66 @@
 
 ghost use Rattle.std.specs.Prelude.{◌<◌};
 
-mod board;
+mod costs;
 mod grid;
 mod network;
 mod orders;
 mod puzzle;
 mod rows;
+mod steps;
 mod table;
 mod tables;
 
-use crate::error::BenchError;
-use crate::jobs::board::BoardJob;
-use crate::jobs::grid::GridJob;
-use crate::jobs::network::NetworkJob;
+use crate::jobs::costs::CostsJob;
+use crate::jobs::grid::{GridFloodJob, GridJob};
+use crate::jobs::network::{EdgesJob, FlowJob, repeat_components, repeat_cycle};
 use crate::jobs::orders::OrderJob;
 use crate::jobs::puzzle::PuzzleJob;
 use crate::jobs::rows::RowsJob;
-use crate::jobs::table::TableJob;
+use crate::jobs::steps::StepsJob;
+use crate::jobs::table::{AssignmentJob, TableJob};
 use crate::jobs::tables::TablesJob;
-use crate::repeats::{Check, Repeats};
+use crate::repeats::{Outcome, Repeats};
 use std::alloc::Global;
 
 /// A call of the library on an input.
-#[derive(Clone, Copy)]
 pub enum Job {
-    Board(BoardJob),
+    Steps(StepsJob),
+    Costs(CostsJob),
     Rows(RowsJob),
     Orders(OrderJob),
     Tables(TablesJob),
+    Assignment(AssignmentJob),
     Table(TableJob),
     Grid(GridJob),
-    Network(NetworkJob),
+    GridFlood(GridFloodJob),
+    Edges(EdgesJob),
+    Components,
+    Flow(FlowJob),
+    Cycle,
     Puzzle(PuzzleJob),
 }
 
 /// The jobs, each under the name of its call and that of its input.
 const JOBS: &[(&str, Job)] = &[
-    ("bfs-board", Job::Board(BoardJob::Bfs)),
-    ("bfs_reach-board", Job::Board(BoardJob::BfsReach)),
+    ("bfs-board", Job::Steps(StepsJob::Bfs)),
+    ("bfs_reach-board", Job::Steps(StepsJob::BfsReach)),
     (
         "bfs_bidirectional-board",
-        Job::Board(BoardJob::BfsBidirectional),
+        Job::Steps(StepsJob::BfsBidirectional),
     ),
-    ("dfs_reach-board", Job::Board(BoardJob::DfsReach)),
-    ("iddfs-board", Job::Board(BoardJob::Iddfs)),
-    ("dijkstra-board", Job::Board(BoardJob::Dijkstra)),
-    ("dijkstra_all-board", Job::Board(BoardJob::DijkstraAll)),
-    ("dijkstra_reach-board", Job::Board(BoardJob::DijkstraReach)),
+    ("dfs_reach-board", Job::Steps(StepsJob::DfsReach)),
+    ("iddfs-board", Job::Steps(StepsJob::Iddfs)),
+    ("dijkstra-board", Job::Costs(CostsJob::Dijkstra)),
+    ("dijkstra_all-board", Job::Costs(CostsJob::DijkstraAll)),
+    ("dijkstra_reach-board", Job::Costs(CostsJob::DijkstraReach)),
     (
         "dijkstra_bidirectional-board",
-        Job::Board(BoardJob::DijkstraBidirectional),
+        Job::Costs(CostsJob::DijkstraBidirectional),
     ),
-    ("astar-board", Job::Board(BoardJob::Astar)),
-    ("fringe-board", Job::Board(BoardJob::Fringe)),
-    ("astar_bag-board", Job::Board(BoardJob::AstarBag)),
+    ("astar-board", Job::Costs(CostsJob::Astar)),
+    ("fringe-board", Job::Costs(CostsJob::Fringe)),
+    ("astar_bag-board", Job::Costs(CostsJob::AstarBag)),
     ("bfs_loop-rows", Job::Rows(RowsJob::BfsLoop)),
     ("dfs-rows", Job::Rows(RowsJob::Dfs)),
     ("dijkstra-rows", Job::Rows(RowsJob::Dijkstra)),
@@ -74,10 +80,13 @@ const JOBS: &[(&str, Job)] = &[
         Job::Tables(TablesJob::DijkstraBoard),
     ),
     ("dijkstra-rows-table", Job::Tables(TablesJob::DijkstraRows)),
-    ("kuhn_munkres-table", Job::Table(TableJob::KuhnMunkres)),
+    (
+        "kuhn_munkres-table",
+        Job::Assignment(AssignmentJob::Greatest),
+    ),
     (
         "kuhn_munkres_min-table",
-        Job::Table(TableJob::KuhnMunkresMin),
+        Job::Assignment(AssignmentJob::Least),
     ),
     ("matrix_rotate-table", Job::Table(TableJob::Rotate)),
     ("matrix_transpose-table", Job::Table(TableJob::Transpose)),
@@ -87,45 +96,51 @@ const JOBS: &[(&str, Job)] = &[
     ("grid_invert-grid", Job::Grid(GridJob::Invert)),
     ("grid_iter-grid", Job::Grid(GridJob::Iter)),
     ("grid_edges-grid", Job::Grid(GridJob::Edges)),
-    ("grid_bfs-grid", Job::Grid(GridJob::Bfs)),
-    ("grid_dfs-grid", Job::Grid(GridJob::Dfs)),
+    ("grid_bfs-grid", Job::GridFlood(GridFloodJob::Bfs)),
+    ("grid_dfs-grid", Job::GridFlood(GridFloodJob::Dfs)),
     (
         "kruskal_indices-edges",
-        Job::Network(NetworkJob::KruskalIndices),
+        Job::Edges(EdgesJob::KruskalIndices),
     ),
-    ("kruskal-edges", Job::Network(NetworkJob::Kruskal)),
-    ("prim-edges", Job::Network(NetworkJob::Prim)),
-    ("components-groups", Job::Network(NetworkJob::Components)),
-    ("flow_dense-network", Job::Network(NetworkJob::FlowDense)),
-    ("flow_sparse-layers", Job::Network(NetworkJob::FlowSparse)),
-    ("brent-step", Job::Network(NetworkJob::Brent)),
+    ("kruskal-edges", Job::Edges(EdgesJob::Kruskal)),
+    ("prim-edges", Job::Edges(EdgesJob::Prim)),
+    ("components-groups", Job::Components),
+    ("flow_dense-network", Job::Flow(FlowJob::Dense)),
+    ("flow_sparse-layers", Job::Flow(FlowJob::Sparse)),
+    ("brent-step", Job::Cycle),
     ("astar-puzzle", Job::Puzzle(PuzzleJob::Astar)),
     ("idastar-puzzle", Job::Puzzle(PuzzleJob::Idastar)),
 ];
 
 impl Job {
     /// The job of this name.
-    pub fn named(name: &str) -> Option<Job> {
+    pub fn named(name: &str) -> Option<&'static Job> {
         for job in JOBS {
             if job.0 == name {
-                return Some(job.1);
+                return Some(&job.1);
             }
         }
         None
     }
 
-    /// Makes the input of this size, makes the call so often, and works out the check.
-    pub fn run(self, alloc: Global, size: usize, repeats: Repeats) -> Result<Check, BenchError>
+    /// Makes the input of this size, makes the call so often, and works out the check of the last one.
+    pub fn run(&self, alloc: Global, size: usize, repeats: &Repeats) -> Outcome
         requires { 0 < size }
     {
         match self {
-            Job::Board(job) => job.run(alloc, size, repeats),
+            Job::Steps(job) => job.run(alloc, size, repeats),
+            Job::Costs(job) => job.run(alloc, size, repeats),
             Job::Rows(job) => job.run(alloc, size, repeats),
             Job::Orders(job) => job.run(alloc, size, repeats),
             Job::Tables(job) => job.run(alloc, size, repeats),
+            Job::Assignment(job) => job.run(alloc, size, repeats),
             Job::Table(job) => job.run(alloc, size, repeats),
             Job::Grid(job) => job.run(alloc, size, repeats),
-            Job::Network(job) => job.run(alloc, size, repeats),
+            Job::GridFlood(job) => job.run(alloc, size, repeats),
+            Job::Edges(job) => job.run(alloc, size, repeats),
+            Job::Components => repeat_components(alloc, size, repeats),
+            Job::Flow(job) => job.run(alloc, size, repeats),
+            Job::Cycle => repeat_cycle(size as u64, repeats),
             Job::Puzzle(job) => job.run(alloc, size, repeats),
         }
     }

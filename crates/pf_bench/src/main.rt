@@ -4,7 +4,7 @@
 
 ghost use Rattle.std.specs.Prelude.{◌<◌};
 
-mod callers;
+mod checks;
 mod draw;
 mod error;
 mod inputs;
@@ -67,7 +67,7 @@ fn perform(rt: &HostRuntime, words: &[String]) -> Result<(), BenchError> {
     let Some(job) = Job::named(name) else {
         return Err(BenchError::UnknownJob);
     };
-    let printed = match job.run(rt.alloc(), size, request.repeats)? {
+    let printed = match job.run(rt.alloc(), size, &request.repeats)? {
         Some(check) => println!(rt; "{name} {size} {check}"),
         None => println!(rt; "{name} {size} -1"),
     };

@@ -11,6 +11,9 @@ use std::alloc::Global;
 /// Row and column.
 pub type Cell = (usize, usize);
 
+/// The first cell of the first row.
+pub const START: Cell = (0, 0);
+
 /// Steps down and to the right.
 type Direction = (isize, isize);
 
@@ -27,8 +30,8 @@ pub struct Board {
     ghost raised: { All (λ h. 0 < h) heights.items },
 }
 
-/// The height of the highest cells of a random board.
-const HIGHEST: u8 = 9;
+/// The height of the highest cells of a board, where nothing else is said.
+pub const HIGHEST: u8 = 9;
 
 /// How many steps lead from one cell to another at least, as far as the number fits.
 pub fn distance(from: Cell, to: Cell) -> u32
@@ -52,22 +55,8 @@ impl Board {
     ghost use Rattle.std.specs.List.{filter_map};
     ghost use Rattle.pf_bench.specs.Steps.{cells_from, crossed, entered, entered_cell, four_directions, height_of};
 
-    /// A board with heights from 1 to 9.
-    pub fn random(alloc: Global, size: usize) -> Result<Board, BenchError>
-        requires { 0 < size }
-    {
-        Board::with_heights(alloc, size, HIGHEST)
-    }
-
-    /// A board with height 1 everywhere.
-    pub fn flat(alloc: Global, size: usize) -> Result<Board, BenchError>
-        requires { 0 < size }
-    {
-        Board::with_heights(alloc, size, 1)
-    }
-
     /// A board with heights from 1 to `highest`.
-    fn with_heights(alloc: Global, size: usize, highest: u8) -> Result<Board, BenchError>
+    pub fn random(alloc: Global, size: usize, highest: u8) -> Result<Board, BenchError>
         requires from_one { 0 < size }
         requires raised { 0 < highest }
     {

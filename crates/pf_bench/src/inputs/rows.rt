@@ -12,9 +12,6 @@ use std::marker::Model;
 /// How many edges are drawn for a node.
 const EDGES: usize = 5;
 
-/// How far an edge leads where there are no cycles.
-const SPAN: usize = 50;
-
 /// A directed graph on the nodes from 0 on. The edges from node n are those from place `offsets[n]`
 /// up to place `offsets[n + 1]`, each its target and its cost.
 #[derive(Drop)]
@@ -30,8 +27,9 @@ pub struct Rows {
 impl Rows {
     ghost use Rattle.pf_bench.specs.Steps.{ends_after, row_of};
 
-    /// Each node has 5 edges. Loops and parallel edges occur.
-    pub fn random(alloc: Global, size: usize) -> Result<Rows, BenchError>
+    /// Each node has 5 edges. Loops and parallel edges occur. Without cycles, an edge leads to one of
+    /// the 50 nodes behind its own, and is left out where there is no such node.
+    pub fn random(alloc: Global, size: usize, has_cycles: bool) -> Result<Rows, BenchError>
         requires { 0 < size }
     {
         let Some(count) = size.checked_mul(EDGES) else {
@@ -43,29 +41,7 @@ impl Rows {
         let mut edges = Vec::with_capacity(alloc, count)?;
         for node in 0..size {
             for _edge in 0..EDGES {
-                let target = draws.below(size);
-                edges.push((target, draws.cost()))?;
-            }
-            offsets.push(edges.len())?;
-        }
-        Ok(Rows { offsets, edges })
-    }
-
-    /// The same without cycles: an edge leads to one of the 50 nodes behind its own, and is left out
-    /// where there is no such node.
-    pub fn without_cycles(alloc: Global, size: usize) -> Result<Rows, BenchError>
-        requires { 0 < size }
-    {
-        let Some(count) = size.checked_mul(EDGES) else {
-            return Err(BenchError::TooLarge);
-        };
-        let mut draws = Draws::new();
-        let mut offsets = Vec::new(alloc);
-        offsets.push(0)?;
-        let mut edges = Vec::with_capacity(alloc, count)?;
-        for node in 0..size {
-            for _edge in 0..EDGES {
-                let target = (node + 1).saturating_add(draws.below(SPAN));
+                let target = draws.target(node, size, has_cycles);
                 let cost = draws.cost();
                 if target < size {
                     edges.push((target, cost))?;
@@ -100,6 +76,7 @@ impl Rows {
     {
         &self.edges[self.offsets[node]..self.offsets[node + 1]]
     }
+
     /// Where the edges from a node lead.
     pub fn ends_from(&self, node: usize) -> Ends<'_>
         requires { node + 1 < length self.now.offsets.items }

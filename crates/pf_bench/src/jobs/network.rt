@@ -2,79 +2,152 @@
 
 ghost use Rattle.std.specs.Prelude.{◌<◌};
 
-use crate::callers::checks::{components_of, flow_of, steps_of};
-use crate::callers::cycles::cycle;
-use crate::callers::edges::{tree_weight, weight, weight_by_number};
+use crate::checks::count_of;
 use crate::error::BenchError;
-use crate::inputs::{Network, edges, edges_from_first, groups};
-use crate::repeats::{Check, Repeats};
-use pf_flow::edmonds_karp::{edmonds_karp_dense, edmonds_karp_sparse};
+use crate::inputs::{Network, WeightedEdge, edges, edges_from_first, groups};
+use crate::repeats::{Outcome, Repeats};
+use pf_base::PathError;
+use pf_flow::edmonds_karp::{EKFlows, edmonds_karp_dense, edmonds_karp_sparse};
+use pf_graph::directed::cycle_detection::brent;
 use pf_graph::undirected::connected_components::components;
+use pf_graph::undirected::kruskal::{kruskal, kruskal_indices};
 use pf_graph::undirected::prim::prim;
 use std::alloc::Global;
 
-/// Spanning edges, components, flows or cycles.
-#[derive(Clone, Copy)]
-pub enum NetworkJob {
+/// A choice of spanning edges.
+pub enum EdgesJob {
     KruskalIndices,
     Kruskal,
     Prim,
-    Components,
-    FlowDense,
-    FlowSparse,
-    Brent,
 }
 
-impl NetworkJob {
+impl EdgesJob {
     /// Runs it on the input of this size.
-    pub fn run(self, alloc: Global, size: usize, repeats: Repeats) -> Result<Check, BenchError>
+    pub fn run(&self, alloc: Global, size: usize, repeats: &Repeats) -> Outcome
         requires { 0 < size }
     {
+        let edges = match self {
+            EdgesJob::Prim => edges_from_first(alloc, size)?,
+            _ => edges(alloc, size)?,
+        };
+        repeats.check(|is_last| match self {
+            EdgesJob::KruskalIndices => weight_by_number(alloc, size, &edges),
+            EdgesJob::Kruskal => weight(alloc, &edges),
+            EdgesJob::Prim => tree_weight(prim(alloc, &edges), is_last),
+        })
+    }
+}
+
+/// The weight of the edges that `kruskal_indices` gives.
+fn weight_by_number(alloc: Global, size: usize, edges: &[WeightedEdge]) -> Outcome {
+    let mut sum = 0u64;
+    for edge in kruskal_indices(alloc, size, edges)? {
+        sum = sum.wrapping_add(u64::from(edge.2));
+    }
+    Ok(Some(sum))
+}
+
+/// The weight of the edges that `kruskal` gives.
+fn weight(alloc: Global, edges: &[WeightedEdge]) -> Outcome {
+    let mut sum = 0u64;
+    for edge in kruskal(alloc, edges)? {
+        sum = sum.wrapping_add(u64::from(edge.2));
+    }
+    Ok(Some(sum))
+}
+
+/// The weight of the tree that `prim` answers.
+fn tree_weight(found: Result<Vec<(&usize, &usize, u32)>, PathError>, is_last: bool) -> Outcome {
+    match &found {
+        Ok(tree) if is_last => {
+            let mut sum = 0u64;
+            for edge in tree {
+                sum = sum.wrapping_add(u64::from(edge.2));
+            }
+            Ok(Some(sum))
+        }
+        Ok(_) => Ok(None),
+        Err(fault) => Err(BenchError::Path(*fault)),
+    }
+}
+
+/// Counts the components of groups so often.
+pub fn repeat_components(alloc: Global, size: usize, repeats: &Repeats) -> Outcome
+    requires { 0 < size }
+{
+    let groups = groups(alloc, size)?;
+    repeats.check(|is_last| count_of(components(alloc, &groups), is_last))
+}
+
+/// A flow in a network.
+pub enum FlowJob {
+    Dense,
+    Sparse,
+}
+
+impl FlowJob {
+    /// Runs it on the input of this size.
+    pub fn run(&self, alloc: Global, size: usize, repeats: &Repeats) -> Outcome
+        requires { 0 < size }
+    {
+        let network = match self {
+            FlowJob::Dense => Network::dense(alloc, size)?,
+            FlowJob::Sparse => Network::in_layers(alloc, size)?,
+        };
+        repeats.check(|is_last| self.call(alloc, &network, is_last))
+    }
+
+    /// Makes the call on a network, by a square of capacities or by lists of them.
+    fn call(&self, alloc: Global, network: &Network, is_last: bool) -> Outcome {
+        let vertices = network.vertices();
+        let (source, sink) = (0, network.sink());
+        let capacities = network.capacities().iter().copied();
         match self {
-            NetworkJob::KruskalIndices => {
-                let edges = edges(alloc, size)?;
-                repeats.check(|| weight_by_number(alloc, size, &edges), Some)
-            }
-            NetworkJob::Kruskal => {
-                let edges = edges(alloc, size)?;
-                repeats.check(|| weight(alloc, &edges), Some)
-            }
-            NetworkJob::Prim => {
-                let edges = edges_from_first(alloc, size)?;
-                repeats.check(|| prim(alloc, &edges), tree_weight)
-            }
-            NetworkJob::Components => {
-                let groups = groups(alloc, size)?;
-                repeats.check(|| components(alloc, &groups), components_of)
-            }
-            NetworkJob::FlowDense => repeat_dense(alloc, &Network::dense(alloc, size)?, repeats),
-            NetworkJob::FlowSparse => {
-                repeat_sparse(alloc, &Network::in_layers(alloc, size)?, repeats)
-            }
-            NetworkJob::Brent => {
-                let modulus = size as u64;
-                repeats.check(|| cycle(modulus), steps_of)
-            }
+            FlowJob::Dense => flow_of(
+                edmonds_karp_dense(alloc, vertices, &source, &sink, capacities),
+                is_last,
+            ),
+            FlowJob::Sparse => flow_of(
+                edmonds_karp_sparse(alloc, vertices, &source, &sink, capacities),
+                is_last,
+            ),
         }
     }
 }
 
-/// Finds a flow over a square of capacities so often.
-fn repeat_dense(alloc: Global, network: &Network, repeats: Repeats) -> Result<Check, BenchError> {
-    let (vertices, capacities) = (network.vertices(), network.capacities());
-    let (source, sink) = (0, network.sink());
-    repeats.check(
-        || edmonds_karp_dense(alloc, vertices, &source, &sink, capacities.iter().copied()),
-        flow_of,
-    )
+/// The total of a flow.
+fn flow_of(found: Result<EKFlows<usize, i64>, PathError>, is_last: bool) -> Outcome {
+    match &found {
+        Ok(flow) if is_last => Ok(u64::try_from(flow.1).ok()),
+        Ok(_) => Ok(None),
+        Err(fault) => Err(BenchError::Path(*fault)),
+    }
 }
 
-/// Finds a flow over lists of capacities so often.
-fn repeat_sparse(alloc: Global, network: &Network, repeats: Repeats) -> Result<Check, BenchError> {
-    let (vertices, capacities) = (network.vertices(), network.capacities());
-    let (source, sink) = (0, network.sink());
-    repeats.check(
-        || edmonds_karp_sparse(alloc, vertices, &source, &sink, capacities.iter().copied()),
-        flow_of,
-    )
+/// Finds the cycle of `x * x + 1` modulo a number, from 1, so often.
+pub fn repeat_cycle(modulus: u64, repeats: &Repeats) -> Outcome
+    requires { 0 < modulus }
+{
+    repeats.check(|is_last| steps_of(cycle(modulus), is_last))
+}
+
+/// The length of a cycle, its first value, and the steps to it.
+type Cycle = (usize, u64, usize);
+
+/// The cycle of `x * x + 1` modulo a number, from 1.
+fn cycle(modulus: u64) -> Result<Cycle, PathError>
+    requires { 0 < modulus }
+{
+    brent(1u64, |x| x.wrapping_mul(x).wrapping_add(1) % modulus)
+}
+
+/// The length of a cycle and the steps to it.
+fn steps_of(found: Result<Cycle, PathError>, is_last: bool) -> Outcome {
+    match found {
+        Ok((length, _, steps)) if is_last => {
+            Ok(Some((length as u64).saturating_add(steps as u64)))
+        }
+        Ok(_) => Ok(None),
+        Err(fault) => Err(BenchError::Path(fault)),
+    }
 }

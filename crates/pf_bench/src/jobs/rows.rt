@@ -1,17 +1,22 @@
-//! Searches on rows of edges.
+//! Searches on rows of edges, from the first node to the last.
 
 ghost use Rattle.std.specs.Prelude.{◌<◌};
 
-use crate::callers::checks::{cost_of, costs_of, edges_of, ends_at, map_costs_of, sum_of};
-use crate::callers::ranked::cheapest_paths;
-use crate::callers::rows::{cheapest, first_path, mapped, shortest_loop, summed};
+use crate::checks::{cost_of, edges_of, map_costs_of, walk_costs_of};
 use crate::error::BenchError;
 use crate::inputs::Rows;
-use crate::repeats::{Check, Repeats};
+use crate::repeats::{Outcome, Repeats};
+use pf_base::{NodeRefs, PathError};
+use pf_search::directed::bfs::bfs_loop;
+use pf_search::directed::dfs::dfs;
+use pf_search::directed::dijkstra::{dijkstra, dijkstra_all, dijkstra_reach};
+use pf_yen::directed::yen::yen;
 use std::alloc::Global;
 
+/// How many paths `yen` is asked for.
+const PATHS: usize = 10;
+
 /// A search on rows of edges.
-#[derive(Clone, Copy)]
 pub enum RowsJob {
     BfsLoop,
     Dfs,
@@ -23,25 +28,59 @@ pub enum RowsJob {
 
 impl RowsJob {
     /// Runs it on the input of this size.
-    pub fn run(self, alloc: Global, size: usize, repeats: Repeats) -> Result<Check, BenchError>
+    pub fn run(&self, alloc: Global, size: usize, repeats: &Repeats) -> Outcome
         requires { 0 < size }
     {
-        let rows = Rows::random(alloc, size)?;
-        self.repeat(alloc, &rows, repeats)
+        let rows = Rows::random(alloc, size, true)?;
+        repeats.check(|is_last| self.call(alloc, &rows, is_last))
     }
 
-    /// Makes the call on rows so often.
-    fn repeat(self, alloc: Global, rows: &Rows, repeats: Repeats) -> Result<Check, BenchError> {
+    /// Makes the call on rows.
+    fn call(&self, alloc: Global, rows: &Rows, is_last: bool) -> Outcome {
+        let start = 0;
+        let goal = rows.last_node();
+        let next = |node: &usize| rows.ends_from(*node);
+        let edges = |node: &usize| rows.edges_from(*node).iter().copied();
+        let is_goal = |node: &usize| *node == goal;
         match self {
-            RowsJob::BfsLoop => repeats.on(alloc, rows, shortest_loop, edges_of),
-            RowsJob::Dfs => {
-                let last = rows.last_node();
-                repeats.on(alloc, rows, first_path, |path| ends_at(path, last))
+            RowsJob::BfsLoop => {
+                let starts = NodeRefs::from_one(alloc, &start)?;
+                edges_of(bfs_loop(alloc, &starts, next), is_last)
             }
-            RowsJob::Dijkstra => repeats.on(alloc, rows, cheapest, cost_of),
-            RowsJob::DijkstraAll => repeats.on(alloc, rows, mapped, map_costs_of),
-            RowsJob::DijkstraReach => repeats.on(alloc, rows, summed, sum_of),
-            RowsJob::Yen => repeats.on(alloc, rows, cheapest_paths, costs_of),
+            RowsJob::Dfs => ends_at(dfs(alloc, start, next, is_goal), goal, is_last),
+            RowsJob::Dijkstra => cost_of(dijkstra(alloc, &start, edges, is_goal), is_last),
+            RowsJob::DijkstraAll => map_costs_of(dijkstra_all(alloc, &start, edges), is_last),
+            RowsJob::DijkstraReach => {
+                let walk = dijkstra_reach(alloc, &start, edges)?;
+                walk_costs_of(walk)
+            }
+            RowsJob::Yen => costs_of(yen(alloc, &start, edges, is_goal, PATHS), is_last),
         }
+    }
+}
+
+/// 1 for a path from 0 to this node.
+fn ends_at(found: Result<Option<Vec<usize>>, PathError>, last: usize, is_last: bool) -> Outcome {
+    match &found {
+        Ok(Some(path)) if is_last && path.first() == Some(&0) && path.last() == Some(&last) => {
+            Ok(Some(1))
+        }
+        Ok(_) => Ok(None),
+        Err(fault) => Err(BenchError::Path(*fault)),
+    }
+}
+
+/// What paths cost in all.
+fn costs_of(found: Result<Vec<(Vec<usize>, u32)>, PathError>, is_last: bool) -> Outcome {
+    match &found {
+        Ok(paths) if is_last => {
+            let mut sum = 0u64;
+            for path in paths {
+                sum = sum.saturating_add(u64::from(path.1));
+            }
+            Ok(Some(sum))
+        }
+        Ok(_) => Ok(None),
+        Err(fault) => Err(BenchError::Path(*fault)),
     }
 }
