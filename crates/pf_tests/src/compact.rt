@@ -1,12 +1,12 @@
 //! Callers over adjacency rows in a compact form: the edges of all nodes in one list, and where the
 //! edges of each node begin.
 
-ghost use Rattle.std.specs.Prelude.{◌≡◌, ◌⊎◌, ◌<◌, ◌≤◌, ◌+◌, ◌==◌, ◌∷◌, [], All, nat_eq, pos, IsTrue, IfOk, IfErr, MatchOption};
+ghost use Rattle.std.specs.Prelude.{◌≡◌, ◌⊎◌, ◌<◌, ◌≤◌, ◌+◌, ◌==◌, ◌∷◌, [], All, length, nat_eq, pos, slice_index, IsTrue, IfOk, IfErr, MatchOption};
 ghost use Rattle.std.specs.List.Sorted.{IsNonDecreasing};
 ghost use Rattle.pf_base.specs.Edges.{IsSuccessor, IsCheapestGoalPath, IsPastRange};
 ghost use Rattle.pf_base.specs.Successors.{HasSuccessor, IsFewestEdgesGoalPath};
 ghost use Rattle.pf_base.specs.Walks.{HasNoGoalWalk};
-ghost use Rattle.pf_tests.specs.Compact.{IsCompact, IsNode, edges_in, nodes_in};
+ghost use Rattle.pf_tests.specs.Compact.{IsCompact, IsNode, edges_in, nodes_in, row_of};
 
 use num_traits::Number;
 use pf_base::{NodeRefs, PathError};
@@ -36,6 +36,16 @@ pub fn is_compact<E>(offsets: &[usize], targets: &[E]) -> bool
     rise_to(offsets, targets.len())
 }
 
+/// The row of a node: what stands between its offset and the next one.
+fn row<'t, E>(offsets: &[usize], targets: &'t [E], node: usize) -> &'t [E]
+    requires node { IsNode offsets.now node }
+    requires rising { slice_index offsets.now node ≤ slice_index offsets.now (node + 1) }
+    requires within { slice_index offsets.now (node + 1) ≤ length targets.now }
+    ensures { result.now ≡ row_of offsets.now targets.now node }
+{
+    &targets[offsets[node]..offsets[node + 1]]
+}
+
 /// A cheapest path in a graph in compact form, with its cost, or `None` exactly where no walk leads
 /// from `from` to `to`. The edges from the node n are `targets[offsets[n]..offsets[n + 1]]`.
 pub fn cheapest_in_compact<A>(
@@ -60,7 +70,7 @@ where
     dijkstra(
         alloc,
         &from,
-        |n| targets[offsets[*n]..offsets[*n + 1]].iter().copied(),
+        |n| row(offsets, targets, *n).iter().copied(),
         |n| *n == to,
     )
 }
@@ -88,7 +98,7 @@ where
     bfs(
         alloc,
         starts,
-        |n| targets[offsets[*n]..offsets[*n + 1]].iter().copied(),
+        |n| row(offsets, targets, *n).iter().copied(),
         |n| *n == to,
     )
 }

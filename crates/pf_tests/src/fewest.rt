@@ -1,8 +1,5 @@
 //! Callers of `bfs` and `iddfs` over lists of edges (from, to).
 
-ghost use Rattle.std.specs.Prelude.{◌≡◌, nat_eq};
-ghost use Rattle.pf_base.specs.Mirrors.{is_among};
-
 use edge_lists::nodes_after;
 use pf_base::{NodeRefs, PathError};
 use pf_search::directed::bfs::bfs;
@@ -16,13 +13,6 @@ pub type Heap<'h> = &'h Refusing<Global>;
 /// A path, where there is one.
 pub type Found<'h> = Result<Option<Vec<u8, Heap<'h>>>, PathError>;
 
-/// Whether a node is one of some nodes.
-fn is_one_of(nodes: &[u8], node: u8) -> bool
-    ensures { result ≡ is_among nat_eq nodes.now node }
-{
-    nodes.iter().any(|known| *known == node)
-}
-
 /// A path with fewest edges from one of the starts to one of the goals.
 pub fn fewest_in_pairs<'h>(
     heap: Heap<'h>,
@@ -34,7 +24,7 @@ pub fn fewest_in_pairs<'h>(
         heap,
         starts,
         |n| nodes_after(edges, *n),
-        |n| is_one_of(goals, *n),
+        |n| goals.contains(n),
     )
 }
 

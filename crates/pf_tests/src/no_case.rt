@@ -12,7 +12,7 @@ ghost use Rattle.std.specs.Ordering.{on};
 use std::hash::{Hash, Hasher};
 
 /// A name of ASCII letters. Letter case tells no two names apart, and a copy keeps the spelling.
-#[derive(Clone, Copy, Debug)]
+#[derive(Clone, Copy)]
 pub struct NoCase<'a> {
     pub name: &'a str,
 }

@@ -18,21 +18,26 @@ pub fn first_in_pairs(
     dfs(alloc, start, |n| nodes_after(edges, *n), |n| *n == goal)
 }
 
-/// The nodes that come in the first `limit` steps of a walk in preorder, in a table in which each row
+/// Whether these nodes come in the first `limit` steps of a walk in preorder, in a table in which each row
 /// lists the nodes after its node.
-pub fn preorder_in_rows(
+pub fn comes_in_rows(
     alloc: Global,
     rows: &[Vec<usize>],
     from: usize,
     limit: usize,
-) -> Result<Vec<usize>, PathError>
+    nodes: &[usize],
+) -> Result<bool, PathError>
     requires inside { from < length rows.now }
     requires in_range { All (λ row. All (λ n. n < length rows.now) row.items) rows.now }
 {
-    let mut given = Vec::new(alloc);
+    let mut wanted = nodes.iter();
+    let mut is_right = true;
     let walk = dfs_reach(alloc, from, |n: &usize| rows[*n].iter().copied())?;
     for node in walk.take(limit) {
-        given.push(node?)?;
+        is_right &= match node {
+            Ok(given) => wanted.next() == Some(&given),
+            Err(_) => false,
+        };
     }
-    Ok(given)
+    Ok(is_right && wanted.next().is_none())
 }

@@ -4,7 +4,7 @@ use pf_base::PathError;
 use std::alloc::Allocator;
 
 /// How a call ended.
-#[derive(Clone, Copy, Debug, PartialEq, Eq)]
+#[derive(Clone, Copy, PartialEq, Eq)]
 pub enum Outcome {
     /// It answered out of memory.
     OutOfMemory,
@@ -43,11 +43,18 @@ where
     N: PartialEq + Drop,
     A: Allocator,
 {
-    match (&answer, want) {
-        (Ok(Some(path)), Some(nodes)) => Outcome::of_answer(path.as_slice() == nodes),
-        (Ok(None), None) => Outcome::Right,
-        (Err(refusal), _) => Outcome::of_refusal(*refusal),
-        _ => Outcome::Wrong,
+    outcome_of_path(&answer, want)
+}
+
+/// The same of an answer that is lent.
+fn outcome_of_path<N: PartialEq, A: Allocator>(
+    answer: &Result<Option<Vec<N, A>>, PathError>,
+    want: Option<&[N]>,
+) -> Outcome {
+    match answer {
+        Ok(Some(path)) => Outcome::of_answer(want == Some(path.as_slice())),
+        Ok(None) => Outcome::of_answer(want.is_none()),
+        Err(refusal) => Outcome::of_refusal(*refusal),
     }
 }
 
@@ -61,13 +68,18 @@ where
     C: PartialEq + Copy,
     A: Allocator,
 {
-    match (&answer, want) {
-        (Ok(Some((path, cost))), Some((nodes, price))) => {
-            Outcome::of_answer(path.as_slice() == nodes && *cost == price)
-        }
-        (Ok(None), None) => Outcome::Right,
-        (Err(refusal), _) => Outcome::of_refusal(*refusal),
-        _ => Outcome::Wrong,
+    outcome_of_cheapest(&answer, want)
+}
+
+/// The same of an answer that is lent.
+fn outcome_of_cheapest<N: PartialEq, C: PartialEq + Copy, A: Allocator>(
+    answer: &Result<Option<(Vec<N, A>, C)>, PathError>,
+    want: Option<(&[N], C)>,
+) -> Outcome {
+    match answer {
+        Ok(Some((path, cost))) => Outcome::of_answer(want == Some((path.as_slice(), *cost))),
+        Ok(None) => Outcome::of_answer(want.is_none()),
+        Err(refusal) => Outcome::of_refusal(*refusal),
     }
 }
 

@@ -15,7 +15,7 @@ const TARGETS: &[usize] = &[1, 2, 2, 3, 3, 4, 4];
 
 #[test]
 fn cheapest_paths(rt: HostRuntime) {
-    assert!(rt; is_compact(OFFSETS, EDGES) && EDGES.iter().all(|edge| edge.0 < 5));
+    assert!(rt; is_compact(OFFSETS, EDGES));
     let there = cheapest_in_compact(rt.alloc(), OFFSETS, EDGES, 0, 4);
     assert!(rt; is_cheapest(there, Some((&[0, 1, 3, 4], 11))));
     let back = cheapest_in_compact(rt.alloc(), OFFSETS, EDGES, 4, 0);
@@ -24,7 +24,7 @@ fn cheapest_paths(rt: HostRuntime) {
 
 #[test]
 fn fewest_edges(rt: HostRuntime) {
-    assert!(rt; is_compact(OFFSETS, TARGETS) && TARGETS.iter().all(|node| *node < 5));
+    assert!(rt; is_compact(OFFSETS, TARGETS));
     let starts = NodeRefs::from_one(rt.alloc(), &0usize).expect(&rt, "memory");
     let found = fewest_in_compact(rt.alloc(), OFFSETS, TARGETS, &starts, 4);
     assert!(rt; is_path(found, Some(&[0, 2, 4])));

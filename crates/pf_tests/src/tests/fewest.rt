@@ -5,30 +5,31 @@ use crate::fewest::{Found, deepened_in_pairs, fewest_in_pairs};
 use crate::tests::answers::is_path;
 use pf_base::NodeRefs;
 use refusing_allocator::Refusing;
-use std::alloc::{AllocError, Global};
+use std::alloc::AllocError;
 
 /// The field of a chess board at a column and a row, each from 0 to 7.
 fn field(column: u8, row: u8) -> u8 {
     column.wrapping_mul(8).wrapping_add(row)
 }
 
-/// The knight's moves between the fields, each in both directions.
-fn knight_moves(alloc: Global) -> Result<Vec<(u8, u8)>, AllocError> {
-    let mut moves = Vec::new(alloc);
+/// Adds the knight's moves between the fields, each in both directions.
+fn add_knight_moves(moves: &mut Vec<(u8, u8)>) -> Result<(), AllocError> {
     for x in 0..8u8 {
         for y in 0..8u8 {
             for (right, up) in [(1, 2), (2, 1)] {
                 let (far, high) = (x + right, y + up);
                 if far < 8 && high < 8 {
-                    moves.push((field(x, y), field(far, high)))?;
-                    moves.push((field(far, high), field(x, y)))?;
-                    moves.push((field(far, y), field(x, high)))?;
-                    moves.push((field(x, high), field(far, y)))?;
+                    moves.extend_from_slice(&[
+                        (field(x, y), field(far, high)),
+                        (field(far, high), field(x, y)),
+                        (field(far, y), field(x, high)),
+                        (field(x, high), field(far, y)),
+                    ])?;
                 }
             }
         }
     }
-    Ok(moves)
+    Ok(())
 }
 
 /// Whether the answer is a way of five fields from one field to another.
@@ -43,7 +44,8 @@ fn is_way(answer: Found<'_>, from: u8, to: u8) -> bool {
 
 #[test]
 fn a_knight_needs_four_moves(rt: HostRuntime) {
-    let moves = knight_moves(rt.alloc()).expect(&rt, "memory");
+    let mut moves = Vec::new(rt.alloc());
+    add_knight_moves(&mut moves).expect(&rt, "memory");
     let (from, to) = (field(1, 1), field(4, 6));
     let starts = NodeRefs::from_one(rt.alloc(), &from).expect(&rt, "memory");
     let ends = NodeRefs::from_one(rt.alloc(), &to).expect(&rt, "memory");

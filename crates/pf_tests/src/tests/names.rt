@@ -22,12 +22,7 @@ pub const ROADS: &[(char, char, u32)] = &[
 
 /// Whether these are the places.
 fn are_places(places: &[&char], names: &[char]) -> bool {
-    for (place, name) in places.iter().zip(names) {
-        if **place != *name {
-            return false;
-        }
-    }
-    places.len() == names.len()
+    places.iter().copied().eq(names)
 }
 
 /// How a search ended that has to answer the way over these places.

@@ -8,8 +8,8 @@ use crate::loops::loop_in_pairs;
 use crate::tests::answers::{Outcome, cheapest_outcome, path_outcome};
 use crate::tests::graphs::ROWS;
 use crate::tests::names::{ROADS, cheapest_way_outcome, way_outcome};
-use crate::tests::routes::{SEVEN, SEVEN_ANSWERS, spelled};
-use pathfinding::routes::{Command, Noted, RouteError, run};
+use crate::tests::routes::{SEVEN, SEVEN_ANSWERS, ended, spelled};
+use pathfinding::routes::{Command, RouteError};
 use pf_base::{NodeRefs, PathError};
 use pf_tables::{EdgeList, EdgeListError, Rows, bfs, dijkstra};
 use refusing_allocator::Refusing;
@@ -17,7 +17,7 @@ use std::alloc::Global;
 use std::process::Abort;
 
 /// A call that takes memory.
-#[derive(Clone, Copy, Debug)]
+#[derive(Clone, Copy)]
 enum Call {
     /// A search over edges in a list.
     Search(Search),
@@ -33,14 +33,14 @@ enum Call {
     FewestByName,
     /// The same to a name that stands in no edge, from that name.
     AloneByName,
-    /// A set of one node.
+    /// A set of one node, and a clone of it.
     SetOfOne,
     /// A set of many nodes, and a clone of it.
     SetOfMany,
 }
 
 /// A search over edges in a list.
-#[derive(Clone, Copy, Debug)]
+#[derive(Clone, Copy)]
 enum Search {
     /// `dijkstra`.
     Cheapest,
@@ -54,21 +54,21 @@ enum Search {
     Loop,
 }
 
-/// Each call, and how many growths it makes at the least.
-const CALLS: &[(Call, u64)] = &[
-    (Call::Search(Search::Cheapest), 3),
-    (Call::Search(Search::Fewest), 3),
-    (Call::Search(Search::Deepened), 3),
-    (Call::Search(Search::BothEnds), 3),
-    (Call::Search(Search::Loop), 3),
-    (Call::CheapestInTable, 3),
-    (Call::FewestInTable, 3),
-    (Call::EdgeList, 7),
-    (Call::CheapestByName, 3),
-    (Call::FewestByName, 3),
-    (Call::AloneByName, 1),
-    (Call::SetOfOne, 1),
-    (Call::SetOfMany, 3),
+/// Each call by its name, and how many growths it makes at the least.
+const CALLS: &[(&str, Call, u64)] = &[
+    ("dijkstra", Call::Search(Search::Cheapest), 3),
+    ("bfs", Call::Search(Search::Fewest), 3),
+    ("iddfs", Call::Search(Search::Deepened), 3),
+    ("bfs_bidirectional", Call::Search(Search::BothEnds), 3),
+    ("bfs_loop", Call::Search(Search::Loop), 3),
+    ("graphs::dijkstra", Call::CheapestInTable, 3),
+    ("graphs::bfs", Call::FewestInTable, 3),
+    ("EdgeList::new", Call::EdgeList, 7),
+    ("EdgeList::dijkstra", Call::CheapestByName, 3),
+    ("EdgeList::bfs", Call::FewestByName, 3),
+    ("EdgeList::bfs of a name alone", Call::AloneByName, 1),
+    ("NodeRefs::from_one", Call::SetOfOne, 1),
+    ("NodeRefs::from_nodes", Call::SetOfMany, 3),
 ];
 
 /// What the calls are asked about, in ample memory.
@@ -147,13 +147,8 @@ fn search_outcome(
     }
 }
 
-/// How the making of a list of edges ended, and of names from it.
-fn list_outcome(heap: Heap<'_>) -> Outcome {
-    let list = match EdgeList::new(heap, ROADS) {
-        Ok(list) => list,
-        Err(EdgeListError::OutOfMemory) => return Outcome::OutOfMemory,
-        Err(_) => return Outcome::Wrong,
-    };
+/// How the making of names from the list `ROADS` ended.
+fn names_outcome(heap: Heap<'_>, list: &EdgeList<'_, char, u32, Heap<'_>>) -> Outcome {
     if list.len() != 5 {
         return Outcome::Wrong;
     }
@@ -163,11 +158,12 @@ fn list_outcome(heap: Heap<'_>) -> Outcome {
     }
 }
 
-/// How the making of a set of one node ended.
-fn one_outcome(heap: Heap<'_>) -> Outcome {
-    match NodeRefs::from_one(heap, &7u32) {
-        Ok(set) => Outcome::of_answer(set.len() == 1),
-        Err(refusal) => Outcome::of_refusal(refusal),
+/// How the making of this list ended, and of names from it.
+fn list_outcome(heap: Heap<'_>) -> Outcome {
+    match EdgeList::new(heap, ROADS) {
+        Ok(list) => names_outcome(heap, &list),
+        Err(EdgeListError::OutOfMemory) => Outcome::OutOfMemory,
+        Err(_) => Outcome::Wrong,
     }
 }
 
@@ -176,15 +172,19 @@ const MANY: &[u32] = &[
     0, 1, 2, 3, 4, 5, 6, 7, 8, 9, 10, 11, 12, 13, 14, 15, 16, 17, 18, 19,
 ];
 
-/// How the making of a set of many nodes ended, and of a clone of it.
-fn many_outcome(heap: Heap<'_>) -> Outcome {
-    let set = match NodeRefs::from_nodes(heap, MANY) {
-        Ok(set) => set,
-        Err(refusal) => return Outcome::of_refusal(refusal),
-    };
+/// How the clone of a set of so many nodes ended.
+fn copy_outcome(set: &NodeRefs<'_, u32, Heap<'_>>, count: usize) -> Outcome {
     match set.clone() {
-        Ok(copy) => Outcome::of_answer(copy == set && set.len() == MANY.len()),
+        Ok(copy) => Outcome::of_answer(copy == *set && set.len() == count),
         Err(_) => Outcome::OutOfMemory,
+    }
+}
+
+/// How the making of a set of so many nodes ended, and of a clone of it.
+fn set_outcome(made: Result<NodeRefs<'_, u32, Heap<'_>>, PathError>, count: usize) -> Outcome {
+    match made {
+        Ok(set) => copy_outcome(&set, count),
+        Err(refusal) => Outcome::of_refusal(refusal),
     }
 }
 
@@ -207,14 +207,20 @@ fn outcome_of(heap: Heap<'_>, asked: &Asked<'_>, call: Call) -> Outcome {
         }
         Call::FewestByName => way_outcome(asked.roads.bfs(heap, &'a', &'e'), &['a', 'c', 'e']),
         Call::AloneByName => way_outcome(asked.roads.bfs(heap, &'z', &'z'), &['z']),
-        Call::SetOfOne => one_outcome(heap),
-        Call::SetOfMany => many_outcome(heap),
+        Call::SetOfOne => set_outcome(NodeRefs::from_one(heap, &7), 1),
+        Call::SetOfMany => set_outcome(NodeRefs::from_nodes(heap, MANY), MANY.len()),
     }
 }
 
 /// Runs a call with growth 0, 1, 2, .. refused alone, until a run meets no refusal, and answers how
 /// many growths that run made. Each run before it has to answer out of memory.
-fn refuse_each_growth(rt: &impl Abort, ample: Global, asked: &Asked<'_>, call: Call) -> u64 {
+fn refuse_each_growth(
+    rt: &impl Abort,
+    ample: Global,
+    asked: &Asked<'_>,
+    name: &str,
+    call: Call,
+) -> u64 {
     for growth in 0..100_000u64 {
         let heap = Refusing::new(ample);
         heap.refuse(growth, 1);
@@ -225,7 +231,7 @@ fn refuse_each_growth(rt: &impl Abort, ample: Global, asked: &Asked<'_>, call: C
         } else {
             Outcome::Right
         };
-        assert!(rt; outcome == want, "{call:?}, growth {growth}");
+        assert!(rt; outcome == want, "{name}, growth {growth}");
         if !is_refused {
             return growth;
         }
@@ -246,23 +252,18 @@ fn all_asked(rt: &impl Abort, ample: Global) -> Asked<'static> {
 #[test]
 fn calls_refuse_each_growth(rt: HostRuntime) {
     let asked = all_asked(&rt, rt.alloc());
-    for (call, least) in CALLS {
-        let growths = refuse_each_growth(&rt, rt.alloc(), &asked, *call);
-        assert!(rt; growths >= *least, "{call:?} makes {growths} growths");
+    for (name, call, least) in CALLS {
+        let growths = refuse_each_growth(&rt, rt.alloc(), &asked, name, *call);
+        assert!(rt; growths >= *least, "{name} makes {growths} growths");
     }
 }
 
-/// How a command over the seven edges ended, by all that was written.
+/// How a command over the seven edges ended, for which `answer` is written.
 fn run_outcome(heap: Heap<'_>, ample: Global, command: &Command, answer: &[u8]) -> Outcome {
-    let mut input = Noted::new(SEVEN);
-    let mut output = Noted::new(Vec::new(ample));
-    let result = run(heap, command, &mut input, &mut output);
-    let failed = input.failed() || output.failed();
-    let written = output.into_inner();
-    match result {
-        Ok(()) if !failed && written.as_slice() == answer => Outcome::Right,
-        Err(RouteError::OutOfMemory) if !failed && written.is_empty() => Outcome::OutOfMemory,
-        _ => Outcome::Wrong,
+    match ended(heap, ample, command, SEVEN, answer) {
+        Ok(is_right) => Outcome::of_answer(is_right),
+        Err(RouteError::OutOfMemory) => Outcome::OutOfMemory,
+        Err(_) => Outcome::Wrong,
     }
 }
 

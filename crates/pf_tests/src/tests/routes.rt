@@ -1,6 +1,8 @@
 //! Runs of `routes` over memory.
 
+use crate::fewest::Heap;
 use pathfinding::routes::{Command, Noted, RouteError, command, run, run_with_hasher};
+use refusing_allocator::Refusing;
 use std::alloc::{AllocError, Global};
 use std::hash::RandomState;
 
@@ -185,43 +187,43 @@ pub fn spelled(alloc: Global, line: &str) -> Option<Command> {
     asked(alloc, line).ok()?
 }
 
-/// Whether a run over memory writes this and answers Ok, or writes nothing and answers this fault.
-fn is_answered(
-    alloc: Global,
+/// Whether a run over memory writes this, or its fault, where it writes nothing.
+pub fn ended(
+    heap: Heap<'_>,
+    ample: Global,
     command: &Command,
     text: &[u8],
-    want: Result<&[u8], RouteError>,
-) -> bool {
+    want: &[u8],
+) -> Result<bool, RouteError> {
     let mut input = Noted::new(text);
-    let mut output = Noted::new(Vec::new(alloc));
-    let result = run(alloc, command, &mut input, &mut output);
+    let mut output = Noted::new(Vec::new(ample));
+    let result = run(heap, command, &mut input, &mut output);
+    let failed = input.failed() || output.failed();
     let written = output.into_inner();
-    match (result, want) {
-        (Ok(()), Ok(bytes)) => written.as_slice() == bytes,
-        (Err(fault), Err(wanted)) => fault == wanted && written.is_empty(),
-        _ => false,
+    match result {
+        Ok(()) => Ok(!failed && written.as_slice() == want),
+        Err(fault) if !failed && written.is_empty() => Err(fault),
+        Err(_) => Ok(false),
     }
 }
 
 #[test]
 fn answers_are_written(rt: HostRuntime) {
+    let heap = Refusing::new(rt.alloc());
     for (line, text, want) in ANSWERS {
         let command = spelled(rt.alloc(), line).expect(&rt, "a command");
-        assert!(rt;
-            is_answered(rt.alloc(), &command, text, Ok(*want)),
-            "{line} of {text:?}"
-        );
+        let end = ended(&heap, rt.alloc(), &command, text, want);
+        assert!(rt; end == Ok(true), "{line} of {text:?}");
     }
 }
 
 #[test]
 fn faults_write_nothing(rt: HostRuntime) {
+    let heap = Refusing::new(rt.alloc());
     for (line, text, fault) in FAULTS {
         let command = spelled(rt.alloc(), line).expect(&rt, "a command");
-        assert!(rt;
-            is_answered(rt.alloc(), &command, text, Err(*fault)),
-            "{line} of {text:?}"
-        );
+        let end = ended(&heap, rt.alloc(), &command, text, b"");
+        assert!(rt; end == Err(*fault), "{line} of {text:?}");
     }
 }
 

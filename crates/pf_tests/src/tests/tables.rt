@@ -2,11 +2,10 @@
 
 ghost use Rattle.std.specs.Prelude.{◌<◌, All, length, IsTrue};
 
-use crate::preorder::{first_in_pairs, preorder_in_rows};
+use crate::preorder::{comes_in_rows, first_in_pairs};
 use crate::reach::{Given, given_in_rows};
 use crate::rows::{cheapest_in_rows, fewest_in_rows, leads_to_rows};
 use crate::tests::answers::{is_cheapest, is_path};
-use crate::tests::kinds::by_rows;
 use pf_base::{NodeRefs, PathError};
 use std::alloc::{AllocError, Global};
 
@@ -29,17 +28,18 @@ fn leads_inside(rows: &[Vec<usize>]) -> bool
 /// The edges from three nodes.
 const ROWS: &[&[(usize, u32)]] = &[&[(2, 9), (1, 3)], &[(2, 4), (0, 0)], &[(2, 0), (2, 1)]];
 
+/// The cheapest paths to the node 2: where they begin, their nodes and their costs.
+const CHEAPEST: &[(usize, &[usize], u32)] = &[(0, &[0, 1, 2], 7), (1, &[1, 2], 4)];
+
 #[test]
 fn cheapest_paths(rt: HostRuntime) {
     let table = table_of(rt.alloc(), ROWS).expect(&rt, "memory");
-    assert!(rt; table.len() > 2 && leads_to_rows(&table));
-    assert!(rt; is_cheapest(by_rows(rt.alloc(), &table), Some((&[0, 1, 2], 7))));
-    assert!(rt;
-        is_cheapest(
-            cheapest_in_rows(rt.alloc(), &table, 1, 2),
-            Some((&[1, 2], 4))
-        )
-    );
+    assert!(rt; leads_to_rows(&table));
+    for (from, path, cost) in CHEAPEST {
+        assert!(rt; *from < table.len());
+        let answer = cheapest_in_rows(rt.alloc(), &table, *from, 2);
+        assert!(rt; is_cheapest(answer, Some((*path, *cost))), "from {from}");
+    }
 }
 
 /// The nodes after five nodes.
@@ -114,10 +114,7 @@ fn comes_in_preorder(alloc: Global, table: &[Vec<usize>], limit: usize, nodes: &
     if from >= table.len() || !leads_inside(table) {
         return false;
     }
-    matches!(
-        preorder_in_rows(alloc, table, from, limit),
-        Ok(given) if given.as_slice() == nodes
-    )
+    comes_in_rows(alloc, table, from, limit, nodes) == Ok(true)
 }
 
 /// The nodes after each node, how many steps are taken from the first of some nodes, and these nodes,
@@ -140,19 +137,19 @@ fn preorders(rt: HostRuntime) {
     }
 }
 
-/// A table in which each number but the last one, 200, leads to the next one, 200 times.
-fn repeated_edges(alloc: Global) -> Result<Vec<Vec<usize>>, AllocError> {
-    let mut table = Vec::new(alloc);
+/// Adds rows to a table in which each number but the last one, 200, leads to the next one, 200 times.
+fn add_repeated_edges(alloc: Global, table: &mut Vec<Vec<usize>>) -> Result<(), AllocError> {
     for node in 1..201usize {
         table.push(vec![in alloc; node; 200]?)?;
     }
     table.push(Vec::new(alloc))?;
-    Ok(table)
+    Ok(())
 }
 
 #[test]
 fn a_preorder_of_repeated_edges(rt: HostRuntime) {
-    let table = repeated_edges(rt.alloc()).expect(&rt, "memory");
+    let mut table = Vec::new(rt.alloc());
+    add_repeated_edges(rt.alloc(), &mut table).expect(&rt, "memory");
     let nodes: Vec<usize> = (0..201usize).collect(rt.alloc()).expect(&rt, "memory");
     assert!(rt; comes_in_preorder(rt.alloc(), &table, 300, &nodes));
 }
@@ -177,24 +174,19 @@ fn first_paths_in_preorder(rt: HostRuntime) {
     assert!(rt; is_path(first_in_pairs(rt.alloc(), SQUARES, 4, 2), None));
 }
 
-/// Whether this comes in the first `limit` steps of a walk by rising cost from the node 0, in a table of
-/// these rows.
+/// Whether this comes in the first `limit` steps of a walk by rising cost from the node 0.
 fn comes_by_cost(
     alloc: Global,
-    rows: &[&[(usize, u32)]],
+    table: &[Vec<(usize, u32)>],
     limit: usize,
     want: Result<&[Given], PathError>,
 ) -> bool {
-    let Ok(table) = table_of(alloc, rows) else {
-        return false;
-    };
-    if table.len() == 0 || !leads_to_rows(&table) {
+    if table.len() == 0 || !leads_to_rows(table) {
         return false;
     }
-    match (&given_in_rows(alloc, &table, 0, limit), want) {
-        (Ok(given), Ok(items)) => given.as_slice() == items,
-        (Err(refusal), Err(wanted)) => *refusal == wanted,
-        _ => false,
+    match &given_in_rows(alloc, table, 0, limit) {
+        Ok(given) => want == Ok(given.as_slice()),
+        Err(refusal) => want == Err(*refusal),
     }
 }
 
@@ -221,6 +213,10 @@ const STEPS: &[Steps] = &[
 #[test]
 fn nodes_by_rising_cost(rt: HostRuntime) {
     for (rows, limit, want) in STEPS {
-        assert!(rt; comes_by_cost(rt.alloc(), rows, *limit, *want), "{rows:?}");
+        let table = table_of(rt.alloc(), rows).expect(&rt, "memory");
+        assert!(rt;
+            comes_by_cost(rt.alloc(), &table, *limit, *want),
+            "{rows:?}"
+        );
     }
 }

@@ -5,8 +5,8 @@ use Rattle.pf_base.proofs.Reach.{row_at, row_at-index, unsigned_cost}
 use Rattle.pf_base.proofs.Tables.{rows_graph}
 use Rattle.pf_tests.proofs.tests.calls.calls_without_success.Goals as goal
 
-pub dijkstra-requires-clause-graph : goal.dijkstra-requires-clause-graph
-dijkstra-requires-clause-graph c =
+pub dijkstra-answer-requires-clause-graph : goal.dijkstra-answer-requires-clause-graph
+dijkstra-answer-requires-clause-graph c =
     let items : Bor (List (ℕ × ℕ)) → List (ℕ × ℕ) = λ row. row.now in (
       (λ n. valued (λ z. pos z) (row_at items c.args.rows.now n)),
       (λ n. false),

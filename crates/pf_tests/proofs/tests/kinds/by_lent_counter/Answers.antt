@@ -4,8 +4,8 @@ use Rattle.pf_base.proofs.Sources.{gives_chain, YieldsList-from_array}
 use Rattle.pf_base.proofs.Reach.{unsigned_cost}
 use Rattle.pf_tests.proofs.tests.kinds.by_lent_counter.Goals as goal
 
-pub dijkstra-requires-clause-graph : goal.dijkstra-requires-clause-graph
-dijkstra-requires-clause-graph c =
+pub dijkstra-answer-requires-clause-graph : goal.dijkstra-answer-requires-clause-graph
+dijkstra-answer-requires-clause-graph c =
     let listed : ℕ → List (ℕ × ℕ) = λ n. (98, 1) ∷ [] in (
       (λ n. (98, pos 1) ∷ []),
       (λ n. n == 99),

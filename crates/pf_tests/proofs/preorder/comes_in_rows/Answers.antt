@@ -4,7 +4,7 @@ use Rattle.std.specs.declared.alloc.Global.{Global}
 use Rattle.std.proofs.lemmas.Grind.{common_steps}
 use Rattle.pf_base.proofs.Reach.{row_at, row_at-index}
 use Rattle.pf_base.proofs.Tables.{rows_successors}
-use Rattle.pf_tests.proofs.preorder.preorder_in_rows.Goals as goal
+use Rattle.pf_tests.proofs.preorder.comes_in_rows.Goals as goal
 
 pub loop-node-init : goal.loop-node-init
 loop-node-init c =
