@@ -1,6 +1,6 @@
 -- A search by number of edges: numbers in the order found are visited in turn.
-use Rattle.std.proofs.Common.{ℕ, zero, suc, ◌+◌, ◌-◌, ◌<◌, ◌≤◌, ◌≡◌, refl, sym, ◌∙◌, ap, subst, arith, Bool, true, false, List, [], ◌∷◌, ◌++◌, length, length-append, inl, inr, ℤ, pos, Option, Some, None, true≢false, replicate, cond, map}
-use Rattle.std.specs.Prelude.{slice_get, slice_set, Contains, nat_lt, ◌↔◌, ◌≤ℤ◌, ◌⊎◌}
+use Rattle.std.proofs.Common.{ℕ, zero, suc, ◌+◌, ◌-◌, ◌^◌, ◌<◌, ◌≤◌, ◌≡◌, refl, sym, ◌∙◌, ap, subst, arith, Bool, true, false, List, [], ◌∷◌, ◌++◌, length, length-append, inl, inr, ℤ, pos, Option, Some, None, true≢false, replicate, cond, map}
+use Rattle.std.specs.Prelude.{slice_get, slice_set, Contains, ◌↔◌, ◌≤ℤ◌, ◌⊎◌}
 use Rattle.std.proofs.lemmas.Bool.{lt-ltb, ltb-true}
 use Rattle.std.proofs.lemmas.Int.{ints}
 use Rattle.std.proofs.lemmas.List.Sums.{sum_by-append}
@@ -19,6 +19,10 @@ use Rattle.pf_core.proofs.LabelLemmas.{HasLabel-inside, Settles-set, Widened-mor
 -- the label of a node that was reached from the number `parent`
 abbrev pub reached_from : ℕ → ℕ → Label Hops
 reached_from parent depth = record { cost = tt; parent = parent; depth = depth; settled = false }
+
+-- a visit leaves fewer nodes to visit
+pub visit_left : {C : Type 0} (n : ℕ) (labels : Labels C) → n < length labels → length labels ≤ 2 ^ 62 → 2 ^ 64 - (n + 1) < 2 ^ 64 - n
+visit_left n labels lt few = omega (arith, lt, few)
 
 pub le_or_less : (i j : ℕ) → (i ≤ j) ⊎ (j < i)
 le_or_less zero j = inl (omega arith)

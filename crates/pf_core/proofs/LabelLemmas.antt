@@ -1,16 +1,30 @@
 -- Lemmas on labels.
-use Rattle.std.proofs.Common.{rules, ℕ, zero, suc, ◌+◌, ◌<◌, ◌≡◌, refl, sym, ◌∙◌, ap, subst, arith, Bool, true, false, List, [], ◌∷◌, ◌++◌, length, get_or, take, cond, inl, inr, ℤ, Option, Some, None, true≢false, replicate}
+use Rattle.std.proofs.Common.{rules, ℕ, zero, suc, ◌+◌, ◌<◌, ◌≤◌, ◌≡◌, refl, sym, ◌∙◌, ap, subst, arith, Bool, true, false, List, [], ◌∷◌, ◌++◌, length, get_or, take, cond, inl, inr, ℤ, Option, Some, None, true≢false, replicate}
 use Rattle.std.specs.Prelude.{slice_get, slice_set, Contains, MatchBool, MatchOption, ◌≤ℤ◌, ◌<ℤ◌, ◌+ℤ◌, ◌⊎◌}
 use Rattle.std.proofs.lemmas.Int.{ints}
-use Rattle.std.proofs.lemmas.List.Sums.{sum_by-append}
+use Rattle.std.proofs.lemmas.List.Sums.{sum_by-append, count_by-le-length}
 use Rattle.std.proofs.lemmas.List.Folds.{sum_by-replicate}
-use Rattle.std.proofs.lemmas.Option.{slice_get_within}
+use Rattle.std.proofs.lemmas.Option.{slice_get_within, get_or_from_slice_get}
 use Rattle.pf_core.specs.declared.labels.Label.{Label}
 use Rattle.pf_core.specs.Labels.{Labels, HasLabel, by_cost, cost_of, is_settled, settled_count, IsTree, IsWithin, Settles, Lowered, ComesFrom, Covers, Stepped, Relaxed, Widened}
 use Rattle.pf_core.proofs.ListLemmas.{at_place, get_set, none_in, get-append, count_by-set, count_by-set_more, Contains-take_more, Contains-take, Contains-take_here}
 
 pub HasLabel-inside : {C : Type 0} (labels : Labels C) (k : ℕ) (l : Label C) → HasLabel labels k l → k < length labels
 HasLabel-inside labels k l h = slice_get_within labels k (Some l) h
+
+-- settling a label that was read out of its place
+pub settled_at : {C : Type 0} (labels : Labels C) (k : ℕ) (place d : Option (Label C)) (read : Option (Label C)) (label l : Label C) (after : Option (Label C)) → place ≡ get_or labels k d → read ≡ place → read ≡ Some label → MatchOption place (after ≡ None) (λ m. after ≡ Some (record m { settled = true }))
+    → HasLabel labels k l → (label.depth ≡ l.depth) × (slice_set labels k after ≡ slice_set labels k (Some (record l { settled = true })))
+settled_at labels k place d read label l after is reads has settles at =
+    let here : place ≡ Some l = is ∙ get_or_from_slice_get labels k (Some l) d at in
+    let both : Some label ≡ Some l = sym has ∙ reads ∙ here in
+    let same : label ≡ l = cc in
+    let now : after ≡ Some (record l { settled = true }) = subst (λ o. MatchOption o (after ≡ None) (λ m. after ≡ Some (record m { settled = true }))) here settles in
+    (ap (λ (m : Label _). m.depth) same, ap (λ s. slice_set labels k s) now)
+
+-- where each label that was settled was asked for once, no more was asked for than was found
+pub asked_within : {C : Type 0} (asked before found : ℕ) (labels : Labels C) → asked ≡ before + settled_count labels → length labels ≡ found → asked ≤ before + found
+asked_within asked before found labels e len = omega (arith, e, len, count_by-le-length is_settled labels)
 
 -- a number has one label
 pub label_is : {C : Type 0} (labels : Labels C) (k : ℕ) (l m : Label C) → HasLabel labels k l → HasLabel labels k m → l ≡ m

@@ -1,3 +1,4 @@
+pub mod Outcomes
 pub mod ListLemmas
 pub mod SlotLemmas
 pub mod LabelLemmas
@@ -20,3 +21,7 @@ pub mod MeetingLemmas
 pub mod SideLemmas
 pub mod JoinLemmas
 pub mod DepthFirstLemmas
+pub mod ReadLemmas
+pub mod VisitLemmas
+pub mod PeekLemmas
+pub mod HopTurns

@@ -1,6 +1,7 @@
 -- Lemmas on lists and whole numbers.
-use Rattle.std.proofs.Common.{ℕ, zero, suc, ◌+◌, ◌<◌, ◌≤◌, ◌≡◌, ◌≢◌, refl, sym, ◌∙◌, ap, subst, arith, Bool, true, false, List, [], ◌∷◌, ◌++◌, length, get_or, take, take_all, cond, ◌||◌, add-one, inl, inr, ℤ, Some, true≢false}
-use Rattle.std.specs.Prelude.{slice_get, slice_set, Contains, Result, Ok, Err, OnOk, OnErr, MatchBool, count_by, reverse, ◌≤ℤ◌, ◌<ℤ◌, ◌⊎◌}
+use Rattle.std.proofs.Common.{ℕ, zero, suc, ◌+◌, ◌<◌, ◌≤◌, ◌≡◌, ◌≢◌, refl, sym, ◌∙◌, ap, subst, arith, Bool, true, false, List, [], ◌∷◌, ◌++◌, length, get_or, take, drop, take_all, cond, ◌||◌, add-one, inl, inr, ℤ, Option, Some, None, true≢false}
+use Rattle.std.specs.Prelude.{slice_get, slice_set, Contains, Result, Ok, Err, OnOk, OnErr, MatchBool, MatchOption, count_by, reverse, ◌≤ℤ◌, ◌<ℤ◌, ◌⊎◌}
+use Rattle.std.specs.Option.{option_to_list}
 use Rattle.std.specs.Ordering.{int_cmp, is_lt, MatchOrdering}
 use Rattle.std.specs.Cmp.{int_ranks}
 use Rattle.std.specs.declared.cmp.Ordering.{Ordering}
@@ -202,3 +203,9 @@ get_or-any (x ∷ xs) (suc i) d e h = get_or-any xs i d e (omega arith)
 
 pub Contains-index : {A : Type 0} (xs : List A) (i : ℕ) (d : A) → i < length xs → Contains xs (get_or xs i d)
 Contains-index xs i d h = (i, h, get_or-any xs i d (get_or xs i d) h)
+
+-- what is left of a list without its last element, from back to front
+pub popped : {A : Type 0} (xs ys : List A) (o : Option A) (n m : ℕ) (Q : A → Type 0) → xs ≡ ys ++ option_to_list o → MatchOption o ((n ≡ 0) × (m ≡ 0)) Q → length ys ≡ m → reverse ys ≡ drop 1 (reverse xs)
+popped xs ys (Some x) n m Q e h len = sym (ap (λ zs. drop 1 (reverse zs)) e ∙ ap (drop 1) (reverse-append ys (x ∷ [])))
+popped xs [] None n m Q e h len = sym (ap (λ zs. drop 1 (reverse zs)) e)
+popped xs (y ∷ ys) None n m Q e h len = absurd (omega (arith, len, h.1))

@@ -1,5 +1,5 @@
 -- One side of a search from both ends.
-use Rattle.std.proofs.Common.{ℕ, ◌+◌, ◌-◌, ◌<◌, ◌≤◌, ◌≡◌, ◌∙◌, ap, sym, arith, true, true≢false, pos, length, length-append, List, [], ◌∷◌, ◌++◌, Some, replicate, inl, inr}
+use Rattle.std.proofs.Common.{ℕ, ◌+◌, ◌-◌, ◌<◌, ◌≤◌, ◌≡◌, ◌∙◌, ap, sym, arith, true, true≢false, pos, length, length-append, ◌++◌, Some, replicate, inl, inr}
 use Rattle.std.specs.Prelude.{slice_set, ◌≤ℤ◌, ◌↔◌}
 use Rattle.std.proofs.lemmas.Int.{ints}
 use Rattle.std.proofs.lemmas.List.{length-replicate}
@@ -52,12 +52,24 @@ layered_low labels next level depth y k l h = elim (le_or_less level k) as (λ _
   | inr lt ↦ let d = y.below k l h lt in omega (arith, d)
 ]
 
+-- where a level of one side is visited and the other side is between levels, two labels are at most one deeper than both levels
+pub met_low : (labels labels' : Labels Hops) (next next' level a b : ℕ) → IsLayered labels next level a → IsLayered labels' next' (length labels') b
+    → (j k : ℕ) (l m : Label Hops) → HasLabel labels j l → HasLabel labels' k m → (l.depth + m.depth ≤ a + b + 1) × (m.depth + l.depth ≤ b + a + 1)
+met_low labels labels' next next' level a b y z j k l m at at' =
+    let low = layered_low labels next level a y j l at in
+    let low' = z.below k m at' (HasLabel-inside labels' k m at') in
+    (omega (arith, low, low'), omega (arith, low, low'))
+
 -- between levels, no open label is less deep than the level
 pub layered_least : (labels : Labels Hops) (next depth : ℕ) → IsBreadth next labels → IsLayered labels next (length labels) depth → IsLow by_depth labels (pos depth)
 layered_least labels next depth b y k l h o = elim (le_or_less next k) as (λ _. pos depth ≤ℤ pos l.depth) [
   | inl ge ↦ let d = y.here k l h ge (HasLabel-inside labels k l h) in omega (arith, ints, d)
   | inr lt ↦ absurd (true≢false (sym (b.done k l h lt) ∙ o))
 ]
+
+-- a visit leaves fewer numbers of the level
+pub visits_fewer : (level next next' : ℕ) → next < level → next' ≡ next + 1 → level - next' < level - next
+visits_fewer level next next' lt e = omega (arith, lt, e)
 
 -- where a side has the same numbers, nodes are only added
 pub grows_same : {X : Type 0} (a b : ℕ) (p q : ℕ → X → Type 0) → b ≡ a → ((k : ℕ) (x : X) → q k x ↔ p k x) → Grows a b p q

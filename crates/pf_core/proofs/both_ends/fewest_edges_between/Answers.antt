@@ -1,107 +1,167 @@
-use Rattle.std.proofs.Common.{ℕ, ◌≡◌, ◌≤◌, ◌<◌, ◌+◌, ◌^◌, ◌∙◌, ap, subst, sym, arith, length, inl, inr}
+use Rattle.std.proofs.Common.{ℕ, ◌≡◌, ◌<◌, ◌+◌, subst, arith, inl}
+use Rattle.std.proofs.lemmas.Result.{IfOk-from_err}
+use Rattle.pf_base.specs.declared.error.PathError.TheVariants.{OutOfMemory}
 use Rattle.pf_core.specs.declared.sides.Side.TheVariants.{Forth, Back}
-use Rattle.pf_core.specs.Breadth.{first_labels}
-use Rattle.pf_core.proofs.HopLemmas.{start_at, hop_positive}
+use Rattle.pf_core.proofs.Outcomes.{refused_as}
 use Rattle.pf_core.proofs.SearchLemmas.{Grows-trans}
-use Rattle.pf_core.proofs.MeetingLemmas.{IsSide, best_meeting, sides_longer, wave_start, side_start, side_all}
+use Rattle.pf_core.proofs.MeetingLemmas.{IsSide, best_meeting, first_meeting_best, sides_longer, wave_begun, side_begun, side_all, wave_full, visits_left}
 use Rattle.pf_core.specs.Numbered.{StandsBelow}
-use Rattle.pf_core.proofs.FrontierLemmas.{walk_positive}
 use Rattle.pf_core.proofs.MirrorLemmas.{no_walk_on, no_walk_back}
-use Rattle.std.proofs.lemmas.Int.{ints}
 use Rattle.pf_core.proofs.both_ends.fewest_edges_between.Goals.{then-levels-test+else-back-len, else-levels-test}
 use Rattle.pf_core.proofs.both_ends.fewest_edges_between.Goals as goal
+
+pub returns-in_err-forth-clause-graph : goal.returns-in_err-forth-clause-graph
+returns-in_err-forth-clause-graph g c = λ h x. x
+
+pub returns-in_err-forth-clause-inside : goal.returns-in_err-forth-clause-inside
+returns-in_err-forth-clause-inside g c = IfOk-from_err c.from_residual.result _ c.from_residual.ensures.0
+
+pub returns-in_err-forth-clause-best : goal.returns-in_err-forth-clause-best
+returns-in_err-forth-clause-best g c = λ h x p q mirror. IfOk-from_err c.from_residual.result _ c.from_residual.ensures.0
+
+pub returns-in_err-forth-clause-errors : goal.returns-in_err-forth-clause-errors
+returns-in_err-forth-clause-errors g c = refused_as (λ e. e ≡ OutOfMemory) c.from_residual.result c.in_err-forth.field-0.0 c.from_residual.ensures.1 c.in_err-forth.ensures.refused
+
+pub returns-in_err-back-clause-graph : goal.returns-in_err-back-clause-graph
+returns-in_err-back-clause-graph g c = λ h x. x
+
+pub returns-in_err-back-clause-inside : goal.returns-in_err-back-clause-inside
+returns-in_err-back-clause-inside g c = IfOk-from_err c.from_residual-in_err-back.result _ c.from_residual-in_err-back.ensures.0
+
+pub returns-in_err-back-clause-best : goal.returns-in_err-back-clause-best
+returns-in_err-back-clause-best g c = λ h x p q mirror. IfOk-from_err c.from_residual-in_err-back.result _ c.from_residual-in_err-back.ensures.0
+
+pub returns-in_err-back-clause-errors : goal.returns-in_err-back-clause-errors
+returns-in_err-back-clause-errors g c = refused_as (λ e. e ≡ OutOfMemory) c.from_residual-in_err-back.result c.in_err-back.field-0.0 c.from_residual-in_err-back.ensures.1 c.in_err-back.ensures.refused
+
+pub halves_to-requires-clause-trees : goal.halves_to-requires-clause-trees
+halves_to-requires-clause-trees g c =
+    let F = g.G.TwoSidedGraph.found c.args.graph.now Forth in
+    let B = g.G.TwoSidedGraph.found c.args.graph.now Back in
+    let wf = wave_begun F c.found.result c.in_ok-forth.forth.labels.items c.in_ok-forth.forth.next c.in_ok-forth.ensures.begun c.found.ensures in
+    let wb = wave_begun B c.found-2.result c.in_ok-back.back.labels.items c.in_ok-back.back.next c.in_ok-back.ensures.begun c.found-2.ensures in
+    (wf.0.tree, wb.0.tree)
 
 pub halves_to-requires-clause-labelled : goal.halves_to-requires-clause-labelled
 halves_to-requires-clause-labelled g c =
     let F = g.G.TwoSidedGraph.found c.args.graph.now Forth in
     let B = g.G.TwoSidedGraph.found c.args.graph.now Back in
-    let f = c.in_ok-forth.ensures.begun in
-    let b = c.in_ok-back.ensures.begun in
-    let ef = f.1 ∙ ap first_labels c.found.ensures in
-    let eb = b.1 ∙ ap first_labels c.found-2.ensures in
-    let few_f : F ≤ 2 ^ 62 = omega (arith, f.2, c.found.ensures) in
-    let few_b : B ≤ 2 ^ 62 = omega (arith, b.2, c.found-2.ensures) in
-    let wf = wave_start F c.in_ok-forth.forth.labels.items c.in_ok-forth.forth.next f.0 ef few_f in
-    let wb = wave_start B c.in_ok-back.back.labels.items c.in_ok-back.back.next b.0 eb few_b in
-    let vf = wf.0 in
-    let vb = wb.0 in
-    let met = rw c.in-Some.is at c.first_meeting.ensures.met in
-    let here : c.in-Some.meeting.here < length c.in_ok-forth.forth.labels.items = omega (arith, met.0, vf.len) in
-    let across : c.in-Some.meeting.across < length c.in_ok-back.back.labels.items = omega (arith, met.1, vb.len) in
-    (vf.breadth.full c.in-Some.meeting.here here, vb.breadth.full c.in-Some.meeting.across across)
+    let wf = wave_begun F c.found.result c.in_ok-forth.forth.labels.items c.in_ok-forth.forth.next c.in_ok-forth.ensures.begun c.found.ensures in
+    let wb = wave_begun B c.found-2.result c.in_ok-back.back.labels.items c.in_ok-back.back.next c.in_ok-back.ensures.begun c.found-2.ensures in
+    let met = rw c.in-Some.is at c.first_meeting.ensures.met in (
+      wave_full F c.in_ok-forth.forth.labels.items c.in_ok-forth.forth.next wf.0 c.in-Some.meeting.here met.0,
+      wave_full B c.in_ok-back.back.labels.items c.in_ok-back.back.next wb.0 c.in-Some.meeting.across met.1,
+    )
+
+pub returns-in_err-halves-clause-graph : goal.returns-in_err-halves-clause-graph
+returns-in_err-halves-clause-graph g c = λ h x. x
+
+pub returns-in_err-halves-clause-inside : goal.returns-in_err-halves-clause-inside
+returns-in_err-halves-clause-inside g c = IfOk-from_err c.from_residual-in_err-halves.result _ c.from_residual-in_err-halves.ensures.0
+
+pub returns-in_err-halves-clause-best : goal.returns-in_err-halves-clause-best
+returns-in_err-halves-clause-best g c = λ h x p q mirror. IfOk-from_err c.from_residual-in_err-halves.result _ c.from_residual-in_err-halves.ensures.0
+
+pub returns-in_err-halves-clause-errors : goal.returns-in_err-halves-clause-errors
+returns-in_err-halves-clause-errors g c = refused_as (λ e. e ≡ OutOfMemory) c.from_residual-in_err-halves.result c.in_err-halves.field-0.0 c.from_residual-in_err-halves.ensures.1 c.in_err-halves.ensures.refused
+
+pub returns-in-Some-clause-graph : goal.returns-in-Some-clause-graph
+returns-in-Some-clause-graph g c = λ h x. x
 
 pub returns-in-Some-clause-inside : goal.returns-in-Some-clause-inside
 returns-in-Some-clause-inside g c =
     let F = g.G.TwoSidedGraph.found c.args.graph.now Forth in
     let B = g.G.TwoSidedGraph.found c.args.graph.now Back in
-    let f = c.in_ok-forth.ensures.begun in
-    let b = c.in_ok-back.ensures.begun in
-    let ef = f.1 ∙ ap first_labels c.found.ensures in
-    let eb = b.1 ∙ ap first_labels c.found-2.ensures in
-    let few_f : F ≤ 2 ^ 62 = omega (arith, f.2, c.found.ensures) in
-    let few_b : B ≤ 2 ^ 62 = omega (arith, b.2, c.found-2.ensures) in
-    let wf = wave_start F c.in_ok-forth.forth.labels.items c.in_ok-forth.forth.next f.0 ef few_f in
-    let wb = wave_start B c.in_ok-back.back.labels.items c.in_ok-back.back.next b.0 eb few_b in
-    let vf = wf.0 in
-    let vb = wb.0 in
+    let wf = wave_begun F c.found.result c.in_ok-forth.forth.labels.items c.in_ok-forth.forth.next c.in_ok-forth.ensures.begun c.found.ensures in
+    let wb = wave_begun B c.found-2.result c.in_ok-back.back.labels.items c.in_ok-back.back.next c.in_ok-back.ensures.begun c.found-2.ensures in
     let i = c.in_ok-halves.ensures.inside in
-    (λ k h. subst (λ (n : ℕ). k < n) vf.len (i.0 k h), λ k h. subst (λ (n : ℕ). k < n) vb.len (i.1 k h))
+    (λ k h. subst (λ (n : ℕ). k < n) wf.0.len (i.0 k h), λ k h. subst (λ (n : ℕ). k < n) wb.0.len (i.1 k h))
 
 pub returns-in-Some-clause-best : goal.returns-in-Some-clause-best
 returns-in-Some-clause-best g c = λ h x p q mirror.
     let F = g.G.TwoSidedGraph.found c.args.graph.now Forth in
     let B = g.G.TwoSidedGraph.found c.args.graph.now Back in
-    let f = c.in_ok-forth.ensures.begun in
-    let b = c.in_ok-back.ensures.begun in
-    let ef = f.1 ∙ ap first_labels c.found.ensures in
-    let eb = b.1 ∙ ap first_labels c.found-2.ensures in
-    let few_f : F ≤ 2 ^ 62 = omega (arith, f.2, c.found.ensures) in
-    let few_b : B ≤ 2 ^ 62 = omega (arith, b.2, c.found-2.ensures) in
-    let wf = wave_start F c.in_ok-forth.forth.labels.items c.in_ok-forth.forth.next f.0 ef few_f in
-    let wb = wave_start B c.in_ok-back.back.labels.items c.in_ok-back.back.next b.0 eb few_b in
-    let vf = wf.0 in
-    let vb = wb.0 in
+    let wf = wave_begun F c.found.result c.in_ok-forth.forth.labels.items c.in_ok-forth.forth.next c.in_ok-forth.ensures.begun c.found.ensures in
+    let wb = wave_begun B c.found-2.result c.in_ok-back.back.labels.items c.in_ok-back.back.next c.in_ok-back.ensures.begun c.found-2.ensures in
     let met = rw c.in-Some.is at c.first_meeting.ensures.met in
-    let here : c.in-Some.meeting.here < length c.in_ok-forth.forth.labels.items = omega (arith, met.0, vf.len) in
-    let across : c.in-Some.meeting.across < length c.in_ok-back.back.labels.items = omega (arith, met.1, vb.len) in
     let stands = g.G.TwoSidedGraph.stands c.args.graph.now in
     let step = g.G.TwoSidedGraph.step h in
-    let sf = side_start (step Forth) F (stands Forth) c.in_ok-forth.forth.labels.items c.in_ok-forth.forth.next f.0 ef few_f (c.requires.begins Forth) in
-    let sb = side_start (step Back) B (stands Back) c.in_ok-back.back.labels.items c.in_ok-back.back.next b.0 eb few_b (c.requires.begins Back) in
-    let l = vf.breadth.full c.in-Some.meeting.here here in
-    let m = vb.breadth.full c.in-Some.meeting.across across in
-    let yf = wf.1 in
-    let yb = wb.1 in
-    let dl = yf.below c.in-Some.meeting.here l.0 l.1 here in
-    let dm = yb.below c.in-Some.meeting.across m.0 m.1 across in
+    let sf = side_begun (step Forth) F c.found.result (stands Forth) c.in_ok-forth.forth.labels.items c.in_ok-forth.forth.next c.in_ok-forth.ensures.begun c.found.ensures (c.requires.begins Forth) in
+    let sb = side_begun (step Back) B c.found-2.result (stands Back) c.in_ok-back.back.labels.items c.in_ok-back.back.next c.in_ok-back.ensures.begun c.found-2.ensures (c.requires.begins Back) in
     let chains = c.in_ok-halves.ensures.chains in
-    best_meeting (step Forth) (step Back) p q F B (stands Forth) (stands Back) mirror F B (stands Forth) (stands Back) c.in_ok-forth.forth.labels.items c.in_ok-back.back.labels.items c.in_ok-forth.forth.next c.in_ok-back.back.next sf sb
-    c.in-Some.meeting.here c.in-Some.meeting.across l.0 m.0 l.1 m.1 (inl met.2) c.in_ok-halves.halves.forth.items c.in_ok-halves.halves.back.items chains.0 chains.1
-    (λ s is w u walk at. let low = walk_positive (step Forth) (hop_positive (step Forth) p) w s u walk in omega (arith, ints, dl, dm, low))
+    first_meeting_best (step Forth) (step Back) p q F B (stands Forth) (stands Back) mirror F B (stands Forth) (stands Back) c.in_ok-forth.forth.labels.items c.in_ok-back.back.labels.items c.in_ok-forth.forth.next c.in_ok-back.back.next sf sb wf.1 wb.1
+    c.in-Some.meeting.here c.in-Some.meeting.across met.0 met.1 (inl met.2) c.in_ok-halves.halves.forth.items c.in_ok-halves.halves.back.items chains.0 chains.1
+
+pub returns-in-Some-clause-errors : goal.returns-in-Some-clause-errors
+returns-in-Some-clause-errors g c = tt
 
 pub levels-init : goal.levels-init
 levels-init g c =
     let F = g.G.TwoSidedGraph.found c.args.graph.now Forth in
     let B = g.G.TwoSidedGraph.found c.args.graph.now Back in
-    let f = c.in_ok-forth.ensures.begun in
-    let b = c.in_ok-back.ensures.begun in
-    let ef = f.1 ∙ ap first_labels c.found.ensures in
-    let eb = b.1 ∙ ap first_labels c.found-2.ensures in
-    let few_f : F ≤ 2 ^ 62 = omega (arith, f.2, c.found.ensures) in
-    let few_b : B ≤ 2 ^ 62 = omega (arith, b.2, c.found-2.ensures) in
+    let wf = wave_begun F c.found.result c.in_ok-forth.forth.labels.items c.in_ok-forth.forth.next c.in_ok-forth.ensures.begun c.found.ensures in
+    let wb = wave_begun B c.found-2.result c.in_ok-back.back.labels.items c.in_ok-back.back.next c.in_ok-back.ensures.begun c.found-2.ensures in
     let none = rw c.in_default.is at c.first_meeting.ensures.met in
     record {
       explored = λ h x. x;
       grown_forth = record { more = omega arith; stays = λ k x h. h; back = λ k x i h. h };
       grown_back = record { more = omega arith; stays = λ k x h. h; back = λ k x i h. h };
-      forth_wave = (wave_start F c.in_ok-forth.forth.labels.items c.in_ok-forth.forth.next f.0 ef few_f).0;
-      back_wave = (wave_start B c.in_ok-back.back.labels.items c.in_ok-back.back.next b.0 eb few_b).0;
-      forth_layers = (0, (wave_start F c.in_ok-forth.forth.labels.items c.in_ok-forth.forth.next f.0 ef few_f).1);
-      back_layers = (0, (wave_start B c.in_ok-back.back.labels.items c.in_ok-back.back.next b.0 eb few_b).1);
-      forth_search = λ h x p. let s = side_start (g.G.TwoSidedGraph.step h Forth) F (g.G.TwoSidedGraph.stands c.args.graph.now Forth) c.in_ok-forth.forth.labels.items c.in_ok-forth.forth.next f.0 ef few_f (c.requires.begins Forth) in s.search;
-      back_search = λ h x p. let s = side_start (g.G.TwoSidedGraph.step h Back) B (g.G.TwoSidedGraph.stands c.args.graph.now Back) c.in_ok-back.back.labels.items c.in_ok-back.back.next b.0 eb few_b (c.requires.begins Back) in s.search;
+      forth_wave = wf.0;
+      back_wave = wb.0;
+      forth_layers = (0, wf.1);
+      back_layers = (0, wb.1);
+      forth_search = λ h x p. (side_begun (g.G.TwoSidedGraph.step h Forth) F c.found.result (g.G.TwoSidedGraph.stands c.args.graph.now Forth) c.in_ok-forth.forth.labels.items c.in_ok-forth.forth.next c.in_ok-forth.ensures.begun c.found.ensures (c.requires.begins Forth)).search;
+      back_search = λ h x p. (side_begun (g.G.TwoSidedGraph.step h Back) B c.found-2.result (g.G.TwoSidedGraph.stands c.args.graph.now Back) c.in_ok-back.back.labels.items c.in_ok-back.back.next c.in_ok-back.ensures.begun c.found-2.ensures (c.requires.begins Back)).search;
       apart = λ j k x here there. none j k x (omega arith) here there;
     }
+
+pub advance_smaller-requires-clause-graph : goal.advance_smaller-requires-clause-graph
+advance_smaller-requires-clause-graph g c = let r = c.requires.graph in (r.0, c.levels.invariant.explored r.0 r.1)
+
+pub advance_smaller-requires-clause-forth : goal.advance_smaller-requires-clause-forth
+advance_smaller-requires-clause-forth g c = c.levels.invariant.forth_wave
+
+pub advance_smaller-requires-clause-back : goal.advance_smaller-requires-clause-back
+advance_smaller-requires-clause-back g c = c.levels.invariant.back_wave
+
+pub advance_smaller-requires-clause-left : goal.advance_smaller-requires-clause-left
+advance_smaller-requires-clause-left g c = (omega (arith, c.levels-test.true, c.len.ensures), omega (arith, c.if-back-len.true, c.len-in-levels.ensures))
+
+pub returns-in_err-met-clause-graph : goal.returns-in_err-met-clause-graph
+returns-in_err-met-clause-graph g c = λ h x. c.in_err-met.ensures.graph h (c.levels.invariant.explored h x)
+
+pub returns-in_err-met-clause-inside : goal.returns-in_err-met-clause-inside
+returns-in_err-met-clause-inside g c = IfOk-from_err c.from_residual-in_err-met.result _ c.from_residual-in_err-met.ensures.0
+
+pub returns-in_err-met-clause-best : goal.returns-in_err-met-clause-best
+returns-in_err-met-clause-best g c = λ h x p q mirror. IfOk-from_err c.from_residual-in_err-met.result _ c.from_residual-in_err-met.ensures.0
+
+pub returns-in_err-met-clause-errors : goal.returns-in_err-met-clause-errors
+returns-in_err-met-clause-errors g c = refused_as (λ e. e ≡ OutOfMemory) c.from_residual-in_err-met.result c.in_err-met.field-0.0 c.from_residual-in_err-met.ensures.1 c.in_err-met.ensures.errors
+
+pub halves_to-requires-in-Some-met-clause-trees : goal.halves_to-requires-in-Some-met-clause-trees
+halves_to-requires-in-Some-met-clause-trees g c = (c.in_ok-met.ensures.forth.tree, c.in_ok-met.ensures.back.tree)
+
+pub halves_to-requires-in-Some-met-clause-labelled : goal.halves_to-requires-in-Some-met-clause-labelled
+halves_to-requires-in-Some-met-clause-labelled g c =
+    let e = c.in_ok-met.ensures in
+    let met = rw c.in-Some-met.is at e.apart in
+    (e.forth.breadth.full c.in-Some-met.numbers.0 met.0, e.back.breadth.full c.in-Some-met.numbers.1 met.1)
+
+pub returns-in_err-halves-2-clause-graph : goal.returns-in_err-halves-2-clause-graph
+returns-in_err-halves-2-clause-graph g c = λ h x. c.in_ok-met.ensures.graph h (c.levels.invariant.explored h x)
+
+pub returns-in_err-halves-2-clause-inside : goal.returns-in_err-halves-2-clause-inside
+returns-in_err-halves-2-clause-inside g c = IfOk-from_err c.from_residual-in_err-halves-2.result _ c.from_residual-in_err-halves-2.ensures.0
+
+pub returns-in_err-halves-2-clause-best : goal.returns-in_err-halves-2-clause-best
+returns-in_err-halves-2-clause-best g c = λ h x p q mirror. IfOk-from_err c.from_residual-in_err-halves-2.result _ c.from_residual-in_err-halves-2.ensures.0
+
+pub returns-in_err-halves-2-clause-errors : goal.returns-in_err-halves-2-clause-errors
+returns-in_err-halves-2-clause-errors g c = refused_as (λ e. e ≡ OutOfMemory) c.from_residual-in_err-halves-2.result c.in_err-halves-2.field-0.0 c.from_residual-in_err-halves-2.ensures.1 c.in_err-halves-2.ensures.refused
+
+pub returns-in-Some-met-clause-graph : goal.returns-in-Some-met-clause-graph
+returns-in-Some-met-clause-graph g c = λ h x. c.in_ok-met.ensures.graph h (c.levels.invariant.explored h x)
 
 pub returns-in-Some-met-clause-inside : goal.returns-in-Some-met-clause-inside
 returns-in-Some-met-clause-inside g c =
@@ -136,10 +196,17 @@ returns-in-Some-met-clause-best g c = λ h x p q mirror.
     let chains = c.in_ok-halves-2.ensures.chains in
     best_meeting (step Forth) (step Back) p q (found Forth) (found Back) (first Forth) (first Back) mirror (found2 Forth) (found2 Back) (stands2 Forth) (stands2 Back) labels_f labels_b c.advance_smaller.new.forth.next c.advance_smaller.new.back.next nf nb
     c.in-Some-met.numbers.0 c.in-Some-met.numbers.1 l.0 m.0 l.1 m.1 met.2 c.in_ok-halves-2.halves.forth.items c.in_ok-halves-2.halves.back.items chains.0 chains.1
-    (λ s is w u walk at.
-    let r = sides_longer (step Forth) (step Back) p q (found Forth) (found Back) (first Forth) (first Back) mirror (found' Forth) (found' Back) (stands Forth) (stands Back) c.levels.forth.labels.items c.levels.back.labels.items c.levels.forth.next c.levels.back.next sf sb v.apart
-    a.0 b.0 a.1 b.1 (l.0.depth + m.0.depth) low s is w u walk at in
-    omega (arith, ints, r))
+    (sides_longer (step Forth) (step Back) p q (found Forth) (found Back) (first Forth) (first Back) mirror (found' Forth) (found' Back) (stands Forth) (stands Back) c.levels.forth.labels.items c.levels.back.labels.items c.levels.forth.next c.levels.back.next sf sb v.apart
+    a.0 b.0 a.1 b.1 (l.0.depth + m.0.depth) low)
+
+pub returns-in-Some-met-clause-errors : goal.returns-in-Some-met-clause-errors
+returns-in-Some-met-clause-errors g c = tt
+
+pub levels-smaller : goal.levels-smaller
+levels-smaller g c =
+    let v = c.levels.invariant in
+    let next = rw c.in_default-met.is at c.in_ok-met.ensures.apart in
+    visits_left c.levels.forth.next c.levels.back.next c.advance_smaller.new.forth.next c.advance_smaller.new.back.next c.levels.forth.labels.items c.levels.back.labels.items (g.G.TwoSidedGraph.found c.levels.graph Forth) (g.G.TwoSidedGraph.found c.levels.graph Back) v.forth_wave v.back_wave next.1
 
 pub levels-preserved : goal.levels-preserved
 levels-preserved g c =
@@ -160,6 +227,12 @@ levels-preserved g c =
       apart = next.0 v.apart;
     }
 
+pub returns-clause-graph : goal.returns-clause-graph
+returns-clause-graph g c = λ h x. c.levels.invariant.explored h x
+
+pub returns-clause-inside : goal.returns-clause-inside
+returns-clause-inside g c = tt
+
 pub returns-clause-best : goal.returns-clause-best
 returns-clause-best g c = λ h x p q mirror s is w u walk at.
     let v = c.levels.invariant in
@@ -176,3 +249,6 @@ returns-clause-best g c = λ h x p q mirror s is w u walk at.
       | else-levels-test z ↦ no_walk_on (step Forth) (step Back) (StandsBelow (found Forth) (first Forth)) (StandsBelow (found Back) (first Back)) (stands Forth) (stands Back) p mirror v.apart
           (λ y k. (k.0, v.grown_back.stays k.0 y k.2)) (side_all (step Forth) p (found Forth) (found' Forth) (first Forth) (stands Forth) c.levels.forth.labels.items c.levels.forth.next sf (omega (arith, z.levels-test.false, c.len.ensures))) s is w u walk at
     ]
+
+pub returns-clause-errors : goal.returns-clause-errors
+returns-clause-errors g c = tt

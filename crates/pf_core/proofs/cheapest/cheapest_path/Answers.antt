@@ -2,11 +2,39 @@ use Rattle.std.proofs.Common.{◌≡◌, ◌<◌, ◌∙◌, sym, subst, ℕ, ar
 use Rattle.pf_core.specs.declared.labels.Label.{Label}
 use Rattle.std.specs.Prelude.{slice_set, ◌⊎◌}
 use Rattle.std.proofs.lemmas.List.Sums.{count_by-le-length}
-use Rattle.pf_core.specs.Labels.{HasLabel, by_cost, is_settled}
-use Rattle.pf_core.proofs.LabelLemmas.{HasLabel-inside, label_is, Settles-set}
+use Rattle.std.proofs.lemmas.Result.{IfOk-from_err}
+use Rattle.pf_base.specs.declared.error.PathError.TheVariants.{OutOfMemory, CostOverflow}
+use Rattle.pf_core.specs.Labels.{Labels, HasLabel, IsTree, IsChain, by_cost, is_settled}
+use Rattle.pf_core.specs.Steps.{IsBestNumbered}
+use Rattle.pf_core.proofs.Outcomes.{refused_as, no_overflow, no_refusal}
+use Rattle.pf_core.proofs.LabelLemmas.{HasLabel-inside, label_is, Settles-set, asked_within}
 use Rattle.pf_core.proofs.SearchLemmas.{Grows-trans, best, best_grows, no_goal, search_grows, one_root, only_root, start_alone, none_settled, failed_turned}
 use Rattle.pf_core.proofs.TurnLemmas.{too_dear}
 use Rattle.pf_core.proofs.cheapest.cheapest_path.Goals as goal
+
+pub begin-requires : goal.begin-requires
+begin-requires g c = subst (λ (n : ℕ). c.args.start < n) (sym c.found.ensures) c.requires.inside
+
+pub returns-in_err-search-clause-graph : goal.returns-in_err-search-clause-graph
+returns-in_err-search-clause-graph g c = λ h x. x
+
+pub returns-in_err-search-clause-inside : goal.returns-in_err-search-clause-inside
+returns-in_err-search-clause-inside g c = IfOk-from_err c.from_residual.result _ c.from_residual.ensures.0
+
+pub returns-in_err-search-clause-best : goal.returns-in_err-search-clause-best
+returns-in_err-search-clause-best g c = λ h x p. IfOk-from_err c.from_residual.result _ c.from_residual.ensures.0
+
+pub returns-in_err-search-clause-overflow : goal.returns-in_err-search-clause-overflow
+returns-in_err-search-clause-overflow g c = λ h x p e. absurd (no_overflow c.from_residual.result c.in_err-search.field-0.0 c.from_residual.ensures.1 c.in_err-search.ensures.refused e)
+
+pub returns-in_err-search-clause-ticked : goal.returns-in_err-search-clause-ticked
+returns-in_err-search-clause-ticked g c = omega arith
+
+pub returns-in_err-search-clause-asked : goal.returns-in_err-search-clause-asked
+returns-in_err-search-clause-asked g c = omega arith
+
+pub returns-in_err-search-clause-errors : goal.returns-in_err-search-clause-errors
+returns-in_err-search-clause-errors g c = refused_as (λ e. (e ≡ OutOfMemory) ⊎ (e ≡ CostOverflow)) c.from_residual.result c.in_err-search.field-0.0 c.from_residual.ensures.1 (inl c.in_err-search.ensures.refused)
 
 pub turns-init : goal.turns-init
 turns-init g c =
@@ -24,17 +52,41 @@ turns-init g c =
       failed = λ h x k m y at s here. absurd (none_settled c.args.start g.C.Number.value (g.G.NumberedGraph.step h) stands c.requires.begins labels first b.first b.only refl k m at s);
     }
 
+pub least-requires : goal.least-requires
+least-requires g c = c.turns.invariant.sound
+
 pub is_goal-requires-clause-inside : goal.is_goal-requires-clause-inside
 is_goal-requires-clause-inside g c = let z = c.in-Some.ensures.least in subst (λ (n : ℕ). c.in-Some.number < n) c.turns.invariant.wide (HasLabel-inside _ _ _ z.1.at)
 
 pub is_goal-requires-clause-graph : goal.is_goal-requires-clause-graph
 is_goal-requires-clause-graph g c = let r = c.requires.graph in (r.0, c.turns.invariant.explored r.0 r.1)
 
+pub path_to-requires-clause-tree : goal.path_to-requires-clause-tree
+path_to-requires-clause-tree g c = subst IsTree (sym (c.deref.ensures.value ∙ c.in-Some.ensures.same)) c.turns.invariant.sound.tree
+
 pub path_to-requires-clause-labelled : goal.path_to-requires-clause-labelled
 path_to-requires-clause-labelled g c = let z = c.in-Some.ensures.least in rw (c.deref.ensures.value, c.in-Some.ensures.same) (z.0, z.1.at)
 
 pub returns-in_err-numbers-clause-graph : goal.returns-in_err-numbers-clause-graph
 returns-in_err-numbers-clause-graph g c = λ h x. (c.is_goal.ensures.graph h (c.turns.invariant.explored h x)).0
+
+pub returns-in_err-numbers-clause-inside : goal.returns-in_err-numbers-clause-inside
+returns-in_err-numbers-clause-inside g c = IfOk-from_err c.from_residual-in_err-numbers.result _ c.from_residual-in_err-numbers.ensures.0
+
+pub returns-in_err-numbers-clause-best : goal.returns-in_err-numbers-clause-best
+returns-in_err-numbers-clause-best g c = λ h x p. IfOk-from_err c.from_residual-in_err-numbers.result _ c.from_residual-in_err-numbers.ensures.0
+
+pub returns-in_err-numbers-clause-overflow : goal.returns-in_err-numbers-clause-overflow
+returns-in_err-numbers-clause-overflow g c = λ h x p e. absurd (no_overflow c.from_residual-in_err-numbers.result c.in_err-numbers.field-0.0 c.from_residual-in_err-numbers.ensures.1 c.in_err-numbers.ensures.refused e)
+
+pub returns-in_err-numbers-clause-ticked : goal.returns-in_err-numbers-clause-ticked
+returns-in_err-numbers-clause-ticked g c = omega (arith, c.turns.invariant.asked)
+
+pub returns-in_err-numbers-clause-asked : goal.returns-in_err-numbers-clause-asked
+returns-in_err-numbers-clause-asked g c = asked_within c.turns.tally c.args.tally.now _ c.turns.search.labels.items c.turns.invariant.asked (c.turns.invariant.wide ∙ sym c.is_goal.ensures.same)
+
+pub returns-in_err-numbers-clause-errors : goal.returns-in_err-numbers-clause-errors
+returns-in_err-numbers-clause-errors g c = refused_as (λ e. (e ≡ OutOfMemory) ⊎ (e ≡ CostOverflow)) c.from_residual-in_err-numbers.result c.in_err-numbers.field-0.0 c.from_residual-in_err-numbers.ensures.1 (inl c.in_err-numbers.ensures.refused)
 
 pub label_of-label-requires : goal.label_of-label-requires
 label_of-label-requires g c = let z = c.in-Some.ensures.least in rw c.in-Some.ensures.same (z.0, z.1.at)
@@ -56,11 +108,30 @@ returns-then-is_goal-clause-best g c = λ h x p.
     let passes = g.G.NumberedGraph.passes h in
     let t = (c.is_goal.ensures.graph h (v.explored h x)).1 in
     let numbers = c.in_ok-numbers.numbers.items in
-    let chain = rw (c.deref.ensures.value, c.in-Some.ensures.same) at c.in_ok-numbers.ensures.chain in
-    let same : z.0 ≡ c.label_of-label.result = label_is labels c.in-Some.number z.0 c.label_of-label.result z.1.at (rw c.in-Some.ensures.same at c.label_of-label.ensures) in
-    rw (← same)
+    let chain = subst (λ (xs : Labels g.row.C.Denot). IsChain xs c.in-Some.number numbers) (c.deref.ensures.value ∙ c.in-Some.ensures.same) c.in_ok-numbers.ensures.chain in
+    let read = subst (λ (xs : Labels g.row.C.Denot). HasLabel xs c.in-Some.number c.label_of-label.result) c.in-Some.ensures.same c.label_of-label.ensures in
+    let same : z.0 ≡ c.label_of-label.result = label_is labels c.in-Some.number z.0 c.label_of-label.result z.1.at read in
+    subst (λ (l : Label g.row.C.Denot). IsBestNumbered step passes (g.G.NumberedGraph.stands c.args.graph.now c.args.start) (g.G.NumberedGraph.stands c.is_goal.new.self) numbers (g.C.Number.value l.cost)) same
     (best_grows step passes _ _ (one_root c.args.start _ _ _ _ v.grown c.requires.inside) _ _ _ _ c.is_goal.ensures.grows numbers (g.C.Number.value z.0.cost)
     (best (by_cost g.C.Number.value) step (only_root c.args.start) p _ labels (v.search h x p) v.sound.tree c.in-Some.number z.0 z.1 passes (v.failed h x) numbers chain (λ y k. sym (t y k) ∙ c.if-is_goal.true)))
+
+pub returns-then-is_goal-clause-overflow : goal.returns-then-is_goal-clause-overflow
+returns-then-is_goal-clause-overflow g c = λ h x p e. absurd (no_refusal _ CostOverflow e tt)
+
+pub returns-then-is_goal-clause-ticked : goal.returns-then-is_goal-clause-ticked
+returns-then-is_goal-clause-ticked g c = omega (arith, c.turns.invariant.asked)
+
+pub returns-then-is_goal-clause-asked : goal.returns-then-is_goal-clause-asked
+returns-then-is_goal-clause-asked g c = asked_within c.turns.tally c.args.tally.now _ c.turns.search.labels.items c.turns.invariant.asked (c.turns.invariant.wide ∙ sym c.is_goal.ensures.same)
+
+pub returns-then-is_goal-clause-errors : goal.returns-then-is_goal-clause-errors
+returns-then-is_goal-clause-errors g c = tt
+
+pub turn-requires-clause-sound : goal.turn-requires-clause-sound
+turn-requires-clause-sound g c = c.in-Some.ensures.sound
+
+pub turn-requires-clause-wide : goal.turn-requires-clause-wide
+turn-requires-clause-wide g c = ap length c.in-Some.ensures.same ∙ c.turns.invariant.wide ∙ sym c.is_goal.ensures.same
 
 pub turn-requires-clause-least : goal.turn-requires-clause-least
 turn-requires-clause-least g c = rw c.in-Some.ensures.same c.in-Some.ensures.least
@@ -102,6 +173,12 @@ turns-preserved g c =
 pub returns-in_err-turn-clause-graph : goal.returns-in_err-turn-clause-graph
 returns-in_err-turn-clause-graph g c = λ h x. c.in_err-turn.ensures.graph h (c.is_goal.ensures.graph h (c.turns.invariant.explored h x)).0
 
+pub returns-in_err-turn-clause-inside : goal.returns-in_err-turn-clause-inside
+returns-in_err-turn-clause-inside g c = IfOk-from_err c.from_residual-in_err-turn.result _ c.from_residual-in_err-turn.ensures.0
+
+pub returns-in_err-turn-clause-best : goal.returns-in_err-turn-clause-best
+returns-in_err-turn-clause-best g c = λ h x p. IfOk-from_err c.from_residual-in_err-turn.result _ c.from_residual-in_err-turn.ensures.0
+
 pub returns-in_err-turn-clause-overflow : goal.returns-in_err-turn-clause-overflow
 returns-in_err-turn-clause-overflow g c = λ h x p e.
     let v = c.turns.invariant in
@@ -115,6 +192,9 @@ returns-in_err-turn-clause-overflow g c = λ h x p e.
     (g.met.G.NumberedGraph.one_law _ h (v.explored h x)) (λ n st. d n (c.is_goal.ensures.grows.stays c.in-Some.number n st) z.0 (rw same z.1.at)) _ _ _ grown (subst (λ (n : ℕ). c.in-Some.number < n) v.wide (HasLabel-inside labels c.in-Some.number z.0 z.1.at))
     _ (one_root c.args.start _ _ _ _ v.grown c.requires.inside)
 
+pub returns-in_err-turn-clause-ticked : goal.returns-in_err-turn-clause-ticked
+returns-in_err-turn-clause-ticked g c = omega (arith, c.tick.ensures, c.turns.invariant.asked)
+
 pub returns-in_err-turn-clause-asked : goal.returns-in_err-turn-clause-asked
 returns-in_err-turn-clause-asked g c =
     let v = c.turns.invariant in
@@ -123,9 +203,30 @@ returns-in_err-turn-clause-asked g c =
     let s = Settles-set (by_cost g.C.Number.value) old c.in-Some.number z.0 z.1.at z.1.opened z.1.least in
     omega (arith, c.tick.ensures, v.asked, v.wide, s.count, s.len, count_by-le-length is_settled (slice_set old c.in-Some.number (Some (record z.0 { settled = true }))), c.is_goal.ensures.same, c.turn.ensures.grows.more)
 
+pub returns-in_err-turn-clause-errors : goal.returns-in_err-turn-clause-errors
+returns-in_err-turn-clause-errors g c = refused_as (λ e. (e ≡ OutOfMemory) ⊎ (e ≡ CostOverflow)) c.from_residual-in_err-turn.result c.in_err-turn.field-0.0 c.from_residual-in_err-turn.ensures.1 c.in_err-turn.ensures.errors
+
+pub returns-clause-graph : goal.returns-clause-graph
+returns-clause-graph g c = λ h x. c.turns.invariant.explored h x
+
+pub returns-clause-inside : goal.returns-clause-inside
+returns-clause-inside g c = tt
+
 pub returns-clause-best : goal.returns-clause-best
 returns-clause-best g c = λ h x p.
     let v = c.turns.invariant in
     let root = one_root c.args.start _ _ _ _ v.grown c.requires.inside in
     let none = no_goal (by_cost g.C.Number.value) (g.G.NumberedGraph.step h) (only_root c.args.start) p _ _ (v.search h x p) (g.G.NumberedGraph.passes h) (v.failed h x) c.in_default.ensures.least in
     λ s is. none s ((root s).1 is)
+
+pub returns-clause-overflow : goal.returns-clause-overflow
+returns-clause-overflow g c = λ h x p e. absurd (no_refusal _ CostOverflow e tt)
+
+pub returns-clause-ticked : goal.returns-clause-ticked
+returns-clause-ticked g c = omega (arith, c.turns.invariant.asked)
+
+pub returns-clause-asked : goal.returns-clause-asked
+returns-clause-asked g c = asked_within c.turns.tally c.args.tally.now _ c.turns.search.labels.items c.turns.invariant.asked c.turns.invariant.wide
+
+pub returns-clause-errors : goal.returns-clause-errors
+returns-clause-errors g c = tt

@@ -1,20 +1,19 @@
-use Rattle.std.proofs.Common.{rules, ◌≡◌, ◌<◌, sym, subst, Some, slice_get, take, length, get_or, [], ◌∷◌, ◌++◌}
+use Rattle.std.proofs.Common.{◌≡◌, ◌<◌, sym, subst, Some, slice_get, take, length, get_or, [], ◌∷◌, ◌++◌, ℕ, List, take_all}
+use Rattle.std.proofs.lemmas.Result.{IfOk-from_err}
 use Rattle.std.specs.List.{AllZip}
 use Rattle.std.proofs.lemmas.List.{take_more}
 use Rattle.pf_core.specs.Nodes.{StandsFor}
 use Rattle.pf_core.proofs.ListLemmas.{at_place, Contains-index}
 use Rattle.pf_core.proofs.PathLemmas.{AllZip-append}
+use Rattle.pf_core.proofs.Outcomes.{no_memory}
+use Rattle.pf_core.proofs.ReadLemmas.{lt_most, nearer}
 use Rattle.pf_core.proofs.discovery.clones_at.Goals as goal
 
 pub bounds-nodes-number : goal.bounds-nodes-number
-bounds-nodes-number g c =
-    let l = c.requires.inside (get_or c.args.numbers.now c.numbers.number-index 0) (Contains-index c.args.numbers.now c.numbers.number-index 0 c.numbers-test.true) in
-    search rules
+bounds-nodes-number g c = c.requires.inside (get_or c.args.numbers.now c.numbers.number-index 0) (Contains-index c.args.numbers.now c.numbers.number-index 0 c.numbers-test.true)
 
 pub offset_bounds-nodes-number : goal.offset_bounds-nodes-number
-offset_bounds-nodes-number g c =
-    let l = c.requires.inside (get_or c.args.numbers.now c.numbers.number-index 0) (Contains-index c.args.numbers.now c.numbers.number-index 0 c.numbers-test.true) in
-    search rules
+offset_bounds-nodes-number g c = lt_most _ _ (c.requires.inside (get_or c.args.numbers.now c.numbers.number-index 0) (Contains-index c.args.numbers.now c.numbers.number-index 0 c.numbers-test.true))
 
 pub numbers-preserved : goal.numbers-preserved
 numbers-preserved g c =
@@ -26,7 +25,37 @@ numbers-preserved g c =
     let inside : n < length keys = c.requires.inside n (Contains-index numbers i 0 c.numbers-test.true) in
     let at : slice_get keys n ≡ Some c.index-nodes-number.result = at_place keys n _ _ inside (sym c.index-nodes-number.is) in
     let here : StandsFor eq keys n c.in_ok-node.node = (c.index-nodes-number.result, at, c.requires.clones _ _ c.in_ok-node.ensures.cases) in
-    let e : c.push.new.self.items ≡ c.numbers.path.items ++ c.in_ok-node.node ∷ [] = search rules in
+    let e : c.push.new.self.items ≡ c.numbers.path.items ++ c.in_ok-node.node ∷ [] = c.in_ok-push.ensures.items in
     subst (λ ns. AllZip (StandsFor eq keys) ns c.push.new.self.items) (sym (take_more numbers i 0 c.numbers-test.true))
     (subst (λ xs. AllZip (StandsFor eq keys) (take i numbers ++ n ∷ []) xs) (sym e)
     (AllZip-append (StandsFor eq keys) (take i numbers) c.numbers.path.items n c.in_ok-node.node c.numbers.invariant here))
+
+pub returns-in_err-path-clause-nodes : goal.returns-in_err-path-clause-nodes
+returns-in_err-path-clause-nodes g c = IfOk-from_err _ _ c.from_residual.ensures.0
+
+pub returns-in_err-path-clause-refused : goal.returns-in_err-path-clause-refused
+returns-in_err-path-clause-refused g c = no_memory c.from_residual.result c.from_residual.ensures.1
+
+pub returns-in_err-node-clause-nodes : goal.returns-in_err-node-clause-nodes
+returns-in_err-node-clause-nodes g c = IfOk-from_err _ _ c.from_residual-in_err-node.ensures.0
+
+pub returns-in_err-node-clause-refused : goal.returns-in_err-node-clause-refused
+returns-in_err-node-clause-refused g c = no_memory c.from_residual-in_err-node.result c.from_residual-in_err-node.ensures.1
+
+pub returns-in_err-push-clause-nodes : goal.returns-in_err-push-clause-nodes
+returns-in_err-push-clause-nodes g c = IfOk-from_err _ _ c.from_residual-in_err-push.ensures.0
+
+pub returns-in_err-push-clause-refused : goal.returns-in_err-push-clause-refused
+returns-in_err-push-clause-refused g c = no_memory c.from_residual-in_err-push.result c.from_residual-in_err-push.ensures.1
+
+pub numbers-init : goal.numbers-init
+numbers-init g c = subst (λ (xs : List g.row.N.Denot). AllZip (StandsFor g.N.PartialEq.eq c.args.nodes.now) [] xs) (sym c.in_ok-path.ensures.items) tt
+
+pub numbers-smaller : goal.numbers-smaller
+numbers-smaller g c = nearer c.numbers.number-index (length c.args.numbers.now) c.numbers-test.true
+
+pub returns-clause-nodes : goal.returns-clause-nodes
+returns-clause-nodes g c = subst (λ (ns : List ℕ). AllZip (StandsFor g.N.PartialEq.eq c.args.nodes.now) ns c.numbers.path.items) (take_all c.numbers.number-index c.args.numbers.now c.numbers-test.false) c.numbers.invariant
+
+pub returns-clause-refused : goal.returns-clause-refused
+returns-clause-refused g c = tt

@@ -1,13 +1,14 @@
-use Rattle.std.proofs.Common.{rules, refl, length, ◌≡◌, ◌∙◌, inl, arith, [], ◌∷◌, ◌++◌, map, take_all}
+use Rattle.std.proofs.Common.{refl, subst, length, ℕ, ◌≡◌, ◌≤◌, ◌∙◌, inl, arith, [], ◌∷◌, ◌++◌, map, take, take_all}
 use Rattle.std.proofs.lemmas.List.{map-append}
 use Rattle.pf_core.proofs.NodeLemmas.{take_longer, Numbers-grow, Numbers-push, AddedFrom-push, AddsNode-stays}
 use Rattle.pf_core.proofs.OrderLemmas.{InOrder-push}
+use Rattle.pf_core.proofs.ReadLemmas.{same_most, same_longer, same_kept}
 use Rattle.pf_core.proofs.discovery.number_all.Goals as goal
 
 pub items-init : goal.items-init
 items-init g c = record {
-  long = search rules;
-  longer = search rules;
+  long = c.len-len.ensures.len;
+  longer = same_most c.len-len.result (length c.args.nodes.now.keys) c.len-len.ensures.len;
   kept = take_all c.len-len.result c.args.nodes.now.keys (omega (arith, c.len-len.ensures.len));
   numbered = ([], c.requires.empty, tt);
   added = λ k m h. inl h;
@@ -40,3 +41,56 @@ items-preserved g c =
       ordered = rw more (rw (map-append (λ (x : g.row.N.Denot × g.row.C.Denot). x.0) (map edge c.items.yielded) (said ∷ [])) (InOrder-push eq g.met.N.Eq.laws keys keys' (length c.args.nodes.now.keys) (map (λ (x : g.row.N.Denot × g.row.C.Denot). x.0) (map edge c.items.yielded)) said.0 n.0 a n.1 i.ordered));
       distinct = a.distinct i.distinct;
     }
+
+pub next-requires : goal.next-requires
+next-requires g c = c.items.iterator.0
+
+pub items-smaller : goal.items-smaller
+items-smaller g c = (c.in-Some.ensures.goes.on c.items.iterator.1).2
+
+pub returns-in-Err-clause-numbered : goal.returns-in-Err-clause-numbered
+returns-in-Err-clause-numbered g c = tt
+
+pub returns-in-Err-clause-stays : goal.returns-in-Err-clause-stays
+returns-in-Err-clause-stays g c =
+    let i = c.items.invariant in
+    c.truncate.ensures.keys ∙ take_longer g.N.PartialEq.eq c.len-len.result c.items.nodes.keys c.number_edge.new.nodes.keys i.longer c.number_edge.ensures.added.kept ∙ i.kept
+
+pub returns-in-Err-clause-longer : goal.returns-in-Err-clause-longer
+returns-in-Err-clause-longer g c = same_longer c.args.nodes.now.keys c.truncate.new.self.keys (returns-in-Err-clause-stays g c)
+
+pub returns-in-Err-clause-kept : goal.returns-in-Err-clause-kept
+returns-in-Err-clause-kept g c = same_kept c.args.nodes.now.keys c.truncate.new.self.keys (returns-in-Err-clause-stays g c)
+
+pub returns-in-Err-clause-distinct : goal.returns-in-Err-clause-distinct
+returns-in-Err-clause-distinct g c = c.truncate.ensures.unique
+
+pub returns-in-Err-clause-refused : goal.returns-in-Err-clause-refused
+returns-in-Err-clause-refused g c = c.in-Err.ensures.refused
+
+pub returns-clause-numbered : goal.returns-clause-numbered
+returns-clause-numbered g c =
+    let i = c.items.invariant in (
+      c.into_iter-item-iterator.result,
+      c.items.yielded,
+      c.into_iter-item-iterator.ensures.into_iter_gives,
+      (c.next.new.self, (c.items.item-iterator, c.items.yielded_by, c.in-None.ensures.steps)),
+      i.numbered,
+      i.added,
+      i.ordered,
+    )
+
+pub returns-clause-distinct : goal.returns-clause-distinct
+returns-clause-distinct g c = c.items.invariant.distinct
+
+pub returns-clause-longer : goal.returns-clause-longer
+returns-clause-longer g c = subst (λ (n : ℕ). n ≤ length c.items.nodes.keys) c.items.invariant.long c.items.invariant.longer
+
+pub returns-clause-kept : goal.returns-clause-kept
+returns-clause-kept g c = subst (λ (n : ℕ). take n c.items.nodes.keys ≡ c.args.nodes.now.keys) c.items.invariant.long c.items.invariant.kept
+
+pub returns-clause-stays : goal.returns-clause-stays
+returns-clause-stays g c = tt
+
+pub returns-clause-refused : goal.returns-clause-refused
+returns-clause-refused g c = tt

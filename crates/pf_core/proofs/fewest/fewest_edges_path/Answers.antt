@@ -1,11 +1,30 @@
-use Rattle.std.proofs.Common.{◌-◌, length-append, ◌≡◌, ◌<◌, ◌≤◌, ◌+◌, ◌∙◌, sym, subst, ℕ, arith, length, ap, Some, pos, replicate}
-use Rattle.std.specs.Prelude.{Contains}
+use Rattle.std.proofs.Common.{◌≡◌, ◌<◌, ◌∙◌, sym, subst, ℕ, arith, length, ap, Some, pos}
 use Rattle.std.proofs.lemmas.List.{length-replicate}
-use Rattle.pf_core.specs.Labels.{by_depth}
+use Rattle.std.proofs.lemmas.Result.{IfOk-from_err}
+use Rattle.pf_base.specs.declared.error.PathError.TheVariants.{OutOfMemory}
+use Rattle.pf_core.specs.Labels.{by_depth, IsTree}
+use Rattle.pf_core.proofs.Outcomes.{refused_as}
 use Rattle.pf_core.proofs.SearchLemmas.{Grows-trans, no_goal, best, best_grows, failed_turned}
 use Rattle.pf_core.specs.Breadth.{below}
-use Rattle.pf_core.proofs.HopLemmas.{breadth_start, breadth_done, breadth_turn, hop_tree_start, hop_search_start, none_settled, hop_least, hop_tree, hop_turned, hop_from, hop_positive, hop_len, roots_below, reached_from, started, resized}
+use Rattle.pf_core.proofs.HopLemmas.{breadth_start, breadth_done, hop_tree_start, hop_search_start, none_settled, hop_least, hop_positive, roots_below, reached_from, started, visit_left}
+use Rattle.pf_core.specs.Numbered.{Grows}
+use Rattle.pf_core.proofs.HopTurns.{IsHopTurn, settled_fit, hop_turn}
 use Rattle.pf_core.proofs.fewest.fewest_edges_path.Goals as goal
+
+pub fill-requires : goal.fill-requires
+fill-requires g c = omega (arith, ap length c.new-labels.ensures.items)
+
+pub returns-in_err-fill-clause-graph : goal.returns-in_err-fill-clause-graph
+returns-in_err-fill-clause-graph g c = λ h x. x
+
+pub returns-in_err-fill-clause-inside : goal.returns-in_err-fill-clause-inside
+returns-in_err-fill-clause-inside g c = IfOk-from_err c.from_residual.result _ c.from_residual.ensures.0
+
+pub returns-in_err-fill-clause-best : goal.returns-in_err-fill-clause-best
+returns-in_err-fill-clause-best g c = λ h x p. IfOk-from_err c.from_residual.result _ c.from_residual.ensures.0
+
+pub returns-in_err-fill-clause-errors : goal.returns-in_err-fill-clause-errors
+returns-in_err-fill-clause-errors g c = refused_as (λ e. e ≡ OutOfMemory) c.from_residual.result c.in_err-fill.field-0.0 c.from_residual.ensures.1 c.in_err-fill.ensures.refused
 
 pub nodes-init : goal.nodes-init
 nodes-init g c =
@@ -22,8 +41,32 @@ nodes-init g c =
       failed = λ h x k m y at t here. absurd (none_settled (g.G.NumberedGraph.step h) _ (g.G.NumberedGraph.stands c.args.graph.now) c.fill.new.labels.items e len k m at t);
     }
 
+pub is_goal-requires-clause-inside : goal.is_goal-requires-clause-inside
+is_goal-requires-clause-inside g c = omega (arith, c.nodes-test.true, c.len.ensures, c.nodes.invariant.len)
+
+pub is_goal-requires-clause-graph : goal.is_goal-requires-clause-graph
+is_goal-requires-clause-graph g c = let r = c.requires.graph in (r.0, c.nodes.invariant.explored r.0 r.1)
+
+pub path_to-requires-clause-tree : goal.path_to-requires-clause-tree
+path_to-requires-clause-tree g c = subst IsTree (sym c.deref.ensures.value) c.nodes.invariant.tree
+
 pub path_to-requires-clause-labelled : goal.path_to-requires-clause-labelled
 path_to-requires-clause-labelled g c = rw c.deref.ensures.value (c.nodes.invariant.breadth.full c.nodes.node (omega (arith, c.nodes-test.true, c.len.ensures)))
+
+pub returns-in_err-numbers-clause-graph : goal.returns-in_err-numbers-clause-graph
+returns-in_err-numbers-clause-graph g c = λ h x. (c.is_goal.ensures.graph h (c.nodes.invariant.explored h x)).0
+
+pub returns-in_err-numbers-clause-inside : goal.returns-in_err-numbers-clause-inside
+returns-in_err-numbers-clause-inside g c = IfOk-from_err c.from_residual-in_err-numbers.result _ c.from_residual-in_err-numbers.ensures.0
+
+pub returns-in_err-numbers-clause-best : goal.returns-in_err-numbers-clause-best
+returns-in_err-numbers-clause-best g c = λ h x p. IfOk-from_err c.from_residual-in_err-numbers.result _ c.from_residual-in_err-numbers.ensures.0
+
+pub returns-in_err-numbers-clause-errors : goal.returns-in_err-numbers-clause-errors
+returns-in_err-numbers-clause-errors g c = refused_as (λ e. e ≡ OutOfMemory) c.from_residual-in_err-numbers.result c.in_err-numbers.field-0.0 c.from_residual-in_err-numbers.ensures.1 c.in_err-numbers.ensures.refused
+
+pub returns-then-is_goal-clause-graph : goal.returns-then-is_goal-clause-graph
+returns-then-is_goal-clause-graph g c = λ h x. (c.is_goal.ensures.graph h (c.nodes.invariant.explored h x)).0
 
 pub returns-then-is_goal-clause-inside : goal.returns-then-is_goal-clause-inside
 returns-then-is_goal-clause-inside g c = λ k h.
@@ -44,55 +87,97 @@ returns-then-is_goal-clause-best g c = λ h x p.
           (rw c.deref.ensures.value at c.in_ok-numbers.ensures.chain) (λ y k. sym (t y k) ∙ c.if-is_goal.true)),
     )
 
+pub returns-then-is_goal-clause-errors : goal.returns-then-is_goal-clause-errors
+returns-then-is_goal-clause-errors g c = tt
+
+pub expand-requires-clause-inside : goal.expand-requires-clause-inside
+expand-requires-clause-inside g c = omega (arith, c.nodes-test.true, c.len.ensures, c.nodes.invariant.len, c.is_goal.ensures.same)
+
 pub expand-requires-clause-graph : goal.expand-requires-clause-graph
 expand-requires-clause-graph g c = let r = c.requires.graph in (r.0, (c.is_goal.ensures.graph r.0 (c.nodes.invariant.explored r.0 r.1)).0)
 
-pub returns-in_err-fill-2-clause-graph : goal.returns-in_err-fill-2-clause-graph
-returns-in_err-fill-2-clause-graph g c = λ h x. c.in_ok-expand.ensures.graph h (c.is_goal.ensures.graph h (c.nodes.invariant.explored h x)).0
+pub returns-in_err-expand-clause-graph : goal.returns-in_err-expand-clause-graph
+returns-in_err-expand-clause-graph g c = λ h x. c.in_err-expand.ensures.graph h (c.is_goal.ensures.graph h (c.nodes.invariant.explored h x)).0
+
+pub returns-in_err-expand-clause-inside : goal.returns-in_err-expand-clause-inside
+returns-in_err-expand-clause-inside g c = IfOk-from_err c.from_residual-in_err-expand.result _ c.from_residual-in_err-expand.ensures.0
+
+pub returns-in_err-expand-clause-best : goal.returns-in_err-expand-clause-best
+returns-in_err-expand-clause-best g c = λ h x p. IfOk-from_err c.from_residual-in_err-expand.result _ c.from_residual-in_err-expand.ensures.0
+
+pub returns-in_err-expand-clause-errors : goal.returns-in_err-expand-clause-errors
+returns-in_err-expand-clause-errors g c = refused_as (λ e. e ≡ OutOfMemory) c.from_residual-in_err-expand.result c.in_err-expand.field-0.0 c.from_residual-in_err-expand.ensures.1 c.in_err-expand.ensures.refused.0
+
+pub settle-depth-requires : goal.settle-depth-requires
+settle-depth-requires g c = c.nodes.invariant.breadth.full c.nodes.node (omega (arith, c.nodes-test.true, c.len.ensures))
 
 pub behind-requires : goal.behind-requires
 behind-requires g c = omega (arith, c.nodes-test.true, c.len.ensures, c.nodes.invariant.few)
 
 pub fill-requires-in-nodes : goal.fill-requires-in-nodes
 fill-requires-in-nodes g c =
-    let b = c.nodes.invariant.breadth in
-    let l = b.full c.nodes.node (omega (arith, c.nodes-test.true, c.len.ensures)) in
-    let s = c.settle-depth.ensures l.0 l.1 in
-    omega (arith, hop_len c.nodes.node l.0 c.nodes.labels.items c.settle-depth.new.labels.items b l.1 s.1, c.nodes.invariant.len, c.is_goal.ensures.same, c.in_ok-expand.ensures.grows.more, c.found-in-nodes.ensures)
+    let v = c.nodes.invariant in
+    settled_fit c.nodes.node c.nodes.labels.items c.settle-depth.new.labels.items c.settle-depth.result c.found-in-nodes.result (g.G.NumberedGraph.found c.is_goal.new.self) (g.G.NumberedGraph.found c.expand.new.self)
+    v.breadth (omega (arith, c.nodes-test.true, c.len.ensures)) (v.len ∙ sym c.is_goal.ensures.same) c.settle-depth.ensures c.found-in-nodes.ensures c.in_ok-expand.ensures.grows.more
+
+pub returns-in_err-fill-2-clause-graph : goal.returns-in_err-fill-2-clause-graph
+returns-in_err-fill-2-clause-graph g c = λ h x. c.in_ok-expand.ensures.graph h (c.is_goal.ensures.graph h (c.nodes.invariant.explored h x)).0
+
+pub returns-in_err-fill-2-clause-inside : goal.returns-in_err-fill-2-clause-inside
+returns-in_err-fill-2-clause-inside g c = IfOk-from_err c.from_residual-in_err-fill-2.result _ c.from_residual-in_err-fill-2.ensures.0
+
+pub returns-in_err-fill-2-clause-best : goal.returns-in_err-fill-2-clause-best
+returns-in_err-fill-2-clause-best g c = λ h x p. IfOk-from_err c.from_residual-in_err-fill-2.result _ c.from_residual-in_err-fill-2.ensures.0
+
+pub returns-in_err-fill-2-clause-errors : goal.returns-in_err-fill-2-clause-errors
+returns-in_err-fill-2-clause-errors g c = refused_as (λ e. e ≡ OutOfMemory) c.from_residual-in_err-fill-2.result c.in_err-fill-2.field-0.0 c.from_residual-in_err-fill-2.ensures.1 c.in_err-fill-2.ensures.refused
+
+pub overflow_add-node : goal.overflow_add-node
+overflow_add-node g c = omega (arith, c.nodes-test.true, c.len.ensures, c.nodes.invariant.few)
+
+pub nodes-smaller : goal.nodes-smaller
+nodes-smaller g c = visit_left c.nodes.node c.nodes.labels.items (omega (arith, c.nodes-test.true, c.len.ensures)) c.nodes.invariant.few
 
 pub nodes-preserved : goal.nodes-preserved
 nodes-preserved g c =
+    let v = c.nodes.invariant in
     let inside : c.nodes.node < length c.nodes.labels.items = omega (arith, c.nodes-test.true, c.len.ensures) in
-    let b = c.nodes.invariant.breadth in
-    let l = b.full c.nodes.node inside in
-    let s = c.settle-depth.ensures l.0 l.1 in
     let labels = c.nodes.labels.items in
-    let labels1 = c.settle-depth.new.labels.items in
     let labels3 = c.fill-in-nodes.new.labels.items in
-    let grown = c.in_ok-expand.ensures.grows.more in
-    let turned = Grows-trans _ _ _ _ _ _ c.is_goal.ensures.grows c.in_ok-expand.ensures.grows in
-    let e3 = resized labels1 labels3 _ c.nodes.node l.0.depth c.settle-depth.result c.behind.result c.in_ok-fill-2.ensures.filled c.behind.ensures s.0 in
-    let within : length labels1 ≤ c.found-in-nodes.result = omega (arith, hop_len c.nodes.node l.0 labels labels1 b l.1 s.1, c.nodes.invariant.len, c.is_goal.ensures.same, grown, c.found-in-nodes.ensures) in
-    let long : length labels3 ≡ c.found-in-nodes.result = omega (arith, ap length e3, length-append labels1 (replicate (c.found-in-nodes.result - length labels1) (Some (reached_from c.nodes.node (l.0.depth + 1)))), length-replicate (c.found-in-nodes.result - length labels1) (Some (reached_from c.nodes.node (l.0.depth + 1))), within) in
-    let len3 : length labels3 ≡ g.G.NumberedGraph.found c.expand.new.self = long ∙ c.found-in-nodes.ensures in
+    let before = g.G.NumberedGraph.found c.nodes.graph in
+    let found = g.G.NumberedGraph.found c.expand.new.self in
+    let stands = g.G.NumberedGraph.stands c.nodes.graph in
+    let stands3 = g.G.NumberedGraph.stands c.expand.new.self in
     let row = c.in_ok-expand.ensures.listed in
-    let fresh : (k : ℕ) → length labels ≤ k → k < g.G.NumberedGraph.found c.expand.new.self → (d : g.row.C.Denot) × Contains row.0 (k, d) = λ k le lt. row.3 k (omega (arith, le, c.nodes.invariant.len, c.is_goal.ensures.same)) lt in
+    let grown : Grows before found stands stands3 = Grows-trans _ _ _ _ _ _ c.is_goal.ensures.grows c.in_ok-expand.ensures.grows in
     record {
-      len = len3;
-      few = omega (arith, long, c.in_ok-fill-2.ensures.few);
-      breadth = breadth_turn c.nodes.node l.0 labels labels1 labels3 b l.1 s.1 _ e3;
-      tree = hop_tree c.nodes.node l.0 labels labels1 labels3 b l.1 s.1 _ e3 row.0 _ len3 fresh c.nodes.invariant.tree;
-      explored = λ h x. c.in_ok-expand.ensures.graph h (c.is_goal.ensures.graph h (c.nodes.invariant.explored h x)).0;
-      grown = Grows-trans _ _ _ _ _ _ c.nodes.invariant.grown turned;
+      len = t.len;
+      few = t.few;
+      breadth = t.breadth;
+      tree = t.tree;
+      explored = λ h x. c.in_ok-expand.ensures.graph h (c.is_goal.ensures.graph h (v.explored h x)).0;
+      grown = Grows-trans _ _ _ _ _ _ v.grown grown;
       search = λ h x p.
-          let x1 = c.is_goal.ensures.graph h (c.nodes.invariant.explored h x) in
-          hop_turned c.nodes.node l.0 labels labels1 labels3 b l.1 s.1 _ e3 row.0 _ len3 fresh (g.G.NumberedGraph.step h) (below (g.G.NumberedGraph.found c.args.graph.now)) p _ (c.nodes.invariant.search h x p) c.nodes.invariant.tree
-          _ _ turned c.nodes.invariant.len g.C.Number.value (λ y k. row.4 h x1.0 y (c.is_goal.ensures.grows.stays c.nodes.node y k)) row.2;
+          let x1 = c.is_goal.ensures.graph h (v.explored h x) in
+          t.search (g.G.NumberedGraph.step h) (below (g.G.NumberedGraph.found c.args.graph.now)) p before stands stands3 grown v.len (v.search h x p) g.C.Number.value (λ y k. row.4 h x1.0 y (c.is_goal.ensures.grows.stays c.nodes.node y k)) row.2;
       failed = λ h x.
-          let x1 = c.is_goal.ensures.graph h (c.nodes.invariant.explored h x) in
-          failed_turned (g.G.NumberedGraph.passes h) _ _ _ _ turned labels labels3 (omega (arith, c.nodes.invariant.len)) c.nodes.node (omega (arith, inside, c.nodes.invariant.len))
-          (hop_from c.nodes.node l.0 labels labels1 labels3 b l.1 s.1 _ e3 row.0 _ len3 fresh) (λ y k. sym (x1.1 y k) ∙ c.if-is_goal.false) (c.nodes.invariant.failed h x);
+          let x1 = c.is_goal.ensures.graph h (v.explored h x) in
+          failed_turned (g.G.NumberedGraph.passes h) before found stands stands3 grown labels labels3 (omega (arith, v.len)) c.nodes.node (subst (λ (n : ℕ). c.nodes.node < n) v.len inside) t.from (λ y k. sym (x1.1 y k) ∙ c.if-is_goal.false) (v.failed h x);
     }
+  where
+    t : IsHopTurn g.G.NumberedGraph.Node c.nodes.node c.in_ok-expand.ensures.listed.0 c.nodes.labels.items c.fill-in-nodes.new.labels.items (g.G.NumberedGraph.found c.expand.new.self)
+    t =
+        let v = c.nodes.invariant in
+        let row = c.in_ok-expand.ensures.listed in
+        hop_turn c.nodes.node c.nodes.labels.items c.settle-depth.new.labels.items c.settle-depth.result c.found-in-nodes.result (g.G.NumberedGraph.found c.is_goal.new.self) (g.G.NumberedGraph.found c.expand.new.self)
+        v.breadth (omega (arith, c.nodes-test.true, c.len.ensures)) (v.len ∙ sym c.is_goal.ensures.same) c.settle-depth.ensures c.found-in-nodes.ensures c.in_ok-expand.ensures.grows.more
+        g.G.NumberedGraph.Node c.fill-in-nodes.new.labels.items c.behind.result c.behind.ensures c.in_ok-fill-2.ensures.filled c.in_ok-fill-2.ensures.few v.tree row.0 row.3
+
+pub returns-clause-graph : goal.returns-clause-graph
+returns-clause-graph g c = λ h x. c.nodes.invariant.explored h x
+
+pub returns-clause-inside : goal.returns-clause-inside
+returns-clause-inside g c = tt
 
 pub returns-clause-best : goal.returns-clause-best
 returns-clause-best g c = λ h x p.
@@ -101,3 +186,6 @@ returns-clause-best g c = λ h x p.
     let none = no_goal by_depth (g.G.NumberedGraph.step h) (below (g.G.NumberedGraph.found c.args.graph.now)) (hop_positive (g.G.NumberedGraph.step h) p) _ _ (v.search h x p) (g.G.NumberedGraph.passes h) (v.failed h x)
     (breadth_done c.nodes.node _ v.breadth (omega (arith, c.nodes-test.false, c.len.ensures))) in
     λ s is. none s ((root s).1 is)
+
+pub returns-clause-errors : goal.returns-clause-errors
+returns-clause-errors g c = tt

@@ -1,9 +1,12 @@
 use Rattle.std.proofs.Common.{arith, ◌∙◌, ap, sym, subst, ℕ, ◌<◌, [], ◌∷◌, ◌++◌, length, inl, inr}
+use Rattle.std.proofs.lemmas.Result.{IfOk-from_err}
 use Rattle.std.specs.Prelude.{reverse, Contains}
 use Rattle.std.proofs.lemmas.List.{append-nil, append_assoc}
 use Rattle.pf_core.specs.Labels.{HasLabel}
 use Rattle.pf_core.proofs.ListLemmas.{Contains-append_one, Contains-reverse}
 use Rattle.pf_core.proofs.LabelLemmas.{HasLabel-inside, parent_labelled}
+use Rattle.pf_core.proofs.Outcomes.{no_memory}
+use Rattle.pf_core.proofs.ReadLemmas.{shallower}
 use Rattle.pf_core.proofs.labels.path_to.Goals as goal
 
 pub climb-init : goal.climb-init
@@ -42,3 +45,30 @@ returns-clause-chain g c =
 
 pub returns-clause-inside : goal.returns-clause-inside
 returns-clause-inside g c = λ k h. c.climb.invariant.inside k (Contains-reverse c.climb.numbers.items k (subst (λ xs. Contains xs k) c.reverse.ensures.items h))
+
+pub returns-in_err-push-clause-chain : goal.returns-in_err-push-clause-chain
+returns-in_err-push-clause-chain g c = IfOk-from_err _ _ c.from_residual.ensures.0
+
+pub returns-in_err-push-clause-inside : goal.returns-in_err-push-clause-inside
+returns-in_err-push-clause-inside g c = IfOk-from_err _ _ c.from_residual.ensures.0
+
+pub returns-in_err-push-clause-refused : goal.returns-in_err-push-clause-refused
+returns-in_err-push-clause-refused g c = no_memory c.from_residual.result c.from_residual.ensures.1
+
+pub returns-in_err-push-2-clause-chain : goal.returns-in_err-push-2-clause-chain
+returns-in_err-push-2-clause-chain g c = IfOk-from_err _ _ c.from_residual-in_err-push-2.ensures.0
+
+pub returns-in_err-push-2-clause-inside : goal.returns-in_err-push-2-clause-inside
+returns-in_err-push-2-clause-inside g c = IfOk-from_err _ _ c.from_residual-in_err-push-2.ensures.0
+
+pub returns-in_err-push-2-clause-refused : goal.returns-in_err-push-2-clause-refused
+returns-in_err-push-2-clause-refused g c = no_memory c.from_residual-in_err-push-2.result c.from_residual-in_err-push-2.ensures.1
+
+pub parent_of-requires : goal.parent_of-requires
+parent_of-requires g c = let m = c.climb.invariant.labelled in HasLabel-inside c.args.labels.now c.climb.at m.0 m.1
+
+pub climb-smaller : goal.climb-smaller
+climb-smaller g c = let p = c.in-Some.ensures in shallower c.args.labels.now c.requires.tree c.climb.at c.in-Some.parent p.0 p.1 p.2 p.3
+
+pub returns-clause-refused : goal.returns-clause-refused
+returns-clause-refused g c = tt

@@ -1,7 +1,8 @@
-use Rattle.std.proofs.Common.{arith, ℕ, ◌<◌, subst, sym}
+use Rattle.std.proofs.Common.{arith, ℕ, ◌<◌, subst, sym, List, ◌≤◌, length, take_all}
+use Rattle.pf_core.specs.Labels.{by_cost, Relaxed}
 use Rattle.pf_core.proofs.ListLemmas.{Contains-take, Contains-take_all, Contains-take_here, Contains-here}
 use Rattle.pf_core.proofs.LabelLemmas.{Relaxed-more, reached_more}
-use Rattle.pf_core.specs.Labels.{by_cost}
+use Rattle.pf_core.proofs.ReadLemmas.{nearer, room_all, none_contained, Relaxed-none}
 use Rattle.pf_core.proofs.queue.relax.Goals as goal
 
 pub take_step-requires-clause-inside : goal.take_step-requires-clause-inside
@@ -24,3 +25,36 @@ returns-clause-reached g c = λ j p h f. c.steps.invariant.reached j p (Contains
 
 pub take_step-requires-clause-room : goal.take_step-requires-clause-room
 take_step-requires-clause-room g c = omega (arith, c.steps.invariant.room, c.steps-test.true)
+
+pub steps-init : goal.steps-init
+steps-init g c = record {
+  room = room_all _ (length c.args.row.now) _ c.requires.room;
+  ordered = c.requires.ordered;
+  queue = c.requires.queue;
+  relaxed = Relaxed-none (by_cost g.C.Number.value) g.C.Number.value c.args.parent c.args.label.now c.args.labels.now.items;
+  reached = λ j p h. absurd (none_contained (j, p) h);
+}
+
+pub take_step-requires-clause-few : goal.take_step-requires-clause-few
+take_step-requires-clause-few g c = subst (λ (n : ℕ). n ≤ 4294967296) (sym c.steps.invariant.relaxed.len) c.requires.few
+
+pub take_step-requires-clause-parent : goal.take_step-requires-clause-parent
+take_step-requires-clause-parent g c = subst (λ (n : ℕ). c.args.parent < n) (sym c.steps.invariant.relaxed.len) c.requires.parent
+
+pub take_step-requires-clause-ordered : goal.take_step-requires-clause-ordered
+take_step-requires-clause-ordered g c = c.steps.invariant.ordered
+
+pub take_step-requires-clause-queue : goal.take_step-requires-clause-queue
+take_step-requires-clause-queue g c = c.steps.invariant.queue
+
+pub steps-smaller : goal.steps-smaller
+steps-smaller g c = nearer c.steps.next-index (length c.args.row.now) c.steps-test.true
+
+pub returns-clause-ordered : goal.returns-clause-ordered
+returns-clause-ordered g c = c.steps.invariant.ordered
+
+pub returns-clause-queue : goal.returns-clause-queue
+returns-clause-queue g c = c.steps.invariant.queue
+
+pub returns-clause-relaxed : goal.returns-clause-relaxed
+returns-clause-relaxed g c = subst (λ (row : List (ℕ × g.row.C.Denot)). Relaxed (by_cost g.C.Number.value) g.C.Number.value c.args.parent c.args.label.now row c.args.labels.now.items c.steps.labels.items) (take_all c.steps.next-index c.args.row.now c.steps-test.false) c.steps.invariant.relaxed

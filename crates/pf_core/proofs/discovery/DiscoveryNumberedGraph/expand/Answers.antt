@@ -1,10 +1,12 @@
-use Rattle.std.proofs.Common.{rules, length, ◌≡◌, sym, subst, Some, Bor, slice_get, ℕ, inl, inr, map}
+use Rattle.std.proofs.Common.{rules, length, ◌≡◌, sym, subst, Some, Bor, slice_get, ℕ, inl, inr, map, List, ◌<◌, ap}
+use Rattle.std.proofs.lemmas.Result.{on_err_weaker}
 use Rattle.pf_base.specs.Edges.{InReach}
 use Rattle.pf_core.specs.NodeLaws.{StandsFor-one}
 use Rattle.pf_core.proofs.ListLemmas.{at_place, on_ok, ok_or_err}
 use Rattle.pf_base.proofs.Asking.{Answers-takes, Answers-gives, Answers-on, Gives-ends, Gives-drains}
 use Rattle.pf_core.proofs.NodeLemmas.{fresh_number, Grows-from_take, inside_of, Lists-from, reached_added}
 use Rattle.pf_core.proofs.OrderLemmas.{Placed-same, InOrder-same, ends_at}
+use Rattle.pf_core.proofs.Outcomes.{refused_still}
 use Rattle.pf_core.proofs.discovery.DiscoveryNumberedGraph.expand.Goals as goal
 
 pub successors-items-requires : goal.successors-items-requires
@@ -96,3 +98,18 @@ returns-clause-ordered g c = on_ok c.number_all.result c.number_all.ensures.numb
     let reach = x.reached c.args.node here at in
     let gives = Answers-gives _ _ _ x.answers _ reach c.successors-items.result c.successors-items.new.self c.successors-items.ensures in
     InOrder-same eq laws keys' (length keys) (length keys') _ _ (ends_at eq laws g.C.Number.value h x.alike keys c.args.node here items at reach (Gives-drains _ _ _ _ _ _ gives n.0 n.1 n.2 n.3) y s) n.6)
+
+pub bounds-as_slice-node : goal.bounds-as_slice-node
+bounds-as_slice-node g c = subst (λ (ks : List g.row.N.Denot). c.args.node < length ks) (sym c.as_slice.ensures.keys) c.requires.inside
+
+pub number_all-requires-clause-empty : goal.number_all-requires-clause-empty
+number_all-requires-clause-empty g c = c.reset.ensures
+
+pub number_all-requires-clause-distinct : goal.number_all-requires-clause-distinct
+number_all-requires-clause-distinct g c = c.as_slice.ensures.unique
+
+pub returns-clause-back : goal.returns-clause-back
+returns-clause-back g c = c.number_all.ensures.longer
+
+pub returns-clause-refused : goal.returns-clause-refused
+returns-clause-refused g c = refused_still _ _ c.number_all.result c.number_all.ensures.refused (on_err_weaker c.number_all.result (λ e. ap length e) c.number_all.ensures.stays)
