@@ -15,4 +15,6 @@ overflow_sub-result g c =
     omega (arith, c.vertices_len-before.ensures.count, c.vertices_len.ensures.count, ap vertex_count c.set_borders.ensures, fewer_own now (λ x y. if is_border now x y then true else has now x y) c.vertices_len-before.ensures.grid (λ x y h. kept (is_border now x y) (has now x y) h))
 
 pub returns-clause-count : goal.returns-clause-count
-returns-clause-count g c = omega (arith, overflow_sub-result g c, c.vertices_len-before.ensures.count, c.vertices_len.ensures.count)
+returns-clause-count g c =
+    let now = c.args.self.now in
+    omega (arith, c.vertices_len-before.ensures.count, c.vertices_len.ensures.count, ap vertex_count c.set_borders.ensures, fewer_own now (λ x y. if is_border now x y then true else has now x y) c.vertices_len-before.ensures.grid (λ x y h. kept (is_border now x y) (has now x y) h))
