@@ -1,2 +1,3 @@
 mod EdgeLemmas
+mod EndLemmas
 mod PlaceLemmas

@@ -1,5 +1,7 @@
 -- The places of a table at a number, from one place on.
-use Rattle.std.proofs.Common.{◌≡◌, ℕ, ◌+◌, ◌<◌, refl, sym, subst, arith, Bool, true, false, true≢false, List, [], ◌∷◌, Option, Some, None, length, drop, zero, suc}
+use Rattle.std.proofs.Common.{◌≡◌, ℕ, ◌+◌, ◌-◌, ◌<◌, ◌≤◌, refl, sym, ap, ◌∙◌, subst, arith, Bool, true, false, true≢false, List, [], ◌∷◌, Option, Some, None, length, drop, zero, suc}
+use Rattle.std.proofs.lemmas.Bool.{ltb-true}
+use Rattle.std.proofs.lemmas.List.{drop_all}
 use Rattle.std.specs.Prelude.{if◌then◌else◌, nat_lt}
 use Rattle.std.specs.List.{cons_option, slice_get}
 use Rattle.std.specs.Option.{is_some}
@@ -28,6 +30,30 @@ at_place size number places k o h e = by (nat_lt number size) h
     by true h = e
     by false h = absurd (omega (arith, h))
 
+-- a number that has a place is a node
+pub node_with_place : {A : Type 0} (size number : ℕ) (places : ℕ → List A) (k end : ℕ) → k < end → end ≡ length (if nat_lt number size then places number else []) → number < size
+node_with_place size number places k end h all = by (nat_lt number size) refl all
+  where
+    by : (b : Bool) → nat_lt number size ≡ b → end ≡ length (if b then places number else []) → number < size
+    by true e all = ltb-true number size e
+    by false e all = absurd (omega (arith, h, all))
+
+pub place_of_node : {A : Type 0} (size number : ℕ) (places : ℕ → List A) (k end : ℕ) → k < end → end ≡ length (if nat_lt number size then places number else []) → k < length (places number)
+place_of_node size number places k end h all = by (nat_lt number size) all
+  where
+    by : (b : Bool) → end ≡ length (if b then places number else []) → k < length (places number)
+    by true all = omega (arith, h, all)
+    by false all = absurd (omega (arith, h, all))
+
+-- nothing stands past the last place
+pub none_left : {A : Type 0} {now : List A} (ps : List (Option A)) (k end : ℕ) → end ≤ k → end ≡ length ps → present (drop k ps) ≡ now → (now ≡ []) × (present (drop k ps) ≡ [])
+none_left ps k end h all left =
+    let past = ap present (drop_all k ps (omega (arith, h, all))) in
+    (sym left ∙ past, past)
+
+pub shorter : (k end : ℕ) → k < end → end - (k + 1) < end - k
+shorter k end h = omega (arith, h)
+
 module _ {A : Type 0} where
   pub yields : (o : Option A) (s t : List A) → is_some o ≡ true → s ≡ cons_option o t → YieldsFirst (λ (l : List A). l) s o t
   yields None s t e h = absurd (true≢false (sym e))
@@ -36,6 +62,10 @@ module _ {A : Type 0} where
   pub passes : (o : Option A) (s t : List A) → is_some o ≡ false → s ≡ cons_option o t → t ≡ s
   passes None s t e h = sym h
   passes (Some x) s t e h = absurd (true≢false e)
+
+  pub stands_still : {can : List A → Type 0} {s t : List A} (o : Option A) → o ≡ None → MakesProgress can (item_count {A = A} (λ (l : List A). l)) s o t
+  stands_still None e = record { on = λ f. tt; keeps = tt; rests = λ f. tt }
+  stands_still (Some x) e = cc
 
   pub shortens : {can : List A → Type 0} (o : Option A) (s t : List A) → is_some o ≡ true → can t → s ≡ cons_option o t → MakesProgress can (item_count {A = A} (λ (l : List A). l)) s o t
   shortens None s t e c h = absurd (true≢false (sym e))

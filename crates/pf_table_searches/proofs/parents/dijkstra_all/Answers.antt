@@ -1,4 +1,4 @@
-use Rattle.std.proofs.Common.{rules, ◌∷◌, []}
+use Rattle.std.proofs.Common.{rules, ap, ◌∷◌, []}
 use Rattle.std.proofs.lemmas.Iterator.Consumers.{YieldsList-from_first}
 use Rattle.pf_base.proofs.Sources.{gives_chain}
 use Rattle.pf_tables.specs.Graphs.{graph_of}
@@ -11,8 +11,8 @@ dijkstra_all-requires-clause-graph g c =
     let size = g.G.Graph.size c.args.graph.now in
     let places = g.G.Graph.places c.args.graph.now in (
       graph_of g.C.Number.value size places,
-      table_graph g.C.Number.value size places (λ x w. search rules)
-          (λ x r t w k. (search rules, gives_chain (λ it b. (search rules, search rules, YieldsList-from_first (λ e. e) (λ es. es) _ (search rules))))),
+      table_graph g.C.Number.value size places (λ x w. tt)
+          (λ x r t w k. (ap (λ (q : _). (q, record {})) k.met.1, gives_chain (λ it b. (tt, tt, YieldsList-from_first (λ e. e) (λ es. es) _ (search rules))))),
       no_negative_cost g.C.Number.value size places c.known.ensures (c.args.from ∷ []),
     )
 

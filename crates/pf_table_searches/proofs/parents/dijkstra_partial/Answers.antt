@@ -1,4 +1,4 @@
-use Rattle.std.proofs.Common.{rules, ◌∷◌, []}
+use Rattle.std.proofs.Common.{rules, ap, ◌∷◌, []}
 use Rattle.std.proofs.lemmas.Iterator.Consumers.{YieldsList-from_first}
 use Rattle.pf_base.proofs.Callers.{nat_test}
 use Rattle.pf_base.proofs.Sources.{gives_chain}
@@ -14,9 +14,9 @@ dijkstra_partial-requires-clause-graph g c =
       graph_of g.C.Number.value size places,
       g.T.Goals.passes c.args.goals,
       record {
-        edges_answered = table_graph g.C.Number.value size places (λ x w. search rules)
-            (λ x r t w k. (search rules, gives_chain (λ it b. (search rules, search rules, YieldsList-from_first (λ e. e) (λ es. es) _ (search rules)))));
-        test_answered = nat_test (g.T.Goals.passes c.args.goals) (λ x w. search rules) (λ x r t w k. search rules);
+        edges_answered = table_graph g.C.Number.value size places (λ x w. tt)
+            (λ x r t w k. (ap (λ (q : _). (q, record {})) k.met.1, gives_chain (λ it b. (tt, tt, YieldsList-from_first (λ e. e) (λ es. es) _ (search rules)))));
+        test_answered = nat_test (g.T.Goals.passes c.args.goals) (λ x w. tt) (λ x r t w k. (ap (λ (q : _). record { 0 = q }) k.met.1, search rules));
         costs = no_negative_cost g.C.Number.value size places c.known.ensures (c.args.from ∷ []);
       },
     )
