@@ -1,5 +1,5 @@
 -- What a call hands on of a refusal.
-use Rattle.std.proofs.Common.{◌≡◌, ◌∙◌, sym, subst, inl}
+use Rattle.std.proofs.Common.{◌≡◌, ◌∙◌, refl, sym, subst, inl}
 use Rattle.std.specs.Prelude.{Result, Ok, Err, IfErr, OnErr, OnOk, IsErrAnd, ◌⊎◌}
 use Rattle.pf_base.specs.declared.error.PathError.{PathError}
 use Rattle.pf_base.specs.declared.error.PathError.TheVariants.{OutOfMemory, CostOverflow}
@@ -32,23 +32,19 @@ module _ {T E : Type 0} where
 
 -- a refusal of memory
 pub no_memory : {T : Type 0} (r : Result T PathError) → IsErrAnd r (λ e. e ≡ OutOfMemory) → IfErr r (λ e. e ≡ OutOfMemory)
-no_memory (Ok x) h = absurd h
-no_memory (Err x) h = h
+no_memory r h = refused_by _ r h
 
 pub no_memory_or : {T : Type 0} (P : PathError → Type 0) (r : Result T PathError) → IsErrAnd r (λ e. e ≡ OutOfMemory) → IfErr r (λ e. (e ≡ OutOfMemory) ⊎ P e)
-no_memory_or P (Ok x) h = absurd h
-no_memory_or P (Err x) h = inl h
+no_memory_or P r h = refused_as (λ e. (e ≡ OutOfMemory) ⊎ P e) r OutOfMemory h (inl refl)
 
 -- a refusal for memory is not one for a cost
-pub memory_no_overflow : {T : Type 0} (r : Result T PathError) → IsErrAnd r (λ e. e ≡ OutOfMemory) → r ≡ Err CostOverflow → ⊥
-memory_no_overflow r h q =
-    let both : CostOverflow ≡ OutOfMemory = rw q at h in
-    cc
-
 pub no_overflow : {T : Type 0} (r : Result T PathError) (e : PathError) → IsErrAnd r (λ x. x ≡ e) → e ≡ OutOfMemory → r ≡ Err CostOverflow → ⊥
 no_overflow r e h p q =
     let both : CostOverflow ≡ OutOfMemory = (rw q at h) ∙ p in
     cc
+
+pub memory_no_overflow : {T : Type 0} (r : Result T PathError) → IsErrAnd r (λ e. e ≡ OutOfMemory) → r ≡ Err CostOverflow → ⊥
+memory_no_overflow r h q = no_overflow r OutOfMemory h refl q
 
 -- what stays where a call is refused, beside what it is refused for
 pub refused_still : {T E : Type 0} (P : Type 0) (Q : E → Type 0) (r : Result T E) → IfErr r Q → OnErr r P → IfErr r (λ e. Q e × P)
