@@ -1,18 +1,13 @@
 -- What holds of a result or an option that is known.
 use Rattle.std.proofs.Common.{◌≡◌, Ok, Err, Result, subst, Option, Some, None}
-use Rattle.std.specs.Prelude.{IfErr, OnErr, MatchOption}
+use Rattle.std.specs.Prelude.{IfErr, MatchOption}
 use Rattle.std.specs.Result.{IsErrAnd}
-use Rattle.pf_routes.specs.declared.routes.error.RouteError.{RouteError}
+use Rattle.pf_route_io.specs.declared.error.RouteError.{RouteError}
 
 -- what holds of the error
 pub refused_by : {X : Type 0} (Q P : RouteError → Type 0) (r : Result X RouteError) → ((e : RouteError) → Q e → P e) → IsErrAnd r Q → IfErr r P
 refused_by Q P (Ok x) h k = tt
 refused_by Q P (Err e) h k = h e k
-
--- what holds where there is an error
-pub on_error : {X E : Type 0} (P : Type 0) (r : Result X E) → P → OnErr r P
-on_error P (Ok x) p = tt
-on_error P (Err e) p = p
 
 pub at_some : {X : Type 0} (P : Type 0) (Q : X → Type 0) (o : Option X) (x : X) → o ≡ Some x → MatchOption o P Q → Q x
 at_some P Q o x e h = subst (λ o. MatchOption o P Q) e h

@@ -9,6 +9,9 @@ pub use Rattle.pf_flow.specs.Flows
 pub use Rattle.pf_flow.specs.Networks
 pub use Rattle.pf_flow.specs.Listings
 pub use Rattle.pf_flow.specs.NamedNetworks
+pub use Rattle.pf_route_io.specs.Noted
+pub use Rattle.pf_route_io.specs.ReadSome
+pub use Rattle.pf_route_io.specs.Written
 pub mod EdgeText
 pub mod Roads
 pub mod Words
@@ -16,7 +19,5 @@ pub mod EdgeLine
 pub mod SpanningText
 pub mod FlowText
 pub mod AnswerText
-pub mod Noted
-pub mod Written
 pub mod Run
 pub mod Internal

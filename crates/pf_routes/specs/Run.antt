@@ -3,14 +3,11 @@ use Rattle.std.specs.Prelude.{◌≡◌, ℕ, Bool, IsTrue, List, Option, Ok, Er
 use Rattle.std.specs.Io.KnownBytes.{Keeps, Appends, Consumes, IsAtEnd}
 use Rattle.pf_routes.specs.EdgeText.{Edge, edge_text}
 use Rattle.pf_routes.specs.AnswerText.{IsAnswer, Overflows}
-use Rattle.pf_routes.specs.Written.{AppendsBeginning}
+use Rattle.pf_route_io.specs.ReadSome.{HasReadSome}
+use Rattle.pf_route_io.specs.Written.{AppendsBeginning}
 use Rattle.pf_routes.specs.declared.routes.commands.Command.{Command}
-use Rattle.pf_routes.specs.declared.routes.error.RouteError.{RouteError}
-use Rattle.pf_routes.specs.declared.routes.error.RouteError.TheVariants.{BadEdge, CostOverflow, OutOfMemory, ReadFailed, WriteFailed}
-
--- of the input some text was read, or none, and no more than that is gone
-abbrev pub HasReadSome : Option (List ℕ) → Option (List ℕ) → Type 0
-HasReadSome old new = (text : List ℕ) × Consumes old new text
+use Rattle.pf_route_io.specs.declared.error.RouteError.{RouteError}
+use Rattle.pf_route_io.specs.declared.error.RouteError.TheVariants.{BadEdge, CostOverflow, OutOfMemory, ReadFailed, WriteFailed}
 
 -- the input was read to its end, and was this text
 pub record IsWhole (old new : Option (List ℕ)) (text : List ℕ) : Type 0 where

@@ -5,8 +5,8 @@ use Rattle.pf_routes.specs.Internal.Links.{edges_between, IsNumberOf}
 use Rattle.pf_routes.specs.declared.routes.links.Link.{Link}
 use Rattle.pf_routes.specs.declared.routes.links.Ends.{Ends}
 use Rattle.pf_routes.specs.EdgeText.{Edge, Line, Blank, Holds, edge_text}
-use Rattle.pf_routes.specs.declared.routes.error.RouteError.{RouteError}
-use Rattle.pf_routes.specs.declared.routes.error.RouteError.TheVariants.{BadEdge, CostOverflow, OutOfMemory, ReadFailed, WriteFailed}
+use Rattle.pf_route_io.specs.declared.error.RouteError.{RouteError}
+use Rattle.pf_route_io.specs.declared.error.RouteError.TheVariants.{BadEdge, CostOverflow, OutOfMemory, ReadFailed, WriteFailed}
 use Rattle.pf_routes.specs.declared.routes.edge_text.NamedEdge.{NamedEdge}
 use Rattle.pf_routes.specs.declared.routes.edge_text.ReadLine.{ReadLine}
 

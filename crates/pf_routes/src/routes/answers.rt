@@ -7,13 +7,13 @@ ghost use Rattle.pf_routes.specs.Internal.Parsed.{HoldsOfEdges, RefusesAnswer, R
 ghost use Rattle.pf_routes.specs.Roads.{HasCostOverflow};
 
 use crate::routes::commands::Command;
-use crate::routes::error::RouteError;
 use crate::routes::flow::flow_lines;
 use crate::routes::network::Network;
 use crate::routes::path_text::write_path;
 use crate::routes::ranked::{all_lines, ranked_lines};
 use crate::routes::search::{cheapest_path, fewest_edges_path};
 use crate::routes::spanning::spanning_lines;
+use pf_route_io::error::RouteError;
 use std::alloc::Allocator;
 use std::hash::BuildHasher;
 

@@ -7,9 +7,9 @@ ghost use Rattle.pf_routes.specs.Internal.Links.{name_at, edges_between, AllBelo
 ghost use Rattle.pf_routes.specs.Internal.Parsed.{RefusesText, edge_read, edges_taken, AreEndsOf};
 
 use crate::routes::edge_text::{NamedEdge, ReadLine, read_line};
-use crate::routes::error::RouteError;
 use crate::routes::name::Name;
 use indexmap::IndexSet;
+use pf_route_io::error::RouteError;
 use std::alloc::{AllocError, AllocFailed, Allocator};
 use std::hash::BuildHasher;
 

@@ -4,11 +4,11 @@ ghost use Rattle.std.specs.Prelude.{IfOk, IfErr, OnOk};
 ghost use Rattle.pf_routes.specs.Internal.Links.{KeepsNames};
 ghost use Rattle.pf_routes.specs.Internal.Parsed.{HoldsOfEdges, RefusesText};
 
-use crate::routes::error::RouteError;
 use crate::routes::graph::Graph;
 use crate::routes::links::{Link, Names, number, read_links};
 use crate::routes::name_table::NameTable;
 use indexmap::IndexSet;
+use pf_route_io::error::RouteError;
 use std::alloc::Allocator;
 use std::hash::BuildHasher;
 

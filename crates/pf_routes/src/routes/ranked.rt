@@ -6,10 +6,10 @@ ghost use Rattle.pf_routes.specs.EdgeText.{Edge};
 ghost use Rattle.pf_routes.specs.Internal.Parsed.{HoldsOfEdges, RefusesAnswer};
 ghost use Rattle.pf_routes.specs.Roads.{HasPathOverflow, HasRankedOverflow};
 
-use crate::routes::error::RouteError;
 use crate::routes::network::Network;
 use crate::routes::path_text::write_paths;
 use crate::routes::search::cheapest_paths;
+use pf_route_io::error::RouteError;
 use std::alloc::Allocator;
 use std::hash::BuildHasher;
 

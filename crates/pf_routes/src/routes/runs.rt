@@ -1,17 +1,17 @@
 //! From bytes to bytes.
 
 ghost use Rattle.std.specs.Prelude.{◌≡◌, ◌≢◌, Err, OnOk, IfErr};
-ghost use Rattle.pf_routes.specs.Noted.{device, has_failed};
+ghost use Rattle.pf_route_io.specs.Noted.{device, has_failed};
 ghost use Rattle.pf_routes.specs.Run.{Answered, Refused};
 
 use crate::routes::answers::answer_to;
 use crate::routes::commands::Command;
-use crate::routes::error::RouteError;
-use crate::routes::noted::Noted;
-use crate::routes::reading::read_whole;
-use crate::routes::sink::Sink;
-use crate::routes::source::Source;
-use crate::routes::writing::write_whole;
+use pf_route_io::error::RouteError;
+use pf_route_io::noted::Noted;
+use pf_route_io::reading::read_whole;
+use pf_route_io::sink::Sink;
+use pf_route_io::source::Source;
+use pf_route_io::writing::write_whole;
 use std::alloc::Allocator;
 use std::hash::{BuildHasher, BuildHasherDefault, FoldHasher};
 use std::io::{Read, Write};

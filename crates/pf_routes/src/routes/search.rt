@@ -5,9 +5,9 @@ ghost use Rattle.pf_routes.specs.Internal.Graph.{row_of, node_count};
 ghost use Rattle.pf_routes.specs.Internal.Numbers.{AreCheapestNumberedPaths, HasNoNumberedWalk, HasNumberedOverflow, HasNumberedPathOverflow, IsCheapestNumberedPath, IsFewestEdgesNumberedPath};
 ghost use Rattle.pf_yen.specs.KCheapest.{paths_in};
 
-use crate::routes::error::RouteError;
 use crate::routes::graph::Graph;
 use pf_base::PathError;
+use pf_route_io::error::RouteError;
 use pf_tables::{bfs, dijkstra};
 use pf_yen::directed::yen::yen;
 use std::alloc::Allocator;

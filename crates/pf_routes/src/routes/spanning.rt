@@ -7,11 +7,11 @@ ghost use Rattle.pf_routes.specs.Internal.Parsed.{HoldsOfEdges, RefusesText};
 ghost use Rattle.pf_routes.specs.SpanningText.{AreSpanningLines};
 ghost use Rattle.pf_routes.specs.Internal.NumberedLines.{AreInTable, numbered_line, weighed_link};
 
-use crate::routes::error::RouteError;
 use crate::routes::links::Link;
 use crate::routes::name_table::NameTable;
 use crate::routes::network::Linked;
 use pf_graph::undirected::kruskal::{KruskalIndices, kruskal_indices};
+use pf_route_io::error::RouteError;
 use std::alloc::{AllocError, Allocator};
 use std::hash::BuildHasher;
 

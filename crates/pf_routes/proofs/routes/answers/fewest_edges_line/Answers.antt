@@ -5,8 +5,8 @@ use Rattle.pf_routes.specs.Internal.Links.{name_at}
 use Rattle.pf_routes.specs.Internal.NameTable.{name_in, table_len}
 use Rattle.pf_routes.specs.AnswerText.{path_line}
 use Rattle.pf_routes.specs.Internal.Parsed.{RefusesText}
-use Rattle.pf_routes.specs.declared.routes.error.RouteError.{RouteError}
-use Rattle.pf_routes.specs.declared.routes.error.RouteError.TheVariants.{OutOfMemory}
+use Rattle.pf_route_io.specs.declared.error.RouteError.{RouteError}
+use Rattle.pf_route_io.specs.declared.error.RouteError.TheVariants.{OutOfMemory}
 use Rattle.pf_routes.proofs.Networks.{targets, has_no_walk, is_fewest, fewest-below, fewest-some, in_table, path_named}
 use Rattle.pf_routes.proofs.Outcomes.{refused_by, at_some, at_none}
 use Rattle.pf_routes.proofs.routes.answers.fewest_edges_line.Goals as goal

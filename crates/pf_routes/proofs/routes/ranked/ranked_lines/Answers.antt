@@ -5,8 +5,8 @@ use Rattle.pf_routes.specs.Internal.NumberedPaths.{ArePathsInTable, names_of}
 use Rattle.pf_routes.specs.Internal.Parsed.{RefusesAnswer, HoldsOfEdges}
 use Rattle.pf_yen.specs.KCheapest.{paths_in}
 use Rattle.pf_routes.specs.Roads.{HasRankedOverflow}
-use Rattle.pf_routes.specs.declared.routes.error.RouteError.{RouteError}
-use Rattle.pf_routes.specs.declared.routes.error.RouteError.TheVariants.{OutOfMemory, CostOverflow}
+use Rattle.pf_route_io.specs.declared.error.RouteError.{RouteError}
+use Rattle.pf_route_io.specs.declared.error.RouteError.TheVariants.{OutOfMemory, CostOverflow}
 use Rattle.pf_routes.proofs.NetworkPaths.{has_ranked_overflow, are_cheapest, paths_in_table}
 use Rattle.pf_routes.proofs.Outcomes.{refused_by}
 use Rattle.pf_routes.proofs.routes.ranked.ranked_lines.Goals as goal

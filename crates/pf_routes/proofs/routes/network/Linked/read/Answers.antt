@@ -2,7 +2,7 @@ use Rattle.std.proofs.Common.{Result, Ok, Err, List, ℕ, Bor, refl}
 use Rattle.std.specs.Prelude.{IfOk}
 use Rattle.pf_routes.specs.Internal.Network.{LinksEdges, LinksNames}
 use Rattle.pf_routes.specs.Internal.Parsed.{HoldsOfEdges}
-use Rattle.pf_routes.specs.declared.routes.error.RouteError.{RouteError}
+use Rattle.pf_route_io.specs.declared.error.RouteError.{RouteError}
 use Rattle.pf_routes.specs.declared.routes.network.Linked.{Linked}
 use Rattle.pf_routes.proofs.routes.network.Linked.read.Goals as goal
 

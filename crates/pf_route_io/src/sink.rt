@@ -3,14 +3,14 @@
 ghost use Rattle.std.specs.Prelude.{◌≡◌, ℕ, ◌||◌, Bool, List, Option};
 ghost use Rattle.std.specs.Io.{WritesAtMost};
 ghost use Rattle.std.specs.Io.KnownBytes.{WriteAppends};
-ghost use Rattle.pf_routes.specs.Noted.{took_nothing};
+ghost use Rattle.pf_route_io.specs.Noted.{took_nothing};
 
-use crate::routes::noted::Noted;
+use crate::noted::Noted;
 use std::io;
 use std::io::Write;
 
 /// Something that can be written to, and nothing else.
-pub(crate) trait Sink {
+pub trait Sink {
     /// The bytes that it holds, where they are known.
     ghost held: { Self → Option (List ℕ) };
 
@@ -25,7 +25,7 @@ pub(crate) trait Sink {
 }
 
 impl<W: Write> Sink for Noted<W> {
-    ghost use Rattle.pf_routes.specs.Noted.{device, has_failed};
+    ghost use Rattle.pf_route_io.specs.Noted.{device, has_failed};
 
     ghost held = { λ s. W.contents (device s) };
 

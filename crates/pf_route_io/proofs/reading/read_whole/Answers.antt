@@ -1,6 +1,6 @@
 use Rattle.std.proofs.KnownBytes.{Consumes-trans}
-use Rattle.pf_routes.proofs.Outcomes.{on_error}
-use Rattle.pf_routes.proofs.routes.reading.read_whole.Goals as goal
+use Rattle.pf_route_io.proofs.Outcomes.{on_error}
+use Rattle.pf_route_io.proofs.reading.read_whole.Goals as goal
 
 pub returns-in_err-extend_from_slice-in-Ok-clause-some : goal.returns-in_err-extend_from_slice-in-Ok-clause-some
 returns-in_err-extend_from_slice-in-Ok-clause-some g c = on_error _ c.from_residual.result (_, Consumes-trans _ _ _ _ _ c.loop-text.invariant.read c.in-Ok.ensures.bytes.0)

@@ -1,7 +1,7 @@
 -- What has been read is in `text`, each turn adds a byte or more, and no read has failed.
 use Rattle.std.proofs.Common.{◌≡◌, ◌-◌, ◌^◌, vec_len}
 use Rattle.std.specs.Io.KnownBytes.{Consumes}
-use Rattle.pf_routes.proofs.routes.reading.read_whole.Given as goal
+use Rattle.pf_route_io.proofs.reading.read_whole.Given as goal
 
 abbrev pub invariant-loop-text : goal.invariant-loop-text
 invariant-loop-text g l = record {

@@ -2,14 +2,14 @@
 
 ghost use Rattle.std.specs.Prelude.{◌≡◌, ◌≢◌, Err, OnOk, OnErr, IfErr, IsTrue};
 ghost use Rattle.std.specs.Io.KnownBytes.{Appends};
-ghost use Rattle.pf_routes.specs.Written.{AppendsBeginning};
+ghost use Rattle.pf_route_io.specs.Written.{AppendsBeginning};
 
-use crate::routes::error::RouteError;
-use crate::routes::sink::Sink;
+use crate::error::RouteError;
+use crate::sink::Sink;
 
 /// Writes all of the bytes, in as many calls as the sink takes. After a failed write nothing more is
 /// written.
-pub(crate) fn write_whole<O: Sink>(output: &mut O, bytes: &[u8]) -> Result<(), RouteError>
+pub fn write_whole<O: Sink>(output: &mut O, bytes: &[u8]) -> Result<(), RouteError>
     ensures ok { OnOk result (Appends (O.held output.old) (O.held output.new) bytes.now) }
     ensures beginning { OnErr result (AppendsBeginning (O.held output.old) (O.held output.new) bytes.now) }
     ensures errors { IfErr result (λ e. (e ≡ RouteError.WriteFailed) × IsTrue (O.failed output.new)) }

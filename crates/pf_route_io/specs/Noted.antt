@@ -1,6 +1,6 @@
 -- What a `Noted` shows.
 use Rattle.std.specs.Prelude.{ℕ, Bool, true, ◌&&◌, nat_lt, ◌==◌, List, length, Result, Ok, Err}
-use Rattle.pf_routes.specs.declared.routes.noted.Noted.{Noted}
+use Rattle.pf_route_io.specs.declared.noted.Noted.{Noted}
 
 -- the reader or writer that it was made with
 abbrev pub device : {D : Type 0} → Noted D → D

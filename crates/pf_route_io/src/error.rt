@@ -1,7 +1,7 @@
 //! Why a run gave no answer.
 
 ghost use Rattle.std.specs.Prelude.{◌≡◌};
-ghost use Rattle.pf_routes.specs.declared.routes.error.RouteError.TheVariants.{OutOfMemory};
+ghost use Rattle.pf_route_io.specs.declared.error.RouteError.TheVariants.{OutOfMemory};
 
 use std::alloc::{AllocError, AllocFailed};
 use thiserror::Error;

@@ -4,7 +4,7 @@ ghost use Rattle.std.specs.Prelude.{◌≡◌, ℕ, ◌||◌, Bool, List, Option
 ghost use Rattle.std.specs.Io.{ReadsAtMost};
 ghost use Rattle.std.specs.Io.KnownBytes.{ReadConsumes};
 
-use crate::routes::noted::Noted;
+use crate::noted::Noted;
 use std::io;
 use std::io::Read;
 
@@ -12,7 +12,7 @@ use std::io::Read;
 ///
 /// A `Noted` has calls that fail where no device does, as `read_exact` past the end. A run through
 /// this trait makes none of them.
-pub(crate) trait Source {
+pub trait Source {
     /// The bytes that it has left, where they are known.
     ghost left: { Self → Option (List ℕ) };
 
@@ -27,7 +27,7 @@ pub(crate) trait Source {
 }
 
 impl<R: Read> Source for Noted<R> {
-    ghost use Rattle.pf_routes.specs.Noted.{device, has_failed};
+    ghost use Rattle.pf_route_io.specs.Noted.{device, has_failed};
 
     ghost left = { λ s. R.remaining (device s) };
 

@@ -3,7 +3,7 @@ use Rattle.std.specs.Io.KnownBytes.{Appends}
 use Rattle.std.proofs.KnownBytes.{Appends-trans}
 use Rattle.std.proofs.Math.Dec.{eqb-suc-zero}
 use Rattle.std.proofs.lemmas.List.{take_rest}
-use Rattle.pf_routes.proofs.routes.writing.write_whole.Goals as goal
+use Rattle.pf_route_io.proofs.writing.write_whole.Goals as goal
 
 -- what stood before `at`, and then n bytes of the rest
 written_more : (a b c : Option (List ℕ)) (bytes : List ℕ) (at n : ℕ) → Appends a b (take at bytes)

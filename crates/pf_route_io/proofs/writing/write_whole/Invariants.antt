@@ -1,7 +1,7 @@
 -- The bytes before `at` are written, and no write has failed.
 use Rattle.std.proofs.Common.{◌≡◌, length, ◌-◌, ◌≤◌, take}
 use Rattle.std.specs.Io.KnownBytes.{Appends}
-use Rattle.pf_routes.proofs.routes.writing.write_whole.Given as goal
+use Rattle.pf_route_io.proofs.writing.write_whole.Given as goal
 
 abbrev pub invariant-loop-at : goal.invariant-loop-at
 invariant-loop-at g l = record {

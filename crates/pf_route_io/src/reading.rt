@@ -2,16 +2,16 @@
 
 ghost use Rattle.std.specs.Prelude.{◌≡◌, ◌≢◌, ◌⊎◌, Err, IfOk, IfErr, OnOk, OnErr, IsTrue};
 ghost use Rattle.std.specs.Io.KnownBytes.{Consumes, IsAtEnd};
-ghost use Rattle.pf_routes.specs.Run.{HasReadSome};
+ghost use Rattle.pf_route_io.specs.ReadSome.{HasReadSome};
 
-use crate::routes::error::RouteError;
-use crate::routes::source::Source;
+use crate::error::RouteError;
+use crate::source::Source;
 use std::alloc::Allocator;
 
 const CHUNK: usize = 65536;
 
 /// All that the source gives up to its end. After a failed read it is not read again.
-pub(crate) fn read_whole<I: Source, A: Allocator + Copy>(
+pub fn read_whole<I: Source, A: Allocator + Copy>(
     alloc: A,
     input: &mut I,
 ) -> Result<Vec<u8, A>, RouteError>

@@ -15,7 +15,7 @@ pub struct Noted<D> {
 }
 
 impl<D> Noted<D> {
-    ghost use Rattle.pf_routes.specs.Noted.{device, has_failed};
+    ghost use Rattle.pf_route_io.specs.Noted.{device, has_failed};
 
     /// The reader or writer, with no failure noted.
     pub fn new(inner: D) -> Self
@@ -46,7 +46,7 @@ impl<D> Noted<D> {
 }
 
 impl<R: Read> Read for Noted<R> {
-    ghost use Rattle.pf_routes.specs.Noted.{has_failed};
+    ghost use Rattle.pf_route_io.specs.Noted.{has_failed};
 
     ghost remaining = { λ s. R.remaining s.inner };
 
@@ -75,7 +75,7 @@ impl<R: Read> Read for Noted<R> {
 }
 
 impl<W: Write> Write for Noted<W> {
-    ghost use Rattle.pf_routes.specs.Noted.{has_failed, took_nothing};
+    ghost use Rattle.pf_route_io.specs.Noted.{has_failed, took_nothing};
 
     ghost contents = { λ s. W.contents s.inner };
 
