@@ -2,7 +2,7 @@ use Rattle.std.proofs.Common.{◌+◌, ap, ◌∙◌, arith, length, map, ◌++�
 use Rattle.pf_routes.specs.EdgeText.{said_by, edge_text}
 use Rattle.pf_routes.specs.Internal.Links.{edges_between}
 use Rattle.pf_routes.specs.Internal.Parsed.{edge_read, line_read, line_holding, edges_taken}
-use Rattle.pf_routes.proofs.Numbering.{keeps-refl, keeps-trans, left_len-next, said_left, text_from, text_from-start, says-edge}
+use Rattle.pf_routes.proofs.Numbering.{keeps-refl, keeps-trans, left_len-next, said_left, text_from, text_from-start, says-edge, says-bad}
 use Rattle.pf_routes.proofs.routes.links.read_links.Goals as goal
 
 pub loop-rest-init : goal.loop-rest-init
@@ -28,3 +28,9 @@ loop-rest-preserved-in_ok-take_edge g c =
       kept = keeps-trans _ _ _ inv.kept taken.kept;
       counts = omega (arith, less, inv.counts);
     }
+
+pub returns-in_default-read_line-clause-err : goal.returns-in_default-read_line-clause-err
+returns-in_default-read_line-clause-err g c =
+    let bad = c.in_default-read_line.ensures.says in
+    let found = edges_taken c.loop-rest.names.keys c.loop-rest.links.items c.loop-rest.waiting.items in
+    says-bad c.loop-rest.line found c.loop-rest.rest c.in-Some.here bad.0 (edge_text c.args.text.now) c.in-Some.is bad.1 c.loop-rest.invariant.says
