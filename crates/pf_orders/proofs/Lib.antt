@@ -2,6 +2,8 @@ pub mod ComponentLists
 pub mod ComponentPlaces
 pub mod ComponentPaths
 pub mod ComponentNodes
+pub mod SegmentLemmas
+pub mod TurnLemmas
 pub mod Outcomes
 pub mod OrderLemmas
 pub mod SortLemmas

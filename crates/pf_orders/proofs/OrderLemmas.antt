@@ -1,6 +1,6 @@
 -- Lemmas on a depth-first walk that orders numbers.
-use Rattle.std.proofs.Common.{◌≡◌, ◌≢◌, ◌<◌, ◌≤◌, ◌+◌, ◌-◌, ◌∙◌, ℕ, zero, suc, refl, sym, ap, subst, arith, inl, inr, Bool, true, false, true≢false, cond, Some, List, [], ◌∷◌, ◌++◌, length, length-append, map, replicate, nat_eq, eq-eqb}
-use Rattle.std.specs.Prelude.{◌⊎◌, slice_get, slice_set, Contains, reverse}
+use Rattle.std.proofs.Common.{rules, ◌≡◌, ◌≢◌, ◌<◌, ◌≤◌, ◌+◌, ◌-◌, ◌∙◌, ℕ, zero, suc, refl, sym, ap, subst, arith, inl, inr, Bool, true, false, true≢false, cond, Some, List, [], ◌∷◌, ◌++◌, length, length-append, map, replicate, nat_eq, eq-eqb}
+use Rattle.std.specs.Prelude.{Vec, vec_len, ◌==◌, ◌⊎◌, slice_get, slice_set, Contains, reverse}
 use Rattle.std.specs.List.{AllZip}
 use Rattle.std.proofs.lemmas.List.{append_assoc, append-nil, reverse-append, reverse-reverse}
 use Rattle.std.proofs.lemmas.List.Sums.{count_by-le-length, sum_by-append}
@@ -46,9 +46,17 @@ step_of (s ∷ steps) k h = elim (Contains-cases (map (λ (t : ℕ × _). t.0) s
   | inr i ↦ let q = step_of steps k i in (q.0, Contains-tail steps s (k, q.0) q.1)
 ]
 
-pub empty_of : {A : Type 0} (xs : List A) → length xs ≡ 0 → xs ≡ []
+empty_of : {A : Type 0} (xs : List A) → length xs ≡ 0 → xs ≡ []
 empty_of [] e = refl
 empty_of (x ∷ xs) e = absurd (omega (arith, e))
+
+-- what the test for an empty list says
+module _ {T A : Type 0} (v : Vec T A) (r : Bool) (is : r ≡ (vec_len v == 0)) where
+  pub is_none : r ≡ true → v.items ≡ []
+  is_none e = let n : length v.items ≡ 0 = search rules in empty_of v.items n
+
+  pub is_some : r ≡ false → ¬ (v.items ≡ [])
+  is_some e q = let n = ap length q in search rules
 
 pub of_step : {C : Type 0} (steps : List (ℕ × C)) (k : ℕ) (c : C) → Contains steps (k, c) → Contains (map (λ (s : ℕ × C). s.0) steps) k
 of_step [] k c h = absurd (omega (arith, h.1))

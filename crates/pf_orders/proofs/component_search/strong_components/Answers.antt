@@ -27,11 +27,11 @@ turns-init g c =
       closing = λ h x. rw e.components (closing_new (g.G.NumberedGraph.step h) (g.G.NumberedGraph.stands c.args.graph.now));
     }
 
-pub turn-requires : goal.turn-requires
-turn-requires g c = record {
-  graph = let r = c.requires.graph in (r.0, c.turns.invariant.explored r.0 r.1);
-  placed = c.turns.invariant.placed;
-}
+pub turn-requires-clause-graph : goal.turn-requires-clause-graph
+turn-requires-clause-graph g c = let r = c.requires.graph in (r.0, c.turns.invariant.explored r.0 r.1)
+
+pub turn-requires-clause-placed : goal.turn-requires-clause-placed
+turn-requires-clause-placed g c = c.turns.invariant.placed
 
 pub returns-in_err-turn : goal.returns-in_err-turn
 returns-in_err-turn g c =

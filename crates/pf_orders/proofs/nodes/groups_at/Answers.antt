@@ -1,4 +1,4 @@
-use Rattle.std.proofs.Common.{rules, refl, arith, take_all, ◌≡◌, ◌+◌, ◌++◌, ◌∷◌, [], ◌∙◌, ap, take, slice_get, Some, subst, sym}
+use Rattle.std.proofs.Common.{refl, arith, take_all, ◌≡◌, ◌+◌, ◌++◌, ◌∷◌, [], ◌∙◌, ap, take, slice_get, Some, subst, sym}
 use Rattle.std.specs.List.{AllZip}
 use Rattle.std.proofs.lemmas.List.{take_more}
 use Rattle.std.proofs.lemmas.Result.{IfOk-from_err}
@@ -47,7 +47,7 @@ groups-preserved g c =
     let groups = c.args.groups.now in
     let i = c.groups.group-index in
     let group = c.group-item.result in
-    let e : c.push.new.self.items ≡ c.groups.answer.items ++ c.in_ok-members.members ∷ [] = search rules in
+    let e : c.push.new.self.items ≡ c.groups.answer.items ++ c.in_ok-members.members ∷ [] = c.in_ok-push.ensures.items in
     let here : AreNodesAt eq keys group c.in_ok-members.members = rw c.deref.ensures.value at c.in_ok-members.ensures.nodes in
     let all = AllZip-append (AreNodesAt eq keys) (take i groups) c.groups.answer.items group c.in_ok-members.members c.groups.invariant here in
     let one : take (i + 1) groups ≡ take i groups ++ group ∷ [] = take_more groups i group c.groups-test.true ∙ ap (λ y. take i groups ++ y ∷ []) (sym c.group-item.is) in

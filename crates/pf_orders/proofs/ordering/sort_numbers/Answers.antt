@@ -3,15 +3,23 @@ use Rattle.std.proofs.lemmas.Result.{IfOk-from_err}
 use Rattle.pf_orders.proofs.Outcomes.{refused_as, Grows-itself}
 use Rattle.pf_orders.proofs.ordering.sort_numbers.Goals as goal
 
-pub walk_on-cycle-requires : goal.walk_on-cycle-requires
-walk_on-cycle-requires g c =
+pub walk_on-cycle-requires-clause-graph : goal.walk_on-cycle-requires-clause-graph
+walk_on-cycle-requires-clause-graph g c = c.requires.graph
+
+pub walk_on-cycle-requires-clause-marks : goal.walk_on-cycle-requires-clause-marks
+walk_on-cycle-requires-clause-marks g c =
     let e = c.in_ok-walk.ensures in
-    record {
-      graph = c.requires.graph;
-      marks = rw c.found.ensures at e.marks;
-      turns = rw c.found.ensures at e.turns;
-      left = e.left;
-    }
+    rw c.found.ensures at e.marks
+
+pub walk_on-cycle-requires-clause-turns : goal.walk_on-cycle-requires-clause-turns
+walk_on-cycle-requires-clause-turns g c =
+    let e = c.in_ok-walk.ensures in
+    rw c.found.ensures at e.turns
+
+pub walk_on-cycle-requires-clause-left : goal.walk_on-cycle-requires-clause-left
+walk_on-cycle-requires-clause-left g c =
+    let e = c.in_ok-walk.ensures in
+    e.left
 
 pub returns-in_err-walk : goal.returns-in_err-walk
 returns-in_err-walk g c = record {

@@ -1,5 +1,5 @@
-use Rattle.std.proofs.Common.{rules, ◌≡◌, ◌+◌, ◌-◌, ◌∙◌, ◌++◌, ◌∷◌, [], ℕ, List, arith, get_or, take, slice_get, Some, subst, sym, ap, refl}
-use Rattle.std.specs.Prelude.{slice_set}
+use Rattle.std.proofs.Common.{◌≡◌, ◌+◌, ◌-◌, ◌∙◌, ◌++◌, ◌∷◌, [], ℕ, List, arith, get_or, take, slice_get, Some, subst, sym, ap, refl}
+use Rattle.std.specs.Prelude.{Vec, slice_set}
 use Rattle.std.proofs.lemmas.List.{take_more, take_all, append_assoc}
 use Rattle.pf_core.proofs.ListLemmas.{at_place, Contains-index}
 use Rattle.pf_orders.specs.Rounds.{Falls, AreFreed}
@@ -51,12 +51,12 @@ targets-preserved g c =
       falls = subst (λ (ks : List ℕ). Falls ks old (slice_set counts t (count - 1))) (sym (take_more row i 0 c.targets-test.true)) (falls_more (take i row) old counts freed t (count - 1) v.falls v.freed.2 at1);
       freed = elim c.if-count-eq0.branch as (λ _. (f : List ℕ) × (c.if-count-eq0.next.items ≡ c.args.next.now.items ++ f) × AreFreed old (slice_set counts t (count - 1)) f) [
         | then-count-eq0+in_ok-push w ↦
-            let zero_now : count - 1 ≡ 0 = search rules in
-            let e : c.if-count-eq0.next.items ≡ c.targets.next.items ++ t ∷ [] = search rules in
+            let zero_now : count - 1 ≡ 0 = w.if-count-eq0.true in
+            let e : c.if-count-eq0.next.items ≡ c.targets.next.items ++ t ∷ [] = ap (λ (v : Vec ℕ g.row.A.Denot). v.items) w.next-is ∙ w.in_ok-push.ensures.items in
             (freed ++ t ∷ [], e ∙ ap (λ ks. ks ++ t ∷ []) v.freed.1 ∙ append_assoc c.args.next.now.items freed (t ∷ []), freed_more (take i row) old counts freed t (count - 1) v.falls v.freed.2 at1 zero_now l)
         | else-count-eq0 w ↦
-            let not_zero : ¬ (count - 1 ≡ 0) = search rules in
-            let e : c.if-count-eq0.next.items ≡ c.targets.next.items = search rules in
+            let not_zero : ¬ (count - 1 ≡ 0) = w.if-count-eq0.false in
+            let e : c.if-count-eq0.next.items ≡ c.targets.next.items = ap (λ (v : Vec ℕ g.row.A.Denot). v.items) w.next-is in
             (freed, e ∙ v.freed.1, freed_same (take i row) old counts freed t (count - 1) v.falls v.freed.2 at1 not_zero)
       ];
     }

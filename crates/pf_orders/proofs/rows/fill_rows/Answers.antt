@@ -9,7 +9,7 @@ use Rattle.pf_core.proofs.ListLemmas.{none_in}
 use Rattle.pf_core.proofs.PathLemmas.{AllZip-map}
 use Rattle.pf_orders.specs.Rounds.{AreCounted}
 use Rattle.pf_orders.proofs.ComponentLists.{at_replicate}
-use Rattle.pf_orders.proofs.Outcomes.{on_refused, ok_is_no_error, Grows-itself}
+use Rattle.pf_orders.proofs.Outcomes.{refused_as, none_unknown, on_refused, ok_is_no_error, Grows-itself}
 use Rattle.pf_orders.proofs.OrderLemmas.{step_of, of_step, of_member, node_of_row}
 use Rattle.pf_orders.proofs.RoundLemmas.{counted_none, counted_push, at_push, get_length, only_memory, memory_of}
 use Rattle.pf_orders.proofs.rows.fill_rows.Goals as goal
@@ -43,11 +43,16 @@ numbers-init g c =
       listed = λ h x k row n at s. absurd (none_in k row (subst (λ rs. slice_get rs k ≡ Some row) r.empty at));
     }
 
-pub expand-requires : goal.expand-requires
-expand-requires g c =
+pub expand-requires-clause-inside : goal.expand-requires-clause-inside
+expand-requires-clause-inside g c =
+    let v = c.numbers.invariant in
+    subst (λ (n : ℕ). c.numbers.number < n) (c.found-count.ensures ∙ sym v.same) c.numbers-test.true
+
+pub expand-requires-clause-graph : goal.expand-requires-clause-graph
+expand-requires-clause-graph g c =
     let v = c.numbers.invariant in
     let r = c.requires.graph in
-    record { inside = subst (λ (n : ℕ). c.numbers.number < n) (c.found-count.ensures ∙ sym v.same) c.numbers-test.true; graph = (r.0, v.explored r.0 r.1) }
+    (r.0, v.explored r.0 r.1)
 
 pub returns-in_err-expand : goal.returns-in_err-expand
 returns-in_err-expand g c = record {
@@ -190,3 +195,9 @@ returns g c =
       unknown = λ h x e. absurd (ok_is_no_error e);
       errors = tt;
     }
+
+pub returns-in_err-push-clause-unknown : goal.returns-in_err-push-clause-unknown
+returns-in_err-push-clause-unknown g c = λ h x u. absurd (none_unknown c.from_residual-in_err-push.result c.from_residual-in_err-push.ensures.1 u)
+
+pub returns-in_err-push-clause-errors : goal.returns-in_err-push-clause-errors
+returns-in_err-push-clause-errors g c = refused_as _ c.from_residual-in_err-push.result _ c.from_residual-in_err-push.ensures.1 (inl refl)

@@ -4,15 +4,19 @@ use Rattle.pf_orders.proofs.ComponentLists.{resized_none}
 use Rattle.pf_orders.proofs.Outcomes.{refused_as, error_of, none_unknown, ok_is_no_error, Grows-itself}
 use Rattle.pf_orders.proofs.rows.read_rows.Goals as goal
 
-pub fill_rows-requires : goal.fill_rows-requires
-fill_rows-requires g c =
+pub fill_rows-requires-clause-graph : goal.fill_rows-requires-clause-graph
+fill_rows-requires-clause-graph g c = c.requires.graph
+
+pub fill_rows-requires-clause-begins : goal.fill_rows-requires-clause-begins
+fill_rows-requires-clause-begins g c = c.requires.begins
+
+pub fill_rows-requires-clause-empty : goal.fill_rows-requires-clause-empty
+fill_rows-requires-clause-empty g c = c.in_ok-rows.ensures.items
+
+pub fill_rows-requires-clause-zeros : goal.fill_rows-requires-clause-zeros
+fill_rows-requires-clause-zeros g c =
     let zeros : c.resize.new.self.items ≡ replicate c.found-count.result 0 = resized_none c.found-count.result _ c.new-counts.result.items _ 0 c.in_ok-resize.ensures.items c.new-counts.ensures.items c.new-counts.ensures.len in
-    record {
-      graph = c.requires.graph;
-      begins = c.requires.begins;
-      empty = c.in_ok-rows.ensures.items;
-      zeros = zeros ∙ ap (λ n. replicate n 0) c.found-count.ensures;
-    }
+    zeros ∙ ap (λ n. replicate n 0) c.found-count.ensures
 
 pub returns-in_err-fill_rows : goal.returns-in_err-fill_rows
 returns-in_err-fill_rows g c = record {

@@ -10,15 +10,19 @@ returns-in_err-set g c =
       errors = refused_as _ r.result _ r.ensures.1 c.in_err-set.ensures.refused;
     }
 
-pub components_of-requires : goal.components_of-requires
-components_of-requires g c =
+pub components_of-requires-clause-clones : goal.components_of-requires-clause-clones
+components_of-requires-clause-clones g c = c.requires.clones
+
+pub components_of-requires-clause-distinct : goal.components_of-requires-clause-distinct
+components_of-requires-clause-distinct g c =
+    let e = c.in_ok-set.ensures in
+    e.distinct
+
+pub components_of-requires-clause-graph : goal.components_of-requires-clause-graph
+components_of-requires-clause-graph g c =
     let r = c.requires.graph in
     let e = c.in_ok-set.ensures in
-    record {
-      clones = c.requires.clones;
-      distinct = e.distinct;
-      graph = (r.0, c.args.nodes.now, e.same, r.1);
-    }
+    (r.0, c.args.nodes.now, e.same, r.1)
 
 pub returns : goal.returns
 returns g c = record {

@@ -1,4 +1,4 @@
-use Rattle.std.proofs.Common.{rules, ◌≡◌, ◌<◌, List, ℕ, length, ap, sym, subst, slice_get, Some}
+use Rattle.std.proofs.Common.{refl, ◌≡◌, ◌<◌, List, ℕ, length, ap, sym, subst, slice_get, Some}
 use Rattle.std.proofs.lemmas.Result.{IfOk-from_err}
 use Rattle.pf_core.specs.Hops.{unit_edges}
 use Rattle.pf_core.specs.Nodes.{NodeGraph, StandsFor}
@@ -112,5 +112,5 @@ returns-in_err-node-in-Err g c = record {
       let y = e.graph (graph_of roots next) (Explores-successors eq laws _ _ _ _ _ roots c.args.graph.now.nodes.keys next _ c.requires.distinct same a) in
       at_most eq laws _ c.sort_numbers.new.graph.nodes.keys y.distinct (λ k z h. reach_next eq next roots z (y.reached k z h)) _ _ e.asked;
   ticked = c.in_ok-numbers.ensures.ticked;
-  errors = search rules;
+  errors = refused_as _ c.from_residual-in_err-node-in-Err.result _ c.from_residual-in_err-node-in-Err.ensures.1 refl;
 }

@@ -1,10 +1,18 @@
 use Rattle.pf_orders.proofs.directed.topological_sort.topological_sort_tallied.Goals as goal
 
-pub order_in-requires : goal.order_in-requires
-order_in-requires g c =
+pub order_in-requires-clause-clones : goal.order_in-requires-clause-clones
+order_in-requires-clause-clones g c = c.requires.clones
+
+pub order_in-requires-clause-distinct : goal.order_in-requires-clause-distinct
+order_in-requires-clause-distinct g c =
+    let e = c.in_ok-nodes_of.ensures in
+    e.distinct
+
+pub order_in-requires-clause-graph : goal.order_in-requires-clause-graph
+order_in-requires-clause-graph g c =
     let r = c.requires.graph in
     let e = c.in_ok-nodes_of.ensures in
-    record { clones = c.requires.clones; distinct = e.distinct; graph = (c.args.roots.now, r.0, e.same, r.1) }
+    (c.args.roots.now, r.0, e.same, r.1)
 
 pub returns-clause-order : goal.returns-clause-order
 returns-clause-order g c = λ next a. c.order_in.ensures.order c.args.roots.now next c.in_ok-nodes_of.ensures.same a

@@ -1,4 +1,4 @@
-use Rattle.std.proofs.Common.{rules, refl, ◌≡◌, ◌<◌, ◌++◌, ℕ, sym, subst, arith, inl, inr, List, [], ◌∷◌}
+use Rattle.std.proofs.Common.{refl, ◌≡◌, ◌<◌, ◌++◌, ℕ, sym, subst, arith, inl, inr, List, [], ◌∷◌}
 use Rattle.std.specs.Prelude.{Contains, reverse}
 use Rattle.std.proofs.lemmas.Result.{IfOk-from_err}
 use Rattle.pf_core.proofs.ListLemmas.{nat_dec, Contains-append_one, Contains-reverse}
@@ -50,7 +50,7 @@ pub roots-preserved : goal.roots-preserved
 roots-preserved g c =
     let old = c.roots.turns.items in
     let root = c.roots.root in
-    let e : c.push.new.self.items ≡ old ++ Turn.Enter root ∷ [] = search rules in
+    let e : c.push.new.self.items ≡ old ++ Turn.Enter root ∷ [] = c.in_ok-push.ensures.items in
     record {
       marks = c.roots.invariant.marks;
       listed = λ k l. subst (λ (ts : List Turn). Contains ts (Turn.Enter k)) (sym e) (elim (nat_dec k root) as (λ _. Contains (old ++ Turn.Enter root ∷ []) (Turn.Enter k)) [

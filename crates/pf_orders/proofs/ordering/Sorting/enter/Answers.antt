@@ -1,4 +1,4 @@
-use Rattle.std.proofs.Common.{rules, refl, arith, ◌≡◌, ◌∙◌, ◌++◌, ℕ, sym, subst, ap, List, [], ◌∷◌}
+use Rattle.std.proofs.Common.{refl, arith, ◌≡◌, ◌∙◌, ◌++◌, ℕ, sym, subst, ap, List, [], ◌∷◌}
 use Rattle.std.specs.Prelude.{Contains, reverse}
 use Rattle.std.specs.List.{AllZip}
 use Rattle.std.proofs.lemmas.List.{append_assoc}
@@ -10,11 +10,11 @@ use Rattle.pf_orders.proofs.Outcomes.{refused_as, on_refused, on_any}
 use Rattle.pf_orders.proofs.OrderLemmas.{step_of}
 use Rattle.pf_orders.proofs.ordering.Sorting.enter.Goals as goal
 
-pub expand-requires : goal.expand-requires
-expand-requires g c = record {
-  inside = c.requires.inside;
-  graph = c.requires.graph;
-}
+pub expand-requires-clause-inside : goal.expand-requires-clause-inside
+expand-requires-clause-inside g c = c.requires.inside
+
+pub expand-requires-clause-graph : goal.expand-requires-clause-graph
+expand-requires-clause-graph g c = c.requires.graph
 
 pub returns-in_err-expand : goal.returns-in_err-expand
 returns-in_err-expand g c =
@@ -69,7 +69,7 @@ returns-clause-turns g c =
     let old = c.args.self.now.turns.items in
     let number = c.args.number in
     let row = c.expand.new.row.items in
-    let pushed : c.push.new.self.items ≡ old ++ Turn.Leave number ∷ [] = search rules in
+    let pushed : c.push.new.self.items ≡ old ++ Turn.Leave number ∷ [] = c.in_ok-push.ensures.items in
     let turned : c.deref.result.now ≡ reverse row = c.deref.ensures.value ∙ c.reverse.ensures.items in
     let p = c.in_ok-expand.ensures.placed in
     let l = c.in_ok-expand.ensures.listed in

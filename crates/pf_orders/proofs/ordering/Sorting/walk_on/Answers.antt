@@ -1,4 +1,4 @@
-use Rattle.std.proofs.Common.{ℕ, List, rules, ◌≡◌, ◌∙◌, ◌++◌, ◌∷◌, [], sym, subst, ap, arith, length}
+use Rattle.std.proofs.Common.{ℕ, List, ◌≡◌, ◌∙◌, ◌++◌, ◌∷◌, [], sym, subst, ap, arith, length}
 use Rattle.std.specs.Prelude.{reverse}
 use Rattle.std.proofs.lemmas.Result.{IfOk-from_err}
 use Rattle.pf_core.proofs.SearchLemmas.{Grows-trans}
@@ -7,7 +7,8 @@ use Rattle.pf_orders.specs.declared.ordering.Turn.{Turn}
 use Rattle.pf_orders.specs.declared.ordering.Mark.{Mark}
 use Rattle.pf_orders.specs.Orderings.{entries, IsMarked, IsSorting, IsAlong}
 use Rattle.pf_orders.proofs.Outcomes.{refused_as}
-use Rattle.pf_orders.proofs.OrderLemmas.{sorting_start, along_start, count_start, reverse-push, turns_after, sorting_skip, along_skip, sorting_enter, along_enter, count_enter, sorting_leave, along_leave, count_leave, ordered_reach, on_cycle, new_counts, turn_inside, entered_few, to_reverse, empty_of}
+use Rattle.pf_orders.proofs.ComponentLists.{none_popped}
+use Rattle.pf_orders.proofs.OrderLemmas.{sorting_start, along_start, count_start, reverse-push, turns_after, sorting_skip, along_skip, sorting_enter, along_enter, count_enter, sorting_leave, along_leave, count_leave, ordered_reach, on_cycle, new_counts, turn_inside, entered_few, to_reverse}
 use Rattle.pf_orders.proofs.ordering.Sorting.walk_on.Goals as goal
 
 -- the turn that is taken out is the next one
@@ -35,14 +36,24 @@ index-requires g c =
     let s = next_turn _ c.turns.self.marks.items left _ _ (Turn.Enter number) v.sorting (c.in-Some.ensures.items ∙ ap (λ t. c.pop.new.self.items ++ t ∷ []) c.in-Enter.is) in
     omega (arith, s.inside.0, s.len, c.turns.self.marks.ok)
 
-pub enter-requires : goal.enter-requires
-enter-requires g c =
+pub enter-requires-clause-inside : goal.enter-requires-clause-inside
+enter-requires-clause-inside g c =
     let v = c.turns.invariant in
     let number = c.in-Enter.number in
     let left = reverse c.turns.self.left.items in
     let s = next_turn _ c.turns.self.marks.items left _ _ (Turn.Enter number) v.sorting (c.in-Some.ensures.items ∙ ap (λ t. c.pop.new.self.items ++ t ∷ []) c.in-Enter.is) in
+    s.inside.0
+
+pub enter-requires-clause-graph : goal.enter-requires-clause-graph
+enter-requires-clause-graph g c =
+    let v = c.turns.invariant in
     let r = c.requires.graph in
-    record { inside = s.inside.0; graph = (r.0, v.explored r.0 r.1); marked = v.sorting.len }
+    (r.0, v.explored r.0 r.1)
+
+pub enter-requires-clause-marked : goal.enter-requires-clause-marked
+enter-requires-clause-marked g c =
+    let v = c.turns.invariant in
+    v.sorting.len
 
 pub turns-preserved-in-Continue-1 : goal.turns-preserved-in-Continue-1
 turns-preserved-in-Continue-1 g c =
@@ -208,8 +219,8 @@ returns g c =
     let marks = c.turns.self.marks.items in
     let left = reverse c.turns.self.left.items in
     let found = g.G.NumberedGraph.found c.turns.graph in
-    let zero_long : length c.turns.self.turns.items ≡ 0 = search rules in
-    let none : reverse c.turns.self.turns.items ≡ [] = ap reverse (empty_of c.turns.self.turns.items zero_long) in
+    let e = c.in_default.ensures in
+    let none : reverse c.turns.self.turns.items ≡ [] = ap reverse (none_popped c.turns.self.turns.items c.pop.new.self.items _ e.items e.rest e.cases.0) in
     let roots = g.G.NumberedGraph.found c.args.graph.now in
     record {
       grows = v.grown;

@@ -1,4 +1,4 @@
-use Rattle.std.proofs.Common.{rules, ◌≡◌, ◌<◌, ◌∙◌, ℕ, List, [], length, ap, sym, subst}
+use Rattle.std.proofs.Common.{◌≡◌, ◌<◌, ◌∙◌, ℕ, List, length, ap, sym, subst}
 use Rattle.std.specs.Prelude.{Err}
 use Rattle.std.specs.List.{AllZip}
 use Rattle.std.proofs.lemmas.Result.{IfOk-from_err}
@@ -9,7 +9,7 @@ use Rattle.pf_core.proofs.UnitLemmas.{Explores-successors, begins_all, starts_st
 use Rattle.pf_orders.specs.Rounds.{Targets, AreLevels, AreNodesAt}
 use Rattle.pf_orders.proofs.Outcomes.{refused_as, error_of, ok_is_no_error}
 use Rattle.pf_orders.proofs.RoundLemmas.{only_memory, memory_of}
-use Rattle.pf_orders.proofs.OrderLemmas.{member_of, empty_of}
+use Rattle.pf_orders.proofs.OrderLemmas.{member_of, is_none, is_some}
 use Rattle.pf_orders.proofs.SortLemmas.{of_target}
 use Rattle.pf_orders.proofs.DepthLemmas.{same_grown, closed, depth_groups, all_have, have_none, some_left}
 use Rattle.pf_orders.proofs.directed.topological_sort.groups.groups_in.Goals as goal
@@ -18,13 +18,12 @@ use Rattle.pf_orders.proofs.directed.topological_sort.groups.groups_in.Goals as 
 abbrev graph_of : {N : Type 0} → List N → (N → List N) → NodeGraph N
 graph_of nodes next = record { starts = nodes; edges = unit_edges next }
 
-pub read_rows-requires : goal.read_rows-requires
-read_rows-requires g c = record {
-  graph =
-      let r = c.requires.graph in
-      (graph_of r.0 r.1, Explores-successors g.N.PartialEq.eq g.met.N.Eq.laws _ _ _ _ _ r.0 c.args.graph.now.nodes.keys r.1 _ c.requires.distinct r.2 r.3);
-  begins = λ k l. begins_all g.N.PartialEq.eq g.met.N.Eq.laws c.args.graph.now.nodes.keys k l;
-}
+pub read_rows-requires-clause-graph : goal.read_rows-requires-clause-graph
+read_rows-requires-clause-graph g c = let r = c.requires.graph in
+    (graph_of r.0 r.1, Explores-successors g.N.PartialEq.eq g.met.N.Eq.laws _ _ _ _ _ r.0 c.args.graph.now.nodes.keys r.1 _ c.requires.distinct r.2 r.3)
+
+pub read_rows-requires-clause-begins : goal.read_rows-requires-clause-begins
+read_rows-requires-clause-begins g c = λ k l. begins_all g.N.PartialEq.eq g.met.N.Eq.laws c.args.graph.now.nodes.keys k l
 
 pub returns-in_err-rows : goal.returns-in_err-rows
 returns-in_err-rows g c =
@@ -50,10 +49,15 @@ returns-in_err-rows g c =
       errors = refused_as _ _ _ r.ensures.1 c.in_err-rows.ensures.errors;
     }
 
-pub group_numbers-requires : goal.group_numbers-requires
-group_numbers-requires g c =
+pub group_numbers-requires-clause-counted : goal.group_numbers-requires-clause-counted
+group_numbers-requires-clause-counted g c =
     let e = c.in_ok-rows.ensures in
-    record { counted = e.counted; wide = e.wide ∙ sym e.long }
+    e.counted
+
+pub group_numbers-requires-clause-wide : goal.group_numbers-requires-clause-wide
+group_numbers-requires-clause-wide g c =
+    let e = c.in_ok-rows.ensures in
+    e.wide ∙ sym e.long
 
 pub returns-in_err-levels : goal.returns-in_err-levels
 returns-in_err-levels g c =
@@ -66,14 +70,14 @@ returns-in_err-levels g c =
       errors = memory_of _ _ r.ensures.1 c.in_err-levels.ensures.refused;
     }
 
-pub groups_at-requires : goal.groups_at-requires
-groups_at-requires g c = record {
-  inside = λ i k group at h.
-      let e = c.in_ok-rows.ensures in
-      let l = c.in_ok-levels.ensures.levels.below i k (group, rw c.deref.ensures.value at at, member_of group.items k h) in
-      subst (λ (n : ℕ). k < n) (e.wide ∙ sym e.same ∙ ap length (sym c.as_slice.ensures.keys)) l;
-  clones = c.requires.clones;
-}
+pub groups_at-requires-clause-inside : goal.groups_at-requires-clause-inside
+groups_at-requires-clause-inside g c = λ i k group at h.
+    let e = c.in_ok-rows.ensures in
+    let l = c.in_ok-levels.ensures.levels.below i k (group, rw c.deref.ensures.value at at, member_of group.items k h) in
+    subst (λ (n : ℕ). k < n) (e.wide ∙ sym e.same ∙ ap length (sym c.as_slice.ensures.keys)) l
+
+pub groups_at-requires-clause-clones : goal.groups_at-requires-clause-clones
+groups_at-requires-clause-clones g c = c.requires.clones
 
 pub returns-in_err-groups : goal.returns-in_err-groups
 returns-in_err-groups g c =
@@ -105,8 +109,8 @@ returns-then-is_empty g c = record {
       let remaining = c.in_ok-levels.levels.remaining.items in
       let v : AreLevels (length keys) rows groups remaining = subst (λ (n : ℕ). AreLevels n rows groups remaining) wide c.in_ok-levels.ensures.levels in
       let z : AllZip (AreNodesAt eq keys) groups c.in_ok-groups.groups.items = rw c.as_slice.ensures.keys at (rw c.deref.ensures.value at c.in_ok-groups.ensures.nodes) in
-      let none : length remaining ≡ 0 = search rules in
-      (depth_groups eq laws next nodes keys same y.distinct rows wide inside listed groups remaining v c.in_ok-groups.groups.items z, all_have eq laws next nodes keys same y.distinct rows wide inside listed groups remaining v (empty_of remaining none));
+      let none = is_none c.in_ok-levels.levels.remaining _ c.is_empty.ensures c.if-is_empty.true in
+      (depth_groups eq laws next nodes keys same y.distinct rows wide inside listed groups remaining v c.in_ok-groups.groups.items z, all_have eq laws next nodes keys same y.distinct rows wide inside listed groups remaining v none);
   cycle = λ nodes next found a. tt;
   closed = λ nodes next found a.
       let eq = g.N.PartialEq.eq in
@@ -126,14 +130,14 @@ returns-then-is_empty g c = record {
   errors = tt;
 }
 
-pub clones_at-requires : goal.clones_at-requires
-clones_at-requires g c = record {
-  inside = λ k h.
-      let e = c.in_ok-rows.ensures in
-      let l = c.in_ok-levels.ensures.levels.left_below k (member_of c.in_ok-levels.levels.remaining.items k (rw c.deref-2.ensures.value at h)) in
-      subst (λ (n : ℕ). k < n) (e.wide ∙ sym e.same ∙ ap length (sym c.as_slice-2.ensures.keys)) l;
-  clones = c.requires.clones;
-}
+pub clones_at-requires-clause-inside : goal.clones_at-requires-clause-inside
+clones_at-requires-clause-inside g c = λ k h.
+    let e = c.in_ok-rows.ensures in
+    let l = c.in_ok-levels.ensures.levels.left_below k (member_of c.in_ok-levels.levels.remaining.items k (rw c.deref-2.ensures.value at h)) in
+    subst (λ (n : ℕ). k < n) (e.wide ∙ sym e.same ∙ ap length (sym c.as_slice-2.ensures.keys)) l
+
+pub clones_at-requires-clause-clones : goal.clones_at-requires-clause-clones
+clones_at-requires-clause-clones g c = c.requires.clones
 
 pub returns-in_err-remaining : goal.returns-in_err-remaining
 returns-in_err-remaining g c =
@@ -167,7 +171,7 @@ returns g c = record {
       let v : AreLevels (length keys) rows groups remaining = subst (λ (n : ℕ). AreLevels n rows groups remaining) wide c.in_ok-levels.ensures.levels in
       let z : AllZip (AreNodesAt eq keys) groups c.in_ok-groups.groups.items = rw c.as_slice.ensures.keys at (rw c.deref.ensures.value at c.in_ok-groups.ensures.nodes) in
       let left = c.in_ok-remaining.remaining.items in
-      let some : ¬ (remaining ≡ []) = λ q. let n = ap length q in search rules in
+      let some = is_some c.in_ok-levels.levels.remaining _ c.is_empty.ensures c.if-is_empty.false in
       let w : AllZip (StandsFor eq keys) remaining left = rw c.as_slice-2.ensures.keys at (rw c.deref-2.ensures.value at c.in_ok-remaining.ensures.nodes) in (
         depth_groups eq laws next nodes keys same y.distinct rows wide inside listed groups remaining v c.in_ok-groups.groups.items z,
         have_none eq laws next nodes keys same y.distinct rows wide inside listed groups remaining v left w,
