@@ -1,5 +1,6 @@
 -- Searches from a node that nothing follows.
 use Rattle.std.proofs.Common.{◌≡◌, inl, inr, ℤ, pos, refl, sym, ◌∙◌, arith, Bool, true, false, true≢false, List, [], ◌∷◌, length}
+use mathlib.Core.Bool.{not}
 use Rattle.std.specs.Prelude.{◌≤◌, ◌≤ℤ◌}
 use Rattle.std.specs.Cmp.{IsEquivalence}
 use Rattle.std.proofs.lemmas.Int.{ints}
@@ -45,3 +46,12 @@ module _ {N : Type 0} {eq : N → N → Bool} (laws : IsEquivalence eq) (from : 
         least : (walk : List N) → IsGoalWalk eq (HasSuccessor eq next) (from ∷ []) test walk → 1 ≤ length walk
         least [] g = absurd g.walks
         least (a ∷ w) g = omega arith
+
+-- what the test for another node says
+pub an_other : (same other : Bool) → other ≡ not same → other ≡ true → same ≡ false
+an_other true other e h = absurd (true≢false (sym h ∙ e))
+an_other false other e h = refl
+
+pub no_other : (same other : Bool) → other ≡ not same → other ≡ false → same ≡ true
+no_other true other e h = refl
+no_other false other e h = absurd (true≢false (sym e ∙ h))

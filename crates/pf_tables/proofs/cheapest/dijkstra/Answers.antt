@@ -1,4 +1,4 @@
-use Rattle.std.proofs.Common.{rules, ◌≡◌, ◌<◌, arith, ℕ, ℤ, pos, List, [], ◌∷◌, Option, Bool, ap, refl, inl}
+use Rattle.std.proofs.Common.{◌∙◌, sym, rules, ◌≡◌, ◌<◌, arith, ℕ, ℤ, pos, List, [], ◌∷◌, Option, Bool, ap, refl, inl}
 use Rattle.std.proofs.lemmas.Cmp.{nat_eq_equiv}
 use Rattle.std.proofs.lemmas.Result.{IfOk-from_err}
 use Rattle.pf_core.specs.Nodes.{TestedGraph}
@@ -23,7 +23,7 @@ pub returns-then-not-is_goal : goal.returns-then-not-is_goal
 returns-then-not-is_goal g c = record {
   best = let edges = graph_of g.C.Number.value (g.G.Graph.size c.args.graph.now) (g.G.Graph.places c.args.graph.now) in
       let outside = edges_outside g.C.Number.value (g.G.Graph.size c.args.graph.now) (g.G.Graph.places c.args.graph.now) c.args.from (omega (arith, c.if-from-len.true, c.len.ensures)) in
-      no_walk_alone nat_eq_equiv c.args.from (g.T.Goals.passes c.args.goals) (λ a e. ap (g.T.Goals.passes c.args.goals) (eqb-true c.args.from a e)) edges outside (search rules);
+      no_walk_alone nat_eq_equiv c.args.from (g.T.Goals.passes c.args.goals) (λ a e. ap (g.T.Goals.passes c.args.goals) (eqb-true c.args.from a e)) edges outside (sym c.is_goal.ensures ∙ c.if-not-is_goal.true);
   overflow = λ e. absurd (ok_is_no_error e);
   errors = tt;
 }

@@ -22,3 +22,12 @@ loop-number-preserved g c =
     let e = c.index-edges-number.result in
     let stands : slice_get edges c.loop-number.number ≡ Some e = slice_get_read edges (length edges) c.loop-number.number e refl c.loop-number-test.true c.index-edges-number.is in
     one_more_edge g.C.Number.value edges c.loop-number.number e stands c.if-is_negative.ensures c.loop-number.invariant
+
+pub loop-number-smaller : goal.loop-number-smaller
+loop-number-smaller g c = omega (arith, c.loop-number-test.true)
+
+pub bounds-edges-number : goal.bounds-edges-number
+bounds-edges-number g c = c.loop-number-test.true
+
+pub returns : goal.returns
+returns g c = λ k e l h. c.loop-number.invariant k e (omega (arith, l, c.loop-number-test.false)) h

@@ -137,3 +137,15 @@ returns-clause-longer g c = let v = c.loop-place.invariant in omega (arith, v.lo
 
 pub returns-clause-kept : goal.returns-clause-kept
 returns-clause-kept g c = let v = c.loop-place.invariant in rw v.long at v.kept
+
+pub returns-in-Err-clause-numbered : goal.returns-in-Err-clause-numbered
+returns-in-Err-clause-numbered g c = tt
+
+pub returns-clause-stays : goal.returns-clause-stays
+returns-clause-stays g c = tt
+
+pub returns-clause-refused : goal.returns-clause-refused
+returns-clause-refused g c = tt
+
+pub loop-place-smaller : goal.loop-place-smaller
+loop-place-smaller g c = omega (arith, c.loop-place-test.true)

@@ -1,4 +1,4 @@
-use Rattle.std.proofs.Common.{rules, arith, [], ◌∷◌, ℕ, ℤ, List, Option, Bool, ap, nat_eq}
+use Rattle.std.proofs.Common.{◌∙◌, sym, rules, arith, [], ◌∷◌, ℕ, ℤ, List, Option, Bool, ap, nat_eq}
 use Rattle.std.proofs.lemmas.Cmp.{nat_eq_equiv}
 use Rattle.std.proofs.lemmas.Result.{IfOk-from_err}
 use Rattle.pf_core.specs.Nodes.{TestedGraph}
@@ -21,7 +21,7 @@ pub returns-then-not-is_goal : goal.returns-then-not-is_goal
 returns-then-not-is_goal g c = record {
   best = let next = successors_of g.C.Number.value (g.G.Graph.size c.args.graph.now) (g.G.Graph.places c.args.graph.now) in
       let outside = successors_outside g.C.Number.value (g.G.Graph.size c.args.graph.now) (g.G.Graph.places c.args.graph.now) c.args.from (omega (arith, c.if-from-len.true, c.len.ensures)) in
-      no_way_alone nat_eq_equiv c.args.from (g.T.Goals.passes c.args.goals) (λ a e. ap (g.T.Goals.passes c.args.goals) (eqb-true c.args.from a e)) next outside (search rules);
+      no_way_alone nat_eq_equiv c.args.from (g.T.Goals.passes c.args.goals) (λ a e. ap (g.T.Goals.passes c.args.goals) (eqb-true c.args.from a e)) next outside (sym c.is_goal.ensures ∙ c.if-not-is_goal.true);
   errors = tt;
 }
 

@@ -8,46 +8,74 @@ use Rattle.pf_tables.proofs.EdgeListLemmas.{come_from_names}
 use Rattle.pf_tables.proofs.Outcomes.{on_refused, on_any}
 use Rattle.pf_tables.proofs.names.lay_out_by_name.Goals as goal
 
-pub returns-in_err-numbered : goal.returns-in_err-numbered
-returns-in_err-numbered g c =
+pub returns-in_err-numbered-clause-names : goal.returns-in_err-numbered-clause-names
+returns-in_err-numbered-clause-names g c =
     let r = c.from_residual in
-    record {
-      names = on_refused _ _ r.ensures.0;
-      offsets = IfOk-from_err _ _ r.ensures.0;
-      targets = IfOk-from_err _ _ r.ensures.0;
-    }
+    on_refused _ _ r.ensures.0
 
-pub returns-in_err-add_edges : goal.returns-in_err-add_edges
-returns-in_err-add_edges g c =
+pub returns-in_err-numbered-clause-offsets : goal.returns-in_err-numbered-clause-offsets
+returns-in_err-numbered-clause-offsets g c =
+    let r = c.from_residual in
+    IfOk-from_err _ _ r.ensures.0
+
+pub returns-in_err-numbered-clause-targets : goal.returns-in_err-numbered-clause-targets
+returns-in_err-numbered-clause-targets g c =
+    let r = c.from_residual in
+    IfOk-from_err _ _ r.ensures.0
+
+pub returns-in_err-add_edges-clause-names : goal.returns-in_err-add_edges-clause-names
+returns-in_err-add_edges-clause-names g c =
     let r = c.from_residual-in_err-add_edges in
-    record {
-      names = on_refused _ _ r.ensures.0;
-      offsets = IfOk-from_err _ _ r.ensures.0;
-      targets = IfOk-from_err _ _ r.ensures.0;
-    }
+    on_refused _ _ r.ensures.0
 
-pub add_edges-requires : goal.add_edges-requires
-add_edges-requires g c = record { first = c.requires; none = c.in_ok-numbered.ensures.items }
+pub returns-in_err-add_edges-clause-offsets : goal.returns-in_err-add_edges-clause-offsets
+returns-in_err-add_edges-clause-offsets g c =
+    let r = c.from_residual-in_err-add_edges in
+    IfOk-from_err _ _ r.ensures.0
 
-pub lay_out-requires : goal.lay_out-requires
-lay_out-requires g c =
+pub returns-in_err-add_edges-clause-targets : goal.returns-in_err-add_edges-clause-targets
+returns-in_err-add_edges-clause-targets g c =
+    let r = c.from_residual-in_err-add_edges in
+    IfOk-from_err _ _ r.ensures.0
+
+pub add_edges-requires-clause-first : goal.add_edges-requires-clause-first
+add_edges-requires-clause-first g c = c.requires
+
+pub add_edges-requires-clause-none : goal.add_edges-requires-clause-none
+add_edges-requires-clause-none g c = c.in_ok-numbered.ensures.items
+
+pub lay_out-requires-clause-few : goal.lay_out-requires-clause-few
+lay_out-requires-clause-few g c = c.len.ensures.small
+
+pub lay_out-requires-clause-short : goal.lay_out-requires-clause-short
+lay_out-requires-clause-short g c = c.deref.type_inv.0
+
+pub lay_out-requires-clause-inside : goal.lay_out-requires-clause-inside
+lay_out-requires-clause-inside g c =
     let added = c.in_ok-add_edges.ensures in
     let count : c.len.result ≡ length (names_of g.N.PartialEq.eq c.args.edges.now) = c.len.ensures.len ∙ sym (length-map c.add_edges.new.names.keys _) ∙ ap length added.names in
-    record {
-      few = c.len.ensures.small;
-      short = c.deref.type_inv.0;
-      inside = come_from_names g.met.N.Eq.laws g.C.Number.value c.args.edges.now c.len.result count c.deref.result.now (c.deref.ensures.value ∙ added.numbered);
-    }
+    come_from_names g.met.N.Eq.laws g.C.Number.value c.args.edges.now c.len.result count c.deref.result.now (c.deref.ensures.value ∙ added.numbered)
 
-pub returns : goal.returns
-returns g c =
+pub returns-clause-names : goal.returns-clause-names
+returns-clause-names g c =
+    let r = c.lay_out in
+    let added = c.in_ok-add_edges.ensures in
+    on_any r.result added.names
+
+pub returns-clause-offsets : goal.returns-clause-offsets
+returns-clause-offsets g c =
     let r = c.lay_out in
     let added = c.in_ok-add_edges.ensures in
     let ends = numbered_ends g.N.PartialEq.eq c.args.edges.now in
     let count : c.len.result ≡ length (names_of g.N.PartialEq.eq c.args.edges.now) = c.len.ensures.len ∙ sym (length-map c.add_edges.new.names.keys _) ∙ ap length added.names in
     let same : c.deref.result.now ≡ ends = c.deref.ensures.value ∙ added.numbered in
-    record {
-      names = on_any r.result added.names;
-      offsets = subst (λ n. IfOk r.result (λ laid. AreOffsets n ends laid.0.items)) count (subst (λ es. IfOk r.result (λ laid. AreOffsets c.len.result es laid.0.items)) same r.ensures.offsets);
-      targets = subst (λ n. IfOk r.result (λ laid. ArePlaced n ends laid.1.items)) count (subst (λ es. IfOk r.result (λ laid. ArePlaced c.len.result es laid.1.items)) same r.ensures.targets);
-    }
+    subst (λ n. IfOk r.result (λ laid. AreOffsets n ends laid.0.items)) count (subst (λ es. IfOk r.result (λ laid. AreOffsets c.len.result es laid.0.items)) same r.ensures.offsets)
+
+pub returns-clause-targets : goal.returns-clause-targets
+returns-clause-targets g c =
+    let r = c.lay_out in
+    let added = c.in_ok-add_edges.ensures in
+    let ends = numbered_ends g.N.PartialEq.eq c.args.edges.now in
+    let count : c.len.result ≡ length (names_of g.N.PartialEq.eq c.args.edges.now) = c.len.ensures.len ∙ sym (length-map c.add_edges.new.names.keys _) ∙ ap length added.names in
+    let same : c.deref.result.now ≡ ends = c.deref.ensures.value ∙ added.numbered in
+    subst (λ n. IfOk r.result (λ laid. ArePlaced n ends laid.1.items)) count (subst (λ es. IfOk r.result (λ laid. ArePlaced c.len.result es laid.1.items)) same r.ensures.targets)

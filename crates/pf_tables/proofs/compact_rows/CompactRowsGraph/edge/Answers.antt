@@ -1,3 +1,4 @@
+use Rattle.std.proofs.Common.{arith}
 use Rattle.pf_tables.proofs.OffsetLemmas.{between_length, between_edge, next_within, node_below, place_below}
 use Rattle.pf_tables.proofs.compact_rows.CompactRowsGraph.edge.Goals as goal
 
@@ -14,3 +15,10 @@ edge-requires g c =
 
 pub returns : goal.returns
 returns g c = rw (← c.self.view_is) (between_edge c.self.inside.offsets.now (g.R.Row.edges c.self.inside.edges) c.self.invariant.offsets_ok c.args.node (rw (← c.self.view_is) at c.requires.node) c.args.place c.edge.result (rw (← c.self.view_is) at c.requires.place) c.edge.ensures)
+
+pub overflow_add-offsets : goal.overflow_add-offsets
+overflow_add-offsets g c =
+    let node = rw (← c.self.view_is) at c.requires.node in
+    let place = rw (← c.self.view_is) at c.requires.place in
+    let len = between_length c.self.inside.offsets.now (g.R.Row.edges c.self.inside.edges) c.self.invariant.offsets_ok c.args.node node in
+    grind (arith, place, len)

@@ -1,4 +1,4 @@
-use Rattle.std.proofs.Common.{◌≡◌, ◌<◌, ◌∙◌, Some, ap, sym, subst, length, slice_get}
+use Rattle.std.proofs.Common.{arith, ◌≡◌, ◌<◌, ◌∙◌, Some, ap, sym, subst, length, slice_get}
 use Rattle.std.specs.Option.{option_map}
 use Rattle.std.proofs.lemmas.List.{length-map}
 use Rattle.std.proofs.lemmas.Option.{slice_get-map}
@@ -21,3 +21,6 @@ returns g c =
     let here : slice_get names c.args.node ≡ Some name = at_place names c.args.node name _ inside (sym c.index-as_slice-node.is) in
     let same = ap nodes_of c.as_slice.ensures.keys ∙ c.self.invariant.named ∙ ap (names_of g.N.PartialEq.eq) c.self.view_is in
     subst (λ ns. slice_get ns c.args.node ≡ Some name.now) same (slice_get-map _ names c.args.node ∙ ap (option_map _) here)
+
+pub offset_bounds-as_slice-node : goal.offset_bounds-as_slice-node
+offset_bounds-as_slice-node g c = omega (arith, bounds-as_slice-node g c)

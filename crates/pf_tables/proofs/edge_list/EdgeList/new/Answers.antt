@@ -12,18 +12,40 @@ use Rattle.pf_tables.proofs.edge_list.EdgeList.new.Goals as goal
 pub lay_out_by_name-requires : goal.lay_out_by_name-requires
 lay_out_by_name-requires g c = c.new-names.ensures.empty
 
-pub returns-in_err-offsets : goal.returns-in_err-offsets
-returns-in_err-offsets g c =
+pub returns-in_err-offsets-clause-edges : goal.returns-in_err-offsets-clause-edges
+returns-in_err-offsets-clause-edges g c =
     let r = c.from_residual in
-    record {
-      edges = IfOk-from_err _ _ r.ensures.0;
-      names = IfOk-from_err _ _ r.ensures.0;
-      apart = IfOk-from_err _ _ r.ensures.0;
-      numbered = IfOk-from_err _ _ r.ensures.0;
-      places = IfOk-from_err _ _ r.ensures.0;
-      sound = IfOk-from_err _ _ r.ensures.0;
-      fault = refused_as _ r.result _ r.ensures.1 c.in_default.ensures;
-    }
+    IfOk-from_err _ _ r.ensures.0
+
+pub returns-in_err-offsets-clause-names : goal.returns-in_err-offsets-clause-names
+returns-in_err-offsets-clause-names g c =
+    let r = c.from_residual in
+    IfOk-from_err _ _ r.ensures.0
+
+pub returns-in_err-offsets-clause-apart : goal.returns-in_err-offsets-clause-apart
+returns-in_err-offsets-clause-apart g c =
+    let r = c.from_residual in
+    IfOk-from_err _ _ r.ensures.0
+
+pub returns-in_err-offsets-clause-numbered : goal.returns-in_err-offsets-clause-numbered
+returns-in_err-offsets-clause-numbered g c =
+    let r = c.from_residual in
+    IfOk-from_err _ _ r.ensures.0
+
+pub returns-in_err-offsets-clause-places : goal.returns-in_err-offsets-clause-places
+returns-in_err-offsets-clause-places g c =
+    let r = c.from_residual in
+    IfOk-from_err _ _ r.ensures.0
+
+pub returns-in_err-offsets-clause-sound : goal.returns-in_err-offsets-clause-sound
+returns-in_err-offsets-clause-sound g c =
+    let r = c.from_residual in
+    IfOk-from_err _ _ r.ensures.0
+
+pub returns-in_err-offsets-clause-fault : goal.returns-in_err-offsets-clause-fault
+returns-in_err-offsets-clause-fault g c =
+    let r = c.from_residual in
+    refused_as _ r.result _ r.ensures.1 c.in_default.ensures
 
 pub invariant_of-result : goal.invariant_of-result
 invariant_of-result g c =
@@ -58,3 +80,30 @@ returns-clause-sound g c =
     edge_list_graph laws g.C.Number.value edges (names_of g.N.PartialEq.eq edges) c.in_ok-offsets.offsets.items c.in_ok-offsets.targets.items
     (laid_out laws g.C.Number.value edges (names_of g.N.PartialEq.eq edges) refl (names_apart laws edges) c.in_default.ensures
     (length (names_of g.N.PartialEq.eq edges)) refl (numbered_ends g.N.PartialEq.eq edges) refl c.in_ok-offsets.offsets.items made.offsets c.in_ok-offsets.targets.items made.targets)
+
+pub returns-in-Some-clause-edges : goal.returns-in-Some-clause-edges
+returns-in-Some-clause-edges g c = tt
+
+pub returns-in-Some-clause-names : goal.returns-in-Some-clause-names
+returns-in-Some-clause-names g c = tt
+
+pub returns-in-Some-clause-apart : goal.returns-in-Some-clause-apart
+returns-in-Some-clause-apart g c = tt
+
+pub returns-in-Some-clause-numbered : goal.returns-in-Some-clause-numbered
+returns-in-Some-clause-numbered g c = tt
+
+pub returns-in-Some-clause-places : goal.returns-in-Some-clause-places
+returns-in-Some-clause-places g c = tt
+
+pub returns-in-Some-clause-sound : goal.returns-in-Some-clause-sound
+returns-in-Some-clause-sound g c = tt
+
+pub returns-in-Some-clause-fault : goal.returns-in-Some-clause-fault
+returns-in-Some-clause-fault g c = c.in-Some.ensures
+
+pub returns-clause-edges : goal.returns-clause-edges
+returns-clause-edges g c = refl
+
+pub returns-clause-fault : goal.returns-clause-fault
+returns-clause-fault g c = tt

@@ -1,4 +1,4 @@
-use Rattle.std.proofs.Common.{rules, arith, ◌≡◌, ◌+◌, ◌<◌, sym, ◌∙◌, subst, length, Some, slice_get}
+use Rattle.std.proofs.Common.{arith, ◌≡◌, ◌+◌, ◌<◌, sym, ◌∙◌, subst, length, Some, slice_get}
 use Rattle.std.proofs.lemmas.Option.{slice_get_within}
 use Rattle.pf_base.specs.NodeRefs.{nodes_of}
 use Rattle.pf_core.proofs.ListLemmas.{at_place}
@@ -39,8 +39,8 @@ overflow_sub-result g c =
     let o = node_offsets g.met.N.Eq.laws g.C.Number.value c.args.self.now (nodes_of s.names.keys) s.offsets.items s.targets.items laid c.args.node c.requires in
     let room : c.args.node + 1 < length s.offsets.items = slice_get_within s.offsets.items (c.args.node + 1) _ o.2 in
     let low : c.args.node < length s.offsets.items = omega (arith, room) in
-    let end : slice_get s.offsets.items (c.args.node + 1) ≡ Some c.index-end.result.now = at_place _ _ c.index-end.result.now _ room (search rules) in
-    let first : slice_get s.offsets.items c.args.node ≡ Some c.index-first.result.now = at_place _ _ c.index-first.result.now _ low (search rules) in
+    let end : slice_get s.offsets.items (c.args.node + 1) ≡ Some c.index-end.result.now = at_place _ _ c.index-end.result.now _ room (sym c.index-end.ensures) in
+    let first : slice_get s.offsets.items c.args.node ≡ Some c.index-first.result.now = at_place _ _ c.index-first.result.now _ low (sym c.index-first.ensures) in
     let e : c.index-end.result.now ≡ o.0 + length (places_of g.N.PartialEq.eq c.args.self.now c.args.node) = some_same (sym end ∙ o.2) in
     let f : c.index-first.result.now ≡ o.0 = some_same (sym first ∙ o.1) in
     omega (arith, e, f)
@@ -52,8 +52,8 @@ returns g c =
     let o = node_offsets g.met.N.Eq.laws g.C.Number.value c.args.self.now (nodes_of s.names.keys) s.offsets.items s.targets.items laid c.args.node c.requires in
     let room : c.args.node + 1 < length s.offsets.items = slice_get_within s.offsets.items (c.args.node + 1) _ o.2 in
     let low : c.args.node < length s.offsets.items = omega (arith, room) in
-    let end : slice_get s.offsets.items (c.args.node + 1) ≡ Some c.index-end.result.now = at_place _ _ c.index-end.result.now _ room (search rules) in
-    let first : slice_get s.offsets.items c.args.node ≡ Some c.index-first.result.now = at_place _ _ c.index-first.result.now _ low (search rules) in
+    let end : slice_get s.offsets.items (c.args.node + 1) ≡ Some c.index-end.result.now = at_place _ _ c.index-end.result.now _ room (sym c.index-end.ensures) in
+    let first : slice_get s.offsets.items c.args.node ≡ Some c.index-first.result.now = at_place _ _ c.index-first.result.now _ low (sym c.index-first.ensures) in
     let e : c.index-end.result.now ≡ o.0 + length (places_of g.N.PartialEq.eq c.args.self.now c.args.node) = some_same (sym end ∙ o.2) in
     let f : c.index-first.result.now ≡ o.0 = some_same (sym first ∙ o.1) in
     omega (arith, e, f)

@@ -1,8 +1,10 @@
-use Rattle.std.proofs.Common.{length, ◌≡◌, ◌<◌, sym, subst, Some, slice_get, ℕ, pos, inl, inr, nat_eq, arith}
+use Rattle.std.proofs.Common.{ap, length, ◌≡◌, ◌<◌, sym, subst, Some, slice_get, ℕ, pos, inl, inr, nat_eq, arith}
 use Rattle.std.proofs.lemmas.Cmp.{nat_eq_equiv}
 use Rattle.std.proofs.lemmas.Option.{slice_get_within}
+use Rattle.std.proofs.lemmas.Result.{on_err_weaker}
 use Rattle.pf_base.specs.Edges.{InReach}
 use Rattle.pf_core.specs.NodeLaws.{StandsFor-one}
+use Rattle.pf_core.proofs.Outcomes.{refused_still}
 use Rattle.pf_core.proofs.ListLemmas.{at_place, on_ok, ok_or_err}
 use Rattle.pf_core.proofs.NodeLemmas.{fresh_number, Grows-from_take, inside_of, Lists-from, reached_added}
 use Rattle.pf_core.proofs.OrderLemmas.{Placed-same, InOrder-same, ends_at}
@@ -88,3 +90,21 @@ returns-clause-ordered g c = on_ok c.number_places.result c.number_places.ensure
     let l = slice_get_within c.args.self.now.numbering.numbers.items here _ (x.1.at c.args.node here at) in
     let inside : here < g.G.Graph.size c.args.self.now.graph.now = omega (arith, l, x.2) in
     InOrder-same nat_eq nat_eq_equiv keys' (length keys) (length keys') _ _ (ends_at nat_eq nat_eq_equiv (λ (n : ℕ). pos n) h.graph (nat_alike h.graph.edges h.graph.starts) keys c.args.node here items at (x.0.reached c.args.node here at) (x.0.listed here inside) y s) n.4)
+
+pub number_places-requires-clause-empty : goal.number_places-requires-clause-empty
+number_places-requires-clause-empty g c = c.reset.ensures
+
+pub number_places-requires-clause-index : goal.number_places-requires-clause-index
+number_places-requires-clause-index g c = c.requires.graph.1.1
+
+pub number_places-requires-clause-wide : goal.number_places-requires-clause-wide
+number_places-requires-clause-wide g c = c.requires.graph.1.2
+
+pub index-place-requires : goal.index-place-requires
+index-place-requires g c = omega (arith, c.requires.inside, c.args.self.now.numbering.order.ok)
+
+pub returns-clause-back : goal.returns-clause-back
+returns-clause-back g c = (c.number_places.ensures.longer, c.number_places.ensures.index)
+
+pub returns-clause-refused : goal.returns-clause-refused
+returns-clause-refused g c = refused_still _ _ c.number_places.result c.number_places.ensures.refused (on_err_weaker c.number_places.result (λ e. ap length e) c.number_places.ensures.stays)

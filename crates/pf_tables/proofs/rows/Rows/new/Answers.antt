@@ -1,4 +1,4 @@
-use Rattle.std.proofs.Common.{arith}
+use Rattle.std.proofs.Common.{arith, refl}
 use Rattle.std.proofs.lemmas.Result.{err_from_is_err_and}
 use Rattle.pf_tables.specs.Graphs.{row_of}
 use Rattle.pf_tables.proofs.Faulty.{graph_of_sound}
@@ -22,3 +22,24 @@ invariant_of-result g c = graph_of_sound (row_of g.R.Row.edges c.args.rows.now) 
 
 pub returns-clause-sound : goal.returns-clause-sound
 returns-clause-sound g c = graph_of_sound (row_of g.R.Row.edges c.args.rows.now) (λ n l. c.loop-node.invariant n (omega (arith, l)))
+
+pub bounds-rows-node : goal.bounds-rows-node
+bounds-rows-node g c = c.loop-node-test.true
+
+pub check_part-requires-clause-rising : goal.check_part-requires-clause-rising
+check_part-requires-clause-rising g c = omega arith
+
+pub check_part-requires-clause-within : goal.check_part-requires-clause-within
+check_part-requires-clause-within g c = omega (arith, c.len.ensures)
+
+pub loop-node-init : goal.loop-node-init
+loop-node-init g c = λ n l. absurd (omega (arith, l))
+
+pub loop-node-smaller : goal.loop-node-smaller
+loop-node-smaller g c = omega (arith, c.loop-node-test.true)
+
+pub returns-clause-graph : goal.returns-clause-graph
+returns-clause-graph g c = refl
+
+pub returns-clause-fault : goal.returns-clause-fault
+returns-clause-fault g c = tt
