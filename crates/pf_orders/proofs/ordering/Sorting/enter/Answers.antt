@@ -1,14 +1,23 @@
-use Rattle.std.proofs.Common.{refl, arith, ◌≡◌, ◌∙◌, ◌++◌, ℕ, sym, subst, ap, List, [], ◌∷◌}
-use Rattle.std.specs.Prelude.{Contains, reverse}
+use Rattle.std.proofs.Common.{refl, arith, ◌≡◌, ◌∙◌, ◌++◌, ◌-◌, ◌≤◌, ℕ, sym, subst, ap, List, [], ◌∷◌, length, take, take_all, replicate}
+use Rattle.std.specs.Prelude.{Contains, reverse, slice_set}
 use Rattle.std.specs.List.{AllZip}
 use Rattle.std.proofs.lemmas.List.{append_assoc}
 use Rattle.pf_core.proofs.DepthFirstLemmas.{ends_stand}
 use Rattle.pf_core.proofs.ListLemmas.{on_ok}
 use Rattle.pf_orders.specs.declared.ordering.Turn.{Turn}
+use Rattle.pf_orders.specs.declared.ordering.Mark.{Mark}
 use Rattle.pf_orders.specs.Orderings.{entries}
 use Rattle.pf_orders.proofs.Outcomes.{refused_as, on_refused, on_any}
+use Rattle.pf_orders.proofs.ComponentLists.{set_length}
 use Rattle.pf_orders.proofs.OrderLemmas.{step_of}
 use Rattle.pf_orders.proofs.ordering.Sorting.enter.Goals as goal
+
+-- the marks, with the number open and those of what was found now new
+marks_opened : (old new : List Mark) (number found found' n : ℕ) → new ≡ take found (slice_set old number Mark.Open) ++ replicate (found - n) Mark.New → n ≡ length old → found ≡ found' → length old ≤ found' → new ≡ slice_set old number Mark.Open ++ replicate (found' - length old) Mark.New
+marks_opened old new number found found' n e long same le =
+    let all : length (slice_set old number Mark.Open) ≤ found = omega (arith, set_length old number Mark.Open, le, same) in
+    let more : found - n ≡ found' - length old = omega (arith, long, same) in
+    e ∙ ap (λ (ms : List Mark). ms ++ replicate (found - n) Mark.New) (take_all found (slice_set old number Mark.Open) all) ∙ ap (λ (m : ℕ). slice_set old number Mark.Open ++ replicate m Mark.New) more
 
 pub expand-requires-clause-inside : goal.expand-requires-clause-inside
 expand-requires-clause-inside g c = c.requires.inside
@@ -82,3 +91,9 @@ returns-clause-turns g c =
 
 pub returns-clause-refused : goal.returns-clause-refused
 returns-clause-refused g c = c.put_entries.ensures.refused
+
+pub returns-clause-marks : goal.returns-clause-marks
+returns-clause-marks g c =
+    let r = c.requires in
+    let e = c.in_ok-expand.ensures in
+    on_any c.put_entries.result (marks_opened c.args.self.now.marks.items c.resize.new.self.items c.args.number c.found.result _ _ c.in_ok-resize.ensures.items c.args.self.now.marks.ok.0 c.found.ensures (subst (λ (n : ℕ). n ≤ g.G.NumberedGraph.found c.expand.new.self) (sym r.marked) e.grows.more))
