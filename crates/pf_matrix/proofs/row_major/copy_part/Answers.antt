@@ -79,3 +79,12 @@ pub returns-clause-others : goal.returns-clause-others
 returns-clause-others g c = λ r k d b n.
     let end : c.args.size.0 ≡ c.loop-row.row = omega arith in
     c.loop-row.invariant.others r k d b (rw end at n)
+
+pub slice_bounds-write_at-count : goal.slice_bounds-write_at-count
+slice_bounds-write_at-count g c = omega (arith, row_before c.loop-row.row c.args.size.0 c.args.part_columns (omega arith), c.requires.part_rows, c.requires.part_columns)
+
+pub slice_bounds-write_at-start : goal.slice_bounds-write_at-start
+slice_bounds-write_at-start g c = omega arith
+
+pub offset_bounds-part-from : goal.offset_bounds-part-from
+offset_bounds-part-from g c = omega (arith, row_before c.loop-row.row c.args.size.0 c.args.part_columns (omega arith), c.requires.part_rows, c.requires.part_columns)

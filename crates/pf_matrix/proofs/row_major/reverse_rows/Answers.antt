@@ -1,6 +1,6 @@
-use Rattle.std.proofs.Common.{◌≡◌, ◌+◌, ◌-◌, ◌*◌, ◌<◌, ap, sym, ◌∙◌, arith, get_or, length, inl, inr}
+use Rattle.std.proofs.Common.{refl, ◌≡◌, ◌+◌, ◌-◌, ◌*◌, ◌<◌, ap, sym, ◌∙◌, arith, get_or, length, inl, inr}
 use Rattle.std.proofs.lemmas.Bool.{cases_eq}
-use Rattle.pf_matrix.proofs.SliceLemmas.{this_row, other_row, length-reversed_row, get_or-reversed_row}
+use Rattle.pf_matrix.proofs.SliceLemmas.{row_before, this_row, other_row, length-reversed_row, get_or-reversed_row}
 use Rattle.pf_matrix.proofs.row_major.reverse_rows.Goals as goal
 
 pub loop-row-preserved : goal.loop-row-preserved
@@ -24,3 +24,30 @@ loop-row-preserved g c =
       ];
       left = λ r k d h j b. other_row row w n xs ys inside sized size r k d (λ e. absurd (omega (arith, e))) b ∙ c.loop-row.invariant.left r k d (omega arith) j b;
     }
+
+pub loop-row-init : goal.loop-row-init
+loop-row-init g c = record { done = λ r k d h b. absurd (omega (arith, h)); left = λ r k d h j b. refl }
+
+pub loop-row-smaller : goal.loop-row-smaller
+loop-row-smaller g c = omega (arith, c.loop-row-test.true)
+
+pub overflow_add-row : goal.overflow_add-row
+overflow_add-row g c = omega (arith, c.loop-row-test.true)
+
+pub overflow_mul-row : goal.overflow_mul-row
+overflow_mul-row g c = omega (arith, c.requires, c.loop-row.auto.values, row_before c.loop-row.row c.args.rows c.args.columns c.loop-row-test.true)
+
+pub overflow_mul-row-in-loop-row : goal.overflow_mul-row-in-loop-row
+overflow_mul-row-in-loop-row g c = omega (arith, c.requires, c.loop-row.auto.values, row_before c.loop-row.row c.args.rows c.args.columns c.loop-row-test.true)
+
+pub slice_bounds-reverse-count : goal.slice_bounds-reverse-count
+slice_bounds-reverse-count g c = omega (arith, c.requires, c.loop-row.auto.values, row_before c.loop-row.row c.args.rows c.args.columns c.loop-row-test.true)
+
+pub slice_bounds-reverse-start : goal.slice_bounds-reverse-start
+slice_bounds-reverse-start g c = omega (arith, row_before c.loop-row.row c.args.rows c.args.columns c.loop-row-test.true)
+
+pub slice_bounds-reverse-end : goal.slice_bounds-reverse-end
+slice_bounds-reverse-end g c = omega (arith, c.requires, c.loop-row.auto.values, row_before c.loop-row.row c.args.rows c.args.columns c.loop-row-test.true)
+
+pub returns : goal.returns
+returns g c = record { values = λ r k d h b. c.loop-row.invariant.done r k d (omega (arith, h, c.loop-row-test.false)) b }
