@@ -1,6 +1,8 @@
 -- Searches by rising cost from both ends: the beginnings of chains of numbers.
-use Rattle.std.proofs.Common.{◌≡◌, ℕ, zero, suc, ◌+◌, List, [], ◌∷◌, ◌++◌, ◌∙◌, length, take, reverse, Some, slice_get, refl, sym, ap, subst, arith, inl, inr}
-use Rattle.std.specs.Prelude.{◌⊎◌, Contains}
+use Rattle.std.proofs.Common.{◌≡◌, ℕ, zero, suc, ◌+◌, ◌<◌, ◌≤◌, ◌^◌, ℤ, pos, List, [], ◌∷◌, ◌++◌, ◌∙◌, length, take, reverse, Some, slice_get, refl, sym, ap, subst, arith, inl, inr}
+use Rattle.std.specs.Prelude.{◌⊎◌, ◌≤ℤ◌, ◌+ℤ◌, Contains}
+use Rattle.std.proofs.lemmas.Int.{ints}
+use Rattle.std.proofs.lemmas.Option.{slice_get_within}
 use Rattle.std.proofs.lemmas.List.Elements.{Contains-push}
 use Rattle.pf_core.specs.declared.labels.Label.{Label}
 use Rattle.pf_core.specs.Labels.{Labels, HasLabel, Climbs, IsChain}
@@ -23,6 +25,14 @@ module _ {A : Type 0} where
   take_whole [] x (suc i) e = absurd (omega (arith, e))
   take_whole (y ∷ xs) x zero e = absurd (omega (arith, e))
   take_whole (y ∷ xs) x (suc i) e = ap (λ l. y ∷ l) (take_whole xs x i (omega (arith, e)))
+
+-- a sum that a cost bounds is not above it
+pub past_sum : (a b c : ℤ) → (c +ℤ pos 1) ≤ℤ (a +ℤ b) → (a +ℤ b) ≤ℤ c → ⊥
+past_sum a b c h g = omega (arith, ints, h, g)
+
+-- a place of a list that lies in memory
+pub place_fits : (xs : List ℕ) (place x n cap : ℕ) → slice_get xs place ≡ Some x → (n ≡ length xs) × (n ≤ cap) → cap < 2 ^ 63 → place < 2 ^ 63
+place_fits xs place x n cap at ok small = omega (arith, slice_get_within xs place x at, ok, small)
 
 -- what stands in the beginning of a list
 pub take_inside : {A : Type 0} (xs : List A) (n : ℕ) (y : A) → Contains (take n xs) y → Contains xs y

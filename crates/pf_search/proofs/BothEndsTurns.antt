@@ -97,6 +97,13 @@ module _ {N C : Type 0} (eq : N → N → Bool) (laws : IsEquivalence eq) (value
         (subst (λ (b : Labels C). IsPair eq value fits edges previous start end keys others2 labels b t × IfSome best (IsMeeting eq value keys others2 labels b)) (sym same')
         (pair_kept t pair others2 grows distinct wide, some_map (IsMeeting eq value keys others labels labels') (IsMeeting eq value keys others2 labels labels') (meeting_kept others2 grows) best w))
 
+    -- both sides and their best meeting where the labels are as they were
+    pub both_now : (t : ℤ) (now now' : Labels C) → now ≡ labels → now' ≡ labels' → (best : Option (Meeting C)) → IsPair eq value fits edges previous start end keys others labels labels' t × IfSome best (IsMeeting eq value keys others labels labels')
+        → IsPair eq value fits edges previous start end keys others now now' t × IfSome best (IsMeeting eq value keys others now now')
+    both_now t now now' same same' best w =
+        subst (λ (a : Labels C). IsPair eq value fits edges previous start end keys others a now' t × IfSome best (IsMeeting eq value keys others a now')) (sym same)
+        (subst (λ (b : Labels C). IsPair eq value fits edges previous start end keys others labels b t × IfSome best (IsMeeting eq value keys others labels b)) (sym same') w)
+
     -- what the best meeting says, where the least open labels do not undercut it
     pub decided : (greatest : ℤ) (best : Option (Meeting C)) → IsPair eq value fits edges previous start end keys others labels labels' (bound value greatest best) → (a b : ℤ) → IsLow (by_cost value) labels a → IsLow (by_cost value) labels' b
         → (r : Bool) → r ≡ true → MatchOption best (r ≡ false) (λ m. MatchBool r (value m.cost ≤ℤ (a +ℤ b)) ((a +ℤ b) <ℤ value m.cost)) → MatchOption best (NoWalkAcross eq value edges start end) (λ m. NoWalkAcrossBelow eq value edges start end (value m.cost))

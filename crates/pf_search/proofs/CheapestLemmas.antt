@@ -52,6 +52,10 @@ module _ {N : Type 0} (eq : N → N → Bool) (laws : IsEquivalence eq) where
     abbrev pub IsOne : CheapestWalk N C F → Type 0
     IsOne walk = IsCheapestWalk eq value edges start Discovers walk
 
+    -- a step of a walk that is this one, after which it is another that is this one
+    pub turn_seen : (fits : ℤ → Type 0) (s w t u : CheapestWalk N C F) (r : Result (Option (DijkstraReachableItem N C)) PathError) → s ≡ w → u ≡ t → IsOne t × CheapestTurn eq value edges start fits s r t → IsOne u × CheapestTurn eq value edges start fits w r u
+    turn_seen fits s w t u r e f h = subst (λ (x : CheapestWalk N C F). IsOne u × CheapestTurn eq value edges start fits x r u) e (subst (λ (y : CheapestWalk N C F). IsOne y × CheapestTurn eq value edges start fits s r y) (sym f) h)
+
     module _ (s : CheapestWalk N C F) (w : IsOne s) (tree : IsTree s.labels) where
       abbrev keys : List N
       keys = s.nodes
@@ -290,12 +294,23 @@ module _ {N : Type 0} (eq : N → N → Bool) (laws : IsEquivalence eq) where
     step_of fits s t (Ok None) h m (w, q) = (marked t false w, (inr q.0, subst (λ (c : Bool). record t { refused = c } ≡ s) (m ∙ h) q.1))
     step_of fits s t (Err x) h m (w, q) = (marked t true w, (h, refl, q.0, q.1, q.2, q.3, q.4))
 
+-- what is given for a number, where its label and its node are read from others
+module _ {N C : Type 0} (eq : N → N → Bool) (number : ℕ) (item : DijkstraReachableItem N C) where
+  abbrev IsItemAt : Labels C → List N → Type 0
+  IsItemAt labels nodes = (l : Label C) × HasLabel labels number l × (item.total_cost ≡ l.cost) × StandsFor eq nodes number item.node × MatchOption item.parent (l.depth ≡ 0) (λ parent. (0 < l.depth) × StandsFor eq nodes l.parent parent)
+
+  pub item_read : (now labels : Labels C) (read nodes : List N) → now ≡ labels → read ≡ nodes → IsItemAt now read → IsItemAt labels nodes
+  item_read now labels read nodes e f h = subst (λ (ks : List N). IsItemAt labels ks) f (subst (λ (ls : Labels C). IsItemAt ls read) e h)
+
 -- a step was refused, for this
 module _ {N C F : Type 0} (eq : N → N → Bool) (value : C → ℤ) (edges : N → List (N × ℤ)) (start : N) (fits : ℤ → Type 0) (s t : CheapestWalk N C F) where
   pub turn_refused : (r : Result (Option (DijkstraReachableItem N C)) PathError) (refusal : PathError) → IsErrAnd r (λ e. e ≡ refusal) → RefusedFor eq value edges start fits s refusal → IsLeft eq value edges start s → GivesNoMore eq s t → t.labels ≡ s.labels → SameNodes eq t.nodes s.nodes
       → CheapestTurn eq value edges start fits s r t
   turn_refused (Ok x) refusal e f l m same found = absurd e
   turn_refused (Err x) refusal e f l m same found = (subst (λ (y : PathError). RefusedFor eq value edges start fits s y) (sym e) f, l, m, same, found)
+
+  pub bar_seen : (w u : CheapestWalk N C F) (r : Result (Option (DijkstraReachableItem N C)) PathError) → s ≡ w → u ≡ t → TurnKeepsBar eq value edges start fits s r t → TurnKeepsBar eq value edges start fits w r u
+  bar_seen w u r e f h = subst (λ (x : CheapestWalk N C F). TurnKeepsBar eq value edges start fits x r u) e (subst (λ (y : CheapestWalk N C F). TurnKeepsBar eq value edges start fits s r y) (sym f) h)
 
   -- the mark of a refusal is no part of the step before which it stands
   pub marked_bar : (b : Bool) → IsBarred eq value edges start fits t → IsBarred eq value edges start fits (record t { refused = b })

@@ -29,7 +29,7 @@ use Rattle.pf_core.proofs.PathLemmas.{AllZip-append, AllZip-map, HasNode-append_
 use Rattle.pf_core.proofs.OrderLemmas.{Same-trans}
 use Rattle.pf_search.proofs.BreadthLemmas.{Same-sym, Same-length, Same-insert_all, found-push}
 use Rattle.pf_search.proofs.BreadthSteps.{inserted_in_order, kept_places, kept_all}
-use Rattle.pf_search.specs.Internal.Breadth.{BeginsEmpty}
+use Rattle.pf_search.specs.Internal.Breadth.{BeginsEmpty, found_or}
 use Rattle.pf_search.specs.Internal.Depth.{IsUnbegun}
 use Rattle.pf_search.specs.DepthWalks.{DepthWalk, StandsAt, IsDepthWalk, DepthGoes, DepthStep}
 use Rattle.pf_search.proofs.PreorderLemmas.{end_of_push, last_node_of, last_nodes_push, HasNode-left, HasNode-right, HasNode-found, preorder_push, same_node}
@@ -79,6 +79,9 @@ empty_before (Some x) nodes n h = h.0
 pub none_given : {N : Type 0} (start : Option N) (nodes : List N) (n : ℕ) (x : N) → IsUnbegun start nodes n → start ≡ Some x → n ≡ 0
 none_given None nodes n x h e = cc
 none_given (Some y) nodes n x h e = h.1
+
+pub begun_now : {N : Type 0} (start : Option N) (nodes : List N) (n : ℕ) → start ≡ None → IsUnbegun start nodes n
+begun_now start nodes n e = subst (λ (o : Option _). IsUnbegun o nodes n) (sym e) tt
 
 pub any_some : {A P : Type 0} (o : Option A) → P → IfSome o (λ _. P)
 any_some None p = tt
@@ -351,6 +354,11 @@ module _ {N F : Type 0} (eq : N → N → Bool) (laws : IsEquivalence eq) {I S :
   pub err_goes : {E : Type 0} (paths : List (List N)) (t : DepthWalk N F) → ¬ (IsWholePreorder eq next paths) → IsDepthWalk eq next start becomes can left steps calls paths t → (r : Result (Option N) E) → IsErr r → DepthGoes eq next start (λ done. IsDepthWalk eq next start becomes can left steps calls done t) paths r
   err_goes paths t n w (Ok x) h = cc
   err_goes paths t n w (Err e) h = (n, w)
+
+  -- how a walk goes whose start was put in
+  pub goes_put : (paths : List (List N)) (o : Option N) (t : DepthWalk N F) (r : Result (Option N) PathError) → o ≡ None → DepthGoes eq next start (λ done. IsDepthWalk eq next start becomes can left steps calls done t) paths r
+      → DepthGoes eq next start (λ done. IsDepthWalk eq next start becomes can left steps calls done (record t { found = found_or o t.found })) paths r
+  goes_put paths o t r e h = subst (λ (q : Option N). DepthGoes eq next start (λ done. IsDepthWalk eq next start becomes can left steps calls done (record t { found = found_or q t.found })) paths r) (sym e) h
 
   -- what holds once the branch to take was looked up
   pub looked : (paths : List (List N)) (s t : DepthWalk N F) (passed : List Branch) → IsDepthWalk eq next start becomes can left steps calls paths s → t.found ≡ s.found → t.given ≡ s.given → t.visited ≡ s.visited → t.path ≡ s.path → t.successors ≡ s.successors

@@ -1,4 +1,5 @@
 pub mod ResultLemmas
+pub mod StillLemmas
 pub mod LawLemmas
 pub mod SimplePaths
 pub mod BreadthLemmas

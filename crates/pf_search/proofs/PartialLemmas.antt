@@ -33,6 +33,10 @@ pub reached_at : {N : Type 0} (eq : N → N → Bool) (laws : IsEquivalence eq) 
     → (k : ℕ) (x : N) → StandsFor eq keys k x → InReach eq edges (start ∷ []) x
 reached_at eq laws edges start keys reached k x h = InReach-same eq laws edges (start ∷ []) h.0 x (reached k h.0 h.1) h.2
 
+-- the map that is made of nodes and labels which are these
+pub maps_read : {N C : Type 0} (eq : N → N → Bool) (read keys : List N) (now labels : Labels C) (entry : N → Option (N × C)) → read ≡ keys → now ≡ labels → MapsLabels eq read now (length now) entry → MapsLabels eq keys labels (length labels) entry
+maps_read eq read keys now labels entry e f m = subst (λ (ls : Labels _). MapsLabels eq keys ls (length ls) entry) f (subst (λ (ks : List _). MapsLabels eq ks now (length now) entry) e m)
+
 -- number 0 stands for the start still, where nodes were added
 pub begins_on : {N : Type 0} (eq : N → N → Bool) (start : N) (keys keys' : List N) → length keys ≡ 1 → Grows (length keys) (length keys') (StandsFor eq keys) (StandsFor eq keys') → ((x : N) → StandsFor eq keys 0 x ↔ (eq start x ≡ true))
     → (x : N) → StandsFor eq keys' 0 x ↔ (eq start x ≡ true)

@@ -1,8 +1,8 @@
 -- Lemmas on answers that are handed on.
-use Rattle.std.proofs.Common.{◌≡◌, ◌∙◌, Err, Some, sym, subst}
+use Rattle.std.proofs.Common.{◌≡◌, ◌∙◌, Bool, true, false, true≢false, Err, Some, None, sym, subst}
 use Rattle.pf_base.specs.declared.error.PathError.{PathError}
 use Rattle.pf_base.specs.declared.error.PathError.TheVariants.{OutOfMemory, CostOverflow}
-use Rattle.std.specs.Prelude.{Option, Result, Ok, IsOkAnd, IsErrAnd, IfOk, IfErr, OnOk, MatchResult}
+use Rattle.std.specs.Prelude.{Option, Result, Ok, IsOkAnd, IsErrAnd, IfOk, IfErr, OnOk, IfSome, MatchBool, MatchOption, MatchResult}
 
 -- what an answer has, the answer in `Some` has
 pub in_some : {T E : Type 0} (r : Result T E) (s : Result (Option T) E) → MatchResult r (λ x. IsOkAnd s (λ y. y ≡ Some x)) (λ e. s ≡ Err e) → (P : T → Type 0) (Q : Option T → Type 0) → ((x : T) → P x → Q (Some x)) → IfOk r P → IfOk s Q
@@ -34,6 +34,34 @@ module _ {T E : Type 0} where
   ok_is_no_error r x e p q =
       let both : Ok x ≡ Err e = sym p ∙ q in
       cc
+
+none_some : {A : Type 0} (x : A) → None ≡ Some x → ⊥
+none_some x e = cc
+
+-- what is known of a test, once it is known how it went
+pub when_true : (P Q : Type 0) (b : Bool) → b ≡ true → MatchBool b P Q → P
+when_true P Q true e h = h
+when_true P Q false e h = absurd (true≢false (sym e))
+
+pub when_false : (P Q : Type 0) (b : Bool) → b ≡ false → MatchBool b P Q → Q
+when_false P Q true e h = absurd (true≢false e)
+when_false P Q false e h = h
+
+pub when_some : {A : Type 0} (P : Type 0) (Q : A → Type 0) (o : Option A) (x : A) → o ≡ Some x → MatchOption o P Q → Q x
+when_some P Q (Some y) x e h = let f : y ≡ x = cc in subst Q f h
+when_some P Q None x e h = absurd (none_some x e)
+
+pub if_some : {A : Type 0} (Q : A → Type 0) (o : Option A) (x : A) → o ≡ Some x → IfSome o Q → Q x
+if_some Q (Some y) x e h = let f : y ≡ x = cc in subst Q f h
+if_some Q None x e h = absurd (none_some x e)
+
+pub when_none : {A : Type 0} (P : Type 0) (Q : A → Type 0) (o : Option A) → o ≡ None → MatchOption o P Q → P
+when_none P Q (Some y) e h = absurd (none_some y (sym e))
+when_none P Q None e h = h
+
+-- an overflow that `?` hands on
+pub overflow_kept : {T : Type 0} (r : Result T PathError) (e : PathError) → IsErrAnd r (λ x. x ≡ e) → r ≡ Err CostOverflow → e ≡ CostOverflow
+overflow_kept r e h q = sym (rw q at h)
 
 -- an error of another kind that `?` hands on
 pub no_overflow : {T : Type 0} (r : Result T PathError) (e : PathError) → IsErrAnd r (λ x. x ≡ e) → e ≡ OutOfMemory → r ≡ Err CostOverflow → ⊥

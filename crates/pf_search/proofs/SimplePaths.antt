@@ -1,5 +1,5 @@
 -- Each walk to a goal holds a path to it, and paths are looked through step by step.
-use Rattle.std.proofs.Common.{◌≡◌, ℕ, zero, suc, ◌<◌, ◌≤◌, ◌-◌, ◌||◌, Bool, true, false, Some, slice_get, slice_index_or, reverse, take, List, [], ◌∷◌, ◌++◌, ◌∙◌, length, refl, sym, ap, subst, arith, inl, inr, true≢false}
+use Rattle.std.proofs.Common.{◌≡◌, ℕ, zero, suc, ◌<◌, ◌≤◌, ◌+◌, ◌-◌, ◌||◌, Bool, true, false, Some, slice_get, slice_index_or, reverse, take, List, [], ◌∷◌, ◌++◌, ◌∙◌, length, length-append, refl, sym, ap, subst, arith, inl, inr, true≢false}
 use Rattle.std.specs.Prelude.{◌⊎◌, Contains, MatchBool}
 use Rattle.std.specs.Borrow.{Bor}
 use Rattle.std.specs.Fn.{Called, Mut}
@@ -13,7 +13,8 @@ use Rattle.pf_base.specs.Answers.{SameNodes, AnswersTest}
 use Rattle.pf_base.proofs.Asking.{Answers-gives, Answers-on}
 use Rattle.pf_core.proofs.ListLemmas.{or_left, or_right, or_cases, at_place, Contains-head, Contains-tail, Contains-cases, reverse-cons, Contains-reverse}
 use Rattle.pf_core.proofs.PathLemmas.{NoRepeats-append}
-use Rattle.pf_search.specs.Internal.Deepening.{IsPathFrom, FollowsEnd, NoGoalBeyond}
+use Rattle.pf_search.specs.Internal.Deepening.{IsPathFrom, FollowsEnd, NoGoalBeyond, Deepens}
+use Rattle.pf_search.specs.declared.directed.iddfs.Deepened.{Deepened}
 
 module _ {N : Type 0} (eq : N → N → Bool) (laws : IsEquivalence eq) where
   eq_sym : (x y : N) → eq x y ≡ true → eq y x ≡ true
@@ -356,6 +357,24 @@ module _ {F N : Type 0} (calls : Mut F (Bor N × Unit {0}) Bool) (eq : N → N �
   test_on f f' x r a w called = (record { alike = a.alike; answers = Answers-on calls within _ a.answers x w r f' called }, Answers-gives calls within _ a.answers x w r f' called)
 
 -- a list without the element that was put at its end
+module _ {N : Type 0} (eq : N → N → Bool) (next : N → List N) (starts : List N) (test : N → Bool) (steps : ℕ) where
+  -- what is known of an outcome, once it is known which one it is
+  pub deep_as : (d e : Deepened) (path path' : List N) → d ≡ e → Deepens eq next starts test steps d path path' → Deepens eq next starts test steps e path path'
+  deep_as d e path path' same h = subst (λ (x : Deepened). Deepens eq next starts test steps x path path') same h
+
+-- a path found one step deeper is short enough
+pub deep_short : (a b s l : ℕ) → l ≤ b + (s - 1) → b ≡ a + 1 → ¬ (s ≡ 0) → l ≤ a + s
+deep_short a b s l h e n = omega (arith, h, e, n)
+
+pub some_step : (s : ℕ) → ¬ (s ≡ 0) → 1 ≤ s
+some_step s n = omega (arith, n)
+
+pub no_longer : (a b : ℕ) → a ≤ a + b
+no_longer a b = omega arith
+
+pub popped_less : {A : Type 0} (xs ys : List A) (x : A) → xs ≡ ys ++ x ∷ [] → length ys < length xs
+popped_less xs ys x e = omega (arith, ap length e, length-append ys (x ∷ []))
+
 pub cut_back : {A : Type 0} (xs pushed left back : List A) (x : A) (n : ℕ) → pushed ≡ xs ++ x ∷ [] → left ≡ pushed → back ≡ take n left → n ≡ length xs → back ≡ xs
 cut_back {A = A} xs pushed left back x n e s t l = t ∙ ap (take n) (s ∙ e) ∙ take_push xs n l
   where

@@ -1,14 +1,19 @@
-use Rattle.std.proofs.Common.{◌≡◌, inl, ◌<◌, [], ◌∷◌, List, ℤ, Bool, ap, sym, arith, length, refl}
+use Rattle.std.proofs.Common.{◌≡◌, inl, ◌<◌, [], ◌∷◌, List, ℕ, ℤ, Bool, Option, ap, sym, subst, arith, length, refl}
 use Rattle.std.specs.Prelude.{Err}
+use Rattle.std.specs.HashMap.{get}
 use Rattle.pf_base.specs.declared.error.PathError.TheVariants.{CostOverflow}
 use Rattle.pf_core.specs.Nodes.{TestedGraph, StandsFor}
 use Rattle.pf_core.specs.NodeLaws.{StandsFor-one}
+use Rattle.pf_core.specs.Labels.{Labels, HasLabel}
 use Rattle.pf_core.proofs.LabelLemmas.{HasLabel-inside}
-use Rattle.pf_core.proofs.ListLemmas.{at_place}
+use Rattle.pf_search.specs.Parents.{IsPartialMap}
+use Rattle.pf_search.specs.Internal.Partial.{IsEnded}
+use Rattle.pf_search.proofs.StillLemmas.{read_at, read_inside}
+use Rattle.pf_core.proofs.Outcomes.{no_memory_or, memory_no_overflow}
 use Rattle.pf_core.proofs.WalkLemmas.{all_starts, only_starts, no_negative, past_range}
-use Rattle.pf_search.proofs.PartialLemmas.{parent_inside, reached_at, begins_on, whole_map, stopped_map}
+use Rattle.pf_search.proofs.PartialLemmas.{parent_inside, reached_at, begins_on, maps_read, whole_map, stopped_map}
 use Rattle.pf_search.proofs.directed.cheapest_map.partial_map.Goals.{in-Some+in_ok-clone-in-Some, in-None}
-use Rattle.pf_search.proofs.ResultLemmas.{if_refused, refused_as, no_overflow, ok_is_no_error}
+use Rattle.pf_search.proofs.ResultLemmas.{if_refused, refused_as, no_overflow, overflow_kept, ok_is_no_error, if_some}
 use Rattle.std.proofs.lemmas.Result.{IfOk-from_err}
 use Rattle.pf_search.proofs.directed.cheapest_map.partial_map.Goals as goal
 
@@ -34,7 +39,7 @@ returns-in_err-labels-clause-overflow g c = λ edges start test s costs e.
     let x = s.explores in
     let keys = c.search_to_goal.new.graph.discovery.nodes.keys in
     let y = c.in_err-labels.ensures.graph h (x, t) in
-    let f : c.in_err-labels.field-0.0 ≡ CostOverflow = sym (rw e at c.from_residual.ensures.1) in
+    let f : c.in_err-labels.field-0.0 ≡ CostOverflow = overflow_kept c.from_residual.result c.in_err-labels.field-0.0 c.from_residual.ensures.1 e in
     let d = c.in_err-labels.ensures.overflow h (x, t) (no_negative eq laws h.graph x.alike costs) (ap Err f) in
     past_range eq laws h.graph x.alike _ (all_starts eq start _ s.begins) (only_starts eq start _ s.begins) test g.C.Number.fits keys (StandsFor-one eq laws keys y.0.distinct) d
 
@@ -69,15 +74,15 @@ map_of-requires-clause-behind g c =
     let labels = c.in_ok-labels.labels.items in
     λ k l positive at.
     let inside = parent_inside eq laws g.C.Number.value r.0 start x.alike costs keys (StandsFor-one eq laws keys y.0.distinct) (reached_at eq laws r.0 start keys y.0.reached) (begins_on eq start c.args.graph.now.discovery.nodes.keys keys c.requires.one e.grows s.begins)
-    labels e.tree (e.search h (x, s.tested) (no_negative eq laws h.graph x.alike costs)) k l (rw c.deref.ensures.value at at) positive in
+    labels e.tree (e.search h (x, s.tested) (no_negative eq laws h.graph x.alike costs)) k l (subst (λ (ls : Labels g.row.C.Denot). HasLabel ls k l) c.deref.ensures.value at) positive in
     omega (arith, inside, ap length c.as_slice-nodes.ensures.keys, e.wide)
 
 pub bounds-nodes-number : goal.bounds-nodes-number
 bounds-nodes-number g c =
     let e = c.in_ok-labels.ensures in
-    let en = rw c.in-Some.is at e.ended in
+    let en = subst (IsEnded g.C.Number.value c.in_ok-labels.labels.items 0) c.in-Some.is e.ended in
     let z = en.ends in
-    omega (arith, HasLabel-inside c.in_ok-labels.labels.items c.in-Some.number z.0 z.1.at, ap length c.as_slice-nodes.ensures.keys, e.wide)
+    read_inside _ _ c.in_ok-labels.labels.items c.in-Some.number z.0 z.1.at e.wide c.as_slice-nodes.ensures.keys
 
 pub offset_bounds-nodes-number : goal.offset_bounds-nodes-number
 offset_bounds-nodes-number g c = omega (arith, bounds-nodes-number g c)
@@ -97,20 +102,20 @@ returns-clause-partial g c = λ edges start test s costs.
     let one = StandsFor-one eq laws keys y.0.distinct in
     let reached = reached_at eq laws edges start keys y.0.reached in
     let begins = begins_on eq start c.args.graph.now.discovery.nodes.keys keys c.requires.one e.grows s.begins in
-    let maps = rw (c.as_slice-nodes.ensures.keys, c.deref.ensures.value) at c.in_ok-parents.ensures.maps in
+    let maps = maps_read eq c.as_slice-nodes.result.now keys _ labels _ c.as_slice-nodes.ensures.keys c.deref.ensures.value c.in_ok-parents.ensures.maps in
     elim c.match-goal.branch [
       | in-Some+in_ok-clone-in-Some w ↦
           let number = w.in-Some.number in
-          let en = rw w.in-Some.is at e.ended in
+          let en = subst (IsEnded g.C.Number.value labels 0) w.in-Some.is e.ended in
           let z = en.ends in
-          let inside : number < length c.as_slice-nodes.result.now = omega (arith, HasLabel-inside labels number z.0 z.1.at, ap length c.as_slice-nodes.ensures.keys, e.wide) in
-          let here = rw c.as_slice-nodes.ensures.keys at (at_place c.as_slice-nodes.result.now number w.index-nodes-number.result _ inside (sym w.index-nodes-number.is)) in
+          let inside : number < length keys = subst (λ (n : ℕ). number < n) e.wide (HasLabel-inside labels number z.0 z.1.at) in
+          let here = read_at keys _ number _ _ c.as_slice-nodes.ensures.keys inside w.index-nodes-number.is in
           let node = w.in_ok-clone-in-Some.field-0 in
           let stands : StandsFor eq keys number node = (w.index-nodes-number.result, here, c.requires.clones _ _ w.in_ok-clone-in-Some.ensures.cases) in
-          rw w.stopped-is (stopped_map eq laws g.C.Number.value edges start x.alike costs keys one reached begins labels e.tree search _ maps test (e.passed h (x, t)) en.order en.settled number z.0 node en.first z.1 stands ((rw w.in-Some.is at (e.goal h (x, t))) node stands))
+          subst (λ (s : Option g.row.N.Denot). IsPartialMap eq edges start g.C.Number.value (get eq c.in_ok-parents.parents) test s) (sym w.stopped-is) (stopped_map eq laws g.C.Number.value edges start x.alike costs keys one reached begins labels e.tree search _ maps test (e.passed h (x, t)) en.order en.settled number z.0 node en.first z.1 stands (if_some _ _ _ w.in-Some.is (e.goal h (x, t)) node stands))
       | in-None w ↦
-          let en = rw w.in-None.is at e.ended in
-          rw w.stopped-is (whole_map eq laws g.C.Number.value edges start x.alike costs keys one reached begins labels e.tree search _ maps test (e.passed h (x, t)) en.order en.settled en.first en.ends)
+          let en = subst (IsEnded g.C.Number.value labels 0) w.in-None.is e.ended in
+          subst (λ (s : Option g.row.N.Denot). IsPartialMap eq edges start g.C.Number.value (get eq c.in_ok-parents.parents) test s) (sym w.stopped-is) (whole_map eq laws g.C.Number.value edges start x.alike costs keys one reached begins labels e.tree search _ maps test (e.passed h (x, t)) en.order en.settled en.first en.ends)
     ]
 
 pub map_of-requires-clause-clones : goal.map_of-requires-clause-clones
@@ -124,3 +129,9 @@ returns-clause-errors g c = tt
 
 pub returns-clause-overflow : goal.returns-clause-overflow
 returns-clause-overflow g c = λ _ _ _ _ _ e. absurd (ok_is_no_error _ _ _ refl e)
+
+pub returns-in_err-clone-in-Some-clause-errors : goal.returns-in_err-clone-in-Some-clause-errors
+returns-in_err-clone-in-Some-clause-errors g c = no_memory_or (λ e. e ≡ CostOverflow) c.from_residual-in_err-clone-in-Some.result c.from_residual-in_err-clone-in-Some.ensures.1
+
+pub returns-in_err-clone-in-Some-clause-overflow : goal.returns-in_err-clone-in-Some-clause-overflow
+returns-in_err-clone-in-Some-clause-overflow g c = λ _ _ _ _ _ e. absurd (memory_no_overflow c.from_residual-in_err-clone-in-Some.result c.from_residual-in_err-clone-in-Some.ensures.1 e)

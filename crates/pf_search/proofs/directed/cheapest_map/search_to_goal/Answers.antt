@@ -1,14 +1,15 @@
-use Rattle.std.proofs.Common.{◌≡◌, ◌<◌, ◌∙◌, sym, subst, ℕ, arith, ap, Err, refl, false, inl, inr, [], ◌∷◌, ◌++◌, eq-eqb}
+use Rattle.std.proofs.Common.{◌≡◌, ◌<◌, ◌∙◌, sym, subst, ℕ, ap, Err, refl, false, inl, inr, [], ◌∷◌, ◌++◌, eq-eqb, length}
 use Rattle.pf_core.specs.declared.labels.Label.{Label}
 use Rattle.std.specs.Prelude.{◌⊎◌}
-use Rattle.std.proofs.lemmas.List.Sums.{count_by-le-length}
-use Rattle.pf_core.specs.Labels.{HasLabel, by_cost, is_settled}
+use Rattle.pf_core.specs.Labels.{HasLabel, by_cost}
 use Rattle.pf_core.proofs.LabelLemmas.{HasLabel-inside}
 use Rattle.pf_core.proofs.SearchLemmas.{Grows-trans, search_grows, one_root, only_root, start_alone, none_settled, failed_turned}
 use Rattle.pf_core.proofs.TurnLemmas.{too_dear}
+use Rattle.pf_core.proofs.ReadLemmas.{same_most}
+use Rattle.pf_search.proofs.StillLemmas.{still_at, was_at, still_least, still_search, still_ended, turned_from, turn_smaller, none_grown}
 use Rattle.pf_search.proofs.OrderLemmas.{order_start, order_more, first_turned, ended_at, ended_all}
 use Rattle.std.proofs.lemmas.Result.{IfOk-from_err}
-use Rattle.pf_search.proofs.ResultLemmas.{refused_as, no_overflow, ok_is_no_error}
+use Rattle.pf_search.proofs.ResultLemmas.{refused_as, no_overflow, overflow_kept, ok_is_no_error}
 use Rattle.pf_search.proofs.directed.cheapest_map.search_to_goal.Goals as goal
 
 pub turns-init : goal.turns-init
@@ -20,7 +21,7 @@ turns-init g c =
     record {
       sound = b.sound;
       wide = b.wide ∙ c.found.ensures;
-      grown = record { more = omega arith; stays = λ k x h. h; back = λ k x i h. h };
+      grown = none_grown _ stands;
       explored = λ h x. x;
       search = λ h x p. start_alone c.args.start g.C.Number.value (g.G.NumberedGraph.step h) stands c.requires.begins labels first b.first b.only refl refl (g.met.C.Zero.zero_law g.met.C.Integral.exact_law);
       failed = λ h x k m y at s here. absurd (none_settled c.args.start g.C.Number.value (g.G.NumberedGraph.step h) stands c.requires.begins labels first b.first b.only refl k m at s);
@@ -36,7 +37,7 @@ pub is_goal-requires-clause-graph : goal.is_goal-requires-clause-graph
 is_goal-requires-clause-graph g c = let r = c.requires.graph in (r.0, c.turns.invariant.explored r.0 r.1)
 
 pub turn-requires-clause-least : goal.turn-requires-clause-least
-turn-requires-clause-least g c = rw c.in-Some.ensures.same c.in-Some.ensures.least
+turn-requires-clause-least g c = still_least _ _ c.in-Some.ensures.same g.C.Number.value c.in-Some.number c.in-Some.ensures.least
 
 pub turn-requires-clause-graph : goal.turn-requires-clause-graph
 turn-requires-clause-graph g c = let r = c.requires.graph in (r.0, (c.is_goal.ensures.graph r.0 (c.turns.invariant.explored r.0 r.1)).0)
@@ -45,8 +46,8 @@ pub turns-smaller : goal.turns-smaller
 turns-smaller g c =
     let z = c.in-Some.ensures.least in
     let old = c.turns.search.labels.items in
-    let t = rw c.in-Some.ensures.same at (c.in_ok-turn.ensures.turned z.0 (rw c.in-Some.ensures.same z.1.at)) in
-    omega (arith, t.count, count_by-le-length is_settled old, c.turns.search.labels.small, c.turns.search.labels.ok)
+    let t = turned_from old _ c.in-Some.ensures.same c.in-Some.number z.0 _ z.1.at c.in_ok-turn.ensures.turned in
+    turn_smaller old _ c.in-Some.number z.0 t _ _ c.turns.search.labels.ok c.turns.search.labels.small
 
 pub turns-preserved : goal.turns-preserved
 turns-preserved g c =
@@ -56,7 +57,7 @@ turns-preserved g c =
     let new = c.turn.new.self.labels.items in
     let same = c.in-Some.ensures.same in
     let e = c.in_ok-turn.ensures in
-    let t = rw same at (e.turned z.0 (rw same z.1.at)) in
+    let t = turned_from old _ same c.in-Some.number z.0 new z.1.at e.turned in
     let grown = Grows-trans _ _ _ _ _ _ c.is_goal.ensures.grows e.grows in
     let r = c.requires.graph in
     let i = v.search r.0 r.1 r.2 in
@@ -67,10 +68,10 @@ turns-preserved g c =
       explored = λ h x. e.graph h (c.is_goal.ensures.graph h (v.explored h x)).0;
       search = λ h x p.
           let x1 = (c.is_goal.ensures.graph h (v.explored h x)).0 in
-          e.search h x1 p (only_root c.args.start) (rw same (search_grows (by_cost g.C.Number.value) (g.G.NumberedGraph.step h) (only_root c.args.start) _ _ _ _ c.is_goal.ensures.grows old (omega (arith, v.wide)) (v.search h x p)));
+          e.search h x1 p (only_root c.args.start) (still_search old _ same (by_cost g.C.Number.value) (g.G.NumberedGraph.step h) (only_root c.args.start) _ (search_grows (by_cost g.C.Number.value) (g.G.NumberedGraph.step h) (only_root c.args.start) _ _ _ _ c.is_goal.ensures.grows old (same_most _ _ v.wide) (v.search h x p)));
       failed = λ h x.
           let q = (c.is_goal.ensures.graph h (v.explored h x)).1 in
-          failed_turned (g.G.NumberedGraph.passes h) _ _ _ _ grown old new (omega (arith, v.wide)) c.in-Some.number (subst (λ (n : ℕ). c.in-Some.number < n) v.wide (HasLabel-inside old c.in-Some.number z.0 z.1.at)) (λ j m a u. elim (t.from j m a u) as (λ _. (j ≡ c.in-Some.number) ⊎ HasLabel old j m) [ inl q ↦ inl q.0 | inr q ↦ inr q ])
+          failed_turned (g.G.NumberedGraph.passes h) _ _ _ _ grown old new (same_most _ _ v.wide) c.in-Some.number (subst (λ (n : ℕ). c.in-Some.number < n) v.wide (HasLabel-inside old c.in-Some.number z.0 z.1.at)) (λ j m a u. elim (t.from j m a u) as (λ _. (j ≡ c.in-Some.number) ⊎ HasLabel old j m) [ inl q ↦ inl q.0 | inr q ↦ inr q ])
           (λ y k. sym (q y k) ∙ c.if-is_goal.false) (v.failed h x);
       order = v.order ++ (c.in-Some.number, g.C.Number.value z.0.cost) ∷ [];
       settled = order_more g.C.Number.value c.args.start (g.G.NumberedGraph.step r.0) (only_root c.args.start) _ old i v.order v.settled c.in-Some.number z.0 z.1 new t;
@@ -88,9 +89,9 @@ returns-in_err-turn-clause-overflow g c = λ h x p e.
     let same = c.in-Some.ensures.same in
     let x1 = (c.is_goal.ensures.graph h (v.explored h x)).0 in
     let grown = Grows-trans _ _ _ _ _ _ c.is_goal.ensures.grows c.in_err-turn.ensures.grows in
-    let d = c.in_err-turn.ensures.overflow (ap Err (sym (rw e at c.from_residual-in_err-turn.ensures.1))) h x1 in
+    let d = c.in_err-turn.ensures.overflow (ap Err (overflow_kept c.from_residual-in_err-turn.result c.in_err-turn.field-0.0 c.from_residual-in_err-turn.ensures.1 e)) h x1 in
     too_dear g.C.Number.value g.C.Number.fits (g.G.NumberedGraph.step h) (only_root c.args.start) p _ labels (v.search h x p) v.sound.tree c.in-Some.number z.0 z.1 (g.G.NumberedGraph.passes h) (v.failed h x)
-    (g.met.G.NumberedGraph.one_law _ h (v.explored h x)) (λ n st. d n (c.is_goal.ensures.grows.stays c.in-Some.number n st) z.0 (rw same z.1.at)) _ _ _ grown (subst (λ (n : ℕ). c.in-Some.number < n) v.wide (HasLabel-inside labels c.in-Some.number z.0 z.1.at))
+    (g.met.G.NumberedGraph.one_law _ h (v.explored h x)) (λ n st. d n (c.is_goal.ensures.grows.stays c.in-Some.number n st) z.0 (still_at labels _ same _ _ z.1.at)) _ _ _ grown (subst (λ (n : ℕ). c.in-Some.number < n) v.wide (HasLabel-inside labels c.in-Some.number z.0 z.1.at))
     _ (one_root c.args.start _ _ _ _ v.grown c.requires.inside)
 
 pub returns-then-is_goal-clause-ended : goal.returns-then-is_goal-clause-ended
@@ -98,18 +99,18 @@ returns-then-is_goal-clause-ended g c =
     let v = c.turns.invariant in
     let z = c.in-Some.ensures.least in
     let r = c.requires.graph in
-    rw c.in-Some.ensures.same (ended_at g.C.Number.value c.args.start (g.G.NumberedGraph.step r.0) (only_root c.args.start) _ c.turns.search.labels.items (v.search r.0 r.1 r.2) v.order v.settled c.in-Some.number z.0 z.1 v.first)
+    still_ended _ _ c.in-Some.ensures.same g.C.Number.value c.args.start _ (ended_at g.C.Number.value c.args.start (g.G.NumberedGraph.step r.0) (only_root c.args.start) _ c.turns.search.labels.items (v.search r.0 r.1 r.2) v.order v.settled c.in-Some.number z.0 z.1 v.first)
 
 pub returns-then-is_goal-clause-search : goal.returns-then-is_goal-clause-search
 returns-then-is_goal-clause-search g c = λ h x p.
     let v = c.turns.invariant in
-    rw c.in-Some.ensures.same (search_grows (by_cost g.C.Number.value) (g.G.NumberedGraph.step h) (only_root c.args.start) _ _ _ _ c.is_goal.ensures.grows c.turns.search.labels.items (omega (arith, v.wide)) (v.search h x p))
+    still_search _ _ c.in-Some.ensures.same (by_cost g.C.Number.value) (g.G.NumberedGraph.step h) (only_root c.args.start) _ (search_grows (by_cost g.C.Number.value) (g.G.NumberedGraph.step h) (only_root c.args.start) _ _ _ _ c.is_goal.ensures.grows c.turns.search.labels.items (same_most _ _ v.wide) (v.search h x p))
 
 pub returns-then-is_goal-clause-passed : goal.returns-then-is_goal-clause-passed
 returns-then-is_goal-clause-passed g c = λ h x k l y at s here.
     let v = c.turns.invariant in
     let labels = c.turns.search.labels.items in
-    let at' : HasLabel labels k l = rw c.in-Some.ensures.same at at in
+    let at' : HasLabel labels k l = was_at labels _ c.in-Some.ensures.same k l at in
     v.failed h x k l y at' s (c.is_goal.ensures.grows.back k y (subst (λ (n : ℕ). k < n) v.wide (HasLabel-inside labels k l at')) here)
 
 pub returns-then-is_goal-clause-goal : goal.returns-then-is_goal-clause-goal
@@ -123,13 +124,13 @@ pub returns-clause-ended : goal.returns-clause-ended
 returns-clause-ended g c =
     let v = c.turns.invariant in
     let r = c.requires.graph in
-    rw c.least.ensures.same (ended_all g.C.Number.value c.args.start (g.G.NumberedGraph.step r.0) (only_root c.args.start) _ c.turns.search.labels.items (v.search r.0 r.1 r.2) v.order v.settled (eq-eqb c.args.start c.args.start refl) c.in_default.ensures.least v.first)
+    still_ended _ _ c.least.ensures.same g.C.Number.value c.args.start _ (ended_all g.C.Number.value c.args.start (g.G.NumberedGraph.step r.0) (only_root c.args.start) _ c.turns.search.labels.items (v.search r.0 r.1 r.2) v.order v.settled (eq-eqb c.args.start c.args.start refl) c.in_default.ensures.least v.first)
 
 pub returns-clause-search : goal.returns-clause-search
-returns-clause-search g c = λ h x p. rw c.least.ensures.same (c.turns.invariant.search h x p)
+returns-clause-search g c = λ h x p. still_search _ _ c.least.ensures.same (by_cost g.C.Number.value) (g.G.NumberedGraph.step h) (only_root c.args.start) _ (c.turns.invariant.search h x p)
 
 pub returns-clause-passed : goal.returns-clause-passed
-returns-clause-passed g c = λ h x k l y at s here. c.turns.invariant.failed h x k l y (rw c.least.ensures.same at at) s here
+returns-clause-passed g c = λ h x k l y at s here. c.turns.invariant.failed h x k l y (was_at _ _ c.least.ensures.same k l at) s here
 
 pub returns-in_err-search-clause-ended : goal.returns-in_err-search-clause-ended
 returns-in_err-search-clause-ended g c = IfOk-from_err _ _ c.from_residual.ensures.0
@@ -198,7 +199,7 @@ pub turn-requires-clause-sound : goal.turn-requires-clause-sound
 turn-requires-clause-sound g c = c.in-Some.ensures.sound
 
 pub turn-requires-clause-wide : goal.turn-requires-clause-wide
-turn-requires-clause-wide g c = rw c.in-Some.ensures.same (c.turns.invariant.wide ∙ sym c.is_goal.ensures.same)
+turn-requires-clause-wide g c = ap length c.in-Some.ensures.same ∙ c.turns.invariant.wide ∙ sym c.is_goal.ensures.same
 
 pub returns-then-is_goal-clause-graph : goal.returns-then-is_goal-clause-graph
 returns-then-is_goal-clause-graph g c = λ h x. (c.is_goal.ensures.graph h (c.turns.invariant.explored h x)).0
@@ -207,7 +208,7 @@ pub returns-then-is_goal-clause-grows : goal.returns-then-is_goal-clause-grows
 returns-then-is_goal-clause-grows g c = Grows-trans _ _ _ _ _ _ c.turns.invariant.grown c.is_goal.ensures.grows
 
 pub returns-then-is_goal-clause-wide : goal.returns-then-is_goal-clause-wide
-returns-then-is_goal-clause-wide g c = rw c.in-Some.ensures.same (c.turns.invariant.wide ∙ sym c.is_goal.ensures.same)
+returns-then-is_goal-clause-wide g c = ap length c.in-Some.ensures.same ∙ c.turns.invariant.wide ∙ sym c.is_goal.ensures.same
 
 pub returns-then-is_goal-clause-tree : goal.returns-then-is_goal-clause-tree
 returns-then-is_goal-clause-tree g c = c.in-Some.ensures.sound.tree
@@ -216,13 +217,13 @@ pub returns-in_err-search-clause-graph : goal.returns-in_err-search-clause-graph
 returns-in_err-search-clause-graph g c = λ h x. x
 
 pub returns-in_err-search-clause-grows : goal.returns-in_err-search-clause-grows
-returns-in_err-search-clause-grows g c = record { more = omega arith; stays = λ k x h. h; back = λ k x i h. h }
+returns-in_err-search-clause-grows g c = none_grown _ _
 
 pub returns-in_err-turn-clause-grows : goal.returns-in_err-turn-clause-grows
 returns-in_err-turn-clause-grows g c = Grows-trans _ _ _ _ _ _ c.turns.invariant.grown (Grows-trans _ _ _ _ _ _ c.is_goal.ensures.grows c.in_err-turn.ensures.grows)
 
 pub returns-clause-wide : goal.returns-clause-wide
-returns-clause-wide g c = rw c.least.ensures.same c.turns.invariant.wide
+returns-clause-wide g c = ap length c.least.ensures.same ∙ c.turns.invariant.wide
 
 pub returns-clause-tree : goal.returns-clause-tree
 returns-clause-tree g c = c.least.ensures.sound.tree

@@ -1,12 +1,13 @@
-use Rattle.std.proofs.Common.{◌≡◌, [], ◌∷◌, List, ℤ, Bool, ap, refl, sym}
-use Rattle.std.specs.Prelude.{Err}
-use Rattle.pf_base.specs.declared.error.PathError.TheVariants.{CostOverflow}
-use Rattle.pf_core.specs.Nodes.{TestedGraph}
+use Rattle.std.proofs.Common.{◌≡◌, [], ◌∷◌, List, ℕ, ℤ, Bool, ap, refl, subst, inl}
+use Rattle.std.specs.Prelude.{Err, Contains, ◌⊎◌}
+use Rattle.std.specs.List.{AllZip}
+use Rattle.pf_base.specs.declared.error.PathError.TheVariants.{OutOfMemory, CostOverflow}
+use Rattle.pf_core.specs.Nodes.{TestedGraph, StandsFor}
 use Rattle.pf_core.specs.NodeLaws.{StandsFor-one}
 use Rattle.pf_core.proofs.WalkLemmas.{all_starts, only_starts, no_negative, no_walk, best_answer, past_range}
 use Rattle.pf_core.proofs.NodeLemmas.{at_most}
 use Rattle.std.proofs.lemmas.Result.{IfOk-from_err}
-use Rattle.pf_search.proofs.ResultLemmas.{ok_is_no_error, refused_as}
+use Rattle.pf_search.proofs.ResultLemmas.{ok_is_no_error, refused_as, no_overflow, overflow_kept, when_some, when_none, if_some}
 use Rattle.pf_search.proofs.directed.dijkstra.path_tallied.Goals as goal
 
 -- the graph that these functions answer
@@ -28,7 +29,7 @@ returns-in_err-cheapest_path-clause-overflow g c = λ edges start test s costs e
     let x = s.explores in
     let keys = c.cheapest_path.new.graph.discovery.nodes.keys in
     let y = c.in_err-cheapest_path.ensures.graph h (x, t) in
-    let f : c.in_err-cheapest_path.field-0.0 ≡ CostOverflow = sym (rw e at c.from_residual.ensures.1) in
+    let f : c.in_err-cheapest_path.field-0.0 ≡ CostOverflow = overflow_kept c.from_residual.result c.in_err-cheapest_path.field-0.0 c.from_residual.ensures.1 e in
     let d = c.in_err-cheapest_path.ensures.overflow h (x, t) (no_negative eq laws h.graph x.alike costs) (ap Err f) in
     past_range eq laws h.graph x.alike _ (all_starts eq start _ s.begins) (only_starts eq start _ s.begins) test g.C.Number.fits keys (StandsFor-one eq laws keys y.0.distinct) d
 
@@ -39,11 +40,11 @@ returns-in-None-clause-best g c = λ edges start test s costs.
     let laws = g.met.N.Eq.laws in
     let h = tested start edges test in
     let x = s.explores in
-    let b = rw c.in-None.is at (c.in_ok-cheapest_path.ensures.best h (x, t) (no_negative eq laws h.graph x.alike costs)) in
+    let b = when_none _ _ _ c.in-None.is (c.in_ok-cheapest_path.ensures.best h (x, t) (no_negative eq laws h.graph x.alike costs)) in
     no_walk eq laws h.graph x.alike _ (all_starts eq start _ s.begins) (only_starts eq start _ s.begins) test b
 
 pub nodes_at-requires-clause-inside : goal.nodes_at-requires-clause-inside
-nodes_at-requires-clause-inside g c = λ k h. (rw c.in-Some.is at c.in_ok-cheapest_path.ensures.inside) k (rw c.deref.ensures.value at h)
+nodes_at-requires-clause-inside g c = λ k h. if_some _ _ _ c.in-Some.is c.in_ok-cheapest_path.ensures.inside k (subst (λ (ks : List ℕ). Contains ks k) c.deref.ensures.value h)
 
 pub returns-in_ok-path-in-Some-clause-best : goal.returns-in_ok-path-in-Some-clause-best
 returns-in_ok-path-in-Some-clause-best g c = λ edges start test s costs.
@@ -54,8 +55,8 @@ returns-in_ok-path-in-Some-clause-best g c = λ edges start test s costs.
     let x = s.explores in
     let keys = c.cheapest_path.new.graph.discovery.nodes.keys in
     let y = c.in_ok-cheapest_path.ensures.graph h (x, t) in
-    let b = rw c.in-Some.is at (c.in_ok-cheapest_path.ensures.best h (x, t) (no_negative eq laws h.graph x.alike costs)) in
-    best_answer eq laws h.graph x.alike _ (all_starts eq start _ s.begins) (only_starts eq start _ s.begins) test t.alike keys (StandsFor-one eq laws keys y.0.distinct) c.in-Some.numbers.items c.in_ok-path-in-Some.path.items (g.C.Number.value c.in-Some.cost) b (rw c.deref.ensures.value at c.in_ok-path-in-Some.ensures.nodes)
+    let b = when_some _ _ _ _ c.in-Some.is (c.in_ok-cheapest_path.ensures.best h (x, t) (no_negative eq laws h.graph x.alike costs)) in
+    best_answer eq laws h.graph x.alike _ (all_starts eq start _ s.begins) (only_starts eq start _ s.begins) test t.alike keys (StandsFor-one eq laws keys y.0.distinct) c.in-Some.numbers.items c.in_ok-path-in-Some.path.items (g.C.Number.value c.in-Some.cost) b (subst (λ (ks : List ℕ). AllZip (StandsFor eq keys) ks c.in_ok-path-in-Some.path.items) c.deref.ensures.value c.in_ok-path-in-Some.ensures.nodes)
 
 pub returns-in_err-path-in-Some-clause-asked : goal.returns-in_err-path-in-Some-clause-asked
 returns-in_err-path-in-Some-clause-asked g c = λ edges start test s.
@@ -116,3 +117,9 @@ returns-in_ok-path-in-Some-clause-overflow g c = λ _ _ _ _ _ e. absurd (ok_is_n
 
 pub returns-in_err-cheapest_path-clause-errors : goal.returns-in_err-cheapest_path-clause-errors
 returns-in_err-cheapest_path-clause-errors g c = refused_as _ c.from_residual.result c.in_err-cheapest_path.field-0.0 c.from_residual.ensures.1 c.in_err-cheapest_path.ensures.errors
+
+pub returns-in_err-path-in-Some-clause-errors : goal.returns-in_err-path-in-Some-clause-errors
+returns-in_err-path-in-Some-clause-errors g c = refused_as (λ e. (e ≡ OutOfMemory) ⊎ (e ≡ CostOverflow)) c.from_residual-in_err-path-in-Some.result c.in_err-path-in-Some.field-0.0 c.from_residual-in_err-path-in-Some.ensures.1 (inl c.in_err-path-in-Some.ensures.refused)
+
+pub returns-in_err-path-in-Some-clause-overflow : goal.returns-in_err-path-in-Some-clause-overflow
+returns-in_err-path-in-Some-clause-overflow g c = λ _ _ _ _ _ e. absurd (no_overflow c.from_residual-in_err-path-in-Some.result c.in_err-path-in-Some.field-0.0 c.from_residual-in_err-path-in-Some.ensures.1 c.in_err-path-in-Some.ensures.refused e)

@@ -1,11 +1,12 @@
-use Rattle.std.proofs.Common.{◌≡◌, ◌∙◌, sym, subst, ap, refl, length, arith, true, [], ◌∷◌, ◌++◌, ◌-◌, ◌+◌, ◌<◌, inl, inr, length-append}
-use Rattle.std.specs.Prelude.{◌⊎◌}
+use Rattle.std.proofs.Common.{List, ◌≡◌, ◌∙◌, sym, subst, ap, refl, length, arith, true, [], ◌∷◌, ◌++◌, ◌-◌, ◌+◌, ◌<◌, inl, inr, length-append}
+use Rattle.std.specs.Prelude.{◌⊎◌, Contains}
 use Rattle.std.proofs.lemmas.List.Elements.{Contains-append_left}
 use Rattle.std.proofs.lemmas.Result.{IfOk-from_err}
 use Rattle.pf_base.specs.Walks.{HasNode}
 use Rattle.pf_search.specs.Internal.Deepening.{NoGoalBeyond}
-use Rattle.pf_search.proofs.SimplePaths.{pushed_on, none_left, left_more, left_same, cut_back}
-use Rattle.pf_search.proofs.ResultLemmas.{refused_as}
+use Rattle.pf_search.proofs.SimplePaths.{pushed_on, none_left, left_more, left_same, cut_back, deep_as, deep_short, some_step, no_longer, popped_less}
+use Rattle.pf_core.proofs.Outcomes.{no_memory}
+use Rattle.pf_search.proofs.ResultLemmas.{refused_as, when_true, when_false}
 use Rattle.pf_search.proofs.directed.iddfs.+deepen.Goals as goal
 
 pub end_passes-requires : goal.end_passes-requires
@@ -14,13 +15,13 @@ end_passes-requires g t c = let r = c.requires.graph in (r.0, r.1, r.2, r.3.test
 pub returns-then-end_passes-clause-graph : goal.returns-then-end_passes-clause-graph
 returns-then-end_passes-clause-graph g t c = λ next starts test s p.
     let told = c.end_passes.ensures next starts test s.test_answered p in
-    (record { successors_answered = s.successors_answered; test_answered = told.0 }, (rw c.if-end_passes.true at told.1, omega arith))
+    (record { successors_answered = s.successors_answered; test_answered = told.0 }, (when_true _ _ _ c.if-end_passes.true told.1, no_longer _ _))
 
 pub returns-then-steps-eq0-clause-graph : goal.returns-then-steps-eq0-clause-graph
 returns-then-steps-eq0-clause-graph g t c = λ next starts test s p.
     let told = c.end_passes.ensures next starts test s.test_answered p in (
       record { successors_answered = s.successors_answered; test_answered = told.0 },
-      (refl {a = c.args.path.now.items}, subst (λ n. NoGoalBeyond g.N.PartialEq.eq next starts test true n c.args.path.now.items) (sym c.if-steps-eq0.true) (rw c.if-end_passes.false at told.1)),
+      (refl {a = c.args.path.now.items}, subst (λ n. NoGoalBeyond g.N.PartialEq.eq next starts test true n c.args.path.now.items) (sym c.if-steps-eq0.true) (when_false _ _ _ c.if-end_passes.false told.1)),
     )
 
 pub answer_of-requires : goal.answer_of-requires
@@ -54,29 +55,31 @@ returns-in-Found-clause-graph g t c = λ next starts test s p.
     let follows = (c.in_ok-answer.ensures.graph next starts s.successors_answered p).1 in
     let before = c.answer.invariant.searched next starts test s p in
     let on = pushed_on eq g.met.N.Eq.laws next starts path c.answer.path.items c.deref.result.now c.push.new.self.items c.in_ok-answer.answer.items c.answer.answer.items c.pop.new.self.items c.in-Some.next p follows c.answer.invariant.below c.in-Some.ensures.items before.0 c.deref.ensures.value c.if-not-contains.ensures.value c.in_ok-push.ensures.items in
-    let found = rw c.in-Found.is at (c.in_ok-deepen.ensures.graph next starts test before.1 on.0) in
+    let found = c.in_ok-deepen.ensures.graph next starts test before.1 on.0 in
+    let goes = deep_as eq next starts test (c.args.steps - 1) _ _ _ _ c.in-Found.is found.1 in
     let long : length c.push.new.self.items ≡ length path + 1 = ap length on.1 ∙ length-append path (c.in-Some.next ∷ []) in
-    (found.0, (found.1.0, omega (arith, found.1.1, long, c.if-steps-eq0.false)))
+    (found.0, (goes.0, deep_short _ _ _ _ goes.1 long c.if-steps-eq0.false))
 
 pub answer-preserved-then-not-contains : goal.answer-preserved-then-not-contains
 answer-preserved-then-not-contains g t c = record {
-  below = λ y m. c.answer.invariant.below y (rw c.in-Some.ensures.items (Contains-append_left c.pop.new.self.items (c.in-Some.next ∷ []) y m));
+  below = λ y m. c.answer.invariant.below y (subst (λ (ys : List g.row.N.Denot). Contains ys y) (sym c.in-Some.ensures.items) (Contains-append_left c.pop.new.self.items (c.in-Some.next ∷ []) y m));
   searched = λ next starts test s p.
       let eq = g.N.PartialEq.eq in
       let path = c.args.path.now.items in
       let follows = (c.in_ok-answer.ensures.graph next starts s.successors_answered p).1 in
       let before = c.answer.invariant.searched next starts test s p in
       let on = pushed_on eq g.met.N.Eq.laws next starts path c.answer.path.items c.deref.result.now c.push.new.self.items c.in_ok-answer.answer.items c.answer.answer.items c.pop.new.self.items c.in-Some.next p follows c.answer.invariant.below c.in-Some.ensures.items before.0 c.deref.ensures.value c.if-not-contains.ensures.value c.in_ok-push.ensures.items in
-      let missed = rw c.in-Missed.is at (c.in_ok-deepen.ensures.graph next starts test before.1 on.0) in (
-        cut_back path c.push.new.self.items c.deepen.new.path.items c.truncate.new.self.items c.in-Some.next c.len-length.result on.1 missed.1.0 c.truncate.ensures.items (omega (arith, c.len-length.ensures, c.args.path.now.ok)),
+      let missed = c.in_ok-deepen.ensures.graph next starts test before.1 on.0 in
+      let goes = deep_as eq next starts test (c.args.steps - 1) _ _ _ _ c.in-Missed.is missed.1 in (
+        cut_back path c.push.new.self.items c.deepen.new.path.items c.truncate.new.self.items c.in-Some.next c.len-length.result on.1 goes.0 c.truncate.ensures.items (c.len-length.ensures ∙ c.args.path.now.ok.0),
         missed.0,
-        left_more eq g.met.N.Eq.laws next starts test c.answer.cut (c.args.steps - 1) path c.in_ok-answer.answer.items c.answer.answer.items c.pop.new.self.items c.in-Some.next c.in-Some.ensures.items before.2 c.in-Missed.deeper c.push.new.self.items on.1 missed.1.1,
+        left_more eq g.met.N.Eq.laws next starts test c.answer.cut (c.args.steps - 1) path c.in_ok-answer.answer.items c.answer.answer.items c.pop.new.self.items c.in-Some.next c.in-Some.ensures.items before.2 c.in-Missed.deeper c.push.new.self.items on.1 goes.1,
       );
 }
 
 pub answer-preserved : goal.answer-preserved
 answer-preserved g t c = record {
-  below = λ y m. c.answer.invariant.below y (rw c.in-Some.ensures.items (Contains-append_left c.pop.new.self.items (c.in-Some.next ∷ []) y m));
+  below = λ y m. c.answer.invariant.below y (subst (λ (ys : List g.row.N.Denot). Contains ys y) (sym c.in-Some.ensures.items) (Contains-append_left c.pop.new.self.items (c.in-Some.next ∷ []) y m));
   searched = λ next starts test s p.
       let before = c.answer.invariant.searched next starts test s p in (
         before.0,
@@ -117,6 +120,24 @@ returns-in_err-deepen-clause-refused g t c = refused_as _ c.from_residual-in_err
 
 pub returns-in_err-push-clause-graph : goal.returns-in_err-push-clause-graph
 returns-in_err-push-clause-graph g t c = λ _ _ _ _ _. IfOk-from_err _ _ c.from_residual-in_err-push.ensures.0
+
+pub returns-in_err-push-clause-refused : goal.returns-in_err-push-clause-refused
+returns-in_err-push-clause-refused g t c = no_memory c.from_residual-in_err-push.result c.from_residual-in_err-push.ensures.1
+
+pub returns-in-Found-clause-refused : goal.returns-in-Found-clause-refused
+returns-in-Found-clause-refused g t c = tt
+
+pub returns-clause-refused : goal.returns-clause-refused
+returns-clause-refused g t c = tt
+
+pub overflow_sub-steps : goal.overflow_sub-steps
+overflow_sub-steps g t c = some_step c.args.steps c.if-steps-eq0.false
+
+pub answer-smaller : goal.answer-smaller
+answer-smaller g t c = popped_less c.answer.answer.items c.pop.new.self.items c.in-Some.next c.in-Some.ensures.items
+
+pub answer-smaller-then-not-contains : goal.answer-smaller-then-not-contains
+answer-smaller-then-not-contains g t c = popped_less c.answer.answer.items c.pop.new.self.items c.in-Some.next c.in-Some.ensures.items
 
 pub returns-then-steps-eq0-clause-refused : goal.returns-then-steps-eq0-clause-refused
 returns-then-steps-eq0-clause-refused g t c = tt

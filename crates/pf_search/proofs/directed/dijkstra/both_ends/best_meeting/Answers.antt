@@ -1,13 +1,13 @@
-use Rattle.std.proofs.Common.{◌≡◌, ◌∙◌, pos, Err, refl, sym, ap, subst, arith, inl, inr, nat_eq}
+use Rattle.std.proofs.Common.{rules, ◌≡◌, ◌∙◌, ◌-◌, ◌^◌, ◌<◌, ℕ, pos, Err, refl, sym, ap, subst, inl, inr, nat_eq, length}
 use Rattle.std.specs.Prelude.{◌≤ℤ◌}
-use Rattle.std.proofs.lemmas.List.Sums.{count_by-le-length}
-use Rattle.pf_core.specs.Labels.{by_cost, is_settled, settled_count}
+use Rattle.pf_core.specs.Labels.{Labels, by_cost, settled_count}
 use Rattle.pf_core.specs.Search.{IsLow}
 use Rattle.pf_core.proofs.LabelLemmas.{HasLabel-inside}
 use Rattle.pf_search.specs.Internal.BothEnds.{bound}
 use Rattle.pf_search.proofs.BothEndsLemmas.{positive, labelled_node, ended, past_at}
-use Rattle.pf_search.proofs.BothEndsTurns.{turned_forth, turned_back, both_kept, decided, undecided}
-use Rattle.pf_search.proofs.ResultLemmas.{ok_is_no_error, on_refused, if_refused, refused_as}
+use Rattle.pf_search.proofs.BothEndsTurns.{turned_forth, turned_back, both_kept, both_now, decided, undecided}
+use Rattle.pf_search.proofs.ResultLemmas.{ok_is_no_error, on_refused, if_refused, refused_as, overflow_kept}
+use Rattle.pf_search.proofs.StillLemmas.{still_at, still_least, still_labelled, turned_from, turn_smaller, labelled_inside, first_less, second_less, over_less}
 use Rattle.pf_search.proofs.directed.dijkstra.both_ends.best_meeting.Goals as goal
 
 pub turns-init : goal.turns-init
@@ -25,8 +25,8 @@ pub returns-in_default-least-clause-sound : goal.returns-in_default-least-clause
 returns-in_default-least-clause-sound g c = record {
   forth = c.in-Some.ensures.sound;
   back = c.in_default-least.ensures.sound;
-  wide_forth = rw c.in-Some.ensures.same c.turns.invariant.wide_forth;
-  wide_back = rw c.in_default-least.ensures.same c.turns.invariant.wide_back;
+  wide_forth = ap length c.in-Some.ensures.same ∙ c.turns.invariant.wide_forth;
+  wide_back = ap length c.in_default-least.ensures.same ∙ c.turns.invariant.wide_back;
 }
 
 pub returns-in_default-least-clause-errors : goal.returns-in_default-least-clause-errors
@@ -35,27 +35,27 @@ returns-in_default-least-clause-errors g c = tt
 pub returns-in_default-least-clause-best : goal.returns-in_default-least-clause-best
 returns-in_default-least-clause-best g c = λ edges previous start end x y p.
     let both = c.turns.invariant.pair edges previous start end x y p in
-    let pair = both.0 in (
-      rw (c.in-Some.ensures.same, c.in_default-least.ensures.same) (
-        pair,
-        both.1,
-        ended g.N.PartialEq.eq g.met.N.Eq.laws g.C.Number.value g.C.Number.fits edges previous start end _ _ _ _ (g.C.Number.value g.C.Cost.greatest) (λ z f. ((g.met.C.Cost.range_law z).0 f).1) c.turns.best pair (inr c.in_default-least.ensures.least),
+    let now = both_now g.N.PartialEq.eq g.met.N.Eq.laws g.C.Number.value g.C.Number.fits edges previous start end _ _ _ _ _ _ _ c.in-Some.ensures.same c.in_default-least.ensures.same c.turns.best both in (
+      (
+        now.0,
+        now.1,
+        ended g.N.PartialEq.eq g.met.N.Eq.laws g.C.Number.value g.C.Number.fits edges previous start end _ _ _ _ (g.C.Number.value g.C.Cost.greatest) (λ z f. ((g.met.C.Cost.range_law z).0 f).1) c.turns.best both.0 (inr c.in_default-least.ensures.least),
       ),
       λ e. absurd (ok_is_no_error _ _ _ refl e),
     )
 
 pub cost_at-cost-requires : goal.cost_at-cost-requires
-cost_at-cost-requires g c = let z = c.in-Some.ensures.least in rw c.in-Some.ensures.same (z.0, z.1.at)
+cost_at-cost-requires g c = still_labelled _ _ c.in-Some.ensures.same g.C.Number.value c.in-Some.number c.in-Some.ensures.least
 
 pub cost_at-cost_back-requires : goal.cost_at-cost_back-requires
-cost_at-cost_back-requires g c = let z = c.in-Some-least.ensures.least in rw c.in-Some-least.ensures.same (z.0, z.1.at)
+cost_at-cost_back-requires g c = still_labelled _ _ c.in-Some-least.ensures.same g.C.Number.value c.in-Some-least.across c.in-Some-least.ensures.least
 
 pub returns-then-is_best-clause-sound : goal.returns-then-is_best-clause-sound
 returns-then-is_best-clause-sound g c = record {
   forth = c.in-Some.ensures.sound;
   back = c.in-Some-least.ensures.sound;
-  wide_forth = rw c.in-Some.ensures.same c.turns.invariant.wide_forth;
-  wide_back = rw c.in-Some-least.ensures.same c.turns.invariant.wide_back;
+  wide_forth = ap length c.in-Some.ensures.same ∙ c.turns.invariant.wide_forth;
+  wide_back = ap length c.in-Some-least.ensures.same ∙ c.turns.invariant.wide_back;
 }
 
 pub returns-then-is_best-clause-errors : goal.returns-then-is_best-clause-errors
@@ -68,16 +68,17 @@ returns-then-is_best-clause-best g c = λ edges previous start end x y p.
     let value = g.C.Number.value in
     let both = c.turns.invariant.pair edges previous start end x y p in
     let pair = both.0 in
+    let now = both_now eq laws value g.C.Number.fits edges previous start end _ _ _ _ _ _ _ c.in-Some.ensures.same c.in-Some-least.ensures.same c.turns.best both in
     let z = c.in-Some.ensures.least in
     let w = c.in-Some-least.ensures.least in
-    let first : c.cost_at-cost.result ≡ z.0.cost = c.cost_at-cost.ensures z.0 (rw c.in-Some.ensures.same z.1.at) in
-    let second : c.cost_at-cost_back.result ≡ w.0.cost = c.cost_at-cost_back.ensures w.0 (rw c.in-Some-least.ensures.same w.1.at) in
+    let first : c.cost_at-cost.result ≡ z.0.cost = c.cost_at-cost.ensures z.0 (still_at _ _ c.in-Some.ensures.same _ _ z.1.at) in
+    let second : c.cost_at-cost_back.result ≡ w.0.cost = c.cost_at-cost_back.ensures w.0 (still_at _ _ c.in-Some-least.ensures.same _ _ w.1.at) in
     let low : IsLow (by_cost value) c.turns.forth.labels.items (value c.cost_at-cost.result) = subst (λ (x : g.row.C.Denot). IsLow (by_cost value) c.turns.forth.labels.items (value x)) (sym first) z.1.least in
     let low_back : IsLow (by_cost value) c.turns.back.labels.items (value c.cost_at-cost_back.result) = subst (λ (x : g.row.C.Denot). IsLow (by_cost value) c.turns.back.labels.items (value x)) (sym second) w.1.least in
     let nonneg : pos 0 ≤ℤ value c.cost_at-cost_back.result = subst (λ (x : g.row.C.Denot). pos 0 ≤ℤ value x) (sym second) (labelled_node eq laws value g.C.Number.fits previous end _ _ pair.back c.in-Some-least.across w.0 w.1.at).3 in (
-      rw (c.in-Some.ensures.same, c.in-Some-least.ensures.same) (
-        pair,
-        both.1,
+      (
+        now.0,
+        now.1,
         decided eq laws value g.C.Number.fits edges previous start end _ _ _ _ (value g.C.Cost.greatest) c.turns.best pair (value c.cost_at-cost.result) (value c.cost_at-cost_back.result) low low_back c.is_best.result c.if-is_best.true (c.is_best.ensures.decided nonneg),
       ),
       λ e. absurd (ok_is_no_error _ _ _ refl e),
@@ -87,22 +88,22 @@ pub turn-requires-clause-sound : goal.turn-requires-clause-sound
 turn-requires-clause-sound g c = c.in-Some.ensures.sound
 
 pub turn-requires-clause-wide : goal.turn-requires-clause-wide
-turn-requires-clause-wide g c = rw c.in-Some.ensures.same c.turns.invariant.wide_forth
+turn-requires-clause-wide g c = ap length c.in-Some.ensures.same ∙ c.turns.invariant.wide_forth
 
 pub turn-requires-else-waits_for_no_more-clause-sound : goal.turn-requires-else-waits_for_no_more-clause-sound
 turn-requires-else-waits_for_no_more-clause-sound g c = c.in-Some-least.ensures.sound
 
 pub turn-requires-else-waits_for_no_more-clause-wide : goal.turn-requires-else-waits_for_no_more-clause-wide
-turn-requires-else-waits_for_no_more-clause-wide g c = rw c.in-Some-least.ensures.same c.turns.invariant.wide_back
+turn-requires-else-waits_for_no_more-clause-wide g c = ap length c.in-Some-least.ensures.same ∙ c.turns.invariant.wide_back
 
 pub meeting_at-found-requires-clause-wide : goal.meeting_at-found-requires-clause-wide
-meeting_at-found-requires-clause-wide g c = rw c.in-Some-least.ensures.same c.turns.invariant.wide_back
+meeting_at-found-requires-clause-wide g c = ap length c.in-Some-least.ensures.same ∙ c.turns.invariant.wide_back
 
 pub meeting_at-found-requires-in-Ok-clause-wide : goal.meeting_at-found-requires-in-Ok-clause-wide
-meeting_at-found-requires-in-Ok-clause-wide g c = rw c.in-Some.ensures.same c.turns.invariant.wide_forth
+meeting_at-found-requires-in-Ok-clause-wide g c = ap length c.in-Some.ensures.same ∙ c.turns.invariant.wide_forth
 
 pub turn-requires-clause-least : goal.turn-requires-clause-least
-turn-requires-clause-least g c = rw c.in-Some.ensures.same c.in-Some.ensures.least
+turn-requires-clause-least g c = still_least _ _ c.in-Some.ensures.same g.C.Number.value c.in-Some.number c.in-Some.ensures.least
 
 pub turn-requires-clause-graph : goal.turn-requires-clause-graph
 turn-requires-clause-graph g c = let r = c.requires.pair in (_, c.turns.invariant.explored_forth _ r.4)
@@ -120,26 +121,26 @@ returns-in_err-turn-clause-best g c = λ edges previous start end x y p.
     let z = c.in-Some.ensures.least in
     let labels = c.turns.forth.labels.items in
     let w = c.in-Some-least.ensures.least in
-    let first : c.cost_at-cost.result ≡ z.0.cost = c.cost_at-cost.ensures z.0 (rw c.in-Some.ensures.same z.1.at) in
-    let second : c.cost_at-cost_back.result ≡ w.0.cost = c.cost_at-cost_back.ensures w.0 (rw c.in-Some-least.ensures.same w.1.at) in
+    let first : c.cost_at-cost.result ≡ z.0.cost = c.cost_at-cost.ensures z.0 (still_at _ _ c.in-Some.ensures.same _ _ z.1.at) in
+    let second : c.cost_at-cost_back.result ≡ w.0.cost = c.cost_at-cost_back.ensures w.0 (still_at _ _ c.in-Some-least.ensures.same _ _ w.1.at) in
     let nonneg : pos 0 ≤ℤ value c.cost_at-cost_back.result = subst (λ (x : g.row.C.Denot). pos 0 ≤ℤ value x) (sym second) (labelled_node eq laws value g.C.Number.fits previous end _ _ pair.back c.in-Some-least.across w.0 w.1.at).3 in (
       if_refused _ c.from_residual.result c.in_err-turn.field-0.0 c.from_residual.ensures.1,
       λ e.
-          let d = c.in_err-turn.ensures.overflow (ap Err (sym (rw e at c.from_residual.ensures.1))) _ (v.explored_forth _ x) in
+          let d = c.in_err-turn.ensures.overflow (ap Err (overflow_kept c.from_residual.result c.in_err-turn.field-0.0 c.from_residual.ensures.1 e)) _ (v.explored_forth _ x) in
           past_at eq laws value g.C.Number.fits edges previous start end _ _ _ _ (bound value (value g.C.Cost.greatest) c.turns.best) pair c.in-Some.number z.0 z.1
           (λ q f less le. undecided eq laws value g.C.Number.fits (value g.C.Cost.greatest) (λ t k. ((g.met.C.Cost.range_law t).0 k).1) c.turns.best (value c.cost_at-cost.result) (value c.cost_at-cost_back.result) nonneg c.is_best.result c.if-is_best.false (c.is_best.ensures.decided nonneg) q f less
           (subst (λ (x : g.row.C.Denot). q ≤ℤ value x) (sym first) le))
-          (λ n st. d n st z.0 (rw c.in-Some.ensures.same z.1.at)) (omega (arith, HasLabel-inside labels c.in-Some.number z.0 z.1.at, v.wide_forth)),
+          (λ n st. d n st z.0 (still_at _ _ c.in-Some.ensures.same _ _ z.1.at)) (subst (λ (n : ℕ). c.in-Some.number < n) v.wide_forth (HasLabel-inside labels c.in-Some.number z.0 z.1.at)),
     )
 
 pub returns-in_err-turn-clause-errors : goal.returns-in_err-turn-clause-errors
 returns-in_err-turn-clause-errors g c = refused_as _ c.from_residual.result c.in_err-turn.field-0.0 c.from_residual.ensures.1 c.in_err-turn.ensures.errors
 
 pub meeting_at-found-requires-clause-inside : goal.meeting_at-found-requires-clause-inside
-meeting_at-found-requires-clause-inside g c = let z = c.in-Some.ensures.least in omega (arith, HasLabel-inside c.turns.forth.labels.items c.in-Some.number z.0 z.1.at, c.turns.invariant.wide_forth, c.in_ok-turn.ensures.grows.more)
+meeting_at-found-requires-clause-inside g c = let z = c.in-Some.ensures.least in labelled_inside c.turns.forth.labels.items c.in-Some.number z.0 _ _ z.1.at c.turns.invariant.wide_forth c.in_ok-turn.ensures.grows.more
 
 pub meeting_at-found-requires-clause-labelled : goal.meeting_at-found-requires-clause-labelled
-meeting_at-found-requires-clause-labelled g c = let z = c.in-Some.ensures.least in let t = c.in_ok-turn.ensures.turned z.0 (rw c.in-Some.ensures.same z.1.at) in (_, t.done)
+meeting_at-found-requires-clause-labelled g c = let z = c.in-Some.ensures.least in let t = c.in_ok-turn.ensures.turned z.0 (still_at _ _ c.in-Some.ensures.same _ _ z.1.at) in (_, t.done)
 
 pub meeting_at-found-requires-clause-one : goal.meeting_at-found-requires-clause-one
 meeting_at-found-requires-clause-one g c = let r = c.requires.pair in let p = (c.turns.invariant.pair r.0 r.1 r.2 r.3 r.4 r.5 r.6).0 in p.back.one
@@ -148,15 +149,21 @@ pub turns-smaller-then-waits_for_no_more : goal.turns-smaller-then-waits_for_no_
 turns-smaller-then-waits_for_no_more g c =
     let z = c.in-Some.ensures.least in
     let old = c.turns.forth.labels in
-    let t = rw c.in-Some.ensures.same at (c.in_ok-turn.ensures.turned z.0 (rw c.in-Some.ensures.same z.1.at)) in
-    omega (arith, t.count, ap settled_count c.in-Some-least.ensures.same, count_by-le-length is_settled old.items, old.small, old.ok)
+    let t = turned_from old.items _ c.in-Some.ensures.same c.in-Some.number z.0 _ z.1.at c.in_ok-turn.ensures.turned in
+    first_less _ _ _ _ _ (turn_smaller old.items _ c.in-Some.number z.0 t _ _ old.ok old.small) (ap (λ (ls : Labels g.row.C.Denot). 2 ^ 64 - settled_count ls) c.in-Some-least.ensures.same)
 
 pub turns-smaller-in-Ok : goal.turns-smaller-in-Ok
 turns-smaller-in-Ok g c =
     let z = c.in-Some-least.ensures.least in
     let old = c.turns.back.labels in
-    let t = rw c.in-Some-least.ensures.same at (c.in-Ok.ensures.turned z.0 (rw c.in-Some-least.ensures.same z.1.at)) in
-    omega (arith, t.count, ap settled_count c.in-Some.ensures.same, count_by-le-length is_settled old.items, old.small, old.ok)
+    let t = turned_from old.items _ c.in-Some-least.ensures.same c.in-Some-least.across z.0 _ z.1.at c.in-Ok.ensures.turned in
+    second_less _ _ _ _ _ (ap (λ (ls : Labels g.row.C.Denot). 2 ^ 64 - settled_count ls) c.in-Some.ensures.same) (turn_smaller old.items _ c.in-Some-least.across z.0 t _ _ old.ok old.small)
+
+pub turns-smaller : goal.turns-smaller
+turns-smaller g c = over_less _ _ _ _ c.turns.back_is_over
+    (ap (λ (ls : Labels g.row.C.Denot). 2 ^ 64 - settled_count ls) c.in-Some.ensures.same)
+    (ap (λ (ls : Labels g.row.C.Denot). 2 ^ 64 - settled_count ls) (c.in-Err-CostOverflow.ensures.kept.1 ∙ c.in-Some-least.ensures.same))
+    (search rules)
 
 pub turns-preserved-then-waits_for_no_more : goal.turns-preserved-then-waits_for_no_more
 turns-preserved-then-waits_for_no_more g c =
@@ -175,7 +182,7 @@ turns-preserved-then-waits_for_no_more g c =
       sound_forth = e.sound;
       sound_back = c.in-Some-least.ensures.sound;
       wide_forth = e.wide;
-      wide_back = rw c.in-Some-least.ensures.same v.wide_back;
+      wide_back = ap length c.in-Some-least.ensures.same ∙ v.wide_back;
       explored_forth = λ h x. e.graph h (v.explored_forth h x);
       explored_back = v.explored_back;
       pair = λ edges previous start end x y p.
@@ -187,16 +194,16 @@ turns-preserved-then-waits_for_no_more g c =
     }
 
 pub turn-requires-else-waits_for_no_more-clause-least : goal.turn-requires-else-waits_for_no_more-clause-least
-turn-requires-else-waits_for_no_more-clause-least g c = rw c.in-Some-least.ensures.same c.in-Some-least.ensures.least
+turn-requires-else-waits_for_no_more-clause-least g c = still_least _ _ c.in-Some-least.ensures.same g.C.Number.value c.in-Some-least.across c.in-Some-least.ensures.least
 
 pub turn-requires-else-waits_for_no_more-clause-graph : goal.turn-requires-else-waits_for_no_more-clause-graph
 turn-requires-else-waits_for_no_more-clause-graph g c = let r = c.requires.pair in (_, c.turns.invariant.explored_back _ r.5)
 
 pub meeting_at-found-requires-in-Ok-clause-inside : goal.meeting_at-found-requires-in-Ok-clause-inside
-meeting_at-found-requires-in-Ok-clause-inside g c = let z = c.in-Some-least.ensures.least in omega (arith, HasLabel-inside c.turns.back.labels.items c.in-Some-least.across z.0 z.1.at, c.turns.invariant.wide_back, c.in-Ok.ensures.grows.more)
+meeting_at-found-requires-in-Ok-clause-inside g c = let z = c.in-Some-least.ensures.least in labelled_inside c.turns.back.labels.items c.in-Some-least.across z.0 _ _ z.1.at c.turns.invariant.wide_back c.in-Ok.ensures.grows.more
 
 pub meeting_at-found-requires-in-Ok-clause-labelled : goal.meeting_at-found-requires-in-Ok-clause-labelled
-meeting_at-found-requires-in-Ok-clause-labelled g c = let z = c.in-Some-least.ensures.least in let t = c.in-Ok.ensures.turned z.0 (rw c.in-Some-least.ensures.same z.1.at) in (_, t.done)
+meeting_at-found-requires-in-Ok-clause-labelled g c = let z = c.in-Some-least.ensures.least in let t = c.in-Ok.ensures.turned z.0 (still_at _ _ c.in-Some-least.ensures.same _ _ z.1.at) in (_, t.done)
 
 pub meeting_at-found-requires-in-Ok-clause-one : goal.meeting_at-found-requires-in-Ok-clause-one
 meeting_at-found-requires-in-Ok-clause-one g c = let r = c.requires.pair in let p = (c.turns.invariant.pair r.0 r.1 r.2 r.3 r.4 r.5 r.6).0 in p.forth.one
@@ -218,7 +225,7 @@ turns-preserved-in-Ok g c =
     record {
       sound_forth = c.in-Some.ensures.sound;
       sound_back = e.sound;
-      wide_forth = rw c.in-Some.ensures.same v.wide_forth;
+      wide_forth = ap length c.in-Some.ensures.same ∙ v.wide_forth;
       wide_back = e.wide;
       explored_forth = v.explored_forth;
       explored_back = λ h x. e.graph h (v.explored_back h x);
@@ -239,7 +246,7 @@ turns-preserved g c =
     record {
       sound_forth = c.in-Some.ensures.sound;
       sound_back = e.sound;
-      wide_forth = rw c.in-Some.ensures.same v.wide_forth;
+      wide_forth = ap length c.in-Some.ensures.same ∙ v.wide_forth;
       wide_back = e.wide;
       explored_forth = v.explored_forth;
       explored_back = λ h x. e.graph h (v.explored_back h x);
@@ -253,7 +260,7 @@ pub returns-clause-sound : goal.returns-clause-sound
 returns-clause-sound g c = record {
   forth = c.in_default.ensures.sound;
   back = c.turns.invariant.sound_back;
-  wide_forth = rw c.in_default.ensures.same c.turns.invariant.wide_forth;
+  wide_forth = ap length c.in_default.ensures.same ∙ c.turns.invariant.wide_forth;
   wide_back = c.turns.invariant.wide_back;
 }
 
@@ -266,11 +273,11 @@ returns-in-Err-clause-sound g c = tt
 pub returns-clause-best : goal.returns-clause-best
 returns-clause-best g c = λ edges previous start end x y p.
     let both = c.turns.invariant.pair edges previous start end x y p in
-    let pair = both.0 in (
-      rw c.in_default.ensures.same (
-        pair,
-        both.1,
-        ended g.N.PartialEq.eq g.met.N.Eq.laws g.C.Number.value g.C.Number.fits edges previous start end _ _ _ _ (g.C.Number.value g.C.Cost.greatest) (λ z f. ((g.met.C.Cost.range_law z).0 f).1) c.turns.best pair (inl c.in_default.ensures.least),
+    let now = both_now g.N.PartialEq.eq g.met.N.Eq.laws g.C.Number.value g.C.Number.fits edges previous start end _ _ _ _ _ _ _ c.in_default.ensures.same refl c.turns.best both in (
+      (
+        now.0,
+        now.1,
+        ended g.N.PartialEq.eq g.met.N.Eq.laws g.C.Number.value g.C.Number.fits edges previous start end _ _ _ _ (g.C.Number.value g.C.Cost.greatest) (λ z f. ((g.met.C.Cost.range_law z).0 f).1) c.turns.best both.0 (inl c.in_default.ensures.least),
       ),
       λ e. absurd (ok_is_no_error _ _ _ refl e),
     )

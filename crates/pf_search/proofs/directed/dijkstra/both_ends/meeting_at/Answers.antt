@@ -9,22 +9,24 @@ use Rattle.pf_core.proofs.ListLemmas.{at_place}
 use Rattle.pf_core.proofs.LabelLemmas.{label_is}
 use Rattle.pf_core.proofs.SideLemmas.{place_across}
 use Rattle.pf_search.proofs.BothEndsLemmas.{past_greatest}
+use Rattle.pf_search.proofs.ResultLemmas.{when_some, when_none}
+use Rattle.pf_search.proofs.StillLemmas.{read_at}
 use Rattle.pf_search.proofs.directed.dijkstra.both_ends.meeting_at.Goals as goal
 
 pub returns-in_default-clause-low : goal.returns-in_default-clause-low
 returns-in_default-clause-low g c = λ k l m x here there hl hm pl pm.
     let item = c.index-found-number.result in
-    let at : slice_get c.args.nodes.now.keys c.args.number ≡ Some item = at_place _ _ _ _ c.requires.inside (sym (rw c.as_slice-found.ensures.keys at c.index-found-number.is)) in
-    let place = rw c.in_default.is at (place_across g.N.PartialEq.eq g.met.N.Eq.laws c.args.nodes.now.keys c.args.other_nodes.now.keys c.args.number item c.get_index_of.result at c.get_index_of.ensures.index c.get_index_of.ensures.found) in
+    let at : slice_get c.args.nodes.now.keys c.args.number ≡ Some item = read_at _ _ _ _ _ c.as_slice-found.ensures.keys c.requires.inside c.index-found-number.is in
+    let place = when_none _ _ _ c.in_default.is (place_across g.N.PartialEq.eq g.met.N.Eq.laws c.args.nodes.now.keys c.args.other_nodes.now.keys c.args.number item c.get_index_of.result at c.get_index_of.ensures.index c.get_index_of.ensures.found) in
     absurd (place x here k there)
 
 pub returns-in_default-label-clause-low : goal.returns-in_default-label-clause-low
 returns-in_default-label-clause-low g c = λ k l m x here there hl hm pl pm.
     let item = c.index-found-number.result in
-    let at : slice_get c.args.nodes.now.keys c.args.number ≡ Some item = at_place _ _ _ _ c.requires.inside (sym (rw c.as_slice-found.ensures.keys at c.index-found-number.is)) in
-    let place = rw c.in-Some.is at (place_across g.N.PartialEq.eq g.met.N.Eq.laws c.args.nodes.now.keys c.args.other_nodes.now.keys c.args.number item c.get_index_of.result at c.get_index_of.ensures.index c.get_index_of.ensures.found) in
+    let at : slice_get c.args.nodes.now.keys c.args.number ≡ Some item = read_at _ _ _ _ _ c.as_slice-found.ensures.keys c.requires.inside c.index-found-number.is in
+    let place = when_some _ _ _ _ c.in-Some.is (place_across g.N.PartialEq.eq g.met.N.Eq.laws c.args.nodes.now.keys c.args.other_nodes.now.keys c.args.number item c.get_index_of.result at c.get_index_of.ensures.index c.get_index_of.ensures.found) in
     let same : k ≡ c.in-Some.across = c.requires.one k c.in-Some.across x there (place.1 x here) in
-    let inside : c.in-Some.across < length c.args.other_search.now.labels.items = omega (arith, place.0, c.requires.wide) in
+    let inside : c.in-Some.across < length c.args.other_search.now.labels.items = subst (λ (n : ℕ). c.in-Some.across < n) (sym c.requires.wide) place.0 in
     let slot : slice_get c.args.other_search.now.labels.items c.in-Some.across ≡ Some c.index.result.now = at_place _ _ _ _ inside (sym c.index.ensures) in
     let labelled : slice_get c.args.other_search.now.labels.items c.in-Some.across ≡ Some (Some m) = subst (λ (n : ℕ). slice_get c.args.other_search.now.labels.items n ≡ Some (Some m)) same hm in
     let told : c.index.result.now ≡ Some m = same_Some c.index.result.now (Some m) (sym slot ∙ labelled) in
@@ -33,10 +35,10 @@ returns-in_default-label-clause-low g c = λ k l m x here there hl hm pl pm.
 pub returns-in_default-checked_add-clause-low : goal.returns-in_default-checked_add-clause-low
 returns-in_default-checked_add-clause-low g c = λ k l m x here there hl hm pl pm.
     let item = c.index-found-number.result in
-    let at : slice_get c.args.nodes.now.keys c.args.number ≡ Some item = at_place _ _ _ _ c.requires.inside (sym (rw c.as_slice-found.ensures.keys at c.index-found-number.is)) in
-    let place = rw c.in-Some.is at (place_across g.N.PartialEq.eq g.met.N.Eq.laws c.args.nodes.now.keys c.args.other_nodes.now.keys c.args.number item c.get_index_of.result at c.get_index_of.ensures.index c.get_index_of.ensures.found) in
+    let at : slice_get c.args.nodes.now.keys c.args.number ≡ Some item = read_at _ _ _ _ _ c.as_slice-found.ensures.keys c.requires.inside c.index-found-number.is in
+    let place = when_some _ _ _ _ c.in-Some.is (place_across g.N.PartialEq.eq g.met.N.Eq.laws c.args.nodes.now.keys c.args.other_nodes.now.keys c.args.number item c.get_index_of.result at c.get_index_of.ensures.index c.get_index_of.ensures.found) in
     let same : k ≡ c.in-Some.across = c.requires.one k c.in-Some.across x there (place.1 x here) in
-    let inside : c.in-Some.across < length c.args.other_search.now.labels.items = omega (arith, place.0, c.requires.wide) in
+    let inside : c.in-Some.across < length c.args.other_search.now.labels.items = subst (λ (n : ℕ). c.in-Some.across < n) (sym c.requires.wide) place.0 in
     let slot : slice_get c.args.other_search.now.labels.items c.in-Some.across ≡ Some c.index.result.now = at_place _ _ _ _ inside (sym c.index.ensures) in
     let labelled : HasLabel c.args.other_search.now.labels.items c.in-Some.across c.in-Some-label.there = slot ∙ subst (λ o. Some c.index.result.now ≡ Some o) (sym c.label.ensures ∙ c.in-Some-label.is) refl in
     let first : c.label_of-here.result ≡ l = label_is c.args.search.now.labels.items c.args.number c.label_of-here.result l c.label_of-here.ensures hl in
@@ -50,9 +52,9 @@ returns-in_default-checked_add-clause-low g c = λ k l m x here there hl hm pl p
 pub returns-clause-meets : goal.returns-clause-meets
 returns-clause-meets g c =
     let item = c.index-found-number.result in
-    let at : slice_get c.args.nodes.now.keys c.args.number ≡ Some item = at_place _ _ _ _ c.requires.inside (sym (rw c.as_slice-found.ensures.keys at c.index-found-number.is)) in
-    let place = rw c.in-Some.is at (place_across g.N.PartialEq.eq g.met.N.Eq.laws c.args.nodes.now.keys c.args.other_nodes.now.keys c.args.number item c.get_index_of.result at c.get_index_of.ensures.index c.get_index_of.ensures.found) in
-    let inside : c.in-Some.across < length c.args.other_search.now.labels.items = omega (arith, place.0, c.requires.wide) in
+    let at : slice_get c.args.nodes.now.keys c.args.number ≡ Some item = read_at _ _ _ _ _ c.as_slice-found.ensures.keys c.requires.inside c.index-found-number.is in
+    let place = when_some _ _ _ _ c.in-Some.is (place_across g.N.PartialEq.eq g.met.N.Eq.laws c.args.nodes.now.keys c.args.other_nodes.now.keys c.args.number item c.get_index_of.result at c.get_index_of.ensures.index c.get_index_of.ensures.found) in
+    let inside : c.in-Some.across < length c.args.other_search.now.labels.items = subst (λ (n : ℕ). c.in-Some.across < n) (sym c.requires.wide) place.0 in
     let slot : slice_get c.args.other_search.now.labels.items c.in-Some.across ≡ Some c.index.result.now = at_place _ _ _ _ inside (sym c.index.ensures) in
     let sum = g.met.C.CheckedAdd.checked_add_law c.label_of-here.result.cost c.in-Some-label.there.cost (Some c.in-Some-checked_add.cost) c.in-Some-checked_add.ensures in
     let here : StandsFor g.N.PartialEq.eq c.args.nodes.now.keys c.args.number item = (item, at, g.met.N.Eq.laws.refl item) in (
@@ -72,10 +74,10 @@ returns-clause-meets g c =
 pub returns-clause-low : goal.returns-clause-low
 returns-clause-low g c = λ k l m x here there hl hm pl pm.
     let item = c.index-found-number.result in
-    let at : slice_get c.args.nodes.now.keys c.args.number ≡ Some item = at_place _ _ _ _ c.requires.inside (sym (rw c.as_slice-found.ensures.keys at c.index-found-number.is)) in
-    let place = rw c.in-Some.is at (place_across g.N.PartialEq.eq g.met.N.Eq.laws c.args.nodes.now.keys c.args.other_nodes.now.keys c.args.number item c.get_index_of.result at c.get_index_of.ensures.index c.get_index_of.ensures.found) in
+    let at : slice_get c.args.nodes.now.keys c.args.number ≡ Some item = read_at _ _ _ _ _ c.as_slice-found.ensures.keys c.requires.inside c.index-found-number.is in
+    let place = when_some _ _ _ _ c.in-Some.is (place_across g.N.PartialEq.eq g.met.N.Eq.laws c.args.nodes.now.keys c.args.other_nodes.now.keys c.args.number item c.get_index_of.result at c.get_index_of.ensures.index c.get_index_of.ensures.found) in
     let same : k ≡ c.in-Some.across = c.requires.one k c.in-Some.across x there (place.1 x here) in
-    let inside : c.in-Some.across < length c.args.other_search.now.labels.items = omega (arith, place.0, c.requires.wide) in
+    let inside : c.in-Some.across < length c.args.other_search.now.labels.items = subst (λ (n : ℕ). c.in-Some.across < n) (sym c.requires.wide) place.0 in
     let slot : slice_get c.args.other_search.now.labels.items c.in-Some.across ≡ Some c.index.result.now = at_place _ _ _ _ inside (sym c.index.ensures) in
     let labelled : HasLabel c.args.other_search.now.labels.items c.in-Some.across c.in-Some-label.there = slot ∙ subst (λ o. Some c.index.result.now ≡ Some o) (sym c.label.ensures ∙ c.in-Some-label.is) refl in
     let first : c.label_of-here.result ≡ l = label_is c.args.search.now.labels.items c.args.number c.label_of-here.result l c.label_of-here.ensures hl in

@@ -1,14 +1,15 @@
-use Rattle.std.proofs.Common.{pos, Err, refl, sym, ap, inl, inr}
+use Rattle.std.proofs.Common.{pos, Err, List, [], ◌∷◌, refl, sym, ap, subst, inl, inr}
 use Rattle.std.specs.Prelude.{◌≤ℤ◌}
+use Rattle.pf_base.specs.Edges.{IsCheapestGoalPath}
 use Rattle.pf_search.proofs.BothEndsLemmas.{labelled_node}
 use Rattle.pf_search.proofs.BothEndsPaths.{no_walk_across, joined_halves}
-use Rattle.pf_search.proofs.ResultLemmas.{ok_is_no_error, if_refused, no_overflow, refused_as}
+use Rattle.pf_search.proofs.ResultLemmas.{ok_is_no_error, if_refused, no_overflow, overflow_kept, refused_as, when_some, when_none, if_some}
 use Rattle.pf_search.proofs.directed.dijkstra.both_ends.path_across.Goals as goal
 
 pub returns-in_err-best_meeting-clause-best : goal.returns-in_err-best_meeting-clause-best
 returns-in_err-best_meeting-clause-best g c = λ edges previous start end x y p. (
   if_refused _ c.from_residual.result c.in_err-best_meeting.field-0.0 c.from_residual.ensures.1,
-  λ e. (c.in_err-best_meeting.ensures.best edges previous start end x y p).1 (ap Err (sym (rw e at c.from_residual.ensures.1))),
+  λ e. (c.in_err-best_meeting.ensures.best edges previous start end x y p).1 (ap Err (overflow_kept c.from_residual.result c.in_err-best_meeting.field-0.0 c.from_residual.ensures.1 e)),
 )
 
 pub returns-in_err-best_meeting-clause-errors : goal.returns-in_err-best_meeting-clause-errors
@@ -16,8 +17,8 @@ returns-in_err-best_meeting-clause-errors g c = refused_as _ c.from_residual.res
 
 pub returns-in-None-clause-best : goal.returns-in-None-clause-best
 returns-in-None-clause-best g c = λ edges previous start end x y p.
-    let q = rw c.in-None.is at (c.in_ok-best_meeting.ensures.best edges previous start end x y p).0 in
-    (no_walk_across g.N.PartialEq.eq g.met.N.Eq.laws g.C.Number.value g.C.Number.fits edges start _ _ (q.0).forth end q.2, λ e. absurd (ok_is_no_error _ _ _ refl e))
+    let q = (c.in_ok-best_meeting.ensures.best edges previous start end x y p).0 in
+    (no_walk_across g.N.PartialEq.eq g.met.N.Eq.laws g.C.Number.value g.C.Number.fits edges start _ _ (q.0).forth end (when_none _ _ _ c.in-None.is q.2), λ e. absurd (ok_is_no_error _ _ _ refl e))
 
 pub path_through-requires-clause-trees : goal.path_through-requires-clause-trees
 path_through-requires-clause-trees g c = (c.in_ok-best_meeting.ensures.sound.forth.tree, c.in_ok-best_meeting.ensures.sound.back.tree)
@@ -31,8 +32,7 @@ path_through-requires-clause-wide_back g c = c.in_ok-best_meeting.ensures.sound.
 pub path_through-requires-clause-meets : goal.path_through-requires-clause-meets
 path_through-requires-clause-meets g c =
     let r = c.requires.pair in
-    let q = rw c.in-Some.is at (c.in_ok-best_meeting.ensures.best r.0 r.1 r.2 r.3 r.4 r.5 r.6).0 in
-    q.1
+    if_some _ _ _ c.in-Some.is (c.in_ok-best_meeting.ensures.best r.0 r.1 r.2 r.3 r.4 r.5 r.6).0.1
 
 pub path_through-requires-clause-one : goal.path_through-requires-clause-one
 path_through-requires-clause-one g c =
@@ -64,9 +64,9 @@ returns-in_err-path-in-Some-clause-errors g c = refused_as _ c.from_residual-in_
 
 pub returns-in_ok-path-in-Some-clause-best : goal.returns-in_ok-path-in-Some-clause-best
 returns-in_ok-path-in-Some-clause-best g c = λ edges previous start end x y p.
-    let q = rw c.in-Some.is at (c.in_ok-best_meeting.ensures.best edges previous start end x y p).0 in
+    let q = (c.in_ok-best_meeting.ensures.best edges previous start end x y p).0 in
     let w = c.in_ok-path-in-Some.ensures.path in
-    (rw w.7 (joined_halves g.N.PartialEq.eq g.met.N.Eq.laws g.C.Number.value g.C.Number.fits edges previous start end _ _ _ _ _ q.0 (g.C.Number.value c.in-Some.meeting.cost) w.0 w.1 w.4 q.2 w.2 w.3 w.5 w.6), λ e. absurd (ok_is_no_error _ _ _ refl e))
+    (subst (λ (xs : List g.row.N.Denot). IsCheapestGoalPath g.N.PartialEq.eq edges (start ∷ []) (g.N.PartialEq.eq end) xs (g.C.Number.value c.in-Some.meeting.cost)) (sym w.7) (joined_halves g.N.PartialEq.eq g.met.N.Eq.laws g.C.Number.value g.C.Number.fits edges previous start end _ _ _ _ _ q.0 (g.C.Number.value c.in-Some.meeting.cost) w.0 w.1 w.4 (when_some _ _ _ _ c.in-Some.is q.2) w.2 w.3 w.5 w.6), λ e. absurd (ok_is_no_error _ _ _ refl e))
 
 pub path_through-requires-clause-clones : goal.path_through-requires-clause-clones
 path_through-requires-clause-clones g c = c.requires.clones

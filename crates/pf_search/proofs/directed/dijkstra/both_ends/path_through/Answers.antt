@@ -1,50 +1,48 @@
-use Rattle.std.proofs.Common.{◌≡◌, ◌<◌, ◌+◌, ℕ, pos, subst, arith, Some, slice_get, inl, inr}
-use Rattle.std.specs.Prelude.{◌⊎◌, ◌+ℤ◌}
-use Rattle.std.proofs.lemmas.Int.{ints}
-use Rattle.std.proofs.lemmas.Option.{slice_get_within}
+use Rattle.std.proofs.Common.{◌≡◌, ◌∙◌, ◌<◌, ◌+◌, ℕ, pos, List, length, take, sym, ap, subst, arith, Some, slice_get, inl, inr}
+use Rattle.std.specs.Prelude.{◌⊎◌, ◌+ℤ◌, Contains}
 use Rattle.std.proofs.lemmas.Result.{IfOk-weaker, IfOk-from_err}
-use Rattle.pf_core.specs.Labels.{IsChain}
+use Rattle.pf_core.specs.Labels.{Labels, IsChain, IsTree}
 use Rattle.pf_search.specs.Internal.BothEnds.{NoneBelowAt, AreHalves}
-use Rattle.pf_search.proofs.BothEndsChains.{chain_labelled, chain_last, chain_front, take_inside, last_of_take}
+use Rattle.pf_search.proofs.BothEndsChains.{chain_labelled, chain_last, chain_front, take_inside, last_of_take, past_sum, place_fits}
+use Rattle.pf_search.proofs.StillLemmas.{still_at}
 use Rattle.pf_search.proofs.ResultLemmas.{refused_as}
 use Rattle.pf_search.proofs.directed.dijkstra.both_ends.path_through.Goals as goal
 
 pub path_to-requires-clause-labelled : goal.path_to-requires-clause-labelled
-path_to-requires-clause-labelled g c = let w = c.requires.meets in rw c.deref.ensures.value (w.here, w.labelled_here)
+path_to-requires-clause-labelled g c = let w = c.requires.meets in (w.here, still_at _ _ c.deref.ensures.value c.args.best.here w.here w.labelled_here)
 
 pub first_on-first-requires-clause-inside : goal.first_on-first-requires-clause-inside
 first_on-first-requires-clause-inside g c = λ k h.
-    let inside = rw c.deref.ensures.value at c.in_ok-numbers.ensures.inside in
-    subst (λ (n : ℕ). k < n) c.requires.wide_forth (inside k (rw c.deref-2.ensures.value at h))
+    subst (λ (n : ℕ). k < n) (ap length c.deref.ensures.value ∙ c.requires.wide_forth) (c.in_ok-numbers.ensures.inside k (subst (λ (ks : List ℕ). Contains ks k) c.deref-2.ensures.value h))
 
 pub first_on-first-requires-clause-labelled : goal.first_on-first-requires-clause-labelled
 first_on-first-requires-clause-labelled g c = λ k h.
-    chain_labelled c.args.forth.now.labels.items c.args.best.here c.in_ok-numbers.numbers.items (rw c.deref.ensures.value at c.in_ok-numbers.ensures.chain) k (rw c.deref-2.ensures.value at h)
+    let numbers = c.in_ok-numbers.numbers.items in
+    chain_labelled c.args.forth.now.labels.items c.args.best.here numbers (subst (λ (ls : Labels g.row.C.Denot). IsChain ls c.args.best.here numbers) c.deref.ensures.value c.in_ok-numbers.ensures.chain) k (subst (λ (ks : List ℕ). Contains ks k) c.deref-2.ensures.value h)
 
 pub unreachable-requires : goal.unreachable-requires
 unreachable-requires g c =
     let w = c.requires.meets in
-    let last = chain_last c.args.forth.now.labels.items c.args.best.here c.in_ok-numbers.numbers.items (rw c.deref.ensures.value at c.in_ok-numbers.ensures.chain) in
-    let low = c.in_default.ensures.first c.args.best.here (rw c.deref-2.ensures.value last) c.args.best.across w.here w.across w.node w.stands_here w.stands_across w.labelled_here w.labelled_across
+    let numbers = c.in_ok-numbers.numbers.items in
+    let last = chain_last c.args.forth.now.labels.items c.args.best.here numbers (subst (λ (ls : Labels g.row.C.Denot). IsChain ls c.args.best.here numbers) c.deref.ensures.value c.in_ok-numbers.ensures.chain) in
+    let low = c.in_default.ensures.first c.args.best.here (subst (λ (ks : List ℕ). Contains ks c.args.best.here) (sym c.deref-2.ensures.value) last) c.args.best.across w.here w.across w.node w.stands_here w.stands_across w.labelled_here w.labelled_across
     (c.requires.costs c.args.best.here w.here (inl w.labelled_here)) (c.requires.costs c.args.best.across w.across (inr w.labelled_across)) in
-    omega (arith, ints, low, w.sum)
+    past_sum (g.C.Number.value w.here.cost) (g.C.Number.value w.across.cost) (g.C.Number.value c.args.best.cost) low w.sum
 
 pub overflow_add-place : goal.overflow_add-place
 overflow_add-place g c =
     let numbers = c.in_ok-numbers.numbers in
-    let at : slice_get numbers.items c.in-Some.place ≡ Some c.in-Some.meeting.here = rw c.deref-2.ensures.value at (c.in-Some.ensures.first.0) in
-    omega (arith, slice_get_within numbers.items c.in-Some.place c.in-Some.meeting.here at, numbers.small, numbers.ok)
+    omega (arith, place_fits numbers.items c.in-Some.place c.in-Some.meeting.here _ _ (subst (λ (ks : List ℕ). slice_get ks c.in-Some.place ≡ Some c.in-Some.meeting.here) c.deref-2.ensures.value c.in-Some.ensures.first.0) numbers.ok numbers.small)
 
 pub path_to-requires-2-clause-labelled : goal.path_to-requires-2-clause-labelled
-path_to-requires-2-clause-labelled g c = let w = c.in-Some.ensures.first.1 in rw c.deref-3.ensures.value (w.across, w.labelled_across)
+path_to-requires-2-clause-labelled g c = let w = c.in-Some.ensures.first.1 in (w.across, still_at _ _ c.deref-3.ensures.value c.in-Some.meeting.across w.across w.labelled_across)
 
 pub nodes_along-requires-clause-forth : goal.nodes_along-requires-clause-forth
 nodes_along-requires-clause-forth g c = λ k h.
-    let inside = rw c.deref.ensures.value at c.in_ok-numbers.ensures.inside in
-    subst (λ (n : ℕ). k < n) c.requires.wide_forth (inside k (take_inside c.in_ok-numbers.numbers.items (c.in-Some.place + 1) k (rw c.truncate.ensures.items at h)))
+    subst (λ (n : ℕ). k < n) (ap length c.deref.ensures.value ∙ c.requires.wide_forth) (c.in_ok-numbers.ensures.inside k (take_inside c.in_ok-numbers.numbers.items (c.in-Some.place + 1) k (subst (λ (ks : List ℕ). Contains ks k) c.truncate.ensures.items h)))
 
 pub nodes_along-requires-clause-back : goal.nodes_along-requires-clause-back
-nodes_along-requires-clause-back g c = λ k h. subst (λ (n : ℕ). k < n) c.requires.wide_back ((rw c.deref-3.ensures.value at c.in_ok-back_numbers.ensures.inside) k h)
+nodes_along-requires-clause-back g c = λ k h. subst (λ (n : ℕ). k < n) (ap length c.deref-3.ensures.value ∙ c.requires.wide_back) (c.in_ok-back_numbers.ensures.inside k h)
 
 pub returns-clause-path : goal.returns-clause-path
 returns-clause-path g c =
@@ -57,20 +55,21 @@ returns-clause-path g c =
     let others = c.args.graph.now.back.nodes.keys in
     let labels = c.args.forth.now.labels.items in
     let labels' = c.args.back.now.labels.items in
-    let f = rw c.deref-2.ensures.value at c.in-Some.ensures.first in
-    let at : slice_get numbers place ≡ Some here = f.0 in
-    let chain : IsChain labels c.args.best.here numbers = rw c.deref.ensures.value at c.in_ok-numbers.ensures.chain in
-    let halves : AreHalves eq value keys others labels labels' (value c.args.best.cost) c.truncate.new.self.items c.in_ok-back_numbers.back_numbers.items = rw c.truncate.ensures.items (record {
+    let f = c.in-Some.ensures.first in
+    let at : slice_get numbers place ≡ Some here = subst (λ (ks : List ℕ). slice_get ks place ≡ Some here) c.deref-2.ensures.value f.0 in
+    let chain : IsChain labels c.args.best.here numbers = subst (λ (ls : Labels g.row.C.Denot). IsChain ls c.args.best.here numbers) c.deref.ensures.value c.in_ok-numbers.ensures.chain in
+    let cut : AreHalves eq value keys others labels labels' (value c.args.best.cost) (take (place + 1) numbers) c.in_ok-back_numbers.back_numbers.items = record {
       meeting = c.in-Some.meeting;
       meets = f.1;
       low = f.2;
       chain = chain_front labels c.args.best.here numbers chain place here at;
-      chain_back = rw c.deref-3.ensures.value at c.in_ok-back_numbers.ensures.chain;
+      chain_back = subst (λ (ls : Labels g.row.C.Denot). IsChain ls c.in-Some.meeting.across c.in_ok-back_numbers.back_numbers.items) c.deref-3.ensures.value c.in_ok-back_numbers.ensures.chain;
       first = λ k h. elim (last_of_take numbers place here at k h) as (λ _. (k ≡ here) ⊎ NoneBelowAt eq value keys others labels labels' (value c.args.best.cost +ℤ pos 1) k) [
         | inl e ↦ inl e
-        | inr r ↦ inr (f.3 k r)
+        | inr r ↦ inr (f.3 k (subst (λ (ks : List ℕ). Contains (take place ks) k) (sym c.deref-2.ensures.value) r))
       ];
-    }) in
+    } in
+    let halves = subst (λ (ks : List ℕ). AreHalves eq value keys others labels labels' (value c.args.best.cost) ks c.in_ok-back_numbers.back_numbers.items) (sym c.truncate.ensures.items) cut in
     IfOk-weaker c.nodes_along.result _ _ (λ path n. (c.truncate.new.self.items, c.in_ok-back_numbers.back_numbers.items, n.0, n.1, halves, n.2, n.3, n.4)) c.nodes_along.ensures.nodes
 
 pub nodes_along-requires-clause-clones : goal.nodes_along-requires-clause-clones
@@ -95,10 +94,10 @@ pub first_on-first-requires-clause-wide : goal.first_on-first-requires-clause-wi
 first_on-first-requires-clause-wide g c = c.requires.wide_back
 
 pub path_to-requires-clause-tree : goal.path_to-requires-clause-tree
-path_to-requires-clause-tree g c = rw c.deref.ensures.value c.requires.trees.0
+path_to-requires-clause-tree g c = subst IsTree (sym c.deref.ensures.value) c.requires.trees.0
 
 pub path_to-requires-2-clause-tree : goal.path_to-requires-2-clause-tree
-path_to-requires-2-clause-tree g c = rw c.deref-3.ensures.value c.requires.trees.1
+path_to-requires-2-clause-tree g c = subst IsTree (sym c.deref-3.ensures.value) c.requires.trees.1
 
 pub returns-clause-refused : goal.returns-clause-refused
 returns-clause-refused g c = c.nodes_along.ensures.refused

@@ -1,7 +1,8 @@
-use Rattle.std.proofs.Common.{◌≡◌, ◌<◌, ◌∷◌, [], Some, slice_get, length, length-append, arith, ap, sym, refl}
-use Rattle.pf_core.proofs.ListLemmas.{at_place}
-use Rattle.pf_search.specs.DepthWalks.{DepthWalk}
-use Rattle.pf_search.proofs.DepthWalkLemmas.{looked, leads_inside, err_goes, refused_visit, visited_node, ended, still_goes, unbegun, empty_before, none_given}
+use Rattle.std.proofs.Common.{◌≡◌, ◌<◌, ◌∷◌, [], Ok, Some, None, slice_get, length, length-append, arith, ap, sym, subst, refl}
+use Rattle.pf_search.specs.DepthWalks.{DepthWalk, IsDepthWalk}
+use Rattle.pf_search.proofs.DepthWalkLemmas.{looked, leads_inside, err_goes, refused_visit, visited_node, ended, still_goes, unbegun, empty_before, none_given, goes_put, begun_now}
+use Rattle.pf_core.proofs.Outcomes.{no_memory}
+use Rattle.pf_search.proofs.StillLemmas.{read_at}
 use Rattle.pf_search.proofs.ResultLemmas.{refused_as}
 use Rattle.pf_search.proofs.directed.preorder.DfsReachable.step.Goals as goal
 
@@ -14,7 +15,7 @@ bounds-as_slice-branch g c =
     let k = c.next_branch.new.self in
     let r = c.requires.graph in
     let b = c.in-Some.ensures in
-    let v = rw (← c.self.view_is) at r.3 in
+    let v = subst (IsDepthWalk eq r.0 r.1 _ _ _ _ _ r.2) (sym c.self.view_is) r.3 in
     let t : DepthWalk g.row.N.Denot g.row.FN.Denot = record { found = c.put_start.new.nodes.keys; given = length k.given.items; visited = k.visited.items; path = k.path.items; waiting = k.waiting.items; refused = i.refused; successors = i.graph.successors } in
     let m = looked eq laws _ _ _ _ _ r.0 r.1 r.2 _ t b.dropped.0 v put.1 (ap length b.given) b.visited b.path refl b.dropped.1 b.dropped.2 in
     omega (arith, ap length c.as_slice.ensures.keys, (leads_inside eq laws r.0 r.1 r.2 t c.in-Some.branch m.stands b.next).0)
@@ -31,7 +32,7 @@ returns-in_err-put_start-clause-walks g c = λ next start paths w.
     let laws = g.met.N.Eq.laws in
     let i = c.self.inside in
     let s = c.in_err-put_start.ensures.stays in
-    let v = rw (← c.self.view_is) at w in
+    let v = subst (IsDepthWalk eq next start _ _ _ _ _ paths) (sym c.self.view_is) w in
     let none = none_given i.start i.graph.nodes.keys (length i.walk.given.items) s.0 c.self.invariant s.1 in
     rw (s.2, s.3) (err_goes eq laws _ _ _ _ _ next start paths _ (unbegun eq laws next start paths _ v.stands none) v c.from_residual.result c.from_residual.ensures.0)
 
@@ -43,11 +44,11 @@ returns-in_err-node-in-Some-clause-walks g c = λ next start paths w.
     let put = c.in_ok-put_start.ensures.put in
     let k = c.next_branch.new.self in
     let b = c.in-Some.ensures in
-    let v = rw (← c.self.view_is) at w in
+    let v = subst (IsDepthWalk eq next start _ _ _ _ _ paths) (sym c.self.view_is) w in
     let t : DepthWalk g.row.N.Denot g.row.FN.Denot = record { found = c.put_start.new.nodes.keys; given = length k.given.items; visited = k.visited.items; path = k.path.items; waiting = k.waiting.items; refused = i.refused; successors = i.graph.successors } in
     let m = looked eq laws _ _ _ _ _ next start paths _ t b.dropped.0 v put.1 (ap length b.given) b.visited b.path refl b.dropped.1 b.dropped.2 in
     let n = still_goes eq laws _ _ _ _ _ next start paths t c.in-Some.branch m b.next in
-    rw put.0 (err_goes eq laws _ _ _ _ _ next start paths t n m c.from_residual-in_err-node-in-Some.result c.from_residual-in_err-node-in-Some.ensures.0)
+    goes_put eq laws _ _ _ _ _ next start paths _ t c.from_residual-in_err-node-in-Some.result put.0 (err_goes eq laws _ _ _ _ _ next start paths t n m c.from_residual-in_err-node-in-Some.result c.from_residual-in_err-node-in-Some.ensures.0)
 
 pub visit-requires-clause-inside : goal.visit-requires-clause-inside
 visit-requires-clause-inside g c =
@@ -58,7 +59,7 @@ visit-requires-clause-inside g c =
     let k = c.next_branch.new.self in
     let r = c.requires.graph in
     let b = c.in-Some.ensures in
-    let v = rw (← c.self.view_is) at r.3 in
+    let v = subst (IsDepthWalk eq r.0 r.1 _ _ _ _ _ r.2) (sym c.self.view_is) r.3 in
     let t : DepthWalk g.row.N.Denot g.row.FN.Denot = record { found = c.put_start.new.nodes.keys; given = length k.given.items; visited = k.visited.items; path = k.path.items; waiting = k.waiting.items; refused = i.refused; successors = i.graph.successors } in
     let m = looked eq laws _ _ _ _ _ r.0 r.1 r.2 _ t b.dropped.0 v put.1 (ap length b.given) b.visited b.path refl b.dropped.1 b.dropped.2 in
     (leads_inside eq laws r.0 r.1 r.2 t c.in-Some.branch m.stands b.next).0
@@ -72,7 +73,7 @@ visit-requires-clause-depth g c =
     let k = c.next_branch.new.self in
     let r = c.requires.graph in
     let b = c.in-Some.ensures in
-    let v = rw (← c.self.view_is) at r.3 in
+    let v = subst (IsDepthWalk eq r.0 r.1 _ _ _ _ _ r.2) (sym c.self.view_is) r.3 in
     let t : DepthWalk g.row.N.Denot g.row.FN.Denot = record { found = c.put_start.new.nodes.keys; given = length k.given.items; visited = k.visited.items; path = k.path.items; waiting = k.waiting.items; refused = i.refused; successors = i.graph.successors } in
     let m = looked eq laws _ _ _ _ _ r.0 r.1 r.2 _ t b.dropped.0 v put.1 (ap length b.given) b.visited b.path refl b.dropped.1 b.dropped.2 in
     (leads_inside eq laws r.0 r.1 r.2 t c.in-Some.branch m.stands b.next).1
@@ -85,7 +86,7 @@ returns-in_err-visit-in-Some-clause-walks g c = λ next start paths w.
     let put = c.in_ok-put_start.ensures.put in
     let k = c.next_branch.new.self in
     let b = c.in-Some.ensures in
-    let v = rw (← c.self.view_is) at w in
+    let v = subst (IsDepthWalk eq next start _ _ _ _ _ paths) (sym c.self.view_is) w in
     let t : DepthWalk g.row.N.Denot g.row.FN.Denot = record { found = c.put_start.new.nodes.keys; given = length k.given.items; visited = k.visited.items; path = k.path.items; waiting = k.waiting.items; refused = i.refused; successors = i.graph.successors } in
     let m = looked eq laws _ _ _ _ _ next start paths _ t b.dropped.0 v put.1 (ap length b.given) b.visited b.path refl b.dropped.1 b.dropped.2 in
     let j = c.visit.new.self in
@@ -93,7 +94,7 @@ returns-in_err-visit-in-Some-clause-walks g c = λ next start paths w.
     let e = c.in_err-visit-in-Some.ensures in
     let m' = refused_visit eq laws _ _ _ _ _ next start paths t u m e.grows (e.graph _ m.explores) e.kept.4 (ap length e.kept.0) e.kept.1 e.kept.2 e.kept.3 in
     let n = still_goes eq laws _ _ _ _ _ next start paths t c.in-Some.branch m b.next in
-    rw put.0 (err_goes eq laws _ _ _ _ _ next start paths u n m' c.from_residual-in_err-visit-in-Some.result c.from_residual-in_err-visit-in-Some.ensures.0)
+    goes_put eq laws _ _ _ _ _ next start paths _ u c.from_residual-in_err-visit-in-Some.result put.0 (err_goes eq laws _ _ _ _ _ next start paths u n m' c.from_residual-in_err-visit-in-Some.result c.from_residual-in_err-visit-in-Some.ensures.0)
 
 pub returns-in-None-clause-walks : goal.returns-in-None-clause-walks
 returns-in-None-clause-walks g c = λ next start paths w.
@@ -103,10 +104,10 @@ returns-in-None-clause-walks g c = λ next start paths w.
     let put = c.in_ok-put_start.ensures.put in
     let k = c.next_branch.new.self in
     let b = c.in-None.ensures in
-    let v = rw (← c.self.view_is) at w in
+    let v = subst (IsDepthWalk eq next start _ _ _ _ _ paths) (sym c.self.view_is) w in
     let t : DepthWalk g.row.N.Denot g.row.FN.Denot = record { found = c.put_start.new.nodes.keys; given = length k.given.items; visited = k.visited.items; path = k.path.items; waiting = k.waiting.items; refused = i.refused; successors = i.graph.successors } in
     let m = looked eq laws _ _ _ _ _ next start paths _ t b.dropped.0 v put.1 (ap length b.given) b.visited b.path refl b.dropped.1 b.dropped.2 in
-    rw put.0 (ended eq laws next start paths t m.stands b.next.0 b.next.1, m)
+    goes_put eq laws _ _ _ _ _ next start paths _ t (Ok None) put.0 (ended eq laws next start paths t m.stands b.next.0 b.next.1, m)
 
 pub returns-in_ok-visit-in-Some-clause-walks : goal.returns-in_ok-visit-in-Some-clause-walks
 returns-in_ok-visit-in-Some-clause-walks g c = λ next start paths w.
@@ -116,7 +117,7 @@ returns-in_ok-visit-in-Some-clause-walks g c = λ next start paths w.
     let put = c.in_ok-put_start.ensures.put in
     let k = c.next_branch.new.self in
     let b = c.in-Some.ensures in
-    let v = rw (← c.self.view_is) at w in
+    let v = subst (IsDepthWalk eq next start _ _ _ _ _ paths) (sym c.self.view_is) w in
     let t : DepthWalk g.row.N.Denot g.row.FN.Denot = record { found = c.put_start.new.nodes.keys; given = length k.given.items; visited = k.visited.items; path = k.path.items; waiting = k.waiting.items; refused = i.refused; successors = i.graph.successors } in
     let m = looked eq laws _ _ _ _ _ next start paths _ t b.dropped.0 v put.1 (ap length b.given) b.visited b.path refl b.dropped.1 b.dropped.2 in
     let j = c.visit.new.self in
@@ -126,9 +127,8 @@ returns-in_ok-visit-in-Some-clause-walks g c = λ next start paths w.
     let n = c.in-Some.branch.number in
     let node = c.in_ok-node-in-Some.node in
     let inside : n < length keys = (leads_inside eq laws next start paths t c.in-Some.branch m.stands b.next).0 in
-    let there : n < length c.as_slice.result.now = omega (arith, inside, ap length c.as_slice.ensures.keys) in
-    let at : slice_get keys n ≡ Some c.index-as_slice-branch.result = rw c.as_slice.ensures.keys at (at_place c.as_slice.result.now n _ _ there (sym c.index-as_slice-branch.is)) in
-    rw put.0 (visited_node eq laws _ _ _ _ _ next start paths t u m e.grows (e.graph _ m.explores) c.in-Some.branch node c.index-as_slice-branch.result b.next
+    let at : slice_get keys n ≡ Some c.index-as_slice-branch.result = read_at keys _ n _ _ c.as_slice.ensures.keys inside c.index-as_slice-branch.is in
+    goes_put eq laws _ _ _ _ _ next start paths _ u (Ok (Some node)) put.0 (visited_node eq laws _ _ _ _ _ next start paths t u m e.grows (e.graph _ m.explores) c.in-Some.branch node c.index-as_slice-branch.result b.next
     (omega (arith, ap length e.given, length-append k.given.items (n ∷ []))) e.visited e.path e.waiting.0 e.waiting.1 (λ x s. e.waiting.2 _ m.explores x s) (λ x s. e.ordered _ m.explores x s) at (c.requires.clones _ _ c.in_ok-node-in-Some.ensures.cases))
 
 pub returns-in-None-clause-refused : goal.returns-in-None-clause-refused
@@ -147,13 +147,16 @@ pub invariant_of-self : goal.invariant_of-self
 invariant_of-self g c = let s = c.in_err-put_start.ensures.stays in rw (s.2, s.3) c.self.invariant
 
 pub invariant_of-self-in-None : goal.invariant_of-self-in-None
-invariant_of-self-in-None g c = rw c.in_ok-put_start.ensures.put.0 tt
+invariant_of-self-in-None g c = begun_now _ _ _ c.in_ok-put_start.ensures.put.0
 
 pub invariant_of-self-in_err-node-in-Some : goal.invariant_of-self-in_err-node-in-Some
-invariant_of-self-in_err-node-in-Some g c = rw c.in_ok-put_start.ensures.put.0 tt
+invariant_of-self-in_err-node-in-Some g c = begun_now _ _ _ c.in_ok-put_start.ensures.put.0
 
 pub invariant_of-self-in_err-visit-in-Some : goal.invariant_of-self-in_err-visit-in-Some
-invariant_of-self-in_err-visit-in-Some g c = rw c.in_ok-put_start.ensures.put.0 tt
+invariant_of-self-in_err-visit-in-Some g c = begun_now _ _ _ c.in_ok-put_start.ensures.put.0
 
 pub invariant_of-self-in-Some : goal.invariant_of-self-in-Some
-invariant_of-self-in-Some g c = rw c.in_ok-put_start.ensures.put.0 tt
+invariant_of-self-in-Some g c = begun_now _ _ _ c.in_ok-put_start.ensures.put.0
+
+pub returns-in_err-node-in-Some-clause-refused : goal.returns-in_err-node-in-Some-clause-refused
+returns-in_err-node-in-Some-clause-refused g c = no_memory c.from_residual-in_err-node-in-Some.result c.from_residual-in_err-node-in-Some.ensures.1
