@@ -1,5 +1,5 @@
 -- What a row of the steps that are left says.
-use Rattle.std.proofs.Common.{◌≡◌, ◌∙◌, ℕ, ◌<◌, ◌+◌, refl, sym, ap, subst, arith, inl, inr, Bool, true, false, not, List, [], ◌∷◌, ◌++◌, length, take, get_or, cond, ℤ, Option, Some, None}
+use Rattle.std.proofs.Common.{◌≡◌, ◌∙◌, ℕ, ◌<◌, ◌≤◌, ◌+◌, refl, sym, ap, subst, arith, inl, inr, Bool, true, false, not, List, [], ◌∷◌, ◌++◌, length, take, get_or, cond, ℤ, Option, Some, None}
 use Rattle.std.specs.Prelude.{Contains, filter, map, nat_eq, slice_get}
 use Rattle.std.specs.List.{AllZip}
 use Rattle.std.proofs.lemmas.Bool.{eq-eqb, ne_eqb}
@@ -88,3 +88,10 @@ module _ {C : Type 0} where
 
     pub row_in_order : (x : ℕ) → NumbersInOrder (StandsForItself (length g.known.rows)) (length g.known.rows) (map (λ (e : ℕ × C). e.0) (narrow_row g x)) (length g.known.rows)
     row_in_order x = in_order (length g.known.rows) (narrow_row g x) (narrow_inside x)
+
+-- bounds over plain numbers
+pub below_more : (i n m : ℕ) → i < n → n ≤ m → i < m
+below_more i n m h l = omega (arith, h, l)
+
+pub none_between : (n m i : ℕ) → n ≤ i → i < m → m ≡ n → ⊥
+none_between n m i low high same = omega (arith, low, high, same)

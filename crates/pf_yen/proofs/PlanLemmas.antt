@@ -16,7 +16,7 @@ use Rattle.pf_yen.specs.declared.candidate.Candidate.{Candidate}
 use Rattle.pf_yen.specs.Known.{KnownGraph, KnownStep, is_goal, IsWhole}
 use Rattle.pf_yen.specs.Narrow.{NarrowGraph, NarrowStep, StandsForItself, allows, allows_by, is_in}
 use Rattle.pf_yen.specs.Classes.{Plan, in_class, is_member, IsCheapestOfClass, IsCheapestAlong, HasNoneAlong, IsSplit, IsPartition, plan_of}
-use Rattle.pf_yen.specs.Plans.{first_cmp, chosen_plan, as_list, last_given, NoneBelow, IsFirst, GoesOn}
+use Rattle.pf_yen.specs.Plans.{first_cmp, waiting_plans, chosen_plan, as_list, last_given, NoneBelow, IsFirst, GoesOn}
 use Rattle.pf_yen.proofs.NarrowLemmas.{in_none}
 use Rattle.pf_yen.proofs.ClassLemmas.{any_goes_on, split_partition, first_partition, no_partition}
 use Rattle.pf_yen.proofs.NarrowWalks.{is_known, is_left, goes_known, open_walk}
@@ -161,3 +161,14 @@ pub given_due : {C A : Type 0} (b : Bool) (chosen : Option (Candidate C A)) (c :
 given_due b chosen c given is none =
     let some : last_given true (chosen_plan (Some c)) ≡ [] = rw (given, is) at none in
     cc
+
+-- candidates that stay are plans that stay
+pub still_plans : {C A : Type 0} (chosen chosen' : Option (Candidate C A)) (waiting waiting' : List (Candidate C A)) → chosen' ≡ chosen → waiting' ≡ waiting → (chosen_plan chosen' ≡ chosen_plan chosen) × (waiting_plans waiting' ≡ waiting_plans waiting)
+still_plans chosen chosen' waiting waiting' e f = (ap (λ (o : Option (Candidate _ _)). chosen_plan o) e, ap (λ (items : List (Candidate _ _)). waiting_plans items) f)
+
+-- the first plan is all that is left where none waits
+pub all_begun : {C A : Type 0} (value : C → ℤ) (k : KnownGraph C) (chosen : Option (Candidate C A)) (waiting : List (Candidate C A)) → waiting ≡ [] → IsPartition value k (as_list (chosen_plan chosen)) []
+    → IsPartition value k (as_list (chosen_plan chosen) ++ waiting_plans waiting) [] × (waiting_plans waiting ≡ [])
+all_begun value k chosen waiting e h =
+    let none : waiting_plans waiting ≡ [] = ap (λ (items : List (Candidate _ _)). waiting_plans items) e in
+    (subst (λ (plans : List (Plan _)). IsPartition value k plans []) (sym (ap (λ (plans : List (Plan _)). as_list (chosen_plan chosen) ++ plans) none ∙ append-nil (as_list (chosen_plan chosen)))) h, none)

@@ -1,10 +1,10 @@
-use Rattle.std.proofs.Common.{rules, ◌≡◌, ◌<◌, ◌∙◌, sym, arith, inl, inr, true, false, ℕ, length}
+use Rattle.std.proofs.Common.{◌≡◌, ◌<◌, ◌∙◌, sym, inl, inr, true, false, ℕ, length, length-append, subst}
 use Rattle.std.specs.Prelude.{Contains}
-use Rattle.pf_core.proofs.ListLemmas.{ok_or_err}
+use Rattle.pf_core.proofs.ListLemmas.{ok_or_err, on_ok}
 use Rattle.pf_core.specs.Numbered.{Grows, ListsSteps}
 use Rattle.pf_core.proofs.SearchLemmas.{Grows-trans}
 use Rattle.pf_yen.specs.Learned.{LiveStep, IsLearned}
-use Rattle.pf_yen.proofs.NarrowLemmas.{in_none}
+use Rattle.pf_yen.proofs.NarrowLemmas.{in_none, below_more, none_between}
 use Rattle.pf_yen.proofs.LearnLemmas.{learned_grow, learned_add, lists_live, lists_none}
 use Rattle.pf_yen.proofs.learn.learn_next.Goals.{then-not-goal+in_ok-expand, else-not-goal}
 use Rattle.std.proofs.lemmas.Result.{IfOk-from_err}
@@ -19,10 +19,10 @@ returns-in_err-expand-clause-learned g c = λ h x l.
     let k = c.args.known.now in
     let b = c.is_goal-goal.ensures in
     let x1 = (b.graph h x).0 in
-    let l1 = learned_grow value step passes _ _ _ _ b.grows (g.met.G.NumberedGraph.one_law _ h x1) (λ a low high. absurd (omega (arith, low, high, b.same))) k l in
+    let l1 = learned_grow value step passes _ _ _ _ b.grows (g.met.G.NumberedGraph.one_law _ h x1) (λ a low high. absurd (none_between _ _ _ low high b.same)) k l in
     let e = c.in_err-expand.ensures in
     let same = e.refused.1 in
-    learned_grow value step passes _ _ _ _ e.grows (g.met.G.NumberedGraph.one_law _ h (e.graph h x1)) (λ a low high. absurd (omega (arith, low, high, same))) k l1
+    learned_grow value step passes _ _ _ _ e.grows (g.met.G.NumberedGraph.one_law _ h (e.graph h x1)) (λ a low high. absurd (none_between _ _ _ low high same)) k l1
 
 pub returns-clause-learned : goal.returns-clause-learned
 returns-clause-learned g c = λ h x l.
@@ -37,8 +37,8 @@ returns-clause-learned g c = λ h x l.
     let b = c.is_goal-goal.ensures in
     let x1 = (b.graph h x).0 in
     let told = rw number at (b.graph h x).1 in
-    let l1 = learned_grow value step passes _ _ _ _ b.grows (g.met.G.NumberedGraph.one_law _ h x1) (λ a low high. absurd (omega (arith, low, high, b.same))) k l in
-    let near : n < found c.is_goal-goal.new.self = omega (arith, c.requires.inside, b.same) in
+    let l1 = learned_grow value step passes _ _ _ _ b.grows (g.met.G.NumberedGraph.one_law _ h x1) (λ a low high. absurd (none_between _ _ _ low high b.same)) k l in
+    let near : n < found c.is_goal-goal.new.self = subst (λ (m : ℕ). n < m) (sym b.same) c.requires.inside in
     let p : IsLearned value step passes (stands c.if-not-goal.graph) (found c.if-not-goal.graph) k
     × (((y : g.G.NumberedGraph.Node) → stands c.if-not-goal.graph n y → ListsSteps value (LiveStep value step passes) (stands c.if-not-goal.graph) y c.if-not-goal.row.items × (c.is_goal-goal.result ≡ passes y))
     × (((j : ℕ) (d : g.row.C.Denot) → Contains c.if-not-goal.row.items (j, d) → j < found c.if-not-goal.graph)
@@ -47,7 +47,7 @@ returns-clause-learned g c = λ h x l.
     × (((j : ℕ) (d : g.row.C.Denot) → Contains c.if-not-goal.row.items (j, d) → j < found c.if-not-goal.graph)
     × (n < found c.if-not-goal.graph)))) [
       | then-not-goal+in_ok-expand w ↦
-          let f : c.is_goal-goal.result ≡ false = search rules in
+          let f : c.is_goal-goal.result ≡ false = w.if-not-goal.true in
           let e = w.in_ok-expand.ensures in
           let x2 = e.graph h x1 in
           let m = rw number at e.listed in
@@ -57,11 +57,11 @@ returns-clause-learned g c = λ h x l.
             learned_grow value step passes _ _ _ _ e.grows (g.met.G.NumberedGraph.one_law _ h x2) (λ a low high. let d = m.3 a low high in let s = lists y.0 y.1 in let z = s.sound a d.0 d.1 in (z.0, z.2)) k l1,
             (
               (λ z s. let s1 = e.grows.back n z near s in let s0 = b.grows.back n z c.requires.inside s1 in (lists_live value step passes _ z m.0 (sym (told z s0) ∙ f) (lists z s1), told z s0)),
-              (m.2, omega (arith, near, e.grows.more)),
+              (m.2, below_more _ _ _ near e.grows.more),
             ),
           )
       | else-not-goal w ↦
-          let t : c.is_goal-goal.result ≡ true = search rules in
+          let t : c.is_goal-goal.result ≡ true = w.if-not-goal.false in
           rw (w.graph-is, w.row-is, c.new-row.ensures.items) (
             l1,
             (
@@ -109,7 +109,7 @@ pub is_goal-goal-requires-clause-graph : goal.is_goal-goal-requires-clause-graph
 is_goal-goal-requires-clause-graph g c = c.requires.graph
 
 pub expand-requires-clause-inside : goal.expand-requires-clause-inside
-expand-requires-clause-inside g c = rw c.len-number.ensures (omega (arith, c.requires.inside, c.is_goal-goal.ensures.same))
+expand-requires-clause-inside g c = rw c.len-number.ensures (subst (λ (m : ℕ). length c.args.known.now.rows < m) (sym c.is_goal-goal.ensures.same) c.requires.inside)
 
 pub expand-requires-clause-graph : goal.expand-requires-clause-graph
 expand-requires-clause-graph g c = let r = c.requires.graph in (r.0, (c.is_goal-goal.ensures.graph r.0 r.1).0)
@@ -119,3 +119,6 @@ returns-in_err-expand-clause-refused g c = refused_as _ c.from_residual.result c
 
 pub returns-clause-refused : goal.returns-clause-refused
 returns-clause-refused g c = c.add.ensures.refused
+
+pub returns-clause-more : goal.returns-clause-more
+returns-clause-more g c = on_ok c.add.result c.add.ensures.added (λ h. rw h (length-append c.args.known.now.rows _))

@@ -1,4 +1,4 @@
-use Rattle.std.proofs.Common.{rules, refl, ap, List, [], ◌∷◌}
+use Rattle.std.proofs.Common.{rules, refl, ap, List, [], ◌∷◌, true≢false, sym}
 use Rattle.pf_core.specs.Nodes.{NodeGraph, StandsFor, IsStep}
 use Rattle.pf_core.proofs.NodeLemmas.{Explores-edges}
 use Rattle.pf_yen.specs.declared.candidate.Candidate.{Candidate}
@@ -23,7 +23,7 @@ returns-clause-graph g c = λ edges test s.
       begins = found.ensures.begins;
       learned = rw c.new.ensures (learned_none g.C.Number.value (IsStep eq graph) test (StandsFor eq keys) _ (first_alone (StandsFor eq keys) _ found.ensures.one here));
       under_way = (c.nothing.ensures, ap (λ (h : List (Candidate g.row.C.Denot g.row.A.Denot)). waiting_plans h) {y = []} (search rules), refl, refl);
-      bar = λ b. cc;
+      bar = λ b. absurd (true≢false (sym b));
     }
 
 pub returns-in_err-clone_of-clause-begins : goal.returns-in_err-clone_of-clause-begins

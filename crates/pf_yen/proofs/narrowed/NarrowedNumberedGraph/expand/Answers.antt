@@ -1,8 +1,8 @@
-use Rattle.std.proofs.Common.{sym, subst, arith, length}
+use Rattle.std.proofs.Common.{sym, subst, length, refl}
 use Rattle.pf_core.proofs.ListLemmas.{on_ok}
 use Rattle.pf_core.specs.Numbered.{ListsSteps}
 use Rattle.pf_yen.specs.Narrow.{NarrowGraph, NarrowStep, StandsForItself, narrow_row}
-use Rattle.pf_yen.proofs.NarrowLemmas.{row_inside, lists_steps, row_stands, row_in_order}
+use Rattle.pf_yen.proofs.NarrowLemmas.{row_inside, lists_steps, row_stands, row_in_order, none_between}
 use Rattle.pf_yen.proofs.narrowed.NarrowedNumberedGraph.expand.Goals as goal
 
 pub returns-clause-listed : goal.returns-clause-listed
@@ -14,7 +14,7 @@ returns-clause-listed g c =
       narrow_row here c.args.node,
       h,
       row_inside g.C.Number.value here r.1.1 c.args.node,
-      (λ j low high. absurd (omega (arith, low, high))),
+      (λ j low high. absurd (none_between _ _ _ low high refl)),
       λ g' e x t. subst (λ (k : NarrowGraph g.row.C.Denot). ListsSteps g.C.Number.value (NarrowStep g.C.Number.value k) (StandsForItself (length s.known.now.rows)) x (narrow_row here c.args.node)) (sym e.0)
           (lists_steps g.C.Number.value here r.1.1 c.args.node x t),
     ))

@@ -1,4 +1,4 @@
-use Rattle.std.proofs.Common.{◌≡◌, ap, subst, length, Err, [], inl, refl}
+use Rattle.std.proofs.Common.{◌≡◌, ap, subst, length, Err, [], inl, refl, None}
 use Rattle.pf_base.specs.declared.error.PathError.TheVariants.{CostOverflow}
 use Rattle.pf_core.specs.Steps.{IsTooDear}
 use Rattle.pf_yen.specs.Known.{KnownGraph, KnownStep, is_goal}
@@ -8,6 +8,7 @@ use Rattle.pf_yen.proofs.SplitLemmas.{narrowed_first}
 use Rattle.pf_yen.proofs.PlanLemmas.{begun_partition, too_dear_all}
 use Rattle.std.proofs.lemmas.Result.{IfOk-from_err}
 use Rattle.pf_yen.proofs.ResultLemmas.{handed_on, no_overflow, ok_is_no_error, refused_as}
+use Rattle.std.proofs.lemmas.List.{length-replicate}
 use Rattle.pf_yen.proofs.plans.Plans.begin.Goals as goal
 
 pub returns-in_err-self-clause-overflow : goal.returns-in_err-self-clause-overflow
@@ -61,3 +62,33 @@ returns-in_err-narrowed-clause-kept g c = refused_as _ c.from_residual.result c.
 
 pub returns-in_err-self-clause-kept : goal.returns-in_err-self-clause-kept
 returns-in_err-self-clause-kept g c = refused_as _ c.from_residual-in_err-self.result c.in_err-self.field-0.0 c.from_residual-in_err-self.ensures.1 (refl, refl)
+
+pub returns-in_err-narrowed-clause-waiting : goal.returns-in_err-narrowed-clause-waiting
+returns-in_err-narrowed-clause-waiting g c = refl
+
+pub returns-in_err-narrowed-clause-is_given : goal.returns-in_err-narrowed-clause-is_given
+returns-in_err-narrowed-clause-is_given g c = refl
+
+pub least_of_class-requires-clause-whole : goal.least_of_class-requires-clause-whole
+least_of_class-requires-clause-whole g c = rw c.in_ok-narrowed.ensures.graph.0 c.requires.whole
+
+pub least_of_class-requires-clause-some : goal.least_of_class-requires-clause-some
+least_of_class-requires-clause-some g c = rw c.in_ok-narrowed.ensures.graph.0 c.requires.some
+
+pub least_of_class-requires-clause-wide : goal.least_of_class-requires-clause-wide
+least_of_class-requires-clause-wide g c = rw (c.in_ok-narrowed.ensures.onward, c.in_ok-narrowed.ensures.graph.0) (length-replicate (length c.args.known.now.rows) None)
+
+pub returns-in_err-self-clause-waiting : goal.returns-in_err-self-clause-waiting
+returns-in_err-self-clause-waiting g c = refl
+
+pub returns-in_err-self-clause-is_given : goal.returns-in_err-self-clause-is_given
+returns-in_err-self-clause-is_given g c = refl
+
+pub returns-clause-waiting : goal.returns-clause-waiting
+returns-clause-waiting g c = refl
+
+pub returns-clause-is_given : goal.returns-clause-is_given
+returns-clause-is_given g c = refl
+
+pub returns-clause-begun : goal.returns-clause-begun
+returns-clause-begun g c = refl

@@ -1,10 +1,10 @@
-use Rattle.std.proofs.Common.{rules, ◌≡◌, true, map, ◌++◌, Err, ap, refl, inl}
-use Rattle.std.specs.BinaryHeap.{heap_items}
+use Rattle.std.proofs.Common.{◌≡◌, true, map, ◌++◌, Err, ap, refl, inl}
+use Rattle.std.specs.BinaryHeap.{IsHeap, heap_items}
 use Rattle.std.proofs.lemmas.List.{map-append}
 use Rattle.std.proofs.lemmas.List.Sorted.{IsPermutation-map}
 use Rattle.pf_core.proofs.ListLemmas.{Contains-head}
 use Rattle.pf_yen.specs.Classes.{plan_of}
-use Rattle.pf_yen.specs.Plans.{GoesOn, as_list, chosen_plan, waiting_plans, last_given}
+use Rattle.pf_yen.specs.Plans.{first_cmp, GoesOn, as_list, chosen_plan, waiting_plans, last_given}
 use Rattle.pf_yen.proofs.PlanLemmas.{split_goes_on, no_change, given_due}
 use Rattle.pf_yen.proofs.plans.Plans.split_given.Goals.{in-Some+in_ok-split+in_ok-append, in_default}
 use Rattle.std.proofs.lemmas.Result.{IfOk-from_err}
@@ -19,15 +19,14 @@ pub returns-clause-goes_on : goal.returns-clause-goes_on
 returns-clause-goes_on g c =
     let value = g.C.Number.value in
     let s = c.args.self.now in
-    let t : s.is_given ≡ true = search rules in
+    let t : s.is_given ≡ true = c.if-not-self.false in
     elim c.match-self.branch as (λ _. GoesOn value c.args.known.now (as_list (chosen_plan s.chosen) ++ waiting_plans (heap_items s.waiting)) (waiting_plans (heap_items c.match-self.self.waiting)) (last_given s.is_given (chosen_plan s.chosen))) [
       | in-Some+in_ok-split+in_ok-append w ↦
-          let plans = w.in_ok-split.field-0 in
           let made = w.from-plans.ensures in
-          let m = IsPermutation-map plan_of plans.items (heap_items w.from-plans.result) made.1 in
+          let m = IsPermutation-map plan_of _ (heap_items w.from-plans.result) made.1 in
           let both : map plan_of (heap_items s.waiting ++ heap_items w.from-plans.result) ≡ map plan_of (heap_items s.waiting) ++ map plan_of (heap_items w.from-plans.result) = map-append plan_of (heap_items s.waiting) (heap_items w.from-plans.result) in
           let n = rw both at (IsPermutation-map plan_of (heap_items s.waiting ++ heap_items w.from-plans.result) (heap_items w.append.new.self) w.in_ok-append.ensures.permutation) in
-          rw (t, w.in-Some.is, w.self-is) (split_goes_on value c.args.known.now c.requires.whole (plan_of w.in-Some.chosen) (map plan_of (heap_items s.waiting)) (map plan_of plans.items) (map plan_of (heap_items w.from-plans.result)) (map plan_of (heap_items w.append.new.self)) w.in_ok-split.ensures.split m n)
+          rw (t, w.in-Some.is, w.self-is) (split_goes_on value c.args.known.now c.requires.whole (plan_of w.in-Some.chosen) (map plan_of (heap_items s.waiting)) _ (map plan_of (heap_items w.from-plans.result)) (map plan_of (heap_items w.append.new.self)) w.in_ok-split.ensures.split m n)
       | in_default w ↦ rw (t, w.in_default.is, w.self-is) (no_change value c.args.known.now (map plan_of (heap_items s.waiting)))
     ]
 
@@ -98,10 +97,10 @@ pub returns-in_err-append-clause-overflow : goal.returns-in_err-append-clause-ov
 returns-in_err-append-clause-overflow g c = λ e. absurd (no_overflow c.from_residual-in_err-append.result OutOfMemory c.from_residual-in_err-append.ensures.1 refl e)
 
 pub returns-in_err-append-clause-due : goal.returns-in_err-append-clause-due
-returns-in_err-append-clause-due g c = refused_as _ c.from_residual-in_err-append.result OutOfMemory c.from_residual-in_err-append.ensures.1 (given_due _ _ _ (search rules) c.in-Some.is)
+returns-in_err-append-clause-due g c = refused_as _ c.from_residual-in_err-append.result OutOfMemory c.from_residual-in_err-append.ensures.1 (given_due _ _ _ c.if-not-self.false c.in-Some.is)
 
 pub returns-in_err-split-clause-due : goal.returns-in_err-split-clause-due
-returns-in_err-split-clause-due g c = refused_as _ c.from_residual.result c.in_err-split.field-0.0 c.from_residual.ensures.1 (given_due _ _ _ (search rules) c.in-Some.is)
+returns-in_err-split-clause-due g c = refused_as _ c.from_residual.result c.in_err-split.field-0.0 c.from_residual.ensures.1 (given_due _ _ _ c.if-not-self.false c.in-Some.is)
 
 pub returns-in_err-split-clause-has_begun : goal.returns-in_err-split-clause-has_begun
 returns-in_err-split-clause-has_begun g c = refl
@@ -129,4 +128,23 @@ returns-clause-has_begun g c =
     elim c.match-self.branch as (λ _. c.match-self.self.has_begun ≡ c.args.self.now.has_begun) [
       | in-Some+in_ok-split+in_ok-append w ↦ rw w.self-is refl
       | in_default w ↦ rw w.self-is refl
+    ]
+
+pub returns-then-not-self-clause-goes_on : goal.returns-then-not-self-clause-goes_on
+returns-then-not-self-clause-goes_on g c = rw c.if-not-self.true (no_change g.C.Number.value c.args.known.now _)
+
+pub returns-then-not-self-clause-first : goal.returns-then-not-self-clause-first
+returns-then-not-self-clause-first g c = λ f. rw c.if-not-self.true at f
+
+pub returns-then-not-self-clause-is_given : goal.returns-then-not-self-clause-is_given
+returns-then-not-self-clause-is_given g c = c.if-not-self.true
+
+pub returns-clause-first : goal.returns-clause-first
+returns-clause-first g c = λ _. tt
+
+pub returns-clause-ordered : goal.returns-clause-ordered
+returns-clause-ordered g c =
+    elim c.match-self.branch as (λ _. IsHeap (first_cmp g.C.Ord.cmp) (heap_items c.match-self.self.waiting)) [
+      | in-Some+in_ok-split+in_ok-append w ↦ rw w.self-is (w.in_ok-append.ensures.heap_order c.requires.ordered)
+      | in_default w ↦ rw w.self-is c.requires.ordered
     ]
