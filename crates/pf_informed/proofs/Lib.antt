@@ -1,3 +1,4 @@
+pub mod Bounds
 pub mod ForestLemmas
 pub mod WaitingLemmas
 pub mod PathUp

@@ -1,4 +1,4 @@
-use Rattle.std.proofs.Common.{rules, ◌≡◌, ◌<◌, ◌∙◌, [], ◌∷◌, List, ℕ, ℤ, Bool, false, true≢false, sym, subst, refl, length, Some, None, inl, inr}
+use Rattle.std.proofs.Common.{◌<◌, ◌∙◌, [], ◌∷◌, List, ℕ, ℤ, Bool, false, true≢false, sym, subst, refl, length, inl, inr}
 use Rattle.std.specs.BinaryHeap.{heap_items}
 use Rattle.std.proofs.lemmas.List.{append-nil}
 use Rattle.pf_base.specs.Edges.{IsCheapestGoalPath}
@@ -157,7 +157,7 @@ returns-in-Some-best g c = record {
       let estimates = c.turns.search.estimates.items in
       let begins = inv.begins start s in
       let best = c.in-Some-best.best in
-      let is : c.turns.best ≡ Some best = search rules in
+      let is = c.in-Some-best.is in
       let known = inv.least best is in
       let path = known.1 start edges test least s d in
       let cheapest = path.1 in (
@@ -183,7 +183,7 @@ returns-then-has_all_labels g c = record {
       let exact = g.met.C.Integral.exact_law in
       let inv = c.turns.invariant in
       let v = inv.searched (graph_of start edges) test least d in
-      let unknown : c.turns.best ≡ None = search rules in
+      let unknown = c.in_default-best.is in
       let none_waits : (k : ℕ) (l : Label g.row.C.Denot) → HasLabel c.turns.search.labels.items k l → ¬ (IsWaiting value (heap_items c.turns.search.queue) k l) = λ k l at w. let b = c.in_default.ensures.taken k l at w in no_best b.0 (sym unknown ∙ b.1) in
       led_none g.N.PartialEq.eq g.met.N.Eq.laws value _ _ _ _ _ _ _ start edges test least _ _ _ _ _ v.0 inv.asked (inv.begins start s) g.C.Number.fits (λ x y z. g.C.Number.between_law x y z exact) (g.met.C.Zero.zero_fits_law exact)
       c.turns.search.labels.items inv.wide (heap_items c.turns.search.queue) inv.forest (inv.unknown unknown (graph_of start edges) test least d) none_waits (c.has_all_labels.ensures.0 c.if-has_all_labels.true);
@@ -200,7 +200,7 @@ returns-else-has_all_labels g c = record {
       let exact = g.met.C.Integral.exact_law in
       let inv = c.turns.invariant in
       let v = inv.searched (graph_of start edges) test least d in
-      let unknown : c.turns.best ≡ None = search rules in
+      let unknown = c.in_default-best.is in
       let none_waits : (k : ℕ) (l : Label g.row.C.Denot) → HasLabel c.turns.search.labels.items k l → ¬ (IsWaiting value (heap_items c.turns.search.queue) k l) = λ k l at w. let b = c.in_default.ensures.taken k l at w in no_best b.0 (sym unknown ∙ b.1) in
       led_past g.N.PartialEq.eq g.met.N.Eq.laws value _ _ _ _ _ _ _ start edges test least _ _ _ _ _ v.0 inv.asked (inv.begins start s) g.C.Number.fits (λ x y z. g.C.Number.between_law x y z exact) (g.met.C.Zero.zero_fits_law exact)
       c.turns.search.labels.items inv.wide (heap_items c.turns.search.queue) inv.forest (inv.unknown unknown (graph_of start edges) test least d) none_waits (λ a. true≢false (sym (c.has_all_labels.ensures.1 a) ∙ c.if-has_all_labels.false));

@@ -1,5 +1,6 @@
 use Rattle.std.proofs.Common.{arith}
 use Rattle.pf_informed.proofs.FringeLemmas.{last_in, rest_in, StillWait-last, StillWait-stale}
+use Rattle.pf_informed.proofs.Bounds.{nothing_left}
 use Rattle.pf_informed.proofs.fringe_lists.take_last.Goals as goal
 
 pub is_lower-requires : goal.is_lower-requires
@@ -36,3 +37,11 @@ entries-smaller g c = omega (arith, c.in-Some.ensures.len)
 
 pub returns-then-not-is_lower-clause-fewer : goal.returns-then-not-is_lower-clause-fewer
 returns-then-not-is_lower-clause-fewer g c = omega (arith, c.entries.invariant.fewer, c.in-Some.ensures.len)
+
+pub returns-clause-fewer : goal.returns-clause-fewer
+returns-clause-fewer g c = nothing_left c.pop.new.self.items _ c.pop.new.self.ok.0 c.in_default.ensures.cases.1
+
+pub returns-clause-taken : goal.returns-clause-taken
+returns-clause-taken g c =
+    let was = nothing_left c.entries.entries.items _ c.entries.entries.ok.0 c.in_default.ensures.cases.0 in
+    (nothing_left c.pop.new.self.items _ c.pop.new.self.ok.0 c.in_default.ensures.cases.1, rw was at c.entries.invariant.waits)

@@ -1,4 +1,4 @@
-use Rattle.std.proofs.Common.{refl, ◌∙◌, ◌<◌, ap, sym, arith}
+use Rattle.std.proofs.Common.{refl, ◌∙◌, ◌<◌, ap, sym, arith, subst, ℕ}
 use Rattle.std.specs.Ordering.{is_some_and, is_lt}
 use Rattle.std.proofs.lemmas.Int.{ints}
 use Rattle.pf_core.specs.declared.labels.Label.{Label}
@@ -10,6 +10,7 @@ use Rattle.pf_informed.specs.Internal.Ways.{before_in}
 use Rattle.pf_informed.proofs.Outcomes.{refused_as, on_refused, Grows-refl}
 use Rattle.pf_informed.proofs.TightLemmas.{less_of, not_less_of, up_to_next, tight_grows, tight_skipped, tight_goal, tight_row, both_ok}
 use Rattle.pf_informed.proofs.WiderLemmas.{no_label}
+use Rattle.pf_informed.proofs.Bounds.{below_more}
 use Rattle.pf_informed.proofs.tight.look.Goals as goal
 
 pub returns-in_default-clause-up_to : goal.returns-in_default-clause-up_to
@@ -40,7 +41,7 @@ returns-then-is_goal-clause-tight g c = λ h x t.
     let told = c.is_goal.ensures.graph h x in
     let grow = c.is_goal.ensures.grows in
     rw c.in_ok-push.ensures.items (tight_goal _ _ _ _ _ _ c.args.number _ _ (tight_grows _ _ _ _ _ _ _ _ _ grow c.requires.found c.args.number _ _ t) c.in-Some.label here cheap
-    (λ y s. sym (told.1 y (grow.back c.args.number y (omega (arith, c.requires.inside, c.requires.found)) s)) ∙ c.if-is_goal.true))
+    (λ y s. sym (told.1 y (grow.back c.args.number y (below_more _ _ _ c.requires.inside c.requires.found) s)) ∙ c.if-is_goal.true))
 
 pub returns-clause-up_to : goal.returns-clause-up_to
 returns-clause-up_to g c = on_ok c.link_row.result c.link_row.ensures.up_to (λ u j. up_to_next c.args.number _ (u j))
@@ -55,7 +56,7 @@ returns-clause-tight g c =
     let first = c.is_goal.ensures.grows in
     let second = c.in_ok-expand.ensures.grows in
     let grow = Grows-trans _ _ _ _ _ _ first second in
-    let inside : c.args.number < g.G.NumberedGraph.found c.args.graph.now = omega (arith, c.requires.inside, c.requires.found) in
+    let inside : c.args.number < g.G.NumberedGraph.found c.args.graph.now = below_more _ _ _ c.requires.inside c.requires.found in
     let row = c.in_ok-expand.ensures.listed in
     let linked = rw (c.deref.ensures.value, row.1) at w.1 in
     tight_row _ _ _ _ _ _ c.args.number _ _ (tight_grows _ _ _ _ _ _ _ _ _ grow c.requires.found c.args.number _ _ t) c.in-Some.label here cheap
@@ -95,7 +96,7 @@ returns-then-lt-clause-refused g c = tt
 
 pub is_goal-requires : goal.is_goal-requires
 is_goal-requires g c = record {
-  inside = omega (arith, c.requires.inside, c.requires.found);
+  inside = below_more _ _ _ c.requires.inside c.requires.found;
   graph = c.requires.graph;
 }
 
@@ -122,7 +123,7 @@ pub returns-then-is_goal-clause-refused : goal.returns-then-is_goal-clause-refus
 returns-then-is_goal-clause-refused g c = tt
 
 pub expand-requires-clause-inside : goal.expand-requires-clause-inside
-expand-requires-clause-inside g c = omega (arith, c.requires.inside, c.requires.found, c.is_goal.ensures.same)
+expand-requires-clause-inside g c = subst (λ (n : ℕ). c.args.number < n) (sym c.is_goal.ensures.same) (below_more _ _ _ c.requires.inside c.requires.found)
 
 pub expand-requires-clause-graph : goal.expand-requires-clause-graph
 expand-requires-clause-graph g c = let a = c.requires.graph in (a.0, (c.is_goal.ensures.graph a.0 a.1).0)

@@ -1,15 +1,16 @@
-use Rattle.std.proofs.Common.{rules, ◌≡◌, ◌+◌, ◌≤◌, ◌<◌, subst, arith, ℕ, length, List, sym, inl}
+use Rattle.std.proofs.Common.{◌≡◌, ◌+◌, ◌≤◌, ◌<◌, subst, ℕ, length, List, sym, inl}
 use Rattle.pf_core.proofs.SearchLemmas.{Grows-trans}
 use Rattle.pf_informed.specs.Internal.Ways.{before_in}
 use Rattle.pf_informed.specs.Internal.Tight.{IsTight, IsUpTo}
 use Rattle.pf_informed.proofs.Outcomes.{refused_as, if_refused, Grows-refl}
 use Rattle.pf_informed.proofs.TightLemmas.{tight_start}
+use Rattle.pf_informed.proofs.Bounds.{one_further, at_the_end, most_more, none_more}
 use Rattle.pf_informed.proofs.tight.tight_edges.Goals as goal
 
 pub look-requires-clause-someone : goal.look-requires-clause-someone
 look-requires-clause-someone g c =
     let i = c.numbers.invariant in
-    let inside : c.numbers.number < length c.args.labels.now = search rules in
+    let inside : c.numbers.number < length c.args.labels.now = c.numbers-test.true in
     let a = c.requires.someone c.numbers.number inside in
     (a.0, i.grows.stays c.numbers.number a.0 a.1)
 
@@ -25,7 +26,7 @@ pub numbers-preserved : goal.numbers-preserved
 numbers-preserved g c =
     let i = c.numbers.invariant in
     let e = c.in_ok-look.ensures in
-    let inside : c.numbers.number + 1 ≤ length c.args.labels.now = search rules in
+    let inside : c.numbers.number + 1 ≤ length c.args.labels.now = one_further _ _ c.numbers-test.true in
     record {
       few = inside;
       wide = e.wide;
@@ -37,8 +38,8 @@ numbers-preserved g c =
 pub returns-clause-tight : goal.returns-clause-tight
 returns-clause-tight g c = λ h x.
     let i = c.numbers.invariant in
-    let past : length c.args.labels.now ≤ c.numbers.number = search rules in
-    let all : c.numbers.number ≡ length c.args.labels.now = omega (arith, past, i.few) in
+    let past : length c.args.labels.now ≤ c.numbers.number = c.numbers-test.false in
+    let all : c.numbers.number ≡ length c.args.labels.now = at_the_end _ _ past i.few in
     ((i.tight h x).0, subst (λ (n : ℕ). IsTight g.C.Number.value c.args.labels.now (g.G.NumberedGraph.step h) (g.G.NumberedGraph.passes h) (g.G.NumberedGraph.stands c.numbers.graph) (g.C.Number.value c.args.best) n c.numbers.tight.goals.items (before_in c.numbers.tight.before.items)) all (i.tight h x).1)
 
 pub returns-in_err-empty_rows : goal.returns-in_err-empty_rows
@@ -68,13 +69,13 @@ pub look-requires-clause-graph : goal.look-requires-clause-graph
 look-requires-clause-graph g c = let a = c.requires.graph in (a.0, (c.numbers.invariant.tight a.0 a.1).0)
 
 pub look-requires-clause-found : goal.look-requires-clause-found
-look-requires-clause-found g c = omega (arith, c.requires.found, c.numbers.invariant.grows.more)
+look-requires-clause-found g c = most_more _ _ _ c.requires.found c.numbers.invariant.grows.more
 
 pub numbers-init : goal.numbers-init
 numbers-init g c =
     let e = c.in_ok-empty_rows.ensures in
     record {
-      few = omega arith;
+      few = none_more _;
       wide = e.len;
       up_to = λ j. subst (λ (xs : List ℕ). IsUpTo 0 xs) (sym (e.empty j)) (record { once = tt; low = inl (λ k q. absurd q) });
       grows = Grows-refl _ _;

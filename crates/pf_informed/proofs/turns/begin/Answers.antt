@@ -1,4 +1,4 @@
-use Rattle.std.proofs.Common.{◌≡◌, ◌∙◌, ap, arith, refl, pos, length, false}
+use Rattle.std.proofs.Common.{◌≡◌, ◌∙◌, ap, refl, pos, length, false}
 use Rattle.std.specs.BinaryHeap.{heap_items}
 use Rattle.pf_core.specs.declared.labels.Label.{Label}
 use Rattle.pf_core.specs.Nodes.{StandsFor, IsStep}
@@ -6,6 +6,7 @@ use Rattle.pf_core.proofs.ListLemmas.{on_ok}
 use Rattle.pf_informed.proofs.InformedLemmas.{forest_begin, queue_begin, informed_begin}
 use Rattle.pf_informed.proofs.Outcomes.{refused_as, on_refused}
 use Rattle.pf_informed.proofs.TightLemmas.{both_ok}
+use Rattle.pf_informed.proofs.Bounds.{none_more}
 use Rattle.pf_informed.proofs.turns.begin.Goals as goal
 
 pub ask-requires-clause-graph : goal.ask-requires-clause-graph
@@ -57,7 +58,7 @@ returns-in_err-ask g c = record {
 }
 
 pub ask-requires-clause-few : goal.ask-requires-clause-few
-ask-requires-clause-few g c = omega (arith, ap length c.requires.unasked)
+ask-requires-clause-few g c = rw c.requires.unasked (none_more _)
 
 pub begin-requires-clause-unlabelled : goal.begin-requires-clause-unlabelled
 begin-requires-clause-unlabelled g c = c.requires.unlabelled

@@ -1,4 +1,4 @@
-use Rattle.std.proofs.Common.{◌<◌, ◌≤◌, ◌∙◌, ℕ, Bool, sym, ap, subst, arith, length}
+use Rattle.std.proofs.Common.{◌<◌, ◌≤◌, ◌∙◌, ℕ, Bool, sym, ap, subst, length}
 use Rattle.std.specs.Prelude.{◌++◌}
 use Rattle.std.specs.BinaryHeap.{heap_items}
 use Rattle.pf_base.specs.Edges.{InReach}
@@ -12,6 +12,7 @@ use Rattle.pf_informed.proofs.InformedLemmas.{queue_kept, informed_opened}
 use Rattle.pf_informed.proofs.KnownLemmas.{estimated_grown}
 use Rattle.pf_informed.proofs.Outcomes.{refused_as, on_refused}
 use Rattle.pf_informed.proofs.TightLemmas.{both_ok}
+use Rattle.pf_informed.proofs.Bounds.{at_most_equal}
 use Rattle.pf_informed.proofs.turns.turn.Goals as goal
 
 abbrev tested : {N : Type 0} → NodeGraph N → (N → Bool) → TestedGraph N
@@ -106,7 +107,7 @@ returns g c =
                 let someone = begins_all eq laws old number (subst (λ (n : ℕ). number < n) c.requires.wide (HasLabel-inside labels number l.0 l.1)) in
                 let followed = rw (f.estimates, row.1) at (w l.0 l.1) in
                 let whole = follows_beside value g.C.Number.fits asked number l.0 _ labels c.follow.new.self.labels.items heap (heap_items c.follow.new.self.queue) rest followed in
-                let opened = informed_opened value g.C.Number.fits (IsStep eq h) passes estimates asked c.in_ok-ask.ensures.kept (length old) (length keys) (StandsFor eq old) (StandsFor eq keys) grown labels c.follow.new.self.labels.items (omega (arith, c.requires.wide))
+                let opened = informed_opened value g.C.Number.fits (IsStep eq h) passes estimates asked c.in_ok-ask.ensures.kept (length old) (length keys) (StandsFor eq old) (StandsFor eq keys) grown labels c.follow.new.self.labels.items (at_most_equal _ _ c.requires.wide)
                 entries (heap ++ rest) (heap_items c.follow.new.self.queue ++ rest) number l.0 l.1 left fails row.0 (λ y k. row.4 (tested h test) (d.explores, d.tested) y k) row.3 someone whole c.requires.forest i in
                 rw f.estimates opened,
           ));

@@ -1,10 +1,11 @@
-use Rattle.std.proofs.Common.{◌≡◌, ◌∙◌, ◌∷◌, [], List, ℤ, Bool, Err, ap, arith, length, ◌≤◌, refl, inl}
+use Rattle.std.proofs.Common.{◌≡◌, ◌∙◌, ◌∷◌, [], List, ℤ, Bool, Err, ap, length, ◌≤◌, refl, inl, ℕ, ◌<◌, subst, sym}
 use Rattle.pf_core.specs.Nodes.{NodeGraph, TestedGraph}
 use Rattle.pf_core.specs.NodeLaws.{StandsFor-one}
 use Rattle.pf_core.proofs.UnitLemmas.{begins_all}
 use Rattle.pf_informed.specs.Internal.Ways.{before_in}
 use Rattle.pf_informed.proofs.BagLemmas.{all_paths}
 use Rattle.pf_informed.proofs.Outcomes.{refused_as, if_refused, no_overflow, ok_is_no_error, same_error}
+use Rattle.pf_informed.proofs.Bounds.{at_most_equal}
 use Rattle.pf_informed.proofs.directed.astar_bag.find_ways.Goals as goal
 
 abbrev graph_of : {N : Type 0} → N → (N → List (N × ℤ)) → NodeGraph N
@@ -37,7 +38,7 @@ label_cheapest-requires-clause-graph g c =
 pub tight_edges-requires-clause-found : goal.tight_edges-requires-clause-found
 tight_edges-requires-clause-found g c =
     let w = rw c.in-Some.is at c.in_ok-best.ensures.wide in
-    omega (arith, w.0, ap length c.deref.ensures.value)
+    at_most_equal _ _ (ap length c.deref.ensures.value ∙ w.0)
 
 pub tight_edges-requires-clause-graph : goal.tight_edges-requires-clause-graph
 tight_edges-requires-clause-graph g c =
@@ -48,21 +49,21 @@ tight_edges-requires-clause-graph g c =
 pub tight_edges-requires-clause-someone : goal.tight_edges-requires-clause-someone
 tight_edges-requires-clause-someone g c = λ k l.
     let w = rw c.in-Some.is at c.in_ok-best.ensures.wide in
-    begins_all g.N.PartialEq.eq g.met.N.Eq.laws c.label_cheapest.new.graph.discovery.nodes.keys k (omega (arith, l, ap length c.deref.ensures.value, w.0))
+    begins_all g.N.PartialEq.eq g.met.N.Eq.laws c.label_cheapest.new.graph.discovery.nodes.keys k (subst (λ (n : ℕ). k < n) (ap length c.deref.ensures.value ∙ w.0) l)
 
 pub new-requires-clause-below : goal.new-requires-clause-below
 new-requires-clause-below g c = λ k j h.
     let r = c.requires.graph in
     let v = rw c.in-Some.is at (c.in_ok-best.ensures.labelled r.0 r.1 r.2 r.3 r.4 r.5) in
     let t = (c.in_ok-tight.ensures.tight (tested r.0 r.1 r.2) (v.0.explores, v.0.tested)).1 in
-    omega (arith, t.below k j h, c.in_ok-tight.ensures.wide)
+    subst (λ (n : ℕ). j < n) (sym c.in_ok-tight.ensures.wide) (t.below k j h)
 
 pub new-requires-clause-goals : goal.new-requires-clause-goals
 new-requires-clause-goals g c = λ j h.
     let r = c.requires.graph in
     let v = rw c.in-Some.is at (c.in_ok-best.ensures.labelled r.0 r.1 r.2 r.3 r.4 r.5) in
     let t = (c.in_ok-tight.ensures.tight (tested r.0 r.1 r.2) (v.0.explores, v.0.tested)).1 in
-    omega (arith, t.goals_below j (rw c.deref-2.ensures.value at h), c.in_ok-tight.ensures.wide)
+    subst (λ (n : ℕ). j < n) (sym c.in_ok-tight.ensures.wide) (t.goals_below j (rw c.deref-2.ensures.value at h))
 
 pub returns : goal.returns
 returns g c = record {
@@ -77,7 +78,7 @@ returns g c = record {
       let keys = c.tight_edges.new.graph.discovery.nodes.keys in
       let grow = c.in_ok-tight.ensures.grows in
       let labels = c.label_cheapest.new.search.labels.items in
-      let enough : length labels ≤ length keys = omega (arith, wide.0, grow.more) in
+      let enough : length labels ≤ length keys = subst (λ (n : ℕ). n ≤ length keys) (sym wide.0) grow.more in
       let tight = rw c.deref.ensures.value at told.1 in
       let same : length c.in_ok-tight.tight.before.items ≡ length labels = c.in_ok-tight.ensures.wide ∙ ap length c.deref.ensures.value in
       let e = c.in_ok-ways.ensures in
@@ -87,7 +88,7 @@ returns g c = record {
   ways =
       let e = c.in_ok-ways.ensures in
       let w = rw c.in-Some.is at c.in_ok-best.ensures.wide in
-      (rw e.before e.ways, omega (arith, ap length e.before, c.in_ok-tight.ensures.wide, ap length c.deref.ensures.value, w.0, c.in_ok-tight.ensures.grows.more));
+      (rw e.before e.ways, subst (λ (n : ℕ). n ≤ length c.tight_edges.new.graph.discovery.nodes.keys) (sym (ap length e.before ∙ c.in_ok-tight.ensures.wide ∙ ap length c.deref.ensures.value ∙ w.0)) c.in_ok-tight.ensures.grows.more);
   overflow = λ start edges test least b d e. absurd (ok_is_no_error _ _ _ refl e);
   errors = tt;
 }

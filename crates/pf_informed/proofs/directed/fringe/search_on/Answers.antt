@@ -1,7 +1,6 @@
-use Rattle.std.proofs.Common.{◌≡◌, ◌<◌, ◌∙◌, [], ◌∷◌, List, ℕ, ℤ, Bool, false, true≢false, ap, sym, subst, arith, length, slice_get, Some, refl, inl, inr}
-use Rattle.std.specs.Prelude.{◌++◌}
+use Rattle.std.proofs.Common.{◌≡◌, ◌<◌, ◌∙◌, [], ◌∷◌, List, ℕ, ℤ, Bool, false, true≢false, ap, sym, subst, length, slice_get, Some, refl, inl, inr}
+use Rattle.std.specs.Prelude.{◌++◌, ◌≤ℤ◌}
 use Rattle.std.specs.BinaryHeap.{heap_items}
-use Rattle.std.proofs.lemmas.Int.{ints}
 use Rattle.std.proofs.lemmas.List.{append-nil}
 use Rattle.std.proofs.lemmas.List.Elements.{Contains-append_left}
 use Rattle.std.proofs.lemmas.Option.{MatchOption-at_some, MatchOption-at_none}
@@ -19,6 +18,7 @@ use Rattle.pf_informed.proofs.LedLemmas.{informed_still, led_grown}
 use Rattle.pf_informed.proofs.WiderLemmas.{less_left_too}
 use Rattle.pf_informed.proofs.NodeWalks.{never_above}
 use Rattle.pf_informed.proofs.Outcomes.{refused_as, if_refused, no_overflow, ok_is_no_error}
+use Rattle.pf_informed.proofs.Bounds.{some_one}
 use Rattle.pf_informed.proofs.directed.fringe.search_on.Goals as goal
 
 abbrev tested : {N : Type 0} → NodeGraph N → (N → Bool) → TestedGraph N
@@ -41,7 +41,7 @@ turns-init g c =
     let entries = heap ++ listed c.args.lists.now in
     let alone : heap ≡ entries = sym (ap (λ (es : List (Entry g.row.C.Denot)). heap ++ es) c.requires.unlisted ∙ append-nil heap) in
     let asked : length kept ≡ length keys = b.asked ∙ sym one in
-    let estimate : slice_get kept 0 ≡ Some c.index.result.now = at_place kept 0 c.index.result.now c.index.result.now (omega (arith, b.asked)) (sym c.index.ensures) in
+    let estimate : slice_get kept 0 ≡ Some c.index.result.now = at_place kept 0 c.index.result.now c.index.result.now (some_one _ b.asked) (sym c.index.ensures) in
     record {
       forest = b.forest;
       ordered = b.ordered;
@@ -59,7 +59,7 @@ turns-init g c =
           let within = led_within eq laws value _ _ _ _ _ _ _ start edges test least keys _ _ _ kept now asked s in
           let low = never_above eq laws h now.explores.alike test least now.admissible s0 (within 0 s0 st) u z goes good in
           let is = led_estimate eq laws value _ _ _ _ _ _ _ start edges test least keys _ _ _ kept now asked s 0 s0 c.index.result.now st estimate in
-          omega (arith, ints, low, is);
+          subst (λ (v : ℤ). v ≤ℤ z) (sym is) low;
     }
 
 pub is_goal-requires-clause-inside : goal.is_goal-requires-clause-inside

@@ -1,5 +1,5 @@
-use Rattle.std.proofs.Common.{◌≡◌, [], ◌∷◌, List, ℕ, ℤ, Bool, true, length, sym, subst, arith, inl, ap, slice_get, Option, Some, None, refl, inr}
-use Rattle.std.proofs.lemmas.Int.{ints}
+use Rattle.std.proofs.Common.{◌≡◌, ◌∙◌, [], ◌∷◌, List, ℕ, ℤ, Bool, true, length, sym, subst, inl, slice_get, Option, Some, None, refl, inr}
+use Rattle.std.specs.Prelude.{◌≤ℤ◌}
 use Rattle.pf_base.specs.Edges.{InReach}
 use Rattle.pf_core.specs.Nodes.{NodeGraph, StandsFor}
 use Rattle.pf_core.specs.NodeLaws.{StandsFor-one, StandsFor-inside}
@@ -12,13 +12,14 @@ use Rattle.pf_informed.specs.Internal.Deepening.{IsCutOff}
 use Rattle.pf_informed.proofs.LimitLemmas.{limit_rises, covered_walk, next_limit, none_cut, none_fits, best_way, past_way}
 use Rattle.pf_informed.proofs.NodeWalks.{estimate_is, never_above, no_walk_fits}
 use Rattle.pf_informed.proofs.Outcomes.{refused_as, if_refused, no_overflow, ok_is_no_error}
+use Rattle.pf_informed.proofs.Bounds.{none_more, some_one, is_at_most, at_most_both, at_most_below}
 use Rattle.pf_informed.proofs.directed.idastar.search_on.Goals as goal
 
 abbrev graph_of : {N : Type 0} → N → (N → List (N × ℤ)) → NodeGraph N
 graph_of start edges = record { starts = start ∷ []; edges = edges }
 
 pub ask-requires-clause-few : goal.ask-requires-clause-few
-ask-requires-clause-few g c = omega (arith, ap length c.requires.unasked)
+ask-requires-clause-few g c = rw c.requires.unasked (none_more _)
 
 pub ask-requires-clause-graph : goal.ask-requires-clause-graph
 ask-requires-clause-graph g c =
@@ -45,7 +46,7 @@ limits-init g c =
           let a = c.in_ok-ask.ensures.graph value h least k.asked k.explores.reached in
           let estimated : IsEstimated value least (slice_get keys) kept = a.1 k.estimated in
           let x = c.index-limit.result.now in
-          let at : slice_get kept 0 ≡ Some x = at_place kept 0 x x (omega (arith, asked, one)) (sym c.index-limit.ensures) in
+          let at : slice_get kept 0 ≡ Some x = at_place kept 0 x x (some_one _ (asked ∙ one)) (sym c.index-limit.ensures) in
           let is = estimate_is eq laws h k.explores.alike value least k.asked.alike keys k.explores.reached kept estimated asked 0 start x b at in
           let reach : (y : g.row.N.Denot) → StandsFor eq keys 0 y → InReach eq edges (start ∷ []) y = λ y t. InReach-same eq laws edges (start ∷ []) t.0 y (k.explores.reached 0 t.0 t.1) t.2 in (
             record {
@@ -57,11 +58,11 @@ limits-init g c =
               admissible = k.admissible;
               costs = k.costs;
             },
-            omega (arith, ints, is),
+            is_at_most _ _ is,
             λ s0 e w u goes good.
                 let low = never_above eq laws h k.explores.alike test least k.admissible s0 (reach s0 (StandsFor-same eq laws keys 0 start s0 b e)) w u goes good in
                 let same = k.asked.alike start s0 (reach start b) e in
-                omega (arith, ints, is, low, same),
+                subst (λ (z : ℤ). z ≤ℤ u) (sym (is ∙ same)) low,
           );
     }
 
@@ -105,7 +106,7 @@ limits-smaller g c =
     let from = k.admissible.from_zero start (InReach-same eq laws r.1 (start ∷ []) b.0 start (k.explores.reached 0 b.0 b.1) b.2) in
     let above = (rw c.in-Missed.is at c.in_ok-numbers.ensures.above) c.in-Some.least c.in-Some.is in
     let fit = (g.met.C.Cost.range_law (value c.in-Some.least)).0 c.known.ensures in
-    limit_rises (value c.limits.limit) (value c.in-Some.least) (value g.C.Cost.greatest) (omega (arith, ints, from, v.1)) above fit.1
+    limit_rises (value c.limits.limit) (value c.in-Some.least) (value g.C.Cost.greatest) (at_most_both _ _ _ from v.1) above fit.1
 
 pub limits-preserved : goal.limits-preserved
 limits-preserved g c =
@@ -135,11 +136,11 @@ limits-preserved g c =
           let told = rw c.in-Missed.is at (c.in_ok-numbers.ensures.graph h test least start v.0 begins v.1) in
           let reach : (y : g.row.N.Denot) → StandsFor eq before 0 y → InReach eq edges (start ∷ []) y = λ y t. InReach-same eq laws edges (start ∷ []) t.0 y (k.explores.reached 0 t.0 t.1) t.2 in (
             told.0,
-            omega (arith, ints, v.1, above),
+            at_most_below _ _ _ v.1 above,
             λ s0 e ws u goes good.
                 let here = StandsFor-same eq laws before 0 start s0 begins e in
                 let same = k.asked.alike start s0 (reach start begins) e in
-                let seen = rw c.in-Missed.is at (c.in_ok-numbers.ensures.graph h test least s0 v.0 here (omega (arith, ints, v.1, same))) in
+                let seen = rw c.in-Missed.is at (c.in_ok-numbers.ensures.graph h test least s0 v.0 here (subst (λ (z : ℤ). z ≤ℤ value c.limits.limit) same v.1)) in
                 let q = covered_walk eq laws value fits (λ a b d. g.C.Number.between_law a b d exact) (g.met.C.Zero.zero_fits_law exact) h alike test same_test p keys (IsCutOff value fits c.in-Missed.least c.in-Missed.past) s0 (grows.stays 0 s0 here) (reach s0 here) seen.1.0 ws u goes good in
                 let cut = subst (λ (o : Option g.row.C.Denot). IsCutOff value fits o c.in-Missed.past q.0) c.in-Some.is q.3 in
                 next_limit eq laws value fits (λ a b d. g.C.Number.between_law a b d exact) (g.met.C.Zero.zero_fits_law exact) h alike test same_test p n c.in-Missed.past q.0 u c.known.ensures q.1 q.2 cut,
@@ -172,7 +173,7 @@ returns-then-past g c = record {
             let e = all_starts eq start (λ y. eq start y ≡ true) (λ y. ((λ q. q), (λ q. q))) s0 i in
             let here = StandsFor-same eq laws before 0 start s0 begins e in
             let same = k.asked.alike start s0 (reach start begins) e in
-            let seen = rw c.in-Missed.is at (c.in_ok-numbers.ensures.graph h test least s0 v.0 here (omega (arith, ints, v.1, same))) in
+            let seen = rw c.in-Missed.is at (c.in_ok-numbers.ensures.graph h test least s0 v.0 here (subst (λ (z : ℤ). z ≤ℤ value c.limits.limit) same v.1)) in
             let q = covered_walk eq laws value fits (λ a b d. g.C.Number.between_law a b d exact) (g.met.C.Zero.zero_fits_law exact) h alike test same_test p keys (IsCutOff value fits c.in-Missed.least c.in-Missed.past) s0 (grows.stays 0 s0 here) (reach s0 here) seen.1.0 ws u goes good in
             let cut = subst (λ (o : Option g.row.C.Denot). IsCutOff value fits o c.in-Missed.past q.0) c.in_default.is q.3 in
             none_fits eq laws value fits (λ a b d. g.C.Number.between_law a b d exact) (g.met.C.Zero.zero_fits_law exact) h alike test same_test p c.in-Missed.past q.0 u q.1 q.2 cut),
@@ -203,7 +204,7 @@ returns-in_default g c = record {
       (λ s0 e ws u goes good.
       let here = StandsFor-same eq laws before 0 start s0 begins e in
       let same = k.asked.alike start s0 (reach start begins) e in
-      let seen = rw c.in-Missed.is at (c.in_ok-numbers.ensures.graph h test least s0 v.0 here (omega (arith, ints, v.1, same))) in
+      let seen = rw c.in-Missed.is at (c.in_ok-numbers.ensures.graph h test least s0 v.0 here (subst (λ (z : ℤ). z ≤ℤ value c.limits.limit) same v.1)) in
       let q = covered_walk eq laws value fits (λ a b d. g.C.Number.between_law a b d exact) (g.met.C.Zero.zero_fits_law exact) h alike test same_test p keys (IsCutOff value fits c.in-Missed.least c.in-Missed.past) s0 (grows.stays 0 s0 here) (reach s0 here) seen.1.0 ws u goes good in
       let cut = subst (λ (o : Option g.row.C.Denot). IsCutOff value fits o c.in-Missed.past q.0) c.in_default.is q.3 in
       none_cut eq laws value fits (λ a b d. g.C.Number.between_law a b d exact) (g.met.C.Zero.zero_fits_law exact) h alike test same_test p q.0 (subst (λ (b : Bool). IsCutOff value fits None b q.0) c.if-past.false cut));

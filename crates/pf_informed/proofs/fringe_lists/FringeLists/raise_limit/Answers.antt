@@ -1,8 +1,9 @@
-use Rattle.std.proofs.Common.{arith, List, subst, sym, inr, refl}
+use Rattle.std.proofs.Common.{List, subst, sym, inr, refl, inl}
 use Rattle.pf_informed.specs.Internal.Waiting.{Entry}
 use Rattle.pf_informed.specs.Internal.Fringe.{listed, IsRaising, IsBelowWaiting}
 use Rattle.pf_informed.proofs.RaisingLemmas.{raising_start, later_labelled, raising_more, raised_below, raised_taken, raised_queue}
 use Rattle.pf_informed.proofs.Outcomes.{refused_as, on_refused, if_refused}
+use Rattle.pf_informed.proofs.Bounds.{none_below, without_rest, none_more}
 use Rattle.pf_informed.proofs.fringe_lists.FringeLists.raise_limit.Goals as goal
 
 pub take_last-requires : goal.take_last-requires
@@ -14,7 +15,7 @@ pub returns-in_default-clause-taken : goal.returns-in_default-clause-taken
 returns-in_default-clause-taken g c = λ k l h w.
     let u = c.in_default.ensures.taken.1 k l h (rw c.requires.over at w) in
     let gone = u.1 in
-    omega (arith, gone.1)
+    absurd (none_below _ gone.1)
 
 pub entries-init : goal.entries-init
 entries-init g c =
@@ -61,3 +62,18 @@ returns-in_err-push g c = record {
   fewer = if_refused _ c.from_residual.result _ c.from_residual.ensures.1;
   refused = refused_as _ c.from_residual.result _ c.from_residual.ensures.1 refl;
 }
+
+pub returns-clause-fewer : goal.returns-clause-fewer
+returns-clause-fewer g c = rw c.in_default-take_last.ensures.taken.0 (without_rest c.entries.self.current.items c.entries.self.later.items _ c.entries.invariant.raising.fewer)
+
+pub returns-in_default-clause-fewer : goal.returns-in_default-clause-fewer
+returns-in_default-clause-fewer g c = rw (c.in_default.ensures.taken.0, c.requires.over) (none_more _)
+
+pub returns-in_default-clause-limit : goal.returns-in_default-clause-limit
+returns-in_default-clause-limit g c = inl refl
+
+pub returns-in_default-clause-refused : goal.returns-in_default-clause-refused
+returns-in_default-clause-refused g c = tt
+
+pub returns-clause-refused : goal.returns-clause-refused
+returns-clause-refused g c = tt

@@ -1,5 +1,7 @@
 use Rattle.pf_informed.proofs.Outcomes.{refused_as, on_refused}
-use Rattle.std.proofs.Common.{refl, arith}
+use Rattle.std.proofs.Common.{refl, arith, sym}
+use Rattle.pf_informed.proofs.Bounds.{some_one}
+use Rattle.pf_core.proofs.ListLemmas.{at_place}
 use Rattle.pf_informed.proofs.search.Search.begin.Goals as goal
 
 pub returns-in_err-push : goal.returns-in_err-push
@@ -31,3 +33,11 @@ returns-clause-labelled g c = rw (c.in_ok-push-2.ensures.items, c.requires.unlab
 
 pub returns-clause-refused : goal.returns-clause-refused
 returns-clause-refused g c = tt
+
+pub returns-clause-ordered : goal.returns-clause-ordered
+returns-clause-ordered g c = c.in_ok-push.ensures.heap_order c.requires.ordered
+
+pub returns-clause-waiting : goal.returns-clause-waiting
+returns-clause-waiting g c =
+    let h = c.index.result.now in
+    (h, at_place c.args.self.now.estimates.items 0 h h (some_one _ c.requires.estimated) (sym c.index.ensures), rw (c.requires.nothing_waits, c.zero-nothing.ensures) at c.in_ok-push.ensures.permutation)

@@ -1,4 +1,4 @@
-use Rattle.std.proofs.Common.{arith, ◌≡◌, ◌<◌, ◌∙◌, subst, sym, ℕ, length, refl}
+use Rattle.std.proofs.Common.{◌≡◌, ◌<◌, ◌∙◌, subst, sym, ℕ, length, refl, ◌≤◌, ◌^◌}
 use Rattle.std.specs.BinaryHeap.{heap_items, heap_len}
 use Rattle.pf_core.specs.declared.labels.Label.{Label}
 use Rattle.pf_core.proofs.LabelLemmas.{HasLabel-inside, label_is}
@@ -6,6 +6,7 @@ use Rattle.pf_informed.specs.Internal.Forest.{nat_of}
 use Rattle.pf_informed.specs.Internal.Waiting.{Eased}
 use Rattle.pf_informed.proofs.WiderLemmas.{forest_wider, queue_wider, length_wider, widened, work_wider, less_work}
 use Rattle.pf_informed.proofs.Outcomes.{refused_as, on_refused}
+use Rattle.pf_informed.proofs.Bounds.{below_more, few_fit}
 use Rattle.pf_informed.proofs.search.Search.follow.Goals as goal
 
 pub label_of-label-requires : goal.label_of-label-requires
@@ -30,7 +31,7 @@ relax-requires-clause-few g c =
     let labels = c.args.self.now.labels.items in
     let len : c.len-2.result ≡ length c.args.self.now.estimates.items = c.len-2.ensures ∙ c.args.self.now.estimates.ok.0 in
     let is = rw len at c.in_ok-make_room.ensures.wider in
-    omega (arith, len, length_wider g.C.Number.value labels c.make_room.new.labels.items (length c.args.self.now.estimates.items) c.requires.few is, c.in_ok-make_room.ensures.few)
+    subst (λ (n : ℕ). n ≤ 2 ^ 32) (len ∙ sym (length_wider g.C.Number.value labels c.make_room.new.labels.items (length c.args.self.now.estimates.items) c.requires.few is)) c.in_ok-make_room.ensures.few
 
 pub relax-requires-clause-parent : goal.relax-requires-clause-parent
 relax-requires-clause-parent g c =
@@ -38,7 +39,7 @@ relax-requires-clause-parent g c =
     let l = c.requires.labelled in
     let len : c.len-2.result ≡ length c.args.self.now.estimates.items = c.len-2.ensures ∙ c.args.self.now.estimates.ok.0 in
     let is = rw len at c.in_ok-make_room.ensures.wider in
-    omega (arith, HasLabel-inside labels c.args.number l.0 l.1, c.requires.few, length_wider g.C.Number.value labels c.make_room.new.labels.items (length c.args.self.now.estimates.items) c.requires.few is)
+    subst (λ (n : ℕ). c.args.number < n) (sym (length_wider g.C.Number.value labels c.make_room.new.labels.items (length c.args.self.now.estimates.items) c.requires.few is)) (below_more _ _ _ (HasLabel-inside labels c.args.number l.0 l.1) c.requires.few)
 
 pub relax-requires-clause-prices : goal.relax-requires-clause-prices
 relax-requires-clause-prices g c = λ j d h. c.requires.prices j d (rw c.deref.ensures.value at h)
@@ -86,7 +87,7 @@ returns-clause-less g c =
     let top = nat_of (g.C.Number.value g.C.Cost.greatest) in
     let len : c.len-2.result ≡ length c.args.self.now.estimates.items = c.len-2.ensures ∙ c.args.self.now.estimates.ok.0 in
     let is = rw len at c.in_ok-make_room.ensures.wider in
-    let w = work_wider g.C.Number.value labels c.make_room.new.labels.items (length c.args.self.now.estimates.items) c.requires.few is top (heap_len c.args.self.now.queue) (omega (arith, c.in_ok-make_room.ensures.few)) in
+    let w = work_wider g.C.Number.value labels c.make_room.new.labels.items (length c.args.self.now.estimates.items) c.requires.few is top (heap_len c.args.self.now.queue) (few_fit _ _ len c.in_ok-make_room.ensures.few) in
     less_work g.C.Number.value top c.make_room.new.labels.items c.relax.new.labels.items (heap_len c.reserve.new.self) (heap_len c.relax.new.queue) (heap_len c.args.self.now.queue) labels c.relax.ensures.eased.len c.relax.ensures.less c.in_ok-reserve.ensures.len w
 
 pub returns-in_err-reserve : goal.returns-in_err-reserve

@@ -1,4 +1,4 @@
-use Rattle.std.proofs.Common.{◌<◌, ◌∙◌, ap, sym, arith, length, nat_eq, ℕ}
+use Rattle.std.proofs.Common.{◌<◌, ◌∙◌, ap, sym, length, nat_eq, ℕ}
 use Rattle.std.specs.Prelude.{reverse}
 use Rattle.pf_base.specs.Walks.{HasNode}
 use Rattle.pf_informed.specs.Internal.Ways.{nodes_of, nothing_waits, paths_of}
@@ -6,13 +6,14 @@ use Rattle.pf_informed.proofs.BagLemmas.{way_nodes}
 use Rattle.pf_informed.proofs.WayLaws.{HasNode_of}
 use Rattle.pf_informed.proofs.SolutionLemmas.{turn_refused}
 use Rattle.pf_informed.proofs.WaysLemmas.{kept_dropped, not_idle, some_wait}
+use Rattle.pf_informed.proofs.Bounds.{below_more}
 use Rattle.pf_informed.proofs.directed.astar_bag.AstarSolution.step.Goals as goal
 
 pub clones_at-requires-clause-inside : goal.clones_at-requires-clause-inside
 clones_at-requires-clause-inside g c = λ k h.
     let kept = c.in_ok-find.ensures.kept in
     let i = kept.inside k (HasNode_of _ k (rw c.deref.ensures.value at h)) in
-    omega (arith, i, c.self.invariant.1, ap length c.as_slice.ensures.keys)
+    rw c.as_slice.ensures.keys (below_more _ _ _ i c.self.invariant.1)
 
 pub invariant_of-self-2 : goal.invariant_of-self-2
 invariant_of-self-2 g c =
@@ -22,7 +23,7 @@ invariant_of-self-2 g c =
     let w = d.waiting s.0 s.1 s.2 in
     let a = rw s.2 at f.kept in
     let same = d.before ∙ f.before in
-    (rw (same, d.way, d.places, w) (kept_dropped _ _ _ _ s.0 s.1 a), omega (arith, ap length same, c.self.invariant.1))
+    (rw (same, d.way, d.places, w) (kept_dropped _ _ _ _ s.0 s.1 a), rw same c.self.invariant.1)
 
 pub returns-clause-turn : goal.returns-clause-turn
 returns-clause-turn g c =
@@ -33,7 +34,7 @@ returns-clause-turn g c =
     let same = d.before ∙ f.before in
     let keys = c.self.inside.nodes.keys in
     let way = c.find.new.self.way.items in
-    let inside : (j : ℕ) → HasNode nat_eq way j → j < length keys = λ j h. let kept = f.kept in omega (arith, kept.inside j h, c.self.invariant.1) in
+    let inside : (j : ℕ) → HasNode nat_eq way j → j < length keys = λ j h. let kept = f.kept in below_more _ _ _ (kept.inside j h) c.self.invariant.1 in
     rw (← c.self.view_is, same, d.way, w) (
       not_idle _ (λ none. (let both = rw c.if-not-branch.false at f.idle none in cc)),
       (
@@ -47,13 +48,13 @@ pub find-requires : goal.find-requires
 find-requires g c = c.self.invariant.0
 
 pub invariant_of-self : goal.invariant_of-self
-invariant_of-self g c = let f = c.in_err-find.ensures in (rw f.before f.kept, omega (arith, ap length f.before, c.self.invariant.1))
+invariant_of-self g c = let f = c.in_err-find.ensures in rw f.before (f.kept, c.self.invariant.1)
 
 pub invariant_of-self-then-not-branch : goal.invariant_of-self-then-not-branch
-invariant_of-self-then-not-branch g c = let f = c.in_ok-find.ensures in (rw f.before f.kept, omega (arith, ap length f.before, c.self.invariant.1))
+invariant_of-self-then-not-branch g c = let f = c.in_ok-find.ensures in rw f.before (f.kept, c.self.invariant.1)
 
 pub invariant_of-self-in_err-path : goal.invariant_of-self-in_err-path
-invariant_of-self-in_err-path g c = let f = c.in_ok-find.ensures in (rw f.before f.kept, omega (arith, ap length f.before, c.self.invariant.1))
+invariant_of-self-in_err-path g c = let f = c.in_ok-find.ensures in rw f.before (f.kept, c.self.invariant.1)
 
 pub returns-then-not-branch-clause-turn : goal.returns-then-not-branch-clause-turn
 returns-then-not-branch-clause-turn g c =

@@ -1,4 +1,4 @@
-use Rattle.std.proofs.Common.{◌≡◌, ◌<◌, ◌+◌, ◌-◌, [], ◌∷◌, ◌++◌, List, ℕ, true, true≢false, length, ap, ◌∙◌, sym, subst, slice_get, arith, inl, inr, Some, ℤ, pos}
+use Rattle.std.proofs.Common.{◌≡◌, ◌<◌, ◌+◌, ◌-◌, [], ◌∷◌, ◌++◌, List, ℕ, true, true≢false, length, ap, ◌∙◌, sym, subst, slice_get, inl, inr, Some, ℤ, pos}
 use Rattle.std.specs.Prelude.{◌⊎◌, ◌↔◌, ◌+ℤ◌, ◌<ℤ◌, ◌≤ℤ◌, Contains, reverse}
 use Rattle.std.proofs.lemmas.List.{length-reverse}
 use Rattle.pf_core.specs.NodeLaws.{StandsFor-one}
@@ -11,6 +11,7 @@ use Rattle.pf_informed.proofs.NodeWalks.{estimate_is, estimate_at}
 use Rattle.pf_informed.proofs.TurnsLeft.{some_turns, advanced_less, entered_less}
 use Rattle.pf_informed.proofs.WayLemmas.{cheap_positive, marked_on, numbers_up, frame_ends, step_at, still_found, part_within, on_way_as, skipped, cost_from_zero, price_from_zero, cut_there, went_on, arrived}
 use Rattle.pf_informed.proofs.Outcomes.{refused_as, on_refused, if_refused, Grows-refl}
+use Rattle.pf_informed.proofs.Bounds.{turns_fit, places_fit, place_inside, place_fits}
 use Rattle.pf_informed.proofs.directed.idastar.round.go_on.Goals as goal
 
 pub returns-then-is_marked : goal.returns-then-is_marked
@@ -192,9 +193,9 @@ returns-in_ok-enter-in-Some-2 g c = record {
       let has = rw c.in-Some-2.is at c.in_ok-span.ensures.kept in
       let within = c.in_ok-span.ensures.table.within c.index-step.result.now.0 s has in
       let steps = c.span_of.new.self.rows.steps in
-      let shallow : length fs < 18446744073709551616 = omega (arith, length-reverse way.trail.items, way.trail.ok.0, way.trail.small) in
+      let shallow : length fs < 18446744073709551616 = turns_fit _ _ _ _ (length-reverse way.trail.items) way.trail.ok way.trail.small in
       let frame : Frame g.row.C.Denot = record { number = c.index-step.result.now.0; cost = c.in-Some.cost; at = s.begin; end = s.end } in
-      let short : (frame.end - frame.at) + 1 < 18446744073709551616 = omega (arith, within.1, steps.ok.0, steps.small) in
+      let short : (frame.end - frame.at) + 1 < 18446744073709551616 = places_fit _ _ _ _ _ within.1 steps.ok steps.small in
       subst (λ (f : Frame g.row.C.Denot). turns_left 18446744073709551616 18446744073709551616 f (reverse c.enter.new.self.trail.items) < turns_left 18446744073709551616 18446744073709551616 way.frame fs) (sym e.frame)
       (subst (λ (xs : List (Frame g.row.C.Denot)). turns_left 18446744073709551616 18446744073709551616 frame xs < turns_left 18446744073709551616 18446744073709551616 way.frame fs) (sym e.below)
       (entered_less 18446744073709551616 18446744073709551616 some_turns way.frame frame fs shallow short));
@@ -339,7 +340,7 @@ index-step-requires g c =
     let way = c.args.way.now in
     let keys = known.graph.discovery.nodes.keys in
     let ends = frame_ends g.N.PartialEq.eq g.met.N.Eq.laws g.C.Number.value g.C.Number.fits r.0 r.1 r.2 r.3 keys known.rows.steps.items known.rows.spans.items r.4.rows (length keys) c.requires.table way.frame (reverse way.trail.items) way.cut_off.least way.cut_off.past r.5 in
-    omega (arith, c.requires.left, ends.1, known.rows.steps.ok.0)
+    place_inside _ _ _ _ c.requires.left ends.1 known.rows.steps.ok.0
 
 pub overflow_add-way : goal.overflow_add-way
 overflow_add-way g c =
@@ -348,7 +349,7 @@ overflow_add-way g c =
     let way = c.args.way.now in
     let keys = known.graph.discovery.nodes.keys in
     let ends = frame_ends g.N.PartialEq.eq g.met.N.Eq.laws g.C.Number.value g.C.Number.fits r.0 r.1 r.2 r.3 keys known.rows.steps.items known.rows.spans.items r.4.rows (length keys) c.requires.table way.frame (reverse way.trail.items) way.cut_off.least way.cut_off.past r.5 in
-    omega (arith, c.requires.left, ends.1, known.rows.steps.ok.0, known.rows.steps.small)
+    place_fits _ _ _ _ _ c.requires.left ends.1 known.rows.steps.ok known.rows.steps.small
 
 pub overflow_add-way-in_default : goal.overflow_add-way-in_default
 overflow_add-way-in_default g c =
@@ -357,4 +358,4 @@ overflow_add-way-in_default g c =
     let way = c.args.way.now in
     let keys = known.graph.discovery.nodes.keys in
     let ends = frame_ends g.N.PartialEq.eq g.met.N.Eq.laws g.C.Number.value g.C.Number.fits r.0 r.1 r.2 r.3 keys known.rows.steps.items known.rows.spans.items r.4.rows (length keys) c.requires.table way.frame (reverse way.trail.items) way.cut_off.least way.cut_off.past r.5 in
-    omega (arith, c.requires.left, ends.1, known.rows.steps.ok.0, known.rows.steps.small)
+    place_fits _ _ _ _ _ c.requires.left ends.1 known.rows.steps.ok known.rows.steps.small

@@ -1,6 +1,5 @@
-use Rattle.std.proofs.Common.{◌≡◌, ◌<◌, [], ◌∷◌, List, ℕ, pos, true, length, ap, ◌∙◌, sym, subst, arith, inl, inr, false, Some, None}
-use Rattle.std.specs.Prelude.{◌↔◌, ◌⊎◌, Contains, reverse}
-use Rattle.std.proofs.lemmas.Int.{ints}
+use Rattle.std.proofs.Common.{◌≡◌, ◌<◌, [], ◌∷◌, List, ℕ, ℤ, pos, true, length, ap, ◌∙◌, sym, subst, inl, inr, false, Some, None}
+use Rattle.std.specs.Prelude.{◌≤ℤ◌, ◌↔◌, ◌⊎◌, Contains, reverse}
 use Rattle.pf_core.proofs.ListLemmas.{none_in, Contains-cases}
 use Rattle.pf_core.proofs.NodeLemmas.{InReach-same}
 use Rattle.pf_core.proofs.SearchLemmas.{Grows-trans}
@@ -8,6 +7,7 @@ use Rattle.pf_informed.specs.declared.directed.idastar.way.Frame.{Frame}
 use Rattle.pf_informed.specs.Internal.Deepening.{IsMarked, numbers_of}
 use Rattle.pf_informed.proofs.WayLemmas.{still_found, marked_on, on_way_as, begun, start_way}
 use Rattle.pf_informed.proofs.Outcomes.{refused_as, on_refused, if_refused}
+use Rattle.pf_informed.proofs.Bounds.{at_most_both, none_below}
 use Rattle.pf_informed.proofs.directed.idastar.round.look_through.Goals as goal
 
 pub returns-in_default-clause-graph : goal.returns-in_default-clause-graph
@@ -20,7 +20,7 @@ returns-in_default-clause-graph g c = λ h test least first k s low.
     let here = c.in_ok-span.ensures.grows.stays 0 first s in
     let nothing : value c.zero-nothing.result ≡ pos 0 = ap value c.zero-nothing.ensures ∙ g.met.C.Zero.zero_law g.met.C.Integral.exact_law in
     let from = k.admissible.from_zero first (InReach-same eq laws h.edges h.starts s.0 first (k.explores.reached 0 s.0 s.1) s.2) in
-    (told.0, (start_way eq laws value g.C.Number.fits h test least first keys here (told.1 first here) c.in_ok-numbers.numbers.items c.in_ok-numbers.ensures.numbers (value c.zero-nothing.result) nothing, omega (arith, ints, nothing, from, low)))
+    (told.0, (start_way eq laws value g.C.Number.fits h test least first keys here (told.1 first here) c.in_ok-numbers.numbers.items c.in_ok-numbers.ensures.numbers (value c.zero-nothing.result) nothing, subst (λ (z : ℤ). z ≤ℤ value c.args.limit) (sym nothing) (at_most_both _ _ _ from low)))
 
 pub turns-init : goal.turns-init
 turns-init g c =
@@ -42,7 +42,7 @@ turns-init g c =
     let at : way.frame.at ≡ s.begin = ap (λ (f : Frame g.row.C.Denot). f.at) b.frame in
     let end : way.frame.end ≡ s.end = ap (λ (f : Frame g.row.C.Denot). f.end) b.frame in
     let frames : numbers_of (way.frame ∷ reverse way.trail.items) ≡ 0 ∷ [] = ap (λ (xs : List (Frame g.row.C.Denot)). numbers_of (way.frame ∷ xs)) b.below ∙ ap (λ (f : Frame g.row.C.Denot). numbers_of (f ∷ [])) b.frame in
-    let none : (i : ℕ) → IsMarked [] i ↔ Contains [] i = λ i. ((λ m. absurd (none_in i true m)), (λ m. absurd (omega (arith, m.1)))) in
+    let none : (i : ℕ) → IsMarked [] i ↔ Contains [] i = λ i. ((λ m. absurd (none_in i true m)), (λ m. absurd (none_below _ m.1))) in
     let alone : (i : ℕ) → IsMarked way.marks.items i ↔ (IsMarked [] i ⊎ (i ≡ 0)) = λ i. (
       (λ m. inr ((b.marked i).0 m)),
       (λ m. (b.marked i).1 (elim m as (λ _. i ≡ 0) [ inl q ↦ absurd (none_in i true q) | inr q ↦ q ])),
@@ -55,8 +55,8 @@ turns-init g c =
       marked = record {
         marked = subst (λ (ns : List ℕ). (i : ℕ) → IsMarked way.marks.items i ↔ Contains ns i) (sym frames) on;
         inside = λ i m. elim (Contains-cases [] 0 i (subst (λ (ns : List ℕ). Contains ns i) frames m)) as (λ _. i < length keys) [
-          | inl q ↦ omega (arith, q, c.requires.begun, e.grows.more)
-          | inr q ↦ absurd (omega (arith, q.1))
+          | inl q ↦ subst (λ (n : ℕ). n < length keys) q (still_found _ _ _ c.requires.begun e.grows.more)
+          | inr q ↦ absurd (none_below _ q.1)
         ];
         above = λ n q. let no : None ≡ Some n = sym b.cut_off.0 ∙ q in absurd (cc);
       };
@@ -197,5 +197,5 @@ returns-in_default-clause-inside g c = λ i m.
     let keys = c.span_of.new.self.graph.discovery.nodes.keys in
     elim (Contains-cases [] 0 i (subst (λ (ns : List ℕ). Contains ns i) c.in_ok-numbers.ensures.numbers m)) as (λ _. i < length keys) [
       | inl q ↦ subst (λ (n : ℕ). n < length keys) q (still_found _ _ _ c.requires.begun c.in_ok-span.ensures.grows.more)
-      | inr q ↦ absurd (omega (arith, q.1))
+      | inr q ↦ absurd (none_below _ q.1)
     ]

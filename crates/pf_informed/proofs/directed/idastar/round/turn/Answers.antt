@@ -4,7 +4,7 @@ use Rattle.pf_core.proofs.ListLemmas.{Contains-head, Contains-tail}
 use Rattle.pf_informed.specs.declared.directed.idastar.cut_off.CutOff.{CutOff}
 use Rattle.pf_informed.specs.declared.directed.idastar.way.Frame.{Frame}
 use Rattle.pf_informed.specs.Internal.Deepening.{IsMarked, numbers_of, turns_left, IsOnWay}
-use Rattle.pf_informed.proofs.TurnsLeft.{left_less}
+use Rattle.pf_informed.proofs.TurnsLeft.{left_less, some_turns}
 use Rattle.pf_informed.proofs.WayLemmas.{marked_back, frame_ends, room, on_way_as, went_back, all_done}
 use Rattle.pf_informed.proofs.Outcomes.{Grows-refl}
 use Rattle.pf_informed.proofs.directed.idastar.round.turn.Goals as goal
@@ -47,7 +47,7 @@ returns-then-leave g c = record {
       let new = c.leave.new.self in
       let b = c.if-leave.ensures.below in
       let at = room g.N.PartialEq.eq g.met.N.Eq.laws g.C.Number.value g.C.Number.fits r.0 r.1 r.2 r.3 known.graph.discovery.nodes.keys known.rows.steps.items known.rows.spans.items k.rows way.frame (reverse way.trail.items) way.cut_off.least way.cut_off.past r.5 b.0 b.1 b.2 in
-      let less = left_less 18446744073709551616 18446744073709551616 (omega arith) way.frame b.0 b.1 at in
+      let less = left_less 18446744073709551616 18446744073709551616 some_turns way.frame b.0 b.1 at in
       subst (λ (f : Frame g.row.C.Denot). turns_left 18446744073709551616 18446744073709551616 f (reverse new.trail.items) < turns_left 18446744073709551616 18446744073709551616 way.frame (reverse way.trail.items)) (sym b.3)
       (subst (λ (xs : List (Frame g.row.C.Denot)). turns_left 18446744073709551616 18446744073709551616 (record b.0 { at = b.0.at + 1 }) xs < turns_left 18446744073709551616 18446744073709551616 way.frame (reverse way.trail.items)) (sym b.4)
       (subst (λ (xs : List (Frame g.row.C.Denot)). turns_left 18446744073709551616 18446744073709551616 (record b.0 { at = b.0.at + 1 }) b.1 < turns_left 18446744073709551616 18446744073709551616 way.frame xs) (sym b.2) less));

@@ -2,6 +2,7 @@ use Rattle.std.proofs.Common.{[], ◌∷◌, ◌++◌, inl, inr, sym, subst}
 use Rattle.std.specs.Prelude.{OnOk, Result, Ok, Err}
 use Rattle.pf_informed.specs.Internal.Rows.{IsCheapestOf}
 use Rattle.pf_informed.proofs.RowLemmas.{cheapest_same, cheapest_lowered, cheapest_pushed}
+use Rattle.std.proofs.lemmas.Option.{slice_get_within}
 use Rattle.pf_informed.proofs.directed.idastar.cheapest_row.CheapestRowRow.add.Goals as goal
 
 pub returns-in-Some-clause-added : goal.returns-in-Some-clause-added
@@ -14,6 +15,15 @@ returns-in-Some-clause-added g c = λ steps h.
       | inl q ↦ rw q.0 (cheapest_same value c.args.self.now.steps.items c.args.self.now.places.items steps h n p c.in-Some.place at.0 at.1 q.1)
       | inr q ↦ rw q.0 (cheapest_lowered value c.args.self.now.steps.items c.args.self.now.places.items steps h n p c.in-Some.place at.0 at.1 q.1)
     ])
+
+pub lower-requires : goal.lower-requires
+lower-requires g c = slice_get_within c.args.self.now.steps.items c.in-Some.place _ c.in-Some.ensures.1
+
+pub returns-in-Some-clause-refused : goal.returns-in-Some-clause-refused
+returns-in-Some-clause-refused g c = tt
+
+pub returns-in-None-clause-refused : goal.returns-in-None-clause-refused
+returns-in-None-clause-refused g c = c.put.ensures.refused
 
 pub returns-in-None-clause-added : goal.returns-in-None-clause-added
 returns-in-None-clause-added g c =

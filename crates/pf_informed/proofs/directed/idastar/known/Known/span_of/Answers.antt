@@ -1,4 +1,4 @@
-use Rattle.std.proofs.Common.{◌≡◌, List, ℕ, Bool, true, false, length, ◌∙◌, sym, subst, slice_get, arith, Option, Some, None, is_some, true≢false}
+use Rattle.std.proofs.Common.{◌≡◌, List, ℕ, Bool, true, false, length, ◌∙◌, sym, subst, slice_get, Option, Some, None, is_some, true≢false, ◌<◌, ◌≤◌}
 use Rattle.std.specs.Prelude.{MatchOption, ⊤}
 use Rattle.pf_core.specs.Nodes.{NodeGraph, TestedGraph, StandsFor}
 use Rattle.pf_core.proofs.ListLemmas.{get-append}
@@ -7,6 +7,7 @@ use Rattle.pf_base.specs.Edges.{InReach}
 use Rattle.pf_informed.specs.Internal.Rows.{IsCheapStep, IsTable, HasSpan}
 use Rattle.pf_informed.proofs.KnownLemmas.{table_more, rows_more, rows_grown, estimated_grown, cheap_sound, cheap_complete}
 use Rattle.pf_informed.proofs.Outcomes.{refused_as, on_refused, if_refused, Grows-refl}
+use Rattle.pf_informed.proofs.Bounds.{below_more}
 use Rattle.pf_informed.proofs.directed.idastar.known.Known.span_of.Goals as goal
 
 abbrev tested : {N : Type 0} → NodeGraph N → (N → Bool) → TestedGraph N
@@ -85,7 +86,7 @@ returns g c = record {
       let row = c.in_ok-expand.ensures.listed in
       let e = c.in_ok-span.ensures in
       table_more (length keys) (length after) grows.more c.args.self.now.rows.steps.items c.expand.new.row.steps.items c.keep.new.self.steps.items c.args.self.now.rows.spans.items c.keep.new.self.spans.items c.args.number c.in_ok-span.span
-      (rw c.deref.ensures.value at e.steps) e.span.0 (rw c.deref.ensures.value at e.span.1) e.from c.requires.table (omega (arith, c.requires.inside, grows.more)) (λ i j d at. row.2 j d (row.1.from i j d at));
+      (rw c.deref.ensures.value at e.steps) e.span.0 (rw c.deref.ensures.value at e.span.1) e.from c.requires.table (below_more _ _ _ c.requires.inside grows.more) (λ i j d at. row.2 j d (row.1.from i j d at));
   grows = Grows-trans _ _ _ _ _ _ c.is_goal.ensures.grows c.in_ok-expand.ensures.grows;
   steps = λ i e h. subst (λ (xs : List (ℕ × g.row.C.Denot)). slice_get xs i ≡ Some e) (sym c.in_ok-span.ensures.steps) (get-append c.args.self.now.rows.steps.items c.deref.result.now i e h);
   spans = λ k s h.
@@ -108,7 +109,7 @@ returns g c = record {
       let row = c.in_ok-expand.ensures.listed in
       let e = c.in_ok-span.ensures in
       let number = c.args.number in
-      let here : (y : g.row.N.Denot) → StandsFor eq after number y → StandsFor eq between number y = λ y s. c.in_ok-expand.ensures.grows.back number y (omega (arith, c.requires.inside, c.is_goal.ensures.same)) s in (
+      let here : (y : g.row.N.Denot) → StandsFor eq after number y → StandsFor eq between number y = λ y s. c.in_ok-expand.ensures.grows.back number y (subst (λ (n : ℕ). number < n) (sym c.is_goal.ensures.same) c.requires.inside) s in (
         record {
           explores = x.0;
           tested = x.1;
@@ -180,7 +181,7 @@ pub is_goal-requires-clause-inside : goal.is_goal-requires-clause-inside
 is_goal-requires-clause-inside g c = c.requires.inside
 
 pub ask-requires-clause-few : goal.ask-requires-clause-few
-ask-requires-clause-few g c = omega (arith, c.requires.estimated, c.is_goal.ensures.same, c.in_ok-expand.ensures.grows.more)
+ask-requires-clause-few g c = subst (λ (n : ℕ). n ≤ length c.expand.new.self.discovery.nodes.keys) (sym (c.requires.estimated ∙ sym c.is_goal.ensures.same)) c.in_ok-expand.ensures.grows.more
 
 pub expand-requires-clause-inside : goal.expand-requires-clause-inside
-expand-requires-clause-inside g c = omega (arith, c.requires.inside, c.is_goal.ensures.same)
+expand-requires-clause-inside g c = subst (λ (n : ℕ). c.args.number < n) (sym c.is_goal.ensures.same) c.requires.inside
