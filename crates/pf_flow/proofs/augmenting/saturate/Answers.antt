@@ -1,4 +1,4 @@
-use Rattle.std.proofs.Common.{◌≡◌, ◌++◌, ◌∙◌, sym, ap, ℕ, List, take, drop, arith, length, length-take, length-append, length-drop}
+use Rattle.std.proofs.Common.{◌≡◌, ◌≤◌, ◌<◌, ◌+◌, ◌-◌, ◌++◌, ◌∙◌, sym, ap, ℕ, List, take, drop, arith, length, length-take, length-append, length-drop}
 use Rattle.std.specs.Prelude.{slice_index}
 use Rattle.std.proofs.lemmas.List.{get_or_read, length-replicate}
 use Rattle.std.proofs.lemmas.Result.{IfOk-from_err}
@@ -12,13 +12,28 @@ use Rattle.pf_flow.proofs.augmenting.saturate.Goals as goal
 kept_len : (n m : ℕ) (xs ys : List ℕ) → length xs ≡ m → length ys ≡ m → n ≡ m → length (take n (xs ++ drop (length xs) ys)) ≡ m
 kept_len n m xs ys e f h = grind (arith, length-take, length-append, length-drop)
 
+fewer : (bound now next : ℕ) → next ≤ bound → now < next → bound - next < bound - now
+fewer bound now next l m = omega (arith, l, m)
+
+after : (start now next : ℕ) → start ≤ now → now < next → start ≤ next
+after start now next l m = omega (arith, l, m)
+
+itself : (n : ℕ) → n ≤ n
+itself n = omega arith
+
+no_less : (n m : ℕ) → n ≤ n + m
+no_less n m = omega arith
+
+place_inside : (r s v long : ℕ) → s < v → r ≡ s → long ≡ v → r < long
+place_inside r s v long l e f = omega (arith, l, e, f)
+
 pub phases-smaller : goal.phases-smaller
 phases-smaller g c =
     let i = c.phases.invariant in
     let p = c.augment_phase.ensures in
     let top = ticks_top i.kept p.kept p.labelling c.args.tally.now c.phases.tally c.augment_phase.new.tally i.bound p.bound in
     let more = p.progress in
-    omega (arith, top, more)
+    fewer _ _ _ top more
 
 pub phases-preserved : goal.phases-preserved
 phases-preserved g c =
@@ -40,7 +55,7 @@ phases-preserved g c =
       parents_len = found.parents_len;
       steps = found.steps;
       path_len = kept_len c.phases.path.len (g.S.FlowStore.network c.augment_phase.new.store).vertices c.augment_phase.new.path c.phases.path.items (omega (arith, auto, len, wide, shape)) (omega (arith, wide, shape)) (omega (arith, wide, shape, owned));
-      ticked = omega (arith, more, before);
+      ticked = after _ _ _ before more;
       bound = ticks_anew i.kept p.kept p.labelling c.args.tally.now c.phases.tally c.augment_phase.new.tally i.bound p.bound found.levels;
     }
 
@@ -55,8 +70,8 @@ phases-init g c =
       parents_len = f.parents_len;
       steps = f.steps;
       path_len = ap length (resized c.size-size.result c.new-path.result.items c.resize.new.self.items _ 0 c.new-path.ensures.items c.new-path.ensures.len c.in_ok-resize.ensures.items) ∙ length-replicate c.size-size.result 0 ∙ c.size-size.ensures;
-      ticked = omega arith;
-      bound = omega arith;
+      ticked = itself _;
+      bound = no_less _ _;
     }
 
 pub index-requires : goal.index-requires
@@ -71,8 +86,8 @@ returns-in_err-find g c = record {
   kept = capacities_kept (g.S.FlowStore.network c.args.store.now);
   stuck = IfOk-from_err _ _ c.from_residual-in_err-find.ensures.0;
   refused = refused_as _ c.from_residual-in_err-find.result _ c.in_err-find.ensures.refused c.from_residual-in_err-find.ensures.1;
-  ticked = omega arith;
-  paths = omega arith;
+  ticked = itself _;
+  paths = no_less _ _;
 }
 
 pub returns-in_err-resize : goal.returns-in_err-resize
@@ -81,28 +96,40 @@ returns-in_err-resize g c = record {
   kept = capacities_kept (g.S.FlowStore.network c.args.store.now);
   stuck = IfOk-from_err _ _ c.from_residual.ensures.0;
   refused = refused_by _ _ c.from_residual.result (λ e h. h) c.from_residual.ensures.1;
-  ticked = omega arith;
-  paths = omega arith;
+  ticked = itself _;
+  paths = no_less _ _;
 }
 
-pub augment_phase-requires : goal.augment_phase-requires
-augment_phase-requires g c = record {
-  network = c.phases.invariant.network;
-  apart = λ e. c.requires.apart (sym c.phases.invariant.kept.shape.source ∙ e ∙ c.phases.invariant.kept.shape.sink);
-  levels = c.phases.invariant.levels;
-  levels_len = c.phases.invariant.levels_len;
-  parents_len = c.phases.invariant.parents_len;
-  steps = c.phases.invariant.steps;
-  reached =
-      let i = c.phases.invariant in
-      let M = g.S.FlowStore.network c.phases.store in
-      let levels = c.phases.found.levels.items in
-      let inside = (g.met.S.FlowStore.network_law c.phases.store).sink_in in
-      let sink = c.sink-sink.ensures ∙ sym i.kept.shape.sink in
-      let read = get_or_read levels c.sink-sink.result c.index.result.now (omega (arith, inside, sink, i.levels_len)) c.index.ensures 0 ∙ ap (slice_index levels) sink in
-      omega (arith, read, c.phases-test.true, c.size-size.ensures, i.kept.shape.vertices);
-  path_len = ap length c.deref_mut.ensures.value ∙ c.phases.invariant.path_len;
-}
+pub augment_phase-requires-clause-network : goal.augment_phase-requires-clause-network
+augment_phase-requires-clause-network g c = c.phases.invariant.network
+
+pub augment_phase-requires-clause-apart : goal.augment_phase-requires-clause-apart
+augment_phase-requires-clause-apart g c = λ e. c.requires.apart (sym c.phases.invariant.kept.shape.source ∙ e ∙ c.phases.invariant.kept.shape.sink)
+
+pub augment_phase-requires-clause-levels : goal.augment_phase-requires-clause-levels
+augment_phase-requires-clause-levels g c = c.phases.invariant.levels
+
+pub augment_phase-requires-clause-levels_len : goal.augment_phase-requires-clause-levels_len
+augment_phase-requires-clause-levels_len g c = c.phases.invariant.levels_len
+
+pub augment_phase-requires-clause-parents_len : goal.augment_phase-requires-clause-parents_len
+augment_phase-requires-clause-parents_len g c = c.phases.invariant.parents_len
+
+pub augment_phase-requires-clause-steps : goal.augment_phase-requires-clause-steps
+augment_phase-requires-clause-steps g c = c.phases.invariant.steps
+
+pub augment_phase-requires-clause-reached : goal.augment_phase-requires-clause-reached
+augment_phase-requires-clause-reached g c =
+    let i = c.phases.invariant in
+    let M = g.S.FlowStore.network c.phases.store in
+    let levels = c.phases.found.levels.items in
+    let inside = (g.met.S.FlowStore.network_law c.phases.store).sink_in in
+    let sink = c.sink-sink.ensures ∙ sym i.kept.shape.sink in
+    let read = get_or_read levels c.sink-sink.result c.index.result.now (place_inside _ _ _ _ inside sink i.levels_len) c.index.ensures 0 ∙ ap (slice_index levels) sink in
+    omega (arith, read, c.phases-test.true, c.size-size.ensures, i.kept.shape.vertices)
+
+pub augment_phase-requires-clause-path_len : goal.augment_phase-requires-clause-path_len
+augment_phase-requires-clause-path_len g c = ap length c.deref_mut.ensures.value ∙ c.phases.invariant.path_len
 
 pub returns : goal.returns
 returns g c = record {
@@ -114,7 +141,7 @@ returns g c = record {
       let levels = c.phases.found.levels.items in
       let inside = (g.met.S.FlowStore.network_law c.phases.store).sink_in in
       let sink = c.sink-sink.ensures ∙ sym i.kept.shape.sink in
-      let read = get_or_read levels c.sink-sink.result c.index.result.now (omega (arith, inside, sink, i.levels_len)) c.index.ensures 0 ∙ ap (slice_index levels) sink in
+      let read = get_or_read levels c.sink-sink.result c.index.result.now (place_inside _ _ _ _ inside sink i.levels_len) c.index.ensures 0 ∙ ap (slice_index levels) sink in
       let top = i.levels.labelling.top M.sink inside in
       record {
         found = i.levels;
@@ -137,7 +164,7 @@ returns-in_err-find-2 g c = record {
   ticked =
       let before = c.phases.invariant.ticked in
       let more = c.augment_phase.ensures.progress in
-      omega (arith, before, more);
+      after _ _ _ before more;
   paths =
       let i = c.phases.invariant in
       let p = c.augment_phase.ensures in

@@ -4,14 +4,20 @@ use Rattle.pf_flow.specs.NamedNetworks.{IsRefusedFor}
 use Rattle.pf_flow.proofs.NamedLemmas.{err_gives, ok_gives, ok_when, refused_as}
 use Rattle.pf_flow.proofs.by_names.flows_among.Goals as goal
 
-pub flows_of-requires : goal.flows_of-requires
-flows_of-requires g c = record {
-  ends = c.requires.ends;
-  unused = c.in_ok-store.ensures.unused;
-  none = c.in_ok-store.ensures.none;
-  vertices = c.in_ok-store.ensures.fresh.vertices;
-  details = c.in_ok-store.ensures.fresh.details;
-}
+pub flows_of-requires-clause-ends : goal.flows_of-requires-clause-ends
+flows_of-requires-clause-ends g c = c.requires.ends
+
+pub flows_of-requires-clause-unused : goal.flows_of-requires-clause-unused
+flows_of-requires-clause-unused g c = c.in_ok-store.ensures.unused
+
+pub flows_of-requires-clause-none : goal.flows_of-requires-clause-none
+flows_of-requires-clause-none g c = c.in_ok-store.ensures.none
+
+pub flows_of-requires-clause-vertices : goal.flows_of-requires-clause-vertices
+flows_of-requires-clause-vertices g c = c.in_ok-store.ensures.fresh.vertices
+
+pub flows_of-requires-clause-details : goal.flows_of-requires-clause-details
+flows_of-requires-clause-details g c = c.in_ok-store.ensures.fresh.details
 
 pub returns : goal.returns
 returns g c = record {

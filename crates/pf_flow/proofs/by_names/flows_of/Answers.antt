@@ -9,28 +9,28 @@ use Rattle.pf_flow.proofs.by_names.flows_of.Goals as goal
 pub augment-requires : goal.augment-requires
 augment-requires g c = network_of_unused c.in_ok-put_edges.ensures.unused
 
-pub name_answer-requires : goal.name_answer-requires
-name_answer-requires g c = record {
-  flows =
-      let keys = c.args.names.now.keys in
-      let shape = c.in_ok-put_edges.ensures.shape in
-      let kept = c.augment.ensures.kept in
-      let a = c.in_ok-answer.ensures in
-      let flows = a.flows (shape.details ∙ c.requires.details) in
-      let vertices = kept.shape.vertices ∙ shape.vertices ∙ c.requires.vertices in
-      λ i e k. subst (λ ks. (e.0.0 < length ks) × (e.0.1 < length ks)) (sym c.as_slice.ensures.keys)
-      (flows_inside keys (g.EK.FlowStore.network c.augment.new.self) g.C.Number.value vertices c.in_ok-answer.answer.0.items flows i e k);
-  cut =
-      let keys = c.args.names.now.keys in
-      let shape = c.in_ok-put_edges.ensures.shape in
-      let kept = c.augment.ensures.kept in
-      let a = c.in_ok-answer.ensures in
-      let cut = a.cut_edges (shape.details ∙ c.requires.details) in
-      let vertices = kept.shape.vertices ∙ shape.vertices ∙ c.requires.vertices in
-      λ i e k. subst (λ ks. (e.0.0 < length ks) × (e.0.1 < length ks)) (sym c.as_slice.ensures.keys)
-      (cut_inside keys (g.EK.FlowStore.network c.augment.new.self) g.C.Number.value vertices c.in_ok-answer.answer.2.items cut
-      (λ q. (a.idle (sym kept.shape.source ∙ q ∙ kept.shape.sink)).2) i e k);
-}
+pub name_answer-requires-clause-flows : goal.name_answer-requires-clause-flows
+name_answer-requires-clause-flows g c =
+    let keys = c.args.names.now.keys in
+    let shape = c.in_ok-put_edges.ensures.shape in
+    let kept = c.augment.ensures.kept in
+    let a = c.in_ok-answer.ensures in
+    let flows = a.flows (shape.details ∙ c.requires.details) in
+    let vertices = kept.shape.vertices ∙ shape.vertices ∙ c.requires.vertices in
+    λ i e k. subst (λ ks. (e.0.0 < length ks) × (e.0.1 < length ks)) (sym c.as_slice.ensures.keys)
+    (flows_inside keys (g.EK.FlowStore.network c.augment.new.self) g.C.Number.value vertices c.in_ok-answer.answer.0.items flows i e k)
+
+pub name_answer-requires-clause-cut : goal.name_answer-requires-clause-cut
+name_answer-requires-clause-cut g c =
+    let keys = c.args.names.now.keys in
+    let shape = c.in_ok-put_edges.ensures.shape in
+    let kept = c.augment.ensures.kept in
+    let a = c.in_ok-answer.ensures in
+    let cut = a.cut_edges (shape.details ∙ c.requires.details) in
+    let vertices = kept.shape.vertices ∙ shape.vertices ∙ c.requires.vertices in
+    λ i e k. subst (λ ks. (e.0.0 < length ks) × (e.0.1 < length ks)) (sym c.as_slice.ensures.keys)
+    (cut_inside keys (g.EK.FlowStore.network c.augment.new.self) g.C.Number.value vertices c.in_ok-answer.answer.2.items cut
+    (λ q. (a.idle (sym kept.shape.source ∙ q ∙ kept.shape.sink)).2) i e k)
 
 pub returns : goal.returns
 returns g c = record {

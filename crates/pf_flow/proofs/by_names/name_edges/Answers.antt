@@ -54,3 +54,15 @@ returns-in_err-push-clause-named g c = IfOk-from_err _ _ c.from_residual-in_err-
 
 pub returns-in_err-push-clause-refused : goal.returns-in_err-push-clause-refused
 returns-in_err-push-clause-refused g c = refused_by _ _ c.from_residual-in_err-push.result (λ e h. h) c.from_residual-in_err-push.ensures.1
+
+pub bounds-numbered-edge-index : goal.bounds-numbered-edge-index
+bounds-numbered-edge-index g c = c.numbered-test.true
+
+pub offset_bounds-numbered-edge-index : goal.offset_bounds-numbered-edge-index
+offset_bounds-numbered-edge-index g c = omega (arith, c.numbered-test.true)
+
+pub numbered-smaller : goal.numbered-smaller
+numbered-smaller g c = omega (arith, c.numbered-test.true)
+
+pub returns-clause-refused : goal.returns-clause-refused
+returns-clause-refused g c = tt

@@ -1,4 +1,4 @@
-use Rattle.std.proofs.Common.{◌≡◌, ◌∙◌, ◌∷◌, ◌++◌, ◌+◌, [], sym, ap, take, take_all}
+use Rattle.std.proofs.Common.{◌≡◌, ◌∙◌, ◌∷◌, ◌++◌, ◌+◌, [], sym, ap, take, take_all, arith}
 use Rattle.std.proofs.lemmas.List.{take_more}
 use Rattle.std.proofs.lemmas.List.Sums.{fold-append}
 use Rattle.indexmap.specs.IndexSet.{insert_key}
@@ -24,3 +24,18 @@ returns-in_err-insert-clause-names g c = IfOk-from_err _ _ c.from_residual.ensur
 
 pub returns-in_err-insert-clause-refused : goal.returns-in_err-insert-clause-refused
 returns-in_err-insert-clause-refused g c = refused_by _ _ c.from_residual.result (λ e h. h) c.from_residual.ensures.1
+
+pub vertices-init : goal.vertices-init
+vertices-init g c = c.new-names.ensures.empty
+
+pub bounds-vertices-vertex-index : goal.bounds-vertices-vertex-index
+bounds-vertices-vertex-index g c = c.vertices-test.true
+
+pub offset_bounds-vertices-vertex-index : goal.offset_bounds-vertices-vertex-index
+offset_bounds-vertices-vertex-index g c = omega (arith, c.vertices-test.true)
+
+pub vertices-smaller : goal.vertices-smaller
+vertices-smaller g c = omega (arith, c.vertices-test.true)
+
+pub returns-clause-refused : goal.returns-clause-refused
+returns-clause-refused g c = tt

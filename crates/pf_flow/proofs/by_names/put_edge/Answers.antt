@@ -6,13 +6,17 @@ use Rattle.pf_flow.proofs.NamedLemmas.{accepted_more, from_in, ok_so, put_accept
 use Rattle.pf_flow.specs.NamedNetworks.{given_capacities, IsEdgeRefused}
 use Rattle.pf_flow.proofs.by_names.put_edge.Goals as goal
 
-pub put_capacity-requires : goal.put_capacity-requires
-put_capacity-requires g c = record {
-  unused = c.requires.unused;
-  sum = c.requires.sum;
-  from = from_in g.N.PartialEq.eq g.C.Number.value c.args.names.now.keys (g.S.FlowStore.network c.args.store.now) c.args.edge c.in_ok-from.from c.in_ok-to.to c.requires.vertices c.in_ok-from.ensures.number c.in_ok-to.ensures.number c.in_ok-from.ensures.known c.in_ok-to.ensures.known;
-  to = to_in g.N.PartialEq.eq g.C.Number.value c.args.names.now.keys (g.S.FlowStore.network c.args.store.now) c.args.edge c.in_ok-from.from c.in_ok-to.to c.requires.vertices c.in_ok-from.ensures.number c.in_ok-to.ensures.number c.in_ok-from.ensures.known c.in_ok-to.ensures.known;
-}
+pub put_capacity-requires-clause-unused : goal.put_capacity-requires-clause-unused
+put_capacity-requires-clause-unused g c = c.requires.unused
+
+pub put_capacity-requires-clause-sum : goal.put_capacity-requires-clause-sum
+put_capacity-requires-clause-sum g c = c.requires.sum
+
+pub put_capacity-requires-clause-from : goal.put_capacity-requires-clause-from
+put_capacity-requires-clause-from g c = from_in g.N.PartialEq.eq g.C.Number.value c.args.names.now.keys (g.S.FlowStore.network c.args.store.now) c.args.edge c.in_ok-from.from c.in_ok-to.to c.requires.vertices c.in_ok-from.ensures.number c.in_ok-to.ensures.number c.in_ok-from.ensures.known c.in_ok-to.ensures.known
+
+pub put_capacity-requires-clause-to : goal.put_capacity-requires-clause-to
+put_capacity-requires-clause-to g c = to_in g.N.PartialEq.eq g.C.Number.value c.args.names.now.keys (g.S.FlowStore.network c.args.store.now) c.args.edge c.in_ok-from.from c.in_ok-to.to c.requires.vertices c.in_ok-from.ensures.number c.in_ok-to.ensures.number c.in_ok-from.ensures.known c.in_ok-to.ensures.known
 
 pub returns : goal.returns
 returns g c = record {

@@ -1,10 +1,31 @@
-use Rattle.std.proofs.Common.{ℤ, arith, pos, refl}
+use Rattle.std.proofs.Common.{ℤ, ◌≡◌, ◌+ℤ◌, arith, pos, refl, subst}
 use Rattle.std.specs.Prelude.{◌-ℤ◌, ◌≤ℤ◌, ◌<ℤ◌}
 use Rattle.std.proofs.lemmas.Int.{ints}
 use Rattle.pf_flow.proofs.AgreeLemmas.{capacities_kept}
 use Rattle.pf_flow.proofs.NamedLemmas.{ok_so, ok_when}
 use Rattle.pf_flow.proofs.NetworkLemmas.{balanced_of, flow_fits}
 use Rattle.pf_flow.proofs.changes.lower_to.Goals as goal
+
+at_most_itself : (z : ℤ) → z ≤ℤ z
+at_most_itself z = omega (arith, ints)
+
+more_on_top : (t n f : ℤ) → n ≤ℤ f → (t +ℤ n) ≤ℤ (t +ℤ f)
+more_on_top t n f l = omega (arith, ints, l)
+
+above_none : (e f n : ℤ) → e ≡ f -ℤ n → n <ℤ f → pos 0 <ℤ e
+above_none e f n is l = omega (arith, ints, is, l)
+
+at_most_all : (e f n all : ℤ) → e ≡ f -ℤ n → f ≡ all → pos 0 ≤ℤ n → e ≤ℤ all
+at_most_all e f n all is same l = omega (arith, ints, is, same, l)
+
+what_is_left : (left all e f n : ℤ) → left ≡ all -ℤ e → e ≡ f -ℤ n → f ≡ all → left ≤ℤ n
+what_is_left left all e f n less is same = omega (arith, ints, less, is, same)
+
+not_both : (f all n : ℤ) → f ≡ all → n <ℤ f → all ≤ℤ n → ⊥
+not_both f all n same l m = omega (arith, ints, same, l, m)
+
+not_far : (t t' e f n all : ℤ) → t ≤ℤ (t' +ℤ e) → e ≡ f -ℤ n → f ≡ all → (t +ℤ n) ≤ℤ (t' +ℤ all)
+not_far t t' e f n all l is same = omega (arith, ints, l, is, same)
 
 pub minus-requires : goal.minus-requires
 minus-requires g c =
@@ -24,41 +45,42 @@ returns-then-not-is_below g c =
     record {
       network = c.requires.network;
       capacities = capacities_kept (g.S.FlowStore.network c.args.store.now);
-      lowered = omega (arith, ints, is, low);
+      lowered = subst (λ z. z ≤ℤ g.C.Number.value c.args.number) is low;
       kept = λ _. record { at = λ a b. refl };
-      total = omega (arith, ints);
-      excess = λ high. omega (arith, ints, is, low, high);
+      total = at_most_itself _;
+      excess = λ high. more_on_top _ _ _ high;
       unchanged = tt;
       refused = tt;
     }
 
-pub take_back-requires : goal.take_back-requires
-take_back-requires g c =
-    let is = c.flow-flow.ensures in
-    let low = c.requires.low in
-    let above : g.C.Number.value c.args.number <ℤ g.C.Number.value c.flow-flow.result = c.if-not-is_below.ensures in
-    let excess = c.minus.ensures in
-    record {
-      network = c.requires.network;
-      from = c.requires.from;
-      to = c.requires.to;
-      some = omega (arith, ints, above, excess);
-      most = omega (arith, ints, is, low, excess);
-    }
+pub take_back-requires-clause-network : goal.take_back-requires-clause-network
+take_back-requires-clause-network g c = c.requires.network
+
+pub take_back-requires-clause-from : goal.take_back-requires-clause-from
+take_back-requires-clause-from g c = c.requires.from
+
+pub take_back-requires-clause-to : goal.take_back-requires-clause-to
+take_back-requires-clause-to g c = c.requires.to
+
+pub take_back-requires-clause-some : goal.take_back-requires-clause-some
+take_back-requires-clause-some g c = above_none _ _ _ c.minus.ensures c.if-not-is_below.ensures
+
+pub take_back-requires-clause-most : goal.take_back-requires-clause-most
+take_back-requires-clause-most g c = at_most_all _ _ _ _ c.minus.ensures c.flow-flow.ensures c.requires.low
 
 pub returns : goal.returns
 returns g c =
     let is = c.flow-flow.ensures in
-    let above : g.C.Number.value c.args.number <ℤ g.C.Number.value c.flow-flow.result = c.if-not-is_below.ensures in
+    let above = c.if-not-is_below.ensures in
     let excess = c.minus.ensures in
     let back = c.take_back.ensures in
     record {
       network = back.network;
       capacities = back.kept;
-      lowered = ok_so c.take_back.result back.lowered (λ less. omega (arith, ints, is, excess, less));
-      kept = ok_when c.take_back.result (λ high. absurd (omega (arith, ints, is, above, high)));
+      lowered = ok_so c.take_back.result back.lowered (λ less. what_is_left _ _ _ _ _ less excess is);
+      kept = ok_when c.take_back.result (λ high. absurd (not_both _ _ _ is above high));
       total = back.total;
-      excess = ok_so c.take_back.result back.excess (λ more high. omega (arith, ints, is, excess, more));
+      excess = ok_so c.take_back.result back.excess (λ more high. not_far _ _ _ _ _ _ more excess is);
       unchanged = back.unchanged;
       refused = back.refused;
     }

@@ -3,7 +3,7 @@ use Rattle.std.specs.Prelude.{◌<ℤ◌, ◌≤ℤ◌}
 use Rattle.pf_flow.specs.Listings.{ListsNumbers}
 use Rattle.pf_flow.specs.DenseStores.{table_number}
 use Rattle.pf_flow.proofs.DenseLemmas.{number_inside}
-use Rattle.pf_flow.proofs.StoreListings.{numbers_more, numbers_same}
+use Rattle.pf_flow.proofs.StoreListings.{numbers_none, numbers_more, numbers_same}
 use Rattle.pf_flow.proofs.NamedLemmas.{refused_by}
 use Rattle.std.proofs.lemmas.Result.{IfOk-from_err}
 use Rattle.pf_flow.proofs.dense_capacity.numbers_above.Goals.{then-is_below+in_ok-push, else-is_below}
@@ -38,3 +38,22 @@ returns-in_err-push-clause-listed g c = IfOk-from_err _ _ c.from_residual.ensure
 
 pub returns-in_err-push-clause-refused : goal.returns-in_err-push-clause-refused
 returns-in_err-push-clause-refused g c = refused_by _ _ c.from_residual.result (λ e h. h) c.from_residual.ensures.1
+
+pub loop-to-init : goal.loop-to-init
+loop-to-init g c =
+    let t = table_number g.C.Number.value c.args.table.now.rows c.args.table.now c.args.from in
+    subst (ListsNumbers g.C.Number.value 0 t) (sym c.new-list.ensures.items) (numbers_none g.C.Number.value t)
+
+pub number_at-number-requires-clause-matrix : goal.number_at-number-requires-clause-matrix
+number_at-number-requires-clause-matrix g c = c.requires.square.matrix
+
+pub number_at-number-requires-clause-inside : goal.number_at-number-requires-clause-inside
+number_at-number-requires-clause-inside g c =
+    let below : c.loop-to.to < c.args.table.now.rows = omega (arith, c.rows-to-end.ensures.rows) in
+    (c.requires.inside, subst (λ n. c.loop-to.to < n) (sym c.requires.square.columns) below)
+
+pub loop-to-smaller : goal.loop-to-smaller
+loop-to-smaller g c = omega (arith, c.loop-to-test.true)
+
+pub returns-clause-refused : goal.returns-clause-refused
+returns-clause-refused g c = tt

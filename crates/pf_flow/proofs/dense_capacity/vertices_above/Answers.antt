@@ -3,7 +3,7 @@ use Rattle.std.specs.Prelude.{◌<ℤ◌, ◌≤ℤ◌}
 use Rattle.pf_flow.specs.Listings.{ListsVertices}
 use Rattle.pf_flow.specs.DenseStores.{table_number}
 use Rattle.pf_flow.proofs.DenseLemmas.{number_inside}
-use Rattle.pf_flow.proofs.StoreListings.{vertices_more, vertices_same, never_above}
+use Rattle.pf_flow.proofs.StoreListings.{vertices_none, vertices_more, vertices_same, never_above}
 use Rattle.pf_flow.proofs.NamedLemmas.{refused_by}
 use Rattle.std.proofs.lemmas.Result.{IfOk-from_err}
 use Rattle.pf_flow.proofs.dense_capacity.vertices_above.Goals.{then-is_below+in_ok-push, else-is_below}
@@ -38,3 +38,22 @@ returns-in_err-push-clause-listed g c = IfOk-from_err _ _ c.from_residual.ensure
 
 pub returns-in_err-push-clause-refused : goal.returns-in_err-push-clause-refused
 returns-in_err-push-clause-refused g c = refused_by _ _ c.from_residual.result (λ e h. h) c.from_residual.ensures.1
+
+pub loop-to-init : goal.loop-to-init
+loop-to-init g c =
+    let t = table_number g.C.Number.value c.args.table.now.rows c.args.table.now c.args.from in
+    subst (ListsVertices 0 (λ to. pos 0 <ℤ t to)) (sym c.new-list.ensures.items) (vertices_none (λ to. pos 0 <ℤ t to))
+
+pub number_at-requires-clause-matrix : goal.number_at-requires-clause-matrix
+number_at-requires-clause-matrix g c = c.requires.square.matrix
+
+pub number_at-requires-clause-inside : goal.number_at-requires-clause-inside
+number_at-requires-clause-inside g c =
+    let below : c.loop-to.to < c.args.table.now.rows = omega (arith, c.rows-to-end.ensures.rows) in
+    (c.requires.inside, subst (λ n. c.loop-to.to < n) (sym c.requires.square.columns) below)
+
+pub loop-to-smaller : goal.loop-to-smaller
+loop-to-smaller g c = omega (arith, c.loop-to-test.true)
+
+pub returns-clause-refused : goal.returns-clause-refused
+returns-clause-refused g c = tt

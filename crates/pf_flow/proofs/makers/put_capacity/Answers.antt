@@ -1,11 +1,19 @@
-use Rattle.std.proofs.Common.{◌∙◌, arith, inr, refl, sym, ap, subst}
-use Rattle.std.specs.Prelude.{◌-ℤ◌}
+use Rattle.std.proofs.Common.{◌≡◌, ◌∙◌, ◌+ℤ◌, ℤ, pos, arith, inl, inr, refl, sym, ap, subst}
+use Rattle.std.specs.Prelude.{◌-ℤ◌, ◌≤ℤ◌, ◌<ℤ◌}
 use Rattle.std.proofs.lemmas.Int.{ints}
 use Rattle.std.proofs.lemmas.Result.{IfOk-from_err}
+use Rattle.pf_flow.specs.Capacities.{IsChangeRefused}
 use Rattle.pf_flow.specs.Networks.{Agrees, with_residual}
 use Rattle.pf_flow.proofs.SumLemmas.{pair_sum_has}
 use Rattle.pf_flow.proofs.FillLemmas.{unused_residual, residual_agrees, exchanged_sum, put_changed, put_sum, put_unused}
+use Rattle.pf_flow.proofs.NamedLemmas.{refused_as}
 use Rattle.pf_flow.proofs.makers.put_capacity.Goals as goal
+
+at_most : (a b c d : ℤ) → c ≤ℤ d → a ≡ c → b ≡ d → a ≤ℤ b
+at_most a b c d l e f = omega (arith, ints, l, e, f)
+
+put_in_place : (c m n o d : ℤ) → n ≡ m → o ≡ n → d ≡ c -ℤ o → c ≡ m +ℤ d
+put_in_place c m n o d e f h = omega (arith, ints, e, f, h)
 
 pub exchanged-requires-clause-within : goal.exchanged-requires-clause-within
 exchanged-requires-clause-within g c =
@@ -14,7 +22,7 @@ exchanged-requires-clause-within g c =
     let left = unused_residual c.requires.unused c.args.from c.args.to in
     let old = c.residual_capacity-old.ensures in
     let sum = c.requires.sum in
-    omega (arith, ints, has, left, old, sum)
+    at_most _ _ _ _ has (old ∙ left) sum
 
 pub returns-in_default-clause-refused : goal.returns-in_default-clause-refused
 returns-in_default-clause-refused g c =
@@ -22,7 +30,7 @@ returns-in_default-clause-refused g c =
     let zero = ap value c.zero.ensures ∙ g.met.C.Zero.zero_law g.met.C.Integral.exact_law in
     let low = c.if-is_below.ensures in
     let same = exchanged_sum c.args.from c.args.to (value c.args.capacity) c.requires.unused c.requires.from c.requires.to c.requires.sum c.residual_capacity-old.ensures in
-    inr (inr (refl, omega (arith, ints, zero, low), λ f. c.in_default.ensures (subst g.C.Number.fits (sym same) f)))
+    inr (inr (refl, subst (λ z. z ≤ℤ value c.args.capacity) zero low, λ f. c.in_default.ensures (subst g.C.Number.fits (sym same) f)))
 
 pub returns-clause-unused : goal.returns-clause-unused
 returns-clause-unused g c =
@@ -35,7 +43,7 @@ returns-clause-unused g c =
     let more = c.difference.ensures ∙ ap (λ z. value c.args.capacity -ℤ z) c.residual_capacity-old.ensures in
     let agrees : Agrees (with_residual c.args.from c.args.to (value c.args.capacity -ℤ N.residual c.args.from c.args.to) N) M =
     residual_agrees c.args.from c.args.to _ c.in_ok-make_room.ensures.same (subst (λ z. Agrees (with_residual c.args.from c.args.to z (g.S.FlowStore.network c.make_room.new.self)) M) more c.add_residual_capacity.ensures) in
-    put_unused c.args.from c.args.to (value c.args.capacity) c.requires.unused agrees (omega (arith, ints, zero, low)) (subst g.C.Number.fits same c.in-Some.ensures.0)
+    put_unused c.args.from c.args.to (value c.args.capacity) c.requires.unused agrees (subst (λ z. z ≤ℤ value c.args.capacity) zero low) (subst g.C.Number.fits same c.in-Some.ensures.0)
 
 pub returns-clause-sum : goal.returns-clause-sum
 returns-clause-sum g c =
@@ -63,20 +71,20 @@ exchanged-requires-clause-old g c =
     let above = c.requires.unused.capacities.at c.args.from c.args.to c.requires.from c.requires.to in
     let left = unused_residual c.requires.unused c.args.from c.args.to in
     let old = c.residual_capacity-old.ensures in
-    omega (arith, ints, above, left, old)
+    subst (λ z. pos 0 ≤ℤ z) (sym (old ∙ left)) above
 
 pub difference-requires-clause-old : goal.difference-requires-clause-old
 difference-requires-clause-old g c =
     let above = c.requires.unused.capacities.at c.args.from c.args.to c.requires.from c.requires.to in
     let left = unused_residual c.requires.unused c.args.from c.args.to in
     let old = c.residual_capacity-old.ensures in
-    omega (arith, ints, above, left, old)
+    subst (λ z. pos 0 ≤ℤ z) (sym (old ∙ left)) above
 
 pub difference-requires-clause-new : goal.difference-requires-clause-new
 difference-requires-clause-new g c =
     let zero = ap g.C.Number.value c.zero.ensures ∙ g.met.C.Zero.zero_law g.met.C.Integral.exact_law in
     let low = c.if-is_below.ensures in
-    omega (arith, ints, zero, low)
+    subst (λ z. z ≤ℤ g.C.Number.value c.args.capacity) zero low
 
 pub add_residual_capacity-requires-clause-room : goal.add_residual_capacity-requires-clause-room
 add_residual_capacity-requires-clause-room g c = c.in_ok-make_room.ensures.room
@@ -86,7 +94,7 @@ add_residual_capacity-requires-clause-fits g c =
     let same = c.in_ok-make_room.ensures.same.residual.at c.args.from c.args.to in
     let old = c.residual_capacity-old.ensures in
     let more = c.difference.ensures in
-    subst g.C.Number.fits (omega (arith, ints, same, old, more)) c.known.ensures
+    subst g.C.Number.fits (put_in_place _ _ _ _ _ same old more) c.known.ensures
 
 pub returns-in_err-make_room-clause-unused : goal.returns-in_err-make_room-clause-unused
 returns-in_err-make_room-clause-unused g c = IfOk-from_err _ _ c.from_residual.ensures.0
@@ -96,3 +104,47 @@ returns-in_err-make_room-clause-sum g c = IfOk-from_err _ _ c.from_residual.ensu
 
 pub returns-in_err-make_room-clause-changed : goal.returns-in_err-make_room-clause-changed
 returns-in_err-make_room-clause-changed g c = IfOk-from_err _ _ c.from_residual.ensures.0
+
+pub residual_capacity-old-requires-clause-from : goal.residual_capacity-old-requires-clause-from
+residual_capacity-old-requires-clause-from g c = c.requires.from
+
+pub residual_capacity-old-requires-clause-to : goal.residual_capacity-old-requires-clause-to
+residual_capacity-old-requires-clause-to g c = c.requires.to
+
+pub make_room-requires-clause-from : goal.make_room-requires-clause-from
+make_room-requires-clause-from g c = c.requires.from
+
+pub make_room-requires-clause-to : goal.make_room-requires-clause-to
+make_room-requires-clause-to g c = c.requires.to
+
+pub returns-then-is_below-clause-unused : goal.returns-then-is_below-clause-unused
+returns-then-is_below-clause-unused g c = tt
+
+pub returns-then-is_below-clause-sum : goal.returns-then-is_below-clause-sum
+returns-then-is_below-clause-sum g c = tt
+
+pub returns-then-is_below-clause-changed : goal.returns-then-is_below-clause-changed
+returns-then-is_below-clause-changed g c = tt
+
+pub returns-then-is_below-clause-refused : goal.returns-then-is_below-clause-refused
+returns-then-is_below-clause-refused g c =
+    let zero = ap g.C.Number.value c.zero.ensures ∙ g.met.C.Zero.zero_law g.met.C.Integral.exact_law in
+    let low = c.if-is_below.ensures in
+    inr (inl (refl, subst (λ z. g.C.Number.value c.args.capacity <ℤ z) zero low))
+
+pub returns-in_default-clause-unused : goal.returns-in_default-clause-unused
+returns-in_default-clause-unused g c = tt
+
+pub returns-in_default-clause-sum : goal.returns-in_default-clause-sum
+returns-in_default-clause-sum g c = tt
+
+pub returns-in_default-clause-changed : goal.returns-in_default-clause-changed
+returns-in_default-clause-changed g c = tt
+
+pub returns-in_err-make_room-clause-refused : goal.returns-in_err-make_room-clause-refused
+returns-in_err-make_room-clause-refused g c =
+    let why : IsChangeRefused g.C.Number.fits (g.S.FlowStore.network c.args.store.now) c.args.from c.args.to (g.C.Number.value c.args.capacity) c.in_err-make_room.field-0.0 = inl c.in_err-make_room.ensures.refused in
+    refused_as _ c.from_residual.result _ why c.from_residual.ensures.1
+
+pub returns-clause-refused : goal.returns-clause-refused
+returns-clause-refused g c = tt

@@ -1,4 +1,4 @@
-use Rattle.std.proofs.Common.{◌≡◌, ◌<◌, ◌≤◌, ◌+◌, ◌∙◌, length, refl, ap, sym, subst, arith, List, ℕ}
+use Rattle.std.proofs.Common.{◌≡◌, ◌<◌, ◌≤◌, ◌+◌, ◌-◌, ◌∙◌, length, refl, ap, sym, subst, arith, List, ℕ}
 use Rattle.std.specs.Prelude.{slice_index}
 use Rattle.pf_flow.specs.Networks.{capacity}
 use Rattle.pf_flow.specs.Internal.AugmentingPaths.{IsLabelling, potential}
@@ -8,6 +8,12 @@ use Rattle.pf_flow.proofs.PhaseLemmas.{labelling_back, bound_more, bound_top}
 use Rattle.pf_flow.proofs.StepLemmas.{sink_above, sink_way}
 use Rattle.pf_flow.proofs.WayLemmas.{tree_of}
 use Rattle.pf_flow.proofs.phases.augment_phase.Goals as goal
+
+fewer : (bound now next : ℕ) → next ≤ bound → now < next → bound - next < bound - now
+fewer bound now next l m = omega (arith, l, m)
+
+after : (start now next : ℕ) → start < now → now < next → start < next
+after start now next l m = omega (arith, l, m)
 
 pub add_way-requires-clause-way : goal.add_way-requires-clause-way
 add_way-requires-clause-way g c =
@@ -26,7 +32,7 @@ ways-smaller g c =
     let bound = subst (λ (xs : List ℕ). c.add_way-in-ways.new.tally + potential O.vertices (capacity O) O.residual (slice_index xs) ≤ c.ways.tally + potential O.vertices (capacity O) M.residual (slice_index xs)) k p.bound in
     let top = bound_top i.kept p.kept labelling c.args.tally.now c.ways.tally c.add_way-in-ways.new.tally i.bound bound in
     let more = p.progress in
-    omega (arith, top, more)
+    fewer _ _ _ top more
 
 pub ways-preserved : goal.ways-preserved
 ways-preserved g c =
@@ -45,7 +51,7 @@ ways-preserved g c =
       labelling = labelling_back i.kept labelling;
       levels = i.levels;
       steps = subst (λ n. AreSteps n c.next_way.new.steps.targets.items c.next_way.new.steps.places.items c.next_way.new.steps.ends.items) i.kept.shape.vertices c.next_way.ensures.steps;
-      progress = omega (arith, before, more);
+      progress = after _ _ _ before more;
       bound = bound_more i.kept p.kept labelling c.args.tally.now c.ways.tally c.add_way-in-ways.new.tally i.bound bound;
     }
 

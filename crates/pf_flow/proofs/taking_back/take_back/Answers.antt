@@ -1,5 +1,5 @@
-use Rattle.std.proofs.Common.{◌≡◌, ◌≢◌, ◌∙◌, ◌++◌, ◌∷◌, [], ℕ, Some, List, arith, length, sym, ap, subst}
-use Rattle.std.specs.Prelude.{slice_get}
+use Rattle.std.proofs.Common.{◌≡◌, ◌≢◌, ◌∙◌, ◌++◌, ◌∷◌, [], ℕ, ℤ, pos, Some, List, arith, length, sym, ap, subst}
+use Rattle.std.specs.Prelude.{slice_get, ◌≤ℤ◌, ◌<ℤ◌, ◌-ℤ◌}
 use Rattle.std.proofs.lemmas.Int.{ints}
 use Rattle.std.proofs.lemmas.Option.{slice_get_within}
 use Rattle.std.proofs.lemmas.Result.{IfOk-from_err, MatchResult-from_err}
@@ -10,6 +10,18 @@ use Rattle.pf_flow.proofs.NamedLemmas.{refused_as, refused_by}
 use Rattle.pf_flow.proofs.TakeBackLemmas.{plan_of, amount_there}
 use Rattle.pf_flow.proofs.taking_back.take_back.Goals as goal
 
+some_flows : (e f : ℤ) → pos 0 <ℤ e → e ≤ℤ f → pos 0 <ℤ f
+some_flows e f l m = omega (arith, ints, l, m)
+
+none_flows : (e f : ℤ) → f ≡ pos 0 → pos 0 <ℤ e → e ≤ℤ f → ⊥
+none_flows e f n l m = omega (arith, ints, n, l, m)
+
+enough_there : (e f g x : ℤ) → f ≡ g → f ≡ x → e ≤ℤ g → e ≤ℤ x
+enough_there e f g x h k l = omega (arith, ints, h, k, l)
+
+less_here : (m n f g e : ℤ) → m ≡ f -ℤ e → f ≡ g → m ≡ n → n ≡ g -ℤ e
+less_here m n f g e h k l = omega (arith, ints, h, k, l)
+
 pub flowing-requires : goal.flowing-requires
 flowing-requires g c = c.requires.network
 
@@ -19,54 +31,60 @@ number_of-through-requires g c =
     let most = c.requires.most in
     record {
       listed = subst (λ (es : List Arc). (k : ℕ) × (e : Arc) × (slice_get es k ≡ Some e) × (e.from ≡ c.args.from) × (e.to ≡ c.args.to)) (sym c.deref.ensures.value)
-          (c.in_ok-ends.ensures.flows.complete c.args.from c.args.to c.requires.from c.requires.to (omega (arith, ints, some, most)));
+          (c.in_ok-ends.ensures.flows.complete c.args.from c.args.to c.requires.from c.requires.to (some_flows _ _ some most));
     }
 
-pub take_back_by-requires : goal.take_back_by-requires
-take_back_by-requires g c = record {
-  network = c.requires.network;
-  apart =
-      λ q.
-      let none = c.requires.network.idle q c.args.from c.args.to in
-      let some = c.requires.some in
-      let most = c.requires.most in
-      omega (arith, ints, none, some, most);
-  plan =
-      let N = g.S.FlowStore.network c.args.store.now in
-      let value = g.C.Number.value in
-      let ends = c.in_ok-ends.ends.items in
-      let xs = c.in_ok-ends.amounts.items in
-      let h = c.in_ok-ends.ensures.flows in
-      let low = c.requires.some in
-      let most = c.requires.most in
-      let apart : N.source ≢ N.sink = λ q. (let none = c.requires.network.idle q c.args.from c.args.to in omega (arith, ints, none, low, most)) in
-      let sink : c.sink.result ≡ N.sink = c.sink.ensures in
-      let source : c.source.result ≡ N.source = c.source.ensures in
-      let all : c.deref-2.result.now ≡ ends ++ record { from = N.sink; to = N.source } ∷ [] = c.deref-2.ensures.value ∙ c.in_ok-push.ensures.items ∙ ap (λ (u : ℕ). ends ++ record { from = u; to = c.source.result } ∷ []) sink ∙ ap (λ (u : ℕ). ends ++ record { from = N.sink; to = u } ∷ []) source in
-      let ys : c.deref_mut.result.now ≡ xs ++ c.total_capacity.result ∷ [] = c.deref_mut.ensures.value ∙ c.in_ok-push-2.ensures.items in
-      let number = c.number_of-through.ensures.number in
-      let at : slice_get ends c.number_of-through.result ≡ Some number.0 = ap (λ (es : List Arc). slice_get es c.number_of-through.result) (sym c.deref.ensures.value) ∙ number.1 in (
-        length ends,
-        plan_of value g.C.Zero.zero (g.met.C.Zero.zero_law g.met.C.Integral.exact_law) N c.requires.network (g.met.S.FlowStore.network_law c.args.store.now) apart ends xs c.total_capacity.result h c.total_capacity.ensures c.deref-2.result.now c.deref_mut.result.now all ys,
-        slice_get_within ends c.number_of-through.result number.0 at,
-      );
-  some = c.requires.some;
-  enough =
-      let N = g.S.FlowStore.network c.args.store.now in
-      let value = g.C.Number.value in
-      let ends = c.in_ok-ends.ends.items in
-      let xs = c.in_ok-ends.amounts.items in
-      let h = c.in_ok-ends.ensures.flows in
-      let k = c.number_of-through.result in
-      let number = c.number_of-through.ensures.number in
-      let at : slice_get ends k ≡ Some number.0 = ap (λ (es : List Arc). slice_get es k) (sym c.deref.ensures.value) ∙ number.1 in
-      let ys : c.deref_mut.result.now ≡ xs ++ c.total_capacity.result ∷ [] = c.deref_mut.ensures.value ∙ c.in_ok-push-2.ensures.items in
-      let there = amount_there value N ends xs h k number.0 at in
-      let from : N.flow number.0.from number.0.to ≡ N.flow c.args.from c.args.to = ap (λ (u : ℕ). N.flow u number.0.to) number.2 ∙ ap (λ (u : ℕ). N.flow c.args.from u) number.3 in
-      let n = there.2 in
-      let most = c.requires.most in
-      (there.0, ap (λ us. slice_get us k) ys ∙ get-append xs (c.total_capacity.result ∷ []) k there.0 there.1, omega (arith, ints, from, n, most));
-}
+pub take_back_by-requires-clause-network : goal.take_back_by-requires-clause-network
+take_back_by-requires-clause-network g c = c.requires.network
+
+pub take_back_by-requires-clause-apart : goal.take_back_by-requires-clause-apart
+take_back_by-requires-clause-apart g c =
+    λ q.
+    let none = c.requires.network.idle q c.args.from c.args.to in
+    let some = c.requires.some in
+    let most = c.requires.most in
+    none_flows _ _ none some most
+
+pub take_back_by-requires-clause-plan : goal.take_back_by-requires-clause-plan
+take_back_by-requires-clause-plan g c =
+    let N = g.S.FlowStore.network c.args.store.now in
+    let value = g.C.Number.value in
+    let ends = c.in_ok-ends.ends.items in
+    let xs = c.in_ok-ends.amounts.items in
+    let h = c.in_ok-ends.ensures.flows in
+    let low = c.requires.some in
+    let most = c.requires.most in
+    let apart : N.source ≢ N.sink = λ q. none_flows _ _ (c.requires.network.idle q c.args.from c.args.to) low most in
+    let sink : c.sink.result ≡ N.sink = c.sink.ensures in
+    let source : c.source.result ≡ N.source = c.source.ensures in
+    let all : c.deref-2.result.now ≡ ends ++ record { from = N.sink; to = N.source } ∷ [] = c.deref-2.ensures.value ∙ c.in_ok-push.ensures.items ∙ ap (λ (u : ℕ). ends ++ record { from = u; to = c.source.result } ∷ []) sink ∙ ap (λ (u : ℕ). ends ++ record { from = N.sink; to = u } ∷ []) source in
+    let ys : c.deref_mut.result.now ≡ xs ++ c.total_capacity.result ∷ [] = c.deref_mut.ensures.value ∙ c.in_ok-push-2.ensures.items in
+    let number = c.number_of-through.ensures.number in
+    let at : slice_get ends c.number_of-through.result ≡ Some number.0 = ap (λ (es : List Arc). slice_get es c.number_of-through.result) (sym c.deref.ensures.value) ∙ number.1 in (
+      length ends,
+      plan_of value g.C.Zero.zero (g.met.C.Zero.zero_law g.met.C.Integral.exact_law) N c.requires.network (g.met.S.FlowStore.network_law c.args.store.now) apart ends xs c.total_capacity.result h c.total_capacity.ensures c.deref-2.result.now c.deref_mut.result.now all ys,
+      slice_get_within ends c.number_of-through.result number.0 at,
+    )
+
+pub take_back_by-requires-clause-some : goal.take_back_by-requires-clause-some
+take_back_by-requires-clause-some g c = c.requires.some
+
+pub take_back_by-requires-clause-enough : goal.take_back_by-requires-clause-enough
+take_back_by-requires-clause-enough g c =
+    let N = g.S.FlowStore.network c.args.store.now in
+    let value = g.C.Number.value in
+    let ends = c.in_ok-ends.ends.items in
+    let xs = c.in_ok-ends.amounts.items in
+    let h = c.in_ok-ends.ensures.flows in
+    let k = c.number_of-through.result in
+    let number = c.number_of-through.ensures.number in
+    let at : slice_get ends k ≡ Some number.0 = ap (λ (es : List Arc). slice_get es k) (sym c.deref.ensures.value) ∙ number.1 in
+    let ys : c.deref_mut.result.now ≡ xs ++ c.total_capacity.result ∷ [] = c.deref_mut.ensures.value ∙ c.in_ok-push-2.ensures.items in
+    let there = amount_there value N ends xs h k number.0 at in
+    let from : N.flow number.0.from number.0.to ≡ N.flow c.args.from c.args.to = ap (λ (u : ℕ). N.flow u number.0.to) number.2 ∙ ap (λ (u : ℕ). N.flow c.args.from u) number.3 in
+    let n = there.2 in
+    let most = c.requires.most in
+    (there.0, ap (λ us. slice_get us k) ys ∙ get-append xs (c.total_capacity.result ∷ []) k there.0 there.1, enough_there _ _ _ _ from n most)
 
 pub returns : goal.returns
 returns g c = record {
@@ -84,7 +102,7 @@ returns g c = record {
       let less = f number.0 here in
       let old : N.flow number.0.from number.0.to ≡ N.flow c.args.from c.args.to = ap (λ (u : ℕ). N.flow u number.0.to) number.2 ∙ ap (λ (u : ℕ). N.flow c.args.from u) number.3 in
       let new : M.flow number.0.from number.0.to ≡ M.flow c.args.from c.args.to = ap (λ (u : ℕ). M.flow u number.0.to) number.2 ∙ ap (λ (u : ℕ). M.flow c.args.from u) number.3 in
-      omega (arith, ints, less, old, new));
+      less_here _ _ _ _ _ less old new);
   total = c.take_back_by.ensures.total;
   excess = c.take_back_by.ensures.excess;
   unchanged = c.take_back_by.ensures.unchanged;

@@ -1,4 +1,4 @@
-use Rattle.std.proofs.Common.{◌<◌, ◌≤◌, sym, subst, arith}
+use Rattle.std.proofs.Common.{◌<◌, ◌≤◌, sym, subst, arith, true≢false}
 use Rattle.std.specs.Prelude.{slice_index, slice_set}
 use Rattle.pf_flow.specs.Internal.Steps.{IsClimb}
 use Rattle.pf_flow.proofs.StepLemmas.{climb_begun, climbed}
@@ -42,3 +42,9 @@ returns-clause-way g c = λ _. climbed c.moves.invariant (subst (λ v. slice_ind
 
 pub returns-clause-steps : goal.returns-clause-steps
 returns-clause-steps g c = c.moves.invariant.steps
+
+pub bounds-path-0 : goal.bounds-path-0
+bounds-path-0 g c = omega (arith, c.requires.reached, c.requires.path_len)
+
+pub returns-in_default-clause-way : goal.returns-in_default-clause-way
+returns-in_default-clause-way g c = λ e. absurd (true≢false (sym e))

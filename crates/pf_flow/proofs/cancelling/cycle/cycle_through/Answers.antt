@@ -87,13 +87,17 @@ index-requires g c =
     let l = (c.requires.inside c.args.through (arc_at c.args.ends.now c.args.through) (through_at c.args.ends.now c.args.amounts.now c.requires.long c.args.through c.requires.through)).0 in
     omega (arith, l, c.in_ok-reached.ensures.wide, c.in_ok-reached.reached.places.ok)
 
-pub search-requires : goal.search-requires
-search-requires g c = record {
-  rows = c.requires.rows;
-  long = c.requires.long;
-  inside = c.requires.inside;
-  start = (c.requires.inside c.args.through (arc_at c.args.ends.now c.args.through) (through_at c.args.ends.now c.args.amounts.now c.requires.long c.args.through c.requires.through)).1;
-}
+pub search-requires-clause-rows : goal.search-requires-clause-rows
+search-requires-clause-rows g c = c.requires.rows
+
+pub search-requires-clause-long : goal.search-requires-clause-long
+search-requires-clause-long g c = c.requires.long
+
+pub search-requires-clause-inside : goal.search-requires-clause-inside
+search-requires-clause-inside g c = c.requires.inside
+
+pub search-requires-clause-start : goal.search-requires-clause-start
+search-requires-clause-start g c = (c.requires.inside c.args.through (arc_at c.args.ends.now c.args.through) (through_at c.args.ends.now c.args.amounts.now c.requires.long c.args.through c.requires.through)).1
 
 pub returns : goal.returns
 returns g c = record {

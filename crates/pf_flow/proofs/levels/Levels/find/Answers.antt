@@ -15,12 +15,14 @@ loop-at-smaller g c =
 pub loop-at-preserved : goal.loop-at-preserved
 loop-at-preserved g c = record { found = c.in_ok-follow.ensures.found; steps = c.in_ok-follow.ensures.steps }
 
-pub follow-requires : goal.follow-requires
-follow-requires g c = record {
-  found = c.loop-at.invariant.found;
-  at = omega (arith, c.len.ensures, c.loop-at.self.queue.ok, c.loop-at-test.true);
-  steps = c.loop-at.invariant.steps;
-}
+pub follow-requires-clause-found : goal.follow-requires-clause-found
+follow-requires-clause-found g c = c.loop-at.invariant.found
+
+pub follow-requires-clause-at : goal.follow-requires-clause-at
+follow-requires-clause-at g c = omega (arith, c.len.ensures, c.loop-at.self.queue.ok, c.loop-at-test.true)
+
+pub follow-requires-clause-steps : goal.follow-requires-clause-steps
+follow-requires-clause-steps g c = c.loop-at.invariant.steps
 
 pub returns : goal.returns
 returns g c = record {

@@ -131,46 +131,50 @@ bounds-end-items-end-index g c = c.loop-end-test.true
 pub loop-end-smaller : goal.loop-end-smaller
 loop-end-smaller g c = omega (arith, c.loop-end-test.true)
 
-pub reach-requires : goal.reach-requires
-reach-requires g c = record {
-  low =
-      let i = c.loop-end.invariant in
-      let low = i.found.search.place c.args.at i.more in
-      let level = sym i.level ∙ ap (slice_index c.loop-end.self.levels.items) (sym i.from) in
-      let all = i.found.search.count in
-      omega (arith, low, level, i.more, i.found.levels_len, all);
-  to =
-      let N = g.S.FlowStore.network c.args.store.now in
-      let i = c.loop-end.invariant in
-      let ends = c.deref-end-items.result.now in
-      let there : slice_get ends c.loop-end.end-index ≡ Some c.end-item.result = slice_get_read ends (length ends) c.loop-end.end-index c.end-item.result refl c.loop-end-test.true c.end-item.is in
-      let listed : ListsNumbers g.C.Number.value N.vertices (N.residual c.index-from.result.now) c.in_ok-ends.ends.items = c.in_ok-ends.ensures.listed in
-      let s = listed.sound c.loop-end.end-index c.end-item.result (ap (λ xs. slice_get xs c.loop-end.end-index) (sym c.deref-end-items.ensures.value) ∙ there) in
-      let inside = s.0 in
-      omega (arith, inside, i.found.levels_len);
-  wide = c.loop-end.invariant.found.parents_len ∙ sym c.loop-end.invariant.found.levels_len;
-}
+pub reach-requires-clause-low : goal.reach-requires-clause-low
+reach-requires-clause-low g c =
+    let i = c.loop-end.invariant in
+    let low = i.found.search.place c.args.at i.more in
+    let level = sym i.level ∙ ap (slice_index c.loop-end.self.levels.items) (sym i.from) in
+    let all = i.found.search.count in
+    omega (arith, low, level, i.more, i.found.levels_len, all)
 
-pub add_row-requires : goal.add_row-requires
-add_row-requires g c = record {
-  steps =
-      let i = c.loop-end.invariant in
-      let steps = c.loop-end.self.steps in
-      subst (λ n. AreSteps n steps.targets.items steps.places.items steps.ends.items) (sym (ap length c.deref-2.ensures.value ∙ i.found.levels_len)) i.steps;
-  from =
-      let i = c.loop-end.invariant in
-      let inside = i.found.search.inside c.args.at i.more in
-      omega (arith, inside, i.from, ap length c.deref-2.ensures.value, i.found.levels_len);
-  inside =
-      λ k to left h.
-      let N = g.S.FlowStore.network c.args.store.now in
-      let listed : ListsNumbers g.C.Number.value N.vertices (N.residual c.index-from.result.now) c.in_ok-ends.ends.items = c.in_ok-ends.ensures.listed in
-      let s = listed.sound k (to, left) (ap (λ xs. slice_get xs k) (sym c.deref.ensures.value) ∙ h) in
-      let inside = s.0 in
-      let wide = c.loop-end.invariant.found.levels_len in
-      let len = ap length c.deref-2.ensures.value in
-      omega (arith, inside, wide, len);
-}
+pub reach-requires-clause-to : goal.reach-requires-clause-to
+reach-requires-clause-to g c =
+    let N = g.S.FlowStore.network c.args.store.now in
+    let i = c.loop-end.invariant in
+    let ends = c.deref-end-items.result.now in
+    let there : slice_get ends c.loop-end.end-index ≡ Some c.end-item.result = slice_get_read ends (length ends) c.loop-end.end-index c.end-item.result refl c.loop-end-test.true c.end-item.is in
+    let listed : ListsNumbers g.C.Number.value N.vertices (N.residual c.index-from.result.now) c.in_ok-ends.ends.items = c.in_ok-ends.ensures.listed in
+    let s = listed.sound c.loop-end.end-index c.end-item.result (ap (λ xs. slice_get xs c.loop-end.end-index) (sym c.deref-end-items.ensures.value) ∙ there) in
+    let inside = s.0 in
+    omega (arith, inside, i.found.levels_len)
+
+pub reach-requires-clause-wide : goal.reach-requires-clause-wide
+reach-requires-clause-wide g c = c.loop-end.invariant.found.parents_len ∙ sym c.loop-end.invariant.found.levels_len
+
+pub add_row-requires-clause-steps : goal.add_row-requires-clause-steps
+add_row-requires-clause-steps g c =
+    let i = c.loop-end.invariant in
+    let steps = c.loop-end.self.steps in
+    subst (λ n. AreSteps n steps.targets.items steps.places.items steps.ends.items) (sym (ap length c.deref-2.ensures.value ∙ i.found.levels_len)) i.steps
+
+pub add_row-requires-clause-from : goal.add_row-requires-clause-from
+add_row-requires-clause-from g c =
+    let i = c.loop-end.invariant in
+    let inside = i.found.search.inside c.args.at i.more in
+    omega (arith, inside, i.from, ap length c.deref-2.ensures.value, i.found.levels_len)
+
+pub add_row-requires-clause-inside : goal.add_row-requires-clause-inside
+add_row-requires-clause-inside g c =
+    λ k to left h.
+    let N = g.S.FlowStore.network c.args.store.now in
+    let listed : ListsNumbers g.C.Number.value N.vertices (N.residual c.index-from.result.now) c.in_ok-ends.ends.items = c.in_ok-ends.ensures.listed in
+    let s = listed.sound k (to, left) (ap (λ xs. slice_get xs k) (sym c.deref.ensures.value) ∙ h) in
+    let inside = s.0 in
+    let wide = c.loop-end.invariant.found.levels_len in
+    let len = ap length c.deref-2.ensures.value in
+    omega (arith, inside, wide, len)
 
 pub returns : goal.returns
 returns g c = record {

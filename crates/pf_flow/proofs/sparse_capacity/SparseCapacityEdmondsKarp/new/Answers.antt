@@ -1,6 +1,7 @@
-use Rattle.std.proofs.Common.{◌∙◌, ap}
+use Rattle.std.proofs.Common.{◌∙◌, ◌<◌, ap, subst, sym}
 use Rattle.pf_flow.proofs.NetworkLemmas.{network_of_fresh}
-use Rattle.pf_flow.proofs.SparseStoreLemmas.{empty_fresh, empty_capacities}
+use Rattle.pf_flow.proofs.SparseStoreLemmas.{empty_rows, empty_fresh, empty_capacities}
+use Rattle.std.proofs.lemmas.Option.{none-some}
 use Rattle.std.proofs.lemmas.Result.{IfOk-from_err}
 use Rattle.pf_flow.proofs.NamedLemmas.{refused_as}
 use Rattle.pf_flow.proofs.sparse_capacity.SparseCapacityEdmondsKarp.new.Goals as goal
@@ -39,3 +40,14 @@ returns-in_err-rows-clause-network g c = IfOk-from_err _ _ c.from_residual.ensur
 
 pub returns-in_err-rows-clause-refused : goal.returns-in_err-rows-clause-refused
 returns-in_err-rows-clause-refused g c = refused_as _ c.from_residual.result _ c.in_err-rows.ensures.refused c.from_residual.ensures.1
+
+pub invariant_of-result : goal.invariant_of-result
+invariant_of-result g c =
+    let made = c.in_ok-rows.ensures in
+    record {
+      stored = empty_rows c.args.source c.args.sink c.in_ok-rows.rows.items made.empty (subst (λ n. c.args.source < n) (sym made.len) c.requires.source) (subst (λ n. c.args.sink < n) (sym made.len) c.requires.sink);
+      summed = λ z e. absurd (none-some z e);
+    }
+
+pub returns-clause-refused : goal.returns-clause-refused
+returns-clause-refused g c = tt

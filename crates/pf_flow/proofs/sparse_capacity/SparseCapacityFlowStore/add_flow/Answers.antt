@@ -1,9 +1,10 @@
-use Rattle.std.proofs.Common.{◌≡◌, ◌∙◌, sym, subst, true, arith, neg_ℤ, [], slice_set, ◌<◌}
+use Rattle.std.proofs.Common.{◌≡◌, ◌∙◌, sym, ap, subst, true, arith, neg_ℤ, [], slice_set, ◌<◌}
 use Rattle.std.specs.Prelude.{◌+ℤ◌, ◌-ℤ◌}
 use Rattle.std.proofs.lemmas.List.{get_or_default, get_or-set_other, length-set}
+use Rattle.std.proofs.lemmas.Option.{none-some}
 use Rattle.pf_flow.specs.SparseRows.{ends, Rises, has_end, amount_to, row_at, IsRowChanged}
 use Rattle.pf_flow.specs.Internal.SparseLaws.{has_row}
-use Rattle.pf_flow.proofs.SparseStoreLemmas.{flow_added}
+use Rattle.pf_flow.proofs.SparseStoreLemmas.{rows_kept, ends_set_at, flow_added}
 use Rattle.pf_flow.proofs.sparse_capacity.SparseCapacityFlowStore.add_flow.Goals as goal
 
 pub returns : goal.returns
@@ -96,3 +97,20 @@ take_back-requires-clause-flow g c =
     let there : c.index_mut-2.result.now ≡ row_at rows c.args.to = c.index_mut-2.ensures.value ∙ get_or_default once c.args.to _ [] (subst (λ n. c.args.to < n) (sym (length-set rows c.args.from c.carry.new.self)) to_in)
     ∙ get_or-set_other rows c.args.from c.args.to c.carry.new.self [] (λ e. c.requires.apart (sym e)) in
     subst (λ row. g.C.Number.fits (amount_to (λ e. value e.flow) row c.args.from -ℤ value c.args.amount)) (sym there) c.requires.flow_back
+
+pub invariant_of-self : goal.invariant_of-self
+invariant_of-self g c =
+    let rows = c.args.self.now.rows.items in
+    let value = g.C.Number.value in
+    let x = value c.args.amount in
+    let once = slice_set rows c.args.from c.carry.new.self in
+    let from_in = has_row rows c.args.from c.args.to c.requires.room in
+    let to_in = (c.args.self.now.stored.below c.args.from).at c.args.to c.requires.room in
+    let to_in_once = subst (λ n. c.args.to < n) (sym (length-set rows c.args.from c.carry.new.self)) to_in in
+    let here : c.index_mut.result.now ≡ row_at rows c.args.from = c.index_mut.ensures.value ∙ get_or_default rows c.args.from _ [] from_in in
+    let there : c.index_mut-2.result.now ≡ row_at once c.args.to = c.index_mut-2.ensures.value ∙ get_or_default once c.args.to _ [] to_in_once in
+    record {
+      stored = rows_kept c.args.self.now.source c.args.self.now.sink rows (slice_set once c.args.to c.take_back.new.self) c.args.self.now.stored (length-set once c.args.to c.take_back.new.self ∙ length-set rows c.args.from c.carry.new.self)
+          (λ a. ends_set_at once c.args.to c.take_back.new.self to_in_once (c.take_back.ensures.ends ∙ ap (λ r. ends r) there) a ∙ ends_set_at rows c.args.from c.carry.new.self from_in (c.carry.ensures.ends ∙ ap (λ r. ends r) here) a);
+      summed = λ z e. absurd (none-some z e);
+    }
