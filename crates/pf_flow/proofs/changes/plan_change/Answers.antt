@@ -1,5 +1,7 @@
-use Rattle.std.proofs.Common.{◌∙◌, arith, inl, inr, refl, ap}
+use Rattle.std.proofs.Common.{◌∙◌, arith, inl, inr, refl, ap, subst}
+use Rattle.std.specs.Prelude.{◌≤ℤ◌}
 use Rattle.std.proofs.lemmas.Int.{ints}
+use Rattle.num_traits.specs.Laws.{Checks}
 use Rattle.pf_flow.proofs.changes.plan_change.Goals as goal
 
 pub returns-then-is_below-clause-refused : goal.returns-then-is_below-clause-refused
@@ -16,3 +18,9 @@ returns-clause-low g c =
     let zero = ap g.C.Number.value c.zero.ensures ∙ g.met.C.Zero.zero_law g.met.C.Integral.exact_law in
     let low = c.if-is_below.ensures in
     omega (arith, ints, zero, low)
+
+pub returns-in_default-clause-refused : goal.returns-in_default-clause-refused
+returns-in_default-clause-refused g c =
+    let zero = ap g.C.Number.value c.zero.ensures ∙ g.met.C.Zero.zero_law g.met.C.Integral.exact_law in
+    let low = c.if-is_below.ensures in
+    inr (inr (refl, subst (λ z. z ≤ℤ g.C.Number.value c.args.number) zero low, subst (Checks g.C.Number.value g.C.Number.fits _) c.in_default.is c.in_ok-sum.ensures.sum))
