@@ -5,12 +5,12 @@ use Rattle.std.proofs.lemmas.Int.{ints}
 use Rattle.std.proofs.lemmas.Bool.{cases_eq}
 use borrow.Author.Tests.{ltb-true}
 use Rattle.std.proofs.Common.{lt-ltb}
-use Rattle.pf_flow.specs.Flows.{cut_capacity, flow_value, IsCut, IsLeastCut}
-use Rattle.pf_flow.specs.Networks.{Network, capacity, IsNetwork, IsCutOfTotal}
-use Rattle.pf_flow.specs.Internal.Levels.{AreLevels, reached}
+use Rattle.pf_residual.specs.Flows.{cut_capacity, flow_value, IsCut, IsLeastCut}
+use Rattle.pf_residual.specs.Networks.{Network, capacity, IsNetwork, IsCutOfTotal}
+use Rattle.pf_residual.specs.Internal.Levels.{AreLevels, reached}
 use Rattle.pf_flow.proofs.CutLemmas.{value_within_cut, value_of_full_cut, full_of_cut_value}
-use Rattle.pf_flow.proofs.NetworkLemmas.{balanced_of}
-use Rattle.pf_flow.proofs.PotentialLemmas.{sign_cases}
+use Rattle.pf_residual.proofs.NetworkLemmas.{balanced_of}
+use Rattle.pf_residual.proofs.PotentialLemmas.{sign_cases}
 
 -- each Bool is the one or the other
 either : (b : Bool) → (b ≡ true) ⊎ (b ≡ false)

@@ -2,9 +2,9 @@
 use Rattle.std.proofs.Common.{◌≡◌, ◌∙◌, refl, sym, ap, subst, ◌<◌, ℕ, ℤ, zero, suc, pos, arith, Bool, true, false, true≢false, List, [], ◌∷◌, length, cond, Some}
 use Rattle.std.specs.Prelude.{◌<ℤ◌, ◌&&◌, not, slice_get, slice_index}
 use Rattle.std.specs.List.{filter}
-use Rattle.pf_flow.specs.Networks.{Network, IsNetwork}
-use Rattle.pf_flow.specs.Listings.{ListsFlows, ListsCut}
-use Rattle.pf_flow.specs.Internal.Levels.{AreLevels, reached, leaves}
+use Rattle.pf_residual.specs.Networks.{Network, IsNetwork}
+use Rattle.pf_residual.specs.Listings.{ListsFlows, ListsCut}
+use Rattle.pf_residual.specs.Internal.Levels.{AreLevels, reached, leaves}
 use Rattle.pf_flow.proofs.CutOfLevels.{leaving_full}
 
 module _ {X : Type 0} (p : X → Bool) where

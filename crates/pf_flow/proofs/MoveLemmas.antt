@@ -3,12 +3,12 @@ use Rattle.std.proofs.Common.{◌≡◌, ◌≢◌, ◌∙◌, refl, sym, ap, su
 use Rattle.std.specs.Prelude.{◌≤ℤ◌, ◌-ℤ◌, ◌&&◌, neg_ℤ, if◌then◌else◌}
 use Rattle.std.proofs.Math.Bool.{and_comm}
 use Rattle.std.proofs.lemmas.Int.{ints}
-use Rattle.pf_flow.specs.Flows.{PairTable, added, sum_to}
-use Rattle.pf_flow.specs.Networks.{Network, capacity, with_flow}
-use Rattle.pf_flow.specs.Internal.Balances.{IsBalanced}
-use Rattle.pf_flow.proofs.SumLemmas.{sum_ext}
-use Rattle.pf_flow.proofs.AddedLemmas.{moved_cases, moved_here, moved_back}
-use Rattle.pf_flow.proofs.NetworkLemmas.{flow_fits, residual_fits}
+use Rattle.pf_residual.specs.Flows.{PairTable, added, sum_to}
+use Rattle.pf_residual.specs.Networks.{Network, capacity, with_flow}
+use Rattle.pf_residual.specs.Internal.Balances.{IsBalanced}
+use Rattle.pf_residual.proofs.SumLemmas.{sum_ext}
+use Rattle.pf_residual.proofs.AddedLemmas.{moved_cases, moved_here, moved_back}
+use Rattle.pf_residual.proofs.NetworkLemmas.{flow_fits, residual_fits}
 
 same_capacity : (p q : Bool) (r f z : ℤ) → (if q then (if p then r +ℤ neg_ℤ z else r) +ℤ z else (if p then r +ℤ neg_ℤ z else r)) +ℤ (if q then (if p then f +ℤ z else f) +ℤ neg_ℤ z else (if p then f +ℤ z else f)) ≡ r +ℤ f
 same_capacity true true r f z = omega (arith, ints)

@@ -1,11 +1,11 @@
 -- Ticks and potential, from phase to phase.
 use Rattle.std.proofs.Common.{◌≡◌, ◌∙◌, sym, ap, subst, ◌≤◌, ◌+◌, ◌*◌, ℕ, arith}
-use Rattle.pf_flow.specs.Flows.{PairTable, pair_count}
-use Rattle.pf_flow.specs.Networks.{Network, capacity, KeepsCapacities}
-use Rattle.pf_flow.specs.Internal.AugmentingPaths.{IsLabelling, potential}
-use Rattle.pf_flow.specs.Internal.Levels.{AreLevels}
-use Rattle.pf_flow.proofs.PotentialLemmas.{potential_up, potential_top}
-use Rattle.pf_flow.proofs.WayLemmas.{levels_least}
+use Rattle.pf_residual.specs.Flows.{PairTable, pair_count}
+use Rattle.pf_residual.specs.Networks.{Network, capacity, KeepsCapacities}
+use Rattle.pf_residual.specs.Internal.AugmentingPaths.{IsLabelling, potential}
+use Rattle.pf_residual.specs.Internal.Levels.{AreLevels}
+use Rattle.pf_residual.proofs.PotentialLemmas.{potential_up, potential_top}
+use Rattle.pf_residual.proofs.WayLemmas.{levels_least}
 
 capacity_same : {N M : Network} → KeepsCapacities N M → capacity N ≡ capacity M
 capacity_same w = λ i a b. w.capacities.at a b i

@@ -2,12 +2,12 @@
 use Rattle.std.proofs.Common.{◌≡◌, ◌≢◌, ◌∙◌, refl, sym, ap, subst, ◌<◌, ◌⊎◌, inl, inr, ℕ, ℤ, pos, arith, Bool, true, false, true≢false, List, [], length, nat_eq, if◌then◌else◌, eq-eqb, slice_set, slice_index_or, zero, suc, ◌∷◌}
 use Rattle.std.proofs.lemmas.List.{length-set, get_or_default, get_or-set_same, set-get_or}
 use borrow.Author.Tests.{eqb-true, eqb-false}
-use Rattle.pf_flow.specs.Networks.{Agrees}
-use Rattle.pf_flow.specs.SparseRows.{ends, Rises, has_end, amount_to, row_at, with_edge, without_edge}
-use Rattle.pf_flow.specs.SparseStores.{AreRows, rows_network}
-use Rattle.pf_flow.specs.declared.sparse_row.Edge.{Edge}
-use Rattle.pf_flow.proofs.SparseRowLemmas.{with_edge_ends, with_edge_rises, with_edge_amount, without_with}
-use Rattle.pf_flow.proofs.SparseStoreLemmas.{row_here, row_there}
+use Rattle.pf_residual.specs.Networks.{Agrees}
+use Rattle.pf_residual.specs.SparseRows.{ends, Rises, has_end, amount_to, row_at, with_edge, without_edge}
+use Rattle.pf_residual.specs.SparseStores.{AreRows, rows_network}
+use Rattle.pf_residual.specs.declared.sparse_row.Edge.{Edge}
+use Rattle.pf_residual.proofs.SparseRowLemmas.{with_edge_ends, with_edge_rises, with_edge_amount, without_with}
+use Rattle.pf_residual.proofs.SparseStoreLemmas.{row_here, row_there}
 
 -- whether a row has an edge
 abbrev has : {C : Type 0} → List (List (Edge C)) → ℕ → ℕ → Bool

@@ -6,19 +6,19 @@ use Rattle.std.proofs.lemmas.List.{length-map, length-append, length-take-le, ta
 use Rattle.std.proofs.lemmas.Option.{slice_get-get_or, slice_get_within}
 use borrow.Author.Tests.{eqb-true}
 use Rattle.pf_core.proofs.ListLemmas.{nat_dec, none_in, int_dec, bool_dec, take_get, get_take}
-use Rattle.pf_flow.specs.declared.cancelling.arcs.Arc.{Arc}
-use Rattle.pf_flow.specs.Flows.{PairTable, sum_to, Same}
-use Rattle.pf_flow.specs.Networks.{Network, capacity, with_flow, with_total, IsStored, IsNetwork, KeepsCapacities}
-use Rattle.pf_flow.specs.Listings.{ListsFlows, IsBefore}
-use Rattle.pf_flow.specs.Internal.AugmentingPaths.{amount_at}
-use Rattle.pf_flow.specs.Internal.Balances.{IsBalanced}
-use Rattle.pf_flow.specs.Internal.Cancelling.{gain, net_of, AreInside, IsCirculation, IsLowered}
-use Rattle.pf_flow.specs.Internal.Settled.{moved, side_sum, settled, Touches, AreApart, HoldFlows, IsSettled, IsPlan, AreFlowing, arc_of}
-use Rattle.pf_flow.proofs.SumLemmas.{sum_ext, sum_add, square_none}
-use Rattle.pf_flow.proofs.AgreeLemmas.{capacities_more}
+use Rattle.pf_residual.specs.declared.cancelling.arcs.Arc.{Arc}
+use Rattle.pf_residual.specs.Flows.{PairTable, sum_to, Same}
+use Rattle.pf_residual.specs.Networks.{Network, capacity, with_flow, with_total, IsStored, IsNetwork, KeepsCapacities}
+use Rattle.pf_residual.specs.Listings.{ListsFlows, IsBefore}
+use Rattle.pf_residual.specs.Internal.AugmentingPaths.{amount_at}
+use Rattle.pf_residual.specs.Internal.Balances.{IsBalanced}
+use Rattle.pf_residual.specs.Internal.Cancelling.{gain, net_of, AreInside, IsCirculation, IsLowered}
+use Rattle.pf_residual.specs.Internal.Settled.{moved, side_sum, settled, Touches, AreApart, HoldFlows, IsSettled, IsPlan, AreFlowing, arc_of}
+use Rattle.pf_residual.proofs.SumLemmas.{sum_ext, sum_add, square_none}
+use Rattle.pf_residual.proofs.AgreeLemmas.{capacities_more}
 use Rattle.pf_flow.proofs.MoveLemmas.{opposite_moved}
-use Rattle.pf_flow.proofs.ChangeListings.{get_push, get_last}
-use Rattle.pf_flow.proofs.SettledLemmas.{at_side, settled_side, settled_elsewhere, settled_here, settled_more, net_zero, net_push, side_none, side_one}
+use Rattle.pf_residual.proofs.ChangeListings.{get_push, get_last}
+use Rattle.pf_residual.proofs.SettledLemmas.{at_side, settled_side, settled_elsewhere, settled_here, settled_more, net_zero, net_push, side_none, side_one}
 
 map_get : {A B : Type 0} (f : A → B) (xs : List A) (k : ℕ) (y : B) → slice_get (map f xs) k ≡ Some y → (x : A) × (slice_get xs k ≡ Some x) × (f x ≡ y)
 map_get f [] k y h = absurd (none_in k y h)

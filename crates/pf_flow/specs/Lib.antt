@@ -1,9 +1,9 @@
-pub mod Flows
-pub mod Networks
-pub mod Listings
-pub mod Capacities
+pub use Rattle.pf_residual.specs.Flows
+pub use Rattle.pf_residual.specs.Networks
+pub use Rattle.pf_residual.specs.Listings
+pub use Rattle.pf_residual.specs.Capacities
+pub use Rattle.pf_residual.specs.SparseRows
+pub use Rattle.pf_residual.specs.SparseStores
+pub use Rattle.pf_residual.specs.DenseStores
+pub use Rattle.pf_residual.specs.NamedNetworks
 pub mod Internal
-pub mod SparseRows
-pub mod SparseStores
-pub mod DenseStores
-pub mod NamedNetworks

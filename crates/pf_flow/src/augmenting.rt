@@ -2,19 +2,19 @@
 
 ghost use Rattle.std.specs.Prelude.{◌≡◌, ◌≢◌, ◌≤◌, ◌+◌, ◌*◌, pos, true, false, [], OnOk, IfOk, IfErr};
 ghost use Rattle.pf_base.specs.declared.error.PathError.TheVariants.{OutOfMemory};
-ghost use Rattle.pf_flow.specs.Flows.{pair_count};
-ghost use Rattle.pf_flow.specs.Networks.{Network, capacity, KeepsCapacities, IsNetwork, HasCutOfTotal};
-ghost use Rattle.pf_flow.specs.Listings.{ListsFlows, ListsLeastCut};
-ghost use Rattle.pf_flow.specs.Internal.Levels.{IsStuck};
+ghost use Rattle.pf_residual.specs.Flows.{pair_count};
+ghost use Rattle.pf_residual.specs.Networks.{Network, capacity, KeepsCapacities, IsNetwork, HasCutOfTotal};
+ghost use Rattle.pf_residual.specs.Listings.{ListsFlows, ListsLeastCut};
+ghost use Rattle.pf_residual.specs.Internal.Levels.{IsStuck};
 
 use crate::cuts::list_cut;
 use crate::edmonds_karp::EKFlows;
 use crate::levels::Levels;
 use crate::listings::list_flows;
 use crate::phases::augment_phase;
-use crate::store::FlowStore;
 use pf_base::utils::Tally;
 use pf_base::{PathError, SignedCost};
+use pf_residual::store::FlowStore;
 use std::alloc::Allocator;
 
 /// Adds flow along shortest paths, in phases of paths of one length, until none is left. Found are then

@@ -4,17 +4,17 @@ ghost use Rattle.std.specs.Prelude.{◌≡◌, ◌⊎◌, ◌<◌, ◌++◌, ◌
 ghost use Rattle.std.specs.Iterator.{IsFiniteIterable, Drains};
 ghost use Rattle.std.specs.List.{AllZip};
 ghost use Rattle.pf_base.specs.declared.error.PathError.TheVariants.{OutOfMemory, UnknownVertex};
-ghost use Rattle.pf_flow.specs.Networks.{KeepsShape, HasCapacities, IsFresh, capacity_sum};
-ghost use Rattle.pf_flow.specs.NamedNetworks.{names_of, number_of, given_capacities, IsKnown, IsNamed, AreAccepted, IsEdgeRefused, AreEdgesRefused, IsAnsweredFor, IsRefusedFor};
-ghost use Rattle.pf_flow.specs.Internal.Filling.{IsUnused};
+ghost use Rattle.pf_residual.specs.Networks.{KeepsShape, HasCapacities, IsFresh, capacity_sum};
+ghost use Rattle.pf_residual.specs.NamedNetworks.{names_of, number_of, given_capacities, IsKnown, IsNamed, AreAccepted, IsEdgeRefused, AreEdgesRefused, IsAnsweredFor, IsRefusedFor};
+ghost use Rattle.pf_residual.specs.Internal.Filling.{IsUnused};
 
 use crate::dense_capacity::DenseCapacity;
 use crate::edmonds_karp::{EKFlows, Edge, EdmondsKarp};
 use crate::makers::put_capacity;
 use crate::sparse_capacity::SparseCapacity;
-use crate::store::FlowStore;
 use indexmap::IndexSet;
 use pf_base::{PathError, SignedCost};
+use pf_residual::store::FlowStore;
 use std::alloc::Allocator;
 use std::hash::{BuildHasherDefault, FoldHasher, Hash};
 

@@ -2,17 +2,17 @@
 
 ghost use Rattle.std.specs.Prelude.{◌≡◌, ◌<◌, ◌≤ℤ◌, ◌+ℤ◌, pos, true, OnOk, OnErr, IfOk, IfErr};
 ghost use Rattle.num_traits.specs.Laws.{Checks};
-ghost use Rattle.pf_flow.specs.Flows.{Same, replaced, pair_sum};
+ghost use Rattle.pf_residual.specs.Flows.{Same, replaced, pair_sum};
 ghost use Rattle.pf_base.specs.declared.error.PathError.TheVariants.{OutOfMemory};
-ghost use Rattle.pf_flow.specs.Networks.{Network, Agrees, KeepsCapacities, ChangesCapacity, IsNetwork, capacity, capacity_sum};
-ghost use Rattle.pf_flow.specs.Capacities.{IsChangeRefused};
+ghost use Rattle.pf_residual.specs.Networks.{Network, Agrees, KeepsCapacities, ChangesCapacity, IsNetwork, capacity, capacity_sum};
+ghost use Rattle.pf_residual.specs.Capacities.{IsChangeRefused};
 
-use crate::listed_sums::sum_by_lists;
 use crate::makers::exchanged;
-use crate::numbers::{is_below, plus};
-use crate::store::FlowStore;
 use crate::taking_back::take_back;
 use pf_base::{PathError, SignedCost};
+use pf_residual::listed_sums::sum_by_lists;
+use pf_residual::numbers::{is_below, plus};
+use pf_residual::store::FlowStore;
 use std::alloc::Allocator;
 
 /// The capacity of a pair of vertices.

@@ -3,7 +3,7 @@
 ghost use Rattle.std.specs.Prelude.{◌≡◌, ◌<◌, ℕ, Some, length, slice_get, IfOk, IfErr};
 ghost use Rattle.std.specs.List.{filter};
 ghost use Rattle.pf_base.specs.declared.error.PathError.TheVariants.{OutOfMemory};
-ghost use Rattle.pf_flow.specs.Internal.Levels.{leaves};
+ghost use Rattle.pf_residual.specs.Internal.Levels.{leaves};
 
 use crate::edmonds_karp::Edge;
 use pf_base::{PathError, SignedCost};

@@ -4,16 +4,16 @@ ghost use Rattle.std.specs.Prelude.{◌≡◌, ◌<◌, ◌*◌, ◌^◌, ◌<�
 ghost use Rattle.pf_base.specs.declared.error.PathError.TheVariants.{OutOfMemory};
 ghost use Rattle.pf_matrix.specs.Tables.{IsMatrix};
 ghost use Rattle.std.specs.Option.{ForSome};
-ghost use Rattle.pf_flow.specs.DenseStores.{AreTables, IsSquare, IsZeroTable, AreSameTables, tables_network, table_number, table_sum};
-ghost use Rattle.pf_flow.specs.Internal.DenseLaws.{tables_law};
-ghost use Rattle.pf_flow.specs.Listings.{ListsNumbers, ListsVertices};
+ghost use Rattle.pf_residual.specs.DenseStores.{AreTables, IsSquare, IsZeroTable, AreSameTables, tables_network, table_number, table_sum};
+ghost use Rattle.pf_residual.specs.Internal.DenseLaws.{tables_law};
+ghost use Rattle.pf_residual.specs.Listings.{ListsNumbers, ListsVertices};
 
-use crate::dense_table::{lower, number_at, raise};
 use crate::edmonds_karp::EdmondsKarp;
-use crate::numbers::is_below;
-use crate::store::FlowStore;
 use pf_base::{PathError, SignedCost};
 use pf_matrix::Matrix;
+use pf_residual::dense_table::{lower, number_at, raise};
+use pf_residual::numbers::is_below;
+use pf_residual::store::FlowStore;
 use std::alloc::{AllocError, Allocator, Global};
 
 /// A store that keeps the residual capacity and the flow of each pair of vertices in two square

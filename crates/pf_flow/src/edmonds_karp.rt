@@ -2,10 +2,10 @@
 
 ghost use Rattle.std.specs.Prelude.{◌≡◌, ◌≢◌, ◌≤◌, ◌<◌, ◌+◌, ◌*◌, ◌≤ℤ◌, ◌<ℤ◌, ◌+ℤ◌, ◌-ℤ◌, ℕ, pos, true, false, [], length, OnOk, OnErr, IfOk, IfErr};
 ghost use Rattle.pf_base.specs.declared.error.PathError.TheVariants.{OutOfMemory};
-ghost use Rattle.pf_flow.specs.Flows.{Same, pair_count};
-ghost use Rattle.pf_flow.specs.Networks.{Network, capacity, capacity_sum, Agrees, KeepsCapacities, ChangesCapacity, IsNetwork, IsFresh, HasCapacities, HasCutOfTotal};
-ghost use Rattle.pf_flow.specs.Listings.{ListsFlows, ListsLeastCut};
-ghost use Rattle.pf_flow.specs.Capacities.{square_table, AreRefused, IsChangeRefused};
+ghost use Rattle.pf_residual.specs.Flows.{Same, pair_count};
+ghost use Rattle.pf_residual.specs.Networks.{Network, capacity, capacity_sum, Agrees, KeepsCapacities, ChangesCapacity, IsNetwork, IsFresh, HasCapacities, HasCutOfTotal};
+ghost use Rattle.pf_residual.specs.Listings.{ListsFlows, ListsLeastCut};
+ghost use Rattle.pf_residual.specs.Capacities.{square_table, AreRefused, IsChangeRefused};
 
 use crate::augmenting::augment_flow;
 pub use crate::by_names::{edmonds_karp, edmonds_karp_dense, edmonds_karp_sparse};
@@ -14,11 +14,11 @@ pub use crate::dense_capacity::DenseCapacity;
 use crate::listings::list_flows;
 use crate::makers::{fill, side_of};
 pub use crate::sparse_capacity::SparseCapacity;
-pub use crate::store::FlowStore;
-use crate::sums::sum_of_capacities;
 use pf_base::utils::Tally;
 use pf_base::{PathError, SignedCost};
 use pf_matrix::Matrix;
+pub use pf_residual::store::FlowStore;
+use pf_residual::sums::sum_of_capacities;
 use std::alloc::{Allocator, Global};
 
 /// A capacity or a flow from one vertex to another.

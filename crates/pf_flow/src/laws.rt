@@ -1,8 +1,8 @@
 //! Laws of flows and cuts.
 
 ghost use Rattle.std.specs.Prelude.{◌≡◌, ◌≢◌, ◌<◌, ◌≤ℤ◌, ℕ, ℤ, Bool};
-ghost use Rattle.pf_flow.specs.Flows.{PairTable, IsFeasibleFlow, IsCut, flow_value, cut_capacity};
-ghost use Rattle.pf_flow.specs.Networks.{Network, HasSameCapacities, HasCutOfTotal, HasTotalOfFlow};
+ghost use Rattle.pf_residual.specs.Flows.{PairTable, IsFeasibleFlow, IsCut, flow_value, cut_capacity};
+ghost use Rattle.pf_residual.specs.Networks.{Network, HasSameCapacities, HasCutOfTotal, HasTotalOfFlow};
 
 /// No flow is worth more than a cut: its value is at most the cut's capacity.
 pub fn flow_is_within_cut()

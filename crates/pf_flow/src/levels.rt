@@ -2,13 +2,13 @@
 
 ghost use Rattle.std.specs.Prelude.{◌≡◌, ◌<◌, ◌+◌, length, slice_index, OnOk, IfErr};
 ghost use Rattle.pf_base.specs.declared.error.PathError.TheVariants.{OutOfMemory};
-ghost use Rattle.pf_flow.specs.Networks.{Network};
-ghost use Rattle.pf_flow.specs.Internal.Levels.{AreLevels, HasFound, IsTree, IsTreePath, Reaches};
-ghost use Rattle.pf_flow.specs.Internal.Steps.{AreSteps};
+ghost use Rattle.pf_residual.specs.Networks.{Network};
+ghost use Rattle.pf_residual.specs.Internal.Levels.{AreLevels, HasFound, IsTree, IsTreePath, Reaches};
+ghost use Rattle.pf_residual.specs.Internal.Steps.{AreSteps};
 
-use crate::steps::Steps;
-use crate::store::FlowStore;
 use pf_base::{PathError, SignedCost};
+use pf_residual::steps::Steps;
+use pf_residual::store::FlowStore;
 use std::alloc::Allocator;
 
 /// How far each vertex is from the source, by which vertex it was reached, and which steps lead on

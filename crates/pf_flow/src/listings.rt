@@ -2,13 +2,13 @@
 
 ghost use Rattle.std.specs.Prelude.{◌≡◌, ◌+◌, ◌<◌, ◌<ℤ◌, pos, IfErr, OnOk, IfOk};
 ghost use Rattle.pf_base.specs.declared.error.PathError.TheVariants.{OutOfMemory};
-ghost use Rattle.pf_flow.specs.Networks.{Network, IsNetwork};
-ghost use Rattle.pf_flow.specs.Listings.{ListsFlows, ListsVertices};
-ghost use Rattle.pf_flow.specs.Internal.Prefixes.{ListsFlowsBefore};
+ghost use Rattle.pf_residual.specs.Networks.{Network, IsNetwork};
+ghost use Rattle.pf_residual.specs.Listings.{ListsFlows, ListsVertices};
+ghost use Rattle.pf_residual.specs.Internal.Prefixes.{ListsFlowsBefore};
 
 use crate::edmonds_karp::Edge;
-use crate::store::FlowStore;
 use pf_base::{PathError, SignedCost};
+use pf_residual::store::FlowStore;
 use std::alloc::Allocator;
 
 /// Puts the flows from a vertex to these ends behind those from the vertices before it.

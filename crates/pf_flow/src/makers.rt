@@ -2,14 +2,14 @@
 
 ghost use Rattle.std.specs.Prelude.{◌≡◌, ◌<◌, ◌*◌, ◌≤ℤ◌, ◌<ℤ◌, ◌+ℤ◌, ◌-ℤ◌, ℕ, pos, OnOk, IfOk, IfErr, MatchBool, length};
 ghost use Rattle.num_traits.specs.Laws.{Checks};
-ghost use Rattle.pf_flow.specs.Networks.{Network, KeepsShape, ChangesCapacity, HasCapacities, capacity_sum};
-ghost use Rattle.pf_flow.specs.Capacities.{number, square_table, AreRefused, IsChangeRefused};
-ghost use Rattle.pf_flow.specs.Internal.Filling.{IsUnused};
+ghost use Rattle.pf_residual.specs.Networks.{Network, KeepsShape, ChangesCapacity, HasCapacities, capacity_sum};
+ghost use Rattle.pf_residual.specs.Capacities.{number, square_table, AreRefused, IsChangeRefused};
+ghost use Rattle.pf_residual.specs.Internal.Filling.{IsUnused};
 
-use crate::numbers::is_below;
-use crate::store::FlowStore;
 use pf_base::utils::uint_sqrt;
 use pf_base::{PathError, SignedCost};
+use pf_residual::numbers::is_below;
+use pf_residual::store::FlowStore;
 
 /// A sum with a new cost in the place of an old one, if it fits.
 pub fn exchanged<C: SignedCost>(sum: C, old: C, new: C) -> Option<C>

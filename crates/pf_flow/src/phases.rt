@@ -1,17 +1,17 @@
 //! Phases of shortest augmenting paths.
 
 ghost use Rattle.std.specs.Prelude.{◌≡◌, ◌≢◌, ◌≤◌, ◌<◌, ◌+◌, length, slice_index};
-ghost use Rattle.pf_flow.specs.Networks.{Network, capacity, KeepsCapacities, IsNetwork};
-ghost use Rattle.pf_flow.specs.Internal.AugmentingPaths.{IsLabelling, potential};
-ghost use Rattle.pf_flow.specs.Internal.Levels.{AreLevels};
-ghost use Rattle.pf_flow.specs.Internal.Steps.{AreSteps, IsSinkWay};
+ghost use Rattle.pf_residual.specs.Networks.{Network, capacity, KeepsCapacities, IsNetwork};
+ghost use Rattle.pf_residual.specs.Internal.AugmentingPaths.{IsLabelling, potential};
+ghost use Rattle.pf_residual.specs.Internal.Levels.{AreLevels};
+ghost use Rattle.pf_residual.specs.Internal.Steps.{AreSteps, IsSinkWay};
 
 use crate::levels::Levels;
-use crate::paths::add_along;
-use crate::store::FlowStore;
-use crate::ways::next_way;
 use pf_base::SignedCost;
 use pf_base::utils::Tally;
+use pf_residual::paths::add_along;
+use pf_residual::store::FlowStore;
+use pf_residual::ways::next_way;
 use std::alloc::Allocator;
 
 /// Adds as much flow along a way to the sink as its pairs have left, with a tick. The levels stay

@@ -3,15 +3,15 @@
 ghost use Rattle.std.specs.Prelude.{◌≡◌, length, IfOk, IfErr};
 ghost use Rattle.pf_base.specs.declared.error.PathError.TheVariants.{OutOfMemory};
 ghost use Rattle.std.specs.Option.{ForSome};
-ghost use Rattle.pf_flow.specs.SparseStores.{AreRows, AreEmpty, IsSameStore, rows_network, rows_sum};
+ghost use Rattle.pf_residual.specs.SparseStores.{AreRows, AreEmpty, IsSameStore, rows_network, rows_sum};
 ghost use Rattle.std.proofs.Props.{props};
-ghost use Rattle.pf_flow.specs.Internal.SparseLaws.{rows_law};
+ghost use Rattle.pf_residual.specs.Internal.SparseLaws.{rows_law};
 ghost use Rattle.pf_flow.specs.Internal.SparseProps.{Rises-prop};
 
 use crate::edmonds_karp::EdmondsKarp;
-use crate::sparse_row::{Row, flow_ends, residual_ends};
-use crate::store::FlowStore;
 use pf_base::{PathError, SignedCost};
+use pf_residual::sparse_row::{Row, flow_ends, residual_ends};
+use pf_residual::store::FlowStore;
 use std::alloc::{AllocError, Allocator, Global};
 
 /// A store that keeps for each vertex its edges, sorted by the other end. It takes memory for the

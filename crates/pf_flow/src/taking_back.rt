@@ -2,18 +2,18 @@
 
 ghost use Rattle.std.specs.Prelude.{◌≡◌, ◌≢◌, ◌<◌, ◌≤ℤ◌, ◌<ℤ◌, ◌+ℤ◌, ◌-ℤ◌, ℕ, pos, Some, OnOk, OnErr, IfOk, IfErr, length, map, slice_get};
 ghost use Rattle.pf_base.specs.declared.error.PathError.TheVariants.{OutOfMemory};
-ghost use Rattle.pf_flow.specs.declared.cancelling.arcs.Arc.{Arc};
-ghost use Rattle.pf_flow.specs.Flows.{Same};
-ghost use Rattle.pf_flow.specs.Networks.{Network, Agrees, KeepsCapacities, IsNetwork};
-ghost use Rattle.pf_flow.specs.Internal.Balances.{IsBalanced};
-ghost use Rattle.pf_flow.specs.Internal.Cancelling.{HasAmount};
-ghost use Rattle.pf_flow.specs.Internal.Settled.{HoldFlows, IsPlan, IsSettled, AreApart, AreFlowing, moved};
+ghost use Rattle.pf_residual.specs.declared.cancelling.arcs.Arc.{Arc};
+ghost use Rattle.pf_residual.specs.Flows.{Same};
+ghost use Rattle.pf_residual.specs.Networks.{Network, Agrees, KeepsCapacities, IsNetwork};
+ghost use Rattle.pf_residual.specs.Internal.Balances.{IsBalanced};
+ghost use Rattle.pf_residual.specs.Internal.Cancelling.{HasAmount};
+ghost use Rattle.pf_residual.specs.Internal.Settled.{HoldFlows, IsPlan, IsSettled, AreApart, AreFlowing, moved};
 
-use crate::cancelling::arcs::Arc;
-use crate::cancelling::cancel;
 use crate::listings::list_flows;
-use crate::store::FlowStore;
 use pf_base::{PathError, SignedCost};
+use pf_residual::cancelling::arcs::Arc;
+use pf_residual::cancelling::cancel;
+use pf_residual::store::FlowStore;
 use std::alloc::Allocator;
 
 /// Arcs, and for each its amount.

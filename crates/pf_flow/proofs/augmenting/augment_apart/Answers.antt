@@ -1,8 +1,8 @@
 use Rattle.std.proofs.Common.{◌∙◌}
 use Rattle.std.proofs.lemmas.Result.{IfOk-from_err}
-use Rattle.pf_flow.specs.Internal.Levels.{reached}
+use Rattle.pf_residual.specs.Internal.Levels.{reached}
 use Rattle.pf_flow.proofs.CutOfLevels.{cut_of_levels}
-use Rattle.pf_flow.proofs.NamedLemmas.{ok_gives, ok_when, refused_as}
+use Rattle.pf_residual.proofs.NamedLemmas.{ok_gives, ok_when, refused_as}
 use Rattle.pf_flow.proofs.augmenting.augment_apart.Goals as goal
 
 pub saturate-requires-clause-network : goal.saturate-requires-clause-network

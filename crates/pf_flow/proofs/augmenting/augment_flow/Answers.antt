@@ -1,10 +1,10 @@
 use Rattle.std.proofs.Common.{◌∙◌, sym, subst, arith}
 use Rattle.std.proofs.lemmas.Int.{ints}
-use Rattle.pf_flow.specs.Listings.{ListsFlows}
-use Rattle.pf_flow.proofs.AgreeLemmas.{capacities_kept}
-use Rattle.pf_flow.proofs.ChangeListings.{lists_none}
-use Rattle.pf_flow.proofs.NamedLemmas.{ok_gives}
-use Rattle.pf_flow.proofs.NetworkLemmas.{idle_total}
+use Rattle.pf_residual.specs.Listings.{ListsFlows}
+use Rattle.pf_residual.proofs.AgreeLemmas.{capacities_kept}
+use Rattle.pf_residual.proofs.ChangeListings.{lists_none}
+use Rattle.pf_residual.proofs.NamedLemmas.{ok_gives}
+use Rattle.pf_residual.proofs.NetworkLemmas.{idle_total}
 use Rattle.pf_flow.proofs.augmenting.augment_flow.Goals as goal
 
 pub returns-then-source-sink-clause-idle : goal.returns-then-source-sink-clause-idle

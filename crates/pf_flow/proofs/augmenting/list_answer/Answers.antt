@@ -2,10 +2,10 @@ use Rattle.std.proofs.Common.{◌∙◌, true≢false, ap, sym, subst, arith, �
 use Rattle.std.specs.Prelude.{slice_get}
 use Rattle.std.specs.List.{filter}
 use Rattle.std.proofs.lemmas.Result.{IfOk-from_err}
-use Rattle.pf_flow.specs.Listings.{ListsFlows, ListsCut}
-use Rattle.pf_flow.specs.Internal.Levels.{leaves, reached}
+use Rattle.pf_residual.specs.Listings.{ListsFlows, ListsCut}
+use Rattle.pf_residual.specs.Internal.Levels.{leaves, reached}
 use Rattle.pf_flow.proofs.CutOfLevels.{cut_of_levels}
-use Rattle.pf_flow.proofs.NamedLemmas.{refused_as}
+use Rattle.pf_residual.proofs.NamedLemmas.{refused_as}
 use Rattle.pf_flow.proofs.FilterLemmas.{cut_of_flows}
 use Rattle.pf_flow.proofs.augmenting.list_answer.Goals as goal
 

@@ -1,10 +1,10 @@
 use Rattle.std.proofs.Common.{◌≡◌, ◌≤◌, ◌+◌, ◌-◌, ◌*◌, length}
 use Rattle.std.specs.Prelude.{slice_index}
-use Rattle.pf_flow.specs.Flows.{pair_count}
-use Rattle.pf_flow.specs.Networks.{capacity, IsNetwork, KeepsCapacities}
-use Rattle.pf_flow.specs.Internal.AugmentingPaths.{potential}
-use Rattle.pf_flow.specs.Internal.Levels.{AreLevels}
-use Rattle.pf_flow.specs.Internal.Steps.{AreSteps}
+use Rattle.pf_residual.specs.Flows.{pair_count}
+use Rattle.pf_residual.specs.Networks.{capacity, IsNetwork, KeepsCapacities}
+use Rattle.pf_residual.specs.Internal.AugmentingPaths.{potential}
+use Rattle.pf_residual.specs.Internal.Levels.{AreLevels}
+use Rattle.pf_residual.specs.Internal.Steps.{AreSteps}
 use Rattle.pf_flow.proofs.augmenting.saturate.Given as goal
 
 -- the flow so far, the levels found for it, and no more ticks than the potential

@@ -1,8 +1,8 @@
 use Rattle.std.proofs.Common.{inl, subst}
 use Rattle.std.specs.Prelude.{IfErr, IfOk, OnOk}
 use Rattle.std.proofs.lemmas.Result.{IfOk-from_err}
-use Rattle.pf_flow.specs.NamedNetworks.{names_of, IsAnsweredFor, IsKnown, IsRefusedFor}
-use Rattle.pf_flow.proofs.NamedLemmas.{refused_as}
+use Rattle.pf_residual.specs.NamedNetworks.{names_of, IsAnsweredFor, IsKnown, IsRefusedFor}
+use Rattle.pf_residual.proofs.NamedLemmas.{refused_as}
 use Rattle.pf_flow.proofs.by_names.edmonds_karp.Goals as goal
 
 pub returns : goal.returns

@@ -1,7 +1,7 @@
 use Rattle.std.proofs.Common.{inl, inr}
 use Rattle.std.proofs.lemmas.Result.{IfOk-from_err}
-use Rattle.pf_flow.specs.NamedNetworks.{IsRefusedFor}
-use Rattle.pf_flow.proofs.NamedLemmas.{err_gives, ok_gives, ok_when, refused_as}
+use Rattle.pf_residual.specs.NamedNetworks.{IsRefusedFor}
+use Rattle.pf_residual.proofs.NamedLemmas.{err_gives, ok_gives, ok_when, refused_as}
 use Rattle.pf_flow.proofs.by_names.flows_among.Goals as goal
 
 pub flows_of-requires-clause-ends : goal.flows_of-requires-clause-ends

@@ -1,9 +1,9 @@
 use Rattle.std.proofs.Common.{◌∙◌, ◌<◌, inl, refl, sym, ap, subst, length}
 use Rattle.std.specs.List.{AllZip}
 use Rattle.std.proofs.lemmas.Result.{IfOk-from_err}
-use Rattle.pf_flow.specs.NamedNetworks.{IsNamed}
-use Rattle.pf_flow.proofs.FillLemmas.{network_of_unused}
-use Rattle.pf_flow.proofs.NamedLemmas.{answer_of, cut_inside, err_gives, flows_inside, ok_gives, refused_as}
+use Rattle.pf_residual.specs.NamedNetworks.{IsNamed}
+use Rattle.pf_residual.proofs.FillLemmas.{network_of_unused}
+use Rattle.pf_residual.proofs.NamedLemmas.{answer_of, cut_inside, err_gives, flows_inside, ok_gives, refused_as}
 use Rattle.pf_flow.proofs.by_names.flows_of.Goals as goal
 
 pub augment-requires : goal.augment-requires

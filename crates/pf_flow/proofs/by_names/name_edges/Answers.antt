@@ -3,9 +3,9 @@ use Rattle.std.specs.List.{AllZip}
 use Rattle.std.proofs.lemmas.List.{take_more}
 use Rattle.pf_core.proofs.ListLemmas.{at_place}
 use Rattle.pf_core.proofs.PathLemmas.{AllZip-append}
-use Rattle.pf_flow.specs.NamedNetworks.{IsNamed}
+use Rattle.pf_residual.specs.NamedNetworks.{IsNamed}
 use Rattle.std.proofs.lemmas.Result.{IfOk-from_err}
-use Rattle.pf_flow.proofs.NamedLemmas.{refused_by}
+use Rattle.pf_residual.proofs.NamedLemmas.{refused_by}
 use Rattle.pf_flow.proofs.by_names.name_edges.Goals as goal
 
 pub bounds-names-from : goal.bounds-names-from

@@ -1,6 +1,6 @@
 use Rattle.std.proofs.Common.{take}
 use Rattle.std.specs.List.{AllZip}
-use Rattle.pf_flow.specs.NamedNetworks.{IsNamed}
+use Rattle.pf_residual.specs.NamedNetworks.{IsNamed}
 use Rattle.pf_flow.proofs.by_names.name_edges.Given as goal
 
 abbrev pub invariant-numbered : goal.invariant-numbered

@@ -2,8 +2,8 @@ use Rattle.std.proofs.Common.{◌≡◌, ◌∙◌, ◌∷◌, ◌++◌, ◌+◌
 use Rattle.std.proofs.lemmas.List.{take_more}
 use Rattle.std.proofs.lemmas.List.Sums.{fold-append}
 use Rattle.indexmap.specs.IndexSet.{insert_key}
-use Rattle.pf_flow.specs.NamedNetworks.{names_of}
-use Rattle.pf_flow.proofs.NamedLemmas.{refused_by}
+use Rattle.pf_residual.specs.NamedNetworks.{names_of}
+use Rattle.pf_residual.proofs.NamedLemmas.{refused_by}
 use Rattle.std.proofs.lemmas.Result.{IfOk-from_err}
 use Rattle.pf_flow.proofs.by_names.names_among.Goals as goal
 

@@ -1,5 +1,5 @@
 use Rattle.std.proofs.Common.{◌≡◌, take}
-use Rattle.pf_flow.specs.NamedNetworks.{names_of}
+use Rattle.pf_residual.specs.NamedNetworks.{names_of}
 use Rattle.pf_flow.proofs.by_names.names_among.Given as goal
 
 abbrev pub invariant-vertices : goal.invariant-vertices

@@ -1,9 +1,9 @@
 use Rattle.std.proofs.Common.{◌≡◌, ◌⊎◌, inl, inr, List}
 use Rattle.pf_base.specs.declared.error.PathError.TheVariants.{OutOfMemory}
-use Rattle.pf_flow.specs.Networks.{HasCapacities}
+use Rattle.pf_residual.specs.Networks.{HasCapacities}
 use Rattle.std.proofs.lemmas.Result.{IfOk-from_err}
-use Rattle.pf_flow.proofs.NamedLemmas.{accepted_more, from_in, ok_so, put_accepted, put_given, put_refused, refused_as, to_in, both_ok, err_gives}
-use Rattle.pf_flow.specs.NamedNetworks.{given_capacities, IsEdgeRefused}
+use Rattle.pf_residual.proofs.NamedLemmas.{accepted_more, from_in, ok_so, put_accepted, put_given, put_refused, refused_as, to_in, both_ok, err_gives}
+use Rattle.pf_residual.specs.NamedNetworks.{given_capacities, IsEdgeRefused}
 use Rattle.pf_flow.proofs.by_names.put_edge.Goals as goal
 
 pub put_capacity-requires-clause-unused : goal.put_capacity-requires-clause-unused

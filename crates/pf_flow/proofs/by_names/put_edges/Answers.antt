@@ -1,10 +1,10 @@
 use Rattle.std.proofs.Common.{◌≡◌, ◌∙◌, ◌⊎◌, inl, inr, sym, ap, subst}
 use Rattle.std.proofs.lemmas.Result.{IfOk-from_err}
-use Rattle.pf_flow.proofs.AgreeLemmas.{capacities_kept, shape_more}
-use Rattle.pf_flow.proofs.NetworkLemmas.{none_sum}
-use Rattle.pf_flow.proofs.NamedLemmas.{refused_by, yields_more}
+use Rattle.pf_residual.proofs.AgreeLemmas.{capacities_kept, shape_more}
+use Rattle.pf_residual.proofs.NetworkLemmas.{none_sum}
+use Rattle.pf_residual.proofs.NamedLemmas.{refused_by, yields_more}
 use Rattle.pf_base.specs.declared.error.PathError.TheVariants.{OutOfMemory}
-use Rattle.pf_flow.specs.NamedNetworks.{AreEdgesRefused}
+use Rattle.pf_residual.specs.NamedNetworks.{AreEdgesRefused}
 use Rattle.pf_flow.proofs.by_names.put_edges.Goals as goal
 
 pub edges-init : goal.edges-init

@@ -1,7 +1,7 @@
 use Rattle.std.proofs.Common.{◌≡◌, pos}
-use Rattle.pf_flow.specs.Networks.{KeepsShape, HasCapacities, capacity_sum}
-use Rattle.pf_flow.specs.NamedNetworks.{given_capacities, AreAccepted}
-use Rattle.pf_flow.specs.Internal.Filling.{IsUnused}
+use Rattle.pf_residual.specs.Networks.{KeepsShape, HasCapacities, capacity_sum}
+use Rattle.pf_residual.specs.NamedNetworks.{given_capacities, AreAccepted}
+use Rattle.pf_residual.specs.Internal.Filling.{IsUnused}
 use Rattle.pf_flow.proofs.by_names.put_edges.Given as goal
 
 abbrev pub invariant-edges : goal.invariant-edges

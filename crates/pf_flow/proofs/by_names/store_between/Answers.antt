@@ -1,7 +1,7 @@
 use Rattle.std.proofs.Common.{◌∙◌, inl, inr}
 use Rattle.std.proofs.lemmas.Result.{IfOk-from_err}
-use Rattle.pf_flow.proofs.FillLemmas.{unused_of_fresh}
-use Rattle.pf_flow.proofs.NamedLemmas.{err_gives, ok_both, ok_gives, ok_when, refused_as}
+use Rattle.pf_residual.proofs.FillLemmas.{unused_of_fresh}
+use Rattle.pf_residual.proofs.NamedLemmas.{err_gives, ok_both, ok_gives, ok_when, refused_as}
 use Rattle.pf_flow.proofs.by_names.store_between.Goals as goal
 
 pub returns : goal.returns

@@ -1,6 +1,6 @@
 use Rattle.std.proofs.Common.{ℤ, arith, subst}
 use Rattle.std.proofs.lemmas.Int.{ints}
-use Rattle.pf_flow.proofs.NetworkLemmas.{balanced_of, capacity_fits}
+use Rattle.pf_residual.proofs.NetworkLemmas.{balanced_of, capacity_fits}
 use Rattle.pf_flow.proofs.changes.capacity_of.Goals as goal
 
 pub plus-requires : goal.plus-requires

@@ -2,11 +2,11 @@ use Rattle.std.proofs.Common.{◌≡◌, ◌∙◌, ◌<◌, ℤ, arith, inl, su
 use Rattle.std.specs.Prelude.{◌≤ℤ◌, ◌+ℤ◌}
 use Rattle.std.proofs.lemmas.Int.{ints}
 use Rattle.std.proofs.lemmas.Result.{IfOk-from_err, MatchResult-from_err}
-use Rattle.pf_flow.specs.Capacities.{IsChangeRefused}
-use Rattle.pf_flow.specs.Networks.{KeepsCapacities}
-use Rattle.pf_flow.proofs.AgreeLemmas.{agrees_itself, network_agrees, capacities_agrees, capacities_more}
-use Rattle.pf_flow.proofs.ChangeLemmas.{agrees_more, changed_after, same_sum}
-use Rattle.pf_flow.proofs.NamedLemmas.{refused_as}
+use Rattle.pf_residual.specs.Capacities.{IsChangeRefused}
+use Rattle.pf_residual.specs.Networks.{KeepsCapacities}
+use Rattle.pf_residual.proofs.AgreeLemmas.{agrees_itself, network_agrees, capacities_agrees, capacities_more}
+use Rattle.pf_residual.proofs.ChangeLemmas.{agrees_more, changed_after, same_sum}
+use Rattle.pf_residual.proofs.NamedLemmas.{refused_as}
 use Rattle.pf_flow.proofs.changes.change_capacity.Goals as goal
 
 total_falls : (n m k l : ℤ) → m ≡ n → k ≤ℤ m → l ≡ k → l ≤ℤ n

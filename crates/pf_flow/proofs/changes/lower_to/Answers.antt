@@ -1,9 +1,9 @@
 use Rattle.std.proofs.Common.{ℤ, ◌≡◌, ◌+ℤ◌, arith, pos, refl, subst}
 use Rattle.std.specs.Prelude.{◌-ℤ◌, ◌≤ℤ◌, ◌<ℤ◌}
 use Rattle.std.proofs.lemmas.Int.{ints}
-use Rattle.pf_flow.proofs.AgreeLemmas.{capacities_kept}
-use Rattle.pf_flow.proofs.NamedLemmas.{ok_so, ok_when}
-use Rattle.pf_flow.proofs.NetworkLemmas.{balanced_of, flow_fits}
+use Rattle.pf_residual.proofs.AgreeLemmas.{capacities_kept}
+use Rattle.pf_residual.proofs.NamedLemmas.{ok_so, ok_when}
+use Rattle.pf_residual.proofs.NetworkLemmas.{balanced_of, flow_fits}
 use Rattle.pf_flow.proofs.changes.lower_to.Goals as goal
 
 at_most_itself : (z : ℤ) → z ≤ℤ z

@@ -1,13 +1,13 @@
 use Rattle.std.proofs.Common.{◌≡◌, ◌∙◌, ◌+ℤ◌, ℤ, arith, pos, sym, ap, subst}
 use Rattle.std.specs.Prelude.{◌-ℤ◌, ◌≤ℤ◌, neg_ℤ}
 use Rattle.std.proofs.lemmas.Int.{ints}
-use Rattle.pf_flow.specs.Flows.{added, pair_sum}
-use Rattle.pf_flow.specs.Networks.{Network, capacity, with_residual, Agrees}
-use Rattle.pf_flow.proofs.AddedLemmas.{added_here}
-use Rattle.pf_flow.proofs.AgreeLemmas.{agreed, network_agrees, shape_agrees, capacities_agrees}
-use Rattle.pf_flow.proofs.ChangeLemmas.{raise, set_is, network_set, added_sum, replaced_sum, agrees_more}
-use Rattle.pf_flow.proofs.ChangeSums.{residual_sum}
-use Rattle.pf_flow.proofs.NetworkLemmas.{balanced_of, capacity_fits, residual_fits}
+use Rattle.pf_residual.specs.Flows.{added, pair_sum}
+use Rattle.pf_residual.specs.Networks.{Network, capacity, with_residual, Agrees}
+use Rattle.pf_residual.proofs.AddedLemmas.{added_here}
+use Rattle.pf_residual.proofs.AgreeLemmas.{agreed, network_agrees, shape_agrees, capacities_agrees}
+use Rattle.pf_residual.proofs.ChangeLemmas.{raise, set_is, network_set, added_sum, replaced_sum, agrees_more}
+use Rattle.pf_residual.proofs.ChangeSums.{residual_sum}
+use Rattle.pf_residual.proofs.NetworkLemmas.{balanced_of, capacity_fits, residual_fits}
 use Rattle.pf_flow.proofs.changes.settle_capacity.Goals as goal
 
 pub minus-requires : goal.minus-requires

@@ -1,9 +1,9 @@
 use Rattle.std.proofs.Common.{arith, subst}
 use Rattle.std.proofs.lemmas.Int.{ints}
 use Rattle.num_traits.specs.Laws.{Checks}
-use Rattle.pf_flow.specs.Networks.{capacity}
-use Rattle.pf_flow.proofs.ChangeLemmas.{replaced_sum}
-use Rattle.pf_flow.proofs.SumLemmas.{pair_sum_has}
+use Rattle.pf_residual.specs.Networks.{capacity}
+use Rattle.pf_residual.proofs.ChangeLemmas.{replaced_sum}
+use Rattle.pf_residual.proofs.SumLemmas.{pair_sum_has}
 use Rattle.pf_flow.proofs.changes.sum_after.Goals as goal
 
 pub exchanged-requires-clause-old : goal.exchanged-requires-clause-old

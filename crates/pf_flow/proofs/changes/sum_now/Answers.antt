@@ -1,6 +1,6 @@
 use Rattle.std.proofs.Common.{◌∙◌}
-use Rattle.pf_flow.proofs.ChangeSums.{residual_sum}
-use Rattle.pf_flow.proofs.NetworkLemmas.{balanced_of}
+use Rattle.pf_residual.proofs.ChangeSums.{residual_sum}
+use Rattle.pf_residual.proofs.NetworkLemmas.{balanced_of}
 use Rattle.pf_flow.proofs.changes.sum_now.Goals as goal
 
 pub returns-in-Some-clause-sum : goal.returns-in-Some-clause-sum

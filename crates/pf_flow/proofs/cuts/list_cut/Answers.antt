@@ -4,8 +4,8 @@ use Rattle.std.proofs.lemmas.Option.{slice_get_read}
 use Rattle.std.proofs.lemmas.List.Elements.{filter_more}
 use Rattle.std.proofs.lemmas.List.{append-nil}
 use Rattle.std.proofs.lemmas.Result.{IfOk-from_err}
-use Rattle.pf_flow.specs.Internal.Levels.{leaves}
-use Rattle.pf_flow.proofs.NamedLemmas.{refused_by}
+use Rattle.pf_residual.specs.Internal.Levels.{leaves}
+use Rattle.pf_residual.proofs.NamedLemmas.{refused_by}
 use Rattle.pf_flow.proofs.cuts.list_cut.Goals as goal
 use Rattle.pf_flow.proofs.cuts.list_cut.Goals.{then-leaves_reached+in_ok-push, else-leaves_reached}
 

@@ -1,6 +1,6 @@
 use Rattle.std.proofs.Common.{◌≡◌, take}
 use Rattle.std.specs.List.{filter}
-use Rattle.pf_flow.specs.Internal.Levels.{leaves}
+use Rattle.pf_residual.specs.Internal.Levels.{leaves}
 use Rattle.pf_flow.proofs.cuts.list_cut.Given as goal
 
 -- the flows so far that leave

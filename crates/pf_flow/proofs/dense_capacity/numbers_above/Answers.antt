@@ -1,10 +1,10 @@
 use Rattle.std.proofs.Common.{◌≡◌, ◌∙◌, sym, ap, subst, ◌<◌, ◌+◌, pos, arith}
 use Rattle.std.specs.Prelude.{◌<ℤ◌, ◌≤ℤ◌}
-use Rattle.pf_flow.specs.Listings.{ListsNumbers}
-use Rattle.pf_flow.specs.DenseStores.{table_number}
-use Rattle.pf_flow.proofs.DenseLemmas.{number_inside}
-use Rattle.pf_flow.proofs.StoreListings.{numbers_none, numbers_more, numbers_same}
-use Rattle.pf_flow.proofs.NamedLemmas.{refused_by}
+use Rattle.pf_residual.specs.Listings.{ListsNumbers}
+use Rattle.pf_residual.specs.DenseStores.{table_number}
+use Rattle.pf_residual.proofs.DenseLemmas.{number_inside}
+use Rattle.pf_residual.proofs.StoreListings.{numbers_none, numbers_more, numbers_same}
+use Rattle.pf_residual.proofs.NamedLemmas.{refused_by}
 use Rattle.std.proofs.lemmas.Result.{IfOk-from_err}
 use Rattle.pf_flow.proofs.dense_capacity.numbers_above.Goals.{then-is_below+in_ok-push, else-is_below}
 use Rattle.pf_flow.proofs.dense_capacity.numbers_above.Goals as goal

@@ -1,5 +1,5 @@
-use Rattle.pf_flow.specs.DenseStores.{table_number}
-use Rattle.pf_flow.specs.Listings.{ListsNumbers}
+use Rattle.pf_residual.specs.DenseStores.{table_number}
+use Rattle.pf_residual.specs.Listings.{ListsNumbers}
 use Rattle.pf_flow.proofs.dense_capacity.numbers_above.Given as goal
 
 abbrev pub invariant-loop-to : goal.invariant-loop-to

@@ -1,6 +1,6 @@
 use Rattle.std.specs.Prelude.{◌<ℤ◌, pos}
-use Rattle.pf_flow.specs.DenseStores.{table_number}
-use Rattle.pf_flow.specs.Listings.{ListsVertices}
+use Rattle.pf_residual.specs.DenseStores.{table_number}
+use Rattle.pf_residual.specs.Listings.{ListsVertices}
 use Rattle.pf_flow.proofs.dense_capacity.vertices_above.Given as goal
 
 abbrev pub invariant-loop-to : goal.invariant-loop-to

@@ -1,6 +1,6 @@
 use Rattle.std.proofs.Common.{◌≡◌, ℕ, ◌∙◌, ap, rules}
 use Rattle.pf_matrix.proofs.CallLemmas.{callable_at_positions, given_at_positions}
-use Rattle.pf_flow.proofs.DenseLemmas.{zeros}
+use Rattle.pf_residual.proofs.DenseLemmas.{zeros}
 use Rattle.pf_flow.proofs.dense_capacity.zero_table.Goals as goal
 
 pub from_fn-requires-clause-callable : goal.from_fn-requires-clause-callable

@@ -1,9 +1,9 @@
 use Rattle.std.proofs.Common.{◌≡◌, ◌≢◌, ◌∙◌, ◌⊎◌, inl, inr, sym, ap, subst, arith, ℕ, pos, Bool}
 use Rattle.std.proofs.lemmas.Bool.{cases_eq}
 use Rattle.std.proofs.lemmas.Int.{ints}
-use Rattle.pf_flow.specs.Flows.{PairTable, cut_capacity, IsLeastCut}
-use Rattle.pf_flow.specs.Networks.{Network, capacity, HasSameCapacities, HasCutOfTotal, HasTotalOfFlow}
-use Rattle.pf_flow.proofs.SumLemmas.{sum_none}
+use Rattle.pf_residual.specs.Flows.{PairTable, cut_capacity, IsLeastCut}
+use Rattle.pf_residual.specs.Networks.{Network, capacity, HasSameCapacities, HasCutOfTotal, HasTotalOfFlow}
+use Rattle.pf_residual.proofs.SumLemmas.{sum_none}
 use Rattle.pf_flow.proofs.laws.stores_report_one_total.Goals as goal
 
 -- the capacity of a least cut is one

@@ -1,8 +1,8 @@
 use Rattle.std.proofs.Common.{◌+◌, arith, get_or, sym, subst}
 use Rattle.std.proofs.lemmas.Option.{slice_get-get_or}
-use Rattle.pf_flow.specs.Internal.Prefixes.{ListsFlowsTo}
-use Rattle.pf_flow.proofs.ChangeListings.{flows_begin, flows_more, flows_end}
-use Rattle.pf_flow.proofs.NamedLemmas.{refused_by}
+use Rattle.pf_residual.specs.Internal.Prefixes.{ListsFlowsTo}
+use Rattle.pf_residual.proofs.ChangeListings.{flows_begin, flows_more, flows_end}
+use Rattle.pf_residual.proofs.NamedLemmas.{refused_by}
 use Rattle.std.proofs.lemmas.Result.{IfOk-from_err}
 use Rattle.pf_flow.proofs.listings.add_flows.Goals as goal
 

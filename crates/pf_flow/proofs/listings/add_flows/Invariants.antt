@@ -1,4 +1,4 @@
-use Rattle.pf_flow.specs.Internal.Prefixes.{ListsFlowsTo}
+use Rattle.pf_residual.specs.Internal.Prefixes.{ListsFlowsTo}
 use Rattle.pf_flow.proofs.listings.add_flows.Given as goal
 
 abbrev pub invariant-ends : goal.invariant-ends

@@ -1,10 +1,10 @@
 use Rattle.std.proofs.Common.{◌≤◌, List, ℕ, arith, sym, subst}
 use Rattle.std.proofs.lemmas.Result.{IfOk-from_err}
 use Rattle.std.specs.Prelude.{◌<ℤ◌, pos}
-use Rattle.pf_flow.specs.Listings.{ListsVertices}
-use Rattle.pf_flow.specs.Internal.Prefixes.{ListsFlowsBefore}
-use Rattle.pf_flow.proofs.ChangeListings.{lists_none, lists_same}
-use Rattle.pf_flow.proofs.NamedLemmas.{refused_as}
+use Rattle.pf_residual.specs.Listings.{ListsVertices}
+use Rattle.pf_residual.specs.Internal.Prefixes.{ListsFlowsBefore}
+use Rattle.pf_residual.proofs.ChangeListings.{lists_none, lists_same}
+use Rattle.pf_residual.proofs.NamedLemmas.{refused_as}
 use Rattle.pf_flow.proofs.listings.list_flows.Goals as goal
 
 pub rows-init : goal.rows-init

@@ -1,4 +1,4 @@
-use Rattle.pf_flow.specs.Internal.Prefixes.{ListsFlowsBefore}
+use Rattle.pf_residual.specs.Internal.Prefixes.{ListsFlowsBefore}
 use Rattle.pf_flow.proofs.listings.list_flows.Given as goal
 
 abbrev pub invariant-rows : goal.invariant-rows

@@ -1,7 +1,7 @@
 use Rattle.std.proofs.Common.{◌≡◌}
-use Rattle.pf_flow.specs.Networks.{capacity_sum}
-use Rattle.pf_flow.specs.Capacities.{square_table}
-use Rattle.pf_flow.specs.Internal.Filling.{IsFilledTo}
+use Rattle.pf_residual.specs.Networks.{capacity_sum}
+use Rattle.pf_residual.specs.Capacities.{square_table}
+use Rattle.pf_residual.specs.Internal.Filling.{IsFilledTo}
 use Rattle.pf_flow.proofs.makers.fill.Given as goal
 
 abbrev pub invariant-places : goal.invariant-places

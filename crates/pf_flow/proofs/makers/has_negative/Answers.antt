@@ -1,8 +1,8 @@
 use Rattle.std.proofs.Common.{◌∙◌, pos, arith, ap}
 use Rattle.std.specs.Prelude.{◌≤ℤ◌}
 use Rattle.std.proofs.lemmas.Int.{ints}
-use Rattle.pf_flow.specs.Capacities.{number}
-use Rattle.pf_flow.proofs.FillLemmas.{number_read, each_more}
+use Rattle.pf_residual.specs.Capacities.{number}
+use Rattle.pf_residual.proofs.FillLemmas.{number_read, each_more}
 use Rattle.pf_flow.proofs.makers.has_negative.Goals as goal
 
 pub returns-then-is_below : goal.returns-then-is_below

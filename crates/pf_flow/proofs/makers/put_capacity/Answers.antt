@@ -2,11 +2,11 @@ use Rattle.std.proofs.Common.{◌≡◌, ◌∙◌, ◌+ℤ◌, ℤ, pos, arith,
 use Rattle.std.specs.Prelude.{◌-ℤ◌, ◌≤ℤ◌, ◌<ℤ◌}
 use Rattle.std.proofs.lemmas.Int.{ints}
 use Rattle.std.proofs.lemmas.Result.{IfOk-from_err}
-use Rattle.pf_flow.specs.Capacities.{IsChangeRefused}
-use Rattle.pf_flow.specs.Networks.{Agrees, with_residual}
-use Rattle.pf_flow.proofs.SumLemmas.{pair_sum_has}
-use Rattle.pf_flow.proofs.FillLemmas.{unused_residual, residual_agrees, exchanged_sum, put_changed, put_sum, put_unused}
-use Rattle.pf_flow.proofs.NamedLemmas.{refused_as}
+use Rattle.pf_residual.specs.Capacities.{IsChangeRefused}
+use Rattle.pf_residual.specs.Networks.{Agrees, with_residual}
+use Rattle.pf_residual.proofs.SumLemmas.{pair_sum_has}
+use Rattle.pf_residual.proofs.FillLemmas.{unused_residual, residual_agrees, exchanged_sum, put_changed, put_sum, put_unused}
+use Rattle.pf_residual.proofs.NamedLemmas.{refused_as}
 use Rattle.pf_flow.proofs.makers.put_capacity.Goals as goal
 
 at_most : (a b c d : ℤ) → c ≤ℤ d → a ≡ c → b ≡ d → a ≤ℤ b

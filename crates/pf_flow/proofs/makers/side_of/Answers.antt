@@ -1,6 +1,6 @@
 use Rattle.std.proofs.Common.{ap}
 use Rattle.std.specs.Prelude.{pos}
-use Rattle.pf_flow.proofs.FillLemmas.{some_root}
+use Rattle.pf_residual.proofs.FillLemmas.{some_root}
 use Rattle.pf_flow.proofs.makers.side_of.Goals as goal
 
 pub unwrap-requires : goal.unwrap-requires

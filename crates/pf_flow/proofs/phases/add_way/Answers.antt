@@ -1,7 +1,7 @@
 use Rattle.std.proofs.Common.{◌<◌, ◌+◌, sym, subst, length, arith, take}
 use Rattle.std.specs.Prelude.{slice_index}
-use Rattle.pf_flow.specs.Internal.AugmentingPaths.{IsAugmentingPath, IsLevelPath}
-use Rattle.pf_flow.proofs.WayLemmas.{level_way, augmenting_way}
+use Rattle.pf_residual.specs.Internal.AugmentingPaths.{IsAugmentingPath, IsLevelPath}
+use Rattle.pf_residual.proofs.WayLemmas.{level_way, augmenting_way}
 use Rattle.pf_flow.proofs.phases.add_way.Goals as goal
 
 pub add_along-requires-clause-path : goal.add_along-requires-clause-path

@@ -1,12 +1,12 @@
 use Rattle.std.proofs.Common.{◌≡◌, ◌<◌, ◌≤◌, ◌+◌, ◌-◌, ◌∙◌, length, refl, ap, sym, subst, arith, List, ℕ}
 use Rattle.std.specs.Prelude.{slice_index}
-use Rattle.pf_flow.specs.Networks.{capacity}
-use Rattle.pf_flow.specs.Internal.AugmentingPaths.{IsLabelling, potential}
-use Rattle.pf_flow.specs.Internal.Steps.{AreSteps, IsSinkWay}
-use Rattle.pf_flow.proofs.AgreeLemmas.{capacities_more}
+use Rattle.pf_residual.specs.Networks.{capacity}
+use Rattle.pf_residual.specs.Internal.AugmentingPaths.{IsLabelling, potential}
+use Rattle.pf_residual.specs.Internal.Steps.{AreSteps, IsSinkWay}
+use Rattle.pf_residual.proofs.AgreeLemmas.{capacities_more}
 use Rattle.pf_flow.proofs.PhaseLemmas.{labelling_back, bound_more, bound_top}
-use Rattle.pf_flow.proofs.StepLemmas.{sink_above, sink_way}
-use Rattle.pf_flow.proofs.WayLemmas.{tree_of}
+use Rattle.pf_residual.proofs.StepLemmas.{sink_above, sink_way}
+use Rattle.pf_residual.proofs.WayLemmas.{tree_of}
 use Rattle.pf_flow.proofs.phases.augment_phase.Goals as goal
 
 fewer : (bound now next : ℕ) → next ≤ bound → now < next → bound - next < bound - now

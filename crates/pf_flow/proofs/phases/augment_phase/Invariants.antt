@@ -1,9 +1,9 @@
 use Rattle.std.proofs.Common.{◌≡◌, ◌≤◌, ◌<◌, ◌+◌, ◌-◌, ◌*◌}
 use Rattle.std.specs.Prelude.{slice_index}
-use Rattle.pf_flow.specs.Flows.{pair_count}
-use Rattle.pf_flow.specs.Networks.{capacity, IsNetwork, KeepsCapacities}
-use Rattle.pf_flow.specs.Internal.AugmentingPaths.{IsLabelling, potential}
-use Rattle.pf_flow.specs.Internal.Steps.{AreSteps}
+use Rattle.pf_residual.specs.Flows.{pair_count}
+use Rattle.pf_residual.specs.Networks.{capacity, IsNetwork, KeepsCapacities}
+use Rattle.pf_residual.specs.Internal.AugmentingPaths.{IsLabelling, potential}
+use Rattle.pf_residual.specs.Internal.Steps.{AreSteps}
 use Rattle.pf_flow.proofs.phases.augment_phase.Given as goal
 
 -- the flow so far, for which the levels are still levels, and no more ticks than their potential rose by

@@ -1,9 +1,9 @@
 use Rattle.std.proofs.Common.{◌+◌, ◌∙◌, ◌∷◌, ◌++◌, [], ℕ, length, ap, sym, subst, refl, arith}
 use Rattle.std.proofs.lemmas.List.{length_push}
-use Rattle.pf_flow.specs.SparseStores.{AreEmpty}
-use Rattle.pf_flow.proofs.SparseStoreLemmas.{empty_more}
+use Rattle.pf_residual.specs.SparseStores.{AreEmpty}
+use Rattle.pf_residual.proofs.SparseStoreLemmas.{empty_more}
 use Rattle.std.proofs.lemmas.Result.{IfOk-from_err}
-use Rattle.pf_flow.proofs.NamedLemmas.{refused_by}
+use Rattle.pf_residual.proofs.NamedLemmas.{refused_by}
 use Rattle.pf_flow.proofs.sparse_capacity.empty_rows.Goals as goal
 
 pub loop-init : goal.loop-init

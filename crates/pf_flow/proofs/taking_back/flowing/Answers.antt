@@ -1,10 +1,10 @@
 use Rattle.std.proofs.Common.{◌≡◌, ◌≤◌, ◌∙◌, ◌++◌, ◌∷◌, [], List, arith, length, take, map, ap, sym, subst, ℕ}
 use Rattle.std.proofs.lemmas.List.{take_all, take_more, map-append}
-use Rattle.pf_flow.specs.declared.cancelling.arcs.Arc.{Arc}
-use Rattle.pf_flow.specs.Internal.Settled.{arc_of, HoldFlows}
+use Rattle.pf_residual.specs.declared.cancelling.arcs.Arc.{Arc}
+use Rattle.pf_residual.specs.Internal.Settled.{arc_of, HoldFlows}
 use Rattle.pf_flow.proofs.TakeBackLemmas.{hold_flows}
 use Rattle.std.proofs.lemmas.Result.{IfOk-from_err}
-use Rattle.pf_flow.proofs.NamedLemmas.{refused_as, refused_by}
+use Rattle.pf_residual.proofs.NamedLemmas.{refused_as, refused_by}
 use Rattle.pf_flow.proofs.taking_back.flowing.Goals as goal
 
 pub returns-clause-flows : goal.returns-clause-flows

@@ -1,6 +1,6 @@
 use Rattle.std.proofs.Common.{◌≡◌, take, map}
 use Rattle.std.specs.Prelude.{ℕ}
-use Rattle.pf_flow.specs.Internal.Settled.{arc_of}
+use Rattle.pf_residual.specs.Internal.Settled.{arc_of}
 use Rattle.pf_flow.proofs.taking_back.flowing.Given as goal
 
 abbrev pub invariant-flows : goal.invariant-flows

@@ -1,11 +1,11 @@
 use Rattle.std.proofs.Common.{◌≡◌, ◌<◌, ℕ, ℤ, arith, pos, sym}
 use Rattle.std.specs.Prelude.{◌≤ℤ◌, ◌-ℤ◌}
 use Rattle.std.proofs.lemmas.Int.{ints}
-use Rattle.pf_flow.specs.Networks.{Network}
-use Rattle.pf_flow.specs.Internal.Balances.{IsBalanced}
-use Rattle.pf_flow.proofs.AgreeLemmas.{balanced_agrees, capacities_agrees, capacities_more}
+use Rattle.pf_residual.specs.Networks.{Network}
+use Rattle.pf_residual.specs.Internal.Balances.{IsBalanced}
+use Rattle.pf_residual.proofs.AgreeLemmas.{balanced_agrees, capacities_agrees, capacities_more}
 use Rattle.pf_flow.proofs.MoveLemmas.{capacity_moved, balanced_moved, move_fits_flow, move_fits_flow_back, move_fits_residual, move_fits_residual_back}
-use Rattle.pf_flow.proofs.NetworkLemmas.{flow_fits}
+use Rattle.pf_residual.proofs.NetworkLemmas.{flow_fits}
 use Rattle.pf_flow.proofs.TakeBackLemmas.{kept_move}
 use Rattle.pf_flow.proofs.taking_back.lower_flow.Goals as goal
 

@@ -1,5 +1,5 @@
-use Rattle.pf_flow.specs.Internal.Balances.{IsBalanced}
-use Rattle.pf_flow.specs.Internal.Settled.{IsSettled}
+use Rattle.pf_residual.specs.Internal.Balances.{IsBalanced}
+use Rattle.pf_residual.specs.Internal.Settled.{IsSettled}
 use Rattle.pf_flow.proofs.taking_back.lower_flows.Given as goal
 
 abbrev pub invariant-arcs : goal.invariant-arcs

@@ -1,6 +1,6 @@
 use Rattle.std.proofs.Common.{◌≡◌, ◌≤◌, ◌-◌, ℕ, Some, length}
 use Rattle.std.specs.Prelude.{slice_get}
-use Rattle.pf_flow.specs.declared.cancelling.arcs.Arc.{Arc}
+use Rattle.pf_residual.specs.declared.cancelling.arcs.Arc.{Arc}
 use Rattle.pf_flow.proofs.taking_back.number_of.Given as goal
 
 abbrev pub invariant-arcs : goal.invariant-arcs

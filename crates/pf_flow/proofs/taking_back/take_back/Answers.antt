@@ -4,9 +4,9 @@ use Rattle.std.proofs.lemmas.Int.{ints}
 use Rattle.std.proofs.lemmas.Option.{slice_get_within}
 use Rattle.std.proofs.lemmas.Result.{IfOk-from_err, MatchResult-from_err}
 use Rattle.pf_core.proofs.ListLemmas.{get-append, on_ok}
-use Rattle.pf_flow.specs.declared.cancelling.arcs.Arc.{Arc}
-use Rattle.pf_flow.proofs.AgreeLemmas.{agrees_itself}
-use Rattle.pf_flow.proofs.NamedLemmas.{refused_as, refused_by}
+use Rattle.pf_residual.specs.declared.cancelling.arcs.Arc.{Arc}
+use Rattle.pf_residual.proofs.AgreeLemmas.{agrees_itself}
+use Rattle.pf_residual.proofs.NamedLemmas.{refused_as, refused_by}
 use Rattle.pf_flow.proofs.TakeBackLemmas.{plan_of, amount_there}
 use Rattle.pf_flow.proofs.taking_back.take_back.Goals as goal
 

@@ -3,12 +3,12 @@ use Rattle.std.specs.Prelude.{slice_get, ◌≤ℤ◌, ◌+ℤ◌, ◌-ℤ◌}
 use Rattle.std.proofs.lemmas.Int.{ints}
 use Rattle.std.proofs.lemmas.Result.{IfOk-from_err, MatchResult-from_err}
 use Rattle.pf_core.proofs.ListLemmas.{at_place, get_take}
-use Rattle.pf_flow.specs.Internal.Cancelling.{AreInside}
-use Rattle.pf_flow.specs.Internal.Settled.{AreFlowing, IsSettled, AreApart}
-use Rattle.pf_flow.proofs.AgreeLemmas.{agrees_itself, capacities_agrees, capacities_more, network_agrees}
-use Rattle.pf_flow.proofs.NamedLemmas.{refused_as}
-use Rattle.pf_flow.proofs.NetworkLemmas.{balanced_of}
-use Rattle.pf_flow.proofs.SettledLemmas.{settled_here}
+use Rattle.pf_residual.specs.Internal.Cancelling.{AreInside}
+use Rattle.pf_residual.specs.Internal.Settled.{AreFlowing, IsSettled, AreApart}
+use Rattle.pf_residual.proofs.AgreeLemmas.{agrees_itself, capacities_agrees, capacities_more, network_agrees}
+use Rattle.pf_residual.proofs.NamedLemmas.{refused_as}
+use Rattle.pf_residual.proofs.NetworkLemmas.{balanced_of}
+use Rattle.pf_residual.proofs.SettledLemmas.{settled_here}
 use Rattle.pf_flow.proofs.TakeBackLemmas.{plan_flowing, plan_network}
 use Rattle.pf_flow.proofs.taking_back.take_back_by.Goals as goal
 

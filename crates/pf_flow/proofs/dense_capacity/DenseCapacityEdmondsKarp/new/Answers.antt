@@ -1,8 +1,8 @@
 use Rattle.std.proofs.Common.{◌∙◌, ap}
-use Rattle.pf_flow.proofs.NetworkLemmas.{network_of_fresh}
-use Rattle.pf_flow.proofs.DenseLemmas.{zero_fresh, zero_capacities}
+use Rattle.pf_residual.proofs.NetworkLemmas.{network_of_fresh}
+use Rattle.pf_residual.proofs.DenseLemmas.{zero_fresh, zero_capacities}
 use Rattle.std.proofs.lemmas.Result.{IfOk-from_err}
-use Rattle.pf_flow.proofs.NamedLemmas.{refused_as}
+use Rattle.pf_residual.proofs.NamedLemmas.{refused_as}
 use Rattle.pf_flow.proofs.dense_capacity.DenseCapacityEdmondsKarp.new.Goals as goal
 
 pub returns-clause-network : goal.returns-clause-network

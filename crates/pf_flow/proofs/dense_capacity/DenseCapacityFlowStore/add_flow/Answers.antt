@@ -1,11 +1,11 @@
 use Rattle.std.proofs.Common.{◌≡◌, ◌≢◌, ◌∙◌, ◌<◌, ◌+◌, ◌*◌, ◌+ℤ◌, ℕ, ℤ, neg_ℤ, sym, subst}
 use Rattle.std.specs.Prelude.{◌-ℤ◌}
 use Rattle.pf_matrix.specs.Tables.{Table, HasPosition}
-use Rattle.pf_flow.specs.Capacities.{number}
-use Rattle.pf_flow.specs.DenseStores.{IsSquare, IsTableChanged, table_number}
-use Rattle.pf_flow.specs.Internal.DenseLaws.{inside_of}
-use Rattle.pf_flow.proofs.AddedLemmas.{added_elsewhere}
-use Rattle.pf_flow.proofs.DenseLemmas.{flow_raised, number_inside, square_changed, table_added}
+use Rattle.pf_residual.specs.Capacities.{number}
+use Rattle.pf_residual.specs.DenseStores.{IsSquare, IsTableChanged, table_number}
+use Rattle.pf_residual.specs.Internal.DenseLaws.{inside_of}
+use Rattle.pf_residual.proofs.AddedLemmas.{added_elsewhere}
+use Rattle.pf_residual.proofs.DenseLemmas.{flow_raised, number_inside, square_changed, table_added}
 use Rattle.pf_flow.proofs.dense_capacity.DenseCapacityFlowStore.add_flow.Goals as goal
 
 -- both vertices are a position of a square

@@ -1,4 +1,4 @@
-use Rattle.pf_flow.proofs.DenseLemmas.{residual_raised}
+use Rattle.pf_residual.proofs.DenseLemmas.{residual_raised}
 use Rattle.pf_flow.proofs.dense_capacity.DenseCapacityFlowStore.add_residual_capacity.Goals as goal
 
 pub returns : goal.returns

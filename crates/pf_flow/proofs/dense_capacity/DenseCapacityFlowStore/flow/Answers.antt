@@ -1,5 +1,5 @@
 use Rattle.std.proofs.Common.{◌∙◌, sym}
-use Rattle.pf_flow.proofs.DenseLemmas.{number_inside}
+use Rattle.pf_residual.proofs.DenseLemmas.{number_inside}
 use Rattle.pf_flow.proofs.dense_capacity.DenseCapacityFlowStore.flow.Goals as goal
 
 pub returns : goal.returns

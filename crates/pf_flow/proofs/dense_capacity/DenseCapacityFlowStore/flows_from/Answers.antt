@@ -1,8 +1,8 @@
 use Rattle.std.proofs.Common.{subst, pos}
 use Rattle.std.specs.Prelude.{◌<ℤ◌}
 use Rattle.std.proofs.lemmas.Result.{IfOk-weaker}
-use Rattle.pf_flow.specs.Listings.{ListsVertices}
-use Rattle.pf_flow.specs.DenseStores.{table_number}
+use Rattle.pf_residual.specs.Listings.{ListsVertices}
+use Rattle.pf_residual.specs.DenseStores.{table_number}
 use Rattle.pf_flow.proofs.dense_capacity.DenseCapacityFlowStore.flows_from.Goals as goal
 
 pub returns-clause-listed : goal.returns-clause-listed

@@ -1,8 +1,8 @@
 use Rattle.std.proofs.Common.{◌∙◌, ◌*◌, ℕ, List, arith, inl, ap, length, subst, sym}
-use Rattle.pf_flow.specs.Capacities.{square_table, AreRefused}
-use Rattle.pf_flow.specs.Networks.{HasCapacities, IsFresh}
-use Rattle.pf_flow.proofs.FillLemmas.{fresh_kept, network_of_unused, unused_of_fresh}
-use Rattle.pf_flow.proofs.NamedLemmas.{refused_as}
+use Rattle.pf_residual.specs.Capacities.{square_table, AreRefused}
+use Rattle.pf_residual.specs.Networks.{HasCapacities, IsFresh}
+use Rattle.pf_residual.proofs.FillLemmas.{fresh_kept, network_of_unused, unused_of_fresh}
+use Rattle.pf_residual.proofs.NamedLemmas.{refused_as}
 use Rattle.pf_flow.proofs.edmonds_karp.EdmondsKarp.from_matrix.Goals as goal
 
 pub new-requires-clause-source : goal.new-requires-clause-source

@@ -1,8 +1,8 @@
 use Rattle.std.proofs.Common.{◌≡◌, ◌∙◌, ◌*◌, ℕ, inl, length, sym, ap, subst, IfErr}
-use Rattle.pf_flow.specs.Capacities.{square_table, AreRefused}
-use Rattle.pf_flow.specs.Networks.{HasCapacities, IsFresh}
-use Rattle.pf_flow.proofs.FillLemmas.{err_at_root, fresh_kept, network_of_unused, one_root, unused_of_fresh}
-use Rattle.pf_flow.proofs.NamedLemmas.{refused_as}
+use Rattle.pf_residual.specs.Capacities.{square_table, AreRefused}
+use Rattle.pf_residual.specs.Networks.{HasCapacities, IsFresh}
+use Rattle.pf_residual.proofs.FillLemmas.{err_at_root, fresh_kept, network_of_unused, one_root, unused_of_fresh}
+use Rattle.pf_residual.proofs.NamedLemmas.{refused_as}
 use Rattle.pf_flow.proofs.edmonds_karp.EdmondsKarp.from_vec.Goals as goal
 
 pub returns-in_err-fill-clause-refused : goal.returns-in_err-fill-clause-refused

@@ -1,7 +1,7 @@
 use Rattle.std.proofs.Common.{◌≤◌, length, arith}
 use Rattle.std.proofs.lemmas.Result.{IfOk-from_err}
-use Rattle.pf_flow.proofs.NamedLemmas.{refused_as}
-use Rattle.pf_flow.proofs.LevelLemmas.{levels_of}
+use Rattle.pf_residual.proofs.NamedLemmas.{refused_as}
+use Rattle.pf_residual.proofs.LevelLemmas.{levels_of}
 use Rattle.pf_flow.proofs.levels.Levels.find.Goals as goal
 
 pub loop-at-init : goal.loop-at-init

@@ -1,6 +1,6 @@
 use Rattle.std.proofs.Common.{◌-◌}
-use Rattle.pf_flow.specs.Internal.Levels.{HasFound}
-use Rattle.pf_flow.specs.Internal.Steps.{AreSteps}
+use Rattle.pf_residual.specs.Internal.Levels.{HasFound}
+use Rattle.pf_residual.specs.Internal.Steps.{AreSteps}
 use Rattle.pf_flow.proofs.levels.Levels.find.Given as goal
 
 abbrev pub invariant-loop-at : goal.invariant-loop-at

@@ -5,13 +5,13 @@ use Rattle.std.proofs.lemmas.List.{get_or_read}
 use Rattle.std.proofs.lemmas.Option.{slice_get_read, slice_get_within}
 use Rattle.std.proofs.lemmas.Result.{IfOk-from_err}
 use Rattle.std.proofs.Math.ListN.{get_or-append}
-use Rattle.pf_flow.specs.Networks.{Network}
-use Rattle.pf_flow.specs.Listings.{ListsNumbers}
-use Rattle.pf_flow.specs.Internal.Levels.{HasFound, Reaches}
-use Rattle.pf_flow.specs.Internal.Steps.{AreSteps}
-use Rattle.pf_flow.proofs.LevelListLemmas.{found_more, found_next, known_level, to_reached, levels_kept, from_kept}
+use Rattle.pf_residual.specs.Networks.{Network}
+use Rattle.pf_residual.specs.Listings.{ListsNumbers}
+use Rattle.pf_residual.specs.Internal.Levels.{HasFound, Reaches}
+use Rattle.pf_residual.specs.Internal.Steps.{AreSteps}
+use Rattle.pf_residual.proofs.LevelListLemmas.{found_more, found_next, known_level, to_reached, levels_kept, from_kept}
 use Rattle.pf_core.proofs.ListLemmas.{on_ok}
-use Rattle.pf_flow.proofs.NamedLemmas.{refused_as, ok_when}
+use Rattle.pf_residual.proofs.NamedLemmas.{refused_as, ok_when}
 use Rattle.pf_flow.proofs.levels.Levels.follow.Goals as goal
 
 module _ {C : Type 0} (N : Network) (at from level : ℕ) (ends : List (ℕ × C)) where

@@ -1,7 +1,7 @@
 use Rattle.std.proofs.Common.{◌≡◌, ◌<◌, ◌≤◌, ◌+◌, ℕ, length, Some}
 use Rattle.std.specs.Prelude.{slice_get, slice_index}
-use Rattle.pf_flow.specs.Internal.Levels.{HasFound}
-use Rattle.pf_flow.specs.Internal.Steps.{AreSteps}
+use Rattle.pf_residual.specs.Internal.Levels.{HasFound}
+use Rattle.pf_residual.specs.Internal.Steps.{AreSteps}
 use Rattle.pf_flow.proofs.levels.Levels.follow.Given as goal
 
 -- the search so far; the vertex is still at its place, and no end so far is more than one level above it

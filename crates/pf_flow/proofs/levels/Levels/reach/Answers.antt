@@ -1,5 +1,5 @@
 use Rattle.std.proofs.lemmas.Result.{IfOk-from_err}
-use Rattle.pf_flow.proofs.NamedLemmas.{refused_by}
+use Rattle.pf_residual.proofs.NamedLemmas.{refused_by}
 use Rattle.pf_flow.proofs.levels.Levels.reach.Goals as goal
 
 pub returns-in_err-push-clause-reached : goal.returns-in_err-push-clause-reached

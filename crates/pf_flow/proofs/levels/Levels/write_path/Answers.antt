@@ -2,7 +2,7 @@ use Rattle.std.proofs.Common.{◌≡◌, ◌≢◌, ◌∙◌, inl, inr, ◌<◌
 use Rattle.std.specs.Prelude.{slice_index, slice_set}
 use Rattle.std.proofs.lemmas.Bool.{cases_eq}
 use Rattle.std.proofs.lemmas.List.{get_or_read, get_or-set_same, get_or-set_other, length-set}
-use Rattle.pf_flow.specs.Internal.Levels.{IsTree, IsTreePath}
+use Rattle.pf_residual.specs.Internal.Levels.{IsTree, IsTreePath}
 use Rattle.pf_flow.proofs.levels.Levels.write_path.Goals as goal
 
 module _ (levels parents : List ℕ) (to : ℕ) (path : List ℕ) where

@@ -1,6 +1,6 @@
 use Rattle.std.proofs.Common.{◌≤◌}
 use Rattle.std.specs.Prelude.{slice_index}
-use Rattle.pf_flow.specs.Internal.Levels.{IsTreePath}
+use Rattle.pf_residual.specs.Internal.Levels.{IsTreePath}
 use Rattle.pf_flow.proofs.levels.Levels.write_path.Given as goal
 
 -- the way from the place on

@@ -1,9 +1,9 @@
 use Rattle.std.proofs.Common.{◌∙◌, ◌<◌, ap, subst, sym}
-use Rattle.pf_flow.proofs.NetworkLemmas.{network_of_fresh}
-use Rattle.pf_flow.proofs.SparseStoreLemmas.{empty_rows, empty_fresh, empty_capacities}
+use Rattle.pf_residual.proofs.NetworkLemmas.{network_of_fresh}
+use Rattle.pf_residual.proofs.SparseStoreLemmas.{empty_rows, empty_fresh, empty_capacities}
 use Rattle.std.proofs.lemmas.Option.{none-some}
 use Rattle.std.proofs.lemmas.Result.{IfOk-from_err}
-use Rattle.pf_flow.proofs.NamedLemmas.{refused_as}
+use Rattle.pf_residual.proofs.NamedLemmas.{refused_as}
 use Rattle.pf_flow.proofs.sparse_capacity.SparseCapacityEdmondsKarp.new.Goals as goal
 
 pub returns-clause-network : goal.returns-clause-network

@@ -2,9 +2,9 @@ use Rattle.std.proofs.Common.{◌≡◌, ◌∙◌, sym, ap, subst, true, arith,
 use Rattle.std.specs.Prelude.{◌+ℤ◌, ◌-ℤ◌}
 use Rattle.std.proofs.lemmas.List.{get_or_default, get_or-set_other, length-set}
 use Rattle.std.proofs.lemmas.Option.{none-some}
-use Rattle.pf_flow.specs.SparseRows.{ends, Rises, has_end, amount_to, row_at, IsRowChanged}
-use Rattle.pf_flow.specs.Internal.SparseLaws.{has_row}
-use Rattle.pf_flow.proofs.SparseStoreLemmas.{rows_kept, ends_set_at, flow_added}
+use Rattle.pf_residual.specs.SparseRows.{ends, Rises, has_end, amount_to, row_at, IsRowChanged}
+use Rattle.pf_residual.specs.Internal.SparseLaws.{has_row}
+use Rattle.pf_residual.proofs.SparseStoreLemmas.{rows_kept, ends_set_at, flow_added}
 use Rattle.pf_flow.proofs.sparse_capacity.SparseCapacityFlowStore.add_flow.Goals as goal
 
 pub returns : goal.returns

@@ -3,12 +3,12 @@ use Rattle.std.specs.Prelude.{if◌then◌else◌, nat_eq, ◌&&◌}
 use Rattle.std.proofs.lemmas.Int.{ints}
 use Rattle.std.proofs.lemmas.List.{get_or_default, length-set}
 use Rattle.std.proofs.lemmas.Option.{none-some}
-use Rattle.pf_flow.specs.Networks.{Agrees, with_residual}
-use Rattle.pf_flow.specs.SparseRows.{ends, Rises, has_end, amount_to, row_at, IsRowChanged}
-use Rattle.pf_flow.specs.SparseStores.{rows_network}
-use Rattle.pf_flow.specs.Internal.SparseLaws.{has_row}
-use Rattle.pf_flow.specs.declared.sparse_row.Edge.{Edge}
-use Rattle.pf_flow.proofs.SparseStoreLemmas.{rows_kept, ends_set_at, table_changed}
+use Rattle.pf_residual.specs.Networks.{Agrees, with_residual}
+use Rattle.pf_residual.specs.SparseRows.{ends, Rises, has_end, amount_to, row_at, IsRowChanged}
+use Rattle.pf_residual.specs.SparseStores.{rows_network}
+use Rattle.pf_residual.specs.Internal.SparseLaws.{has_row}
+use Rattle.pf_residual.specs.declared.sparse_row.Edge.{Edge}
+use Rattle.pf_residual.proofs.SparseStoreLemmas.{rows_kept, ends_set_at, table_changed}
 use Rattle.pf_flow.proofs.sparse_capacity.SparseCapacityFlowStore.add_residual_capacity.Goals as goal
 
 none_more : (t : Bool) (z : ℤ) → z ≡ (if t then z +ℤ pos 0 else z)

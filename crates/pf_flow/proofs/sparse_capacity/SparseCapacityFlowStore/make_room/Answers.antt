@@ -2,13 +2,13 @@ use Rattle.std.proofs.Common.{◌≡◌, refl, arith, ◌∙◌, sym, ap, subst,
 use Rattle.std.specs.Prelude.{◌<◌}
 use Rattle.std.proofs.lemmas.List.{get_or_default, get_or-set_other, length-set, set-get_or}
 use Rattle.std.proofs.lemmas.Option.{none-some}
-use Rattle.pf_flow.specs.Networks.{Agrees}
-use Rattle.pf_flow.specs.SparseRows.{ends, Rises, has_end, row_at, with_edge}
-use Rattle.pf_flow.specs.SparseStores.{AreRows, rows_network}
-use Rattle.pf_flow.specs.declared.sparse_row.Edge.{Edge}
+use Rattle.pf_residual.specs.Networks.{Agrees}
+use Rattle.pf_residual.specs.SparseRows.{ends, Rises, has_end, row_at, with_edge}
+use Rattle.pf_residual.specs.SparseStores.{AreRows, rows_network}
+use Rattle.pf_residual.specs.declared.sparse_row.Edge.{Edge}
 use Rattle.pf_flow.proofs.SparseRoom.{widened, widened_once, widened_twice, room_made, once_amount, fresh_back, inside_once, first_is, second_is, third_read, undone}
-use Rattle.pf_flow.proofs.SparseRowLemmas.{with_edge_rises, with_edge_has}
-use Rattle.pf_flow.proofs.SparseStoreLemmas.{rows_same}
+use Rattle.pf_residual.proofs.SparseRowLemmas.{with_edge_rises, with_edge_has}
+use Rattle.pf_residual.proofs.SparseStoreLemmas.{rows_same}
 use Rattle.pf_flow.proofs.sparse_capacity.SparseCapacityFlowStore.make_room.Goals as goal
 
 pub invariant_of-self-then-from-to : goal.invariant_of-self-then-from-to

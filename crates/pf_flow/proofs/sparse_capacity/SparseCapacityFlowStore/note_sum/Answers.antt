@@ -1,7 +1,7 @@
 use Rattle.std.proofs.Common.{◌∙◌, ap, sym}
 use Rattle.std.proofs.lemmas.Option.{same_Some}
-use Rattle.pf_flow.specs.SparseStores.{rows_network}
-use Rattle.pf_flow.proofs.AgreeLemmas.{agrees_itself}
+use Rattle.pf_residual.specs.SparseStores.{rows_network}
+use Rattle.pf_residual.proofs.AgreeLemmas.{agrees_itself}
 use Rattle.pf_flow.proofs.sparse_capacity.SparseCapacityFlowStore.note_sum.Goals as goal
 
 pub invariant_of-self : goal.invariant_of-self

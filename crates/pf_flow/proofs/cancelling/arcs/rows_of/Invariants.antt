@@ -1,9 +1,0 @@
-use Rattle.std.proofs.Common.{◌≡◌, take, length}
-use Rattle.pf_flow.specs.Internal.Cancelling.{AreRows}
-use Rattle.pf_flow.proofs.cancelling.arcs.rows_of.Given as goal
-
-abbrev pub invariant-arcs : goal.invariant-arcs
-invariant-arcs g l = record {
-  len : length l.rows.items ≡ l.size;
-  rows : AreRows (take l.number l.ends) l.rows.items;
-}

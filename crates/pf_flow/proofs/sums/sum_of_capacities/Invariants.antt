@@ -1,6 +1,0 @@
-use Rattle.std.proofs.Common.{◌≡◌}
-use Rattle.pf_flow.specs.Flows.{sum_to}
-use Rattle.pf_flow.proofs.sums.sum_of_capacities.Given as goal
-
-abbrev pub invariant-rows : goal.invariant-rows
-invariant-rows g l = g.C.Number.value l.sum ≡ sum_to (λ a. sum_to ((g.S.FlowStore.network l.store).residual a) (g.S.FlowStore.network l.store).vertices) l.from

@@ -1,0 +1,204 @@
+-- Steps between vertices, and the search by depth first for a way over them.
+use Rattle.std.proofs.Common.{◌≡◌, ◌≢◌, ◌∙◌, inl, inr, sym, ap, subst, ◌<◌, ◌≤◌, ◌+◌, ◌-◌, ℕ, suc, pos, arith, List, [], ◌∷◌, ◌++◌, length, replicate, length-append}
+use Rattle.std.specs.Prelude.{◌<ℤ◌, slice_index, slice_set}
+use Rattle.std.proofs.lemmas.Bool.{cases_eq}
+use Rattle.std.proofs.lemmas.List.{get_or-replicate, get_or-set_same, get_or-set_other, length-set, length-replicate}
+use Rattle.std.proofs.Math.ListN.{get_or-append}
+use Rattle.std.proofs.Math.Seq.{get_or-append_seam}
+use Rattle.pf_residual.specs.Networks.{Network}
+use Rattle.pf_residual.specs.Internal.Levels.{AreLevels, IsTreePath, IsWay}
+use Rattle.pf_residual.specs.Internal.Steps.{AreSteps, IsSinkWay, IsClimb, steps_left, work_left}
+use Rattle.pf_residual.proofs.LevelLemmas.{count_less}
+use Rattle.pf_residual.proofs.WayLemmas.{only_source, way_of_tree}
+
+-- no step from any vertex
+pub no_steps : {n : ℕ} {targets places ends : List ℕ} → targets ≡ [] → places ≡ replicate n 0 → ends ≡ replicate n 0 → AreSteps n targets places ends
+no_steps {n} {targets} {places} {ends} t p e = record {
+  places_len = ap length p ∙ length-replicate n 0;
+  ends_len = ap length e ∙ length-replicate n 0;
+  inside = λ k h. absurd (let l = ap length t in omega (arith, h, l));
+  within = λ a h. let z : slice_index ends a ≡ 0 = ap (λ xs. slice_index xs a) e ∙ get_or-replicate n a 0 0 h in omega (arith, z);
+}
+
+module _ {n : ℕ} {targets places ends : List ℕ} (w : AreSteps n targets places ends) where
+  -- the first place of a vertex is another
+  pub placed : (from place : ℕ) → AreSteps n targets (slice_set places from place) ends
+  placed from place = record {
+    places_len = length-set places from place ∙ w.places_len;
+    ends_len = w.ends_len;
+    inside = w.inside;
+    within = w.within;
+  }
+
+  -- a target more
+  pub targeted : (to : ℕ) → to < n → AreSteps n (targets ++ to ∷ []) places ends
+  targeted to i = record {
+    places_len = w.places_len;
+    ends_len = w.ends_len;
+    inside = λ k h. elim (cases_eq k (length targets)) as (λ _. slice_index (targets ++ to ∷ []) k < n) [
+      | inl e ↦ subst (λ v. v < n) (sym (ap (slice_index (targets ++ to ∷ [])) e ∙ get_or-append_seam targets to [] 0)) i
+      | inr e ↦ (let l : k < length targets = (let m = len_more in omega (arith, h, e, m)) in subst (λ v. v < n) (sym (get_or-append targets (to ∷ []) 0 k l)) (w.inside k l))
+    ];
+    within = λ a h. let b = w.within a h in let m = len_more in omega (arith, b, m);
+  }
+    where
+      len_more : length (targets ++ to ∷ []) ≡ suc (length targets)
+      len_more = grind (arith, length-append)
+
+  -- the end of the row of a vertex is another
+  pub ended : (from end : ℕ) → from < n → end ≤ length targets → AreSteps n targets places (slice_set ends from end)
+  ended from end i l = record {
+    places_len = w.places_len;
+    ends_len = length-set ends from end ∙ w.ends_len;
+    inside = w.inside;
+    within = λ a h. elim (cases_eq a from) as (λ _. slice_index (slice_set ends from end) a ≤ length targets) [
+      | inl e ↦ (let z : slice_index (slice_set ends from end) a ≡ end = ap (slice_index (slice_set ends from end)) e ∙ get_or-set_same ends from end 0 (let m = w.ends_len in omega (arith, i, m)) in omega (arith, z, l))
+      | inr e ↦ (let z : slice_index (slice_set ends from end) a ≡ slice_index ends a = get_or-set_other ends from a end 0 e in let b = w.within a h in omega (arith, z, b))
+    ];
+  }
+
+  -- where a step is passed, one less is left
+  pub passed : (from : ℕ) → from < n → slice_index places from < slice_index ends from → suc (steps_left n (slice_set places from (slice_index places from + 1)) ends) ≡ steps_left n places ends
+  passed from i l = count_less (λ a. slice_index ends a - slice_index places a) (λ a. slice_index ends a - slice_index (slice_set places from (slice_index places from + 1)) a) n from i
+      (let z : slice_index (slice_set places from (slice_index places from + 1)) from ≡ slice_index places from + 1 = get_or-set_same places from (slice_index places from + 1) 0 (let m = w.places_len in omega (arith, i, m)) in omega (arith, z, l))
+      (λ a h e. ap (λ p. slice_index ends a - p) (get_or-set_other places from a (slice_index places from + 1) 0 e))
+
+-- the search begins at the source
+pub climb_begun : {N : Network} {levels targets places ends : List ℕ} (path : List ℕ) → N.source < N.vertices → slice_index levels N.source ≡ 0 → 0 < slice_index levels N.sink → slice_index levels N.sink < N.vertices → length levels ≡ N.vertices → length path ≡ N.vertices → AreSteps N.vertices targets places ends → IsClimb N levels targets places ends (slice_set path 0 N.source) 0
+climb_begun {N} {levels} {targets} {places} {ends} path s z a r l m w = record {
+  way = record {
+    first = first;
+    inside = λ k h. subst (λ v. v < N.vertices) (sym (at k h)) s;
+    level = λ k h. ap (slice_index levels) (at k h) ∙ z ∙ sym (zero_of k h);
+    left = λ k h. absurd (omega (arith, h));
+  };
+  steps = w;
+  ahead = λ k h. absurd (omega (arith, h));
+  low = omega arith;
+  last = λ e. absurd (omega (arith, e, a));
+  reached = r;
+  levels_len = l;
+  path_len = length-set path 0 N.source ∙ m;
+}
+  where
+    first : slice_index (slice_set path 0 N.source) 0 ≡ N.source
+    first = get_or-set_same path 0 N.source 0 (omega (arith, m, s))
+
+    zero_of : (k : ℕ) → k ≤ 0 → k ≡ 0
+    zero_of k h = omega (arith, h)
+
+    at : (k : ℕ) → k ≤ 0 → slice_index (slice_set path 0 N.source) k ≡ N.source
+    at k h = ap (slice_index (slice_set path 0 N.source)) (zero_of k h) ∙ first
+
+module _ {N : Network} {levels targets places ends path : List ℕ} {depth : ℕ} (w : IsClimb N levels targets places ends path depth) where
+  -- vertices at two places of the way are two
+  apart : (j k : ℕ) → j ≤ depth → k ≤ depth → j ≢ k → slice_index path j ≢ slice_index path k
+  apart j k h m n e = n (sym (w.way.level j h) ∙ ap (slice_index levels) e ∙ w.way.level k m)
+
+  -- a step is passed at a place of the way, which ends there
+  module _ (from at : ℕ) (h : at ≤ depth) (l : at < slice_index levels N.sink) (e : from ≡ slice_index path at) (m : slice_index places from < slice_index ends from) where
+    pub climb_past : IsClimb N levels targets (slice_set places from (slice_index places from + 1)) ends path at
+    climb_past = record {
+      way = record {
+        first = w.way.first;
+        inside = λ k g. w.way.inside k (omega (arith, g, h));
+        level = λ k g. w.way.level k (omega (arith, g, h));
+        left = λ k g. w.way.left k (omega (arith, g, h));
+      };
+      steps = placed w.steps from (slice_index places from + 1);
+      ahead = λ k g.
+          let z : slice_index (slice_set places from (slice_index places from + 1)) (slice_index path k) ≡ slice_index places (slice_index path k) = get_or-set_other places from (slice_index path k) (slice_index places from + 1) 0 (λ q. apart k at (omega (arith, g, h)) h (omega (arith, g)) (q ∙ e)) in
+          let a = w.ahead k (omega (arith, g, h)) in
+          omega (arith, z, a);
+      low = omega (arith, l);
+      last = λ q. absurd (omega (arith, q, l));
+      reached = w.reached;
+      levels_len = w.levels_len;
+      path_len = w.path_len;
+    }
+
+    pub work_past : depth ≤ at + 1 → work_left N levels (slice_set places from (slice_index places from + 1)) ends at < work_left N levels places ends depth
+    work_past k =
+        let i : from < N.vertices = subst (λ v. v < N.vertices) (sym e) (w.way.inside at h) in
+        let s = passed w.steps from i m in
+        let b = w.low in
+        omega (arith, s, b, k, h, l)
+
+    -- the same of the lists that are made so
+    module _ {after rows tops : List ℕ} (t : after ≡ targets) (p : rows ≡ slice_set places from (slice_index places from + 1)) (q : tops ≡ ends) where
+      pub climb_passed : IsClimb N levels after rows tops path at
+      climb_passed =
+          subst (λ xs. IsClimb N levels xs rows tops path at) (sym t)
+          (subst (λ xs. IsClimb N levels targets xs tops path at) (sym p)
+          (subst (λ xs. IsClimb N levels targets (slice_set places from (slice_index places from + 1)) xs path at) (sym q) climb_past))
+
+      pub work_passed : depth ≤ at + 1 → work_left N levels rows tops at < work_left N levels places ends depth
+      work_passed k =
+          subst (λ xs. work_left N levels xs tops at < work_left N levels places ends depth) (sym p)
+          (subst (λ xs. work_left N levels (slice_set places from (slice_index places from + 1)) xs at < work_left N levels places ends depth) (sym q) (work_past k))
+
+  -- one level up
+  module _ (to : ℕ) (i : to < N.vertices) (h : depth < slice_index levels N.sink) (e : slice_index levels to ≡ depth + 1) (r : pos 0 <ℤ N.residual (slice_index path depth) to) (z : depth + 1 ≡ slice_index levels N.sink → to ≡ N.sink) (m : slice_index places (slice_index path depth) < slice_index ends (slice_index path depth)) where
+    abbrev up : List ℕ
+    up = slice_set path (depth + 1) to
+
+    top : slice_index up (depth + 1) ≡ to
+    top = get_or-set_same path (depth + 1) to 0 (let b = w.reached in let l = w.path_len in omega (arith, h, b, l))
+
+    below : (k : ℕ) → k ≤ depth → slice_index up k ≡ slice_index path k
+    below k g = get_or-set_other path (depth + 1) k to 0 (λ q. omega (arith, q, g))
+
+    or_top : (P : ℕ → ℕ → Type 0) → ((k : ℕ) → k ≤ depth → P k (slice_index path k)) → P (depth + 1) to → (k : ℕ) → k ≤ depth + 1 → P k (slice_index up k)
+    or_top P low high k g = elim (cases_eq k (depth + 1)) as (λ _. P k (slice_index up k)) [
+      | inl q ↦ subst (λ k. P k (slice_index up k)) (sym q) (subst (P (depth + 1)) (sym top) high)
+      | inr q ↦ (let l : k ≤ depth = omega (arith, g, q) in subst (P k) (sym (below k l)) (low k l))
+    ]
+
+    pub climb_up : IsClimb N levels targets places ends (slice_set path (depth + 1) to) (depth + 1)
+    climb_up = record {
+      way = record {
+        first = below 0 (omega arith) ∙ w.way.first;
+        inside = or_top (λ k v. v < N.vertices) w.way.inside i;
+        level = or_top (λ k v. slice_index levels v ≡ k) w.way.level e;
+        left = λ k g. elim (cases_eq k depth) as (λ _. pos 0 <ℤ N.residual (slice_index up k) (slice_index up (k + 1))) [
+          | inl q ↦ subst (λ k. pos 0 <ℤ N.residual (slice_index up k) (slice_index up (k + 1))) (sym q)
+              (subst (λ v. pos 0 <ℤ N.residual v (slice_index up (depth + 1))) (sym (below depth (omega arith)))
+              (subst (λ v. pos 0 <ℤ N.residual (slice_index path depth) v) (sym top) r))
+          | inr q ↦ (let l : k < depth = omega (arith, g, q) in
+              subst (λ v. pos 0 <ℤ N.residual v (slice_index up (k + 1))) (sym (below k (omega (arith, l))))
+              (subst (λ v. pos 0 <ℤ N.residual (slice_index path k) v) (sym (below (k + 1) (omega (arith, l)))) (w.way.left k l)))
+        ];
+      };
+      steps = w.steps;
+      ahead = λ k g. subst (λ v. slice_index places v < slice_index ends v) (sym (below k (omega (arith, g)))) (elim (cases_eq k depth) as (λ _. slice_index places (slice_index path k) < slice_index ends (slice_index path k)) [
+        | inl q ↦ subst (λ k. slice_index places (slice_index path k) < slice_index ends (slice_index path k)) (sym q) m
+        | inr q ↦ w.ahead k (omega (arith, g, q))
+      ]);
+      low = omega (arith, h);
+      last = λ q. top ∙ z q;
+      reached = w.reached;
+      levels_len = w.levels_len;
+      path_len = length-set path (depth + 1) to ∙ w.path_len;
+    }
+
+  -- the way that was found
+  pub climbed : slice_index levels N.sink ≤ depth → IsSinkWay N (slice_index levels) path
+  climbed h =
+      let e : depth ≡ slice_index levels N.sink = (let l = w.low in omega (arith, h, l)) in
+      record {
+        way = subst (IsWay N (slice_index levels) path) e w.way;
+        last = subst (λ k. slice_index path k ≡ N.sink) e (w.last e);
+      }
+
+-- a sink that is not the source is above it
+pub sink_above : {N : Network} {d parent : ℕ → ℕ} → AreLevels N d parent → d N.sink < N.vertices → N.sink < N.vertices → N.source ≢ N.sink → 0 < d N.sink
+sink_above {N} {d} w r i n = elim (cases_eq (d N.sink) 0) as (λ _. 0 < d N.sink) [
+  | inl e ↦ absurd (n (sym (only_source w.parents N.sink i r e)))
+  | inr e ↦ omega (arith, e)
+]
+
+-- the way by which the sink was reached
+pub sink_way : {N : Network} {levels parents path : List ℕ} → AreLevels N (slice_index levels) (slice_index parents) → slice_index levels N.sink < N.vertices → length levels ≡ N.vertices → length parents ≡ N.vertices → (to : ℕ) → to ≡ N.sink → IsTreePath levels parents to path 0 → IsSinkWay N (slice_index levels) path
+sink_way {N} {levels} {parents} {path} w r l p to e t =
+    let s = subst (λ v. IsTreePath levels parents v path 0) e t in
+    record { way = way_of_tree w l p N.sink r s; last = s.last }

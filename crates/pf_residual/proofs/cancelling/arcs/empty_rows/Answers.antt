@@ -1,0 +1,31 @@
+use Rattle.std.proofs.Common.{◌≡◌, ◌+◌, ◌∙◌, ◌∷◌, [], ℕ, List, Some, Vec, slice_get, sym, ap, subst, length}
+use Rattle.std.proofs.lemmas.List.{length-append}
+use Rattle.pf_residual.specs.Internal.Cancelling.{Has}
+use Rattle.pf_residual.proofs.SearchLemmas.{rows_none}
+use Rattle.std.proofs.lemmas.Result.{IfOk-from_err}
+use Rattle.pf_residual.proofs.NamedLemmas.{refused_by}
+use Rattle.pf_residual.proofs.cancelling.arcs.empty_rows.Goals as goal
+
+pub rows-preserved : goal.rows-preserved
+rows-preserved g c = record {
+  len = ap length c.in_ok-push.ensures.items ∙ length-append c.rows.rows.items (c.new.result ∷ []) ∙ ap (λ (n : ℕ). n + 1) c.rows.invariant.len;
+  empty = subst (λ (rows : List (Vec ℕ g.row.A.Denot)). (b k : ℕ) (row : Vec ℕ g.row.A.Denot) → slice_get rows b ≡ Some row → ¬ (Has row.items k)) (sym c.in_ok-push.ensures.items) (rows_none c.rows.rows.items c.new.result c.new.ensures.items c.rows.invariant.empty);
+}
+
+pub returns-in_err-rows-clause-len : goal.returns-in_err-rows-clause-len
+returns-in_err-rows-clause-len g c = IfOk-from_err _ _ c.from_residual.ensures.0
+
+pub returns-in_err-rows-clause-empty : goal.returns-in_err-rows-clause-empty
+returns-in_err-rows-clause-empty g c = IfOk-from_err _ _ c.from_residual.ensures.0
+
+pub returns-in_err-rows-clause-refused : goal.returns-in_err-rows-clause-refused
+returns-in_err-rows-clause-refused g c = refused_by _ _ c.from_residual.result (λ e h. h) c.from_residual.ensures.1
+
+pub returns-in_err-push-clause-len : goal.returns-in_err-push-clause-len
+returns-in_err-push-clause-len g c = IfOk-from_err _ _ c.from_residual-in_err-push.ensures.0
+
+pub returns-in_err-push-clause-empty : goal.returns-in_err-push-clause-empty
+returns-in_err-push-clause-empty g c = IfOk-from_err _ _ c.from_residual-in_err-push.ensures.0
+
+pub returns-in_err-push-clause-refused : goal.returns-in_err-push-clause-refused
+returns-in_err-push-clause-refused g c = refused_by _ _ c.from_residual-in_err-push.result (λ e h. h) c.from_residual-in_err-push.ensures.1

@@ -1,0 +1,115 @@
+use Rattle.std.proofs.Common.{◌-◌, ℕ, refl, sym, subst, arith}
+use Rattle.std.specs.Prelude.{slice_index}
+use Rattle.pf_residual.specs.Internal.Steps.{AreSteps}
+use Rattle.pf_residual.proofs.StepLemmas.{climb_up, climb_passed, work_passed}
+use Rattle.pf_residual.proofs.ways.go_on.Goals as goal
+
+pub returns-then-is_open-clause-climb : goal.returns-then-is_open-clause-climb
+returns-then-is_open-clause-climb g c =
+    let r = c.requires in
+    let e = c.is_open.ensures in
+    let q = c.if-is_open.true in
+    let i = c.in-Some.ensures.inside in
+    let l = r.climb.steps.places_len in
+    climb_up r.climb c.in-Some.to (omega (arith, i, l)) r.below (e.level q) (e.left q) (e.last q) c.in-Some.ensures.left
+
+pub returns-then-is_open-clause-less : goal.returns-then-is_open-clause-less
+returns-then-is_open-clause-less g c = let b = c.requires.below in omega (arith, b)
+
+pub returns-then-is_open-clause-steps : goal.returns-then-is_open-clause-steps
+returns-then-is_open-clause-steps g c = c.requires.climb.steps
+
+pub returns-in-Some-clause-climb : goal.returns-in-Some-clause-climb
+returns-in-Some-clause-climb g c =
+    let r = c.requires in
+    let p = c.pass_step.ensures in
+    climb_passed r.climb (slice_index c.args.path.now c.args.depth) c.args.depth (omega arith) r.below refl c.in-Some.ensures.left p.targets p.places p.ends
+
+pub returns-in-Some-clause-less : goal.returns-in-Some-clause-less
+returns-in-Some-clause-less g c =
+    let r = c.requires in
+    let p = c.pass_step.ensures in
+    work_passed r.climb (slice_index c.args.path.now c.args.depth) c.args.depth (omega arith) r.below refl c.in-Some.ensures.left p.targets p.places p.ends (omega arith)
+
+pub returns-in-Some-clause-steps : goal.returns-in-Some-clause-steps
+returns-in-Some-clause-steps g c =
+    let r = c.requires in
+    let p = c.pass_step.ensures in
+    (climb_passed r.climb (slice_index c.args.path.now c.args.depth) c.args.depth (omega arith) r.below refl c.in-Some.ensures.left p.targets p.places p.ends).steps
+
+pub pass_step-requires-clause-left : goal.pass_step-requires-clause-left
+pass_step-requires-clause-left g c = c.in-Some.ensures.left
+
+pub returns-then-depth-eq0-clause-steps : goal.returns-then-depth-eq0-clause-steps
+returns-then-depth-eq0-clause-steps g c = c.requires.climb.steps
+
+pub pass_step-requires-2-clause-left : goal.pass_step-requires-2-clause-left
+pass_step-requires-2-clause-left g c =
+    let n = c.if-depth-eq0.false in
+    c.requires.climb.ahead (c.args.depth - 1) (omega (arith, n))
+
+pub returns-clause-climb : goal.returns-clause-climb
+returns-clause-climb g c =
+    let r = c.requires in
+    let n = c.if-depth-eq0.false in
+    let b = r.below in
+    let p = c.pass_step-2.ensures in
+    climb_passed r.climb (slice_index c.args.path.now (c.args.depth - 1)) (c.args.depth - 1) (omega arith) (omega (arith, b)) refl (r.climb.ahead (c.args.depth - 1) (omega (arith, n))) p.targets p.places p.ends
+
+pub returns-clause-less : goal.returns-clause-less
+returns-clause-less g c =
+    let r = c.requires in
+    let n = c.if-depth-eq0.false in
+    let b = r.below in
+    let p = c.pass_step-2.ensures in
+    work_passed r.climb (slice_index c.args.path.now (c.args.depth - 1)) (c.args.depth - 1) (omega arith) (omega (arith, b)) refl (r.climb.ahead (c.args.depth - 1) (omega (arith, n))) p.targets p.places p.ends (omega arith)
+
+pub returns-clause-steps : goal.returns-clause-steps
+returns-clause-steps g c =
+    let r = c.requires in
+    let n = c.if-depth-eq0.false in
+    let b = r.below in
+    let p = c.pass_step-2.ensures in
+    (climb_passed r.climb (slice_index c.args.path.now (c.args.depth - 1)) (c.args.depth - 1) (omega arith) (omega (arith, b)) refl (r.climb.ahead (c.args.depth - 1) (omega (arith, n))) p.targets p.places p.ends).steps
+
+pub step_from-requires-clause-steps : goal.step_from-requires-clause-steps
+step_from-requires-clause-steps g c =
+    let steps = c.args.steps.now in
+    let w = c.requires.climb.steps in
+    subst (λ (n : ℕ). AreSteps n steps.targets.items steps.places.items steps.ends.items) (sym w.places_len) w
+
+pub step_from-requires-clause-from : goal.step_from-requires-clause-from
+step_from-requires-clause-from g c =
+    let inside = c.requires.climb.way.inside c.args.depth (omega arith) in
+    omega (arith, inside, c.requires.climb.steps.places_len)
+
+pub pass_step-requires-clause-steps : goal.pass_step-requires-clause-steps
+pass_step-requires-clause-steps g c =
+    let steps = c.args.steps.now in
+    let w = c.requires.climb.steps in
+    subst (λ (n : ℕ). AreSteps n steps.targets.items steps.places.items steps.ends.items) (sym w.places_len) w
+
+pub pass_step-requires-clause-from : goal.pass_step-requires-clause-from
+pass_step-requires-clause-from g c =
+    let inside = c.requires.climb.way.inside c.args.depth (omega arith) in
+    omega (arith, inside, c.requires.climb.steps.places_len)
+
+pub pass_step-requires-2-clause-steps : goal.pass_step-requires-2-clause-steps
+pass_step-requires-2-clause-steps g c =
+    let steps = c.args.steps.now in
+    let w = c.requires.climb.steps in
+    subst (λ (n : ℕ). AreSteps n steps.targets.items steps.places.items steps.ends.items) (sym w.places_len) w
+
+pub pass_step-requires-2-clause-from : goal.pass_step-requires-2-clause-from
+pass_step-requires-2-clause-from g c =
+    let inside = c.requires.climb.way.inside (c.args.depth - 1) (omega arith) in
+    omega (arith, inside, c.requires.climb.steps.places_len)
+
+pub is_open-requires-clause-levels_len : goal.is_open-requires-clause-levels_len
+is_open-requires-clause-levels_len g c = c.requires.climb.levels_len
+
+pub is_open-requires-clause-from : goal.is_open-requires-clause-from
+is_open-requires-clause-from g c = c.requires.climb.way.inside c.args.depth (omega arith)
+
+pub is_open-requires-clause-to : goal.is_open-requires-clause-to
+is_open-requires-clause-to g c = omega (arith, c.in-Some.ensures.inside, c.requires.climb.steps.places_len)

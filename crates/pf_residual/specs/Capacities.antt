@@ -1,0 +1,34 @@
+-- Capacities that are handed in, and when they are refused.
+use Rattle.std.specs.Prelude.{◌≡◌, ◌≤ℤ◌, ◌<ℤ◌, ◌<◌, ◌+◌, ◌*◌, ◌⊎◌, ℕ, ℤ, zero, suc, pos, List, [], ◌∷◌}
+use Rattle.pf_base.specs.declared.error.PathError.{PathError}
+use Rattle.pf_base.specs.declared.error.PathError.TheVariants.{OutOfMemory, CostOverflow, NegativeCapacity}
+use Rattle.pf_residual.specs.Flows.{PairTable, pair_sum, replaced, IsNonNegative}
+use Rattle.pf_residual.specs.Networks.{Network, capacity}
+
+-- the number of the value at k, or 0 where there is none
+abbrev pub number : {C : Type 0} → (C → ℤ) → List C → ℕ → ℤ
+number value [] k = pos 0
+number value (x ∷ xs) zero = value x
+number value (x ∷ xs) (suc k) = number value xs k
+
+-- the numbers of a square's values by rows, the first row first
+abbrev pub square_table : {C : Type 0} → (C → ℤ) → ℕ → List C → PairTable
+square_table value n values a b = number value values (a * n + b)
+
+-- some number of the table is below 0
+abbrev pub HasNegative : ℕ → PairTable → Type 0
+HasNegative n t = (a : ℕ) × (b : ℕ) × (a < n) × (b < n) × (t a b <ℤ pos 0)
+
+-- why such capacities are refused: for memory, for one below 0, or else for their sum, which does not fit
+abbrev pub AreRefused : (ℤ → Type 0) → ℕ → PairTable → PathError → Type 0
+AreRefused fits n t e =
+    (e ≡ OutOfMemory)
+    ⊎ ((e ≡ NegativeCapacity) × HasNegative n t)
+    ⊎ ((e ≡ CostOverflow) × IsNonNegative n t × (¬ (fits (pair_sum n t))))
+
+-- why this capacity of a pair is refused: for memory, because it is below 0, or else for the sum of all capacities after the change, which does not fit
+abbrev pub IsChangeRefused : (ℤ → Type 0) → Network → ℕ → ℕ → ℤ → PathError → Type 0
+IsChangeRefused fits N from to c e =
+    (e ≡ OutOfMemory)
+    ⊎ ((e ≡ NegativeCapacity) × (c <ℤ pos 0))
+    ⊎ ((e ≡ CostOverflow) × (pos 0 ≤ℤ c) × (¬ (fits (pair_sum N.vertices (replaced (capacity N) from to c)))))

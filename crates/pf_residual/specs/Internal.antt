@@ -1,0 +1,11 @@
+pub mod Balances
+pub mod Cancelling
+pub mod Prefixes
+pub mod AugmentingPaths
+pub mod Levels
+pub mod SparseLaws
+pub mod DenseLaws
+pub mod Settled
+pub mod PartSums
+pub mod Filling
+pub mod Steps

@@ -1,0 +1,9 @@
+pub mod Flows
+pub mod Networks
+pub mod Listings
+pub mod Capacities
+pub mod Internal
+pub mod SparseRows
+pub mod SparseStores
+pub mod DenseStores
+pub mod NamedNetworks

@@ -1,0 +1,49 @@
+//! Flow that is added along a path.
+
+ghost use Rattle.std.specs.Prelude.{◌≡◌, ◌<◌, ◌+◌, ◌<ℤ◌, ◌≤ℤ◌, ℕ, pos, length, slice_index};
+ghost use Rattle.pf_residual.specs.Networks.{Network, capacity, IsNetwork, KeepsCapacities};
+ghost use Rattle.pf_residual.specs.Internal.AugmentingPaths.{IsAugmentingPath, IsLabelling, IsLevelPath, potential};
+
+use crate::numbers::{is_below, plus};
+use crate::store::FlowStore;
+use pf_base::SignedCost;
+
+/// The least residual capacity along a path.
+fn least_residual<C, S>(store: &S, path: &[usize]) -> C
+where
+    C: SignedCost,
+    S: FlowStore<C>,
+    requires { IsAugmentingPath (S.network store.now) path.now }
+    ensures least { (k : ℕ) → k + 1 < length path.now → C.value result ≤ℤ (S.network store.now).residual (slice_index path.now k) (slice_index path.now (k + 1)) }
+    ensures reached { (k : ℕ) × (k + 1 < length path.now) × (C.value result ≡ (S.network store.now).residual (slice_index path.now k) (slice_index path.now (k + 1))) }
+{
+    let mut least = store.residual_capacity(path[0], path[1]);
+    for place in 1..path.len() - 1 {
+        let here = store.residual_capacity(path[place], path[place + 1]);
+        if is_below(here, least) {
+            least = here;
+        }
+    }
+    least
+}
+
+/// Adds as much flow along a path from the source to the sink as its pairs have left. Levels that go
+/// up along the path stay levels, and their potential rises.
+pub fn add_along<C, S>(store: &mut S, path: &[usize])
+where
+    C: SignedCost,
+    S: FlowStore<C>,
+    requires network { IsNetwork C.fits (S.network store.old) }
+    requires path { IsAugmentingPath (S.network store.old) path.now }
+    ensures network { IsNetwork C.fits (S.network store.new) }
+    ensures kept { KeepsCapacities (S.network store.old) (S.network store.new) }
+    ensures levels { (d : ℕ → ℕ) → IsLevelPath d path.now → IsLabelling (S.network store.old).vertices (S.network store.old).source (S.network store.old).residual d → IsLabelling (S.network store.old).vertices (S.network store.old).source (S.network store.new).residual d }
+    ensures rises { (d : ℕ → ℕ) → IsLevelPath d path.now → potential (S.network store.old).vertices (capacity (S.network store.old)) (S.network store.old).residual d < potential (S.network store.old).vertices (capacity (S.network store.old)) (S.network store.new).residual d }
+{
+    let amount = least_residual(store, path);
+    for place in 0..path.len() - 1 {
+        store.add_flow(path[place], path[place + 1], amount);
+    }
+    let total = plus(store.total_capacity(), amount);
+    store.set_total_capacity(total);
+}
