@@ -1,4 +1,4 @@
-use Rattle.std.proofs.Common.{◌∙◌, ◌++◌, ◌-◌, ap, sym}
+use Rattle.std.proofs.Common.{rules, ◌∙◌, ◌++◌, ◌-◌, ap, sym}
 use Rattle.std.specs.Prelude.{if◌then◌else◌}
 use Rattle.std.proofs.lemmas.List.{append_assoc}
 use Rattle.pf_grid.specs.Texts.{line_to, line_end, lines_to}
@@ -20,3 +20,6 @@ loop-line-preserved g c =
     ∙ append_assoc lines (line_end n) (line c.row_of-y.result now.width)
     ∙ ap (λ y. lines ++ (line_end n ++ line y now.width)) row
     ∙ sym (lines_more now c.args.present c.args.absent c.args.reversed n)
+
+pub returns-clause-appended : goal.returns-clause-appended
+returns-clause-appended g c = search rules
