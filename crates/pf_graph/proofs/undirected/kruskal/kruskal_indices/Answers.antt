@@ -1,4 +1,4 @@
-use Rattle.std.proofs.Common.{ℕ, subst, sym, nat_eq}
+use Rattle.std.proofs.Common.{rules, ℕ, subst, sym, refl, inl, nat_eq}
 use Rattle.std.specs.List.Sorted.{IsSorted}
 use Rattle.pf_graph.proofs.Spanning.CopyLemmas.{below_copies, least_of_copies, chosen_of_copies}
 use Rattle.pf_graph.specs.Spanning.{IsForest, IsLeastUnderEveryBound, AreChosenFrom}
@@ -6,6 +6,9 @@ use Rattle.pf_graph.proofs.undirected.kruskal.kruskal_indices.Goals as goal
 
 pub spanning_forest-requires : goal.spanning_forest-requires
 spanning_forest-requires g c = record { below = below_copies g.C.Clone.is_clone c.args.number_of_nodes c.args.edges.now c.in_ok-copies.copies.items c.in_ok-copies.ensures.copies (c.are_below.ensures.0 c.if-not-are_below.false) }
+
+pub returns-then-not-are_below-clause-refused : goal.returns-then-not-are_below-clause-refused
+returns-then-not-are_below-clause-refused g c = inl (refl, search rules)
 
 pub returns-clause-forest : goal.returns-clause-forest
 returns-clause-forest g c = subst (IsForest nat_eq) (sym c.into_iter.ensures.rest) c.in_ok-chosen.ensures.forest
