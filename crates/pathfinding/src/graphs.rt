@@ -2,7 +2,7 @@
 
 pub use pf_table_searches::{
     bfs_loop, dfs, dijkstra_all, dijkstra_partial, iddfs, strongly_connected_component,
-    strongly_connected_components, topological_sort, topological_sort_into_groups,
+    strongly_connected_components, topological_sort, topological_sort_into_groups, yen,
 };
 pub use pf_tables::{
     Board, CompactRows, Costless, EdgeList, EdgeListError, Goals, Graph, Row, Rows, Steps,

@@ -10,7 +10,7 @@ use pathfinding::directed::edmonds_karp::{
 use pathfinding::error::PathError;
 use pathfinding::graphs::{
     Rows, bfs_loop, dfs, dijkstra_partial, iddfs, strongly_connected_component,
-    strongly_connected_components, topological_sort, topological_sort_into_groups,
+    strongly_connected_components, topological_sort, topological_sort_into_groups, yen,
 };
 use pathfinding::matrix::{Matrix, MatrixFormatError};
 use pathfinding::noderefs::NodeRefs;
@@ -57,6 +57,8 @@ enum RoundCall {
     Component,
     /// `strongly_connected_components`.
     Components,
+    /// `yen`.
+    Ranked,
 }
 
 /// Each call, and how many growths it makes at the least.
@@ -68,6 +70,7 @@ const CALLS: &[(Call, u64)] = &[
     (Call::Round(RoundCall::Loop), 4),
     (Call::Round(RoundCall::Component), 6),
     (Call::Round(RoundCall::Components), 6),
+    (Call::Round(RoundCall::Ranked), 6),
     (Call::Order, 4),
     (Call::Groups, 6),
     (Call::DenseFlow, 6),
@@ -123,6 +126,18 @@ fn are_parents_so_far(
     Ok(parents.get(&2).copied() == Some((0, 9)) && stopped == Some(1))
 }
 
+/// Whether the answer is both paths in the table `ROUND` from the node 0 to the node 2.
+fn are_ranked(
+    found: Result<Vec<(Vec<usize, Heap<'_>>, u32), Heap<'_>>, PathError>,
+) -> Result<bool, PathError> {
+    let paths = found?;
+    let is_first =
+        matches!(paths.first(), Some((nodes, 6)) if nodes.as_slice() == [0, 1, 2].as_slice());
+    let is_second =
+        matches!(paths.last(), Some((nodes, 9)) if nodes.as_slice() == [0, 2].as_slice());
+    Ok(paths.len() == 2 && is_first && is_second)
+}
+
 /// Whether a call over the table `ROUND` answers the only right answer.
 fn is_right_round(
     heap: Heap<'_>,
@@ -138,6 +153,7 @@ fn is_right_round(
         RoundCall::Loop => is_path(bfs_loop(heap, graph, starts), &[1, 2, 0, 1]),
         RoundCall::Component => Ok(strongly_connected_component(heap, graph, 2)?.len() == 3),
         RoundCall::Components => Ok(strongly_connected_components(heap, graph, &[0])?.len() == 2),
+        RoundCall::Ranked => are_ranked(yen(heap, graph, 0, 2, 3)),
     }
 }
 

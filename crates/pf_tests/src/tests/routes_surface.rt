@@ -78,7 +78,7 @@ mod over_tables {
         Board, CompactRows, Costless, EdgeList, EdgeListError, Goals, Graph, Row, Rows, Steps,
         TableError, bfs, bfs_loop, dfs, dijkstra, dijkstra_all, dijkstra_partial, iddfs,
         strongly_connected_component, strongly_connected_components, topological_sort,
-        topological_sort_into_groups,
+        topological_sort_into_groups, yen,
     };
     pub use pathfinding::grid::{
         Coordinate, EdgesIterator, Grid, GridError, GridIntoIterator, GridIterator,
