@@ -3,10 +3,11 @@
 ghost use Rattle.std.specs.Prelude.{◌≡◌, ◌↔◌, ◌≤ℤ◌, ◌-ℤ◌, ℤ, pos, neg_ℤ};
 ghost use Rattle.pf_base.specs.Costs.{LiesBetween};
 
-use num_traits::{CheckedAdd, Zero};
-
 mod signed;
 mod unsigned;
+
+pub use crate::error::PathError;
+use num_traits::{CheckedAdd, Zero};
 
 /// A cost stands for a whole number, `Self.value x`, between those of `least()` and `greatest()`.
 ///
