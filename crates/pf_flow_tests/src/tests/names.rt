@@ -62,6 +62,8 @@ const ROWS: &[Row<'static>] = &[
     (10, 10, &[((10, 20), 7)], 1, Ok((&[], 0, &[]))),
     // a source that is not listed, before an edge that is refused
     (50, 20, &[((10, 20), -1)], 0, Err(PathError::UnknownVertex)),
+    // a sink that is not listed
+    (10, 50, &[((10, 20), -1)], 0, Err(PathError::UnknownVertex)),
     // the end of an edge that is not listed, before its capacity
     (10, 20, &[((10, 50), -1)], 1, Err(PathError::UnknownVertex)),
     // edges behind one that is refused are not asked for
@@ -88,6 +90,42 @@ const ROWS: &[Row<'static>] = &[
     ),
 ];
 
+/// Eight vertices, of which the last stands in no edge.
+const EIGHT: &[u32] = &[1, 2, 3, 4, 5, 6, 7, 8];
+
+const ROW_OF_EIGHT: Row<'static> = (
+    1,
+    7,
+    &[
+        ((1, 2), 3),
+        ((1, 4), 3),
+        ((2, 3), 4),
+        ((3, 1), 3),
+        ((3, 4), 1),
+        ((3, 5), 2),
+        ((4, 5), 2),
+        ((4, 6), 6),
+        ((5, 2), 1),
+        ((5, 7), 1),
+        ((6, 7), 9),
+    ],
+    11,
+    Ok((
+        &[
+            ((1, 2), 2),
+            ((1, 4), 3),
+            ((2, 3), 2),
+            ((3, 4), 1),
+            ((3, 5), 1),
+            ((4, 6), 4),
+            ((5, 7), 1),
+            ((6, 7), 4),
+        ],
+        5,
+        &[((1, 4), 3), ((3, 4), 1), ((5, 7), 1)],
+    )),
+);
+
 /// Whether this is the answer that is wanted.
 fn is_wanted(answer: Result<EKFlows<u32, i64>, PathError>, wanted: Wanted<'_>) -> bool {
     match (answer, wanted) {
@@ -100,7 +138,7 @@ fn is_wanted(answer: Result<EKFlows<u32, i64>, PathError>, wanted: Wanted<'_>) -
 }
 
 /// Whether both stores answer what is wanted, and ask for as many edges as they should.
-fn is_as_wanted(alloc: Global, row: &Row<'_>) -> bool {
+fn is_as_wanted(alloc: Global, places: &[u32], row: &Row<'_>) -> bool {
     let (source, sink, edges, asked, wanted) = row;
     let count = Cell::new(0usize);
     let counted = |edge: &Edge<u32, i64>| {
@@ -109,18 +147,19 @@ fn is_as_wanted(alloc: Global, row: &Row<'_>) -> bool {
     };
     let dense = edmonds_karp::<_, _, _, DenseCapacity<i64>>(
         alloc,
-        PLACES,
+        places,
         source,
         sink,
         edges.iter().map(counted),
     );
-    let sparse = edmonds_karp_sparse(alloc, PLACES, source, sink, edges.iter().map(counted));
+    let sparse = edmonds_karp_sparse(alloc, places, source, sink, edges.iter().map(counted));
     is_wanted(dense, *wanted) && is_wanted(sparse, *wanted) && count.get() == asked.wrapping_mul(2)
 }
 
 #[test]
 fn worked_rows_of_names(rt: HostRuntime) {
     for (number, row) in ROWS.iter().enumerate() {
-        assert!(rt; is_as_wanted(rt.alloc(), row), "row {number}");
+        assert!(rt; is_as_wanted(rt.alloc(), PLACES, row), "row {number}");
     }
+    assert!(rt; is_as_wanted(rt.alloc(), EIGHT, &ROW_OF_EIGHT));
 }

@@ -191,6 +191,95 @@ fn ends_at_failed_write(
     !input.failed() && is_noted && result == told && taken.as_slice() == bytes
 }
 
+/// Fails at its first call alone, and counts its calls.
+#[derive(Drop)]
+struct Once {
+    calls: usize,
+}
+
+impl Once {
+    /// The error of the first call, and else this answer.
+    fn answer<T: Drop>(&mut self, answer: T) -> io::Result<T> {
+        self.calls = self.calls.saturating_add(1);
+        if self.calls == 1 {
+            return Err(Error::from(ErrorKind::ConnectionReset));
+        }
+        Ok(answer)
+    }
+}
+
+impl Read for Once {
+    fn read(&mut self, buf: &mut [u8]) -> io::Result<usize> {
+        let count = self.answer(1)?;
+        match buf {
+            [place, ..] => {
+                *place = b'x';
+                Ok(count)
+            }
+            _ => Ok(0),
+        }
+    }
+}
+
+impl Write for Once {
+    fn write(&mut self, buf: &[u8]) -> io::Result<usize> {
+        let count = self.answer(1)?;
+        Ok(if buf.is_empty() { 0 } else { count })
+    }
+
+    fn flush(&mut self) -> io::Result<()> {
+        self.answer(())
+    }
+}
+
+/// A call of a reader or a writer.
+#[derive(Clone, Copy, Debug)]
+enum Call {
+    Read,
+    ReadExact,
+    Write,
+    WriteAll,
+    Flush,
+}
+
+impl Call {
+    /// Whether the call goes through, with one byte where it reads or writes.
+    fn goes_through(self, device: &mut Noted<Once>) -> bool {
+        let mut byte = [b' '];
+        match self {
+            Call::Read => matches!(device.read(&mut byte), Ok(1)) && byte == [b'x'],
+            Call::ReadExact => device.read_exact(&mut byte).is_ok() && byte == [b'x'],
+            Call::Write => matches!(device.write(&byte), Ok(1)),
+            Call::WriteAll => device.write_all(&byte).is_ok(),
+            Call::Flush => device.flush().is_ok(),
+        }
+    }
+}
+
+/// Every call of a reader or a writer.
+const CALLS: &[Call] = &[
+    Call::Read,
+    Call::ReadExact,
+    Call::Write,
+    Call::WriteAll,
+    Call::Flush,
+];
+
+#[test]
+fn a_noted_device_is_asked_again_after_a_failure(rt: HostRuntime) {
+    for call in CALLS {
+        let mut device = Noted::new(Once { calls: 0 });
+        let was_fresh = !device.failed();
+        let has_failed = !call.goes_through(&mut device) && device.failed();
+        let goes_on = call.goes_through(&mut device) && call.goes_through(&mut device);
+        assert!(rt;
+            was_fresh && has_failed && goes_on && device.failed(),
+            "{call:?}"
+        );
+        assert!(rt; device.into_inner().calls == 3, "{call:?}");
+    }
+}
+
 /// The errors that readers answer.
 const READ_KINDS: &[ErrorKind] = &[
     ErrorKind::ConnectionReset,

@@ -248,8 +248,9 @@ where
 ///
 /// The algorithm is A* (P. E. Hart, N. J. Nilsson, B. Raphael, "A formal basis for the heuristic
 /// determination of minimum cost paths", 1968), which goes on until all that waits costs more than
-/// the first goal; then the paths are walked back over the steps that keep the least costs. Each node
-/// whose least cost is at most that of the paths is asked for its edges and tested once more.
+/// the first goal; then the paths are walked back over the steps that keep the least costs. For these
+/// each node that was found at a cost of at most that of the paths is tested, and where it does not pass
+/// asked for its edges, whether or not it was before.
 pub fn astar_bag<N, C, IN, FN, FH, FS, A>(
     alloc: A,
     start: &N,

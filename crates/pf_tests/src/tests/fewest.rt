@@ -89,6 +89,7 @@ type Ways = (
 );
 
 const WAYS: &[Ways] = &[
+    (CHAIN, &[1], &[5], Some(&[1, 2, 3, 4, 5])),
     (CHAIN, &[1, 2], &[4, 5], Some(&[2, 3, 4])),
     (TWO_WAYS, &[1], &[10], Some(&[1, 3, 8, 10])),
     // A start that is an end is a path alone.

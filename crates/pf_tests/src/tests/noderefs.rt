@@ -2,6 +2,7 @@
 
 use crate::no_case::NoCase;
 use pf_base::NodeRefs;
+use refusing_allocator::Refusing;
 
 /// Two spellings of one node.
 const SPELLINGS: &[NoCase<'static>] = &[NoCase { name: "A" }, NoCase { name: "a" }];
@@ -45,6 +46,17 @@ const REPEATED: &[u32] = &[3, 1, 3, 2, 1];
 fn gives_each_node_once(rt: HostRuntime) {
     let nodes = NodeRefs::from_nodes(rt.alloc(), REPEATED).expect(&rt, "memory");
     assert!(rt; nodes.iter().count() == 3 && sum_of(&nodes) == 6 && product_of(nodes) == 6);
+}
+
+#[test]
+fn readers_take_no_memory(rt: HostRuntime) {
+    let heap = Refusing::new(rt.alloc());
+    let nodes = NodeRefs::from_nodes(&heap, REPEATED).expect(&rt, "memory");
+    let other = NodeRefs::from_one(&heap, &3u32).expect(&rt, "memory");
+    heap.refuse(0, u64::MAX);
+    assert!(rt; nodes.len() == 3 && !nodes.is_empty() && nodes != other);
+    assert!(rt; nodes.contains(&2) && !nodes.contains(&4) && nodes.iter().count() == 3);
+    assert!(rt; other.into_iter().count() == 1 && heap.pending() == u64::MAX);
 }
 
 /// Nodes of two sets, and whether the sets are equal.

@@ -167,11 +167,48 @@ const SQUARES: &[(u8, u8)] = &[
     (16, 17),
 ];
 
+/// The same, the next number first.
+const NEXT_OR_SQUARE: &[(u8, u8)] = &[
+    (1, 2),
+    (1, 1),
+    (2, 3),
+    (2, 4),
+    (3, 4),
+    (3, 9),
+    (4, 5),
+    (4, 16),
+    (5, 6),
+    (6, 7),
+    (7, 8),
+    (8, 9),
+    (9, 10),
+    (10, 11),
+    (11, 12),
+    (12, 13),
+    (13, 14),
+    (14, 15),
+    (15, 16),
+    (16, 17),
+];
+
+/// Edges, where a path begins and ends, and the first one in preorder.
+const FIRST_PATHS: &[(&[(u8, u8)], u8, u8, Option<&[u8]>)] = &[
+    (SQUARES, 1, 17, Some(&[1, 2, 4, 16, 17])),
+    (SQUARES, 4, 2, None),
+    (
+        NEXT_OR_SQUARE,
+        1,
+        17,
+        Some(&[1, 2, 3, 4, 5, 6, 7, 8, 9, 10, 11, 12, 13, 14, 15, 16, 17]),
+    ),
+];
+
 #[test]
 fn first_paths_in_preorder(rt: HostRuntime) {
-    let first = first_in_pairs(rt.alloc(), SQUARES, 1, 17);
-    assert!(rt; is_path(first, Some(&[1, 2, 4, 16, 17])));
-    assert!(rt; is_path(first_in_pairs(rt.alloc(), SQUARES, 4, 2), None));
+    for (edges, from, to, want) in FIRST_PATHS {
+        let first = first_in_pairs(rt.alloc(), edges, *from, *to);
+        assert!(rt; is_path(first, *want), "from {from} to {to}");
+    }
 }
 
 /// Whether this comes in the first `limit` steps of a walk by rising cost from the node 0.
@@ -209,6 +246,43 @@ const STEPS: &[Steps] = &[
     (DEAR, 2, Ok(&[(0, None, 0), (1, Some(0), 1)])),
     (DEAR, 3, Err(PathError::CostOverflow)),
 ];
+
+/// A table in which each number up to 100 leads to the next one at cost 1, and to its double at its own
+/// cost.
+fn numbers(alloc: Global) -> Result<Vec<Vec<(usize, u32)>>, AllocError> {
+    let mut table = Vec::new(alloc);
+    for cost in 0..100u32 {
+        let number = cost as usize;
+        table.push(vec![in alloc; (number + 1, 1)]?)?;
+        if let (true, Some(row)) = (number <= 50, table.last_mut()) {
+            row.push((number * 2, cost))?;
+        }
+    }
+    table.push(Vec::new(alloc))?;
+    Ok(table)
+}
+
+/// Whether a walk by rising cost gives the numbers in their order, each at its own cost.
+fn come_in_order(alloc: Global, table: &[Vec<(usize, u32)>]) -> bool {
+    if table.len() == 0 || !leads_to_rows(table) {
+        return false;
+    }
+    let Ok(given) = &given_in_rows(alloc, table, 0, 200) else {
+        return false;
+    };
+    for (number, item) in given.iter().enumerate() {
+        if item.0 != number || item.2 as usize != number {
+            return false;
+        }
+    }
+    given.len() == table.len()
+}
+
+#[test]
+fn numbers_cost_themselves(rt: HostRuntime) {
+    let table = numbers(rt.alloc()).expect(&rt, "memory");
+    assert!(rt; table.len() == 101 && come_in_order(rt.alloc(), &table));
+}
 
 #[test]
 fn nodes_by_rising_cost(rt: HostRuntime) {

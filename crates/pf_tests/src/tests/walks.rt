@@ -160,13 +160,27 @@ const BY_ONE_AND_FIVE: &[(u64, u64)] = &[
     (9, 10),
 ];
 
-/// The walks from 3 where the nodes 1 to 5 follow each node, and one from 0.
+/// Edges from each number to its double and its triple, up to 14.
+const DOUBLES_AND_TRIPLES: &[(u64, u64)] = &[
+    (1, 2),
+    (1, 3),
+    (2, 4),
+    (2, 6),
+    (3, 6),
+    (3, 9),
+    (4, 8),
+    (4, 12),
+    (6, 12),
+];
+
+/// The walks from 3 where the nodes 1 to 5 follow each node, one from 0 and one from 1.
 #[derive(Clone, Copy, Debug)]
 enum Walk {
     Breadth,
     Preorder,
     Cheapest,
     PreorderByOneAndFive,
+    BreadthByDoublesAndTriples,
 }
 
 impl Walk {
@@ -200,6 +214,10 @@ impl Walk {
             }
             Walk::PreorderByOneAndFive => {
                 let walk = dfs_reach(alloc, 0u64, |n: &u64| nodes_after(BY_ONE_AND_FIVE, *n))?;
+                Ok(Some(gather(ample, walk)?))
+            }
+            Walk::BreadthByDoublesAndTriples => {
+                let walk = bfs_reach(alloc, 1u64, |n: &u64| nodes_after(DOUBLES_AND_TRIPLES, *n))?;
                 Ok(Some(gather(ample, walk)?))
             }
         }
@@ -252,6 +270,19 @@ impl Walk {
                 ],
                 &[1, 2, 3, 4, 5, 5, 5, 4, 3, 2, 1, 0],
             ),
+            Walk::BreadthByDoublesAndTriples => (
+                &[
+                    (1, None, 0),
+                    (2, None, 0),
+                    (3, None, 0),
+                    (4, None, 0),
+                    (6, None, 0),
+                    (9, None, 0),
+                    (8, None, 0),
+                    (12, None, 0),
+                ],
+                &[1, 2, 3, 3, 4, 3, 2, 1, 0],
+            ),
         }
     }
 }
@@ -264,6 +295,7 @@ fn a_refused_step_loses_nothing(rt: HostRuntime) -> Result<(), Fail> {
         Walk::Preorder,
         Walk::Cheapest,
         Walk::PreorderByOneAndFive,
+        Walk::BreadthByDoublesAndTriples,
     ] {
         let (given, bounds) = walk.want();
         let mut refusals = 0u64;
@@ -286,6 +318,22 @@ fn a_refused_step_loses_nothing(rt: HostRuntime) -> Result<(), Fail> {
         }
         assert!(rt; refusals > 0, "{walk:?}");
     }
+    Ok(())
+}
+
+#[test]
+fn bounds_and_resume_take_no_memory(rt: HostRuntime) -> Result<(), Fail> {
+    let heap = Refusing::new(rt.alloc());
+    let mut breadth = bfs_reach(&heap, 3u64, |_: &u64| 1..6)?;
+    let mut preorder = dfs_reach(&heap, 3u64, |_: &u64| 1..6)?;
+    let mut cheapest = dijkstra_reach(&heap, &3u64, |_: &u64| [(1u64, 2u64)])?;
+    heap.refuse(0, u64::MAX);
+    assert!(rt; breadth.remaining_nodes_low_bound() == 1);
+    assert!(rt; preorder.remaining_nodes_low_bound() == 1);
+    breadth.resume();
+    preorder.resume();
+    cheapest.resume();
+    assert!(rt; heap.pending() == u64::MAX);
     Ok(())
 }
 

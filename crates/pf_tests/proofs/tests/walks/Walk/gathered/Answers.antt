@@ -17,6 +17,10 @@ five _ = 1 ∷ 2 ∷ 3 ∷ 4 ∷ 5 ∷ []
 abbrev by_one_and_five : List (ℕ × ℕ)
 by_one_and_five = (0, 1) ∷ (0, 5) ∷ (1, 2) ∷ (1, 6) ∷ (2, 3) ∷ (2, 7) ∷ (3, 4) ∷ (3, 8) ∷ (4, 5) ∷ (4, 9) ∷ (5, 6) ∷ (5, 10) ∷ (6, 7) ∷ (7, 8) ∷ (8, 9) ∷ (9, 10) ∷ []
 
+-- the edges of each number to its double and its triple, up to 14
+abbrev doubles_and_triples : List (ℕ × ℕ)
+doubles_and_triples = (1, 2) ∷ (1, 3) ∷ (2, 4) ∷ (2, 6) ∷ (3, 6) ∷ (3, 9) ∷ (4, 8) ∷ (4, 12) ∷ (6, 12) ∷ []
+
 same : (x y : ℕ) → y ≡ x → nat_eq x y ≡ true
 same x y e = subst (λ z. nat_eq x z ≡ true) (sym e) (nat_refl x)
 
@@ -44,3 +48,9 @@ gather-requires-in-PreorderByOneAndFive g c =
     let next = nodes_after nat_eq by_one_and_five in
     let walk = c.in_ok-walk-in-PreorderByOneAndFive.ensures.graph next (nodes_after_answered nat_eq_equiv by_one_and_five (λ x w. search rules) (λ x r t w k. (search rules, λ it b. (search rules, search rules, search rules)))) in
     (same, (next, 0, [], walk))
+
+pub gather-requires-in-BreadthByDoublesAndTriples : goal.gather-requires-in-BreadthByDoublesAndTriples
+gather-requires-in-BreadthByDoublesAndTriples g c =
+    let next = nodes_after nat_eq doubles_and_triples in
+    let walk = c.in_ok-walk-in-BreadthByDoublesAndTriples.ensures.graph next (nodes_after_answered nat_eq_equiv doubles_and_triples (λ x w. search rules) (λ x r t w k. (search rules, λ it b. (search rules, search rules, search rules)))) in
+    (same, (next, 1, walk))
