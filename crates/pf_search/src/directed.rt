@@ -8,4 +8,4 @@ pub mod dfs;
 pub mod dijkstra;
 pub mod iddfs;
 mod parents;
-pub mod preorder;
+mod preorder;
