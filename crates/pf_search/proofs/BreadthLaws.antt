@@ -35,7 +35,7 @@ module _ {N : Type 0} (eq : N → N → Bool) where
   node_place (y ∷ ys) x (inl e) = (0, y, refl, e)
   node_place (y ∷ ys) x (inr h) = let p = node_place ys x h in (suc p.0, p.1, p.2, p.3)
 
-  no_repeats : (xs : List N) → ((i j : ℕ) (m n : N) → slice_get xs i ≡ Some m → slice_get xs j ≡ Some n → eq m n ≡ true → i ≡ j) → (symm : (x y : N) → eq x y ≡ true → eq y x ≡ true) → NoRepeats eq xs
+  pub no_repeats : (xs : List N) → ((i j : ℕ) (m n : N) → slice_get xs i ≡ Some m → slice_get xs j ≡ Some n → eq m n ≡ true → i ≡ j) → (symm : (x y : N) → eq x y ≡ true → eq y x ≡ true) → NoRepeats eq xs
   no_repeats [] one symm = tt
   no_repeats (x ∷ xs) one symm = (
     λ h. let p = node_place xs x h in absurd (omega (arith, one (suc p.0) 0 p.1 x p.2 refl p.3)),

@@ -1,6 +1,6 @@
 -- How a discovery that numbers the successors of one more node goes on with a walk in breadth order.
 use Rattle.std.proofs.Common.{◌≡◌, ℕ, ◌<◌, ◌≤◌, ◌+◌, Bool, true, false, Option, Some, None, List, [], ◌∷◌, ◌++◌, ◌∙◌, slice_get, length, map, take, drop, take_all, refl, sym, ap, subst, arith, length-append, inl, inr, if◌then◌else◌, ℤ, pos, Bor, true≢false}
-use Rattle.std.specs.Prelude.{Result, Ok, Err, IfOk, IfErr, IfSome, OnErr}
+use Rattle.std.specs.Prelude.{Result, Ok, Err, IfOk, IfErr, OnErr}
 use Rattle.std.specs.Result.{IsErr, is_err, result_transpose}
 use Rattle.pf_base.specs.declared.error.PathError.{PathError}
 use Rattle.std.specs.Cmp.{IsEquivalence}
@@ -38,10 +38,6 @@ no_value P (Err e) h = tt
 pub any_err : {A E P : Type 0} (r : Result A E) → P → OnErr r P
 any_err (Ok x) p = tt
 any_err (Err e) p = p
-
-pub any_some : {A P : Type 0} (o : Option A) → P → IfSome o (λ _. P)
-any_some None p = tt
-any_some (Some x) p = p
 
 module _ {N : Type 0} (eq : N → N → Bool) (laws : IsEquivalence eq) where
   alone : (x : N) → IsDistinct eq (x ∷ [])

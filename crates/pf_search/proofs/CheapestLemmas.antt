@@ -217,8 +217,8 @@ module _ {N : Type 0} (eq : N → N → Bool) (laws : IsEquivalence eq) where
         begins_on x = let first = StandsFor-inside eq s.nodes 0 start ((w.begins start).1 (laws.refl start)) in (λ h. (w.begins x).0 (grows.back 0 x first h), λ e. grows.stays 0 x ((w.begins x).1 e))
 
         -- the walk goes on
-        pub goes_on : IsSearch (by_cost value) step root (StandsFor eq t.nodes) t.labels → IsOne t
-        goes_on search = record { explored = explored; costs = w.costs; begins = begins_on; search = search }
+        pub goes_on : length t.labels ≡ length t.nodes → IsSearch (by_cost value) step root (StandsFor eq t.nodes) t.labels → IsOne t
+        goes_on l search = record { explored = explored; costs = w.costs; begins = begins_on; wide = l; search = search }
 
         -- where no label changed, no more was given
         pub no_more : t.labels ≡ s.labels → GivesNoMore eq s t
@@ -285,7 +285,7 @@ module _ {N : Type 0} (eq : N → N → Bool) (laws : IsEquivalence eq) where
 
     -- the mark of a refusal is no part of what a walk is
     pub marked : (s : CheapestWalk N C F) (b : Bool) → IsOne s → IsOne (record s { refused = b })
-    marked s b w = record { explored = w.explored; costs = w.costs; begins = w.begins; search = w.search }
+    marked s b w = record { explored = w.explored; costs = w.costs; begins = w.begins; wide = w.wide; search = w.search }
 
     -- a call of `next` is a step, which marks a refusal
     pub step_of : (fits : ℤ → Type 0) (s t : CheapestWalk N C F) (r : Result (Option (DijkstraReachableItem N C)) PathError) → s.refused ≡ false → t.refused ≡ s.refused → IsOne t × CheapestTurn eq value edges start fits s r t

@@ -1,6 +1,6 @@
 -- A walk over numbers goes along the tree paths of the preorder.
 use Rattle.std.proofs.Common.{◌≡◌, ℕ, zero, suc, ◌<◌, ◌≤◌, ◌+◌, ◌-◌, Bool, true, false, Option, Some, List, [], ◌∷◌, ◌++◌, ◌∙◌, length, length-append, take, take_all, reverse, refl, sym, ap, subst, arith, inl, inr, ℤ, pos, map}
-use Rattle.std.specs.Prelude.{◌⊎◌, ◌↔◌, Contains, Result, Ok, Err, None, IsErr, IfErr, IfSome, is_err, slice_get}
+use Rattle.std.specs.Prelude.{◌⊎◌, ◌↔◌, Contains, Result, Ok, Err, None, IsErr, IfErr, is_err, slice_get}
 use Rattle.std.specs.Result.{result_transpose}
 use Rattle.std.specs.Borrow.{Bor}
 use Rattle.std.specs.Fn.{Mut}
@@ -82,10 +82,6 @@ none_given (Some y) nodes n x h e = h.1
 
 pub begun_now : {N : Type 0} (start : Option N) (nodes : List N) (n : ℕ) → start ≡ None → IsUnbegun start nodes n
 begun_now start nodes n e = subst (λ (o : Option _). IsUnbegun o nodes n) (sym e) tt
-
-pub any_some : {A P : Type 0} (o : Option A) → P → IfSome o (λ _. P)
-any_some None p = tt
-any_some (Some x) p = p
 
 module _ {N : Type 0} (eq : N → N → Bool) (laws : IsEquivalence eq) (next : N → List N) (start : N) where
   -- a number stands for one node, up to equality

@@ -17,6 +17,8 @@ pub mod ParentLemmas
 pub mod MapLemmas
 pub mod OrderLemmas
 pub mod LeastLemmas
+pub mod ItemLemmas
+pub mod ReachLemmas
 pub mod PartialLemmas
 pub mod AllLemmas
 pub mod ChainLemmas

@@ -24,7 +24,7 @@ module _ {N : Type 0} (eq : N → N → Bool) (laws : IsEquivalence eq) where
     all_apart ys x (λ h. n (inr h)),
   )
 
-  distinct_of : (xs : List N) → NoRepeats eq xs → IsDistinct eq xs
+  pub distinct_of : (xs : List N) → NoRepeats eq xs → IsDistinct eq xs
   unfolding IsDistinct
   distinct_of [] n = tt
   distinct_of (x ∷ xs) n = (all_apart xs x n.0, distinct_of xs n.1)

@@ -1,5 +1,5 @@
 -- What contracts say of a lazy walk by rising cost.
-use Rattle.std.specs.Prelude.{◌≡◌, ◌⊎◌, ◌↔◌, ◌≤ℤ◌, ◌+ℤ◌, ℕ, ℤ, pos, Bool, true, false, List, [], ◌∷◌, Option, Some, None, Result, Ok, Err, MatchOption, nat_eq, refl}
+use Rattle.std.specs.Prelude.{◌≡◌, ◌⊎◌, ◌↔◌, ◌≤ℤ◌, ◌+ℤ◌, ℕ, ℤ, pos, Bool, true, false, List, [], ◌∷◌, Option, Some, None, Result, Ok, Err, MatchOption, length, nat_eq, refl}
 use Rattle.std.specs.Coded.{Coded, code_by, coded×, coded_bool, coded_ℕ, coded_list, coded_option}
 use Rattle.pf_base.specs.declared.error.PathError.{PathError}
 use Rattle.pf_base.specs.Answers.{SameNodes}
@@ -42,11 +42,12 @@ module _ {N C F : Type 0} (eq : N → N → Bool) where
   GivesMore walk item after = (x : N) (cost : C) → IsGiven after x cost ↔ (IsGiven walk x cost ⊎ ((eq item.node x ≡ true) × (item.total_cost ≡ cost)))
 
   module _ (value : C → ℤ) (edges : N → List (N × ℤ)) (start : N) where
-    -- The walk is one of this graph from this start: its function answers the graph in reach, where no edge costs less than 0, the start was found first, and the labels are those of a search by rising cost from it.
+    -- The walk is one of this graph from this start: its function answers the graph in reach, where no edge costs less than 0, the start was found first, each found node has a place for a label, and the labels are those of a search by rising cost from the start.
     pub record IsCheapestWalk (explores : NodeGraph N → List N → F → Type 0) (walk : CheapestWalk N C F) : Type 0 where
       pub explored : explores (record { starts = start ∷ []; edges = edges }) walk.nodes walk.successors
       pub costs : HasNoNegativeCost eq edges (start ∷ [])
       pub begins : (x : N) → StandsFor eq walk.nodes 0 x ↔ (eq start x ≡ true)
+      pub wide : length walk.labels ≡ length walk.nodes
       pub search : IsSearch (by_cost value) (IsStep eq (record { starts = start ∷ []; edges = edges })) (λ k. nat_eq k 0) (StandsFor eq walk.nodes) walk.labels
 
     -- no walk to a node that was not given costs less than t

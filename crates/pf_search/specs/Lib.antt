@@ -1,5 +1,6 @@
 pub mod DepthWalks
 pub mod Preorder
+pub mod Items
 pub mod Laws
 pub mod Breadth
 pub mod CheapestFirst

@@ -4,14 +4,20 @@
 
 ghost use Rattle.std.specs.Prelude.{◌≡◌, ◌≤◌, ◌∷◌, [], ℕ, List, Bool, true, ℤ, Option, Some, slice_get, length};
 ghost use Rattle.pf_base.specs.Answers.{SameNodes};
-ghost use Rattle.pf_base.specs.Edges.{IsCheapestGoalPath, HasNoNegativeCost};
+ghost use Rattle.pf_base.specs.Edges.{InReach, IsCheapestGoalPath, HasNoNegativeCost};
 ghost use Rattle.pf_base.specs.Orders.{last_nodes, IsBreadthOrder, AllGiven, IsPreorder, IsWholePreorder};
 ghost use Rattle.pf_base.specs.Successors.{HasSuccessor, IsFewestEdgesGoalPath};
-ghost use Rattle.pf_base.specs.Walks.{HasNode, NoRepeats, IsGoalWalk, IsReachable};
+ghost use Rattle.pf_base.specs.Walks.{HasNode, NoRepeats, IsAtMostNumberOf, IsGoalWalk, IsReachable};
+ghost use Rattle.pf_core.specs.Labels.{settled_count};
+ghost use Rattle.pf_core.specs.Nodes.{Explores};
+ghost use Rattle.pf_search.specs.CheapestFirst.{CheapestWalk, IsCheapestWalk, IsGiven};
 ghost use Rattle.pf_search.specs.Laws.{targets, HasEqualSuccessors, HasEqualEdges};
 ghost use Rattle.pf_search.specs.Parents.{IsCheapestMap, IsChainOfParents, IsLeastCost};
 
+use crate::directed::dijkstra::DijkstraReachable;
 use pf_base::Cost;
+use std::alloc::Allocator;
+use std::hash::Hash;
 use std::marker::PhantomData;
 
 /// In one graph, a path with fewest edges has at most as many edges as a cheapest path.
@@ -35,7 +41,7 @@ pub fn fewest_edges_have_one_length<N: Eq>(_of: PhantomData<N>)
 {}
 
 /// Every node of a preorder is in reach of the start, none stands twice in it, and where the preorder
-/// has ended it has every node in reach.
+/// has ended it has every node in reach. It is no longer than any list that has them all.
 ///
 /// So `dfs_reach` gives the nodes in reach, each once.
 pub fn preorder_of_reach<N: Eq>(_of: PhantomData<N>)
@@ -45,10 +51,13 @@ pub fn preorder_of_reach<N: Eq>(_of: PhantomData<N>)
     ensures whole { (next : N → List N) (start : N) (paths : List (List N)) → IsPreorder N.eq next start paths → IsWholePreorder N.eq next paths
         → HasEqualSuccessors N.eq next start
         → (x : N) → IsReachable N.eq (HasSuccessor N.eq next) (start ∷ []) x → HasNode N.eq (last_nodes paths) x }
+    ensures at_most { (next : N → List N) (start : N) (paths : List (List N)) → IsPreorder N.eq next start paths
+        → IsAtMostNumberOf N.eq (IsReachable N.eq (HasSuccessor N.eq next) (start ∷ [])) (length paths) }
 {}
 
 /// The nodes of a breadth order are in reach, and no node stands twice among them. Where all that was
-/// found was given, each node in reach was.
+/// found was given, each node in reach was. They are no more than any list has that has every node in
+/// reach.
 ///
 /// So this holds of the nodes that a walk of `bfs_reach` gives, and of all of them once it has ended.
 pub fn breadth_order_is_reach<N: Eq>(_of: PhantomData<N>)
@@ -57,6 +66,8 @@ pub fn breadth_order_is_reach<N: Eq>(_of: PhantomData<N>)
     ensures once { (next : N → List N) (start : N) (given : List N) → IsBreadthOrder N.eq next start given → NoRepeats N.eq given }
     ensures all { (next : N → List N) (start : N) (given : List N) → HasEqualSuccessors N.eq next start → IsBreadthOrder N.eq next start given → AllGiven N.eq next start given
         → (x : N) → IsReachable N.eq (HasSuccessor N.eq next) (start ∷ []) x → HasNode N.eq given x }
+    ensures at_most { (next : N → List N) (start : N) (given : List N) → HasEqualSuccessors N.eq next start → IsBreadthOrder N.eq next start given
+        → IsAtMostNumberOf N.eq (IsReachable N.eq (HasSuccessor N.eq next) (start ∷ [])) (length given) }
 {}
 
 /// In a breadth order the distance from the start never falls: of two nodes, the one that comes first
@@ -66,6 +77,28 @@ pub fn breadth_order_is_by_distance<N: Eq>(_of: PhantomData<N>)
         → (i j : ℕ) (x y : N) → i ≤ j → slice_get given i ≡ Some x → slice_get given j ≡ Some y
         → (far : List N) → IsGoalWalk N.eq (HasSuccessor N.eq next) (start ∷ []) (λ z. N.eq z y) far
         → (near : List N) × IsGoalWalk N.eq (HasSuccessor N.eq next) (start ∷ []) (λ z. N.eq z x) near × (length near ≤ length far) }
+{}
+
+/// A node that a walk of `dijkstra_reach` gave is in reach of the start. No node was found twice, so
+/// that none was given twice, and no more were given than any list has that has every node in reach.
+///
+/// This holds of each walk of the type of the one that is handed in, which is not changed.
+pub fn cheapest_order_is_reach<N, C, IN, FN, A>(_of: &DijkstraReachable<N, C, IN, FN, A>)
+where
+    N: Eq + Hash,
+    C: Cost,
+    IN: IntoIterator<Item = (N, C)>,
+    FN: FnMut(&N) -> IN,
+    A: Allocator,
+    ensures reached { (edges : N → List (N × ℤ)) (start : N) (walk : CheapestWalk N C FN)
+        → IsCheapestWalk N.eq C.value edges start (Explores N.eq C.value (λ e. e) IN.into_iter_gives IN.IntoIter.can_next IN.IntoIter.remaining IN.IntoIter.next_gives FN.FnMut) walk
+        → (x : N) (cost : C) → IsGiven N.eq walk x cost → InReach N.eq edges (start ∷ []) x }
+    ensures once { (edges : N → List (N × ℤ)) (start : N) (walk : CheapestWalk N C FN)
+        → IsCheapestWalk N.eq C.value edges start (Explores N.eq C.value (λ e. e) IN.into_iter_gives IN.IntoIter.can_next IN.IntoIter.remaining IN.IntoIter.next_gives FN.FnMut) walk
+        → NoRepeats N.eq walk.nodes }
+    ensures at_most { (edges : N → List (N × ℤ)) (start : N) (walk : CheapestWalk N C FN)
+        → IsCheapestWalk N.eq C.value edges start (Explores N.eq C.value (λ e. e) IN.into_iter_gives IN.IntoIter.can_next IN.IntoIter.remaining IN.IntoIter.next_gives FN.FnMut) walk
+        → IsAtMostNumberOf N.eq (InReach N.eq edges (start ∷ [])) (settled_count walk.labels) }
 {}
 
 /// In one graph, cheapest paths cost the same: two from the same starts to nodes that pass one test,

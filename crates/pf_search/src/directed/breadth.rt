@@ -1,12 +1,13 @@
 //! The nodes in reach of a start in breadth order, one at a time.
 
-ghost use Rattle.std.specs.Prelude.{◌≡◌, ◌<◌, ◌≤◌, ◌+◌, [], ◌∷◌, ◌++◌, List, Ok, Some, None, false, true, length, take, drop, OnOk, OnErr, IfOk, IfErr};
-ghost use Rattle.std.specs.Iterator.{MakesProgress};
+ghost use Rattle.std.specs.Prelude.{◌≡◌, ◌<◌, ◌≤◌, ◌+◌, [], ◌∷◌, ◌++◌, ◌^◌, List, Ok, Some, None, false, true, length, take, drop, OnOk, OnErr, IfOk, IfErr, IfSome};
+ghost use Rattle.std.specs.Iterator.{MakesProgress, at_most};
 ghost use Rattle.pf_base.specs.Answers.{IsLawfulClone, SameNodes};
 ghost use Rattle.pf_base.specs.Walks.{IsReachable};
 ghost use Rattle.pf_base.specs.Successors.{HasSuccessor};
 ghost use Rattle.pf_base.specs.Orders.{IsNextInBreadth, AllGiven};
 ghost use Rattle.pf_search.specs.Breadth.{IsBreadthWalk, BreadthStep};
+ghost use Rattle.pf_search.specs.Items.{most_items};
 ghost use Rattle.pf_search.specs.Internal.Breadth.{BreadthTurn, walk_at, BeginsEmpty, found_or};
 
 use indexmap::IndexSet;
@@ -110,6 +111,8 @@ where
         → IsBreadthWalk N.eq (⟦<FN as SuccessorFunction<N>>⟧.answers) next start s
         → IsBreadthWalk N.eq (⟦<FN as SuccessorFunction<N>>⟧.answers) next start t × BreadthStep N.eq next start s r t };
 
+    ghost remaining = { λ s. at_most (most_items (length s.given) s.refused) };
+
     fn next(&mut self) -> Option<Result<N, PathError>>
         requires { ⟦<BfsReachable<N, IN, FN, A> as Iterator>⟧.can_next self.old }
         ensures steps { ⟦<BfsReachable<N, IN, FN, A> as Iterator>⟧.next_gives self.old result self.new }
@@ -151,6 +154,7 @@ where
         ensures steps { (next : N → List N) (start : N)
             → IsBreadthWalk N.eq (⟦<FN as SuccessorFunction<N>>⟧.answers) next start self.old
             → IsBreadthWalk N.eq (⟦<FN as SuccessorFunction<N>>⟧.answers) next start self.new × BreadthTurn N.eq next start self.old result self.new }
+        ensures few { IfOk result (λ given. IfSome given (λ _. length self.new.given < 2 ^ 63)) }
         ensures same { self.new.refused ≡ self.old.refused }
         ensures refused { IfErr result (λ e. e ≡ PathError.OutOfMemory) }
     {
@@ -186,8 +190,10 @@ where
 /// at equal distance by the place of the earliest parent, then by the place in that parent's answer.
 ///
 /// `successors` lists the nodes that follow a node. It must answer alike for equal nodes at every
-/// call, and is asked of nodes in reach alone. No finite reach is asked: on an endless graph the walk
-/// is endless, and each step ends. Each node comes once, as a clone.
+/// call, and is asked of nodes in reach alone. Each node comes once, as a clone.
+///
+/// No finite reach is asked. A `for` over a walk ends, since the walk holds the nodes that it found: on
+/// an endless graph it ends with a refusal, unless a limit, as of `take`, comes first.
 ///
 /// This call takes no memory. The start is put in by the first step.
 ///

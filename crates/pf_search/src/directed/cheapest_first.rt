@@ -1,13 +1,14 @@
 //! The nodes in reach of a start by rising cost, one at a time.
 
-ghost use Rattle.std.specs.Prelude.{◌≡◌, ◌<◌, [], ◌∷◌, List, ℤ, None, false, true, length, IfOk, IfErr, MatchOption};
-ghost use Rattle.std.specs.Iterator.{MakesProgress};
+ghost use Rattle.std.specs.Prelude.{◌≡◌, ◌<◌, ◌+◌, [], ◌∷◌, List, ℤ, None, false, true, length, IfOk, IfErr, IfSome, MatchOption};
+ghost use Rattle.std.specs.Iterator.{MakesProgress, at_most};
 ghost use Rattle.pf_base.specs.Answers.{IsLawfulClone};
 ghost use Rattle.pf_base.specs.Edges.{InReach, HasNoNegativeCost};
 ghost use Rattle.pf_core.specs.declared.labels.Label.{Label};
-ghost use Rattle.pf_core.specs.Labels.{HasLabel};
+ghost use Rattle.pf_core.specs.Labels.{HasLabel, settled_count};
 ghost use Rattle.pf_core.specs.Nodes.{Explores, StandsFor};
 ghost use Rattle.pf_search.specs.CheapestFirst.{IsGiven, IsCheapestWalk, IsBarred, CheapestTurn, CheapestStep, TurnKeepsBar, StepKeepsBar};
+ghost use Rattle.pf_search.specs.Items.{most_items};
 
 use pf_base::{Cost, EdgeFunction, PathError};
 use pf_core::discovery::{Discovery, Weighted, clone_of};
@@ -100,6 +101,8 @@ where
         × CheapestStep N.eq C.value edges start C.fits s r t
         × StepKeepsBar N.eq C.value edges start C.fits s r t };
 
+    ghost remaining = { λ s. at_most (most_items (settled_count s.labels) s.refused) };
+
     fn next(&mut self) -> Option<Result<DijkstraReachableItem<N, C>, PathError>>
         requires { ⟦<DijkstraReachable<N, C, IN, FN, A> as Iterator>⟧.can_next self.old }
         ensures steps { ⟦<DijkstraReachable<N, C, IN, FN, A> as Iterator>⟧.next_gives self.old result self.new }
@@ -149,6 +152,7 @@ where
         ensures bars { (edges : N → List (N × ℤ)) (start : N)
             → IsCheapestWalk N.eq C.value edges start (Explores N.eq C.value (λ e. e) IN.into_iter_gives IN.IntoIter.can_next IN.IntoIter.remaining IN.IntoIter.next_gives FN.FnMut) self.old
             → TurnKeepsBar N.eq C.value edges start C.fits self.old result self.new }
+        ensures counts { IfOk result (λ given. IfSome given (λ _. settled_count self.new.labels ≡ settled_count self.old.labels + 1)) }
         ensures same { self.new.refused ≡ self.old.refused }
     {
         let Some(number) = self.search.least() else {
@@ -166,8 +170,11 @@ where
 /// `successors` lists the edges of a node, each as the node that it leads to and its cost; where
 /// several edges lead to one node, a step costs what the cheapest of them costs. It must answer alike
 /// for equal nodes at every call, and no cost in reach of `start` may be negative. It is asked of
-/// nodes in reach alone. No finite reach is asked: on an endless graph the walk is endless, and each
-/// step ends. In which order nodes of one cost come, and which of several parents is named, is open.
+/// nodes in reach alone. In which order nodes of one cost come, and which of several parents is named,
+/// is open.
+///
+/// No finite reach is asked. A `for` over a walk ends, since the walk holds the nodes that it found: on
+/// an endless graph it ends with a refusal, unless a limit, as of `take`, comes first.
 ///
 /// # Errors
 ///

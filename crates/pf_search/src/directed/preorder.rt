@@ -1,7 +1,7 @@
 //! Nodes in preorder (depth-first search), one at a time.
 
 ghost use Rattle.std.specs.Prelude.{◌≡◌, ◌⊎◌, ◌<◌, ◌∷◌, ◌++◌, ◌-◌, [], ℕ, List, Some, None, false, OnOk, OnErr, IfOk, IfErr, IfSome, IsOk, length, Contains};
-ghost use Rattle.std.specs.Iterator.{MakesProgress};
+ghost use Rattle.std.specs.Iterator.{MakesProgress, at_most};
 ghost use Rattle.std.specs.List.{AllZip};
 ghost use Rattle.pf_base.specs.Answers.{IsLawfulClone};
 ghost use Rattle.pf_base.specs.Orders.{found_from, last_nodes, IsNextTreePath, IsWholePreorder};
@@ -10,6 +10,7 @@ ghost use Rattle.pf_base.specs.Walks.{IsReachable, end_of};
 ghost use Rattle.pf_core.specs.DepthFirst.{IsVisited};
 ghost use Rattle.pf_core.specs.Nodes.{StandsFor};
 ghost use Rattle.pf_search.specs.DepthWalks.{DepthWalk, IsDepthWalk, DepthStep, DepthGoes, StandsAt};
+ghost use Rattle.pf_search.specs.Items.{most_items};
 
 use crate::directed::breadth::put_start;
 use indexmap::IndexSet;
@@ -117,6 +118,8 @@ where
         → IsDepthWalk N.eq next start IN.into_iter_gives IN.IntoIter.can_next IN.IntoIter.remaining IN.IntoIter.next_gives FN.FnMut paths s
         → DepthStep N.eq next start (λ done w. IsDepthWalk N.eq next start IN.into_iter_gives IN.IntoIter.can_next IN.IntoIter.remaining IN.IntoIter.next_gives FN.FnMut done w) paths s r t };
 
+    ghost remaining = { λ s. at_most (most_items s.given s.refused) };
+
     /// The last node of the next tree path in preorder: the deepest node of the last tree path that has a
     /// successor not yet given is followed by the first such successor. `None` where no node of the path
     /// has one, and from then on.
@@ -142,8 +145,11 @@ where
 /// first meets them (preorder), successors in the order in which they are answered.
 ///
 /// `successors` lists the nodes that follow a node. It must answer alike for equal nodes at every
-/// call; it is asked of nodes in reach of the start alone, and of a node only when that is given. The
-/// graph may be endless. An item is a clone of a node, or a refusal: see `DfsReachable`.
+/// call; it is asked of nodes in reach of the start alone, and of a node only when that is given. An
+/// item is a clone of a node, or a refusal: see `DfsReachable`.
+///
+/// No finite reach is asked. A `for` over a walk ends, since the walk holds the nodes that it found: on
+/// an endless graph it ends with a refusal, unless a limit, as of `take`, comes first.
 ///
 /// # Errors
 ///

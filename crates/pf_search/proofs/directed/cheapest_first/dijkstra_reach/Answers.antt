@@ -1,4 +1,4 @@
-use Rattle.std.proofs.Common.{refl, false, [], ◌∷◌}
+use Rattle.std.proofs.Common.{◌∙◌, refl, false, [], ◌∷◌}
 use Rattle.pf_core.specs.declared.labels.Label.{Label}
 use Rattle.pf_core.specs.Nodes.{NodeGraph, StandsFor, IsStep}
 use Rattle.pf_core.proofs.NodeLemmas.{Explores-edges}
@@ -31,6 +31,7 @@ returns-clause-graph g c = λ edges a h.
       explored = Explores-edges eq laws _ _ _ _ _ _ graph found.field-0.keys _ found.ensures.distinct found.ensures.same a;
       costs = h;
       begins = found.ensures.begins;
+      wide = b.wide ∙ c.len.ensures.len;
       search = start_alone 0 g.C.Number.value (IsStep eq graph) (StandsFor eq found.field-0.keys) here c.in_ok-search.search.labels.items first b.first b.only refl refl (g.met.C.Zero.zero_law g.met.C.Integral.exact_law);
     }
 

@@ -1,4 +1,6 @@
 use Rattle.std.proofs.Common.{◌≤◌, ◌<◌, ◌+◌, length, false, refl, ap, arith}
+use Rattle.std.proofs.lemmas.List.{length-take}
+use Rattle.std.proofs.lemmas.Result.{IfOk-from_err}
 use Rattle.pf_base.proofs.Callers.{SameNodes-refl}
 use Rattle.pf_search.specs.Internal.Breadth.{found_or}
 use Rattle.pf_search.proofs.BreadthSteps.{turn_refused, none_waits, start_waits, placed, marked}
@@ -56,6 +58,18 @@ returns-clause-steps g c = λ next start w.
     let at = marked eq laws _ _ _ _ _ next start keys i.given i.refused false i.discovery.successors v in
     let on = (e.walk next start (rw s.1 at)).0 in
     rw (← c.self.view_is, s.0) (marked eq laws _ _ _ _ _ next start keys' (i.given + 1) false i.refused f' on.0, (rw s.1 at on.1, rw s.1 at e.given))
+
+pub returns-in_err-put_start-clause-few : goal.returns-in_err-put_start-clause-few
+returns-in_err-put_start-clause-few g c = IfOk-from_err _ _ c.from_residual.ensures.0
+
+pub returns-then-self-len-clause-few : goal.returns-then-self-len-clause-few
+returns-then-self-len-clause-few g c = tt
+
+pub returns-in_err-node-clause-few : goal.returns-in_err-node-clause-few
+returns-in_err-node-clause-few g c = IfOk-from_err _ _ c.from_residual-in_err-node.ensures.0
+
+pub returns-clause-few : goal.returns-clause-few
+returns-clause-few g c = omega (arith, length-take (c.self.inside.given + 1) (found_or c.put_start.new.start c.give.new.discovery.nodes.keys), c.len.ensures.small, c.if-self-len.false)
 
 pub give-requires-clause-clones : goal.give-requires-clause-clones
 give-requires-clause-clones g c = c.requires.clones

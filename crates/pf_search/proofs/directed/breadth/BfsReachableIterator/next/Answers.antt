@@ -1,7 +1,8 @@
-use Rattle.std.proofs.Common.{sym, ap, ◌∙◌}
+use Rattle.std.proofs.Common.{sym, ap, length, ◌∙◌}
 use Rattle.pf_search.specs.Breadth.{BreadthWalk}
 use Rattle.pf_search.specs.Internal.Breadth.{found_or}
-use Rattle.pf_search.proofs.BreadthSteps.{step_of, any_some}
+use Rattle.pf_search.proofs.BreadthSteps.{step_of}
+use Rattle.pf_search.proofs.ItemLemmas.{of_node, progress, breadth_counts}
 use Rattle.pf_search.proofs.directed.breadth.BfsReachableIterator.next.Goals as goal
 
 pub returns-clause-steps : goal.returns-clause-steps
@@ -17,8 +18,15 @@ returns-clause-again g c =
     let r = c.requires in
     (r.0, (r.1.0, r.1.1, (returns-clause-steps g c r.1.0 r.1.1 r.1.2).0))
 
+pub returns-then-self-clause-goes : goal.returns-then-self-clause-goes
+returns-then-self-clause-goes g c = record { on = λ f. tt; keeps = tt; rests = λ f. f }
+
 pub returns-clause-goes : goal.returns-clause-goes
-returns-clause-goes g c = record { on = λ f. absurd f; keeps = any_some c.transpose.result (returns-clause-again g c); rests = λ f. absurd f }
+returns-clause-goes g c =
+    let r = c.requires in
+    let few = rw (← c.self-2.view_is) at c.step-step.ensures.few in
+    let counts = breadth_counts g.N.PartialEq.eq r.1.0 r.1.1 c.args.self.now c.transpose.result _ (returns-clause-steps g c r.1.0 r.1.1 r.1.2).1 (rw c.transpose.ensures (of_node _ c.step-step.result few)) in
+    progress (λ (w : BreadthWalk g.row.N.Denot g.row.FN.Denot). length w.given) (λ (w : BreadthWalk g.row.N.Denot g.row.FN.Denot). w.refused) _ c.args.self.now c.transpose.result _ (returns-clause-again g c) counts
 
 pub step-step-requires-clause-clones : goal.step-step-requires-clause-clones
 step-step-requires-clause-clones g c = c.requires.0

@@ -1,4 +1,5 @@
 use Rattle.std.proofs.Common.{Ok, Err, Some, None, [], ◌∷◌, ◌≡◌, ◌∙◌, sym, ap, subst, refl, length, inl, inr, nat_eq}
+use Rattle.std.proofs.lemmas.Result.{IfOk-from_err}
 use Rattle.pf_base.specs.declared.error.PathError.{PathError}
 use Rattle.pf_base.proofs.Callers.{SameNodes-refl}
 use Rattle.pf_core.specs.Labels.{Labels, by_cost}
@@ -85,7 +86,7 @@ returns-in_err-turn-clause-steps g c = λ edges start w.
       | inr f ↦ inr (f, past_at eq laws g.C.Number.value _ _ _ _ _ edges start s v tree c.in-Some.number z.0 z.1 g.C.Number.fits x.0 x.1 (e.overflow (ap Err f) _ v.explored x.0 x.1 z.0 (still_at _ _ same _ _ z.1.at)))
     ] in
     turn_seen eq laws g.C.Number.value _ _ _ _ _ edges start g.C.Number.fits s _ t _ c.from_residual-in_err-turn.result c.self.view_is (ap (λ (ls : Labels g.row.C.Denot). seen new.nodes.keys ls i.refused new.successors) (e.kept.1 ∙ same)) (
-      goes_on eq laws g.C.Number.value _ _ _ _ _ edges start s v tree wide t e.grows explored search,
+      goes_on eq laws g.C.Number.value _ _ _ _ _ edges start s v tree wide t e.grows explored (sym (ap length (e.kept.1 ∙ same)) ∙ e.wide) search,
       turn_refused eq g.C.Number.value edges start g.C.Number.fits s t c.from_residual-in_err-turn.result c.in_err-turn.field-0.0 c.from_residual-in_err-turn.ensures.1
           why (left_at eq laws g.C.Number.value _ _ _ _ _ edges start s v tree c.in-Some.number z.0 z.1) (no_more eq laws g.C.Number.value _ _ _ _ _ edges start s v tree wide t e.grows explored refl)
           refl (Same-sym eq laws i.discovery.nodes.keys new.nodes.keys (kept_all eq laws i.discovery.nodes.keys new.nodes.keys e.grows e.kept.0)),
@@ -111,7 +112,7 @@ returns-clause-steps g c = λ edges start w.
     let least = least_is (by_cost g.C.Number.value) i.search.labels.items c.in-Some.number z.0 item.0 z.1 item.1 in
     let turned = turned_from _ _ same c.in-Some.number item.0 _ item.1 e.turned in
     turn_seen eq laws g.C.Number.value _ _ _ _ _ edges start g.C.Number.fits s _ t _ (Ok (Some c.in_ok-item.item)) c.self.view_is refl (
-      goes_on eq laws g.C.Number.value _ _ _ _ _ edges start s v tree wide t e.grows explored search,
+      goes_on eq laws g.C.Number.value _ _ _ _ _ edges start s v tree wide t e.grows explored e.wide search,
       (
         next_is eq laws g.C.Number.value _ _ _ _ _ edges start s v tree c.in-Some.number item.0 least c.in_ok-item.item item.2 item.3 item.4,
         one_more eq laws g.C.Number.value _ _ _ _ _ edges start s v tree wide t e.grows explored c.in-Some.number item.0 item.1 turned c.in_ok-item.item item.2 item.3,
@@ -169,6 +170,20 @@ returns-clause-bars g c = λ edges start w.
     let t = seen new.nodes.keys c.turn.new.self.labels.items i.refused new.successors in
     bar_seen eq g.C.Number.value edges start g.C.Number.fits s t _ _ (Ok (Some c.in_ok-item.item)) c.self.view_is refl (no_bar eq laws g.C.Number.value _ _ _ _ _ edges start s v c.self.invariant.0.tree c.self.invariant.1 t e.grows (e.graph _ v.explored) g.C.Number.fits c.in-Some.number z.0 z.1 c.in-Some.ensures.first
     (λ x here y q step. subst (λ (ls : Labels g.row.C.Denot). IsWithinRange (IsStep eq (record { starts = start ∷ []; edges = edges })) (StandsFor eq i.discovery.nodes.keys) ls g.C.Number.fits x (g.C.Number.value z.0.cost) (StandsFor eq new.nodes.keys) y) same (e.within _ v.explored x here z.0 (still_at _ _ same _ _ z.1.at) y q step)))
+
+pub returns-in_default-clause-counts : goal.returns-in_default-clause-counts
+returns-in_default-clause-counts g c = tt
+
+pub returns-in_err-item-clause-counts : goal.returns-in_err-item-clause-counts
+returns-in_err-item-clause-counts g c = IfOk-from_err _ _ c.from_residual.ensures.0
+
+pub returns-in_err-turn-clause-counts : goal.returns-in_err-turn-clause-counts
+returns-in_err-turn-clause-counts g c = IfOk-from_err _ _ c.from_residual-in_err-turn.ensures.0
+
+pub returns-clause-counts : goal.returns-clause-counts
+returns-clause-counts g c =
+    let z = c.in-Some.ensures.least in
+    rw (← c.self.view_is) (turned_from _ _ c.in-Some.ensures.same c.in-Some.number z.0 _ z.1.at c.in_ok-turn.ensures.turned).count
 
 pub item_at-requires-clause-clones : goal.item_at-requires-clause-clones
 item_at-requires-clause-clones g c = c.requires.clones

@@ -1,7 +1,8 @@
-use Rattle.std.proofs.Common.{sym, ap, ◌∙◌}
+use Rattle.std.proofs.Common.{arith, sym, ap, ◌∙◌}
+use Rattle.pf_core.specs.Labels.{settled_count}
 use Rattle.pf_search.specs.CheapestFirst.{CheapestWalk}
-use Rattle.pf_search.proofs.BreadthSteps.{any_some}
 use Rattle.pf_search.proofs.CheapestLemmas.{step_of, bars_of, seen}
+use Rattle.pf_search.proofs.ItemLemmas.{of_node, progress, cheapest_counts}
 use Rattle.pf_search.proofs.directed.cheapest_first.DijkstraReachableIterator.next.Goals as goal
 
 pub returns-clause-steps : goal.returns-clause-steps
@@ -20,8 +21,16 @@ returns-clause-again g c =
     let r = c.requires in
     (r.0, (r.1.0, r.1.1, (returns-clause-steps g c r.1.0 r.1.1 r.1.2).0))
 
+pub returns-then-self-clause-goes : goal.returns-then-self-clause-goes
+returns-then-self-clause-goes g c = record { on = λ f. tt; keeps = tt; rests = λ f. f }
+
 pub returns-clause-goes : goal.returns-clause-goes
-returns-clause-goes g c = record { on = λ f. absurd f; keeps = any_some c.transpose.result (returns-clause-again g c); rests = λ f. absurd f }
+returns-clause-goes g c =
+    let r = c.requires in
+    let labels = c.self-2.inside.search.labels in
+    let one = rw (← c.self-2.view_is) at c.step-step.ensures.counts in
+    let counts = cheapest_counts g.N.PartialEq.eq g.C.Number.value r.1.0 r.1.1 g.C.Number.fits c.args.self.now c.transpose.result _ (returns-clause-steps g c r.1.0 r.1.1 r.1.2).1 (rw c.transpose.ensures (of_node _ c.step-step.result one)) (omega (arith, labels.ok, labels.small)) in
+    progress (λ (w : CheapestWalk g.row.N.Denot g.row.C.Denot g.row.FN.Denot). settled_count w.labels) (λ (w : CheapestWalk g.row.N.Denot g.row.C.Denot g.row.FN.Denot). w.refused) _ c.args.self.now c.transpose.result _ (returns-clause-again g c) counts
 
 pub step-step-requires-clause-clones : goal.step-step-requires-clause-clones
 step-step-requires-clause-clones g c = c.requires.0

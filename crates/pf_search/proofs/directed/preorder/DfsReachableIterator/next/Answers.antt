@@ -1,7 +1,8 @@
-use Rattle.std.proofs.Common.{sym, ap, length, refl, inl, ◌∙◌}
+use Rattle.std.proofs.Common.{arith, sym, ap, length, refl, inl, ◌∙◌}
 use Rattle.pf_search.specs.DepthWalks.{DepthWalk}
 use Rattle.pf_search.specs.Internal.Breadth.{found_or}
-use Rattle.pf_search.proofs.DepthWalkLemmas.{any_some, step_of, goes_again}
+use Rattle.pf_search.proofs.DepthWalkLemmas.{step_of, goes_again}
+use Rattle.pf_search.proofs.ItemLemmas.{progress, depth_counts}
 use Rattle.pf_search.proofs.directed.preorder.DfsReachableIterator.next.Goals as goal
 
 pub returns-clause-steps : goal.returns-clause-steps
@@ -18,8 +19,15 @@ returns-clause-again g c =
     let a = goes_again g.N.PartialEq.eq g.met.N.Eq.laws _ _ _ _ _ r.1.0 r.1.1 r.1.2 c.args.self.now _ c.transpose.result (returns-clause-steps g c r.1.0 r.1.1 r.1.2 r.1.3) in
     (r.0, (r.1.0, r.1.1, a.0, a.1))
 
+pub returns-then-self-clause-goes : goal.returns-then-self-clause-goes
+returns-then-self-clause-goes g c = record { on = λ f. tt; keeps = tt; rests = λ f. f }
+
 pub returns-clause-goes : goal.returns-clause-goes
-returns-clause-goes g c = record { on = λ f. absurd f; keeps = any_some c.transpose.result (returns-clause-again g c); rests = λ f. absurd f }
+returns-clause-goes g c =
+    let r = c.requires in
+    let given = c.self-2.inside.walk.given in
+    let counts = depth_counts g.N.PartialEq.eq r.1.0 r.1.1 _ _ _ _ _ r.1.2 c.args.self.now c.transpose.result _ r.1.3 (returns-clause-steps g c r.1.0 r.1.1 r.1.2 r.1.3) (omega (arith, given.ok, given.small)) in
+    progress (λ (w : DepthWalk g.row.N.Denot g.row.FN.Denot). w.given) (λ (w : DepthWalk g.row.N.Denot g.row.FN.Denot). w.refused) _ c.args.self.now c.transpose.result _ (returns-clause-again g c) counts
 
 pub returns-then-self-clause-refused : goal.returns-then-self-clause-refused
 returns-then-self-clause-refused g c = tt
