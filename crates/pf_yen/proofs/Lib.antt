@@ -9,3 +9,4 @@ pub mod NodePaths
 pub mod StateLemmas
 pub mod WalkLemmas
 pub mod KCheapestLemmas
+pub mod CountLemmas

@@ -7,3 +7,4 @@ pub mod Learned
 pub mod Walk
 pub mod Plans
 pub mod KCheapest
+pub mod Counting

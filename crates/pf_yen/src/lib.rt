@@ -6,6 +6,7 @@ mod classes;
 pub mod directed;
 mod given;
 mod known;
+pub mod laws;
 mod learn;
 mod narrowed;
 mod plans;
