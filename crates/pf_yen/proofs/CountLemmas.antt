@@ -215,11 +215,13 @@ module _ {N : Type 0} (eq : N → N → Bool) (laws : IsEquivalence eq) (edges :
   over : (path : List N) → IsCleanPath eq edges start test path → NoRepeats eq path × ((x : N) → HasNode eq path x → HasNode eq nodes x)
   over [] c = absurd c.goes.goes.walks
   over (a ∷ w) c =
-      let s : eq start a ≡ true = elim c.goes.goes.begins as (λ _. eq start a ≡ true) [ inl e ↦ e | inr f ↦ absurd f ] in
-      (c.goes.distinct, λ x h. all x (elim h as (λ _. InReach eq edges (start ∷ []) x) [
-        | inl e ↦ InReach-start eq laws edges (start ∷ []) start x (inl (laws.refl start)) (eq-trans eq laws start a x s e)
-        | inr r ↦ walked [] w a s c.goes.goes.walks x r
-      ]))
+      let s : eq start a ≡ true = elim c.goes.goes.begins as (λ _. eq start a ≡ true) [ inl e ↦ e | inr f ↦ absurd f ] in (
+        c.goes.distinct,
+        λ x h. all x (elim h as (λ _. InReach eq edges (start ∷ []) x) [
+          | inl e ↦ InReach-start eq laws edges (start ∷ []) start x (inl (laws.refl start)) (eq-trans eq laws start a x s e)
+          | inr r ↦ walked [] w a s c.goes.goes.walks x r
+        ]),
+      )
 
   pub clean_at_most : (paths : List (List N)) → ((path : List N) → Contains paths path → IsCleanPath eq edges start test path)
       → ((i j : ℕ) (path other : List N) → slice_get paths i ≡ Some path → slice_get paths j ≡ Some other → SameNodes eq path other → i ≡ j) → length paths ≤ most_paths (length nodes)

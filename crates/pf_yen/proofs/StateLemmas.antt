@@ -1,25 +1,31 @@
 -- What the plans say of the clean paths over nodes.
-use Rattle.std.proofs.Common.{◌≡◌, ℕ, zero, suc, ◌<◌, ◌≤◌, ◌+◌, refl, sym, subst, arith, inl, inr, Bool, true, false, List, [], ◌∷◌, ◌++◌, length, take, ℤ, Option, Some, None}
+use Rattle.std.proofs.Common.{◌≡◌, ℕ, zero, suc, ◌<◌, ◌≤◌, ◌+◌, refl, sym, ap, subst, arith, inl, inr, Bool, true, false, true≢false, List, [], ◌∷◌, ◌++◌, length, take, ℤ, Option, Some, None, nat_eq, eq-eqb}
 use Rattle.std.specs.Prelude.{◌⊎◌, ◌↔◌, ◌≤ℤ◌, Contains, sum_by}
 use Rattle.std.specs.List.{AllZip}
-use Rattle.std.specs.Cmp.{IsEquivalence}
+use Rattle.std.specs.Cmp.{IsEquivalence, nat_eq_equiv}
+use borrow.Author.Tests.{eqb-true}
 use Rattle.std.proofs.lemmas.Int.{ints}
 use Rattle.std.proofs.lemmas.List.{append-nil}
+use Rattle.std.proofs.lemmas.List.Sums.{sum_by-append, sum_by-cons}
+use Rattle.pf_base.specs.Walks.{HasNode, NoRepeats}
 use Rattle.pf_base.specs.Edges.{WalkCosts, InReach}
 use Rattle.pf_base.specs.Answers.{ListsEdges}
 use Rattle.pf_core.specs.Steps.{GoesAlong}
 use Rattle.pf_core.specs.Nodes.{StandsFor, IsStep}
-use Rattle.pf_core.proofs.ListLemmas.{Contains-head, Contains-tail, Contains-cases, Contains-append_one}
+use Rattle.pf_core.proofs.ListLemmas.{nat_dec, bool_dec, Contains-head, Contains-tail, Contains-cases, Contains-append_one}
 use Rattle.pf_core.proofs.PathLemmas.{AllZip-append}
 use Rattle.pf_core.proofs.WalkLemmas.{same_of}
 use Rattle.pf_yen.specs.Known.{KnownGraph, KnownStep, IsWhole}
 use Rattle.pf_yen.specs.Learned.{IsLearned}
-use Rattle.pf_yen.specs.Classes.{Plan, is_member, in_class, is_path, IsCleanNumbers, IsCheapestOfClass, IsPartition}
+use Rattle.pf_yen.specs.Classes.{Plan, is_member, one_if, in_class, is_path, IsCleanNumbers, IsCheapestOfClass, IsPartition}
+use Rattle.pf_yen.specs.Counting.{most_paths}
+use Rattle.pf_yen.specs.KCheapest.{same_nodes}
 use Rattle.pf_yen.specs.Plans.{as_list, last_given, IsFirst, NoneBelow, GoesOn}
 use Rattle.pf_yen.specs.CleanPaths.{IsCleanPath, WasGiven, AllGiven, IsNextPath}
 use Rattle.pf_yen.specs.Walk.{IsPlanned}
 use Rattle.pf_yen.proofs.NarrowLemmas.{in_none}
-use Rattle.pf_yen.proofs.ClassLemmas.{some_term, term_below, same_path, member_of}
+use Rattle.pf_yen.proofs.ClassLemmas.{one_if_one, some_term, term_below, same_path, member_of}
+use Rattle.pf_yen.proofs.CountLemmas.{both, AreOver, most}
 use Rattle.pf_yen.proofs.NodePaths.{same_numbers, numbers_of_clean, numbers_at_cost, clean_of_numbers, costs_of_numbers}
 
 zip_find : {A B : Type 0} (R : A → B → Type 0) (xs : List A) (ys : List B) (y : B) → AllZip R xs ys → Contains ys y → (x : A) × Contains xs x × R x y
@@ -38,6 +44,42 @@ zip_found R (a ∷ xs) (b ∷ ys) x z c = elim (Contains-cases xs a x c) as (λ 
   | inl e ↦ (b, Contains-head ys b, subst (λ (v : _). R v b) e z.0)
   | inr q ↦ let r = zip_found R xs ys x z.1 q in (r.0, Contains-tail ys b r.0 r.1, r.2)
 ]
+
+zip_length : {A B : Type 0} (R : A → B → Type 0) (xs : List A) (ys : List B) → AllZip R xs ys → length xs ≡ length ys
+zip_length R [] [] z = refl
+zip_length R [] (b ∷ ys) z = absurd z
+zip_length R (a ∷ xs) [] z = absurd z
+zip_length R (a ∷ xs) (b ∷ ys) z = ap suc (zip_length R xs ys z.1)
+
+-- the numbers below n
+abbrev below : ℕ → List ℕ
+below zero = []
+below (suc n) = n ∷ below n
+
+length-below : (n : ℕ) → length (below n) ≡ n
+length-below zero = refl
+length-below (suc n) = ap suc (length-below n)
+
+has_below : (n x : ℕ) → x < n → HasNode nat_eq (below n) x
+has_below zero x h = absurd (omega (arith, h))
+has_below (suc n) x h = elim (nat_dec n x) as (λ _. HasNode nat_eq (below (suc n)) x) [
+  | inl e ↦ inl (eq-eqb n x e)
+  | inr d ↦ inr (has_below n x (omega (arith, h, d)))
+]
+
+same_list : (p q : List ℕ) → same_nodes nat_eq p q ≡ true → p ≡ q
+same_list [] [] h = refl
+same_list [] (y ∷ q) h = absurd (true≢false (sym h))
+same_list (x ∷ p) [] h = absurd (true≢false (sym h))
+same_list (x ∷ p) (y ∷ q) h = let b = both (nat_eq x y) (same_nodes nat_eq p q) h in subst (λ (z : ℕ). x ∷ p ≡ z ∷ q) (eqb-true x y b.0) (ap (λ (v : List ℕ). x ∷ v) (same_list p q b.1))
+
+has_same : (ps : List (List ℕ)) (p : List ℕ) → HasNode (same_nodes nat_eq) ps p → Contains ps p
+has_same [] p h = absurd h
+has_same (q ∷ ps) p (inl e) = subst (λ (v : List ℕ). Contains (q ∷ ps) v) (same_list q p e) (Contains-head ps q)
+has_same (q ∷ ps) p (inr h) = Contains-tail ps q p (has_same ps p h)
+
+none_more : (q : List ℕ) (before : List (List ℕ)) → sum_by (is_path q) before ≤ 1 → sum_by (is_path q) (before ++ []) ≤ 1
+none_more q before h = subst (λ (v : List (List ℕ)). sum_by (is_path q) v ≤ 1) (sym (append-nil before)) h
 
 -- a path begins with itself
 begins_itself : (p : List ℕ) → is_member p [] p ≡ true
@@ -92,6 +134,69 @@ module _ {N C : Type 0} (eq : N → N → Bool) (laws : IsEquivalence eq) (value
     ];
     first = tt;
   }
+
+  -- of the given paths, a clean path is one at most
+  given_once : IsWhole value k → (waiting : List (Plan C)) (chosen : Option (Plan C)) (was : Bool) (before : List (List ℕ)) → IsPartition value k (as_list chosen ++ waiting) before → (q : List ℕ) (u : ℤ) → IsCleanNumbers value k q u
+      → sum_by (is_path q) (before ++ last_given was chosen) ≤ 1
+  given_once whole waiting chosen false before part q u a = none_more q before (let o = part.once q u a in omega (arith, o))
+  given_once whole waiting None true before part q u a = none_more q before (let o = part.once q u a in omega (arith, o))
+  given_once whole waiting (Some c) true before part q u a =
+      let e = sum_by-append (is_path q) before (c.path ∷ []) in
+      let j : sum_by (is_path q) (c.path ∷ []) ≡ is_path q c.path + 0 = sum_by-cons (is_path q) c.path [] in
+      let i : sum_by (in_class q) (c ∷ waiting) ≡ in_class q c + sum_by (in_class q) waiting = sum_by-cons (in_class q) c waiting in
+      let o = part.once q u a in
+      let cheap = part.cheapest c (Contains-head waiting c) in
+      let low : is_path q c.path ≤ in_class q c = elim (bool_dec (is_member c.path [] q)) as (λ _. is_path q c.path ≤ in_class q c) [
+        | inl t ↦
+            let same : q ≡ c.path = same_path value k whole q c.path u (value c.cost) a cheap.clean t in
+            let here = one_if_one (is_member (take (c.spur + 1) c.path) c.banned q) (subst (λ (v : List ℕ). is_member (take (c.spur + 1) c.path) c.banned v ≡ true) (sym same) cheap.member) in
+            let itself = one_if_one (is_member c.path [] q) t in
+            omega (arith, here, itself)
+        | inr f ↦ let none : is_path q c.path ≡ 0 = ap one_if f in omega (arith, none)
+      ] in
+      omega (arith, e, j, i, o, low)
+
+  -- each given path is one clean path over numbers more
+  pub given_at_most : (whole : IsWhole value k) (n : ℕ) → length k.rows ≤ n → 0 < length k.rows → (given : List (List N × C)) (waiting : List (Plan C)) (chosen : Option (Plan C)) (was : Bool) → IsPlanned eq value keys k given waiting chosen was → length given ≤ most_paths n
+  given_at_most whole n few some given waiting chosen was p =
+      let ps : List (List ℕ) = p.before ++ last_given was chosen in
+      let R : List ℕ → List N × C → Type 0 = λ q g. AllZip (StandsFor eq keys) q g.0 × IsCleanNumbers value k q (value g.1) in
+      let clean : (q : List ℕ) → Contains ps q → (u : ℤ) × IsCleanNumbers value k q u = λ q i. let f = zip_found R ps given q p.given_are i in (value f.0.1, f.2.1) in
+      let e = zip_length R ps given p.given_are in
+      let m = most nat_eq nat_eq_equiv n (below (length k.rows)) ps (let l = length-below (length k.rows) in omega (arith, l, few)) (all_over ps clean) (none_twice ps clean (given_once whole waiting chosen was p.before p.partition)) in
+      omega (arith, e, m)
+    where
+      along_below : (w : List ℕ) (a : ℕ) (u : ℤ) → GoesAlong (KnownStep value k) a w u → (x : ℕ) → HasNode nat_eq w x → x < length k.rows
+      along_below [] a u g x h = absurd h
+      along_below (b ∷ w) a u g x (inl e) = let t = g.2 in subst (λ (y : ℕ). y < length k.rows) (eqb-true b x e) (whole.inside a b t.0 t.1)
+      along_below (b ∷ w) a u g x (inr h) = along_below w b g.1 g.3 x h
+
+      all_over : (qs : List (List ℕ)) → ((q : List ℕ) → Contains qs q → (u : ℤ) × IsCleanNumbers value k q u) → AreOver nat_eq (below (length k.rows)) qs
+      all_over [] c = tt
+      all_over (q ∷ qs) c =
+          let a = c q (Contains-head qs q) in
+          let b = a.1 in (
+            (
+              subst (λ (v : List ℕ). NoRepeats nat_eq v) (sym b.is) b.distinct,
+              λ x h. has_below (length k.rows) x (elim (subst (λ (v : List ℕ). HasNode nat_eq v x) b.is h) as (λ _. x < length k.rows) [
+                | inl e ↦ subst (λ (y : ℕ). y < length k.rows) (eqb-true 0 x e) some
+                | inr r ↦ along_below b.rest 0 a.0 b.goes x r
+              ]),
+            ),
+            all_over qs (λ v i. c v (Contains-tail qs q v i)),
+          )
+
+      none_twice : (qs : List (List ℕ)) → ((q : List ℕ) → Contains qs q → (u : ℤ) × IsCleanNumbers value k q u) → ((q : List ℕ) (u : ℤ) → IsCleanNumbers value k q u → sum_by (is_path q) qs ≤ 1) → NoRepeats (same_nodes nat_eq) qs
+      none_twice [] c o = tt
+      none_twice (q ∷ qs) c o = (
+        (λ h.
+            let a = c q (Contains-head qs q) in
+            let here : sum_by (is_path q) (q ∷ qs) ≡ is_path q q + sum_by (is_path q) qs = sum_by-cons (is_path q) q qs in
+            let itself = one_if_one (is_member q [] q) (begins_itself q) in
+            let again = term_below (λ (v : List ℕ). is_member v [] q) qs q (has_same qs q h) (begins_itself q) in
+            omega (arith, here, itself, again, o q a.0 a.1)),
+        none_twice qs (λ v i. c v (Contains-tail qs q v i)) (λ v u a. let here : sum_by (is_path v) (q ∷ qs) ≡ is_path v q + sum_by (is_path v) qs = sum_by-cons (is_path v) q qs in omega (arith, here, o v u a)),
+      )
 
   module _ (one : (i j : ℕ) (x : N) → StandsFor eq keys i x → StandsFor eq keys j x → i ≡ j) (edges : N → List (N × ℤ)) (start : N) (test : N → Bool)
       (alike : (x y : N) → InReach eq edges (start ∷ []) x → eq x y ≡ true → ListsEdges eq (λ z. z) (edges x) (edges y)) (begins : (x : N) → StandsFor eq keys 0 x ↔ (eq start x ≡ true)) (whole : IsWhole value k)

@@ -1,12 +1,13 @@
 -- What a walk over paths keeps in each part of a step, and what it gives.
-use Rattle.std.proofs.Common.{◌≡◌, ◌∙◌, ℕ, zero, suc, ◌<◌, ◌≤◌, refl, sym, ap, subst, arith, inl, inr, Bool, true, false, List, [], ◌∷◌, ◌++◌, length, map, ℤ, pos, Option, Some, None, Bor}
+use Rattle.std.proofs.Common.{◌≡◌, ◌∙◌, ℕ, zero, suc, ◌<◌, ◌≤◌, ◌-◌, ◌^◌, refl, sym, ap, subst, arith, inl, inr, Bool, true, false, List, [], ◌∷◌, ◌++◌, length, map, ℤ, pos, Option, Some, None, Bor}
 use Rattle.std.specs.Prelude.{◌⊎◌, ◌↔◌, ◌+ℤ◌, Contains, Vec, Result, Ok, Err, OnOk, OnErr, IfErr, IfSome, MatchBool}
 use Rattle.std.specs.Result.{IsErrAnd, IsOkAnd, is_err, result_transpose}
 use Rattle.std.specs.List.{AllZip}
 use Rattle.std.specs.Cmp.{IsEquivalence}
 use Rattle.std.specs.Fn.{Mut}
-use Rattle.std.specs.Iterator.{Count}
+use Rattle.std.specs.Iterator.{Count, MakesProgress, at_most}
 use Rattle.std.proofs.lemmas.Int.{ints}
+use Rattle.std.proofs.lemmas.List.{length-append}
 use Rattle.pf_base.specs.declared.error.PathError.{PathError}
 use Rattle.pf_core.specs.Numbered.{Grows}
 use Rattle.pf_core.specs.Steps.{GoesAlong, IsNonNegative, IsTooDear}
@@ -16,16 +17,17 @@ use Rattle.pf_core.proofs.ListLemmas.{bool_dec, Contains-cases, Contains-head}
 use Rattle.pf_core.proofs.WalkLemmas.{no_negative}
 use Rattle.pf_yen.specs.Known.{KnownGraph, row_of, KnownStep, is_goal, IsWhole}
 use Rattle.pf_yen.specs.Narrow.{StandsForItself}
+use Rattle.pf_yen.specs.Counting.{most_paths}
 use Rattle.pf_yen.specs.Learned.{IsLearned}
 use Rattle.pf_yen.specs.Classes.{Plan, IsCleanNumbers, IsPartition, IsPastAlong}
 use Rattle.pf_yen.specs.Plans.{as_list, last_given, NoneBelow, IsFirst, GoesOn}
 use Rattle.pf_yen.specs.CleanPaths.{AllGiven, IsNextPath, RefusedFor}
-use Rattle.pf_yen.specs.Walk.{PathWalk, IsPathWalk, IsPlanned, IsUnderWay, IsEnded, IsBarred, PathTurn, PathStep, TurnKeepsBar, StepKeepsBar, Searches}
+use Rattle.pf_yen.specs.Walk.{PathWalk, most_items, IsPathWalk, IsPlanned, IsUnderWay, IsEnded, IsBarred, PathTurn, PathStep, TurnKeepsBar, StepKeepsBar, Searches}
 use Rattle.pf_yen.proofs.NarrowLemmas.{in_none}
 use Rattle.pf_yen.proofs.LearnLemmas.{learned_whole}
 use Rattle.pf_yen.proofs.SplitLemmas.{past_first}
 use Rattle.pf_yen.proofs.NodePaths.{path_past, first_past}
-use Rattle.pf_yen.proofs.StateLemmas.{went_on, planned_first, gave, all_given, next_is}
+use Rattle.pf_yen.proofs.StateLemmas.{went_on, planned_first, gave, all_given, next_is, given_at_most}
 
 zip_none : {A B : Type 0} (R : A → B → Type 0) (xs ys : List A) → AllZip R (xs ++ ys) [] → ys ≡ []
 zip_none R [] [] z = refl
@@ -35,10 +37,6 @@ zip_none R (x ∷ xs) ys z = absurd z
 pub map_none : {A B : Type 0} (f : A → B) (xs : List A) → map f xs ≡ [] → xs ≡ []
 map_none f [] e = refl
 map_none f (x ∷ xs) e = cc
-
-pub any_some : {A P : Type 0} (o : Option A) → P → IfSome o (λ _. P)
-any_some None p = tt
-any_some (Some x) p = p
 
 -- nothing is known yet
 pub learned_none : {X C : Type 0} (value : C → ℤ) (step : X → ℤ → X → Type 0) (passes : X → Bool) (stands : ℕ → X → Type 0) (found : ℕ) → ((a : ℕ) → a < found → (x : X) × stands a x) → IsLearned value step passes stands found (record { rows = []; goals = [] })
@@ -167,7 +165,11 @@ module _ {N C F S I J : Type 0} (eq : N → N → Bool) (laws : IsEquivalence eq
     all_known h = let u : IsUnderWay eq value edges start test s true = subst (λ (b : Bool). IsUnderWay eq value edges start test s b) h w.under_way in u.0
 
     planned : s.has_begun ≡ true → IsPlanned eq value s.nodes s.known s.given s.waiting s.chosen s.is_given
-    planned h = let u : IsUnderWay eq value edges start test s true = subst (λ (b : Bool). IsUnderWay eq value edges start test s b) h w.under_way in u.1
+    planned h = let u : IsUnderWay eq value edges start test s true = subst (λ (b : Bool). IsUnderWay eq value edges start test s b) h w.under_way in u.2
+
+    -- and a machine word counts it
+    pub few_known : s.has_begun ≡ true → length s.known.rows < 2 ^ 64
+    few_known h = let u : IsUnderWay eq value edges start test s true = subst (λ (b : Bool). IsUnderWay eq value edges start test s b) h w.under_way in u.1
 
     -- where none was looked for, none was given
     fresh_is : s.has_begun ≡ false → (s.given ≡ []) × (s.waiting ≡ []) × (s.chosen ≡ None) × (s.is_given ≡ false)
@@ -187,11 +189,11 @@ module _ {N C F S I J : Type 0} (eq : N → N → Bool) (laws : IsEquivalence eq
       some_known = let f = some_found in omega (arith, f, all)
 
       -- a plan was chosen, or the call was refused
-      pub chose : ¬ (IsBarred s) → {U : Type 0} (r : Result U PathError) (begun : Bool) (waiting : List (Plan C)) (chosen : Option (Plan C)) (gone : Bool) → OnOk r ((begun ≡ true) × (gone ≡ false))
+      pub chose : length s.known.rows < 2 ^ 64 → ¬ (IsBarred s) → {U : Type 0} (r : Result U PathError) (begun : Bool) (waiting : List (Plan C)) (chosen : Option (Plan C)) (gone : Bool) → OnOk r ((begun ≡ true) × (gone ≡ false))
           → OnOk r (IsFirst value s.is_given s.chosen s.waiting → s.has_begun ≡ true → IsFirst value false chosen waiting) → OnOk r (s.has_begun ≡ true → GoesOn value s.known (as_list s.chosen ++ s.waiting) (as_list chosen ++ waiting) (last_given s.is_given s.chosen))
           → OnOk r (s.has_begun ≡ false → IsPartition value s.known (as_list chosen ++ waiting) [] × (waiting ≡ [])) → OnErr r ((chosen ≡ s.chosen) × (waiting ≡ s.waiting) × (gone ≡ s.is_given) × (begun ≡ s.has_begun))
           → IsOne (record s { has_begun = begun; waiting = waiting; chosen = chosen; is_given = gone })
-      chose free (Ok x) begun waiting chosen gone b first on begins kept =
+      chose few free (Ok x) begun waiting chosen gone b first on begins kept =
           let t : PathWalk N C F S = record s { has_begun = begun; waiting = waiting; chosen = chosen; is_given = gone } in
           let now : IsPlanned eq value s.nodes s.known s.given waiting chosen false = elim (bool_dec s.has_begun) as (λ _. IsPlanned eq value s.nodes s.known s.given waiting chosen false) [
             | inl h ↦ let p = planned h in went_on eq laws value s.nodes s.known s.given s.waiting waiting s.chosen chosen s.is_given p (on h) (first p.first h)
@@ -205,10 +207,10 @@ module _ {N C F S I J : Type 0} (eq : N → N → Bool) (laws : IsEquivalence eq
             costs = w.costs;
             begins = w.begins;
             learned = w.learned;
-            under_way = subst (λ (v : Bool). IsUnderWay eq value edges start test t v) (sym b.0) (all, subst (λ (v : Bool). IsPlanned eq value s.nodes s.known s.given waiting chosen v) (sym b.1) now);
+            under_way = subst (λ (v : Bool). IsUnderWay eq value edges start test t v) (sym b.0) (all, few, subst (λ (v : Bool). IsPlanned eq value s.nodes s.known s.given waiting chosen v) (sym b.1) now);
             bar = λ b. absurd (free b);
           }
-      chose free (Err e) begun waiting chosen gone b first on begins kept =
+      chose few free (Err e) begun waiting chosen gone b first on begins kept =
           record { explored = w.explored; costs = w.costs; begins = w.begins; learned = w.learned; under_way = rw (kept.0, kept.1, kept.2, kept.3) w.under_way; bar = λ b. absurd (free b) }
 
       none_last : s.given ≡ [] → (before : List (List ℕ)) → AllZip (λ (q : List ℕ) (h : List N × C). AllZip (StandsFor eq s.nodes) q h.0 × IsCleanNumbers value s.known q (value h.1)) (before ++ last_given s.is_given s.chosen) s.given → last_given s.is_given s.chosen ≡ []
@@ -231,6 +233,13 @@ module _ {N C F S I J : Type 0} (eq : N → N → Bool) (laws : IsEquivalence eq
                 let d = past_first value fits s.known (length s.known.rows) (rw h at over) in
                 inr (m, path_past eq laws s.nodes one edges start test w.explored.0.alike w.begins value s.known w.learned all fits d.0, λ _. first_past eq laws s.nodes one edges start test w.explored.0.alike w.begins value s.known w.learned all fits d.0 costs d.1.0 d.1.1)
           ]
+
+    -- no more paths were given than there can be
+    pub few_given : length s.given ≤ most_paths (2 ^ 64)
+    few_given = elim (bool_dec s.has_begun) as (λ _. length s.given ≤ most_paths (2 ^ 64)) [
+      | inl h ↦ let all = all_known h in let few = few_known h in given_at_most eq laws value s.nodes s.known (whole all) (2 ^ 64) (omega (arith, few)) (some_known all) s.given s.waiting s.chosen s.is_given (planned h)
+      | inr h ↦ let u = fresh_is h in let none : length s.given ≡ 0 = ap length u.0 in omega (arith, none)
+    ]
 
     -- where the choice was refused for a cost overflow, that refusal may come, and the walk is not at its end
     pub barred_for : {U : Type 0} (r : Result U PathError) (begun : Bool) (waiting : List (Plan C)) (chosen : Option (Plan C)) (gone : Bool) (b : Bool) → (b ≡ true → r ≡ Err PathError.CostOverflow) → IfErr r (RefusedFor eq edges start test value fits s.given)
@@ -287,10 +296,25 @@ module _ {N C F S I J : Type 0} (eq : N → N → Bool) (laws : IsEquivalence eq
                 costs = w.costs;
                 begins = w.begins;
                 learned = w.learned;
-                under_way = subst (λ (b : Bool). IsUnderWay eq value edges start test t b) (sym begun) (all, done);
+                under_way = subst (λ (b : Bool). IsUnderWay eq value edges start test t b) (sym begun) (all, few_known begun, done);
                 bar = λ b. absurd (free b);
               },
             )
+
+items_open : {N C F S : Type 0} (s : PathWalk N C F S) → s.refused ≡ false → most_items s ≡ suc (most_paths (2 ^ 64) - length s.given)
+items_open s h = rw h refl
+
+items_refused : {N C F S : Type 0} (s : PathWalk N C F S) → s.refused ≡ true → most_items s ≡ 0
+items_refused s h = rw h refl
+
+-- an item is a path more, or a refusal
+pub progress : {N C F S A : Type 0} (eq : N → N → Bool) (value : C → ℤ) (edges : N → List (N × ℤ)) (start : N) (test : N → Bool) (fits : ℤ → Type 0) (can : PathWalk N C F S → Type 0) (s t : PathWalk N C F S) (r : Option (Result (Vec N A × C) PathError))
+    → can t → length t.given ≤ most_paths (2 ^ 64) → PathStep eq value edges start test fits s r t → MakesProgress can (λ w. at_most (most_items w)) s r t
+progress eq value edges start test fits can s t None c few q = record { on = λ f. tt; keeps = tt; rests = λ f. f }
+progress eq value edges start test fits can s t (Some (Ok item)) c few q =
+    let long = ap length q.3 ∙ length-append s.given ((item.0.items, item.1) ∷ []) in
+    record { on = λ f. (c, f, omega (arith, items_open s q.0, items_open t q.1, long, few)); keeps = c; rests = λ f. tt }
+progress eq value edges start test fits can s t (Some (Err e)) c few q = record { on = λ f. (c, f, omega (arith, items_open s q.0, items_refused t q.1)); keeps = c; rests = λ f. tt }
 
 module _ {N C F S A : Type 0} (value : C → ℤ) (edges : N → List (N × ℤ)) (start : N) (test : N → Bool) (eq : N → N → Bool) (fits : ℤ → Type 0) where
   -- a step was refused, for this

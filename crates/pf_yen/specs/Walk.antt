@@ -1,5 +1,5 @@
 -- What contracts say of the lazy list of clean paths by rising cost.
-use Rattle.std.specs.Prelude.{◌≡◌, ◌⊎◌, ◌≤ℤ◌, ◌≤◌, ◌↔◌, ◌++◌, ℕ, ℤ, Bool, true, false, List, [], ◌∷◌, length, Contains, Option, Some, None, Result, Ok, Err, refl, Vec}
+use Rattle.std.specs.Prelude.{◌≡◌, ◌⊎◌, ◌≤ℤ◌, ◌≤◌, ◌<◌, ◌-◌, ◌^◌, ◌↔◌, ◌++◌, ℕ, suc, ℤ, Bool, if◌then◌else◌, true, false, List, [], ◌∷◌, length, Contains, Option, Some, None, Result, Ok, Err, refl, Vec}
 use Rattle.std.specs.Coded.{Coded, code_by, coded×, coded_bool, coded_ℕ, coded_list, coded_option}
 use Rattle.std.specs.List.{AllZip}
 use Rattle.pf_base.specs.declared.error.PathError.{PathError}
@@ -12,6 +12,7 @@ use Rattle.pf_core.specs.Nodes.{TestedGraph, StandsFor, IsStep, Explores}
 use Rattle.pf_yen.specs.Known.{KnownGraph, known_code}
 use Rattle.pf_yen.specs.Classes.{Plan, IsCleanNumbers, IsPartition}
 use Rattle.pf_yen.specs.CleanPaths.{AllGiven, IsNextPath, RefusedFor}
+use Rattle.pf_yen.specs.Counting.{most_paths}
 use Rattle.pf_yen.specs.Learned.{IsLearned}
 use Rattle.pf_yen.specs.Plans.{as_list, last_given, IsFirst}
 
@@ -46,6 +47,10 @@ pub record IsPlanned {N C : Type 0} (eq : N → N → Bool) (value : C → ℤ) 
   pub rising : (g : List N × C) (c : Plan C) → Contains given g → Contains (as_list chosen ++ waiting) c → value g.1 ≤ℤ value c.cost
   pub first : IsFirst value is_given chosen waiting
 
+-- at most so many items come before a call of `resume`: as many paths as are left of those that there can be over nodes numbered by a machine word, and a refusal; none after a refusal
+abbrev pub most_items : {N C F S : Type 0} → PathWalk N C F S → ℕ
+most_items walk = if walk.refused then 0 else suc (most_paths (2 ^ 64) - length walk.given)
+
 -- the walk is at its end: a path was looked for, and no plan is left
 abbrev pub IsEnded : {N C F S : Type 0} → PathWalk N C F S → Type 0
 IsEnded walk = (walk.has_begun ≡ true) × (walk.is_given ≡ false) × (walk.chosen ≡ None) × (walk.waiting ≡ [])
@@ -69,7 +74,7 @@ module _ {N C F S : Type 0} (eq : N → N → Bool) (value : C → ℤ) (edges :
   -- whether all is planned, or nothing was begun
   abbrev pub IsUnderWay : PathWalk N C F S → Bool → Type 0
   IsUnderWay walk false = (walk.given ≡ []) × (walk.waiting ≡ []) × (walk.chosen ≡ None) × (walk.is_given ≡ false)
-  IsUnderWay walk true = (length walk.nodes ≤ length walk.known.rows) × IsPlanned eq value walk.nodes walk.known walk.given walk.waiting walk.chosen walk.is_given
+  IsUnderWay walk true = (length walk.nodes ≤ length walk.known.rows) × (length walk.known.rows < 2 ^ 64) × IsPlanned eq value walk.nodes walk.known walk.given walk.waiting walk.chosen walk.is_given
 
   -- The walk is one of this graph from this start: its functions answer the graph and the test in reach, where no edge costs less than 0, what was learned is so, and so is what was planned; and where it stands before a step that was refused for a cost overflow, that refusal may come, and the walk is not at its end.
   pub record IsPathWalk (fits : ℤ → Type 0) (explores : TestedGraph N → List N → F → S → Type 0) (walk : PathWalk N C F S) : Type 0 where

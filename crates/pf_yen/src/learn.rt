@@ -1,6 +1,6 @@
 //! All of a graph that paths to goals can go through, learned once.
 
-ghost use Rattle.std.specs.Prelude.{◌≡◌, ◌<◌, ◌≤◌, ◌+◌, length, OnOk, IfErr};
+ghost use Rattle.std.specs.Prelude.{◌≡◌, ◌<◌, ◌≤◌, ◌+◌, ◌^◌, length, OnOk, IfErr};
 ghost use Rattle.pf_core.specs.Numbered.{Grows};
 ghost use Rattle.pf_yen.specs.Learned.{IsLearned};
 
@@ -46,6 +46,7 @@ pub fn learn<C: Cost, G: GoalGraph<C>, A: Allocator + Copy>(
     ensures learned { (g : G.Graph) → G.explores graph.old g → IsLearned C.value (G.step g) (G.passes g) (G.stands graph.old) (G.found graph.old) known.old
         → IsLearned C.value (G.step g) (G.passes g) (G.stands graph.new) (G.found graph.new) known.new }
     ensures all { OnOk result (G.found graph.new ≤ length known.new.rows) }
+    ensures few { OnOk result (length known.new.rows < 2 ^ 64) }
     ensures refused { IfErr result (λ e. e ≡ PathError.OutOfMemory) }
 {
     'numbers: while known.len() < graph.found() {

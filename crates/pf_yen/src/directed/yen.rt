@@ -1,11 +1,11 @@
 //! The cheapest paths to goals, one after the other (Yen 1971, Lawler 1972).
 
-ghost use Rattle.std.specs.Prelude.{◌≡◌, ◌≤◌, ◌↔◌, List, ℤ, Bool, true, false, None, [], ◌∷◌, length, Err, OnOk, OnErr, IfOk, IfErr, IsOkAnd};
-ghost use Rattle.std.specs.Iterator.{MakesProgress};
+ghost use Rattle.std.specs.Prelude.{◌≡◌, ◌≤◌, ◌<◌, ◌^◌, ◌↔◌, List, ℤ, Bool, true, false, None, [], ◌∷◌, length, Err, OnOk, OnErr, IfOk, IfErr, IsOkAnd};
+ghost use Rattle.std.specs.Iterator.{MakesProgress, at_most};
 ghost use Rattle.pf_base.specs.Answers.{IsLawfulClone};
 ghost use Rattle.pf_base.specs.Edges.{IsWeightedSearch};
 ghost use Rattle.pf_yen.specs.CleanPaths.{RefusedFor};
-ghost use Rattle.pf_yen.specs.Walk.{IsPathWalk, IsEnded, IsBarred, PathTurn, PathStep, TurnKeepsBar, StepKeepsBar, Searches};
+ghost use Rattle.pf_yen.specs.Walk.{IsPathWalk, most_items, IsEnded, IsBarred, PathTurn, PathStep, TurnKeepsBar, StepKeepsBar, Searches};
 
 pub use crate::directed::k_cheapest::yen;
 use crate::given::Given;
@@ -79,6 +79,8 @@ where
 {
     type Item = Result<(Vec<N, A>, C), PathError>;
 
+    ghost remaining = { λ s. at_most (most_items s) };
+
     ghost can_next = { λ s. IsLawfulClone N.eq N.is_clone × ((edges : N → List (N × ℤ)) × (start : N) × (test : N → Bool)
         × IsPathWalk N.eq C.value edges start test C.fits (Searches N.eq C.value IN.into_iter_gives IN.IntoIter.can_next IN.IntoIter.remaining IN.IntoIter.next_gives FN.FnMut FS.FnMut) s) };
 
@@ -133,7 +135,7 @@ where
             → IsPathWalk N.eq C.value edges start test C.fits (Searches N.eq C.value IN.into_iter_gives IN.IntoIter.can_next IN.IntoIter.remaining IN.IntoIter.next_gives FN.FnMut FS.FnMut) self.new }
         ensures known { (edges : N → List (N × ℤ)) (start : N) (test : N → Bool)
             → IsPathWalk N.eq C.value edges start test C.fits (Searches N.eq C.value IN.into_iter_gives IN.IntoIter.can_next IN.IntoIter.remaining IN.IntoIter.next_gives FN.FnMut FS.FnMut) self.old
-            → OnOk result (length self.new.nodes ≤ length self.new.known.rows) }
+            → OnOk result ((length self.new.nodes ≤ length self.new.known.rows) × (length self.new.known.rows < 2 ^ 64)) }
         ensures ended { IsEnded self.old → IsOkAnd result (λ _. IsEnded self.new) }
         ensures given { self.new.given ≡ self.old.given }
         ensures same { self.new.refused ≡ self.old.refused }
@@ -151,7 +153,7 @@ where
     fn choose(&mut self) -> Result<(), PathError>
         requires walk { (edges : N → List (N × ℤ)) × (start : N) × (test : N → Bool)
             × IsPathWalk N.eq C.value edges start test C.fits (Searches N.eq C.value IN.into_iter_gives IN.IntoIter.can_next IN.IntoIter.remaining IN.IntoIter.next_gives FN.FnMut FS.FnMut) self.old }
-        requires known { length self.old.nodes ≤ length self.old.known.rows }
+        requires known { (length self.old.nodes ≤ length self.old.known.rows) × (length self.old.known.rows < 2 ^ 64) }
         requires free { ¬ (IsBarred self.old) }
         ensures walk { (edges : N → List (N × ℤ)) (start : N) (test : N → Bool)
             → IsPathWalk N.eq C.value edges start test C.fits (Searches N.eq C.value IN.into_iter_gives IN.IntoIter.can_next IN.IntoIter.remaining IN.IntoIter.next_gives FN.FnMut FS.FnMut) self.old

@@ -9,13 +9,13 @@ pub choose-chosen-requires-clause-whole : goal.choose-chosen-requires-clause-who
 choose-chosen-requires-clause-whole g c =
     let r = c.requires.walk in
     let v = rw (← c.self.view_is) at r.3 in
-    whole g.N.PartialEq.eq g.met.N.Eq.laws g.C.Number.value _ _ _ _ _ _ r.0 r.1 r.2 g.C.Number.fits _ v (rw (← c.self.view_is) at c.requires.known)
+    whole g.N.PartialEq.eq g.met.N.Eq.laws g.C.Number.value _ _ _ _ _ _ r.0 r.1 r.2 g.C.Number.fits _ v (rw (← c.self.view_is) at c.requires.known.0)
 
 pub choose-chosen-requires-clause-some : goal.choose-chosen-requires-clause-some
 choose-chosen-requires-clause-some g c =
     let r = c.requires.walk in
     let v = rw (← c.self.view_is) at r.3 in
-    some_known g.N.PartialEq.eq g.met.N.Eq.laws g.C.Number.value _ _ _ _ _ _ r.0 r.1 r.2 g.C.Number.fits _ v (rw (← c.self.view_is) at c.requires.known)
+    some_known g.N.PartialEq.eq g.met.N.Eq.laws g.C.Number.value _ _ _ _ _ _ r.0 r.1 r.2 g.C.Number.fits _ v (rw (← c.self.view_is) at c.requires.known.0)
 
 pub choose-chosen-requires-clause-partition : goal.choose-chosen-requires-clause-partition
 choose-chosen-requires-clause-partition g c =
@@ -35,7 +35,7 @@ returns-clause-walk g c = λ edges start test w.
     let i = c.self.inside in
     let v = rw (← c.self.view_is) at w in
     let free = rw (← c.self.view_is) at c.requires.free in
-    let all = rw (← c.self.view_is) at c.requires.known in
+    let known = rw (← c.self.view_is) at c.requires.known in
     let s = seen i.given i.refused i.barred i.graph.discovery.successors i.graph.success i.graph.discovery.nodes.keys i.known i.plans.has_begun (waiting_plans (heap_items i.plans.waiting)) (chosen_plan i.plans.chosen) i.plans.is_given in
     let e = c.choose-chosen.ensures in
     let r = c.choose-chosen.result in
@@ -43,8 +43,8 @@ returns-clause-walk g c = λ edges start test w.
     let waiting = waiting_plans (heap_items p.waiting) in
     let chosen = chosen_plan p.chosen in
     let after = record s { has_begun = p.has_begun; waiting = waiting; chosen = chosen; is_given = p.is_given } in
-    let went = chose g.N.PartialEq.eq g.met.N.Eq.laws g.C.Number.value _ _ _ _ _ _ edges start test g.C.Number.fits s v all free r p.has_begun waiting chosen p.is_given e.begun e.first e.goes_on e.begins e.kept in
-    let why = refused_for g.N.PartialEq.eq g.met.N.Eq.laws g.C.Number.value _ _ _ _ _ _ edges start test g.C.Number.fits s v all r e.overflow e.due e.errors in
+    let went = chose g.N.PartialEq.eq g.met.N.Eq.laws g.C.Number.value _ _ _ _ _ _ edges start test g.C.Number.fits s v known.0 known.1 free r p.has_begun waiting chosen p.is_given e.begun e.first e.goes_on e.begins e.kept in
+    let why = refused_for g.N.PartialEq.eq g.met.N.Eq.laws g.C.Number.value _ _ _ _ _ _ edges start test g.C.Number.fits s v known.0 r e.overflow e.due e.errors in
     let ends = λ (z : IsEnded s). still_ended g.C.Number.value s r p.has_begun waiting chosen p.is_given z e.begun e.goes_on e.due in
     barred_by g.N.PartialEq.eq g.met.N.Eq.laws g.C.Number.value _ _ _ _ _ _ edges start test g.C.Number.fits after c.is_overflow-self-inside.result went
     (barred_for g.N.PartialEq.eq g.met.N.Eq.laws g.C.Number.value _ _ _ _ _ _ edges start test g.C.Number.fits s v r p.has_begun waiting chosen p.is_given c.is_overflow-self-inside.result c.is_overflow-self-inside.ensures.0 why ends e.kept)
@@ -64,7 +64,7 @@ returns-clause-refused g c = λ edges start test w.
     let v = rw (← c.self.view_is) at w in
     let s = seen i.given i.refused i.barred i.graph.discovery.successors i.graph.success i.graph.discovery.nodes.keys i.known i.plans.has_begun (waiting_plans (heap_items i.plans.waiting)) (chosen_plan i.plans.chosen) i.plans.is_given in
     let e = c.choose-chosen.ensures in
-    rw (← c.self.view_is) (refused_for g.N.PartialEq.eq g.met.N.Eq.laws g.C.Number.value _ _ _ _ _ _ edges start test g.C.Number.fits s v (rw (← c.self.view_is) at c.requires.known) c.choose-chosen.result e.overflow e.due e.errors)
+    rw (← c.self.view_is) (refused_for g.N.PartialEq.eq g.met.N.Eq.laws g.C.Number.value _ _ _ _ _ _ edges start test g.C.Number.fits s v (rw (← c.self.view_is) at c.requires.known.0) c.choose-chosen.result e.overflow e.due e.errors)
 
 pub returns-clause-bars : goal.returns-clause-bars
 returns-clause-bars g c =

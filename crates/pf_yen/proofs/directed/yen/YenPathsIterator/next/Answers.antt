@@ -2,7 +2,7 @@ use Rattle.std.proofs.Common.{sym, ap, ◌∙◌}
 use Rattle.std.specs.BinaryHeap.{heap_items}
 use Rattle.pf_yen.specs.Plans.{waiting_plans, chosen_plan}
 use Rattle.pf_yen.specs.Walk.{PathWalk}
-use Rattle.pf_yen.proofs.WalkLemmas.{seen, step_of, bars_of, any_some}
+use Rattle.pf_yen.proofs.WalkLemmas.{seen, step_of, bars_of, few_given, progress}
 use Rattle.pf_yen.proofs.directed.yen.YenPathsIterator.next.Goals as goal
 
 pub returns-clause-steps : goal.returns-clause-steps
@@ -21,7 +21,11 @@ returns-clause-again g c =
     (r.0, (r.1.0, r.1.1, r.1.2, (returns-clause-steps g c r.1.0 r.1.1 r.1.2 r.1.3).0))
 
 pub returns-clause-goes : goal.returns-clause-goes
-returns-clause-goes g c = record { on = λ f. absurd f; keeps = any_some c.transpose.result (returns-clause-again g c); rests = λ f. absurd f }
+returns-clause-goes g c =
+    let r = c.requires.1 in
+    let q = returns-clause-steps g c r.0 r.1 r.2 r.3 in
+    let few = few_given g.N.PartialEq.eq g.met.N.Eq.laws g.C.Number.value _ _ _ _ _ _ r.0 r.1 r.2 g.C.Number.fits _ q.0 in
+    progress g.N.PartialEq.eq g.C.Number.value r.0 r.1 r.2 g.C.Number.fits _ c.args.self.now _ c.transpose.result (returns-clause-again g c) few q.1
 
 pub step-step-requires-clause-clones : goal.step-step-requires-clause-clones
 step-step-requires-clause-clones g c = c.requires.0
