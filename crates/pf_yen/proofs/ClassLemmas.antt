@@ -6,14 +6,14 @@ use borrow.Author.Tests.{eqb-true}
 use Rattle.std.proofs.lemmas.List.Folds.{list_any-append}
 use Rattle.std.proofs.lemmas.List.Sums.{sum_by-append, sum_by-cons}
 use Rattle.std.proofs.lemmas.List.Sorted.{sum_by-IsPermutation}
-use Rattle.std.proofs.lemmas.List.Elements.{Contains-append_cases}
+use Rattle.std.proofs.lemmas.List.Elements.{Contains-append_cases, Contains-append_left, Contains-append_right}
 use Rattle.pf_base.specs.Walks.{end_of}
 use Rattle.pf_core.specs.Steps.{GoesAlong}
 use Rattle.pf_core.proofs.ListLemmas.{bool_dec, Contains-head, Contains-tail, Contains-cases}
 use Rattle.pf_yen.specs.Known.{KnownGraph, is_goal, row_of, KnownStep, IsWhole}
 use Rattle.pf_yen.specs.Narrow.{is_in}
 use Rattle.pf_yen.proofs.NarrowLemmas.{in_none}
-use Rattle.pf_yen.specs.Classes.{is_member, one_if, Plan, in_class, is_path, IsCleanNumbers, IsCheapestOfClass, IsSplit, IsPartition}
+use Rattle.pf_yen.specs.Classes.{is_member, goes_on_to, one_if, Plan, in_class, is_path, IsCleanNumbers, IsCheapestOfClass, IsSplit, IsPartition}
 
 pub same_is_true : (a : ℕ) → nat_eq a a ≡ true
 same_is_true a = eq-eqb a a refl
@@ -42,11 +42,15 @@ split_member [] banned (x ∷ p) n new = rw (list_any-append (λ y. nat_eq y x) 
 split_member (y ∷ q) banned [] n new = refl
 split_member (y ∷ q) banned (x ∷ p) n new = split_and (nat_eq y x) (is_member q banned p) (is_member q (banned ++ n ∷ []) p) (is_member (q ++ n ∷ []) [] p) (split_member q banned p n new)
 
-and_left : (a b : Bool) → a && b ≡ true → a ≡ true
+pub both_true : (a b : Bool) → a ≡ true → b ≡ true → a && b ≡ true
+both_true true b h k = k
+both_true false b h k = h
+
+pub and_left : (a b : Bool) → a && b ≡ true → a ≡ true
 and_left true b h = refl
 and_left false b h = h
 
-and_right : (a b : Bool) → a && b ≡ true → b ≡ true
+pub and_right : (a b : Bool) → a && b ≡ true → b ≡ true
 and_right true b h = h
 and_right false b h = absurd (true≢false (sym h))
 
@@ -136,6 +140,10 @@ module _ {C : Type 0} (value : C → ℤ) (k : KnownGraph C) (whole : IsWhole va
   pub first_partition : (c : Plan C) → IsCheapestOfClass value k c → c.spur ≡ 0 → c.banned ≡ [] → IsPartition value k (c ∷ []) []
   first_partition c h s b = record {
     cheapest = λ d m. elim (Contains-cases [] c d m) as (λ _. IsCheapestOfClass value k d) [ inl e ↦ subst (λ (x : Plan C). IsCheapestOfClass value k x) e h | inr f ↦ absurd (in_none d f) ];
+    barred = λ d y m i. elim (Contains-cases [] c d m) as (λ _. (p : List ℕ) × Contains [] p × (goes_on_to (take (d.spur + 1) d.path) y p ≡ true)) [
+      | inl e ↦ absurd (true≢false (sym (subst (λ (v : List ℕ). is_in v y ≡ true) b (subst (λ (x : Plan C). is_in x.banned y ≡ true) (sym e) i))))
+      | inr f ↦ absurd (in_none d f)
+    ];
     once = λ p u clean.
         let e : take (c.spur + 1) c.path ≡ 0 ∷ [] = subst (λ (n : ℕ). take (n + 1) c.path ≡ 0 ∷ []) (sym s) (let f = h.clean in subst (λ (v : List ℕ). take 1 v ≡ 0 ∷ []) (sym f.is) refl) in
         let t : in_class p c ≡ 1 = one_if_one (is_member (take (c.spur + 1) c.path) c.banned p) (subst (λ (v : List ℕ). is_member v c.banned p ≡ true) (sym e) (subst (λ (v : List ℕ). is_member (0 ∷ []) v p ≡ true) (sym b) (subst (λ (v : List ℕ). is_member (0 ∷ []) [] v ≡ true) (sym clean.is) (any_goes_on clean.rest)))) in
@@ -146,7 +154,7 @@ module _ {C : Type 0} (value : C → ℤ) (k : KnownGraph C) (whole : IsWhole va
 
   -- where there is no clean path, there is nothing to split
   pub no_partition : ((p : List ℕ) (u : ℤ) → ¬ (IsCleanNumbers value k p u)) → IsPartition value k [] []
-  no_partition h = record { cheapest = λ d m. absurd (in_none d m); once = λ p u clean. absurd (h p u clean) }
+  no_partition h = record { cheapest = λ d m. absurd (in_none d m); once = λ p u clean. absurd (h p u clean); barred = λ d y m i. absurd (in_none d m) }
 
   -- a plan is split when its path has gone
   pub split_partition : (c : Plan C) (plans more : List (Plan C)) (before : List (List ℕ)) → IsPartition value k (c ∷ plans) before → IsSplit value k c more → IsPartition value k (more ++ plans) (before ++ c.path ∷ [])
@@ -160,10 +168,18 @@ module _ {C : Type 0} (value : C → ℤ) (k : KnownGraph C) (whole : IsWhole va
         let i : sum_by (in_class p) (c ∷ plans) ≡ in_class p c + sum_by (in_class p) plans = sum_by-cons (in_class p) c plans in
         let j : sum_by (is_path p) (c.path ∷ []) ≡ is_path p c.path + 0 = sum_by-cons (is_path p) c.path [] in
         omega (arith, a, b, x, y, i, j);
+    barred = λ d y m i. elim (Contains-append_cases more plans d m) as (λ _. (p : List ℕ) × Contains (before ++ c.path ∷ []) p × (goes_on_to (take (d.spur + 1) d.path) y p ≡ true)) [
+      | inl q ↦ elim (s.barred d y q i) as (λ _. (p : List ℕ) × Contains (before ++ c.path ∷ []) p × (goes_on_to (take (d.spur + 1) d.path) y p ≡ true)) [
+        | inl t ↦ (c.path, Contains-append_right before (c.path ∷ []) c.path (Contains-head [] c.path), t)
+        | inr t ↦ let r = h.barred c y (Contains-head plans c) t.1 in (r.0, Contains-append_left before (c.path ∷ []) r.0 r.1, subst (λ (v : List ℕ). goes_on_to v y r.0 ≡ true) (sym t.0) r.2)
+      ]
+      | inr q ↦ let r = h.barred d y (Contains-tail plans c d q) i in (r.0, Contains-append_left before (c.path ∷ []) r.0 r.1, r.2)
+    ];
   }
 
   pub moved_partition : (plans plans' : List (Plan C)) (before : List (List ℕ)) → IsPermutation plans plans' → ((c : Plan C) → Contains plans' c → Contains plans c) → IsPartition value k plans before → IsPartition value k plans' before
   moved_partition plans plans' before m back h = record {
     cheapest = λ c q. h.cheapest c (back c q);
     once = λ p u clean. let a = h.once p u clean in let e = sum_by-IsPermutation (in_class p) plans plans' m in omega (arith, a, e);
+    barred = λ c y q i. h.barred c y (back c q) i;
   }

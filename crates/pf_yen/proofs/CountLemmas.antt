@@ -12,10 +12,7 @@ use Rattle.pf_core.proofs.WalkLemmas.{HasNode-same}
 use Rattle.pf_yen.specs.KCheapest.{same_nodes}
 use Rattle.pf_yen.specs.CleanPaths.{IsCleanPath}
 use Rattle.pf_yen.specs.Counting.{most_paths}
-
-pub both_true : (a b : Bool) → a ≡ true → b ≡ true → a && b ≡ true
-both_true true b h k = k
-both_true false b h k = h
+use Rattle.pf_yen.proofs.ClassLemmas.{both_true}
 
 pub both : (a b : Bool) → a && b ≡ true → (a ≡ true) × (b ≡ true)
 both true b h = (refl, h)

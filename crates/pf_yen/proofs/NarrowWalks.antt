@@ -1,6 +1,6 @@
 -- Walks of a narrowed graph: those of a class.
 use Rattle.std.proofs.Common.{◌≡◌, ℕ, ◌<◌, ◌∙◌, refl, sym, ap, subst, inl, inr, Bool, true, false, true≢false, not, ◌&&◌, List, [], ◌∷◌, ◌++◌, ℤ, pos, nat_eq, eq-eqb, Option, Some, None}
-use Rattle.std.specs.Prelude.{◌≤ℤ◌, slice_get}
+use Rattle.std.specs.Prelude.{◌⊎◌, ◌≤ℤ◌, slice_get}
 use Rattle.std.specs.List.{AllZip}
 use borrow.Author.Tests.{eqb-true}
 use Rattle.pf_base.specs.Walks.{HasNode, NoRepeats, end_of}
@@ -10,7 +10,7 @@ use Rattle.pf_yen.specs.Known.{is_goal, row_of, KnownStep, IsWhole}
 use Rattle.pf_yen.specs.Narrow.{NarrowGraph, allows, allows_by, NarrowStep, StandsForItself, is_in}
 use Rattle.pf_yen.specs.Classes.{is_member, IsCleanNumbers, LeadsOn, IsNarrowedTo}
 use Rattle.pf_yen.proofs.NarrowLemmas.{Contains-filter, filter-Contains}
-use Rattle.pf_yen.proofs.ClassLemmas.{same_is_true, goes_on}
+use Rattle.pf_yen.proofs.ClassLemmas.{both_true, same_is_true, any_goes_on, goes_on}
 
 pub HasNode-behind : (q r : List ℕ) (x : ℕ) → HasNode nat_eq r x → HasNode nat_eq (q ++ r) x
 HasNode-behind [] r x h = h
@@ -109,6 +109,33 @@ module _ {C : Type 0} (value : C → ℤ) (g : NarrowGraph C) where
       let same = eqb-true b b' f in
       let i = walk_back q w b' k.1 l.2 (subst (λ (z : ℕ). GoesAlong (NarrowStep value g) z w k.1) same k.3) (subst (λ (z : ℕ). is_goal g.known (end_of z w) ≡ true) same e) in
       subst (λ (c : Bool). c && is_member (b' ∷ q) g.banned (b ∷ w) ≡ true) (sym (same_is_true a)) (subst (λ (z : ℕ). is_member (b' ∷ q) g.banned (z ∷ w) ≡ true) (sym same) i)
+
+  -- a step from the spur leads to no banned number
+  not_banned : (a : ℕ) (z : ℤ) (n : ℕ) → LeadsOn g.known g.onward g.spur a [] → NarrowStep value g a z n → not (is_in g.banned n) ≡ true
+  not_banned a z n l s =
+      let h = is_allowed a z n s in
+      let f : not (nat_eq a g.spur && is_in g.banned n) ≡ true = rw l.1 at h in
+      subst (λ (c : Bool). not (c && is_in g.banned n) ≡ true) (eq-eqb a g.spur l.0) f
+
+  -- a walk that is left, and one step more, go on from the prefix to a number that is not banned, or stay within it
+  pub on_or_within : (q w : List ℕ) (a : ℕ) (t z : ℤ) (n : ℕ) → LeadsOn g.known g.onward g.spur a q → GoesAlong (NarrowStep value g) a w t → NarrowStep value g (end_of a w) z n
+      → ((is_member (a ∷ q) [] (a ∷ w) ≡ true) × (is_member (a ∷ q) g.banned ((a ∷ w) ++ n ∷ []) ≡ true)) ⊎ (is_member ((a ∷ w) ++ n ∷ []) [] (a ∷ q) ≡ true)
+  on_or_within [] [] a t z n l k s = inl (both_true (nat_eq a a) true (same_is_true a) refl, both_true (nat_eq a a) (not (is_in g.banned n)) (same_is_true a) (not_banned a z n l s))
+  on_or_within [] (b ∷ w) a t z n l k s = inl (both_true (nat_eq a a) true (same_is_true a) refl, both_true (nat_eq a a) (not (is_in g.banned b)) (same_is_true a) (not_banned a k.0 b l k.2))
+  on_or_within (b' ∷ q) [] a t z n l k s =
+      let h = is_allowed a z n s in
+      let f : nat_eq n b' ≡ true = rw l.0 at h in
+      inr (both_true (nat_eq a a) (nat_eq n b' && is_member [] [] q) (same_is_true a) (both_true (nat_eq n b') (is_member [] [] q) f (any_goes_on q)))
+  on_or_within (b' ∷ q) (b ∷ w) a t z n l k s =
+      let h = is_allowed a k.0 b k.2 in
+      let f : nat_eq b b' ≡ true = rw l.0 at h in
+      let same = eqb-true b b' f in
+      let i = on_or_within q w b' k.1 z n l.2 (subst (λ (x : ℕ). GoesAlong (NarrowStep value g) x w k.1) same k.3) (subst (λ (x : ℕ). NarrowStep value g (end_of x w) z n) same s) in
+      subst (λ (x : ℕ). ((is_member (a ∷ b' ∷ q) [] (a ∷ x ∷ w) ≡ true) × (is_member (a ∷ b' ∷ q) g.banned ((a ∷ x ∷ w) ++ n ∷ []) ≡ true)) ⊎ (is_member ((a ∷ x ∷ w) ++ n ∷ []) [] (a ∷ b' ∷ q) ≡ true)) (sym same)
+      (elim i as (λ _. ((is_member (a ∷ b' ∷ q) [] (a ∷ b' ∷ w) ≡ true) × (is_member (a ∷ b' ∷ q) g.banned ((a ∷ b' ∷ w) ++ n ∷ []) ≡ true)) ⊎ (is_member ((a ∷ b' ∷ w) ++ n ∷ []) [] (a ∷ b' ∷ q) ≡ true)) [
+        | inl r ↦ inl (both_true (nat_eq a a) (is_member (b' ∷ q) [] (b' ∷ w)) (same_is_true a) r.0, both_true (nat_eq a a) (is_member (b' ∷ q) g.banned ((b' ∷ w) ++ n ∷ [])) (same_is_true a) r.1)
+        | inr r ↦ inr (both_true (nat_eq a a) (is_member ((b' ∷ w) ++ n ∷ []) [] (b' ∷ q)) (same_is_true a) r)
+      ])
 
   module _ (q : List ℕ) (narrow : IsNarrowedTo g.known g.onward g.spur q) where
     free_behind : (r : List ℕ) → NoRepeats nat_eq ((0 ∷ q) ++ r) → (x y : ℕ) → HasNode nat_eq r x → allows g x y ≡ true

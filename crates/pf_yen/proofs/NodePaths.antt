@@ -1,6 +1,6 @@
 -- From clean paths over numbers to clean paths over nodes, and back.
-use Rattle.std.proofs.Common.{◌≡◌, ℕ, ◌<◌, ◌≤◌, ◌∙◌, refl, sym, ap, subst, arith, inl, inr, Bool, true, false, List, [], ◌∷◌, length, ℤ, pos, nat_eq, Some}
-use Rattle.std.specs.Prelude.{◌⊎◌, ◌↔◌, ◌≤ℤ◌, ◌+ℤ◌, All}
+use Rattle.std.proofs.Common.{◌≡◌, ℕ, suc, ◌<◌, ◌≤◌, ◌∙◌, refl, sym, ap, subst, arith, inl, inr, Bool, true, false, true≢false, not, List, [], ◌∷◌, ◌++◌, length, ℤ, pos, nat_eq, eq-eqb, Some}
+use Rattle.std.specs.Prelude.{◌⊎◌, ◌↔◌, ◌≤ℤ◌, ◌+ℤ◌, All, Contains}
 use Rattle.std.specs.List.{AllZip}
 use Rattle.std.specs.Cmp.{IsEquivalence}
 use borrow.Author.Tests.{eqb-true}
@@ -11,16 +11,74 @@ use Rattle.pf_base.specs.Edges.{StepCosts, StepsCost, WalkCosts, InReach, IsPast
 use Rattle.pf_base.specs.Answers.{ListsEdges, SameNodes}
 use Rattle.pf_core.specs.Numbered.{ListsSteps}
 use Rattle.pf_core.specs.Steps.{GoesAlong, IsNonNegative}
-use Rattle.pf_core.proofs.ListLemmas.{bool_dec}
+use Rattle.pf_core.proofs.ListLemmas.{bool_dec, Contains-head, Contains-tail, Contains-cases}
 use Rattle.pf_core.proofs.FrontierLemmas.{walk_positive}
 use Rattle.pf_core.specs.Nodes.{NodeGraph, StandsFor, IsStep}
 use Rattle.pf_core.specs.NodeLaws.{StandsFor-inside}
-use Rattle.pf_core.proofs.NodeLemmas.{eq-sym, eq-trans, HasEdge-same, InReach-start, InReach-more}
+use Rattle.pf_core.proofs.NodeLemmas.{eq-sym, eq-trans, StandsFor-same, HasEdge-same, InReach-start, InReach-more}
 use Rattle.pf_core.proofs.WalkLemmas.{cheapest_edge, goes_of_walk, walk_of_goes, distinct_nodes}
+use Rattle.pf_core.proofs.PathLemmas.{AllZip-append}
 use Rattle.pf_yen.specs.Known.{KnownGraph, is_goal, row_of, KnownStep}
 use Rattle.pf_yen.specs.Learned.{LiveStep, IsLearned}
-use Rattle.pf_yen.specs.Classes.{IsCleanNumbers, IsPastAlong}
-use Rattle.pf_yen.specs.CleanPaths.{FailsBeforeEnd, IsCleanPath, IsPathPastRange}
+use Rattle.pf_yen.specs.Classes.{Plan, is_member, goes_on_to, IsCleanNumbers, IsPastAlong, IsPastInClass}
+use Rattle.pf_yen.specs.CleanPaths.{FailsBeforeEnd, GoesOnTo, LeavesGiven, IsCleanPath, IsPathPastRange, IsBranchPastRange}
+use Rattle.pf_yen.specs.Narrow.{is_in}
+use Rattle.pf_yen.proofs.NarrowLemmas.{in_none}
+use Rattle.pf_yen.proofs.NarrowWalks.{not_true}
+use Rattle.pf_yen.proofs.ClassLemmas.{both_true, and_left, and_right, same_is_true, any_goes_on, goes_on}
+
+-- lists that go together, where the first one is cut
+zip_split : {A B : Type 0} (R : A → B → Type 0) (xs ys : List A) (zs : List B) → AllZip R (xs ++ ys) zs → (p : List B) × (q : List B) × (zs ≡ p ++ q) × AllZip R xs p × AllZip R ys q
+zip_split R [] ys zs h = ([], zs, refl, tt, h)
+zip_split R (x ∷ xs) ys [] h = absurd h
+zip_split R (x ∷ xs) ys (z ∷ zs) h = let k = zip_split R xs ys zs h.1 in (z ∷ k.0, k.1, ap (λ (v : List _). z ∷ v) k.2, (h.0, k.3), k.4)
+
+zip_last : {A B : Type 0} (R : A → B → Type 0) (xs : List A) (x : A) (zs : List B) → AllZip R (xs ++ x ∷ []) zs → (p : List B) × (z : B) × (zs ≡ p ++ z ∷ []) × R x z
+zip_last R xs x zs h = let k = zip_split R xs (x ∷ []) zs h in at k.0 k.1 k.2 k.4
+  where
+    at : (p q : List _) → zs ≡ p ++ q → AllZip R (x ∷ []) q → (p : List _) × (z : _) × (zs ≡ p ++ z ∷ []) × R x z
+    at p [] e k = absurd k
+    at p (z ∷ []) e k = (p, z, e, k.0)
+    at p (z ∷ y ∷ q) e k = absurd k.1
+
+pub zip_length : {A B : Type 0} (R : A → B → Type 0) (xs : List A) (ys : List B) → AllZip R xs ys → length xs ≡ length ys
+zip_length R [] [] z = refl
+zip_length R [] (b ∷ ys) z = absurd z
+zip_length R (a ∷ xs) [] z = absurd z
+zip_length R (a ∷ xs) (b ∷ ys) z = ap suc (zip_length R xs ys z.1)
+
+pub zip_find : {A B : Type 0} (R : A → B → Type 0) (xs : List A) (ys : List B) (y : B) → AllZip R xs ys → Contains ys y → (x : A) × Contains xs x × R x y
+zip_find R [] [] y z c = absurd (in_none y c)
+zip_find R [] (b ∷ ys) y z c = absurd z
+zip_find R (a ∷ xs) [] y z c = absurd z
+zip_find R (a ∷ xs) (b ∷ ys) y z c = elim (Contains-cases ys b y c) as (λ _. (x : _) × Contains (a ∷ xs) x × R x y) [
+  | inl e ↦ (a, Contains-head xs a, subst (λ (v : _). R a v) e z.0)
+  | inr q ↦ let r = zip_find R xs ys y z.1 q in (r.0, Contains-tail xs a r.0 r.1, r.2)
+]
+
+pub zip_found : {A B : Type 0} (R : A → B → Type 0) (xs : List A) (ys : List B) (x : A) → AllZip R xs ys → Contains xs x → (y : B) × Contains ys y × R x y
+zip_found R [] ys x z c = absurd (in_none x c)
+zip_found R (a ∷ xs) [] x z c = absurd z
+zip_found R (a ∷ xs) (b ∷ ys) x z c = elim (Contains-cases xs a x c) as (λ _. (y : _) × Contains (b ∷ ys) y × R x y) [
+  | inl e ↦ (b, Contains-head ys b, subst (λ (v : _). R v b) e z.0)
+  | inr q ↦ let r = zip_found R xs ys x z.1 q in (r.0, Contains-tail ys b r.0 r.1, r.2)
+]
+
+-- a path that goes on to a number that is not banned is in the class
+open_member : (q banned : List ℕ) (y : ℕ) (p : List ℕ) → goes_on_to q y p ≡ true → is_in banned y ≡ false → is_member q banned p ≡ true
+open_member [] banned y [] h f = absurd (true≢false (sym h))
+open_member [] banned y (x ∷ p) h f = let e = eqb-true y x (and_left (nat_eq y x) (is_member [] [] p) h) in subst (λ (n : ℕ). not (is_in banned n) ≡ true) e (ap not f)
+open_member (i ∷ q) banned y [] h f = absurd (true≢false (sym h))
+open_member (i ∷ q) banned y (x ∷ p) h f = both_true (nat_eq i x) (is_member q banned p) (and_left (nat_eq i x) (is_member (q ++ y ∷ []) [] p) h) (open_member q banned y p (and_right (nat_eq i x) (is_member (q ++ y ∷ []) [] p) h) f)
+
+-- to what a path of the class goes on, where one number more stands behind it
+onward_of : (q banned p : List ℕ) (n : ℕ) → is_member q [] p ≡ true → is_member q banned (p ++ n ∷ []) ≡ true → (y : ℕ) × (goes_on_to q y (p ++ n ∷ []) ≡ true) × (is_in banned y ≡ false)
+onward_of [] banned [] n h k = (n, both_true (nat_eq n n) true (same_is_true n) refl, not_true (is_in banned n) k)
+onward_of [] banned (x ∷ p) n h k = (x, both_true (nat_eq x x) (is_member [] [] (p ++ n ∷ [])) (same_is_true x) (any_goes_on (p ++ n ∷ [])), not_true (is_in banned x) k)
+onward_of (i ∷ q) banned [] n h k = absurd (true≢false (sym h))
+onward_of (i ∷ q) banned (x ∷ p) n h k =
+    let r = onward_of q banned p n (and_right (nat_eq i x) (is_member q [] p) h) (and_right (nat_eq i x) (is_member q banned (p ++ n ∷ [])) k) in
+    (r.0, both_true (nat_eq i x) (is_member (q ++ r.0 ∷ []) [] (p ++ n ∷ [])) (and_left (nat_eq i x) (is_member q [] p) h) r.1, r.2)
 
 module _ {N : Type 0} (eq : N → N → Bool) (laws : IsEquivalence eq) (keys : List N) (one : (i j : ℕ) (x : N) → StandsFor eq keys i x → StandsFor eq keys j x → i ≡ j) where
   abbrev stands : ℕ → N → Type 0
@@ -62,6 +120,46 @@ module _ {N : Type 0} (eq : N → N → Bool) (laws : IsEquivalence eq) (keys : 
   distinct_numbers [] ys a n = tt
   distinct_numbers (k ∷ ks) [] a n = absurd a
   distinct_numbers (k ∷ ks) (y ∷ ys) a n = ((λ h. n.0 (node_of_number ks ys k y a.1 h a.0)), distinct_numbers ks ys a.1 n.1)
+
+  -- to a node equal to one that a path goes on to it goes on too
+  goes_same : (P path : List N) (x y : N) → eq x y ≡ true → GoesOnTo eq P path x → GoesOnTo eq P path y
+  goes_same [] [] x y e h = h
+  goes_same [] (z ∷ w) x y e h = eq-trans eq laws z x y h e
+  goes_same (a ∷ P) [] x y e h = h
+  goes_same (a ∷ P) (z ∷ w) x y e h = (h.0, goes_same P w x y e h.1)
+
+  -- where numbers go on, so do their nodes
+  to_node : (q : List ℕ) (P : List N) (p : List ℕ) (path : List N) (y : ℕ) → AllZip (StandsFor eq keys) q P → AllZip (StandsFor eq keys) p path → goes_on_to q y p ≡ true → (x : N) × StandsFor eq keys y x × GoesOnTo eq P path x
+  to_node [] [] [] path y a b h = absurd (true≢false (sym h))
+  to_node [] [] (j ∷ p) [] y a b h = absurd b
+  to_node [] [] (j ∷ p) (z ∷ w) y a b h = (z, subst (λ (n : ℕ). StandsFor eq keys n z) (sym (eqb-true y j (and_left (nat_eq y j) (is_member [] [] p) h))) b.0, laws.refl z)
+  to_node [] (v ∷ P) p path y a b h = absurd a
+  to_node (i ∷ q) [] p path y a b h = absurd a
+  to_node (i ∷ q) (v ∷ P) [] path y a b h = absurd (true≢false (sym h))
+  to_node (i ∷ q) (v ∷ P) (j ∷ p) [] y a b h = absurd b
+  to_node (i ∷ q) (v ∷ P) (j ∷ p) (z ∷ w) y a b h =
+      let e = eqb-true i j (and_left (nat_eq i j) (is_member (q ++ y ∷ []) [] p) h) in
+      let r = to_node q P p w y a.1 b.1 (and_right (nat_eq i j) (is_member (q ++ y ∷ []) [] p) h) in
+      (r.0, r.1, (same_node j v z (subst (λ (n : ℕ). StandsFor eq keys n v) e a.0) b.0, r.2))
+
+  to_this_node : (q : List ℕ) (P : List N) (p : List ℕ) (path : List N) (y : ℕ) (x : N) → AllZip (StandsFor eq keys) q P → AllZip (StandsFor eq keys) p path → StandsFor eq keys y x → goes_on_to q y p ≡ true → GoesOnTo eq P path x
+  to_this_node q P p path y x a b s h = let r = to_node q P p path y a b h in goes_same P path r.0 x (same_node y r.0 x r.1 s) r.2
+
+  -- and where nodes go on, so do their numbers
+  to_number : (q : List ℕ) (P : List N) (p : List ℕ) (path : List N) (x : N) → AllZip (StandsFor eq keys) q P → AllZip (StandsFor eq keys) p path → GoesOnTo eq P path x → (y : ℕ) × StandsFor eq keys y x × (goes_on_to q y p ≡ true)
+  to_number [] [] [] [] x a b h = absurd h
+  to_number [] [] [] (z ∷ w) x a b h = absurd b
+  to_number [] [] (j ∷ p) [] x a b h = absurd b
+  to_number [] [] (j ∷ p) (z ∷ w) x a b h = (j, StandsFor-same eq laws keys j z x b.0 h, both_true (nat_eq j j) (is_member [] [] p) (same_is_true j) (any_goes_on p))
+  to_number [] (v ∷ P) p path x a b h = absurd a
+  to_number (i ∷ q) [] p path x a b h = absurd a
+  to_number (i ∷ q) (v ∷ P) [] [] x a b h = absurd h
+  to_number (i ∷ q) (v ∷ P) [] (z ∷ w) x a b h = absurd b
+  to_number (i ∷ q) (v ∷ P) (j ∷ p) [] x a b h = absurd b
+  to_number (i ∷ q) (v ∷ P) (j ∷ p) (z ∷ w) x a b h =
+      let e = same_number i j v z a.0 b.0 h.0 in
+      let r = to_number q P p w x a.1 b.1 h.1 in
+      (r.0, r.1, both_true (nat_eq i j) (is_member (q ++ r.0 ∷ []) [] p) (eq-eqb i j e) r.2)
 
   ends_stand : (v : List ℕ) (w : List N) (a : ℕ) (x : N) → StandsFor eq keys a x → AllZip (StandsFor eq keys) v w → StandsFor eq keys (end_of a v) (end_of x w)
   ends_stand [] [] a x s z = s
@@ -281,14 +379,14 @@ module _ {N : Type 0} (eq : N → N → Bool) (laws : IsEquivalence eq) (keys : 
               let same : m.0 ≡ d.cost = omega (arith, ints, least, m.2) in
               subst (λ (t : ℤ). StepsCost eq edges start nodes.0 t) same m.1
 
-          past_step : (y : N) × (m : ℤ) × StepCosts eq edges last y m × ¬ (fits (d.cost +ℤ m))
+          past_step : (y : N) × (m : ℤ) × StepCosts eq edges last y m × ¬ (fits (d.cost +ℤ m)) × StandsFor eq keys d.next y
           past_step =
               let t = d.edge in
               let l = here in
               let n = l.sound d.next t.0 t.1 in
               let c = cheapest_edge eq laws edges last n.0 (value t.0) n.1.0.1 in
               let s = c.1 in
-              (n.0, c.0, s, d.too_dear c.0 (l.complete c.0 n.0 d.next ((n.1.0.0, s.edge), n.1.1) n.2))
+              (n.0, c.0, s, d.too_dear c.0 (l.complete c.0 n.0 d.next ((n.1.0.0, s.edge), n.1.1) n.2), n.2)
 
           -- some step leads on from the end, so it is no goal
           past_fails : All (λ z. test z ≡ false) (start ∷ nodes.0)
@@ -365,3 +463,73 @@ module _ {N : Type 0} (eq : N → N → Bool) (laws : IsEquivalence eq) (keys : 
                     | inl l ↦ from_goal x s w u l e
                     | inr l ↦ let a = from_goal x s l.0 l.1 l.2 l.3 in let low = l.4 in omega (arith, ints, a, low)
                   ]
+
+        -- in a class that is split off that of the path that was given last
+        module _ (fits : ℤ → Type 0) (c : Plan C) (b : IsPastInClass value k fits c) (before : List (List ℕ)) (given : List (List N × C))
+            (given_are : AllZip (λ (q : List ℕ) (g : List N × C). AllZip (StandsFor eq keys) q g.0 × IsCleanNumbers value k q (value g.1)) (before ++ c.path ∷ []) given)
+            (none_there : (p : List ℕ) (u : ℤ) → Contains (before ++ c.path ∷ []) p → IsCleanNumbers value k p u → is_member b.prefix b.banned p ≡ false)
+            (barred : (y : ℕ) → is_in b.banned y ≡ true → (p : List ℕ) × Contains (before ++ c.path ∷ []) p × (goes_on_to b.prefix y p ≡ true)) where
+          abbrev Given : List ℕ → List N × C → Type 0
+          Given q g = AllZip (StandsFor eq keys) q g.0 × IsCleanNumbers value k q (value g.1)
+
+          abbrev found : (w : List N) × AllZip (StandsFor eq keys) b.past.rest w
+          found = nodes fits b.past
+
+          origin_stands : StandsFor eq keys 0 start
+          origin_stands = (begins start).1 (laws.refl start)
+
+          -- the nodes of the prefix
+          front : (P : List N) × AllZip (StandsFor eq keys) b.prefix P
+          front =
+              let r = goes_on b.prefix [] (0 ∷ b.past.rest) b.begins in
+              let z = zip_split (StandsFor eq keys) b.prefix r.0 (start ∷ found.0) (subst (λ (v : List ℕ). AllZip (StandsFor eq keys) v (start ∷ found.0)) r.1 (origin_stands, found.1)) in
+              (z.0, z.3)
+
+          -- a node that comes next on a given path, and its number
+          not_given : (y : ℕ) (x : N) → StandsFor eq keys y x → is_in b.banned y ≡ false → (g : List N × C) → Contains given g → ¬ (GoesOnTo eq front.0 g.0 x)
+          not_given y x s free g i h =
+              let f = zip_find Given (before ++ c.path ∷ []) given g given_are i in
+              let n = to_number b.prefix front.0 f.0 g.0 x front.1 f.2.0 h in
+              let e = one n.0 y x n.1 s in
+              let m = open_member b.prefix b.banned y f.0 (subst (λ (v : ℕ). goes_on_to b.prefix v f.0 ≡ true) e n.2) free in
+              true≢false (sym m ∙ none_there f.0 (value g.1) f.1 f.2.1)
+
+          past_leaves : LeavesGiven eq given front.0 ((start ∷ found.0) ++ (past_step fits b.past).0 ∷ [])
+          past_leaves =
+              let s = past_step fits b.past in
+              let o = onward_of b.prefix b.banned (0 ∷ b.past.rest) b.past.next b.begins b.leaves in
+              let x = to_node b.prefix front.0 ((0 ∷ b.past.rest) ++ b.past.next ∷ []) ((start ∷ found.0) ++ s.0 ∷ []) o.0 front.1
+              (AllZip-append (StandsFor eq keys) (0 ∷ b.past.rest) (start ∷ found.0) b.past.next s.0 (origin_stands, found.1) s.4) o.1 in
+              (x.0, x.2, not_given o.0 x.0 x.1 o.2)
+
+          -- a clean path that leaves the given ones there is one of the class
+          in_its_class : (path : List N) (u : ℤ) → IsCleanPath eq edges start test path → WalkCosts eq edges path u → LeavesGiven eq given front.0 path → b.past.cost ≤ℤ u
+          in_its_class path u clean costs leaves =
+              let n = numbers_of_clean path clean in
+              let m = numbers_at_cost path u clean costs n.0 n.2 n.1 n.3 in
+              let y = to_number b.prefix front.0 n.0 path leaves.0 front.1 n.2 leaves.1 in
+              elim (bool_dec (is_in b.banned y.0)) as (λ _. b.past.cost ≤ℤ u) [
+                | inl t ↦
+                    let r = barred y.0 t in
+                    let g = zip_found Given (before ++ c.path ∷ []) given r.0 given_are r.1 in
+                    absurd (leaves.2 g.0 g.1 (to_this_node b.prefix front.0 r.0 g.0.0 y.0 leaves.0 front.1 g.2.0 y.1 r.2))
+                | inr f ↦ b.none_cheaper n.0 u m (open_member b.prefix b.banned y.0 n.0 y.2 f)
+              ]
+
+          pub branch_past : IsBranchPastRange eq edges start test value fits given
+          unfolding path_past
+          branch_past =
+              let l = zip_last Given before c.path given given_are in
+              let o = to_node b.prefix front.0 c.path l.1.0 b.onward front.1 l.3.0 b.along in
+              record {
+                prefix = front.0;
+                some = (let e = zip_length (StandsFor eq keys) b.prefix front.0 front.1 in omega (arith, b.some, e));
+                before = l.0;
+                last = l.1;
+                is_last = l.2;
+                onward = o.0;
+                goes_on = o.2;
+                over = path_past fits b.past;
+                leaves = past_leaves;
+                none_cheaper = in_its_class;
+              }

@@ -8,7 +8,7 @@ use Rattle.std.proofs.lemmas.Int.{ints}
 use Rattle.std.proofs.lemmas.List.{append-nil}
 use Rattle.std.proofs.lemmas.List.Sums.{sum_by-append}
 use Rattle.std.proofs.lemmas.List.Sorted.{sum_by-IsPermutation, IsPermutation-map, Contains-permutation, IsPermutation-sym}
-use Rattle.std.proofs.lemmas.List.Elements.{Contains-append_cases}
+use Rattle.std.proofs.lemmas.List.Elements.{Contains-append_cases, Contains-append_left, Contains-append_right}
 use Rattle.pf_base.specs.Walks.{end_of}
 use Rattle.pf_core.specs.Steps.{GoesAlong, IsTooDear}
 use Rattle.pf_core.proofs.ListLemmas.{Contains-head, Contains-tail, Contains-cases}
@@ -29,6 +29,7 @@ module _ {C : Type 0} (value : C → ℤ) (k : KnownGraph C) where
     partition = λ before h. subst (λ (b : List (List ℕ)). IsPartition value k plans' b) (sym (append-nil before)) (record {
       cheapest = λ c q. h.cheapest c (back c q);
       once = λ p u clean. let a = h.once p u clean in let e = sum_by-IsPermutation (in_class p) plans plans' m in omega (arith, a, e);
+      barred = λ c y q i. h.barred c y (back c q) i;
     });
     dearer = λ t low c q. low c (back c q);
   }
@@ -53,6 +54,7 @@ module _ {C : Type 0} (value : C → ℤ) (k : KnownGraph C) where
               let i = sum_by-append (in_class p) waiting more in
               let j = sum_by-IsPermutation (in_class p) made more m in
               omega (arith, a, e, f, i, j);
+          barred = λ d y i b. q.barred d y (elim (from d i) as (λ _. Contains (made ++ waiting) d) [ inl j ↦ Contains-append_right made waiting d j | inr j ↦ Contains-append_left made waiting d j ]) b;
         };
     dearer = λ t low d i. elim (from d i) as (λ _. t ≤ℤ value d.cost) [
       | inl j ↦ low d (Contains-tail waiting c d j)

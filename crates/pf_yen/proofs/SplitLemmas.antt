@@ -1,18 +1,22 @@
 -- How a graph is narrowed along a path, and how a class is split along it.
-use Rattle.std.proofs.Common.{◌≡◌, ℕ, zero, suc, ◌<◌, ◌≤◌, ◌+◌, ◌∙◌, refl, sym, ap, subst, arith, inl, inr, Bool, true, false, true≢false, List, [], ◌∷◌, ◌++◌, length, take, drop, get_or, take_all, add-one, ℤ, nat_eq, eq-eqb, Option, Some, None}
-use Rattle.std.specs.Prelude.{◌≤ℤ◌, slice_get, slice_set, replicate, sum_by}
+use Rattle.std.proofs.Common.{◌≡◌, ℕ, zero, suc, ◌<◌, ◌≤◌, ◌+◌, ◌∙◌, refl, sym, ap, subst, arith, inl, inr, Bool, true, false, true≢false, ◌||◌, List, [], ◌∷◌, ◌++◌, length, take, drop, get_or, take_all, add-one, ℤ, pos, nat_eq, eq-eqb, Option, Some, None}
+use Rattle.std.specs.Prelude.{◌⊎◌, ◌≤ℤ◌, ◌+ℤ◌, slice_get, slice_set, replicate, sum_by}
+use borrow.Author.Tests.{eqb-true}
+use Rattle.std.proofs.lemmas.Int.{ints}
 use Rattle.std.proofs.lemmas.List.{take_more}
+use Rattle.std.proofs.lemmas.List.Folds.{list_any-append}
 use Rattle.std.proofs.lemmas.Option.{slice_get_within, slice_get-get_or}
 use Rattle.std.proofs.lemmas.List.Sums.{sum_by-append, sum_by-cons}
 use Rattle.pf_base.specs.Walks.{HasNode, NoRepeats, end_of}
-use Rattle.pf_core.specs.Steps.{GoesAlong, IsTooDear}
-use Rattle.pf_core.proofs.ListLemmas.{bool_dec, get_set, Contains-append_one}
+use Rattle.pf_core.specs.Steps.{GoesAlong, IsNonNegative, IsTooDear}
+use Rattle.pf_core.proofs.ListLemmas.{bool_dec, or_cases, get_set, Contains-append_one}
+use Rattle.pf_core.proofs.FrontierLemmas.{walk_positive}
 use Rattle.pf_yen.specs.Known.{KnownGraph, is_goal, KnownStep, IsWhole}
 use Rattle.pf_yen.specs.Narrow.{NarrowGraph, NarrowStep, StandsForItself, is_in}
-use Rattle.pf_yen.specs.Classes.{is_member, one_if, Plan, in_class, is_path, IsCleanNumbers, IsCheapestOfClass, IsSplit, LeadsOn, IsNarrowedTo, IsCheapestAlong, HasNoneAlong, IsSplitUpTo, IsPastAlong}
+use Rattle.pf_yen.specs.Classes.{is_member, goes_on_to, one_if, IsBarredBehind, Plan, in_class, is_path, IsCleanNumbers, IsCheapestOfClass, IsSplit, LeadsOn, IsNarrowedTo, IsCheapestAlong, HasNoneAlong, IsSplitUpTo, IsPastAlong, IsPastInClass}
 use Rattle.pf_yen.proofs.NarrowLemmas.{in_none}
-use Rattle.pf_yen.proofs.ClassLemmas.{same_is_true, any_goes_on, split_member, goes_on, member_of, prefix_is, one_if_one, stuck, behind, same_path}
-use Rattle.pf_yen.proofs.NarrowWalks.{not_true, numbers_are, not_twice, is_known, is_left, is_allowed, goes_known, goes_again}
+use Rattle.pf_yen.proofs.ClassLemmas.{same_is_true, any_goes_on, split_member, goes_on, member_of, prefix_is, one_if_one, at_most_one, stuck, behind, same_path}
+use Rattle.pf_yen.proofs.NarrowWalks.{not_true, numbers_are, not_twice, is_known, is_left, is_allowed, goes_known, goes_again, class_walk, on_or_within}
 
 -- a list, cut at a place
 pub cut_at : (xs : List ℕ) (i d : ℕ) → i < length xs → (r : List ℕ) × (xs ≡ take i xs ++ get_or xs i d ∷ r)
@@ -98,7 +102,58 @@ module _ {C : Type 0} (k : KnownGraph C) where
       at None e = e
       at (Some y) e = absurd (none y e)
 
+-- a sum that does not fit, met where some steps are left out
+past_along : {C : Type 0} (value : C → ℤ) (fits : ℤ → Type 0) (g : NarrowGraph C) (n : ℕ) → IsTooDear (NarrowStep value g) (is_goal g.known) (StandsForItself n 0) (StandsForItself n) fits
+    → (p : IsPastAlong value g.known fits) × (GoesAlong (NarrowStep value g) 0 p.rest p.cost × NarrowStep value g (end_of 0 p.rest) p.price p.next × ((v : List ℕ) (u : ℤ) → GoesAlong (NarrowStep value g) 0 v u → is_goal g.known (end_of 0 v) ≡ true → p.cost ≤ℤ u))
+past_along value fits g n d =
+    let p = d.path in
+    let z : 0 ≡ d.first = d.is_start.0 in
+    let goes : GoesAlong (NarrowStep value g) 0 d.nodes d.cost = subst (λ (a : ℕ). GoesAlong (NarrowStep value g) a d.nodes d.cost) (sym z) p.goes in
+    let edge : NarrowStep value g (end_of 0 d.nodes) d.price d.next = subst (λ (a : ℕ). NarrowStep value g (end_of a d.nodes) d.price d.next) (sym z) d.edge in (
+      record {
+        rest = d.nodes;
+        cost = d.cost;
+        goes = goes_known value g d.nodes 0 d.cost goes;
+        distinct = subst (λ (a : ℕ). NoRepeats nat_eq (a ∷ d.nodes)) (sym z) (subst (λ (v : List ℕ). NoRepeats nat_eq v) (numbers_are n d.numbers (d.first ∷ d.nodes) p.numbered) p.distinct);
+        cheapest = λ u w. d.cheapest 0 (refl, d.is_start.1) d.nodes u (goes_again value g d.nodes 0 d.cost u goes w) (subst (λ (a : ℕ). StandsForItself n d.number (end_of a d.nodes)) (sym z) d.here);
+        next = d.next;
+        price = d.price;
+        edge = is_known value g (end_of 0 d.nodes) d.price d.next edge;
+        too_dear = λ y s. d.too_dear y (subst (λ (a : ℕ). NarrowStep value g (end_of a d.nodes) y d.next) z (is_left value g (end_of 0 d.nodes) y d.next s (is_allowed value g (end_of 0 d.nodes) d.price d.next edge)));
+      },
+      (goes, edge, λ v u w t. d.none_cheaper 0 (refl, d.is_start.1) v u w t),
+    )
+
+-- a walk, cut at a place
+cut_goes : {X : Type 0} (step : X → ℤ → X → Type 0) (v w : List X) (a : X) (u : ℤ) → GoesAlong step a (v ++ w) u → (s : ℤ) × (t : ℤ) × GoesAlong step a v s × GoesAlong step (end_of a v) w t × (u ≡ s +ℤ t)
+cut_goes step [] w a u g = (pos 0, u, refl, g, omega (arith, ints))
+cut_goes step (b ∷ v) w a u g = let k = cut_goes step v w b g.1 g.3 in (g.0 +ℤ k.0, k.1, (g.0, k.0, g.2, k.2, refl), k.3, omega (arith, ints, g.4, k.4))
+
 module _ {C : Type 0} (value : C → ℤ) (k : KnownGraph C) (whole : IsWhole value k) where
+  from_zero : IsNonNegative (KnownStep value k)
+  from_zero = record { non_negative = λ a z b s. subst (λ (y : ℤ). pos 0 ≤ℤ y) s.2 (whole.from_zero a b s.0 s.1) }
+
+  -- a sum along a path that costs no more than fits does so too
+  module _ (fits : ℤ → Type 0) (between : (x y z : ℤ) → fits x → fits z → x ≤ℤ y → y ≤ℤ z → fits y) (none : fits (pos 0)) where
+    not_on_path : (d : IsPastAlong value k fits) (p : List ℕ) (u : ℤ) → IsCleanNumbers value k p u → fits u → (r : List ℕ) → ¬ (p ≡ ((0 ∷ d.rest) ++ d.next ∷ []) ++ r)
+    not_on_path d p u c f r e =
+        let all : 0 ∷ c.rest ≡ 0 ∷ ((d.rest ++ d.next ∷ []) ++ r) = sym c.is ∙ e in
+        let rest : c.rest ≡ d.rest ++ d.next ∷ r = tails all ∙ assoc d.rest d.next r in
+        let g = cut_goes (KnownStep value k) d.rest (d.next ∷ r) 0 u (subst (λ (v : List ℕ). GoesAlong (KnownStep value k) 0 v u) rest c.goes) in
+        let h = g.3 in
+        let here = walk_positive (KnownStep value k) from_zero d.rest 0 d.cost d.goes in
+        let step = from_zero.non_negative (end_of 0 d.rest) h.0 d.next h.2 in
+        let on = walk_positive (KnownStep value k) from_zero r d.next h.1 h.3 in
+        let low = d.cheapest g.0 g.2 in
+        d.too_dear h.0 h.2 (between (pos 0) (d.cost +ℤ h.0) u none f (omega (arith, ints, here, step)) (omega (arith, ints, low, on, g.4, h.4)))
+      where
+        tails : {v w : List ℕ} → 0 ∷ v ≡ 0 ∷ w → v ≡ w
+        tails e = cc
+
+        assoc : (v : List ℕ) (x : ℕ) (r : List ℕ) → (v ++ x ∷ []) ++ r ≡ v ++ x ∷ r
+        assoc [] x r = refl
+        assoc (y ∷ v) x r = ap (λ (w : List ℕ). y ∷ w) (assoc v x r)
+
   -- where a clean path goes on
   record GoesOnAt (rest : List ℕ) (i n : ℕ) : Type 0 where
     pub more : take (i + 1) rest ≡ take i rest ++ n ∷ []
@@ -188,6 +243,8 @@ module _ {C : Type 0} (value : C → ℤ) (k : KnownGraph C) (whole : IsWhole va
       parts = λ p u clean.
           let e : in_class p c ≡ one_if (is_member (0 ∷ along c.spur) c.banned p) = ap (λ (v : List ℕ). one_if (is_member v c.banned p)) (prefix_at c.spur) in
           omega (arith, e);
+      barred = λ x y m. absurd (in_none x m);
+      still = λ y m. (sym (prefix_at c.spur), m);
     }
 
     module _ (i d : ℕ) (banned : List ℕ) (plans : List (Plan C)) (s : IsSplitUpTo value k c i banned plans) (inside : i + 1 < length c.path) where
@@ -238,6 +295,68 @@ module _ {C : Type 0} (value : C → ℤ) (k : KnownGraph C) (whole : IsWhole va
           assoc [] x r = refl
           assoc (y ∷ v) x r = ap (λ (w : List ℕ). y ∷ w) (assoc v x r)
 
+      goes_next : goes_on_to (0 ∷ along i) next c.path ≡ true
+      goes_next = subst (λ (v : List ℕ). is_member (0 ∷ v) [] c.path ≡ true) further still_member
+
+      -- what is banned from here on is the next number of the path, or was banned
+      barred_here : (y : ℕ) → is_in (banned ++ next ∷ []) y ≡ true → IsBarredBehind c (0 ∷ along i) y
+      barred_here y m = elim (or_cases (is_in banned y) (nat_eq next y || false) (sym (list_any-append (λ x. nat_eq x y) banned (next ∷ [])) ∙ m)) as (λ _. IsBarredBehind c (0 ∷ along i) y) [
+        | inl t ↦ inr (s.still y t)
+        | inr t ↦ elim (or_cases (nat_eq next y) false t) as (λ _. IsBarredBehind c (0 ∷ along i) y) [
+          | inl e ↦ inl (subst (λ (x : ℕ). goes_on_to (0 ∷ along i) x c.path ≡ true) (eqb-true next y e) goes_next)
+          | inr f ↦ absurd (true≢false (sym f))
+        ]
+      ]
+
+      -- a clean path that leaves the way here is in the class that is split, and is not its path
+      leaves_inside : (p : List ℕ) (u : ℤ) → IsCleanNumbers value k p u → is_member (0 ∷ along i) (banned ++ next ∷ []) p ≡ true → (in_class p c ≡ 1) × (is_path p c.path ≡ 0)
+      leaves_inside p u clean m =
+          let a = s.parts p u clean in
+          let b = two_parts p in
+          let one = one_if_one (is_member (0 ∷ along i) (banned ++ next ∷ []) p) m in
+          let most = at_most_one (is_member (take (c.spur + 1) c.path) c.banned p) in
+          let once = at_most_one (is_member (0 ∷ along i) banned p) in (
+            omega (arith, a, b, one, most),
+            elim (bool_dec (is_member c.path [] p)) as (λ _. is_path p c.path ≡ 0) [
+              | inl t ↦
+                  let e = same_path value k whole p c.path u (value c.cost) clean h.clean t in
+                  let on = one_if_one (is_member (0 ∷ along (i + 1)) [] p) (subst (λ (v : List ℕ). is_member (0 ∷ along (i + 1)) [] v ≡ true) (sym e) still_member) in
+                  absurd (omega (arith, b, one, once, on))
+              | inr f ↦ ap one_if f
+            ],
+          )
+
+      -- a sum that does not fit, where the way is left here
+      pub past_here : (fits : ℤ → Type 0) → ((x y z : ℤ) → fits x → fits z → x ≤ℤ y → y ≤ℤ z → fits y) → fits (pos 0) → fits (value c.cost) → (onward : List (Option ℕ)) (spur : ℕ) → IsNarrowedTo k onward spur (along i) → (n : ℕ) → 0 < n
+          → IsTooDear (NarrowStep value (record { known = k; onward = onward; spur = spur; banned = banned ++ next ∷ [] })) (is_goal k) (StandsForItself n 0) (StandsForItself n) fits → IsPastInClass value k fits c
+      past_here fits between none itself onward spur narrow n some d =
+          let g : NarrowGraph C = record { known = k; onward = onward; spur = spur; banned = banned ++ next ∷ [] } in
+          let p = past_along value fits g n d in
+          let at = elim (on_or_within value g (along i) p.0.rest 0 p.0.cost p.0.price p.0.next narrow.leads p.1.0 p.1.1) as (λ _. (is_member (0 ∷ along i) [] (0 ∷ p.0.rest) ≡ true) × (is_member (0 ∷ along i) (banned ++ next ∷ []) ((0 ∷ p.0.rest) ++ p.0.next ∷ []) ≡ true)) [
+            | inl o ↦ o
+            | inr w ↦
+                let r = goes_on ((0 ∷ p.0.rest) ++ p.0.next ∷ []) [] (0 ∷ along i) w in
+                let q = goes_on (0 ∷ along i) banned c.path s.member in
+                absurd (not_on_path fits between none p.0 c.path (value c.cost) h.clean itself (r.0 ++ q.0) (q.1 ∙ ap (λ (v : List ℕ). v ++ q.0) r.1 ∙ append_assoc ((0 ∷ p.0.rest) ++ p.0.next ∷ []) r.0 q.0))
+          ] in
+          record {
+            prefix = 0 ∷ along i;
+            banned = banned ++ next ∷ [];
+            some = omega arith;
+            onward = next;
+            along = goes_next;
+            past = p.0;
+            begins = at.0;
+            leaves = at.1;
+            none_cheaper = λ v u clean m. p.1.2 clean.rest u (class_walk value g (along i) narrow v u clean m) clean.ends;
+            inside = leaves_inside;
+            barred = barred_here;
+          }
+        where
+          append_assoc : (v w r : List ℕ) → (v ++ w) ++ r ≡ v ++ (w ++ r)
+          append_assoc [] w r = refl
+          append_assoc (x ∷ v) w r = ap (λ (l : List ℕ). x ∷ l) (append_assoc v w r)
+
       -- no path leaves the way here
       pub split_none : HasNoneAlong value k (along i) (banned ++ next ∷ []) → IsSplitUpTo value k c (i + 1) [] plans
       split_none none = record {
@@ -249,6 +368,8 @@ module _ {C : Type 0} (value : C → ℤ) (k : KnownGraph C) (whole : IsWhole va
             let b = two_parts p in
             let z : one_if (is_member (0 ∷ along i) (banned ++ next ∷ []) p) ≡ 0 = ap one_if (none p u clean) in
             omega (arith, a, b, z);
+        barred = s.barred;
+        still = λ y m. absurd (true≢false (sym m));
       }
 
       -- a cheapest path that leaves the way here
@@ -265,6 +386,12 @@ module _ {C : Type 0} (value : C → ℤ) (k : KnownGraph C) (whole : IsWhole va
             let y = sum_by-cons (in_class p) e [] in
             let w : sum_by (in_class {C = C} p) [] ≡ 0 = refl in
             omega (arith, a, t, z, x, y, w);
+        barred = λ x y m. elim (Contains-append_one plans e x m) as (λ _. is_in x.banned y ≡ true → IsBarredBehind c (take (x.spur + 1) x.path) y) [
+          | inl q ↦ s.barred x y q
+          | inr q ↦ subst (λ (z : Plan C). is_in z.banned y ≡ true → IsBarredBehind c (take (z.spur + 1) z.path) y) q
+              (λ t. subst (λ (v : List ℕ). IsBarredBehind c v y) (sym begins) (barred_here y (subst (λ (v : List ℕ). is_in v y ≡ true) bans t)))
+        ];
+        still = λ y m. absurd (true≢false (sym m));
       }
         where
           -- its path begins as this one does
@@ -323,6 +450,7 @@ module _ {C : Type 0} (value : C → ℤ) (k : KnownGraph C) (whole : IsWhole va
           let a = s.parts p u clean in
           let e : one_if (is_member (0 ∷ along i) banned p) ≡ is_path p c.path = ap (λ (v : List ℕ). one_if (is_member v banned p)) whole_path ∙ only p u clean in
           omega (arith, a, e);
+      barred = s.barred;
     }
       where
         whole_path : 0 ∷ along i ≡ c.path
@@ -343,25 +471,6 @@ module _ {C : Type 0} (value : C → ℤ) (k : KnownGraph C) (whole : IsWhole va
 
             itself : is_member c.path banned c.path ≡ true
             itself = subst (λ (v : List ℕ). is_member c.path banned v ≡ true) (append_none c.path) (member_of c.path banned [] refl)
-
--- a sum that does not fit
-pub past_along : {C : Type 0} (value : C → ℤ) (fits : ℤ → Type 0) (g : NarrowGraph C) (n : ℕ) → IsTooDear (NarrowStep value g) (is_goal g.known) (StandsForItself n 0) (StandsForItself n) fits → IsPastAlong value g.known fits
-past_along value fits g n d =
-    let p = d.path in
-    let z : 0 ≡ d.first = d.is_start.0 in
-    let goes : GoesAlong (NarrowStep value g) 0 d.nodes d.cost = subst (λ (a : ℕ). GoesAlong (NarrowStep value g) a d.nodes d.cost) (sym z) p.goes in
-    let edge : NarrowStep value g (end_of 0 d.nodes) d.price d.next = subst (λ (a : ℕ). NarrowStep value g (end_of a d.nodes) d.price d.next) (sym z) d.edge in
-    record {
-      rest = d.nodes;
-      cost = d.cost;
-      goes = goes_known value g d.nodes 0 d.cost goes;
-      distinct = subst (λ (a : ℕ). NoRepeats nat_eq (a ∷ d.nodes)) (sym z) (subst (λ (v : List ℕ). NoRepeats nat_eq v) (numbers_are n d.numbers (d.first ∷ d.nodes) p.numbered) p.distinct);
-      cheapest = λ u w. d.cheapest 0 (refl, d.is_start.1) d.nodes u (goes_again value g d.nodes 0 d.cost u goes w) (subst (λ (a : ℕ). StandsForItself n d.number (end_of a d.nodes)) (sym z) d.here);
-      next = d.next;
-      price = d.price;
-      edge = is_known value g (end_of 0 d.nodes) d.price d.next edge;
-      too_dear = λ y s. d.too_dear y (subst (λ (a : ℕ). NarrowStep value g (end_of a d.nodes) y d.next) z (is_left value g (end_of 0 d.nodes) y d.next s (is_allowed value g (end_of 0 d.nodes) d.price d.next edge)));
-    }
 
 -- a sum that does not fit in the whole graph, where no goal is cheaper than the end of the path, which is a cheapest one
 pub past_first : {C : Type 0} (value : C → ℤ) (fits : ℤ → Type 0) (k : KnownGraph C) (n : ℕ) → IsTooDear (KnownStep value k) (is_goal k) (StandsForItself n 0) (StandsForItself n) fits

@@ -17,39 +17,18 @@ use Rattle.pf_core.proofs.PathLemmas.{AllZip-append}
 use Rattle.pf_core.proofs.WalkLemmas.{same_of}
 use Rattle.pf_yen.specs.Known.{KnownGraph, KnownStep, IsWhole}
 use Rattle.pf_yen.specs.Learned.{IsLearned}
-use Rattle.pf_yen.specs.Classes.{Plan, is_member, one_if, in_class, is_path, IsCleanNumbers, IsCheapestOfClass, IsPartition}
+use Rattle.pf_yen.specs.Classes.{Plan, is_member, goes_on_to, one_if, in_class, is_path, IsCleanNumbers, IsCheapestOfClass, IsPartition, IsPastInClass}
 use Rattle.pf_yen.specs.Counting.{most_paths}
 use Rattle.pf_yen.specs.KCheapest.{same_nodes}
 use Rattle.pf_yen.specs.Plans.{as_list, last_given, IsFirst, NoneBelow, GoesOn}
-use Rattle.pf_yen.specs.CleanPaths.{IsCleanPath, WasGiven, AllGiven, IsNextPath}
+use Rattle.pf_yen.specs.CleanPaths.{IsCleanPath, WasGiven, AllGiven, IsNextPath, IsBranchPastRange}
+use Rattle.pf_yen.specs.Narrow.{is_in}
+use Rattle.std.proofs.lemmas.List.Elements.{Contains-append_left, Contains-append_right}
 use Rattle.pf_yen.specs.Walk.{IsPlanned}
 use Rattle.pf_yen.proofs.NarrowLemmas.{in_none}
 use Rattle.pf_yen.proofs.ClassLemmas.{one_if_one, some_term, term_below, same_path, member_of}
 use Rattle.pf_yen.proofs.CountLemmas.{both, AreOver, most}
-use Rattle.pf_yen.proofs.NodePaths.{same_numbers, numbers_of_clean, numbers_at_cost, clean_of_numbers, costs_of_numbers}
-
-zip_find : {A B : Type 0} (R : A → B → Type 0) (xs : List A) (ys : List B) (y : B) → AllZip R xs ys → Contains ys y → (x : A) × Contains xs x × R x y
-zip_find R [] [] y z c = absurd (in_none y c)
-zip_find R [] (b ∷ ys) y z c = absurd z
-zip_find R (a ∷ xs) [] y z c = absurd z
-zip_find R (a ∷ xs) (b ∷ ys) y z c = elim (Contains-cases ys b y c) as (λ _. (x : _) × Contains (a ∷ xs) x × R x y) [
-  | inl e ↦ (a, Contains-head xs a, subst (λ (v : _). R a v) e z.0)
-  | inr q ↦ let r = zip_find R xs ys y z.1 q in (r.0, Contains-tail xs a r.0 r.1, r.2)
-]
-
-zip_found : {A B : Type 0} (R : A → B → Type 0) (xs : List A) (ys : List B) (x : A) → AllZip R xs ys → Contains xs x → (y : B) × Contains ys y × R x y
-zip_found R [] ys x z c = absurd (in_none x c)
-zip_found R (a ∷ xs) [] x z c = absurd z
-zip_found R (a ∷ xs) (b ∷ ys) x z c = elim (Contains-cases xs a x c) as (λ _. (y : _) × Contains (b ∷ ys) y × R x y) [
-  | inl e ↦ (b, Contains-head ys b, subst (λ (v : _). R v b) e z.0)
-  | inr q ↦ let r = zip_found R xs ys x z.1 q in (r.0, Contains-tail ys b r.0 r.1, r.2)
-]
-
-zip_length : {A B : Type 0} (R : A → B → Type 0) (xs : List A) (ys : List B) → AllZip R xs ys → length xs ≡ length ys
-zip_length R [] [] z = refl
-zip_length R [] (b ∷ ys) z = absurd z
-zip_length R (a ∷ xs) [] z = absurd z
-zip_length R (a ∷ xs) (b ∷ ys) z = ap suc (zip_length R xs ys z.1)
+use Rattle.pf_yen.proofs.NodePaths.{zip_find, zip_found, zip_length, branch_past, same_numbers, numbers_of_clean, numbers_at_cost, clean_of_numbers, costs_of_numbers}
 
 -- the numbers below n
 abbrev below : ℕ → List ℕ
@@ -212,6 +191,38 @@ module _ {N C : Type 0} (eq : N → N → Bool) (laws : IsEquivalence eq) (value
         let f = zip_found Given before given t.0 zip t.1 in
         let e : p ≡ t.0 = same_path value k whole p t.0 u (value f.0.1) c f.2.1 t.2 in
         (f.0, f.1, same_of eq laws keys p f.0.0 path (subst (λ (v : List ℕ). AllZip (StandsFor eq keys) v f.0.0) (sym e) f.2.0) z)
+
+    -- a sum that does not fit, in a class that is split off that of the path that was given last
+    pub branch : (fits : ℤ → Type 0) (given : List (List N × C)) (waiting : List (Plan C)) (c : Plan C) → IsPlanned eq value keys k given waiting (Some c) true → IsPastInClass value k fits c → IsBranchPastRange eq edges start test value fits given
+    branch fits given waiting c p b = branch_past eq laws keys one edges start test alike begins value k learned all fits c b p.before given p.given_are none_there barred
+      where
+        part : IsPartition value k (c ∷ waiting) p.before
+        part = p.partition
+
+        none_there : (q : List ℕ) (u : ℤ) → Contains (p.before ++ c.path ∷ []) q → IsCleanNumbers value k q u → is_member b.prefix b.banned q ≡ false
+        none_there q u i a = elim (bool_dec (is_member b.prefix b.banned q)) as (λ _. is_member b.prefix b.banned q ≡ false) [
+          | inl t ↦
+              let n = b.inside q u a t in
+              elim (Contains-append_one p.before c.path q i) as (λ _. is_member b.prefix b.banned q ≡ false) [
+                | inl o ↦
+                    let h = part in
+                    let once = h.once q u a in
+                    let more : sum_by (in_class q) (c ∷ waiting) ≡ in_class q c + sum_by (in_class q) waiting = sum_by-cons (in_class q) c waiting in
+                    let some = term_below (λ (v : List ℕ). is_member v [] q) p.before q o (begins_itself q) in
+                    absurd (omega (arith, once, more, some, n.0))
+                | inr e ↦ let itself = one_if_one (is_member c.path [] q) (subst (λ (v : List ℕ). is_member c.path [] v ≡ true) e (begins_itself c.path)) in absurd (omega (arith, itself, n.1))
+              ]
+          | inr f ↦ f
+        ]
+
+        barred : (y : ℕ) → is_in b.banned y ≡ true → (q : List ℕ) × Contains (p.before ++ c.path ∷ []) q × (goes_on_to b.prefix y q ≡ true)
+        barred y h = elim (b.barred y h) as (λ _. (q : List ℕ) × Contains (p.before ++ c.path ∷ []) q × (goes_on_to b.prefix y q ≡ true)) [
+          | inl t ↦ (c.path, Contains-append_right p.before (c.path ∷ []) c.path (Contains-head [] c.path), t)
+          | inr t ↦
+              let w = part in
+              let r = w.barred c y (Contains-head waiting c) t.1 in
+              (r.0, Contains-append_left p.before (c.path ∷ []) r.0 r.1, subst (λ (v : List ℕ). goes_on_to v y r.0 ≡ true) (sym t.0) r.2)
+        ]
 
     -- where no plan is left, all was given
     pub all_given : (given : List (List N × C)) → IsPlanned eq value keys k given [] None false → AllGiven eq edges start test value given

@@ -19,15 +19,15 @@ use Rattle.pf_yen.specs.Known.{KnownGraph, row_of, KnownStep, is_goal, IsWhole}
 use Rattle.pf_yen.specs.Narrow.{StandsForItself}
 use Rattle.pf_yen.specs.Counting.{most_paths}
 use Rattle.pf_yen.specs.Learned.{IsLearned}
-use Rattle.pf_yen.specs.Classes.{Plan, IsCleanNumbers, IsPartition, IsPastAlong}
-use Rattle.pf_yen.specs.Plans.{as_list, last_given, NoneBelow, IsFirst, GoesOn}
+use Rattle.pf_yen.specs.Classes.{Plan, IsCleanNumbers, IsPartition, IsPastInClass}
+use Rattle.pf_yen.specs.Plans.{as_list, last_given, NoneBelow, IsFirst, GoesOn, IsPastInChosen}
 use Rattle.pf_yen.specs.CleanPaths.{AllGiven, IsNextPath, RefusedFor}
 use Rattle.pf_yen.specs.Walk.{PathWalk, most_items, IsPathWalk, IsPlanned, IsUnderWay, IsEnded, IsBarred, PathTurn, PathStep, TurnKeepsBar, StepKeepsBar, Searches}
 use Rattle.pf_yen.proofs.NarrowLemmas.{in_none}
 use Rattle.pf_yen.proofs.LearnLemmas.{learned_whole}
 use Rattle.pf_yen.proofs.SplitLemmas.{past_first}
 use Rattle.pf_yen.proofs.NodePaths.{path_past, first_past}
-use Rattle.pf_yen.proofs.StateLemmas.{went_on, planned_first, gave, all_given, next_is, given_at_most}
+use Rattle.pf_yen.proofs.StateLemmas.{went_on, planned_first, gave, all_given, next_is, given_at_most, branch}
 
 zip_none : {A B : Type 0} (R : A → B → Type 0) (xs ys : List A) → AllZip R (xs ++ ys) [] → ys ≡ []
 zip_none R [] [] z = refl
@@ -57,6 +57,12 @@ learned_none {X} {C} value step passes stands found all = record {
 pub first_alone : {X : Type 0} (stands : ℕ → X → Type 0) (found : ℕ) → found ≡ 1 → (x : X) × stands 0 x → (a : ℕ) → a < found → (x : X) × stands a x
 first_alone stands found e s zero h = s
 first_alone stands found e s (suc a) h = absurd (omega (arith, e, h))
+
+-- the chosen plan, where its path was given
+chosen_given : {C : Type 0} (value : C → ℤ) (k : KnownGraph C) (fits : ℤ → Type 0) (was : Bool) (chosen : Option (Plan C)) → ¬ (last_given was chosen ≡ []) → IsPastInChosen value k fits chosen → (c : Plan C) × (was ≡ true) × (chosen ≡ Some c) × IsPastInClass value k fits c
+chosen_given value k fits false chosen some d = absurd (some refl)
+chosen_given value k fits true None some d = absurd d
+chosen_given value k fits true (Some c) some d = (c, refl, refl, d)
 
 -- no plan is left where none costs less than any number
 no_plan : {C : Type 0} (value : C → ℤ) (plans : List (Plan C)) → ((t : ℤ) → NoneBelow value t plans) → plans ≡ []
@@ -218,7 +224,7 @@ module _ {N C F S I J : Type 0} (eq : N → N → Bool) (laws : IsEquivalence eq
 
       -- why none was chosen
       pub refused_for : {U : Type 0} (r : Result U PathError)
-          → (r ≡ Err PathError.CostOverflow → MatchBool s.has_begun (IsPastAlong value s.known fits) (IsTooDear (KnownStep value s.known) (is_goal s.known) (StandsForItself (length s.known.rows) 0) (StandsForItself (length s.known.rows)) fits))
+          → (r ≡ Err PathError.CostOverflow → MatchBool s.has_begun (IsPastInChosen value s.known fits s.chosen) (IsTooDear (KnownStep value s.known) (is_goal s.known) (StandsForItself (length s.known.rows) 0) (StandsForItself (length s.known.rows)) fits))
           → OnErr r (s.has_begun ≡ true → ¬ (last_given s.is_given s.chosen ≡ [])) → IfErr r (λ e. (e ≡ PathError.OutOfMemory) ⊎ (e ≡ PathError.CostOverflow)) → IfErr r (RefusedFor eq edges start test value fits s.given)
       refused_for (Ok x) past due why = tt
       refused_for (Err e) past due (inl m) = inl m
@@ -226,12 +232,14 @@ module _ {N C F S I J : Type 0} (eq : N → N → Bool) (laws : IsEquivalence eq
           let over = past (ap Err m) in
           elim (bool_dec s.has_begun) as (λ _. RefusedFor eq edges start test value fits s.given e) [
             | inl h ↦
-                let d : IsPastAlong value s.known fits = rw h at over in
                 let p = planned h in
-                inr (m, path_past eq laws s.nodes one edges start test w.explored.0.alike w.begins value s.known w.learned all fits d, λ none. absurd (due h (none_last none p.before p.given_are)))
+                let c = chosen_given value s.known fits s.is_given s.chosen (due h) (rw h at over) in
+                let b = c.3 in
+                let q : IsPlanned eq value s.nodes s.known s.given s.waiting (Some c.0) true = rw (c.1, c.2) at p in
+                inr (m, path_past eq laws s.nodes one edges start test w.explored.0.alike w.begins value s.known w.learned all fits b.past, λ none. absurd (due h (none_last none p.before p.given_are)), λ _. branch eq laws value s.nodes s.known one edges start test w.explored.0.alike w.begins whole w.learned all fits s.given s.waiting c.0 q b)
             | inr h ↦
                 let d = past_first value fits s.known (length s.known.rows) (rw h at over) in
-                inr (m, path_past eq laws s.nodes one edges start test w.explored.0.alike w.begins value s.known w.learned all fits d.0, λ _. first_past eq laws s.nodes one edges start test w.explored.0.alike w.begins value s.known w.learned all fits d.0 costs d.1.0 d.1.1)
+                inr (m, path_past eq laws s.nodes one edges start test w.explored.0.alike w.begins value s.known w.learned all fits d.0, λ _. first_past eq laws s.nodes one edges start test w.explored.0.alike w.begins value s.known w.learned all fits d.0 costs d.1.0 d.1.1, λ some. absurd (some (fresh_is h).0))
           ]
 
     -- no more paths were given than there can be

@@ -1,5 +1,5 @@
 -- Clean paths: paths from the start that meet a node that passes the test at their end alone.
-use Rattle.std.specs.Prelude.{◌≡◌, ◌⊎◌, ◌≤ℤ◌, ◌+ℤ◌, ℤ, Bool, true, false, List, [], ◌∷◌, All, Contains, ⊤}
+use Rattle.std.specs.Prelude.{◌≡◌, ◌⊎◌, ◌≤ℤ◌, ◌+ℤ◌, ◌<◌, ℤ, Bool, true, false, List, [], ◌∷◌, ◌++◌, length, All, Contains, ⊤}
 use Rattle.pf_base.specs.declared.error.PathError.{PathError}
 use Rattle.pf_base.specs.Walks.{IsGoalPath, NoRepeats, IsWalk, end_of}
 use Rattle.pf_base.specs.Edges.{IsSuccessor, StepCosts, WalkCosts, IsPastRange}
@@ -14,6 +14,17 @@ FailsBeforeEnd test a (b ∷ w) = (test a ≡ false) × FailsBeforeEnd test b w
 abbrev pub PassesAtEndAlone : {N : Type 0} → (N → Bool) → List N → Type 0
 PassesAtEndAlone test [] = ⊤
 PassesAtEndAlone test (a ∷ w) = FailsBeforeEnd test a w
+
+-- the path begins with the nodes of the prefix, and x comes next
+abbrev pub GoesOnTo : {N : Type 0} → (N → N → Bool) → List N → List N → N → Type 0
+GoesOnTo eq [] [] x = ⊥
+GoesOnTo eq [] (y ∷ path) x = eq y x ≡ true
+GoesOnTo eq (a ∷ prefix) [] x = ⊥
+GoesOnTo eq (a ∷ prefix) (y ∷ path) x = (eq a y ≡ true) × GoesOnTo eq prefix path x
+
+-- the path goes on from the prefix to a node to which no given path goes on from it
+abbrev pub LeavesGiven : {N C : Type 0} → (N → N → Bool) → List (List N × C) → List N → List N → Type 0
+LeavesGiven {N} {C} eq given prefix path = (x : N) × GoesOnTo eq prefix path x × ((g : List N × C) → Contains given g → ¬ (GoesOnTo eq prefix g.0 x))
 
 module _ {N : Type 0} (eq : N → N → Bool) (edges : N → List (N × ℤ)) (start : N) (test : N → Bool) where
   -- a path from the start to a node that passes the test, and no node before it passes
@@ -53,6 +64,19 @@ module _ {N : Type 0} (eq : N → N → Bool) (edges : N → List (N × ℤ)) (s
       pub rising : (g : List N × C) → Contains given g → value g.1 ≤ℤ value cost
       pub none_cheaper : (other : List N) (u : ℤ) → IsCleanPath other → WalkCosts eq edges other u → ¬ (WasGiven given other) → value cost ≤ℤ u
 
-    -- why a step may be refused: for want of memory, or since a path and one step more cost more than fits; before the first path, also a cheapest path to some node and one step more, where no node that passes is cheaper than that node
+    -- Some of the paths that leave the path that was given last cost more than fits: those that go on from a prefix of it, of one node at least, to a node to which no given path goes on from there. One such path and one step more, or one that such a step leads to, cost more than fits, and no clean path among them costs less than that path without the step.
+    pub record IsBranchPastRange (fits : ℤ → Type 0) (given : List (List N × C)) : Type 0 where
+      pub prefix : List N
+      pub some : 0 < length prefix
+      pub before : List (List N × C)
+      pub last : List N × C
+      pub is_last : given ≡ before ++ last ∷ []
+      pub onward : N
+      pub goes_on : GoesOnTo eq prefix last.0 onward
+      pub over : IsPathPastRange fits
+      pub leaves : LeavesGiven eq given prefix ((over.first ∷ over.rest) ++ over.next ∷ [])
+      pub none_cheaper : (path : List N) (u : ℤ) → IsCleanPath path → WalkCosts eq edges path u → LeavesGiven eq given prefix path → over.cost ≤ℤ u
+
+    -- why a step may be refused: for want of memory, or since a path and one step more cost more than fits; before the first path, also a cheapest path to some node and one step more, where no node that passes is cheaper than that node; after it, where they leave the path that was given last, and no clean path that leaves it there costs less
     abbrev pub RefusedFor : (ℤ → Type 0) → List (List N × C) → PathError → Type 0
-    RefusedFor fits given refusal = (refusal ≡ PathError.OutOfMemory) ⊎ ((refusal ≡ PathError.CostOverflow) × IsPathPastRange fits × (given ≡ [] → IsPastRange eq edges (start ∷ []) test fits))
+    RefusedFor fits given refusal = (refusal ≡ PathError.OutOfMemory) ⊎ ((refusal ≡ PathError.CostOverflow) × IsPathPastRange fits × (given ≡ [] → IsPastRange eq edges (start ∷ []) test fits) × (¬ (given ≡ []) → IsBranchPastRange fits given))

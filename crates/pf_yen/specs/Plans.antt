@@ -4,7 +4,7 @@ use Rattle.std.specs.Option.{option_map}
 use Rattle.std.specs.declared.cmp.Ordering.{Ordering}
 use Rattle.pf_yen.specs.declared.candidate.Candidate.{Candidate}
 use Rattle.pf_yen.specs.Known.{KnownGraph}
-use Rattle.pf_yen.specs.Classes.{Plan, IsPartition, plan_of}
+use Rattle.pf_yen.specs.Classes.{Plan, IsPartition, IsPastInClass, plan_of}
 
 module _ {C A : Type 0} where
   -- the cheapest candidate first
@@ -38,6 +38,11 @@ module _ {C : Type 0} (value : C → ℤ) where
   IsFirst true chosen waiting = Unit {0}
   IsFirst false None waiting = Unit {0}
   IsFirst false (Some c) waiting = NoneBelow (value c.cost) waiting
+
+  -- a sum that does not fit was met in a class that is split off that of the chosen plan
+  abbrev pub IsPastInChosen : KnownGraph C → (ℤ → Type 0) → Option (Plan C) → Type 0
+  IsPastInChosen known fits None = ⊥
+  IsPastInChosen known fits (Some c) = IsPastInClass value known fits c
 
   -- What a change of the plans keeps: they share out the clean paths with those before, and none is cheaper than before.
   pub record GoesOn (known : KnownGraph C) (plans plans' : List (Plan C)) (more : List (List ℕ)) : Type 0 where

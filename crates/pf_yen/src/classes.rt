@@ -8,7 +8,7 @@ ghost use Rattle.std.specs.Prelude.{◌≡◌, ◌⊎◌, ◌<◌, ◌+◌, ℕ,
 ghost use Rattle.pf_core.specs.Steps.{IsTooDear};
 ghost use Rattle.pf_yen.specs.Known.{IsWhole, is_goal};
 ghost use Rattle.pf_yen.specs.Narrow.{NarrowStep, StandsForItself};
-ghost use Rattle.pf_yen.specs.Classes.{IsCleanNumbers, IsNarrowedTo, IsCheapestAlong, HasNoneAlong, IsCheapestOfClass, IsSplit, IsPastAlong, plan_of};
+ghost use Rattle.pf_yen.specs.Classes.{IsCleanNumbers, IsNarrowedTo, IsCheapestAlong, HasNoneAlong, IsCheapestOfClass, IsSplit, IsPastInClass, plan_of};
 
 use crate::candidate::Candidate;
 use crate::known::Known;
@@ -90,9 +90,10 @@ pub fn split<C: Cost, A: Allocator + Copy>(
     requires some { 0 < length known.now.rows }
     requires cheapest { IsCheapestOfClass C.value known.now (plan_of candidate.now) }
     ensures split { IfOk result (λ plans. IsSplit C.value known.now (plan_of candidate.now) (map plan_of plans.items)) }
-    ensures overflow { result ≡ Err PathError.CostOverflow → IsPastAlong C.value known.now C.fits }
+    ensures overflow { result ≡ Err PathError.CostOverflow → IsPastInClass C.value known.now C.fits (plan_of candidate.now) }
     ensures errors { IfErr result (λ e. (e ≡ PathError.OutOfMemory) ⊎ (e ≡ PathError.CostOverflow)) }
 {
+    candidate.cost.known();
     let mut narrowed = narrowed_along(alloc, known, &candidate.path, candidate.spur)?;
     narrowed.banned.extend_from_slice(&candidate.banned)?;
     let mut plans = Vec::new(alloc);

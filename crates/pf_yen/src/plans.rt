@@ -5,8 +5,8 @@ ghost use Rattle.std.specs.BinaryHeap.{IsHeap, heap_items};
 ghost use Rattle.pf_core.specs.Steps.{IsTooDear};
 ghost use Rattle.pf_yen.specs.Known.{KnownGraph, IsWhole, KnownStep, is_goal};
 ghost use Rattle.pf_yen.specs.Narrow.{StandsForItself};
-ghost use Rattle.pf_yen.specs.Classes.{IsPartition, IsPastAlong, IsCheapestOfClass};
-ghost use Rattle.pf_yen.specs.Plans.{first_cmp, waiting_plans, chosen_plan, as_list, last_given, IsFirst, GoesOn};
+ghost use Rattle.pf_yen.specs.Classes.{IsPartition, IsCheapestOfClass};
+ghost use Rattle.pf_yen.specs.Plans.{first_cmp, waiting_plans, chosen_plan, as_list, last_given, IsFirst, GoesOn, IsPastInChosen};
 
 use crate::candidate::Candidate;
 use crate::classes::{least_of_class, split};
@@ -59,7 +59,7 @@ impl<C: Cost, A: Allocator + Copy> Plans<C, A> {
         ensures is_given { OnOk result (self.new.is_given ≡ false) }
         ensures kept { OnErr result ((self.new.chosen ≡ self.old.chosen) × (heap_items self.new.waiting ≡ heap_items self.old.waiting) × (self.new.is_given ≡ self.old.is_given)) }
         ensures due { OnErr result (¬ (last_given self.old.is_given (chosen_plan self.old.chosen) ≡ [])) }
-        ensures overflow { result ≡ Err PathError.CostOverflow → IsPastAlong C.value known.now C.fits }
+        ensures overflow { result ≡ Err PathError.CostOverflow → IsPastInChosen C.value known.now C.fits (chosen_plan self.old.chosen) }
         ensures errors { IfErr result (λ e. (e ≡ PathError.OutOfMemory) ⊎ (e ≡ PathError.CostOverflow)) }
     {
         if !self.is_given {
@@ -106,7 +106,7 @@ impl<C: Cost, A: Allocator + Copy> Plans<C, A> {
         ensures begins { OnOk result (self.old.has_begun ≡ false → IsPartition C.value known.now (as_list (chosen_plan self.new.chosen) ++ waiting_plans (heap_items self.new.waiting)) [] × (waiting_plans (heap_items self.new.waiting) ≡ [])) }
         ensures kept { OnErr result ((chosen_plan self.new.chosen ≡ chosen_plan self.old.chosen) × (waiting_plans (heap_items self.new.waiting) ≡ waiting_plans (heap_items self.old.waiting)) × (self.new.is_given ≡ self.old.is_given) × (self.new.has_begun ≡ self.old.has_begun)) }
         ensures due { OnErr result (self.old.has_begun ≡ true → ¬ (last_given self.old.is_given (chosen_plan self.old.chosen) ≡ [])) }
-        ensures overflow { result ≡ Err PathError.CostOverflow → MatchBool self.old.has_begun (IsPastAlong C.value known.now C.fits)
+        ensures overflow { result ≡ Err PathError.CostOverflow → MatchBool self.old.has_begun (IsPastInChosen C.value known.now C.fits (chosen_plan self.old.chosen))
             (IsTooDear (KnownStep C.value known.now) (is_goal known.now) (StandsForItself (length known.now.rows) 0) (StandsForItself (length known.now.rows)) C.fits) }
         ensures errors { IfErr result (λ e. (e ≡ PathError.OutOfMemory) ⊎ (e ≡ PathError.CostOverflow)) }
     {

@@ -3,10 +3,8 @@ use Rattle.std.specs.Prelude.{slice_set, slice_index_or}
 use Rattle.std.proofs.lemmas.List.{length-set, map-append}
 use Rattle.pf_base.specs.declared.error.PathError.TheVariants.{CostOverflow, OutOfMemory}
 use Rattle.pf_yen.specs.declared.candidate.Candidate.{Candidate}
-use Rattle.pf_yen.specs.Known.{KnownGraph}
-use Rattle.pf_yen.specs.Narrow.{NarrowGraph}
-use Rattle.pf_yen.specs.Classes.{IsNarrowedTo, IsSplitUpTo, IsPastAlong, plan_of}
-use Rattle.pf_yen.proofs.SplitLemmas.{narrowed_on, spur_inside, split_first, split_none, split_some, split_last, past_along}
+use Rattle.pf_yen.specs.Classes.{IsNarrowedTo, IsSplitUpTo, plan_of}
+use Rattle.pf_yen.proofs.SplitLemmas.{narrowed_on, spur_inside, split_first, split_none, split_some, split_last, past_here}
 use Rattle.pf_yen.proofs.classes.split.Goals.{in-Some+in_ok-push-2, in_default}
 use Rattle.std.proofs.lemmas.Result.{IfOk-from_err}
 use Rattle.pf_yen.proofs.ResultLemmas.{handed_on, no_overflow, ok_is_no_error, refused_as}
@@ -27,11 +25,18 @@ places-init g c =
 
 pub returns-in_err-plan-clause-overflow : goal.returns-in_err-plan-clause-overflow
 returns-in_err-plan-clause-overflow g c = λ x.
+    let value = g.C.Number.value in
     let i = c.places.invariant in
     let s = c.places.narrowed in
-    let here : NarrowGraph g.row.C.Denot = record { known = s.known.now; onward = s.onward.items; spur = s.spur; banned = c.push.new.self.items } in
     let f : c.in_err-plan.field-0.0 ≡ CostOverflow = handed_on c.from_residual-in_err-plan.result c.in_err-plan.field-0.0 c.from_residual-in_err-plan.ensures.1 x in
-    subst (λ (k : KnownGraph g.row.C.Denot). IsPastAlong g.C.Number.value k g.C.Number.fits) i.known (past_along g.C.Number.value g.C.Number.fits here (length s.known.now.rows) (c.in_err-plan.ensures.overflow (ap Err f)))
+    let n = c.index-next.result.now in
+    let at : n ≡ slice_index_or c.args.candidate.now.path.items (c.places.place + 1) n = c.index-next.ensures in
+    let inside : c.places.place + 1 < length c.args.candidate.now.path.items = omega (arith, c.len-place-end.ensures, c.places-test.true) in
+    let banned : c.push.new.self.items ≡ s.banned.items ++ slice_index_or c.args.candidate.now.path.items (c.places.place + 1) n ∷ [] = c.in_ok-push.ensures.items ∙ ap (λ (m : ℕ). s.banned.items ++ m ∷ []) at in
+    let exact = g.met.C.Integral.exact_law in
+    past_here value c.args.known.now c.requires.whole (plan_of c.args.candidate.now) c.requires.cheapest c.places.place n s.banned.items (map plan_of c.places.plans.items) i.split inside
+    g.C.Number.fits (λ a b d. g.C.Number.between_law a b d exact) (g.met.C.Zero.zero_fits_law exact) c.known.ensures s.onward.items s.spur i.narrowed (length c.args.known.now.rows) c.requires.some
+    (rw (i.known, banned) at (c.in_err-plan.ensures.overflow (ap Err f)))
 
 pub go_on-requires : goal.go_on-requires
 go_on-requires g c =

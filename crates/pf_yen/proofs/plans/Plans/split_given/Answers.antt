@@ -82,7 +82,7 @@ pub split-requires-clause-some : goal.split-requires-clause-some
 split-requires-clause-some g c = c.requires.some
 
 pub returns-in_err-split-clause-overflow : goal.returns-in_err-split-clause-overflow
-returns-in_err-split-clause-overflow g c = λ e. c.in_err-split.ensures.overflow (ap Err (handed_on c.from_residual.result c.in_err-split.field-0.0 c.from_residual.ensures.1 e))
+returns-in_err-split-clause-overflow g c = λ e. rw c.in-Some.is (c.in_err-split.ensures.overflow (ap Err (handed_on c.from_residual.result c.in_err-split.field-0.0 c.from_residual.ensures.1 e)))
 
 pub returns-in_err-split-clause-kept : goal.returns-in_err-split-clause-kept
 returns-in_err-split-clause-kept g c = refused_as _ c.from_residual.result c.in_err-split.field-0.0 c.from_residual.ensures.1 (refl, refl, refl)
