@@ -1,6 +1,6 @@
 -- How many lists without repeats there are over a list of nodes.
 use Rattle.std.proofs.Common.{◌≡◌, ◌∙◌, ℕ, zero, suc, ◌<◌, ◌≤◌, ◌+◌, ◌*◌, refl, sym, subst, arith, inl, inr, Bool, true, false, true≢false, ◌&&◌, List, [], ◌∷◌, length, cond, ap}
-use Rattle.std.specs.Prelude.{◌⊎◌, ⊤, ℤ, Some, slice_get, Contains, ◌++◌}
+use Rattle.std.specs.Prelude.{⊤, ℤ, Some, slice_get, Contains, ◌++◌}
 use Rattle.std.specs.Cmp.{IsEquivalence}
 use Rattle.std.proofs.Math.Nat.{suc-mul, mul-le-mul_right}
 use Rattle.pf_base.specs.Walks.{HasNode, NoRepeats, Follows, end_of}

@@ -1,6 +1,6 @@
 -- How a graph is narrowed along a path, and how a class is split along it.
 use Rattle.std.proofs.Common.{◌≡◌, ℕ, zero, suc, ◌<◌, ◌≤◌, ◌+◌, ◌∙◌, refl, sym, ap, subst, arith, inl, inr, Bool, true, false, true≢false, ◌||◌, List, [], ◌∷◌, ◌++◌, length, take, drop, get_or, take_all, add-one, ℤ, pos, nat_eq, eq-eqb, Option, Some, None}
-use Rattle.std.specs.Prelude.{◌⊎◌, ◌≤ℤ◌, ◌+ℤ◌, slice_get, slice_set, replicate, sum_by}
+use Rattle.std.specs.Prelude.{◌≤ℤ◌, ◌+ℤ◌, slice_get, slice_set, replicate, sum_by}
 use borrow.Author.Tests.{eqb-true}
 use Rattle.std.proofs.lemmas.Int.{ints}
 use Rattle.std.proofs.lemmas.List.{take_more}

@@ -64,7 +64,7 @@ module _ {N : Type 0} (eq : N → N → Bool) (edges : N → List (N × ℤ)) (s
       pub rising : (g : List N × C) → Contains given g → value g.1 ≤ℤ value cost
       pub none_cheaper : (other : List N) (u : ℤ) → IsCleanPath other → WalkCosts eq edges other u → ¬ (WasGiven given other) → value cost ≤ℤ u
 
-    -- Some of the paths that leave the path that was given last cost more than fits: those that go on from a prefix of it, of one node at least, to a node to which no given path goes on from there. One such path and one step more, or one that such a step leads to, cost more than fits, and no clean path among them costs less than that path without the step.
+    -- A sum does not fit among the paths that branch off the path that was given last: those that begin with some of its first nodes, one at least, and go on to a node to which no given path goes on from them. A path and one step more, which together are such a path, cost more than fits, and no clean path among them costs less than that path without the step.
     pub record IsBranchPastRange (fits : ℤ → Type 0) (given : List (List N × C)) : Type 0 where
       pub prefix : List N
       pub some : 0 < length prefix
@@ -77,6 +77,6 @@ module _ {N : Type 0} (eq : N → N → Bool) (edges : N → List (N × ℤ)) (s
       pub leaves : LeavesGiven eq given prefix ((over.first ∷ over.rest) ++ over.next ∷ [])
       pub none_cheaper : (path : List N) (u : ℤ) → IsCleanPath path → WalkCosts eq edges path u → LeavesGiven eq given prefix path → over.cost ≤ℤ u
 
-    -- why a step may be refused: for want of memory, or since a path and one step more cost more than fits; before the first path, also a cheapest path to some node and one step more, where no node that passes is cheaper than that node; after it, where they leave the path that was given last, and no clean path that leaves it there costs less
+    -- why a step may be refused: for want of memory, or since a path and one step more cost more than fits; before the first path, also a cheapest path to some node and one step more, where no node that passes is cheaper than that node; after it, also a path and one step more that branch off the path that was given last, where no clean path that branches off so is cheaper
     abbrev pub RefusedFor : (ℤ → Type 0) → List (List N × C) → PathError → Type 0
     RefusedFor fits given refusal = (refusal ≡ PathError.OutOfMemory) ⊎ ((refusal ≡ PathError.CostOverflow) × IsPathPastRange fits × (given ≡ [] → IsPastRange eq edges (start ∷ []) test fits) × (¬ (given ≡ []) → IsBranchPastRange fits given))

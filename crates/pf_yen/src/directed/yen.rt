@@ -29,6 +29,8 @@ fn is_overflow(call: &Result<(), PathError>) -> bool
 
 /// The clean paths by rising cost, each as a `Result`: made by `yen_paths`. A step that was refused
 /// with `CostOverflow` is refused with it again after each `resume`.
+///
+/// The paths that branch off a path are looked for when the path after it is asked for, and not before.
 #[derive(Drop)]
 pub struct YenPaths<N: Eq + Hash + Drop, C: Cost, IN, FN, FS, A: Allocator = Global> {
     graph: Tested<N, Weighted, IN, FN, FS, A>,
@@ -239,6 +241,9 @@ where
 ///   `success`, and one step more, by the cheapest of the parallel edges, cost more than `C` can hold;
 ///   before the first path was given, also only where a cheapest path to some node and one step more
 ///   cost more than `C` can hold and no node that passes is cheaper than that node, as for `dijkstra`;
+///   after a path was given, also only where that path with its step begins with some of the first
+///   nodes of the path that was given last and goes on to a node to which no given path goes on from
+///   them, and no clean path that does so costs less than that path without its step;
 /// - `Err(OutOfMemory)` where a request for memory was refused.
 ///
 /// A refused step loses no path; the walk then answers `None` until `resume` is called, and tries the
