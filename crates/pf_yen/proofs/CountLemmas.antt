@@ -190,7 +190,7 @@ once_at_places {N = N} eq (p ∷ ps) h = ((λ k. let f = found ps p k in not_fir
     suc_is : {i j : ℕ} → suc i ≡ suc j → i ≡ j
     suc_is e = omega (arith, e)
 
-module _ {N : Type 0} (eq : N → N → Bool) (laws : IsEquivalence eq) (edges : N → List (N × ℤ)) (start : N) (test : N → Bool) (nodes : List N) (all : (x : N) → InReach eq edges (start ∷ []) x → HasNode eq nodes x) where
+module _ {N : Type 0} (eq : N → N → Bool) (laws : IsEquivalence eq) (edges : N → List (N × ℤ)) (start : N) (test : N → Bool) (further : List N) (all : (x : N) → InReach eq edges (start ∷ []) x → HasNode eq (start ∷ further) x) where
   -- each node of a walk from the start is in reach
   walked : (done rest : List N) (a : N) → eq start a ≡ true → Follows (IsSuccessor eq edges) a (done ++ rest) → (x : N) → HasNode eq rest x → InReach eq edges (start ∷ []) x
   walked done [] a s f x h = absurd h
@@ -209,10 +209,13 @@ module _ {N : Type 0} (eq : N → N → Bool) (laws : IsEquivalence eq) (edges :
       assoc [] b w = refl
       assoc (y ∷ v) b w = ap (λ (u : List N). y ∷ u) (assoc v b w)
 
-  over : (path : List N) → IsCleanPath eq edges start test path → NoRepeats eq path × ((x : N) → HasNode eq path x → HasNode eq nodes x)
+  begins_at : (a : N) (w : List N) → IsCleanPath eq edges start test (a ∷ w) → eq start a ≡ true
+  begins_at a w c = elim c.goes.goes.begins as (λ _. eq start a ≡ true) [ inl e ↦ e | inr f ↦ absurd f ]
+
+  over : (path : List N) → IsCleanPath eq edges start test path → NoRepeats eq path × ((x : N) → HasNode eq path x → HasNode eq (start ∷ further) x)
   over [] c = absurd c.goes.goes.walks
   over (a ∷ w) c =
-      let s : eq start a ≡ true = elim c.goes.goes.begins as (λ _. eq start a ≡ true) [ inl e ↦ e | inr f ↦ absurd f ] in (
+      let s = begins_at a w c in (
         c.goes.distinct,
         λ x h. all x (elim h as (λ _. InReach eq edges (start ∷ []) x) [
           | inl e ↦ InReach-start eq laws edges (start ∷ []) start x (inl (laws.refl start)) (eq-trans eq laws start a x s e)
@@ -220,10 +223,22 @@ module _ {N : Type 0} (eq : N → N → Bool) (laws : IsEquivalence eq) (edges :
         ]),
       )
 
+  -- all of them begin at the start
+  behind_start : (paths : List (List N)) → ((path : List N) → Contains paths path → IsCleanPath eq edges start test path) → length (rests eq start paths) ≡ length paths
+  behind_start [] c = refl
+  behind_start ([] ∷ ps) c = let h = c [] (Contains-head ps []) in absurd h.goes.goes.walks
+  behind_start ((a ∷ w) ∷ ps) c =
+      let s = begins_at a w (c (a ∷ w) (Contains-head ps (a ∷ w))) in
+      subst (λ (b : Bool). length (cond b (w ∷ rests eq start ps) (rests eq start ps)) ≡ suc (length ps)) (sym s) (ap suc (behind_start ps (λ q h. c q (Contains-tail ps (a ∷ w) q h))))
+
   pub clean_at_most : (paths : List (List N)) → ((path : List N) → Contains paths path → IsCleanPath eq edges start test path)
-      → ((i j : ℕ) (path other : List N) → slice_get paths i ≡ Some path → slice_get paths j ≡ Some other → SameNodes eq path other → i ≡ j) → length paths ≤ most_paths (length nodes)
-  clean_at_most paths clean once = most eq laws (length nodes) nodes paths (omega arith) (all_over paths clean) (once_at_places eq paths once)
+      → ((i j : ℕ) (path other : List N) → slice_get paths i ≡ Some path → slice_get paths j ≡ Some other → SameNodes eq path other → i ≡ j) → length paths ≤ most_paths (length further)
+  clean_at_most paths clean once =
+      let fewer = others_fewer eq start (start ∷ further) (inl (laws.refl start)) in
+      let few = most eq laws (length further) (others eq start (start ∷ further)) (rests eq start paths) (omega (arith, fewer)) (rests_over eq laws start (start ∷ further) paths (all_over paths clean)) (rests_once eq laws start paths (once_at_places eq paths once)) in
+      let same = behind_start paths clean in
+      omega (arith, few, same)
     where
-      all_over : (ps : List (List N)) → ((path : List N) → Contains ps path → IsCleanPath eq edges start test path) → AreOver eq nodes ps
+      all_over : (ps : List (List N)) → ((path : List N) → Contains ps path → IsCleanPath eq edges start test path) → AreOver eq (start ∷ further) ps
       all_over [] c = tt
       all_over (p ∷ ps) c = (over p (c p (Contains-head ps p)), all_over ps (λ q h. c q (Contains-tail ps p q h)))
