@@ -64,7 +64,7 @@ module _ {N : Type 0} (eq : N → N → Bool) (edges : N → List (N × ℤ)) (s
       pub rising : (g : List N × C) → Contains given g → value g.1 ≤ℤ value cost
       pub none_cheaper : (other : List N) (u : ℤ) → IsCleanPath other → WalkCosts eq edges other u → ¬ (WasGiven given other) → value cost ≤ℤ u
 
-    -- A sum does not fit among the paths that branch off the path that was given last: those that begin with some of its first nodes, one at least, and go on to a node to which no given path goes on from them. A path and one step more, which together are such a path, cost more than fits, and no clean path among them costs less than that path without the step.
+    -- A sum does not fit among the paths that branch off the path that was given last: those that begin with some of its first nodes, one at least, and go on to a node to which no given path goes on from them. A path and one step more, which together begin and go on so, cost more than fits, and no clean path among them costs less than that path without the step.
     pub record IsBranchPastRange (fits : ℤ → Type 0) (given : List (List N × C)) : Type 0 where
       pub prefix : List N
       pub some : 0 < length prefix
