@@ -4,6 +4,7 @@ ghost use Rattle.std.specs.Prelude.{◌≡◌, ◌<◌, ◌*◌, ◌^◌, ◌<�
 ghost use Rattle.pf_base.specs.declared.error.PathError.TheVariants.{OutOfMemory};
 ghost use Rattle.pf_matrix.specs.Tables.{IsMatrix};
 ghost use Rattle.std.specs.Option.{ForSome};
+ghost use Rattle.pf_residual.specs.Flows.{IsAntisymmetric};
 ghost use Rattle.pf_residual.specs.DenseStores.{AreTables, IsSquare, IsZeroTable, AreSameTables, tables_network, table_number, table_sum};
 ghost use Rattle.pf_residual.specs.Internal.DenseLaws.{tables_law};
 ghost use Rattle.pf_residual.specs.Listings.{ListsNumbers, ListsVertices};
@@ -34,6 +35,8 @@ pub struct DenseCapacity<C: SignedCost, A: Allocator = Global> {
     sum: Option<C>,
     // the matrices are those of a network
     ghost stored: { AreTables source sink residuals flows },
+    // the flow is antisymmetric
+    ghost opposite: { IsAntisymmetric (table_number C.value residuals.rows flows) },
     // the sum is theirs
     ghost summed: { ForSome sum (λ z. C.value z ≡ table_sum C.value residuals) },
 }
@@ -191,7 +194,7 @@ impl<C: SignedCost, A: Allocator + Copy> FlowStore<C> for DenseCapacity<C, A> {
         self.total = total;
     }
 
-    ghost network_law = { λ s. tables_law C.value s.residuals s.flows s.source s.sink (C.value s.total) s.details s.stored };
+    ghost network_law = { λ s. tables_law C.value s.residuals s.flows s.source s.sink (C.value s.total) s.details s.stored s.opposite };
 }
 
 impl<C: SignedCost, A: Allocator + Copy> EdmondsKarp<C> for DenseCapacity<C, A> {

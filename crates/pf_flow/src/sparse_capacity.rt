@@ -3,7 +3,8 @@
 ghost use Rattle.std.specs.Prelude.{◌≡◌, length, IfOk, IfErr};
 ghost use Rattle.pf_base.specs.declared.error.PathError.TheVariants.{OutOfMemory};
 ghost use Rattle.std.specs.Option.{ForSome};
-ghost use Rattle.pf_residual.specs.SparseStores.{AreRows, AreEmpty, IsSameStore, rows_network, rows_sum};
+ghost use Rattle.pf_residual.specs.Flows.{IsAntisymmetric};
+ghost use Rattle.pf_residual.specs.SparseStores.{AreRows, AreEmpty, IsSameStore, rows_flow, rows_network, rows_sum};
 ghost use Rattle.std.proofs.Props.{props};
 ghost use Rattle.pf_residual.specs.Internal.SparseLaws.{rows_law};
 ghost use Rattle.pf_flow.specs.Internal.SparseProps.{Rises-prop};
@@ -27,6 +28,8 @@ pub struct SparseCapacity<C: SignedCost, A: Allocator = Global> {
     sum: Option<C>,
     // the rows are those of a network
     ghost stored: { AreRows source sink rows.items } by { Prim.hlevel (props, Rises-prop) },
+    // the flow is antisymmetric
+    ghost opposite: { IsAntisymmetric (rows_flow C.value rows.items) },
     // the sum is theirs
     ghost summed: { ForSome sum (λ z. C.value z ≡ rows_sum C.value rows.items) },
 }
@@ -137,7 +140,7 @@ impl<C: SignedCost, A: Allocator + Copy> FlowStore<C> for SparseCapacity<C, A> {
         self.total = total;
     }
 
-    ghost network_law = { λ s. rows_law C.value s.rows.items s.source s.sink (C.value s.total) s.details s.stored };
+    ghost network_law = { λ s. rows_law C.value s.rows.items s.source s.sink (C.value s.total) s.details s.stored s.opposite };
 }
 
 impl<C: SignedCost, A: Allocator + Copy> EdmondsKarp<C> for SparseCapacity<C, A> {

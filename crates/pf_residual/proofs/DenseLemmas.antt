@@ -83,6 +83,15 @@ table_added value n old new from to x s l k c a b = pick (are_inside n a b) refl
 pub square_changed : {C : Type 0} (value : C → ℤ) (n : ℕ) (old new : Table C) (from to : ℕ) (x : ℤ) → IsSquare n old → IsTableChanged value from to x old new → IsSquare n new
 square_changed value n old new from to x s c = record { rows = c.rows ∙ s.rows; columns = c.columns ∙ s.columns; matrix = c.matrix }
 
+-- squares of the same size are as good
+pub tables_kept : {C : Type 0} (source sink : ℕ) (residuals flows r f : Table C) → AreTables source sink residuals flows → IsSquare residuals.rows r → IsSquare residuals.rows f → AreTables source sink r f
+tables_kept source sink residuals flows r f h a b = record {
+  source_in = subst (λ n. source < n) (sym a.rows) h.source_in;
+  sink_in = subst (λ n. sink < n) (sym a.rows) h.sink_in;
+  residuals_square = subst (λ n. IsSquare n r) (sym a.rows) a;
+  flows_square = subst (λ n. IsSquare n f) (sym a.rows) b;
+}
+
 -- the number of a pair of vertices
 pub number_inside : {C : Type 0} (value : C → ℤ) (n : ℕ) (m : Table C) (a b : ℕ) → a < n → b < n → table_number value n m a b ≡ number value m.values (a * m.columns + b)
 number_inside value n m a b l k = rw (is_inside n a b l k) refl

@@ -9,6 +9,7 @@ pub mod AddedLemmas
 pub mod PotentialLemmas
 pub mod AgreeLemmas
 pub mod PushLemmas
+pub mod OppositeLemmas
 pub mod LevelLemmas
 pub mod LevelListLemmas
 pub mod WayLemmas

@@ -33,7 +33,7 @@ both_ways true false f g z h = omega (arith, ints, h)
 both_ways false true f g z h = omega (arith, ints, h)
 both_ways false false f g z h = h
 
-opposite_moved : (f : PairTable) (u v : ℕ) (z : ℤ) (a b : ℕ) → f a b +ℤ f b a ≡ pos 0 → added (added f u v z) v u (neg_ℤ z) a b +ℤ added (added f u v z) v u (neg_ℤ z) b a ≡ pos 0
+pub opposite_moved : (f : PairTable) (u v : ℕ) (z : ℤ) (a b : ℕ) → f a b +ℤ f b a ≡ pos 0 → added (added f u v z) v u (neg_ℤ z) a b +ℤ added (added f u v z) v u (neg_ℤ z) b a ≡ pos 0
 opposite_moved f u v z a b h =
     ap (λ (p : Bool). added (added f u v z) v u (neg_ℤ z) a b +ℤ (if p then (if nat_eq b u && nat_eq a v then f b a +ℤ z else f b a) +ℤ neg_ℤ z else (if nat_eq b u && nat_eq a v then f b a +ℤ z else f b a))) (and_comm (nat_eq b v) (nat_eq a u))
     ∙ ap (λ (q : Bool). added (added f u v z) v u (neg_ℤ z) a b +ℤ (if nat_eq a u && nat_eq b v then (if q then f b a +ℤ z else f b a) +ℤ neg_ℤ z else (if q then f b a +ℤ z else f b a))) (and_comm (nat_eq b u) (nat_eq a v))

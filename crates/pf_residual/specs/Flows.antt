@@ -16,6 +16,10 @@ replaced t from to number a b = if nat_eq a from && nat_eq b to then number else
 pub record Same (s t : PairTable) : Type 0 where
   pub at : (a b : ℕ) → s a b ≡ t a b
 
+-- the numbers of a pair and of its reverse add up to 0
+pub record IsAntisymmetric (t : PairTable) : Type 0 where
+  pub at : (a b : ℕ) → t a b +ℤ t b a ≡ pos 0
+
 -- g 0 + g 1 + .. + g (n - 1)
 abbrev pub sum_to : (ℕ → ℤ) → ℕ → ℤ
 sum_to g zero = pos 0

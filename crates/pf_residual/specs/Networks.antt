@@ -1,6 +1,6 @@
 -- What a contract sees of a store of flows.
 use Rattle.std.specs.Prelude.{◌≡◌, ◌≢◌, ◌≤ℤ◌, ◌+ℤ◌, ◌<◌, ℕ, ℤ, pos, neg_ℤ, Bool, true, false}
-use Rattle.pf_residual.specs.Flows.{PairTable, added, replaced, pair_sum, flow_value, cut_capacity, Same, IsNonNegative, IsFeasibleFlow, IsSmallestLeastCut}
+use Rattle.pf_residual.specs.Flows.{PairTable, added, replaced, pair_sum, flow_value, cut_capacity, Same, IsNonNegative, IsAntisymmetric, IsFeasibleFlow, IsSmallestLeastCut}
 
 -- vertices 0 to n - 1, a source and a sink; what is left of each capacity, and the flow; a total; whether flows and cuts are listed; and which pairs have room
 pub record Network : Type 0 where
@@ -17,13 +17,14 @@ pub record Network : Type 0 where
 abbrev pub capacity : Network → PairTable
 capacity N a b = N.residual a b +ℤ N.flow a b
 
--- source and sink are vertices; with a pair that has room its reverse has it; only pairs of vertices have room; and where there is none, there is neither residual capacity nor flow
+-- source and sink are vertices; with a pair that has room its reverse has it; only pairs of vertices have room; where there is none, there is neither residual capacity nor flow; and the flow is antisymmetric
 pub record IsStored (N : Network) : Type 0 where
   pub source_in : N.source < N.vertices
   pub sink_in : N.sink < N.vertices
   pub back : (a b : ℕ) → N.room a b ≡ true → N.room b a ≡ true
   pub inside : (a b : ℕ) → N.room a b ≡ true → (a < N.vertices) × (b < N.vertices)
   pub empty : (a b : ℕ) → N.room a b ≡ false → (N.residual a b ≡ pos 0) × (N.flow a b ≡ pos 0)
+  pub opposite : IsAntisymmetric N.flow
 
 -- the network with this much more flow at a pair, and as much less at its reverse
 abbrev pub with_flow : ℕ → ℕ → ℤ → Network → Network

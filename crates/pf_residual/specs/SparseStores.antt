@@ -1,6 +1,6 @@
 -- Rows of edges as a network.
 use Rattle.std.specs.Prelude.{◌≡◌, ◌<◌, ℕ, ℤ, Bool, true, List, [], length}
-use Rattle.pf_residual.specs.Flows.{pair_sum}
+use Rattle.pf_residual.specs.Flows.{PairTable, pair_sum}
 use Rattle.pf_residual.specs.Networks.{Network}
 use Rattle.pf_residual.specs.SparseRows.{ends, Rises, has_end, amount_to, row_at, AreBelow}
 use Rattle.pf_residual.specs.declared.sparse_row.Edge.{Edge}
@@ -13,6 +13,10 @@ pub record AreRows {C : Type 0} (source sink : ℕ) (rows : List (List (Edge C))
   pub below : (a : ℕ) → AreBelow (length rows) (row_at rows a)
   pub back : (a b : ℕ) → has_end (ends (row_at rows a)) b ≡ true → has_end (ends (row_at rows b)) a ≡ true
 
+-- the flows that rows hold
+abbrev pub rows_flow : {C : Type 0} → (C → ℤ) → List (List (Edge C)) → PairTable
+rows_flow value rows a b = amount_to (λ e. value e.flow) (row_at rows a) b
+
 -- the network that rows hold
 abbrev pub rows_network : {C : Type 0} → (C → ℤ) → List (List (Edge C)) → ℕ → ℕ → ℤ → Bool → Network
 rows_network value rows source sink total details = record {
@@ -20,7 +24,7 @@ rows_network value rows source sink total details = record {
   source = source;
   sink = sink;
   residual = λ a b. amount_to (λ e. value e.residual) (row_at rows a) b;
-  flow = λ a b. amount_to (λ e. value e.flow) (row_at rows a) b;
+  flow = rows_flow value rows;
   total = total;
   details = details;
   room = λ a b. has_end (ends (row_at rows a)) b;

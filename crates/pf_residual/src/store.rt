@@ -14,8 +14,9 @@ use std::alloc::Allocator;
 ///
 /// A contract sees it as `Self.network`: a number of vertices, a source, a sink, the residual
 /// capacity and the flow of each ordered pair of vertices, a total, the mark whether flows and cuts
-/// are listed, and which pairs have room. With a pair its reverse has room, and each pair with
-/// residual capacity or flow has it. Every call that is refused is refused with `OutOfMemory`.
+/// are listed, and which pairs have room. With a pair its reverse has room, each pair with residual
+/// capacity or flow has it, and the flows of a pair and of its reverse add up to zero. Every call that
+/// is refused is refused with `OutOfMemory`.
 pub trait FlowStore<C: SignedCost>: Sized + Drop {
     // What the store holds.
     ghost network: { Self → Network };
@@ -126,6 +127,6 @@ pub trait FlowStore<C: SignedCost>: Sized + Drop {
         ensures { Agrees (network self.old) (network self.new) }
     {}
 
-    // Source and sink are vertices, and which pairs have room is as it should be.
+    // Source and sink are vertices, which pairs have room is as it should be, and the flow is antisymmetric.
     ghost network_law: { (s : Self) → IsStored (network s) };
 }

@@ -1,8 +1,9 @@
 -- Rows of edges meet the law of a store.
 use Rattle.std.proofs.Common.{◌≡◌, refl, sym, ◌<◌, ℕ, ℤ, zero, suc, pos, arith, Bool, true, false, true≢false, List, [], ◌∷◌, length, nat_eq, if◌then◌else◌}
+use Rattle.pf_residual.specs.Flows.{IsAntisymmetric}
 use Rattle.pf_residual.specs.Networks.{IsStored}
 use Rattle.pf_residual.specs.SparseRows.{ends, has_end, amount_to, row_at}
-use Rattle.pf_residual.specs.SparseStores.{AreRows, rows_network}
+use Rattle.pf_residual.specs.SparseStores.{AreRows, rows_flow, rows_network}
 use Rattle.pf_residual.specs.declared.sparse_row.Edge.{Edge}
 
 none_step : {C : Type 0} → (f : Edge C → ℤ) (x : Edge C) (xs : List (Edge C)) (b : ℕ) (t : Bool) → (if t then true else has_end (ends xs) b) ≡ false
@@ -22,11 +23,12 @@ has_row (r ∷ rows) zero b h = omega arith
 has_row (r ∷ rows) (suc a) b h = let k = has_row rows a b h in omega (arith, k)
 
 pub rows_law : {C : Type 0} (value : C → ℤ) (rows : List (List (Edge C))) (source sink : ℕ) (total : ℤ) (details : Bool) → AreRows source sink rows
-    → IsStored (rows_network value rows source sink total details)
-rows_law value rows source sink total details h = record {
+    → IsAntisymmetric (rows_flow value rows) → IsStored (rows_network value rows source sink total details)
+rows_law value rows source sink total details h opposite = record {
   source_in = h.source_in;
   sink_in = h.sink_in;
   back = h.back;
   inside = λ a b k. (has_row rows a b k, (h.below a).at b k);
   empty = λ a b k. (amount_none (λ e. value e.residual) (row_at rows a) b k, amount_none (λ e. value e.flow) (row_at rows a) b k);
+  opposite = opposite;
 }

@@ -1,6 +1,9 @@
 use Rattle.std.proofs.Common.{◌∙◌, ap}
+use Rattle.pf_residual.specs.DenseStores.{table_number}
 use Rattle.pf_residual.proofs.NetworkLemmas.{network_of_fresh}
-use Rattle.pf_residual.proofs.DenseLemmas.{zero_fresh, zero_capacities}
+use Rattle.pf_residual.proofs.DenseLemmas.{zero_tables, zero_fresh, zero_capacities}
+use Rattle.pf_residual.proofs.OppositeLemmas.{opposite_none}
+use Rattle.std.proofs.lemmas.Option.{none-some}
 use Rattle.std.proofs.lemmas.Result.{IfOk-from_err}
 use Rattle.pf_residual.proofs.NamedLemmas.{refused_as}
 use Rattle.pf_flow.proofs.dense_capacity.DenseCapacityEdmondsKarp.new.Goals as goal
@@ -56,3 +59,16 @@ returns-in_err-flows-clause-network g c = IfOk-from_err _ _ c.from_residual-in_e
 
 pub returns-in_err-flows-clause-refused : goal.returns-in_err-flows-clause-refused
 returns-in_err-flows-clause-refused g c = refused_as _ c.from_residual-in_err-flows.result _ c.in_err-flows.ensures.refused c.from_residual-in_err-flows.ensures.1
+
+pub invariant_of-result : goal.invariant_of-result
+invariant_of-result g c =
+    let value = g.C.Number.value in
+    let residuals = c.in_ok-residuals.residuals in
+    let flows = c.in_ok-flows.flows in
+    let left = c.in_ok-residuals.ensures in
+    let right = c.in_ok-flows.ensures in
+    record {
+      stored = zero_tables value residuals flows c.args.size c.args.source c.args.sink left.square right.square c.requires.source c.requires.sink;
+      opposite = opposite_none _ (λ a b. ap (λ n. table_number value n flows a b) left.square.rows ∙ right.zero.at a b);
+      summed = λ z e. absurd (none-some z e);
+    }

@@ -1,11 +1,13 @@
 use Rattle.std.proofs.Common.{◌≡◌, ◌≢◌, ◌∙◌, ◌<◌, ◌+◌, ◌*◌, ◌+ℤ◌, ℕ, ℤ, neg_ℤ, sym, subst}
 use Rattle.std.specs.Prelude.{◌-ℤ◌}
+use Rattle.std.proofs.lemmas.Option.{none-some}
 use Rattle.pf_matrix.specs.Tables.{Table, HasPosition}
 use Rattle.pf_residual.specs.Capacities.{number}
 use Rattle.pf_residual.specs.DenseStores.{IsSquare, IsTableChanged, table_number}
 use Rattle.pf_residual.specs.Internal.DenseLaws.{inside_of}
 use Rattle.pf_residual.proofs.AddedLemmas.{added_elsewhere}
-use Rattle.pf_residual.proofs.DenseLemmas.{flow_raised, number_inside, square_changed, table_added}
+use Rattle.pf_residual.proofs.DenseLemmas.{flow_raised, number_inside, square_changed, table_added, tables_kept}
+use Rattle.pf_residual.proofs.OppositeLemmas.{opposite_carried}
 use Rattle.pf_flow.proofs.dense_capacity.DenseCapacityFlowStore.add_flow.Goals as goal
 
 -- both vertices are a position of a square
@@ -77,3 +79,21 @@ returns g c =
     let s = c.args.self.now in
     flow_raised g.C.Number.value s.residuals s.flows s.source s.sink (g.C.Number.value s.total) s.details s.stored c.args.from c.args.to c.requires.room (g.C.Number.value c.args.amount)
     c.raise.new.table c.lower.new.table c.lower-2.new.table c.raise-2.new.table c.raise.ensures c.lower.ensures c.lower-2.ensures c.raise-2.ensures
+
+pub invariant_of-self : goal.invariant_of-self
+invariant_of-self g c =
+    let s = c.args.self.now in
+    let n = s.residuals.rows in
+    let value = g.C.Number.value in
+    let from = c.args.from in
+    let to = c.args.to in
+    let x = value c.args.amount in
+    record {
+      stored = tables_kept s.source s.sink s.residuals s.flows c.raise-2.new.table c.lower.new.table s.stored
+          (square_changed value n c.lower-2.new.table c.raise-2.new.table to from x (square_changed value n s.residuals c.lower-2.new.table from to (neg_ℤ x) s.stored.residuals_square c.lower-2.ensures) c.raise-2.ensures)
+          (square_changed value n c.raise.new.table c.lower.new.table to from (neg_ℤ x) (square_changed value n s.flows c.raise.new.table from to x s.stored.flows_square c.raise.ensures) c.lower.ensures);
+      opposite = opposite_carried (table_number value n s.flows) from to x s.opposite
+          (flow_raised value s.residuals s.flows s.source s.sink (value s.total) s.details s.stored from to c.requires.room x c.raise.new.table c.lower.new.table c.lower-2.new.table c.raise-2.new.table
+          c.raise.ensures c.lower.ensures c.lower-2.ensures c.raise-2.ensures).flow;
+      summed = λ z e. absurd (none-some z e);
+    }

@@ -1,4 +1,7 @@
 use Rattle.std.proofs.Common.{◌∙◌, ◌<◌, ap, subst, sym}
+use Rattle.pf_residual.specs.SparseRows.{amount_to}
+use Rattle.pf_residual.specs.SparseStores.{rows_flow}
+use Rattle.pf_residual.proofs.OppositeLemmas.{opposite_none}
 use Rattle.pf_residual.proofs.NetworkLemmas.{network_of_fresh}
 use Rattle.pf_residual.proofs.SparseStoreLemmas.{empty_rows, empty_fresh, empty_capacities}
 use Rattle.std.proofs.lemmas.Option.{none-some}
@@ -46,6 +49,7 @@ invariant_of-result g c =
     let made = c.in_ok-rows.ensures in
     record {
       stored = empty_rows c.args.source c.args.sink c.in_ok-rows.rows.items made.empty (subst (λ n. c.args.source < n) (sym made.len) c.requires.source) (subst (λ n. c.args.sink < n) (sym made.len) c.requires.sink);
+      opposite = opposite_none (rows_flow g.C.Number.value c.in_ok-rows.rows.items) (λ a b. ap (λ r. amount_to (λ e. g.C.Number.value e.flow) r b) (made.empty.at a));
       summed = λ z e. absurd (none-some z e);
     }
 

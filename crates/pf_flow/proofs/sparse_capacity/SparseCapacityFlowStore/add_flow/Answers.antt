@@ -3,7 +3,9 @@ use Rattle.std.specs.Prelude.{◌+ℤ◌, ◌-ℤ◌}
 use Rattle.std.proofs.lemmas.List.{get_or_default, get_or-set_other, length-set}
 use Rattle.std.proofs.lemmas.Option.{none-some}
 use Rattle.pf_residual.specs.SparseRows.{ends, Rises, has_end, amount_to, row_at, IsRowChanged}
+use Rattle.pf_residual.specs.SparseStores.{rows_flow}
 use Rattle.pf_residual.specs.Internal.SparseLaws.{has_row}
+use Rattle.pf_residual.proofs.OppositeLemmas.{opposite_carried}
 use Rattle.pf_residual.proofs.SparseStoreLemmas.{rows_kept, ends_set_at, flow_added}
 use Rattle.pf_flow.proofs.sparse_capacity.SparseCapacityFlowStore.add_flow.Goals as goal
 
@@ -112,5 +114,9 @@ invariant_of-self g c =
     record {
       stored = rows_kept c.args.self.now.source c.args.self.now.sink rows (slice_set once c.args.to c.take_back.new.self) c.args.self.now.stored (length-set once c.args.to c.take_back.new.self ∙ length-set rows c.args.from c.carry.new.self)
           (λ a. ends_set_at once c.args.to c.take_back.new.self to_in_once (c.take_back.ensures.ends ∙ ap (λ r. ends r) there) a ∙ ends_set_at rows c.args.from c.carry.new.self from_in (c.carry.ensures.ends ∙ ap (λ r. ends r) here) a);
+      opposite = opposite_carried (rows_flow value rows) c.args.from c.args.to x c.args.self.now.opposite
+          (flow_added value c.args.self.now.source c.args.self.now.sink (value c.args.self.now.total) c.args.self.now.details rows c.args.from c.args.to x c.carry.new.self c.take_back.new.self from_in to_in
+          (subst (λ row. IsRowChanged value c.args.to (neg_ℤ x) x row c.carry.new.self) here c.carry.ensures)
+          (subst (λ row. IsRowChanged value c.args.from x (neg_ℤ x) row c.take_back.new.self) there c.take_back.ensures)).flow;
       summed = λ z e. absurd (none-some z e);
     }

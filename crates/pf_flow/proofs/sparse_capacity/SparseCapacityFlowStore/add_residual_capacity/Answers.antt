@@ -8,6 +8,7 @@ use Rattle.pf_residual.specs.SparseRows.{ends, Rises, has_end, amount_to, row_at
 use Rattle.pf_residual.specs.SparseStores.{rows_network}
 use Rattle.pf_residual.specs.Internal.SparseLaws.{has_row}
 use Rattle.pf_residual.specs.declared.sparse_row.Edge.{Edge}
+use Rattle.pf_residual.proofs.OppositeLemmas.{opposite_same}
 use Rattle.pf_residual.proofs.SparseStoreLemmas.{rows_kept, ends_set_at, table_changed}
 use Rattle.pf_flow.proofs.sparse_capacity.SparseCapacityFlowStore.add_residual_capacity.Goals as goal
 
@@ -50,17 +51,6 @@ add_residual-requires-clause-fits g c =
     let here : c.index_mut.result.now ≡ row_at rows c.args.from = c.index_mut.ensures.value ∙ get_or_default rows c.args.from _ [] (has_row rows c.args.from c.args.to c.requires.room) in
     subst (λ row. g.C.Number.fits (amount_to (λ e. value e.residual) row c.args.to +ℤ value c.args.amount)) (sym here) c.requires.fits
 
-pub invariant_of-self : goal.invariant_of-self
-invariant_of-self g c =
-    let rows = c.args.self.now.rows.items in
-    let inside = has_row rows c.args.from c.args.to c.requires.room in
-    let here : c.index_mut.result.now ≡ row_at rows c.args.from = c.index_mut.ensures.value ∙ get_or_default rows c.args.from _ [] inside in
-    record {
-      stored = rows_kept c.args.self.now.source c.args.self.now.sink rows (slice_set rows c.args.from c.add_residual.new.self) c.args.self.now.stored (length-set rows c.args.from c.add_residual.new.self)
-          (ends_set_at rows c.args.from c.add_residual.new.self inside (c.add_residual.ensures.ends ∙ ap (λ r. ends r) here));
-      summed = λ z e. absurd (none-some z e);
-    }
-
 pub returns : goal.returns
 returns g c =
     let s = c.args.self.now in
@@ -71,3 +61,20 @@ returns g c =
     let here : c.index_mut.result.now ≡ row_at rows c.args.from = c.index_mut.ensures.value ∙ get_or_default rows c.args.from _ [] inside in
     residual_added value s.source s.sink (value s.total) s.details rows c.args.from c.args.to x c.add_residual.new.self inside
     (subst (λ row. IsRowChanged value c.args.to x (pos 0) row c.add_residual.new.self) here c.add_residual.ensures)
+
+pub invariant_of-self : goal.invariant_of-self
+invariant_of-self g c =
+    let s = c.args.self.now in
+    let rows = s.rows.items in
+    let value = g.C.Number.value in
+    let x = value c.args.amount in
+    let inside = has_row rows c.args.from c.args.to c.requires.room in
+    let here : c.index_mut.result.now ≡ row_at rows c.args.from = c.index_mut.ensures.value ∙ get_or_default rows c.args.from _ [] inside in
+    record {
+      stored = rows_kept c.args.self.now.source c.args.self.now.sink rows (slice_set rows c.args.from c.add_residual.new.self) c.args.self.now.stored (length-set rows c.args.from c.add_residual.new.self)
+          (ends_set_at rows c.args.from c.add_residual.new.self inside (c.add_residual.ensures.ends ∙ ap (λ r. ends r) here));
+      opposite = opposite_same s.opposite
+          (residual_added value s.source s.sink (value s.total) s.details rows c.args.from c.args.to x c.add_residual.new.self inside
+          (subst (λ row. IsRowChanged value c.args.to x (pos 0) row c.add_residual.new.self) here c.add_residual.ensures)).flow;
+      summed = λ z e. absurd (none-some z e);
+    }

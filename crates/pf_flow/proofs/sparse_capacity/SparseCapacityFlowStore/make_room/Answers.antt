@@ -2,27 +2,16 @@ use Rattle.std.proofs.Common.{◌≡◌, refl, arith, ◌∙◌, sym, ap, subst,
 use Rattle.std.specs.Prelude.{◌<◌}
 use Rattle.std.proofs.lemmas.List.{get_or_default, get_or-set_other, length-set, set-get_or}
 use Rattle.std.proofs.lemmas.Option.{none-some}
+use Rattle.pf_residual.specs.Flows.{IsAntisymmetric}
 use Rattle.pf_residual.specs.Networks.{Agrees}
 use Rattle.pf_residual.specs.SparseRows.{ends, Rises, has_end, row_at, with_edge}
-use Rattle.pf_residual.specs.SparseStores.{AreRows, rows_network}
+use Rattle.pf_residual.specs.SparseStores.{AreRows, rows_flow, rows_network}
 use Rattle.pf_residual.specs.declared.sparse_row.Edge.{Edge}
 use Rattle.pf_flow.proofs.SparseRoom.{widened, widened_once, widened_twice, room_made, once_amount, fresh_back, inside_once, first_is, second_is, third_read, undone}
+use Rattle.pf_residual.proofs.OppositeLemmas.{opposite_same}
 use Rattle.pf_residual.proofs.SparseRowLemmas.{with_edge_rises, with_edge_has}
 use Rattle.pf_residual.proofs.SparseStoreLemmas.{rows_same}
 use Rattle.pf_flow.proofs.sparse_capacity.SparseCapacityFlowStore.make_room.Goals as goal
-
-pub invariant_of-self-then-from-to : goal.invariant_of-self-then-from-to
-invariant_of-self-then-from-to g c =
-    let rows = c.args.self.now.rows.items in
-    let from = c.args.from in
-    let to = c.args.to in
-    let source = c.args.self.now.source in
-    let sink = c.args.self.now.sink in
-    let d : Edge g.row.C.Denot = record { to = to; residual = g.C.Zero.zero; flow = g.C.Zero.zero } in
-    let fresh : has_end (ends (row_at rows from)) to ≡ false = sym (ap (λ r. has_end (ends r) to) (c.index.ensures ∙ get_or_default rows from _ [] c.requires.from)) ∙ sym c.has.ensures ∙ c.if-has.false in
-    let first = first_is rows from to d d c.requires.from c.requires.to c.index_mut.result.now c.index_mut.ensures.value c.insert.new.self c.in_ok-insert.ensures.ok in
-    let widens = widened_once source sink rows from d c.args.self.now.stored c.requires.from c.if-from-to.true fresh in
-    record { stored = subst (λ r. AreRows source sink r) (sym first) (widened source sink from to rows _ c.args.self.now.stored c.requires.from c.requires.to widens); summed = λ z e. absurd (none-some z e) }
 
 pub returns-then-from-to-clause-same : goal.returns-then-from-to-clause-same
 returns-then-from-to-clause-same g c =
@@ -41,6 +30,21 @@ returns-then-from-to-clause-same g c =
     let widens = widened_once source sink rows from d c.args.self.now.stored c.requires.from c.if-from-to.true fresh in
     subst (λ r. Agrees (rows_network value rows source sink total details) (rows_network value r source sink total details)) (sym first)
     (room_made value source sink total details from to rows _ widens (λ f z a b. once_amount rows from d c.requires.from f fresh (z d none none) a b))
+
+pub invariant_of-self-then-from-to : goal.invariant_of-self-then-from-to
+invariant_of-self-then-from-to g c =
+    let rows = c.args.self.now.rows.items in
+    let from = c.args.from in
+    let to = c.args.to in
+    let source = c.args.self.now.source in
+    let sink = c.args.self.now.sink in
+    let d : Edge g.row.C.Denot = record { to = to; residual = g.C.Zero.zero; flow = g.C.Zero.zero } in
+    let fresh : has_end (ends (row_at rows from)) to ≡ false = sym (ap (λ r. has_end (ends r) to) (c.index.ensures ∙ get_or_default rows from _ [] c.requires.from)) ∙ sym c.has.ensures ∙ c.if-has.false in
+    let first = first_is rows from to d d c.requires.from c.requires.to c.index_mut.result.now c.index_mut.ensures.value c.insert.new.self c.in_ok-insert.ensures.ok in
+    let value = g.C.Number.value in
+    let none = g.met.C.Zero.zero_law g.met.C.Integral.exact_law in
+    let widens = widened_once source sink rows from d c.args.self.now.stored c.requires.from c.if-from-to.true fresh in
+    record { stored = subst (λ r. AreRows source sink r) (sym first) (widened source sink from to rows _ c.args.self.now.stored c.requires.from c.requires.to widens); opposite = subst (λ r. IsAntisymmetric (rows_flow value r)) (sym first) (opposite_same c.args.self.now.opposite (record { at = once_amount rows from d c.requires.from (λ e. value e.flow) fresh none })); summed = λ z e. absurd (none-some z e) }
 
 pub returns-then-from-to-clause-room : goal.returns-then-from-to-clause-room
 returns-then-from-to-clause-room g c =
@@ -85,22 +89,6 @@ remove-requires-clause-edge g c =
     c.index_mut-2.result.now c.index_mut-2.ensures.value c.insert-2.new.self c.in-Err.ensures.unchanged c.index_mut-in-Err.result.now c.index_mut-in-Err.ensures.value in
     subst (λ r. has_end (ends r) to ≡ true) (sym third) (with_edge_has (row_at rows from) d)
 
-pub invariant_of-self-in-Err : goal.invariant_of-self-in-Err
-invariant_of-self-in-Err g c =
-    let rows = c.args.self.now.rows.items in
-    let from = c.args.from in
-    let to = c.args.to in
-    let source = c.args.self.now.source in
-    let sink = c.args.self.now.sink in
-    let d : Edge g.row.C.Denot = record { to = to; residual = g.C.Zero.zero; flow = g.C.Zero.zero } in
-    let fresh : has_end (ends (row_at rows from)) to ≡ false = sym (ap (λ r. has_end (ends r) to) (c.index.ensures ∙ get_or_default rows from _ [] c.requires.from)) ∙ sym c.has.ensures ∙ c.if-has.false in
-    let e : Edge g.row.C.Denot = record { to = from; residual = g.C.Zero.zero; flow = g.C.Zero.zero } in
-    let stored = c.args.self.now.stored in
-    let back = undone rows from to d d c.requires.from c.requires.to c.index_mut.result.now c.index_mut.ensures.value c.insert.new.self c.in_ok-insert.ensures.ok
-    c.index_mut-2.result.now c.index_mut-2.ensures.value c.insert-2.new.self c.in-Err.ensures.unchanged c.index_mut-in-Err.result.now c.index_mut-in-Err.ensures.value
-    refl fresh c.remove.new.self c.remove.ensures in
-    record { stored = subst (λ r. AreRows source sink r) (sym back) stored; summed = λ z e. absurd (none-some z e) }
-
 pub returns-in-Err-clause-same : goal.returns-in-Err-clause-same
 returns-in-Err-clause-same g c =
     let rows = c.args.self.now.rows.items in
@@ -122,8 +110,8 @@ returns-in-Err-clause-same g c =
     subst (λ r. Agrees (rows_network value rows source sink total details) (rows_network value r source sink total details)) (sym back)
     (rows_same value source sink total details rows rows refl (λ a. refl))
 
-pub invariant_of-self-in_default : goal.invariant_of-self-in_default
-invariant_of-self-in_default g c =
+pub invariant_of-self-in-Err : goal.invariant_of-self-in-Err
+invariant_of-self-in-Err g c =
     let rows = c.args.self.now.rows.items in
     let from = c.args.from in
     let to = c.args.to in
@@ -133,10 +121,10 @@ invariant_of-self-in_default g c =
     let fresh : has_end (ends (row_at rows from)) to ≡ false = sym (ap (λ r. has_end (ends r) to) (c.index.ensures ∙ get_or_default rows from _ [] c.requires.from)) ∙ sym c.has.ensures ∙ c.if-has.false in
     let e : Edge g.row.C.Denot = record { to = from; residual = g.C.Zero.zero; flow = g.C.Zero.zero } in
     let stored = c.args.self.now.stored in
-    let second = second_is rows from to d e c.requires.from c.requires.to c.index_mut.result.now c.index_mut.ensures.value c.insert.new.self c.in_ok-insert.ensures.ok
-    c.index_mut-2.result.now c.index_mut-2.ensures.value c.insert-2.new.self c.in_default.ensures.ok in
-    let widens = widened_twice source sink rows stored d e c.if-from-to.false c.requires.from c.requires.to fresh in
-    record { stored = subst (λ r. AreRows source sink r) (sym second) (widened source sink from to rows _ stored c.requires.from c.requires.to widens); summed = λ z e. absurd (none-some z e) }
+    let back = undone rows from to d d c.requires.from c.requires.to c.index_mut.result.now c.index_mut.ensures.value c.insert.new.self c.in_ok-insert.ensures.ok
+    c.index_mut-2.result.now c.index_mut-2.ensures.value c.insert-2.new.self c.in-Err.ensures.unchanged c.index_mut-in-Err.result.now c.index_mut-in-Err.ensures.value
+    refl fresh c.remove.new.self c.remove.ensures in
+    record { stored = subst (λ r. AreRows source sink r) (sym back) stored; opposite = subst (λ r. IsAntisymmetric (rows_flow g.C.Number.value r)) (sym back) c.args.self.now.opposite; summed = λ z e. absurd (none-some z e) }
 
 pub returns-clause-same : goal.returns-clause-same
 returns-clause-same g c =
@@ -161,6 +149,33 @@ returns-clause-same g c =
     once_amount rows from d c.requires.from f fresh (z d none none) a b
     ∙ once_amount (slice_set rows from (with_edge (row_at rows from) d)) to e (inside_once source sink rows stored d e c.if-from-to.false c.requires.from c.requires.to fresh) f
     (fresh_back source sink rows stored d e c.if-from-to.false c.requires.from c.requires.to fresh) (z e none none) a b))
+
+pub invariant_of-self-in_default : goal.invariant_of-self-in_default
+invariant_of-self-in_default g c =
+    let rows = c.args.self.now.rows.items in
+    let from = c.args.from in
+    let to = c.args.to in
+    let source = c.args.self.now.source in
+    let sink = c.args.self.now.sink in
+    let d : Edge g.row.C.Denot = record { to = to; residual = g.C.Zero.zero; flow = g.C.Zero.zero } in
+    let fresh : has_end (ends (row_at rows from)) to ≡ false = sym (ap (λ r. has_end (ends r) to) (c.index.ensures ∙ get_or_default rows from _ [] c.requires.from)) ∙ sym c.has.ensures ∙ c.if-has.false in
+    let e : Edge g.row.C.Denot = record { to = from; residual = g.C.Zero.zero; flow = g.C.Zero.zero } in
+    let stored = c.args.self.now.stored in
+    let second = second_is rows from to d e c.requires.from c.requires.to c.index_mut.result.now c.index_mut.ensures.value c.insert.new.self c.in_ok-insert.ensures.ok
+    c.index_mut-2.result.now c.index_mut-2.ensures.value c.insert-2.new.self c.in_default.ensures.ok in
+    let value = g.C.Number.value in
+    let none = g.met.C.Zero.zero_law g.met.C.Integral.exact_law in
+    let widens = widened_twice source sink rows stored d e c.if-from-to.false c.requires.from c.requires.to fresh in
+    record {
+      stored = subst (λ r. AreRows source sink r) (sym second) (widened source sink from to rows _ stored c.requires.from c.requires.to widens);
+      opposite = subst (λ r. IsAntisymmetric (rows_flow value r)) (sym second) (opposite_same c.args.self.now.opposite (record {
+        at = λ a b.
+            once_amount rows from d c.requires.from (λ e. value e.flow) fresh none a b
+            ∙ once_amount (slice_set rows from (with_edge (row_at rows from) d)) to e (inside_once source sink rows stored d e c.if-from-to.false c.requires.from c.requires.to fresh) (λ e. value e.flow)
+            (fresh_back source sink rows stored d e c.if-from-to.false c.requires.from c.requires.to fresh) none a b;
+      }));
+      summed = λ z e. absurd (none-some z e);
+    }
 
 pub returns-clause-room : goal.returns-clause-room
 returns-clause-room g c =
@@ -220,14 +235,6 @@ insert-requires-2 g c =
 pub index_mut-requires-in-Err : goal.index_mut-requires-in-Err
 index_mut-requires-in-Err g c = omega (arith, c.requires.from, c.args.self.now.rows.ok)
 
-pub invariant_of-self : goal.invariant_of-self
-invariant_of-self g c =
-    let s = c.args.self.now in
-    let rows = s.rows.items in
-    let from = c.args.from in
-    let back = ap (slice_set rows from) (c.in_err-insert.ensures.unchanged ∙ c.index_mut.ensures.value ∙ get_or_default rows from _ [] c.requires.from) ∙ set-get_or rows from [] in
-    record { stored = subst (λ r. AreRows s.source s.sink r) (sym back) s.stored; summed = λ z e. absurd (none-some z e) }
-
 pub returns-in_err-insert-clause-same : goal.returns-in_err-insert-clause-same
 returns-in_err-insert-clause-same g c =
     let s = c.args.self.now in
@@ -238,3 +245,11 @@ returns-in_err-insert-clause-same g c =
     let back = ap (slice_set rows from) (c.in_err-insert.ensures.unchanged ∙ c.index_mut.ensures.value ∙ get_or_default rows from _ [] c.requires.from) ∙ set-get_or rows from [] in
     subst (λ r. Agrees (rows_network value rows s.source s.sink total s.details) (rows_network value r s.source s.sink total s.details)) (sym back)
     (rows_same value s.source s.sink total s.details rows rows refl (λ a. refl))
+
+pub invariant_of-self : goal.invariant_of-self
+invariant_of-self g c =
+    let s = c.args.self.now in
+    let rows = s.rows.items in
+    let from = c.args.from in
+    let back = ap (slice_set rows from) (c.in_err-insert.ensures.unchanged ∙ c.index_mut.ensures.value ∙ get_or_default rows from _ [] c.requires.from) ∙ set-get_or rows from [] in
+    record { stored = subst (λ r. AreRows s.source s.sink r) (sym back) s.stored; opposite = subst (λ r. IsAntisymmetric (rows_flow g.C.Number.value r)) (sym back) s.opposite; summed = λ z e. absurd (none-some z e) }

@@ -7,6 +7,7 @@ use Rattle.pf_flow.proofs.sparse_capacity.SparseCapacityFlowStore.note_sum.Goals
 pub invariant_of-self : goal.invariant_of-self
 invariant_of-self g c = record {
   stored = c.args.self.now.stored;
+  opposite = c.args.self.now.opposite;
   summed = λ z e. ap g.C.Number.value (sym (same_Some _ z e)) ∙ c.requires;
 }
 
