@@ -1,6 +1,7 @@
 -- Networks that agree.
-use Rattle.std.proofs.Common.{◌≡◌, ◌∙◌, refl, sym, ap, subst, ℤ}
-use Rattle.pf_residual.specs.Networks.{Network, capacity, Agrees, KeepsShape, KeepsCapacities, IsNetwork, HasTotalOfFlow}
+use Rattle.std.proofs.Common.{◌≡◌, ◌∙◌, ◌<◌, refl, sym, ap, subst, ℕ, ℤ}
+use Rattle.pf_residual.specs.Flows.{PairTable}
+use Rattle.pf_residual.specs.Networks.{Network, capacity, Agrees, KeepsShape, KeepsCapacities, IsNetwork, IsFresh, HasCapacities, HasTotalOfFlow, HasSameCapacities}
 use Rattle.pf_residual.specs.Internal.Balances.{IsBalanced}
 
 -- a network is the one that it agrees with, with its own room
@@ -58,3 +59,20 @@ capacities_more w v = record {
 
 pub agrees_itself : (N : Network) → Agrees N N
 agrees_itself N = record { vertices = refl; source = refl; sink = refl; residual = record { at = λ a b. refl }; flow = record { at = λ a b. refl }; total = refl; details = refl; room = λ a b h. h }
+
+-- stores that were made of one table, and that kept its capacities, have the same
+pub same_capacities : {size source sink : ℕ} {t : PairTable} {N M N' M' : Network} → IsFresh size source sink N → HasCapacities t N → IsFresh size source sink M → HasCapacities t M
+    → KeepsCapacities N N' → KeepsCapacities M M' → HasSameCapacities N' M'
+same_capacities {N = N} {M} {N'} {M'} f h g k w v =
+    let one : N'.vertices ≡ N.vertices = w.shape.vertices in
+    let both : M.vertices ≡ N.vertices = g.vertices ∙ sym f.vertices in
+    record {
+      vertices = v.shape.vertices ∙ both ∙ sym one;
+      source = v.shape.source ∙ g.source ∙ sym f.source ∙ sym w.shape.source;
+      sink = v.shape.sink ∙ g.sink ∙ sym f.sink ∙ sym w.shape.sink;
+      capacities = λ a b l m.
+          let i = subst (λ n. a < n) one l in
+          let j = subst (λ n. b < n) one m in
+          sym (w.capacities.at a b) ∙ h.at a b i j
+          ∙ sym (k.at a b (subst (λ n. a < n) (sym both) i) (subst (λ n. b < n) (sym both) j)) ∙ v.capacities.at a b;
+    }

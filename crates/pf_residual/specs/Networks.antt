@@ -111,9 +111,9 @@ pub record IsCutOfTotal (N : Network) (side : ℕ → Bool) : Type 0 where
 abbrev pub HasCutOfTotal : Network → Type 0
 HasCutOfTotal N = N.source ≢ N.sink → (side : ℕ → Bool) × IsCutOfTotal N side
 
--- the same vertices, ends and capacities
+-- the same vertices and ends, and the same capacities between vertices
 pub record HasSameCapacities (N M : Network) : Type 0 where
   pub vertices : M.vertices ≡ N.vertices
   pub source : M.source ≡ N.source
   pub sink : M.sink ≡ N.sink
-  pub capacities : Same (capacity N) (capacity M)
+  pub capacities : (a b : ℕ) → a < N.vertices → b < N.vertices → capacity N a b ≡ capacity M a b

@@ -1,9 +1,9 @@
-use Rattle.std.proofs.Common.{◌≡◌, ◌≢◌, ◌∙◌, ◌⊎◌, inl, inr, sym, ap, subst, arith, ℕ, pos, Bool}
+use Rattle.std.proofs.Common.{◌≡◌, ◌≢◌, ◌∙◌, ◌⊎◌, ◌<◌, inl, inr, sym, ap, subst, arith, ℕ, ℤ, pos, Bool, if◌then◌else◌}
 use Rattle.std.proofs.lemmas.Bool.{cases_eq}
 use Rattle.std.proofs.lemmas.Int.{ints}
-use Rattle.pf_residual.specs.Flows.{PairTable, cut_capacity, IsLeastCut}
+use Rattle.pf_residual.specs.Flows.{PairTable, sum_to, leaving, cut_capacity, IsLeastCut}
 use Rattle.pf_residual.specs.Networks.{Network, capacity, HasSameCapacities, HasCutOfTotal, HasTotalOfFlow}
-use Rattle.pf_residual.proofs.SumLemmas.{sum_none}
+use Rattle.pf_residual.proofs.SumLemmas.{sum_ext, sum_none}
 use Rattle.pf_flow.proofs.laws.stores_report_one_total.Goals as goal
 
 -- the capacity of a least cut is one
@@ -13,18 +13,24 @@ one_capacity n source sink t side other w v =
     let b = v.least side w.cut in
     omega (arith, ints, a, b)
 
+-- tables with the same numbers between vertices have the same cuts
+cut_same : (n : ℕ) (s t : PairTable) → ((a b : ℕ) → a < n → b < n → s a b ≡ t a b) → (side : ℕ → Bool) → cut_capacity n side s ≡ cut_capacity n side t
+cut_same n s t h side = sum_ext (λ a. sum_to (leaving side s a) n) (λ a. sum_to (leaving side t a) n) n (λ a l. sum_ext (leaving side s a) (leaving side t a) n (λ b m.
+    ap (λ (z : ℤ). if side a then (if side b then pos 0 else z) else pos 0) (h a b l m)))
+
 least_same : {N M : Network} → HasSameCapacities N M → (side : ℕ → Bool) → IsLeastCut M.vertices M.source M.sink (capacity M) side → IsLeastCut N.vertices N.source N.sink (capacity N) side
 least_same {N} {M} w side h =
-    let same : capacity N ≡ capacity M = λ i a b. w.capacities.at a b i in
-    subst (λ n. IsLeastCut n N.source N.sink (capacity N) side) w.vertices
-    (subst (λ s. IsLeastCut M.vertices s N.sink (capacity N) side) w.source
-    (subst (λ s. IsLeastCut M.vertices M.source s (capacity N) side) w.sink
-    (subst (λ t. IsLeastCut M.vertices M.source M.sink t side) (sym same) h)))
+    let cuts = cut_same N.vertices (capacity N) (capacity M) w.capacities in
+    let k = subst (λ n. IsLeastCut n N.source N.sink (capacity M) side) w.vertices
+    (subst (λ s. IsLeastCut M.vertices s N.sink (capacity M) side) w.source
+    (subst (λ s. IsLeastCut M.vertices M.source s (capacity M) side) w.sink h)) in
+    record {
+      cut = k.cut;
+      least = λ other o. let here = cuts side in let there = cuts other in let less = k.least other o in omega (arith, ints, here, there, less);
+    }
 
 capacity_same : {N M : Network} → HasSameCapacities N M → (side : ℕ → Bool) → cut_capacity M.vertices side (capacity M) ≡ cut_capacity N.vertices side (capacity N)
-capacity_same {N} {M} w side =
-    let same : capacity N ≡ capacity M = λ i a b. w.capacities.at a b i in
-    ap (λ n. cut_capacity n side (capacity M)) w.vertices ∙ ap (cut_capacity N.vertices side) (sym same)
+capacity_same {N} {M} w side = ap (λ n. cut_capacity n side (capacity M)) w.vertices ∙ sym (cut_same N.vertices (capacity N) (capacity M) w.capacities side)
 
 apart_total : (N M : Network) → HasSameCapacities N M → N.source ≢ N.sink → HasCutOfTotal N → HasCutOfTotal M → M.total ≡ N.total
 apart_total N M w apart h k =
