@@ -10,6 +10,8 @@ ghost use Rattle.pf_residual.specs.Internal.DenseLaws.{tables_law};
 ghost use Rattle.pf_residual.specs.Listings.{ListsNumbers, ListsVertices};
 
 use crate::edmonds_karp::EdmondsKarp;
+use crate::makers::sum_of_square;
+use crate::tables::{IntoMatrix, copy_of};
 use pf_base::{PathError, SignedCost};
 use pf_matrix::Matrix;
 use pf_residual::dense_table::{lower, number_at, raise};
@@ -98,20 +100,6 @@ fn zero_table<C: SignedCost, A: Allocator + Copy>(
         Ok(table) => Ok(table),
         Err(_) => Err(PathError::OutOfMemory),
     }
-}
-
-/// A table of the same numbers. They are copied, and no `clone` of theirs is called.
-fn copy_of<C: Copy, A: Allocator>(
-    alloc: A,
-    table: &Matrix<C, A>,
-) -> Result<Matrix<C, A>, AllocError>
-    ensures { IfOk result (λ copy. copy ≡ table.now) }
-{
-    let values = Vec::from_slice(alloc, table.as_slice())?;
-    let Ok(copy) = Matrix::from_vec(table.rows(), table.columns(), values) else {
-        unreachable!()
-    };
-    Ok(copy)
 }
 
 impl<C: SignedCost, A: Allocator + Copy> FlowStore<C> for DenseCapacity<C, A> {
@@ -215,6 +203,27 @@ impl<C: SignedCost, A: Allocator + Copy> EdmondsKarp<C> for DenseCapacity<C, A> 
             total: C::zero(),
             details: true,
             sum: None,
+        })
+    }
+
+    fn from_matrix<M: IntoMatrix<C, A>>(
+        alloc: A,
+        source: usize,
+        sink: usize,
+        capacities: M,
+    ) -> Result<Self, PathError> {
+        let residuals = capacities.into_matrix(alloc)?;
+        let sum = sum_of_square(&residuals)?;
+        let flows = zero_table(alloc, residuals.rows())?;
+        Ok(DenseCapacity {
+            alloc,
+            residuals,
+            flows,
+            source,
+            sink,
+            total: C::zero(),
+            details: true,
+            sum: Some(sum),
         })
     }
 }

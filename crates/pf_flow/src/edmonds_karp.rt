@@ -12,8 +12,9 @@ pub use crate::by_names::{edmonds_karp, edmonds_karp_dense, edmonds_karp_sparse}
 use crate::changes::change_capacity;
 pub use crate::dense_capacity::DenseCapacity;
 use crate::listings::list_flows;
-use crate::makers::{fill, side_of};
+use crate::makers::fill;
 pub use crate::sparse_capacity::SparseCapacity;
+pub use crate::tables::{IntoMatrix, IntoVec};
 use pf_base::utils::Tally;
 use pf_base::{PathError, SignedCost};
 use pf_matrix::Matrix;
@@ -53,53 +54,58 @@ pub trait EdmondsKarp<C: SignedCost>: FlowStore<C> {
         ensures refused { IfErr result (λ e. e ≡ OutOfMemory) };
 
     /// A store with the capacities of a square matrix, without flow: the value at row `a` and column
-    /// `b` is the capacity from `a` to `b`.
+    /// `b` is the capacity from `a` to `b`. A matrix that is taken with the allocator of the store is
+    /// not copied, and a dense store keeps its values in place; one that is lent is copied.
     ///
     /// # Errors
     ///
     /// `NegativeCapacity` exactly where a capacity is below zero, else `CostOverflow` exactly where
-    /// the sum of all capacities does not fit. `OutOfMemory` may come in the place of any answer.
-    fn from_matrix<A: Allocator>(
+    /// the sum of all capacities does not fit. `OutOfMemory` may come in the place of any answer. A
+    /// matrix that was taken is dropped then.
+    fn from_matrix<M: IntoMatrix<C, Self::Alloc>>(
         alloc: Self::Alloc,
         source: usize,
         sink: usize,
-        capacities: &Matrix<C, A>,
+        capacities: M,
     ) -> Result<Self, PathError>
-        requires square { capacities.now.rows ≡ capacities.now.columns }
-        requires source { source < capacities.now.rows }
-        requires sink { sink < capacities.now.rows }
-        ensures fresh { IfOk result (λ s. IsFresh capacities.now.rows source sink (Self.FlowStore.network s)) }
-        ensures capacities { IfOk result (λ s. HasCapacities (square_table C.value capacities.now.rows capacities.now.values) (Self.FlowStore.network s)) }
+        requires square { (M.table capacities).rows ≡ (M.table capacities).columns }
+        requires source { source < (M.table capacities).rows }
+        requires sink { sink < (M.table capacities).rows }
+        ensures fresh { IfOk result (λ s. IsFresh (M.table capacities).rows source sink (Self.FlowStore.network s)) }
+        ensures capacities { IfOk result (λ s. HasCapacities (square_table C.value (M.table capacities).rows (M.table capacities).values) (Self.FlowStore.network s)) }
         ensures network { IfOk result (λ s. IsNetwork C.fits (Self.FlowStore.network s)) }
-        ensures refused { IfErr result (AreRefused C.fits capacities.now.rows (square_table C.value capacities.now.rows capacities.now.values)) }
+        ensures refused { IfErr result (AreRefused C.fits (M.table capacities).rows (square_table C.value (M.table capacities).rows (M.table capacities).values)) }
     {
+        let capacities = capacities.into_matrix(alloc)?;
         let mut store = Self::new(alloc, capacities.rows(), source, sink)?;
         fill(&mut store, capacities.as_slice())?;
         Ok(store)
     }
 
-    /// As `from_matrix`, for the capacities of a square by rows.
+    /// As `from_matrix`, for the capacities of a square by rows: a vector that is taken, or a slice
+    /// that is lent.
     ///
     /// # Errors
     ///
     /// As those of `from_matrix`.
-    fn from_vec(
+    fn from_vec<V: IntoVec<C, Self::Alloc>>(
         alloc: Self::Alloc,
         source: usize,
         sink: usize,
-        capacities: &[C],
+        capacities: V,
     ) -> Result<Self, PathError>
-        requires square { (size : ℕ) × (size * size ≡ length capacities.now) }
-        requires source { (size : ℕ) → size * size ≡ length capacities.now → source < size }
-        requires sink { (size : ℕ) → size * size ≡ length capacities.now → sink < size }
-        ensures fresh { IfOk result (λ s. (size : ℕ) → size * size ≡ length capacities.now → IsFresh size source sink (Self.FlowStore.network s)) }
-        ensures capacities { IfOk result (λ s. (size : ℕ) → size * size ≡ length capacities.now → HasCapacities (square_table C.value size capacities.now) (Self.FlowStore.network s)) }
+        requires square { (size : ℕ) × (size * size ≡ length (V.values capacities)) }
+        requires source { (size : ℕ) → size * size ≡ length (V.values capacities) → source < size }
+        requires sink { (size : ℕ) → size * size ≡ length (V.values capacities) → sink < size }
+        ensures fresh { IfOk result (λ s. (size : ℕ) → size * size ≡ length (V.values capacities) → IsFresh size source sink (Self.FlowStore.network s)) }
+        ensures capacities { IfOk result (λ s. (size : ℕ) → size * size ≡ length (V.values capacities) → HasCapacities (square_table C.value size (V.values capacities)) (Self.FlowStore.network s)) }
         ensures network { IfOk result (λ s. IsNetwork C.fits (Self.FlowStore.network s)) }
-        ensures refused { IfErr result (λ e. (size : ℕ) → size * size ≡ length capacities.now → AreRefused C.fits size (square_table C.value size capacities.now) e) }
+        ensures refused { IfErr result (λ e. (size : ℕ) → size * size ≡ length (V.values capacities) → AreRefused C.fits size (square_table C.value size (V.values capacities)) e) }
     {
-        let mut store = Self::new(alloc, side_of(capacities.len()), source, sink)?;
-        fill(&mut store, capacities)?;
-        Ok(store)
+        let Ok(square) = Matrix::square_from_vec(capacities.into_vec(alloc)?) else {
+            unreachable!()
+        };
+        Self::from_matrix(alloc, source, sink, square)
     }
 
     /// The flows above zero, by rising pair of vertices.

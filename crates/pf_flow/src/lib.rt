@@ -13,4 +13,5 @@ mod listings;
 mod makers;
 mod phases;
 mod sparse_capacity;
+mod tables;
 mod taking_back;

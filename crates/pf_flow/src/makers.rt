@@ -2,14 +2,16 @@
 
 ghost use Rattle.std.specs.Prelude.{◌≡◌, ◌<◌, ◌*◌, ◌≤ℤ◌, ◌<ℤ◌, ◌+ℤ◌, ◌-ℤ◌, ℕ, pos, OnOk, IfOk, IfErr, MatchBool, length};
 ghost use Rattle.num_traits.specs.Laws.{Checks};
+ghost use Rattle.pf_residual.specs.Flows.{IsNonNegative, sum_to, pair_sum};
 ghost use Rattle.pf_residual.specs.Networks.{Network, KeepsShape, ChangesCapacity, HasCapacities, capacity_sum};
 ghost use Rattle.pf_residual.specs.Capacities.{number, square_table, AreRefused, IsChangeRefused};
 ghost use Rattle.pf_residual.specs.Internal.Filling.{IsUnused};
 
-use pf_base::utils::uint_sqrt;
 use pf_base::{PathError, SignedCost};
+use pf_matrix::Matrix;
 use pf_residual::numbers::is_below;
 use pf_residual::store::FlowStore;
+use std::alloc::Allocator;
 
 /// A sum with a new cost in the place of an old one, if it fits.
 pub fn exchanged<C: SignedCost>(sum: C, old: C, new: C) -> Option<C>
@@ -102,10 +104,36 @@ where
     Ok(())
 }
 
-/// The side of a square of so many places.
-pub fn side_of(places: usize) -> usize
-    requires { (size : ℕ) × (size * size ≡ places) }
-    ensures { result * result ≡ places }
+/// The sum of numbers that are not below zero, if it fits.
+fn sum_of<C: SignedCost>(numbers: &[C]) -> Option<C>
+    requires { (k : ℕ) → k < length numbers.now → pos 0 ≤ℤ number C.value numbers.now k }
+    ensures { Checks C.value C.fits (sum_to (number C.value numbers.now) (length numbers.now)) result }
 {
-    uint_sqrt(places).unwrap()
+    let mut sum = C::zero();
+    'numbers: for number in numbers {
+        let Some(more) = sum.checked_add(number) else {
+            return None;
+        };
+        sum = more;
+    }
+    sum.known();
+    Some(sum)
+}
+
+/// The sum of the capacities of a square.
+pub fn sum_of_square<C: SignedCost, A: Allocator>(capacities: &Matrix<C, A>) -> Result<C, PathError>
+    requires { capacities.now.rows ≡ capacities.now.columns }
+    ensures above { OnOk result (IsNonNegative capacities.now.rows (square_table C.value capacities.now.rows capacities.now.values)) }
+    ensures fits { OnOk result (C.fits (pair_sum capacities.now.rows (square_table C.value capacities.now.rows capacities.now.values))) }
+    ensures sum { IfOk result (λ sum. C.value sum ≡ pair_sum capacities.now.rows (square_table C.value capacities.now.rows capacities.now.values)) }
+    ensures refused { IfErr result (AreRefused C.fits capacities.now.rows (square_table C.value capacities.now.rows capacities.now.values)) }
+{
+    let numbers = capacities.as_slice();
+    if has_negative(numbers) {
+        return Err(PathError::NegativeCapacity);
+    }
+    match sum_of(numbers) {
+        Some(sum) => Ok(sum),
+        None => Err(PathError::CostOverflow),
+    }
 }

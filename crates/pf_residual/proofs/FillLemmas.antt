@@ -1,6 +1,6 @@
 -- Stores that are filled with capacities.
-use Rattle.std.proofs.Common.{◌≡◌, ◌∙◌, ◌⊎◌, inl, inr, refl, sym, ap, subst, ◌<◌, ◌≤◌, ◌+◌, ◌*◌, ◌/◌, ◌%◌, ◌+ℤ◌, ℕ, ℤ, pos, arith, Bool, true, false, true≢false, nat_eq, eq-eqb, eqb-true, List, length, get_or, ltb, rules}
-use Rattle.std.specs.Prelude.{◌-ℤ◌, ◌≤ℤ◌, ◌<ℤ◌, ◌&&◌, if◌then◌else◌, Result, Ok, Err, IfOk, IfErr, Option, Some, None, IfNone, IsSome, ◌≢◌, ◌*ℤ◌}
+use Rattle.std.proofs.Common.{◌≡◌, ◌∙◌, ◌⊎◌, inl, inr, refl, sym, ap, subst, ◌<◌, ◌≤◌, ◌+◌, ◌*◌, ◌/◌, ◌%◌, ◌+ℤ◌, ℕ, ℤ, pos, arith, Bool, true, false, true≢false, nat_eq, eq-eqb, eqb-true, List, length, get_or, ltb}
+use Rattle.std.specs.Prelude.{◌-ℤ◌, ◌≤ℤ◌, ◌<ℤ◌, ◌&&◌, if◌then◌else◌, Result, Ok, Err, IfOk, IfErr}
 use Rattle.std.proofs.lemmas.Bool.{cases_eq, ltb-true, ltb-false}
 use Rattle.std.proofs.lemmas.Nat.{div-add-mod', mul-add-lt}
 use Rattle.std.proofs.Math.Nat.{mod-lt, div-lt_iff_lt-mul, mul-le-mul_left}
@@ -246,8 +246,3 @@ ok_at_root P (Err x) n k e h = h
 pub err_at_root : {S E : Type 0} (P : ℕ → E → Type 0) (r : Result S E) (n k : ℕ) → n * n ≡ k → IfErr r (P n) → IfErr r (λ s. (size : ℕ) → size * size ≡ k → P size s)
 err_at_root P (Ok s) n k e h = h
 err_at_root P (Err x) n k e h = λ size f. subst (λ m. P m x) (one_root n size (e ∙ sym f)) h
-
--- a number that has a root is answered one
-pub some_root : (p : ℤ) (o : Option ℕ) → IfNone o ((root : ℤ) → root *ℤ root ≢ p) → (r : ℤ) → r *ℤ r ≡ p → IsSome o
-some_root p None h r e = absurd (h r e)
-some_root p (Some x) h r e = search rules

@@ -23,4 +23,5 @@ pub mod SettledLemmas
 pub mod ChangeLemmas
 pub mod PartSums
 pub mod FillLemmas
+pub mod SquareSums
 pub mod NamedLemmas

@@ -1,5 +1,5 @@
 -- Antisymmetric flows that stay so.
-use Rattle.std.proofs.Common.{◌≡◌, ◌+ℤ◌, ℕ, ℤ, pos, arith}
+use Rattle.std.proofs.Common.{◌≡◌, ℕ, ℤ, pos, arith}
 use Rattle.std.specs.Prelude.{neg_ℤ}
 use Rattle.std.proofs.lemmas.Int.{ints}
 use Rattle.pf_residual.specs.Flows.{PairTable, Same, added, IsAntisymmetric}

@@ -109,7 +109,7 @@ fn additions(alloc: Global) -> Result<(i64, u64), PathError> {
     let Ok(wide) = Matrix::from_vec(4, 4, Vec::from_slice(alloc, WIDE)?) else {
         return Err(PathError::OutOfMemory);
     };
-    let mut store: Counting<DenseCapacity<i64>> = Counting::from_matrix(alloc, 0, 3, &wide)?;
+    let mut store: Counting<DenseCapacity<i64>> = Counting::from_matrix(alloc, 0, 3, wide)?;
     let (_, total, _) = store.augment(alloc)?;
     Ok((total, store.calls))
 }

@@ -188,7 +188,7 @@ fn is_flow(answer: Result<EKFlows<u32, i64, Heap<'_>>, PathError>) -> Result<boo
 }
 
 /// Whether a store of the square is filled and copied.
-fn is_flowing<'h, S>(heap: Heap<'h>, square: &Matrix<i64, Heap<'h>>) -> Result<bool, PathError>
+fn is_flowing<'h, S>(heap: Heap<'h>, square: Matrix<i64, Heap<'h>>) -> Result<bool, PathError>
 where
     S: EdmondsKarp<i64, Alloc = Heap<'h>> + Clone,
 {
@@ -213,8 +213,9 @@ where
     let Ok(square) = Matrix::from_vec(4, 4, Vec::from_slice(heap, SQUARE)?) else {
         return Ok(false);
     };
-    let is_flowing = is_flowing::<S>(heap, &square)?;
-    Ok(is_flowing && S::from_vec(heap, 0, 3, SQUARE)?.total_capacity() == 0)
+    let is_flowing = is_flowing::<S>(heap, square)?;
+    let values = Vec::from_slice(heap, SQUARE)?;
+    Ok(is_flowing && S::from_vec(heap, 0, 3, values)?.total_capacity() == 0)
 }
 
 /// A test that each position passes.
