@@ -23,6 +23,8 @@ pub use pf_flow::edmonds_karp::EKFlows;
 pub use pf_flow::edmonds_karp::Edge;
 pub use pf_flow::edmonds_karp::EdmondsKarp;
 pub use pf_flow::edmonds_karp::FlowStore;
+pub use pf_flow::edmonds_karp::IntoMatrix;
+pub use pf_flow::edmonds_karp::IntoVec;
 pub use pf_flow::edmonds_karp::SparseCapacity;
 pub use pf_flow::edmonds_karp::edmonds_karp;
 pub use pf_flow::edmonds_karp::edmonds_karp_dense;

@@ -187,12 +187,15 @@ fn is_flow(answer: Result<EKFlows<u32, i64, Heap<'_>>, PathError>) -> Result<boo
     Ok(total == 5 && cut.as_slice() == [((10, 40), 3), ((10, 30), 2)].as_slice())
 }
 
-/// Whether a store of the square is filled and copied.
+/// Whether stores of the square are made, lent and taken, and the second is filled and copied.
 fn is_flowing<'h, S>(heap: Heap<'h>, square: Matrix<i64, Heap<'h>>) -> Result<bool, PathError>
 where
     S: EdmondsKarp<i64, Alloc = Heap<'h>> + Clone,
 {
     if square.rows() != 4 || square.columns() != 4 {
+        return Ok(false);
+    }
+    if S::from_matrix(heap, 0, 3, &square)?.total_capacity() != 0 {
         return Ok(false);
     }
     let mut store = S::from_matrix(heap, 0, 3, square)?;
@@ -214,8 +217,7 @@ where
         return Ok(false);
     };
     let is_flowing = is_flowing::<S>(heap, square)?;
-    let values = Vec::from_slice(heap, SQUARE)?;
-    Ok(is_flowing && S::from_vec(heap, 0, 3, values)?.total_capacity() == 0)
+    Ok(is_flowing && S::from_vec(heap, 0, 3, SQUARE)?.total_capacity() == 0)
 }
 
 /// A test that each position passes.
