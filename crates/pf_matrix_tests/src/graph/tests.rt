@@ -1,5 +1,6 @@
 mod around;
 mod assignments;
+mod components;
 mod cycles;
 mod refusals;
 mod spanning;

@@ -202,10 +202,29 @@ fn are_answered(grid: &mut Grid<Heap<'_>>) -> bool {
     are_edges && grid.has_edge((0, 1), (1, 0)) && grid.clear() && !grid.clear() && grid.is_empty()
 }
 
+/// Whether the grid of `VERTICES` answers its sizes, places and vertices, and leaves diagonal mode.
+fn is_read<'h>(grid: &mut Grid<Heap<'h>>, same: &Grid<Heap<'h>>) -> bool {
+    grid.disable_diagonal_mode();
+    is_grid(grid, (3, 3), &VERTICES)
+        && *grid == *same
+        && grid.size() == 9
+        && grid.is_inside((2, 2))
+        && !grid.is_inside((3, 0))
+        && grid.has_vertex((1, 1))
+        && !grid.has_vertex((0, 1))
+        && grid.distance((0, 0), (2, 1)) == 3
+        && grid.width() > 0
+        && grid.height() > 0
+        && grid.constrain((10, -53)) == (1, 1)
+}
+
 #[test]
 fn calls_without_memory(rt: HostRuntime) {
     let heap = Refusing::new(rt.alloc());
     let mut grid = Grid::from_vertices(&heap, VERTICES).expect(&rt, "memory");
+    let mut same = Grid::from_vertices(&heap, VERTICES).expect(&rt, "memory");
     heap.refuse(0, u64::MAX);
-    assert!(rt; are_answered(&mut grid) && heap.pending() == u64::MAX);
+    same.enable_diagonal_mode();
+    assert!(rt; is_read(&mut same, &grid) && are_answered(&mut grid));
+    assert!(rt; heap.pending() == u64::MAX);
 }

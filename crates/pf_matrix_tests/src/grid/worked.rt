@@ -163,6 +163,9 @@ fn points_of_any_whole_numbers(rt: HostRuntime) {
     let none: &[(u8, u8)] = &[];
     let made = Grid::from_coordinates(alloc, none).expect(&rt, "memory");
     assert!(rt; is_grid(Ok(made.expect(&rt, "no differences")), (0, 0), &[]));
+    let made = Grid::from_coordinates(alloc, &[(2u8, 2u8), (3, 4)]).expect(&rt, "memory");
+    let small = made.expect(&rt, "differences that fit");
+    assert!(rt; is_grid(Ok(small), (2, 3), &[(0, 0), (1, 2)]));
     let apart = Grid::from_coordinates(alloc, &[(0, 0), (1u128 << 64, 0)]);
     assert!(rt; matches!(apart, Ok(None)));
     let apart = Grid::from_coordinates(alloc, &[(0, 0), (usize::MAX, 0)]);

@@ -149,10 +149,22 @@ fn finds_the_best(rt: HostRuntime) {
     }
 }
 
+/// Whether a table of this one weight is searched, and its weight found.
+fn is_found_alone(heap: Heap<'_>, table: &Matrix<i8, Heap<'_>>, weight: i8) -> bool {
+    if table.rows() > table.columns() || !weights_fit(table) {
+        return false;
+    }
+    let answer = kuhn_munkres(heap, table);
+    matches!(
+        &answer,
+        Ok((total, columns)) if *total == weight && columns.as_slice() == [0].as_slice()
+    )
+}
+
 #[test]
 fn the_test_takes_no_memory(rt: HostRuntime) {
     let heap = Refusing::new(rt.alloc());
-    for (weight, fits) in [(21i8, true), (22, false), (-128, false)] {
+    for (weight, fits) in [(21i8, true), (22, false), (-128, false), (-21, true)] {
         let table = Matrix::new(&heap, 1, 1, weight).expect(&rt, "memory");
         heap.refuse(0, u64::MAX);
         assert!(rt;
@@ -160,6 +172,7 @@ fn the_test_takes_no_memory(rt: HostRuntime) {
             "{weight}"
         );
         heap.refuse(0, 0);
+        assert!(rt; is_found_alone(&heap, &table, weight) == fits, "{weight}");
     }
 }
 
@@ -201,23 +214,51 @@ impl Weights<i64> for Products<'_> {
     }
 }
 
+/// Sizes of such a table, with the greatest total, where each row has its own column, and the least
+/// one, where it has the column of its number from the last one back.
+const PRODUCTS: &[(usize, i64, i64)] = &[(3, 5, 1), (24, 4324, 2024)];
+
+/// Whether an assignment has this total, and each row has its column.
+fn is_diagonal(
+    answer: Result<(i64, Vec<usize>), PathError>,
+    wanted: i64,
+    size: usize,
+    is_back: bool,
+) -> bool {
+    let Ok((total, columns)) = &answer else {
+        return false;
+    };
+    for (row, column) in columns.iter().enumerate() {
+        let place = if is_back {
+            size.saturating_sub(row).saturating_sub(1)
+        } else {
+            row
+        };
+        if *column != place {
+            return false;
+        }
+    }
+    *total == wanted && columns.len() == size
+}
+
 #[test]
 fn reads_few_weights(rt: HostRuntime) {
     let alloc = rt.alloc();
-    let reads = Cell::new(0u64);
-    let large = Products {
-        size: 24,
-        negated: false,
-        reads: &reads,
-    };
-    assert!(rt; weights_fit(&large));
-    let mut tally = Tally::new();
-    let (total, columns) = kuhn_munkres_tallied(alloc, &large, &mut tally).expect(&rt, "memory");
-    assert!(rt; total == 4324 && columns.len() == 24);
-    for (row, column) in columns.iter().enumerate() {
-        assert!(rt; row == *column);
+    for (size, greatest, least) in PRODUCTS {
+        let size = *size;
+        assert!(rt; size <= 1000);
+        let reads = Cell::new(0u64);
+        let products = Products {
+            size,
+            negated: false,
+            reads: &reads,
+        };
+        assert!(rt; weights_fit(&products));
+        let mut tally = Tally::new();
+        let found = kuhn_munkres_tallied(alloc, &products, &mut tally);
+        assert!(rt; is_diagonal(found, *greatest, size, false));
+        let found = kuhn_munkres_min(alloc, &products);
+        assert!(rt; is_diagonal(found, *least, size, true));
+        assert!(rt; reads.get() <= 20_000, "{}", reads.get());
     }
-    let (total, columns) = kuhn_munkres_min(alloc, &large).expect(&rt, "memory");
-    assert!(rt; total == 2024 && columns.len() == 24);
-    assert!(rt; reads.get() <= 20_000, "{}", reads.get());
 }

@@ -23,8 +23,8 @@ enum Call {
     Weight,
     /// `prim` of them.
     Tree,
-    /// `separate_components` of five groups.
-    Separate,
+    /// `separate_components` of so many of five groups.
+    Separate(usize),
     /// `components` of these groups, and `component_index` of the parts.
     Parts,
     /// `connected_components` around two starts.
@@ -39,7 +39,8 @@ const CALLS: &[(Call, u64)] = &[
     (Call::Names, 5),
     (Call::Weight, 5),
     (Call::Tree, 9),
-    (Call::Separate, 5),
+    (Call::Separate(4), 5),
+    (Call::Separate(5), 5),
     (Call::Parts, 7),
     (Call::Around, 7),
     (Call::Assign((SQUARE, Best::Greatest, 325, None)), 11),
@@ -63,14 +64,21 @@ fn are_chosen(heap: Heap<'_>, weights: [u32; 3]) -> Result<bool, PathError> {
     Ok(chosen.next().is_none())
 }
 
-/// Whether the joined groups get one number, the empty one `usize::MAX` and the last another number.
+/// Whether the joined groups get one number, which is below their count, the empty one `usize::MAX`
+/// and the fifth another number.
 fn are_separated(heap: Heap<'_>, groups: &[Vec<u32>]) -> Result<bool, PathError> {
     let (of_vertex, ids) = ConnectedComponents::<u32>::separate_components(heap, groups)?;
-    if of_vertex.len() != 5 || ids.len() != 5 {
+    if ids.len() < 4 || ids.len() != groups.len() || of_vertex.len() != groups.len() {
         return Ok(false);
     }
     let joined = ids[0];
-    Ok(ids[1] == joined && ids[2] == usize::MAX && ids[3] == joined && ids[4] != joined)
+    Ok(
+        joined < ids.len()
+            && ids[1] == joined
+            && ids[2] == usize::MAX
+            && ids[3] == joined
+            && ids.get(4) != Some(&joined),
+    )
 }
 
 /// Whether the groups have two parts, of which the vertices 1 to 4 are one.
@@ -95,7 +103,10 @@ fn is_right(heap: Heap<'_>, call: &Call, groups: &[Vec<u32>]) -> Result<bool, Pa
         Call::Names => are_chosen(heap, [1, 3, 9]),
         Call::Weight => Ok(spanning_weight(heap, EDGES)? == 13),
         Call::Tree => Ok(prim(heap, EDGES)?.as_slice() == [(&0, &2, 3), (&2, &1, 1)].as_slice()),
-        Call::Separate => are_separated(heap, groups),
+        Call::Separate(count) => match groups.get(..*count) {
+            Some(first) => are_separated(heap, first),
+            None => Ok(false),
+        },
         Call::Parts => are_parted(heap, groups),
         Call::Around => are_around_two(heap),
         Call::Assign(wanted) => is_assigned(heap, wanted),

@@ -33,6 +33,9 @@ pub(super) enum Call<'a> {
     Words(WordCall),
 }
 
+/// Where a range starts and where it ends.
+type Bounds = (usize, usize);
+
 /// A call that makes a matrix.
 pub(super) enum Maker<'a> {
     /// `matrix!` of no rows.
@@ -59,8 +62,8 @@ pub(super) enum Maker<'a> {
     LongRows,
     /// `from_rows` of vectors of these values.
     Vectors(&'a [&'a [u8]]),
-    /// `slice`, of no rows and the first two columns of a matrix of 4 rows and 4 columns.
-    SliceOfNoRows,
+    /// `slice`, of these rows and columns of a matrix of 4 rows and 4 columns.
+    Slice(Bounds, Bounds),
 }
 
 /// A call that copies a matrix.
@@ -80,6 +83,8 @@ pub(super) enum Change<'a> {
     Fill(u8),
     Extend(&'a [u8]),
     Transpose,
+    /// `set_slice` at this position, by 2 rows of 2 nines.
+    SetSlice((usize, usize)),
 }
 
 /// Vectors of these values.
@@ -109,7 +114,9 @@ fn made<'h>(heap: Heap<'h>, maker: &Maker<'_>) -> Result<Numbers<'h>, MatrixForm
         Maker::EmptyFirstList => matrix![in heap; [], [1]],
         Maker::LongRows => Matrix::from_rows(heap, [[7; 40]; 2]),
         Maker::Vectors(rows) => Matrix::from_rows(heap, vectors_of(heap, rows)?),
-        Maker::SliceOfNoRows => Matrix::new_square(heap, 4, 7)?.slice(0..0, 0..2),
+        Maker::Slice(rows, columns) => {
+            Matrix::new_square(heap, 4, 7)?.slice(rows.0..rows.1, columns.0..columns.1)
+        }
     }
 }
 
@@ -129,13 +136,21 @@ fn copy_of<'h>(matrix: &Numbers<'h>, copied: &Copied) -> Result<Numbers<'h>, Mat
 }
 
 /// Makes a change.
-fn make_change(matrix: &mut Numbers<'_>, change: &Change<'_>) -> Result<(), MatrixFormatError>
+fn make_change<'h>(
+    heap: Heap<'h>,
+    matrix: &mut Numbers<'h>,
+    change: &Change<'_>,
+) -> Result<(), MatrixFormatError>
     requires { CanTurn matrix.old }
 {
     match change {
         Change::Fill(value) => matrix.fill(*value),
         Change::Extend(row) => matrix.extend(row),
         Change::Transpose => matrix.transpose(),
+        Change::SetSlice(position) => {
+            matrix.set_slice(*position, &Matrix::new_square(heap, 2, 9)?);
+            Ok(())
+        }
     }
 }
 
@@ -173,7 +188,7 @@ fn is_changed(
     shape: Shape<'_>,
 ) -> Result<bool, MatrixFormatError> {
     let mut six = matrix_of(heap, SIX)?;
-    match make_change(&mut six, change) {
+    match make_change(heap, &mut six, change) {
         Ok(()) => Ok(shows(&six, shape)),
         Err(error) if shows(&six, SIX) => Err(error),
         Err(_) => Ok(false),
@@ -328,7 +343,19 @@ const CALLS: &[(Call<'static>, u64)] = &[
         Call::MakeNone(Maker::EmptyFirstList, MatrixFormatError::EmptyRow),
         0,
     ),
-    (Call::Make(Maker::SliceOfNoRows, (0, 2, &[])), 1),
+    (Call::Make(Maker::Slice((0, 0), (0, 2)), (0, 2, &[])), 1),
+    (
+        Call::MakeNone(Maker::Slice((1, 3), (2, 2)), MatrixFormatError::EmptyRow),
+        1,
+    ),
+    (
+        Call::MakeNone(Maker::Slice((3, 1), (0, 2)), MatrixFormatError::WrongIndex),
+        1,
+    ),
+    (
+        Call::MakeNone(Maker::Slice((0, 2), (3, 5)), MatrixFormatError::WrongIndex),
+        1,
+    ),
     (Call::Functions, 2),
     (Call::Copy(Copied::Clone, SIX), 2),
     (Call::Copy(Copied::Slice, (2, 1, &[2, 5])), 2),
@@ -368,6 +395,11 @@ const CALLS: &[(Call<'static>, u64)] = &[
         Call::Change(Change::Transpose, (3, 2, &[1, 4, 2, 5, 3, 6])),
         2,
     ),
+    (
+        Call::Change(Change::SetSlice((1, 2)), (2, 3, &[1, 2, 3, 4, 5, 9])),
+        2,
+    ),
+    (Call::Change(Change::SetSlice((2, 0)), SIX), 2),
     (Call::Columns, 4),
     (Call::EmptyColumns, 0),
     (Call::Flood, 2),

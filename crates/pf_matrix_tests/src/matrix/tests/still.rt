@@ -6,6 +6,9 @@ use pf_matrix::{Matrix, MatrixFormatError};
 use refusing_allocator::Refusing;
 use std::hash::{DefaultHasher, Hash, Hasher};
 
+/// Three rows of five columns, of rising values.
+const FIFTEEN: Shape<'static> = (3, 5, &[1, 2, 3, 4, 5, 6, 7, 8, 9, 10, 11, 12, 13, 14, 15]);
+
 /// Whether `SIX` answers its sizes, places and values.
 fn is_read(six: &Numbers<'_>) -> bool {
     !six.is_empty()
@@ -20,13 +23,15 @@ fn is_read(six: &Numbers<'_>) -> bool {
         && six.get((0, 3)).is_none()
 }
 
-/// Whether steps in `SIX` lead where they should.
-fn is_walked(six: &Numbers<'_>) -> bool {
+/// Whether steps in `SIX` and in `FOUR` lead where they should.
+fn is_walked(six: &Numbers<'_>, four: &Numbers<'_>) -> bool {
     six.move_in_direction((0, 0), SE) == Some((1, 1))
         && six.move_in_direction((1, 1), SE).is_none()
         && six.in_direction((0, 0), E).eq([(0, 1), (0, 2)])
         && six.neighbours((0, 0), true).eq([(0, 1), (1, 0), (1, 1)])
         && six.neighbours((9, 9), true).next().is_none()
+        && four.neighbours((0, 0), false).eq([(0, 1), (1, 0)])
+        && four.neighbours((0, 0), true).eq([(0, 1), (1, 0), (1, 1)])
 }
 
 /// Whether `SIX` is iterated as it should.
@@ -40,6 +45,19 @@ fn is_iterated(six: &Numbers<'_>) -> bool {
         && six.keys().next() == Some((0, 0))
         && six.items().next() == Some(((0, 0), &1))
         && six.values().next() == Some(&1)
+}
+
+/// Whether the rows of `FIFTEEN` are given from both ends, and positions lead back inside.
+fn is_bounded(fifteen: &Numbers<'_>) -> bool {
+    let mut rows = fifteen.iter();
+    rows.next() == Some(&[1, 2, 3, 4, 5])
+        && rows.next_back() == Some(&[11, 12, 13, 14, 15])
+        && rows.next_back() == Some(&[6, 7, 8, 9, 10])
+        && rows.next().is_none()
+        && fifteen.rows() > 0
+        && fifteen.columns() > 0
+        && fifteen.constrain((1, 2)) == (1, 2)
+        && fifteen.constrain((10, -53)) == (1, 2)
 }
 
 /// Whether values that are written by indexing stand in `FOUR`.
@@ -112,6 +130,7 @@ enum Call {
     Read,
     Walk,
     Iterate,
+    Bound,
     Index,
     Lend,
     Itemize,
@@ -124,8 +143,9 @@ enum Call {
 fn is_answered<'h>(matrix: &mut Numbers<'h>, four: &Numbers<'h>, call: &Call) -> bool {
     match call {
         Call::Read => is_read(matrix),
-        Call::Walk => is_walked(matrix),
+        Call::Walk => is_walked(matrix, four),
         Call::Iterate => is_iterated(matrix),
+        Call::Bound => is_bounded(matrix),
         Call::Index => is_indexed(matrix),
         Call::Lend => is_lent(matrix),
         Call::Itemize => is_itemized(matrix),
@@ -140,6 +160,7 @@ const CALLS: &[(Call, Shape<'static>)] = &[
     (Call::Read, SIX),
     (Call::Walk, SIX),
     (Call::Iterate, SIX),
+    (Call::Bound, FIFTEEN),
     (Call::Index, FOUR),
     (Call::Lend, FOUR),
     (Call::Itemize, FOUR),

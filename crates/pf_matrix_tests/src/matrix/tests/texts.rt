@@ -1,8 +1,8 @@
 //! Texts, directions and laws.
 
 use pf_matrix::directions::{DIRECTIONS_4, DIRECTIONS_8, E, N, NE, NW, S, SE, SW, W};
-use pf_matrix::{MatrixFormatError, laws, matrix};
-use std::alloc::AllocError;
+use pf_matrix::{Matrix, MatrixFormatError, laws, matrix};
+use std::alloc::{AllocError, Global};
 use std::marker::PhantomData;
 
 /// The refusals and their texts.
@@ -19,6 +19,22 @@ const TEXTS: &[(MatrixFormatError, &str)] = &[
     (MatrixFormatError::OutOfMemory, "out of memory"),
 ];
 
+/// Whether the rows of a matrix of characters are the lines "abc" and "def".
+fn has_lines(made: Result<Matrix<char>, MatrixFormatError>) -> bool {
+    let Ok(letters) = &made else {
+        return false;
+    };
+    letters.rows() == 2
+        && letters.columns() == 3
+        && letters.as_slice() == ['a', 'b', 'c', 'd', 'e', 'f'].as_slice()
+        && letters.get((1, 1)) == Some(&'e')
+}
+
+/// The matrix of the characters of a text, with a row for each line.
+fn characters_of(alloc: Global, text: &str) -> Result<Matrix<char>, MatrixFormatError> {
+    Matrix::from_rows(alloc, text.lines().map(|line: &str| line.chars()))
+}
+
 #[test]
 fn texts_of_refusals_and_of_a_matrix(rt: HostRuntime) {
     for (error, text) in TEXTS {
@@ -29,6 +45,7 @@ fn texts_of_refusals_and_of_a_matrix(rt: HostRuntime) {
     let four = matrix![in rt.alloc(); 1u8, 2; 3, 4].expect(&rt, "memory");
     let shown = format!(in rt.alloc(); "{four:?}").expect(&rt, "memory");
     assert!(rt; shown.as_str() == "Matrix { rows: 2, columns: 2, data: [1, 2, 3, 4] }");
+    assert!(rt; has_lines(characters_of(rt.alloc(), "abc\ndef")));
 }
 
 /// A number of rows and one of columns, which may be below zero.

@@ -1,16 +1,20 @@
-use Rattle.std.proofs.Common.{rules, ◌≤◌, ◌+◌, ◌==◌, ℕ, arith, if◌then◌else◌}
-use Rattle.pf_graph.proofs.StepCallers.{nat_step}
+use Rattle.std.proofs.Common.{rules, ◌≡◌, sym, subst, true, ℤ, pos, negsuc, arith, if◌then◌else◌}
+use Rattle.std.specs.Prelude.{◌≤ℤ◌, ◌+ℤ◌}
+use Rattle.std.specs.Ordering.{int_eq}
+use Rattle.std.proofs.lemmas.Int.{ints}
+use Rattle.std.proofs.lemmas.Cmp.{int_eq_equiv}
+use Rattle.pf_graph.proofs.StepCallers.{int_step}
 use Rattle.pf_matrix_tests.proofs.graph.tests.cycles.behind_many_steps.Goals as goal
 
--- the next number, and 100 after 110
-abbrev turned : ℕ → ℕ
-turned x = if x == 110 then 100 else x + 1
+-- the next number, and 0 after 10
+abbrev turned : ℤ → ℤ
+turned x = if int_eq x (pos 10) then pos 0 else x +ℤ pos 1
 
-below : (x : ℕ) → x ≤ 110 → turned x ≤ 110
-below x j = grind arith
+abbrev IsBefore : ℤ → Type 0
+IsBefore x = (negsuc 99 ≤ℤ x) × (x ≤ℤ pos 10)
 
-pub floyd-requires-clause-steps : goal.floyd-requires-clause-steps
-floyd-requires-clause-steps c = (turned, nat_step turned 0 (λ x. x ≤ 110) (omega arith) below (λ x j. search rules) (λ x r j p. search rules))
+keeps : (x : ℤ) → IsBefore x → IsBefore (turned x)
+keeps x j = grind (arith, ints)
 
-pub brent-requires-clause-steps : goal.brent-requires-clause-steps
-brent-requires-clause-steps c = (turned, nat_step turned 0 (λ x. x ≤ 110) (omega arith) below (λ x j. search rules) (λ x r j p. search rules))
+pub answers-requires : goal.answers-requires
+answers-requires c = (omega arith, ((λ x y e. subst (λ z. int_eq x z ≡ true) (sym e) (int_eq_equiv.refl x)), (turned, int_step turned (negsuc 99) IsBefore (omega (arith, ints), omega (arith, ints)) keeps (λ x j. search rules) (λ x r j p. search rules))))

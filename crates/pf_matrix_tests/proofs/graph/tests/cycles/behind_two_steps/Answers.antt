@@ -1,6 +1,8 @@
-use Rattle.std.proofs.Common.{rules, ◌≡◌, ◌<◌, ℕ, ℤ, pos, negsuc, arith}
+use Rattle.std.proofs.Common.{rules, ◌≡◌, sym, subst, true, ◌<◌, ℤ, pos, negsuc, arith}
 use Rattle.std.specs.Prelude.{◌≤ℤ◌, ◌+ℤ◌, unsigned_abs, int_rem}
+use Rattle.std.specs.Ordering.{int_eq}
 use Rattle.std.proofs.lemmas.Int.{ints, rem_below}
+use Rattle.std.proofs.lemmas.Cmp.{int_eq_equiv}
 use Rattle.pf_graph.proofs.StepCallers.{int_step}
 use Rattle.pf_matrix_tests.proofs.graph.tests.cycles.behind_two_steps.Goals as goal
 
@@ -17,8 +19,5 @@ near (negsuc n) l = (omega (arith, ints), omega (arith, ints))
 keeps : (x : ℤ) → IsNear x → IsNear (moved x)
 keeps x j = near (int_rem (x +ℤ pos 5) (pos 6)) (rem_below (x +ℤ pos 5) (pos 6) (omega arith))
 
-pub floyd-requires-clause-steps : goal.floyd-requires-clause-steps
-floyd-requires-clause-steps c = (moved, int_step moved (negsuc 9) IsNear (omega (arith, ints), omega (arith, ints)) keeps (λ x j. search rules) (λ x r j p. search rules))
-
-pub brent-requires-clause-steps : goal.brent-requires-clause-steps
-brent-requires-clause-steps c = (moved, int_step moved (negsuc 9) IsNear (omega (arith, ints), omega (arith, ints)) keeps (λ x j. search rules) (λ x r j p. search rules))
+pub answers-requires : goal.answers-requires
+answers-requires c = (omega arith, ((λ x y e. subst (λ z. int_eq x z ≡ true) (sym e) (int_eq_equiv.refl x)), (moved, int_step moved (negsuc 9) IsNear (omega (arith, ints), omega (arith, ints)) keeps (λ x j. search rules) (λ x r j p. search rules))))

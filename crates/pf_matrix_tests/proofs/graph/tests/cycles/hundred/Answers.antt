@@ -1,4 +1,5 @@
-use Rattle.std.proofs.Common.{rules, ◌<◌, ◌+◌, ◌%◌, ℕ, arith}
+use Rattle.std.proofs.Common.{rules, ◌≡◌, sym, subst, true, nat_eq, ◌<◌, ◌+◌, ◌%◌, ℕ, arith}
+use Rattle.pf_base.proofs.Callers.{nat_refl}
 use Rattle.pf_graph.proofs.StepCallers.{nat_step}
 use Rattle.pf_matrix_tests.proofs.graph.tests.cycles.hundred.Goals as goal
 
@@ -9,8 +10,5 @@ risen x = (x + 1) % 100
 below : (x : ℕ) → x < 100 → risen x < 100
 below x j = omega arith
 
-pub floyd-requires-clause-steps : goal.floyd-requires-clause-steps
-floyd-requires-clause-steps c = (risen, nat_step risen 0 (λ x. x < 100) (omega arith) below (λ x j. search rules) (λ x r j p. search rules))
-
-pub brent-requires-clause-steps : goal.brent-requires-clause-steps
-brent-requires-clause-steps c = (risen, nat_step risen 0 (λ x. x < 100) (omega arith) below (λ x j. search rules) (λ x r j p. search rules))
+pub answers-requires : goal.answers-requires
+answers-requires c = (omega arith, ((λ x y e. subst (λ z. nat_eq x z ≡ true) (sym e) (nat_refl x)), (risen, nat_step risen 0 (λ x. x < 100) (omega arith) below (λ x j. search rules) (λ x r j p. search rules))))
