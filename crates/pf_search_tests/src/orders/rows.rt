@@ -311,12 +311,34 @@ fn each_growth_is_refused(rt: HostRuntime) {
     assert!(rt; growths > 100, "the rows make {growths} growths");
 }
 
+/// The edges of a chain from 1 to 999, and its nodes in their order and in a mixed one.
+type Chain = (Vec<(usize, usize)>, Vec<usize>, Vec<usize>);
+
+/// That chain, where memory is left.
+fn chain(alloc: Global) -> Option<Chain> {
+    let mut edges = Vec::new(alloc);
+    let mut nodes = Vec::new(alloc);
+    let mut mixed = Vec::new(alloc);
+    for node in 1..999usize {
+        edges.push((node, node + 1)).ok()?;
+    }
+    for step in 0..999usize {
+        nodes.push(step + 1).ok()?;
+        mixed.push(step * 7 % 999 + 1).ok()?;
+    }
+    Some((edges, nodes, mixed))
+}
+
 #[test]
 fn an_order_asks_at_most_once_for_each_node(rt: HostRuntime) {
     let asked = Cell::new(0u64);
     let heap = Refusing::new(rt.alloc());
     let row: Row<'_> = (STEPS, Call::Order(&[5, 1]), &[FROM_ONE], &[]);
     assert!(rt; is_answered(&heap, &row, &asked) == Ok(true) && asked.get() <= 9);
+    asked.set(0);
+    let (edges, nodes, mixed) = chain(rt.alloc()).expect(&rt, "memory");
+    let row: Row<'_> = (&edges, Call::Order(&mixed), &[&nodes], &[]);
+    assert!(rt; is_answered(&heap, &row, &asked) == Ok(true) && asked.get() <= 999);
 }
 
 #[test]

@@ -83,7 +83,7 @@ const PARALLEL: &[Edge] = &[(0, 2, 9), (0, 2, 2), (2, 1, 1), (2, 1, 4)];
 const DEAR: &[Edge] = &[(0, 1, u32::MAX), (1, 2, 1)];
 
 /// The worked rows.
-static ROWS: [Row<'static>; 24] = [
+static ROWS: [Row<'static>; 25] = [
     (DOUBLES, Call::Map(1, None, DOUBLED, None)),
     (RING, Call::Map(0, None, &[(1, 0, 0), (2, 1, 0)], None)),
     (DETOUR, Call::Map(0, None, DETOURS, None)),
@@ -100,6 +100,7 @@ static ROWS: [Row<'static>; 24] = [
     (DEAR, Call::Map(0, Some(1), &[(1, 0, u32::MAX)], Some(1))),
     (&[], Call::Halves(18, &[1, 2, 4, 9, 18])),
     (&[], Call::Halves(101, &[101])),
+    (&[], Call::Halves(1, &[1])),
     (&[], Call::Halves(100, &[1, 3, 6, 12, 25, 50, 100])),
     (TWO_WAYS, Call::Path(0, 1, &[0, 2, 3, 1], 9)),
     // An end that is the start is a path alone.
