@@ -5,3 +5,5 @@
 mod pipes;
 #[cfg(test)]
 mod tests;
+#[cfg(test)]
+mod totals;
