@@ -81,7 +81,8 @@ pub(crate) fn of_paths(gathered: Gathered<'_>, wanted: Lists<'_>) -> Answer {
 }
 
 /// Adds the paths that an iterator gives that is resumed after each refusal, and answers whether it
-/// came to its end, for good, and gave nothing between a refusal and `resume`.
+/// came to its end, for good, was refused for memory alone, and gave nothing between a refusal and
+/// `resume`.
 fn add_resumed<'a>(
     solution: &mut AstarSolution<usize, Heap<'a>>,
     paths: &mut Vec<Vec<usize, Heap<'a>>>,
@@ -93,8 +94,8 @@ fn add_resumed<'a>(
                     return false;
                 }
             }
-            Some(Err(_)) => {
-                if solution.next().is_some() {
+            Some(Err(refusal)) => {
+                if refusal != PathError::OutOfMemory || solution.next().is_some() {
                     return false;
                 }
                 solution.resume();
