@@ -230,8 +230,8 @@ where
 /// several edges lead to one node, a step costs what the cheapest of them costs. It must answer alike
 /// for equal nodes at every call, and no cost in reach of `start` may be negative; `success` must
 /// answer alike too. Both are asked of nodes in reach alone, in the first calls of `next`, until one of
-/// them is not refused: it goes through all nodes that a clean path may meet, so that the reach must be
-/// finite.
+/// them is not refused: it goes through every node to which a walk leads whose nodes before it do not
+/// pass, whether or not a clean path goes over it, so that the reach must be finite.
 ///
 /// # Errors
 ///
