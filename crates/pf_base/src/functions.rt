@@ -1,18 +1,34 @@
-//! What contracts say of functions that are handed in.
+//! The functions that are handed in: what is asked of them, and what their answers say of a graph.
 
-ghost use Rattle.std.specs.Prelude.{List, ℤ, Bool};
-ghost use Rattle.pf_base.specs.Answers.{AnswersGraph, AnswersSuccessors, AnswersTest};
+ghost use Rattle.std.specs.Prelude.{◌≡◌, List, ℤ, Bool, true};
+ghost use Rattle.pf_base.specs.Answers.{AnswersGraph, AnswersSuccessors, AnswersTest, ListsEdges, SameNodes, Gives};
+ghost use Rattle.pf_base.specs.Edges.{InReach};
+ghost use Rattle.pf_base.specs.Successors.{HasSuccessor};
+ghost use Rattle.pf_base.specs.Walks.{IsReachable};
 
 use crate::cost::Cost;
 
-/// A function from a node to its edges, each a node and a cost. Every function of that type is one.
-pub trait EdgeFunction<N, C> {
-    // At each node of the given sort, now and after any calls, the function may be called and lists
-    // the edges of this graph, in order, up to node equality. Equal nodes have the same edges.
+/// A graph that is asked for the edges of a node, each a node and a cost. Every function from a node to
+/// its edges is one.
+pub trait EdgeFunction<N: Eq, C: Cost>: Drop {
+    /// What the edges of a node are answered as.
+    type Edges: IntoIterator<Item = (N, C)>;
+
+    // At each node of the given sort, now and after any calls, this may be asked and lists the edges of
+    // this graph, in order, up to node equality. Equal nodes have the same edges.
     ghost answers: { Self → (N → Type 0) → (N → List (N × ℤ)) → Type 0 };
 
-    /// Does nothing: a trait with a ghost member has a function.
-    fn as_edge_function(&self);
+    /// The edges of a node.
+    fn edges(&mut self, node: &N) -> Self::Edges
+        requires within { (starts : List N) × (edges : N → List (N × ℤ)) × InReach N.eq edges starts node.now × answers self.old (InReach N.eq edges starts) edges }
+        ensures goes_on { (starts : List N) (edges : N → List (N × ℤ)) → InReach N.eq edges starts node.now
+            → answers self.old (InReach N.eq edges starts) edges → answers self.new (InReach N.eq edges starts) edges }
+        ensures listed { (starts : List N) (edges : N → List (N × ℤ)) → InReach N.eq edges starts node.now → answers self.old (InReach N.eq edges starts) edges
+            → Gives Self.Edges.into_iter_gives Self.Edges.IntoIter.can_next Self.Edges.IntoIter.remaining Self.Edges.IntoIter.next_gives (λ xs. ListsEdges N.eq C.value xs (edges node.now)) result };
+
+    // Equal nodes have the same edges.
+    ghost alike_law: { (f : Self) (starts : List N) (edges : N → List (N × ℤ)) → answers f (InReach N.eq edges starts) edges
+        → (x y : N) → InReach N.eq edges starts x → N.eq x y ≡ true → ListsEdges N.eq (λ z. z) (edges x) (edges y) };
 }
 
 impl<N, C, IN, FN> EdgeFunction<N, C> for FN
@@ -22,19 +38,38 @@ where
     IN: IntoIterator<Item = (N, C)>,
     FN: FnMut(&N) -> IN,
 {
+    type Edges = IN;
+
     ghost answers = { AnswersGraph FN.FnMut IN.into_iter_gives IN.IntoIter.can_next IN.IntoIter.remaining IN.IntoIter.next_gives N.eq C.value };
 
-    fn as_edge_function(&self) {}
+    fn edges(&mut self, node: &N) -> IN {
+        self(node)
+    }
+
+    ghost alike_law = { λ f starts edges a. a.alike };
 }
 
-/// A function from a node to its successors. Every function of that type is one.
-pub trait SuccessorFunction<N> {
-    // At each node of the given sort, now and after any calls, the function may be called and lists
-    // the successors of this graph, in order, up to node equality. Equal nodes have the same ones.
+/// A graph that is asked for the nodes that follow a node. Every function from a node to its successors
+/// is one.
+pub trait SuccessorFunction<N: Eq>: Drop {
+    /// What the successors of a node are answered as.
+    type Successors: IntoIterator<Item = N>;
+
+    // At each node of the given sort, now and after any calls, this may be asked and lists the
+    // successors of this graph, in order, up to node equality. Equal nodes have the same ones.
     ghost answers: { Self → (N → Type 0) → (N → List N) → Type 0 };
 
-    /// Does nothing: a trait with a ghost member has a function.
-    fn as_successor_function(&self);
+    /// The nodes that follow a node.
+    fn successors(&mut self, node: &N) -> Self::Successors
+        requires within { (starts : List N) × (next : N → List N) × IsReachable N.eq (HasSuccessor N.eq next) starts node.now × answers self.old (IsReachable N.eq (HasSuccessor N.eq next) starts) next }
+        ensures goes_on { (starts : List N) (next : N → List N) → IsReachable N.eq (HasSuccessor N.eq next) starts node.now
+            → answers self.old (IsReachable N.eq (HasSuccessor N.eq next) starts) next → answers self.new (IsReachable N.eq (HasSuccessor N.eq next) starts) next }
+        ensures listed { (starts : List N) (next : N → List N) → IsReachable N.eq (HasSuccessor N.eq next) starts node.now → answers self.old (IsReachable N.eq (HasSuccessor N.eq next) starts) next
+            → Gives Self.Successors.into_iter_gives Self.Successors.IntoIter.can_next Self.Successors.IntoIter.remaining Self.Successors.IntoIter.next_gives (λ xs. SameNodes N.eq xs (next node.now)) result };
+
+    // Equal nodes have the same successors.
+    ghost alike_law: { (f : Self) (starts : List N) (next : N → List N) → answers f (IsReachable N.eq (HasSuccessor N.eq next) starts) next
+        → (x y : N) → IsReachable N.eq (HasSuccessor N.eq next) starts x → N.eq x y ≡ true → SameNodes N.eq (next x) (next y) };
 }
 
 impl<N, IN, FN> SuccessorFunction<N> for FN
@@ -43,19 +78,34 @@ where
     IN: IntoIterator<Item = N>,
     FN: FnMut(&N) -> IN,
 {
+    type Successors = IN;
+
     ghost answers = { AnswersSuccessors FN.FnMut IN.into_iter_gives IN.IntoIter.can_next IN.IntoIter.remaining IN.IntoIter.next_gives N.eq };
 
-    fn as_successor_function(&self) {}
+    fn successors(&mut self, node: &N) -> IN {
+        self(node)
+    }
+
+    ghost alike_law = { λ f starts next a. a.alike };
 }
 
-/// A test of a node. Every function of that type is one.
-pub trait NodeTest<N> {
-    // At each node of the given sort, now and after any calls, the function may be called and
-    // answers this test. Equal nodes have the same answer.
+/// A test of a node. Every function from a node to a truth value is one.
+pub trait NodeTest<N: Eq>: Drop {
+    // At each node of the given sort, now and after any calls, this may be asked and answers this test.
+    // Equal nodes have the same answer.
     ghost answers: { Self → (N → Type 0) → (N → Bool) → Type 0 };
 
-    /// Does nothing: a trait with a ghost member has a function.
-    fn as_node_test(&self);
+    /// Whether the node passes the test.
+    fn passes(&mut self, node: &N) -> bool
+        requires within { (starts : List N) × (edges : N → List (N × ℤ)) × (test : N → Bool) × InReach N.eq edges starts node.now × answers self.old (InReach N.eq edges starts) test }
+        ensures goes_on { (starts : List N) (edges : N → List (N × ℤ)) (test : N → Bool) → InReach N.eq edges starts node.now
+            → answers self.old (InReach N.eq edges starts) test → answers self.new (InReach N.eq edges starts) test }
+        ensures passed { (starts : List N) (edges : N → List (N × ℤ)) (test : N → Bool) → InReach N.eq edges starts node.now
+            → answers self.old (InReach N.eq edges starts) test → result ≡ test node.now };
+
+    // Equal nodes have the same answer.
+    ghost alike_law: { (f : Self) (starts : List N) (edges : N → List (N × ℤ)) (test : N → Bool) → answers f (InReach N.eq edges starts) test
+        → (x y : N) → InReach N.eq edges starts x → N.eq x y ≡ true → test x ≡ test y };
 }
 
 impl<N, FS> NodeTest<N> for FS
@@ -65,5 +115,9 @@ where
 {
     ghost answers = { AnswersTest FS.FnMut N.eq };
 
-    fn as_node_test(&self) {}
+    fn passes(&mut self, node: &N) -> bool {
+        self(node)
+    }
+
+    ghost alike_law = { λ f starts edges test a. a.alike };
 }

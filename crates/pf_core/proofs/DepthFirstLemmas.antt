@@ -1,6 +1,6 @@
 -- Lemmas on depth-first walks over numbers.
-use Rattle.std.proofs.Common.{◌≡◌, ℕ, ◌<◌, ◌≤◌, ◌+◌, zero, suc, add-one, List, [], ◌∷◌, ◌++◌, ◌∙◌, map, length, take, reverse, refl, sym, ap, subst, arith, inl, inr}
-use Rattle.std.specs.Prelude.{◌⊎◌, ◌↔◌, Contains}
+use Rattle.std.proofs.Common.{◌≡◌, ℕ, ◌+◌, zero, suc, List, [], ◌∷◌, ◌++◌, ◌∙◌, map, length, take, reverse, refl, sym, ap, subst, arith, inl, inr}
+use Rattle.std.specs.Prelude.{Contains}
 use Rattle.std.specs.List.{AllZip, AllByRecursion}
 use Rattle.std.proofs.lemmas.List.{append-nil, append_assoc, reverse-append, reverse-reverse, length-reverse}
 use Rattle.std.proofs.lemmas.List.Elements.{Contains-append_cases}

@@ -1,6 +1,5 @@
 -- Two halves of a path that meet at a node, joined.
-use Rattle.std.proofs.Common.{◌≡◌, ℕ, suc, ◌+◌, ◌≤◌, ◌<◌, Bool, true, List, [], ◌∷◌, ◌++◌, ◌∙◌, length, length-append, drop, reverse, refl, sym, ap, subst, arith, inl, inr, ℤ, pos, true≢false}
-use Rattle.std.specs.Prelude.{◌≤ℤ◌, ◌+ℤ◌}
+use Rattle.std.proofs.Common.{◌≡◌, ℕ, ◌+◌, ◌≤◌, Bool, true, List, [], ◌∷◌, ◌++◌, ◌∙◌, length, length-append, drop, reverse, refl, sym, ap, subst, arith, inl, inr, ℤ, true≢false}
 use Rattle.std.specs.Cmp.{IsEquivalence}
 use Rattle.std.specs.List.{AllZip, list_any}
 use Rattle.std.proofs.lemmas.Int.{ints}
@@ -18,7 +17,8 @@ use Rattle.pf_core.proofs.ListLemmas.{reverse-cons, or_cases, or_true}
 use Rattle.pf_core.proofs.FrontierLemmas.{end_more}
 use Rattle.pf_core.proofs.NodeLemmas.{eq-sym, eq-trans, follows_more, InReach-after}
 use Rattle.pf_core.proofs.WalkLemmas.{same_of, end_same, HasNode-same, goes_of_walk, walk_of_goes, goes_same, reach_start}
-use Rattle.pf_core.proofs.UnitLemmas.{is_hop, edge_of_next, next_of_edge, follows_edges, follows_next, reach_next}
+use Rattle.pf_core.specs.HopLaws.{next_of_edge, follows_next, reach_next}
+use Rattle.pf_core.proofs.UnitLemmas.{is_hop, edge_of_next, follows_edges}
 use Rattle.pf_core.proofs.LoopWalks.{hop_length, passes_by}
 
 drop_one : {A : Type 0} (xs : List A) (y x : A) → drop 1 ((xs ++ y ∷ []) ++ x ∷ []) ≡ drop 1 (xs ++ y ∷ []) ++ x ∷ []

@@ -1,6 +1,6 @@
 -- A search for a loop with fewest edges.
-use Rattle.std.proofs.Common.{ℕ, ◌<◌, ◌≤◌, ◌≡◌, refl, sym, ◌∙◌, subst, arith, Bool, true, true≢false, List, [], ◌∷◌, ◌++◌, length, inl, inr, ℤ, pos}
-use Rattle.std.specs.Prelude.{Contains, ◌↔◌, ◌≤ℤ◌, ◌⊎◌}
+use Rattle.std.proofs.Common.{ℕ, ◌<◌, ◌≤◌, ◌≡◌, refl, sym, ◌∙◌, subst, arith, Bool, true, true≢false, List, [], ◌∷◌, ◌++◌, length, inl, inr, ℤ}
+use Rattle.std.specs.Prelude.{Contains, ◌≤ℤ◌, ◌⊎◌}
 use Rattle.std.proofs.lemmas.Int.{ints}
 use Rattle.pf_base.specs.Walks.{end_of}
 use Rattle.pf_core.specs.declared.labels.Label.{Label}

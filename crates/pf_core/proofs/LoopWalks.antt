@@ -1,6 +1,5 @@
 -- From a best loop of numbers to a best loop of nodes.
-use Rattle.std.proofs.Common.{◌≡◌, ℕ, suc, ◌+◌, ◌-◌, ◌<◌, ◌≤◌, Bool, true, List, [], ◌∷◌, ◌++◌, ◌∙◌, length, length-append, take, refl, sym, ap, subst, arith, inl, inr, ℤ, pos, nat_eq}
-use Rattle.std.specs.Prelude.{◌⊎◌, ◌≤ℤ◌, ◌+ℤ◌}
+use Rattle.std.proofs.Common.{◌≡◌, ℕ, ◌+◌, ◌-◌, ◌<◌, Bool, true, List, [], ◌∷◌, ◌++◌, ◌∙◌, length, length-append, take, refl, sym, ap, subst, arith, inl, inr, ℤ, pos}
 use Rattle.std.specs.Cmp.{IsEquivalence}
 use Rattle.std.specs.List.{AllZip}
 use Rattle.std.proofs.lemmas.Int.{ints}
@@ -16,9 +15,10 @@ use Rattle.pf_core.specs.Nodes.{NodeGraph, StandsFor, IsStep}
 use Rattle.pf_core.specs.Hops.{unit_edges}
 use Rattle.pf_core.proofs.FrontierLemmas.{end_more}
 use Rattle.pf_core.proofs.PathLemmas.{NoRepeats-append}
-use Rattle.pf_core.proofs.NodeLemmas.{eq-sym, eq-trans, StandsFor-same, HasEdge-same, InReach-after, edge_of_same, follows_more}
+use Rattle.pf_core.proofs.NodeLemmas.{eq-sym, HasEdge-same, InReach-after, edge_of_same, follows_more}
 use Rattle.pf_core.proofs.WalkLemmas.{same_of, end_same, HasNode-same, distinct_nodes, goes_of_walk, walk_of_goes, goes_same, reach_start}
-use Rattle.pf_core.proofs.UnitLemmas.{is_hop, edge_of_next, next_of_edge, follows_edges, follows_next}
+use Rattle.pf_core.specs.HopLaws.{next_of_edge, follows_next}
+use Rattle.pf_core.proofs.UnitLemmas.{is_hop, edge_of_next, follows_edges}
 
 -- the steps of a walk cost as much as it has edges
 pub hop_length : {X : Type 0} (step : X → ℤ → X → Type 0) → IsHop step → (w : List X) (a : X) (u : ℤ) → GoesAlong step a w u → u ≡ pos (length w)

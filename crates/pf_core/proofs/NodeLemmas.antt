@@ -6,7 +6,7 @@ use Rattle.std.specs.Iterator.{Count}
 use Rattle.std.specs.Fn.{Mut}
 use Rattle.std.specs.List.{IsDistinct, AllByRecursion, list_any}
 use Rattle.indexmap.specs.IndexSet.{insert_key}
-use Rattle.std.proofs.lemmas.List.{take-append-le, map-id}
+use Rattle.std.proofs.lemmas.List.{take-append-le}
 use Rattle.std.proofs.lemmas.List.Elements.{Contains-append_left, Contains-push}
 use Rattle.std.proofs.lemmas.Option.{slice_get_within}
 use Rattle.std.specs.Set.{is_member}
@@ -14,10 +14,11 @@ use Rattle.std.proofs.lemmas.Map.Made.{length-le_from_is_member}
 use Rattle.pf_base.specs.Walks.{HasNode, IsAtMostNumberOf, Follows, IsWalk, end_of, BeginsAt, EndsAt}
 use Rattle.pf_base.specs.NodeRefs.{HasSameNodes}
 use Rattle.pf_base.specs.Edges.{HasEdge, IsSuccessor, InReach}
-use Rattle.pf_base.specs.Answers.{ListsEdges, Gives, Answers, AnswersEach, AnswersGraph}
+use Rattle.pf_base.specs.Answers.{ListsEdges, Gives, Answers, AnswersEach}
 use Rattle.pf_core.specs.Numbered.{ListsSteps, Grows}
 use Rattle.pf_core.specs.NodeLaws.{StandsFor-one}
-use Rattle.pf_core.specs.Nodes.{NodeGraph, StandsFor, IsStep, AddsNode, NumbersItems, AddedFrom, SaysEdges, Explores}
+use Rattle.pf_core.specs.Sources.{AnswersEdges}
+use Rattle.pf_core.specs.Nodes.{NodeGraph, StandsFor, IsStep, AddsNode, NumbersItems, AddedFrom, Explores}
 use Rattle.pf_core.proofs.ListLemmas.{or_left, or_right, or_true, or_cases, Contains-head, Contains-tail, Contains-cases, get-append_cases, take_get, get_take, none_in}
 use Rattle.pf_core.proofs.FrontierLemmas.{end_more}
 
@@ -288,21 +289,28 @@ inside_of eq keys (r ∷ row) (x ∷ xs) n j c h = elim (Contains-cases row r (j
 ]
 
 -- a discovery begins with a set of the starts
-module _ {N T C : Type 0} (eq : N → N → Bool) (laws : IsEquivalence eq) (value : C → ℤ) (edge : T → N × C) {I S F : Type 0} (becomes : I → S → Type 0) (can : S → Type 0) (left : S → Count) (next : S → Option T → S → Type 0) (calls : Mut F (Bor N × Unit {0}) I) where
+module _ {N S : Type 0} (eq : N → N → Bool) (laws : IsEquivalence eq) (answers : S → List N → (N → List (N × ℤ)) → Type 0) where
   node_of : (keys : List N) (k : ℕ) (x : N) → slice_get keys k ≡ Some x → HasNode eq keys x
   node_of [] k x h = absurd (none_in k x h)
   node_of (m ∷ keys) zero x h = let e : Some m ≡ Some x = h in let f : m ≡ x = cc in inl (subst (λ (y : N). eq m y ≡ true) f (laws.refl m))
   node_of (m ∷ keys) (suc k) x h = inr (node_of keys k x h)
 
-  pub Explores-start : (g : NodeGraph N) (keys : List N) (f : F) → IsDistinct eq keys → HasSameNodes eq keys g.starts
-      → ((x y : N) → InReach eq g.edges g.starts x → eq x y ≡ true → ListsEdges eq (λ z. z) (g.edges x) (g.edges y)) → Answers calls (InReach eq g.edges g.starts) (SaysEdges eq value edge becomes can left next calls g.edges) f
-      → Explores eq value edge becomes can left next calls g keys f
-  Explores-start g keys f once same alike answers = record {
+  pub Explores-start : (g : NodeGraph N) (keys : List N) (source : S) → IsDistinct eq keys → HasSameNodes eq keys g.starts
+      → ((x y : N) → InReach eq g.edges g.starts x → eq x y ≡ true → ListsEdges eq (λ z. z) (g.edges x) (g.edges y)) → answers source g.starts g.edges
+      → Explores eq answers g keys source
+  Explores-start g keys source once same alike a = record {
     alike = alike;
-    answers = answers;
+    answered = a;
     distinct = once;
     reached = λ k x h. InReach-start eq laws g.edges g.starts x x ((same x).0 (node_of keys k x h)) (laws.refl x);
   }
+
+-- such as one of a function that lists edges
+module _ {N F : Type 0} (eq : N → N → Bool) (laws : IsEquivalence eq) (answers : F → (N → Type 0) → (N → List (N × ℤ)) → Type 0) where
+  pub Explores-edges : (g : NodeGraph N) (keys : List N) (f : F) → IsDistinct eq keys → HasSameNodes eq keys g.starts
+      → ((x y : N) → InReach eq g.edges g.starts x → eq x y ≡ true → ListsEdges eq (λ z. z) (g.edges x) (g.edges y)) → answers f (InReach eq g.edges g.starts) g.edges
+      → Explores eq (AnswersEdges eq answers) g keys (record { function = f })
+  Explores-edges g keys f once same alike a = Explores-start eq laws (AnswersEdges eq answers) g keys (record { function = f }) once same alike a
 
 -- what answers say, said in another way
 module _ {F N R : Type 0} (calls : Mut F (Bor N × Unit {0}) R) (within within' : N → Type 0) (less : (x : N) → within' x → within x) (gives gives' : N → R → Type 0) (said : (x : N) (r : R) → gives x r → gives' x r) where
@@ -315,14 +323,6 @@ module _ {F N R : Type 0} (calls : Mut F (Bor N × Unit {0}) R) (within within' 
 
 pub Gives-weaker : {I S A : Type 0} (becomes : I → S → Type 0) (can : S → Type 0) (left : S → Count) (steps : S → Option A → S → Type 0) (P Q : List A → Type 0) → ((xs : List A) → P xs → Q xs) → (r : I) → Gives becomes can left steps P r → Gives becomes can left steps Q r
 Gives-weaker becomes can left steps P Q f r g = record { can_next = g.can_next; finite = g.finite; items = λ it b p t e w. f p.items (g.items it b p t e w) }
-
--- a discovery of a function that lists edges begins with a set of the starts
-module _ {N C : Type 0} (eq : N → N → Bool) (laws : IsEquivalence eq) (value : C → ℤ) {I S F : Type 0} (becomes : I → S → Type 0) (can : S → Type 0) (left : S → Count) (next : S → Option (N × C) → S → Type 0) (calls : Mut F (Bor N × Unit {0}) I) where
-  pub Explores-edges : (g : NodeGraph N) (keys : List N) (f : F) → IsDistinct eq keys → HasSameNodes eq keys g.starts → AnswersGraph calls becomes can left next eq value f (InReach eq g.edges g.starts) g.edges
-      → Explores eq value (λ e. e) becomes can left next calls g keys f
-  Explores-edges g keys f once same a =
-      Explores-start eq laws value (λ e. e) becomes can left next calls g keys f once same a.alike
-      (Answers-weaker calls _ _ (λ x w. w) _ _ (λ x r h. Gives-weaker becomes can left next _ _ (λ xs l. subst (λ (ys : List (N × C)). ListsEdges eq value ys (g.edges x)) (sym (map-id xs)) l) r h) f a.answers)
 
 -- a number that is new is in the row
 module _ {N C : Type 0} (eq : N → N → Bool) (laws : IsEquivalence eq) (keys keys' : List N) (distinct : IsDistinct eq keys') where

@@ -1,6 +1,5 @@
 -- The order in which the nodes of an answer are numbered.
-use Rattle.std.proofs.Common.{◌≡◌, ℕ, ◌<◌, ◌+◌, Bool, true, Option, Some, List, [], ◌∷◌, ◌++◌, ◌∙◌, slice_get, length, map, refl, sym, ap, subst, arith, length-append, inl, inr, ℤ}
-use Rattle.std.specs.Prelude.{◌⊎◌}
+use Rattle.std.proofs.Common.{◌≡◌, ℕ, ◌<◌, ◌+◌, Bool, true, Some, List, [], ◌∷◌, ◌++◌, ◌∙◌, slice_get, length, map, refl, sym, ap, subst, arith, length-append, inl, inr, ℤ}
 use Rattle.std.specs.Cmp.{IsEquivalence}
 use Rattle.std.specs.List.{AllZip}
 use Rattle.pf_base.specs.Edges.{InReach}
@@ -8,7 +7,7 @@ use Rattle.pf_base.specs.Answers.{ListsEdges, SameNodes}
 use Rattle.pf_core.specs.Numbered.{NumbersInOrder}
 use Rattle.pf_core.specs.NodeLaws.{StandsFor-inside}
 use Rattle.pf_core.specs.Nodes.{NodeGraph, StandsFor, AddsNode, NumbersItems, ends_of}
-use Rattle.pf_core.proofs.NodeLemmas.{AddsNode-stays, StandsFor-same, eq-sym, eq-trans}
+use Rattle.pf_core.proofs.NodeLemmas.{AddsNode-stays, StandsFor-same, eq-trans}
 
 module _ {N : Type 0} (eq : N → N → Bool) (laws : IsEquivalence eq) where
   last_of : (xs : List N) (x : N) → slice_get (xs ++ x ∷ []) (length xs) ≡ Some x

@@ -1,10 +1,9 @@
 -- The two sides of a search over nodes.
-use Rattle.std.proofs.Common.{◌≡◌, ℕ, zero, suc, ◌<◌, ◌+◌, Bool, true, false, Option, Some, None, List, [], ◌∷◌, ◌++◌, ◌∙◌, slice_get, slice_index_or, length, drop, reverse, refl, sym, ap, subst, arith, length-append, true≢false}
+use Rattle.std.proofs.Common.{◌≡◌, ℕ, zero, suc, ◌<◌, Bool, true, false, Option, Some, None, List, [], ◌∷◌, ◌∙◌, slice_get, slice_index_or, length, refl, sym, subst, true≢false}
 use Rattle.std.specs.Prelude.{MatchOption}
 use Rattle.std.specs.Cmp.{IsEquivalence}
-use Rattle.std.specs.Option.{is_some, option_to_list}
+use Rattle.std.specs.Option.{is_some}
 use Rattle.std.specs.List.{list_any, position}
-use Rattle.std.proofs.lemmas.List.{reverse-append}
 use Rattle.std.proofs.lemmas.List.Quantifiers.{position-Some}
 use Rattle.pf_core.specs.Nodes.{StandsFor}
 use Rattle.pf_core.proofs.ListLemmas.{or_left, or_right, none_in, at_place}

@@ -14,4 +14,6 @@ pub mod Sums
 pub mod Nodes
 pub mod NodeLaws
 pub mod Hops
+pub mod HopLaws
+pub mod Sources
 pub mod DepthFirst

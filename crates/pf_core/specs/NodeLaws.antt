@@ -1,9 +1,6 @@
 -- That no two numbers stand for one node.
-use Rattle.std.proofs.Common.{◌≡◌, ◌<◌, length, ℕ, zero, suc, ℤ, Bool, true, false, Option, Some, sym, ◌∙◌, ap, subst, refl, true≢false, [], ◌∷◌}
+use Rattle.std.proofs.Common.{◌≡◌, ◌<◌, length, ℕ, zero, suc, ℤ, Bool, true, false, Some, sym, ◌∙◌, ap, subst, refl, true≢false, [], ◌∷◌}
 use Rattle.std.proofs.lemmas.Option.{slice_get_within}
-use Rattle.std.specs.Borrow.{Bor}
-use Rattle.std.specs.Fn.{Mut}
-use Rattle.std.specs.Iterator.{Count}
 use Rattle.std.specs.Cmp.{IsEquivalence}
 use Rattle.std.specs.List.{IsDistinct, AllByRecursion}
 use Rattle.std.specs.Prelude.{List, slice_get}
@@ -36,6 +33,6 @@ module _ {N : Type 0} (eq : N → N → Bool) (laws : IsEquivalence eq) where
 pub StandsFor-inside : {N : Type 0} (eq : N → N → Bool) (keys : List N) (k : ℕ) (x : N) → StandsFor eq keys k x → k < length keys
 StandsFor-inside eq keys k x h = slice_get_within keys k h.0 h.1
 
-pub Explores-one : {N T C : Type 0} {eq : N → N → Bool} {value : C → ℤ} {edge : T → N × C} {I S F : Type 0} {becomes : I → S → Type 0} {can : S → Type 0} {left : S → Count} {next : S → Option T → S → Type 0} {calls : Mut F (Bor N × Unit {0}) I}
-    {g : NodeGraph N} {keys : List N} {f : F} → IsEquivalence eq → Explores eq value edge becomes can left next calls g keys f → (i j : ℕ) (x : N) → StandsFor eq keys i x → StandsFor eq keys j x → i ≡ j
+pub Explores-one : {N S : Type 0} {eq : N → N → Bool} {answers : S → List N → (N → List (N × ℤ)) → Type 0} {g : NodeGraph N} {keys : List N} {source : S} → IsEquivalence eq → Explores eq answers g keys source
+    → (i j : ℕ) (x : N) → StandsFor eq keys i x → StandsFor eq keys j x → i ≡ j
 Explores-one {eq = eq} {keys = keys} laws e i j x a b = StandsFor-one eq laws keys e.distinct i j x a b

@@ -1,11 +1,8 @@
--- The nodes that numbers stand for, and the functions that answer for them.
-use Rattle.std.specs.Prelude.{◌≡◌, ◌⊎◌, ◌≤◌, ◌++◌, ℕ, ℤ, Bool, true, List, [], ◌∷◌, Option, Some, slice_get, Contains, map, take, length}
-use Rattle.std.specs.Borrow.{Bor}
-use Rattle.std.specs.Fn.{Mut}
-use Rattle.std.specs.Iterator.{Count}
+-- The nodes that numbers stand for, and what is asked for their edges.
+use Rattle.std.specs.Prelude.{◌≡◌, ◌⊎◌, ◌≤◌, ◌++◌, ℕ, ℤ, Bool, true, List, [], ◌∷◌, Some, slice_get, Contains, map, take, length}
 use Rattle.std.specs.List.{IsDistinct, AllZip}
 use Rattle.pf_base.specs.Edges.{HasEdge, InReach}
-use Rattle.pf_base.specs.Answers.{ListsEdges, Gives, Answers}
+use Rattle.pf_base.specs.Answers.{ListsEdges}
 
 -- starts, and the edges of each node
 pub record NodeGraph (N : Type 0) : Type 0 where
@@ -47,14 +44,10 @@ module _ {N : Type 0} (eq : N → N → Bool) where
     abbrev pub AddedFrom : List (N × C) → List N → List N → Type 0
     AddedFrom xs keys keys' = (k : ℕ) (m : N) → slice_get keys' k ≡ Some m → slice_get keys k ≡ Some m ⊎ ((c : C) × Contains xs (m, c))
 
-module _ {N T C : Type 0} (eq : N → N → Bool) (value : C → ℤ) (edge : T → N × C) {I S F : Type 0} (becomes : I → S → Type 0) (can : S → Type 0) (left : S → Count) (next : S → Option T → S → Type 0) (calls : Mut F (Bor N × Unit {0}) I) where
-  -- the items of an answer say the edges of x
-  abbrev pub SaysEdges : (N → List (N × ℤ)) → N → I → Type 0
-  SaysEdges edges x r = Gives becomes can left next (λ items. ListsEdges eq value (map edge items) (edges x)) r
-
-  -- the function answers this graph at each node in reach, now and after any calls, and the nodes found are in reach
-  pub record Explores (g : NodeGraph N) (keys : List N) (f : F) : Type 0 where
+module _ {N S : Type 0} (eq : N → N → Bool) (answers : S → List N → (N → List (N × ℤ)) → Type 0) where
+  -- what is asked answers this graph at each node in reach, now and after any calls, and the nodes found are in reach
+  pub record Explores (g : NodeGraph N) (keys : List N) (source : S) : Type 0 where
     pub alike : (x y : N) → InReach eq g.edges g.starts x → eq x y ≡ true → ListsEdges eq (λ z. z) (g.edges x) (g.edges y)
-    pub answers : Answers calls (InReach eq g.edges g.starts) (SaysEdges g.edges) f
+    pub answered : answers source g.starts g.edges
     pub distinct : IsDistinct eq keys
     pub reached : (k : ℕ) (x : N) → slice_get keys k ≡ Some x → InReach eq g.edges g.starts x

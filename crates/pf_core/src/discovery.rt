@@ -11,62 +11,27 @@ ghost use Rattle.pf_core.specs.NodeLaws.{Explores-one, StandsFor-inside};
 
 use crate::numbered::NumberedGraph;
 use crate::row::Row;
+use crate::source::EdgeSource;
 use indexmap::IndexSet;
 use pf_base::{Cost, NodeRefs, PathError};
 use std::alloc::Allocator;
 use std::hash::{BuildHasherDefault, FoldHasher, Hash};
-use std::marker::PhantomData;
 
 /// Nodes in the order in which they were found; the place of a node is its number.
 pub type Nodes<N, A> = IndexSet<N, BuildHasherDefault<FoldHasher>, A>;
 
-/// How an item of an answer says an edge.
-pub trait EdgeForm<N, T, C> {
-    // The node that the edge leads to, and its cost.
-    ghost edge: { T → N × C };
-
-    /// The node that the edge leads to, and its cost.
-    fn edge_of(item: T) -> (N, C)
-        ensures { result ≡ edge item };
-}
-
-/// An item is a node and a cost.
-pub struct Weighted;
-
-impl<N, C> EdgeForm<N, (N, C), C> for Weighted {
-    ghost edge = { λ item. item };
-
-    fn edge_of(item: (N, C)) -> (N, C) {
-        item
-    }
-}
-
-/// An item is a node, and each edge costs 1.
-pub struct Unweighted;
-
-impl<N> EdgeForm<N, N, u8> for Unweighted {
-    ghost edge = { λ item. (item, 1) };
-
-    fn edge_of(item: N) -> (N, u8) {
-        (item, 1)
-    }
-}
-
-/// The nodes found so far, and the function that answers for them.
+/// The nodes found so far, and what is asked for their edges.
 #[derive(Drop)]
-pub struct Discovery<N: Eq + Hash, K, IN, FN, A: Allocator> {
+pub struct Discovery<N: Eq + Hash, S, A: Allocator> {
     pub nodes: Nodes<N, A>,
-    pub successors: FN,
-    pub form: PhantomData<(K, IN)>,
+    pub source: S,
 }
 
-impl<N, T, C, K, IN, FN, A> NumberedGraph<C> for Discovery<N, K, IN, FN, A>
+impl<N, C, S, A> NumberedGraph<C> for Discovery<N, S, A>
 where
     N: Eq + Hash + Drop,
     C: Cost,
-    K: EdgeForm<N, T, C>,
-    IN: IntoIterator<Item = T>,
-    FN: FnMut(&N) -> IN,
+    S: EdgeSource<N, C>,
     A: Allocator + Copy,
 {
     ghost Node = { N };
@@ -83,7 +48,7 @@ where
 
     ghost stands = { λ s. StandsFor N.eq s.nodes.keys };
 
-    ghost explores = { λ s g. Explores N.eq C.value K.edge IN.into_iter_gives IN.IntoIter.can_next IN.IntoIter.remaining IN.IntoIter.next_gives FN.FnMut g s.nodes.keys s.successors };
+    ghost explores = { λ s g. Explores N.eq S.answers g s.nodes.keys s.source };
 
     ghost can_forget = { λ s k. k ≤ length s.nodes.keys };
 
@@ -93,8 +58,8 @@ where
 
     fn expand<R: Row<C>>(&mut self, node: usize, row: &mut R) -> Result<(), PathError> {
         row.reset();
-        let items = (self.successors)(&self.nodes.as_slice()[node]);
-        number_all::<N, T, C, K, IN, A, R>(&mut self.nodes, items, row)
+        let items = self.source.items(&self.nodes.as_slice()[node]);
+        number_all::<N, C, S, A, R>(&mut self.nodes, items, row)
     }
 
     fn forget(&mut self, first: usize) {
@@ -127,24 +92,23 @@ where
 }
 
 /// Numbers the nodes of an answer. Where memory is refused, the nodes stay as they were.
-fn number_all<N, T, C, K, IN, A, R>(
+fn number_all<N, C, S, A, R>(
     nodes: &mut Nodes<N, A>,
-    items: IN,
+    items: S::Items,
     row: &mut R,
 ) -> Result<(), PathError>
 where
     N: Eq + Hash + Drop,
     C: Cost,
-    K: EdgeForm<N, T, C>,
-    IN: IntoIterator<Item = T>,
+    S: EdgeSource<N, C>,
     A: Allocator + Copy,
     R: Row<C>,
-    requires ends { IsFiniteIterable IN.into_iter_gives IN.IntoIter.can_next IN.IntoIter.remaining items }
+    requires ends { IsFiniteIterable S.Items.into_iter_gives S.Items.IntoIter.can_next S.Items.IntoIter.remaining items }
     requires empty { R.holds row.old [] }
     requires distinct { IsDistinct N.eq nodes.old.keys }
-    ensures numbered { OnOk result ((it : IN.IntoIter) × (xs : List T) × IN.into_iter_gives items it × Drains IN.IntoIter.next_gives it xs
-        × ((steps : List (ℕ × C)) × R.holds row.new steps × NumbersItems N.eq nodes.new.keys steps (map K.edge xs)) × AddedFrom N.eq (map K.edge xs) nodes.old.keys nodes.new.keys
-        × NumbersInOrder (StandsFor N.eq nodes.new.keys) (length nodes.old.keys) (map (λ (x : N × C). x.0) (map K.edge xs)) (length nodes.new.keys)) }
+    ensures numbered { OnOk result ((it : S.Items.IntoIter) × (xs : List S.Item) × S.Items.into_iter_gives items it × Drains S.Items.IntoIter.next_gives it xs
+        × ((steps : List (ℕ × C)) × R.holds row.new steps × NumbersItems N.eq nodes.new.keys steps (map S.edge xs)) × AddedFrom N.eq (map S.edge xs) nodes.old.keys nodes.new.keys
+        × NumbersInOrder (StandsFor N.eq nodes.new.keys) (length nodes.old.keys) (map (λ (x : N × C). x.0) (map S.edge xs)) (length nodes.new.keys)) }
     ensures distinct { IsDistinct N.eq nodes.new.keys }
     ensures longer { length nodes.old.keys ≤ length nodes.new.keys }
     ensures kept { take (length nodes.old.keys) nodes.new.keys ≡ nodes.old.keys }
@@ -153,7 +117,7 @@ where
 {
     let len = nodes.len();
     'items: for item in items {
-        let edge = K::edge_of(item);
+        let edge = S::edge_of(item);
         if let Err(refusal) = number_edge(nodes, row, edge) {
             nodes.truncate(len);
             return Err(refusal);

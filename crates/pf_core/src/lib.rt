@@ -1,7 +1,7 @@
 //! The layer that the searches share: nodes that are numbered as they are found, and searches over
 //! numbers.
 //!
-//! `discovery` asks the functions that are handed in and numbers the nodes; the algorithms go over
+//! `source` is what is asked, `discovery` asks it and numbers the nodes; the algorithms go over
 //! numbers, generic over `NumberedGraph`. No crate exports this layer.
 #![tactic(auto)]
 
@@ -19,6 +19,7 @@ pub mod row;
 pub mod search;
 pub mod sides;
 pub mod slot;
+pub mod source;
 pub mod sums;
 pub mod tested;
 pub mod two_sided;

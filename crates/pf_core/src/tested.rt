@@ -2,33 +2,32 @@
 
 ghost use Rattle.std.specs.Prelude.{◌≡◌, ◌<◌, ◌≤◌, ℕ, Contains, IfOk, IfErr, length};
 ghost use Rattle.std.specs.List.{AllZip};
-ghost use Rattle.pf_base.specs.Answers.{IsLawfulClone, AnswersTest};
+ghost use Rattle.pf_base.specs.Answers.{IsLawfulClone};
 ghost use Rattle.pf_base.specs.Edges.{InReach};
 ghost use Rattle.pf_core.specs.Nodes.{TestedGraph, IsStep, ends_of, StandsFor, Explores};
 ghost use Rattle.pf_core.specs.NodeLaws.{Explores-one, StandsFor-inside};
 
-use crate::discovery::{Discovery, EdgeForm, clones_at};
+use crate::discovery::{Discovery, clones_at};
 use crate::numbered::{GoalGraph, NumberedGraph};
 use crate::row::Row;
-use pf_base::{Cost, PathError};
+use crate::source::EdgeSource;
+use pf_base::{Cost, NodeTest, PathError};
 use std::alloc::Allocator;
 use std::hash::Hash;
 
-/// The nodes found so far, the function that lists their edges, and the one that tests them.
+/// The nodes found so far, what is asked for their edges, and what tests them.
 #[derive(Drop)]
-pub struct Tested<N: Eq + Hash, K, IN, FN, FS, A: Allocator> {
-    pub discovery: Discovery<N, K, IN, FN, A>,
-    pub success: FS,
+pub struct Tested<N: Eq + Hash, S, T, A: Allocator> {
+    pub discovery: Discovery<N, S, A>,
+    pub success: T,
 }
 
-impl<N, T, C, K, IN, FN, FS, A> NumberedGraph<C> for Tested<N, K, IN, FN, FS, A>
+impl<N, C, S, T, A> NumberedGraph<C> for Tested<N, S, T, A>
 where
     N: Eq + Hash + Drop,
     C: Cost,
-    K: EdgeForm<N, T, C>,
-    IN: IntoIterator<Item = T>,
-    FN: FnMut(&N) -> IN,
-    FS: FnMut(&N) -> bool,
+    S: EdgeSource<N, C>,
+    T: NodeTest<N>,
     A: Allocator + Copy,
 {
     ghost Node = { N };
@@ -45,8 +44,8 @@ where
 
     ghost stands = { λ s. StandsFor N.eq s.discovery.nodes.keys };
 
-    ghost explores = { λ s g. Explores N.eq C.value K.edge IN.into_iter_gives IN.IntoIter.can_next IN.IntoIter.remaining IN.IntoIter.next_gives FN.FnMut g.graph s.discovery.nodes.keys s.discovery.successors
-        × AnswersTest FS.FnMut N.eq s.success (InReach N.eq g.graph.edges g.graph.starts) g.test };
+    ghost explores = { λ s g. Explores N.eq S.answers g.graph s.discovery.nodes.keys s.discovery.source
+        × T.answers s.success (InReach N.eq g.graph.edges g.graph.starts) g.test };
 
     ghost can_forget = { λ s k. k ≤ length s.discovery.nodes.keys };
 
@@ -67,22 +66,20 @@ where
     ghost one_law = { λ s g e i j x. Explores-one N.Eq.laws e.0 i j x };
 }
 
-impl<N, T, C, K, IN, FN, FS, A> GoalGraph<C> for Tested<N, K, IN, FN, FS, A>
+impl<N, C, S, T, A> GoalGraph<C> for Tested<N, S, T, A>
 where
     N: Eq + Hash + Drop,
     C: Cost,
-    K: EdgeForm<N, T, C>,
-    IN: IntoIterator<Item = T>,
-    FN: FnMut(&N) -> IN,
-    FS: FnMut(&N) -> bool,
+    S: EdgeSource<N, C>,
+    T: NodeTest<N>,
     A: Allocator + Copy,
 {
     fn is_goal(&mut self, node: usize) -> bool {
-        (self.success)(&self.discovery.nodes.as_slice()[node])
+        self.success.passes(&self.discovery.nodes.as_slice()[node])
     }
 }
 
-impl<N, K, IN, FN, FS, A> Tested<N, K, IN, FN, FS, A>
+impl<N, S, T, A> Tested<N, S, T, A>
 where
     N: Eq + Hash + Clone + Drop,
     A: Allocator + Copy,

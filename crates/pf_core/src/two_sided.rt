@@ -8,31 +8,29 @@ ghost use Rattle.pf_core.specs.NodeLaws.{StandsFor-inside};
 ghost use Rattle.pf_core.specs.Sides.{by_side};
 
 use crate::both_ends::Halves;
-use crate::discovery::{Discovery, EdgeForm, clones_at};
+use crate::discovery::{Discovery, clones_at};
 use crate::numbered::NumberedGraph;
 use crate::row::NoRow;
 use crate::sides::{Side, TwoSidedGraph};
+use crate::source::EdgeSource;
 use pf_base::{Cost, PathError};
 use std::alloc::Allocator;
 use std::hash::Hash;
 
-/// The nodes found on the way forth with the function that lists successors, and those found on the
-/// way back with the one that lists predecessors.
+/// The nodes found on the way forth with what lists successors, and those found on the way back with
+/// what lists predecessors.
 #[derive(Drop)]
-pub struct TwoSided<N: Eq + Hash, K, IN, FN, IM, FM, A: Allocator> {
-    pub forth: Discovery<N, K, IN, FN, A>,
-    pub back: Discovery<N, K, IM, FM, A>,
+pub struct TwoSided<N: Eq + Hash, S, P, A: Allocator> {
+    pub forth: Discovery<N, S, A>,
+    pub back: Discovery<N, P, A>,
 }
 
-impl<N, T, C, K, IN, FN, IM, FM, A> TwoSidedGraph<C> for TwoSided<N, K, IN, FN, IM, FM, A>
+impl<N, C, S, P, A> TwoSidedGraph<C> for TwoSided<N, S, P, A>
 where
     N: Eq + Hash + Drop,
     C: Cost,
-    K: EdgeForm<N, T, C>,
-    IN: IntoIterator<Item = T>,
-    FN: FnMut(&N) -> IN,
-    IM: IntoIterator<Item = T>,
-    FM: FnMut(&N) -> IM,
+    S: EdgeSource<N, C>,
+    P: EdgeSource<N, C>,
     A: Allocator + Copy,
 {
     ghost Node = { N };
@@ -45,8 +43,7 @@ where
 
     ghost stands = { λ s side. StandsFor N.eq (by_side side s.forth.nodes.keys s.back.nodes.keys) };
 
-    ghost explores = { λ s g. Explores N.eq C.value K.edge IN.into_iter_gives IN.IntoIter.can_next IN.IntoIter.remaining IN.IntoIter.next_gives FN.FnMut g.0 s.forth.nodes.keys s.forth.successors
-        × Explores N.eq C.value K.edge IM.into_iter_gives IM.IntoIter.can_next IM.IntoIter.remaining IM.IntoIter.next_gives FM.FnMut g.1 s.back.nodes.keys s.back.successors };
+    ghost explores = { λ s g. Explores N.eq S.answers g.0 s.forth.nodes.keys s.forth.source × Explores N.eq P.answers g.1 s.back.nodes.keys s.back.source };
 
     fn found(&self, side: Side) -> usize {
         match side {
@@ -78,7 +75,7 @@ where
     ghost inside_law = { λ s side k x h. StandsFor-inside N.eq (by_side side s.forth.nodes.keys s.back.nodes.keys) k x h };
 }
 
-impl<N, K, IN, FN, IM, FM, A> TwoSided<N, K, IN, FN, IM, FM, A>
+impl<N, S, P, A> TwoSided<N, S, P, A>
 where
     N: Eq + Hash + Clone + Drop,
     A: Allocator + Copy,

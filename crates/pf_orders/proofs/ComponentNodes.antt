@@ -12,7 +12,8 @@ use Rattle.pf_core.specs.Nodes.{NodeGraph, StandsFor, IsStep}
 use Rattle.pf_core.specs.Hops.{unit_edges}
 use Rattle.pf_core.proofs.ListLemmas.{none_in}
 use Rattle.pf_core.proofs.NodeLemmas.{eq-sym, eq-trans, StandsFor-same, InReach-same, InReach-start, InReach-more, edge_of_same}
-use Rattle.pf_core.proofs.UnitLemmas.{edge_of_next, next_of_edge, reach_next}
+use Rattle.pf_core.specs.HopLaws.{next_of_edge, reach_next}
+use Rattle.pf_core.proofs.UnitLemmas.{edge_of_next}
 use Rattle.pf_core.proofs.WalkLemmas.{distinct_nodes}
 use Rattle.pf_orders.specs.Components.{IsInComponent, Reaches, StronglyConnected, IsStrongComponentOf, AreStrongComponents}
 use Rattle.pf_orders.specs.ComponentSearch.{IsAt, IsMember, IsLink, Leads, AreNumberedComponents}

@@ -14,7 +14,8 @@ use Rattle.pf_core.specs.Nodes.{StandsFor, ends_of}
 use Rattle.pf_core.specs.Numbered.{Grows}
 use Rattle.pf_core.proofs.ListLemmas.{Contains-head, Contains-tail, Contains-cases}
 use Rattle.pf_core.proofs.NodeLemmas.{StandsFor-same, InReach-same}
-use Rattle.pf_core.proofs.UnitLemmas.{reach_next, starts_stand}
+use Rattle.pf_core.specs.HopLaws.{reach_next}
+use Rattle.pf_core.proofs.UnitLemmas.{starts_stand}
 use Rattle.pf_core.proofs.WalkLemmas.{same_of, HasNode-same, distinct_nodes}
 use Rattle.pf_orders.specs.Orderings.{LeadsInto, IsOrdered, IsOrderedReach, IsOnNumberedCycle}
 use Rattle.pf_orders.specs.TopologicalOrders.{LeadsForward, IsTopologicalOrder, IsOnCycle}

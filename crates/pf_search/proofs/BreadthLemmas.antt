@@ -16,7 +16,8 @@ use Rattle.pf_base.specs.Orders.{successors_of, found_from, IsNextInBreadth, IsB
 use Rattle.pf_core.specs.Hops.{unit_edges}
 use Rattle.pf_core.proofs.ListLemmas.{take_get, none_in}
 use Rattle.pf_core.proofs.NodeLemmas.{eq-sym, eq-trans, InReach-same, InReach-start, InReach-more}
-use Rattle.pf_core.proofs.UnitLemmas.{lists_unit, edge_of_next, reach_next, reach_edges}
+use Rattle.pf_core.specs.HopLaws.{lists_unit, reach_next}
+use Rattle.pf_core.proofs.UnitLemmas.{edge_of_next, reach_edges}
 use Rattle.pf_core.proofs.PathLemmas.{HasNode-append_cases}
 
 -- an element at a place of the list with one more at its end

@@ -1,4 +1,4 @@
-use Rattle.std.proofs.Common.{ℕ, ◌≡◌, ◌≤◌, ◌<◌, ◌-◌, ◌+◌, ◌^◌, length}
+use Rattle.std.proofs.Common.{ℕ, ◌-◌, ◌+◌, ◌^◌, length}
 use Rattle.pf_core.specs.declared.sides.Side.TheVariants.{Forth, Back}
 use Rattle.pf_core.specs.Labels.{by_depth}
 use Rattle.pf_core.specs.Steps.{IsHop}

@@ -1,4 +1,4 @@
-use Rattle.std.proofs.Common.{ℕ, Bool, ◌≡◌, ◌≤◌, ◌<◌, ◌-◌, length}
+use Rattle.std.proofs.Common.{ℕ, Bool, ◌≡◌, ◌≤◌, ◌-◌, length}
 use Rattle.std.specs.Prelude.{◌↔◌}
 use Rattle.pf_core.specs.Labels.{by_depth}
 use Rattle.pf_core.specs.Steps.{IsHop}

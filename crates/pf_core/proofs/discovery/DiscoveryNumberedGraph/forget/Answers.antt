@@ -12,7 +12,7 @@ returns-clause-shrinks g c = Grows-cut g.N.PartialEq.eq c.args.first c.args.self
 pub returns-clause-graph : goal.returns-clause-graph
 returns-clause-graph g c = λ h x. record {
   alike = x.alike;
-  answers = x.answers;
+  answered = x.answered;
   distinct = c.truncate.ensures.unique;
   reached = λ k m s. x.reached k m (take_get c.args.first c.args.self.now.nodes.keys k m (subst (λ (ks : List g.row.N.Denot). slice_get ks k ≡ Some m) c.truncate.ensures.keys s));
 }

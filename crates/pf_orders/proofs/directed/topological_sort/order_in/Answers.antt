@@ -4,7 +4,8 @@ use Rattle.pf_core.specs.Hops.{unit_edges}
 use Rattle.pf_core.specs.Nodes.{NodeGraph, StandsFor}
 use Rattle.pf_core.proofs.ListLemmas.{at_place}
 use Rattle.pf_core.proofs.NodeLemmas.{at_most}
-use Rattle.pf_core.proofs.UnitLemmas.{Explores-successors, reach_next}
+use Rattle.pf_core.specs.HopLaws.{reach_next}
+use Rattle.pf_core.proofs.UnitLemmas.{Explores-successors}
 use Rattle.pf_orders.proofs.Outcomes.{refused_as}
 use Rattle.pf_orders.proofs.SortLemmas.{topological_order, node_on_cycle, stands_in_reach}
 use Rattle.pf_orders.proofs.directed.topological_sort.order_in.Goals as goal

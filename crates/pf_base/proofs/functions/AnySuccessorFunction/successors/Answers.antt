@@ -1,0 +1,21 @@
+use Rattle.std.proofs.Common.{rules, ◌≡◌, subst, sym, Bor}
+use Rattle.pf_base.specs.Successors.{HasSuccessor}
+use Rattle.pf_base.specs.Walks.{IsReachable}
+use Rattle.pf_base.proofs.Asking.{Answers-takes, Answers-gives, Answers-on}
+use Rattle.pf_base.proofs.functions.AnySuccessorFunction.successors.Goals as goal
+
+pub self-requires : goal.self-requires
+self-requires g c =
+    let r = c.requires.within in
+    let eq = g.N.PartialEq.eq in
+    let may : (p : Bor g.row.N.Denot) → p.now ≡ c.args.node.now → g.FN.FnMut.pre c.args.self.now (p, tt) = λ p e. Answers-takes _ _ _ r.3.answers p (subst (IsReachable eq (HasSuccessor eq r.1) r.0) (sym e) r.2) in
+    search (rules, may)
+
+pub returns-clause-goes_on : goal.returns-clause-goes_on
+returns-clause-goes_on g c = λ starts next reach a. record {
+  alike = a.alike;
+  answers = Answers-on _ _ _ a.answers _ reach c.self.result c.self.new.self c.self.ensures;
+}
+
+pub returns-clause-listed : goal.returns-clause-listed
+returns-clause-listed g c = λ starts next reach a. Answers-gives _ _ _ a.answers _ reach c.self.result c.self.new.self c.self.ensures
