@@ -3,6 +3,7 @@ pub mod Walks
 pub mod Edges
 pub mod Answers
 pub mod Successors
+pub mod Regions
 pub mod Mirrors
 pub mod Orders
 pub mod NodeRefs

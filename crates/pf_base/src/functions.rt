@@ -3,6 +3,7 @@
 ghost use Rattle.std.specs.Prelude.{◌≡◌, List, ℤ, Bool, true};
 ghost use Rattle.pf_base.specs.Answers.{AnswersGraph, AnswersSuccessors, AnswersTest, ListsEdges, SameNodes, Gives};
 ghost use Rattle.pf_base.specs.Edges.{InReach};
+ghost use Rattle.pf_base.specs.Regions.{Region, IsIn};
 ghost use Rattle.pf_base.specs.Successors.{HasSuccessor};
 ghost use Rattle.pf_base.specs.Walks.{IsReachable};
 
@@ -97,15 +98,13 @@ pub trait NodeTest<N: Eq>: Drop {
 
     /// Whether the node passes the test.
     fn passes(&mut self, node: &N) -> bool
-        requires within { (starts : List N) × (edges : N → List (N × ℤ)) × (test : N → Bool) × InReach N.eq edges starts node.now × answers self.old (InReach N.eq edges starts) test }
-        ensures goes_on { (starts : List N) (edges : N → List (N × ℤ)) (test : N → Bool) → InReach N.eq edges starts node.now
-            → answers self.old (InReach N.eq edges starts) test → answers self.new (InReach N.eq edges starts) test }
-        ensures passed { (starts : List N) (edges : N → List (N × ℤ)) (test : N → Bool) → InReach N.eq edges starts node.now
-            → answers self.old (InReach N.eq edges starts) test → result ≡ test node.now };
+        requires within { (region : Region N) × (test : N → Bool) × IsIn N.eq region node.now × answers self.old (IsIn N.eq region) test }
+        ensures goes_on { (region : Region N) (test : N → Bool) → IsIn N.eq region node.now → answers self.old (IsIn N.eq region) test → answers self.new (IsIn N.eq region) test }
+        ensures passed { (region : Region N) (test : N → Bool) → IsIn N.eq region node.now → answers self.old (IsIn N.eq region) test → result ≡ test node.now };
 
     // Equal nodes have the same answer.
-    ghost alike_law: { (f : Self) (starts : List N) (edges : N → List (N × ℤ)) (test : N → Bool) → answers f (InReach N.eq edges starts) test
-        → (x y : N) → InReach N.eq edges starts x → N.eq x y ≡ true → test x ≡ test y };
+    ghost alike_law: { (f : Self) (region : Region N) (test : N → Bool) → answers f (IsIn N.eq region) test
+        → (x y : N) → IsIn N.eq region x → N.eq x y ≡ true → test x ≡ test y };
 }
 
 impl<N, FS> NodeTest<N> for FS
@@ -119,5 +118,5 @@ where
         self(node)
     }
 
-    ghost alike_law = { λ f starts edges test a. a.alike };
+    ghost alike_law = { λ f region test a. a.alike };
 }

@@ -1,19 +1,19 @@
 use Rattle.std.proofs.Common.{rules, ◌≡◌, subst, sym, Bor}
-use Rattle.pf_base.specs.Edges.{InReach}
+use Rattle.pf_base.specs.Regions.{IsIn}
 use Rattle.pf_base.proofs.Asking.{Answers-takes, Answers-gives, Answers-on}
 use Rattle.pf_base.proofs.functions.AnyNodeTest.passes.Goals as goal
 
 pub self-requires : goal.self-requires
 self-requires g c =
     let r = c.requires.within in
-    let may : (p : Bor g.row.N.Denot) → p.now ≡ c.args.node.now → g.FS.FnMut.pre c.args.self.now (p, tt) = λ p e. Answers-takes _ _ _ r.4.answers p (subst (InReach g.N.PartialEq.eq r.1 r.0) (sym e) r.3) in
+    let may : (p : Bor g.row.N.Denot) → p.now ≡ c.args.node.now → g.FS.FnMut.pre c.args.self.now (p, tt) = λ p e. Answers-takes _ _ _ r.3.answers p (subst (IsIn g.N.PartialEq.eq r.0) (sym e) r.2) in
     search (rules, may)
 
 pub returns-clause-goes_on : goal.returns-clause-goes_on
-returns-clause-goes_on g c = λ starts edges test reach a. record {
+returns-clause-goes_on g c = λ region test reach a. record {
   alike = a.alike;
   answers = Answers-on _ _ _ a.answers _ reach c.self.result c.self.new.self c.self.ensures;
 }
 
 pub returns-clause-passed : goal.returns-clause-passed
-returns-clause-passed g c = λ starts edges test reach a. Answers-gives _ _ _ a.answers _ reach c.self.result c.self.new.self c.self.ensures
+returns-clause-passed g c = λ region test reach a. Answers-gives _ _ _ a.answers _ reach c.self.result c.self.new.self c.self.ensures
