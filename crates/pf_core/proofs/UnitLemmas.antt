@@ -10,7 +10,7 @@ use Rattle.pf_base.specs.Walks.{HasNode, Follows, IsGoalWalk, HasNoGoalWalk, IsR
 use Rattle.pf_base.specs.NodeRefs.{HasSameNodes}
 use Rattle.pf_base.specs.Edges.{HasEdge, IsSuccessor, StepCosts, StepsCost, InReach, IsCheapestGoalPath}
 use Rattle.pf_base.specs.Successors.{HasSuccessor, IsFewestEdgesGoalPath}
-use Rattle.pf_base.specs.Answers.{SameNodes, ListsEdges, AnswersTest, Gives}
+use Rattle.pf_base.specs.Answers.{SameNodes, ListsEdges, AnswersSuccessors, AnswersTest, Gives}
 use Rattle.pf_core.specs.Numbered.{StandsBelow}
 use Rattle.pf_core.specs.Steps.{IsHop}
 use Rattle.pf_core.specs.Nodes.{StandsFor, IsStep, Explores}
@@ -122,6 +122,12 @@ module _ {N : Type 0} (eq : N → N → Bool) where
       -- and answers them still
       pub Explores-next : (starts keys : List N) (next : N → List N) (s : Unweighted F) → Explores eq (AnswersHops eq answers) (record { starts = starts; edges = unit_edges next }) keys s → answers s.function (IsReachable eq (HasSuccessor eq next) starts) next
       Explores-next starts keys next s x = let a = x.answered in answers_next answers s.function starts next a.0 a.1 a.2
+
+    -- such as one of a closure
+    module _ {I S F : Type 0} (becomes : I → S → Type 0) (can : S → Type 0) (left : S → Count) (steps : S → Option N → S → Type 0) (calls : Mut F (Bor N × Unit {0}) I) where
+      pub Explores-successors_of : (starts keys : List N) (next : N → List N) (f : F) → IsDistinct eq keys → HasSameNodes eq keys starts → AnswersSuccessors calls becomes can left steps eq f (IsReachable eq (HasSuccessor eq next) starts) next
+          → Explores eq (AnswersHops eq (AnswersSuccessors calls becomes can left steps eq)) (record { starts = starts; edges = unit_edges next }) keys (record { function = f })
+      Explores-successors_of starts keys next f once same a = Explores-successors (AnswersSuccessors calls becomes can left steps eq) starts keys next f once same a.alike a
 
     -- a set with the nodes of the starts stands for the starts
     stands_of : (keys : List N) (x : N) → HasNode eq keys x → StandsBelow (length keys) (StandsFor eq keys) x

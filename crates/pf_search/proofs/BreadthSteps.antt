@@ -1,34 +1,28 @@
 -- How a discovery that numbers the successors of one more node goes on with a walk in breadth order.
-use Rattle.std.proofs.Common.{◌≡◌, ℕ, ◌<◌, ◌≤◌, ◌+◌, Bool, true, false, Option, Some, None, List, [], ◌∷◌, ◌++◌, ◌∙◌, slice_get, length, map, take, drop, take_all, refl, sym, ap, subst, arith, length-append, inl, inr, if◌then◌else◌, ℤ, pos, Bor, true≢false}
+use Rattle.std.proofs.Common.{◌≡◌, ℕ, ◌<◌, ◌≤◌, ◌+◌, Bool, true, false, Option, Some, None, List, [], ◌∷◌, ◌++◌, ◌∙◌, slice_get, length, take, drop, take_all, refl, sym, ap, subst, arith, length-append, inl, inr, if◌then◌else◌, true≢false}
 use Rattle.std.specs.Prelude.{Result, Ok, Err, IfOk, IfErr, OnErr}
 use Rattle.std.specs.Result.{IsErr, is_err, result_transpose}
 use Rattle.pf_base.specs.declared.error.PathError.{PathError}
 use Rattle.std.specs.Cmp.{IsEquivalence}
-use Rattle.std.specs.Fn.{Mut}
-use Rattle.std.specs.Iterator.{Count}
 use Rattle.std.specs.List.{IsDistinct, list_any}
 use Rattle.indexmap.specs.IndexSet.{insert_all}
 use Rattle.std.proofs.lemmas.List.{take-append-drop, length-take}
 use Rattle.std.proofs.lemmas.Option.{slice_get_within}
-use Rattle.pf_base.specs.Answers.{SameNodes, AnswersSuccessors}
+use Rattle.pf_base.specs.Answers.{SameNodes}
 use Rattle.pf_base.specs.Orders.{found_from, IsNextInBreadth, IsBreadthOrder, AllGiven}
 use Rattle.pf_base.proofs.Callers.{SameNodes-refl}
 use Rattle.pf_core.specs.Hops.{unit_edges}
 use Rattle.pf_core.specs.Numbered.{Grows, NumbersInOrder}
 use Rattle.pf_core.specs.NodeLaws.{StandsFor-one}
+use Rattle.pf_core.specs.Sources.{AnswersHops}
 use Rattle.pf_core.specs.Nodes.{NodeGraph, StandsFor, Explores, ends_of}
 use Rattle.pf_core.proofs.ListLemmas.{take_get, get_take, bool_dec}
-use Rattle.pf_core.proofs.NodeLemmas.{eq-sym, eq-trans, Answers-weaker, Gives-weaker}
+use Rattle.pf_core.proofs.NodeLemmas.{eq-sym, eq-trans}
 use Rattle.pf_core.proofs.OrderLemmas.{Same-trans}
-use Rattle.pf_core.proofs.UnitLemmas.{reach_edges, ones_lists, Explores-successors}
+use Rattle.pf_core.proofs.UnitLemmas.{ends_unit, reach_edges, Explores-successors, Explores-next}
 use Rattle.pf_search.specs.Breadth.{BreadthWalk, IsBreadthWalk, BreadthStep}
 use Rattle.pf_search.specs.Internal.Breadth.{BreadthTurn, walk_at, found_or, IsPlace}
 use Rattle.pf_search.proofs.BreadthLemmas.{take_more, take_take, at_node, any_at, place_of, Same-append, Same-length, Same-take, Same-drop, Same-get, Same-places, Same-sym, Same-insert_all, found-push, IsReached, found_reached, given_reached, found_same, order_push, order_same}
-
--- the nodes that follow, of a graph in which each edge costs 1
-ends_unit : {N : Type 0} (xs : List N) → map (λ (e : N × ℤ). e.0) (map (λ y. (y, pos 1)) xs) ≡ xs
-ends_unit [] = refl
-ends_unit (x ∷ xs) = ap (λ ys. x ∷ ys) (ends_unit xs)
 
 -- where a result is a refusal, nothing is said of a value
 pub no_value : {A E : Type 0} (P : A → Type 0) (r : Result A E) → IsErr r → IfOk r P
@@ -83,52 +77,46 @@ module _ {N : Type 0} (eq : N → N → Bool) (laws : IsEquivalence eq) where
       let end : SameNodes eq (take k keys ++ x ∷ []) (take (k + 1) keys) = subst (λ zs. SameNodes eq (take k keys ++ x ∷ []) zs) (sym (take_more keys k m at)) (Same-append eq (take k keys) (take k keys) (x ∷ []) (m ∷ []) (SameNodes-refl eq laws.refl (take k keys)) (eq-sym eq laws m x e, tt)) in
       Same-sym eq laws (take k keys ++ x ∷ []) (take (k + 1) keys') (Same-trans eq laws (take k keys ++ x ∷ []) (take (k + 1) keys) (take (k + 1) keys') end same)
 
-  module _ {F I S : Type 0} (becomes : I → S → Type 0) (can : S → Type 0) (left : S → Count) (steps : S → Option N → S → Type 0) (calls : Mut F (Bor N × Unit {0}) I) (next : N → List N) (start : N) where
+  module _ {F : Type 0} (answers : F → (N → Type 0) → (N → List N) → Type 0) (next : N → List N) (start : N) where
     -- what stays of a walk's nodes, whether they were given or not
     abbrev IsWalk : List N → ℕ → F → Type 0
-    IsWalk keys k f = IsBreadthWalk eq (AnswersSuccessors calls becomes can left steps eq) next start (walk_at keys k false f)
+    IsWalk keys k f = IsBreadthWalk eq answers next start (walk_at keys k false f)
 
     found_of : (keys : List N) (k : ℕ) (f : F) → IsWalk keys k f → SameNodes eq keys (found_from eq next start (take k keys))
     found_of keys k f w = subst (λ zs. SameNodes eq zs (found_from eq next start (take k keys))) (take-append-drop k keys) w.found
 
-    walk_of : (keys : List N) (k : ℕ) (f : F) → AnswersSuccessors calls becomes can left steps eq f (IsReached eq laws next start) next → IsBreadthOrder eq next start (take k keys) → SameNodes eq keys (found_from eq next start (take k keys)) → IsWalk keys k f
+    walk_of : (keys : List N) (k : ℕ) (f : F) → answers f (IsReached eq laws next start) next → IsBreadthOrder eq next start (take k keys) → SameNodes eq keys (found_from eq next start (take k keys)) → IsWalk keys k f
     walk_of keys k f a o s = record { answered = a; ordered = o; found = subst (λ zs. SameNodes eq zs (found_from eq next start (take k keys))) (sym (take-append-drop k keys)) s }
 
     abbrev graph : NodeGraph N
     graph = record { starts = start ∷ []; edges = unit_edges next }
 
     abbrev Discovers : List N → F → Type 0
-    Discovers = Explores eq pos (λ y. (y, 1)) becomes can left steps calls graph
+    Discovers keys f = Explores eq (AnswersHops eq answers) graph keys (record { function = f })
+
+    abbrev Alike : Type 0
+    Alike = (x y : N) → IsReached eq laws next start x → eq x y ≡ true → SameNodes eq (next x) (next y)
 
     -- a discovery that holds the nodes of a walk explores the walk's graph
-    pub walk_explores : (keys : List N) (k : ℕ) (f : F) → IsDistinct eq keys → IsWalk keys k f → Discovers keys f
-    walk_explores keys k f d w =
-        let a = w.answered in
-        let first = Explores-successors eq laws becomes can left steps calls (start ∷ []) (start ∷ []) next f (alone start) (λ x. (λ h. h, λ h. h)) a in
-        let reached = given_reached eq laws next start a.alike (take k keys) w.ordered in
+    pub walk_explores : (keys : List N) (k : ℕ) (f : F) → Alike → IsDistinct eq keys → IsWalk keys k f → Discovers keys f
+    walk_explores keys k f alike d w =
+        let first = Explores-successors eq laws answers (start ∷ []) (start ∷ []) next f (alone start) (λ x. (λ h. h, λ h. h)) alike w.answered in
+        let reached = given_reached eq laws next start alike (take k keys) w.ordered in
         record {
           alike = first.alike;
-          answers = first.answers;
+          answered = first.answered;
           distinct = d;
           reached = λ j x h.
               let y = Same-get eq keys (found_from eq next start (take k keys)) j x (found_of keys k f w) h in
-              reach_edges eq next (start ∷ []) x (found_reached eq laws next start a.alike (take k keys) reached x (at_node eq (found_from eq next start (take k keys)) j y.0 x y.1 (eq-sym eq laws x y.0 y.2)));
+              reach_edges eq next (start ∷ []) x (found_reached eq laws next start alike (take k keys) reached x (at_node eq (found_from eq next start (take k keys)) j y.0 x y.1 (eq-sym eq laws x y.0 y.2)));
         }
 
-    -- what it says of the function
-    answered_of : (keys : List N) (f : F) (alike : (x y : N) → IsReached eq laws next start x → eq x y ≡ true → SameNodes eq (next x) (next y)) → Discovers keys f → AnswersSuccessors calls becomes can left steps eq f (IsReached eq laws next start) next
-    answered_of keys f alike x = record {
-      alike = alike;
-      answers = Answers-weaker calls _ _ (reach_edges eq next (start ∷ [])) _ _ (λ y r g. Gives-weaker becomes can left steps _ _ (λ xs h. ones_lists eq xs (next y) h) r g) f x.answers;
-    }
-
     -- nothing was numbered
-    pub walk_stays : (keys keys' : List N) (k : ℕ) (f f' : F) → IsWalk keys k f → Discovers keys' f' → SameNodes eq keys keys' → IsWalk keys' k f'
-    walk_stays keys keys' k f f' w x s =
-        let alike = w.answered.alike in
+    pub walk_stays : (keys keys' : List N) (k : ℕ) (f f' : F) → Alike → IsWalk keys k f → Discovers keys' f' → SameNodes eq keys keys' → IsWalk keys' k f'
+    walk_stays keys keys' k f f' alike w x s =
         let t = Same-take eq k keys keys' s in
         let reached = given_reached eq laws next start alike (take k keys) w.ordered in
-        walk_of keys' k f' (answered_of keys' f' alike x) (order_same eq laws next start alike (take k keys) (take k keys') t w.ordered)
+        walk_of keys' k f' (Explores-next eq laws answers (start ∷ []) keys' next (record { function = f' }) x) (order_same eq laws next start alike (take k keys) (take k keys') t w.ordered)
         (Same-trans eq laws keys' keys _ (Same-sym eq laws keys keys' s) (Same-trans eq laws keys _ _ (found_of keys k f w) (found_same eq laws next start alike (take k keys) (take k keys') reached t)))
 
     -- the node at place k is the next in breadth order
@@ -139,10 +127,9 @@ module _ {N : Type 0} (eq : N → N → Bool) (laws : IsEquivalence eq) where
         (y.0, subst (λ n. slice_get (found_from eq next start (take k keys)) n ≡ Some y.0) (sym long) y.1, eq-trans eq laws y.0 m x (eq-sym eq laws m y.0 y.2) e)
 
     -- the successors of the node at place k were numbered
-    pub walk_goes : (keys keys' : List N) (k : ℕ) (f f' : F) (m : N) → IsWalk keys k f → Discovers keys' f' → slice_get keys k ≡ Some m → Grows (length keys) (length keys') (StandsFor eq keys) (StandsFor eq keys')
+    pub walk_goes : (keys keys' : List N) (k : ℕ) (f f' : F) (m : N) → Alike → IsWalk keys k f → Discovers keys' f' → slice_get keys k ≡ Some m → Grows (length keys) (length keys') (StandsFor eq keys) (StandsFor eq keys')
         → NumbersInOrder (StandsFor eq keys') (length keys) (ends_of graph.edges m) (length keys') → IsWalk keys' (k + 1) f'
-    walk_goes keys keys' k f f' m w x at g o =
-        let alike = w.answered.alike in
+    walk_goes keys keys' k f f' m alike w x at g o =
         let given = take k keys in
         let given' = take (k + 1) keys' in
         let kept = kept_places keys keys' g in
@@ -152,36 +139,36 @@ module _ {N : Type 0} (eq : N → N → Bool) (laws : IsEquivalence eq) where
         let put : SameNodes eq (insert_all eq keys (next m)) keys' = subst (λ zs. SameNodes eq (insert_all eq keys (next m)) zs) (take_all (length keys') keys' (omega arith)) (inserted_in_order keys' x.distinct keys (next m) (length keys) (length keys') refl kept in_order) in
         let found : SameNodes eq (insert_all eq keys (next m)) (found_from eq next start (given ++ m ∷ [])) = subst (λ zs. SameNodes eq (insert_all eq keys (next m)) zs) (sym (found-push eq laws next start given m)) (Same-insert_all eq laws keys (found_from eq next start given) (next m) (next m) (found_of keys k f w) (SameNodes-refl eq laws.refl (next m))) in
         let moved = found_same eq laws next start alike (given ++ m ∷ []) given' (given_reached eq laws next start alike (given ++ m ∷ []) order) more in
-        walk_of keys' (k + 1) f' (answered_of keys' f' alike x) (order_same eq laws next start alike (given ++ m ∷ []) given' more order)
+        walk_of keys' (k + 1) f' (Explores-next eq laws answers (start ∷ []) keys' next (record { function = f' }) x) (order_same eq laws next start alike (given ++ m ∷ []) given' more order)
         (Same-trans eq laws keys' (insert_all eq keys (next m)) _ (Same-sym eq laws (insert_all eq keys (next m)) keys' put) (Same-trans eq laws (insert_all eq keys (next m)) (found_from eq next start (given ++ m ∷ [])) _ found moved))
 
     -- all that was found was given where no node waits, and nowhere else
-    pub none_waits : (keys : List N) (k : ℕ) (b : Bool) (f : F) → IsBreadthWalk eq (AnswersSuccessors calls becomes can left steps eq) next start (walk_at keys k b f) → length keys ≤ k → AllGiven eq next start (take k keys)
+    pub none_waits : (keys : List N) (k : ℕ) (b : Bool) (f : F) → IsBreadthWalk eq answers next start (walk_at keys k b f) → length keys ≤ k → AllGiven eq next start (take k keys)
     none_waits keys k b f w l =
         let same = Same-length eq (take k keys ++ drop k keys) (found_from eq next start (take k keys)) w.found in
         let all = ap length (take-append-drop k keys) in
         omega (arith, same, all, l, length-take k keys)
 
-    some_waits : (keys : List N) (k : ℕ) (b : Bool) (f : F) → IsBreadthWalk eq (AnswersSuccessors calls becomes can left steps eq) next start (walk_at keys k b f) → k < length keys → ¬ (AllGiven eq next start (take k keys))
+    some_waits : (keys : List N) (k : ℕ) (b : Bool) (f : F) → IsBreadthWalk eq answers next start (walk_at keys k b f) → k < length keys → ¬ (AllGiven eq next start (take k keys))
     some_waits keys k b f w l all =
         let same = Same-length eq (take k keys ++ drop k keys) (found_from eq next start (take k keys)) w.found in
         let sum = ap length (take-append-drop k keys) in
         omega (arith, same, sum, l, all, length-take k keys)
 
     -- the mark of a refusal is no part of what a walk is
-    pub marked : (keys : List N) (k : ℕ) (b b' : Bool) (f : F) → IsBreadthWalk eq (AnswersSuccessors calls becomes can left steps eq) next start (walk_at keys k b f) → IsBreadthWalk eq (AnswersSuccessors calls becomes can left steps eq) next start (walk_at keys k b' f)
+    pub marked : (keys : List N) (k : ℕ) (b b' : Bool) (f : F) → IsBreadthWalk eq answers next start (walk_at keys k b f) → IsBreadthWalk eq answers next start (walk_at keys k b' f)
     marked keys k b b' f w = record { answered = w.answered; ordered = w.ordered; found = w.found }
 
     -- a step was refused
     pub turn_refused : (keys keys' : List N) (k : ℕ) (b : Bool) (f f' : F) (r : Result (Option N) PathError) → k < length keys → IsErr r → SameNodes eq keys' keys
-        → IsBreadthWalk eq (AnswersSuccessors calls becomes can left steps eq) next start (walk_at keys k b f) → BreadthTurn eq next start (walk_at keys k b f) r (walk_at keys' k b f')
+        → IsBreadthWalk eq answers next start (walk_at keys k b f) → BreadthTurn eq next start (walk_at keys k b f) r (walk_at keys' k b f')
     turn_refused keys keys' k b f f' (Ok x) l h s w = absurd (true≢false (sym h))
     turn_refused keys keys' k b f f' (Err e) l h s w = (some_waits keys k b f w l, Same-take eq k keys' keys s, Same-drop eq k keys' keys s)
 
     -- a call of `next` is a step, which marks a refusal
     pub step_of : (s : BreadthWalk N F) (keys : List N) (k : ℕ) (b : Bool) (f : F) (r : Result (Option N) PathError) → s.refused ≡ false → b ≡ s.refused → IfErr r (λ e. e ≡ PathError.OutOfMemory)
-        → IsBreadthWalk eq (AnswersSuccessors calls becomes can left steps eq) next start (walk_at keys k b f) × BreadthTurn eq next start s r (walk_at keys k b f)
-        → IsBreadthWalk eq (AnswersSuccessors calls becomes can left steps eq) next start (walk_at keys k (is_err r) f) × BreadthStep eq next start s (result_transpose r) (walk_at keys k (is_err r) f)
+        → IsBreadthWalk eq answers next start (walk_at keys k b f) × BreadthTurn eq next start s r (walk_at keys k b f)
+        → IsBreadthWalk eq answers next start (walk_at keys k (is_err r) f) × BreadthStep eq next start s (result_transpose r) (walk_at keys k (is_err r) f)
     step_of s keys k b f (Ok (Some x)) h m e (w, t) = (marked keys k b false f w, (h, refl, t.0, t.1))
     step_of s keys k b f (Ok None) h m e (w, t) = (marked keys k b false f w, (inr t.0, subst (λ (c : Bool). walk_at keys k c f ≡ s) (m ∙ h) t.1))
     step_of s keys k b f (Err x) h m e (w, t) = (marked keys k b true f w, (e, h, refl, t.0, t.1, t.2))

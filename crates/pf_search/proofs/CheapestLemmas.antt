@@ -1,11 +1,9 @@
 -- Lemmas on walks by rising cost: what a search says of the nodes that were given, and what a turn gives.
-use Rattle.std.proofs.Common.{◌≡◌, ℕ, ◌<◌, Bool, true, false, Option, Some, None, List, [], ◌∷◌, ◌++◌, ◌∙◌, length, refl, sym, ap, subst, arith, inl, inr, ℤ, pos, Bor, true≢false, nat_eq, eq-eqb}
+use Rattle.std.proofs.Common.{◌≡◌, ℕ, ◌<◌, Bool, true, false, Option, Some, None, List, [], ◌∷◌, ◌++◌, ◌∙◌, length, refl, sym, ap, subst, arith, inl, inr, ℤ, pos, true≢false, nat_eq, eq-eqb}
 use Rattle.std.specs.Prelude.{◌⊎◌, ◌↔◌, ◌≤ℤ◌, ◌+ℤ◌, Result, Ok, Err, MatchOption, reverse}
 use Rattle.std.specs.Result.{IsErrAnd, is_err, result_transpose}
 use borrow.Author.Tests.{eqb-true}
 use Rattle.std.specs.Cmp.{IsEquivalence}
-use Rattle.std.specs.Fn.{Mut}
-use Rattle.std.specs.Iterator.{Count}
 use Rattle.std.proofs.lemmas.Int.{ints}
 use Rattle.pf_base.specs.declared.error.PathError.{PathError}
 use Rattle.pf_base.specs.Answers.{SameNodes}
@@ -15,6 +13,7 @@ use Rattle.pf_core.specs.declared.labels.Label.{Label}
 use Rattle.pf_core.specs.Labels.{Labels, HasLabel, by_cost, IsTree, AllSettled}
 use Rattle.pf_core.specs.Numbered.{Grows}
 use Rattle.pf_core.specs.Steps.{IsNonNegative}
+use Rattle.pf_core.specs.Sources.{AnswersEdges}
 use Rattle.pf_core.specs.Nodes.{NodeGraph, StandsFor, IsStep, Explores}
 use Rattle.pf_core.specs.NodeLaws.{StandsFor-one, StandsFor-inside}
 use Rattle.pf_core.specs.Search.{IsLeast, IsFirst, IsSearch, Turned, StandsRoot, HasDearStep, IsWithinRange, SettledAt, WaitingAt}
@@ -36,7 +35,7 @@ module _ {N : Type 0} (eq : N → N → Bool) (laws : IsEquivalence eq) where
       let f : a.0 ≡ b.0 = cc in
       eq-trans eq laws x a.0 y (eq-sym eq laws a.0 x a.2) (subst (λ m. eq m y ≡ true) (sym f) b.2)
 
-  module _ {C F I S : Type 0} (value : C → ℤ) (becomes : I → S → Type 0) (can : S → Type 0) (left : S → Count) (next : S → Option (N × C) → S → Type 0) (calls : Mut F (Bor N × Unit {0}) I) (edges : N → List (N × ℤ)) (start : N) where
+  module _ {C F : Type 0} (value : C → ℤ) (answers : F → (N → Type 0) → (N → List (N × ℤ)) → Type 0) (edges : N → List (N × ℤ)) (start : N) where
     abbrev graph : NodeGraph N
     graph = record { starts = start ∷ []; edges = edges }
 
@@ -46,11 +45,8 @@ module _ {N : Type 0} (eq : N → N → Bool) (laws : IsEquivalence eq) where
     abbrev root : ℕ → Bool
     root k = nat_eq k 0
 
-    abbrev Discovers : NodeGraph N → List N → F → Type 0
-    Discovers = Explores eq value (λ e. e) becomes can left next calls
-
     abbrev pub IsOne : CheapestWalk N C F → Type 0
-    IsOne walk = IsCheapestWalk eq value edges start Discovers walk
+    IsOne walk = IsCheapestWalk eq value edges start answers walk
 
     -- a step of a walk that is this one, after which it is another that is this one
     pub turn_seen : (fits : ℤ → Type 0) (s w t u : CheapestWalk N C F) (r : Result (Option (DijkstraReachableItem N C)) PathError) → s ≡ w → u ≡ t → IsOne t × CheapestTurn eq value edges start fits s r t → IsOne u × CheapestTurn eq value edges start fits w r u
@@ -209,7 +205,7 @@ module _ {N : Type 0} (eq : N → N → Bool) (laws : IsEquivalence eq) where
       pub ended_bar : (fits : ℤ → Type 0) → AllSettled s.labels → ¬ (IsBarred eq value edges start fits s)
       ended_bar fits settled b = true≢false (sym (settled b.number b.label b.least.at) ∙ b.least.opened)
 
-      module _ (wide : length s.labels ≡ length s.nodes) (t : CheapestWalk N C F) (grows : Grows (length s.nodes) (length t.nodes) (StandsFor eq s.nodes) (StandsFor eq t.nodes)) (explored : Discovers graph t.nodes t.successors) where
+      module _ (wide : length s.labels ≡ length s.nodes) (t : CheapestWalk N C F) (grows : Grows (length s.nodes) (length t.nodes) (StandsFor eq s.nodes) (StandsFor eq t.nodes)) (explored : Explores eq (AnswersEdges eq answers) graph t.nodes (record { function = t.successors })) where
         within : (j : ℕ) (m : Label C) → HasLabel s.labels j m → j < length s.nodes
         within j m h = omega (arith, HasLabel-inside s.labels j m h, wide)
 

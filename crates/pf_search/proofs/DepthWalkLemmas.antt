@@ -2,9 +2,6 @@
 use Rattle.std.proofs.Common.{◌≡◌, ℕ, zero, suc, ◌<◌, ◌≤◌, ◌+◌, ◌-◌, Bool, true, false, Option, Some, List, [], ◌∷◌, ◌++◌, ◌∙◌, length, length-append, take, take_all, reverse, refl, sym, ap, subst, arith, inl, inr, ℤ, pos, map}
 use Rattle.std.specs.Prelude.{◌⊎◌, ◌↔◌, Contains, Result, Ok, Err, None, IsErr, IfErr, is_err, slice_get}
 use Rattle.std.specs.Result.{result_transpose}
-use Rattle.std.specs.Borrow.{Bor}
-use Rattle.std.specs.Fn.{Mut}
-use Rattle.std.specs.Iterator.{Count}
 use Rattle.std.specs.Cmp.{IsEquivalence}
 use Rattle.std.specs.List.{AllZip, AllByRecursion, IsDistinct}
 use Rattle.indexmap.specs.IndexSet.{insert_all}
@@ -12,7 +9,7 @@ use Rattle.std.proofs.lemmas.List.Elements.{Contains-append_left, Contains-appen
 use Rattle.std.proofs.lemmas.List.{append_assoc, reverse-append, reverse-reverse, length-reverse}
 use Rattle.pf_base.specs.Walks.{HasNode, end_of, IsReachable}
 use Rattle.pf_base.specs.Successors.{HasSuccessor}
-use Rattle.pf_base.specs.Answers.{SameNodes, AnswersSuccessors}
+use Rattle.pf_base.specs.Answers.{SameNodes}
 use Rattle.pf_base.specs.declared.error.PathError.{PathError}
 use Rattle.pf_base.proofs.Callers.{SameNodes-refl}
 use Rattle.pf_base.specs.Orders.{found_from, last_nodes, IsNextPath, IsNextTreePath, IsWholePreorder}
@@ -21,6 +18,7 @@ use Rattle.pf_core.specs.DepthFirst.{IsVisited, IsNextBranch, branches_at, AreVi
 use Rattle.pf_core.specs.NodeLaws.{StandsFor-inside, StandsFor-one}
 use Rattle.pf_core.specs.Numbered.{Grows, NumbersInOrder}
 use Rattle.pf_core.specs.Nodes.{StandsFor, Explores, ends_of}
+use Rattle.pf_core.specs.Sources.{AnswersHops}
 use Rattle.pf_core.specs.Hops.{unit_edges}
 use Rattle.pf_core.proofs.DepthFirstLemmas.{IsSpent, drop_passed, all_spent, way_on, visit_pending, pending_stays, cut_path}
 use Rattle.pf_core.proofs.NodeLemmas.{eq-sym, eq-trans, StandsFor-same}
@@ -345,34 +343,34 @@ module _ {N F : Type 0} (eq : N → N → Bool) (laws : IsEquivalence eq) (next 
   goes_to paths s t b h (inl n) v = begins paths s t b n.1 n.2 h n.0 v
   goes_to paths s t b h (inr n) v = goes_along paths s t n.1.0 b h n.1.1 n.2 v
 
-module _ {N F : Type 0} (eq : N → N → Bool) (laws : IsEquivalence eq) {I S : Type 0} (becomes : I → S → Type 0) (can : S → Type 0) (left : S → Count) (steps : S → Option N → S → Type 0) (calls : Mut F (Bor N × Unit {0}) I) (next : N → List N) (start : N) where
+module _ {N F : Type 0} (eq : N → N → Bool) (laws : IsEquivalence eq) (answers : F → (N → Type 0) → (N → List N) → Type 0) (next : N → List N) (start : N) where
   -- a refused step stays
-  pub err_goes : {E : Type 0} (paths : List (List N)) (t : DepthWalk N F) → ¬ (IsWholePreorder eq next paths) → IsDepthWalk eq next start becomes can left steps calls paths t → (r : Result (Option N) E) → IsErr r → DepthGoes eq next start (λ done. IsDepthWalk eq next start becomes can left steps calls done t) paths r
+  pub err_goes : {E : Type 0} (paths : List (List N)) (t : DepthWalk N F) → ¬ (IsWholePreorder eq next paths) → IsDepthWalk eq answers next start paths t → (r : Result (Option N) E) → IsErr r → DepthGoes eq next start (λ done. IsDepthWalk eq answers next start done t) paths r
   err_goes paths t n w (Ok x) h = cc
   err_goes paths t n w (Err e) h = (n, w)
 
   -- how a walk goes whose start was put in
-  pub goes_put : (paths : List (List N)) (o : Option N) (t : DepthWalk N F) (r : Result (Option N) PathError) → o ≡ None → DepthGoes eq next start (λ done. IsDepthWalk eq next start becomes can left steps calls done t) paths r
-      → DepthGoes eq next start (λ done. IsDepthWalk eq next start becomes can left steps calls done (record t { found = found_or o t.found })) paths r
-  goes_put paths o t r e h = subst (λ (q : Option N). DepthGoes eq next start (λ done. IsDepthWalk eq next start becomes can left steps calls done (record t { found = found_or q t.found })) paths r) (sym e) h
+  pub goes_put : (paths : List (List N)) (o : Option N) (t : DepthWalk N F) (r : Result (Option N) PathError) → o ≡ None → DepthGoes eq next start (λ done. IsDepthWalk eq answers next start done t) paths r
+      → DepthGoes eq next start (λ done. IsDepthWalk eq answers next start done (record t { found = found_or o t.found })) paths r
+  goes_put paths o t r e h = subst (λ (q : Option N). DepthGoes eq next start (λ done. IsDepthWalk eq answers next start done (record t { found = found_or q t.found })) paths r) (sym e) h
 
   -- what holds once the branch to take was looked up
-  pub looked : (paths : List (List N)) (s t : DepthWalk N F) (passed : List Branch) → IsDepthWalk eq next start becomes can left steps calls paths s → t.found ≡ s.found → t.given ≡ s.given → t.visited ≡ s.visited → t.path ≡ s.path → t.successors ≡ s.successors
-      → s.waiting ≡ t.waiting ++ passed → AllByRecursion (λ (b : Branch). IsVisited s.visited b.number) passed → IsDepthWalk eq next start becomes can left steps calls paths t
+  pub looked : (paths : List (List N)) (s t : DepthWalk N F) (passed : List Branch) → IsDepthWalk eq answers next start paths s → t.found ≡ s.found → t.given ≡ s.given → t.visited ≡ s.visited → t.path ≡ s.path → t.successors ≡ s.successors
+      → s.waiting ≡ t.waiting ++ passed → AllByRecursion (λ (b : Branch). IsVisited s.visited b.number) passed → IsDepthWalk eq answers next start paths t
   looked paths s t passed w f g v p e q a = record {
     stands = dropped eq laws next start paths s t passed w.stands f g v p q a;
-    explores = subst (λ l. Explores eq pos (λ y. (y, 1)) becomes can left steps calls (record { starts = start ∷ []; edges = unit_edges next }) l t.successors) (sym f)
-        (subst (λ l. Explores eq pos (λ y. (y, 1)) becomes can left steps calls (record { starts = start ∷ []; edges = unit_edges next }) s.found l) (sym e) w.explores);
+    explores = subst (λ l. Explores eq (AnswersHops eq answers) (record { starts = start ∷ []; edges = unit_edges next }) l (record { function = t.successors })) (sym f)
+        (subst (λ l. Explores eq (AnswersHops eq answers) (record { starts = start ∷ []; edges = unit_edges next }) s.found (record { function = l })) (sym e) w.explores);
   }
 
   -- where there is a branch to take, the preorder has not ended
-  pub still_goes : (paths : List (List N)) (s : DepthWalk N F) (b : Branch) → IsDepthWalk eq next start becomes can left steps calls paths s → IsNextBranch s.given s.visited s.waiting b → ¬ (IsWholePreorder eq next paths)
+  pub still_goes : (paths : List (List N)) (s : DepthWalk N F) (b : Branch) → IsDepthWalk eq answers next start paths s → IsNextBranch s.given s.visited s.waiting b → ¬ (IsWholePreorder eq next paths)
   still_goes paths s b w n = goes_further eq laws next start paths s b w.stands (λ i j x a c. StandsFor-one eq laws s.found w.explores.distinct i j x a c) n
 
-  module _ (paths : List (List N)) (s t : DepthWalk N F) (w : IsDepthWalk eq next start becomes can left steps calls paths s) (grown : Grows (length s.found) (length t.found) (StandsFor eq s.found) (StandsFor eq t.found))
-      (explores : Explores eq pos (λ y. (y, 1)) becomes can left steps calls (record { starts = start ∷ []; edges = unit_edges next }) t.found t.successors) where
+  module _ (paths : List (List N)) (s t : DepthWalk N F) (w : IsDepthWalk eq answers next start paths s) (grown : Grows (length s.found) (length t.found) (StandsFor eq s.found) (StandsFor eq t.found))
+      (explores : Explores eq (AnswersHops eq answers) (record { starts = start ∷ []; edges = unit_edges next }) t.found (record { function = t.successors })) where
     -- a refused visit leaves the walk where it is
-    pub refused_visit : length t.found ≡ length s.found → t.given ≡ s.given → t.path ≡ s.path → t.waiting ≡ s.waiting → ((k : ℕ) → IsVisited t.visited k ↔ IsVisited s.visited k) → IsDepthWalk eq next start becomes can left steps calls paths t
+    pub refused_visit : length t.found ≡ length s.found → t.given ≡ s.given → t.path ≡ s.path → t.waiting ≡ s.waiting → ((k : ℕ) → IsVisited t.visited k ↔ IsVisited s.visited k) → IsDepthWalk eq answers next start paths t
     refused_visit l g p q v = record { stands = stays_put eq laws next start paths s t w.stands g p q v grown.stays grown.back (kept_all eq laws s.found t.found grown l); explores = explores }
 
     -- a visit goes along the next tree path
@@ -380,7 +378,7 @@ module _ {N F : Type 0} (eq : N → N → Bool) (laws : IsEquivalence eq) {I S :
         → (numbers : List ℕ) → t.waiting ≡ s.waiting ++ branches_at (length t.path) (reverse numbers) → ((x : N) → StandsFor eq s.found b.number x → AllZip (StandsFor eq t.found) numbers (ends_of (unit_edges next) x))
         → ((x : N) → StandsFor eq s.found b.number x → NumbersInOrder (StandsFor eq t.found) (length s.found) (ends_of (unit_edges next) x) (length t.found))
         → slice_get s.found b.number ≡ Some at → eq at node ≡ true
-        → (path : List N) × IsNextTreePath eq next start (last_nodes paths) (end_of [] paths) path × SameNodes eq (last_nodes (path ∷ [])) (node ∷ []) × IsDepthWalk eq next start becomes can left steps calls (paths ++ path ∷ []) t
+        → (path : List N) × IsNextTreePath eq next start (last_nodes paths) (end_of [] paths) path × SameNodes eq (last_nodes (path ∷ [])) (node ∷ []) × IsDepthWalk eq answers next start (paths ++ path ∷ []) t
     visited_node b node at n g v p numbers q l o here e =
         let r = goes_to eq laws next start paths s t b w.stands n (record {
           stays = grown.stays;
@@ -404,7 +402,7 @@ module _ {N F : Type 0} (eq : N → N → Bool) (laws : IsEquivalence eq) {I S :
         )
 
   -- the mark of a refusal says nothing of where the walk stands
-  pub marked : (paths : List (List N)) (m : DepthWalk N F) (b : Bool) → IsDepthWalk eq next start becomes can left steps calls paths m → IsDepthWalk eq next start becomes can left steps calls paths (record m { refused = b })
+  pub marked : (paths : List (List N)) (m : DepthWalk N F) (b : Bool) → IsDepthWalk eq answers next start paths m → IsDepthWalk eq answers next start paths (record m { refused = b })
   marked paths m b w =
       let h = w.stands in
       record { stands = record { preorder = h.preorder; count = h.count; found = h.found; first = h.first; seen = h.seen; given = h.given; path = h.path; pending = h.pending }; explores = w.explores }
@@ -413,22 +411,22 @@ module _ {N F : Type 0} (eq : N → N → Bool) (laws : IsEquivalence eq) {I S :
   pub same_place : (paths : List (List N)) (s t : DepthWalk N F) → StandsAt eq next start paths s → StandsAt eq next start paths t → (t.given ≡ s.given) × SameNodes eq t.found s.found
   same_place paths s t h k = (k.count ∙ sym h.count, Same-trans eq laws t.found (found_from eq next start (last_nodes paths)) s.found k.found (Same-sym eq laws s.found (found_from eq next start (last_nodes paths)) h.found))
 
-  pub step_of : (paths : List (List N)) (s m : DepthWalk N F) (r : Result (Option N) PathError) → IsDepthWalk eq next start becomes can left steps calls paths s → IfErr r (λ e. e ≡ PathError.OutOfMemory) → s.refused ≡ false → DepthGoes eq next start (λ done. IsDepthWalk eq next start becomes can left steps calls done m) paths r
-      → DepthStep eq next start (λ done w. IsDepthWalk eq next start becomes can left steps calls done w) paths s (result_transpose r) (record m { refused = is_err r })
+  pub step_of : (paths : List (List N)) (s m : DepthWalk N F) (r : Result (Option N) PathError) → IsDepthWalk eq answers next start paths s → IfErr r (λ e. e ≡ PathError.OutOfMemory) → s.refused ≡ false → DepthGoes eq next start (λ done. IsDepthWalk eq answers next start done m) paths r
+      → DepthStep eq next start (λ done w. IsDepthWalk eq answers next start done w) paths s (result_transpose r) (record m { refused = is_err r })
   step_of paths s m (Ok (Some node)) w o h d = (h, refl, (d.0, d.1, d.2, marked (paths ++ d.0 ∷ []) m false d.3))
   step_of paths s m (Ok None) w o h d = (sym h, marked paths m false d.1, inr d.0)
   step_of paths s m (Err e) w o h d = let q = same_place paths s m w.stands d.1.stands in (o, h, refl, d.0, q.0, q.1, marked paths m true d.1)
 
   -- some tree paths are those that the walk has gone along
-  pub goes_again : (paths : List (List N)) (s t : DepthWalk N F) (r : Option (Result N PathError)) → DepthStep eq next start (λ done w. IsDepthWalk eq next start becomes can left steps calls done w) paths s r t → (done : List (List N)) × IsDepthWalk eq next start becomes can left steps calls done t
+  pub goes_again : (paths : List (List N)) (s t : DepthWalk N F) (r : Option (Result N PathError)) → DepthStep eq next start (λ done w. IsDepthWalk eq answers next start done w) paths s r t → (done : List (List N)) × IsDepthWalk eq answers next start done t
   goes_again paths s t None d = (paths, d.1)
   goes_again paths s t (Some (Ok node)) d = (paths ++ d.2.0 ∷ [], d.2.3)
   goes_again paths s t (Some (Err e)) d = (paths, d.6)
 
   -- a walk begins with no tree path
-  pub begun : (s : DepthWalk N F) → s.found ≡ start ∷ [] → s.given ≡ 0 → s.visited ≡ [] → s.path ≡ [] → s.waiting ≡ [] → AnswersSuccessors calls becomes can left steps eq s.successors (IsReachable eq (HasSuccessor eq next) (start ∷ [])) next
-      → IsDepthWalk eq next start becomes can left steps calls [] s
-  begun s f g v p w a = record {
+  pub begun : (s : DepthWalk N F) → s.found ≡ start ∷ [] → s.given ≡ 0 → s.visited ≡ [] → s.path ≡ [] → s.waiting ≡ [] → ((x y : N) → IsReachable eq (HasSuccessor eq next) (start ∷ []) x → eq x y ≡ true → SameNodes eq (next x) (next y)) → answers s.successors (IsReachable eq (HasSuccessor eq next) (start ∷ [])) next
+      → IsDepthWalk eq answers next start [] s
+  begun s f g v p w alike a = record {
     stands = record {
       preorder = tt;
       count = g;
@@ -439,8 +437,8 @@ module _ {N F : Type 0} (eq : N → N → Bool) (laws : IsEquivalence eq) {I S :
       path = subst (λ l. AllZip (StandsFor eq s.found) l []) (sym p) tt;
       pending = subst (λ l. IsPending next (StandsFor eq s.found) (IsVisited s.visited) (reverse l) (reverse s.waiting)) (sym p) (ap reverse w);
     };
-    explores = subst (λ l. Explores eq pos (λ y. (y, 1)) becomes can left steps calls (record { starts = start ∷ []; edges = unit_edges next }) l s.successors) (sym f)
-        (Explores-successors eq laws becomes can left steps calls (start ∷ []) (start ∷ []) next s.successors (alone eq start) (λ x. ((λ h. h), (λ h. h))) a);
+    explores = subst (λ l. Explores eq (AnswersHops eq answers) (record { starts = start ∷ []; edges = unit_edges next }) l (record { function = s.successors })) (sym f)
+        (Explores-successors eq laws answers (start ∷ []) (start ∷ []) next s.successors (alone eq start) (λ x. ((λ h. h), (λ h. h))) alike a);
   }
     where
       none : (k : ℕ) → IsVisited [] k → ⊥

@@ -1,9 +1,8 @@
 -- Each item that a lazy walk gives leaves fewer to come.
-use Rattle.std.proofs.Common.{◌≡◌, ℕ, ◌+◌, ◌<◌, ◌^◌, Bool, true, false, Option, Some, None, List, [], ◌∷◌, ◌++◌, length, length-append, sym, arith, true≢false, ℤ, Bor}
+use Rattle.std.proofs.Common.{◌≡◌, ℕ, ◌+◌, ◌<◌, ◌^◌, Bool, true, false, Option, Some, None, List, [], ◌∷◌, ◌++◌, length, length-append, sym, arith, true≢false, ℤ}
 use Rattle.std.specs.Prelude.{Result, Ok, Err, IfOk, IfSome, ⊤}
 use Rattle.std.specs.Result.{result_transpose}
-use Rattle.std.specs.Fn.{Mut}
-use Rattle.std.specs.Iterator.{Count, MakesProgress, at_most}
+use Rattle.std.specs.Iterator.{MakesProgress, at_most}
 use Rattle.std.proofs.lemmas.List.Sums.{count_by-le-length}
 use Rattle.pf_base.specs.declared.error.PathError.{PathError}
 use Rattle.pf_search.specs.declared.directed.cheapest_first.DijkstraReachableItem.{DijkstraReachableItem}
@@ -49,9 +48,9 @@ module _ {N F : Type 0} (eq : N → N → Bool) (next : N → List N) (start : N
   breadth_counts s (Some (Ok x)) t h few = (h.0, h.1, omega (arith, Same-length eq t.given (s.given ++ x ∷ []) h.3, length-append s.given (x ∷ [])), few)
   breadth_counts s (Some (Err e)) t h few = (h.1, h.2)
 
-  module _ {I S : Type 0} (becomes : I → S → Type 0) (can : S → Type 0) (left : S → Count) (steps : S → Option N → S → Type 0) (calls : Mut F (Bor N × Unit {0}) I) where
-    pub depth_counts : (paths : List (List N)) (s : DepthWalk N F) (r : Option (Result N PathError)) (t : DepthWalk N F) → IsDepthWalk eq next start becomes can left steps calls paths s
-        → DepthStep eq next start (λ done w. IsDepthWalk eq next start becomes can left steps calls done w) paths s r t → t.given < 2 ^ 63 → Counts (λ (w : DepthWalk N F). w.given) (λ (w : DepthWalk N F). w.refused) s r t
+  module _ (answers : F → (N → Type 0) → (N → List N) → Type 0) where
+    pub depth_counts : (paths : List (List N)) (s : DepthWalk N F) (r : Option (Result N PathError)) (t : DepthWalk N F) → IsDepthWalk eq answers next start paths s
+        → DepthStep eq next start (λ done w. IsDepthWalk eq answers next start done w) paths s r t → t.given < 2 ^ 63 → Counts (λ (w : DepthWalk N F). w.given) (λ (w : DepthWalk N F). w.refused) s r t
     depth_counts paths s None t w h few = tt
     depth_counts paths s (Some (Ok x)) t w h few =
         let g = h.2 in

@@ -1,16 +1,12 @@
 -- A walk gives no more nodes than there are in reach.
-use Rattle.std.proofs.Common.{◌≡◌, ℕ, ◌≤◌, suc, Bool, List, [], ◌∷◌, ◌++◌, length, refl, ap, arith, ℤ, Bor}
+use Rattle.std.proofs.Common.{◌≡◌, ℕ, ◌≤◌, suc, Bool, List, [], ◌∷◌, ◌++◌, length, refl, ap, arith, ℤ}
 use Rattle.std.specs.Cmp.{IsEquivalence}
 use Rattle.std.proofs.lemmas.List.Sums.{count_by-le-length}
-use Rattle.std.specs.Fn.{Mut}
-use Rattle.std.specs.Iterator.{Count}
-use Rattle.std.specs.Prelude.{Option}
 use Rattle.pf_base.specs.Walks.{HasNode, NoRepeats, IsAtMostNumberOf}
 use Rattle.pf_base.specs.Edges.{InReach}
 use Rattle.pf_base.specs.Orders.{last_nodes, IsNextTreePath, GoesOnInPreorder}
 use Rattle.pf_core.specs.Labels.{is_settled, settled_count}
 use Rattle.pf_core.specs.NodeLaws.{StandsFor-one}
-use Rattle.pf_core.specs.Nodes.{Explores}
 use Rattle.pf_core.proofs.NodeLemmas.{at_most, eq-sym, InReach-same}
 use Rattle.pf_search.specs.CheapestFirst.{CheapestWalk, IsCheapestWalk, IsGiven}
 use Rattle.pf_search.proofs.BreadthLemmas.{at_node}
@@ -40,8 +36,8 @@ module _ {N : Type 0} (eq : N → N → Bool) (laws : IsEquivalence eq) where
       omega (arith, most)
 
   -- what a walk by rising cost found and gave
-  module _ {C F I S : Type 0} (value : C → ℤ) (becomes : I → S → Type 0) (can : S → Type 0) (left : S → Count) (next : S → Option (N × C) → S → Type 0) (calls : Mut F (Bor N × Unit {0}) I) (edges : N → List (N × ℤ)) (start : N)
-      (walk : CheapestWalk N C F) (w : IsCheapestWalk eq value edges start (Explores eq value (λ e. e) becomes can left next calls) walk) where
+  module _ {C F : Type 0} (value : C → ℤ) (answers : F → (N → Type 0) → (N → List (N × ℤ)) → Type 0) (edges : N → List (N × ℤ)) (start : N)
+      (walk : CheapestWalk N C F) (w : IsCheapestWalk eq value edges start answers walk) where
     pub given_reached : (x : N) (cost : C) → IsGiven eq walk x cost → InReach eq edges (start ∷ []) x
     given_reached x cost g = let here = g.2 in InReach-same eq laws edges (start ∷ []) here.0 x (w.explored.reached g.0 here.0 here.1) here.2
 

@@ -1,16 +1,13 @@
 -- Each walk to a goal holds a path to it, and paths are looked through step by step.
 use Rattle.std.proofs.Common.{◌≡◌, ℕ, zero, suc, ◌<◌, ◌≤◌, ◌+◌, ◌-◌, ◌||◌, Bool, true, false, Some, slice_get, slice_index_or, reverse, take, List, [], ◌∷◌, ◌++◌, ◌∙◌, length, length-append, refl, sym, ap, subst, arith, inl, inr, true≢false}
 use Rattle.std.specs.Prelude.{◌⊎◌, Contains, MatchBool}
-use Rattle.std.specs.Borrow.{Bor}
-use Rattle.std.specs.Fn.{Called, Mut}
 use Rattle.std.specs.Cmp.{IsEquivalence}
 use Rattle.std.specs.List.{list_any}
 use Rattle.std.proofs.lemmas.List.{append_assoc}
 use Rattle.std.proofs.lemmas.List.Elements.{Contains-append_left, Contains-push, Contains-push_cases}
 use Rattle.pf_base.specs.Walks.{HasNode, NoRepeats, Follows, end_of, IsGoalWalk, IsGoalPath, HasNoGoalWalk, IsReachable}
 use Rattle.pf_base.specs.Successors.{HasSuccessor, IsFewestEdgesGoalPath}
-use Rattle.pf_base.specs.Answers.{SameNodes, AnswersTest}
-use Rattle.pf_base.proofs.Asking.{Answers-gives, Answers-on}
+use Rattle.pf_base.specs.Answers.{SameNodes}
 use Rattle.pf_core.proofs.ListLemmas.{or_left, or_right, or_cases, at_place, Contains-head, Contains-tail, Contains-cases, reverse-cons, Contains-reverse}
 use Rattle.pf_core.proofs.PathLemmas.{NoRepeats-append}
 use Rattle.pf_search.specs.Internal.Deepening.{IsPathFrom, FollowsEnd, NoGoalBeyond, Deepens}
@@ -350,11 +347,6 @@ module _ {N : Type 0} (eq : N → N → Bool) (laws : IsEquivalence eq) (next : 
 pub last_at : {N : Type 0} (eq : N → N → Bool) (next : N → List N) (starts : List N) (p : List N) (n : ℕ) (here : N) → IsPathFrom eq next starts p → n ≡ length p → here ≡ slice_index_or p (n - 1) here → slice_get p (length p - 1) ≡ Some here
 last_at eq next starts [] n here g l e = absurd g.goes.walks
 last_at eq next starts (a ∷ v) n here g l e = subst (λ k. slice_get (a ∷ v) (k - 1) ≡ Some here) l (at_place (a ∷ v) (n - 1) here here (omega (arith, l)) (sym e))
-
--- what is known of a test after a call
-module _ {F N : Type 0} (calls : Mut F (Bor N × Unit {0}) Bool) (eq : N → N → Bool) (within : N → Type 0) (test : N → Bool) where
-  pub test_on : (f f' : F) (x : Bor N) (r : Bool) → AnswersTest calls eq f within test → within x.now → Called calls f (x, tt) r f' → AnswersTest calls eq f' within test × (r ≡ test x.now)
-  test_on f f' x r a w called = (record { alike = a.alike; answers = Answers-on calls within _ a.answers x w r f' called }, Answers-gives calls within _ a.answers x w r f' called)
 
 -- a list without the element that was put at its end
 module _ {N : Type 0} (eq : N → N → Bool) (next : N → List N) (starts : List N) (test : N → Bool) (steps : ℕ) where

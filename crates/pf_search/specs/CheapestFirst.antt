@@ -6,7 +6,8 @@ use Rattle.pf_base.specs.Answers.{SameNodes}
 use Rattle.pf_base.specs.Edges.{InReach, StepCosts, HasNoNegativeCost, NoGoalWalkCostsLess, IsCheapestGoalPath}
 use Rattle.pf_core.specs.declared.labels.Label.{Label}
 use Rattle.pf_core.specs.Labels.{Labels, HasLabel, by_cost}
-use Rattle.pf_core.specs.Nodes.{NodeGraph, StandsFor, IsStep}
+use Rattle.pf_core.specs.Nodes.{StandsFor, IsStep, Explores}
+use Rattle.pf_core.specs.Sources.{AnswersEdges}
 use Rattle.pf_core.specs.Search.{IsLeast, IsFirst, IsSearch, HasBarredStep}
 use Rattle.pf_search.specs.declared.directed.cheapest_first.DijkstraReachableItem.{DijkstraReachableItem}
 
@@ -43,8 +44,8 @@ module _ {N C F : Type 0} (eq : N → N → Bool) where
 
   module _ (value : C → ℤ) (edges : N → List (N × ℤ)) (start : N) where
     -- The walk is one of this graph from this start: its function answers the graph in reach, where no edge costs less than 0, the start was found first, each found node has a place for a label, and the labels are those of a search by rising cost from the start.
-    pub record IsCheapestWalk (explores : NodeGraph N → List N → F → Type 0) (walk : CheapestWalk N C F) : Type 0 where
-      pub explored : explores (record { starts = start ∷ []; edges = edges }) walk.nodes walk.successors
+    pub record IsCheapestWalk (answers : F → (N → Type 0) → (N → List (N × ℤ)) → Type 0) (walk : CheapestWalk N C F) : Type 0 where
+      pub explored : Explores eq (AnswersEdges eq answers) (record { starts = start ∷ []; edges = edges }) walk.nodes (record { function = walk.successors })
       pub costs : HasNoNegativeCost eq edges (start ∷ [])
       pub begins : (x : N) → StandsFor eq walk.nodes 0 x ↔ (eq start x ≡ true)
       pub wide : length walk.labels ≡ length walk.nodes

@@ -2,9 +2,6 @@
 use Rattle.std.specs.Prelude.{Result, Ok, Err, ◌≡◌, ◌⊎◌, ℕ, Bool, true, false, Option, Some, None, List, [], ◌∷◌, ◌++◌, length, reverse}
 use Rattle.std.proofs.Common.{refl}
 use Rattle.std.specs.Coded.{Coded, code_by, coded×, coded_ℕ, coded_bool, coded_list}
-use Rattle.std.specs.Borrow.{Bor}
-use Rattle.std.specs.Fn.{Mut}
-use Rattle.std.specs.Iterator.{Count}
 use Rattle.std.specs.List.{AllZip}
 use Rattle.pf_base.specs.Answers.{SameNodes}
 use Rattle.pf_base.specs.declared.error.PathError.{PathError}
@@ -14,7 +11,7 @@ use Rattle.pf_core.specs.declared.depth_first.Branch.{Branch}
 use Rattle.pf_core.specs.DepthFirst.{IsVisited, IsPending}
 use Rattle.pf_core.specs.Hops.{unit_edges}
 use Rattle.pf_core.specs.Nodes.{StandsFor, Explores}
-use Rattle.std.specs.Prelude.{pos}
+use Rattle.pf_core.specs.Sources.{AnswersHops}
 
 -- the nodes found, how many of them were given and which, the numbers of the last tree path, what waits behind it, whether a step was refused last, and the function
 pub record DepthWalk (N F : Type 0) : Type 0 where
@@ -54,12 +51,6 @@ module _ {N F : Type 0} (eq : N → N → Bool) (next : N → List N) (start : N
     pub path : AllZip (StandsFor eq s.found) s.path (end_of [] paths)
     pub pending : IsPending next (StandsFor eq s.found) (IsVisited s.visited) (reverse s.path) (reverse s.waiting)
 
-  module _ {I S : Type 0} (becomes : I → S → Type 0) (can : S → Type 0) (left : S → Count) (steps : S → Option N → S → Type 0) (calls : Mut F (Bor N × Unit {0}) I) where
-    -- the same, and the walk's function answers this graph in reach of the start
-    pub record IsDepthWalk (paths : List (List N)) (s : DepthWalk N F) : Type 0 where
-      pub stands : StandsAt paths s
-      pub explores : Explores eq pos (λ y. (y, 1)) becomes can left steps calls (record { starts = start ∷ []; edges = unit_edges next }) s.found s.successors
-
   -- What a call of `next` gives behind these tree paths, and how it leaves the walk.
   -- the last node of the next tree path, along which the walk has gone from then on
   -- no node: the last step was refused, and the walk stays as it was, or the preorder has ended
@@ -68,3 +59,9 @@ module _ {N F : Type 0} (eq : N → N → Bool) (next : N → List N) (start : N
   DepthStep walks paths s (Some (Ok node)) t = (s.refused ≡ false) × (t.refused ≡ false) × ((path : List N) × IsNextTreePath eq next start (last_nodes paths) (end_of [] paths) path × SameNodes eq (last_nodes (path ∷ [])) (node ∷ []) × walks (paths ++ path ∷ []) t)
   DepthStep walks paths s None t = (t.refused ≡ s.refused) × walks paths t × (((s.refused ≡ true) × (t ≡ s)) ⊎ IsWholePreorder eq next paths)
   DepthStep walks paths s (Some (Err refusal)) t = (refusal ≡ PathError.OutOfMemory) × (s.refused ≡ false) × (t.refused ≡ true) × ¬ (IsWholePreorder eq next paths) × (t.given ≡ s.given) × SameNodes eq t.found s.found × walks paths t
+
+module _ {N F : Type 0} (eq : N → N → Bool) (answers : F → (N → Type 0) → (N → List N) → Type 0) (next : N → List N) (start : N) where
+  -- The walk has gone along these tree paths, and its function answers this graph in reach of the start.
+  pub record IsDepthWalk (paths : List (List N)) (s : DepthWalk N F) : Type 0 where
+    pub stands : StandsAt eq next start paths s
+    pub explores : Explores eq (AnswersHops eq answers) (record { starts = start ∷ []; edges = unit_edges next }) s.found (record { function = s.successors })

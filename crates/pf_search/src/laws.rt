@@ -9,13 +9,12 @@ ghost use Rattle.pf_base.specs.Orders.{last_nodes, IsBreadthOrder, AllGiven, IsP
 ghost use Rattle.pf_base.specs.Successors.{HasSuccessor, IsFewestEdgesGoalPath};
 ghost use Rattle.pf_base.specs.Walks.{HasNode, NoRepeats, IsAtMostNumberOf, IsGoalWalk, IsReachable};
 ghost use Rattle.pf_core.specs.Labels.{settled_count};
-ghost use Rattle.pf_core.specs.Nodes.{Explores};
 ghost use Rattle.pf_search.specs.CheapestFirst.{CheapestWalk, IsCheapestWalk, IsGiven};
 ghost use Rattle.pf_search.specs.Laws.{targets, HasEqualSuccessors, HasEqualEdges};
 ghost use Rattle.pf_search.specs.Parents.{IsCheapestMap, IsChainOfParents, IsLeastCost};
 
 use crate::directed::dijkstra::DijkstraReachable;
-use pf_base::Cost;
+use pf_base::{Cost, EdgeFunction};
 use std::alloc::Allocator;
 use std::hash::Hash;
 use std::marker::PhantomData;
@@ -83,21 +82,20 @@ pub fn breadth_order_is_by_distance<N: Eq>(_of: PhantomData<N>)
 /// that none was given twice, and no more were given than any list has that has every node in reach.
 ///
 /// This holds of each walk of the type of the one that is handed in, which is not changed.
-pub fn cheapest_order_is_reach<N, C, IN, FN, A>(_of: &DijkstraReachable<N, C, IN, FN, A>)
+pub fn cheapest_order_is_reach<N, C, F, A>(_of: &DijkstraReachable<N, C, F, A>)
 where
     N: Eq + Hash,
     C: Cost,
-    IN: IntoIterator<Item = (N, C)>,
-    FN: FnMut(&N) -> IN,
+    F: EdgeFunction<N, C>,
     A: Allocator,
-    ensures reached { (edges : N → List (N × ℤ)) (start : N) (walk : CheapestWalk N C FN)
-        → IsCheapestWalk N.eq C.value edges start (Explores N.eq C.value (λ e. e) IN.into_iter_gives IN.IntoIter.can_next IN.IntoIter.remaining IN.IntoIter.next_gives FN.FnMut) walk
+    ensures reached { (edges : N → List (N × ℤ)) (start : N) (walk : CheapestWalk N C F)
+        → IsCheapestWalk N.eq C.value edges start F.answers walk
         → (x : N) (cost : C) → IsGiven N.eq walk x cost → InReach N.eq edges (start ∷ []) x }
-    ensures once { (edges : N → List (N × ℤ)) (start : N) (walk : CheapestWalk N C FN)
-        → IsCheapestWalk N.eq C.value edges start (Explores N.eq C.value (λ e. e) IN.into_iter_gives IN.IntoIter.can_next IN.IntoIter.remaining IN.IntoIter.next_gives FN.FnMut) walk
+    ensures once { (edges : N → List (N × ℤ)) (start : N) (walk : CheapestWalk N C F)
+        → IsCheapestWalk N.eq C.value edges start F.answers walk
         → NoRepeats N.eq walk.nodes }
-    ensures at_most { (edges : N → List (N × ℤ)) (start : N) (walk : CheapestWalk N C FN)
-        → IsCheapestWalk N.eq C.value edges start (Explores N.eq C.value (λ e. e) IN.into_iter_gives IN.IntoIter.can_next IN.IntoIter.remaining IN.IntoIter.next_gives FN.FnMut) walk
+    ensures at_most { (edges : N → List (N × ℤ)) (start : N) (walk : CheapestWalk N C F)
+        → IsCheapestWalk N.eq C.value edges start F.answers walk
         → IsAtMostNumberOf N.eq (InReach N.eq edges (start ∷ [])) (settled_count walk.labels) }
 {}
 

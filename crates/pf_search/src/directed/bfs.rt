@@ -1,9 +1,9 @@
 //! Paths with fewest edges (breadth-first search).
 
-ghost use Rattle.std.specs.Prelude.{◌≡◌, pos, List, Bool, IfOk, IfErr, MatchOption};
+ghost use Rattle.std.specs.Prelude.{◌≡◌, List, Bool, IfOk, IfErr, MatchOption};
 ghost use Rattle.pf_base.specs.Walks.{HasNoGoalWalk};
 ghost use Rattle.pf_base.specs.Successors.{HasSuccessor, IsUnweightedSearch, IsFewestEdgesGoalPath};
-ghost use Rattle.pf_base.specs.Answers.{IsLawfulClone, AnswersTest};
+ghost use Rattle.pf_base.specs.Answers.{IsLawfulClone};
 ghost use Rattle.pf_base.specs.Edges.{InReach};
 ghost use Rattle.pf_base.specs.NodeRefs.{HasSameNodes};
 ghost use Rattle.pf_core.specs.Hops.{unit_edges};
@@ -17,32 +17,31 @@ pub use crate::directed::breadth::{BfsReachable, bfs_reach};
 pub use both_ends::bfs_bidirectional;
 pub use loops::bfs_loop;
 use pf_base::{NodeRefs, NodeTest, PathError, SuccessorFunction};
-use pf_core::discovery::{Discovery, Unweighted, clones_of};
+use pf_core::discovery::{Discovery, clones_of};
 use pf_core::fewest::fewest_edges_path;
+use pf_core::source::{EdgeSource, Unweighted};
 use pf_core::tested::Tested;
 use std::alloc::Allocator;
 use std::hash::Hash;
-use std::marker::PhantomData;
 
 /// A path with fewest edges from a node that was found before to one that passes.
-fn path_from<N, IN, FN, FS, A>(
+fn path_from<N, S, T, A>(
     alloc: A,
-    graph: &mut Tested<N, Unweighted, IN, FN, FS, A>,
+    graph: &mut Tested<N, S, T, A>,
 ) -> Result<Option<Vec<N, A>>, PathError>
 where
     N: Eq + Hash + Clone + Drop,
-    IN: IntoIterator<Item = N>,
-    FN: FnMut(&N) -> IN,
-    FS: FnMut(&N) -> bool,
+    S: EdgeSource<N, u8>,
+    T: NodeTest<N>,
     A: Allocator + Copy,
     requires clones { IsLawfulClone N.eq N.is_clone }
     requires graph { (next : N → List N) × (starts : List N) × (test : N → Bool)
-        × Explores N.eq pos (λ y. (y, 1)) IN.into_iter_gives IN.IntoIter.can_next IN.IntoIter.remaining IN.IntoIter.next_gives FN.FnMut (hops_from starts next) graph.old.discovery.nodes.keys graph.old.discovery.successors
-        × AnswersTest FS.FnMut N.eq graph.old.success (InReach N.eq (unit_edges next) starts) test }
+        × Explores N.eq S.answers (hops_from starts next) graph.old.discovery.nodes.keys graph.old.discovery.source
+        × T.answers graph.old.success (InReach N.eq (unit_edges next) starts) test }
 
     ensures best { (next : N → List N) (starts : List N) (test : N → Bool)
-        → Explores N.eq pos (λ y. (y, 1)) IN.into_iter_gives IN.IntoIter.can_next IN.IntoIter.remaining IN.IntoIter.next_gives FN.FnMut (hops_from starts next) graph.old.discovery.nodes.keys graph.old.discovery.successors
-        → AnswersTest FS.FnMut N.eq graph.old.success (InReach N.eq (unit_edges next) starts) test
+        → Explores N.eq S.answers (hops_from starts next) graph.old.discovery.nodes.keys graph.old.discovery.source
+        → T.answers graph.old.success (InReach N.eq (unit_edges next) starts) test
         → HasSameNodes N.eq graph.old.discovery.nodes.keys starts
         → IfOk result (λ answer. MatchOption answer
         (HasNoGoalWalk N.eq (HasSuccessor N.eq next) starts test)
@@ -98,9 +97,9 @@ where
 {
     let discovery = Discovery {
         nodes: clones_of(alloc, starts)?,
-        successors,
-        form: PhantomData,
+        source: Unweighted {
+            function: successors,
+        },
     };
-    let mut graph: Tested<N, Unweighted, IN, FN, FS, A> = Tested { discovery, success };
-    path_from(alloc, &mut graph)
+    path_from(alloc, &mut Tested { discovery, success })
 }

@@ -12,12 +12,13 @@ ghost use Rattle.pf_search.specs.Internal.Breadth.{BreadthTurn, walk_at, BeginsE
 
 use indexmap::IndexSet;
 use pf_base::{PathError, SuccessorFunction};
-use pf_core::discovery::{Discovery, Nodes, Unweighted};
+use pf_core::discovery::{Discovery, Nodes};
 use pf_core::numbered::NumberedGraph;
 use pf_core::row::NoRow;
+use pf_core::source::Unweighted;
 use std::alloc::{Allocator, Global};
 use std::hash::Hash;
-use std::marker::{Model, PhantomData};
+use std::marker::Model;
 
 /// Puts the start into the set of nodes, unless that was done. Where memory is refused, all stays.
 pub(crate) fn put_start<N, A>(
@@ -46,24 +47,23 @@ where
 
 /// A clone of the node of this number, whose successors are numbered. Where memory is refused, the
 /// nodes stay as they were.
-fn give<N, IN, FN, A>(
-    discovery: &mut Discovery<N, Unweighted, IN, FN, A>,
+fn give<N, F, A>(
+    discovery: &mut Discovery<N, Unweighted<F>, A>,
     number: usize,
 ) -> Result<N, PathError>
 where
     N: Eq + Hash + Clone + Drop,
-    IN: IntoIterator<Item = N>,
-    FN: FnMut(&N) -> IN,
+    F: SuccessorFunction<N>,
     A: Allocator + Copy,
     requires inside { number < length discovery.old.nodes.keys }
     requires clones { IsLawfulClone N.eq N.is_clone }
     requires walk { (next : N → List N) × (start : N)
-        × IsBreadthWalk N.eq (⟦<FN as SuccessorFunction<N>>⟧.answers) next start (walk_at discovery.old.nodes.keys number false discovery.old.successors) }
+        × IsBreadthWalk N.eq F.answers next start (walk_at discovery.old.nodes.keys number false discovery.old.source.function) }
     ensures walk { (next : N → List N) (start : N)
-        → IsBreadthWalk N.eq (⟦<FN as SuccessorFunction<N>>⟧.answers) next start (walk_at discovery.old.nodes.keys number false discovery.old.successors)
-        → IfOk result (λ node. IsBreadthWalk N.eq (⟦<FN as SuccessorFunction<N>>⟧.answers) next start (walk_at discovery.new.nodes.keys (number + 1) false discovery.new.successors)
+        → IsBreadthWalk N.eq F.answers next start (walk_at discovery.old.nodes.keys number false discovery.old.source.function)
+        → IfOk result (λ node. IsBreadthWalk N.eq F.answers next start (walk_at discovery.new.nodes.keys (number + 1) false discovery.new.source.function)
         × IsNextInBreadth N.eq next start (take number discovery.old.nodes.keys) node)
-        × OnErr result (IsBreadthWalk N.eq (⟦<FN as SuccessorFunction<N>>⟧.answers) next start (walk_at discovery.new.nodes.keys number false discovery.new.successors)) }
+        × OnErr result (IsBreadthWalk N.eq F.answers next start (walk_at discovery.new.nodes.keys number false discovery.new.source.function)) }
     ensures given { IfOk result (λ node. SameNodes N.eq (take (number + 1) discovery.new.nodes.keys) (take number discovery.old.nodes.keys ++ node ∷ [])) }
     ensures stays { OnErr result (SameNodes N.eq discovery.new.nodes.keys discovery.old.nodes.keys) }
     ensures more { length discovery.old.nodes.keys ≤ length discovery.new.nodes.keys }
@@ -76,48 +76,47 @@ where
 
 /// The nodes in reach of a start in breadth order, each as a `Result`: made by `bfs_reach`.
 #[derive(Drop)]
-pub struct BfsReachable<N: Eq + Hash, IN, FN, A: Allocator = Global> {
+pub struct BfsReachable<N: Eq + Hash, F, A: Allocator = Global> {
     start: Option<N>,
-    discovery: Discovery<N, Unweighted, IN, FN, A>,
+    discovery: Discovery<N, Unweighted<F>, A>,
     given: usize,
     refused: bool,
 }
 
-impl<N: Eq + Hash, IN, FN, A: Allocator> Model for BfsReachable<N, IN, FN, A> {
+impl<N: Eq + Hash, F, A: Allocator> Model for BfsReachable<N, F, A> {
     ghost use Rattle.pf_search.specs.Breadth.{BreadthWalk, breadth_walk_code};
     ghost use Rattle.pf_search.specs.Internal.Breadth.{walk_at, found_or, IsPlace};
 
-    ghost Value = { BreadthWalk N FN };
+    ghost Value = { BreadthWalk N F };
 
-    ghost coded = { breadth_walk_code N.code FN.code };
+    ghost coded = { breadth_walk_code N.code F.code };
 
-    ghost view = { λ s. walk_at (found_or s.start s.discovery.nodes.keys) s.given s.refused s.discovery.successors };
+    ghost view = { λ s. walk_at (found_or s.start s.discovery.nodes.keys) s.given s.refused s.discovery.source.function };
 
     ghost invariant = { λ s. IsPlace s.start s.discovery.nodes.keys s.given };
 }
 
-impl<N, IN, FN, A> Iterator for BfsReachable<N, IN, FN, A>
+impl<N, F, A> Iterator for BfsReachable<N, F, A>
 where
     N: Eq + Hash + Clone + Drop,
-    IN: IntoIterator<Item = N>,
-    FN: FnMut(&N) -> IN,
+    F: SuccessorFunction<N>,
     A: Allocator + Copy,
 {
     type Item = Result<N, PathError>;
 
-    ghost can_next = { λ s. IsLawfulClone N.eq N.is_clone × ((next : N → List N) × (start : N) × IsBreadthWalk N.eq (⟦<FN as SuccessorFunction<N>>⟧.answers) next start s) };
+    ghost can_next = { λ s. IsLawfulClone N.eq N.is_clone × ((next : N → List N) × (start : N) × IsBreadthWalk N.eq F.answers next start s) };
 
     ghost next_gives = { λ s r t. (next : N → List N) (start : N)
-        → IsBreadthWalk N.eq (⟦<FN as SuccessorFunction<N>>⟧.answers) next start s
-        → IsBreadthWalk N.eq (⟦<FN as SuccessorFunction<N>>⟧.answers) next start t × BreadthStep N.eq next start s r t };
+        → IsBreadthWalk N.eq F.answers next start s
+        → IsBreadthWalk N.eq F.answers next start t × BreadthStep N.eq next start s r t };
 
     ghost remaining = { λ s. at_most (most_items (length s.given) s.refused) };
 
     fn next(&mut self) -> Option<Result<N, PathError>>
-        requires { ⟦<BfsReachable<N, IN, FN, A> as Iterator>⟧.can_next self.old }
-        ensures steps { ⟦<BfsReachable<N, IN, FN, A> as Iterator>⟧.next_gives self.old result self.new }
-        ensures goes { MakesProgress ⟦<BfsReachable<N, IN, FN, A> as Iterator>⟧.can_next ⟦<BfsReachable<N, IN, FN, A> as Iterator>⟧.remaining self.old result self.new }
-        ensures again { ⟦<BfsReachable<N, IN, FN, A> as Iterator>⟧.can_next self.new }
+        requires { ⟦<BfsReachable<N, F, A> as Iterator>⟧.can_next self.old }
+        ensures steps { ⟦<BfsReachable<N, F, A> as Iterator>⟧.next_gives self.old result self.new }
+        ensures goes { MakesProgress ⟦<BfsReachable<N, F, A> as Iterator>⟧.can_next ⟦<BfsReachable<N, F, A> as Iterator>⟧.remaining self.old result self.new }
+        ensures again { ⟦<BfsReachable<N, F, A> as Iterator>⟧.can_next self.new }
     {
         if self.refused {
             return None;
@@ -128,11 +127,10 @@ where
     }
 }
 
-impl<N, IN, FN, A> BfsReachable<N, IN, FN, A>
+impl<N, F, A> BfsReachable<N, F, A>
 where
     N: Eq + Hash + Clone + Drop,
-    IN: IntoIterator<Item = N>,
-    FN: FnMut(&N) -> IN,
+    F: SuccessorFunction<N>,
     A: Allocator + Copy,
 {
     /// Lets the next call of `next` try again the step that was refused. Where no step was refused
@@ -140,8 +138,8 @@ where
     pub fn resume(&mut self)
         ensures lowered { self.new ≡ record self.old { refused = false } }
         ensures graph { (next : N → List N) (start : N)
-            → IsBreadthWalk N.eq (⟦<FN as SuccessorFunction<N>>⟧.answers) next start self.old
-            → IsBreadthWalk N.eq (⟦<FN as SuccessorFunction<N>>⟧.answers) next start self.new }
+            → IsBreadthWalk N.eq F.answers next start self.old
+            → IsBreadthWalk N.eq F.answers next start self.new }
     {
         self.refused = false;
     }
@@ -150,10 +148,10 @@ where
     /// and the waiting nodes stay as they were.
     fn step(&mut self) -> Result<Option<N>, PathError>
         requires clones { IsLawfulClone N.eq N.is_clone }
-        requires walk { (next : N → List N) × (start : N) × IsBreadthWalk N.eq (⟦<FN as SuccessorFunction<N>>⟧.answers) next start self.old }
+        requires walk { (next : N → List N) × (start : N) × IsBreadthWalk N.eq F.answers next start self.old }
         ensures steps { (next : N → List N) (start : N)
-            → IsBreadthWalk N.eq (⟦<FN as SuccessorFunction<N>>⟧.answers) next start self.old
-            → IsBreadthWalk N.eq (⟦<FN as SuccessorFunction<N>>⟧.answers) next start self.new × BreadthTurn N.eq next start self.old result self.new }
+            → IsBreadthWalk N.eq F.answers next start self.old
+            → IsBreadthWalk N.eq F.answers next start self.new × BreadthTurn N.eq next start self.old result self.new }
         ensures few { IfOk result (λ given. IfSome given (λ _. length self.new.given < 2 ^ 63)) }
         ensures same { self.new.refused ≡ self.old.refused }
         ensures refused { IfErr result (λ e. e ≡ PathError.OutOfMemory) }
@@ -168,7 +166,7 @@ where
     }
 }
 
-impl<N, IN, FN, A> BfsReachable<N, IN, FN, A>
+impl<N, F, A> BfsReachable<N, F, A>
 where
     N: Eq + Hash,
     A: Allocator,
@@ -208,7 +206,7 @@ pub fn bfs_reach<N, IN, FN, A>(
     alloc: A,
     start: N,
     successors: FN,
-) -> Result<BfsReachable<N, IN, FN, A>, PathError>
+) -> Result<BfsReachable<N, FN, A>, PathError>
 where
     N: Eq + Hash + Clone + Drop,
     IN: IntoIterator<Item = N>,
@@ -221,8 +219,9 @@ where
 {
     let discovery = Discovery {
         nodes: IndexSet::new(alloc),
-        successors,
-        form: PhantomData,
+        source: Unweighted {
+            function: successors,
+        },
     };
     Ok(BfsReachable {
         start: Some(start),

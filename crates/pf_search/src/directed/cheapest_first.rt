@@ -6,18 +6,19 @@ ghost use Rattle.pf_base.specs.Answers.{IsLawfulClone};
 ghost use Rattle.pf_base.specs.Edges.{InReach, HasNoNegativeCost};
 ghost use Rattle.pf_core.specs.declared.labels.Label.{Label};
 ghost use Rattle.pf_core.specs.Labels.{HasLabel, settled_count};
-ghost use Rattle.pf_core.specs.Nodes.{Explores, StandsFor};
+ghost use Rattle.pf_core.specs.Nodes.{StandsFor};
 ghost use Rattle.pf_search.specs.CheapestFirst.{IsGiven, IsCheapestWalk, IsBarred, CheapestTurn, CheapestStep, TurnKeepsBar, StepKeepsBar};
 ghost use Rattle.pf_search.specs.Items.{most_items};
 
 use pf_base::{Cost, EdgeFunction, PathError};
-use pf_core::discovery::{Discovery, Weighted, clone_of};
+use pf_core::discovery::{Discovery, clone_of};
 use pf_core::labels::label_of;
 use pf_core::search::Search;
 use pf_core::slot::Slot;
+use pf_core::source::Weighted;
 use std::alloc::{Allocator, Global};
 use std::hash::Hash;
-use std::marker::{Model, PhantomData};
+use std::marker::Model;
 
 /// A node that a walk by rising cost gives, the node before it on a cheapest path to it (the start
 /// has none), and what that path costs.
@@ -61,53 +62,52 @@ where
 
 /// The nodes in reach of a start by rising cost, each as a `Result`: made by `dijkstra_reach`.
 #[derive(Drop)]
-pub struct DijkstraReachable<N: Eq + Hash, C: Cost, IN, FN, A: Allocator = Global> {
-    discovery: Discovery<N, Weighted, IN, FN, A>,
+pub struct DijkstraReachable<N: Eq + Hash, C: Cost, F, A: Allocator = Global> {
+    discovery: Discovery<N, Weighted<F>, A>,
     search: Search<C, A>,
     refused: bool,
 }
 
-impl<N: Eq + Hash, C: Cost, IN, FN, A: Allocator> Model for DijkstraReachable<N, C, IN, FN, A> {
+impl<N: Eq + Hash, C: Cost, F, A: Allocator> Model for DijkstraReachable<N, C, F, A> {
     ghost use Rattle.std.specs.Prelude.{◌≡◌, length};
     ghost use Rattle.std.specs.BinaryHeap.{heap_items};
     ghost use Rattle.pf_core.specs.Search.{IsSound};
     ghost use Rattle.pf_search.specs.CheapestFirst.{CheapestWalk, cheapest_walk_code};
 
-    ghost Value = { CheapestWalk N C FN };
+    ghost Value = { CheapestWalk N C F };
 
-    ghost coded = { cheapest_walk_code N.code C.code FN.code };
+    ghost coded = { cheapest_walk_code N.code C.code F.code };
 
-    ghost view = { λ s. record { nodes = s.discovery.nodes.keys; labels = s.search.labels.items; refused = s.refused; successors = s.discovery.successors } };
+    ghost view = { λ s. record { nodes = s.discovery.nodes.keys; labels = s.search.labels.items; refused = s.refused; successors = s.discovery.source.function } };
 
     ghost invariant = { λ s. IsSound C.cmp C.value s.search.labels.items (heap_items s.search.queue) × (length s.search.labels.items ≡ length s.discovery.nodes.keys) };
 }
 
-impl<N, C, IN, FN, A> Iterator for DijkstraReachable<N, C, IN, FN, A>
+impl<N, C, F, A> Iterator for DijkstraReachable<N, C, F, A>
 where
     N: Eq + Hash + Clone + Drop,
     C: Cost,
-    IN: IntoIterator<Item = (N, C)>,
-    FN: FnMut(&N) -> IN,
+    F: EdgeFunction<N, C>,
     A: Allocator + Copy,
 {
     type Item = Result<DijkstraReachableItem<N, C>, PathError>;
 
     ghost can_next = { λ s. IsLawfulClone N.eq N.is_clone × ((edges : N → List (N × ℤ)) × (start : N)
-        × IsCheapestWalk N.eq C.value edges start (Explores N.eq C.value (λ e. e) IN.into_iter_gives IN.IntoIter.can_next IN.IntoIter.remaining IN.IntoIter.next_gives FN.FnMut) s) };
+        × IsCheapestWalk N.eq C.value edges start F.answers s) };
 
     ghost next_gives = { λ s r t. (edges : N → List (N × ℤ)) (start : N)
-        → IsCheapestWalk N.eq C.value edges start (Explores N.eq C.value (λ e. e) IN.into_iter_gives IN.IntoIter.can_next IN.IntoIter.remaining IN.IntoIter.next_gives FN.FnMut) s
-        → IsCheapestWalk N.eq C.value edges start (Explores N.eq C.value (λ e. e) IN.into_iter_gives IN.IntoIter.can_next IN.IntoIter.remaining IN.IntoIter.next_gives FN.FnMut) t
+        → IsCheapestWalk N.eq C.value edges start F.answers s
+        → IsCheapestWalk N.eq C.value edges start F.answers t
         × CheapestStep N.eq C.value edges start C.fits s r t
         × StepKeepsBar N.eq C.value edges start C.fits s r t };
 
     ghost remaining = { λ s. at_most (most_items (settled_count s.labels) s.refused) };
 
     fn next(&mut self) -> Option<Result<DijkstraReachableItem<N, C>, PathError>>
-        requires { ⟦<DijkstraReachable<N, C, IN, FN, A> as Iterator>⟧.can_next self.old }
-        ensures steps { ⟦<DijkstraReachable<N, C, IN, FN, A> as Iterator>⟧.next_gives self.old result self.new }
-        ensures goes { MakesProgress ⟦<DijkstraReachable<N, C, IN, FN, A> as Iterator>⟧.can_next ⟦<DijkstraReachable<N, C, IN, FN, A> as Iterator>⟧.remaining self.old result self.new }
-        ensures again { ⟦<DijkstraReachable<N, C, IN, FN, A> as Iterator>⟧.can_next self.new }
+        requires { ⟦<DijkstraReachable<N, C, F, A> as Iterator>⟧.can_next self.old }
+        ensures steps { ⟦<DijkstraReachable<N, C, F, A> as Iterator>⟧.next_gives self.old result self.new }
+        ensures goes { MakesProgress ⟦<DijkstraReachable<N, C, F, A> as Iterator>⟧.can_next ⟦<DijkstraReachable<N, C, F, A> as Iterator>⟧.remaining self.old result self.new }
+        ensures again { ⟦<DijkstraReachable<N, C, F, A> as Iterator>⟧.can_next self.new }
     {
         if self.refused {
             return None;
@@ -118,12 +118,11 @@ where
     }
 }
 
-impl<N, C, IN, FN, A> DijkstraReachable<N, C, IN, FN, A>
+impl<N, C, F, A> DijkstraReachable<N, C, F, A>
 where
     N: Eq + Hash + Clone + Drop,
     C: Cost,
-    IN: IntoIterator<Item = (N, C)>,
-    FN: FnMut(&N) -> IN,
+    F: EdgeFunction<N, C>,
     A: Allocator + Copy,
 {
     /// Lets the next call of `next` try again the step that was refused. Where no step was refused
@@ -131,8 +130,8 @@ where
     pub fn resume(&mut self)
         ensures lowered { self.new ≡ record self.old { refused = false } }
         ensures graph { (edges : N → List (N × ℤ)) (start : N)
-            → IsCheapestWalk N.eq C.value edges start (Explores N.eq C.value (λ e. e) IN.into_iter_gives IN.IntoIter.can_next IN.IntoIter.remaining IN.IntoIter.next_gives FN.FnMut) self.old
-            → IsCheapestWalk N.eq C.value edges start (Explores N.eq C.value (λ e. e) IN.into_iter_gives IN.IntoIter.can_next IN.IntoIter.remaining IN.IntoIter.next_gives FN.FnMut) self.new }
+            → IsCheapestWalk N.eq C.value edges start F.answers self.old
+            → IsCheapestWalk N.eq C.value edges start F.answers self.new }
         ensures bar { (edges : N → List (N × ℤ)) (start : N)
             → IsBarred N.eq C.value edges start C.fits self.old → IsBarred N.eq C.value edges start C.fits self.new }
     {
@@ -144,13 +143,13 @@ where
     fn step(&mut self) -> Result<Option<DijkstraReachableItem<N, C>>, PathError>
         requires clones { IsLawfulClone N.eq N.is_clone }
         requires walk { (edges : N → List (N × ℤ)) × (start : N)
-            × IsCheapestWalk N.eq C.value edges start (Explores N.eq C.value (λ e. e) IN.into_iter_gives IN.IntoIter.can_next IN.IntoIter.remaining IN.IntoIter.next_gives FN.FnMut) self.old }
+            × IsCheapestWalk N.eq C.value edges start F.answers self.old }
         ensures steps { (edges : N → List (N × ℤ)) (start : N)
-            → IsCheapestWalk N.eq C.value edges start (Explores N.eq C.value (λ e. e) IN.into_iter_gives IN.IntoIter.can_next IN.IntoIter.remaining IN.IntoIter.next_gives FN.FnMut) self.old
-            → IsCheapestWalk N.eq C.value edges start (Explores N.eq C.value (λ e. e) IN.into_iter_gives IN.IntoIter.can_next IN.IntoIter.remaining IN.IntoIter.next_gives FN.FnMut) self.new
+            → IsCheapestWalk N.eq C.value edges start F.answers self.old
+            → IsCheapestWalk N.eq C.value edges start F.answers self.new
             × CheapestTurn N.eq C.value edges start C.fits self.old result self.new }
         ensures bars { (edges : N → List (N × ℤ)) (start : N)
-            → IsCheapestWalk N.eq C.value edges start (Explores N.eq C.value (λ e. e) IN.into_iter_gives IN.IntoIter.can_next IN.IntoIter.remaining IN.IntoIter.next_gives FN.FnMut) self.old
+            → IsCheapestWalk N.eq C.value edges start F.answers self.old
             → TurnKeepsBar N.eq C.value edges start C.fits self.old result self.new }
         ensures counts { IfOk result (λ given. IfSome given (λ _. settled_count self.new.labels ≡ settled_count self.old.labels + 1)) }
         ensures same { self.new.refused ≡ self.old.refused }
@@ -194,7 +193,7 @@ pub fn dijkstra_reach<N, C, IN, FN, A>(
     alloc: A,
     start: &N,
     successors: FN,
-) -> Result<DijkstraReachable<N, C, IN, FN, A>, PathError>
+) -> Result<DijkstraReachable<N, C, FN, A>, PathError>
 where
     N: Eq + Hash + Clone + Drop,
     C: Cost,
@@ -206,13 +205,14 @@ where
     ensures graph { IfOk result (λ walk. (edges : N → List (N × ℤ))
         → ⟦<FN as EdgeFunction<N, C>>⟧.answers successors (InReach N.eq edges (start.now ∷ [])) edges
         → HasNoNegativeCost N.eq edges (start.now ∷ [])
-        → IsCheapestWalk N.eq C.value edges start.now (Explores N.eq C.value (λ e. e) IN.into_iter_gives IN.IntoIter.can_next IN.IntoIter.remaining IN.IntoIter.next_gives FN.FnMut) walk) }
+        → IsCheapestWalk N.eq C.value edges start.now (⟦<FN as EdgeFunction<N, C>>⟧.answers) walk) }
     ensures refused { IfErr result (λ e. e ≡ PathError.OutOfMemory) }
 {
     let discovery = Discovery {
         nodes: clone_of(alloc, start)?,
-        successors,
-        form: PhantomData,
+        source: Weighted {
+            function: successors,
+        },
     };
     let search = Search::begin(alloc, discovery.nodes.len(), 0)?;
     Ok(DijkstraReachable {

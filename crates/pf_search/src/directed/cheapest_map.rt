@@ -15,15 +15,15 @@ ghost use Rattle.pf_search.specs.Internal.Partial.{IsEnded, MapsLabels};
 
 use crate::directed::parents::Parents;
 use pf_base::{Cost, EdgeFunction, NodeTest, PathError};
-use pf_core::discovery::{Discovery, Weighted, clone_of};
+use pf_core::discovery::{Discovery, clone_of};
 use pf_core::numbered::{GoalGraph, NumberedGraph};
 use pf_core::search::Search;
 use pf_core::slot::Slot;
+use pf_core::source::{EdgeSource, Weighted};
 use pf_core::tested::Tested;
 use std::alloc::Allocator;
 use std::collections::HashMap;
 use std::hash::Hash;
-use std::marker::PhantomData;
 
 /// What a search by rising cost from the number `start` finds: the labels, once the first goal is the
 /// least that is open, and the number of that goal, or `None` where no goal is in reach.
@@ -36,22 +36,22 @@ where
     C: Cost,
     G: GoalGraph<C>,
     A: Allocator + Copy,
-    requires inside { start < G.NumberedGraph.found graph.old }
-    requires begins { (s : G.NumberedGraph.Node) × G.NumberedGraph.stands graph.old start s }
-    requires graph { (g : G.NumberedGraph.Graph) × G.NumberedGraph.explores graph.old g × IsNonNegative (G.NumberedGraph.step g) }
-    ensures graph { (g : G.NumberedGraph.Graph) → G.NumberedGraph.explores graph.old g → G.NumberedGraph.explores graph.new g }
-    ensures grows { Grows (G.NumberedGraph.found graph.old) (G.NumberedGraph.found graph.new) (G.NumberedGraph.stands graph.old) (G.NumberedGraph.stands graph.new) }
-    ensures wide { IfOk result (λ r. length r.0.items ≡ G.NumberedGraph.found graph.new) }
+    requires inside { start < G.found graph.old }
+    requires begins { (s : G.Node) × G.stands graph.old start s }
+    requires graph { (g : G.Graph) × G.explores graph.old g × IsNonNegative (G.step g) }
+    ensures graph { (g : G.Graph) → G.explores graph.old g → G.explores graph.new g }
+    ensures grows { Grows (G.found graph.old) (G.found graph.new) (G.stands graph.old) (G.stands graph.new) }
+    ensures wide { IfOk result (λ r. length r.0.items ≡ G.found graph.new) }
     ensures tree { IfOk result (λ r. IsTree r.0.items) }
     ensures ended { IfOk result (λ r. IsEnded C.value r.0.items start r.1) }
-    ensures search { (g : G.NumberedGraph.Graph) → G.NumberedGraph.explores graph.old g → IsNonNegative (G.NumberedGraph.step g)
-        → IfOk result (λ r. IsSearch (by_cost C.value) (G.NumberedGraph.step g) (λ k. nat_eq k start) (G.NumberedGraph.stands graph.new) r.0.items) }
-    ensures passed { (g : G.NumberedGraph.Graph) → G.NumberedGraph.explores graph.old g
-        → IfOk result (λ r. (k : ℕ) (l : Label C) (x : G.NumberedGraph.Node) → HasLabel r.0.items k l → l.settled ≡ true → G.NumberedGraph.stands graph.new k x → G.NumberedGraph.passes g x ≡ false) }
-    ensures goal { (g : G.NumberedGraph.Graph) → G.NumberedGraph.explores graph.old g
-        → IfOk result (λ r. IfSome r.1 (λ k. (x : G.NumberedGraph.Node) → G.NumberedGraph.stands graph.new k x → G.NumberedGraph.passes g x ≡ true)) }
-    ensures overflow { (g : G.NumberedGraph.Graph) → G.NumberedGraph.explores graph.old g → IsNonNegative (G.NumberedGraph.step g)
-        → result ≡ Err PathError.CostOverflow → IsTooDear (G.NumberedGraph.step g) (G.NumberedGraph.passes g) (G.NumberedGraph.stands graph.old start) (G.NumberedGraph.stands graph.new) C.fits }
+    ensures search { (g : G.Graph) → G.explores graph.old g → IsNonNegative (G.step g)
+        → IfOk result (λ r. IsSearch (by_cost C.value) (G.step g) (λ k. nat_eq k start) (G.stands graph.new) r.0.items) }
+    ensures passed { (g : G.Graph) → G.explores graph.old g
+        → IfOk result (λ r. (k : ℕ) (l : Label C) (x : G.Node) → HasLabel r.0.items k l → l.settled ≡ true → G.stands graph.new k x → G.passes g x ≡ false) }
+    ensures goal { (g : G.Graph) → G.explores graph.old g
+        → IfOk result (λ r. IfSome r.1 (λ k. (x : G.Node) → G.stands graph.new k x → G.passes g x ≡ true)) }
+    ensures overflow { (g : G.Graph) → G.explores graph.old g → IsNonNegative (G.step g)
+        → result ≡ Err PathError.CostOverflow → IsTooDear (G.step g) (G.passes g) (G.stands graph.old start) (G.stands graph.new) C.fits }
     ensures errors { IfErr result (λ e. (e ≡ PathError.OutOfMemory) ⊎ (e ≡ PathError.CostOverflow)) }
 {
     let mut search = Search::begin(alloc, graph.found(), start)?;
@@ -89,30 +89,29 @@ where
 
 /// The map of the parents and costs that a search from the only node that was found comes to, and the
 /// node at which it stops.
-fn partial_map<N, C, IN, FN, FS, A>(
+fn partial_map<N, C, S, T, A>(
     alloc: A,
-    graph: &mut Tested<N, Weighted, IN, FN, FS, A>,
+    graph: &mut Tested<N, S, T, A>,
 ) -> Result<(Parents<N, C, A>, Option<N>), PathError>
 where
     N: Eq + Hash + Clone + Drop,
     C: Cost,
-    IN: IntoIterator<Item = (N, C)>,
-    FN: FnMut(&N) -> IN,
-    FS: FnMut(&N) -> bool,
+    S: EdgeSource<N, C>,
+    T: NodeTest<N>,
     A: Allocator + Copy,
     requires clones { IsLawfulClone N.eq N.is_clone }
     requires one { length graph.old.discovery.nodes.keys ≡ 1 }
     requires graph { (edges : N → List (N × ℤ)) × (start : N) × (test : N → Bool)
-        × IsBegun N.eq C.value IN.into_iter_gives IN.IntoIter.can_next IN.IntoIter.remaining IN.IntoIter.next_gives FN.FnMut FS.FnMut edges start test graph.old.discovery.nodes.keys graph.old.discovery.successors graph.old.success
+        × IsBegun N.eq S.answers T.answers edges start test graph.old.discovery.nodes.keys graph.old.discovery.source graph.old.success
         × HasNoNegativeCost N.eq edges (start ∷ []) }
 
     ensures partial { (edges : N → List (N × ℤ)) (start : N) (test : N → Bool)
-        → IsBegun N.eq C.value IN.into_iter_gives IN.IntoIter.can_next IN.IntoIter.remaining IN.IntoIter.next_gives FN.FnMut FS.FnMut edges start test graph.old.discovery.nodes.keys graph.old.discovery.successors graph.old.success
+        → IsBegun N.eq S.answers T.answers edges start test graph.old.discovery.nodes.keys graph.old.discovery.source graph.old.success
         → HasNoNegativeCost N.eq edges (start ∷ [])
         → IfOk result (λ found. IsPartialMap N.eq edges start C.value (get N.eq found.0) test found.1) }
 
     ensures overflow { (edges : N → List (N × ℤ)) (start : N) (test : N → Bool)
-        → IsBegun N.eq C.value IN.into_iter_gives IN.IntoIter.can_next IN.IntoIter.remaining IN.IntoIter.next_gives FN.FnMut FS.FnMut edges start test graph.old.discovery.nodes.keys graph.old.discovery.successors graph.old.success
+        → IsBegun N.eq S.answers T.answers edges start test graph.old.discovery.nodes.keys graph.old.discovery.source graph.old.success
         → HasNoNegativeCost N.eq edges (start ∷ [])
         → result ≡ Err PathError.CostOverflow
         → IsPastRange N.eq edges (start ∷ []) test C.fits }
@@ -235,10 +234,11 @@ where
 {
     let discovery = Discovery {
         nodes: clone_of(alloc, start)?,
-        successors,
-        form: PhantomData,
+        source: Weighted {
+            function: successors,
+        },
     };
-    let mut graph: Tested<N, Weighted, IN, FN, FS, A> = Tested {
+    let mut graph = Tested {
         discovery,
         success: stop,
     };

@@ -13,23 +13,22 @@ use std::alloc::Allocator;
 use std::hash::Hash;
 
 /// The tree path to the first node that passes, on a walk that has given none yet.
-fn path_to_first<N, IN, FN, FS, A>(
+fn path_to_first<N, F, T, A>(
     alloc: A,
-    walk: &mut DfsReachable<N, IN, FN, A>,
-    success: &mut FS,
+    walk: &mut DfsReachable<N, F, A>,
+    success: &mut T,
 ) -> Result<Option<Vec<N, A>>, PathError>
 where
     N: Eq + Hash + Clone + Drop,
-    IN: IntoIterator<Item = N>,
-    FN: FnMut(&N) -> IN,
-    FS: FnMut(&N) -> bool,
+    F: SuccessorFunction<N>,
+    T: NodeTest<N>,
     A: Allocator + Copy,
     requires clones { IsLawfulClone N.eq N.is_clone }
     requires graph { (next : N → List N) × (start : N) × (test : N → Bool)
-        × IsTestedWalk N.eq IN.into_iter_gives IN.IntoIter.can_next IN.IntoIter.remaining IN.IntoIter.next_gives FN.FnMut FS.FnMut next start test walk.old success.old }
+        × IsTestedWalk N.eq F.answers T.answers next start test walk.old success.old }
 
     ensures first { (next : N → List N) (start : N) (test : N → Bool)
-        → IsTestedWalk N.eq IN.into_iter_gives IN.IntoIter.can_next IN.IntoIter.remaining IN.IntoIter.next_gives FN.FnMut FS.FnMut next start test walk.old success.old
+        → IsTestedWalk N.eq F.answers T.answers next start test walk.old success.old
         → IfOk result (λ answer. MatchOption answer
         (HasNoGoalWalk N.eq (HasSuccessor N.eq next) (start ∷ []) test)
         (λ path. IsGoalPath N.eq (HasSuccessor N.eq next) (start ∷ []) test path.items × IsFirstTreePath N.eq next start test path.items)) }
@@ -40,7 +39,7 @@ where
         let Some(node) = walk.step()? else {
             return Ok(None);
         };
-        if success(&node) {
+        if success.passes(&node) {
             let path = walk.path(alloc)?;
             return Ok(Some(path));
         }

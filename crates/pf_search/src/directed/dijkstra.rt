@@ -17,46 +17,45 @@ pub use both_ends::dijkstra_bidirectional;
 use pf_base::utils::Tally;
 use pf_base::{Cost, EdgeFunction, NodeTest, PathError};
 use pf_core::cheapest::cheapest_path;
-use pf_core::discovery::{Discovery, Weighted, clone_of};
+use pf_core::discovery::{Discovery, clone_of};
+use pf_core::source::{EdgeSource, Weighted};
 use pf_core::tested::Tested;
 use std::alloc::Allocator;
 use std::hash::Hash;
-use std::marker::PhantomData;
 
 /// A cheapest path from the only node that was found, with its cost and one tick of `tally` for each
 /// node whose successors are asked for.
-fn path_tallied<N, C, IN, FN, FS, A>(
+fn path_tallied<N, C, S, T, A>(
     alloc: A,
-    graph: &mut Tested<N, Weighted, IN, FN, FS, A>,
+    graph: &mut Tested<N, S, T, A>,
     tally: &mut Tally,
 ) -> Result<Option<(Vec<N, A>, C)>, PathError>
 where
     N: Eq + Hash + Clone + Drop,
     C: Cost,
-    IN: IntoIterator<Item = (N, C)>,
-    FN: FnMut(&N) -> IN,
-    FS: FnMut(&N) -> bool,
+    S: EdgeSource<N, C>,
+    T: NodeTest<N>,
     A: Allocator + Copy,
     requires clones { IsLawfulClone N.eq N.is_clone }
     requires one { length graph.old.discovery.nodes.keys ≡ 1 }
     requires graph { (edges : N → List (N × ℤ)) × (start : N) × (test : N → Bool)
-        × IsBegun N.eq C.value IN.into_iter_gives IN.IntoIter.can_next IN.IntoIter.remaining IN.IntoIter.next_gives FN.FnMut FS.FnMut edges start test graph.old.discovery.nodes.keys graph.old.discovery.successors graph.old.success }
+        × IsBegun N.eq S.answers T.answers edges start test graph.old.discovery.nodes.keys graph.old.discovery.source graph.old.success }
 
     ensures best { (edges : N → List (N × ℤ)) (start : N) (test : N → Bool)
-        → IsBegun N.eq C.value IN.into_iter_gives IN.IntoIter.can_next IN.IntoIter.remaining IN.IntoIter.next_gives FN.FnMut FS.FnMut edges start test graph.old.discovery.nodes.keys graph.old.discovery.successors graph.old.success
+        → IsBegun N.eq S.answers T.answers edges start test graph.old.discovery.nodes.keys graph.old.discovery.source graph.old.success
         → HasNoNegativeCost N.eq edges (start ∷ [])
         → IfOk result (λ answer. MatchOption answer
         (HasNoGoalWalk N.eq (IsSuccessor N.eq edges) (start ∷ []) test)
         (λ found. IsCheapestGoalPath N.eq edges (start ∷ []) test found.0.items (C.value found.1))) }
 
     ensures overflow { (edges : N → List (N × ℤ)) (start : N) (test : N → Bool)
-        → IsBegun N.eq C.value IN.into_iter_gives IN.IntoIter.can_next IN.IntoIter.remaining IN.IntoIter.next_gives FN.FnMut FS.FnMut edges start test graph.old.discovery.nodes.keys graph.old.discovery.successors graph.old.success
+        → IsBegun N.eq S.answers T.answers edges start test graph.old.discovery.nodes.keys graph.old.discovery.source graph.old.success
         → HasNoNegativeCost N.eq edges (start ∷ [])
         → result ≡ Err PathError.CostOverflow
         → IsPastRange N.eq edges (start ∷ []) test C.fits }
 
     ensures asked { (edges : N → List (N × ℤ)) (start : N) (test : N → Bool)
-        → IsBegun N.eq C.value IN.into_iter_gives IN.IntoIter.can_next IN.IntoIter.remaining IN.IntoIter.next_gives FN.FnMut FS.FnMut edges start test graph.old.discovery.nodes.keys graph.old.discovery.successors graph.old.success
+        → IsBegun N.eq S.answers T.answers edges start test graph.old.discovery.nodes.keys graph.old.discovery.source graph.old.success
         → IsAtMostNumberOf N.eq (InReach N.eq edges (start ∷ [])) (tally.new - tally.old) }
 
     ensures ticked { tally.old ≤ tally.new }
@@ -171,9 +170,9 @@ where
 {
     let discovery = Discovery {
         nodes: clone_of(alloc, start)?,
-        successors,
-        form: PhantomData,
+        source: Weighted {
+            function: successors,
+        },
     };
-    let mut graph: Tested<N, Weighted, IN, FN, FS, A> = Tested { discovery, success };
-    path_tallied(alloc, &mut graph, tally)
+    path_tallied(alloc, &mut Tested { discovery, success }, tally)
 }

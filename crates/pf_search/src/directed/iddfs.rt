@@ -36,47 +36,46 @@ where
 }
 
 /// Does the node at the end of a path pass?
-fn end_passes<N, FS, A>(path: &Vec<N, A>, success: &mut FS) -> bool
+fn end_passes<N, T, A>(path: &Vec<N, A>, success: &mut T) -> bool
 where
     N: Eq,
-    FS: FnMut(&N) -> bool,
+    T: NodeTest<N>,
     A: Allocator,
     requires { (next : N → List N) × (starts : List N) × (test : N → Bool)
-        × ⟦<FS as NodeTest<N>>⟧.answers success.old (IsReachable N.eq (HasSuccessor N.eq next) starts) test
+        × T.answers success.old (IsReachable N.eq (HasSuccessor N.eq next) starts) test
         × IsPathFrom N.eq next starts path.now.items }
     ensures { (next : N → List N) (starts : List N) (test : N → Bool)
-        → ⟦<FS as NodeTest<N>>⟧.answers success.old (IsReachable N.eq (HasSuccessor N.eq next) starts) test
+        → T.answers success.old (IsReachable N.eq (HasSuccessor N.eq next) starts) test
         → IsPathFrom N.eq next starts path.now.items
-        → ⟦<FS as NodeTest<N>>⟧.answers success.new (IsReachable N.eq (HasSuccessor N.eq next) starts) test
+        → T.answers success.new (IsReachable N.eq (HasSuccessor N.eq next) starts) test
         × MatchBool result (IsGoalPath N.eq (HasSuccessor N.eq next) starts test path.now.items) (NoGoalBeyond N.eq next starts test true 0 path.now.items) }
 {
     let here = path.len() - 1;
-    success(&path[here])
+    success.passes(&path[here])
 }
 
 /// The successors of the node at the end of a path, the last one first.
-fn answer_of<N, IN, FN, A>(
+fn answer_of<N, F, A>(
     alloc: A,
     path: &Vec<N, A>,
-    successors: &mut FN,
+    successors: &mut F,
 ) -> Result<Vec<N, A>, PathError>
 where
     N: Eq + Drop,
-    IN: IntoIterator<Item = N>,
-    FN: FnMut(&N) -> IN,
+    F: SuccessorFunction<N>,
     A: Allocator + Copy,
     requires graph { (next : N → List N) × (starts : List N)
-        × ⟦<FN as SuccessorFunction<N>>⟧.answers successors.old (IsReachable N.eq (HasSuccessor N.eq next) starts) next
+        × F.answers successors.old (IsReachable N.eq (HasSuccessor N.eq next) starts) next
         × IsPathFrom N.eq next starts path.now.items }
     ensures graph { (next : N → List N) (starts : List N)
-        → ⟦<FN as SuccessorFunction<N>>⟧.answers successors.old (IsReachable N.eq (HasSuccessor N.eq next) starts) next
+        → F.answers successors.old (IsReachable N.eq (HasSuccessor N.eq next) starts) next
         → IsPathFrom N.eq next starts path.now.items
-        → ⟦<FN as SuccessorFunction<N>>⟧.answers successors.new (IsReachable N.eq (HasSuccessor N.eq next) starts) next
+        → F.answers successors.new (IsReachable N.eq (HasSuccessor N.eq next) starts) next
         × IfOk result (λ answer. FollowsEnd N.eq next path.now.items answer.items) }
     ensures refused { IfErr result (λ e. e ≡ PathError.OutOfMemory) }
 {
     let here = path.len() - 1;
-    let items = successors(&path[here]);
+    let items = successors.successors(&path[here]);
     let mut answer = collected(alloc, items)?;
     answer.reverse();
     Ok(answer)
@@ -84,26 +83,25 @@ where
 
 /// Looks for a path to a node that passes among those that go on from `path` by at most `steps`
 /// edges, and leaves it in `path`.
-fn deepen<N, IN, FN, FS, A>(
+fn deepen<N, F, T, A>(
     alloc: A,
     path: &mut Vec<N, A>,
     steps: usize,
-    successors: &mut FN,
-    success: &mut FS,
+    successors: &mut F,
+    success: &mut T,
 ) -> Result<Deepened, PathError>
 where
     N: Eq + Drop,
-    IN: IntoIterator<Item = N>,
-    FN: FnMut(&N) -> IN,
-    FS: FnMut(&N) -> bool,
+    F: SuccessorFunction<N>,
+    T: NodeTest<N>,
     A: Allocator + Copy,
     requires graph { (next : N → List N) × (starts : List N) × (test : N → Bool)
-        × IsUnweightedSearch N.eq next starts (⟦<FN as SuccessorFunction<N>>⟧.answers successors.old) (⟦<FS as NodeTest<N>>⟧.answers success.old) test
+        × IsUnweightedSearch N.eq next starts (F.answers successors.old) (T.answers success.old) test
         × IsPathFrom N.eq next starts path.old.items }
     ensures graph { (next : N → List N) (starts : List N) (test : N → Bool)
-        → IsUnweightedSearch N.eq next starts (⟦<FN as SuccessorFunction<N>>⟧.answers successors.old) (⟦<FS as NodeTest<N>>⟧.answers success.old) test
+        → IsUnweightedSearch N.eq next starts (F.answers successors.old) (T.answers success.old) test
         → IsPathFrom N.eq next starts path.old.items
-        → IfOk result (λ found. IsUnweightedSearch N.eq next starts (⟦<FN as SuccessorFunction<N>>⟧.answers successors.new) (⟦<FS as NodeTest<N>>⟧.answers success.new) test
+        → IfOk result (λ found. IsUnweightedSearch N.eq next starts (F.answers successors.new) (T.answers success.new) test
         × Deepens N.eq next starts test steps found path.old.items path.new.items) }
     ensures refused { IfErr result (λ e. e ≡ PathError.OutOfMemory) }
 {

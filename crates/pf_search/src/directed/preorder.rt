@@ -16,30 +16,31 @@ use crate::directed::breadth::put_start;
 use indexmap::IndexSet;
 use pf_base::{PathError, SuccessorFunction};
 use pf_core::depth_first::DepthFirst;
-use pf_core::discovery::{Discovery, Unweighted, clones_at};
+use pf_core::discovery::{Discovery, clones_at};
 use pf_core::numbered::NumberedGraph;
+use pf_core::source::Unweighted;
 use std::alloc::{Allocator, Global};
 use std::hash::Hash;
-use std::marker::{Model, PhantomData};
+use std::marker::Model;
 
 /// The nodes in reach of a start, in preorder.
 #[derive(Drop)]
-pub struct DfsReachable<N: Eq + Hash, IN, FN, A: Allocator = Global> {
+pub struct DfsReachable<N: Eq + Hash, F, A: Allocator = Global> {
     start: Option<N>,
-    graph: Discovery<N, Unweighted, IN, FN, A>,
+    graph: Discovery<N, Unweighted<F>, A>,
     walk: DepthFirst<A>,
     refused: bool,
 }
 
-impl<N: Eq + Hash, IN, FN, A: Allocator> Model for DfsReachable<N, IN, FN, A> {
+impl<N: Eq + Hash, F, A: Allocator> Model for DfsReachable<N, F, A> {
     ghost use Rattle.pf_search.specs.DepthWalks.{DepthWalk, walk_code};
     ghost use Rattle.pf_search.specs.Internal.Breadth.{found_or};
     ghost use Rattle.pf_search.specs.Internal.Depth.{IsUnbegun};
     ghost use Rattle.std.specs.Prelude.{length};
 
-    ghost Value = { DepthWalk N FN };
+    ghost Value = { DepthWalk N F };
 
-    ghost coded = { walk_code N.code FN.code };
+    ghost coded = { walk_code N.code F.code };
 
     ghost view = { λ s. record {
       found = found_or s.start s.graph.nodes.keys;
@@ -48,17 +49,16 @@ impl<N: Eq + Hash, IN, FN, A: Allocator> Model for DfsReachable<N, IN, FN, A> {
       path = s.walk.path.items;
       waiting = s.walk.waiting.items;
       refused = s.refused;
-      successors = s.graph.successors;
+      successors = s.graph.source.function;
     } };
 
     ghost invariant = { λ s. IsUnbegun s.start s.graph.nodes.keys (length s.walk.given.items) };
 }
 
-impl<N, IN, FN, A> DfsReachable<N, IN, FN, A>
+impl<N, F, A> DfsReachable<N, F, A>
 where
     N: Eq + Hash + Clone + Drop,
-    IN: IntoIterator<Item = N>,
-    FN: FnMut(&N) -> IN,
+    F: SuccessorFunction<N>,
     A: Allocator + Copy,
 {
     /// Goes along the next tree path, and answers a clone of its last node. Where memory is refused, the
@@ -66,11 +66,11 @@ where
     pub(crate) fn step(&mut self) -> Result<Option<N>, PathError>
         requires clones { IsLawfulClone N.eq N.is_clone }
         requires graph { (next : N → List N) × (start : N) × (paths : List (List N))
-            × IsDepthWalk N.eq next start IN.into_iter_gives IN.IntoIter.can_next IN.IntoIter.remaining IN.IntoIter.next_gives FN.FnMut paths self.old }
+            × IsDepthWalk N.eq F.answers next start paths self.old }
         ensures same { self.new.refused ≡ self.old.refused }
         ensures walks { (next : N → List N) (start : N) (paths : List (List N))
-            → IsDepthWalk N.eq next start IN.into_iter_gives IN.IntoIter.can_next IN.IntoIter.remaining IN.IntoIter.next_gives FN.FnMut paths self.old
-            → DepthGoes N.eq next start (λ done. IsDepthWalk N.eq next start IN.into_iter_gives IN.IntoIter.can_next IN.IntoIter.remaining IN.IntoIter.next_gives FN.FnMut done self.new) paths result }
+            → IsDepthWalk N.eq F.answers next start paths self.old
+            → DepthGoes N.eq next start (λ done. IsDepthWalk N.eq F.answers next start done self.new) paths result }
         ensures refused { IfErr result (λ e. e ≡ PathError.OutOfMemory) }
     {
         put_start(&mut self.start, &mut self.graph.nodes)?;
@@ -85,7 +85,7 @@ where
     }
 }
 
-impl<N, IN, FN, A> DfsReachable<N, IN, FN, A>
+impl<N, F, A> DfsReachable<N, F, A>
 where
     N: Eq + Hash + Clone + Drop,
     A: Allocator + Copy,
@@ -102,21 +102,20 @@ where
     }
 }
 
-impl<N, IN, FN, A> Iterator for DfsReachable<N, IN, FN, A>
+impl<N, F, A> Iterator for DfsReachable<N, F, A>
 where
     N: Eq + Hash + Clone + Drop,
-    IN: IntoIterator<Item = N>,
-    FN: FnMut(&N) -> IN,
+    F: SuccessorFunction<N>,
     A: Allocator + Copy,
 {
     type Item = Result<N, PathError>;
 
     ghost can_next = { λ s. IsLawfulClone N.eq N.is_clone × ((next : N → List N) × (start : N) × (paths : List (List N))
-        × IsDepthWalk N.eq next start IN.into_iter_gives IN.IntoIter.can_next IN.IntoIter.remaining IN.IntoIter.next_gives FN.FnMut paths s) };
+        × IsDepthWalk N.eq F.answers next start paths s) };
 
     ghost next_gives = { λ s r t. (next : N → List N) (start : N) (paths : List (List N))
-        → IsDepthWalk N.eq next start IN.into_iter_gives IN.IntoIter.can_next IN.IntoIter.remaining IN.IntoIter.next_gives FN.FnMut paths s
-        → DepthStep N.eq next start (λ done w. IsDepthWalk N.eq next start IN.into_iter_gives IN.IntoIter.can_next IN.IntoIter.remaining IN.IntoIter.next_gives FN.FnMut done w) paths s r t };
+        → IsDepthWalk N.eq F.answers next start paths s
+        → DepthStep N.eq next start (λ done w. IsDepthWalk N.eq F.answers next start done w) paths s r t };
 
     ghost remaining = { λ s. at_most (most_items s.given s.refused) };
 
@@ -126,10 +125,10 @@ where
     ///
     /// After an `Err` the walk is as before that step, and answers `None` until `resume` is called.
     fn next(&mut self) -> Option<Result<N, PathError>>
-        requires { ⟦<DfsReachable<N, IN, FN, A> as Iterator>⟧.can_next self.old }
-        ensures steps { ⟦<DfsReachable<N, IN, FN, A> as Iterator>⟧.next_gives self.old result self.new }
-        ensures goes { MakesProgress ⟦<DfsReachable<N, IN, FN, A> as Iterator>⟧.can_next ⟦<DfsReachable<N, IN, FN, A> as Iterator>⟧.remaining self.old result self.new }
-        ensures again { ⟦<DfsReachable<N, IN, FN, A> as Iterator>⟧.can_next self.new }
+        requires { ⟦<DfsReachable<N, F, A> as Iterator>⟧.can_next self.old }
+        ensures steps { ⟦<DfsReachable<N, F, A> as Iterator>⟧.next_gives self.old result self.new }
+        ensures goes { MakesProgress ⟦<DfsReachable<N, F, A> as Iterator>⟧.can_next ⟦<DfsReachable<N, F, A> as Iterator>⟧.remaining self.old result self.new }
+        ensures again { ⟦<DfsReachable<N, F, A> as Iterator>⟧.can_next self.new }
         ensures refused { IfSome result (λ item. IfErr item (λ e. e ≡ PathError.OutOfMemory)) }
     {
         if self.refused {
@@ -161,7 +160,7 @@ pub fn dfs_reach<N, IN, FN, A>(
     alloc: A,
     start: N,
     successors: FN,
-) -> Result<DfsReachable<N, IN, FN, A>, PathError>
+) -> Result<DfsReachable<N, FN, A>, PathError>
 where
     N: Eq + Hash + Clone + Drop,
     IN: IntoIterator<Item = N>,
@@ -169,22 +168,23 @@ where
     A: Allocator + Copy,
     ensures ready { IfOk result (λ walk. walk.refused ≡ false) }
     ensures graph { (next : N → List N) → ⟦<FN as SuccessorFunction<N>>⟧.answers successors (IsReachable N.eq (HasSuccessor N.eq next) (start ∷ [])) next
-        → IfOk result (λ walk. IsDepthWalk N.eq next start IN.into_iter_gives IN.IntoIter.can_next IN.IntoIter.remaining IN.IntoIter.next_gives FN.FnMut [] walk) }
+        → IfOk result (λ walk. IsDepthWalk N.eq (⟦<FN as SuccessorFunction<N>>⟧.answers) next start [] walk) }
     ensures good { IsOk result }
 {
     Ok(DfsReachable {
         start: Some(start),
         graph: Discovery {
             nodes: IndexSet::new(alloc),
-            successors,
-            form: PhantomData,
+            source: Unweighted {
+                function: successors,
+            },
         },
         walk: DepthFirst::new(alloc),
         refused: false,
     })
 }
 
-impl<N, IN, FN, A> DfsReachable<N, IN, FN, A>
+impl<N, F, A> DfsReachable<N, F, A>
 where
     N: Eq + Hash,
     A: Allocator,

@@ -1,6 +1,6 @@
 //! Paths with fewest edges, searched from both ends.
 
-ghost use Rattle.std.specs.Prelude.{◌≡◌, pos, List, IfOk, IfErr, MatchOption};
+ghost use Rattle.std.specs.Prelude.{◌≡◌, List, IfOk, IfErr, MatchOption};
 ghost use Rattle.pf_base.specs.Walks.{HasNoGoalWalk};
 ghost use Rattle.pf_base.specs.Successors.{HasSuccessor, IsFewestEdgesGoalPath};
 ghost use Rattle.pf_base.specs.Mirrors.{is_among, IsMirror, IsSearchFromBothEnds};
@@ -11,33 +11,31 @@ ghost use Rattle.pf_base.specs.NodeRefs.{HasSameNodes};
 
 use pf_base::{NodeRefs, PathError, SuccessorFunction};
 use pf_core::both_ends::fewest_edges_between;
-use pf_core::discovery::{Discovery, Unweighted, clones_of};
+use pf_core::discovery::{Discovery, clones_of};
+use pf_core::source::{EdgeSource, Unweighted};
 use pf_core::two_sided::TwoSided;
 use std::alloc::Allocator;
 use std::hash::Hash;
-use std::marker::PhantomData;
 
 /// A path with fewest edges from a node that was found on the way forth to one that was found on the
 /// way back.
-fn path_between<N, IN, FN, IM, FM, A>(
+fn path_between<N, S, P, A>(
     alloc: A,
-    graph: &mut TwoSided<N, Unweighted, IN, FN, IM, FM, A>,
+    graph: &mut TwoSided<N, S, P, A>,
 ) -> Result<Option<Vec<N, A>>, PathError>
 where
     N: Eq + Hash + Clone + Drop,
-    IN: IntoIterator<Item = N>,
-    FN: FnMut(&N) -> IN,
-    IM: IntoIterator<Item = N>,
-    FM: FnMut(&N) -> IM,
+    S: EdgeSource<N, u8>,
+    P: EdgeSource<N, u8>,
     A: Allocator + Copy,
     requires clones { IsLawfulClone N.eq N.is_clone }
     requires graph { (next previous : N → List N) × (starts ends : List N)
-        × Explores N.eq pos (λ y. (y, 1)) IN.into_iter_gives IN.IntoIter.can_next IN.IntoIter.remaining IN.IntoIter.next_gives FN.FnMut (hops_from starts next) graph.old.forth.nodes.keys graph.old.forth.successors
-        × Explores N.eq pos (λ y. (y, 1)) IM.into_iter_gives IM.IntoIter.can_next IM.IntoIter.remaining IM.IntoIter.next_gives FM.FnMut (hops_from ends previous) graph.old.back.nodes.keys graph.old.back.successors }
+        × Explores N.eq S.answers (hops_from starts next) graph.old.forth.nodes.keys graph.old.forth.source
+        × Explores N.eq P.answers (hops_from ends previous) graph.old.back.nodes.keys graph.old.back.source }
 
     ensures best { (next previous : N → List N) (starts ends : List N)
-        → Explores N.eq pos (λ y. (y, 1)) IN.into_iter_gives IN.IntoIter.can_next IN.IntoIter.remaining IN.IntoIter.next_gives FN.FnMut (hops_from starts next) graph.old.forth.nodes.keys graph.old.forth.successors
-        → Explores N.eq pos (λ y. (y, 1)) IM.into_iter_gives IM.IntoIter.can_next IM.IntoIter.remaining IM.IntoIter.next_gives FM.FnMut (hops_from ends previous) graph.old.back.nodes.keys graph.old.back.successors
+        → Explores N.eq S.answers (hops_from starts next) graph.old.forth.nodes.keys graph.old.forth.source
+        → Explores N.eq P.answers (hops_from ends previous) graph.old.back.nodes.keys graph.old.back.source
         → HasSameNodes N.eq graph.old.forth.nodes.keys starts → HasSameNodes N.eq graph.old.back.nodes.keys ends
         → IsMirror N.eq next previous starts ends
         → IfOk result (λ answer. MatchOption answer
@@ -100,14 +98,15 @@ where
 {
     let forth = Discovery {
         nodes: clones_of(alloc, starts)?,
-        successors,
-        form: PhantomData,
+        source: Unweighted {
+            function: successors,
+        },
     };
     let back = Discovery {
         nodes: clones_of(alloc, ends)?,
-        successors: predecessors,
-        form: PhantomData,
+        source: Unweighted {
+            function: predecessors,
+        },
     };
-    let mut graph: TwoSided<N, Unweighted, IN, FN, IM, FM, A> = TwoSided { forth, back };
-    path_between(alloc, &mut graph)
+    path_between(alloc, &mut TwoSided { forth, back })
 }

@@ -1,6 +1,6 @@
 //! Loops with fewest edges.
 
-ghost use Rattle.std.specs.Prelude.{◌≡◌, pos, List, IfOk, IfErr, MatchOption};
+ghost use Rattle.std.specs.Prelude.{◌≡◌, List, IfOk, IfErr, MatchOption};
 ghost use Rattle.pf_base.specs.Walks.{IsReachable};
 ghost use Rattle.pf_base.specs.Successors.{HasSuccessor};
 ghost use Rattle.pf_base.specs.Loops.{HasNoLoop, IsBestLoop};
@@ -10,29 +10,28 @@ ghost use Rattle.pf_core.specs.Nodes.{Explores};
 ghost use Rattle.pf_search.specs.Internal.Hops.{hops_from};
 
 use pf_base::{NodeRefs, PathError, SuccessorFunction};
-use pf_core::discovery::{Discovery, Unweighted, clones_at, clones_of};
+use pf_core::discovery::{Discovery, clones_at, clones_of};
 use pf_core::fewest_loop::fewest_edges_loop;
+use pf_core::source::{EdgeSource, Unweighted};
 use std::alloc::Allocator;
 use std::hash::Hash;
-use std::marker::PhantomData;
 
 /// A walk of at least one step, with fewest edges, from a node that was found before to another or the
 /// same.
-fn loop_from<N, IN, FN, A>(
+fn loop_from<N, S, A>(
     alloc: A,
-    graph: &mut Discovery<N, Unweighted, IN, FN, A>,
+    graph: &mut Discovery<N, S, A>,
 ) -> Result<Option<Vec<N, A>>, PathError>
 where
     N: Eq + Hash + Clone + Drop,
-    IN: IntoIterator<Item = N>,
-    FN: FnMut(&N) -> IN,
+    S: EdgeSource<N, u8>,
     A: Allocator + Copy,
     requires clones { IsLawfulClone N.eq N.is_clone }
     requires graph { (next : N → List N) × (starts : List N)
-        × Explores N.eq pos (λ y. (y, 1)) IN.into_iter_gives IN.IntoIter.can_next IN.IntoIter.remaining IN.IntoIter.next_gives FN.FnMut (hops_from starts next) graph.old.nodes.keys graph.old.successors }
+        × Explores N.eq S.answers (hops_from starts next) graph.old.nodes.keys graph.old.source }
 
     ensures best { (next : N → List N) (starts : List N)
-        → Explores N.eq pos (λ y. (y, 1)) IN.into_iter_gives IN.IntoIter.can_next IN.IntoIter.remaining IN.IntoIter.next_gives FN.FnMut (hops_from starts next) graph.old.nodes.keys graph.old.successors
+        → Explores N.eq S.answers (hops_from starts next) graph.old.nodes.keys graph.old.source
         → HasSameNodes N.eq graph.old.nodes.keys starts
         → IfOk result (λ answer. MatchOption answer (HasNoLoop N.eq next starts) (λ path. IsBestLoop N.eq next starts path.items)) }
 
@@ -79,10 +78,11 @@ where
 
     ensures errors { IfErr result (λ e. e ≡ PathError.OutOfMemory) }
 {
-    let mut graph: Discovery<N, Unweighted, IN, FN, A> = Discovery {
+    let mut graph = Discovery {
         nodes: clones_of(alloc, starts)?,
-        successors,
-        form: PhantomData,
+        source: Unweighted {
+            function: successors,
+        },
     };
     loop_from(alloc, &mut graph)
 }

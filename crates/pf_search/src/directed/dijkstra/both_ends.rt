@@ -14,13 +14,13 @@ ghost use Rattle.pf_search.specs.Internal.BothEnds.{from_one, bound, AreSound, I
 
 use pf_base::{Cost, EdgeFunction, PathError};
 use pf_core::both_ends::Halves;
-use pf_core::discovery::{Discovery, Nodes, Weighted, clone_of};
+use pf_core::discovery::{Discovery, Nodes, clone_of};
 use pf_core::labels::{label_of, path_to};
 use pf_core::search::Search;
+use pf_core::source::{EdgeSource, Weighted};
 use pf_core::two_sided::TwoSided;
 use std::alloc::Allocator;
 use std::hash::Hash;
-use std::marker::PhantomData;
 
 /// A node that both searches found: its number on the one side and on the other, and what the path
 /// through it costs.
@@ -151,28 +151,26 @@ fn waits_for_no_more<C: Cost, A: Allocator>(search: &Search<C, A>, other: &Searc
 ///
 /// Where the way back finds a sum that does not fit, it goes no further: the walk that costs too much
 /// ends at the end, but it need not begin at the start. The way forth goes on alone.
-fn best_meeting<N, C, IN, FN, IM, FM, A>(
-    graph: &mut TwoSided<N, Weighted, IN, FN, IM, FM, A>,
+fn best_meeting<N, C, S, P, A>(
+    graph: &mut TwoSided<N, S, P, A>,
     forth: &mut Search<C, A>,
     back: &mut Search<C, A>,
 ) -> Result<Option<Meeting<C>>, PathError>
 where
     N: Eq + Hash + Drop,
     C: Cost,
-    IN: IntoIterator<Item = (N, C)>,
-    FN: FnMut(&N) -> IN,
-    IM: IntoIterator<Item = (N, C)>,
-    FM: FnMut(&N) -> IM,
+    S: EdgeSource<N, C>,
+    P: EdgeSource<N, C>,
     A: Allocator + Copy,
     requires sound { AreSound C.cmp C.value graph.old.forth.nodes.keys graph.old.back.nodes.keys forth.old.labels.items back.old.labels.items (heap_items forth.old.queue) (heap_items back.old.queue) }
     requires pair { (edges previous : N → List (N × ℤ)) × (start end : N)
-        × Explores N.eq C.value (λ e. e) IN.into_iter_gives IN.IntoIter.can_next IN.IntoIter.remaining IN.IntoIter.next_gives FN.FnMut (from_one start edges) graph.old.forth.nodes.keys graph.old.forth.successors
-        × Explores N.eq C.value (λ e. e) IM.into_iter_gives IM.IntoIter.can_next IM.IntoIter.remaining IM.IntoIter.next_gives FM.FnMut (from_one end previous) graph.old.back.nodes.keys graph.old.back.successors
+        × Explores N.eq S.answers (from_one start edges) graph.old.forth.nodes.keys graph.old.forth.source
+        × Explores N.eq P.answers (from_one end previous) graph.old.back.nodes.keys graph.old.back.source
         × IsPair N.eq C.value C.fits edges previous start end graph.old.forth.nodes.keys graph.old.back.nodes.keys forth.old.labels.items back.old.labels.items (C.value C.greatest +ℤ pos 1) }
     ensures sound { OnOk result (AreSound C.cmp C.value graph.new.forth.nodes.keys graph.new.back.nodes.keys forth.new.labels.items back.new.labels.items (heap_items forth.new.queue) (heap_items back.new.queue)) }
     ensures best { (edges previous : N → List (N × ℤ)) (start end : N)
-        → Explores N.eq C.value (λ e. e) IN.into_iter_gives IN.IntoIter.can_next IN.IntoIter.remaining IN.IntoIter.next_gives FN.FnMut (from_one start edges) graph.old.forth.nodes.keys graph.old.forth.successors
-        → Explores N.eq C.value (λ e. e) IM.into_iter_gives IM.IntoIter.can_next IM.IntoIter.remaining IM.IntoIter.next_gives FM.FnMut (from_one end previous) graph.old.back.nodes.keys graph.old.back.successors
+        → Explores N.eq S.answers (from_one start edges) graph.old.forth.nodes.keys graph.old.forth.source
+        → Explores N.eq P.answers (from_one end previous) graph.old.back.nodes.keys graph.old.back.source
         → IsPair N.eq C.value C.fits edges previous start end graph.old.forth.nodes.keys graph.old.back.nodes.keys forth.old.labels.items back.old.labels.items (C.value C.greatest +ℤ pos 1)
         → IfOk result (λ answer. IsPair N.eq C.value C.fits edges previous start end graph.new.forth.nodes.keys graph.new.back.nodes.keys forth.new.labels.items back.new.labels.items (bound C.value (C.value C.greatest) answer)
         × IfSome answer (λ m. IsMeeting N.eq C.value graph.new.forth.nodes.keys graph.new.back.nodes.keys forth.new.labels.items back.new.labels.items m)
@@ -254,9 +252,9 @@ where
 /// The nodes of a path that costs no more than this meeting. Its two halves meet at the first node on
 /// the way forth at which they can, since that node alone is on both: where edges cost nothing, the
 /// halves that meet at another node may have several nodes in common.
-fn path_through<N, C, IN, FN, IM, FM, A>(
+fn path_through<N, C, S, P, A>(
     alloc: A,
-    graph: &TwoSided<N, Weighted, IN, FN, IM, FM, A>,
+    graph: &TwoSided<N, S, P, A>,
     forth: &Search<C, A>,
     back: &Search<C, A>,
     best: Meeting<C>,
@@ -302,29 +300,27 @@ where
 
 /// The path through the best meeting of two searches, `forth` from the start and `back` from the end,
 /// with its cost.
-fn path_across<N, C, IN, FN, IM, FM, A>(
+fn path_across<N, C, S, P, A>(
     alloc: A,
-    graph: &mut TwoSided<N, Weighted, IN, FN, IM, FM, A>,
+    graph: &mut TwoSided<N, S, P, A>,
     forth: &mut Search<C, A>,
     back: &mut Search<C, A>,
 ) -> Result<Option<(Vec<N, A>, C)>, PathError>
 where
     N: Eq + Hash + Clone + Drop,
     C: Cost,
-    IN: IntoIterator<Item = (N, C)>,
-    FN: FnMut(&N) -> IN,
-    IM: IntoIterator<Item = (N, C)>,
-    FM: FnMut(&N) -> IM,
+    S: EdgeSource<N, C>,
+    P: EdgeSource<N, C>,
     A: Allocator + Copy,
     requires clones { IsLawfulClone N.eq N.is_clone }
     requires sound { AreSound C.cmp C.value graph.old.forth.nodes.keys graph.old.back.nodes.keys forth.old.labels.items back.old.labels.items (heap_items forth.old.queue) (heap_items back.old.queue) }
     requires pair { (edges previous : N → List (N × ℤ)) × (start end : N)
-        × Explores N.eq C.value (λ e. e) IN.into_iter_gives IN.IntoIter.can_next IN.IntoIter.remaining IN.IntoIter.next_gives FN.FnMut (from_one start edges) graph.old.forth.nodes.keys graph.old.forth.successors
-        × Explores N.eq C.value (λ e. e) IM.into_iter_gives IM.IntoIter.can_next IM.IntoIter.remaining IM.IntoIter.next_gives FM.FnMut (from_one end previous) graph.old.back.nodes.keys graph.old.back.successors
+        × Explores N.eq S.answers (from_one start edges) graph.old.forth.nodes.keys graph.old.forth.source
+        × Explores N.eq P.answers (from_one end previous) graph.old.back.nodes.keys graph.old.back.source
         × IsPair N.eq C.value C.fits edges previous start end graph.old.forth.nodes.keys graph.old.back.nodes.keys forth.old.labels.items back.old.labels.items (C.value C.greatest +ℤ pos 1) }
     ensures best { (edges previous : N → List (N × ℤ)) (start end : N)
-        → Explores N.eq C.value (λ e. e) IN.into_iter_gives IN.IntoIter.can_next IN.IntoIter.remaining IN.IntoIter.next_gives FN.FnMut (from_one start edges) graph.old.forth.nodes.keys graph.old.forth.successors
-        → Explores N.eq C.value (λ e. e) IM.into_iter_gives IM.IntoIter.can_next IM.IntoIter.remaining IM.IntoIter.next_gives FM.FnMut (from_one end previous) graph.old.back.nodes.keys graph.old.back.successors
+        → Explores N.eq S.answers (from_one start edges) graph.old.forth.nodes.keys graph.old.forth.source
+        → Explores N.eq P.answers (from_one end previous) graph.old.back.nodes.keys graph.old.back.source
         → IsPair N.eq C.value C.fits edges previous start end graph.old.forth.nodes.keys graph.old.back.nodes.keys forth.old.labels.items back.old.labels.items (C.value C.greatest +ℤ pos 1)
         → IfOk result (λ answer. MatchOption answer
         (HasNoGoalWalk N.eq (IsSuccessor N.eq edges) (start ∷ []) (N.eq end))
@@ -343,28 +339,26 @@ where
 
 /// A cheapest path from the only node that was found on the way forth to the only one that was found
 /// on the way back, with its cost.
-fn path_between<N, C, IN, FN, IM, FM, A>(
+fn path_between<N, C, S, P, A>(
     alloc: A,
-    graph: &mut TwoSided<N, Weighted, IN, FN, IM, FM, A>,
+    graph: &mut TwoSided<N, S, P, A>,
 ) -> Result<Option<(Vec<N, A>, C)>, PathError>
 where
     N: Eq + Hash + Clone + Drop,
     C: Cost,
-    IN: IntoIterator<Item = (N, C)>,
-    FN: FnMut(&N) -> IN,
-    IM: IntoIterator<Item = (N, C)>,
-    FM: FnMut(&N) -> IM,
+    S: EdgeSource<N, C>,
+    P: EdgeSource<N, C>,
     A: Allocator + Copy,
     requires clones { IsLawfulClone N.eq N.is_clone }
     requires one_forth { length graph.old.forth.nodes.keys ≡ 1 }
     requires one_back { length graph.old.back.nodes.keys ≡ 1 }
     requires ends { (edges previous : N → List (N × ℤ)) × (start end : N)
-        × Explores N.eq C.value (λ e. e) IN.into_iter_gives IN.IntoIter.can_next IN.IntoIter.remaining IN.IntoIter.next_gives FN.FnMut (from_one start edges) graph.old.forth.nodes.keys graph.old.forth.successors
-        × Explores N.eq C.value (λ e. e) IM.into_iter_gives IM.IntoIter.can_next IM.IntoIter.remaining IM.IntoIter.next_gives FM.FnMut (from_one end previous) graph.old.back.nodes.keys graph.old.back.successors
+        × Explores N.eq S.answers (from_one start edges) graph.old.forth.nodes.keys graph.old.forth.source
+        × Explores N.eq P.answers (from_one end previous) graph.old.back.nodes.keys graph.old.back.source
         × AreEnds N.eq edges previous start end graph.old.forth.nodes.keys graph.old.back.nodes.keys }
     ensures best { (edges previous : N → List (N × ℤ)) (start end : N)
-        → Explores N.eq C.value (λ e. e) IN.into_iter_gives IN.IntoIter.can_next IN.IntoIter.remaining IN.IntoIter.next_gives FN.FnMut (from_one start edges) graph.old.forth.nodes.keys graph.old.forth.successors
-        → Explores N.eq C.value (λ e. e) IM.into_iter_gives IM.IntoIter.can_next IM.IntoIter.remaining IM.IntoIter.next_gives FM.FnMut (from_one end previous) graph.old.back.nodes.keys graph.old.back.successors
+        → Explores N.eq S.answers (from_one start edges) graph.old.forth.nodes.keys graph.old.forth.source
+        → Explores N.eq P.answers (from_one end previous) graph.old.back.nodes.keys graph.old.back.source
         → AreEnds N.eq edges previous start end graph.old.forth.nodes.keys graph.old.back.nodes.keys
         → IfOk result (λ answer. MatchOption answer
         (HasNoGoalWalk N.eq (IsSuccessor N.eq edges) (start ∷ []) (N.eq end))
@@ -434,14 +428,15 @@ where
 {
     let forth = Discovery {
         nodes: clone_of(alloc, start)?,
-        successors,
-        form: PhantomData,
+        source: Weighted {
+            function: successors,
+        },
     };
     let back = Discovery {
         nodes: clone_of(alloc, end)?,
-        successors: predecessors,
-        form: PhantomData,
+        source: Weighted {
+            function: predecessors,
+        },
     };
-    let mut graph: TwoSided<N, Weighted, IN, FN, IM, FM, A> = TwoSided { forth, back };
-    path_between(alloc, &mut graph)
+    path_between(alloc, &mut TwoSided { forth, back })
 }

@@ -1,4 +1,4 @@
-use Rattle.pf_core.proofs.UnitLemmas.{Explores-successors, tests_in_reach}
+use Rattle.pf_core.proofs.UnitLemmas.{Explores-successors_of, tests_in_reach}
 use Rattle.std.proofs.lemmas.Result.{IfOk-from_err}
 use Rattle.pf_search.proofs.ResultLemmas.{refused_as}
 use Rattle.pf_search.proofs.directed.bfs.bfs.Goals as goal
@@ -9,7 +9,7 @@ path_from-requires-clause-graph g c =
     let eq = g.N.PartialEq.eq in
     let starts = c.args.starts.now in
     let found = c.in_ok-clones_of in
-    let x = Explores-successors eq g.met.N.Eq.laws _ _ _ _ _ starts found.field-0.keys r.0 _ found.ensures.distinct found.ensures.same r.2.successors_answered in
+    let x = Explores-successors_of eq g.met.N.Eq.laws _ _ _ _ _ starts found.field-0.keys r.0 _ found.ensures.distinct found.ensures.same r.2.successors_answered in
     (r.0, starts, r.1, x, tests_in_reach eq _ starts r.0 r.1 _ r.2.test_answered)
 
 pub returns-clause-best : goal.returns-clause-best
@@ -17,7 +17,7 @@ returns-clause-best g c = λ next test s.
     let eq = g.N.PartialEq.eq in
     let starts = c.args.starts.now in
     let found = c.in_ok-clones_of in
-    let x = Explores-successors eq g.met.N.Eq.laws _ _ _ _ _ starts found.field-0.keys next _ found.ensures.distinct found.ensures.same s.successors_answered in
+    let x = Explores-successors_of eq g.met.N.Eq.laws _ _ _ _ _ starts found.field-0.keys next _ found.ensures.distinct found.ensures.same s.successors_answered in
     c.path_from.ensures.best next starts test x (tests_in_reach eq _ starts next test _ s.test_answered) found.ensures.same
 
 pub path_from-requires-clause-clones : goal.path_from-requires-clause-clones

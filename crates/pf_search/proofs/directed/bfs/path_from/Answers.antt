@@ -1,4 +1,5 @@
 use Rattle.std.proofs.Common.{List, Bool}
+use Rattle.pf_base.specs.Regions.{along_edges}
 use Rattle.pf_core.specs.NodeLaws.{StandsFor-one}
 use Rattle.pf_core.specs.Nodes.{TestedGraph}
 use Rattle.pf_core.proofs.WalkLemmas.{no_walk, best_answer}
@@ -41,7 +42,7 @@ returns-in-Some-clause-best g c = λ next starts test x u same.
     let b = rw c.in-Some.is at (c.in_ok-fewest_edges_path.ensures.best h (x, u) (is_hop eq starts next)) in
     in_some c.nodes_at.result c.map.result c.map.ensures.cases _ _
     (λ path n. fewest_of_best eq next starts test path.items b.0
-    (best_answer eq laws h.graph x.alike _ (λ s. (begins s).1) (λ s. (begins s).0) test u.alike keys (StandsFor-one eq laws keys y.0.distinct) c.in-Some.numbers.items path.items b.0 b.1 (rw c.deref.ensures.value at n)))
+    (best_answer eq laws h.graph x.alike _ (λ s. (begins s).1) (λ s. (begins s).0) test (g.met.T.NodeTest.alike_law c.args.graph.now.success (along_edges starts h.graph.edges) test u) keys (StandsFor-one eq laws keys y.0.distinct) c.in-Some.numbers.items path.items b.0 b.1 (rw c.deref.ensures.value at n)))
     c.nodes_at.ensures.nodes
 
 pub returns-in-Some-clause-errors : goal.returns-in-Some-clause-errors

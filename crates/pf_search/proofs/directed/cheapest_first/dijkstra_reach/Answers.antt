@@ -1,7 +1,7 @@
 use Rattle.std.proofs.Common.{◌∙◌, refl, false, [], ◌∷◌}
 use Rattle.pf_core.specs.declared.labels.Label.{Label}
 use Rattle.pf_core.specs.Nodes.{NodeGraph, StandsFor, IsStep}
-use Rattle.pf_core.proofs.NodeLemmas.{Explores-edges}
+use Rattle.pf_core.proofs.NodeLemmas.{Explores-edges_of}
 use Rattle.pf_core.proofs.SearchLemmas.{start_alone, none_settled}
 use Rattle.std.proofs.lemmas.Result.{IfOk-from_err}
 use Rattle.pf_search.proofs.ResultLemmas.{refused_as}
@@ -28,7 +28,7 @@ returns-clause-graph g c = λ edges a h.
     let graph : NodeGraph g.row.N.Denot = record { starts = start ∷ []; edges = edges } in
     let here : (x : g.row.N.Denot) × StandsFor eq found.field-0.keys 0 x = (start, (found.ensures.begins start).1 (laws.refl start)) in
     record {
-      explored = Explores-edges eq laws _ _ _ _ _ _ graph found.field-0.keys _ found.ensures.distinct found.ensures.same a;
+      explored = Explores-edges_of eq laws _ _ _ _ _ _ graph found.field-0.keys _ found.ensures.distinct found.ensures.same a;
       costs = h;
       begins = found.ensures.begins;
       wide = b.wide ∙ c.len.ensures.len;

@@ -1,6 +1,6 @@
 use Rattle.std.proofs.Common.{[], ◌∷◌, List, ℤ, inl}
 use Rattle.pf_core.specs.Nodes.{NodeGraph}
-use Rattle.pf_core.proofs.NodeLemmas.{Explores-edges}
+use Rattle.pf_core.proofs.NodeLemmas.{Explores-edges_of}
 use Rattle.std.proofs.lemmas.Result.{IfOk-from_err}
 use Rattle.pf_search.proofs.ResultLemmas.{no_overflow, refused_as}
 use Rattle.pf_search.proofs.directed.cheapest_map.dijkstra_partial.Goals as goal
@@ -12,19 +12,19 @@ pub partial_map-requires-clause-graph : goal.partial_map-requires-clause-graph
 partial_map-requires-clause-graph g c =
     let r = c.requires.graph in
     let found = c.in_ok-clone_of in
-    let x = Explores-edges g.N.PartialEq.eq g.met.N.Eq.laws _ _ _ _ _ _ (graph_of c.args.start.now r.0) found.field-0.keys _ found.ensures.distinct found.ensures.same r.2.edges_answered in
+    let x = Explores-edges_of g.N.PartialEq.eq g.met.N.Eq.laws _ _ _ _ _ _ (graph_of c.args.start.now r.0) found.field-0.keys _ found.ensures.distinct found.ensures.same r.2.edges_answered in
     (r.0, c.args.start.now, r.1, record { begins = found.ensures.begins; explores = x; tested = r.2.test_answered }, r.2.costs)
 
 pub returns-clause-partial : goal.returns-clause-partial
 returns-clause-partial g c = λ edges test s.
     let found = c.in_ok-clone_of in
-    let x = Explores-edges g.N.PartialEq.eq g.met.N.Eq.laws _ _ _ _ _ _ (graph_of c.args.start.now edges) found.field-0.keys _ found.ensures.distinct found.ensures.same s.edges_answered in
+    let x = Explores-edges_of g.N.PartialEq.eq g.met.N.Eq.laws _ _ _ _ _ _ (graph_of c.args.start.now edges) found.field-0.keys _ found.ensures.distinct found.ensures.same s.edges_answered in
     c.partial_map.ensures.partial edges c.args.start.now test (record { begins = found.ensures.begins; explores = x; tested = s.test_answered }) s.costs
 
 pub returns-clause-overflow : goal.returns-clause-overflow
 returns-clause-overflow g c = λ edges test s.
     let found = c.in_ok-clone_of in
-    let x = Explores-edges g.N.PartialEq.eq g.met.N.Eq.laws _ _ _ _ _ _ (graph_of c.args.start.now edges) found.field-0.keys _ found.ensures.distinct found.ensures.same s.edges_answered in
+    let x = Explores-edges_of g.N.PartialEq.eq g.met.N.Eq.laws _ _ _ _ _ _ (graph_of c.args.start.now edges) found.field-0.keys _ found.ensures.distinct found.ensures.same s.edges_answered in
     c.partial_map.ensures.overflow edges c.args.start.now test (record { begins = found.ensures.begins; explores = x; tested = s.test_answered }) s.costs
 
 pub partial_map-requires-clause-clones : goal.partial_map-requires-clause-clones

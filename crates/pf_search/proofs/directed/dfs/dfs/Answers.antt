@@ -5,11 +5,11 @@ pub path_to_first-requires-clause-graph : goal.path_to_first-requires-clause-gra
 path_to_first-requires-clause-graph g c =
     let r = c.requires.graph in
     let s = r.2 in
-    (r.0, c.args.start, r.1, record { alike = s.successors_answered.alike; walks = c.in_ok-walk.ensures.graph r.0 s.successors_answered; tested = s.test_answered })
+    (r.0, c.args.start, r.1, record { alike = s.successors_answered.alike; walks = c.in_ok-walk.ensures.graph r.0 s.successors_answered; tested = s.test_answered; tests_alike = s.test_answered.alike })
 
 pub returns-clause-first : goal.returns-clause-first
 returns-clause-first g c = λ next test s.
-    c.path_to_first.ensures.first next c.args.start test (record { alike = s.successors_answered.alike; walks = c.in_ok-walk.ensures.graph next s.successors_answered; tested = s.test_answered })
+    c.path_to_first.ensures.first next c.args.start test (record { alike = s.successors_answered.alike; walks = c.in_ok-walk.ensures.graph next s.successors_answered; tested = s.test_answered; tests_alike = s.test_answered.alike })
 
 pub path_to_first-requires-clause-clones : goal.path_to_first-requires-clause-clones
 path_to_first-requires-clause-clones g c = c.requires.clones

@@ -1,12 +1,9 @@
-use Rattle.std.proofs.Common.{rules, ◌≡◌, ◌∙◌, [], ◌∷◌, ◌++◌, Bor, sym, subst, arith, length-append}
+use Rattle.std.proofs.Common.{◌∙◌, [], ◌∷◌, ◌++◌, sym, subst, arith, length-append}
 use Rattle.std.specs.List.{AllZip}
-use Rattle.pf_base.specs.Walks.{IsReachable}
-use Rattle.pf_base.specs.Successors.{HasSuccessor}
-use Rattle.pf_base.proofs.Asking.{Answers-takes}
+use Rattle.pf_base.specs.Regions.{along_successors}
 use Rattle.pf_core.specs.Nodes.{StandsFor}
 use Rattle.pf_core.proofs.WalkLemmas.{same_of}
 use Rattle.pf_search.specs.DepthWalks.{IsDepthWalk}
-use Rattle.pf_search.proofs.SimplePaths.{test_on}
 use Rattle.pf_search.proofs.PreorderLemmas.{end_of_push}
 use Rattle.pf_search.proofs.PreorderPaths.{goes_none, goes_some, node_reached, numbers_inside, is_goal, none_passes, none_more}
 use Rattle.std.proofs.lemmas.Result.{IfOk-from_err}
@@ -23,47 +20,46 @@ pub returns-in_default-clause-first : goal.returns-in_default-clause-first
 returns-in_default-clause-first g c = λ next start test s.
     let eq = g.N.PartialEq.eq in
     let v = c.nodes.invariant next start test s in
-    let whole = goes_none eq next start (λ done. IsDepthWalk g.N.PartialEq.eq next start g.IN.IntoIterator.into_iter_gives g.IN.IntoIter.Iterator.can_next g.IN.IntoIter.Iterator.remaining g.IN.IntoIter.Iterator.next_gives g.FN.FnMut done c.step.new.self) v.0 c.step.result c.in_ok-node.field-0 c.in_ok-node.was c.in_default.not-Some (c.step.ensures.walks next start v.0 v.1) in
-    none_passes eq g.met.N.Eq.laws next start test s.alike s.tested.alike v.0 v.1.stands.preorder whole v.3
+    let whole = goes_none eq next start (λ done. IsDepthWalk g.N.PartialEq.eq g.F.SuccessorFunction.answers next start done c.step.new.self) v.0 c.step.result c.in_ok-node.field-0 c.in_ok-node.was c.in_default.not-Some (c.step.ensures.walks next start v.0 v.1) in
+    none_passes eq g.met.N.Eq.laws next start test s.alike s.tests_alike v.0 v.1.stands.preorder whole v.3
 
-pub success-requires : goal.success-requires
-success-requires g c =
+pub passes-requires : goal.passes-requires
+passes-requires g c =
     let eq = g.N.PartialEq.eq in
     let r = c.requires.graph in
     let v = c.nodes.invariant r.0 r.1 r.2 r.3 in
-    let d = goes_some eq r.0 r.1 (λ done. IsDepthWalk g.N.PartialEq.eq r.0 r.1 g.IN.IntoIterator.into_iter_gives g.IN.IntoIter.Iterator.can_next g.IN.IntoIter.Iterator.remaining g.IN.IntoIter.Iterator.next_gives g.FN.FnMut done c.step.new.self) v.0 c.step.result c.in_ok-node.field-0 c.in-Some.node c.in_ok-node.was c.in-Some.is (c.step.ensures.walks r.0 r.1 v.0 v.1) in
+    let d = goes_some eq r.0 r.1 (λ done. IsDepthWalk g.N.PartialEq.eq g.F.SuccessorFunction.answers r.0 r.1 done c.step.new.self) v.0 c.step.result c.in_ok-node.field-0 c.in-Some.node c.in_ok-node.was c.in-Some.is (c.step.ensures.walks r.0 r.1 v.0 v.1) in
     let reach = node_reached eq g.met.N.Eq.laws r.0 r.1 r.2 v.0 d.0 c.in-Some.node d.3.stands.preorder d.2 in
-    let may : (p : Bor g.row.N.Denot) → p.now ≡ c.in-Some.node → g.FS.FnMut.pre c.nodes.success (p, tt) = λ p e. Answers-takes _ _ _ v.2.answers p (subst (IsReachable eq (HasSuccessor eq r.0) (r.1 ∷ [])) (sym e) reach) in
-    search (rules, may)
+    record { within = (along_successors (r.1 ∷ []) r.0, r.2, reach, v.2) }
 
 pub path-requires-clause-given : goal.path-requires-clause-given
 path-requires-clause-given g c = λ e.
     let r = c.requires.graph in
     let v = c.nodes.invariant r.0 r.1 r.2 r.3 in
-    let d = goes_some g.N.PartialEq.eq r.0 r.1 (λ done. IsDepthWalk g.N.PartialEq.eq r.0 r.1 g.IN.IntoIterator.into_iter_gives g.IN.IntoIter.Iterator.can_next g.IN.IntoIter.Iterator.remaining g.IN.IntoIter.Iterator.next_gives g.FN.FnMut done c.step.new.self) v.0 c.step.result c.in_ok-node.field-0 c.in-Some.node c.in_ok-node.was c.in-Some.is (c.step.ensures.walks r.0 r.1 v.0 v.1) in
+    let d = goes_some g.N.PartialEq.eq r.0 r.1 (λ done. IsDepthWalk g.N.PartialEq.eq g.F.SuccessorFunction.answers r.0 r.1 done c.step.new.self) v.0 c.step.result c.in_ok-node.field-0 c.in-Some.node c.in_ok-node.was c.in-Some.is (c.step.ensures.walks r.0 r.1 v.0 v.1) in
     omega (arith, d.3.stands.count, length-append v.0 (d.0 ∷ []), e)
 
 pub path-requires-clause-inside : goal.path-requires-clause-inside
 path-requires-clause-inside g c =
     let r = c.requires.graph in
     let v = c.nodes.invariant r.0 r.1 r.2 r.3 in
-    let d = goes_some g.N.PartialEq.eq r.0 r.1 (λ done. IsDepthWalk g.N.PartialEq.eq r.0 r.1 g.IN.IntoIterator.into_iter_gives g.IN.IntoIter.Iterator.can_next g.IN.IntoIter.Iterator.remaining g.IN.IntoIter.Iterator.next_gives g.FN.FnMut done c.step.new.self) v.0 c.step.result c.in_ok-node.field-0 c.in-Some.node c.in_ok-node.was c.in-Some.is (c.step.ensures.walks r.0 r.1 v.0 v.1) in
+    let d = goes_some g.N.PartialEq.eq r.0 r.1 (λ done. IsDepthWalk g.N.PartialEq.eq g.F.SuccessorFunction.answers r.0 r.1 done c.step.new.self) v.0 c.step.result c.in_ok-node.field-0 c.in-Some.node c.in_ok-node.was c.in-Some.is (c.step.ensures.walks r.0 r.1 v.0 v.1) in
     numbers_inside g.N.PartialEq.eq c.step.new.self.found c.step.new.self.path _ d.3.stands.path
 
-pub returns-then-success-clause-first : goal.returns-then-success-clause-first
-returns-then-success-clause-first g c = λ next start test s.
+pub returns-then-passes-clause-first : goal.returns-then-passes-clause-first
+returns-then-passes-clause-first g c = λ next start test s.
     let eq = g.N.PartialEq.eq in
     let laws = g.met.N.Eq.laws in
     let node = c.in-Some.node in
     let v = c.nodes.invariant next start test s in
-    let d = goes_some eq next start (λ done. IsDepthWalk g.N.PartialEq.eq next start g.IN.IntoIterator.into_iter_gives g.IN.IntoIter.Iterator.can_next g.IN.IntoIter.Iterator.remaining g.IN.IntoIter.Iterator.next_gives g.FN.FnMut done c.step.new.self) v.0 c.step.result c.in_ok-node.field-0 node c.in_ok-node.was c.in-Some.is (c.step.ensures.walks next start v.0 v.1) in
+    let d = goes_some eq next start (λ done. IsDepthWalk g.N.PartialEq.eq g.F.SuccessorFunction.answers next start done c.step.new.self) v.0 c.step.result c.in_ok-node.field-0 node c.in_ok-node.was c.in-Some.is (c.step.ensures.walks next start v.0 v.1) in
     let reach = node_reached eq laws next start test v.0 d.0 node d.3.stands.preorder d.2 in
-    let told = test_on _ eq _ test c.nodes.success c.success.new.self _ c.success.result v.2 reach c.success.ensures in
+    let passed = c.passes.ensures.passed (along_successors (start ∷ []) next) test reach v.2 in
     let keys = c.step.new.self.found in
     let numbers = c.step.new.self.path in
     let items = c.in_ok-path.path.items in
     let same = same_of eq laws keys numbers d.0 items (subst (λ l. AllZip (StandsFor eq keys) numbers l) (end_of_push [] v.0 d.0) d.3.stands.path) c.in_ok-path.ensures.nodes in (
-      is_goal eq laws next start test s.alike s.tested.alike v.0 d.0 items node d.3.stands.preorder d.2 (sym told.1 ∙ c.if-success.true) same,
+      is_goal eq laws next start test s.alike s.tests_alike v.0 d.0 items node d.3.stands.preorder d.2 (sym passed ∙ c.if-passes.true) same,
       record { earlier = v.0; tree = d.0; preorder = d.3.stands.preorder; same = same; fails = v.3 },
     )
 
@@ -73,10 +69,10 @@ nodes-preserved g c = λ next start test s.
     let laws = g.met.N.Eq.laws in
     let node = c.in-Some.node in
     let v = c.nodes.invariant next start test s in
-    let d = goes_some eq next start (λ done. IsDepthWalk g.N.PartialEq.eq next start g.IN.IntoIterator.into_iter_gives g.IN.IntoIter.Iterator.can_next g.IN.IntoIter.Iterator.remaining g.IN.IntoIter.Iterator.next_gives g.FN.FnMut done c.step.new.self) v.0 c.step.result c.in_ok-node.field-0 node c.in_ok-node.was c.in-Some.is (c.step.ensures.walks next start v.0 v.1) in
+    let d = goes_some eq next start (λ done. IsDepthWalk g.N.PartialEq.eq g.F.SuccessorFunction.answers next start done c.step.new.self) v.0 c.step.result c.in_ok-node.field-0 node c.in_ok-node.was c.in-Some.is (c.step.ensures.walks next start v.0 v.1) in
     let reach = node_reached eq laws next start test v.0 d.0 node d.3.stands.preorder d.2 in
-    let told = test_on _ eq _ test c.nodes.success c.success.new.self _ c.success.result v.2 reach c.success.ensures in
-    (v.0 ++ d.0 ∷ [], d.3, told.0, none_more eq laws next start test s.alike s.tested.alike v.0 d.0 node d.3.stands.preorder d.2 (sym told.1 ∙ c.if-success.false) v.3)
+    let passed = c.passes.ensures.passed (along_successors (start ∷ []) next) test reach v.2 in
+    (v.0 ++ d.0 ∷ [], d.3, c.passes.ensures.goes_on (along_successors (start ∷ []) next) test reach v.2, none_more eq laws next start test s.alike s.tests_alike v.0 d.0 node d.3.stands.preorder d.2 (sym passed ∙ c.if-passes.false) v.3)
 
 pub path-requires-clause-clones : goal.path-requires-clause-clones
 path-requires-clause-clones g c = c.requires.clones
@@ -90,8 +86,8 @@ returns-in_err-node-clause-first g c = λ _ _ _ _. IfOk-from_err _ _ c.from_resi
 pub returns-in_err-path-clause-first : goal.returns-in_err-path-clause-first
 returns-in_err-path-clause-first g c = λ _ _ _ _. IfOk-from_err _ _ c.from_residual-in_err-path.ensures.0
 
-pub returns-then-success-clause-errors : goal.returns-then-success-clause-errors
-returns-then-success-clause-errors g c = tt
+pub returns-then-passes-clause-errors : goal.returns-then-passes-clause-errors
+returns-then-passes-clause-errors g c = tt
 
 pub step-requires-clause-clones : goal.step-requires-clause-clones
 step-requires-clause-clones g c = c.requires.clones

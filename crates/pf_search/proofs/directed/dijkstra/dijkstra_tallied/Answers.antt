@@ -1,6 +1,6 @@
 use Rattle.std.proofs.Common.{[], ◌∷◌, List, ℤ, inl}
 use Rattle.pf_core.specs.Nodes.{NodeGraph}
-use Rattle.pf_core.proofs.NodeLemmas.{Explores-edges}
+use Rattle.pf_core.proofs.NodeLemmas.{Explores-edges_of}
 use Rattle.std.proofs.lemmas.Result.{IfOk-from_err}
 use Rattle.pf_search.proofs.ResultLemmas.{no_overflow, refused_as}
 use Rattle.pf_search.proofs.directed.dijkstra.dijkstra_tallied.Goals as goal
@@ -12,25 +12,25 @@ pub path_tallied-requires-clause-graph : goal.path_tallied-requires-clause-graph
 path_tallied-requires-clause-graph g c =
     let r = c.requires.graph in
     let found = c.in_ok-clone_of in
-    let x = Explores-edges g.N.PartialEq.eq g.met.N.Eq.laws _ _ _ _ _ _ (graph_of c.args.start.now r.0) found.field-0.keys _ found.ensures.distinct found.ensures.same r.2.edges_answered in
+    let x = Explores-edges_of g.N.PartialEq.eq g.met.N.Eq.laws _ _ _ _ _ _ (graph_of c.args.start.now r.0) found.field-0.keys _ found.ensures.distinct found.ensures.same r.2.edges_answered in
     (r.0, c.args.start.now, r.1, record { begins = found.ensures.begins; explores = x; tested = r.2.test_answered })
 
 pub returns-clause-best : goal.returns-clause-best
 returns-clause-best g c = λ edges test s.
     let found = c.in_ok-clone_of in
-    let x = Explores-edges g.N.PartialEq.eq g.met.N.Eq.laws _ _ _ _ _ _ (graph_of c.args.start.now edges) found.field-0.keys _ found.ensures.distinct found.ensures.same s.edges_answered in
+    let x = Explores-edges_of g.N.PartialEq.eq g.met.N.Eq.laws _ _ _ _ _ _ (graph_of c.args.start.now edges) found.field-0.keys _ found.ensures.distinct found.ensures.same s.edges_answered in
     c.path_tallied.ensures.best edges c.args.start.now test (record { begins = found.ensures.begins; explores = x; tested = s.test_answered }) s.costs
 
 pub returns-clause-overflow : goal.returns-clause-overflow
 returns-clause-overflow g c = λ edges test s.
     let found = c.in_ok-clone_of in
-    let x = Explores-edges g.N.PartialEq.eq g.met.N.Eq.laws _ _ _ _ _ _ (graph_of c.args.start.now edges) found.field-0.keys _ found.ensures.distinct found.ensures.same s.edges_answered in
+    let x = Explores-edges_of g.N.PartialEq.eq g.met.N.Eq.laws _ _ _ _ _ _ (graph_of c.args.start.now edges) found.field-0.keys _ found.ensures.distinct found.ensures.same s.edges_answered in
     c.path_tallied.ensures.overflow edges c.args.start.now test (record { begins = found.ensures.begins; explores = x; tested = s.test_answered }) s.costs
 
 pub returns-clause-asked : goal.returns-clause-asked
 returns-clause-asked g c = λ edges test a t.
     let found = c.in_ok-clone_of in
-    let x = Explores-edges g.N.PartialEq.eq g.met.N.Eq.laws _ _ _ _ _ _ (graph_of c.args.start.now edges) found.field-0.keys _ found.ensures.distinct found.ensures.same a in
+    let x = Explores-edges_of g.N.PartialEq.eq g.met.N.Eq.laws _ _ _ _ _ _ (graph_of c.args.start.now edges) found.field-0.keys _ found.ensures.distinct found.ensures.same a in
     c.path_tallied.ensures.asked edges c.args.start.now test (record { begins = found.ensures.begins; explores = x; tested = t })
 
 pub path_tallied-requires-clause-clones : goal.path_tallied-requires-clause-clones

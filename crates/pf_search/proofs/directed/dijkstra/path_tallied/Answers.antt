@@ -3,6 +3,7 @@ use Rattle.std.specs.Prelude.{Err, Contains, ◌⊎◌}
 use Rattle.std.specs.List.{AllZip}
 use Rattle.pf_base.specs.declared.error.PathError.TheVariants.{OutOfMemory, CostOverflow}
 use Rattle.pf_core.specs.Nodes.{TestedGraph, StandsFor}
+use Rattle.pf_base.specs.Regions.{along_edges}
 use Rattle.pf_core.specs.NodeLaws.{StandsFor-one}
 use Rattle.pf_core.proofs.WalkLemmas.{all_starts, only_starts, no_negative, no_walk, best_answer, past_range}
 use Rattle.pf_core.proofs.NodeLemmas.{at_most}
@@ -56,7 +57,7 @@ returns-in_ok-path-in-Some-clause-best g c = λ edges start test s costs.
     let keys = c.cheapest_path.new.graph.discovery.nodes.keys in
     let y = c.in_ok-cheapest_path.ensures.graph h (x, t) in
     let b = when_some _ _ _ _ c.in-Some.is (c.in_ok-cheapest_path.ensures.best h (x, t) (no_negative eq laws h.graph x.alike costs)) in
-    best_answer eq laws h.graph x.alike _ (all_starts eq start _ s.begins) (only_starts eq start _ s.begins) test t.alike keys (StandsFor-one eq laws keys y.0.distinct) c.in-Some.numbers.items c.in_ok-path-in-Some.path.items (g.C.Number.value c.in-Some.cost) b (subst (λ (ks : List ℕ). AllZip (StandsFor eq keys) ks c.in_ok-path-in-Some.path.items) c.deref.ensures.value c.in_ok-path-in-Some.ensures.nodes)
+    best_answer eq laws h.graph x.alike _ (all_starts eq start _ s.begins) (only_starts eq start _ s.begins) test (g.met.T.NodeTest.alike_law c.args.graph.now.success (along_edges (start ∷ []) edges) test t) keys (StandsFor-one eq laws keys y.0.distinct) c.in-Some.numbers.items c.in_ok-path-in-Some.path.items (g.C.Number.value c.in-Some.cost) b (subst (λ (ks : List ℕ). AllZip (StandsFor eq keys) ks c.in_ok-path-in-Some.path.items) c.deref.ensures.value c.in_ok-path-in-Some.ensures.nodes)
 
 pub returns-in_err-path-in-Some-clause-asked : goal.returns-in_err-path-in-Some-clause-asked
 returns-in_err-path-in-Some-clause-asked g c = λ edges start test s.

@@ -2,6 +2,7 @@ use Rattle.std.proofs.Common.{List, ◌≡◌, ◌∙◌, sym, subst, ap, refl, 
 use Rattle.std.specs.Prelude.{◌⊎◌, Contains}
 use Rattle.std.proofs.lemmas.List.Elements.{Contains-append_left}
 use Rattle.std.proofs.lemmas.Result.{IfOk-from_err}
+use Rattle.pf_base.specs.Regions.{along_successors}
 use Rattle.pf_base.specs.Walks.{HasNode}
 use Rattle.pf_search.specs.Internal.Deepening.{NoGoalBeyond}
 use Rattle.pf_search.proofs.SimplePaths.{pushed_on, none_left, left_more, left_same, cut_back, deep_as, deep_short, some_step, no_longer, popped_less}
@@ -98,7 +99,7 @@ returns-clause-graph g t c = λ next starts test s p.
       before.1,
       (
         before.0,
-        none_left eq g.met.N.Eq.laws next starts test s.successors_answered.alike s.test_answered.alike c.answer.cut c.args.steps path c.in_ok-answer.answer.items c.if-steps-eq0.false p follows (rw c.if-end_passes.false at told)
+        none_left eq g.met.N.Eq.laws next starts test (g.met.F.SuccessorFunction.alike_law c.args.successors.now starts next s.successors_answered) (g.met.T.NodeTest.alike_law c.args.success.now (along_successors starts next) test s.test_answered) c.answer.cut c.args.steps path c.in_ok-answer.answer.items c.if-steps-eq0.false p follows (rw c.if-end_passes.false at told)
             (λ y m. elim (before.2 y m) as (λ _. HasNode eq path y ⊎ NoGoalBeyond eq next starts test c.answer.cut (c.args.steps - 1) (path ++ y ∷ [])) [
               | inl k ↦ absurd (omega (arith, k.1, c.in_default.ensures.cases, c.answer.answer.ok))
               | inr k ↦ k

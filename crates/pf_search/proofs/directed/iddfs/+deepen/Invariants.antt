@@ -2,7 +2,6 @@ use Rattle.std.proofs.Common.{◌≡◌, List, Bool, [], ◌∷◌, ◌++◌, �
 use Rattle.std.specs.Prelude.{◌⊎◌, Contains}
 use Rattle.pf_base.specs.Walks.{HasNode}
 use Rattle.pf_base.specs.Successors.{IsUnweightedSearch}
-use Rattle.pf_base.specs.Answers.{AnswersSuccessors, AnswersTest}
 use Rattle.pf_search.specs.Internal.Deepening.{IsPathFrom, NoGoalBeyond}
 use Rattle.pf_search.proofs.directed.iddfs.+deepen.Given as goal
 
@@ -15,8 +14,8 @@ decreases-answer g l = length l.answer.items
 abbrev pub invariant-answer : goal.invariant-answer
 invariant-answer g l =
     let eq = g.N.PartialEq.eq in
-    let answers = λ (f : g.row.FN.Denot). AnswersSuccessors g.FN.FnMut g.IN.IntoIterator.into_iter_gives g.IN.IntoIter.Iterator.can_next g.IN.IntoIter.Iterator.remaining g.IN.IntoIter.Iterator.next_gives eq f in
-    let tests = λ (f : g.row.FS.Denot). AnswersTest g.FS.FnMut eq f in
+    let answers = g.F.SuccessorFunction.answers in
+    let tests = g.T.NodeTest.answers in
     record {
       below : (y : g.row.N.Denot) → Contains l.answer.items y → Contains l.initial.answer.items y;
       searched : (next : g.row.N.Denot → List g.row.N.Denot) (starts : List g.row.N.Denot) (test : g.row.N.Denot → Bool)

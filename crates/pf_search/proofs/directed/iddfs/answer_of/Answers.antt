@@ -1,8 +1,6 @@
-use Rattle.std.proofs.Common.{rules, ◌≡◌, sym, subst, arith, Bor}
+use Rattle.std.proofs.Common.{arith}
 use Rattle.std.proofs.lemmas.Result.{IfOk-from_err}
-use Rattle.pf_base.specs.Walks.{IsReachable}
-use Rattle.pf_base.specs.Successors.{HasSuccessor}
-use Rattle.pf_base.proofs.Asking.{Answers-takes, Answers-gives, Answers-on, Gives-ends, Gives-drains}
+use Rattle.pf_base.proofs.Asking.{Gives-ends, Gives-drains}
 use Rattle.pf_search.proofs.SimplePaths.{here_reached, last_at, has_end}
 use Rattle.pf_search.proofs.ResultLemmas.{refused_as}
 use Rattle.pf_search.proofs.directed.iddfs.answer_of.Goals as goal
@@ -15,9 +13,7 @@ successors-items-requires g c =
     let r = c.requires.graph in
     let eq = g.N.PartialEq.eq in
     let at = last_at eq r.0 r.1 c.args.path.now.items c.len-here.result c.index.result.now r.3 (omega (arith, c.len-here.ensures, c.args.path.now.ok)) c.index.ensures in
-    let reach = here_reached eq g.met.N.Eq.laws r.0 r.1 c.args.path.now.items c.index.result.now r.3 at in
-    let may : (p : Bor g.row.N.Denot) → p.now ≡ c.index.result.now → g.FN.FnMut.pre c.args.successors.now (p, tt) = λ p e. Answers-takes _ _ _ r.2.answers p (subst (IsReachable eq (HasSuccessor eq r.0) r.1) (sym e) reach) in
-    search (rules, may)
+    record { within = (r.1, r.0, here_reached eq g.met.N.Eq.laws r.0 r.1 c.args.path.now.items c.index.result.now r.3 at, r.2) }
 
 pub collected-requires : goal.collected-requires
 collected-requires g c =
@@ -25,7 +21,7 @@ collected-requires g c =
     let eq = g.N.PartialEq.eq in
     let at = last_at eq r.0 r.1 c.args.path.now.items c.len-here.result c.index.result.now r.3 (omega (arith, c.len-here.ensures, c.args.path.now.ok)) c.index.ensures in
     let reach = here_reached eq g.met.N.Eq.laws r.0 r.1 c.args.path.now.items c.index.result.now r.3 at in
-    record { ends = Gives-ends _ _ _ _ _ _ (Answers-gives _ _ _ r.2.answers _ reach c.successors-items.result c.successors-items.new.self c.successors-items.ensures) }
+    record { ends = Gives-ends _ _ _ _ _ _ (c.successors-items.ensures.listed r.1 r.0 reach r.2) }
 
 pub returns-clause-graph : goal.returns-clause-graph
 returns-clause-graph g c = λ next starts a p.
@@ -34,9 +30,9 @@ returns-clause-graph g c = λ next starts a p.
     let here = c.index.result.now in
     let at = last_at eq next starts path c.len-here.result here p (omega (arith, c.len-here.ensures, c.args.path.now.ok)) c.index.ensures in
     let reach = here_reached eq g.met.N.Eq.laws next starts path here p at in
-    let gives = Answers-gives _ _ _ a.answers _ reach c.successors-items.result c.successors-items.new.self c.successors-items.ensures in
+    let gives = c.successors-items.ensures.listed starts next reach a in
     let all = c.in_ok-answer.ensures.all in (
-      record { alike = a.alike; answers = Answers-on _ _ _ a.answers _ reach c.successors-items.result c.successors-items.new.self c.successors-items.ensures },
+      c.successors-items.ensures.goes_on starts next reach a,
       record { here = here; at = at; listed = c.in_ok-answer.answer.items; same = Gives-drains _ _ _ _ _ _ gives all.0 c.in_ok-answer.answer.items all.1 all.2; reversed = c.reverse.ensures.items },
     )
 
@@ -47,7 +43,7 @@ returns-in_err-answer-clause-graph g c = λ next starts a p.
     let here = c.index.result.now in
     let at = last_at eq next starts path c.len-here.result here p (omega (arith, c.len-here.ensures, c.args.path.now.ok)) c.index.ensures in
     let reach = here_reached eq g.met.N.Eq.laws next starts path here p at in (
-      record { alike = a.alike; answers = Answers-on _ _ _ a.answers _ reach c.successors-items.result c.successors-items.new.self c.successors-items.ensures },
+      c.successors-items.ensures.goes_on starts next reach a,
       IfOk-from_err _ _ c.from_residual.ensures.0,
     )
 

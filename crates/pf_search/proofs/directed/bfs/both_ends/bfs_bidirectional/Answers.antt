@@ -1,4 +1,4 @@
-use Rattle.pf_core.proofs.UnitLemmas.{Explores-successors}
+use Rattle.pf_core.proofs.UnitLemmas.{Explores-successors_of}
 use Rattle.std.proofs.lemmas.Result.{IfOk-from_err}
 use Rattle.pf_search.proofs.ResultLemmas.{refused_as}
 use Rattle.pf_search.proofs.directed.bfs.both_ends.bfs_bidirectional.Goals as goal
@@ -16,8 +16,8 @@ path_between-requires-clause-graph g c =
       r.1,
       starts,
       ends,
-      Explores-successors eq laws _ _ _ _ _ starts found.field-0.keys r.0 _ found.ensures.distinct found.ensures.same r.2.successors_answered,
-      Explores-successors eq laws _ _ _ _ _ ends found_back.field-0.keys r.1 _ found_back.ensures.distinct found_back.ensures.same r.2.predecessors_answered,
+      Explores-successors_of eq laws _ _ _ _ _ starts found.field-0.keys r.0 _ found.ensures.distinct found.ensures.same r.2.successors_answered,
+      Explores-successors_of eq laws _ _ _ _ _ ends found_back.field-0.keys r.1 _ found_back.ensures.distinct found_back.ensures.same r.2.predecessors_answered,
     )
 
 pub returns-clause-best : goal.returns-clause-best
@@ -28,8 +28,8 @@ returns-clause-best g c = λ next previous s.
     let ends = c.args.ends.now in
     let found = c.in_ok-clones_of in
     let found_back = c.in_ok-clones_of-2 in
-    let x = Explores-successors eq laws _ _ _ _ _ starts found.field-0.keys next _ found.ensures.distinct found.ensures.same s.successors_answered in
-    let y = Explores-successors eq laws _ _ _ _ _ ends found_back.field-0.keys previous _ found_back.ensures.distinct found_back.ensures.same s.predecessors_answered in
+    let x = Explores-successors_of eq laws _ _ _ _ _ starts found.field-0.keys next _ found.ensures.distinct found.ensures.same s.successors_answered in
+    let y = Explores-successors_of eq laws _ _ _ _ _ ends found_back.field-0.keys previous _ found_back.ensures.distinct found_back.ensures.same s.predecessors_answered in
     c.path_between.ensures.best next previous starts ends x y found.ensures.same found_back.ensures.same s.mirror
 
 pub path_between-requires-clause-clones : goal.path_between-requires-clause-clones

@@ -1,4 +1,4 @@
-use Rattle.pf_core.proofs.UnitLemmas.{Explores-successors}
+use Rattle.pf_core.proofs.UnitLemmas.{Explores-successors_of}
 use Rattle.std.proofs.lemmas.Result.{IfOk-from_err}
 use Rattle.pf_search.proofs.ResultLemmas.{refused_as}
 use Rattle.pf_search.proofs.directed.bfs.loops.bfs_loop.Goals as goal
@@ -8,13 +8,13 @@ loop_from-requires-clause-graph g c =
     let r = c.requires.graph in
     let starts = c.args.starts.now in
     let found = c.in_ok-clones_of in
-    (r.0, starts, Explores-successors g.N.PartialEq.eq g.met.N.Eq.laws _ _ _ _ _ starts found.field-0.keys r.0 _ found.ensures.distinct found.ensures.same r.1)
+    (r.0, starts, Explores-successors_of g.N.PartialEq.eq g.met.N.Eq.laws _ _ _ _ _ starts found.field-0.keys r.0 _ found.ensures.distinct found.ensures.same r.1)
 
 pub returns-clause-best : goal.returns-clause-best
 returns-clause-best g c = λ next a.
     let starts = c.args.starts.now in
     let found = c.in_ok-clones_of in
-    c.loop_from.ensures.best next starts (Explores-successors g.N.PartialEq.eq g.met.N.Eq.laws _ _ _ _ _ starts found.field-0.keys next _ found.ensures.distinct found.ensures.same a) found.ensures.same
+    c.loop_from.ensures.best next starts (Explores-successors_of g.N.PartialEq.eq g.met.N.Eq.laws _ _ _ _ _ starts found.field-0.keys next _ found.ensures.distinct found.ensures.same a) found.ensures.same
 
 pub loop_from-requires-clause-clones : goal.loop_from-requires-clause-clones
 loop_from-requires-clause-clones g c = c.requires.clones

@@ -15,7 +15,7 @@ returns-in_err-put_start-clause-steps g c = λ next start w.
     let i = c.self.inside in
     let keys = found_or i.start i.discovery.nodes.keys in
     let v = rw (← c.self.view_is) at w in
-    rw (← c.self.view_is, s.2, s.3) (v, turn_refused eq laws _ _ _ _ _ next start keys keys i.given i.refused i.discovery.successors i.discovery.successors c.from_residual.result (start_waits i.start i.discovery.nodes.keys i.given s.0 c.self.invariant s.1) c.from_residual.ensures.0 (SameNodes-refl eq laws.refl keys) v)
+    rw (← c.self.view_is, s.2, s.3) (v, turn_refused eq laws _ next start keys keys i.given i.refused i.discovery.source.function i.discovery.source.function c.from_residual.result (start_waits i.start i.discovery.nodes.keys i.given s.0 c.self.invariant s.1) c.from_residual.ensures.0 (SameNodes-refl eq laws.refl keys) v)
 
 pub returns-then-self-len-clause-steps : goal.returns-then-self-len-clause-steps
 returns-then-self-len-clause-steps g c = λ next start w.
@@ -26,7 +26,7 @@ returns-then-self-len-clause-steps g c = λ next start w.
     let keys = found_or i.start i.discovery.nodes.keys in
     let v = rw (← c.self.view_is) at w in
     let past : length keys ≤ i.given = omega (arith, ap length s.1, c.len.ensures.len, c.if-self-len.true) in
-    rw (← c.self.view_is, s.0, s.1) (v, (none_waits eq laws _ _ _ _ _ next start keys i.given i.refused i.discovery.successors v past, refl))
+    rw (← c.self.view_is, s.0, s.1) (v, (none_waits eq laws _ next start keys i.given i.refused i.discovery.source.function v past, refl))
 
 pub returns-in_err-node-clause-steps : goal.returns-in_err-node-clause-steps
 returns-in_err-node-clause-steps g c = λ next start w.
@@ -37,12 +37,12 @@ returns-in_err-node-clause-steps g c = λ next start w.
     let keys = found_or i.start i.discovery.nodes.keys in
     let v = rw (← c.self.view_is) at w in
     let keys' = c.give.new.discovery.nodes.keys in
-    let f' = c.give.new.discovery.successors in
+    let f' = c.give.new.discovery.source.function in
     let within : i.given < length keys = omega (arith, ap length s.1, c.len.ensures.len, c.if-self-len.false) in
     let e = c.in_err-node.ensures in
-    let at = marked eq laws _ _ _ _ _ next start keys i.given i.refused false i.discovery.successors v in
+    let at = marked eq laws _ next start keys i.given i.refused false i.discovery.source.function v in
     let on = (e.walk next start (rw s.1 at)).1 in
-    rw (← c.self.view_is, s.0) (marked eq laws _ _ _ _ _ next start keys' i.given false i.refused f' on, turn_refused eq laws _ _ _ _ _ next start keys keys' i.given i.refused i.discovery.successors f' c.from_residual-in_err-node.result within c.from_residual-in_err-node.ensures.0 (rw s.1 at e.stays) v)
+    rw (← c.self.view_is, s.0) (marked eq laws _ next start keys' i.given false i.refused f' on, turn_refused eq laws _ next start keys keys' i.given i.refused i.discovery.source.function f' c.from_residual-in_err-node.result within c.from_residual-in_err-node.ensures.0 (rw s.1 at e.stays) v)
 
 pub returns-clause-steps : goal.returns-clause-steps
 returns-clause-steps g c = λ next start w.
@@ -53,11 +53,11 @@ returns-clause-steps g c = λ next start w.
     let keys = found_or i.start i.discovery.nodes.keys in
     let v = rw (← c.self.view_is) at w in
     let keys' = c.give.new.discovery.nodes.keys in
-    let f' = c.give.new.discovery.successors in
+    let f' = c.give.new.discovery.source.function in
     let e = c.in_ok-node.ensures in
-    let at = marked eq laws _ _ _ _ _ next start keys i.given i.refused false i.discovery.successors v in
+    let at = marked eq laws _ next start keys i.given i.refused false i.discovery.source.function v in
     let on = (e.walk next start (rw s.1 at)).0 in
-    rw (← c.self.view_is, s.0) (marked eq laws _ _ _ _ _ next start keys' (i.given + 1) false i.refused f' on.0, (rw s.1 at on.1, rw s.1 at e.given))
+    rw (← c.self.view_is, s.0) (marked eq laws _ next start keys' (i.given + 1) false i.refused f' on.0, (rw s.1 at on.1, rw s.1 at e.given))
 
 pub returns-in_err-put_start-clause-few : goal.returns-in_err-put_start-clause-few
 returns-in_err-put_start-clause-few g c = IfOk-from_err _ _ c.from_residual.ensures.0
@@ -91,7 +91,7 @@ give-requires-clause-walk g c =
     let r = c.requires.walk in
     let i = c.self.inside in
     let v = rw (← c.self.view_is) at r.2 in
-    (r.0, r.1, rw c.in_ok-put_start.ensures.put.1 (marked g.N.PartialEq.eq g.met.N.Eq.laws _ _ _ _ _ r.0 r.1 (found_or i.start i.discovery.nodes.keys) i.given i.refused false i.discovery.successors v))
+    (r.0, r.1, rw c.in_ok-put_start.ensures.put.1 (marked g.N.PartialEq.eq g.met.N.Eq.laws _ r.0 r.1 (found_or i.start i.discovery.nodes.keys) i.given i.refused false i.discovery.source.function v))
 
 pub invariant_of-self : goal.invariant_of-self
 invariant_of-self g c = let s = c.in_err-put_start.ensures.stays in rw (s.2, s.3) c.self.invariant

@@ -10,8 +10,8 @@ returns-clause-steps g c = λ next start w.
     let i = c.self-2.inside in
     let e = rw (← c.self-2.view_is) at (c.step-step.ensures.steps next start w) in
     let same = rw (← c.self-2.view_is) at c.step-step.ensures.same in
-    let h = sym (ap (λ (v : BreadthWalk g.row.N.Denot g.row.FN.Denot). v.refused) c.self.view_is) ∙ c.if-self.false in
-    rw (c.transpose.ensures, c.is_err-self-inside.ensures.value) (step_of g.N.PartialEq.eq g.met.N.Eq.laws _ _ _ _ _ next start c.args.self.now (found_or i.start i.discovery.nodes.keys) i.given i.refused i.discovery.successors c.step-step.result h same c.step-step.ensures.refused e)
+    let h = sym (ap (λ (v : BreadthWalk g.row.N.Denot g.row.F.Denot). v.refused) c.self.view_is) ∙ c.if-self.false in
+    rw (c.transpose.ensures, c.is_err-self-inside.ensures.value) (step_of g.N.PartialEq.eq g.met.N.Eq.laws _ next start c.args.self.now (found_or i.start i.discovery.nodes.keys) i.given i.refused i.discovery.source.function c.step-step.result h same c.step-step.ensures.refused e)
 
 pub returns-clause-again : goal.returns-clause-again
 returns-clause-again g c =
@@ -26,7 +26,7 @@ returns-clause-goes g c =
     let r = c.requires in
     let few = rw (← c.self-2.view_is) at c.step-step.ensures.few in
     let counts = breadth_counts g.N.PartialEq.eq r.1.0 r.1.1 c.args.self.now c.transpose.result _ (returns-clause-steps g c r.1.0 r.1.1 r.1.2).1 (rw c.transpose.ensures (of_node _ c.step-step.result few)) in
-    progress (λ (w : BreadthWalk g.row.N.Denot g.row.FN.Denot). length w.given) (λ (w : BreadthWalk g.row.N.Denot g.row.FN.Denot). w.refused) _ c.args.self.now c.transpose.result _ (returns-clause-again g c) counts
+    progress (λ (w : BreadthWalk g.row.N.Denot g.row.F.Denot). length w.given) (λ (w : BreadthWalk g.row.N.Denot g.row.F.Denot). w.refused) _ c.args.self.now c.transpose.result _ (returns-clause-again g c) counts
 
 pub step-step-requires-clause-clones : goal.step-step-requires-clause-clones
 step-step-requires-clause-clones g c = c.requires.0

@@ -5,11 +5,11 @@ use Rattle.pf_search.proofs.directed.cheapest_first.DijkstraReachable.resume.Goa
 pub returns-clause-bar : goal.returns-clause-bar
 returns-clause-bar g c = λ edges start b.
     let i = c.self.inside in
-    let s = seen i.discovery.nodes.keys i.search.labels.items i.refused i.discovery.successors in
+    let s = seen i.discovery.nodes.keys i.search.labels.items i.refused i.discovery.source.function in
     marked_bar g.N.PartialEq.eq g.C.Number.value edges start g.C.Number.fits s s false (rw (← c.self.view_is) at b)
 
 pub returns-clause-graph : goal.returns-clause-graph
 returns-clause-graph g c = λ edges start w.
     let i = c.self.inside in
-    let s = seen i.discovery.nodes.keys i.search.labels.items i.refused i.discovery.successors in
-    marked g.N.PartialEq.eq g.met.N.Eq.laws g.C.Number.value _ _ _ _ _ edges start s false (rw (← c.self.view_is) at w)
+    let s = seen i.discovery.nodes.keys i.search.labels.items i.refused i.discovery.source.function in
+    marked g.N.PartialEq.eq g.met.N.Eq.laws g.C.Number.value _ edges start s false (rw (← c.self.view_is) at w)

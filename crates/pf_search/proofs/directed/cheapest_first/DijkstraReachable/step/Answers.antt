@@ -24,8 +24,8 @@ returns-in_default-clause-steps g c = λ edges start w.
     let eq = g.N.PartialEq.eq in
     let i = c.self.inside in
     let v = subst (IsCheapestWalk eq g.C.Number.value edges start _) (sym c.self.view_is) w in
-    let s = seen i.discovery.nodes.keys i.search.labels.items i.refused i.discovery.successors in
-    turn_seen eq g.met.N.Eq.laws g.C.Number.value _ _ _ _ _ edges start g.C.Number.fits s _ s _ (Ok None) c.self.view_is (ap (λ (ls : Labels g.row.C.Denot). seen i.discovery.nodes.keys ls i.refused i.discovery.successors) c.in_default.ensures.same) (v, (all_given g.N.PartialEq.eq g.met.N.Eq.laws g.C.Number.value _ _ _ _ _ edges start s v c.self.invariant.0.tree c.in_default.ensures.least, refl))
+    let s = seen i.discovery.nodes.keys i.search.labels.items i.refused i.discovery.source.function in
+    turn_seen eq g.met.N.Eq.laws g.C.Number.value _ edges start g.C.Number.fits s _ s _ (Ok None) c.self.view_is (ap (λ (ls : Labels g.row.C.Denot). seen i.discovery.nodes.keys ls i.refused i.discovery.source.function) c.in_default.ensures.same) (v, (all_given g.N.PartialEq.eq g.met.N.Eq.laws g.C.Number.value _ edges start s v c.self.invariant.0.tree c.in_default.ensures.least, refl))
 
 pub item_at-requires-clause-labelled : goal.item_at-requires-clause-labelled
 item_at-requires-clause-labelled g c = still_labelled _ _ c.in-Some.ensures.same g.C.Number.value c.in-Some.number c.in-Some.ensures.least
@@ -48,11 +48,11 @@ returns-in_err-item-clause-steps g c = λ edges start w.
     let i = c.self.inside in
     let v = subst (IsCheapestWalk eq g.C.Number.value edges start _) (sym c.self.view_is) w in
     let z = c.in-Some.ensures.least in
-    let s = seen i.discovery.nodes.keys i.search.labels.items i.refused i.discovery.successors in
-    turn_seen eq laws g.C.Number.value _ _ _ _ _ edges start g.C.Number.fits s _ s _ c.from_residual.result c.self.view_is (ap (λ (ls : Labels g.row.C.Denot). seen i.discovery.nodes.keys ls i.refused i.discovery.successors) c.in-Some.ensures.same) (
+    let s = seen i.discovery.nodes.keys i.search.labels.items i.refused i.discovery.source.function in
+    turn_seen eq laws g.C.Number.value _ edges start g.C.Number.fits s _ s _ c.from_residual.result c.self.view_is (ap (λ (ls : Labels g.row.C.Denot). seen i.discovery.nodes.keys ls i.refused i.discovery.source.function) c.in-Some.ensures.same) (
       v,
       turn_refused eq g.C.Number.value edges start g.C.Number.fits s s c.from_residual.result c.in_err-item.field-0.0 c.from_residual.ensures.1
-          (inl c.in_err-item.ensures.refused) (left_at eq laws g.C.Number.value _ _ _ _ _ edges start s v c.self.invariant.0.tree c.in-Some.number z.0 z.1) (λ x cost. ((λ h. h), λ h. h)) refl (SameNodes-refl eq laws.refl i.discovery.nodes.keys),
+          (inl c.in_err-item.ensures.refused) (left_at eq laws g.C.Number.value _ edges start s v c.self.invariant.0.tree c.in-Some.number z.0 z.1) (λ x cost. ((λ h. h), λ h. h)) refl (SameNodes-refl eq laws.refl i.discovery.nodes.keys),
     )
 
 pub turn-requires-clause-least : goal.turn-requires-clause-least
@@ -76,19 +76,19 @@ returns-in_err-turn-clause-steps g c = λ edges start w.
     let wide = c.self.invariant.1 in
     let same = c.in-Some.ensures.same in
     let new = c.turn.new.graph in
-    let s = seen i.discovery.nodes.keys i.search.labels.items i.refused i.discovery.successors in
-    let t = seen new.nodes.keys i.search.labels.items i.refused new.successors in
+    let s = seen i.discovery.nodes.keys i.search.labels.items i.refused i.discovery.source.function in
+    let t = seen new.nodes.keys i.search.labels.items i.refused new.source.function in
     let explored = e.graph _ v.explored in
     let search = search_grows (by_cost g.C.Number.value) (IsStep eq _) (λ k. nat_eq k 0) _ _ _ _ e.grows i.search.labels.items (same_most _ _ wide) v.search in
-    let x = stands_at eq laws g.C.Number.value _ _ _ _ _ edges start s v tree c.in-Some.number z.0 z.1 in
+    let x = stands_at eq laws g.C.Number.value _ edges start s v tree c.in-Some.number z.0 z.1 in
     let why = elim e.errors as (λ _. RefusedFor eq g.C.Number.value edges start g.C.Number.fits s c.in_err-turn.field-0.0) [
       | inl f ↦ inl f
-      | inr f ↦ inr (f, past_at eq laws g.C.Number.value _ _ _ _ _ edges start s v tree c.in-Some.number z.0 z.1 g.C.Number.fits x.0 x.1 (e.overflow (ap Err f) _ v.explored x.0 x.1 z.0 (still_at _ _ same _ _ z.1.at)))
+      | inr f ↦ inr (f, past_at eq laws g.C.Number.value _ edges start s v tree c.in-Some.number z.0 z.1 g.C.Number.fits x.0 x.1 (e.overflow (ap Err f) _ v.explored x.0 x.1 z.0 (still_at _ _ same _ _ z.1.at)))
     ] in
-    turn_seen eq laws g.C.Number.value _ _ _ _ _ edges start g.C.Number.fits s _ t _ c.from_residual-in_err-turn.result c.self.view_is (ap (λ (ls : Labels g.row.C.Denot). seen new.nodes.keys ls i.refused new.successors) (e.kept.1 ∙ same)) (
-      goes_on eq laws g.C.Number.value _ _ _ _ _ edges start s v tree wide t e.grows explored (sym (ap length (e.kept.1 ∙ same)) ∙ e.wide) search,
+    turn_seen eq laws g.C.Number.value _ edges start g.C.Number.fits s _ t _ c.from_residual-in_err-turn.result c.self.view_is (ap (λ (ls : Labels g.row.C.Denot). seen new.nodes.keys ls i.refused new.source.function) (e.kept.1 ∙ same)) (
+      goes_on eq laws g.C.Number.value _ edges start s v tree wide t e.grows explored (sym (ap length (e.kept.1 ∙ same)) ∙ e.wide) search,
       turn_refused eq g.C.Number.value edges start g.C.Number.fits s t c.from_residual-in_err-turn.result c.in_err-turn.field-0.0 c.from_residual-in_err-turn.ensures.1
-          why (left_at eq laws g.C.Number.value _ _ _ _ _ edges start s v tree c.in-Some.number z.0 z.1) (no_more eq laws g.C.Number.value _ _ _ _ _ edges start s v tree wide t e.grows explored refl)
+          why (left_at eq laws g.C.Number.value _ edges start s v tree c.in-Some.number z.0 z.1) (no_more eq laws g.C.Number.value _ edges start s v tree wide t e.grows explored refl)
           refl (Same-sym eq laws i.discovery.nodes.keys new.nodes.keys (kept_all eq laws i.discovery.nodes.keys new.nodes.keys e.grows e.kept.0)),
     )
 
@@ -104,18 +104,18 @@ returns-clause-steps g c = λ edges start w.
     let wide = c.self.invariant.1 in
     let same = c.in-Some.ensures.same in
     let new = c.turn.new.graph in
-    let s = seen i.discovery.nodes.keys i.search.labels.items i.refused i.discovery.successors in
-    let t = seen new.nodes.keys c.turn.new.self.labels.items i.refused new.successors in
+    let s = seen i.discovery.nodes.keys i.search.labels.items i.refused i.discovery.source.function in
+    let t = seen new.nodes.keys c.turn.new.self.labels.items i.refused new.source.function in
     let explored = e.graph _ v.explored in
-    let search = e.search _ v.explored (costs eq laws g.C.Number.value _ _ _ _ _ edges start s v tree) (λ k. nat_eq k 0) (still_search _ _ same (by_cost g.C.Number.value) (IsStep eq _) (λ k. nat_eq k 0) _ v.search) in
+    let search = e.search _ v.explored (costs eq laws g.C.Number.value _ edges start s v tree) (λ k. nat_eq k 0) (still_search _ _ same (by_cost g.C.Number.value) (IsStep eq _) (λ k. nat_eq k 0) _ v.search) in
     let item = item_read eq c.in-Some.number c.in_ok-item.item _ _ _ _ same c.as_slice.ensures.keys c.in_ok-item.ensures.item in
     let least = least_is (by_cost g.C.Number.value) i.search.labels.items c.in-Some.number z.0 item.0 z.1 item.1 in
     let turned = turned_from _ _ same c.in-Some.number item.0 _ item.1 e.turned in
-    turn_seen eq laws g.C.Number.value _ _ _ _ _ edges start g.C.Number.fits s _ t _ (Ok (Some c.in_ok-item.item)) c.self.view_is refl (
-      goes_on eq laws g.C.Number.value _ _ _ _ _ edges start s v tree wide t e.grows explored e.wide search,
+    turn_seen eq laws g.C.Number.value _ edges start g.C.Number.fits s _ t _ (Ok (Some c.in_ok-item.item)) c.self.view_is refl (
+      goes_on eq laws g.C.Number.value _ edges start s v tree wide t e.grows explored e.wide search,
       (
-        next_is eq laws g.C.Number.value _ _ _ _ _ edges start s v tree c.in-Some.number item.0 least c.in_ok-item.item item.2 item.3 item.4,
-        one_more eq laws g.C.Number.value _ _ _ _ _ edges start s v tree wide t e.grows explored c.in-Some.number item.0 item.1 turned c.in_ok-item.item item.2 item.3,
+        next_is eq laws g.C.Number.value _ edges start s v tree c.in-Some.number item.0 least c.in_ok-item.item item.2 item.3 item.4,
+        one_more eq laws g.C.Number.value _ edges start s v tree wide t e.grows explored c.in-Some.number item.0 item.1 turned c.in_ok-item.item item.2 item.3,
       ),
     )
 
@@ -124,15 +124,15 @@ returns-in_default-clause-bars g c = λ edges start w.
     let eq = g.N.PartialEq.eq in
     let i = c.self.inside in
     let v = subst (IsCheapestWalk eq g.C.Number.value edges start _) (sym c.self.view_is) w in
-    let s = seen i.discovery.nodes.keys i.search.labels.items i.refused i.discovery.successors in
-    bar_seen eq g.C.Number.value edges start g.C.Number.fits s s _ _ (Ok None) c.self.view_is (ap (λ (ls : Labels g.row.C.Denot). seen i.discovery.nodes.keys ls i.refused i.discovery.successors) c.in_default.ensures.same) (ended_bar g.N.PartialEq.eq g.met.N.Eq.laws g.C.Number.value _ _ _ _ _ edges start s v c.self.invariant.0.tree g.C.Number.fits c.in_default.ensures.least)
+    let s = seen i.discovery.nodes.keys i.search.labels.items i.refused i.discovery.source.function in
+    bar_seen eq g.C.Number.value edges start g.C.Number.fits s s _ _ (Ok None) c.self.view_is (ap (λ (ls : Labels g.row.C.Denot). seen i.discovery.nodes.keys ls i.refused i.discovery.source.function) c.in_default.ensures.same) (ended_bar g.N.PartialEq.eq g.met.N.Eq.laws g.C.Number.value _ edges start s v c.self.invariant.0.tree g.C.Number.fits c.in_default.ensures.least)
 
 pub returns-in_err-item-clause-bars : goal.returns-in_err-item-clause-bars
 returns-in_err-item-clause-bars g c = λ edges start w.
     let eq = g.N.PartialEq.eq in
     let i = c.self.inside in
-    let s = seen i.discovery.nodes.keys i.search.labels.items i.refused i.discovery.successors in
-    bar_seen eq g.C.Number.value edges start g.C.Number.fits s s _ _ c.from_residual.result c.self.view_is (ap (λ (ls : Labels g.row.C.Denot). seen i.discovery.nodes.keys ls i.refused i.discovery.successors) c.in-Some.ensures.same) (bar_refused eq g.C.Number.value edges start g.C.Number.fits s s c.from_residual.result c.in_err-item.field-0.0 c.from_residual.ensures.1
+    let s = seen i.discovery.nodes.keys i.search.labels.items i.refused i.discovery.source.function in
+    bar_seen eq g.C.Number.value edges start g.C.Number.fits s s _ _ c.from_residual.result c.self.view_is (ap (λ (ls : Labels g.row.C.Denot). seen i.discovery.nodes.keys ls i.refused i.discovery.source.function) c.in-Some.ensures.same) (bar_refused eq g.C.Number.value edges start g.C.Number.fits s s c.from_residual.result c.in_err-item.field-0.0 c.from_residual.ensures.1
     (λ why. elim why as (λ _. IsBarred eq g.C.Number.value edges start g.C.Number.fits s) [ inl o ↦ absurd (no_overflow (sym c.in_err-item.ensures.refused ∙ o)) | inr b ↦ b ]))
 
 pub returns-in_err-turn-clause-bars : goal.returns-in_err-turn-clause-bars
@@ -146,11 +146,11 @@ returns-in_err-turn-clause-bars g c = λ edges start w.
     let tree = c.self.invariant.0.tree in
     let same = c.in-Some.ensures.same in
     let new = c.turn.new.graph in
-    let s = seen i.discovery.nodes.keys i.search.labels.items i.refused i.discovery.successors in
-    let t = seen new.nodes.keys i.search.labels.items i.refused new.successors in
-    let kept = bar_kept eq laws g.C.Number.value _ _ _ _ _ edges start s v tree c.self.invariant.1 t e.grows (e.graph _ v.explored) g.C.Number.fits refl in
-    let x = stands_at eq laws g.C.Number.value _ _ _ _ _ edges start s v tree c.in-Some.number z.0 z.1 in
-    bar_seen eq g.C.Number.value edges start g.C.Number.fits s t _ _ c.from_residual-in_err-turn.result c.self.view_is (ap (λ (ls : Labels g.row.C.Denot). seen new.nodes.keys ls i.refused new.successors) (e.kept.1 ∙ same)) (bar_refused eq g.C.Number.value edges start g.C.Number.fits s t c.from_residual-in_err-turn.result c.in_err-turn.field-0.0 c.from_residual-in_err-turn.ensures.1
+    let s = seen i.discovery.nodes.keys i.search.labels.items i.refused i.discovery.source.function in
+    let t = seen new.nodes.keys i.search.labels.items i.refused new.source.function in
+    let kept = bar_kept eq laws g.C.Number.value _ edges start s v tree c.self.invariant.1 t e.grows (e.graph _ v.explored) g.C.Number.fits refl in
+    let x = stands_at eq laws g.C.Number.value _ edges start s v tree c.in-Some.number z.0 z.1 in
+    bar_seen eq g.C.Number.value edges start g.C.Number.fits s t _ _ c.from_residual-in_err-turn.result c.self.view_is (ap (λ (ls : Labels g.row.C.Denot). seen new.nodes.keys ls i.refused new.source.function) (e.kept.1 ∙ same)) (bar_refused eq g.C.Number.value edges start g.C.Number.fits s t c.from_residual-in_err-turn.result c.in_err-turn.field-0.0 c.from_residual-in_err-turn.ensures.1
     (λ why. elim why as (λ _. IsBarred eq g.C.Number.value edges start g.C.Number.fits t) [
       | inl o ↦ kept (record { number = c.in-Some.number; label = z.0; least = z.1; first = c.in-Some.ensures.first; node = x.0; here = x.1; step = subst (λ (ls : Labels g.row.C.Denot). HasBarredStep (IsStep eq (record { starts = start ∷ []; edges = edges })) (StandsFor eq i.discovery.nodes.keys) ls g.C.Number.fits x.0 (g.C.Number.value z.0.cost)) same (e.barred (ap Err o) _ v.explored x.0 x.1 z.0 (still_at _ _ same _ _ z.1.at)) })
       | inr b ↦ kept b
@@ -166,9 +166,9 @@ returns-clause-bars g c = λ edges start w.
     let e = c.in_ok-turn.ensures in
     let same = c.in-Some.ensures.same in
     let new = c.turn.new.graph in
-    let s = seen i.discovery.nodes.keys i.search.labels.items i.refused i.discovery.successors in
-    let t = seen new.nodes.keys c.turn.new.self.labels.items i.refused new.successors in
-    bar_seen eq g.C.Number.value edges start g.C.Number.fits s t _ _ (Ok (Some c.in_ok-item.item)) c.self.view_is refl (no_bar eq laws g.C.Number.value _ _ _ _ _ edges start s v c.self.invariant.0.tree c.self.invariant.1 t e.grows (e.graph _ v.explored) g.C.Number.fits c.in-Some.number z.0 z.1 c.in-Some.ensures.first
+    let s = seen i.discovery.nodes.keys i.search.labels.items i.refused i.discovery.source.function in
+    let t = seen new.nodes.keys c.turn.new.self.labels.items i.refused new.source.function in
+    bar_seen eq g.C.Number.value edges start g.C.Number.fits s t _ _ (Ok (Some c.in_ok-item.item)) c.self.view_is refl (no_bar eq laws g.C.Number.value _ edges start s v c.self.invariant.0.tree c.self.invariant.1 t e.grows (e.graph _ v.explored) g.C.Number.fits c.in-Some.number z.0 z.1 c.in-Some.ensures.first
     (λ x here y q step. subst (λ (ls : Labels g.row.C.Denot). IsWithinRange (IsStep eq (record { starts = start ∷ []; edges = edges })) (StandsFor eq i.discovery.nodes.keys) ls g.C.Number.fits x (g.C.Number.value z.0.cost) (StandsFor eq new.nodes.keys) y) same (e.within _ v.explored x here z.0 (still_at _ _ same _ _ z.1.at) y q step)))
 
 pub returns-in_default-clause-counts : goal.returns-in_default-clause-counts

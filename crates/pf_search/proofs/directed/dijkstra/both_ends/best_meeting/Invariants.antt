@@ -12,17 +12,17 @@ invariant-turns g l =
     let eq = g.N.PartialEq.eq in
     let value = g.C.Number.value in
     let top = g.C.Number.value g.C.Cost.greatest in
-    let explores = λ (h : NodeGraph g.row.N.Denot) (keys : List g.row.N.Denot) (f : g.row.FN.Denot). Explores eq value (λ e. e) g.IN.IntoIterator.into_iter_gives g.IN.IntoIter.Iterator.can_next g.IN.IntoIter.Iterator.remaining g.IN.IntoIter.Iterator.next_gives g.FN.FnMut h keys f in
-    let explores_back = λ (h : NodeGraph g.row.N.Denot) (keys : List g.row.N.Denot) (f : g.row.FM.Denot). Explores eq value (λ e. e) g.IM.IntoIterator.into_iter_gives g.IM.IntoIter.Iterator.can_next g.IM.IntoIter.Iterator.remaining g.IM.IntoIter.Iterator.next_gives g.FM.FnMut h keys f in
+    let explores = Explores eq g.S.EdgeSource.answers in
+    let explores_back = Explores eq g.P.EdgeSource.answers in
     record {
       sound_forth : IsSound g.C.Ord.cmp value l.forth.labels.items (heap_items l.forth.queue);
       sound_back : IsSound g.C.Ord.cmp value l.back.labels.items (heap_items l.back.queue);
       wide_forth : length l.forth.labels.items ≡ length l.graph.forth.nodes.keys;
       wide_back : length l.back.labels.items ≡ length l.graph.back.nodes.keys;
-      explored_forth : (h : NodeGraph g.row.N.Denot) → explores h l.fn.graph.forth.nodes.keys l.fn.graph.forth.successors → explores h l.graph.forth.nodes.keys l.graph.forth.successors;
-      explored_back : (h : NodeGraph g.row.N.Denot) → explores_back h l.fn.graph.back.nodes.keys l.fn.graph.back.successors → explores_back h l.graph.back.nodes.keys l.graph.back.successors;
+      explored_forth : (h : NodeGraph g.row.N.Denot) → explores h l.fn.graph.forth.nodes.keys l.fn.graph.forth.source → explores h l.graph.forth.nodes.keys l.graph.forth.source;
+      explored_back : (h : NodeGraph g.row.N.Denot) → explores_back h l.fn.graph.back.nodes.keys l.fn.graph.back.source → explores_back h l.graph.back.nodes.keys l.graph.back.source;
       pair : (edges previous : g.row.N.Denot → List (g.row.N.Denot × ℤ)) (start end : g.row.N.Denot)
-          → explores (from_one start edges) l.fn.graph.forth.nodes.keys l.fn.graph.forth.successors → explores_back (from_one end previous) l.fn.graph.back.nodes.keys l.fn.graph.back.successors
+          → explores (from_one start edges) l.fn.graph.forth.nodes.keys l.fn.graph.forth.source → explores_back (from_one end previous) l.fn.graph.back.nodes.keys l.fn.graph.back.source
           → IsPair eq value g.C.Number.fits edges previous start end l.fn.graph.forth.nodes.keys l.fn.graph.back.nodes.keys l.fn.forth.labels.items l.fn.back.labels.items (top +ℤ pos 1)
           → IsPair eq value g.C.Number.fits edges previous start end l.graph.forth.nodes.keys l.graph.back.nodes.keys l.forth.labels.items l.back.labels.items (bound value top l.best)
           × IfSome l.best (λ m. IsMeeting eq value l.graph.forth.nodes.keys l.graph.back.nodes.keys l.forth.labels.items l.back.labels.items m);

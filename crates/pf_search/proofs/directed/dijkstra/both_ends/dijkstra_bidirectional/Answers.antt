@@ -1,4 +1,4 @@
-use Rattle.pf_core.proofs.NodeLemmas.{Explores-edges}
+use Rattle.pf_core.proofs.NodeLemmas.{Explores-edges_of}
 use Rattle.pf_search.specs.Internal.BothEnds.{from_one}
 use Rattle.std.proofs.lemmas.Result.{IfOk-from_err}
 use Rattle.std.proofs.Common.{inl}
@@ -19,8 +19,8 @@ path_between-requires-clause-ends g c =
       r.1,
       start,
       end,
-      Explores-edges eq laws _ _ _ _ _ _ (from_one start r.0) found.field-0.keys _ found.ensures.distinct found.ensures.same s.edges_answered,
-      Explores-edges eq laws _ _ _ _ _ _ (from_one end r.1) found_back.field-0.keys _ found_back.ensures.distinct found_back.ensures.same s.previous_answered,
+      Explores-edges_of eq laws _ _ _ _ _ _ (from_one start r.0) found.field-0.keys _ found.ensures.distinct found.ensures.same s.edges_answered,
+      Explores-edges_of eq laws _ _ _ _ _ _ (from_one end r.1) found_back.field-0.keys _ found_back.ensures.distinct found_back.ensures.same s.previous_answered,
       record { begins = found.ensures.begins; begins_back = found_back.ensures.begins; mirror = s.mirror; costs = s.costs; costs_back = s.costs_back },
     )
 
@@ -32,8 +32,8 @@ returns-clause-best g c = λ edges previous s.
     let end = c.args.end.now in
     let found = c.in_ok-clone_of in
     let found_back = c.in_ok-clone_of-2 in
-    let x = Explores-edges eq laws _ _ _ _ _ _ (from_one start edges) found.field-0.keys _ found.ensures.distinct found.ensures.same s.edges_answered in
-    let y = Explores-edges eq laws _ _ _ _ _ _ (from_one end previous) found_back.field-0.keys _ found_back.ensures.distinct found_back.ensures.same s.previous_answered in
+    let x = Explores-edges_of eq laws _ _ _ _ _ _ (from_one start edges) found.field-0.keys _ found.ensures.distinct found.ensures.same s.edges_answered in
+    let y = Explores-edges_of eq laws _ _ _ _ _ _ (from_one end previous) found_back.field-0.keys _ found_back.ensures.distinct found_back.ensures.same s.previous_answered in
     (c.path_between.ensures.best edges previous start end x y (record { begins = found.ensures.begins; begins_back = found_back.ensures.begins; mirror = s.mirror; costs = s.costs; costs_back = s.costs_back })).0
 
 pub returns-clause-overflow : goal.returns-clause-overflow
@@ -44,8 +44,8 @@ returns-clause-overflow g c = λ edges previous s.
     let end = c.args.end.now in
     let found = c.in_ok-clone_of in
     let found_back = c.in_ok-clone_of-2 in
-    let x = Explores-edges eq laws _ _ _ _ _ _ (from_one start edges) found.field-0.keys _ found.ensures.distinct found.ensures.same s.edges_answered in
-    let y = Explores-edges eq laws _ _ _ _ _ _ (from_one end previous) found_back.field-0.keys _ found_back.ensures.distinct found_back.ensures.same s.previous_answered in
+    let x = Explores-edges_of eq laws _ _ _ _ _ _ (from_one start edges) found.field-0.keys _ found.ensures.distinct found.ensures.same s.edges_answered in
+    let y = Explores-edges_of eq laws _ _ _ _ _ _ (from_one end previous) found_back.field-0.keys _ found_back.ensures.distinct found_back.ensures.same s.previous_answered in
     (c.path_between.ensures.best edges previous start end x y (record { begins = found.ensures.begins; begins_back = found_back.ensures.begins; mirror = s.mirror; costs = s.costs; costs_back = s.costs_back })).1
 
 pub path_between-requires-clause-clones : goal.path_between-requires-clause-clones

@@ -15,9 +15,9 @@ bounds-as_slice-branch g c =
     let k = c.next_branch.new.self in
     let r = c.requires.graph in
     let b = c.in-Some.ensures in
-    let v = subst (IsDepthWalk eq r.0 r.1 _ _ _ _ _ r.2) (sym c.self.view_is) r.3 in
-    let t : DepthWalk g.row.N.Denot g.row.FN.Denot = record { found = c.put_start.new.nodes.keys; given = length k.given.items; visited = k.visited.items; path = k.path.items; waiting = k.waiting.items; refused = i.refused; successors = i.graph.successors } in
-    let m = looked eq laws _ _ _ _ _ r.0 r.1 r.2 _ t b.dropped.0 v put.1 (ap length b.given) b.visited b.path refl b.dropped.1 b.dropped.2 in
+    let v = subst (IsDepthWalk eq _ r.0 r.1 r.2) (sym c.self.view_is) r.3 in
+    let t : DepthWalk g.row.N.Denot g.row.F.Denot = record { found = c.put_start.new.nodes.keys; given = length k.given.items; visited = k.visited.items; path = k.path.items; waiting = k.waiting.items; refused = i.refused; successors = i.graph.source.function } in
+    let m = looked eq laws _ r.0 r.1 r.2 _ t b.dropped.0 v put.1 (ap length b.given) b.visited b.path refl b.dropped.1 b.dropped.2 in
     omega (arith, ap length c.as_slice.ensures.keys, (leads_inside eq laws r.0 r.1 r.2 t c.in-Some.branch m.stands b.next).0)
 
 pub offset_bounds-as_slice-branch : goal.offset_bounds-as_slice-branch
@@ -32,9 +32,9 @@ returns-in_err-put_start-clause-walks g c = λ next start paths w.
     let laws = g.met.N.Eq.laws in
     let i = c.self.inside in
     let s = c.in_err-put_start.ensures.stays in
-    let v = subst (IsDepthWalk eq next start _ _ _ _ _ paths) (sym c.self.view_is) w in
+    let v = subst (IsDepthWalk eq _ next start paths) (sym c.self.view_is) w in
     let none = none_given i.start i.graph.nodes.keys (length i.walk.given.items) s.0 c.self.invariant s.1 in
-    rw (s.2, s.3) (err_goes eq laws _ _ _ _ _ next start paths _ (unbegun eq laws next start paths _ v.stands none) v c.from_residual.result c.from_residual.ensures.0)
+    rw (s.2, s.3) (err_goes eq laws _ next start paths _ (unbegun eq laws next start paths _ v.stands none) v c.from_residual.result c.from_residual.ensures.0)
 
 pub returns-in_err-node-in-Some-clause-walks : goal.returns-in_err-node-in-Some-clause-walks
 returns-in_err-node-in-Some-clause-walks g c = λ next start paths w.
@@ -44,11 +44,11 @@ returns-in_err-node-in-Some-clause-walks g c = λ next start paths w.
     let put = c.in_ok-put_start.ensures.put in
     let k = c.next_branch.new.self in
     let b = c.in-Some.ensures in
-    let v = subst (IsDepthWalk eq next start _ _ _ _ _ paths) (sym c.self.view_is) w in
-    let t : DepthWalk g.row.N.Denot g.row.FN.Denot = record { found = c.put_start.new.nodes.keys; given = length k.given.items; visited = k.visited.items; path = k.path.items; waiting = k.waiting.items; refused = i.refused; successors = i.graph.successors } in
-    let m = looked eq laws _ _ _ _ _ next start paths _ t b.dropped.0 v put.1 (ap length b.given) b.visited b.path refl b.dropped.1 b.dropped.2 in
-    let n = still_goes eq laws _ _ _ _ _ next start paths t c.in-Some.branch m b.next in
-    goes_put eq laws _ _ _ _ _ next start paths _ t c.from_residual-in_err-node-in-Some.result put.0 (err_goes eq laws _ _ _ _ _ next start paths t n m c.from_residual-in_err-node-in-Some.result c.from_residual-in_err-node-in-Some.ensures.0)
+    let v = subst (IsDepthWalk eq _ next start paths) (sym c.self.view_is) w in
+    let t : DepthWalk g.row.N.Denot g.row.F.Denot = record { found = c.put_start.new.nodes.keys; given = length k.given.items; visited = k.visited.items; path = k.path.items; waiting = k.waiting.items; refused = i.refused; successors = i.graph.source.function } in
+    let m = looked eq laws _ next start paths _ t b.dropped.0 v put.1 (ap length b.given) b.visited b.path refl b.dropped.1 b.dropped.2 in
+    let n = still_goes eq laws _ next start paths t c.in-Some.branch m b.next in
+    goes_put eq laws _ next start paths _ t c.from_residual-in_err-node-in-Some.result put.0 (err_goes eq laws _ next start paths t n m c.from_residual-in_err-node-in-Some.result c.from_residual-in_err-node-in-Some.ensures.0)
 
 pub visit-requires-clause-inside : goal.visit-requires-clause-inside
 visit-requires-clause-inside g c =
@@ -59,10 +59,22 @@ visit-requires-clause-inside g c =
     let k = c.next_branch.new.self in
     let r = c.requires.graph in
     let b = c.in-Some.ensures in
-    let v = subst (IsDepthWalk eq r.0 r.1 _ _ _ _ _ r.2) (sym c.self.view_is) r.3 in
-    let t : DepthWalk g.row.N.Denot g.row.FN.Denot = record { found = c.put_start.new.nodes.keys; given = length k.given.items; visited = k.visited.items; path = k.path.items; waiting = k.waiting.items; refused = i.refused; successors = i.graph.successors } in
-    let m = looked eq laws _ _ _ _ _ r.0 r.1 r.2 _ t b.dropped.0 v put.1 (ap length b.given) b.visited b.path refl b.dropped.1 b.dropped.2 in
+    let v = subst (IsDepthWalk eq _ r.0 r.1 r.2) (sym c.self.view_is) r.3 in
+    let t : DepthWalk g.row.N.Denot g.row.F.Denot = record { found = c.put_start.new.nodes.keys; given = length k.given.items; visited = k.visited.items; path = k.path.items; waiting = k.waiting.items; refused = i.refused; successors = i.graph.source.function } in
+    let m = looked eq laws _ r.0 r.1 r.2 _ t b.dropped.0 v put.1 (ap length b.given) b.visited b.path refl b.dropped.1 b.dropped.2 in
     (leads_inside eq laws r.0 r.1 r.2 t c.in-Some.branch m.stands b.next).0
+
+pub visit-requires-clause-graph : goal.visit-requires-clause-graph
+visit-requires-clause-graph g c =
+    let eq = g.N.PartialEq.eq in
+    let i = c.self.inside in
+    let k = c.next_branch.new.self in
+    let r = c.requires.graph in
+    let b = c.in-Some.ensures in
+    let v = subst (IsDepthWalk eq _ r.0 r.1 r.2) (sym c.self.view_is) r.3 in
+    let t : DepthWalk g.row.N.Denot g.row.F.Denot = record { found = c.put_start.new.nodes.keys; given = length k.given.items; visited = k.visited.items; path = k.path.items; waiting = k.waiting.items; refused = i.refused; successors = i.graph.source.function } in
+    let m = looked eq g.met.N.Eq.laws _ r.0 r.1 r.2 _ t b.dropped.0 v c.in_ok-put_start.ensures.put.1 (ap length b.given) b.visited b.path refl b.dropped.1 b.dropped.2 in
+    (_, m.explores)
 
 pub visit-requires-clause-depth : goal.visit-requires-clause-depth
 visit-requires-clause-depth g c =
@@ -73,9 +85,9 @@ visit-requires-clause-depth g c =
     let k = c.next_branch.new.self in
     let r = c.requires.graph in
     let b = c.in-Some.ensures in
-    let v = subst (IsDepthWalk eq r.0 r.1 _ _ _ _ _ r.2) (sym c.self.view_is) r.3 in
-    let t : DepthWalk g.row.N.Denot g.row.FN.Denot = record { found = c.put_start.new.nodes.keys; given = length k.given.items; visited = k.visited.items; path = k.path.items; waiting = k.waiting.items; refused = i.refused; successors = i.graph.successors } in
-    let m = looked eq laws _ _ _ _ _ r.0 r.1 r.2 _ t b.dropped.0 v put.1 (ap length b.given) b.visited b.path refl b.dropped.1 b.dropped.2 in
+    let v = subst (IsDepthWalk eq _ r.0 r.1 r.2) (sym c.self.view_is) r.3 in
+    let t : DepthWalk g.row.N.Denot g.row.F.Denot = record { found = c.put_start.new.nodes.keys; given = length k.given.items; visited = k.visited.items; path = k.path.items; waiting = k.waiting.items; refused = i.refused; successors = i.graph.source.function } in
+    let m = looked eq laws _ r.0 r.1 r.2 _ t b.dropped.0 v put.1 (ap length b.given) b.visited b.path refl b.dropped.1 b.dropped.2 in
     (leads_inside eq laws r.0 r.1 r.2 t c.in-Some.branch m.stands b.next).1
 
 pub returns-in_err-visit-in-Some-clause-walks : goal.returns-in_err-visit-in-Some-clause-walks
@@ -86,15 +98,15 @@ returns-in_err-visit-in-Some-clause-walks g c = λ next start paths w.
     let put = c.in_ok-put_start.ensures.put in
     let k = c.next_branch.new.self in
     let b = c.in-Some.ensures in
-    let v = subst (IsDepthWalk eq next start _ _ _ _ _ paths) (sym c.self.view_is) w in
-    let t : DepthWalk g.row.N.Denot g.row.FN.Denot = record { found = c.put_start.new.nodes.keys; given = length k.given.items; visited = k.visited.items; path = k.path.items; waiting = k.waiting.items; refused = i.refused; successors = i.graph.successors } in
-    let m = looked eq laws _ _ _ _ _ next start paths _ t b.dropped.0 v put.1 (ap length b.given) b.visited b.path refl b.dropped.1 b.dropped.2 in
+    let v = subst (IsDepthWalk eq _ next start paths) (sym c.self.view_is) w in
+    let t : DepthWalk g.row.N.Denot g.row.F.Denot = record { found = c.put_start.new.nodes.keys; given = length k.given.items; visited = k.visited.items; path = k.path.items; waiting = k.waiting.items; refused = i.refused; successors = i.graph.source.function } in
+    let m = looked eq laws _ next start paths _ t b.dropped.0 v put.1 (ap length b.given) b.visited b.path refl b.dropped.1 b.dropped.2 in
     let j = c.visit.new.self in
-    let u : DepthWalk g.row.N.Denot g.row.FN.Denot = record { found = c.visit.new.graph.nodes.keys; given = length j.given.items; visited = j.visited.items; path = j.path.items; waiting = j.waiting.items; refused = i.refused; successors = c.visit.new.graph.successors } in
+    let u : DepthWalk g.row.N.Denot g.row.F.Denot = record { found = c.visit.new.graph.nodes.keys; given = length j.given.items; visited = j.visited.items; path = j.path.items; waiting = j.waiting.items; refused = i.refused; successors = c.visit.new.graph.source.function } in
     let e = c.in_err-visit-in-Some.ensures in
-    let m' = refused_visit eq laws _ _ _ _ _ next start paths t u m e.grows (e.graph _ m.explores) e.kept.4 (ap length e.kept.0) e.kept.1 e.kept.2 e.kept.3 in
-    let n = still_goes eq laws _ _ _ _ _ next start paths t c.in-Some.branch m b.next in
-    goes_put eq laws _ _ _ _ _ next start paths _ u c.from_residual-in_err-visit-in-Some.result put.0 (err_goes eq laws _ _ _ _ _ next start paths u n m' c.from_residual-in_err-visit-in-Some.result c.from_residual-in_err-visit-in-Some.ensures.0)
+    let m' = refused_visit eq laws _ next start paths t u m e.grows (e.graph _ m.explores) e.kept.4 (ap length e.kept.0) e.kept.1 e.kept.2 e.kept.3 in
+    let n = still_goes eq laws _ next start paths t c.in-Some.branch m b.next in
+    goes_put eq laws _ next start paths _ u c.from_residual-in_err-visit-in-Some.result put.0 (err_goes eq laws _ next start paths u n m' c.from_residual-in_err-visit-in-Some.result c.from_residual-in_err-visit-in-Some.ensures.0)
 
 pub returns-in-None-clause-walks : goal.returns-in-None-clause-walks
 returns-in-None-clause-walks g c = λ next start paths w.
@@ -104,10 +116,10 @@ returns-in-None-clause-walks g c = λ next start paths w.
     let put = c.in_ok-put_start.ensures.put in
     let k = c.next_branch.new.self in
     let b = c.in-None.ensures in
-    let v = subst (IsDepthWalk eq next start _ _ _ _ _ paths) (sym c.self.view_is) w in
-    let t : DepthWalk g.row.N.Denot g.row.FN.Denot = record { found = c.put_start.new.nodes.keys; given = length k.given.items; visited = k.visited.items; path = k.path.items; waiting = k.waiting.items; refused = i.refused; successors = i.graph.successors } in
-    let m = looked eq laws _ _ _ _ _ next start paths _ t b.dropped.0 v put.1 (ap length b.given) b.visited b.path refl b.dropped.1 b.dropped.2 in
-    goes_put eq laws _ _ _ _ _ next start paths _ t (Ok None) put.0 (ended eq laws next start paths t m.stands b.next.0 b.next.1, m)
+    let v = subst (IsDepthWalk eq _ next start paths) (sym c.self.view_is) w in
+    let t : DepthWalk g.row.N.Denot g.row.F.Denot = record { found = c.put_start.new.nodes.keys; given = length k.given.items; visited = k.visited.items; path = k.path.items; waiting = k.waiting.items; refused = i.refused; successors = i.graph.source.function } in
+    let m = looked eq laws _ next start paths _ t b.dropped.0 v put.1 (ap length b.given) b.visited b.path refl b.dropped.1 b.dropped.2 in
+    goes_put eq laws _ next start paths _ t (Ok None) put.0 (ended eq laws next start paths t m.stands b.next.0 b.next.1, m)
 
 pub returns-in_ok-visit-in-Some-clause-walks : goal.returns-in_ok-visit-in-Some-clause-walks
 returns-in_ok-visit-in-Some-clause-walks g c = λ next start paths w.
@@ -117,18 +129,18 @@ returns-in_ok-visit-in-Some-clause-walks g c = λ next start paths w.
     let put = c.in_ok-put_start.ensures.put in
     let k = c.next_branch.new.self in
     let b = c.in-Some.ensures in
-    let v = subst (IsDepthWalk eq next start _ _ _ _ _ paths) (sym c.self.view_is) w in
-    let t : DepthWalk g.row.N.Denot g.row.FN.Denot = record { found = c.put_start.new.nodes.keys; given = length k.given.items; visited = k.visited.items; path = k.path.items; waiting = k.waiting.items; refused = i.refused; successors = i.graph.successors } in
-    let m = looked eq laws _ _ _ _ _ next start paths _ t b.dropped.0 v put.1 (ap length b.given) b.visited b.path refl b.dropped.1 b.dropped.2 in
+    let v = subst (IsDepthWalk eq _ next start paths) (sym c.self.view_is) w in
+    let t : DepthWalk g.row.N.Denot g.row.F.Denot = record { found = c.put_start.new.nodes.keys; given = length k.given.items; visited = k.visited.items; path = k.path.items; waiting = k.waiting.items; refused = i.refused; successors = i.graph.source.function } in
+    let m = looked eq laws _ next start paths _ t b.dropped.0 v put.1 (ap length b.given) b.visited b.path refl b.dropped.1 b.dropped.2 in
     let j = c.visit.new.self in
-    let u : DepthWalk g.row.N.Denot g.row.FN.Denot = record { found = c.visit.new.graph.nodes.keys; given = length j.given.items; visited = j.visited.items; path = j.path.items; waiting = j.waiting.items; refused = i.refused; successors = c.visit.new.graph.successors } in
+    let u : DepthWalk g.row.N.Denot g.row.F.Denot = record { found = c.visit.new.graph.nodes.keys; given = length j.given.items; visited = j.visited.items; path = j.path.items; waiting = j.waiting.items; refused = i.refused; successors = c.visit.new.graph.source.function } in
     let e = c.in_ok-visit-in-Some.ensures in
     let keys = c.put_start.new.nodes.keys in
     let n = c.in-Some.branch.number in
     let node = c.in_ok-node-in-Some.node in
     let inside : n < length keys = (leads_inside eq laws next start paths t c.in-Some.branch m.stands b.next).0 in
     let at : slice_get keys n ≡ Some c.index-as_slice-branch.result = read_at keys _ n _ _ c.as_slice.ensures.keys inside c.index-as_slice-branch.is in
-    goes_put eq laws _ _ _ _ _ next start paths _ u (Ok (Some node)) put.0 (visited_node eq laws _ _ _ _ _ next start paths t u m e.grows (e.graph _ m.explores) c.in-Some.branch node c.index-as_slice-branch.result b.next
+    goes_put eq laws _ next start paths _ u (Ok (Some node)) put.0 (visited_node eq laws _ next start paths t u m e.grows (e.graph _ m.explores) c.in-Some.branch node c.index-as_slice-branch.result b.next
     (omega (arith, ap length e.given, length-append k.given.items (n ∷ []))) e.visited e.path e.waiting.0 e.waiting.1 (λ x s. e.waiting.2 _ m.explores x s) (λ x s. e.ordered _ m.explores x s) at (c.requires.clones _ _ c.in_ok-node-in-Some.ensures.cases))
 
 pub returns-in-None-clause-refused : goal.returns-in-None-clause-refused

@@ -8,15 +8,15 @@ use Rattle.pf_search.proofs.directed.preorder.DfsReachableIterator.next.Goals as
 pub returns-clause-steps : goal.returns-clause-steps
 returns-clause-steps g c = λ next start paths w.
     let e = rw (← c.self-2.view_is) at (c.step-step.ensures.walks next start paths w) in
-    let h = sym (ap (λ (v : DepthWalk g.row.N.Denot g.row.FN.Denot). v.refused) c.self.view_is) ∙ c.if-self.false in
+    let h = sym (ap (λ (v : DepthWalk g.row.N.Denot g.row.F.Denot). v.refused) c.self.view_is) ∙ c.if-self.false in
     let i = c.self-2.inside in
-    let m : DepthWalk g.row.N.Denot g.row.FN.Denot = record { found = found_or i.start i.graph.nodes.keys; given = length i.walk.given.items; visited = i.walk.visited.items; path = i.walk.path.items; waiting = i.walk.waiting.items; refused = i.refused; successors = i.graph.successors } in
-    rw (c.transpose.ensures, c.is_err-self-inside.ensures.value) (step_of g.N.PartialEq.eq g.met.N.Eq.laws _ _ _ _ _ next start paths c.args.self.now m c.step-step.result w c.step-step.ensures.refused h e)
+    let m : DepthWalk g.row.N.Denot g.row.F.Denot = record { found = found_or i.start i.graph.nodes.keys; given = length i.walk.given.items; visited = i.walk.visited.items; path = i.walk.path.items; waiting = i.walk.waiting.items; refused = i.refused; successors = i.graph.source.function } in
+    rw (c.transpose.ensures, c.is_err-self-inside.ensures.value) (step_of g.N.PartialEq.eq g.met.N.Eq.laws _ next start paths c.args.self.now m c.step-step.result w c.step-step.ensures.refused h e)
 
 pub returns-clause-again : goal.returns-clause-again
 returns-clause-again g c =
     let r = c.requires in
-    let a = goes_again g.N.PartialEq.eq g.met.N.Eq.laws _ _ _ _ _ r.1.0 r.1.1 r.1.2 c.args.self.now _ c.transpose.result (returns-clause-steps g c r.1.0 r.1.1 r.1.2 r.1.3) in
+    let a = goes_again g.N.PartialEq.eq g.met.N.Eq.laws _ r.1.0 r.1.1 r.1.2 c.args.self.now _ c.transpose.result (returns-clause-steps g c r.1.0 r.1.1 r.1.2 r.1.3) in
     (r.0, (r.1.0, r.1.1, a.0, a.1))
 
 pub returns-then-self-clause-goes : goal.returns-then-self-clause-goes
@@ -26,8 +26,8 @@ pub returns-clause-goes : goal.returns-clause-goes
 returns-clause-goes g c =
     let r = c.requires in
     let given = c.self-2.inside.walk.given in
-    let counts = depth_counts g.N.PartialEq.eq r.1.0 r.1.1 _ _ _ _ _ r.1.2 c.args.self.now c.transpose.result _ r.1.3 (returns-clause-steps g c r.1.0 r.1.1 r.1.2 r.1.3) (omega (arith, given.ok, given.small)) in
-    progress (λ (w : DepthWalk g.row.N.Denot g.row.FN.Denot). w.given) (λ (w : DepthWalk g.row.N.Denot g.row.FN.Denot). w.refused) _ c.args.self.now c.transpose.result _ (returns-clause-again g c) counts
+    let counts = depth_counts g.N.PartialEq.eq r.1.0 r.1.1 _ r.1.2 c.args.self.now c.transpose.result _ r.1.3 (returns-clause-steps g c r.1.0 r.1.1 r.1.2 r.1.3) (omega (arith, given.ok, given.small)) in
+    progress (λ (w : DepthWalk g.row.N.Denot g.row.F.Denot). w.given) (λ (w : DepthWalk g.row.N.Denot g.row.F.Denot). w.refused) _ c.args.self.now c.transpose.result _ (returns-clause-again g c) counts
 
 pub returns-then-self-clause-refused : goal.returns-then-self-clause-refused
 returns-then-self-clause-refused g c = tt
