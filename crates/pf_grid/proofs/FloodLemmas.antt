@@ -13,7 +13,7 @@ use Rattle.pf_matrix.specs.Positions.{positions}
 use Rattle.pf_matrix.proofs.FloodLemmas.{node_contained}
 use Rattle.pf_matrix.proofs.PositionLemmas.{length-positions, get_or-positions}
 use Rattle.pf_grid.specs.Floods.{passing_around}
-use Rattle.pf_grid.specs.Internal.Gathering.{IsWithinPlaces}
+use Rattle.pf_matrix.specs.Gathering.{IsWithinPlaces}
 use Rattle.pf_grid.specs.Positions.{Positions, has}
 use Rattle.pf_grid.specs.Steps.{around, is_diagonal, neighbours_of, shifted, target, vertex_at}
 use Rattle.pf_grid.specs.declared.grid.steps.Shift.{Shift}

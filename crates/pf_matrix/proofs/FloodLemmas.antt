@@ -30,7 +30,7 @@ use Rattle.pf_core.proofs.ListLemmas.{Contains-cases, Contains-head, Contains-in
 use Rattle.pf_search.specs.Breadth.{BreadthWalk, IsBreadthWalk, BreadthStep}
 use Rattle.pf_matrix.specs.Calls.{GivesInTurn}
 use Rattle.pf_matrix.specs.Floods.{answer_at, position_cmp, same_position, passing_around}
-use Rattle.pf_matrix.specs.Internal.Gathering.{IsWithinPlaces}
+use Rattle.pf_matrix.specs.Gathering.{IsWithinPlaces}
 use Rattle.pf_matrix.specs.Positions.{positions, neighbours_of, neighbour_at, around, shifted, both, is_diagonal}
 use Rattle.pf_matrix.specs.declared.matrix.neighbours.Shift.{Shift}
 use Rattle.pf_matrix.specs.declared.matrix.neighbours.Shift.TheVariants.{Before, Same, After}

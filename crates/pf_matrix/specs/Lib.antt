@@ -3,6 +3,7 @@ pub mod Arrange
 pub mod Calls
 pub mod Equality
 pub mod Floods
+pub mod Gathering
 pub mod Internal
 pub mod ItemsMut
 pub mod Lends

@@ -3,6 +3,7 @@
 
 pub mod directions;
 mod error;
+pub mod gathering;
 pub mod laws;
 mod macros;
 mod matrix;

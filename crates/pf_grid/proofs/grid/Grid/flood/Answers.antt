@@ -1,11 +1,10 @@
 use Rattle.std.proofs.Common.{rules, sym, subst, ℕ}
 use Rattle.std.specs.Prelude.{⊤}
 use Rattle.std.specs.Iterator.{item_count}
-use Rattle.std.proofs.lemmas.Result.{MatchResult-weaker}
 use Rattle.pf_matrix.specs.Floods.{answer_at}
 use Rattle.pf_matrix.proofs.FloodLemmas.{filtered_successors}
 use Rattle.pf_grid.specs.Floods.{passing_around}
-use Rattle.pf_grid.specs.Internal.Gathering.{IsWithinPlaces}
+use Rattle.pf_matrix.specs.Gathering.{IsWithinPlaces}
 use Rattle.pf_grid.specs.Steps.{neighbours_of}
 use Rattle.pf_grid.proofs.FloodLemmas.{flood_within}
 use Rattle.pf_grid.proofs.grid.Grid.flood.Goals as goal
@@ -38,5 +37,4 @@ returns-clause-reached g c =
     let walks = c.in-Ok.ensures.graph next
     (filtered_successors (λ ps. ⊤) (item_count (λ ps. ps)) passes (λ p. neighbours_of grid p) (λ ps. (tt, tt)) (λ x. tt)
     (λ x r t k. (search rules, search rules, (λ y. tt), (λ y b q l. (search rules, search rules))))) in
-    MatchResult-weaker c.gather_breadth.result (c.gather_breadth.ensures.reached next c.args.start walks)
-    (λ reached h. record { exactly = h }) (λ e t. tt)
+    record { exactly = c.in-Ok-gather_breadth.ensures.reached next c.args.start walks }

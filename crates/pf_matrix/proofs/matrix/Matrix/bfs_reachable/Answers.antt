@@ -3,7 +3,7 @@ use Rattle.std.specs.Prelude.{⊤}
 use Rattle.std.specs.Iterator.{item_count}
 use Rattle.std.proofs.lemmas.Result.{MatchResult-weaker}
 use Rattle.pf_matrix.specs.Floods.{HasReached, answer_at, passing_around}
-use Rattle.pf_matrix.specs.Internal.Gathering.{IsWithinPlaces}
+use Rattle.pf_matrix.specs.Gathering.{IsWithinPlaces}
 use Rattle.pf_matrix.specs.Positions.{neighbours_of, positions_of}
 use Rattle.pf_matrix.proofs.FloodLemmas.{filtered_successors, flood_within, given_on}
 use Rattle.std.proofs.lemmas.Result.{IfOk-from_err}

@@ -1,6 +1,6 @@
 use Rattle.std.proofs.Common.{rules, ◌∙◌, ◌<◌, false, get_or}
 use Rattle.pf_matrix.proofs.FloodLemmas.{answer_inside}
-use Rattle.pf_grid.proofs.grid.floods.is_taken.Goals as goal
+use Rattle.pf_matrix.proofs.gathering.is_taken.Goals as goal
 
 pub returns : goal.returns
 returns g c =

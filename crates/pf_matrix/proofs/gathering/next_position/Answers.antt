@@ -2,7 +2,7 @@ use Rattle.std.proofs.Common.{◌∙◌, sym, inl, inr, true≢false}
 use Rattle.pf_base.specs.Orders.{AllGiven}
 use Rattle.pf_matrix.specs.Floods.{same_position}
 use Rattle.pf_matrix.proofs.FloodLemmas.{given_more, position_clone}
-use Rattle.pf_matrix.proofs.matrix.floods.next_position.Goals as goal
+use Rattle.pf_matrix.proofs.gathering.next_position.Goals as goal
 
 pub next-requires : goal.next-requires
 next-requires g c =
