@@ -133,10 +133,6 @@ module _ {N C F T : Type 0} {eq : N → N → Bool} {value : C → ℤ} {edges :
   pub marked : (b : Bool) → IsPathWalk eq value edges start test fits edge_answers test_answers (record s { refused = b })
   marked b = record { explored = w.explored; tested = w.tested; costs = w.costs; begins = w.begins; learned = w.learned; under_way = w.under_way; bar = w.bar }
 
-  -- the walk may stand before a step that was refused for a cost overflow where that refusal may come
-  pub barred_by : (b : Bool) → (b ≡ true → RefusedFor eq edges start test value fits s.given PathError.CostOverflow × ¬ (IsEnded s)) → IsPathWalk eq value edges start test fits edge_answers test_answers (record s { barred = b })
-  barred_by b why = record { explored = w.explored; tested = w.tested; costs = w.costs; begins = w.begins; learned = w.learned; under_way = w.under_way; bar = why }
-
   -- a call of `next` is a step, which marks a refusal
   pub step_of : {A : Type 0} (old : PathWalk N C F T) (r : Result (Option (Vec N A × C)) PathError) → old.refused ≡ false → PathTurn eq value edges start test fits old r s
       → IsPathWalk eq value edges start test fits edge_answers test_answers (record s { refused = is_err r }) × PathStep eq value edges start test fits old (result_transpose r) (record s { refused = is_err r })
@@ -223,32 +219,6 @@ module _ {N C F T : Type 0} {eq : N → N → Bool} {value : C → ℤ} {edges :
       pub some_known : 0 < length s.known.rows
       some_known = let f = some_found in omega (arith, f, all)
 
-      -- a plan was chosen, or the call was refused
-      pub chose : length s.known.rows < 2 ^ 64 → ¬ (IsBarred s) → {U : Type 0} (r : Result U PathError) (begun : Bool) (waiting : List (Plan C)) (chosen : Option (Plan C)) (gone : Bool) → OnOk r ((begun ≡ true) × (gone ≡ false))
-          → OnOk r (IsFirst value s.is_given s.chosen s.waiting → s.has_begun ≡ true → IsFirst value false chosen waiting) → OnOk r (s.has_begun ≡ true → GoesOn value s.known (as_list s.chosen ++ s.waiting) (as_list chosen ++ waiting) (last_given s.is_given s.chosen))
-          → OnOk r (s.has_begun ≡ false → IsPartition value s.known (as_list chosen ++ waiting) [] × (waiting ≡ [])) → OnErr r ((chosen ≡ s.chosen) × (waiting ≡ s.waiting) × (gone ≡ s.is_given) × (begun ≡ s.has_begun))
-          → IsPathWalk eq value edges start test fits edge_answers test_answers (record s { has_begun = begun; waiting = waiting; chosen = chosen; is_given = gone })
-      chose few free (Ok x) begun waiting chosen gone b first on begins kept =
-          let t : PathWalk N C F T = record s { has_begun = begun; waiting = waiting; chosen = chosen; is_given = gone } in
-          let now : IsPlanned eq value s.nodes s.known s.given waiting chosen false = elim (bool_dec s.has_begun) as (λ _. IsPlanned eq value s.nodes s.known s.given waiting chosen false) [
-            | inl h ↦ let p = planned h in went_on eq laws value s.nodes s.known s.given s.waiting waiting s.chosen chosen s.is_given p (on h) (first p.first h)
-            | inr h ↦
-                let u = fresh_is h in
-                let q = begins h in
-                subst (λ (v : List (List N × C)). IsPlanned eq value s.nodes s.known v waiting chosen false) (sym u.0) (planned_first eq laws value s.nodes s.known waiting chosen q.1 q.0)
-          ] in
-          record {
-            explored = w.explored;
-            tested = w.tested;
-            costs = w.costs;
-            begins = w.begins;
-            learned = w.learned;
-            under_way = subst (λ (v : Bool). IsUnderWay eq value edges start test t v) (sym b.0) (all, few, subst (λ (v : Bool). IsPlanned eq value s.nodes s.known s.given waiting chosen v) (sym b.1) now);
-            bar = λ b. absurd (free b);
-          }
-      chose few free (Err e) begun waiting chosen gone b first on begins kept =
-          record { explored = w.explored; tested = w.tested; costs = w.costs; begins = w.begins; learned = w.learned; under_way = rw (kept.0, kept.1, kept.2, kept.3) w.under_way; bar = λ b. absurd (free b) }
-
       none_last : s.given ≡ [] → (before : List (List ℕ)) → AllZip (λ (q : List ℕ) (h : List N × C). AllZip (StandsFor eq s.nodes) q h.0 × IsCleanNumbers value s.known q (value h.1)) (before ++ last_given s.is_given s.chosen) s.given → last_given s.is_given s.chosen ≡ []
       none_last e before z = zip_none (λ (q : List ℕ) (h : List N × C). AllZip (StandsFor eq s.nodes) q h.0 × IsCleanNumbers value s.known q (value h.1)) before (last_given s.is_given s.chosen) (rw e at z)
 
@@ -272,6 +242,43 @@ module _ {N C F T : Type 0} {eq : N → N → Bool} {value : C → ℤ} {edges :
                 inr (m, path_past eq laws s.nodes one edges start test w.explored.alike w.begins value s.known w.learned all fits d.0, λ _. first_past eq laws s.nodes one edges start test w.explored.alike w.begins value s.known w.learned all fits d.0 costs d.1.0 d.1.1, λ some. absurd (some (fresh_is h).0))
           ]
 
+      -- a plan was chosen, or the call was refused, and the walk notes a refusal for a cost overflow
+      pub chose : length s.known.rows < 2 ^ 64 → {U : Type 0} (r : Result U PathError) (begun : Bool) (waiting : List (Plan C)) (chosen : Option (Plan C)) (gone noted : Bool) → OnOk r ((begun ≡ true) × (gone ≡ false))
+          → OnOk r (IsFirst value s.is_given s.chosen s.waiting → s.has_begun ≡ true → IsFirst value false chosen waiting) → OnOk r (s.has_begun ≡ true → GoesOn value s.known (as_list s.chosen ++ s.waiting) (as_list chosen ++ waiting) (last_given s.is_given s.chosen))
+          → OnOk r (s.has_begun ≡ false → IsPartition value s.known (as_list chosen ++ waiting) [] × (waiting ≡ [])) → OnErr r ((chosen ≡ s.chosen) × (waiting ≡ s.waiting) × (gone ≡ s.is_given) × (begun ≡ s.has_begun))
+          → OnErr r (s.has_begun ≡ true → ¬ (last_given s.is_given s.chosen ≡ [])) → IfErr r (RefusedFor eq edges start test value fits s.given) → (noted ≡ true → r ≡ Err PathError.CostOverflow)
+          → IsPathWalk eq value edges start test fits edge_answers test_answers (record s { has_begun = begun; waiting = waiting; chosen = chosen; is_given = gone; barred = noted })
+      chose few (Ok x) begun waiting chosen gone noted b first on begins kept due why over =
+          let t : PathWalk N C F T = record s { has_begun = begun; waiting = waiting; chosen = chosen; is_given = gone; barred = noted } in
+          let now : IsPlanned eq value s.nodes s.known s.given waiting chosen false = elim (bool_dec s.has_begun) as (λ _. IsPlanned eq value s.nodes s.known s.given waiting chosen false) [
+            | inl h ↦ let p = planned h in went_on eq laws value s.nodes s.known s.given s.waiting waiting s.chosen chosen s.is_given p (on h) (first p.first h)
+            | inr h ↦
+                let u = fresh_is h in
+                let q = begins h in
+                subst (λ (v : List (List N × C)). IsPlanned eq value s.nodes s.known v waiting chosen false) (sym u.0) (planned_first eq laws value s.nodes s.known waiting chosen q.1 q.0)
+          ] in
+          record {
+            explored = w.explored;
+            tested = w.tested;
+            costs = w.costs;
+            begins = w.begins;
+            learned = w.learned;
+            under_way = subst (λ (v : Bool). IsUnderWay eq value edges start test t v) (sym b.0) (all, few, subst (λ (v : Bool). IsPlanned eq value s.nodes s.known s.given waiting chosen v) (sym b.1) now);
+            bar = λ h. let e = over h in cc;
+          }
+      chose few (Err x) begun waiting chosen gone noted b first on begins kept due why over = record {
+        explored = w.explored;
+        tested = w.tested;
+        costs = w.costs;
+        begins = w.begins;
+        learned = w.learned;
+        under_way = rw (kept.0, kept.1, kept.2, kept.3) w.under_way;
+        bar = λ h.
+            let e = over h in
+            let f : x ≡ PathError.CostOverflow = cc in
+            (subst (λ (y : PathError). RefusedFor eq edges start test value fits s.given y) f why, λ z. still_ended {U = ℕ} (Err x) begun waiting chosen gone b on due (sym kept.3 ∙ z.0, sym kept.2 ∙ z.1, sym kept.0 ∙ z.2, sym kept.1 ∙ z.3));
+      }
+
     -- no more paths were given than there can be
     few_given : length s.given ≤ most_paths (2 ^ 64)
     few_given = elim (bool_dec s.has_begun) as (λ _. length s.given ≤ most_paths (2 ^ 64)) [
@@ -286,16 +293,6 @@ module _ {N C F T : Type 0} {eq : N → N → Bool} {value : C → ℤ} {edges :
         let long = ap length q.3 ∙ length-append old.given ((item.0.items, item.1) ∷ []) in
         record { on = λ f. (c, f, omega (arith, items_open old q.0, items_open s q.1, long, few_given)); keeps = c; rests = λ f. tt }
     progress can old (Some (Err e)) c q = record { on = λ f. (c, f, omega (arith, items_open old q.0, items_refused s q.1)); keeps = c; rests = λ f. tt }
-
-    -- where the choice was refused for a cost overflow, that refusal may come, and the walk is not at its end
-    pub barred_for : {U : Type 0} (r : Result U PathError) (begun : Bool) (waiting : List (Plan C)) (chosen : Option (Plan C)) (gone : Bool) (b : Bool) → (b ≡ true → r ≡ Err PathError.CostOverflow) → IfErr r (RefusedFor eq edges start test value fits s.given)
-        → (IsEnded s → IsOkAnd r (λ _. IsEnded (record s { has_begun = begun; waiting = waiting; chosen = chosen; is_given = gone }))) → OnErr r ((chosen ≡ s.chosen) × (waiting ≡ s.waiting) × (gone ≡ s.is_given) × (begun ≡ s.has_begun))
-        → b ≡ true → RefusedFor eq edges start test value fits s.given PathError.CostOverflow × ¬ (IsEnded (record s { has_begun = begun; waiting = waiting; chosen = chosen; is_given = gone }))
-    barred_for (Ok x) begun waiting chosen gone b over why ends kept h = let e = over h in cc
-    barred_for (Err x) begun waiting chosen gone b over why ends kept h =
-        let e = over h in
-        let f : x ≡ PathError.CostOverflow = cc in
-        (subst (λ (y : PathError). RefusedFor eq edges start test value fits s.given y) f why, λ z. ends (sym kept.3 ∙ z.0, sym kept.2 ∙ z.1, sym kept.0 ∙ z.2, sym kept.1 ∙ z.3))
 
     module _ (begun : s.has_begun ≡ true) (new : s.is_given ≡ false) where
       ready : IsPlanned eq value s.nodes s.known s.given s.waiting s.chosen false

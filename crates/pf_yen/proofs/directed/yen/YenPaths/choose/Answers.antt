@@ -1,7 +1,7 @@
 use Rattle.std.specs.BinaryHeap.{heap_items}
 use Rattle.pf_yen.specs.Plans.{waiting_plans, chosen_plan}
 use Rattle.pf_yen.specs.Classes.{plan_of}
-use Rattle.pf_yen.proofs.WalkLemmas.{whole, some_known, some_partition, fresh_plans, map_none, chose, still_ended, refused_for, barred_for, barred_by, bars_anew}
+use Rattle.pf_yen.proofs.WalkLemmas.{whole, some_known, some_partition, fresh_plans, map_none, chose, still_ended, refused_for, bars_anew}
 use Rattle.pf_yen.proofs.directed.yen.YenPaths.choose.Goals as goal
 
 pub choose-chosen-requires-clause-whole : goal.choose-chosen-requires-clause-whole
@@ -32,17 +32,13 @@ choose-chosen-requires-clause-fresh g c = λ h.
 pub returns-clause-walk : goal.returns-clause-walk
 returns-clause-walk g c = λ edges start test w.
     let v = rw (← c.self.view_is) at w in
-    let free = rw (← c.self.view_is) at c.requires.free in
     let known = rw (← c.self.view_is) at c.requires.known in
     let e = c.choose-chosen.ensures in
     let r = c.choose-chosen.result in
     let p = c.choose-chosen.new.self in
-    let waiting = waiting_plans (heap_items p.waiting) in
-    let chosen = chosen_plan p.chosen in
-    let went = chose v g.met.N.Eq.laws known.0 known.1 free r p.has_begun waiting chosen p.is_given e.begun e.first e.goes_on e.begins e.kept in
+    let noted = c.is_overflow-self-inside in
     let why = refused_for v g.met.N.Eq.laws known.0 r e.overflow e.due e.errors in
-    let flag = c.is_overflow-self-inside in
-    barred_by went flag.result (barred_for v g.met.N.Eq.laws r p.has_begun waiting chosen p.is_given flag.result flag.ensures.0 why (still_ended v r p.has_begun waiting chosen p.is_given e.begun e.goes_on e.due) e.kept)
+    chose v g.met.N.Eq.laws known.0 known.1 r p.has_begun (waiting_plans (heap_items p.waiting)) (chosen_plan p.chosen) p.is_given noted.result e.begun e.first e.goes_on e.begins e.kept e.due why noted.ensures.0
 
 pub returns-clause-ended : goal.returns-clause-ended
 returns-clause-ended g c = λ ended.
