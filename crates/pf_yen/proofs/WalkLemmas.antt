@@ -168,10 +168,10 @@ module _ {N C F T : Type 0} {eq : N → N → Bool} {value : C → ℤ} {edges :
     one : (i j : ℕ) (x : N) → StandsFor eq s.nodes i x → StandsFor eq s.nodes j x → i ≡ j
     one = StandsFor-one eq laws s.nodes w.explored.distinct
 
-    pub costs : IsNonNegative (IsStep eq (graph_of start edges))
+    costs : IsNonNegative (IsStep eq (graph_of start edges))
     costs = no_negative eq laws (graph_of start edges) w.explored.alike w.costs
 
-    pub some_found : 0 < length s.nodes
+    some_found : 0 < length s.nodes
     some_found = StandsFor-inside eq s.nodes 0 start ((w.begins start).1 (laws.refl start))
 
     -- more was learned
@@ -180,7 +180,7 @@ module _ {N C F T : Type 0} {eq : N → N → Bool} {value : C → ℤ} {edges :
         → IsLearned value (IsStep eq (graph_of start edges)) test (StandsFor eq nodes) (length nodes) known → s.has_begun ≡ false → IsPathWalk eq value edges start test fits edge_answers test_answers (record s { nodes = nodes; known = known; successors = f; success = p })
     learned_on nodes known f p grows explored learned fresh =
         let t : PathWalk N C F T = record s { nodes = nodes; known = known; successors = f; success = p } in
-        let u : IsUnderWay eq value edges start test s false = subst (λ (b : Bool). IsUnderWay eq value edges start test s b) fresh w.under_way in
+        let u : IsUnderWay eq value edges start test s false = rw fresh at w.under_way in
         record {
           explored = explored.0;
           tested = explored.1;
@@ -191,26 +191,19 @@ module _ {N C F T : Type 0} {eq : N → N → Bool} {value : C → ℤ} {edges :
           bar = w.bar;
         }
 
-    -- where a path was looked for, all is known
-    pub all_known : s.has_begun ≡ true → length s.nodes ≤ length s.known.rows
-    all_known h = let u : IsUnderWay eq value edges start test s true = subst (λ (b : Bool). IsUnderWay eq value edges start test s b) h w.under_way in u.0
-
-    planned : s.has_begun ≡ true → IsPlanned eq value s.nodes s.known s.given s.waiting s.chosen s.is_given
-    planned h = let u : IsUnderWay eq value edges start test s true = subst (λ (b : Bool). IsUnderWay eq value edges start test s b) h w.under_way in u.2
-
-    -- and a machine word counts it
-    pub few_known : s.has_begun ≡ true → length s.known.rows < 2 ^ 64
-    few_known h = let u : IsUnderWay eq value edges start test s true = subst (λ (b : Bool). IsUnderWay eq value edges start test s b) h w.under_way in u.1
+    -- where a path was looked for, all is known, a machine word counts it, and what is left is planned
+    going : s.has_begun ≡ true → (length s.nodes ≤ length s.known.rows) × (length s.known.rows < 2 ^ 64) × IsPlanned eq value s.nodes s.known s.given s.waiting s.chosen s.is_given
+    going h = rw h at w.under_way
 
     -- where none was looked for, none was given
     fresh_is : s.has_begun ≡ false → (s.given ≡ []) × (s.waiting ≡ []) × (s.chosen ≡ None) × (s.is_given ≡ false)
-    fresh_is h = subst (λ (b : Bool). IsUnderWay eq value edges start test s b) h w.under_way
+    fresh_is h = rw h at w.under_way
 
     pub fresh_plans : s.has_begun ≡ false → (s.waiting ≡ []) × (s.is_given ≡ false)
     fresh_plans h = let u = fresh_is h in (u.1, u.3)
 
     pub some_partition : s.has_begun ≡ true → (before : List (List ℕ)) × IsPartition value s.known (as_list s.chosen ++ s.waiting) before
-    some_partition h = let p = planned h in (p.before, p.partition)
+    some_partition h = let p = (going h).2 in (p.before, p.partition)
 
     module _ (all : length s.nodes ≤ length s.known.rows) where
       pub whole : IsWhole value s.known
@@ -232,7 +225,7 @@ module _ {N C F T : Type 0} {eq : N → N → Bool} {value : C → ℤ} {edges :
           let over = past (ap Err m) in
           elim (bool_dec s.has_begun) as (λ _. RefusedFor eq edges start test value fits s.given e) [
             | inl h ↦
-                let p = planned h in
+                let p = (going h).2 in
                 let c = chosen_given value s.known fits s.is_given s.chosen (due h) (rw h at over) in
                 let b = c.3 in
                 let q : IsPlanned eq value s.nodes s.known s.given s.waiting (Some c.0) true = rw (c.1, c.2) at p in
@@ -251,7 +244,7 @@ module _ {N C F T : Type 0} {eq : N → N → Bool} {value : C → ℤ} {edges :
       chose few (Ok x) begun waiting chosen gone noted b first on begins kept due why over =
           let t : PathWalk N C F T = record s { has_begun = begun; waiting = waiting; chosen = chosen; is_given = gone; barred = noted } in
           let now : IsPlanned eq value s.nodes s.known s.given waiting chosen false = elim (bool_dec s.has_begun) as (λ _. IsPlanned eq value s.nodes s.known s.given waiting chosen false) [
-            | inl h ↦ let p = planned h in went_on eq laws value s.nodes s.known s.given s.waiting waiting s.chosen chosen s.is_given p (on h) (first p.first h)
+            | inl h ↦ let p = (going h).2 in went_on eq laws value s.nodes s.known s.given s.waiting waiting s.chosen chosen s.is_given p (on h) (first p.first h)
             | inr h ↦
                 let u = fresh_is h in
                 let q = begins h in
@@ -282,7 +275,7 @@ module _ {N C F T : Type 0} {eq : N → N → Bool} {value : C → ℤ} {edges :
     -- no more paths were given than there can be
     few_given : length s.given ≤ most_paths (2 ^ 64)
     few_given = elim (bool_dec s.has_begun) as (λ _. length s.given ≤ most_paths (2 ^ 64)) [
-      | inl h ↦ let all = all_known h in let few = few_known h in given_at_most eq laws value s.nodes s.known (whole all) (2 ^ 64) (omega (arith, few)) (some_known all) s.given s.waiting s.chosen s.is_given (planned h)
+      | inl h ↦ let u = going h in given_at_most eq laws value s.nodes s.known (whole u.0) (2 ^ 64) (omega (arith, u.1)) (some_known u.0) s.given s.waiting s.chosen s.is_given u.2
       | inr h ↦ let u = fresh_is h in let none : length s.given ≡ 0 = ap length u.0 in omega (arith, none)
     ]
 
@@ -295,14 +288,17 @@ module _ {N C F T : Type 0} {eq : N → N → Bool} {value : C → ℤ} {edges :
     progress can old (Some (Err e)) c q = record { on = λ f. (c, f, omega (arith, items_open old q.0, items_refused s q.1)); keeps = c; rests = λ f. tt }
 
     module _ (begun : s.has_begun ≡ true) (new : s.is_given ≡ false) where
+      all : length s.nodes ≤ length s.known.rows
+      all = (going begun).0
+
       ready : IsPlanned eq value s.nodes s.known s.given s.waiting s.chosen false
-      ready = subst (λ (b : Bool). IsPlanned eq value s.nodes s.known s.given s.waiting s.chosen b) new (planned begun)
+      ready = subst (λ (b : Bool). IsPlanned eq value s.nodes s.known s.given s.waiting s.chosen b) new (going begun).2
 
       -- where no plan is left, all was given
       pub none_left : s.chosen ≡ None → s.waiting ≡ [] → AllGiven eq edges start test value s.given
       none_left e f =
           let p : IsPlanned eq value s.nodes s.known s.given [] None false = rw (e, f) at ready in
-          all_given eq laws value s.nodes s.known one edges start test w.explored.alike w.begins (whole (all_known begun)) w.learned (all_known begun) s.given p
+          all_given eq laws value s.nodes s.known one edges start test w.explored.alike w.begins (whole all) w.learned all s.given p
 
       module _ (c : Plan C) (chosen : s.chosen ≡ Some c) where
         ready_with : IsPlanned eq value s.nodes s.known s.given s.waiting (Some c) false
@@ -331,7 +327,6 @@ module _ {N C F T : Type 0} {eq : N → N → Bool} {value : C → ℤ} {edges :
         pub gives : ¬ (IsBarred s) → (path : List N) → AllZip (StandsFor eq s.nodes) c.path path → IsNextPath eq edges start test value s.given path c.cost × IsPathWalk eq value edges start test fits edge_answers test_answers (record s { given = s.given ++ (path, c.cost) ∷ []; is_given = true })
         gives free path z =
             let t : PathWalk N C F T = record s { given = s.given ++ (path, c.cost) ∷ []; is_given = true } in
-            let all = all_known begun in
             let done : IsPlanned eq value s.nodes s.known (s.given ++ (path, c.cost) ∷ []) s.waiting s.chosen true = subst (λ (o : Option (Plan C)). IsPlanned eq value s.nodes s.known (s.given ++ (path, c.cost) ∷ []) s.waiting o true) (sym chosen) (gave eq laws value s.nodes s.known s.given s.waiting c path ready_with z) in (
               next_is eq laws value s.nodes s.known one edges start test w.explored.alike w.begins (whole all) w.learned all s.given s.waiting c path ready_with z,
               record {
@@ -340,7 +335,7 @@ module _ {N C F T : Type 0} {eq : N → N → Bool} {value : C → ℤ} {edges :
                 costs = w.costs;
                 begins = w.begins;
                 learned = w.learned;
-                under_way = subst (λ (b : Bool). IsUnderWay eq value edges start test t b) (sym begun) (all, few_known begun, done);
+                under_way = subst (λ (b : Bool). IsUnderWay eq value edges start test t b) (sym begun) (all, (going begun).1, done);
                 bar = λ b. absurd (free b);
               },
             )
