@@ -157,15 +157,12 @@ where
         requires free { ¬ (IsBarred self.old) }
         ensures walk { (edges : N → List (N × ℤ)) (start : N) (test : N → Bool)
             → IsPathWalk N.eq C.value edges start test C.fits F.answers T.answers self.old
-            → IsPathWalk N.eq C.value edges start test C.fits F.answers T.answers self.new }
+            → IsPathWalk N.eq C.value edges start test C.fits F.answers T.answers self.new × IfErr result (RefusedFor N.eq edges start test C.value C.fits self.old.given) }
         ensures given { self.new.given ≡ self.old.given }
         ensures same { self.new.refused ≡ self.old.refused }
         ensures begun { OnOk result ((self.new.has_begun ≡ true) × (self.new.is_given ≡ false)) }
         ensures none { OnOk result (self.new.chosen ≡ None → self.new.waiting ≡ []) }
         ensures ended { IsEnded self.old → IsOkAnd result (λ _. IsEnded self.new) }
-        ensures refused { (edges : N → List (N × ℤ)) (start : N) (test : N → Bool)
-            → IsPathWalk N.eq C.value edges start test C.fits F.answers T.answers self.old
-            → IfErr result (RefusedFor N.eq edges start test C.value C.fits self.old.given) }
         ensures bars { TurnKeepsBar self.old result self.new }
     {
         let chosen = self.plans.choose(self.alloc, &self.known);

@@ -38,7 +38,8 @@ returns-clause-walk g c = λ edges start test w.
     let p = c.choose-chosen.new.self in
     let noted = c.is_overflow-self-inside in
     let why = refused_for v g.met.N.Eq.laws known.0 r e.overflow e.due e.errors in
-    chose v g.met.N.Eq.laws known.0 known.1 r p.has_begun (waiting_plans (heap_items p.waiting)) (chosen_plan p.chosen) p.is_given noted.result e.begun e.first e.goes_on e.begins e.kept e.due why noted.ensures.0
+    let after = chose v g.met.N.Eq.laws known.0 known.1 r p.has_begun (waiting_plans (heap_items p.waiting)) (chosen_plan p.chosen) p.is_given noted.result e.begun e.first e.goes_on e.begins e.kept e.due why noted.ensures.0 in
+    (after, rw (← c.self.view_is) why)
 
 pub returns-clause-ended : goal.returns-clause-ended
 returns-clause-ended g c = λ ended.
@@ -47,12 +48,6 @@ returns-clause-ended g c = λ ended.
     let e = c.choose-chosen.ensures in
     let p = c.choose-chosen.new.self in
     still_ended v c.choose-chosen.result p.has_begun (waiting_plans (heap_items p.waiting)) (chosen_plan p.chosen) p.is_given e.begun e.goes_on e.due (rw (← c.self.view_is) at ended)
-
-pub returns-clause-refused : goal.returns-clause-refused
-returns-clause-refused g c = λ edges start test w.
-    let v = rw (← c.self.view_is) at w in
-    let e = c.choose-chosen.ensures in
-    rw (← c.self.view_is) (refused_for v g.met.N.Eq.laws (rw (← c.self.view_is) at c.requires.known.0) c.choose-chosen.result e.overflow e.due e.errors)
 
 pub returns-clause-bars : goal.returns-clause-bars
 returns-clause-bars g c =

@@ -49,9 +49,9 @@ pub returns-in_err-choose-clause-steps : goal.returns-in_err-choose-clause-steps
 returns-in_err-choose-clause-steps g c = λ edges start test w.
     let l = c.in_ok-learn_graph.ensures in
     let e = c.in_err-choose.ensures in
-    let v = l.walk edges start test w in
-    let why = rw l.given at (e.refused edges start test v) in
-    (e.walk edges start test v, turn_refused w c.choose.new.self c.from_residual-in_err-choose.result c.in_err-choose.field-0.0 c.from_residual-in_err-choose.ensures.1 why (e.given ∙ l.given) (λ h. e.ended (l.ended h)))
+    let q = e.walk edges start test (l.walk edges start test w) in
+    let why = rw l.given at q.1 in
+    (q.0, turn_refused w c.choose.new.self c.from_residual-in_err-choose.result c.in_err-choose.field-0.0 c.from_residual-in_err-choose.ensures.1 why (e.given ∙ l.given) (λ h. e.ended (l.ended h)))
 
 pub returns-in_err-choose-clause-bars : goal.returns-in_err-choose-clause-bars
 returns-in_err-choose-clause-bars g c =
@@ -68,7 +68,7 @@ give-requires-clause-clones g c = c.requires.clones
 pub give-requires-clause-walk : goal.give-requires-clause-walk
 give-requires-clause-walk g c =
     let r = c.requires.walk in
-    (r.0, r.1, r.2, c.in_ok-choose.ensures.walk r.0 r.1 r.2 (c.in_ok-learn_graph.ensures.walk r.0 r.1 r.2 r.3))
+    (r.0, r.1, r.2, (c.in_ok-choose.ensures.walk r.0 r.1 r.2 (c.in_ok-learn_graph.ensures.walk r.0 r.1 r.2 r.3)).0)
 
 pub give-requires-clause-ready : goal.give-requires-clause-ready
 give-requires-clause-ready g c = c.in_ok-choose.ensures.begun
@@ -83,7 +83,7 @@ pub returns-clause-steps : goal.returns-clause-steps
 returns-clause-steps g c = λ edges start test w.
     let l = c.in_ok-learn_graph.ensures in
     let e = c.in_ok-choose.ensures in
-    let q = c.give.ensures.steps edges start test (e.walk edges start test (l.walk edges start test w)) in
+    let q = c.give.ensures.steps edges start test (e.walk edges start test (l.walk edges start test w)).0 in
     (q.0, turn_same w c.choose.new.self c.give.new.self c.give.result (e.given ∙ l.given) (λ h. e.ended (l.ended h)) q.1)
 
 pub returns-clause-bars : goal.returns-clause-bars
