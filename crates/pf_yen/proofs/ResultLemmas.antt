@@ -1,5 +1,5 @@
 -- Lemmas on answers that are handed on.
-use Rattle.std.proofs.Common.{◌≡◌, ◌∙◌, refl, sym, ap, subst}
+use Rattle.std.proofs.Common.{◌≡◌, ◌∙◌, sym, ap, subst}
 use Rattle.pf_base.specs.declared.error.PathError.{PathError}
 use Rattle.pf_base.specs.declared.error.PathError.TheVariants.{OutOfMemory, CostOverflow}
 use Rattle.std.specs.Prelude.{Result, Ok, Err, IsOkAnd, IsErrAnd, IfOk, IfErr, MatchResult}
@@ -32,17 +32,12 @@ module _ {T : Type 0} where
 
 -- an answer that is made of another, where an error is kept
 module _ {T E : Type 0} (R : T → T → Type 0) where
-  pub made_so : (r s : Result T E) → MatchResult r (λ x. IsOkAnd s (λ y. R x y)) (λ e. s ≡ Err e) → (P Q : T → Type 0) → ((x y : T) → R x y → P x → Q y) → IfOk r P → IfOk s Q
-  made_so (Ok x) (Ok y) m P Q f h = f x y m h
-  made_so (Ok x) (Err e) m P Q f h = absurd m
-  made_so (Err e) s m P Q f h = subst (λ t. IfOk t Q) (sym m) tt
+  pub made_so : (r s : Result T E) → MatchResult r (λ x. IsOkAnd s (λ y. R x y)) (λ e. s ≡ Err e) → (P Q : T → Type 0) (F : E → Type 0) → ((x y : T) → R x y → P x → Q y) → MatchResult r P F → IfOk s Q
+  made_so (Ok x) (Ok y) m P Q F f h = f x y m h
+  made_so (Ok x) (Err e) m P Q F f h = absurd m
+  made_so (Err e) s m P Q F f h = subst (λ t. IfOk t Q) (sym m) tt
 
-  pub error_kept : (r s : Result T E) → MatchResult r (λ x. IsOkAnd s (λ y. R x y)) (λ e. s ≡ Err e) → (P : E → Type 0) → IfErr r P → IfErr s P
-  error_kept (Ok x) (Ok y) m P h = tt
-  error_kept (Ok x) (Err e) m P h = absurd m
-  error_kept (Err e) s m P h = subst (λ t. IfErr t P) (sym m) h
-
-  pub error_back : (r s : Result T E) → MatchResult r (λ x. IsOkAnd s (λ y. R x y)) (λ e. s ≡ Err e) → (e : E) → s ≡ Err e → r ≡ Err e
-  error_back (Ok x) (Ok y) m e q = absurd (ok_is_no_error (Ok y) y e refl q)
-  error_back (Ok x) (Err d) m e q = absurd m
-  error_back (Err d) s m e q = sym m ∙ q
+  pub error_kept : (r s : Result T E) → MatchResult r (λ x. IsOkAnd s (λ y. R x y)) (λ e. s ≡ Err e) → (P : T → Type 0) (F : E → Type 0) → MatchResult r P F → IfErr s F
+  error_kept (Ok x) (Ok y) m P F h = tt
+  error_kept (Ok x) (Err e) m P F h = absurd m
+  error_kept (Err e) s m P F h = subst (λ t. IfErr t F) (sym m) h

@@ -1,19 +1,23 @@
 -- What a walk over paths keeps in each part of a step, and what it gives.
-use Rattle.std.proofs.Common.{◌≡◌, ◌∙◌, ℕ, zero, suc, ◌<◌, ◌≤◌, ◌-◌, ◌^◌, refl, sym, ap, subst, arith, inl, inr, Bool, true, false, List, [], ◌∷◌, ◌++◌, length, map, ℤ, pos, Option, Some, None, Bor}
+use Rattle.std.proofs.Common.{◌≡◌, ◌∙◌, ℕ, zero, suc, ◌<◌, ◌≤◌, ◌-◌, ◌^◌, refl, sym, ap, subst, arith, inl, inr, Bool, true, false, List, [], ◌∷◌, ◌++◌, length, map, ℤ, pos, Option, Some, None, true≢false}
 use Rattle.std.specs.Prelude.{◌⊎◌, ◌↔◌, ◌+ℤ◌, Contains, Vec, Result, Ok, Err, OnOk, OnErr, IfErr, MatchBool}
 use Rattle.std.specs.Result.{IsErrAnd, IsOkAnd, is_err, result_transpose}
-use Rattle.std.specs.List.{AllZip}
+use Rattle.std.specs.List.{AllZip, IsDistinct}
 use Rattle.std.specs.Cmp.{IsEquivalence}
-use Rattle.std.specs.Fn.{Mut}
-use Rattle.std.specs.Iterator.{Count, MakesProgress, at_most}
+use Rattle.std.specs.Iterator.{MakesProgress, at_most}
 use Rattle.std.proofs.lemmas.Int.{ints}
 use Rattle.std.proofs.lemmas.List.{length-append}
 use Rattle.pf_base.specs.declared.error.PathError.{PathError}
 use Rattle.pf_core.specs.Numbered.{Grows}
 use Rattle.pf_core.specs.Steps.{GoesAlong, IsNonNegative, IsTooDear}
-use Rattle.pf_core.specs.Nodes.{NodeGraph, TestedGraph, StandsFor, IsStep}
+use Rattle.pf_base.specs.Answers.{ListsEdges}
+use Rattle.pf_base.specs.Edges.{InReach, IsWeightedSearch}
+use Rattle.pf_base.specs.NodeRefs.{HasSameNodes}
+use Rattle.pf_core.specs.Nodes.{NodeGraph, StandsFor, IsStep, Explores}
+use Rattle.pf_core.specs.Sources.{AnswersEdges}
 use Rattle.pf_core.specs.NodeLaws.{StandsFor-one, StandsFor-inside}
 use Rattle.pf_core.proofs.ListLemmas.{bool_dec, Contains-cases, Contains-head}
+use Rattle.pf_core.proofs.NodeLemmas.{Explores-edges}
 use Rattle.pf_core.proofs.WalkLemmas.{no_negative}
 use Rattle.pf_yen.specs.Known.{KnownGraph, row_of, KnownStep, is_goal, IsWhole}
 use Rattle.pf_yen.specs.Narrow.{StandsForItself}
@@ -22,7 +26,7 @@ use Rattle.pf_yen.specs.Learned.{IsLearned}
 use Rattle.pf_yen.specs.Classes.{Plan, IsCleanNumbers, IsPartition, IsPastInClass}
 use Rattle.pf_yen.specs.Plans.{as_list, last_given, NoneBelow, IsFirst, GoesOn, IsPastInChosen}
 use Rattle.pf_yen.specs.CleanPaths.{AllGiven, IsNextPath, RefusedFor}
-use Rattle.pf_yen.specs.Walk.{PathWalk, most_items, IsPathWalk, IsPlanned, IsUnderWay, IsEnded, IsBarred, PathTurn, PathStep, TurnKeepsBar, StepKeepsBar, Searches}
+use Rattle.pf_yen.specs.Walk.{PathWalk, most_items, IsPathWalk, IsPlanned, IsUnderWay, IsEnded, IsBarred, PathTurn, PathStep, TurnKeepsBar, StepKeepsBar}
 use Rattle.pf_yen.proofs.NarrowLemmas.{in_none}
 use Rattle.pf_yen.proofs.LearnLemmas.{learned_whole}
 use Rattle.pf_yen.proofs.SplitLemmas.{past_first}
@@ -39,7 +43,7 @@ map_none f [] e = refl
 map_none f (x ∷ xs) e = cc
 
 -- nothing is known yet
-pub learned_none : {X C : Type 0} (value : C → ℤ) (step : X → ℤ → X → Type 0) (passes : X → Bool) (stands : ℕ → X → Type 0) (found : ℕ) → ((a : ℕ) → a < found → (x : X) × stands a x) → IsLearned value step passes stands found (record { rows = []; goals = [] })
+learned_none : {X C : Type 0} (value : C → ℤ) (step : X → ℤ → X → Type 0) (passes : X → Bool) (stands : ℕ → X → Type 0) (found : ℕ) → ((a : ℕ) → a < found → (x : X) × stands a x) → IsLearned value step passes stands found (record { rows = []; goals = [] })
 learned_none {X} {C} value step passes stands found all = record {
   rows = λ a x h s. absurd (omega (arith, h));
   goals = λ a x h s. absurd (omega (arith, h));
@@ -54,7 +58,7 @@ learned_none {X} {C} value step passes stands found all = record {
     none (suc a) b c h = absurd (in_none (b, c) h)
 
 -- one number alone was found
-pub first_alone : {X : Type 0} (stands : ℕ → X → Type 0) (found : ℕ) → found ≡ 1 → (x : X) × stands 0 x → (a : ℕ) → a < found → (x : X) × stands a x
+first_alone : {X : Type 0} (stands : ℕ → X → Type 0) (found : ℕ) → found ≡ 1 → (x : X) × stands 0 x → (a : ℕ) → a < found → (x : X) × stands a x
 first_alone stands found e s zero h = s
 first_alone stands found e s (suc a) h = absurd (omega (arith, e, h))
 
@@ -73,92 +77,113 @@ none_listed : {X : Type 0} (o : Option X) (xs : List X) → as_list o ++ xs ≡ 
 none_listed None xs e = (refl, e)
 none_listed (Some x) xs e = cc
 
--- where the walk is at its end, the choice of a plan is not refused, and the walk stays there
-pub still_ended : {N C F S U : Type 0} (value : C → ℤ) (s : PathWalk N C F S) (r : Result U PathError) (begun : Bool) (waiting : List (Plan C)) (chosen : Option (Plan C)) (gone : Bool) → IsEnded s → OnOk r ((begun ≡ true) × (gone ≡ false))
-    → OnOk r (s.has_begun ≡ true → GoesOn value s.known (as_list s.chosen ++ s.waiting) (as_list chosen ++ waiting) (last_given s.is_given s.chosen)) → OnErr r (s.has_begun ≡ true → ¬ (last_given s.is_given s.chosen ≡ []))
-    → IsOkAnd r (λ _. IsEnded (record s { has_begun = begun; waiting = waiting; chosen = chosen; is_given = gone }))
-still_ended value s (Ok x) begun waiting chosen gone e b on due =
-    let q = on e.0 in
-    let empty : (t : ℤ) → NoneBelow value t (as_list s.chosen ++ s.waiting) = λ t. rw (e.2, e.3) (λ d i. absurd (in_none d i)) in
-    let none = none_listed chosen waiting (no_plan value (as_list chosen ++ waiting) (λ t. q.dearer t (empty t))) in
-    (b.0, b.1, none.0, none.1)
-still_ended value s (Err x) begun waiting chosen gone e b on due =
-    let none : last_given s.is_given s.chosen ≡ [] = rw e.1 refl in
-    due e.0 none
-
 -- the call leaves the walk before a step that was refused for a cost overflow exactly where it was refused so
-pub bars_anew : {N C F S X : Type 0} (s t : PathWalk N C F S) (r : Result X PathError) → ¬ (IsBarred s) → IsBarred t ↔ (r ≡ Err PathError.CostOverflow) → TurnKeepsBar s r t
+pub bars_anew : {N C F T X : Type 0} (s t : PathWalk N C F T) (r : Result X PathError) → ¬ (IsBarred s) → IsBarred t ↔ (r ≡ Err PathError.CostOverflow) → TurnKeepsBar s r t
 bars_anew s t (Ok x) free over = (free, λ b. let e = over.0 b in cc)
 bars_anew s t (Err x) free over = (λ b. absurd (free b), (λ b. let e = over.0 b in cc, λ e. over.1 (ap Err e)))
 
 -- a refusal that is handed on
-pub bars_refused : {N C F S X : Type 0} (s t : PathWalk N C F S) (r : Result X PathError) (x : PathError) → IsErrAnd r (λ e. e ≡ x) → (IsBarred s → x ≡ PathError.CostOverflow) → IsBarred t ↔ (x ≡ PathError.CostOverflow) → TurnKeepsBar s r t
+pub bars_refused : {N C F T X : Type 0} (s t : PathWalk N C F T) (r : Result X PathError) (x : PathError) → IsErrAnd r (λ e. e ≡ x) → (IsBarred s → x ≡ PathError.CostOverflow) → IsBarred t ↔ (x ≡ PathError.CostOverflow) → TurnKeepsBar s r t
 bars_refused s t (Ok y) x e was over = absurd e
 bars_refused s t (Err y) x e was over = (λ b. e ∙ was b, (λ b. e ∙ over.0 b, λ h. over.1 (sym e ∙ h)))
 
 -- a refusal for want of memory, where the walk stands before no step that was refused for a cost overflow
-pub bars_without_memory : {N C F S X : Type 0} (s t : PathWalk N C F S) (r : Result X PathError) (x : PathError) → IsErrAnd r (λ e. e ≡ x) → x ≡ PathError.OutOfMemory → ¬ (IsBarred s) → ¬ (IsBarred t) → TurnKeepsBar s r t
+pub bars_without_memory : {N C F T X : Type 0} (s t : PathWalk N C F T) (r : Result X PathError) (x : PathError) → IsErrAnd r (λ e. e ≡ x) → x ≡ PathError.OutOfMemory → ¬ (IsBarred s) → ¬ (IsBarred t) → TurnKeepsBar s r t
 bars_without_memory s t r x e m free after = bars_refused s t r x e (λ b. absurd (free b)) (λ b. absurd (after b), λ h. cc)
 
 -- what a step keeps of the bar rests on whether the walk stood before one alone
-pub bars_same : {N C F S X : Type 0} (s u t : PathWalk N C F S) (r : Result X PathError) → (IsBarred s → IsBarred u) → TurnKeepsBar u r t → TurnKeepsBar s r t
+pub bars_same : {N C F T X : Type 0} (s u t : PathWalk N C F T) (r : Result X PathError) → (IsBarred s → IsBarred u) → TurnKeepsBar u r t → TurnKeepsBar s r t
 bars_same s u t (Ok x) on q = (λ b. q.0 (on b), q.1)
 bars_same s u t (Err x) on q = (λ b. q.0 (on b), q.1)
 
 -- a call of `next` is a step, which marks a refusal
-pub bars_of : {N C F S X : Type 0} (s t : PathWalk N C F S) (r : Result (Option X) PathError) → TurnKeepsBar s r t → StepKeepsBar s (result_transpose r) (record t { refused = is_err r })
+pub bars_of : {N C F T X : Type 0} (s t : PathWalk N C F T) (r : Result (Option X) PathError) → TurnKeepsBar s r t → StepKeepsBar s (result_transpose r) (record t { refused = is_err r })
 bars_of s t (Ok (Some x)) q = q
 bars_of s t (Ok None) q = (λ b. absurd (q.0 b), (λ b. absurd (q.1 b), λ b. absurd (q.0 b)))
 bars_of s t (Err x) q = q
 
--- what a caller sees of these parts
-abbrev pub seen : {N C F S : Type 0} → List (List N × C) → Bool → Bool → F → S → List N → KnownGraph C → Bool → List (Plan C) → Option (Plan C) → Bool → PathWalk N C F S
-seen given refused barred successors success nodes known has_begun waiting chosen is_given = record { given = given; refused = refused; barred = barred; successors = successors; success = success; nodes = nodes; known = known; has_begun = has_begun; waiting = waiting; chosen = chosen; is_given = is_given }
+items_open : {N C F T : Type 0} (s : PathWalk N C F T) → s.refused ≡ false → most_items s ≡ suc (most_paths (2 ^ 64) - length s.given)
+items_open s h = rw h refl
 
-module _ {N C F S I J : Type 0} (eq : N → N → Bool) (laws : IsEquivalence eq) (value : C → ℤ) (becomes : I → J → Type 0) (can : J → Type 0) (left : J → Count) (next : J → Option (N × C) → J → Type 0) (calls : Mut F (Bor N × Unit {0}) I) (tests : Mut S (Bor N × Unit {0}) Bool)
-    (edges : N → List (N × ℤ)) (start : N) (test : N → Bool) (fits : ℤ → Type 0) where
-  abbrev graph : NodeGraph N
-  graph = record { starts = start ∷ []; edges = edges }
+items_refused : {N C F T : Type 0} (s : PathWalk N C F T) → s.refused ≡ true → most_items s ≡ 0
+items_refused s h = rw h refl
 
-  abbrev Answering : TestedGraph N → List N → F → S → Type 0
-  Answering = Searches eq value becomes can left next calls tests
+-- the edges, from one start
+abbrev pub graph_of : {N : Type 0} → N → (N → List (N × ℤ)) → NodeGraph N
+graph_of start edges = record { starts = start ∷ []; edges = edges }
 
-  abbrev pub IsOne : PathWalk N C F S → Type 0
-  IsOne walk = IsPathWalk eq value edges start test fits Answering walk
+-- a walk that was just made
+pub new_walk : {N C F T : Type 0} {eq : N → N → Bool} {value : C → ℤ} {edges : N → List (N × ℤ)} {start : N} {test : N → Bool} {fits : ℤ → Type 0} {edge_answers : F → (N → Type 0) → (N → List (N × ℤ)) → Type 0} {test_answers : T → (N → Type 0) → (N → Bool) → Type 0} → IsEquivalence eq → (s : PathWalk N C F T)
+    → IsDistinct eq s.nodes → HasSameNodes eq s.nodes (start ∷ []) → length s.nodes ≡ 1 → ((x : N) → StandsFor eq s.nodes 0 x ↔ (eq start x ≡ true)) → s.known ≡ record { rows = []; goals = [] } → s.has_begun ≡ false → IsUnderWay eq value edges start test s false → s.barred ≡ false
+    → ((x y : N) → InReach eq edges (start ∷ []) x → eq x y ≡ true → ListsEdges eq (λ z. z) (edges x) (edges y)) → IsWeightedSearch eq edges (start ∷ []) (edge_answers s.successors) (test_answers s.success) test
+    → IsPathWalk eq value edges start test fits edge_answers test_answers s
+new_walk {eq = eq} {value = value} {edges = edges} {start = start} {test = test} {edge_answers = edge_answers} laws s distinct same one begins none fresh under free alike h = record {
+  explored = Explores-edges eq laws edge_answers (graph_of start edges) s.nodes s.successors distinct same alike h.edges_answered;
+  tested = h.test_answered;
+  costs = h.costs;
+  begins = begins;
+  learned = rw none (learned_none value (IsStep eq (graph_of start edges)) test (StandsFor eq s.nodes) (length s.nodes) (first_alone (StandsFor eq s.nodes) (length s.nodes) one (start, (begins start).1 (laws.refl start))));
+  under_way = rw fresh under;
+  bar = λ b. absurd (true≢false (sym b ∙ free));
+}
 
+module _ {N C F T : Type 0} {eq : N → N → Bool} {value : C → ℤ} {edges : N → List (N × ℤ)} {start : N} {test : N → Bool} {fits : ℤ → Type 0} {edge_answers : F → (N → Type 0) → (N → List (N × ℤ)) → Type 0} {test_answers : T → (N → Type 0) → (N → Bool) → Type 0}
+    {s : PathWalk N C F T} (w : IsPathWalk eq value edges start test fits edge_answers test_answers s) where
   -- the mark of a refusal is no part of what a walk is
-  pub marked : (s : PathWalk N C F S) (b : Bool) → IsOne s → IsOne (record s { refused = b })
-  marked s b w = record { explored = w.explored; costs = w.costs; begins = w.begins; learned = w.learned; under_way = w.under_way; bar = w.bar }
-
-  -- the walk may stand before a step that was refused for a cost overflow where that refusal may come
-  pub barred_by : (s : PathWalk N C F S) (b : Bool) → IsOne s → (b ≡ true → RefusedFor eq edges start test value fits s.given PathError.CostOverflow × ¬ (IsEnded s)) → IsOne (record s { barred = b })
-  barred_by s b w why = record { explored = w.explored; costs = w.costs; begins = w.begins; learned = w.learned; under_way = w.under_way; bar = why }
+  pub marked : (b : Bool) → IsPathWalk eq value edges start test fits edge_answers test_answers (record s { refused = b })
+  marked b = record { explored = w.explored; tested = w.tested; costs = w.costs; begins = w.begins; learned = w.learned; under_way = w.under_way; bar = w.bar }
 
   -- a call of `next` is a step, which marks a refusal
-  pub step_of : {A : Type 0} (s t : PathWalk N C F S) (r : Result (Option (Vec N A × C)) PathError) → s.refused ≡ false → IsOne t × PathTurn eq value edges start test fits s r t
-      → IsOne (record t { refused = is_err r }) × PathStep eq value edges start test fits s (result_transpose r) (record t { refused = is_err r })
-  step_of s t (Ok (Some x)) h (w, q) = (marked t false w, (h, refl, q.0, q.1))
-  step_of s t (Ok None) h (w, q) = (marked t false w, (inr (q.0, q.2), sym h, q.1))
-  step_of s t (Err x) h (w, q) = (marked t true w, (h, refl, q.0, q.1, q.2))
+  pub step_of : {A : Type 0} (old : PathWalk N C F T) (r : Result (Option (Vec N A × C)) PathError) → old.refused ≡ false → PathTurn eq value edges start test fits old r s
+      → IsPathWalk eq value edges start test fits edge_answers test_answers (record s { refused = is_err r }) × PathStep eq value edges start test fits old (result_transpose r) (record s { refused = is_err r })
+  step_of old (Ok (Some x)) h q = (marked false, (h, refl, q.0, q.1))
+  step_of old (Ok None) h q = (marked false, (inr (q.0, q.2), sym h, q.1))
+  step_of old (Err x) h q = (marked true, (h, refl, q.0, q.1, q.2))
 
-  module _ (s : PathWalk N C F S) (w : IsOne s) where
+  -- a step was refused, for this
+  pub turn_refused : {A : Type 0} (t : PathWalk N C F T) (r : Result (Option (Vec N A × C)) PathError) (refusal : PathError) → IsErrAnd r (λ e. e ≡ refusal) → RefusedFor eq edges start test value fits s.given refusal → t.given ≡ s.given → ¬ (IsEnded s) → PathTurn eq value edges start test fits s r t
+  turn_refused t (Ok x) refusal e f same more = absurd e
+  turn_refused t (Err x) refusal e f same more = (subst (λ (y : PathError). RefusedFor eq edges start test value fits s.given y) (sym e) f, same, more)
+
+  -- what a step gives rests on the given paths alone, and on whether the walk is at its end
+  pub turn_same : {A : Type 0} (u t : PathWalk N C F T) (r : Result (Option (Vec N A × C)) PathError) → u.given ≡ s.given → (IsEnded s → IsEnded u) → PathTurn eq value edges start test fits u r t → PathTurn eq value edges start test fits s r t
+  turn_same u t (Ok (Some x)) e ends q = subst (λ (v : List (List N × C)). IsNextPath eq edges start test value v x.0.items x.1 × (t.given ≡ v ++ (x.0.items, x.1) ∷ [])) e q
+  turn_same u t (Ok None) e ends q = subst (λ (v : List (List N × C)). AllGiven eq edges start test value v × (t.given ≡ v) × IsEnded t) e q
+  turn_same u t (Err x) e ends q = let p = subst (λ (v : List (List N × C)). RefusedFor eq edges start test value fits v x × (t.given ≡ v)) e (q.0, q.1) in (p.0, p.1, λ h. q.2 (ends h))
+
+  -- where the walk is at its end, the choice of a plan is not refused, and the walk stays there
+  pub still_ended : {U : Type 0} (r : Result U PathError) (begun : Bool) (waiting : List (Plan C)) (chosen : Option (Plan C)) (gone : Bool) → OnOk r ((begun ≡ true) × (gone ≡ false))
+      → OnOk r (s.has_begun ≡ true → GoesOn value s.known (as_list s.chosen ++ s.waiting) (as_list chosen ++ waiting) (last_given s.is_given s.chosen)) → OnErr r (s.has_begun ≡ true → ¬ (last_given s.is_given s.chosen ≡ []))
+      → IsEnded s → IsOkAnd r (λ _. IsEnded (record s { has_begun = begun; waiting = waiting; chosen = chosen; is_given = gone }))
+  still_ended (Ok x) begun waiting chosen gone b on due e =
+      let q = on e.0 in
+      let empty : (t : ℤ) → NoneBelow value t (as_list s.chosen ++ s.waiting) = λ t. rw (e.2, e.3) (λ d i. absurd (in_none d i)) in
+      let none = none_listed chosen waiting (no_plan value (as_list chosen ++ waiting) (λ t. q.dearer t (empty t))) in
+      (b.0, b.1, none.0, none.1)
+  still_ended (Err x) begun waiting chosen gone b on due e =
+      let none : last_given s.is_given s.chosen ≡ [] = rw e.1 refl in
+      due e.0 none
+
+  module _ (laws : IsEquivalence eq) where
     one : (i j : ℕ) (x : N) → StandsFor eq s.nodes i x → StandsFor eq s.nodes j x → i ≡ j
-    one = StandsFor-one eq laws s.nodes w.explored.0.distinct
+    one = StandsFor-one eq laws s.nodes w.explored.distinct
 
-    pub costs : IsNonNegative (IsStep eq (record { starts = start ∷ []; edges = edges }))
-    costs = no_negative eq laws graph w.explored.0.alike w.costs
+    costs : IsNonNegative (IsStep eq (graph_of start edges))
+    costs = no_negative eq laws (graph_of start edges) w.explored.alike w.costs
 
-    pub some_found : 0 < length s.nodes
+    some_found : 0 < length s.nodes
     some_found = StandsFor-inside eq s.nodes 0 start ((w.begins start).1 (laws.refl start))
 
     -- more was learned
-    pub learned_on : (nodes : List N) (known : KnownGraph C) (f : F) (p : S) → Grows (length s.nodes) (length nodes) (StandsFor eq s.nodes) (StandsFor eq nodes) → Answering (record { graph = record { starts = start ∷ []; edges = edges }; test = test }) nodes f p
-        → IsLearned value (IsStep eq (record { starts = start ∷ []; edges = edges })) test (StandsFor eq nodes) (length nodes) known → s.has_begun ≡ false → IsOne (record s { nodes = nodes; known = known; successors = f; success = p })
+    pub learned_on : (nodes : List N) (known : KnownGraph C) (f : F) (p : T) → Grows (length s.nodes) (length nodes) (StandsFor eq s.nodes) (StandsFor eq nodes)
+        → Explores eq (AnswersEdges eq edge_answers) (graph_of start edges) nodes (record { function = f }) × test_answers p (InReach eq edges (start ∷ [])) test
+        → IsLearned value (IsStep eq (graph_of start edges)) test (StandsFor eq nodes) (length nodes) known → s.has_begun ≡ false → IsPathWalk eq value edges start test fits edge_answers test_answers (record s { nodes = nodes; known = known; successors = f; success = p })
     learned_on nodes known f p grows explored learned fresh =
-        let t : PathWalk N C F S = record s { nodes = nodes; known = known; successors = f; success = p } in
-        let u : IsUnderWay eq value edges start test s false = subst (λ (b : Bool). IsUnderWay eq value edges start test s b) fresh w.under_way in
+        let t : PathWalk N C F T = record s { nodes = nodes; known = known; successors = f; success = p } in
+        let u : IsUnderWay eq value edges start test s false = rw fresh at w.under_way in
         record {
-          explored = explored;
+          explored = explored.0;
+          tested = explored.1;
           costs = w.costs;
           begins = λ x. ((λ h. (w.begins x).0 (grows.back 0 x some_found h)), (λ e. grows.stays 0 x ((w.begins x).1 e)));
           learned = learned;
@@ -166,58 +191,26 @@ module _ {N C F S I J : Type 0} (eq : N → N → Bool) (laws : IsEquivalence eq
           bar = w.bar;
         }
 
-    -- where a path was looked for, all is known
-    pub all_known : s.has_begun ≡ true → length s.nodes ≤ length s.known.rows
-    all_known h = let u : IsUnderWay eq value edges start test s true = subst (λ (b : Bool). IsUnderWay eq value edges start test s b) h w.under_way in u.0
-
-    planned : s.has_begun ≡ true → IsPlanned eq value s.nodes s.known s.given s.waiting s.chosen s.is_given
-    planned h = let u : IsUnderWay eq value edges start test s true = subst (λ (b : Bool). IsUnderWay eq value edges start test s b) h w.under_way in u.2
-
-    -- and a machine word counts it
-    pub few_known : s.has_begun ≡ true → length s.known.rows < 2 ^ 64
-    few_known h = let u : IsUnderWay eq value edges start test s true = subst (λ (b : Bool). IsUnderWay eq value edges start test s b) h w.under_way in u.1
+    -- where a path was looked for, all is known, a machine word counts it, and what is left is planned
+    going : s.has_begun ≡ true → (length s.nodes ≤ length s.known.rows) × (length s.known.rows < 2 ^ 64) × IsPlanned eq value s.nodes s.known s.given s.waiting s.chosen s.is_given
+    going h = rw h at w.under_way
 
     -- where none was looked for, none was given
     fresh_is : s.has_begun ≡ false → (s.given ≡ []) × (s.waiting ≡ []) × (s.chosen ≡ None) × (s.is_given ≡ false)
-    fresh_is h = subst (λ (b : Bool). IsUnderWay eq value edges start test s b) h w.under_way
+    fresh_is h = rw h at w.under_way
 
     pub fresh_plans : s.has_begun ≡ false → (s.waiting ≡ []) × (s.is_given ≡ false)
     fresh_plans h = let u = fresh_is h in (u.1, u.3)
 
     pub some_partition : s.has_begun ≡ true → (before : List (List ℕ)) × IsPartition value s.known (as_list s.chosen ++ s.waiting) before
-    some_partition h = let p = planned h in (p.before, p.partition)
+    some_partition h = let p = (going h).2 in (p.before, p.partition)
 
     module _ (all : length s.nodes ≤ length s.known.rows) where
       pub whole : IsWhole value s.known
-      whole = learned_whole value (IsStep eq (record { starts = start ∷ []; edges = edges })) test (length s.nodes) (StandsFor eq s.nodes) s.known costs w.learned all
+      whole = learned_whole value (IsStep eq (graph_of start edges)) test (length s.nodes) (StandsFor eq s.nodes) s.known costs w.learned all
 
       pub some_known : 0 < length s.known.rows
       some_known = let f = some_found in omega (arith, f, all)
-
-      -- a plan was chosen, or the call was refused
-      pub chose : length s.known.rows < 2 ^ 64 → ¬ (IsBarred s) → {U : Type 0} (r : Result U PathError) (begun : Bool) (waiting : List (Plan C)) (chosen : Option (Plan C)) (gone : Bool) → OnOk r ((begun ≡ true) × (gone ≡ false))
-          → OnOk r (IsFirst value s.is_given s.chosen s.waiting → s.has_begun ≡ true → IsFirst value false chosen waiting) → OnOk r (s.has_begun ≡ true → GoesOn value s.known (as_list s.chosen ++ s.waiting) (as_list chosen ++ waiting) (last_given s.is_given s.chosen))
-          → OnOk r (s.has_begun ≡ false → IsPartition value s.known (as_list chosen ++ waiting) [] × (waiting ≡ [])) → OnErr r ((chosen ≡ s.chosen) × (waiting ≡ s.waiting) × (gone ≡ s.is_given) × (begun ≡ s.has_begun))
-          → IsOne (record s { has_begun = begun; waiting = waiting; chosen = chosen; is_given = gone })
-      chose few free (Ok x) begun waiting chosen gone b first on begins kept =
-          let t : PathWalk N C F S = record s { has_begun = begun; waiting = waiting; chosen = chosen; is_given = gone } in
-          let now : IsPlanned eq value s.nodes s.known s.given waiting chosen false = elim (bool_dec s.has_begun) as (λ _. IsPlanned eq value s.nodes s.known s.given waiting chosen false) [
-            | inl h ↦ let p = planned h in went_on eq laws value s.nodes s.known s.given s.waiting waiting s.chosen chosen s.is_given p (on h) (first p.first h)
-            | inr h ↦
-                let u = fresh_is h in
-                let q = begins h in
-                subst (λ (v : List (List N × C)). IsPlanned eq value s.nodes s.known v waiting chosen false) (sym u.0) (planned_first eq laws value s.nodes s.known waiting chosen q.1 q.0)
-          ] in
-          record {
-            explored = w.explored;
-            costs = w.costs;
-            begins = w.begins;
-            learned = w.learned;
-            under_way = subst (λ (v : Bool). IsUnderWay eq value edges start test t v) (sym b.0) (all, few, subst (λ (v : Bool). IsPlanned eq value s.nodes s.known s.given waiting chosen v) (sym b.1) now);
-            bar = λ b. absurd (free b);
-          }
-      chose few free (Err e) begun waiting chosen gone b first on begins kept =
-          record { explored = w.explored; costs = w.costs; begins = w.begins; learned = w.learned; under_way = rw (kept.0, kept.1, kept.2, kept.3) w.under_way; bar = λ b. absurd (free b) }
 
       none_last : s.given ≡ [] → (before : List (List ℕ)) → AllZip (λ (q : List ℕ) (h : List N × C). AllZip (StandsFor eq s.nodes) q h.0 × IsCleanNumbers value s.known q (value h.1)) (before ++ last_given s.is_given s.chosen) s.given → last_given s.is_given s.chosen ≡ []
       none_last e before z = zip_none (λ (q : List ℕ) (h : List N × C). AllZip (StandsFor eq s.nodes) q h.0 × IsCleanNumbers value s.known q (value h.1)) before (last_given s.is_given s.chosen) (rw e at z)
@@ -232,42 +225,80 @@ module _ {N C F S I J : Type 0} (eq : N → N → Bool) (laws : IsEquivalence eq
           let over = past (ap Err m) in
           elim (bool_dec s.has_begun) as (λ _. RefusedFor eq edges start test value fits s.given e) [
             | inl h ↦
-                let p = planned h in
+                let p = (going h).2 in
                 let c = chosen_given value s.known fits s.is_given s.chosen (due h) (rw h at over) in
                 let b = c.3 in
                 let q : IsPlanned eq value s.nodes s.known s.given s.waiting (Some c.0) true = rw (c.1, c.2) at p in
-                inr (m, path_past eq laws s.nodes one edges start test w.explored.0.alike w.begins value s.known w.learned all fits b.past, λ none. absurd (due h (none_last none p.before p.given_are)), λ _. branch eq laws value s.nodes s.known one edges start test w.explored.0.alike w.begins whole w.learned all fits s.given s.waiting c.0 q b)
+                inr (m, path_past eq laws s.nodes one edges start test w.explored.alike w.begins value s.known w.learned all fits b.past, λ none. absurd (due h (none_last none p.before p.given_are)), λ _. branch eq laws value s.nodes s.known one edges start test w.explored.alike w.begins whole w.learned all fits s.given s.waiting c.0 q b)
             | inr h ↦
                 let d = past_first value fits s.known (length s.known.rows) (rw h at over) in
-                inr (m, path_past eq laws s.nodes one edges start test w.explored.0.alike w.begins value s.known w.learned all fits d.0, λ _. first_past eq laws s.nodes one edges start test w.explored.0.alike w.begins value s.known w.learned all fits d.0 costs d.1.0 d.1.1, λ some. absurd (some (fresh_is h).0))
+                inr (m, path_past eq laws s.nodes one edges start test w.explored.alike w.begins value s.known w.learned all fits d.0, λ _. first_past eq laws s.nodes one edges start test w.explored.alike w.begins value s.known w.learned all fits d.0 costs d.1.0 d.1.1, λ some. absurd (some (fresh_is h).0))
           ]
 
+      -- a plan was chosen, or the call was refused, and the walk notes a refusal for a cost overflow
+      pub chose : length s.known.rows < 2 ^ 64 → {U : Type 0} (r : Result U PathError) (begun : Bool) (waiting : List (Plan C)) (chosen : Option (Plan C)) (gone noted : Bool) → OnOk r ((begun ≡ true) × (gone ≡ false))
+          → OnOk r (IsFirst value s.is_given s.chosen s.waiting → s.has_begun ≡ true → IsFirst value false chosen waiting) → OnOk r (s.has_begun ≡ true → GoesOn value s.known (as_list s.chosen ++ s.waiting) (as_list chosen ++ waiting) (last_given s.is_given s.chosen))
+          → OnOk r (s.has_begun ≡ false → IsPartition value s.known (as_list chosen ++ waiting) [] × (waiting ≡ [])) → OnErr r ((chosen ≡ s.chosen) × (waiting ≡ s.waiting) × (gone ≡ s.is_given) × (begun ≡ s.has_begun))
+          → OnErr r (s.has_begun ≡ true → ¬ (last_given s.is_given s.chosen ≡ [])) → IfErr r (RefusedFor eq edges start test value fits s.given) → (noted ≡ true → r ≡ Err PathError.CostOverflow)
+          → IsPathWalk eq value edges start test fits edge_answers test_answers (record s { has_begun = begun; waiting = waiting; chosen = chosen; is_given = gone; barred = noted })
+      chose few (Ok x) begun waiting chosen gone noted b first on begins kept due why over =
+          let t : PathWalk N C F T = record s { has_begun = begun; waiting = waiting; chosen = chosen; is_given = gone; barred = noted } in
+          let now : IsPlanned eq value s.nodes s.known s.given waiting chosen false = elim (bool_dec s.has_begun) as (λ _. IsPlanned eq value s.nodes s.known s.given waiting chosen false) [
+            | inl h ↦ let p = (going h).2 in went_on eq laws value s.nodes s.known s.given s.waiting waiting s.chosen chosen s.is_given p (on h) (first p.first h)
+            | inr h ↦
+                let u = fresh_is h in
+                let q = begins h in
+                subst (λ (v : List (List N × C)). IsPlanned eq value s.nodes s.known v waiting chosen false) (sym u.0) (planned_first eq laws value s.nodes s.known waiting chosen q.1 q.0)
+          ] in
+          record {
+            explored = w.explored;
+            tested = w.tested;
+            costs = w.costs;
+            begins = w.begins;
+            learned = w.learned;
+            under_way = subst (λ (v : Bool). IsUnderWay eq value edges start test t v) (sym b.0) (all, few, subst (λ (v : Bool). IsPlanned eq value s.nodes s.known s.given waiting chosen v) (sym b.1) now);
+            bar = λ h. let e = over h in cc;
+          }
+      chose few (Err x) begun waiting chosen gone noted b first on begins kept due why over = record {
+        explored = w.explored;
+        tested = w.tested;
+        costs = w.costs;
+        begins = w.begins;
+        learned = w.learned;
+        under_way = rw (kept.0, kept.1, kept.2, kept.3) w.under_way;
+        bar = λ h.
+            let e = over h in
+            let f : x ≡ PathError.CostOverflow = cc in
+            (subst (λ (y : PathError). RefusedFor eq edges start test value fits s.given y) f why, λ z. still_ended {U = ℕ} (Err x) begun waiting chosen gone b on due (sym kept.3 ∙ z.0, sym kept.2 ∙ z.1, sym kept.0 ∙ z.2, sym kept.1 ∙ z.3));
+      }
+
     -- no more paths were given than there can be
-    pub few_given : length s.given ≤ most_paths (2 ^ 64)
+    few_given : length s.given ≤ most_paths (2 ^ 64)
     few_given = elim (bool_dec s.has_begun) as (λ _. length s.given ≤ most_paths (2 ^ 64)) [
-      | inl h ↦ let all = all_known h in let few = few_known h in given_at_most eq laws value s.nodes s.known (whole all) (2 ^ 64) (omega (arith, few)) (some_known all) s.given s.waiting s.chosen s.is_given (planned h)
+      | inl h ↦ let u = going h in given_at_most eq laws value s.nodes s.known (whole u.0) (2 ^ 64) (omega (arith, u.1)) (some_known u.0) s.given s.waiting s.chosen s.is_given u.2
       | inr h ↦ let u = fresh_is h in let none : length s.given ≡ 0 = ap length u.0 in omega (arith, none)
     ]
 
-    -- where the choice was refused for a cost overflow, that refusal may come, and the walk is not at its end
-    pub barred_for : {U : Type 0} (r : Result U PathError) (begun : Bool) (waiting : List (Plan C)) (chosen : Option (Plan C)) (gone : Bool) (b : Bool) → (b ≡ true → r ≡ Err PathError.CostOverflow) → IfErr r (RefusedFor eq edges start test value fits s.given)
-        → (IsEnded s → IsOkAnd r (λ _. IsEnded (record s { has_begun = begun; waiting = waiting; chosen = chosen; is_given = gone }))) → OnErr r ((chosen ≡ s.chosen) × (waiting ≡ s.waiting) × (gone ≡ s.is_given) × (begun ≡ s.has_begun))
-        → b ≡ true → RefusedFor eq edges start test value fits s.given PathError.CostOverflow × ¬ (IsEnded (record s { has_begun = begun; waiting = waiting; chosen = chosen; is_given = gone }))
-    barred_for (Ok x) begun waiting chosen gone b over why ends kept h = let e = over h in cc
-    barred_for (Err x) begun waiting chosen gone b over why ends kept h =
-        let e = over h in
-        let f : x ≡ PathError.CostOverflow = cc in
-        (subst (λ (y : PathError). RefusedFor eq edges start test value fits s.given y) f why, λ z. ends (sym kept.3 ∙ z.0, sym kept.2 ∙ z.1, sym kept.0 ∙ z.2, sym kept.1 ∙ z.3))
+    -- an item is a path more, or a refusal
+    pub progress : {A : Type 0} (can : PathWalk N C F T → Type 0) (old : PathWalk N C F T) (r : Option (Result (Vec N A × C) PathError)) → can s → PathStep eq value edges start test fits old r s → MakesProgress can (λ t. at_most (most_items t)) old r s
+    progress can old None c q = record { on = λ f. tt; keeps = tt; rests = λ f. f }
+    progress can old (Some (Ok item)) c q =
+        let long = ap length q.3 ∙ length-append old.given ((item.0.items, item.1) ∷ []) in
+        record { on = λ f. (c, f, omega (arith, items_open old q.0, items_open s q.1, long, few_given)); keeps = c; rests = λ f. tt }
+    progress can old (Some (Err e)) c q = record { on = λ f. (c, f, omega (arith, items_open old q.0, items_refused s q.1)); keeps = c; rests = λ f. tt }
 
     module _ (begun : s.has_begun ≡ true) (new : s.is_given ≡ false) where
+      all : length s.nodes ≤ length s.known.rows
+      all = (going begun).0
+
       ready : IsPlanned eq value s.nodes s.known s.given s.waiting s.chosen false
-      ready = subst (λ (b : Bool). IsPlanned eq value s.nodes s.known s.given s.waiting s.chosen b) new (planned begun)
+      ready = subst (λ (b : Bool). IsPlanned eq value s.nodes s.known s.given s.waiting s.chosen b) new (going begun).2
 
       -- where no plan is left, all was given
       pub none_left : s.chosen ≡ None → s.waiting ≡ [] → AllGiven eq edges start test value s.given
       none_left e f =
           let p : IsPlanned eq value s.nodes s.known s.given [] None false = rw (e, f) at ready in
-          all_given eq laws value s.nodes s.known one edges start test w.explored.0.alike w.begins (whole (all_known begun)) w.learned (all_known begun) s.given p
+          all_given eq laws value s.nodes s.known one edges start test w.explored.alike w.begins (whole all) w.learned all s.given p
 
       module _ (c : Plan C) (chosen : s.chosen ≡ Some c) where
         ready_with : IsPlanned eq value s.nodes s.known s.given s.waiting (Some c) false
@@ -293,45 +324,18 @@ module _ {N C F S I J : Type 0} (eq : N → N → Bool) (laws : IsEquivalence eq
             ]
 
         -- the chosen path is given
-        pub gives : ¬ (IsBarred s) → (path : List N) → AllZip (StandsFor eq s.nodes) c.path path → IsNextPath eq edges start test value s.given path c.cost × IsOne (record s { given = s.given ++ (path, c.cost) ∷ []; is_given = true })
+        pub gives : ¬ (IsBarred s) → (path : List N) → AllZip (StandsFor eq s.nodes) c.path path → IsNextPath eq edges start test value s.given path c.cost × IsPathWalk eq value edges start test fits edge_answers test_answers (record s { given = s.given ++ (path, c.cost) ∷ []; is_given = true })
         gives free path z =
-            let t : PathWalk N C F S = record s { given = s.given ++ (path, c.cost) ∷ []; is_given = true } in
-            let all = all_known begun in
+            let t : PathWalk N C F T = record s { given = s.given ++ (path, c.cost) ∷ []; is_given = true } in
             let done : IsPlanned eq value s.nodes s.known (s.given ++ (path, c.cost) ∷ []) s.waiting s.chosen true = subst (λ (o : Option (Plan C)). IsPlanned eq value s.nodes s.known (s.given ++ (path, c.cost) ∷ []) s.waiting o true) (sym chosen) (gave eq laws value s.nodes s.known s.given s.waiting c path ready_with z) in (
-              next_is eq laws value s.nodes s.known one edges start test w.explored.0.alike w.begins (whole all) w.learned all s.given s.waiting c path ready_with z,
+              next_is eq laws value s.nodes s.known one edges start test w.explored.alike w.begins (whole all) w.learned all s.given s.waiting c path ready_with z,
               record {
                 explored = w.explored;
+                tested = w.tested;
                 costs = w.costs;
                 begins = w.begins;
                 learned = w.learned;
-                under_way = subst (λ (b : Bool). IsUnderWay eq value edges start test t b) (sym begun) (all, few_known begun, done);
+                under_way = subst (λ (b : Bool). IsUnderWay eq value edges start test t b) (sym begun) (all, (going begun).1, done);
                 bar = λ b. absurd (free b);
               },
             )
-
-items_open : {N C F S : Type 0} (s : PathWalk N C F S) → s.refused ≡ false → most_items s ≡ suc (most_paths (2 ^ 64) - length s.given)
-items_open s h = rw h refl
-
-items_refused : {N C F S : Type 0} (s : PathWalk N C F S) → s.refused ≡ true → most_items s ≡ 0
-items_refused s h = rw h refl
-
--- an item is a path more, or a refusal
-pub progress : {N C F S A : Type 0} (eq : N → N → Bool) (value : C → ℤ) (edges : N → List (N × ℤ)) (start : N) (test : N → Bool) (fits : ℤ → Type 0) (can : PathWalk N C F S → Type 0) (s t : PathWalk N C F S) (r : Option (Result (Vec N A × C) PathError))
-    → can t → length t.given ≤ most_paths (2 ^ 64) → PathStep eq value edges start test fits s r t → MakesProgress can (λ w. at_most (most_items w)) s r t
-progress eq value edges start test fits can s t None c few q = record { on = λ f. tt; keeps = tt; rests = λ f. f }
-progress eq value edges start test fits can s t (Some (Ok item)) c few q =
-    let long = ap length q.3 ∙ length-append s.given ((item.0.items, item.1) ∷ []) in
-    record { on = λ f. (c, f, omega (arith, items_open s q.0, items_open t q.1, long, few)); keeps = c; rests = λ f. tt }
-progress eq value edges start test fits can s t (Some (Err e)) c few q = record { on = λ f. (c, f, omega (arith, items_open s q.0, items_refused t q.1)); keeps = c; rests = λ f. tt }
-
-module _ {N C F S A : Type 0} (value : C → ℤ) (edges : N → List (N × ℤ)) (start : N) (test : N → Bool) (eq : N → N → Bool) (fits : ℤ → Type 0) where
-  -- a step was refused, for this
-  pub turn_refused : (s t : PathWalk N C F S) (r : Result (Option (Vec N A × C)) PathError) (refusal : PathError) → IsErrAnd r (λ e. e ≡ refusal) → RefusedFor eq edges start test value fits s.given refusal → t.given ≡ s.given → ¬ (IsEnded s) → PathTurn eq value edges start test fits s r t
-  turn_refused s t (Ok x) refusal e f same more = absurd e
-  turn_refused s t (Err x) refusal e f same more = (subst (λ (y : PathError). RefusedFor eq edges start test value fits s.given y) (sym e) f, same, more)
-
-  -- what a step gives rests on the given paths alone, and on whether the walk is at its end
-  pub turn_same : (s u t : PathWalk N C F S) (r : Result (Option (Vec N A × C)) PathError) → u.given ≡ s.given → (IsEnded s → IsEnded u) → PathTurn eq value edges start test fits u r t → PathTurn eq value edges start test fits s r t
-  turn_same s u t (Ok (Some x)) e ends q = subst (λ (v : List (List N × C)). IsNextPath eq edges start test value v x.0.items x.1 × (t.given ≡ v ++ (x.0.items, x.1) ∷ [])) e q
-  turn_same s u t (Ok None) e ends q = subst (λ (v : List (List N × C)). AllGiven eq edges start test value v × (t.given ≡ v) × IsEnded t) e q
-  turn_same s u t (Err x) e ends q = let p = subst (λ (v : List (List N × C)). RefusedFor eq edges start test value fits v x × (t.given ≡ v)) e (q.0, q.1) in (p.0, p.1, λ h. q.2 (ends h))

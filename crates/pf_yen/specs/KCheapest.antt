@@ -1,9 +1,10 @@
 -- The k cheapest clean paths.
 use Rattle.std.specs.Prelude.{◌≡◌, ◌⊎◌, ◌≤ℤ◌, ◌<ℤ◌, ◌<◌, ◌≤◌, ◌&&◌, ℕ, ℤ, Bool, true, false, List, [], ◌∷◌, length, map, slice_get, sum_by, Some, Contains, Vec}
-use Rattle.pf_base.specs.Edges.{WalkCosts}
+use Rattle.pf_base.specs.declared.error.PathError.{PathError}
+use Rattle.pf_base.specs.Edges.{WalkCosts, IsPastRange}
 use Rattle.pf_base.specs.Answers.{SameNodes}
 use Rattle.pf_yen.specs.Classes.{one_if}
-use Rattle.pf_yen.specs.CleanPaths.{IsCleanPath, WasGiven, AllGiven}
+use Rattle.pf_yen.specs.CleanPaths.{IsCleanPath, IsPathPastRange, WasGiven, AllGiven}
 
 -- the paths that these vectors hold, with their costs
 abbrev pub paths_in : {N C A : Type 0} → List (Vec N A × C) → List (List N × C)
@@ -47,3 +48,7 @@ module _ {N C : Type 0} (eq : N → N → Bool) (edges : N → List (N × ℤ)) 
     pub cheapest : AreCheapest answer
     pub most : length answer ≤ k
     pub complete : length answer < k → AllGiven eq edges start test value answer
+
+-- why k paths may not be gathered: for want of memory, or since a path and one step more cost more than fits, where some path is to be gathered; where it is one, also a cheapest path to some node and one step more
+abbrev pub MayRefuse : {N : Type 0} → (N → N → Bool) → (N → List (N × ℤ)) → N → (N → Bool) → (ℤ → Type 0) → ℕ → PathError → Type 0
+MayRefuse eq edges start test fits k refusal = (refusal ≡ PathError.OutOfMemory) ⊎ ((refusal ≡ PathError.CostOverflow) × (1 ≤ k) × IsPathPastRange eq edges start test fits × (k ≡ 1 → IsPastRange eq edges (start ∷ []) test fits))

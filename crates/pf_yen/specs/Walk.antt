@@ -3,12 +3,9 @@ use Rattle.std.specs.Prelude.{◌≡◌, ◌⊎◌, ◌≤ℤ◌, ◌≤◌, ◌
 use Rattle.std.specs.Coded.{Coded, code_by, coded×, coded_bool, coded_ℕ, coded_list, coded_option}
 use Rattle.std.specs.List.{AllZip}
 use Rattle.pf_base.specs.declared.error.PathError.{PathError}
-use Rattle.std.specs.Borrow.{Bor}
-use Rattle.std.specs.Fn.{Mut}
-use Rattle.std.specs.Iterator.{Count}
-use Rattle.pf_base.specs.Answers.{AnswersTest}
 use Rattle.pf_base.specs.Edges.{HasNoNegativeCost, InReach}
-use Rattle.pf_core.specs.Nodes.{TestedGraph, StandsFor, IsStep, Explores}
+use Rattle.pf_core.specs.Nodes.{StandsFor, IsStep, Explores}
+use Rattle.pf_core.specs.Sources.{AnswersEdges}
 use Rattle.pf_yen.specs.Known.{KnownGraph, known_code}
 use Rattle.pf_yen.specs.Classes.{Plan, IsCleanNumbers, IsPartition}
 use Rattle.pf_yen.specs.CleanPaths.{AllGiven, IsNextPath, RefusedFor}
@@ -17,12 +14,12 @@ use Rattle.pf_yen.specs.Learned.{IsLearned}
 use Rattle.pf_yen.specs.Plans.{as_list, last_given, IsFirst}
 
 -- what a caller sees of a walk: the paths given so far, with their costs; whether the last step was refused; whether the step to come was refused for a cost overflow; the functions that list edges and test nodes; and what was learned and planned so far
-pub record PathWalk (N C F S : Type 0) : Type 0 where
+pub record PathWalk (N C F T : Type 0) : Type 0 where
   pub given : List (List N × C)
   pub refused : Bool
   pub barred : Bool
   pub successors : F
-  pub success : S
+  pub success : T
   pub nodes : List N
   pub known : KnownGraph C
   pub has_begun : Bool
@@ -33,9 +30,9 @@ pub record PathWalk (N C F S : Type 0) : Type 0 where
 abbrev pub plan_code : {C : Type 0} → Coded C → Coded (Plan C)
 plan_code {C} c = code_by (List ℕ × (C × (ℕ × List ℕ))) (coded× (coded_list coded_ℕ) (coded× c (coded× coded_ℕ (coded_list coded_ℕ)))) (λ p. (p.path, (p.cost, (p.spur, p.banned)))) (λ p. record { path = p.0; cost = p.1.0; spur = p.1.1.0; banned = p.1.1.1 }) (λ _. refl)
 
-abbrev pub path_walk_code : {N C F S : Type 0} → Coded N → Coded C → Coded F → Coded S → Coded (PathWalk N C F S)
-path_walk_code {N} {C} {F} {S} n c f s = code_by (List (List N × C) × (Bool × (Bool × (F × (S × (List N × (KnownGraph C × (Bool × (List (Plan C) × (Option (Plan C) × Bool))))))))))
-    (coded× (coded_list (coded× (coded_list n) c)) (coded× coded_bool (coded× coded_bool (coded× f (coded× s (coded× (coded_list n) (coded× (known_code c) (coded× coded_bool (coded× (coded_list (plan_code c)) (coded× (coded_option (plan_code c)) coded_bool))))))))))
+abbrev pub path_walk_code : {N C F T : Type 0} → Coded N → Coded C → Coded F → Coded T → Coded (PathWalk N C F T)
+path_walk_code {N} {C} {F} {T} n c f t = code_by (List (List N × C) × (Bool × (Bool × (F × (T × (List N × (KnownGraph C × (Bool × (List (Plan C) × (Option (Plan C) × Bool))))))))))
+    (coded× (coded_list (coded× (coded_list n) c)) (coded× coded_bool (coded× coded_bool (coded× f (coded× t (coded× (coded_list n) (coded× (known_code c) (coded× coded_bool (coded× (coded_list (plan_code c)) (coded× (coded_option (plan_code c)) coded_bool))))))))))
     (λ w. (w.given, (w.refused, (w.barred, (w.successors, (w.success, (w.nodes, (w.known, (w.has_begun, (w.waiting, (w.chosen, w.is_given)))))))))))
     (λ p. record { given = p.0; refused = p.1.0; barred = p.1.1.0; successors = p.1.1.1.0; success = p.1.1.1.1.0; nodes = p.1.1.1.1.1.0; known = p.1.1.1.1.1.1.0; has_begun = p.1.1.1.1.1.1.1.0; waiting = p.1.1.1.1.1.1.1.1.0; chosen = p.1.1.1.1.1.1.1.1.1.0; is_given = p.1.1.1.1.1.1.1.1.1.1 }) (λ _. refl)
 
@@ -48,37 +45,38 @@ pub record IsPlanned {N C : Type 0} (eq : N → N → Bool) (value : C → ℤ) 
   pub first : IsFirst value is_given chosen waiting
 
 -- at most so many items come before a call of `resume`: as many paths as are left of those that there can be over nodes numbered by a machine word, and a refusal; none after a refusal
-abbrev pub most_items : {N C F S : Type 0} → PathWalk N C F S → ℕ
+abbrev pub most_items : {N C F T : Type 0} → PathWalk N C F T → ℕ
 most_items walk = if walk.refused then 0 else suc (most_paths (2 ^ 64) - length walk.given)
 
 -- the walk is at its end: a path was looked for, and no plan is left
-abbrev pub IsEnded : {N C F S : Type 0} → PathWalk N C F S → Type 0
+abbrev pub IsEnded : {N C F T : Type 0} → PathWalk N C F T → Type 0
 IsEnded walk = (walk.has_begun ≡ true) × (walk.is_given ≡ false) × (walk.chosen ≡ None) × (walk.waiting ≡ [])
 
 -- the walk stands before a step that was refused for a cost overflow
-abbrev pub IsBarred : {N C F S : Type 0} → PathWalk N C F S → Type 0
+abbrev pub IsBarred : {N C F T : Type 0} → PathWalk N C F T → Type 0
 IsBarred walk = walk.barred ≡ true
 
 -- a step that was refused for a cost overflow is refused for it again: where the walk stands before one, a step of a walk that was not refused before gives neither a path nor the end, and no other refusal; and a step leaves the walk before one exactly where that step was refused for a cost overflow
-abbrev pub TurnKeepsBar : {N C F S X : Type 0} → PathWalk N C F S → Result X PathError → PathWalk N C F S → Type 0
+abbrev pub TurnKeepsBar : {N C F T X : Type 0} → PathWalk N C F T → Result X PathError → PathWalk N C F T → Type 0
 TurnKeepsBar walk (Ok given) after = ¬ (IsBarred walk) × ¬ (IsBarred after)
 TurnKeepsBar walk (Err refusal) after = (IsBarred walk → refusal ≡ PathError.CostOverflow) × (IsBarred after ↔ (refusal ≡ PathError.CostOverflow))
 
 -- the same of a call of `next`, which gives no path also where the last step was refused, and then leaves the walk where it stood
-abbrev pub StepKeepsBar : {N C F S X : Type 0} → PathWalk N C F S → Option (Result X PathError) → PathWalk N C F S → Type 0
+abbrev pub StepKeepsBar : {N C F T X : Type 0} → PathWalk N C F T → Option (Result X PathError) → PathWalk N C F T → Type 0
 StepKeepsBar walk (Some (Ok item)) after = ¬ (IsBarred walk) × ¬ (IsBarred after)
 StepKeepsBar walk None after = (IsBarred walk → walk.refused ≡ true) × (IsBarred after ↔ IsBarred walk)
 StepKeepsBar walk (Some (Err refusal)) after = (IsBarred walk → refusal ≡ PathError.CostOverflow) × (IsBarred after ↔ (refusal ≡ PathError.CostOverflow))
 
-module _ {N C F S : Type 0} (eq : N → N → Bool) (value : C → ℤ) (edges : N → List (N × ℤ)) (start : N) (test : N → Bool) where
+module _ {N C F T : Type 0} (eq : N → N → Bool) (value : C → ℤ) (edges : N → List (N × ℤ)) (start : N) (test : N → Bool) where
   -- whether all is planned, or nothing was begun
-  abbrev pub IsUnderWay : PathWalk N C F S → Bool → Type 0
+  abbrev pub IsUnderWay : PathWalk N C F T → Bool → Type 0
   IsUnderWay walk false = (walk.given ≡ []) × (walk.waiting ≡ []) × (walk.chosen ≡ None) × (walk.is_given ≡ false)
   IsUnderWay walk true = (length walk.nodes ≤ length walk.known.rows) × (length walk.known.rows < 2 ^ 64) × IsPlanned eq value walk.nodes walk.known walk.given walk.waiting walk.chosen walk.is_given
 
   -- The walk is one of this graph from this start: its functions answer the graph and the test in reach, where no edge costs less than 0, what was learned is so, and so is what was planned; and where it stands before a step that was refused for a cost overflow, that refusal may come, and the walk is not at its end.
-  pub record IsPathWalk (fits : ℤ → Type 0) (explores : TestedGraph N → List N → F → S → Type 0) (walk : PathWalk N C F S) : Type 0 where
-    pub explored : explores (record { graph = record { starts = start ∷ []; edges = edges }; test = test }) walk.nodes walk.successors walk.success
+  pub record IsPathWalk (fits : ℤ → Type 0) (edge_answers : F → (N → Type 0) → (N → List (N × ℤ)) → Type 0) (test_answers : T → (N → Type 0) → (N → Bool) → Type 0) (walk : PathWalk N C F T) : Type 0 where
+    pub explored : Explores eq (AnswersEdges eq edge_answers) (record { starts = start ∷ []; edges = edges }) walk.nodes (record { function = walk.successors })
+    pub tested : test_answers walk.success (InReach eq edges (start ∷ [])) test
     pub costs : HasNoNegativeCost eq edges (start ∷ [])
     pub begins : (x : N) → StandsFor eq walk.nodes 0 x ↔ (eq start x ≡ true)
     pub learned : IsLearned value (IsStep eq (record { starts = start ∷ []; edges = edges })) test (StandsFor eq walk.nodes) (length walk.nodes) walk.known
@@ -87,7 +85,7 @@ module _ {N C F S : Type 0} (eq : N → N → Bool) (value : C → ℤ) (edges :
 
   module _ {A : Type 0} (fits : ℤ → Type 0) where
     -- what a step of a walk that was not refused before gives, and how it leaves the walk: a path; no path, at the end; or a refusal, before the end
-    abbrev pub PathTurn : PathWalk N C F S → Result (Option (Vec N A × C)) PathError → PathWalk N C F S → Type 0
+    abbrev pub PathTurn : PathWalk N C F T → Result (Option (Vec N A × C)) PathError → PathWalk N C F T → Type 0
     PathTurn walk (Ok (Some item)) after = IsNextPath eq edges start test value walk.given item.0.items item.1 × (after.given ≡ walk.given ++ (item.0.items, item.1) ∷ [])
     PathTurn walk (Ok None) after = AllGiven eq edges start test value walk.given × (after.given ≡ walk.given) × IsEnded after
     PathTurn walk (Err refusal) after = RefusedFor eq edges start test value fits walk.given refusal × (after.given ≡ walk.given) × ¬ (IsEnded walk)
@@ -96,12 +94,7 @@ module _ {N C F S : Type 0} (eq : N → N → Bool) (value : C → ℤ) (edges :
     -- a path: the next by rising cost, which is the last of the given ones from then on
     -- no path: the last step was refused, or each clean path was given and the walk is at its end
     -- a refusal, of which a walk at its end knows none: the given paths stay
-    abbrev pub PathStep : PathWalk N C F S → Option (Result (Vec N A × C) PathError) → PathWalk N C F S → Type 0
+    abbrev pub PathStep : PathWalk N C F T → Option (Result (Vec N A × C) PathError) → PathWalk N C F T → Type 0
     PathStep walk (Some (Ok item)) after = (walk.refused ≡ false) × (after.refused ≡ false) × IsNextPath eq edges start test value walk.given item.0.items item.1 × (after.given ≡ walk.given ++ (item.0.items, item.1) ∷ [])
     PathStep walk None after = ((walk.refused ≡ true) ⊎ (AllGiven eq edges start test value walk.given × IsEnded after)) × (after.refused ≡ walk.refused) × (after.given ≡ walk.given)
     PathStep walk (Some (Err refusal)) after = (walk.refused ≡ false) × (after.refused ≡ true) × RefusedFor eq edges start test value fits walk.given refusal × (after.given ≡ walk.given) × ¬ (IsEnded walk)
-
-module _ {N C F S I J : Type 0} (eq : N → N → Bool) (value : C → ℤ) (becomes : I → J → Type 0) (can : J → Type 0) (left : J → Count) (next : J → Option (N × C) → J → Type 0) (calls : Mut F (Bor N × Unit {0}) I) (tests : Mut S (Bor N × Unit {0}) Bool) where
-  -- the functions answer this graph and its test at each node in reach, now and after any calls
-  abbrev pub Searches : TestedGraph N → List N → F → S → Type 0
-  Searches g keys f s = Explores eq value (λ e. e) becomes can left next calls g.graph keys f × AnswersTest tests eq s (InReach eq g.graph.edges g.graph.starts) g.test

@@ -5,7 +5,7 @@ ghost use Rattle.std.specs.Iterator.{MakesProgress, at_most};
 ghost use Rattle.pf_base.specs.Answers.{IsLawfulClone};
 ghost use Rattle.pf_base.specs.Edges.{IsWeightedSearch};
 ghost use Rattle.pf_yen.specs.CleanPaths.{RefusedFor};
-ghost use Rattle.pf_yen.specs.Walk.{IsPathWalk, most_items, IsEnded, IsBarred, PathTurn, PathStep, TurnKeepsBar, StepKeepsBar, Searches};
+ghost use Rattle.pf_yen.specs.Walk.{IsPathWalk, most_items, IsEnded, IsBarred, PathTurn, PathStep, TurnKeepsBar, StepKeepsBar};
 
 pub use crate::directed::k_cheapest::yen;
 use crate::given::Given;
@@ -13,12 +13,13 @@ use crate::known::Known;
 use crate::learn::learn;
 use crate::plans::Plans;
 use pf_base::{Cost, EdgeFunction, NodeTest, PathError};
-use pf_core::discovery::{Discovery, Weighted, clone_of};
+use pf_core::discovery::{Discovery, clone_of};
+use pf_core::source::Weighted;
 use pf_core::tested::Tested;
 use std::alloc::{Allocator, Global};
 use std::collections::BinaryHeap;
 use std::hash::Hash;
-use std::marker::{Model, PhantomData};
+use std::marker::Model;
 
 /// Whether the call was refused for a cost overflow.
 fn is_overflow(call: &Result<(), PathError>) -> bool
@@ -32,8 +33,8 @@ fn is_overflow(call: &Result<(), PathError>) -> bool
 ///
 /// The paths that branch off a path are looked for when the path after it is asked for, and not before.
 #[derive(Drop)]
-pub struct YenPaths<N: Eq + Hash + Drop, C: Cost, IN, FN, FS, A: Allocator = Global> {
-    graph: Tested<N, Weighted, IN, FN, FS, A>,
+pub struct YenPaths<N: Eq + Hash + Drop, C: Cost, F, T, A: Allocator = Global> {
+    graph: Tested<N, Weighted<F>, T, A>,
     known: Known<C, A>,
     plans: Plans<C, A>,
     given: Given<N, C, A>,
@@ -43,21 +44,20 @@ pub struct YenPaths<N: Eq + Hash + Drop, C: Cost, IN, FN, FS, A: Allocator = Glo
     alloc: A,
 }
 
-impl<N: Eq + Hash + Drop, C: Cost, IN, FN, FS, A: Allocator> Model
-    for YenPaths<N, C, IN, FN, FS, A> {
+impl<N: Eq + Hash + Drop, C: Cost, F, T, A: Allocator> Model for YenPaths<N, C, F, T, A> {
     ghost use Rattle.std.specs.BinaryHeap.{IsHeap, heap_items};
     ghost use Rattle.pf_yen.specs.Plans.{first_cmp, waiting_plans, chosen_plan};
     ghost use Rattle.pf_yen.specs.Walk.{PathWalk, path_walk_code};
 
-    ghost Value = { PathWalk N C FN FS };
+    ghost Value = { PathWalk N C F T };
 
-    ghost coded = { path_walk_code N.code C.code FN.code FS.code };
+    ghost coded = { path_walk_code N.code C.code F.code T.code };
 
     ghost view = { λ s. record {
       given = s.given;
       refused = s.refused;
       barred = s.barred;
-      successors = s.graph.discovery.successors;
+      successors = s.graph.discovery.source.function;
       success = s.graph.success;
       nodes = s.graph.discovery.nodes.keys;
       known = s.known;
@@ -70,13 +70,12 @@ impl<N: Eq + Hash + Drop, C: Cost, IN, FN, FS, A: Allocator> Model
     ghost invariant = { λ s. IsHeap (first_cmp C.cmp) (heap_items s.plans.waiting) };
 }
 
-impl<N, C, IN, FN, FS, A> Iterator for YenPaths<N, C, IN, FN, FS, A>
+impl<N, C, F, T, A> Iterator for YenPaths<N, C, F, T, A>
 where
     N: Eq + Hash + Clone + Drop,
     C: Cost,
-    IN: IntoIterator<Item = (N, C)>,
-    FN: FnMut(&N) -> IN,
-    FS: FnMut(&N) -> bool,
+    F: EdgeFunction<N, C>,
+    T: NodeTest<N>,
     A: Allocator + Copy,
 {
     type Item = Result<(Vec<N, A>, C), PathError>;
@@ -84,19 +83,19 @@ where
     ghost remaining = { λ s. at_most (most_items s) };
 
     ghost can_next = { λ s. IsLawfulClone N.eq N.is_clone × ((edges : N → List (N × ℤ)) × (start : N) × (test : N → Bool)
-        × IsPathWalk N.eq C.value edges start test C.fits (Searches N.eq C.value IN.into_iter_gives IN.IntoIter.can_next IN.IntoIter.remaining IN.IntoIter.next_gives FN.FnMut FS.FnMut) s) };
+        × IsPathWalk N.eq C.value edges start test C.fits F.answers T.answers s) };
 
     ghost next_gives = { λ s r t. (edges : N → List (N × ℤ)) (start : N) (test : N → Bool)
-        → IsPathWalk N.eq C.value edges start test C.fits (Searches N.eq C.value IN.into_iter_gives IN.IntoIter.can_next IN.IntoIter.remaining IN.IntoIter.next_gives FN.FnMut FS.FnMut) s
-        → IsPathWalk N.eq C.value edges start test C.fits (Searches N.eq C.value IN.into_iter_gives IN.IntoIter.can_next IN.IntoIter.remaining IN.IntoIter.next_gives FN.FnMut FS.FnMut) t
+        → IsPathWalk N.eq C.value edges start test C.fits F.answers T.answers s
+        → IsPathWalk N.eq C.value edges start test C.fits F.answers T.answers t
         × PathStep N.eq C.value edges start test C.fits s r t
         × StepKeepsBar s r t };
 
     fn next(&mut self) -> Option<Result<(Vec<N, A>, C), PathError>>
-        requires { ⟦<YenPaths<N, C, IN, FN, FS, A> as Iterator>⟧.can_next self.old }
-        ensures steps { ⟦<YenPaths<N, C, IN, FN, FS, A> as Iterator>⟧.next_gives self.old result self.new }
-        ensures goes { MakesProgress ⟦<YenPaths<N, C, IN, FN, FS, A> as Iterator>⟧.can_next ⟦<YenPaths<N, C, IN, FN, FS, A> as Iterator>⟧.remaining self.old result self.new }
-        ensures again { ⟦<YenPaths<N, C, IN, FN, FS, A> as Iterator>⟧.can_next self.new }
+        requires { ⟦<YenPaths<N, C, F, T, A> as Iterator>⟧.can_next self.old }
+        ensures steps { ⟦<YenPaths<N, C, F, T, A> as Iterator>⟧.next_gives self.old result self.new }
+        ensures goes { MakesProgress ⟦<YenPaths<N, C, F, T, A> as Iterator>⟧.can_next ⟦<YenPaths<N, C, F, T, A> as Iterator>⟧.remaining self.old result self.new }
+        ensures again { ⟦<YenPaths<N, C, F, T, A> as Iterator>⟧.can_next self.new }
     {
         if self.refused {
             return None;
@@ -107,13 +106,12 @@ where
     }
 }
 
-impl<N, C, IN, FN, FS, A> YenPaths<N, C, IN, FN, FS, A>
+impl<N, C, F, T, A> YenPaths<N, C, F, T, A>
 where
     N: Eq + Hash + Clone + Drop,
     C: Cost,
-    IN: IntoIterator<Item = (N, C)>,
-    FN: FnMut(&N) -> IN,
-    FS: FnMut(&N) -> bool,
+    F: EdgeFunction<N, C>,
+    T: NodeTest<N>,
     A: Allocator + Copy,
 {
     /// Lets the next call of `next` try again the step that was refused. Where no step was refused
@@ -122,8 +120,8 @@ where
     pub fn resume(&mut self)
         ensures lowered { self.new ≡ record self.old { refused = false } }
         ensures graph { (edges : N → List (N × ℤ)) (start : N) (test : N → Bool)
-            → IsPathWalk N.eq C.value edges start test C.fits (Searches N.eq C.value IN.into_iter_gives IN.IntoIter.can_next IN.IntoIter.remaining IN.IntoIter.next_gives FN.FnMut FS.FnMut) self.old
-            → IsPathWalk N.eq C.value edges start test C.fits (Searches N.eq C.value IN.into_iter_gives IN.IntoIter.can_next IN.IntoIter.remaining IN.IntoIter.next_gives FN.FnMut FS.FnMut) self.new }
+            → IsPathWalk N.eq C.value edges start test C.fits F.answers T.answers self.old
+            → IsPathWalk N.eq C.value edges start test C.fits F.answers T.answers self.new }
     {
         self.refused = false;
     }
@@ -131,12 +129,12 @@ where
     /// Learns of the graph, unless a path was looked for before.
     fn learn_graph(&mut self) -> Result<(), PathError>
         requires walk { (edges : N → List (N × ℤ)) × (start : N) × (test : N → Bool)
-            × IsPathWalk N.eq C.value edges start test C.fits (Searches N.eq C.value IN.into_iter_gives IN.IntoIter.can_next IN.IntoIter.remaining IN.IntoIter.next_gives FN.FnMut FS.FnMut) self.old }
+            × IsPathWalk N.eq C.value edges start test C.fits F.answers T.answers self.old }
         ensures walk { (edges : N → List (N × ℤ)) (start : N) (test : N → Bool)
-            → IsPathWalk N.eq C.value edges start test C.fits (Searches N.eq C.value IN.into_iter_gives IN.IntoIter.can_next IN.IntoIter.remaining IN.IntoIter.next_gives FN.FnMut FS.FnMut) self.old
-            → IsPathWalk N.eq C.value edges start test C.fits (Searches N.eq C.value IN.into_iter_gives IN.IntoIter.can_next IN.IntoIter.remaining IN.IntoIter.next_gives FN.FnMut FS.FnMut) self.new }
+            → IsPathWalk N.eq C.value edges start test C.fits F.answers T.answers self.old
+            → IsPathWalk N.eq C.value edges start test C.fits F.answers T.answers self.new }
         ensures known { (edges : N → List (N × ℤ)) (start : N) (test : N → Bool)
-            → IsPathWalk N.eq C.value edges start test C.fits (Searches N.eq C.value IN.into_iter_gives IN.IntoIter.can_next IN.IntoIter.remaining IN.IntoIter.next_gives FN.FnMut FS.FnMut) self.old
+            → IsPathWalk N.eq C.value edges start test C.fits F.answers T.answers self.old
             → OnOk result ((length self.new.nodes ≤ length self.new.known.rows) × (length self.new.known.rows < 2 ^ 64)) }
         ensures ended { IsEnded self.old → IsOkAnd result (λ _. IsEnded self.new) }
         ensures given { self.new.given ≡ self.old.given }
@@ -154,20 +152,17 @@ where
     /// cost overflow, the walk notes it.
     fn choose(&mut self) -> Result<(), PathError>
         requires walk { (edges : N → List (N × ℤ)) × (start : N) × (test : N → Bool)
-            × IsPathWalk N.eq C.value edges start test C.fits (Searches N.eq C.value IN.into_iter_gives IN.IntoIter.can_next IN.IntoIter.remaining IN.IntoIter.next_gives FN.FnMut FS.FnMut) self.old }
+            × IsPathWalk N.eq C.value edges start test C.fits F.answers T.answers self.old }
         requires known { (length self.old.nodes ≤ length self.old.known.rows) × (length self.old.known.rows < 2 ^ 64) }
         requires free { ¬ (IsBarred self.old) }
         ensures walk { (edges : N → List (N × ℤ)) (start : N) (test : N → Bool)
-            → IsPathWalk N.eq C.value edges start test C.fits (Searches N.eq C.value IN.into_iter_gives IN.IntoIter.can_next IN.IntoIter.remaining IN.IntoIter.next_gives FN.FnMut FS.FnMut) self.old
-            → IsPathWalk N.eq C.value edges start test C.fits (Searches N.eq C.value IN.into_iter_gives IN.IntoIter.can_next IN.IntoIter.remaining IN.IntoIter.next_gives FN.FnMut FS.FnMut) self.new }
+            → IsPathWalk N.eq C.value edges start test C.fits F.answers T.answers self.old
+            → IsPathWalk N.eq C.value edges start test C.fits F.answers T.answers self.new × IfErr result (RefusedFor N.eq edges start test C.value C.fits self.old.given) }
         ensures given { self.new.given ≡ self.old.given }
         ensures same { self.new.refused ≡ self.old.refused }
         ensures begun { OnOk result ((self.new.has_begun ≡ true) × (self.new.is_given ≡ false)) }
         ensures none { OnOk result (self.new.chosen ≡ None → self.new.waiting ≡ []) }
         ensures ended { IsEnded self.old → IsOkAnd result (λ _. IsEnded self.new) }
-        ensures refused { (edges : N → List (N × ℤ)) (start : N) (test : N → Bool)
-            → IsPathWalk N.eq C.value edges start test C.fits (Searches N.eq C.value IN.into_iter_gives IN.IntoIter.can_next IN.IntoIter.remaining IN.IntoIter.next_gives FN.FnMut FS.FnMut) self.old
-            → IfErr result (RefusedFor N.eq edges start test C.value C.fits self.old.given) }
         ensures bars { TurnKeepsBar self.old result self.new }
     {
         let chosen = self.plans.choose(self.alloc, &self.known);
@@ -179,13 +174,13 @@ where
     fn give(&mut self) -> Result<Option<(Vec<N, A>, C)>, PathError>
         requires clones { IsLawfulClone N.eq N.is_clone }
         requires walk { (edges : N → List (N × ℤ)) × (start : N) × (test : N → Bool)
-            × IsPathWalk N.eq C.value edges start test C.fits (Searches N.eq C.value IN.into_iter_gives IN.IntoIter.can_next IN.IntoIter.remaining IN.IntoIter.next_gives FN.FnMut FS.FnMut) self.old }
+            × IsPathWalk N.eq C.value edges start test C.fits F.answers T.answers self.old }
         requires ready { (self.old.has_begun ≡ true) × (self.old.is_given ≡ false) }
         requires none { self.old.chosen ≡ None → self.old.waiting ≡ [] }
         requires free { ¬ (IsBarred self.old) }
         ensures steps { (edges : N → List (N × ℤ)) (start : N) (test : N → Bool)
-            → IsPathWalk N.eq C.value edges start test C.fits (Searches N.eq C.value IN.into_iter_gives IN.IntoIter.can_next IN.IntoIter.remaining IN.IntoIter.next_gives FN.FnMut FS.FnMut) self.old
-            → IsPathWalk N.eq C.value edges start test C.fits (Searches N.eq C.value IN.into_iter_gives IN.IntoIter.can_next IN.IntoIter.remaining IN.IntoIter.next_gives FN.FnMut FS.FnMut) self.new × PathTurn N.eq C.value edges start test C.fits self.old result self.new }
+            → IsPathWalk N.eq C.value edges start test C.fits F.answers T.answers self.old
+            → IsPathWalk N.eq C.value edges start test C.fits F.answers T.answers self.new × PathTurn N.eq C.value edges start test C.fits self.old result self.new }
         ensures bars { TurnKeepsBar self.old result self.new }
         ensures same { self.new.refused ≡ self.old.refused }
     {
@@ -203,10 +198,10 @@ where
     pub(crate) fn step(&mut self) -> Result<Option<(Vec<N, A>, C)>, PathError>
         requires clones { IsLawfulClone N.eq N.is_clone }
         requires walk { (edges : N → List (N × ℤ)) × (start : N) × (test : N → Bool)
-            × IsPathWalk N.eq C.value edges start test C.fits (Searches N.eq C.value IN.into_iter_gives IN.IntoIter.can_next IN.IntoIter.remaining IN.IntoIter.next_gives FN.FnMut FS.FnMut) self.old }
+            × IsPathWalk N.eq C.value edges start test C.fits F.answers T.answers self.old }
         ensures steps { (edges : N → List (N × ℤ)) (start : N) (test : N → Bool)
-            → IsPathWalk N.eq C.value edges start test C.fits (Searches N.eq C.value IN.into_iter_gives IN.IntoIter.can_next IN.IntoIter.remaining IN.IntoIter.next_gives FN.FnMut FS.FnMut) self.old
-            → IsPathWalk N.eq C.value edges start test C.fits (Searches N.eq C.value IN.into_iter_gives IN.IntoIter.can_next IN.IntoIter.remaining IN.IntoIter.next_gives FN.FnMut FS.FnMut) self.new × PathTurn N.eq C.value edges start test C.fits self.old result self.new }
+            → IsPathWalk N.eq C.value edges start test C.fits F.answers T.answers self.old
+            → IsPathWalk N.eq C.value edges start test C.fits F.answers T.answers self.new × PathTurn N.eq C.value edges start test C.fits self.old result self.new }
         ensures bars { TurnKeepsBar self.old result self.new }
         ensures same { self.new.refused ≡ self.old.refused }
     {
@@ -257,7 +252,7 @@ pub fn yen_paths<N, C, IN, FN, FS, A>(
     start: &N,
     successors: FN,
     success: FS,
-) -> Result<YenPaths<N, C, IN, FN, FS, A>, PathError>
+) -> Result<YenPaths<N, C, FN, FS, A>, PathError>
 where
     N: Eq + Hash + Clone + Drop,
     C: Cost,
@@ -269,13 +264,14 @@ where
     ensures begins { IfOk result (λ walk. (walk.given ≡ []) × (walk.refused ≡ false) × ¬ (IsBarred walk) × (walk.successors ≡ successors) × (walk.success ≡ success)) }
     ensures graph { IfOk result (λ walk. (edges : N → List (N × ℤ)) (test : N → Bool)
         → IsWeightedSearch N.eq edges (start.now ∷ []) (⟦<FN as EdgeFunction<N, C>>⟧.answers successors) (⟦<FS as NodeTest<N>>⟧.answers success) test
-        → IsPathWalk N.eq C.value edges start.now test C.fits (Searches N.eq C.value IN.into_iter_gives IN.IntoIter.can_next IN.IntoIter.remaining IN.IntoIter.next_gives FN.FnMut FS.FnMut) walk) }
+        → IsPathWalk N.eq C.value edges start.now test C.fits ⟦<FN as EdgeFunction<N, C>>⟧.answers ⟦<FS as NodeTest<N>>⟧.answers walk) }
     ensures refused { IfErr result (λ e. e ≡ PathError.OutOfMemory) }
 {
     let discovery = Discovery {
         nodes: clone_of(alloc, start)?,
-        successors,
-        form: PhantomData,
+        source: Weighted {
+            function: successors,
+        },
     };
     Ok(YenPaths {
         graph: Tested { discovery, success },

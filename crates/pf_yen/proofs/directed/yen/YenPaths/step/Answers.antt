@@ -1,5 +1,5 @@
-use Rattle.std.proofs.Common.{◌∙◌, refl, sym, ap, inl, true≢false}
-use Rattle.pf_yen.specs.Walk.{PathWalk, IsBarred}
+use Rattle.std.proofs.Common.{◌∙◌, refl, sym, inl, true≢false}
+use Rattle.pf_yen.specs.Walk.{IsBarred}
 use Rattle.pf_yen.proofs.WalkLemmas.{turn_refused, turn_same, bars_refused, bars_without_memory, bars_same}
 use Rattle.pf_yen.proofs.directed.yen.YenPaths.step.Goals as goal
 
@@ -21,12 +21,12 @@ learn_graph-requires g c = record { walk = c.requires.walk }
 pub returns-in_err-learn_graph-clause-steps : goal.returns-in_err-learn_graph-clause-steps
 returns-in_err-learn_graph-clause-steps g c = λ edges start test w.
     let l = c.in_err-learn_graph.ensures in
-    (l.walk edges start test w, turn_refused g.C.Number.value edges start test g.N.PartialEq.eq g.C.Number.fits c.args.self.now c.learn_graph.new.self c.from_residual.result c.in_err-learn_graph.field-0.0 c.from_residual.ensures.1 (inl l.refused) l.given (λ h. l.ended h))
+    (l.walk edges start test w, turn_refused w c.learn_graph.new.self c.from_residual.result c.in_err-learn_graph.field-0.0 c.from_residual.ensures.1 (inl l.refused) l.given (λ h. l.ended h))
 
 pub returns-in_err-learn_graph-clause-bars : goal.returns-in_err-learn_graph-clause-bars
 returns-in_err-learn_graph-clause-bars g c =
     let l = c.in_err-learn_graph.ensures in
-    let free : ¬ (IsBarred c.args.self.now) = λ b. true≢false (sym b ∙ sym (ap (λ (v : PathWalk g.row.N.Denot g.row.C.Denot g.row.FN.Denot g.row.FS.Denot). v.barred) c.self.view_is) ∙ c.if-self.false) in
+    let free : ¬ (IsBarred c.args.self.now) = rw (← c.self.view_is) (λ b. true≢false (sym b ∙ c.if-self.false)) in
     bars_without_memory c.args.self.now c.learn_graph.new.self c.from_residual.result c.in_err-learn_graph.field-0.0 c.from_residual.ensures.1 l.refused free (λ b. free (sym l.bar ∙ b))
 
 pub returns-in_err-learn_graph-clause-same : goal.returns-in_err-learn_graph-clause-same
@@ -43,16 +43,15 @@ choose-requires-clause-known g c =
     c.in_ok-learn_graph.ensures.known r.0 r.1 r.2 r.3
 
 pub choose-requires-clause-free : goal.choose-requires-clause-free
-choose-requires-clause-free g c = λ b.
-    true≢false (sym b ∙ c.in_ok-learn_graph.ensures.bar ∙ sym (ap (λ (v : PathWalk g.row.N.Denot g.row.C.Denot g.row.FN.Denot g.row.FS.Denot). v.barred) c.self.view_is) ∙ c.if-self.false)
+choose-requires-clause-free g c = rw (c.in_ok-learn_graph.ensures.bar, ← c.self.view_is) (λ b. true≢false (sym b ∙ c.if-self.false))
 
 pub returns-in_err-choose-clause-steps : goal.returns-in_err-choose-clause-steps
 returns-in_err-choose-clause-steps g c = λ edges start test w.
     let l = c.in_ok-learn_graph.ensures in
     let e = c.in_err-choose.ensures in
-    let v = l.walk edges start test w in
-    let why = rw l.given at (e.refused edges start test v) in
-    (e.walk edges start test v, turn_refused g.C.Number.value edges start test g.N.PartialEq.eq g.C.Number.fits c.args.self.now c.choose.new.self c.from_residual-in_err-choose.result c.in_err-choose.field-0.0 c.from_residual-in_err-choose.ensures.1 why (e.given ∙ l.given) (λ h. e.ended (l.ended h)))
+    let q = e.walk edges start test (l.walk edges start test w) in
+    let why = rw l.given at q.1 in
+    (q.0, turn_refused w c.choose.new.self c.from_residual-in_err-choose.result c.in_err-choose.field-0.0 c.from_residual-in_err-choose.ensures.1 why (e.given ∙ l.given) (λ h. e.ended (l.ended h)))
 
 pub returns-in_err-choose-clause-bars : goal.returns-in_err-choose-clause-bars
 returns-in_err-choose-clause-bars g c =
@@ -69,7 +68,7 @@ give-requires-clause-clones g c = c.requires.clones
 pub give-requires-clause-walk : goal.give-requires-clause-walk
 give-requires-clause-walk g c =
     let r = c.requires.walk in
-    (r.0, r.1, r.2, c.in_ok-choose.ensures.walk r.0 r.1 r.2 (c.in_ok-learn_graph.ensures.walk r.0 r.1 r.2 r.3))
+    (r.0, r.1, r.2, (c.in_ok-choose.ensures.walk r.0 r.1 r.2 (c.in_ok-learn_graph.ensures.walk r.0 r.1 r.2 r.3)).0)
 
 pub give-requires-clause-ready : goal.give-requires-clause-ready
 give-requires-clause-ready g c = c.in_ok-choose.ensures.begun
@@ -84,8 +83,8 @@ pub returns-clause-steps : goal.returns-clause-steps
 returns-clause-steps g c = λ edges start test w.
     let l = c.in_ok-learn_graph.ensures in
     let e = c.in_ok-choose.ensures in
-    let q = c.give.ensures.steps edges start test (e.walk edges start test (l.walk edges start test w)) in
-    (q.0, turn_same g.C.Number.value edges start test g.N.PartialEq.eq g.C.Number.fits c.args.self.now c.choose.new.self c.give.new.self c.give.result (e.given ∙ l.given) (λ h. e.ended (l.ended h)) q.1)
+    let q = c.give.ensures.steps edges start test (e.walk edges start test (l.walk edges start test w)).0 in
+    (q.0, turn_same w c.choose.new.self c.give.new.self c.give.result (e.given ∙ l.given) (λ h. e.ended (l.ended h)) q.1)
 
 pub returns-clause-bars : goal.returns-clause-bars
 returns-clause-bars g c =
