@@ -38,12 +38,11 @@ pub(crate) fn place_of(nodes: &[usize], cost: u8, all: &[Path]) -> usize {
 }
 
 /// What the calls of `next` tell, with `resume` after each `None`.
-fn steps_of<IN, FN, FS>(walk: &mut YenPaths<usize, u8, IN, FN, FS, Heap<'_>>, all: &[Path]) -> Steps
+fn steps_of<F, T>(walk: &mut YenPaths<usize, u8, F, T, Heap<'_>>, all: &[Path]) -> Steps
 where
-    IN: IntoIterator<Item = (usize, u8)>,
-    FN: FnMut(&usize) -> IN,
-    FS: FnMut(&usize) -> bool,
-    requires { ⟦<YenPaths<usize, u8, IN, FN, FS, Heap<'static>> as Iterator>⟧.can_next walk.old }
+    F: EdgeFunction<usize, u8>,
+    T: NodeTest<usize>,
+    requires { ⟦<YenPaths<usize, u8, F, T, Heap<'static>> as Iterator>⟧.can_next walk.old }
 {
     let mut steps = [None; 8];
     'calls: for call in 0..8usize {

@@ -4,7 +4,7 @@ ghost use Rattle.std.specs.Prelude.{◌≡◌, ◌∷◌, []};
 
 use crate::walks::walked;
 use edge_lists::nodes_after;
-use pf_base::PathError;
+use pf_base::{EdgeFunction, PathError, SuccessorFunction};
 use pf_search::directed::bfs::{BfsReachable, bfs_reach};
 use pf_search::directed::dfs::{DfsReachable, dfs_reach};
 use pf_search::directed::dijkstra::{DijkstraReachable, dijkstra_reach};
@@ -32,13 +32,12 @@ trait Resumable {
     fn low_bound(&self) -> usize;
 }
 
-impl<IN, FN, A> Resumable for BfsReachable<u64, IN, FN, A>
+impl<F, A> Resumable for BfsReachable<u64, F, A>
 where
-    IN: IntoIterator<Item = u64>,
-    FN: FnMut(&u64) -> IN,
+    F: SuccessorFunction<u64>,
     A: Allocator + Copy,
 {
-    ghost goes = { ⟦<BfsReachable<u64, IN, FN, A> as Iterator>⟧.can_next };
+    ghost goes = { ⟦<BfsReachable<u64, F, A> as Iterator>⟧.can_next };
 
     fn step(&mut self) -> Option<Result<Given, PathError>> {
         match self.next()? {
@@ -56,13 +55,12 @@ where
     }
 }
 
-impl<IN, FN, A> Resumable for DfsReachable<u64, IN, FN, A>
+impl<F, A> Resumable for DfsReachable<u64, F, A>
 where
-    IN: IntoIterator<Item = u64>,
-    FN: FnMut(&u64) -> IN,
+    F: SuccessorFunction<u64>,
     A: Allocator + Copy,
 {
-    ghost goes = { ⟦<DfsReachable<u64, IN, FN, A> as Iterator>⟧.can_next };
+    ghost goes = { ⟦<DfsReachable<u64, F, A> as Iterator>⟧.can_next };
 
     fn step(&mut self) -> Option<Result<Given, PathError>> {
         match self.next()? {
@@ -80,13 +78,12 @@ where
     }
 }
 
-impl<IN, FN, A> Resumable for DijkstraReachable<u64, u64, IN, FN, A>
+impl<F, A> Resumable for DijkstraReachable<u64, u64, F, A>
 where
-    IN: IntoIterator<Item = (u64, u64)>,
-    FN: FnMut(&u64) -> IN,
+    F: EdgeFunction<u64, u64>,
     A: Allocator + Copy,
 {
-    ghost goes = { ⟦<DijkstraReachable<u64, u64, IN, FN, A> as Iterator>⟧.can_next };
+    ghost goes = { ⟦<DijkstraReachable<u64, u64, F, A> as Iterator>⟧.can_next };
 
     fn step(&mut self) -> Option<Result<Given, PathError>> {
         match self.next()? {
