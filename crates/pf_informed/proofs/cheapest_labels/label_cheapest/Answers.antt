@@ -70,7 +70,7 @@ turn-requires-clause-graph g c =
     let v = inv.searched r.0 r.1 r.2 r.3 in
     let now = v.0 in
     let told = c.best_with-best.ensures.graph (tested r.0 r.1) (now.explores, now.tested) in
-    (r.0, r.1, r.2, led_grown g.N.PartialEq.eq g.met.N.Eq.laws g.C.Number.value _ _ _ _ _ _ _ r.0 r.1 r.2 _ _ _ _ _ now _ _ _ c.best_with-best.ensures.grows inv.asked told.0 told.1)
+    (r.0, r.1, r.2, led_grown now g.met.N.Eq.laws inv.asked c.best_with-best.new.graph c.best_with-best.ensures.grows told.0 told.1)
 
 pub turns-preserved : goal.turns-preserved
 turns-preserved g c =
@@ -107,7 +107,7 @@ turns-preserved g c =
           let v = inv.searched h test least d in
           let now = v.0 in
           let told = look.graph (tested h test) (now.explores, now.tested) in
-          let led = led_grown eq laws value _ _ _ _ _ _ _ h test least _ _ _ _ _ now _ _ _ look.grows inv.asked told.0 told.1 in
+          let led = led_grown now laws inv.asked c.best_with-best.new.graph look.grows told.0 told.1 in
           let turned = n.graph h test least led in
           let still = informed_still value fits (IsStep eq h) (λ _. false) estimates (length keys) (length between) (StandsFor eq keys) (StandsFor eq between) look.grows look.same labels inv.wide entries v.1 in
           let informed = turned.1 (λ _. false) entries [] (λ x k. refl) left still in (
@@ -119,7 +119,7 @@ turns-preserved g c =
           let now = v.0 in
           let told = look.graph (tested h test) (now.explores, now.tested) in
           let o = look.open none in
-          let led = led_grown eq laws value _ _ _ _ _ _ _ h test least _ _ _ _ _ now _ _ _ look.grows inv.asked told.0 told.1 in
+          let led = led_grown now laws inv.asked c.best_with-best.new.graph look.grows told.0 told.1 in
           let turned = n.graph h test least led in
           let still = informed_still value fits (IsStep eq h) test estimates (length keys) (length between) (StandsFor eq keys) (StandsFor eq between) look.grows look.same labels inv.wide entries (inv.unknown o.0 h test least d) in
           let informed = turned.1 test entries [] (λ x k. o.1 (tested h test) x (now.explores, now.tested) (look.grows.back number x inside k)) left still in
@@ -131,8 +131,8 @@ turns-preserved g c =
             λ start edges test least s d.
                 let v = inv.searched (graph_of start edges) test least d in
                 let now = v.0 in
-                let known_path = goal_path eq laws start edges test now.explores.alike now.costs now.tested.alike value fits (λ x y z. g.C.Number.between_law x y z exact) (g.met.C.Zero.zero_fits_law exact)
-                least now.asked.alike now.admissible keys now.explores.reached now.explores.distinct estimates now.estimated inv.asked (inv.begins start s) labels entries inv.forest (inv.unknown new.0 (graph_of start edges) test least d)
+                let known_path = goal_path eq laws start edges test now.explores.alike now.costs now.same_test value fits (λ x y z. g.C.Number.between_law x y z exact) (g.met.C.Zero.zero_fits_law exact)
+                least now.same_estimate now.admissible keys now.explores.reached now.explores.distinct estimates now.estimated inv.asked (inv.begins start s) labels entries inv.forest (inv.unknown new.0 (graph_of start edges) test least d)
                 number c.in-Some.taken.cost heap t c.in-Some.ensures.queue (subst (λ (q : g.row.C.Denot). fits (value q)) new.1 new.2) inside (λ y k. new.3 (tested (graph_of start edges) test) y (now.explores, now.tested) k) in
                 (known_path.0, subst (λ (q : g.row.C.Denot). IsCheapestGoalPath eq edges (start ∷ []) test known_path.0 (value q)) (sym new.1) known_path.1),
           ));
@@ -165,8 +165,8 @@ returns-in-Some-best g c = record {
         record {
           first = inv.forest.first;
           begins = begins;
-          exact = exact_label eq laws h now.explores.alike value g.C.Number.fits (λ x y z. g.C.Number.between_law x y z exact) (g.met.C.Zero.zero_fits_law exact) test now.tested.alike least now.admissible (no_negative eq laws h now.explores.alike now.costs) keys estimates start begins
-              (led_within eq laws value _ _ _ _ _ _ _ start edges test least keys _ _ _ estimates now inv.asked begins) (led_estimate eq laws value _ _ _ _ _ _ _ start edges test least keys _ _ _ estimates now inv.asked begins) (led_asked eq laws value _ _ _ _ _ _ _ start edges test least keys _ _ _ estimates now inv.asked begins)
+          exact = exact_label eq laws h now.explores.alike value g.C.Number.fits (λ x y z. g.C.Number.between_law x y z exact) (g.met.C.Zero.zero_fits_law exact) test now.same_test least now.admissible (no_negative eq laws h now.explores.alike now.costs) keys estimates start begins
+              (led_within laws now inv.asked begins) (led_estimate laws now inv.asked begins) (led_asked laws now inv.asked begins)
               c.turns.search.labels.items (heap_items c.turns.search.queue) inv.forest (length keys) v.1 best (rw is at c.in_default.ensures.taken) known.0 (low_of eq laws start edges test now.explores.alike (value best) cheapest.best);
           path = path;
         },
@@ -185,7 +185,7 @@ returns-then-has_all_labels g c = record {
       let v = inv.searched (graph_of start edges) test least d in
       let unknown = c.in_default-best.is in
       let none_waits : (k : ℕ) (l : Label g.row.C.Denot) → HasLabel c.turns.search.labels.items k l → ¬ (IsWaiting value (heap_items c.turns.search.queue) k l) = λ k l at w. let b = c.in_default.ensures.taken k l at w in no_best b.0 (sym unknown ∙ b.1) in
-      led_none g.N.PartialEq.eq g.met.N.Eq.laws value _ _ _ _ _ _ _ start edges test least _ _ _ _ _ v.0 inv.asked (inv.begins start s) g.C.Number.fits (λ x y z. g.C.Number.between_law x y z exact) (g.met.C.Zero.zero_fits_law exact)
+      led_none g.met.N.Eq.laws v.0 inv.asked (inv.begins start s) g.C.Number.fits (λ x y z. g.C.Number.between_law x y z exact) (g.met.C.Zero.zero_fits_law exact)
       c.turns.search.labels.items inv.wide (heap_items c.turns.search.queue) inv.forest (inv.unknown unknown (graph_of start edges) test least d) none_waits (c.has_all_labels.ensures.0 c.if-has_all_labels.true);
   overflow = λ start edges test least s d e. absurd (ok_is_no_error _ _ _ refl e);
   errors = tt;
@@ -202,7 +202,7 @@ returns-else-has_all_labels g c = record {
       let v = inv.searched (graph_of start edges) test least d in
       let unknown = c.in_default-best.is in
       let none_waits : (k : ℕ) (l : Label g.row.C.Denot) → HasLabel c.turns.search.labels.items k l → ¬ (IsWaiting value (heap_items c.turns.search.queue) k l) = λ k l at w. let b = c.in_default.ensures.taken k l at w in no_best b.0 (sym unknown ∙ b.1) in
-      led_past g.N.PartialEq.eq g.met.N.Eq.laws value _ _ _ _ _ _ _ start edges test least _ _ _ _ _ v.0 inv.asked (inv.begins start s) g.C.Number.fits (λ x y z. g.C.Number.between_law x y z exact) (g.met.C.Zero.zero_fits_law exact)
+      led_past g.met.N.Eq.laws v.0 inv.asked (inv.begins start s) g.C.Number.fits (λ x y z. g.C.Number.between_law x y z exact) (g.met.C.Zero.zero_fits_law exact)
       c.turns.search.labels.items inv.wide (heap_items c.turns.search.queue) inv.forest (inv.unknown unknown (graph_of start edges) test least d) none_waits (λ a. true≢false (sym (c.has_all_labels.ensures.1 a) ∙ c.if-has_all_labels.false));
   errors = inr refl;
 }

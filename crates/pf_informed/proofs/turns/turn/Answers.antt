@@ -1,7 +1,6 @@
 use Rattle.std.proofs.Common.{◌<◌, ◌≤◌, ◌∙◌, ℕ, Bool, sym, ap, subst, length}
 use Rattle.std.specs.Prelude.{◌++◌}
 use Rattle.std.specs.BinaryHeap.{heap_items}
-use Rattle.pf_base.specs.Edges.{InReach}
 use Rattle.pf_core.specs.Nodes.{NodeGraph, TestedGraph, StandsFor, IsStep}
 use Rattle.pf_core.proofs.LabelLemmas.{HasLabel-inside}
 use Rattle.pf_core.proofs.ListLemmas.{on_ok}
@@ -9,7 +8,7 @@ use Rattle.pf_core.proofs.UnitLemmas.{begins_all}
 use Rattle.pf_core.proofs.WalkLemmas.{no_negative}
 use Rattle.pf_informed.proofs.GrowingLemmas.{follows_beside, queue_beside}
 use Rattle.pf_informed.proofs.InformedLemmas.{queue_kept, informed_opened}
-use Rattle.pf_informed.proofs.KnownLemmas.{estimated_grown}
+use Rattle.pf_informed.proofs.LedLemmas.{led_grown, led_more}
 use Rattle.pf_informed.proofs.Outcomes.{refused_as, on_refused}
 use Rattle.pf_informed.proofs.TightLemmas.{both_ok}
 use Rattle.pf_informed.proofs.Bounds.{at_most_equal}
@@ -34,7 +33,7 @@ ask-requires-clause-graph g c =
     let r = c.requires.graph in
     let d = r.3 in
     let x = c.in_ok-expand.ensures.graph (tested r.0 r.1) (d.explores, d.tested) in
-    (g.C.Number.value, r.0, r.2, d.asked, x.0.reached)
+    (r.0, r.2, d.asked, x.0.reached)
 
 pub follow-requires-clause-ends : goal.follow-requires-clause-ends
 follow-requires-clause-ends g c = λ j d m.
@@ -93,16 +92,8 @@ returns g c =
           let grown = c.in_ok-expand.ensures.grows in
           let row = c.in_ok-expand.ensures.listed in
           let x = c.in_ok-expand.ensures.graph (tested h test) (d.explores, d.tested) in
-          let a = c.in_ok-ask.ensures.graph value h least d.asked x.0.reached in
-          let before = estimated_grown eq laws value least (InReach eq h.edges h.starts) d.asked.alike old keys d.explores.reached grown estimates c.requires.asked d.estimated in (
-            record {
-              explores = x.0;
-              tested = x.1;
-              asked = a.0;
-              estimated = rw f.estimates (a.1 before);
-              admissible = d.admissible;
-              costs = d.costs;
-            },
+          let a = c.in_ok-ask.ensures.graph h least d.asked x.0.reached in (
+            rw f.estimates (led_more (led_grown d laws c.requires.asked c.expand.new.self grown x.0 x.1) a.0 a.1),
             λ passes entries rest fails left i.
                 let someone = begins_all eq laws old number (subst (λ (n : ℕ). number < n) c.requires.wide (HasLabel-inside labels number l.0 l.1)) in
                 let followed = rw (f.estimates, row.1) at (w l.0 l.1) in

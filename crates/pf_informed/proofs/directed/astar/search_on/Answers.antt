@@ -71,9 +71,9 @@ returns-then-is_goal g c = record {
       let keys = c.turns.graph.discovery.nodes.keys in
       let begins = inv.begins start s in
       let nodes = c.in_ok-nodes.ensures.nodes in
-      let above = led_above eq laws g.C.Number.value _ _ _ _ _ _ _ start edges test least keys _ _ _ c.turns.search.estimates.items now inv.asked begins g.C.Number.fits (λ x y z. g.C.Number.between_law x y z exact) (g.met.C.Zero.zero_fits_law exact)
+      let above = led_above laws now inv.asked begins g.C.Number.fits (λ x y z. g.C.Number.between_law x y z exact) (g.met.C.Zero.zero_fits_law exact)
       labels inv.wide entries inv.forest v.1 c.in-Some.taken.number c.in-Some.taken.cost (heap_items c.take_least.new.queue) t c.in-Some.ensures.queue c.known.ensures in
-      led_best eq laws g.C.Number.value _ _ _ _ _ _ _ start edges test least keys _ _ _ c.turns.search.estimates.items now inv.asked begins g.C.Number.fits (λ x y z. g.C.Number.between_law x y z exact) (g.met.C.Zero.zero_fits_law exact)
+      led_best laws now inv.asked begins g.C.Number.fits (λ x y z. g.C.Number.between_law x y z exact) (g.met.C.Zero.zero_fits_law exact)
       labels inv.wide entries inv.forest v.1 c.in-Some.taken.number t.label t.at nodes.0 nodes.1 (λ y k. sym (told.1 y k) ∙ c.if-is_goal.true) above
       c.is_goal.new.self.discovery.nodes.keys c.is_goal.ensures.grows after.distinct c.in_ok-nodes.nodes.items nodes.2 (g.C.Number.value c.in-Some.taken.cost) t.same;
   overflow = λ start edges test least s d e. absurd (ok_is_no_error _ _ _ refl e);
@@ -98,7 +98,7 @@ turn-requires-clause-graph g c =
     let v = inv.searched r.0 r.1 r.2 r.3 in
     let now = v.0 in
     let told = c.is_goal.ensures.graph (tested r.0 r.1) (now.explores, now.tested) in
-    (r.0, r.1, r.2, led_grown g.N.PartialEq.eq g.met.N.Eq.laws g.C.Number.value _ _ _ _ _ _ _ r.0 r.1 r.2 _ _ _ _ _ now _ _ _ c.is_goal.ensures.grows inv.asked told.0.0 told.0.1)
+    (r.0, r.1, r.2, led_grown now g.met.N.Eq.laws inv.asked c.is_goal.new.self c.is_goal.ensures.grows told.0.0 told.0.1)
 
 pub turns-preserved : goal.turns-preserved
 turns-preserved g c =
@@ -129,7 +129,7 @@ turns-preserved g c =
           let v = inv.searched h test least d in
           let now = v.0 in
           let told = goal.graph (tested h test) (now.explores, now.tested) in
-          let led = led_grown eq laws value _ _ _ _ _ _ _ h test least _ _ _ _ _ now _ _ _ goal.grows inv.asked told.0.0 told.0.1 in
+          let led = led_grown now laws inv.asked c.is_goal.new.self goal.grows told.0.0 told.0.1 in
           let turned = n.graph h test least led in
           let still = informed_still value g.C.Number.fits (IsStep eq h) test estimates (length keys) (length between) (StandsFor eq keys) (StandsFor eq between) goal.grows goal.same labels inv.wide (heap_items c.turns.search.queue) v.1 in
           let left = subst (λ (es : List (Entry g.row.C.Denot)). OthersWait value labels c.in-Some.taken.number (heap_items c.turns.search.queue) es) (sym (append-nil heap)) t.left in
@@ -146,7 +146,7 @@ returns-then-has_all_labels g c = record {
       let exact = g.met.C.Integral.exact_law in
       let inv = c.turns.invariant in
       let v = inv.searched (graph_of start edges) test least d in
-      led_none g.N.PartialEq.eq g.met.N.Eq.laws g.C.Number.value _ _ _ _ _ _ _ start edges test least _ _ _ _ _ v.0 inv.asked (inv.begins start s) g.C.Number.fits (λ x y z. g.C.Number.between_law x y z exact) (g.met.C.Zero.zero_fits_law exact)
+      led_none g.met.N.Eq.laws v.0 inv.asked (inv.begins start s) g.C.Number.fits (λ x y z. g.C.Number.between_law x y z exact) (g.met.C.Zero.zero_fits_law exact)
       c.turns.search.labels.items inv.wide (heap_items c.turns.search.queue) inv.forest v.1 c.in_default.ensures.taken (c.has_all_labels.ensures.0 c.if-has_all_labels.true);
   overflow = λ start edges test least s d e. absurd (ok_is_no_error _ _ _ refl e);
   errors = tt;
@@ -159,7 +159,7 @@ returns-else-has_all_labels g c = record {
       let exact = g.met.C.Integral.exact_law in
       let inv = c.turns.invariant in
       let v = inv.searched (graph_of start edges) test least d in
-      led_past g.N.PartialEq.eq g.met.N.Eq.laws g.C.Number.value _ _ _ _ _ _ _ start edges test least _ _ _ _ _ v.0 inv.asked (inv.begins start s) g.C.Number.fits (λ x y z. g.C.Number.between_law x y z exact) (g.met.C.Zero.zero_fits_law exact)
+      led_past g.met.N.Eq.laws v.0 inv.asked (inv.begins start s) g.C.Number.fits (λ x y z. g.C.Number.between_law x y z exact) (g.met.C.Zero.zero_fits_law exact)
       c.turns.search.labels.items inv.wide (heap_items c.turns.search.queue) inv.forest v.1 c.in_default.ensures.taken (λ a. true≢false (sym (c.has_all_labels.ensures.1 a) ∙ c.if-has_all_labels.false));
   errors = inr refl;
 }

@@ -11,10 +11,7 @@ abbrev pub invariant-turns : goal.invariant-turns
 invariant-turns g l =
     let eq = g.N.PartialEq.eq in
     let value = g.C.Number.value in
-    let becomes = g.IN.IntoIterator.into_iter_gives in
-    let can = g.IN.IntoIter.Iterator.can_next in
-    let left = g.IN.IntoIter.Iterator.remaining in
-    let steps = g.IN.IntoIter.Iterator.next_gives in
+    let led = IsLed eq value g.S.EdgeSource.answers g.T.NodeTest.answers g.H.EstimateFunction.answers in
     let first = l.fn.graph.discovery.nodes.keys in
     let keys = l.graph.discovery.nodes.keys in
     let labels = l.search.labels.items in
@@ -28,8 +25,8 @@ invariant-turns g l =
       asked : length known ≡ length keys;
       begins : (x : g.row.N.Denot) → StandsFor eq first 0 x → StandsFor eq keys 0 x;
       searched : (h : NodeGraph g.row.N.Denot) (test : g.row.N.Denot → Bool) (least : g.row.N.Denot → ℤ)
-          → IsLed eq value becomes can left steps g.FN.FnMut g.FS.FnMut g.FH.FnMut h test least first l.fn.graph.discovery.successors l.fn.graph.success l.fn.estimate l.fn.search.estimates.items
-          → IsLed eq value becomes can left steps g.FN.FnMut g.FS.FnMut g.FH.FnMut h test least keys l.graph.discovery.successors l.graph.success l.estimate known
+          → led h test least l.fn.graph l.fn.estimate l.fn.search.estimates.items
+          → led h test least l.graph l.estimate known
           × IsInformed value g.C.Number.fits known (IsStep eq h) test (StandsFor eq keys) labels entries (length keys);
     }
 

@@ -56,9 +56,9 @@ turns-init g c =
           let h = graph_of start edges in
           let now = (b.graph h test least d).0 in
           let st = StandsFor-same eq laws keys 0 start s0 s e in
-          let within = led_within eq laws value _ _ _ _ _ _ _ start edges test least keys _ _ _ kept now asked s in
+          let within = led_within laws now asked s in
           let low = never_above eq laws h now.explores.alike test least now.admissible s0 (within 0 s0 st) u z goes good in
-          let is = led_estimate eq laws value _ _ _ _ _ _ _ start edges test least keys _ _ _ kept now asked s 0 s0 c.index.result.now st estimate in
+          let is = led_estimate laws now asked s 0 s0 c.index.result.now st estimate in
           subst (λ (v : ℤ). v ≤ℤ z) (sym is) low;
     }
 
@@ -106,9 +106,9 @@ returns-then-is_goal g c = record {
       let nodes = c.in_ok-nodes.ensures.nodes in
       let between = λ (x y z : ℤ). g.C.Number.between_law x y z exact in
       let nothing = g.met.C.Zero.zero_fits_law exact in
-      let low = led_limit eq laws value _ _ _ _ _ _ _ start edges test least keys _ _ _ estimates now inv.asked begins fits between nothing labels inv.wide entries inv.forest v.1 c.turns.lists.limit c.take.new.self.limit c.in_ok-taken.ensures.limit (inv.below start edges test least s d) in
-      let above = led_in_limit eq laws value _ _ _ _ _ _ _ start edges test least keys _ _ _ estimates now inv.asked begins fits between nothing labels inv.wide entries inv.forest v.1 number c.in-Some.taken.cost c.take.new.self.limit (heap_items c.take.new.queue ++ listed c.take.new.self) t low in
-      led_best eq laws value _ _ _ _ _ _ _ start edges test least keys _ _ _ estimates now inv.asked begins fits between nothing
+      let low = led_limit laws now inv.asked begins fits between nothing labels inv.wide entries inv.forest v.1 c.turns.lists.limit c.take.new.self.limit c.in_ok-taken.ensures.limit (inv.below start edges test least s d) in
+      let above = led_in_limit laws now inv.asked begins fits between nothing labels inv.wide entries inv.forest v.1 number c.in-Some.taken.cost c.take.new.self.limit (heap_items c.take.new.queue ++ listed c.take.new.self) t low in
+      led_best laws now inv.asked begins fits between nothing
       labels inv.wide entries inv.forest v.1 number t.label t.at nodes.0 nodes.1 (λ y k. sym (told.1 y k) ∙ c.if-is_goal.true) above
       c.is_goal.new.self.discovery.nodes.keys c.is_goal.ensures.grows after.distinct c.in_ok-nodes.nodes.items nodes.2 (value c.in-Some.taken.cost) t.same;
   overflow = λ start edges test least s d e. absurd (ok_is_no_error _ _ _ refl e);
@@ -139,7 +139,7 @@ turn-requires-clause-graph g c =
     let v = inv.searched r.0 r.1 r.2 r.3 in
     let now = v.0 in
     let told = c.is_goal.ensures.graph (tested r.0 r.1) (now.explores, now.tested) in
-    (r.0, r.1, r.2, led_grown g.N.PartialEq.eq g.met.N.Eq.laws g.C.Number.value _ _ _ _ _ _ _ r.0 r.1 r.2 _ _ _ _ _ now _ _ _ c.is_goal.ensures.grows inv.asked told.0.0 told.0.1)
+    (r.0, r.1, r.2, led_grown now g.met.N.Eq.laws inv.asked c.is_goal.new.self c.is_goal.ensures.grows told.0.0 told.0.1)
 
 pub turns-preserved : goal.turns-preserved
 turns-preserved g c =
@@ -172,7 +172,7 @@ turns-preserved g c =
           let v = inv.searched h test least d in
           let now = v.0 in
           let told = goal.graph (tested h test) (now.explores, now.tested) in
-          let led = led_grown eq laws value _ _ _ _ _ _ _ h test least _ _ _ _ _ now _ _ _ goal.grows inv.asked told.0.0 told.0.1 in
+          let led = led_grown now laws inv.asked c.is_goal.new.self goal.grows told.0.0 told.0.1 in
           let turned = n.graph h test least led in
           let still = informed_still value fits (IsStep eq h) test estimates (length keys) (length between) (StandsFor eq keys) (StandsFor eq between) goal.grows goal.same labels inv.wide entries v.1 in
           let fails : (x : g.row.N.Denot) → StandsFor eq between number x → test x ≡ false = λ x k. sym (told.1 x (goal.grows.back number x inside k)) ∙ c.if-is_goal.false in
@@ -182,7 +182,7 @@ turns-preserved g c =
           let v = inv.searched h test least d in
           let now = v.0 in
           let begins = inv.begins start s in
-          led_limit eq laws value _ _ _ _ _ _ _ start edges test least keys _ _ _ estimates now inv.asked begins fits (λ x y z. g.C.Number.between_law x y z exact) (g.met.C.Zero.zero_fits_law exact)
+          led_limit laws now inv.asked begins fits (λ x y z. g.C.Number.between_law x y z exact) (g.met.C.Zero.zero_fits_law exact)
           labels inv.wide entries inv.forest v.1 c.turns.lists.limit c.take.new.self.limit c.in_ok-taken.ensures.limit (inv.below start edges test least s d);
     }
 
@@ -192,7 +192,7 @@ returns-then-has_all_labels g c = record {
       let exact = g.met.C.Integral.exact_law in
       let inv = c.turns.invariant in
       let v = inv.searched (graph_of start edges) test least d in
-      led_none g.N.PartialEq.eq g.met.N.Eq.laws g.C.Number.value _ _ _ _ _ _ _ start edges test least _ _ _ _ _ v.0 inv.asked (inv.begins start s) g.C.Number.fits (λ x y z. g.C.Number.between_law x y z exact) (g.met.C.Zero.zero_fits_law exact)
+      led_none g.met.N.Eq.laws v.0 inv.asked (inv.begins start s) g.C.Number.fits (λ x y z. g.C.Number.between_law x y z exact) (g.met.C.Zero.zero_fits_law exact)
       c.turns.search.labels.items inv.wide (heap_items c.turns.search.queue ++ listed c.turns.lists) inv.forest v.1 (MatchOption-at_none _ _ c.in_default.is c.in_ok-taken.ensures.taken) (c.has_all_labels.ensures.0 c.if-has_all_labels.true);
   overflow = λ start edges test least s d e. absurd (ok_is_no_error _ _ _ refl e);
   errors = tt;
@@ -205,7 +205,7 @@ returns-else-has_all_labels g c = record {
       let exact = g.met.C.Integral.exact_law in
       let inv = c.turns.invariant in
       let v = inv.searched (graph_of start edges) test least d in
-      led_past g.N.PartialEq.eq g.met.N.Eq.laws g.C.Number.value _ _ _ _ _ _ _ start edges test least _ _ _ _ _ v.0 inv.asked (inv.begins start s) g.C.Number.fits (λ x y z. g.C.Number.between_law x y z exact) (g.met.C.Zero.zero_fits_law exact)
+      led_past g.met.N.Eq.laws v.0 inv.asked (inv.begins start s) g.C.Number.fits (λ x y z. g.C.Number.between_law x y z exact) (g.met.C.Zero.zero_fits_law exact)
       c.turns.search.labels.items inv.wide (heap_items c.turns.search.queue ++ listed c.turns.lists) inv.forest v.1 (MatchOption-at_none _ _ c.in_default.is c.in_ok-taken.ensures.taken) (λ a. true≢false (sym (c.has_all_labels.ensures.1 a) ∙ c.if-has_all_labels.false));
   errors = inr refl;
 }
