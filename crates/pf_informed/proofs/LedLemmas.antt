@@ -13,7 +13,7 @@ use Rattle.pf_core.specs.declared.labels.Label.{Label}
 use Rattle.pf_core.specs.declared.source.Weighted.{Weighted}
 use Rattle.pf_core.specs.declared.tested.Tested.{Tested}
 use Rattle.pf_core.specs.Labels.{Labels, HasLabel}
-use Rattle.pf_core.specs.Nodes.{NodeGraph, Explores}
+use Rattle.pf_core.specs.Nodes.{NodeGraph, TestedGraph, Explores}
 use Rattle.pf_core.specs.Numbered.{Grows}
 use Rattle.pf_core.specs.Sources.{AnswersEdges}
 use Rattle.pf_core.proofs.LabelLemmas.{HasLabel-inside}
@@ -25,6 +25,12 @@ use Rattle.pf_informed.specs.Internal.Informed.{IsClosed, IsFoundFrom, IsInforme
 use Rattle.pf_informed.specs.Internal.Led.{IsLed, FindsMore}
 use Rattle.pf_informed.specs.Internal.Waiting.{Entry, IsWaiting}
 use Rattle.pf_informed.proofs.KnownLemmas.{estimated_grown}
+
+abbrev pub graph_of : {N : Type 0} → N → (N → List (N × ℤ)) → NodeGraph N
+graph_of start edges = record { starts = start ∷ []; edges = edges }
+
+abbrev pub with_test : {N : Type 0} → NodeGraph N → (N → Bool) → TestedGraph N
+with_test g test = record { graph = g; test = test }
 
 -- the same numbers stand for what they stood for
 module _ {X C : Type 0} (value : C → ℤ) (fits : ℤ → Type 0) (step : X → ℤ → X → Type 0) (passes : X → Bool) (estimates : List C) (found found' : ℕ) (stands stands' : ℕ → X → Type 0) (grow : Grows found found' stands stands') (same : found' ≡ found) (labels : Labels C) (inside : length labels ≡ found) (entries : List (Entry C)) where

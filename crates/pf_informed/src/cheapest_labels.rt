@@ -10,7 +10,7 @@ ghost use Rattle.pf_core.specs.Nodes.{NodeGraph, StandsFor};
 ghost use Rattle.pf_core.specs.Numbered.{Grows};
 ghost use Rattle.pf_informed.specs.Estimates.{IsPastRangeWithEstimate, NoGoalWalkFits};
 ghost use Rattle.pf_informed.specs.Internal.Labelled.{IsPastBest, IsLabelled};
-ghost use Rattle.pf_informed.specs.Internal.Led.{IsLed};
+ghost use Rattle.pf_informed.specs.Internal.Led.{IsLed, IsNew};
 ghost use Rattle.pf_informed.specs.Internal.Waiting.{entry_cmp, IsWaiting, IsQueue, IsTaken};
 
 use crate::functions::EstimateFunction;
@@ -105,10 +105,7 @@ where
     H: EstimateFunction<N, C>,
     A: Allocator + Copy,
     requires one { length graph.old.discovery.nodes.keys ≡ 1 }
-    requires unlabelled { search.old.labels.items ≡ [] }
-    requires unasked { search.old.estimates.items ≡ [] }
-    requires nothing_waits { heap_items search.old.queue ≡ [] }
-    requires ordered { IsHeap (entry_cmp C.cmp) (heap_items search.old.queue) }
+    requires new { IsNew C.cmp search.old }
     requires graph { (g : NodeGraph N) × (test : N → Bool) × (least : N → ℤ)
         × IsLed N.eq C.value S.answers T.answers H.answers g test least graph.old estimate.old search.old.estimates.items }
     ensures wide { IfOk result (λ answer. MatchOption answer ⊤ (λ _. (length search.new.labels.items ≡ length graph.new.discovery.nodes.keys) × (0 < length search.new.labels.items))) }

@@ -9,7 +9,7 @@ ghost use Rattle.pf_core.specs.Labels.{HasLabel, IsChain};
 ghost use Rattle.pf_core.specs.Nodes.{NodeGraph, StandsFor, IsStep};
 ghost use Rattle.pf_informed.specs.Internal.Forest.{IsForest, nat_of};
 ghost use Rattle.pf_informed.specs.Internal.Informed.{IsInformed, work_left};
-ghost use Rattle.pf_informed.specs.Internal.Led.{IsLed, FindsMore, OthersWait};
+ghost use Rattle.pf_informed.specs.Internal.Led.{IsLed, IsNew, FindsMore, OthersWait};
 ghost use Rattle.pf_informed.specs.Internal.Waiting.{Entry, entry_cmp, IsQueue};
 
 use crate::estimates::ask;
@@ -37,10 +37,7 @@ where
     H: EstimateFunction<N, C>,
     A: Allocator + Copy,
     requires one { length graph.now.discovery.nodes.keys ≡ 1 }
-    requires unlabelled { search.old.labels.items ≡ [] }
-    requires unasked { search.old.estimates.items ≡ [] }
-    requires nothing_waits { heap_items search.old.queue ≡ [] }
-    requires ordered { IsHeap (entry_cmp C.cmp) (heap_items search.old.queue) }
+    requires new { IsNew C.cmp search.old }
     requires graph { (g : NodeGraph N) × (test : N → Bool) × (least : N → ℤ)
         × IsLed N.eq C.value S.answers T.answers H.answers g test least graph.now estimate.old search.old.estimates.items }
     ensures labelled { OnOk result (length search.new.labels.items ≡ 1) }

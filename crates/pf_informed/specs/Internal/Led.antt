@@ -1,5 +1,7 @@
 -- What a search led by estimates knows of its graph, and what opening a number leaves.
-use Rattle.std.specs.Prelude.{◌≡◌, ◌⊎◌, ℕ, ℤ, Bool, true, List, slice_get, length}
+use Rattle.std.specs.Prelude.{◌≡◌, ◌⊎◌, ℕ, ℤ, Bool, true, List, [], slice_get, length}
+use Rattle.std.specs.BinaryHeap.{IsHeap, heap_items}
+use Rattle.std.specs.declared.cmp.Ordering.{Ordering}
 use Rattle.pf_base.specs.Edges.{InReach, HasNoNegativeCost}
 use Rattle.pf_core.specs.declared.labels.Label.{Label}
 use Rattle.pf_core.specs.declared.tested.Tested.{Tested}
@@ -8,7 +10,8 @@ use Rattle.pf_core.specs.Nodes.{NodeGraph, StandsFor, Explores}
 use Rattle.pf_core.specs.Numbered.{Grows}
 use Rattle.pf_informed.specs.Estimates.{IsAdmissible}
 use Rattle.pf_informed.specs.Internal.Estimated.{IsEstimated}
-use Rattle.pf_informed.specs.Internal.Waiting.{Entry, IsWaiting}
+use Rattle.pf_informed.specs.Internal.Waiting.{Entry, entry_cmp, IsWaiting}
+use Rattle.pf_informed.specs.declared.search.Search.{Search}
 
 -- What is asked answers a graph, a test and an estimate, and each estimate that is kept is right. No estimate is above the cost of a walk to a goal, and no edge in reach costs less than 0.
 module _ {N C S T H Z : Type 0} (eq : N → N → Bool) (value : C → ℤ) (edge_answers : S → List N → (N → List (N × ℤ)) → Type 0) (test_answers : T → (N → Type 0) → (N → Bool) → Type 0) (estimate_answers : H → (N → Type 0) → (N → ℤ) → Type 0) where
@@ -21,6 +24,13 @@ module _ {N C S T H Z : Type 0} (eq : N → N → Bool) (value : C → ℤ) (edg
     pub estimated : IsEstimated value least (slice_get graph.discovery.nodes.keys) kept
     pub admissible : IsAdmissible eq g.edges g.starts test least
     pub costs : HasNoNegativeCost eq g.edges g.starts
+
+-- nothing is known of the labels and the estimates, and nothing waits
+pub record IsNew {C Z : Type 0} (cmp : C → C → Ordering) (search : Search C Z) : Type 0 where
+  pub unlabelled : search.labels.items ≡ []
+  pub unasked : search.estimates.items ≡ []
+  pub nothing_waits : heap_items search.queue ≡ []
+  pub ordered : IsHeap (entry_cmp cmp) (heap_items search.queue)
 
 -- the numbers of a graph stand for what they stood for, and more numbers may stand
 abbrev pub FindsMore : {N S T Z : Type 0} → (N → N → Bool) → Tested N S T Z → Tested N S T Z → Type 0

@@ -1,6 +1,5 @@
 //! All cheapest paths, led by an estimate of the cost that remains.
 
-ghost use Rattle.std.specs.BinaryHeap.{IsHeap, heap_items};
 ghost use Rattle.std.specs.Prelude.{◌≡◌, ◌⊎◌, ◌≤◌, ℤ, List, Bool, [], ◌∷◌, Err, false, ⊤, IfOk, IfErr, MatchOption, length};
 ghost use Rattle.std.specs.Iterator.{MakesProgress, at_most};
 ghost use Rattle.pf_base.specs.Walks.{HasNoGoalWalk};
@@ -9,8 +8,7 @@ ghost use Rattle.pf_base.specs.Answers.{IsLawfulClone};
 ghost use Rattle.pf_core.specs.Nodes.{StandsFor};
 ghost use Rattle.pf_informed.specs.CheapestPaths.{AreCheapestCleanPaths, IsPathsClone, PathsStep, lists_in, most_items};
 ghost use Rattle.pf_informed.specs.Estimates.{IsInformedSearch, IsPastRangeWithEstimate, NoGoalWalkFits};
-ghost use Rattle.pf_informed.specs.Internal.Led.{IsLed};
-ghost use Rattle.pf_informed.specs.Internal.Waiting.{entry_cmp};
+ghost use Rattle.pf_informed.specs.Internal.Led.{IsLed, IsNew};
 ghost use Rattle.pf_informed.specs.Internal.Ways.{AreGathered, AreWays, PathsTurn, before_in, paths_of, ways_left};
 
 use crate::cheapest_labels::label_cheapest;
@@ -146,10 +144,7 @@ where
     H: EstimateFunction<N, C>,
     A: Allocator + Copy,
     requires one { length graph.old.discovery.nodes.keys ≡ 1 }
-    requires unlabelled { search.old.labels.items ≡ [] }
-    requires unasked { search.old.estimates.items ≡ [] }
-    requires nothing_waits { heap_items search.old.queue ≡ [] }
-    requires ordered { IsHeap (entry_cmp C.cmp) (heap_items search.old.queue) }
+    requires new { IsNew C.cmp search.old }
     requires graph { (start : N) × (edges : N → List (N × ℤ)) × (test : N → Bool) × (least : N → ℤ) × StandsFor N.eq graph.old.discovery.nodes.keys 0 start
         × IsLed N.eq C.value S.answers T.answers H.answers (record { starts = start ∷ []; edges = edges }) test least graph.old estimate.old search.old.estimates.items }
 

@@ -1,6 +1,5 @@
 //! Cheapest paths, in rounds of growing limits on the cost and the estimate of what remains.
 
-ghost use Rattle.std.specs.BinaryHeap.{IsHeap, heap_items};
 ghost use Rattle.std.specs.Prelude.{◌≡◌, ◌⊎◌, ℤ, List, Bool, [], ◌∷◌, Err, IfOk, IfErr, MatchOption, length};
 ghost use Rattle.pf_base.specs.Walks.{HasNoGoalWalk};
 ghost use Rattle.pf_base.specs.Edges.{IsSuccessor, IsCheapestGoalPath};
@@ -8,8 +7,7 @@ ghost use Rattle.pf_base.specs.Answers.{IsLawfulClone};
 ghost use Rattle.pf_core.specs.Nodes.{NodeGraph, StandsFor};
 ghost use Rattle.pf_informed.specs.Estimates.{IsInformedSearch, IsPastRangeWithEstimate, NoGoalWalkFits};
 ghost use Rattle.pf_informed.specs.Internal.Fringe.{listed};
-ghost use Rattle.pf_informed.specs.Internal.Led.{IsLed};
-ghost use Rattle.pf_informed.specs.Internal.Waiting.{entry_cmp};
+ghost use Rattle.pf_informed.specs.Internal.Led.{IsLed, IsNew};
 
 use crate::fringe_lists::FringeLists;
 use crate::functions::EstimateFunction;
@@ -40,10 +38,7 @@ where
     A: Allocator + Copy,
     requires clones { IsLawfulClone N.eq N.is_clone }
     requires one { length graph.old.discovery.nodes.keys ≡ 1 }
-    requires unlabelled { search.old.labels.items ≡ [] }
-    requires unasked { search.old.estimates.items ≡ [] }
-    requires nothing_waits { heap_items search.old.queue ≡ [] }
-    requires ordered { IsHeap (entry_cmp C.cmp) (heap_items search.old.queue) }
+    requires new { IsNew C.cmp search.old }
     requires unlisted { listed lists.old ≡ [] }
     requires graph { (g : NodeGraph N) × (test : N → Bool) × (least : N → ℤ)
         × IsLed N.eq C.value S.answers T.answers H.answers g test least graph.old estimate.old search.old.estimates.items }

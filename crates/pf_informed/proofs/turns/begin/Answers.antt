@@ -51,16 +51,16 @@ returns-in_err-ask g c = record {
 }
 
 pub ask-requires-clause-few : goal.ask-requires-clause-few
-ask-requires-clause-few g c = rw c.requires.unasked (none_more _)
+ask-requires-clause-few g c = rw c.requires.new.unasked (none_more _)
 
 pub begin-requires-clause-unlabelled : goal.begin-requires-clause-unlabelled
-begin-requires-clause-unlabelled g c = c.requires.unlabelled
+begin-requires-clause-unlabelled g c = c.requires.new.unlabelled
 
 pub begin-requires-clause-nothing_waits : goal.begin-requires-clause-nothing_waits
-begin-requires-clause-nothing_waits g c = c.requires.nothing_waits
+begin-requires-clause-nothing_waits g c = c.requires.new.nothing_waits
 
 pub begin-requires-clause-ordered : goal.begin-requires-clause-ordered
-begin-requires-clause-ordered g c = c.requires.ordered
+begin-requires-clause-ordered g c = c.requires.new.ordered
 
 pub begin-requires-clause-estimated : goal.begin-requires-clause-estimated
 begin-requires-clause-estimated g c = c.in_ok-ask.ensures.all ∙ c.requires.one

@@ -1,15 +1,13 @@
-use Rattle.std.proofs.Common.{◌≡◌, ◌∙◌, ◌∷◌, [], List, ℤ, Bool, Err, ap, length, ◌≤◌, refl, inl, ℕ, ◌<◌, subst, sym}
-use Rattle.pf_core.specs.Nodes.{NodeGraph, TestedGraph}
+use Rattle.std.proofs.Common.{◌≡◌, ◌∙◌, List, ℤ, Bool, Err, ap, length, ◌≤◌, refl, inl, ℕ, ◌<◌, subst, sym}
+use Rattle.pf_core.specs.Nodes.{TestedGraph}
 use Rattle.pf_core.specs.NodeLaws.{StandsFor-one}
 use Rattle.pf_core.proofs.UnitLemmas.{begins_all}
 use Rattle.pf_informed.specs.Internal.Ways.{before_in}
 use Rattle.pf_informed.proofs.BagLemmas.{all_paths}
 use Rattle.pf_informed.proofs.Outcomes.{refused_as, if_refused, no_overflow, ok_is_no_error, same_error}
 use Rattle.pf_informed.proofs.Bounds.{at_most_equal}
+use Rattle.pf_informed.proofs.LedLemmas.{graph_of}
 use Rattle.pf_informed.proofs.directed.astar_bag.find_ways.Goals as goal
-
-abbrev graph_of : {N : Type 0} → N → (N → List (N × ℤ)) → NodeGraph N
-graph_of start edges = record { starts = start ∷ []; edges = edges }
 
 -- the graph that these functions answer
 abbrev tested : {N : Type 0} → N → (N → List (N × ℤ)) → (N → Bool) → TestedGraph N
@@ -18,17 +16,8 @@ tested start edges test = record { graph = graph_of start edges; test = test }
 pub label_cheapest-requires-clause-one : goal.label_cheapest-requires-clause-one
 label_cheapest-requires-clause-one g c = c.requires.one
 
-pub label_cheapest-requires-clause-unlabelled : goal.label_cheapest-requires-clause-unlabelled
-label_cheapest-requires-clause-unlabelled g c = c.requires.unlabelled
-
-pub label_cheapest-requires-clause-unasked : goal.label_cheapest-requires-clause-unasked
-label_cheapest-requires-clause-unasked g c = c.requires.unasked
-
-pub label_cheapest-requires-clause-nothing_waits : goal.label_cheapest-requires-clause-nothing_waits
-label_cheapest-requires-clause-nothing_waits g c = c.requires.nothing_waits
-
-pub label_cheapest-requires-clause-ordered : goal.label_cheapest-requires-clause-ordered
-label_cheapest-requires-clause-ordered g c = c.requires.ordered
+pub label_cheapest-requires-clause-new : goal.label_cheapest-requires-clause-new
+label_cheapest-requires-clause-new g c = c.requires.new
 
 pub label_cheapest-requires-clause-graph : goal.label_cheapest-requires-clause-graph
 label_cheapest-requires-clause-graph g c =

@@ -1,22 +1,19 @@
-use Rattle.std.proofs.Common.{◌≡◌, ◌∙◌, [], ◌∷◌, List, ℤ, Bool, true, length, sym, subst, inl, slice_get, Option, Some, None, refl, inr}
+use Rattle.std.proofs.Common.{◌≡◌, ◌∙◌, [], ◌∷◌, ℤ, Bool, true, length, sym, subst, inl, slice_get, Option, Some, None, refl, inr}
 use Rattle.std.specs.Prelude.{◌≤ℤ◌}
 use Rattle.pf_base.specs.Edges.{InReach}
-use Rattle.pf_core.specs.Nodes.{NodeGraph, StandsFor}
+use Rattle.pf_core.specs.Nodes.{StandsFor}
 use Rattle.pf_core.specs.NodeLaws.{StandsFor-one, StandsFor-inside}
 use Rattle.pf_core.proofs.ListLemmas.{at_place}
 use Rattle.pf_core.proofs.NodeLemmas.{StandsFor-same, InReach-same}
 use Rattle.pf_core.proofs.WalkLemmas.{all_starts, only_starts, no_negative, no_walk, best_answer}
 use Rattle.pf_informed.specs.Internal.Estimated.{IsEstimated}
 use Rattle.pf_informed.specs.Internal.Deepening.{IsCutOff}
-use Rattle.pf_informed.proofs.LedLemmas.{led_more}
+use Rattle.pf_informed.proofs.LedLemmas.{graph_of, led_more}
 use Rattle.pf_informed.proofs.LimitLemmas.{limit_rises, covered_walk, next_limit, none_cut, none_fits, best_way, past_way}
 use Rattle.pf_informed.proofs.NodeWalks.{estimate_is, never_above, no_walk_fits}
 use Rattle.pf_informed.proofs.Outcomes.{refused_as, if_refused, no_overflow, ok_is_no_error}
 use Rattle.pf_informed.proofs.Bounds.{none_more, some_one, is_at_most, at_most_both, at_most_below}
 use Rattle.pf_informed.proofs.directed.idastar.search_on.Goals as goal
-
-abbrev graph_of : {N : Type 0} → N → (N → List (N × ℤ)) → NodeGraph N
-graph_of start edges = record { starts = start ∷ []; edges = edges }
 
 pub ask-requires-clause-few : goal.ask-requires-clause-few
 ask-requires-clause-few g c = rw c.requires.unasked (none_more _)
