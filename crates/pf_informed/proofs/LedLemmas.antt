@@ -85,13 +85,13 @@ module _ {N C S T H Z : Type 0} {eq : N → N → Bool} {value : C → ℤ} {edg
 
 -- what is known of the start alone
 module _ {N C I S FN FS FH Z : Type 0} {eq : N → N → Bool} (laws : IsEquivalence eq) {value : C → ℤ} {becomes : I → S → Type 0} {can : S → Type 0} {left : S → Count} {next : S → Option (N × C) → S → Type 0} {calls : Mut FN (Bor N × Unit {0}) I} {tests : Mut FS (Bor N × Unit {0}) Bool} {estimates : Mut FH (Bor N × Unit {0}) C} where
-  pub led_begin : {start : N} {edges : N → List (N × ℤ)} {test : N → Bool} {least : N → ℤ} (graph : Tested N (Weighted FN) FS Z) {estimate : FH} {kept : List C} → IsDistinct eq graph.discovery.nodes.keys → HasSameNodes eq graph.discovery.nodes.keys (start ∷ []) → kept ≡ []
+  pub led_begin : {start : N} {edges : N → List (N × ℤ)} {test : N → Bool} {least : N → ℤ} {graph : Tested N (Weighted FN) FS Z} {estimate : FH} {kept : List C} → IsDistinct eq graph.discovery.nodes.keys → HasSameNodes eq graph.discovery.nodes.keys (start ∷ []) → kept ≡ []
       → IsInformedSearch eq edges (start ∷ []) (AnswersGraph calls becomes can left next eq value graph.discovery.source.function) (AnswersTest tests eq graph.success) (AnswersEstimate estimates eq value estimate) test least
-      → IsLed eq value (AnswersEdges eq (AnswersGraph calls becomes can left next eq value)) (AnswersTest tests eq) (AnswersEstimate estimates eq value) (record { starts = start ∷ []; edges = edges }) test least graph estimate kept
-  led_begin {start} {edges} graph {kept = kept} distinct same none s =
+      → IsLed eq value (AnswersEdges eq (AnswersGraph calls becomes can left next eq value)) (AnswersTest tests eq) (AnswersEstimate estimates eq value) (graph_of start edges) test least graph estimate kept
+  led_begin {start} {edges} {graph = graph} {kept = kept} distinct same none s =
       let w = s.weighted in
       record {
-        explores = Explores-edges eq laws (AnswersGraph calls becomes can left next eq value) (record { starts = start ∷ []; edges = edges }) graph.discovery.nodes.keys graph.discovery.source.function distinct same w.edges_answered.alike w.edges_answered;
+        explores = Explores-edges eq laws (AnswersGraph calls becomes can left next eq value) (graph_of start edges) graph.discovery.nodes.keys graph.discovery.source.function distinct same w.edges_answered.alike w.edges_answered;
         tested = w.test_answered;
         same_test = w.test_answered.alike;
         asked = s.estimate_answered;

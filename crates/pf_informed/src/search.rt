@@ -7,7 +7,7 @@ ghost use Rattle.pf_core.specs.Labels.{HasLabel};
 ghost use Rattle.pf_informed.specs.Internal.Forest.{IsForest, nat_of};
 ghost use Rattle.pf_informed.specs.Internal.Informed.{Follows, work_left};
 ghost use Rattle.pf_informed.specs.Internal.Led.{IsNew};
-ghost use Rattle.pf_informed.specs.Internal.Waiting.{Entry, entry_cmp, IsQueue};
+ghost use Rattle.pf_informed.specs.Internal.Waiting.{entry_cmp, IsQueue};
 
 use crate::labels::make_room;
 use crate::queue::{Queue, relax};

@@ -2,14 +2,14 @@
 
 ghost use Rattle.std.specs.BinaryHeap.{IsHeap, heap_items, heap_len};
 ghost use Rattle.std.specs.List.{AllZip};
-ghost use Rattle.std.specs.Prelude.{◌≡◌, ◌≤◌, ◌++◌, ℕ, ℤ, Bool, false, List, [], OnOk, IfOk, IfErr, length};
+ghost use Rattle.std.specs.Prelude.{◌≡◌, ◌≤◌, ◌++◌, ℕ, ℤ, Bool, false, List, OnOk, IfOk, IfErr, length};
 ghost use Rattle.pf_base.specs.Answers.{IsLawfulClone};
 ghost use Rattle.pf_core.specs.declared.labels.Label.{Label};
 ghost use Rattle.pf_core.specs.Labels.{HasLabel, IsChain};
-ghost use Rattle.pf_core.specs.Nodes.{NodeGraph, StandsFor, IsStep};
+ghost use Rattle.pf_core.specs.Nodes.{NodeGraph, StandsFor};
 ghost use Rattle.pf_informed.specs.Internal.Forest.{IsForest, nat_of};
-ghost use Rattle.pf_informed.specs.Internal.Informed.{IsInformed, work_left};
-ghost use Rattle.pf_informed.specs.Internal.Led.{IsLed, IsNew, FindsMore, OthersWait};
+ghost use Rattle.pf_informed.specs.Internal.Informed.{work_left};
+ghost use Rattle.pf_informed.specs.Internal.Led.{IsLed, IsNew, FindsMore, IsInformedOn, OthersWait};
 ghost use Rattle.pf_informed.specs.Internal.Waiting.{Entry, entry_cmp, IsQueue};
 
 use crate::estimates::ask;
@@ -48,7 +48,7 @@ where
     ensures graph { OnOk result ((g : NodeGraph N) (test : N → Bool) (least : N → ℤ)
         → IsLed N.eq C.value S.answers T.answers H.answers g test least graph.now estimate.old search.old.estimates.items
         → IsLed N.eq C.value S.answers T.answers H.answers g test least graph.now estimate.new search.new.estimates.items
-        × ((passes : N → Bool) → IsInformed C.value C.fits search.new.estimates.items (IsStep N.eq g) passes (StandsFor N.eq graph.now.discovery.nodes.keys) search.new.labels.items (heap_items search.new.queue) (length graph.now.discovery.nodes.keys))) }
+        × ((passes : N → Bool) → IsInformedOn N.eq C.value C.fits g passes graph.now search.new (heap_items search.new.queue))) }
     ensures refused { IfErr result (λ e. e ≡ PathError.OutOfMemory) }
 {
     ask(&graph.discovery.nodes, estimate, &mut search.estimates)?;
@@ -92,8 +92,8 @@ where
         → IsLed N.eq C.value S.answers T.answers H.answers g test least graph.new estimate.new search.new.estimates.items
         × ((passes : N → Bool) (before rest : List (Entry C)) → ((x : N) → StandsFor N.eq graph.old.discovery.nodes.keys number x → passes x ≡ false)
         → OthersWait C.value search.old.labels.items number before (heap_items search.old.queue ++ rest)
-        → IsInformed C.value C.fits search.old.estimates.items (IsStep N.eq g) passes (StandsFor N.eq graph.old.discovery.nodes.keys) search.old.labels.items before (length graph.old.discovery.nodes.keys)
-        → IsInformed C.value C.fits search.new.estimates.items (IsStep N.eq g) passes (StandsFor N.eq graph.new.discovery.nodes.keys) search.new.labels.items (heap_items search.new.queue ++ rest) (length graph.new.discovery.nodes.keys))) }
+        → IsInformedOn N.eq C.value C.fits g passes graph.old search.old before
+        → IsInformedOn N.eq C.value C.fits g passes graph.new search.new (heap_items search.new.queue ++ rest))) }
     ensures refused { IfErr result (λ e. e ≡ PathError.OutOfMemory) }
 {
     graph.expand(number, &mut search.row)?;

@@ -6,10 +6,11 @@ use Rattle.pf_base.specs.Edges.{InReach, HasNoNegativeCost}
 use Rattle.pf_core.specs.declared.labels.Label.{Label}
 use Rattle.pf_core.specs.declared.tested.Tested.{Tested}
 use Rattle.pf_core.specs.Labels.{Labels, HasLabel}
-use Rattle.pf_core.specs.Nodes.{NodeGraph, StandsFor, Explores}
+use Rattle.pf_core.specs.Nodes.{NodeGraph, StandsFor, IsStep, Explores}
 use Rattle.pf_core.specs.Numbered.{Grows}
 use Rattle.pf_informed.specs.Estimates.{IsAdmissible}
 use Rattle.pf_informed.specs.Internal.Estimated.{IsEstimated}
+use Rattle.pf_informed.specs.Internal.Informed.{IsInformed}
 use Rattle.pf_informed.specs.Internal.Waiting.{Entry, entry_cmp, IsWaiting}
 use Rattle.pf_informed.specs.declared.search.Search.{Search}
 
@@ -35,6 +36,10 @@ pub record IsNew {C Z : Type 0} (cmp : C → C → Ordering) (search : Search C 
 -- the numbers of a graph stand for what they stood for, and more numbers may stand
 abbrev pub FindsMore : {N S T Z : Type 0} → (N → N → Bool) → Tested N S T Z → Tested N S T Z → Type 0
 FindsMore eq graph graph' = Grows (length graph.discovery.nodes.keys) (length graph'.discovery.nodes.keys) (StandsFor eq graph.discovery.nodes.keys) (StandsFor eq graph'.discovery.nodes.keys)
+
+-- what the search knows of the graph, where these entries wait
+abbrev pub IsInformedOn : {N C S T Z Z' : Type 0} → (N → N → Bool) → (C → ℤ) → (ℤ → Type 0) → NodeGraph N → (N → Bool) → Tested N S T Z → Search C Z' → List (Entry C) → Type 0
+IsInformedOn eq value fits g passes graph search entries = IsInformed value fits search.estimates.items (IsStep eq g) passes (StandsFor eq graph.discovery.nodes.keys) search.labels.items entries (length graph.discovery.nodes.keys)
 
 -- each label that waited waits on, but for that of this number
 abbrev pub OthersWait : {C : Type 0} → (C → ℤ) → Labels C → ℕ → List (Entry C) → List (Entry C) → Type 0

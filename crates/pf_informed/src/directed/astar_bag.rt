@@ -9,7 +9,7 @@ ghost use Rattle.pf_core.specs.Nodes.{StandsFor};
 ghost use Rattle.pf_informed.specs.CheapestPaths.{AreCheapestCleanPaths, IsPathsClone, PathsStep, lists_in, most_items};
 ghost use Rattle.pf_informed.specs.Estimates.{IsInformedSearch, IsPastRangeWithEstimate, NoGoalWalkFits};
 ghost use Rattle.pf_informed.specs.Internal.Led.{IsLed, IsNew};
-ghost use Rattle.pf_informed.specs.Internal.Ways.{AreGathered, AreWays, PathsTurn, before_in, paths_of, ways_left};
+ghost use Rattle.pf_informed.specs.Internal.Ways.{AreGathered, AreWaysIn, PathsTurn, paths_in};
 
 use crate::cheapest_labels::label_cheapest;
 use crate::functions::EstimateFunction;
@@ -152,10 +152,10 @@ where
         → IsLed N.eq C.value S.answers T.answers H.answers (record { starts = start ∷ []; edges = edges }) test least graph.old estimate.old search.old.estimates.items
         → IfOk result (λ answer. MatchOption answer
         (HasNoGoalWalk N.eq (IsSuccessor N.eq edges) (start ∷ []) test)
-        (λ found. AreCheapestCleanPaths N.eq edges (start ∷ []) test (paths_of graph.new.discovery.nodes.keys (ways_left (before_in found.0.before.items) (length found.0.before.items) found.0.way.items found.0.waiting.items)) (C.value found.1))) }
+        (λ found. AreCheapestCleanPaths N.eq edges (start ∷ []) test (paths_in graph.new.discovery.nodes.keys found.0) (C.value found.1))) }
 
     ensures ways { IfOk result (λ answer. MatchOption answer ⊤
-        (λ found. AreWays (length found.0.before.items) (before_in found.0.before.items) found.0.way.items found.0.places.items found.0.waiting.items × (length found.0.before.items ≤ length graph.new.discovery.nodes.keys))) }
+        (λ found. AreWaysIn found.0 × (length found.0.before.items ≤ length graph.new.discovery.nodes.keys))) }
 
     ensures overflow { (start : N) (edges : N → List (N × ℤ)) (test : N → Bool) (least : N → ℤ) → StandsFor N.eq graph.old.discovery.nodes.keys 0 start
         → IsLed N.eq C.value S.answers T.answers H.answers (record { starts = start ∷ []; edges = edges }) test least graph.old estimate.old search.old.estimates.items
@@ -183,12 +183,12 @@ where
     C: Copy,
     A: Allocator,
     requires { IfOk found (λ answer. MatchOption answer ⊤
-        (λ found. AreWays (length found.0.before.items) (before_in found.0.before.items) found.0.way.items found.0.places.items found.0.waiting.items × (length found.0.before.items ≤ length nodes.keys))) }
+        (λ found. AreWaysIn found.0 × (length found.0.before.items ≤ length nodes.keys))) }
 
     ensures all { (value : C → ℤ) (start : N) (edges : N → List (N × ℤ)) (test : N → Bool)
         → IfOk found (λ answer. MatchOption answer
         (HasNoGoalWalk N.eq (IsSuccessor N.eq edges) (start ∷ []) test)
-        (λ found. AreCheapestCleanPaths N.eq edges (start ∷ []) test (paths_of nodes.keys (ways_left (before_in found.0.before.items) (length found.0.before.items) found.0.way.items found.0.waiting.items)) (value found.1)))
+        (λ found. AreCheapestCleanPaths N.eq edges (start ∷ []) test (paths_in nodes.keys found.0) (value found.1)))
         → IfOk result (λ answer. MatchOption answer
         (HasNoGoalWalk N.eq (IsSuccessor N.eq edges) (start ∷ []) test)
         (λ found. AreCheapestCleanPaths N.eq edges (start ∷ []) test found.0.left (value found.1))) }

@@ -1,6 +1,6 @@
 //! One round of a search to a limit, depth first.
 
-ghost use Rattle.std.specs.Prelude.{◌≡◌, ◌<◌, ◌≤ℤ◌, ◌++◌, ◌∷◌, [], ℕ, ℤ, List, Bool, Some, OnOk, IfOk, IfErr, MatchOption, ⊤, length, map};
+ghost use Rattle.std.specs.Prelude.{◌≡◌, ◌<◌, ◌≤ℤ◌, ◌++◌, ◌∷◌, [], ℤ, Bool, Some, OnOk, IfOk, IfErr, MatchOption, ⊤, length, map};
 ghost use Rattle.pf_core.specs.Nodes.{NodeGraph, StandsFor};
 ghost use Rattle.pf_informed.specs.declared.directed.idastar.way.Frame.{Frame};
 ghost use Rattle.pf_informed.specs.Internal.Led.{FindsMore};

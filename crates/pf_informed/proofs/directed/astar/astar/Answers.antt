@@ -7,7 +7,7 @@ pub search_on-requires-clause-graph : goal.search_on-requires-clause-graph
 search_on-requires-clause-graph g c =
     let r = c.requires.graph in
     let found = c.in_ok-clone_of in
-    (graph_of c.args.start.now r.0, r.1, r.2, led_begin g.met.N.Eq.laws _ found.ensures.distinct found.ensures.same c.new-search.ensures.unasked r.3)
+    (graph_of c.args.start.now r.0, r.1, r.2, led_begin g.met.N.Eq.laws found.ensures.distinct found.ensures.same c.new-search.ensures.unasked r.3)
 
 pub returns : goal.returns
 returns g c = record {
@@ -15,12 +15,12 @@ returns g c = record {
       let found = c.in_ok-clone_of in
       let start = c.args.start.now in
       c.search_on.ensures.best start edges test least ((found.ensures.begins start).1 (g.met.N.Eq.laws.refl start))
-      (led_begin g.met.N.Eq.laws _ found.ensures.distinct found.ensures.same c.new-search.ensures.unasked s);
+      (led_begin g.met.N.Eq.laws found.ensures.distinct found.ensures.same c.new-search.ensures.unasked s);
   overflow = λ edges test least s.
       let found = c.in_ok-clone_of in
       let start = c.args.start.now in
       c.search_on.ensures.overflow start edges test least ((found.ensures.begins start).1 (g.met.N.Eq.laws.refl start))
-      (led_begin g.met.N.Eq.laws _ found.ensures.distinct found.ensures.same c.new-search.ensures.unasked s);
+      (led_begin g.met.N.Eq.laws found.ensures.distinct found.ensures.same c.new-search.ensures.unasked s);
   errors = c.search_on.ensures.errors;
 }
 

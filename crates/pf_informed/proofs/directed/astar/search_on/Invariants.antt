@@ -1,9 +1,9 @@
 use Rattle.std.proofs.Common.{◌≡◌, Bool, ℤ, length}
 use Rattle.std.specs.BinaryHeap.{IsHeap, heap_items, heap_len}
-use Rattle.pf_core.specs.Nodes.{NodeGraph, StandsFor, IsStep}
+use Rattle.pf_core.specs.Nodes.{NodeGraph, StandsFor}
 use Rattle.pf_informed.specs.Internal.Forest.{IsForest, nat_of}
-use Rattle.pf_informed.specs.Internal.Informed.{IsInformed, work_left}
-use Rattle.pf_informed.specs.Internal.Led.{IsLed}
+use Rattle.pf_informed.specs.Internal.Informed.{work_left}
+use Rattle.pf_informed.specs.Internal.Led.{IsLed, IsInformedOn}
 use Rattle.pf_informed.specs.Internal.Waiting.{entry_cmp, IsQueue}
 use Rattle.pf_informed.proofs.directed.astar.search_on.Given as goal
 
@@ -27,7 +27,7 @@ invariant-turns g l =
       searched : (h : NodeGraph g.row.N.Denot) (test : g.row.N.Denot → Bool) (least : g.row.N.Denot → ℤ)
           → led h test least l.fn.graph l.fn.estimate l.fn.search.estimates.items
           → led h test least l.graph l.estimate known
-          × IsInformed value g.C.Number.fits known (IsStep eq h) test (StandsFor eq keys) labels entries (length keys);
+          × IsInformedOn eq value g.C.Number.fits h test l.graph l.search entries;
     }
 
 abbrev pub decreases-turns : goal.decreases-turns

@@ -13,7 +13,7 @@ find_ways-found-requires-clause-graph g c =
       r.1,
       r.2,
       (found.ensures.begins start).1 (g.met.N.Eq.laws.refl start),
-      led_begin g.met.N.Eq.laws _ found.ensures.distinct found.ensures.same c.new-search.ensures.unasked r.3,
+      led_begin g.met.N.Eq.laws found.ensures.distinct found.ensures.same c.new-search.ensures.unasked r.3,
     )
 
 pub solution_of-requires : goal.solution_of-requires
@@ -26,13 +26,13 @@ returns g c = record {
       let start = c.args.start.now in
       c.solution_of.ensures.all g.C.Number.value start edges test
       (c.find_ways-found.ensures.all start edges test least ((found.ensures.begins start).1 (g.met.N.Eq.laws.refl start))
-      (led_begin g.met.N.Eq.laws _ found.ensures.distinct found.ensures.same c.new-search.ensures.unasked s));
+      (led_begin g.met.N.Eq.laws found.ensures.distinct found.ensures.same c.new-search.ensures.unasked s));
   ready = c.solution_of.ensures.ready;
   overflow = λ edges test least s e.
       let found = c.in_ok-clone_of in
       let start = c.args.start.now in
       c.find_ways-found.ensures.overflow start edges test least ((found.ensures.begins start).1 (g.met.N.Eq.laws.refl start))
-      (led_begin g.met.N.Eq.laws _ found.ensures.distinct found.ensures.same c.new-search.ensures.unasked s)
+      (led_begin g.met.N.Eq.laws found.ensures.distinct found.ensures.same c.new-search.ensures.unasked s)
       (c.solution_of.ensures.errors _ e);
   errors = same_errors _ c.solution_of.result c.find_ways-found.result c.solution_of.ensures.errors c.find_ways-found.ensures.errors;
 }

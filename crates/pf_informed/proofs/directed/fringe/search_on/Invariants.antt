@@ -3,8 +3,8 @@ use Rattle.std.specs.BinaryHeap.{IsHeap, heap_items, heap_len}
 use Rattle.pf_core.specs.Nodes.{NodeGraph, StandsFor, IsStep}
 use Rattle.pf_informed.specs.Internal.Forest.{IsForest, nat_of}
 use Rattle.pf_informed.specs.Internal.Fringe.{listed, IsBelowGoals}
-use Rattle.pf_informed.specs.Internal.Informed.{IsInformed, work_left}
-use Rattle.pf_informed.specs.Internal.Led.{IsLed}
+use Rattle.pf_informed.specs.Internal.Informed.{work_left}
+use Rattle.pf_informed.specs.Internal.Led.{IsLed, IsInformedOn}
 use Rattle.pf_informed.specs.Internal.Waiting.{entry_cmp, IsQueue}
 use Rattle.pf_informed.proofs.directed.fringe.search_on.Given as goal
 
@@ -28,7 +28,7 @@ invariant-turns g l =
       searched : (h : NodeGraph g.row.N.Denot) (test : g.row.N.Denot → Bool) (least : g.row.N.Denot → ℤ)
           → led h test least l.fn.graph l.fn.estimate l.fn.search.estimates.items
           → led h test least l.graph l.estimate known
-          × IsInformed value g.C.Number.fits known (IsStep eq h) test (StandsFor eq keys) labels entries (length keys);
+          × IsInformedOn eq value g.C.Number.fits h test l.graph l.search entries;
       below : (start : g.row.N.Denot) (edges : g.row.N.Denot → List (g.row.N.Denot × ℤ)) (test : g.row.N.Denot → Bool) (least : g.row.N.Denot → ℤ) → StandsFor eq first 0 start
           → led (record { starts = start ∷ []; edges = edges }) test least l.fn.graph l.fn.estimate l.fn.search.estimates.items
           → IsBelowGoals (IsStep eq (record { starts = start ∷ []; edges = edges })) test (λ s. eq start s ≡ true) (value l.lists.limit);

@@ -9,7 +9,7 @@ search_on-requires-clause-graph g c =
     let found = c.in_ok-clone_of.ensures in
     let laws = g.met.N.Eq.laws in
     let start = c.args.start.now in
-    (start, r.0, r.1, r.2, rw c.new-known.ensures.graph ((found.begins start).1 (laws.refl start)), c.new-known.ensures.known _ r.1 r.2 (led_begin laws _ found.distinct found.same refl r.3))
+    (start, r.0, r.1, r.2, rw c.new-known.ensures.graph ((found.begins start).1 (laws.refl start)), c.new-known.ensures.known _ r.1 r.2 (led_begin laws found.distinct found.same refl r.3))
 
 pub returns : goal.returns
 returns g c = record {
@@ -17,12 +17,12 @@ returns g c = record {
       let found = c.in_ok-clone_of.ensures in
       let laws = g.met.N.Eq.laws in
       let start = c.args.start.now in
-      c.search_on.ensures.best start edges test least (rw c.new-known.ensures.graph ((found.begins start).1 (laws.refl start))) (c.new-known.ensures.known _ test least (led_begin laws _ found.distinct found.same refl s));
+      c.search_on.ensures.best start edges test least (rw c.new-known.ensures.graph ((found.begins start).1 (laws.refl start))) (c.new-known.ensures.known _ test least (led_begin laws found.distinct found.same refl s));
   overflow = λ edges test least s.
       let found = c.in_ok-clone_of.ensures in
       let laws = g.met.N.Eq.laws in
       let start = c.args.start.now in
-      c.search_on.ensures.overflow start edges test least (rw c.new-known.ensures.graph ((found.begins start).1 (laws.refl start))) (c.new-known.ensures.known _ test least (led_begin laws _ found.distinct found.same refl s));
+      c.search_on.ensures.overflow start edges test least (rw c.new-known.ensures.graph ((found.begins start).1 (laws.refl start))) (c.new-known.ensures.known _ test least (led_begin laws found.distinct found.same refl s));
   errors = c.search_on.ensures.errors;
 }
 
