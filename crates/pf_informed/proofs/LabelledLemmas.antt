@@ -21,23 +21,11 @@ use Rattle.pf_core.proofs.UnitLemmas.{begins_all}
 use Rattle.pf_informed.specs.Internal.Estimated.{IsEstimated}
 use Rattle.pf_informed.specs.Internal.Forest.{IsForest}
 use Rattle.pf_informed.specs.Internal.Waiting.{Entry, IsWaiting, IsTooDear, IsTaken, IsQueue}
-use Rattle.pf_informed.specs.Internal.Informed.{IsInformed, IsClosed, IsFoundFrom}
+use Rattle.pf_informed.specs.Internal.Informed.{IsInformed}
 use Rattle.pf_informed.specs.Internal.Labelled.{IsPastBest}
 use Rattle.pf_informed.proofs.PathUp.{climb_walk}
 use Rattle.pf_informed.proofs.InformedLemmas.{frontier, goal_above, best_path}
 use Rattle.pf_informed.proofs.NodeWalks.{never_above, estimate_at, stands_reached, estimate_is, cheap_of_goes, costs_of_cheap}
-
--- a search to a goal also knows what a search without goals knows
-pub no_goals : {X C : Type 0} (value : C → ℤ) (fits : ℤ → Type 0) (estimates : List C) (step : X → ℤ → X → Type 0) (passes : X → Bool) (stands : ℕ → X → Type 0) (labels : Labels C) (entries : List (Entry C)) (found : ℕ)
-    → IsInformed value fits estimates step passes stands labels entries found → IsInformed value fits estimates step (λ _. false) stands labels entries found
-no_goals value fits estimates step passes stands labels entries found i = record {
-  cut = λ k l h. elim (i.cut k l h) as (λ _. IsWaiting value entries k l ⊎ IsClosed value fits estimates step (λ _. false) stands labels entries k l) [ inl w ↦ inl w | inr c ↦ inr (record { fails = λ x s. refl; along = c.along }) ];
-  linked = i.linked;
-  found_by = λ j l. elim (i.found_by j l) as (λ _. ((m : Label _) × HasLabel labels j m) ⊎ IsFoundFrom value fits estimates step (λ _. false) stands labels entries j) [
-    | inl m ↦ inl m
-    | inr r ↦ inr (record { node = r.node; here = r.here; before = r.before; label = r.label; at = r.at; source = r.source; there = r.there; price = r.price; edge = r.edge })
-  ];
-}
 
 module _ {N : Type 0} (eq : N → N → Bool) (laws : IsEquivalence eq) (g : NodeGraph N) (alike : (x y : N) → InReach eq g.edges g.starts x → eq x y ≡ true → ListsEdges eq (λ z. z) (g.edges x) (g.edges y)) where
   pub reach_along : (w : List N) (a : N) (t : ℤ) → InReach eq g.edges g.starts a → GoesAlong (IsStep eq g) a w t → InReach eq g.edges g.starts (end_of a w)

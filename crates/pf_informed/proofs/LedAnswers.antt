@@ -1,16 +1,14 @@
 -- What a search led by estimates answers, once it ends.
 use Rattle.std.proofs.Common.{◌≡◌, ◌<◌, ℕ, ℤ, pos, Bool, true, List, [], ◌∷◌, length, slice_get, subst, sym, arith, inl}
-use Rattle.std.specs.Prelude.{◌≤ℤ◌, ◌⊎◌, Option, Some, All, IsSome}
-use Rattle.std.specs.Borrow.{Bor}
+use Rattle.std.specs.Prelude.{◌≤ℤ◌, ◌⊎◌, Some, All, IsSome}
 use Rattle.std.specs.Cmp.{IsEquivalence}
-use Rattle.std.specs.Fn.{Mut}
-use Rattle.std.specs.Iterator.{Count}
 use Rattle.std.specs.List.{IsDistinct, AllZip}
 use Rattle.std.proofs.lemmas.Int.{ints}
 use Rattle.std.proofs.lemmas.Option.{slice_get_within}
 use Rattle.pf_base.specs.Edges.{InReach, IsSuccessor, IsCheapestGoalPath}
 use Rattle.pf_base.specs.Walks.{end_of, HasNoGoalWalk}
 use Rattle.pf_core.specs.declared.labels.Label.{Label}
+use Rattle.pf_core.specs.declared.tested.Tested.{Tested}
 use Rattle.pf_core.specs.Labels.{Labels, HasLabel, IsChain}
 use Rattle.pf_core.specs.Nodes.{NodeGraph, StandsFor, IsStep}
 use Rattle.pf_core.specs.NodeLaws.{StandsFor-one, StandsFor-inside}
@@ -32,11 +30,14 @@ use Rattle.pf_informed.proofs.InformedLemmas.{goal_above, no_goal_fits, no_goal,
 use Rattle.pf_informed.proofs.NodeWalks.{never_above, stands_reached, estimate_is, overflow_at, no_walk_fits, estimate_at}
 use Rattle.pf_informed.proofs.WiderLemmas.{all_labelled, some_unlabelled, no_label}
 
-module _ {N C I S FN FS FH : Type 0} (eq : N → N → Bool) (laws : IsEquivalence eq) (value : C → ℤ) (becomes : I → S → Type 0) (can : S → Type 0) (left : S → Count) (next : S → Option (N × C) → S → Type 0) (calls : Mut FN (Bor N × Unit {0}) I) (tests : Mut FS (Bor N × Unit {0}) Bool) (estimates : Mut FH (Bor N × Unit {0}) C)
-    (start : N) (edges : N → List (N × ℤ)) (test : N → Bool) (least : N → ℤ) (keys : List N) (successors : FN) (success : FS) (estimate : FH) (kept : List C) (led : IsLed eq value becomes can left next calls tests estimates (record { starts = start ∷ []; edges = edges }) test least keys successors success estimate kept)
-    (asked : length kept ≡ length keys) (begins : StandsFor eq keys 0 start) where
+module _ {N C S T H Z : Type 0} {eq : N → N → Bool} (laws : IsEquivalence eq) {value : C → ℤ} {edge_answers : S → List N → (N → List (N × ℤ)) → Type 0} {test_answers : T → (N → Type 0) → (N → Bool) → Type 0} {estimate_answers : H → (N → Type 0) → (N → ℤ) → Type 0}
+    {start : N} {edges : N → List (N × ℤ)} {test : N → Bool} {least : N → ℤ} {found : Tested N S T Z} {estimate : H} {kept : List C} (led : IsLed eq value edge_answers test_answers estimate_answers (record { starts = start ∷ []; edges = edges }) test least found estimate kept)
+    (asked : length kept ≡ length found.discovery.nodes.keys) (begins : StandsFor eq found.discovery.nodes.keys 0 start) where
   abbrev graph : NodeGraph N
   graph = record { starts = start ∷ []; edges = edges }
+
+  abbrev keys : List N
+  keys = found.discovery.nodes.keys
 
   abbrev is_start : N → Type 0
   is_start y = eq start y ≡ true
@@ -45,10 +46,10 @@ module _ {N C I S FN FS FH : Type 0} (eq : N → N → Bool) (laws : IsEquivalen
   begins_at s e = StandsFor-same eq laws keys 0 start s begins e
 
   pub led_within : (k : ℕ) (x : N) → StandsFor eq keys k x → InReach eq edges (start ∷ []) x
-  led_within = stands_reached eq laws graph led.explores.alike value least led.asked.alike keys led.explores.reached kept led.estimated asked
+  led_within = stands_reached eq laws graph led.explores.alike value least led.same_estimate keys led.explores.reached kept led.estimated asked
 
   pub led_estimate : (k : ℕ) (x : N) (h : C) → StandsFor eq keys k x → slice_get kept k ≡ Some h → value h ≡ least x
-  led_estimate = estimate_is eq laws graph led.explores.alike value least led.asked.alike keys led.explores.reached kept led.estimated asked
+  led_estimate = estimate_is eq laws graph led.explores.alike value least led.same_estimate keys led.explores.reached kept led.estimated asked
 
   pub led_asked : (k : ℕ) (x : N) → StandsFor eq keys k x → (h : C) × (slice_get kept k ≡ Some h)
   led_asked k x st = estimate_at kept k (subst (λ (n : ℕ). k < n) (sym asked) (StandsFor-inside eq keys k x st))
@@ -83,7 +84,7 @@ module _ {N C I S FN FS FH : Type 0} (eq : N → N → Bool) (laws : IsEquivalen
     led_best number label at numbers chain good above keys' grows distinct nodes zip t same =
         let best = best_path value fits (IsStep eq graph) test (no_negative eq laws graph led.explores.alike led.costs) kept (StandsFor eq keys) labels entries forest (length keys) informed is_start begins_at (start, laws.refl start) number label at numbers chain good above in
         let grown = best_grows (IsStep eq graph) test is_start is_start (λ y. ((λ e. e), (λ e. e))) (length keys) (length keys') (StandsFor eq keys) (StandsFor eq keys') grows numbers (value label.cost) best in
-        best_answer eq laws graph led.explores.alike is_start (all_starts eq start is_start (λ y. ((λ e. e), (λ e. e)))) (only_starts eq start is_start (λ y. ((λ e. e), (λ e. e)))) test led.tested.alike
+        best_answer eq laws graph led.explores.alike is_start (all_starts eq start is_start (λ y. ((λ e. e), (λ e. e)))) (only_starts eq start is_start (λ y. ((λ e. e), (λ e. e)))) test led.same_test
         keys' (StandsFor-one eq laws keys' distinct) numbers nodes t (subst (IsBestNumbered (IsStep eq graph) test is_start (StandsFor eq keys') numbers) same grown) zip
 
     module _ (none : (k : ℕ) (l : Label C) → HasLabel labels k l → ¬ (IsWaiting value entries k l)) where

@@ -10,17 +10,27 @@ use Rattle.pf_base.specs.Answers.{AnswersGraph, AnswersTest}
 use Rattle.pf_base.specs.Edges.{InReach}
 use Rattle.pf_base.specs.NodeRefs.{HasSameNodes}
 use Rattle.pf_core.specs.declared.labels.Label.{Label}
+use Rattle.pf_core.specs.declared.source.Weighted.{Weighted}
+use Rattle.pf_core.specs.declared.tested.Tested.{Tested}
 use Rattle.pf_core.specs.Labels.{Labels, HasLabel}
-use Rattle.pf_core.specs.Nodes.{NodeGraph, StandsFor, Explores}
+use Rattle.pf_core.specs.Nodes.{NodeGraph, TestedGraph, Explores}
 use Rattle.pf_core.specs.Numbered.{Grows}
+use Rattle.pf_core.specs.Sources.{AnswersEdges}
 use Rattle.pf_core.proofs.LabelLemmas.{HasLabel-inside}
 use Rattle.pf_core.proofs.ListLemmas.{none_in}
 use Rattle.pf_core.proofs.NodeLemmas.{Explores-edges}
 use Rattle.pf_informed.specs.Estimates.{AnswersEstimate, IsInformedSearch}
+use Rattle.pf_informed.specs.Internal.Estimated.{IsEstimated}
 use Rattle.pf_informed.specs.Internal.Informed.{IsClosed, IsFoundFrom, IsInformed}
-use Rattle.pf_informed.specs.Internal.Led.{IsLed}
+use Rattle.pf_informed.specs.Internal.Led.{IsLed, FindsMore}
 use Rattle.pf_informed.specs.Internal.Waiting.{Entry, IsWaiting}
 use Rattle.pf_informed.proofs.KnownLemmas.{estimated_grown}
+
+abbrev pub graph_of : {N : Type 0} → N → (N → List (N × ℤ)) → NodeGraph N
+graph_of start edges = record { starts = start ∷ []; edges = edges }
+
+abbrev pub with_test : {N : Type 0} → NodeGraph N → (N → Bool) → TestedGraph N
+with_test g test = record { graph = g; test = test }
 
 -- the same numbers stand for what they stood for
 module _ {X C : Type 0} (value : C → ℤ) (fits : ℤ → Type 0) (step : X → ℤ → X → Type 0) (passes : X → Bool) (estimates : List C) (found found' : ℕ) (stands stands' : ℕ → X → Type 0) (grow : Grows found found' stands stands') (same : found' ≡ found) (labels : Labels C) (inside : length labels ≡ found) (entries : List (Entry C)) where
@@ -43,31 +53,49 @@ module _ {X C : Type 0} (value : C → ℤ) (fits : ℤ → Type 0) (step : X �
     ];
   }
 
--- what is known of the graph, where the functions answered once more
-module _ {N C I S FN FS FH : Type 0} (eq : N → N → Bool) (laws : IsEquivalence eq) (value : C → ℤ) (becomes : I → S → Type 0) (can : S → Type 0) (left : S → Count) (next : S → Option (N × C) → S → Type 0) (calls : Mut FN (Bor N × Unit {0}) I) (tests : Mut FS (Bor N × Unit {0}) Bool) (estimates : Mut FH (Bor N × Unit {0}) C)
-    (g : NodeGraph N) (test : N → Bool) (least : N → ℤ) (keys : List N) (successors : FN) (success : FS) (estimate : FH) (kept : List C) (led : IsLed eq value becomes can left next calls tests estimates g test least keys successors success estimate kept) where
-  pub led_grown : (keys' : List N) (successors' : FN) (success' : FS) → Grows (length keys) (length keys') (StandsFor eq keys) (StandsFor eq keys') → length kept ≡ length keys
-      → Explores eq value (λ e. e) becomes can left next calls g keys' successors' → AnswersTest tests eq success' (InReach eq g.edges g.starts) test → IsLed eq value becomes can left next calls tests estimates g test least keys' successors' success' estimate kept
-  led_grown keys' successors' success' grows asked explores tested = record {
+module _ {N C S T H Z : Type 0} {eq : N → N → Bool} {value : C → ℤ} {edge_answers : S → List N → (N → List (N × ℤ)) → Type 0} {test_answers : T → (N → Type 0) → (N → Bool) → Type 0} {estimate_answers : H → (N → Type 0) → (N → ℤ) → Type 0}
+    {g : NodeGraph N} {test : N → Bool} {least : N → ℤ} {graph : Tested N S T Z} {estimate : H} {kept : List C} (led : IsLed eq value edge_answers test_answers estimate_answers g test least graph estimate kept) where
+  -- what is known of the graph, where more nodes were found
+  pub led_grown : IsEquivalence eq → length kept ≡ length graph.discovery.nodes.keys → (graph' : Tested N S T Z) → FindsMore eq graph graph' → Explores eq edge_answers g graph'.discovery.nodes.keys graph'.discovery.source → test_answers graph'.success (InReach eq g.edges g.starts) test
+      → IsLed eq value edge_answers test_answers estimate_answers g test least graph' estimate kept
+  led_grown laws wide graph' finds explores tested = record {
     explores = explores;
     tested = tested;
+    same_test = led.same_test;
     asked = led.asked;
-    estimated = estimated_grown eq laws value least (InReach eq g.edges g.starts) led.asked.alike keys keys' led.explores.reached grows kept asked led.estimated;
+    same_estimate = led.same_estimate;
+    estimated = estimated_grown eq laws value least (InReach eq g.edges g.starts) led.same_estimate graph.discovery.nodes.keys graph'.discovery.nodes.keys led.explores.reached finds kept wide led.estimated;
+    admissible = led.admissible;
+    costs = led.costs;
+  }
+
+  -- and where more estimates were asked for
+  pub led_more : {estimate' : H} {kept' : List C} → estimate_answers estimate' (InReach eq g.edges g.starts) least → (IsEstimated value least (slice_get graph.discovery.nodes.keys) kept → IsEstimated value least (slice_get graph.discovery.nodes.keys) kept')
+      → IsLed eq value edge_answers test_answers estimate_answers g test least graph estimate' kept'
+  led_more asked estimated = record {
+    explores = led.explores;
+    tested = led.tested;
+    same_test = led.same_test;
+    asked = asked;
+    same_estimate = led.same_estimate;
+    estimated = estimated led.estimated;
     admissible = led.admissible;
     costs = led.costs;
   }
 
 -- what is known of the start alone
-module _ {N C I S FN FS FH : Type 0} (eq : N → N → Bool) (laws : IsEquivalence eq) (value : C → ℤ) (becomes : I → S → Type 0) (can : S → Type 0) (left : S → Count) (next : S → Option (N × C) → S → Type 0) (calls : Mut FN (Bor N × Unit {0}) I) (tests : Mut FS (Bor N × Unit {0}) Bool) (estimates : Mut FH (Bor N × Unit {0}) C) where
-  pub led_begin : (start : N) (edges : N → List (N × ℤ)) (test : N → Bool) (least : N → ℤ) (keys : List N) (successors : FN) (success : FS) (estimate : FH) (kept : List C) → IsDistinct eq keys → HasSameNodes eq keys (start ∷ []) → kept ≡ []
-      → IsInformedSearch eq edges (start ∷ []) (AnswersGraph calls becomes can left next eq value successors) (AnswersTest tests eq success) (AnswersEstimate estimates eq value estimate) test least
-      → IsLed eq value becomes can left next calls tests estimates (record { starts = start ∷ []; edges = edges }) test least keys successors success estimate kept
-  led_begin start edges test least keys successors success estimate kept distinct same none s =
+module _ {N C I S FN FS FH Z : Type 0} {eq : N → N → Bool} (laws : IsEquivalence eq) {value : C → ℤ} {becomes : I → S → Type 0} {can : S → Type 0} {left : S → Count} {next : S → Option (N × C) → S → Type 0} {calls : Mut FN (Bor N × Unit {0}) I} {tests : Mut FS (Bor N × Unit {0}) Bool} {estimates : Mut FH (Bor N × Unit {0}) C} where
+  pub led_begin : {start : N} {edges : N → List (N × ℤ)} {test : N → Bool} {least : N → ℤ} {graph : Tested N (Weighted FN) FS Z} {estimate : FH} {kept : List C} → IsDistinct eq graph.discovery.nodes.keys → HasSameNodes eq graph.discovery.nodes.keys (start ∷ []) → kept ≡ []
+      → IsInformedSearch eq edges (start ∷ []) (AnswersGraph calls becomes can left next eq value graph.discovery.source.function) (AnswersTest tests eq graph.success) (AnswersEstimate estimates eq value estimate) test least
+      → IsLed eq value (AnswersEdges eq (AnswersGraph calls becomes can left next eq value)) (AnswersTest tests eq) (AnswersEstimate estimates eq value) (graph_of start edges) test least graph estimate kept
+  led_begin {start} {edges} {graph = graph} {kept = kept} distinct same none s =
       let w = s.weighted in
       record {
-        explores = Explores-edges eq laws value becomes can left next calls (record { starts = start ∷ []; edges = edges }) keys successors distinct same w.edges_answered;
+        explores = Explores-edges eq laws (AnswersGraph calls becomes can left next eq value) (graph_of start edges) graph.discovery.nodes.keys graph.discovery.source.function distinct same w.edges_answered.alike w.edges_answered;
         tested = w.test_answered;
+        same_test = w.test_answered.alike;
         asked = s.estimate_answered;
+        same_estimate = s.estimate_answered.alike;
         estimated = λ k x c i j. absurd (none_in k c (subst (λ (es : List C). slice_get es k ≡ Some c) none j));
         admissible = s.admissible;
         costs = w.costs;

@@ -10,16 +10,17 @@ ghost use Rattle.pf_core.specs.Nodes.{NodeGraph, StandsFor};
 ghost use Rattle.pf_core.specs.Numbered.{Grows};
 ghost use Rattle.pf_informed.specs.Estimates.{IsPastRangeWithEstimate, NoGoalWalkFits};
 ghost use Rattle.pf_informed.specs.Internal.Labelled.{IsPastBest, IsLabelled};
-ghost use Rattle.pf_informed.specs.Internal.Led.{IsLed};
+ghost use Rattle.pf_informed.specs.Internal.Led.{IsLed, IsNew};
 ghost use Rattle.pf_informed.specs.Internal.Waiting.{entry_cmp, IsWaiting, IsQueue, IsTaken};
 
+use crate::functions::EstimateFunction;
 use crate::queue::{Queue, Taken, take_least};
 use crate::search::Search;
 use crate::turns::{begin, turn};
-use pf_base::{Cost, PathError};
-use pf_core::discovery::Weighted;
+use pf_base::{Cost, NodeTest, PathError};
 use pf_core::numbered::GoalGraph;
 use pf_core::slot::Slot;
+use pf_core::source::EdgeSource;
 use pf_core::tested::Tested;
 use std::alloc::Allocator;
 use std::hash::Hash;
@@ -91,39 +92,31 @@ fn best_with<C: Cost, G: GoalGraph<C>>(
 /// Searches from the only node that was found, with nothing known of it yet, until each number that
 /// waits is past the least cost of a walk to a goal. Goals are opened as other nodes are, so that each
 /// label is the cost of a cheapest walk. Answers the least cost, or `None` where no walk leads to a goal.
-pub(crate) fn label_cheapest<N, C, IN, FN, FH, FS, A>(
-    graph: &mut Tested<N, Weighted, IN, FN, FS, A>,
-    estimate: &mut FH,
+pub(crate) fn label_cheapest<N, C, S, T, H, A>(
+    graph: &mut Tested<N, S, T, A>,
+    estimate: &mut H,
     search: &mut Search<C, A>,
 ) -> Result<Option<C>, PathError>
 where
     N: Eq + Hash + Drop,
     C: Cost,
-    IN: IntoIterator<Item = (N, C)>,
-    FN: FnMut(&N) -> IN,
-    FH: FnMut(&N) -> C,
-    FS: FnMut(&N) -> bool,
+    S: EdgeSource<N, C>,
+    T: NodeTest<N>,
+    H: EstimateFunction<N, C>,
     A: Allocator + Copy,
     requires one { length graph.old.discovery.nodes.keys ≡ 1 }
-    requires unlabelled { search.old.labels.items ≡ [] }
-    requires unasked { search.old.estimates.items ≡ [] }
-    requires nothing_waits { heap_items search.old.queue ≡ [] }
-    requires ordered { IsHeap (entry_cmp C.cmp) (heap_items search.old.queue) }
+    requires new { IsNew C.cmp search.old }
     requires graph { (g : NodeGraph N) × (test : N → Bool) × (least : N → ℤ)
-        × IsLed N.eq C.value IN.into_iter_gives IN.IntoIter.can_next IN.IntoIter.remaining IN.IntoIter.next_gives FN.FnMut FS.FnMut FH.FnMut g test least
-        graph.old.discovery.nodes.keys graph.old.discovery.successors graph.old.success estimate.old search.old.estimates.items }
+        × IsLed N.eq C.value S.answers T.answers H.answers g test least graph.old estimate.old search.old.estimates.items }
     ensures wide { IfOk result (λ answer. MatchOption answer ⊤ (λ _. (length search.new.labels.items ≡ length graph.new.discovery.nodes.keys) × (0 < length search.new.labels.items))) }
     ensures labelled { (start : N) (edges : N → List (N × ℤ)) (test : N → Bool) (least : N → ℤ) → StandsFor N.eq graph.old.discovery.nodes.keys 0 start
-        → IsLed N.eq C.value IN.into_iter_gives IN.IntoIter.can_next IN.IntoIter.remaining IN.IntoIter.next_gives FN.FnMut FS.FnMut FH.FnMut (record { starts = start ∷ []; edges = edges }) test least
-        graph.old.discovery.nodes.keys graph.old.discovery.successors graph.old.success estimate.old search.old.estimates.items
+        → IsLed N.eq C.value S.answers T.answers H.answers (record { starts = start ∷ []; edges = edges }) test least graph.old estimate.old search.old.estimates.items
         → IfOk result (λ answer. MatchOption answer
         (HasNoGoalWalk N.eq (IsSuccessor N.eq edges) (start ∷ []) test)
-        (λ best. IsLed N.eq C.value IN.into_iter_gives IN.IntoIter.can_next IN.IntoIter.remaining IN.IntoIter.next_gives FN.FnMut FS.FnMut FH.FnMut (record { starts = start ∷ []; edges = edges }) test least
-        graph.new.discovery.nodes.keys graph.new.discovery.successors graph.new.success estimate.new search.new.estimates.items
+        (λ best. IsLed N.eq C.value S.answers T.answers H.answers (record { starts = start ∷ []; edges = edges }) test least graph.new estimate.new search.new.estimates.items
         × IsLabelled N.eq C.value edges start test graph.new.discovery.nodes.keys search.new.labels.items (C.value best))) }
     ensures overflow { (start : N) (edges : N → List (N × ℤ)) (test : N → Bool) (least : N → ℤ) → StandsFor N.eq graph.old.discovery.nodes.keys 0 start
-        → IsLed N.eq C.value IN.into_iter_gives IN.IntoIter.can_next IN.IntoIter.remaining IN.IntoIter.next_gives FN.FnMut FS.FnMut FH.FnMut (record { starts = start ∷ []; edges = edges }) test least
-        graph.old.discovery.nodes.keys graph.old.discovery.successors graph.old.success estimate.old search.old.estimates.items
+        → IsLed N.eq C.value S.answers T.answers H.answers (record { starts = start ∷ []; edges = edges }) test least graph.old estimate.old search.old.estimates.items
         → result ≡ Err PathError.CostOverflow
         → IsPastRangeWithEstimate N.eq edges (start ∷ []) least C.fits × NoGoalWalkFits N.eq edges (start ∷ []) test C.fits }
     ensures errors { IfErr result (λ e. (e ≡ PathError.OutOfMemory) ⊎ (e ≡ PathError.CostOverflow)) }

@@ -4,7 +4,7 @@
 //! that it was given, and the entries of labels that were lowered since are passed over.
 
 ghost use Rattle.std.specs.BinaryHeap.{IsHeap, heap_items, heap_len};
-ghost use Rattle.std.specs.Prelude.{◌≡◌, ◌⊎◌, ◌≤◌, ◌≤ℤ◌, ◌<ℤ◌, ◌+◌, ◌++◌, ◌↔◌, ◌∷◌, [], ℕ, Contains, IsPermutation, IfErr, IfOk, OnOk, MatchBool, MatchOption, length};
+ghost use Rattle.std.specs.Prelude.{◌≡◌, ◌⊎◌, ◌≤◌, ◌≤ℤ◌, ◌<ℤ◌, ◌+◌, ◌++◌, ◌↔◌, [], Contains, IsPermutation, IfErr, IfOk, OnOk, MatchBool, MatchOption, length};
 ghost use Rattle.pf_core.specs.declared.labels.Label.{Label};
 ghost use Rattle.pf_core.specs.Labels.{HasLabel};
 ghost use Rattle.pf_informed.specs.Internal.Waiting.{Entry, entry_cmp, IsQueue};

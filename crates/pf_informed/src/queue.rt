@@ -5,7 +5,7 @@
 
 ghost use Rattle.std.specs.declared.cmp.Reverse.{Reverse};
 ghost use Rattle.std.specs.BinaryHeap.{IsHeap, heap_items, heap_len, heap_capacity};
-ghost use Rattle.std.specs.Prelude.{◌≡◌, ◌<◌, ◌≤◌, ◌≤ℤ◌, ◌+ℤ◌, ◌+◌, ◌*◌, ◌^◌, ◌∷◌, [], ℕ, pos, Contains, IsPermutation, MatchOption, Some, length, slice_get};
+ghost use Rattle.std.specs.Prelude.{◌≡◌, ◌<◌, ◌≤◌, ◌≤ℤ◌, ◌+◌, ◌*◌, ◌^◌, ◌∷◌, [], ℕ, pos, Contains, IsPermutation, MatchOption, Some, length};
 ghost use Rattle.pf_core.specs.declared.labels.Label.{Label};
 ghost use Rattle.pf_core.specs.Labels.{HasLabel};
 ghost use Rattle.pf_informed.specs.Internal.Forest.{IsForest, total_room, nat_of};

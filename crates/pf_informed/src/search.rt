@@ -6,7 +6,8 @@ ghost use Rattle.pf_core.specs.declared.labels.Label.{Label};
 ghost use Rattle.pf_core.specs.Labels.{HasLabel};
 ghost use Rattle.pf_informed.specs.Internal.Forest.{IsForest, nat_of};
 ghost use Rattle.pf_informed.specs.Internal.Informed.{Follows, work_left};
-ghost use Rattle.pf_informed.specs.Internal.Waiting.{Entry, entry_cmp, IsQueue};
+ghost use Rattle.pf_informed.specs.Internal.Led.{IsNew};
+ghost use Rattle.pf_informed.specs.Internal.Waiting.{entry_cmp, IsQueue};
 
 use crate::labels::make_room;
 use crate::queue::{Queue, relax};
@@ -30,10 +31,7 @@ pub(crate) struct Search<C: Cost, A: Allocator> {
 impl<C: Cost, A: Allocator + Copy> Search<C, A> {
     /// A search that knows nothing yet.
     pub fn new(alloc: A) -> Self
-        ensures labels { result.labels.items ≡ [] }
-        ensures estimates { result.estimates.items ≡ [] }
-        ensures queue { heap_items result.queue ≡ [] }
-        ensures ordered { IsHeap (entry_cmp C.cmp) (heap_items result.queue) }
+        ensures { IsNew C.cmp result }
     {
         Search {
             labels: Vec::new(alloc),

@@ -1,9 +1,7 @@
 //! The numbers before each number on cheapest ways.
 
-ghost use Rattle.std.specs.Prelude.{◌≡◌, ◌⊎◌, ◌↔◌, ◌<◌, ◌≤◌, ◌≤ℤ◌, ◌+◌, ◌++◌, ◌∷◌, [], ℕ, List, OnOk, IfOk, IfErr, MatchBool, Contains, length, nat_eq};
+ghost use Rattle.std.specs.Prelude.{◌≡◌, ◌⊎◌, ◌↔◌, ◌<◌, ◌≤◌, ◌+◌, ◌++◌, ◌∷◌, [], ℕ, List, OnOk, IfOk, IfErr, MatchBool, Contains, length, nat_eq};
 ghost use Rattle.pf_base.specs.Walks.{HasNode};
-ghost use Rattle.pf_core.specs.declared.labels.Label.{Label};
-ghost use Rattle.pf_core.specs.Labels.{HasLabel};
 ghost use Rattle.pf_core.specs.Numbered.{Grows};
 ghost use Rattle.pf_informed.specs.Internal.Ways.{before_in};
 ghost use Rattle.pf_informed.specs.Internal.Tight.{IsUpTo, IsTightStep, IsTight};

@@ -2,81 +2,73 @@
 
 ghost use Rattle.std.specs.BinaryHeap.{IsHeap, heap_items, heap_len};
 ghost use Rattle.std.specs.List.{AllZip};
-ghost use Rattle.std.specs.Prelude.{◌≡◌, ◌≤◌, ◌++◌, ℕ, ℤ, Bool, false, List, [], OnOk, IfOk, IfErr, length};
+ghost use Rattle.std.specs.Prelude.{◌≡◌, ◌≤◌, ◌++◌, ℕ, ℤ, Bool, false, List, OnOk, IfOk, IfErr, length};
 ghost use Rattle.pf_base.specs.Answers.{IsLawfulClone};
 ghost use Rattle.pf_core.specs.declared.labels.Label.{Label};
 ghost use Rattle.pf_core.specs.Labels.{HasLabel, IsChain};
-ghost use Rattle.pf_core.specs.Nodes.{NodeGraph, StandsFor, IsStep};
-ghost use Rattle.pf_core.specs.Numbered.{Grows};
+ghost use Rattle.pf_core.specs.Nodes.{NodeGraph, StandsFor};
 ghost use Rattle.pf_informed.specs.Internal.Forest.{IsForest, nat_of};
-ghost use Rattle.pf_informed.specs.Internal.Informed.{IsInformed, work_left};
-ghost use Rattle.pf_informed.specs.Internal.Led.{IsLed, OthersWait};
+ghost use Rattle.pf_informed.specs.Internal.Informed.{work_left};
+ghost use Rattle.pf_informed.specs.Internal.Led.{IsLed, IsNew, FindsMore, IsInformedOn, OthersWait};
 ghost use Rattle.pf_informed.specs.Internal.Waiting.{Entry, entry_cmp, IsQueue};
 
 use crate::estimates::ask;
+use crate::functions::EstimateFunction;
 use crate::labels::path_to;
 use crate::search::Search;
-use pf_base::{Cost, PathError};
-use pf_core::discovery::Weighted;
+use pf_base::{Cost, NodeTest, PathError};
 use pf_core::numbered::NumberedGraph;
+use pf_core::source::EdgeSource;
 use pf_core::tested::Tested;
 use std::alloc::Allocator;
 use std::hash::Hash;
 
 /// Begins a search at the only node that was found.
-pub(crate) fn begin<N, C, IN, FN, FH, FS, A>(
-    graph: &Tested<N, Weighted, IN, FN, FS, A>,
-    estimate: &mut FH,
+pub(crate) fn begin<N, C, S, T, H, A>(
+    graph: &Tested<N, S, T, A>,
+    estimate: &mut H,
     search: &mut Search<C, A>,
 ) -> Result<(), PathError>
 where
     N: Eq + Hash + Drop,
     C: Cost,
-    IN: IntoIterator<Item = (N, C)>,
-    FN: FnMut(&N) -> IN,
-    FH: FnMut(&N) -> C,
-    FS: FnMut(&N) -> bool,
+    S: EdgeSource<N, C>,
+    T: NodeTest<N>,
+    H: EstimateFunction<N, C>,
     A: Allocator + Copy,
     requires one { length graph.now.discovery.nodes.keys ≡ 1 }
-    requires unlabelled { search.old.labels.items ≡ [] }
-    requires unasked { search.old.estimates.items ≡ [] }
-    requires nothing_waits { heap_items search.old.queue ≡ [] }
-    requires ordered { IsHeap (entry_cmp C.cmp) (heap_items search.old.queue) }
+    requires new { IsNew C.cmp search.old }
     requires graph { (g : NodeGraph N) × (test : N → Bool) × (least : N → ℤ)
-        × IsLed N.eq C.value IN.into_iter_gives IN.IntoIter.can_next IN.IntoIter.remaining IN.IntoIter.next_gives FN.FnMut FS.FnMut FH.FnMut g test least
-        graph.now.discovery.nodes.keys graph.now.discovery.successors graph.now.success estimate.old search.old.estimates.items }
+        × IsLed N.eq C.value S.answers T.answers H.answers g test least graph.now estimate.old search.old.estimates.items }
     ensures labelled { OnOk result (length search.new.labels.items ≡ 1) }
     ensures asked { OnOk result (length search.new.estimates.items ≡ 1) }
     ensures forest { OnOk result (IsForest C.value search.new.labels.items) }
     ensures ordered { OnOk result (IsHeap (entry_cmp C.cmp) (heap_items search.new.queue)) }
     ensures queue { OnOk result (IsQueue C.value search.new.labels.items search.new.estimates.items (heap_items search.new.queue)) }
     ensures graph { OnOk result ((g : NodeGraph N) (test : N → Bool) (least : N → ℤ)
-        → IsLed N.eq C.value IN.into_iter_gives IN.IntoIter.can_next IN.IntoIter.remaining IN.IntoIter.next_gives FN.FnMut FS.FnMut FH.FnMut g test least
-        graph.now.discovery.nodes.keys graph.now.discovery.successors graph.now.success estimate.old search.old.estimates.items
-        → IsLed N.eq C.value IN.into_iter_gives IN.IntoIter.can_next IN.IntoIter.remaining IN.IntoIter.next_gives FN.FnMut FS.FnMut FH.FnMut g test least
-        graph.now.discovery.nodes.keys graph.now.discovery.successors graph.now.success estimate.new search.new.estimates.items
-        × ((passes : N → Bool) → IsInformed C.value C.fits search.new.estimates.items (IsStep N.eq g) passes (StandsFor N.eq graph.now.discovery.nodes.keys) search.new.labels.items (heap_items search.new.queue) (length graph.now.discovery.nodes.keys))) }
+        → IsLed N.eq C.value S.answers T.answers H.answers g test least graph.now estimate.old search.old.estimates.items
+        → IsLed N.eq C.value S.answers T.answers H.answers g test least graph.now estimate.new search.new.estimates.items
+        × ((passes : N → Bool) → IsInformedOn N.eq C.value C.fits g passes graph.now search.new (heap_items search.new.queue))) }
     ensures refused { IfErr result (λ e. e ≡ PathError.OutOfMemory) }
 {
-    ask(graph, estimate, &mut search.estimates)?;
+    ask(&graph.discovery.nodes, estimate, &mut search.estimates)?;
     search.begin()
 }
 
 /// Opens a number that was taken out: finds what its node leads to, asks for the estimates of what is
 /// new, and takes the steps.
-pub(crate) fn turn<N, C, IN, FN, FH, FS, A>(
-    graph: &mut Tested<N, Weighted, IN, FN, FS, A>,
-    estimate: &mut FH,
+pub(crate) fn turn<N, C, S, T, H, A>(
+    graph: &mut Tested<N, S, T, A>,
+    estimate: &mut H,
     search: &mut Search<C, A>,
     number: usize,
 ) -> Result<(), PathError>
 where
     N: Eq + Hash + Drop,
     C: Cost,
-    IN: IntoIterator<Item = (N, C)>,
-    FN: FnMut(&N) -> IN,
-    FH: FnMut(&N) -> C,
-    FS: FnMut(&N) -> bool,
+    S: EdgeSource<N, C>,
+    T: NodeTest<N>,
+    H: EstimateFunction<N, C>,
     A: Allocator + Copy,
     requires labelled { (l : Label C) × HasLabel search.old.labels.items number l }
     requires wide { length search.old.labels.items ≡ length graph.old.discovery.nodes.keys }
@@ -85,11 +77,10 @@ where
     requires ordered { IsHeap (entry_cmp C.cmp) (heap_items search.old.queue) }
     requires queue { IsQueue C.value search.old.labels.items search.old.estimates.items (heap_items search.old.queue) }
     requires graph { (g : NodeGraph N) × (test : N → Bool) × (least : N → ℤ)
-        × IsLed N.eq C.value IN.into_iter_gives IN.IntoIter.can_next IN.IntoIter.remaining IN.IntoIter.next_gives FN.FnMut FS.FnMut FH.FnMut g test least
-        graph.old.discovery.nodes.keys graph.old.discovery.successors graph.old.success estimate.old search.old.estimates.items }
+        × IsLed N.eq C.value S.answers T.answers H.answers g test least graph.old estimate.old search.old.estimates.items }
     ensures wide { OnOk result (length search.new.labels.items ≡ length graph.new.discovery.nodes.keys) }
     ensures asked { OnOk result (length search.new.estimates.items ≡ length graph.new.discovery.nodes.keys) }
-    ensures grows { Grows (length graph.old.discovery.nodes.keys) (length graph.new.discovery.nodes.keys) (StandsFor N.eq graph.old.discovery.nodes.keys) (StandsFor N.eq graph.new.discovery.nodes.keys) }
+    ensures grows { FindsMore N.eq graph.old graph.new }
     ensures forest { OnOk result (IsForest C.value search.new.labels.items) }
     ensures ordered { OnOk result (IsHeap (entry_cmp C.cmp) (heap_items search.new.queue)) }
     ensures queue { OnOk result ((rest : List (Entry C)) → IsQueue C.value search.old.labels.items search.old.estimates.items (heap_items search.old.queue ++ rest)
@@ -97,25 +88,23 @@ where
     ensures less { OnOk result (work_left C.value (nat_of (C.value C.greatest)) search.new.labels.items (heap_len search.new.queue)
         ≤ work_left C.value (nat_of (C.value C.greatest)) search.old.labels.items (heap_len search.old.queue)) }
     ensures graph { OnOk result ((g : NodeGraph N) (test : N → Bool) (least : N → ℤ)
-        → IsLed N.eq C.value IN.into_iter_gives IN.IntoIter.can_next IN.IntoIter.remaining IN.IntoIter.next_gives FN.FnMut FS.FnMut FH.FnMut g test least
-        graph.old.discovery.nodes.keys graph.old.discovery.successors graph.old.success estimate.old search.old.estimates.items
-        → IsLed N.eq C.value IN.into_iter_gives IN.IntoIter.can_next IN.IntoIter.remaining IN.IntoIter.next_gives FN.FnMut FS.FnMut FH.FnMut g test least
-        graph.new.discovery.nodes.keys graph.new.discovery.successors graph.new.success estimate.new search.new.estimates.items
+        → IsLed N.eq C.value S.answers T.answers H.answers g test least graph.old estimate.old search.old.estimates.items
+        → IsLed N.eq C.value S.answers T.answers H.answers g test least graph.new estimate.new search.new.estimates.items
         × ((passes : N → Bool) (before rest : List (Entry C)) → ((x : N) → StandsFor N.eq graph.old.discovery.nodes.keys number x → passes x ≡ false)
         → OthersWait C.value search.old.labels.items number before (heap_items search.old.queue ++ rest)
-        → IsInformed C.value C.fits search.old.estimates.items (IsStep N.eq g) passes (StandsFor N.eq graph.old.discovery.nodes.keys) search.old.labels.items before (length graph.old.discovery.nodes.keys)
-        → IsInformed C.value C.fits search.new.estimates.items (IsStep N.eq g) passes (StandsFor N.eq graph.new.discovery.nodes.keys) search.new.labels.items (heap_items search.new.queue ++ rest) (length graph.new.discovery.nodes.keys))) }
+        → IsInformedOn N.eq C.value C.fits g passes graph.old search.old before
+        → IsInformedOn N.eq C.value C.fits g passes graph.new search.new (heap_items search.new.queue ++ rest))) }
     ensures refused { IfErr result (λ e. e ≡ PathError.OutOfMemory) }
 {
     graph.expand(number, &mut search.row)?;
-    ask(graph, estimate, &mut search.estimates)?;
+    ask(&graph.discovery.nodes, estimate, &mut search.estimates)?;
     search.follow(number)
 }
 
 /// Clones of the nodes on the path to a number.
-pub(crate) fn nodes_to<N, C, IN, FN, FS, A>(
+pub(crate) fn nodes_to<N, C, S, T, A>(
     alloc: A,
-    graph: &Tested<N, Weighted, IN, FN, FS, A>,
+    graph: &Tested<N, S, T, A>,
     search: &Search<C, A>,
     number: usize,
 ) -> Result<Vec<N, A>, PathError>

@@ -1,10 +1,10 @@
 //! Ways back from goals to number 0, one at a time.
 
-ghost use Rattle.std.specs.Prelude.{◌≡◌, ◌≢◌, ◌<◌, ◌≤◌, ◌+◌, ◌-◌, ◌++◌, ◌∷◌, [], ℕ, List, Some, Ok, false, OnOk, OnErr, IfOk, IfErr, MatchBool, MatchOption, Contains, length, nat_eq, reverse, slice_get, slice_set, take};
+ghost use Rattle.std.specs.Prelude.{◌≡◌, ◌≢◌, ◌<◌, ◌≤◌, ◌+◌, ◌-◌, ◌++◌, ◌∷◌, [], ℕ, List, Some, Ok, false, OnOk, OnErr, IfOk, IfErr, MatchBool, MatchOption, length, nat_eq, reverse, slice_get, slice_set, take};
 ghost use Rattle.pf_base.specs.Walks.{HasNode};
 ghost use Rattle.pf_core.specs.declared.depth_first.Branch.{Branch};
 ghost use Rattle.pf_core.specs.DepthFirst.{branches_at};
-ghost use Rattle.pf_informed.specs.Internal.Ways.{AreWays, IsWhole, before_in, each_of, is_in, ways_left, ways_to};
+ghost use Rattle.pf_informed.specs.Internal.Ways.{AreWays, AreWaysIn, IsWhole, before_in, each_of, is_in, ways_left, ways_to};
 
 use pf_base::PathError;
 use pf_core::depth_first::Branch;
@@ -144,7 +144,7 @@ impl<A: Allocator + Copy> Ways<A> {
     /// Moves on to the next whole way, whose last branch waits still: `false` where none is left. Where
     /// memory is refused, the same ways are left.
     pub fn find(&mut self) -> Result<bool, PathError>
-        requires { AreWays (length self.old.before.items) (before_in self.old.before.items) self.old.way.items self.old.places.items self.old.waiting.items }
+        requires { AreWaysIn self.old }
         ensures before { self.new.before.items ≡ self.old.before.items }
         ensures kept { AreWays (length self.old.before.items) (before_in self.old.before.items) self.new.way.items self.new.places.items self.new.waiting.items }
         ensures left { ways_left (before_in self.old.before.items) (length self.old.before.items) self.new.way.items self.new.waiting.items

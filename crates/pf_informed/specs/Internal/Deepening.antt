@@ -1,10 +1,12 @@
 -- What a depth-first search to a growing limit on cost and estimate knows.
-use Rattle.std.specs.Prelude.{◌≡◌, ◌≤◌, ◌<◌, ◌+◌, ◌-◌, ◌*◌, ◌^◌, ◌⊎◌, ◌↔◌, ◌≤ℤ◌, ◌<ℤ◌, ◌+ℤ◌, ℕ, ℤ, pos, Bool, true, List, [], ◌∷◌, Option, Some, Contains, slice_get, length, ⊤}
+use Rattle.std.specs.Prelude.{◌≡◌, ◌≤◌, ◌<◌, ◌+◌, ◌-◌, ◌*◌, ◌^◌, ◌⊎◌, ◌↔◌, ◌≤ℤ◌, ◌<ℤ◌, ◌+ℤ◌, ℕ, ℤ, pos, Bool, true, List, [], ◌∷◌, Option, Some, Contains, slice_get, length, reverse, ⊤}
 use Rattle.pf_base.specs.Walks.{HasNode, NoRepeats, end_of}
 use Rattle.pf_core.specs.Nodes.{NodeGraph, StandsFor}
 use Rattle.pf_core.specs.Steps.{GoesAlong, IsNumberedPath}
 use Rattle.pf_informed.specs.declared.directed.idastar.rows.Span.{Span}
+use Rattle.pf_informed.specs.declared.directed.idastar.known.Known.{Known}
 use Rattle.pf_informed.specs.declared.directed.idastar.way.Frame.{Frame}
+use Rattle.pf_informed.specs.declared.directed.idastar.way.Way.{Way}
 use Rattle.pf_informed.specs.declared.directed.idastar.round.Round.{Round}
 use Rattle.pf_informed.specs.declared.directed.idastar.round.Round.TheVariants.{Found, Missed}
 use Rattle.pf_informed.specs.Internal.Rows.{HasSpan, IsCheapStep}
@@ -124,3 +126,15 @@ pub record IsMarkedWay {C : Type 0} (value : C → ℤ) (limit : C) (found : ℕ
   pub marked : (k : ℕ) → IsMarked marks k ↔ Contains (numbers_of (frame ∷ below)) k
   pub inside : (k : ℕ) → Contains (numbers_of (frame ∷ below)) k → k < found
   pub above : (n : C) → cut ≡ Some n → value limit <ℤ value n
+
+module _ {C Z : Type 0} (way : Way C Z) where
+  -- how many turns the way can take at most
+  abbrev pub turns_on : ℕ
+  turns_on = turns_left (2 ^ 64) (2 ^ 64) way.frame (reverse way.trail.items)
+
+  abbrev pub IsMarkedOn : (C → ℤ) → C → ℕ → Type 0
+  IsMarkedOn value limit found = IsMarkedWay value limit found way.marks.items way.frame (reverse way.trail.items) way.cut_off.least
+
+  -- where a search stands that has come so far
+  abbrev pub IsUnderWay : {N S T H : Type 0} → (N → N → Bool) → (C → ℤ) → (ℤ → Type 0) → NodeGraph N → (N → Bool) → (N → ℤ) → N → Known N C S T H Z → Type 0
+  IsUnderWay eq value fits g test least first known = IsOnWay eq value fits g test least first known.graph.discovery.nodes.keys known.rows.steps.items known.rows.spans.items way.frame (reverse way.trail.items) way.cut_off.least way.cut_off.past

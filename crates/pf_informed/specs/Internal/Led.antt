@@ -1,26 +1,45 @@
 -- What a search led by estimates knows of its graph, and what opening a number leaves.
-use Rattle.std.specs.Prelude.{◌≡◌, ◌⊎◌, ℕ, ℤ, Bool, List, Option, slice_get}
-use Rattle.std.specs.Borrow.{Bor}
-use Rattle.std.specs.Fn.{Mut}
-use Rattle.std.specs.Iterator.{Count}
-use Rattle.pf_base.specs.Answers.{AnswersTest}
+use Rattle.std.specs.Prelude.{◌≡◌, ◌⊎◌, ℕ, ℤ, Bool, true, List, [], slice_get, length}
+use Rattle.std.specs.BinaryHeap.{IsHeap, heap_items}
+use Rattle.std.specs.declared.cmp.Ordering.{Ordering}
 use Rattle.pf_base.specs.Edges.{InReach, HasNoNegativeCost}
 use Rattle.pf_core.specs.declared.labels.Label.{Label}
+use Rattle.pf_core.specs.declared.tested.Tested.{Tested}
 use Rattle.pf_core.specs.Labels.{Labels, HasLabel}
-use Rattle.pf_core.specs.Nodes.{NodeGraph, Explores}
-use Rattle.pf_informed.specs.Estimates.{AnswersEstimate, IsAdmissible}
+use Rattle.pf_core.specs.Nodes.{NodeGraph, StandsFor, IsStep, Explores}
+use Rattle.pf_core.specs.Numbered.{Grows}
+use Rattle.pf_informed.specs.Estimates.{IsAdmissible}
 use Rattle.pf_informed.specs.Internal.Estimated.{IsEstimated}
-use Rattle.pf_informed.specs.Internal.Waiting.{Entry, IsWaiting}
+use Rattle.pf_informed.specs.Internal.Informed.{IsInformed}
+use Rattle.pf_informed.specs.Internal.Waiting.{Entry, entry_cmp, IsWaiting}
+use Rattle.pf_informed.specs.declared.search.Search.{Search}
 
--- The functions answer a graph, a test and an estimate, and each estimate that is kept is right. No estimate is above the cost of a walk to a goal, and no edge in reach costs less than 0.
-module _ {N C I S FN FS FH : Type 0} (eq : N → N → Bool) (value : C → ℤ) (becomes : I → S → Type 0) (can : S → Type 0) (left : S → Count) (next : S → Option (N × C) → S → Type 0) (calls : Mut FN (Bor N × Unit {0}) I) (tests : Mut FS (Bor N × Unit {0}) Bool) (estimates : Mut FH (Bor N × Unit {0}) C) where
-  pub record IsLed (g : NodeGraph N) (test : N → Bool) (least : N → ℤ) (keys : List N) (successors : FN) (success : FS) (estimate : FH) (kept : List C) : Type 0 where
-    pub explores : Explores eq value (λ e. e) becomes can left next calls g keys successors
-    pub tested : AnswersTest tests eq success (InReach eq g.edges g.starts) test
-    pub asked : AnswersEstimate estimates eq value estimate (InReach eq g.edges g.starts) least
-    pub estimated : IsEstimated value least (slice_get keys) kept
+-- What is asked answers a graph, a test and an estimate, and each estimate that is kept is right. No estimate is above the cost of a walk to a goal, and no edge in reach costs less than 0.
+module _ {N C S T H Z : Type 0} (eq : N → N → Bool) (value : C → ℤ) (edge_answers : S → List N → (N → List (N × ℤ)) → Type 0) (test_answers : T → (N → Type 0) → (N → Bool) → Type 0) (estimate_answers : H → (N → Type 0) → (N → ℤ) → Type 0) where
+  pub record IsLed (g : NodeGraph N) (test : N → Bool) (least : N → ℤ) (graph : Tested N S T Z) (estimate : H) (kept : List C) : Type 0 where
+    pub explores : Explores eq edge_answers g graph.discovery.nodes.keys graph.discovery.source
+    pub tested : test_answers graph.success (InReach eq g.edges g.starts) test
+    pub same_test : (x y : N) → InReach eq g.edges g.starts x → eq x y ≡ true → test x ≡ test y
+    pub asked : estimate_answers estimate (InReach eq g.edges g.starts) least
+    pub same_estimate : (x y : N) → InReach eq g.edges g.starts x → eq x y ≡ true → least x ≡ least y
+    pub estimated : IsEstimated value least (slice_get graph.discovery.nodes.keys) kept
     pub admissible : IsAdmissible eq g.edges g.starts test least
     pub costs : HasNoNegativeCost eq g.edges g.starts
+
+-- nothing is known of the labels and the estimates, and nothing waits
+pub record IsNew {C Z : Type 0} (cmp : C → C → Ordering) (search : Search C Z) : Type 0 where
+  pub unlabelled : search.labels.items ≡ []
+  pub unasked : search.estimates.items ≡ []
+  pub nothing_waits : heap_items search.queue ≡ []
+  pub ordered : IsHeap (entry_cmp cmp) (heap_items search.queue)
+
+-- the numbers of a graph stand for what they stood for, and more numbers may stand
+abbrev pub FindsMore : {N S T Z : Type 0} → (N → N → Bool) → Tested N S T Z → Tested N S T Z → Type 0
+FindsMore eq graph graph' = Grows (length graph.discovery.nodes.keys) (length graph'.discovery.nodes.keys) (StandsFor eq graph.discovery.nodes.keys) (StandsFor eq graph'.discovery.nodes.keys)
+
+-- what the search knows of the graph, where these entries wait
+abbrev pub IsInformedOn : {N C S T Z Z' : Type 0} → (N → N → Bool) → (C → ℤ) → (ℤ → Type 0) → NodeGraph N → (N → Bool) → Tested N S T Z → Search C Z' → List (Entry C) → Type 0
+IsInformedOn eq value fits g passes graph search entries = IsInformed value fits search.estimates.items (IsStep eq g) passes (StandsFor eq graph.discovery.nodes.keys) search.labels.items entries (length graph.discovery.nodes.keys)
 
 -- each label that waited waits on, but for that of this number
 abbrev pub OthersWait : {C : Type 0} → (C → ℤ) → Labels C → ℕ → List (Entry C) → List (Entry C) → Type 0

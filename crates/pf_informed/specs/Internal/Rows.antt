@@ -1,13 +1,9 @@
 -- Rows of steps: which of parallel steps are kept, and where the row of a number stands.
 use Rattle.std.specs.Prelude.{◌≡◌, ◌≤◌, ◌<◌, ◌≤ℤ◌, ℕ, ℤ, Bool, false, List, Option, Some, Contains, slice_get, length}
-use Rattle.std.specs.Borrow.{Bor}
-use Rattle.std.specs.Fn.{Mut}
-use Rattle.std.specs.Iterator.{Count}
-use Rattle.pf_base.specs.Answers.{AnswersTest}
-use Rattle.pf_base.specs.Edges.{InReach, StepCosts, HasNoNegativeCost}
-use Rattle.pf_core.specs.Nodes.{NodeGraph, StandsFor, Explores}
-use Rattle.pf_informed.specs.Estimates.{AnswersEstimate, IsAdmissible}
-use Rattle.pf_informed.specs.Internal.Estimated.{IsEstimated}
+use Rattle.pf_base.specs.Edges.{InReach, StepCosts}
+use Rattle.pf_core.specs.Nodes.{NodeGraph, StandsFor}
+use Rattle.pf_informed.specs.Internal.Led.{IsLed}
+use Rattle.pf_informed.specs.declared.directed.idastar.known.Known.{Known}
 use Rattle.pf_informed.specs.declared.directed.idastar.rows.Span.{Span}
 
 -- The row has a step to each number to which one of the steps leads, the cheapest of them, and no other. Its places are kept by number.
@@ -42,13 +38,17 @@ module _ {X C : Type 0} (value : C → ℤ) (step : X → ℤ → X → Type 0) 
     pub sound : (k : ℕ) (s : Span) (x : X) → HasSpan spans k s → stands k x → (i j : ℕ) (c : C) → IsIn s i → slice_get steps i ≡ Some (j, c) → (y : X) × step x (value c) y × stands j y
     pub complete : (k : ℕ) (s : Span) (x : X) → HasSpan spans k s → stands k x → (z : ℤ) (y : X) → step x z y → (i j : ℕ) × (c : C) × IsIn s i × (slice_get steps i ≡ Some (j, c)) × stands j y × (value c ≡ z)
 
--- What is known of a graph: the functions answer it, each estimate that is kept is right, and so is each row. No estimate is above the cost of a walk to a goal, and no edge in reach costs less than 0.
-module _ {N C I S FN FS FH : Type 0} (eq : N → N → Bool) (value : C → ℤ) (becomes : I → S → Type 0) (can : S → Type 0) (left : S → Count) (next : S → Option (N × C) → S → Type 0) (calls : Mut FN (Bor N × Unit {0}) I) (tests : Mut FS (Bor N × Unit {0}) Bool) (estimates : Mut FH (Bor N × Unit {0}) C) where
-  pub record IsKnown (g : NodeGraph N) (test : N → Bool) (least : N → ℤ) (keys : List N) (successors : FN) (success : FS) (estimate : FH) (kept : List C) (steps : List (ℕ × C)) (spans : List (Option Span)) : Type 0 where
-    pub explores : Explores eq value (λ e. e) becomes can left next calls g keys successors
-    pub tested : AnswersTest tests eq success (InReach eq g.edges g.starts) test
-    pub asked : AnswersEstimate estimates eq value estimate (InReach eq g.edges g.starts) least
-    pub estimated : IsEstimated value least (slice_get keys) kept
-    pub rows : HasRows value (IsCheapStep eq g) test (StandsFor eq keys) steps spans
-    pub admissible : IsAdmissible eq g.edges g.starts test least
-    pub costs : HasNoNegativeCost eq g.edges g.starts
+module _ {N C S T H Z : Type 0} where
+  -- how many nodes were found
+  abbrev pub found_in : Known N C S T H Z → ℕ
+  found_in known = length known.graph.discovery.nodes.keys
+
+  -- what is kept of these is a table
+  abbrev pub IsTabled : Known N C S T H Z → Type 0
+  IsTabled known = IsTable (found_in known) known.rows.steps.items known.rows.spans.items
+
+  -- What is known of a graph: what a search led by estimates knows, and that each row is right.
+  module _ (eq : N → N → Bool) (value : C → ℤ) (edge_answers : S → List N → (N → List (N × ℤ)) → Type 0) (test_answers : T → (N → Type 0) → (N → Bool) → Type 0) (estimate_answers : H → (N → Type 0) → (N → ℤ) → Type 0) where
+    pub record IsKnown (g : NodeGraph N) (test : N → Bool) (least : N → ℤ) (known : Known N C S T H Z) : Type 0 where
+      pub led : IsLed eq value edge_answers test_answers estimate_answers g test least known.graph known.estimate known.estimates.items
+      pub rows : HasRows value (IsCheapStep eq g) test (StandsFor eq known.graph.discovery.nodes.keys) known.rows.steps.items known.rows.spans.items

@@ -6,6 +6,7 @@ use Rattle.pf_base.specs.Answers.{SameNodes}
 use Rattle.pf_informed.specs.CheapestPaths.{PathsToCome}
 use Rattle.pf_base.specs.Walks.{HasNode, NoRepeats}
 use Rattle.pf_core.specs.declared.depth_first.Branch.{Branch}
+use Rattle.pf_informed.specs.declared.ways.Ways.{Ways}
 
 -- all items that f gives, those of the last element first
 abbrev pub each_of : {A B : Type 0} → (A → List B) → List A → List B
@@ -86,6 +87,14 @@ nodes_of keys (k ∷ ks) = node_and (slice_get keys k) (nodes_of keys ks)
 -- the paths that these ways stand for
 abbrev pub paths_of : {N : Type 0} → List N → List (List ℕ) → List (List N)
 paths_of keys ks = map (nodes_of keys) ks
+
+-- where a walk through these ways stands
+abbrev pub AreWaysIn : {Z : Type 0} → Ways Z → Type 0
+AreWaysIn w = AreWays (length w.before.items) (before_in w.before.items) w.way.items w.places.items w.waiting.items
+
+-- the paths that are still to be found
+abbrev pub paths_in : {N Z : Type 0} → List N → Ways Z → List (List N)
+paths_in keys w = paths_of keys (ways_left (before_in w.before.items) (length w.before.items) w.way.items w.waiting.items)
 
 -- what a step of an iterator that was not refused before gives, and how it leaves it: a path, no path, or a refusal
 module _ {N Z : Type 0} (eq : N → N → Bool) where

@@ -1,6 +1,5 @@
 //! All cheapest paths, led by an estimate of the cost that remains.
 
-ghost use Rattle.std.specs.BinaryHeap.{IsHeap, heap_items};
 ghost use Rattle.std.specs.Prelude.{◌≡◌, ◌⊎◌, ◌≤◌, ℤ, List, Bool, [], ◌∷◌, Err, false, ⊤, IfOk, IfErr, MatchOption, length};
 ghost use Rattle.std.specs.Iterator.{MakesProgress, at_most};
 ghost use Rattle.pf_base.specs.Walks.{HasNoGoalWalk};
@@ -9,9 +8,8 @@ ghost use Rattle.pf_base.specs.Answers.{IsLawfulClone};
 ghost use Rattle.pf_core.specs.Nodes.{StandsFor};
 ghost use Rattle.pf_informed.specs.CheapestPaths.{AreCheapestCleanPaths, IsPathsClone, PathsStep, lists_in, most_items};
 ghost use Rattle.pf_informed.specs.Estimates.{IsInformedSearch, IsPastRangeWithEstimate, NoGoalWalkFits};
-ghost use Rattle.pf_informed.specs.Internal.Led.{IsLed};
-ghost use Rattle.pf_informed.specs.Internal.Waiting.{entry_cmp};
-ghost use Rattle.pf_informed.specs.Internal.Ways.{AreGathered, AreWays, PathsTurn, before_in, paths_of, ways_left};
+ghost use Rattle.pf_informed.specs.Internal.Led.{IsLed, IsNew};
+ghost use Rattle.pf_informed.specs.Internal.Ways.{AreGathered, AreWaysIn, PathsTurn, paths_in};
 
 use crate::cheapest_labels::label_cheapest;
 use crate::functions::EstimateFunction;
@@ -19,11 +17,12 @@ use crate::search::Search;
 use crate::tight::tight_edges;
 use crate::ways::Ways;
 use pf_base::{Cost, EdgeFunction, NodeTest, PathError};
-use pf_core::discovery::{Discovery, Nodes, Weighted, clone_of, clones_at};
+use pf_core::discovery::{Discovery, Nodes, clone_of, clones_at};
+use pf_core::source::{EdgeSource, Weighted};
 use pf_core::tested::Tested;
 use std::alloc::{AllocError, Allocator, Global};
 use std::hash::Hash;
-use std::marker::{Model, PhantomData};
+use std::marker::Model;
 
 /// All cheapest clean paths, each as a `Result`, once: made by `astar_bag`.
 #[derive(Drop)]
@@ -131,42 +130,35 @@ where
 
 /// Searches from the only node that was found, with nothing known of it yet, for all cheapest ways back
 /// from goals, and their cost.
-fn find_ways<N, C, IN, FN, FH, FS, A>(
+fn find_ways<N, C, S, T, H, A>(
     alloc: A,
-    graph: &mut Tested<N, Weighted, IN, FN, FS, A>,
-    estimate: &mut FH,
+    graph: &mut Tested<N, S, T, A>,
+    estimate: &mut H,
     search: &mut Search<C, A>,
 ) -> Result<Option<(Ways<A>, C)>, PathError>
 where
     N: Eq + Hash + Drop,
     C: Cost,
-    IN: IntoIterator<Item = (N, C)>,
-    FN: FnMut(&N) -> IN,
-    FH: FnMut(&N) -> C,
-    FS: FnMut(&N) -> bool,
+    S: EdgeSource<N, C>,
+    T: NodeTest<N>,
+    H: EstimateFunction<N, C>,
     A: Allocator + Copy,
     requires one { length graph.old.discovery.nodes.keys ≡ 1 }
-    requires unlabelled { search.old.labels.items ≡ [] }
-    requires unasked { search.old.estimates.items ≡ [] }
-    requires nothing_waits { heap_items search.old.queue ≡ [] }
-    requires ordered { IsHeap (entry_cmp C.cmp) (heap_items search.old.queue) }
+    requires new { IsNew C.cmp search.old }
     requires graph { (start : N) × (edges : N → List (N × ℤ)) × (test : N → Bool) × (least : N → ℤ) × StandsFor N.eq graph.old.discovery.nodes.keys 0 start
-        × IsLed N.eq C.value IN.into_iter_gives IN.IntoIter.can_next IN.IntoIter.remaining IN.IntoIter.next_gives FN.FnMut FS.FnMut FH.FnMut (record { starts = start ∷ []; edges = edges }) test least
-        graph.old.discovery.nodes.keys graph.old.discovery.successors graph.old.success estimate.old search.old.estimates.items }
+        × IsLed N.eq C.value S.answers T.answers H.answers (record { starts = start ∷ []; edges = edges }) test least graph.old estimate.old search.old.estimates.items }
 
     ensures all { (start : N) (edges : N → List (N × ℤ)) (test : N → Bool) (least : N → ℤ) → StandsFor N.eq graph.old.discovery.nodes.keys 0 start
-        → IsLed N.eq C.value IN.into_iter_gives IN.IntoIter.can_next IN.IntoIter.remaining IN.IntoIter.next_gives FN.FnMut FS.FnMut FH.FnMut (record { starts = start ∷ []; edges = edges }) test least
-        graph.old.discovery.nodes.keys graph.old.discovery.successors graph.old.success estimate.old search.old.estimates.items
+        → IsLed N.eq C.value S.answers T.answers H.answers (record { starts = start ∷ []; edges = edges }) test least graph.old estimate.old search.old.estimates.items
         → IfOk result (λ answer. MatchOption answer
         (HasNoGoalWalk N.eq (IsSuccessor N.eq edges) (start ∷ []) test)
-        (λ found. AreCheapestCleanPaths N.eq edges (start ∷ []) test (paths_of graph.new.discovery.nodes.keys (ways_left (before_in found.0.before.items) (length found.0.before.items) found.0.way.items found.0.waiting.items)) (C.value found.1))) }
+        (λ found. AreCheapestCleanPaths N.eq edges (start ∷ []) test (paths_in graph.new.discovery.nodes.keys found.0) (C.value found.1))) }
 
     ensures ways { IfOk result (λ answer. MatchOption answer ⊤
-        (λ found. AreWays (length found.0.before.items) (before_in found.0.before.items) found.0.way.items found.0.places.items found.0.waiting.items × (length found.0.before.items ≤ length graph.new.discovery.nodes.keys))) }
+        (λ found. AreWaysIn found.0 × (length found.0.before.items ≤ length graph.new.discovery.nodes.keys))) }
 
     ensures overflow { (start : N) (edges : N → List (N × ℤ)) (test : N → Bool) (least : N → ℤ) → StandsFor N.eq graph.old.discovery.nodes.keys 0 start
-        → IsLed N.eq C.value IN.into_iter_gives IN.IntoIter.can_next IN.IntoIter.remaining IN.IntoIter.next_gives FN.FnMut FS.FnMut FH.FnMut (record { starts = start ∷ []; edges = edges }) test least
-        graph.old.discovery.nodes.keys graph.old.discovery.successors graph.old.success estimate.old search.old.estimates.items
+        → IsLed N.eq C.value S.answers T.answers H.answers (record { starts = start ∷ []; edges = edges }) test least graph.old estimate.old search.old.estimates.items
         → result ≡ Err PathError.CostOverflow
         → IsPastRangeWithEstimate N.eq edges (start ∷ []) least C.fits × NoGoalWalkFits N.eq edges (start ∷ []) test C.fits }
 
@@ -191,12 +183,12 @@ where
     C: Copy,
     A: Allocator,
     requires { IfOk found (λ answer. MatchOption answer ⊤
-        (λ found. AreWays (length found.0.before.items) (before_in found.0.before.items) found.0.way.items found.0.places.items found.0.waiting.items × (length found.0.before.items ≤ length nodes.keys))) }
+        (λ found. AreWaysIn found.0 × (length found.0.before.items ≤ length nodes.keys))) }
 
     ensures all { (value : C → ℤ) (start : N) (edges : N → List (N × ℤ)) (test : N → Bool)
         → IfOk found (λ answer. MatchOption answer
         (HasNoGoalWalk N.eq (IsSuccessor N.eq edges) (start ∷ []) test)
-        (λ found. AreCheapestCleanPaths N.eq edges (start ∷ []) test (paths_of nodes.keys (ways_left (before_in found.0.before.items) (length found.0.before.items) found.0.way.items found.0.waiting.items)) (value found.1)))
+        (λ found. AreCheapestCleanPaths N.eq edges (start ∷ []) test (paths_in nodes.keys found.0) (value found.1)))
         → IfOk result (λ answer. MatchOption answer
         (HasNoGoalWalk N.eq (IsSuccessor N.eq edges) (start ∷ []) test)
         (λ found. AreCheapestCleanPaths N.eq edges (start ∷ []) test found.0.left (value found.1))) }
@@ -287,10 +279,11 @@ where
 {
     let discovery = Discovery {
         nodes: clone_of(alloc, start)?,
-        successors,
-        form: PhantomData,
+        source: Weighted {
+            function: successors,
+        },
     };
-    let mut graph: Tested<N, Weighted, IN, FN, FS, A> = Tested { discovery, success };
+    let mut graph = Tested { discovery, success };
     let mut search = Search::new(alloc);
     let found = find_ways(alloc, &mut graph, &mut estimate, &mut search);
     solution_of(alloc, graph.discovery.nodes, found)

@@ -1,6 +1,5 @@
 //! Cheapest paths, in rounds of growing limits on the cost and the estimate of what remains.
 
-ghost use Rattle.std.specs.BinaryHeap.{IsHeap, heap_items};
 ghost use Rattle.std.specs.Prelude.{◌≡◌, ◌⊎◌, ℤ, List, Bool, [], ◌∷◌, Err, IfOk, IfErr, MatchOption, length};
 ghost use Rattle.pf_base.specs.Walks.{HasNoGoalWalk};
 ghost use Rattle.pf_base.specs.Edges.{IsSuccessor, IsCheapestGoalPath};
@@ -8,58 +7,50 @@ ghost use Rattle.pf_base.specs.Answers.{IsLawfulClone};
 ghost use Rattle.pf_core.specs.Nodes.{NodeGraph, StandsFor};
 ghost use Rattle.pf_informed.specs.Estimates.{IsInformedSearch, IsPastRangeWithEstimate, NoGoalWalkFits};
 ghost use Rattle.pf_informed.specs.Internal.Fringe.{listed};
-ghost use Rattle.pf_informed.specs.Internal.Led.{IsLed};
-ghost use Rattle.pf_informed.specs.Internal.Waiting.{entry_cmp};
+ghost use Rattle.pf_informed.specs.Internal.Led.{IsLed, IsNew};
 
 use crate::fringe_lists::FringeLists;
 use crate::functions::EstimateFunction;
 use crate::search::Search;
 use crate::turns::{begin, nodes_to, turn};
 use pf_base::{Cost, EdgeFunction, NodeTest, PathError};
-use pf_core::discovery::{Discovery, Weighted, clone_of};
+use pf_core::discovery::{Discovery, clone_of};
 use pf_core::numbered::GoalGraph;
+use pf_core::source::{EdgeSource, Weighted};
 use pf_core::tested::Tested;
 use std::alloc::Allocator;
 use std::hash::Hash;
-use std::marker::PhantomData;
 
 /// Searches from the only node that was found, with nothing known of it yet.
-fn search_on<N, C, IN, FN, FH, FS, A>(
+fn search_on<N, C, S, T, H, A>(
     alloc: A,
-    graph: &mut Tested<N, Weighted, IN, FN, FS, A>,
-    estimate: &mut FH,
+    graph: &mut Tested<N, S, T, A>,
+    estimate: &mut H,
     search: &mut Search<C, A>,
     lists: &mut FringeLists<C, A>,
 ) -> Result<Option<(Vec<N, A>, C)>, PathError>
 where
     N: Eq + Hash + Clone + Drop,
     C: Cost,
-    IN: IntoIterator<Item = (N, C)>,
-    FN: FnMut(&N) -> IN,
-    FH: FnMut(&N) -> C,
-    FS: FnMut(&N) -> bool,
+    S: EdgeSource<N, C>,
+    T: NodeTest<N>,
+    H: EstimateFunction<N, C>,
     A: Allocator + Copy,
     requires clones { IsLawfulClone N.eq N.is_clone }
     requires one { length graph.old.discovery.nodes.keys ≡ 1 }
-    requires unlabelled { search.old.labels.items ≡ [] }
-    requires unasked { search.old.estimates.items ≡ [] }
-    requires nothing_waits { heap_items search.old.queue ≡ [] }
-    requires ordered { IsHeap (entry_cmp C.cmp) (heap_items search.old.queue) }
+    requires new { IsNew C.cmp search.old }
     requires unlisted { listed lists.old ≡ [] }
     requires graph { (g : NodeGraph N) × (test : N → Bool) × (least : N → ℤ)
-        × IsLed N.eq C.value IN.into_iter_gives IN.IntoIter.can_next IN.IntoIter.remaining IN.IntoIter.next_gives FN.FnMut FS.FnMut FH.FnMut g test least
-        graph.old.discovery.nodes.keys graph.old.discovery.successors graph.old.success estimate.old search.old.estimates.items }
+        × IsLed N.eq C.value S.answers T.answers H.answers g test least graph.old estimate.old search.old.estimates.items }
 
     ensures best { (start : N) (edges : N → List (N × ℤ)) (test : N → Bool) (least : N → ℤ) → StandsFor N.eq graph.old.discovery.nodes.keys 0 start
-        → IsLed N.eq C.value IN.into_iter_gives IN.IntoIter.can_next IN.IntoIter.remaining IN.IntoIter.next_gives FN.FnMut FS.FnMut FH.FnMut (record { starts = start ∷ []; edges = edges }) test least
-        graph.old.discovery.nodes.keys graph.old.discovery.successors graph.old.success estimate.old search.old.estimates.items
+        → IsLed N.eq C.value S.answers T.answers H.answers (record { starts = start ∷ []; edges = edges }) test least graph.old estimate.old search.old.estimates.items
         → IfOk result (λ answer. MatchOption answer
         (HasNoGoalWalk N.eq (IsSuccessor N.eq edges) (start ∷ []) test)
         (λ found. IsCheapestGoalPath N.eq edges (start ∷ []) test found.0.items (C.value found.1))) }
 
     ensures overflow { (start : N) (edges : N → List (N × ℤ)) (test : N → Bool) (least : N → ℤ) → StandsFor N.eq graph.old.discovery.nodes.keys 0 start
-        → IsLed N.eq C.value IN.into_iter_gives IN.IntoIter.can_next IN.IntoIter.remaining IN.IntoIter.next_gives FN.FnMut FS.FnMut FH.FnMut (record { starts = start ∷ []; edges = edges }) test least
-        graph.old.discovery.nodes.keys graph.old.discovery.successors graph.old.success estimate.old search.old.estimates.items
+        → IsLed N.eq C.value S.answers T.answers H.answers (record { starts = start ∷ []; edges = edges }) test least graph.old estimate.old search.old.estimates.items
         → result ≡ Err PathError.CostOverflow
         → IsPastRangeWithEstimate N.eq edges (start ∷ []) least C.fits × NoGoalWalkFits N.eq edges (start ∷ []) test C.fits }
 
@@ -144,10 +135,11 @@ where
 {
     let discovery = Discovery {
         nodes: clone_of(alloc, start)?,
-        successors,
-        form: PhantomData,
+        source: Weighted {
+            function: successors,
+        },
     };
-    let mut graph: Tested<N, Weighted, IN, FN, FS, A> = Tested { discovery, success };
+    let mut graph = Tested { discovery, success };
     let mut search = Search::new(alloc);
     let mut lists = FringeLists::new(alloc, C::zero());
     search_on(alloc, &mut graph, &mut estimate, &mut search, &mut lists)

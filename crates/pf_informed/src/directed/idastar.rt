@@ -1,18 +1,21 @@
 //! Cheapest paths by limits on cost and estimate that grow.
 
-ghost use Rattle.std.specs.Prelude.{◌≡◌, ◌⊎◌, ℤ, List, Bool, [], ◌∷◌, Err, IfOk, IfErr, MatchOption, length};
+ghost use Rattle.std.specs.Prelude.{◌≡◌, ◌⊎◌, ℤ, List, Bool, [], ◌∷◌, Err, IfOk, IfErr, MatchOption};
 ghost use Rattle.pf_base.specs.Walks.{HasNoGoalWalk};
 ghost use Rattle.pf_base.specs.Edges.{IsSuccessor, IsCheapestGoalPath};
 ghost use Rattle.pf_base.specs.Answers.{IsLawfulClone};
 ghost use Rattle.pf_core.specs.Nodes.{StandsFor};
 ghost use Rattle.pf_informed.specs.Estimates.{IsInformedSearch, IsPastRangeWithEstimate, NoGoalWalkFits};
-ghost use Rattle.pf_informed.specs.Internal.Rows.{IsTable, IsKnown};
+ghost use Rattle.pf_informed.specs.Internal.Rows.{found_in, IsTabled, IsKnown};
 
 use crate::directed::idastar::known::Known;
 use crate::directed::idastar::round::{Round, look_through};
 use crate::estimates::ask;
 use crate::functions::EstimateFunction;
 use pf_base::{Cost, EdgeFunction, NodeTest, PathError};
+use pf_core::discovery::{Discovery, clone_of};
+use pf_core::source::{EdgeSource, Weighted};
+use pf_core::tested::Tested;
 use std::alloc::Allocator;
 use std::hash::Hash;
 
@@ -26,42 +29,42 @@ mod way;
 mod widen;
 
 /// Searches from the only node that was found, with nothing known of it yet.
-fn search_on<N, C, IN, FN, FH, FS, A>(
+fn search_on<N, C, S, T, H, A>(
     alloc: A,
-    known: &mut Known<N, C, IN, FN, FH, FS, A>,
+    known: &mut Known<N, C, S, T, H, A>,
 ) -> Result<Option<(Vec<N, A>, C)>, PathError>
 where
     N: Eq + Hash + Clone + Drop,
     C: Cost,
-    IN: IntoIterator<Item = (N, C)>,
-    FN: FnMut(&N) -> IN,
-    FH: FnMut(&N) -> C,
-    FS: FnMut(&N) -> bool,
+    S: EdgeSource<N, C>,
+    T: NodeTest<N>,
+    H: EstimateFunction<N, C>,
     A: Allocator + Copy,
     requires clones { IsLawfulClone N.eq N.is_clone }
-    requires one { length known.old.graph.discovery.nodes.keys ≡ 1 }
+    requires one { found_in known.old ≡ 1 }
     requires unasked { known.old.estimates.items ≡ [] }
-    requires table { IsTable 1 known.old.rows.steps.items known.old.rows.spans.items }
+    requires table { IsTabled known.old }
     requires graph { (start : N) × (edges : N → List (N × ℤ)) × (test : N → Bool) × (least : N → ℤ) × StandsFor N.eq known.old.graph.discovery.nodes.keys 0 start
-        × IsKnown N.eq C.value IN.into_iter_gives IN.IntoIter.can_next IN.IntoIter.remaining IN.IntoIter.next_gives FN.FnMut FS.FnMut FH.FnMut (record { starts = start ∷ []; edges = edges }) test least
-        known.old.graph.discovery.nodes.keys known.old.graph.discovery.successors known.old.graph.success known.old.estimate known.old.estimates.items known.old.rows.steps.items known.old.rows.spans.items }
+        × IsKnown N.eq C.value S.answers T.answers H.answers (record { starts = start ∷ []; edges = edges }) test least known.old }
 
     ensures best { (start : N) (edges : N → List (N × ℤ)) (test : N → Bool) (least : N → ℤ) → StandsFor N.eq known.old.graph.discovery.nodes.keys 0 start
-        → IsKnown N.eq C.value IN.into_iter_gives IN.IntoIter.can_next IN.IntoIter.remaining IN.IntoIter.next_gives FN.FnMut FS.FnMut FH.FnMut (record { starts = start ∷ []; edges = edges }) test least
-        known.old.graph.discovery.nodes.keys known.old.graph.discovery.successors known.old.graph.success known.old.estimate known.old.estimates.items known.old.rows.steps.items known.old.rows.spans.items
+        → IsKnown N.eq C.value S.answers T.answers H.answers (record { starts = start ∷ []; edges = edges }) test least known.old
         → IfOk result (λ answer. MatchOption answer
         (HasNoGoalWalk N.eq (IsSuccessor N.eq edges) (start ∷ []) test)
         (λ found. IsCheapestGoalPath N.eq edges (start ∷ []) test found.0.items (C.value found.1))) }
 
     ensures overflow { (start : N) (edges : N → List (N × ℤ)) (test : N → Bool) (least : N → ℤ) → StandsFor N.eq known.old.graph.discovery.nodes.keys 0 start
-        → IsKnown N.eq C.value IN.into_iter_gives IN.IntoIter.can_next IN.IntoIter.remaining IN.IntoIter.next_gives FN.FnMut FS.FnMut FH.FnMut (record { starts = start ∷ []; edges = edges }) test least
-        known.old.graph.discovery.nodes.keys known.old.graph.discovery.successors known.old.graph.success known.old.estimate known.old.estimates.items known.old.rows.steps.items known.old.rows.spans.items
+        → IsKnown N.eq C.value S.answers T.answers H.answers (record { starts = start ∷ []; edges = edges }) test least known.old
         → result ≡ Err PathError.CostOverflow
         → IsPastRangeWithEstimate N.eq edges (start ∷ []) least C.fits × NoGoalWalkFits N.eq edges (start ∷ []) test C.fits }
 
     ensures errors { IfErr result (λ e. (e ≡ PathError.OutOfMemory) ⊎ (e ≡ PathError.CostOverflow)) }
 {
-    ask(&known.graph, &mut known.estimate, &mut known.estimates)?;
+    ask(
+        &known.graph.discovery.nodes,
+        &mut known.estimate,
+        &mut known.estimates,
+    )?;
     let mut limit = known.estimates[0];
     'limits: loop {
         match look_through(alloc, known, limit)? {
@@ -139,6 +142,12 @@ where
 
     ensures errors { IfErr result (λ e. (e ≡ PathError.OutOfMemory) ⊎ (e ≡ PathError.CostOverflow)) }
 {
-    let mut known = Known::new(alloc, start, successors, estimate, success)?;
+    let discovery = Discovery {
+        nodes: clone_of(alloc, start)?,
+        source: Weighted {
+            function: successors,
+        },
+    };
+    let mut known = Known::new(alloc, Tested { discovery, success }, estimate);
     search_on(alloc, &mut known)
 }

@@ -1,10 +1,10 @@
-use Rattle.std.proofs.Common.{◌<◌, ◌∙◌, [], ◌∷◌, List, ℕ, ℤ, Bool, false, true≢false, sym, subst, refl, length, inl, inr}
+use Rattle.std.proofs.Common.{◌<◌, ◌∙◌, [], ◌∷◌, List, ℕ, false, true≢false, sym, subst, refl, length, inl, inr}
 use Rattle.std.specs.BinaryHeap.{heap_items}
 use Rattle.std.proofs.lemmas.List.{append-nil}
 use Rattle.pf_base.specs.Edges.{IsCheapestGoalPath}
 use Rattle.pf_core.specs.declared.labels.Label.{Label}
 use Rattle.pf_core.specs.Labels.{HasLabel}
-use Rattle.pf_core.specs.Nodes.{NodeGraph, TestedGraph, StandsFor, IsStep}
+use Rattle.pf_core.specs.Nodes.{StandsFor, IsStep}
 use Rattle.pf_core.proofs.LabelLemmas.{HasLabel-inside}
 use Rattle.pf_core.proofs.SearchLemmas.{Grows-trans}
 use Rattle.pf_core.proofs.WalkLemmas.{no_negative}
@@ -13,16 +13,10 @@ use Rattle.pf_informed.specs.Internal.Led.{OthersWait}
 use Rattle.pf_informed.specs.Internal.Waiting.{Entry, IsWaiting, IsQueue}
 use Rattle.pf_informed.proofs.LabelledLemmas.{by_cases, goal_path, no_best, exact_label, low_of}
 use Rattle.pf_informed.proofs.LedAnswers.{led_within, led_estimate, led_asked, led_none, led_past}
-use Rattle.pf_informed.proofs.LedLemmas.{informed_still, led_grown}
+use Rattle.pf_informed.proofs.LedLemmas.{graph_of, with_test, informed_still, led_grown}
 use Rattle.pf_informed.proofs.WiderLemmas.{less_left}
 use Rattle.pf_informed.proofs.Outcomes.{refused_as, if_refused, no_overflow, ok_is_no_error}
 use Rattle.pf_informed.proofs.cheapest_labels.label_cheapest.Goals as goal
-
-abbrev tested : {N : Type 0} → NodeGraph N → (N → Bool) → TestedGraph N
-tested g test = record { graph = g; test = test }
-
-abbrev graph_of : {N : Type 0} → N → (N → List (N × ℤ)) → NodeGraph N
-graph_of start edges = record { starts = start ∷ []; edges = edges }
 
 pub turns-init : goal.turns-init
 turns-init g c =
@@ -50,7 +44,7 @@ best_with-best-requires-clause-graph g c =
     let r = c.requires.graph in
     let v = c.turns.invariant.searched r.0 r.1 r.2 r.3 in
     let d = v.0 in
-    (tested r.0 r.1, (d.explores, d.tested))
+    (with_test r.0 r.1, (d.explores, d.tested))
 
 pub turn-requires-clause-labelled : goal.turn-requires-clause-labelled
 turn-requires-clause-labelled g c =
@@ -69,8 +63,8 @@ turn-requires-clause-graph g c =
     let inv = c.turns.invariant in
     let v = inv.searched r.0 r.1 r.2 r.3 in
     let now = v.0 in
-    let told = c.best_with-best.ensures.graph (tested r.0 r.1) (now.explores, now.tested) in
-    (r.0, r.1, r.2, led_grown g.N.PartialEq.eq g.met.N.Eq.laws g.C.Number.value _ _ _ _ _ _ _ r.0 r.1 r.2 _ _ _ _ _ now _ _ _ c.best_with-best.ensures.grows inv.asked told.0 told.1)
+    let told = c.best_with-best.ensures.graph (with_test r.0 r.1) (now.explores, now.tested) in
+    (r.0, r.1, r.2, led_grown now g.met.N.Eq.laws inv.asked c.best_with-best.new.graph c.best_with-best.ensures.grows told.0 told.1)
 
 pub turns-preserved : goal.turns-preserved
 turns-preserved g c =
@@ -106,8 +100,8 @@ turns-preserved g c =
       searched = λ h test least d.
           let v = inv.searched h test least d in
           let now = v.0 in
-          let told = look.graph (tested h test) (now.explores, now.tested) in
-          let led = led_grown eq laws value _ _ _ _ _ _ _ h test least _ _ _ _ _ now _ _ _ look.grows inv.asked told.0 told.1 in
+          let told = look.graph (with_test h test) (now.explores, now.tested) in
+          let led = led_grown now laws inv.asked c.best_with-best.new.graph look.grows told.0 told.1 in
           let turned = n.graph h test least led in
           let still = informed_still value fits (IsStep eq h) (λ _. false) estimates (length keys) (length between) (StandsFor eq keys) (StandsFor eq between) look.grows look.same labels inv.wide entries v.1 in
           let informed = turned.1 (λ _. false) entries [] (λ x k. refl) left still in (
@@ -117,12 +111,12 @@ turns-preserved g c =
       unknown = λ none h test least d.
           let v = inv.searched h test least d in
           let now = v.0 in
-          let told = look.graph (tested h test) (now.explores, now.tested) in
+          let told = look.graph (with_test h test) (now.explores, now.tested) in
           let o = look.open none in
-          let led = led_grown eq laws value _ _ _ _ _ _ _ h test least _ _ _ _ _ now _ _ _ look.grows inv.asked told.0 told.1 in
+          let led = led_grown now laws inv.asked c.best_with-best.new.graph look.grows told.0 told.1 in
           let turned = n.graph h test least led in
           let still = informed_still value fits (IsStep eq h) test estimates (length keys) (length between) (StandsFor eq keys) (StandsFor eq between) look.grows look.same labels inv.wide entries (inv.unknown o.0 h test least d) in
-          let informed = turned.1 test entries [] (λ x k. o.1 (tested h test) x (now.explores, now.tested) (look.grows.back number x inside k)) left still in
+          let informed = turned.1 test entries [] (λ x k. o.1 (with_test h test) x (now.explores, now.tested) (look.grows.back number x inside k)) left still in
           subst (λ (es : List (Entry g.row.C.Denot)). IsInformed value fits c.turn.new.search.estimates.items (IsStep eq h) test (StandsFor eq after) c.turn.new.search.labels.items es (length after)) (append-nil heap_after) informed;
       least = λ b is. by_cases _ (look.found b is)
           (λ was. inv.least b was)
@@ -131,9 +125,9 @@ turns-preserved g c =
             λ start edges test least s d.
                 let v = inv.searched (graph_of start edges) test least d in
                 let now = v.0 in
-                let known_path = goal_path eq laws start edges test now.explores.alike now.costs now.tested.alike value fits (λ x y z. g.C.Number.between_law x y z exact) (g.met.C.Zero.zero_fits_law exact)
-                least now.asked.alike now.admissible keys now.explores.reached now.explores.distinct estimates now.estimated inv.asked (inv.begins start s) labels entries inv.forest (inv.unknown new.0 (graph_of start edges) test least d)
-                number c.in-Some.taken.cost heap t c.in-Some.ensures.queue (subst (λ (q : g.row.C.Denot). fits (value q)) new.1 new.2) inside (λ y k. new.3 (tested (graph_of start edges) test) y (now.explores, now.tested) k) in
+                let known_path = goal_path eq laws start edges test now.explores.alike now.costs now.same_test value fits (λ x y z. g.C.Number.between_law x y z exact) (g.met.C.Zero.zero_fits_law exact)
+                least now.same_estimate now.admissible keys now.explores.reached now.explores.distinct estimates now.estimated inv.asked (inv.begins start s) labels entries inv.forest (inv.unknown new.0 (graph_of start edges) test least d)
+                number c.in-Some.taken.cost heap t c.in-Some.ensures.queue (subst (λ (q : g.row.C.Denot). fits (value q)) new.1 new.2) inside (λ y k. new.3 (with_test (graph_of start edges) test) y (now.explores, now.tested) k) in
                 (known_path.0, subst (λ (q : g.row.C.Denot). IsCheapestGoalPath eq edges (start ∷ []) test known_path.0 (value q)) (sym new.1) known_path.1),
           ));
     }
@@ -165,8 +159,8 @@ returns-in-Some-best g c = record {
         record {
           first = inv.forest.first;
           begins = begins;
-          exact = exact_label eq laws h now.explores.alike value g.C.Number.fits (λ x y z. g.C.Number.between_law x y z exact) (g.met.C.Zero.zero_fits_law exact) test now.tested.alike least now.admissible (no_negative eq laws h now.explores.alike now.costs) keys estimates start begins
-              (led_within eq laws value _ _ _ _ _ _ _ start edges test least keys _ _ _ estimates now inv.asked begins) (led_estimate eq laws value _ _ _ _ _ _ _ start edges test least keys _ _ _ estimates now inv.asked begins) (led_asked eq laws value _ _ _ _ _ _ _ start edges test least keys _ _ _ estimates now inv.asked begins)
+          exact = exact_label eq laws h now.explores.alike value g.C.Number.fits (λ x y z. g.C.Number.between_law x y z exact) (g.met.C.Zero.zero_fits_law exact) test now.same_test least now.admissible (no_negative eq laws h now.explores.alike now.costs) keys estimates start begins
+              (led_within laws now inv.asked begins) (led_estimate laws now inv.asked begins) (led_asked laws now inv.asked begins)
               c.turns.search.labels.items (heap_items c.turns.search.queue) inv.forest (length keys) v.1 best (rw is at c.in_default.ensures.taken) known.0 (low_of eq laws start edges test now.explores.alike (value best) cheapest.best);
           path = path;
         },
@@ -185,7 +179,7 @@ returns-then-has_all_labels g c = record {
       let v = inv.searched (graph_of start edges) test least d in
       let unknown = c.in_default-best.is in
       let none_waits : (k : ℕ) (l : Label g.row.C.Denot) → HasLabel c.turns.search.labels.items k l → ¬ (IsWaiting value (heap_items c.turns.search.queue) k l) = λ k l at w. let b = c.in_default.ensures.taken k l at w in no_best b.0 (sym unknown ∙ b.1) in
-      led_none g.N.PartialEq.eq g.met.N.Eq.laws value _ _ _ _ _ _ _ start edges test least _ _ _ _ _ v.0 inv.asked (inv.begins start s) g.C.Number.fits (λ x y z. g.C.Number.between_law x y z exact) (g.met.C.Zero.zero_fits_law exact)
+      led_none g.met.N.Eq.laws v.0 inv.asked (inv.begins start s) g.C.Number.fits (λ x y z. g.C.Number.between_law x y z exact) (g.met.C.Zero.zero_fits_law exact)
       c.turns.search.labels.items inv.wide (heap_items c.turns.search.queue) inv.forest (inv.unknown unknown (graph_of start edges) test least d) none_waits (c.has_all_labels.ensures.0 c.if-has_all_labels.true);
   overflow = λ start edges test least s d e. absurd (ok_is_no_error _ _ _ refl e);
   errors = tt;
@@ -202,7 +196,7 @@ returns-else-has_all_labels g c = record {
       let v = inv.searched (graph_of start edges) test least d in
       let unknown = c.in_default-best.is in
       let none_waits : (k : ℕ) (l : Label g.row.C.Denot) → HasLabel c.turns.search.labels.items k l → ¬ (IsWaiting value (heap_items c.turns.search.queue) k l) = λ k l at w. let b = c.in_default.ensures.taken k l at w in no_best b.0 (sym unknown ∙ b.1) in
-      led_past g.N.PartialEq.eq g.met.N.Eq.laws value _ _ _ _ _ _ _ start edges test least _ _ _ _ _ v.0 inv.asked (inv.begins start s) g.C.Number.fits (λ x y z. g.C.Number.between_law x y z exact) (g.met.C.Zero.zero_fits_law exact)
+      led_past g.met.N.Eq.laws v.0 inv.asked (inv.begins start s) g.C.Number.fits (λ x y z. g.C.Number.between_law x y z exact) (g.met.C.Zero.zero_fits_law exact)
       c.turns.search.labels.items inv.wide (heap_items c.turns.search.queue) inv.forest (inv.unknown unknown (graph_of start edges) test least d) none_waits (λ a. true≢false (sym (c.has_all_labels.ensures.1 a) ∙ c.if-has_all_labels.false));
   errors = inr refl;
 }
@@ -235,17 +229,8 @@ turn-requires-clause-queue g c = c.in-Some.ensures.queue
 pub begin-requires-clause-one : goal.begin-requires-clause-one
 begin-requires-clause-one g c = c.requires.one
 
-pub begin-requires-clause-unlabelled : goal.begin-requires-clause-unlabelled
-begin-requires-clause-unlabelled g c = c.requires.unlabelled
-
-pub begin-requires-clause-unasked : goal.begin-requires-clause-unasked
-begin-requires-clause-unasked g c = c.requires.unasked
-
-pub begin-requires-clause-nothing_waits : goal.begin-requires-clause-nothing_waits
-begin-requires-clause-nothing_waits g c = c.requires.nothing_waits
-
-pub begin-requires-clause-ordered : goal.begin-requires-clause-ordered
-begin-requires-clause-ordered g c = c.requires.ordered
+pub begin-requires-clause-new : goal.begin-requires-clause-new
+begin-requires-clause-new g c = c.requires.new
 
 pub begin-requires-clause-graph : goal.begin-requires-clause-graph
 begin-requires-clause-graph g c = c.requires.graph

@@ -4,6 +4,7 @@ use Rattle.pf_core.specs.declared.labels.Label.{Label}
 use Rattle.pf_core.specs.Nodes.{StandsFor, IsStep}
 use Rattle.pf_core.proofs.ListLemmas.{on_ok}
 use Rattle.pf_informed.proofs.InformedLemmas.{forest_begin, queue_begin, informed_begin}
+use Rattle.pf_informed.proofs.LedLemmas.{led_more}
 use Rattle.pf_informed.proofs.Outcomes.{refused_as, on_refused}
 use Rattle.pf_informed.proofs.TightLemmas.{both_ok}
 use Rattle.pf_informed.proofs.Bounds.{none_more}
@@ -13,7 +14,7 @@ pub ask-requires-clause-graph : goal.ask-requires-clause-graph
 ask-requires-clause-graph g c =
     let r = c.requires.graph in
     let d = r.3 in
-    (g.C.Number.value, r.0, r.2, d.asked, d.explores.reached)
+    (r.0, r.2, d.asked, d.explores.reached)
 
 pub returns : goal.returns
 returns g c =
@@ -28,19 +29,11 @@ returns g c =
       queue = on_ok c.begin.result (both_ok _ _ c.begin.result b.labelled b.waiting) (λ w. rw (w.0, b.estimates) (queue_begin g.C.Number.value first nothing refl c.ask.new.estimates.items w.1.0 w.1.1 (heap_items c.begin.new.self.queue) w.1.2));
       graph = on_ok c.begin.result (both_ok _ _ c.begin.result b.labelled b.waiting) (λ w h test least d.
           let eq = g.N.PartialEq.eq in
-          let value = g.C.Number.value in
           let keys = c.args.graph.now.discovery.nodes.keys in
-          let a = c.in_ok-ask.ensures.graph value h least d.asked d.explores.reached in (
-            record {
-              explores = d.explores;
-              tested = d.tested;
-              asked = a.0;
-              estimated = rw b.estimates (a.1 d.estimated);
-              admissible = d.admissible;
-              costs = d.costs;
-            },
+          let a = c.in_ok-ask.ensures.graph h least d.asked d.explores.reached in (
+            rw b.estimates (led_more d a.0 a.1),
             λ passes.
-                let i = informed_begin value first nothing refl c.ask.new.estimates.items w.1.0 w.1.1 (heap_items c.begin.new.self.queue) w.1.2 g.C.Number.fits (IsStep eq h) passes (StandsFor eq keys) in
+                let i = informed_begin g.C.Number.value first nothing refl c.ask.new.estimates.items w.1.0 w.1.1 (heap_items c.begin.new.self.queue) w.1.2 g.C.Number.fits (IsStep eq h) passes (StandsFor eq keys) in
                 rw (w.0, b.estimates, c.requires.one) i,
           ));
       refused = b.refused;
@@ -58,16 +51,16 @@ returns-in_err-ask g c = record {
 }
 
 pub ask-requires-clause-few : goal.ask-requires-clause-few
-ask-requires-clause-few g c = rw c.requires.unasked (none_more _)
+ask-requires-clause-few g c = rw c.requires.new.unasked (none_more _)
 
 pub begin-requires-clause-unlabelled : goal.begin-requires-clause-unlabelled
-begin-requires-clause-unlabelled g c = c.requires.unlabelled
+begin-requires-clause-unlabelled g c = c.requires.new.unlabelled
 
 pub begin-requires-clause-nothing_waits : goal.begin-requires-clause-nothing_waits
-begin-requires-clause-nothing_waits g c = c.requires.nothing_waits
+begin-requires-clause-nothing_waits g c = c.requires.new.nothing_waits
 
 pub begin-requires-clause-ordered : goal.begin-requires-clause-ordered
-begin-requires-clause-ordered g c = c.requires.ordered
+begin-requires-clause-ordered g c = c.requires.new.ordered
 
 pub begin-requires-clause-estimated : goal.begin-requires-clause-estimated
 begin-requires-clause-estimated g c = c.in_ok-ask.ensures.all ∙ c.requires.one

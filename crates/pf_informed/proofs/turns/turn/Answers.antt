@@ -1,22 +1,18 @@
-use Rattle.std.proofs.Common.{◌<◌, ◌≤◌, ◌∙◌, ℕ, Bool, sym, ap, subst, length}
+use Rattle.std.proofs.Common.{◌<◌, ◌≤◌, ◌∙◌, ℕ, sym, ap, subst, length}
 use Rattle.std.specs.Prelude.{◌++◌}
 use Rattle.std.specs.BinaryHeap.{heap_items}
-use Rattle.pf_base.specs.Edges.{InReach}
-use Rattle.pf_core.specs.Nodes.{NodeGraph, TestedGraph, StandsFor, IsStep}
+use Rattle.pf_core.specs.Nodes.{StandsFor, IsStep}
 use Rattle.pf_core.proofs.LabelLemmas.{HasLabel-inside}
 use Rattle.pf_core.proofs.ListLemmas.{on_ok}
 use Rattle.pf_core.proofs.UnitLemmas.{begins_all}
 use Rattle.pf_core.proofs.WalkLemmas.{no_negative}
 use Rattle.pf_informed.proofs.GrowingLemmas.{follows_beside, queue_beside}
 use Rattle.pf_informed.proofs.InformedLemmas.{queue_kept, informed_opened}
-use Rattle.pf_informed.proofs.KnownLemmas.{estimated_grown}
+use Rattle.pf_informed.proofs.LedLemmas.{with_test, led_grown, led_more}
 use Rattle.pf_informed.proofs.Outcomes.{refused_as, on_refused}
 use Rattle.pf_informed.proofs.TightLemmas.{both_ok}
 use Rattle.pf_informed.proofs.Bounds.{at_most_equal}
 use Rattle.pf_informed.proofs.turns.turn.Goals as goal
-
-abbrev tested : {N : Type 0} → NodeGraph N → (N → Bool) → TestedGraph N
-tested g test = record { graph = g; test = test }
 
 pub expand-requires-clause-inside : goal.expand-requires-clause-inside
 expand-requires-clause-inside g c =
@@ -27,14 +23,14 @@ pub expand-requires-clause-graph : goal.expand-requires-clause-graph
 expand-requires-clause-graph g c =
     let r = c.requires.graph in
     let d = r.3 in
-    (tested r.0 r.1, (d.explores, d.tested))
+    (with_test r.0 r.1, (d.explores, d.tested))
 
 pub ask-requires-clause-graph : goal.ask-requires-clause-graph
 ask-requires-clause-graph g c =
     let r = c.requires.graph in
     let d = r.3 in
-    let x = c.in_ok-expand.ensures.graph (tested r.0 r.1) (d.explores, d.tested) in
-    (g.C.Number.value, r.0, r.2, d.asked, x.0.reached)
+    let x = c.in_ok-expand.ensures.graph (with_test r.0 r.1) (d.explores, d.tested) in
+    (r.0, r.2, d.asked, x.0.reached)
 
 pub follow-requires-clause-ends : goal.follow-requires-clause-ends
 follow-requires-clause-ends g c = λ j d m.
@@ -50,7 +46,7 @@ follow-requires-clause-prices g c = λ j d m.
     let l = c.requires.labelled in
     let here = begins_all eq laws c.args.graph.now.discovery.nodes.keys c.args.number (subst (λ (n : ℕ). c.args.number < n) c.requires.wide (HasLabel-inside _ _ _ l.1)) in
     let row = c.in_ok-expand.ensures.listed in
-    let lists = row.4 (tested r.0 r.1) (k.explores, k.tested) here.0 here.1 in
+    let lists = row.4 (with_test r.0 r.1) (k.explores, k.tested) here.0 here.1 in
     let p = no_negative eq laws r.0 k.explores.alike k.costs in
     let q = lists.sound j d (rw row.1 at m) in
     p.non_negative here.0 (g.C.Number.value d) q.0 q.1
@@ -92,23 +88,15 @@ returns g c =
           let heap = heap_items c.args.search.now.queue in
           let grown = c.in_ok-expand.ensures.grows in
           let row = c.in_ok-expand.ensures.listed in
-          let x = c.in_ok-expand.ensures.graph (tested h test) (d.explores, d.tested) in
-          let a = c.in_ok-ask.ensures.graph value h least d.asked x.0.reached in
-          let before = estimated_grown eq laws value least (InReach eq h.edges h.starts) d.asked.alike old keys d.explores.reached grown estimates c.requires.asked d.estimated in (
-            record {
-              explores = x.0;
-              tested = x.1;
-              asked = a.0;
-              estimated = rw f.estimates (a.1 before);
-              admissible = d.admissible;
-              costs = d.costs;
-            },
+          let x = c.in_ok-expand.ensures.graph (with_test h test) (d.explores, d.tested) in
+          let a = c.in_ok-ask.ensures.graph h least d.asked x.0.reached in (
+            rw f.estimates (led_more (led_grown d laws c.requires.asked c.expand.new.self grown x.0 x.1) a.0 a.1),
             λ passes entries rest fails left i.
                 let someone = begins_all eq laws old number (subst (λ (n : ℕ). number < n) c.requires.wide (HasLabel-inside labels number l.0 l.1)) in
                 let followed = rw (f.estimates, row.1) at (w l.0 l.1) in
                 let whole = follows_beside value g.C.Number.fits asked number l.0 _ labels c.follow.new.self.labels.items heap (heap_items c.follow.new.self.queue) rest followed in
                 let opened = informed_opened value g.C.Number.fits (IsStep eq h) passes estimates asked c.in_ok-ask.ensures.kept (length old) (length keys) (StandsFor eq old) (StandsFor eq keys) grown labels c.follow.new.self.labels.items (at_most_equal _ _ c.requires.wide)
-                entries (heap ++ rest) (heap_items c.follow.new.self.queue ++ rest) number l.0 l.1 left fails row.0 (λ y k. row.4 (tested h test) (d.explores, d.tested) y k) row.3 someone whole c.requires.forest i in
+                entries (heap ++ rest) (heap_items c.follow.new.self.queue ++ rest) number l.0 l.1 left fails row.0 (λ y k. row.4 (with_test h test) (d.explores, d.tested) y k) row.3 someone whole c.requires.forest i in
                 rw f.estimates opened,
           ));
       refused = f.refused;

@@ -1,17 +1,19 @@
 //! One round of a search to a limit, depth first.
 
-ghost use Rattle.std.specs.Prelude.{◌≡◌, ◌<◌, ◌≤ℤ◌, ◌+◌, ◌^◌, ◌++◌, ◌∷◌, [], ℕ, ℤ, List, Bool, Some, OnOk, IfOk, IfErr, MatchOption, ⊤, length, map, reverse};
+ghost use Rattle.std.specs.Prelude.{◌≡◌, ◌<◌, ◌≤ℤ◌, ◌++◌, ◌∷◌, [], ℤ, Bool, Some, OnOk, IfOk, IfErr, MatchOption, ⊤, length, map};
 ghost use Rattle.pf_core.specs.Nodes.{NodeGraph, StandsFor};
-ghost use Rattle.pf_core.specs.Numbered.{Grows};
 ghost use Rattle.pf_informed.specs.declared.directed.idastar.way.Frame.{Frame};
-ghost use Rattle.pf_informed.specs.Internal.Rows.{IsTable, IsKnown};
-ghost use Rattle.pf_informed.specs.Internal.Deepening.{turns_left, AreAbove, AreInside, Looked, IsOnWay, IsMarkedWay};
+ghost use Rattle.pf_informed.specs.Internal.Led.{FindsMore};
+ghost use Rattle.pf_informed.specs.Internal.Rows.{found_in, IsTabled, IsKnown};
+ghost use Rattle.pf_informed.specs.Internal.Deepening.{turns_on, AreAbove, AreInside, Looked, IsUnderWay, IsMarkedOn};
 
 use crate::directed::idastar::cut_off::admit;
 use crate::directed::idastar::known::Known;
 use crate::directed::idastar::marks::is_marked;
 use crate::directed::idastar::way::{Frame, Way};
-use pf_base::{Cost, PathError};
+use crate::functions::EstimateFunction;
+use pf_base::{Cost, NodeTest, PathError};
+use pf_core::source::EdgeSource;
 use std::alloc::Allocator;
 use std::hash::Hash;
 
@@ -44,37 +46,36 @@ fn numbers_to<C: Copy, A: Allocator>(
 }
 
 /// Takes the next step of the last frame, which has one.
-fn go_on<N, C, IN, FN, FH, FS, A>(
+fn go_on<N, C, S, T, H, A>(
     alloc: A,
-    known: &mut Known<N, C, IN, FN, FH, FS, A>,
+    known: &mut Known<N, C, S, T, H, A>,
     limit: C,
     way: &mut Way<C, A>,
 ) -> Result<Option<Round<C, A>>, PathError>
 where
     N: Eq + Hash + Drop,
     C: Cost,
-    IN: IntoIterator<Item = (N, C)>,
-    FN: FnMut(&N) -> IN,
-    FH: FnMut(&N) -> C,
-    FS: FnMut(&N) -> bool,
+    S: EdgeSource<N, C>,
+    T: NodeTest<N>,
+    H: EstimateFunction<N, C>,
     A: Allocator + Copy,
     requires left { way.old.frame.at < way.old.frame.end }
-    requires estimated { length known.old.estimates.items ≡ length known.old.graph.discovery.nodes.keys }
-    requires table { IsTable (length known.old.graph.discovery.nodes.keys) known.old.rows.steps.items known.old.rows.spans.items }
-    requires marked { IsMarkedWay C.value limit (length known.old.graph.discovery.nodes.keys) way.old.marks.items way.old.frame (reverse way.old.trail.items) way.old.cut_off.least }
+    requires estimated { length known.old.estimates.items ≡ found_in known.old }
+    requires table { IsTabled known.old }
+    requires marked { IsMarkedOn way.old C.value limit (found_in known.old) }
     requires graph { (g : NodeGraph N) × (test : N → Bool) × (least : N → ℤ) × (first : N)
-        × IsKnown N.eq C.value IN.into_iter_gives IN.IntoIter.can_next IN.IntoIter.remaining IN.IntoIter.next_gives FN.FnMut FS.FnMut FH.FnMut g test least known.old.graph.discovery.nodes.keys known.old.graph.discovery.successors known.old.graph.success known.old.estimate known.old.estimates.items known.old.rows.steps.items known.old.rows.spans.items
-        × IsOnWay N.eq C.value C.fits g test least first known.old.graph.discovery.nodes.keys known.old.rows.steps.items known.old.rows.spans.items way.old.frame (reverse way.old.trail.items) way.old.cut_off.least way.old.cut_off.past }
-    ensures estimated { OnOk result (length known.new.estimates.items ≡ length known.new.graph.discovery.nodes.keys) }
-    ensures table { OnOk result (IsTable (length known.new.graph.discovery.nodes.keys) known.new.rows.steps.items known.new.rows.spans.items) }
-    ensures grows { OnOk result (Grows (length known.old.graph.discovery.nodes.keys) (length known.new.graph.discovery.nodes.keys) (StandsFor N.eq known.old.graph.discovery.nodes.keys) (StandsFor N.eq known.new.graph.discovery.nodes.keys)) }
-    ensures marked { IfOk result (λ r. MatchOption r (IsMarkedWay C.value limit (length known.new.graph.discovery.nodes.keys) way.new.marks.items way.new.frame (reverse way.new.trail.items) way.new.cut_off.least) (λ round. AreAbove C.value limit round × AreInside (length known.new.graph.discovery.nodes.keys) round)) }
-    ensures less { IfOk result (λ r. MatchOption r (turns_left (2 ^ 64) (2 ^ 64) way.new.frame (reverse way.new.trail.items) < turns_left (2 ^ 64) (2 ^ 64) way.old.frame (reverse way.old.trail.items)) (λ _. ⊤)) }
+        × IsKnown N.eq C.value S.answers T.answers H.answers g test least known.old
+        × IsUnderWay way.old N.eq C.value C.fits g test least first known.old }
+    ensures estimated { OnOk result (length known.new.estimates.items ≡ found_in known.new) }
+    ensures table { OnOk result (IsTabled known.new) }
+    ensures grows { OnOk result (FindsMore N.eq known.old.graph known.new.graph) }
+    ensures marked { IfOk result (λ r. MatchOption r (IsMarkedOn way.new C.value limit (found_in known.new)) (λ round. AreAbove C.value limit round × AreInside (found_in known.new) round)) }
+    ensures less { IfOk result (λ r. MatchOption r (turns_on way.new < turns_on way.old) (λ _. ⊤)) }
     ensures graph { (g : NodeGraph N) (test : N → Bool) (least : N → ℤ) (first : N)
-        → IsKnown N.eq C.value IN.into_iter_gives IN.IntoIter.can_next IN.IntoIter.remaining IN.IntoIter.next_gives FN.FnMut FS.FnMut FH.FnMut g test least known.old.graph.discovery.nodes.keys known.old.graph.discovery.successors known.old.graph.success known.old.estimate known.old.estimates.items known.old.rows.steps.items known.old.rows.spans.items
-        → IsOnWay N.eq C.value C.fits g test least first known.old.graph.discovery.nodes.keys known.old.rows.steps.items known.old.rows.spans.items way.old.frame (reverse way.old.trail.items) way.old.cut_off.least way.old.cut_off.past
-        → IfOk result (λ r. IsKnown N.eq C.value IN.into_iter_gives IN.IntoIter.can_next IN.IntoIter.remaining IN.IntoIter.next_gives FN.FnMut FS.FnMut FH.FnMut g test least known.new.graph.discovery.nodes.keys known.new.graph.discovery.successors known.new.graph.success known.new.estimate known.new.estimates.items known.new.rows.steps.items known.new.rows.spans.items
-        × MatchOption r (IsOnWay N.eq C.value C.fits g test least first known.new.graph.discovery.nodes.keys known.new.rows.steps.items known.new.rows.spans.items way.new.frame (reverse way.new.trail.items) way.new.cut_off.least way.new.cut_off.past)
+        → IsKnown N.eq C.value S.answers T.answers H.answers g test least known.old
+        → IsUnderWay way.old N.eq C.value C.fits g test least first known.old
+        → IfOk result (λ r. IsKnown N.eq C.value S.answers T.answers H.answers g test least known.new
+        × MatchOption r (IsUnderWay way.new N.eq C.value C.fits g test least first known.new)
         (λ round. Looked N.eq C.value C.fits g test least (StandsFor N.eq known.new.graph.discovery.nodes.keys) first limit round)) }
     ensures refused { IfErr result (λ e. e ≡ PathError.OutOfMemory) }
 {
@@ -106,36 +107,35 @@ where
 }
 
 /// Takes the next step of the last frame, or goes back where none is left.
-fn turn<N, C, IN, FN, FH, FS, A>(
+fn turn<N, C, S, T, H, A>(
     alloc: A,
-    known: &mut Known<N, C, IN, FN, FH, FS, A>,
+    known: &mut Known<N, C, S, T, H, A>,
     limit: C,
     way: &mut Way<C, A>,
 ) -> Result<Option<Round<C, A>>, PathError>
 where
     N: Eq + Hash + Drop,
     C: Cost,
-    IN: IntoIterator<Item = (N, C)>,
-    FN: FnMut(&N) -> IN,
-    FH: FnMut(&N) -> C,
-    FS: FnMut(&N) -> bool,
+    S: EdgeSource<N, C>,
+    T: NodeTest<N>,
+    H: EstimateFunction<N, C>,
     A: Allocator + Copy,
-    requires estimated { length known.old.estimates.items ≡ length known.old.graph.discovery.nodes.keys }
-    requires table { IsTable (length known.old.graph.discovery.nodes.keys) known.old.rows.steps.items known.old.rows.spans.items }
-    requires marked { IsMarkedWay C.value limit (length known.old.graph.discovery.nodes.keys) way.old.marks.items way.old.frame (reverse way.old.trail.items) way.old.cut_off.least }
+    requires estimated { length known.old.estimates.items ≡ found_in known.old }
+    requires table { IsTabled known.old }
+    requires marked { IsMarkedOn way.old C.value limit (found_in known.old) }
     requires graph { (g : NodeGraph N) × (test : N → Bool) × (least : N → ℤ) × (first : N)
-        × IsKnown N.eq C.value IN.into_iter_gives IN.IntoIter.can_next IN.IntoIter.remaining IN.IntoIter.next_gives FN.FnMut FS.FnMut FH.FnMut g test least known.old.graph.discovery.nodes.keys known.old.graph.discovery.successors known.old.graph.success known.old.estimate known.old.estimates.items known.old.rows.steps.items known.old.rows.spans.items
-        × IsOnWay N.eq C.value C.fits g test least first known.old.graph.discovery.nodes.keys known.old.rows.steps.items known.old.rows.spans.items way.old.frame (reverse way.old.trail.items) way.old.cut_off.least way.old.cut_off.past }
-    ensures estimated { OnOk result (length known.new.estimates.items ≡ length known.new.graph.discovery.nodes.keys) }
-    ensures table { OnOk result (IsTable (length known.new.graph.discovery.nodes.keys) known.new.rows.steps.items known.new.rows.spans.items) }
-    ensures grows { OnOk result (Grows (length known.old.graph.discovery.nodes.keys) (length known.new.graph.discovery.nodes.keys) (StandsFor N.eq known.old.graph.discovery.nodes.keys) (StandsFor N.eq known.new.graph.discovery.nodes.keys)) }
-    ensures marked { IfOk result (λ r. MatchOption r (IsMarkedWay C.value limit (length known.new.graph.discovery.nodes.keys) way.new.marks.items way.new.frame (reverse way.new.trail.items) way.new.cut_off.least) (λ round. AreAbove C.value limit round × AreInside (length known.new.graph.discovery.nodes.keys) round)) }
-    ensures less { IfOk result (λ r. MatchOption r (turns_left (2 ^ 64) (2 ^ 64) way.new.frame (reverse way.new.trail.items) < turns_left (2 ^ 64) (2 ^ 64) way.old.frame (reverse way.old.trail.items)) (λ _. ⊤)) }
+        × IsKnown N.eq C.value S.answers T.answers H.answers g test least known.old
+        × IsUnderWay way.old N.eq C.value C.fits g test least first known.old }
+    ensures estimated { OnOk result (length known.new.estimates.items ≡ found_in known.new) }
+    ensures table { OnOk result (IsTabled known.new) }
+    ensures grows { OnOk result (FindsMore N.eq known.old.graph known.new.graph) }
+    ensures marked { IfOk result (λ r. MatchOption r (IsMarkedOn way.new C.value limit (found_in known.new)) (λ round. AreAbove C.value limit round × AreInside (found_in known.new) round)) }
+    ensures less { IfOk result (λ r. MatchOption r (turns_on way.new < turns_on way.old) (λ _. ⊤)) }
     ensures graph { (g : NodeGraph N) (test : N → Bool) (least : N → ℤ) (first : N)
-        → IsKnown N.eq C.value IN.into_iter_gives IN.IntoIter.can_next IN.IntoIter.remaining IN.IntoIter.next_gives FN.FnMut FS.FnMut FH.FnMut g test least known.old.graph.discovery.nodes.keys known.old.graph.discovery.successors known.old.graph.success known.old.estimate known.old.estimates.items known.old.rows.steps.items known.old.rows.spans.items
-        → IsOnWay N.eq C.value C.fits g test least first known.old.graph.discovery.nodes.keys known.old.rows.steps.items known.old.rows.spans.items way.old.frame (reverse way.old.trail.items) way.old.cut_off.least way.old.cut_off.past
-        → IfOk result (λ r. IsKnown N.eq C.value IN.into_iter_gives IN.IntoIter.can_next IN.IntoIter.remaining IN.IntoIter.next_gives FN.FnMut FS.FnMut FH.FnMut g test least known.new.graph.discovery.nodes.keys known.new.graph.discovery.successors known.new.graph.success known.new.estimate known.new.estimates.items known.new.rows.steps.items known.new.rows.spans.items
-        × MatchOption r (IsOnWay N.eq C.value C.fits g test least first known.new.graph.discovery.nodes.keys known.new.rows.steps.items known.new.rows.spans.items way.new.frame (reverse way.new.trail.items) way.new.cut_off.least way.new.cut_off.past)
+        → IsKnown N.eq C.value S.answers T.answers H.answers g test least known.old
+        → IsUnderWay way.old N.eq C.value C.fits g test least first known.old
+        → IfOk result (λ r. IsKnown N.eq C.value S.answers T.answers H.answers g test least known.new
+        × MatchOption r (IsUnderWay way.new N.eq C.value C.fits g test least first known.new)
         (λ round. Looked N.eq C.value C.fits g test least (StandsFor N.eq known.new.graph.discovery.nodes.keys) first limit round)) }
     ensures refused { IfErr result (λ e. e ≡ PathError.OutOfMemory) }
 {
@@ -163,34 +163,33 @@ fn first_alone<A: Allocator>(alloc: A) -> Result<Vec<usize, A>, PathError>
 }
 
 /// Looks through the ways from the number 0 whose costs and estimates stay within the limit together.
-pub(crate) fn look_through<N, C, IN, FN, FH, FS, A>(
+pub(crate) fn look_through<N, C, S, T, H, A>(
     alloc: A,
-    known: &mut Known<N, C, IN, FN, FH, FS, A>,
+    known: &mut Known<N, C, S, T, H, A>,
     limit: C,
 ) -> Result<Round<C, A>, PathError>
 where
     N: Eq + Hash + Drop,
     C: Cost,
-    IN: IntoIterator<Item = (N, C)>,
-    FN: FnMut(&N) -> IN,
-    FH: FnMut(&N) -> C,
-    FS: FnMut(&N) -> bool,
+    S: EdgeSource<N, C>,
+    T: NodeTest<N>,
+    H: EstimateFunction<N, C>,
     A: Allocator + Copy,
-    requires begun { 0 < length known.old.graph.discovery.nodes.keys }
-    requires estimated { length known.old.estimates.items ≡ length known.old.graph.discovery.nodes.keys }
-    requires table { IsTable (length known.old.graph.discovery.nodes.keys) known.old.rows.steps.items known.old.rows.spans.items }
+    requires begun { 0 < found_in known.old }
+    requires estimated { length known.old.estimates.items ≡ found_in known.old }
+    requires table { IsTabled known.old }
     requires graph { (g : NodeGraph N) × (test : N → Bool) × (least : N → ℤ) × (first : N)
-        × IsKnown N.eq C.value IN.into_iter_gives IN.IntoIter.can_next IN.IntoIter.remaining IN.IntoIter.next_gives FN.FnMut FS.FnMut FH.FnMut g test least known.old.graph.discovery.nodes.keys known.old.graph.discovery.successors known.old.graph.success known.old.estimate known.old.estimates.items known.old.rows.steps.items known.old.rows.spans.items
+        × IsKnown N.eq C.value S.answers T.answers H.answers g test least known.old
         × StandsFor N.eq known.old.graph.discovery.nodes.keys 0 first × (least first ≤ℤ C.value limit) }
-    ensures estimated { OnOk result (length known.new.estimates.items ≡ length known.new.graph.discovery.nodes.keys) }
-    ensures table { OnOk result (IsTable (length known.new.graph.discovery.nodes.keys) known.new.rows.steps.items known.new.rows.spans.items) }
-    ensures grows { OnOk result (Grows (length known.old.graph.discovery.nodes.keys) (length known.new.graph.discovery.nodes.keys) (StandsFor N.eq known.old.graph.discovery.nodes.keys) (StandsFor N.eq known.new.graph.discovery.nodes.keys)) }
+    ensures estimated { OnOk result (length known.new.estimates.items ≡ found_in known.new) }
+    ensures table { OnOk result (IsTabled known.new) }
+    ensures grows { OnOk result (FindsMore N.eq known.old.graph known.new.graph) }
     ensures above { IfOk result (λ r. AreAbove C.value limit r) }
-    ensures inside { IfOk result (λ r. AreInside (length known.new.graph.discovery.nodes.keys) r) }
+    ensures inside { IfOk result (λ r. AreInside (found_in known.new) r) }
     ensures graph { (g : NodeGraph N) (test : N → Bool) (least : N → ℤ) (first : N)
-        → IsKnown N.eq C.value IN.into_iter_gives IN.IntoIter.can_next IN.IntoIter.remaining IN.IntoIter.next_gives FN.FnMut FS.FnMut FH.FnMut g test least known.old.graph.discovery.nodes.keys known.old.graph.discovery.successors known.old.graph.success known.old.estimate known.old.estimates.items known.old.rows.steps.items known.old.rows.spans.items
+        → IsKnown N.eq C.value S.answers T.answers H.answers g test least known.old
         → StandsFor N.eq known.old.graph.discovery.nodes.keys 0 first → least first ≤ℤ C.value limit
-        → IfOk result (λ r. IsKnown N.eq C.value IN.into_iter_gives IN.IntoIter.can_next IN.IntoIter.remaining IN.IntoIter.next_gives FN.FnMut FS.FnMut FH.FnMut g test least known.new.graph.discovery.nodes.keys known.new.graph.discovery.successors known.new.graph.success known.new.estimate known.new.estimates.items known.new.rows.steps.items known.new.rows.spans.items
+        → IfOk result (λ r. IsKnown N.eq C.value S.answers T.answers H.answers g test least known.new
         × Looked N.eq C.value C.fits g test least (StandsFor N.eq known.new.graph.discovery.nodes.keys) first limit r) }
     ensures refused { IfErr result (λ e. e ≡ PathError.OutOfMemory) }
 {

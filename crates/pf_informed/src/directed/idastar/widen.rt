@@ -1,6 +1,6 @@
 //! Places by number.
 
-ghost use Rattle.std.specs.Prelude.{◌≡◌, ◌⊎◌, ◌<◌, ◌+◌, ℕ, Some, IfOk, OnOk, IfErr, length, slice_get};
+ghost use Rattle.std.specs.Prelude.{◌≡◌, ◌⊎◌, ◌<◌, ℕ, Some, OnOk, IfErr, length, slice_get};
 
 use pf_base::PathError;
 use std::alloc::Allocator;

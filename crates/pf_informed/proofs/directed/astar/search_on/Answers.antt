@@ -1,23 +1,17 @@
-use Rattle.std.proofs.Common.{◌≡◌, ◌<◌, ◌∙◌, [], ◌∷◌, List, ℕ, ℤ, Bool, false, true≢false, sym, subst, length, refl, inl, inr}
+use Rattle.std.proofs.Common.{◌≡◌, ◌<◌, ◌∙◌, [], List, ℕ, false, true≢false, sym, subst, length, refl, inl, inr}
 use Rattle.std.specs.BinaryHeap.{heap_items}
 use Rattle.std.proofs.lemmas.List.{append-nil}
-use Rattle.pf_core.specs.Nodes.{NodeGraph, TestedGraph, StandsFor, IsStep}
+use Rattle.pf_core.specs.Nodes.{StandsFor, IsStep}
 use Rattle.pf_core.proofs.LabelLemmas.{HasLabel-inside}
 use Rattle.pf_core.proofs.SearchLemmas.{Grows-trans}
 use Rattle.pf_informed.specs.Internal.Informed.{IsInformed}
 use Rattle.pf_informed.specs.Internal.Led.{OthersWait}
 use Rattle.pf_informed.specs.Internal.Waiting.{Entry, IsQueue}
 use Rattle.pf_informed.proofs.LedAnswers.{led_above, led_best, led_none, led_past}
-use Rattle.pf_informed.proofs.LedLemmas.{informed_still, led_grown}
+use Rattle.pf_informed.proofs.LedLemmas.{graph_of, with_test, informed_still, led_grown}
 use Rattle.pf_informed.proofs.WiderLemmas.{less_left}
 use Rattle.pf_informed.proofs.Outcomes.{refused_as, if_refused, no_overflow, ok_is_no_error}
 use Rattle.pf_informed.proofs.directed.astar.search_on.Goals as goal
-
-abbrev tested : {N : Type 0} → NodeGraph N → (N → Bool) → TestedGraph N
-tested g test = record { graph = g; test = test }
-
-abbrev graph_of : {N : Type 0} → N → (N → List (N × ℤ)) → NodeGraph N
-graph_of start edges = record { starts = start ∷ []; edges = edges }
 
 pub turns-init : goal.turns-init
 turns-init g c =
@@ -43,7 +37,7 @@ is_goal-requires-clause-graph g c =
     let r = c.requires.graph in
     let v = c.turns.invariant.searched r.0 r.1 r.2 r.3 in
     let d = v.0 in
-    (tested r.0 r.1, (d.explores, d.tested))
+    (with_test r.0 r.1, (d.explores, d.tested))
 
 pub nodes_to-requires-clause-wide : goal.nodes_to-requires-clause-wide
 nodes_to-requires-clause-wide g c = c.turns.invariant.wide ∙ sym c.is_goal.ensures.same
@@ -63,7 +57,7 @@ returns-then-is_goal g c = record {
       let h = graph_of start edges in
       let v = inv.searched h test least d in
       let now = v.0 in
-      let told = c.is_goal.ensures.graph (tested h test) (now.explores, now.tested) in
+      let told = c.is_goal.ensures.graph (with_test h test) (now.explores, now.tested) in
       let after = told.0.0 in
       let t = c.in-Some.ensures.taken in
       let labels = c.turns.search.labels.items in
@@ -71,9 +65,9 @@ returns-then-is_goal g c = record {
       let keys = c.turns.graph.discovery.nodes.keys in
       let begins = inv.begins start s in
       let nodes = c.in_ok-nodes.ensures.nodes in
-      let above = led_above eq laws g.C.Number.value _ _ _ _ _ _ _ start edges test least keys _ _ _ c.turns.search.estimates.items now inv.asked begins g.C.Number.fits (λ x y z. g.C.Number.between_law x y z exact) (g.met.C.Zero.zero_fits_law exact)
+      let above = led_above laws now inv.asked begins g.C.Number.fits (λ x y z. g.C.Number.between_law x y z exact) (g.met.C.Zero.zero_fits_law exact)
       labels inv.wide entries inv.forest v.1 c.in-Some.taken.number c.in-Some.taken.cost (heap_items c.take_least.new.queue) t c.in-Some.ensures.queue c.known.ensures in
-      led_best eq laws g.C.Number.value _ _ _ _ _ _ _ start edges test least keys _ _ _ c.turns.search.estimates.items now inv.asked begins g.C.Number.fits (λ x y z. g.C.Number.between_law x y z exact) (g.met.C.Zero.zero_fits_law exact)
+      led_best laws now inv.asked begins g.C.Number.fits (λ x y z. g.C.Number.between_law x y z exact) (g.met.C.Zero.zero_fits_law exact)
       labels inv.wide entries inv.forest v.1 c.in-Some.taken.number t.label t.at nodes.0 nodes.1 (λ y k. sym (told.1 y k) ∙ c.if-is_goal.true) above
       c.is_goal.new.self.discovery.nodes.keys c.is_goal.ensures.grows after.distinct c.in_ok-nodes.nodes.items nodes.2 (g.C.Number.value c.in-Some.taken.cost) t.same;
   overflow = λ start edges test least s d e. absurd (ok_is_no_error _ _ _ refl e);
@@ -97,8 +91,8 @@ turn-requires-clause-graph g c =
     let inv = c.turns.invariant in
     let v = inv.searched r.0 r.1 r.2 r.3 in
     let now = v.0 in
-    let told = c.is_goal.ensures.graph (tested r.0 r.1) (now.explores, now.tested) in
-    (r.0, r.1, r.2, led_grown g.N.PartialEq.eq g.met.N.Eq.laws g.C.Number.value _ _ _ _ _ _ _ r.0 r.1 r.2 _ _ _ _ _ now _ _ _ c.is_goal.ensures.grows inv.asked told.0.0 told.0.1)
+    let told = c.is_goal.ensures.graph (with_test r.0 r.1) (now.explores, now.tested) in
+    (r.0, r.1, r.2, led_grown now g.met.N.Eq.laws inv.asked c.is_goal.new.self c.is_goal.ensures.grows told.0.0 told.0.1)
 
 pub turns-preserved : goal.turns-preserved
 turns-preserved g c =
@@ -128,8 +122,8 @@ turns-preserved g c =
       searched = λ h test least d.
           let v = inv.searched h test least d in
           let now = v.0 in
-          let told = goal.graph (tested h test) (now.explores, now.tested) in
-          let led = led_grown eq laws value _ _ _ _ _ _ _ h test least _ _ _ _ _ now _ _ _ goal.grows inv.asked told.0.0 told.0.1 in
+          let told = goal.graph (with_test h test) (now.explores, now.tested) in
+          let led = led_grown now laws inv.asked c.is_goal.new.self goal.grows told.0.0 told.0.1 in
           let turned = n.graph h test least led in
           let still = informed_still value g.C.Number.fits (IsStep eq h) test estimates (length keys) (length between) (StandsFor eq keys) (StandsFor eq between) goal.grows goal.same labels inv.wide (heap_items c.turns.search.queue) v.1 in
           let left = subst (λ (es : List (Entry g.row.C.Denot)). OthersWait value labels c.in-Some.taken.number (heap_items c.turns.search.queue) es) (sym (append-nil heap)) t.left in
@@ -146,7 +140,7 @@ returns-then-has_all_labels g c = record {
       let exact = g.met.C.Integral.exact_law in
       let inv = c.turns.invariant in
       let v = inv.searched (graph_of start edges) test least d in
-      led_none g.N.PartialEq.eq g.met.N.Eq.laws g.C.Number.value _ _ _ _ _ _ _ start edges test least _ _ _ _ _ v.0 inv.asked (inv.begins start s) g.C.Number.fits (λ x y z. g.C.Number.between_law x y z exact) (g.met.C.Zero.zero_fits_law exact)
+      led_none g.met.N.Eq.laws v.0 inv.asked (inv.begins start s) g.C.Number.fits (λ x y z. g.C.Number.between_law x y z exact) (g.met.C.Zero.zero_fits_law exact)
       c.turns.search.labels.items inv.wide (heap_items c.turns.search.queue) inv.forest v.1 c.in_default.ensures.taken (c.has_all_labels.ensures.0 c.if-has_all_labels.true);
   overflow = λ start edges test least s d e. absurd (ok_is_no_error _ _ _ refl e);
   errors = tt;
@@ -159,7 +153,7 @@ returns-else-has_all_labels g c = record {
       let exact = g.met.C.Integral.exact_law in
       let inv = c.turns.invariant in
       let v = inv.searched (graph_of start edges) test least d in
-      led_past g.N.PartialEq.eq g.met.N.Eq.laws g.C.Number.value _ _ _ _ _ _ _ start edges test least _ _ _ _ _ v.0 inv.asked (inv.begins start s) g.C.Number.fits (λ x y z. g.C.Number.between_law x y z exact) (g.met.C.Zero.zero_fits_law exact)
+      led_past g.met.N.Eq.laws v.0 inv.asked (inv.begins start s) g.C.Number.fits (λ x y z. g.C.Number.between_law x y z exact) (g.met.C.Zero.zero_fits_law exact)
       c.turns.search.labels.items inv.wide (heap_items c.turns.search.queue) inv.forest v.1 c.in_default.ensures.taken (λ a. true≢false (sym (c.has_all_labels.ensures.1 a) ∙ c.if-has_all_labels.false));
   errors = inr refl;
 }
@@ -203,17 +197,8 @@ turn-requires-clause-queue g c = c.in-Some.ensures.queue
 pub begin-requires-clause-one : goal.begin-requires-clause-one
 begin-requires-clause-one g c = c.requires.one
 
-pub begin-requires-clause-unlabelled : goal.begin-requires-clause-unlabelled
-begin-requires-clause-unlabelled g c = c.requires.unlabelled
-
-pub begin-requires-clause-unasked : goal.begin-requires-clause-unasked
-begin-requires-clause-unasked g c = c.requires.unasked
-
-pub begin-requires-clause-nothing_waits : goal.begin-requires-clause-nothing_waits
-begin-requires-clause-nothing_waits g c = c.requires.nothing_waits
-
-pub begin-requires-clause-ordered : goal.begin-requires-clause-ordered
-begin-requires-clause-ordered g c = c.requires.ordered
+pub begin-requires-clause-new : goal.begin-requires-clause-new
+begin-requires-clause-new g c = c.requires.new
 
 pub begin-requires-clause-graph : goal.begin-requires-clause-graph
 begin-requires-clause-graph g c = c.requires.graph

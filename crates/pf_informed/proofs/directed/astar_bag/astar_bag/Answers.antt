@@ -13,7 +13,7 @@ find_ways-found-requires-clause-graph g c =
       r.1,
       r.2,
       (found.ensures.begins start).1 (g.met.N.Eq.laws.refl start),
-      led_begin g.N.PartialEq.eq g.met.N.Eq.laws g.C.Number.value _ _ _ _ _ _ _ start r.0 r.1 r.2 found.field-0.keys _ _ _ _ found.ensures.distinct found.ensures.same c.new-search.ensures.estimates r.3,
+      led_begin g.met.N.Eq.laws found.ensures.distinct found.ensures.same c.new-search.ensures.unasked r.3,
     )
 
 pub solution_of-requires : goal.solution_of-requires
@@ -26,13 +26,13 @@ returns g c = record {
       let start = c.args.start.now in
       c.solution_of.ensures.all g.C.Number.value start edges test
       (c.find_ways-found.ensures.all start edges test least ((found.ensures.begins start).1 (g.met.N.Eq.laws.refl start))
-      (led_begin g.N.PartialEq.eq g.met.N.Eq.laws g.C.Number.value _ _ _ _ _ _ _ start edges test least found.field-0.keys _ _ _ _ found.ensures.distinct found.ensures.same c.new-search.ensures.estimates s));
+      (led_begin g.met.N.Eq.laws found.ensures.distinct found.ensures.same c.new-search.ensures.unasked s));
   ready = c.solution_of.ensures.ready;
   overflow = λ edges test least s e.
       let found = c.in_ok-clone_of in
       let start = c.args.start.now in
       c.find_ways-found.ensures.overflow start edges test least ((found.ensures.begins start).1 (g.met.N.Eq.laws.refl start))
-      (led_begin g.N.PartialEq.eq g.met.N.Eq.laws g.C.Number.value _ _ _ _ _ _ _ start edges test least found.field-0.keys _ _ _ _ found.ensures.distinct found.ensures.same c.new-search.ensures.estimates s)
+      (led_begin g.met.N.Eq.laws found.ensures.distinct found.ensures.same c.new-search.ensures.unasked s)
       (c.solution_of.ensures.errors _ e);
   errors = same_errors _ c.solution_of.result c.find_ways-found.result c.solution_of.ensures.errors c.find_ways-found.ensures.errors;
 }
@@ -45,17 +45,8 @@ returns-in_err-clone_of g c = record {
   errors = refused_as _ c.from_residual.result _ c.from_residual.ensures.1 (inl c.in_err-clone_of.ensures.refused);
 }
 
-pub find_ways-found-requires-clause-unlabelled : goal.find_ways-found-requires-clause-unlabelled
-find_ways-found-requires-clause-unlabelled g c = c.new-search.ensures.labels
-
-pub find_ways-found-requires-clause-unasked : goal.find_ways-found-requires-clause-unasked
-find_ways-found-requires-clause-unasked g c = c.new-search.ensures.estimates
-
-pub find_ways-found-requires-clause-nothing_waits : goal.find_ways-found-requires-clause-nothing_waits
-find_ways-found-requires-clause-nothing_waits g c = c.new-search.ensures.queue
-
-pub find_ways-found-requires-clause-ordered : goal.find_ways-found-requires-clause-ordered
-find_ways-found-requires-clause-ordered g c = c.new-search.ensures.ordered
+pub find_ways-found-requires-clause-new : goal.find_ways-found-requires-clause-new
+find_ways-found-requires-clause-new g c = c.new-search.ensures
 
 pub find_ways-found-requires-clause-one : goal.find_ways-found-requires-clause-one
 find_ways-found-requires-clause-one g c = c.in_ok-clone_of.ensures.one

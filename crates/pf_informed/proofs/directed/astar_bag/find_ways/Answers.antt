@@ -1,34 +1,18 @@
-use Rattle.std.proofs.Common.{◌≡◌, ◌∙◌, ◌∷◌, [], List, ℤ, Bool, Err, ap, length, ◌≤◌, refl, inl, ℕ, ◌<◌, subst, sym}
-use Rattle.pf_core.specs.Nodes.{NodeGraph, TestedGraph}
+use Rattle.std.proofs.Common.{◌≡◌, ◌∙◌, Err, ap, length, ◌≤◌, refl, inl, ℕ, ◌<◌, subst, sym}
 use Rattle.pf_core.specs.NodeLaws.{StandsFor-one}
 use Rattle.pf_core.proofs.UnitLemmas.{begins_all}
 use Rattle.pf_informed.specs.Internal.Ways.{before_in}
 use Rattle.pf_informed.proofs.BagLemmas.{all_paths}
 use Rattle.pf_informed.proofs.Outcomes.{refused_as, if_refused, no_overflow, ok_is_no_error, same_error}
 use Rattle.pf_informed.proofs.Bounds.{at_most_equal}
+use Rattle.pf_informed.proofs.LedLemmas.{graph_of, with_test}
 use Rattle.pf_informed.proofs.directed.astar_bag.find_ways.Goals as goal
-
-abbrev graph_of : {N : Type 0} → N → (N → List (N × ℤ)) → NodeGraph N
-graph_of start edges = record { starts = start ∷ []; edges = edges }
-
--- the graph that these functions answer
-abbrev tested : {N : Type 0} → N → (N → List (N × ℤ)) → (N → Bool) → TestedGraph N
-tested start edges test = record { graph = graph_of start edges; test = test }
 
 pub label_cheapest-requires-clause-one : goal.label_cheapest-requires-clause-one
 label_cheapest-requires-clause-one g c = c.requires.one
 
-pub label_cheapest-requires-clause-unlabelled : goal.label_cheapest-requires-clause-unlabelled
-label_cheapest-requires-clause-unlabelled g c = c.requires.unlabelled
-
-pub label_cheapest-requires-clause-unasked : goal.label_cheapest-requires-clause-unasked
-label_cheapest-requires-clause-unasked g c = c.requires.unasked
-
-pub label_cheapest-requires-clause-nothing_waits : goal.label_cheapest-requires-clause-nothing_waits
-label_cheapest-requires-clause-nothing_waits g c = c.requires.nothing_waits
-
-pub label_cheapest-requires-clause-ordered : goal.label_cheapest-requires-clause-ordered
-label_cheapest-requires-clause-ordered g c = c.requires.ordered
+pub label_cheapest-requires-clause-new : goal.label_cheapest-requires-clause-new
+label_cheapest-requires-clause-new g c = c.requires.new
 
 pub label_cheapest-requires-clause-graph : goal.label_cheapest-requires-clause-graph
 label_cheapest-requires-clause-graph g c =
@@ -44,7 +28,7 @@ pub tight_edges-requires-clause-graph : goal.tight_edges-requires-clause-graph
 tight_edges-requires-clause-graph g c =
     let r = c.requires.graph in
     let v = rw c.in-Some.is at (c.in_ok-best.ensures.labelled r.0 r.1 r.2 r.3 r.4 r.5) in
-    (tested r.0 r.1 r.2, (v.0.explores, v.0.tested))
+    (with_test (graph_of r.0 r.1) r.2, (v.0.explores, v.0.tested))
 
 pub tight_edges-requires-clause-someone : goal.tight_edges-requires-clause-someone
 tight_edges-requires-clause-someone g c = λ k l.
@@ -55,14 +39,14 @@ pub new-requires-clause-below : goal.new-requires-clause-below
 new-requires-clause-below g c = λ k j h.
     let r = c.requires.graph in
     let v = rw c.in-Some.is at (c.in_ok-best.ensures.labelled r.0 r.1 r.2 r.3 r.4 r.5) in
-    let t = (c.in_ok-tight.ensures.tight (tested r.0 r.1 r.2) (v.0.explores, v.0.tested)).1 in
+    let t = (c.in_ok-tight.ensures.tight (with_test (graph_of r.0 r.1) r.2) (v.0.explores, v.0.tested)).1 in
     subst (λ (n : ℕ). j < n) (sym c.in_ok-tight.ensures.wide) (t.below k j h)
 
 pub new-requires-clause-goals : goal.new-requires-clause-goals
 new-requires-clause-goals g c = λ j h.
     let r = c.requires.graph in
     let v = rw c.in-Some.is at (c.in_ok-best.ensures.labelled r.0 r.1 r.2 r.3 r.4 r.5) in
-    let t = (c.in_ok-tight.ensures.tight (tested r.0 r.1 r.2) (v.0.explores, v.0.tested)).1 in
+    let t = (c.in_ok-tight.ensures.tight (with_test (graph_of r.0 r.1) r.2) (v.0.explores, v.0.tested)).1 in
     subst (λ (n : ℕ). j < n) (sym c.in_ok-tight.ensures.wide) (t.goals_below j (rw c.deref-2.ensures.value at h))
 
 pub returns : goal.returns
@@ -72,7 +56,7 @@ returns g c = record {
       let laws = g.met.N.Eq.laws in
       let v = rw c.in-Some.is at (c.in_ok-best.ensures.labelled start edges test least b d) in
       let wide = rw c.in-Some.is at c.in_ok-best.ensures.wide in
-      let told = c.in_ok-tight.ensures.tight (tested start edges test) (v.0.explores, v.0.tested) in
+      let told = c.in_ok-tight.ensures.tight (with_test (graph_of start edges) test) (v.0.explores, v.0.tested) in
       let x = told.0.0 in
       let before = c.label_cheapest.new.graph.discovery.nodes.keys in
       let keys = c.tight_edges.new.graph.discovery.nodes.keys in

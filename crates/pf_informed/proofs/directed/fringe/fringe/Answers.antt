@@ -1,17 +1,13 @@
-use Rattle.std.proofs.Common.{[], ◌∷◌, List, ℤ, inl}
-use Rattle.pf_core.specs.Nodes.{NodeGraph}
-use Rattle.pf_informed.proofs.LedLemmas.{led_begin}
+use Rattle.std.proofs.Common.{inl}
+use Rattle.pf_informed.proofs.LedLemmas.{graph_of, led_begin}
 use Rattle.pf_informed.proofs.Outcomes.{refused_as, if_refused, no_overflow}
 use Rattle.pf_informed.proofs.directed.fringe.fringe.Goals as goal
-
-abbrev graph_of : {N : Type 0} → N → (N → List (N × ℤ)) → NodeGraph N
-graph_of start edges = record { starts = start ∷ []; edges = edges }
 
 pub search_on-requires-clause-graph : goal.search_on-requires-clause-graph
 search_on-requires-clause-graph g c =
     let r = c.requires.graph in
     let found = c.in_ok-clone_of in
-    (graph_of c.args.start.now r.0, r.1, r.2, led_begin g.N.PartialEq.eq g.met.N.Eq.laws g.C.Number.value _ _ _ _ _ _ _ c.args.start.now r.0 r.1 r.2 found.field-0.keys _ _ _ _ found.ensures.distinct found.ensures.same c.new-search.ensures.estimates r.3)
+    (graph_of c.args.start.now r.0, r.1, r.2, led_begin g.met.N.Eq.laws found.ensures.distinct found.ensures.same c.new-search.ensures.unasked r.3)
 
 pub returns : goal.returns
 returns g c = record {
@@ -19,12 +15,12 @@ returns g c = record {
       let found = c.in_ok-clone_of in
       let start = c.args.start.now in
       c.search_on.ensures.best start edges test least ((found.ensures.begins start).1 (g.met.N.Eq.laws.refl start))
-      (led_begin g.N.PartialEq.eq g.met.N.Eq.laws g.C.Number.value _ _ _ _ _ _ _ start edges test least found.field-0.keys _ _ _ _ found.ensures.distinct found.ensures.same c.new-search.ensures.estimates s);
+      (led_begin g.met.N.Eq.laws found.ensures.distinct found.ensures.same c.new-search.ensures.unasked s);
   overflow = λ edges test least s.
       let found = c.in_ok-clone_of in
       let start = c.args.start.now in
       c.search_on.ensures.overflow start edges test least ((found.ensures.begins start).1 (g.met.N.Eq.laws.refl start))
-      (led_begin g.N.PartialEq.eq g.met.N.Eq.laws g.C.Number.value _ _ _ _ _ _ _ start edges test least found.field-0.keys _ _ _ _ found.ensures.distinct found.ensures.same c.new-search.ensures.estimates s);
+      (led_begin g.met.N.Eq.laws found.ensures.distinct found.ensures.same c.new-search.ensures.unasked s);
   errors = c.search_on.ensures.errors;
 }
 
@@ -41,17 +37,8 @@ search_on-requires-clause-unlisted g c = c.new-lists.ensures.listed
 pub search_on-requires-clause-clones : goal.search_on-requires-clause-clones
 search_on-requires-clause-clones g c = c.requires.clones
 
-pub search_on-requires-clause-unlabelled : goal.search_on-requires-clause-unlabelled
-search_on-requires-clause-unlabelled g c = c.new-search.ensures.labels
-
-pub search_on-requires-clause-unasked : goal.search_on-requires-clause-unasked
-search_on-requires-clause-unasked g c = c.new-search.ensures.estimates
-
-pub search_on-requires-clause-nothing_waits : goal.search_on-requires-clause-nothing_waits
-search_on-requires-clause-nothing_waits g c = c.new-search.ensures.queue
-
-pub search_on-requires-clause-ordered : goal.search_on-requires-clause-ordered
-search_on-requires-clause-ordered g c = c.new-search.ensures.ordered
+pub search_on-requires-clause-new : goal.search_on-requires-clause-new
+search_on-requires-clause-new g c = c.new-search.ensures
 
 pub search_on-requires-clause-one : goal.search_on-requires-clause-one
 search_on-requires-clause-one g c = c.in_ok-clone_of.ensures.one

@@ -1,10 +1,10 @@
-use Rattle.std.proofs.Common.{◌≡◌, ◌<◌, ◌∙◌, [], ◌∷◌, List, ℕ, ℤ, Bool, false, true≢false, ap, sym, subst, length, slice_get, Some, refl, inl, inr}
+use Rattle.std.proofs.Common.{◌≡◌, ◌<◌, ◌∙◌, List, ℕ, ℤ, false, true≢false, ap, sym, subst, length, slice_get, Some, refl, inl, inr}
 use Rattle.std.specs.Prelude.{◌++◌, ◌≤ℤ◌}
 use Rattle.std.specs.BinaryHeap.{heap_items}
 use Rattle.std.proofs.lemmas.List.{append-nil}
 use Rattle.std.proofs.lemmas.List.Elements.{Contains-append_left}
 use Rattle.std.proofs.lemmas.Option.{MatchOption-at_some, MatchOption-at_none}
-use Rattle.pf_core.specs.Nodes.{NodeGraph, TestedGraph, StandsFor, IsStep}
+use Rattle.pf_core.specs.Nodes.{StandsFor, IsStep}
 use Rattle.pf_core.proofs.LabelLemmas.{HasLabel-inside}
 use Rattle.pf_core.proofs.ListLemmas.{at_place}
 use Rattle.pf_core.proofs.NodeLemmas.{StandsFor-same}
@@ -14,18 +14,12 @@ use Rattle.pf_informed.specs.Internal.Informed.{IsInformed}
 use Rattle.pf_informed.specs.Internal.Waiting.{Entry, IsQueue}
 use Rattle.pf_informed.proofs.FringeLemmas.{queue_in}
 use Rattle.pf_informed.proofs.LedAnswers.{led_within, led_estimate, led_limit, led_in_limit, led_best, led_none, led_past}
-use Rattle.pf_informed.proofs.LedLemmas.{informed_still, led_grown}
+use Rattle.pf_informed.proofs.LedLemmas.{graph_of, with_test, informed_still, led_grown}
 use Rattle.pf_informed.proofs.WiderLemmas.{less_left_too}
 use Rattle.pf_informed.proofs.NodeWalks.{never_above}
 use Rattle.pf_informed.proofs.Outcomes.{refused_as, if_refused, no_overflow, ok_is_no_error}
 use Rattle.pf_informed.proofs.Bounds.{some_one}
 use Rattle.pf_informed.proofs.directed.fringe.search_on.Goals as goal
-
-abbrev tested : {N : Type 0} → NodeGraph N → (N → Bool) → TestedGraph N
-tested g test = record { graph = g; test = test }
-
-abbrev graph_of : {N : Type 0} → N → (N → List (N × ℤ)) → NodeGraph N
-graph_of start edges = record { starts = start ∷ []; edges = edges }
 
 pub turns-init : goal.turns-init
 turns-init g c =
@@ -56,9 +50,9 @@ turns-init g c =
           let h = graph_of start edges in
           let now = (b.graph h test least d).0 in
           let st = StandsFor-same eq laws keys 0 start s0 s e in
-          let within = led_within eq laws value _ _ _ _ _ _ _ start edges test least keys _ _ _ kept now asked s in
+          let within = led_within laws now asked s in
           let low = never_above eq laws h now.explores.alike test least now.admissible s0 (within 0 s0 st) u z goes good in
-          let is = led_estimate eq laws value _ _ _ _ _ _ _ start edges test least keys _ _ _ kept now asked s 0 s0 c.index.result.now st estimate in
+          let is = led_estimate laws now asked s 0 s0 c.index.result.now st estimate in
           subst (λ (v : ℤ). v ≤ℤ z) (sym is) low;
     }
 
@@ -72,7 +66,7 @@ is_goal-requires-clause-graph g c =
     let r = c.requires.graph in
     let v = c.turns.invariant.searched r.0 r.1 r.2 r.3 in
     let d = v.0 in
-    (tested r.0 r.1, (d.explores, d.tested))
+    (with_test r.0 r.1, (d.explores, d.tested))
 
 pub nodes_to-requires-clause-wide : goal.nodes_to-requires-clause-wide
 nodes_to-requires-clause-wide g c = c.turns.invariant.wide ∙ sym c.is_goal.ensures.same
@@ -94,7 +88,7 @@ returns-then-is_goal g c = record {
       let h = graph_of start edges in
       let v = inv.searched h test least d in
       let now = v.0 in
-      let told = c.is_goal.ensures.graph (tested h test) (now.explores, now.tested) in
+      let told = c.is_goal.ensures.graph (with_test h test) (now.explores, now.tested) in
       let after = told.0.0 in
       let t = MatchOption-at_some _ _ c.in-Some.taken c.in-Some.is c.in_ok-taken.ensures.taken in
       let number = c.in-Some.taken.number in
@@ -106,9 +100,9 @@ returns-then-is_goal g c = record {
       let nodes = c.in_ok-nodes.ensures.nodes in
       let between = λ (x y z : ℤ). g.C.Number.between_law x y z exact in
       let nothing = g.met.C.Zero.zero_fits_law exact in
-      let low = led_limit eq laws value _ _ _ _ _ _ _ start edges test least keys _ _ _ estimates now inv.asked begins fits between nothing labels inv.wide entries inv.forest v.1 c.turns.lists.limit c.take.new.self.limit c.in_ok-taken.ensures.limit (inv.below start edges test least s d) in
-      let above = led_in_limit eq laws value _ _ _ _ _ _ _ start edges test least keys _ _ _ estimates now inv.asked begins fits between nothing labels inv.wide entries inv.forest v.1 number c.in-Some.taken.cost c.take.new.self.limit (heap_items c.take.new.queue ++ listed c.take.new.self) t low in
-      led_best eq laws value _ _ _ _ _ _ _ start edges test least keys _ _ _ estimates now inv.asked begins fits between nothing
+      let low = led_limit laws now inv.asked begins fits between nothing labels inv.wide entries inv.forest v.1 c.turns.lists.limit c.take.new.self.limit c.in_ok-taken.ensures.limit (inv.below start edges test least s d) in
+      let above = led_in_limit laws now inv.asked begins fits between nothing labels inv.wide entries inv.forest v.1 number c.in-Some.taken.cost c.take.new.self.limit (heap_items c.take.new.queue ++ listed c.take.new.self) t low in
+      led_best laws now inv.asked begins fits between nothing
       labels inv.wide entries inv.forest v.1 number t.label t.at nodes.0 nodes.1 (λ y k. sym (told.1 y k) ∙ c.if-is_goal.true) above
       c.is_goal.new.self.discovery.nodes.keys c.is_goal.ensures.grows after.distinct c.in_ok-nodes.nodes.items nodes.2 (value c.in-Some.taken.cost) t.same;
   overflow = λ start edges test least s d e. absurd (ok_is_no_error _ _ _ refl e);
@@ -138,8 +132,8 @@ turn-requires-clause-graph g c =
     let inv = c.turns.invariant in
     let v = inv.searched r.0 r.1 r.2 r.3 in
     let now = v.0 in
-    let told = c.is_goal.ensures.graph (tested r.0 r.1) (now.explores, now.tested) in
-    (r.0, r.1, r.2, led_grown g.N.PartialEq.eq g.met.N.Eq.laws g.C.Number.value _ _ _ _ _ _ _ r.0 r.1 r.2 _ _ _ _ _ now _ _ _ c.is_goal.ensures.grows inv.asked told.0.0 told.0.1)
+    let told = c.is_goal.ensures.graph (with_test r.0 r.1) (now.explores, now.tested) in
+    (r.0, r.1, r.2, led_grown now g.met.N.Eq.laws inv.asked c.is_goal.new.self c.is_goal.ensures.grows told.0.0 told.0.1)
 
 pub turns-preserved : goal.turns-preserved
 turns-preserved g c =
@@ -171,8 +165,8 @@ turns-preserved g c =
       searched = λ h test least d.
           let v = inv.searched h test least d in
           let now = v.0 in
-          let told = goal.graph (tested h test) (now.explores, now.tested) in
-          let led = led_grown eq laws value _ _ _ _ _ _ _ h test least _ _ _ _ _ now _ _ _ goal.grows inv.asked told.0.0 told.0.1 in
+          let told = goal.graph (with_test h test) (now.explores, now.tested) in
+          let led = led_grown now laws inv.asked c.is_goal.new.self goal.grows told.0.0 told.0.1 in
           let turned = n.graph h test least led in
           let still = informed_still value fits (IsStep eq h) test estimates (length keys) (length between) (StandsFor eq keys) (StandsFor eq between) goal.grows goal.same labels inv.wide entries v.1 in
           let fails : (x : g.row.N.Denot) → StandsFor eq between number x → test x ≡ false = λ x k. sym (told.1 x (goal.grows.back number x inside k)) ∙ c.if-is_goal.false in
@@ -182,7 +176,7 @@ turns-preserved g c =
           let v = inv.searched h test least d in
           let now = v.0 in
           let begins = inv.begins start s in
-          led_limit eq laws value _ _ _ _ _ _ _ start edges test least keys _ _ _ estimates now inv.asked begins fits (λ x y z. g.C.Number.between_law x y z exact) (g.met.C.Zero.zero_fits_law exact)
+          led_limit laws now inv.asked begins fits (λ x y z. g.C.Number.between_law x y z exact) (g.met.C.Zero.zero_fits_law exact)
           labels inv.wide entries inv.forest v.1 c.turns.lists.limit c.take.new.self.limit c.in_ok-taken.ensures.limit (inv.below start edges test least s d);
     }
 
@@ -192,7 +186,7 @@ returns-then-has_all_labels g c = record {
       let exact = g.met.C.Integral.exact_law in
       let inv = c.turns.invariant in
       let v = inv.searched (graph_of start edges) test least d in
-      led_none g.N.PartialEq.eq g.met.N.Eq.laws g.C.Number.value _ _ _ _ _ _ _ start edges test least _ _ _ _ _ v.0 inv.asked (inv.begins start s) g.C.Number.fits (λ x y z. g.C.Number.between_law x y z exact) (g.met.C.Zero.zero_fits_law exact)
+      led_none g.met.N.Eq.laws v.0 inv.asked (inv.begins start s) g.C.Number.fits (λ x y z. g.C.Number.between_law x y z exact) (g.met.C.Zero.zero_fits_law exact)
       c.turns.search.labels.items inv.wide (heap_items c.turns.search.queue ++ listed c.turns.lists) inv.forest v.1 (MatchOption-at_none _ _ c.in_default.is c.in_ok-taken.ensures.taken) (c.has_all_labels.ensures.0 c.if-has_all_labels.true);
   overflow = λ start edges test least s d e. absurd (ok_is_no_error _ _ _ refl e);
   errors = tt;
@@ -205,7 +199,7 @@ returns-else-has_all_labels g c = record {
       let exact = g.met.C.Integral.exact_law in
       let inv = c.turns.invariant in
       let v = inv.searched (graph_of start edges) test least d in
-      led_past g.N.PartialEq.eq g.met.N.Eq.laws g.C.Number.value _ _ _ _ _ _ _ start edges test least _ _ _ _ _ v.0 inv.asked (inv.begins start s) g.C.Number.fits (λ x y z. g.C.Number.between_law x y z exact) (g.met.C.Zero.zero_fits_law exact)
+      led_past g.met.N.Eq.laws v.0 inv.asked (inv.begins start s) g.C.Number.fits (λ x y z. g.C.Number.between_law x y z exact) (g.met.C.Zero.zero_fits_law exact)
       c.turns.search.labels.items inv.wide (heap_items c.turns.search.queue ++ listed c.turns.lists) inv.forest v.1 (MatchOption-at_none _ _ c.in_default.is c.in_ok-taken.ensures.taken) (λ a. true≢false (sym (c.has_all_labels.ensures.1 a) ∙ c.if-has_all_labels.false));
   errors = inr refl;
 }
@@ -259,17 +253,8 @@ turn-requires-clause-ordered g c = c.in_ok-taken.ensures.ordered
 pub begin-requires-clause-one : goal.begin-requires-clause-one
 begin-requires-clause-one g c = c.requires.one
 
-pub begin-requires-clause-unlabelled : goal.begin-requires-clause-unlabelled
-begin-requires-clause-unlabelled g c = c.requires.unlabelled
-
-pub begin-requires-clause-unasked : goal.begin-requires-clause-unasked
-begin-requires-clause-unasked g c = c.requires.unasked
-
-pub begin-requires-clause-nothing_waits : goal.begin-requires-clause-nothing_waits
-begin-requires-clause-nothing_waits g c = c.requires.nothing_waits
-
-pub begin-requires-clause-ordered : goal.begin-requires-clause-ordered
-begin-requires-clause-ordered g c = c.requires.ordered
+pub begin-requires-clause-new : goal.begin-requires-clause-new
+begin-requires-clause-new g c = c.requires.new
 
 pub begin-requires-clause-graph : goal.begin-requires-clause-graph
 begin-requires-clause-graph g c = c.requires.graph

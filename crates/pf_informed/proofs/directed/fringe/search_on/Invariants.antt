@@ -3,8 +3,8 @@ use Rattle.std.specs.BinaryHeap.{IsHeap, heap_items, heap_len}
 use Rattle.pf_core.specs.Nodes.{NodeGraph, StandsFor, IsStep}
 use Rattle.pf_informed.specs.Internal.Forest.{IsForest, nat_of}
 use Rattle.pf_informed.specs.Internal.Fringe.{listed, IsBelowGoals}
-use Rattle.pf_informed.specs.Internal.Informed.{IsInformed, work_left}
-use Rattle.pf_informed.specs.Internal.Led.{IsLed}
+use Rattle.pf_informed.specs.Internal.Informed.{work_left}
+use Rattle.pf_informed.specs.Internal.Led.{IsLed, IsInformedOn}
 use Rattle.pf_informed.specs.Internal.Waiting.{entry_cmp, IsQueue}
 use Rattle.pf_informed.proofs.directed.fringe.search_on.Given as goal
 
@@ -12,10 +12,7 @@ abbrev pub invariant-turns : goal.invariant-turns
 invariant-turns g l =
     let eq = g.N.PartialEq.eq in
     let value = g.C.Number.value in
-    let becomes = g.IN.IntoIterator.into_iter_gives in
-    let can = g.IN.IntoIter.Iterator.can_next in
-    let left = g.IN.IntoIter.Iterator.remaining in
-    let steps = g.IN.IntoIter.Iterator.next_gives in
+    let led = IsLed eq value g.S.EdgeSource.answers g.T.NodeTest.answers g.H.EstimateFunction.answers in
     let first = l.fn.graph.discovery.nodes.keys in
     let keys = l.graph.discovery.nodes.keys in
     let labels = l.search.labels.items in
@@ -29,11 +26,11 @@ invariant-turns g l =
       asked : length known ≡ length keys;
       begins : (x : g.row.N.Denot) → StandsFor eq first 0 x → StandsFor eq keys 0 x;
       searched : (h : NodeGraph g.row.N.Denot) (test : g.row.N.Denot → Bool) (least : g.row.N.Denot → ℤ)
-          → IsLed eq value becomes can left steps g.FN.FnMut g.FS.FnMut g.FH.FnMut h test least first l.fn.graph.discovery.successors l.fn.graph.success l.fn.estimate l.fn.search.estimates.items
-          → IsLed eq value becomes can left steps g.FN.FnMut g.FS.FnMut g.FH.FnMut h test least keys l.graph.discovery.successors l.graph.success l.estimate known
-          × IsInformed value g.C.Number.fits known (IsStep eq h) test (StandsFor eq keys) labels entries (length keys);
+          → led h test least l.fn.graph l.fn.estimate l.fn.search.estimates.items
+          → led h test least l.graph l.estimate known
+          × IsInformedOn eq value g.C.Number.fits h test l.graph l.search entries;
       below : (start : g.row.N.Denot) (edges : g.row.N.Denot → List (g.row.N.Denot × ℤ)) (test : g.row.N.Denot → Bool) (least : g.row.N.Denot → ℤ) → StandsFor eq first 0 start
-          → IsLed eq value becomes can left steps g.FN.FnMut g.FS.FnMut g.FH.FnMut (record { starts = start ∷ []; edges = edges }) test least first l.fn.graph.discovery.successors l.fn.graph.success l.fn.estimate l.fn.search.estimates.items
+          → led (record { starts = start ∷ []; edges = edges }) test least l.fn.graph l.fn.estimate l.fn.search.estimates.items
           → IsBelowGoals (IsStep eq (record { starts = start ∷ []; edges = edges })) test (λ s. eq start s ≡ true) (value l.lists.limit);
     }
 

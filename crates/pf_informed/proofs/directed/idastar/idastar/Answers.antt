@@ -1,27 +1,34 @@
-use Rattle.std.proofs.Common.{inl}
+use Rattle.std.proofs.Common.{inl, refl}
+use Rattle.pf_informed.proofs.LedLemmas.{led_begin}
 use Rattle.pf_informed.proofs.Outcomes.{refused_as, if_refused, no_overflow}
 use Rattle.pf_informed.proofs.directed.idastar.idastar.Goals as goal
 
 pub search_on-requires-clause-graph : goal.search_on-requires-clause-graph
 search_on-requires-clause-graph g c =
     let r = c.requires.graph in
-    let n = c.in_ok-known.ensures in
-    (c.args.start.now, r.0, r.1, r.2, n.begins, n.graph r.0 r.1 r.2 r.3)
+    let found = c.in_ok-clone_of.ensures in
+    let laws = g.met.N.Eq.laws in
+    let start = c.args.start.now in
+    (start, r.0, r.1, r.2, rw c.new-known.ensures.graph ((found.begins start).1 (laws.refl start)), c.new-known.ensures.known _ r.1 r.2 (led_begin laws found.distinct found.same refl r.3))
 
 pub returns : goal.returns
 returns g c = record {
   best = λ edges test least s.
-      let n = c.in_ok-known.ensures in
-      c.search_on.ensures.best c.args.start.now edges test least n.begins (n.graph edges test least s);
+      let found = c.in_ok-clone_of.ensures in
+      let laws = g.met.N.Eq.laws in
+      let start = c.args.start.now in
+      c.search_on.ensures.best start edges test least (rw c.new-known.ensures.graph ((found.begins start).1 (laws.refl start))) (c.new-known.ensures.known _ test least (led_begin laws found.distinct found.same refl s));
   overflow = λ edges test least s.
-      let n = c.in_ok-known.ensures in
-      c.search_on.ensures.overflow c.args.start.now edges test least n.begins (n.graph edges test least s);
+      let found = c.in_ok-clone_of.ensures in
+      let laws = g.met.N.Eq.laws in
+      let start = c.args.start.now in
+      c.search_on.ensures.overflow start edges test least (rw c.new-known.ensures.graph ((found.begins start).1 (laws.refl start))) (c.new-known.ensures.known _ test least (led_begin laws found.distinct found.same refl s));
   errors = c.search_on.ensures.errors;
 }
 
-pub returns-in_err-known : goal.returns-in_err-known
-returns-in_err-known g c = record {
+pub returns-in_err-clone_of : goal.returns-in_err-clone_of
+returns-in_err-clone_of g c = record {
   best = λ edges test least s. if_refused _ c.from_residual.result _ c.from_residual.ensures.1;
-  overflow = λ edges test least s e. absurd (no_overflow c.from_residual.result _ c.from_residual.ensures.1 c.in_err-known.ensures.refused e);
-  errors = refused_as _ c.from_residual.result _ c.from_residual.ensures.1 (inl c.in_err-known.ensures.refused);
+  overflow = λ edges test least s e. absurd (no_overflow c.from_residual.result _ c.from_residual.ensures.1 c.in_err-clone_of.ensures.refused e);
+  errors = refused_as _ c.from_residual.result _ c.from_residual.ensures.1 (inl c.in_err-clone_of.ensures.refused);
 }

@@ -64,8 +64,8 @@ admit-requires-clause-cost g c =
     let step = c.index-step.result.now in
     let fs = reverse way.trail.items in
     let at = step_at eq laws g.C.Number.value g.C.Number.fits h r.1 r.2 r.3 keys steps known.rows.spans.items k.rows (length keys) c.requires.table way.frame fs way.cut_off.least way.cut_off.past r.5 c.requires.left step (sym c.index-step.ensures) in
-    cost_from_zero eq laws g.C.Number.value g.C.Number.fits h r.1 r.2 r.3 keys steps known.rows.spans.items k.rows k.explores.alike k.admissible (cheap_positive eq h k.costs)
-    (λ i x s. InReach-same eq laws h.edges h.starts s.0 x (k.explores.reached i s.0 s.1) s.2) (StandsFor-one eq laws keys k.explores.distinct) way.frame fs way.cut_off.least way.cut_off.past r.5 c.requires.left step.0 step.1 at
+    cost_from_zero eq laws g.C.Number.value g.C.Number.fits h r.1 r.2 r.3 keys steps known.rows.spans.items k.rows k.led.explores.alike k.led.admissible (cheap_positive eq h k.led.costs)
+    (λ i x s. InReach-same eq laws h.edges h.starts s.0 x (k.led.explores.reached i s.0 s.1) s.2) (StandsFor-one eq laws keys k.led.explores.distinct) way.frame fs way.cut_off.least way.cut_off.past r.5 c.requires.left step.0 step.1 at
     (λ i m. begins_all eq laws keys i (c.requires.marked.inside i m))
 
 pub admit-requires-clause-price : goal.admit-requires-clause-price
@@ -82,8 +82,8 @@ admit-requires-clause-price g c =
     let step = c.index-step.result.now in
     let fs = reverse way.trail.items in
     let at = step_at eq laws g.C.Number.value g.C.Number.fits h r.1 r.2 r.3 keys steps known.rows.spans.items k.rows (length keys) c.requires.table way.frame fs way.cut_off.least way.cut_off.past r.5 c.requires.left step (sym c.index-step.ensures) in
-    price_from_zero eq laws g.C.Number.value g.C.Number.fits h r.1 r.2 r.3 keys steps known.rows.spans.items k.rows k.explores.alike k.admissible (cheap_positive eq h k.costs)
-    (λ i x s. InReach-same eq laws h.edges h.starts s.0 x (k.explores.reached i s.0 s.1) s.2) (StandsFor-one eq laws keys k.explores.distinct) way.frame fs way.cut_off.least way.cut_off.past r.5 c.requires.left step.0 step.1 at
+    price_from_zero eq laws g.C.Number.value g.C.Number.fits h r.1 r.2 r.3 keys steps known.rows.spans.items k.rows k.led.explores.alike k.led.admissible (cheap_positive eq h k.led.costs)
+    (λ i x s. InReach-same eq laws h.edges h.starts s.0 x (k.led.explores.reached i s.0 s.1) s.2) (StandsFor-one eq laws keys k.led.explores.distinct) way.frame fs way.cut_off.least way.cut_off.past r.5 c.requires.left step.0 step.1 at
     (λ i m. begins_all eq laws keys i (c.requires.marked.inside i m))
 
 pub admit-requires-clause-estimate : goal.admit-requires-clause-estimate
@@ -102,8 +102,8 @@ admit-requires-clause-estimate g c = λ e found.
     let at = step_at eq laws value g.C.Number.fits h r.1 r.2 r.3 keys steps known.rows.spans.items k.rows (length keys) c.requires.table way.frame (reverse way.trail.items) way.cut_off.least way.cut_off.past r.5 c.requires.left step (sym c.index-step.ensures) in
     let x = begins_all eq laws keys step.0 (c.requires.table.inside way.frame.at step.0 step.1 at) in
     let there : slice_get known.estimates.items step.0 ≡ Some e = subst (λ (es : List g.row.C.Denot). slice_get es step.0 ≡ Some e) c.deref.ensures.value found in
-    let is = estimate_is eq laws h k.explores.alike value r.2 k.asked.alike keys k.explores.reached known.estimates.items k.estimated c.requires.estimated step.0 x.0 e x.1 there in
-    let low = k.admissible.from_zero x.0 (InReach-same eq laws h.edges h.starts x.1.0 x.0 (k.explores.reached step.0 x.1.0 x.1.1) x.1.2) in
+    let is = estimate_is eq laws h k.led.explores.alike value r.2 k.led.same_estimate keys k.led.explores.reached known.estimates.items k.led.estimated c.requires.estimated step.0 x.0 e x.1 there in
+    let low = k.led.admissible.from_zero x.0 (InReach-same eq laws h.edges h.starts x.1.0 x.0 (k.led.explores.reached step.0 x.1.0 x.1.1) x.1.2) in
     subst (λ (z : ℤ). pos 0 ≤ℤ z) (sym is) low
 
 pub returns-in_default : goal.returns-in_default
@@ -133,10 +133,10 @@ returns-in_default g c = record {
       let e = estimate_at known.estimates.items step.0 (subst (λ (n : ℕ). step.0 < n) (sym c.requires.estimated) (c.requires.table.inside way.frame.at step.0 step.1 at)) in
       let there : slice_get c.deref.result.now step.0 ≡ Some e.0 = subst (λ (es : List g.row.C.Denot). slice_get es step.0 ≡ Some e.0) (sym c.deref.ensures.value) e.1 in (
         k,
-        cut_there eq laws value fits h test least first keys steps known.rows.spans.items k.rows k.explores.alike k.admissible (cheap_positive eq h k.costs)
-            (λ i x s. InReach-same eq laws h.edges h.starts s.0 x (k.explores.reached i s.0 s.1) s.2) (StandsFor-one eq laws keys k.explores.distinct) way.frame fs way.cut_off.least way.cut_off.past w c.requires.left step.0 step.1 at
+        cut_there eq laws value fits h test least first keys steps known.rows.spans.items k.rows k.led.explores.alike k.led.admissible (cheap_positive eq h k.led.costs)
+            (λ i x s. InReach-same eq laws h.edges h.starts s.0 x (k.led.explores.reached i s.0 s.1) s.2) (StandsFor-one eq laws keys k.led.explores.distinct) way.frame fs way.cut_off.least way.cut_off.past w c.requires.left step.0 step.1 at
             (λ i m. begins_all eq laws keys i (c.requires.marked.inside i m)) fresh e.0
-            (λ x s. estimate_is eq laws h k.explores.alike value least k.asked.alike keys k.explores.reached known.estimates.items k.estimated c.requires.estimated step.0 x e.0 s e.1)
+            (λ x s. estimate_is eq laws h k.led.explores.alike value least k.led.same_estimate keys k.led.explores.reached known.estimates.items k.led.estimated c.requires.estimated step.0 x e.0 s e.1)
             c.admit.new.cut_off.least c.admit.new.cut_off.past c.in_default.ensures.kept (c.in_default.ensures.entered e.0 there)
             (λ q. elim (c.in_default.ensures.past q) as (λ _. (way.cut_off.past ≡ true) ⊎ (¬ (fits (value way.frame.cost +ℤ value step.1 +ℤ value e.0)))) [
               | inl o ↦ inl o
@@ -223,8 +223,8 @@ returns-in_ok-enter-in-Some-2 g c = record {
         k2,
         on_way_as eq laws value fits h test least first after.graph.discovery.nodes.keys after.rows.steps.items after.rows.spans.items k2.rows c.enter.new.self.frame (way.frame ∷ fs) (reverse c.enter.new.self.trail.items) way.cut_off.least c.enter.new.self.cut_off.least way.cut_off.past c.enter.new.self.cut_off.past
             e.below (ap (λ o. o.least) e.cut_off ∙ c.in-Some.ensures.entered.2) (ap (λ o. o.past) e.cut_off ∙ c.in-Some.ensures.entered.3)
-            (went_on eq laws value fits h test least first keys steps spans k.rows k.explores.alike k.admissible (cheap_positive eq h k.costs)
-            (λ i x t. InReach-same eq laws h.edges h.starts t.0 x (k.explores.reached i t.0 t.1) t.2) (StandsFor-one eq laws keys k.explores.distinct) way.frame fs way.cut_off.least way.cut_off.past w c.requires.left step.0 step.1 at
+            (went_on eq laws value fits h test least first keys steps spans k.rows k.led.explores.alike k.led.admissible (cheap_positive eq h k.led.costs)
+            (λ i x t. InReach-same eq laws h.edges h.starts t.0 x (k.led.explores.reached i t.0 t.1) t.2) (StandsFor-one eq laws keys k.led.explores.distinct) way.frame fs way.cut_off.least way.cut_off.past w c.requires.left step.0 step.1 at
             (λ i m. begins_all eq laws keys i (c.requires.marked.inside i m)) fresh after.graph.discovery.nodes.keys after.rows.steps.items after.rows.spans.items c.in_ok-span.ensures.grows c.in_ok-span.ensures.steps c.in_ok-span.ensures.spans
             k2.rows c.requires.marked.inside c.enter.new.self.frame s has within.0 (ap (λ (f : Frame g.row.C.Denot). f.number) e.frame) (ap (λ (f : Frame g.row.C.Denot). value f.cost) e.frame ∙ c.in-Some.ensures.entered.0) (ap (λ (f : Frame g.row.C.Denot). f.at) e.frame) (ap (λ (f : Frame g.row.C.Denot). f.end) e.frame)),
       );
@@ -276,13 +276,13 @@ returns-in_ok-numbers-in-None g c = record {
       let e = estimate_at known.estimates.items step.0 (subst (λ (n : ℕ). step.0 < n) (sym c.requires.estimated) (c.requires.table.inside way.frame.at step.0 step.1 at)) in
       let there : slice_get c.deref.result.now step.0 ≡ Some e.0 = subst (λ (es : List g.row.C.Denot). slice_get es step.0 ≡ Some e.0) (sym c.deref.ensures.value) e.1 in
       let x = begins_all eq laws keys step.0 (c.requires.table.inside way.frame.at step.0 step.1 at) in
-      let is = estimate_is eq laws h k.explores.alike value least k.asked.alike keys k.explores.reached known.estimates.items k.estimated c.requires.estimated step.0 x.0 e.0 x.1 e.1 in
-      let low = k.admissible.from_zero x.0 (InReach-same eq laws h.edges h.starts x.1.0 x.0 (k.explores.reached step.0 x.1.0 x.1.1) x.1.2) in
+      let is = estimate_is eq laws h k.led.explores.alike value least k.led.same_estimate keys k.led.explores.reached known.estimates.items k.led.estimated c.requires.estimated step.0 x.0 e.0 x.1 e.1 in
+      let low = k.led.admissible.from_zero x.0 (InReach-same eq laws h.edges h.starts x.1.0 x.0 (k.led.explores.reached step.0 x.1.0 x.1.1) x.1.2) in
       let below = c.in-Some.ensures.entered.1 e.0 there in (
         told.0,
         (
-          arrived eq laws value fits h test least first keys steps spans k.rows k.explores.alike k.admissible (cheap_positive eq h k.costs)
-              (λ i y t. InReach-same eq laws h.edges h.starts t.0 y (k.explores.reached i t.0 t.1) t.2) (StandsFor-one eq laws keys k.explores.distinct) way.frame fs way.cut_off.least way.cut_off.past w c.requires.left step.0 step.1 at
+          arrived eq laws value fits h test least first keys steps spans k.rows k.led.explores.alike k.led.admissible (cheap_positive eq h k.led.costs)
+              (λ i y t. InReach-same eq laws h.edges h.starts t.0 y (k.led.explores.reached i t.0 t.1) t.2) (StandsFor-one eq laws keys k.led.explores.distinct) way.frame fs way.cut_off.least way.cut_off.past w c.requires.left step.0 step.1 at
               (λ i m. begins_all eq laws keys i (c.requires.marked.inside i m)) fresh after.graph.discovery.nodes.keys after.rows.steps.items after.rows.spans.items c.in_ok-span.ensures.grows c.in_ok-span.ensures.steps c.in_ok-span.ensures.spans
               told.1 c.in_ok-numbers-in-None.numbers.items numbers (value c.in-Some.cost) c.in-Some.ensures.entered.0,
           part_within _ _ _ _ is low below,

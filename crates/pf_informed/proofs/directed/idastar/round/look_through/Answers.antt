@@ -19,7 +19,7 @@ returns-in_default-clause-graph g c = λ h test least first k s low.
     let told = rw c.in_default.is at (c.in_ok-span.ensures.graph h test least k) in
     let here = c.in_ok-span.ensures.grows.stays 0 first s in
     let nothing : value c.zero-nothing.result ≡ pos 0 = ap value c.zero-nothing.ensures ∙ g.met.C.Zero.zero_law g.met.C.Integral.exact_law in
-    let from = k.admissible.from_zero first (InReach-same eq laws h.edges h.starts s.0 first (k.explores.reached 0 s.0 s.1) s.2) in
+    let from = k.led.admissible.from_zero first (InReach-same eq laws h.edges h.starts s.0 first (k.led.explores.reached 0 s.0 s.1) s.2) in
     (told.0, (start_way eq laws value g.C.Number.fits h test least first keys here (told.1 first here) c.in_ok-numbers.numbers.items c.in_ok-numbers.ensures.numbers (value c.zero-nothing.result) nothing, subst (λ (z : ℤ). z ≤ℤ value c.args.limit) (sym nothing) (at_most_both _ _ _ from low)))
 
 pub turns-init : goal.turns-init

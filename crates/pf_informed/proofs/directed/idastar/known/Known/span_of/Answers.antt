@@ -1,17 +1,14 @@
-use Rattle.std.proofs.Common.{◌≡◌, List, ℕ, Bool, true, false, length, ◌∙◌, sym, subst, slice_get, Option, Some, None, is_some, true≢false, ◌<◌, ◌≤◌}
+use Rattle.std.proofs.Common.{◌≡◌, List, ℕ, true, false, length, ◌∙◌, sym, subst, slice_get, Option, Some, None, is_some, true≢false, ◌<◌, ◌≤◌}
 use Rattle.std.specs.Prelude.{MatchOption, ⊤}
-use Rattle.pf_core.specs.Nodes.{NodeGraph, TestedGraph, StandsFor}
+use Rattle.pf_core.specs.Nodes.{StandsFor}
 use Rattle.pf_core.proofs.ListLemmas.{get-append}
 use Rattle.pf_core.proofs.SearchLemmas.{Grows-trans}
-use Rattle.pf_base.specs.Edges.{InReach}
 use Rattle.pf_informed.specs.Internal.Rows.{IsCheapStep, IsTable, HasSpan}
-use Rattle.pf_informed.proofs.KnownLemmas.{table_more, rows_more, rows_grown, estimated_grown, cheap_sound, cheap_complete}
+use Rattle.pf_informed.proofs.KnownLemmas.{table_more, rows_more, rows_grown, cheap_sound, cheap_complete}
+use Rattle.pf_informed.proofs.LedLemmas.{with_test, led_grown, led_more}
 use Rattle.pf_informed.proofs.Outcomes.{refused_as, on_refused, if_refused, Grows-refl}
 use Rattle.pf_informed.proofs.Bounds.{below_more}
 use Rattle.pf_informed.proofs.directed.idastar.known.Known.span_of.Goals as goal
-
-abbrev tested : {N : Type 0} → NodeGraph N → (N → Bool) → TestedGraph N
-tested g test = record { graph = g; test = test }
 
 -- nothing was kept of the number
 none_of : {A : Type 0} (o : Option A) (P : Type 0) (Q : A → Type 0) → is_some o ≡ false → MatchOption o P Q → P
@@ -31,7 +28,7 @@ pub is_goal-requires-clause-graph : goal.is_goal-requires-clause-graph
 is_goal-requires-clause-graph g c =
     let r = c.requires.graph in
     let k = r.3 in
-    (tested r.0 r.1, (k.explores, k.tested))
+    (with_test r.0 r.1, (k.led.explores, k.led.tested))
 
 pub returns-then-is_goal : goal.returns-then-is_goal
 returns-then-is_goal g c = record {
@@ -47,16 +44,11 @@ returns-then-is_goal g c = record {
       let value = g.C.Number.value in
       let keys = c.args.self.now.graph.discovery.nodes.keys in
       let now = c.is_goal.new.self.discovery.nodes.keys in
-      let told = c.is_goal.ensures.graph (tested h test) (k.explores, k.tested) in
+      let told = c.is_goal.ensures.graph (with_test h test) (k.led.explores, k.led.tested) in
       let grows = c.is_goal.ensures.grows in (
         record {
-          explores = told.0.0;
-          tested = told.0.1;
-          asked = k.asked;
-          estimated = estimated_grown eq laws value least (InReach eq h.edges h.starts) k.asked.alike keys now k.explores.reached grows c.args.self.now.estimates.items c.requires.estimated k.estimated;
+          led = led_grown k.led laws c.requires.estimated c.is_goal.new.self grows told.0.0 told.0.1;
           rows = rows_grown value (IsCheapStep eq h) test (StandsFor eq keys) (StandsFor eq now) (length keys) (length now) c.args.self.now.rows.steps.items c.args.self.now.rows.spans.items grows c.requires.table k.rows;
-          admissible = k.admissible;
-          costs = k.costs;
         },
         λ x s. sym (told.1 x (grows.back c.args.number x c.requires.inside s)) ∙ c.if-is_goal.true,
       );
@@ -67,14 +59,14 @@ pub expand-requires-clause-graph : goal.expand-requires-clause-graph
 expand-requires-clause-graph g c =
     let r = c.requires.graph in
     let k = r.3 in
-    (tested r.0 r.1, (c.is_goal.ensures.graph (tested r.0 r.1) (k.explores, k.tested)).0)
+    (with_test r.0 r.1, (c.is_goal.ensures.graph (with_test r.0 r.1) (k.led.explores, k.led.tested)).0)
 
 pub ask-requires-clause-graph : goal.ask-requires-clause-graph
 ask-requires-clause-graph g c =
     let r = c.requires.graph in
     let k = r.3 in
-    let x = c.in_ok-expand.ensures.graph (tested r.0 r.1) (c.is_goal.ensures.graph (tested r.0 r.1) (k.explores, k.tested)).0 in
-    (g.C.Number.value, r.0, r.2, k.asked, x.0.reached)
+    let x = c.in_ok-expand.ensures.graph (with_test r.0 r.1) (c.is_goal.ensures.graph (with_test r.0 r.1) (k.led.explores, k.led.tested)).0 in
+    (r.0, r.2, k.led.asked, x.0.reached)
 
 pub returns : goal.returns
 returns g c = record {
@@ -100,29 +92,22 @@ returns g c = record {
       let keys = c.args.self.now.graph.discovery.nodes.keys in
       let between = c.is_goal.new.self.discovery.nodes.keys in
       let after = c.expand.new.self.discovery.nodes.keys in
-      let told = c.is_goal.ensures.graph (tested h test) (k.explores, k.tested) in
-      let x = c.in_ok-expand.ensures.graph (tested h test) told.0 in
+      let told = c.is_goal.ensures.graph (with_test h test) (k.led.explores, k.led.tested) in
+      let x = c.in_ok-expand.ensures.graph (with_test h test) told.0 in
       let grows = Grows-trans _ _ _ _ _ _ c.is_goal.ensures.grows c.in_ok-expand.ensures.grows in
-      let a = c.in_ok-ask.ensures.graph value h least k.asked x.0.reached in
-      let before = estimated_grown eq laws value least (InReach eq h.edges h.starts) k.asked.alike keys after k.explores.reached grows c.args.self.now.estimates.items c.requires.estimated k.estimated in
-      let known = a.1 before in
+      let a = c.in_ok-ask.ensures.graph h least k.led.asked x.0.reached in
       let row = c.in_ok-expand.ensures.listed in
       let e = c.in_ok-span.ensures in
       let number = c.args.number in
       let here : (y : g.row.N.Denot) → StandsFor eq after number y → StandsFor eq between number y = λ y s. c.in_ok-expand.ensures.grows.back number y (subst (λ (n : ℕ). number < n) (sym c.is_goal.ensures.same) c.requires.inside) s in (
         record {
-          explores = x.0;
-          tested = x.1;
-          asked = a.0;
-          estimated = known;
+          led = led_more (led_grown k.led laws c.requires.estimated c.expand.new.self grows x.0 x.1) a.0 a.1;
           rows = rows_more (length keys) (length after) grows.more c.args.self.now.rows.steps.items c.expand.new.row.steps.items c.keep.new.self.steps.items c.args.self.now.rows.spans.items c.keep.new.self.spans.items number c.in_ok-span.span
               (rw c.deref.ensures.value at e.steps) e.span.0 (rw c.deref.ensures.value at e.span.1) e.from c.requires.table value (IsCheapStep eq h) test (StandsFor eq keys) (StandsFor eq after) grows
               (λ y s. sym (told.1 y (c.is_goal.ensures.grows.back number y c.requires.inside (here y s))) ∙ c.if-is_goal.false)
-              (λ y s. cheap_sound eq laws value h after y c.expand.new.row.steps.items row.0 c.expand.new.row.places.items row.1 (row.4 (tested h test) told.0 y (here y s)))
-              (λ y s. cheap_complete eq laws value h after y c.expand.new.row.steps.items row.0 c.expand.new.row.places.items row.1 (row.4 (tested h test) told.0 y (here y s)))
+              (λ y s. cheap_sound eq laws value h after y c.expand.new.row.steps.items row.0 c.expand.new.row.places.items row.1 (row.4 (with_test h test) told.0 y (here y s)))
+              (λ y s. cheap_complete eq laws value h after y c.expand.new.row.steps.items row.0 c.expand.new.row.places.items row.1 (row.4 (with_test h test) told.0 y (here y s)))
               k.rows;
-          admissible = k.admissible;
-          costs = k.costs;
         },
         tt,
       );
