@@ -1,8 +1,9 @@
 //! Greatest flows between vertices with names.
 
-ghost use Rattle.std.specs.Prelude.{◌≡◌, ◌⊎◌, ◌<◌, ◌++◌, ◌∷◌, [], ℕ, List, Some, true, length, slice_get, pos, OnOk, IfOk, IfErr};
+ghost use Rattle.std.specs.Prelude.{◌≡◌, ◌⊎◌, ◌<◌, ◌++◌, ◌∷◌, [], ℕ, ℤ, List, Some, true, length, slice_get, pos, OnOk, IfOk, IfErr};
 ghost use Rattle.std.specs.Iterator.{IsFiniteIterable, Drains};
 ghost use Rattle.std.specs.List.{AllZip};
+ghost use Rattle.pf_base.specs.declared.error.PathError.{PathError};
 ghost use Rattle.pf_base.specs.declared.error.PathError.TheVariants.{OutOfMemory, UnknownVertex};
 ghost use Rattle.pf_residual.specs.Networks.{KeepsShape, HasCapacities, IsFresh, capacity_sum};
 ghost use Rattle.pf_residual.specs.NamedNetworks.{names_of, number_of, given_capacities, IsKnown, IsNamed, AreAccepted, IsEdgeRefused, AreEdgesRefused, IsAnsweredFor, IsRefusedFor};
@@ -17,6 +18,37 @@ use pf_base::{PathError, SignedCost};
 use pf_residual::store::FlowStore;
 use std::alloc::Allocator;
 use std::hash::{BuildHasherDefault, FoldHasher, Hash};
+
+/// Edges between vertices with names, each with a capacity, that are given in turn. Every iterable of
+/// such edges is one.
+pub trait NamedEdges<N, C> {
+    // All were given, each was accepted, and this is the answer for them and two of the vertices.
+    ghost answered: { List N → N → N → Self → List ((N × N) × C) → ℤ → List ((N × N) × C) → Type 0 };
+
+    // Some were given, of which the last is the first that is refused.
+    ghost edges_refused: { List N → Self → PathError → Type 0 };
+
+    // Why there is no answer for them and two of the vertices.
+    ghost refused: { List N → N → N → Self → PathError → Type 0 };
+
+    /// Does nothing: a trait with a ghost member has a function.
+    fn as_named_edges(&self);
+}
+
+impl<N, C, IC> NamedEdges<N, C> for IC
+where
+    N: Eq,
+    C: SignedCost,
+    IC: IntoIterator<Item = Edge<N, C>>,
+{
+    ghost answered = { IsAnsweredFor N.eq C.value C.fits IC.into_iter_gives IC.IntoIter.next_gives };
+
+    ghost edges_refused = { AreEdgesRefused N.eq C.value C.fits IC.into_iter_gives IC.IntoIter.next_gives };
+
+    ghost refused = { IsRefusedFor N.eq C.value C.fits IC.into_iter_gives IC.IntoIter.next_gives };
+
+    fn as_named_edges(&self) {}
+}
 
 /// Vertices, each once, in the order in which they first stand; the place of a vertex is its number.
 type Names<N, A> = IndexSet<N, BuildHasherDefault<FoldHasher>, A>;
@@ -103,7 +135,7 @@ where
     ensures shape { OnOk result (KeepsShape (S.network store.old) (S.network store.new)) }
     ensures capacities { OnOk result ((it : IC.IntoIter) × (edges : List ((N × N) × C)) × IC.into_iter_gives capacities it × Drains IC.IntoIter.next_gives it edges
         × AreAccepted N.eq C.value names.now.keys C.fits (λ a b. pos 0) edges × HasCapacities (given_capacities N.eq C.value names.now.keys edges) (S.network store.new)) }
-    ensures refused { IfErr result (λ e. (e ≡ OutOfMemory) ⊎ AreEdgesRefused N.eq C.value C.fits IC.into_iter_gives IC.IntoIter.next_gives names.now.keys capacities e) }
+    ensures refused { IfErr result (λ e. (e ≡ OutOfMemory) ⊎ ⟦<IC as NamedEdges<N, C>>⟧.edges_refused names.now.keys capacities e) }
 {
     let mut sum = C::zero();
     'edges: for edge in capacities {
@@ -174,8 +206,8 @@ where
     requires details { (EK.FlowStore.network store.old).details ≡ true }
     ensures answer { IfOk result (λ answer. (source sink : N)
         → IsFresh (length names.now.keys) (number_of N.eq names.now.keys source) (number_of N.eq names.now.keys sink) (EK.FlowStore.network store.old)
-        → IsAnsweredFor N.eq C.value C.fits IC.into_iter_gives IC.IntoIter.next_gives names.now.keys source sink capacities answer.0.items (C.value answer.1) answer.2.items) }
-    ensures refused { IfErr result (λ e. (e ≡ OutOfMemory) ⊎ AreEdgesRefused N.eq C.value C.fits IC.into_iter_gives IC.IntoIter.next_gives names.now.keys capacities e) }
+        → ⟦<IC as NamedEdges<N, C>>⟧.answered names.now.keys source sink capacities answer.0.items (C.value answer.1) answer.2.items) }
+    ensures refused { IfErr result (λ e. (e ≡ OutOfMemory) ⊎ ⟦<IC as NamedEdges<N, C>>⟧.edges_refused names.now.keys capacities e) }
 {
     put_edges(store, names, capacities)?;
     let answer = store.augment(alloc)?;
@@ -221,8 +253,8 @@ where
     requires ends { IsFiniteIterable IC.into_iter_gives IC.IntoIter.can_next IC.IntoIter.remaining capacities }
     ensures source { OnOk result (IsKnown N.eq names.now.keys source.now) }
     ensures sink { OnOk result (IsKnown N.eq names.now.keys sink.now) }
-    ensures answer { IfOk result (λ answer. IsAnsweredFor N.eq C.value C.fits IC.into_iter_gives IC.IntoIter.next_gives names.now.keys source.now sink.now capacities answer.0.items (C.value answer.1) answer.2.items) }
-    ensures refused { IfErr result (IsRefusedFor N.eq C.value C.fits IC.into_iter_gives IC.IntoIter.next_gives names.now.keys source.now sink.now capacities) }
+    ensures answer { IfOk result (λ answer. ⟦<IC as NamedEdges<N, C>>⟧.answered names.now.keys source.now sink.now capacities answer.0.items (C.value answer.1) answer.2.items) }
+    ensures refused { IfErr result (⟦<IC as NamedEdges<N, C>>⟧.refused names.now.keys source.now sink.now capacities) }
 {
     let mut store: EK = store_between(alloc, names, source, sink)?;
     flows_of(alloc, &mut store, names, capacities)
@@ -263,8 +295,8 @@ where
     requires ends { IsFiniteIterable IC.into_iter_gives IC.IntoIter.can_next IC.IntoIter.remaining capacities }
     ensures source { OnOk result (IsKnown N.eq (names_of N.eq vertices.now) source.now) }
     ensures sink { OnOk result (IsKnown N.eq (names_of N.eq vertices.now) sink.now) }
-    ensures answer { IfOk result (λ answer. IsAnsweredFor N.eq C.value C.fits IC.into_iter_gives IC.IntoIter.next_gives (names_of N.eq vertices.now) source.now sink.now capacities answer.0.items (C.value answer.1) answer.2.items) }
-    ensures refused { IfErr result (IsRefusedFor N.eq C.value C.fits IC.into_iter_gives IC.IntoIter.next_gives (names_of N.eq vertices.now) source.now sink.now capacities) }
+    ensures answer { IfOk result (λ answer. ⟦<IC as NamedEdges<N, C>>⟧.answered (names_of N.eq vertices.now) source.now sink.now capacities answer.0.items (C.value answer.1) answer.2.items) }
+    ensures refused { IfErr result (⟦<IC as NamedEdges<N, C>>⟧.refused (names_of N.eq vertices.now) source.now sink.now capacities) }
 {
     let names = names_among(alloc, vertices)?;
     flows_among::<N, C, IC, EK>(alloc, &names, source, sink, capacities)
@@ -286,8 +318,8 @@ where
     requires ends { IsFiniteIterable IC.into_iter_gives IC.IntoIter.can_next IC.IntoIter.remaining capacities }
     ensures source { OnOk result (IsKnown N.eq (names_of N.eq vertices.now) source.now) }
     ensures sink { OnOk result (IsKnown N.eq (names_of N.eq vertices.now) sink.now) }
-    ensures answer { IfOk result (λ answer. IsAnsweredFor N.eq C.value C.fits IC.into_iter_gives IC.IntoIter.next_gives (names_of N.eq vertices.now) source.now sink.now capacities answer.0.items (C.value answer.1) answer.2.items) }
-    ensures refused { IfErr result (IsRefusedFor N.eq C.value C.fits IC.into_iter_gives IC.IntoIter.next_gives (names_of N.eq vertices.now) source.now sink.now capacities) }
+    ensures answer { IfOk result (λ answer. ⟦<IC as NamedEdges<N, C>>⟧.answered (names_of N.eq vertices.now) source.now sink.now capacities answer.0.items (C.value answer.1) answer.2.items) }
+    ensures refused { IfErr result (⟦<IC as NamedEdges<N, C>>⟧.refused (names_of N.eq vertices.now) source.now sink.now capacities) }
 {
     edmonds_karp::<N, C, IC, DenseCapacity<C, A>>(alloc, vertices, source, sink, capacities)
 }
@@ -308,8 +340,8 @@ where
     requires ends { IsFiniteIterable IC.into_iter_gives IC.IntoIter.can_next IC.IntoIter.remaining capacities }
     ensures source { OnOk result (IsKnown N.eq (names_of N.eq vertices.now) source.now) }
     ensures sink { OnOk result (IsKnown N.eq (names_of N.eq vertices.now) sink.now) }
-    ensures answer { IfOk result (λ answer. IsAnsweredFor N.eq C.value C.fits IC.into_iter_gives IC.IntoIter.next_gives (names_of N.eq vertices.now) source.now sink.now capacities answer.0.items (C.value answer.1) answer.2.items) }
-    ensures refused { IfErr result (IsRefusedFor N.eq C.value C.fits IC.into_iter_gives IC.IntoIter.next_gives (names_of N.eq vertices.now) source.now sink.now capacities) }
+    ensures answer { IfOk result (λ answer. ⟦<IC as NamedEdges<N, C>>⟧.answered (names_of N.eq vertices.now) source.now sink.now capacities answer.0.items (C.value answer.1) answer.2.items) }
+    ensures refused { IfErr result (⟦<IC as NamedEdges<N, C>>⟧.refused (names_of N.eq vertices.now) source.now sink.now capacities) }
 {
     edmonds_karp::<N, C, IC, SparseCapacity<C, A>>(alloc, vertices, source, sink, capacities)
 }

@@ -8,7 +8,7 @@ ghost use Rattle.pf_residual.specs.Listings.{ListsFlows, ListsLeastCut};
 ghost use Rattle.pf_residual.specs.Capacities.{square_table, AreRefused, IsChangeRefused};
 
 use crate::augmenting::augment_flow;
-pub use crate::by_names::{edmonds_karp, edmonds_karp_dense, edmonds_karp_sparse};
+pub use crate::by_names::{NamedEdges, edmonds_karp, edmonds_karp_dense, edmonds_karp_sparse};
 use crate::changes::change_capacity;
 pub use crate::dense_capacity::DenseCapacity;
 use crate::listings::list_flows;

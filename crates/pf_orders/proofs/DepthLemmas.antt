@@ -1,5 +1,5 @@
 -- From numbers in groups to nodes in groups by depth.
-use Rattle.std.proofs.Common.{◌≡◌, ℕ, zero, suc, ◌<◌, ◌≤◌, ◌+◌, ◌∙◌, refl, sym, ap, subst, arith, inl, inr, Bool, true, List, [], ◌∷◌, ◌++◌, length, length-append, nat_eq, Some, slice_get, add-one}
+use Rattle.std.proofs.Common.{◌≡◌, ℕ, zero, suc, ◌<◌, ◌≤◌, ◌+◌, ◌∙◌, refl, sym, ap, subst, arith, inl, inr, Bool, true, List, [], ◌∷◌, ◌++◌, length, length-append, nat_eq, Some, slice_get, add-one, ℤ}
 use Rattle.std.specs.Prelude.{Contains, Vec}
 use Rattle.std.specs.Cmp.{IsEquivalence}
 use Rattle.std.specs.List.{AllZip, IsDistinct}
@@ -7,7 +7,7 @@ use Rattle.pf_base.specs.NodeRefs.{HasSameNodes}
 use Rattle.pf_base.specs.Successors.{HasSuccessor}
 use Rattle.pf_base.specs.Walks.{HasNode, Follows, IsGoalWalk, end_of}
 use Rattle.pf_core.specs.NodeLaws.{StandsFor-one}
-use Rattle.pf_core.specs.Nodes.{StandsFor}
+use Rattle.pf_core.specs.Nodes.{StandsFor, Explores}
 use Rattle.pf_core.specs.Numbered.{Grows, StandsBelow}
 use Rattle.pf_core.proofs.FrontierLemmas.{end_more}
 use Rattle.pf_core.proofs.LoopWalks.{last_cut, follows_cut}
@@ -15,24 +15,31 @@ use Rattle.pf_core.proofs.ListLemmas.{Contains-cases, Contains-head, Contains-ta
 use Rattle.pf_core.proofs.NodeLemmas.{eq-sym, eq-trans, StandsFor-same, follows_more}
 use Rattle.pf_core.proofs.UnitLemmas.{starts_stand, begins_all}
 use Rattle.pf_core.proofs.WalkLemmas.{HasNode-same, distinct_nodes}
+use Rattle.pf_orders.specs.Beginnings.{hops_from}
 use Rattle.pf_orders.specs.GroupDepths.{InGroup, AreClosed, HasDepth, AreDepthGroups, HaveNoDepth}
-use Rattle.pf_orders.specs.Rounds.{Targets, AreLevels, AreNodesAt}
+use Rattle.pf_orders.specs.Rounds.{Targets, AreCounted, AreLevels, AreNodesAt}
 use Rattle.pf_orders.proofs.OrderLemmas.{member_of, of_member}
 use Rattle.pf_orders.proofs.RoundLemmas.{get_below}
 use Rattle.pf_orders.proofs.SortLemmas.{targets, target_of, of_target, node_in, number_in}
 
-module _ {N A : Type 0} (eq : N → N → Bool) (laws : IsEquivalence eq) (next : N → List N) (nodes keys : List N) (same : HasSameNodes eq keys nodes) (distinct : IsDistinct eq keys)
-    (rows : List (Vec ℕ A)) (wide : length rows ≡ length keys) (inside : (i j : ℕ) → Targets rows i j → j < length keys)
-    (listed : (k : ℕ) (row : Vec ℕ A) (x : N) → slice_get rows k ≡ Some row → StandsFor eq keys k x → AllZip (StandsFor eq keys) row.items (targets next x)) where
+-- the rows of the numbers of the nodes
+pub record AreRows {N A : Type 0} (eq : N → N → Bool) (next : N → List N) (nodes keys : List N) (rows : List (Vec ℕ A)) : Type 0 where
+  pub same : HasSameNodes eq keys nodes
+  pub distinct : IsDistinct eq keys
+  pub wide : length rows ≡ length keys
+  pub inside : (i j : ℕ) → Targets rows i j → j < length keys
+  pub listed : (k : ℕ) (row : Vec ℕ A) (x : N) → slice_get rows k ≡ Some row → StandsFor eq keys k x → AllZip (StandsFor eq keys) row.items (targets next x)
+
+module _ {N A : Type 0} {eq : N → N → Bool} (laws : IsEquivalence eq) {next : N → List N} {nodes keys : List N} {rows : List (Vec ℕ A)} (read : AreRows eq next nodes keys rows) where
   one : (i j : ℕ) (x : N) → StandsFor eq keys i x → StandsFor eq keys j x → i ≡ j
-  one = StandsFor-one eq laws keys distinct
+  one = StandsFor-one eq laws keys read.distinct
 
   -- a number whose node is one of the nodes
   number_of : (x : N) → HasNode eq nodes x → StandsBelow (length keys) (StandsFor eq keys) x
-  number_of x h = (starts_stand eq laws nodes keys same x).1 h
+  number_of x h = (starts_stand eq laws nodes keys read.same x).1 h
 
   is_given : (k : ℕ) (x : N) → k < length keys → StandsFor eq keys k x → HasNode eq nodes x
-  is_given k x l s = (starts_stand eq laws nodes keys same x).0 (k, l, s)
+  is_given k x l s = (starts_stand eq laws nodes keys read.same x).0 (k, l, s)
 
   row_number : (ks : List ℕ) (ys : List N) (y : N) → AllZip (StandsFor eq keys) ks ys → Contains ys y → (j : ℕ) × HasNode nat_eq ks j × StandsFor eq keys j y
   row_number [] [] y z h = absurd (omega (arith, h.1))
@@ -54,15 +61,15 @@ module _ {N A : Type 0} (eq : N → N → Bool) (laws : IsEquivalence eq) (next 
   -- a successor's number is in the row
   target_from : (i : ℕ) (x y : N) → i < length keys → StandsFor eq keys i x → HasSuccessor eq next x y → (j : ℕ) × Targets rows i j × StandsFor eq keys j y
   target_from i x y l s h =
-      let row = get_below rows i (omega (arith, l, wide)) in
+      let row = get_below rows i (omega (arith, l, read.wide)) in
       let t = target_of eq laws next x y h in
-      let q = row_number row.0.items (targets next x) t.0 (listed i row.0 x row.1 s) t.1 in
+      let q = row_number row.0.items (targets next x) t.0 (read.listed i row.0 x row.1 s) t.1 in
       (q.0, (row.0, row.1, q.1), StandsFor-same eq laws keys q.0 t.0 y q.2 t.2)
 
   -- a number in the row is a successor's
   successor_from : (i j : ℕ) (x y : N) → StandsFor eq keys i x → StandsFor eq keys j y → Targets rows i j → HasSuccessor eq next x y
   successor_from i j x y s t h =
-      let q = row_node h.0.items (targets next x) j (listed i h.0 x h.1 s) (of_member h.0.items j h.2) in
+      let q = row_node h.0.items (targets next x) j (read.listed i h.0 x h.1 s) (of_member h.0.items j h.2) in
       let m = q.2 in
       let e : eq q.0 y ≡ true = eq-trans eq laws q.0 m.0 y (eq-sym eq laws m.0 q.0 m.2) (by m.0 t m.1) in
       HasNode-same eq laws (next x) q.0 y e (of_target eq laws next x q.0 q.1)
@@ -74,7 +81,7 @@ module _ {N A : Type 0} (eq : N → N → Bool) (laws : IsEquivalence eq) (next 
   closed x y h s =
       let i = number_of x h in
       let q = target_from i.0 x y i.1 i.2 s in
-      is_given q.0 y (inside i.0 q.0 q.1) q.2
+      is_given q.0 y (read.inside i.0 q.0 q.1) q.2
 
   walk_closed : (w : List N) (a : N) → HasNode eq nodes a → Follows (HasSuccessor eq next) a w → HasNode eq nodes (end_of a w)
   walk_closed [] a h f = h
@@ -92,7 +99,10 @@ module _ {N A : Type 0} (eq : N → N → Bool) (laws : IsEquivalence eq) (next 
     ends = subst (λ (z : N). eq z y ≡ true) (sym (end_more w a y)) (laws.refl y);
   }
 
-  module _ (groups : List (Vec ℕ A)) (remaining : List ℕ) (v : AreLevels (length keys) rows groups remaining) where
+  module _ {groups : List (Vec ℕ A)} {remaining : List ℕ} (levels : AreLevels (length rows) rows groups remaining) where
+    v : AreLevels (length keys) rows groups remaining
+    v = subst (λ (n : ℕ). AreLevels n rows groups remaining) read.wide levels
+
     -- no walk to a node of group k has more than k steps
     high : (m k j : ℕ) (x a : N) (w : List N) → length w ≤ m → InGroup nat_eq groups k j → StandsFor eq keys j x → HasNode eq nodes a → Follows (HasSuccessor eq next) a w → eq (end_of a w) x ≡ true → length w ≤ k
     high m k j x a [] l i s h f e = omega arith
@@ -219,11 +229,20 @@ module _ {N A : Type 0} (eq : N → N → Bool) (laws : IsEquivalence eq) (next 
     pub some_left : (left : List N) → AllZip (StandsFor eq keys) remaining left → ¬ (remaining ≡ []) → ¬ (left ≡ [])
     some_left left z n e = n (empty_zip remaining left z e)
 
--- where no node was found, the numbers stand for the same nodes
-pub same_grown : {N : Type 0} (eq : N → N → Bool) (laws : IsEquivalence eq) (first keys nodes : List N) → HasSameNodes eq first nodes → Grows (length first) (length keys) (StandsFor eq first) (StandsFor eq keys) → length keys ≡ length first → HasSameNodes eq keys nodes
-same_grown eq laws first keys nodes same grown size x =
-    let old = starts_stand eq laws nodes first same x in
-    let new = starts_stand eq laws keys keys (λ z. ((λ h. h), (λ h. h))) x in (
-      (λ h. let k = new.1 h in let l = k.1 in old.0 (k.0, omega (arith, l, size), grown.back k.0 x (omega (arith, l, size)) k.2)),
-      (λ h. let k = old.1 h in let l = k.1 in new.0 (k.0, omega (arith, l, size), grown.stays k.0 x k.2)),
-    )
+-- where no node was found, the rows that were read are those of the nodes
+pub are_rows : {N A S : Type 0} {eq : N → N → Bool} {answers : S → List N → (N → List (N × ℤ)) → Type 0} {next : N → List N} {nodes keys : List N} {source : S} {rows : List (Vec ℕ A)} {counts : List ℕ} (first : List N)
+    → IsEquivalence eq → HasSameNodes eq first nodes → Explores eq answers (hops_from nodes next) keys source → Grows (length first) (length keys) (StandsFor eq first) (StandsFor eq keys) → length keys ≡ length first
+    → AreCounted rows counts → length rows ≡ length first → length counts ≡ length first → ((k : ℕ) (row : Vec ℕ A) (x : N) → slice_get rows k ≡ Some row → StandsFor eq keys k x → AllZip (StandsFor eq keys) row.items (targets next x))
+    → AreRows eq next nodes keys rows
+are_rows {eq = eq} {nodes = nodes} {keys = keys} first laws same explores grown size counted wide long listed = record {
+  same = λ x.
+      let old = starts_stand eq laws nodes first same x in
+      let new = starts_stand eq laws keys keys (λ z. ((λ h. h), (λ h. h))) x in (
+        (λ h. let k = new.1 h in let l = k.1 in old.0 (k.0, omega (arith, l, size), grown.back k.0 x (omega (arith, l, size)) k.2)),
+        (λ h. let k = old.1 h in let l = k.1 in new.0 (k.0, omega (arith, l, size), grown.stays k.0 x k.2)),
+      );
+  distinct = explores.distinct;
+  wide = wide ∙ sym size;
+  inside = λ i j t. subst (λ (n : ℕ). j < n) (long ∙ sym size) (counted.inside i j t);
+  listed = listed;
+}

@@ -1,3 +1,4 @@
+pub mod BeginLemmas
 pub mod ComponentLists
 pub mod ComponentPlaces
 pub mod ComponentPaths

@@ -1,22 +1,22 @@
 -- From numbers in order to nodes in order.
-use Rattle.std.proofs.Common.{◌≡◌, ℕ, refl, sym, subst, arith, inl, inr, Bool, true, List, [], ◌∷◌, length, map, nat_eq, eq-eqb, ℤ, pos, Some, slice_get}
+use Rattle.std.proofs.Common.{◌≡◌, ℕ, refl, sym, subst, arith, inl, inr, ◌≤◌, ◌+◌, ◌-◌, Bool, true, List, [], ◌∷◌, length, map, nat_eq, eq-eqb, ℤ, pos}
 use Rattle.std.specs.Prelude.{Contains}
 use Rattle.std.specs.Cmp.{IsEquivalence}
-use Rattle.std.specs.List.{AllZip, IsDistinct}
+use Rattle.std.specs.List.{AllZip}
 use borrow.Author.Tests.{eqb-true}
-use Rattle.pf_base.specs.Edges.{InReach}
 use Rattle.pf_base.specs.NodeRefs.{HasSameNodes}
 use Rattle.pf_base.specs.Successors.{HasSuccessor}
-use Rattle.pf_base.specs.Walks.{HasNode, Follows, IsWalk, BeginsAt, EndsAt, end_of, IsReachable}
+use Rattle.pf_base.specs.Walks.{HasNode, Follows, IsWalk, BeginsAt, EndsAt, end_of, IsReachable, IsAtMostNumberOf}
 use Rattle.pf_core.specs.Hops.{unit_edges}
 use Rattle.pf_core.specs.NodeLaws.{StandsFor-one}
-use Rattle.pf_core.specs.Nodes.{StandsFor, ends_of}
+use Rattle.pf_core.specs.Nodes.{StandsFor, Explores, ends_of}
 use Rattle.pf_core.specs.Numbered.{Grows}
-use Rattle.pf_core.proofs.ListLemmas.{Contains-head, Contains-tail, Contains-cases}
-use Rattle.pf_core.proofs.NodeLemmas.{StandsFor-same, InReach-same}
 use Rattle.pf_core.specs.HopLaws.{reach_next}
+use Rattle.pf_core.proofs.ListLemmas.{Contains-head, Contains-tail, Contains-cases}
+use Rattle.pf_core.proofs.NodeLemmas.{StandsFor-same, InReach-same, at_most}
 use Rattle.pf_core.proofs.UnitLemmas.{starts_stand}
 use Rattle.pf_core.proofs.WalkLemmas.{same_of, HasNode-same, distinct_nodes}
+use Rattle.pf_orders.specs.Beginnings.{hops_from}
 use Rattle.pf_orders.specs.Orderings.{LeadsInto, IsOrdered, IsOrderedReach, IsOnNumberedCycle}
 use Rattle.pf_orders.specs.TopologicalOrders.{LeadsForward, IsTopologicalOrder, IsOnCycle}
 
@@ -99,18 +99,23 @@ module _ {N : Type 0} (eq : N → N → Bool) (laws : IsEquivalence eq) where
           by [] f b e = absurd f
           by (a ∷ w) f b e = let q = walk_listed ks a w o (first a b) f in (q.0, q.1, StandsFor-same eq laws keys q.0 (end_of a w) x q.2 e)
 
-      -- a node that a number stands for is in reach
-      pub stands_in_reach : (roots : List N) → ((k : ℕ) (x : N) → slice_get keys k ≡ Some x → InReach eq (unit_edges next) roots x) → (k : ℕ) (x : N) → StandsFor eq keys k x → IsReachable eq (HasSuccessor eq next) roots x
-      stands_in_reach roots reached k x s = reach_next eq next roots x (InReach-same eq laws (unit_edges next) roots s.0 x (reached k s.0 s.1) s.2)
+      module _ {S : Type 0} {answers : S → List N → (N → List (N × ℤ)) → Type 0} {roots : List N} {source : S} (explores : Explores eq answers (hops_from roots next) keys source) where
+        -- a node that a number stands for is in reach
+        pub stands_in_reach : (k : ℕ) (x : N) → StandsFor eq keys k x → IsReachable eq (HasSuccessor eq next) roots x
+        stands_in_reach k x s = reach_next eq next roots x (InReach-same eq laws (unit_edges next) roots s.0 x (explores.reached k s.0 s.1) s.2)
 
-      pub topological_order : (roots first : List N) → HasSameNodes eq first roots → Grows (length first) (length keys) (StandsFor eq first) (StandsFor eq keys) → IsDistinct eq keys → ((k : ℕ) (x : N) → slice_get keys k ≡ Some x → InReach eq (unit_edges next) roots x)
-          → (ks : List ℕ) (xs : List N) → AllZip (StandsFor eq keys) ks xs → IsOrderedReach (targets next) (StandsFor eq keys) (length first) (length keys) ks → IsTopologicalOrder eq next (IsReachable eq (HasSuccessor eq next) roots) xs
-      topological_order roots first same grown distinct reached ks xs z o = record {
-        complete = λ x r. let q = reach_listed roots ks o.ordered (λ a h. let s = (starts_stand eq laws roots first same a).1 h in (s.0, o.all_roots s.0 s.1, grown.stays s.0 a s.2)) x r in node_in ks xs q.0 x z q.1 q.2;
-        sound = λ x h. let q = number_in ks xs x z h in stands_in_reach roots reached q.0 x q.2;
-        distinct = distinct_nodes eq laws keys (StandsFor-one eq laws keys distinct) ks xs z o.once;
-        forward = leads_forward ks xs z o.ordered;
-      }
+        -- no more nodes were found than are in reach
+        pub asked_in_reach : (before after : ℕ) → after ≤ before + length keys → IsAtMostNumberOf eq (IsReachable eq (HasSuccessor eq next) roots) (after - before)
+        asked_in_reach = at_most eq laws _ keys explores.distinct (λ k x h. reach_next eq next roots x (explores.reached k x h))
+
+        pub topological_order : (first : List N) → HasSameNodes eq first roots → Grows (length first) (length keys) (StandsFor eq first) (StandsFor eq keys)
+            → (ks : List ℕ) (xs : List N) → AllZip (StandsFor eq keys) ks xs → IsOrderedReach (targets next) (StandsFor eq keys) (length first) (length keys) ks → IsTopologicalOrder eq next (IsReachable eq (HasSuccessor eq next) roots) xs
+        topological_order first same grown ks xs z o = record {
+          complete = λ x r. let q = reach_listed roots ks o.ordered (λ a h. let s = (starts_stand eq laws roots first same a).1 h in (s.0, o.all_roots s.0 s.1, grown.stays s.0 a s.2)) x r in node_in ks xs q.0 x z q.1 q.2;
+          sound = λ x h. let q = number_in ks xs x z h in stands_in_reach q.0 x q.2;
+          distinct = distinct_nodes eq laws keys (StandsFor-one eq laws keys explores.distinct) ks xs z o.once;
+          forward = leads_forward ks xs z o.ordered;
+        }
 
       follows_targets : (w : List N) (a : N) → Follows (λ x y. Contains (targets next x) y) a w → Follows (HasSuccessor eq next) a w
       follows_targets [] a f = tt

@@ -1,3 +1,4 @@
+pub mod Beginnings
 pub mod Components
 pub mod ComponentSearch
 pub mod TopologicalOrders

@@ -1,22 +1,22 @@
 //! Strongly connected components.
 
 ghost use Rattle.std.specs.Prelude.{◌≡◌, ◌∷◌, [], ◌<◌, ℕ, List, IfOk, IfErr, length};
-ghost use Rattle.std.specs.List.{AllZip, IsDistinct};
+ghost use Rattle.std.specs.List.{AllZip};
 ghost use Rattle.pf_base.specs.Answers.{IsLawfulClone};
-ghost use Rattle.pf_base.specs.NodeRefs.{HasSameNodes};
 ghost use Rattle.pf_base.specs.Successors.{HasSuccessor};
 ghost use Rattle.pf_base.specs.Walks.{IsReachable};
 ghost use Rattle.pf_core.specs.Nodes.{StandsFor};
+ghost use Rattle.pf_orders.specs.Beginnings.{Begins};
 ghost use Rattle.pf_orders.specs.Components.{IsStrongComponentOf, AreStrongComponents, lists_of};
 ghost use Rattle.pf_orders.specs.ComponentSearch.{IsMember};
 
 use crate::component_search::strong_components;
 use crate::nodes::nodes_of;
 use pf_base::{PathError, SuccessorFunction};
-use pf_core::discovery::{Discovery, Nodes, Unweighted, clone_of, clones_at};
+use pf_core::discovery::{Discovery, clone_of, clones_at};
+use pf_core::source::{EdgeSource, Unweighted};
 use std::alloc::Allocator;
 use std::hash::Hash;
-use std::marker::PhantomData;
 
 /// Clones of the nodes that the numbers of each component stand for.
 fn components_at<N, A>(
@@ -40,31 +40,21 @@ where
     Ok(answer)
 }
 
-/// The strong components of the nodes in reach of a set.
-fn components_of<N, IN, FN, A>(
+/// The strong components of the nodes in reach of those that a discovery begins with.
+fn components_of<N, S, A>(
     alloc: A,
-    nodes: Nodes<N, A>,
-    successors: FN,
+    mut graph: Discovery<N, S, A>,
 ) -> Result<Vec<Vec<N, A>, A>, PathError>
 where
     N: Eq + Hash + Clone + Drop,
-    IN: IntoIterator<Item = N>,
-    FN: FnMut(&N) -> IN,
+    S: EdgeSource<N, u8>,
     A: Allocator + Copy,
     requires clones { IsLawfulClone N.eq N.is_clone }
-    requires distinct { IsDistinct N.eq nodes.keys }
-    requires graph { (next : N → List N) × (starts : List N) × HasSameNodes N.eq nodes.keys starts
-        × ⟦<FN as SuccessorFunction<N>>⟧.answers successors (IsReachable N.eq (HasSuccessor N.eq next) starts) next }
-    ensures components { (next : N → List N) (starts : List N) → HasSameNodes N.eq nodes.keys starts
-        → ⟦<FN as SuccessorFunction<N>>⟧.answers successors (IsReachable N.eq (HasSuccessor N.eq next) starts) next
+    requires graph { (starts : List N) × (next : N → List N) × Begins N.eq S.answers starts next graph.nodes.keys graph.source }
+    ensures components { (starts : List N) (next : N → List N) → Begins N.eq S.answers starts next graph.nodes.keys graph.source
         → IfOk result (λ components. AreStrongComponents N.eq next starts (lists_of components.items)) }
     ensures refused { IfErr result (λ e. e ≡ PathError.OutOfMemory) }
 {
-    let mut graph: Discovery<N, Unweighted, IN, FN, A> = Discovery {
-        nodes,
-        successors,
-        form: PhantomData,
-    };
     let components = strong_components::<u8, _, _>(alloc, &mut graph)?;
     components_at(alloc, graph.nodes.as_slice(), &components)
 }
@@ -100,8 +90,13 @@ where
 
     ensures errors { IfErr result (λ e. e ≡ PathError.OutOfMemory) }
 {
-    let nodes = clone_of(alloc, start)?;
-    components_of(alloc, nodes, successors)
+    let graph = Discovery {
+        nodes: clone_of(alloc, start)?,
+        source: Unweighted {
+            function: successors,
+        },
+    };
+    components_of(alloc, graph)
 }
 
 /// The strong component of a node: all nodes that it reaches and that reach it, each once.
@@ -173,6 +168,11 @@ where
 
     ensures errors { IfErr result (λ e. e ≡ PathError.OutOfMemory) }
 {
-    let set = nodes_of(alloc, nodes)?;
-    components_of(alloc, set, successors)
+    let graph = Discovery {
+        nodes: nodes_of(alloc, nodes)?,
+        source: Unweighted {
+            function: successors,
+        },
+    };
+    components_of(alloc, graph)
 }

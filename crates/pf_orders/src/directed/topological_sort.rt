@@ -1,11 +1,10 @@
 //! Topological orders.
 
 ghost use Rattle.std.specs.Prelude.{◌≡◌, ◌≤◌, ◌-◌, List, IfOk, IfErr};
-ghost use Rattle.std.specs.List.{IsDistinct};
 ghost use Rattle.pf_base.specs.Answers.{IsLawfulClone};
-ghost use Rattle.pf_base.specs.NodeRefs.{HasSameNodes};
 ghost use Rattle.pf_base.specs.Successors.{HasSuccessor};
 ghost use Rattle.pf_base.specs.Walks.{IsReachable, IsAtMostNumberOf};
+ghost use Rattle.pf_orders.specs.Beginnings.{Begins};
 ghost use Rattle.pf_orders.specs.TopologicalOrders.{IsTopologicalOrder, IsOnCycle};
 
 mod groups;
@@ -15,10 +14,10 @@ use crate::ordering::sort_numbers;
 pub use groups::topological_sort_into_groups;
 use pf_base::utils::Tally;
 use pf_base::{PathError, SuccessorFunction};
-use pf_core::discovery::{Discovery, Unweighted, clones_at};
+use pf_core::discovery::{Discovery, clones_at};
+use pf_core::source::{EdgeSource, Unweighted};
 use std::alloc::Allocator;
 use std::hash::Hash;
-use std::marker::PhantomData;
 
 /// All nodes in reach of the `roots`, each once, in an order in which every edge leads forward; or, in
 /// the inner `Err`, a node in reach of the roots that lies on a cycle: a walk of at least one step leads
@@ -62,31 +61,25 @@ where
 }
 
 /// The nodes of a graph that was not yet asked, and those in reach of them, in order.
-fn order_in<N, IN, FN, A>(
+fn order_in<N, S, A>(
     alloc: A,
-    graph: &mut Discovery<N, Unweighted, IN, FN, A>,
+    graph: &mut Discovery<N, S, A>,
     tally: &mut Tally,
 ) -> Result<Result<Vec<N, A>, N>, PathError>
 where
     N: Eq + Hash + Clone + Drop,
-    IN: IntoIterator<Item = N>,
-    FN: FnMut(&N) -> IN,
+    S: EdgeSource<N, u8>,
     A: Allocator + Copy,
     requires clones { IsLawfulClone N.eq N.is_clone }
-    requires distinct { IsDistinct N.eq graph.old.nodes.keys }
-    requires graph { (roots : List N) × (next : N → List N) × HasSameNodes N.eq graph.old.nodes.keys roots
-        × ⟦<FN as SuccessorFunction<N>>⟧.answers graph.old.successors (IsReachable N.eq (HasSuccessor N.eq next) roots) next }
+    requires graph { (roots : List N) × (next : N → List N) × Begins N.eq S.answers roots next graph.old.nodes.keys graph.old.source }
 
-    ensures order { (roots : List N) (next : N → List N) → HasSameNodes N.eq graph.old.nodes.keys roots
-        → ⟦<FN as SuccessorFunction<N>>⟧.answers graph.old.successors (IsReachable N.eq (HasSuccessor N.eq next) roots) next
+    ensures order { (roots : List N) (next : N → List N) → Begins N.eq S.answers roots next graph.old.nodes.keys graph.old.source
         → IfOk result (λ answer. IfOk answer (λ order. IsTopologicalOrder N.eq next (IsReachable N.eq (HasSuccessor N.eq next) roots) order.items)) }
 
-    ensures cycle { (roots : List N) (next : N → List N) → HasSameNodes N.eq graph.old.nodes.keys roots
-        → ⟦<FN as SuccessorFunction<N>>⟧.answers graph.old.successors (IsReachable N.eq (HasSuccessor N.eq next) roots) next
+    ensures cycle { (roots : List N) (next : N → List N) → Begins N.eq S.answers roots next graph.old.nodes.keys graph.old.source
         → IfOk result (λ answer. IfErr answer (λ node. IsReachable N.eq (HasSuccessor N.eq next) roots node × IsOnCycle N.eq next node)) }
 
-    ensures asked { (roots : List N) (next : N → List N) → HasSameNodes N.eq graph.old.nodes.keys roots
-        → ⟦<FN as SuccessorFunction<N>>⟧.answers graph.old.successors (IsReachable N.eq (HasSuccessor N.eq next) roots) next
+    ensures asked { (roots : List N) (next : N → List N) → Begins N.eq S.answers roots next graph.old.nodes.keys graph.old.source
         → IsAtMostNumberOf N.eq (IsReachable N.eq (HasSuccessor N.eq next) roots) (tally.new - tally.old) }
 
     ensures ticked { tally.old ≤ tally.new }
@@ -138,10 +131,11 @@ where
 
     ensures errors { IfErr result (λ e. e ≡ PathError.OutOfMemory) }
 {
-    let mut graph: Discovery<N, Unweighted, IN, FN, A> = Discovery {
+    let mut graph = Discovery {
         nodes: nodes_of(alloc, roots)?,
-        successors,
-        form: PhantomData,
+        source: Unweighted {
+            function: successors,
+        },
     };
     order_in(alloc, &mut graph, tally)
 }

@@ -1,53 +1,45 @@
 //! Nodes in groups by depth.
 
 ghost use Rattle.std.specs.Prelude.{◌≡◌, ◌⊎◌, [], List, ℕ, Err, IfOk, IfErr};
-ghost use Rattle.std.specs.List.{IsDistinct};
 ghost use Rattle.pf_base.specs.Answers.{IsLawfulClone};
-ghost use Rattle.pf_base.specs.NodeRefs.{HasSameNodes};
 ghost use Rattle.pf_base.specs.Successors.{HasSuccessor};
 ghost use Rattle.pf_base.specs.Walks.{HasNode, IsReachable};
+ghost use Rattle.pf_orders.specs.Beginnings.{Begins};
 ghost use Rattle.pf_orders.specs.GroupDepths.{AreClosed, HasDepth, AreDepthGroups, HaveNoDepth};
 
 use crate::nodes::{groups_at, nodes_of};
 use crate::rounds::group_numbers;
 use crate::rows::read_rows;
 use pf_base::{PathError, SuccessorFunction};
-use pf_core::discovery::{Discovery, Unweighted, clones_at};
+use pf_core::discovery::{Discovery, clones_at};
+use pf_core::source::{EdgeSource, Unweighted};
 use std::alloc::Allocator;
 use std::hash::Hash;
-use std::marker::PhantomData;
 
 /// The nodes of a graph that was not yet asked, in groups by depth.
-fn groups_in<N, IN, FN, A>(
+fn groups_in<N, S, A>(
     alloc: A,
-    graph: &mut Discovery<N, Unweighted, IN, FN, A>,
+    graph: &mut Discovery<N, S, A>,
 ) -> Result<Result<Vec<Vec<N, A>, A>, (Vec<Vec<N, A>, A>, Vec<N, A>)>, PathError>
 where
     N: Eq + Hash + Clone + Drop,
-    IN: IntoIterator<Item = N>,
-    FN: FnMut(&N) -> IN,
+    S: EdgeSource<N, u8>,
     A: Allocator + Copy,
     requires clones { IsLawfulClone N.eq N.is_clone }
-    requires distinct { IsDistinct N.eq graph.old.nodes.keys }
-    requires graph { (nodes : List N) × (next : N → List N) × HasSameNodes N.eq graph.old.nodes.keys nodes
-        × ⟦<FN as SuccessorFunction<N>>⟧.answers graph.old.successors (IsReachable N.eq (HasSuccessor N.eq next) nodes) next }
+    requires graph { (nodes : List N) × (next : N → List N) × Begins N.eq S.answers nodes next graph.old.nodes.keys graph.old.source }
 
-    ensures groups { (nodes : List N) (next : N → List N) → HasSameNodes N.eq graph.old.nodes.keys nodes
-        → ⟦<FN as SuccessorFunction<N>>⟧.answers graph.old.successors (IsReachable N.eq (HasSuccessor N.eq next) nodes) next
+    ensures groups { (nodes : List N) (next : N → List N) → Begins N.eq S.answers nodes next graph.old.nodes.keys graph.old.source
         → IfOk result (λ answer. IfOk answer (λ groups. AreDepthGroups N.eq next nodes groups.items
         × ((x : N) → HasNode N.eq nodes x → (k : ℕ) × HasDepth N.eq next nodes x k))) }
 
-    ensures cycle { (nodes : List N) (next : N → List N) → HasSameNodes N.eq graph.old.nodes.keys nodes
-        → ⟦<FN as SuccessorFunction<N>>⟧.answers graph.old.successors (IsReachable N.eq (HasSuccessor N.eq next) nodes) next
+    ensures cycle { (nodes : List N) (next : N → List N) → Begins N.eq S.answers nodes next graph.old.nodes.keys graph.old.source
         → IfOk result (λ answer. IfErr answer (λ both. AreDepthGroups N.eq next nodes both.0.items
         × HaveNoDepth N.eq next nodes both.1.items × ¬ (both.1.items ≡ []))) }
 
-    ensures closed { (nodes : List N) (next : N → List N) → HasSameNodes N.eq graph.old.nodes.keys nodes
-        → ⟦<FN as SuccessorFunction<N>>⟧.answers graph.old.successors (IsReachable N.eq (HasSuccessor N.eq next) nodes) next
+    ensures closed { (nodes : List N) (next : N → List N) → Begins N.eq S.answers nodes next graph.old.nodes.keys graph.old.source
         → IfOk result (λ answer. AreClosed N.eq next nodes) }
 
-    ensures unknown { (nodes : List N) (next : N → List N) → HasSameNodes N.eq graph.old.nodes.keys nodes
-        → ⟦<FN as SuccessorFunction<N>>⟧.answers graph.old.successors (IsReachable N.eq (HasSuccessor N.eq next) nodes) next
+    ensures unknown { (nodes : List N) (next : N → List N) → Begins N.eq S.answers nodes next graph.old.nodes.keys graph.old.source
         → result ≡ Err PathError.UnknownVertex
         → (x : N) × (y : N) × HasNode N.eq nodes x × HasSuccessor N.eq next x y × ¬ (HasNode N.eq nodes y) }
 
@@ -109,10 +101,11 @@ where
 
     ensures errors { IfErr result (λ e. (e ≡ PathError.OutOfMemory) ⊎ (e ≡ PathError.UnknownVertex)) }
 {
-    let mut graph: Discovery<N, Unweighted, IN, FN, A> = Discovery {
+    let mut graph = Discovery {
         nodes: nodes_of(alloc, nodes)?,
-        successors,
-        form: PhantomData,
+        source: Unweighted {
+            function: successors,
+        },
     };
     groups_in(alloc, &mut graph)
 }

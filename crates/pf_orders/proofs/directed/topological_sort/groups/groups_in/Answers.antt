@@ -1,26 +1,22 @@
-use Rattle.std.proofs.Common.{◌≡◌, ◌<◌, ◌∙◌, ℕ, List, length, ap, sym, subst}
+use Rattle.std.proofs.Common.{◌<◌, ◌∙◌, ℕ, length, ap, sym, subst}
 use Rattle.std.specs.Prelude.{Err}
 use Rattle.std.specs.List.{AllZip}
 use Rattle.std.proofs.lemmas.Result.{IfOk-from_err}
-use Rattle.pf_base.specs.NodeRefs.{HasSameNodes}
-use Rattle.pf_core.specs.Hops.{unit_edges}
-use Rattle.pf_core.specs.Nodes.{NodeGraph, StandsFor}
-use Rattle.pf_core.proofs.UnitLemmas.{Explores-successors, begins_all, starts_stand}
-use Rattle.pf_orders.specs.Rounds.{Targets, AreLevels, AreNodesAt}
+use Rattle.pf_core.specs.Nodes.{StandsFor}
+use Rattle.pf_core.proofs.UnitLemmas.{begins_all, starts_stand}
+use Rattle.pf_orders.specs.Beginnings.{hops_from}
+use Rattle.pf_orders.specs.Rounds.{AreNodesAt}
 use Rattle.pf_orders.proofs.Outcomes.{refused_as, error_of, ok_is_no_error}
 use Rattle.pf_orders.proofs.RoundLemmas.{only_memory, memory_of}
 use Rattle.pf_orders.proofs.OrderLemmas.{member_of, is_none, is_some}
 use Rattle.pf_orders.proofs.SortLemmas.{of_target}
-use Rattle.pf_orders.proofs.DepthLemmas.{same_grown, closed, depth_groups, all_have, have_none, some_left}
+use Rattle.pf_orders.proofs.DepthLemmas.{are_rows, closed, depth_groups, all_have, have_none, some_left}
 use Rattle.pf_orders.proofs.directed.topological_sort.groups.groups_in.Goals as goal
 
--- the graph that this function answers, with the cost 1 at each edge
-abbrev graph_of : {N : Type 0} → List N → (N → List N) → NodeGraph N
-graph_of nodes next = record { starts = nodes; edges = unit_edges next }
-
 pub read_rows-requires-clause-graph : goal.read_rows-requires-clause-graph
-read_rows-requires-clause-graph g c = let r = c.requires.graph in
-    (graph_of r.0 r.1, Explores-successors g.N.PartialEq.eq g.met.N.Eq.laws _ _ _ _ _ r.0 c.args.graph.now.nodes.keys r.1 _ c.requires.distinct r.2 r.3)
+read_rows-requires-clause-graph g c =
+    let r = c.requires.graph in
+    (hops_from r.0 r.1, r.2.explores)
 
 pub read_rows-requires-clause-begins : goal.read_rows-requires-clause-begins
 read_rows-requires-clause-begins g c = λ k l. begins_all g.N.PartialEq.eq g.met.N.Eq.laws c.args.graph.now.nodes.keys k l
@@ -29,22 +25,21 @@ pub returns-in_err-rows : goal.returns-in_err-rows
 returns-in_err-rows g c =
     let r = c.from_residual in
     record {
-      groups = λ nodes next found a. IfOk-from_err _ _ r.ensures.0;
-      cycle = λ nodes next found a. IfOk-from_err _ _ r.ensures.0;
-      closed = λ nodes next found a. IfOk-from_err _ _ r.ensures.0;
-      unknown = λ nodes next found a e.
+      groups = λ nodes next b. IfOk-from_err _ _ r.ensures.0;
+      cycle = λ nodes next b. IfOk-from_err _ _ r.ensures.0;
+      closed = λ nodes next b. IfOk-from_err _ _ r.ensures.0;
+      unknown = λ nodes next b u.
           let eq = g.N.PartialEq.eq in
           let laws = g.met.N.Eq.laws in
           let first = c.args.graph.now.nodes.keys in
-          let x = Explores-successors eq laws _ _ _ _ _ nodes first next _ c.requires.distinct found a in
-          let f = error_of _ _ _ r.ensures.1 e in
-          let d = c.in_err-rows.ensures.unknown (graph_of nodes next) x (ap Err f) in
+          let f = error_of _ _ _ r.ensures.1 u in
+          let d = c.in_err-rows.ensures.unknown (hops_from nodes next) b.explores (ap Err f) in
           let grown = c.in_err-rows.ensures.grows in (
             d.0,
             d.1,
-            (starts_stand eq laws nodes first found d.0).0 (d.2.0, d.2.1, grown.back d.2.0 d.0 d.2.1 d.2.2),
+            (starts_stand eq laws nodes first b.same d.0).0 (d.2.0, d.2.1, grown.back d.2.0 d.0 d.2.1 d.2.2),
             of_target eq laws next d.0 d.1 d.3,
-            (λ h. d.4 (let s = (starts_stand eq laws nodes first found d.1).1 h in (s.0, s.1, grown.stays s.0 d.1 s.2))),
+            (λ h. d.4 (let s = (starts_stand eq laws nodes first b.same d.1).1 h in (s.0, s.1, grown.stays s.0 d.1 s.2))),
           );
       errors = refused_as _ _ _ r.ensures.1 c.in_err-rows.ensures.errors;
     }
@@ -63,10 +58,10 @@ pub returns-in_err-levels : goal.returns-in_err-levels
 returns-in_err-levels g c =
     let r = c.from_residual-in_err-levels in
     record {
-      groups = λ nodes next found a. IfOk-from_err _ _ r.ensures.0;
-      cycle = λ nodes next found a. IfOk-from_err _ _ r.ensures.0;
-      closed = λ nodes next found a. IfOk-from_err _ _ r.ensures.0;
-      unknown = λ nodes next found a u. absurd (only_memory _ _ r.ensures.1 c.in_err-levels.ensures.refused u);
+      groups = λ nodes next b. IfOk-from_err _ _ r.ensures.0;
+      cycle = λ nodes next b. IfOk-from_err _ _ r.ensures.0;
+      closed = λ nodes next b. IfOk-from_err _ _ r.ensures.0;
+      unknown = λ nodes next b u. absurd (only_memory _ _ r.ensures.1 c.in_err-levels.ensures.refused u);
       errors = memory_of _ _ r.ensures.1 c.in_err-levels.ensures.refused;
     }
 
@@ -83,52 +78,32 @@ pub returns-in_err-groups : goal.returns-in_err-groups
 returns-in_err-groups g c =
     let r = c.from_residual-in_err-groups in
     record {
-      groups = λ nodes next found a. IfOk-from_err _ _ r.ensures.0;
-      cycle = λ nodes next found a. IfOk-from_err _ _ r.ensures.0;
-      closed = λ nodes next found a. IfOk-from_err _ _ r.ensures.0;
-      unknown = λ nodes next found a u. absurd (only_memory _ _ r.ensures.1 c.in_err-groups.ensures.refused u);
+      groups = λ nodes next b. IfOk-from_err _ _ r.ensures.0;
+      cycle = λ nodes next b. IfOk-from_err _ _ r.ensures.0;
+      closed = λ nodes next b. IfOk-from_err _ _ r.ensures.0;
+      unknown = λ nodes next b u. absurd (only_memory _ _ r.ensures.1 c.in_err-groups.ensures.refused u);
       errors = memory_of _ _ r.ensures.1 c.in_err-groups.ensures.refused;
     }
 
 pub returns-then-is_empty : goal.returns-then-is_empty
-returns-then-is_empty g c = record {
-  groups = λ nodes next found a.
-      let eq = g.N.PartialEq.eq in
-      let laws = g.met.N.Eq.laws in
-      let first = c.args.graph.now.nodes.keys in
-      let keys = c.read_rows.new.graph.nodes.keys in
-      let rows = c.in_ok-rows.rows.items in
-      let x = Explores-successors eq laws _ _ _ _ _ nodes first next _ c.requires.distinct found a in
-      let e = c.in_ok-rows.ensures in
-      let y = e.graph (graph_of nodes next) x in
-      let same : HasSameNodes eq keys nodes = same_grown eq laws first keys nodes found e.grows e.same in
-      let wide : length rows ≡ length keys = e.wide ∙ sym e.same in
-      let inside : (i j : ℕ) → Targets rows i j → j < length keys = λ i j t. subst (λ (n : ℕ). j < n) (e.long ∙ sym e.same) (e.counted.inside i j t) in
-      let listed = e.listed (graph_of nodes next) x in
-      let groups = c.in_ok-levels.levels.groups.items in
-      let remaining = c.in_ok-levels.levels.remaining.items in
-      let v : AreLevels (length keys) rows groups remaining = subst (λ (n : ℕ). AreLevels n rows groups remaining) wide c.in_ok-levels.ensures.levels in
-      let z : AllZip (AreNodesAt eq keys) groups c.in_ok-groups.groups.items = rw c.as_slice.ensures.keys at (rw c.deref.ensures.value at c.in_ok-groups.ensures.nodes) in
-      let none = is_none c.in_ok-levels.levels.remaining _ c.is_empty.ensures c.if-is_empty.true in
-      (depth_groups eq laws next nodes keys same y.distinct rows wide inside listed groups remaining v c.in_ok-groups.groups.items z, all_have eq laws next nodes keys same y.distinct rows wide inside listed groups remaining v none);
-  cycle = λ nodes next found a. tt;
-  closed = λ nodes next found a.
-      let eq = g.N.PartialEq.eq in
-      let laws = g.met.N.Eq.laws in
-      let first = c.args.graph.now.nodes.keys in
-      let keys = c.read_rows.new.graph.nodes.keys in
-      let rows = c.in_ok-rows.rows.items in
-      let x = Explores-successors eq laws _ _ _ _ _ nodes first next _ c.requires.distinct found a in
-      let e = c.in_ok-rows.ensures in
-      let y = e.graph (graph_of nodes next) x in
-      let same : HasSameNodes eq keys nodes = same_grown eq laws first keys nodes found e.grows e.same in
-      let wide : length rows ≡ length keys = e.wide ∙ sym e.same in
-      let inside : (i j : ℕ) → Targets rows i j → j < length keys = λ i j t. subst (λ (n : ℕ). j < n) (e.long ∙ sym e.same) (e.counted.inside i j t) in
-      let listed = e.listed (graph_of nodes next) x in
-      closed eq laws next nodes keys same y.distinct rows wide inside listed;
-  unknown = λ nodes next found a e. absurd (ok_is_no_error e);
-  errors = tt;
-}
+returns-then-is_empty g c =
+    let laws = g.met.N.Eq.laws in
+    let e = c.in_ok-rows.ensures in
+    let levels = c.in_ok-levels.ensures.levels in
+    record {
+      groups = λ nodes next b.
+          let h = hops_from nodes next in
+          let read = are_rows _ laws b.same (e.graph h b.explores) e.grows e.same e.counted e.wide e.long (e.listed h b.explores) in
+          let z : AllZip (AreNodesAt g.N.PartialEq.eq c.read_rows.new.graph.nodes.keys) c.in_ok-levels.levels.groups.items c.in_ok-groups.groups.items = rw c.as_slice.ensures.keys at (rw c.deref.ensures.value at c.in_ok-groups.ensures.nodes) in
+          let none = is_none c.in_ok-levels.levels.remaining _ c.is_empty.ensures c.if-is_empty.true in
+          (depth_groups laws read levels c.in_ok-groups.groups.items z, all_have laws read levels none);
+      cycle = λ nodes next b. tt;
+      closed = λ nodes next b.
+          let h = hops_from nodes next in
+          closed laws (are_rows _ laws b.same (e.graph h b.explores) e.grows e.same e.counted e.wide e.long (e.listed h b.explores));
+      unknown = λ nodes next b u. absurd (ok_is_no_error u);
+      errors = tt;
+    }
 
 pub clones_at-requires-clause-inside : goal.clones_at-requires-clause-inside
 clones_at-requires-clause-inside g c = λ k h.
@@ -143,54 +118,33 @@ pub returns-in_err-remaining : goal.returns-in_err-remaining
 returns-in_err-remaining g c =
     let r = c.from_residual-in_err-remaining in
     record {
-      groups = λ nodes next found a. IfOk-from_err _ _ r.ensures.0;
-      cycle = λ nodes next found a. IfOk-from_err _ _ r.ensures.0;
-      closed = λ nodes next found a. IfOk-from_err _ _ r.ensures.0;
-      unknown = λ nodes next found a u. absurd (only_memory _ _ r.ensures.1 c.in_err-remaining.ensures.refused u);
+      groups = λ nodes next b. IfOk-from_err _ _ r.ensures.0;
+      cycle = λ nodes next b. IfOk-from_err _ _ r.ensures.0;
+      closed = λ nodes next b. IfOk-from_err _ _ r.ensures.0;
+      unknown = λ nodes next b u. absurd (only_memory _ _ r.ensures.1 c.in_err-remaining.ensures.refused u);
       errors = memory_of _ _ r.ensures.1 c.in_err-remaining.ensures.refused;
     }
 
 pub returns : goal.returns
-returns g c = record {
-  groups = λ nodes next found a. tt;
-  cycle = λ nodes next found a.
-      let eq = g.N.PartialEq.eq in
-      let laws = g.met.N.Eq.laws in
-      let first = c.args.graph.now.nodes.keys in
-      let keys = c.read_rows.new.graph.nodes.keys in
-      let rows = c.in_ok-rows.rows.items in
-      let x = Explores-successors eq laws _ _ _ _ _ nodes first next _ c.requires.distinct found a in
-      let e = c.in_ok-rows.ensures in
-      let y = e.graph (graph_of nodes next) x in
-      let same : HasSameNodes eq keys nodes = same_grown eq laws first keys nodes found e.grows e.same in
-      let wide : length rows ≡ length keys = e.wide ∙ sym e.same in
-      let inside : (i j : ℕ) → Targets rows i j → j < length keys = λ i j t. subst (λ (n : ℕ). j < n) (e.long ∙ sym e.same) (e.counted.inside i j t) in
-      let listed = e.listed (graph_of nodes next) x in
-      let groups = c.in_ok-levels.levels.groups.items in
-      let remaining = c.in_ok-levels.levels.remaining.items in
-      let v : AreLevels (length keys) rows groups remaining = subst (λ (n : ℕ). AreLevels n rows groups remaining) wide c.in_ok-levels.ensures.levels in
-      let z : AllZip (AreNodesAt eq keys) groups c.in_ok-groups.groups.items = rw c.as_slice.ensures.keys at (rw c.deref.ensures.value at c.in_ok-groups.ensures.nodes) in
-      let left = c.in_ok-remaining.remaining.items in
-      let some = is_some c.in_ok-levels.levels.remaining _ c.is_empty.ensures c.if-is_empty.false in
-      let w : AllZip (StandsFor eq keys) remaining left = rw c.as_slice-2.ensures.keys at (rw c.deref-2.ensures.value at c.in_ok-remaining.ensures.nodes) in (
-        depth_groups eq laws next nodes keys same y.distinct rows wide inside listed groups remaining v c.in_ok-groups.groups.items z,
-        have_none eq laws next nodes keys same y.distinct rows wide inside listed groups remaining v left w,
-        some_left eq laws next nodes keys same y.distinct rows wide inside listed groups remaining v left w some,
-      );
-  closed = λ nodes next found a.
-      let eq = g.N.PartialEq.eq in
-      let laws = g.met.N.Eq.laws in
-      let first = c.args.graph.now.nodes.keys in
-      let keys = c.read_rows.new.graph.nodes.keys in
-      let rows = c.in_ok-rows.rows.items in
-      let x = Explores-successors eq laws _ _ _ _ _ nodes first next _ c.requires.distinct found a in
-      let e = c.in_ok-rows.ensures in
-      let y = e.graph (graph_of nodes next) x in
-      let same : HasSameNodes eq keys nodes = same_grown eq laws first keys nodes found e.grows e.same in
-      let wide : length rows ≡ length keys = e.wide ∙ sym e.same in
-      let inside : (i j : ℕ) → Targets rows i j → j < length keys = λ i j t. subst (λ (n : ℕ). j < n) (e.long ∙ sym e.same) (e.counted.inside i j t) in
-      let listed = e.listed (graph_of nodes next) x in
-      closed eq laws next nodes keys same y.distinct rows wide inside listed;
-  unknown = λ nodes next found a e. absurd (ok_is_no_error e);
-  errors = tt;
-}
+returns g c =
+    let laws = g.met.N.Eq.laws in
+    let e = c.in_ok-rows.ensures in
+    let levels = c.in_ok-levels.ensures.levels in
+    record {
+      groups = λ nodes next b. tt;
+      cycle = λ nodes next b.
+          let eq = g.N.PartialEq.eq in
+          let keys = c.read_rows.new.graph.nodes.keys in
+          let h = hops_from nodes next in
+          let read = are_rows _ laws b.same (e.graph h b.explores) e.grows e.same e.counted e.wide e.long (e.listed h b.explores) in
+          let z : AllZip (AreNodesAt eq keys) c.in_ok-levels.levels.groups.items c.in_ok-groups.groups.items = rw c.as_slice.ensures.keys at (rw c.deref.ensures.value at c.in_ok-groups.ensures.nodes) in
+          let left = c.in_ok-remaining.remaining.items in
+          let some = is_some c.in_ok-levels.levels.remaining _ c.is_empty.ensures c.if-is_empty.false in
+          let w : AllZip (StandsFor eq keys) c.in_ok-levels.levels.remaining.items left = rw c.as_slice-2.ensures.keys at (rw c.deref-2.ensures.value at c.in_ok-remaining.ensures.nodes) in
+          (depth_groups laws read levels c.in_ok-groups.groups.items z, have_none laws read levels left w, some_left laws read levels left w some);
+      closed = λ nodes next b.
+          let h = hops_from nodes next in
+          closed laws (are_rows _ laws b.same (e.graph h b.explores) e.grows e.same e.counted e.wide e.long (e.listed h b.explores));
+      unknown = λ nodes next b u. absurd (ok_is_no_error u);
+      errors = tt;
+    }

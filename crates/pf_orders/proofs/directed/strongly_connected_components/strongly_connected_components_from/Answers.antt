@@ -1,0 +1,12 @@
+use Rattle.std.specs.Prelude.{◌∷◌, []}
+use Rattle.pf_orders.proofs.BeginLemmas.{begins}
+use Rattle.pf_orders.proofs.directed.strongly_connected_components.strongly_connected_components_from.Goals as goal
+
+pub components_of-requires-clause-graph : goal.components_of-requires-clause-graph
+components_of-requires-clause-graph g c =
+    let r = c.requires.graph in
+    let e = c.in_ok-clone_of.ensures in
+    (c.args.start.now ∷ [], r.0, begins g.met.N.Eq.laws e.distinct e.same r.1)
+
+pub returns-clause-components : goal.returns-clause-components
+returns-clause-components g c = λ next a. let e = c.in_ok-clone_of.ensures in c.components_of.ensures.components (c.args.start.now ∷ []) next (begins g.met.N.Eq.laws e.distinct e.same a)
