@@ -1,6 +1,6 @@
 -- Graphs with costs: `edges x` lists the edges of x, each as a node and the whole number that the edge costs.
-use Rattle.std.specs.Prelude.{◌≡◌, ◌⊎◌, ◌≤ℤ◌, ◌+ℤ◌, ℤ, pos, Bool, true, List, [], ◌∷◌}
-use Rattle.pf_base.specs.Walks.{IsGoalWalk, IsGoalPath, IsReachable}
+use Rattle.std.specs.Prelude.{◌≡◌, ◌⊎◌, ◌≤ℤ◌, ◌+ℤ◌, ℤ, pos, Bool, true, List, [], ◌∷◌, Option, Vec, MatchOption}
+use Rattle.pf_base.specs.Walks.{IsGoalWalk, IsGoalPath, IsReachable, HasNoGoalWalk}
 
 -- one of the edges leads to x and costs z
 abbrev pub HasEdge : {N : Type 0} → (N → N → Bool) → List (N × ℤ) → N → ℤ → Type 0
@@ -53,6 +53,10 @@ module _ {N : Type 0} (eq : N → N → Bool) (edges : N → List (N × ℤ)) wh
         pub costs : WalkCosts path t
         pub best : NoGoalWalkCostsLess t
 
+      -- a cheapest path to a node that passes the test, with what it costs, or none exactly where no walk leads to such a node
+      abbrev pub IsCheapestOrNone : {C A : Type 0} → (C → ℤ) → Option (Vec N A × C) → Type 0
+      IsCheapestOrNone value answer = MatchOption answer (HasNoGoalWalk eq IsSuccessor starts test) (λ found. IsCheapestGoalPath found.0.items (value found.1))
+
   -- A cheapest path to some node and one step more do not fit, and no node that passes the test is cheaper than that node.
   pub record IsPastRange (starts : List N) (test : N → Bool) (fits : ℤ → Type 0) : Type 0 where
     pub node : N
@@ -64,3 +68,13 @@ module _ {N : Type 0} (eq : N → N → Bool) (edges : N → List (N × ℤ)) wh
     pub step : StepCosts node next price
     pub past : ¬ (fits (cost +ℤ price))
     pub none_cheaper : NoGoalWalkCostsLess starts test cost
+
+-- What functions that list edges and test nodes answer from the starts on, where no edge costs less than 0.
+module _ {N : Type 0} (eq : N → N → Bool) (starts : List N) (answers : (N → Type 0) → (N → List (N × ℤ)) → Type 0) (tests : (N → Type 0) → (N → Bool) → Type 0) where
+  -- they answer some edges and some test
+  abbrev pub AnswersWeightedSearch : Type 0
+  AnswersWeightedSearch = (edges : N → List (N × ℤ)) × (test : N → Bool) × IsWeightedSearch eq edges starts answers tests test
+
+  -- of whatever edges and test they answer, P holds
+  abbrev pub OfWeightedSearch : ((N → List (N × ℤ)) → (N → Bool) → Type 0) → Type 0
+  OfWeightedSearch P = (edges : N → List (N × ℤ)) (test : N → Bool) → IsWeightedSearch eq edges starts answers tests test → P edges test
