@@ -13,14 +13,12 @@ path_to-requires-clause-tree g c = subst IsTree (sym c.deref.ensures.value) c.re
 pub path_to-requires-clause-labelled : goal.path_to-requires-clause-labelled
 path_to-requires-clause-labelled g c = subst (λ (xs : Labels Hops). (l : Label Hops) × HasLabel xs c.args.number l) (sym c.deref.ensures.value) c.requires.labelled.0
 
-pub returns-in_err-forth-clause-chains : goal.returns-in_err-forth-clause-chains
-returns-in_err-forth-clause-chains g c = IfOk-from_err c.from_residual.result _ c.from_residual.ensures.0
-
-pub returns-in_err-forth-clause-inside : goal.returns-in_err-forth-clause-inside
-returns-in_err-forth-clause-inside g c = IfOk-from_err c.from_residual.result _ c.from_residual.ensures.0
-
-pub returns-in_err-forth-clause-refused : goal.returns-in_err-forth-clause-refused
-returns-in_err-forth-clause-refused g c = refused_as (λ e. e ≡ OutOfMemory) c.from_residual.result c.in_err-forth.field-0.0 c.from_residual.ensures.1 c.in_err-forth.ensures.refused
+pub returns-in_err-forth : goal.returns-in_err-forth
+returns-in_err-forth g c = record {
+  chains = IfOk-from_err c.from_residual.result _ c.from_residual.ensures.0;
+  inside = IfOk-from_err c.from_residual.result _ c.from_residual.ensures.0;
+  refused = refused_as (λ e. e ≡ OutOfMemory) c.from_residual.result c.in_err-forth.field-0.0 c.from_residual.ensures.1 c.in_err-forth.ensures.refused;
+}
 
 pub path_to-requires-2-clause-tree : goal.path_to-requires-2-clause-tree
 path_to-requires-2-clause-tree g c = subst IsTree (sym c.deref-2.ensures.value) c.requires.trees.1
@@ -28,14 +26,12 @@ path_to-requires-2-clause-tree g c = subst IsTree (sym c.deref-2.ensures.value) 
 pub path_to-requires-2-clause-labelled : goal.path_to-requires-2-clause-labelled
 path_to-requires-2-clause-labelled g c = subst (λ (xs : Labels Hops). (l : Label Hops) × HasLabel xs c.args.across l) (sym c.deref-2.ensures.value) c.requires.labelled.1
 
-pub returns-in_err-back-clause-chains : goal.returns-in_err-back-clause-chains
-returns-in_err-back-clause-chains g c = IfOk-from_err c.from_residual-in_err-back.result _ c.from_residual-in_err-back.ensures.0
-
-pub returns-in_err-back-clause-inside : goal.returns-in_err-back-clause-inside
-returns-in_err-back-clause-inside g c = IfOk-from_err c.from_residual-in_err-back.result _ c.from_residual-in_err-back.ensures.0
-
-pub returns-in_err-back-clause-refused : goal.returns-in_err-back-clause-refused
-returns-in_err-back-clause-refused g c = refused_as (λ e. e ≡ OutOfMemory) c.from_residual-in_err-back.result c.in_err-back.field-0.0 c.from_residual-in_err-back.ensures.1 c.in_err-back.ensures.refused
+pub returns-in_err-back : goal.returns-in_err-back
+returns-in_err-back g c = record {
+  chains = IfOk-from_err c.from_residual-in_err-back.result _ c.from_residual-in_err-back.ensures.0;
+  inside = IfOk-from_err c.from_residual-in_err-back.result _ c.from_residual-in_err-back.ensures.0;
+  refused = refused_as (λ e. e ≡ OutOfMemory) c.from_residual-in_err-back.result c.in_err-back.field-0.0 c.from_residual-in_err-back.ensures.1 c.in_err-back.ensures.refused;
+}
 
 pub returns-clause-chains : goal.returns-clause-chains
 returns-clause-chains g c = (

@@ -15,26 +15,16 @@ use Rattle.pf_core.proofs.cheapest.cheapest_path.Goals as goal
 pub begin-requires : goal.begin-requires
 begin-requires g c = subst (λ (n : ℕ). c.args.start < n) (sym c.found.ensures) c.requires.inside
 
-pub returns-in_err-search-clause-graph : goal.returns-in_err-search-clause-graph
-returns-in_err-search-clause-graph g c = λ h x. x
-
-pub returns-in_err-search-clause-inside : goal.returns-in_err-search-clause-inside
-returns-in_err-search-clause-inside g c = IfOk-from_err c.from_residual.result _ c.from_residual.ensures.0
-
-pub returns-in_err-search-clause-best : goal.returns-in_err-search-clause-best
-returns-in_err-search-clause-best g c = λ h x p. IfOk-from_err c.from_residual.result _ c.from_residual.ensures.0
-
-pub returns-in_err-search-clause-overflow : goal.returns-in_err-search-clause-overflow
-returns-in_err-search-clause-overflow g c = λ h x p e. absurd (no_overflow c.from_residual.result c.in_err-search.field-0.0 c.from_residual.ensures.1 c.in_err-search.ensures.refused e)
-
-pub returns-in_err-search-clause-ticked : goal.returns-in_err-search-clause-ticked
-returns-in_err-search-clause-ticked g c = omega arith
-
-pub returns-in_err-search-clause-asked : goal.returns-in_err-search-clause-asked
-returns-in_err-search-clause-asked g c = omega arith
-
-pub returns-in_err-search-clause-errors : goal.returns-in_err-search-clause-errors
-returns-in_err-search-clause-errors g c = refused_as (λ e. (e ≡ OutOfMemory) ⊎ (e ≡ CostOverflow)) c.from_residual.result c.in_err-search.field-0.0 c.from_residual.ensures.1 (inl c.in_err-search.ensures.refused)
+pub returns-in_err-search : goal.returns-in_err-search
+returns-in_err-search g c = record {
+  graph = λ h x. x;
+  inside = IfOk-from_err c.from_residual.result _ c.from_residual.ensures.0;
+  best = λ h x p. IfOk-from_err c.from_residual.result _ c.from_residual.ensures.0;
+  overflow = λ h x p e. absurd (no_overflow c.from_residual.result c.in_err-search.field-0.0 c.from_residual.ensures.1 c.in_err-search.ensures.refused e);
+  ticked = omega arith;
+  asked = omega arith;
+  errors = refused_as (λ e. (e ≡ OutOfMemory) ⊎ (e ≡ CostOverflow)) c.from_residual.result c.in_err-search.field-0.0 c.from_residual.ensures.1 (inl c.in_err-search.ensures.refused);
+}
 
 pub turns-init : goal.turns-init
 turns-init g c =
@@ -67,65 +57,45 @@ path_to-requires-clause-tree g c = subst IsTree (sym (c.deref.ensures.value ∙ 
 pub path_to-requires-clause-labelled : goal.path_to-requires-clause-labelled
 path_to-requires-clause-labelled g c = let z = c.in-Some.ensures.least in rw (c.deref.ensures.value, c.in-Some.ensures.same) (z.0, z.1.at)
 
-pub returns-in_err-numbers-clause-graph : goal.returns-in_err-numbers-clause-graph
-returns-in_err-numbers-clause-graph g c = λ h x. (c.is_goal.ensures.graph h (c.turns.invariant.explored h x)).0
-
-pub returns-in_err-numbers-clause-inside : goal.returns-in_err-numbers-clause-inside
-returns-in_err-numbers-clause-inside g c = IfOk-from_err c.from_residual-in_err-numbers.result _ c.from_residual-in_err-numbers.ensures.0
-
-pub returns-in_err-numbers-clause-best : goal.returns-in_err-numbers-clause-best
-returns-in_err-numbers-clause-best g c = λ h x p. IfOk-from_err c.from_residual-in_err-numbers.result _ c.from_residual-in_err-numbers.ensures.0
-
-pub returns-in_err-numbers-clause-overflow : goal.returns-in_err-numbers-clause-overflow
-returns-in_err-numbers-clause-overflow g c = λ h x p e. absurd (no_overflow c.from_residual-in_err-numbers.result c.in_err-numbers.field-0.0 c.from_residual-in_err-numbers.ensures.1 c.in_err-numbers.ensures.refused e)
-
-pub returns-in_err-numbers-clause-ticked : goal.returns-in_err-numbers-clause-ticked
-returns-in_err-numbers-clause-ticked g c = omega (arith, c.turns.invariant.asked)
-
-pub returns-in_err-numbers-clause-asked : goal.returns-in_err-numbers-clause-asked
-returns-in_err-numbers-clause-asked g c = asked_within c.turns.tally c.args.tally.now _ c.turns.search.labels.items c.turns.invariant.asked (c.turns.invariant.wide ∙ sym c.is_goal.ensures.same)
-
-pub returns-in_err-numbers-clause-errors : goal.returns-in_err-numbers-clause-errors
-returns-in_err-numbers-clause-errors g c = refused_as (λ e. (e ≡ OutOfMemory) ⊎ (e ≡ CostOverflow)) c.from_residual-in_err-numbers.result c.in_err-numbers.field-0.0 c.from_residual-in_err-numbers.ensures.1 (inl c.in_err-numbers.ensures.refused)
+pub returns-in_err-numbers : goal.returns-in_err-numbers
+returns-in_err-numbers g c = record {
+  graph = λ h x. (c.is_goal.ensures.graph h (c.turns.invariant.explored h x)).0;
+  inside = IfOk-from_err c.from_residual-in_err-numbers.result _ c.from_residual-in_err-numbers.ensures.0;
+  best = λ h x p. IfOk-from_err c.from_residual-in_err-numbers.result _ c.from_residual-in_err-numbers.ensures.0;
+  overflow = λ h x p e. absurd (no_overflow c.from_residual-in_err-numbers.result c.in_err-numbers.field-0.0 c.from_residual-in_err-numbers.ensures.1 c.in_err-numbers.ensures.refused e);
+  ticked = omega (arith, c.turns.invariant.asked);
+  asked = asked_within c.turns.tally c.args.tally.now _ c.turns.search.labels.items c.turns.invariant.asked (c.turns.invariant.wide ∙ sym c.is_goal.ensures.same);
+  errors = refused_as (λ e. (e ≡ OutOfMemory) ⊎ (e ≡ CostOverflow)) c.from_residual-in_err-numbers.result c.in_err-numbers.field-0.0 c.from_residual-in_err-numbers.ensures.1 (inl c.in_err-numbers.ensures.refused);
+}
 
 pub label_of-label-requires : goal.label_of-label-requires
 label_of-label-requires g c = let z = c.in-Some.ensures.least in rw c.in-Some.ensures.same (z.0, z.1.at)
 
-pub returns-then-is_goal-clause-graph : goal.returns-then-is_goal-clause-graph
-returns-then-is_goal-clause-graph g c = λ h x. (c.is_goal.ensures.graph h (c.turns.invariant.explored h x)).0
-
-pub returns-then-is_goal-clause-inside : goal.returns-then-is_goal-clause-inside
-returns-then-is_goal-clause-inside g c = λ k h.
-    let l = c.in_ok-numbers.ensures.inside k h in
-    subst (λ (n : ℕ). k < n) (ap length (c.deref.ensures.value ∙ c.in-Some.ensures.same) ∙ c.turns.invariant.wide ∙ sym c.is_goal.ensures.same) l
-
-pub returns-then-is_goal-clause-best : goal.returns-then-is_goal-clause-best
-returns-then-is_goal-clause-best g c = λ h x p.
-    let v = c.turns.invariant in
-    let z = c.in-Some.ensures.least in
-    let labels = c.turns.search.labels.items in
-    let step = g.G.NumberedGraph.step h in
-    let passes = g.G.NumberedGraph.passes h in
-    let t = (c.is_goal.ensures.graph h (v.explored h x)).1 in
-    let numbers = c.in_ok-numbers.numbers.items in
-    let chain = subst (λ (xs : Labels g.row.C.Denot). IsChain xs c.in-Some.number numbers) (c.deref.ensures.value ∙ c.in-Some.ensures.same) c.in_ok-numbers.ensures.chain in
-    let read = subst (λ (xs : Labels g.row.C.Denot). HasLabel xs c.in-Some.number c.label_of-label.result) c.in-Some.ensures.same c.label_of-label.ensures in
-    let same : z.0 ≡ c.label_of-label.result = label_is labels c.in-Some.number z.0 c.label_of-label.result z.1.at read in
-    subst (λ (l : Label g.row.C.Denot). IsBestNumbered step passes (g.G.NumberedGraph.stands c.args.graph.now c.args.start) (g.G.NumberedGraph.stands c.is_goal.new.self) numbers (g.C.Number.value l.cost)) same
-    (best_grows step passes _ _ (one_root c.args.start _ _ _ _ v.grown c.requires.inside) _ _ _ _ c.is_goal.ensures.grows numbers (g.C.Number.value z.0.cost)
-    (best (by_cost g.C.Number.value) step (only_root c.args.start) p _ labels (v.search h x p) v.sound.tree c.in-Some.number z.0 z.1 passes (v.failed h x) numbers chain (λ y k. sym (t y k) ∙ c.if-is_goal.true)))
-
-pub returns-then-is_goal-clause-overflow : goal.returns-then-is_goal-clause-overflow
-returns-then-is_goal-clause-overflow g c = λ h x p e. absurd (no_refusal _ CostOverflow e tt)
-
-pub returns-then-is_goal-clause-ticked : goal.returns-then-is_goal-clause-ticked
-returns-then-is_goal-clause-ticked g c = omega (arith, c.turns.invariant.asked)
-
-pub returns-then-is_goal-clause-asked : goal.returns-then-is_goal-clause-asked
-returns-then-is_goal-clause-asked g c = asked_within c.turns.tally c.args.tally.now _ c.turns.search.labels.items c.turns.invariant.asked (c.turns.invariant.wide ∙ sym c.is_goal.ensures.same)
-
-pub returns-then-is_goal-clause-errors : goal.returns-then-is_goal-clause-errors
-returns-then-is_goal-clause-errors g c = tt
+pub returns-then-is_goal : goal.returns-then-is_goal
+returns-then-is_goal g c = record {
+  graph = λ h x. (c.is_goal.ensures.graph h (c.turns.invariant.explored h x)).0;
+  inside = λ k h.
+      let l = c.in_ok-numbers.ensures.inside k h in
+      subst (λ (n : ℕ). k < n) (ap length (c.deref.ensures.value ∙ c.in-Some.ensures.same) ∙ c.turns.invariant.wide ∙ sym c.is_goal.ensures.same) l;
+  best = λ h x p.
+      let v = c.turns.invariant in
+      let z = c.in-Some.ensures.least in
+      let labels = c.turns.search.labels.items in
+      let step = g.G.NumberedGraph.step h in
+      let passes = g.G.NumberedGraph.passes h in
+      let t = (c.is_goal.ensures.graph h (v.explored h x)).1 in
+      let numbers = c.in_ok-numbers.numbers.items in
+      let chain = subst (λ (xs : Labels g.row.C.Denot). IsChain xs c.in-Some.number numbers) (c.deref.ensures.value ∙ c.in-Some.ensures.same) c.in_ok-numbers.ensures.chain in
+      let read = subst (λ (xs : Labels g.row.C.Denot). HasLabel xs c.in-Some.number c.label_of-label.result) c.in-Some.ensures.same c.label_of-label.ensures in
+      let same : z.0 ≡ c.label_of-label.result = label_is labels c.in-Some.number z.0 c.label_of-label.result z.1.at read in
+      subst (λ (l : Label g.row.C.Denot). IsBestNumbered step passes (g.G.NumberedGraph.stands c.args.graph.now c.args.start) (g.G.NumberedGraph.stands c.is_goal.new.self) numbers (g.C.Number.value l.cost)) same
+      (best_grows step passes _ _ (one_root c.args.start _ _ _ _ v.grown c.requires.inside) _ _ _ _ c.is_goal.ensures.grows numbers (g.C.Number.value z.0.cost)
+      (best (by_cost g.C.Number.value) step (only_root c.args.start) p _ labels (v.search h x p) v.sound.tree c.in-Some.number z.0 z.1 passes (v.failed h x) numbers chain (λ y k. sym (t y k) ∙ c.if-is_goal.true)));
+  overflow = λ h x p e. absurd (no_refusal _ CostOverflow e tt);
+  ticked = omega (arith, c.turns.invariant.asked);
+  asked = asked_within c.turns.tally c.args.tally.now _ c.turns.search.labels.items c.turns.invariant.asked (c.turns.invariant.wide ∙ sym c.is_goal.ensures.same);
+  errors = tt;
+}
 
 pub turn-requires-clause-sound : goal.turn-requires-clause-sound
 turn-requires-clause-sound g c = c.in-Some.ensures.sound
@@ -170,63 +140,43 @@ turns-preserved g c =
           (λ y k. sym (q y k) ∙ c.if-is_goal.false) (v.failed h x);
     }
 
-pub returns-in_err-turn-clause-graph : goal.returns-in_err-turn-clause-graph
-returns-in_err-turn-clause-graph g c = λ h x. c.in_err-turn.ensures.graph h (c.is_goal.ensures.graph h (c.turns.invariant.explored h x)).0
+pub returns-in_err-turn : goal.returns-in_err-turn
+returns-in_err-turn g c = record {
+  graph = λ h x. c.in_err-turn.ensures.graph h (c.is_goal.ensures.graph h (c.turns.invariant.explored h x)).0;
+  inside = IfOk-from_err c.from_residual-in_err-turn.result _ c.from_residual-in_err-turn.ensures.0;
+  best = λ h x p. IfOk-from_err c.from_residual-in_err-turn.result _ c.from_residual-in_err-turn.ensures.0;
+  overflow = λ h x p e.
+      let v = c.turns.invariant in
+      let z = c.in-Some.ensures.least in
+      let labels = c.turns.search.labels.items in
+      let same = c.in-Some.ensures.same in
+      let x1 = (c.is_goal.ensures.graph h (v.explored h x)).0 in
+      let grown = Grows-trans _ _ _ _ _ _ c.is_goal.ensures.grows c.in_err-turn.ensures.grows in
+      let d = c.in_err-turn.ensures.overflow (ap Err (sym (rw e at c.from_residual-in_err-turn.ensures.1))) h x1 in
+      too_dear g.C.Number.value g.C.Number.fits (g.G.NumberedGraph.step h) (only_root c.args.start) p _ labels (v.search h x p) v.sound.tree c.in-Some.number z.0 z.1 (g.G.NumberedGraph.passes h) (v.failed h x)
+      (g.met.G.NumberedGraph.one_law _ h (v.explored h x)) (λ n st. d n (c.is_goal.ensures.grows.stays c.in-Some.number n st) z.0 (rw same z.1.at)) _ _ _ grown (subst (λ (n : ℕ). c.in-Some.number < n) v.wide (HasLabel-inside labels c.in-Some.number z.0 z.1.at))
+      _ (one_root c.args.start _ _ _ _ v.grown c.requires.inside);
+  ticked = omega (arith, c.tick.ensures, c.turns.invariant.asked);
+  asked =
+      let v = c.turns.invariant in
+      let z = c.in-Some.ensures.least in
+      let old = c.turns.search.labels.items in
+      let s = Settles-set (by_cost g.C.Number.value) old c.in-Some.number z.0 z.1.at z.1.opened z.1.least in
+      omega (arith, c.tick.ensures, v.asked, v.wide, s.count, s.len, count_by-le-length is_settled (slice_set old c.in-Some.number (Some (record z.0 { settled = true }))), c.is_goal.ensures.same, c.turn.ensures.grows.more);
+  errors = refused_as (λ e. (e ≡ OutOfMemory) ⊎ (e ≡ CostOverflow)) c.from_residual-in_err-turn.result c.in_err-turn.field-0.0 c.from_residual-in_err-turn.ensures.1 c.in_err-turn.ensures.errors;
+}
 
-pub returns-in_err-turn-clause-inside : goal.returns-in_err-turn-clause-inside
-returns-in_err-turn-clause-inside g c = IfOk-from_err c.from_residual-in_err-turn.result _ c.from_residual-in_err-turn.ensures.0
-
-pub returns-in_err-turn-clause-best : goal.returns-in_err-turn-clause-best
-returns-in_err-turn-clause-best g c = λ h x p. IfOk-from_err c.from_residual-in_err-turn.result _ c.from_residual-in_err-turn.ensures.0
-
-pub returns-in_err-turn-clause-overflow : goal.returns-in_err-turn-clause-overflow
-returns-in_err-turn-clause-overflow g c = λ h x p e.
-    let v = c.turns.invariant in
-    let z = c.in-Some.ensures.least in
-    let labels = c.turns.search.labels.items in
-    let same = c.in-Some.ensures.same in
-    let x1 = (c.is_goal.ensures.graph h (v.explored h x)).0 in
-    let grown = Grows-trans _ _ _ _ _ _ c.is_goal.ensures.grows c.in_err-turn.ensures.grows in
-    let d = c.in_err-turn.ensures.overflow (ap Err (sym (rw e at c.from_residual-in_err-turn.ensures.1))) h x1 in
-    too_dear g.C.Number.value g.C.Number.fits (g.G.NumberedGraph.step h) (only_root c.args.start) p _ labels (v.search h x p) v.sound.tree c.in-Some.number z.0 z.1 (g.G.NumberedGraph.passes h) (v.failed h x)
-    (g.met.G.NumberedGraph.one_law _ h (v.explored h x)) (λ n st. d n (c.is_goal.ensures.grows.stays c.in-Some.number n st) z.0 (rw same z.1.at)) _ _ _ grown (subst (λ (n : ℕ). c.in-Some.number < n) v.wide (HasLabel-inside labels c.in-Some.number z.0 z.1.at))
-    _ (one_root c.args.start _ _ _ _ v.grown c.requires.inside)
-
-pub returns-in_err-turn-clause-ticked : goal.returns-in_err-turn-clause-ticked
-returns-in_err-turn-clause-ticked g c = omega (arith, c.tick.ensures, c.turns.invariant.asked)
-
-pub returns-in_err-turn-clause-asked : goal.returns-in_err-turn-clause-asked
-returns-in_err-turn-clause-asked g c =
-    let v = c.turns.invariant in
-    let z = c.in-Some.ensures.least in
-    let old = c.turns.search.labels.items in
-    let s = Settles-set (by_cost g.C.Number.value) old c.in-Some.number z.0 z.1.at z.1.opened z.1.least in
-    omega (arith, c.tick.ensures, v.asked, v.wide, s.count, s.len, count_by-le-length is_settled (slice_set old c.in-Some.number (Some (record z.0 { settled = true }))), c.is_goal.ensures.same, c.turn.ensures.grows.more)
-
-pub returns-in_err-turn-clause-errors : goal.returns-in_err-turn-clause-errors
-returns-in_err-turn-clause-errors g c = refused_as (λ e. (e ≡ OutOfMemory) ⊎ (e ≡ CostOverflow)) c.from_residual-in_err-turn.result c.in_err-turn.field-0.0 c.from_residual-in_err-turn.ensures.1 c.in_err-turn.ensures.errors
-
-pub returns-clause-graph : goal.returns-clause-graph
-returns-clause-graph g c = λ h x. c.turns.invariant.explored h x
-
-pub returns-clause-inside : goal.returns-clause-inside
-returns-clause-inside g c = tt
-
-pub returns-clause-best : goal.returns-clause-best
-returns-clause-best g c = λ h x p.
-    let v = c.turns.invariant in
-    let root = one_root c.args.start _ _ _ _ v.grown c.requires.inside in
-    let none = no_goal (by_cost g.C.Number.value) (g.G.NumberedGraph.step h) (only_root c.args.start) p _ _ (v.search h x p) (g.G.NumberedGraph.passes h) (v.failed h x) c.in_default.ensures.least in
-    λ s is. none s ((root s).1 is)
-
-pub returns-clause-overflow : goal.returns-clause-overflow
-returns-clause-overflow g c = λ h x p e. absurd (no_refusal _ CostOverflow e tt)
-
-pub returns-clause-ticked : goal.returns-clause-ticked
-returns-clause-ticked g c = omega (arith, c.turns.invariant.asked)
-
-pub returns-clause-asked : goal.returns-clause-asked
-returns-clause-asked g c = asked_within c.turns.tally c.args.tally.now _ c.turns.search.labels.items c.turns.invariant.asked c.turns.invariant.wide
-
-pub returns-clause-errors : goal.returns-clause-errors
-returns-clause-errors g c = tt
+pub returns : goal.returns
+returns g c = record {
+  graph = λ h x. c.turns.invariant.explored h x;
+  inside = tt;
+  best = λ h x p.
+      let v = c.turns.invariant in
+      let root = one_root c.args.start _ _ _ _ v.grown c.requires.inside in
+      let none = no_goal (by_cost g.C.Number.value) (g.G.NumberedGraph.step h) (only_root c.args.start) p _ _ (v.search h x p) (g.G.NumberedGraph.passes h) (v.failed h x) c.in_default.ensures.least in
+      λ s is. none s ((root s).1 is);
+  overflow = λ h x p e. absurd (no_refusal _ CostOverflow e tt);
+  ticked = omega (arith, c.turns.invariant.asked);
+  asked = asked_within c.turns.tally c.args.tally.now _ c.turns.search.labels.items c.turns.invariant.asked c.turns.invariant.wide;
+  errors = tt;
+}

@@ -8,14 +8,12 @@ use Rattle.pf_core.proofs.depth_first.put_branches.Goals as goal
 pub numbers-init : goal.numbers-init
 numbers-init g c = record { long = c.len-len.ensures ∙ c.args.waiting.now.ok.0; put = sym (append-nil c.args.waiting.now.items) }
 
-pub returns-then-is_err-clause-put : goal.returns-then-is_err-clause-put
-returns-then-is_err-clause-put g c = tt
-
-pub returns-then-is_err-clause-stays : goal.returns-then-is_err-clause-stays
-returns-then-is_err-clause-stays g c = pushed_off c.push.result c.len-len.result _ c.args.waiting.now.items _ c.numbers.waiting.items c.push.new.self.items c.truncate.new.self.items c.numbers.invariant.long c.numbers.invariant.put c.push.ensures.items c.truncate.ensures.items
-
-pub returns-then-is_err-clause-refused : goal.returns-then-is_err-clause-refused
-returns-then-is_err-clause-refused g c = refl
+pub returns-then-is_err : goal.returns-then-is_err
+returns-then-is_err g c = record {
+  put = tt;
+  stays = pushed_off c.push.result c.len-len.result _ c.args.waiting.now.items _ c.numbers.waiting.items c.push.new.self.items c.truncate.new.self.items c.numbers.invariant.long c.numbers.invariant.put c.push.ensures.items c.truncate.ensures.items;
+  refused = refl;
+}
 
 pub numbers-smaller : goal.numbers-smaller
 numbers-smaller g c = nearer c.numbers.number-index (length c.args.numbers.now) c.numbers-test.true
@@ -26,11 +24,9 @@ numbers-preserved g c = record {
   put = branches_more c.args.depth c.numbers.number-index c.args.numbers.now c.args.waiting.now.items c.numbers.waiting.items c.push.new.self.items c.numbers-test.true c.numbers.invariant.put (pushed_ok c.push.result c.is_err.result _ _ c.push.new.self.items c.is_err.ensures.value c.if-is_err.false c.push.ensures.items);
 }
 
-pub returns-clause-put : goal.returns-clause-put
-returns-clause-put g c = c.numbers.invariant.put ∙ ap (λ (ns : List ℕ). c.args.waiting.now.items ++ branches_at c.args.depth ns) (take_all c.numbers.number-index c.args.numbers.now c.numbers-test.false)
-
-pub returns-clause-stays : goal.returns-clause-stays
-returns-clause-stays g c = tt
-
-pub returns-clause-refused : goal.returns-clause-refused
-returns-clause-refused g c = tt
+pub returns : goal.returns
+returns g c = record {
+  put = c.numbers.invariant.put ∙ ap (λ (ns : List ℕ). c.args.waiting.now.items ++ branches_at c.args.depth ns) (take_all c.numbers.number-index c.args.numbers.now c.numbers-test.false);
+  stays = tt;
+  refused = tt;
+}

@@ -30,23 +30,23 @@ numbers-preserved g c =
     (subst (λ xs. AllZip (StandsFor eq keys) (take i numbers ++ n ∷ []) xs) (sym e)
     (AllZip-append (StandsFor eq keys) (take i numbers) c.numbers.path.items n c.in_ok-node.node c.numbers.invariant here))
 
-pub returns-in_err-path-clause-nodes : goal.returns-in_err-path-clause-nodes
-returns-in_err-path-clause-nodes g c = IfOk-from_err _ _ c.from_residual.ensures.0
+pub returns-in_err-path : goal.returns-in_err-path
+returns-in_err-path g c = record {
+  nodes = IfOk-from_err _ _ c.from_residual.ensures.0;
+  refused = no_memory c.from_residual.result c.from_residual.ensures.1;
+}
 
-pub returns-in_err-path-clause-refused : goal.returns-in_err-path-clause-refused
-returns-in_err-path-clause-refused g c = no_memory c.from_residual.result c.from_residual.ensures.1
+pub returns-in_err-node : goal.returns-in_err-node
+returns-in_err-node g c = record {
+  nodes = IfOk-from_err _ _ c.from_residual-in_err-node.ensures.0;
+  refused = no_memory c.from_residual-in_err-node.result c.from_residual-in_err-node.ensures.1;
+}
 
-pub returns-in_err-node-clause-nodes : goal.returns-in_err-node-clause-nodes
-returns-in_err-node-clause-nodes g c = IfOk-from_err _ _ c.from_residual-in_err-node.ensures.0
-
-pub returns-in_err-node-clause-refused : goal.returns-in_err-node-clause-refused
-returns-in_err-node-clause-refused g c = no_memory c.from_residual-in_err-node.result c.from_residual-in_err-node.ensures.1
-
-pub returns-in_err-push-clause-nodes : goal.returns-in_err-push-clause-nodes
-returns-in_err-push-clause-nodes g c = IfOk-from_err _ _ c.from_residual-in_err-push.ensures.0
-
-pub returns-in_err-push-clause-refused : goal.returns-in_err-push-clause-refused
-returns-in_err-push-clause-refused g c = no_memory c.from_residual-in_err-push.result c.from_residual-in_err-push.ensures.1
+pub returns-in_err-push : goal.returns-in_err-push
+returns-in_err-push g c = record {
+  nodes = IfOk-from_err _ _ c.from_residual-in_err-push.ensures.0;
+  refused = no_memory c.from_residual-in_err-push.result c.from_residual-in_err-push.ensures.1;
+}
 
 pub numbers-init : goal.numbers-init
 numbers-init g c = subst (λ (xs : List g.row.N.Denot). AllZip (StandsFor g.N.PartialEq.eq c.args.nodes.now) [] xs) (sym c.in_ok-path.ensures.items) tt
@@ -54,8 +54,8 @@ numbers-init g c = subst (λ (xs : List g.row.N.Denot). AllZip (StandsFor g.N.Pa
 pub numbers-smaller : goal.numbers-smaller
 numbers-smaller g c = nearer c.numbers.number-index (length c.args.numbers.now) c.numbers-test.true
 
-pub returns-clause-nodes : goal.returns-clause-nodes
-returns-clause-nodes g c = subst (λ (ns : List ℕ). AllZip (StandsFor g.N.PartialEq.eq c.args.nodes.now) ns c.numbers.path.items) (take_all c.numbers.number-index c.args.numbers.now c.numbers-test.false) c.numbers.invariant
-
-pub returns-clause-refused : goal.returns-clause-refused
-returns-clause-refused g c = tt
+pub returns : goal.returns
+returns g c = record {
+  nodes = subst (λ (ns : List ℕ). AllZip (StandsFor g.N.PartialEq.eq c.args.nodes.now) ns c.numbers.path.items) (take_all c.numbers.number-index c.args.numbers.now c.numbers-test.false) c.numbers.invariant;
+  refused = tt;
+}

@@ -16,29 +16,19 @@ starts-preserved g c =
       c.insert.ensures.unique,
     )
 
-pub returns-clause-same : goal.returns-clause-same
-returns-clause-same g c =
-    let all : nodes_of c.starts.yielded ≡ c.args.starts.now =
-    items_from_drains c.starts.yielded (c.starts.start-iterator, c.starts.yielded_by, λ _. (c.next.new.self, c.in-None.ensures.steps)) (YieldsList-from_first (λ r. r.now) (λ s. s) c.args.starts.now (c.into_iter-start-iterator.ensures.into_iter_gives ∙ c.iter-start-items.ensures.nodes)) in
-    subst (HasSameNodes g.N.PartialEq.eq c.starts.nodes.keys) all c.starts.invariant.0
+pub returns-in_err-node : goal.returns-in_err-node
+returns-in_err-node g c = record {
+  same = IfOk-from_err _ _ c.from_residual.ensures.0;
+  distinct = IfOk-from_err _ _ c.from_residual.ensures.0;
+  refused = no_memory c.from_residual.result c.from_residual.ensures.1;
+}
 
-pub returns-in_err-node-clause-same : goal.returns-in_err-node-clause-same
-returns-in_err-node-clause-same g c = IfOk-from_err _ _ c.from_residual.ensures.0
-
-pub returns-in_err-node-clause-distinct : goal.returns-in_err-node-clause-distinct
-returns-in_err-node-clause-distinct g c = IfOk-from_err _ _ c.from_residual.ensures.0
-
-pub returns-in_err-node-clause-refused : goal.returns-in_err-node-clause-refused
-returns-in_err-node-clause-refused g c = no_memory c.from_residual.result c.from_residual.ensures.1
-
-pub returns-in_err-insert-clause-same : goal.returns-in_err-insert-clause-same
-returns-in_err-insert-clause-same g c = IfOk-from_err _ _ c.from_residual-in_err-insert.ensures.0
-
-pub returns-in_err-insert-clause-distinct : goal.returns-in_err-insert-clause-distinct
-returns-in_err-insert-clause-distinct g c = IfOk-from_err _ _ c.from_residual-in_err-insert.ensures.0
-
-pub returns-in_err-insert-clause-refused : goal.returns-in_err-insert-clause-refused
-returns-in_err-insert-clause-refused g c = no_memory c.from_residual-in_err-insert.result c.from_residual-in_err-insert.ensures.1
+pub returns-in_err-insert : goal.returns-in_err-insert
+returns-in_err-insert g c = record {
+  same = IfOk-from_err _ _ c.from_residual-in_err-insert.ensures.0;
+  distinct = IfOk-from_err _ _ c.from_residual-in_err-insert.ensures.0;
+  refused = no_memory c.from_residual-in_err-insert.result c.from_residual-in_err-insert.ensures.1;
+}
 
 pub starts-init : goal.starts-init
 starts-init g c = (subst (λ (ks : List g.row.N.Denot). HasSameNodes g.N.PartialEq.eq ks []) (sym c.new-nodes.ensures.empty) (λ y. (λ h. h, λ h. h)), c.new-nodes.ensures.unique)
@@ -49,8 +39,12 @@ next-requires g c = tt
 pub starts-smaller : goal.starts-smaller
 starts-smaller g c = (c.in-Some.ensures.goes.on c.starts.iterator.1).2
 
-pub returns-clause-distinct : goal.returns-clause-distinct
-returns-clause-distinct g c = c.starts.invariant.1
-
-pub returns-clause-refused : goal.returns-clause-refused
-returns-clause-refused g c = tt
+pub returns : goal.returns
+returns g c = record {
+  same =
+      let all : nodes_of c.starts.yielded ≡ c.args.starts.now =
+      items_from_drains c.starts.yielded (c.starts.start-iterator, c.starts.yielded_by, λ _. (c.next.new.self, c.in-None.ensures.steps)) (YieldsList-from_first (λ r. r.now) (λ s. s) c.args.starts.now (c.into_iter-start-iterator.ensures.into_iter_gives ∙ c.iter-start-items.ensures.nodes)) in
+      subst (HasSameNodes g.N.PartialEq.eq c.starts.nodes.keys) all c.starts.invariant.0;
+  distinct = c.starts.invariant.1;
+  refused = tt;
+}

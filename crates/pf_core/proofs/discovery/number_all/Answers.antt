@@ -68,29 +68,21 @@ returns-in-Err-clause-distinct g c = c.truncate.ensures.unique
 pub returns-in-Err-clause-refused : goal.returns-in-Err-clause-refused
 returns-in-Err-clause-refused g c = c.in-Err.ensures.refused
 
-pub returns-clause-numbered : goal.returns-clause-numbered
-returns-clause-numbered g c =
-    let i = c.items.invariant in (
-      c.into_iter-item-iterator.result,
-      c.items.yielded,
-      c.into_iter-item-iterator.ensures.into_iter_gives,
-      (c.next.new.self, (c.items.item-iterator, c.items.yielded_by, c.in-None.ensures.steps)),
-      i.numbered,
-      i.added,
-      i.ordered,
-    )
-
-pub returns-clause-distinct : goal.returns-clause-distinct
-returns-clause-distinct g c = c.items.invariant.distinct
-
-pub returns-clause-longer : goal.returns-clause-longer
-returns-clause-longer g c = subst (λ (n : ℕ). n ≤ length c.items.nodes.keys) c.items.invariant.long c.items.invariant.longer
-
-pub returns-clause-kept : goal.returns-clause-kept
-returns-clause-kept g c = subst (λ (n : ℕ). take n c.items.nodes.keys ≡ c.args.nodes.now.keys) c.items.invariant.long c.items.invariant.kept
-
-pub returns-clause-stays : goal.returns-clause-stays
-returns-clause-stays g c = tt
-
-pub returns-clause-refused : goal.returns-clause-refused
-returns-clause-refused g c = tt
+pub returns : goal.returns
+returns g c = record {
+  numbered =
+      let i = c.items.invariant in (
+        c.into_iter-item-iterator.result,
+        c.items.yielded,
+        c.into_iter-item-iterator.ensures.into_iter_gives,
+        (c.next.new.self, (c.items.item-iterator, c.items.yielded_by, c.in-None.ensures.steps)),
+        i.numbered,
+        i.added,
+        i.ordered,
+      );
+  distinct = c.items.invariant.distinct;
+  longer = subst (λ (n : ℕ). n ≤ length c.items.nodes.keys) c.items.invariant.long c.items.invariant.longer;
+  kept = subst (λ (n : ℕ). take n c.items.nodes.keys ≡ c.args.nodes.now.keys) c.items.invariant.long c.items.invariant.kept;
+  stays = tt;
+  refused = tt;
+}

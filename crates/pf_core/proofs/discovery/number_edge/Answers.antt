@@ -6,24 +6,20 @@ use Rattle.pf_core.proofs.ListLemmas.{on_ok}
 use Rattle.pf_core.proofs.Outcomes.{no_memory}
 use Rattle.pf_core.proofs.discovery.number_edge.Goals as goal
 
-pub returns-clause-added : goal.returns-clause-added
-returns-clause-added g c = AddsNode-insert g.N.PartialEq.eq g.met.N.Eq.laws c.args.nodes.now.keys c.insert_full.new.self.keys c.args.edge.0 c.in_ok-number.ensures.keys
+pub returns-in_err-number : goal.returns-in_err-number
+returns-in_err-number g c = record {
+  added =
+      let eq = g.N.PartialEq.eq in
+      subst (AddsNode eq c.args.edge.0 c.args.nodes.now.keys) (sym c.in_err-number.ensures.err) (AddsNode-old eq c.args.nodes.now.keys c.args.edge.0);
+  numbered = IfOk-from_err _ _ c.from_residual.ensures.0;
+  refused = no_memory c.from_residual.result c.from_residual.ensures.1;
+}
 
-pub returns-in_err-number-clause-added : goal.returns-in_err-number-clause-added
-returns-in_err-number-clause-added g c =
-    let eq = g.N.PartialEq.eq in
-    subst (AddsNode eq c.args.edge.0 c.args.nodes.now.keys) (sym c.in_err-number.ensures.err) (AddsNode-old eq c.args.nodes.now.keys c.args.edge.0)
-
-pub returns-in_err-number-clause-numbered : goal.returns-in_err-number-clause-numbered
-returns-in_err-number-clause-numbered g c = IfOk-from_err _ _ c.from_residual.ensures.0
-
-pub returns-in_err-number-clause-refused : goal.returns-in_err-number-clause-refused
-returns-in_err-number-clause-refused g c = no_memory c.from_residual.result c.from_residual.ensures.1
-
-pub returns-clause-numbered : goal.returns-clause-numbered
-returns-clause-numbered g c =
-    let s = c.in_ok-number.ensures.stored in
-    on_ok c.add.result c.add.ensures.added (λ more. (c.in_ok-number.number, (s.0, s.1, eq-sym g.N.PartialEq.eq g.met.N.Eq.laws c.args.edge.0 s.0 s.2), more))
-
-pub returns-clause-refused : goal.returns-clause-refused
-returns-clause-refused g c = c.add.ensures.refused
+pub returns : goal.returns
+returns g c = record {
+  added = AddsNode-insert g.N.PartialEq.eq g.met.N.Eq.laws c.args.nodes.now.keys c.insert_full.new.self.keys c.args.edge.0 c.in_ok-number.ensures.keys;
+  numbered =
+      let s = c.in_ok-number.ensures.stored in
+      on_ok c.add.result c.add.ensures.added (λ more. (c.in_ok-number.number, (s.0, s.1, eq-sym g.N.PartialEq.eq g.met.N.Eq.laws c.args.edge.0 s.0 s.2), more));
+  refused = c.add.ensures.refused;
+}

@@ -14,17 +14,13 @@ use Rattle.pf_core.proofs.fewest.fewest_edges_path.Goals as goal
 pub fill-requires : goal.fill-requires
 fill-requires g c = omega (arith, ap length c.new-labels.ensures.items)
 
-pub returns-in_err-fill-clause-graph : goal.returns-in_err-fill-clause-graph
-returns-in_err-fill-clause-graph g c = λ h x. x
-
-pub returns-in_err-fill-clause-inside : goal.returns-in_err-fill-clause-inside
-returns-in_err-fill-clause-inside g c = IfOk-from_err c.from_residual.result _ c.from_residual.ensures.0
-
-pub returns-in_err-fill-clause-best : goal.returns-in_err-fill-clause-best
-returns-in_err-fill-clause-best g c = λ h x p. IfOk-from_err c.from_residual.result _ c.from_residual.ensures.0
-
-pub returns-in_err-fill-clause-errors : goal.returns-in_err-fill-clause-errors
-returns-in_err-fill-clause-errors g c = refused_as (λ e. e ≡ OutOfMemory) c.from_residual.result c.in_err-fill.field-0.0 c.from_residual.ensures.1 c.in_err-fill.ensures.refused
+pub returns-in_err-fill : goal.returns-in_err-fill
+returns-in_err-fill g c = record {
+  graph = λ h x. x;
+  inside = IfOk-from_err c.from_residual.result _ c.from_residual.ensures.0;
+  best = λ h x p. IfOk-from_err c.from_residual.result _ c.from_residual.ensures.0;
+  errors = refused_as (λ e. e ≡ OutOfMemory) c.from_residual.result c.in_err-fill.field-0.0 c.from_residual.ensures.1 c.in_err-fill.ensures.refused;
+}
 
 pub nodes-init : goal.nodes-init
 nodes-init g c =
@@ -53,42 +49,34 @@ path_to-requires-clause-tree g c = subst IsTree (sym c.deref.ensures.value) c.no
 pub path_to-requires-clause-labelled : goal.path_to-requires-clause-labelled
 path_to-requires-clause-labelled g c = rw c.deref.ensures.value (c.nodes.invariant.breadth.full c.nodes.node (omega (arith, c.nodes-test.true, c.len.ensures)))
 
-pub returns-in_err-numbers-clause-graph : goal.returns-in_err-numbers-clause-graph
-returns-in_err-numbers-clause-graph g c = λ h x. (c.is_goal.ensures.graph h (c.nodes.invariant.explored h x)).0
+pub returns-in_err-numbers : goal.returns-in_err-numbers
+returns-in_err-numbers g c = record {
+  graph = λ h x. (c.is_goal.ensures.graph h (c.nodes.invariant.explored h x)).0;
+  inside = IfOk-from_err c.from_residual-in_err-numbers.result _ c.from_residual-in_err-numbers.ensures.0;
+  best = λ h x p. IfOk-from_err c.from_residual-in_err-numbers.result _ c.from_residual-in_err-numbers.ensures.0;
+  errors = refused_as (λ e. e ≡ OutOfMemory) c.from_residual-in_err-numbers.result c.in_err-numbers.field-0.0 c.from_residual-in_err-numbers.ensures.1 c.in_err-numbers.ensures.refused;
+}
 
-pub returns-in_err-numbers-clause-inside : goal.returns-in_err-numbers-clause-inside
-returns-in_err-numbers-clause-inside g c = IfOk-from_err c.from_residual-in_err-numbers.result _ c.from_residual-in_err-numbers.ensures.0
-
-pub returns-in_err-numbers-clause-best : goal.returns-in_err-numbers-clause-best
-returns-in_err-numbers-clause-best g c = λ h x p. IfOk-from_err c.from_residual-in_err-numbers.result _ c.from_residual-in_err-numbers.ensures.0
-
-pub returns-in_err-numbers-clause-errors : goal.returns-in_err-numbers-clause-errors
-returns-in_err-numbers-clause-errors g c = refused_as (λ e. e ≡ OutOfMemory) c.from_residual-in_err-numbers.result c.in_err-numbers.field-0.0 c.from_residual-in_err-numbers.ensures.1 c.in_err-numbers.ensures.refused
-
-pub returns-then-is_goal-clause-graph : goal.returns-then-is_goal-clause-graph
-returns-then-is_goal-clause-graph g c = λ h x. (c.is_goal.ensures.graph h (c.nodes.invariant.explored h x)).0
-
-pub returns-then-is_goal-clause-inside : goal.returns-then-is_goal-clause-inside
-returns-then-is_goal-clause-inside g c = λ k h.
-    let l = c.in_ok-numbers.ensures.inside k h in
-    subst (λ (n : ℕ). k < n) (ap length c.deref.ensures.value ∙ c.nodes.invariant.len ∙ sym c.is_goal.ensures.same) l
-
-pub returns-then-is_goal-clause-best : goal.returns-then-is_goal-clause-best
-returns-then-is_goal-clause-best g c = λ h x p.
-    let v = c.nodes.invariant in
-    let step = g.G.NumberedGraph.step h in
-    let passes = g.G.NumberedGraph.passes h in
-    let t = (c.is_goal.ensures.graph h (v.explored h x)).1 in
-    let l = v.breadth.full c.nodes.node (omega (arith, c.nodes-test.true, c.len.ensures)) in
-    let numbers = c.in_ok-numbers.numbers.items in (
-      pos l.0.depth,
-      best_grows step passes _ _ (roots_below _ _ _ _ v.grown) _ _ _ _ c.is_goal.ensures.grows numbers (pos l.0.depth)
-          (best by_depth step (below (g.G.NumberedGraph.found c.args.graph.now)) (hop_positive step p) _ c.nodes.labels.items (v.search h x p) v.tree c.nodes.node l.0 (hop_least c.nodes.node c.nodes.labels.items v.breadth l.0 l.1) passes (v.failed h x) numbers
-          (rw c.deref.ensures.value at c.in_ok-numbers.ensures.chain) (λ y k. sym (t y k) ∙ c.if-is_goal.true)),
-    )
-
-pub returns-then-is_goal-clause-errors : goal.returns-then-is_goal-clause-errors
-returns-then-is_goal-clause-errors g c = tt
+pub returns-then-is_goal : goal.returns-then-is_goal
+returns-then-is_goal g c = record {
+  graph = λ h x. (c.is_goal.ensures.graph h (c.nodes.invariant.explored h x)).0;
+  inside = λ k h.
+      let l = c.in_ok-numbers.ensures.inside k h in
+      subst (λ (n : ℕ). k < n) (ap length c.deref.ensures.value ∙ c.nodes.invariant.len ∙ sym c.is_goal.ensures.same) l;
+  best = λ h x p.
+      let v = c.nodes.invariant in
+      let step = g.G.NumberedGraph.step h in
+      let passes = g.G.NumberedGraph.passes h in
+      let t = (c.is_goal.ensures.graph h (v.explored h x)).1 in
+      let l = v.breadth.full c.nodes.node (omega (arith, c.nodes-test.true, c.len.ensures)) in
+      let numbers = c.in_ok-numbers.numbers.items in (
+        pos l.0.depth,
+        best_grows step passes _ _ (roots_below _ _ _ _ v.grown) _ _ _ _ c.is_goal.ensures.grows numbers (pos l.0.depth)
+            (best by_depth step (below (g.G.NumberedGraph.found c.args.graph.now)) (hop_positive step p) _ c.nodes.labels.items (v.search h x p) v.tree c.nodes.node l.0 (hop_least c.nodes.node c.nodes.labels.items v.breadth l.0 l.1) passes (v.failed h x) numbers
+            (rw c.deref.ensures.value at c.in_ok-numbers.ensures.chain) (λ y k. sym (t y k) ∙ c.if-is_goal.true)),
+      );
+  errors = tt;
+}
 
 pub expand-requires-clause-inside : goal.expand-requires-clause-inside
 expand-requires-clause-inside g c = omega (arith, c.nodes-test.true, c.len.ensures, c.nodes.invariant.len, c.is_goal.ensures.same)
@@ -96,17 +84,13 @@ expand-requires-clause-inside g c = omega (arith, c.nodes-test.true, c.len.ensur
 pub expand-requires-clause-graph : goal.expand-requires-clause-graph
 expand-requires-clause-graph g c = let r = c.requires.graph in (r.0, (c.is_goal.ensures.graph r.0 (c.nodes.invariant.explored r.0 r.1)).0)
 
-pub returns-in_err-expand-clause-graph : goal.returns-in_err-expand-clause-graph
-returns-in_err-expand-clause-graph g c = λ h x. c.in_err-expand.ensures.graph h (c.is_goal.ensures.graph h (c.nodes.invariant.explored h x)).0
-
-pub returns-in_err-expand-clause-inside : goal.returns-in_err-expand-clause-inside
-returns-in_err-expand-clause-inside g c = IfOk-from_err c.from_residual-in_err-expand.result _ c.from_residual-in_err-expand.ensures.0
-
-pub returns-in_err-expand-clause-best : goal.returns-in_err-expand-clause-best
-returns-in_err-expand-clause-best g c = λ h x p. IfOk-from_err c.from_residual-in_err-expand.result _ c.from_residual-in_err-expand.ensures.0
-
-pub returns-in_err-expand-clause-errors : goal.returns-in_err-expand-clause-errors
-returns-in_err-expand-clause-errors g c = refused_as (λ e. e ≡ OutOfMemory) c.from_residual-in_err-expand.result c.in_err-expand.field-0.0 c.from_residual-in_err-expand.ensures.1 c.in_err-expand.ensures.refused.0
+pub returns-in_err-expand : goal.returns-in_err-expand
+returns-in_err-expand g c = record {
+  graph = λ h x. c.in_err-expand.ensures.graph h (c.is_goal.ensures.graph h (c.nodes.invariant.explored h x)).0;
+  inside = IfOk-from_err c.from_residual-in_err-expand.result _ c.from_residual-in_err-expand.ensures.0;
+  best = λ h x p. IfOk-from_err c.from_residual-in_err-expand.result _ c.from_residual-in_err-expand.ensures.0;
+  errors = refused_as (λ e. e ≡ OutOfMemory) c.from_residual-in_err-expand.result c.in_err-expand.field-0.0 c.from_residual-in_err-expand.ensures.1 c.in_err-expand.ensures.refused.0;
+}
 
 pub settle-depth-requires : goal.settle-depth-requires
 settle-depth-requires g c = c.nodes.invariant.breadth.full c.nodes.node (omega (arith, c.nodes-test.true, c.len.ensures))
@@ -120,17 +104,13 @@ fill-requires-in-nodes g c =
     settled_fit c.nodes.node c.nodes.labels.items c.settle-depth.new.labels.items c.settle-depth.result c.found-in-nodes.result (g.G.NumberedGraph.found c.is_goal.new.self) (g.G.NumberedGraph.found c.expand.new.self)
     v.breadth (omega (arith, c.nodes-test.true, c.len.ensures)) (v.len ∙ sym c.is_goal.ensures.same) c.settle-depth.ensures c.found-in-nodes.ensures c.in_ok-expand.ensures.grows.more
 
-pub returns-in_err-fill-2-clause-graph : goal.returns-in_err-fill-2-clause-graph
-returns-in_err-fill-2-clause-graph g c = λ h x. c.in_ok-expand.ensures.graph h (c.is_goal.ensures.graph h (c.nodes.invariant.explored h x)).0
-
-pub returns-in_err-fill-2-clause-inside : goal.returns-in_err-fill-2-clause-inside
-returns-in_err-fill-2-clause-inside g c = IfOk-from_err c.from_residual-in_err-fill-2.result _ c.from_residual-in_err-fill-2.ensures.0
-
-pub returns-in_err-fill-2-clause-best : goal.returns-in_err-fill-2-clause-best
-returns-in_err-fill-2-clause-best g c = λ h x p. IfOk-from_err c.from_residual-in_err-fill-2.result _ c.from_residual-in_err-fill-2.ensures.0
-
-pub returns-in_err-fill-2-clause-errors : goal.returns-in_err-fill-2-clause-errors
-returns-in_err-fill-2-clause-errors g c = refused_as (λ e. e ≡ OutOfMemory) c.from_residual-in_err-fill-2.result c.in_err-fill-2.field-0.0 c.from_residual-in_err-fill-2.ensures.1 c.in_err-fill-2.ensures.refused
+pub returns-in_err-fill-2 : goal.returns-in_err-fill-2
+returns-in_err-fill-2 g c = record {
+  graph = λ h x. c.in_ok-expand.ensures.graph h (c.is_goal.ensures.graph h (c.nodes.invariant.explored h x)).0;
+  inside = IfOk-from_err c.from_residual-in_err-fill-2.result _ c.from_residual-in_err-fill-2.ensures.0;
+  best = λ h x p. IfOk-from_err c.from_residual-in_err-fill-2.result _ c.from_residual-in_err-fill-2.ensures.0;
+  errors = refused_as (λ e. e ≡ OutOfMemory) c.from_residual-in_err-fill-2.result c.in_err-fill-2.field-0.0 c.from_residual-in_err-fill-2.ensures.1 c.in_err-fill-2.ensures.refused;
+}
 
 pub overflow_add-node : goal.overflow_add-node
 overflow_add-node g c = omega (arith, c.nodes-test.true, c.len.ensures, c.nodes.invariant.few)
@@ -173,19 +153,15 @@ nodes-preserved g c =
         v.breadth (omega (arith, c.nodes-test.true, c.len.ensures)) (v.len ∙ sym c.is_goal.ensures.same) c.settle-depth.ensures c.found-in-nodes.ensures c.in_ok-expand.ensures.grows.more
         g.G.NumberedGraph.Node c.fill-in-nodes.new.labels.items c.behind.result c.behind.ensures c.in_ok-fill-2.ensures.filled c.in_ok-fill-2.ensures.few v.tree row.0 row.3
 
-pub returns-clause-graph : goal.returns-clause-graph
-returns-clause-graph g c = λ h x. c.nodes.invariant.explored h x
-
-pub returns-clause-inside : goal.returns-clause-inside
-returns-clause-inside g c = tt
-
-pub returns-clause-best : goal.returns-clause-best
-returns-clause-best g c = λ h x p.
-    let v = c.nodes.invariant in
-    let root = roots_below _ _ _ _ v.grown in
-    let none = no_goal by_depth (g.G.NumberedGraph.step h) (below (g.G.NumberedGraph.found c.args.graph.now)) (hop_positive (g.G.NumberedGraph.step h) p) _ _ (v.search h x p) (g.G.NumberedGraph.passes h) (v.failed h x)
-    (breadth_done c.nodes.node _ v.breadth (omega (arith, c.nodes-test.false, c.len.ensures))) in
-    λ s is. none s ((root s).1 is)
-
-pub returns-clause-errors : goal.returns-clause-errors
-returns-clause-errors g c = tt
+pub returns : goal.returns
+returns g c = record {
+  graph = λ h x. c.nodes.invariant.explored h x;
+  inside = tt;
+  best = λ h x p.
+      let v = c.nodes.invariant in
+      let root = roots_below _ _ _ _ v.grown in
+      let none = no_goal by_depth (g.G.NumberedGraph.step h) (below (g.G.NumberedGraph.found c.args.graph.now)) (hop_positive (g.G.NumberedGraph.step h) p) _ _ (v.search h x p) (g.G.NumberedGraph.passes h) (v.failed h x)
+      (breadth_done c.nodes.node _ v.breadth (omega (arith, c.nodes-test.false, c.len.ensures))) in
+      λ s is. none s ((root s).1 is);
+  errors = tt;
+}

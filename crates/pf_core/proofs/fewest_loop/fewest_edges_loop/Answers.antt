@@ -18,17 +18,13 @@ use Rattle.pf_core.proofs.fewest_loop.fewest_edges_loop.Goals as goal
 pub fill-requires : goal.fill-requires
 fill-requires g c = omega (arith, ap length c.new-labels.ensures.items)
 
-pub returns-in_err-fill-clause-graph : goal.returns-in_err-fill-clause-graph
-returns-in_err-fill-clause-graph g c = λ h x. x
-
-pub returns-in_err-fill-clause-inside : goal.returns-in_err-fill-clause-inside
-returns-in_err-fill-clause-inside g c = IfOk-from_err c.from_residual.result _ c.from_residual.ensures.0
-
-pub returns-in_err-fill-clause-best : goal.returns-in_err-fill-clause-best
-returns-in_err-fill-clause-best g c = λ h x p. IfOk-from_err c.from_residual.result _ c.from_residual.ensures.0
-
-pub returns-in_err-fill-clause-errors : goal.returns-in_err-fill-clause-errors
-returns-in_err-fill-clause-errors g c = refused_as (λ e. e ≡ OutOfMemory) c.from_residual.result c.in_err-fill.field-0.0 c.from_residual.ensures.1 c.in_err-fill.ensures.refused
+pub returns-in_err-fill : goal.returns-in_err-fill
+returns-in_err-fill g c = record {
+  graph = λ h x. x;
+  inside = IfOk-from_err c.from_residual.result _ c.from_residual.ensures.0;
+  best = λ h x p. IfOk-from_err c.from_residual.result _ c.from_residual.ensures.0;
+  errors = refused_as (λ e. e ≡ OutOfMemory) c.from_residual.result c.in_err-fill.field-0.0 c.from_residual.ensures.1 c.in_err-fill.ensures.refused;
+}
 
 pub nodes-init : goal.nodes-init
 nodes-init g c =
@@ -52,17 +48,13 @@ expand-requires-clause-inside g c = omega (arith, c.nodes-test.true, c.len.ensur
 pub expand-requires-clause-graph : goal.expand-requires-clause-graph
 expand-requires-clause-graph g c = let r = c.requires.graph in (r.0, c.nodes.invariant.explored r.0 r.1)
 
-pub returns-in_err-expand-clause-graph : goal.returns-in_err-expand-clause-graph
-returns-in_err-expand-clause-graph g c = λ h x. c.in_err-expand.ensures.graph h (c.nodes.invariant.explored h x)
-
-pub returns-in_err-expand-clause-inside : goal.returns-in_err-expand-clause-inside
-returns-in_err-expand-clause-inside g c = IfOk-from_err c.from_residual-in_err-expand.result _ c.from_residual-in_err-expand.ensures.0
-
-pub returns-in_err-expand-clause-best : goal.returns-in_err-expand-clause-best
-returns-in_err-expand-clause-best g c = λ h x p. IfOk-from_err c.from_residual-in_err-expand.result _ c.from_residual-in_err-expand.ensures.0
-
-pub returns-in_err-expand-clause-errors : goal.returns-in_err-expand-clause-errors
-returns-in_err-expand-clause-errors g c = refused_as (λ e. e ≡ OutOfMemory) c.from_residual-in_err-expand.result c.in_err-expand.field-0.0 c.from_residual-in_err-expand.ensures.1 c.in_err-expand.ensures.refused.0
+pub returns-in_err-expand : goal.returns-in_err-expand
+returns-in_err-expand g c = record {
+  graph = λ h x. c.in_err-expand.ensures.graph h (c.nodes.invariant.explored h x);
+  inside = IfOk-from_err c.from_residual-in_err-expand.result _ c.from_residual-in_err-expand.ensures.0;
+  best = λ h x p. IfOk-from_err c.from_residual-in_err-expand.result _ c.from_residual-in_err-expand.ensures.0;
+  errors = refused_as (λ e. e ≡ OutOfMemory) c.from_residual-in_err-expand.result c.in_err-expand.field-0.0 c.from_residual-in_err-expand.ensures.1 c.in_err-expand.ensures.refused.0;
+}
 
 pub path_to-requires-clause-tree : goal.path_to-requires-clause-tree
 path_to-requires-clause-tree g c = subst IsTree (sym c.deref-in-Some.ensures.value) c.nodes.invariant.tree
@@ -70,59 +62,47 @@ path_to-requires-clause-tree g c = subst IsTree (sym c.deref-in-Some.ensures.val
 pub path_to-requires-clause-labelled : goal.path_to-requires-clause-labelled
 path_to-requires-clause-labelled g c = rw c.deref-in-Some.ensures.value (c.nodes.invariant.breadth.full c.nodes.node (omega (arith, c.nodes-test.true, c.len.ensures)))
 
-pub returns-in_err-numbers-clause-graph : goal.returns-in_err-numbers-clause-graph
-returns-in_err-numbers-clause-graph g c = λ h x. c.in_ok-expand.ensures.graph h (c.nodes.invariant.explored h x)
+pub returns-in_err-numbers : goal.returns-in_err-numbers
+returns-in_err-numbers g c = record {
+  graph = λ h x. c.in_ok-expand.ensures.graph h (c.nodes.invariant.explored h x);
+  inside = IfOk-from_err c.from_residual-in_err-numbers.result _ c.from_residual-in_err-numbers.ensures.0;
+  best = λ h x p. IfOk-from_err c.from_residual-in_err-numbers.result _ c.from_residual-in_err-numbers.ensures.0;
+  errors = refused_as (λ e. e ≡ OutOfMemory) c.from_residual-in_err-numbers.result c.in_err-numbers.field-0.0 c.from_residual-in_err-numbers.ensures.1 c.in_err-numbers.ensures.refused;
+}
 
-pub returns-in_err-numbers-clause-inside : goal.returns-in_err-numbers-clause-inside
-returns-in_err-numbers-clause-inside g c = IfOk-from_err c.from_residual-in_err-numbers.result _ c.from_residual-in_err-numbers.ensures.0
+pub returns-in_err-push : goal.returns-in_err-push
+returns-in_err-push g c = record {
+  graph = λ h x. c.in_ok-expand.ensures.graph h (c.nodes.invariant.explored h x);
+  inside = IfOk-from_err c.from_residual-in_err-push.result _ c.from_residual-in_err-push.ensures.0;
+  best = λ h x p. IfOk-from_err c.from_residual-in_err-push.result _ c.from_residual-in_err-push.ensures.0;
+  errors = refused_by (λ e. e ≡ OutOfMemory) c.from_residual-in_err-push.result c.from_residual-in_err-push.ensures.1;
+}
 
-pub returns-in_err-numbers-clause-best : goal.returns-in_err-numbers-clause-best
-returns-in_err-numbers-clause-best g c = λ h x p. IfOk-from_err c.from_residual-in_err-numbers.result _ c.from_residual-in_err-numbers.ensures.0
-
-pub returns-in_err-numbers-clause-errors : goal.returns-in_err-numbers-clause-errors
-returns-in_err-numbers-clause-errors g c = refused_as (λ e. e ≡ OutOfMemory) c.from_residual-in_err-numbers.result c.in_err-numbers.field-0.0 c.from_residual-in_err-numbers.ensures.1 c.in_err-numbers.ensures.refused
-
-pub returns-in_err-push-clause-graph : goal.returns-in_err-push-clause-graph
-returns-in_err-push-clause-graph g c = λ h x. c.in_ok-expand.ensures.graph h (c.nodes.invariant.explored h x)
-
-pub returns-in_err-push-clause-inside : goal.returns-in_err-push-clause-inside
-returns-in_err-push-clause-inside g c = IfOk-from_err c.from_residual-in_err-push.result _ c.from_residual-in_err-push.ensures.0
-
-pub returns-in_err-push-clause-best : goal.returns-in_err-push-clause-best
-returns-in_err-push-clause-best g c = λ h x p. IfOk-from_err c.from_residual-in_err-push.result _ c.from_residual-in_err-push.ensures.0
-
-pub returns-in_err-push-clause-errors : goal.returns-in_err-push-clause-errors
-returns-in_err-push-clause-errors g c = refused_by (λ e. e ≡ OutOfMemory) c.from_residual-in_err-push.result c.from_residual-in_err-push.ensures.1
-
-pub returns-in-Some-clause-graph : goal.returns-in-Some-clause-graph
-returns-in-Some-clause-graph g c = λ h x. c.in_ok-expand.ensures.graph h (c.nodes.invariant.explored h x)
-
-pub returns-in-Some-clause-inside : goal.returns-in-Some-clause-inside
-returns-in-Some-clause-inside g c = λ k h.
-    let v = c.nodes.invariant in
-    let start = rw c.in-Some.is at c.first_below.ensures in
-    let more = c.in_ok-expand.ensures.grows.more in
-    elim (Contains-append_one c.in_ok-numbers.numbers.items c.in-Some.start k (subst (λ (xs : List ℕ). Contains xs k) c.in_ok-push.ensures.items h)) as (λ _. k < g.G.NumberedGraph.found c.expand.new.self) [
-      | inl b ↦ let low = subst (λ (n : ℕ). k < n) (ap length c.deref-in-Some.ensures.value ∙ v.len) (c.in_ok-numbers.ensures.inside k b) in omega (arith, low, more)
-      | inr e ↦ let low = start.0 in omega (arith, low, e, v.first, v.grown.more, more)
-    ]
-
-pub returns-in-Some-clause-best : goal.returns-in-Some-clause-best
-returns-in-Some-clause-best g c = λ h x p.
-    let v = c.nodes.invariant in
-    let step = g.G.NumberedGraph.step h in
-    let l = v.breadth.full c.nodes.node (omega (arith, c.nodes-test.true, c.len.ensures)) in
-    let row = c.in_ok-expand.ensures.listed in
-    let start = rw c.in-Some.is at c.first_below.ensures in
-    let found = g.G.NumberedGraph.found c.args.graph.now in
-    let has : Contains row.0 (c.in-Some.start, start.1.0) = subst (λ (xs : List (ℕ × g.row.C.Denot)). Contains xs (c.in-Some.start, start.1.0)) (c.deref.ensures.value ∙ row.1) start.1.1 in
-    subst (IsBestNumberedLoop step (StandsBelow found (g.G.NumberedGraph.stands c.args.graph.now)) (g.G.NumberedGraph.stands c.expand.new.self)) (sym c.in_ok-push.ensures.items)
-    (best_loop by_depth step (hop_positive step p) found _ _ (g.G.NumberedGraph.stands c.args.graph.now) (g.G.NumberedGraph.stands c.nodes.graph) (g.G.NumberedGraph.stands c.expand.new.self) v.grown c.in_ok-expand.ensures.grows c.nodes.labels.items (v.search h x p) v.tree (v.failed h x)
-    c.nodes.node l.0 (hop_least c.nodes.node c.nodes.labels.items v.breadth l.0 l.1) g.C.Number.value row.0 (row.4 h (v.explored h x)) c.in-Some.start (subst (λ (n : ℕ). c.in-Some.start < n) v.first start.0) start.1.0 has
-    c.in_ok-numbers.numbers.items (rw c.deref-in-Some.ensures.value at c.in_ok-numbers.ensures.chain))
-
-pub returns-in-Some-clause-errors : goal.returns-in-Some-clause-errors
-returns-in-Some-clause-errors g c = tt
+pub returns-in-Some : goal.returns-in-Some
+returns-in-Some g c = record {
+  graph = λ h x. c.in_ok-expand.ensures.graph h (c.nodes.invariant.explored h x);
+  inside = λ k h.
+      let v = c.nodes.invariant in
+      let start = rw c.in-Some.is at c.first_below.ensures in
+      let more = c.in_ok-expand.ensures.grows.more in
+      elim (Contains-append_one c.in_ok-numbers.numbers.items c.in-Some.start k (subst (λ (xs : List ℕ). Contains xs k) c.in_ok-push.ensures.items h)) as (λ _. k < g.G.NumberedGraph.found c.expand.new.self) [
+        | inl b ↦ let low = subst (λ (n : ℕ). k < n) (ap length c.deref-in-Some.ensures.value ∙ v.len) (c.in_ok-numbers.ensures.inside k b) in omega (arith, low, more)
+        | inr e ↦ let low = start.0 in omega (arith, low, e, v.first, v.grown.more, more)
+      ];
+  best = λ h x p.
+      let v = c.nodes.invariant in
+      let step = g.G.NumberedGraph.step h in
+      let l = v.breadth.full c.nodes.node (omega (arith, c.nodes-test.true, c.len.ensures)) in
+      let row = c.in_ok-expand.ensures.listed in
+      let start = rw c.in-Some.is at c.first_below.ensures in
+      let found = g.G.NumberedGraph.found c.args.graph.now in
+      let has : Contains row.0 (c.in-Some.start, start.1.0) = subst (λ (xs : List (ℕ × g.row.C.Denot)). Contains xs (c.in-Some.start, start.1.0)) (c.deref.ensures.value ∙ row.1) start.1.1 in
+      subst (IsBestNumberedLoop step (StandsBelow found (g.G.NumberedGraph.stands c.args.graph.now)) (g.G.NumberedGraph.stands c.expand.new.self)) (sym c.in_ok-push.ensures.items)
+      (best_loop by_depth step (hop_positive step p) found _ _ (g.G.NumberedGraph.stands c.args.graph.now) (g.G.NumberedGraph.stands c.nodes.graph) (g.G.NumberedGraph.stands c.expand.new.self) v.grown c.in_ok-expand.ensures.grows c.nodes.labels.items (v.search h x p) v.tree (v.failed h x)
+      c.nodes.node l.0 (hop_least c.nodes.node c.nodes.labels.items v.breadth l.0 l.1) g.C.Number.value row.0 (row.4 h (v.explored h x)) c.in-Some.start (subst (λ (n : ℕ). c.in-Some.start < n) v.first start.0) start.1.0 has
+      c.in_ok-numbers.numbers.items (rw c.deref-in-Some.ensures.value at c.in_ok-numbers.ensures.chain));
+  errors = tt;
+}
 
 pub settle-depth-requires : goal.settle-depth-requires
 settle-depth-requires g c = c.nodes.invariant.breadth.full c.nodes.node (omega (arith, c.nodes-test.true, c.len.ensures))
@@ -136,17 +116,13 @@ fill-requires-in-nodes g c =
     settled_fit c.nodes.node c.nodes.labels.items c.settle-depth.new.labels.items c.settle-depth.result c.found.result (g.G.NumberedGraph.found c.nodes.graph) (g.G.NumberedGraph.found c.expand.new.self)
     v.breadth (omega (arith, c.nodes-test.true, c.len.ensures)) v.len c.settle-depth.ensures c.found.ensures c.in_ok-expand.ensures.grows.more
 
-pub returns-in_err-fill-2-clause-graph : goal.returns-in_err-fill-2-clause-graph
-returns-in_err-fill-2-clause-graph g c = λ h x. c.in_ok-expand.ensures.graph h (c.nodes.invariant.explored h x)
-
-pub returns-in_err-fill-2-clause-inside : goal.returns-in_err-fill-2-clause-inside
-returns-in_err-fill-2-clause-inside g c = IfOk-from_err c.from_residual-in_err-fill-2.result _ c.from_residual-in_err-fill-2.ensures.0
-
-pub returns-in_err-fill-2-clause-best : goal.returns-in_err-fill-2-clause-best
-returns-in_err-fill-2-clause-best g c = λ h x p. IfOk-from_err c.from_residual-in_err-fill-2.result _ c.from_residual-in_err-fill-2.ensures.0
-
-pub returns-in_err-fill-2-clause-errors : goal.returns-in_err-fill-2-clause-errors
-returns-in_err-fill-2-clause-errors g c = refused_as (λ e. e ≡ OutOfMemory) c.from_residual-in_err-fill-2.result c.in_err-fill-2.field-0.0 c.from_residual-in_err-fill-2.ensures.1 c.in_err-fill-2.ensures.refused
+pub returns-in_err-fill-2 : goal.returns-in_err-fill-2
+returns-in_err-fill-2 g c = record {
+  graph = λ h x. c.in_ok-expand.ensures.graph h (c.nodes.invariant.explored h x);
+  inside = IfOk-from_err c.from_residual-in_err-fill-2.result _ c.from_residual-in_err-fill-2.ensures.0;
+  best = λ h x p. IfOk-from_err c.from_residual-in_err-fill-2.result _ c.from_residual-in_err-fill-2.ensures.0;
+  errors = refused_as (λ e. e ≡ OutOfMemory) c.from_residual-in_err-fill-2.result c.in_err-fill-2.field-0.0 c.from_residual-in_err-fill-2.ensures.1 c.in_err-fill-2.ensures.refused;
+}
 
 pub overflow_add-node : goal.overflow_add-node
 overflow_add-node g c = omega (arith, c.nodes-test.true, c.len.ensures, c.nodes.invariant.few)
@@ -194,19 +170,15 @@ nodes-preserved g c =
         v.breadth (omega (arith, c.nodes-test.true, c.len.ensures)) v.len c.settle-depth.ensures c.found.ensures c.in_ok-expand.ensures.grows.more
         g.G.NumberedGraph.Node c.fill-in-nodes.new.labels.items c.behind.result c.behind.ensures c.in_ok-fill-2.ensures.filled c.in_ok-fill-2.ensures.few v.tree row.0 row.3
 
-pub returns-clause-graph : goal.returns-clause-graph
-returns-clause-graph g c = λ h x. c.nodes.invariant.explored h x
-
-pub returns-clause-inside : goal.returns-clause-inside
-returns-clause-inside g c = tt
-
-pub returns-clause-best : goal.returns-clause-best
-returns-clause-best g c = λ h x p s is.
-    let v = c.nodes.invariant in
-    let root = roots_below _ _ _ _ v.grown in
-    property_nowhere by_depth (g.G.NumberedGraph.step h) (below (g.G.NumberedGraph.found c.args.graph.now)) (hop_positive (g.G.NumberedGraph.step h) p) _ _ (v.search h x p)
-    (Closes (g.G.NumberedGraph.step h) (StandsBelow (g.G.NumberedGraph.found c.args.graph.now) (g.G.NumberedGraph.stands c.args.graph.now))) (v.failed h x)
-    (breadth_done c.nodes.node _ v.breadth (omega (arith, c.nodes-test.false, c.len.ensures))) s ((root s).1 is)
-
-pub returns-clause-errors : goal.returns-clause-errors
-returns-clause-errors g c = tt
+pub returns : goal.returns
+returns g c = record {
+  graph = λ h x. c.nodes.invariant.explored h x;
+  inside = tt;
+  best = λ h x p s is.
+      let v = c.nodes.invariant in
+      let root = roots_below _ _ _ _ v.grown in
+      property_nowhere by_depth (g.G.NumberedGraph.step h) (below (g.G.NumberedGraph.found c.args.graph.now)) (hop_positive (g.G.NumberedGraph.step h) p) _ _ (v.search h x p)
+      (Closes (g.G.NumberedGraph.step h) (StandsBelow (g.G.NumberedGraph.found c.args.graph.now) (g.G.NumberedGraph.stands c.args.graph.now))) (v.failed h x)
+      (breadth_done c.nodes.node _ v.breadth (omega (arith, c.nodes-test.false, c.len.ensures))) s ((root s).1 is);
+  errors = tt;
+}

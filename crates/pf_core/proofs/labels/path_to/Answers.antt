@@ -36,33 +36,19 @@ climb-preserved g c =
           (r.0, ap (λ xs. xs ++ above) e ∙ append_assoc c.climb.numbers.items (c.in-Some.parent ∷ []) above ∙ r.1, r.2);
     }
 
-pub returns-clause-chain : goal.returns-clause-chain
-returns-clause-chain g c =
-    let i = c.climb.invariant in
-    let m = i.labelled in
-    let r = i.climbs [] (m.0, m.1, c.in_default.ensures m.0 m.1) in
-    record { above = r.0; climbs = r.2; is = c.reverse.ensures.items ∙ ap reverse (sym (append-nil c.climb.numbers.items) ∙ r.1) }
+pub returns-in_err-push : goal.returns-in_err-push
+returns-in_err-push g c = record {
+  chain = IfOk-from_err _ _ c.from_residual.ensures.0;
+  inside = IfOk-from_err _ _ c.from_residual.ensures.0;
+  refused = no_memory c.from_residual.result c.from_residual.ensures.1;
+}
 
-pub returns-clause-inside : goal.returns-clause-inside
-returns-clause-inside g c = λ k h. c.climb.invariant.inside k (Contains-reverse c.climb.numbers.items k (subst (λ xs. Contains xs k) c.reverse.ensures.items h))
-
-pub returns-in_err-push-clause-chain : goal.returns-in_err-push-clause-chain
-returns-in_err-push-clause-chain g c = IfOk-from_err _ _ c.from_residual.ensures.0
-
-pub returns-in_err-push-clause-inside : goal.returns-in_err-push-clause-inside
-returns-in_err-push-clause-inside g c = IfOk-from_err _ _ c.from_residual.ensures.0
-
-pub returns-in_err-push-clause-refused : goal.returns-in_err-push-clause-refused
-returns-in_err-push-clause-refused g c = no_memory c.from_residual.result c.from_residual.ensures.1
-
-pub returns-in_err-push-2-clause-chain : goal.returns-in_err-push-2-clause-chain
-returns-in_err-push-2-clause-chain g c = IfOk-from_err _ _ c.from_residual-in_err-push-2.ensures.0
-
-pub returns-in_err-push-2-clause-inside : goal.returns-in_err-push-2-clause-inside
-returns-in_err-push-2-clause-inside g c = IfOk-from_err _ _ c.from_residual-in_err-push-2.ensures.0
-
-pub returns-in_err-push-2-clause-refused : goal.returns-in_err-push-2-clause-refused
-returns-in_err-push-2-clause-refused g c = no_memory c.from_residual-in_err-push-2.result c.from_residual-in_err-push-2.ensures.1
+pub returns-in_err-push-2 : goal.returns-in_err-push-2
+returns-in_err-push-2 g c = record {
+  chain = IfOk-from_err _ _ c.from_residual-in_err-push-2.ensures.0;
+  inside = IfOk-from_err _ _ c.from_residual-in_err-push-2.ensures.0;
+  refused = no_memory c.from_residual-in_err-push-2.result c.from_residual-in_err-push-2.ensures.1;
+}
 
 pub parent_of-requires : goal.parent_of-requires
 parent_of-requires g c = let m = c.climb.invariant.labelled in HasLabel-inside c.args.labels.now c.climb.at m.0 m.1
@@ -70,5 +56,13 @@ parent_of-requires g c = let m = c.climb.invariant.labelled in HasLabel-inside c
 pub climb-smaller : goal.climb-smaller
 climb-smaller g c = let p = c.in-Some.ensures in shallower c.args.labels.now c.requires.tree c.climb.at c.in-Some.parent p.0 p.1 p.2 p.3
 
-pub returns-clause-refused : goal.returns-clause-refused
-returns-clause-refused g c = tt
+pub returns : goal.returns
+returns g c = record {
+  chain =
+      let i = c.climb.invariant in
+      let m = i.labelled in
+      let r = i.climbs [] (m.0, m.1, c.in_default.ensures m.0 m.1) in
+      record { above = r.0; climbs = r.2; is = c.reverse.ensures.items ∙ ap reverse (sym (append-nil c.climb.numbers.items) ∙ r.1) };
+  inside = λ k h. c.climb.invariant.inside k (Contains-reverse c.climb.numbers.items k (subst (λ xs. Contains xs k) c.reverse.ensures.items h));
+  refused = tt;
+}

@@ -20,9 +20,6 @@ steps-preserved g c =
       reached = reached_more (by_cost g.C.Number.value) g.C.Number.value g.C.Number.fits c.args.parent c.args.label.now c.args.row.now c.steps.next-index c.steps-item.result c.steps-item.is c.steps-test.true _ _ e.stepped c.steps.invariant.reached;
     }
 
-pub returns-clause-reached : goal.returns-clause-reached
-returns-clause-reached g c = λ j p h f. c.steps.invariant.reached j p (Contains-take_all _ _ _ c.steps-test.false h) f
-
 pub take_step-requires-clause-room : goal.take_step-requires-clause-room
 take_step-requires-clause-room g c = omega (arith, c.steps.invariant.room, c.steps-test.true)
 
@@ -50,11 +47,10 @@ take_step-requires-clause-queue g c = c.steps.invariant.queue
 pub steps-smaller : goal.steps-smaller
 steps-smaller g c = nearer c.steps.next-index (length c.args.row.now) c.steps-test.true
 
-pub returns-clause-ordered : goal.returns-clause-ordered
-returns-clause-ordered g c = c.steps.invariant.ordered
-
-pub returns-clause-queue : goal.returns-clause-queue
-returns-clause-queue g c = c.steps.invariant.queue
-
-pub returns-clause-relaxed : goal.returns-clause-relaxed
-returns-clause-relaxed g c = subst (λ (row : List (ℕ × g.row.C.Denot)). Relaxed (by_cost g.C.Number.value) g.C.Number.value c.args.parent c.args.label.now row c.args.labels.now.items c.steps.labels.items) (take_all c.steps.next-index c.args.row.now c.steps-test.false) c.steps.invariant.relaxed
+pub returns : goal.returns
+returns g c = record {
+  reached = λ j p h f. c.steps.invariant.reached j p (Contains-take_all _ _ _ c.steps-test.false h) f;
+  ordered = c.steps.invariant.ordered;
+  queue = c.steps.invariant.queue;
+  relaxed = subst (λ (row : List (ℕ × g.row.C.Denot)). Relaxed (by_cost g.C.Number.value) g.C.Number.value c.args.parent c.args.label.now row c.args.labels.now.items c.steps.labels.items) (take_all c.steps.next-index c.args.row.now c.steps-test.false) c.steps.invariant.relaxed;
+}

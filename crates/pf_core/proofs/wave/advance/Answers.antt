@@ -32,59 +32,35 @@ visit-requires-clause-wave g c = c.level.invariant.wave
 pub visit-requires-clause-left : goal.visit-requires-clause-left
 visit-requires-clause-left g c = omega (arith, c.level-test.true, c.level.invariant.within)
 
-pub returns-in_err-visit-clause-graph : goal.returns-in_err-visit-clause-graph
-returns-in_err-visit-clause-graph g c = λ h x. c.in_err-visit.ensures.graph h (c.level.invariant.explored h x)
+pub returns-in_err-visit : goal.returns-in_err-visit
+returns-in_err-visit g c = record {
+  graph = λ h x. c.in_err-visit.ensures.graph h (c.level.invariant.explored h x);
+  grows = Grows-trans _ _ _ _ _ _ c.level.invariant.grown c.in_err-visit.ensures.grows;
+  other = (c.in_err-visit.ensures.other.0 ∙ c.level.invariant.other.0, λ k x. (λ t. (c.level.invariant.other.1 k x).0 ((c.in_err-visit.ensures.other.1 k x).0 t), λ t. (c.in_err-visit.ensures.other.1 k x).1 ((c.level.invariant.other.1 k x).1 t)));
+  wave = on_refused _ c.from_residual.result c.in_err-visit.field-0.0 c.from_residual.ensures.1;
+  search = on_refused _ c.from_residual.result c.in_err-visit.field-0.0 c.from_residual.ensures.1;
+  level = IfOk-from_err c.from_residual.result _ c.from_residual.ensures.0;
+  layered = on_refused _ c.from_residual.result c.in_err-visit.field-0.0 c.from_residual.ensures.1;
+  errors = refused_as (λ e. e ≡ OutOfMemory) c.from_residual.result c.in_err-visit.field-0.0 c.from_residual.ensures.1 c.in_err-visit.ensures.errors;
+}
 
-pub returns-in_err-visit-clause-grows : goal.returns-in_err-visit-clause-grows
-returns-in_err-visit-clause-grows g c = Grows-trans _ _ _ _ _ _ c.level.invariant.grown c.in_err-visit.ensures.grows
-
-pub returns-in_err-visit-clause-other : goal.returns-in_err-visit-clause-other
-returns-in_err-visit-clause-other g c = (c.in_err-visit.ensures.other.0 ∙ c.level.invariant.other.0, λ k x. (λ t. (c.level.invariant.other.1 k x).0 ((c.in_err-visit.ensures.other.1 k x).0 t), λ t. (c.in_err-visit.ensures.other.1 k x).1 ((c.level.invariant.other.1 k x).1 t)))
-
-pub returns-in_err-visit-clause-wave : goal.returns-in_err-visit-clause-wave
-returns-in_err-visit-clause-wave g c = on_refused _ c.from_residual.result c.in_err-visit.field-0.0 c.from_residual.ensures.1
-
-pub returns-in_err-visit-clause-search : goal.returns-in_err-visit-clause-search
-returns-in_err-visit-clause-search g c = on_refused _ c.from_residual.result c.in_err-visit.field-0.0 c.from_residual.ensures.1
-
-pub returns-in_err-visit-clause-level : goal.returns-in_err-visit-clause-level
-returns-in_err-visit-clause-level g c = IfOk-from_err c.from_residual.result _ c.from_residual.ensures.0
-
-pub returns-in_err-visit-clause-layered : goal.returns-in_err-visit-clause-layered
-returns-in_err-visit-clause-layered g c = on_refused _ c.from_residual.result c.in_err-visit.field-0.0 c.from_residual.ensures.1
-
-pub returns-in_err-visit-clause-errors : goal.returns-in_err-visit-clause-errors
-returns-in_err-visit-clause-errors g c = refused_as (λ e. e ≡ OutOfMemory) c.from_residual.result c.in_err-visit.field-0.0 c.from_residual.ensures.1 c.in_err-visit.ensures.errors
-
-pub returns-in-Some-clause-graph : goal.returns-in-Some-clause-graph
-returns-in-Some-clause-graph g c = λ h x. c.in_ok-visit.ensures.graph h (c.level.invariant.explored h x)
-
-pub returns-in-Some-clause-grows : goal.returns-in-Some-clause-grows
-returns-in-Some-clause-grows g c = Grows-trans _ _ _ _ _ _ c.level.invariant.grown c.in_ok-visit.ensures.grows
-
-pub returns-in-Some-clause-other : goal.returns-in-Some-clause-other
-returns-in-Some-clause-other g c = (c.in_ok-visit.ensures.other.0 ∙ c.level.invariant.other.0, λ k x. (λ t. (c.level.invariant.other.1 k x).0 ((c.in_ok-visit.ensures.other.1 k x).0 t), λ t. (c.in_ok-visit.ensures.other.1 k x).1 ((c.level.invariant.other.1 k x).1 t)))
-
-pub returns-in-Some-clause-wave : goal.returns-in-Some-clause-wave
-returns-in-Some-clause-wave g c = c.in_ok-visit.ensures.wave
-
-pub returns-in-Some-clause-search : goal.returns-in-Some-clause-search
-returns-in-Some-clause-search g c = λ h x hop root s. c.in_ok-visit.ensures.search h (c.level.invariant.explored h x) hop root (c.level.invariant.search h x hop root s)
-
-pub returns-in-Some-clause-level : goal.returns-in-Some-clause-level
-returns-in-Some-clause-level g c =
-    let v = c.level.invariant in
-    let e = c.in_ok-visit.ensures in
-    let met = rw c.in-Some.is at c.first_meeting.ensures.met in
-    (met.0, subst (λ (n : ℕ). c.in-Some.meeting.across < n) (e.other.0 ∙ v.other.0) met.1, λ x t. (v.other.1 c.in-Some.meeting.across x).0 ((e.other.1 c.in-Some.meeting.across x).0 (met.2 x t)))
-
-pub returns-in-Some-clause-layered : goal.returns-in-Some-clause-layered
-returns-in-Some-clause-layered g c = λ depth y.
-    let v = c.level.invariant in
-    c.in_ok-visit.ensures.layered (length c.args.wave.now.labels.items) depth (omega (arith, c.level-test.true, v.size)) (omega (arith, v.within, v.size)) (v.layered depth y)
-
-pub returns-in-Some-clause-errors : goal.returns-in-Some-clause-errors
-returns-in-Some-clause-errors g c = tt
+pub returns-in-Some : goal.returns-in-Some
+returns-in-Some g c = record {
+  graph = λ h x. c.in_ok-visit.ensures.graph h (c.level.invariant.explored h x);
+  grows = Grows-trans _ _ _ _ _ _ c.level.invariant.grown c.in_ok-visit.ensures.grows;
+  other = (c.in_ok-visit.ensures.other.0 ∙ c.level.invariant.other.0, λ k x. (λ t. (c.level.invariant.other.1 k x).0 ((c.in_ok-visit.ensures.other.1 k x).0 t), λ t. (c.in_ok-visit.ensures.other.1 k x).1 ((c.level.invariant.other.1 k x).1 t)));
+  wave = c.in_ok-visit.ensures.wave;
+  search = λ h x hop root s. c.in_ok-visit.ensures.search h (c.level.invariant.explored h x) hop root (c.level.invariant.search h x hop root s);
+  level =
+      let v = c.level.invariant in
+      let e = c.in_ok-visit.ensures in
+      let met = rw c.in-Some.is at c.first_meeting.ensures.met in
+      (met.0, subst (λ (n : ℕ). c.in-Some.meeting.across < n) (e.other.0 ∙ v.other.0) met.1, λ x t. (v.other.1 c.in-Some.meeting.across x).0 ((e.other.1 c.in-Some.meeting.across x).0 (met.2 x t)));
+  layered = λ depth y.
+      let v = c.level.invariant in
+      c.in_ok-visit.ensures.layered (length c.args.wave.now.labels.items) depth (omega (arith, c.level-test.true, v.size)) (omega (arith, v.within, v.size)) (v.layered depth y);
+  errors = tt;
+}
 
 pub level-smaller : goal.level-smaller
 level-smaller g c = visits_fewer c.len-level.result c.level.wave.next c.visit.new.wave.next c.level-test.true c.in_ok-visit.ensures.next
@@ -111,26 +87,14 @@ level-preserved g c =
       ];
     }
 
-pub returns-clause-graph : goal.returns-clause-graph
-returns-clause-graph g c = c.level.invariant.explored
-
-pub returns-clause-grows : goal.returns-clause-grows
-returns-clause-grows g c = c.level.invariant.grown
-
-pub returns-clause-other : goal.returns-clause-other
-returns-clause-other g c = c.level.invariant.other
-
-pub returns-clause-wave : goal.returns-clause-wave
-returns-clause-wave g c = c.level.invariant.wave
-
-pub returns-clause-search : goal.returns-clause-search
-returns-clause-search g c = c.level.invariant.search
-
-pub returns-clause-level : goal.returns-clause-level
-returns-clause-level g c = (omega (arith, c.level-test.false, c.level.invariant.up_to, c.level.invariant.size), c.level.invariant.apart)
-
-pub returns-clause-layered : goal.returns-clause-layered
-returns-clause-layered g c = c.level.invariant.layered
-
-pub returns-clause-errors : goal.returns-clause-errors
-returns-clause-errors g c = tt
+pub returns : goal.returns
+returns g c = record {
+  graph = c.level.invariant.explored;
+  grows = c.level.invariant.grown;
+  other = c.level.invariant.other;
+  wave = c.level.invariant.wave;
+  search = c.level.invariant.search;
+  level = (omega (arith, c.level-test.false, c.level.invariant.up_to, c.level.invariant.size), c.level.invariant.apart);
+  layered = c.level.invariant.layered;
+  errors = tt;
+}

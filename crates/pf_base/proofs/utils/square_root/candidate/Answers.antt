@@ -70,18 +70,13 @@ steps-preserved g c =
       above = λ r e. middle_above _ _ _ _ r i.divides c.middle-root.ensures.middle i.positive e (i.above r e);
     }
 
-pub returns-clause-below : goal.returns-clause-below
-returns-clause-below g c =
+pub returns : goal.returns
+returns g c =
     let low = g.met.T.Unsigned.unsigned_law in
     let order = g.met.T.Number.order_law c.steps.quotient c.steps.root g.met.T.Integral.exact_law in
     let more = (order_means _ _ _ c.lt.result (low c.steps.quotient) (low c.steps.root) order c.lt.ensures).1 c.steps-test.false in
     let i = c.steps.invariant in
-    last_below _ _ _ i.divides i.positive more
-
-pub returns-clause-only : goal.returns-clause-only
-returns-clause-only g c =
-    let low = g.met.T.Unsigned.unsigned_law in
-    let order = g.met.T.Number.order_law c.steps.quotient c.steps.root g.met.T.Integral.exact_law in
-    let more = (order_means _ _ _ c.lt.result (low c.steps.quotient) (low c.steps.root) order c.lt.ensures).1 c.steps-test.false in
-    let i = c.steps.invariant in
-    λ r e. last_only _ _ r (last_below _ _ _ i.divides i.positive more) e (i.above r e)
+    record {
+      below = last_below _ _ _ i.divides i.positive more;
+      only = λ r e. last_only _ _ r (last_below _ _ _ i.divides i.positive more) e (i.above r e);
+    }

@@ -20,8 +20,8 @@ add-requires g c = g.met.T.Zero.can_add_law _ _ (λ exact.
     let o = c.requires.order in
     subst g.T.Number.fits (sym sum) (fits_below g.T.Number.fits (λ x y z. g.T.Number.between_law x y z exact) (g.met.T.FixedWidth.small_fits_law 0 (omega arith)) _ c.requires.in_range (low c.args.high) _ (omega arith)))
 
-pub returns-clause-middle : goal.returns-clause-middle
-returns-clause-middle g c =
+pub returns : goal.returns
+returns g c =
     let exact = g.met.T.Integral.exact_law in
     let low = g.met.T.Unsigned.unsigned_law in
     let less = difference_fits _ _ (low c.args.low) (low c.args.high) c.requires.order in
@@ -29,15 +29,7 @@ returns-clause-middle g c =
     let sum = middle_is _ _ _ _ (low c.args.low) (low c.args.high) c.requires.order difference (g.met.T.PrimInt.shr_law _ _ _ c.shr.ensures) in
     let o = c.requires.order in
     let fits = subst g.T.Number.fits (sym sum) (fits_below g.T.Number.fits (λ x y z. g.T.Number.between_law x y z exact) (g.met.T.FixedWidth.small_fits_law 0 (omega arith)) _ c.requires.in_range (low c.args.high) _ (omega arith)) in
-    ap unsigned_abs (g.met.T.Zero.add_law _ _ _ c.add.ensures exact fits ∙ sum)
-
-pub returns-clause-in_range : goal.returns-clause-in_range
-returns-clause-in_range g c =
-    let exact = g.met.T.Integral.exact_law in
-    let low = g.met.T.Unsigned.unsigned_law in
-    let less = difference_fits _ _ (low c.args.low) (low c.args.high) c.requires.order in
-    let difference = g.met.T.Num.sub_law _ _ _ c.sub.ensures exact (g.met.T.Num.sub_fits_law _ _ exact c.requires.in_range (low c.args.low) less) in
-    let sum = middle_is _ _ _ _ (low c.args.low) (low c.args.high) c.requires.order difference (g.met.T.PrimInt.shr_law _ _ _ c.shr.ensures) in
-    let o = c.requires.order in
-    let fits = subst g.T.Number.fits (sym sum) (fits_below g.T.Number.fits (λ x y z. g.T.Number.between_law x y z exact) (g.met.T.FixedWidth.small_fits_law 0 (omega arith)) _ c.requires.in_range (low c.args.high) _ (omega arith)) in
-    subst g.T.Number.fits (sym (g.met.T.Zero.add_law _ _ _ c.add.ensures exact fits)) fits
+    record {
+      middle = ap unsigned_abs (g.met.T.Zero.add_law _ _ _ c.add.ensures exact fits ∙ sum);
+      in_range = subst g.T.Number.fits (sym (g.met.T.Zero.add_law _ _ _ c.add.ensures exact fits)) fits;
+    }

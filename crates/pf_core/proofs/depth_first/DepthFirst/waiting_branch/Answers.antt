@@ -7,25 +7,19 @@ use Rattle.pf_core.proofs.depth_first.DepthFirst.waiting_branch.Goals as goal
 pub branches-init : goal.branches-init
 branches-init g c = record { given = refl; visited = refl; path = refl; dropped = ([], sym (append-nil _), tt) }
 
-pub returns-then-not-is_visited-clause-given : goal.returns-then-not-is_visited-clause-given
-returns-then-not-is_visited-clause-given g c = c.branches.invariant.given
-
-pub returns-then-not-is_visited-clause-visited : goal.returns-then-not-is_visited-clause-visited
-returns-then-not-is_visited-clause-visited g c = c.branches.invariant.visited
-
-pub returns-then-not-is_visited-clause-path : goal.returns-then-not-is_visited-clause-path
-returns-then-not-is_visited-clause-path g c = c.branches.invariant.path
-
-pub returns-then-not-is_visited-clause-dropped : goal.returns-then-not-is_visited-clause-dropped
-returns-then-not-is_visited-clause-dropped g c = c.branches.invariant.dropped
-
-pub returns-then-not-is_visited-clause-next : goal.returns-then-not-is_visited-clause-next
-returns-then-not-is_visited-clause-next g c =
-    let n = c.in-Some.branch.now.number in (
-      _,
-      last_split c.branches.self.waiting.items c.deref.result.now c.in-Some.branch.now c.deref.ensures.value c.in-Some.ensures.value,
-      λ v. true≢false (sym (c.is_visited.ensures.1 (subst (λ (vs : List Bool). IsVisited vs n) (sym c.branches.invariant.visited) v)) ∙ c.if-not-is_visited.true),
-    )
+pub returns-then-not-is_visited : goal.returns-then-not-is_visited
+returns-then-not-is_visited g c = record {
+  given = c.branches.invariant.given;
+  visited = c.branches.invariant.visited;
+  path = c.branches.invariant.path;
+  dropped = c.branches.invariant.dropped;
+  next =
+      let n = c.in-Some.branch.now.number in (
+        _,
+        last_split c.branches.self.waiting.items c.deref.result.now c.in-Some.branch.now c.deref.ensures.value c.in-Some.ensures.value,
+        λ v. true≢false (sym (c.is_visited.ensures.1 (subst (λ (vs : List Bool). IsVisited vs n) (sym c.branches.invariant.visited) v)) ∙ c.if-not-is_visited.true),
+      );
+}
 
 pub branches-smaller : goal.branches-smaller
 branches-smaller g c = taken_shorter c.branches.self.waiting.items c.deref.result.now c.in-Some.branch.now c.deref.ensures.value c.in-Some.ensures.value c.branches.self.waiting.len c.pop.new.self.items c.branches.self.waiting.ok.0 c.pop.ensures.rest
@@ -45,17 +39,11 @@ branches-preserved g c =
       );
     }
 
-pub returns-clause-given : goal.returns-clause-given
-returns-clause-given g c = c.branches.invariant.given
-
-pub returns-clause-visited : goal.returns-clause-visited
-returns-clause-visited g c = c.branches.invariant.visited
-
-pub returns-clause-path : goal.returns-clause-path
-returns-clause-path g c = c.branches.invariant.path
-
-pub returns-clause-dropped : goal.returns-clause-dropped
-returns-clause-dropped g c = c.branches.invariant.dropped
-
-pub returns-clause-next : goal.returns-clause-next
-returns-clause-next g c = none_last c.branches.self.waiting.items c.deref.result.now c.deref.ensures.value c.in_default.ensures.value
+pub returns : goal.returns
+returns g c = record {
+  given = c.branches.invariant.given;
+  visited = c.branches.invariant.visited;
+  path = c.branches.invariant.path;
+  dropped = c.branches.invariant.dropped;
+  next = none_last c.branches.self.waiting.items c.deref.result.now c.deref.ensures.value c.in_default.ensures.value;
+}

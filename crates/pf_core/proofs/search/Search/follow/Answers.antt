@@ -11,16 +11,6 @@ use Rattle.pf_core.proofs.Outcomes.{on_err, refused_as, no_memory_or, memory_no_
 use Rattle.pf_core.proofs.ReadLemmas.{within_found, same_row, IsSound-still, IsHeap-still}
 use Rattle.pf_core.proofs.search.Search.follow.Goals as goal
 
-pub returns-then-not-sums_fit-clause-overflow : goal.returns-then-not-sums_fit-clause-overflow
-returns-then-not-sums_fit-clause-overflow g c = λ e l h.
-    let o = rw c.deref.ensures.value at c.if-not-sums_fit.ensures.reached in
-    let row = same_row _ _ _ c.deref_mut.ensures.value c.sums_fit.ensures.same in
-    let same : c.label_of-label.result ≡ l = label_is c.args.self.now.labels.items c.args.number c.label_of-label.result l c.label_of-label.ensures h in
-    (o.0, o.1, (row (o.0, o.1)).0 o.2, o.3, λ d k. subst (λ (n : Label g.row.C.Denot). ¬ (g.C.Number.fits (g.C.Number.value n.cost +ℤ g.C.Number.value d))) same (o.4 d ((row (o.0, d)).1 k)))
-
-pub returns-in_err-widen-clause-sound : goal.returns-in_err-widen-clause-sound
-returns-in_err-widen-clause-sound g c = IsSound-still g.C.Ord.cmp g.C.Number.value _ _ _ _ c.in_err-widen.ensures.kept c.in_ok-reserve.ensures.items c.requires.sound
-
 pub settle-requires : goal.settle-requires
 settle-requires g c = (c.label_of-label.result, c.in_ok-widen.ensures.widened.stays c.args.number c.label_of-label.result c.label_of-label.ensures)
 
@@ -58,105 +48,79 @@ relax-requires-clause-queue g c =
     let is = c.settle.ensures l (w.stays c.args.number l c.label_of-label.ensures) in
     subst (IsQueue g.C.Number.value c.settle.new.labels.items) (sym c.in_ok-reserve.ensures.items) (queue_settled g.C.Number.value c.args.number l c.args.self.now.labels.items _ _ z c.args.found w is _ c.requires.sound.queue)
 
-pub returns-clause-sound : goal.returns-clause-sound
-returns-clause-sound g c =
-    let l = c.label_of-label.result in
-    let w = c.in_ok-widen.ensures.widened in
-    let z = least_is (by_cost g.C.Number.value) c.args.self.now.labels.items c.args.number c.requires.least.0 l c.requires.least.1 c.label_of-label.ensures in
-    let is = c.settle.ensures l (w.stays c.args.number l c.label_of-label.ensures) in
-    let whole : c.deref-2.result.now ≡ c.sums_fit.new.row = c.deref-2.ensures.value ∙ take_at c.sums_fit.new.row _ _ (c.sums_fit.ensures.len ∙ c.deref_mut.ensures.len) in
-    let ends = rw c.deref.ensures.value at c.if-not-sums_fit.ensures.reached in
-    let f = follows g.C.Number.value c.args.number l c.args.self.now.labels.items _ _ z c.args.found w is g.C.Number.fits c.sums_fit.new.row _ (rw whole at c.relax.ensures.relaxed) (rw whole at c.relax.ensures.reached) ends c.known.ensures in
-    record {
-      tree = tree_followed g.C.Number.value g.C.Number.fits (λ x y v. g.C.Number.between_law x y v g.met.C.Integral.exact_law) c.args.found c.args.number l c.sums_fit.new.row _ _ f c.requires.sound.tree;
-      ordered = c.relax.ensures.ordered;
-      queue = c.relax.ensures.queue;
-    }
-
-pub returns-clause-wide : goal.returns-clause-wide
-returns-clause-wide g c =
-    let l = c.label_of-label.result in
-    let w = c.in_ok-widen.ensures.widened in
-    let z = least_is (by_cost g.C.Number.value) c.args.self.now.labels.items c.args.number c.requires.least.0 l c.requires.least.1 c.label_of-label.ensures in
-    let is = c.settle.ensures l (w.stays c.args.number l c.label_of-label.ensures) in
-    c.relax.ensures.relaxed.len ∙ len_settled g.C.Number.value c.args.number l c.args.self.now.labels.items _ _ z c.args.found w is
-
-pub returns-clause-followed : goal.returns-clause-followed
-returns-clause-followed g c = λ m h.
-    let l = c.label_of-label.result in
-    let labels = c.args.self.now.labels.items in
-    let w = c.in_ok-widen.ensures.widened in
-    let z = least_is (by_cost g.C.Number.value) labels c.args.number c.requires.least.0 l c.requires.least.1 c.label_of-label.ensures in
-    let is = c.settle.ensures l (w.stays c.args.number l c.label_of-label.ensures) in
-    let row = same_row _ _ _ c.deref_mut.ensures.value c.sums_fit.ensures.same in
-    let whole : c.deref-2.result.now ≡ c.sums_fit.new.row = c.deref-2.ensures.value ∙ take_at c.sums_fit.new.row _ _ (c.sums_fit.ensures.len ∙ c.deref_mut.ensures.len) in
-    let ends = rw c.deref.ensures.value at c.if-not-sums_fit.ensures.reached in
-    let f = follows g.C.Number.value c.args.number l labels _ _ z c.args.found w is g.C.Number.fits c.sums_fit.new.row _ (rw whole at c.relax.ensures.relaxed) (rw whole at c.relax.ensures.reached) ends c.known.ensures in
-    subst (λ (n : Label g.row.C.Denot). Follows g.C.Number.value g.C.Number.fits c.args.found c.args.number n c.args.self.now.row.items labels c.relax.new.labels.items) (label_is labels c.args.number l m c.label_of-label.ensures h)
-    (follows_row g.C.Number.value g.C.Number.fits c.args.found c.args.number l c.sums_fit.new.row c.args.self.now.row.items row labels _ f)
-
 pub label_of-label-requires : goal.label_of-label-requires
 label_of-label-requires g c = (c.requires.least.0, c.requires.least.1.at)
 
-pub returns-then-not-sums_fit-clause-sound : goal.returns-then-not-sums_fit-clause-sound
-returns-then-not-sums_fit-clause-sound g c = c.requires.sound
+pub returns-then-not-sums_fit : goal.returns-then-not-sums_fit
+returns-then-not-sums_fit g c = record {
+  overflow = λ e l h.
+      let o = rw c.deref.ensures.value at c.if-not-sums_fit.ensures.reached in
+      let row = same_row _ _ _ c.deref_mut.ensures.value c.sums_fit.ensures.same in
+      let same : c.label_of-label.result ≡ l = label_is c.args.self.now.labels.items c.args.number c.label_of-label.result l c.label_of-label.ensures h in
+      (o.0, o.1, (row (o.0, o.1)).0 o.2, o.3, λ d k. subst (λ (n : Label g.row.C.Denot). ¬ (g.C.Number.fits (g.C.Number.value n.cost +ℤ g.C.Number.value d))) same (o.4 d ((row (o.0, d)).1 k)));
+  sound = c.requires.sound;
+  wide = tt;
+  followed = tt;
+  kept = (refl, refl);
+  errors = inr refl;
+}
 
-pub returns-then-not-sums_fit-clause-wide : goal.returns-then-not-sums_fit-clause-wide
-returns-then-not-sums_fit-clause-wide g c = tt
-
-pub returns-then-not-sums_fit-clause-followed : goal.returns-then-not-sums_fit-clause-followed
-returns-then-not-sums_fit-clause-followed g c = tt
-
-pub returns-then-not-sums_fit-clause-kept : goal.returns-then-not-sums_fit-clause-kept
-returns-then-not-sums_fit-clause-kept g c = (refl, refl)
-
-pub returns-then-not-sums_fit-clause-errors : goal.returns-then-not-sums_fit-clause-errors
-returns-then-not-sums_fit-clause-errors g c = inr refl
-
-pub returns-in_err-reserve-clause-sound : goal.returns-in_err-reserve-clause-sound
-returns-in_err-reserve-clause-sound g c = IsSound-still g.C.Ord.cmp g.C.Number.value _ _ _ _ refl c.in_err-reserve.ensures.items c.requires.sound
-
-pub returns-in_err-reserve-clause-wide : goal.returns-in_err-reserve-clause-wide
-returns-in_err-reserve-clause-wide g c = IfOk-from_err _ _ c.from_residual.ensures.0
-
-pub returns-in_err-reserve-clause-followed : goal.returns-in_err-reserve-clause-followed
-returns-in_err-reserve-clause-followed g c = IfOk-from_err _ _ c.from_residual.ensures.0
-
-pub returns-in_err-reserve-clause-kept : goal.returns-in_err-reserve-clause-kept
-returns-in_err-reserve-clause-kept g c = on_err c.from_residual.result (refl, c.in_err-reserve.ensures.items)
-
-pub returns-in_err-reserve-clause-overflow : goal.returns-in_err-reserve-clause-overflow
-returns-in_err-reserve-clause-overflow g c = λ e. absurd (memory_no_overflow c.from_residual.result c.from_residual.ensures.1 e)
-
-pub returns-in_err-reserve-clause-errors : goal.returns-in_err-reserve-clause-errors
-returns-in_err-reserve-clause-errors g c = no_memory_or _ c.from_residual.result c.from_residual.ensures.1
+pub returns-in_err-reserve : goal.returns-in_err-reserve
+returns-in_err-reserve g c = record {
+  sound = IsSound-still g.C.Ord.cmp g.C.Number.value _ _ _ _ refl c.in_err-reserve.ensures.items c.requires.sound;
+  wide = IfOk-from_err _ _ c.from_residual.ensures.0;
+  followed = IfOk-from_err _ _ c.from_residual.ensures.0;
+  kept = on_err c.from_residual.result (refl, c.in_err-reserve.ensures.items);
+  overflow = λ e. absurd (memory_no_overflow c.from_residual.result c.from_residual.ensures.1 e);
+  errors = no_memory_or _ c.from_residual.result c.from_residual.ensures.1;
+}
 
 pub widen-requires : goal.widen-requires
 widen-requires g c = c.requires.wide
 
-pub returns-in_err-widen-clause-wide : goal.returns-in_err-widen-clause-wide
-returns-in_err-widen-clause-wide g c = IfOk-from_err _ _ c.from_residual-in_err-widen.ensures.0
-
-pub returns-in_err-widen-clause-followed : goal.returns-in_err-widen-clause-followed
-returns-in_err-widen-clause-followed g c = IfOk-from_err _ _ c.from_residual-in_err-widen.ensures.0
-
-pub returns-in_err-widen-clause-kept : goal.returns-in_err-widen-clause-kept
-returns-in_err-widen-clause-kept g c = on_err c.from_residual-in_err-widen.result (c.in_err-widen.ensures.kept, c.in_ok-reserve.ensures.items)
-
-pub returns-in_err-widen-clause-overflow : goal.returns-in_err-widen-clause-overflow
-returns-in_err-widen-clause-overflow g c = λ e. absurd (no_overflow c.from_residual-in_err-widen.result c.in_err-widen.field-0.0 c.from_residual-in_err-widen.ensures.1 c.in_err-widen.ensures.refused e)
-
-pub returns-in_err-widen-clause-errors : goal.returns-in_err-widen-clause-errors
-returns-in_err-widen-clause-errors g c = refused_as _ c.from_residual-in_err-widen.result c.in_err-widen.field-0.0 c.from_residual-in_err-widen.ensures.1 (inl c.in_err-widen.ensures.refused)
+pub returns-in_err-widen : goal.returns-in_err-widen
+returns-in_err-widen g c = record {
+  sound = IsSound-still g.C.Ord.cmp g.C.Number.value _ _ _ _ c.in_err-widen.ensures.kept c.in_ok-reserve.ensures.items c.requires.sound;
+  wide = IfOk-from_err _ _ c.from_residual-in_err-widen.ensures.0;
+  followed = IfOk-from_err _ _ c.from_residual-in_err-widen.ensures.0;
+  kept = on_err c.from_residual-in_err-widen.result (c.in_err-widen.ensures.kept, c.in_ok-reserve.ensures.items);
+  overflow = λ e. absurd (no_overflow c.from_residual-in_err-widen.result c.in_err-widen.field-0.0 c.from_residual-in_err-widen.ensures.1 c.in_err-widen.ensures.refused e);
+  errors = refused_as _ c.from_residual-in_err-widen.result c.in_err-widen.field-0.0 c.from_residual-in_err-widen.ensures.1 (inl c.in_err-widen.ensures.refused);
+}
 
 pub relax-requires-clause-ordered : goal.relax-requires-clause-ordered
 relax-requires-clause-ordered g c = IsHeap-still (entry_cmp g.C.Ord.cmp) _ _ c.in_ok-reserve.ensures.items c.requires.sound.ordered
 
-pub returns-clause-kept : goal.returns-clause-kept
-returns-clause-kept g c = tt
-
-pub returns-clause-overflow : goal.returns-clause-overflow
-returns-clause-overflow g c = λ e. absurd (ok_not_err _ _ e)
-
-pub returns-clause-errors : goal.returns-clause-errors
-returns-clause-errors g c = tt
+pub returns : goal.returns
+returns g c =
+    let l = c.label_of-label.result in
+    let w = c.in_ok-widen.ensures.widened in
+    let z = least_is (by_cost g.C.Number.value) c.args.self.now.labels.items c.args.number c.requires.least.0 l c.requires.least.1 c.label_of-label.ensures in
+    let is = c.settle.ensures l (w.stays c.args.number l c.label_of-label.ensures) in
+    record {
+      sound =
+          let whole : c.deref-2.result.now ≡ c.sums_fit.new.row = c.deref-2.ensures.value ∙ take_at c.sums_fit.new.row _ _ (c.sums_fit.ensures.len ∙ c.deref_mut.ensures.len) in
+          let ends = rw c.deref.ensures.value at c.if-not-sums_fit.ensures.reached in
+          let f = follows g.C.Number.value c.args.number l c.args.self.now.labels.items _ _ z c.args.found w is g.C.Number.fits c.sums_fit.new.row _ (rw whole at c.relax.ensures.relaxed) (rw whole at c.relax.ensures.reached) ends c.known.ensures in
+          record {
+            tree = tree_followed g.C.Number.value g.C.Number.fits (λ x y v. g.C.Number.between_law x y v g.met.C.Integral.exact_law) c.args.found c.args.number l c.sums_fit.new.row _ _ f c.requires.sound.tree;
+            ordered = c.relax.ensures.ordered;
+            queue = c.relax.ensures.queue;
+          };
+      wide = c.relax.ensures.relaxed.len ∙ len_settled g.C.Number.value c.args.number l c.args.self.now.labels.items _ _ z c.args.found w is;
+      followed = λ m h.
+          let l = c.label_of-label.result in
+          let labels = c.args.self.now.labels.items in
+          let w = c.in_ok-widen.ensures.widened in
+          let z = least_is (by_cost g.C.Number.value) labels c.args.number c.requires.least.0 l c.requires.least.1 c.label_of-label.ensures in
+          let is = c.settle.ensures l (w.stays c.args.number l c.label_of-label.ensures) in
+          let row = same_row _ _ _ c.deref_mut.ensures.value c.sums_fit.ensures.same in
+          let whole : c.deref-2.result.now ≡ c.sums_fit.new.row = c.deref-2.ensures.value ∙ take_at c.sums_fit.new.row _ _ (c.sums_fit.ensures.len ∙ c.deref_mut.ensures.len) in
+          let ends = rw c.deref.ensures.value at c.if-not-sums_fit.ensures.reached in
+          let f = follows g.C.Number.value c.args.number l labels _ _ z c.args.found w is g.C.Number.fits c.sums_fit.new.row _ (rw whole at c.relax.ensures.relaxed) (rw whole at c.relax.ensures.reached) ends c.known.ensures in
+          subst (λ (n : Label g.row.C.Denot). Follows g.C.Number.value g.C.Number.fits c.args.found c.args.number n c.args.self.now.row.items labels c.relax.new.labels.items) (label_is labels c.args.number l m c.label_of-label.ensures h)
+          (follows_row g.C.Number.value g.C.Number.fits c.args.found c.args.number l c.sums_fit.new.row c.args.self.now.row.items row labels _ f);
+      kept = tt;
+      overflow = λ e. absurd (ok_not_err _ _ e);
+      errors = tt;
+    }

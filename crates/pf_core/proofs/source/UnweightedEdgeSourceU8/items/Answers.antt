@@ -11,13 +11,13 @@ successors-requires g c =
     let eq = g.N.PartialEq.eq in
     record { within = (r.0, a.0, reach_next eq a.0 r.0 c.args.node.now (subst (λ (f : g.row.N.Denot → List (g.row.N.Denot × ℤ)). InReach eq f r.0 c.args.node.now) a.1 r.2), a.2) }
 
-pub returns-clause-goes_on : goal.returns-clause-goes_on
-returns-clause-goes_on g c = λ starts edges reach a.
-    let eq = g.N.PartialEq.eq in
-    (a.0, a.1, c.successors.ensures.goes_on starts a.0 (reach_next eq a.0 starts c.args.node.now (subst (λ (f : g.row.N.Denot → List (g.row.N.Denot × ℤ)). InReach eq f starts c.args.node.now) a.1 reach)) a.2)
-
-pub returns-clause-listed : goal.returns-clause-listed
-returns-clause-listed g c = λ starts edges reach a.
-    let eq = g.N.PartialEq.eq in
-    let there = reach_next eq a.0 starts c.args.node.now (subst (λ (f : g.row.N.Denot → List (g.row.N.Denot × ℤ)). InReach eq f starts c.args.node.now) a.1 reach) in
-    hops_said eq _ _ _ _ edges a.0 a.1 c.args.node.now c.successors.result (c.successors.ensures.listed starts a.0 there a.2)
+pub returns : goal.returns
+returns g c = record {
+  goes_on = λ starts edges reach a.
+      let eq = g.N.PartialEq.eq in
+      (a.0, a.1, c.successors.ensures.goes_on starts a.0 (reach_next eq a.0 starts c.args.node.now (subst (λ (f : g.row.N.Denot → List (g.row.N.Denot × ℤ)). InReach eq f starts c.args.node.now) a.1 reach)) a.2);
+  listed = λ starts edges reach a.
+      let eq = g.N.PartialEq.eq in
+      let there = reach_next eq a.0 starts c.args.node.now (subst (λ (f : g.row.N.Denot → List (g.row.N.Denot × ℤ)). InReach eq f starts c.args.node.now) a.1 reach) in
+      hops_said eq _ _ _ _ edges a.0 a.1 c.args.node.now c.successors.result (c.successors.ensures.listed starts a.0 there a.2);
+}

@@ -11,11 +11,11 @@ clones_at-requires-clause-inside g c = λ k h. rw c.as_slice.ensures.keys (c.req
 pub clones_at-requires-clause-clones : goal.clones_at-requires-clause-clones
 clones_at-requires-clause-clones g c = c.requires.clones
 
-pub returns-in_err-path-clause-nodes : goal.returns-in_err-path-clause-nodes
-returns-in_err-path-clause-nodes g c = IfOk-from_err c.from_residual.result _ c.from_residual.ensures.0
-
-pub returns-in_err-path-clause-refused : goal.returns-in_err-path-clause-refused
-returns-in_err-path-clause-refused g c = refused_as (λ e. e ≡ OutOfMemory) c.from_residual.result c.in_err-path.field-0.0 c.from_residual.ensures.1 c.in_err-path.ensures.refused
+pub returns-in_err-path : goal.returns-in_err-path
+returns-in_err-path g c = record {
+  nodes = IfOk-from_err c.from_residual.result _ c.from_residual.ensures.0;
+  refused = refused_as (λ e. e ≡ OutOfMemory) c.from_residual.result c.in_err-path.field-0.0 c.from_residual.ensures.1 c.in_err-path.ensures.refused;
+}
 
 pub clones_at-requires-2-clause-inside : goal.clones_at-requires-2-clause-inside
 clones_at-requires-2-clause-inside g c = λ k h. rw c.as_slice-2.ensures.keys (c.requires.back k (rw c.deref-2.ensures.value at h))
@@ -23,27 +23,27 @@ clones_at-requires-2-clause-inside g c = λ k h. rw c.as_slice-2.ensures.keys (c
 pub clones_at-requires-2-clause-clones : goal.clones_at-requires-2-clause-clones
 clones_at-requires-2-clause-clones g c = c.requires.clones
 
-pub returns-in_err-rest-clause-nodes : goal.returns-in_err-rest-clause-nodes
-returns-in_err-rest-clause-nodes g c = IfOk-from_err c.from_residual-in_err-rest.result _ c.from_residual-in_err-rest.ensures.0
+pub returns-in_err-rest : goal.returns-in_err-rest
+returns-in_err-rest g c = record {
+  nodes = IfOk-from_err c.from_residual-in_err-rest.result _ c.from_residual-in_err-rest.ensures.0;
+  refused = refused_as (λ e. e ≡ OutOfMemory) c.from_residual-in_err-rest.result c.in_err-rest.field-0.0 c.from_residual-in_err-rest.ensures.1 c.in_err-rest.ensures.refused;
+}
 
-pub returns-in_err-rest-clause-refused : goal.returns-in_err-rest-clause-refused
-returns-in_err-rest-clause-refused g c = refused_as (λ e. e ≡ OutOfMemory) c.from_residual-in_err-rest.result c.in_err-rest.field-0.0 c.from_residual-in_err-rest.ensures.1 c.in_err-rest.ensures.refused
+pub returns-in_err-append : goal.returns-in_err-append
+returns-in_err-append g c = record {
+  nodes = IfOk-from_err c.from_residual-in_err-append.result _ c.from_residual-in_err-append.ensures.0;
+  refused = refused_by (λ e. e ≡ OutOfMemory) c.from_residual-in_err-append.result c.from_residual-in_err-append.ensures.1;
+}
 
-pub returns-in_err-append-clause-nodes : goal.returns-in_err-append-clause-nodes
-returns-in_err-append-clause-nodes g c = IfOk-from_err c.from_residual-in_err-append.result _ c.from_residual-in_err-append.ensures.0
-
-pub returns-in_err-append-clause-refused : goal.returns-in_err-append-clause-refused
-returns-in_err-append-clause-refused g c = refused_by (λ e. e ≡ OutOfMemory) c.from_residual-in_err-append.result c.from_residual-in_err-append.ensures.1
-
-pub returns-clause-nodes : goal.returns-clause-nodes
-returns-clause-nodes g c =
-    let p = c.pop.ensures in (
-      c.in_ok-path.path.items,
-      c.in_ok-rest.rest.items,
-      rw (c.as_slice.ensures.keys, c.deref.ensures.value) at c.in_ok-path.ensures.nodes,
-      rw (c.as_slice-2.ensures.keys, c.deref-2.ensures.value) at c.in_ok-rest.ensures.nodes,
-      c.in_ok-append.ensures.items ∙ ap (λ xs. c.in_ok-path.path.items ++ xs) (c.reverse.ensures.items ∙ popped c.in_ok-rest.rest.items c.pop.new.self.items c.pop.result _ _ _ p.items p.cases (omega (arith, c.pop.new.self.ok))),
-    )
-
-pub returns-clause-refused : goal.returns-clause-refused
-returns-clause-refused g c = tt
+pub returns : goal.returns
+returns g c = record {
+  nodes =
+      let p = c.pop.ensures in (
+        c.in_ok-path.path.items,
+        c.in_ok-rest.rest.items,
+        rw (c.as_slice.ensures.keys, c.deref.ensures.value) at c.in_ok-path.ensures.nodes,
+        rw (c.as_slice-2.ensures.keys, c.deref-2.ensures.value) at c.in_ok-rest.ensures.nodes,
+        c.in_ok-append.ensures.items ∙ ap (λ xs. c.in_ok-path.path.items ++ xs) (c.reverse.ensures.items ∙ popped c.in_ok-rest.rest.items c.pop.new.self.items c.pop.result _ _ _ p.items p.cases (omega (arith, c.pop.new.self.ok))),
+      );
+  refused = tt;
+}

@@ -21,44 +21,26 @@ expand-requires-in-Back-clause-inside g c = subst (λ (side : Side). c.args.node
 pub expand-requires-in-Back-clause-graph : goal.expand-requires-in-Back-clause-graph
 expand-requires-in-Back-clause-graph g c = let r = c.requires.graph in (r.0.1, r.1.1)
 
-pub returns-in-Forth-clause-grows : goal.returns-in-Forth-clause-grows
-returns-in-Forth-clause-grows g c =
+pub returns-in-Forth : goal.returns-in-Forth
+returns-in-Forth g c =
     let before = λ (side : Side). by_side side c.args.self.now.forth.nodes.keys c.args.self.now.back.nodes.keys in
     let after = λ (side : Side). by_side side c.expand.new.self.nodes.keys c.args.self.now.back.nodes.keys in
-    subst (λ (side : Side). Grows (length (before side)) (length (after side)) (StandsFor g.N.PartialEq.eq (before side)) (StandsFor g.N.PartialEq.eq (after side))) (sym c.in-Forth.is) c.expand.ensures.grows
+    record {
+      grows = subst (λ (side : Side). Grows (length (before side)) (length (after side)) (StandsFor g.N.PartialEq.eq (before side)) (StandsFor g.N.PartialEq.eq (after side))) (sym c.in-Forth.is) c.expand.ensures.grows;
+      other = subst (λ (side : Side). (length (after (opposite side)) ≡ length (before (opposite side))) × ((k : ℕ) (x : g.row.N.Denot) → StandsFor g.N.PartialEq.eq (after (opposite side)) k x ↔ StandsFor g.N.PartialEq.eq (before (opposite side)) k x)) (sym c.in-Forth.is) (refl, λ k x. (λ t. t, λ t. t));
+      graph = λ h x. (c.expand.ensures.graph h.0 x.0, x.1);
+      listed = rw c.in-Forth.is (on_ok c.expand.result c.expand.ensures.listed (λ n. (n.0, n.2, n.3, λ h x. n.4 h.0 x.0)));
+      refused = IfErr-weaker c.expand.result _ (λ e. e ≡ OutOfMemory) (λ e h. h.0) c.expand.ensures.refused;
+    }
 
-pub returns-in-Forth-clause-other : goal.returns-in-Forth-clause-other
-returns-in-Forth-clause-other g c =
-    let before = λ (side : Side). by_side side c.args.self.now.forth.nodes.keys c.args.self.now.back.nodes.keys in
-    let after = λ (side : Side). by_side side c.expand.new.self.nodes.keys c.args.self.now.back.nodes.keys in
-    subst (λ (side : Side). (length (after (opposite side)) ≡ length (before (opposite side))) × ((k : ℕ) (x : g.row.N.Denot) → StandsFor g.N.PartialEq.eq (after (opposite side)) k x ↔ StandsFor g.N.PartialEq.eq (before (opposite side)) k x)) (sym c.in-Forth.is) (refl, λ k x. (λ t. t, λ t. t))
-
-pub returns-in-Forth-clause-graph : goal.returns-in-Forth-clause-graph
-returns-in-Forth-clause-graph g c = λ h x. (c.expand.ensures.graph h.0 x.0, x.1)
-
-pub returns-in-Forth-clause-listed : goal.returns-in-Forth-clause-listed
-returns-in-Forth-clause-listed g c = rw c.in-Forth.is (on_ok c.expand.result c.expand.ensures.listed (λ n. (n.0, n.2, n.3, λ h x. n.4 h.0 x.0)))
-
-pub returns-in-Forth-clause-refused : goal.returns-in-Forth-clause-refused
-returns-in-Forth-clause-refused g c = IfErr-weaker c.expand.result _ (λ e. e ≡ OutOfMemory) (λ e h. h.0) c.expand.ensures.refused
-
-pub returns-in-Back-clause-grows : goal.returns-in-Back-clause-grows
-returns-in-Back-clause-grows g c =
+pub returns-in-Back : goal.returns-in-Back
+returns-in-Back g c =
     let before = λ (side : Side). by_side side c.args.self.now.forth.nodes.keys c.args.self.now.back.nodes.keys in
     let after = λ (side : Side). by_side side c.args.self.now.forth.nodes.keys c.expand-in-Back.new.self.nodes.keys in
-    subst (λ (side : Side). Grows (length (before side)) (length (after side)) (StandsFor g.N.PartialEq.eq (before side)) (StandsFor g.N.PartialEq.eq (after side))) (sym c.in-Back.is) c.expand-in-Back.ensures.grows
-
-pub returns-in-Back-clause-other : goal.returns-in-Back-clause-other
-returns-in-Back-clause-other g c =
-    let before = λ (side : Side). by_side side c.args.self.now.forth.nodes.keys c.args.self.now.back.nodes.keys in
-    let after = λ (side : Side). by_side side c.args.self.now.forth.nodes.keys c.expand-in-Back.new.self.nodes.keys in
-    subst (λ (side : Side). (length (after (opposite side)) ≡ length (before (opposite side))) × ((k : ℕ) (x : g.row.N.Denot) → StandsFor g.N.PartialEq.eq (after (opposite side)) k x ↔ StandsFor g.N.PartialEq.eq (before (opposite side)) k x)) (sym c.in-Back.is) (refl, λ k x. (λ t. t, λ t. t))
-
-pub returns-in-Back-clause-graph : goal.returns-in-Back-clause-graph
-returns-in-Back-clause-graph g c = λ h x. (x.0, c.expand-in-Back.ensures.graph h.1 x.1)
-
-pub returns-in-Back-clause-listed : goal.returns-in-Back-clause-listed
-returns-in-Back-clause-listed g c = rw c.in-Back.is (on_ok c.expand-in-Back.result c.expand-in-Back.ensures.listed (λ n. (n.0, n.2, n.3, λ h x. n.4 h.1 x.1)))
-
-pub returns-in-Back-clause-refused : goal.returns-in-Back-clause-refused
-returns-in-Back-clause-refused g c = IfErr-weaker c.expand-in-Back.result _ (λ e. e ≡ OutOfMemory) (λ e h. h.0) c.expand-in-Back.ensures.refused
+    record {
+      grows = subst (λ (side : Side). Grows (length (before side)) (length (after side)) (StandsFor g.N.PartialEq.eq (before side)) (StandsFor g.N.PartialEq.eq (after side))) (sym c.in-Back.is) c.expand-in-Back.ensures.grows;
+      other = subst (λ (side : Side). (length (after (opposite side)) ≡ length (before (opposite side))) × ((k : ℕ) (x : g.row.N.Denot) → StandsFor g.N.PartialEq.eq (after (opposite side)) k x ↔ StandsFor g.N.PartialEq.eq (before (opposite side)) k x)) (sym c.in-Back.is) (refl, λ k x. (λ t. t, λ t. t));
+      graph = λ h x. (x.0, c.expand-in-Back.ensures.graph h.1 x.1);
+      listed = rw c.in-Back.is (on_ok c.expand-in-Back.result c.expand-in-Back.ensures.listed (λ n. (n.0, n.2, n.3, λ h x. n.4 h.1 x.1)));
+      refused = IfErr-weaker c.expand-in-Back.result _ (λ e. e ≡ OutOfMemory) (λ e h. h.0) c.expand-in-Back.ensures.refused;
+    }

@@ -8,10 +8,10 @@ returns-in_err-target-clause-steps c =
     let none = sym c.self.view_is ∙ ray_from c.self.inside.last c.self.inside.direction c.self.inside.dimensions None c.in_err-target.ensures in
     subst (λ (o : Option (ℕ × ℕ)). YieldsFirst {S = List (ℕ × ℕ)} (λ s. s) c.args.self.now o c.args.self.now) (sym c.from_residual.ensures) (none, none)
 
-pub returns-clause-steps : goal.returns-clause-steps
-returns-clause-steps c = sym c.self.view_is ∙ ray_from c.self.inside.last c.self.inside.direction c.self.inside.dimensions (Some c.in_ok-target.target) c.in_ok-target.ensures
-
-pub returns-clause-goes : goal.returns-clause-goes
-returns-clause-goes c =
-    let steps = sym c.self.view_is ∙ ray_from c.self.inside.last c.self.inside.direction c.self.inside.dimensions (Some c.in_ok-target.target) c.in_ok-target.ensures in
-    record { on = λ _. (tt, search rules, omega (arith, ap (λ (ps : List (ℕ × ℕ)). length ps) steps)); keeps = tt; rests = λ _. tt }
+pub returns : goal.returns
+returns c = record {
+  steps = sym c.self.view_is ∙ ray_from c.self.inside.last c.self.inside.direction c.self.inside.dimensions (Some c.in_ok-target.target) c.in_ok-target.ensures;
+  goes =
+      let steps = sym c.self.view_is ∙ ray_from c.self.inside.last c.self.inside.direction c.self.inside.dimensions (Some c.in_ok-target.target) c.in_ok-target.ensures in
+      record { on = λ _. (tt, search rules, omega (arith, ap (λ (ps : List (ℕ × ℕ)). length ps) steps)); keeps = tt; rests = λ _. tt };
+}
