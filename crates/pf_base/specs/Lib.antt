@@ -10,3 +10,4 @@ pub mod NodeRefs
 pub mod Tallies
 pub mod Moves
 pub mod Loops
+pub mod Internal

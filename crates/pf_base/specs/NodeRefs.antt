@@ -1,5 +1,4 @@
 -- Sets of nodes, each seen as the list of its nodes in the order in which they are kept.
-pub mod Laws
 use Rattle.std.specs.Prelude.{◌↔◌, Bool, ◌&&◌, List, Option, map}
 use Rattle.std.specs.Borrow.{Bor}
 use Rattle.std.specs.Iterator.{Drains}

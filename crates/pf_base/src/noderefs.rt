@@ -5,7 +5,7 @@ ghost use Rattle.std.specs.Cmp.{partial_equiv_from_equiv};
 ghost use Rattle.std.specs.Iterator.{IsFiniteIterable, YieldsFirstRef, item_count};
 ghost use Rattle.pf_base.specs.Walks.{HasNode, NoRepeats};
 ghost use Rattle.pf_base.specs.NodeRefs.{HasNodesGivenBy, HasSameNodes, has_same_nodes};
-ghost use Rattle.pf_base.specs.NodeRefs.Laws.{same_nodes_equiv};
+ghost use Rattle.pf_base.specs.Internal.NodeRefsLaws.{same_nodes_equiv};
 ghost use Rattle.pf_base.specs.declared.error.PathError.TheVariants.{OutOfMemory};
 
 use crate::error::PathError;

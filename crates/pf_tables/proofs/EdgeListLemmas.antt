@@ -14,7 +14,7 @@ use Rattle.pf_core.specs.Nodes.{StandsFor}
 use Rattle.pf_core.proofs.ListLemmas.{none_in}
 use Rattle.pf_tables.specs.Graphs.{IsGraph, filled}
 use Rattle.pf_tables.specs.EdgeLists.{CostsFromZeroTo, HasEdgesByName, ends_from, names_of, number_in, numbered_from, places_of}
-use Rattle.pf_tables.specs.Layouts.{AreOffsets, ArePlaced, ComeFromBelow, IsLaidOut, edges_below}
+use Rattle.pf_tables.specs.Internal.Layouts.{AreOffsets, ArePlaced, ComeFromBelow, IsLaidOut, edges_below}
 use Rattle.pf_tables.proofs.Faulty.{less_or_same, some_same}
 use Rattle.pf_tables.proofs.LayoutLemmas.{below_next}
 use Rattle.pf_tables.proofs.NumberedNames.{numbered, all_named, number_inside, from_number, each_end}

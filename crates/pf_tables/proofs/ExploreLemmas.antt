@@ -15,7 +15,7 @@ use Rattle.pf_core.proofs.UnitLemmas.{starts_stand}
 use Rattle.pf_core.proofs.ListLemmas.{none_in}
 use Rattle.pf_core.proofs.NodeLemmas.{InReach-start}
 use Rattle.pf_tables.specs.Graphs.{edges_at, graph_of, successors_of}
-use Rattle.pf_tables.specs.Numbering.{IsIndex, IsExplored, steps_at}
+use Rattle.pf_tables.specs.Internal.Numbering.{IsIndex, IsExplored, steps_at}
 use borrow.Author.Tests.{eqb-true}
 
 -- equal numbers have the same edges

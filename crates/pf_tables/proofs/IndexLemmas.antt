@@ -5,7 +5,7 @@ use Rattle.std.proofs.lemmas.List.{map-append, append-nil, length-replicate, get
 use Rattle.std.proofs.lemmas.Option.{slice_get_within, slice_get-get_or}
 use borrow.Author.Tests.{eqb-true}
 use Rattle.pf_core.proofs.ListLemmas.{bool_dec, get_set, get-append, none_in}
-use Rattle.pf_tables.specs.Numbering.{IsIndex, present, steps_at}
+use Rattle.pf_tables.specs.Internal.Numbering.{IsIndex, present, steps_at}
 
 -- what stands in a list, or at its end
 pub get_push : {A : Type 0} (xs : List A) (x : A) (k : ℕ) (m : A) → slice_get (xs ++ x ∷ []) k ≡ Some m → (slice_get xs k ≡ Some m) ⊎ ((k ≡ length xs) × (x ≡ m))

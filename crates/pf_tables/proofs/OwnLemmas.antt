@@ -15,7 +15,7 @@ use Rattle.pf_core.proofs.ListLemmas.{Contains-head, Contains-tail, Contains-cas
 use Rattle.pf_core.proofs.NodeLemmas.{InReach-start, InReach-more}
 use Rattle.pf_core.proofs.WalkLemmas.{all_starts, only_starts, no_walk, best_answer, past_range}
 use Rattle.pf_tables.specs.Graphs.{IsGraph, edges_at}
-use Rattle.pf_tables.specs.Numbering.{IsOwn, present}
+use Rattle.pf_tables.specs.Internal.Numbering.{IsOwn, present}
 use Rattle.pf_tables.proofs.GraphLemmas.{edge_inside}
 use Rattle.pf_tables.proofs.ExploreLemmas.{nat_alike, edges_within}
 

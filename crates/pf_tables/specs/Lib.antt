@@ -1,10 +1,7 @@
 pub mod Graphs
 pub mod Faults
 pub mod Offsets
-pub mod CostlessLaws
 pub mod Boards
 pub mod Goals
-pub mod Numbering
-pub mod OwnLaws
 pub mod EdgeLists
-pub mod Layouts
+pub mod Internal

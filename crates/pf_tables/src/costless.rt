@@ -3,7 +3,7 @@
 ghost use Rattle.std.specs.Prelude.{◌≡◌, ◌≢◌, ⊤, pos, refl};
 ghost use Rattle.num_traits.specs.Laws.{Checks};
 ghost use Rattle.pf_base.specs.Costs.{LiesBetween};
-ghost use Rattle.pf_tables.specs.CostlessLaws.{only_zero, zero_fits, only_between};
+ghost use Rattle.pf_tables.specs.Internal.CostlessLaws.{only_zero, zero_fits, only_between};
 
 use num_traits::{CheckedAdd, Integral, Number, Zero};
 use pf_base::Cost;

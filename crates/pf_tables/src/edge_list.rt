@@ -35,7 +35,7 @@ pub struct EdgeList<'e, N: Eq + Hash, C: Cost, A: Allocator = Global> {
 impl<'e, N: Eq + Hash, C: Cost, A: Allocator> Model for EdgeList<'e, N, C, A> {
     ghost use Rattle.std.specs.Prelude.{List};
     ghost use Rattle.pf_base.specs.NodeRefs.{nodes_of};
-    ghost use Rattle.pf_tables.specs.Layouts.{IsLaidOut};
+    ghost use Rattle.pf_tables.specs.Internal.Layouts.{IsLaidOut};
 
     ghost Value = { List (N × N × C) };
 

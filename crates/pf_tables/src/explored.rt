@@ -6,7 +6,7 @@ ghost use Rattle.std.specs.List.{IsDistinct};
 ghost use Rattle.pf_core.specs.Nodes.{TestedGraph, IsStep, ends_of, StandsFor, AddsNode, NumbersItems, AddedFrom};
 ghost use Rattle.pf_core.specs.Numbered.{NumbersInOrder};
 ghost use Rattle.pf_core.specs.NodeLaws.{StandsFor-one, StandsFor-inside};
-ghost use Rattle.pf_tables.specs.Numbering.{IsIndex, IsExplored, steps_at};
+ghost use Rattle.pf_tables.specs.Internal.Numbering.{IsIndex, IsExplored, steps_at};
 ghost use Rattle.std.proofs.lemmas.Cmp.{nat_eq_equiv};
 
 use crate::goals::Goals;

@@ -4,7 +4,7 @@ ghost use Rattle.std.specs.Prelude.{◌≡◌, ◌<◌, ℕ, [], Some, Contains,
 ghost use Rattle.std.specs.List.{AllZip};
 ghost use Rattle.pf_base.specs.NodeRefs.{nodes_of};
 ghost use Rattle.pf_tables.specs.EdgeLists.{names_of};
-ghost use Rattle.pf_tables.specs.Layouts.{AreOffsets, ArePlaced, numbered_ends};
+ghost use Rattle.pf_tables.specs.Internal.Layouts.{AreOffsets, ArePlaced, numbered_ends};
 
 use crate::layout::lay_out;
 use indexmap::IndexSet;

@@ -3,7 +3,7 @@
 ghost use Rattle.std.specs.Prelude.{◌≡◌, ◌<◌, ◌≤◌, ℕ, [], ◌∷◌, List, IfOk, IfErr, length, take, nat_eq};
 ghost use Rattle.std.specs.List.{IsDistinct};
 ghost use Rattle.pf_core.specs.Nodes.{StandsFor, AddsNode};
-ghost use Rattle.pf_tables.specs.Numbering.{IsIndex};
+ghost use Rattle.pf_tables.specs.Internal.Numbering.{IsIndex};
 
 use pf_base::PathError;
 use std::alloc::Allocator;

@@ -3,8 +3,8 @@
 ghost use Rattle.std.specs.Prelude.{◌≡◌, ◌<◌, ℕ, [], OnOk, IfErr, nat_eq};
 ghost use Rattle.pf_base.specs.Edges.{HasEdge};
 ghost use Rattle.pf_core.specs.Nodes.{TestedGraph, ends_of};
-ghost use Rattle.pf_tables.specs.Numbering.{IsOwn, IsTable, present};
-ghost use Rattle.pf_tables.specs.OwnLaws.{own_one};
+ghost use Rattle.pf_tables.specs.Internal.Numbering.{IsOwn, IsTable, present};
+ghost use Rattle.pf_tables.specs.Internal.OwnLaws.{own_one};
 
 use crate::goals::Goals;
 use crate::graph::Graph;

@@ -3,7 +3,7 @@ use Rattle.std.proofs.lemmas.Cmp.{nat_eq_equiv}
 use Rattle.std.proofs.lemmas.Result.{IfOk-from_err}
 use Rattle.pf_core.specs.Nodes.{TestedGraph}
 use Rattle.pf_tables.specs.Graphs.{graph_of}
-use Rattle.pf_tables.specs.Numbering.{IsTable}
+use Rattle.pf_tables.specs.Internal.Numbering.{IsTable}
 use Rattle.pf_tables.proofs.Outcomes.{refused_as, no_overflow, ok_is_no_error}
 use Rattle.pf_tables.proofs.Alone.{no_walk_alone, cheapest_alone}
 use Rattle.pf_tables.proofs.GraphLemmas.{edge_from_zero}

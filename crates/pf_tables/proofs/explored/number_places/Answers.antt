@@ -3,7 +3,7 @@ use Rattle.pf_core.proofs.NodeLemmas.{take_longer, Numbers-grow, Numbers-push, A
 use Rattle.std.proofs.lemmas.List.{map-append}
 use Rattle.std.proofs.lemmas.Cmp.{nat_eq_equiv}
 use Rattle.pf_core.proofs.OrderLemmas.{InOrder-push}
-use Rattle.pf_tables.specs.Numbering.{steps_at}
+use Rattle.pf_tables.specs.Internal.Numbering.{steps_at}
 use Rattle.pf_tables.proofs.IndexLemmas.{steps_more, steps_same}
 use Rattle.pf_tables.proofs.explored.number_places.Goals.{in-Some+in_default-number_edge, in_default}
 use Rattle.pf_tables.proofs.explored.number_places.Goals as goal
@@ -115,37 +115,25 @@ loop-place-preserved g c =
           })
     ]
 
-pub returns-clause-numbered : goal.returns-clause-numbered
-returns-clause-numbered g c =
-    let v = c.loop-place.invariant in
-    let places = g.G.Graph.places c.args.graph.now c.args.node in
-    let all : take c.loop-place.place places ≡ places = take_all c.loop-place.place places (omega (arith, c.loop-place-test.false, c.places-place-end.ensures)) in
-    let n = rw all at v.numbered in
-    (n.0, n.1, n.2, rw all at v.added, rw all at v.ordered)
-
-pub returns-clause-index : goal.returns-clause-index
-returns-clause-index g c = c.loop-place.invariant.index
-
-pub returns-clause-wide : goal.returns-clause-wide
-returns-clause-wide g c = c.loop-place.invariant.wide
-
-pub returns-clause-distinct : goal.returns-clause-distinct
-returns-clause-distinct g c = c.loop-place.invariant.distinct
-
-pub returns-clause-longer : goal.returns-clause-longer
-returns-clause-longer g c = let v = c.loop-place.invariant in omega (arith, v.long, v.longer)
-
-pub returns-clause-kept : goal.returns-clause-kept
-returns-clause-kept g c = let v = c.loop-place.invariant in rw v.long at v.kept
-
 pub returns-in-Err-clause-numbered : goal.returns-in-Err-clause-numbered
 returns-in-Err-clause-numbered g c = tt
 
-pub returns-clause-stays : goal.returns-clause-stays
-returns-clause-stays g c = tt
-
-pub returns-clause-refused : goal.returns-clause-refused
-returns-clause-refused g c = tt
+pub returns : goal.returns
+returns g c = record {
+  numbered =
+      let v = c.loop-place.invariant in
+      let places = g.G.Graph.places c.args.graph.now c.args.node in
+      let all : take c.loop-place.place places ≡ places = take_all c.loop-place.place places (omega (arith, c.loop-place-test.false, c.places-place-end.ensures)) in
+      let n = rw all at v.numbered in
+      (n.0, n.1, n.2, rw all at v.added, rw all at v.ordered);
+  index = c.loop-place.invariant.index;
+  wide = c.loop-place.invariant.wide;
+  distinct = c.loop-place.invariant.distinct;
+  longer = let v = c.loop-place.invariant in omega (arith, v.long, v.longer);
+  kept = let v = c.loop-place.invariant in rw v.long at v.kept;
+  stays = tt;
+  refused = tt;
+}
 
 pub loop-place-smaller : goal.loop-place-smaller
 loop-place-smaller g c = omega (arith, c.loop-place-test.true)

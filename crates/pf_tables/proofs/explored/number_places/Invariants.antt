@@ -2,7 +2,7 @@ use Rattle.std.proofs.Common.{ℕ, List, ◌≡◌, ◌≤◌, length, take, map
 use Rattle.std.specs.List.{IsDistinct}
 use Rattle.pf_core.specs.Numbered.{NumbersInOrder}
 use Rattle.pf_core.specs.Nodes.{StandsFor, NumbersItems, AddedFrom}
-use Rattle.pf_tables.specs.Numbering.{IsIndex, steps_at}
+use Rattle.pf_tables.specs.Internal.Numbering.{IsIndex, steps_at}
 use Rattle.pf_tables.proofs.explored.number_places.Given as goal
 
 abbrev pub invariant-loop-place : goal.invariant-loop-place

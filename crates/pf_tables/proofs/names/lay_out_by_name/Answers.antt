@@ -3,40 +3,28 @@ use Rattle.std.specs.Prelude.{IfOk}
 use Rattle.std.proofs.lemmas.List.{length-map}
 use Rattle.std.proofs.lemmas.Result.{IfOk-from_err}
 use Rattle.pf_tables.specs.EdgeLists.{names_of}
-use Rattle.pf_tables.specs.Layouts.{AreOffsets, ArePlaced, numbered_ends}
+use Rattle.pf_tables.specs.Internal.Layouts.{AreOffsets, ArePlaced, numbered_ends}
 use Rattle.pf_tables.proofs.EdgeListLemmas.{come_from_names}
 use Rattle.pf_tables.proofs.Outcomes.{on_refused, on_any}
 use Rattle.pf_tables.proofs.names.lay_out_by_name.Goals as goal
 
-pub returns-in_err-numbered-clause-names : goal.returns-in_err-numbered-clause-names
-returns-in_err-numbered-clause-names g c =
+pub returns-in_err-numbered : goal.returns-in_err-numbered
+returns-in_err-numbered g c =
     let r = c.from_residual in
-    on_refused _ _ r.ensures.0
+    record {
+      names = on_refused _ _ r.ensures.0;
+      offsets = IfOk-from_err _ _ r.ensures.0;
+      targets = IfOk-from_err _ _ r.ensures.0;
+    }
 
-pub returns-in_err-numbered-clause-offsets : goal.returns-in_err-numbered-clause-offsets
-returns-in_err-numbered-clause-offsets g c =
-    let r = c.from_residual in
-    IfOk-from_err _ _ r.ensures.0
-
-pub returns-in_err-numbered-clause-targets : goal.returns-in_err-numbered-clause-targets
-returns-in_err-numbered-clause-targets g c =
-    let r = c.from_residual in
-    IfOk-from_err _ _ r.ensures.0
-
-pub returns-in_err-add_edges-clause-names : goal.returns-in_err-add_edges-clause-names
-returns-in_err-add_edges-clause-names g c =
+pub returns-in_err-add_edges : goal.returns-in_err-add_edges
+returns-in_err-add_edges g c =
     let r = c.from_residual-in_err-add_edges in
-    on_refused _ _ r.ensures.0
-
-pub returns-in_err-add_edges-clause-offsets : goal.returns-in_err-add_edges-clause-offsets
-returns-in_err-add_edges-clause-offsets g c =
-    let r = c.from_residual-in_err-add_edges in
-    IfOk-from_err _ _ r.ensures.0
-
-pub returns-in_err-add_edges-clause-targets : goal.returns-in_err-add_edges-clause-targets
-returns-in_err-add_edges-clause-targets g c =
-    let r = c.from_residual-in_err-add_edges in
-    IfOk-from_err _ _ r.ensures.0
+    record {
+      names = on_refused _ _ r.ensures.0;
+      offsets = IfOk-from_err _ _ r.ensures.0;
+      targets = IfOk-from_err _ _ r.ensures.0;
+    }
 
 pub add_edges-requires-clause-first : goal.add_edges-requires-clause-first
 add_edges-requires-clause-first g c = c.requires
@@ -56,26 +44,20 @@ lay_out-requires-clause-inside g c =
     let count : c.len.result ≡ length (names_of g.N.PartialEq.eq c.args.edges.now) = c.len.ensures.len ∙ sym (length-map c.add_edges.new.names.keys _) ∙ ap length added.names in
     come_from_names g.met.N.Eq.laws g.C.Number.value c.args.edges.now c.len.result count c.deref.result.now (c.deref.ensures.value ∙ added.numbered)
 
-pub returns-clause-names : goal.returns-clause-names
-returns-clause-names g c =
+pub returns : goal.returns
+returns g c =
     let r = c.lay_out in
     let added = c.in_ok-add_edges.ensures in
-    on_any r.result added.names
-
-pub returns-clause-offsets : goal.returns-clause-offsets
-returns-clause-offsets g c =
-    let r = c.lay_out in
-    let added = c.in_ok-add_edges.ensures in
-    let ends = numbered_ends g.N.PartialEq.eq c.args.edges.now in
-    let count : c.len.result ≡ length (names_of g.N.PartialEq.eq c.args.edges.now) = c.len.ensures.len ∙ sym (length-map c.add_edges.new.names.keys _) ∙ ap length added.names in
-    let same : c.deref.result.now ≡ ends = c.deref.ensures.value ∙ added.numbered in
-    subst (λ n. IfOk r.result (λ laid. AreOffsets n ends laid.0.items)) count (subst (λ es. IfOk r.result (λ laid. AreOffsets c.len.result es laid.0.items)) same r.ensures.offsets)
-
-pub returns-clause-targets : goal.returns-clause-targets
-returns-clause-targets g c =
-    let r = c.lay_out in
-    let added = c.in_ok-add_edges.ensures in
-    let ends = numbered_ends g.N.PartialEq.eq c.args.edges.now in
-    let count : c.len.result ≡ length (names_of g.N.PartialEq.eq c.args.edges.now) = c.len.ensures.len ∙ sym (length-map c.add_edges.new.names.keys _) ∙ ap length added.names in
-    let same : c.deref.result.now ≡ ends = c.deref.ensures.value ∙ added.numbered in
-    subst (λ n. IfOk r.result (λ laid. ArePlaced n ends laid.1.items)) count (subst (λ es. IfOk r.result (λ laid. ArePlaced c.len.result es laid.1.items)) same r.ensures.targets)
+    record {
+      names = on_any r.result added.names;
+      offsets =
+          let ends = numbered_ends g.N.PartialEq.eq c.args.edges.now in
+          let count : c.len.result ≡ length (names_of g.N.PartialEq.eq c.args.edges.now) = c.len.ensures.len ∙ sym (length-map c.add_edges.new.names.keys _) ∙ ap length added.names in
+          let same : c.deref.result.now ≡ ends = c.deref.ensures.value ∙ added.numbered in
+          subst (λ n. IfOk r.result (λ laid. AreOffsets n ends laid.0.items)) count (subst (λ es. IfOk r.result (λ laid. AreOffsets c.len.result es laid.0.items)) same r.ensures.offsets);
+      targets =
+          let ends = numbered_ends g.N.PartialEq.eq c.args.edges.now in
+          let count : c.len.result ≡ length (names_of g.N.PartialEq.eq c.args.edges.now) = c.len.ensures.len ∙ sym (length-map c.add_edges.new.names.keys _) ∙ ap length added.names in
+          let same : c.deref.result.now ≡ ends = c.deref.ensures.value ∙ added.numbered in
+          subst (λ n. IfOk r.result (λ laid. ArePlaced n ends laid.1.items)) count (subst (λ es. IfOk r.result (λ laid. ArePlaced c.len.result es laid.1.items)) same r.ensures.targets);
+    }

@@ -1,5 +1,5 @@
 use Rattle.std.proofs.Common.{take}
-use Rattle.pf_tables.specs.Numbering.{present}
+use Rattle.pf_tables.specs.Internal.Numbering.{present}
 use Rattle.pf_tables.proofs.own_numbers.list_places.Given as goal
 
 abbrev pub invariant-loop-place : goal.invariant-loop-place

@@ -1,6 +1,6 @@
 use Rattle.std.proofs.Common.{◌≡◌, sym, ◌∙◌}
 use Rattle.pf_base.specs.NodeRefs.{has_same_nodes}
-use Rattle.pf_base.specs.NodeRefs.Laws.{same_nodes_decides}
+use Rattle.pf_base.specs.Internal.NodeRefsLaws.{same_nodes_decides}
 use Rattle.pf_base.proofs.NodeRefsLemmas.{same_nodes-refs}
 use Rattle.pf_base.proofs.noderefs.NodeRefsPartialEq.eq.Goals as goal
 

@@ -37,22 +37,6 @@ returns-in-None-clause-ok g c =
     let found = at_none _ _ _ c.in-None.is c.in_ok-cheapest_path.ensures.ok in
     (h.0, h.1, inl (has_no_walk c.in_ok-network.network h.0 _ _ h.2 found, c.in_ok-from_slice-in-None.ensures.items))
 
-pub returns-clause-ok : goal.returns-clause-ok
-returns-clause-ok g c =
-    let h = c.in_ok-network.ensures.ok in
-    let found = at_some _ _ _ _ c.in-Some.is c.in_ok-cheapest_path.ensures.ok in
-    let names = map (name_at h.2.names) c.in-Some.path.items in
-    let named = path_named c.in_ok-network.network h.0 _ _ h.2 c.in-Some.path.items (path-below c.in_ok-network.network h.0 _ _ h.2 c.in-Some.path.items c.in-Some.cost found) in (
-      h.0,
-      h.1,
-      inr (record {
-        path = names;
-        cost = c.in-Some.cost;
-        cheapest = is_cheapest c.in_ok-network.network h.0 _ _ h.2 c.in-Some.path.items c.in-Some.cost found;
-        written = c.in_ok-write_path-in-Some.ensures ∙ ap (λ l. path_line c.in-Some.cost (map (name_in c.in_ok-network.network.names) l)) c.as_slice.ensures.value ∙ ap (path_line c.in-Some.cost) named;
-      }),
-    )
-
 pub returns-in_err-cheapest_path-clause-err : goal.returns-in_err-cheapest_path-clause-err
 returns-in_err-cheapest_path-clause-err g c =
     let h = c.in_ok-network.ensures.ok in
@@ -70,5 +54,21 @@ returns-in_err-from_slice-in-None-clause-err g c = refused_by _ _ c.from_residua
 pub returns-in_err-write_path-in-Some-clause-err : goal.returns-in_err-write_path-in-Some-clause-err
 returns-in_err-write_path-in-Some-clause-err g c = refused_by _ _ c.from_residual-in_err-write_path-in-Some.result (no_memory _ c.args.text.items) c.from_residual-in_err-write_path-in-Some.ensures.1
 
-pub returns-clause-err : goal.returns-clause-err
-returns-clause-err g c = tt
+pub returns : goal.returns
+returns g c = record {
+  ok =
+      let h = c.in_ok-network.ensures.ok in
+      let found = at_some _ _ _ _ c.in-Some.is c.in_ok-cheapest_path.ensures.ok in
+      let names = map (name_at h.2.names) c.in-Some.path.items in
+      let named = path_named c.in_ok-network.network h.0 _ _ h.2 c.in-Some.path.items (path-below c.in_ok-network.network h.0 _ _ h.2 c.in-Some.path.items c.in-Some.cost found) in (
+        h.0,
+        h.1,
+        inr (record {
+          path = names;
+          cost = c.in-Some.cost;
+          cheapest = is_cheapest c.in_ok-network.network h.0 _ _ h.2 c.in-Some.path.items c.in-Some.cost found;
+          written = c.in_ok-write_path-in-Some.ensures ∙ ap (λ l. path_line c.in-Some.cost (map (name_in c.in_ok-network.network.names) l)) c.as_slice.ensures.value ∙ ap (path_line c.in-Some.cost) named;
+        }),
+      );
+  err = tt;
+}

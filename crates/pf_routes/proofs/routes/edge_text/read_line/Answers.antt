@@ -23,17 +23,17 @@ returns-in_err-rest-clause-says c =
     c.split_field.ensures.field c.split_field.ensures.rest c.split_field-2.ensures.field c.split_field-2.ensures.rest c.split_field-3.ensures.field c.split_field-3.ensures.rest c.skip_gap.ensures in
     rw c.from_residual.ensures (says-more _ _ _ _ _ t c.in_err-rest.ensures.lines)
 
-pub returns-then-is_empty-clause-says : goal.returns-then-is_empty-clause-says
-returns-then-is_empty-clause-says c =
-    let t = takes_three c.args.text.now c.split_field.result.0.now c.split_field.result.1.now c.split_field-2.result.0.now c.split_field-2.result.1.now c.split_field-3.result.0.now c.split_field-3.result.1.now c.skip_gap.result.now
-    c.split_field.ensures.field c.split_field.ensures.rest c.split_field-2.ensures.field c.split_field-2.ensures.rest c.split_field-3.ensures.field c.split_field-3.ensures.rest c.skip_gap.ensures in
-    let h = c.is_empty.ensures in
-    let k = c.if-is_empty.true in
-    says-blank _ _ _ _ _ t _ c.in_ok-rest.ensures.lines (grind (arith, nat_tests))
-
-pub returns-then-is_empty-clause-shorter : goal.returns-then-is_empty-clause-shorter
-returns-then-is_empty-clause-shorter c = shorter c.args.text.now c.split_field.result.1.now c.split_field-2.result.1.now c.split_field-3.result.1.now c.skip_gap.result.now _
-    c.split_field.ensures.rest c.split_field-2.ensures.rest c.split_field-3.ensures.rest c.skip_gap.ensures c.in_ok-rest.ensures.shorter
+pub returns-then-is_empty : goal.returns-then-is_empty
+returns-then-is_empty c = record {
+  says =
+      let t = takes_three c.args.text.now c.split_field.result.0.now c.split_field.result.1.now c.split_field-2.result.0.now c.split_field-2.result.1.now c.split_field-3.result.0.now c.split_field-3.result.1.now c.skip_gap.result.now
+      c.split_field.ensures.field c.split_field.ensures.rest c.split_field-2.ensures.field c.split_field-2.ensures.rest c.split_field-3.ensures.field c.split_field-3.ensures.rest c.skip_gap.ensures in
+      let h = c.is_empty.ensures in
+      let k = c.if-is_empty.true in
+      says-blank _ _ _ _ _ t _ c.in_ok-rest.ensures.lines (grind (arith, nat_tests));
+  shorter = shorter c.args.text.now c.split_field.result.1.now c.split_field-2.result.1.now c.split_field-3.result.1.now c.skip_gap.result.now _
+      c.split_field.ensures.rest c.split_field-2.ensures.rest c.split_field-3.ensures.rest c.skip_gap.ensures c.in_ok-rest.ensures.shorter;
+}
 
 pub returns-then-is_empty-2-clause-says : goal.returns-then-is_empty-2-clause-says
 returns-then-is_empty-2-clause-says c =
@@ -56,17 +56,17 @@ returns-in_err-cost-clause-says c =
     let all = says-three _ _ _ _ _ t _ c.in_ok-rest.ensures.lines (grind (arith, nat_tests)) (grind (arith, nat_tests)) in
     rw c.from_residual-in_err-cost.ensures (map line_of (lines_left c.in_ok-rest.rest), all ∙ ap (λ l. l ∷ map line_of (lines_left c.in_ok-rest.rest)) (three-none c.split_field.result.0.now c.split_field-2.result.0.now c.split_field-3.result.0.now (sym c.in_err-cost.ensures)))
 
-pub returns-clause-says : goal.returns-clause-says
-returns-clause-says c =
-    let t = takes_three c.args.text.now c.split_field.result.0.now c.split_field.result.1.now c.split_field-2.result.0.now c.split_field-2.result.1.now c.split_field-3.result.0.now c.split_field-3.result.1.now c.skip_gap.result.now
-    c.split_field.ensures.field c.split_field.ensures.rest c.split_field-2.ensures.field c.split_field-2.ensures.rest c.split_field-3.ensures.field c.split_field-3.ensures.rest c.skip_gap.ensures in
-    let h = c.is_empty.ensures in
-    let k = c.if-is_empty.false in
-    let h2 = c.is_empty-2.ensures in
-    let k2 = c.if-is_empty-2.false in
-    let all = says-three _ _ _ _ _ t _ c.in_ok-rest.ensures.lines (grind (arith, nat_tests)) (grind (arith, nat_tests)) in
-    rw (c.new.ensures, c.new-2.ensures) (all ∙ ap (λ l. l ∷ map line_of (lines_left c.in_ok-rest.rest)) (three-some c.split_field.result.0.now c.split_field-2.result.0.now c.split_field-3.result.0.now c.in_ok-cost.cost (sym c.in_ok-cost.ensures)))
-
-pub returns-clause-shorter : goal.returns-clause-shorter
-returns-clause-shorter c = shorter c.args.text.now c.split_field.result.1.now c.split_field-2.result.1.now c.split_field-3.result.1.now c.skip_gap.result.now _
-    c.split_field.ensures.rest c.split_field-2.ensures.rest c.split_field-3.ensures.rest c.skip_gap.ensures c.in_ok-rest.ensures.shorter
+pub returns : goal.returns
+returns c = record {
+  says =
+      let t = takes_three c.args.text.now c.split_field.result.0.now c.split_field.result.1.now c.split_field-2.result.0.now c.split_field-2.result.1.now c.split_field-3.result.0.now c.split_field-3.result.1.now c.skip_gap.result.now
+      c.split_field.ensures.field c.split_field.ensures.rest c.split_field-2.ensures.field c.split_field-2.ensures.rest c.split_field-3.ensures.field c.split_field-3.ensures.rest c.skip_gap.ensures in
+      let h = c.is_empty.ensures in
+      let k = c.if-is_empty.false in
+      let h2 = c.is_empty-2.ensures in
+      let k2 = c.if-is_empty-2.false in
+      let all = says-three _ _ _ _ _ t _ c.in_ok-rest.ensures.lines (grind (arith, nat_tests)) (grind (arith, nat_tests)) in
+      rw (c.new.ensures, c.new-2.ensures) (all ∙ ap (λ l. l ∷ map line_of (lines_left c.in_ok-rest.rest)) (three-some c.split_field.result.0.now c.split_field-2.result.0.now c.split_field-3.result.0.now c.in_ok-cost.cost (sym c.in_ok-cost.ensures)));
+  shorter = shorter c.args.text.now c.split_field.result.1.now c.split_field-2.result.1.now c.split_field-3.result.1.now c.skip_gap.result.now _
+      c.split_field.ensures.rest c.split_field-2.ensures.rest c.split_field-3.ensures.rest c.skip_gap.ensures c.in_ok-rest.ensures.shorter;
+}

@@ -22,25 +22,18 @@ edge-edge-requires-clause-place g c =
 pub invariant_of-self-then-is_some : goal.invariant_of-self-then-is_some
 invariant_of-self-then-is_some g c = (omega (arith, c.loop-self-test.true), c.loop-self.invariant.all)
 
-pub returns-then-is_some-clause-steps : goal.returns-then-is_some-clause-steps
-returns-then-is_some-clause-steps g c =
+pub returns-then-is_some : goal.returns-then-is_some
+returns-then-is_some g c =
     let s = c.loop-self.self-inside in
     let size = g.G.Graph.size s.graph.now in
     let places = g.G.Graph.places s.graph.now in
     let edge = c.edge-edge.result in
     let inv = c.loop-self.invariant in
     let first = present_from (places_at size places s.node) s.next edge (at_place size s.node places s.next edge (omega (arith, inv.all, c.loop-self-test.true)) c.edge-edge.ensures) in
-    yields edge _ _ (sym (c.is_some.ensures) ∙ c.if-is_some.true) (sym c.self.view_is ∙ sym inv.left ∙ first)
-
-pub returns-then-is_some-clause-goes : goal.returns-then-is_some-clause-goes
-returns-then-is_some-clause-goes g c =
-    let s = c.loop-self.self-inside in
-    let size = g.G.Graph.size s.graph.now in
-    let places = g.G.Graph.places s.graph.now in
-    let edge = c.edge-edge.result in
-    let inv = c.loop-self.invariant in
-    let first = present_from (places_at size places s.node) s.next edge (at_place size s.node places s.next edge (omega (arith, inv.all, c.loop-self-test.true)) c.edge-edge.ensures) in
-    shortens edge _ _ (sym (c.is_some.ensures) ∙ c.if-is_some.true) tt (sym c.self.view_is ∙ sym inv.left ∙ first)
+    record {
+      steps = yields edge _ _ (sym (c.is_some.ensures) ∙ c.if-is_some.true) (sym c.self.view_is ∙ sym inv.left ∙ first);
+      goes = shortens edge _ _ (sym (c.is_some.ensures) ∙ c.if-is_some.true) tt (sym c.self.view_is ∙ sym inv.left ∙ first);
+    }
 
 pub loop-self-smaller : goal.loop-self-smaller
 loop-self-smaller g c = shorter c.loop-self.self-inside.next c.loop-self.self-inside.end c.loop-self-test.true
@@ -55,11 +48,11 @@ loop-self-preserved g c =
     let first = present_from (places_at size places s.node) s.next edge (at_place size s.node places s.next edge (omega (arith, inv.all, c.loop-self-test.true)) c.edge-edge.ensures) in
     record { same = inv.same; within = omega arith; all = inv.all; left = passes edge _ _ (sym (c.is_some.ensures) ∙ c.if-is_some.false) first ∙ inv.left }
 
-pub returns-clause-steps : goal.returns-clause-steps
-returns-clause-steps g c =
-    let s = c.loop-self.self-inside in
-    let inv = c.loop-self.invariant in
-    none_left (places_at (g.G.Graph.size s.graph.now) (g.G.Graph.places s.graph.now) s.node) s.next s.end c.loop-self-test.false inv.all (inv.left ∙ c.self.view_is)
-
-pub returns-clause-goes : goal.returns-clause-goes
-returns-clause-goes g c = stands_still None refl
+pub returns : goal.returns
+returns g c = record {
+  steps =
+      let s = c.loop-self.self-inside in
+      let inv = c.loop-self.invariant in
+      none_left (places_at (g.G.Graph.size s.graph.now) (g.G.Graph.places s.graph.now) s.node) s.next s.end c.loop-self-test.false inv.all (inv.left ∙ c.self.view_is);
+  goes = stands_still None refl;
+}

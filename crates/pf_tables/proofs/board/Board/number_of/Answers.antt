@@ -14,11 +14,11 @@ overflow_add-result g c =
     let column = rw (← c.self.view_is) at c.requires.column in
     omega (arith, place_inside c.self.inside.rows c.self.inside.columns _ c.args.row c.args.column c.self.invariant.sized row column)
 
-pub returns-clause-number : goal.returns-clause-number
-returns-clause-number g c = rw (← c.self.view_is) refl
-
-pub returns-clause-inside : goal.returns-clause-inside
-returns-clause-inside g c =
-    let row = rw (← c.self.view_is) at c.requires.row in
-    let column = rw (← c.self.view_is) at c.requires.column in
-    rw (← c.self.view_is) (place_inside c.self.inside.rows c.self.inside.columns _ c.args.row c.args.column c.self.invariant.sized row column)
+pub returns : goal.returns
+returns g c = record {
+  number = rw (← c.self.view_is) refl;
+  inside =
+      let row = rw (← c.self.view_is) at c.requires.row in
+      let column = rw (← c.self.view_is) at c.requires.column in
+      rw (← c.self.view_is) (place_inside c.self.inside.rows c.self.inside.columns _ c.args.row c.args.column c.self.invariant.sized row column);
+}

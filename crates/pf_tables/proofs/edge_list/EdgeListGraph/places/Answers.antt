@@ -3,7 +3,7 @@ use Rattle.std.proofs.lemmas.Option.{slice_get_within}
 use Rattle.pf_base.specs.NodeRefs.{nodes_of}
 use Rattle.pf_core.proofs.ListLemmas.{at_place}
 use Rattle.pf_tables.specs.EdgeLists.{places_of}
-use Rattle.pf_tables.specs.Layouts.{IsLaidOut}
+use Rattle.pf_tables.specs.Internal.Layouts.{IsLaidOut}
 use Rattle.pf_tables.proofs.EdgeListLemmas.{node_offsets}
 use Rattle.pf_tables.proofs.Faulty.{some_same}
 use Rattle.pf_tables.proofs.edge_list.EdgeListGraph.places.Goals as goal

@@ -8,7 +8,7 @@ use Rattle.pf_core.proofs.Outcomes.{refused_still}
 use Rattle.pf_core.proofs.ListLemmas.{at_place, on_ok, ok_or_err}
 use Rattle.pf_core.proofs.NodeLemmas.{fresh_number, Grows-from_take, inside_of, Lists-from, reached_added}
 use Rattle.pf_core.proofs.OrderLemmas.{Placed-same, InOrder-same, ends_at}
-use Rattle.pf_tables.specs.Numbering.{steps_at}
+use Rattle.pf_tables.specs.Internal.Numbering.{steps_at}
 use Rattle.pf_tables.proofs.ExploreLemmas.{nat_alike}
 use Rattle.pf_tables.proofs.explored.ExploredNumberedGraphU8.expand.Goals as goal
 

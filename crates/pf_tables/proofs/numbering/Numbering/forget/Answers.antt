@@ -33,13 +33,11 @@ nodes-preserved g c =
     let e : c.nodes.self.order.items ≡ c.pop.new.self.items = search rules in
     rw (← e) c.nodes.invariant
 
-pub returns-clause-index : goal.returns-clause-index
-returns-clause-index g c = c.nodes.invariant.index
-
-pub returns-clause-wide : goal.returns-clause-wide
-returns-clause-wide g c = c.nodes.invariant.wide
-
-pub returns-clause-left : goal.returns-clause-left
-returns-clause-left g c =
-    let short : length c.nodes.self.order.items ≤ c.args.first = omega (arith, c.nodes-test.false, c.len.ensures, c.nodes.self.order.ok) in
-    sym (take_all c.args.first c.nodes.self.order.items short) ∙ c.nodes.invariant.kept
+pub returns : goal.returns
+returns g c = record {
+  index = c.nodes.invariant.index;
+  wide = c.nodes.invariant.wide;
+  left =
+      let short : length c.nodes.self.order.items ≤ c.args.first = omega (arith, c.nodes-test.false, c.len.ensures, c.nodes.self.order.ok) in
+      sym (take_all c.args.first c.nodes.self.order.items short) ∙ c.nodes.invariant.kept;
+}

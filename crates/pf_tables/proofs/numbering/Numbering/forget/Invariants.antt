@@ -1,5 +1,5 @@
 use Rattle.std.proofs.Common.{◌≡◌, ◌≤◌, length, take}
-use Rattle.pf_tables.specs.Numbering.{IsIndex}
+use Rattle.pf_tables.specs.Internal.Numbering.{IsIndex}
 use Rattle.pf_tables.proofs.numbering.Numbering.forget.Given as goal
 
 abbrev pub invariant-nodes : goal.invariant-nodes

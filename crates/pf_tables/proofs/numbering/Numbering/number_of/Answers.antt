@@ -5,7 +5,7 @@ use Rattle.std.proofs.lemmas.Result.{IfOk-from_err}
 use Rattle.pf_core.specs.Nodes.{AddsNode}
 use Rattle.pf_core.proofs.ListLemmas.{at_place}
 use Rattle.pf_core.proofs.NodeLemmas.{AddsNode-new, AddsNode-old}
-use Rattle.pf_tables.specs.Numbering.{IsIndex}
+use Rattle.pf_tables.specs.Internal.Numbering.{IsIndex}
 use Rattle.pf_tables.proofs.IndexLemmas.{get_last, index_push, is_new}
 use Rattle.pf_tables.proofs.Outcomes.{refused_as}
 use Rattle.pf_tables.proofs.numbering.Numbering.number_of.Goals as goal

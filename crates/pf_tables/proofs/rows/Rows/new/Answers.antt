@@ -20,9 +20,6 @@ returns-in_err-check_part g c =
 pub invariant_of-result : goal.invariant_of-result
 invariant_of-result g c = graph_of_sound (row_of g.R.Row.edges c.args.rows.now) (λ n l. c.loop-node.invariant n (omega (arith, l)))
 
-pub returns-clause-sound : goal.returns-clause-sound
-returns-clause-sound g c = graph_of_sound (row_of g.R.Row.edges c.args.rows.now) (λ n l. c.loop-node.invariant n (omega (arith, l)))
-
 pub bounds-rows-node : goal.bounds-rows-node
 bounds-rows-node g c = c.loop-node-test.true
 
@@ -38,8 +35,9 @@ loop-node-init g c = λ n l. absurd (omega (arith, l))
 pub loop-node-smaller : goal.loop-node-smaller
 loop-node-smaller g c = omega (arith, c.loop-node-test.true)
 
-pub returns-clause-graph : goal.returns-clause-graph
-returns-clause-graph g c = refl
-
-pub returns-clause-fault : goal.returns-clause-fault
-returns-clause-fault g c = tt
+pub returns : goal.returns
+returns g c = record {
+  sound = graph_of_sound (row_of g.R.Row.edges c.args.rows.now) (λ n l. c.loop-node.invariant n (omega (arith, l)));
+  graph = refl;
+  fault = tt;
+}

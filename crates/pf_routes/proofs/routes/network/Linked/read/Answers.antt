@@ -10,8 +10,8 @@ edges_linked : {A : Type 0} (r : Result (Linked A) RouteError) (names : List (Bo
 edges_linked (Ok linked) names text h = (_, h.spelled, record { names = names; kept = h.kept; spelled = refl; below = h.below; distinct = h.distinct })
 edges_linked (Err e) names text h = tt
 
-pub returns-clause-ok : goal.returns-clause-ok
-returns-clause-ok g c = edges_linked c.read_into.result c.read_into.new.names.keys c.args.text.now c.read_into.ensures.ok
-
-pub returns-clause-err : goal.returns-clause-err
-returns-clause-err g c = c.read_into.ensures.err
+pub returns : goal.returns
+returns g c = record {
+  ok = edges_linked c.read_into.result c.read_into.new.names.keys c.args.text.now c.read_into.ensures.ok;
+  err = c.read_into.ensures.err;
+}

@@ -1,0 +1,5 @@
+-- What only private functions cite.
+pub mod CostlessLaws
+pub mod Layouts
+pub mod Numbering
+pub mod OwnLaws
