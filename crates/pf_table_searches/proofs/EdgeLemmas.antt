@@ -8,7 +8,7 @@ use Rattle.pf_base.specs.Answers.{AnswersGraph, AnswersSuccessors, Gives}
 use Rattle.pf_base.proofs.Callers.{nat_graph, valued}
 use Rattle.pf_base.proofs.Tables.{nat_successors}
 use Rattle.pf_tables.specs.Graphs.{edges_at, graph_of, successors_of}
-use Rattle.pf_table_searches.specs.Edges.{present, places_at, edges_of, ends_of}
+use Rattle.pf_table_searches.specs.Internal.Edges.{present, places_at, edges_of, ends_of}
 
 module _ {C : Type 0} (value : C → ℤ) where
   edges_present : (ps : List (Option (ℕ × C))) → valued value (present ps) ≡ edges_at value ps

@@ -6,7 +6,7 @@ use Rattle.std.specs.Prelude.{if◌then◌else◌, nat_lt}
 use Rattle.std.specs.List.{cons_option, slice_get}
 use Rattle.std.specs.Option.{is_some}
 use Rattle.std.specs.Iterator.{YieldsFirst, MakesProgress, item_count}
-use Rattle.pf_table_searches.specs.Edges.{present}
+use Rattle.pf_table_searches.specs.Internal.Edges.{present}
 
 after : {A : Type 0} (ps : List (Option A)) (k : ℕ) (o : Option A) → slice_get ps k ≡ Some o → present (drop k ps) ≡ cons_option o (present (drop (suc k) ps))
 after [] k o e = cc

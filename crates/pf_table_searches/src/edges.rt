@@ -2,7 +2,7 @@
 
 ghost use Rattle.std.specs.Prelude.{◌≡◌, length};
 ghost use Rattle.std.specs.Iterator.{YieldsFirst, item_count};
-ghost use Rattle.pf_table_searches.specs.Edges.{edges_of, ends_of, places_at};
+ghost use Rattle.pf_table_searches.specs.Internal.Edges.{edges_of, ends_of, places_at};
 
 use pf_base::Cost;
 use pf_tables::Graph;
@@ -20,7 +20,7 @@ pub struct Edges<'a, C: Cost, G: Graph<C>> {
 
 impl<'a, C: Cost, G: Graph<C>> Model for Edges<'a, C, G> {
     ghost use Rattle.std.specs.Prelude.{◌≡◌, ◌≤◌, ℕ, List, drop, length};
-    ghost use Rattle.pf_table_searches.specs.Edges.{present, places_at};
+    ghost use Rattle.pf_table_searches.specs.Internal.Edges.{present, places_at};
 
     ghost Value = { List (ℕ × C) };
 

@@ -1,5 +1,5 @@
 use Rattle.std.proofs.Common.{refl, ◌∙◌, sym, arith, None}
-use Rattle.pf_table_searches.specs.Edges.{places_at}
+use Rattle.pf_table_searches.specs.Internal.Edges.{places_at}
 use Rattle.pf_table_searches.proofs.PlaceLemmas.{at_place, node_with_place, none_left, passes, place_of_node, present_from, shorter, shortens, stands_still, yields}
 use Rattle.pf_table_searches.proofs.edges.EdgesIterator.next.Goals as goal
 

@@ -1,5 +1,5 @@
 use Rattle.std.proofs.Common.{◌≡◌, ◌≤◌, ◌-◌, drop, length}
-use Rattle.pf_table_searches.specs.Edges.{present, places_at}
+use Rattle.pf_table_searches.specs.Internal.Edges.{present, places_at}
 use Rattle.pf_table_searches.proofs.edges.EdgesIterator.next.Given as goal
 
 -- nothing stands at the places so far
