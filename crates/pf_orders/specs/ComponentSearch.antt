@@ -1,9 +1,11 @@
 -- Where a search for strong components over numbers stands.
-use Rattle.std.specs.Prelude.{◌≡◌, ◌↔◌, ◌⊎◌, ◌<◌, ◌≤◌, ◌+◌, ℕ, ℤ, List, Some, slice_get, length}
+use Rattle.std.specs.Prelude.{◌≡◌, ◌↔◌, ◌⊎◌, ◌<◌, ◌≤◌, ◌+◌, ◌-◌, ◌++◌, ℕ, ℤ, List, Some, slice_get, length, replicate}
 use Rattle.pf_base.specs.Walks.{Follows, end_of}
 use Rattle.pf_orders.specs.declared.component_search.Place.{Place}
-use Rattle.pf_orders.specs.declared.component_search.Place.TheVariants.{Open, Closed}
+use Rattle.pf_orders.specs.declared.component_search.Place.TheVariants.{New, Open, Closed}
 use Rattle.pf_orders.specs.declared.component_search.Segment.{Segment}
+use Rattle.pf_orders.specs.declared.component_search.ComponentSearch.{ComponentSearch}
+use Rattle.pf_orders.specs.Components.{lists_of}
 
 -- the list has x at this place
 abbrev pub IsAt : {A : Type 0} → List A → ℕ → A → Type 0
@@ -16,6 +18,10 @@ IsLast segments c = (i : ℕ) × IsAt segments i c × (i + 1 ≡ length segments
 -- the list with this index has the number
 abbrev pub IsMember : List (List ℕ) → ℕ → ℕ → Type 0
 IsMember components i k = (c : List ℕ) × (p : ℕ) × IsAt components i c × IsAt c p k
+
+-- the places, with those of the numbers that were found since then new
+abbrev pub widened : ℕ → List Place → List Place
+widened found places = places ++ replicate (found - length places) New
 
 -- the component of the number was found
 abbrev pub IsClosed : List Place → ℕ → Type 0
@@ -98,3 +104,12 @@ module _ {X : Type 0} (step : X → ℤ → X → Type 0) (stands : ℕ → X �
     pub inside : (i k : ℕ) → IsMember components i k → k < found
     pub apart : AreApart components
     pub closing : AreClosing step stands components
+
+module _ {A : Type 0} where
+  -- `IsPlaced` of what a search has
+  abbrev pub IsPlacedIn : ℕ → ComponentSearch A → Type 0
+  IsPlacedIn found s = IsPlaced found s.places.items s.path.items s.waiting.items s.segments.items (lists_of s.components.items)
+
+  -- `IsOpenPath` of what a search has
+  abbrev pub IsOpenIn : {X : Type 0} → (X → ℤ → X → Type 0) → (ℕ → X → Type 0) → ComponentSearch A → Type 0
+  IsOpenIn step stands s = IsOpenPath step stands s.places.items s.path.items s.waiting.items s.segments.items

@@ -10,6 +10,10 @@ use Rattle.pf_orders.specs.declared.ordering.Mark.TheVariants.{New, Open, Done}
 abbrev pub entries : List ℕ → List Turn
 entries numbers = map (λ (k : ℕ). Turn.Enter k) numbers
 
+-- the turns enter each number below n, and do nothing else
+abbrev pub EnterBelow : ℕ → List Turn → Type 0
+EnterBelow n turns = ((k : ℕ) → k < n → Contains turns (Turn.Enter k)) × ((t : Turn) → Contains turns t → (k : ℕ) × (k < n) × (t ≡ Turn.Enter k))
+
 -- the number that a turn is about
 abbrev pub number_of : Turn → ℕ
 number_of (Enter k) = k

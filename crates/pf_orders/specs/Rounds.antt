@@ -64,6 +64,10 @@ module _ {A : Type 0} where
     pub behind : (k j : ℕ) → InGroup nat_eq groups (k + 1) j → (i : ℕ) × InGroup nat_eq groups k i × Targets rows i j
     pub left_behind : (j : ℕ) → HasNode nat_eq remaining j → (i : ℕ) × HasNode nat_eq remaining i × Targets rows i j
 
+-- each row has the numbers of the successors of the row's node, in order
+abbrev pub AreSuccessorRows : {X A : Type 0} → (ℕ → X → Type 0) → (X → List X) → List (Vec ℕ A) → Type 0
+AreSuccessorRows {X} {A} stands successors rows = (k : ℕ) (row : Vec ℕ A) (x : X) → slice_get rows k ≡ Some row → stands k x → AllZip stands row.items (successors x)
+
 -- the nodes that the numbers of a group stand for
 abbrev pub AreNodesAt : {N A : Type 0} → (N → N → Bool) → List N → Vec ℕ A → Vec N A → Type 0
 AreNodesAt eq keys numbers nodes = AllZip (StandsFor eq keys) numbers.items nodes.items

@@ -1,12 +1,11 @@
 //! The search for strong components, over numbers.
 
-ghost use Rattle.std.specs.Prelude.{◌≡◌, ◌<◌, ◌≤◌, ◌-◌, ◌++◌, ◌∷◌, [], ℕ, ℤ, List, Some, None, true, false, OnOk, OnErr, IfOk, IfErr, IfSome, IfNone, length, take, drop, map, slice_set, replicate, Contains};
-ghost use Rattle.std.specs.List.{AllZip};
-ghost use Rattle.pf_core.specs.Numbered.{Grows, ListsSteps};
+ghost use Rattle.std.specs.Prelude.{◌≡◌, ◌<◌, ◌≤◌, ◌-◌, ◌++◌, ◌∷◌, [], ℕ, Some, None, true, false, OnOk, IfOk, IfErr, IfSome, IfNone, length, take, drop, slice_set};
+ghost use Rattle.pf_core.specs.Numbered.{Grows};
 ghost use Rattle.pf_orders.specs.declared.component_search.Place.{Place};
 ghost use Rattle.pf_orders.specs.declared.component_search.Segment.{Segment};
 ghost use Rattle.pf_orders.specs.Components.{lists_of};
-ghost use Rattle.pf_orders.specs.ComponentSearch.{IsAt, IsClosed, IsPlaced, IsOpenPath, AreClosing, AreNumberedComponents, Closes, Joins, IsLast};
+ghost use Rattle.pf_orders.specs.ComponentSearch.{widened, IsAt, IsPlacedIn, IsOpenIn, AreClosing, AreNumberedComponents, Closes, Joins, IsLast};
 
 use pf_base::{Cost, PathError};
 use pf_core::numbered::NumberedGraph;
@@ -75,7 +74,7 @@ fn join_segments<A: Allocator>(segments: &mut Vec<Segment, A>, place: usize)
 impl<A: Allocator + Copy> ComponentSearch<A> {
     /// A search that begins with so many numbers.
     fn new(alloc: A, found: usize) -> Result<ComponentSearch<A>, PathError>
-        ensures placed { IfOk result (λ s. IsPlaced found s.places.items s.path.items s.waiting.items s.segments.items (lists_of s.components.items)) }
+        ensures placed { IfOk result (IsPlacedIn found) }
         ensures path { IfOk result (λ s. s.path.items ≡ []) }
         ensures segments { IfOk result (λ s. s.segments.items ≡ []) }
         ensures components { IfOk result (λ s. s.components.items ≡ []) }
@@ -134,7 +133,7 @@ impl<A: Allocator + Copy> ComponentSearch<A> {
         ensures path { OnOk result (self.new.path.items ≡ self.old.path.items ++ number ∷ []) }
         ensures waiting { OnOk result (self.new.waiting.items ≡ take (length self.old.waiting.items - 1) self.old.waiting.items ++ self.old.row.items) }
         ensures segments { OnOk result (self.new.segments.items ≡ self.old.segments.items ++ record { begin = length self.old.path.items; waiting = length self.old.waiting.items - 1 } ∷ []) }
-        ensures places { OnOk result (self.new.places.items ≡ slice_set (self.old.places.items ++ replicate (found - length self.old.places.items) Place.New) number (Place.Open (length self.old.path.items))) }
+        ensures places { OnOk result (self.new.places.items ≡ slice_set (widened found self.old.places.items) number (Place.Open (length self.old.path.items))) }
         ensures components { self.new.components.items ≡ self.old.components.items }
         ensures refused { IfErr result (λ e. e ≡ PathError.OutOfMemory) }
     {
@@ -158,15 +157,15 @@ impl<A: Allocator + Copy> ComponentSearch<A> {
         graph: &mut G,
     ) -> Result<bool, PathError>
         requires graph { (g : G.Graph) × G.explores graph.old g }
-        requires placed { IsPlaced (G.found graph.old) self.old.places.items self.old.path.items self.old.waiting.items self.old.segments.items (lists_of self.old.components.items) }
+        requires placed { IsPlacedIn (G.found graph.old) self.old }
         ensures grows { Grows (G.found graph.old) (G.found graph.new) (G.stands graph.old) (G.stands graph.new) }
         ensures graph { (g : G.Graph) → G.explores graph.old g → G.explores graph.new g }
-        ensures placed { OnOk result (IsPlaced (G.found graph.new) self.new.places.items self.new.path.items self.new.waiting.items self.new.segments.items (lists_of self.new.components.items)) }
+        ensures placed { OnOk result (IsPlacedIn (G.found graph.new) self.new) }
         ensures path { OnOk result ((g : G.Graph) → G.explores graph.old g
-            → IsOpenPath (G.step g) (G.stands graph.old) self.old.places.items self.old.path.items self.old.waiting.items self.old.segments.items
-            → IsOpenPath (G.step g) (G.stands graph.new) self.new.places.items self.new.path.items self.new.waiting.items self.new.segments.items) }
+            → IsOpenIn (G.step g) (G.stands graph.old) self.old
+            → IsOpenIn (G.step g) (G.stands graph.new) self.new) }
         ensures closing { OnOk result ((g : G.Graph) → G.explores graph.old g
-            → IsOpenPath (G.step g) (G.stands graph.old) self.old.places.items self.old.path.items self.old.waiting.items self.old.segments.items
+            → IsOpenIn (G.step g) (G.stands graph.old) self.old
             → AreClosing (G.step g) (G.stands graph.old) (lists_of self.old.components.items)
             → AreClosing (G.step g) (G.stands graph.new) (lists_of self.new.components.items)) }
         ensures ended { IfOk result (λ more. more ≡ false → (self.new.path.items ≡ []) × (self.new.waiting.items ≡ [])) }

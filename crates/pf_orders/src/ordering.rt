@@ -1,9 +1,9 @@
 //! Numbers in topological order (depth-first search).
 
-ghost use Rattle.std.specs.Prelude.{◌≡◌, ◌<◌, ◌≤◌, ◌+◌, ◌-◌, ◌++◌, ◌∷◌, [], ℕ, List, Contains, IfOk, IfErr, IfSome, IfNone, OnOk, length, slice_set, replicate, reverse, map};
+ghost use Rattle.std.specs.Prelude.{◌≡◌, ◌<◌, ◌≤◌, ◌+◌, ◌-◌, ◌++◌, ◌∷◌, [], ℕ, List, Contains, IfOk, IfErr, IfSome, IfNone, OnOk, length, slice_set, replicate, reverse};
 ghost use Rattle.std.specs.List.{AllZip};
 ghost use Rattle.pf_core.specs.Numbered.{Grows};
-ghost use Rattle.pf_orders.specs.Orderings.{entries, IsOrderedReach, IsOnNumberedCycle};
+ghost use Rattle.pf_orders.specs.Orderings.{entries, EnterBelow, IsOrderedReach, IsOnNumberedCycle};
 
 use pf_base::utils::Tally;
 use pf_base::{Cost, PathError};
@@ -59,7 +59,7 @@ impl<A: Allocator + Copy> Sorting<A> {
     /// A walk that has entered none of these first numbers, and will enter them in order.
     fn begin(alloc: A, found: usize) -> Result<Sorting<A>, PathError>
         ensures marks { IfOk result (λ walk. walk.marks.items ≡ replicate found Mark.New) }
-        ensures turns { IfOk result (λ walk. ((k : ℕ) → k < found → Contains walk.turns.items (Turn.Enter k)) × ((t : Turn) → Contains walk.turns.items t → (k : ℕ) × (k < found) × (t ≡ Turn.Enter k))) }
+        ensures turns { IfOk result (λ walk. EnterBelow found walk.turns.items) }
         ensures left { IfOk result (λ walk. walk.left.items ≡ []) }
         ensures refused { IfErr result (λ e. e ≡ PathError.OutOfMemory) }
     {
@@ -126,7 +126,7 @@ impl<A: Allocator + Copy> Sorting<A> {
     ) -> Result<Option<usize>, PathError>
         requires graph { (g : G.Graph) × G.explores graph.old g }
         requires marks { self.old.marks.items ≡ replicate (G.found graph.old) Mark.New }
-        requires turns { ((k : ℕ) → k < G.found graph.old → Contains self.old.turns.items (Turn.Enter k)) × ((t : Turn) → Contains self.old.turns.items t → (k : ℕ) × (k < G.found graph.old) × (t ≡ Turn.Enter k)) }
+        requires turns { EnterBelow (G.found graph.old) self.old.turns.items }
         requires left { self.old.left.items ≡ [] }
         ensures grows { Grows (G.found graph.old) (G.found graph.new) (G.stands graph.old) (G.stands graph.new) }
         ensures graph { (g : G.Graph) → G.explores graph.old g → G.explores graph.new g }

@@ -1,10 +1,9 @@
 //! The numbers that follow each number, and how often each one follows.
 
-ghost use Rattle.std.specs.Prelude.{◌≡◌, ◌⊎◌, ◌<◌, [], ℕ, replicate, Err, Some, Vec, IfOk, IfErr, OnOk, Contains, length, slice_get, nat_eq};
-ghost use Rattle.std.specs.List.{AllZip};
+ghost use Rattle.std.specs.Prelude.{◌≡◌, ◌⊎◌, ◌<◌, [], ℕ, replicate, Err, Some, Vec, IfOk, IfErr, OnOk, Contains, length, nat_eq};
 ghost use Rattle.pf_base.specs.Walks.{HasNode};
 ghost use Rattle.pf_core.specs.Numbered.{Grows, StandsBelow};
-ghost use Rattle.pf_orders.specs.Rounds.{AreCounted, Falls};
+ghost use Rattle.pf_orders.specs.Rounds.{AreCounted, AreSuccessorRows, Falls};
 
 use crate::rounds::Rows;
 use pf_base::{Cost, PathError};
@@ -45,7 +44,7 @@ fn fill_rows<C: Cost, G: NumberedGraph<C>, A: Allocator + Copy>(
     ensures counted { OnOk result (AreCounted rows.new.items counts.new.items) }
     ensures wide { OnOk result (length rows.new.items ≡ G.found graph.old) }
     ensures long { OnOk result (length counts.new.items ≡ G.found graph.old) }
-    ensures listed { (g : G.Graph) → G.explores graph.old g → OnOk result ((k : ℕ) (row : Vec ℕ A) (x : G.Node) → slice_get rows.new.items k ≡ Some row → G.stands graph.new k x → AllZip (G.stands graph.new) row.items (G.successors g x)) }
+    ensures listed { (g : G.Graph) → G.explores graph.old g → OnOk result (AreSuccessorRows (G.stands graph.new) (G.successors g) rows.new.items) }
     ensures unknown { (g : G.Graph) → G.explores graph.old g → result ≡ Err PathError.UnknownVertex
         → (x : G.Node) × (y : G.Node) × StandsBelow (G.found graph.old) (G.stands graph.new) x × Contains (G.successors g x) y × ¬ (StandsBelow (G.found graph.old) (G.stands graph.new) y) }
     ensures errors { IfErr result (λ e. (e ≡ PathError.OutOfMemory) ⊎ (e ≡ PathError.UnknownVertex)) }
@@ -77,7 +76,7 @@ pub fn read_rows<C: Cost, G: NumberedGraph<C>, A: Allocator + Copy>(
     ensures counted { IfOk result (λ read. AreCounted read.0.items read.1.items) }
     ensures wide { IfOk result (λ read. length read.0.items ≡ G.found graph.old) }
     ensures long { IfOk result (λ read. length read.1.items ≡ G.found graph.old) }
-    ensures listed { (g : G.Graph) → G.explores graph.old g → IfOk result (λ read. (k : ℕ) (row : Vec ℕ A) (x : G.Node) → slice_get read.0.items k ≡ Some row → G.stands graph.new k x → AllZip (G.stands graph.new) row.items (G.successors g x)) }
+    ensures listed { (g : G.Graph) → G.explores graph.old g → IfOk result (λ read. AreSuccessorRows (G.stands graph.new) (G.successors g) read.0.items) }
     ensures unknown { (g : G.Graph) → G.explores graph.old g → result ≡ Err PathError.UnknownVertex
         → (x : G.Node) × (y : G.Node) × StandsBelow (G.found graph.old) (G.stands graph.new) x × Contains (G.successors g x) y × ¬ (StandsBelow (G.found graph.old) (G.stands graph.new) y) }
     ensures errors { IfErr result (λ e. (e ≡ PathError.OutOfMemory) ⊎ (e ≡ PathError.UnknownVertex)) }
