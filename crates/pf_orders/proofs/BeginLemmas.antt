@@ -11,7 +11,7 @@ use Rattle.pf_base.specs.Successors.{HasSuccessor}
 use Rattle.pf_base.specs.Walks.{IsReachable}
 use Rattle.pf_core.specs.Sources.{AnswersHops}
 use Rattle.pf_core.proofs.UnitLemmas.{Explores-successors}
-use Rattle.pf_orders.specs.Beginnings.{Begins}
+use Rattle.pf_orders.specs.Internal.Beginnings.{Begins}
 
 -- with a set of the starts
 module _ {F N I S : Type 0} {calls : Mut F (Bor N × Unit {0}) I} {becomes : I → S → Type 0} {can : S → Type 0} {left : S → Count} {steps : S → Option N → S → Type 0} {eq : N → N → Bool} where

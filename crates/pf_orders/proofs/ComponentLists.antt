@@ -6,8 +6,8 @@ use Rattle.std.specs.List.{AllZip}
 use Rattle.std.specs.Option.{option_map}
 use Rattle.std.proofs.lemmas.Option.{slice_get_read, slice_get-map}
 use Rattle.pf_core.proofs.ListLemmas.{none_in, get_set}
-use Rattle.pf_orders.specs.Components.{lists_of}
-use Rattle.pf_orders.specs.ComponentSearch.{IsAt}
+use Rattle.pf_orders.specs.StrongComponents.{lists_of}
+use Rattle.pf_orders.specs.Internal.ComponentSearch.{IsAt}
 
 module _ {A : Type 0} where
   pub at_one : (xs : List A) (k : ℕ) (x y : A) → IsAt xs k x → IsAt xs k y → x ≡ y

@@ -15,9 +15,9 @@ use Rattle.pf_core.proofs.ListLemmas.{none_in}
 use Rattle.pf_core.proofs.NodeLemmas.{eq-sym, eq-trans, StandsFor-same, InReach-same, InReach-start, InReach-more, edge_of_same}
 use Rattle.pf_core.proofs.UnitLemmas.{edge_of_next}
 use Rattle.pf_core.proofs.WalkLemmas.{distinct_nodes}
-use Rattle.pf_orders.specs.Beginnings.{hops_from}
-use Rattle.pf_orders.specs.Components.{IsInComponent, Reaches, StronglyConnected, IsStrongComponentOf, AreStrongComponents}
-use Rattle.pf_orders.specs.ComponentSearch.{IsAt, IsMember, IsLink, Leads, AreNumberedComponents}
+use Rattle.pf_orders.specs.Internal.Beginnings.{hops_from}
+use Rattle.pf_orders.specs.StrongComponents.{IsInComponent, Reaches, StronglyConnected, IsStrongComponentOf, AreStrongComponents}
+use Rattle.pf_orders.specs.Internal.ComponentSearch.{IsAt, IsMember, IsLink, Leads, AreNumberedComponents}
 use Rattle.pf_orders.proofs.ComponentLists.{at_one}
 
 -- ---- lists place by place

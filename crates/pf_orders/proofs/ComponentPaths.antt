@@ -9,7 +9,7 @@ use Rattle.pf_core.proofs.ListLemmas.{none_in, nat_dec, get-append, take_get, ge
 use Rattle.pf_orders.specs.declared.component_search.Place.{Place}
 use Rattle.pf_orders.specs.declared.component_search.Place.TheVariants.{New, Open, Closed}
 use Rattle.pf_orders.specs.declared.component_search.Segment.{Segment}
-use Rattle.pf_orders.specs.ComponentSearch.{IsAt, IsLast, IsMember, IsClosed, IsPlaced, Closes, Joins, IsLink, Leads, LeadsInto, AreClosing, AreBeside, IsBehind, IsOpenPath, AreNumberedComponents}
+use Rattle.pf_orders.specs.Internal.ComponentSearch.{IsAt, IsLast, IsMember, IsClosed, IsPlaced, Closes, Joins, IsLink, Leads, LeadsInto, AreClosing, AreBeside, IsBehind, IsOpenPath, AreNumberedComponents}
 use Rattle.pf_orders.proofs.ComponentLists.{at_one, at_end, at_behind, at_split, at_more, take_below, drop_get, get_drop, below_or, ends_at, at_ends}
 use Rattle.pf_orders.proofs.ComponentPlaces.{IsNotSpent, room, joined_before, places_on, segment_on, stays_on, closed_now, closed_stays, left_before, before_last}
 

@@ -7,7 +7,7 @@ use Rattle.pf_core.proofs.ListLemmas.{none_in, nat_dec, get-append, take_get, ge
 use Rattle.pf_orders.specs.declared.component_search.Place.{Place}
 use Rattle.pf_orders.specs.declared.component_search.Place.TheVariants.{New, Open, Closed}
 use Rattle.pf_orders.specs.declared.component_search.Segment.{Segment}
-use Rattle.pf_orders.specs.ComponentSearch.{IsAt, IsLast, IsMember, IsClosed, IsPlaced, AreApart, Closes, Joins}
+use Rattle.pf_orders.specs.Internal.ComponentSearch.{IsAt, IsLast, IsMember, IsClosed, IsPlaced, AreApart, Closes, Joins}
 use Rattle.pf_orders.proofs.ComponentLists.{at_one, at_some, at_end, at_behind, at_split, at_more, take_below, drop_get, get_drop, at_replicate, set_other, set_here, set_cases, below_or, set_length, none_at}
 
 open_same : (p q : ℕ) → Open p ≡ Open q → p ≡ q

@@ -15,9 +15,9 @@ use Rattle.pf_core.proofs.ListLemmas.{Contains-cases, Contains-head, Contains-ta
 use Rattle.pf_core.proofs.NodeLemmas.{eq-sym, eq-trans, StandsFor-same, follows_more}
 use Rattle.pf_core.proofs.UnitLemmas.{starts_stand, begins_all}
 use Rattle.pf_core.proofs.WalkLemmas.{HasNode-same, distinct_nodes}
-use Rattle.pf_orders.specs.Beginnings.{hops_from}
+use Rattle.pf_orders.specs.Internal.Beginnings.{hops_from}
 use Rattle.pf_orders.specs.GroupDepths.{InGroup, AreClosed, HasDepth, AreDepthGroups, HaveNoDepth}
-use Rattle.pf_orders.specs.Rounds.{Targets, AreCounted, AreLevels, AreNodesAt}
+use Rattle.pf_orders.specs.Internal.Rounds.{Targets, AreCounted, AreLevels, AreNodesAt}
 use Rattle.pf_orders.proofs.OrderLemmas.{member_of, of_member}
 use Rattle.pf_orders.proofs.RoundLemmas.{get_below}
 use Rattle.pf_orders.proofs.SortLemmas.{targets, target_of, of_target, node_in, number_in}

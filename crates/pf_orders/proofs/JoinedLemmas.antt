@@ -11,7 +11,7 @@ use Rattle.pf_core.proofs.ListLemmas.{none_in}
 use Rattle.pf_core.proofs.NodeLemmas.{eq-sym, follows_more}
 use Rattle.pf_core.proofs.WalkLemmas.{HasNode-same}
 use Rattle.pf_orders.specs.GroupDepths.{InGroup, AreClosed, HasDepth, AreDepthGroups}
-use Rattle.pf_orders.specs.Joined.{AreJoined}
+use Rattle.pf_orders.specs.JoinedGroups.{AreJoined}
 use Rattle.pf_orders.specs.TopologicalOrders.{LeadsForward, IsTopologicalOrder}
 
 module _ {N : Type 0} (eq : N → N → Bool) (laws : IsEquivalence eq) where

@@ -14,7 +14,7 @@ use Rattle.pf_orders.specs.declared.ordering.Turn.{Turn}
 use Rattle.pf_orders.specs.declared.ordering.Turn.TheVariants.{Enter, Leave}
 use Rattle.pf_orders.specs.declared.ordering.Mark.{Mark}
 use Rattle.pf_orders.specs.declared.ordering.Mark.TheVariants.{New, Open, Done}
-use Rattle.pf_orders.specs.Orderings.{entries, number_of, IsMarked, was_entered, entered_count, IsLeft, LeaveOpen, AreInside, IsSorting, Leads, LeadsInto, IsOrdered, FollowsOpen, IsChained, IsCovered, IsAlong, IsOrderedReach, IsOnNumberedCycle}
+use Rattle.pf_orders.specs.Internal.Orderings.{entries, number_of, IsMarked, was_entered, entered_count, IsLeft, LeaveOpen, AreInside, IsSorting, Leads, LeadsInto, IsOrdered, FollowsOpen, IsChained, IsCovered, IsAlong, IsOrderedReach, IsOnNumberedCycle}
 
 -- ---- members of lists
 

@@ -11,7 +11,7 @@ use Rattle.pf_base.specs.declared.error.PathError.TheVariants.{OutOfMemory, Unkn
 use Rattle.pf_core.proofs.ListLemmas.{nat_dec, bool_dec, get_set, get-append, get-append_cases, none_in}
 use Rattle.pf_core.proofs.PathLemmas.{HasNode-append_cases, NoRepeats-append}
 use Rattle.pf_orders.specs.GroupDepths.{InGroup}
-use Rattle.pf_orders.specs.Rounds.{times, times_in, Targets, AreCounted, Falls, AreFreed, IsRound, AreLevels}
+use Rattle.pf_orders.specs.Internal.Rounds.{times, times_in, Targets, AreCounted, Falls, AreFreed, IsRound, AreLevels}
 
 -- ---- refusals
 

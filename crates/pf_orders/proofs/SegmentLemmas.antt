@@ -4,11 +4,11 @@ use Rattle.std.specs.Prelude.{◌⊎◌, slice_set}
 use Rattle.std.proofs.lemmas.Option.{slice_get_within}
 use Rattle.std.proofs.lemmas.List.{length-take, length-drop, map-append, take-append-le}
 use Rattle.pf_core.proofs.ListLemmas.{nat_dec, take_get, get_take}
-use Rattle.pf_orders.specs.Components.{lists_of}
+use Rattle.pf_orders.specs.StrongComponents.{lists_of}
 use Rattle.pf_orders.specs.declared.component_search.Place.{Place}
 use Rattle.pf_orders.specs.declared.component_search.Place.TheVariants.{New, Open}
 use Rattle.pf_orders.specs.declared.component_search.Segment.{Segment}
-use Rattle.pf_orders.specs.ComponentSearch.{IsAt, Closes, Joins}
+use Rattle.pf_orders.specs.Internal.ComponentSearch.{IsAt, Closes, Joins}
 use Rattle.pf_orders.proofs.ComponentLists.{at_one, drop_get}
 
 -- ---- a segment is closed

@@ -16,8 +16,8 @@ use Rattle.pf_core.proofs.ListLemmas.{Contains-head, Contains-tail, Contains-cas
 use Rattle.pf_core.proofs.NodeLemmas.{StandsFor-same, InReach-same, at_most}
 use Rattle.pf_core.proofs.UnitLemmas.{starts_stand}
 use Rattle.pf_core.proofs.WalkLemmas.{same_of, HasNode-same, distinct_nodes}
-use Rattle.pf_orders.specs.Beginnings.{hops_from}
-use Rattle.pf_orders.specs.Orderings.{LeadsInto, IsOrdered, IsOrderedReach, IsOnNumberedCycle}
+use Rattle.pf_orders.specs.Internal.Beginnings.{hops_from}
+use Rattle.pf_orders.specs.Internal.Orderings.{LeadsInto, IsOrdered, IsOrderedReach, IsOnNumberedCycle}
 use Rattle.pf_orders.specs.TopologicalOrders.{LeadsForward, IsTopologicalOrder, IsOnCycle}
 
 -- the nodes that edges of cost 1 lead to

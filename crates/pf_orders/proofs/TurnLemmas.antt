@@ -6,7 +6,7 @@ use Rattle.pf_core.specs.Numbered.{Grows, ListsSteps}
 use Rattle.pf_orders.specs.declared.component_search.Place.{Place}
 use Rattle.pf_orders.specs.declared.component_search.Place.TheVariants.{New, Open, Closed}
 use Rattle.pf_orders.specs.declared.component_search.Segment.{Segment}
-use Rattle.pf_orders.specs.ComponentSearch.{IsAt, IsLast, IsClosed, IsPlaced, IsOpenPath, AreClosing, Closes, Joins, LeadsInto, IsLink}
+use Rattle.pf_orders.specs.Internal.ComponentSearch.{IsAt, IsLast, IsClosed, IsPlaced, IsOpenPath, AreClosing, Closes, Joins, LeadsInto, IsLink}
 use Rattle.pf_orders.proofs.ComponentPlaces.{IsNotSpent, placed_pop, placed_join, placed_visit, placed_close}
 use Rattle.pf_orders.proofs.ComponentPaths.{path_pass, path_join, path_visit, path_close, closing_close, closing_grows, row_linked, row_complete}
 

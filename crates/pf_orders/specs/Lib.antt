@@ -1,8 +1,5 @@
-pub mod Beginnings
-pub mod Components
-pub mod ComponentSearch
+pub mod StrongComponents
 pub mod TopologicalOrders
 pub mod GroupDepths
-pub mod Orderings
-pub mod Rounds
-pub mod Joined
+pub mod JoinedGroups
+pub mod Internal

@@ -4,8 +4,8 @@ ghost use Rattle.std.specs.Prelude.{◌≡◌, ◌<◌, ◌≤◌, ◌-◌, ◌+
 ghost use Rattle.pf_core.specs.Numbered.{Grows};
 ghost use Rattle.pf_orders.specs.declared.component_search.Place.{Place};
 ghost use Rattle.pf_orders.specs.declared.component_search.Segment.{Segment};
-ghost use Rattle.pf_orders.specs.Components.{lists_of};
-ghost use Rattle.pf_orders.specs.ComponentSearch.{widened, IsAt, IsPlacedIn, IsOpenIn, AreClosing, AreNumberedComponents, Closes, Joins, IsLast};
+ghost use Rattle.pf_orders.specs.StrongComponents.{lists_of};
+ghost use Rattle.pf_orders.specs.Internal.ComponentSearch.{widened, IsAt, IsPlacedIn, IsOpenIn, AreClosing, AreNumberedComponents, Closes, Joins, IsLast};
 
 use pf_base::{Cost, PathError};
 use pf_core::numbered::NumberedGraph;

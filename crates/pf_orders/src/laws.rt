@@ -5,7 +5,7 @@
 ghost use Rattle.std.specs.Prelude.{ℕ, List, Vec};
 ghost use Rattle.pf_base.specs.Walks.{HasNode};
 ghost use Rattle.pf_orders.specs.GroupDepths.{AreClosed, HasDepth, AreDepthGroups};
-ghost use Rattle.pf_orders.specs.Joined.{AreJoined};
+ghost use Rattle.pf_orders.specs.JoinedGroups.{AreJoined};
 ghost use Rattle.pf_orders.specs.TopologicalOrders.{IsTopologicalOrder};
 
 use std::alloc::Allocator;

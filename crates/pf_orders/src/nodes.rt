@@ -4,7 +4,7 @@ ghost use Rattle.std.specs.Prelude.{◌≡◌, ◌<◌, ℕ, Some, Vec, IfOk, If
 ghost use Rattle.std.specs.List.{IsDistinct, AllZip};
 ghost use Rattle.pf_base.specs.NodeRefs.{HasSameNodes};
 ghost use Rattle.pf_base.specs.Answers.{IsLawfulClone};
-ghost use Rattle.pf_orders.specs.Rounds.{AreNodesAt};
+ghost use Rattle.pf_orders.specs.Internal.Rounds.{AreNodesAt};
 
 use indexmap::IndexSet;
 use pf_base::PathError;

@@ -3,7 +3,7 @@
 ghost use Rattle.std.specs.Prelude.{◌≡◌, ◌<◌, ◌≤◌, ◌+◌, ◌-◌, ◌++◌, ◌∷◌, [], ℕ, List, Contains, IfOk, IfErr, IfSome, IfNone, OnOk, length, slice_set, replicate, reverse};
 ghost use Rattle.std.specs.List.{AllZip};
 ghost use Rattle.pf_core.specs.Numbered.{Grows};
-ghost use Rattle.pf_orders.specs.Orderings.{entries, EnterBelow, IsOrderedReach, IsOnNumberedCycle};
+ghost use Rattle.pf_orders.specs.Internal.Orderings.{entries, EnterBelow, IsOrderedReach, IsOnNumberedCycle};
 
 use pf_base::utils::Tally;
 use pf_base::{Cost, PathError};

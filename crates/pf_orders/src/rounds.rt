@@ -2,7 +2,7 @@
 
 ghost use Rattle.std.specs.Prelude.{◌≡◌, ◌<◌, ◌≤◌, ◌+◌, ◌++◌, ◌↔◌, ℕ, List, Some, IfOk, IfErr, OnOk, length, slice_get, nat_eq, nat_lt};
 ghost use Rattle.pf_base.specs.Walks.{HasNode, NoRepeats};
-ghost use Rattle.pf_orders.specs.Rounds.{times, AreCounted, Falls, AreFreed, IsRound, AreLevels};
+ghost use Rattle.pf_orders.specs.Internal.Rounds.{times, AreCounted, Falls, AreFreed, IsRound, AreLevels};
 
 use pf_base::PathError;
 use std::alloc::Allocator;

@@ -3,7 +3,7 @@
 ghost use Rattle.std.specs.Prelude.{◌≡◌, ◌⊎◌, ◌<◌, [], ℕ, replicate, Err, Some, Vec, IfOk, IfErr, OnOk, Contains, length, nat_eq};
 ghost use Rattle.pf_base.specs.Walks.{HasNode};
 ghost use Rattle.pf_core.specs.Numbered.{Grows, StandsBelow};
-ghost use Rattle.pf_orders.specs.Rounds.{AreCounted, AreSuccessorRows, Falls};
+ghost use Rattle.pf_orders.specs.Internal.Rounds.{AreCounted, AreSuccessorRows, Falls};
 
 use crate::rounds::Rows;
 use pf_base::{Cost, PathError};

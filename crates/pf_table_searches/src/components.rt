@@ -1,7 +1,7 @@
 //! Strong components.
 
 ghost use Rattle.std.specs.Prelude.{◌≡◌, IfOk, IfErr, nat_eq};
-ghost use Rattle.pf_orders.specs.Components.{AreStrongComponents, IsStrongComponentOf, lists_of};
+ghost use Rattle.pf_orders.specs.StrongComponents.{AreStrongComponents, IsStrongComponentOf, lists_of};
 ghost use Rattle.pf_tables.specs.Graphs.{successors_of};
 
 use crate::edges::ends_of;

@@ -6,9 +6,9 @@ ghost use Rattle.pf_base.specs.Answers.{IsLawfulClone};
 ghost use Rattle.pf_base.specs.Successors.{HasSuccessor};
 ghost use Rattle.pf_base.specs.Walks.{IsReachable};
 ghost use Rattle.pf_core.specs.Nodes.{StandsFor};
-ghost use Rattle.pf_orders.specs.Beginnings.{Begins};
-ghost use Rattle.pf_orders.specs.Components.{IsStrongComponentOf, AreStrongComponents, lists_of};
-ghost use Rattle.pf_orders.specs.ComponentSearch.{IsMember};
+ghost use Rattle.pf_orders.specs.Internal.Beginnings.{Begins};
+ghost use Rattle.pf_orders.specs.StrongComponents.{IsStrongComponentOf, AreStrongComponents, lists_of};
+ghost use Rattle.pf_orders.specs.Internal.ComponentSearch.{IsMember};
 
 use crate::component_search::strong_components;
 use crate::nodes::nodes_of;

@@ -4,7 +4,7 @@ ghost use Rattle.std.specs.Prelude.{◌≡◌, ◌≤◌, ◌-◌, List, IfOk, I
 ghost use Rattle.pf_base.specs.Answers.{IsLawfulClone};
 ghost use Rattle.pf_base.specs.Successors.{HasSuccessor};
 ghost use Rattle.pf_base.specs.Walks.{IsReachable, IsAtMostNumberOf};
-ghost use Rattle.pf_orders.specs.Beginnings.{Begins};
+ghost use Rattle.pf_orders.specs.Internal.Beginnings.{Begins};
 ghost use Rattle.pf_orders.specs.TopologicalOrders.{IsTopologicalOrder, IsOnCycle};
 
 mod groups;

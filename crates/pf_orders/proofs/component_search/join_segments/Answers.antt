@@ -1,6 +1,6 @@
 use Rattle.std.proofs.Common.{refl, sym, inl, inr, ◌<◌}
 use Rattle.std.specs.Prelude.{◌⊎◌}
-use Rattle.pf_orders.specs.ComponentSearch.{IsAt}
+use Rattle.pf_orders.specs.Internal.ComponentSearch.{IsAt}
 use Rattle.pf_orders.proofs.ComponentLists.{popped}
 use Rattle.pf_orders.proofs.SegmentLemmas.{joined_here, joined_none, one_fewer, kept_on, stays_or}
 use Rattle.pf_orders.proofs.component_search.join_segments.Goals as goal

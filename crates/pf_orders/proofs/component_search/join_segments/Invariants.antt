@@ -1,7 +1,7 @@
 use Rattle.std.proofs.Common.{◌<◌, ℕ, length}
 use Rattle.std.specs.Prelude.{◌⊎◌}
 use Rattle.pf_orders.specs.declared.component_search.Segment.{Segment}
-use Rattle.pf_orders.specs.ComponentSearch.{IsAt}
+use Rattle.pf_orders.specs.Internal.ComponentSearch.{IsAt}
 use Rattle.pf_orders.proofs.component_search.join_segments.Given as goal
 
 abbrev pub invariant-segments : goal.invariant-segments

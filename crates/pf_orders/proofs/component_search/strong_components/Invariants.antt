@@ -1,6 +1,6 @@
 use Rattle.pf_core.specs.Numbered.{Grows}
-use Rattle.pf_orders.specs.Components.{lists_of}
-use Rattle.pf_orders.specs.ComponentSearch.{IsPlaced, IsOpenPath, AreClosing}
+use Rattle.pf_orders.specs.StrongComponents.{lists_of}
+use Rattle.pf_orders.specs.Internal.ComponentSearch.{IsPlaced, IsOpenPath, AreClosing}
 use Rattle.pf_orders.proofs.component_search.strong_components.Given as goal
 
 abbrev pub invariant-turns : goal.invariant-turns

@@ -1,6 +1,6 @@
 use Rattle.std.proofs.Common.{◌∙◌, ◌++◌, ◌∷◌, [], refl, sym, ap, arith, take, take_all, get_or}
 use Rattle.std.proofs.lemmas.List.{take_more, append_assoc}
-use Rattle.pf_orders.specs.Orderings.{entries}
+use Rattle.pf_orders.specs.Internal.Orderings.{entries}
 use Rattle.pf_orders.proofs.Outcomes.{refused_as, on_refused}
 use Rattle.pf_orders.proofs.OrderLemmas.{entries-append}
 use Rattle.pf_orders.proofs.ordering.put_entries.Goals as goal

@@ -1,5 +1,5 @@
 use Rattle.std.proofs.Common.{◌≡◌, ◌++◌, take}
-use Rattle.pf_orders.specs.Orderings.{entries}
+use Rattle.pf_orders.specs.Internal.Orderings.{entries}
 use Rattle.pf_orders.proofs.ordering.put_entries.Given as goal
 
 abbrev pub invariant-numbers : goal.invariant-numbers

@@ -1,5 +1,5 @@
 use Rattle.std.proofs.Common.{◌+◌, length}
-use Rattle.pf_orders.specs.Rounds.{waiting_count}
+use Rattle.pf_orders.specs.Internal.Rounds.{waiting_count}
 use Rattle.pf_orders.proofs.RoundLemmas.{IsGrouping}
 use Rattle.pf_orders.proofs.rounds.group_numbers.Given as goal
 

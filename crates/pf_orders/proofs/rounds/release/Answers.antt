@@ -2,7 +2,7 @@ use Rattle.std.proofs.Common.{◌≡◌, ◌+◌, ◌-◌, ◌∙◌, ◌++◌, 
 use Rattle.std.specs.Prelude.{Vec, slice_set}
 use Rattle.std.proofs.lemmas.List.{take_more, take_all, append_assoc}
 use Rattle.pf_core.proofs.ListLemmas.{at_place, Contains-index}
-use Rattle.pf_orders.specs.Rounds.{Falls, AreFreed}
+use Rattle.pf_orders.specs.Internal.Rounds.{Falls, AreFreed}
 use Rattle.pf_orders.proofs.Outcomes.{refused_as, on_refused}
 use Rattle.pf_orders.proofs.OrderLemmas.{member_of}
 use Rattle.pf_orders.proofs.RoundLemmas.{count_above, falls_more, freed_same, freed_more}

@@ -1,5 +1,5 @@
 use Rattle.std.proofs.Common.{◌≡◌, ◌++◌, ℕ, List, take}
-use Rattle.pf_orders.specs.Rounds.{Falls, AreFreed}
+use Rattle.pf_orders.specs.Internal.Rounds.{Falls, AreFreed}
 use Rattle.pf_orders.proofs.rounds.release.Given as goal
 
 abbrev pub invariant-targets : goal.invariant-targets

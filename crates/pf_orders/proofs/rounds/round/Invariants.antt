@@ -1,5 +1,5 @@
 use Rattle.std.proofs.Common.{take}
-use Rattle.pf_orders.specs.Rounds.{IsRound}
+use Rattle.pf_orders.specs.Internal.Rounds.{IsRound}
 use Rattle.pf_orders.proofs.rounds.round.Given as goal
 
 abbrev pub invariant-numbers : goal.invariant-numbers

@@ -2,7 +2,7 @@ use Rattle.std.proofs.Common.{◌≡◌, ◌+◌, ℕ, List, arith, get_or, take
 use Rattle.std.specs.Prelude.{slice_set}
 use Rattle.std.proofs.lemmas.List.{take_more}
 use Rattle.pf_core.proofs.ListLemmas.{Contains-index, at_place}
-use Rattle.pf_orders.specs.Rounds.{Falls}
+use Rattle.pf_orders.specs.Internal.Rounds.{Falls}
 use Rattle.pf_orders.proofs.OrderLemmas.{member_of}
 use Rattle.pf_orders.proofs.RoundLemmas.{rises_more}
 use Rattle.pf_orders.proofs.rows.count_row.Goals as goal

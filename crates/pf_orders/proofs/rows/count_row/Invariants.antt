@@ -1,5 +1,5 @@
 use Rattle.std.proofs.Common.{◌≡◌, length, take}
-use Rattle.pf_orders.specs.Rounds.{Falls}
+use Rattle.pf_orders.specs.Internal.Rounds.{Falls}
 use Rattle.pf_orders.proofs.rows.count_row.Given as goal
 
 abbrev pub invariant-targets : goal.invariant-targets

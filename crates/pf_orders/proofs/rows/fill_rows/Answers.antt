@@ -7,7 +7,7 @@ use Rattle.pf_core.proofs.SearchLemmas.{Grows-trans}
 use Rattle.pf_core.proofs.DepthFirstLemmas.{ends_stand}
 use Rattle.pf_core.proofs.ListLemmas.{none_in}
 use Rattle.pf_core.proofs.PathLemmas.{AllZip-map}
-use Rattle.pf_orders.specs.Rounds.{AreCounted}
+use Rattle.pf_orders.specs.Internal.Rounds.{AreCounted}
 use Rattle.pf_orders.proofs.ComponentLists.{at_replicate}
 use Rattle.pf_orders.proofs.Outcomes.{refused_as, none_unknown, on_refused, ok_is_no_error, Grows-itself}
 use Rattle.pf_orders.proofs.OrderLemmas.{step_of, of_step, of_member, node_of_row}

@@ -2,7 +2,7 @@ use Rattle.std.proofs.Common.{◌≡◌, ℕ, Some, length, slice_get}
 use Rattle.std.specs.Prelude.{Vec}
 use Rattle.std.specs.List.{AllZip}
 use Rattle.pf_core.specs.Numbered.{Grows}
-use Rattle.pf_orders.specs.Rounds.{AreCounted}
+use Rattle.pf_orders.specs.Internal.Rounds.{AreCounted}
 use Rattle.pf_orders.proofs.rows.fill_rows.Given as goal
 
 abbrev pub invariant-numbers : goal.invariant-numbers

@@ -4,7 +4,7 @@ ghost use Rattle.std.specs.Prelude.{◌≡◌, ◌⊎◌, [], List, ℕ, Err, If
 ghost use Rattle.pf_base.specs.Answers.{IsLawfulClone};
 ghost use Rattle.pf_base.specs.Successors.{HasSuccessor};
 ghost use Rattle.pf_base.specs.Walks.{HasNode, IsReachable};
-ghost use Rattle.pf_orders.specs.Beginnings.{Begins};
+ghost use Rattle.pf_orders.specs.Internal.Beginnings.{Begins};
 ghost use Rattle.pf_orders.specs.GroupDepths.{AreClosed, HasDepth, AreDepthGroups, HaveNoDepth};
 
 use crate::nodes::{groups_at, nodes_of};

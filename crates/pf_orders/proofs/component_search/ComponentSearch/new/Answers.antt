@@ -1,7 +1,7 @@
 use Rattle.std.proofs.Common.{◌≡◌, ◌+◌, ◌<◌, ℕ, [], ◌∷◌, ◌++◌, length, replicate, sym, subst, arith, inl, inr}
 use Rattle.pf_core.proofs.ListLemmas.{get-append, nat_dec}
 use Rattle.pf_orders.specs.declared.component_search.Place.TheVariants.{New}
-use Rattle.pf_orders.specs.ComponentSearch.{IsAt}
+use Rattle.pf_orders.specs.Internal.ComponentSearch.{IsAt}
 use Rattle.pf_orders.proofs.ComponentLists.{at_more, at_end, resized_none}
 use Rattle.pf_orders.proofs.ComponentPlaces.{placed_new}
 use Rattle.pf_orders.proofs.component_search.ComponentSearch.new.Goals as goal

@@ -3,8 +3,8 @@ use Rattle.std.proofs.lemmas.Bool.{true≢false}
 use Rattle.std.proofs.lemmas.Result.{IfOk-from_err}
 use Rattle.std.proofs.lemmas.Option.{slice_get_within}
 use Rattle.pf_orders.specs.declared.component_search.Place.TheVariants.{New, Open, Closed}
-use Rattle.pf_orders.specs.Components.{lists_of}
-use Rattle.pf_orders.specs.ComponentSearch.{IsAt}
+use Rattle.pf_orders.specs.StrongComponents.{lists_of}
+use Rattle.pf_orders.specs.Internal.ComponentSearch.{IsAt}
 use Rattle.pf_orders.proofs.ComponentLists.{ends_at, at_ends, none_left, popped, last_waits}
 use Rattle.pf_orders.proofs.ComponentPlaces.{none_open}
 use Rattle.pf_orders.proofs.TurnLemmas.{read_place, placed_closed, path_closed, closing_closed, last_inside, placed_passed, path_passed, placed_joined, path_joined, placed_visited, path_visited, closed_grows, list_linked, list_complete}

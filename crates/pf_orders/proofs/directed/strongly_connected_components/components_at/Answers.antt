@@ -2,7 +2,7 @@ use Rattle.std.proofs.Common.{refl, arith, ℕ}
 use Rattle.std.specs.Prelude.{Vec}
 use Rattle.std.proofs.lemmas.List.{map-append, length-map, take_all}
 use Rattle.std.proofs.lemmas.Result.{IfOk-from_err}
-use Rattle.pf_orders.specs.Components.{lists_of}
+use Rattle.pf_orders.specs.StrongComponents.{lists_of}
 use Rattle.pf_orders.proofs.ComponentLists.{contained_at, zip_one_more, list_at}
 use Rattle.pf_orders.proofs.Outcomes.{refused_as}
 use Rattle.pf_orders.proofs.directed.strongly_connected_components.components_at.Goals as goal

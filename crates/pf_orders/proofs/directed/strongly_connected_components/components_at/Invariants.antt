@@ -1,7 +1,7 @@
 use Rattle.std.proofs.Common.{take}
 use Rattle.std.specs.List.{AllZip}
 use Rattle.pf_core.specs.Nodes.{StandsFor}
-use Rattle.pf_orders.specs.Components.{lists_of}
+use Rattle.pf_orders.specs.StrongComponents.{lists_of}
 use Rattle.pf_orders.proofs.directed.strongly_connected_components.components_at.Given as goal
 
 -- the components so far

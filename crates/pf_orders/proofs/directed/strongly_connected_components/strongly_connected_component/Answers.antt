@@ -1,5 +1,5 @@
 use Rattle.std.proofs.Common.{length, ap, arith}
-use Rattle.pf_orders.specs.Components.{lists_of}
+use Rattle.pf_orders.specs.StrongComponents.{lists_of}
 use Rattle.pf_orders.proofs.ComponentLists.{none_popped, last_list}
 use Rattle.pf_orders.proofs.ComponentNodes.{some_component, last_component}
 use Rattle.pf_orders.proofs.directed.strongly_connected_components.strongly_connected_component.Goals as goal

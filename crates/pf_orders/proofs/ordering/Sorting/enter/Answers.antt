@@ -6,7 +6,7 @@ use Rattle.pf_core.proofs.DepthFirstLemmas.{ends_stand}
 use Rattle.pf_core.proofs.ListLemmas.{on_ok}
 use Rattle.pf_orders.specs.declared.ordering.Turn.{Turn}
 use Rattle.pf_orders.specs.declared.ordering.Mark.{Mark}
-use Rattle.pf_orders.specs.Orderings.{entries}
+use Rattle.pf_orders.specs.Internal.Orderings.{entries}
 use Rattle.pf_orders.proofs.Outcomes.{refused_as, on_refused, on_any}
 use Rattle.pf_orders.proofs.ComponentLists.{set_length}
 use Rattle.pf_orders.proofs.OrderLemmas.{step_of}

@@ -1,7 +1,7 @@
 use Rattle.std.proofs.Common.{◌≡◌, ◌+◌, ◌-◌, ◌*◌, ◌^◌, length}
 use Rattle.std.specs.Prelude.{reverse}
 use Rattle.pf_core.specs.Numbered.{Grows}
-use Rattle.pf_orders.specs.Orderings.{IsSorting, IsAlong, entered_count}
+use Rattle.pf_orders.specs.Internal.Orderings.{IsSorting, IsAlong, entered_count}
 use Rattle.pf_orders.proofs.ordering.Sorting.walk_on.Given as goal
 
 abbrev pub invariant-turns : goal.invariant-turns

@@ -4,8 +4,8 @@ use Rattle.std.specs.List.{AllZip}
 use Rattle.std.proofs.lemmas.Result.{IfOk-from_err}
 use Rattle.pf_core.specs.Nodes.{StandsFor}
 use Rattle.pf_core.proofs.UnitLemmas.{begins_all, starts_stand}
-use Rattle.pf_orders.specs.Beginnings.{hops_from}
-use Rattle.pf_orders.specs.Rounds.{AreNodesAt}
+use Rattle.pf_orders.specs.Internal.Beginnings.{hops_from}
+use Rattle.pf_orders.specs.Internal.Rounds.{AreNodesAt}
 use Rattle.pf_orders.proofs.Outcomes.{refused_as, error_of, ok_is_no_error}
 use Rattle.pf_orders.proofs.RoundLemmas.{only_memory, memory_of}
 use Rattle.pf_orders.proofs.OrderLemmas.{member_of, is_none, is_some}

@@ -5,7 +5,7 @@ use Rattle.pf_orders.specs.declared.component_search.Place.{Place}
 use Rattle.pf_orders.specs.declared.component_search.Place.TheVariants.{New, Open, Closed}
 use Rattle.pf_orders.specs.declared.component_search.Segment.{Segment}
 use Rattle.pf_orders.specs.declared.component_search.ComponentSearch.{ComponentSearch}
-use Rattle.pf_orders.specs.Components.{lists_of}
+use Rattle.pf_orders.specs.StrongComponents.{lists_of}
 
 -- the list has x at this place
 abbrev pub IsAt : {A : Type 0} → List A → ℕ → A → Type 0
