@@ -1,9 +1,0 @@
-use Rattle.std.proofs.Common.{◌≡◌, length}
-use Rattle.edge_lists.specs.Lists.{starts_to}
-use Rattle.edge_lists.proofs.costs.EdgesToIterator.next.Given as goal
-
-abbrev pub invariant-loop-edge : goal.invariant-loop-edge
-invariant-loop-edge g l = starts_to g.N.PartialEq.eq l.self-inside.rest.now l.self-inside.node ≡ l.fn.self
-
-abbrev pub decreases-loop-edge : goal.decreases-loop-edge
-decreases-loop-edge g l = length l.self-inside.rest.now
