@@ -3,7 +3,6 @@
 //! A call adds its law to what the caller's proof knows. It does nothing when it runs.
 
 ghost use Rattle.std.specs.Prelude.{◌≡◌, ◌≤◌, ◌∷◌, [], ℕ, List, Bool, true, ℤ, Option, Some, slice_get, length};
-ghost use Rattle.pf_base.specs.Answers.{SameNodes};
 ghost use Rattle.pf_base.specs.Edges.{InReach, IsCheapestGoalPath, HasNoNegativeCost};
 ghost use Rattle.pf_base.specs.Orders.{last_nodes, IsBreadthOrder, AllGiven, IsPreorder, IsWholePreorder};
 ghost use Rattle.pf_base.specs.Successors.{HasSuccessor, IsFewestEdgesGoalPath};

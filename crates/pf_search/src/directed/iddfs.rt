@@ -1,9 +1,9 @@
 //! Paths with fewest edges by depth limits that grow (iterative deepening).
 
-ghost use Rattle.std.specs.Prelude.{◌≡◌, ◌≤◌, ◌+◌, List, Bool, true, false, [], ◌∷◌, IfOk, IfErr, MatchBool, MatchOption, length};
+ghost use Rattle.std.specs.Prelude.{◌≡◌, ◌+◌, List, Bool, true, false, [], ◌∷◌, IfOk, IfErr, MatchBool, length};
 ghost use Rattle.std.specs.Iterator.{IsFiniteIterable, Drains};
-ghost use Rattle.pf_base.specs.Walks.{HasNoGoalWalk, IsReachable, IsGoalPath};
-ghost use Rattle.pf_base.specs.Successors.{HasSuccessor, IsUnweightedSearch, IsFewestEdgesGoalPath};
+ghost use Rattle.pf_base.specs.Walks.{IsReachable, IsGoalPath};
+ghost use Rattle.pf_base.specs.Successors.{HasSuccessor, IsUnweightedSearch, AnswersUnweightedSearch, OfUnweightedSearch, IsFewestEdgesOrNone};
 ghost use Rattle.pf_search.specs.Internal.Deepening.{IsPathFrom, FollowsEnd, NoGoalBeyond, Deepens};
 
 use pf_base::{NodeTest, PathError, SuccessorFunction};
@@ -157,14 +157,10 @@ where
     FN: FnMut(&N) -> IN,
     FS: FnMut(&N) -> bool,
     A: Allocator + Copy,
-    requires graph { (next : N → List N) × (test : N → Bool)
-        × IsUnweightedSearch N.eq next (start ∷ []) (⟦<FN as SuccessorFunction<N>>⟧.answers successors) (⟦<FS as NodeTest<N>>⟧.answers success) test }
+    requires graph { AnswersUnweightedSearch N.eq (start ∷ []) (⟦<FN as SuccessorFunction<N>>⟧.answers successors) (⟦<FS as NodeTest<N>>⟧.answers success) }
 
-    ensures best { (next : N → List N) (test : N → Bool)
-        → IsUnweightedSearch N.eq next (start ∷ []) (⟦<FN as SuccessorFunction<N>>⟧.answers successors) (⟦<FS as NodeTest<N>>⟧.answers success) test
-        → IfOk result (λ answer. MatchOption answer
-        (HasNoGoalWalk N.eq (HasSuccessor N.eq next) (start ∷ []) test)
-        (λ path. IsFewestEdgesGoalPath N.eq next (start ∷ []) test path.items)) }
+    ensures best { OfUnweightedSearch N.eq (start ∷ []) (⟦<FN as SuccessorFunction<N>>⟧.answers successors) (⟦<FS as NodeTest<N>>⟧.answers success) (λ next test.
+        IfOk result (IsFewestEdgesOrNone N.eq next (start ∷ []) test)) }
 
     ensures errors { IfErr result (λ e. e ≡ PathError.OutOfMemory) }
 {
