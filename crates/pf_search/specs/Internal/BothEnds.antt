@@ -5,6 +5,7 @@ use Rattle.std.specs.declared.cmp.Ordering.{Ordering}
 use Rattle.pf_base.specs.Walks.{end_of}
 use Rattle.pf_base.specs.Edges.{InReach, HasNoNegativeCost}
 use Rattle.pf_base.specs.Answers.{ListsEdges}
+use Rattle.pf_core.specs.declared.discovery.Discovery.{Discovery}
 use Rattle.pf_core.specs.declared.labels.Label.{Label}
 use Rattle.pf_core.specs.declared.search.Search.{Search}
 use Rattle.pf_core.specs.declared.two_sided.TwoSided.{TwoSided}
@@ -19,6 +20,14 @@ use Rattle.pf_search.specs.BothEnds.{IsCostMirror}
 -- the graph with these edges, which is searched from one node
 abbrev pub from_one : {N : Type 0} → N → (N → List (N × ℤ)) → NodeGraph N
 from_one start edges = record { starts = start ∷ []; edges = edges }
+
+-- what is asked answers these edges from the node on, and the nodes found are in reach
+abbrev pub ExploresFrom : {N S Z : Type 0} → (N → N → Bool) → (S → List N → (N → List (N × ℤ)) → Type 0) → N → (N → List (N × ℤ)) → Discovery N S Z → Type 0
+ExploresFrom eq answers start edges discovery = Explores eq answers (from_one start edges) discovery.nodes.keys discovery.source
+
+-- no two numbers stand for one node
+abbrev pub AreNumberedOnce : {N : Type 0} → (N → N → Bool) → List N → Type 0
+AreNumberedOnce {N} eq keys = (i j : ℕ) (x : N) → StandsFor eq keys i x → StandsFor eq keys j x → i ≡ j
 
 -- what no walk from end to end undercuts: the cost of the best meeting, or, before there is one, one more than the greatest cost
 abbrev pub bound : {C : Type 0} → (C → ℤ) → ℤ → Option (Meeting C) → ℤ
@@ -70,7 +79,7 @@ module _ {N C : Type 0} (eq : N → N → Bool) (value : C → ℤ) where
     pub record IsHalf (edges : N → List (N × ℤ)) (start : N) (keys : List N) (labels : Labels C) : Type 0 where
       pub costs : HasNoNegativeCost eq edges (start ∷ [])
       pub alike : (x y : N) → InReach eq edges (start ∷ []) x → eq x y ≡ true → ListsEdges eq (λ z. z) (edges x) (edges y)
-      pub one : (i j : ℕ) (x : N) → StandsFor eq keys i x → StandsFor eq keys j x → i ≡ j
+      pub one : AreNumberedOnce eq keys
       pub begins : (x : N) → StandsFor eq keys 0 x ↔ (eq start x ≡ true)
       pub search : IsSearch (by_cost value) (IsStep eq (from_one start edges)) (λ k. nat_eq k 0) (StandsFor eq keys) labels
       pub tree : IsTree labels
@@ -131,23 +140,23 @@ module _ {N C S P Z : Type 0} where
 
 -- What both sides of a graph answer, each in reach of its own end.
 module _ {N S P Z : Type 0} (eq : N → N → Bool) (answers : S → List N → (N → List (N × ℤ)) → Type 0) (answers_back : P → List N → (N → List (N × ℤ)) → Type 0) (graph : TwoSided N S P Z) where
-  -- some edges and some edges back, of which some nodes are the ends
+  -- they answer some edges from one node on and some edges back from another
   abbrev pub AnswersEnds : Type 0
-  AnswersEnds = (edges previous : N → List (N × ℤ)) × (start end : N) × Explores eq answers (from_one start edges) graph.forth.nodes.keys graph.forth.source × Explores eq answers_back (from_one end previous) graph.back.nodes.keys graph.back.source
+  AnswersEnds = (edges previous : N → List (N × ℤ)) × (start end : N) × ExploresFrom eq answers start edges graph.forth × ExploresFrom eq answers_back end previous graph.back
       × AreEnds eq edges previous start end graph.forth.nodes.keys graph.back.nodes.keys
 
   -- of whatever edges, edges back and ends these are, Q holds
   abbrev pub OfEnds : ((N → List (N × ℤ)) → (N → List (N × ℤ)) → N → N → Type 0) → Type 0
-  OfEnds Q = (edges previous : N → List (N × ℤ)) (start end : N) → Explores eq answers (from_one start edges) graph.forth.nodes.keys graph.forth.source → Explores eq answers_back (from_one end previous) graph.back.nodes.keys graph.back.source
+  OfEnds Q = (edges previous : N → List (N × ℤ)) (start end : N) → ExploresFrom eq answers start edges graph.forth → ExploresFrom eq answers_back end previous graph.back
       → AreEnds eq edges previous start end graph.forth.nodes.keys graph.back.nodes.keys → Q edges previous start end
 
   module _ {C : Type 0} (value : C → ℤ) (fits : ℤ → Type 0) (forth back : Search C Z) (t : ℤ) where
-    -- some edges and some edges back, between two nodes from which this pair searches, and no meeting is cheaper than t
+    -- the same, where the two searches are from these nodes, and no meeting is cheaper than t
     abbrev pub AnswersPair : Type 0
-    AnswersPair = (edges previous : N → List (N × ℤ)) × (start end : N) × Explores eq answers (from_one start edges) graph.forth.nodes.keys graph.forth.source × Explores eq answers_back (from_one end previous) graph.back.nodes.keys graph.back.source
+    AnswersPair = (edges previous : N → List (N × ℤ)) × (start end : N) × ExploresFrom eq answers start edges graph.forth × ExploresFrom eq answers_back end previous graph.back
         × IsPairOn eq value fits edges previous start end graph forth back t
 
     -- of whatever edges, edges back and ends these are, Q holds
     abbrev pub OfPair : ((N → List (N × ℤ)) → (N → List (N × ℤ)) → N → N → Type 0) → Type 0
-    OfPair Q = (edges previous : N → List (N × ℤ)) (start end : N) → Explores eq answers (from_one start edges) graph.forth.nodes.keys graph.forth.source → Explores eq answers_back (from_one end previous) graph.back.nodes.keys graph.back.source
+    OfPair Q = (edges previous : N → List (N × ℤ)) (start end : N) → ExploresFrom eq answers start edges graph.forth → ExploresFrom eq answers_back end previous graph.back
         → IsPairOn eq value fits edges previous start end graph forth back t → Q edges previous start end

@@ -6,8 +6,7 @@ ghost use Rattle.pf_base.specs.Answers.{IsLawfulClone};
 ghost use Rattle.pf_base.specs.Edges.{InReach};
 ghost use Rattle.pf_base.specs.NodeRefs.{HasSameNodes};
 ghost use Rattle.pf_core.specs.Hops.{unit_edges};
-ghost use Rattle.pf_core.specs.Nodes.{Explores};
-ghost use Rattle.pf_search.specs.Internal.Hops.{hops_from};
+ghost use Rattle.pf_search.specs.Internal.Hops.{ExploresHops};
 
 mod both_ends;
 mod loops;
@@ -35,14 +34,13 @@ where
     A: Allocator + Copy,
     requires clones { IsLawfulClone N.eq N.is_clone }
     requires graph { (next : N → List N) × (starts : List N) × (test : N → Bool)
-        × Explores N.eq S.answers (hops_from starts next) graph.old.discovery.nodes.keys graph.old.discovery.source
+        × ExploresHops N.eq S.answers starts next graph.old.discovery
         × T.answers graph.old.success (InReach N.eq (unit_edges next) starts) test }
 
     ensures best { (next : N → List N) (starts : List N) (test : N → Bool)
-        → Explores N.eq S.answers (hops_from starts next) graph.old.discovery.nodes.keys graph.old.discovery.source
+        → ExploresHops N.eq S.answers starts next graph.old.discovery
         → T.answers graph.old.success (InReach N.eq (unit_edges next) starts) test
-        → HasSameNodes N.eq graph.old.discovery.nodes.keys starts
-        → IfOk result (IsFewestEdgesOrNone N.eq next starts test) }
+        → HasSameNodes N.eq graph.old.discovery.nodes.keys starts → IfOk result (IsFewestEdgesOrNone N.eq next starts test) }
 
     ensures errors { IfErr result (λ e. e ≡ PathError.OutOfMemory) }
 {

@@ -4,8 +4,7 @@ ghost use Rattle.std.specs.Prelude.{◌≡◌, List, IfOk, IfErr};
 ghost use Rattle.pf_base.specs.Successors.{IsFewestEdgesOrNone};
 ghost use Rattle.pf_base.specs.Mirrors.{is_among, IsMirror, AnswersSearchFromBothEnds, OfSearchFromBothEnds};
 ghost use Rattle.pf_base.specs.Answers.{IsLawfulClone};
-ghost use Rattle.pf_core.specs.Nodes.{Explores};
-ghost use Rattle.pf_search.specs.Internal.Hops.{hops_from};
+ghost use Rattle.pf_search.specs.Internal.Hops.{ExploresHops};
 ghost use Rattle.pf_base.specs.NodeRefs.{HasSameNodes};
 
 use pf_base::{NodeRefs, PathError, SuccessorFunction};
@@ -29,12 +28,10 @@ where
     A: Allocator + Copy,
     requires clones { IsLawfulClone N.eq N.is_clone }
     requires graph { (next previous : N → List N) × (starts ends : List N)
-        × Explores N.eq S.answers (hops_from starts next) graph.old.forth.nodes.keys graph.old.forth.source
-        × Explores N.eq P.answers (hops_from ends previous) graph.old.back.nodes.keys graph.old.back.source }
+        × ExploresHops N.eq S.answers starts next graph.old.forth × ExploresHops N.eq P.answers ends previous graph.old.back }
 
     ensures best { (next previous : N → List N) (starts ends : List N)
-        → Explores N.eq S.answers (hops_from starts next) graph.old.forth.nodes.keys graph.old.forth.source
-        → Explores N.eq P.answers (hops_from ends previous) graph.old.back.nodes.keys graph.old.back.source
+        → ExploresHops N.eq S.answers starts next graph.old.forth → ExploresHops N.eq P.answers ends previous graph.old.back
         → HasSameNodes N.eq graph.old.forth.nodes.keys starts → HasSameNodes N.eq graph.old.back.nodes.keys ends
         → IsMirror N.eq next previous starts ends
         → IfOk result (IsFewestEdgesOrNone N.eq next starts (is_among N.eq ends)) }

@@ -5,8 +5,7 @@ ghost use Rattle.pf_base.specs.Successors.{AnswersUnweightedGraph, OfUnweightedG
 ghost use Rattle.pf_base.specs.Loops.{IsBestLoopOrNone};
 ghost use Rattle.pf_base.specs.Answers.{IsLawfulClone};
 ghost use Rattle.pf_base.specs.NodeRefs.{HasSameNodes};
-ghost use Rattle.pf_core.specs.Nodes.{Explores};
-ghost use Rattle.pf_search.specs.Internal.Hops.{hops_from};
+ghost use Rattle.pf_search.specs.Internal.Hops.{ExploresHops};
 
 use pf_base::{NodeRefs, PathError, SuccessorFunction};
 use pf_core::discovery::{Discovery, clones_at, clones_of};
@@ -27,12 +26,11 @@ where
     A: Allocator + Copy,
     requires clones { IsLawfulClone N.eq N.is_clone }
     requires graph { (next : N → List N) × (starts : List N)
-        × Explores N.eq S.answers (hops_from starts next) graph.old.nodes.keys graph.old.source }
+        × ExploresHops N.eq S.answers starts next graph.old }
 
     ensures best { (next : N → List N) (starts : List N)
-        → Explores N.eq S.answers (hops_from starts next) graph.old.nodes.keys graph.old.source
-        → HasSameNodes N.eq graph.old.nodes.keys starts
-        → IfOk result (IsBestLoopOrNone N.eq next starts) }
+        → ExploresHops N.eq S.answers starts next graph.old
+        → HasSameNodes N.eq graph.old.nodes.keys starts → IfOk result (IsBestLoopOrNone N.eq next starts) }
 
     ensures errors { IfErr result (λ e. e ≡ PathError.OutOfMemory) }
 {

@@ -8,7 +8,7 @@ ghost use Rattle.pf_core.specs.declared.labels.Label.{Label};
 ghost use Rattle.pf_core.specs.Labels.{HasLabel, IsTree};
 ghost use Rattle.pf_core.specs.Nodes.{StandsFor};
 ghost use Rattle.pf_search.specs.BothEnds.{AnswersWeightedSearchFromBothEnds, OfWeightedSearchFromBothEnds};
-ghost use Rattle.pf_search.specs.Internal.BothEnds.{bound, TellsAtMost, IsMeetingOn, NoneBelowOn, NoMeetingAmong, IsFirstMeeting, AreSoundOn, AreHalvesOn, IsPairOn, AnswersPair, OfPair, AnswersEnds, OfEnds, NoWalkAcross, NoWalkAcrossBelow};
+ghost use Rattle.pf_search.specs.Internal.BothEnds.{AreNumberedOnce, bound, TellsAtMost, IsMeetingOn, NoneBelowOn, NoMeetingAmong, IsFirstMeeting, AreSoundOn, AreHalvesOn, IsPairOn, AnswersPair, OfPair, AnswersEnds, OfEnds, NoWalkAcross, NoWalkAcrossBelow};
 
 use pf_base::{Cost, EdgeFunction, PathError};
 use pf_core::both_ends::Halves;
@@ -45,7 +45,7 @@ where
     requires inside { number < length nodes.now.keys }
     requires labelled { (l : Label C) × HasLabel search.now.labels.items number l }
     requires wide { length other_search.now.labels.items ≡ length other_nodes.now.keys }
-    requires one { (i j : ℕ) (x : N) → StandsFor N.eq other_nodes.now.keys i x → StandsFor N.eq other_nodes.now.keys j x → i ≡ j }
+    requires one { AreNumberedOnce N.eq other_nodes.now.keys }
     ensures meets { IfSome result (λ m. (m.here ≡ number) × IsMeetingOn N.eq C.value nodes.now.keys other_nodes.now.keys search.now other_search.now m) }
     ensures low { NoneBelowOn N.eq C.value nodes.now.keys other_nodes.now.keys search.now other_search.now (bound C.value (C.value C.greatest) result) number }
 {
@@ -222,7 +222,7 @@ where
     requires inside { (k : ℕ) → Contains numbers.now k → k < length nodes.now.keys }
     requires labelled { (k : ℕ) → Contains numbers.now k → (l : Label C) × HasLabel search.now.labels.items k l }
     requires wide { length other_search.now.labels.items ≡ length other_nodes.now.keys }
-    requires one { (i j : ℕ) (x : N) → StandsFor N.eq other_nodes.now.keys i x → StandsFor N.eq other_nodes.now.keys j x → i ≡ j }
+    requires one { AreNumberedOnce N.eq other_nodes.now.keys }
     ensures first { MatchOption result (NoMeetingAmong N.eq C.value nodes.now.keys other_nodes.now.keys search.now other_search.now (C.value cost) numbers.now)
         (IsFirstMeeting N.eq C.value nodes.now.keys other_nodes.now.keys search.now other_search.now (C.value cost) numbers.now) }
 {
@@ -255,7 +255,7 @@ where
     requires trees { IsTree forth.now.labels.items × IsTree back.now.labels.items }
     requires wide_forth { length forth.now.labels.items ≡ length graph.now.forth.nodes.keys }
     requires wide_back { length back.now.labels.items ≡ length graph.now.back.nodes.keys }
-    requires one { (i j : ℕ) (x : N) → StandsFor N.eq graph.now.back.nodes.keys i x → StandsFor N.eq graph.now.back.nodes.keys j x → i ≡ j }
+    requires one { AreNumberedOnce N.eq graph.now.back.nodes.keys }
     requires costs { (k : ℕ) (l : Label C) → HasLabel forth.now.labels.items k l ⊎ HasLabel back.now.labels.items k l → pos 0 ≤ℤ C.value l.cost }
     requires meets { IsMeetingOn N.eq C.value graph.now.forth.nodes.keys graph.now.back.nodes.keys forth.now back.now best }
     ensures path { IfOk result (λ path. (numbers back_numbers : List ℕ) × (p q : List N)
