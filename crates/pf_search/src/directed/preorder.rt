@@ -109,7 +109,7 @@ where
     ghost can_next = { λ s. IsLawfulClone N.eq N.is_clone × IsSomeDepthWalk N.eq F.answers s };
 
     ghost next_gives = { λ s r t. OfDepthWalk N.eq F.answers s (λ next start paths.
-        DepthStep N.eq next start (λ done w. IsDepthWalk N.eq F.answers next start done w) paths s r t) };
+        DepthStep N.eq next start (IsDepthWalk N.eq F.answers next start) paths s r t) };
 
     ghost remaining = { λ s. at_most (most_items s.given s.refused) };
 
