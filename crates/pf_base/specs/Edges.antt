@@ -78,3 +78,13 @@ module _ {N : Type 0} (eq : N → N → Bool) (starts : List N) (answers : (N �
   -- of whatever edges and test they answer, P holds
   abbrev pub OfWeightedSearch : ((N → List (N × ℤ)) → (N → Bool) → Type 0) → Type 0
   OfWeightedSearch P = (edges : N → List (N × ℤ)) (test : N → Bool) → IsWeightedSearch eq edges starts answers tests test → P edges test
+
+-- What a function that lists edges answers from the starts on, where no edge costs less than 0.
+module _ {N : Type 0} (eq : N → N → Bool) (starts : List N) (answers : (N → Type 0) → (N → List (N × ℤ)) → Type 0) where
+  -- it answers some edges
+  abbrev pub AnswersWeightedGraph : Type 0
+  AnswersWeightedGraph = (edges : N → List (N × ℤ)) × answers (InReach eq edges starts) edges × HasNoNegativeCost eq edges starts
+
+  -- of whatever edges it answers, P holds
+  abbrev pub OfWeightedGraph : ((N → List (N × ℤ)) → Type 0) → Type 0
+  OfWeightedGraph P = (edges : N → List (N × ℤ)) → answers (InReach eq edges starts) edges → HasNoNegativeCost eq edges starts → P edges

@@ -1,5 +1,5 @@
 -- Loops in graphs without costs: walks that lead from a start back to a start.
-use Rattle.std.specs.Prelude.{◌≤◌, ◌-◌, Bool, List, [], ◌∷◌, length, take, drop}
+use Rattle.std.specs.Prelude.{◌≤◌, ◌-◌, Bool, List, [], ◌∷◌, Option, Vec, MatchOption, length, take, drop}
 use Rattle.pf_base.specs.Walks.{HasNode, NoRepeats, IsWalk, BeginsAt, end_of}
 use Rattle.pf_base.specs.Successors.{HasSuccessor}
 
@@ -27,3 +27,7 @@ module _ {N : Type 0} (eq : N → N → Bool) where
       pub distinct_before : NoRepeats eq (take (length path - 1) path)
       pub distinct_behind : NoRepeats eq (drop 1 path)
       pub fewest : (walk : List N) → IsLoop walk → length path ≤ length walk
+
+    -- a loop with fewest edges, or none exactly where there is no loop
+    abbrev pub IsBestLoopOrNone : {A : Type 0} → Option (Vec N A) → Type 0
+    IsBestLoopOrNone answer = MatchOption answer HasNoLoop (λ path. IsBestLoop path.items)

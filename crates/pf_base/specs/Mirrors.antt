@@ -20,3 +20,13 @@ module _ {N : Type 0} (eq : N → N → Bool) where
       pub successors_answered : answers_forth (IsReachable eq (HasSuccessor eq successors) starts) successors
       pub predecessors_answered : answers_back (IsReachable eq (HasSuccessor eq predecessors) ends) predecessors
       pub mirror : IsMirror
+
+-- What functions that list successors and predecessors answer from the starts on and back from the ends, where each mirrors the other.
+module _ {N : Type 0} (eq : N → N → Bool) (starts ends : List N) (answers_forth answers_back : (N → Type 0) → (N → List N) → Type 0) where
+  -- they answer some successors and some predecessors
+  abbrev pub AnswersSearchFromBothEnds : Type 0
+  AnswersSearchFromBothEnds = (successors predecessors : N → List N) × IsSearchFromBothEnds eq successors predecessors starts ends answers_forth answers_back
+
+  -- of whatever successors and predecessors they answer, P holds
+  abbrev pub OfSearchFromBothEnds : ((N → List N) → (N → List N) → Type 0) → Type 0
+  OfSearchFromBothEnds P = (successors predecessors : N → List N) → IsSearchFromBothEnds eq successors predecessors starts ends answers_forth answers_back → P successors predecessors

@@ -31,3 +31,13 @@ module _ {N : Type 0} (eq : N → N → Bool) (starts : List N) (answers : (N �
   -- of whatever successors and test they answer, P holds
   abbrev pub OfUnweightedSearch : ((N → List N) → (N → Bool) → Type 0) → Type 0
   OfUnweightedSearch P = (successors : N → List N) (test : N → Bool) → IsUnweightedSearch eq successors starts answers tests test → P successors test
+
+-- What a function that lists successors answers from the starts on.
+module _ {N : Type 0} (eq : N → N → Bool) (starts : List N) (answers : (N → Type 0) → (N → List N) → Type 0) where
+  -- it answers some successors
+  abbrev pub AnswersUnweightedGraph : Type 0
+  AnswersUnweightedGraph = (successors : N → List N) × answers (IsReachable eq (HasSuccessor eq successors) starts) successors
+
+  -- of whatever successors it answers, P holds
+  abbrev pub OfUnweightedGraph : ((N → List N) → Type 0) → Type 0
+  OfUnweightedGraph P = (successors : N → List N) → answers (IsReachable eq (HasSuccessor eq successors) starts) successors → P successors

@@ -15,3 +15,13 @@ module _ {N : Type 0} (eq : N → N → Bool) (edges previous : N → List (N ×
     pub mirror : IsCostMirror
     pub costs : HasNoNegativeCost eq edges (start ∷ [])
     pub costs_back : HasNoNegativeCost eq previous (end ∷ [])
+
+-- What functions that list edges from nodes and edges to nodes answer from the start on and back from the end, where each mirrors the other and no edge costs less than 0.
+module _ {N : Type 0} (eq : N → N → Bool) (start end : N) (answers_forth answers_back : (N → Type 0) → (N → List (N × ℤ)) → Type 0) where
+  -- they answer some edges and some edges back
+  abbrev pub AnswersWeightedSearchFromBothEnds : Type 0
+  AnswersWeightedSearchFromBothEnds = (edges previous : N → List (N × ℤ)) × IsWeightedSearchFromBothEnds eq edges previous start end answers_forth answers_back
+
+  -- of whatever edges and edges back they answer, P holds
+  abbrev pub OfWeightedSearchFromBothEnds : ((N → List (N × ℤ)) → (N → List (N × ℤ)) → Type 0) → Type 0
+  OfWeightedSearchFromBothEnds P = (edges previous : N → List (N × ℤ)) → IsWeightedSearchFromBothEnds eq edges previous start end answers_forth answers_back → P edges previous

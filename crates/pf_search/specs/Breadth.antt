@@ -25,6 +25,15 @@ module _ {N F : Type 0} (eq : N → N → Bool) (answers : F → (N → Type 0) 
     pub ordered : IsBreadthOrder eq next start walk.given
     pub found : SameNodes eq (walk.given ++ walk.waiting) (found_from eq next start walk.given)
 
+module _ {N F : Type 0} (eq : N → N → Bool) (answers : F → (N → Type 0) → (N → List N) → Type 0) (walk : BreadthWalk N F) where
+  -- the walk is one of some graph from some start
+  abbrev pub IsSomeBreadthWalk : Type 0
+  IsSomeBreadthWalk = (next : N → List N) × (start : N) × IsBreadthWalk eq answers next start walk
+
+  -- of whatever graph and start the walk is one, P holds
+  abbrev pub OfBreadthWalk : ((N → List N) → N → Type 0) → Type 0
+  OfBreadthWalk P = (next : N → List N) (start : N) → IsBreadthWalk eq answers next start walk → P next start
+
 -- What a call of `next` gives, and how it leaves the walk.
 module _ {N F : Type 0} (eq : N → N → Bool) (next : N → List N) (start : N) where
   -- a node: the next in breadth order, which is one of the given ones from then on

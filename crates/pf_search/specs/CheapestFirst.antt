@@ -132,3 +132,12 @@ module _ {N C F : Type 0} (eq : N → N → Bool) where
     CheapestStep fits walk (Some (Ok item)) after = (walk.refused ≡ false) × (after.refused ≡ false) × IsNextByCost walk item × GivesMore walk item after
     CheapestStep fits walk None after = ((walk.refused ≡ true) ⊎ AllGiven walk) × (after ≡ walk)
     CheapestStep fits walk (Some (Err refusal)) after = (walk.refused ≡ false) × (after.refused ≡ true) × RefusedFor fits walk refusal × IsLeft walk × GivesNoMore walk after × (after.labels ≡ walk.labels) × SameNodes eq after.nodes walk.nodes
+
+module _ {N C F : Type 0} (eq : N → N → Bool) (value : C → ℤ) (answers : F → (N → Type 0) → (N → List (N × ℤ)) → Type 0) (walk : CheapestWalk N C F) where
+  -- the walk is one of some graph from some start
+  abbrev pub IsSomeCheapestWalk : Type 0
+  IsSomeCheapestWalk = (edges : N → List (N × ℤ)) × (start : N) × IsCheapestWalk eq value edges start answers walk
+
+  -- of whatever graph and start the walk is one, P holds
+  abbrev pub OfCheapestWalk : ((N → List (N × ℤ)) → N → Type 0) → Type 0
+  OfCheapestWalk P = (edges : N → List (N × ℤ)) (start : N) → IsCheapestWalk eq value edges start answers walk → P edges start

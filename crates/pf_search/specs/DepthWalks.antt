@@ -65,3 +65,12 @@ module _ {N F : Type 0} (eq : N → N → Bool) (answers : F → (N → Type 0) 
   pub record IsDepthWalk (paths : List (List N)) (s : DepthWalk N F) : Type 0 where
     pub stands : StandsAt eq next start paths s
     pub explores : Explores eq (AnswersHops eq answers) (record { starts = start ∷ []; edges = unit_edges next }) s.found (record { function = s.successors })
+
+module _ {N F : Type 0} (eq : N → N → Bool) (answers : F → (N → Type 0) → (N → List N) → Type 0) (s : DepthWalk N F) where
+  -- the walk has gone along some tree paths of some graph from some start
+  abbrev pub IsSomeDepthWalk : Type 0
+  IsSomeDepthWalk = (next : N → List N) × (start : N) × (paths : List (List N)) × IsDepthWalk eq answers next start paths s
+
+  -- of whatever graph, start and tree paths the walk has gone along, P holds
+  abbrev pub OfDepthWalk : ((N → List N) → N → List (List N) → Type 0) → Type 0
+  OfDepthWalk P = (next : N → List N) (start : N) (paths : List (List N)) → IsDepthWalk eq answers next start paths s → P next start paths

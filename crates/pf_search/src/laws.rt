@@ -3,14 +3,13 @@
 //! A call adds its law to what the caller's proof knows. It does nothing when it runs.
 
 ghost use Rattle.std.specs.Prelude.{◌≡◌, ◌≤◌, ◌∷◌, [], ℕ, List, Bool, true, ℤ, Option, Some, slice_get, length};
-ghost use Rattle.pf_base.specs.Answers.{SameNodes};
 ghost use Rattle.pf_base.specs.Edges.{InReach, IsCheapestGoalPath, HasNoNegativeCost};
-ghost use Rattle.pf_base.specs.Orders.{last_nodes, IsBreadthOrder, AllGiven, IsPreorder, IsWholePreorder};
+ghost use Rattle.pf_base.specs.Orders.{last_nodes, IsBreadthOrder, AllGiven, IsWholePreorder};
 ghost use Rattle.pf_base.specs.Successors.{HasSuccessor, IsFewestEdgesGoalPath};
 ghost use Rattle.pf_base.specs.Walks.{HasNode, NoRepeats, IsAtMostNumberOf, IsGoalWalk, IsReachable};
 ghost use Rattle.pf_core.specs.Labels.{settled_count};
-ghost use Rattle.pf_search.specs.CheapestFirst.{CheapestWalk, IsCheapestWalk, IsGiven};
-ghost use Rattle.pf_search.specs.Laws.{targets, HasEqualSuccessors, HasEqualEdges};
+ghost use Rattle.pf_search.specs.CheapestFirst.{IsGiven};
+ghost use Rattle.pf_search.specs.Laws.{targets, HasEqualSuccessors, HasEqualEdges, OfPreorder, OfBreadthOrder, OfEachCheapestWalk};
 ghost use Rattle.pf_search.specs.Parents.{IsCheapestMap, IsChainOfParents, IsLeastCost};
 
 use crate::directed::dijkstra::DijkstraReachable;
@@ -44,14 +43,13 @@ pub fn fewest_edges_have_one_length<N: Eq>(_of: PhantomData<N>)
 ///
 /// So `dfs_reach` gives the nodes in reach, each once.
 pub fn preorder_of_reach<N: Eq>(_of: PhantomData<N>)
-    ensures reachable { (next : N → List N) (start : N) (paths : List (List N)) → IsPreorder N.eq next start paths
-        → (x : N) → HasNode N.eq (last_nodes paths) x → IsReachable N.eq (HasSuccessor N.eq next) (start ∷ []) x }
-    ensures once { (next : N → List N) (start : N) (paths : List (List N)) → IsPreorder N.eq next start paths → NoRepeats N.eq (last_nodes paths) }
-    ensures whole { (next : N → List N) (start : N) (paths : List (List N)) → IsPreorder N.eq next start paths → IsWholePreorder N.eq next paths
-        → HasEqualSuccessors N.eq next start
-        → (x : N) → IsReachable N.eq (HasSuccessor N.eq next) (start ∷ []) x → HasNode N.eq (last_nodes paths) x }
-    ensures at_most { (next : N → List N) (start : N) (paths : List (List N)) → IsPreorder N.eq next start paths
-        → IsAtMostNumberOf N.eq (IsReachable N.eq (HasSuccessor N.eq next) (start ∷ [])) (length paths) }
+    ensures reachable { OfPreorder N.eq (λ next start paths.
+        (x : N) → HasNode N.eq (last_nodes paths) x → IsReachable N.eq (HasSuccessor N.eq next) (start ∷ []) x) }
+    ensures once { OfPreorder N.eq (λ next start paths. NoRepeats N.eq (last_nodes paths)) }
+    ensures whole { OfPreorder N.eq (λ next start paths. IsWholePreorder N.eq next paths → HasEqualSuccessors N.eq next start
+        → (x : N) → IsReachable N.eq (HasSuccessor N.eq next) (start ∷ []) x → HasNode N.eq (last_nodes paths) x) }
+    ensures at_most { OfPreorder N.eq (λ next start paths.
+        IsAtMostNumberOf N.eq (IsReachable N.eq (HasSuccessor N.eq next) (start ∷ [])) (length paths)) }
 {}
 
 /// The nodes of a breadth order are in reach, and no node stands twice among them. Where all that was
@@ -60,22 +58,22 @@ pub fn preorder_of_reach<N: Eq>(_of: PhantomData<N>)
 ///
 /// So this holds of the nodes that a walk of `bfs_reach` gives, and of all of them once it has ended.
 pub fn breadth_order_is_reach<N: Eq>(_of: PhantomData<N>)
-    ensures reached { (next : N → List N) (start : N) (given : List N) → HasEqualSuccessors N.eq next start → IsBreadthOrder N.eq next start given
-        → (x : N) → HasNode N.eq given x → IsReachable N.eq (HasSuccessor N.eq next) (start ∷ []) x }
+    ensures reached { OfBreadthOrder N.eq (λ next start given.
+        (x : N) → HasNode N.eq given x → IsReachable N.eq (HasSuccessor N.eq next) (start ∷ []) x) }
     ensures once { (next : N → List N) (start : N) (given : List N) → IsBreadthOrder N.eq next start given → NoRepeats N.eq given }
-    ensures all { (next : N → List N) (start : N) (given : List N) → HasEqualSuccessors N.eq next start → IsBreadthOrder N.eq next start given → AllGiven N.eq next start given
-        → (x : N) → IsReachable N.eq (HasSuccessor N.eq next) (start ∷ []) x → HasNode N.eq given x }
-    ensures at_most { (next : N → List N) (start : N) (given : List N) → HasEqualSuccessors N.eq next start → IsBreadthOrder N.eq next start given
-        → IsAtMostNumberOf N.eq (IsReachable N.eq (HasSuccessor N.eq next) (start ∷ [])) (length given) }
+    ensures all { OfBreadthOrder N.eq (λ next start given. AllGiven N.eq next start given
+        → (x : N) → IsReachable N.eq (HasSuccessor N.eq next) (start ∷ []) x → HasNode N.eq given x) }
+    ensures at_most { OfBreadthOrder N.eq (λ next start given.
+        IsAtMostNumberOf N.eq (IsReachable N.eq (HasSuccessor N.eq next) (start ∷ [])) (length given)) }
 {}
 
 /// In a breadth order the distance from the start never falls: of two nodes, the one that comes first
 /// can be reached by a walk with no more edges than any walk to the other has.
 pub fn breadth_order_is_by_distance<N: Eq>(_of: PhantomData<N>)
-    ensures { (next : N → List N) (start : N) (given : List N) → HasEqualSuccessors N.eq next start → IsBreadthOrder N.eq next start given
-        → (i j : ℕ) (x y : N) → i ≤ j → slice_get given i ≡ Some x → slice_get given j ≡ Some y
+    ensures { OfBreadthOrder N.eq (λ next start given.
+        (i j : ℕ) (x y : N) → i ≤ j → slice_get given i ≡ Some x → slice_get given j ≡ Some y
         → (far : List N) → IsGoalWalk N.eq (HasSuccessor N.eq next) (start ∷ []) (λ z. N.eq z y) far
-        → (near : List N) × IsGoalWalk N.eq (HasSuccessor N.eq next) (start ∷ []) (λ z. N.eq z x) near × (length near ≤ length far) }
+        → (near : List N) × IsGoalWalk N.eq (HasSuccessor N.eq next) (start ∷ []) (λ z. N.eq z x) near × (length near ≤ length far)) }
 {}
 
 /// A node that a walk of `dijkstra_reach` gave is in reach of the start. No node was found twice, so
@@ -88,15 +86,11 @@ where
     C: Cost,
     F: EdgeFunction<N, C>,
     A: Allocator,
-    ensures reached { (edges : N → List (N × ℤ)) (start : N) (walk : CheapestWalk N C F)
-        → IsCheapestWalk N.eq C.value edges start F.answers walk
-        → (x : N) (cost : C) → IsGiven N.eq walk x cost → InReach N.eq edges (start ∷ []) x }
-    ensures once { (edges : N → List (N × ℤ)) (start : N) (walk : CheapestWalk N C F)
-        → IsCheapestWalk N.eq C.value edges start F.answers walk
-        → NoRepeats N.eq walk.nodes }
-    ensures at_most { (edges : N → List (N × ℤ)) (start : N) (walk : CheapestWalk N C F)
-        → IsCheapestWalk N.eq C.value edges start F.answers walk
-        → IsAtMostNumberOf N.eq (InReach N.eq edges (start ∷ [])) (settled_count walk.labels) }
+    ensures reached { OfEachCheapestWalk N.eq C.value F.answers (λ edges start walk.
+        (x : N) (cost : C) → IsGiven N.eq walk x cost → InReach N.eq edges (start ∷ []) x) }
+    ensures once { OfEachCheapestWalk N.eq C.value F.answers (λ edges start walk. NoRepeats N.eq walk.nodes) }
+    ensures at_most { OfEachCheapestWalk N.eq C.value F.answers (λ edges start walk.
+        IsAtMostNumberOf N.eq (InReach N.eq edges (start ∷ [])) (settled_count walk.labels)) }
 {}
 
 /// In one graph, cheapest paths cost the same: two from the same starts to nodes that pass one test,

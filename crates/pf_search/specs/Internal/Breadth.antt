@@ -1,13 +1,19 @@
 -- What contracts of private functions say of a lazy walk in breadth order.
-use Rattle.std.specs.Prelude.{◌≡◌, ◌≤◌, ◌++◌, ℕ, take, drop, length, Bool, List, [], ◌∷◌, Option, Some, None, Result, Ok, Err}
+use Rattle.std.specs.Prelude.{◌≡◌, ◌≤◌, ◌++◌, ℕ, take, drop, length, Bool, false, List, [], ◌∷◌, Option, Some, None, Result, Ok, Err}
 use Rattle.pf_base.specs.declared.error.PathError.{PathError}
 use Rattle.pf_base.specs.Answers.{SameNodes}
 use Rattle.pf_base.specs.Orders.{IsNextInBreadth, AllGiven}
+use Rattle.pf_core.specs.declared.discovery.Discovery.{Discovery}
+use Rattle.pf_core.specs.declared.source.Unweighted.{Unweighted}
 use Rattle.pf_search.specs.Breadth.{BreadthWalk}
 
 -- the walk that found these nodes, and gave this many of them
 abbrev pub walk_at : {N F : Type 0} → List N → ℕ → Bool → F → BreadthWalk N F
 walk_at found given refused successors = record { given = take given found; waiting = drop given found; refused = refused; successors = successors }
+
+-- the same of what a discovery found, where no step was refused
+abbrev pub walk_in : {N F Z : Type 0} → Discovery N (Unweighted F) Z → ℕ → BreadthWalk N F
+walk_in discovery given = walk_at discovery.nodes.keys given false discovery.source.function
 
 -- the nodes found, where a start that was not put in yet counts as found
 abbrev pub found_or : {N : Type 0} → Option N → List N → List N

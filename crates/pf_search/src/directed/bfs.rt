@@ -1,14 +1,12 @@
 //! Paths with fewest edges (breadth-first search).
 
-ghost use Rattle.std.specs.Prelude.{◌≡◌, List, Bool, IfOk, IfErr, MatchOption};
-ghost use Rattle.pf_base.specs.Walks.{HasNoGoalWalk};
-ghost use Rattle.pf_base.specs.Successors.{HasSuccessor, IsUnweightedSearch, IsFewestEdgesGoalPath};
+ghost use Rattle.std.specs.Prelude.{◌≡◌, List, Bool, IfOk, IfErr};
+ghost use Rattle.pf_base.specs.Successors.{AnswersUnweightedSearch, OfUnweightedSearch, IsFewestEdgesOrNone};
 ghost use Rattle.pf_base.specs.Answers.{IsLawfulClone};
 ghost use Rattle.pf_base.specs.Edges.{InReach};
 ghost use Rattle.pf_base.specs.NodeRefs.{HasSameNodes};
 ghost use Rattle.pf_core.specs.Hops.{unit_edges};
-ghost use Rattle.pf_core.specs.Nodes.{Explores};
-ghost use Rattle.pf_search.specs.Internal.Hops.{hops_from};
+ghost use Rattle.pf_search.specs.Internal.Hops.{ExploresHops};
 
 mod both_ends;
 mod loops;
@@ -36,16 +34,13 @@ where
     A: Allocator + Copy,
     requires clones { IsLawfulClone N.eq N.is_clone }
     requires graph { (next : N → List N) × (starts : List N) × (test : N → Bool)
-        × Explores N.eq S.answers (hops_from starts next) graph.old.discovery.nodes.keys graph.old.discovery.source
+        × ExploresHops N.eq S.answers starts next graph.old.discovery
         × T.answers graph.old.success (InReach N.eq (unit_edges next) starts) test }
 
     ensures best { (next : N → List N) (starts : List N) (test : N → Bool)
-        → Explores N.eq S.answers (hops_from starts next) graph.old.discovery.nodes.keys graph.old.discovery.source
+        → ExploresHops N.eq S.answers starts next graph.old.discovery
         → T.answers graph.old.success (InReach N.eq (unit_edges next) starts) test
-        → HasSameNodes N.eq graph.old.discovery.nodes.keys starts
-        → IfOk result (λ answer. MatchOption answer
-        (HasNoGoalWalk N.eq (HasSuccessor N.eq next) starts test)
-        (λ path. IsFewestEdgesGoalPath N.eq next starts test path.items)) }
+        → HasSameNodes N.eq graph.old.discovery.nodes.keys starts → IfOk result (IsFewestEdgesOrNone N.eq next starts test) }
 
     ensures errors { IfErr result (λ e. e ≡ PathError.OutOfMemory) }
 {
@@ -84,14 +79,10 @@ where
     A: Allocator + Copy,
     B: Allocator,
     requires clones { IsLawfulClone N.eq N.is_clone }
-    requires graph { (next : N → List N) × (test : N → Bool)
-        × IsUnweightedSearch N.eq next starts.now (⟦<FN as SuccessorFunction<N>>⟧.answers successors) (⟦<FS as NodeTest<N>>⟧.answers success) test }
+    requires graph { AnswersUnweightedSearch N.eq starts.now (⟦<FN as SuccessorFunction<N>>⟧.answers successors) (⟦<FS as NodeTest<N>>⟧.answers success) }
 
-    ensures best { (next : N → List N) (test : N → Bool)
-        → IsUnweightedSearch N.eq next starts.now (⟦<FN as SuccessorFunction<N>>⟧.answers successors) (⟦<FS as NodeTest<N>>⟧.answers success) test
-        → IfOk result (λ answer. MatchOption answer
-        (HasNoGoalWalk N.eq (HasSuccessor N.eq next) starts.now test)
-        (λ path. IsFewestEdgesGoalPath N.eq next starts.now test path.items)) }
+    ensures best { OfUnweightedSearch N.eq starts.now (⟦<FN as SuccessorFunction<N>>⟧.answers successors) (⟦<FS as NodeTest<N>>⟧.answers success) (λ next test.
+        IfOk result (IsFewestEdgesOrNone N.eq next starts.now test)) }
 
     ensures errors { IfErr result (λ e. e ≡ PathError.OutOfMemory) }
 {

@@ -1,14 +1,13 @@
 //! The nodes in reach of a start in breadth order, one at a time.
 
-ghost use Rattle.std.specs.Prelude.{◌≡◌, ◌<◌, ◌≤◌, ◌+◌, [], ◌∷◌, ◌++◌, ◌^◌, List, Ok, Some, None, false, true, length, take, drop, OnOk, OnErr, IfOk, IfErr, IfSome};
+ghost use Rattle.std.specs.Prelude.{◌≡◌, ◌<◌, ◌≤◌, ◌+◌, [], ◌∷◌, ◌++◌, ◌^◌, Ok, Some, None, false, length, take, OnOk, OnErr, IfOk, IfErr, IfSome};
 ghost use Rattle.std.specs.Iterator.{MakesProgress, at_most};
 ghost use Rattle.pf_base.specs.Answers.{IsLawfulClone, SameNodes};
-ghost use Rattle.pf_base.specs.Walks.{IsReachable};
-ghost use Rattle.pf_base.specs.Successors.{HasSuccessor};
-ghost use Rattle.pf_base.specs.Orders.{IsNextInBreadth, AllGiven};
-ghost use Rattle.pf_search.specs.Breadth.{IsBreadthWalk, BreadthStep};
+ghost use Rattle.pf_base.specs.Successors.{OfUnweightedGraph};
+ghost use Rattle.pf_base.specs.Orders.{IsNextInBreadth};
+ghost use Rattle.pf_search.specs.Breadth.{IsBreadthWalk, IsSomeBreadthWalk, OfBreadthWalk, BreadthStep};
 ghost use Rattle.pf_search.specs.Items.{most_items};
-ghost use Rattle.pf_search.specs.Internal.Breadth.{BreadthTurn, walk_at, BeginsEmpty, found_or};
+ghost use Rattle.pf_search.specs.Internal.Breadth.{BreadthTurn, walk_in, BeginsEmpty, found_or};
 
 use indexmap::IndexSet;
 use pf_base::{PathError, SuccessorFunction};
@@ -57,13 +56,11 @@ where
     A: Allocator + Copy,
     requires inside { number < length discovery.old.nodes.keys }
     requires clones { IsLawfulClone N.eq N.is_clone }
-    requires walk { (next : N → List N) × (start : N)
-        × IsBreadthWalk N.eq F.answers next start (walk_at discovery.old.nodes.keys number false discovery.old.source.function) }
-    ensures walk { (next : N → List N) (start : N)
-        → IsBreadthWalk N.eq F.answers next start (walk_at discovery.old.nodes.keys number false discovery.old.source.function)
-        → IfOk result (λ node. IsBreadthWalk N.eq F.answers next start (walk_at discovery.new.nodes.keys (number + 1) false discovery.new.source.function)
+    requires walk { IsSomeBreadthWalk N.eq F.answers (walk_in discovery.old number) }
+    ensures walk { OfBreadthWalk N.eq F.answers (walk_in discovery.old number) (λ next start.
+        IfOk result (λ node. IsBreadthWalk N.eq F.answers next start (walk_in discovery.new (number + 1))
         × IsNextInBreadth N.eq next start (take number discovery.old.nodes.keys) node)
-        × OnErr result (IsBreadthWalk N.eq F.answers next start (walk_at discovery.new.nodes.keys number false discovery.new.source.function)) }
+        × OnErr result (IsBreadthWalk N.eq F.answers next start (walk_in discovery.new number))) }
     ensures given { IfOk result (λ node. SameNodes N.eq (take (number + 1) discovery.new.nodes.keys) (take number discovery.old.nodes.keys ++ node ∷ [])) }
     ensures stays { OnErr result (SameNodes N.eq discovery.new.nodes.keys discovery.old.nodes.keys) }
     ensures more { length discovery.old.nodes.keys ≤ length discovery.new.nodes.keys }
@@ -104,11 +101,10 @@ where
 {
     type Item = Result<N, PathError>;
 
-    ghost can_next = { λ s. IsLawfulClone N.eq N.is_clone × ((next : N → List N) × (start : N) × IsBreadthWalk N.eq F.answers next start s) };
+    ghost can_next = { λ s. IsLawfulClone N.eq N.is_clone × IsSomeBreadthWalk N.eq F.answers s };
 
-    ghost next_gives = { λ s r t. (next : N → List N) (start : N)
-        → IsBreadthWalk N.eq F.answers next start s
-        → IsBreadthWalk N.eq F.answers next start t × BreadthStep N.eq next start s r t };
+    ghost next_gives = { λ s r t. OfBreadthWalk N.eq F.answers s (λ next start.
+        IsBreadthWalk N.eq F.answers next start t × BreadthStep N.eq next start s r t) };
 
     ghost remaining = { λ s. at_most (most_items (length s.given) s.refused) };
 
@@ -137,9 +133,7 @@ where
     /// since the last call of `resume`, this changes nothing.
     pub fn resume(&mut self)
         ensures lowered { self.new ≡ record self.old { refused = false } }
-        ensures graph { (next : N → List N) (start : N)
-            → IsBreadthWalk N.eq F.answers next start self.old
-            → IsBreadthWalk N.eq F.answers next start self.new }
+        ensures graph { OfBreadthWalk N.eq F.answers self.old (λ next start. IsBreadthWalk N.eq F.answers next start self.new) }
     {
         self.refused = false;
     }
@@ -148,10 +142,9 @@ where
     /// and the waiting nodes stay as they were.
     fn step(&mut self) -> Result<Option<N>, PathError>
         requires clones { IsLawfulClone N.eq N.is_clone }
-        requires walk { (next : N → List N) × (start : N) × IsBreadthWalk N.eq F.answers next start self.old }
-        ensures steps { (next : N → List N) (start : N)
-            → IsBreadthWalk N.eq F.answers next start self.old
-            → IsBreadthWalk N.eq F.answers next start self.new × BreadthTurn N.eq next start self.old result self.new }
+        requires walk { IsSomeBreadthWalk N.eq F.answers self.old }
+        ensures steps { OfBreadthWalk N.eq F.answers self.old (λ next start.
+            IsBreadthWalk N.eq F.answers next start self.new × BreadthTurn N.eq next start self.old result self.new) }
         ensures few { IfOk result (λ given. IfSome given (λ _. length self.new.given < 2 ^ 63)) }
         ensures same { self.new.refused ≡ self.old.refused }
         ensures refused { IfErr result (λ e. e ≡ PathError.OutOfMemory) }
@@ -213,9 +206,8 @@ where
     FN: FnMut(&N) -> IN,
     A: Allocator + Copy,
     ensures begins { result ≡ Ok (record { given = []; waiting = start ∷ []; refused = false; successors = successors }) }
-    ensures graph { IfOk result (λ walk. (next : N → List N)
-        → ⟦<FN as SuccessorFunction<N>>⟧.answers successors (IsReachable N.eq (HasSuccessor N.eq next) (start ∷ [])) next
-        → IsBreadthWalk N.eq (⟦<FN as SuccessorFunction<N>>⟧.answers) next start walk) }
+    ensures graph { IfOk result (λ walk. OfUnweightedGraph N.eq (start ∷ []) (⟦<FN as SuccessorFunction<N>>⟧.answers successors) (λ next.
+        IsBreadthWalk N.eq (⟦<FN as SuccessorFunction<N>>⟧.answers) next start walk)) }
 {
     let discovery = Discovery {
         nodes: IndexSet::new(alloc),

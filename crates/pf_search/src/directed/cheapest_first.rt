@@ -1,13 +1,13 @@
 //! The nodes in reach of a start by rising cost, one at a time.
 
-ghost use Rattle.std.specs.Prelude.{◌≡◌, ◌<◌, ◌+◌, [], ◌∷◌, List, ℤ, None, false, true, length, IfOk, IfErr, IfSome, MatchOption};
+ghost use Rattle.std.specs.Prelude.{◌≡◌, ◌<◌, ◌+◌, [], ◌∷◌, List, ℤ, None, false, length, IfOk, IfErr, IfSome, MatchOption};
 ghost use Rattle.std.specs.Iterator.{MakesProgress, at_most};
 ghost use Rattle.pf_base.specs.Answers.{IsLawfulClone};
-ghost use Rattle.pf_base.specs.Edges.{InReach, HasNoNegativeCost};
+ghost use Rattle.pf_base.specs.Edges.{OfWeightedGraph};
 ghost use Rattle.pf_core.specs.declared.labels.Label.{Label};
 ghost use Rattle.pf_core.specs.Labels.{HasLabel, settled_count};
 ghost use Rattle.pf_core.specs.Nodes.{StandsFor};
-ghost use Rattle.pf_search.specs.CheapestFirst.{IsGiven, IsCheapestWalk, IsBarred, CheapestTurn, CheapestStep, TurnKeepsBar, StepKeepsBar};
+ghost use Rattle.pf_search.specs.CheapestFirst.{IsGiven, IsCheapestWalk, IsSomeCheapestWalk, OfCheapestWalk, IsBarred, CheapestTurn, CheapestStep, TurnKeepsBar, StepKeepsBar};
 ghost use Rattle.pf_search.specs.Items.{most_items};
 
 use pf_base::{Cost, EdgeFunction, PathError};
@@ -92,14 +92,12 @@ where
 {
     type Item = Result<DijkstraReachableItem<N, C>, PathError>;
 
-    ghost can_next = { λ s. IsLawfulClone N.eq N.is_clone × ((edges : N → List (N × ℤ)) × (start : N)
-        × IsCheapestWalk N.eq C.value edges start F.answers s) };
+    ghost can_next = { λ s. IsLawfulClone N.eq N.is_clone × IsSomeCheapestWalk N.eq C.value F.answers s };
 
-    ghost next_gives = { λ s r t. (edges : N → List (N × ℤ)) (start : N)
-        → IsCheapestWalk N.eq C.value edges start F.answers s
-        → IsCheapestWalk N.eq C.value edges start F.answers t
+    ghost next_gives = { λ s r t. OfCheapestWalk N.eq C.value F.answers s (λ edges start.
+        IsCheapestWalk N.eq C.value edges start F.answers t
         × CheapestStep N.eq C.value edges start C.fits s r t
-        × StepKeepsBar N.eq C.value edges start C.fits s r t };
+        × StepKeepsBar N.eq C.value edges start C.fits s r t) };
 
     ghost remaining = { λ s. at_most (most_items (settled_count s.labels) s.refused) };
 
@@ -129,9 +127,7 @@ where
     /// since the last call of `resume`, this changes nothing.
     pub fn resume(&mut self)
         ensures lowered { self.new ≡ record self.old { refused = false } }
-        ensures graph { (edges : N → List (N × ℤ)) (start : N)
-            → IsCheapestWalk N.eq C.value edges start F.answers self.old
-            → IsCheapestWalk N.eq C.value edges start F.answers self.new }
+        ensures graph { OfCheapestWalk N.eq C.value F.answers self.old (λ edges start. IsCheapestWalk N.eq C.value edges start F.answers self.new) }
         ensures bar { (edges : N → List (N × ℤ)) (start : N)
             → IsBarred N.eq C.value edges start C.fits self.old → IsBarred N.eq C.value edges start C.fits self.new }
     {
@@ -142,15 +138,12 @@ where
     /// was found and given stays as it was.
     fn step(&mut self) -> Result<Option<DijkstraReachableItem<N, C>>, PathError>
         requires clones { IsLawfulClone N.eq N.is_clone }
-        requires walk { (edges : N → List (N × ℤ)) × (start : N)
-            × IsCheapestWalk N.eq C.value edges start F.answers self.old }
-        ensures steps { (edges : N → List (N × ℤ)) (start : N)
-            → IsCheapestWalk N.eq C.value edges start F.answers self.old
-            → IsCheapestWalk N.eq C.value edges start F.answers self.new
-            × CheapestTurn N.eq C.value edges start C.fits self.old result self.new }
-        ensures bars { (edges : N → List (N × ℤ)) (start : N)
-            → IsCheapestWalk N.eq C.value edges start F.answers self.old
-            → TurnKeepsBar N.eq C.value edges start C.fits self.old result self.new }
+        requires walk { IsSomeCheapestWalk N.eq C.value F.answers self.old }
+        ensures steps { OfCheapestWalk N.eq C.value F.answers self.old (λ edges start.
+            IsCheapestWalk N.eq C.value edges start F.answers self.new
+            × CheapestTurn N.eq C.value edges start C.fits self.old result self.new) }
+        ensures bars { OfCheapestWalk N.eq C.value F.answers self.old (λ edges start.
+            TurnKeepsBar N.eq C.value edges start C.fits self.old result self.new) }
         ensures counts { IfOk result (λ given. IfSome given (λ _. settled_count self.new.labels ≡ settled_count self.old.labels + 1)) }
         ensures same { self.new.refused ≡ self.old.refused }
     {
@@ -202,10 +195,8 @@ where
     A: Allocator + Copy,
     requires clones { IsLawfulClone N.eq N.is_clone }
     ensures begins { IfOk result (λ walk. ((x : N) (cost : C) → ¬ (IsGiven N.eq walk x cost)) × (walk.refused ≡ false) × (walk.successors ≡ successors)) }
-    ensures graph { IfOk result (λ walk. (edges : N → List (N × ℤ))
-        → ⟦<FN as EdgeFunction<N, C>>⟧.answers successors (InReach N.eq edges (start.now ∷ [])) edges
-        → HasNoNegativeCost N.eq edges (start.now ∷ [])
-        → IsCheapestWalk N.eq C.value edges start.now (⟦<FN as EdgeFunction<N, C>>⟧.answers) walk) }
+    ensures graph { IfOk result (λ walk. OfWeightedGraph N.eq (start.now ∷ []) (⟦<FN as EdgeFunction<N, C>>⟧.answers successors) (λ edges.
+        IsCheapestWalk N.eq C.value edges start.now (⟦<FN as EdgeFunction<N, C>>⟧.answers) walk)) }
     ensures refused { IfErr result (λ e. e ≡ PathError.OutOfMemory) }
 {
     let discovery = Discovery {

@@ -1,16 +1,16 @@
 //! Cheapest paths to all nodes in reach of a start, or to those up to a node at which the search stops.
 
-ghost use Rattle.std.specs.Prelude.{◌≡◌, ◌⊎◌, ◌<◌, ◌≤◌, [], ◌∷◌, List, ℕ, ℤ, Bool, Err, true, false, nat_eq, length, IfOk, IfErr, IfSome};
+ghost use Rattle.std.specs.Prelude.{◌≡◌, ◌⊎◌, ◌<◌, [], ◌∷◌, List, ℕ, ℤ, Bool, Err, true, false, nat_eq, length, IfOk, IfErr, IfSome};
 ghost use Rattle.std.specs.HashMap.{get};
 ghost use Rattle.pf_base.specs.Answers.{IsLawfulClone};
-ghost use Rattle.pf_base.specs.Edges.{InReach, HasNoNegativeCost, IsWeightedSearch, IsPastRange};
+ghost use Rattle.pf_base.specs.Edges.{HasNoNegativeCost, AnswersWeightedGraph, OfWeightedGraph, AnswersWeightedSearch, OfWeightedSearch, IsPastRange};
 ghost use Rattle.pf_core.specs.declared.labels.Label.{Label};
 ghost use Rattle.pf_core.specs.Labels.{HasLabel, by_cost, IsTree};
 ghost use Rattle.pf_core.specs.Numbered.{Grows};
 ghost use Rattle.pf_core.specs.Search.{IsSearch};
 ghost use Rattle.pf_core.specs.Steps.{IsNonNegative, IsTooDear};
 ghost use Rattle.pf_search.specs.Parents.{IsCheapestMap, IsPartialMap};
-ghost use Rattle.pf_search.specs.Internal.Begun.{IsBegun};
+ghost use Rattle.pf_search.specs.Internal.Begun.{IsBegun, OfBegun};
 ghost use Rattle.pf_search.specs.Internal.Partial.{IsEnded, MapsLabels};
 
 use crate::directed::parents::Parents;
@@ -102,19 +102,13 @@ where
     requires clones { IsLawfulClone N.eq N.is_clone }
     requires one { length graph.old.discovery.nodes.keys ≡ 1 }
     requires graph { (edges : N → List (N × ℤ)) × (start : N) × (test : N → Bool)
-        × IsBegun N.eq S.answers T.answers edges start test graph.old.discovery.nodes.keys graph.old.discovery.source graph.old.success
-        × HasNoNegativeCost N.eq edges (start ∷ []) }
+        × IsBegun N.eq S.answers T.answers edges start test graph.old × HasNoNegativeCost N.eq edges (start ∷ []) }
 
-    ensures partial { (edges : N → List (N × ℤ)) (start : N) (test : N → Bool)
-        → IsBegun N.eq S.answers T.answers edges start test graph.old.discovery.nodes.keys graph.old.discovery.source graph.old.success
-        → HasNoNegativeCost N.eq edges (start ∷ [])
-        → IfOk result (λ found. IsPartialMap N.eq edges start C.value (get N.eq found.0) test found.1) }
+    ensures partial { OfBegun N.eq S.answers T.answers graph.old (λ edges start test. HasNoNegativeCost N.eq edges (start ∷ [])
+        → IfOk result (λ found. IsPartialMap N.eq edges start C.value (get N.eq found.0) test found.1)) }
 
-    ensures overflow { (edges : N → List (N × ℤ)) (start : N) (test : N → Bool)
-        → IsBegun N.eq S.answers T.answers edges start test graph.old.discovery.nodes.keys graph.old.discovery.source graph.old.success
-        → HasNoNegativeCost N.eq edges (start ∷ [])
-        → result ≡ Err PathError.CostOverflow
-        → IsPastRange N.eq edges (start ∷ []) test C.fits }
+    ensures overflow { OfBegun N.eq S.answers T.answers graph.old (λ edges start test. HasNoNegativeCost N.eq edges (start ∷ [])
+        → result ≡ Err PathError.CostOverflow → IsPastRange N.eq edges (start ∷ []) test C.fits) }
 
     ensures errors { IfErr result (λ e. (e ≡ PathError.OutOfMemory) ⊎ (e ≡ PathError.CostOverflow)) }
 {
@@ -160,20 +154,13 @@ where
     FN: FnMut(&N) -> IN,
     A: Allocator + Copy,
     requires clones { IsLawfulClone N.eq N.is_clone }
-    requires graph { (edges : N → List (N × ℤ))
-        × ⟦<FN as EdgeFunction<N, C>>⟧.answers successors (InReach N.eq edges (start.now ∷ [])) edges
-        × HasNoNegativeCost N.eq edges (start.now ∷ []) }
+    requires graph { AnswersWeightedGraph N.eq (start.now ∷ []) (⟦<FN as EdgeFunction<N, C>>⟧.answers successors) }
 
-    ensures cheapest { (edges : N → List (N × ℤ))
-        → ⟦<FN as EdgeFunction<N, C>>⟧.answers successors (InReach N.eq edges (start.now ∷ [])) edges
-        → HasNoNegativeCost N.eq edges (start.now ∷ [])
-        → IfOk result (λ parents. IsCheapestMap N.eq edges start.now C.value (get N.eq parents)) }
+    ensures cheapest { OfWeightedGraph N.eq (start.now ∷ []) (⟦<FN as EdgeFunction<N, C>>⟧.answers successors) (λ edges.
+        IfOk result (λ parents. IsCheapestMap N.eq edges start.now C.value (get N.eq parents))) }
 
-    ensures overflow { (edges : N → List (N × ℤ))
-        → ⟦<FN as EdgeFunction<N, C>>⟧.answers successors (InReach N.eq edges (start.now ∷ [])) edges
-        → HasNoNegativeCost N.eq edges (start.now ∷ [])
-        → result ≡ Err PathError.CostOverflow
-        → IsPastRange N.eq edges (start.now ∷ []) (λ _. false) C.fits }
+    ensures overflow { OfWeightedGraph N.eq (start.now ∷ []) (⟦<FN as EdgeFunction<N, C>>⟧.answers successors) (λ edges.
+        result ≡ Err PathError.CostOverflow → IsPastRange N.eq edges (start.now ∷ []) (λ _. false) C.fits) }
 
     ensures errors { IfErr result (λ e. (e ≡ PathError.OutOfMemory) ⊎ (e ≡ PathError.CostOverflow)) }
 {
@@ -218,17 +205,13 @@ where
     FS: FnMut(&N) -> bool,
     A: Allocator + Copy,
     requires clones { IsLawfulClone N.eq N.is_clone }
-    requires graph { (edges : N → List (N × ℤ)) × (test : N → Bool)
-        × IsWeightedSearch N.eq edges (start.now ∷ []) (⟦<FN as EdgeFunction<N, C>>⟧.answers successors) (⟦<FS as NodeTest<N>>⟧.answers stop) test }
+    requires graph { AnswersWeightedSearch N.eq (start.now ∷ []) (⟦<FN as EdgeFunction<N, C>>⟧.answers successors) (⟦<FS as NodeTest<N>>⟧.answers stop) }
 
-    ensures partial { (edges : N → List (N × ℤ)) (test : N → Bool)
-        → IsWeightedSearch N.eq edges (start.now ∷ []) (⟦<FN as EdgeFunction<N, C>>⟧.answers successors) (⟦<FS as NodeTest<N>>⟧.answers stop) test
-        → IfOk result (λ found. IsPartialMap N.eq edges start.now C.value (get N.eq found.0) test found.1) }
+    ensures partial { OfWeightedSearch N.eq (start.now ∷ []) (⟦<FN as EdgeFunction<N, C>>⟧.answers successors) (⟦<FS as NodeTest<N>>⟧.answers stop) (λ edges test.
+        IfOk result (λ found. IsPartialMap N.eq edges start.now C.value (get N.eq found.0) test found.1)) }
 
-    ensures overflow { (edges : N → List (N × ℤ)) (test : N → Bool)
-        → IsWeightedSearch N.eq edges (start.now ∷ []) (⟦<FN as EdgeFunction<N, C>>⟧.answers successors) (⟦<FS as NodeTest<N>>⟧.answers stop) test
-        → result ≡ Err PathError.CostOverflow
-        → IsPastRange N.eq edges (start.now ∷ []) test C.fits }
+    ensures overflow { OfWeightedSearch N.eq (start.now ∷ []) (⟦<FN as EdgeFunction<N, C>>⟧.answers successors) (⟦<FS as NodeTest<N>>⟧.answers stop) (λ edges test.
+        result ≡ Err PathError.CostOverflow → IsPastRange N.eq edges (start.now ∷ []) test C.fits) }
 
     ensures errors { IfErr result (λ e. (e ≡ PathError.OutOfMemory) ⊎ (e ≡ PathError.CostOverflow)) }
 {

@@ -1,10 +1,9 @@
 //! Paths found in preorder (depth-first search).
 
-ghost use Rattle.std.specs.Prelude.{◌≡◌, ◌∷◌, [], List, Bool, IfOk, IfErr, MatchOption};
+ghost use Rattle.std.specs.Prelude.{◌≡◌, ◌∷◌, [], List, Bool, IfOk, IfErr};
 ghost use Rattle.pf_base.specs.Answers.{IsLawfulClone};
-ghost use Rattle.pf_base.specs.Successors.{HasSuccessor, IsUnweightedSearch};
-ghost use Rattle.pf_base.specs.Walks.{HasNoGoalWalk, IsGoalPath};
-ghost use Rattle.pf_search.specs.Preorder.{IsFirstTreePath};
+ghost use Rattle.pf_base.specs.Successors.{AnswersUnweightedSearch, OfUnweightedSearch};
+ghost use Rattle.pf_search.specs.Preorder.{IsFirstTreePathOrNone};
 ghost use Rattle.pf_search.specs.Internal.Depth.{IsTestedWalk};
 
 pub use crate::directed::preorder::{DfsReachable, dfs_reach};
@@ -29,9 +28,7 @@ where
 
     ensures first { (next : N → List N) (start : N) (test : N → Bool)
         → IsTestedWalk N.eq F.answers T.answers next start test walk.old success.old
-        → IfOk result (λ answer. MatchOption answer
-        (HasNoGoalWalk N.eq (HasSuccessor N.eq next) (start ∷ []) test)
-        (λ path. IsGoalPath N.eq (HasSuccessor N.eq next) (start ∷ []) test path.items × IsFirstTreePath N.eq next start test path.items)) }
+        → IfOk result (IsFirstTreePathOrNone N.eq next start test) }
 
     ensures errors { IfErr result (λ e. e ≡ PathError.OutOfMemory) }
 {
@@ -74,14 +71,10 @@ where
     FS: FnMut(&N) -> bool,
     A: Allocator + Copy,
     requires clones { IsLawfulClone N.eq N.is_clone }
-    requires graph { (next : N → List N) × (test : N → Bool)
-        × IsUnweightedSearch N.eq next (start ∷ []) (⟦<FN as SuccessorFunction<N>>⟧.answers successors) (⟦<FS as NodeTest<N>>⟧.answers success) test }
+    requires graph { AnswersUnweightedSearch N.eq (start ∷ []) (⟦<FN as SuccessorFunction<N>>⟧.answers successors) (⟦<FS as NodeTest<N>>⟧.answers success) }
 
-    ensures first { (next : N → List N) (test : N → Bool)
-        → IsUnweightedSearch N.eq next (start ∷ []) (⟦<FN as SuccessorFunction<N>>⟧.answers successors) (⟦<FS as NodeTest<N>>⟧.answers success) test
-        → IfOk result (λ answer. MatchOption answer
-        (HasNoGoalWalk N.eq (HasSuccessor N.eq next) (start ∷ []) test)
-        (λ path. IsGoalPath N.eq (HasSuccessor N.eq next) (start ∷ []) test path.items × IsFirstTreePath N.eq next start test path.items)) }
+    ensures first { OfUnweightedSearch N.eq (start ∷ []) (⟦<FN as SuccessorFunction<N>>⟧.answers successors) (⟦<FS as NodeTest<N>>⟧.answers success) (λ next test.
+        IfOk result (IsFirstTreePathOrNone N.eq next start test)) }
 
     ensures errors { IfErr result (λ e. e ≡ PathError.OutOfMemory) }
 {

@@ -1,10 +1,10 @@
 //! Cheapest paths (Dijkstra 1959).
 
-ghost use Rattle.std.specs.Prelude.{◌≡◌, ◌⊎◌, ◌≤◌, ◌-◌, List, [], ◌∷◌, Bool, ℤ, Err, IfOk, IfErr, MatchOption, length};
-ghost use Rattle.pf_base.specs.Walks.{HasNoGoalWalk, IsAtMostNumberOf};
-ghost use Rattle.pf_base.specs.Edges.{IsSuccessor, InReach, HasNoNegativeCost, IsWeightedSearch, IsCheapestGoalPath, IsPastRange};
+ghost use Rattle.std.specs.Prelude.{◌≡◌, ◌⊎◌, ◌≤◌, ◌-◌, List, [], ◌∷◌, Bool, ℤ, Err, IfOk, IfErr, length};
+ghost use Rattle.pf_base.specs.Walks.{IsAtMostNumberOf};
+ghost use Rattle.pf_base.specs.Edges.{InReach, HasNoNegativeCost, AnswersWeightedSearch, OfWeightedSearch, IsCheapestOrNone, IsPastRange};
 ghost use Rattle.pf_base.specs.Answers.{IsLawfulClone};
-ghost use Rattle.pf_search.specs.Internal.Begun.{IsBegun};
+ghost use Rattle.pf_search.specs.Internal.Begun.{HasBegun, OfBegun};
 
 mod both_ends;
 
@@ -38,25 +38,16 @@ where
     A: Allocator + Copy,
     requires clones { IsLawfulClone N.eq N.is_clone }
     requires one { length graph.old.discovery.nodes.keys ≡ 1 }
-    requires graph { (edges : N → List (N × ℤ)) × (start : N) × (test : N → Bool)
-        × IsBegun N.eq S.answers T.answers edges start test graph.old.discovery.nodes.keys graph.old.discovery.source graph.old.success }
+    requires graph { HasBegun N.eq S.answers T.answers graph.old }
 
-    ensures best { (edges : N → List (N × ℤ)) (start : N) (test : N → Bool)
-        → IsBegun N.eq S.answers T.answers edges start test graph.old.discovery.nodes.keys graph.old.discovery.source graph.old.success
-        → HasNoNegativeCost N.eq edges (start ∷ [])
-        → IfOk result (λ answer. MatchOption answer
-        (HasNoGoalWalk N.eq (IsSuccessor N.eq edges) (start ∷ []) test)
-        (λ found. IsCheapestGoalPath N.eq edges (start ∷ []) test found.0.items (C.value found.1))) }
+    ensures best { OfBegun N.eq S.answers T.answers graph.old (λ edges start test. HasNoNegativeCost N.eq edges (start ∷ [])
+        → IfOk result (IsCheapestOrNone N.eq edges (start ∷ []) test C.value)) }
 
-    ensures overflow { (edges : N → List (N × ℤ)) (start : N) (test : N → Bool)
-        → IsBegun N.eq S.answers T.answers edges start test graph.old.discovery.nodes.keys graph.old.discovery.source graph.old.success
-        → HasNoNegativeCost N.eq edges (start ∷ [])
-        → result ≡ Err PathError.CostOverflow
-        → IsPastRange N.eq edges (start ∷ []) test C.fits }
+    ensures overflow { OfBegun N.eq S.answers T.answers graph.old (λ edges start test. HasNoNegativeCost N.eq edges (start ∷ [])
+        → result ≡ Err PathError.CostOverflow → IsPastRange N.eq edges (start ∷ []) test C.fits) }
 
-    ensures asked { (edges : N → List (N × ℤ)) (start : N) (test : N → Bool)
-        → IsBegun N.eq S.answers T.answers edges start test graph.old.discovery.nodes.keys graph.old.discovery.source graph.old.success
-        → IsAtMostNumberOf N.eq (InReach N.eq edges (start ∷ [])) (tally.new - tally.old) }
+    ensures asked { OfBegun N.eq S.answers T.answers graph.old (λ edges start test.
+        IsAtMostNumberOf N.eq (InReach N.eq edges (start ∷ [])) (tally.new - tally.old)) }
 
     ensures ticked { tally.old ≤ tally.new }
 
@@ -104,19 +95,13 @@ where
     FS: FnMut(&N) -> bool,
     A: Allocator + Copy,
     requires clones { IsLawfulClone N.eq N.is_clone }
-    requires graph { (edges : N → List (N × ℤ)) × (test : N → Bool)
-        × IsWeightedSearch N.eq edges (start.now ∷ []) (⟦<FN as EdgeFunction<N, C>>⟧.answers successors) (⟦<FS as NodeTest<N>>⟧.answers success) test }
+    requires graph { AnswersWeightedSearch N.eq (start.now ∷ []) (⟦<FN as EdgeFunction<N, C>>⟧.answers successors) (⟦<FS as NodeTest<N>>⟧.answers success) }
 
-    ensures best { (edges : N → List (N × ℤ)) (test : N → Bool)
-        → IsWeightedSearch N.eq edges (start.now ∷ []) (⟦<FN as EdgeFunction<N, C>>⟧.answers successors) (⟦<FS as NodeTest<N>>⟧.answers success) test
-        → IfOk result (λ answer. MatchOption answer
-        (HasNoGoalWalk N.eq (IsSuccessor N.eq edges) (start.now ∷ []) test)
-        (λ found. IsCheapestGoalPath N.eq edges (start.now ∷ []) test found.0.items (C.value found.1))) }
+    ensures best { OfWeightedSearch N.eq (start.now ∷ []) (⟦<FN as EdgeFunction<N, C>>⟧.answers successors) (⟦<FS as NodeTest<N>>⟧.answers success) (λ edges test.
+        IfOk result (IsCheapestOrNone N.eq edges (start.now ∷ []) test C.value)) }
 
-    ensures overflow { (edges : N → List (N × ℤ)) (test : N → Bool)
-        → IsWeightedSearch N.eq edges (start.now ∷ []) (⟦<FN as EdgeFunction<N, C>>⟧.answers successors) (⟦<FS as NodeTest<N>>⟧.answers success) test
-        → result ≡ Err PathError.CostOverflow
-        → IsPastRange N.eq edges (start.now ∷ []) test C.fits }
+    ensures overflow { OfWeightedSearch N.eq (start.now ∷ []) (⟦<FN as EdgeFunction<N, C>>⟧.answers successors) (⟦<FS as NodeTest<N>>⟧.answers success) (λ edges test.
+        result ≡ Err PathError.CostOverflow → IsPastRange N.eq edges (start.now ∷ []) test C.fits) }
 
     ensures errors { IfErr result (λ e. (e ≡ PathError.OutOfMemory) ⊎ (e ≡ PathError.CostOverflow)) }
 {
@@ -145,19 +130,13 @@ where
     FS: FnMut(&N) -> bool,
     A: Allocator + Copy,
     requires clones { IsLawfulClone N.eq N.is_clone }
-    requires graph { (edges : N → List (N × ℤ)) × (test : N → Bool)
-        × IsWeightedSearch N.eq edges (start.now ∷ []) (⟦<FN as EdgeFunction<N, C>>⟧.answers successors) (⟦<FS as NodeTest<N>>⟧.answers success) test }
+    requires graph { AnswersWeightedSearch N.eq (start.now ∷ []) (⟦<FN as EdgeFunction<N, C>>⟧.answers successors) (⟦<FS as NodeTest<N>>⟧.answers success) }
 
-    ensures best { (edges : N → List (N × ℤ)) (test : N → Bool)
-        → IsWeightedSearch N.eq edges (start.now ∷ []) (⟦<FN as EdgeFunction<N, C>>⟧.answers successors) (⟦<FS as NodeTest<N>>⟧.answers success) test
-        → IfOk result (λ answer. MatchOption answer
-        (HasNoGoalWalk N.eq (IsSuccessor N.eq edges) (start.now ∷ []) test)
-        (λ found. IsCheapestGoalPath N.eq edges (start.now ∷ []) test found.0.items (C.value found.1))) }
+    ensures best { OfWeightedSearch N.eq (start.now ∷ []) (⟦<FN as EdgeFunction<N, C>>⟧.answers successors) (⟦<FS as NodeTest<N>>⟧.answers success) (λ edges test.
+        IfOk result (IsCheapestOrNone N.eq edges (start.now ∷ []) test C.value)) }
 
-    ensures overflow { (edges : N → List (N × ℤ)) (test : N → Bool)
-        → IsWeightedSearch N.eq edges (start.now ∷ []) (⟦<FN as EdgeFunction<N, C>>⟧.answers successors) (⟦<FS as NodeTest<N>>⟧.answers success) test
-        → result ≡ Err PathError.CostOverflow
-        → IsPastRange N.eq edges (start.now ∷ []) test C.fits }
+    ensures overflow { OfWeightedSearch N.eq (start.now ∷ []) (⟦<FN as EdgeFunction<N, C>>⟧.answers successors) (⟦<FS as NodeTest<N>>⟧.answers success) (λ edges test.
+        result ≡ Err PathError.CostOverflow → IsPastRange N.eq edges (start.now ∷ []) test C.fits) }
 
     ensures asked { (edges : N → List (N × ℤ)) (test : N → Bool)
         → ⟦<FN as EdgeFunction<N, C>>⟧.answers successors (InReach N.eq edges (start.now ∷ [])) edges

@@ -1,9 +1,8 @@
 //! Paths with fewest edges by depth limits that grow (iterative deepening).
 
-ghost use Rattle.std.specs.Prelude.{◌≡◌, ◌≤◌, ◌+◌, List, Bool, true, false, [], ◌∷◌, IfOk, IfErr, MatchBool, MatchOption, length};
-ghost use Rattle.std.specs.Iterator.{IsFiniteIterable, Drains};
-ghost use Rattle.pf_base.specs.Walks.{HasNoGoalWalk, IsReachable, IsGoalPath};
-ghost use Rattle.pf_base.specs.Successors.{HasSuccessor, IsUnweightedSearch, IsFewestEdgesGoalPath};
+ghost use Rattle.std.specs.Prelude.{◌≡◌, ◌+◌, List, Bool, true, false, [], ◌∷◌, IfOk, IfErr, MatchBool, length};
+ghost use Rattle.pf_base.specs.Walks.{IsReachable, IsGoalPath};
+ghost use Rattle.pf_base.specs.Successors.{HasSuccessor, IsUnweightedSearch, AnswersUnweightedSearch, OfUnweightedSearch, IsFewestEdgesOrNone};
 ghost use Rattle.pf_search.specs.Internal.Deepening.{IsPathFrom, FollowsEnd, NoGoalBeyond, Deepens};
 
 use pf_base::{NodeTest, PathError, SuccessorFunction};
@@ -16,23 +15,6 @@ pub(crate) enum Deepened {
     Found,
     /// No path that was looked through leads to a node that passes; whether some path was cut off.
     Missed { cut: bool },
-}
-
-/// All that an iterator gives, in order.
-fn collected<N, IN, A>(alloc: A, items: IN) -> Result<Vec<N, A>, PathError>
-where
-    N: Drop,
-    IN: IntoIterator<Item = N>,
-    A: Allocator + Copy,
-    requires ends { IsFiniteIterable IN.into_iter_gives IN.IntoIter.can_next IN.IntoIter.remaining items }
-    ensures all { IfOk result (λ answer. (it : IN.IntoIter) × IN.into_iter_gives items it × Drains IN.IntoIter.next_gives it answer.items) }
-    ensures refused { IfErr result (λ e. e ≡ PathError.OutOfMemory) }
-{
-    let mut answer = Vec::new(alloc);
-    'items: for item in items {
-        answer.push(item)?;
-    }
-    Ok(answer)
 }
 
 /// Does the node at the end of a path pass?
@@ -76,7 +58,7 @@ where
 {
     let here = path.len() - 1;
     let items = successors.successors(&path[here]);
-    let mut answer = collected(alloc, items)?;
+    let mut answer = Vec::from_iter(alloc, items)?;
     answer.reverse();
     Ok(answer)
 }
@@ -157,14 +139,10 @@ where
     FN: FnMut(&N) -> IN,
     FS: FnMut(&N) -> bool,
     A: Allocator + Copy,
-    requires graph { (next : N → List N) × (test : N → Bool)
-        × IsUnweightedSearch N.eq next (start ∷ []) (⟦<FN as SuccessorFunction<N>>⟧.answers successors) (⟦<FS as NodeTest<N>>⟧.answers success) test }
+    requires graph { AnswersUnweightedSearch N.eq (start ∷ []) (⟦<FN as SuccessorFunction<N>>⟧.answers successors) (⟦<FS as NodeTest<N>>⟧.answers success) }
 
-    ensures best { (next : N → List N) (test : N → Bool)
-        → IsUnweightedSearch N.eq next (start ∷ []) (⟦<FN as SuccessorFunction<N>>⟧.answers successors) (⟦<FS as NodeTest<N>>⟧.answers success) test
-        → IfOk result (λ answer. MatchOption answer
-        (HasNoGoalWalk N.eq (HasSuccessor N.eq next) (start ∷ []) test)
-        (λ path. IsFewestEdgesGoalPath N.eq next (start ∷ []) test path.items)) }
+    ensures best { OfUnweightedSearch N.eq (start ∷ []) (⟦<FN as SuccessorFunction<N>>⟧.answers successors) (⟦<FS as NodeTest<N>>⟧.answers success) (λ next test.
+        IfOk result (IsFewestEdgesOrNone N.eq next (start ∷ []) test)) }
 
     ensures errors { IfErr result (λ e. e ≡ PathError.OutOfMemory) }
 {

@@ -1,15 +1,13 @@
 //! Nodes in preorder (depth-first search), one at a time.
 
-ghost use Rattle.std.specs.Prelude.{◌≡◌, ◌⊎◌, ◌<◌, ◌∷◌, ◌++◌, ◌-◌, [], ℕ, List, Some, None, false, OnOk, OnErr, IfOk, IfErr, IfSome, IsOk, length, Contains};
+ghost use Rattle.std.specs.Prelude.{◌≡◌, ◌<◌, ◌∷◌, ◌-◌, [], ℕ, List, Some, None, false, IfOk, IfErr, IfSome, IsOk, length, Contains};
 ghost use Rattle.std.specs.Iterator.{MakesProgress, at_most};
 ghost use Rattle.std.specs.List.{AllZip};
 ghost use Rattle.pf_base.specs.Answers.{IsLawfulClone};
-ghost use Rattle.pf_base.specs.Orders.{found_from, last_nodes, IsNextTreePath, IsWholePreorder};
-ghost use Rattle.pf_base.specs.Successors.{HasSuccessor};
-ghost use Rattle.pf_base.specs.Walks.{IsReachable, end_of};
-ghost use Rattle.pf_core.specs.DepthFirst.{IsVisited};
+ghost use Rattle.pf_base.specs.Orders.{found_from, last_nodes};
+ghost use Rattle.pf_base.specs.Successors.{OfUnweightedGraph};
 ghost use Rattle.pf_core.specs.Nodes.{StandsFor};
-ghost use Rattle.pf_search.specs.DepthWalks.{DepthWalk, IsDepthWalk, DepthStep, DepthGoes, StandsAt};
+ghost use Rattle.pf_search.specs.DepthWalks.{DepthWalk, IsDepthWalk, IsSomeDepthWalk, OfDepthWalk, DepthStep, DepthGoes, StandsAt};
 ghost use Rattle.pf_search.specs.Items.{most_items};
 
 use crate::directed::breadth::put_start;
@@ -65,12 +63,10 @@ where
     /// walk stays where it is.
     pub(crate) fn step(&mut self) -> Result<Option<N>, PathError>
         requires clones { IsLawfulClone N.eq N.is_clone }
-        requires graph { (next : N → List N) × (start : N) × (paths : List (List N))
-            × IsDepthWalk N.eq F.answers next start paths self.old }
+        requires graph { IsSomeDepthWalk N.eq F.answers self.old }
         ensures same { self.new.refused ≡ self.old.refused }
-        ensures walks { (next : N → List N) (start : N) (paths : List (List N))
-            → IsDepthWalk N.eq F.answers next start paths self.old
-            → DepthGoes N.eq next start (λ done. IsDepthWalk N.eq F.answers next start done self.new) paths result }
+        ensures walks { OfDepthWalk N.eq F.answers self.old (λ next start paths.
+            DepthGoes N.eq next start (λ done. IsDepthWalk N.eq F.answers next start done self.new) paths result) }
         ensures refused { IfErr result (λ e. e ≡ PathError.OutOfMemory) }
     {
         put_start(&mut self.start, &mut self.graph.nodes)?;
@@ -110,12 +106,10 @@ where
 {
     type Item = Result<N, PathError>;
 
-    ghost can_next = { λ s. IsLawfulClone N.eq N.is_clone × ((next : N → List N) × (start : N) × (paths : List (List N))
-        × IsDepthWalk N.eq F.answers next start paths s) };
+    ghost can_next = { λ s. IsLawfulClone N.eq N.is_clone × IsSomeDepthWalk N.eq F.answers s };
 
-    ghost next_gives = { λ s r t. (next : N → List N) (start : N) (paths : List (List N))
-        → IsDepthWalk N.eq F.answers next start paths s
-        → DepthStep N.eq next start (λ done w. IsDepthWalk N.eq F.answers next start done w) paths s r t };
+    ghost next_gives = { λ s r t. OfDepthWalk N.eq F.answers s (λ next start paths.
+        DepthStep N.eq next start (IsDepthWalk N.eq F.answers next start) paths s r t) };
 
     ghost remaining = { λ s. at_most (most_items s.given s.refused) };
 
@@ -167,8 +161,8 @@ where
     FN: FnMut(&N) -> IN,
     A: Allocator + Copy,
     ensures ready { IfOk result (λ walk. walk.refused ≡ false) }
-    ensures graph { (next : N → List N) → ⟦<FN as SuccessorFunction<N>>⟧.answers successors (IsReachable N.eq (HasSuccessor N.eq next) (start ∷ [])) next
-        → IfOk result (λ walk. IsDepthWalk N.eq (⟦<FN as SuccessorFunction<N>>⟧.answers) next start [] walk) }
+    ensures graph { OfUnweightedGraph N.eq (start ∷ []) (⟦<FN as SuccessorFunction<N>>⟧.answers successors) (λ next.
+        IfOk result (λ walk. IsDepthWalk N.eq (⟦<FN as SuccessorFunction<N>>⟧.answers) next start [] walk)) }
     ensures good { IsOk result }
 {
     Ok(DfsReachable {

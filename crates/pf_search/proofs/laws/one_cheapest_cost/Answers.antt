@@ -2,8 +2,8 @@ use Rattle.std.proofs.Common.{[], ◌∷◌}
 use Rattle.pf_search.proofs.LeastLemmas.{same_cost, one_cost}
 use Rattle.pf_search.proofs.laws.one_cheapest_cost.Goals as goal
 
-pub returns-clause-goals : goal.returns-clause-goals
-returns-clause-goals g c = λ edges starts test path other s t p q. same_cost g.N.PartialEq.eq edges starts test path other s t p q
-
-pub returns-clause-node : goal.returns-clause-node
-returns-clause-node g c = λ edges start x y s t e p q. one_cost g.N.PartialEq.eq g.met.N.Eq.laws edges (start ∷ []) x y e p.0 q.0 s t p.1 q.1
+pub returns : goal.returns
+returns g c = record {
+  goals = λ edges starts test path other s t p q. same_cost g.N.PartialEq.eq edges starts test path other s t p q;
+  node = λ edges start x y s t e p q. one_cost g.N.PartialEq.eq g.met.N.Eq.laws edges (start ∷ []) x y e p.0 q.0 s t p.1 q.1;
+}

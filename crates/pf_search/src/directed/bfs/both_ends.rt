@@ -1,12 +1,10 @@
 //! Paths with fewest edges, searched from both ends.
 
-ghost use Rattle.std.specs.Prelude.{◌≡◌, List, IfOk, IfErr, MatchOption};
-ghost use Rattle.pf_base.specs.Walks.{HasNoGoalWalk};
-ghost use Rattle.pf_base.specs.Successors.{HasSuccessor, IsFewestEdgesGoalPath};
-ghost use Rattle.pf_base.specs.Mirrors.{is_among, IsMirror, IsSearchFromBothEnds};
+ghost use Rattle.std.specs.Prelude.{◌≡◌, List, IfOk, IfErr};
+ghost use Rattle.pf_base.specs.Successors.{IsFewestEdgesOrNone};
+ghost use Rattle.pf_base.specs.Mirrors.{is_among, IsMirror, AnswersSearchFromBothEnds, OfSearchFromBothEnds};
 ghost use Rattle.pf_base.specs.Answers.{IsLawfulClone};
-ghost use Rattle.pf_core.specs.Nodes.{Explores};
-ghost use Rattle.pf_search.specs.Internal.Hops.{hops_from};
+ghost use Rattle.pf_search.specs.Internal.Hops.{ExploresHops};
 ghost use Rattle.pf_base.specs.NodeRefs.{HasSameNodes};
 
 use pf_base::{NodeRefs, PathError, SuccessorFunction};
@@ -30,17 +28,13 @@ where
     A: Allocator + Copy,
     requires clones { IsLawfulClone N.eq N.is_clone }
     requires graph { (next previous : N → List N) × (starts ends : List N)
-        × Explores N.eq S.answers (hops_from starts next) graph.old.forth.nodes.keys graph.old.forth.source
-        × Explores N.eq P.answers (hops_from ends previous) graph.old.back.nodes.keys graph.old.back.source }
+        × ExploresHops N.eq S.answers starts next graph.old.forth × ExploresHops N.eq P.answers ends previous graph.old.back }
 
     ensures best { (next previous : N → List N) (starts ends : List N)
-        → Explores N.eq S.answers (hops_from starts next) graph.old.forth.nodes.keys graph.old.forth.source
-        → Explores N.eq P.answers (hops_from ends previous) graph.old.back.nodes.keys graph.old.back.source
+        → ExploresHops N.eq S.answers starts next graph.old.forth → ExploresHops N.eq P.answers ends previous graph.old.back
         → HasSameNodes N.eq graph.old.forth.nodes.keys starts → HasSameNodes N.eq graph.old.back.nodes.keys ends
         → IsMirror N.eq next previous starts ends
-        → IfOk result (λ answer. MatchOption answer
-        (HasNoGoalWalk N.eq (HasSuccessor N.eq next) starts (is_among N.eq ends))
-        (λ path. IsFewestEdgesGoalPath N.eq next starts (is_among N.eq ends) path.items)) }
+        → IfOk result (IsFewestEdgesOrNone N.eq next starts (is_among N.eq ends)) }
 
     ensures errors { IfErr result (λ e. e ≡ PathError.OutOfMemory) }
 {
@@ -85,14 +79,10 @@ where
     B: Allocator,
     E: Allocator,
     requires clones { IsLawfulClone N.eq N.is_clone }
-    requires graph { (next previous : N → List N)
-        × IsSearchFromBothEnds N.eq next previous starts.now ends.now (⟦<FN as SuccessorFunction<N>>⟧.answers successors) (⟦<FM as SuccessorFunction<N>>⟧.answers predecessors) }
+    requires graph { AnswersSearchFromBothEnds N.eq starts.now ends.now (⟦<FN as SuccessorFunction<N>>⟧.answers successors) (⟦<FM as SuccessorFunction<N>>⟧.answers predecessors) }
 
-    ensures best { (next previous : N → List N)
-        → IsSearchFromBothEnds N.eq next previous starts.now ends.now (⟦<FN as SuccessorFunction<N>>⟧.answers successors) (⟦<FM as SuccessorFunction<N>>⟧.answers predecessors)
-        → IfOk result (λ answer. MatchOption answer
-        (HasNoGoalWalk N.eq (HasSuccessor N.eq next) starts.now (is_among N.eq ends.now))
-        (λ path. IsFewestEdgesGoalPath N.eq next starts.now (is_among N.eq ends.now) path.items)) }
+    ensures best { OfSearchFromBothEnds N.eq starts.now ends.now (⟦<FN as SuccessorFunction<N>>⟧.answers successors) (⟦<FM as SuccessorFunction<N>>⟧.answers predecessors) (λ next previous.
+        IfOk result (IsFewestEdgesOrNone N.eq next starts.now (is_among N.eq ends.now))) }
 
     ensures errors { IfErr result (λ e. e ≡ PathError.OutOfMemory) }
 {

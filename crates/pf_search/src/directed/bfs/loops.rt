@@ -1,13 +1,11 @@
 //! Loops with fewest edges.
 
-ghost use Rattle.std.specs.Prelude.{◌≡◌, List, IfOk, IfErr, MatchOption};
-ghost use Rattle.pf_base.specs.Walks.{IsReachable};
-ghost use Rattle.pf_base.specs.Successors.{HasSuccessor};
-ghost use Rattle.pf_base.specs.Loops.{HasNoLoop, IsBestLoop};
+ghost use Rattle.std.specs.Prelude.{◌≡◌, List, IfOk, IfErr};
+ghost use Rattle.pf_base.specs.Successors.{AnswersUnweightedGraph, OfUnweightedGraph};
+ghost use Rattle.pf_base.specs.Loops.{IsBestLoopOrNone};
 ghost use Rattle.pf_base.specs.Answers.{IsLawfulClone};
 ghost use Rattle.pf_base.specs.NodeRefs.{HasSameNodes};
-ghost use Rattle.pf_core.specs.Nodes.{Explores};
-ghost use Rattle.pf_search.specs.Internal.Hops.{hops_from};
+ghost use Rattle.pf_search.specs.Internal.Hops.{ExploresHops};
 
 use pf_base::{NodeRefs, PathError, SuccessorFunction};
 use pf_core::discovery::{Discovery, clones_at, clones_of};
@@ -28,12 +26,11 @@ where
     A: Allocator + Copy,
     requires clones { IsLawfulClone N.eq N.is_clone }
     requires graph { (next : N → List N) × (starts : List N)
-        × Explores N.eq S.answers (hops_from starts next) graph.old.nodes.keys graph.old.source }
+        × ExploresHops N.eq S.answers starts next graph.old }
 
     ensures best { (next : N → List N) (starts : List N)
-        → Explores N.eq S.answers (hops_from starts next) graph.old.nodes.keys graph.old.source
-        → HasSameNodes N.eq graph.old.nodes.keys starts
-        → IfOk result (λ answer. MatchOption answer (HasNoLoop N.eq next starts) (λ path. IsBestLoop N.eq next starts path.items)) }
+        → ExploresHops N.eq S.answers starts next graph.old
+        → HasSameNodes N.eq graph.old.nodes.keys starts → IfOk result (IsBestLoopOrNone N.eq next starts) }
 
     ensures errors { IfErr result (λ e. e ≡ PathError.OutOfMemory) }
 {
@@ -71,10 +68,10 @@ where
     A: Allocator + Copy,
     B: Allocator,
     requires clones { IsLawfulClone N.eq N.is_clone }
-    requires graph { (next : N → List N) × ⟦<FN as SuccessorFunction<N>>⟧.answers successors (IsReachable N.eq (HasSuccessor N.eq next) starts.now) next }
+    requires graph { AnswersUnweightedGraph N.eq starts.now (⟦<FN as SuccessorFunction<N>>⟧.answers successors) }
 
-    ensures best { (next : N → List N) → ⟦<FN as SuccessorFunction<N>>⟧.answers successors (IsReachable N.eq (HasSuccessor N.eq next) starts.now) next
-        → IfOk result (λ answer. MatchOption answer (HasNoLoop N.eq next starts.now) (λ path. IsBestLoop N.eq next starts.now path.items)) }
+    ensures best { OfUnweightedGraph N.eq starts.now (⟦<FN as SuccessorFunction<N>>⟧.answers successors) (λ next.
+        IfOk result (IsBestLoopOrNone N.eq next starts.now)) }
 
     ensures errors { IfErr result (λ e. e ≡ PathError.OutOfMemory) }
 {

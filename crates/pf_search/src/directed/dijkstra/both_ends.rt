@@ -1,16 +1,14 @@
 //! Cheapest paths, searched from both ends.
 
-ghost use Rattle.std.specs.BinaryHeap.{heap_items};
 ghost use Rattle.std.specs.List.{AllZip};
-ghost use Rattle.std.specs.Prelude.{◌≡◌, ◌<◌, ◌≤ℤ◌, ◌<ℤ◌, ◌+ℤ◌, ◌⊎◌, ◌++◌, ℕ, ℤ, pos, List, [], ◌∷◌, Err, Some, None, IfOk, IfErr, IfSome, OnOk, MatchBool, MatchOption, Contains, length, slice_get, take, drop, reverse, false};
-ghost use Rattle.pf_base.specs.Walks.{HasNoGoalWalk};
-ghost use Rattle.pf_base.specs.Edges.{IsSuccessor, IsCheapestGoalPath, IsPastRange};
+ghost use Rattle.std.specs.Prelude.{◌≡◌, ◌<◌, ◌≤ℤ◌, ◌<ℤ◌, ◌+ℤ◌, ◌⊎◌, ◌++◌, ℕ, pos, List, [], ◌∷◌, Err, Some, None, IfOk, IfErr, IfSome, OnOk, MatchBool, MatchOption, Contains, length, drop, reverse};
+ghost use Rattle.pf_base.specs.Edges.{IsCheapestOrNone, IsPastRange};
 ghost use Rattle.pf_base.specs.Answers.{IsLawfulClone};
 ghost use Rattle.pf_core.specs.declared.labels.Label.{Label};
 ghost use Rattle.pf_core.specs.Labels.{HasLabel, IsTree};
-ghost use Rattle.pf_core.specs.Nodes.{Explores, StandsFor};
-ghost use Rattle.pf_search.specs.BothEnds.{IsWeightedSearchFromBothEnds};
-ghost use Rattle.pf_search.specs.Internal.BothEnds.{from_one, bound, AreSound, IsMeeting, NoneBelowAt, AreHalves, IsPair, AreEnds, NoWalkAcross, NoWalkAcrossBelow};
+ghost use Rattle.pf_core.specs.Nodes.{StandsFor};
+ghost use Rattle.pf_search.specs.BothEnds.{AnswersWeightedSearchFromBothEnds, OfWeightedSearchFromBothEnds};
+ghost use Rattle.pf_search.specs.Internal.BothEnds.{AreNumberedOnce, bound, TellsAtMost, IsMeetingOn, NoneBelowOn, NoMeetingAmong, IsFirstMeeting, AreSoundOn, AreHalvesOn, IsPairOn, AnswersPair, OfPair, AnswersEnds, OfEnds, NoWalkAcross, NoWalkAcrossBelow};
 
 use pf_base::{Cost, EdgeFunction, PathError};
 use pf_core::both_ends::Halves;
@@ -47,9 +45,9 @@ where
     requires inside { number < length nodes.now.keys }
     requires labelled { (l : Label C) × HasLabel search.now.labels.items number l }
     requires wide { length other_search.now.labels.items ≡ length other_nodes.now.keys }
-    requires one { (i j : ℕ) (x : N) → StandsFor N.eq other_nodes.now.keys i x → StandsFor N.eq other_nodes.now.keys j x → i ≡ j }
-    ensures meets { IfSome result (λ m. (m.here ≡ number) × IsMeeting N.eq C.value nodes.now.keys other_nodes.now.keys search.now.labels.items other_search.now.labels.items m) }
-    ensures low { NoneBelowAt N.eq C.value nodes.now.keys other_nodes.now.keys search.now.labels.items other_search.now.labels.items (bound C.value (C.value C.greatest) result) number }
+    requires one { AreNumberedOnce N.eq other_nodes.now.keys }
+    ensures meets { IfSome result (λ m. (m.here ≡ number) × IsMeetingOn N.eq C.value nodes.now.keys other_nodes.now.keys search.now other_search.now m) }
+    ensures low { NoneBelowOn N.eq C.value nodes.now.keys other_nodes.now.keys search.now other_search.now (bound C.value (C.value C.greatest) result) number }
 {
     let found = nodes.as_slice();
     let Some(across) = other_nodes.get_index_of(&found[number]) else {
@@ -118,7 +116,7 @@ fn is_at_most<C: Cost>(cost: C, limit: C) -> bool
 /// Does no path cost less than the best meeting, where the least open labels of both sides have these
 /// costs?
 fn is_best<C: Cost>(best: Option<Meeting<C>>, forth: C, back: C) -> bool
-    ensures decided { pos 0 ≤ℤ C.value back → MatchOption best (result ≡ false) (λ m. MatchBool result (C.value m.cost ≤ℤ (C.value forth +ℤ C.value back)) ((C.value forth +ℤ C.value back) <ℤ C.value m.cost)) }
+    ensures decided { pos 0 ≤ℤ C.value back → TellsAtMost C.value best (C.value forth +ℤ C.value back) result }
     ensures fit { C.fits (C.value forth) × C.fits (C.value back) }
 {
     forth.known();
@@ -162,20 +160,14 @@ where
     S: EdgeSource<N, C>,
     P: EdgeSource<N, C>,
     A: Allocator + Copy,
-    requires sound { AreSound C.cmp C.value graph.old.forth.nodes.keys graph.old.back.nodes.keys forth.old.labels.items back.old.labels.items (heap_items forth.old.queue) (heap_items back.old.queue) }
-    requires pair { (edges previous : N → List (N × ℤ)) × (start end : N)
-        × Explores N.eq S.answers (from_one start edges) graph.old.forth.nodes.keys graph.old.forth.source
-        × Explores N.eq P.answers (from_one end previous) graph.old.back.nodes.keys graph.old.back.source
-        × IsPair N.eq C.value C.fits edges previous start end graph.old.forth.nodes.keys graph.old.back.nodes.keys forth.old.labels.items back.old.labels.items (C.value C.greatest +ℤ pos 1) }
-    ensures sound { OnOk result (AreSound C.cmp C.value graph.new.forth.nodes.keys graph.new.back.nodes.keys forth.new.labels.items back.new.labels.items (heap_items forth.new.queue) (heap_items back.new.queue)) }
-    ensures best { (edges previous : N → List (N × ℤ)) (start end : N)
-        → Explores N.eq S.answers (from_one start edges) graph.old.forth.nodes.keys graph.old.forth.source
-        → Explores N.eq P.answers (from_one end previous) graph.old.back.nodes.keys graph.old.back.source
-        → IsPair N.eq C.value C.fits edges previous start end graph.old.forth.nodes.keys graph.old.back.nodes.keys forth.old.labels.items back.old.labels.items (C.value C.greatest +ℤ pos 1)
-        → IfOk result (λ answer. IsPair N.eq C.value C.fits edges previous start end graph.new.forth.nodes.keys graph.new.back.nodes.keys forth.new.labels.items back.new.labels.items (bound C.value (C.value C.greatest) answer)
-        × IfSome answer (λ m. IsMeeting N.eq C.value graph.new.forth.nodes.keys graph.new.back.nodes.keys forth.new.labels.items back.new.labels.items m)
+    requires sound { AreSoundOn C.cmp C.value graph.old forth.old back.old }
+    requires pair { AnswersPair N.eq S.answers P.answers graph.old C.value C.fits forth.old back.old (C.value C.greatest +ℤ pos 1) }
+    ensures sound { OnOk result (AreSoundOn C.cmp C.value graph.new forth.new back.new) }
+    ensures best { OfPair N.eq S.answers P.answers graph.old C.value C.fits forth.old back.old (C.value C.greatest +ℤ pos 1) (λ edges previous start end.
+        IfOk result (λ answer. IsPairOn N.eq C.value C.fits edges previous start end graph.new forth.new back.new (bound C.value (C.value C.greatest) answer)
+        × IfSome answer (IsMeetingOn N.eq C.value graph.new.forth.nodes.keys graph.new.back.nodes.keys forth.new back.new)
         × MatchOption answer (NoWalkAcross N.eq C.value edges start end) (λ m. NoWalkAcrossBelow N.eq C.value edges start end (C.value m.cost)))
-        × (result ≡ Err PathError.CostOverflow → IsPastRange N.eq edges (start ∷ []) (N.eq end) C.fits) }
+        × (result ≡ Err PathError.CostOverflow → IsPastRange N.eq edges (start ∷ []) (N.eq end) C.fits)) }
     ensures errors { IfErr result (λ e. (e ≡ PathError.OutOfMemory) ⊎ (e ≡ PathError.CostOverflow)) }
 {
     let mut best: Option<Meeting<C>> = None;
@@ -230,13 +222,9 @@ where
     requires inside { (k : ℕ) → Contains numbers.now k → k < length nodes.now.keys }
     requires labelled { (k : ℕ) → Contains numbers.now k → (l : Label C) × HasLabel search.now.labels.items k l }
     requires wide { length other_search.now.labels.items ≡ length other_nodes.now.keys }
-    requires one { (i j : ℕ) (x : N) → StandsFor N.eq other_nodes.now.keys i x → StandsFor N.eq other_nodes.now.keys j x → i ≡ j }
-    ensures first { MatchOption result
-        ((k : ℕ) → Contains numbers.now k → NoneBelowAt N.eq C.value nodes.now.keys other_nodes.now.keys search.now.labels.items other_search.now.labels.items (C.value cost +ℤ pos 1) k)
-        (λ r. (slice_get numbers.now r.0 ≡ Some r.1.here)
-        × IsMeeting N.eq C.value nodes.now.keys other_nodes.now.keys search.now.labels.items other_search.now.labels.items r.1
-        × (C.value r.1.cost ≤ℤ C.value cost)
-        × ((k : ℕ) → Contains (take r.0 numbers.now) k → NoneBelowAt N.eq C.value nodes.now.keys other_nodes.now.keys search.now.labels.items other_search.now.labels.items (C.value cost +ℤ pos 1) k)) }
+    requires one { AreNumberedOnce N.eq other_nodes.now.keys }
+    ensures first { MatchOption result (NoMeetingAmong N.eq C.value nodes.now.keys other_nodes.now.keys search.now other_search.now (C.value cost) numbers.now)
+        (IsFirstMeeting N.eq C.value nodes.now.keys other_nodes.now.keys search.now other_search.now (C.value cost) numbers.now) }
 {
     cost.known();
     'numbers: for (place, number) in numbers.iter().enumerate() {
@@ -267,11 +255,11 @@ where
     requires trees { IsTree forth.now.labels.items × IsTree back.now.labels.items }
     requires wide_forth { length forth.now.labels.items ≡ length graph.now.forth.nodes.keys }
     requires wide_back { length back.now.labels.items ≡ length graph.now.back.nodes.keys }
-    requires one { (i j : ℕ) (x : N) → StandsFor N.eq graph.now.back.nodes.keys i x → StandsFor N.eq graph.now.back.nodes.keys j x → i ≡ j }
+    requires one { AreNumberedOnce N.eq graph.now.back.nodes.keys }
     requires costs { (k : ℕ) (l : Label C) → HasLabel forth.now.labels.items k l ⊎ HasLabel back.now.labels.items k l → pos 0 ≤ℤ C.value l.cost }
-    requires meets { IsMeeting N.eq C.value graph.now.forth.nodes.keys graph.now.back.nodes.keys forth.now.labels.items back.now.labels.items best }
+    requires meets { IsMeetingOn N.eq C.value graph.now.forth.nodes.keys graph.now.back.nodes.keys forth.now back.now best }
     ensures path { IfOk result (λ path. (numbers back_numbers : List ℕ) × (p q : List N)
-        × AreHalves N.eq C.value graph.now.forth.nodes.keys graph.now.back.nodes.keys forth.now.labels.items back.now.labels.items (C.value best.cost) numbers back_numbers
+        × AreHalvesOn N.eq C.value graph.now forth.now back.now (C.value best.cost) numbers back_numbers
         × AllZip (StandsFor N.eq graph.now.forth.nodes.keys) numbers p
         × AllZip (StandsFor N.eq graph.now.back.nodes.keys) back_numbers q
         × (path.items ≡ p ++ drop 1 (reverse q))) }
@@ -313,19 +301,11 @@ where
     P: EdgeSource<N, C>,
     A: Allocator + Copy,
     requires clones { IsLawfulClone N.eq N.is_clone }
-    requires sound { AreSound C.cmp C.value graph.old.forth.nodes.keys graph.old.back.nodes.keys forth.old.labels.items back.old.labels.items (heap_items forth.old.queue) (heap_items back.old.queue) }
-    requires pair { (edges previous : N → List (N × ℤ)) × (start end : N)
-        × Explores N.eq S.answers (from_one start edges) graph.old.forth.nodes.keys graph.old.forth.source
-        × Explores N.eq P.answers (from_one end previous) graph.old.back.nodes.keys graph.old.back.source
-        × IsPair N.eq C.value C.fits edges previous start end graph.old.forth.nodes.keys graph.old.back.nodes.keys forth.old.labels.items back.old.labels.items (C.value C.greatest +ℤ pos 1) }
-    ensures best { (edges previous : N → List (N × ℤ)) (start end : N)
-        → Explores N.eq S.answers (from_one start edges) graph.old.forth.nodes.keys graph.old.forth.source
-        → Explores N.eq P.answers (from_one end previous) graph.old.back.nodes.keys graph.old.back.source
-        → IsPair N.eq C.value C.fits edges previous start end graph.old.forth.nodes.keys graph.old.back.nodes.keys forth.old.labels.items back.old.labels.items (C.value C.greatest +ℤ pos 1)
-        → IfOk result (λ answer. MatchOption answer
-        (HasNoGoalWalk N.eq (IsSuccessor N.eq edges) (start ∷ []) (N.eq end))
-        (λ found. IsCheapestGoalPath N.eq edges (start ∷ []) (N.eq end) found.0.items (C.value found.1)))
-        × (result ≡ Err PathError.CostOverflow → IsPastRange N.eq edges (start ∷ []) (N.eq end) C.fits) }
+    requires sound { AreSoundOn C.cmp C.value graph.old forth.old back.old }
+    requires pair { AnswersPair N.eq S.answers P.answers graph.old C.value C.fits forth.old back.old (C.value C.greatest +ℤ pos 1) }
+    ensures best { OfPair N.eq S.answers P.answers graph.old C.value C.fits forth.old back.old (C.value C.greatest +ℤ pos 1) (λ edges previous start end.
+        IfOk result (IsCheapestOrNone N.eq edges (start ∷ []) (N.eq end) C.value)
+        × (result ≡ Err PathError.CostOverflow → IsPastRange N.eq edges (start ∷ []) (N.eq end) C.fits)) }
     ensures errors { IfErr result (λ e. (e ≡ PathError.OutOfMemory) ⊎ (e ≡ PathError.CostOverflow)) }
 {
     match best_meeting(graph, forth, back)? {
@@ -352,18 +332,10 @@ where
     requires clones { IsLawfulClone N.eq N.is_clone }
     requires one_forth { length graph.old.forth.nodes.keys ≡ 1 }
     requires one_back { length graph.old.back.nodes.keys ≡ 1 }
-    requires ends { (edges previous : N → List (N × ℤ)) × (start end : N)
-        × Explores N.eq S.answers (from_one start edges) graph.old.forth.nodes.keys graph.old.forth.source
-        × Explores N.eq P.answers (from_one end previous) graph.old.back.nodes.keys graph.old.back.source
-        × AreEnds N.eq edges previous start end graph.old.forth.nodes.keys graph.old.back.nodes.keys }
-    ensures best { (edges previous : N → List (N × ℤ)) (start end : N)
-        → Explores N.eq S.answers (from_one start edges) graph.old.forth.nodes.keys graph.old.forth.source
-        → Explores N.eq P.answers (from_one end previous) graph.old.back.nodes.keys graph.old.back.source
-        → AreEnds N.eq edges previous start end graph.old.forth.nodes.keys graph.old.back.nodes.keys
-        → IfOk result (λ answer. MatchOption answer
-        (HasNoGoalWalk N.eq (IsSuccessor N.eq edges) (start ∷ []) (N.eq end))
-        (λ found. IsCheapestGoalPath N.eq edges (start ∷ []) (N.eq end) found.0.items (C.value found.1)))
-        × (result ≡ Err PathError.CostOverflow → IsPastRange N.eq edges (start ∷ []) (N.eq end) C.fits) }
+    requires ends { AnswersEnds N.eq S.answers P.answers graph.old }
+    ensures best { OfEnds N.eq S.answers P.answers graph.old (λ edges previous start end.
+        IfOk result (IsCheapestOrNone N.eq edges (start ∷ []) (N.eq end) C.value)
+        × (result ≡ Err PathError.CostOverflow → IsPastRange N.eq edges (start ∷ []) (N.eq end) C.fits)) }
     ensures errors { IfErr result (λ e. (e ≡ PathError.OutOfMemory) ⊎ (e ≡ PathError.CostOverflow)) }
 {
     let mut forth = Search::begin(alloc, graph.forth.nodes.len(), 0)?;
@@ -410,19 +382,13 @@ where
     FM: FnMut(&N) -> IM,
     A: Allocator + Copy,
     requires clones { IsLawfulClone N.eq N.is_clone }
-    requires graph { (edges previous : N → List (N × ℤ))
-        × IsWeightedSearchFromBothEnds N.eq edges previous start.now end.now (⟦<FN as EdgeFunction<N, C>>⟧.answers successors) (⟦<FM as EdgeFunction<N, C>>⟧.answers predecessors) }
+    requires graph { AnswersWeightedSearchFromBothEnds N.eq start.now end.now (⟦<FN as EdgeFunction<N, C>>⟧.answers successors) (⟦<FM as EdgeFunction<N, C>>⟧.answers predecessors) }
 
-    ensures best { (edges previous : N → List (N × ℤ))
-        → IsWeightedSearchFromBothEnds N.eq edges previous start.now end.now (⟦<FN as EdgeFunction<N, C>>⟧.answers successors) (⟦<FM as EdgeFunction<N, C>>⟧.answers predecessors)
-        → IfOk result (λ answer. MatchOption answer
-        (HasNoGoalWalk N.eq (IsSuccessor N.eq edges) (start.now ∷ []) (N.eq end.now))
-        (λ found. IsCheapestGoalPath N.eq edges (start.now ∷ []) (N.eq end.now) found.0.items (C.value found.1))) }
+    ensures best { OfWeightedSearchFromBothEnds N.eq start.now end.now (⟦<FN as EdgeFunction<N, C>>⟧.answers successors) (⟦<FM as EdgeFunction<N, C>>⟧.answers predecessors) (λ edges previous.
+        IfOk result (IsCheapestOrNone N.eq edges (start.now ∷ []) (N.eq end.now) C.value)) }
 
-    ensures overflow { (edges previous : N → List (N × ℤ))
-        → IsWeightedSearchFromBothEnds N.eq edges previous start.now end.now (⟦<FN as EdgeFunction<N, C>>⟧.answers successors) (⟦<FM as EdgeFunction<N, C>>⟧.answers predecessors)
-        → result ≡ Err PathError.CostOverflow
-        → IsPastRange N.eq edges (start.now ∷ []) (N.eq end.now) C.fits }
+    ensures overflow { OfWeightedSearchFromBothEnds N.eq start.now end.now (⟦<FN as EdgeFunction<N, C>>⟧.answers successors) (⟦<FM as EdgeFunction<N, C>>⟧.answers predecessors) (λ edges previous.
+        result ≡ Err PathError.CostOverflow → IsPastRange N.eq edges (start.now ∷ []) (N.eq end.now) C.fits) }
 
     ensures errors { IfErr result (λ e. (e ≡ PathError.OutOfMemory) ⊎ (e ≡ PathError.CostOverflow)) }
 {

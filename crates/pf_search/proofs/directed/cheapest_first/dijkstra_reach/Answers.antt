@@ -35,20 +35,16 @@ returns-clause-graph g c = λ edges a h.
       search = start_alone 0 g.C.Number.value (IsStep eq graph) (StandsFor eq found.field-0.keys) here c.in_ok-search.search.labels.items first b.first b.only refl refl (g.met.C.Zero.zero_law g.met.C.Integral.exact_law);
     }
 
-pub returns-in_err-clone_of-clause-begins : goal.returns-in_err-clone_of-clause-begins
-returns-in_err-clone_of-clause-begins g c = IfOk-from_err _ _ c.from_residual.ensures.0
+pub returns-in_err-clone_of : goal.returns-in_err-clone_of
+returns-in_err-clone_of g c = record {
+  begins = IfOk-from_err _ _ c.from_residual.ensures.0;
+  graph = IfOk-from_err _ _ c.from_residual.ensures.0;
+  refused = refused_as _ c.from_residual.result c.in_err-clone_of.field-0.0 c.from_residual.ensures.1 c.in_err-clone_of.ensures.refused;
+}
 
-pub returns-in_err-clone_of-clause-graph : goal.returns-in_err-clone_of-clause-graph
-returns-in_err-clone_of-clause-graph g c = IfOk-from_err _ _ c.from_residual.ensures.0
-
-pub returns-in_err-clone_of-clause-refused : goal.returns-in_err-clone_of-clause-refused
-returns-in_err-clone_of-clause-refused g c = refused_as _ c.from_residual.result c.in_err-clone_of.field-0.0 c.from_residual.ensures.1 c.in_err-clone_of.ensures.refused
-
-pub returns-in_err-search-clause-begins : goal.returns-in_err-search-clause-begins
-returns-in_err-search-clause-begins g c = IfOk-from_err _ _ c.from_residual-in_err-search.ensures.0
-
-pub returns-in_err-search-clause-graph : goal.returns-in_err-search-clause-graph
-returns-in_err-search-clause-graph g c = IfOk-from_err _ _ c.from_residual-in_err-search.ensures.0
-
-pub returns-in_err-search-clause-refused : goal.returns-in_err-search-clause-refused
-returns-in_err-search-clause-refused g c = refused_as _ c.from_residual-in_err-search.result c.in_err-search.field-0.0 c.from_residual-in_err-search.ensures.1 c.in_err-search.ensures.refused
+pub returns-in_err-search : goal.returns-in_err-search
+returns-in_err-search g c = record {
+  begins = IfOk-from_err _ _ c.from_residual-in_err-search.ensures.0;
+  graph = IfOk-from_err _ _ c.from_residual-in_err-search.ensures.0;
+  refused = refused_as _ c.from_residual-in_err-search.result c.in_err-search.field-0.0 c.from_residual-in_err-search.ensures.1 c.in_err-search.ensures.refused;
+}

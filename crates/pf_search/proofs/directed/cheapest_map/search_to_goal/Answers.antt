@@ -78,155 +78,91 @@ turns-preserved g c =
       first = first_turned g.C.Number.value c.args.start (g.G.NumberedGraph.step r.0) (only_root c.args.start) _ old i v.order v.settled c.in-Some.number z.0 z.1 new v.order v.first;
     }
 
-pub returns-in_err-turn-clause-graph : goal.returns-in_err-turn-clause-graph
-returns-in_err-turn-clause-graph g c = λ h x. c.in_err-turn.ensures.graph h (c.is_goal.ensures.graph h (c.turns.invariant.explored h x)).0
-
-pub returns-in_err-turn-clause-overflow : goal.returns-in_err-turn-clause-overflow
-returns-in_err-turn-clause-overflow g c = λ h x p e.
-    let v = c.turns.invariant in
-    let z = c.in-Some.ensures.least in
-    let labels = c.turns.search.labels.items in
-    let same = c.in-Some.ensures.same in
-    let x1 = (c.is_goal.ensures.graph h (v.explored h x)).0 in
-    let grown = Grows-trans _ _ _ _ _ _ c.is_goal.ensures.grows c.in_err-turn.ensures.grows in
-    let d = c.in_err-turn.ensures.overflow (ap Err (overflow_kept c.from_residual-in_err-turn.result c.in_err-turn.field-0.0 c.from_residual-in_err-turn.ensures.1 e)) h x1 in
-    too_dear g.C.Number.value g.C.Number.fits (g.G.NumberedGraph.step h) (only_root c.args.start) p _ labels (v.search h x p) v.sound.tree c.in-Some.number z.0 z.1 (g.G.NumberedGraph.passes h) (v.failed h x)
-    (g.met.G.NumberedGraph.one_law _ h (v.explored h x)) (λ n st. d n (c.is_goal.ensures.grows.stays c.in-Some.number n st) z.0 (still_at labels _ same _ _ z.1.at)) _ _ _ grown (subst (λ (n : ℕ). c.in-Some.number < n) v.wide (HasLabel-inside labels c.in-Some.number z.0 z.1.at))
-    _ (one_root c.args.start _ _ _ _ v.grown c.requires.inside)
-
-pub returns-then-is_goal-clause-ended : goal.returns-then-is_goal-clause-ended
-returns-then-is_goal-clause-ended g c =
-    let v = c.turns.invariant in
-    let z = c.in-Some.ensures.least in
-    let r = c.requires.graph in
-    still_ended _ _ c.in-Some.ensures.same g.C.Number.value c.args.start _ (ended_at g.C.Number.value c.args.start (g.G.NumberedGraph.step r.0) (only_root c.args.start) _ c.turns.search.labels.items (v.search r.0 r.1 r.2) v.order v.settled c.in-Some.number z.0 z.1 v.first)
-
-pub returns-then-is_goal-clause-search : goal.returns-then-is_goal-clause-search
-returns-then-is_goal-clause-search g c = λ h x p.
-    let v = c.turns.invariant in
-    still_search _ _ c.in-Some.ensures.same (by_cost g.C.Number.value) (g.G.NumberedGraph.step h) (only_root c.args.start) _ (search_grows (by_cost g.C.Number.value) (g.G.NumberedGraph.step h) (only_root c.args.start) _ _ _ _ c.is_goal.ensures.grows c.turns.search.labels.items (same_most _ _ v.wide) (v.search h x p))
-
-pub returns-then-is_goal-clause-passed : goal.returns-then-is_goal-clause-passed
-returns-then-is_goal-clause-passed g c = λ h x k l y at s here.
-    let v = c.turns.invariant in
-    let labels = c.turns.search.labels.items in
-    let at' : HasLabel labels k l = was_at labels _ c.in-Some.ensures.same k l at in
-    v.failed h x k l y at' s (c.is_goal.ensures.grows.back k y (subst (λ (n : ℕ). k < n) v.wide (HasLabel-inside labels k l at')) here)
-
-pub returns-then-is_goal-clause-goal : goal.returns-then-is_goal-clause-goal
-returns-then-is_goal-clause-goal g c = λ h x y here.
-    let v = c.turns.invariant in
-    let z = c.in-Some.ensures.least in
-    let inside = subst (λ (n : ℕ). c.in-Some.number < n) v.wide (HasLabel-inside c.turns.search.labels.items c.in-Some.number z.0 z.1.at) in
-    sym ((c.is_goal.ensures.graph h (v.explored h x)).1 y (c.is_goal.ensures.grows.back c.in-Some.number y inside here)) ∙ c.if-is_goal.true
-
-pub returns-clause-ended : goal.returns-clause-ended
-returns-clause-ended g c =
-    let v = c.turns.invariant in
-    let r = c.requires.graph in
-    still_ended _ _ c.least.ensures.same g.C.Number.value c.args.start _ (ended_all g.C.Number.value c.args.start (g.G.NumberedGraph.step r.0) (only_root c.args.start) _ c.turns.search.labels.items (v.search r.0 r.1 r.2) v.order v.settled (eq-eqb c.args.start c.args.start refl) c.in_default.ensures.least v.first)
-
-pub returns-clause-search : goal.returns-clause-search
-returns-clause-search g c = λ h x p. still_search _ _ c.least.ensures.same (by_cost g.C.Number.value) (g.G.NumberedGraph.step h) (only_root c.args.start) _ (c.turns.invariant.search h x p)
-
-pub returns-clause-passed : goal.returns-clause-passed
-returns-clause-passed g c = λ h x k l y at s here. c.turns.invariant.failed h x k l y (was_at _ _ c.least.ensures.same k l at) s here
-
-pub returns-in_err-search-clause-ended : goal.returns-in_err-search-clause-ended
-returns-in_err-search-clause-ended g c = IfOk-from_err _ _ c.from_residual.ensures.0
-
-pub returns-in_err-search-clause-errors : goal.returns-in_err-search-clause-errors
-returns-in_err-search-clause-errors g c = refused_as _ c.from_residual.result c.in_err-search.field-0.0 c.from_residual.ensures.1 (inl c.in_err-search.ensures.refused)
-
-pub returns-in_err-search-clause-goal : goal.returns-in_err-search-clause-goal
-returns-in_err-search-clause-goal g c = λ _ _. IfOk-from_err _ _ c.from_residual.ensures.0
-
-pub returns-in_err-search-clause-passed : goal.returns-in_err-search-clause-passed
-returns-in_err-search-clause-passed g c = λ _ _. IfOk-from_err _ _ c.from_residual.ensures.0
-
-pub returns-in_err-search-clause-search : goal.returns-in_err-search-clause-search
-returns-in_err-search-clause-search g c = λ _ _ _. IfOk-from_err _ _ c.from_residual.ensures.0
-
-pub returns-in_err-search-clause-tree : goal.returns-in_err-search-clause-tree
-returns-in_err-search-clause-tree g c = IfOk-from_err _ _ c.from_residual.ensures.0
-
-pub returns-in_err-search-clause-wide : goal.returns-in_err-search-clause-wide
-returns-in_err-search-clause-wide g c = IfOk-from_err _ _ c.from_residual.ensures.0
-
-pub returns-in_err-turn-clause-ended : goal.returns-in_err-turn-clause-ended
-returns-in_err-turn-clause-ended g c = IfOk-from_err _ _ c.from_residual-in_err-turn.ensures.0
-
-pub returns-in_err-turn-clause-goal : goal.returns-in_err-turn-clause-goal
-returns-in_err-turn-clause-goal g c = λ _ _. IfOk-from_err _ _ c.from_residual-in_err-turn.ensures.0
-
-pub returns-in_err-turn-clause-passed : goal.returns-in_err-turn-clause-passed
-returns-in_err-turn-clause-passed g c = λ _ _. IfOk-from_err _ _ c.from_residual-in_err-turn.ensures.0
-
-pub returns-in_err-turn-clause-search : goal.returns-in_err-turn-clause-search
-returns-in_err-turn-clause-search g c = λ _ _ _. IfOk-from_err _ _ c.from_residual-in_err-turn.ensures.0
-
-pub returns-in_err-turn-clause-tree : goal.returns-in_err-turn-clause-tree
-returns-in_err-turn-clause-tree g c = IfOk-from_err _ _ c.from_residual-in_err-turn.ensures.0
-
-pub returns-in_err-turn-clause-wide : goal.returns-in_err-turn-clause-wide
-returns-in_err-turn-clause-wide g c = IfOk-from_err _ _ c.from_residual-in_err-turn.ensures.0
-
-pub returns-then-is_goal-clause-errors : goal.returns-then-is_goal-clause-errors
-returns-then-is_goal-clause-errors g c = tt
-
-pub returns-clause-errors : goal.returns-clause-errors
-returns-clause-errors g c = tt
-
-pub returns-clause-overflow : goal.returns-clause-overflow
-returns-clause-overflow g c = λ _ _ _ e. absurd (ok_is_no_error _ _ _ refl e)
-
-pub returns-then-is_goal-clause-overflow : goal.returns-then-is_goal-clause-overflow
-returns-then-is_goal-clause-overflow g c = λ _ _ _ e. absurd (ok_is_no_error _ _ _ refl e)
-
-pub returns-clause-graph : goal.returns-clause-graph
-returns-clause-graph g c = c.turns.invariant.explored
-
-pub returns-clause-grows : goal.returns-clause-grows
-returns-clause-grows g c = c.turns.invariant.grown
-
-pub returns-in_err-search-clause-overflow : goal.returns-in_err-search-clause-overflow
-returns-in_err-search-clause-overflow g c = λ _ _ _ e. absurd (no_overflow c.from_residual.result c.in_err-search.field-0.0 c.from_residual.ensures.1 c.in_err-search.ensures.refused e)
-
-pub returns-in_err-turn-clause-errors : goal.returns-in_err-turn-clause-errors
-returns-in_err-turn-clause-errors g c = refused_as _ c.from_residual-in_err-turn.result c.in_err-turn.field-0.0 c.from_residual-in_err-turn.ensures.1 c.in_err-turn.ensures.errors
-
 pub turn-requires-clause-sound : goal.turn-requires-clause-sound
 turn-requires-clause-sound g c = c.in-Some.ensures.sound
 
 pub turn-requires-clause-wide : goal.turn-requires-clause-wide
 turn-requires-clause-wide g c = ap length c.in-Some.ensures.same ∙ c.turns.invariant.wide ∙ sym c.is_goal.ensures.same
 
-pub returns-then-is_goal-clause-graph : goal.returns-then-is_goal-clause-graph
-returns-then-is_goal-clause-graph g c = λ h x. (c.is_goal.ensures.graph h (c.turns.invariant.explored h x)).0
+pub returns-then-is_goal : goal.returns-then-is_goal
+returns-then-is_goal g c = record {
+  ended =
+      let v = c.turns.invariant in
+      let z = c.in-Some.ensures.least in
+      let r = c.requires.graph in
+      still_ended _ _ c.in-Some.ensures.same g.C.Number.value c.args.start _ (ended_at g.C.Number.value c.args.start (g.G.NumberedGraph.step r.0) (only_root c.args.start) _ c.turns.search.labels.items (v.search r.0 r.1 r.2) v.order v.settled c.in-Some.number z.0 z.1 v.first);
+  search = λ h x p.
+      let v = c.turns.invariant in
+      still_search _ _ c.in-Some.ensures.same (by_cost g.C.Number.value) (g.G.NumberedGraph.step h) (only_root c.args.start) _ (search_grows (by_cost g.C.Number.value) (g.G.NumberedGraph.step h) (only_root c.args.start) _ _ _ _ c.is_goal.ensures.grows c.turns.search.labels.items (same_most _ _ v.wide) (v.search h x p));
+  passed = λ h x k l y at s here.
+      let v = c.turns.invariant in
+      let labels = c.turns.search.labels.items in
+      let at' : HasLabel labels k l = was_at labels _ c.in-Some.ensures.same k l at in
+      v.failed h x k l y at' s (c.is_goal.ensures.grows.back k y (subst (λ (n : ℕ). k < n) v.wide (HasLabel-inside labels k l at')) here);
+  goal = λ h x y here.
+      let v = c.turns.invariant in
+      let z = c.in-Some.ensures.least in
+      let inside = subst (λ (n : ℕ). c.in-Some.number < n) v.wide (HasLabel-inside c.turns.search.labels.items c.in-Some.number z.0 z.1.at) in
+      sym ((c.is_goal.ensures.graph h (v.explored h x)).1 y (c.is_goal.ensures.grows.back c.in-Some.number y inside here)) ∙ c.if-is_goal.true;
+  errors = tt;
+  overflow = λ _ _ _ e. absurd (ok_is_no_error _ _ _ refl e);
+  graph = λ h x. (c.is_goal.ensures.graph h (c.turns.invariant.explored h x)).0;
+  grows = Grows-trans _ _ _ _ _ _ c.turns.invariant.grown c.is_goal.ensures.grows;
+  wide = ap length c.in-Some.ensures.same ∙ c.turns.invariant.wide ∙ sym c.is_goal.ensures.same;
+  tree = c.in-Some.ensures.sound.tree;
+}
 
-pub returns-then-is_goal-clause-grows : goal.returns-then-is_goal-clause-grows
-returns-then-is_goal-clause-grows g c = Grows-trans _ _ _ _ _ _ c.turns.invariant.grown c.is_goal.ensures.grows
+pub returns-in_err-search : goal.returns-in_err-search
+returns-in_err-search g c = record {
+  ended = IfOk-from_err _ _ c.from_residual.ensures.0;
+  errors = refused_as _ c.from_residual.result c.in_err-search.field-0.0 c.from_residual.ensures.1 (inl c.in_err-search.ensures.refused);
+  goal = λ _ _. IfOk-from_err _ _ c.from_residual.ensures.0;
+  passed = λ _ _. IfOk-from_err _ _ c.from_residual.ensures.0;
+  search = λ _ _ _. IfOk-from_err _ _ c.from_residual.ensures.0;
+  tree = IfOk-from_err _ _ c.from_residual.ensures.0;
+  wide = IfOk-from_err _ _ c.from_residual.ensures.0;
+  overflow = λ _ _ _ e. absurd (no_overflow c.from_residual.result c.in_err-search.field-0.0 c.from_residual.ensures.1 c.in_err-search.ensures.refused e);
+  graph = λ h x. x;
+  grows = none_grown _ _;
+}
 
-pub returns-then-is_goal-clause-wide : goal.returns-then-is_goal-clause-wide
-returns-then-is_goal-clause-wide g c = ap length c.in-Some.ensures.same ∙ c.turns.invariant.wide ∙ sym c.is_goal.ensures.same
+pub returns-in_err-turn : goal.returns-in_err-turn
+returns-in_err-turn g c = record {
+  graph = λ h x. c.in_err-turn.ensures.graph h (c.is_goal.ensures.graph h (c.turns.invariant.explored h x)).0;
+  overflow = λ h x p e.
+      let v = c.turns.invariant in
+      let z = c.in-Some.ensures.least in
+      let labels = c.turns.search.labels.items in
+      let same = c.in-Some.ensures.same in
+      let x1 = (c.is_goal.ensures.graph h (v.explored h x)).0 in
+      let grown = Grows-trans _ _ _ _ _ _ c.is_goal.ensures.grows c.in_err-turn.ensures.grows in
+      let d = c.in_err-turn.ensures.overflow (ap Err (overflow_kept c.from_residual-in_err-turn.result c.in_err-turn.field-0.0 c.from_residual-in_err-turn.ensures.1 e)) h x1 in
+      too_dear g.C.Number.value g.C.Number.fits (g.G.NumberedGraph.step h) (only_root c.args.start) p _ labels (v.search h x p) v.sound.tree c.in-Some.number z.0 z.1 (g.G.NumberedGraph.passes h) (v.failed h x)
+      (g.met.G.NumberedGraph.one_law _ h (v.explored h x)) (λ n st. d n (c.is_goal.ensures.grows.stays c.in-Some.number n st) z.0 (still_at labels _ same _ _ z.1.at)) _ _ _ grown (subst (λ (n : ℕ). c.in-Some.number < n) v.wide (HasLabel-inside labels c.in-Some.number z.0 z.1.at))
+      _ (one_root c.args.start _ _ _ _ v.grown c.requires.inside);
+  ended = IfOk-from_err _ _ c.from_residual-in_err-turn.ensures.0;
+  goal = λ _ _. IfOk-from_err _ _ c.from_residual-in_err-turn.ensures.0;
+  passed = λ _ _. IfOk-from_err _ _ c.from_residual-in_err-turn.ensures.0;
+  search = λ _ _ _. IfOk-from_err _ _ c.from_residual-in_err-turn.ensures.0;
+  tree = IfOk-from_err _ _ c.from_residual-in_err-turn.ensures.0;
+  wide = IfOk-from_err _ _ c.from_residual-in_err-turn.ensures.0;
+  errors = refused_as _ c.from_residual-in_err-turn.result c.in_err-turn.field-0.0 c.from_residual-in_err-turn.ensures.1 c.in_err-turn.ensures.errors;
+  grows = Grows-trans _ _ _ _ _ _ c.turns.invariant.grown (Grows-trans _ _ _ _ _ _ c.is_goal.ensures.grows c.in_err-turn.ensures.grows);
+}
 
-pub returns-then-is_goal-clause-tree : goal.returns-then-is_goal-clause-tree
-returns-then-is_goal-clause-tree g c = c.in-Some.ensures.sound.tree
-
-pub returns-in_err-search-clause-graph : goal.returns-in_err-search-clause-graph
-returns-in_err-search-clause-graph g c = λ h x. x
-
-pub returns-in_err-search-clause-grows : goal.returns-in_err-search-clause-grows
-returns-in_err-search-clause-grows g c = none_grown _ _
-
-pub returns-in_err-turn-clause-grows : goal.returns-in_err-turn-clause-grows
-returns-in_err-turn-clause-grows g c = Grows-trans _ _ _ _ _ _ c.turns.invariant.grown (Grows-trans _ _ _ _ _ _ c.is_goal.ensures.grows c.in_err-turn.ensures.grows)
-
-pub returns-clause-wide : goal.returns-clause-wide
-returns-clause-wide g c = ap length c.least.ensures.same ∙ c.turns.invariant.wide
-
-pub returns-clause-tree : goal.returns-clause-tree
-returns-clause-tree g c = c.least.ensures.sound.tree
-
-pub returns-clause-goal : goal.returns-clause-goal
-returns-clause-goal g c = λ h x. tt
+pub returns : goal.returns
+returns g c = record {
+  ended =
+      let v = c.turns.invariant in
+      let r = c.requires.graph in
+      still_ended _ _ c.least.ensures.same g.C.Number.value c.args.start _ (ended_all g.C.Number.value c.args.start (g.G.NumberedGraph.step r.0) (only_root c.args.start) _ c.turns.search.labels.items (v.search r.0 r.1 r.2) v.order v.settled (eq-eqb c.args.start c.args.start refl) c.in_default.ensures.least v.first);
+  search = λ h x p. still_search _ _ c.least.ensures.same (by_cost g.C.Number.value) (g.G.NumberedGraph.step h) (only_root c.args.start) _ (c.turns.invariant.search h x p);
+  passed = λ h x k l y at s here. c.turns.invariant.failed h x k l y (was_at _ _ c.least.ensures.same k l at) s here;
+  errors = tt;
+  overflow = λ _ _ _ e. absurd (ok_is_no_error _ _ _ refl e);
+  graph = c.turns.invariant.explored;
+  grows = c.turns.invariant.grown;
+  wide = ap length c.least.ensures.same ∙ c.turns.invariant.wide;
+  tree = c.least.ensures.sound.tree;
+  goal = λ h x. tt;
+}

@@ -15,24 +15,6 @@ path_tallied-requires-clause-graph g c =
     let x = Explores-edges_of g.N.PartialEq.eq g.met.N.Eq.laws _ _ _ _ _ _ (graph_of c.args.start.now r.0) found.field-0.keys _ found.ensures.distinct found.ensures.same r.2.edges_answered in
     (r.0, c.args.start.now, r.1, record { begins = found.ensures.begins; explores = x; tested = r.2.test_answered })
 
-pub returns-clause-best : goal.returns-clause-best
-returns-clause-best g c = λ edges test s.
-    let found = c.in_ok-clone_of in
-    let x = Explores-edges_of g.N.PartialEq.eq g.met.N.Eq.laws _ _ _ _ _ _ (graph_of c.args.start.now edges) found.field-0.keys _ found.ensures.distinct found.ensures.same s.edges_answered in
-    c.path_tallied.ensures.best edges c.args.start.now test (record { begins = found.ensures.begins; explores = x; tested = s.test_answered }) s.costs
-
-pub returns-clause-overflow : goal.returns-clause-overflow
-returns-clause-overflow g c = λ edges test s.
-    let found = c.in_ok-clone_of in
-    let x = Explores-edges_of g.N.PartialEq.eq g.met.N.Eq.laws _ _ _ _ _ _ (graph_of c.args.start.now edges) found.field-0.keys _ found.ensures.distinct found.ensures.same s.edges_answered in
-    c.path_tallied.ensures.overflow edges c.args.start.now test (record { begins = found.ensures.begins; explores = x; tested = s.test_answered }) s.costs
-
-pub returns-clause-asked : goal.returns-clause-asked
-returns-clause-asked g c = λ edges test a t.
-    let found = c.in_ok-clone_of in
-    let x = Explores-edges_of g.N.PartialEq.eq g.met.N.Eq.laws _ _ _ _ _ _ (graph_of c.args.start.now edges) found.field-0.keys _ found.ensures.distinct found.ensures.same a in
-    c.path_tallied.ensures.asked edges c.args.start.now test (record { begins = found.ensures.begins; explores = x; tested = t })
-
 pub path_tallied-requires-clause-clones : goal.path_tallied-requires-clause-clones
 path_tallied-requires-clause-clones g c = c.requires.clones
 
@@ -42,11 +24,23 @@ returns-in_err-clone_of-clause-best g c = λ _ _ _. IfOk-from_err _ _ c.from_res
 pub returns-in_err-clone_of-clause-errors : goal.returns-in_err-clone_of-clause-errors
 returns-in_err-clone_of-clause-errors g c = refused_as _ c.from_residual.result c.in_err-clone_of.field-0.0 c.from_residual.ensures.1 (inl c.in_err-clone_of.ensures.refused)
 
-pub returns-clause-errors : goal.returns-clause-errors
-returns-clause-errors g c = c.path_tallied.ensures.errors
-
-pub returns-clause-ticked : goal.returns-clause-ticked
-returns-clause-ticked g c = c.path_tallied.ensures.ticked
+pub returns : goal.returns
+returns g c = record {
+  best = λ edges test s.
+      let found = c.in_ok-clone_of in
+      let x = Explores-edges_of g.N.PartialEq.eq g.met.N.Eq.laws _ _ _ _ _ _ (graph_of c.args.start.now edges) found.field-0.keys _ found.ensures.distinct found.ensures.same s.edges_answered in
+      c.path_tallied.ensures.best edges c.args.start.now test (record { begins = found.ensures.begins; explores = x; tested = s.test_answered }) s.costs;
+  overflow = λ edges test s.
+      let found = c.in_ok-clone_of in
+      let x = Explores-edges_of g.N.PartialEq.eq g.met.N.Eq.laws _ _ _ _ _ _ (graph_of c.args.start.now edges) found.field-0.keys _ found.ensures.distinct found.ensures.same s.edges_answered in
+      c.path_tallied.ensures.overflow edges c.args.start.now test (record { begins = found.ensures.begins; explores = x; tested = s.test_answered }) s.costs;
+  asked = λ edges test a t.
+      let found = c.in_ok-clone_of in
+      let x = Explores-edges_of g.N.PartialEq.eq g.met.N.Eq.laws _ _ _ _ _ _ (graph_of c.args.start.now edges) found.field-0.keys _ found.ensures.distinct found.ensures.same a in
+      c.path_tallied.ensures.asked edges c.args.start.now test (record { begins = found.ensures.begins; explores = x; tested = t });
+  errors = c.path_tallied.ensures.errors;
+  ticked = c.path_tallied.ensures.ticked;
+}
 
 pub path_tallied-requires-clause-one : goal.path_tallied-requires-clause-one
 path_tallied-requires-clause-one g c = c.in_ok-clone_of.ensures.one

@@ -21,106 +21,82 @@ cheapest_path-requires-clause-begins g c = let r = c.requires.graph in (r.1, (r.
 pub cheapest_path-requires-clause-graph : goal.cheapest_path-requires-clause-graph
 cheapest_path-requires-clause-graph g c = let r = c.requires.graph in (tested r.1 r.0 r.2, (r.3.explores, r.3.tested))
 
-pub returns-in_err-cheapest_path-clause-overflow : goal.returns-in_err-cheapest_path-clause-overflow
-returns-in_err-cheapest_path-clause-overflow g c = λ edges start test s costs e.
-    let t = s.tested in
-    let eq = g.N.PartialEq.eq in
-    let laws = g.met.N.Eq.laws in
-    let h = tested start edges test in
-    let x = s.explores in
-    let keys = c.cheapest_path.new.graph.discovery.nodes.keys in
-    let y = c.in_err-cheapest_path.ensures.graph h (x, t) in
-    let f : c.in_err-cheapest_path.field-0.0 ≡ CostOverflow = overflow_kept c.from_residual.result c.in_err-cheapest_path.field-0.0 c.from_residual.ensures.1 e in
-    let d = c.in_err-cheapest_path.ensures.overflow h (x, t) (no_negative eq laws h.graph x.alike costs) (ap Err f) in
-    past_range eq laws h.graph x.alike _ (all_starts eq start _ s.begins) (only_starts eq start _ s.begins) test g.C.Number.fits keys (StandsFor-one eq laws keys y.0.distinct) d
-
-pub returns-in-None-clause-best : goal.returns-in-None-clause-best
-returns-in-None-clause-best g c = λ edges start test s costs.
-    let t = s.tested in
-    let eq = g.N.PartialEq.eq in
-    let laws = g.met.N.Eq.laws in
-    let h = tested start edges test in
-    let x = s.explores in
-    let b = when_none _ _ _ c.in-None.is (c.in_ok-cheapest_path.ensures.best h (x, t) (no_negative eq laws h.graph x.alike costs)) in
-    no_walk eq laws h.graph x.alike _ (all_starts eq start _ s.begins) (only_starts eq start _ s.begins) test b
-
 pub nodes_at-requires-clause-inside : goal.nodes_at-requires-clause-inside
 nodes_at-requires-clause-inside g c = λ k h. if_some _ _ _ c.in-Some.is c.in_ok-cheapest_path.ensures.inside k (subst (λ (ks : List ℕ). Contains ks k) c.deref.ensures.value h)
-
-pub returns-in_ok-path-in-Some-clause-best : goal.returns-in_ok-path-in-Some-clause-best
-returns-in_ok-path-in-Some-clause-best g c = λ edges start test s costs.
-    let t = s.tested in
-    let eq = g.N.PartialEq.eq in
-    let laws = g.met.N.Eq.laws in
-    let h = tested start edges test in
-    let x = s.explores in
-    let keys = c.cheapest_path.new.graph.discovery.nodes.keys in
-    let y = c.in_ok-cheapest_path.ensures.graph h (x, t) in
-    let b = when_some _ _ _ _ c.in-Some.is (c.in_ok-cheapest_path.ensures.best h (x, t) (no_negative eq laws h.graph x.alike costs)) in
-    best_answer eq laws h.graph x.alike _ (all_starts eq start _ s.begins) (only_starts eq start _ s.begins) test (g.met.T.NodeTest.alike_law c.args.graph.now.success (along_edges (start ∷ []) edges) test t) keys (StandsFor-one eq laws keys y.0.distinct) c.in-Some.numbers.items c.in_ok-path-in-Some.path.items (g.C.Number.value c.in-Some.cost) b (subst (λ (ks : List ℕ). AllZip (StandsFor eq keys) ks c.in_ok-path-in-Some.path.items) c.deref.ensures.value c.in_ok-path-in-Some.ensures.nodes)
-
-pub returns-in_err-path-in-Some-clause-asked : goal.returns-in_err-path-in-Some-clause-asked
-returns-in_err-path-in-Some-clause-asked g c = λ edges start test s.
-    let h = tested start edges test in
-    let y = c.in_ok-cheapest_path.ensures.graph h (s.explores, s.tested) in
-    at_most g.N.PartialEq.eq g.met.N.Eq.laws _ c.cheapest_path.new.graph.discovery.nodes.keys y.0.distinct y.0.reached _ _ c.in_ok-cheapest_path.ensures.asked
-
-pub returns-in_err-cheapest_path-clause-asked : goal.returns-in_err-cheapest_path-clause-asked
-returns-in_err-cheapest_path-clause-asked g c = λ edges start test s.
-    let h = tested start edges test in
-    let y = c.in_err-cheapest_path.ensures.graph h (s.explores, s.tested) in
-    at_most g.N.PartialEq.eq g.met.N.Eq.laws _ c.cheapest_path.new.graph.discovery.nodes.keys y.0.distinct y.0.reached _ _ c.in_err-cheapest_path.ensures.asked
-
-pub returns-in-None-clause-asked : goal.returns-in-None-clause-asked
-returns-in-None-clause-asked g c = λ edges start test s.
-    let h = tested start edges test in
-    let y = c.in_ok-cheapest_path.ensures.graph h (s.explores, s.tested) in
-    at_most g.N.PartialEq.eq g.met.N.Eq.laws _ c.cheapest_path.new.graph.discovery.nodes.keys y.0.distinct y.0.reached _ _ c.in_ok-cheapest_path.ensures.asked
-
-pub returns-in_ok-path-in-Some-clause-asked : goal.returns-in_ok-path-in-Some-clause-asked
-returns-in_ok-path-in-Some-clause-asked g c = λ edges start test s.
-    let h = tested start edges test in
-    let y = c.in_ok-cheapest_path.ensures.graph h (s.explores, s.tested) in
-    at_most g.N.PartialEq.eq g.met.N.Eq.laws _ c.cheapest_path.new.graph.discovery.nodes.keys y.0.distinct y.0.reached _ _ c.in_ok-cheapest_path.ensures.asked
 
 pub nodes_at-requires-clause-clones : goal.nodes_at-requires-clause-clones
 nodes_at-requires-clause-clones g c = c.requires.clones
 
-pub returns-in-None-clause-errors : goal.returns-in-None-clause-errors
-returns-in-None-clause-errors g c = tt
+pub returns-in-None : goal.returns-in-None
+returns-in-None g c = record {
+  best = λ edges start test s costs.
+      let t = s.tested in
+      let eq = g.N.PartialEq.eq in
+      let laws = g.met.N.Eq.laws in
+      let h = tested start edges test in
+      let x = s.explores in
+      let b = when_none _ _ _ c.in-None.is (c.in_ok-cheapest_path.ensures.best h (x, t) (no_negative eq laws h.graph x.alike costs)) in
+      no_walk eq laws h.graph x.alike _ (all_starts eq start _ s.begins) (only_starts eq start _ s.begins) test b;
+  asked = λ edges start test s.
+      let h = tested start edges test in
+      let y = c.in_ok-cheapest_path.ensures.graph h (s.explores, s.tested) in
+      at_most g.N.PartialEq.eq g.met.N.Eq.laws _ c.cheapest_path.new.graph.discovery.nodes.keys y.0.distinct y.0.reached _ _ c.in_ok-cheapest_path.ensures.asked;
+  errors = tt;
+  ticked = c.in_ok-cheapest_path.ensures.ticked;
+  overflow = λ _ _ _ _ _ e. absurd (ok_is_no_error _ _ _ refl e);
+}
 
-pub returns-in_err-cheapest_path-clause-best : goal.returns-in_err-cheapest_path-clause-best
-returns-in_err-cheapest_path-clause-best g c = λ _ _ _ _ _. IfOk-from_err _ _ c.from_residual.ensures.0
+pub returns-in_ok-path-in-Some : goal.returns-in_ok-path-in-Some
+returns-in_ok-path-in-Some g c = record {
+  best = λ edges start test s costs.
+      let t = s.tested in
+      let eq = g.N.PartialEq.eq in
+      let laws = g.met.N.Eq.laws in
+      let h = tested start edges test in
+      let x = s.explores in
+      let keys = c.cheapest_path.new.graph.discovery.nodes.keys in
+      let y = c.in_ok-cheapest_path.ensures.graph h (x, t) in
+      let b = when_some _ _ _ _ c.in-Some.is (c.in_ok-cheapest_path.ensures.best h (x, t) (no_negative eq laws h.graph x.alike costs)) in
+      best_answer eq laws h.graph x.alike _ (all_starts eq start _ s.begins) (only_starts eq start _ s.begins) test (g.met.T.NodeTest.alike_law c.args.graph.now.success (along_edges (start ∷ []) edges) test t) keys (StandsFor-one eq laws keys y.0.distinct) c.in-Some.numbers.items c.in_ok-path-in-Some.path.items (g.C.Number.value c.in-Some.cost) b (subst (λ (ks : List ℕ). AllZip (StandsFor eq keys) ks c.in_ok-path-in-Some.path.items) c.deref.ensures.value c.in_ok-path-in-Some.ensures.nodes);
+  asked = λ edges start test s.
+      let h = tested start edges test in
+      let y = c.in_ok-cheapest_path.ensures.graph h (s.explores, s.tested) in
+      at_most g.N.PartialEq.eq g.met.N.Eq.laws _ c.cheapest_path.new.graph.discovery.nodes.keys y.0.distinct y.0.reached _ _ c.in_ok-cheapest_path.ensures.asked;
+  errors = tt;
+  ticked = c.in_ok-cheapest_path.ensures.ticked;
+  overflow = λ _ _ _ _ _ e. absurd (ok_is_no_error _ _ _ refl e);
+}
 
-pub returns-in_err-path-in-Some-clause-best : goal.returns-in_err-path-in-Some-clause-best
-returns-in_err-path-in-Some-clause-best g c = λ _ _ _ _ _. IfOk-from_err _ _ c.from_residual-in_err-path-in-Some.ensures.0
+pub returns-in_err-cheapest_path : goal.returns-in_err-cheapest_path
+returns-in_err-cheapest_path g c = record {
+  overflow = λ edges start test s costs e.
+      let t = s.tested in
+      let eq = g.N.PartialEq.eq in
+      let laws = g.met.N.Eq.laws in
+      let h = tested start edges test in
+      let x = s.explores in
+      let keys = c.cheapest_path.new.graph.discovery.nodes.keys in
+      let y = c.in_err-cheapest_path.ensures.graph h (x, t) in
+      let f : c.in_err-cheapest_path.field-0.0 ≡ CostOverflow = overflow_kept c.from_residual.result c.in_err-cheapest_path.field-0.0 c.from_residual.ensures.1 e in
+      let d = c.in_err-cheapest_path.ensures.overflow h (x, t) (no_negative eq laws h.graph x.alike costs) (ap Err f) in
+      past_range eq laws h.graph x.alike _ (all_starts eq start _ s.begins) (only_starts eq start _ s.begins) test g.C.Number.fits keys (StandsFor-one eq laws keys y.0.distinct) d;
+  asked = λ edges start test s.
+      let h = tested start edges test in
+      let y = c.in_err-cheapest_path.ensures.graph h (s.explores, s.tested) in
+      at_most g.N.PartialEq.eq g.met.N.Eq.laws _ c.cheapest_path.new.graph.discovery.nodes.keys y.0.distinct y.0.reached _ _ c.in_err-cheapest_path.ensures.asked;
+  best = λ _ _ _ _ _. IfOk-from_err _ _ c.from_residual.ensures.0;
+  ticked = c.in_err-cheapest_path.ensures.ticked;
+  errors = refused_as _ c.from_residual.result c.in_err-cheapest_path.field-0.0 c.from_residual.ensures.1 c.in_err-cheapest_path.ensures.errors;
+}
 
-pub returns-in_ok-path-in-Some-clause-errors : goal.returns-in_ok-path-in-Some-clause-errors
-returns-in_ok-path-in-Some-clause-errors g c = tt
-
-pub returns-in_err-cheapest_path-clause-ticked : goal.returns-in_err-cheapest_path-clause-ticked
-returns-in_err-cheapest_path-clause-ticked g c = c.in_err-cheapest_path.ensures.ticked
-
-pub returns-in_err-path-in-Some-clause-ticked : goal.returns-in_err-path-in-Some-clause-ticked
-returns-in_err-path-in-Some-clause-ticked g c = c.in_ok-cheapest_path.ensures.ticked
-
-pub returns-in_ok-path-in-Some-clause-ticked : goal.returns-in_ok-path-in-Some-clause-ticked
-returns-in_ok-path-in-Some-clause-ticked g c = c.in_ok-cheapest_path.ensures.ticked
-
-pub returns-in-None-clause-ticked : goal.returns-in-None-clause-ticked
-returns-in-None-clause-ticked g c = c.in_ok-cheapest_path.ensures.ticked
-
-pub returns-in-None-clause-overflow : goal.returns-in-None-clause-overflow
-returns-in-None-clause-overflow g c = λ _ _ _ _ _ e. absurd (ok_is_no_error _ _ _ refl e)
-
-pub returns-in_ok-path-in-Some-clause-overflow : goal.returns-in_ok-path-in-Some-clause-overflow
-returns-in_ok-path-in-Some-clause-overflow g c = λ _ _ _ _ _ e. absurd (ok_is_no_error _ _ _ refl e)
-
-pub returns-in_err-cheapest_path-clause-errors : goal.returns-in_err-cheapest_path-clause-errors
-returns-in_err-cheapest_path-clause-errors g c = refused_as _ c.from_residual.result c.in_err-cheapest_path.field-0.0 c.from_residual.ensures.1 c.in_err-cheapest_path.ensures.errors
-
-pub returns-in_err-path-in-Some-clause-errors : goal.returns-in_err-path-in-Some-clause-errors
-returns-in_err-path-in-Some-clause-errors g c = refused_as (λ e. (e ≡ OutOfMemory) ⊎ (e ≡ CostOverflow)) c.from_residual-in_err-path-in-Some.result c.in_err-path-in-Some.field-0.0 c.from_residual-in_err-path-in-Some.ensures.1 (inl c.in_err-path-in-Some.ensures.refused)
-
-pub returns-in_err-path-in-Some-clause-overflow : goal.returns-in_err-path-in-Some-clause-overflow
-returns-in_err-path-in-Some-clause-overflow g c = λ _ _ _ _ _ e. absurd (no_overflow c.from_residual-in_err-path-in-Some.result c.in_err-path-in-Some.field-0.0 c.from_residual-in_err-path-in-Some.ensures.1 c.in_err-path-in-Some.ensures.refused e)
+pub returns-in_err-path-in-Some : goal.returns-in_err-path-in-Some
+returns-in_err-path-in-Some g c = record {
+  asked = λ edges start test s.
+      let h = tested start edges test in
+      let y = c.in_ok-cheapest_path.ensures.graph h (s.explores, s.tested) in
+      at_most g.N.PartialEq.eq g.met.N.Eq.laws _ c.cheapest_path.new.graph.discovery.nodes.keys y.0.distinct y.0.reached _ _ c.in_ok-cheapest_path.ensures.asked;
+  best = λ _ _ _ _ _. IfOk-from_err _ _ c.from_residual-in_err-path-in-Some.ensures.0;
+  ticked = c.in_ok-cheapest_path.ensures.ticked;
+  errors = refused_as (λ e. (e ≡ OutOfMemory) ⊎ (e ≡ CostOverflow)) c.from_residual-in_err-path-in-Some.result c.in_err-path-in-Some.field-0.0 c.from_residual-in_err-path-in-Some.ensures.1 (inl c.in_err-path-in-Some.ensures.refused);
+  overflow = λ _ _ _ _ _ e. absurd (no_overflow c.from_residual-in_err-path-in-Some.result c.in_err-path-in-Some.field-0.0 c.from_residual-in_err-path-in-Some.ensures.1 c.in_err-path-in-Some.ensures.refused e);
+}

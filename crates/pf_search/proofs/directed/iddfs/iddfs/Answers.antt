@@ -18,27 +18,6 @@ deepen-requires g c =
     let s = r.2 in
     record { graph = (r.0, c.args.start ∷ [], r.1, (v.searched r.0 r.1 s).0, rw v.alone (start_alone g.N.PartialEq.eq g.met.N.Eq.laws r.0 c.args.start s.successors_answered.alike r.1 s.test_answered.alike)) }
 
-pub returns-in-Found-clause-best : goal.returns-in-Found-clause-best
-returns-in-Found-clause-best g c = λ next test s.
-    let eq = g.N.PartialEq.eq in
-    let laws = g.met.N.Eq.laws in
-    let v = c.limits.invariant in
-    let before = v.searched next test s in
-    let begins : IsPathFrom eq next (c.args.start ∷ []) c.limits.path.items = rw v.alone (start_alone eq laws next c.args.start s.successors_answered.alike test s.test_answered.alike) in
-    let found = rw c.in-Found.is at (c.in_ok-deepen.ensures.graph next (c.args.start ∷ []) test before.0 begins) in
-    let one : length c.limits.path.items ≡ 1 = rw v.alone refl in
-    fewest_of eq laws next c.args.start s.successors_answered.alike test s.test_answered.alike c.limits.steps c.deepen.new.path.items before.1 found.1.0 (omega (arith, found.1.1, one))
-
-pub returns-in-Missed-false-clause-best : goal.returns-in-Missed-false-clause-best
-returns-in-Missed-false-clause-best g c = λ next test s.
-    let eq = g.N.PartialEq.eq in
-    let laws = g.met.N.Eq.laws in
-    let v = c.limits.invariant in
-    let before = v.searched next test s in
-    let begins : IsPathFrom eq next (c.args.start ∷ []) c.limits.path.items = rw v.alone (start_alone eq laws next c.args.start s.successors_answered.alike test s.test_answered.alike) in
-    let missed = rw c.in-Missed-false.is at (c.in_ok-deepen.ensures.graph next (c.args.start ∷ []) test before.0 begins) in
-    none_of eq laws next c.args.start s.successors_answered.alike test s.test_answered.alike (λ w k. (rw v.alone at missed.1.1) w (λ e. absurd (true≢false (sym e ∙ c.in-Missed-false.cut-test))) k)
-
 pub limits-preserved : goal.limits-preserved
 limits-preserved g c = record {
   alone =
@@ -57,20 +36,41 @@ limits-preserved g c = record {
       (missed.0, λ w low k. (rw v.alone at missed.1.1) w (λ e. omega (arith, low)) k);
 }
 
-pub returns-in_err-deepen-clause-best : goal.returns-in_err-deepen-clause-best
-returns-in_err-deepen-clause-best g c = λ _ _ _. IfOk-from_err _ _ c.from_residual-in_err-deepen.ensures.0
-
-pub returns-in_err-deepen-clause-errors : goal.returns-in_err-deepen-clause-errors
-returns-in_err-deepen-clause-errors g c = refused_as _ c.from_residual-in_err-deepen.result c.in_err-deepen.field-0.0 c.from_residual-in_err-deepen.ensures.1 c.in_err-deepen.ensures.refused
+pub returns-in_err-deepen : goal.returns-in_err-deepen
+returns-in_err-deepen g c = record {
+  best = λ _ _ _. IfOk-from_err _ _ c.from_residual-in_err-deepen.ensures.0;
+  errors = refused_as _ c.from_residual-in_err-deepen.result c.in_err-deepen.field-0.0 c.from_residual-in_err-deepen.ensures.1 c.in_err-deepen.ensures.refused;
+}
 
 pub returns-in_err-push-clause-best : goal.returns-in_err-push-clause-best
 returns-in_err-push-clause-best g c = λ _ _ _. IfOk-from_err _ _ c.from_residual.ensures.0
 
-pub returns-in-Found-clause-errors : goal.returns-in-Found-clause-errors
-returns-in-Found-clause-errors g c = tt
+pub returns-in-Found : goal.returns-in-Found
+returns-in-Found g c = record {
+  best = λ next test s.
+      let eq = g.N.PartialEq.eq in
+      let laws = g.met.N.Eq.laws in
+      let v = c.limits.invariant in
+      let before = v.searched next test s in
+      let begins : IsPathFrom eq next (c.args.start ∷ []) c.limits.path.items = rw v.alone (start_alone eq laws next c.args.start s.successors_answered.alike test s.test_answered.alike) in
+      let found = rw c.in-Found.is at (c.in_ok-deepen.ensures.graph next (c.args.start ∷ []) test before.0 begins) in
+      let one : length c.limits.path.items ≡ 1 = rw v.alone refl in
+      fewest_of eq laws next c.args.start s.successors_answered.alike test s.test_answered.alike c.limits.steps c.deepen.new.path.items before.1 found.1.0 (omega (arith, found.1.1, one));
+  errors = tt;
+}
 
-pub returns-in-Missed-false-clause-errors : goal.returns-in-Missed-false-clause-errors
-returns-in-Missed-false-clause-errors g c = tt
+pub returns-in-Missed-false : goal.returns-in-Missed-false
+returns-in-Missed-false g c = record {
+  best = λ next test s.
+      let eq = g.N.PartialEq.eq in
+      let laws = g.met.N.Eq.laws in
+      let v = c.limits.invariant in
+      let before = v.searched next test s in
+      let begins : IsPathFrom eq next (c.args.start ∷ []) c.limits.path.items = rw v.alone (start_alone eq laws next c.args.start s.successors_answered.alike test s.test_answered.alike) in
+      let missed = rw c.in-Missed-false.is at (c.in_ok-deepen.ensures.graph next (c.args.start ∷ []) test before.0 begins) in
+      none_of eq laws next c.args.start s.successors_answered.alike test s.test_answered.alike (λ w k. (rw v.alone at missed.1.1) w (λ e. absurd (true≢false (sym e ∙ c.in-Missed-false.cut-test))) k);
+  errors = tt;
+}
 
 pub returns-clause-best : goal.returns-clause-best
 returns-clause-best g c = λ _ _ _. tt

@@ -32,20 +32,16 @@ returns-clause-chain g c = rw c.reverse.ensures.items (climbed_chain g.N.Partial
 pub returns-clause-alone : goal.returns-clause-alone
 returns-clause-alone g c = chain_alone g.N.PartialEq.eq g.met.N.Eq.laws c.args.parents.now c.args.target.now _ (returns-clause-chain g c)
 
-pub returns-in_err-push_clone-2-clause-alone : goal.returns-in_err-push_clone-2-clause-alone
-returns-in_err-push_clone-2-clause-alone g c = IfOk-from_err _ _ c.from_residual-in_err-push_clone-2.ensures.0
+pub returns-in_err-push_clone-2 : goal.returns-in_err-push_clone-2
+returns-in_err-push_clone-2 g c = record {
+  alone = IfOk-from_err _ _ c.from_residual-in_err-push_clone-2.ensures.0;
+  chain = IfOk-from_err _ _ c.from_residual-in_err-push_clone-2.ensures.0;
+  refused = refused_as _ c.from_residual-in_err-push_clone-2.result c.in_err-push_clone-2.field-0.0 c.from_residual-in_err-push_clone-2.ensures.1 c.in_err-push_clone-2.ensures.refused;
+}
 
-pub returns-in_err-push_clone-2-clause-chain : goal.returns-in_err-push_clone-2-clause-chain
-returns-in_err-push_clone-2-clause-chain g c = IfOk-from_err _ _ c.from_residual-in_err-push_clone-2.ensures.0
-
-pub returns-in_err-push_clone-2-clause-refused : goal.returns-in_err-push_clone-2-clause-refused
-returns-in_err-push_clone-2-clause-refused g c = refused_as _ c.from_residual-in_err-push_clone-2.result c.in_err-push_clone-2.field-0.0 c.from_residual-in_err-push_clone-2.ensures.1 c.in_err-push_clone-2.ensures.refused
-
-pub returns-in_err-push_clone-clause-alone : goal.returns-in_err-push_clone-clause-alone
-returns-in_err-push_clone-clause-alone g c = IfOk-from_err _ _ c.from_residual.ensures.0
-
-pub returns-in_err-push_clone-clause-chain : goal.returns-in_err-push_clone-clause-chain
-returns-in_err-push_clone-clause-chain g c = IfOk-from_err _ _ c.from_residual.ensures.0
-
-pub returns-in_err-push_clone-clause-refused : goal.returns-in_err-push_clone-clause-refused
-returns-in_err-push_clone-clause-refused g c = refused_as _ c.from_residual.result c.in_err-push_clone.field-0.0 c.from_residual.ensures.1 c.in_err-push_clone.ensures.refused
+pub returns-in_err-push_clone : goal.returns-in_err-push_clone
+returns-in_err-push_clone g c = record {
+  alone = IfOk-from_err _ _ c.from_residual.ensures.0;
+  chain = IfOk-from_err _ _ c.from_residual.ensures.0;
+  refused = refused_as _ c.from_residual.result c.in_err-push_clone.field-0.0 c.from_residual.ensures.1 c.in_err-push_clone.ensures.refused;
+}

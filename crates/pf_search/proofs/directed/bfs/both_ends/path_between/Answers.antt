@@ -12,39 +12,39 @@ fewest_edges_between-requires-clause-graph g c = let r = c.requires.graph in ((h
 pub fewest_edges_between-requires-clause-begins : goal.fewest_edges_between-requires-clause-begins
 fewest_edges_between-requires-clause-begins g c = λ side k l. begins_all g.N.PartialEq.eq g.met.N.Eq.laws (by_side side c.args.graph.now.forth.nodes.keys c.args.graph.now.back.nodes.keys) k l
 
-pub returns-in-None-clause-best : goal.returns-in-None-clause-best
-returns-in-None-clause-best g c = λ next previous starts ends x y same same' mirror.
-    let eq = g.N.PartialEq.eq in
-    let laws = g.met.N.Eq.laws in
-    let begins = starts_stand eq laws starts c.args.graph.now.forth.nodes.keys same in
-    let finish = starts_stand eq laws ends c.args.graph.now.back.nodes.keys same' in
-    let m = mirrored eq laws next previous starts ends mirror x.alike y.alike _ (λ a. (begins a).1) (λ a. (begins a).0) _ (λ a. (finish a).1) (λ a. (finish a).0) in
-    let b = rw c.in-None.is at (c.in_ok-fewest_edges_between.ensures.best (hops_from starts next, hops_from ends previous) (x, y) (is_hop eq starts next) (is_hop eq ends previous) m) in
-    no_walk_between eq laws next previous starts ends mirror x.alike y.alike _ (λ a. (begins a).1) (λ a. (begins a).0) _ (λ a. (finish a).1) (λ a. (finish a).0) b
-
-pub returns-in-Some-clause-best : goal.returns-in-Some-clause-best
-returns-in-Some-clause-best g c = λ next previous starts ends x y same same' mirror.
-    let eq = g.N.PartialEq.eq in
-    let laws = g.met.N.Eq.laws in
-    let begins = starts_stand eq laws starts c.args.graph.now.forth.nodes.keys same in
-    let finish = starts_stand eq laws ends c.args.graph.now.back.nodes.keys same' in
-    let m = mirrored eq laws next previous starts ends mirror x.alike y.alike _ (λ a. (begins a).1) (λ a. (begins a).0) _ (λ a. (finish a).1) (λ a. (finish a).0) in
-    let b = rw c.in-Some.is at (c.in_ok-fewest_edges_between.ensures.best (hops_from starts next, hops_from ends previous) (x, y) (is_hop eq starts next) (is_hop eq ends previous) m) in
-    in_some c.nodes_along.result c.map.result c.map.ensures.cases _ _
-    (λ path n. rw n.4 (joined_answer eq laws next previous starts ends mirror x.alike y.alike _ (λ a. (begins a).1) (λ a. (begins a).0) _ (λ a. (finish a).1) (λ a. (finish a).0) _ _ _ _ b n.0 n.1 n.2 n.3))
-    c.nodes_along.ensures.nodes
-
-pub returns-in-Some-clause-errors : goal.returns-in-Some-clause-errors
-returns-in-Some-clause-errors g c = error_kept c.nodes_along.result c.map.result c.map.ensures.cases _ c.nodes_along.ensures.refused
+pub returns-in-Some : goal.returns-in-Some
+returns-in-Some g c = record {
+  best = λ next previous starts ends x y same same' mirror.
+      let eq = g.N.PartialEq.eq in
+      let laws = g.met.N.Eq.laws in
+      let begins = starts_stand eq laws starts c.args.graph.now.forth.nodes.keys same in
+      let finish = starts_stand eq laws ends c.args.graph.now.back.nodes.keys same' in
+      let m = mirrored eq laws next previous starts ends mirror x.alike y.alike _ (λ a. (begins a).1) (λ a. (begins a).0) _ (λ a. (finish a).1) (λ a. (finish a).0) in
+      let b = rw c.in-Some.is at (c.in_ok-fewest_edges_between.ensures.best (hops_from starts next, hops_from ends previous) (x, y) (is_hop eq starts next) (is_hop eq ends previous) m) in
+      in_some c.nodes_along.result c.map.result c.map.ensures.cases _ _
+      (λ path n. rw n.4 (joined_answer eq laws next previous starts ends mirror x.alike y.alike _ (λ a. (begins a).1) (λ a. (begins a).0) _ (λ a. (finish a).1) (λ a. (finish a).0) _ _ _ _ b n.0 n.1 n.2 n.3))
+      c.nodes_along.ensures.nodes;
+  errors = error_kept c.nodes_along.result c.map.result c.map.ensures.cases _ c.nodes_along.ensures.refused;
+}
 
 pub nodes_along-requires-clause-clones : goal.nodes_along-requires-clause-clones
 nodes_along-requires-clause-clones g c = c.requires.clones
 
-pub returns-in-None-clause-errors : goal.returns-in-None-clause-errors
-returns-in-None-clause-errors g c = tt
+pub returns-in-None : goal.returns-in-None
+returns-in-None g c = record {
+  best = λ next previous starts ends x y same same' mirror.
+      let eq = g.N.PartialEq.eq in
+      let laws = g.met.N.Eq.laws in
+      let begins = starts_stand eq laws starts c.args.graph.now.forth.nodes.keys same in
+      let finish = starts_stand eq laws ends c.args.graph.now.back.nodes.keys same' in
+      let m = mirrored eq laws next previous starts ends mirror x.alike y.alike _ (λ a. (begins a).1) (λ a. (begins a).0) _ (λ a. (finish a).1) (λ a. (finish a).0) in
+      let b = rw c.in-None.is at (c.in_ok-fewest_edges_between.ensures.best (hops_from starts next, hops_from ends previous) (x, y) (is_hop eq starts next) (is_hop eq ends previous) m) in
+      no_walk_between eq laws next previous starts ends mirror x.alike y.alike _ (λ a. (begins a).1) (λ a. (begins a).0) _ (λ a. (finish a).1) (λ a. (finish a).0) b;
+  errors = tt;
+}
 
-pub returns-in_err-fewest_edges_between-clause-best : goal.returns-in_err-fewest_edges_between-clause-best
-returns-in_err-fewest_edges_between-clause-best g c = λ _ _ _ _ _ _ _ _ _. IfOk-from_err _ _ c.from_residual.ensures.0
-
-pub returns-in_err-fewest_edges_between-clause-errors : goal.returns-in_err-fewest_edges_between-clause-errors
-returns-in_err-fewest_edges_between-clause-errors g c = refused_as _ c.from_residual.result c.in_err-fewest_edges_between.field-0.0 c.from_residual.ensures.1 c.in_err-fewest_edges_between.ensures.errors
+pub returns-in_err-fewest_edges_between : goal.returns-in_err-fewest_edges_between
+returns-in_err-fewest_edges_between g c = record {
+  best = λ _ _ _ _ _ _ _ _ _. IfOk-from_err _ _ c.from_residual.ensures.0;
+  errors = refused_as _ c.from_residual.result c.in_err-fewest_edges_between.field-0.0 c.from_residual.ensures.1 c.in_err-fewest_edges_between.ensures.errors;
+}

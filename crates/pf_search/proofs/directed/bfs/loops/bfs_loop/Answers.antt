@@ -10,20 +10,20 @@ loop_from-requires-clause-graph g c =
     let found = c.in_ok-clones_of in
     (r.0, starts, Explores-successors_of g.N.PartialEq.eq g.met.N.Eq.laws _ _ _ _ _ starts found.field-0.keys r.0 _ found.ensures.distinct found.ensures.same r.1)
 
-pub returns-clause-best : goal.returns-clause-best
-returns-clause-best g c = λ next a.
-    let starts = c.args.starts.now in
-    let found = c.in_ok-clones_of in
-    c.loop_from.ensures.best next starts (Explores-successors_of g.N.PartialEq.eq g.met.N.Eq.laws _ _ _ _ _ starts found.field-0.keys next _ found.ensures.distinct found.ensures.same a) found.ensures.same
-
 pub loop_from-requires-clause-clones : goal.loop_from-requires-clause-clones
 loop_from-requires-clause-clones g c = c.requires.clones
 
-pub returns-in_err-clones_of-clause-best : goal.returns-in_err-clones_of-clause-best
-returns-in_err-clones_of-clause-best g c = λ _ _. IfOk-from_err _ _ c.from_residual.ensures.0
+pub returns-in_err-clones_of : goal.returns-in_err-clones_of
+returns-in_err-clones_of g c = record {
+  best = λ _ _. IfOk-from_err _ _ c.from_residual.ensures.0;
+  errors = refused_as _ c.from_residual.result c.in_err-clones_of.field-0.0 c.from_residual.ensures.1 c.in_err-clones_of.ensures.refused;
+}
 
-pub returns-in_err-clones_of-clause-errors : goal.returns-in_err-clones_of-clause-errors
-returns-in_err-clones_of-clause-errors g c = refused_as _ c.from_residual.result c.in_err-clones_of.field-0.0 c.from_residual.ensures.1 c.in_err-clones_of.ensures.refused
-
-pub returns-clause-errors : goal.returns-clause-errors
-returns-clause-errors g c = c.loop_from.ensures.errors
+pub returns : goal.returns
+returns g c = record {
+  best = λ next a.
+      let starts = c.args.starts.now in
+      let found = c.in_ok-clones_of in
+      c.loop_from.ensures.best next starts (Explores-successors_of g.N.PartialEq.eq g.met.N.Eq.laws _ _ _ _ _ starts found.field-0.keys next _ found.ensures.distinct found.ensures.same a) found.ensures.same;
+  errors = c.loop_from.ensures.errors;
+}

@@ -13,41 +13,41 @@ fewest_edges_loop-requires-clause-graph g c = let r = c.requires.graph in (hops_
 pub fewest_edges_loop-requires-clause-begins : goal.fewest_edges_loop-requires-clause-begins
 fewest_edges_loop-requires-clause-begins g c = λ k l. begins_all g.N.PartialEq.eq g.met.N.Eq.laws c.args.graph.now.nodes.keys k l
 
-pub returns-in-None-clause-best : goal.returns-in-None-clause-best
-returns-in-None-clause-best g c = λ next starts x same.
-    let eq = g.N.PartialEq.eq in
-    let laws = g.met.N.Eq.laws in
-    let begins = starts_stand eq laws starts c.args.graph.now.nodes.keys same in
-    no_loop eq laws starts next x.alike _ (λ s. (begins s).1) (λ s. (begins s).0)
-    (rw c.in-None.is at (c.in_ok-fewest_edges_loop.ensures.best (hops_from starts next) x (is_hop eq starts next)))
-
 pub clones_at-requires-clause-inside : goal.clones_at-requires-clause-inside
 clones_at-requires-clause-inside g c = λ k h. subst (λ (n : ℕ). k < n) (ap length (sym c.as_slice.ensures.keys)) ((rw c.in-Some.is at c.in_ok-fewest_edges_loop.ensures.inside) k (rw c.deref.ensures.value at h))
 
-pub returns-in-Some-clause-best : goal.returns-in-Some-clause-best
-returns-in-Some-clause-best g c = λ next starts x same.
-    let eq = g.N.PartialEq.eq in
-    let laws = g.met.N.Eq.laws in
-    let begins = starts_stand eq laws starts c.args.graph.now.nodes.keys same in
-    let keys = c.fewest_edges_loop.new.graph.nodes.keys in
-    let y = c.in_ok-fewest_edges_loop.ensures.graph (hops_from starts next) x in
-    let b = rw c.in-Some.is at (c.in_ok-fewest_edges_loop.ensures.best (hops_from starts next) x (is_hop eq starts next)) in
-    in_some c.clones_at.result c.map.result c.map.ensures.cases _ _
-    (λ path n. best_loop_answer eq laws starts next x.alike _ (λ s. (begins s).1) (λ s. (begins s).0) keys (StandsFor-one eq laws keys y.distinct) c.in-Some.numbers.items path.items b
-    (rw c.as_slice.ensures.keys at (rw c.deref.ensures.value at n)))
-    c.clones_at.ensures.nodes
-
-pub returns-in-Some-clause-errors : goal.returns-in-Some-clause-errors
-returns-in-Some-clause-errors g c = error_kept c.clones_at.result c.map.result c.map.ensures.cases _ c.clones_at.ensures.refused
+pub returns-in-Some : goal.returns-in-Some
+returns-in-Some g c = record {
+  best = λ next starts x same.
+      let eq = g.N.PartialEq.eq in
+      let laws = g.met.N.Eq.laws in
+      let begins = starts_stand eq laws starts c.args.graph.now.nodes.keys same in
+      let keys = c.fewest_edges_loop.new.graph.nodes.keys in
+      let y = c.in_ok-fewest_edges_loop.ensures.graph (hops_from starts next) x in
+      let b = rw c.in-Some.is at (c.in_ok-fewest_edges_loop.ensures.best (hops_from starts next) x (is_hop eq starts next)) in
+      in_some c.clones_at.result c.map.result c.map.ensures.cases _ _
+      (λ path n. best_loop_answer eq laws starts next x.alike _ (λ s. (begins s).1) (λ s. (begins s).0) keys (StandsFor-one eq laws keys y.distinct) c.in-Some.numbers.items path.items b
+      (rw c.as_slice.ensures.keys at (rw c.deref.ensures.value at n)))
+      c.clones_at.ensures.nodes;
+  errors = error_kept c.clones_at.result c.map.result c.map.ensures.cases _ c.clones_at.ensures.refused;
+}
 
 pub clones_at-requires-clause-clones : goal.clones_at-requires-clause-clones
 clones_at-requires-clause-clones g c = c.requires.clones
 
-pub returns-in-None-clause-errors : goal.returns-in-None-clause-errors
-returns-in-None-clause-errors g c = tt
+pub returns-in-None : goal.returns-in-None
+returns-in-None g c = record {
+  best = λ next starts x same.
+      let eq = g.N.PartialEq.eq in
+      let laws = g.met.N.Eq.laws in
+      let begins = starts_stand eq laws starts c.args.graph.now.nodes.keys same in
+      no_loop eq laws starts next x.alike _ (λ s. (begins s).1) (λ s. (begins s).0)
+      (rw c.in-None.is at (c.in_ok-fewest_edges_loop.ensures.best (hops_from starts next) x (is_hop eq starts next)));
+  errors = tt;
+}
 
-pub returns-in_err-fewest_edges_loop-clause-best : goal.returns-in_err-fewest_edges_loop-clause-best
-returns-in_err-fewest_edges_loop-clause-best g c = λ _ _ _ _. IfOk-from_err _ _ c.from_residual.ensures.0
-
-pub returns-in_err-fewest_edges_loop-clause-errors : goal.returns-in_err-fewest_edges_loop-clause-errors
-returns-in_err-fewest_edges_loop-clause-errors g c = refused_as _ c.from_residual.result c.in_err-fewest_edges_loop.field-0.0 c.from_residual.ensures.1 c.in_err-fewest_edges_loop.ensures.errors
+pub returns-in_err-fewest_edges_loop : goal.returns-in_err-fewest_edges_loop
+returns-in_err-fewest_edges_loop g c = record {
+  best = λ _ _ _ _. IfOk-from_err _ _ c.from_residual.ensures.0;
+  errors = refused_as _ c.from_residual.result c.in_err-fewest_edges_loop.field-0.0 c.from_residual.ensures.1 c.in_err-fewest_edges_loop.ensures.errors;
+}

@@ -4,10 +4,10 @@ use Rattle.pf_search.specs.Internal.Breadth.{found_or}
 use Rattle.pf_search.proofs.BreadthSteps.{marked}
 use Rattle.pf_search.proofs.directed.breadth.BfsReachable.resume.Goals as goal
 
-pub returns-clause-lowered : goal.returns-clause-lowered
-returns-clause-lowered g c = ap (λ (v : BreadthWalk g.row.N.Denot g.row.F.Denot). record v { refused = false }) c.self.view_is
-
-pub returns-clause-graph : goal.returns-clause-graph
-returns-clause-graph g c = λ next start w.
-    let i = c.self.inside in
-    marked g.N.PartialEq.eq g.met.N.Eq.laws _ next start (found_or i.start i.discovery.nodes.keys) i.given i.refused false i.discovery.source.function (subst (IsBreadthWalk g.N.PartialEq.eq _ next start) (sym c.self.view_is) w)
+pub returns : goal.returns
+returns g c = record {
+  lowered = ap (λ (v : BreadthWalk g.row.N.Denot g.row.F.Denot). record v { refused = false }) c.self.view_is;
+  graph = λ next start w.
+      let i = c.self.inside in
+      marked g.N.PartialEq.eq g.met.N.Eq.laws _ next start (found_or i.start i.discovery.nodes.keys) i.given i.refused false i.discovery.source.function (subst (IsBreadthWalk g.N.PartialEq.eq _ next start) (sym c.self.view_is) w);
+}

@@ -108,33 +108,31 @@ turn-requires-clause-least g c = still_least _ _ c.in-Some.ensures.same g.C.Numb
 pub turn-requires-clause-graph : goal.turn-requires-clause-graph
 turn-requires-clause-graph g c = let r = c.requires.pair in (_, c.turns.invariant.explored_forth _ r.4)
 
-pub returns-in_err-turn-clause-sound : goal.returns-in_err-turn-clause-sound
-returns-in_err-turn-clause-sound g c = on_refused _ c.from_residual.result c.in_err-turn.field-0.0 c.from_residual.ensures.1
-
-pub returns-in_err-turn-clause-best : goal.returns-in_err-turn-clause-best
-returns-in_err-turn-clause-best g c = λ edges previous start end x y p.
-    let eq = g.N.PartialEq.eq in
-    let laws = g.met.N.Eq.laws in
-    let value = g.C.Number.value in
-    let v = c.turns.invariant in
-    let pair = (v.pair edges previous start end x y p).0 in
-    let z = c.in-Some.ensures.least in
-    let labels = c.turns.forth.labels.items in
-    let w = c.in-Some-least.ensures.least in
-    let first : c.cost_at-cost.result ≡ z.0.cost = c.cost_at-cost.ensures z.0 (still_at _ _ c.in-Some.ensures.same _ _ z.1.at) in
-    let second : c.cost_at-cost_back.result ≡ w.0.cost = c.cost_at-cost_back.ensures w.0 (still_at _ _ c.in-Some-least.ensures.same _ _ w.1.at) in
-    let nonneg : pos 0 ≤ℤ value c.cost_at-cost_back.result = subst (λ (x : g.row.C.Denot). pos 0 ≤ℤ value x) (sym second) (labelled_node eq laws value g.C.Number.fits previous end _ _ pair.back c.in-Some-least.across w.0 w.1.at).3 in (
-      if_refused _ c.from_residual.result c.in_err-turn.field-0.0 c.from_residual.ensures.1,
-      λ e.
-          let d = c.in_err-turn.ensures.overflow (ap Err (overflow_kept c.from_residual.result c.in_err-turn.field-0.0 c.from_residual.ensures.1 e)) _ (v.explored_forth _ x) in
-          past_at eq laws value g.C.Number.fits edges previous start end _ _ _ _ (bound value (value g.C.Cost.greatest) c.turns.best) pair c.in-Some.number z.0 z.1
-          (λ q f less le. undecided eq laws value g.C.Number.fits (value g.C.Cost.greatest) (λ t k. ((g.met.C.Cost.range_law t).0 k).1) c.turns.best (value c.cost_at-cost.result) (value c.cost_at-cost_back.result) nonneg c.is_best.result c.if-is_best.false (c.is_best.ensures.decided nonneg) q f less
-          (subst (λ (x : g.row.C.Denot). q ≤ℤ value x) (sym first) le))
-          (λ n st. d n st z.0 (still_at _ _ c.in-Some.ensures.same _ _ z.1.at)) (subst (λ (n : ℕ). c.in-Some.number < n) v.wide_forth (HasLabel-inside labels c.in-Some.number z.0 z.1.at)),
-    )
-
-pub returns-in_err-turn-clause-errors : goal.returns-in_err-turn-clause-errors
-returns-in_err-turn-clause-errors g c = refused_as _ c.from_residual.result c.in_err-turn.field-0.0 c.from_residual.ensures.1 c.in_err-turn.ensures.errors
+pub returns-in_err-turn : goal.returns-in_err-turn
+returns-in_err-turn g c = record {
+  sound = on_refused _ c.from_residual.result c.in_err-turn.field-0.0 c.from_residual.ensures.1;
+  best = λ edges previous start end x y p.
+      let eq = g.N.PartialEq.eq in
+      let laws = g.met.N.Eq.laws in
+      let value = g.C.Number.value in
+      let v = c.turns.invariant in
+      let pair = (v.pair edges previous start end x y p).0 in
+      let z = c.in-Some.ensures.least in
+      let labels = c.turns.forth.labels.items in
+      let w = c.in-Some-least.ensures.least in
+      let first : c.cost_at-cost.result ≡ z.0.cost = c.cost_at-cost.ensures z.0 (still_at _ _ c.in-Some.ensures.same _ _ z.1.at) in
+      let second : c.cost_at-cost_back.result ≡ w.0.cost = c.cost_at-cost_back.ensures w.0 (still_at _ _ c.in-Some-least.ensures.same _ _ w.1.at) in
+      let nonneg : pos 0 ≤ℤ value c.cost_at-cost_back.result = subst (λ (x : g.row.C.Denot). pos 0 ≤ℤ value x) (sym second) (labelled_node eq laws value g.C.Number.fits previous end _ _ pair.back c.in-Some-least.across w.0 w.1.at).3 in (
+        if_refused _ c.from_residual.result c.in_err-turn.field-0.0 c.from_residual.ensures.1,
+        λ e.
+            let d = c.in_err-turn.ensures.overflow (ap Err (overflow_kept c.from_residual.result c.in_err-turn.field-0.0 c.from_residual.ensures.1 e)) _ (v.explored_forth _ x) in
+            past_at eq laws value g.C.Number.fits edges previous start end _ _ _ _ (bound value (value g.C.Cost.greatest) c.turns.best) pair c.in-Some.number z.0 z.1
+            (λ q f less le. undecided eq laws value g.C.Number.fits (value g.C.Cost.greatest) (λ t k. ((g.met.C.Cost.range_law t).0 k).1) c.turns.best (value c.cost_at-cost.result) (value c.cost_at-cost_back.result) nonneg c.is_best.result c.if-is_best.false (c.is_best.ensures.decided nonneg) q f less
+            (subst (λ (x : g.row.C.Denot). q ≤ℤ value x) (sym first) le))
+            (λ n st. d n st z.0 (still_at _ _ c.in-Some.ensures.same _ _ z.1.at)) (subst (λ (n : ℕ). c.in-Some.number < n) v.wide_forth (HasLabel-inside labels c.in-Some.number z.0 z.1.at)),
+      );
+  errors = refused_as _ c.from_residual.result c.in_err-turn.field-0.0 c.from_residual.ensures.1 c.in_err-turn.ensures.errors;
+}
 
 pub meeting_at-found-requires-clause-inside : goal.meeting_at-found-requires-clause-inside
 meeting_at-found-requires-clause-inside g c = let z = c.in-Some.ensures.least in labelled_inside c.turns.forth.labels.items c.in-Some.number z.0 _ _ z.1.at c.turns.invariant.wide_forth c.in_ok-turn.ensures.grows.more

@@ -4,28 +4,28 @@ use Rattle.std.proofs.lemmas.Int.{ints}
 use Rattle.pf_search.proofs.BothEndsLemmas.{past_greatest}
 use Rattle.pf_search.proofs.directed.dijkstra.both_ends.is_best.Goals as goal
 
-pub returns-in_default-clause-decided : goal.returns-in_default-clause-decided
-returns-in_default-clause-decided g c = λ low. rw c.in_default.is refl
+pub returns-in_default : goal.returns-in_default
+returns-in_default g c = record {
+  decided = λ low. rw c.in_default.is refl;
+  fit = (c.known.ensures, c.known-2.ensures);
+}
 
-pub returns-in_default-clause-fit : goal.returns-in_default-clause-fit
-returns-in_default-clause-fit g c = (c.known.ensures, c.known-2.ensures)
+pub returns-in-Some-checked_add : goal.returns-in-Some-checked_add
+returns-in-Some-checked_add g c = record {
+  decided = λ low.
+      let sum = g.met.C.CheckedAdd.checked_add_law c.args.forth c.args.back (Some c.in-Some-checked_add.sum) c.in-Some-checked_add.ensures in
+      let meeting = g.C.Number.value c.in-Some.meeting.cost in
+      rw c.in-Some.is (subst (λ (n : ℤ). MatchBool c.is_at_most.result (meeting ≤ℤ n) (n <ℤ meeting)) sum.1 c.is_at_most.ensures);
+  fit = (c.known.ensures, c.known-2.ensures);
+}
 
-pub returns-in-Some-checked_add-clause-decided : goal.returns-in-Some-checked_add-clause-decided
-returns-in-Some-checked_add-clause-decided g c = λ low.
-    let sum = g.met.C.CheckedAdd.checked_add_law c.args.forth c.args.back (Some c.in-Some-checked_add.sum) c.in-Some-checked_add.ensures in
-    let meeting = g.C.Number.value c.in-Some.meeting.cost in
-    rw c.in-Some.is (subst (λ (n : ℤ). MatchBool c.is_at_most.result (meeting ≤ℤ n) (n <ℤ meeting)) sum.1 c.is_at_most.ensures)
-
-pub returns-in-Some-checked_add-clause-fit : goal.returns-in-Some-checked_add-clause-fit
-returns-in-Some-checked_add-clause-fit g c = (c.known.ensures, c.known-2.ensures)
-
-pub returns-in-None-clause-decided : goal.returns-in-None-clause-decided
-returns-in-None-clause-decided g c = λ low.
-    let value = g.C.Number.value in
-    let never = g.met.C.CheckedAdd.checked_add_law c.args.forth c.args.back None c.in-None.ensures in
-    let past = past_greatest g.C.Number.fits (value g.C.Cost.least) (value g.C.Cost.greatest) g.met.C.Cost.range_law (value c.args.forth) (value c.args.back) c.known.ensures low never in
-    let top = (g.met.C.Cost.range_law (value c.in-Some.meeting.cost)).0 c.known-3.ensures in
-    rw c.in-Some.is (omega (arith, ints, past, top.1))
-
-pub returns-in-None-clause-fit : goal.returns-in-None-clause-fit
-returns-in-None-clause-fit g c = (c.known.ensures, c.known-2.ensures)
+pub returns-in-None : goal.returns-in-None
+returns-in-None g c = record {
+  decided = λ low.
+      let value = g.C.Number.value in
+      let never = g.met.C.CheckedAdd.checked_add_law c.args.forth c.args.back None c.in-None.ensures in
+      let past = past_greatest g.C.Number.fits (value g.C.Cost.least) (value g.C.Cost.greatest) g.met.C.Cost.range_law (value c.args.forth) (value c.args.back) c.known.ensures low never in
+      let top = (g.met.C.Cost.range_law (value c.in-Some.meeting.cost)).0 c.known-3.ensures in
+      rw c.in-Some.is (omega (arith, ints, past, top.1));
+  fit = (c.known.ensures, c.known-2.ensures);
+}

@@ -15,11 +15,6 @@ returns-in_err-best_meeting-clause-best g c = λ edges previous start end x y p.
 pub returns-in_err-best_meeting-clause-errors : goal.returns-in_err-best_meeting-clause-errors
 returns-in_err-best_meeting-clause-errors g c = refused_as _ c.from_residual.result c.in_err-best_meeting.field-0.0 c.from_residual.ensures.1 c.in_err-best_meeting.ensures.errors
 
-pub returns-in-None-clause-best : goal.returns-in-None-clause-best
-returns-in-None-clause-best g c = λ edges previous start end x y p.
-    let q = (c.in_ok-best_meeting.ensures.best edges previous start end x y p).0 in
-    (no_walk_across g.N.PartialEq.eq g.met.N.Eq.laws g.C.Number.value g.C.Number.fits edges start _ _ (q.0).forth end (when_none _ _ _ c.in-None.is q.2), λ e. absurd (ok_is_no_error _ _ _ refl e))
-
 pub path_through-requires-clause-trees : goal.path_through-requires-clause-trees
 path_through-requires-clause-trees g c = (c.in_ok-best_meeting.ensures.sound.forth.tree, c.in_ok-best_meeting.ensures.sound.back.tree)
 
@@ -62,20 +57,25 @@ returns-in_err-path-in-Some-clause-best g c = λ edges previous start end x y p.
 pub returns-in_err-path-in-Some-clause-errors : goal.returns-in_err-path-in-Some-clause-errors
 returns-in_err-path-in-Some-clause-errors g c = refused_as _ c.from_residual-in_err-path-in-Some.result c.in_err-path-in-Some.field-0.0 c.from_residual-in_err-path-in-Some.ensures.1 (inl c.in_err-path-in-Some.ensures.refused)
 
-pub returns-in_ok-path-in-Some-clause-best : goal.returns-in_ok-path-in-Some-clause-best
-returns-in_ok-path-in-Some-clause-best g c = λ edges previous start end x y p.
-    let q = (c.in_ok-best_meeting.ensures.best edges previous start end x y p).0 in
-    let w = c.in_ok-path-in-Some.ensures.path in
-    (subst (λ (xs : List g.row.N.Denot). IsCheapestGoalPath g.N.PartialEq.eq edges (start ∷ []) (g.N.PartialEq.eq end) xs (g.C.Number.value c.in-Some.meeting.cost)) (sym w.7) (joined_halves g.N.PartialEq.eq g.met.N.Eq.laws g.C.Number.value g.C.Number.fits edges previous start end _ _ _ _ _ q.0 (g.C.Number.value c.in-Some.meeting.cost) w.0 w.1 w.4 (when_some _ _ _ _ c.in-Some.is q.2) w.2 w.3 w.5 w.6), λ e. absurd (ok_is_no_error _ _ _ refl e))
-
 pub path_through-requires-clause-clones : goal.path_through-requires-clause-clones
 path_through-requires-clause-clones g c = c.requires.clones
 
-pub returns-in-None-clause-errors : goal.returns-in-None-clause-errors
-returns-in-None-clause-errors g c = tt
+pub returns-in-None : goal.returns-in-None
+returns-in-None g c = record {
+  best = λ edges previous start end x y p.
+      let q = (c.in_ok-best_meeting.ensures.best edges previous start end x y p).0 in
+      (no_walk_across g.N.PartialEq.eq g.met.N.Eq.laws g.C.Number.value g.C.Number.fits edges start _ _ (q.0).forth end (when_none _ _ _ c.in-None.is q.2), λ e. absurd (ok_is_no_error _ _ _ refl e));
+  errors = tt;
+}
 
-pub returns-in_ok-path-in-Some-clause-errors : goal.returns-in_ok-path-in-Some-clause-errors
-returns-in_ok-path-in-Some-clause-errors g c = tt
+pub returns-in_ok-path-in-Some : goal.returns-in_ok-path-in-Some
+returns-in_ok-path-in-Some g c = record {
+  best = λ edges previous start end x y p.
+      let q = (c.in_ok-best_meeting.ensures.best edges previous start end x y p).0 in
+      let w = c.in_ok-path-in-Some.ensures.path in
+      (subst (λ (xs : List g.row.N.Denot). IsCheapestGoalPath g.N.PartialEq.eq edges (start ∷ []) (g.N.PartialEq.eq end) xs (g.C.Number.value c.in-Some.meeting.cost)) (sym w.7) (joined_halves g.N.PartialEq.eq g.met.N.Eq.laws g.C.Number.value g.C.Number.fits edges previous start end _ _ _ _ _ q.0 (g.C.Number.value c.in-Some.meeting.cost) w.0 w.1 w.4 (when_some _ _ _ _ c.in-Some.is q.2) w.2 w.3 w.5 w.6), λ e. absurd (ok_is_no_error _ _ _ refl e));
+  errors = tt;
+}
 
 pub best_meeting-requires-clause-sound : goal.best_meeting-requires-clause-sound
 best_meeting-requires-clause-sound g c = c.requires.sound

@@ -41,16 +41,16 @@ path_across-requires-clause-pair g c =
     let b' = c.in_ok-back.ensures in
     (r.0, r.1, r.2, r.3, x, y, ends_begun g.N.PartialEq.eq g.met.N.Eq.laws g.C.Number.value g.C.Number.fits r.0 r.1 r.2 r.3 _ _ _ _ _ first refl refl nothing x.alike y.alike x.distinct y.distinct b.first b'.first b.only b'.only b.sound.tree b'.sound.tree r.6)
 
-pub returns-clause-best : goal.returns-clause-best
-returns-clause-best g c = λ edges previous start end x y ends.
-    let first : Label g.row.C.Denot = record { cost = g.C.Zero.zero; parent = 0; depth = 0; settled = false } in
-    let nothing : g.C.Number.value g.C.Zero.zero ≡ pos 0 = g.met.C.Zero.zero_law g.met.C.Integral.exact_law in
-    let b = c.in_ok-forth.ensures in
-    let b' = c.in_ok-back.ensures in
-    c.path_across.ensures.best edges previous start end x y (ends_begun g.N.PartialEq.eq g.met.N.Eq.laws g.C.Number.value g.C.Number.fits edges previous start end _ _ _ _ _ first refl refl nothing x.alike y.alike x.distinct y.distinct b.first b'.first b.only b'.only b.sound.tree b'.sound.tree ends)
-
-pub returns-clause-errors : goal.returns-clause-errors
-returns-clause-errors g c = c.path_across.ensures.errors
+pub returns : goal.returns
+returns g c = record {
+  best = λ edges previous start end x y ends.
+      let first : Label g.row.C.Denot = record { cost = g.C.Zero.zero; parent = 0; depth = 0; settled = false } in
+      let nothing : g.C.Number.value g.C.Zero.zero ≡ pos 0 = g.met.C.Zero.zero_law g.met.C.Integral.exact_law in
+      let b = c.in_ok-forth.ensures in
+      let b' = c.in_ok-back.ensures in
+      c.path_across.ensures.best edges previous start end x y (ends_begun g.N.PartialEq.eq g.met.N.Eq.laws g.C.Number.value g.C.Number.fits edges previous start end _ _ _ _ _ first refl refl nothing x.alike y.alike x.distinct y.distinct b.first b'.first b.only b'.only b.sound.tree b'.sound.tree ends);
+  errors = c.path_across.ensures.errors;
+}
 
 pub path_across-requires-clause-clones : goal.path_across-requires-clause-clones
 path_across-requires-clause-clones g c = c.requires.clones

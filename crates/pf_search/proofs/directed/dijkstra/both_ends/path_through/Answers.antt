@@ -44,48 +44,20 @@ nodes_along-requires-clause-forth g c = λ k h.
 pub nodes_along-requires-clause-back : goal.nodes_along-requires-clause-back
 nodes_along-requires-clause-back g c = λ k h. subst (λ (n : ℕ). k < n) (ap length c.deref-3.ensures.value ∙ c.requires.wide_back) (c.in_ok-back_numbers.ensures.inside k h)
 
-pub returns-clause-path : goal.returns-clause-path
-returns-clause-path g c =
-    let eq = g.N.PartialEq.eq in
-    let value = g.C.Number.value in
-    let numbers = c.in_ok-numbers.numbers.items in
-    let place = c.in-Some.place in
-    let here = c.in-Some.meeting.here in
-    let keys = c.args.graph.now.forth.nodes.keys in
-    let others = c.args.graph.now.back.nodes.keys in
-    let labels = c.args.forth.now.labels.items in
-    let labels' = c.args.back.now.labels.items in
-    let f = c.in-Some.ensures.first in
-    let at : slice_get numbers place ≡ Some here = subst (λ (ks : List ℕ). slice_get ks place ≡ Some here) c.deref-2.ensures.value f.0 in
-    let chain : IsChain labels c.args.best.here numbers = subst (λ (ls : Labels g.row.C.Denot). IsChain ls c.args.best.here numbers) c.deref.ensures.value c.in_ok-numbers.ensures.chain in
-    let cut : AreHalves eq value keys others labels labels' (value c.args.best.cost) (take (place + 1) numbers) c.in_ok-back_numbers.back_numbers.items = record {
-      meeting = c.in-Some.meeting;
-      meets = f.1;
-      low = f.2;
-      chain = chain_front labels c.args.best.here numbers chain place here at;
-      chain_back = subst (λ (ls : Labels g.row.C.Denot). IsChain ls c.in-Some.meeting.across c.in_ok-back_numbers.back_numbers.items) c.deref-3.ensures.value c.in_ok-back_numbers.ensures.chain;
-      first = λ k h. elim (last_of_take numbers place here at k h) as (λ _. (k ≡ here) ⊎ NoneBelowAt eq value keys others labels labels' (value c.args.best.cost +ℤ pos 1) k) [
-        | inl e ↦ inl e
-        | inr r ↦ inr (f.3 k (subst (λ (ks : List ℕ). Contains (take place ks) k) (sym c.deref-2.ensures.value) r))
-      ];
-    } in
-    let halves = subst (λ (ks : List ℕ). AreHalves eq value keys others labels labels' (value c.args.best.cost) ks c.in_ok-back_numbers.back_numbers.items) (sym c.truncate.ensures.items) cut in
-    IfOk-weaker c.nodes_along.result _ _ (λ path n. (c.truncate.new.self.items, c.in_ok-back_numbers.back_numbers.items, n.0, n.1, halves, n.2, n.3, n.4)) c.nodes_along.ensures.nodes
-
 pub nodes_along-requires-clause-clones : goal.nodes_along-requires-clause-clones
 nodes_along-requires-clause-clones g c = c.requires.clones
 
-pub returns-in_err-back_numbers-clause-path : goal.returns-in_err-back_numbers-clause-path
-returns-in_err-back_numbers-clause-path g c = IfOk-from_err _ _ c.from_residual-in_err-back_numbers.ensures.0
+pub returns-in_err-back_numbers : goal.returns-in_err-back_numbers
+returns-in_err-back_numbers g c = record {
+  path = IfOk-from_err _ _ c.from_residual-in_err-back_numbers.ensures.0;
+  refused = refused_as _ c.from_residual-in_err-back_numbers.result c.in_err-back_numbers.field-0.0 c.from_residual-in_err-back_numbers.ensures.1 c.in_err-back_numbers.ensures.refused;
+}
 
-pub returns-in_err-back_numbers-clause-refused : goal.returns-in_err-back_numbers-clause-refused
-returns-in_err-back_numbers-clause-refused g c = refused_as _ c.from_residual-in_err-back_numbers.result c.in_err-back_numbers.field-0.0 c.from_residual-in_err-back_numbers.ensures.1 c.in_err-back_numbers.ensures.refused
-
-pub returns-in_err-numbers-clause-path : goal.returns-in_err-numbers-clause-path
-returns-in_err-numbers-clause-path g c = IfOk-from_err _ _ c.from_residual.ensures.0
-
-pub returns-in_err-numbers-clause-refused : goal.returns-in_err-numbers-clause-refused
-returns-in_err-numbers-clause-refused g c = refused_as _ c.from_residual.result c.in_err-numbers.field-0.0 c.from_residual.ensures.1 c.in_err-numbers.ensures.refused
+pub returns-in_err-numbers : goal.returns-in_err-numbers
+returns-in_err-numbers g c = record {
+  path = IfOk-from_err _ _ c.from_residual.ensures.0;
+  refused = refused_as _ c.from_residual.result c.in_err-numbers.field-0.0 c.from_residual.ensures.1 c.in_err-numbers.ensures.refused;
+}
 
 pub first_on-first-requires-clause-one : goal.first_on-first-requires-clause-one
 first_on-first-requires-clause-one g c = c.requires.one
@@ -99,5 +71,33 @@ path_to-requires-clause-tree g c = subst IsTree (sym c.deref.ensures.value) c.re
 pub path_to-requires-2-clause-tree : goal.path_to-requires-2-clause-tree
 path_to-requires-2-clause-tree g c = subst IsTree (sym c.deref-3.ensures.value) c.requires.trees.1
 
-pub returns-clause-refused : goal.returns-clause-refused
-returns-clause-refused g c = c.nodes_along.ensures.refused
+pub returns : goal.returns
+returns g c = record {
+  path =
+      let eq = g.N.PartialEq.eq in
+      let value = g.C.Number.value in
+      let numbers = c.in_ok-numbers.numbers.items in
+      let place = c.in-Some.place in
+      let here = c.in-Some.meeting.here in
+      let keys = c.args.graph.now.forth.nodes.keys in
+      let others = c.args.graph.now.back.nodes.keys in
+      let labels = c.args.forth.now.labels.items in
+      let labels' = c.args.back.now.labels.items in
+      let f = c.in-Some.ensures.first in
+      let at : slice_get numbers place ≡ Some here = subst (λ (ks : List ℕ). slice_get ks place ≡ Some here) c.deref-2.ensures.value f.0 in
+      let chain : IsChain labels c.args.best.here numbers = subst (λ (ls : Labels g.row.C.Denot). IsChain ls c.args.best.here numbers) c.deref.ensures.value c.in_ok-numbers.ensures.chain in
+      let cut : AreHalves eq value keys others labels labels' (value c.args.best.cost) (take (place + 1) numbers) c.in_ok-back_numbers.back_numbers.items = record {
+        meeting = c.in-Some.meeting;
+        meets = f.1;
+        low = f.2;
+        chain = chain_front labels c.args.best.here numbers chain place here at;
+        chain_back = subst (λ (ls : Labels g.row.C.Denot). IsChain ls c.in-Some.meeting.across c.in_ok-back_numbers.back_numbers.items) c.deref-3.ensures.value c.in_ok-back_numbers.ensures.chain;
+        first = λ k h. elim (last_of_take numbers place here at k h) as (λ _. (k ≡ here) ⊎ NoneBelowAt eq value keys others labels labels' (value c.args.best.cost +ℤ pos 1) k) [
+          | inl e ↦ inl e
+          | inr r ↦ inr (f.3 k (subst (λ (ks : List ℕ). Contains (take place ks) k) (sym c.deref-2.ensures.value) r))
+        ];
+      } in
+      let halves = subst (λ (ks : List ℕ). AreHalves eq value keys others labels labels' (value c.args.best.cost) ks c.in_ok-back_numbers.back_numbers.items) (sym c.truncate.ensures.items) cut in
+      IfOk-weaker c.nodes_along.result _ _ (λ path n. (c.truncate.new.self.items, c.in_ok-back_numbers.back_numbers.items, n.0, n.1, halves, n.2, n.3, n.4)) c.nodes_along.ensures.nodes;
+  refused = c.nodes_along.ensures.refused;
+}
