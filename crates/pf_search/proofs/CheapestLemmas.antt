@@ -25,7 +25,8 @@ use Rattle.pf_core.proofs.SearchLemmas.{goal_above, best, cheapest, rooted}
 use Rattle.pf_core.proofs.NodeLemmas.{eq-sym, eq-trans, StandsFor-same, HasEdge-same, InReach-same, InReach-start, edge_of_same}
 use Rattle.pf_core.proofs.WalkLemmas.{cheapest_edge, no_negative, goes_of_walk, none_less, best_answer, all_starts, only_starts}
 use Rattle.pf_search.specs.declared.directed.cheapest_first.DijkstraReachableItem.{DijkstraReachableItem}
-use Rattle.pf_search.specs.CheapestFirst.{CheapestWalk, IsCheapestWalk, IsGiven, IsNew, GivesMore, GivesNoMore, NoNewNodeBelow, IsBehind, IsNextByCost, IsNextPastRange, AllGiven, IsLeft, IsBarred, RefusedFor, CheapestTurn, CheapestStep, TurnKeepsBar, StepKeepsBar}
+use Rattle.pf_search.specs.CheapestFirst.{CheapestWalk, IsCheapestWalk, IsGiven, IsNew, GivesMore, GivesNoMore, NoNewNodeBelow, IsBehind, IsNextByCost, IsNextPastRange, AllGiven, IsLeft, IsBarred, RefusedFor, CheapestStep, StepKeepsBar}
+use Rattle.pf_search.specs.Internal.CheapestTurns.{CheapestTurn, TurnKeepsBar}
 
 module _ {N : Type 0} (eq : N → N → Bool) (laws : IsEquivalence eq) where
   -- nodes that one number stands for are the same

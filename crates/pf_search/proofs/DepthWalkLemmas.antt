@@ -29,7 +29,8 @@ use Rattle.pf_search.proofs.BreadthLemmas.{Same-sym, Same-length, Same-insert_al
 use Rattle.pf_search.proofs.BreadthSteps.{inserted_in_order, kept_places, kept_all}
 use Rattle.pf_search.specs.Internal.Breadth.{BeginsEmpty, found_or}
 use Rattle.pf_search.specs.Internal.Depth.{IsUnbegun}
-use Rattle.pf_search.specs.DepthWalks.{DepthWalk, StandsAt, IsDepthWalk, DepthGoes, DepthStep}
+use Rattle.pf_search.specs.DepthWalks.{DepthWalk, StandsAt, IsDepthWalk, DepthStep}
+use Rattle.pf_search.specs.Internal.DepthTurns.{DepthGoes}
 use Rattle.pf_search.proofs.PreorderLemmas.{end_of_push, last_node_of, last_nodes_push, HasNode-left, HasNode-right, HasNode-found, preorder_push, same_node}
 
 all_append : {A : Type 0} (P : A → Type 0) (xs ys : List A) → AllByRecursion P (xs ++ ys) → AllByRecursion P xs × AllByRecursion P ys

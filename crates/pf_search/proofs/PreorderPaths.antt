@@ -12,7 +12,7 @@ use Rattle.pf_core.specs.Nodes.{StandsFor}
 use Rattle.pf_core.specs.NodeLaws.{StandsFor-inside}
 use Rattle.pf_core.proofs.NodeLemmas.{eq-sym}
 use Rattle.pf_core.proofs.WalkLemmas.{end_same}
-use Rattle.pf_search.specs.DepthWalks.{DepthGoes}
+use Rattle.pf_search.specs.Internal.DepthTurns.{DepthGoes}
 use Rattle.pf_search.specs.Internal.Breadth.{found_or}
 use Rattle.pf_search.specs.Internal.Depth.{IsUnbegun}
 use Rattle.pf_search.proofs.BreadthLemmas.{Same-sym}

@@ -107,18 +107,7 @@ module _ {N C F : Type 0} (eq : N → N → Bool) where
     abbrev pub RefusedFor : (ℤ → Type 0) → CheapestWalk N C F → PathError → Type 0
     RefusedFor fits walk refusal = (refusal ≡ PathError.OutOfMemory) ⊎ ((refusal ≡ PathError.CostOverflow) × IsNextPastRange fits walk)
 
-    -- what a step of a walk that was not refused before gives, and how it leaves the walk: an item, no item, or a refusal, after which the given nodes, the labels and the found nodes are as before
-    abbrev pub CheapestTurn : (ℤ → Type 0) → CheapestWalk N C F → Result (Option (DijkstraReachableItem N C)) PathError → CheapestWalk N C F → Type 0
-    CheapestTurn fits walk (Ok (Some item)) after = IsNextByCost walk item × GivesMore walk item after
-    CheapestTurn fits walk (Ok None) after = AllGiven walk × (after ≡ walk)
-    CheapestTurn fits walk (Err refusal) after = RefusedFor fits walk refusal × IsLeft walk × GivesNoMore walk after × (after.labels ≡ walk.labels) × SameNodes eq after.nodes walk.nodes
-
-    -- a step that does not fit is refused again: where the walk stands before one, a step of a walk that was not refused before gives neither an item nor the end, and a step that is refused leaves the walk before it
-    abbrev pub TurnKeepsBar : (ℤ → Type 0) → CheapestWalk N C F → Result (Option (DijkstraReachableItem N C)) PathError → CheapestWalk N C F → Type 0
-    TurnKeepsBar fits walk (Ok given) after = ¬ (IsBarred fits walk)
-    TurnKeepsBar fits walk (Err refusal) after = ((refusal ≡ PathError.CostOverflow) ⊎ IsBarred fits walk) → IsBarred fits after
-
-    -- the same of a call of `next`, which gives the end also where the last step was refused
+    -- a step that does not fit is refused again: where the walk stands before one, a call of `next` gives no item, and the end only where the last step was refused; a call that is refused leaves the walk before it
     abbrev pub StepKeepsBar : (ℤ → Type 0) → CheapestWalk N C F → Option (Result (DijkstraReachableItem N C) PathError) → CheapestWalk N C F → Type 0
     StepKeepsBar fits walk (Some (Ok item)) after = ¬ (IsBarred fits walk)
     StepKeepsBar fits walk None after = IsBarred fits walk → walk.refused ≡ true

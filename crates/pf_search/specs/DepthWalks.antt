@@ -32,13 +32,6 @@ walk_code {N} {F} n f = code_by (List N × (ℕ × (List Bool × (List ℕ × (L
     (λ w. (w.found, (w.given, (w.visited, (w.path, (w.waiting, (w.refused, w.successors)))))))
     (λ p. record { found = p.0; given = p.1.0; visited = p.1.1.0; path = p.1.1.1.0; waiting = p.1.1.1.1.0; refused = p.1.1.1.1.1.0; successors = p.1.1.1.1.1.1 }) (λ _. refl)
 
-module _ {N : Type 0} (eq : N → N → Bool) (next : N → List N) (start : N) where
-  -- what a step along the preorder answers: the last node of the next tree path, nothing where the preorder has ended, or a refusal, which can come only where a node is left to give
-  abbrev pub DepthGoes : (List (List N) → Type 0) → List (List N) → {E : Type 0} → Result (Option N) E → Type 0
-  DepthGoes walks paths (Ok (Some node)) = (path : List N) × IsNextTreePath eq next start (last_nodes paths) (end_of [] paths) path × SameNodes eq (last_nodes (path ∷ [])) (node ∷ []) × walks (paths ++ path ∷ [])
-  DepthGoes walks paths (Ok None) = IsWholePreorder eq next paths × walks paths
-  DepthGoes walks paths (Err e) = ¬ (IsWholePreorder eq next paths) × walks paths
-
 module _ {N F : Type 0} (eq : N → N → Bool) (next : N → List N) (start : N) where
   -- The walk has gone along these tree paths of the preorder and no further; what was found is the start and the successors of the given nodes, each once.
   pub record StandsAt (paths : List (List N)) (s : DepthWalk N F) : Type 0 where

@@ -6,3 +6,5 @@ pub mod Partial
 pub mod BothEnds
 pub mod Hops
 pub mod Begun
+pub mod CheapestTurns
+pub mod DepthTurns

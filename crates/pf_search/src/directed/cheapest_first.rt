@@ -7,7 +7,8 @@ ghost use Rattle.pf_base.specs.Edges.{OfWeightedGraph};
 ghost use Rattle.pf_core.specs.declared.labels.Label.{Label};
 ghost use Rattle.pf_core.specs.Labels.{HasLabel, settled_count};
 ghost use Rattle.pf_core.specs.Nodes.{StandsFor};
-ghost use Rattle.pf_search.specs.CheapestFirst.{IsGiven, IsCheapestWalk, IsSomeCheapestWalk, OfCheapestWalk, IsBarred, CheapestTurn, CheapestStep, TurnKeepsBar, StepKeepsBar};
+ghost use Rattle.pf_search.specs.CheapestFirst.{IsGiven, IsCheapestWalk, IsSomeCheapestWalk, OfCheapestWalk, IsBarred, CheapestStep, StepKeepsBar};
+ghost use Rattle.pf_search.specs.Internal.CheapestTurns.{CheapestTurn, TurnKeepsBar};
 ghost use Rattle.pf_search.specs.Items.{most_items};
 
 use pf_base::{Cost, EdgeFunction, PathError};

@@ -7,7 +7,8 @@ ghost use Rattle.pf_base.specs.Answers.{IsLawfulClone};
 ghost use Rattle.pf_base.specs.Orders.{found_from, last_nodes};
 ghost use Rattle.pf_base.specs.Successors.{OfUnweightedGraph};
 ghost use Rattle.pf_core.specs.Nodes.{StandsFor};
-ghost use Rattle.pf_search.specs.DepthWalks.{DepthWalk, IsDepthWalk, IsSomeDepthWalk, OfDepthWalk, DepthStep, DepthGoes, StandsAt};
+ghost use Rattle.pf_search.specs.DepthWalks.{DepthWalk, IsDepthWalk, IsSomeDepthWalk, OfDepthWalk, DepthStep, StandsAt};
+ghost use Rattle.pf_search.specs.Internal.DepthTurns.{DepthGoes};
 ghost use Rattle.pf_search.specs.Items.{most_items};
 
 use crate::directed::breadth::put_start;
