@@ -98,3 +98,12 @@ module _ {N C F T : Type 0} (eq : N → N → Bool) (value : C → ℤ) (edges :
     PathStep walk (Some (Ok item)) after = (walk.refused ≡ false) × (after.refused ≡ false) × IsNextPath eq edges start test value walk.given item.0.items item.1 × (after.given ≡ walk.given ++ (item.0.items, item.1) ∷ [])
     PathStep walk None after = ((walk.refused ≡ true) ⊎ (AllGiven eq edges start test value walk.given × IsEnded after)) × (after.refused ≡ walk.refused) × (after.given ≡ walk.given)
     PathStep walk (Some (Err refusal)) after = (walk.refused ≡ false) × (after.refused ≡ true) × RefusedFor eq edges start test value fits walk.given refusal × (after.given ≡ walk.given) × ¬ (IsEnded walk)
+
+module _ {N C F T : Type 0} (eq : N → N → Bool) (value : C → ℤ) (fits : ℤ → Type 0) (edge_answers : F → (N → Type 0) → (N → List (N × ℤ)) → Type 0) (test_answers : T → (N → Type 0) → (N → Bool) → Type 0) (walk : PathWalk N C F T) where
+  -- the walk is one of some graph, from some start
+  abbrev pub IsSomePathWalk : Type 0
+  IsSomePathWalk = (edges : N → List (N × ℤ)) × (start : N) × (test : N → Bool) × IsPathWalk eq value edges start test fits edge_answers test_answers walk
+
+  -- of whatever graph the walk is one, and from whatever start, P holds
+  abbrev pub OfPathWalk : ((N → List (N × ℤ)) → N → (N → Bool) → Type 0) → Type 0
+  OfPathWalk P = (edges : N → List (N × ℤ)) (start : N) (test : N → Bool) → IsPathWalk eq value edges start test fits edge_answers test_answers walk → P edges start test
