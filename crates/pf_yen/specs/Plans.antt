@@ -1,5 +1,5 @@
 -- The plans that are left, of which one may be chosen.
-use Rattle.std.specs.Prelude.{◌≡◌, ◌≤ℤ◌, ◌++◌, ℕ, ℤ, Bool, true, false, List, [], ◌∷◌, length, map, Contains, Option, Some, None}
+use Rattle.std.specs.Prelude.{◌≡◌, ◌≤ℤ◌, ◌++◌, ℕ, ℤ, Bool, true, false, List, [], ◌∷◌, length, map, Contains, Option, Some, None, MatchBool}
 use Rattle.std.specs.BinaryHeap.{heap_items}
 use Rattle.std.specs.Option.{option_map}
 use Rattle.std.specs.declared.cmp.Ordering.{Ordering}
@@ -68,6 +68,10 @@ module _ {C : Type 0} (value : C → ℤ) where
   abbrev pub IsPastInChosen : KnownGraph C → (ℤ → Type 0) → Option (Plan C) → Type 0
   IsPastInChosen known fits None = ⊥
   IsPastInChosen known fits (Some c) = IsPastInClass value known fits c
+
+  -- a sum that does not fit was met while a plan was looked for: a first one, or one in place of the chosen plan
+  abbrev pub IsPastInPlans : {A : Type 0} → KnownGraph C → (ℤ → Type 0) → Plans C A → Type 0
+  IsPastInPlans known fits plans = MatchBool plans.has_begun (IsPastInChosen known fits (chosen_plan plans.chosen)) (IsPastAtFirst known fits)
 
   -- What a change of the plans keeps: they share out the clean paths with those before, and none is cheaper than before.
   pub record GoesOn (known : KnownGraph C) (plans plans' : List (Plan C)) (more : List (List ℕ)) : Type 0 where

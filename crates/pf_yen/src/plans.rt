@@ -1,10 +1,10 @@
 //! The candidates that are left, of which one is chosen.
 
-ghost use Rattle.std.specs.Prelude.{◌≡◌, ◌⊎◌, ◌<◌, List, ℕ, [], true, false, None, length, Err, OnOk, OnErr, IfErr, MatchBool};
+ghost use Rattle.std.specs.Prelude.{◌≡◌, ◌⊎◌, ◌<◌, List, ℕ, [], true, false, None, length, Err, OnOk, OnErr, IfErr};
 ghost use Rattle.std.specs.BinaryHeap.{IsHeap, heap_items};
 ghost use Rattle.pf_yen.specs.Known.{KnownGraph, IsWhole};
 ghost use Rattle.pf_yen.specs.Classes.{IsPartition};
-ghost use Rattle.pf_yen.specs.Plans.{first_cmp, waiting_plans, chosen_plan, plans_left, just_given, as_list, ArePlansKept, ComesFirst, GoesOn, IsPastAtFirst, IsPastInChosen};
+ghost use Rattle.pf_yen.specs.Plans.{first_cmp, waiting_plans, chosen_plan, plans_left, just_given, as_list, ArePlansKept, ComesFirst, GoesOn, IsPastAtFirst, IsPastInChosen, IsPastInPlans};
 
 use crate::candidate::Candidate;
 use crate::classes::{least_of_class, split};
@@ -104,7 +104,7 @@ impl<C: Cost, A: Allocator + Copy> Plans<C, A> {
         ensures begins { OnOk result (self.old.has_begun ≡ false → IsPartition C.value known.now (plans_left self.new) [] × (waiting_plans (heap_items self.new.waiting) ≡ [])) }
         ensures kept { OnErr result (ArePlansKept self.old self.new) }
         ensures due { OnErr result (self.old.has_begun ≡ true → ¬ (just_given self.old ≡ [])) }
-        ensures overflow { result ≡ Err PathError.CostOverflow → MatchBool self.old.has_begun (IsPastInChosen C.value known.now C.fits (chosen_plan self.old.chosen)) (IsPastAtFirst C.value known.now C.fits) }
+        ensures overflow { result ≡ Err PathError.CostOverflow → IsPastInPlans C.value known.now C.fits self.old }
         ensures errors { IfErr result (λ e. (e ≡ PathError.OutOfMemory) ⊎ (e ≡ PathError.CostOverflow)) }
     {
         if self.has_begun {
