@@ -1,5 +1,4 @@
-use Rattle.std.proofs.Common.{◌≡◌, ◌∙◌, refl, sym, inl, true, true≢false}
-use Rattle.pf_yen.specs.Walk.{IsBarred}
+use Rattle.std.proofs.Common.{◌∙◌, refl, sym, inl, true≢false}
 use Rattle.pf_yen.proofs.WalkLemmas.{turn_refused, turn_same}
 use Rattle.pf_yen.proofs.directed.yen.YenPaths.step.Goals as goal
 
