@@ -1,9 +1,9 @@
 -- Cheapest clean paths, and what contracts say of an iterator over all of them.
-use Rattle.std.specs.Prelude.{◌≡◌, ◌⊎◌, ◌<ℤ◌, ℤ, ℕ, pos, Bool, true, false, List, [], ◌∷◌, Option, Some, None, Result, Ok, Err, Contains, Vec, suc, if◌then◌else◌, length, map, slice_get, ⊤, refl}
+use Rattle.std.specs.Prelude.{◌≡◌, ◌⊎◌, ◌<ℤ◌, ℤ, ℕ, pos, Bool, true, false, List, [], ◌∷◌, Option, Some, None, MatchOption, Result, Ok, Err, Contains, Vec, suc, if◌then◌else◌, length, map, slice_get, ⊤, refl}
 use Rattle.std.specs.Coded.{Coded, code_by, coded×, coded_bool, coded_list}
 use Rattle.std.specs.List.{AllZip}
 use Rattle.pf_base.specs.declared.error.PathError.{PathError}
-use Rattle.pf_base.specs.Walks.{IsGoalPath}
+use Rattle.pf_base.specs.Walks.{IsGoalPath, HasNoGoalWalk}
 use Rattle.pf_base.specs.Edges.{HasEdge, InReach, IsSuccessor, WalkCosts, NoGoalWalkCostsLess}
 use Rattle.pf_base.specs.Answers.{SameNodes}
 
@@ -40,6 +40,10 @@ module _ {N : Type 0} (eq : N → N → Bool) (edges : N → List (N × ℤ)) (s
     pub sound : (path nodes : List N) → Contains paths path → SameNodes eq nodes path → IsCheapestCleanPath nodes t
     pub complete : (nodes : List N) → IsCheapestCleanPath nodes t → (path : List N) × Contains paths path × SameNodes eq nodes path
     pub once : (i j : ℕ) (path path' : List N) → slice_get paths i ≡ Some path → slice_get paths j ≡ Some path' → SameNodes eq path path' → i ≡ j
+
+  -- all cheapest clean paths, told by `listed`, and what each costs, or none exactly where no walk leads from a start to a node that passes
+  abbrev pub AreCheapestCleanPathsOrNone : {P C : Type 0} → (P → List (List N)) → (C → ℤ) → Option (P × C) → Type 0
+  AreCheapestCleanPathsOrNone listed value answer = MatchOption answer (HasNoGoalWalk eq (IsSuccessor eq edges) starts test) (λ found. AreCheapestCleanPaths (listed found.0) (value found.1))
 
 -- the lists that these vectors hold
 abbrev pub lists_in : {N Z : Type 0} → List (Vec N Z) → List (List N)

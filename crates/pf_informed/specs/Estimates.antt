@@ -36,3 +36,17 @@ module _ {N : Type 0} (eq : N → N → Bool) (edges : N → List (N × ℤ)) (s
   -- the cost of no walk from a start to a node that passes the test fits
   abbrev pub NoGoalWalkFits : (N → Bool) → (ℤ → Type 0) → Type 0
   NoGoalWalkFits test fits = (walk : List N) (u : ℤ) → IsGoalWalk eq (IsSuccessor eq edges) starts test walk → WalkCosts eq edges walk u → ¬ (fits u)
+
+  -- a cost overflow may come: the cost of some path from a start, and the estimate at its end, do not fit together, and the cost of no walk to a node that passes the test fits
+  abbrev pub MayOverflow : (N → Bool) → (N → ℤ) → (ℤ → Type 0) → Type 0
+  MayOverflow test estimate fits = IsPastRangeWithEstimate estimate fits × NoGoalWalkFits test fits
+
+-- What functions that list edges, test nodes and estimate answer from the starts on, where no edge costs less than 0 and the estimate is admissible.
+module _ {N : Type 0} (eq : N → N → Bool) (starts : List N) (answers : (N → Type 0) → (N → List (N × ℤ)) → Type 0) (tests : (N → Type 0) → (N → Bool) → Type 0) (estimates : (N → Type 0) → (N → ℤ) → Type 0) where
+  -- they answer some edges, some test and some estimate
+  abbrev pub AnswersInformedSearch : Type 0
+  AnswersInformedSearch = (edges : N → List (N × ℤ)) × (test : N → Bool) × (estimate : N → ℤ) × IsInformedSearch eq edges starts answers tests estimates test estimate
+
+  -- of whatever edges, test and estimate they answer, P holds
+  abbrev pub OfInformedSearch : ((N → List (N × ℤ)) → (N → Bool) → (N → ℤ) → Type 0) → Type 0
+  OfInformedSearch P = (edges : N → List (N × ℤ)) (test : N → Bool) (estimate : N → ℤ) → IsInformedSearch eq edges starts answers tests estimates test estimate → P edges test estimate

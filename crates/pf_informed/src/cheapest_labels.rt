@@ -1,16 +1,16 @@
 //! A search by cost and estimate that goes on until all cheapest ways have labels.
 
 ghost use Rattle.std.specs.BinaryHeap.{IsHeap, heap_items, heap_len};
-ghost use Rattle.std.specs.Prelude.{◌≡◌, ◌⊎◌, ◌<◌, ◌≤◌, ◌<ℤ◌, ◌+ℤ◌, ◌+◌, ℕ, ℤ, List, Bool, [], ◌∷◌, Some, None, Err, ⊤, true, false, IfOk, IfErr, MatchBool, MatchOption, length};
+ghost use Rattle.std.specs.Prelude.{◌≡◌, ◌⊎◌, ◌<◌, ◌≤◌, ◌<ℤ◌, ◌+ℤ◌, ◌+◌, ℕ, ℤ, Bool, [], ◌∷◌, Some, None, Err, ⊤, true, false, IfOk, IfErr, MatchBool, MatchOption, length};
 ghost use Rattle.pf_base.specs.Walks.{HasNoGoalWalk};
 ghost use Rattle.pf_base.specs.Edges.{IsSuccessor};
 ghost use Rattle.pf_core.specs.declared.labels.Label.{Label};
 ghost use Rattle.pf_core.specs.Labels.{HasLabel};
-ghost use Rattle.pf_core.specs.Nodes.{NodeGraph, StandsFor};
+ghost use Rattle.pf_core.specs.Nodes.{NodeGraph};
 ghost use Rattle.pf_core.specs.Numbered.{Grows};
-ghost use Rattle.pf_informed.specs.Estimates.{IsPastRangeWithEstimate, NoGoalWalkFits};
+ghost use Rattle.pf_informed.specs.Estimates.{MayOverflow};
 ghost use Rattle.pf_informed.specs.Internal.Labelled.{IsPastBest, IsLabelled};
-ghost use Rattle.pf_informed.specs.Internal.Led.{IsLed, IsNew};
+ghost use Rattle.pf_informed.specs.Internal.Led.{IsLed, IsNew, OfLedSearch};
 ghost use Rattle.pf_informed.specs.Internal.Waiting.{entry_cmp, IsWaiting, IsQueue, IsTaken};
 
 use crate::functions::EstimateFunction;
@@ -109,16 +109,13 @@ where
     requires graph { (g : NodeGraph N) × (test : N → Bool) × (least : N → ℤ)
         × IsLed N.eq C.value S.answers T.answers H.answers g test least graph.old estimate.old search.old.estimates.items }
     ensures wide { IfOk result (λ answer. MatchOption answer ⊤ (λ _. (length search.new.labels.items ≡ length graph.new.discovery.nodes.keys) × (0 < length search.new.labels.items))) }
-    ensures labelled { (start : N) (edges : N → List (N × ℤ)) (test : N → Bool) (least : N → ℤ) → StandsFor N.eq graph.old.discovery.nodes.keys 0 start
-        → IsLed N.eq C.value S.answers T.answers H.answers (record { starts = start ∷ []; edges = edges }) test least graph.old estimate.old search.old.estimates.items
-        → IfOk result (λ answer. MatchOption answer
+    ensures labelled { OfLedSearch N.eq C.value S.answers T.answers H.answers graph.old estimate.old search.old.estimates.items (λ start edges test least.
+        IfOk result (λ answer. MatchOption answer
         (HasNoGoalWalk N.eq (IsSuccessor N.eq edges) (start ∷ []) test)
         (λ best. IsLed N.eq C.value S.answers T.answers H.answers (record { starts = start ∷ []; edges = edges }) test least graph.new estimate.new search.new.estimates.items
-        × IsLabelled N.eq C.value edges start test graph.new.discovery.nodes.keys search.new.labels.items (C.value best))) }
-    ensures overflow { (start : N) (edges : N → List (N × ℤ)) (test : N → Bool) (least : N → ℤ) → StandsFor N.eq graph.old.discovery.nodes.keys 0 start
-        → IsLed N.eq C.value S.answers T.answers H.answers (record { starts = start ∷ []; edges = edges }) test least graph.old estimate.old search.old.estimates.items
-        → result ≡ Err PathError.CostOverflow
-        → IsPastRangeWithEstimate N.eq edges (start ∷ []) least C.fits × NoGoalWalkFits N.eq edges (start ∷ []) test C.fits }
+        × IsLabelled N.eq C.value edges start test graph.new.discovery.nodes.keys search.new.labels.items (C.value best)))) }
+    ensures overflow { OfLedSearch N.eq C.value S.answers T.answers H.answers graph.old estimate.old search.old.estimates.items (λ start edges test least.
+        result ≡ Err PathError.CostOverflow → MayOverflow N.eq edges (start ∷ []) test least C.fits) }
     ensures errors { IfErr result (λ e. (e ≡ PathError.OutOfMemory) ⊎ (e ≡ PathError.CostOverflow)) }
 {
     begin(graph, estimate, search)?;

@@ -4,7 +4,7 @@ ghost use Rattle.std.specs.Prelude.{◌≡◌, ◌≢◌, ◌<◌, ◌≤◌, �
 ghost use Rattle.pf_base.specs.Walks.{HasNode};
 ghost use Rattle.pf_core.specs.declared.depth_first.Branch.{Branch};
 ghost use Rattle.pf_core.specs.DepthFirst.{branches_at};
-ghost use Rattle.pf_informed.specs.Internal.Ways.{AreWays, AreWaysIn, IsWhole, before_in, each_of, is_in, ways_left, ways_to};
+ghost use Rattle.pf_informed.specs.Internal.Ways.{AreWays, AreWaysIn, IsWhole, before_in, is_in, ways_left, ways_to_any};
 
 use pf_base::PathError;
 use pf_core::depth_first::Branch;
@@ -59,7 +59,7 @@ impl<A: Allocator + Copy> Ways<A> {
         requires goals { (j : ℕ) → HasNode nat_eq goals.now j → j < length before.items }
         ensures before { IfOk result (λ ways. ways.before.items ≡ before.items) }
         ensures ways { IfOk result (λ ways. AreWays (length before.items) (before_in before.items) ways.way.items ways.places.items ways.waiting.items) }
-        ensures left { IfOk result (λ ways. ways_left (before_in before.items) (length before.items) ways.way.items ways.waiting.items ≡ each_of (ways_to (before_in before.items) (length before.items)) goals.now) }
+        ensures left { IfOk result (λ ways. ways_left (before_in before.items) (length before.items) ways.way.items ways.waiting.items ≡ ways_to_any before.items goals.now) }
         ensures refused { IfErr result (λ e. e ≡ PathError.OutOfMemory) }
     {
         let mut places = Vec::new(alloc);
@@ -110,7 +110,8 @@ impl<A: Allocator + Copy> Ways<A> {
         ensures before { self.new.before.items ≡ self.old.before.items }
         ensures way { self.new.way.items ≡ self.old.way.items }
         ensures places { self.new.places.items ≡ self.old.places.items }
-        ensures waiting { OnOk result ((rest : List Branch) → self.old.waiting.items ≡ rest ++ branch ∷ [] → self.new.waiting.items ≡ rest ++ branches_at (branch.depth + 1) (before_in self.old.before.items branch.number)) }
+        ensures waiting { OnOk result ((rest : List Branch) → self.old.waiting.items ≡ rest ++ branch ∷ []
+            → self.new.waiting.items ≡ rest ++ branches_at (branch.depth + 1) (before_in self.old.before.items branch.number)) }
         ensures stays { OnErr result (self.new.waiting.items ≡ self.old.waiting.items) }
         ensures refused { IfErr result (λ e. e ≡ PathError.OutOfMemory) }
     {

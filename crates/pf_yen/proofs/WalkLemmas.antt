@@ -1,6 +1,6 @@
 -- What a walk over paths keeps in each part of a step, and what it gives.
 use Rattle.std.proofs.Common.{◌≡◌, ◌∙◌, ℕ, zero, suc, ◌<◌, ◌≤◌, ◌-◌, ◌^◌, refl, sym, ap, subst, arith, inl, inr, Bool, true, false, List, [], ◌∷◌, ◌++◌, length, map, ℤ, pos, Option, Some, None, true≢false}
-use Rattle.std.specs.Prelude.{◌⊎◌, ◌↔◌, ◌+ℤ◌, Contains, Vec, Result, Ok, Err, OnOk, OnErr, IfErr, MatchBool}
+use Rattle.std.specs.Prelude.{◌⊎◌, ◌↔◌, ◌+ℤ◌, Contains, Vec, Result, Ok, Err, OnOk, OnErr, IfErr, IsErrOf, MatchBool}
 use Rattle.std.specs.Result.{IsErrAnd, IsOkAnd, is_err, result_transpose}
 use Rattle.std.specs.List.{AllZip, IsDistinct}
 use Rattle.std.specs.Cmp.{IsEquivalence}
@@ -26,7 +26,7 @@ use Rattle.pf_yen.specs.Learned.{IsLearned}
 use Rattle.pf_yen.specs.Classes.{Plan, IsCleanNumbers, IsPartition, IsPastInClass}
 use Rattle.pf_yen.specs.Plans.{as_list, last_given, NoneBelow, IsFirst, GoesOn, IsPastInChosen}
 use Rattle.pf_yen.specs.CleanPaths.{AllGiven, IsNextPath, RefusedFor}
-use Rattle.pf_yen.specs.Walk.{PathWalk, most_items, IsPathWalk, IsPlanned, IsUnderWay, IsEnded, IsBarred, PathTurn, PathStep, TurnKeepsBar, StepKeepsBar}
+use Rattle.pf_yen.specs.Walk.{PathWalk, most_items, IsPathWalk, IsPlanned, IsUnderWay, IsEnded, IsBarred, PathTurn, PathStep, StepKeepsBar}
 use Rattle.pf_yen.proofs.NarrowLemmas.{in_none}
 use Rattle.pf_yen.proofs.LearnLemmas.{learned_whole}
 use Rattle.pf_yen.proofs.SplitLemmas.{past_first}
@@ -77,30 +77,12 @@ none_listed : {X : Type 0} (o : Option X) (xs : List X) → as_list o ++ xs ≡ 
 none_listed None xs e = (refl, e)
 none_listed (Some x) xs e = cc
 
--- the call leaves the walk before a step that was refused for a cost overflow exactly where it was refused so
-pub bars_anew : {N C F T X : Type 0} (s t : PathWalk N C F T) (r : Result X PathError) → ¬ (IsBarred s) → IsBarred t ↔ (r ≡ Err PathError.CostOverflow) → TurnKeepsBar s r t
-bars_anew s t (Ok x) free over = (free, λ b. let e = over.0 b in cc)
-bars_anew s t (Err x) free over = (λ b. absurd (free b), (λ b. let e = over.0 b in cc, λ e. over.1 (ap Err e)))
-
--- a refusal that is handed on
-pub bars_refused : {N C F T X : Type 0} (s t : PathWalk N C F T) (r : Result X PathError) (x : PathError) → IsErrAnd r (λ e. e ≡ x) → (IsBarred s → x ≡ PathError.CostOverflow) → IsBarred t ↔ (x ≡ PathError.CostOverflow) → TurnKeepsBar s r t
-bars_refused s t (Ok y) x e was over = absurd e
-bars_refused s t (Err y) x e was over = (λ b. e ∙ was b, (λ b. e ∙ over.0 b, λ h. over.1 (sym e ∙ h)))
-
--- a refusal for want of memory, where the walk stands before no step that was refused for a cost overflow
-pub bars_without_memory : {N C F T X : Type 0} (s t : PathWalk N C F T) (r : Result X PathError) (x : PathError) → IsErrAnd r (λ e. e ≡ x) → x ≡ PathError.OutOfMemory → ¬ (IsBarred s) → ¬ (IsBarred t) → TurnKeepsBar s r t
-bars_without_memory s t r x e m free after = bars_refused s t r x e (λ b. absurd (free b)) (λ b. absurd (after b), λ h. cc)
-
--- what a step keeps of the bar rests on whether the walk stood before one alone
-pub bars_same : {N C F T X : Type 0} (s u t : PathWalk N C F T) (r : Result X PathError) → (IsBarred s → IsBarred u) → TurnKeepsBar u r t → TurnKeepsBar s r t
-bars_same s u t (Ok x) on q = (λ b. q.0 (on b), q.1)
-bars_same s u t (Err x) on q = (λ b. q.0 (on b), q.1)
-
--- a call of `next` is a step, which marks a refusal
-pub bars_of : {N C F T X : Type 0} (s t : PathWalk N C F T) (r : Result (Option X) PathError) → TurnKeepsBar s r t → StepKeepsBar s (result_transpose r) (record t { refused = is_err r })
-bars_of s t (Ok (Some x)) q = q
-bars_of s t (Ok None) q = (λ b. absurd (q.0 b), (λ b. absurd (q.1 b), λ b. absurd (q.0 b)))
-bars_of s t (Err x) q = q
+-- a call of `next` is a step, which notes a refusal
+pub bars_of : {N C F T X : Type 0} (s t : PathWalk N C F T) (r : Result (Option X) PathError) (noted : Bool) → (IsBarred s → IsErrOf r PathError.CostOverflow) → (noted ≡ true) ↔ IsErrOf r PathError.CostOverflow
+    → StepKeepsBar s (result_transpose r) (record t { refused = is_err r; barred = noted })
+bars_of s t (Ok (Some x)) noted was over = (λ b. let e = was b in cc, λ b. let e = over.0 b in cc)
+bars_of s t (Ok None) noted was over = (λ b. let e = was b in cc, (λ b. let e = over.0 b in cc, λ b. let e = was b in cc))
+bars_of s t (Err x) noted was over = (λ b. let e = was b in cc, (λ b. let e = over.0 b in cc, λ e. over.1 (ap Err e)))
 
 items_open : {N C F T : Type 0} (s : PathWalk N C F T) → s.refused ≡ false → most_items s ≡ suc (most_paths (2 ^ 64) - length s.given)
 items_open s h = rw h refl
@@ -133,23 +115,31 @@ module _ {N C F T : Type 0} {eq : N → N → Bool} {value : C → ℤ} {edges :
   pub marked : (b : Bool) → IsPathWalk eq value edges start test fits edge_answers test_answers (record s { refused = b })
   marked b = record { explored = w.explored; tested = w.tested; costs = w.costs; begins = w.begins; learned = w.learned; under_way = w.under_way; bar = w.bar }
 
-  -- a call of `next` is a step, which marks a refusal
-  pub step_of : {A : Type 0} (old : PathWalk N C F T) (r : Result (Option (Vec N A × C)) PathError) → old.refused ≡ false → PathTurn eq value edges start test fits old r s
-      → IsPathWalk eq value edges start test fits edge_answers test_answers (record s { refused = is_err r }) × PathStep eq value edges start test fits old (result_transpose r) (record s { refused = is_err r })
-  step_of old (Ok (Some x)) h q = (marked false, (h, refl, q.0, q.1))
-  step_of old (Ok None) h q = (marked false, (inr (q.0, q.2), sym h, q.1))
-  step_of old (Err x) h q = (marked true, (h, refl, q.0, q.1, q.2))
+  -- nor is the note of a cost overflow, where it may come before the end
+  barred_by : (b noted : Bool) → (noted ≡ true → RefusedFor eq edges start test value fits s.given PathError.CostOverflow × ¬ (IsEnded s)) → IsPathWalk eq value edges start test fits edge_answers test_answers (record s { refused = b; barred = noted })
+  barred_by b noted bar = record { explored = w.explored; tested = w.tested; costs = w.costs; begins = w.begins; learned = w.learned; under_way = w.under_way; bar = bar }
+
+  -- a call of `next` is a step, which notes a refusal
+  pub step_of : {A : Type 0} (old : PathWalk N C F T) (r : Result (Option (Vec N A × C)) PathError) (noted : Bool) → old.refused ≡ false → (noted ≡ true → IsErrOf r PathError.CostOverflow) → PathTurn eq value edges start test fits old r s
+      → IsPathWalk eq value edges start test fits edge_answers test_answers (record s { refused = is_err r; barred = noted }) × PathStep eq value edges start test fits old (result_transpose r) (record s { refused = is_err r; barred = noted })
+  step_of old (Ok (Some x)) noted h over q = (barred_by false noted (λ b. let e = over b in cc), (h, refl, q.0, q.1))
+  step_of old (Ok None) noted h over q = (barred_by false noted (λ b. let e = over b in cc), (inr (q.0, q.2), sym h, q.1))
+  step_of old (Err x) noted h over q =
+      let why : RefusedFor eq edges start test value fits s.given x = subst (λ (v : List (List N × C)). RefusedFor eq edges start test value fits v x) (sym q.1) q.0 in
+      let now = barred_by true noted (λ b. let e = over b in let f : x ≡ PathError.CostOverflow = cc in (subst (λ (y : PathError). RefusedFor eq edges start test value fits s.given y) f why, q.3)) in
+      (now, (h, refl, q.0, q.1, q.2))
 
   -- a step was refused, for this
-  pub turn_refused : {A : Type 0} (t : PathWalk N C F T) (r : Result (Option (Vec N A × C)) PathError) (refusal : PathError) → IsErrAnd r (λ e. e ≡ refusal) → RefusedFor eq edges start test value fits s.given refusal → t.given ≡ s.given → ¬ (IsEnded s) → PathTurn eq value edges start test fits s r t
-  turn_refused t (Ok x) refusal e f same more = absurd e
-  turn_refused t (Err x) refusal e f same more = (subst (λ (y : PathError). RefusedFor eq edges start test value fits s.given y) (sym e) f, same, more)
+  pub turn_refused : {A : Type 0} (t : PathWalk N C F T) (r : Result (Option (Vec N A × C)) PathError) (refusal : PathError) → IsErrAnd r (λ e. e ≡ refusal) → RefusedFor eq edges start test value fits s.given refusal → t.given ≡ s.given → ¬ (IsEnded s) → ¬ (IsEnded t)
+      → PathTurn eq value edges start test fits s r t
+  turn_refused t (Ok x) refusal e f same more still = absurd e
+  turn_refused t (Err x) refusal e f same more still = (subst (λ (y : PathError). RefusedFor eq edges start test value fits s.given y) (sym e) f, same, more, still)
 
   -- what a step gives rests on the given paths alone, and on whether the walk is at its end
   pub turn_same : {A : Type 0} (u t : PathWalk N C F T) (r : Result (Option (Vec N A × C)) PathError) → u.given ≡ s.given → (IsEnded s → IsEnded u) → PathTurn eq value edges start test fits u r t → PathTurn eq value edges start test fits s r t
   turn_same u t (Ok (Some x)) e ends q = subst (λ (v : List (List N × C)). IsNextPath eq edges start test value v x.0.items x.1 × (t.given ≡ v ++ (x.0.items, x.1) ∷ [])) e q
   turn_same u t (Ok None) e ends q = subst (λ (v : List (List N × C)). AllGiven eq edges start test value v × (t.given ≡ v) × IsEnded t) e q
-  turn_same u t (Err x) e ends q = let p = subst (λ (v : List (List N × C)). RefusedFor eq edges start test value fits v x × (t.given ≡ v)) e (q.0, q.1) in (p.0, p.1, λ h. q.2 (ends h))
+  turn_same u t (Err x) e ends q = let p = subst (λ (v : List (List N × C)). RefusedFor eq edges start test value fits v x × (t.given ≡ v)) e (q.0, q.1) in (p.0, p.1, (λ h. q.2 (ends h)), q.3)
 
   -- where the walk is at its end, the choice of a plan is not refused, and the walk stays there
   pub still_ended : {U : Type 0} (r : Result U PathError) (begun : Bool) (waiting : List (Plan C)) (chosen : Option (Plan C)) (gone : Bool) → OnOk r ((begun ≡ true) × (gone ≡ false))
@@ -163,6 +153,15 @@ module _ {N C F T : Type 0} {eq : N → N → Bool} {value : C → ℤ} {edges :
   still_ended (Err x) begun waiting chosen gone b on due e =
       let none : last_given s.is_given s.chosen ≡ [] = rw e.1 refl in
       due e.0 none
+
+  -- where the choice of a plan is refused, the walk is not at its end
+  pub still_open : {U : Type 0} (r : Result U PathError) (begun : Bool) (waiting : List (Plan C)) (chosen : Option (Plan C)) (gone : Bool) → OnErr r ((chosen ≡ s.chosen) × (waiting ≡ s.waiting) × (gone ≡ s.is_given) × (begun ≡ s.has_begun))
+      → OnErr r (s.has_begun ≡ true → ¬ (last_given s.is_given s.chosen ≡ [])) → OnErr r (¬ (IsEnded (record s { has_begun = begun; waiting = waiting; chosen = chosen; is_given = gone })))
+  still_open (Ok x) begun waiting chosen gone kept due = tt
+  still_open (Err x) begun waiting chosen gone kept due = λ z.
+      let given = sym kept.2 ∙ z.1 in
+      let none : last_given s.is_given s.chosen ≡ [] = rw given refl in
+      due (sym kept.3 ∙ z.0) none
 
   module _ (laws : IsEquivalence eq) where
     one : (i j : ℕ) (x : N) → StandsFor eq s.nodes i x → StandsFor eq s.nodes j x → i ≡ j
@@ -235,14 +234,13 @@ module _ {N C F T : Type 0} {eq : N → N → Bool} {value : C → ℤ} {edges :
                 inr (m, path_past eq laws s.nodes one edges start test w.explored.alike w.begins value s.known w.learned all fits d.0, λ _. first_past eq laws s.nodes one edges start test w.explored.alike w.begins value s.known w.learned all fits d.0 costs d.1.0 d.1.1, λ some. absurd (some (fresh_is h).0))
           ]
 
-      -- a plan was chosen, or the call was refused, and the walk notes a refusal for a cost overflow
-      pub chose : length s.known.rows < 2 ^ 64 → {U : Type 0} (r : Result U PathError) (begun : Bool) (waiting : List (Plan C)) (chosen : Option (Plan C)) (gone noted : Bool) → OnOk r ((begun ≡ true) × (gone ≡ false))
+      -- a plan was chosen, or the call was refused
+      pub chose : length s.known.rows < 2 ^ 64 → ¬ (IsBarred s) → {U : Type 0} (r : Result U PathError) (begun : Bool) (waiting : List (Plan C)) (chosen : Option (Plan C)) (gone : Bool) → OnOk r ((begun ≡ true) × (gone ≡ false))
           → OnOk r (IsFirst value s.is_given s.chosen s.waiting → s.has_begun ≡ true → IsFirst value false chosen waiting) → OnOk r (s.has_begun ≡ true → GoesOn value s.known (as_list s.chosen ++ s.waiting) (as_list chosen ++ waiting) (last_given s.is_given s.chosen))
           → OnOk r (s.has_begun ≡ false → IsPartition value s.known (as_list chosen ++ waiting) [] × (waiting ≡ [])) → OnErr r ((chosen ≡ s.chosen) × (waiting ≡ s.waiting) × (gone ≡ s.is_given) × (begun ≡ s.has_begun))
-          → OnErr r (s.has_begun ≡ true → ¬ (last_given s.is_given s.chosen ≡ [])) → IfErr r (RefusedFor eq edges start test value fits s.given) → (noted ≡ true → r ≡ Err PathError.CostOverflow)
-          → IsPathWalk eq value edges start test fits edge_answers test_answers (record s { has_begun = begun; waiting = waiting; chosen = chosen; is_given = gone; barred = noted })
-      chose few (Ok x) begun waiting chosen gone noted b first on begins kept due why over =
-          let t : PathWalk N C F T = record s { has_begun = begun; waiting = waiting; chosen = chosen; is_given = gone; barred = noted } in
+          → IsPathWalk eq value edges start test fits edge_answers test_answers (record s { has_begun = begun; waiting = waiting; chosen = chosen; is_given = gone })
+      chose few free (Ok x) begun waiting chosen gone b first on begins kept =
+          let t : PathWalk N C F T = record s { has_begun = begun; waiting = waiting; chosen = chosen; is_given = gone } in
           let now : IsPlanned eq value s.nodes s.known s.given waiting chosen false = elim (bool_dec s.has_begun) as (λ _. IsPlanned eq value s.nodes s.known s.given waiting chosen false) [
             | inl h ↦ let p = (going h).2 in went_on eq laws value s.nodes s.known s.given s.waiting waiting s.chosen chosen s.is_given p (on h) (first p.first h)
             | inr h ↦
@@ -257,19 +255,16 @@ module _ {N C F T : Type 0} {eq : N → N → Bool} {value : C → ℤ} {edges :
             begins = w.begins;
             learned = w.learned;
             under_way = subst (λ (v : Bool). IsUnderWay eq value edges start test t v) (sym b.0) (all, few, subst (λ (v : Bool). IsPlanned eq value s.nodes s.known s.given waiting chosen v) (sym b.1) now);
-            bar = λ h. let e = over h in cc;
+            bar = λ h. absurd (free h);
           }
-      chose few (Err x) begun waiting chosen gone noted b first on begins kept due why over = record {
+      chose few free (Err x) begun waiting chosen gone b first on begins kept = record {
         explored = w.explored;
         tested = w.tested;
         costs = w.costs;
         begins = w.begins;
         learned = w.learned;
         under_way = rw (kept.0, kept.1, kept.2, kept.3) w.under_way;
-        bar = λ h.
-            let e = over h in
-            let f : x ≡ PathError.CostOverflow = cc in
-            (subst (λ (y : PathError). RefusedFor eq edges start test value fits s.given y) f why, λ z. still_ended {U = ℕ} (Err x) begun waiting chosen gone b on due (sym kept.3 ∙ z.0, sym kept.2 ∙ z.1, sym kept.0 ∙ z.2, sym kept.1 ∙ z.3));
+        bar = λ h. absurd (free h);
       }
 
     -- no more paths were given than there can be

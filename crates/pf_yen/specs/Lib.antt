@@ -4,6 +4,7 @@ pub mod Classes
 pub mod CleanPaths
 pub mod Given
 pub mod Learned
+pub mod Standing
 pub mod Walk
 pub mod Plans
 pub mod KCheapest

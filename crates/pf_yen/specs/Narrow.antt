@@ -1,7 +1,9 @@
 -- A known graph of which some steps are left out.
 use Rattle.std.specs.Prelude.{◌≡◌, ℕ, ℤ, ◌<◌, Bool, not, ◌&&◌, List, Option, Some, None, length, Contains, filter, slice_get, nat_eq}
 use Rattle.std.specs.List.{list_any}
-use Rattle.pf_yen.specs.Known.{KnownGraph, row_of}
+use Rattle.pf_core.specs.Steps.{IsTooDear}
+use Rattle.pf_yen.specs.declared.narrowed.Narrowed.{Narrowed}
+use Rattle.pf_yen.specs.Known.{KnownGraph, is_goal, row_of}
 
 -- the graph; for some numbers the only one that may follow; and the spur, behind which some numbers are banned
 pub record NarrowGraph (C : Type 0) : Type 0 where
@@ -36,6 +38,14 @@ module _ {C : Type 0} where
   abbrev pub EndsInside : KnownGraph C → Type 0
   EndsInside k = (a b : ℕ) (c : C) → Contains (row_of k a) (b, c) → b < length k.rows
 
+-- the graph that is searched, with what is left of it
+abbrev pub graph_narrowed_by : {C A : Type 0} → Narrowed C A → NarrowGraph C
+graph_narrowed_by narrowed = record { known = narrowed.known.now; onward = narrowed.onward.items; spur = narrowed.spur; banned = narrowed.banned.items }
+
 -- a known number stands for itself
 abbrev pub StandsForItself : ℕ → ℕ → ℕ → Type 0
 StandsForItself n k x = (k ≡ x) × (k < n)
+
+-- a sum that does not fit was met in what is left of the graph: a cheapest path from number 0 to some number, and one step more
+abbrev pub IsPastFromStart : {C : Type 0} → (C → ℤ) → NarrowGraph C → (ℤ → Type 0) → Type 0
+IsPastFromStart value g fits = IsTooDear (NarrowStep value g) (is_goal g.known) (StandsForItself (length g.known.rows) 0) (StandsForItself (length g.known.rows)) fits

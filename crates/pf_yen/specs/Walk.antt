@@ -56,12 +56,8 @@ IsEnded walk = (walk.has_begun ≡ true) × (walk.is_given ≡ false) × (walk.c
 abbrev pub IsBarred : {N C F T : Type 0} → PathWalk N C F T → Type 0
 IsBarred walk = walk.barred ≡ true
 
--- a step that was refused for a cost overflow is refused for it again: where the walk stands before one, a step of a walk that was not refused before gives neither a path nor the end, and no other refusal; and a step leaves the walk before one exactly where that step was refused for a cost overflow
-abbrev pub TurnKeepsBar : {N C F T X : Type 0} → PathWalk N C F T → Result X PathError → PathWalk N C F T → Type 0
-TurnKeepsBar walk (Ok given) after = ¬ (IsBarred walk) × ¬ (IsBarred after)
-TurnKeepsBar walk (Err refusal) after = (IsBarred walk → refusal ≡ PathError.CostOverflow) × (IsBarred after ↔ (refusal ≡ PathError.CostOverflow))
-
--- the same of a call of `next`, which gives no path also where the last step was refused, and then leaves the walk where it stood
+-- A step that was refused for a cost overflow is refused for it again: where the walk stands before one, a call of `next` gives neither a path nor the end, and no other refusal.
+-- A call leaves the walk before such a step exactly where it gives a cost overflow. It gives no path also where the last step was refused, and then leaves the walk where it stood.
 abbrev pub StepKeepsBar : {N C F T X : Type 0} → PathWalk N C F T → Option (Result X PathError) → PathWalk N C F T → Type 0
 StepKeepsBar walk (Some (Ok item)) after = ¬ (IsBarred walk) × ¬ (IsBarred after)
 StepKeepsBar walk None after = (IsBarred walk → walk.refused ≡ true) × (IsBarred after ↔ IsBarred walk)
@@ -84,11 +80,11 @@ module _ {N C F T : Type 0} (eq : N → N → Bool) (value : C → ℤ) (edges :
     pub bar : IsBarred walk → RefusedFor eq edges start test value fits walk.given PathError.CostOverflow × ¬ (IsEnded walk)
 
   module _ {A : Type 0} (fits : ℤ → Type 0) where
-    -- what a step of a walk that was not refused before gives, and how it leaves the walk: a path; no path, at the end; or a refusal, before the end
+    -- what a step of a walk that was not refused before gives, and how it leaves the walk: a path; no path, at the end; or a refusal, before the end and after
     abbrev pub PathTurn : PathWalk N C F T → Result (Option (Vec N A × C)) PathError → PathWalk N C F T → Type 0
     PathTurn walk (Ok (Some item)) after = IsNextPath eq edges start test value walk.given item.0.items item.1 × (after.given ≡ walk.given ++ (item.0.items, item.1) ∷ [])
     PathTurn walk (Ok None) after = AllGiven eq edges start test value walk.given × (after.given ≡ walk.given) × IsEnded after
-    PathTurn walk (Err refusal) after = RefusedFor eq edges start test value fits walk.given refusal × (after.given ≡ walk.given) × ¬ (IsEnded walk)
+    PathTurn walk (Err refusal) after = RefusedFor eq edges start test value fits walk.given refusal × (after.given ≡ walk.given) × ¬ (IsEnded walk) × ¬ (IsEnded after)
 
     -- What a call of `next` gives, and how it leaves the walk.
     -- a path: the next by rising cost, which is the last of the given ones from then on
@@ -98,3 +94,12 @@ module _ {N C F T : Type 0} (eq : N → N → Bool) (value : C → ℤ) (edges :
     PathStep walk (Some (Ok item)) after = (walk.refused ≡ false) × (after.refused ≡ false) × IsNextPath eq edges start test value walk.given item.0.items item.1 × (after.given ≡ walk.given ++ (item.0.items, item.1) ∷ [])
     PathStep walk None after = ((walk.refused ≡ true) ⊎ (AllGiven eq edges start test value walk.given × IsEnded after)) × (after.refused ≡ walk.refused) × (after.given ≡ walk.given)
     PathStep walk (Some (Err refusal)) after = (walk.refused ≡ false) × (after.refused ≡ true) × RefusedFor eq edges start test value fits walk.given refusal × (after.given ≡ walk.given) × ¬ (IsEnded walk)
+
+module _ {N C F T : Type 0} (eq : N → N → Bool) (value : C → ℤ) (fits : ℤ → Type 0) (edge_answers : F → (N → Type 0) → (N → List (N × ℤ)) → Type 0) (test_answers : T → (N → Type 0) → (N → Bool) → Type 0) (walk : PathWalk N C F T) where
+  -- the walk is one of some graph, from some start
+  abbrev pub IsSomePathWalk : Type 0
+  IsSomePathWalk = (edges : N → List (N × ℤ)) × (start : N) × (test : N → Bool) × IsPathWalk eq value edges start test fits edge_answers test_answers walk
+
+  -- of whatever graph the walk is one, and from whatever start, P holds
+  abbrev pub OfPathWalk : ((N → List (N × ℤ)) → N → (N → Bool) → Type 0) → Type 0
+  OfPathWalk P = (edges : N → List (N × ℤ)) (start : N) (test : N → Bool) → IsPathWalk eq value edges start test fits edge_answers test_answers walk → P edges start test

@@ -4,10 +4,9 @@
 //! optimization problems and its application to the shortest path problem", 1972): no path is in two
 //! classes, and no class is searched twice.
 
-ghost use Rattle.std.specs.Prelude.{◌≡◌, ◌⊎◌, ◌<◌, ◌+◌, ℕ, ℤ, List, [], ◌∷◌, length, take, drop, map, Err, OnOk, IfOk, IfErr, IfSome, MatchOption};
-ghost use Rattle.pf_core.specs.Steps.{IsTooDear};
-ghost use Rattle.pf_yen.specs.Known.{IsWhole, is_goal};
-ghost use Rattle.pf_yen.specs.Narrow.{NarrowStep, StandsForItself};
+ghost use Rattle.std.specs.Prelude.{◌≡◌, ◌⊎◌, ◌<◌, ◌+◌, ℕ, ℤ, List, [], length, take, drop, map, Err, OnOk, IfOk, IfErr, IfSome, MatchOption};
+ghost use Rattle.pf_yen.specs.Known.{IsWhole};
+ghost use Rattle.pf_yen.specs.Narrow.{IsPastFromStart, graph_narrowed_by};
 ghost use Rattle.pf_yen.specs.Classes.{IsCleanNumbers, IsNarrowedTo, IsCheapestAlong, HasNoneAlong, IsCheapestOfClass, IsSplit, IsPastInClass, plan_of};
 
 use crate::candidate::Candidate;
@@ -37,8 +36,7 @@ pub fn least_of_class<C: Cost, A: Allocator + Copy>(
         → MatchOption answer (HasNoneAlong C.value narrowed.old.known.now q narrowed.old.banned.items)
         (λ c. IsCheapestAlong C.value narrowed.old.known.now q narrowed.old.banned.items c.path.items c.cost)) }
     ensures parts { IfOk result (λ answer. IfSome answer (λ c. (c.spur ≡ spur) × (c.banned.items ≡ narrowed.old.banned.items))) }
-    ensures overflow { result ≡ Err PathError.CostOverflow → IsTooDear (NarrowStep C.value (record { known = narrowed.old.known.now; onward = narrowed.old.onward.items; spur = narrowed.old.spur; banned = narrowed.old.banned.items })) (is_goal narrowed.old.known.now)
-        (StandsForItself (length narrowed.old.known.now.rows) 0) (StandsForItself (length narrowed.old.known.now.rows)) C.fits }
+    ensures overflow { result ≡ Err PathError.CostOverflow → IsPastFromStart C.value (graph_narrowed_by narrowed.old) C.fits }
     ensures errors { IfErr result (λ e. (e ≡ PathError.OutOfMemory) ⊎ (e ≡ PathError.CostOverflow)) }
 {
     let mut tally = Tally::new();

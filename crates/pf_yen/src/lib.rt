@@ -10,3 +10,4 @@ pub mod laws;
 mod learn;
 mod narrowed;
 mod plans;
+mod standing;

@@ -2,7 +2,7 @@
 
 ghost use Rattle.std.specs.Prelude.{◌≡◌, ◌<◌, ℕ, [], Some, None, length, map, replicate, slice_set, OnOk, IfOk, IfErr};
 ghost use Rattle.std.proofs.Common.{◌∙◌, sym};
-ghost use Rattle.pf_yen.specs.Narrow.{NarrowGraph, allows, NarrowStep, StandsForItself, EndsInside, narrow_row};
+ghost use Rattle.pf_yen.specs.Narrow.{NarrowGraph, allows, NarrowStep, StandsForItself, EndsInside, graph_narrowed_by, narrow_row};
 ghost use Rattle.pf_yen.specs.Known.{is_goal};
 
 use crate::known::Known;
@@ -55,7 +55,7 @@ impl<'k, C: Cost, A: Allocator> Narrowed<'k, C, A> {
     /// Is a step from one number to the other left?
     fn allows(&self, from: usize, to: usize) -> bool
         requires { from < length self.now.onward.items }
-        ensures { result ≡ allows (record { known = self.now.known.now; onward = self.now.onward.items; spur = self.now.spur; banned = self.now.banned.items }) from to }
+        ensures { result ≡ allows (graph_narrowed_by self.now) from to }
     {
         match self.onward[from] {
             Some(only) => to == only,
@@ -68,7 +68,7 @@ impl<'k, C: Cost, A: Allocator> Narrowed<'k, C, A> {
         requires inside { node < length self.now.known.now.rows }
         requires wide { length self.now.onward.items ≡ length self.now.known.now.rows }
         requires empty { R.holds row.old [] }
-        ensures listed { OnOk result (R.holds row.new (narrow_row (record { known = self.now.known.now; onward = self.now.onward.items; spur = self.now.spur; banned = self.now.banned.items }) node)) }
+        ensures listed { OnOk result (R.holds row.new (narrow_row (graph_narrowed_by self.now) node)) }
         ensures refused { IfErr result (λ e. e ≡ PathError.OutOfMemory) }
     {
         'steps: for (next, price) in self.known.row(node) {
@@ -95,7 +95,7 @@ impl<'k, C: Cost, A: Allocator> NumberedGraph<C> for Narrowed<'k, C, A> {
 
     ghost stands = { λ s. StandsForItself (length s.known.now.rows) };
 
-    ghost explores = { λ s g. (g ≡ record { known = s.known.now; onward = s.onward.items; spur = s.spur; banned = s.banned.items })
+    ghost explores = { λ s g. (g ≡ graph_narrowed_by s)
         × EndsInside s.known.now × (length s.onward.items ≡ length s.known.now.rows) };
 
     ghost can_forget = { λ s k. k ≡ length s.known.now.rows };

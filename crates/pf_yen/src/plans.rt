@@ -1,12 +1,10 @@
 //! The candidates that are left, of which one is chosen.
 
-ghost use Rattle.std.specs.Prelude.{◌≡◌, ◌⊎◌, ◌<◌, ◌++◌, List, ℕ, ℤ, [], true, false, None, length, Err, OnOk, OnErr, IfErr, MatchBool};
+ghost use Rattle.std.specs.Prelude.{◌≡◌, ◌⊎◌, ◌<◌, List, ℕ, [], true, false, None, length, Err, OnOk, OnErr, IfErr};
 ghost use Rattle.std.specs.BinaryHeap.{IsHeap, heap_items};
-ghost use Rattle.pf_core.specs.Steps.{IsTooDear};
-ghost use Rattle.pf_yen.specs.Known.{KnownGraph, IsWhole, KnownStep, is_goal};
-ghost use Rattle.pf_yen.specs.Narrow.{StandsForItself};
-ghost use Rattle.pf_yen.specs.Classes.{IsPartition, IsCheapestOfClass};
-ghost use Rattle.pf_yen.specs.Plans.{first_cmp, waiting_plans, chosen_plan, as_list, last_given, IsFirst, GoesOn, IsPastInChosen};
+ghost use Rattle.pf_yen.specs.Known.{KnownGraph, IsWhole};
+ghost use Rattle.pf_yen.specs.Classes.{IsPartition};
+ghost use Rattle.pf_yen.specs.Plans.{first_cmp, waiting_plans, chosen_plan, plans_left, just_given, as_list, ArePlansKept, ComesFirst, GoesOn, IsPastAtFirst, IsPastInChosen, IsPastInPlans};
 
 use crate::candidate::Candidate;
 use crate::classes::{least_of_class, split};
@@ -37,7 +35,7 @@ impl<C: Cost, A: Allocator + Copy> Plans<C, A> {
         ensures begun { OnOk result (self.new.has_begun ≡ true) }
         ensures partition { OnOk result (IsPartition C.value known.now (as_list (chosen_plan self.new.chosen)) []) }
         ensures kept { OnErr result ((self.new.chosen ≡ self.old.chosen) × (self.new.has_begun ≡ self.old.has_begun)) }
-        ensures overflow { result ≡ Err PathError.CostOverflow → IsTooDear (KnownStep C.value known.now) (is_goal known.now) (StandsForItself (length known.now.rows) 0) (StandsForItself (length known.now.rows)) C.fits }
+        ensures overflow { result ≡ Err PathError.CostOverflow → IsPastAtFirst C.value known.now C.fits }
         ensures errors { IfErr result (λ e. (e ≡ PathError.OutOfMemory) ⊎ (e ≡ PathError.CostOverflow)) }
     {
         let mut narrowed = Narrowed::new(alloc, known)?;
@@ -50,15 +48,15 @@ impl<C: Cost, A: Allocator + Copy> Plans<C, A> {
     fn split_given(&mut self, alloc: A, known: &Known<C, A>) -> Result<(), PathError>
         requires whole { IsWhole C.value known.now }
         requires some { 0 < length known.now.rows }
-        requires partition { (before : List (List ℕ)) × IsPartition C.value known.now (as_list (chosen_plan self.old.chosen) ++ waiting_plans (heap_items self.old.waiting)) before }
+        requires partition { (before : List (List ℕ)) × IsPartition C.value known.now (plans_left self.old) before }
         requires ordered { IsHeap (first_cmp C.cmp) (heap_items self.old.waiting) }
         ensures ordered { IsHeap (first_cmp C.cmp) (heap_items self.new.waiting) }
         ensures has_begun { self.new.has_begun ≡ self.old.has_begun }
-        ensures goes_on { OnOk result (GoesOn C.value known.now (as_list (chosen_plan self.old.chosen) ++ waiting_plans (heap_items self.old.waiting)) (as_list (chosen_plan self.new.chosen) ++ waiting_plans (heap_items self.new.waiting)) (last_given self.old.is_given (chosen_plan self.old.chosen))) }
-        ensures first { OnOk result (IsFirst C.value self.old.is_given (chosen_plan self.old.chosen) (waiting_plans (heap_items self.old.waiting)) → IsFirst C.value false (chosen_plan self.new.chosen) (waiting_plans (heap_items self.new.waiting))) }
+        ensures goes_on { OnOk result (GoesOn C.value known.now (plans_left self.old) (plans_left self.new) (just_given self.old)) }
+        ensures first { OnOk result (ComesFirst C.value self.old.is_given self.old → ComesFirst C.value false self.new) }
         ensures is_given { OnOk result (self.new.is_given ≡ false) }
         ensures kept { OnErr result ((self.new.chosen ≡ self.old.chosen) × (heap_items self.new.waiting ≡ heap_items self.old.waiting) × (self.new.is_given ≡ self.old.is_given)) }
-        ensures due { OnErr result (¬ (last_given self.old.is_given (chosen_plan self.old.chosen) ≡ [])) }
+        ensures due { OnErr result (¬ (just_given self.old ≡ [])) }
         ensures overflow { result ≡ Err PathError.CostOverflow → IsPastInChosen C.value known.now C.fits (chosen_plan self.old.chosen) }
         ensures errors { IfErr result (λ e. (e ≡ PathError.OutOfMemory) ⊎ (e ≡ PathError.CostOverflow)) }
     {
@@ -81,8 +79,8 @@ impl<C: Cost, A: Allocator + Copy> Plans<C, A> {
         ensures ordered { IsHeap (first_cmp C.cmp) (heap_items self.new.waiting) }
         ensures has_begun { self.new.has_begun ≡ self.old.has_begun }
         ensures is_given { self.new.is_given ≡ false }
-        ensures goes_on { (known : KnownGraph C) → GoesOn C.value known (as_list (chosen_plan self.old.chosen) ++ waiting_plans (heap_items self.old.waiting)) (as_list (chosen_plan self.new.chosen) ++ waiting_plans (heap_items self.new.waiting)) [] }
-        ensures first { IsFirst C.value false (chosen_plan self.old.chosen) (waiting_plans (heap_items self.old.waiting)) → IsFirst C.value false (chosen_plan self.new.chosen) (waiting_plans (heap_items self.new.waiting)) }
+        ensures goes_on { (known : KnownGraph C) → GoesOn C.value known (plans_left self.old) (plans_left self.new) [] }
+        ensures first { ComesFirst C.value false self.old → ComesFirst C.value false self.new }
         ensures none { chosen_plan self.new.chosen ≡ None → waiting_plans (heap_items self.new.waiting) ≡ [] }
     {
         if self.chosen.is_none() {
@@ -96,18 +94,17 @@ impl<C: Cost, A: Allocator + Copy> Plans<C, A> {
         requires whole { IsWhole C.value known.now }
         requires some { 0 < length known.now.rows }
         requires ordered { IsHeap (first_cmp C.cmp) (heap_items self.old.waiting) }
-        requires partition { self.old.has_begun ≡ true → (before : List (List ℕ)) × IsPartition C.value known.now (as_list (chosen_plan self.old.chosen) ++ waiting_plans (heap_items self.old.waiting)) before }
+        requires partition { self.old.has_begun ≡ true → (before : List (List ℕ)) × IsPartition C.value known.now (plans_left self.old) before }
         requires fresh { self.old.has_begun ≡ false → (heap_items self.old.waiting ≡ []) × (self.old.is_given ≡ false) }
         ensures ordered { IsHeap (first_cmp C.cmp) (heap_items self.new.waiting) }
         ensures begun { OnOk result ((self.new.has_begun ≡ true) × (self.new.is_given ≡ false)) }
         ensures none { OnOk result (chosen_plan self.new.chosen ≡ None → waiting_plans (heap_items self.new.waiting) ≡ []) }
-        ensures first { OnOk result (IsFirst C.value self.old.is_given (chosen_plan self.old.chosen) (waiting_plans (heap_items self.old.waiting)) → self.old.has_begun ≡ true → IsFirst C.value false (chosen_plan self.new.chosen) (waiting_plans (heap_items self.new.waiting))) }
-        ensures goes_on { OnOk result (self.old.has_begun ≡ true → GoesOn C.value known.now (as_list (chosen_plan self.old.chosen) ++ waiting_plans (heap_items self.old.waiting)) (as_list (chosen_plan self.new.chosen) ++ waiting_plans (heap_items self.new.waiting)) (last_given self.old.is_given (chosen_plan self.old.chosen))) }
-        ensures begins { OnOk result (self.old.has_begun ≡ false → IsPartition C.value known.now (as_list (chosen_plan self.new.chosen) ++ waiting_plans (heap_items self.new.waiting)) [] × (waiting_plans (heap_items self.new.waiting) ≡ [])) }
-        ensures kept { OnErr result ((chosen_plan self.new.chosen ≡ chosen_plan self.old.chosen) × (waiting_plans (heap_items self.new.waiting) ≡ waiting_plans (heap_items self.old.waiting)) × (self.new.is_given ≡ self.old.is_given) × (self.new.has_begun ≡ self.old.has_begun)) }
-        ensures due { OnErr result (self.old.has_begun ≡ true → ¬ (last_given self.old.is_given (chosen_plan self.old.chosen) ≡ [])) }
-        ensures overflow { result ≡ Err PathError.CostOverflow → MatchBool self.old.has_begun (IsPastInChosen C.value known.now C.fits (chosen_plan self.old.chosen))
-            (IsTooDear (KnownStep C.value known.now) (is_goal known.now) (StandsForItself (length known.now.rows) 0) (StandsForItself (length known.now.rows)) C.fits) }
+        ensures first { OnOk result (ComesFirst C.value self.old.is_given self.old → self.old.has_begun ≡ true → ComesFirst C.value false self.new) }
+        ensures goes_on { OnOk result (self.old.has_begun ≡ true → GoesOn C.value known.now (plans_left self.old) (plans_left self.new) (just_given self.old)) }
+        ensures begins { OnOk result (self.old.has_begun ≡ false → IsPartition C.value known.now (plans_left self.new) [] × (waiting_plans (heap_items self.new.waiting) ≡ [])) }
+        ensures kept { OnErr result (ArePlansKept self.old self.new) }
+        ensures due { OnErr result (self.old.has_begun ≡ true → ¬ (just_given self.old ≡ [])) }
+        ensures overflow { result ≡ Err PathError.CostOverflow → IsPastInPlans C.value known.now C.fits self.old }
         ensures errors { IfErr result (λ e. (e ≡ PathError.OutOfMemory) ⊎ (e ≡ PathError.CostOverflow)) }
     {
         if self.has_begun {

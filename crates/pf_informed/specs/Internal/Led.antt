@@ -1,5 +1,5 @@
 -- What a search led by estimates knows of its graph, and what opening a number leaves.
-use Rattle.std.specs.Prelude.{◌≡◌, ◌⊎◌, ℕ, ℤ, Bool, true, List, [], slice_get, length}
+use Rattle.std.specs.Prelude.{◌≡◌, ◌⊎◌, ℕ, ℤ, Bool, true, List, [], ◌∷◌, slice_get, length}
 use Rattle.std.specs.BinaryHeap.{IsHeap, heap_items}
 use Rattle.std.specs.declared.cmp.Ordering.{Ordering}
 use Rattle.pf_base.specs.Edges.{InReach, HasNoNegativeCost}
@@ -25,6 +25,16 @@ module _ {N C S T H Z : Type 0} (eq : N → N → Bool) (value : C → ℤ) (edg
     pub estimated : IsEstimated value least (slice_get graph.discovery.nodes.keys) kept
     pub admissible : IsAdmissible eq g.edges g.starts test least
     pub costs : HasNoNegativeCost eq g.edges g.starts
+
+  -- What is answered from the start that stands at number 0.
+  module _ (graph : Tested N S T Z) (estimate : H) (kept : List C) where
+    -- some start stands first, and some edges, test and estimate from it are answered
+    abbrev pub AnswersLedSearch : Type 0
+    AnswersLedSearch = (start : N) × (edges : N → List (N × ℤ)) × (test : N → Bool) × (least : N → ℤ) × StandsFor eq graph.discovery.nodes.keys 0 start × IsLed (record { starts = start ∷ []; edges = edges }) test least graph estimate kept
+
+    -- of whatever start stands first, and whatever edges, test and estimate from it are answered, P holds
+    abbrev pub OfLedSearch : (N → (N → List (N × ℤ)) → (N → Bool) → (N → ℤ) → Type 0) → Type 0
+    OfLedSearch P = (start : N) (edges : N → List (N × ℤ)) (test : N → Bool) (least : N → ℤ) → StandsFor eq graph.discovery.nodes.keys 0 start → IsLed (record { starts = start ∷ []; edges = edges }) test least graph estimate kept → P start edges test least
 
 -- nothing is known of the labels and the estimates, and nothing waits
 pub record IsNew {C Z : Type 0} (cmp : C → C → Ordering) (search : Search C Z) : Type 0 where

@@ -1,5 +1,5 @@
 -- Rows of steps: which of parallel steps are kept, and where the row of a number stands.
-use Rattle.std.specs.Prelude.{◌≡◌, ◌≤◌, ◌<◌, ◌≤ℤ◌, ℕ, ℤ, Bool, false, List, Option, Some, Contains, slice_get, length}
+use Rattle.std.specs.Prelude.{◌≡◌, ◌≤◌, ◌<◌, ◌≤ℤ◌, ℕ, ℤ, Bool, false, List, [], ◌∷◌, Option, Some, Contains, slice_get, length}
 use Rattle.pf_base.specs.Edges.{InReach, StepCosts}
 use Rattle.pf_core.specs.Nodes.{NodeGraph, StandsFor}
 use Rattle.pf_informed.specs.Internal.Led.{IsLed}
@@ -52,3 +52,11 @@ module _ {N C S T H Z : Type 0} where
     pub record IsKnown (g : NodeGraph N) (test : N → Bool) (least : N → ℤ) (known : Known N C S T H Z) : Type 0 where
       pub led : IsLed eq value edge_answers test_answers estimate_answers g test least known.graph known.estimate known.estimates.items
       pub rows : HasRows value (IsCheapStep eq g) test (StandsFor eq known.graph.discovery.nodes.keys) known.rows.steps.items known.rows.spans.items
+
+    -- some start stands first, and some edges, test and estimate from it are known
+    abbrev pub AnswersKnownSearch : Known N C S T H Z → Type 0
+    AnswersKnownSearch known = (start : N) × (edges : N → List (N × ℤ)) × (test : N → Bool) × (least : N → ℤ) × StandsFor eq known.graph.discovery.nodes.keys 0 start × IsKnown (record { starts = start ∷ []; edges = edges }) test least known
+
+    -- of whatever start stands first, and whatever edges, test and estimate from it are known, P holds
+    abbrev pub OfKnownSearch : Known N C S T H Z → (N → (N → List (N × ℤ)) → (N → Bool) → (N → ℤ) → Type 0) → Type 0
+    OfKnownSearch known P = (start : N) (edges : N → List (N × ℤ)) (test : N → Bool) (least : N → ℤ) → StandsFor eq known.graph.discovery.nodes.keys 0 start → IsKnown (record { starts = start ∷ []; edges = edges }) test least known → P start edges test least

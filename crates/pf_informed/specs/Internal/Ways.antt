@@ -51,6 +51,10 @@ module _ (before : ℕ → List ℕ) where
   abbrev pub tries_left : ℕ → List Branch → ℕ
   tries_left n waiting = sum_by (λ (b : Branch). tries (n - b.depth) b.number) waiting
 
+-- the ways to any of these goals, over the numbers before each number
+abbrev pub ways_to_any : {Z : Type 0} → List (Vec ℕ Z) → List ℕ → List (List ℕ)
+ways_to_any rows goals = each_of (ways_to (before_in rows) (length rows)) goals
+
 -- no branch waits
 abbrev pub nothing_waits : List Branch → Bool
 nothing_waits [] = true

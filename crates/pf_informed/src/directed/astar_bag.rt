@@ -2,13 +2,10 @@
 
 ghost use Rattle.std.specs.Prelude.{◌≡◌, ◌⊎◌, ◌≤◌, ℤ, List, Bool, [], ◌∷◌, Err, false, ⊤, IfOk, IfErr, MatchOption, length};
 ghost use Rattle.std.specs.Iterator.{MakesProgress, at_most};
-ghost use Rattle.pf_base.specs.Walks.{HasNoGoalWalk};
-ghost use Rattle.pf_base.specs.Edges.{IsSuccessor};
 ghost use Rattle.pf_base.specs.Answers.{IsLawfulClone};
-ghost use Rattle.pf_core.specs.Nodes.{StandsFor};
-ghost use Rattle.pf_informed.specs.CheapestPaths.{AreCheapestCleanPaths, IsPathsClone, PathsStep, lists_in, most_items};
-ghost use Rattle.pf_informed.specs.Estimates.{IsInformedSearch, IsPastRangeWithEstimate, NoGoalWalkFits};
-ghost use Rattle.pf_informed.specs.Internal.Led.{IsLed, IsNew};
+ghost use Rattle.pf_informed.specs.CheapestPaths.{AreCheapestCleanPathsOrNone, IsPathsClone, PathsStep, lists_in, most_items};
+ghost use Rattle.pf_informed.specs.Estimates.{AnswersInformedSearch, MayOverflow, OfInformedSearch};
+ghost use Rattle.pf_informed.specs.Internal.Led.{AnswersLedSearch, IsNew, OfLedSearch};
 ghost use Rattle.pf_informed.specs.Internal.Ways.{AreGathered, AreWaysIn, PathsTurn, paths_in};
 
 use crate::cheapest_labels::label_cheapest;
@@ -36,15 +33,15 @@ pub struct AstarSolution<N: Eq + Hash, A: Allocator = Global> {
 impl<N: Eq + Hash, A: Allocator> Model for AstarSolution<N, A> {
     ghost use Rattle.std.specs.Prelude.{◌≤◌, length};
     ghost use Rattle.pf_informed.specs.CheapestPaths.{PathsToCome, paths_to_come_code};
-    ghost use Rattle.pf_informed.specs.Internal.Ways.{AreWays, before_in, nothing_waits, paths_of, ways_left};
+    ghost use Rattle.pf_informed.specs.Internal.Ways.{AreWaysIn, nothing_waits, paths_in};
 
     ghost Value = { PathsToCome N };
 
     ghost coded = { paths_to_come_code N.code };
 
-    ghost view = { λ s. record { left = paths_of s.nodes.keys (ways_left (before_in s.ways.before.items) (length s.ways.before.items) s.ways.way.items s.ways.waiting.items); refused = s.refused; ended = nothing_waits s.ways.waiting.items } };
+    ghost view = { λ s. record { left = paths_in s.nodes.keys s.ways; refused = s.refused; ended = nothing_waits s.ways.waiting.items } };
 
-    ghost invariant = { λ s. AreWays (length s.ways.before.items) (before_in s.ways.before.items) s.ways.way.items s.ways.places.items s.ways.waiting.items × (length s.ways.before.items ≤ length s.nodes.keys) };
+    ghost invariant = { λ s. AreWaysIn s.ways × (length s.ways.before.items ≤ length s.nodes.keys) };
 }
 
 /// A clone has the paths to come that the original has, in the same order, of clones of the nodes; it
@@ -145,22 +142,16 @@ where
     A: Allocator + Copy,
     requires one { length graph.old.discovery.nodes.keys ≡ 1 }
     requires new { IsNew C.cmp search.old }
-    requires graph { (start : N) × (edges : N → List (N × ℤ)) × (test : N → Bool) × (least : N → ℤ) × StandsFor N.eq graph.old.discovery.nodes.keys 0 start
-        × IsLed N.eq C.value S.answers T.answers H.answers (record { starts = start ∷ []; edges = edges }) test least graph.old estimate.old search.old.estimates.items }
+    requires graph { AnswersLedSearch N.eq C.value S.answers T.answers H.answers graph.old estimate.old search.old.estimates.items }
 
-    ensures all { (start : N) (edges : N → List (N × ℤ)) (test : N → Bool) (least : N → ℤ) → StandsFor N.eq graph.old.discovery.nodes.keys 0 start
-        → IsLed N.eq C.value S.answers T.answers H.answers (record { starts = start ∷ []; edges = edges }) test least graph.old estimate.old search.old.estimates.items
-        → IfOk result (λ answer. MatchOption answer
-        (HasNoGoalWalk N.eq (IsSuccessor N.eq edges) (start ∷ []) test)
-        (λ found. AreCheapestCleanPaths N.eq edges (start ∷ []) test (paths_in graph.new.discovery.nodes.keys found.0) (C.value found.1))) }
+    ensures all { OfLedSearch N.eq C.value S.answers T.answers H.answers graph.old estimate.old search.old.estimates.items (λ start edges test least.
+        IfOk result (AreCheapestCleanPathsOrNone N.eq edges (start ∷ []) test (paths_in graph.new.discovery.nodes.keys) C.value)) }
 
     ensures ways { IfOk result (λ answer. MatchOption answer ⊤
         (λ found. AreWaysIn found.0 × (length found.0.before.items ≤ length graph.new.discovery.nodes.keys))) }
 
-    ensures overflow { (start : N) (edges : N → List (N × ℤ)) (test : N → Bool) (least : N → ℤ) → StandsFor N.eq graph.old.discovery.nodes.keys 0 start
-        → IsLed N.eq C.value S.answers T.answers H.answers (record { starts = start ∷ []; edges = edges }) test least graph.old estimate.old search.old.estimates.items
-        → result ≡ Err PathError.CostOverflow
-        → IsPastRangeWithEstimate N.eq edges (start ∷ []) least C.fits × NoGoalWalkFits N.eq edges (start ∷ []) test C.fits }
+    ensures overflow { OfLedSearch N.eq C.value S.answers T.answers H.answers graph.old estimate.old search.old.estimates.items (λ start edges test least.
+        result ≡ Err PathError.CostOverflow → MayOverflow N.eq edges (start ∷ []) test least C.fits) }
 
     ensures errors { IfErr result (λ e. (e ≡ PathError.OutOfMemory) ⊎ (e ≡ PathError.CostOverflow)) }
 {
@@ -186,12 +177,8 @@ where
         (λ found. AreWaysIn found.0 × (length found.0.before.items ≤ length nodes.keys))) }
 
     ensures all { (value : C → ℤ) (start : N) (edges : N → List (N × ℤ)) (test : N → Bool)
-        → IfOk found (λ answer. MatchOption answer
-        (HasNoGoalWalk N.eq (IsSuccessor N.eq edges) (start ∷ []) test)
-        (λ found. AreCheapestCleanPaths N.eq edges (start ∷ []) test (paths_in nodes.keys found.0) (value found.1)))
-        → IfOk result (λ answer. MatchOption answer
-        (HasNoGoalWalk N.eq (IsSuccessor N.eq edges) (start ∷ []) test)
-        (λ found. AreCheapestCleanPaths N.eq edges (start ∷ []) test found.0.left (value found.1))) }
+        → IfOk found (AreCheapestCleanPathsOrNone N.eq edges (start ∷ []) test (paths_in nodes.keys) value)
+        → IfOk result (AreCheapestCleanPathsOrNone N.eq edges (start ∷ []) test (λ paths. paths.left) value) }
 
     ensures ready { IfOk result (λ answer. MatchOption answer ⊤ (λ found. found.0.refused ≡ false)) }
     ensures errors { (e : PathError) → result ≡ Err e → found ≡ Err e }
@@ -259,21 +246,18 @@ where
     FS: FnMut(&N) -> bool,
     A: Allocator + Copy,
     requires clones { IsLawfulClone N.eq N.is_clone }
-    requires graph { (edges : N → List (N × ℤ)) × (test : N → Bool) × (least : N → ℤ)
-        × IsInformedSearch N.eq edges (start.now ∷ []) (⟦<FN as EdgeFunction<N, C>>⟧.answers successors) (⟦<FS as NodeTest<N>>⟧.answers success) (⟦<FH as EstimateFunction<N, C>>⟧.answers estimate) test least }
+    requires graph { AnswersInformedSearch N.eq (start.now ∷ [])
+        (⟦<FN as EdgeFunction<N, C>>⟧.answers successors) (⟦<FS as NodeTest<N>>⟧.answers success) (⟦<FH as EstimateFunction<N, C>>⟧.answers estimate) }
 
-    ensures all { (edges : N → List (N × ℤ)) (test : N → Bool) (least : N → ℤ)
-        → IsInformedSearch N.eq edges (start.now ∷ []) (⟦<FN as EdgeFunction<N, C>>⟧.answers successors) (⟦<FS as NodeTest<N>>⟧.answers success) (⟦<FH as EstimateFunction<N, C>>⟧.answers estimate) test least
-        → IfOk result (λ answer. MatchOption answer
-        (HasNoGoalWalk N.eq (IsSuccessor N.eq edges) (start.now ∷ []) test)
-        (λ found. AreCheapestCleanPaths N.eq edges (start.now ∷ []) test found.0.left (C.value found.1))) }
+    ensures all { OfInformedSearch N.eq (start.now ∷ [])
+        (⟦<FN as EdgeFunction<N, C>>⟧.answers successors) (⟦<FS as NodeTest<N>>⟧.answers success) (⟦<FH as EstimateFunction<N, C>>⟧.answers estimate) (λ edges test least.
+        IfOk result (AreCheapestCleanPathsOrNone N.eq edges (start.now ∷ []) test (λ paths. paths.left) C.value)) }
 
     ensures ready { IfOk result (λ answer. MatchOption answer ⊤ (λ found. found.0.refused ≡ false)) }
 
-    ensures overflow { (edges : N → List (N × ℤ)) (test : N → Bool) (least : N → ℤ)
-        → IsInformedSearch N.eq edges (start.now ∷ []) (⟦<FN as EdgeFunction<N, C>>⟧.answers successors) (⟦<FS as NodeTest<N>>⟧.answers success) (⟦<FH as EstimateFunction<N, C>>⟧.answers estimate) test least
-        → result ≡ Err PathError.CostOverflow
-        → IsPastRangeWithEstimate N.eq edges (start.now ∷ []) least C.fits × NoGoalWalkFits N.eq edges (start.now ∷ []) test C.fits }
+    ensures overflow { OfInformedSearch N.eq (start.now ∷ [])
+        (⟦<FN as EdgeFunction<N, C>>⟧.answers successors) (⟦<FS as NodeTest<N>>⟧.answers success) (⟦<FH as EstimateFunction<N, C>>⟧.answers estimate) (λ edges test least.
+        result ≡ Err PathError.CostOverflow → MayOverflow N.eq edges (start.now ∷ []) test least C.fits) }
 
     ensures errors { IfErr result (λ e. (e ≡ PathError.OutOfMemory) ⊎ (e ≡ PathError.CostOverflow)) }
 {
@@ -331,19 +315,16 @@ where
     FS: FnMut(&N) -> bool,
     A: Allocator + Copy,
     requires clones { IsLawfulClone N.eq N.is_clone }
-    requires graph { (edges : N → List (N × ℤ)) × (test : N → Bool) × (least : N → ℤ)
-        × IsInformedSearch N.eq edges (start.now ∷ []) (⟦<FN as EdgeFunction<N, C>>⟧.answers successors) (⟦<FS as NodeTest<N>>⟧.answers success) (⟦<FH as EstimateFunction<N, C>>⟧.answers estimate) test least }
+    requires graph { AnswersInformedSearch N.eq (start.now ∷ [])
+        (⟦<FN as EdgeFunction<N, C>>⟧.answers successors) (⟦<FS as NodeTest<N>>⟧.answers success) (⟦<FH as EstimateFunction<N, C>>⟧.answers estimate) }
 
-    ensures all { (edges : N → List (N × ℤ)) (test : N → Bool) (least : N → ℤ)
-        → IsInformedSearch N.eq edges (start.now ∷ []) (⟦<FN as EdgeFunction<N, C>>⟧.answers successors) (⟦<FS as NodeTest<N>>⟧.answers success) (⟦<FH as EstimateFunction<N, C>>⟧.answers estimate) test least
-        → IfOk result (λ answer. MatchOption answer
-        (HasNoGoalWalk N.eq (IsSuccessor N.eq edges) (start.now ∷ []) test)
-        (λ found. AreCheapestCleanPaths N.eq edges (start.now ∷ []) test (lists_in found.0.items) (C.value found.1))) }
+    ensures all { OfInformedSearch N.eq (start.now ∷ [])
+        (⟦<FN as EdgeFunction<N, C>>⟧.answers successors) (⟦<FS as NodeTest<N>>⟧.answers success) (⟦<FH as EstimateFunction<N, C>>⟧.answers estimate) (λ edges test least.
+        IfOk result (AreCheapestCleanPathsOrNone N.eq edges (start.now ∷ []) test (λ paths. lists_in paths.items) C.value)) }
 
-    ensures overflow { (edges : N → List (N × ℤ)) (test : N → Bool) (least : N → ℤ)
-        → IsInformedSearch N.eq edges (start.now ∷ []) (⟦<FN as EdgeFunction<N, C>>⟧.answers successors) (⟦<FS as NodeTest<N>>⟧.answers success) (⟦<FH as EstimateFunction<N, C>>⟧.answers estimate) test least
-        → result ≡ Err PathError.CostOverflow
-        → IsPastRangeWithEstimate N.eq edges (start.now ∷ []) least C.fits × NoGoalWalkFits N.eq edges (start.now ∷ []) test C.fits }
+    ensures overflow { OfInformedSearch N.eq (start.now ∷ [])
+        (⟦<FN as EdgeFunction<N, C>>⟧.answers successors) (⟦<FS as NodeTest<N>>⟧.answers success) (⟦<FH as EstimateFunction<N, C>>⟧.answers estimate) (λ edges test least.
+        result ≡ Err PathError.CostOverflow → MayOverflow N.eq edges (start.now ∷ []) test least C.fits) }
 
     ensures errors { IfErr result (λ e. (e ≡ PathError.OutOfMemory) ⊎ (e ≡ PathError.CostOverflow)) }
 {

@@ -1,13 +1,12 @@
 //! Cheapest paths, in rounds of growing limits on the cost and the estimate of what remains.
 
-ghost use Rattle.std.specs.Prelude.{◌≡◌, ◌⊎◌, ℤ, List, Bool, [], ◌∷◌, Err, IfOk, IfErr, MatchOption, length};
-ghost use Rattle.pf_base.specs.Walks.{HasNoGoalWalk};
-ghost use Rattle.pf_base.specs.Edges.{IsSuccessor, IsCheapestGoalPath};
+ghost use Rattle.std.specs.Prelude.{◌≡◌, ◌⊎◌, ℤ, Bool, [], ◌∷◌, Err, IfOk, IfErr, length};
+ghost use Rattle.pf_base.specs.Edges.{IsCheapestOrNone};
 ghost use Rattle.pf_base.specs.Answers.{IsLawfulClone};
-ghost use Rattle.pf_core.specs.Nodes.{NodeGraph, StandsFor};
-ghost use Rattle.pf_informed.specs.Estimates.{IsInformedSearch, IsPastRangeWithEstimate, NoGoalWalkFits};
+ghost use Rattle.pf_core.specs.Nodes.{NodeGraph};
+ghost use Rattle.pf_informed.specs.Estimates.{AnswersInformedSearch, MayOverflow, OfInformedSearch};
 ghost use Rattle.pf_informed.specs.Internal.Fringe.{listed};
-ghost use Rattle.pf_informed.specs.Internal.Led.{IsLed, IsNew};
+ghost use Rattle.pf_informed.specs.Internal.Led.{IsLed, IsNew, OfLedSearch};
 
 use crate::fringe_lists::FringeLists;
 use crate::functions::EstimateFunction;
@@ -43,16 +42,11 @@ where
     requires graph { (g : NodeGraph N) × (test : N → Bool) × (least : N → ℤ)
         × IsLed N.eq C.value S.answers T.answers H.answers g test least graph.old estimate.old search.old.estimates.items }
 
-    ensures best { (start : N) (edges : N → List (N × ℤ)) (test : N → Bool) (least : N → ℤ) → StandsFor N.eq graph.old.discovery.nodes.keys 0 start
-        → IsLed N.eq C.value S.answers T.answers H.answers (record { starts = start ∷ []; edges = edges }) test least graph.old estimate.old search.old.estimates.items
-        → IfOk result (λ answer. MatchOption answer
-        (HasNoGoalWalk N.eq (IsSuccessor N.eq edges) (start ∷ []) test)
-        (λ found. IsCheapestGoalPath N.eq edges (start ∷ []) test found.0.items (C.value found.1))) }
+    ensures best { OfLedSearch N.eq C.value S.answers T.answers H.answers graph.old estimate.old search.old.estimates.items (λ start edges test least.
+        IfOk result (IsCheapestOrNone N.eq edges (start ∷ []) test C.value)) }
 
-    ensures overflow { (start : N) (edges : N → List (N × ℤ)) (test : N → Bool) (least : N → ℤ) → StandsFor N.eq graph.old.discovery.nodes.keys 0 start
-        → IsLed N.eq C.value S.answers T.answers H.answers (record { starts = start ∷ []; edges = edges }) test least graph.old estimate.old search.old.estimates.items
-        → result ≡ Err PathError.CostOverflow
-        → IsPastRangeWithEstimate N.eq edges (start ∷ []) least C.fits × NoGoalWalkFits N.eq edges (start ∷ []) test C.fits }
+    ensures overflow { OfLedSearch N.eq C.value S.answers T.answers H.answers graph.old estimate.old search.old.estimates.items (λ start edges test least.
+        result ≡ Err PathError.CostOverflow → MayOverflow N.eq edges (start ∷ []) test least C.fits) }
 
     ensures errors { IfErr result (λ e. (e ≡ PathError.OutOfMemory) ⊎ (e ≡ PathError.CostOverflow)) }
 {
@@ -117,19 +111,16 @@ where
     FS: FnMut(&N) -> bool,
     A: Allocator + Copy,
     requires clones { IsLawfulClone N.eq N.is_clone }
-    requires graph { (edges : N → List (N × ℤ)) × (test : N → Bool) × (least : N → ℤ)
-        × IsInformedSearch N.eq edges (start.now ∷ []) (⟦<FN as EdgeFunction<N, C>>⟧.answers successors) (⟦<FS as NodeTest<N>>⟧.answers success) (⟦<FH as EstimateFunction<N, C>>⟧.answers estimate) test least }
+    requires graph { AnswersInformedSearch N.eq (start.now ∷ [])
+        (⟦<FN as EdgeFunction<N, C>>⟧.answers successors) (⟦<FS as NodeTest<N>>⟧.answers success) (⟦<FH as EstimateFunction<N, C>>⟧.answers estimate) }
 
-    ensures best { (edges : N → List (N × ℤ)) (test : N → Bool) (least : N → ℤ)
-        → IsInformedSearch N.eq edges (start.now ∷ []) (⟦<FN as EdgeFunction<N, C>>⟧.answers successors) (⟦<FS as NodeTest<N>>⟧.answers success) (⟦<FH as EstimateFunction<N, C>>⟧.answers estimate) test least
-        → IfOk result (λ answer. MatchOption answer
-        (HasNoGoalWalk N.eq (IsSuccessor N.eq edges) (start.now ∷ []) test)
-        (λ found. IsCheapestGoalPath N.eq edges (start.now ∷ []) test found.0.items (C.value found.1))) }
+    ensures best { OfInformedSearch N.eq (start.now ∷ [])
+        (⟦<FN as EdgeFunction<N, C>>⟧.answers successors) (⟦<FS as NodeTest<N>>⟧.answers success) (⟦<FH as EstimateFunction<N, C>>⟧.answers estimate) (λ edges test least.
+        IfOk result (IsCheapestOrNone N.eq edges (start.now ∷ []) test C.value)) }
 
-    ensures overflow { (edges : N → List (N × ℤ)) (test : N → Bool) (least : N → ℤ)
-        → IsInformedSearch N.eq edges (start.now ∷ []) (⟦<FN as EdgeFunction<N, C>>⟧.answers successors) (⟦<FS as NodeTest<N>>⟧.answers success) (⟦<FH as EstimateFunction<N, C>>⟧.answers estimate) test least
-        → result ≡ Err PathError.CostOverflow
-        → IsPastRangeWithEstimate N.eq edges (start.now ∷ []) least C.fits × NoGoalWalkFits N.eq edges (start.now ∷ []) test C.fits }
+    ensures overflow { OfInformedSearch N.eq (start.now ∷ [])
+        (⟦<FN as EdgeFunction<N, C>>⟧.answers successors) (⟦<FS as NodeTest<N>>⟧.answers success) (⟦<FH as EstimateFunction<N, C>>⟧.answers estimate) (λ edges test least.
+        result ≡ Err PathError.CostOverflow → MayOverflow N.eq edges (start.now ∷ []) test least C.fits) }
 
     ensures errors { IfErr result (λ e. (e ≡ PathError.OutOfMemory) ⊎ (e ≡ PathError.CostOverflow)) }
 {

@@ -1,12 +1,10 @@
 //! Cheapest paths by limits on cost and estimate that grow.
 
-ghost use Rattle.std.specs.Prelude.{◌≡◌, ◌⊎◌, ℤ, List, Bool, [], ◌∷◌, Err, IfOk, IfErr, MatchOption};
-ghost use Rattle.pf_base.specs.Walks.{HasNoGoalWalk};
-ghost use Rattle.pf_base.specs.Edges.{IsSuccessor, IsCheapestGoalPath};
+ghost use Rattle.std.specs.Prelude.{◌≡◌, ◌⊎◌, [], ◌∷◌, Err, IfOk, IfErr};
+ghost use Rattle.pf_base.specs.Edges.{IsCheapestOrNone};
 ghost use Rattle.pf_base.specs.Answers.{IsLawfulClone};
-ghost use Rattle.pf_core.specs.Nodes.{StandsFor};
-ghost use Rattle.pf_informed.specs.Estimates.{IsInformedSearch, IsPastRangeWithEstimate, NoGoalWalkFits};
-ghost use Rattle.pf_informed.specs.Internal.Rows.{found_in, IsTabled, IsKnown};
+ghost use Rattle.pf_informed.specs.Estimates.{AnswersInformedSearch, MayOverflow, OfInformedSearch};
+ghost use Rattle.pf_informed.specs.Internal.Rows.{AnswersKnownSearch, found_in, IsTabled, OfKnownSearch};
 
 use crate::directed::idastar::known::Known;
 use crate::directed::idastar::round::{Round, look_through};
@@ -44,19 +42,13 @@ where
     requires one { found_in known.old ≡ 1 }
     requires unasked { known.old.estimates.items ≡ [] }
     requires table { IsTabled known.old }
-    requires graph { (start : N) × (edges : N → List (N × ℤ)) × (test : N → Bool) × (least : N → ℤ) × StandsFor N.eq known.old.graph.discovery.nodes.keys 0 start
-        × IsKnown N.eq C.value S.answers T.answers H.answers (record { starts = start ∷ []; edges = edges }) test least known.old }
+    requires graph { AnswersKnownSearch N.eq C.value S.answers T.answers H.answers known.old }
 
-    ensures best { (start : N) (edges : N → List (N × ℤ)) (test : N → Bool) (least : N → ℤ) → StandsFor N.eq known.old.graph.discovery.nodes.keys 0 start
-        → IsKnown N.eq C.value S.answers T.answers H.answers (record { starts = start ∷ []; edges = edges }) test least known.old
-        → IfOk result (λ answer. MatchOption answer
-        (HasNoGoalWalk N.eq (IsSuccessor N.eq edges) (start ∷ []) test)
-        (λ found. IsCheapestGoalPath N.eq edges (start ∷ []) test found.0.items (C.value found.1))) }
+    ensures best { OfKnownSearch N.eq C.value S.answers T.answers H.answers known.old (λ start edges test least.
+        IfOk result (IsCheapestOrNone N.eq edges (start ∷ []) test C.value)) }
 
-    ensures overflow { (start : N) (edges : N → List (N × ℤ)) (test : N → Bool) (least : N → ℤ) → StandsFor N.eq known.old.graph.discovery.nodes.keys 0 start
-        → IsKnown N.eq C.value S.answers T.answers H.answers (record { starts = start ∷ []; edges = edges }) test least known.old
-        → result ≡ Err PathError.CostOverflow
-        → IsPastRangeWithEstimate N.eq edges (start ∷ []) least C.fits × NoGoalWalkFits N.eq edges (start ∷ []) test C.fits }
+    ensures overflow { OfKnownSearch N.eq C.value S.answers T.answers H.answers known.old (λ start edges test least.
+        result ≡ Err PathError.CostOverflow → MayOverflow N.eq edges (start ∷ []) test least C.fits) }
 
     ensures errors { IfErr result (λ e. (e ≡ PathError.OutOfMemory) ⊎ (e ≡ PathError.CostOverflow)) }
 {
@@ -126,19 +118,16 @@ where
     FS: FnMut(&N) -> bool,
     A: Allocator + Copy,
     requires clones { IsLawfulClone N.eq N.is_clone }
-    requires graph { (edges : N → List (N × ℤ)) × (test : N → Bool) × (least : N → ℤ)
-        × IsInformedSearch N.eq edges (start.now ∷ []) (⟦<FN as EdgeFunction<N, C>>⟧.answers successors) (⟦<FS as NodeTest<N>>⟧.answers success) (⟦<FH as EstimateFunction<N, C>>⟧.answers estimate) test least }
+    requires graph { AnswersInformedSearch N.eq (start.now ∷ [])
+        (⟦<FN as EdgeFunction<N, C>>⟧.answers successors) (⟦<FS as NodeTest<N>>⟧.answers success) (⟦<FH as EstimateFunction<N, C>>⟧.answers estimate) }
 
-    ensures best { (edges : N → List (N × ℤ)) (test : N → Bool) (least : N → ℤ)
-        → IsInformedSearch N.eq edges (start.now ∷ []) (⟦<FN as EdgeFunction<N, C>>⟧.answers successors) (⟦<FS as NodeTest<N>>⟧.answers success) (⟦<FH as EstimateFunction<N, C>>⟧.answers estimate) test least
-        → IfOk result (λ answer. MatchOption answer
-        (HasNoGoalWalk N.eq (IsSuccessor N.eq edges) (start.now ∷ []) test)
-        (λ found. IsCheapestGoalPath N.eq edges (start.now ∷ []) test found.0.items (C.value found.1))) }
+    ensures best { OfInformedSearch N.eq (start.now ∷ [])
+        (⟦<FN as EdgeFunction<N, C>>⟧.answers successors) (⟦<FS as NodeTest<N>>⟧.answers success) (⟦<FH as EstimateFunction<N, C>>⟧.answers estimate) (λ edges test least.
+        IfOk result (IsCheapestOrNone N.eq edges (start.now ∷ []) test C.value)) }
 
-    ensures overflow { (edges : N → List (N × ℤ)) (test : N → Bool) (least : N → ℤ)
-        → IsInformedSearch N.eq edges (start.now ∷ []) (⟦<FN as EdgeFunction<N, C>>⟧.answers successors) (⟦<FS as NodeTest<N>>⟧.answers success) (⟦<FH as EstimateFunction<N, C>>⟧.answers estimate) test least
-        → result ≡ Err PathError.CostOverflow
-        → IsPastRangeWithEstimate N.eq edges (start.now ∷ []) least C.fits × NoGoalWalkFits N.eq edges (start.now ∷ []) test C.fits }
+    ensures overflow { OfInformedSearch N.eq (start.now ∷ [])
+        (⟦<FN as EdgeFunction<N, C>>⟧.answers successors) (⟦<FS as NodeTest<N>>⟧.answers success) (⟦<FH as EstimateFunction<N, C>>⟧.answers estimate) (λ edges test least.
+        result ≡ Err PathError.CostOverflow → MayOverflow N.eq edges (start.now ∷ []) test least C.fits) }
 
     ensures errors { IfErr result (λ e. (e ≡ PathError.OutOfMemory) ⊎ (e ≡ PathError.CostOverflow)) }
 {

@@ -1,17 +1,18 @@
 //! The cheapest paths to goals, one after the other (Yen 1971, Lawler 1972).
 
-ghost use Rattle.std.specs.Prelude.{◌≡◌, ◌≤◌, ◌<◌, ◌^◌, ◌↔◌, List, ℤ, Bool, true, false, None, [], ◌∷◌, length, Err, OnOk, OnErr, IfOk, IfErr, IsOkAnd};
+ghost use Rattle.std.specs.Prelude.{◌≡◌, ◌≤◌, ◌<◌, ◌^◌, true, false, None, [], ◌∷◌, length, OnOk, OnErr, IfOk, IfErr, IsErrOf, IsOkAnd};
 ghost use Rattle.std.specs.Iterator.{MakesProgress, at_most};
 ghost use Rattle.pf_base.specs.Answers.{IsLawfulClone};
-ghost use Rattle.pf_base.specs.Edges.{IsWeightedSearch};
+ghost use Rattle.pf_base.specs.Edges.{OfWeightedSearch};
 ghost use Rattle.pf_yen.specs.CleanPaths.{RefusedFor};
-ghost use Rattle.pf_yen.specs.Walk.{IsPathWalk, most_items, IsEnded, IsBarred, PathTurn, PathStep, TurnKeepsBar, StepKeepsBar};
+ghost use Rattle.pf_yen.specs.Walk.{IsPathWalk, IsSomePathWalk, OfPathWalk, most_items, IsEnded, IsBarred, PathTurn, PathStep, StepKeepsBar};
 
 pub use crate::directed::k_cheapest::yen;
 use crate::given::Given;
 use crate::known::Known;
 use crate::learn::learn;
 use crate::plans::Plans;
+use crate::standing::Standing;
 use pf_base::{Cost, EdgeFunction, NodeTest, PathError};
 use pf_core::discovery::{Discovery, clone_of};
 use pf_core::source::Weighted;
@@ -20,13 +21,6 @@ use std::alloc::{Allocator, Global};
 use std::collections::BinaryHeap;
 use std::hash::Hash;
 use std::marker::Model;
-
-/// Whether the call was refused for a cost overflow.
-fn is_overflow(call: &Result<(), PathError>) -> bool
-    ensures { (result ≡ true) ↔ (call.now ≡ Err PathError.CostOverflow) }
-{
-    matches!(call, Err(PathError::CostOverflow))
-}
 
 /// The clean paths by rising cost, each as a `Result`: made by `yen_paths`. A step that was refused
 /// with `CostOverflow` is refused with it again after each `resume`.
@@ -38,15 +32,14 @@ pub struct YenPaths<N: Eq + Hash + Drop, C: Cost, F, T, A: Allocator = Global> {
     known: Known<C, A>,
     plans: Plans<C, A>,
     given: Given<N, C, A>,
-    refused: bool,
-    /// Whether the step to come was refused for a cost overflow.
-    barred: bool,
+    standing: Standing,
     alloc: A,
 }
 
 impl<N: Eq + Hash + Drop, C: Cost, F, T, A: Allocator> Model for YenPaths<N, C, F, T, A> {
     ghost use Rattle.std.specs.BinaryHeap.{IsHeap, heap_items};
     ghost use Rattle.pf_yen.specs.Plans.{first_cmp, waiting_plans, chosen_plan};
+    ghost use Rattle.pf_yen.specs.Standing.{is_barred, was_refused};
     ghost use Rattle.pf_yen.specs.Walk.{PathWalk, path_walk_code};
 
     ghost Value = { PathWalk N C F T };
@@ -55,8 +48,8 @@ impl<N: Eq + Hash + Drop, C: Cost, F, T, A: Allocator> Model for YenPaths<N, C, 
 
     ghost view = { λ s. record {
       given = s.given;
-      refused = s.refused;
-      barred = s.barred;
+      refused = was_refused s.standing;
+      barred = is_barred s.standing;
       successors = s.graph.discovery.source.function;
       success = s.graph.success;
       nodes = s.graph.discovery.nodes.keys;
@@ -82,14 +75,10 @@ where
 
     ghost remaining = { λ s. at_most (most_items s) };
 
-    ghost can_next = { λ s. IsLawfulClone N.eq N.is_clone × ((edges : N → List (N × ℤ)) × (start : N) × (test : N → Bool)
-        × IsPathWalk N.eq C.value edges start test C.fits F.answers T.answers s) };
+    ghost can_next = { λ s. IsLawfulClone N.eq N.is_clone × IsSomePathWalk N.eq C.value C.fits F.answers T.answers s };
 
-    ghost next_gives = { λ s r t. (edges : N → List (N × ℤ)) (start : N) (test : N → Bool)
-        → IsPathWalk N.eq C.value edges start test C.fits F.answers T.answers s
-        → IsPathWalk N.eq C.value edges start test C.fits F.answers T.answers t
-        × PathStep N.eq C.value edges start test C.fits s r t
-        × StepKeepsBar s r t };
+    ghost next_gives = { λ s r t. OfPathWalk N.eq C.value C.fits F.answers T.answers s (λ edges start test.
+        IsPathWalk N.eq C.value edges start test C.fits F.answers T.answers t × PathStep N.eq C.value edges start test C.fits s r t × StepKeepsBar s r t) };
 
     fn next(&mut self) -> Option<Result<(Vec<N, A>, C), PathError>>
         requires { ⟦<YenPaths<N, C, F, T, A> as Iterator>⟧.can_next self.old }
@@ -97,11 +86,11 @@ where
         ensures goes { MakesProgress ⟦<YenPaths<N, C, F, T, A> as Iterator>⟧.can_next ⟦<YenPaths<N, C, F, T, A> as Iterator>⟧.remaining self.old result self.new }
         ensures again { ⟦<YenPaths<N, C, F, T, A> as Iterator>⟧.can_next self.new }
     {
-        if self.refused {
+        if self.standing.was_refused() {
             return None;
         }
         let step = self.step();
-        self.refused = step.is_err();
+        self.standing = Standing::after(&step);
         step.transpose()
     }
 }
@@ -119,24 +108,21 @@ where
     /// `CostOverflow` is refused with it again.
     pub fn resume(&mut self)
         ensures lowered { self.new ≡ record self.old { refused = false } }
-        ensures graph { (edges : N → List (N × ℤ)) (start : N) (test : N → Bool)
-            → IsPathWalk N.eq C.value edges start test C.fits F.answers T.answers self.old
-            → IsPathWalk N.eq C.value edges start test C.fits F.answers T.answers self.new }
+        ensures graph { OfPathWalk N.eq C.value C.fits F.answers T.answers self.old (λ edges start test.
+            IsPathWalk N.eq C.value edges start test C.fits F.answers T.answers self.new) }
     {
-        self.refused = false;
+        self.standing = self.standing.resumed();
     }
 
     /// Learns of the graph, unless a path was looked for before.
     fn learn_graph(&mut self) -> Result<(), PathError>
-        requires walk { (edges : N → List (N × ℤ)) × (start : N) × (test : N → Bool)
-            × IsPathWalk N.eq C.value edges start test C.fits F.answers T.answers self.old }
-        ensures walk { (edges : N → List (N × ℤ)) (start : N) (test : N → Bool)
-            → IsPathWalk N.eq C.value edges start test C.fits F.answers T.answers self.old
-            → IsPathWalk N.eq C.value edges start test C.fits F.answers T.answers self.new }
-        ensures known { (edges : N → List (N × ℤ)) (start : N) (test : N → Bool)
-            → IsPathWalk N.eq C.value edges start test C.fits F.answers T.answers self.old
-            → OnOk result ((length self.new.nodes ≤ length self.new.known.rows) × (length self.new.known.rows < 2 ^ 64)) }
+        requires walk { IsSomePathWalk N.eq C.value C.fits F.answers T.answers self.old }
+        ensures walk { OfPathWalk N.eq C.value C.fits F.answers T.answers self.old (λ edges start test.
+            IsPathWalk N.eq C.value edges start test C.fits F.answers T.answers self.new) }
+        ensures known { OfPathWalk N.eq C.value C.fits F.answers T.answers self.old (λ edges start test.
+            OnOk result ((length self.new.nodes ≤ length self.new.known.rows) × (length self.new.known.rows < 2 ^ 64))) }
         ensures ended { IsEnded self.old → IsOkAnd result (λ _. IsEnded self.new) }
+        ensures open { OnErr result (¬ (IsEnded self.new)) }
         ensures given { self.new.given ≡ self.old.given }
         ensures same { self.new.refused ≡ self.old.refused }
         ensures bar { self.new.barred ≡ self.old.barred }
@@ -148,41 +134,35 @@ where
         learn(self.alloc, &mut self.graph, &mut self.known)
     }
 
-    /// Chooses the plan whose path is to be given next, if there is one. Where that is refused for a
-    /// cost overflow, the walk notes it.
+    /// Chooses the plan whose path is to be given next, if there is one.
     fn choose(&mut self) -> Result<(), PathError>
-        requires walk { (edges : N → List (N × ℤ)) × (start : N) × (test : N → Bool)
-            × IsPathWalk N.eq C.value edges start test C.fits F.answers T.answers self.old }
+        requires walk { IsSomePathWalk N.eq C.value C.fits F.answers T.answers self.old }
         requires known { (length self.old.nodes ≤ length self.old.known.rows) × (length self.old.known.rows < 2 ^ 64) }
         requires free { ¬ (IsBarred self.old) }
-        ensures walk { (edges : N → List (N × ℤ)) (start : N) (test : N → Bool)
-            → IsPathWalk N.eq C.value edges start test C.fits F.answers T.answers self.old
-            → IsPathWalk N.eq C.value edges start test C.fits F.answers T.answers self.new × IfErr result (RefusedFor N.eq edges start test C.value C.fits self.old.given) }
+        ensures walk { OfPathWalk N.eq C.value C.fits F.answers T.answers self.old (λ edges start test.
+            IsPathWalk N.eq C.value edges start test C.fits F.answers T.answers self.new × IfErr result (RefusedFor N.eq edges start test C.value C.fits self.old.given)) }
         ensures given { self.new.given ≡ self.old.given }
         ensures same { self.new.refused ≡ self.old.refused }
+        ensures bar { self.new.barred ≡ self.old.barred }
         ensures begun { OnOk result ((self.new.has_begun ≡ true) × (self.new.is_given ≡ false)) }
         ensures none { OnOk result (self.new.chosen ≡ None → self.new.waiting ≡ []) }
         ensures ended { IsEnded self.old → IsOkAnd result (λ _. IsEnded self.new) }
-        ensures bars { TurnKeepsBar self.old result self.new }
+        ensures open { OnErr result (¬ (IsEnded self.new)) }
     {
-        let chosen = self.plans.choose(self.alloc, &self.known);
-        self.barred = is_overflow(&chosen);
-        chosen
+        self.plans.choose(self.alloc, &self.known)
     }
 
     /// Gives the path of the chosen plan, or `None` where there is none.
     fn give(&mut self) -> Result<Option<(Vec<N, A>, C)>, PathError>
         requires clones { IsLawfulClone N.eq N.is_clone }
-        requires walk { (edges : N → List (N × ℤ)) × (start : N) × (test : N → Bool)
-            × IsPathWalk N.eq C.value edges start test C.fits F.answers T.answers self.old }
+        requires walk { IsSomePathWalk N.eq C.value C.fits F.answers T.answers self.old }
         requires ready { (self.old.has_begun ≡ true) × (self.old.is_given ≡ false) }
         requires none { self.old.chosen ≡ None → self.old.waiting ≡ [] }
         requires free { ¬ (IsBarred self.old) }
-        ensures steps { (edges : N → List (N × ℤ)) (start : N) (test : N → Bool)
-            → IsPathWalk N.eq C.value edges start test C.fits F.answers T.answers self.old
-            → IsPathWalk N.eq C.value edges start test C.fits F.answers T.answers self.new × PathTurn N.eq C.value edges start test C.fits self.old result self.new }
-        ensures bars { TurnKeepsBar self.old result self.new }
+        ensures steps { OfPathWalk N.eq C.value C.fits F.answers T.answers self.old (λ edges start test.
+            IsPathWalk N.eq C.value edges start test C.fits F.answers T.answers self.new × PathTurn N.eq C.value edges start test C.fits self.old result self.new) }
         ensures same { self.new.refused ≡ self.old.refused }
+        ensures bar { self.new.barred ≡ self.old.barred }
     {
         let Some(chosen) = &self.plans.chosen else {
             return Ok(None);
@@ -197,15 +177,14 @@ where
     /// The next path, or `None` where each was given. Where the step is refused, no plan is lost.
     pub(crate) fn step(&mut self) -> Result<Option<(Vec<N, A>, C)>, PathError>
         requires clones { IsLawfulClone N.eq N.is_clone }
-        requires walk { (edges : N → List (N × ℤ)) × (start : N) × (test : N → Bool)
-            × IsPathWalk N.eq C.value edges start test C.fits F.answers T.answers self.old }
-        ensures steps { (edges : N → List (N × ℤ)) (start : N) (test : N → Bool)
-            → IsPathWalk N.eq C.value edges start test C.fits F.answers T.answers self.old
-            → IsPathWalk N.eq C.value edges start test C.fits F.answers T.answers self.new × PathTurn N.eq C.value edges start test C.fits self.old result self.new }
-        ensures bars { TurnKeepsBar self.old result self.new }
+        requires walk { IsSomePathWalk N.eq C.value C.fits F.answers T.answers self.old }
+        ensures steps { OfPathWalk N.eq C.value C.fits F.answers T.answers self.old (λ edges start test.
+            IsPathWalk N.eq C.value edges start test C.fits F.answers T.answers self.new × PathTurn N.eq C.value edges start test C.fits self.old result self.new) }
+        ensures bars { IsBarred self.old → IsErrOf result PathError.CostOverflow }
         ensures same { self.new.refused ≡ self.old.refused }
+        ensures bar { self.new.barred ≡ self.old.barred }
     {
-        if self.barred {
+        if self.standing.is_barred() {
             // The same search would come to the same sum.
             return Err(PathError::CostOverflow);
         }
@@ -262,9 +241,8 @@ where
     A: Allocator + Copy,
     requires clones { IsLawfulClone N.eq N.is_clone }
     ensures begins { IfOk result (λ walk. (walk.given ≡ []) × (walk.refused ≡ false) × ¬ (IsBarred walk) × (walk.successors ≡ successors) × (walk.success ≡ success)) }
-    ensures graph { IfOk result (λ walk. (edges : N → List (N × ℤ)) (test : N → Bool)
-        → IsWeightedSearch N.eq edges (start.now ∷ []) (⟦<FN as EdgeFunction<N, C>>⟧.answers successors) (⟦<FS as NodeTest<N>>⟧.answers success) test
-        → IsPathWalk N.eq C.value edges start.now test C.fits ⟦<FN as EdgeFunction<N, C>>⟧.answers ⟦<FS as NodeTest<N>>⟧.answers walk) }
+    ensures graph { IfOk result (λ walk. OfWeightedSearch N.eq (start.now ∷ []) (⟦<FN as EdgeFunction<N, C>>⟧.answers successors) (⟦<FS as NodeTest<N>>⟧.answers success) (λ edges test.
+        IsPathWalk N.eq C.value edges start.now test C.fits ⟦<FN as EdgeFunction<N, C>>⟧.answers ⟦<FS as NodeTest<N>>⟧.answers walk)) }
     ensures refused { IfErr result (λ e. e ≡ PathError.OutOfMemory) }
 {
     let discovery = Discovery {
@@ -283,8 +261,7 @@ where
             has_begun: false,
         },
         given: Given::nothing(),
-        refused: false,
-        barred: false,
+        standing: Standing::GoesOn,
         alloc,
     })
 }

@@ -5,38 +5,25 @@ use Rattle.pf_core.proofs.ListLemmas.{at_place}
 use Rattle.pf_informed.proofs.LabelledLemmas.{past_all}
 use Rattle.pf_informed.proofs.cheapest_labels.take_within.Goals as goal
 
-pub returns-then-is_past-clause-taken : goal.returns-then-is_past-clause-taken
-returns-then-is_past-clause-taken g c =
-    let t = c.in-Some.ensures.taken in
-    let p = c.if-is_past.ensures in
-    let estimates = c.args.estimates.now.items in
-    let inside : c.in-Some.taken.number < length estimates = slice_get_within estimates c.in-Some.taken.number _ t.estimated in
-    let at : slice_get estimates c.in-Some.taken.number ≡ Some c.index.result.now = at_place _ _ _ _ inside (sym c.index.ensures) in
-    past_all g.C.Number.value c.args.labels.now.items estimates (heap_items c.args.queue.now) (heap_items c.take_least.new.queue) c.in-Some.taken.number c.in-Some.taken.cost t c.in-Some.ensures.queue c.args.best p.0 p.1 c.index.result.now at p.2
-
 pub take_least-requires : goal.take_least-requires
 take_least-requires g c = record {
   ordered = c.requires.ordered;
   queue = c.requires.queue;
 }
 
-pub returns-in_default-clause-ordered : goal.returns-in_default-clause-ordered
-returns-in_default-clause-ordered g c = c.in_default.ensures.ordered
-
-pub returns-in_default-clause-queue : goal.returns-in_default-clause-queue
-returns-in_default-clause-queue g c = c.in_default.ensures.queue
-
-pub returns-in_default-clause-fewer : goal.returns-in_default-clause-fewer
-returns-in_default-clause-fewer g c = c.in_default.ensures.fewer
-
-pub returns-then-is_past-clause-ordered : goal.returns-then-is_past-clause-ordered
-returns-then-is_past-clause-ordered g c = c.in-Some.ensures.ordered
-
-pub returns-then-is_past-clause-queue : goal.returns-then-is_past-clause-queue
-returns-then-is_past-clause-queue g c = c.in-Some.ensures.queue
-
-pub returns-then-is_past-clause-fewer : goal.returns-then-is_past-clause-fewer
-returns-then-is_past-clause-fewer g c = omega (arith, c.in-Some.ensures.fewer)
+pub returns-then-is_past : goal.returns-then-is_past
+returns-then-is_past g c = record {
+  taken =
+      let t = c.in-Some.ensures.taken in
+      let p = c.if-is_past.ensures in
+      let estimates = c.args.estimates.now.items in
+      let inside : c.in-Some.taken.number < length estimates = slice_get_within estimates c.in-Some.taken.number _ t.estimated in
+      let at : slice_get estimates c.in-Some.taken.number ≡ Some c.index.result.now = at_place _ _ _ _ inside (sym c.index.ensures) in
+      past_all g.C.Number.value c.args.labels.now.items estimates (heap_items c.args.queue.now) (heap_items c.take_least.new.queue) c.in-Some.taken.number c.in-Some.taken.cost t c.in-Some.ensures.queue c.args.best p.0 p.1 c.index.result.now at p.2;
+  ordered = c.in-Some.ensures.ordered;
+  queue = c.in-Some.ensures.queue;
+  fewer = omega (arith, c.in-Some.ensures.fewer);
+}
 
 pub returns : goal.returns
 returns g c = record {
@@ -46,8 +33,13 @@ returns g c = record {
   fewer = c.in-Some.ensures.fewer;
 }
 
-pub returns-in_default-clause-taken : goal.returns-in_default-clause-taken
-returns-in_default-clause-taken g c = λ k l h w. absurd (c.in_default.ensures.taken k l h w)
+pub returns-in_default : goal.returns-in_default
+returns-in_default g c = record {
+  ordered = c.in_default.ensures.ordered;
+  queue = c.in_default.ensures.queue;
+  fewer = c.in_default.ensures.fewer;
+  taken = λ k l h w. absurd (c.in_default.ensures.taken k l h w);
+}
 
 pub index-requires : goal.index-requires
 index-requires g c =

@@ -6,18 +6,6 @@ use Rattle.pf_informed.proofs.fringe_lists.take_last.Goals as goal
 pub is_lower-requires : goal.is_lower-requires
 is_lower-requires g c = c.requires.labelled c.in-Some.entry (c.entries.invariant.within c.in-Some.entry (last_in _ _ c.in-Some.entry c.in-Some.ensures.items))
 
-pub returns-then-not-is_lower-clause-taken : goal.returns-then-not-is_lower-clause-taken
-returns-then-not-is_lower-clause-taken g c =
-    let i = c.entries.invariant in
-    let e = c.in-Some.entry in
-    let is = c.in-Some.ensures.items in
-    record {
-      here = i.within e (last_in _ _ e is);
-      newest = c.if-not-is_lower.ensures;
-      rest = λ f h. i.within f (rest_in _ _ e is f h);
-      left = StillWait-last g.C.Number.value c.args.labels.now.items _ _ _ e is i.waits;
-    }
-
 pub entries-preserved : goal.entries-preserved
 entries-preserved g c =
     let i = c.entries.invariant in
@@ -35,13 +23,25 @@ entries-init g c = record { within = λ e h. h; waits = λ k l h w. w; fewer = o
 pub entries-smaller : goal.entries-smaller
 entries-smaller g c = omega (arith, c.in-Some.ensures.len)
 
-pub returns-then-not-is_lower-clause-fewer : goal.returns-then-not-is_lower-clause-fewer
-returns-then-not-is_lower-clause-fewer g c = omega (arith, c.entries.invariant.fewer, c.in-Some.ensures.len)
+pub returns-then-not-is_lower : goal.returns-then-not-is_lower
+returns-then-not-is_lower g c = record {
+  taken =
+      let i = c.entries.invariant in
+      let e = c.in-Some.entry in
+      let is = c.in-Some.ensures.items in
+      record {
+        here = i.within e (last_in _ _ e is);
+        newest = c.if-not-is_lower.ensures;
+        rest = λ f h. i.within f (rest_in _ _ e is f h);
+        left = StillWait-last g.C.Number.value c.args.labels.now.items _ _ _ e is i.waits;
+      };
+  fewer = omega (arith, c.entries.invariant.fewer, c.in-Some.ensures.len);
+}
 
-pub returns-clause-fewer : goal.returns-clause-fewer
-returns-clause-fewer g c = nothing_left c.pop.new.self.items _ c.pop.new.self.ok.0 c.in_default.ensures.cases.1
-
-pub returns-clause-taken : goal.returns-clause-taken
-returns-clause-taken g c =
-    let was = nothing_left c.entries.entries.items _ c.entries.entries.ok.0 c.in_default.ensures.cases.0 in
-    (nothing_left c.pop.new.self.items _ c.pop.new.self.ok.0 c.in_default.ensures.cases.1, rw was at c.entries.invariant.waits)
+pub returns : goal.returns
+returns g c = record {
+  fewer = nothing_left c.pop.new.self.items _ c.pop.new.self.ok.0 c.in_default.ensures.cases.1;
+  taken =
+      let was = nothing_left c.entries.entries.items _ c.entries.entries.ok.0 c.in_default.ensures.cases.0 in
+      (nothing_left c.pop.new.self.items _ c.pop.new.self.ok.0 c.in_default.ensures.cases.1, rw was at c.entries.invariant.waits);
+}

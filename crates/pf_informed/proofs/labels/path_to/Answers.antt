@@ -46,16 +46,6 @@ climb-preserved g c =
           (r.0, ap (λ xs. xs ++ above) e ∙ append_assoc c.climb.numbers.items (c.in-Some.parent ∷ []) above ∙ r.1, r.2);
     }
 
-pub returns-clause-chain : goal.returns-clause-chain
-returns-clause-chain g c =
-    let i = c.climb.invariant in
-    let m = i.labelled in
-    let r = i.climbs [] (m.0, m.1, c.in_default.ensures m.0 m.1) in
-    record { above = r.0; climbs = r.2; is = c.reverse.ensures.items ∙ ap reverse (sym (append-nil c.climb.numbers.items) ∙ r.1) }
-
-pub returns-clause-inside : goal.returns-clause-inside
-returns-clause-inside g c = λ k h. c.climb.invariant.inside k (Contains-reverse c.climb.numbers.items k (subst (λ xs. Contains xs k) c.reverse.ensures.items h))
-
 pub returns-in_err-push : goal.returns-in_err-push
 returns-in_err-push g c = record {
   chain = if_refused _ c.from_residual.result _ c.from_residual.ensures.1;
@@ -70,8 +60,16 @@ returns-in_err-push-2 g c = record {
   refused = refused_as _ c.from_residual-in_err-push-2.result _ c.from_residual-in_err-push-2.ensures.1 refl;
 }
 
-pub returns-clause-refused : goal.returns-clause-refused
-returns-clause-refused g c = tt
+pub returns : goal.returns
+returns g c = record {
+  chain =
+      let i = c.climb.invariant in
+      let m = i.labelled in
+      let r = i.climbs [] (m.0, m.1, c.in_default.ensures m.0 m.1) in
+      record { above = r.0; climbs = r.2; is = c.reverse.ensures.items ∙ ap reverse (sym (append-nil c.climb.numbers.items) ∙ r.1) };
+  inside = λ k h. c.climb.invariant.inside k (Contains-reverse c.climb.numbers.items k (subst (λ xs. Contains xs k) c.reverse.ensures.items h));
+  refused = tt;
+}
 
 pub parent_of-requires : goal.parent_of-requires
 parent_of-requires g c = let m = c.climb.invariant.labelled in HasLabel-inside c.args.labels.now c.climb.at m.0 m.1

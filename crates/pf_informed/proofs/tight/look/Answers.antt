@@ -13,86 +13,36 @@ use Rattle.pf_informed.proofs.WiderLemmas.{no_label}
 use Rattle.pf_informed.proofs.Bounds.{below_more}
 use Rattle.pf_informed.proofs.tight.look.Goals as goal
 
-pub returns-in_default-clause-up_to : goal.returns-in_default-clause-up_to
-returns-in_default-clause-up_to g c = λ j. up_to_next c.args.number _ (c.requires.up_to j)
-
-pub returns-in_default-clause-tight : goal.returns-in_default-clause-tight
-returns-in_default-clause-tight g c = λ h x t.
-    tight_skipped _ _ _ _ _ _ c.args.number _ _ t (λ l at. absurd (no_label c.args.labels.now c.args.number l (at_place _ _ _ _ c.requires.inside (sym c.index-labels-number.is ∙ sym c.in_default.ensures)) at))
-
-pub returns-then-lt-clause-up_to : goal.returns-then-lt-clause-up_to
-returns-then-lt-clause-up_to g c = λ j. up_to_next c.args.number _ (c.requires.up_to j)
-
-pub returns-then-lt-clause-tight : goal.returns-then-lt-clause-tight
-returns-then-lt-clause-tight g c = λ h x t.
-    let here : HasLabel c.args.labels.now c.args.number c.in-Some.label = at_place _ _ _ _ c.requires.inside (sym c.index-labels-number.is ∙ sym c.in-Some.ensures) in
-    let o = g.met.C.Number.order_law c.args.best c.in-Some.label.cost g.met.C.Integral.exact_law in
-    let dear = less_of (g.C.Number.value c.args.best) (g.C.Number.value c.in-Some.label.cost) c.lt.result (c.lt.ensures ∙ ap (is_some_and is_lt) o) c.if-lt.true in
-    tight_skipped _ _ _ _ _ _ c.args.number _ _ t (λ l at. let e = ap (λ (m : Label g.row.C.Denot). g.C.Number.value m.cost) (label_is c.args.labels.now c.args.number c.in-Some.label l here at) in omega (arith, ints, dear, e))
-
-pub returns-then-is_goal-clause-up_to : goal.returns-then-is_goal-clause-up_to
-returns-then-is_goal-clause-up_to g c = λ j. up_to_next c.args.number _ (c.requires.up_to j)
-
-pub returns-then-is_goal-clause-tight : goal.returns-then-is_goal-clause-tight
-returns-then-is_goal-clause-tight g c = λ h x t.
-    let here : HasLabel c.args.labels.now c.args.number c.in-Some.label = at_place _ _ _ _ c.requires.inside (sym c.index-labels-number.is ∙ sym c.in-Some.ensures) in
-    let o = g.met.C.Number.order_law c.args.best c.in-Some.label.cost g.met.C.Integral.exact_law in
-    let cheap = not_less_of (g.C.Number.value c.args.best) (g.C.Number.value c.in-Some.label.cost) c.lt.result (c.lt.ensures ∙ ap (is_some_and is_lt) o) c.if-lt.false in
-    let told = c.is_goal.ensures.graph h x in
-    let grow = c.is_goal.ensures.grows in
-    rw c.in_ok-push.ensures.items (tight_goal _ _ _ _ _ _ c.args.number _ _ (tight_grows _ _ _ _ _ _ _ _ _ grow c.requires.found c.args.number _ _ t) c.in-Some.label here cheap
-    (λ y s. sym (told.1 y (grow.back c.args.number y (below_more _ _ _ c.requires.inside c.requires.found) s)) ∙ c.if-is_goal.true))
-
-pub returns-clause-up_to : goal.returns-clause-up_to
-returns-clause-up_to g c = on_ok c.link_row.result c.link_row.ensures.up_to (λ u j. up_to_next c.args.number _ (u j))
-
-pub returns-clause-tight : goal.returns-clause-tight
-returns-clause-tight g c =
-    on_ok c.link_row.result (both_ok _ _ c.link_row.result c.link_row.ensures.up_to c.link_row.ensures.linked) (λ w h x t.
-    let here : HasLabel c.args.labels.now c.args.number c.in-Some.label = at_place _ _ _ _ c.requires.inside (sym c.index-labels-number.is ∙ sym c.in-Some.ensures) in
-    let o = g.met.C.Number.order_law c.args.best c.in-Some.label.cost g.met.C.Integral.exact_law in
-    let cheap = not_less_of (g.C.Number.value c.args.best) (g.C.Number.value c.in-Some.label.cost) c.lt.result (c.lt.ensures ∙ ap (is_some_and is_lt) o) c.if-lt.false in
-    let told = c.is_goal.ensures.graph h x in
-    let first = c.is_goal.ensures.grows in
-    let second = c.in_ok-expand.ensures.grows in
-    let grow = Grows-trans _ _ _ _ _ _ first second in
-    let inside : c.args.number < g.G.NumberedGraph.found c.args.graph.now = below_more _ _ _ c.requires.inside c.requires.found in
-    let row = c.in_ok-expand.ensures.listed in
-    let linked = rw (c.deref.ensures.value, row.1) at w.1 in
-    tight_row _ _ _ _ _ _ c.args.number _ _ (tight_grows _ _ _ _ _ _ _ _ _ grow c.requires.found c.args.number _ _ t) c.in-Some.label here cheap
-    (λ y s. sym (told.1 y (grow.back c.args.number y inside s)) ∙ c.if-is_goal.false) row.0
-    (λ y s. row.4 h told.0 y (first.stays c.args.number y (grow.back c.args.number y inside s)))
-    (let a = c.requires.someone in (a.0, grow.stays c.args.number a.0 a.1)) (before_in c.link_row.new.before.items) linked (λ j. (w.0 j).once))
-
 pub offset_bounds-labels-number : goal.offset_bounds-labels-number
 offset_bounds-labels-number g c = omega (arith, c.requires.inside)
 
 pub bounds-labels-number : goal.bounds-labels-number
 bounds-labels-number g c = c.requires.inside
 
-pub returns-in_default-clause-grows : goal.returns-in_default-clause-grows
-returns-in_default-clause-grows g c = Grows-refl _ _
+pub returns-in_default : goal.returns-in_default
+returns-in_default g c = record {
+  up_to = λ j. up_to_next c.args.number _ (c.requires.up_to j);
+  tight = λ h x t.
+      tight_skipped _ _ _ _ _ _ c.args.number _ _ t (λ l at. absurd (no_label c.args.labels.now c.args.number l (at_place _ _ _ _ c.requires.inside (sym c.index-labels-number.is ∙ sym c.in_default.ensures)) at));
+  grows = Grows-refl _ _;
+  graph = λ h x. x;
+  wide = c.requires.wide;
+  refused = tt;
+}
 
-pub returns-in_default-clause-graph : goal.returns-in_default-clause-graph
-returns-in_default-clause-graph g c = λ h x. x
-
-pub returns-in_default-clause-wide : goal.returns-in_default-clause-wide
-returns-in_default-clause-wide g c = c.requires.wide
-
-pub returns-in_default-clause-refused : goal.returns-in_default-clause-refused
-returns-in_default-clause-refused g c = tt
-
-pub returns-then-lt-clause-grows : goal.returns-then-lt-clause-grows
-returns-then-lt-clause-grows g c = Grows-refl _ _
-
-pub returns-then-lt-clause-graph : goal.returns-then-lt-clause-graph
-returns-then-lt-clause-graph g c = λ h x. x
-
-pub returns-then-lt-clause-wide : goal.returns-then-lt-clause-wide
-returns-then-lt-clause-wide g c = c.requires.wide
-
-pub returns-then-lt-clause-refused : goal.returns-then-lt-clause-refused
-returns-then-lt-clause-refused g c = tt
+pub returns-then-lt : goal.returns-then-lt
+returns-then-lt g c = record {
+  up_to = λ j. up_to_next c.args.number _ (c.requires.up_to j);
+  tight = λ h x t.
+      let here : HasLabel c.args.labels.now c.args.number c.in-Some.label = at_place _ _ _ _ c.requires.inside (sym c.index-labels-number.is ∙ sym c.in-Some.ensures) in
+      let o = g.met.C.Number.order_law c.args.best c.in-Some.label.cost g.met.C.Integral.exact_law in
+      let dear = less_of (g.C.Number.value c.args.best) (g.C.Number.value c.in-Some.label.cost) c.lt.result (c.lt.ensures ∙ ap (is_some_and is_lt) o) c.if-lt.true in
+      tight_skipped _ _ _ _ _ _ c.args.number _ _ t (λ l at. let e = ap (λ (m : Label g.row.C.Denot). g.C.Number.value m.cost) (label_is c.args.labels.now c.args.number c.in-Some.label l here at) in omega (arith, ints, dear, e));
+  grows = Grows-refl _ _;
+  graph = λ h x. x;
+  wide = c.requires.wide;
+  refused = tt;
+}
 
 pub is_goal-requires : goal.is_goal-requires
 is_goal-requires g c = record {
@@ -110,17 +60,22 @@ returns-in_err-push g c = record {
   refused = refused_as _ c.from_residual.result _ c.from_residual.ensures.1 refl;
 }
 
-pub returns-then-is_goal-clause-grows : goal.returns-then-is_goal-clause-grows
-returns-then-is_goal-clause-grows g c = c.is_goal.ensures.grows
-
-pub returns-then-is_goal-clause-graph : goal.returns-then-is_goal-clause-graph
-returns-then-is_goal-clause-graph g c = λ h x. (c.is_goal.ensures.graph h x).0
-
-pub returns-then-is_goal-clause-wide : goal.returns-then-is_goal-clause-wide
-returns-then-is_goal-clause-wide g c = c.requires.wide
-
-pub returns-then-is_goal-clause-refused : goal.returns-then-is_goal-clause-refused
-returns-then-is_goal-clause-refused g c = tt
+pub returns-then-is_goal : goal.returns-then-is_goal
+returns-then-is_goal g c = record {
+  up_to = λ j. up_to_next c.args.number _ (c.requires.up_to j);
+  tight = λ h x t.
+      let here : HasLabel c.args.labels.now c.args.number c.in-Some.label = at_place _ _ _ _ c.requires.inside (sym c.index-labels-number.is ∙ sym c.in-Some.ensures) in
+      let o = g.met.C.Number.order_law c.args.best c.in-Some.label.cost g.met.C.Integral.exact_law in
+      let cheap = not_less_of (g.C.Number.value c.args.best) (g.C.Number.value c.in-Some.label.cost) c.lt.result (c.lt.ensures ∙ ap (is_some_and is_lt) o) c.if-lt.false in
+      let told = c.is_goal.ensures.graph h x in
+      let grow = c.is_goal.ensures.grows in
+      rw c.in_ok-push.ensures.items (tight_goal _ _ _ _ _ _ c.args.number _ _ (tight_grows _ _ _ _ _ _ _ _ _ grow c.requires.found c.args.number _ _ t) c.in-Some.label here cheap
+      (λ y s. sym (told.1 y (grow.back c.args.number y (below_more _ _ _ c.requires.inside c.requires.found) s)) ∙ c.if-is_goal.true));
+  grows = c.is_goal.ensures.grows;
+  graph = λ h x. (c.is_goal.ensures.graph h x).0;
+  wide = c.requires.wide;
+  refused = tt;
+}
 
 pub expand-requires-clause-inside : goal.expand-requires-clause-inside
 expand-requires-clause-inside g c = subst (λ (n : ℕ). c.args.number < n) (sym c.is_goal.ensures.same) (below_more _ _ _ c.requires.inside c.requires.found)
@@ -144,14 +99,27 @@ link_row-requires-clause-wide g c = c.requires.wide
 pub link_row-requires-clause-up_to : goal.link_row-requires-clause-up_to
 link_row-requires-clause-up_to g c = c.requires.up_to
 
-pub returns-clause-grows : goal.returns-clause-grows
-returns-clause-grows g c = Grows-trans _ _ _ _ _ _ c.is_goal.ensures.grows c.in_ok-expand.ensures.grows
-
-pub returns-clause-graph : goal.returns-clause-graph
-returns-clause-graph g c = λ h x. c.in_ok-expand.ensures.graph h (c.is_goal.ensures.graph h x).0
-
-pub returns-clause-wide : goal.returns-clause-wide
-returns-clause-wide g c = c.link_row.ensures.wide
-
-pub returns-clause-refused : goal.returns-clause-refused
-returns-clause-refused g c = c.link_row.ensures.refused
+pub returns : goal.returns
+returns g c = record {
+  up_to = on_ok c.link_row.result c.link_row.ensures.up_to (λ u j. up_to_next c.args.number _ (u j));
+  tight =
+      on_ok c.link_row.result (both_ok _ _ c.link_row.result c.link_row.ensures.up_to c.link_row.ensures.linked) (λ w h x t.
+      let here : HasLabel c.args.labels.now c.args.number c.in-Some.label = at_place _ _ _ _ c.requires.inside (sym c.index-labels-number.is ∙ sym c.in-Some.ensures) in
+      let o = g.met.C.Number.order_law c.args.best c.in-Some.label.cost g.met.C.Integral.exact_law in
+      let cheap = not_less_of (g.C.Number.value c.args.best) (g.C.Number.value c.in-Some.label.cost) c.lt.result (c.lt.ensures ∙ ap (is_some_and is_lt) o) c.if-lt.false in
+      let told = c.is_goal.ensures.graph h x in
+      let first = c.is_goal.ensures.grows in
+      let second = c.in_ok-expand.ensures.grows in
+      let grow = Grows-trans _ _ _ _ _ _ first second in
+      let inside : c.args.number < g.G.NumberedGraph.found c.args.graph.now = below_more _ _ _ c.requires.inside c.requires.found in
+      let row = c.in_ok-expand.ensures.listed in
+      let linked = rw (c.deref.ensures.value, row.1) at w.1 in
+      tight_row _ _ _ _ _ _ c.args.number _ _ (tight_grows _ _ _ _ _ _ _ _ _ grow c.requires.found c.args.number _ _ t) c.in-Some.label here cheap
+      (λ y s. sym (told.1 y (grow.back c.args.number y inside s)) ∙ c.if-is_goal.false) row.0
+      (λ y s. row.4 h told.0 y (first.stays c.args.number y (grow.back c.args.number y inside s)))
+      (let a = c.requires.someone in (a.0, grow.stays c.args.number a.0 a.1)) (before_in c.link_row.new.before.items) linked (λ j. (w.0 j).once));
+  grows = Grows-trans _ _ _ _ _ _ c.is_goal.ensures.grows c.in_ok-expand.ensures.grows;
+  graph = λ h x. c.in_ok-expand.ensures.graph h (c.is_goal.ensures.graph h x).0;
+  wide = c.link_row.ensures.wide;
+  refused = c.link_row.ensures.refused;
+}

@@ -35,13 +35,6 @@ numbers-preserved g c =
       tight = λ h x. let t = i.tight h x in (e.graph h t.0, e.tight h t.0 t.1);
     }
 
-pub returns-clause-tight : goal.returns-clause-tight
-returns-clause-tight g c = λ h x.
-    let i = c.numbers.invariant in
-    let past : length c.args.labels.now ≤ c.numbers.number = c.numbers-test.false in
-    let all : c.numbers.number ≡ length c.args.labels.now = at_the_end _ _ past i.few in
-    ((i.tight h x).0, subst (λ (n : ℕ). IsTight g.C.Number.value c.args.labels.now (g.G.NumberedGraph.step h) (g.G.NumberedGraph.passes h) (g.G.NumberedGraph.stands c.numbers.graph) (g.C.Number.value c.args.best) n c.numbers.tight.goals.items (before_in c.numbers.tight.before.items)) all (i.tight h x).1)
-
 pub returns-in_err-empty_rows : goal.returns-in_err-empty_rows
 returns-in_err-empty_rows g c = record {
   grows = Grows-refl _ _;
@@ -50,14 +43,17 @@ returns-in_err-empty_rows g c = record {
   refused = refused_as _ c.from_residual.result _ c.from_residual.ensures.1 c.in_err-empty_rows.ensures.refused;
 }
 
-pub returns-clause-grows : goal.returns-clause-grows
-returns-clause-grows g c = c.numbers.invariant.grows
-
-pub returns-clause-wide : goal.returns-clause-wide
-returns-clause-wide g c = c.numbers.invariant.wide
-
-pub returns-clause-refused : goal.returns-clause-refused
-returns-clause-refused g c = tt
+pub returns : goal.returns
+returns g c = record {
+  tight = λ h x.
+      let i = c.numbers.invariant in
+      let past : length c.args.labels.now ≤ c.numbers.number = c.numbers-test.false in
+      let all : c.numbers.number ≡ length c.args.labels.now = at_the_end _ _ past i.few in
+      ((i.tight h x).0, subst (λ (n : ℕ). IsTight g.C.Number.value c.args.labels.now (g.G.NumberedGraph.step h) (g.G.NumberedGraph.passes h) (g.G.NumberedGraph.stands c.numbers.graph) (g.C.Number.value c.args.best) n c.numbers.tight.goals.items (before_in c.numbers.tight.before.items)) all (i.tight h x).1);
+  grows = c.numbers.invariant.grows;
+  wide = c.numbers.invariant.wide;
+  refused = tt;
+}
 
 pub look-requires-clause-wide : goal.look-requires-clause-wide
 look-requires-clause-wide g c = c.numbers.invariant.wide

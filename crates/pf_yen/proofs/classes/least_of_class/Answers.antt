@@ -8,15 +8,6 @@ use Rattle.std.proofs.lemmas.Result.{IfOk-from_err}
 use Rattle.pf_yen.proofs.ResultLemmas.{handed_on, ok_is_no_error, refused_as}
 use Rattle.pf_yen.proofs.classes.least_of_class.Goals as goal
 
-pub returns-in_err-answer-clause-overflow : goal.returns-in_err-answer-clause-overflow
-returns-in_err-answer-clause-overflow g c = λ e.
-    let s = c.args.narrowed.now in
-    let here : NarrowGraph g.row.C.Denot = record { known = s.known.now; onward = s.onward.items; spur = s.spur; banned = s.banned.items } in
-    let x = c.in_err-answer.ensures.graph here (refl, c.requires.whole.inside, c.requires.wide) in
-    let f : c.in_err-answer.field-0.0 ≡ CostOverflow = handed_on c.from_residual.result c.in_err-answer.field-0.0 c.from_residual.ensures.1 e in
-    let d = c.in_err-answer.ensures.overflow here (refl, c.requires.whole.inside, c.requires.wide) (narrow_from_zero g.C.Number.value here c.requires.whole) (ap Err f) in
-    subst (λ (k : KnownGraph g.row.C.Denot). IsTooDear (NarrowStep g.C.Number.value here) (is_goal s.known.now) (StandsForItself (length s.known.now.rows) 0) (StandsForItself (length k.rows)) g.C.Number.fits) (sym (ap (λ (h : NarrowGraph g.row.C.Denot). h.known) x.0)) d
-
 pub returns-in-None-clause-least : goal.returns-in-None-clause-least
 returns-in-None-clause-least g c = λ q n.
     let s = c.args.narrowed.now in
@@ -38,18 +29,6 @@ returns-clause-least g c = λ q n.
 pub returns-in-None-clause-errors : goal.returns-in-None-clause-errors
 returns-in-None-clause-errors g c = tt
 
-pub returns-in_err-answer-clause-banned : goal.returns-in_err-answer-clause-banned
-returns-in_err-answer-clause-banned g c = IfOk-from_err _ _ c.from_residual.ensures.0
-
-pub returns-in_err-answer-clause-errors : goal.returns-in_err-answer-clause-errors
-returns-in_err-answer-clause-errors g c = refused_as _ c.from_residual.result c.in_err-answer.field-0.0 c.from_residual.ensures.1 c.in_err-answer.ensures.errors
-
-pub returns-in_err-answer-clause-least : goal.returns-in_err-answer-clause-least
-returns-in_err-answer-clause-least g c = IfOk-from_err _ _ c.from_residual.ensures.0
-
-pub returns-in_err-answer-clause-parts : goal.returns-in_err-answer-clause-parts
-returns-in_err-answer-clause-parts g c = IfOk-from_err _ _ c.from_residual.ensures.0
-
 pub returns-clause-known : goal.returns-clause-known
 returns-clause-known g c = let s = c.args.narrowed.now in let here : NarrowGraph g.row.C.Denot = record { known = s.known.now; onward = s.onward.items; spur = s.spur; banned = s.banned.items } in sym (ap (λ (h : NarrowGraph g.row.C.Denot). h.known) (c.in_ok-answer.ensures.graph here (refl, c.requires.whole.inside, c.requires.wide)).0)
 
@@ -68,14 +47,23 @@ returns-in-None-clause-onward g c = let s = c.args.narrowed.now in let here : Na
 pub returns-in-None-clause-spur : goal.returns-in-None-clause-spur
 returns-in-None-clause-spur g c = let s = c.args.narrowed.now in let here : NarrowGraph g.row.C.Denot = record { known = s.known.now; onward = s.onward.items; spur = s.spur; banned = s.banned.items } in sym (ap (λ (h : NarrowGraph g.row.C.Denot). h.spur) (c.in_ok-answer.ensures.graph here (refl, c.requires.whole.inside, c.requires.wide)).0)
 
-pub returns-in_err-answer-clause-known : goal.returns-in_err-answer-clause-known
-returns-in_err-answer-clause-known g c = let s = c.args.narrowed.now in let here : NarrowGraph g.row.C.Denot = record { known = s.known.now; onward = s.onward.items; spur = s.spur; banned = s.banned.items } in sym (ap (λ (h : NarrowGraph g.row.C.Denot). h.known) (c.in_err-answer.ensures.graph here (refl, c.requires.whole.inside, c.requires.wide)).0)
-
-pub returns-in_err-answer-clause-onward : goal.returns-in_err-answer-clause-onward
-returns-in_err-answer-clause-onward g c = let s = c.args.narrowed.now in let here : NarrowGraph g.row.C.Denot = record { known = s.known.now; onward = s.onward.items; spur = s.spur; banned = s.banned.items } in sym (ap (λ (h : NarrowGraph g.row.C.Denot). h.onward) (c.in_err-answer.ensures.graph here (refl, c.requires.whole.inside, c.requires.wide)).0)
-
-pub returns-in_err-answer-clause-spur : goal.returns-in_err-answer-clause-spur
-returns-in_err-answer-clause-spur g c = let s = c.args.narrowed.now in let here : NarrowGraph g.row.C.Denot = record { known = s.known.now; onward = s.onward.items; spur = s.spur; banned = s.banned.items } in sym (ap (λ (h : NarrowGraph g.row.C.Denot). h.spur) (c.in_err-answer.ensures.graph here (refl, c.requires.whole.inside, c.requires.wide)).0)
+pub returns-in_err-answer : goal.returns-in_err-answer
+returns-in_err-answer g c = record {
+  overflow = λ e.
+      let s = c.args.narrowed.now in
+      let here : NarrowGraph g.row.C.Denot = record { known = s.known.now; onward = s.onward.items; spur = s.spur; banned = s.banned.items } in
+      let x = c.in_err-answer.ensures.graph here (refl, c.requires.whole.inside, c.requires.wide) in
+      let f : c.in_err-answer.field-0.0 ≡ CostOverflow = handed_on c.from_residual.result c.in_err-answer.field-0.0 c.from_residual.ensures.1 e in
+      let d = c.in_err-answer.ensures.overflow here (refl, c.requires.whole.inside, c.requires.wide) (narrow_from_zero g.C.Number.value here c.requires.whole) (ap Err f) in
+      subst (λ (k : KnownGraph g.row.C.Denot). IsTooDear (NarrowStep g.C.Number.value here) (is_goal s.known.now) (StandsForItself (length s.known.now.rows) 0) (StandsForItself (length k.rows)) g.C.Number.fits) (sym (ap (λ (h : NarrowGraph g.row.C.Denot). h.known) x.0)) d;
+  banned = IfOk-from_err _ _ c.from_residual.ensures.0;
+  errors = refused_as _ c.from_residual.result c.in_err-answer.field-0.0 c.from_residual.ensures.1 c.in_err-answer.ensures.errors;
+  least = IfOk-from_err _ _ c.from_residual.ensures.0;
+  parts = IfOk-from_err _ _ c.from_residual.ensures.0;
+  known = let s = c.args.narrowed.now in let here : NarrowGraph g.row.C.Denot = record { known = s.known.now; onward = s.onward.items; spur = s.spur; banned = s.banned.items } in sym (ap (λ (h : NarrowGraph g.row.C.Denot). h.known) (c.in_err-answer.ensures.graph here (refl, c.requires.whole.inside, c.requires.wide)).0);
+  onward = let s = c.args.narrowed.now in let here : NarrowGraph g.row.C.Denot = record { known = s.known.now; onward = s.onward.items; spur = s.spur; banned = s.banned.items } in sym (ap (λ (h : NarrowGraph g.row.C.Denot). h.onward) (c.in_err-answer.ensures.graph here (refl, c.requires.whole.inside, c.requires.wide)).0);
+  spur = let s = c.args.narrowed.now in let here : NarrowGraph g.row.C.Denot = record { known = s.known.now; onward = s.onward.items; spur = s.spur; banned = s.banned.items } in sym (ap (λ (h : NarrowGraph g.row.C.Denot). h.spur) (c.in_err-answer.ensures.graph here (refl, c.requires.whole.inside, c.requires.wide)).0);
+}
 
 pub returns-clause-errors : goal.returns-clause-errors
 returns-clause-errors g c = tt

@@ -30,17 +30,11 @@ places-preserved g c =
       narrowed = rw (e.onward, e.spur) (narrowed_on g.C.Number.value c.args.known.now c.requires.whole c.args.path.now u.0 c.places.place 0 c.places.narrowed.onward.items c.places.narrowed.spur u.1 (omega (arith, c.places-test.true, c.requires.inside)) i.wide i.narrowed);
     }
 
-pub returns-in_err-narrowed-clause-banned : goal.returns-in_err-narrowed-clause-banned
-returns-in_err-narrowed-clause-banned g c = IfOk-from_err _ _ c.from_residual.ensures.0
-
-pub returns-in_err-narrowed-clause-known : goal.returns-in_err-narrowed-clause-known
-returns-in_err-narrowed-clause-known g c = IfOk-from_err _ _ c.from_residual.ensures.0
-
-pub returns-in_err-narrowed-clause-narrowed : goal.returns-in_err-narrowed-clause-narrowed
-returns-in_err-narrowed-clause-narrowed g c = IfOk-from_err _ _ c.from_residual.ensures.0
-
-pub returns-in_err-narrowed-clause-refused : goal.returns-in_err-narrowed-clause-refused
-returns-in_err-narrowed-clause-refused g c = refused_as _ c.from_residual.result c.in_err-narrowed.field-0.0 c.from_residual.ensures.1 c.in_err-narrowed.ensures.refused
-
-pub returns-in_err-narrowed-clause-wide : goal.returns-in_err-narrowed-clause-wide
-returns-in_err-narrowed-clause-wide g c = IfOk-from_err _ _ c.from_residual.ensures.0
+pub returns-in_err-narrowed : goal.returns-in_err-narrowed
+returns-in_err-narrowed g c = record {
+  banned = IfOk-from_err _ _ c.from_residual.ensures.0;
+  known = IfOk-from_err _ _ c.from_residual.ensures.0;
+  narrowed = IfOk-from_err _ _ c.from_residual.ensures.0;
+  refused = refused_as _ c.from_residual.result c.in_err-narrowed.field-0.0 c.from_residual.ensures.1 c.in_err-narrowed.ensures.refused;
+  wide = IfOk-from_err _ _ c.from_residual.ensures.0;
+}

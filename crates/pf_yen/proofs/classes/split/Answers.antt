@@ -23,21 +23,6 @@ places-init g c =
           rw (b, c.new-plans.ensures.items) (split_first value c.args.known.now c.requires.whole (plan_of c.args.candidate.now) c.requires.cheapest);
     }
 
-pub returns-in_err-plan-clause-overflow : goal.returns-in_err-plan-clause-overflow
-returns-in_err-plan-clause-overflow g c = λ x.
-    let value = g.C.Number.value in
-    let i = c.places.invariant in
-    let s = c.places.narrowed in
-    let f : c.in_err-plan.field-0.0 ≡ CostOverflow = handed_on c.from_residual-in_err-plan.result c.in_err-plan.field-0.0 c.from_residual-in_err-plan.ensures.1 x in
-    let n = c.index-next.result.now in
-    let at : n ≡ slice_index_or c.args.candidate.now.path.items (c.places.place + 1) n = c.index-next.ensures in
-    let inside : c.places.place + 1 < length c.args.candidate.now.path.items = omega (arith, c.len-place-end.ensures, c.places-test.true) in
-    let banned : c.push.new.self.items ≡ s.banned.items ++ slice_index_or c.args.candidate.now.path.items (c.places.place + 1) n ∷ [] = c.in_ok-push.ensures.items ∙ ap (λ (m : ℕ). s.banned.items ++ m ∷ []) at in
-    let exact = g.met.C.Integral.exact_law in
-    past_here value c.args.known.now c.requires.whole (plan_of c.args.candidate.now) c.requires.cheapest c.places.place n s.banned.items (map plan_of c.places.plans.items) i.split inside
-    g.C.Number.fits (λ a b d. g.C.Number.between_law a b d exact) (g.met.C.Zero.zero_fits_law exact) c.known.ensures s.onward.items s.spur i.narrowed (length c.args.known.now.rows) c.requires.some
-    (rw (i.known, banned) at (c.in_err-plan.ensures.overflow (ap Err f)))
-
 pub go_on-requires : goal.go_on-requires
 go_on-requires g c =
     let i = c.places.invariant in
@@ -75,41 +60,41 @@ places-preserved g c =
       ]);
     }
 
-pub returns-clause-split : goal.returns-clause-split
-returns-clause-split g c =
-    let i = c.places.invariant in
-    split_last g.C.Number.value c.args.known.now c.requires.whole (plan_of c.args.candidate.now) c.requires.cheapest c.places.place c.places.narrowed.banned.items (map plan_of c.places.plans.items) i.split
-    (omega (arith, c.len-place-end.ensures, c.places-test.false))
+pub returns-in_err-plan : goal.returns-in_err-plan
+returns-in_err-plan g c = record {
+  overflow = λ x.
+      let value = g.C.Number.value in
+      let i = c.places.invariant in
+      let s = c.places.narrowed in
+      let f : c.in_err-plan.field-0.0 ≡ CostOverflow = handed_on c.from_residual-in_err-plan.result c.in_err-plan.field-0.0 c.from_residual-in_err-plan.ensures.1 x in
+      let n = c.index-next.result.now in
+      let at : n ≡ slice_index_or c.args.candidate.now.path.items (c.places.place + 1) n = c.index-next.ensures in
+      let inside : c.places.place + 1 < length c.args.candidate.now.path.items = omega (arith, c.len-place-end.ensures, c.places-test.true) in
+      let banned : c.push.new.self.items ≡ s.banned.items ++ slice_index_or c.args.candidate.now.path.items (c.places.place + 1) n ∷ [] = c.in_ok-push.ensures.items ∙ ap (λ (m : ℕ). s.banned.items ++ m ∷ []) at in
+      let exact = g.met.C.Integral.exact_law in
+      past_here value c.args.known.now c.requires.whole (plan_of c.args.candidate.now) c.requires.cheapest c.places.place n s.banned.items (map plan_of c.places.plans.items) i.split inside
+      g.C.Number.fits (λ a b d. g.C.Number.between_law a b d exact) (g.met.C.Zero.zero_fits_law exact) c.known.ensures s.onward.items s.spur i.narrowed (length c.args.known.now.rows) c.requires.some
+      (rw (i.known, banned) at (c.in_err-plan.ensures.overflow (ap Err f)));
+  errors = refused_as _ c.from_residual-in_err-plan.result c.in_err-plan.field-0.0 c.from_residual-in_err-plan.ensures.1 c.in_err-plan.ensures.errors;
+  split = IfOk-from_err _ _ c.from_residual-in_err-plan.ensures.0;
+}
 
-pub returns-in_err-extend_from_slice-clause-split : goal.returns-in_err-extend_from_slice-clause-split
-returns-in_err-extend_from_slice-clause-split g c = IfOk-from_err _ _ c.from_residual-in_err-extend_from_slice.ensures.0
+pub returns : goal.returns
+returns g c = record {
+  split =
+      let i = c.places.invariant in
+      split_last g.C.Number.value c.args.known.now c.requires.whole (plan_of c.args.candidate.now) c.requires.cheapest c.places.place c.places.narrowed.banned.items (map plan_of c.places.plans.items) i.split
+      (omega (arith, c.len-place-end.ensures, c.places-test.false));
+  errors = tt;
+  overflow = λ e. absurd (ok_is_no_error _ _ _ refl e);
+}
 
-pub returns-in_err-narrowed-clause-errors : goal.returns-in_err-narrowed-clause-errors
-returns-in_err-narrowed-clause-errors g c = refused_as _ c.from_residual.result c.in_err-narrowed.field-0.0 c.from_residual.ensures.1 (inl c.in_err-narrowed.ensures.refused)
-
-pub returns-in_err-narrowed-clause-split : goal.returns-in_err-narrowed-clause-split
-returns-in_err-narrowed-clause-split g c = IfOk-from_err _ _ c.from_residual.ensures.0
-
-pub returns-in_err-plan-clause-errors : goal.returns-in_err-plan-clause-errors
-returns-in_err-plan-clause-errors g c = refused_as _ c.from_residual-in_err-plan.result c.in_err-plan.field-0.0 c.from_residual-in_err-plan.ensures.1 c.in_err-plan.ensures.errors
-
-pub returns-in_err-plan-clause-split : goal.returns-in_err-plan-clause-split
-returns-in_err-plan-clause-split g c = IfOk-from_err _ _ c.from_residual-in_err-plan.ensures.0
-
-pub returns-in_err-push-2-clause-split : goal.returns-in_err-push-2-clause-split
-returns-in_err-push-2-clause-split g c = IfOk-from_err _ _ c.from_residual-in_err-push-2.ensures.0
-
-pub returns-in_err-push-clause-split : goal.returns-in_err-push-clause-split
-returns-in_err-push-clause-split g c = IfOk-from_err _ _ c.from_residual-in_err-push.ensures.0
-
-pub returns-clause-errors : goal.returns-clause-errors
-returns-clause-errors g c = tt
-
-pub returns-clause-overflow : goal.returns-clause-overflow
-returns-clause-overflow g c = λ e. absurd (ok_is_no_error _ _ _ refl e)
-
-pub returns-in_err-narrowed-clause-overflow : goal.returns-in_err-narrowed-clause-overflow
-returns-in_err-narrowed-clause-overflow g c = λ e. absurd (no_overflow c.from_residual.result c.in_err-narrowed.field-0.0 c.from_residual.ensures.1 c.in_err-narrowed.ensures.refused e)
+pub returns-in_err-narrowed : goal.returns-in_err-narrowed
+returns-in_err-narrowed g c = record {
+  errors = refused_as _ c.from_residual.result c.in_err-narrowed.field-0.0 c.from_residual.ensures.1 (inl c.in_err-narrowed.ensures.refused);
+  split = IfOk-from_err _ _ c.from_residual.ensures.0;
+  overflow = λ e. absurd (no_overflow c.from_residual.result c.in_err-narrowed.field-0.0 c.from_residual.ensures.1 c.in_err-narrowed.ensures.refused e);
+}
 
 pub narrowed_along-requires-clause-whole : goal.narrowed_along-requires-clause-whole
 narrowed_along-requires-clause-whole g c = c.requires.whole
@@ -117,23 +102,26 @@ narrowed_along-requires-clause-whole g c = c.requires.whole
 pub narrowed_along-requires-clause-some : goal.narrowed_along-requires-clause-some
 narrowed_along-requires-clause-some g c = c.requires.some
 
-pub returns-in_err-extend_from_slice-clause-errors : goal.returns-in_err-extend_from_slice-clause-errors
-returns-in_err-extend_from_slice-clause-errors g c = refused_as _ c.from_residual-in_err-extend_from_slice.result OutOfMemory c.from_residual-in_err-extend_from_slice.ensures.1 (inl refl)
+pub returns-in_err-extend_from_slice : goal.returns-in_err-extend_from_slice
+returns-in_err-extend_from_slice g c = record {
+  split = IfOk-from_err _ _ c.from_residual-in_err-extend_from_slice.ensures.0;
+  errors = refused_as _ c.from_residual-in_err-extend_from_slice.result OutOfMemory c.from_residual-in_err-extend_from_slice.ensures.1 (inl refl);
+  overflow = λ e. absurd (no_overflow c.from_residual-in_err-extend_from_slice.result OutOfMemory c.from_residual-in_err-extend_from_slice.ensures.1 refl e);
+}
 
-pub returns-in_err-extend_from_slice-clause-overflow : goal.returns-in_err-extend_from_slice-clause-overflow
-returns-in_err-extend_from_slice-clause-overflow g c = λ e. absurd (no_overflow c.from_residual-in_err-extend_from_slice.result OutOfMemory c.from_residual-in_err-extend_from_slice.ensures.1 refl e)
+pub returns-in_err-push : goal.returns-in_err-push
+returns-in_err-push g c = record {
+  split = IfOk-from_err _ _ c.from_residual-in_err-push.ensures.0;
+  errors = refused_as _ c.from_residual-in_err-push.result OutOfMemory c.from_residual-in_err-push.ensures.1 (inl refl);
+  overflow = λ e. absurd (no_overflow c.from_residual-in_err-push.result OutOfMemory c.from_residual-in_err-push.ensures.1 refl e);
+}
 
-pub returns-in_err-push-clause-errors : goal.returns-in_err-push-clause-errors
-returns-in_err-push-clause-errors g c = refused_as _ c.from_residual-in_err-push.result OutOfMemory c.from_residual-in_err-push.ensures.1 (inl refl)
-
-pub returns-in_err-push-clause-overflow : goal.returns-in_err-push-clause-overflow
-returns-in_err-push-clause-overflow g c = λ e. absurd (no_overflow c.from_residual-in_err-push.result OutOfMemory c.from_residual-in_err-push.ensures.1 refl e)
-
-pub returns-in_err-push-2-clause-errors : goal.returns-in_err-push-2-clause-errors
-returns-in_err-push-2-clause-errors g c = refused_as _ c.from_residual-in_err-push-2.result OutOfMemory c.from_residual-in_err-push-2.ensures.1 (inl refl)
-
-pub returns-in_err-push-2-clause-overflow : goal.returns-in_err-push-2-clause-overflow
-returns-in_err-push-2-clause-overflow g c = λ e. absurd (no_overflow c.from_residual-in_err-push-2.result OutOfMemory c.from_residual-in_err-push-2.ensures.1 refl e)
+pub returns-in_err-push-2 : goal.returns-in_err-push-2
+returns-in_err-push-2 g c = record {
+  split = IfOk-from_err _ _ c.from_residual-in_err-push-2.ensures.0;
+  errors = refused_as _ c.from_residual-in_err-push-2.result OutOfMemory c.from_residual-in_err-push-2.ensures.1 (inl refl);
+  overflow = λ e. absurd (no_overflow c.from_residual-in_err-push-2.result OutOfMemory c.from_residual-in_err-push-2.ensures.1 refl e);
+}
 
 pub narrowed_along-requires-clause-clean : goal.narrowed_along-requires-clause-clean
 narrowed_along-requires-clause-clean g c = rw c.deref.ensures.value (_, c.requires.cheapest.clean)

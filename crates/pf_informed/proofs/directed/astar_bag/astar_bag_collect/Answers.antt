@@ -3,16 +3,14 @@ use Rattle.pf_informed.proofs.GatherLemmas.{gathered_all}
 use Rattle.pf_informed.proofs.Outcomes.{refused_as, if_refused, no_overflow, ok_is_no_error, same_error}
 use Rattle.pf_informed.proofs.directed.astar_bag.astar_bag_collect.Goals as goal
 
-pub returns-clause-all : goal.returns-clause-all
-returns-clause-all g c = λ edges test least s.
-    let a = rw c.in-Some.is at (c.in_ok-solution.ensures.all edges test least s) in
-    gathered_all g.N.PartialEq.eq g.met.N.Eq.laws edges (c.args.start.now ∷ []) test c.in_ok-paths.paths.items c.in-Some.solution.left (g.C.Number.value c.in-Some.cost) (rw c.in_ok-paths.was at c.gather-paths.ensures.all) a
-
-pub returns-clause-overflow : goal.returns-clause-overflow
-returns-clause-overflow g c = λ edges test least s e. absurd (ok_is_no_error _ _ _ refl e)
-
-pub returns-clause-errors : goal.returns-clause-errors
-returns-clause-errors g c = tt
+pub returns : goal.returns
+returns g c = record {
+  all = λ edges test least s.
+      let a = rw c.in-Some.is at (c.in_ok-solution.ensures.all edges test least s) in
+      gathered_all g.N.PartialEq.eq g.met.N.Eq.laws edges (c.args.start.now ∷ []) test c.in_ok-paths.paths.items c.in-Some.solution.left (g.C.Number.value c.in-Some.cost) (rw c.in_ok-paths.was at c.gather-paths.ensures.all) a;
+  overflow = λ edges test least s e. absurd (ok_is_no_error _ _ _ refl e);
+  errors = tt;
+}
 
 pub returns-in_default : goal.returns-in_default
 returns-in_default g c = record {

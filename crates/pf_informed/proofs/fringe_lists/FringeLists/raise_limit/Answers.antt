@@ -38,22 +38,6 @@ entries-preserved g c =
     c.in-Some-take_last.entry c.take_last-in-entries.new.entries.items n.taken n.fewer c.keep_least.new.least c.keep_least.result c.keep_least.ensures.least c.keep_least.ensures.both in
     record { raising = subst (λ (xs : List (Entry g.row.C.Denot)). IsRaising value labels estimates (listed c.args.self.now) c.keep_least.new.least xs c.take_last-in-entries.new.entries.items) (sym c.in_ok-push.ensures.items) r }
 
-pub returns-clause-queue : goal.returns-clause-queue
-returns-clause-queue g c =
-    let t = c.in_default-take_last.ensures.taken in
-    rw t.0 (raised_queue g.C.Number.value c.args.labels.now.items c.args.estimates.now.items (listed c.args.self.now) c.entries.least c.entries.self.current.items c.entries.self.later.items c.entries.invariant.raising t.1)
-
-pub returns-clause-limit : goal.returns-clause-limit
-returns-clause-limit g c =
-    let t = c.in_default-take_last.ensures.taken in
-    let b = raised_below g.C.Number.value c.args.labels.now.items c.args.estimates.now.items (listed c.args.self.now) c.entries.least c.entries.self.current.items c.entries.self.later.items c.entries.invariant.raising t.1 in
-    inr (c.known.ensures, subst (IsBelowWaiting g.C.Number.value c.args.labels.now.items c.args.estimates.now.items (listed c.args.self.now)) (sym c.sum_of-self.ensures) b)
-
-pub returns-clause-taken : goal.returns-clause-taken
-returns-clause-taken g c =
-    let t = c.in_default-take_last.ensures.taken in
-    rw t.0 (raised_taken g.C.Number.value c.args.labels.now.items c.args.estimates.now.items (listed c.args.self.now) c.entries.least c.entries.self.current.items c.entries.self.later.items c.entries.invariant.raising t.1 c.sum_of-self.result c.sum_of-self.ensures)
-
 pub returns-in_err-push : goal.returns-in_err-push
 returns-in_err-push g c = record {
   queue = on_refused _ c.from_residual.result _ c.from_residual.ensures.1;
@@ -62,9 +46,6 @@ returns-in_err-push g c = record {
   fewer = if_refused _ c.from_residual.result _ c.from_residual.ensures.1;
   refused = refused_as _ c.from_residual.result _ c.from_residual.ensures.1 refl;
 }
-
-pub returns-clause-fewer : goal.returns-clause-fewer
-returns-clause-fewer g c = rw c.in_default-take_last.ensures.taken.0 (without_rest c.entries.self.current.items c.entries.self.later.items _ c.entries.invariant.raising.fewer)
 
 pub returns-in_default-clause-fewer : goal.returns-in_default-clause-fewer
 returns-in_default-clause-fewer g c = rw (c.in_default.ensures.taken.0, c.requires.over) (none_more _)
@@ -75,5 +56,15 @@ returns-in_default-clause-limit g c = inl refl
 pub returns-in_default-clause-refused : goal.returns-in_default-clause-refused
 returns-in_default-clause-refused g c = tt
 
-pub returns-clause-refused : goal.returns-clause-refused
-returns-clause-refused g c = tt
+pub returns : goal.returns
+returns g c =
+    let t = c.in_default-take_last.ensures.taken in
+    record {
+      queue = rw t.0 (raised_queue g.C.Number.value c.args.labels.now.items c.args.estimates.now.items (listed c.args.self.now) c.entries.least c.entries.self.current.items c.entries.self.later.items c.entries.invariant.raising t.1);
+      limit =
+          let b = raised_below g.C.Number.value c.args.labels.now.items c.args.estimates.now.items (listed c.args.self.now) c.entries.least c.entries.self.current.items c.entries.self.later.items c.entries.invariant.raising t.1 in
+          inr (c.known.ensures, subst (IsBelowWaiting g.C.Number.value c.args.labels.now.items c.args.estimates.now.items (listed c.args.self.now)) (sym c.sum_of-self.ensures) b);
+      taken = rw t.0 (raised_taken g.C.Number.value c.args.labels.now.items c.args.estimates.now.items (listed c.args.self.now) c.entries.least c.entries.self.current.items c.entries.self.later.items c.entries.invariant.raising t.1 c.sum_of-self.result c.sum_of-self.ensures);
+      fewer = rw c.in_default-take_last.ensures.taken.0 (without_rest c.entries.self.current.items c.entries.self.later.items _ c.entries.invariant.raising.fewer);
+      refused = tt;
+    }

@@ -25,52 +25,6 @@ take_within-requires g c =
       queue = queue_in g.C.Number.value c.args.labels.now.items c.args.estimates.now.items _ _ c.requires.queue (moved_from (heap_items c.args.queue.now) old.current.items old.later.items mid.current.items mid.later.items t.same t.later);
     }
 
-pub returns-in-Some-clause-taken : goal.returns-in-Some-clause-taken
-returns-in-Some-clause-taken g c =
-    let value = g.C.Number.value in
-    let labels = c.args.labels.now.items in
-    let estimates = c.args.estimates.now.items in
-    let t = c.in_ok-take_in.ensures in
-    let old = c.args.self.now in
-    let mid = c.take_in.new.self in
-    let moved = moved_wait value labels (heap_items c.args.queue.now) old.current.items old.later.items mid.current.items mid.later.items t.same t.later in
-    let taken = MatchOption-at_some _ _ c.in-Some.taken c.in-Some.is c.in_ok-taken.ensures.taken in
-    rw t.emptied (taken_before value labels estimates _ (listed mid) moved c.in-Some.taken.number c.in-Some.taken.cost c.take_within.new.self.limit (listed c.take_within.new.self) taken)
-
-pub returns-clause-limit : goal.returns-clause-limit
-returns-clause-limit g c =
-    let value = g.C.Number.value in
-    let labels = c.args.labels.now.items in
-    let estimates = c.args.estimates.now.items in
-    let t = c.in_ok-take_in.ensures in
-    let old = c.args.self.now in
-    let mid = c.take_in.new.self in
-    let moved = moved_wait value labels (heap_items c.args.queue.now) old.current.items old.later.items mid.current.items mid.later.items t.same t.later in
-    let over = MatchOption-at_none _ _ c.in_default.is c.in_ok-taken.ensures.taken in
-    let limit = c.raise_limit.new.self.limit in
-    let first = heap_items c.args.queue.now ++ listed old in
-    on_ok c.raise_limit.result c.raise_limit.ensures.limit (λ r. elim r as (λ _. (limit ≡ old.limit) ⊎ (g.C.Number.fits (value limit) × IsBelowWaiting value labels estimates first limit)) [
-      | inl same ↦ inl (same ∙ c.in_ok-taken.ensures.limit ∙ t.limit)
-      | inr low ↦ inr (low.0, below_before value labels estimates first (listed mid) moved limit (below_before value labels estimates (listed mid) (listed c.take_within.new.self) over.1 limit low.1))
-    ])
-
-pub returns-clause-taken : goal.returns-clause-taken
-returns-clause-taken g c =
-    let value = g.C.Number.value in
-    let labels = c.args.labels.now.items in
-    let estimates = c.args.estimates.now.items in
-    let t = c.in_ok-take_in.ensures in
-    let old = c.args.self.now in
-    let mid = c.take_in.new.self in
-    let moved = moved_wait value labels (heap_items c.args.queue.now) old.current.items old.later.items mid.current.items mid.later.items t.same t.later in
-    let over = MatchOption-at_none _ _ c.in_default.is c.in_ok-taken.ensures.taken in
-    let first = heap_items c.args.queue.now ++ listed old in
-    let limit = c.raise_limit.new.self.limit in
-    rw t.emptied (answer_or_none _ _ _ _ c.raise_limit.result
-    (λ none. nothing_before value labels estimates first (listed mid) moved (nothing_before value labels estimates (listed mid) (listed c.take_within.new.self) over.1 none))
-    (λ x taken. taken_before value labels estimates first (listed mid) moved x.number x.cost limit (listed c.raise_limit.new.self) (taken_before value labels estimates (listed mid) (listed c.take_within.new.self) over.1 x.number x.cost limit (listed c.raise_limit.new.self) taken))
-    c.raise_limit.ensures.taken)
-
 pub returns-in_err-take_in : goal.returns-in_err-take_in
 returns-in_err-take_in g c = record {
   ordered = on_refused _ c.from_residual.result _ c.from_residual.ensures.1;
@@ -91,21 +45,6 @@ returns-in_err-taken g c = record {
   refused = refused_as _ c.from_residual-in_err-taken.result _ c.from_residual-in_err-taken.ensures.1 c.in_err-taken.ensures.refused;
 }
 
-pub returns-in-Some-clause-ordered : goal.returns-in-Some-clause-ordered
-returns-in-Some-clause-ordered g c = c.in_ok-take_in.ensures.ordered
-
-pub returns-in-Some-clause-refused : goal.returns-in-Some-clause-refused
-returns-in-Some-clause-refused g c = tt
-
-pub returns-clause-refused : goal.returns-clause-refused
-returns-clause-refused g c = c.raise_limit.ensures.refused
-
-pub returns-in-Some-clause-queue : goal.returns-in-Some-clause-queue
-returns-in-Some-clause-queue g c = rw c.in_ok-take_in.ensures.emptied c.in_ok-taken.ensures.queue
-
-pub returns-in-Some-clause-limit : goal.returns-in-Some-clause-limit
-returns-in-Some-clause-limit g c = inl (c.in_ok-taken.ensures.limit ∙ c.in_ok-take_in.ensures.limit)
-
 pub take_in-requires : goal.take_in-requires
 take_in-requires g c = record { ordered = c.requires.ordered }
 
@@ -115,25 +54,70 @@ raise_limit-requires-clause-over g c = (MatchOption-at_none _ _ c.in_default.is 
 pub raise_limit-requires-clause-queue : goal.raise_limit-requires-clause-queue
 raise_limit-requires-clause-queue g c = c.in_ok-taken.ensures.queue
 
-pub returns-clause-ordered : goal.returns-clause-ordered
-returns-clause-ordered g c = on_ok c.raise_limit.result c.raise_limit.ensures.queue (λ _. c.in_ok-take_in.ensures.ordered)
+pub returns : goal.returns
+returns g c = record {
+  limit =
+      let value = g.C.Number.value in
+      let labels = c.args.labels.now.items in
+      let estimates = c.args.estimates.now.items in
+      let t = c.in_ok-take_in.ensures in
+      let old = c.args.self.now in
+      let mid = c.take_in.new.self in
+      let moved = moved_wait value labels (heap_items c.args.queue.now) old.current.items old.later.items mid.current.items mid.later.items t.same t.later in
+      let over = MatchOption-at_none _ _ c.in_default.is c.in_ok-taken.ensures.taken in
+      let limit = c.raise_limit.new.self.limit in
+      let first = heap_items c.args.queue.now ++ listed old in
+      on_ok c.raise_limit.result c.raise_limit.ensures.limit (λ r. elim r as (λ _. (limit ≡ old.limit) ⊎ (g.C.Number.fits (value limit) × IsBelowWaiting value labels estimates first limit)) [
+        | inl same ↦ inl (same ∙ c.in_ok-taken.ensures.limit ∙ t.limit)
+        | inr low ↦ inr (low.0, below_before value labels estimates first (listed mid) moved limit (below_before value labels estimates (listed mid) (listed c.take_within.new.self) over.1 limit low.1))
+      ]);
+  taken =
+      let value = g.C.Number.value in
+      let labels = c.args.labels.now.items in
+      let estimates = c.args.estimates.now.items in
+      let t = c.in_ok-take_in.ensures in
+      let old = c.args.self.now in
+      let mid = c.take_in.new.self in
+      let moved = moved_wait value labels (heap_items c.args.queue.now) old.current.items old.later.items mid.current.items mid.later.items t.same t.later in
+      let over = MatchOption-at_none _ _ c.in_default.is c.in_ok-taken.ensures.taken in
+      let first = heap_items c.args.queue.now ++ listed old in
+      let limit = c.raise_limit.new.self.limit in
+      rw t.emptied (answer_or_none _ _ _ _ c.raise_limit.result
+      (λ none. nothing_before value labels estimates first (listed mid) moved (nothing_before value labels estimates (listed mid) (listed c.take_within.new.self) over.1 none))
+      (λ x taken. taken_before value labels estimates first (listed mid) moved x.number x.cost limit (listed c.raise_limit.new.self) (taken_before value labels estimates (listed mid) (listed c.take_within.new.self) over.1 x.number x.cost limit (listed c.raise_limit.new.self) taken))
+      c.raise_limit.ensures.taken);
+  refused = c.raise_limit.ensures.refused;
+  ordered = on_ok c.raise_limit.result c.raise_limit.ensures.queue (λ _. c.in_ok-take_in.ensures.ordered);
+  queue = on_ok c.raise_limit.result c.raise_limit.ensures.queue (λ q. rw c.in_ok-take_in.ensures.emptied q);
+  fewer =
+      let t = c.in_ok-take_in.ensures in
+      let old = c.args.self.now in
+      let mid = c.take_in.new.self in
+      let over = MatchOption-at_none _ _ c.in_default.is c.in_ok-taken.ensures.fewer in
+      answer_or_none _ _ _ _ c.raise_limit.result
+      (λ none. as_many old.current.items old.later.items mid.current.items mid.later.items _ _ _ _ t.count t.later none over)
+      (λ x some. one_fewer old.current.items old.later.items mid.current.items mid.later.items _ _ _ _ t.count t.later some over) c.raise_limit.ensures.fewer;
+}
 
-pub returns-clause-queue : goal.returns-clause-queue
-returns-clause-queue g c = on_ok c.raise_limit.result c.raise_limit.ensures.queue (λ q. rw c.in_ok-take_in.ensures.emptied q)
-
-pub returns-clause-fewer : goal.returns-clause-fewer
-returns-clause-fewer g c =
-    let t = c.in_ok-take_in.ensures in
-    let old = c.args.self.now in
-    let mid = c.take_in.new.self in
-    let over = MatchOption-at_none _ _ c.in_default.is c.in_ok-taken.ensures.fewer in
-    answer_or_none _ _ _ _ c.raise_limit.result
-    (λ none. as_many old.current.items old.later.items mid.current.items mid.later.items _ _ _ _ t.count t.later none over)
-    (λ x some. one_fewer old.current.items old.later.items mid.current.items mid.later.items _ _ _ _ t.count t.later some over) c.raise_limit.ensures.fewer
-
-pub returns-in-Some-clause-fewer : goal.returns-in-Some-clause-fewer
-returns-in-Some-clause-fewer g c =
-    let t = c.in_ok-take_in.ensures in
-    let old = c.args.self.now in
-    let mid = c.take_in.new.self in
-    one_fewer old.current.items old.later.items mid.current.items mid.later.items _ _ _ _ t.count t.later (MatchOption-at_some _ _ c.in-Some.taken c.in-Some.is c.in_ok-taken.ensures.fewer) (omega arith)
+pub returns-in-Some : goal.returns-in-Some
+returns-in-Some g c = record {
+  taken =
+      let value = g.C.Number.value in
+      let labels = c.args.labels.now.items in
+      let estimates = c.args.estimates.now.items in
+      let t = c.in_ok-take_in.ensures in
+      let old = c.args.self.now in
+      let mid = c.take_in.new.self in
+      let moved = moved_wait value labels (heap_items c.args.queue.now) old.current.items old.later.items mid.current.items mid.later.items t.same t.later in
+      let taken = MatchOption-at_some _ _ c.in-Some.taken c.in-Some.is c.in_ok-taken.ensures.taken in
+      rw t.emptied (taken_before value labels estimates _ (listed mid) moved c.in-Some.taken.number c.in-Some.taken.cost c.take_within.new.self.limit (listed c.take_within.new.self) taken);
+  ordered = c.in_ok-take_in.ensures.ordered;
+  refused = tt;
+  queue = rw c.in_ok-take_in.ensures.emptied c.in_ok-taken.ensures.queue;
+  limit = inl (c.in_ok-taken.ensures.limit ∙ c.in_ok-take_in.ensures.limit);
+  fewer =
+      let t = c.in_ok-take_in.ensures in
+      let old = c.args.self.now in
+      let mid = c.take_in.new.self in
+      one_fewer old.current.items old.later.items mid.current.items mid.later.items _ _ _ _ t.count t.later (MatchOption-at_some _ _ c.in-Some.taken c.in-Some.is c.in_ok-taken.ensures.fewer) (omega arith);
+}

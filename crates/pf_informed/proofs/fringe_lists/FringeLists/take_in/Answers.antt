@@ -24,20 +24,6 @@ entries-preserved g c =
       count = omega (arith, i.count, f.1, ap length pushed, length-append c.entries.self.current.items (c.in-Some.entry ∷ []));
     }
 
-pub returns-clause-same : goal.returns-clause-same
-returns-clause-same g c =
-    let i = c.entries.invariant in
-    let before = c.entries.self.current.items in
-    let after = c.reverse_from.new.elements in
-    let moved : IsPermutation before after = rw c.deref_mut.ensures.value at c.reverse_from.ensures in
-    let none = c.in_default.ensures.first.0 in
-    subst (λ (xs : List (Entry g.row.C.Denot)). (e : Entry g.row.C.Denot) → Contains (heap_items c.args.queue.now ++ c.args.self.now.current.items) e ↔ Contains xs e)
-    (sym (take_at after _ _ (omega (arith, length_permutation before after moved, c.deref_mut.ensures.len))))
-    (λ e. (
-      (λ h. Contains-permutation before after e moved (rw none at ((i.same e).0 h))),
-      (λ h. (i.same e).1 (rw none (Contains-permutation after before e (IsPermutation-sym _ _ moved) h))),
-    ))
-
 pub returns-in_err-push : goal.returns-in_err-push
 returns-in_err-push g c = record {
   ordered = on_refused _ c.from_residual.result _ c.from_residual.ensures.1;
@@ -58,32 +44,36 @@ entries-smaller g c = omega (arith, c.in-Some.ensures.first.1)
 pub take_first-requires : goal.take_first-requires
 take_first-requires g c = c.entries.invariant.ordered
 
-pub returns-clause-ordered : goal.returns-clause-ordered
-returns-clause-ordered g c = c.in_default.ensures.ordered
-
-pub returns-clause-emptied : goal.returns-clause-emptied
-returns-clause-emptied g c = c.in_default.ensures.first.1
-
-pub returns-clause-later : goal.returns-clause-later
-returns-clause-later g c = c.entries.invariant.later
-
-pub returns-clause-limit : goal.returns-clause-limit
-returns-clause-limit g c = c.entries.invariant.limit
-
-pub returns-clause-refused : goal.returns-clause-refused
-returns-clause-refused g c = tt
-
 pub reverse_from-requires : goal.reverse_from-requires
 reverse_from-requires g c =
     let none = c.in_default.ensures.first.0 in
     omega (arith, c.len-from.ensures, c.args.self.now.current.ok.0, c.entries.invariant.count, ap length none, c.entries.queue.data.ok.0, ap length c.deref_mut.ensures.value)
 
-pub returns-clause-count : goal.returns-clause-count
-returns-clause-count g c =
-    let before = c.entries.self.current.items in
-    let after = c.reverse_from.new.elements in
-    let moved : IsPermutation before after = rw c.deref_mut.ensures.value at c.reverse_from.ensures in
-    let none = c.in_default.ensures.first in
-    let same = length_permutation before after moved in
-    subst (λ (xs : List (Entry g.row.C.Denot)). heap_len c.take_first.new.queue + length xs ≡ heap_len c.args.queue.now + length c.args.self.now.current.items) (sym (take_at after _ _ (omega (arith, same, c.deref_mut.ensures.len))))
-    (omega (arith, same, c.entries.invariant.count, ap length none.0, ap length none.1, c.entries.queue.data.ok.0, c.take_first.new.queue.data.ok.0))
+pub returns : goal.returns
+returns g c = record {
+  same =
+      let i = c.entries.invariant in
+      let before = c.entries.self.current.items in
+      let after = c.reverse_from.new.elements in
+      let moved : IsPermutation before after = rw c.deref_mut.ensures.value at c.reverse_from.ensures in
+      let none = c.in_default.ensures.first.0 in
+      subst (λ (xs : List (Entry g.row.C.Denot)). (e : Entry g.row.C.Denot) → Contains (heap_items c.args.queue.now ++ c.args.self.now.current.items) e ↔ Contains xs e)
+      (sym (take_at after _ _ (omega (arith, length_permutation before after moved, c.deref_mut.ensures.len))))
+      (λ e. (
+        (λ h. Contains-permutation before after e moved (rw none at ((i.same e).0 h))),
+        (λ h. (i.same e).1 (rw none (Contains-permutation after before e (IsPermutation-sym _ _ moved) h))),
+      ));
+  ordered = c.in_default.ensures.ordered;
+  emptied = c.in_default.ensures.first.1;
+  later = c.entries.invariant.later;
+  limit = c.entries.invariant.limit;
+  refused = tt;
+  count =
+      let before = c.entries.self.current.items in
+      let after = c.reverse_from.new.elements in
+      let moved : IsPermutation before after = rw c.deref_mut.ensures.value at c.reverse_from.ensures in
+      let none = c.in_default.ensures.first in
+      let same = length_permutation before after moved in
+      subst (λ (xs : List (Entry g.row.C.Denot)). heap_len c.take_first.new.queue + length xs ≡ heap_len c.args.queue.now + length c.args.self.now.current.items) (sym (take_at after _ _ (omega (arith, same, c.deref_mut.ensures.len))))
+      (omega (arith, same, c.entries.invariant.count, ap length none.0, ap length none.1, c.entries.queue.data.ok.0, c.take_first.new.queue.data.ok.0));
+}

@@ -25,19 +25,13 @@ returns-in_err-push-2 g c = record {
 pub index-requires : goal.index-requires
 index-requires g c = omega (arith, c.requires.estimated)
 
-pub returns-clause-estimates : goal.returns-clause-estimates
-returns-clause-estimates g c = refl
-
-pub returns-clause-labelled : goal.returns-clause-labelled
-returns-clause-labelled g c = rw (c.in_ok-push-2.ensures.items, c.requires.unlabelled, c.first.ensures, c.zero-nothing.ensures) refl
-
-pub returns-clause-refused : goal.returns-clause-refused
-returns-clause-refused g c = tt
-
-pub returns-clause-ordered : goal.returns-clause-ordered
-returns-clause-ordered g c = c.in_ok-push.ensures.heap_order c.requires.ordered
-
-pub returns-clause-waiting : goal.returns-clause-waiting
-returns-clause-waiting g c =
-    let h = c.index.result.now in
-    (h, at_place c.args.self.now.estimates.items 0 h h (some_one _ c.requires.estimated) (sym c.index.ensures), rw (c.requires.nothing_waits, c.zero-nothing.ensures) at c.in_ok-push.ensures.permutation)
+pub returns : goal.returns
+returns g c = record {
+  estimates = refl;
+  labelled = rw (c.in_ok-push-2.ensures.items, c.requires.unlabelled, c.first.ensures, c.zero-nothing.ensures) refl;
+  refused = tt;
+  ordered = c.in_ok-push.ensures.heap_order c.requires.ordered;
+  waiting =
+      let h = c.index.result.now in
+      (h, at_place c.args.self.now.estimates.items 0 h h (some_one _ c.requires.estimated) (sym c.index.ensures), rw (c.requires.nothing_waits, c.zero-nothing.ensures) at c.in_ok-push.ensures.permutation);
+}

@@ -60,36 +60,6 @@ relax-requires-clause-queue g c =
     let w = widened g.C.Number.value labels c.make_room.new.labels.items (length c.args.self.now.estimates.items) c.requires.few is in
     rw c.in_ok-reserve.ensures.items (queue_wider g.C.Number.value labels c.make_room.new.labels.items w.stays c.args.self.now.estimates.items (heap_items c.args.self.now.queue) c.requires.queue)
 
-pub returns-clause-followed : goal.returns-clause-followed
-returns-clause-followed g c = λ l h.
-    let labels = c.args.self.now.labels.items in
-    let len : c.len-2.result ≡ length c.args.self.now.estimates.items = c.len-2.ensures ∙ c.args.self.now.estimates.ok.0 in
-    let is = rw len at c.in_ok-make_room.ensures.wider in
-    let w = widened g.C.Number.value labels c.make_room.new.labels.items (length c.args.self.now.estimates.items) c.requires.few is in
-    let same : c.label_of-label.result ≡ l = label_is c.make_room.new.labels.items c.args.number c.label_of-label.result l c.label_of-label.ensures (w.stays c.args.number l h) in
-    let eased = rw (c.deref.ensures.value, c.in_ok-reserve.ensures.items) at c.relax.ensures.eased in
-    record {
-      wider = c.make_room.new.labels.items;
-      wide = w;
-      eased = subst (λ (m : Label g.row.C.Denot). Eased g.C.Number.value g.C.Number.fits c.args.self.now.estimates.items c.args.number (g.C.Number.value m.cost) c.args.self.now.row.items c.make_room.new.labels.items c.relax.new.labels.items (heap_items c.args.self.now.queue) (heap_items c.relax.new.queue)) same eased;
-    }
-
-pub returns-clause-wide : goal.returns-clause-wide
-returns-clause-wide g c =
-    let labels = c.args.self.now.labels.items in
-    let len : c.len-2.result ≡ length c.args.self.now.estimates.items = c.len-2.ensures ∙ c.args.self.now.estimates.ok.0 in
-    let is = rw len at c.in_ok-make_room.ensures.wider in
-    c.relax.ensures.eased.len ∙ length_wider g.C.Number.value labels c.make_room.new.labels.items (length c.args.self.now.estimates.items) c.requires.few is
-
-pub returns-clause-less : goal.returns-clause-less
-returns-clause-less g c =
-    let labels = c.args.self.now.labels.items in
-    let top = nat_of (g.C.Number.value g.C.Cost.greatest) in
-    let len : c.len-2.result ≡ length c.args.self.now.estimates.items = c.len-2.ensures ∙ c.args.self.now.estimates.ok.0 in
-    let is = rw len at c.in_ok-make_room.ensures.wider in
-    let w = work_wider g.C.Number.value labels c.make_room.new.labels.items (length c.args.self.now.estimates.items) c.requires.few is top (heap_len c.args.self.now.queue) (few_fit _ _ len c.in_ok-make_room.ensures.few) in
-    less_work g.C.Number.value top c.make_room.new.labels.items c.relax.new.labels.items (heap_len c.reserve.new.self) (heap_len c.relax.new.queue) (heap_len c.args.self.now.queue) labels c.relax.ensures.eased.len c.relax.ensures.less c.in_ok-reserve.ensures.len w
-
 pub returns-in_err-reserve : goal.returns-in_err-reserve
 returns-in_err-reserve g c = record {
   estimates = refl;
@@ -114,12 +84,6 @@ returns-in_err-make_room g c = record {
   refused = refused_as _ c.from_residual-in_err-make_room.result _ c.from_residual-in_err-make_room.ensures.1 c.in_err-make_room.ensures.refused;
 }
 
-pub returns-clause-estimates : goal.returns-clause-estimates
-returns-clause-estimates g c = refl
-
-pub returns-clause-refused : goal.returns-clause-refused
-returns-clause-refused g c = tt
-
 pub relax-requires-clause-here : goal.relax-requires-clause-here
 relax-requires-clause-here g c = c.label_of-label.ensures
 
@@ -133,11 +97,35 @@ relax-requires-clause-wide g c =
     let is = rw len at c.in_ok-make_room.ensures.wider in
     sym (length_wider g.C.Number.value labels c.make_room.new.labels.items (length c.args.self.now.estimates.items) c.requires.few is)
 
-pub returns-clause-forest : goal.returns-clause-forest
-returns-clause-forest g c = c.relax.ensures.forest
-
-pub returns-clause-ordered : goal.returns-clause-ordered
-returns-clause-ordered g c = c.relax.ensures.ordered
-
-pub returns-clause-queue : goal.returns-clause-queue
-returns-clause-queue g c = c.relax.ensures.queue
+pub returns : goal.returns
+returns g c =
+    let labels = c.args.self.now.labels.items in
+    record {
+      followed = λ l h.
+          let labels = c.args.self.now.labels.items in
+          let len : c.len-2.result ≡ length c.args.self.now.estimates.items = c.len-2.ensures ∙ c.args.self.now.estimates.ok.0 in
+          let is = rw len at c.in_ok-make_room.ensures.wider in
+          let w = widened g.C.Number.value labels c.make_room.new.labels.items (length c.args.self.now.estimates.items) c.requires.few is in
+          let same : c.label_of-label.result ≡ l = label_is c.make_room.new.labels.items c.args.number c.label_of-label.result l c.label_of-label.ensures (w.stays c.args.number l h) in
+          let eased = rw (c.deref.ensures.value, c.in_ok-reserve.ensures.items) at c.relax.ensures.eased in
+          record {
+            wider = c.make_room.new.labels.items;
+            wide = w;
+            eased = subst (λ (m : Label g.row.C.Denot). Eased g.C.Number.value g.C.Number.fits c.args.self.now.estimates.items c.args.number (g.C.Number.value m.cost) c.args.self.now.row.items c.make_room.new.labels.items c.relax.new.labels.items (heap_items c.args.self.now.queue) (heap_items c.relax.new.queue)) same eased;
+          };
+      wide =
+          let len : c.len-2.result ≡ length c.args.self.now.estimates.items = c.len-2.ensures ∙ c.args.self.now.estimates.ok.0 in
+          let is = rw len at c.in_ok-make_room.ensures.wider in
+          c.relax.ensures.eased.len ∙ length_wider g.C.Number.value labels c.make_room.new.labels.items (length c.args.self.now.estimates.items) c.requires.few is;
+      less =
+          let top = nat_of (g.C.Number.value g.C.Cost.greatest) in
+          let len : c.len-2.result ≡ length c.args.self.now.estimates.items = c.len-2.ensures ∙ c.args.self.now.estimates.ok.0 in
+          let is = rw len at c.in_ok-make_room.ensures.wider in
+          let w = work_wider g.C.Number.value labels c.make_room.new.labels.items (length c.args.self.now.estimates.items) c.requires.few is top (heap_len c.args.self.now.queue) (few_fit _ _ len c.in_ok-make_room.ensures.few) in
+          less_work g.C.Number.value top c.make_room.new.labels.items c.relax.new.labels.items (heap_len c.reserve.new.self) (heap_len c.relax.new.queue) (heap_len c.args.self.now.queue) labels c.relax.ensures.eased.len c.relax.ensures.less c.in_ok-reserve.ensures.len w;
+      estimates = refl;
+      refused = tt;
+      forest = c.relax.ensures.forest;
+      ordered = c.relax.ensures.ordered;
+      queue = c.relax.ensures.queue;
+    }

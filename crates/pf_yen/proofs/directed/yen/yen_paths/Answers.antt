@@ -12,11 +12,9 @@ returns-clause-graph g c = λ edges test s.
     let none = ap (λ (h : List (Candidate g.row.C.Denot g.row.A.Denot)). waiting_plans h) {y = []} (search rules) in
     new_walk g.met.N.Eq.laws _ found.distinct found.same found.one found.begins c.new.ensures refl (c.nothing.ensures, none, refl, refl) refl s.edges_answered.alike s
 
-pub returns-in_err-clone_of-clause-begins : goal.returns-in_err-clone_of-clause-begins
-returns-in_err-clone_of-clause-begins g c = IfOk-from_err _ _ c.from_residual.ensures.0
-
-pub returns-in_err-clone_of-clause-graph : goal.returns-in_err-clone_of-clause-graph
-returns-in_err-clone_of-clause-graph g c = IfOk-from_err _ _ c.from_residual.ensures.0
-
-pub returns-in_err-clone_of-clause-refused : goal.returns-in_err-clone_of-clause-refused
-returns-in_err-clone_of-clause-refused g c = refused_as _ c.from_residual.result c.in_err-clone_of.field-0.0 c.from_residual.ensures.1 c.in_err-clone_of.ensures.refused
+pub returns-in_err-clone_of : goal.returns-in_err-clone_of
+returns-in_err-clone_of g c = record {
+  begins = IfOk-from_err _ _ c.from_residual.ensures.0;
+  graph = IfOk-from_err _ _ c.from_residual.ensures.0;
+  refused = refused_as _ c.from_residual.result c.in_err-clone_of.field-0.0 c.from_residual.ensures.1 c.in_err-clone_of.ensures.refused;
+}

@@ -29,17 +29,17 @@ steps-preserved g c =
       ];
     }
 
-pub returns-in_err-add-clause-listed : goal.returns-in_err-add-clause-listed
-returns-in_err-add-clause-listed g c = IfOk-from_err _ _ c.from_residual.ensures.0
+pub returns-in_err-add : goal.returns-in_err-add
+returns-in_err-add g c = record {
+  listed = IfOk-from_err _ _ c.from_residual.ensures.0;
+  refused = refused_as _ c.from_residual.result c.in_err-add.field-0.0 c.from_residual.ensures.1 c.in_err-add.ensures.refused;
+}
 
-pub returns-in_err-add-clause-refused : goal.returns-in_err-add-clause-refused
-returns-in_err-add-clause-refused g c = refused_as _ c.from_residual.result c.in_err-add.field-0.0 c.from_residual.ensures.1 c.in_err-add.ensures.refused
-
-pub returns-clause-listed : goal.returns-clause-listed
-returns-clause-listed g c =
-    let s = c.args.self.now in
-    let narrow : NarrowGraph g.row.C.Denot = record { known = s.known.now; onward = s.onward.items; spur = s.spur; banned = s.banned.items } in
-    subst (λ (steps : List (ℕ × g.row.C.Denot)). g.R.Row.holds c.steps.row (filter (λ (e : ℕ × g.row.C.Denot). allows narrow c.args.node e.0) steps)) (take_all _ _ c.steps-test.false ∙ c.steps.invariant.is) c.steps.invariant.held
-
-pub returns-clause-refused : goal.returns-clause-refused
-returns-clause-refused g c = tt
+pub returns : goal.returns
+returns g c = record {
+  listed =
+      let s = c.args.self.now in
+      let narrow : NarrowGraph g.row.C.Denot = record { known = s.known.now; onward = s.onward.items; spur = s.spur; banned = s.banned.items } in
+      subst (λ (steps : List (ℕ × g.row.C.Denot)). g.R.Row.holds c.steps.row (filter (λ (e : ℕ × g.row.C.Denot). allows narrow c.args.node e.0) steps)) (take_all _ _ c.steps-test.false ∙ c.steps.invariant.is) c.steps.invariant.held;
+  refused = tt;
+}

@@ -11,63 +11,16 @@ use Rattle.pf_yen.proofs.ResultLemmas.{handed_on, no_overflow, ok_is_no_error, r
 use Rattle.std.proofs.lemmas.List.{length-replicate}
 use Rattle.pf_yen.proofs.plans.Plans.begin.Goals as goal
 
-pub returns-in_err-self-clause-overflow : goal.returns-in_err-self-clause-overflow
-returns-in_err-self-clause-overflow g c = λ x.
-    let e = c.in_ok-narrowed.ensures in
-    let s = c.in_ok-narrowed.narrowed in
-    let here : NarrowGraph g.row.C.Denot = record { known = s.known.now; onward = s.onward.items; spur = s.spur; banned = s.banned.items } in
-    let f : c.in_err-self.field-0.0 ≡ CostOverflow = handed_on c.from_residual-in_err-self.result c.in_err-self.field-0.0 c.from_residual-in_err-self.ensures.1 x in
-    subst (λ (k : KnownGraph g.row.C.Denot). IsTooDear (KnownStep g.C.Number.value k) (is_goal k) (StandsForItself (length k.rows) 0) (StandsForItself (length k.rows)) g.C.Number.fits) e.graph.0
-    (too_dear_all g.C.Number.value here (length c.args.known.now.rows) e.onward e.graph.2 g.C.Number.fits (length s.known.now.rows) (c.in_err-self.ensures.overflow (ap Err f)))
-
-pub returns-clause-partition : goal.returns-clause-partition
-returns-clause-partition g c =
-    let e = c.in_ok-narrowed.ensures in
-    let s = c.in_ok-narrowed.narrowed in
-    let n : IsNarrowedTo s.known.now s.onward.items s.spur [] = rw (e.graph.0, e.onward, e.graph.1) (narrowed_first c.args.known.now (length c.args.known.now.rows) c.requires.some) in
-    begun_partition g.C.Number.value c.args.known.now c.requires.whole c.in_ok-self.field-0 (rw (e.graph.0, e.graph.2) at (c.in_ok-self.ensures.least [] n)) (rw e.graph.2 at c.in_ok-self.ensures.parts)
-
-pub returns-in_err-narrowed-clause-begun : goal.returns-in_err-narrowed-clause-begun
-returns-in_err-narrowed-clause-begun g c = IfOk-from_err _ _ c.from_residual.ensures.0
-
-pub returns-in_err-narrowed-clause-errors : goal.returns-in_err-narrowed-clause-errors
-returns-in_err-narrowed-clause-errors g c = refused_as _ c.from_residual.result c.in_err-narrowed.field-0.0 c.from_residual.ensures.1 (inl c.in_err-narrowed.ensures.refused)
-
-pub returns-in_err-narrowed-clause-partition : goal.returns-in_err-narrowed-clause-partition
-returns-in_err-narrowed-clause-partition g c = IfOk-from_err _ _ c.from_residual.ensures.0
-
-pub returns-in_err-self-clause-begun : goal.returns-in_err-self-clause-begun
-returns-in_err-self-clause-begun g c = IfOk-from_err _ _ c.from_residual-in_err-self.ensures.0
-
-pub returns-in_err-self-clause-errors : goal.returns-in_err-self-clause-errors
-returns-in_err-self-clause-errors g c = refused_as _ c.from_residual-in_err-self.result c.in_err-self.field-0.0 c.from_residual-in_err-self.ensures.1 c.in_err-self.ensures.errors
-
-pub returns-in_err-self-clause-partition : goal.returns-in_err-self-clause-partition
-returns-in_err-self-clause-partition g c = IfOk-from_err _ _ c.from_residual-in_err-self.ensures.0
-
-pub returns-clause-errors : goal.returns-clause-errors
-returns-clause-errors g c = tt
-
-pub returns-clause-overflow : goal.returns-clause-overflow
-returns-clause-overflow g c = λ e. absurd (ok_is_no_error _ _ _ refl e)
-
-pub returns-clause-kept : goal.returns-clause-kept
-returns-clause-kept g c = tt
-
-pub returns-in_err-narrowed-clause-overflow : goal.returns-in_err-narrowed-clause-overflow
-returns-in_err-narrowed-clause-overflow g c = λ e. absurd (no_overflow c.from_residual.result c.in_err-narrowed.field-0.0 c.from_residual.ensures.1 c.in_err-narrowed.ensures.refused e)
-
-pub returns-in_err-narrowed-clause-kept : goal.returns-in_err-narrowed-clause-kept
-returns-in_err-narrowed-clause-kept g c = refused_as _ c.from_residual.result c.in_err-narrowed.field-0.0 c.from_residual.ensures.1 (refl, refl)
-
-pub returns-in_err-self-clause-kept : goal.returns-in_err-self-clause-kept
-returns-in_err-self-clause-kept g c = refused_as _ c.from_residual-in_err-self.result c.in_err-self.field-0.0 c.from_residual-in_err-self.ensures.1 (refl, refl)
-
-pub returns-in_err-narrowed-clause-waiting : goal.returns-in_err-narrowed-clause-waiting
-returns-in_err-narrowed-clause-waiting g c = refl
-
-pub returns-in_err-narrowed-clause-is_given : goal.returns-in_err-narrowed-clause-is_given
-returns-in_err-narrowed-clause-is_given g c = refl
+pub returns-in_err-narrowed : goal.returns-in_err-narrowed
+returns-in_err-narrowed g c = record {
+  begun = IfOk-from_err _ _ c.from_residual.ensures.0;
+  errors = refused_as _ c.from_residual.result c.in_err-narrowed.field-0.0 c.from_residual.ensures.1 (inl c.in_err-narrowed.ensures.refused);
+  partition = IfOk-from_err _ _ c.from_residual.ensures.0;
+  overflow = λ e. absurd (no_overflow c.from_residual.result c.in_err-narrowed.field-0.0 c.from_residual.ensures.1 c.in_err-narrowed.ensures.refused e);
+  kept = refused_as _ c.from_residual.result c.in_err-narrowed.field-0.0 c.from_residual.ensures.1 (refl, refl);
+  waiting = refl;
+  is_given = refl;
+}
 
 pub least_of_class-requires-clause-whole : goal.least_of_class-requires-clause-whole
 least_of_class-requires-clause-whole g c = rw c.in_ok-narrowed.ensures.graph.0 c.requires.whole
@@ -78,17 +31,34 @@ least_of_class-requires-clause-some g c = rw c.in_ok-narrowed.ensures.graph.0 c.
 pub least_of_class-requires-clause-wide : goal.least_of_class-requires-clause-wide
 least_of_class-requires-clause-wide g c = rw (c.in_ok-narrowed.ensures.onward, c.in_ok-narrowed.ensures.graph.0) (length-replicate (length c.args.known.now.rows) None)
 
-pub returns-in_err-self-clause-waiting : goal.returns-in_err-self-clause-waiting
-returns-in_err-self-clause-waiting g c = refl
+pub returns-in_err-self : goal.returns-in_err-self
+returns-in_err-self g c = record {
+  overflow = λ x.
+      let e = c.in_ok-narrowed.ensures in
+      let s = c.in_ok-narrowed.narrowed in
+      let here : NarrowGraph g.row.C.Denot = record { known = s.known.now; onward = s.onward.items; spur = s.spur; banned = s.banned.items } in
+      let f : c.in_err-self.field-0.0 ≡ CostOverflow = handed_on c.from_residual-in_err-self.result c.in_err-self.field-0.0 c.from_residual-in_err-self.ensures.1 x in
+      subst (λ (k : KnownGraph g.row.C.Denot). IsTooDear (KnownStep g.C.Number.value k) (is_goal k) (StandsForItself (length k.rows) 0) (StandsForItself (length k.rows)) g.C.Number.fits) e.graph.0
+      (too_dear_all g.C.Number.value here (length c.args.known.now.rows) e.onward e.graph.2 g.C.Number.fits (length s.known.now.rows) (c.in_err-self.ensures.overflow (ap Err f)));
+  begun = IfOk-from_err _ _ c.from_residual-in_err-self.ensures.0;
+  errors = refused_as _ c.from_residual-in_err-self.result c.in_err-self.field-0.0 c.from_residual-in_err-self.ensures.1 c.in_err-self.ensures.errors;
+  partition = IfOk-from_err _ _ c.from_residual-in_err-self.ensures.0;
+  kept = refused_as _ c.from_residual-in_err-self.result c.in_err-self.field-0.0 c.from_residual-in_err-self.ensures.1 (refl, refl);
+  waiting = refl;
+  is_given = refl;
+}
 
-pub returns-in_err-self-clause-is_given : goal.returns-in_err-self-clause-is_given
-returns-in_err-self-clause-is_given g c = refl
-
-pub returns-clause-waiting : goal.returns-clause-waiting
-returns-clause-waiting g c = refl
-
-pub returns-clause-is_given : goal.returns-clause-is_given
-returns-clause-is_given g c = refl
-
-pub returns-clause-begun : goal.returns-clause-begun
-returns-clause-begun g c = refl
+pub returns : goal.returns
+returns g c = record {
+  partition =
+      let e = c.in_ok-narrowed.ensures in
+      let s = c.in_ok-narrowed.narrowed in
+      let n : IsNarrowedTo s.known.now s.onward.items s.spur [] = rw (e.graph.0, e.onward, e.graph.1) (narrowed_first c.args.known.now (length c.args.known.now.rows) c.requires.some) in
+      begun_partition g.C.Number.value c.args.known.now c.requires.whole c.in_ok-self.field-0 (rw (e.graph.0, e.graph.2) at (c.in_ok-self.ensures.least [] n)) (rw e.graph.2 at c.in_ok-self.ensures.parts);
+  errors = tt;
+  overflow = λ e. absurd (ok_is_no_error _ _ _ refl e);
+  kept = tt;
+  waiting = refl;
+  is_given = refl;
+  begun = refl;
+}

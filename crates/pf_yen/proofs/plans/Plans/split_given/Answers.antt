@@ -15,136 +15,80 @@ use Rattle.pf_yen.proofs.plans.Plans.split_given.Goals as goal
 pub split-requires-clause-cheapest : goal.split-requires-clause-cheapest
 split-requires-clause-cheapest g c = let p = c.requires.partition in let q = rw c.in-Some.is at p.1 in q.cheapest (plan_of c.in-Some.chosen) (Contains-head _ _)
 
-pub returns-clause-goes_on : goal.returns-clause-goes_on
-returns-clause-goes_on g c =
-    let value = g.C.Number.value in
-    let s = c.args.self.now in
-    let t : s.is_given ≡ true = c.if-not-self.false in
-    elim c.match-self.branch as (λ _. GoesOn value c.args.known.now (as_list (chosen_plan s.chosen) ++ waiting_plans (heap_items s.waiting)) (waiting_plans (heap_items c.match-self.self.waiting)) (last_given s.is_given (chosen_plan s.chosen))) [
-      | in-Some+in_ok-split+in_ok-append w ↦
-          let made = w.from-plans.ensures in
-          let m = IsPermutation-map plan_of _ (heap_items w.from-plans.result) made.1 in
-          let both : map plan_of (heap_items s.waiting ++ heap_items w.from-plans.result) ≡ map plan_of (heap_items s.waiting) ++ map plan_of (heap_items w.from-plans.result) = map-append plan_of (heap_items s.waiting) (heap_items w.from-plans.result) in
-          let n = rw both at (IsPermutation-map plan_of (heap_items s.waiting ++ heap_items w.from-plans.result) (heap_items w.append.new.self) w.in_ok-append.ensures.permutation) in
-          rw (t, w.in-Some.is, w.self-is) (split_goes_on value c.args.known.now c.requires.whole (plan_of w.in-Some.chosen) (map plan_of (heap_items s.waiting)) _ (map plan_of (heap_items w.from-plans.result)) (map plan_of (heap_items w.append.new.self)) w.in_ok-split.ensures.split m n)
-      | in_default w ↦ rw (t, w.in_default.is, w.self-is) (no_change value c.args.known.now (map plan_of (heap_items s.waiting)))
-    ]
-
-pub returns-in_err-append-clause-first : goal.returns-in_err-append-clause-first
-returns-in_err-append-clause-first g c = IfOk-from_err _ _ c.from_residual-in_err-append.ensures.0
-
-pub returns-in_err-append-clause-goes_on : goal.returns-in_err-append-clause-goes_on
-returns-in_err-append-clause-goes_on g c = IfOk-from_err _ _ c.from_residual-in_err-append.ensures.0
-
-pub returns-in_err-append-clause-is_given : goal.returns-in_err-append-clause-is_given
-returns-in_err-append-clause-is_given g c = IfOk-from_err _ _ c.from_residual-in_err-append.ensures.0
-
-pub returns-in_err-split-clause-errors : goal.returns-in_err-split-clause-errors
-returns-in_err-split-clause-errors g c = refused_as _ c.from_residual.result c.in_err-split.field-0.0 c.from_residual.ensures.1 c.in_err-split.ensures.errors
-
-pub returns-in_err-split-clause-first : goal.returns-in_err-split-clause-first
-returns-in_err-split-clause-first g c = IfOk-from_err _ _ c.from_residual.ensures.0
-
-pub returns-in_err-split-clause-goes_on : goal.returns-in_err-split-clause-goes_on
-returns-in_err-split-clause-goes_on g c = IfOk-from_err _ _ c.from_residual.ensures.0
-
-pub returns-in_err-split-clause-is_given : goal.returns-in_err-split-clause-is_given
-returns-in_err-split-clause-is_given g c = IfOk-from_err _ _ c.from_residual.ensures.0
-
-pub returns-then-not-self-clause-errors : goal.returns-then-not-self-clause-errors
-returns-then-not-self-clause-errors g c = tt
-
-pub returns-clause-errors : goal.returns-clause-errors
-returns-clause-errors g c = tt
-
-pub returns-clause-overflow : goal.returns-clause-overflow
-returns-clause-overflow g c = λ e. absurd (ok_is_no_error _ _ _ refl e)
-
-pub returns-clause-kept : goal.returns-clause-kept
-returns-clause-kept g c = tt
-
-pub returns-clause-due : goal.returns-clause-due
-returns-clause-due g c = tt
-
-pub returns-then-not-self-clause-overflow : goal.returns-then-not-self-clause-overflow
-returns-then-not-self-clause-overflow g c = λ e. absurd (ok_is_no_error _ _ _ refl e)
-
-pub returns-then-not-self-clause-kept : goal.returns-then-not-self-clause-kept
-returns-then-not-self-clause-kept g c = tt
-
-pub returns-then-not-self-clause-due : goal.returns-then-not-self-clause-due
-returns-then-not-self-clause-due g c = tt
-
 pub split-requires-clause-whole : goal.split-requires-clause-whole
 split-requires-clause-whole g c = c.requires.whole
 
 pub split-requires-clause-some : goal.split-requires-clause-some
 split-requires-clause-some g c = c.requires.some
 
-pub returns-in_err-split-clause-overflow : goal.returns-in_err-split-clause-overflow
-returns-in_err-split-clause-overflow g c = λ e. rw c.in-Some.is (c.in_err-split.ensures.overflow (ap Err (handed_on c.from_residual.result c.in_err-split.field-0.0 c.from_residual.ensures.1 e)))
+pub returns-in_err-split : goal.returns-in_err-split
+returns-in_err-split g c = record {
+  errors = refused_as _ c.from_residual.result c.in_err-split.field-0.0 c.from_residual.ensures.1 c.in_err-split.ensures.errors;
+  first = IfOk-from_err _ _ c.from_residual.ensures.0;
+  goes_on = IfOk-from_err _ _ c.from_residual.ensures.0;
+  is_given = IfOk-from_err _ _ c.from_residual.ensures.0;
+  overflow = λ e. rw c.in-Some.is (c.in_err-split.ensures.overflow (ap Err (handed_on c.from_residual.result c.in_err-split.field-0.0 c.from_residual.ensures.1 e)));
+  kept = refused_as _ c.from_residual.result c.in_err-split.field-0.0 c.from_residual.ensures.1 (refl, refl, refl);
+  ordered = c.requires.ordered;
+  due = refused_as _ c.from_residual.result c.in_err-split.field-0.0 c.from_residual.ensures.1 (given_due _ _ _ c.if-not-self.false c.in-Some.is);
+  has_begun = refl;
+}
 
-pub returns-in_err-split-clause-kept : goal.returns-in_err-split-clause-kept
-returns-in_err-split-clause-kept g c = refused_as _ c.from_residual.result c.in_err-split.field-0.0 c.from_residual.ensures.1 (refl, refl, refl)
+pub returns-in_err-append : goal.returns-in_err-append
+returns-in_err-append g c = record {
+  first = IfOk-from_err _ _ c.from_residual-in_err-append.ensures.0;
+  goes_on = IfOk-from_err _ _ c.from_residual-in_err-append.ensures.0;
+  is_given = IfOk-from_err _ _ c.from_residual-in_err-append.ensures.0;
+  errors = refused_as _ c.from_residual-in_err-append.result OutOfMemory c.from_residual-in_err-append.ensures.1 (inl refl);
+  overflow = λ e. absurd (no_overflow c.from_residual-in_err-append.result OutOfMemory c.from_residual-in_err-append.ensures.1 refl e);
+  due = refused_as _ c.from_residual-in_err-append.result OutOfMemory c.from_residual-in_err-append.ensures.1 (given_due _ _ _ c.if-not-self.false c.in-Some.is);
+  kept = refused_as _ c.from_residual-in_err-append.result OutOfMemory c.from_residual-in_err-append.ensures.1 (refl, c.in_err-append.ensures.err.0, refl);
+  ordered = rw c.in_err-append.ensures.err.0 c.requires.ordered;
+  has_begun = refl;
+}
 
-pub returns-in_err-split-clause-ordered : goal.returns-in_err-split-clause-ordered
-returns-in_err-split-clause-ordered g c = c.requires.ordered
+pub returns-then-not-self : goal.returns-then-not-self
+returns-then-not-self g c = record {
+  errors = tt;
+  overflow = λ e. absurd (ok_is_no_error _ _ _ refl e);
+  kept = tt;
+  due = tt;
+  ordered = c.requires.ordered;
+  has_begun = refl;
+  goes_on = rw c.if-not-self.true (no_change g.C.Number.value c.args.known.now _);
+  first = λ f. rw c.if-not-self.true at f;
+  is_given = c.if-not-self.true;
+}
 
-pub returns-in_err-append-clause-errors : goal.returns-in_err-append-clause-errors
-returns-in_err-append-clause-errors g c = refused_as _ c.from_residual-in_err-append.result OutOfMemory c.from_residual-in_err-append.ensures.1 (inl refl)
-
-pub returns-in_err-append-clause-overflow : goal.returns-in_err-append-clause-overflow
-returns-in_err-append-clause-overflow g c = λ e. absurd (no_overflow c.from_residual-in_err-append.result OutOfMemory c.from_residual-in_err-append.ensures.1 refl e)
-
-pub returns-in_err-append-clause-due : goal.returns-in_err-append-clause-due
-returns-in_err-append-clause-due g c = refused_as _ c.from_residual-in_err-append.result OutOfMemory c.from_residual-in_err-append.ensures.1 (given_due _ _ _ c.if-not-self.false c.in-Some.is)
-
-pub returns-in_err-split-clause-due : goal.returns-in_err-split-clause-due
-returns-in_err-split-clause-due g c = refused_as _ c.from_residual.result c.in_err-split.field-0.0 c.from_residual.ensures.1 (given_due _ _ _ c.if-not-self.false c.in-Some.is)
-
-pub returns-in_err-split-clause-has_begun : goal.returns-in_err-split-clause-has_begun
-returns-in_err-split-clause-has_begun g c = refl
-
-pub returns-then-not-self-clause-ordered : goal.returns-then-not-self-clause-ordered
-returns-then-not-self-clause-ordered g c = c.requires.ordered
-
-pub returns-then-not-self-clause-has_begun : goal.returns-then-not-self-clause-has_begun
-returns-then-not-self-clause-has_begun g c = refl
-
-pub returns-clause-is_given : goal.returns-clause-is_given
-returns-clause-is_given g c = refl
-
-pub returns-in_err-append-clause-kept : goal.returns-in_err-append-clause-kept
-returns-in_err-append-clause-kept g c = refused_as _ c.from_residual-in_err-append.result OutOfMemory c.from_residual-in_err-append.ensures.1 (refl, c.in_err-append.ensures.err.0, refl)
-
-pub returns-in_err-append-clause-ordered : goal.returns-in_err-append-clause-ordered
-returns-in_err-append-clause-ordered g c = rw c.in_err-append.ensures.err.0 c.requires.ordered
-
-pub returns-in_err-append-clause-has_begun : goal.returns-in_err-append-clause-has_begun
-returns-in_err-append-clause-has_begun g c = refl
-
-pub returns-clause-has_begun : goal.returns-clause-has_begun
-returns-clause-has_begun g c =
-    elim c.match-self.branch as (λ _. c.match-self.self.has_begun ≡ c.args.self.now.has_begun) [
-      | in-Some+in_ok-split+in_ok-append w ↦ rw w.self-is refl
-      | in_default w ↦ rw w.self-is refl
-    ]
-
-pub returns-then-not-self-clause-goes_on : goal.returns-then-not-self-clause-goes_on
-returns-then-not-self-clause-goes_on g c = rw c.if-not-self.true (no_change g.C.Number.value c.args.known.now _)
-
-pub returns-then-not-self-clause-first : goal.returns-then-not-self-clause-first
-returns-then-not-self-clause-first g c = λ f. rw c.if-not-self.true at f
-
-pub returns-then-not-self-clause-is_given : goal.returns-then-not-self-clause-is_given
-returns-then-not-self-clause-is_given g c = c.if-not-self.true
-
-pub returns-clause-first : goal.returns-clause-first
-returns-clause-first g c = λ _. tt
-
-pub returns-clause-ordered : goal.returns-clause-ordered
-returns-clause-ordered g c =
-    elim c.match-self.branch as (λ _. IsHeap (first_cmp g.C.Ord.cmp) (heap_items c.match-self.self.waiting)) [
-      | in-Some+in_ok-split+in_ok-append w ↦ rw w.self-is (w.in_ok-append.ensures.heap_order c.requires.ordered)
-      | in_default w ↦ rw w.self-is c.requires.ordered
-    ]
+pub returns : goal.returns
+returns g c = record {
+  goes_on =
+      let value = g.C.Number.value in
+      let s = c.args.self.now in
+      let t : s.is_given ≡ true = c.if-not-self.false in
+      elim c.match-self.branch as (λ _. GoesOn value c.args.known.now (as_list (chosen_plan s.chosen) ++ waiting_plans (heap_items s.waiting)) (waiting_plans (heap_items c.match-self.self.waiting)) (last_given s.is_given (chosen_plan s.chosen))) [
+        | in-Some+in_ok-split+in_ok-append w ↦
+            let made = w.from-plans.ensures in
+            let m = IsPermutation-map plan_of _ (heap_items w.from-plans.result) made.1 in
+            let both : map plan_of (heap_items s.waiting ++ heap_items w.from-plans.result) ≡ map plan_of (heap_items s.waiting) ++ map plan_of (heap_items w.from-plans.result) = map-append plan_of (heap_items s.waiting) (heap_items w.from-plans.result) in
+            let n = rw both at (IsPermutation-map plan_of (heap_items s.waiting ++ heap_items w.from-plans.result) (heap_items w.append.new.self) w.in_ok-append.ensures.permutation) in
+            rw (t, w.in-Some.is, w.self-is) (split_goes_on value c.args.known.now c.requires.whole (plan_of w.in-Some.chosen) (map plan_of (heap_items s.waiting)) _ (map plan_of (heap_items w.from-plans.result)) (map plan_of (heap_items w.append.new.self)) w.in_ok-split.ensures.split m n)
+        | in_default w ↦ rw (t, w.in_default.is, w.self-is) (no_change value c.args.known.now (map plan_of (heap_items s.waiting)))
+      ];
+  errors = tt;
+  overflow = λ e. absurd (ok_is_no_error _ _ _ refl e);
+  kept = tt;
+  due = tt;
+  is_given = refl;
+  has_begun =
+      elim c.match-self.branch as (λ _. c.match-self.self.has_begun ≡ c.args.self.now.has_begun) [
+        | in-Some+in_ok-split+in_ok-append w ↦ rw w.self-is refl
+        | in_default w ↦ rw w.self-is refl
+      ];
+  first = λ _. tt;
+  ordered =
+      elim c.match-self.branch as (λ _. IsHeap (first_cmp g.C.Ord.cmp) (heap_items c.match-self.self.waiting)) [
+        | in-Some+in_ok-split+in_ok-append w ↦ rw w.self-is (w.in_ok-append.ensures.heap_order c.requires.ordered)
+        | in_default w ↦ rw w.self-is c.requires.ordered
+      ];
+}

@@ -10,18 +10,6 @@ use Rattle.pf_informed.proofs.Outcomes.{refused_as, on_refused, if_refused}
 use Rattle.pf_informed.proofs.Bounds.{at_most_both, none_below}
 use Rattle.pf_informed.proofs.directed.idastar.round.look_through.Goals as goal
 
-pub returns-in_default-clause-graph : goal.returns-in_default-clause-graph
-returns-in_default-clause-graph g c = λ h test least first k s low.
-    let eq = g.N.PartialEq.eq in
-    let laws = g.met.N.Eq.laws in
-    let value = g.C.Number.value in
-    let keys = c.span_of.new.self.graph.discovery.nodes.keys in
-    let told = rw c.in_default.is at (c.in_ok-span.ensures.graph h test least k) in
-    let here = c.in_ok-span.ensures.grows.stays 0 first s in
-    let nothing : value c.zero-nothing.result ≡ pos 0 = ap value c.zero-nothing.ensures ∙ g.met.C.Zero.zero_law g.met.C.Integral.exact_law in
-    let from = k.led.admissible.from_zero first (InReach-same eq laws h.edges h.starts s.0 first (k.led.explores.reached 0 s.0 s.1) s.2) in
-    (told.0, (start_way eq laws value g.C.Number.fits h test least first keys here (told.1 first here) c.in_ok-numbers.numbers.items c.in_ok-numbers.ensures.numbers (value c.zero-nothing.result) nothing, subst (λ (z : ℤ). z ≤ℤ value c.args.limit) (sym nothing) (at_most_both _ _ _ from low)))
-
 pub turns-init : goal.turns-init
 turns-init g c =
     let eq = g.N.PartialEq.eq in
@@ -87,14 +75,6 @@ turn-requires-clause-graph g c =
     let v = c.turns.invariant.searched r.0 r.1 r.2 r.3 r.4 r.5 r.6 in
     (r.0, r.1, r.2, r.3, v.0, v.1)
 
-pub returns-in-Some-2-clause-grows : goal.returns-in-Some-2-clause-grows
-returns-in-Some-2-clause-grows g c = Grows-trans _ _ _ _ _ _ c.turns.invariant.grows c.in_ok-round.ensures.grows
-
-pub returns-in-Some-2-clause-graph : goal.returns-in-Some-2-clause-graph
-returns-in-Some-2-clause-graph g c = λ h test least first k s low.
-    let v = c.turns.invariant.searched h test least first k s low in
-    rw c.in-Some-2.is at (c.in_ok-round.ensures.graph h test least first v.0 v.1)
-
 pub turns-preserved : goal.turns-preserved
 turns-preserved g c = record {
   asked = c.in_ok-round.ensures.estimated;
@@ -150,35 +130,18 @@ returns-in_err-round g c = record {
   refused = refused_as _ c.from_residual-in_err-round.result _ c.from_residual-in_err-round.ensures.1 c.in_err-round.ensures.refused;
 }
 
-pub returns-in_default-clause-estimated : goal.returns-in_default-clause-estimated
-returns-in_default-clause-estimated g c = c.in_ok-span.ensures.estimated
-
-pub returns-in_default-clause-table : goal.returns-in_default-clause-table
-returns-in_default-clause-table g c = c.in_ok-span.ensures.table
-
-pub returns-in_default-clause-grows : goal.returns-in_default-clause-grows
-returns-in_default-clause-grows g c = c.in_ok-span.ensures.grows
-
-pub returns-in_default-clause-above : goal.returns-in_default-clause-above
-returns-in_default-clause-above g c = tt
-
-pub returns-in_default-clause-refused : goal.returns-in_default-clause-refused
-returns-in_default-clause-refused g c = tt
-
-pub returns-in-Some-2-clause-estimated : goal.returns-in-Some-2-clause-estimated
-returns-in-Some-2-clause-estimated g c = c.in_ok-round.ensures.estimated
-
-pub returns-in-Some-2-clause-table : goal.returns-in-Some-2-clause-table
-returns-in-Some-2-clause-table g c = c.in_ok-round.ensures.table
-
-pub returns-in-Some-2-clause-above : goal.returns-in-Some-2-clause-above
-returns-in-Some-2-clause-above g c = (rw c.in-Some-2.is at c.in_ok-round.ensures.marked).0
-
-pub returns-in-Some-2-clause-inside : goal.returns-in-Some-2-clause-inside
-returns-in-Some-2-clause-inside g c = (rw c.in-Some-2.is at c.in_ok-round.ensures.marked).1
-
-pub returns-in-Some-2-clause-refused : goal.returns-in-Some-2-clause-refused
-returns-in-Some-2-clause-refused g c = tt
+pub returns-in-Some-2 : goal.returns-in-Some-2
+returns-in-Some-2 g c = record {
+  grows = Grows-trans _ _ _ _ _ _ c.turns.invariant.grows c.in_ok-round.ensures.grows;
+  graph = λ h test least first k s low.
+      let v = c.turns.invariant.searched h test least first k s low in
+      rw c.in-Some-2.is at (c.in_ok-round.ensures.graph h test least first v.0 v.1);
+  estimated = c.in_ok-round.ensures.estimated;
+  table = c.in_ok-round.ensures.table;
+  above = (rw c.in-Some-2.is at c.in_ok-round.ensures.marked).0;
+  inside = (rw c.in-Some-2.is at c.in_ok-round.ensures.marked).1;
+  refused = tt;
+}
 
 pub turn-requires-clause-estimated : goal.turn-requires-clause-estimated
 turn-requires-clause-estimated g c = c.turns.invariant.asked
@@ -192,10 +155,27 @@ turn-requires-clause-marked g c = c.turns.invariant.marked
 pub turns-smaller : goal.turns-smaller
 turns-smaller g c = rw c.in_default-2.is at c.in_ok-round.ensures.less
 
-pub returns-in_default-clause-inside : goal.returns-in_default-clause-inside
-returns-in_default-clause-inside g c = λ i m.
-    let keys = c.span_of.new.self.graph.discovery.nodes.keys in
-    elim (Contains-cases [] 0 i (subst (λ (ns : List ℕ). Contains ns i) c.in_ok-numbers.ensures.numbers m)) as (λ _. i < length keys) [
-      | inl q ↦ subst (λ (n : ℕ). n < length keys) q (still_found _ _ _ c.requires.begun c.in_ok-span.ensures.grows.more)
-      | inr q ↦ absurd (none_below _ q.1)
-    ]
+pub returns-in_default : goal.returns-in_default
+returns-in_default g c = record {
+  graph = λ h test least first k s low.
+      let eq = g.N.PartialEq.eq in
+      let laws = g.met.N.Eq.laws in
+      let value = g.C.Number.value in
+      let keys = c.span_of.new.self.graph.discovery.nodes.keys in
+      let told = rw c.in_default.is at (c.in_ok-span.ensures.graph h test least k) in
+      let here = c.in_ok-span.ensures.grows.stays 0 first s in
+      let nothing : value c.zero-nothing.result ≡ pos 0 = ap value c.zero-nothing.ensures ∙ g.met.C.Zero.zero_law g.met.C.Integral.exact_law in
+      let from = k.led.admissible.from_zero first (InReach-same eq laws h.edges h.starts s.0 first (k.led.explores.reached 0 s.0 s.1) s.2) in
+      (told.0, (start_way eq laws value g.C.Number.fits h test least first keys here (told.1 first here) c.in_ok-numbers.numbers.items c.in_ok-numbers.ensures.numbers (value c.zero-nothing.result) nothing, subst (λ (z : ℤ). z ≤ℤ value c.args.limit) (sym nothing) (at_most_both _ _ _ from low)));
+  estimated = c.in_ok-span.ensures.estimated;
+  table = c.in_ok-span.ensures.table;
+  grows = c.in_ok-span.ensures.grows;
+  above = tt;
+  refused = tt;
+  inside = λ i m.
+      let keys = c.span_of.new.self.graph.discovery.nodes.keys in
+      elim (Contains-cases [] 0 i (subst (λ (ns : List ℕ). Contains ns i) c.in_ok-numbers.ensures.numbers m)) as (λ _. i < length keys) [
+        | inl q ↦ subst (λ (n : ℕ). n < length keys) q (still_found _ _ _ c.requires.begun c.in_ok-span.ensures.grows.more)
+        | inr q ↦ absurd (none_below _ q.1)
+      ];
+}

@@ -29,9 +29,6 @@ returns-in_err-push-3 g c = record {
   refused = refused_as _ c.from_residual-in_err-push-3.result _ c.from_residual-in_err-push-3.ensures.1 refl;
 }
 
-pub returns-clause-refused : goal.returns-clause-refused
-returns-clause-refused g c = tt
-
 pub frames-init : goal.frames-init
 frames-init g c = c.in_ok-numbers.ensures.items
 
@@ -41,8 +38,11 @@ frames-preserved g c =
     c.in_ok-push.ensures.items ∙ ap (λ (ns : List ℕ). ns ++ c.frame-item.result.number ∷ []) c.frames.invariant
     ∙ sym (map_more number c.args.trail.now c.frames.frame-index c.frame-item.result c.frames-test.true ∙ ap (λ (f : Frame g.row.C.Denot). map number (take c.frames.frame-index c.args.trail.now) ++ f.number ∷ []) (sym c.frame-item.is))
 
-pub returns-clause-numbers : goal.returns-clause-numbers
-returns-clause-numbers g c =
-    let all = take_all c.frames.frame-index c.args.trail.now c.frames-test.false in
-    c.in_ok-push-3.ensures.items ∙ ap (λ (ns : List ℕ). ns ++ c.args.last ∷ [])
-    (c.in_ok-push-2.ensures.items ∙ ap (λ (ns : List ℕ). ns ++ c.args.here ∷ []) (c.frames.invariant ∙ ap (λ (fs : List (Frame g.row.C.Denot)). map (λ (f : Frame g.row.C.Denot). f.number) fs) all))
+pub returns : goal.returns
+returns g c = record {
+  refused = tt;
+  numbers =
+      let all = take_all c.frames.frame-index c.args.trail.now c.frames-test.false in
+      c.in_ok-push-3.ensures.items ∙ ap (λ (ns : List ℕ). ns ++ c.args.last ∷ [])
+      (c.in_ok-push-2.ensures.items ∙ ap (λ (ns : List ℕ). ns ++ c.args.here ∷ []) (c.frames.invariant ∙ ap (λ (fs : List (Frame g.row.C.Denot)). map (λ (f : Frame g.row.C.Denot). f.number) fs) all));
+}

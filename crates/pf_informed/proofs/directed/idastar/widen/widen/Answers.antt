@@ -6,38 +6,13 @@ use Rattle.pf_core.proofs.ListLemmas.{none_in, get-append}
 use Rattle.pf_informed.proofs.Outcomes.{on_refused, refused_as}
 use Rattle.pf_informed.proofs.directed.idastar.widen.widen.Goals as goal
 
-pub returns-else-number-len-clause-long : goal.returns-else-number-len-clause-long
-returns-else-number-len-clause-long g c = omega (arith, c.if-number-len.false, c.len.ensures, c.args.items.now.ok.0)
-
-pub returns-else-number-len-clause-kept : goal.returns-else-number-len-clause-kept
-returns-else-number-len-clause-kept g c = λ k x h. h
-
-pub returns-else-number-len-clause-from : goal.returns-else-number-len-clause-from
-returns-else-number-len-clause-from g c = λ k x h. inl h
-
-pub returns-else-number-len-clause-refused : goal.returns-else-number-len-clause-refused
-returns-else-number-len-clause-refused g c = tt
-
-pub returns-in_ok-resize-clause-refused : goal.returns-in_ok-resize-clause-refused
-returns-in_ok-resize-clause-refused g c = tt
-
-pub returns-in_err-len-clause-long : goal.returns-in_err-len-clause-long
-returns-in_err-len-clause-long g c = on_refused _ c.from_residual.result _ c.from_residual.ensures.1
-
-pub returns-in_err-len-clause-kept : goal.returns-in_err-len-clause-kept
-returns-in_err-len-clause-kept g c = on_refused _ c.from_residual.result _ c.from_residual.ensures.1
-
-pub returns-in_err-len-clause-from : goal.returns-in_err-len-clause-from
-returns-in_err-len-clause-from g c = on_refused _ c.from_residual.result _ c.from_residual.ensures.1
-
-pub returns-in_err-resize-clause-long : goal.returns-in_err-resize-clause-long
-returns-in_err-resize-clause-long g c = on_refused _ c.from_residual-in_err-resize.result _ c.from_residual-in_err-resize.ensures.1
-
-pub returns-in_err-resize-clause-kept : goal.returns-in_err-resize-clause-kept
-returns-in_err-resize-clause-kept g c = on_refused _ c.from_residual-in_err-resize.result _ c.from_residual-in_err-resize.ensures.1
-
-pub returns-in_err-resize-clause-from : goal.returns-in_err-resize-clause-from
-returns-in_err-resize-clause-from g c = on_refused _ c.from_residual-in_err-resize.result _ c.from_residual-in_err-resize.ensures.1
+pub returns-else-number-len : goal.returns-else-number-len
+returns-else-number-len g c = record {
+  long = omega (arith, c.if-number-len.false, c.len.ensures, c.args.items.now.ok.0);
+  kept = λ k x h. h;
+  from = λ k x h. inl h;
+  refused = tt;
+}
 
 value_of : (o : Option ℕ) (P : Type 0) (n m : ℕ) → SomeIff o P m → o ≡ Some n → n ≡ m
 value_of o P n m h e = let s = subst (λ (q : Option ℕ). SomeIff q P m) e h in s.1
@@ -71,17 +46,26 @@ module _ {A : Type 0} where
   reaches : (ys : List A) (n m i : ℕ) → m ≡ length ys → m ≡ n → n ≡ i + 1 → i < length ys
   reaches ys n m i is long one = omega (arith, is, long, one)
 
-pub returns-in_err-len-clause-refused : goal.returns-in_err-len-clause-refused
-returns-in_err-len-clause-refused g c = refused_as _ c.from_residual.result c.in_err-len.field-0.0 c.from_residual.ensures.1 (error_of _ _ _ c.in_err-len.ensures.value)
+pub returns-in_err-len : goal.returns-in_err-len
+returns-in_err-len g c = record {
+  long = on_refused _ c.from_residual.result _ c.from_residual.ensures.1;
+  kept = on_refused _ c.from_residual.result _ c.from_residual.ensures.1;
+  from = on_refused _ c.from_residual.result _ c.from_residual.ensures.1;
+  refused = refused_as _ c.from_residual.result c.in_err-len.field-0.0 c.from_residual.ensures.1 (error_of _ _ _ c.in_err-len.ensures.value);
+}
 
-pub returns-in_err-resize-clause-refused : goal.returns-in_err-resize-clause-refused
-returns-in_err-resize-clause-refused g c = refused_as _ c.from_residual-in_err-resize.result _ c.from_residual-in_err-resize.ensures.1 refl
+pub returns-in_err-resize : goal.returns-in_err-resize
+returns-in_err-resize g c = record {
+  long = on_refused _ c.from_residual-in_err-resize.result _ c.from_residual-in_err-resize.ensures.1;
+  kept = on_refused _ c.from_residual-in_err-resize.result _ c.from_residual-in_err-resize.ensures.1;
+  from = on_refused _ c.from_residual-in_err-resize.result _ c.from_residual-in_err-resize.ensures.1;
+  refused = refused_as _ c.from_residual-in_err-resize.result _ c.from_residual-in_err-resize.ensures.1 refl;
+}
 
-pub returns-in_ok-resize-clause-long : goal.returns-in_ok-resize-clause-long
-returns-in_ok-resize-clause-long g c = reaches c.resize.new.self.items c.in_ok-len.len _ c.args.number c.resize.new.self.ok.0 c.in_ok-resize.ensures.len (value_of _ _ _ _ c.checked_add.ensures c.in_ok-len.ensures.ok_part)
-
-pub returns-in_ok-resize-clause-kept : goal.returns-in_ok-resize-clause-kept
-returns-in_ok-resize-clause-kept g c = keeps c.args.items.now.items c.resize.new.self.items c.in_ok-len.len _ c.args.number c.args.value c.args.items.now.ok.0 (subst (λ (m : ℕ). m ≤ c.args.number) c.len.ensures c.if-number-len.true) (value_of _ _ _ _ c.checked_add.ensures c.in_ok-len.ensures.ok_part) c.in_ok-resize.ensures.items
-
-pub returns-in_ok-resize-clause-from : goal.returns-in_ok-resize-clause-from
-returns-in_ok-resize-clause-from g c = comes_from c.args.items.now.items c.resize.new.self.items c.in_ok-len.len _ c.args.number c.args.value c.args.items.now.ok.0 (subst (λ (m : ℕ). m ≤ c.args.number) c.len.ensures c.if-number-len.true) (value_of _ _ _ _ c.checked_add.ensures c.in_ok-len.ensures.ok_part) c.in_ok-resize.ensures.items
+pub returns-in_ok-resize : goal.returns-in_ok-resize
+returns-in_ok-resize g c = record {
+  refused = tt;
+  long = reaches c.resize.new.self.items c.in_ok-len.len _ c.args.number c.resize.new.self.ok.0 c.in_ok-resize.ensures.len (value_of _ _ _ _ c.checked_add.ensures c.in_ok-len.ensures.ok_part);
+  kept = keeps c.args.items.now.items c.resize.new.self.items c.in_ok-len.len _ c.args.number c.args.value c.args.items.now.ok.0 (subst (λ (m : ℕ). m ≤ c.args.number) c.len.ensures c.if-number-len.true) (value_of _ _ _ _ c.checked_add.ensures c.in_ok-len.ensures.ok_part) c.in_ok-resize.ensures.items;
+  from = comes_from c.args.items.now.items c.resize.new.self.items c.in_ok-len.len _ c.args.number c.args.value c.args.items.now.ok.0 (subst (λ (m : ℕ). m ≤ c.args.number) c.len.ensures c.if-number-len.true) (value_of _ _ _ _ c.checked_add.ensures c.in_ok-len.ensures.ok_part) c.in_ok-resize.ensures.items;
+}

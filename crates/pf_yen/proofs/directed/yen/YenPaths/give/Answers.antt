@@ -35,9 +35,3 @@ returns-clause-steps g c = λ edges start test w.
 
 pub nodes_at-requires-clause-clones : goal.nodes_at-requires-clause-clones
 nodes_at-requires-clause-clones g c = c.requires.clones
-
-pub returns-in_default-clause-bars : goal.returns-in_default-clause-bars
-returns-in_default-clause-bars g c = let free = rw (← c.self.view_is) at c.requires.free in rw (← c.self.view_is) (free, free)
-
-pub returns-clause-bars : goal.returns-clause-bars
-returns-clause-bars g c = let free = rw (← c.self.view_is) at c.requires.free in rw (← c.self.view_is) (free, free)

@@ -3,4 +3,7 @@ use Rattle.pf_yen.proofs.WalkLemmas.{marked}
 use Rattle.pf_yen.proofs.directed.yen.YenPaths.resume.Goals as goal
 
 pub returns-clause-graph : goal.returns-clause-graph
-returns-clause-graph g c = λ edges start test w. let v = rw (← c.self.view_is) at w in marked v false
+returns-clause-graph g c = λ edges start test w.
+    let v = rw (← c.self.view_is) at w in
+    let e = c.resumed-self-inside.ensures in
+    rw (e.refused, e.barred) (marked v false)

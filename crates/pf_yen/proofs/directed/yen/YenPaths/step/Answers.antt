@@ -1,36 +1,18 @@
 use Rattle.std.proofs.Common.{◌∙◌, refl, sym, inl, true≢false}
-use Rattle.pf_yen.specs.Walk.{IsBarred}
-use Rattle.pf_yen.proofs.WalkLemmas.{turn_refused, turn_same, bars_refused, bars_without_memory, bars_same}
+use Rattle.pf_yen.proofs.WalkLemmas.{turn_refused, turn_same}
 use Rattle.pf_yen.proofs.directed.yen.YenPaths.step.Goals as goal
 
-pub returns-then-self-clause-steps : goal.returns-then-self-clause-steps
-returns-then-self-clause-steps g c = λ edges start test w.
+pub returns-then-is_barred-clause-steps : goal.returns-then-is_barred-clause-steps
+returns-then-is_barred-clause-steps g c = λ edges start test w.
     let v = rw (← c.self.view_is) at w in
-    let q = v.bar c.if-self.true in
-    rw (← c.self.view_is) (v, (q.0, refl, q.1))
+    let q = v.bar (sym c.is_barred.ensures ∙ c.if-is_barred.true) in
+    rw (← c.self.view_is) (v, (q.0, refl, q.1, q.1))
 
-pub returns-then-self-clause-bars : goal.returns-then-self-clause-bars
-returns-then-self-clause-bars g c = rw (← c.self.view_is) (λ _. refl, (λ _. refl, λ _. c.if-self.true))
-
-pub returns-then-self-clause-same : goal.returns-then-self-clause-same
-returns-then-self-clause-same g c = refl
+pub returns-then-is_barred-clause-bars : goal.returns-then-is_barred-clause-bars
+returns-then-is_barred-clause-bars g c = λ _. refl
 
 pub learn_graph-requires : goal.learn_graph-requires
 learn_graph-requires g c = record { walk = c.requires.walk }
-
-pub returns-in_err-learn_graph-clause-steps : goal.returns-in_err-learn_graph-clause-steps
-returns-in_err-learn_graph-clause-steps g c = λ edges start test w.
-    let l = c.in_err-learn_graph.ensures in
-    (l.walk edges start test w, turn_refused w c.learn_graph.new.self c.from_residual.result c.in_err-learn_graph.field-0.0 c.from_residual.ensures.1 (inl l.refused) l.given (λ h. l.ended h))
-
-pub returns-in_err-learn_graph-clause-bars : goal.returns-in_err-learn_graph-clause-bars
-returns-in_err-learn_graph-clause-bars g c =
-    let l = c.in_err-learn_graph.ensures in
-    let free : ¬ (IsBarred c.args.self.now) = rw (← c.self.view_is) (λ b. true≢false (sym b ∙ c.if-self.false)) in
-    bars_without_memory c.args.self.now c.learn_graph.new.self c.from_residual.result c.in_err-learn_graph.field-0.0 c.from_residual.ensures.1 l.refused free (λ b. free (sym l.bar ∙ b))
-
-pub returns-in_err-learn_graph-clause-same : goal.returns-in_err-learn_graph-clause-same
-returns-in_err-learn_graph-clause-same g c = c.in_err-learn_graph.ensures.same
 
 pub choose-requires-clause-walk : goal.choose-requires-clause-walk
 choose-requires-clause-walk g c =
@@ -43,24 +25,7 @@ choose-requires-clause-known g c =
     c.in_ok-learn_graph.ensures.known r.0 r.1 r.2 r.3
 
 pub choose-requires-clause-free : goal.choose-requires-clause-free
-choose-requires-clause-free g c = rw (c.in_ok-learn_graph.ensures.bar, ← c.self.view_is) (λ b. true≢false (sym b ∙ c.if-self.false))
-
-pub returns-in_err-choose-clause-steps : goal.returns-in_err-choose-clause-steps
-returns-in_err-choose-clause-steps g c = λ edges start test w.
-    let l = c.in_ok-learn_graph.ensures in
-    let e = c.in_err-choose.ensures in
-    let q = e.walk edges start test (l.walk edges start test w) in
-    let why = rw l.given at q.1 in
-    (q.0, turn_refused w c.choose.new.self c.from_residual-in_err-choose.result c.in_err-choose.field-0.0 c.from_residual-in_err-choose.ensures.1 why (e.given ∙ l.given) (λ h. e.ended (l.ended h)))
-
-pub returns-in_err-choose-clause-bars : goal.returns-in_err-choose-clause-bars
-returns-in_err-choose-clause-bars g c =
-    let l = c.in_ok-learn_graph.ensures in
-    let e = c.in_err-choose.ensures in
-    bars_refused c.args.self.now c.choose.new.self c.from_residual-in_err-choose.result c.in_err-choose.field-0.0 c.from_residual-in_err-choose.ensures.1 (λ b. e.bars.0 (l.bar ∙ b)) e.bars.1
-
-pub returns-in_err-choose-clause-same : goal.returns-in_err-choose-clause-same
-returns-in_err-choose-clause-same g c = c.in_err-choose.ensures.same ∙ c.in_ok-learn_graph.ensures.same
+choose-requires-clause-free g c = rw (c.in_ok-learn_graph.ensures.bar, ← c.self.view_is) (λ b. true≢false (sym b ∙ sym c.is_barred.ensures ∙ c.if-is_barred.false))
 
 pub give-requires-clause-clones : goal.give-requires-clause-clones
 give-requires-clause-clones g c = c.requires.clones
@@ -77,20 +42,39 @@ pub give-requires-clause-none : goal.give-requires-clause-none
 give-requires-clause-none g c = c.in_ok-choose.ensures.none
 
 pub give-requires-clause-free : goal.give-requires-clause-free
-give-requires-clause-free g c = c.in_ok-choose.ensures.bars.1
+give-requires-clause-free g c = rw (c.in_ok-choose.ensures.bar, c.in_ok-learn_graph.ensures.bar, ← c.self.view_is) (λ b. true≢false (sym b ∙ sym c.is_barred.ensures ∙ c.if-is_barred.false))
 
-pub returns-clause-steps : goal.returns-clause-steps
-returns-clause-steps g c = λ edges start test w.
-    let l = c.in_ok-learn_graph.ensures in
-    let e = c.in_ok-choose.ensures in
-    let q = c.give.ensures.steps edges start test (e.walk edges start test (l.walk edges start test w)).0 in
-    (q.0, turn_same w c.choose.new.self c.give.new.self c.give.result (e.given ∙ l.given) (λ h. e.ended (l.ended h)) q.1)
+pub returns-in_err-learn_graph : goal.returns-in_err-learn_graph
+returns-in_err-learn_graph g c = record {
+  steps = λ edges start test w.
+      let l = c.in_err-learn_graph.ensures in
+      (l.walk edges start test w, turn_refused w c.learn_graph.new.self c.from_residual.result c.in_err-learn_graph.field-0.0 c.from_residual.ensures.1 (inl l.refused) l.given (λ h. l.ended h) l.open);
+  bars = rw (← c.self.view_is) (λ b. absurd (true≢false (sym b ∙ sym c.is_barred.ensures ∙ c.if-is_barred.false)));
+  same = c.in_err-learn_graph.ensures.same;
+  bar = c.in_err-learn_graph.ensures.bar;
+}
 
-pub returns-clause-bars : goal.returns-clause-bars
-returns-clause-bars g c =
-    let l = c.in_ok-learn_graph.ensures in
-    let e = c.in_ok-choose.ensures in
-    bars_same c.args.self.now c.choose.new.self c.give.new.self c.give.result (λ b. absurd (e.bars.0 (l.bar ∙ b))) c.give.ensures.bars
+pub returns-in_err-choose : goal.returns-in_err-choose
+returns-in_err-choose g c = record {
+  steps = λ edges start test w.
+      let l = c.in_ok-learn_graph.ensures in
+      let e = c.in_err-choose.ensures in
+      let q = e.walk edges start test (l.walk edges start test w) in
+      let why = rw l.given at q.1 in
+      (q.0, turn_refused w c.choose.new.self c.from_residual-in_err-choose.result c.in_err-choose.field-0.0 c.from_residual-in_err-choose.ensures.1 why (e.given ∙ l.given) (λ h. e.ended (l.ended h)) e.open);
+  bars = rw (← c.self.view_is) (λ b. absurd (true≢false (sym b ∙ sym c.is_barred.ensures ∙ c.if-is_barred.false)));
+  same = c.in_err-choose.ensures.same ∙ c.in_ok-learn_graph.ensures.same;
+  bar = c.in_err-choose.ensures.bar ∙ c.in_ok-learn_graph.ensures.bar;
+}
 
-pub returns-clause-same : goal.returns-clause-same
-returns-clause-same g c = c.give.ensures.same ∙ c.in_ok-choose.ensures.same ∙ c.in_ok-learn_graph.ensures.same
+pub returns : goal.returns
+returns g c = record {
+  steps = λ edges start test w.
+      let l = c.in_ok-learn_graph.ensures in
+      let e = c.in_ok-choose.ensures in
+      let q = c.give.ensures.steps edges start test (e.walk edges start test (l.walk edges start test w)).0 in
+      (q.0, turn_same w c.choose.new.self c.give.new.self c.give.result (e.given ∙ l.given) (λ h. e.ended (l.ended h)) q.1);
+  bars = rw (← c.self.view_is) (λ b. absurd (true≢false (sym b ∙ sym c.is_barred.ensures ∙ c.if-is_barred.false)));
+  same = c.give.ensures.same ∙ c.in_ok-choose.ensures.same ∙ c.in_ok-learn_graph.ensures.same;
+  bar = c.give.ensures.bar ∙ c.in_ok-choose.ensures.bar ∙ c.in_ok-learn_graph.ensures.bar;
+}

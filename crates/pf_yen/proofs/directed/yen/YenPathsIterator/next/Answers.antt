@@ -1,12 +1,15 @@
+use Rattle.std.proofs.Common.{◌≡◌, ◌∙◌, sym, false}
 use Rattle.pf_yen.proofs.WalkLemmas.{step_of, bars_of, progress}
 use Rattle.pf_yen.proofs.directed.yen.YenPathsIterator.next.Goals as goal
 
 pub returns-clause-steps : goal.returns-clause-steps
 returns-clause-steps g c = λ edges start test w.
     let e = rw (← c.self-2.view_is) at (c.step-step.ensures.steps edges start test w) in
-    let step = step_of e.0 c.args.self.now c.step-step.result (rw (← c.self.view_is) c.if-self.false) e.1 in
-    rw (c.transpose.ensures, c.is_err-self-inside.ensures.value)
-    (step.0, step.1, bars_of c.args.self.now _ c.step-step.result (rw (← c.self-2.view_is) at c.step-step.ensures.bars))
+    let after = c.after-self-inside.ensures in
+    let free : c.args.self.now.refused ≡ false = rw (← c.self.view_is) (sym c.was_refused.ensures ∙ c.if-was_refused.false) in
+    let step = step_of e.0 c.args.self.now c.step-step.result _ free after.barred.0 e.1 in
+    let bars = rw (← c.self-2.view_is) at (bars_of c.args.self.now c.step-step.new.self c.step-step.result _ c.step-step.ensures.bars after.barred) in
+    rw (c.transpose.ensures, after.refused) (step.0, step.1, bars)
 
 pub returns-clause-again : goal.returns-clause-again
 returns-clause-again g c =
@@ -25,5 +28,5 @@ step-step-requires-clause-clones g c = c.requires.0
 pub step-step-requires-clause-walk : goal.step-step-requires-clause-walk
 step-step-requires-clause-walk g c = c.requires.1
 
-pub returns-then-self-clause-again : goal.returns-then-self-clause-again
-returns-then-self-clause-again g c = c.requires
+pub returns-then-was_refused-clause-again : goal.returns-then-was_refused-clause-again
+returns-then-was_refused-clause-again g c = c.requires
