@@ -9,7 +9,7 @@ use Rattle.pf_base.specs.Answers.{SameNodes}
 use Rattle.pf_core.proofs.ListLemmas.{bool_dec, Contains-head, Contains-tail}
 use Rattle.pf_core.proofs.NodeLemmas.{eq-sym, eq-trans, InReach-same, InReach-start, InReach-after}
 use Rattle.pf_core.proofs.WalkLemmas.{HasNode-same}
-use Rattle.pf_yen.specs.KCheapest.{same_nodes}
+use Rattle.pf_yen.specs.Internal.Gathered.{same_nodes}
 use Rattle.pf_yen.specs.CleanPaths.{IsCleanPath}
 use Rattle.pf_yen.specs.Counting.{most_paths}
 use Rattle.pf_yen.proofs.ClassLemmas.{both_true}

@@ -9,7 +9,8 @@ use Rattle.std.proofs.lemmas.Option.{slice_get_read}
 use Rattle.pf_core.specs.Numbered.{ListsSteps, NumbersInOrder}
 use Rattle.pf_core.proofs.ListLemmas.{bool_dec, Contains-head, Contains-tail, Contains-cases}
 use Rattle.pf_yen.specs.Known.{row_of}
-use Rattle.pf_yen.specs.Narrow.{NarrowGraph, is_in, allows, narrow_row, NarrowStep, StandsForItself, EndsInside}
+use Rattle.pf_yen.specs.Internal.Narrow.{NarrowGraph, allows, narrow_row, NarrowStep, StandsForItself, EndsInside}
+use Rattle.pf_yen.specs.Classes.{is_in}
 
 pub in_none : {X : Type 0} (x : X) → Contains [] x → ⊥
 in_none x h = omega (arith, h.1)

@@ -7,8 +7,9 @@ use Rattle.pf_base.specs.Walks.{HasNode, NoRepeats, end_of}
 use Rattle.pf_core.specs.Steps.{GoesAlong, IsNonNegative, NoGoal, IsBestNumbered}
 use Rattle.pf_core.proofs.ListLemmas.{bool_dec}
 use Rattle.pf_yen.specs.Known.{is_goal, row_of, KnownStep, IsWhole}
-use Rattle.pf_yen.specs.Narrow.{NarrowGraph, allows, allows_by, NarrowStep, StandsForItself, is_in}
-use Rattle.pf_yen.specs.Classes.{is_member, IsCleanNumbers, LeadsOn, IsNarrowedTo}
+use Rattle.pf_yen.specs.Internal.Narrow.{NarrowGraph, allows, allows_by, NarrowStep, StandsForItself}
+use Rattle.pf_yen.specs.Classes.{is_in, is_member, IsCleanNumbers}
+use Rattle.pf_yen.specs.Internal.Splits.{LeadsOn, IsNarrowedTo}
 use Rattle.pf_yen.proofs.NarrowLemmas.{Contains-filter, filter-Contains}
 use Rattle.pf_yen.proofs.ClassLemmas.{both_true, same_is_true, any_goes_on, goes_on}
 

@@ -20,9 +20,9 @@ use Rattle.pf_core.proofs.WalkLemmas.{cheapest_edge, goes_of_walk, walk_of_goes,
 use Rattle.pf_core.proofs.PathLemmas.{AllZip-append}
 use Rattle.pf_yen.specs.Known.{KnownGraph, is_goal, row_of, KnownStep}
 use Rattle.pf_yen.specs.Learned.{LiveStep, IsLearned}
-use Rattle.pf_yen.specs.Classes.{Plan, is_member, goes_on_to, IsCleanNumbers, IsPastAlong, IsPastInClass}
+use Rattle.pf_yen.specs.Classes.{Plan, is_member, goes_on_to, IsCleanNumbers, is_in}
+use Rattle.pf_yen.specs.Internal.Splits.{IsPastAlong, IsPastInClass}
 use Rattle.pf_yen.specs.CleanPaths.{FailsBeforeEnd, GoesOnTo, LeavesGiven, IsCleanPath, IsPathPastRange, IsBranchPastRange}
-use Rattle.pf_yen.specs.Narrow.{is_in}
 use Rattle.pf_yen.proofs.NarrowLemmas.{in_none}
 use Rattle.pf_yen.proofs.NarrowWalks.{not_true}
 use Rattle.pf_yen.proofs.ClassLemmas.{both_true, and_left, and_right, same_is_true, any_goes_on, goes_on}

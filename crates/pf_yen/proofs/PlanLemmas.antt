@@ -14,8 +14,9 @@ use Rattle.pf_core.specs.Steps.{GoesAlong, IsTooDear}
 use Rattle.pf_core.proofs.ListLemmas.{Contains-head, Contains-tail, Contains-cases}
 use Rattle.pf_yen.specs.declared.candidate.Candidate.{Candidate}
 use Rattle.pf_yen.specs.Known.{KnownGraph, KnownStep, is_goal, IsWhole}
-use Rattle.pf_yen.specs.Narrow.{NarrowGraph, NarrowStep, StandsForItself, allows, allows_by, is_in}
-use Rattle.pf_yen.specs.Classes.{Plan, in_class, is_member, IsCheapestOfClass, IsCheapestAlong, HasNoneAlong, IsSplit, IsPartition, plan_of}
+use Rattle.pf_yen.specs.Internal.Narrow.{NarrowGraph, NarrowStep, StandsForItself, allows, allows_by}
+use Rattle.pf_yen.specs.Classes.{is_in, Plan, in_class, is_member, IsCheapestOfClass, IsPartition, plan_of}
+use Rattle.pf_yen.specs.Internal.Splits.{IsCheapestAlong, HasNoneAlong, IsSplit}
 use Rattle.pf_yen.specs.Plans.{first_cmp, waiting_plans, chosen_plan, as_list, last_given, NoneBelow, IsFirst, GoesOn}
 use Rattle.pf_yen.proofs.NarrowLemmas.{in_none}
 use Rattle.pf_yen.proofs.ClassLemmas.{any_goes_on, split_partition, first_partition, no_partition}

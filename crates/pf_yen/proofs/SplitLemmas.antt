@@ -12,8 +12,9 @@ use Rattle.pf_core.specs.Steps.{GoesAlong, IsNonNegative, IsTooDear}
 use Rattle.pf_core.proofs.ListLemmas.{bool_dec, or_cases, get_set, Contains-append_one}
 use Rattle.pf_core.proofs.FrontierLemmas.{walk_positive}
 use Rattle.pf_yen.specs.Known.{KnownGraph, is_goal, KnownStep, IsWhole}
-use Rattle.pf_yen.specs.Narrow.{NarrowGraph, NarrowStep, StandsForItself, is_in}
-use Rattle.pf_yen.specs.Classes.{is_member, goes_on_to, one_if, IsBarredBehind, Plan, in_class, is_path, IsCleanNumbers, IsCheapestOfClass, IsSplit, LeadsOn, IsNarrowedTo, IsCheapestAlong, HasNoneAlong, IsSplitUpTo, IsPastAlong, IsPastInClass}
+use Rattle.pf_yen.specs.Internal.Narrow.{NarrowGraph, NarrowStep, StandsForItself}
+use Rattle.pf_yen.specs.Classes.{is_in, is_member, goes_on_to, one_if, Plan, in_class, is_path, IsCleanNumbers, IsCheapestOfClass}
+use Rattle.pf_yen.specs.Internal.Splits.{IsBarredBehind, IsSplit, LeadsOn, IsNarrowedTo, IsCheapestAlong, HasNoneAlong, IsSplitUpTo, IsPastAlong, IsPastInClass}
 use Rattle.pf_yen.proofs.NarrowLemmas.{in_none}
 use Rattle.pf_yen.proofs.ClassLemmas.{same_is_true, any_goes_on, split_member, goes_on, member_of, prefix_is, one_if_one, at_most_one, stuck, behind, same_path}
 use Rattle.pf_yen.proofs.NarrowWalks.{not_true, numbers_are, not_twice, is_known, is_left, is_allowed, goes_known, goes_again, class_walk, on_or_within}

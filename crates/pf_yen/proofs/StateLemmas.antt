@@ -17,12 +17,12 @@ use Rattle.pf_core.proofs.PathLemmas.{AllZip-append}
 use Rattle.pf_core.proofs.WalkLemmas.{same_of}
 use Rattle.pf_yen.specs.Known.{KnownGraph, KnownStep, IsWhole}
 use Rattle.pf_yen.specs.Learned.{IsLearned}
-use Rattle.pf_yen.specs.Classes.{Plan, is_member, goes_on_to, one_if, in_class, is_path, IsCleanNumbers, IsCheapestOfClass, IsPartition, IsPastInClass}
+use Rattle.pf_yen.specs.Classes.{Plan, is_member, goes_on_to, one_if, in_class, is_path, IsCleanNumbers, IsCheapestOfClass, IsPartition, is_in}
+use Rattle.pf_yen.specs.Internal.Splits.{IsPastInClass}
 use Rattle.pf_yen.specs.Counting.{most_paths}
-use Rattle.pf_yen.specs.KCheapest.{same_nodes}
+use Rattle.pf_yen.specs.Internal.Gathered.{same_nodes}
 use Rattle.pf_yen.specs.Plans.{as_list, last_given, IsFirst, NoneBelow, GoesOn}
 use Rattle.pf_yen.specs.CleanPaths.{IsCleanPath, WasGiven, AllGiven, IsNextPath, IsBranchPastRange}
-use Rattle.pf_yen.specs.Narrow.{is_in}
 use Rattle.std.proofs.lemmas.List.Elements.{Contains-append_left, Contains-append_right}
 use Rattle.pf_yen.specs.Walk.{IsPlanned}
 use Rattle.pf_yen.proofs.NarrowLemmas.{in_none}

@@ -20,10 +20,11 @@ use Rattle.pf_core.proofs.ListLemmas.{bool_dec, Contains-cases, Contains-head}
 use Rattle.pf_core.proofs.NodeLemmas.{Explores-edges}
 use Rattle.pf_core.proofs.WalkLemmas.{no_negative}
 use Rattle.pf_yen.specs.Known.{KnownGraph, row_of, KnownStep, is_goal, IsWhole}
-use Rattle.pf_yen.specs.Narrow.{StandsForItself}
+use Rattle.pf_yen.specs.Internal.Narrow.{StandsForItself}
 use Rattle.pf_yen.specs.Counting.{most_paths}
 use Rattle.pf_yen.specs.Learned.{IsLearned}
-use Rattle.pf_yen.specs.Classes.{Plan, IsCleanNumbers, IsPartition, IsPastInClass}
+use Rattle.pf_yen.specs.Classes.{Plan, IsCleanNumbers, IsPartition}
+use Rattle.pf_yen.specs.Internal.Splits.{IsPastInClass}
 use Rattle.pf_yen.specs.Plans.{as_list, last_given, NoneBelow, IsFirst, GoesOn, IsPastInChosen}
 use Rattle.pf_yen.specs.CleanPaths.{AllGiven, IsNextPath, RefusedFor}
 use Rattle.pf_yen.specs.Walk.{PathWalk, most_items, IsPathWalk, IsPlanned, IsUnderWay, IsEnded, IsBarred, PathTurn, PathStep, StepKeepsBar}

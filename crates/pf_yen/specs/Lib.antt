@@ -1,11 +1,10 @@
 pub mod Known
-pub mod Narrow
 pub mod Classes
 pub mod CleanPaths
-pub mod Given
 pub mod Learned
 pub mod Standing
 pub mod Walk
 pub mod Plans
 pub mod KCheapest
 pub mod Counting
+pub mod Internal

@@ -7,8 +7,9 @@ use Rattle.pf_core.specs.Steps.{IsTooDear}
 use Rattle.pf_yen.specs.declared.candidate.Candidate.{Candidate}
 use Rattle.pf_yen.specs.declared.plans.Plans.{Plans}
 use Rattle.pf_yen.specs.Known.{KnownGraph, KnownStep, is_goal}
-use Rattle.pf_yen.specs.Narrow.{StandsForItself}
-use Rattle.pf_yen.specs.Classes.{Plan, IsPartition, IsPastInClass, plan_of}
+use Rattle.pf_yen.specs.Internal.Narrow.{StandsForItself}
+use Rattle.pf_yen.specs.Classes.{Plan, IsPartition, plan_of}
+use Rattle.pf_yen.specs.Internal.Splits.{IsPastInClass}
 
 module _ {C A : Type 0} where
   -- the cheapest candidate first

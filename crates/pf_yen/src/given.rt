@@ -26,7 +26,7 @@ pub struct Given<N: Drop, C: Drop, A: Allocator> {
 impl<N: Drop, C: Drop, A: Allocator> Model for Given<N, C, A> {
     ghost use Rattle.std.specs.Prelude.{List};
     ghost use Rattle.std.specs.Coded.{coded_list, coded×};
-    ghost use Rattle.pf_yen.specs.Given.{paths_of_chain};
+    ghost use Rattle.pf_yen.specs.Internal.Given.{paths_of_chain};
 
     ghost Value = { List (List N × C) };
 

@@ -2,7 +2,7 @@
 
 ghost use Rattle.std.specs.Prelude.{◌≡◌, ◌<◌, ℕ, [], Some, None, length, map, replicate, slice_set, OnOk, IfOk, IfErr};
 ghost use Rattle.std.proofs.Common.{◌∙◌, sym};
-ghost use Rattle.pf_yen.specs.Narrow.{NarrowGraph, allows, NarrowStep, StandsForItself, EndsInside, graph_narrowed_by, narrow_row};
+ghost use Rattle.pf_yen.specs.Internal.Narrow.{NarrowGraph, allows, NarrowStep, StandsForItself, EndsInside, graph_narrowed_by, narrow_row};
 ghost use Rattle.pf_yen.specs.Known.{is_goal};
 
 use crate::known::Known;

@@ -2,7 +2,7 @@ use Rattle.std.proofs.Common.{◌≡◌, refl, sym, ap, subst, Err, length}
 use Rattle.pf_base.specs.declared.error.PathError.TheVariants.{CostOverflow}
 use Rattle.pf_core.specs.Steps.{IsTooDear}
 use Rattle.pf_yen.specs.Known.{KnownGraph, is_goal}
-use Rattle.pf_yen.specs.Narrow.{NarrowGraph, NarrowStep, StandsForItself}
+use Rattle.pf_yen.specs.Internal.Narrow.{NarrowGraph, NarrowStep, StandsForItself}
 use Rattle.pf_yen.proofs.NarrowWalks.{narrow_from_zero, none_left, best_clean, best_member, best_least}
 use Rattle.std.proofs.lemmas.Result.{IfOk-from_err}
 use Rattle.pf_yen.proofs.ResultLemmas.{handed_on, ok_is_no_error, refused_as}

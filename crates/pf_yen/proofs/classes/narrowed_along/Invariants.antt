@@ -1,5 +1,5 @@
 use Rattle.std.proofs.Common.{◌≡◌, [], length, take, drop}
-use Rattle.pf_yen.specs.Classes.{IsNarrowedTo}
+use Rattle.pf_yen.specs.Internal.Splits.{IsNarrowedTo}
 use Rattle.pf_yen.proofs.classes.narrowed_along.Given as goal
 
 abbrev pub invariant-places : goal.invariant-places

@@ -3,7 +3,8 @@ use Rattle.std.specs.Prelude.{slice_set, slice_index_or}
 use Rattle.std.proofs.lemmas.List.{length-set, map-append}
 use Rattle.pf_base.specs.declared.error.PathError.TheVariants.{CostOverflow, OutOfMemory}
 use Rattle.pf_yen.specs.declared.candidate.Candidate.{Candidate}
-use Rattle.pf_yen.specs.Classes.{IsNarrowedTo, IsSplitUpTo, plan_of}
+use Rattle.pf_yen.specs.Classes.{plan_of}
+use Rattle.pf_yen.specs.Internal.Splits.{IsNarrowedTo, IsSplitUpTo}
 use Rattle.pf_yen.proofs.SplitLemmas.{narrowed_on, spur_inside, split_first, split_none, split_some, split_last, past_here}
 use Rattle.pf_yen.proofs.classes.split.Goals.{in-Some+in_ok-push-2, in_default}
 use Rattle.std.proofs.lemmas.Result.{IfOk-from_err}

@@ -1,5 +1,6 @@
 use Rattle.std.proofs.Common.{◌≡◌, length, take, drop, map}
-use Rattle.pf_yen.specs.Classes.{IsNarrowedTo, IsSplitUpTo, plan_of}
+use Rattle.pf_yen.specs.Classes.{plan_of}
+use Rattle.pf_yen.specs.Internal.Splits.{IsNarrowedTo, IsSplitUpTo}
 use Rattle.pf_yen.proofs.classes.split.Given as goal
 
 abbrev pub invariant-places : goal.invariant-places

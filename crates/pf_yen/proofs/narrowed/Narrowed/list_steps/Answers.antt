@@ -2,7 +2,7 @@ use Rattle.std.proofs.Common.{◌∙◌, ◌+◌, ℕ, List, sym, subst, take}
 use Rattle.std.specs.Prelude.{filter}
 use Rattle.std.proofs.lemmas.List.{take_all}
 use Rattle.std.proofs.lemmas.Result.{IfOk-from_err}
-use Rattle.pf_yen.specs.Narrow.{NarrowGraph, allows}
+use Rattle.pf_yen.specs.Internal.Narrow.{NarrowGraph, allows}
 use Rattle.pf_yen.proofs.NarrowLemmas.{passes_too, left_out}
 use Rattle.pf_yen.proofs.ResultLemmas.{refused_as}
 use Rattle.pf_yen.proofs.narrowed.Narrowed.list_steps.Goals.{then-allows+in_ok-add, else-allows}

@@ -1,7 +1,7 @@
 use Rattle.std.proofs.Common.{◌≡◌, ℕ, take}
 use Rattle.std.specs.Prelude.{filter}
 use Rattle.pf_yen.specs.Known.{row_of}
-use Rattle.pf_yen.specs.Narrow.{allows}
+use Rattle.pf_yen.specs.Internal.Narrow.{allows}
 use Rattle.pf_yen.proofs.narrowed.Narrowed.list_steps.Given as goal
 
 abbrev pub invariant-steps : goal.invariant-steps

@@ -1,7 +1,7 @@
 use Rattle.std.proofs.Common.{sym, subst, length, refl}
 use Rattle.pf_core.proofs.ListLemmas.{on_ok}
 use Rattle.pf_core.specs.Numbered.{ListsSteps}
-use Rattle.pf_yen.specs.Narrow.{NarrowGraph, NarrowStep, StandsForItself, narrow_row}
+use Rattle.pf_yen.specs.Internal.Narrow.{NarrowGraph, NarrowStep, StandsForItself, narrow_row}
 use Rattle.pf_yen.proofs.NarrowLemmas.{row_inside, lists_steps, row_stands, row_in_order, none_between}
 use Rattle.pf_yen.proofs.narrowed.NarrowedNumberedGraph.expand.Goals as goal
 

@@ -2,8 +2,8 @@ use Rattle.std.proofs.Common.{◌≡◌, ap, subst, length, Err, [], inl, refl, 
 use Rattle.pf_base.specs.declared.error.PathError.TheVariants.{CostOverflow}
 use Rattle.pf_core.specs.Steps.{IsTooDear}
 use Rattle.pf_yen.specs.Known.{KnownGraph, KnownStep, is_goal}
-use Rattle.pf_yen.specs.Narrow.{NarrowGraph, StandsForItself}
-use Rattle.pf_yen.specs.Classes.{IsNarrowedTo}
+use Rattle.pf_yen.specs.Internal.Narrow.{NarrowGraph, StandsForItself}
+use Rattle.pf_yen.specs.Internal.Splits.{IsNarrowedTo}
 use Rattle.pf_yen.proofs.SplitLemmas.{narrowed_first}
 use Rattle.pf_yen.proofs.PlanLemmas.{begun_partition, too_dear_all}
 use Rattle.std.proofs.lemmas.Result.{IfOk-from_err}

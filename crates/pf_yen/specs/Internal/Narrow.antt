@@ -1,8 +1,8 @@
 -- A known graph of which some steps are left out.
 use Rattle.std.specs.Prelude.{◌≡◌, ℕ, ℤ, ◌<◌, Bool, not, ◌&&◌, List, Option, Some, None, length, Contains, filter, slice_get, nat_eq}
-use Rattle.std.specs.List.{list_any}
 use Rattle.pf_core.specs.Steps.{IsTooDear}
 use Rattle.pf_yen.specs.declared.narrowed.Narrowed.{Narrowed}
+use Rattle.pf_yen.specs.Classes.{is_in}
 use Rattle.pf_yen.specs.Known.{KnownGraph, is_goal, row_of}
 
 -- the graph; for some numbers the only one that may follow; and the spur, behind which some numbers are banned
@@ -11,10 +11,6 @@ pub record NarrowGraph (C : Type 0) : Type 0 where
   pub onward : List (Option ℕ)
   pub spur : ℕ
   pub banned : List ℕ
-
--- the number is one of these
-abbrev pub is_in : List ℕ → ℕ → Bool
-is_in ks k = list_any (λ y. nat_eq y k) ks
 
 -- whether a step to b is left, from a number whose onward one is this
 abbrev pub allows_by : Option (Option ℕ) → Bool → ℕ → Bool

@@ -1,0 +1,5 @@
+-- What only private functions cite.
+pub mod Given
+pub mod Narrow
+pub mod Splits
+pub mod Gathered
