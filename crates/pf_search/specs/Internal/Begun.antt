@@ -12,10 +12,10 @@ module _ {N S T Z : Type 0} (eq : N → N → Bool) (answers : S → List N → 
     pub tested : tests graph.success (InReach eq edges (start ∷ [])) test
 
   module _ (graph : Tested N S T Z) where
-    -- it has begun at some start, and answers some edges and some test
+    -- the search has begun at some start, where some edges and some test are answered
     abbrev pub HasBegun : Type 0
     HasBegun = (edges : N → List (N × ℤ)) × (start : N) × (test : N → Bool) × IsBegun edges start test graph
 
-    -- of whatever start it has begun at, and whatever edges and test it answers, P holds
+    -- of whatever start the search has begun at, and whatever edges and test are answered, P holds
     abbrev pub OfBegun : ((N → List (N × ℤ)) → N → (N → Bool) → Type 0) → Type 0
     OfBegun P = (edges : N → List (N × ℤ)) (start : N) (test : N → Bool) → IsBegun edges start test graph → P edges start test

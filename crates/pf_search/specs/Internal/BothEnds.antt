@@ -111,11 +111,13 @@ module _ {N : Type 0} (eq : N → N → Bool) (edges previous : N → List (N ×
     pub costs : HasNoNegativeCost eq edges (start ∷ [])
     pub costs_back : HasNoNegativeCost eq previous (end ∷ [])
 
--- The same of the labels of two searches over these nodes.
+-- What is said above of nodes and labels, said of two searches over these nodes.
 module _ {N C Z : Type 0} (eq : N → N → Bool) (value : C → ℤ) (keys others : List N) (search other : Search C Z) where
+  -- both have a label for the node of the meeting, and the two sum to no more than its cost
   abbrev pub IsMeetingOn : Meeting C → Type 0
   IsMeetingOn m = IsMeeting eq value keys others search.labels.items other.labels.items m
 
+  -- the labels that both have for the node of the number sum to t at least
   abbrev pub NoneBelowOn : ℤ → ℕ → Type 0
   NoneBelowOn t j = NoneBelowAt eq value keys others search.labels.items other.labels.items t j
 
@@ -127,14 +129,17 @@ module _ {N C Z : Type 0} (eq : N → N → Bool) (value : C → ℤ) (keys othe
   abbrev pub IsFirstMeeting : ℤ → List ℕ → ℕ × Meeting C → Type 0
   IsFirstMeeting cost numbers r = (slice_get numbers r.0 ≡ Some r.1.here) × IsMeetingOn r.1 × (value r.1.cost ≤ℤ cost) × NoMeetingAmong cost (take r.0 numbers)
 
--- The same of a graph that is searched from both ends, and of its two searches.
+-- What is said above of nodes and labels, said of a graph that is searched from both ends and of its two searches.
 module _ {N C S P Z : Type 0} where
+  -- both are sound, and have a slot for each number that was found
   abbrev pub AreSoundOn : (C → C → Ordering) → (C → ℤ) → TwoSided N S P Z → Search C Z → Search C Z → Type 0
   AreSoundOn cmp value graph forth back = AreSound cmp value graph.forth.nodes.keys graph.back.nodes.keys forth.labels.items back.labels.items (heap_items forth.queue) (heap_items back.queue)
 
+  -- the chains of numbers lead to one node, whose labels sum to no more than the cost, and which is the first of its chain with such labels
   abbrev pub AreHalvesOn : (N → N → Bool) → (C → ℤ) → TwoSided N S P Z → Search C Z → Search C Z → ℤ → List ℕ → List ℕ → Type 0
   AreHalvesOn eq value graph forth back cost numbers back_numbers = AreHalves eq value graph.forth.nodes.keys graph.back.nodes.keys forth.labels.items back.labels.items cost numbers back_numbers
 
+  -- both are searches by rising cost, each mirrors the other, and no meeting is cheaper than t
   abbrev pub IsPairOn : (N → N → Bool) → (C → ℤ) → (ℤ → Type 0) → (N → List (N × ℤ)) → (N → List (N × ℤ)) → N → N → TwoSided N S P Z → Search C Z → Search C Z → ℤ → Type 0
   IsPairOn eq value fits edges previous start end graph forth back t = IsPair eq value fits edges previous start end graph.forth.nodes.keys graph.back.nodes.keys forth.labels.items back.labels.items t
 
