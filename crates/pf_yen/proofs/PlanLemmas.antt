@@ -17,7 +17,8 @@ use Rattle.pf_yen.specs.Known.{KnownGraph, KnownStep, is_goal, IsWhole}
 use Rattle.pf_yen.specs.Internal.Narrow.{NarrowGraph, NarrowStep, StandsForItself, allows, allows_by}
 use Rattle.pf_yen.specs.Classes.{is_in, Plan, in_class, is_member, IsCheapestOfClass, IsPartition, plan_of}
 use Rattle.pf_yen.specs.Internal.Splits.{IsCheapestAlong, HasNoneAlong, IsSplit}
-use Rattle.pf_yen.specs.Plans.{first_cmp, waiting_plans, chosen_plan, as_list, last_given, NoneBelow, IsFirst, GoesOn}
+use Rattle.pf_yen.specs.Plans.{waiting_plans, chosen_plan, as_list, last_given, NoneBelow, IsFirst}
+use Rattle.pf_yen.specs.Internal.PlanChanges.{first_cmp, GoesOn}
 use Rattle.pf_yen.proofs.NarrowLemmas.{in_none}
 use Rattle.pf_yen.proofs.ClassLemmas.{any_goes_on, split_partition, first_partition, no_partition}
 use Rattle.pf_yen.proofs.NarrowWalks.{is_known, is_left, goes_known, open_walk}

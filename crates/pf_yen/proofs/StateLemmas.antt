@@ -21,7 +21,8 @@ use Rattle.pf_yen.specs.Classes.{Plan, is_member, goes_on_to, one_if, in_class, 
 use Rattle.pf_yen.specs.Internal.Splits.{IsPastInClass}
 use Rattle.pf_yen.specs.Counting.{most_paths}
 use Rattle.pf_yen.specs.Internal.Gathered.{same_nodes}
-use Rattle.pf_yen.specs.Plans.{as_list, last_given, IsFirst, NoneBelow, GoesOn}
+use Rattle.pf_yen.specs.Plans.{as_list, last_given, IsFirst, NoneBelow}
+use Rattle.pf_yen.specs.Internal.PlanChanges.{GoesOn}
 use Rattle.pf_yen.specs.CleanPaths.{IsCleanPath, WasGiven, AllGiven, IsNextPath, IsBranchPastRange}
 use Rattle.std.proofs.lemmas.List.Elements.{Contains-append_left, Contains-append_right}
 use Rattle.pf_yen.specs.Walk.{IsPlanned}

@@ -25,7 +25,8 @@ use Rattle.pf_yen.specs.Counting.{most_paths}
 use Rattle.pf_yen.specs.Learned.{IsLearned}
 use Rattle.pf_yen.specs.Classes.{Plan, IsCleanNumbers, IsPartition}
 use Rattle.pf_yen.specs.Internal.Splits.{IsPastInClass}
-use Rattle.pf_yen.specs.Plans.{as_list, last_given, NoneBelow, IsFirst, GoesOn, IsPastInChosen}
+use Rattle.pf_yen.specs.Plans.{as_list, last_given, NoneBelow, IsFirst}
+use Rattle.pf_yen.specs.Internal.PlanChanges.{GoesOn, IsPastInChosen}
 use Rattle.pf_yen.specs.CleanPaths.{AllGiven, IsNextPath, RefusedFor}
 use Rattle.pf_yen.specs.Walk.{PathWalk, most_items, IsPathWalk, IsPlanned, IsUnderWay, IsEnded, IsBarred, PathTurn, PathStep, StepKeepsBar}
 use Rattle.pf_yen.proofs.NarrowLemmas.{in_none}

@@ -1,9 +1,9 @@
 -- Clean paths over numbers, and classes of them.
 --
 -- A class has the clean paths that begin with a prefix and do not go on to a banned number.
-use Rattle.std.specs.Prelude.{◌≡◌, ◌⊎◌, ◌≤ℤ◌, ◌+ℤ◌, ◌<◌, ◌+◌, ◌++◌, Some, None, slice_get, Option, ℕ, ℤ, Bool, true, false, not, ◌&&◌, List, [], ◌∷◌, length, take, drop, sum_by, Contains, nat_eq}
+use Rattle.std.specs.Prelude.{◌≡◌, ◌≤ℤ◌, ◌<◌, ◌+◌, ◌++◌, ℕ, ℤ, Bool, true, false, not, ◌&&◌, List, [], ◌∷◌, length, take, sum_by, Contains, nat_eq}
 use Rattle.std.specs.List.{list_any}
-use Rattle.pf_base.specs.Walks.{HasNode, NoRepeats, end_of}
+use Rattle.pf_base.specs.Walks.{NoRepeats, end_of}
 use Rattle.pf_core.specs.Steps.{GoesAlong}
 use Rattle.pf_yen.specs.declared.candidate.Candidate.{Candidate}
 use Rattle.pf_yen.specs.Known.{KnownGraph, is_goal, KnownStep}

@@ -3,3 +3,4 @@ pub mod Given
 pub mod Narrow
 pub mod Splits
 pub mod Gathered
+pub mod PlanChanges

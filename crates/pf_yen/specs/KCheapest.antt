@@ -1,10 +1,8 @@
 -- The k cheapest clean paths.
-use Rattle.std.specs.Prelude.{◌≡◌, ◌⊎◌, ◌≤ℤ◌, ◌<ℤ◌, ◌<◌, ◌≤◌, ◌&&◌, ℕ, ℤ, Bool, true, false, List, [], ◌∷◌, length, map, slice_get, sum_by, Some, Contains, Vec}
-use Rattle.pf_base.specs.declared.error.PathError.{PathError}
-use Rattle.pf_base.specs.Edges.{WalkCosts, IsPastRange}
+use Rattle.std.specs.Prelude.{◌≡◌, ◌⊎◌, ◌≤ℤ◌, ◌<ℤ◌, ◌<◌, ◌≤◌, ℕ, ℤ, Bool, List, length, map, slice_get, Some, Contains, Vec}
+use Rattle.pf_base.specs.Edges.{WalkCosts}
 use Rattle.pf_base.specs.Answers.{SameNodes}
-use Rattle.pf_yen.specs.Classes.{one_if}
-use Rattle.pf_yen.specs.CleanPaths.{IsCleanPath, IsPathPastRange, WasGiven, AllGiven}
+use Rattle.pf_yen.specs.CleanPaths.{IsCleanPath, WasGiven, AllGiven}
 
 -- the paths that these vectors hold, with their costs
 abbrev pub paths_in : {N C A : Type 0} → List (Vec N A × C) → List (List N × C)

@@ -4,7 +4,8 @@ ghost use Rattle.std.specs.Prelude.{◌≡◌, ◌⊎◌, ◌<◌, List, ℕ, []
 ghost use Rattle.std.specs.BinaryHeap.{IsHeap, heap_items};
 ghost use Rattle.pf_yen.specs.Known.{KnownGraph, IsWhole};
 ghost use Rattle.pf_yen.specs.Classes.{IsPartition};
-ghost use Rattle.pf_yen.specs.Plans.{first_cmp, waiting_plans, chosen_plan, plans_left, just_given, as_list, ArePlansKept, ComesFirst, GoesOn, IsPastAtFirst, IsPastInChosen, IsPastInPlans};
+ghost use Rattle.pf_yen.specs.Plans.{waiting_plans, chosen_plan, as_list};
+ghost use Rattle.pf_yen.specs.Internal.PlanChanges.{first_cmp, plans_left, just_given, ArePlansKept, ComesFirst, GoesOn, IsPastAtFirst, IsPastInChosen, IsPastInPlans};
 
 use crate::candidate::Candidate;
 use crate::classes::{least_of_class, split};

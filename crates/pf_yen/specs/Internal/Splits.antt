@@ -1,5 +1,5 @@
 -- Classes of clean paths that are split, and searched in a narrowed graph.
-use Rattle.std.specs.Prelude.{◌≡◌, ◌⊎◌, ◌≤ℤ◌, ◌+ℤ◌, ◌<◌, ◌+◌, ◌++◌, Some, None, slice_get, Option, ℕ, ℤ, Bool, true, false, List, [], ◌∷◌, length, take, drop, sum_by, Contains, nat_eq}
+use Rattle.std.specs.Prelude.{◌≡◌, ◌⊎◌, ◌≤ℤ◌, ◌+ℤ◌, ◌<◌, ◌+◌, ◌++◌, Some, None, slice_get, Option, ℕ, ℤ, true, false, List, [], ◌∷◌, length, take, drop, sum_by, Contains, nat_eq}
 use Rattle.pf_base.specs.Walks.{HasNode, NoRepeats, end_of}
 use Rattle.pf_core.specs.Steps.{GoesAlong}
 use Rattle.pf_yen.specs.Known.{KnownGraph, is_goal, KnownStep}

@@ -38,7 +38,8 @@ pub struct YenPaths<N: Eq + Hash + Drop, C: Cost, F, T, A: Allocator = Global> {
 
 impl<N: Eq + Hash + Drop, C: Cost, F, T, A: Allocator> Model for YenPaths<N, C, F, T, A> {
     ghost use Rattle.std.specs.BinaryHeap.{IsHeap, heap_items};
-    ghost use Rattle.pf_yen.specs.Plans.{first_cmp, waiting_plans, chosen_plan};
+    ghost use Rattle.pf_yen.specs.Plans.{waiting_plans, chosen_plan};
+    ghost use Rattle.pf_yen.specs.Internal.PlanChanges.{first_cmp};
     ghost use Rattle.pf_yen.specs.Standing.{is_barred, was_refused};
     ghost use Rattle.pf_yen.specs.Walk.{PathWalk, path_walk_code};
 

@@ -4,7 +4,8 @@ use Rattle.std.proofs.lemmas.List.{map-append}
 use Rattle.std.proofs.lemmas.List.Sorted.{IsPermutation-map}
 use Rattle.pf_core.proofs.ListLemmas.{Contains-head}
 use Rattle.pf_yen.specs.Classes.{plan_of}
-use Rattle.pf_yen.specs.Plans.{first_cmp, GoesOn, as_list, chosen_plan, waiting_plans, last_given}
+use Rattle.pf_yen.specs.Plans.{as_list, chosen_plan, waiting_plans, last_given}
+use Rattle.pf_yen.specs.Internal.PlanChanges.{first_cmp, GoesOn}
 use Rattle.pf_yen.proofs.PlanLemmas.{split_goes_on, no_change, given_due}
 use Rattle.pf_yen.proofs.plans.Plans.split_given.Goals.{in-Some+in_ok-split+in_ok-append, in_default}
 use Rattle.std.proofs.lemmas.Result.{IfOk-from_err}
