@@ -1,8 +1,8 @@
 //! The positions in reach of a position, where each step leads to a neighbour that passes a test.
 
-ghost use Rattle.std.specs.Prelude.{◌≡◌, Bool, List, IfOk, IfErr};
-ghost use Rattle.pf_matrix.specs.Calls.{CallableInTurn, GivesInTurn};
-ghost use Rattle.pf_matrix.specs.Floods.{IsFlood, answer_at};
+ghost use Rattle.std.specs.Prelude.{◌≡◌, IfOk, IfErr};
+ghost use Rattle.pf_matrix.specs.Calls.{CallableInTurn};
+ghost use Rattle.pf_matrix.specs.Floods.{IsFloodBy};
 ghost use Rattle.pf_matrix.specs.Positions.{positions_of};
 ghost use Rattle.pf_matrix.specs.declared.error.MatrixFormatError.TheVariants.{OutOfMemory};
 
@@ -32,7 +32,7 @@ impl<C, A: Allocator + Copy> Matrix<C, A> {
         predicate: P,
     ) -> Result<BTreeSet<(usize, usize), A>, MatrixFormatError>
         requires { CallableInTurn P.pre P.step predicate (positions_of self.now) }
-        ensures reached { IfOk result (λ reached. (answers : List Bool) × GivesInTurn P.step predicate (positions_of self.now) answers × IsFlood self.now.rows self.now.columns diagonals (answer_at self.now.rows self.now.columns answers) start reached) }
+        ensures reached { IfOk result (IsFloodBy P.step predicate self.now diagonals start) }
         ensures refused { IfErr result (λ e. e ≡ OutOfMemory) }
     {
         let alloc = *self.values.allocator();
@@ -63,7 +63,7 @@ impl<C, A: Allocator + Copy> Matrix<C, A> {
         predicate: P,
     ) -> Result<BTreeSet<(usize, usize), A>, MatrixFormatError>
         requires { CallableInTurn P.pre P.step predicate (positions_of self.now) }
-        ensures reached { IfOk result (λ reached. (answers : List Bool) × GivesInTurn P.step predicate (positions_of self.now) answers × IsFlood self.now.rows self.now.columns diagonals (answer_at self.now.rows self.now.columns answers) start reached) }
+        ensures reached { IfOk result (IsFloodBy P.step predicate self.now diagonals start) }
         ensures refused { IfErr result (λ e. e ≡ OutOfMemory) }
     {
         self.bfs_reachable(start, diagonals, predicate)

@@ -20,14 +20,14 @@ returns-clause-transpositions g c = λ m n o lawful ok a b.
     equal_table eq m o ok (twice_transposed (equals eq) (joined_equals eq g.met.C.Eq.laws) m n o (arranged_as like (equals eq) lawful _ _ _ m n a) (arranged_as like (equals eq) lawful _ _ _ n o b))
 
 pub returns-clause-quarter_turns : goal.returns-clause-quarter_turns
-returns-clause-quarter_turns g c = λ m n o p q lawful ok a b d e.
+returns-clause-quarter_turns g c = λ m lawful ok n o p q a b d e.
     let eq = g.C.PartialEq.eq in
     let like = g.C.Clone.is_clone in
     equal_table eq m q ok
     (four_right (equals eq) (joined_equals eq g.met.C.Eq.laws) m n o p q (arranged_as like (equals eq) lawful _ _ _ m n a) (arranged_as like (equals eq) lawful _ _ _ n o b) (arranged_as like (equals eq) lawful _ _ _ o p d) (arranged_as like (equals eq) lawful _ _ _ p q e))
 
 pub returns-clause-quarter_turns_back : goal.returns-clause-quarter_turns_back
-returns-clause-quarter_turns_back g c = λ m n o p q lawful ok a b d e.
+returns-clause-quarter_turns_back g c = λ m lawful ok n o p q a b d e.
     let eq = g.C.PartialEq.eq in
     let like = g.C.Clone.is_clone in
     equal_table eq m q ok

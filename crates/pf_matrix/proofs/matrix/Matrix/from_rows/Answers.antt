@@ -2,7 +2,7 @@ use Rattle.std.proofs.Common.{◌≡◌, ◌*◌, ◌<◌, ap, sym, refl, ◌∙
 use Rattle.std.proofs.iter.Next.{Yields-more}
 use Rattle.pf_search.proofs.ResultLemmas.{refused_as}
 use Rattle.pf_matrix.specs.declared.error.MatrixFormatError.TheVariants.{EmptyRow, OutOfMemory, WrongLength}
-use Rattle.pf_matrix.specs.Rows.{GivesAll}
+use Rattle.pf_matrix.specs.Giving.{GivesAll}
 use Rattle.pf_matrix.proofs.RowLemmas.{AllZip-append, empty_is_not_long, empty_is_not_memory, flat_more, length-flat, grown, long_is_not_memory, ok_is_no_error, other_width, refused_is, rows_matrix}
 use Rattle.pf_matrix.proofs.matrix.Matrix.from_rows.Goals as goal
 
@@ -31,12 +31,14 @@ returns-then-unwrap_or-length-clause-wrong_length g c = λ _.
     let gives = GivesAll g.IC.IntoIterator.into_iter_gives g.IC.IntoIter.Iterator.next_gives in
     let o = other_width c.loop-row.width i.0 c.in_ok-length.length i.3 (λ e. c.if-unwrap_or-length.true (c.unwrap_or.ensures ∙ e)) in
     record {
-      iterator = c.into_iter-row-iterator.result;
-      left = c.next.new.self;
       given = c.loop-row.yielded ++ c.in-Some.row ∷ [];
       lists = i.0 ++ p.0 ∷ [];
-      made = c.into_iter-row-iterator.ensures.into_iter_gives;
-      yields = Yields-more g.IR.IntoIter.Iterator.next_gives c.into_iter-row-iterator.result c.loop-row.yielded c.loop-row.row-iterator c.in-Some.row c.next.new.self c.loop-row.yielded_by c.in-Some.ensures.steps;
+      gives = record {
+        iterator = c.into_iter-row-iterator.result;
+        left = c.next.new.self;
+        made = c.into_iter-row-iterator.ensures.into_iter_gives;
+        yields = Yields-more g.IR.IntoIter.Iterator.next_gives c.into_iter-row-iterator.result c.loop-row.yielded c.loop-row.row-iterator c.in-Some.row c.next.new.self c.loop-row.yielded_by c.in-Some.ensures.steps;
+      };
       values = AllZip-append gives c.loop-row.yielded (c.in-Some.row ∷ []) i.0 (p.0 ∷ []) i.1 (p.1, tt);
       holds = record { before = i.0; last = p.0; width = o.0; is = refl; some = o.1; same = o.2; differs = λ e. o.3 (sym e ∙ sym p.3) };
     }
@@ -63,11 +65,13 @@ returns-clause-made g c =
     let wide : 0 < w = omega (arith, c.if-columns-eq0.false) in
     let n : c.len.result ≡ length c.loop-row.values.items = c.len.ensures ∙ c.loop-row.values.ok.0 in
     record {
-      iterator = c.into_iter-row-iterator.result;
       given = c.loop-row.yielded;
       lists = i.0;
-      made = c.into_iter-row-iterator.ensures.into_iter_gives;
-      drains = (c.next.new.self, (c.loop-row.row-iterator, c.loop-row.yielded_by, c.in-None.ensures.steps));
+      gives = record {
+        iterator = c.into_iter-row-iterator.result;
+        made = c.into_iter-row-iterator.ensures.into_iter_gives;
+        drains = (c.next.new.self, (c.loop-row.row-iterator, c.loop-row.yielded_by, c.in-None.ensures.steps));
+      };
       values = i.1;
       holds = record {
         rows = rows_matrix i.0 c.loop-row.values.items c.len.result w wide n i.2 shape.1;
@@ -82,11 +86,13 @@ returns-in_default-clause-made g c =
     let i = c.loop-row.invariant in
     let none = rw c.in_default.is at i.3 in
     record {
-      iterator = c.into_iter-row-iterator.result;
       given = c.loop-row.yielded;
       lists = i.0;
-      made = c.into_iter-row-iterator.ensures.into_iter_gives;
-      drains = (c.next.new.self, (c.loop-row.row-iterator, c.loop-row.yielded_by, c.in-None.ensures.steps));
+      gives = record {
+        iterator = c.into_iter-row-iterator.result;
+        made = c.into_iter-row-iterator.ensures.into_iter_gives;
+        drains = (c.next.new.self, (c.loop-row.row-iterator, c.loop-row.yielded_by, c.in-None.ensures.steps));
+      };
       values = i.1;
       holds = rw (c.new_empty.ensures.made, none) (record { rows = refl; columns = tt; values = refl; none = λ e. refl });
     }
@@ -96,11 +102,13 @@ returns-then-columns-eq0-clause-empty_row g c = λ _.
     let i = c.loop-row.invariant in
     let shape = rw c.in-Some-width.is at i.3 in
     record {
-      iterator = c.into_iter-row-iterator.result;
       given = c.loop-row.yielded;
       lists = i.0;
-      made = c.into_iter-row-iterator.ensures.into_iter_gives;
-      drains = (c.next.new.self, (c.loop-row.row-iterator, c.loop-row.yielded_by, c.in-None.ensures.steps));
+      gives = record {
+        iterator = c.into_iter-row-iterator.result;
+        made = c.into_iter-row-iterator.ensures.into_iter_gives;
+        drains = (c.next.new.self, (c.loop-row.row-iterator, c.loop-row.yielded_by, c.in-None.ensures.steps));
+      };
       values = i.1;
       holds = (shape.0, rw c.if-columns-eq0.true at shape.1);
     }
