@@ -1,5 +1,6 @@
-use Rattle.std.proofs.Common.{◌≡◌, ◌*◌, ◌<◌, ap, sym, refl, ◌∙◌, arith, length, [], ◌∷◌, ◌++◌, inr, ◌⊎◌, Err}
+use Rattle.std.proofs.Common.{◌≡◌, ◌*◌, ◌<◌, ap, sym, refl, ◌∙◌, arith, length, [], ◌∷◌, ◌++◌, inl, inr, ◌⊎◌, Err}
 use Rattle.std.proofs.iter.Next.{Yields-more}
+use Rattle.std.proofs.lemmas.Result.{IfOk-from_err}
 use Rattle.pf_search.proofs.ResultLemmas.{refused_as}
 use Rattle.pf_matrix.specs.declared.error.MatrixFormatError.TheVariants.{EmptyRow, OutOfMemory, WrongLength}
 use Rattle.pf_matrix.specs.Giving.{GivesAll}
@@ -140,3 +141,33 @@ returns-clause-wrong_length g c = λ q. absurd (ok_is_no_error _ _ q)
 
 pub returns-clause-empty_row : goal.returns-clause-empty_row
 returns-clause-empty_row g c = λ q. absurd (ok_is_no_error _ _ q)
+
+pub returns-in_err-length-clause-made : goal.returns-in_err-length-clause-made
+returns-in_err-length-clause-made g c = IfOk-from_err _ _ c.from_residual.ensures.0
+
+pub returns-in_err-length-clause-matrix : goal.returns-in_err-length-clause-matrix
+returns-in_err-length-clause-matrix g c = IfOk-from_err _ _ c.from_residual.ensures.0
+
+pub returns-then-unwrap_or-length-clause-made : goal.returns-then-unwrap_or-length-clause-made
+returns-then-unwrap_or-length-clause-made g c = tt
+
+pub returns-then-unwrap_or-length-clause-matrix : goal.returns-then-unwrap_or-length-clause-matrix
+returns-then-unwrap_or-length-clause-matrix g c = tt
+
+pub returns-then-unwrap_or-length-clause-refused : goal.returns-then-unwrap_or-length-clause-refused
+returns-then-unwrap_or-length-clause-refused g c = inl refl
+
+pub returns-then-columns-eq0-clause-made : goal.returns-then-columns-eq0-clause-made
+returns-then-columns-eq0-clause-made g c = tt
+
+pub returns-then-columns-eq0-clause-matrix : goal.returns-then-columns-eq0-clause-matrix
+returns-then-columns-eq0-clause-matrix g c = tt
+
+pub returns-then-columns-eq0-clause-refused : goal.returns-then-columns-eq0-clause-refused
+returns-then-columns-eq0-clause-refused g c = inr (inl refl)
+
+pub returns-clause-refused : goal.returns-clause-refused
+returns-clause-refused g c = tt
+
+pub returns-in_default-clause-refused : goal.returns-in_default-clause-refused
+returns-in_default-clause-refused g c = tt

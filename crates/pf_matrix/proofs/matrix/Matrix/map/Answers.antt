@@ -1,7 +1,10 @@
-use Rattle.std.proofs.Common.{◌≡◌, sym, ap, ◌∙◌, of_calls, arith, length, [], ◌∷◌, append_assoc, length-append}
+use Rattle.std.proofs.Common.{◌≡◌, sym, ap, ◌∙◌, of_calls, arith, length, [], ◌∷◌, append_assoc, length-append, refl}
 use Rattle.std.specs.Vec.Iter.{into_iter_items}
 use Rattle.std.proofs.lemmas.List.{append-nil, nil_from_length}
 use Rattle.pf_matrix.proofs.CallLemmas.{callable_first, callable_rest}
+use Rattle.std.proofs.lemmas.Result.{IfOk-from_err}
+use Rattle.pf_search.proofs.ResultLemmas.{refused_as}
+use Rattle.pf_matrix.specs.declared.error.MatrixFormatError.TheVariants.{OutOfMemory}
 use Rattle.pf_matrix.proofs.matrix.Matrix.map.Goals as goal
 
 pub loop-value-init : goal.loop-value-init
@@ -50,3 +53,24 @@ returns-clause-columns g c = ap (λ t. t.columns) c.self.view_is
 
 pub returns-clause-matrix : goal.returns-clause-matrix
 returns-clause-matrix g c = invariant_of-result g c.before
+
+pub returns-in_err-answers : goal.returns-in_err-answers
+returns-in_err-answers g c = record {
+  rows = IfOk-from_err _ _ c.from_residual.ensures.0;
+  columns = IfOk-from_err _ _ c.from_residual.ensures.0;
+  values = IfOk-from_err _ _ c.from_residual.ensures.0;
+  matrix = IfOk-from_err _ _ c.from_residual.ensures.0;
+  refused = refused_as (λ e. e ≡ OutOfMemory) c.from_residual.result OutOfMemory c.from_residual.ensures.1 refl;
+}
+
+pub returns-in_err-push : goal.returns-in_err-push
+returns-in_err-push g c = record {
+  rows = IfOk-from_err _ _ c.from_residual-in_err-push.ensures.0;
+  columns = IfOk-from_err _ _ c.from_residual-in_err-push.ensures.0;
+  values = IfOk-from_err _ _ c.from_residual-in_err-push.ensures.0;
+  matrix = IfOk-from_err _ _ c.from_residual-in_err-push.ensures.0;
+  refused = refused_as (λ e. e ≡ OutOfMemory) c.from_residual-in_err-push.result OutOfMemory c.from_residual-in_err-push.ensures.1 refl;
+}
+
+pub returns-clause-refused : goal.returns-clause-refused
+returns-clause-refused g c = tt

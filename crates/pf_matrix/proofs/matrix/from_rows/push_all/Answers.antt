@@ -1,4 +1,5 @@
 use Rattle.std.proofs.Common.{◌≡◌, refl, ap, ◌∙◌, arith, [], ◌∷◌, ◌++◌, length, length-append, append_assoc}
+use Rattle.std.proofs.lemmas.Result.{IfOk-from_err}
 use Rattle.pf_search.proofs.ResultLemmas.{refused_as}
 use Rattle.pf_matrix.specs.declared.error.MatrixFormatError.TheVariants.{OutOfMemory}
 use Rattle.pf_matrix.proofs.matrix.from_rows.push_all.Goals as goal
@@ -26,6 +27,11 @@ returns-clause-given g c =
       omega (arith, before, after, ap length c.loop-value.invariant ∙ length-append c.args.values.now.items c.loop-value.yielded),
     )
 
-pub returns-in_err-push-clause-refused : goal.returns-in_err-push-clause-refused
-returns-in_err-push-clause-refused g c =
-    refused_as (λ e. e ≡ OutOfMemory) c.from_residual.result OutOfMemory c.from_residual.ensures.1 refl
+pub returns-clause-refused : goal.returns-clause-refused
+returns-clause-refused g c = tt
+
+pub returns-in_err-push : goal.returns-in_err-push
+returns-in_err-push g c = record {
+  given = IfOk-from_err _ _ c.from_residual.ensures.0;
+  refused = refused_as (λ e. e ≡ OutOfMemory) c.from_residual.result OutOfMemory c.from_residual.ensures.1 refl;
+}
