@@ -9,7 +9,7 @@ use Rattle.pf_matrix.specs.Tables.{Table}
 use Rattle.pf_matrix.proofs.FloodLemmas.{filtered_successors, flood_within}
 use Rattle.pf_matrix.proofs.matrix.floods.flood.Goals as goal
 
-unfoldable pub gather_breadth-requires : goal.gather_breadth-requires
+pub gather_breadth-requires : goal.gather_breadth-requires
 gather_breadth-requires g c =
     let m = c.args.passing.now in
     let passes = answer_at m.rows m.columns m.values in
@@ -28,12 +28,15 @@ gather_breadth-requires g c =
     }
 
 pub returns : goal.returns
-unfolding gather_breadth-requires
 returns g c =
-    -- as the call was made, before what is owned is dropped
-    let walk = (gather_breadth-requires g c.before.before.before.before.before.before.before.before.before.before).walk in
+    let m = c.args.passing.now in
+    let passes = answer_at m.rows m.columns m.values in
+    let next = passing_around m.rows m.columns c.args.diagonals passes in
+    let walks = c.in-Ok.ensures.graph next
+    (filtered_successors (λ ps. ⊤) (item_count (λ ps. ps)) passes (λ p. neighbours_of m.rows m.columns p.0 p.1 c.args.diagonals) (λ ps. (tt, tt)) (λ x. tt)
+    (λ x r t k. (search rules, search rules, (λ y. tt), (λ y b q l. (search rules, search rules))))) in
     record {
-      reached = IfOk-weaker c.gather_breadth.result _ _ (λ reached h. record { exactly = h }) (c.gather_breadth.ensures.reached walk.0 walk.1 walk.2);
+      reached = IfOk-weaker c.gather_breadth.result _ _ (λ reached h. record { exactly = h }) (c.gather_breadth.ensures.reached next c.args.start walks);
       refused = c.gather_breadth.ensures.refused;
     }
 
