@@ -1,7 +1,9 @@
-use Rattle.std.proofs.Common.{sym, refl, ◌∙◌}
+use Rattle.std.proofs.Common.{sym, refl, ◌∙◌, ◌≡◌}
 use Rattle.pf_matrix.specs.Tables.{Table}
 use Rattle.pf_matrix.proofs.RowLemmas.{on_err}
 use Rattle.pf_matrix.proofs.TableLemmas.{matrix_anew}
+use Rattle.pf_search.proofs.ResultLemmas.{on_refused, refused_as}
+use Rattle.pf_matrix.specs.declared.error.MatrixFormatError.TheVariants.{OutOfMemory}
 use Rattle.pf_matrix.proofs.matrix.Matrix.fill.Goals as goal
 
 pub invariant_of-self : goal.invariant_of-self
@@ -22,3 +24,15 @@ returns-clause-filled g c =
 
 pub returns-in_err-self-inside-clause-stays : goal.returns-in_err-self-inside-clause-stays
 returns-in_err-self-inside-clause-stays g c = on_err c.from_residual.result refl
+
+pub returns-in_err-self-inside-clause-filled : goal.returns-in_err-self-inside-clause-filled
+returns-in_err-self-inside-clause-filled g c = on_refused _ c.from_residual.result OutOfMemory c.from_residual.ensures.1
+
+pub returns-in_err-self-inside-clause-refused : goal.returns-in_err-self-inside-clause-refused
+returns-in_err-self-inside-clause-refused g c = refused_as (λ e. e ≡ OutOfMemory) c.from_residual.result OutOfMemory c.from_residual.ensures.1 refl
+
+pub returns-clause-stays : goal.returns-clause-stays
+returns-clause-stays g c = tt
+
+pub returns-clause-refused : goal.returns-clause-refused
+returns-clause-refused g c = tt
