@@ -45,15 +45,15 @@ loop-column-preserved g c =
     let at : c.loop-column.column * c.args.rows + c.loop-row.row ≡ (c.loop-column.column + 1) * c.args.rows = omega (arith, end) in
     rw at at c.loop-row.invariant
 
-pub returns-clause-len : goal.returns-clause-len
-returns-clause-len g c =
-    let end : c.loop-column.column ≡ c.args.columns = omega arith in
-    omega (arith, c.loop-column.values.ok.0, rw end at c.loop-column.invariant.size)
-
-pub returns-clause-values : goal.returns-clause-values
-returns-clause-values g c = λ r k d p q.
-    let end : c.loop-column.column ≡ c.args.columns = omega arith in
-    c.loop-column.invariant.values r k d d q (rw end (omega (arith, mul-add-lt r c.args.rows k c.args.columns p q)))
+pub returns : goal.returns
+returns g c = record {
+  len =
+      let end : c.loop-column.column ≡ c.args.columns = omega arith in
+      omega (arith, c.loop-column.values.ok.0, rw end at c.loop-column.invariant.size);
+  values = λ r k d p q.
+      let end : c.loop-column.column ≡ c.args.columns = omega arith in
+      c.loop-column.invariant.values r k d d q (rw end (omega (arith, mul-add-lt r c.args.rows k c.args.columns p q)));
+}
 
 pub returns-in_err-values : goal.returns-in_err-values
 returns-in_err-values g c = record { len = IfOk-from_err _ _ c.from_residual.ensures.0; values = IfOk-from_err _ _ c.from_residual.ensures.0 }

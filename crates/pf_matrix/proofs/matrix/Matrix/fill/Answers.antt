@@ -13,26 +13,22 @@ invariant_of-self g c =
     let vs = c.in_ok-self-inside.field-0 in
     matrix_anew m vs.items c.self.invariant (sym vs.ok.0 ∙ c.in_ok-self-inside.ensures.len ∙ c.len.ensures ∙ s.values.ok.0)
 
-pub returns-clause-filled : goal.returns-clause-filled
-returns-clause-filled g c =
-    rw (← c.self.view_is) (record {
-      rows = refl;
-      columns = refl;
-      values = c.in_ok-self-inside.ensures.items;
-      matrix = invariant_of-self g c;
-    })
+pub returns-in_err-self-inside : goal.returns-in_err-self-inside
+returns-in_err-self-inside g c = record {
+  stays = on_err c.from_residual.result refl;
+  filled = on_refused _ c.from_residual.result OutOfMemory c.from_residual.ensures.1;
+  refused = refused_as (λ e. e ≡ OutOfMemory) c.from_residual.result OutOfMemory c.from_residual.ensures.1 refl;
+}
 
-pub returns-in_err-self-inside-clause-stays : goal.returns-in_err-self-inside-clause-stays
-returns-in_err-self-inside-clause-stays g c = on_err c.from_residual.result refl
-
-pub returns-in_err-self-inside-clause-filled : goal.returns-in_err-self-inside-clause-filled
-returns-in_err-self-inside-clause-filled g c = on_refused _ c.from_residual.result OutOfMemory c.from_residual.ensures.1
-
-pub returns-in_err-self-inside-clause-refused : goal.returns-in_err-self-inside-clause-refused
-returns-in_err-self-inside-clause-refused g c = refused_as (λ e. e ≡ OutOfMemory) c.from_residual.result OutOfMemory c.from_residual.ensures.1 refl
-
-pub returns-clause-stays : goal.returns-clause-stays
-returns-clause-stays g c = tt
-
-pub returns-clause-refused : goal.returns-clause-refused
-returns-clause-refused g c = tt
+pub returns : goal.returns
+returns g c = record {
+  filled =
+      rw (← c.self.view_is) (record {
+        rows = refl;
+        columns = refl;
+        values = c.in_ok-self-inside.ensures.items;
+        matrix = invariant_of-self g c;
+      });
+  stays = tt;
+  refused = tt;
+}

@@ -31,11 +31,6 @@ loop-value-preserved g c =
       calls = λ ys h. rw (c.in_ok-push.ensures.items, append_assoc) (c.loop-value.invariant.calls (c.f.result ∷ ys) (rw steps.0 (c.f.new.self, search of_calls, h)));
     }
 
-pub returns-clause-values : goal.returns-clause-values
-returns-clause-values g c =
-    let none : into_iter_items c.loop-value.value-iterator ≡ [] = nil_from_length (into_iter_items c.loop-value.value-iterator) (omega (arith, c.loop-value.invariant.len, c.in-None.ensures.steps.0)) in
-    record { each = simp append-nil at (c.loop-value.invariant.calls [] (rw none tt)) }
-
 pub invariant_of-result : goal.invariant_of-result
 invariant_of-result g c =
     let none : into_iter_items c.loop-value.value-iterator ≡ [] = nil_from_length (into_iter_items c.loop-value.value-iterator) (omega (arith, c.loop-value.invariant.len, c.in-None.ensures.steps.0)) in
@@ -44,15 +39,6 @@ invariant_of-result g c =
       filled = c.self.invariant.filled;
       fits = c.self.invariant.fits;
     }
-
-pub returns-clause-rows : goal.returns-clause-rows
-returns-clause-rows g c = ap (λ t. t.rows) c.self.view_is
-
-pub returns-clause-columns : goal.returns-clause-columns
-returns-clause-columns g c = ap (λ t. t.columns) c.self.view_is
-
-pub returns-clause-matrix : goal.returns-clause-matrix
-returns-clause-matrix g c = invariant_of-result g c.before
 
 pub returns-in_err-answers : goal.returns-in_err-answers
 returns-in_err-answers g c = record {
@@ -72,5 +58,13 @@ returns-in_err-push g c = record {
   refused = refused_as (λ e. e ≡ OutOfMemory) c.from_residual-in_err-push.result OutOfMemory c.from_residual-in_err-push.ensures.1 refl;
 }
 
-pub returns-clause-refused : goal.returns-clause-refused
-returns-clause-refused g c = tt
+pub returns : goal.returns
+returns g c = record {
+  values =
+      let none : into_iter_items c.loop-value.value-iterator ≡ [] = nil_from_length (into_iter_items c.loop-value.value-iterator) (omega (arith, c.loop-value.invariant.len, c.in-None.ensures.steps.0)) in
+      record { each = simp append-nil at (c.loop-value.invariant.calls [] (rw none tt)) };
+  rows = ap (λ t. t.rows) c.self.view_is;
+  columns = ap (λ t. t.columns) c.self.view_is;
+  matrix = invariant_of-result g c.before;
+  refused = tt;
+}

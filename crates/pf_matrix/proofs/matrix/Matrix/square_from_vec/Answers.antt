@@ -2,20 +2,14 @@ use Rattle.std.proofs.Common.{sym, ap, ◌∙◌, refl}
 use Rattle.std.specs.Prelude.{pos}
 use Rattle.pf_matrix.proofs.matrix.Matrix.square_from_vec.Goals as goal
 
-pub returns-in_default-clause-wrong_length : goal.returns-in_default-clause-wrong_length
-returns-in_default-clause-wrong_length g c = λ size e. c.in_default.ensures.none (pos size) (ap pos (e ∙ sym c.len.ensures))
-
-pub returns-in_default-clause-square : goal.returns-in_default-clause-square
-returns-in_default-clause-square g c = tt
-
-pub returns-in_default-clause-values : goal.returns-in_default-clause-values
-returns-in_default-clause-values g c = tt
-
-pub returns-in_default-clause-matrix : goal.returns-in_default-clause-matrix
-returns-in_default-clause-matrix g c = tt
-
-pub returns-in_default-clause-refused : goal.returns-in_default-clause-refused
-returns-in_default-clause-refused g c = refl
+pub returns-in_default : goal.returns-in_default
+returns-in_default g c = record {
+  wrong_length = λ size e. c.in_default.ensures.none (pos size) (ap pos (e ∙ sym c.len.ensures));
+  square = tt;
+  values = tt;
+  matrix = tt;
+  refused = refl;
+}
 
 pub returns-clause-square : goal.returns-clause-square
 returns-clause-square g c = refl
