@@ -31,10 +31,10 @@ returns-in_err-push g c = record {
   refused = refused_as (λ e. e ≡ OutOfMemory) c.from_residual-in_err-push.result OutOfMemory c.from_residual-in_err-push.ensures.1 refl;
 }
 
-pub returns-clause-neighbours : goal.returns-clause-neighbours
-returns-clause-neighbours g c =
-    let found = c.loop-neighbour.found.items in
-    sym (append-nil found) ∙ ap (λ l. found ++ l) (sym c.in-None.ensures.steps.0) ∙ c.loop-neighbour.invariant
-
-pub returns-clause-refused : goal.returns-clause-refused
-returns-clause-refused g c = tt
+pub returns : goal.returns
+returns g c = record {
+  neighbours =
+      let found = c.loop-neighbour.found.items in
+      sym (append-nil found) ∙ ap (λ l. found ++ l) (sym c.in-None.ensures.steps.0) ∙ c.loop-neighbour.invariant;
+  refused = tt;
+}
