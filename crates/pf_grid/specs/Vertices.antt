@@ -1,6 +1,5 @@
 -- The vertices of a grid one after another, by rows, and grids of vertices that are listed.
-use Rattle.std.specs.Prelude.{ℕ, ◌+◌, ◌-◌, ◌*◌, ◌/◌, ◌%◌, ◌^◌, ◌≤◌, Bool, false, Option, List, [], ◌∷◌, map, max}
-use Rattle.std.specs.Iterator.{Drains}
+use Rattle.std.specs.Prelude.{ℕ, ◌+◌, ◌-◌, ◌*◌, ◌/◌, ◌%◌, ◌^◌, ◌≤◌, Bool, false, List, [], ◌∷◌, map, max}
 use Rattle.std.specs.List.{range_with_len, filter, list_any}
 use Rattle.pf_grid.specs.Positions.{Positions, grid_of, has, is_position}
 use Rattle.pf_matrix.specs.Tables.{Table, value_at}
@@ -48,11 +47,8 @@ IsTooLarge ps = 2 ^ 64 ≤ width_of ps * height_of ps
 abbrev pub of_table : Table Bool → Positions
 of_table m = grid_of m.columns m.rows false (λ x y. value_at m y x false)
 
-module _ {I S : Type 0} (becomes : I → S → Type 0) (steps : S → Option (ℕ × ℕ) → S → Type 0) where
-  -- P holds of the positions that an iterator made of `given` gives until it ends
-  pub record OfGiven (given : I) (P : List (ℕ × ℕ) → Type 0) : Type 0 where
-    pub iterator : S
-    pub positions : List (ℕ × ℕ)
-    pub made : becomes given iterator
-    pub drains : Drains steps iterator positions
-    pub holds : P positions
+-- P holds of the positions that are given
+pub record OfGiven {I : Type 0} (gives : I → List (ℕ × ℕ) → Type 0) (given : I) (P : List (ℕ × ℕ) → Type 0) : Type 0 where
+  pub positions : List (ℕ × ℕ)
+  pub all : gives given positions
+  pub holds : P positions

@@ -28,7 +28,7 @@ use Rattle.pf_base.proofs.Sources.{gives_chain}
 use Rattle.pf_base.proofs.Tables.{pair_refl, pair_exact, successors_keep}
 use Rattle.pf_core.proofs.ListLemmas.{Contains-cases, Contains-head, Contains-index, Contains-tail, or_cases, or_true}
 use Rattle.pf_search.specs.Breadth.{BreadthWalk, IsBreadthWalk, BreadthStep}
-use Rattle.pf_matrix.specs.Calls.{GivesInTurn}
+use Rattle.pf_matrix.specs.Calls.{CallableInTurn, GivesInTurn}
 use Rattle.pf_matrix.specs.Floods.{answer_at, position_cmp, same_position, passing_around}
 use Rattle.pf_matrix.specs.Gathering.{IsWithinPlaces}
 use Rattle.pf_matrix.specs.Positions.{positions, neighbours_of, neighbour_at, around, shifted, both, is_diagonal}
@@ -227,6 +227,9 @@ answer_inside rows columns answers p h k =
 -- calls at the same positions
 pub given_on : {F X Y : Type 0} {step : F → X → Y → F → Type 0} {f : F} {xs zs : List X} {ys : List Y} → xs ≡ zs → GivesInTurn step f xs ys → GivesInTurn step f zs ys
 given_on {step = step} {f = f} {ys = ys} e given = subst (λ ps. GivesInTurn step f ps ys) e given
+
+pub callable_on : {F X Y : Type 0} {pre : F → X → Type 0} {step : F → X → Y → F → Type 0} {f : F} {xs zs : List X} → xs ≡ zs → CallableInTurn pre step f xs → CallableInTurn pre step f zs
+callable_on {pre = pre} {step = step} {f = f} e callable = subst (λ ps. CallableInTurn pre step f ps) e callable
 
 -- ---- a function that lists the positions around one which a test takes
 

@@ -53,4 +53,4 @@ module _ {X Y : Type 0} (f : X → Option Y) (xs : List X) (n : ℕ) (x : X) (in
 
 pub progress_some : {Y : Type 0} (whole rest : List Y) (r : Option Y) → true ≡ is_some r → YieldsFirst (λ (ys : List Y). ys) whole r rest → MakesProgress (λ _. ⊤) (item_count (λ (ys : List Y). ys)) whole r rest
 progress_some whole rest None t e = absurd (false≢true (sym t))
-progress_some whole rest (Some y) t e = let n = ap length e in record { on = λ f. (tt, search rules, omega (arith, n)); keeps = tt; rests = λ f. tt }
+progress_some whole rest (Some y) t e = let n = ap length e in record { on = λ f. (tt, tt, omega (arith, n)); keeps = tt; rests = λ f. tt }

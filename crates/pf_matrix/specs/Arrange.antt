@@ -112,6 +112,10 @@ pub record IsFilled {C : Type 0} (clones : C → C → Type 0) (value : C) (m n 
   pub values : AllClonesOf clones value n.values
   pub matrix : IsMatrix n
 
+-- what four steps of this kind make of m, one after another, has this property
+abbrev pub AfterFour : {C : Type 0} → (Table C → Table C → Type 0) → Table C → (Table C → Type 0) → Type 0
+AfterFour {C} step m P = (n o p q : Table C) → step m n → step n o → step o p → step p q → P q
+
 -- a clone is its original
 abbrev pub IsFaithful : {C : Type 0} → (C → C → Type 0) → Type 0
 IsFaithful {C} like = (x y : C) → like x y → y ≡ x

@@ -6,7 +6,9 @@ use Rattle.std.specs.Ordering.{nat_cmp, ordering_then}
 use Rattle.std.specs.BTreeSet.{BTreeSet}
 use Rattle.pf_base.specs.Walks.{IsReachable}
 use Rattle.pf_base.specs.Successors.{HasSuccessor}
-use Rattle.pf_matrix.specs.Positions.{neighbours_of}
+use Rattle.pf_matrix.specs.Calls.{GivesInTurn}
+use Rattle.pf_matrix.specs.Positions.{neighbours_of, positions_of}
+use Rattle.pf_matrix.specs.Tables.{Table}
 
 -- the same row and the same column
 abbrev pub same_position : ℕ × ℕ → ℕ × ℕ → Bool
@@ -32,3 +34,7 @@ module _ (rows columns : ℕ) where
   -- the set has exactly the positions that are reached from the start by steps to neighbours that pass
   pub record IsFlood (diagonals : Bool) (passes : ℕ × ℕ → Bool) (start : ℕ × ℕ) (reached : BTreeSet (ℕ × ℕ)) : Type 0 where
     pub exactly : HasReached (passing_around diagonals passes) start reached
+
+-- calls of f at all positions of m, the first row first, gave some answers, and the set is the flood from the start by these
+abbrev pub IsFloodBy : {C F : Type 0} → (F → ℕ × ℕ → Bool → F → Type 0) → F → Table C → Bool → ℕ × ℕ → BTreeSet (ℕ × ℕ) → Type 0
+IsFloodBy step f m diagonals start reached = (answers : List Bool) × GivesInTurn step f (positions_of m) answers × IsFlood m.rows m.columns diagonals (answer_at m.rows m.columns answers) start reached

@@ -4,6 +4,7 @@ pub mod Calls
 pub mod Equality
 pub mod Floods
 pub mod Gathering
+pub mod Giving
 pub mod Internal
 pub mod ItemsMut
 pub mod Lends

@@ -2,7 +2,7 @@
 use Rattle.std.specs.Prelude.{◌≡◌, ◌≢◌, ℕ, ◌<◌, nat_eq, if◌then◌else◌, List, [], ◌∷◌, ◌++◌, length, Option, Some, None, ⊤}
 use Rattle.std.specs.Borrow.{Bor}
 use Rattle.std.specs.List.{flat_map, AllZip}
-use Rattle.std.specs.Iterator.{Yields, Drains, Count, IsFiniteIterable}
+use Rattle.std.specs.Iterator.{Yields, Count, IsFiniteIterable}
 use Rattle.pf_matrix.specs.Tables.{Table}
 use Rattle.pf_matrix.specs.declared.error.MatrixFormatError.{MatrixFormatError}
 use Rattle.pf_matrix.specs.declared.error.MatrixFormatError.TheVariants.{EmptyRow, WrongLength}
@@ -33,38 +33,17 @@ module _ {C : Type 0} where
 
 -- ---- rows that an iterator gives, each of which gives its values
 
-module _ {C J T : Type 0} (inner : J → T → Type 0) (inner_steps : T → Option C → T → Type 0) where
-  -- an iterator made of the row gives these values until it ends
-  pub record GivesAll (row : J) (xs : List C) : Type 0 where
-    pub iterator : T
-    pub made : inner row iterator
-    pub drains : Drains inner_steps iterator xs
+-- each row that an iterator made of `rows` may give ends
+pub record RowsEnd {I S J T : Type 0} (outer : I → S → Type 0) (outer_steps : S → Option J → S → Type 0) (inner : J → T → Type 0) (can : T → Type 0) (left : T → Count) (rows : I) : Type 0 where
+  pub at : (it : S) (before : List J) (t : S) (row : J) (u : S) → outer rows it → Yields outer_steps it before t → outer_steps t (Some row) u → IsFiniteIterable inner can left row
 
-module _ {C I S J T : Type 0} (outer : I → S → Type 0) (outer_steps : S → Option J → S → Type 0) (inner : J → T → Type 0) (inner_steps : T → Option C → T → Type 0) where
-  -- each row that may be given ends
-  pub record RowsEnd (can : T → Type 0) (left : T → Count) (rows : I) : Type 0 where
-    pub at : (it : S) (before : List J) (t : S) (row : J) (u : S) → outer rows it → Yields outer_steps it before t → outer_steps t (Some row) u → IsFiniteIterable inner can left row
-
-  -- the rows that an iterator gives until it ends give lists of values with this property
-  pub record Given (P : List (List C) → Type 0) (rows : I) : Type 0 where
-    pub iterator : S
-    pub given : List J
-    pub lists : List (List C)
-    pub made : outer rows iterator
-    pub drains : Drains outer_steps iterator given
-    pub values : AllZip (GivesAll inner inner_steps) given lists
-    pub holds : P lists
-
-  -- the rows that an iterator gives first do
-  pub record GivenFirst (P : List (List C) → Type 0) (rows : I) : Type 0 where
-    pub iterator : S
-    pub left : S
-    pub given : List J
-    pub lists : List (List C)
-    pub made : outer rows iterator
-    pub yields : Yields outer_steps iterator given left
-    pub values : AllZip (GivesAll inner inner_steps) given lists
-    pub holds : P lists
+-- what is given of `rows` gives lists of values with this property
+pub record Given {C I J : Type 0} (outer : I → List J → Type 0) (inner : J → List C → Type 0) (P : List (List C) → Type 0) (rows : I) : Type 0 where
+  pub given : List J
+  pub lists : List (List C)
+  pub gives : outer rows given
+  pub values : AllZip inner given lists
+  pub holds : P lists
 
 -- the last row has another length than those before it
 pub record LastDiffers {C : Type 0} (lists : List (List C)) : Type 0 where

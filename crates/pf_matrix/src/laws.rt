@@ -4,7 +4,7 @@
 
 ghost use Rattle.std.specs.Prelude.{◌≡◌, ℕ, IsTrue};
 ghost use Rattle.pf_base.specs.Answers.{IsLawfulClone};
-ghost use Rattle.pf_matrix.specs.Arrange.{IsFaithful, IsFlippedLr, IsFlippedUd, IsRotatedCcw, IsRotatedCw, IsTransposed, itself};
+ghost use Rattle.pf_matrix.specs.Arrange.{AfterFour, IsFaithful, IsFlippedLr, IsFlippedUd, IsRotatedCcw, IsRotatedCw, IsTransposed, IsTurnedLeft, IsTurnedRight, itself};
 ghost use Rattle.pf_matrix.specs.Equality.{same_tables, table_writes};
 ghost use Rattle.pf_matrix.specs.Tables.{IsMatrix, Table};
 
@@ -35,10 +35,10 @@ pub fn two_transpositions<C: Clone>(_of: PhantomData<C>)
 /// Four quarter turns to one side give the same matrix back, in place, and by copies where a clone is
 /// its very original, as at numbers.
 pub fn four_quarter_turns<C: Clone>(_of: PhantomData<C>)
-    ensures in_place { (m n o p q : Table C) → IsMatrix m → IsRotatedCw itself m n 1 → IsRotatedCw itself n o 1 → IsRotatedCw itself o p 1 → IsRotatedCw itself p q 1 → q ≡ m }
-    ensures in_place_back { (m n o p q : Table C) → IsMatrix m → IsRotatedCcw itself m n 1 → IsRotatedCcw itself n o 1 → IsRotatedCcw itself o p 1 → IsRotatedCcw itself p q 1 → q ≡ m }
-    ensures copies { (m n o p q : Table C) → IsFaithful C.is_clone → IsMatrix m → IsRotatedCw C.is_clone m n 1 → IsRotatedCw C.is_clone n o 1 → IsRotatedCw C.is_clone o p 1 → IsRotatedCw C.is_clone p q 1 → q ≡ m }
-    ensures copies_back { (m n o p q : Table C) → IsFaithful C.is_clone → IsMatrix m → IsRotatedCcw C.is_clone m n 1 → IsRotatedCcw C.is_clone n o 1 → IsRotatedCcw C.is_clone o p 1 → IsRotatedCcw C.is_clone p q 1 → q ≡ m }
+    ensures in_place { (m : Table C) → IsMatrix m → AfterFour (IsTurnedRight itself) m (λ q. q ≡ m) }
+    ensures in_place_back { (m : Table C) → IsMatrix m → AfterFour (IsTurnedLeft itself) m (λ q. q ≡ m) }
+    ensures copies { (m : Table C) → IsFaithful C.is_clone → IsMatrix m → AfterFour (IsTurnedRight C.is_clone) m (λ q. q ≡ m) }
+    ensures copies_back { (m : Table C) → IsFaithful C.is_clone → IsMatrix m → AfterFour (IsTurnedLeft C.is_clone) m (λ q. q ≡ m) }
 {}
 
 /// Turns to the left undo as many turns to the right, and the other way round, in place, and by copies
@@ -57,10 +57,12 @@ pub fn equal_copies<C: Clone + Eq>(_of: PhantomData<C>)
     ensures flips_lr { (m n o : Table C) → IsLawfulClone C.eq C.is_clone → IsMatrix m → IsFlippedLr C.is_clone m n → IsFlippedLr C.is_clone n o → IsTrue (same_tables C.eq m o) }
     ensures flips_ud { (m n o : Table C) → IsLawfulClone C.eq C.is_clone → IsMatrix m → IsFlippedUd C.is_clone m n → IsFlippedUd C.is_clone n o → IsTrue (same_tables C.eq m o) }
     ensures transpositions { (m n o : Table C) → IsLawfulClone C.eq C.is_clone → IsMatrix m → IsTransposed C.is_clone m n → IsTransposed C.is_clone n o → IsTrue (same_tables C.eq m o) }
-    ensures quarter_turns { (m n o p q : Table C) → IsLawfulClone C.eq C.is_clone → IsMatrix m → IsRotatedCw C.is_clone m n 1 → IsRotatedCw C.is_clone n o 1 → IsRotatedCw C.is_clone o p 1 → IsRotatedCw C.is_clone p q 1 → IsTrue (same_tables C.eq m q) }
-    ensures quarter_turns_back { (m n o p q : Table C) → IsLawfulClone C.eq C.is_clone → IsMatrix m → IsRotatedCcw C.is_clone m n 1 → IsRotatedCcw C.is_clone n o 1 → IsRotatedCcw C.is_clone o p 1 → IsRotatedCcw C.is_clone p q 1 → IsTrue (same_tables C.eq m q) }
-    ensures undone { (m n o : Table C) (times : ℕ) → IsLawfulClone C.eq C.is_clone → IsMatrix m → IsRotatedCw C.is_clone m n times → IsRotatedCcw C.is_clone n o times → IsTrue (same_tables C.eq m o) }
-    ensures undone_back { (m n o : Table C) (times : ℕ) → IsLawfulClone C.eq C.is_clone → IsMatrix m → IsRotatedCcw C.is_clone m n times → IsRotatedCw C.is_clone n o times → IsTrue (same_tables C.eq m o) }
+    ensures quarter_turns { (m : Table C) → IsLawfulClone C.eq C.is_clone → IsMatrix m → AfterFour (IsTurnedRight C.is_clone) m (λ q. IsTrue (same_tables C.eq m q)) }
+    ensures quarter_turns_back { (m : Table C) → IsLawfulClone C.eq C.is_clone → IsMatrix m → AfterFour (IsTurnedLeft C.is_clone) m (λ q. IsTrue (same_tables C.eq m q)) }
+    ensures undone { (m n o : Table C) (times : ℕ) → IsLawfulClone C.eq C.is_clone → IsMatrix m
+        → IsRotatedCw C.is_clone m n times → IsRotatedCcw C.is_clone n o times → IsTrue (same_tables C.eq m o) }
+    ensures undone_back { (m n o : Table C) (times : ℕ) → IsLawfulClone C.eq C.is_clone → IsMatrix m
+        → IsRotatedCcw C.is_clone m n times → IsRotatedCw C.is_clone n o times → IsTrue (same_tables C.eq m o) }
 {}
 
 /// Equal matrices are hashed by the same writes.

@@ -4,6 +4,7 @@
 pub mod directions;
 mod error;
 pub mod gathering;
+pub mod giving;
 pub mod laws;
 mod macros;
 mod matrix;

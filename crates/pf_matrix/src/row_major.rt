@@ -2,6 +2,7 @@
 
 ghost use Rattle.std.specs.Prelude.{◌≡◌, ℕ, ◌+◌, ◌-◌, ◌*◌, ◌^◌, ◌<◌, ◌≤◌, ◌≢◌, length, slice_index_or, vec_len, IfOk, IsOk};
 ghost use Rattle.pf_matrix.specs.Arrange.{IsCovered};
+ghost use Rattle.pf_matrix.specs.Internal.Parts.{IsPartOf};
 
 use std::alloc::{AllocError, Allocator};
 
@@ -98,7 +99,7 @@ pub(crate) fn cloned_part<C: Clone + Drop, A: Allocator>(
     requires columns { from.1 + size.1 ≤ columns }
     requires fits { size.0 * size.1 < 2 ^ 64 }
     ensures len { IfOk result (λ v. vec_len v ≡ size.0 * size.1) }
-    ensures values { IfOk result (λ v. (r c : ℕ) (d : C) → r < size.0 → c < size.1 → C.is_clone (slice_index_or all.now ((from.0 + r) * columns + (from.1 + c)) d) (slice_index_or v.items (r * size.1 + c) d)) }
+    ensures values { IfOk result (λ v. IsPartOf C.is_clone columns from size all.now v.items) }
     ensures no_rows { size.0 ≡ 0 → IsOk result }
 {
     let mut values = Vec::with_capacity(alloc, size.0 * size.1)?;

@@ -1,10 +1,10 @@
 //! The vertices in reach of a position, where each step leads to a neighbour that passes a test.
 
-ghost use Rattle.std.specs.Prelude.{◌≡◌, true, false, Bool, List, [], ◌∷◌, IfOk, IfErr};
-ghost use Rattle.pf_grid.specs.Floods.{IsFlood};
+ghost use Rattle.std.specs.Prelude.{◌≡◌, true, false, [], ◌∷◌, IfOk, IfErr};
+ghost use Rattle.pf_grid.specs.Floods.{IsFlood, IsFloodBy};
 ghost use Rattle.pf_grid.specs.Positions.{has};
 ghost use Rattle.pf_grid.specs.declared.error.GridError.TheVariants.{OutOfMemory};
-ghost use Rattle.pf_matrix.specs.Calls.{CallableInTurn, GivesInTurn};
+ghost use Rattle.pf_matrix.specs.Calls.{CallableInTurn};
 ghost use Rattle.pf_matrix.specs.Floods.{answer_at};
 ghost use Rattle.pf_matrix.specs.Positions.{positions};
 
@@ -36,7 +36,7 @@ impl<A: Allocator + Copy> Grid<A> {
     ) -> Result<BTreeSet<(usize, usize), A>, GridError>
         requires { CallableInTurn P.pre P.step predicate (positions self.now.width self.now.height) }
         ensures alone { IfOk result (λ reached. has self.now start.0 start.1 ≡ false → reached.keys ≡ start ∷ []) }
-        ensures reached { IfOk result (λ reached. has self.now start.0 start.1 ≡ true → (answers : List Bool) × GivesInTurn P.step predicate (positions self.now.width self.now.height) answers × IsFlood self.now (answer_at self.now.width self.now.height answers) start reached) }
+        ensures reached { IfOk result (λ reached. has self.now start.0 start.1 ≡ true → IsFloodBy P.step predicate self.now start reached) }
         ensures refused { IfErr result (λ e. e ≡ OutOfMemory) }
     {
         let alloc = *self.words.allocator();
@@ -65,7 +65,7 @@ impl<A: Allocator + Copy> Grid<A> {
     ) -> Result<BTreeSet<(usize, usize), A>, GridError>
         requires { CallableInTurn P.pre P.step predicate (positions self.now.width self.now.height) }
         ensures alone { IfOk result (λ reached. has self.now start.0 start.1 ≡ false → reached.keys ≡ start ∷ []) }
-        ensures reached { IfOk result (λ reached. has self.now start.0 start.1 ≡ true → (answers : List Bool) × GivesInTurn P.step predicate (positions self.now.width self.now.height) answers × IsFlood self.now (answer_at self.now.width self.now.height answers) start reached) }
+        ensures reached { IfOk result (λ reached. has self.now start.0 start.1 ≡ true → IsFloodBy P.step predicate self.now start reached) }
         ensures refused { IfErr result (λ e. e ≡ OutOfMemory) }
     {
         self.bfs_reachable(start, predicate)

@@ -7,6 +7,7 @@ ghost use Rattle.pf_grid.specs.declared.error.GridError.TheVariants.{OutOfMemory
 
 use crate::error::GridError;
 use crate::grid::Grid;
+use pf_matrix::giving::Giving;
 use std::alloc::Allocator;
 
 impl<A: Allocator + Copy> Grid<A> {
@@ -23,8 +24,8 @@ impl<A: Allocator + Copy> Grid<A> {
         vertices: I,
     ) -> Result<Self, GridError>
         requires ends { IsFiniteIterable I.into_iter_gives I.IntoIter.can_next I.IntoIter.remaining vertices }
-        ensures made { IfOk result (λ g. OfGiven I.into_iter_gives I.IntoIter.next_gives vertices (λ ps. g ≡ smallest ps)) }
-        ensures too_large { IsErrOf result TooLarge → OfGiven I.into_iter_gives I.IntoIter.next_gives vertices IsTooLarge }
+        ensures made { IfOk result (λ g. OfGiven ⟦<I as Giving<(usize, usize)>>⟧.gives_all vertices (λ ps. g ≡ smallest ps)) }
+        ensures too_large { IsErrOf result TooLarge → OfGiven ⟦<I as Giving<(usize, usize)>>⟧.gives_all vertices IsTooLarge }
         ensures refused { IfErr result (λ e. (e ≡ OutOfMemory) ⊎ (e ≡ TooLarge)) }
     {
         let mut given = Vec::new(alloc);

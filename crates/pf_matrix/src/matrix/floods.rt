@@ -1,8 +1,8 @@
 //! The positions in reach of a position, where each step leads to a neighbour that passes a test.
 
-ghost use Rattle.std.specs.Prelude.{◌≡◌, Bool, List, IfOk, IfErr};
-ghost use Rattle.pf_matrix.specs.Calls.{CallableInTurn, GivesInTurn};
-ghost use Rattle.pf_matrix.specs.Floods.{IsFlood, answer_at};
+ghost use Rattle.std.specs.Prelude.{◌≡◌, IfOk, IfErr};
+ghost use Rattle.pf_matrix.specs.Calls.{CallableInTurn};
+ghost use Rattle.pf_matrix.specs.Floods.{IsFlood, IsFloodBy, answer_at};
 ghost use Rattle.pf_matrix.specs.Positions.{positions_of};
 ghost use Rattle.pf_matrix.specs.declared.error.MatrixFormatError.TheVariants.{OutOfMemory};
 
@@ -32,21 +32,12 @@ impl<C, A: Allocator + Copy> Matrix<C, A> {
         predicate: P,
     ) -> Result<BTreeSet<(usize, usize), A>, MatrixFormatError>
         requires { CallableInTurn P.pre P.step predicate (positions_of self.now) }
-        ensures reached { IfOk result (λ reached. (answers : List Bool) × GivesInTurn P.step predicate (positions_of self.now) answers × IsFlood self.now.rows self.now.columns diagonals (answer_at self.now.rows self.now.columns answers) start reached) }
+        ensures reached { IfOk result (IsFloodBy P.step predicate self.now diagonals start) }
         ensures refused { IfErr result (λ e. e ≡ OutOfMemory) }
     {
         let alloc = *self.values.allocator();
         let passing = Matrix::from_fn(alloc, self.rows, self.columns, predicate)?;
-        let table = &passing;
-        let walk = bfs_reach(alloc, start, |position: &(usize, usize)| {
-            table
-                .neighbours(*position, diagonals)
-                .filter(move |neighbour| is_taken(table, *neighbour))
-        });
-        let Ok(mut walk) = walk else {
-            return Err(MatrixFormatError::OutOfMemory);
-        };
-        gather_breadth(alloc, &mut walk, self.rows * self.columns)
+        flood(alloc, &passing, start, diagonals)
     }
 
     /// The positions that are reached from `start` by steps to neighbours that `predicate` takes, as
@@ -63,9 +54,31 @@ impl<C, A: Allocator + Copy> Matrix<C, A> {
         predicate: P,
     ) -> Result<BTreeSet<(usize, usize), A>, MatrixFormatError>
         requires { CallableInTurn P.pre P.step predicate (positions_of self.now) }
-        ensures reached { IfOk result (λ reached. (answers : List Bool) × GivesInTurn P.step predicate (positions_of self.now) answers × IsFlood self.now.rows self.now.columns diagonals (answer_at self.now.rows self.now.columns answers) start reached) }
+        ensures reached { IfOk result (IsFloodBy P.step predicate self.now diagonals start) }
         ensures refused { IfErr result (λ e. e ≡ OutOfMemory) }
     {
         self.bfs_reachable(start, diagonals, predicate)
     }
+}
+
+/// The positions that are reached from `start` by steps to neighbours at which the table has `true`.
+fn flood<A: Allocator + Copy>(
+    alloc: A,
+    passing: &Matrix<bool, A>,
+    start: (usize, usize),
+    diagonals: bool,
+) -> Result<BTreeSet<(usize, usize), A>, MatrixFormatError>
+    ensures reached { IfOk result (IsFlood passing.now.rows passing.now.columns diagonals (answer_at passing.now.rows passing.now.columns passing.now.values) start) }
+    ensures refused { IfErr result (λ e. e ≡ OutOfMemory) }
+{
+    let table = &*passing;
+    let walk = bfs_reach(alloc, start, |position: &(usize, usize)| {
+        table
+            .neighbours(*position, diagonals)
+            .filter(move |neighbour| is_taken(table, *neighbour))
+    });
+    let Ok(mut walk) = walk else {
+        return Err(MatrixFormatError::OutOfMemory);
+    };
+    gather_breadth(alloc, &mut walk, passing.rows * passing.columns)
 }

@@ -2,11 +2,12 @@
 
 ghost use Rattle.std.specs.Prelude.{◌≡◌, ◌++◌, ◌<◌, ◌⊎◌, List, length, IfOk, IfErr, IsErrOf};
 ghost use Rattle.std.specs.Iterator.{IsFiniteIterable};
-ghost use Rattle.pf_matrix.specs.Rows.{AllOfLength, Given, GivenFirst, GivesAll, IsOfRows, LastDiffers, RowsEnd};
+ghost use Rattle.pf_matrix.specs.Rows.{AllOfLength, Given, IsOfRows, LastDiffers, RowsEnd};
 ghost use Rattle.pf_matrix.specs.Tables.{IsMatrix};
 ghost use Rattle.pf_matrix.specs.declared.error.MatrixFormatError.TheVariants.{EmptyRow, WrongLength, OutOfMemory};
 
 use crate::error::MatrixFormatError;
+use crate::giving::Giving;
 use crate::matrix::Matrix;
 use std::alloc::Allocator;
 
@@ -20,11 +21,11 @@ impl<C: Drop, A: Allocator + Copy> Matrix<C, A> {
         IR: IntoIterator<Item = IC>,
         IC: IntoIterator<Item = C>,
         requires ends { IsFiniteIterable IR.into_iter_gives IR.IntoIter.can_next IR.IntoIter.remaining rows }
-        requires rows_end { RowsEnd IR.into_iter_gives IR.IntoIter.next_gives IC.into_iter_gives IC.IntoIter.next_gives IC.IntoIter.can_next IC.IntoIter.remaining rows }
-        ensures made { IfOk result (λ m. Given IR.into_iter_gives IR.IntoIter.next_gives IC.into_iter_gives IC.IntoIter.next_gives (IsOfRows m) rows) }
+        requires rows_end { RowsEnd IR.into_iter_gives IR.IntoIter.next_gives IC.into_iter_gives IC.IntoIter.can_next IC.IntoIter.remaining rows }
+        ensures made { IfOk result (λ m. Given ⟦<IR as Giving<IC>>⟧.gives_all ⟦<IC as Giving<C>>⟧.gives_all (IsOfRows m) rows) }
         ensures matrix { IfOk result IsMatrix }
-        ensures wrong_length { IsErrOf result WrongLength → GivenFirst IR.into_iter_gives IR.IntoIter.next_gives IC.into_iter_gives IC.IntoIter.next_gives LastDiffers rows }
-        ensures empty_row { IsErrOf result EmptyRow → Given IR.into_iter_gives IR.IntoIter.next_gives IC.into_iter_gives IC.IntoIter.next_gives (λ lists. (0 < length lists) × AllOfLength 0 lists) rows }
+        ensures wrong_length { IsErrOf result WrongLength → Given ⟦<IR as Giving<IC>>⟧.gives_first ⟦<IC as Giving<C>>⟧.gives_all LastDiffers rows }
+        ensures empty_row { IsErrOf result EmptyRow → Given ⟦<IR as Giving<IC>>⟧.gives_all ⟦<IC as Giving<C>>⟧.gives_all (λ lists. (0 < length lists) × AllOfLength 0 lists) rows }
         ensures refused { IfErr result (λ e. (e ≡ WrongLength) ⊎ (e ≡ EmptyRow) ⊎ (e ≡ OutOfMemory)) }
     {
         let mut values = Vec::new(alloc);
@@ -56,7 +57,7 @@ fn push_all<C: Drop, A: Allocator, IC: IntoIterator<Item = C>>(
     row: IC,
 ) -> Result<usize, MatrixFormatError>
     requires { IsFiniteIterable IC.into_iter_gives IC.IntoIter.can_next IC.IntoIter.remaining row }
-    ensures given { IfOk result (λ n. (xs : List C) × GivesAll IC.into_iter_gives IC.IntoIter.next_gives row xs × (values.new.items ≡ values.old.items ++ xs) × (n ≡ length xs)) }
+    ensures given { IfOk result (λ n. (xs : List C) × ⟦<IC as Giving<C>>⟧.gives_all row xs × (values.new.items ≡ values.old.items ++ xs) × (n ≡ length xs)) }
     ensures refused { IfErr result (λ e. e ≡ OutOfMemory) }
 {
     let before = values.len();

@@ -1,6 +1,7 @@
 use Rattle.std.proofs.Common.{◌≡◌, ◌+◌, ap, sym, ◌∙◌, arith, length, [], take, drop, inl, inr, ◌⊎◌, Some, Err}
 use Rattle.std.specs.Prelude.{◌≢◌}
 use Rattle.std.proofs.lemmas.Bool.{cases_eq}
+use Rattle.std.proofs.lemmas.Result.{IfOk-from_err}
 use Rattle.std.proofs.lemmas.List.{nil_from_length}
 use Rattle.pf_search.proofs.ResultLemmas.{refused_as}
 use Rattle.pf_matrix.specs.declared.error.MatrixFormatError.TheVariants.{OutOfMemory}
@@ -30,6 +31,9 @@ loop-row-preserved g c =
       rest = sym (refusal_fits (first_length rows) row (drop (i + 1) rows) some same) ∙ sym (refusal_next rows i (first_length rows) row (omega arith) c.row-item.is) ∙ inv.rest;
     }
 
+pub returns-clause-refused : goal.returns-clause-refused
+returns-clause-refused g c = tt
+
 pub returns-in_err-extend-clause-refused : goal.returns-in_err-extend-clause-refused
 returns-in_err-extend-clause-refused g c =
     let rows = c.args.rows.now in
@@ -38,3 +42,15 @@ returns-in_err-extend-clause-refused g c =
     let error = c.in_err-extend.field-0.0 in
     refused_as (λ e. (e ≡ OutOfMemory) ⊎ (first_refusal (first_length rows) rows ≡ Some e)) c.from_residual.result error c.from_residual.ensures.1
     (refusal_of rows c.loop-row.row-index c.loop-row.matrix.columns c.row-item.result error (omega arith) c.row-item.is inv.rest inv.columns (λ e. refusal.empty_row.0 (ap Err e)) (λ e. refusal.wrong_length.0 (ap Err e)) refusal.refused)
+
+pub returns-in_err-extend-clause-rows : goal.returns-in_err-extend-clause-rows
+returns-in_err-extend-clause-rows g c = IfOk-from_err _ _ c.from_residual.ensures.0
+
+pub returns-in_err-extend-clause-columns : goal.returns-in_err-extend-clause-columns
+returns-in_err-extend-clause-columns g c = IfOk-from_err _ _ c.from_residual.ensures.0
+
+pub returns-in_err-extend-clause-values : goal.returns-in_err-extend-clause-values
+returns-in_err-extend-clause-values g c = IfOk-from_err _ _ c.from_residual.ensures.0
+
+pub returns-in_err-extend-clause-matrix : goal.returns-in_err-extend-clause-matrix
+returns-in_err-extend-clause-matrix g c = IfOk-from_err _ _ c.from_residual.ensures.0

@@ -1,6 +1,7 @@
 use Rattle.std.proofs.Common.{◌≡◌, ℕ, ◌+◌, ◌*◌, arith, subst}
 use Rattle.std.proofs.lemmas.Nat.{mul-add-lt}
 use Rattle.std.proofs.lemmas.List.{get_or_read}
+use Rattle.std.proofs.lemmas.Result.{IfOk-from_err}
 use Rattle.pf_matrix.proofs.FillLemmas.{fill_begin, fill_one}
 use Rattle.pf_matrix.proofs.row_major.cloned_columns.Goals as goal
 
@@ -44,12 +45,21 @@ loop-column-preserved g c =
     let at : c.loop-column.column * c.args.rows + c.loop-row.row ≡ (c.loop-column.column + 1) * c.args.rows = omega (arith, end) in
     rw at at c.loop-row.invariant
 
-pub returns-clause-len : goal.returns-clause-len
-returns-clause-len g c =
-    let end : c.loop-column.column ≡ c.args.columns = omega arith in
-    omega (arith, c.loop-column.values.ok.0, rw end at c.loop-column.invariant.size)
+pub returns : goal.returns
+returns g c = record {
+  len =
+      let end : c.loop-column.column ≡ c.args.columns = omega arith in
+      omega (arith, c.loop-column.values.ok.0, rw end at c.loop-column.invariant.size);
+  values = λ r k d p q.
+      let end : c.loop-column.column ≡ c.args.columns = omega arith in
+      c.loop-column.invariant.values r k d d q (rw end (omega (arith, mul-add-lt r c.args.rows k c.args.columns p q)));
+}
 
-pub returns-clause-values : goal.returns-clause-values
-returns-clause-values g c = λ r k d p q.
-    let end : c.loop-column.column ≡ c.args.columns = omega arith in
-    c.loop-column.invariant.values r k d d q (rw end (omega (arith, mul-add-lt r c.args.rows k c.args.columns p q)))
+pub returns-in_err-values : goal.returns-in_err-values
+returns-in_err-values g c = record { len = IfOk-from_err _ _ c.from_residual.ensures.0; values = IfOk-from_err _ _ c.from_residual.ensures.0 }
+
+pub returns-in_err-clone : goal.returns-in_err-clone
+returns-in_err-clone g c = record { len = IfOk-from_err _ _ c.from_residual-in_err-clone.ensures.0; values = IfOk-from_err _ _ c.from_residual-in_err-clone.ensures.0 }
+
+pub returns-in_err-push : goal.returns-in_err-push
+returns-in_err-push g c = record { len = IfOk-from_err _ _ c.from_residual-in_err-push.ensures.0; values = IfOk-from_err _ _ c.from_residual-in_err-push.ensures.0 }

@@ -72,13 +72,13 @@ loop-row-preserved g c =
       ];
     }
 
-pub returns-clause-copied : goal.returns-clause-copied
-returns-clause-copied g c = λ r k d h b. c.loop-row.invariant.copied r k d (omega arith) b
-
-pub returns-clause-others : goal.returns-clause-others
-returns-clause-others g c = λ r k d b n.
-    let end : c.args.size.0 ≡ c.loop-row.row = omega arith in
-    c.loop-row.invariant.others r k d b (rw end at n)
+pub returns : goal.returns
+returns g c = record {
+  copied = λ r k d h b. c.loop-row.invariant.copied r k d (omega arith) b;
+  others = λ r k d b n.
+      let end : c.args.size.0 ≡ c.loop-row.row = omega arith in
+      c.loop-row.invariant.others r k d b (rw end at n);
+}
 
 pub slice_bounds-write_at-count : goal.slice_bounds-write_at-count
 slice_bounds-write_at-count g c = omega (arith, row_before c.loop-row.row c.args.size.0 c.args.part_columns (omega arith), c.requires.part_rows, c.requires.part_columns)

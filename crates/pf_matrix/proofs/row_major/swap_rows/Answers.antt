@@ -34,25 +34,23 @@ swap_with_slice-requires g c =
     length-part (c.args.row * w) w split.result.0.now (omega (arith, split.ensures.front_len, row_before c.args.row c.args.other w c.requires.order))
     ∙ sym (length-take-le w split.result.1.now (omega (arith, split.ensures.back_len, c.requires.inside)))
 
-pub returns-clause-row : goal.returns-clause-row
-returns-clause-row g c =
-    let split = c.split_at_mut-above in
-    let swap = c.swap_with_slice in
-    swapped_first c.args.row c.args.other c.args.columns c.args.values.now split.result.0.now split.result.1.now swap.new.self swap.new.other c.requires.order c.requires.inside split.ensures.front split.ensures.back swap.ensures.after swap.ensures.other_after
-
-pub returns-clause-other : goal.returns-clause-other
-returns-clause-other g c =
-    let split = c.split_at_mut-above in
-    let swap = c.swap_with_slice in
-    swapped_second c.args.row c.args.other c.args.columns c.args.values.now split.result.0.now split.result.1.now swap.new.self swap.new.other c.requires.order c.requires.inside split.ensures.front split.ensures.back swap.ensures.after swap.ensures.other_after
-
-pub returns-clause-others : goal.returns-clause-others
-returns-clause-others g c =
-    let row = c.args.row in
-    let other = c.args.other in
-    let w = c.args.columns in
-    let split = c.split_at_mut-above in
-    let swap = c.swap_with_slice in
-    let first = first_size row other w c.args.values.now split.result.0.now split.result.1.now swap.new.self swap.new.other c.requires.order c.requires.inside split.ensures.front split.ensures.back swap.ensures.after swap.ensures.other_after in
-    let second = second_size row other w c.args.values.now split.result.0.now split.result.1.now swap.new.self swap.new.other c.requires.order c.requires.inside split.ensures.front split.ensures.back swap.ensures.after swap.ensures.other_after in
-    swapped_others row other w c.args.values.now split.result.0.now split.result.1.now swap.new.self swap.new.other c.requires.order c.requires.inside split.ensures.front split.ensures.back first second
+pub returns : goal.returns
+returns g c = record {
+  row =
+      let split = c.split_at_mut-above in
+      let swap = c.swap_with_slice in
+      swapped_first c.args.row c.args.other c.args.columns c.args.values.now split.result.0.now split.result.1.now swap.new.self swap.new.other c.requires.order c.requires.inside split.ensures.front split.ensures.back swap.ensures.after swap.ensures.other_after;
+  other =
+      let split = c.split_at_mut-above in
+      let swap = c.swap_with_slice in
+      swapped_second c.args.row c.args.other c.args.columns c.args.values.now split.result.0.now split.result.1.now swap.new.self swap.new.other c.requires.order c.requires.inside split.ensures.front split.ensures.back swap.ensures.after swap.ensures.other_after;
+  others =
+      let row = c.args.row in
+      let other = c.args.other in
+      let w = c.args.columns in
+      let split = c.split_at_mut-above in
+      let swap = c.swap_with_slice in
+      let first = first_size row other w c.args.values.now split.result.0.now split.result.1.now swap.new.self swap.new.other c.requires.order c.requires.inside split.ensures.front split.ensures.back swap.ensures.after swap.ensures.other_after in
+      let second = second_size row other w c.args.values.now split.result.0.now split.result.1.now swap.new.self swap.new.other c.requires.order c.requires.inside split.ensures.front split.ensures.back swap.ensures.after swap.ensures.other_after in
+      swapped_others row other w c.args.values.now split.result.0.now split.result.1.now swap.new.self swap.new.other c.requires.order c.requires.inside split.ensures.front split.ensures.back first second;
+}

@@ -11,11 +11,9 @@ slice_bounds-copy_from_slice-end g c = omega (arith, c.requires)
 pub copy_from_slice-requires : goal.copy_from_slice-requires
 copy_from_slice-requires g c = length-part c.args.begin (length c.args.part.now) c.args.values.now c.requires
 
-pub returns-clause-inside : goal.returns-clause-inside
-returns-clause-inside g c = λ i d l. put_mid_inside c.args.begin (c.args.begin + length c.args.part.now - c.args.begin) c.args.values.now c.copy_from_slice.new.self (omega (arith, c.requires)) (omega (arith, ap length c.copy_from_slice.ensures.after)) i d (omega (arith, l)) ∙ ap (λ xs. get_or xs i d) c.copy_from_slice.ensures.after
-
-pub returns-clause-below : goal.returns-clause-below
-returns-clause-below g c = λ i d l. put_mid_below c.args.begin (c.args.begin + length c.args.part.now - c.args.begin) c.args.values.now c.copy_from_slice.new.self (omega (arith, c.requires)) (omega (arith, ap length c.copy_from_slice.ensures.after)) i d l
-
-pub returns-clause-above : goal.returns-clause-above
-returns-clause-above g c = λ i d l. put_mid_above c.args.begin (c.args.begin + length c.args.part.now - c.args.begin) c.args.values.now c.copy_from_slice.new.self (omega (arith, c.requires)) (omega (arith, ap length c.copy_from_slice.ensures.after)) i d (omega (arith, l))
+pub returns : goal.returns
+returns g c = record {
+  inside = λ i d l. put_mid_inside c.args.begin (c.args.begin + length c.args.part.now - c.args.begin) c.args.values.now c.copy_from_slice.new.self (omega (arith, c.requires)) (omega (arith, ap length c.copy_from_slice.ensures.after)) i d (omega (arith, l)) ∙ ap (λ xs. get_or xs i d) c.copy_from_slice.ensures.after;
+  below = λ i d l. put_mid_below c.args.begin (c.args.begin + length c.args.part.now - c.args.begin) c.args.values.now c.copy_from_slice.new.self (omega (arith, c.requires)) (omega (arith, ap length c.copy_from_slice.ensures.after)) i d l;
+  above = λ i d l. put_mid_above c.args.begin (c.args.begin + length c.args.part.now - c.args.begin) c.args.values.now c.copy_from_slice.new.self (omega (arith, c.requires)) (omega (arith, ap length c.copy_from_slice.ensures.after)) i d (omega (arith, l));
+}

@@ -1,8 +1,10 @@
-use Rattle.std.proofs.Common.{rules, ◌∙◌, ◌++◌, ◌-◌, ap, sym}
+use Rattle.std.proofs.Common.{rules, ◌∙◌, ◌++◌, ◌-◌, ap, sym, ◌≡◌, refl}
 use Rattle.std.specs.Prelude.{if◌then◌else◌}
 use Rattle.std.proofs.lemmas.List.{append_assoc}
 use Rattle.pf_grid.specs.Texts.{line_to, line_end, lines_to}
 use Rattle.pf_grid.proofs.TextLemmas.{lines_none, lines_more}
+use Rattle.pf_search.proofs.ResultLemmas.{on_refused, refused_as}
+use Rattle.pf_grid.specs.declared.error.GridError.TheVariants.{OutOfMemory}
 use Rattle.pf_grid.proofs.grid.Grid.append_text.Goals as goal
 
 pub loop-line-init : goal.loop-line-init
@@ -23,3 +25,27 @@ loop-line-preserved g c =
 
 pub returns-clause-appended : goal.returns-clause-appended
 returns-clause-appended g c = search rules
+
+pub returns-in_err-append_line_end-clause-appended : goal.returns-in_err-append_line_end-clause-appended
+returns-in_err-append_line_end-clause-appended g c = on_refused _ c.from_residual.result c.in_err-append_line_end.field-0.0 c.from_residual.ensures.1
+
+pub returns-in_err-append_line_end-clause-refused : goal.returns-in_err-append_line_end-clause-refused
+returns-in_err-append_line_end-clause-refused g c = refused_as (λ e. e ≡ OutOfMemory) c.from_residual.result c.in_err-append_line_end.field-0.0 c.from_residual.ensures.1 c.in_err-append_line_end.ensures.refused
+
+pub returns-in_err-append_line-clause-appended : goal.returns-in_err-append_line-clause-appended
+returns-in_err-append_line-clause-appended g c = on_refused _ c.from_residual-in_err-append_line.result c.in_err-append_line.field-0.0 c.from_residual-in_err-append_line.ensures.1
+
+pub returns-in_err-append_line-clause-refused : goal.returns-in_err-append_line-clause-refused
+returns-in_err-append_line-clause-refused g c = refused_as (λ e. e ≡ OutOfMemory) c.from_residual-in_err-append_line.result c.in_err-append_line.field-0.0 c.from_residual-in_err-append_line.ensures.1 c.in_err-append_line.ensures.refused
+
+pub returns-in_err-push_str-clause-appended : goal.returns-in_err-push_str-clause-appended
+returns-in_err-push_str-clause-appended g c = on_refused _ c.from_residual-in_err-push_str.result OutOfMemory c.from_residual-in_err-push_str.ensures.1
+
+pub returns-in_err-push_str-clause-refused : goal.returns-in_err-push_str-clause-refused
+returns-in_err-push_str-clause-refused g c = refused_as (λ e. e ≡ OutOfMemory) c.from_residual-in_err-push_str.result OutOfMemory c.from_residual-in_err-push_str.ensures.1 refl
+
+pub returns-clause-refused : goal.returns-clause-refused
+returns-clause-refused g c = tt
+
+pub returns-clause-unchanged : goal.returns-clause-unchanged
+returns-clause-unchanged g c = tt

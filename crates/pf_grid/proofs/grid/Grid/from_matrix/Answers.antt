@@ -5,6 +5,9 @@ use Rattle.pf_matrix.specs.Tables.{value_at}
 use Rattle.pf_grid.specs.Positions.{grid_of}
 use Rattle.pf_grid.proofs.CellLemmas.{put_more, same_grids}
 use Rattle.pf_grid.proofs.MatrixLemmas.{all_before, none_before, row_before, table_more, table_to}
+use Rattle.std.proofs.lemmas.Result.{IfOk-from_err}
+use Rattle.pf_search.proofs.ResultLemmas.{refused_as}
+use Rattle.pf_grid.specs.declared.error.GridError.TheVariants.{OutOfMemory}
 use Rattle.pf_grid.proofs.grid.Grid.from_matrix.Goals as goal
 
 pub loop-y-init : goal.loop-y-init
@@ -40,3 +43,12 @@ returns-clause-made g c =
     let y = c.loop-y.y in
     c.loop-y.invariant ∙ same_grids w h false (table_to m 0 y) (λ i j. value_at m j i false) (λ i j p q. ap (λ b. b && value_at m j i false) (all_before h y i j (omega arith) q))
     ∙ (λ k. grid_of (c.columns-width.ensures.columns k) (c.rows-height.ensures.rows k) false (λ i j. value_at m j i false))
+
+pub returns-in_err-grid : goal.returns-in_err-grid
+returns-in_err-grid g c = record {
+  made = IfOk-from_err _ _ c.from_residual.ensures.0;
+  refused = refused_as (λ e. e ≡ OutOfMemory) c.from_residual.result c.in_err-grid.field-0.0 c.from_residual.ensures.1 c.in_err-grid.ensures.refused;
+}
+
+pub returns-clause-refused : goal.returns-clause-refused
+returns-clause-refused g c = tt

@@ -1,4 +1,4 @@
-use Rattle.std.proofs.Common.{◌≡◌, ◌∙◌, ◌+◌, Bool, true, false, ◌||◌, take, get_or, ap, sym, refl, arith}
+use Rattle.std.proofs.Common.{◌≡◌, ◌∙◌, ◌+◌, Bool, true, false, ◌||◌, take, get_or, ap, sym, refl, arith, ◌⊎◌, inl, inr}
 use Rattle.std.specs.Prelude.{if◌then◌else◌}
 use Rattle.std.proofs.lemmas.List.{take_all, take_more}
 use Rattle.std.proofs.lemmas.Result.{IfOk-from_err}
@@ -6,6 +6,8 @@ use Rattle.pf_grid.specs.Positions.{grid_of, is_position}
 use Rattle.pf_grid.specs.Vertices.{width_of, height_of, listed}
 use Rattle.pf_grid.proofs.CellLemmas.{put_more}
 use Rattle.pf_grid.proofs.VertexLemmas.{any_more, extent_at}
+use Rattle.pf_search.proofs.ResultLemmas.{refused_as}
+use Rattle.pf_grid.specs.declared.error.GridError.TheVariants.{OutOfMemory, TooLarge}
 use Rattle.pf_grid.proofs.grid.Grid.from_positions.Goals as goal
 
 or_if : (p o : Bool) → (if p then true else o) ≡ (p || o)
@@ -40,3 +42,15 @@ returns-clause-made g c =
 
 pub returns-in_err-grid-clause-made : goal.returns-in_err-grid-clause-made
 returns-in_err-grid-clause-made g c = IfOk-from_err _ _ c.from_residual.ensures.0
+
+pub returns-in_err-grid-clause-refused : goal.returns-in_err-grid-clause-refused
+returns-in_err-grid-clause-refused g c = refused_as (λ e. (e ≡ OutOfMemory) ⊎ (e ≡ TooLarge)) c.from_residual.result c.in_err-grid.field-0.0 c.from_residual.ensures.1 (inl c.in_err-grid.ensures.refused)
+
+pub returns-in_default-clause-made : goal.returns-in_default-clause-made
+returns-in_default-clause-made g c = tt
+
+pub returns-in_default-clause-refused : goal.returns-in_default-clause-refused
+returns-in_default-clause-refused g c = inr refl
+
+pub returns-clause-refused : goal.returns-clause-refused
+returns-clause-refused g c = tt

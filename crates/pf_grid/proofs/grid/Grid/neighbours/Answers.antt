@@ -1,10 +1,15 @@
-use Rattle.std.proofs.Common.{◌∙◌, ◌++◌, [], ◌∷◌, sym, ap}
+use Rattle.std.proofs.Common.{◌≡◌, ◌∙◌, ◌++◌, [], ◌∷◌, refl, sym, ap}
 use Rattle.std.proofs.lemmas.List.{append-nil, append_assoc}
 use Rattle.std.proofs.lemmas.Result.{IfOk-from_err}
+use Rattle.pf_search.proofs.ResultLemmas.{refused_as}
+use Rattle.pf_grid.specs.declared.error.GridError.TheVariants.{OutOfMemory}
 use Rattle.pf_grid.proofs.grid.Grid.neighbours.Goals as goal
 
-pub returns-in_err-found-clause-neighbours : goal.returns-in_err-found-clause-neighbours
-returns-in_err-found-clause-neighbours g c = IfOk-from_err _ _ c.from_residual.ensures.0
+pub returns-in_err-found : goal.returns-in_err-found
+returns-in_err-found g c = record {
+  neighbours = IfOk-from_err _ _ c.from_residual.ensures.0;
+  refused = refused_as (λ e. e ≡ OutOfMemory) c.from_residual.result OutOfMemory c.from_residual.ensures.1 refl;
+}
 
 pub loop-neighbour-init : goal.loop-neighbour-init
 loop-neighbour-init g c =
@@ -20,10 +25,16 @@ loop-neighbour-preserved g c =
     ∙ ap (λ l. found ++ l) (sym c.in-Some.ensures.steps)
     ∙ c.loop-neighbour.invariant
 
-pub returns-in_err-push-clause-neighbours : goal.returns-in_err-push-clause-neighbours
-returns-in_err-push-clause-neighbours g c = IfOk-from_err _ _ c.from_residual-in_err-push.ensures.0
+pub returns-in_err-push : goal.returns-in_err-push
+returns-in_err-push g c = record {
+  neighbours = IfOk-from_err _ _ c.from_residual-in_err-push.ensures.0;
+  refused = refused_as (λ e. e ≡ OutOfMemory) c.from_residual-in_err-push.result OutOfMemory c.from_residual-in_err-push.ensures.1 refl;
+}
 
-pub returns-clause-neighbours : goal.returns-clause-neighbours
-returns-clause-neighbours g c =
-    let found = c.loop-neighbour.found.items in
-    sym (append-nil found) ∙ ap (λ l. found ++ l) (sym c.in-None.ensures.steps.0) ∙ c.loop-neighbour.invariant
+pub returns : goal.returns
+returns g c = record {
+  neighbours =
+      let found = c.loop-neighbour.found.items in
+      sym (append-nil found) ∙ ap (λ l. found ++ l) (sym c.in-None.ensures.steps.0) ∙ c.loop-neighbour.invariant;
+  refused = tt;
+}

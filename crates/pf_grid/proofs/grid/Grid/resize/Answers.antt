@@ -4,6 +4,9 @@ use Rattle.std.specs.List.{list_any}
 use Rattle.std.proofs.lemmas.Bool.{lt-ltb, le-ltb, cases_lt, cases_Bool}
 use Rattle.std.proofs.lemmas.List.{append-nil, append_assoc}
 use Rattle.std.proofs.lemmas.Result.{IfOk-from_err}
+use Rattle.pf_matrix.proofs.RowLemmas.{on_err}
+use Rattle.pf_search.proofs.ResultLemmas.{refused_as}
+use Rattle.pf_grid.specs.declared.error.GridError.TheVariants.{OutOfMemory}
 use Rattle.pf_grid.specs.Positions.{grid_of, has, in_mode, is_position}
 use Rattle.pf_grid.specs.Vertices.{listed, vertices_of}
 use Rattle.pf_grid.proofs.CellLemmas.{put_more, same_grids}
@@ -66,22 +69,13 @@ loop-vertex-preserved g c =
       lost = sym (any_more (λ p. not (nat_lt p.0 w && nat_lt p.1 h)) ps v ∙ ap (λ t. not t || list_any (λ p. not (nat_lt p.0 w && nat_lt p.1 h)) ps) out);
     }
 
-pub returns-clause-resized : goal.returns-clause-resized
-returns-clause-resized g c =
-    let w = c.args.width in
-    let h = c.args.height in
-    let now = c.args.self.now in
-    let ps = c.loop-vertex.yielded in
-    let all : ps ≡ vertices_of now = sym (append-nil ps) ∙ ap (λ l. ps ++ l) (sym c.in-None.ensures.steps.0) ∙ c.loop-vertex.invariant.all in
-    ap (λ z. in_mode z c.self.inside.diagonal) (c.resized-2.view_is ∙ c.loop-vertex.invariant.kept)
-    ∙ ap (λ d. grid_of w h d (listed ps)) (ap (λ z. z.diagonal) c.self.view_is)
-    ∙ same_grids w h now.diagonal (listed ps) (has now) (λ x y i j. ap (λ l. listed l x y) all ∙ listed_vertices now x y)
-
-pub returns-in_err-resized-clause-resized : goal.returns-in_err-resized-clause-resized
-returns-in_err-resized-clause-resized g c = IfOk-from_err _ _ c.from_residual.ensures.0
-
-pub returns-in_err-resized-clause-lost : goal.returns-in_err-resized-clause-lost
-returns-in_err-resized-clause-lost g c = IfOk-from_err _ _ c.from_residual.ensures.0
+pub returns-in_err-resized : goal.returns-in_err-resized
+returns-in_err-resized g c = record {
+  resized = IfOk-from_err _ _ c.from_residual.ensures.0;
+  lost = IfOk-from_err _ _ c.from_residual.ensures.0;
+  refused = refused_as (λ e. e ≡ OutOfMemory) c.from_residual.result c.in_err-resized.field-0.0 c.from_residual.ensures.1 c.in_err-resized.ensures.refused;
+  unchanged = on_err c.from_residual.result refl;
+}
 
 pub loop-vertex-init : goal.loop-vertex-init
 loop-vertex-init g c = record {
@@ -90,9 +84,22 @@ loop-vertex-init g c = record {
   lost = refl;
 }
 
-pub returns-clause-lost : goal.returns-clause-lost
-returns-clause-lost g c =
-    let now = c.args.self.now in
-    let ps = c.loop-vertex.yielded in
-    let all : ps ≡ vertices_of now = sym (append-nil ps) ∙ ap (λ l. ps ++ l) (sym c.in-None.ensures.steps.0) ∙ c.loop-vertex.invariant.all in
-    c.loop-vertex.invariant.lost ∙ ap (λ l. list_any (λ p. not (nat_lt p.0 c.args.width && nat_lt p.1 c.args.height)) l) all
+pub returns : goal.returns
+returns g c = record {
+  resized =
+      let w = c.args.width in
+      let h = c.args.height in
+      let now = c.args.self.now in
+      let ps = c.loop-vertex.yielded in
+      let all : ps ≡ vertices_of now = sym (append-nil ps) ∙ ap (λ l. ps ++ l) (sym c.in-None.ensures.steps.0) ∙ c.loop-vertex.invariant.all in
+      ap (λ z. in_mode z c.self.inside.diagonal) (c.resized-2.view_is ∙ c.loop-vertex.invariant.kept)
+      ∙ ap (λ d. grid_of w h d (listed ps)) (ap (λ z. z.diagonal) c.self.view_is)
+      ∙ same_grids w h now.diagonal (listed ps) (has now) (λ x y i j. ap (λ l. listed l x y) all ∙ listed_vertices now x y);
+  lost =
+      let now = c.args.self.now in
+      let ps = c.loop-vertex.yielded in
+      let all : ps ≡ vertices_of now = sym (append-nil ps) ∙ ap (λ l. ps ++ l) (sym c.in-None.ensures.steps.0) ∙ c.loop-vertex.invariant.all in
+      c.loop-vertex.invariant.lost ∙ ap (λ l. list_any (λ p. not (nat_lt p.0 c.args.width && nat_lt p.1 c.args.height)) l) all;
+  refused = tt;
+  unchanged = tt;
+}

@@ -10,12 +10,12 @@ count-requires g c =
     let s = c.self.inside in
     subst (λ ws. IsRows ws s.width s.height) (sym c.as_slice.ensures.value) c.self.invariant
 
-pub returns-clause-grid : goal.returns-clause-grid
-returns-clause-grid g c = grid_from_view _ _ _ _ _ c.self.view_is c.self.invariant.fits
-
-pub returns-clause-count : goal.returns-clause-count
-returns-clause-count g c =
-    let s = c.self.inside in
-    c.count.ensures
-    ∙ ap (λ ws. count_by (λ t. t) (cells_of s.width s.height (bit ws (row_words s.width)))) c.as_slice.ensures.value
-    ∙ ap (λ z. vertex_count z) c.self.view_is
+pub returns : goal.returns
+returns g c = record {
+  grid = grid_from_view _ _ _ _ _ c.self.view_is c.self.invariant.fits;
+  count =
+      let s = c.self.inside in
+      c.count.ensures
+      ∙ ap (λ ws. count_by (λ t. t) (cells_of s.width s.height (bit ws (row_words s.width)))) c.as_slice.ensures.value
+      ∙ ap (λ z. vertex_count z) c.self.view_is;
+}

@@ -1,8 +1,11 @@
-use Rattle.std.proofs.Common.{◌≡◌, ap, sym, ◌∙◌, arith, length, map, [], ◌∷◌, ◌++◌}
+use Rattle.std.proofs.Common.{◌≡◌, ap, sym, ◌∙◌, arith, length, map, [], ◌∷◌, ◌++◌, refl}
 use Rattle.std.specs.Borrow.{Bor}
 use Rattle.std.proofs.lemmas.List.{map_push}
 use Rattle.std.proofs.lemmas.Nat.{mul-add-lt}
 use Rattle.pf_matrix.proofs.LineLemmas.{column_more, column_none}
+use Rattle.std.proofs.lemmas.Result.{IfOk-from_err}
+use Rattle.pf_search.proofs.ResultLemmas.{refused_as}
+use Rattle.pf_matrix.specs.declared.error.MatrixFormatError.TheVariants.{OutOfMemory}
 use Rattle.pf_matrix.proofs.matrix.Matrix.column.Goals as goal
 
 pub loop-row-init : goal.loop-row-init
@@ -46,3 +49,18 @@ loop-row-preserved g c =
     ∙ map_push now c.loop-row.refs.items _
     ∙ (λ i. c.loop-row.invariant i ++ c.index-values-row.is i ∷ [])
     ∙ sym (column_more row s.columns c.args.column values x (omega (arith, below)))
+
+pub returns-in_err-refs : goal.returns-in_err-refs
+returns-in_err-refs g c = record {
+  values = IfOk-from_err _ _ c.from_residual.ensures.0;
+  refused = refused_as (λ e. e ≡ OutOfMemory) c.from_residual.result OutOfMemory c.from_residual.ensures.1 refl;
+}
+
+pub returns-in_err-push : goal.returns-in_err-push
+returns-in_err-push g c = record {
+  values = IfOk-from_err _ _ c.from_residual-in_err-push.ensures.0;
+  refused = refused_as (λ e. e ≡ OutOfMemory) c.from_residual-in_err-push.result OutOfMemory c.from_residual-in_err-push.ensures.1 refl;
+}
+
+pub returns-clause-refused : goal.returns-clause-refused
+returns-clause-refused g c = tt

@@ -1,7 +1,9 @@
-use Rattle.std.proofs.Common.{sym, refl, ◌∙◌}
+use Rattle.std.proofs.Common.{sym, refl, ◌∙◌, ◌≡◌}
 use Rattle.pf_matrix.specs.Tables.{Table}
 use Rattle.pf_matrix.proofs.RowLemmas.{on_err}
 use Rattle.pf_matrix.proofs.TableLemmas.{matrix_anew}
+use Rattle.pf_search.proofs.ResultLemmas.{on_refused, refused_as}
+use Rattle.pf_matrix.specs.declared.error.MatrixFormatError.TheVariants.{OutOfMemory}
 use Rattle.pf_matrix.proofs.matrix.Matrix.fill.Goals as goal
 
 pub invariant_of-self : goal.invariant_of-self
@@ -11,14 +13,22 @@ invariant_of-self g c =
     let vs = c.in_ok-self-inside.field-0 in
     matrix_anew m vs.items c.self.invariant (sym vs.ok.0 ∙ c.in_ok-self-inside.ensures.len ∙ c.len.ensures ∙ s.values.ok.0)
 
-pub returns-clause-filled : goal.returns-clause-filled
-returns-clause-filled g c =
-    rw (← c.self.view_is) (record {
-      rows = refl;
-      columns = refl;
-      values = c.in_ok-self-inside.ensures.items;
-      matrix = invariant_of-self g c;
-    })
+pub returns-in_err-self-inside : goal.returns-in_err-self-inside
+returns-in_err-self-inside g c = record {
+  stays = on_err c.from_residual.result refl;
+  filled = on_refused _ c.from_residual.result OutOfMemory c.from_residual.ensures.1;
+  refused = refused_as (λ e. e ≡ OutOfMemory) c.from_residual.result OutOfMemory c.from_residual.ensures.1 refl;
+}
 
-pub returns-in_err-self-inside-clause-stays : goal.returns-in_err-self-inside-clause-stays
-returns-in_err-self-inside-clause-stays g c = on_err c.from_residual.result refl
+pub returns : goal.returns
+returns g c = record {
+  filled =
+      rw (← c.self.view_is) (record {
+        rows = refl;
+        columns = refl;
+        values = c.in_ok-self-inside.ensures.items;
+        matrix = invariant_of-self g c;
+      });
+  stays = tt;
+  refused = tt;
+}

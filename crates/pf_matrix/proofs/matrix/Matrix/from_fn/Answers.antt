@@ -1,8 +1,11 @@
-use Rattle.std.proofs.Common.{◌≡◌, ap, ◌∙◌, of_calls, arith, length, [], ◌∷◌, append_assoc, length-append}
+use Rattle.std.proofs.Common.{◌≡◌, ap, ◌∙◌, of_calls, arith, length, [], ◌∷◌, append_assoc, length-append, refl}
 use Rattle.std.proofs.lemmas.List.{append-nil}
 use Rattle.pf_matrix.specs.Positions.{positions}
 use Rattle.pf_matrix.proofs.CallLemmas.{callable_first, callable_rest}
 use Rattle.pf_matrix.proofs.PositionLemmas.{length-positions}
+use Rattle.std.proofs.lemmas.Result.{IfOk-from_err}
+use Rattle.pf_search.proofs.ResultLemmas.{refused_as}
+use Rattle.pf_matrix.specs.declared.error.MatrixFormatError.TheVariants.{OutOfMemory}
 use Rattle.pf_matrix.proofs.matrix.Matrix.from_fn.Goals as goal
 
 pub of-position-items-requires : goal.of-position-items-requires
@@ -46,3 +49,30 @@ returns-clause-matrix g c = record {
   filled = c.requires.filled;
   fits = c.requires.fits;
 }
+
+pub returns-in_err-values : goal.returns-in_err-values
+returns-in_err-values g c = record {
+  rows = IfOk-from_err _ _ c.from_residual.ensures.0;
+  columns = IfOk-from_err _ _ c.from_residual.ensures.0;
+  values = IfOk-from_err _ _ c.from_residual.ensures.0;
+  matrix = IfOk-from_err _ _ c.from_residual.ensures.0;
+  refused = refused_as (λ e. e ≡ OutOfMemory) c.from_residual.result OutOfMemory c.from_residual.ensures.1 refl;
+}
+
+pub returns-in_err-push : goal.returns-in_err-push
+returns-in_err-push g c = record {
+  rows = IfOk-from_err _ _ c.from_residual-in_err-push.ensures.0;
+  columns = IfOk-from_err _ _ c.from_residual-in_err-push.ensures.0;
+  values = IfOk-from_err _ _ c.from_residual-in_err-push.ensures.0;
+  matrix = IfOk-from_err _ _ c.from_residual-in_err-push.ensures.0;
+  refused = refused_as (λ e. e ≡ OutOfMemory) c.from_residual-in_err-push.result OutOfMemory c.from_residual-in_err-push.ensures.1 refl;
+}
+
+pub returns-clause-refused : goal.returns-clause-refused
+returns-clause-refused g c = tt
+
+pub returns-clause-rows : goal.returns-clause-rows
+returns-clause-rows g c = refl
+
+pub returns-clause-columns : goal.returns-clause-columns
+returns-clause-columns g c = refl

@@ -1,7 +1,8 @@
 use Rattle.std.proofs.Common.{◌≡◌, ◌<◌, List, [], length}
 use Rattle.std.specs.Prelude.{MatchOption}
 use Rattle.std.specs.List.{AllZip}
-use Rattle.pf_matrix.specs.Rows.{GivesAll, AllOfLength, flat}
+use Rattle.pf_matrix.specs.Giving.{GivesAll}
+use Rattle.pf_matrix.specs.Rows.{AllOfLength, flat}
 use Rattle.pf_matrix.proofs.matrix.Matrix.from_rows.Given as goal
 
 -- the values so far are those of the rows so far, which have one length

@@ -1,7 +1,10 @@
-use Rattle.std.proofs.Common.{◌≡◌, sym, ap, ◌∙◌, of_calls, arith, length, [], ◌∷◌, append_assoc, length-append}
+use Rattle.std.proofs.Common.{◌≡◌, sym, ap, ◌∙◌, of_calls, arith, length, [], ◌∷◌, append_assoc, length-append, refl}
 use Rattle.std.specs.Vec.Iter.{into_iter_items}
 use Rattle.std.proofs.lemmas.List.{append-nil, nil_from_length}
 use Rattle.pf_matrix.proofs.CallLemmas.{callable_first, callable_rest}
+use Rattle.std.proofs.lemmas.Result.{IfOk-from_err}
+use Rattle.pf_search.proofs.ResultLemmas.{refused_as}
+use Rattle.pf_matrix.specs.declared.error.MatrixFormatError.TheVariants.{OutOfMemory}
 use Rattle.pf_matrix.proofs.matrix.Matrix.map.Goals as goal
 
 pub loop-value-init : goal.loop-value-init
@@ -28,11 +31,6 @@ loop-value-preserved g c =
       calls = λ ys h. rw (c.in_ok-push.ensures.items, append_assoc) (c.loop-value.invariant.calls (c.f.result ∷ ys) (rw steps.0 (c.f.new.self, search of_calls, h)));
     }
 
-pub returns-clause-values : goal.returns-clause-values
-returns-clause-values g c =
-    let none : into_iter_items c.loop-value.value-iterator ≡ [] = nil_from_length (into_iter_items c.loop-value.value-iterator) (omega (arith, c.loop-value.invariant.len, c.in-None.ensures.steps.0)) in
-    record { each = simp append-nil at (c.loop-value.invariant.calls [] (rw none tt)) }
-
 pub invariant_of-result : goal.invariant_of-result
 invariant_of-result g c =
     let none : into_iter_items c.loop-value.value-iterator ≡ [] = nil_from_length (into_iter_items c.loop-value.value-iterator) (omega (arith, c.loop-value.invariant.len, c.in-None.ensures.steps.0)) in
@@ -42,11 +40,31 @@ invariant_of-result g c =
       fits = c.self.invariant.fits;
     }
 
-pub returns-clause-rows : goal.returns-clause-rows
-returns-clause-rows g c = ap (λ t. t.rows) c.self.view_is
+pub returns-in_err-answers : goal.returns-in_err-answers
+returns-in_err-answers g c = record {
+  rows = IfOk-from_err _ _ c.from_residual.ensures.0;
+  columns = IfOk-from_err _ _ c.from_residual.ensures.0;
+  values = IfOk-from_err _ _ c.from_residual.ensures.0;
+  matrix = IfOk-from_err _ _ c.from_residual.ensures.0;
+  refused = refused_as (λ e. e ≡ OutOfMemory) c.from_residual.result OutOfMemory c.from_residual.ensures.1 refl;
+}
 
-pub returns-clause-columns : goal.returns-clause-columns
-returns-clause-columns g c = ap (λ t. t.columns) c.self.view_is
+pub returns-in_err-push : goal.returns-in_err-push
+returns-in_err-push g c = record {
+  rows = IfOk-from_err _ _ c.from_residual-in_err-push.ensures.0;
+  columns = IfOk-from_err _ _ c.from_residual-in_err-push.ensures.0;
+  values = IfOk-from_err _ _ c.from_residual-in_err-push.ensures.0;
+  matrix = IfOk-from_err _ _ c.from_residual-in_err-push.ensures.0;
+  refused = refused_as (λ e. e ≡ OutOfMemory) c.from_residual-in_err-push.result OutOfMemory c.from_residual-in_err-push.ensures.1 refl;
+}
 
-pub returns-clause-matrix : goal.returns-clause-matrix
-returns-clause-matrix g c = invariant_of-result g c.before
+pub returns : goal.returns
+returns g c = record {
+  values =
+      let none : into_iter_items c.loop-value.value-iterator ≡ [] = nil_from_length (into_iter_items c.loop-value.value-iterator) (omega (arith, c.loop-value.invariant.len, c.in-None.ensures.steps.0)) in
+      record { each = simp append-nil at (c.loop-value.invariant.calls [] (rw none tt)) };
+  rows = ap (λ t. t.rows) c.self.view_is;
+  columns = ap (λ t. t.columns) c.self.view_is;
+  matrix = invariant_of-result g c.before;
+  refused = tt;
+}

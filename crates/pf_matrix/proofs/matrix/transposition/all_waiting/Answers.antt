@@ -29,20 +29,18 @@ loop-value-preserved g c =
       all = ap (λ ws. ws ++ rest) put.items ∙ append_assoc waiting (Some c.in-Some.value ∷ []) rest ∙ ap (λ xs. waiting ++ map Some xs) (sym step.0) ∙ i.all;
     }
 
-pub returns-clause-some : goal.returns-clause-some
-returns-clause-some g c = λ k h.
-    let none : into_iter_items c.loop-value.value-iterator ≡ [] = nil_from_length (into_iter_items c.loop-value.value-iterator) (omega (arith, c.loop-value.invariant.len, c.in-None.ensures.steps.0)) in
-    let all : c.loop-value.waiting.items ≡ map Some c.args.values.items = sym (append-nil c.loop-value.waiting.items) ∙ (rw none at c.loop-value.invariant.all) in
-    rw all (all_some c.args.values.items k (omega (arith, c.args.values.ok.0)))
-
-pub returns-clause-all : goal.returns-clause-all
-returns-clause-all g c = λ k d h.
-    let none : into_iter_items c.loop-value.value-iterator ≡ [] = nil_from_length (into_iter_items c.loop-value.value-iterator) (omega (arith, c.loop-value.invariant.len, c.in-None.ensures.steps.0)) in
-    let all : c.loop-value.waiting.items ≡ map Some c.args.values.items = sym (append-nil c.loop-value.waiting.items) ∙ (rw none at c.loop-value.invariant.all) in
-    rw all (all_read c.args.values.items k d (omega (arith, c.args.values.ok.0)))
-
-pub returns-clause-len : goal.returns-clause-len
-returns-clause-len g c =
-    let none : into_iter_items c.loop-value.value-iterator ≡ [] = nil_from_length (into_iter_items c.loop-value.value-iterator) (omega (arith, c.loop-value.invariant.len, c.in-None.ensures.steps.0)) in
-    let all : c.loop-value.waiting.items ≡ map Some c.args.values.items = sym (append-nil c.loop-value.waiting.items) ∙ (rw none at c.loop-value.invariant.all) in
-    omega (arith, c.loop-value.waiting.ok.0, c.args.values.ok.0, ap length all, length-map c.args.values.items Some)
+pub returns : goal.returns
+returns g c = record {
+  some = λ k h.
+      let none : into_iter_items c.loop-value.value-iterator ≡ [] = nil_from_length (into_iter_items c.loop-value.value-iterator) (omega (arith, c.loop-value.invariant.len, c.in-None.ensures.steps.0)) in
+      let all : c.loop-value.waiting.items ≡ map Some c.args.values.items = sym (append-nil c.loop-value.waiting.items) ∙ (rw none at c.loop-value.invariant.all) in
+      rw all (all_some c.args.values.items k (omega (arith, c.args.values.ok.0)));
+  all = λ k d h.
+      let none : into_iter_items c.loop-value.value-iterator ≡ [] = nil_from_length (into_iter_items c.loop-value.value-iterator) (omega (arith, c.loop-value.invariant.len, c.in-None.ensures.steps.0)) in
+      let all : c.loop-value.waiting.items ≡ map Some c.args.values.items = sym (append-nil c.loop-value.waiting.items) ∙ (rw none at c.loop-value.invariant.all) in
+      rw all (all_read c.args.values.items k d (omega (arith, c.args.values.ok.0)));
+  len =
+      let none : into_iter_items c.loop-value.value-iterator ≡ [] = nil_from_length (into_iter_items c.loop-value.value-iterator) (omega (arith, c.loop-value.invariant.len, c.in-None.ensures.steps.0)) in
+      let all : c.loop-value.waiting.items ≡ map Some c.args.values.items = sym (append-nil c.loop-value.waiting.items) ∙ (rw none at c.loop-value.invariant.all) in
+      omega (arith, c.loop-value.waiting.ok.0, c.args.values.ok.0, ap length all, length-map c.args.values.items Some);
+}

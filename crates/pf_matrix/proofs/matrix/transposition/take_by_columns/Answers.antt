@@ -26,11 +26,6 @@ loop-column-preserved g c =
     let at : c.loop-column.column * c.args.rows + c.loop-row.row ≡ (c.loop-column.column + 1) * c.args.rows = omega (arith, end) in
     record { room = c.loop-row.invariant.room; taking = rw at at c.loop-row.invariant.taking }
 
-pub returns-clause-values : goal.returns-clause-values
-returns-clause-values g c = λ r k d p q.
-    let end : c.loop-column.column ≡ c.args.columns = omega arith in
-    c.loop-column.invariant.taking.done.values r k None d q (rw end (omega (arith, mul-add-lt r c.args.rows k c.args.columns p q)))
-
 pub overflow_mul-row : goal.overflow_mul-row
 overflow_mul-row g c =
     let below = mul-add-lt c.loop-row.row c.args.columns c.loop-column.column c.args.rows (omega arith) (omega arith) in
@@ -65,7 +60,12 @@ push_reserved-requires g c =
     let below = mul-add-lt c.loop-column.column c.args.rows c.loop-row.row c.args.columns (omega arith) (omega arith) in
     omega (arith, below, c.loop-row.ordered.ok.0, c.loop-row.invariant.taking.done.size, c.loop-row.invariant.room)
 
-pub returns-clause-len : goal.returns-clause-len
-returns-clause-len g c =
-    let end : c.loop-column.column ≡ c.args.columns = omega arith in
-    omega (arith, c.loop-column.ordered.ok.0, rw end at c.loop-column.invariant.taking.done.size)
+pub returns : goal.returns
+returns g c = record {
+  values = λ r k d p q.
+      let end : c.loop-column.column ≡ c.args.columns = omega arith in
+      c.loop-column.invariant.taking.done.values r k None d q (rw end (omega (arith, mul-add-lt r c.args.rows k c.args.columns p q)));
+  len =
+      let end : c.loop-column.column ≡ c.args.columns = omega arith in
+      omega (arith, c.loop-column.ordered.ok.0, rw end at c.loop-column.invariant.taking.done.size);
+}

@@ -10,12 +10,12 @@ returns-then-self-clause-steps g c =
     let z = sym c.self.view_is ∙ columns_none s.matrix.now s.first (s.end - s.first) (omega arith) in
     (z, z)
 
-pub returns-clause-steps : goal.returns-clause-steps
-returns-clause-steps g c = let s = c.self.inside in
-    (column_of s.matrix.now s.first, sym c.self.view_is ∙ columns_first s.matrix.now s.first s.end (omega arith), match_result _ _ c.column.result c.column.ensures.values c.column.ensures.refused)
-
-pub returns-clause-goes : goal.returns-clause-goes
-returns-clause-goes g c =
-    let s = c.self.inside in
-    let e = sym c.self.view_is ∙ columns_first s.matrix.now s.first s.end (omega arith) in
-    progress_one (λ columns. columns) _ _ _ tt (omega (arith, ap length e))
+pub returns : goal.returns
+returns g c = record {
+  steps = let s = c.self.inside in
+      (column_of s.matrix.now s.first, sym c.self.view_is ∙ columns_first s.matrix.now s.first s.end (omega arith), match_result _ _ c.column.result c.column.ensures.values c.column.ensures.refused);
+  goes =
+      let s = c.self.inside in
+      let e = sym c.self.view_is ∙ columns_first s.matrix.now s.first s.end (omega arith) in
+      progress_one (λ columns. columns) _ _ _ tt (omega (arith, ap length e));
+}
