@@ -2,7 +2,7 @@
 use Rattle.std.proofs.Common.{◌≡◌, ℕ, ◌+◌, ◌-◌, ◌<◌, ◌∙◌, ap, arith, Bool, false, ◌&&◌, ◌||◌, nat_eq, nat_lt}
 use Rattle.std.specs.Prelude.{if◌then◌else◌}
 use Rattle.std.proofs.lemmas.Bool.Decides.{nat_tests}
-use Rattle.pf_grid.specs.Positions.{Positions, with_vertices, has, is_position}
+use Rattle.pf_grid.specs.GridPositions.{Positions, with_vertices, has, is_position}
 use Rattle.pf_grid.proofs.CellLemmas.{put_more, if_or, same_grids}
 
 -- the first and the last of n

@@ -6,7 +6,7 @@ use Rattle.std.proofs.lemmas.List.{same_lists, get_or_default}
 use Rattle.std.proofs.lemmas.List.FromFn.{length-map-range_with_len, get_or-map-range_with_len}
 use Rattle.std.proofs.lemmas.Nat.{mul-add-lt, div-mul-add, mod-mul-add, div-add-mod'}
 use Rattle.std.proofs.Math.Nat.{mod-lt, div-lt_iff_lt-mul}
-use Rattle.pf_grid.specs.Positions.{Positions, IsGrid, cells_of, grid_of, with_vertices, has, is_inside, is_position}
+use Rattle.pf_grid.specs.GridPositions.{Positions, IsGrid, cells_of, grid_of, with_vertices, has, is_inside, is_position}
 
 pub length-cells_of : (w h : ℕ) (f : ℕ → ℕ → Bool) → length (cells_of w h f) ≡ w * h
 unfolding cells_of

@@ -13,7 +13,7 @@ use Rattle.std.proofs.lemmas.List.Sums.{count_by-le-length, sum_by-append, sum_b
 use Rattle.std.proofs.lemmas.Nat.{div-mul-add, mod-mul-add, div-add-mod'}
 use Rattle.std.proofs.lemmas.Nat.Bits.{same_from_bits, bit_at_above, bit_at-lt}
 use Rattle.std.proofs.lemmas.Simd.{bit_mask_l, ones-mask_l}
-use Rattle.pf_grid.specs.Positions.{Positions, IsGrid, cells_of, has, vertex_count, with_vertices}
+use Rattle.pf_grid.specs.GridPositions.{Positions, IsGrid, cells_of, has, vertex_count, with_vertices}
 use Rattle.pf_grid.specs.Internal.Words.{bit, row_words, IsRows}
 use Rattle.pf_grid.proofs.CellLemmas.{length-cells_of, cell_at, itself}
 

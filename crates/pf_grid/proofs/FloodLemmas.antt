@@ -12,9 +12,9 @@ use Rattle.pf_matrix.specs.Floods.{same_position}
 use Rattle.pf_matrix.specs.Positions.{positions}
 use Rattle.pf_matrix.proofs.FloodLemmas.{node_contained}
 use Rattle.pf_matrix.proofs.PositionLemmas.{length-positions, get_or-positions}
-use Rattle.pf_grid.specs.Floods.{passing_around}
+use Rattle.pf_grid.specs.VertexFloods.{passing_around}
 use Rattle.pf_matrix.specs.Gathering.{IsWithinPlaces}
-use Rattle.pf_grid.specs.Positions.{Positions, has}
+use Rattle.pf_grid.specs.GridPositions.{Positions, has}
 use Rattle.pf_grid.specs.Steps.{around, is_diagonal, neighbours_of, shifted, target, vertex_at}
 use Rattle.pf_grid.specs.declared.grid.steps.Shift.{Shift}
 use Rattle.pf_grid.proofs.CellLemmas.{has_is_inside}

@@ -4,7 +4,7 @@ use Rattle.std.specs.Prelude.{if◌then◌else◌}
 use Rattle.std.proofs.lemmas.Bool.Decides.{nat_tests}
 use Rattle.std.proofs.lemmas.Bool.{eqb-true}
 use Rattle.pf_matrix.specs.Tables.{Table, value_at}
-use Rattle.pf_grid.specs.Positions.{is_position}
+use Rattle.pf_grid.specs.GridPositions.{is_position}
 use Rattle.pf_grid.proofs.CellLemmas.{and_first, and_second}
 
 -- whether (x, y) comes before (at, row) by rows

@@ -2,7 +2,7 @@
 use Rattle.std.proofs.Common.{◌≡◌, ℕ, suc, ◌+◌, ◌∙◌, ap, sym, refl, arith, Bool, List, [], ◌++◌, encode_utf8}
 use Rattle.std.specs.Prelude.{if◌then◌else◌}
 use Rattle.std.proofs.lemmas.List.{append-nil}
-use Rattle.pf_grid.specs.Positions.{Positions, has}
+use Rattle.pf_grid.specs.GridPositions.{Positions, has}
 use Rattle.pf_grid.specs.Texts.{line_to, line_end, lines_to, row_of}
 
 module _ (g : Positions) (present absent : ℕ) where

@@ -8,7 +8,7 @@ use Rattle.std.proofs.lemmas.Nat.{mul-add-lt, div-mul-add, mod-mul-add}
 use Rattle.std.proofs.lemmas.List.{take_more}
 use Rattle.std.proofs.lemmas.List.Sums.{length-filter, count_by-le-length}
 use Rattle.std.proofs.lemmas.List.FromFn.{length-map-range_with_len}
-use Rattle.pf_grid.specs.Positions.{Positions, IsGrid, has, is_position}
+use Rattle.pf_grid.specs.GridPositions.{Positions, IsGrid, has, is_position}
 use Rattle.pf_grid.specs.Vertices.{vertices_from, vertices_of, position_of, listed, extent}
 use Rattle.pf_grid.proofs.CellLemmas.{has_is_inside, and_first, and_second}
 use Rattle.pf_grid.proofs.WordLemmas.{position_same}

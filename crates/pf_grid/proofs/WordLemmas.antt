@@ -9,7 +9,7 @@ use Rattle.std.proofs.lemmas.List.{get_or-set_same, get_or-set_other, get_or-rep
 use Rattle.std.proofs.lemmas.Nat.{same_from_place, one_shl}
 use Rattle.std.proofs.lemmas.Nat.Bits.{bit_at_set_same, bit_at_set_other, bit_at_clear_same, bit_at_clear_other, bit_at_and, bit_at_ones, bit_at_ones_above, bit_at-lt, bit_at-zero, bit_at_not}
 use Rattle.pf_grid.specs.Internal.Words.{bit, row_words}
-use Rattle.pf_grid.specs.Positions.{is_position}
+use Rattle.pf_grid.specs.GridPositions.{is_position}
 
 neq-eqb : (a b : ℕ) → (a ≡ b → ⊥) → nat_eq a b ≡ false
 neq-eqb a b n = elim (cases_Bool (nat_eq a b)) as (λ _. nat_eq a b ≡ false) [ inl e ↦ absurd (n (eqb-true a b e)) | inr e ↦ e ]

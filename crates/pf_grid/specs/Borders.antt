@@ -1,6 +1,6 @@
 -- The positions on the borders of a grid.
 use Rattle.std.specs.Prelude.{ℕ, ◌+◌, Bool, ◌||◌, nat_eq, if◌then◌else◌}
-use Rattle.pf_grid.specs.Positions.{Positions, has, with_vertices}
+use Rattle.pf_grid.specs.GridPositions.{Positions, has, with_vertices}
 
 -- whether (x, y) is in the first or the last column, or in the first or the last row
 abbrev pub is_border : Positions → ℕ → ℕ → Bool

@@ -1,9 +1,9 @@
-pub mod Positions
+pub mod GridPositions
 pub mod Borders
 pub mod Coordinates
 pub mod Distances
-pub mod Equality
-pub mod Floods
+pub mod GridEquality
+pub mod VertexFloods
 pub mod Internal
 pub mod Steps
 pub mod Texts

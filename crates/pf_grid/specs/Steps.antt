@@ -1,7 +1,7 @@
 -- Steps from one vertex to another beside it.
 use Rattle.std.specs.Prelude.{ℕ, ◌+◌, ◌-◌, Bool, true, false, ◌||◌, nat_lt, not, Option, Some, None, if◌then◌else◌, List, [], ◌∷◌, map}
 use Rattle.std.specs.List.{filter_map, flat_map}
-use Rattle.pf_grid.specs.Positions.{Positions, has}
+use Rattle.pf_grid.specs.GridPositions.{Positions, has}
 use Rattle.pf_grid.specs.Vertices.{vertices_of}
 use Rattle.pf_grid.specs.declared.grid.steps.Shift.{Shift}
 use Rattle.pf_grid.specs.declared.grid.steps.Shift.TheVariants.{Before, Same, After}

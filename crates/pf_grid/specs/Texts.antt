@@ -1,7 +1,7 @@
 -- The text of a grid: a line for each row, with line ends between them.
 use Rattle.std.specs.Prelude.{ℕ, zero, suc, ◌-◌, Bool, if◌then◌else◌, List, [], ◌∷◌, ◌++◌}
 use Rattle.std.specs.Char.{encode_utf8}
-use Rattle.pf_grid.specs.Positions.{Positions, has}
+use Rattle.pf_grid.specs.GridPositions.{Positions, has}
 
 -- what stands before the line n
 abbrev pub line_end : ℕ → List ℕ

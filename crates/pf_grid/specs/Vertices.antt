@@ -1,7 +1,7 @@
 -- The vertices of a grid one after another, by rows, and grids of vertices that are listed.
 use Rattle.std.specs.Prelude.{ℕ, ◌+◌, ◌-◌, ◌*◌, ◌/◌, ◌%◌, ◌^◌, ◌≤◌, Bool, false, List, [], ◌∷◌, map, max}
 use Rattle.std.specs.List.{range_with_len, filter, list_any}
-use Rattle.pf_grid.specs.Positions.{Positions, grid_of, has, is_position}
+use Rattle.pf_grid.specs.GridPositions.{Positions, grid_of, has, is_position}
 use Rattle.pf_matrix.specs.Tables.{Table, value_at}
 
 -- the position at a place, where the places are counted by rows

@@ -36,7 +36,7 @@ pub struct Grid<A: Allocator = Global> {
 impl<A: Allocator> Model for Grid<A> {
     ghost use Rattle.pf_grid.specs.Internal.PositionsCode.{positions_code};
     ghost use Rattle.pf_grid.specs.Internal.Words.{IsRows, bit, row_words};
-    ghost use Rattle.pf_grid.specs.Positions.{Positions, grid_of};
+    ghost use Rattle.pf_grid.specs.GridPositions.{Positions, grid_of};
 
     ghost Value = { Positions };
 

@@ -4,7 +4,7 @@ ghost use Rattle.std.specs.Prelude.{◌≡◌, ◌≢◌, ◌⊎◌, ◌||◌, �
 ghost use Rattle.std.specs.Int.{bit_at};
 ghost use Rattle.std.specs.List.{count_by};
 ghost use Rattle.pf_grid.specs.Internal.Words.{IsRows, bit, row_words};
-ghost use Rattle.pf_grid.specs.Positions.{cells_of, is_position};
+ghost use Rattle.pf_grid.specs.GridPositions.{cells_of, is_position};
 
 /// How many words a row of this width takes.
 pub(crate) fn row_words(width: usize) -> usize

@@ -3,8 +3,8 @@ use Rattle.std.specs.Prelude.{◌≡◌, ◌↔◌, ℕ, zero, suc, ◌<◌, ◌
 use Rattle.std.proofs.Common.{refl, sym, ap, ◌∙◌, inl, inr, true≢false, arith}
 use Rattle.std.proofs.lemmas.Bool.{cases_lt, cases_eq, le-ltb}
 use Rattle.std.specs.Cmp.{IsEquivalence, both_ways, first_so, second_so}
-use Rattle.pf_grid.specs.Positions.{Positions, has}
-use Rattle.pf_grid.specs.Equality.{HasSameVertices, all_below, is_same, same_vertices}
+use Rattle.pf_grid.specs.GridPositions.{Positions, has}
+use Rattle.pf_grid.specs.GridEquality.{HasSameVertices, all_below, is_same, same_vertices}
 
 holds_below : (t : ℕ → Bool) (n : ℕ) → all_below t n ≡ true → (k : ℕ) → k < n → t k ≡ true
 unfolding all_below

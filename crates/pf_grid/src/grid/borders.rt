@@ -2,7 +2,7 @@
 
 ghost use Rattle.std.specs.Prelude.{◌≡◌, ◌+◌, true, false, IsOk, IfOk, if◌then◌else◌};
 ghost use Rattle.pf_grid.specs.Borders.{with_borders};
-ghost use Rattle.pf_grid.specs.Positions.{IsInside, has, is_position, vertex_count, with_vertices};
+ghost use Rattle.pf_grid.specs.GridPositions.{IsInside, has, is_position, vertex_count, with_vertices};
 
 use crate::error::GridError;
 use crate::grid::Grid;

@@ -2,7 +2,7 @@
 
 ghost use Rattle.std.specs.Prelude.{◌≡◌, ◌+◌, ◌*◌, ◌<◌, ◌≤◌, [], ◌∷◌, ◌++◌, drop, MatchOption};
 ghost use Rattle.std.specs.Iterator.{YieldsFirst, item_count};
-ghost use Rattle.pf_grid.specs.Positions.{IsInside};
+ghost use Rattle.pf_grid.specs.GridPositions.{IsInside};
 ghost use Rattle.pf_grid.specs.Steps.{edges_of, edges_by, forward};
 
 use crate::grid::Grid;
@@ -25,7 +25,7 @@ pub struct EdgesIterator<'a, A: Allocator = Global> {
 impl<'a, A: Allocator> Model for EdgesIterator<'a, A> {
     ghost use Rattle.std.specs.Prelude.{ℕ, ◌+◌, ◌*◌, ◌<◌, ◌≤◌, ◌++◌, List, drop};
     ghost use Rattle.std.specs.List.{flat_map};
-    ghost use Rattle.pf_grid.specs.Positions.{IsInside};
+    ghost use Rattle.pf_grid.specs.GridPositions.{IsInside};
     ghost use Rattle.pf_grid.specs.Steps.{edges_by, forward};
     ghost use Rattle.pf_grid.specs.Vertices.{vertices_from};
 

@@ -1,8 +1,8 @@
 //! The vertices in reach of a position, where each step leads to a neighbour that passes a test.
 
 ghost use Rattle.std.specs.Prelude.{◌≡◌, true, false, [], ◌∷◌, IfOk, IfErr};
-ghost use Rattle.pf_grid.specs.Floods.{IsFlood, IsFloodBy};
-ghost use Rattle.pf_grid.specs.Positions.{has};
+ghost use Rattle.pf_grid.specs.VertexFloods.{IsFlood, IsFloodBy};
+ghost use Rattle.pf_grid.specs.GridPositions.{has};
 ghost use Rattle.pf_grid.specs.declared.error.GridError.TheVariants.{OutOfMemory};
 ghost use Rattle.pf_matrix.specs.Calls.{CallableInTurn};
 ghost use Rattle.pf_matrix.specs.Floods.{answer_at};

@@ -1,7 +1,7 @@
 //! How grids are made.
 
 ghost use Rattle.std.specs.Prelude.{◌≡◌, ◌*◌, ◌<◌, ◌^◌, false, IfOk, IfErr};
-ghost use Rattle.pf_grid.specs.Positions.{IsGrid, grid_of};
+ghost use Rattle.pf_grid.specs.GridPositions.{IsGrid, grid_of};
 ghost use Rattle.pf_grid.specs.declared.error.GridError.TheVariants.{OutOfMemory};
 
 use crate::error::GridError;

@@ -23,7 +23,7 @@ pub(crate) struct Around<'a, A: Allocator = Global> {
 impl<'a, A: Allocator> Model for Around<'a, A> {
     ghost use Rattle.std.specs.Prelude.{ℕ, ◌<◌, ◌≤◌, List, drop};
     ghost use Rattle.std.specs.List.{filter_map};
-    ghost use Rattle.pf_grid.specs.Positions.{IsInside};
+    ghost use Rattle.pf_grid.specs.GridPositions.{IsInside};
     ghost use Rattle.pf_grid.specs.Steps.{around, target};
 
     ghost Value = { List (ℕ × ℕ) };

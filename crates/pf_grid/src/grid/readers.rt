@@ -3,7 +3,7 @@
 ghost use Rattle.std.specs.Prelude.{◌≡◌, ◌↔◌, ◌*◌, ◌+◌, ◌<◌, ◌^◌, IsTrue, ℤ, pos};
 ghost use Rattle.std.specs.Int.{int_rem_euclid};
 ghost use Rattle.pf_grid.specs.Distances.{distance_between};
-ghost use Rattle.pf_grid.specs.Positions.{IsGrid, IsInside, has, vertex_count};
+ghost use Rattle.pf_grid.specs.GridPositions.{IsGrid, IsInside, has, vertex_count};
 
 use crate::grid::Grid;
 use crate::words;

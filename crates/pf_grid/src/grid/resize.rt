@@ -2,7 +2,7 @@
 
 ghost use Rattle.std.specs.Prelude.{◌≡◌, ◌*◌, ◌<◌, ◌^◌, ◌&&◌, not, nat_lt, IfOk, IfErr, OnOk, OnErr};
 ghost use Rattle.std.specs.List.{list_any};
-ghost use Rattle.pf_grid.specs.Positions.{has, grid_of};
+ghost use Rattle.pf_grid.specs.GridPositions.{has, grid_of};
 ghost use Rattle.pf_grid.specs.Vertices.{vertices_of};
 ghost use Rattle.pf_grid.specs.declared.error.GridError.TheVariants.{OutOfMemory};
 

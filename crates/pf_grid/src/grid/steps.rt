@@ -2,7 +2,7 @@
 
 ghost use Rattle.std.specs.Prelude.{◌≡◌, ◌+◌, ◌<◌, ◌≤◌, ◌^◌, [], ◌∷◌, length, drop, MatchOption};
 ghost use Rattle.std.specs.List.{filter_map};
-ghost use Rattle.pf_grid.specs.Positions.{IsInside};
+ghost use Rattle.pf_grid.specs.GridPositions.{IsInside};
 ghost use Rattle.pf_grid.specs.Steps.{shifted, target};
 
 use crate::grid::Grid;

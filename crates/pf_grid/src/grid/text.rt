@@ -2,7 +2,7 @@
 
 ghost use Rattle.std.specs.Prelude.{◌≡◌, ◌++◌, ◌-◌, ◌<◌, ◌≤◌, if◌then◌else◌, IfErr, OnErr, OnOk};
 ghost use Rattle.std.specs.String.{string_bytes};
-ghost use Rattle.pf_grid.specs.Positions.{has};
+ghost use Rattle.pf_grid.specs.GridPositions.{has};
 ghost use Rattle.pf_grid.specs.Texts.{line_to, line_end, text_of};
 ghost use Rattle.pf_grid.specs.declared.error.GridError.TheVariants.{OutOfMemory};
 

@@ -3,9 +3,9 @@
 ghost use Rattle.std.specs.Prelude.{◌≡◌, ◌↔◌, ◌+◌, ◌*◌, ◌<◌, ◌≤◌, ℕ, false, nat_eq, IsTrue};
 ghost use Rattle.std.specs.Cmp.{partial_equiv_from_equiv};
 ghost use Rattle.std.specs.Int.{bit_at};
-ghost use Rattle.pf_grid.specs.Equality.{HasSameVertices, same_vertices};
+ghost use Rattle.pf_grid.specs.GridEquality.{HasSameVertices, same_vertices};
 ghost use Rattle.pf_grid.specs.Internal.EqualityLaws.{same_vertices_equiv};
-ghost use Rattle.pf_grid.specs.Positions.{has};
+ghost use Rattle.pf_grid.specs.GridPositions.{has};
 
 use crate::grid::Grid;
 use crate::words;

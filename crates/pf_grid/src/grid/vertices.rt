@@ -2,7 +2,7 @@
 
 ghost use Rattle.std.specs.Prelude.{◌≡◌, ◌+◌, ◌*◌, ◌<◌, ◌≤◌, ◌^◌, ℕ, [], ◌∷◌, length, false, true, MatchOption};
 ghost use Rattle.std.specs.Iterator.{YieldsFirst, item_count};
-ghost use Rattle.pf_grid.specs.Positions.{IsInside, has};
+ghost use Rattle.pf_grid.specs.GridPositions.{IsInside, has};
 ghost use Rattle.pf_grid.specs.Vertices.{vertices_from, vertices_of};
 
 use crate::grid::Grid;

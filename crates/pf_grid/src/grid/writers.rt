@@ -1,7 +1,7 @@
 //! What changes the vertices of a grid.
 
 ghost use Rattle.std.specs.Prelude.{◌≡◌, ◌↔◌, ◌&&◌, ◌*◌, ◌<◌, not, true, false, IsTrue, IsOk, IfOk};
-ghost use Rattle.pf_grid.specs.Positions.{in_mode, is_inside, has, filled, cleared, inverted, with_position, without_position, vertex_count};
+ghost use Rattle.pf_grid.specs.GridPositions.{in_mode, is_inside, has, filled, cleared, inverted, with_position, without_position, vertex_count};
 
 use crate::error::GridError;
 use crate::grid::Grid;

@@ -1,8 +1,8 @@
 //! The callers of pf_grid's CALLING.md: they know grids by their contracts alone.
 
 ghost use Rattle.std.specs.Prelude.{◌≡◌, ◌+◌, ◌*◌, ◌<◌, ◌^◌, ℕ, Bool, List, IfOk, true, false, slice_index_or};
-ghost use Rattle.pf_grid.specs.Floods.{IsFlood};
-ghost use Rattle.pf_grid.specs.Positions.{grid_of, filled, has};
+ghost use Rattle.pf_grid.specs.VertexFloods.{IsFlood};
+ghost use Rattle.pf_grid.specs.GridPositions.{grid_of, filled, has};
 ghost use Rattle.pf_matrix.specs.Floods.{answer_at};
 
 use pf_grid::{Grid, GridError};

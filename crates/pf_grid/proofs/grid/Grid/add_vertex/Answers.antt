@@ -1,7 +1,7 @@
 use Rattle.std.proofs.Common.{◌≡◌, ◌∙◌, ◌||◌, ◌&&◌, not, false, sym, ap, true≢false}
 use Rattle.std.proofs.lemmas.List.{with_items_is}
 use Rattle.pf_grid.specs.Internal.Words.{bit, row_words}
-use Rattle.pf_grid.specs.Positions.{is_inside, is_position, has}
+use Rattle.pf_grid.specs.GridPositions.{is_inside, is_position, has}
 use Rattle.pf_grid.proofs.CellLemmas.{already, and_no, outside_no, view_has, changed_view, unchanged, grid_from_view}
 use Rattle.pf_grid.proofs.WordLemmas.{word_in}
 use Rattle.pf_grid.proofs.grid.Grid.add_vertex.Goals as goal

@@ -3,7 +3,7 @@ use Rattle.std.proofs.lemmas.Bool.{lt-ltb, cases_eq}
 use Rattle.std.proofs.lemmas.List.Sums.{count_by-le-length}
 use Rattle.std.proofs.lemmas.List.{with_items_is}
 use Rattle.pf_grid.specs.Internal.Words.{bit, row_words}
-use Rattle.pf_grid.specs.Positions.{vertex_count}
+use Rattle.pf_grid.specs.GridPositions.{vertex_count}
 use Rattle.std.specs.Prelude.{IsTrue}
 use Rattle.pf_grid.proofs.CellLemmas.{changed_view, grid_from_view}
 use Rattle.pf_grid.proofs.WordLemmas.{word_in, place_in, bit_from_word, all_bits}

@@ -3,7 +3,7 @@ use Rattle.std.specs.Prelude.{⊤, IfOk}
 use Rattle.std.specs.Iterator.{item_count}
 use Rattle.pf_matrix.specs.Floods.{answer_at}
 use Rattle.pf_matrix.proofs.FloodLemmas.{filtered_successors}
-use Rattle.pf_grid.specs.Floods.{passing_around}
+use Rattle.pf_grid.specs.VertexFloods.{passing_around}
 use Rattle.pf_matrix.specs.Gathering.{IsWithinPlaces}
 use Rattle.pf_grid.specs.Steps.{neighbours_of}
 use Rattle.pf_grid.proofs.FloodLemmas.{flood_within}

@@ -2,7 +2,7 @@ use Rattle.std.proofs.Common.{◌≡◌, ◌∙◌, ◌+◌, ◌*◌, ap, sym, a
 use Rattle.std.proofs.lemmas.List.{get_or_default}
 use Rattle.pf_matrix.proofs.TableLemmas.{place_in}
 use Rattle.pf_matrix.specs.Tables.{value_at}
-use Rattle.pf_grid.specs.Positions.{grid_of}
+use Rattle.pf_grid.specs.GridPositions.{grid_of}
 use Rattle.pf_grid.proofs.CellLemmas.{put_more, same_grids}
 use Rattle.pf_grid.proofs.MatrixLemmas.{all_before, none_before, row_before, table_more, table_to}
 use Rattle.std.proofs.lemmas.Result.{IfOk-from_err}

@@ -1,5 +1,5 @@
 use Rattle.std.proofs.Common.{◌≡◌, false}
-use Rattle.pf_grid.specs.Positions.{grid_of}
+use Rattle.pf_grid.specs.GridPositions.{grid_of}
 use Rattle.pf_grid.proofs.MatrixLemmas.{table_to}
 use Rattle.pf_grid.proofs.grid.Grid.from_matrix.Given as goal
 

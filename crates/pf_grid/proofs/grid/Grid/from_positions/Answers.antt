@@ -2,7 +2,7 @@ use Rattle.std.proofs.Common.{◌≡◌, ◌∙◌, ◌+◌, Bool, true, false, 
 use Rattle.std.specs.Prelude.{if◌then◌else◌}
 use Rattle.std.proofs.lemmas.List.{take_all, take_more}
 use Rattle.std.proofs.lemmas.Result.{IfOk-from_err}
-use Rattle.pf_grid.specs.Positions.{grid_of, is_position}
+use Rattle.pf_grid.specs.GridPositions.{grid_of, is_position}
 use Rattle.pf_grid.specs.Vertices.{width_of, height_of, listed}
 use Rattle.pf_grid.proofs.CellLemmas.{put_more}
 use Rattle.pf_grid.proofs.VertexLemmas.{any_more, extent_at}

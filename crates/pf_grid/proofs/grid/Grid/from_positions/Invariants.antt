@@ -1,5 +1,5 @@
 use Rattle.std.proofs.Common.{◌≡◌, take, false}
-use Rattle.pf_grid.specs.Positions.{grid_of}
+use Rattle.pf_grid.specs.GridPositions.{grid_of}
 use Rattle.pf_grid.specs.Vertices.{width_of, height_of, listed}
 use Rattle.pf_grid.proofs.grid.Grid.from_positions.Given as goal
 

@@ -2,7 +2,7 @@ use Rattle.std.proofs.Common.{◌≡◌, ℕ, ◌∙◌, ◌/◌, ◌<◌, ap, s
 use Rattle.std.specs.Prelude.{MatchOption}
 use Rattle.std.proofs.lemmas.Bool.{cases_lt}
 use Rattle.pf_grid.specs.Internal.Words.{bit, row_words}
-use Rattle.pf_grid.specs.Positions.{has}
+use Rattle.pf_grid.specs.GridPositions.{has}
 use Rattle.pf_grid.proofs.CellLemmas.{view_has, has_beyond}
 use Rattle.pf_grid.proofs.grid.Grid.next_in_row.Goals as goal
 

@@ -1,6 +1,6 @@
 use Rattle.std.proofs.Common.{◌≡◌, ◌∙◌, Bool, true, false, not, ◌||◌, ◌&&◌, sym, refl}
 use Rattle.std.specs.Prelude.{if◌then◌else◌}
-use Rattle.pf_grid.specs.Positions.{has, is_position}
+use Rattle.pf_grid.specs.GridPositions.{has, is_position}
 use Rattle.pf_grid.proofs.CellLemmas.{same_grids}
 use Rattle.pf_grid.proofs.grid.Grid.put.Goals as goal
 

@@ -1,6 +1,6 @@
 use Rattle.std.proofs.Common.{◌≡◌, Bool, true, false, true≢false, sym, ap, arith}
 use Rattle.std.specs.Prelude.{if◌then◌else◌}
-use Rattle.pf_grid.specs.Positions.{has, vertex_count}
+use Rattle.pf_grid.specs.GridPositions.{has, vertex_count}
 use Rattle.pf_grid.specs.Borders.{is_border}
 use Rattle.pf_grid.proofs.CountLemmas.{more_own}
 use Rattle.pf_grid.proofs.grid.Grid.remove_borders.Goals as goal

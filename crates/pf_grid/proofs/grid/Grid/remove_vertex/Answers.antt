@@ -1,7 +1,7 @@
 use Rattle.std.proofs.Common.{◌∙◌, ◌&&◌, not, ◌<◌, sym, ap, arith}
 use Rattle.std.proofs.lemmas.List.{with_items_is}
 use Rattle.pf_grid.specs.Internal.Words.{bit, row_words}
-use Rattle.pf_grid.specs.Positions.{is_position}
+use Rattle.pf_grid.specs.GridPositions.{is_position}
 use Rattle.pf_grid.proofs.CellLemmas.{never, has_is_inside, view_has, changed_view, unchanged, grid_from_view}
 use Rattle.pf_grid.proofs.WordLemmas.{word_in, row_in}
 use Rattle.pf_grid.proofs.grid.Grid.remove_vertex.Goals as goal

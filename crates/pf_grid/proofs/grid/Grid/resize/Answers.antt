@@ -7,7 +7,7 @@ use Rattle.std.proofs.lemmas.Result.{IfOk-from_err}
 use Rattle.pf_matrix.proofs.RowLemmas.{on_err}
 use Rattle.pf_search.proofs.ResultLemmas.{refused_as}
 use Rattle.pf_grid.specs.declared.error.GridError.TheVariants.{OutOfMemory}
-use Rattle.pf_grid.specs.Positions.{grid_of, has, in_mode, is_position}
+use Rattle.pf_grid.specs.GridPositions.{grid_of, has, in_mode, is_position}
 use Rattle.pf_grid.specs.Vertices.{listed, vertices_of}
 use Rattle.pf_grid.proofs.CellLemmas.{put_more, same_grids}
 use Rattle.pf_grid.proofs.VertexLemmas.{any_more, listed_vertices, same_coordinates}

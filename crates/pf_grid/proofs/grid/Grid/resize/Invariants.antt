@@ -1,6 +1,6 @@
 use Rattle.std.proofs.Common.{◌≡◌, ◌++◌, false, not, nat_lt, ◌&&◌}
 use Rattle.std.specs.List.{list_any}
-use Rattle.pf_grid.specs.Positions.{grid_of}
+use Rattle.pf_grid.specs.GridPositions.{grid_of}
 use Rattle.pf_grid.specs.Vertices.{vertices_of, listed}
 use Rattle.pf_grid.proofs.grid.Grid.resize.Given as goal
 

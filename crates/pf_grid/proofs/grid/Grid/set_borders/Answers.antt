@@ -1,6 +1,6 @@
 use Rattle.std.proofs.Common.{◌<◌, ap, sym, arith}
 use Rattle.std.specs.Prelude.{if◌then◌else◌}
-use Rattle.pf_grid.specs.Positions.{has}
+use Rattle.pf_grid.specs.GridPositions.{has}
 use Rattle.pf_grid.specs.Borders.{is_border}
 use Rattle.pf_grid.proofs.CellLemmas.{grid_from_view, unchanged}
 use Rattle.pf_grid.proofs.BorderLemmas.{in_rows, in_both, column_more, row_more, none_yet, all_columns, all_rows, same_test}

@@ -1,6 +1,6 @@
 use Rattle.std.proofs.Common.{◌≡◌}
 use Rattle.std.specs.Prelude.{if◌then◌else◌}
-use Rattle.pf_grid.specs.Positions.{with_vertices, has}
+use Rattle.pf_grid.specs.GridPositions.{with_vertices, has}
 use Rattle.pf_grid.proofs.BorderLemmas.{in_rows, in_both}
 use Rattle.pf_grid.proofs.grid.Grid.set_borders.Given as goal
 

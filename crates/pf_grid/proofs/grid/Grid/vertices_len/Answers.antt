@@ -1,7 +1,7 @@
 use Rattle.std.proofs.Common.{◌∙◌, sym, ap, subst}
 use Rattle.std.specs.List.{count_by}
 use Rattle.pf_grid.specs.Internal.Words.{bit, row_words, IsRows}
-use Rattle.pf_grid.specs.Positions.{vertex_count, cells_of}
+use Rattle.pf_grid.specs.GridPositions.{vertex_count, cells_of}
 use Rattle.pf_grid.proofs.CellLemmas.{grid_from_view}
 use Rattle.pf_grid.proofs.grid.Grid.vertices_len.Goals as goal
 

@@ -2,7 +2,7 @@ use Rattle.std.proofs.Common.{◌≡◌, ℕ, ◌∙◌, ◌+◌, ◌*◌, ◌/�
 use Rattle.std.specs.Int.{bit_at}
 use Rattle.std.proofs.lemmas.Bool.{cases_lt}
 use Rattle.pf_grid.specs.Internal.Words.{bit, row_words}
-use Rattle.pf_grid.specs.Positions.{has}
+use Rattle.pf_grid.specs.GridPositions.{has}
 use Rattle.std.proofs.lemmas.List.{get_or_default}
 use Rattle.pf_grid.proofs.WordLemmas.{row_in}
 use Rattle.pf_grid.proofs.CellLemmas.{view_has, has_beyond}

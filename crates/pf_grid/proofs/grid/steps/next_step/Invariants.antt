@@ -1,6 +1,6 @@
 use Rattle.std.proofs.Common.{◌≡◌, ◌<◌, ◌≤◌, ◌-◌, drop, length}
 use Rattle.std.specs.List.{filter_map}
-use Rattle.pf_grid.specs.Positions.{IsInside}
+use Rattle.pf_grid.specs.GridPositions.{IsInside}
 use Rattle.pf_grid.specs.Steps.{target}
 use Rattle.pf_grid.proofs.grid.steps.next_step.Given as goal
 

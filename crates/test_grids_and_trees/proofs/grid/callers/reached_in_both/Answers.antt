@@ -1,6 +1,6 @@
 use Rattle.std.proofs.Common.{◌≡◌, ℕ, Bool, false, rules}
 use Rattle.std.proofs.lemmas.Result.{MatchResult-weaker}
-use Rattle.pf_grid.specs.Positions.{has}
+use Rattle.pf_grid.specs.GridPositions.{has}
 use Rattle.pf_matrix.proofs.CallLemmas.{callable_at_positions, given_at_positions}
 use Rattle.test_grids_and_trees.proofs.grid.callers.reached_in_both.Goals as goal
 

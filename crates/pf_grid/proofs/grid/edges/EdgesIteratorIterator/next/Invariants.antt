@@ -1,7 +1,7 @@
 use Rattle.std.proofs.Common.{◌≡◌, ◌<◌, ◌≤◌, ◌+◌, ◌*◌, ◌++◌, drop, length}
 use Rattle.std.specs.Prelude.{◌∷◌, MatchOption, ⊤}
 use Rattle.std.specs.List.{flat_map}
-use Rattle.pf_grid.specs.Positions.{IsInside}
+use Rattle.pf_grid.specs.GridPositions.{IsInside}
 use Rattle.pf_grid.specs.Steps.{edges_by, forward}
 use Rattle.pf_grid.specs.Vertices.{vertices_from}
 use Rattle.pf_grid.proofs.grid.edges.EdgesIteratorIterator.next.Given as goal

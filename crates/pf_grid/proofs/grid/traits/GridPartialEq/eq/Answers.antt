@@ -2,8 +2,8 @@ use Rattle.std.proofs.Common.{◌≡◌, ℕ, refl, ◌∙◌, ◌+◌, ◌-◌,
 use Rattle.std.specs.Int.{bit_at}
 use Rattle.std.proofs.lemmas.Bool.{cases_lt, cases_eq, cases_Bool, eqb-true, eq-eqb}
 use Rattle.std.proofs.lemmas.Nat.Bits.{same_from_bits_below, bit_at-lt}
-use Rattle.pf_grid.specs.Positions.{Positions, has}
-use Rattle.pf_grid.specs.Equality.{same_vertices}
+use Rattle.pf_grid.specs.GridPositions.{Positions, has}
+use Rattle.pf_grid.specs.GridEquality.{same_vertices}
 use Rattle.pf_grid.specs.Internal.EqualityLaws.{same_vertices_decides}
 use Rattle.pf_grid.proofs.CellLemmas.{has_beyond}
 use Rattle.pf_grid.proofs.grid.traits.GridPartialEq.eq.Goals as goal

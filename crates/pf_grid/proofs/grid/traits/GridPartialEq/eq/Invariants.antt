@@ -1,5 +1,5 @@
 use Rattle.std.proofs.Common.{◌≡◌, ℕ, ◌<◌, ◌*◌}
-use Rattle.pf_grid.specs.Positions.{has}
+use Rattle.pf_grid.specs.GridPositions.{has}
 use Rattle.pf_grid.proofs.grid.traits.GridPartialEq.eq.Given as goal
 
 -- the rows so far are equal

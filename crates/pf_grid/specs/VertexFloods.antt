@@ -2,7 +2,7 @@
 use Rattle.std.specs.Prelude.{ℕ, Bool, List}
 use Rattle.std.specs.List.{filter}
 use Rattle.std.specs.BTreeSet.{BTreeSet}
-use Rattle.pf_grid.specs.Positions.{Positions}
+use Rattle.pf_grid.specs.GridPositions.{Positions}
 use Rattle.pf_grid.specs.Steps.{neighbours_of}
 use Rattle.pf_matrix.specs.Calls.{GivesInTurn}
 use Rattle.pf_matrix.specs.Floods.{HasReached, answer_at}

@@ -1,6 +1,6 @@
 -- When two grids are equal: where they have the same vertices, whatever their sizes and modes.
 use Rattle.std.specs.Prelude.{◌≡◌, ℕ, zero, suc, Bool, true, ◌&&◌, not, if◌then◌else◌, max}
-use Rattle.pf_grid.specs.Positions.{Positions, has}
+use Rattle.pf_grid.specs.GridPositions.{Positions, has}
 
 abbrev pub HasSameVertices : Positions → Positions → Type 0
 HasSameVertices a b = (x y : ℕ) → has a x y ≡ has b x y
