@@ -200,12 +200,12 @@ where
     IC: IntoIterator<Item = Edge<N, C>>,
     EK: EdmondsKarp<C>,
     requires ends { IsFiniteIterable IC.into_iter_gives IC.IntoIter.can_next IC.IntoIter.remaining capacities }
-    requires unused { IsUnused C.fits (EK.FlowStore.network store.old) }
-    requires none { HasCapacities (λ a b. pos 0) (EK.FlowStore.network store.old) }
-    requires vertices { (EK.FlowStore.network store.old).vertices ≡ length names.now.keys }
-    requires details { (EK.FlowStore.network store.old).details ≡ true }
+    requires unused { IsUnused C.fits (EK.network store.old) }
+    requires none { HasCapacities (λ a b. pos 0) (EK.network store.old) }
+    requires vertices { (EK.network store.old).vertices ≡ length names.now.keys }
+    requires details { (EK.network store.old).details ≡ true }
     ensures answer { IfOk result (λ answer. (source sink : N)
-        → IsFresh (length names.now.keys) (number_of N.eq names.now.keys source) (number_of N.eq names.now.keys sink) (EK.FlowStore.network store.old)
+        → IsFresh (length names.now.keys) (number_of N.eq names.now.keys source) (number_of N.eq names.now.keys sink) (EK.network store.old)
         → ⟦<IC as NamedEdges<N, C>>⟧.answered names.now.keys source sink capacities answer.0.items (C.value answer.1) answer.2.items) }
     ensures refused { IfErr result (λ e. (e ≡ OutOfMemory) ⊎ ⟦<IC as NamedEdges<N, C>>⟧.edges_refused names.now.keys capacities e) }
 {
@@ -227,9 +227,9 @@ where
     EK: EdmondsKarp<C>,
     ensures source { OnOk result (IsKnown N.eq names.now.keys source.now) }
     ensures sink { OnOk result (IsKnown N.eq names.now.keys sink.now) }
-    ensures fresh { IfOk result (λ store. IsFresh (length names.now.keys) (number_of N.eq names.now.keys source.now) (number_of N.eq names.now.keys sink.now) (EK.FlowStore.network store)) }
-    ensures unused { IfOk result (λ store. IsUnused C.fits (EK.FlowStore.network store)) }
-    ensures none { IfOk result (λ store. HasCapacities (λ a b. pos 0) (EK.FlowStore.network store)) }
+    ensures fresh { IfOk result (λ store. IsFresh (length names.now.keys) (number_of N.eq names.now.keys source.now) (number_of N.eq names.now.keys sink.now) (EK.network store)) }
+    ensures unused { IfOk result (λ store. IsUnused C.fits (EK.network store)) }
+    ensures none { IfOk result (λ store. HasCapacities (λ a b. pos 0) (EK.network store)) }
     ensures refused { IfErr result (λ e. (e ≡ OutOfMemory) ⊎ ((e ≡ UnknownVertex) × ((¬ (IsKnown N.eq names.now.keys source.now)) ⊎ (¬ (IsKnown N.eq names.now.keys sink.now))))) }
 {
     let from = known_number(names, source)?;
