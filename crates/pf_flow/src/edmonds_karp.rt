@@ -1,14 +1,14 @@
 //! Greatest flows and least cuts under changing capacities.
 
-ghost use Rattle.std.specs.Prelude.{◌≡◌, ◌≢◌, ◌≤◌, ◌<◌, ◌+◌, ◌*◌, ◌≤ℤ◌, ◌<ℤ◌, ◌+ℤ◌, ◌-ℤ◌, ℕ, pos, true, false, [], length, OnOk, OnErr, IfOk, IfErr};
+ghost use Rattle.std.specs.Prelude.{◌≡◌, ◌≤◌, ◌<◌, ◌+◌, ◌*◌, ◌≤ℤ◌, pos, OnOk, OnErr, IfOk, IfErr};
 ghost use Rattle.pf_base.specs.declared.error.PathError.TheVariants.{OutOfMemory};
 ghost use Rattle.pf_residual.specs.Flows.{Same, pair_count};
 ghost use Rattle.pf_residual.specs.Networks.{Network, capacity, capacity_sum, Agrees, KeepsCapacities, ChangesCapacity, IsNetwork, IsFresh, HasCapacities, HasCutOfTotal};
-ghost use Rattle.pf_residual.specs.Listings.{ListsFlows, ListsLeastCut};
-ghost use Rattle.pf_residual.specs.Capacities.{square_table, AreRefused, IsChangeRefused};
+ghost use Rattle.pf_residual.specs.Listings.{ListsFlows, IsFlowAnswer};
+ghost use Rattle.pf_residual.specs.Capacities.{square_table, AreSquare, OfSide, FallsByExcess, AreRefused, IsChangeRefused};
 
 use crate::augmenting::augment_flow;
-pub use crate::by_names::{NamedEdges, edmonds_karp, edmonds_karp_dense, edmonds_karp_sparse};
+pub use crate::by_names::{edmonds_karp, edmonds_karp_dense, edmonds_karp_sparse};
 use crate::changes::change_capacity;
 pub use crate::dense_capacity::DenseCapacity;
 use crate::listings::list_flows;
@@ -94,13 +94,13 @@ pub trait EdmondsKarp<C: SignedCost>: FlowStore<C> {
         sink: usize,
         capacities: V,
     ) -> Result<Self, PathError>
-        requires square { (size : ℕ) × (size * size ≡ length (V.values capacities)) }
-        requires source { (size : ℕ) → size * size ≡ length (V.values capacities) → source < size }
-        requires sink { (size : ℕ) → size * size ≡ length (V.values capacities) → sink < size }
-        ensures fresh { IfOk result (λ s. (size : ℕ) → size * size ≡ length (V.values capacities) → IsFresh size source sink (Self.network s)) }
-        ensures capacities { IfOk result (λ s. (size : ℕ) → size * size ≡ length (V.values capacities) → HasCapacities (square_table C.value size (V.values capacities)) (Self.network s)) }
+        requires square { AreSquare (V.values capacities) }
+        requires source { OfSide (V.values capacities) (λ side. source < side) }
+        requires sink { OfSide (V.values capacities) (λ side. sink < side) }
+        ensures fresh { IfOk result (λ s. OfSide (V.values capacities) (λ side. IsFresh side source sink (Self.network s))) }
+        ensures capacities { IfOk result (λ s. OfSide (V.values capacities) (λ side. HasCapacities (square_table C.value side (V.values capacities)) (Self.network s))) }
         ensures network { IfOk result (λ s. IsNetwork C.fits (Self.network s)) }
-        ensures refused { IfErr result (λ e. (size : ℕ) → size * size ≡ length (V.values capacities) → AreRefused C.fits size (square_table C.value size (V.values capacities)) e) }
+        ensures refused { IfErr result (λ e. OfSide (V.values capacities) (λ side. AreRefused C.fits side (square_table C.value side (V.values capacities)) e)) }
     {
         let Ok(square) = Matrix::square_from_vec(capacities.into_vec(alloc)?) else {
             unreachable!()
@@ -151,7 +151,7 @@ pub trait EdmondsKarp<C: SignedCost>: FlowStore<C> {
         ensures changed { OnOk result (ChangesCapacity from to (C.value capacity) (Self.network self.old) (Self.network self.new)) }
         ensures kept { OnOk result ((Self.network self.old).flow from to ≤ℤ C.value capacity → Same (Self.network self.old).flow (Self.network self.new).flow) }
         ensures total { OnOk result ((Self.network self.new).total ≤ℤ (Self.network self.old).total) }
-        ensures excess { OnOk result (C.value capacity ≤ℤ (Self.network self.old).flow from to → ((Self.network self.old).total +ℤ C.value capacity) ≤ℤ ((Self.network self.new).total +ℤ (Self.network self.old).flow from to)) }
+        ensures excess { OnOk result (FallsByExcess from to (C.value capacity) (Self.network self.old) (Self.network self.new)) }
         ensures unchanged { OnErr result (Agrees (Self.network self.old) (Self.network self.new)) }
         ensures refused { IfErr result (IsChangeRefused C.fits (Self.network self.old) from to (C.value capacity)) }
     {
@@ -171,11 +171,7 @@ pub trait EdmondsKarp<C: SignedCost>: FlowStore<C> {
         ensures network { IsNetwork C.fits (Self.network self.new) }
         ensures kept { KeepsCapacities (Self.network self.old) (Self.network self.new) }
         ensures cut { OnOk result (HasCutOfTotal (Self.network self.new)) }
-        ensures total { IfOk result (λ answer. C.value answer.1 ≡ (Self.network self.new).total) }
-        ensures flows { IfOk result (λ answer. (Self.network self.old).details ≡ true → ListsFlows C.value (Self.network self.new) answer.0.items) }
-        ensures cut_edges { IfOk result (λ answer. (Self.network self.old).details ≡ true → ListsLeastCut C.value (Self.network self.new) answer.2.items) }
-        ensures idle { IfOk result (λ answer. (Self.network self.old).source ≡ (Self.network self.old).sink → (answer.0.items ≡ []) × (C.value answer.1 ≡ pos 0) × (answer.2.items ≡ [])) }
-        ensures omitted { IfOk result (λ answer. (Self.network self.old).details ≡ false → (answer.0.items ≡ []) × (answer.2.items ≡ [])) }
+        ensures answer { IfOk result (IsFlowAnswer C.value (Self.network self.new)) }
         ensures refused { IfErr result (λ e. e ≡ OutOfMemory) }
         ensures ticked { tally.old ≤ tally.new }
         ensures paths { tally.new ≤ tally.old + (Self.network self.old).vertices * pair_count (Self.network self.old).vertices (capacity (Self.network self.old)) }
@@ -203,11 +199,7 @@ pub trait EdmondsKarp<C: SignedCost>: FlowStore<C> {
         ensures network { IsNetwork C.fits (Self.network self.new) }
         ensures kept { KeepsCapacities (Self.network self.old) (Self.network self.new) }
         ensures cut { OnOk result (HasCutOfTotal (Self.network self.new)) }
-        ensures total { IfOk result (λ answer. C.value answer.1 ≡ (Self.network self.new).total) }
-        ensures flows { IfOk result (λ answer. (Self.network self.old).details ≡ true → ListsFlows C.value (Self.network self.new) answer.0.items) }
-        ensures cut_edges { IfOk result (λ answer. (Self.network self.old).details ≡ true → ListsLeastCut C.value (Self.network self.new) answer.2.items) }
-        ensures idle { IfOk result (λ answer. (Self.network self.old).source ≡ (Self.network self.old).sink → (answer.0.items ≡ []) × (C.value answer.1 ≡ pos 0) × (answer.2.items ≡ [])) }
-        ensures omitted { IfOk result (λ answer. (Self.network self.old).details ≡ false → (answer.0.items ≡ []) × (answer.2.items ≡ [])) }
+        ensures answer { IfOk result (IsFlowAnswer C.value (Self.network self.new)) }
         ensures refused { IfErr result (λ e. e ≡ OutOfMemory) }
     {
         augment_flow(self, alloc, &mut Tally::new())

@@ -1,6 +1,6 @@
 -- Edges between named vertices, put into a store in turn.
 use Rattle.std.proofs.Common.{◌≡◌, ◌∙◌, ◌⊎◌, inl, inr, refl, sym, ap, subst, ◌<◌, ℕ, ℤ, zero, suc, pos, Bool, true, false, nat_eq, List, [], ◌∷◌, ◌++◌, length, fold}
-use Rattle.std.specs.Prelude.{◌≤ℤ◌, ◌&&◌, if◌then◌else◌, Option, Some, slice_get, Result, Ok, Err, OnOk, IfOk, IfErr, IsErrAnd}
+use Rattle.std.specs.Prelude.{◌≤ℤ◌, ◌&&◌, if◌then◌else◌, Option, Some, Vec, slice_get, Result, Ok, Err, OnOk, IfOk, IfErr, IsErrAnd}
 use Rattle.std.specs.Iterator.{Yields}
 use Rattle.std.specs.List.{AllZip}
 use Rattle.std.proofs.lemmas.Bool.{cases_eq}
@@ -9,7 +9,7 @@ use Rattle.pf_base.specs.declared.error.PathError.{PathError}
 use Rattle.pf_base.specs.declared.error.PathError.TheVariants.{OutOfMemory}
 use Rattle.pf_residual.specs.Capacities.{IsChangeRefused}
 use Rattle.pf_residual.specs.Flows.{PairTable, replaced, pair_sum, sum_to}
-use Rattle.pf_residual.specs.Listings.{ListsFlows, ListsLeastCut}
+use Rattle.pf_residual.specs.Listings.{ListsFlows, ListsLeastCut, IsFlowAnswer}
 use Rattle.pf_residual.specs.Networks.{Network, capacity, ChangesCapacity, HasCapacities, HasCutOfTotal, IsFresh, IsNetwork, KeepsCapacities, KeepsShape}
 use Rattle.pf_residual.specs.NamedNetworks.{number_of, given_capacities, with_capacity_of, IsAnswer, IsKnown, IsNamed, IsAccepted, AreAccepted, IsEdgeRefused}
 use Rattle.pf_residual.specs.Internal.Filling.{IsUnused}
@@ -144,26 +144,22 @@ module _ {N C : Type 0} (names : List N) (M : Network) (value : C → ℤ) (n : 
 -- What is answered for names, from what is answered for numbers: of a new store (L), with the capacities of the edges (M), and with a greatest flow (O).
 module _ {N C : Type 0} (eq : N → N → Bool) (value : C → ℤ) (names : List N) (fits : ℤ → Type 0) {L M O : Network} {size from to : ℕ}
     (fresh : IsFresh size from to L) (shape : KeepsShape L M) (kept : KeepsCapacities M O) where
-  pub details_on : M.details ≡ true
-  details_on = shape.details ∙ fresh.details
-
-  pub answer_of : (source sink : N) (edges : List ((N × N) × C)) (flows cut : List ((ℕ × ℕ) × C)) (carried leaving : List ((N × N) × C)) (total : ℤ)
+  pub answer_of : (source sink : N) (edges : List ((N × N) × C)) {A : Type 0} (answer : Vec ((ℕ × ℕ) × C) A × C × Vec ((ℕ × ℕ) × C) A) (carried leaving : List ((N × N) × C)) (total : ℤ)
       → size ≡ length names → from ≡ number_of eq names source → to ≡ number_of eq names sink
-      → HasCapacities (given_capacities eq value names edges) M → IsNetwork fits O → HasCutOfTotal O → total ≡ O.total
-      → ListsFlows value O flows → ListsLeastCut value O cut → (M.source ≡ M.sink → (flows ≡ []) × (total ≡ pos 0) × (cut ≡ []))
-      → AllZip (IsNamed names) flows carried → AllZip (IsNamed names) cut leaving
+      → HasCapacities (given_capacities eq value names edges) M → IsNetwork fits O → HasCutOfTotal O → IsFlowAnswer value O answer → total ≡ value answer.1
+      → AllZip (IsNamed names) answer.0.items carried → AllZip (IsNamed names) answer.2.items leaving
       → IsAnswer eq value names fits source sink edges carried total leaving O
-  answer_of source sink edges flows cut carried leaving total s f t h w c x lf lc z zf zc = record {
+  answer_of source sink edges answer carried leaving total s f t h w c a same zf zc = record {
     vertices = kept.shape.vertices ∙ shape.vertices ∙ fresh.vertices ∙ s;
     source = kept.shape.source ∙ shape.source ∙ fresh.source ∙ f;
     sink = kept.shape.sink ∙ shape.sink ∙ fresh.sink ∙ t;
     capacities = record { at = λ a b l m. sym (kept.capacities.at a b) ∙ h.at a b (subst (λ k. a < k) kept.shape.vertices l) (subst (λ k. b < k) kept.shape.vertices m) };
     network = w;
     worth = c;
-    total = x;
-    flows = (flows, lf, zf);
-    cut = (cut, lc, zc);
-    idle = λ e. let i = z (sym kept.shape.source ∙ e ∙ kept.shape.sink) in (none_zip (IsNamed names) flows carried zf i.0, i.1, none_zip (IsNamed names) cut leaving zc i.2);
+    total = same ∙ a.total;
+    flows = (answer.0.items, a.flows (kept.shape.details ∙ shape.details ∙ fresh.details), zf);
+    cut = (answer.2.items, a.cut_edges (kept.shape.details ∙ shape.details ∙ fresh.details), zc);
+    idle = λ e. let i = a.idle e in (none_zip (IsNamed names) answer.0.items carried zf i.0, same ∙ i.1, none_zip (IsNamed names) answer.2.items leaving zc i.2);
   }
 
 -- why a call is refused, from why the call in it was

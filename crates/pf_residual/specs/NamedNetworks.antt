@@ -1,5 +1,5 @@
 -- Networks whose vertices have names.
-use Rattle.std.specs.Prelude.{◌≡◌, ◌<◌, ◌≤ℤ◌, ◌<ℤ◌, ◌⊎◌, ◌++◌, ℕ, ℤ, pos, Bool, List, [], ◌∷◌, Option, Some, length, slice_get, fold, ⊤}
+use Rattle.std.specs.Prelude.{◌≡◌, ◌<◌, ◌≤ℤ◌, ◌<ℤ◌, ◌⊎◌, ◌++◌, ℕ, ℤ, pos, Bool, List, [], ◌∷◌, Option, Some, Vec, length, slice_get, fold, ⊤}
 use Rattle.std.specs.Iterator.{Drains, Yields}
 use Rattle.std.specs.List.{position_or_len, AllZip}
 use Rattle.indexmap.specs.IndexSet.{insert_all}
@@ -79,22 +79,47 @@ module _ {N : Type 0} (eq : N → N → Bool) where
         pub accepted : AreAccepted (λ a b. pos 0) before
         pub why : IsEdgeRefused (given_capacities before) e r
 
--- Calls that take edges from what an iterator is made of: `becomes` says which iterators are made of it, and `steps` what a call of one gives.
-module _ {N C I S : Type 0} (eq : N → N → Bool) (value : C → ℤ) (fits : ℤ → Type 0) (becomes : I → S → Type 0) (steps : S → Option ((N × N) × C) → S → Type 0) where
-  -- the edges were given to the end, each was accepted, and this is the answer for them
-  abbrev pub IsAnsweredFor : List N → N → N → I → List ((N × N) × C) → ℤ → List ((N × N) × C) → Type 0
-  IsAnsweredFor names from to given carried amount leaving = (it : S) × (edges : List ((N × N) × C)) × becomes given it × Drains steps it edges
-      × AreAccepted eq value names fits (λ a b. pos 0) edges
-      × ((M : Network) × IsAnswer eq value names fits from to edges carried amount leaving M)
+-- Edges between named vertices that are taken of an iterator, each with a capacity.
+pub record GivenEdges (N C : Type 0) : Type 1 where
+  -- which vertices are the same
+  pub eq : N → N → Bool
+  -- the number that a capacity is
+  pub value : C → ℤ
+  -- which numbers a capacity can be
+  pub fits : ℤ → Type 0
+  -- the vertices, each once
+  pub names : List N
+  -- the iterators over such edges
+  pub Edges : Type 0
+  -- which of them the edges are taken of
+  pub becomes : Edges → Type 0
+  -- what a call of one gives
+  pub steps : Edges → Option ((N × N) × C) → Edges → Type 0
+
+module _ {N C : Type 0} (given : GivenEdges N C) where
+  -- the edges were given to the end, each was accepted, and P holds of them
+  abbrev pub AreTaken : (List ((N × N) × C) → Type 0) → Type 0
+  AreTaken P = (it : given.Edges) × (edges : List ((N × N) × C)) × given.becomes it × Drains given.steps it edges
+      × AreAccepted given.eq given.value given.names given.fits (λ a b. pos 0) edges
+      × P edges
+
+  -- the edges were given to the end, each was accepted, and these are the capacities
+  abbrev pub HasGivenCapacities : Network → Type 0
+  HasGivenCapacities M = AreTaken (λ edges. HasCapacities (given_capacities given.eq given.value given.names edges) M)
 
   -- some edges were given, of which the last is the first that is refused
-  abbrev pub AreEdgesRefused : List N → I → PathError → Type 0
-  AreEdgesRefused names given r = (it : S) × (edges : List ((N × N) × C)) × (edge : (N × N) × C) × (left : S) × becomes given it × Yields steps it (edges ++ edge ∷ []) left
-      × IsFirstRefused eq value names fits edges edge r
+  abbrev pub AreEdgesRefused : PathError → Type 0
+  AreEdgesRefused r = (it : given.Edges) × (edges : List ((N × N) × C)) × (edge : (N × N) × C) × (left : given.Edges) × given.becomes it × Yields given.steps it (edges ++ edge ∷ []) left
+      × IsFirstRefused given.eq given.value given.names given.fits edges edge r
 
-  -- why it is refused: for memory, or because source or sink is not known, or else for an edge
-  abbrev pub IsRefusedFor : List N → N → N → I → PathError → Type 0
-  IsRefusedFor names from to given r =
-      (r ≡ OutOfMemory)
-      ⊎ ((r ≡ UnknownVertex) × ((¬ (IsKnown eq names from)) ⊎ (¬ (IsKnown eq names to))))
-      ⊎ (IsKnown eq names from × IsKnown eq names to × AreEdgesRefused names given r)
+  module _ (source sink : N) where
+    -- the edges were given to the end, each was accepted, and this is the answer for them
+    abbrev pub IsAnsweredFor : {A : Type 0} → Vec ((N × N) × C) A × C × Vec ((N × N) × C) A → Type 0
+    IsAnsweredFor answer = AreTaken (λ edges. (M : Network) × IsAnswer given.eq given.value given.names given.fits source sink edges answer.0.items (given.value answer.1) answer.2.items M)
+
+    -- why it is refused: for memory, or because source or sink is not known, or else for an edge
+    abbrev pub IsRefusedFor : PathError → Type 0
+    IsRefusedFor r =
+        (r ≡ OutOfMemory)
+        ⊎ ((r ≡ UnknownVertex) × ((¬ (IsKnown given.eq given.names source)) ⊎ (¬ (IsKnown given.eq given.names sink))))
+        ⊎ (IsKnown given.eq given.names source × IsKnown given.eq given.names sink × AreEdgesRefused r)

@@ -1,10 +1,8 @@
-use Rattle.std.proofs.Common.{◌≡◌, ◌∙◌, ◌⊎◌, inl, inr, sym, ap, subst}
+use Rattle.std.proofs.Common.{◌∙◌, inl, inr, sym, ap}
 use Rattle.std.proofs.lemmas.Result.{IfOk-from_err}
 use Rattle.pf_residual.proofs.AgreeLemmas.{capacities_kept, shape_more}
 use Rattle.pf_residual.proofs.NetworkLemmas.{none_sum}
-use Rattle.pf_residual.proofs.NamedLemmas.{refused_by, yields_more}
-use Rattle.pf_base.specs.declared.error.PathError.TheVariants.{OutOfMemory}
-use Rattle.pf_residual.specs.NamedNetworks.{AreEdgesRefused}
+use Rattle.pf_residual.proofs.NamedLemmas.{refused_as, yields_more}
 use Rattle.pf_flow.proofs.by_names.put_edges.Goals as goal
 
 pub edges-init : goal.edges-init
@@ -41,8 +39,7 @@ returns-clause-capacities g c =
 pub returns-in_err-sum-clause-refused : goal.returns-in_err-sum-clause-refused
 returns-in_err-sum-clause-refused g c =
     let i = c.edges.invariant in
-    let refused : (c.in_err-sum.field-0.0 ≡ OutOfMemory) ⊎ AreEdgesRefused g.N.PartialEq.eq g.C.Number.value g.C.Number.fits g.IC.IntoIterator.into_iter_gives g.IC.IntoIter.Iterator.next_gives c.args.names.now.keys c.args.capacities c.in_err-sum.field-0.0 =
-    elim c.in_err-sum.ensures.refused [
+    refused_as _ c.from_residual.result _ (elim c.in_err-sum.ensures.refused [
       | inl r ↦ inl r
       | inr r ↦ inr (
         c.into_iter-edge-iterator.result,
@@ -53,8 +50,7 @@ returns-in_err-sum-clause-refused g c =
         yields_more g.IC.IntoIter.Iterator.next_gives _ c.edges.yielded c.edges.edge-iterator c.next.new.self c.in-Some.edge c.edges.yielded_by c.in-Some.ensures.steps,
         record { accepted = i.accepted; why = r c.edges.yielded i.capacities },
       )
-    ] in
-    refused_by _ _ c.from_residual.result (λ e h. subst (λ r. (r ≡ OutOfMemory) ⊎ AreEdgesRefused g.N.PartialEq.eq g.C.Number.value g.C.Number.fits g.IC.IntoIterator.into_iter_gives g.IC.IntoIter.Iterator.next_gives c.args.names.now.keys c.args.capacities r) (sym h) refused) c.from_residual.ensures.1
+    ]) c.from_residual.ensures.1
 
 pub put_edge-requires-clause-unused : goal.put_edge-requires-clause-unused
 put_edge-requires-clause-unused g c = c.edges.invariant.unused
