@@ -36,22 +36,6 @@ pub returns-clause-capacities : goal.returns-clause-capacities
 returns-clause-capacities g c =
     (c.into_iter-edge-iterator.result, c.edges.yielded, c.into_iter-edge-iterator.ensures.into_iter_gives, (c.next.new.self, (c.edges.edge-iterator, c.edges.yielded_by, c.in-None.ensures.steps)), c.edges.invariant.accepted, c.edges.invariant.capacities)
 
-pub returns-in_err-sum-clause-refused : goal.returns-in_err-sum-clause-refused
-returns-in_err-sum-clause-refused g c =
-    let i = c.edges.invariant in
-    refused_as _ c.from_residual.result _ (elim c.in_err-sum.ensures.refused [
-      | inl r ↦ inl r
-      | inr r ↦ inr (
-        c.into_iter-edge-iterator.result,
-        c.edges.yielded,
-        c.in-Some.edge,
-        c.next.new.self,
-        c.into_iter-edge-iterator.ensures.into_iter_gives,
-        yields_more g.IC.IntoIter.Iterator.next_gives _ c.edges.yielded c.edges.edge-iterator c.next.new.self c.in-Some.edge c.edges.yielded_by c.in-Some.ensures.steps,
-        record { accepted = i.accepted; why = r c.edges.yielded i.capacities },
-      )
-    ]) c.from_residual.ensures.1
-
 pub put_edge-requires-clause-unused : goal.put_edge-requires-clause-unused
 put_edge-requires-clause-unused g c = c.edges.invariant.unused
 
@@ -64,11 +48,23 @@ returns-clause-unused g c = c.edges.invariant.unused
 pub returns-clause-shape : goal.returns-clause-shape
 returns-clause-shape g c = c.edges.invariant.shape
 
-pub returns-in_err-sum-clause-unused : goal.returns-in_err-sum-clause-unused
-returns-in_err-sum-clause-unused g c = IfOk-from_err _ _ c.from_residual.ensures.0
-
-pub returns-in_err-sum-clause-shape : goal.returns-in_err-sum-clause-shape
-returns-in_err-sum-clause-shape g c = IfOk-from_err _ _ c.from_residual.ensures.0
-
-pub returns-in_err-sum-clause-capacities : goal.returns-in_err-sum-clause-capacities
-returns-in_err-sum-clause-capacities g c = IfOk-from_err _ _ c.from_residual.ensures.0
+pub returns-in_err-sum : goal.returns-in_err-sum
+returns-in_err-sum g c = record {
+  refused =
+      let i = c.edges.invariant in
+      refused_as _ c.from_residual.result _ (elim c.in_err-sum.ensures.refused [
+        | inl r ↦ inl r
+        | inr r ↦ inr (
+          c.into_iter-edge-iterator.result,
+          c.edges.yielded,
+          c.in-Some.edge,
+          c.next.new.self,
+          c.into_iter-edge-iterator.ensures.into_iter_gives,
+          yields_more g.IC.IntoIter.Iterator.next_gives _ c.edges.yielded c.edges.edge-iterator c.next.new.self c.in-Some.edge c.edges.yielded_by c.in-Some.ensures.steps,
+          record { accepted = i.accepted; why = r c.edges.yielded i.capacities },
+        )
+      ]) c.from_residual.ensures.1;
+  unused = IfOk-from_err _ _ c.from_residual.ensures.0;
+  shape = IfOk-from_err _ _ c.from_residual.ensures.0;
+  capacities = IfOk-from_err _ _ c.from_residual.ensures.0;
+}
