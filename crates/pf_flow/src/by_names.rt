@@ -1,10 +1,11 @@
 //! Greatest flows between vertices with names.
 
-ghost use Rattle.std.specs.Prelude.{◌≡◌, ◌⊎◌, ◌<◌, ◌++◌, ◌∷◌, [], ℕ, List, Some, true, length, slice_get, pos, OnOk, IfOk, IfErr};
+ghost use Rattle.std.specs.Prelude.{◌≡◌, ◌⊎◌, ◌<◌, ◌++◌, ◌∷◌, [], List, true, length, pos, OnOk, IfOk, IfErr};
 ghost use Rattle.std.specs.Iterator.{IsFiniteIterable};
 ghost use Rattle.std.specs.List.{AllZip};
 ghost use Rattle.pf_base.specs.declared.error.PathError.TheVariants.{OutOfMemory, UnknownVertex};
 ghost use Rattle.pf_residual.specs.Networks.{KeepsShape, HasCapacities, IsFresh, capacity_sum};
+ghost use Rattle.pf_residual.specs.Listings.{RunBelow};
 ghost use Rattle.pf_residual.specs.NamedNetworks.{names_of, number_of, given_capacities, IsKnown, IsNamed, AreAccepted, IsEdgeRefused, GivenEdges, HasGivenCapacities, AreEdgesRefused, IsAnsweredFor, IsRefusedFor};
 ghost use Rattle.pf_residual.specs.Internal.Filling.{IsUnused};
 
@@ -142,7 +143,7 @@ where
     N: Copy,
     C: SignedCost,
     A: Allocator + Copy,
-    requires inside { (i : ℕ) (e : (ℕ × ℕ) × C) → slice_get numbered.now i ≡ Some e → (e.0.0 < length names.now) × (e.0.1 < length names.now) }
+    requires inside { RunBelow (length names.now) numbered.now }
     ensures named { IfOk result (λ edges. AllZip (IsNamed names.now) numbered.now edges.items) }
     ensures refused { IfErr result (λ e. e ≡ OutOfMemory) }
 {
@@ -164,8 +165,8 @@ where
     N: Copy,
     C: SignedCost,
     A: Allocator + Copy,
-    requires flows { (i : ℕ) (e : (ℕ × ℕ) × C) → slice_get answer.now.0.items i ≡ Some e → (e.0.0 < length names.now) × (e.0.1 < length names.now) }
-    requires cut { (i : ℕ) (e : (ℕ × ℕ) × C) → slice_get answer.now.2.items i ≡ Some e → (e.0.0 < length names.now) × (e.0.1 < length names.now) }
+    requires flows { RunBelow (length names.now) answer.now.0.items }
+    requires cut { RunBelow (length names.now) answer.now.2.items }
     ensures named { IfOk result (λ named. AllZip (IsNamed names.now) answer.now.0.items named.0.items × (named.1 ≡ answer.now.1) × AllZip (IsNamed names.now) answer.now.2.items named.2.items) }
     ensures refused { IfErr result (λ e. e ≡ OutOfMemory) }
 {

@@ -9,7 +9,7 @@ use Rattle.pf_base.specs.declared.error.PathError.{PathError}
 use Rattle.pf_base.specs.declared.error.PathError.TheVariants.{OutOfMemory}
 use Rattle.pf_residual.specs.Capacities.{IsChangeRefused}
 use Rattle.pf_residual.specs.Flows.{PairTable, replaced, pair_sum, sum_to}
-use Rattle.pf_residual.specs.Listings.{ListsFlows, ListsLeastCut, IsFlowAnswer}
+use Rattle.pf_residual.specs.Listings.{RunBelow, ListsFlows, ListsLeastCut, IsFlowAnswer}
 use Rattle.pf_residual.specs.Networks.{Network, capacity, ChangesCapacity, HasCapacities, HasCutOfTotal, IsFresh, IsNetwork, KeepsCapacities, KeepsShape}
 use Rattle.pf_residual.specs.NamedNetworks.{number_of, given_capacities, with_capacity_of, IsAnswer, IsKnown, IsNamed, IsAccepted, AreAccepted, IsEdgeRefused}
 use Rattle.pf_residual.specs.Internal.Filling.{IsUnused}
@@ -128,10 +128,10 @@ none_zip R (x ∷ xs) ys z e = cc
 
 module _ {N C : Type 0} (names : List N) (M : Network) (value : C → ℤ) (n : M.vertices ≡ length names) where
   -- listed pairs are pairs of names
-  pub flows_inside : (flows : List ((ℕ × ℕ) × C)) → ListsFlows value M flows → (i : ℕ) (e : (ℕ × ℕ) × C) → slice_get flows i ≡ Some e → (e.0.0 < length names) × (e.0.1 < length names)
+  pub flows_inside : (flows : List ((ℕ × ℕ) × C)) → ListsFlows value M flows → RunBelow (length names) flows
   flows_inside flows h i e k = let s = h.sound i e k in (subst (λ m. e.0.0 < m) n s.0, subst (λ m. e.0.1 < m) n s.1)
 
-  pub cut_inside : (cut : List ((ℕ × ℕ) × C)) → ListsLeastCut value M cut → (M.source ≡ M.sink → cut ≡ []) → (i : ℕ) (e : (ℕ × ℕ) × C) → slice_get cut i ≡ Some e → (e.0.0 < length names) × (e.0.1 < length names)
+  pub cut_inside : (cut : List ((ℕ × ℕ) × C)) → ListsLeastCut value M cut → (M.source ≡ M.sink → cut ≡ []) → RunBelow (length names) cut
   cut_inside cut h z i e k = elim (cases_eq M.source M.sink) as (λ _. (e.0.0 < length names) × (e.0.1 < length names)) [
     | inl q ↦ absurd (none_in i e (subst (λ xs. slice_get xs i ≡ Some e) (z q) k))
     | inr d ↦ (let s = (h d).2.sound i e k in (subst (λ m. e.0.0 < m) n s.0, subst (λ m. e.0.1 < m) n s.1))

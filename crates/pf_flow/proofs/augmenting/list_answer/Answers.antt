@@ -6,7 +6,7 @@ use Rattle.pf_residual.specs.Listings.{ListsFlows, ListsCut}
 use Rattle.pf_residual.specs.Networks.{Network}
 use Rattle.pf_residual.specs.Internal.Levels.{IsStuck, leaves, reached}
 use Rattle.pf_flow.proofs.CutOfLevels.{cut_of_levels}
-use Rattle.pf_residual.proofs.NamedLemmas.{refused_as}
+use Rattle.pf_residual.proofs.NamedLemmas.{flows_inside, refused_as}
 use Rattle.pf_flow.proofs.FilterLemmas.{cut_of_flows}
 use Rattle.pf_flow.proofs.augmenting.list_answer.Goals as goal
 
@@ -14,22 +14,10 @@ pub list_flows-requires : goal.list_flows-requires
 list_flows-requires g c = c.requires.network
 
 pub list_cut-requires : goal.list_cut-requires
-list_cut-requires g c = record {
-  from =
-      λ i a b x h.
-      let listed : ListsFlows g.C.Number.value (g.S.FlowStore.network c.args.store.now) c.in_ok-flows.flows.items = c.in_ok-flows.ensures.listed in
-      let s = (listed.sound i ((a, b), x) (ap (λ xs. slice_get xs i) (sym c.deref-2.ensures.value) ∙ h)).0 in
-      let e = ap length c.deref.ensures.value in
-      let len = c.requires.stuck.len in
-      omega (arith, s, e, len);
-  to =
-      λ i a b x h.
-      let listed : ListsFlows g.C.Number.value (g.S.FlowStore.network c.args.store.now) c.in_ok-flows.flows.items = c.in_ok-flows.ensures.listed in
-      let s = (listed.sound i ((a, b), x) (ap (λ xs. slice_get xs i) (sym c.deref-2.ensures.value) ∙ h)).1 in
-      let e = ap length c.deref.ensures.value in
-      let len = c.requires.stuck.len in
-      omega (arith, s, e, len);
-}
+list_cut-requires g c =
+    let len = ap length c.deref.ensures.value ∙ c.requires.stuck.len in
+    let below = flows_inside c.deref.result.now (g.S.FlowStore.network c.args.store.now) g.C.Number.value (sym len) c.in_ok-flows.flows.items c.in_ok-flows.ensures.listed in
+    record { inside = λ i e h. below i e (ap (λ xs. slice_get xs i) (sym c.deref-2.ensures.value) ∙ h) }
 
 -- a search that does not reach the sink comes from elsewhere
 apart_of : {N : Network} {levels parents : List ℕ} → N.source < N.vertices → IsStuck N levels parents → N.source ≡ N.sink → ⊥

@@ -1,6 +1,7 @@
-use Rattle.std.proofs.Common.{◌∙◌, ◌<◌, inl, refl, sym, ap, subst, length}
+use Rattle.std.proofs.Common.{◌∙◌, inl, refl, sym, ap, subst, length}
 use Rattle.std.specs.List.{AllZip}
 use Rattle.std.proofs.lemmas.Result.{IfOk-from_err}
+use Rattle.pf_residual.specs.Listings.{RunBelow}
 use Rattle.pf_residual.specs.NamedNetworks.{IsNamed}
 use Rattle.pf_residual.proofs.FillLemmas.{network_of_unused}
 use Rattle.pf_residual.proofs.NamedLemmas.{answer_of, cut_inside, err_gives, flows_inside, ok_gives, refused_as}
@@ -15,8 +16,8 @@ name_answer-requires-clause-flows g c =
     let kept = c.augment.ensures.kept.shape in
     let flows = c.in_ok-answer.ensures.answer.flows (kept.details ∙ shape.details ∙ c.requires.details) in
     let vertices = kept.vertices ∙ shape.vertices ∙ c.requires.vertices in
-    λ i e k. subst (λ ks. (e.0.0 < length ks) × (e.0.1 < length ks)) (sym c.as_slice.ensures.keys)
-    (flows_inside c.args.names.now.keys (g.EK.FlowStore.network c.augment.new.self) g.C.Number.value vertices c.in_ok-answer.answer.0.items flows i e k)
+    subst (λ ks. RunBelow (length ks) c.in_ok-answer.answer.0.items) (sym c.as_slice.ensures.keys)
+    (flows_inside c.args.names.now.keys (g.EK.FlowStore.network c.augment.new.self) g.C.Number.value vertices c.in_ok-answer.answer.0.items flows)
 
 pub name_answer-requires-clause-cut : goal.name_answer-requires-clause-cut
 name_answer-requires-clause-cut g c =
@@ -25,8 +26,8 @@ name_answer-requires-clause-cut g c =
     let a = c.in_ok-answer.ensures.answer in
     let cut = a.cut_edges (kept.details ∙ shape.details ∙ c.requires.details) in
     let vertices = kept.vertices ∙ shape.vertices ∙ c.requires.vertices in
-    λ i e k. subst (λ ks. (e.0.0 < length ks) × (e.0.1 < length ks)) (sym c.as_slice.ensures.keys)
-    (cut_inside c.args.names.now.keys (g.EK.FlowStore.network c.augment.new.self) g.C.Number.value vertices c.in_ok-answer.answer.2.items cut (λ q. (a.idle q).2) i e k)
+    subst (λ ks. RunBelow (length ks) c.in_ok-answer.answer.2.items) (sym c.as_slice.ensures.keys)
+    (cut_inside c.args.names.now.keys (g.EK.FlowStore.network c.augment.new.self) g.C.Number.value vertices c.in_ok-answer.answer.2.items cut (λ q. (a.idle q).2))
 
 pub returns : goal.returns
 returns g c = record {
