@@ -1,9 +1,8 @@
 //! Greatest flows along shortest augmenting paths.
 
-ghost use Rattle.std.specs.Prelude.{◌≡◌, ◌≢◌, ◌≤◌, ◌+◌, ◌*◌, OnOk, IfOk, IfErr};
+ghost use Rattle.std.specs.Prelude.{◌≡◌, ◌≢◌, ◌≤◌, ◌+◌, OnOk, IfOk, IfErr};
 ghost use Rattle.pf_base.specs.declared.error.PathError.TheVariants.{OutOfMemory};
-ghost use Rattle.pf_residual.specs.Flows.{pair_count};
-ghost use Rattle.pf_residual.specs.Networks.{Network, capacity, KeepsCapacities, IsNetwork, HasCutOfTotal};
+ghost use Rattle.pf_residual.specs.Networks.{Network, path_bound, KeepsCapacities, IsNetwork, HasCutOfTotal};
 ghost use Rattle.pf_residual.specs.Listings.{IsFlowAnswer};
 ghost use Rattle.pf_residual.specs.Internal.Levels.{IsStuck};
 
@@ -36,7 +35,7 @@ where
     ensures stuck { OnOk result (IsStuck (S.network store.new) found.new.levels.items found.new.parents.items) }
     ensures refused { IfErr result (λ e. e ≡ OutOfMemory) }
     ensures ticked { tally.old ≤ tally.new }
-    ensures paths { tally.new ≤ tally.old + (S.network store.old).vertices * pair_count (S.network store.old).vertices (capacity (S.network store.old)) }
+    ensures paths { tally.new ≤ tally.old + path_bound (S.network store.old) }
 {
     let size = store.size();
     let sink = store.sink();
@@ -94,7 +93,7 @@ where
     ensures answer { IfOk result (IsFlowAnswer C.value (S.network store.new)) }
     ensures refused { IfErr result (λ e. e ≡ OutOfMemory) }
     ensures ticked { tally.old ≤ tally.new }
-    ensures paths { tally.new ≤ tally.old + (S.network store.old).vertices * pair_count (S.network store.old).vertices (capacity (S.network store.old)) }
+    ensures paths { tally.new ≤ tally.old + path_bound (S.network store.old) }
 {
     saturate(store, alloc, found, tally)?;
     list_answer(store, alloc, found)
@@ -117,7 +116,7 @@ where
     ensures answer { IfOk result (IsFlowAnswer C.value (S.network store.new)) }
     ensures refused { IfErr result (λ e. e ≡ OutOfMemory) }
     ensures ticked { tally.old ≤ tally.new }
-    ensures paths { tally.new ≤ tally.old + (S.network store.old).vertices * pair_count (S.network store.old).vertices (capacity (S.network store.old)) }
+    ensures paths { tally.new ≤ tally.old + path_bound (S.network store.old) }
 {
     if store.source() == store.sink() {
         return Ok((Vec::new(alloc), store.total_capacity(), Vec::new(alloc)));

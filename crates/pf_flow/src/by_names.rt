@@ -6,7 +6,7 @@ ghost use Rattle.std.specs.List.{AllZip};
 ghost use Rattle.pf_base.specs.declared.error.PathError.TheVariants.{OutOfMemory, UnknownVertex};
 ghost use Rattle.pf_residual.specs.Networks.{KeepsShape, HasCapacities, IsFresh, capacity_sum};
 ghost use Rattle.pf_residual.specs.Listings.{RunBelow};
-ghost use Rattle.pf_residual.specs.NamedNetworks.{names_of, number_of, given_capacities, IsKnown, IsNamed, AreAccepted, IsEdgeRefused, GivenEdges, HasGivenCapacities, AreEdgesRefused, IsAnsweredFor, IsRefusedFor};
+ghost use Rattle.pf_residual.specs.NamedNetworks.{names_of, number_of, given_capacities, IsKnown, IsNamed, IsNamedAnswer, AreAccepted, IsEdgeRefused, GivenEdges, HasGivenCapacities, AreEdgesRefused, IsAnsweredFor, IsRefusedFor};
 ghost use Rattle.pf_residual.specs.Internal.Filling.{IsUnused};
 
 use crate::dense_capacity::DenseCapacity;
@@ -167,7 +167,7 @@ where
     A: Allocator + Copy,
     requires flows { RunBelow (length names.now) answer.now.0.items }
     requires cut { RunBelow (length names.now) answer.now.2.items }
-    ensures named { IfOk result (λ named. AllZip (IsNamed names.now) answer.now.0.items named.0.items × (named.1 ≡ answer.now.1) × AllZip (IsNamed names.now) answer.now.2.items named.2.items) }
+    ensures named { IfOk result (IsNamedAnswer names.now answer.now) }
     ensures refused { IfErr result (λ e. e ≡ OutOfMemory) }
 {
     let flows = name_edges(alloc, names, &answer.0)?;

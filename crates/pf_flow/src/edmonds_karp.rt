@@ -1,9 +1,9 @@
 //! Greatest flows and least cuts under changing capacities.
 
-ghost use Rattle.std.specs.Prelude.{◌≡◌, ◌≤◌, ◌<◌, ◌+◌, ◌*◌, ◌≤ℤ◌, pos, OnOk, OnErr, IfOk, IfErr};
+ghost use Rattle.std.specs.Prelude.{◌≡◌, ◌≤◌, ◌<◌, ◌+◌, ◌≤ℤ◌, pos, OnOk, OnErr, IfOk, IfErr};
 ghost use Rattle.pf_base.specs.declared.error.PathError.TheVariants.{OutOfMemory};
-ghost use Rattle.pf_residual.specs.Flows.{Same, pair_count};
-ghost use Rattle.pf_residual.specs.Networks.{Network, capacity, capacity_sum, Agrees, KeepsCapacities, ChangesCapacity, IsNetwork, IsFresh, HasCapacities, HasCutOfTotal};
+ghost use Rattle.pf_residual.specs.Flows.{Same};
+ghost use Rattle.pf_residual.specs.Networks.{Network, path_bound, capacity_sum, Agrees, KeepsCapacities, ChangesCapacity, IsNetwork, IsFresh, HasCapacities, HasCutOfTotal};
 ghost use Rattle.pf_residual.specs.Listings.{ListsFlows, IsFlowAnswer};
 ghost use Rattle.pf_residual.specs.Capacities.{square_table, AreSquare, OfSide, FallsByExcess, AreRefused, IsChangeRefused};
 
@@ -174,7 +174,7 @@ pub trait EdmondsKarp<C: SignedCost>: FlowStore<C> {
         ensures answer { IfOk result (IsFlowAnswer C.value (Self.network self.new)) }
         ensures refused { IfErr result (λ e. e ≡ OutOfMemory) }
         ensures ticked { tally.old ≤ tally.new }
-        ensures paths { tally.new ≤ tally.old + (Self.network self.old).vertices * pair_count (Self.network self.old).vertices (capacity (Self.network self.old)) }
+        ensures paths { tally.new ≤ tally.old + path_bound (Self.network self.old) }
     {
         augment_flow(self, alloc, tally)
     }

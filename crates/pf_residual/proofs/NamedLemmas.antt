@@ -11,7 +11,7 @@ use Rattle.pf_residual.specs.Capacities.{IsChangeRefused}
 use Rattle.pf_residual.specs.Flows.{PairTable, replaced, pair_sum, sum_to}
 use Rattle.pf_residual.specs.Listings.{RunBelow, ListsFlows, ListsLeastCut, IsFlowAnswer}
 use Rattle.pf_residual.specs.Networks.{Network, capacity, ChangesCapacity, HasCapacities, HasCutOfTotal, IsFresh, IsNetwork, KeepsCapacities, KeepsShape}
-use Rattle.pf_residual.specs.NamedNetworks.{number_of, given_capacities, with_capacity_of, IsAnswer, IsKnown, IsNamed, IsAccepted, AreAccepted, IsEdgeRefused}
+use Rattle.pf_residual.specs.NamedNetworks.{number_of, given_capacities, with_capacity_of, IsAnswer, IsKnown, IsNamed, IsNamedAnswer, IsAccepted, AreAccepted, IsEdgeRefused}
 use Rattle.pf_residual.specs.Internal.Filling.{IsUnused}
 use Rattle.pf_residual.proofs.SumLemmas.{sum_ext}
 use Rattle.pf_residual.proofs.FillLemmas.{replaced_cases}
@@ -142,24 +142,22 @@ module _ {N C : Type 0} (names : List N) (M : Network) (value : C → ℤ) (n : 
       none_in (suc i) e h = cc
 
 -- What is answered for names, from what is answered for numbers: of a new store (L), with the capacities of the edges (M), and with a greatest flow (O).
-module _ {N C : Type 0} (eq : N → N → Bool) (value : C → ℤ) (names : List N) (fits : ℤ → Type 0) {L M O : Network} {size from to : ℕ}
-    (fresh : IsFresh size from to L) (shape : KeepsShape L M) (kept : KeepsCapacities M O) where
-  pub answer_of : (source sink : N) (edges : List ((N × N) × C)) {A : Type 0} (answer : Vec ((ℕ × ℕ) × C) A × C × Vec ((ℕ × ℕ) × C) A) (carried leaving : List ((N × N) × C)) (total : ℤ)
-      → size ≡ length names → from ≡ number_of eq names source → to ≡ number_of eq names sink
-      → HasCapacities (given_capacities eq value names edges) M → IsNetwork fits O → HasCutOfTotal O → IsFlowAnswer value O answer → total ≡ value answer.1
-      → AllZip (IsNamed names) answer.0.items carried → AllZip (IsNamed names) answer.2.items leaving
-      → IsAnswer eq value names fits source sink edges carried total leaving O
-  answer_of source sink edges answer carried leaving total s f t h w c a same zf zc = record {
-    vertices = kept.shape.vertices ∙ shape.vertices ∙ fresh.vertices ∙ s;
-    source = kept.shape.source ∙ shape.source ∙ fresh.source ∙ f;
-    sink = kept.shape.sink ∙ shape.sink ∙ fresh.sink ∙ t;
+module _ {N C : Type 0} (eq : N → N → Bool) (value : C → ℤ) (names : List N) (fits : ℤ → Type 0) (source sink : N) {L M O : Network}
+    (fresh : IsFresh (length names) (number_of eq names source) (number_of eq names sink) L) (shape : KeepsShape L M) (kept : KeepsCapacities M O) where
+  pub answer_of : (edges : List ((N × N) × C)) {A : Type 0} (answer : Vec ((ℕ × ℕ) × C) A × C × Vec ((ℕ × ℕ) × C) A) (named : Vec ((N × N) × C) A × C × Vec ((N × N) × C) A)
+      → HasCapacities (given_capacities eq value names edges) M → IsNetwork fits O → HasCutOfTotal O → IsFlowAnswer value O answer → IsNamedAnswer names answer named
+      → IsAnswer eq value names fits source sink edges named.0.items (value named.1) named.2.items O
+  answer_of edges answer named h w c a z = record {
+    vertices = kept.shape.vertices ∙ shape.vertices ∙ fresh.vertices;
+    source = kept.shape.source ∙ shape.source ∙ fresh.source;
+    sink = kept.shape.sink ∙ shape.sink ∙ fresh.sink;
     capacities = record { at = λ a b l m. sym (kept.capacities.at a b) ∙ h.at a b (subst (λ k. a < k) kept.shape.vertices l) (subst (λ k. b < k) kept.shape.vertices m) };
     network = w;
     worth = c;
-    total = same ∙ a.total;
-    flows = (answer.0.items, a.flows (kept.shape.details ∙ shape.details ∙ fresh.details), zf);
-    cut = (answer.2.items, a.cut_edges (kept.shape.details ∙ shape.details ∙ fresh.details), zc);
-    idle = λ e. let i = a.idle e in (none_zip (IsNamed names) answer.0.items carried zf i.0, same ∙ i.1, none_zip (IsNamed names) answer.2.items leaving zc i.2);
+    total = ap value z.total ∙ a.total;
+    flows = (answer.0.items, a.flows (kept.shape.details ∙ shape.details ∙ fresh.details), z.flows);
+    cut = (answer.2.items, a.cut_edges (kept.shape.details ∙ shape.details ∙ fresh.details), z.cut);
+    idle = λ e. let i = a.idle e in (none_zip (IsNamed names) answer.0.items named.0.items z.flows i.0, ap value z.total ∙ i.1, none_zip (IsNamed names) answer.2.items named.2.items z.cut i.2);
   }
 
 -- why a call is refused, from why the call in it was

@@ -19,6 +19,12 @@ pub record IsNamed {N C : Type 0} (names : List N) (e : (ℕ × ℕ) × C) (f : 
 abbrev pub AreNamed : {N C : Type 0} → List N → (List ((ℕ × ℕ) × C) → Type 0) → List ((N × N) × C) → Type 0
 AreNamed {C = C} names P edges = (numbered : List ((ℕ × ℕ) × C)) × P numbered × AllZip (IsNamed names) numbered edges
 
+-- flows, a total and a cut: the same with the names of the vertices
+pub record IsNamedAnswer {N C A : Type 0} (names : List N) (answer : Vec ((ℕ × ℕ) × C) A × C × Vec ((ℕ × ℕ) × C) A) (named : Vec ((N × N) × C) A × C × Vec ((N × N) × C) A) : Type 0 where
+  pub flows : AllZip (IsNamed names) answer.0.items named.0.items
+  pub total : named.1 ≡ answer.1
+  pub cut : AllZip (IsNamed names) answer.2.items named.2.items
+
 module _ {N : Type 0} (eq : N → N → Bool) where
   -- the vertices, each once, in the order in which they first stand
   abbrev pub names_of : List N → List N

@@ -1,8 +1,7 @@
-use Rattle.std.proofs.Common.{◌∙◌, inl, refl, sym, ap, subst, length}
-use Rattle.std.specs.List.{AllZip}
+use Rattle.std.proofs.Common.{◌∙◌, inl, sym, subst, length}
 use Rattle.std.proofs.lemmas.Result.{IfOk-from_err}
 use Rattle.pf_residual.specs.Listings.{RunBelow}
-use Rattle.pf_residual.specs.NamedNetworks.{IsNamed}
+use Rattle.pf_residual.specs.NamedNetworks.{IsNamedAnswer}
 use Rattle.pf_residual.proofs.FillLemmas.{network_of_unused}
 use Rattle.pf_residual.proofs.NamedLemmas.{answer_of, cut_inside, err_gives, flows_inside, ok_gives, refused_as}
 use Rattle.pf_flow.proofs.by_names.flows_of.Goals as goal
@@ -33,13 +32,10 @@ pub returns : goal.returns
 returns g c = record {
   answer =
       ok_gives c.name_answer.result c.name_answer.ensures.named (λ named n source sink fresh.
-      let value = g.C.Number.value in
       let keys = c.args.names.now.keys in
       let p = c.in_ok-put_edges.ensures.capacities in
       let a = c.in_ok-answer.ensures in
-      let numbered = c.in_ok-answer.answer in
-      let flows-named : AllZip (IsNamed keys) numbered.0.items named.0.items = subst (λ ks. AllZip (IsNamed ks) numbered.0.items named.0.items) c.as_slice.ensures.keys n.0 in
-      let cut-named : AllZip (IsNamed keys) numbered.2.items named.2.items = subst (λ ks. AllZip (IsNamed ks) numbered.2.items named.2.items) c.as_slice.ensures.keys n.2 in (
+      let numbered = c.in_ok-answer.answer in (
         p.0,
         p.1,
         p.2,
@@ -47,8 +43,8 @@ returns g c = record {
         p.4,
         (
           g.EK.FlowStore.network c.augment.new.self,
-          answer_of g.N.PartialEq.eq value keys g.C.Number.fits fresh c.in_ok-put_edges.ensures.shape c.augment.ensures.kept source sink p.1 numbered named.0.items named.2.items (value named.1)
-              refl refl refl p.5 c.augment.ensures.network a.cut a.answer (ap value n.1) flows-named cut-named,
+          answer_of g.N.PartialEq.eq g.C.Number.value keys g.C.Number.fits source sink fresh c.in_ok-put_edges.ensures.shape c.augment.ensures.kept p.1 numbered named
+              p.5 c.augment.ensures.network a.cut a.answer (subst (λ ks. IsNamedAnswer ks numbered named) c.as_slice.ensures.keys n),
         ),
       ));
   refused = err_gives c.name_answer.result c.name_answer.ensures.refused (λ e why. inl why);
