@@ -6,7 +6,7 @@ ghost use Rattle.std.specs.List.{AllZip};
 ghost use Rattle.pf_base.specs.declared.error.PathError.TheVariants.{OutOfMemory, UnknownVertex};
 ghost use Rattle.pf_residual.specs.Networks.{KeepsShape, HasCapacities, IsFresh, capacity_sum};
 ghost use Rattle.pf_residual.specs.Listings.{RunBelow};
-ghost use Rattle.pf_residual.specs.NamedNetworks.{names_of, number_of, given_capacities, IsKnown, IsNamed, IsNamedAnswer, AreAccepted, IsEdgeRefused, GivenEdges, HasGivenCapacities, AreEdgesRefused, IsAnsweredFor, IsRefusedFor};
+ghost use Rattle.pf_residual.specs.NamedNetworks.{names_of, number_of, IsKnown, IsNamed, IsNamedAnswer, HoldsEdges, IsFirstRefused, GivenEdges, HoldsGivenEdges, AreEdgesRefused, IsAnsweredFor, IsRefusedFor};
 ghost use Rattle.pf_residual.specs.Internal.Filling.{IsUnused};
 
 use crate::dense_capacity::DenseCapacity;
@@ -92,12 +92,10 @@ where
     ensures unused { OnOk result (IsUnused C.fits (S.network store.new)) }
     ensures sum { IfOk result (λ sum. C.value sum ≡ capacity_sum (S.network store.new)) }
     ensures shape { OnOk result (KeepsShape (S.network store.old) (S.network store.new)) }
-    ensures capacities { OnOk result ((edges : List ((N × N) × C)) → HasCapacities (given_capacities N.eq C.value names.now.keys edges) (S.network store.old)
-        → HasCapacities (given_capacities N.eq C.value names.now.keys (edges ++ edge ∷ [])) (S.network store.new)) }
-    ensures accepted { OnOk result ((edges : List ((N × N) × C)) → HasCapacities (given_capacities N.eq C.value names.now.keys edges) (S.network store.old)
-        → AreAccepted N.eq C.value names.now.keys C.fits (λ a b. pos 0) edges → AreAccepted N.eq C.value names.now.keys C.fits (λ a b. pos 0) (edges ++ edge ∷ [])) }
-    ensures refused { IfErr result (λ e. (e ≡ OutOfMemory) ⊎ ((edges : List ((N × N) × C)) → HasCapacities (given_capacities N.eq C.value names.now.keys edges) (S.network store.old)
-        → IsEdgeRefused N.eq C.value names.now.keys C.fits (given_capacities N.eq C.value names.now.keys edges) edge e)) }
+    ensures held { OnOk result ((edges : List ((N × N) × C)) → HoldsEdges N.eq C.value names.now.keys C.fits edges (S.network store.old)
+        → HoldsEdges N.eq C.value names.now.keys C.fits (edges ++ edge ∷ []) (S.network store.new)) }
+    ensures refused { IfErr result (λ e. (e ≡ OutOfMemory) ⊎ ((edges : List ((N × N) × C)) → HoldsEdges N.eq C.value names.now.keys C.fits edges (S.network store.old)
+        → IsFirstRefused N.eq C.value names.now.keys C.fits edges edge e)) }
 {
     let ((from, to), capacity) = edge;
     let from = known_number(names, &from)?;
@@ -123,7 +121,7 @@ where
     requires vertices { (S.network store.old).vertices ≡ length names.now.keys }
     ensures unused { OnOk result (IsUnused C.fits (S.network store.new)) }
     ensures shape { OnOk result (KeepsShape (S.network store.old) (S.network store.new)) }
-    ensures capacities { OnOk result (HasGivenCapacities (⟦<IC as NamedEdges<N, C>>⟧.given names.now.keys capacities) (S.network store.new)) }
+    ensures held { OnOk result (HoldsGivenEdges (⟦<IC as NamedEdges<N, C>>⟧.given names.now.keys capacities) (S.network store.new)) }
     ensures refused { IfErr result (λ e. (e ≡ OutOfMemory) ⊎ AreEdgesRefused (⟦<IC as NamedEdges<N, C>>⟧.given names.now.keys capacities) e) }
 {
     let mut sum = C::zero();

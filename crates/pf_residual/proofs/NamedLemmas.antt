@@ -11,7 +11,7 @@ use Rattle.pf_residual.specs.Capacities.{IsChangeRefused}
 use Rattle.pf_residual.specs.Flows.{PairTable, replaced, pair_sum, sum_to}
 use Rattle.pf_residual.specs.Listings.{RunBelow, ListsFlows, ListsLeastCut, IsFlowAnswer}
 use Rattle.pf_residual.specs.Networks.{Network, capacity, ChangesCapacity, HasCapacities, HasCutOfTotal, IsFresh, IsNetwork, KeepsCapacities, KeepsShape}
-use Rattle.pf_residual.specs.NamedNetworks.{number_of, given_capacities, with_capacity_of, IsAnswer, IsKnown, IsNamed, IsNamedAnswer, IsAccepted, AreAccepted, IsEdgeRefused}
+use Rattle.pf_residual.specs.NamedNetworks.{number_of, given_capacities, with_capacity_of, IsAnswer, IsKnown, IsNamed, IsNamedAnswer, IsAccepted, AreAccepted, HoldsEdges, IsFirstRefused}
 use Rattle.pf_residual.specs.Internal.Filling.{IsUnused}
 use Rattle.pf_residual.proofs.SumLemmas.{sum_ext}
 use Rattle.pf_residual.proofs.FillLemmas.{replaced_cases}
@@ -79,12 +79,19 @@ module _ {N C : Type 0} (eq : N → N → Bool) (value : C → ℤ) (names : Lis
           here (inl p) = p.2
           here (inr p) = absurd (p.0 refl refl)
 
+      -- a network that holds edges holds one more after the change
+      pub put_held : (fits : ℤ → Type 0) {O : Network} (edges : List ((N × N) × C)) → ChangesCapacity u v (value e.1) M O → IsUnused fits O → HoldsEdges eq value names fits edges M → HoldsEdges eq value names fits (edges ++ e ∷ []) O
+      put_held fits edges x w h = record {
+        accepted = accepted_more fits (λ a b. pos 0) edges e h.accepted (put_accepted fits (given_capacities eq value names edges) x w h.capacities);
+        capacities = put_given edges x h.capacities;
+      }
+
       -- why an edge whose capacity was refused is refused
       pub put_refused : (fits : ℤ → Type 0) (r : PathError) → IsChangeRefused fits M u v (value e.1) r
-          → (r ≡ OutOfMemory) ⊎ ((edges : List ((N × N) × C)) → HasCapacities (given_capacities eq value names edges) M → IsEdgeRefused eq value names fits (given_capacities eq value names edges) e r)
+          → (r ≡ OutOfMemory) ⊎ ((edges : List ((N × N) × C)) → HoldsEdges eq value names fits edges M → IsFirstRefused eq value names fits edges e r)
       put_refused fits r (inl h) = inl h
-      put_refused fits r (inr (inl h)) = inr (λ edges k. inr (inl (h.0, known, known', h.1)))
-      put_refused fits r (inr (inr h)) = inr (λ edges k. inr (inr (h.0, known, known', h.1, λ f. h.2 (subst fits (sym (put_sum_of (given_capacities eq value names edges) k)) f))))
+      put_refused fits r (inr (inl h)) = inr (λ edges k. record { accepted = k.accepted; why = inr (inl (h.0, known, known', h.1)) })
+      put_refused fits r (inr (inr h)) = inr (λ edges k. record { accepted = k.accepted; why = inr (inr (h.0, known, known', h.1, λ f. h.2 (subst fits (sym (put_sum_of (given_capacities eq value names edges) k.capacities)) f))) })
 
 -- what holds of a success, from two facts on it
 pub both_ok : {A E P Q T : Type 0} (r : Result A E) → OnOk r P → OnOk r Q → (P → Q → T) → OnOk r T

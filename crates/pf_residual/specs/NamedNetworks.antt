@@ -73,6 +73,11 @@ module _ {N : Type 0} (eq : N → N → Bool) where
       AreAccepted t [] = ⊤
       AreAccepted t (e ∷ es) = IsAccepted t e × AreAccepted (with_capacity_of t e) es
 
+      -- these edges are accepted in turn, and their capacities are those of the network
+      pub record HoldsEdges (edges : List ((N × N) × C)) (M : Network) : Type 0 where
+        pub accepted : AreAccepted (λ a b. pos 0) edges
+        pub capacities : HasCapacities (given_capacities edges) M
+
       -- why an edge is refused: one of its vertices is not known, or else its capacity is below 0, or else the sum of all capacities with it does not fit
       abbrev pub IsEdgeRefused : PairTable → (N × N) × C → PathError → Type 0
       IsEdgeRefused t e r =
@@ -103,15 +108,9 @@ pub record GivenEdges (N C : Type 0) : Type 1 where
   pub steps : Edges → Option ((N × N) × C) → Edges → Type 0
 
 module _ {N C : Type 0} (given : GivenEdges N C) where
-  -- the edges were given to the end, each was accepted, and P holds of them
-  abbrev pub AreTaken : (List ((N × N) × C) → Type 0) → Type 0
-  AreTaken P = (it : given.Edges) × (edges : List ((N × N) × C)) × given.becomes it × Drains given.steps it edges
-      × AreAccepted given.eq given.value given.names given.fits (λ a b. pos 0) edges
-      × P edges
-
-  -- the edges were given to the end, each was accepted, and these are the capacities
-  abbrev pub HasGivenCapacities : Network → Type 0
-  HasGivenCapacities M = AreTaken (λ edges. HasCapacities (given_capacities given.eq given.value given.names edges) M)
+  -- the edges were given to the end, and the network holds them
+  abbrev pub HoldsGivenEdges : Network → Type 0
+  HoldsGivenEdges M = (it : given.Edges) × (edges : List ((N × N) × C)) × given.becomes it × Drains given.steps it edges × HoldsEdges given.eq given.value given.names given.fits edges M
 
   -- some edges were given, of which the last is the first that is refused
   abbrev pub AreEdgesRefused : PathError → Type 0
@@ -121,7 +120,9 @@ module _ {N C : Type 0} (given : GivenEdges N C) where
   module _ (source sink : N) where
     -- the edges were given to the end, each was accepted, and this is the answer for them
     abbrev pub IsAnsweredFor : {A : Type 0} → Vec ((N × N) × C) A × C × Vec ((N × N) × C) A → Type 0
-    IsAnsweredFor answer = AreTaken (λ edges. (M : Network) × IsAnswer given.eq given.value given.names given.fits source sink edges answer.0.items (given.value answer.1) answer.2.items M)
+    IsAnsweredFor answer = (it : given.Edges) × (edges : List ((N × N) × C)) × given.becomes it × Drains given.steps it edges
+        × AreAccepted given.eq given.value given.names given.fits (λ a b. pos 0) edges
+        × ((M : Network) × IsAnswer given.eq given.value given.names given.fits source sink edges answer.0.items (given.value answer.1) answer.2.items M)
 
     -- why it is refused: for memory, or because source or sink is not known, or else for an edge
     abbrev pub IsRefusedFor : PathError → Type 0

@@ -33,18 +33,18 @@ returns g c = record {
   answer =
       ok_gives c.name_answer.result c.name_answer.ensures.named (λ named n source sink fresh.
       let keys = c.args.names.now.keys in
-      let p = c.in_ok-put_edges.ensures.capacities in
+      let p = c.in_ok-put_edges.ensures.held in
       let a = c.in_ok-answer.ensures in
       let numbered = c.in_ok-answer.answer in (
         p.0,
         p.1,
         p.2,
         p.3,
-        p.4,
+        p.4.accepted,
         (
           g.EK.FlowStore.network c.augment.new.self,
           answer_of g.N.PartialEq.eq g.C.Number.value keys g.C.Number.fits source sink fresh c.in_ok-put_edges.ensures.shape c.augment.ensures.kept p.1 numbered named
-              p.5 c.augment.ensures.network a.cut a.answer (subst (λ ks. IsNamedAnswer ks numbered named) c.as_slice.ensures.keys n),
+              p.4.capacities c.augment.ensures.network a.cut a.answer (subst (λ ks. IsNamedAnswer ks numbered named) c.as_slice.ensures.keys n),
         ),
       ));
   refused = err_gives c.name_answer.result c.name_answer.ensures.refused (λ e why. inl why);

@@ -13,8 +13,7 @@ edges-init g c =
       shape = (capacities_kept N).shape;
       unused = c.requires.unused;
       sum = zero ∙ sym (none_sum N c.requires.none);
-      capacities = c.requires.none;
-      accepted = tt;
+      held = record { accepted = tt; capacities = c.requires.none };
     }
 
 pub edges-preserved : goal.edges-preserved
@@ -25,16 +24,15 @@ edges-preserved g c =
       shape = shape_more i.shape e.shape;
       unused = e.unused;
       sum = e.sum;
-      capacities = e.capacities c.edges.yielded i.capacities;
-      accepted = e.accepted c.edges.yielded i.capacities i.accepted;
+      held = e.held c.edges.yielded i.held;
     }
 
 pub put_edge-requires-clause-vertices : goal.put_edge-requires-clause-vertices
 put_edge-requires-clause-vertices g c = c.edges.invariant.shape.vertices ∙ c.requires.vertices
 
-pub returns-clause-capacities : goal.returns-clause-capacities
-returns-clause-capacities g c =
-    (c.into_iter-edge-iterator.result, c.edges.yielded, c.into_iter-edge-iterator.ensures.into_iter_gives, (c.next.new.self, (c.edges.edge-iterator, c.edges.yielded_by, c.in-None.ensures.steps)), c.edges.invariant.accepted, c.edges.invariant.capacities)
+pub returns-clause-held : goal.returns-clause-held
+returns-clause-held g c =
+    (c.into_iter-edge-iterator.result, c.edges.yielded, c.into_iter-edge-iterator.ensures.into_iter_gives, (c.next.new.self, (c.edges.edge-iterator, c.edges.yielded_by, c.in-None.ensures.steps)), c.edges.invariant.held)
 
 pub put_edge-requires-clause-unused : goal.put_edge-requires-clause-unused
 put_edge-requires-clause-unused g c = c.edges.invariant.unused
@@ -61,10 +59,10 @@ returns-in_err-sum g c = record {
           c.next.new.self,
           c.into_iter-edge-iterator.ensures.into_iter_gives,
           yields_more g.IC.IntoIter.Iterator.next_gives _ c.edges.yielded c.edges.edge-iterator c.next.new.self c.in-Some.edge c.edges.yielded_by c.in-Some.ensures.steps,
-          record { accepted = i.accepted; why = r c.edges.yielded i.capacities },
+          r c.edges.yielded i.held,
         )
       ]) c.from_residual.ensures.1;
   unused = IfOk-from_err _ _ c.from_residual.ensures.0;
   shape = IfOk-from_err _ _ c.from_residual.ensures.0;
-  capacities = IfOk-from_err _ _ c.from_residual.ensures.0;
+  held = IfOk-from_err _ _ c.from_residual.ensures.0;
 }
