@@ -5,7 +5,7 @@ ghost use Rattle.pf_base.specs.declared.error.PathError.TheVariants.{OutOfMemory
 ghost use Rattle.pf_residual.specs.Flows.{Same};
 ghost use Rattle.pf_residual.specs.Networks.{Network, path_bound, capacity_sum, Agrees, KeepsCapacities, ChangesCapacity, IsNetwork, IsFresh, HasCapacities, HasCutOfTotal};
 ghost use Rattle.pf_residual.specs.Listings.{ListsFlows, IsFlowAnswer};
-ghost use Rattle.pf_residual.specs.Capacities.{square_table, AreSquare, OfSide, FallsByExcess, AreRefused, IsChangeRefused};
+ghost use Rattle.pf_residual.specs.Capacities.{square_table, matrix_table, AreSquare, OfSide, FallsByExcess, AreRefused, IsChangeRefused};
 
 use crate::augmenting::augment_flow;
 pub use crate::by_names::{edmonds_karp, edmonds_karp_dense, edmonds_karp_sparse};
@@ -72,9 +72,9 @@ pub trait EdmondsKarp<C: SignedCost>: FlowStore<C> {
         requires source { source < (M.table capacities).rows }
         requires sink { sink < (M.table capacities).rows }
         ensures fresh { IfOk result (λ s. IsFresh (M.table capacities).rows source sink (Self.network s)) }
-        ensures capacities { IfOk result (λ s. HasCapacities (square_table C.value (M.table capacities).rows (M.table capacities).values) (Self.network s)) }
+        ensures capacities { IfOk result (λ s. HasCapacities (matrix_table C.value (M.table capacities)) (Self.network s)) }
         ensures network { IfOk result (λ s. IsNetwork C.fits (Self.network s)) }
-        ensures refused { IfErr result (AreRefused C.fits (M.table capacities).rows (square_table C.value (M.table capacities).rows (M.table capacities).values)) }
+        ensures refused { IfErr result (AreRefused C.fits (M.table capacities).rows (matrix_table C.value (M.table capacities))) }
     {
         let capacities = capacities.into_matrix(alloc)?;
         let mut store = Self::new(alloc, capacities.rows(), source, sink)?;

@@ -2,6 +2,7 @@
 use Rattle.std.specs.Prelude.{◌≡◌, ◌≤ℤ◌, ◌+ℤ◌, ◌<ℤ◌, ◌<◌, ◌+◌, ◌*◌, ◌⊎◌, ℕ, ℤ, zero, suc, pos, List, [], ◌∷◌, length}
 use Rattle.pf_base.specs.declared.error.PathError.{PathError}
 use Rattle.pf_base.specs.declared.error.PathError.TheVariants.{OutOfMemory, CostOverflow, NegativeCapacity}
+use Rattle.pf_matrix.specs.Tables.{Table}
 use Rattle.pf_residual.specs.Flows.{PairTable, pair_sum, replaced, IsNonNegative}
 use Rattle.pf_residual.specs.Networks.{Network, capacity}
 
@@ -14,6 +15,10 @@ number value (x ∷ xs) (suc k) = number value xs k
 -- the numbers of a square's values by rows, the first row first
 abbrev pub square_table : {C : Type 0} → (C → ℤ) → ℕ → List C → PairTable
 square_table value n values a b = number value values (a * n + b)
+
+-- the numbers of the values of a square matrix
+abbrev pub matrix_table : {C : Type 0} → (C → ℤ) → Table C → PairTable
+matrix_table value matrix = square_table value matrix.rows matrix.values
 
 -- the values are those of a square by rows
 abbrev pub AreSquare : {C : Type 0} → List C → Type 0
