@@ -20,7 +20,7 @@ use std::alloc::Allocator;
 use std::hash::{BuildHasherDefault, FoldHasher, Hash};
 
 /// Edges between vertices with names, each with a capacity, that are given in turn: every iterable of
-/// them. The contracts below name by it what they are.
+/// them. Contracts speak of edges by it, and no caller has to name it.
 pub trait NamedEdges<N, C> {
     // The vertices with these names, and these edges.
     ghost given: { List N → Self → GivenEdges N C };
