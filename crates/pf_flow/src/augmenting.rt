@@ -1,10 +1,9 @@
 //! Greatest flows along shortest augmenting paths.
 
-ghost use Rattle.std.specs.Prelude.{◌≡◌, ◌≢◌, ◌≤◌, ◌+◌, ◌*◌, pos, true, false, [], OnOk, IfOk, IfErr};
+ghost use Rattle.std.specs.Prelude.{◌≡◌, ◌≢◌, ◌≤◌, ◌+◌, OnOk, IfOk, IfErr};
 ghost use Rattle.pf_base.specs.declared.error.PathError.TheVariants.{OutOfMemory};
-ghost use Rattle.pf_residual.specs.Flows.{pair_count};
-ghost use Rattle.pf_residual.specs.Networks.{Network, capacity, KeepsCapacities, IsNetwork, HasCutOfTotal};
-ghost use Rattle.pf_residual.specs.Listings.{ListsFlows, ListsLeastCut};
+ghost use Rattle.pf_residual.specs.Networks.{Network, path_bound, KeepsCapacities, IsNetwork, HasCutOfTotal};
+ghost use Rattle.pf_residual.specs.Listings.{IsFlowAnswer};
 ghost use Rattle.pf_residual.specs.Internal.Levels.{IsStuck};
 
 use crate::cuts::list_cut;
@@ -36,7 +35,7 @@ where
     ensures stuck { OnOk result (IsStuck (S.network store.new) found.new.levels.items found.new.parents.items) }
     ensures refused { IfErr result (λ e. e ≡ OutOfMemory) }
     ensures ticked { tally.old ≤ tally.new }
-    ensures paths { tally.new ≤ tally.old + (S.network store.old).vertices * pair_count (S.network store.old).vertices (capacity (S.network store.old)) }
+    ensures paths { tally.new ≤ tally.old + path_bound (S.network store.old) }
 {
     let size = store.size();
     let sink = store.sink();
@@ -63,10 +62,7 @@ where
     A: Allocator + Copy,
     requires network { IsNetwork C.fits (S.network store.now) }
     requires stuck { IsStuck (S.network store.now) found.now.levels.items found.now.parents.items }
-    ensures total { IfOk result (λ answer. C.value answer.1 ≡ (S.network store.now).total) }
-    ensures flows { IfOk result (λ answer. (S.network store.now).details ≡ true → ListsFlows C.value (S.network store.now) answer.0.items) }
-    ensures cut_edges { IfOk result (λ answer. (S.network store.now).details ≡ true → ListsLeastCut C.value (S.network store.now) answer.2.items) }
-    ensures omitted { IfOk result (λ answer. (S.network store.now).details ≡ false → (answer.0.items ≡ []) × (answer.2.items ≡ [])) }
+    ensures answer { IfOk result (IsFlowAnswer C.value (S.network store.now)) }
     ensures refused { IfErr result (λ e. e ≡ OutOfMemory) }
 {
     let total = store.total_capacity();
@@ -94,13 +90,10 @@ where
     ensures network { IsNetwork C.fits (S.network store.new) }
     ensures kept { KeepsCapacities (S.network store.old) (S.network store.new) }
     ensures cut { OnOk result (HasCutOfTotal (S.network store.new)) }
-    ensures total { IfOk result (λ answer. C.value answer.1 ≡ (S.network store.new).total) }
-    ensures flows { IfOk result (λ answer. (S.network store.old).details ≡ true → ListsFlows C.value (S.network store.new) answer.0.items) }
-    ensures cut_edges { IfOk result (λ answer. (S.network store.old).details ≡ true → ListsLeastCut C.value (S.network store.new) answer.2.items) }
-    ensures omitted { IfOk result (λ answer. (S.network store.old).details ≡ false → (answer.0.items ≡ []) × (answer.2.items ≡ [])) }
+    ensures answer { IfOk result (IsFlowAnswer C.value (S.network store.new)) }
     ensures refused { IfErr result (λ e. e ≡ OutOfMemory) }
     ensures ticked { tally.old ≤ tally.new }
-    ensures paths { tally.new ≤ tally.old + (S.network store.old).vertices * pair_count (S.network store.old).vertices (capacity (S.network store.old)) }
+    ensures paths { tally.new ≤ tally.old + path_bound (S.network store.old) }
 {
     saturate(store, alloc, found, tally)?;
     list_answer(store, alloc, found)
@@ -120,14 +113,10 @@ where
     ensures network { IsNetwork C.fits (S.network store.new) }
     ensures kept { KeepsCapacities (S.network store.old) (S.network store.new) }
     ensures cut { OnOk result (HasCutOfTotal (S.network store.new)) }
-    ensures total { IfOk result (λ answer. C.value answer.1 ≡ (S.network store.new).total) }
-    ensures flows { IfOk result (λ answer. (S.network store.old).details ≡ true → ListsFlows C.value (S.network store.new) answer.0.items) }
-    ensures cut_edges { IfOk result (λ answer. (S.network store.old).details ≡ true → ListsLeastCut C.value (S.network store.new) answer.2.items) }
-    ensures idle { IfOk result (λ answer. (S.network store.old).source ≡ (S.network store.old).sink → (answer.0.items ≡ []) × (C.value answer.1 ≡ pos 0) × (answer.2.items ≡ [])) }
-    ensures omitted { IfOk result (λ answer. (S.network store.old).details ≡ false → (answer.0.items ≡ []) × (answer.2.items ≡ [])) }
+    ensures answer { IfOk result (IsFlowAnswer C.value (S.network store.new)) }
     ensures refused { IfErr result (λ e. e ≡ OutOfMemory) }
     ensures ticked { tally.old ≤ tally.new }
-    ensures paths { tally.new ≤ tally.old + (S.network store.old).vertices * pair_count (S.network store.old).vertices (capacity (S.network store.old)) }
+    ensures paths { tally.new ≤ tally.old + path_bound (S.network store.old) }
 {
     if store.source() == store.sink() {
         return Ok((Vec::new(alloc), store.total_capacity(), Vec::new(alloc)));

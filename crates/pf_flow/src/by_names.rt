@@ -1,12 +1,12 @@
 //! Greatest flows between vertices with names.
 
-ghost use Rattle.std.specs.Prelude.{◌≡◌, ◌⊎◌, ◌<◌, ◌++◌, ◌∷◌, [], ℕ, ℤ, List, Some, true, length, slice_get, pos, OnOk, IfOk, IfErr};
-ghost use Rattle.std.specs.Iterator.{IsFiniteIterable, Drains};
+ghost use Rattle.std.specs.Prelude.{◌≡◌, ◌⊎◌, ◌<◌, ◌++◌, ◌∷◌, [], List, true, length, pos, OnOk, IfOk, IfErr};
+ghost use Rattle.std.specs.Iterator.{IsFiniteIterable};
 ghost use Rattle.std.specs.List.{AllZip};
-ghost use Rattle.pf_base.specs.declared.error.PathError.{PathError};
 ghost use Rattle.pf_base.specs.declared.error.PathError.TheVariants.{OutOfMemory, UnknownVertex};
 ghost use Rattle.pf_residual.specs.Networks.{KeepsShape, HasCapacities, IsFresh, capacity_sum};
-ghost use Rattle.pf_residual.specs.NamedNetworks.{names_of, number_of, given_capacities, IsKnown, IsNamed, AreAccepted, IsEdgeRefused, AreEdgesRefused, IsAnsweredFor, IsRefusedFor};
+ghost use Rattle.pf_residual.specs.Listings.{RunBelow};
+ghost use Rattle.pf_residual.specs.NamedNetworks.{names_of, number_of, IsKnown, IsNamed, IsNamedAnswer, HoldsEdges, IsFirstRefused, GivenEdges, HoldsGivenEdges, AreEdgesRefused, IsAnsweredFor, IsRefusedFor};
 ghost use Rattle.pf_residual.specs.Internal.Filling.{IsUnused};
 
 use crate::dense_capacity::DenseCapacity;
@@ -19,17 +19,11 @@ use pf_residual::store::FlowStore;
 use std::alloc::Allocator;
 use std::hash::{BuildHasherDefault, FoldHasher, Hash};
 
-/// Edges between vertices with names, each with a capacity, that are given in turn. Every iterable of
-/// such edges is one.
+/// Edges between vertices with names, each with a capacity, that are given in turn: every iterable of
+/// them. Contracts speak of edges by it, and no caller has to name it.
 pub trait NamedEdges<N, C> {
-    // All were given, each was accepted, and this is the answer for them and two of the vertices.
-    ghost answered: { List N → N → N → Self → List ((N × N) × C) → ℤ → List ((N × N) × C) → Type 0 };
-
-    // Some were given, of which the last is the first that is refused.
-    ghost edges_refused: { List N → Self → PathError → Type 0 };
-
-    // Why there is no answer for them and two of the vertices.
-    ghost refused: { List N → N → N → Self → PathError → Type 0 };
+    // The vertices with these names, and these edges.
+    ghost given: { List N → Self → GivenEdges N C };
 
     /// Does nothing: a trait with a ghost member has a function.
     fn as_named_edges(&self);
@@ -41,11 +35,7 @@ where
     C: SignedCost,
     IC: IntoIterator<Item = Edge<N, C>>,
 {
-    ghost answered = { IsAnsweredFor N.eq C.value C.fits IC.into_iter_gives IC.IntoIter.next_gives };
-
-    ghost edges_refused = { AreEdgesRefused N.eq C.value C.fits IC.into_iter_gives IC.IntoIter.next_gives };
-
-    ghost refused = { IsRefusedFor N.eq C.value C.fits IC.into_iter_gives IC.IntoIter.next_gives };
+    ghost given = { λ names edges. record { eq = N.eq; value = C.value; fits = C.fits; names = names; Edges = IC.IntoIter; becomes = IC.into_iter_gives edges; steps = IC.IntoIter.next_gives } };
 
     fn as_named_edges(&self) {}
 }
@@ -102,12 +92,10 @@ where
     ensures unused { OnOk result (IsUnused C.fits (S.network store.new)) }
     ensures sum { IfOk result (λ sum. C.value sum ≡ capacity_sum (S.network store.new)) }
     ensures shape { OnOk result (KeepsShape (S.network store.old) (S.network store.new)) }
-    ensures capacities { OnOk result ((edges : List ((N × N) × C)) → HasCapacities (given_capacities N.eq C.value names.now.keys edges) (S.network store.old)
-        → HasCapacities (given_capacities N.eq C.value names.now.keys (edges ++ edge ∷ [])) (S.network store.new)) }
-    ensures accepted { OnOk result ((edges : List ((N × N) × C)) → HasCapacities (given_capacities N.eq C.value names.now.keys edges) (S.network store.old)
-        → AreAccepted N.eq C.value names.now.keys C.fits (λ a b. pos 0) edges → AreAccepted N.eq C.value names.now.keys C.fits (λ a b. pos 0) (edges ++ edge ∷ [])) }
-    ensures refused { IfErr result (λ e. (e ≡ OutOfMemory) ⊎ ((edges : List ((N × N) × C)) → HasCapacities (given_capacities N.eq C.value names.now.keys edges) (S.network store.old)
-        → IsEdgeRefused N.eq C.value names.now.keys C.fits (given_capacities N.eq C.value names.now.keys edges) edge e)) }
+    ensures held { OnOk result ((edges : List ((N × N) × C)) → HoldsEdges N.eq C.value names.now.keys C.fits edges (S.network store.old)
+        → HoldsEdges N.eq C.value names.now.keys C.fits (edges ++ edge ∷ []) (S.network store.new)) }
+    ensures refused { IfErr result (λ e. (e ≡ OutOfMemory) ⊎ ((edges : List ((N × N) × C)) → HoldsEdges N.eq C.value names.now.keys C.fits edges (S.network store.old)
+        → IsFirstRefused N.eq C.value names.now.keys C.fits edges edge e)) }
 {
     let ((from, to), capacity) = edge;
     let from = known_number(names, &from)?;
@@ -133,9 +121,8 @@ where
     requires vertices { (S.network store.old).vertices ≡ length names.now.keys }
     ensures unused { OnOk result (IsUnused C.fits (S.network store.new)) }
     ensures shape { OnOk result (KeepsShape (S.network store.old) (S.network store.new)) }
-    ensures capacities { OnOk result ((it : IC.IntoIter) × (edges : List ((N × N) × C)) × IC.into_iter_gives capacities it × Drains IC.IntoIter.next_gives it edges
-        × AreAccepted N.eq C.value names.now.keys C.fits (λ a b. pos 0) edges × HasCapacities (given_capacities N.eq C.value names.now.keys edges) (S.network store.new)) }
-    ensures refused { IfErr result (λ e. (e ≡ OutOfMemory) ⊎ ⟦<IC as NamedEdges<N, C>>⟧.edges_refused names.now.keys capacities e) }
+    ensures held { OnOk result (HoldsGivenEdges (⟦<IC as NamedEdges<N, C>>⟧.given names.now.keys capacities) (S.network store.new)) }
+    ensures refused { IfErr result (λ e. (e ≡ OutOfMemory) ⊎ AreEdgesRefused (⟦<IC as NamedEdges<N, C>>⟧.given names.now.keys capacities) e) }
 {
     let mut sum = C::zero();
     'edges: for edge in capacities {
@@ -154,7 +141,7 @@ where
     N: Copy,
     C: SignedCost,
     A: Allocator + Copy,
-    requires inside { (i : ℕ) (e : (ℕ × ℕ) × C) → slice_get numbered.now i ≡ Some e → (e.0.0 < length names.now) × (e.0.1 < length names.now) }
+    requires inside { RunBelow (length names.now) numbered.now }
     ensures named { IfOk result (λ edges. AllZip (IsNamed names.now) numbered.now edges.items) }
     ensures refused { IfErr result (λ e. e ≡ OutOfMemory) }
 {
@@ -176,9 +163,9 @@ where
     N: Copy,
     C: SignedCost,
     A: Allocator + Copy,
-    requires flows { (i : ℕ) (e : (ℕ × ℕ) × C) → slice_get answer.now.0.items i ≡ Some e → (e.0.0 < length names.now) × (e.0.1 < length names.now) }
-    requires cut { (i : ℕ) (e : (ℕ × ℕ) × C) → slice_get answer.now.2.items i ≡ Some e → (e.0.0 < length names.now) × (e.0.1 < length names.now) }
-    ensures named { IfOk result (λ named. AllZip (IsNamed names.now) answer.now.0.items named.0.items × (named.1 ≡ answer.now.1) × AllZip (IsNamed names.now) answer.now.2.items named.2.items) }
+    requires flows { RunBelow (length names.now) answer.now.0.items }
+    requires cut { RunBelow (length names.now) answer.now.2.items }
+    ensures named { IfOk result (IsNamedAnswer names.now answer.now) }
     ensures refused { IfErr result (λ e. e ≡ OutOfMemory) }
 {
     let flows = name_edges(alloc, names, &answer.0)?;
@@ -200,14 +187,14 @@ where
     IC: IntoIterator<Item = Edge<N, C>>,
     EK: EdmondsKarp<C>,
     requires ends { IsFiniteIterable IC.into_iter_gives IC.IntoIter.can_next IC.IntoIter.remaining capacities }
-    requires unused { IsUnused C.fits (EK.FlowStore.network store.old) }
-    requires none { HasCapacities (λ a b. pos 0) (EK.FlowStore.network store.old) }
-    requires vertices { (EK.FlowStore.network store.old).vertices ≡ length names.now.keys }
-    requires details { (EK.FlowStore.network store.old).details ≡ true }
+    requires unused { IsUnused C.fits (EK.network store.old) }
+    requires none { HasCapacities (λ a b. pos 0) (EK.network store.old) }
+    requires vertices { (EK.network store.old).vertices ≡ length names.now.keys }
+    requires details { (EK.network store.old).details ≡ true }
     ensures answer { IfOk result (λ answer. (source sink : N)
-        → IsFresh (length names.now.keys) (number_of N.eq names.now.keys source) (number_of N.eq names.now.keys sink) (EK.FlowStore.network store.old)
-        → ⟦<IC as NamedEdges<N, C>>⟧.answered names.now.keys source sink capacities answer.0.items (C.value answer.1) answer.2.items) }
-    ensures refused { IfErr result (λ e. (e ≡ OutOfMemory) ⊎ ⟦<IC as NamedEdges<N, C>>⟧.edges_refused names.now.keys capacities e) }
+        → IsFresh (length names.now.keys) (number_of N.eq names.now.keys source) (number_of N.eq names.now.keys sink) (EK.network store.old)
+        → IsAnsweredFor (⟦<IC as NamedEdges<N, C>>⟧.given names.now.keys capacities) source sink answer) }
+    ensures refused { IfErr result (λ e. (e ≡ OutOfMemory) ⊎ AreEdgesRefused (⟦<IC as NamedEdges<N, C>>⟧.given names.now.keys capacities) e) }
 {
     put_edges(store, names, capacities)?;
     let answer = store.augment(alloc)?;
@@ -227,9 +214,9 @@ where
     EK: EdmondsKarp<C>,
     ensures source { OnOk result (IsKnown N.eq names.now.keys source.now) }
     ensures sink { OnOk result (IsKnown N.eq names.now.keys sink.now) }
-    ensures fresh { IfOk result (λ store. IsFresh (length names.now.keys) (number_of N.eq names.now.keys source.now) (number_of N.eq names.now.keys sink.now) (EK.FlowStore.network store)) }
-    ensures unused { IfOk result (λ store. IsUnused C.fits (EK.FlowStore.network store)) }
-    ensures none { IfOk result (λ store. HasCapacities (λ a b. pos 0) (EK.FlowStore.network store)) }
+    ensures fresh { IfOk result (λ store. IsFresh (length names.now.keys) (number_of N.eq names.now.keys source.now) (number_of N.eq names.now.keys sink.now) (EK.network store)) }
+    ensures unused { IfOk result (λ store. IsUnused C.fits (EK.network store)) }
+    ensures none { IfOk result (λ store. HasCapacities (λ a b. pos 0) (EK.network store)) }
     ensures refused { IfErr result (λ e. (e ≡ OutOfMemory) ⊎ ((e ≡ UnknownVertex) × ((¬ (IsKnown N.eq names.now.keys source.now)) ⊎ (¬ (IsKnown N.eq names.now.keys sink.now))))) }
 {
     let from = known_number(names, source)?;
@@ -253,8 +240,8 @@ where
     requires ends { IsFiniteIterable IC.into_iter_gives IC.IntoIter.can_next IC.IntoIter.remaining capacities }
     ensures source { OnOk result (IsKnown N.eq names.now.keys source.now) }
     ensures sink { OnOk result (IsKnown N.eq names.now.keys sink.now) }
-    ensures answer { IfOk result (λ answer. ⟦<IC as NamedEdges<N, C>>⟧.answered names.now.keys source.now sink.now capacities answer.0.items (C.value answer.1) answer.2.items) }
-    ensures refused { IfErr result (⟦<IC as NamedEdges<N, C>>⟧.refused names.now.keys source.now sink.now capacities) }
+    ensures answer { IfOk result (IsAnsweredFor (⟦<IC as NamedEdges<N, C>>⟧.given names.now.keys capacities) source.now sink.now) }
+    ensures refused { IfErr result (IsRefusedFor (⟦<IC as NamedEdges<N, C>>⟧.given names.now.keys capacities) source.now sink.now) }
 {
     let mut store: EK = store_between(alloc, names, source, sink)?;
     flows_of(alloc, &mut store, names, capacities)
@@ -295,8 +282,8 @@ where
     requires ends { IsFiniteIterable IC.into_iter_gives IC.IntoIter.can_next IC.IntoIter.remaining capacities }
     ensures source { OnOk result (IsKnown N.eq (names_of N.eq vertices.now) source.now) }
     ensures sink { OnOk result (IsKnown N.eq (names_of N.eq vertices.now) sink.now) }
-    ensures answer { IfOk result (λ answer. ⟦<IC as NamedEdges<N, C>>⟧.answered (names_of N.eq vertices.now) source.now sink.now capacities answer.0.items (C.value answer.1) answer.2.items) }
-    ensures refused { IfErr result (⟦<IC as NamedEdges<N, C>>⟧.refused (names_of N.eq vertices.now) source.now sink.now capacities) }
+    ensures answer { IfOk result (IsAnsweredFor (⟦<IC as NamedEdges<N, C>>⟧.given (names_of N.eq vertices.now) capacities) source.now sink.now) }
+    ensures refused { IfErr result (IsRefusedFor (⟦<IC as NamedEdges<N, C>>⟧.given (names_of N.eq vertices.now) capacities) source.now sink.now) }
 {
     let names = names_among(alloc, vertices)?;
     flows_among::<N, C, IC, EK>(alloc, &names, source, sink, capacities)
@@ -318,8 +305,8 @@ where
     requires ends { IsFiniteIterable IC.into_iter_gives IC.IntoIter.can_next IC.IntoIter.remaining capacities }
     ensures source { OnOk result (IsKnown N.eq (names_of N.eq vertices.now) source.now) }
     ensures sink { OnOk result (IsKnown N.eq (names_of N.eq vertices.now) sink.now) }
-    ensures answer { IfOk result (λ answer. ⟦<IC as NamedEdges<N, C>>⟧.answered (names_of N.eq vertices.now) source.now sink.now capacities answer.0.items (C.value answer.1) answer.2.items) }
-    ensures refused { IfErr result (⟦<IC as NamedEdges<N, C>>⟧.refused (names_of N.eq vertices.now) source.now sink.now capacities) }
+    ensures answer { IfOk result (IsAnsweredFor (⟦<IC as NamedEdges<N, C>>⟧.given (names_of N.eq vertices.now) capacities) source.now sink.now) }
+    ensures refused { IfErr result (IsRefusedFor (⟦<IC as NamedEdges<N, C>>⟧.given (names_of N.eq vertices.now) capacities) source.now sink.now) }
 {
     edmonds_karp::<N, C, IC, DenseCapacity<C, A>>(alloc, vertices, source, sink, capacities)
 }
@@ -340,8 +327,8 @@ where
     requires ends { IsFiniteIterable IC.into_iter_gives IC.IntoIter.can_next IC.IntoIter.remaining capacities }
     ensures source { OnOk result (IsKnown N.eq (names_of N.eq vertices.now) source.now) }
     ensures sink { OnOk result (IsKnown N.eq (names_of N.eq vertices.now) sink.now) }
-    ensures answer { IfOk result (λ answer. ⟦<IC as NamedEdges<N, C>>⟧.answered (names_of N.eq vertices.now) source.now sink.now capacities answer.0.items (C.value answer.1) answer.2.items) }
-    ensures refused { IfErr result (⟦<IC as NamedEdges<N, C>>⟧.refused (names_of N.eq vertices.now) source.now sink.now capacities) }
+    ensures answer { IfOk result (IsAnsweredFor (⟦<IC as NamedEdges<N, C>>⟧.given (names_of N.eq vertices.now) capacities) source.now sink.now) }
+    ensures refused { IfErr result (IsRefusedFor (⟦<IC as NamedEdges<N, C>>⟧.given (names_of N.eq vertices.now) capacities) source.now sink.now) }
 {
     edmonds_karp::<N, C, IC, SparseCapacity<C, A>>(alloc, vertices, source, sink, capacities)
 }

@@ -1,11 +1,11 @@
 //! Changes of a capacity.
 
-ghost use Rattle.std.specs.Prelude.{◌≡◌, ◌<◌, ◌≤ℤ◌, ◌+ℤ◌, pos, true, OnOk, OnErr, IfOk, IfErr};
+ghost use Rattle.std.specs.Prelude.{◌≡◌, ◌<◌, ◌≤ℤ◌, pos, true, OnOk, OnErr, IfOk, IfErr};
 ghost use Rattle.num_traits.specs.Laws.{Checks};
 ghost use Rattle.pf_residual.specs.Flows.{Same, replaced, pair_sum};
 ghost use Rattle.pf_base.specs.declared.error.PathError.TheVariants.{OutOfMemory};
 ghost use Rattle.pf_residual.specs.Networks.{Network, Agrees, KeepsCapacities, ChangesCapacity, IsNetwork, capacity, capacity_sum};
-ghost use Rattle.pf_residual.specs.Capacities.{IsChangeRefused};
+ghost use Rattle.pf_residual.specs.Capacities.{FallsByExcess, IsChangeRefused};
 
 use crate::makers::exchanged;
 use crate::taking_back::take_back;
@@ -119,7 +119,7 @@ where
     ensures lowered { OnOk result ((S.network store.new).flow from to ≤ℤ C.value number) }
     ensures kept { OnOk result ((S.network store.old).flow from to ≤ℤ C.value number → Same (S.network store.old).flow (S.network store.new).flow) }
     ensures total { OnOk result ((S.network store.new).total ≤ℤ (S.network store.old).total) }
-    ensures excess { OnOk result (C.value number ≤ℤ (S.network store.old).flow from to → ((S.network store.old).total +ℤ C.value number) ≤ℤ ((S.network store.new).total +ℤ (S.network store.old).flow from to)) }
+    ensures excess { OnOk result (FallsByExcess from to (C.value number) (S.network store.old) (S.network store.new)) }
     ensures unchanged { OnErr result (Agrees (S.network store.old) (S.network store.new)) }
     ensures refused { IfErr result (λ e. e ≡ OutOfMemory) }
 {
@@ -174,7 +174,7 @@ where
     ensures changed { OnOk result (ChangesCapacity from to (C.value capacity) (S.network store.old) (S.network store.new)) }
     ensures kept { OnOk result ((S.network store.old).flow from to ≤ℤ C.value capacity → Same (S.network store.old).flow (S.network store.new).flow) }
     ensures total { OnOk result ((S.network store.new).total ≤ℤ (S.network store.old).total) }
-    ensures excess { OnOk result (C.value capacity ≤ℤ (S.network store.old).flow from to → ((S.network store.old).total +ℤ C.value capacity) ≤ℤ ((S.network store.new).total +ℤ (S.network store.old).flow from to)) }
+    ensures excess { OnOk result (FallsByExcess from to (C.value capacity) (S.network store.old) (S.network store.new)) }
     ensures unchanged { OnErr result (Agrees (S.network store.old) (S.network store.new)) }
     ensures refused { IfErr result (IsChangeRefused C.fits (S.network store.old) from to (C.value capacity)) }
 {

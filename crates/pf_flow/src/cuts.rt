@@ -1,8 +1,9 @@
 //! Lists of the edges of a cut.
 
-ghost use Rattle.std.specs.Prelude.{◌≡◌, ◌<◌, ℕ, Some, length, slice_get, IfOk, IfErr};
+ghost use Rattle.std.specs.Prelude.{◌≡◌, ◌<◌, length, IfOk, IfErr};
 ghost use Rattle.std.specs.List.{filter};
 ghost use Rattle.pf_base.specs.declared.error.PathError.TheVariants.{OutOfMemory};
+ghost use Rattle.pf_residual.specs.Listings.{RunBelow};
 ghost use Rattle.pf_residual.specs.Internal.Levels.{leaves};
 
 use crate::edmonds_karp::Edge;
@@ -28,8 +29,7 @@ pub fn list_cut<C, A>(
 where
     C: SignedCost,
     A: Allocator + Copy,
-    requires from { (i a b : ℕ) (c : C) → slice_get flows.now i ≡ Some ((a, b), c) → a < length levels.now }
-    requires to { (i a b : ℕ) (c : C) → slice_get flows.now i ≡ Some ((a, b), c) → b < length levels.now }
+    requires inside { RunBelow (length levels.now) flows.now }
     ensures edges { IfOk result (λ edges. edges.items ≡ filter (λ e. leaves levels.now e.0.0 e.0.1) flows.now) }
     ensures refused { IfErr result (λ e. e ≡ OutOfMemory) }
 {

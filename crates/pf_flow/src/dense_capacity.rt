@@ -2,7 +2,6 @@
 
 ghost use Rattle.std.specs.Prelude.{◌≡◌, ◌<◌, ◌*◌, ◌^◌, ◌<ℤ◌, pos, IfOk, IfErr};
 ghost use Rattle.pf_base.specs.declared.error.PathError.TheVariants.{OutOfMemory};
-ghost use Rattle.pf_matrix.specs.Tables.{IsMatrix};
 ghost use Rattle.std.specs.Option.{ForSome};
 ghost use Rattle.pf_residual.specs.Flows.{IsAntisymmetric};
 ghost use Rattle.pf_residual.specs.DenseStores.{AreTables, IsSquare, IsZeroTable, AreSameTables, tables_network, table_number, table_sum};

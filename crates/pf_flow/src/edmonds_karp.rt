@@ -1,14 +1,14 @@
 //! Greatest flows and least cuts under changing capacities.
 
-ghost use Rattle.std.specs.Prelude.{◌≡◌, ◌≢◌, ◌≤◌, ◌<◌, ◌+◌, ◌*◌, ◌≤ℤ◌, ◌<ℤ◌, ◌+ℤ◌, ◌-ℤ◌, ℕ, pos, true, false, [], length, OnOk, OnErr, IfOk, IfErr};
+ghost use Rattle.std.specs.Prelude.{◌≡◌, ◌≤◌, ◌<◌, ◌+◌, ◌≤ℤ◌, pos, OnOk, OnErr, IfOk, IfErr};
 ghost use Rattle.pf_base.specs.declared.error.PathError.TheVariants.{OutOfMemory};
-ghost use Rattle.pf_residual.specs.Flows.{Same, pair_count};
-ghost use Rattle.pf_residual.specs.Networks.{Network, capacity, capacity_sum, Agrees, KeepsCapacities, ChangesCapacity, IsNetwork, IsFresh, HasCapacities, HasCutOfTotal};
-ghost use Rattle.pf_residual.specs.Listings.{ListsFlows, ListsLeastCut};
-ghost use Rattle.pf_residual.specs.Capacities.{square_table, AreRefused, IsChangeRefused};
+ghost use Rattle.pf_residual.specs.Flows.{Same};
+ghost use Rattle.pf_residual.specs.Networks.{Network, path_bound, capacity_sum, Agrees, KeepsCapacities, ChangesCapacity, IsNetwork, IsFresh, HasCapacities, HasCutOfTotal};
+ghost use Rattle.pf_residual.specs.Listings.{ListsFlows, IsFlowAnswer};
+ghost use Rattle.pf_residual.specs.Capacities.{square_table, matrix_table, AreSquare, OfSide, FallsByExcess, AreRefused, IsChangeRefused};
 
 use crate::augmenting::augment_flow;
-pub use crate::by_names::{NamedEdges, edmonds_karp, edmonds_karp_dense, edmonds_karp_sparse};
+pub use crate::by_names::{edmonds_karp, edmonds_karp_dense, edmonds_karp_sparse};
 use crate::changes::change_capacity;
 pub use crate::dense_capacity::DenseCapacity;
 use crate::listings::list_flows;
@@ -48,9 +48,9 @@ pub trait EdmondsKarp<C: SignedCost>: FlowStore<C> {
     fn new(alloc: Self::Alloc, size: usize, source: usize, sink: usize) -> Result<Self, PathError>
         requires source { source < size }
         requires sink { sink < size }
-        ensures fresh { IfOk result (λ s. IsFresh size source sink (Self.FlowStore.network s)) }
-        ensures capacities { IfOk result (λ s. HasCapacities (λ a b. pos 0) (Self.FlowStore.network s)) }
-        ensures network { IfOk result (λ s. IsNetwork C.fits (Self.FlowStore.network s)) }
+        ensures fresh { IfOk result (λ s. IsFresh size source sink (Self.network s)) }
+        ensures capacities { IfOk result (λ s. HasCapacities (λ a b. pos 0) (Self.network s)) }
+        ensures network { IfOk result (λ s. IsNetwork C.fits (Self.network s)) }
         ensures refused { IfErr result (λ e. e ≡ OutOfMemory) };
 
     /// A store with the capacities of a square matrix, without flow: the value at row `a` and column
@@ -71,10 +71,10 @@ pub trait EdmondsKarp<C: SignedCost>: FlowStore<C> {
         requires square { (M.table capacities).rows ≡ (M.table capacities).columns }
         requires source { source < (M.table capacities).rows }
         requires sink { sink < (M.table capacities).rows }
-        ensures fresh { IfOk result (λ s. IsFresh (M.table capacities).rows source sink (Self.FlowStore.network s)) }
-        ensures capacities { IfOk result (λ s. HasCapacities (square_table C.value (M.table capacities).rows (M.table capacities).values) (Self.FlowStore.network s)) }
-        ensures network { IfOk result (λ s. IsNetwork C.fits (Self.FlowStore.network s)) }
-        ensures refused { IfErr result (AreRefused C.fits (M.table capacities).rows (square_table C.value (M.table capacities).rows (M.table capacities).values)) }
+        ensures fresh { IfOk result (λ s. IsFresh (M.table capacities).rows source sink (Self.network s)) }
+        ensures capacities { IfOk result (λ s. HasCapacities (matrix_table C.value (M.table capacities)) (Self.network s)) }
+        ensures network { IfOk result (λ s. IsNetwork C.fits (Self.network s)) }
+        ensures refused { IfErr result (AreRefused C.fits (M.table capacities).rows (matrix_table C.value (M.table capacities))) }
     {
         let capacities = capacities.into_matrix(alloc)?;
         let mut store = Self::new(alloc, capacities.rows(), source, sink)?;
@@ -94,13 +94,13 @@ pub trait EdmondsKarp<C: SignedCost>: FlowStore<C> {
         sink: usize,
         capacities: V,
     ) -> Result<Self, PathError>
-        requires square { (size : ℕ) × (size * size ≡ length (V.values capacities)) }
-        requires source { (size : ℕ) → size * size ≡ length (V.values capacities) → source < size }
-        requires sink { (size : ℕ) → size * size ≡ length (V.values capacities) → sink < size }
-        ensures fresh { IfOk result (λ s. (size : ℕ) → size * size ≡ length (V.values capacities) → IsFresh size source sink (Self.FlowStore.network s)) }
-        ensures capacities { IfOk result (λ s. (size : ℕ) → size * size ≡ length (V.values capacities) → HasCapacities (square_table C.value size (V.values capacities)) (Self.FlowStore.network s)) }
-        ensures network { IfOk result (λ s. IsNetwork C.fits (Self.FlowStore.network s)) }
-        ensures refused { IfErr result (λ e. (size : ℕ) → size * size ≡ length (V.values capacities) → AreRefused C.fits size (square_table C.value size (V.values capacities)) e) }
+        requires square { AreSquare (V.values capacities) }
+        requires source { OfSide (V.values capacities) (λ side. source < side) }
+        requires sink { OfSide (V.values capacities) (λ side. sink < side) }
+        ensures fresh { IfOk result (λ s. OfSide (V.values capacities) (λ side. IsFresh side source sink (Self.network s))) }
+        ensures capacities { IfOk result (λ s. OfSide (V.values capacities) (λ side. HasCapacities (square_table C.value side (V.values capacities)) (Self.network s))) }
+        ensures network { IfOk result (λ s. IsNetwork C.fits (Self.network s)) }
+        ensures refused { IfErr result (λ e. OfSide (V.values capacities) (λ side. AreRefused C.fits side (square_table C.value side (V.values capacities)) e)) }
     {
         let Ok(square) = Matrix::square_from_vec(capacities.into_vec(alloc)?) else {
             unreachable!()
@@ -114,8 +114,8 @@ pub trait EdmondsKarp<C: SignedCost>: FlowStore<C> {
     ///
     /// The only error is `OutOfMemory`.
     fn flows<A: Allocator + Copy>(&self, alloc: A) -> Result<Vec<Edge<usize, C>, A>, PathError>
-        requires { IsNetwork C.fits (Self.FlowStore.network self.now) }
-        ensures listed { IfOk result (λ flows. ListsFlows C.value (Self.FlowStore.network self.now) flows.items) }
+        requires { IsNetwork C.fits (Self.network self.now) }
+        ensures listed { IfOk result (λ flows. ListsFlows C.value (Self.network self.now) flows.items) }
         ensures refused { IfErr result (λ e. e ≡ OutOfMemory) }
     {
         list_flows(self, alloc)
@@ -123,8 +123,8 @@ pub trait EdmondsKarp<C: SignedCost>: FlowStore<C> {
 
     /// The sum of all capacities.
     fn capacity_sum(&self) -> C
-        requires { IsNetwork C.fits (Self.FlowStore.network self.now) }
-        ensures { C.value result ≡ capacity_sum (Self.FlowStore.network self.now) }
+        requires { IsNetwork C.fits (Self.network self.now) }
+        ensures { C.value result ≡ capacity_sum (Self.network self.now) }
     {
         sum_of_capacities(self)
     }
@@ -144,16 +144,16 @@ pub trait EdmondsKarp<C: SignedCost>: FlowStore<C> {
         to: usize,
         capacity: C,
     ) -> Result<(), PathError>
-        requires network { IsNetwork C.fits (Self.FlowStore.network self.old) }
-        requires from { from < (Self.FlowStore.network self.old).vertices }
-        requires to { to < (Self.FlowStore.network self.old).vertices }
-        ensures network { IsNetwork C.fits (Self.FlowStore.network self.new) }
-        ensures changed { OnOk result (ChangesCapacity from to (C.value capacity) (Self.FlowStore.network self.old) (Self.FlowStore.network self.new)) }
-        ensures kept { OnOk result ((Self.FlowStore.network self.old).flow from to ≤ℤ C.value capacity → Same (Self.FlowStore.network self.old).flow (Self.FlowStore.network self.new).flow) }
-        ensures total { OnOk result ((Self.FlowStore.network self.new).total ≤ℤ (Self.FlowStore.network self.old).total) }
-        ensures excess { OnOk result (C.value capacity ≤ℤ (Self.FlowStore.network self.old).flow from to → ((Self.FlowStore.network self.old).total +ℤ C.value capacity) ≤ℤ ((Self.FlowStore.network self.new).total +ℤ (Self.FlowStore.network self.old).flow from to)) }
-        ensures unchanged { OnErr result (Agrees (Self.FlowStore.network self.old) (Self.FlowStore.network self.new)) }
-        ensures refused { IfErr result (IsChangeRefused C.fits (Self.FlowStore.network self.old) from to (C.value capacity)) }
+        requires network { IsNetwork C.fits (Self.network self.old) }
+        requires from { from < (Self.network self.old).vertices }
+        requires to { to < (Self.network self.old).vertices }
+        ensures network { IsNetwork C.fits (Self.network self.new) }
+        ensures changed { OnOk result (ChangesCapacity from to (C.value capacity) (Self.network self.old) (Self.network self.new)) }
+        ensures kept { OnOk result ((Self.network self.old).flow from to ≤ℤ C.value capacity → Same (Self.network self.old).flow (Self.network self.new).flow) }
+        ensures total { OnOk result ((Self.network self.new).total ≤ℤ (Self.network self.old).total) }
+        ensures excess { OnOk result (FallsByExcess from to (C.value capacity) (Self.network self.old) (Self.network self.new)) }
+        ensures unchanged { OnErr result (Agrees (Self.network self.old) (Self.network self.new)) }
+        ensures refused { IfErr result (IsChangeRefused C.fits (Self.network self.old) from to (C.value capacity)) }
     {
         change_capacity(self, alloc, from, to, capacity)
     }
@@ -167,18 +167,14 @@ pub trait EdmondsKarp<C: SignedCost>: FlowStore<C> {
         alloc: A,
         tally: &mut Tally,
     ) -> Result<EKFlows<usize, C, A>, PathError>
-        requires { IsNetwork C.fits (Self.FlowStore.network self.old) }
-        ensures network { IsNetwork C.fits (Self.FlowStore.network self.new) }
-        ensures kept { KeepsCapacities (Self.FlowStore.network self.old) (Self.FlowStore.network self.new) }
-        ensures cut { OnOk result (HasCutOfTotal (Self.FlowStore.network self.new)) }
-        ensures total { IfOk result (λ answer. C.value answer.1 ≡ (Self.FlowStore.network self.new).total) }
-        ensures flows { IfOk result (λ answer. (Self.FlowStore.network self.old).details ≡ true → ListsFlows C.value (Self.FlowStore.network self.new) answer.0.items) }
-        ensures cut_edges { IfOk result (λ answer. (Self.FlowStore.network self.old).details ≡ true → ListsLeastCut C.value (Self.FlowStore.network self.new) answer.2.items) }
-        ensures idle { IfOk result (λ answer. (Self.FlowStore.network self.old).source ≡ (Self.FlowStore.network self.old).sink → (answer.0.items ≡ []) × (C.value answer.1 ≡ pos 0) × (answer.2.items ≡ [])) }
-        ensures omitted { IfOk result (λ answer. (Self.FlowStore.network self.old).details ≡ false → (answer.0.items ≡ []) × (answer.2.items ≡ [])) }
+        requires { IsNetwork C.fits (Self.network self.old) }
+        ensures network { IsNetwork C.fits (Self.network self.new) }
+        ensures kept { KeepsCapacities (Self.network self.old) (Self.network self.new) }
+        ensures cut { OnOk result (HasCutOfTotal (Self.network self.new)) }
+        ensures answer { IfOk result (IsFlowAnswer C.value (Self.network self.new)) }
         ensures refused { IfErr result (λ e. e ≡ OutOfMemory) }
         ensures ticked { tally.old ≤ tally.new }
-        ensures paths { tally.new ≤ tally.old + (Self.FlowStore.network self.old).vertices * pair_count (Self.FlowStore.network self.old).vertices (capacity (Self.FlowStore.network self.old)) }
+        ensures paths { tally.new ≤ tally.old + path_bound (Self.network self.old) }
     {
         augment_flow(self, alloc, tally)
     }
@@ -199,15 +195,11 @@ pub trait EdmondsKarp<C: SignedCost>: FlowStore<C> {
     ///
     /// The only error is `OutOfMemory`; then all capacities are as before, and the flow is feasible.
     fn augment<A: Allocator + Copy>(&mut self, alloc: A) -> Result<EKFlows<usize, C, A>, PathError>
-        requires { IsNetwork C.fits (Self.FlowStore.network self.old) }
-        ensures network { IsNetwork C.fits (Self.FlowStore.network self.new) }
-        ensures kept { KeepsCapacities (Self.FlowStore.network self.old) (Self.FlowStore.network self.new) }
-        ensures cut { OnOk result (HasCutOfTotal (Self.FlowStore.network self.new)) }
-        ensures total { IfOk result (λ answer. C.value answer.1 ≡ (Self.FlowStore.network self.new).total) }
-        ensures flows { IfOk result (λ answer. (Self.FlowStore.network self.old).details ≡ true → ListsFlows C.value (Self.FlowStore.network self.new) answer.0.items) }
-        ensures cut_edges { IfOk result (λ answer. (Self.FlowStore.network self.old).details ≡ true → ListsLeastCut C.value (Self.FlowStore.network self.new) answer.2.items) }
-        ensures idle { IfOk result (λ answer. (Self.FlowStore.network self.old).source ≡ (Self.FlowStore.network self.old).sink → (answer.0.items ≡ []) × (C.value answer.1 ≡ pos 0) × (answer.2.items ≡ [])) }
-        ensures omitted { IfOk result (λ answer. (Self.FlowStore.network self.old).details ≡ false → (answer.0.items ≡ []) × (answer.2.items ≡ [])) }
+        requires { IsNetwork C.fits (Self.network self.old) }
+        ensures network { IsNetwork C.fits (Self.network self.new) }
+        ensures kept { KeepsCapacities (Self.network self.old) (Self.network self.new) }
+        ensures cut { OnOk result (HasCutOfTotal (Self.network self.new)) }
+        ensures answer { IfOk result (IsFlowAnswer C.value (Self.network self.new)) }
         ensures refused { IfErr result (λ e. e ≡ OutOfMemory) }
     {
         augment_flow(self, alloc, &mut Tally::new())

@@ -6,7 +6,8 @@ ghost use Rattle.pf_residual.specs.Networks.{Network, HasSameCapacities, HasCutO
 
 /// No flow is worth more than a cut: its value is at most the cut's capacity.
 pub fn flow_is_within_cut()
-    ensures { (n source sink : ℕ) (capacity f : PairTable) (side : ℕ → Bool) → source < n → IsFeasibleFlow n source sink capacity f → IsCut source sink side → flow_value n source f ≤ℤ cut_capacity n side capacity }
+    ensures { (n source sink : ℕ) (capacity f : PairTable) (side : ℕ → Bool) → source < n → IsFeasibleFlow n source sink capacity f → IsCut source sink side
+        → flow_value n source f ≤ℤ cut_capacity n side capacity }
 {}
 
 /// Stores of the same vertices, ends and capacities report one total after `augment`: where source and

@@ -4,7 +4,7 @@ ghost use Rattle.std.specs.Prelude.{◌≡◌, ◌<◌, ◌*◌, ◌≤ℤ◌, �
 ghost use Rattle.num_traits.specs.Laws.{Checks};
 ghost use Rattle.pf_residual.specs.Flows.{IsNonNegative, sum_to, pair_sum};
 ghost use Rattle.pf_residual.specs.Networks.{Network, KeepsShape, ChangesCapacity, HasCapacities, capacity_sum};
-ghost use Rattle.pf_residual.specs.Capacities.{number, square_table, AreRefused, IsChangeRefused};
+ghost use Rattle.pf_residual.specs.Capacities.{number, square_table, matrix_table, AreRefused, IsChangeRefused};
 ghost use Rattle.pf_residual.specs.Internal.Filling.{IsUnused};
 
 use pf_base::{PathError, SignedCost};
@@ -123,10 +123,10 @@ fn sum_of<C: SignedCost>(numbers: &[C]) -> Option<C>
 /// The sum of the capacities of a square.
 pub fn sum_of_square<C: SignedCost, A: Allocator>(capacities: &Matrix<C, A>) -> Result<C, PathError>
     requires { capacities.now.rows ≡ capacities.now.columns }
-    ensures above { OnOk result (IsNonNegative capacities.now.rows (square_table C.value capacities.now.rows capacities.now.values)) }
-    ensures fits { OnOk result (C.fits (pair_sum capacities.now.rows (square_table C.value capacities.now.rows capacities.now.values))) }
-    ensures sum { IfOk result (λ sum. C.value sum ≡ pair_sum capacities.now.rows (square_table C.value capacities.now.rows capacities.now.values)) }
-    ensures refused { IfErr result (AreRefused C.fits capacities.now.rows (square_table C.value capacities.now.rows capacities.now.values)) }
+    ensures above { OnOk result (IsNonNegative capacities.now.rows (matrix_table C.value capacities.now)) }
+    ensures fits { OnOk result (C.fits (pair_sum capacities.now.rows (matrix_table C.value capacities.now))) }
+    ensures sum { IfOk result (λ sum. C.value sum ≡ pair_sum capacities.now.rows (matrix_table C.value capacities.now)) }
+    ensures refused { IfErr result (AreRefused C.fits capacities.now.rows (matrix_table C.value capacities.now)) }
 {
     let numbers = capacities.as_slice();
     if has_negative(numbers) {

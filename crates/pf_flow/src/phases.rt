@@ -1,8 +1,8 @@
 //! Phases of shortest augmenting paths.
 
-ghost use Rattle.std.specs.Prelude.{◌≡◌, ◌≢◌, ◌≤◌, ◌<◌, ◌+◌, length, slice_index};
-ghost use Rattle.pf_residual.specs.Networks.{Network, capacity, KeepsCapacities, IsNetwork};
-ghost use Rattle.pf_residual.specs.Internal.AugmentingPaths.{IsLabelling, potential};
+ghost use Rattle.std.specs.Prelude.{◌≡◌, ◌≢◌, ◌<◌, length, slice_index};
+ghost use Rattle.pf_residual.specs.Networks.{Network, KeepsCapacities, IsNetwork};
+ghost use Rattle.pf_residual.specs.Internal.AugmentingPaths.{IsLabelling, TicksWithinRise};
 ghost use Rattle.pf_residual.specs.Internal.Levels.{AreLevels};
 ghost use Rattle.pf_residual.specs.Internal.Steps.{AreSteps, IsSinkWay};
 
@@ -31,7 +31,7 @@ where
     ensures kept { KeepsCapacities (S.network store.old) (S.network store.new) }
     ensures labelling { IsLabelling (S.network store.old).vertices (S.network store.old).source (S.network store.new).residual (slice_index levels.now) }
     ensures progress { tally.old < tally.new }
-    ensures bound { tally.new + potential (S.network store.old).vertices (capacity (S.network store.old)) (S.network store.old).residual (slice_index levels.now) ≤ tally.old + potential (S.network store.old).vertices (capacity (S.network store.old)) (S.network store.new).residual (slice_index levels.now) }
+    ensures bound { TicksWithinRise (slice_index levels.now) (S.network store.old) (S.network store.new) tally.old tally.new }
 {
     let depth = levels[store.sink()];
     add_along(store, &path[..depth + 1]);
@@ -63,7 +63,7 @@ where
     ensures kept { KeepsCapacities (S.network store.old) (S.network store.new) }
     ensures labelling { IsLabelling (S.network store.old).vertices (S.network store.old).source (S.network store.new).residual (slice_index found.old.levels.items) }
     ensures progress { tally.old < tally.new }
-    ensures bound { tally.new + potential (S.network store.old).vertices (capacity (S.network store.old)) (S.network store.old).residual (slice_index found.old.levels.items) ≤ tally.old + potential (S.network store.old).vertices (capacity (S.network store.old)) (S.network store.new).residual (slice_index found.old.levels.items) }
+    ensures bound { TicksWithinRise (slice_index found.old.levels.items) (S.network store.old) (S.network store.new) tally.old tally.new }
 {
     found.write_path(path, store.sink());
     add_way(store, &found.levels, path, tally);

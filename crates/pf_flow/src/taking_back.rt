@@ -1,13 +1,13 @@
 //! Flow that is taken back off an edge, to the source and from the sink, or round cycles.
 
-ghost use Rattle.std.specs.Prelude.{◌≡◌, ◌≢◌, ◌<◌, ◌≤ℤ◌, ◌<ℤ◌, ◌+ℤ◌, ◌-ℤ◌, ℕ, pos, Some, OnOk, OnErr, IfOk, IfErr, length, map, slice_get};
+ghost use Rattle.std.specs.Prelude.{◌≡◌, ◌≢◌, ◌<◌, ◌≤ℤ◌, ◌<ℤ◌, ◌+ℤ◌, ◌-ℤ◌, ℕ, pos, Some, OnOk, OnErr, IfOk, IfErr, slice_get};
 ghost use Rattle.pf_base.specs.declared.error.PathError.TheVariants.{OutOfMemory};
 ghost use Rattle.pf_residual.specs.declared.cancelling.arcs.Arc.{Arc};
 ghost use Rattle.pf_residual.specs.Flows.{Same};
 ghost use Rattle.pf_residual.specs.Networks.{Network, Agrees, KeepsCapacities, IsNetwork};
 ghost use Rattle.pf_residual.specs.Internal.Balances.{IsBalanced};
 ghost use Rattle.pf_residual.specs.Internal.Cancelling.{HasAmount};
-ghost use Rattle.pf_residual.specs.Internal.Settled.{HoldFlows, IsPlan, IsSettled, AreApart, AreFlowing, moved};
+ghost use Rattle.pf_residual.specs.Internal.Settled.{HoldFlows, IsPlan, IsSettled, AreFlowing, moved};
 
 use crate::listings::list_flows;
 use pf_base::{PathError, SignedCost};

@@ -1,6 +1,6 @@
 -- Edges between named vertices, put into a store in turn.
 use Rattle.std.proofs.Common.{◌≡◌, ◌∙◌, ◌⊎◌, inl, inr, refl, sym, ap, subst, ◌<◌, ℕ, ℤ, zero, suc, pos, Bool, true, false, nat_eq, List, [], ◌∷◌, ◌++◌, length, fold}
-use Rattle.std.specs.Prelude.{◌≤ℤ◌, ◌&&◌, if◌then◌else◌, Option, Some, slice_get, Result, Ok, Err, OnOk, IfOk, IfErr, IsErrAnd}
+use Rattle.std.specs.Prelude.{◌≤ℤ◌, ◌&&◌, if◌then◌else◌, Option, Some, Vec, slice_get, Result, Ok, Err, OnOk, IfOk, IfErr, IsErrAnd}
 use Rattle.std.specs.Iterator.{Yields}
 use Rattle.std.specs.List.{AllZip}
 use Rattle.std.proofs.lemmas.Bool.{cases_eq}
@@ -9,9 +9,9 @@ use Rattle.pf_base.specs.declared.error.PathError.{PathError}
 use Rattle.pf_base.specs.declared.error.PathError.TheVariants.{OutOfMemory}
 use Rattle.pf_residual.specs.Capacities.{IsChangeRefused}
 use Rattle.pf_residual.specs.Flows.{PairTable, replaced, pair_sum, sum_to}
-use Rattle.pf_residual.specs.Listings.{ListsFlows, ListsLeastCut}
+use Rattle.pf_residual.specs.Listings.{RunBelow, ListsFlows, ListsLeastCut, IsFlowAnswer}
 use Rattle.pf_residual.specs.Networks.{Network, capacity, ChangesCapacity, HasCapacities, HasCutOfTotal, IsFresh, IsNetwork, KeepsCapacities, KeepsShape}
-use Rattle.pf_residual.specs.NamedNetworks.{number_of, given_capacities, with_capacity_of, IsAnswer, IsKnown, IsNamed, IsAccepted, AreAccepted, IsEdgeRefused}
+use Rattle.pf_residual.specs.NamedNetworks.{number_of, given_capacities, with_capacity_of, IsAnswer, IsKnown, IsNamed, IsNamedAnswer, IsAccepted, AreAccepted, HoldsEdges, IsFirstRefused}
 use Rattle.pf_residual.specs.Internal.Filling.{IsUnused}
 use Rattle.pf_residual.proofs.SumLemmas.{sum_ext}
 use Rattle.pf_residual.proofs.FillLemmas.{replaced_cases}
@@ -79,12 +79,19 @@ module _ {N C : Type 0} (eq : N → N → Bool) (value : C → ℤ) (names : Lis
           here (inl p) = p.2
           here (inr p) = absurd (p.0 refl refl)
 
+      -- a network that holds edges holds one more after the change
+      pub put_held : (fits : ℤ → Type 0) {O : Network} (edges : List ((N × N) × C)) → ChangesCapacity u v (value e.1) M O → IsUnused fits O → HoldsEdges eq value names fits edges M → HoldsEdges eq value names fits (edges ++ e ∷ []) O
+      put_held fits edges x w h = record {
+        accepted = accepted_more fits (λ a b. pos 0) edges e h.accepted (put_accepted fits (given_capacities eq value names edges) x w h.capacities);
+        capacities = put_given edges x h.capacities;
+      }
+
       -- why an edge whose capacity was refused is refused
       pub put_refused : (fits : ℤ → Type 0) (r : PathError) → IsChangeRefused fits M u v (value e.1) r
-          → (r ≡ OutOfMemory) ⊎ ((edges : List ((N × N) × C)) → HasCapacities (given_capacities eq value names edges) M → IsEdgeRefused eq value names fits (given_capacities eq value names edges) e r)
+          → (r ≡ OutOfMemory) ⊎ ((edges : List ((N × N) × C)) → HoldsEdges eq value names fits edges M → IsFirstRefused eq value names fits edges e r)
       put_refused fits r (inl h) = inl h
-      put_refused fits r (inr (inl h)) = inr (λ edges k. inr (inl (h.0, known, known', h.1)))
-      put_refused fits r (inr (inr h)) = inr (λ edges k. inr (inr (h.0, known, known', h.1, λ f. h.2 (subst fits (sym (put_sum_of (given_capacities eq value names edges) k)) f))))
+      put_refused fits r (inr (inl h)) = inr (λ edges k. record { accepted = k.accepted; why = inr (inl (h.0, known, known', h.1)) })
+      put_refused fits r (inr (inr h)) = inr (λ edges k. record { accepted = k.accepted; why = inr (inr (h.0, known, known', h.1, λ f. h.2 (subst fits (sym (put_sum_of (given_capacities eq value names edges) k.capacities)) f))) })
 
 -- what holds of a success, from two facts on it
 pub both_ok : {A E P Q T : Type 0} (r : Result A E) → OnOk r P → OnOk r Q → (P → Q → T) → OnOk r T
@@ -128,10 +135,10 @@ none_zip R (x ∷ xs) ys z e = cc
 
 module _ {N C : Type 0} (names : List N) (M : Network) (value : C → ℤ) (n : M.vertices ≡ length names) where
   -- listed pairs are pairs of names
-  pub flows_inside : (flows : List ((ℕ × ℕ) × C)) → ListsFlows value M flows → (i : ℕ) (e : (ℕ × ℕ) × C) → slice_get flows i ≡ Some e → (e.0.0 < length names) × (e.0.1 < length names)
+  pub flows_inside : (flows : List ((ℕ × ℕ) × C)) → ListsFlows value M flows → RunBelow (length names) flows
   flows_inside flows h i e k = let s = h.sound i e k in (subst (λ m. e.0.0 < m) n s.0, subst (λ m. e.0.1 < m) n s.1)
 
-  pub cut_inside : (cut : List ((ℕ × ℕ) × C)) → ListsLeastCut value M cut → (M.source ≡ M.sink → cut ≡ []) → (i : ℕ) (e : (ℕ × ℕ) × C) → slice_get cut i ≡ Some e → (e.0.0 < length names) × (e.0.1 < length names)
+  pub cut_inside : (cut : List ((ℕ × ℕ) × C)) → ListsLeastCut value M cut → (M.source ≡ M.sink → cut ≡ []) → RunBelow (length names) cut
   cut_inside cut h z i e k = elim (cases_eq M.source M.sink) as (λ _. (e.0.0 < length names) × (e.0.1 < length names)) [
     | inl q ↦ absurd (none_in i e (subst (λ xs. slice_get xs i ≡ Some e) (z q) k))
     | inr d ↦ (let s = (h d).2.sound i e k in (subst (λ m. e.0.0 < m) n s.0, subst (λ m. e.0.1 < m) n s.1))
@@ -142,28 +149,22 @@ module _ {N C : Type 0} (names : List N) (M : Network) (value : C → ℤ) (n : 
       none_in (suc i) e h = cc
 
 -- What is answered for names, from what is answered for numbers: of a new store (L), with the capacities of the edges (M), and with a greatest flow (O).
-module _ {N C : Type 0} (eq : N → N → Bool) (value : C → ℤ) (names : List N) (fits : ℤ → Type 0) {L M O : Network} {size from to : ℕ}
-    (fresh : IsFresh size from to L) (shape : KeepsShape L M) (kept : KeepsCapacities M O) where
-  pub details_on : M.details ≡ true
-  details_on = shape.details ∙ fresh.details
-
-  pub answer_of : (source sink : N) (edges : List ((N × N) × C)) (flows cut : List ((ℕ × ℕ) × C)) (carried leaving : List ((N × N) × C)) (total : ℤ)
-      → size ≡ length names → from ≡ number_of eq names source → to ≡ number_of eq names sink
-      → HasCapacities (given_capacities eq value names edges) M → IsNetwork fits O → HasCutOfTotal O → total ≡ O.total
-      → ListsFlows value O flows → ListsLeastCut value O cut → (M.source ≡ M.sink → (flows ≡ []) × (total ≡ pos 0) × (cut ≡ []))
-      → AllZip (IsNamed names) flows carried → AllZip (IsNamed names) cut leaving
-      → IsAnswer eq value names fits source sink edges carried total leaving O
-  answer_of source sink edges flows cut carried leaving total s f t h w c x lf lc z zf zc = record {
-    vertices = kept.shape.vertices ∙ shape.vertices ∙ fresh.vertices ∙ s;
-    source = kept.shape.source ∙ shape.source ∙ fresh.source ∙ f;
-    sink = kept.shape.sink ∙ shape.sink ∙ fresh.sink ∙ t;
+module _ {N C : Type 0} (eq : N → N → Bool) (value : C → ℤ) (names : List N) (fits : ℤ → Type 0) (source sink : N) {L M O : Network}
+    (fresh : IsFresh (length names) (number_of eq names source) (number_of eq names sink) L) (shape : KeepsShape L M) (kept : KeepsCapacities M O) where
+  pub answer_of : (edges : List ((N × N) × C)) {A : Type 0} (answer : Vec ((ℕ × ℕ) × C) A × C × Vec ((ℕ × ℕ) × C) A) (named : Vec ((N × N) × C) A × C × Vec ((N × N) × C) A)
+      → HasCapacities (given_capacities eq value names edges) M → IsNetwork fits O → HasCutOfTotal O → IsFlowAnswer value O answer → IsNamedAnswer names answer named
+      → IsAnswer eq value names fits source sink edges named.0.items (value named.1) named.2.items O
+  answer_of edges answer named h w c a z = record {
+    vertices = kept.shape.vertices ∙ shape.vertices ∙ fresh.vertices;
+    source = kept.shape.source ∙ shape.source ∙ fresh.source;
+    sink = kept.shape.sink ∙ shape.sink ∙ fresh.sink;
     capacities = record { at = λ a b l m. sym (kept.capacities.at a b) ∙ h.at a b (subst (λ k. a < k) kept.shape.vertices l) (subst (λ k. b < k) kept.shape.vertices m) };
     network = w;
     worth = c;
-    total = x;
-    flows = (flows, lf, zf);
-    cut = (cut, lc, zc);
-    idle = λ e. let i = z (sym kept.shape.source ∙ e ∙ kept.shape.sink) in (none_zip (IsNamed names) flows carried zf i.0, i.1, none_zip (IsNamed names) cut leaving zc i.2);
+    total = ap value z.total ∙ a.total;
+    flows = (answer.0.items, a.flows (kept.shape.details ∙ shape.details ∙ fresh.details), z.flows);
+    cut = (answer.2.items, a.cut_edges (kept.shape.details ∙ shape.details ∙ fresh.details), z.cut);
+    idle = λ e. let i = a.idle e in (none_zip (IsNamed names) answer.0.items named.0.items z.flows i.0, ap value z.total ∙ i.1, none_zip (IsNamed names) answer.2.items named.2.items z.cut i.2);
   }
 
 -- why a call is refused, from why the call in it was

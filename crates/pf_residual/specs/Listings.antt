@@ -1,5 +1,5 @@
 -- Lists of vertices and of pairs of vertices, in rising order.
-use Rattle.std.specs.Prelude.{◌≡◌, ◌≢◌, ◌<ℤ◌, ◌<◌, ◌⊎◌, ℕ, ℤ, pos, Bool, true, false, List, Some, slice_get}
+use Rattle.std.specs.Prelude.{◌≡◌, ◌≢◌, ◌<ℤ◌, ◌<◌, ◌⊎◌, ℕ, ℤ, pos, Bool, true, false, List, [], Vec, Some, slice_get}
 use Rattle.pf_residual.specs.Flows.{PairTable}
 use Rattle.pf_residual.specs.Networks.{Network, capacity, IsCutOfTotal}
 
@@ -16,6 +16,10 @@ pub record ListsVertices (n : ℕ) (chosen : ℕ → Type 0) (ends : List ℕ) :
 -- a pair before another: by first, then by second vertex
 abbrev pub IsBefore : (ℕ × ℕ) → (ℕ × ℕ) → Type 0
 IsBefore p q = (p.0 < q.0) ⊎ ((p.0 ≡ q.0) × (p.1 < q.1))
+
+-- each edge runs between vertices below n
+abbrev pub RunBelow : {C : Type 0} → ℕ → List ((ℕ × ℕ) × C) → Type 0
+RunBelow {C} n edges = (i : ℕ) (e : (ℕ × ℕ) × C) → slice_get edges i ≡ Some e → (e.0.0 < n) × (e.0.1 < n)
 
 module _ {C : Type 0} (value : C → ℤ) where
   -- the vertices at which the numbers are above 0, each once with its number, in rising order
@@ -41,3 +45,16 @@ module _ {C : Type 0} (value : C → ℤ) where
   -- where source and sink differ, the pairs with capacity that leave the smallest side of a least cut, whose capacity is the total
   abbrev pub ListsLeastCut : Network → List ((ℕ × ℕ) × C) → Type 0
   ListsLeastCut N edges = N.source ≢ N.sink → (side : ℕ → Bool) × IsCutOfTotal N side × ListsCut N side edges
+
+  -- what `augment` answers of the network that it leaves: flows above 0, the total, and the edges of a least cut
+  pub record IsFlowAnswer {A : Type 0} (N : Network) (answer : Vec ((ℕ × ℕ) × C) A × C × Vec ((ℕ × ℕ) × C) A) : Type 0 where
+    -- the total is that of the flow
+    pub total : value answer.1 ≡ N.total
+    -- with details the flows are listed
+    pub flows : N.details ≡ true → ListsFlows N answer.0.items
+    -- and so are the edges of a least cut
+    pub cut_edges : N.details ≡ true → ListsLeastCut N answer.2.items
+    -- where source and sink are one, there is no flow and no cut
+    pub idle : N.source ≡ N.sink → (answer.0.items ≡ []) × (value answer.1 ≡ pos 0) × (answer.2.items ≡ [])
+    -- without details both lists are empty
+    pub omitted : N.details ≡ false → (answer.0.items ≡ []) × (answer.2.items ≡ [])

@@ -1,5 +1,5 @@
 -- Networks whose vertices have names.
-use Rattle.std.specs.Prelude.{◌≡◌, ◌<◌, ◌≤ℤ◌, ◌<ℤ◌, ◌⊎◌, ◌++◌, ℕ, ℤ, pos, Bool, List, [], ◌∷◌, Option, Some, length, slice_get, fold, ⊤}
+use Rattle.std.specs.Prelude.{◌≡◌, ◌<◌, ◌≤ℤ◌, ◌<ℤ◌, ◌⊎◌, ◌++◌, ℕ, ℤ, pos, Bool, List, [], ◌∷◌, Option, Some, Vec, length, slice_get, fold, ⊤}
 use Rattle.std.specs.Iterator.{Drains, Yields}
 use Rattle.std.specs.List.{position_or_len, AllZip}
 use Rattle.indexmap.specs.IndexSet.{insert_all}
@@ -18,6 +18,12 @@ pub record IsNamed {N C : Type 0} (names : List N) (e : (ℕ × ℕ) × C) (f : 
 -- the edges are numbered edges of which P holds, in their order, with the names of their vertices
 abbrev pub AreNamed : {N C : Type 0} → List N → (List ((ℕ × ℕ) × C) → Type 0) → List ((N × N) × C) → Type 0
 AreNamed {C = C} names P edges = (numbered : List ((ℕ × ℕ) × C)) × P numbered × AllZip (IsNamed names) numbered edges
+
+-- flows, a total and a cut: the same with the names of the vertices
+pub record IsNamedAnswer {N C A : Type 0} (names : List N) (answer : Vec ((ℕ × ℕ) × C) A × C × Vec ((ℕ × ℕ) × C) A) (named : Vec ((N × N) × C) A × C × Vec ((N × N) × C) A) : Type 0 where
+  pub flows : AllZip (IsNamed names) answer.0.items named.0.items
+  pub total : named.1 ≡ answer.1
+  pub cut : AllZip (IsNamed names) answer.2.items named.2.items
 
 module _ {N : Type 0} (eq : N → N → Bool) where
   -- the vertices, each once, in the order in which they first stand
@@ -67,6 +73,11 @@ module _ {N : Type 0} (eq : N → N → Bool) where
       AreAccepted t [] = ⊤
       AreAccepted t (e ∷ es) = IsAccepted t e × AreAccepted (with_capacity_of t e) es
 
+      -- these edges are accepted in turn, and their capacities are those of the network
+      pub record HoldsEdges (edges : List ((N × N) × C)) (M : Network) : Type 0 where
+        pub accepted : AreAccepted (λ a b. pos 0) edges
+        pub capacities : HasCapacities (given_capacities edges) M
+
       -- why an edge is refused: one of its vertices is not known, or else its capacity is below 0, or else the sum of all capacities with it does not fit
       abbrev pub IsEdgeRefused : PairTable → (N × N) × C → PathError → Type 0
       IsEdgeRefused t e r =
@@ -79,22 +90,43 @@ module _ {N : Type 0} (eq : N → N → Bool) where
         pub accepted : AreAccepted (λ a b. pos 0) before
         pub why : IsEdgeRefused (given_capacities before) e r
 
--- Calls that take edges from what an iterator is made of: `becomes` says which iterators are made of it, and `steps` what a call of one gives.
-module _ {N C I S : Type 0} (eq : N → N → Bool) (value : C → ℤ) (fits : ℤ → Type 0) (becomes : I → S → Type 0) (steps : S → Option ((N × N) × C) → S → Type 0) where
-  -- the edges were given to the end, each was accepted, and this is the answer for them
-  abbrev pub IsAnsweredFor : List N → N → N → I → List ((N × N) × C) → ℤ → List ((N × N) × C) → Type 0
-  IsAnsweredFor names from to given carried amount leaving = (it : S) × (edges : List ((N × N) × C)) × becomes given it × Drains steps it edges
-      × AreAccepted eq value names fits (λ a b. pos 0) edges
-      × ((M : Network) × IsAnswer eq value names fits from to edges carried amount leaving M)
+-- Edges between named vertices that are taken of an iterator, each with a capacity.
+pub record GivenEdges (N C : Type 0) : Type 1 where
+  -- which vertices are the same
+  pub eq : N → N → Bool
+  -- the number that a capacity is
+  pub value : C → ℤ
+  -- which numbers a capacity can be
+  pub fits : ℤ → Type 0
+  -- the vertices, each once
+  pub names : List N
+  -- the iterators over such edges
+  pub Edges : Type 0
+  -- which of them the edges are taken of
+  pub becomes : Edges → Type 0
+  -- what a call of one gives
+  pub steps : Edges → Option ((N × N) × C) → Edges → Type 0
+
+module _ {N C : Type 0} (given : GivenEdges N C) where
+  -- the edges were given to the end, and the network holds them
+  abbrev pub HoldsGivenEdges : Network → Type 0
+  HoldsGivenEdges M = (it : given.Edges) × (edges : List ((N × N) × C)) × given.becomes it × Drains given.steps it edges × HoldsEdges given.eq given.value given.names given.fits edges M
 
   -- some edges were given, of which the last is the first that is refused
-  abbrev pub AreEdgesRefused : List N → I → PathError → Type 0
-  AreEdgesRefused names given r = (it : S) × (edges : List ((N × N) × C)) × (edge : (N × N) × C) × (left : S) × becomes given it × Yields steps it (edges ++ edge ∷ []) left
-      × IsFirstRefused eq value names fits edges edge r
+  abbrev pub AreEdgesRefused : PathError → Type 0
+  AreEdgesRefused r = (it : given.Edges) × (edges : List ((N × N) × C)) × (edge : (N × N) × C) × (left : given.Edges) × given.becomes it × Yields given.steps it (edges ++ edge ∷ []) left
+      × IsFirstRefused given.eq given.value given.names given.fits edges edge r
 
-  -- why it is refused: for memory, or because source or sink is not known, or else for an edge
-  abbrev pub IsRefusedFor : List N → N → N → I → PathError → Type 0
-  IsRefusedFor names from to given r =
-      (r ≡ OutOfMemory)
-      ⊎ ((r ≡ UnknownVertex) × ((¬ (IsKnown eq names from)) ⊎ (¬ (IsKnown eq names to))))
-      ⊎ (IsKnown eq names from × IsKnown eq names to × AreEdgesRefused names given r)
+  module _ (source sink : N) where
+    -- the edges were given to the end, each was accepted, and this is the answer for them
+    abbrev pub IsAnsweredFor : {A : Type 0} → Vec ((N × N) × C) A × C × Vec ((N × N) × C) A → Type 0
+    IsAnsweredFor answer = (it : given.Edges) × (edges : List ((N × N) × C)) × given.becomes it × Drains given.steps it edges
+        × AreAccepted given.eq given.value given.names given.fits (λ a b. pos 0) edges
+        × ((M : Network) × IsAnswer given.eq given.value given.names given.fits source sink edges answer.0.items (given.value answer.1) answer.2.items M)
+
+    -- why it is refused: for memory, or because source or sink is not known, or else for an edge
+    abbrev pub IsRefusedFor : PathError → Type 0
+    IsRefusedFor r =
+        (r ≡ OutOfMemory)
+        ⊎ ((r ≡ UnknownVertex) × ((¬ (IsKnown given.eq given.names source)) ⊎ (¬ (IsKnown given.eq given.names sink))))
+        ⊎ (IsKnown given.eq given.names source × IsKnown given.eq given.names sink × AreEdgesRefused r)

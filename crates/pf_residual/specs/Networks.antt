@@ -1,6 +1,6 @@
 -- What a contract sees of a store of flows.
-use Rattle.std.specs.Prelude.{◌≡◌, ◌≢◌, ◌≤ℤ◌, ◌+ℤ◌, ◌<◌, ℕ, ℤ, pos, neg_ℤ, Bool, true, false}
-use Rattle.pf_residual.specs.Flows.{PairTable, added, replaced, pair_sum, flow_value, cut_capacity, Same, IsNonNegative, IsAntisymmetric, IsFeasibleFlow, IsSmallestLeastCut}
+use Rattle.std.specs.Prelude.{◌≡◌, ◌≢◌, ◌≤ℤ◌, ◌+ℤ◌, ◌<◌, ◌*◌, ℕ, ℤ, pos, neg_ℤ, Bool, true, false}
+use Rattle.pf_residual.specs.Flows.{PairTable, added, replaced, pair_sum, pair_count, flow_value, cut_capacity, Same, IsNonNegative, IsAntisymmetric, IsFeasibleFlow, IsSmallestLeastCut}
 
 -- vertices 0 to n - 1, a source and a sink; what is left of each capacity, and the flow; a total; whether flows and cuts are listed; and which pairs have room
 pub record Network : Type 0 where
@@ -70,6 +70,10 @@ pub record KeepsCapacities (N M : Network) : Type 0 where
 pub record ChangesCapacity (from to : ℕ) (number : ℤ) (N M : Network) : Type 0 where
   pub shape : KeepsShape N M
   pub capacities : Same (replaced (capacity N) from to number) (capacity M)
+
+-- along how many paths flow is added at most: the number of vertices, times that of ordered pairs with capacity in either direction
+abbrev pub path_bound : Network → ℕ
+path_bound N = N.vertices * pair_count N.vertices (capacity N)
 
 -- the sum of all capacities
 abbrev pub capacity_sum : Network → ℤ

@@ -1,7 +1,7 @@
 //! Flow that is taken off an arc: round cycles of flow through it, found by breadth-first search.
 
-ghost use Rattle.std.specs.Prelude.{◌≡◌, ◌<◌, ◌≤ℤ◌, ◌<ℤ◌, ℕ, Some, pos, IfOk, IfErr, OnOk, length, slice_get};
-ghost use Rattle.pf_residual.specs.Internal.Cancelling.{AreRows, AreInside, IsCirculation, AreAmounts, HasAmount, IsLowered};
+ghost use Rattle.std.specs.Prelude.{◌≡◌, ◌<◌, ◌≤ℤ◌, pos, IfErr, OnOk, length};
+ghost use Rattle.pf_residual.specs.Internal.Cancelling.{AreInside, IsCirculation, AreAmounts, HasAmount, IsLowered};
 
 use pf_base::{PathError, SignedCost};
 use std::alloc::Allocator;

@@ -1,8 +1,8 @@
 //! Flow that is added along a path.
 
-ghost use Rattle.std.specs.Prelude.{◌≡◌, ◌<◌, ◌+◌, ◌<ℤ◌, ◌≤ℤ◌, ℕ, pos, length, slice_index};
-ghost use Rattle.pf_residual.specs.Networks.{Network, capacity, IsNetwork, KeepsCapacities};
-ghost use Rattle.pf_residual.specs.Internal.AugmentingPaths.{IsAugmentingPath, IsLabelling, IsLevelPath, potential};
+ghost use Rattle.std.specs.Prelude.{◌≡◌, ◌<◌, ◌+◌, ◌≤ℤ◌, ℕ, length, slice_index};
+ghost use Rattle.pf_residual.specs.Networks.{Network, IsNetwork, KeepsCapacities};
+ghost use Rattle.pf_residual.specs.Internal.AugmentingPaths.{IsAugmentingPath, KeepsLabelling, RaisesPotential};
 
 use crate::numbers::{is_below, plus};
 use crate::store::FlowStore;
@@ -37,8 +37,8 @@ where
     requires path { IsAugmentingPath (S.network store.old) path.now }
     ensures network { IsNetwork C.fits (S.network store.new) }
     ensures kept { KeepsCapacities (S.network store.old) (S.network store.new) }
-    ensures levels { (d : ℕ → ℕ) → IsLevelPath d path.now → IsLabelling (S.network store.old).vertices (S.network store.old).source (S.network store.old).residual d → IsLabelling (S.network store.old).vertices (S.network store.old).source (S.network store.new).residual d }
-    ensures rises { (d : ℕ → ℕ) → IsLevelPath d path.now → potential (S.network store.old).vertices (capacity (S.network store.old)) (S.network store.old).residual d < potential (S.network store.old).vertices (capacity (S.network store.old)) (S.network store.new).residual d }
+    ensures levels { KeepsLabelling path.now (S.network store.old) (S.network store.new) }
+    ensures rises { RaisesPotential path.now (S.network store.old) (S.network store.new) }
 {
     let amount = least_residual(store, path);
     for place in 0..path.len() - 1 {

@@ -1,6 +1,6 @@
 //! The edges of one vertex, sorted by the other end.
 
-ghost use Rattle.std.specs.Prelude.{pos, ◌<ℤ◌, neg_ℤ, ◌≡◌, ◌≤◌, ◌<◌, ◌+ℤ◌, ◌-ℤ◌, ℕ, List, [], true, false, length, nat_eq, if◌then◌else◌, slice_index_or, IfSome, IfNone, IfErr, OnErr, OnOk, IfOk};
+ghost use Rattle.std.specs.Prelude.{pos, ◌<ℤ◌, neg_ℤ, ◌≡◌, ◌≤◌, ◌<◌, ◌+ℤ◌, ◌-ℤ◌, ℕ, List, [], true, false, length, if◌then◌else◌, IfSome, IfNone, IfErr, OnErr, OnOk, IfOk};
 ghost use Rattle.std.specs.List.{HoldsAt};
 ghost use Rattle.pf_residual.specs.SparseRows.{ends, Rises, has_end, place_of, amount_to, IsRowChanged, with_edge, without_edge, AreBelow};
 ghost use Rattle.pf_residual.specs.Listings.{ListsNumbers, ListsVertices};

@@ -2,7 +2,7 @@
 
 ghost use Rattle.std.specs.Prelude.{◌≡◌, ◌<◌, ◌<ℤ◌, pos, true, length, slice_index, IfSome};
 ghost use Rattle.pf_residual.specs.Networks.{Network};
-ghost use Rattle.pf_residual.specs.Internal.Steps.{AreSteps, IsClimb, IsSinkWay, work_left};
+ghost use Rattle.pf_residual.specs.Internal.Steps.{AreSteps, IsClimb, IsSinkWay, work_of};
 
 use crate::numbers::is_below;
 use crate::steps::Steps;
@@ -50,7 +50,7 @@ where
     requires climb { IsClimb (S.network store.now) levels.now steps.old.targets.items steps.old.places.items steps.old.ends.items path.old depth }
     requires below { depth < slice_index levels.now (S.network store.now).sink }
     ensures climb { IfSome result (IsClimb (S.network store.now) levels.now steps.new.targets.items steps.new.places.items steps.new.ends.items path.new) }
-    ensures less { IfSome result (λ after. work_left (S.network store.now) levels.now steps.new.places.items steps.new.ends.items after < work_left (S.network store.now) levels.now steps.old.places.items steps.old.ends.items depth) }
+    ensures less { IfSome result (λ after. work_of (S.network store.now) levels.now steps.new after < work_of (S.network store.now) levels.now steps.old depth) }
     ensures steps { AreSteps (S.network store.now).vertices steps.new.targets.items steps.new.places.items steps.new.ends.items }
 {
     let from = path[depth];

@@ -15,7 +15,7 @@ use std::alloc::Allocator;
 pub struct Pipes<S: EdmondsKarp<i64>> {
     store: S,
     // what each call of the store asks and keeps
-    ghost network: { IsNetwork (FitsSigned w64) (S.FlowStore.network store) },
+    ghost network: { IsNetwork (FitsSigned w64) (S.network store) },
 }
 
 impl<S: EdmondsKarp<i64>> Pipes<S> {
@@ -50,8 +50,8 @@ impl<S: EdmondsKarp<i64>> Pipes<S> {
         to: usize,
         capacity: i64,
     ) -> Result<(), PathError>
-        ensures changed { OnOk result (ChangesCapacity from to capacity (S.FlowStore.network self.old.store) (S.FlowStore.network self.new.store)) }
-        ensures unchanged { OnErr result (Agrees (S.FlowStore.network self.old.store) (S.FlowStore.network self.new.store)) }
+        ensures changed { OnOk result (ChangesCapacity from to capacity (S.network self.old.store) (S.network self.new.store)) }
+        ensures unchanged { OnErr result (Agrees (S.network self.old.store) (S.network self.new.store)) }
     {
         if from >= self.store.size() || to >= self.store.size() {
             return Err(PathError::UnknownVertex);
@@ -68,9 +68,9 @@ impl<S: EdmondsKarp<i64>> Pipes<S> {
         &mut self,
         alloc: A,
     ) -> Result<EKFlows<usize, i64, A>, PathError>
-        ensures kept { KeepsCapacities (S.FlowStore.network self.old.store) (S.FlowStore.network self.new.store) }
-        ensures total { IfOk result (λ answer. answer.1 ≡ (S.FlowStore.network self.new.store).total) }
-        ensures cut { OnOk result (HasCutOfTotal (S.FlowStore.network self.new.store)) }
+        ensures kept { KeepsCapacities (S.network self.old.store) (S.network self.new.store) }
+        ensures total { IfOk result (λ answer. answer.1 ≡ (S.network self.new.store).total) }
+        ensures cut { OnOk result (HasCutOfTotal (S.network self.new.store)) }
         ensures refused { IfErr result (λ e. e ≡ OutOfMemory) }
     {
         self.store.augment(alloc)
@@ -85,7 +85,7 @@ impl<S: EdmondsKarp<i64>> Pipes<S> {
         &self,
         alloc: A,
     ) -> Result<Vec<Edge<usize, i64>, A>, PathError>
-        ensures listed { IfOk result (λ flows. ListsFlows (λ z. z) (S.FlowStore.network self.now.store) flows.items) }
+        ensures listed { IfOk result (λ flows. ListsFlows (λ z. z) (S.network self.now.store) flows.items) }
     {
         self.store.flows(alloc)
     }
@@ -117,21 +117,21 @@ impl<S: EdmondsKarp<i64>> Pipes<S> {
 
     /// The sum of all capacities.
     pub fn sum(&self) -> i64
-        ensures { result ≡ capacity_sum (S.FlowStore.network self.now.store) }
+        ensures { result ≡ capacity_sum (S.network self.now.store) }
     {
         self.store.capacity_sum()
     }
 
     /// The total of the flow.
     pub fn total(&self) -> i64
-        ensures { result ≡ (S.FlowStore.network self.now.store).total }
+        ensures { result ≡ (S.network self.now.store).total }
     {
         self.store.total_capacity()
     }
 
     /// From now on `fill` lists neither flows nor cuts.
     pub fn be_brief(&mut self)
-        ensures { Agrees (without_details (S.FlowStore.network self.old.store)) (S.FlowStore.network self.new.store) }
+        ensures { Agrees (without_details (S.network self.old.store)) (S.network self.new.store) }
     {
         self.store.omit_details();
     }

@@ -23,6 +23,10 @@ pub record IsLabelling (n source : ℕ) (residual : PairTable) (d : ℕ → ℕ)
   pub top : (a : ℕ) → a < n → d a ≤ n
   pub step : (a b : ℕ) → a < n → b < n → pos 0 <ℤ residual a b → d b ≤ suc (d a)
 
+-- levels that go up along the path stay a labelling
+abbrev pub KeepsLabelling : List ℕ → Network → Network → Type 0
+KeepsLabelling path N M = (d : ℕ → ℕ) → IsLevelPath d path → IsLabelling N.vertices N.source N.residual d → IsLabelling N.vertices N.source M.residual d
+
 -- what a pair adds to the potential: nothing, or the level of its first end while it has residual capacity, and else of its second
 abbrev pub weight : Bool → Bool → ℕ → ℕ → ℕ
 weight linked left here there = if linked then (if left then here else there) else 0
@@ -30,6 +34,18 @@ weight linked left here there = if linked then (if left then here else there) el
 -- the sum of the levels of all pairs with capacity in either direction
 abbrev pub potential : ℕ → PairTable → PairTable → (ℕ → ℕ) → ℕ
 potential n capacity residual d = count_to (λ a. count_to (λ b. weight (are_linked capacity a b) (is_positive (residual a b)) (d a) (d b)) n) n
+
+-- the potential of levels over the pairs with capacity in N, of which M has something left, or nothing
+abbrev pub potential_in : Network → Network → (ℕ → ℕ) → ℕ
+potential_in N M d = potential N.vertices (capacity N) M.residual d
+
+-- the potential of levels that go up along the path rises
+abbrev pub RaisesPotential : List ℕ → Network → Network → Type 0
+RaisesPotential path N M = (d : ℕ → ℕ) → IsLevelPath d path → potential_in N N d < potential_in N M d
+
+-- ticks rise by at most as much as the potential of the levels
+abbrev pub TicksWithinRise : (ℕ → ℕ) → Network → Network → ℕ → ℕ → Type 0
+TicksWithinRise d N M before after = after + potential_in N N d ≤ before + potential_in N M d
 
 -- the amount at one vertex, and 0 at others
 abbrev pub amount_at : ℕ → ℤ → ℕ → ℤ
@@ -49,6 +65,6 @@ pub record IsPushed (fits : ℤ → Type 0) (N : Network) (path : List ℕ) (amo
 
 -- levels that go up along the path stay a labelling, and the potential does not fall; where a step of the path is filled, it rises
 pub record KeepsLevels (N : Network) (path : List ℕ) (amount : ℤ) (k : ℕ) (M : Network) : Type 0 where
-  pub labelled : (d : ℕ → ℕ) → IsLevelPath d path → IsLabelling N.vertices N.source N.residual d → IsLabelling N.vertices N.source M.residual d
-  pub kept : (d : ℕ → ℕ) → IsLevelPath d path → potential N.vertices (capacity N) N.residual d ≤ potential N.vertices (capacity N) M.residual d
-  pub raised : (d : ℕ → ℕ) (j : ℕ) → IsLevelPath d path → j < k → j + 1 < length path → N.residual (slice_index path j) (slice_index path (j + 1)) ≡ amount → potential N.vertices (capacity N) N.residual d < potential N.vertices (capacity N) M.residual d
+  pub labelled : KeepsLabelling path N M
+  pub kept : (d : ℕ → ℕ) → IsLevelPath d path → potential_in N N d ≤ potential_in N M d
+  pub raised : (d : ℕ → ℕ) (j : ℕ) → IsLevelPath d path → j < k → j + 1 < length path → N.residual (slice_index path j) (slice_index path (j + 1)) ≡ amount → potential_in N N d < potential_in N M d

@@ -96,6 +96,10 @@ module _ {C : Type 0} (value : C → ℤ) where
     pub standing : (b j : ℕ) → slice_get places b ≡ Some (Some j) → (s : Step) × (slice_get steps j ≡ Some s) × (s.vertex ≡ b)
     pub count : length steps + count_by is_none places ≡ length places
 
+  -- what was reached from a start stays reached from it
+  abbrev pub StaysReached : List Arc → List C → List Step → List (Option ℕ) → List Step → List (Option ℕ) → Type 0
+  StaysReached ends xs steps places steps' places' = (start : ℕ) → IsReached ends xs start steps places → IsReached ends xs start steps' places'
+
   -- each arc of these numbers that carries flow leads to a vertex that was reached
   abbrev pub LeadsToPlaced : List Arc → List C → List ℕ → List (Option ℕ) → Type 0
   LeadsToPlaced ends xs ks places = (k : ℕ) (e : Arc) → Has ks k → slice_get ends k ≡ Some e → HasAmount xs k (λ z. z ≢ pos 0) → IsPlaced places e.to

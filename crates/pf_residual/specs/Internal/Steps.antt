@@ -3,6 +3,7 @@ use Rattle.std.specs.Prelude.{◌≡◌, ◌≤◌, ◌<◌, ◌+◌, ◌-◌, �
 use Rattle.pf_residual.specs.Flows.{count_to}
 use Rattle.pf_residual.specs.Networks.{Network}
 use Rattle.pf_residual.specs.Internal.Levels.{IsWay}
+use Rattle.pf_residual.specs.declared.steps.Steps.{Steps}
 
 -- steps between n vertices: those of the vertex a are the targets from place a on to end a
 pub record AreSteps (n : ℕ) (targets places ends : List ℕ) : Type 0 where
@@ -34,3 +35,7 @@ pub record IsClimb (N : Network) (levels targets places ends path : List ℕ) (d
 -- what falls with each move of the search
 abbrev pub work_left : Network → List ℕ → List ℕ → List ℕ → ℕ → ℕ
 work_left N levels places ends depth = 2 * steps_left N.vertices places ends + (slice_index levels N.sink - depth)
+
+-- the same of the steps of a search
+abbrev pub work_of : {A : Type 0} → Network → List ℕ → Steps A → ℕ → ℕ
+work_of N levels steps depth = work_left N levels steps.places.items steps.ends.items depth

@@ -1,6 +1,6 @@
 //! Arcs, and their numbers in rows.
 
-ghost use Rattle.std.specs.Prelude.{◌≡◌, ◌<◌, ℕ, Some, Vec, IfOk, IfErr, OnOk, length, slice_get};
+ghost use Rattle.std.specs.Prelude.{◌≡◌, ◌<◌, ℕ, Some, Vec, IfOk, IfErr, length, slice_get};
 ghost use Rattle.pf_residual.specs.Internal.Cancelling.{Has, AreRows, AreInside};
 ghost use Rattle.pf_residual.specs.declared.cancelling.arcs.Arc.{Arc};
 

@@ -1,6 +1,6 @@
 //! A cycle of arcs that carry flow, and the flow that is taken off it.
 
-ghost use Rattle.std.specs.Prelude.{◌≡◌, ◌<◌, ◌≤ℤ◌, ◌<ℤ◌, ◌+ℤ◌, ℕ, Bool, List, Some, pos, IfOk, IfErr, length, slice_get};
+ghost use Rattle.std.specs.Prelude.{◌≡◌, ◌<◌, ◌≤ℤ◌, ◌<ℤ◌, ◌+ℤ◌, ℕ, Bool, List, Some, pos, IfOk, IfErr, length};
 ghost use Rattle.pf_residual.specs.Internal.Cancelling.{Has, AreRows, AreInside, IsCirculation, AreAmounts, HasAmount, IsOnce, IsCycle, IsTakenOff, net_of, gained};
 ghost use Rattle.pf_residual.specs.declared.cancelling.arcs.Arc.{Arc};
 

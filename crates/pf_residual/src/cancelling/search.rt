@@ -1,7 +1,7 @@
 //! A breadth-first search over the arcs that carry flow.
 
 ghost use Rattle.std.specs.Prelude.{◌≡◌, ◌≢◌, ◌<◌, ℕ, [], ◌∷◌, None, Some, pos, IfOk, IfErr, OnOk, length, slice_get, slice_set, replicate};
-ghost use Rattle.pf_residual.specs.Internal.Cancelling.{AreRows, AreInside, HasAmount, IsPlaced, Reaches, IsReached, Extends, IsRowOf, LeadsToPlaced, IsExpanded};
+ghost use Rattle.pf_residual.specs.Internal.Cancelling.{AreRows, AreInside, HasAmount, IsPlaced, Reaches, IsReached, Extends, IsRowOf, LeadsToPlaced, IsExpanded, StaysReached};
 ghost use Rattle.pf_residual.specs.declared.cancelling.arcs.Arc.{Arc};
 ghost use Rattle.pf_residual.specs.declared.cancelling.search.Step.{Step};
 
@@ -69,7 +69,7 @@ fn follow<C: SignedCost, A: Allocator>(
     requires arc { (s : Step) × (e : Arc) × (slice_get reached.old.steps.items at ≡ Some s) × (slice_get ends.now number ≡ Some e) × (e.from ≡ s.vertex) }
     requires long { length amounts.now ≡ length ends.now }
     requires inside { AreInside (length reached.old.places.items) ends.now }
-    ensures reached { OnOk result ((start : ℕ) → IsReached C.value ends.now amounts.now start reached.old.steps.items reached.old.places.items → IsReached C.value ends.now amounts.now start reached.new.steps.items reached.new.places.items) }
+    ensures reached { OnOk result (StaysReached C.value ends.now amounts.now reached.old.steps.items reached.old.places.items reached.new.steps.items reached.new.places.items) }
     ensures extends { OnOk result (Extends reached.old.steps.items reached.old.places.items reached.new.steps.items reached.new.places.items) }
     ensures placed { OnOk result ((e : Arc) → slice_get ends.now number ≡ Some e → HasAmount C.value amounts.now number (λ z. z ≢ pos 0) → IsPlaced reached.new.places.items e.to) }
     ensures refused { IfErr result (λ e. e ≡ PathError.OutOfMemory) }
@@ -101,7 +101,7 @@ fn expand<C: SignedCost, A: Allocator>(
     requires row { IsRowOf ends.now row.now at reached.old.steps.items }
     requires long { length amounts.now ≡ length ends.now }
     requires inside { AreInside (length reached.old.places.items) ends.now }
-    ensures reached { OnOk result ((start : ℕ) → IsReached C.value ends.now amounts.now start reached.old.steps.items reached.old.places.items → IsReached C.value ends.now amounts.now start reached.new.steps.items reached.new.places.items) }
+    ensures reached { OnOk result (StaysReached C.value ends.now amounts.now reached.old.steps.items reached.old.places.items reached.new.steps.items reached.new.places.items) }
     ensures extends { OnOk result (Extends reached.old.steps.items reached.old.places.items reached.new.steps.items reached.new.places.items) }
     ensures expanded { OnOk result (LeadsToPlaced C.value ends.now amounts.now row.now reached.new.places.items) }
     ensures refused { IfErr result (λ e. e ≡ PathError.OutOfMemory) }

@@ -21,7 +21,7 @@ fn shows<S: FlowStore<i64>>(store: &S, from: usize, to: usize, flow: i64, left: 
 
 /// Whether a store of two vertices, filled through a capacity of 5, answers what it holds.
 fn is_read<S: EdmondsKarp<i64>>(store: &S) -> bool
-    requires { IsNetwork (FitsSigned w64) (S.FlowStore.network store.now) }
+    requires { IsNetwork (FitsSigned w64) (S.network store.now) }
 {
     store.size() == 2
         && store.source() == 0
@@ -35,8 +35,8 @@ fn is_read<S: EdmondsKarp<i64>>(store: &S) -> bool
 
 /// Whether updates of that store change what they should.
 fn is_updated<S: EdmondsKarp<i64>>(store: &mut S) -> bool
-    requires two { (S.FlowStore.network store.old).vertices ≡ 2 }
-    requires room { (S.FlowStore.network store.old).room 1 0 ≡ true }
+    requires two { (S.network store.old).vertices ≡ 2 }
+    requires room { (S.network store.old).room 1 0 ≡ true }
 {
     if !shows(store, 0, 1, 5, 0) || !shows(store, 1, 0, -5, 5) {
         return false;

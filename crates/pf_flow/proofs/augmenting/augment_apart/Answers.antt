@@ -1,8 +1,7 @@
-use Rattle.std.proofs.Common.{◌∙◌}
 use Rattle.std.proofs.lemmas.Result.{IfOk-from_err}
 use Rattle.pf_residual.specs.Internal.Levels.{reached}
 use Rattle.pf_flow.proofs.CutOfLevels.{cut_of_levels}
-use Rattle.pf_residual.proofs.NamedLemmas.{ok_gives, ok_when, refused_as}
+use Rattle.pf_residual.proofs.NamedLemmas.{ok_when, refused_as}
 use Rattle.pf_flow.proofs.augmenting.augment_apart.Goals as goal
 
 pub saturate-requires-clause-network : goal.saturate-requires-clause-network
@@ -26,10 +25,7 @@ returns g c = record {
       let e = c.in_ok-saturate.ensures.stuck in
       let levels = c.saturate.new.found.levels.items in
       ok_when c.list_answer.result (λ apart. (reached levels, cut_of_levels levels c.saturate.new.found.parents.items c.saturate.ensures.network law.source_in law.sink_in e.found e.len e.top));
-  total = c.list_answer.ensures.total;
-  flows = ok_gives c.list_answer.result c.list_answer.ensures.flows (λ answer f details. f (c.saturate.ensures.kept.shape.details ∙ details));
-  cut_edges = ok_gives c.list_answer.result c.list_answer.ensures.cut_edges (λ answer f details. f (c.saturate.ensures.kept.shape.details ∙ details));
-  omitted = ok_gives c.list_answer.result c.list_answer.ensures.omitted (λ answer f details. f (c.saturate.ensures.kept.shape.details ∙ details));
+  answer = c.list_answer.ensures.answer;
   refused = c.list_answer.ensures.refused;
   ticked = c.saturate.ensures.ticked;
   paths = c.saturate.ensures.paths;
@@ -40,10 +36,7 @@ returns-in_err-saturate g c = record {
   network = c.saturate.ensures.network;
   kept = c.saturate.ensures.kept;
   cut = IfOk-from_err _ _ c.from_residual.ensures.0;
-  total = IfOk-from_err _ _ c.from_residual.ensures.0;
-  flows = IfOk-from_err _ _ c.from_residual.ensures.0;
-  cut_edges = IfOk-from_err _ _ c.from_residual.ensures.0;
-  omitted = IfOk-from_err _ _ c.from_residual.ensures.0;
+  answer = IfOk-from_err _ _ c.from_residual.ensures.0;
   refused = refused_as _ c.from_residual.result _ c.in_err-saturate.ensures.refused c.from_residual.ensures.1;
   ticked = c.saturate.ensures.ticked;
   paths = c.saturate.ensures.paths;

@@ -3,12 +3,8 @@ use Rattle.std.proofs.lemmas.Int.{ints}
 use Rattle.pf_residual.specs.Listings.{ListsFlows}
 use Rattle.pf_residual.proofs.AgreeLemmas.{capacities_kept}
 use Rattle.pf_residual.proofs.ChangeListings.{lists_none}
-use Rattle.pf_residual.proofs.NamedLemmas.{ok_gives}
 use Rattle.pf_residual.proofs.NetworkLemmas.{idle_total}
 use Rattle.pf_flow.proofs.augmenting.augment_flow.Goals as goal
-
-pub returns-then-source-sink-clause-idle : goal.returns-then-source-sink-clause-idle
-returns-then-source-sink-clause-idle g c = λ e. (c.new.ensures.items, c.total_capacity.ensures ∙ idle_total c.requires e, c.new-then-source-sink.ensures.items)
 
 pub returns-then-source-sink-clause-network : goal.returns-then-source-sink-clause-network
 returns-then-source-sink-clause-network g c = c.requires
@@ -19,20 +15,17 @@ returns-then-source-sink-clause-kept g c = capacities_kept (g.S.FlowStore.networ
 pub returns-then-source-sink-clause-cut : goal.returns-then-source-sink-clause-cut
 returns-then-source-sink-clause-cut g c = λ apart. absurd (apart (sym c.source.ensures ∙ c.if-source-sink.true ∙ c.sink.ensures))
 
-pub returns-then-source-sink-clause-total : goal.returns-then-source-sink-clause-total
-returns-then-source-sink-clause-total g c = c.total_capacity.ensures
-
-pub returns-then-source-sink-clause-flows : goal.returns-then-source-sink-clause-flows
-returns-then-source-sink-clause-flows g c = λ details.
+pub returns-then-source-sink-clause-answer : goal.returns-then-source-sink-clause-answer
+returns-then-source-sink-clause-answer g c =
     let N = g.S.FlowStore.network c.args.store.now in
-    let idle = c.requires.idle (sym c.source.ensures ∙ c.if-source-sink.true ∙ c.sink.ensures) in
-    subst (ListsFlows g.C.Number.value N) (sym c.new.ensures.items) (lists_none g.C.Number.value N.vertices N.flow _ (λ a b p. let none = idle a b in omega (arith, ints, p, none)))
-
-pub returns-then-source-sink-clause-cut_edges : goal.returns-then-source-sink-clause-cut_edges
-returns-then-source-sink-clause-cut_edges g c = λ details apart. absurd (apart (sym c.source.ensures ∙ c.if-source-sink.true ∙ c.sink.ensures))
-
-pub returns-then-source-sink-clause-omitted : goal.returns-then-source-sink-clause-omitted
-returns-then-source-sink-clause-omitted g c = λ details. (c.new.ensures.items, c.new-then-source-sink.ensures.items)
+    let one = sym c.source.ensures ∙ c.if-source-sink.true ∙ c.sink.ensures in
+    record {
+      total = c.total_capacity.ensures;
+      flows = λ details. subst (ListsFlows g.C.Number.value N) (sym c.new.ensures.items) (lists_none g.C.Number.value N.vertices N.flow _ (λ a b p. let none = c.requires.idle one a b in omega (arith, ints, p, none)));
+      cut_edges = λ details apart. absurd (apart one);
+      idle = λ e. (c.new.ensures.items, c.total_capacity.ensures ∙ idle_total c.requires e, c.new-then-source-sink.ensures.items);
+      omitted = λ details. (c.new.ensures.items, c.new-then-source-sink.ensures.items);
+    }
 
 pub returns-then-source-sink-clause-ticked : goal.returns-then-source-sink-clause-ticked
 returns-then-source-sink-clause-ticked g c = omega arith
@@ -51,11 +44,7 @@ returns g c = record {
   network = c.augment_apart.ensures.network;
   kept = c.augment_apart.ensures.kept;
   cut = c.augment_apart.ensures.cut;
-  total = c.augment_apart.ensures.total;
-  flows = c.augment_apart.ensures.flows;
-  cut_edges = c.augment_apart.ensures.cut_edges;
-  idle = ok_gives c.augment_apart.result c.augment_apart.ensures.total (λ answer worth e. absurd (c.if-source-sink.false (c.source.ensures ∙ e ∙ sym c.sink.ensures)));
-  omitted = c.augment_apart.ensures.omitted;
+  answer = c.augment_apart.ensures.answer;
   refused = c.augment_apart.ensures.refused;
   ticked = c.augment_apart.ensures.ticked;
   paths = c.augment_apart.ensures.paths;

@@ -1,8 +1,7 @@
-use Rattle.std.proofs.Common.{◌≡◌, ◌≤◌, ◌+◌, ◌-◌, ◌*◌, length}
+use Rattle.std.proofs.Common.{◌≡◌, ◌≤◌, ◌+◌, ◌-◌, length}
 use Rattle.std.specs.Prelude.{slice_index}
-use Rattle.pf_residual.specs.Flows.{pair_count}
-use Rattle.pf_residual.specs.Networks.{capacity, IsNetwork, KeepsCapacities}
-use Rattle.pf_residual.specs.Internal.AugmentingPaths.{potential}
+use Rattle.pf_residual.specs.Networks.{path_bound, IsNetwork, KeepsCapacities}
+use Rattle.pf_residual.specs.Internal.AugmentingPaths.{potential_in}
 use Rattle.pf_residual.specs.Internal.Levels.{AreLevels}
 use Rattle.pf_residual.specs.Internal.Steps.{AreSteps}
 use Rattle.pf_flow.proofs.augmenting.saturate.Given as goal
@@ -18,8 +17,8 @@ invariant-phases g l = record {
   steps : AreSteps (g.S.FlowStore.network l.store).vertices l.found.steps.targets.items l.found.steps.places.items l.found.steps.ends.items;
   path_len : length l.path.items ≡ (g.S.FlowStore.network l.store).vertices;
   ticked : l.fn.tally ≤ l.tally;
-  bound : l.tally ≤ l.fn.tally + potential (g.S.FlowStore.network l.fn.store).vertices (capacity (g.S.FlowStore.network l.fn.store)) (g.S.FlowStore.network l.store).residual (slice_index l.found.levels.items);
+  bound : l.tally ≤ l.fn.tally + potential_in (g.S.FlowStore.network l.fn.store) (g.S.FlowStore.network l.store) (slice_index l.found.levels.items);
 }
 
 abbrev pub decreases-phases : goal.decreases-phases
-decreases-phases g l = l.fn.tally + (g.S.FlowStore.network l.fn.store).vertices * pair_count (g.S.FlowStore.network l.fn.store).vertices (capacity (g.S.FlowStore.network l.fn.store)) - l.tally
+decreases-phases g l = l.fn.tally + path_bound (g.S.FlowStore.network l.fn.store) - l.tally

@@ -1,6 +1,5 @@
 use Rattle.std.proofs.Common.{inl, inr}
 use Rattle.std.proofs.lemmas.Result.{IfOk-from_err}
-use Rattle.pf_residual.specs.NamedNetworks.{IsRefusedFor}
 use Rattle.pf_residual.proofs.NamedLemmas.{err_gives, ok_gives, ok_when, refused_as}
 use Rattle.pf_flow.proofs.by_names.flows_among.Goals as goal
 
@@ -24,11 +23,7 @@ returns g c = record {
   source = ok_when c.flows_of.result c.in_ok-store.ensures.source;
   sink = ok_when c.flows_of.result c.in_ok-store.ensures.sink;
   answer = ok_gives c.flows_of.result c.flows_of.ensures.answer (λ answer p. p c.args.source.now c.args.sink.now c.in_ok-store.ensures.fresh);
-  refused =
-      err_gives c.flows_of.result c.flows_of.ensures.refused (λ e why. elim why as (λ _. IsRefusedFor g.N.PartialEq.eq g.C.Number.value g.C.Number.fits g.IC.IntoIterator.into_iter_gives g.IC.IntoIter.Iterator.next_gives c.args.names.now.keys c.args.source.now c.args.sink.now c.args.capacities e) [
-        | inl r ↦ inl r
-        | inr r ↦ inr (inr (c.in_ok-store.ensures.source, c.in_ok-store.ensures.sink, r))
-      ]);
+  refused = err_gives c.flows_of.result c.flows_of.ensures.refused (λ e why. elim why [ inl r ↦ inl r | inr r ↦ inr (inr (c.in_ok-store.ensures.source, c.in_ok-store.ensures.sink, r)) ]);
 }
 
 pub returns-in_err-store : goal.returns-in_err-store
@@ -36,8 +31,5 @@ returns-in_err-store g c = record {
   source = IfOk-from_err _ _ c.from_residual.ensures.0;
   sink = IfOk-from_err _ _ c.from_residual.ensures.0;
   answer = IfOk-from_err _ _ c.from_residual.ensures.0;
-  refused =
-      let e = c.in_err-store.field-0.0 in
-      let why : IsRefusedFor g.N.PartialEq.eq g.C.Number.value g.C.Number.fits g.IC.IntoIterator.into_iter_gives g.IC.IntoIter.Iterator.next_gives c.args.names.now.keys c.args.source.now c.args.sink.now c.args.capacities e = elim c.in_err-store.ensures.refused as (λ _. IsRefusedFor g.N.PartialEq.eq g.C.Number.value g.C.Number.fits g.IC.IntoIterator.into_iter_gives g.IC.IntoIter.Iterator.next_gives c.args.names.now.keys c.args.source.now c.args.sink.now c.args.capacities e) [ inl r ↦ inl r | inr r ↦ inr (inl r) ] in
-      refused_as _ c.from_residual.result _ why c.from_residual.ensures.1;
+  refused = refused_as _ c.from_residual.result _ (elim c.in_err-store.ensures.refused [ inl r ↦ inl r | inr r ↦ inr (inl r) ]) c.from_residual.ensures.1;
 }

@@ -1,7 +1,7 @@
-use Rattle.std.proofs.Common.{◌∙◌, ◌<◌, inl, refl, sym, ap, subst, length}
-use Rattle.std.specs.List.{AllZip}
+use Rattle.std.proofs.Common.{◌∙◌, inl, sym, subst, length}
 use Rattle.std.proofs.lemmas.Result.{IfOk-from_err}
-use Rattle.pf_residual.specs.NamedNetworks.{IsNamed}
+use Rattle.pf_residual.specs.Listings.{RunBelow}
+use Rattle.pf_residual.specs.NamedNetworks.{IsNamedAnswer}
 use Rattle.pf_residual.proofs.FillLemmas.{network_of_unused}
 use Rattle.pf_residual.proofs.NamedLemmas.{answer_of, cut_inside, err_gives, flows_inside, ok_gives, refused_as}
 use Rattle.pf_flow.proofs.by_names.flows_of.Goals as goal
@@ -11,54 +11,40 @@ augment-requires g c = network_of_unused c.in_ok-put_edges.ensures.unused
 
 pub name_answer-requires-clause-flows : goal.name_answer-requires-clause-flows
 name_answer-requires-clause-flows g c =
-    let keys = c.args.names.now.keys in
     let shape = c.in_ok-put_edges.ensures.shape in
-    let kept = c.augment.ensures.kept in
-    let a = c.in_ok-answer.ensures in
-    let flows = a.flows (shape.details ∙ c.requires.details) in
-    let vertices = kept.shape.vertices ∙ shape.vertices ∙ c.requires.vertices in
-    λ i e k. subst (λ ks. (e.0.0 < length ks) × (e.0.1 < length ks)) (sym c.as_slice.ensures.keys)
-    (flows_inside keys (g.EK.FlowStore.network c.augment.new.self) g.C.Number.value vertices c.in_ok-answer.answer.0.items flows i e k)
+    let kept = c.augment.ensures.kept.shape in
+    let flows = c.in_ok-answer.ensures.answer.flows (kept.details ∙ shape.details ∙ c.requires.details) in
+    let vertices = kept.vertices ∙ shape.vertices ∙ c.requires.vertices in
+    subst (λ ks. RunBelow (length ks) c.in_ok-answer.answer.0.items) (sym c.as_slice.ensures.keys)
+    (flows_inside c.args.names.now.keys (g.EK.FlowStore.network c.augment.new.self) g.C.Number.value vertices c.in_ok-answer.answer.0.items flows)
 
 pub name_answer-requires-clause-cut : goal.name_answer-requires-clause-cut
 name_answer-requires-clause-cut g c =
-    let keys = c.args.names.now.keys in
     let shape = c.in_ok-put_edges.ensures.shape in
-    let kept = c.augment.ensures.kept in
-    let a = c.in_ok-answer.ensures in
-    let cut = a.cut_edges (shape.details ∙ c.requires.details) in
-    let vertices = kept.shape.vertices ∙ shape.vertices ∙ c.requires.vertices in
-    λ i e k. subst (λ ks. (e.0.0 < length ks) × (e.0.1 < length ks)) (sym c.as_slice.ensures.keys)
-    (cut_inside keys (g.EK.FlowStore.network c.augment.new.self) g.C.Number.value vertices c.in_ok-answer.answer.2.items cut
-    (λ q. (a.idle (sym kept.shape.source ∙ q ∙ kept.shape.sink)).2) i e k)
+    let kept = c.augment.ensures.kept.shape in
+    let a = c.in_ok-answer.ensures.answer in
+    let cut = a.cut_edges (kept.details ∙ shape.details ∙ c.requires.details) in
+    let vertices = kept.vertices ∙ shape.vertices ∙ c.requires.vertices in
+    subst (λ ks. RunBelow (length ks) c.in_ok-answer.answer.2.items) (sym c.as_slice.ensures.keys)
+    (cut_inside c.args.names.now.keys (g.EK.FlowStore.network c.augment.new.self) g.C.Number.value vertices c.in_ok-answer.answer.2.items cut (λ q. (a.idle q).2))
 
 pub returns : goal.returns
 returns g c = record {
   answer =
       ok_gives c.name_answer.result c.name_answer.ensures.named (λ named n source sink fresh.
-      let eq = g.N.PartialEq.eq in
-      let value = g.C.Number.value in
       let keys = c.args.names.now.keys in
-      let net = g.EK.FlowStore.network in
-      let shape = c.in_ok-put_edges.ensures.shape in
-      let p = c.in_ok-put_edges.ensures.capacities in
+      let p = c.in_ok-put_edges.ensures.held in
       let a = c.in_ok-answer.ensures in
-      let numbered = c.in_ok-answer.answer.0.items in
-      let crossing = c.in_ok-answer.answer.2.items in
-      let kept = c.augment.ensures.kept in
-      let on = shape.details ∙ c.requires.details in
-      let same = ap value n.1 in
-      let flows-named : AllZip (IsNamed keys) numbered named.0.items = subst (λ ks. AllZip (IsNamed ks) numbered named.0.items) c.as_slice.ensures.keys n.0 in
-      let cut-named : AllZip (IsNamed keys) crossing named.2.items = subst (λ ks. AllZip (IsNamed ks) crossing named.2.items) c.as_slice.ensures.keys n.2 in (
+      let numbered = c.in_ok-answer.answer in (
         p.0,
         p.1,
         p.2,
         p.3,
-        p.4,
+        p.4.accepted,
         (
-          net c.augment.new.self,
-          answer_of eq value keys g.C.Number.fits fresh shape kept source sink p.1 numbered crossing named.0.items named.2.items (value named.1)
-              refl refl refl p.5 c.augment.ensures.network a.cut (same ∙ a.total) (a.flows on) (a.cut_edges on) (λ e. let i = a.idle e in (i.0, same ∙ i.1, i.2)) flows-named cut-named,
+          g.EK.FlowStore.network c.augment.new.self,
+          answer_of g.N.PartialEq.eq g.C.Number.value keys g.C.Number.fits source sink fresh c.in_ok-put_edges.ensures.shape c.augment.ensures.kept p.1 numbered named
+              p.4.capacities c.augment.ensures.network a.cut a.answer (subst (λ ks. IsNamedAnswer ks numbered named) c.as_slice.ensures.keys n),
         ),
       ));
   refused = err_gives c.name_answer.result c.name_answer.ensures.refused (λ e why. inl why);

@@ -13,11 +13,11 @@ pub name_edges-requires-2 : goal.name_edges-requires-2
 name_edges-requires-2 g c = record { inside = λ i e h. c.requires.cut i e (subst (λ xs. slice_get xs i ≡ Some e) c.deref-2.ensures.value h) }
 
 pub returns-clause-named : goal.returns-clause-named
-returns-clause-named g c = (
-  subst (λ es. AllZip (IsNamed c.args.names.now) es c.in_ok-flows.flows.items) c.deref.ensures.value c.in_ok-flows.ensures.named,
-  refl,
-  subst (λ es. AllZip (IsNamed c.args.names.now) es c.in_ok-cut.cut.items) c.deref-2.ensures.value c.in_ok-cut.ensures.named,
-)
+returns-clause-named g c = record {
+  flows = subst (λ es. AllZip (IsNamed c.args.names.now) es c.in_ok-flows.flows.items) c.deref.ensures.value c.in_ok-flows.ensures.named;
+  total = refl;
+  cut = subst (λ es. AllZip (IsNamed c.args.names.now) es c.in_ok-cut.cut.items) c.deref-2.ensures.value c.in_ok-cut.ensures.named;
+}
 
 pub returns-in_err-flows-clause-named : goal.returns-in_err-flows-clause-named
 returns-in_err-flows-clause-named g c = IfOk-from_err _ _ c.from_residual.ensures.0

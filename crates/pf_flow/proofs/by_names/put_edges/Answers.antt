@@ -1,10 +1,8 @@
-use Rattle.std.proofs.Common.{◌≡◌, ◌∙◌, ◌⊎◌, inl, inr, sym, ap, subst}
+use Rattle.std.proofs.Common.{◌∙◌, inl, inr, sym, ap}
 use Rattle.std.proofs.lemmas.Result.{IfOk-from_err}
 use Rattle.pf_residual.proofs.AgreeLemmas.{capacities_kept, shape_more}
 use Rattle.pf_residual.proofs.NetworkLemmas.{none_sum}
-use Rattle.pf_residual.proofs.NamedLemmas.{refused_by, yields_more}
-use Rattle.pf_base.specs.declared.error.PathError.TheVariants.{OutOfMemory}
-use Rattle.pf_residual.specs.NamedNetworks.{AreEdgesRefused}
+use Rattle.pf_residual.proofs.NamedLemmas.{refused_as, yields_more}
 use Rattle.pf_flow.proofs.by_names.put_edges.Goals as goal
 
 pub edges-init : goal.edges-init
@@ -15,8 +13,7 @@ edges-init g c =
       shape = (capacities_kept N).shape;
       unused = c.requires.unused;
       sum = zero ∙ sym (none_sum N c.requires.none);
-      capacities = c.requires.none;
-      accepted = tt;
+      held = record { accepted = tt; capacities = c.requires.none };
     }
 
 pub edges-preserved : goal.edges-preserved
@@ -27,34 +24,15 @@ edges-preserved g c =
       shape = shape_more i.shape e.shape;
       unused = e.unused;
       sum = e.sum;
-      capacities = e.capacities c.edges.yielded i.capacities;
-      accepted = e.accepted c.edges.yielded i.capacities i.accepted;
+      held = e.held c.edges.yielded i.held;
     }
 
 pub put_edge-requires-clause-vertices : goal.put_edge-requires-clause-vertices
 put_edge-requires-clause-vertices g c = c.edges.invariant.shape.vertices ∙ c.requires.vertices
 
-pub returns-clause-capacities : goal.returns-clause-capacities
-returns-clause-capacities g c =
-    (c.into_iter-edge-iterator.result, c.edges.yielded, c.into_iter-edge-iterator.ensures.into_iter_gives, (c.next.new.self, (c.edges.edge-iterator, c.edges.yielded_by, c.in-None.ensures.steps)), c.edges.invariant.accepted, c.edges.invariant.capacities)
-
-pub returns-in_err-sum-clause-refused : goal.returns-in_err-sum-clause-refused
-returns-in_err-sum-clause-refused g c =
-    let i = c.edges.invariant in
-    let refused : (c.in_err-sum.field-0.0 ≡ OutOfMemory) ⊎ AreEdgesRefused g.N.PartialEq.eq g.C.Number.value g.C.Number.fits g.IC.IntoIterator.into_iter_gives g.IC.IntoIter.Iterator.next_gives c.args.names.now.keys c.args.capacities c.in_err-sum.field-0.0 =
-    elim c.in_err-sum.ensures.refused [
-      | inl r ↦ inl r
-      | inr r ↦ inr (
-        c.into_iter-edge-iterator.result,
-        c.edges.yielded,
-        c.in-Some.edge,
-        c.next.new.self,
-        c.into_iter-edge-iterator.ensures.into_iter_gives,
-        yields_more g.IC.IntoIter.Iterator.next_gives _ c.edges.yielded c.edges.edge-iterator c.next.new.self c.in-Some.edge c.edges.yielded_by c.in-Some.ensures.steps,
-        record { accepted = i.accepted; why = r c.edges.yielded i.capacities },
-      )
-    ] in
-    refused_by _ _ c.from_residual.result (λ e h. subst (λ r. (r ≡ OutOfMemory) ⊎ AreEdgesRefused g.N.PartialEq.eq g.C.Number.value g.C.Number.fits g.IC.IntoIterator.into_iter_gives g.IC.IntoIter.Iterator.next_gives c.args.names.now.keys c.args.capacities r) (sym h) refused) c.from_residual.ensures.1
+pub returns-clause-held : goal.returns-clause-held
+returns-clause-held g c =
+    (c.into_iter-edge-iterator.result, c.edges.yielded, c.into_iter-edge-iterator.ensures.into_iter_gives, (c.next.new.self, (c.edges.edge-iterator, c.edges.yielded_by, c.in-None.ensures.steps)), c.edges.invariant.held)
 
 pub put_edge-requires-clause-unused : goal.put_edge-requires-clause-unused
 put_edge-requires-clause-unused g c = c.edges.invariant.unused
@@ -68,11 +46,23 @@ returns-clause-unused g c = c.edges.invariant.unused
 pub returns-clause-shape : goal.returns-clause-shape
 returns-clause-shape g c = c.edges.invariant.shape
 
-pub returns-in_err-sum-clause-unused : goal.returns-in_err-sum-clause-unused
-returns-in_err-sum-clause-unused g c = IfOk-from_err _ _ c.from_residual.ensures.0
-
-pub returns-in_err-sum-clause-shape : goal.returns-in_err-sum-clause-shape
-returns-in_err-sum-clause-shape g c = IfOk-from_err _ _ c.from_residual.ensures.0
-
-pub returns-in_err-sum-clause-capacities : goal.returns-in_err-sum-clause-capacities
-returns-in_err-sum-clause-capacities g c = IfOk-from_err _ _ c.from_residual.ensures.0
+pub returns-in_err-sum : goal.returns-in_err-sum
+returns-in_err-sum g c = record {
+  refused =
+      let i = c.edges.invariant in
+      refused_as _ c.from_residual.result _ (elim c.in_err-sum.ensures.refused [
+        | inl r ↦ inl r
+        | inr r ↦ inr (
+          c.into_iter-edge-iterator.result,
+          c.edges.yielded,
+          c.in-Some.edge,
+          c.next.new.self,
+          c.into_iter-edge-iterator.ensures.into_iter_gives,
+          yields_more g.IC.IntoIter.Iterator.next_gives _ c.edges.yielded c.edges.edge-iterator c.next.new.self c.in-Some.edge c.edges.yielded_by c.in-Some.ensures.steps,
+          r c.edges.yielded i.held,
+        )
+      ]) c.from_residual.ensures.1;
+  unused = IfOk-from_err _ _ c.from_residual.ensures.0;
+  shape = IfOk-from_err _ _ c.from_residual.ensures.0;
+  held = IfOk-from_err _ _ c.from_residual.ensures.0;
+}

@@ -53,28 +53,22 @@ note_sum-requires g c =
     let known : value c.args.sum ≡ pair_sum N.vertices (added N.residual from to x) = omega (arith, ints, left, all, after, old, more, sum) in
     known ∙ same
 
-pub returns-clause-network : goal.returns-clause-network
-returns-clause-network g c =
+pub returns : goal.returns
+returns g c =
     let N = g.S.FlowStore.network c.args.store.now in
     let z = g.C.Number.value c.args.number in
     let more : raise N c.args.from c.args.to z c.requires.network ≡ g.C.Number.value c.minus.result = sym (c.minus.ensures ∙ ap (λ x. z -ℤ x) c.requires.old) in
-    let after = subst (λ x. Agrees (with_residual c.args.from c.args.to x N) (g.S.FlowStore.network c.add_residual_capacity.new.self)) (sym more) c.add_residual_capacity.ensures in
-    network_agrees (agrees_more after c.note_sum.ensures) (network_set N c.args.from c.args.to z c.requires.network c.requires.flow c.requires.low (subst g.C.Number.fits c.requires.sum c.known-2.ensures))
-
-pub returns-clause-changed : goal.returns-clause-changed
-returns-clause-changed g c =
-    let N = g.S.FlowStore.network c.args.store.now in
-    let z = g.C.Number.value c.args.number in
-    let more : raise N c.args.from c.args.to z c.requires.network ≡ g.C.Number.value c.minus.result = sym (c.minus.ensures ∙ ap (λ x. z -ℤ x) c.requires.old) in
-    let after = agrees_more (subst (λ x. Agrees (with_residual c.args.from c.args.to x N) (g.S.FlowStore.network c.add_residual_capacity.new.self)) (sym more) c.add_residual_capacity.ensures) c.note_sum.ensures in
-    let shape = shape_agrees after in
     record {
-      shape = record { vertices = shape.vertices; source = shape.source; sink = shape.sink; details = shape.details; room = shape.room };
-      capacities = record { at = λ a b. set_is N c.args.from c.args.to z c.requires.network a b ∙ (capacities_agrees after).capacities.at a b };
+      network =
+          let after = subst (λ x. Agrees (with_residual c.args.from c.args.to x N) (g.S.FlowStore.network c.add_residual_capacity.new.self)) (sym more) c.add_residual_capacity.ensures in
+          network_agrees (agrees_more after c.note_sum.ensures) (network_set N c.args.from c.args.to z c.requires.network c.requires.flow c.requires.low (subst g.C.Number.fits c.requires.sum c.known-2.ensures));
+      changed =
+          let after = agrees_more (subst (λ x. Agrees (with_residual c.args.from c.args.to x N) (g.S.FlowStore.network c.add_residual_capacity.new.self)) (sym more) c.add_residual_capacity.ensures) c.note_sum.ensures in
+          let shape = shape_agrees after in
+          record {
+            shape = record { vertices = shape.vertices; source = shape.source; sink = shape.sink; details = shape.details; room = shape.room };
+            capacities = record { at = λ a b. set_is N c.args.from c.args.to z c.requires.network a b ∙ (capacities_agrees after).capacities.at a b };
+          };
+      flows = record { at = λ a b. c.add_residual_capacity.ensures.flow.at a b ∙ c.note_sum.ensures.flow.at a b };
+      total = c.note_sum.ensures.total ∙ c.add_residual_capacity.ensures.total;
     }
-
-pub returns-clause-flows : goal.returns-clause-flows
-returns-clause-flows g c = record { at = λ a b. c.add_residual_capacity.ensures.flow.at a b ∙ c.note_sum.ensures.flow.at a b }
-
-pub returns-clause-total : goal.returns-clause-total
-returns-clause-total g c = c.note_sum.ensures.total ∙ c.add_residual_capacity.ensures.total

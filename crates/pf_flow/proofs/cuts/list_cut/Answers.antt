@@ -20,10 +20,10 @@ module _ {X : Type 0} (p : X → Bool) (xs : List X) (i : ℕ) (x : X) (l : i < 
   left_out edges more f g h = g ∙ f ∙ sym (step ∙ ap (λ (b : Bool). filter p (take i xs) ++ cond b (x ∷ []) []) h ∙ append-nil (filter p (take i xs)))
 
 pub leaves_reached-requires-clause-from : goal.leaves_reached-requires-clause-from
-leaves_reached-requires-clause-from g c = c.requires.from c.loop-edge.edge-index c.edge-item.result.0.0 c.edge-item.result.0.1 c.edge-item.result.1 (slice_get_read c.args.flows.now (length c.args.flows.now) c.loop-edge.edge-index c.edge-item.result refl c.loop-edge-test.true c.edge-item.is)
+leaves_reached-requires-clause-from g c = (c.requires.inside c.loop-edge.edge-index c.edge-item.result (slice_get_read c.args.flows.now (length c.args.flows.now) c.loop-edge.edge-index c.edge-item.result refl c.loop-edge-test.true c.edge-item.is)).0
 
 pub leaves_reached-requires-clause-to : goal.leaves_reached-requires-clause-to
-leaves_reached-requires-clause-to g c = c.requires.to c.loop-edge.edge-index c.edge-item.result.0.0 c.edge-item.result.0.1 c.edge-item.result.1 (slice_get_read c.args.flows.now (length c.args.flows.now) c.loop-edge.edge-index c.edge-item.result refl c.loop-edge-test.true c.edge-item.is)
+leaves_reached-requires-clause-to g c = (c.requires.inside c.loop-edge.edge-index c.edge-item.result (slice_get_read c.args.flows.now (length c.args.flows.now) c.loop-edge.edge-index c.edge-item.result refl c.loop-edge-test.true c.edge-item.is)).1
 
 pub loop-edge-preserved : goal.loop-edge-preserved
 loop-edge-preserved g c = elim c.if-leaves_reached.branch [

@@ -24,48 +24,6 @@ exchanged-requires-clause-within g c =
     let sum = c.requires.sum in
     at_most _ _ _ _ has (old ∙ left) sum
 
-pub returns-in_default-clause-refused : goal.returns-in_default-clause-refused
-returns-in_default-clause-refused g c =
-    let value = g.C.Number.value in
-    let zero = ap value c.zero.ensures ∙ g.met.C.Zero.zero_law g.met.C.Integral.exact_law in
-    let low = c.if-is_below.ensures in
-    let same = exchanged_sum c.args.from c.args.to (value c.args.capacity) c.requires.unused c.requires.from c.requires.to c.requires.sum c.residual_capacity-old.ensures in
-    inr (inr (refl, subst (λ z. z ≤ℤ value c.args.capacity) zero low, λ f. c.in_default.ensures (subst g.C.Number.fits (sym same) f)))
-
-pub returns-clause-unused : goal.returns-clause-unused
-returns-clause-unused g c =
-    let N = g.S.FlowStore.network c.args.store.now in
-    let M = g.S.FlowStore.network c.add_residual_capacity.new.self in
-    let value = g.C.Number.value in
-    let zero = ap value c.zero.ensures ∙ g.met.C.Zero.zero_law g.met.C.Integral.exact_law in
-    let low = c.if-is_below.ensures in
-    let same = exchanged_sum c.args.from c.args.to (value c.args.capacity) c.requires.unused c.requires.from c.requires.to c.requires.sum c.residual_capacity-old.ensures in
-    let more = c.difference.ensures ∙ ap (λ z. value c.args.capacity -ℤ z) c.residual_capacity-old.ensures in
-    let agrees : Agrees (with_residual c.args.from c.args.to (value c.args.capacity -ℤ N.residual c.args.from c.args.to) N) M =
-    residual_agrees c.args.from c.args.to _ c.in_ok-make_room.ensures.same (subst (λ z. Agrees (with_residual c.args.from c.args.to z (g.S.FlowStore.network c.make_room.new.self)) M) more c.add_residual_capacity.ensures) in
-    put_unused c.args.from c.args.to (value c.args.capacity) c.requires.unused agrees (subst (λ z. z ≤ℤ value c.args.capacity) zero low) (subst g.C.Number.fits same c.in-Some.ensures.0)
-
-pub returns-clause-sum : goal.returns-clause-sum
-returns-clause-sum g c =
-    let N = g.S.FlowStore.network c.args.store.now in
-    let M = g.S.FlowStore.network c.add_residual_capacity.new.self in
-    let value = g.C.Number.value in
-    let same = exchanged_sum c.args.from c.args.to (value c.args.capacity) c.requires.unused c.requires.from c.requires.to c.requires.sum c.residual_capacity-old.ensures in
-    let more = c.difference.ensures ∙ ap (λ z. value c.args.capacity -ℤ z) c.residual_capacity-old.ensures in
-    let agrees : Agrees (with_residual c.args.from c.args.to (value c.args.capacity -ℤ N.residual c.args.from c.args.to) N) M =
-    residual_agrees c.args.from c.args.to _ c.in_ok-make_room.ensures.same (subst (λ z. Agrees (with_residual c.args.from c.args.to z (g.S.FlowStore.network c.make_room.new.self)) M) more c.add_residual_capacity.ensures) in
-    c.in-Some.ensures.1 ∙ same ∙ put_sum c.args.from c.args.to (value c.args.capacity) c.requires.unused agrees
-
-pub returns-clause-changed : goal.returns-clause-changed
-returns-clause-changed g c =
-    let N = g.S.FlowStore.network c.args.store.now in
-    let M = g.S.FlowStore.network c.add_residual_capacity.new.self in
-    let value = g.C.Number.value in
-    let more = c.difference.ensures ∙ ap (λ z. value c.args.capacity -ℤ z) c.residual_capacity-old.ensures in
-    let agrees : Agrees (with_residual c.args.from c.args.to (value c.args.capacity -ℤ N.residual c.args.from c.args.to) N) M =
-    residual_agrees c.args.from c.args.to _ c.in_ok-make_room.ensures.same (subst (λ z. Agrees (with_residual c.args.from c.args.to z (g.S.FlowStore.network c.make_room.new.self)) M) more c.add_residual_capacity.ensures) in
-    put_changed c.args.from c.args.to (value c.args.capacity) c.requires.unused agrees
-
 pub exchanged-requires-clause-old : goal.exchanged-requires-clause-old
 exchanged-requires-clause-old g c =
     let above = c.requires.unused.capacities.at c.args.from c.args.to c.requires.from c.requires.to in
@@ -96,15 +54,6 @@ add_residual_capacity-requires-clause-fits g c =
     let more = c.difference.ensures in
     subst g.C.Number.fits (put_in_place _ _ _ _ _ same old more) c.known.ensures
 
-pub returns-in_err-make_room-clause-unused : goal.returns-in_err-make_room-clause-unused
-returns-in_err-make_room-clause-unused g c = IfOk-from_err _ _ c.from_residual.ensures.0
-
-pub returns-in_err-make_room-clause-sum : goal.returns-in_err-make_room-clause-sum
-returns-in_err-make_room-clause-sum g c = IfOk-from_err _ _ c.from_residual.ensures.0
-
-pub returns-in_err-make_room-clause-changed : goal.returns-in_err-make_room-clause-changed
-returns-in_err-make_room-clause-changed g c = IfOk-from_err _ _ c.from_residual.ensures.0
-
 pub residual_capacity-old-requires-clause-from : goal.residual_capacity-old-requires-clause-from
 residual_capacity-old-requires-clause-from g c = c.requires.from
 
@@ -117,34 +66,64 @@ make_room-requires-clause-from g c = c.requires.from
 pub make_room-requires-clause-to : goal.make_room-requires-clause-to
 make_room-requires-clause-to g c = c.requires.to
 
-pub returns-then-is_below-clause-unused : goal.returns-then-is_below-clause-unused
-returns-then-is_below-clause-unused g c = tt
+pub returns-then-is_below : goal.returns-then-is_below
+returns-then-is_below g c = record {
+  unused = tt;
+  sum = tt;
+  changed = tt;
+  refused =
+      let zero = ap g.C.Number.value c.zero.ensures ∙ g.met.C.Zero.zero_law g.met.C.Integral.exact_law in
+      let low = c.if-is_below.ensures in
+      inr (inl (refl, subst (λ z. g.C.Number.value c.args.capacity <ℤ z) zero low));
+}
 
-pub returns-then-is_below-clause-sum : goal.returns-then-is_below-clause-sum
-returns-then-is_below-clause-sum g c = tt
+pub returns-in_default : goal.returns-in_default
+returns-in_default g c = record {
+  refused =
+      let value = g.C.Number.value in
+      let zero = ap value c.zero.ensures ∙ g.met.C.Zero.zero_law g.met.C.Integral.exact_law in
+      let low = c.if-is_below.ensures in
+      let same = exchanged_sum c.args.from c.args.to (value c.args.capacity) c.requires.unused c.requires.from c.requires.to c.requires.sum c.residual_capacity-old.ensures in
+      inr (inr (refl, subst (λ z. z ≤ℤ value c.args.capacity) zero low, λ f. c.in_default.ensures (subst g.C.Number.fits (sym same) f)));
+  unused = tt;
+  sum = tt;
+  changed = tt;
+}
 
-pub returns-then-is_below-clause-changed : goal.returns-then-is_below-clause-changed
-returns-then-is_below-clause-changed g c = tt
+pub returns-in_err-make_room : goal.returns-in_err-make_room
+returns-in_err-make_room g c = record {
+  unused = IfOk-from_err _ _ c.from_residual.ensures.0;
+  sum = IfOk-from_err _ _ c.from_residual.ensures.0;
+  changed = IfOk-from_err _ _ c.from_residual.ensures.0;
+  refused =
+      let why : IsChangeRefused g.C.Number.fits (g.S.FlowStore.network c.args.store.now) c.args.from c.args.to (g.C.Number.value c.args.capacity) c.in_err-make_room.field-0.0 = inl c.in_err-make_room.ensures.refused in
+      refused_as _ c.from_residual.result _ why c.from_residual.ensures.1;
+}
 
-pub returns-then-is_below-clause-refused : goal.returns-then-is_below-clause-refused
-returns-then-is_below-clause-refused g c =
-    let zero = ap g.C.Number.value c.zero.ensures ∙ g.met.C.Zero.zero_law g.met.C.Integral.exact_law in
-    let low = c.if-is_below.ensures in
-    inr (inl (refl, subst (λ z. g.C.Number.value c.args.capacity <ℤ z) zero low))
-
-pub returns-in_default-clause-unused : goal.returns-in_default-clause-unused
-returns-in_default-clause-unused g c = tt
-
-pub returns-in_default-clause-sum : goal.returns-in_default-clause-sum
-returns-in_default-clause-sum g c = tt
-
-pub returns-in_default-clause-changed : goal.returns-in_default-clause-changed
-returns-in_default-clause-changed g c = tt
-
-pub returns-in_err-make_room-clause-refused : goal.returns-in_err-make_room-clause-refused
-returns-in_err-make_room-clause-refused g c =
-    let why : IsChangeRefused g.C.Number.fits (g.S.FlowStore.network c.args.store.now) c.args.from c.args.to (g.C.Number.value c.args.capacity) c.in_err-make_room.field-0.0 = inl c.in_err-make_room.ensures.refused in
-    refused_as _ c.from_residual.result _ why c.from_residual.ensures.1
-
-pub returns-clause-refused : goal.returns-clause-refused
-returns-clause-refused g c = tt
+pub returns : goal.returns
+returns g c =
+    let N = g.S.FlowStore.network c.args.store.now in
+    let M = g.S.FlowStore.network c.add_residual_capacity.new.self in
+    let value = g.C.Number.value in
+    record {
+      unused =
+          let zero = ap value c.zero.ensures ∙ g.met.C.Zero.zero_law g.met.C.Integral.exact_law in
+          let low = c.if-is_below.ensures in
+          let same = exchanged_sum c.args.from c.args.to (value c.args.capacity) c.requires.unused c.requires.from c.requires.to c.requires.sum c.residual_capacity-old.ensures in
+          let more = c.difference.ensures ∙ ap (λ z. value c.args.capacity -ℤ z) c.residual_capacity-old.ensures in
+          let agrees : Agrees (with_residual c.args.from c.args.to (value c.args.capacity -ℤ N.residual c.args.from c.args.to) N) M =
+          residual_agrees c.args.from c.args.to _ c.in_ok-make_room.ensures.same (subst (λ z. Agrees (with_residual c.args.from c.args.to z (g.S.FlowStore.network c.make_room.new.self)) M) more c.add_residual_capacity.ensures) in
+          put_unused c.args.from c.args.to (value c.args.capacity) c.requires.unused agrees (subst (λ z. z ≤ℤ value c.args.capacity) zero low) (subst g.C.Number.fits same c.in-Some.ensures.0);
+      sum =
+          let same = exchanged_sum c.args.from c.args.to (value c.args.capacity) c.requires.unused c.requires.from c.requires.to c.requires.sum c.residual_capacity-old.ensures in
+          let more = c.difference.ensures ∙ ap (λ z. value c.args.capacity -ℤ z) c.residual_capacity-old.ensures in
+          let agrees : Agrees (with_residual c.args.from c.args.to (value c.args.capacity -ℤ N.residual c.args.from c.args.to) N) M =
+          residual_agrees c.args.from c.args.to _ c.in_ok-make_room.ensures.same (subst (λ z. Agrees (with_residual c.args.from c.args.to z (g.S.FlowStore.network c.make_room.new.self)) M) more c.add_residual_capacity.ensures) in
+          c.in-Some.ensures.1 ∙ same ∙ put_sum c.args.from c.args.to (value c.args.capacity) c.requires.unused agrees;
+      changed =
+          let more = c.difference.ensures ∙ ap (λ z. value c.args.capacity -ℤ z) c.residual_capacity-old.ensures in
+          let agrees : Agrees (with_residual c.args.from c.args.to (value c.args.capacity -ℤ N.residual c.args.from c.args.to) N) M =
+          residual_agrees c.args.from c.args.to _ c.in_ok-make_room.ensures.same (subst (λ z. Agrees (with_residual c.args.from c.args.to z (g.S.FlowStore.network c.make_room.new.self)) M) more c.add_residual_capacity.ensures) in
+          put_changed c.args.from c.args.to (value c.args.capacity) c.requires.unused agrees;
+      refused = tt;
+    }

@@ -160,20 +160,14 @@ add_way-requires-in-ways-clause-labelling g c =
     (subst (λ n. IsLabelling n M.source M.residual (slice_index c.args.found.now.levels.items)) (sym i.kept.shape.vertices)
     (subst (λ s. IsLabelling N.vertices s M.residual (slice_index c.args.found.now.levels.items)) (sym i.kept.shape.source) i.labelling))
 
-pub returns-clause-network : goal.returns-clause-network
-returns-clause-network g c = c.ways.invariant.network
-
-pub returns-clause-kept : goal.returns-clause-kept
-returns-clause-kept g c = c.ways.invariant.kept
-
-pub returns-clause-labelling : goal.returns-clause-labelling
-returns-clause-labelling g c = c.ways.invariant.labelling
-
-pub returns-clause-progress : goal.returns-clause-progress
-returns-clause-progress g c = c.ways.invariant.progress
-
-pub returns-clause-bound : goal.returns-clause-bound
-returns-clause-bound g c = c.ways.invariant.bound
+pub returns : goal.returns
+returns g c = record {
+  network = c.ways.invariant.network;
+  kept = c.ways.invariant.kept;
+  labelling = c.ways.invariant.labelling;
+  progress = c.ways.invariant.progress;
+  bound = c.ways.invariant.bound;
+}
 
 pub add_way-requires-in-ways-clause-network : goal.add_way-requires-in-ways-clause-network
 add_way-requires-in-ways-clause-network g c = c.ways.invariant.network

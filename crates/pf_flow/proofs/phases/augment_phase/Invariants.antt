@@ -1,8 +1,7 @@
-use Rattle.std.proofs.Common.{◌≡◌, ◌≤◌, ◌<◌, ◌+◌, ◌-◌, ◌*◌}
+use Rattle.std.proofs.Common.{◌≡◌, ◌<◌, ◌+◌, ◌-◌}
 use Rattle.std.specs.Prelude.{slice_index}
-use Rattle.pf_residual.specs.Flows.{pair_count}
-use Rattle.pf_residual.specs.Networks.{capacity, IsNetwork, KeepsCapacities}
-use Rattle.pf_residual.specs.Internal.AugmentingPaths.{IsLabelling, potential}
+use Rattle.pf_residual.specs.Networks.{path_bound, IsNetwork, KeepsCapacities}
+use Rattle.pf_residual.specs.Internal.AugmentingPaths.{IsLabelling, TicksWithinRise}
 use Rattle.pf_residual.specs.Internal.Steps.{AreSteps}
 use Rattle.pf_flow.proofs.phases.augment_phase.Given as goal
 
@@ -15,8 +14,8 @@ invariant-ways g l = record {
   levels : l.found.levels.items ≡ l.fn.found.levels.items;
   steps : AreSteps (g.S.FlowStore.network l.fn.store).vertices l.found.steps.targets.items l.found.steps.places.items l.found.steps.ends.items;
   progress : l.fn.tally < l.tally;
-  bound : l.tally + potential (g.S.FlowStore.network l.fn.store).vertices (capacity (g.S.FlowStore.network l.fn.store)) (g.S.FlowStore.network l.fn.store).residual (slice_index l.fn.found.levels.items) ≤ l.fn.tally + potential (g.S.FlowStore.network l.fn.store).vertices (capacity (g.S.FlowStore.network l.fn.store)) (g.S.FlowStore.network l.store).residual (slice_index l.fn.found.levels.items);
+  bound : TicksWithinRise (slice_index l.fn.found.levels.items) (g.S.FlowStore.network l.fn.store) (g.S.FlowStore.network l.store) l.fn.tally l.tally;
 }
 
 abbrev pub decreases-ways : goal.decreases-ways
-decreases-ways g l = l.fn.tally + (g.S.FlowStore.network l.fn.store).vertices * pair_count (g.S.FlowStore.network l.fn.store).vertices (capacity (g.S.FlowStore.network l.fn.store)) - l.tally
+decreases-ways g l = l.fn.tally + path_bound (g.S.FlowStore.network l.fn.store) - l.tally

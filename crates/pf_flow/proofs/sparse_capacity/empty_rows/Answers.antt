@@ -25,20 +25,16 @@ returns-clause-len g c = omega (arith, c.loop.invariant.0)
 pub returns-clause-empty : goal.returns-clause-empty
 returns-clause-empty g c = c.loop.invariant.1
 
-pub returns-in_err-rows-clause-len : goal.returns-in_err-rows-clause-len
-returns-in_err-rows-clause-len g c = IfOk-from_err _ _ c.from_residual.ensures.0
+pub returns-in_err-rows : goal.returns-in_err-rows
+returns-in_err-rows g c = record {
+  len = IfOk-from_err _ _ c.from_residual.ensures.0;
+  empty = IfOk-from_err _ _ c.from_residual.ensures.0;
+  refused = refused_by _ _ c.from_residual.result (λ e h. h) c.from_residual.ensures.1;
+}
 
-pub returns-in_err-rows-clause-empty : goal.returns-in_err-rows-clause-empty
-returns-in_err-rows-clause-empty g c = IfOk-from_err _ _ c.from_residual.ensures.0
-
-pub returns-in_err-rows-clause-refused : goal.returns-in_err-rows-clause-refused
-returns-in_err-rows-clause-refused g c = refused_by _ _ c.from_residual.result (λ e h. h) c.from_residual.ensures.1
-
-pub returns-in_err-push-clause-len : goal.returns-in_err-push-clause-len
-returns-in_err-push-clause-len g c = IfOk-from_err _ _ c.from_residual-in_err-push.ensures.0
-
-pub returns-in_err-push-clause-empty : goal.returns-in_err-push-clause-empty
-returns-in_err-push-clause-empty g c = IfOk-from_err _ _ c.from_residual-in_err-push.ensures.0
-
-pub returns-in_err-push-clause-refused : goal.returns-in_err-push-clause-refused
-returns-in_err-push-clause-refused g c = refused_by _ _ c.from_residual-in_err-push.result (λ e h. h) c.from_residual-in_err-push.ensures.1
+pub returns-in_err-push : goal.returns-in_err-push
+returns-in_err-push g c = record {
+  len = IfOk-from_err _ _ c.from_residual-in_err-push.ensures.0;
+  empty = IfOk-from_err _ _ c.from_residual-in_err-push.ensures.0;
+  refused = refused_by _ _ c.from_residual-in_err-push.result (λ e h. h) c.from_residual-in_err-push.ensures.1;
+}

@@ -96,31 +96,6 @@ plus-total-requires g c =
     let e : N.total +ℤ x ≡ g.C.Number.value c.total_capacity.result +ℤ x = omega (arith, ints, t, r) in
     subst g.C.Number.fits e (fits_near (λ x y z. g.C.Number.between_law x y z g.met.C.Integral.exact_law) g.met.C.SignedCost.negation_law (capacity_sum M) (N.total +ℤ x) net.sum (omega (arith, ints, top, above)) top)
 
-pub returns-clause-network : goal.returns-clause-network
-returns-clause-network g c =
-    let w = c.requires.path in
-    let a = low w.left c.least_residual-amount.ensures.reached in
-    let b = balanced_of c.requires.network in
-    let l = c.least_residual-amount.ensures.least in
-    let N = g.S.FlowStore.network c.args.store.now in
-    let M = g.S.FlowStore.network c.loop-place.store in
-    let x = g.C.Number.value c.least_residual-amount.result in
-    let end : c.loop-place.place ≡ length c.args.path.now - 1 = omega arith in
-    let p = subst (λ k. IsPushed g.C.Number.fits N c.args.path.now x k M) end c.loop-place.invariant.pushed in
-    let net = pushed_network w b x a l c.requires.network p (g.met.S.FlowStore.network_law c.args.store.now).source_in in
-    let t = p.total in
-    let r = c.total_capacity.ensures in
-    let q = c.plus-total.ensures in
-    let e : N.total +ℤ x ≡ g.C.Number.value c.plus-total.result = omega (arith, ints, t, r, q) in
-    network_agrees c.set_total_capacity.ensures (subst (λ z. IsNetwork g.C.Number.fits (with_total z M)) e net)
-
-pub returns-clause-rises : goal.returns-clause-rises
-returns-clause-rises g c = λ d h.
-    let N = g.S.FlowStore.network c.args.store.now in
-    let (j, k, e) = c.least_residual-amount.ensures.reached in
-    subst (λ (O : Network). potential N.vertices (capacity N) N.residual d < potential N.vertices (capacity N) O.residual d) (agreed c.set_total_capacity.ensures)
-    (c.loop-place.invariant.levels.raised d j h (omega (arith, k)) k (sym e))
-
 pub least_residual-amount-requires : goal.least_residual-amount-requires
 least_residual-amount-requires g c = c.requires.path
 
@@ -139,11 +114,6 @@ add_flow-requires-clause-apart g c =
     let k = c.loop-place.place in
     let next : k + 1 < length c.args.path.now = omega arith in
     step_apart w (balanced_of c.requires.network) _ a c.least_residual-amount.ensures.least k next
-
-pub returns-clause-levels : goal.returns-clause-levels
-returns-clause-levels g c = λ d h v.
-    let N = g.S.FlowStore.network c.args.store.now in
-    subst (λ (O : Network). IsLabelling N.vertices N.source O.residual d) (agreed c.set_total_capacity.ensures) (c.loop-place.invariant.levels.labelled d h v)
 
 pub overflow_sub-place-end : goal.overflow_sub-place-end
 overflow_sub-place-end g c = omega (arith, c.requires.path.long)
@@ -171,11 +141,37 @@ add_flow-requires-clause-room g c =
 pub loop-place-smaller : goal.loop-place-smaller
 loop-place-smaller g c = omega arith
 
-pub returns-clause-kept : goal.returns-clause-kept
-returns-clause-kept g c =
-    let p = c.loop-place.invariant.pushed in
-    let a = capacities_agrees c.set_total_capacity.ensures in
-    record {
-      shape = shape_more (record { vertices = p.vertices; source = p.source; sink = p.sink; details = p.details; room = c.loop-place.invariant.room }) (shape_agrees c.set_total_capacity.ensures);
-      capacities = record { at = λ x y. p.capacities.at x y ∙ a.capacities.at x y };
-    }
+pub returns : goal.returns
+returns g c = record {
+  network =
+      let w = c.requires.path in
+      let a = low w.left c.least_residual-amount.ensures.reached in
+      let b = balanced_of c.requires.network in
+      let l = c.least_residual-amount.ensures.least in
+      let N = g.S.FlowStore.network c.args.store.now in
+      let M = g.S.FlowStore.network c.loop-place.store in
+      let x = g.C.Number.value c.least_residual-amount.result in
+      let end : c.loop-place.place ≡ length c.args.path.now - 1 = omega arith in
+      let p = subst (λ k. IsPushed g.C.Number.fits N c.args.path.now x k M) end c.loop-place.invariant.pushed in
+      let net = pushed_network w b x a l c.requires.network p (g.met.S.FlowStore.network_law c.args.store.now).source_in in
+      let t = p.total in
+      let r = c.total_capacity.ensures in
+      let q = c.plus-total.ensures in
+      let e : N.total +ℤ x ≡ g.C.Number.value c.plus-total.result = omega (arith, ints, t, r, q) in
+      network_agrees c.set_total_capacity.ensures (subst (λ z. IsNetwork g.C.Number.fits (with_total z M)) e net);
+  rises = λ d h.
+      let N = g.S.FlowStore.network c.args.store.now in
+      let (j, k, e) = c.least_residual-amount.ensures.reached in
+      subst (λ (O : Network). potential N.vertices (capacity N) N.residual d < potential N.vertices (capacity N) O.residual d) (agreed c.set_total_capacity.ensures)
+      (c.loop-place.invariant.levels.raised d j h (omega (arith, k)) k (sym e));
+  levels = λ d h v.
+      let N = g.S.FlowStore.network c.args.store.now in
+      subst (λ (O : Network). IsLabelling N.vertices N.source O.residual d) (agreed c.set_total_capacity.ensures) (c.loop-place.invariant.levels.labelled d h v);
+  kept =
+      let p = c.loop-place.invariant.pushed in
+      let a = capacities_agrees c.set_total_capacity.ensures in
+      record {
+        shape = shape_more (record { vertices = p.vertices; source = p.source; sink = p.sink; details = p.details; room = c.loop-place.invariant.room }) (shape_agrees c.set_total_capacity.ensures);
+        capacities = record { at = λ x y. p.capacities.at x y ∙ a.capacities.at x y };
+      };
+}

@@ -4,38 +4,28 @@ use Rattle.pf_residual.specs.Internal.Steps.{AreSteps}
 use Rattle.pf_residual.proofs.StepLemmas.{climb_up, climb_passed, work_passed}
 use Rattle.pf_residual.proofs.ways.go_on.Goals as goal
 
-pub returns-then-is_open-clause-climb : goal.returns-then-is_open-clause-climb
-returns-then-is_open-clause-climb g c =
-    let r = c.requires in
-    let e = c.is_open.ensures in
-    let q = c.if-is_open.true in
-    let i = c.in-Some.ensures.inside in
-    let l = r.climb.steps.places_len in
-    climb_up r.climb c.in-Some.to (omega (arith, i, l)) r.below (e.level q) (e.left q) (e.last q) c.in-Some.ensures.left
+pub returns-then-is_open : goal.returns-then-is_open
+returns-then-is_open g c = record {
+  climb =
+      let r = c.requires in
+      let e = c.is_open.ensures in
+      let q = c.if-is_open.true in
+      let i = c.in-Some.ensures.inside in
+      let l = r.climb.steps.places_len in
+      climb_up r.climb c.in-Some.to (omega (arith, i, l)) r.below (e.level q) (e.left q) (e.last q) c.in-Some.ensures.left;
+  less = let b = c.requires.below in omega (arith, b);
+  steps = c.requires.climb.steps;
+}
 
-pub returns-then-is_open-clause-less : goal.returns-then-is_open-clause-less
-returns-then-is_open-clause-less g c = let b = c.requires.below in omega (arith, b)
-
-pub returns-then-is_open-clause-steps : goal.returns-then-is_open-clause-steps
-returns-then-is_open-clause-steps g c = c.requires.climb.steps
-
-pub returns-in-Some-clause-climb : goal.returns-in-Some-clause-climb
-returns-in-Some-clause-climb g c =
+pub returns-in-Some : goal.returns-in-Some
+returns-in-Some g c =
     let r = c.requires in
     let p = c.pass_step.ensures in
-    climb_passed r.climb (slice_index c.args.path.now c.args.depth) c.args.depth (omega arith) r.below refl c.in-Some.ensures.left p.targets p.places p.ends
-
-pub returns-in-Some-clause-less : goal.returns-in-Some-clause-less
-returns-in-Some-clause-less g c =
-    let r = c.requires in
-    let p = c.pass_step.ensures in
-    work_passed r.climb (slice_index c.args.path.now c.args.depth) c.args.depth (omega arith) r.below refl c.in-Some.ensures.left p.targets p.places p.ends (omega arith)
-
-pub returns-in-Some-clause-steps : goal.returns-in-Some-clause-steps
-returns-in-Some-clause-steps g c =
-    let r = c.requires in
-    let p = c.pass_step.ensures in
-    (climb_passed r.climb (slice_index c.args.path.now c.args.depth) c.args.depth (omega arith) r.below refl c.in-Some.ensures.left p.targets p.places p.ends).steps
+    record {
+      climb = climb_passed r.climb (slice_index c.args.path.now c.args.depth) c.args.depth (omega arith) r.below refl c.in-Some.ensures.left p.targets p.places p.ends;
+      less = work_passed r.climb (slice_index c.args.path.now c.args.depth) c.args.depth (omega arith) r.below refl c.in-Some.ensures.left p.targets p.places p.ends (omega arith);
+      steps = (climb_passed r.climb (slice_index c.args.path.now c.args.depth) c.args.depth (omega arith) r.below refl c.in-Some.ensures.left p.targets p.places p.ends).steps;
+    }
 
 pub pass_step-requires-clause-left : goal.pass_step-requires-clause-left
 pass_step-requires-clause-left g c = c.in-Some.ensures.left
@@ -48,29 +38,17 @@ pass_step-requires-2-clause-left g c =
     let n = c.if-depth-eq0.false in
     c.requires.climb.ahead (c.args.depth - 1) (omega (arith, n))
 
-pub returns-clause-climb : goal.returns-clause-climb
-returns-clause-climb g c =
+pub returns : goal.returns
+returns g c =
     let r = c.requires in
     let n = c.if-depth-eq0.false in
     let b = r.below in
     let p = c.pass_step-2.ensures in
-    climb_passed r.climb (slice_index c.args.path.now (c.args.depth - 1)) (c.args.depth - 1) (omega arith) (omega (arith, b)) refl (r.climb.ahead (c.args.depth - 1) (omega (arith, n))) p.targets p.places p.ends
-
-pub returns-clause-less : goal.returns-clause-less
-returns-clause-less g c =
-    let r = c.requires in
-    let n = c.if-depth-eq0.false in
-    let b = r.below in
-    let p = c.pass_step-2.ensures in
-    work_passed r.climb (slice_index c.args.path.now (c.args.depth - 1)) (c.args.depth - 1) (omega arith) (omega (arith, b)) refl (r.climb.ahead (c.args.depth - 1) (omega (arith, n))) p.targets p.places p.ends (omega arith)
-
-pub returns-clause-steps : goal.returns-clause-steps
-returns-clause-steps g c =
-    let r = c.requires in
-    let n = c.if-depth-eq0.false in
-    let b = r.below in
-    let p = c.pass_step-2.ensures in
-    (climb_passed r.climb (slice_index c.args.path.now (c.args.depth - 1)) (c.args.depth - 1) (omega arith) (omega (arith, b)) refl (r.climb.ahead (c.args.depth - 1) (omega (arith, n))) p.targets p.places p.ends).steps
+    record {
+      climb = climb_passed r.climb (slice_index c.args.path.now (c.args.depth - 1)) (c.args.depth - 1) (omega arith) (omega (arith, b)) refl (r.climb.ahead (c.args.depth - 1) (omega (arith, n))) p.targets p.places p.ends;
+      less = work_passed r.climb (slice_index c.args.path.now (c.args.depth - 1)) (c.args.depth - 1) (omega arith) (omega (arith, b)) refl (r.climb.ahead (c.args.depth - 1) (omega (arith, n))) p.targets p.places p.ends (omega arith);
+      steps = (climb_passed r.climb (slice_index c.args.path.now (c.args.depth - 1)) (c.args.depth - 1) (omega arith) (omega (arith, b)) refl (r.climb.ahead (c.args.depth - 1) (omega (arith, n))) p.targets p.places p.ends).steps;
+    }
 
 pub step_from-requires-clause-steps : goal.step_from-requires-clause-steps
 step_from-requires-clause-steps g c =

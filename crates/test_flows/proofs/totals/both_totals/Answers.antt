@@ -9,5 +9,5 @@ returns g c =
     let left = c.in_ok-sparse_total.ensures in
     let right = c.in_ok-dense_total.ensures in
     let same = same_capacities sparse.fresh sparse.capacities dense.fresh dense.capacities left.kept right.kept in
-    let one = left.total ∙ sym (c.stores_report_one_total.ensures.total _ _ same (total_of_network left.network) (total_of_network right.network) left.cut right.cut) ∙ sym right.total in
+    let one = left.answer.total ∙ sym (c.stores_report_one_total.ensures.total _ _ same (total_of_network left.network) (total_of_network right.network) left.cut right.cut) ∙ sym right.answer.total in
     search (rules, one)

@@ -36,29 +36,21 @@ returns-clause-capacities g c =
     let right = c.in_ok-flows.ensures in
     zero_capacities value c.in_ok-residuals.residuals c.in_ok-flows.flows c.args.size c.args.source c.args.sink left.square right.square (value c.zero.result) left.zero right.zero
 
-pub returns-in_err-residuals-clause-fresh : goal.returns-in_err-residuals-clause-fresh
-returns-in_err-residuals-clause-fresh g c = IfOk-from_err _ _ c.from_residual.ensures.0
+pub returns-in_err-residuals : goal.returns-in_err-residuals
+returns-in_err-residuals g c = record {
+  fresh = IfOk-from_err _ _ c.from_residual.ensures.0;
+  capacities = IfOk-from_err _ _ c.from_residual.ensures.0;
+  network = IfOk-from_err _ _ c.from_residual.ensures.0;
+  refused = refused_as _ c.from_residual.result _ c.in_err-residuals.ensures.refused c.from_residual.ensures.1;
+}
 
-pub returns-in_err-residuals-clause-capacities : goal.returns-in_err-residuals-clause-capacities
-returns-in_err-residuals-clause-capacities g c = IfOk-from_err _ _ c.from_residual.ensures.0
-
-pub returns-in_err-residuals-clause-network : goal.returns-in_err-residuals-clause-network
-returns-in_err-residuals-clause-network g c = IfOk-from_err _ _ c.from_residual.ensures.0
-
-pub returns-in_err-residuals-clause-refused : goal.returns-in_err-residuals-clause-refused
-returns-in_err-residuals-clause-refused g c = refused_as _ c.from_residual.result _ c.in_err-residuals.ensures.refused c.from_residual.ensures.1
-
-pub returns-in_err-flows-clause-fresh : goal.returns-in_err-flows-clause-fresh
-returns-in_err-flows-clause-fresh g c = IfOk-from_err _ _ c.from_residual-in_err-flows.ensures.0
-
-pub returns-in_err-flows-clause-capacities : goal.returns-in_err-flows-clause-capacities
-returns-in_err-flows-clause-capacities g c = IfOk-from_err _ _ c.from_residual-in_err-flows.ensures.0
-
-pub returns-in_err-flows-clause-network : goal.returns-in_err-flows-clause-network
-returns-in_err-flows-clause-network g c = IfOk-from_err _ _ c.from_residual-in_err-flows.ensures.0
-
-pub returns-in_err-flows-clause-refused : goal.returns-in_err-flows-clause-refused
-returns-in_err-flows-clause-refused g c = refused_as _ c.from_residual-in_err-flows.result _ c.in_err-flows.ensures.refused c.from_residual-in_err-flows.ensures.1
+pub returns-in_err-flows : goal.returns-in_err-flows
+returns-in_err-flows g c = record {
+  fresh = IfOk-from_err _ _ c.from_residual-in_err-flows.ensures.0;
+  capacities = IfOk-from_err _ _ c.from_residual-in_err-flows.ensures.0;
+  network = IfOk-from_err _ _ c.from_residual-in_err-flows.ensures.0;
+  refused = refused_as _ c.from_residual-in_err-flows.result _ c.in_err-flows.ensures.refused c.from_residual-in_err-flows.ensures.1;
+}
 
 pub invariant_of-result : goal.invariant_of-result
 invariant_of-result g c =

@@ -9,40 +9,13 @@ use Rattle.std.proofs.lemmas.Result.{IfOk-from_err}
 use Rattle.pf_residual.proofs.NamedLemmas.{refused_as}
 use Rattle.pf_flow.proofs.sparse_capacity.SparseCapacityEdmondsKarp.new.Goals as goal
 
-pub returns-clause-network : goal.returns-clause-network
-returns-clause-network g c =
-    let value = g.C.Number.value in
-    let exact = g.met.C.Integral.exact_law in
-    let nought = ap value c.zero.ensures ∙ g.met.C.Zero.zero_law exact in
-    let rows = c.in_ok-rows.rows.items in
-    let made = c.in_ok-rows.ensures in
-    network_of_fresh (g.met.C.Zero.zero_fits_law exact)
-    (empty_fresh value rows c.args.size c.args.source c.args.sink (value c.zero.result) made.empty made.len nought)
-    (empty_capacities value rows c.args.source c.args.sink (value c.zero.result) made.empty)
-
-pub returns-clause-fresh : goal.returns-clause-fresh
-returns-clause-fresh g c =
-    let value = g.C.Number.value in
-    let nought = ap value c.zero.ensures ∙ g.met.C.Zero.zero_law g.met.C.Integral.exact_law in
-    let made = c.in_ok-rows.ensures in
-    empty_fresh value c.in_ok-rows.rows.items c.args.size c.args.source c.args.sink (value c.zero.result) made.empty made.len nought
-
-pub returns-clause-capacities : goal.returns-clause-capacities
-returns-clause-capacities g c =
-    let value = g.C.Number.value in
-    empty_capacities value c.in_ok-rows.rows.items c.args.source c.args.sink (value c.zero.result) c.in_ok-rows.ensures.empty
-
-pub returns-in_err-rows-clause-fresh : goal.returns-in_err-rows-clause-fresh
-returns-in_err-rows-clause-fresh g c = IfOk-from_err _ _ c.from_residual.ensures.0
-
-pub returns-in_err-rows-clause-capacities : goal.returns-in_err-rows-clause-capacities
-returns-in_err-rows-clause-capacities g c = IfOk-from_err _ _ c.from_residual.ensures.0
-
-pub returns-in_err-rows-clause-network : goal.returns-in_err-rows-clause-network
-returns-in_err-rows-clause-network g c = IfOk-from_err _ _ c.from_residual.ensures.0
-
-pub returns-in_err-rows-clause-refused : goal.returns-in_err-rows-clause-refused
-returns-in_err-rows-clause-refused g c = refused_as _ c.from_residual.result _ c.in_err-rows.ensures.refused c.from_residual.ensures.1
+pub returns-in_err-rows : goal.returns-in_err-rows
+returns-in_err-rows g c = record {
+  fresh = IfOk-from_err _ _ c.from_residual.ensures.0;
+  capacities = IfOk-from_err _ _ c.from_residual.ensures.0;
+  network = IfOk-from_err _ _ c.from_residual.ensures.0;
+  refused = refused_as _ c.from_residual.result _ c.in_err-rows.ensures.refused c.from_residual.ensures.1;
+}
 
 pub invariant_of-result : goal.invariant_of-result
 invariant_of-result g c =
@@ -53,5 +26,22 @@ invariant_of-result g c =
       summed = λ z e. absurd (none-some z e);
     }
 
-pub returns-clause-refused : goal.returns-clause-refused
-returns-clause-refused g c = tt
+pub returns : goal.returns
+returns g c =
+    let value = g.C.Number.value in
+    record {
+      network =
+          let exact = g.met.C.Integral.exact_law in
+          let nought = ap value c.zero.ensures ∙ g.met.C.Zero.zero_law exact in
+          let rows = c.in_ok-rows.rows.items in
+          let made = c.in_ok-rows.ensures in
+          network_of_fresh (g.met.C.Zero.zero_fits_law exact)
+          (empty_fresh value rows c.args.size c.args.source c.args.sink (value c.zero.result) made.empty made.len nought)
+          (empty_capacities value rows c.args.source c.args.sink (value c.zero.result) made.empty);
+      fresh =
+          let nought = ap value c.zero.ensures ∙ g.met.C.Zero.zero_law g.met.C.Integral.exact_law in
+          let made = c.in_ok-rows.ensures in
+          empty_fresh value c.in_ok-rows.rows.items c.args.size c.args.source c.args.sink (value c.zero.result) made.empty made.len nought;
+      capacities = empty_capacities value c.in_ok-rows.rows.items c.args.source c.args.sink (value c.zero.result) c.in_ok-rows.ensures.empty;
+      refused = tt;
+    }

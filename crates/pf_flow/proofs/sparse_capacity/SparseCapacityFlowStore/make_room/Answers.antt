@@ -13,24 +13,6 @@ use Rattle.pf_residual.proofs.SparseRowLemmas.{with_edge_rises, with_edge_has}
 use Rattle.pf_residual.proofs.SparseStoreLemmas.{rows_same}
 use Rattle.pf_flow.proofs.sparse_capacity.SparseCapacityFlowStore.make_room.Goals as goal
 
-pub returns-then-from-to-clause-same : goal.returns-then-from-to-clause-same
-returns-then-from-to-clause-same g c =
-    let rows = c.args.self.now.rows.items in
-    let from = c.args.from in
-    let to = c.args.to in
-    let source = c.args.self.now.source in
-    let sink = c.args.self.now.sink in
-    let d : Edge g.row.C.Denot = record { to = to; residual = g.C.Zero.zero; flow = g.C.Zero.zero } in
-    let fresh : has_end (ends (row_at rows from)) to ≡ false = sym (ap (λ r. has_end (ends r) to) (c.index.ensures ∙ get_or_default rows from _ [] c.requires.from)) ∙ sym c.has.ensures ∙ c.if-has.false in
-    let first = first_is rows from to d d c.requires.from c.requires.to c.index_mut.result.now c.index_mut.ensures.value c.insert.new.self c.in_ok-insert.ensures.ok in
-    let value = g.C.Number.value in
-    let total = value c.args.self.now.total in
-    let details = c.args.self.now.details in
-    let none = g.met.C.Zero.zero_law g.met.C.Integral.exact_law in
-    let widens = widened_once source sink rows from d c.args.self.now.stored c.requires.from c.if-from-to.true fresh in
-    subst (λ r. Agrees (rows_network value rows source sink total details) (rows_network value r source sink total details)) (sym first)
-    (room_made value source sink total details from to rows _ widens (λ f z a b. once_amount rows from d c.requires.from f fresh (z d none none) a b))
-
 pub invariant_of-self-then-from-to : goal.invariant_of-self-then-from-to
 invariant_of-self-then-from-to g c =
     let rows = c.args.self.now.rows.items in
@@ -46,8 +28,8 @@ invariant_of-self-then-from-to g c =
     let widens = widened_once source sink rows from d c.args.self.now.stored c.requires.from c.if-from-to.true fresh in
     record { stored = subst (λ r. AreRows source sink r) (sym first) (widened source sink from to rows _ c.args.self.now.stored c.requires.from c.requires.to widens); opposite = subst (λ r. IsAntisymmetric (rows_flow value r)) (sym first) (opposite_same c.args.self.now.opposite (record { at = once_amount rows from d c.requires.from (λ e. value e.flow) fresh none })); summed = λ z e. absurd (none-some z e) }
 
-pub returns-then-from-to-clause-room : goal.returns-then-from-to-clause-room
-returns-then-from-to-clause-room g c =
+pub returns-then-from-to : goal.returns-then-from-to
+returns-then-from-to g c =
     let rows = c.args.self.now.rows.items in
     let from = c.args.from in
     let to = c.args.to in
@@ -56,8 +38,20 @@ returns-then-from-to-clause-room g c =
     let d : Edge g.row.C.Denot = record { to = to; residual = g.C.Zero.zero; flow = g.C.Zero.zero } in
     let fresh : has_end (ends (row_at rows from)) to ≡ false = sym (ap (λ r. has_end (ends r) to) (c.index.ensures ∙ get_or_default rows from _ [] c.requires.from)) ∙ sym c.has.ensures ∙ c.if-has.false in
     let first = first_is rows from to d d c.requires.from c.requires.to c.index_mut.result.now c.index_mut.ensures.value c.insert.new.self c.in_ok-insert.ensures.ok in
-    let widens = widened_once source sink rows from d c.args.self.now.stored c.requires.from c.if-from-to.true fresh in
-    subst (λ r. has_end (ends (row_at r from)) to ≡ true) (sym first) widens.there
+    record {
+      same =
+          let value = g.C.Number.value in
+          let total = value c.args.self.now.total in
+          let details = c.args.self.now.details in
+          let none = g.met.C.Zero.zero_law g.met.C.Integral.exact_law in
+          let widens = widened_once source sink rows from d c.args.self.now.stored c.requires.from c.if-from-to.true fresh in
+          subst (λ r. Agrees (rows_network value rows source sink total details) (rows_network value r source sink total details)) (sym first)
+          (room_made value source sink total details from to rows _ widens (λ f z a b. once_amount rows from d c.requires.from f fresh (z d none none) a b));
+      room =
+          let widens = widened_once source sink rows from d c.args.self.now.stored c.requires.from c.if-from-to.true fresh in
+          subst (λ r. has_end (ends (row_at r from)) to ≡ true) (sym first) widens.there;
+      refused = tt;
+    }
 
 pub remove-requires-clause-rises : goal.remove-requires-clause-rises
 remove-requires-clause-rises g c =
@@ -126,30 +120,6 @@ invariant_of-self-in-Err g c =
     refl fresh c.remove.new.self c.remove.ensures in
     record { stored = subst (λ r. AreRows source sink r) (sym back) stored; opposite = subst (λ r. IsAntisymmetric (rows_flow g.C.Number.value r)) (sym back) c.args.self.now.opposite; summed = λ z e. absurd (none-some z e) }
 
-pub returns-clause-same : goal.returns-clause-same
-returns-clause-same g c =
-    let rows = c.args.self.now.rows.items in
-    let from = c.args.from in
-    let to = c.args.to in
-    let source = c.args.self.now.source in
-    let sink = c.args.self.now.sink in
-    let d : Edge g.row.C.Denot = record { to = to; residual = g.C.Zero.zero; flow = g.C.Zero.zero } in
-    let fresh : has_end (ends (row_at rows from)) to ≡ false = sym (ap (λ r. has_end (ends r) to) (c.index.ensures ∙ get_or_default rows from _ [] c.requires.from)) ∙ sym c.has.ensures ∙ c.if-has.false in
-    let e : Edge g.row.C.Denot = record { to = from; residual = g.C.Zero.zero; flow = g.C.Zero.zero } in
-    let stored = c.args.self.now.stored in
-    let value = g.C.Number.value in
-    let total = value c.args.self.now.total in
-    let details = c.args.self.now.details in
-    let none = g.met.C.Zero.zero_law g.met.C.Integral.exact_law in
-    let second = second_is rows from to d e c.requires.from c.requires.to c.index_mut.result.now c.index_mut.ensures.value c.insert.new.self c.in_ok-insert.ensures.ok
-    c.index_mut-2.result.now c.index_mut-2.ensures.value c.insert-2.new.self c.in_default.ensures.ok in
-    let widens = widened_twice source sink rows stored d e c.if-from-to.false c.requires.from c.requires.to fresh in
-    subst (λ r. Agrees (rows_network value rows source sink total details) (rows_network value r source sink total details)) (sym second)
-    (room_made value source sink total details from to rows _ widens (λ f z a b.
-    once_amount rows from d c.requires.from f fresh (z d none none) a b
-    ∙ once_amount (slice_set rows from (with_edge (row_at rows from) d)) to e (inside_once source sink rows stored d e c.if-from-to.false c.requires.from c.requires.to fresh) f
-    (fresh_back source sink rows stored d e c.if-from-to.false c.requires.from c.requires.to fresh) (z e none none) a b))
-
 pub invariant_of-self-in_default : goal.invariant_of-self-in_default
 invariant_of-self-in_default g c =
     let rows = c.args.self.now.rows.items in
@@ -177,8 +147,8 @@ invariant_of-self-in_default g c =
       summed = λ z e. absurd (none-some z e);
     }
 
-pub returns-clause-room : goal.returns-clause-room
-returns-clause-room g c =
+pub returns : goal.returns
+returns g c =
     let rows = c.args.self.now.rows.items in
     let from = c.args.from in
     let to = c.args.to in
@@ -188,10 +158,27 @@ returns-clause-room g c =
     let fresh : has_end (ends (row_at rows from)) to ≡ false = sym (ap (λ r. has_end (ends r) to) (c.index.ensures ∙ get_or_default rows from _ [] c.requires.from)) ∙ sym c.has.ensures ∙ c.if-has.false in
     let e : Edge g.row.C.Denot = record { to = from; residual = g.C.Zero.zero; flow = g.C.Zero.zero } in
     let stored = c.args.self.now.stored in
-    let second = second_is rows from to d e c.requires.from c.requires.to c.index_mut.result.now c.index_mut.ensures.value c.insert.new.self c.in_ok-insert.ensures.ok
-    c.index_mut-2.result.now c.index_mut-2.ensures.value c.insert-2.new.self c.in_default.ensures.ok in
-    let widens = widened_twice source sink rows stored d e c.if-from-to.false c.requires.from c.requires.to fresh in
-    subst (λ r. has_end (ends (row_at r from)) to ≡ true) (sym second) widens.there
+    record {
+      same =
+          let value = g.C.Number.value in
+          let total = value c.args.self.now.total in
+          let details = c.args.self.now.details in
+          let none = g.met.C.Zero.zero_law g.met.C.Integral.exact_law in
+          let second = second_is rows from to d e c.requires.from c.requires.to c.index_mut.result.now c.index_mut.ensures.value c.insert.new.self c.in_ok-insert.ensures.ok
+          c.index_mut-2.result.now c.index_mut-2.ensures.value c.insert-2.new.self c.in_default.ensures.ok in
+          let widens = widened_twice source sink rows stored d e c.if-from-to.false c.requires.from c.requires.to fresh in
+          subst (λ r. Agrees (rows_network value rows source sink total details) (rows_network value r source sink total details)) (sym second)
+          (room_made value source sink total details from to rows _ widens (λ f z a b.
+          once_amount rows from d c.requires.from f fresh (z d none none) a b
+          ∙ once_amount (slice_set rows from (with_edge (row_at rows from) d)) to e (inside_once source sink rows stored d e c.if-from-to.false c.requires.from c.requires.to fresh) f
+          (fresh_back source sink rows stored d e c.if-from-to.false c.requires.from c.requires.to fresh) (z e none none) a b));
+      room =
+          let second = second_is rows from to d e c.requires.from c.requires.to c.index_mut.result.now c.index_mut.ensures.value c.insert.new.self c.in_ok-insert.ensures.ok
+          c.index_mut-2.result.now c.index_mut-2.ensures.value c.insert-2.new.self c.in_default.ensures.ok in
+          let widens = widened_twice source sink rows stored d e c.if-from-to.false c.requires.from c.requires.to fresh in
+          subst (λ r. has_end (ends (row_at r from)) to ≡ true) (sym second) widens.there;
+      refused = tt;
+    }
 
 pub index-requires : goal.index-requires
 index-requires g c = omega (arith, c.requires.from, c.args.self.now.rows.ok)
@@ -209,15 +196,16 @@ insert-requires g c =
     let rows = c.args.self.now.rows.items in
     subst (λ row. Rises 0 (ends row)) (sym (c.index_mut.ensures.value ∙ get_or_default rows c.args.from _ [] c.requires.from)) (c.args.self.now.stored.rises c.args.from)
 
-pub returns-then-has-clause-same : goal.returns-then-has-clause-same
-returns-then-has-clause-same g c =
-    let s = c.args.self.now in
-    rows_same g.C.Number.value s.source s.sink (g.C.Number.value s.total) s.details s.rows.items s.rows.items refl (λ a. refl)
-
-pub returns-then-has-clause-room : goal.returns-then-has-clause-room
-returns-then-has-clause-room g c =
-    let rows = c.args.self.now.rows.items in
-    sym (ap (λ r. has_end (ends r) c.args.to) (c.index.ensures ∙ get_or_default rows c.args.from _ [] c.requires.from)) ∙ sym c.has.ensures ∙ c.if-has.true
+pub returns-then-has : goal.returns-then-has
+returns-then-has g c = record {
+  same =
+      let s = c.args.self.now in
+      rows_same g.C.Number.value s.source s.sink (g.C.Number.value s.total) s.details s.rows.items s.rows.items refl (λ a. refl);
+  room =
+      let rows = c.args.self.now.rows.items in
+      sym (ap (λ r. has_end (ends r) c.args.to) (c.index.ensures ∙ get_or_default rows c.args.from _ [] c.requires.from)) ∙ sym c.has.ensures ∙ c.if-has.true;
+  refused = tt;
+}
 
 pub index_mut-requires-2 : goal.index_mut-requires-2
 index_mut-requires-2 g c = omega (arith, c.requires.to, c.args.self.now.rows.ok)

@@ -12,20 +12,16 @@ rows-preserved g c = record {
   empty = subst (λ (rows : List (Vec ℕ g.row.A.Denot)). (b k : ℕ) (row : Vec ℕ g.row.A.Denot) → slice_get rows b ≡ Some row → ¬ (Has row.items k)) (sym c.in_ok-push.ensures.items) (rows_none c.rows.rows.items c.new.result c.new.ensures.items c.rows.invariant.empty);
 }
 
-pub returns-in_err-rows-clause-len : goal.returns-in_err-rows-clause-len
-returns-in_err-rows-clause-len g c = IfOk-from_err _ _ c.from_residual.ensures.0
+pub returns-in_err-rows : goal.returns-in_err-rows
+returns-in_err-rows g c = record {
+  len = IfOk-from_err _ _ c.from_residual.ensures.0;
+  empty = IfOk-from_err _ _ c.from_residual.ensures.0;
+  refused = refused_by _ _ c.from_residual.result (λ e h. h) c.from_residual.ensures.1;
+}
 
-pub returns-in_err-rows-clause-empty : goal.returns-in_err-rows-clause-empty
-returns-in_err-rows-clause-empty g c = IfOk-from_err _ _ c.from_residual.ensures.0
-
-pub returns-in_err-rows-clause-refused : goal.returns-in_err-rows-clause-refused
-returns-in_err-rows-clause-refused g c = refused_by _ _ c.from_residual.result (λ e h. h) c.from_residual.ensures.1
-
-pub returns-in_err-push-clause-len : goal.returns-in_err-push-clause-len
-returns-in_err-push-clause-len g c = IfOk-from_err _ _ c.from_residual-in_err-push.ensures.0
-
-pub returns-in_err-push-clause-empty : goal.returns-in_err-push-clause-empty
-returns-in_err-push-clause-empty g c = IfOk-from_err _ _ c.from_residual-in_err-push.ensures.0
-
-pub returns-in_err-push-clause-refused : goal.returns-in_err-push-clause-refused
-returns-in_err-push-clause-refused g c = refused_by _ _ c.from_residual-in_err-push.result (λ e h. h) c.from_residual-in_err-push.ensures.1
+pub returns-in_err-push : goal.returns-in_err-push
+returns-in_err-push g c = record {
+  len = IfOk-from_err _ _ c.from_residual-in_err-push.ensures.0;
+  empty = IfOk-from_err _ _ c.from_residual-in_err-push.ensures.0;
+  refused = refused_by _ _ c.from_residual-in_err-push.result (λ e h. h) c.from_residual-in_err-push.ensures.1;
+}

@@ -38,20 +38,16 @@ arcs-preserved g c =
       rows = subst (λ (es : List Arc). AreRows es (slice_set rows e.from c.push.new.self)) (sym (take_more ends i none c.arcs-test.true)) (rows_more (take i ends) rows e c.index_mut.result.now c.push.new.self at is c.arcs.invariant.rows);
     }
 
-pub returns-in_err-rows-clause-len : goal.returns-in_err-rows-clause-len
-returns-in_err-rows-clause-len g c = IfOk-from_err _ _ c.from_residual.ensures.0
+pub returns-in_err-rows : goal.returns-in_err-rows
+returns-in_err-rows g c = record {
+  len = IfOk-from_err _ _ c.from_residual.ensures.0;
+  rows = IfOk-from_err _ _ c.from_residual.ensures.0;
+  refused = refused_as _ c.from_residual.result _ c.in_err-rows.ensures.refused c.from_residual.ensures.1;
+}
 
-pub returns-in_err-rows-clause-rows : goal.returns-in_err-rows-clause-rows
-returns-in_err-rows-clause-rows g c = IfOk-from_err _ _ c.from_residual.ensures.0
-
-pub returns-in_err-rows-clause-refused : goal.returns-in_err-rows-clause-refused
-returns-in_err-rows-clause-refused g c = refused_as _ c.from_residual.result _ c.in_err-rows.ensures.refused c.from_residual.ensures.1
-
-pub returns-in_err-push-clause-len : goal.returns-in_err-push-clause-len
-returns-in_err-push-clause-len g c = IfOk-from_err _ _ c.from_residual-in_err-push.ensures.0
-
-pub returns-in_err-push-clause-rows : goal.returns-in_err-push-clause-rows
-returns-in_err-push-clause-rows g c = IfOk-from_err _ _ c.from_residual-in_err-push.ensures.0
-
-pub returns-in_err-push-clause-refused : goal.returns-in_err-push-clause-refused
-returns-in_err-push-clause-refused g c = refused_by _ _ c.from_residual-in_err-push.result (λ e h. h) c.from_residual-in_err-push.ensures.1
+pub returns-in_err-push : goal.returns-in_err-push
+returns-in_err-push g c = record {
+  len = IfOk-from_err _ _ c.from_residual-in_err-push.ensures.0;
+  rows = IfOk-from_err _ _ c.from_residual-in_err-push.ensures.0;
+  refused = refused_by _ _ c.from_residual-in_err-push.result (λ e h. h) c.from_residual-in_err-push.ensures.1;
+}

@@ -63,13 +63,11 @@ arcs-init g c =
     let limit = c.requires.limit in
     record { some = limit; limited = omega (arith, ints); each = λ k h. absurd (none_in h.0 k h.1) }
 
-pub returns-clause-some : goal.returns-clause-some
-returns-clause-some g c = c.arcs.invariant.some
-
-pub returns-clause-limited : goal.returns-clause-limited
-returns-clause-limited g c = c.arcs.invariant.limited
-
-pub returns-clause-each : goal.returns-clause-each
-returns-clause-each g c =
-    let all : length c.args.cycle.now ≤ c.arcs.number-index = omega (arith, c.arcs-test.false) in
-    λ k h. c.arcs.invariant.each k (subst (λ (ks : List ℕ). Has ks k) (sym (take_all c.arcs.number-index c.args.cycle.now all)) h)
+pub returns : goal.returns
+returns g c = record {
+  some = c.arcs.invariant.some;
+  limited = c.arcs.invariant.limited;
+  each =
+      let all : length c.args.cycle.now ≤ c.arcs.number-index = omega (arith, c.arcs-test.false) in
+      λ k h. c.arcs.invariant.each k (subst (λ (ks : List ℕ). Has ks k) (sym (take_all c.arcs.number-index c.args.cycle.now all)) h);
+}

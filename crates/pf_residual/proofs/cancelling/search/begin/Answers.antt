@@ -5,34 +5,28 @@ use Rattle.pf_residual.proofs.LevelListLemmas.{resized}
 use Rattle.pf_residual.proofs.NamedLemmas.{refused_by}
 use Rattle.pf_residual.proofs.cancelling.search.begin.Goals as goal
 
-pub returns-in_err-resize-clause-first : goal.returns-in_err-resize-clause-first
-returns-in_err-resize-clause-first g c = IfOk-from_err _ _ c.from_residual.ensures.0
+pub returns-in_err-resize : goal.returns-in_err-resize
+returns-in_err-resize g c = record {
+  first = IfOk-from_err _ _ c.from_residual.ensures.0;
+  places = IfOk-from_err _ _ c.from_residual.ensures.0;
+  refused = refused_by _ _ c.from_residual.result (λ e h. h) c.from_residual.ensures.1;
+}
 
-pub returns-in_err-resize-clause-places : goal.returns-in_err-resize-clause-places
-returns-in_err-resize-clause-places g c = IfOk-from_err _ _ c.from_residual.ensures.0
-
-pub returns-in_err-resize-clause-refused : goal.returns-in_err-resize-clause-refused
-returns-in_err-resize-clause-refused g c = refused_by _ _ c.from_residual.result (λ e h. h) c.from_residual.ensures.1
-
-pub returns-in_err-push-clause-first : goal.returns-in_err-push-clause-first
-returns-in_err-push-clause-first g c = IfOk-from_err _ _ c.from_residual-in_err-push.ensures.0
-
-pub returns-in_err-push-clause-places : goal.returns-in_err-push-clause-places
-returns-in_err-push-clause-places g c = IfOk-from_err _ _ c.from_residual-in_err-push.ensures.0
-
-pub returns-in_err-push-clause-refused : goal.returns-in_err-push-clause-refused
-returns-in_err-push-clause-refused g c = refused_by _ _ c.from_residual-in_err-push.result (λ e h. h) c.from_residual-in_err-push.ensures.1
+pub returns-in_err-push : goal.returns-in_err-push
+returns-in_err-push g c = record {
+  first = IfOk-from_err _ _ c.from_residual-in_err-push.ensures.0;
+  places = IfOk-from_err _ _ c.from_residual-in_err-push.ensures.0;
+  refused = refused_by _ _ c.from_residual-in_err-push.result (λ e h. h) c.from_residual-in_err-push.ensures.1;
+}
 
 pub index_mut-requires : goal.index_mut-requires
 index_mut-requires g c = subst (λ n. c.args.start < n) (sym c.in_ok-resize.ensures.len) c.requires.start
 
-pub returns-clause-first : goal.returns-clause-first
-returns-clause-first g c =
-    let s : Step = record { vertex = c.args.start; arc = 0; before = 0 } in
-    (s, c.in_ok-push.ensures.items ∙ ap (λ (xs : List Step). xs ++ s ∷ []) c.new-steps.ensures.items, refl)
-
-pub returns-clause-places : goal.returns-clause-places
-returns-clause-places g c = ap (λ (xs : List (Option ℕ)). slice_set xs c.args.start (Some 0)) (resized c.args.size c.new-places.result.items c.resize.new.self.items _ None c.new-places.ensures.items c.new-places.ensures.len c.in_ok-resize.ensures.items)
-
-pub returns-clause-refused : goal.returns-clause-refused
-returns-clause-refused g c = tt
+pub returns : goal.returns
+returns g c = record {
+  first =
+      let s : Step = record { vertex = c.args.start; arc = 0; before = 0 } in
+      (s, c.in_ok-push.ensures.items ∙ ap (λ (xs : List Step). xs ++ s ∷ []) c.new-steps.ensures.items, refl);
+  places = ap (λ (xs : List (Option ℕ)). slice_set xs c.args.start (Some 0)) (resized c.args.size c.new-places.result.items c.resize.new.self.items _ None c.new-places.ensures.items c.new-places.ensures.len c.in_ok-resize.ensures.items);
+  refused = tt;
+}

@@ -48,14 +48,10 @@ returns-clause-expanded g c =
     let all : length c.args.row.now ≤ c.arcs.number-index = omega arith in
     λ k e h. c.arcs.invariant.leads k e (subst (λ ks. Has ks k) (sym (take_all c.arcs.number-index c.args.row.now all)) h)
 
-pub returns-in_err-follow-clause-reached : goal.returns-in_err-follow-clause-reached
-returns-in_err-follow-clause-reached g c = IfOk-from_err _ _ c.from_residual.ensures.0
-
-pub returns-in_err-follow-clause-extends : goal.returns-in_err-follow-clause-extends
-returns-in_err-follow-clause-extends g c = IfOk-from_err _ _ c.from_residual.ensures.0
-
-pub returns-in_err-follow-clause-expanded : goal.returns-in_err-follow-clause-expanded
-returns-in_err-follow-clause-expanded g c = IfOk-from_err _ _ c.from_residual.ensures.0
-
-pub returns-in_err-follow-clause-refused : goal.returns-in_err-follow-clause-refused
-returns-in_err-follow-clause-refused g c = refused_as _ c.from_residual.result _ c.in_err-follow.ensures.refused c.from_residual.ensures.1
+pub returns-in_err-follow : goal.returns-in_err-follow
+returns-in_err-follow g c = record {
+  reached = IfOk-from_err _ _ c.from_residual.ensures.0;
+  extends = IfOk-from_err _ _ c.from_residual.ensures.0;
+  expanded = IfOk-from_err _ _ c.from_residual.ensures.0;
+  refused = refused_as _ c.from_residual.result _ c.in_err-follow.ensures.refused c.from_residual.ensures.1;
+}

@@ -103,26 +103,18 @@ returns-clause-whole g c =
     let at : c.steps.at ≡ length c.steps.reached.steps.items = omega (arith, c.steps-test.false, c.len-in-steps.ensures, c.steps.reached.steps.ok, c.steps.invariant.within) in
     subst (λ n. IsExpanded g.C.Number.value c.args.ends.now c.args.amounts.now n c.steps.reached.steps.items c.steps.reached.places.items) at c.steps.invariant.expanded
 
-pub returns-in_err-reached-clause-reached : goal.returns-in_err-reached-clause-reached
-returns-in_err-reached-clause-reached g c = IfOk-from_err _ _ c.from_residual.ensures.0
+pub returns-in_err-reached : goal.returns-in_err-reached
+returns-in_err-reached g c = record {
+  reached = IfOk-from_err _ _ c.from_residual.ensures.0;
+  wide = IfOk-from_err _ _ c.from_residual.ensures.0;
+  whole = IfOk-from_err _ _ c.from_residual.ensures.0;
+  refused = refused_as _ c.from_residual.result _ c.in_err-reached.ensures.refused c.from_residual.ensures.1;
+}
 
-pub returns-in_err-reached-clause-wide : goal.returns-in_err-reached-clause-wide
-returns-in_err-reached-clause-wide g c = IfOk-from_err _ _ c.from_residual.ensures.0
-
-pub returns-in_err-reached-clause-whole : goal.returns-in_err-reached-clause-whole
-returns-in_err-reached-clause-whole g c = IfOk-from_err _ _ c.from_residual.ensures.0
-
-pub returns-in_err-expand-clause-reached : goal.returns-in_err-expand-clause-reached
-returns-in_err-expand-clause-reached g c = IfOk-from_err _ _ c.from_residual-in_err-expand.ensures.0
-
-pub returns-in_err-expand-clause-wide : goal.returns-in_err-expand-clause-wide
-returns-in_err-expand-clause-wide g c = IfOk-from_err _ _ c.from_residual-in_err-expand.ensures.0
-
-pub returns-in_err-expand-clause-whole : goal.returns-in_err-expand-clause-whole
-returns-in_err-expand-clause-whole g c = IfOk-from_err _ _ c.from_residual-in_err-expand.ensures.0
-
-pub returns-in_err-reached-clause-refused : goal.returns-in_err-reached-clause-refused
-returns-in_err-reached-clause-refused g c = refused_as _ c.from_residual.result _ c.in_err-reached.ensures.refused c.from_residual.ensures.1
-
-pub returns-in_err-expand-clause-refused : goal.returns-in_err-expand-clause-refused
-returns-in_err-expand-clause-refused g c = refused_as _ c.from_residual-in_err-expand.result _ c.in_err-expand.ensures.refused c.from_residual-in_err-expand.ensures.1
+pub returns-in_err-expand : goal.returns-in_err-expand
+returns-in_err-expand g c = record {
+  reached = IfOk-from_err _ _ c.from_residual-in_err-expand.ensures.0;
+  wide = IfOk-from_err _ _ c.from_residual-in_err-expand.ensures.0;
+  whole = IfOk-from_err _ _ c.from_residual-in_err-expand.ensures.0;
+  refused = refused_as _ c.from_residual-in_err-expand.result _ c.in_err-expand.ensures.refused c.from_residual-in_err-expand.ensures.1;
+}
