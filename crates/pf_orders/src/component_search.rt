@@ -95,7 +95,9 @@ impl<A: Allocator + Copy> ComponentSearch<A> {
             row: Vec::new(alloc),
         })
     }
+}
 
+impl<A: Allocator> ComponentSearch<A> {
     /// Where the last segment begins, if nothing of it waits.
     fn spent_segment(&self) -> Option<usize>
         ensures spent { IfSome result (λ begin. (c : Segment) × IsLast self.now.segments.items c × (c.begin ≡ begin) × (c.waiting ≡ length self.now.waiting.items)) }
@@ -148,7 +150,9 @@ impl<A: Allocator + Copy> ComponentSearch<A> {
         self.waiting.extend_from_slice(&self.row)?;
         Ok(())
     }
+}
 
+impl<A: Allocator + Copy> ComponentSearch<A> {
     /// Closes the last segment, where nothing of it waits, or looks at the number that waits last. The
     /// answer is `false` where nothing is left to do.
     fn turn<C: Cost, G: NumberedGraph<C>>(

@@ -77,7 +77,9 @@ impl<A: Allocator + Copy> Sorting<A> {
             row: Vec::new(alloc),
         })
     }
+}
 
+impl<A: Allocator> Sorting<A> {
     /// Enters a number: its successors are asked for, and the walk leaves it once it has left these.
     fn enter<C: Cost, G: NumberedGraph<C>>(
         &mut self,
