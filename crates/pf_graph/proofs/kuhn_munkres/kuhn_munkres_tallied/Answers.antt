@@ -1,6 +1,7 @@
-use Rattle.std.proofs.Common.{rules, ◌≡◌, ◌≤◌, ◌+◌, ◌∙◌, ap, ℕ, arith, length}
+use Rattle.std.proofs.Common.{rules, ◌≡◌, ◌≤◌, ◌+◌, ◌∙◌, ap, subst, sym, ℕ, arith, length}
 use Rattle.std.proofs.lemmas.Nat.{mul-le}
 use Rattle.pf_graph.specs.Assignments.{assignment_total}
+use Rattle.pf_graph.specs.Internal.Assignment.AssignmentSteps.{IsWide}
 use Rattle.pf_graph.proofs.Assignment.MatchingBest.{best_of, matched_none}
 use Rattle.pf_graph.proofs.Outcomes.{refused_as, if_refused}
 use Rattle.pf_graph.proofs.kuhn_munkres.kuhn_munkres_tallied.Goals as goal
@@ -18,10 +19,8 @@ loop-row-init g c =
     record {
       matched = matched_none g.C.Number.value (g.W.Weights.table c.args.weights.now) _ _ _ _ m.rows (search rules) (search rules) m.free m.zero;
       rows = m.rows;
-      row_potentials = search rules;
-      visited = search rules;
-      distances = search rules;
-      places = search rules;
+      row_potentials = m.row_potentials ∙ sym m.rows;
+      wide = subst (λ (n : ℕ). IsWide n c.in_ok-tree.tree) (search rules) t.wide;
       ticked = omega arith;
       rounds = omega arith;
     }
@@ -38,9 +37,7 @@ loop-row-preserved g c =
       matched = e.matched;
       rows = e.rows ∙ ap (λ (n : ℕ). n + 1) i.rows;
       row_potentials = e.row_potentials;
-      visited = e.visited;
-      distances = e.distances;
-      places = e.places;
+      wide = e.wide;
       ticked = omega (arith, more, ticked);
       rounds = omega (arith, last, rounds);
     }
@@ -80,7 +77,7 @@ returns-in_err-tree g c = record {
 pub returns-in_err-match_row : goal.returns-in_err-match_row
 returns-in_err-match_row g c =
     let rows = (g.W.Weights.table c.args.weights.now).rows in
-    let most = mul-le (c.loop-row._row + 1) rows rows rows (omega arith) (omega arith) in
+    let most = mul-le (c.loop-row._row + 1) rows rows rows (omega arith) (refl_le _) in
     let before = c.loop-row.invariant.rounds in
     let last = c.in_err-match_row.ensures.rounds in
     let ticked = c.loop-row.invariant.ticked in
@@ -112,6 +109,6 @@ returns-clause-ticked g c = c.loop-row.invariant.ticked
 pub returns-clause-rounds : goal.returns-clause-rounds
 returns-clause-rounds g c =
     let rows = (g.W.Weights.table c.args.weights.now).rows in
-    let most = mul-le c.loop-row._row rows rows rows (omega arith) (omega arith) in
+    let most = mul-le c.loop-row._row rows rows rows (omega arith) (refl_le _) in
     let before = c.loop-row.invariant.rounds in
     omega (arith, most, before)

@@ -18,3 +18,12 @@ loop-place-preserved g c =
 
 pub returns-clause-maps : goal.returns-clause-maps
 returns-clause-maps g c = subst (λ fs. MapsByFirst g.N.PartialEq.eq c.args.nodes.now fs c.args.ids.now c.loop-place.of_node) (take_all c.loop-place.place c.args.first.now c.loop-place-test.false) c.loop-place.invariant
+
+pub bounds-ids-group : goal.bounds-ids-group
+bounds-ids-group g c = c.requires.inside c.loop-place.place 0 c.loop-place-test.true
+
+pub bounds-nodes-place : goal.bounds-nodes-place
+bounds-nodes-place g c = subst (λ (n : ℕ). c.loop-place.place < n) c.requires.len c.loop-place-test.true
+
+pub loop-place-smaller : goal.loop-place-smaller
+loop-place-smaller g c = omega (arith, c.loop-place-test.true)

@@ -1,4 +1,4 @@
-use Rattle.std.proofs.Common.{◌≡◌, [], ◌∷◌, ◌++◌, refl, sym, subst, ap, take, take_all, ◌∙◌, ◌+◌}
+use Rattle.std.proofs.Common.{arith, ◌≡◌, [], ◌∷◌, ◌++◌, refl, sym, subst, ap, take, take_all, ◌∙◌, ◌+◌}
 use Rattle.std.specs.Prelude.{map}
 use Rattle.std.proofs.lemmas.List.{map-append, take_more}
 use Rattle.std.proofs.lemmas.List.Elements.{All-nil, All-push, All-same}
@@ -75,3 +75,6 @@ returns-in_err-push g c = record {
   weighed = IfOk-from_err _ _ c.from_residual-in_err-push.ensures.0;
   refused = refused_by _ c.from_residual-in_err-push.result c.from_residual-in_err-push.ensures.1;
 }
+
+pub loop-edge-smaller : goal.loop-edge-smaller
+loop-edge-smaller g c = omega (arith, c.loop-edge-test.true)

@@ -106,7 +106,7 @@ returns-clause-matched g c =
     (subst (λ xs. (i : ℕ) → i < length m.column_of.items → number value c.lower_rows.new.potentials i ≡ raised (flag r.visited.items (slice_index m.column_of.items i)) (number value m.row_potentials.items i) (neg_ℤ (value c.index-depth.result.now -ℤ number value xs (slice_index m.column_of.items i)))) c.deref-5.ensures.value
     (subst (λ xs. (i : ℕ) → i < length m.column_of.items → number value c.lower_rows.new.potentials i ≡ raised (flag xs (slice_index m.column_of.items i)) (number value m.row_potentials.items i) (neg_ℤ (value c.index-depth.result.now -ℤ number value c.deref-5.result.now (slice_index m.column_of.items i)))) c.deref-4.ensures.value
     (subst (λ cs. (i : ℕ) → i < length cs → number value c.lower_rows.new.potentials i ≡ raised (flag c.deref-4.result.now (slice_index cs i)) (number value m.row_potentials.items i) (neg_ℤ (value c.index-depth.result.now -ℤ number value c.deref-5.result.now (slice_index cs i)))) c.deref-3.ensures.value
-    (subst (λ xs. (i : ℕ) → i < length c.deref-3.result.now → number value c.lower_rows.new.potentials i ≡ raised (flag c.deref-4.result.now (slice_index c.deref-3.result.now i)) (number value xs i) (neg_ℤ (value c.index-depth.result.now -ℤ number value c.deref-5.result.now (slice_index c.deref-3.result.now i)))) c.deref_mut-2.ensures.value c.lower_rows.ensures.matched)))) in
+    (subst (λ xs. (i : ℕ) → i < length c.deref-3.result.now → number value c.lower_rows.new.potentials i ≡ raised (flag c.deref-4.result.now (slice_index c.deref-3.result.now i)) (number value xs i) (neg_ℤ (value c.index-depth.result.now -ℤ number value c.deref-5.result.now (slice_index c.deref-3.result.now i)))) c.deref_mut-2.ensures.value c.lower_rows.ensures)))) in
     let flipped =
     subst (λ xs. IsFlipped (length xs) (length m.row_of.items) (length r.rows.items) c.args.column (slice_index xs) (holder m.row_of.items) (slice_index r.rows.items) (slice_index r.places.items) (slice_index c.flip_path-left.new.column_of) (holder c.flip_path-left.new.row_of) c.flip_path-left.result) c.deref_mut-3.ensures.value
     (subst (λ xs. IsFlipped (length c.deref_mut-3.result.now) (length xs) (length r.rows.items) c.args.column (slice_index c.deref_mut-3.result.now) (holder xs) (slice_index r.rows.items) (slice_index r.places.items) (slice_index c.flip_path-left.new.column_of) (holder c.flip_path-left.new.row_of) c.flip_path-left.result) c.deref_mut-4.ensures.value

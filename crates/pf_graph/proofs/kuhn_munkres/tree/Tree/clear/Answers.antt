@@ -37,11 +37,8 @@ loop-column-init g c = record {
 pub returns-clause-rows : goal.returns-clause-rows
 returns-clause-rows g c = c.loop-column.invariant.rows
 
-pub returns-clause-visited : goal.returns-clause-visited
-returns-clause-visited g c = c.loop-column.invariant.visited_len
-
-pub returns-clause-distances : goal.returns-clause-distances
-returns-clause-distances g c = c.loop-column.invariant.distances_len
-
-pub returns-clause-places : goal.returns-clause-places
-returns-clause-places g c = c.loop-column.invariant.places_len
+pub returns-clause-wide : goal.returns-clause-wide
+returns-clause-wide g c =
+    let v = c.loop-column.invariant in
+    let w = c.requires.wide in
+    record { visited = v.visited_len; distances = v.distances_len ∙ w.distances; places = v.places_len ∙ w.places }
