@@ -1,4 +1,4 @@
-use Rattle.std.proofs.Common.{◌∙◌, sym, rules, slice_index_or}
+use Rattle.std.proofs.Common.{◌∙◌, refl, sym, slice_index_or}
 use Rattle.std.proofs.lemmas.Option.{slice_get-get_or}
 use Rattle.pf_graph.specs.declared.undirected.union_find.Vertex.{Vertex}
 use Rattle.pf_graph.proofs.UnionFindLemmas.{Halved-led, led_smaller, parent_is}
@@ -35,11 +35,38 @@ climb-smaller c =
 pub returns-clause-root : goal.returns-clause-root
 returns-clause-root c =
     let d : Vertex = record { parent = 0; size = 0 } in
-    parent_is c.climb.vertices c.climb.node (slice_index_or c.climb.vertices c.climb.node d) (slice_get-get_or c.climb.vertices c.climb.node d c.climb.invariant.inside) ∙ search rules
+    parent_is c.climb.vertices c.climb.node (slice_index_or c.climb.vertices c.climb.node d) (slice_get-get_or c.climb.vertices c.climb.node d c.climb.invariant.inside) ∙ c.climb-test.false
 
 pub returns-clause-labels : goal.returns-clause-labels
 returns-clause-labels c = λ label l.
     let i = c.climb.invariant.labels label l in
     let d : Vertex = record { parent = 0; size = 0 } in
-    let root = parent_is c.climb.vertices c.climb.node (slice_index_or c.climb.vertices c.climb.node d) (slice_get-get_or c.climb.vertices c.climb.node d c.climb.invariant.inside) ∙ search rules in
+    let root = parent_is c.climb.vertices c.climb.node (slice_index_or c.climb.vertices c.climb.node d) (slice_get-get_or c.climb.vertices c.climb.node d c.climb.invariant.inside) ∙ c.climb-test.false in
     (i.0, sym (i.0.at_root c.climb.node root) ∙ i.1)
+
+pub climb-init : goal.climb-init
+climb-init c = record { sound = c.requires.sound; inside = c.requires.inside; roots = λ x r. r; labels = λ label l. (l, refl) }
+
+pub bounds-vertices-node : goal.bounds-vertices-node
+bounds-vertices-node c = c.climb.invariant.inside
+
+pub bounds-vertices-node-in-climb : goal.bounds-vertices-node-in-climb
+bounds-vertices-node-in-climb c = c.climb.invariant.inside
+
+pub bounds-vertices-node-in-climb-2 : goal.bounds-vertices-node-in-climb-2
+bounds-vertices-node-in-climb-2 c = c.climb.invariant.inside
+
+pub bounds-vertices-vertices : goal.bounds-vertices-vertices
+bounds-vertices-vertices c =
+    let i = c.climb.invariant in
+    let d : Vertex = record { parent = 0; size = 0 } in
+    i.sound.inside c.climb.node (slice_index_or c.climb.vertices c.climb.node d) (slice_get-get_or c.climb.vertices c.climb.node d i.inside)
+
+pub returns-clause-sound : goal.returns-clause-sound
+returns-clause-sound c = c.climb.invariant.sound
+
+pub returns-clause-inside : goal.returns-clause-inside
+returns-clause-inside c = c.climb.invariant.inside
+
+pub returns-clause-roots : goal.returns-clause-roots
+returns-clause-roots c = c.climb.invariant.roots

@@ -1,4 +1,4 @@
-use Rattle.std.proofs.Common.{rules, ◌≡◌, ◌<◌, ◌++◌, ◌∷◌, [], arith, ap, sym, subst, ◌∙◌, ℕ, length, refl}
+use Rattle.std.proofs.Common.{◌≡◌, ◌<◌, ◌++◌, ◌∷◌, [], arith, ap, sym, subst, ◌∙◌, ℕ, length, refl}
 use Rattle.std.specs.Prelude.{pos, ◌+ℤ◌, ◌-ℤ◌, slice_index}
 use Rattle.pf_graph.specs.Assignments.{number}
 use Rattle.pf_graph.specs.Internal.Assignment.AssignmentSteps.{flag, IsFresh, IsScanned, IsTreeOf}
@@ -11,7 +11,7 @@ use Rattle.pf_graph.proofs.kuhn_munkres.tree.Tree.begin.Goals as goal
 
 pub scan-requires-clause-row : goal.scan-requires-clause-row
 scan-requires-clause-row g c =
-    let root : c.len-root.result ≡ length c.args.matching.now.column_of.items = search rules in
+    let root : c.len-root.result ≡ length c.args.matching.now.column_of.items = c.len-root.ensures ∙ c.args.matching.now.column_of.ok.0 in
     let left = c.requires.next.left in
     omega (arith, root, left)
 
@@ -26,7 +26,7 @@ scan-requires-clause-fits g c =
     let value = g.C.Number.value in
     let interval : IsInterval g.C.Number.fits = λ x y z. g.C.Number.between_law x y z g.met.C.Integral.exact_law in
     let none : value c.zero.result ≡ pos 0 = ap value c.zero.ensures ∙ g.met.C.Zero.zero_law g.met.C.Integral.exact_law in
-    let root : c.len-root.result ≡ length c.args.matching.now.column_of.items = search rules in
+    let root : c.len-root.result ≡ length c.args.matching.now.column_of.items = c.len-root.ensures ∙ c.args.matching.now.column_of.ok.0 in
     record {
       negation = λ j h f. column_negation g.C.Number.fits interval c.requires.fit c.requires.shape c.requires.next j h;
       sum = λ j h f. root_sum g.C.Number.fits interval c.requires.fit c.requires.shape c.requires.next (value c.zero.result) none j h;
@@ -40,7 +40,7 @@ returns-clause-tree g c =
     let value = g.C.Number.value in
     let t = g.W.Weights.table c.args.weights.now in
     let none : value c.zero.result ≡ pos 0 = ap value c.zero.ensures ∙ g.met.C.Zero.zero_law g.met.C.Integral.exact_law in
-    let root : c.len-root.result ≡ length c.args.matching.now.column_of.items = search rules in
+    let root : c.len-root.result ≡ length c.args.matching.now.column_of.items = c.len-root.ensures ∙ c.args.matching.now.column_of.ok.0 in
     let rows = c.in_ok-push.ensures.items ∙ ap (λ xs. xs ++ c.len-root.result ∷ []) c.clear.ensures.items ∙ ap (λ r. r ∷ []) root in
     let top = value g.C.Cost.greatest in
     let far = λ (j : ℕ) (h : j < t.columns). ((g.met.C.Cost.range_law (value c.zero.result +ℤ number value c.args.matching.now.column_potentials.items j -ℤ t.at (length c.args.matching.now.column_of.items) j)).0

@@ -1,4 +1,4 @@
-use Rattle.std.proofs.Common.{rules, ◌≡◌, ◌<◌, arith, ap, sym, subst, ◌∙◌, ◌∷◌, [], length, length-set, true, false, Some, None, refl}
+use Rattle.std.proofs.Common.{◌≡◌, ◌<◌, arith, ap, sym, subst, ◌∙◌, ◌∷◌, [], length, length-set, true, false, Some, None, refl}
 use Rattle.std.specs.Prelude.{neg_ℤ, ◌+ℤ◌, slice_index, slice_set}
 use Rattle.std.proofs.lemmas.List.{get_or-set_other, length-append}
 use Rattle.pf_graph.specs.Assignments.{number}
@@ -16,7 +16,7 @@ index-requires-2 g c =
     let o = (c.requires.next.matched.matching.from c.args.row c.args.column c.requires.row).0 in
     let r = c.requires.next.rows in
     let l : c.args.row < length c.args.matching.now.row_potentials.items = omega (arith, o, r) in
-    search rules
+    subst (λ n. c.args.row < n) (sym c.args.matching.now.row_potentials.ok.0) l
 
 pub plus-offset-requires-clause-negation : goal.plus-offset-requires-clause-negation
 plus-offset-requires-clause-negation g c =
@@ -80,7 +80,7 @@ returns-clause-tree g c =
     let q = c.requires.tree.distances_len in
     let m = number-at value c.args.self.now.distances.items c.args.column c.index.result.now (omega (arith, i, q)) c.index.ensures in
     let sum : value c.plus-offset.result ≡ number value c.args.self.now.distances.items c.args.column +ℤ number value c.args.matching.now.row_potentials.items c.args.row = c.plus-offset.ensures ∙ ap (λ z. z +ℤ value c.index-2.result.now) (sym m) ∙ ap (λ z. number value c.args.self.now.distances.items c.args.column +ℤ z) (sym n) in
-    let count : c.len-place.result ≡ length c.args.self.now.rows.items = search rules in
+    let count : c.len-place.result ≡ length c.args.self.now.rows.items = c.len-place.ensures ∙ c.args.self.now.rows.ok.0 in
     let scanned =
     subst (λ k. IsScanned t.at t.columns c.args.row k (value c.plus-offset.result) (number value c.args.matching.now.column_potentials.items) (flag (slice_set c.args.self.now.visited.items c.args.column true)) (number value c.args.self.now.distances.items) (slice_index c.args.self.now.places.items) (number value c.scan.new.self.distances.items) (slice_index c.scan.new.self.places.items)) count
     c.scan.ensures.scanned in
