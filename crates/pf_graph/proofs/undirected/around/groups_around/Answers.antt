@@ -43,6 +43,9 @@ pub returns-clause-groups : goal.returns-clause-groups
 returns-clause-groups g c = λ next a.
     subst (λ xs. AreGroupsAround g.N.PartialEq.eq next xs c.loop-start.groups.items) (take_all c.loop-start.start-index c.args.starts.now c.loop-start-test.false) (c.loop-start.invariant.groups next a)
 
+pub returns-clause-refused : goal.returns-clause-refused
+returns-clause-refused g c = tt
+
 pub returns-in_err-groups : goal.returns-in_err-groups
 returns-in_err-groups g c = record {
   groups = IfOk-from_err _ _ c.from_residual.ensures.0;

@@ -25,6 +25,9 @@ returns-clause-indexed g c = λ x.
     let i = c.loop-node.invariant in
     i.indexed x ∙ ap (λ xs. if list_any (g.N.PartialEq.eq x) xs then Some c.args.index else get g.N.PartialEq.eq c.args.of_node.now x) (sym (append-nil i.done) ∙ ap (λ xs. i.done ++ xs) (sym c.in-None.ensures.steps.0) ∙ i.all)
 
+pub returns-clause-refused : goal.returns-clause-refused
+returns-clause-refused g c = tt
+
 pub returns-in_err-clone : goal.returns-in_err-clone
 returns-in_err-clone g c = record {
   indexed = IfOk-from_err _ _ c.from_residual.ensures.0;

@@ -18,6 +18,9 @@ returns-in_ok-push-clause-gathered g c = λ pairs h.
     (subst (λ ks. IsGathered eq (pairs ++ (c.args.group, c.args.node.now) ∷ []) ks (c.args.first.now.items ++ c.args.group ∷ []) c.args.vertices.now) (sym new.1)
     (gathered_new g.met.N.Eq.laws pairs c.args.nodes.now.keys c.args.first.now.items c.args.vertices.now h c.args.group c.args.node new.0 (subst (λ ks. IsDistinct same ks) new.1 c.insert_full.ensures.unique) c.requires.inside))
 
+pub returns-in_ok-push-clause-refused : goal.returns-in_ok-push-clause-refused
+returns-in_ok-push-clause-refused g c = tt
+
 pub returns-else-added-clause-gathered : goal.returns-else-added-clause-gathered
 returns-else-added-clause-gathered g c = λ pairs h.
     let eq = g.N.PartialEq.eq in
@@ -30,6 +33,9 @@ returns-else-added-clause-gathered g c = λ pairs h.
     let u = c.unite.ensures.labels h.label h.labels in
     subst (λ ks. IsGathered eq (pairs ++ (c.args.group, c.args.node.now) ∷ []) ks c.args.first.now.items c.unite.new.vertices) (sym known)
     (gathered_again g.met.N.Eq.laws pairs c.args.nodes.now.keys c.args.first.now.items c.args.vertices.now h c.args.group c.args.node c.in_ok-number.number c.index.result.now at.0 here (g.met.N.Eq.laws.symm _ _ ∙ at.2) (slice_get_read c.args.first.now.items (length c.args.first.now.items) c.in_ok-number.number c.index.result.now refl inside c.index.ensures) c.unite.new.vertices c.unite.ensures.sound c.unite.auto.vertices u.0 u.1 (merged_anyway c.unite.result h.label u.0 c.args.group c.index.result.now u.2))
+
+pub returns-else-added-clause-refused : goal.returns-else-added-clause-refused
+returns-else-added-clause-refused g c = tt
 
 pub unite-requires-clause-sound : goal.unite-requires-clause-sound
 unite-requires-clause-sound g c = c.requires.gathered.1.sound

@@ -2,7 +2,7 @@ use Rattle.std.proofs.Common.{◌<◌, refl, subst, arith, length, slice_index_o
 use Rattle.std.proofs.lemmas.List.{get_or_default}
 use Rattle.std.proofs.lemmas.Option.{slice_get-get_or, slice_get_read}
 use Rattle.pf_graph.specs.Internal.Components.DisjointSets.{MapsByFirst}
-use Rattle.pf_graph.proofs.Components.DisjointSetLemmas.{MapsByFirst-more}
+use Rattle.pf_graph.proofs.Components.DisjointSetLemmas.{MapsByFirst-none, MapsByFirst-more}
 use Rattle.pf_graph.proofs.undirected.disjoint_sets.map_nodes.Goals as goal
 
 pub loop-place-preserved : goal.loop-place-preserved
@@ -19,6 +19,9 @@ loop-place-preserved g c =
 pub returns-clause-maps : goal.returns-clause-maps
 returns-clause-maps g c = subst (λ fs. MapsByFirst g.N.PartialEq.eq c.args.nodes.now fs c.args.ids.now c.loop-place.of_node) (take_all c.loop-place.place c.args.first.now c.loop-place-test.false) c.loop-place.invariant
 
+pub returns-clause-refused : goal.returns-clause-refused
+returns-clause-refused g c = tt
+
 pub bounds-ids-group : goal.bounds-ids-group
 bounds-ids-group g c = c.requires.inside c.loop-place.place 0 c.loop-place-test.true
 
@@ -27,3 +30,6 @@ bounds-nodes-place g c = subst (λ (n : ℕ). c.loop-place.place < n) c.requires
 
 pub loop-place-smaller : goal.loop-place-smaller
 loop-place-smaller g c = omega (arith, c.loop-place-test.true)
+
+pub loop-place-init : goal.loop-place-init
+loop-place-init g c = MapsByFirst-none g.N.PartialEq.eq c.args.nodes.now c.args.first.now c.args.ids.now c.in_ok-of_node.of_node c.in_ok-of_node.ensures.empty

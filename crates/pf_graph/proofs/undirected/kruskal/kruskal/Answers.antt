@@ -41,6 +41,9 @@ returns-clause-sorted g c =
     subst (λ xs. IsSorted (λ (e f : g.row.N.Denot × g.row.N.Denot × g.row.C.Denot). g.C.Ord.cmp e.2 f.2) (map shown xs)) (sym c.into_iter.ensures.rest)
     (written_sorted g.C.Ord.cmp c.in_ok-chosen.chosen.items (map shown c.in_ok-written.written.items) c.in_ok-written.ensures.written c.in_ok-chosen.ensures.sorted)
 
+pub returns-clause-refused : goal.returns-clause-refused
+returns-clause-refused g c = tt
+
 pub returns-in_err-numbered : goal.returns-in_err-numbered
 returns-in_err-numbered g c = record {
   forest = if_refused _ c.from_residual.result _ c.from_residual.ensures.1;

@@ -14,3 +14,6 @@ loop-numbered-preserved g c =
 pub returns-clause-weights : goal.returns-clause-weights
 returns-clause-weights g c =
     c.loop-numbered.invariant ∙ ap (map (λ (e : ℕ × ℕ × Weighed g.row.N.Denot g.row.C.Denot g.row.C.Denot). e.2.weight)) (take_all c.loop-numbered.numbered-index c.args.chosen.now c.loop-numbered-test.false)
+
+pub returns-clause-refused : goal.returns-clause-refused
+returns-clause-refused g c = tt

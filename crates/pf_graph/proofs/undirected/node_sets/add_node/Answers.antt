@@ -15,6 +15,9 @@ returns-in_ok-insert-in-Some-clause-collected g c = λ done h.
     collected_again g.met.N.Eq.laws (contains eq) done c.args.place_of.now c.args.sets.now.items h c.args.id c.args.node.now c.in_ok-copy.copy (c.requires.clones c.args.node.now c.in_ok-copy.copy c.in_ok-copy.ensures.cases)
     c.in-Some.place at c.index_mut.result.now c.insert.new.self (slice_get_read c.args.sets.now.items (length c.args.sets.now.items) c.in-Some.place c.index_mut.result.now refl (h.inside c.args.id c.in-Some.place at) c.index_mut.ensures.value) c.in_ok-insert-in-Some.ensures.updates.0
 
+pub returns-in_ok-insert-in-Some-clause-refused : goal.returns-in_ok-insert-in-Some-clause-refused
+returns-in_ok-insert-in-Some-clause-refused g c = tt
+
 pub returns-in_ok-push-in-None-clause-collected : goal.returns-in_ok-push-in-None-clause-collected
 returns-in_ok-push-in-None-clause-collected g c = λ done h.
     let eq = g.N.PartialEq.eq in
@@ -24,6 +27,9 @@ returns-in_ok-push-in-None-clause-collected g c = λ done h.
     (subst (λ (m : ℕ). IsCollected eq (contains eq) (done ++ (c.args.id, c.args.node.now) ∷ []) (slice_set c.args.place_of.now c.args.id (Some m)) (c.args.sets.now.items ++ c.insert-in-None.new.self ∷ [])) n
     (collected_new g.met.N.Eq.laws (contains eq) done c.args.place_of.now c.args.sets.now.items h c.args.id c.args.node.now c.in_ok-copy.copy (c.requires.clones c.args.node.now c.in_ok-copy.copy c.in_ok-copy.ensures.cases)
     at c.insert-in-None.new.self (λ x. c.in_ok-insert-in-None.ensures.updates.0 x ∙ ap (λ ks. if eq c.in_ok-copy.copy x then true else list_any (eq x) ks) c.new-set.ensures.empty)))
+
+pub returns-in_ok-push-in-None-clause-refused : goal.returns-in_ok-push-in-None-clause-refused
+returns-in_ok-push-in-None-clause-refused g c = tt
 
 pub index_mut-requires : goal.index_mut-requires
 index_mut-requires g c =

@@ -32,6 +32,9 @@ returns-clause-collected g c =
     let all : c.loop-number.number ≡ length c.args.first.now = omega arith in
     (i.done, subst (λ n. AreDone c.args.nodes.now c.args.first.now c.args.ids.now n i.done) all i.are_done, i.collected)
 
+pub returns-clause-refused : goal.returns-clause-refused
+returns-clause-refused g c = tt
+
 pub add_node-requires-clause-inside : goal.add_node-requires-clause-inside
 add_node-requires-clause-inside g c =
     let j : ℕ = slice_index_or c.args.first.now c.loop-number.number 0 in

@@ -25,3 +25,6 @@ pub returns-clause-collected : goal.returns-clause-collected
 returns-clause-collected g c =
     let h = c.in_ok-collect_into.ensures.collected in
     (h.0, c.collect_into.new.place_of, h.1, h.2)
+
+pub returns-clause-refused : goal.returns-clause-refused
+returns-clause-refused g c = tt

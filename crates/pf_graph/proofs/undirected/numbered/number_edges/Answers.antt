@@ -12,6 +12,9 @@ returns-clause-in_order g c = c.in_ok-number_into.ensures.in_order
 pub returns-clause-weighed : goal.returns-clause-weighed
 returns-clause-weighed g c = c.in_ok-number_into.ensures.weighed
 
+pub returns-clause-refused : goal.returns-clause-refused
+returns-clause-refused g c = tt
+
 pub returns-in_err-numbered : goal.returns-in_err-numbered
 returns-in_err-numbered g c = record {
   numbered = IfOk-from_err _ _ c.from_residual.ensures.0;

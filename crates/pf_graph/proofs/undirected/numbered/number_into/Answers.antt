@@ -44,6 +44,9 @@ returns-clause-in_order g c = c.loop-edge.invariant.in_order ∙ take_all c.loop
 pub returns-clause-weighed : goal.returns-clause-weighed
 returns-clause-weighed g c = c.loop-edge.invariant.weighed
 
+pub returns-clause-refused : goal.returns-clause-refused
+returns-clause-refused g c = tt
+
 pub returns-in_err-from : goal.returns-in_err-from
 returns-in_err-from g c = record {
   numbered = IfOk-from_err _ _ c.from_residual.ensures.0;

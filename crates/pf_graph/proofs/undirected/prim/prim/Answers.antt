@@ -33,6 +33,9 @@ returns-in_default-clause-least g c = λ start s.
 pub returns-in_default-clause-as_written : goal.returns-in_default-clause-as_written
 returns-in_default-clause-as_written g c = record { as_written = λ e h. absurd (omega (arith, (subst (λ es. Contains es e) (ap (map shown) c.new.ensures.items) h).1)) }
 
+pub returns-in_default-clause-refused : goal.returns-in_default-clause-refused
+returns-in_default-clause-refused g c = tt
+
 pub rows_of-requires : goal.rows_of-requires
 rows_of-requires g c =
     let n = c.in_ok-numbered.ensures.numbered in
@@ -129,6 +132,9 @@ returns-clause-as_written g c =
     let rows = subst (λ rs. AreRows g.N.PartialEq.eq n.0 edges rs) (sym c.deref-3.ensures.value) (are_rows edges numbered in_order n.0 n.2 c.in_ok-rows.rows.items steps len) in
     let stands = first_stands edges numbered in_order n.0 n.2 c.in_ok-rows.rows.items steps len first at in
     IfOk-weaker c.grow.result _ _ (λ tree p. let q = p n.0 edges first.2.edge.now.0 rows stands in q.1) c.grow.ensures.grown
+
+pub returns-clause-refused : goal.returns-clause-refused
+returns-clause-refused g c = c.grow.ensures.refused
 
 pub returns-in_err-numbered : goal.returns-in_err-numbered
 returns-in_err-numbered g c = record {

@@ -12,3 +12,6 @@ loop-edge-preserved g c =
 pub returns-clause-copies : goal.returns-clause-copies
 returns-clause-copies g c =
     subst (λ xs. HoldsCopies g.C.Clone.is_clone xs c.loop-edge.copies.items) (take_all c.loop-edge.edge-index c.args.edges.now c.loop-edge-test.false) c.loop-edge.invariant
+
+pub returns-clause-refused : goal.returns-clause-refused
+returns-clause-refused g c = tt

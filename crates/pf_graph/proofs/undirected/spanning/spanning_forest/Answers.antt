@@ -38,6 +38,9 @@ returns-clause-forest g c = c.in_ok-choose_edges.ensures.forest
 pub returns-clause-sorted : goal.returns-clause-sorted
 returns-clause-sorted g c = c.in_ok-choose_edges.ensures.sorted
 
+pub returns-clause-refused : goal.returns-clause-refused
+returns-clause-refused g c = tt
+
 pub returns-in_err-vertices : goal.returns-in_err-vertices
 returns-in_err-vertices g c = record {
   forest = if_refused _ c.from_residual.result _ c.from_residual.ensures.1;

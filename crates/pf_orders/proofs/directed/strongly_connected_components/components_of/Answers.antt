@@ -31,3 +31,6 @@ returns-clause-components g c = λ starts next b.
     (λ answer z. strong_components_of eq laws next y
     (λ n m. let s = (starts_stand eq laws starts c.args.graph.nodes.keys b.same n).1 m in (s.0, omega (arith, s.1, e.grows.more), e.grows.stays s.0 n s.2)) (lists_of c.in_ok-components.components.items) (lists_of answer.items) h z)
     (rw (c.deref.ensures.value, c.as_slice.ensures.keys) at c.components_at.ensures.nodes)
+
+pub returns-clause-refused : goal.returns-clause-refused
+returns-clause-refused g c = c.components_at.ensures.refused

@@ -9,3 +9,6 @@ components_of-requires-clause-graph g c =
 
 pub returns-clause-components : goal.returns-clause-components
 returns-clause-components g c = λ next a. let e = c.in_ok-nodes_of.ensures in c.components_of.ensures.components c.args.nodes.now next (begins g.met.N.Eq.laws e.distinct e.same a)
+
+pub returns-clause-errors : goal.returns-clause-errors
+returns-clause-errors g c = c.components_of.ensures.refused

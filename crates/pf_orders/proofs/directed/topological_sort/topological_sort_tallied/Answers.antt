@@ -15,3 +15,9 @@ returns-clause-cycle g c = λ next a. let e = c.in_ok-nodes_of.ensures in c.orde
 
 pub returns-clause-asked : goal.returns-clause-asked
 returns-clause-asked g c = λ next a. let e = c.in_ok-nodes_of.ensures in c.order_in.ensures.asked c.args.roots.now next (begins g.met.N.Eq.laws e.distinct e.same a)
+
+pub returns-clause-errors : goal.returns-clause-errors
+returns-clause-errors g c = c.order_in.ensures.errors
+
+pub returns-clause-ticked : goal.returns-clause-ticked
+returns-clause-ticked g c = c.order_in.ensures.ticked

@@ -84,6 +84,9 @@ returns-clause-cycle g c = λ next a.
 pub returns-clause-value : goal.returns-clause-value
 returns-clause-value g c = λ next a. (c.loop-power.invariant next a).moves
 
+pub returns-clause-refused : goal.returns-clause-refused
+returns-clause-refused g c = λ next a. tt
+
 pub returns-in_err-power-clause-cycle : goal.returns-in_err-power-clause-cycle
 returns-in_err-power-clause-cycle g c = λ next a. IfOk-from_err _ _ c.from_residual-in_err-power.ensures.0
 

@@ -72,3 +72,6 @@ returns-clause-repeats g c = λ next a.
 
 pub returns-clause-first : goal.returns-clause-first
 returns-clause-first g c = λ next a. (c.loop-value.invariant next a).before
+
+pub returns-clause-refused : goal.returns-clause-refused
+returns-clause-refused g c = tt

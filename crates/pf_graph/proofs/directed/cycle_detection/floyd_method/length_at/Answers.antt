@@ -56,3 +56,6 @@ returns-clause-repeats g c = λ start next a v.
 
 pub returns-clause-least : goal.returns-clause-least
 returns-clause-least g c = λ start next a v. (c.loop-ahead.invariant start next a v).passed
+
+pub returns-clause-refused : goal.returns-clause-refused
+returns-clause-refused g c = tt

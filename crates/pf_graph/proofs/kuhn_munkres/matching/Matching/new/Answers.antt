@@ -1,4 +1,4 @@
-use Rattle.std.proofs.Common.{◌≡◌, refl, ap, sym, subst, ◌∙◌, ℕ, zero, suc, None, replicate}
+use Rattle.std.proofs.Common.{◌≡◌, refl, ap, sym, subst, ◌∙◌, ℕ, zero, suc, None, replicate, length}
 use Rattle.std.specs.Prelude.{ℤ, pos}
 use Rattle.pf_graph.specs.Assignments.{number}
 use Rattle.pf_graph.specs.Internal.Assignment.AssignmentSteps.{holder}
@@ -50,3 +50,12 @@ returns-in_err-column_potentials g c = record {
   zero = if_refused _ c.from_residual-in_err-column_potentials.result _ c.from_residual-in_err-column_potentials.ensures.1;
   refused = refused_as _ c.from_residual-in_err-column_potentials.result _ c.from_residual-in_err-column_potentials.ensures.1 c.in_err-column_potentials.ensures.refused;
 }
+
+pub returns-clause-rows : goal.returns-clause-rows
+returns-clause-rows g c = ap length c.new.ensures.items
+
+pub returns-clause-row_potentials : goal.returns-clause-row_potentials
+returns-clause-row_potentials g c = ap length c.new-2.ensures.items
+
+pub returns-clause-refused : goal.returns-clause-refused
+returns-clause-refused g c = tt

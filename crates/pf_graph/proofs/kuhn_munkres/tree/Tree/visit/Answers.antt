@@ -98,6 +98,9 @@ returns-clause-nearest g c = c.scan.ensures.nearest
 pub returns-clause-wide : goal.returns-clause-wide
 returns-clause-wide g c = c.scan.ensures.wide
 
+pub returns-clause-refused : goal.returns-clause-refused
+returns-clause-refused g c = tt
+
 pub scan-requires-clause-row_of : goal.scan-requires-clause-row_of
 scan-requires-clause-row_of g c = c.requires.next.matched.wide
 

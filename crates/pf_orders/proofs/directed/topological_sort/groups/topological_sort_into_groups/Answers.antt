@@ -18,3 +18,6 @@ returns-clause-closed g c = λ next a. let e = c.in_ok-nodes_of.ensures in c.gro
 
 pub returns-clause-unknown : goal.returns-clause-unknown
 returns-clause-unknown g c = λ next a. let e = c.in_ok-nodes_of.ensures in c.groups_in.ensures.unknown c.args.nodes.now next (begins g.met.N.Eq.laws e.distinct e.same a)
+
+pub returns-clause-errors : goal.returns-clause-errors
+returns-clause-errors g c = c.groups_in.ensures.errors
