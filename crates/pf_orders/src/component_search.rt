@@ -7,7 +7,7 @@ ghost use Rattle.pf_orders.specs.declared.component_search.Segment.{Segment};
 ghost use Rattle.pf_orders.specs.Components.{lists_of};
 ghost use Rattle.pf_orders.specs.ComponentSearch.{widened, IsAt, IsPlacedIn, IsOpenIn, AreClosing, AreNumberedComponents, Closes, Joins, IsLast};
 
-use pf_base::{Cost, PathError};
+use pf_base::PathError;
 use pf_core::numbered::NumberedGraph;
 use std::alloc::Allocator;
 
@@ -155,11 +155,7 @@ impl<A: Allocator> ComponentSearch<A> {
 impl<A: Allocator + Copy> ComponentSearch<A> {
     /// Closes the last segment, where nothing of it waits, or looks at the number that waits last. The
     /// answer is `false` where nothing is left to do.
-    fn turn<C: Cost, G: NumberedGraph<C>>(
-        &mut self,
-        alloc: A,
-        graph: &mut G,
-    ) -> Result<bool, PathError>
+    fn turn<G: NumberedGraph<u8>>(&mut self, alloc: A, graph: &mut G) -> Result<bool, PathError>
         requires graph { (g : G.Graph) × G.explores graph.old g }
         requires placed { IsPlacedIn (G.found graph.old) self.old }
         ensures grows { Grows (G.found graph.old) (G.found graph.new) (G.stands graph.old) (G.stands graph.new) }
@@ -205,7 +201,7 @@ impl<A: Allocator + Copy> ComponentSearch<A> {
 ///
 /// The open numbers stand in a row of segments, whose numbers lead to one another. A step back into the
 /// row joins segments, and the last segment is a component when no step from it waits.
-pub fn strong_components<C: Cost, G: NumberedGraph<C>, A: Allocator + Copy>(
+pub fn strong_components<G: NumberedGraph<u8>, A: Allocator + Copy>(
     alloc: A,
     graph: &mut G,
 ) -> Result<Vec<Vec<usize, A>, A>, PathError>
