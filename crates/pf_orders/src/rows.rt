@@ -11,9 +11,9 @@ use pf_core::numbered::NumberedGraph;
 use std::alloc::Allocator;
 
 /// Adds the numbers of a row to their counts.
-fn count_row<A: Allocator>(row: &[usize], counts: &mut Vec<usize, A>) -> Result<(), PathError>
-    requires { (j : ℕ) → HasNode nat_eq row.now j → j < length counts.old.items }
-    ensures counted { OnOk result (Falls row.now counts.new.items counts.old.items) }
+fn count_row(row: &[usize], counts: &mut [usize]) -> Result<(), PathError>
+    requires { (j : ℕ) → HasNode nat_eq row.now j → j < length counts.old }
+    ensures counted { OnOk result (Falls row.now counts.new counts.old) }
     ensures refused { IfErr result (λ e. e ≡ PathError.OutOfMemory) }
 {
     'targets: for target in row {
