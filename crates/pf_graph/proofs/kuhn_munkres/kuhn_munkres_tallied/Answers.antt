@@ -51,9 +51,6 @@ total_of-total-requires-clause-assignment g c =
 pub match_row-requires-clause-left : goal.match_row-requires-clause-left
 match_row-requires-clause-left g c = let r = c.loop-row.invariant.rows in omega (arith, r)
 
-pub returns-clause-total : goal.returns-clause-total
-returns-clause-total g c = c.total_of-total.ensures ∙ ap (assignment_total (g.W.Weights.table c.args.weights.now)) c.deref.ensures.value
-
 pub returns-in_err-matching : goal.returns-in_err-matching
 returns-in_err-matching g c = record {
   assignment = if_refused _ c.from_residual.result _ c.from_residual.ensures.1;
@@ -91,27 +88,22 @@ returns-in_err-match_row g c =
       rounds = omega (arith, most, before, last);
     }
 
-pub returns-clause-assignment : goal.returns-clause-assignment
-returns-clause-assignment g c =
-    let r = c.loop-row.invariant.rows in
-    let e : length c.loop-row.matching.column_of.items ≡ (g.W.Weights.table c.args.weights.now).rows = omega (arith, r) in
-    (best_of c.loop-row.invariant.matched e).assignment
-
-pub returns-clause-best : goal.returns-clause-best
-returns-clause-best g c =
-    let r = c.loop-row.invariant.rows in
-    let e : length c.loop-row.matching.column_of.items ≡ (g.W.Weights.table c.args.weights.now).rows = omega (arith, r) in
-    best_of c.loop-row.invariant.matched e
-
-pub returns-clause-ticked : goal.returns-clause-ticked
-returns-clause-ticked g c = c.loop-row.invariant.ticked
-
-pub returns-clause-rounds : goal.returns-clause-rounds
-returns-clause-rounds g c =
-    let rows = (g.W.Weights.table c.args.weights.now).rows in
-    let most = mul-le c.loop-row._row rows rows rows (omega arith) (refl_le _) in
-    let before = c.loop-row.invariant.rounds in
-    omega (arith, most, before)
-
-pub returns-clause-refused : goal.returns-clause-refused
-returns-clause-refused g c = tt
+pub returns : goal.returns
+returns g c = record {
+  total = c.total_of-total.ensures ∙ ap (assignment_total (g.W.Weights.table c.args.weights.now)) c.deref.ensures.value;
+  assignment =
+      let r = c.loop-row.invariant.rows in
+      let e : length c.loop-row.matching.column_of.items ≡ (g.W.Weights.table c.args.weights.now).rows = omega (arith, r) in
+      (best_of c.loop-row.invariant.matched e).assignment;
+  best =
+      let r = c.loop-row.invariant.rows in
+      let e : length c.loop-row.matching.column_of.items ≡ (g.W.Weights.table c.args.weights.now).rows = omega (arith, r) in
+      best_of c.loop-row.invariant.matched e;
+  ticked = c.loop-row.invariant.ticked;
+  rounds =
+      let rows = (g.W.Weights.table c.args.weights.now).rows in
+      let most = mul-le c.loop-row._row rows rows rows (omega arith) (refl_le _) in
+      let before = c.loop-row.invariant.rounds in
+      omega (arith, most, before);
+  refused = tt;
+}

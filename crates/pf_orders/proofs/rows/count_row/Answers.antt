@@ -64,17 +64,17 @@ targets-init c = record {
 pub bounds-row-target-index : goal.bounds-row-target-index
 bounds-row-target-index c = c.targets-test.true
 
-pub returns-in_default-clause-counted : goal.returns-in_default-clause-counted
-returns-in_default-clause-counted c = tt
-
-pub returns-in_default-clause-refused : goal.returns-in_default-clause-refused
-returns-in_default-clause-refused c = refl
+pub returns-in_default : goal.returns-in_default
+returns-in_default c = record {
+  counted = tt;
+  refused = refl;
+}
 
 pub targets-smaller : goal.targets-smaller
 targets-smaller c = omega (arith, c.targets-test.true)
 
-pub returns-clause-counted : goal.returns-clause-counted
-returns-clause-counted c = subst (λ (ks : List ℕ). Falls ks c.targets.counts c.args.counts.now) (take_all _ _ c.targets-test.false) c.targets.invariant.falls
-
-pub returns-clause-refused : goal.returns-clause-refused
-returns-clause-refused c = tt
+pub returns : goal.returns
+returns c = record {
+  counted = subst (λ (ks : List ℕ). Falls ks c.targets.counts c.args.counts.now) (take_all _ _ c.targets-test.false) c.targets.invariant.falls;
+  refused = tt;
+}

@@ -123,27 +123,6 @@ returns-in_err-count_row g c = record {
   errors = memory_of _ _ c.from_residual-in_err-count_row.ensures.1 c.in_err-count_row.ensures.refused;
 }
 
-pub returns-in_err-push-clause-graph : goal.returns-in_err-push-clause-graph
-returns-in_err-push-clause-graph g c = λ h x. c.in_ok-expand.ensures.graph h (c.numbers.invariant.explored h x)
-
-pub returns-in_err-push-clause-grows : goal.returns-in_err-push-clause-grows
-returns-in_err-push-clause-grows g c = Grows-trans _ _ _ _ _ _ c.numbers.invariant.grown c.in_ok-expand.ensures.grows
-
-pub returns-in_err-push-clause-same : goal.returns-in_err-push-clause-same
-returns-in_err-push-clause-same g c = on_refused _ _ c.from_residual-in_err-push.ensures.0
-
-pub returns-in_err-push-clause-counted : goal.returns-in_err-push-clause-counted
-returns-in_err-push-clause-counted g c = on_refused _ _ c.from_residual-in_err-push.ensures.0
-
-pub returns-in_err-push-clause-wide : goal.returns-in_err-push-clause-wide
-returns-in_err-push-clause-wide g c = on_refused _ _ c.from_residual-in_err-push.ensures.0
-
-pub returns-in_err-push-clause-long : goal.returns-in_err-push-clause-long
-returns-in_err-push-clause-long g c = on_refused _ _ c.from_residual-in_err-push.ensures.0
-
-pub returns-in_err-push-clause-listed : goal.returns-in_err-push-clause-listed
-returns-in_err-push-clause-listed g c = λ h x. on_refused _ _ c.from_residual-in_err-push.ensures.0
-
 pub numbers-smaller : goal.numbers-smaller
 numbers-smaller g c = omega (arith, c.numbers-test.true)
 
@@ -199,8 +178,15 @@ returns g c =
       errors = tt;
     }
 
-pub returns-in_err-push-clause-unknown : goal.returns-in_err-push-clause-unknown
-returns-in_err-push-clause-unknown g c = λ h x u. absurd (none_unknown c.from_residual-in_err-push.result c.from_residual-in_err-push.ensures.1 u)
-
-pub returns-in_err-push-clause-errors : goal.returns-in_err-push-clause-errors
-returns-in_err-push-clause-errors g c = refused_as _ c.from_residual-in_err-push.result _ c.from_residual-in_err-push.ensures.1 (inl refl)
+pub returns-in_err-push : goal.returns-in_err-push
+returns-in_err-push g c = record {
+  graph = λ h x. c.in_ok-expand.ensures.graph h (c.numbers.invariant.explored h x);
+  grows = Grows-trans _ _ _ _ _ _ c.numbers.invariant.grown c.in_ok-expand.ensures.grows;
+  same = on_refused _ _ c.from_residual-in_err-push.ensures.0;
+  counted = on_refused _ _ c.from_residual-in_err-push.ensures.0;
+  wide = on_refused _ _ c.from_residual-in_err-push.ensures.0;
+  long = on_refused _ _ c.from_residual-in_err-push.ensures.0;
+  listed = λ h x. on_refused _ _ c.from_residual-in_err-push.ensures.0;
+  unknown = λ h x u. absurd (none_unknown c.from_residual-in_err-push.result c.from_residual-in_err-push.ensures.1 u);
+  errors = refused_as _ c.from_residual-in_err-push.result _ c.from_residual-in_err-push.ensures.1 (inl refl);
+}

@@ -16,11 +16,11 @@ loop-place-preserved g c =
     (slice_get_read c.args.nodes.now (length c.args.nodes.now) place c.index-nodes-place.result refl inside c.index-nodes-place.is)
     (slice_get-get_or c.args.ids.now j 0 (c.requires.inside place 0 c.loop-place-test.true)) c.loop-place.invariant
 
-pub returns-clause-maps : goal.returns-clause-maps
-returns-clause-maps g c = subst (λ fs. MapsByFirst g.N.PartialEq.eq c.args.nodes.now fs c.args.ids.now c.loop-place.of_node) (take_all c.loop-place.place c.args.first.now c.loop-place-test.false) c.loop-place.invariant
-
-pub returns-clause-refused : goal.returns-clause-refused
-returns-clause-refused g c = tt
+pub returns : goal.returns
+returns g c = record {
+  maps = subst (λ fs. MapsByFirst g.N.PartialEq.eq c.args.nodes.now fs c.args.ids.now c.loop-place.of_node) (take_all c.loop-place.place c.args.first.now c.loop-place-test.false) c.loop-place.invariant;
+  refused = tt;
+}
 
 pub bounds-ids-group : goal.bounds-ids-group
 bounds-ids-group g c = c.requires.inside c.loop-place.place 0 c.loop-place-test.true

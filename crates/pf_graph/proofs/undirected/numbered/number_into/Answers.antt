@@ -34,18 +34,13 @@ loop-edge-preserved g c =
       weighed = All-same (IsWeighed g.F.Fn c.args.weigh.now) _ _ c.in_ok-push.ensures.items (All-push (IsWeighed g.F.Fn c.args.weigh.now) c.loop-edge.numbered.items _ c.loop-edge.invariant.weighed (record { shown = _; shows = refl; says = record { met = c.in_ok-weight.ensures } }));
     }
 
-pub returns-clause-numbered : goal.returns-clause-numbered
-returns-clause-numbered g c =
-    subst (λ xs. IsNumbered g.N.PartialEq.eq c.loop-edge.nodes.keys xs c.loop-edge.numbered.items) (take_all c.loop-edge.edge-index c.args.edges.now c.loop-edge-test.false) c.loop-edge.invariant.numbered
-
-pub returns-clause-in_order : goal.returns-clause-in_order
-returns-clause-in_order g c = c.loop-edge.invariant.in_order ∙ take_all c.loop-edge.edge-index c.args.edges.now c.loop-edge-test.false
-
-pub returns-clause-weighed : goal.returns-clause-weighed
-returns-clause-weighed g c = c.loop-edge.invariant.weighed
-
-pub returns-clause-refused : goal.returns-clause-refused
-returns-clause-refused g c = tt
+pub returns : goal.returns
+returns g c = record {
+  numbered = subst (λ xs. IsNumbered g.N.PartialEq.eq c.loop-edge.nodes.keys xs c.loop-edge.numbered.items) (take_all c.loop-edge.edge-index c.args.edges.now c.loop-edge-test.false) c.loop-edge.invariant.numbered;
+  in_order = c.loop-edge.invariant.in_order ∙ take_all c.loop-edge.edge-index c.args.edges.now c.loop-edge-test.false;
+  weighed = c.loop-edge.invariant.weighed;
+  refused = tt;
+}
 
 pub returns-in_err-from : goal.returns-in_err-from
 returns-in_err-from g c = record {

@@ -32,18 +32,6 @@ climb-smaller c =
     let up = slice_get-get_or vs v.parent d (i.sound.inside c.climb.node v at) in
     led_smaller vs i.sound c.climb.node v u at up c.climb-test.true
 
-pub returns-clause-root : goal.returns-clause-root
-returns-clause-root c =
-    let d : Vertex = record { parent = 0; size = 0 } in
-    parent_is c.climb.vertices c.climb.node (slice_index_or c.climb.vertices c.climb.node d) (slice_get-get_or c.climb.vertices c.climb.node d c.climb.invariant.inside) ∙ c.climb-test.false
-
-pub returns-clause-labels : goal.returns-clause-labels
-returns-clause-labels c = λ label l.
-    let i = c.climb.invariant.labels label l in
-    let d : Vertex = record { parent = 0; size = 0 } in
-    let root = parent_is c.climb.vertices c.climb.node (slice_index_or c.climb.vertices c.climb.node d) (slice_get-get_or c.climb.vertices c.climb.node d c.climb.invariant.inside) ∙ c.climb-test.false in
-    (i.0, sym (i.0.at_root c.climb.node root) ∙ i.1)
-
 pub climb-init : goal.climb-init
 climb-init c = record { sound = c.requires.sound; inside = c.requires.inside; roots = λ x r. r; labels = λ label l. (l, refl) }
 
@@ -62,11 +50,17 @@ bounds-vertices-vertices c =
     let d : Vertex = record { parent = 0; size = 0 } in
     i.sound.inside c.climb.node (slice_index_or c.climb.vertices c.climb.node d) (slice_get-get_or c.climb.vertices c.climb.node d i.inside)
 
-pub returns-clause-sound : goal.returns-clause-sound
-returns-clause-sound c = c.climb.invariant.sound
-
-pub returns-clause-inside : goal.returns-clause-inside
-returns-clause-inside c = c.climb.invariant.inside
-
-pub returns-clause-roots : goal.returns-clause-roots
-returns-clause-roots c = c.climb.invariant.roots
+pub returns : goal.returns
+returns c = record {
+  root =
+      let d : Vertex = record { parent = 0; size = 0 } in
+      parent_is c.climb.vertices c.climb.node (slice_index_or c.climb.vertices c.climb.node d) (slice_get-get_or c.climb.vertices c.climb.node d c.climb.invariant.inside) ∙ c.climb-test.false;
+  labels = λ label l.
+      let i = c.climb.invariant.labels label l in
+      let d : Vertex = record { parent = 0; size = 0 } in
+      let root = parent_is c.climb.vertices c.climb.node (slice_index_or c.climb.vertices c.climb.node d) (slice_get-get_or c.climb.vertices c.climb.node d c.climb.invariant.inside) ∙ c.climb-test.false in
+      (i.0, sym (i.0.at_root c.climb.node root) ∙ i.1);
+  sound = c.climb.invariant.sound;
+  inside = c.climb.invariant.inside;
+  roots = c.climb.invariant.roots;
+}

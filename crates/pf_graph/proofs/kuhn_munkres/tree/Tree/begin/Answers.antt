@@ -35,35 +35,29 @@ scan-requires-clause-fits g c =
           (root_difference g.C.Number.fits interval c.requires.fit c.requires.shape c.requires.next (value c.zero.result) none j h);
     }
 
-pub returns-clause-tree : goal.returns-clause-tree
-returns-clause-tree g c =
-    let value = g.C.Number.value in
-    let t = g.W.Weights.table c.args.weights.now in
-    let none : value c.zero.result ≡ pos 0 = ap value c.zero.ensures ∙ g.met.C.Zero.zero_law g.met.C.Integral.exact_law in
-    let root : c.len-root.result ≡ length c.args.matching.now.column_of.items = c.len-root.ensures ∙ c.args.matching.now.column_of.ok.0 in
-    let rows = c.in_ok-push.ensures.items ∙ ap (λ xs. xs ++ c.len-root.result ∷ []) c.clear.ensures.items ∙ ap (λ r. r ∷ []) root in
-    let top = value g.C.Cost.greatest in
-    let far = λ (j : ℕ) (h : j < t.columns). ((g.met.C.Cost.range_law (value c.zero.result +ℤ number value c.args.matching.now.column_potentials.items j -ℤ t.at (length c.args.matching.now.column_of.items) j)).0
-    (root_difference g.C.Number.fits (λ x y z. g.C.Number.between_law x y z g.met.C.Integral.exact_law) c.requires.fit c.requires.shape c.requires.next (value c.zero.result) none j h)).1 in
-    let fresh = subst (λ n. IsFresh top n (flag c.clear-2.new.self.visited.items) (number value c.clear-2.new.self.distances.items) (slice_index c.clear-2.new.self.places.items)) c.requires.wide.visited c.clear-2.ensures.fresh in
-    let scanned =
-    subst (λ r. IsScanned t.at t.columns r 0 (value c.zero.result) (number value c.args.matching.now.column_potentials.items) (flag c.clear-2.new.self.visited.items) (number value c.clear-2.new.self.distances.items) (slice_index c.clear-2.new.self.places.items) (number value c.scan.new.self.distances.items) (slice_index c.scan.new.self.places.items)) root
-    c.scan.ensures.scanned in
-    subst (λ xs. IsTreeOf value t c.args.matching.now.column_of.items c.args.matching.now.row_of.items c.args.matching.now.row_potentials.items c.args.matching.now.column_potentials.items xs c.scan.new.self.visited.items c.scan.new.self.distances.items c.scan.new.self.places.items) (sym (c.scan.ensures.rows ∙ c.clear-2.ensures.rows))
-    (subst (λ xs. IsTreeOf value t c.args.matching.now.column_of.items c.args.matching.now.row_of.items c.args.matching.now.row_potentials.items c.args.matching.now.column_potentials.items c.push.new.self.items xs c.scan.new.self.distances.items c.scan.new.self.places.items) (sym c.scan.ensures.visited)
-    (tree_of_root c.requires.next c.push.new.self.items rows top (value c.zero.result) none far c.clear-2.new.self.visited.items c.clear-2.new.self.distances.items c.scan.new.self.distances.items c.clear-2.new.self.places.items c.scan.new.self.places.items fresh scanned (c.clear-2.ensures.wide.visited ∙ c.requires.wide.visited) c.scan.ensures.wide.distances c.scan.ensures.wide.places))
-
-pub returns-clause-one : goal.returns-clause-one
-returns-clause-one g c = ap length (c.scan.ensures.rows ∙ c.clear-2.ensures.rows ∙ c.in_ok-push.ensures.items ∙ ap (λ xs. xs ++ c.len-root.result ∷ []) c.clear.ensures.items)
-
-pub returns-clause-wide : goal.returns-clause-wide
-returns-clause-wide g c = c.scan.ensures.wide
-
-pub returns-clause-nearest : goal.returns-clause-nearest
-returns-clause-nearest g c = c.scan.ensures.nearest
-
-pub returns-clause-refused : goal.returns-clause-refused
-returns-clause-refused g c = tt
+pub returns : goal.returns
+returns g c = record {
+  tree =
+      let value = g.C.Number.value in
+      let t = g.W.Weights.table c.args.weights.now in
+      let none : value c.zero.result ≡ pos 0 = ap value c.zero.ensures ∙ g.met.C.Zero.zero_law g.met.C.Integral.exact_law in
+      let root : c.len-root.result ≡ length c.args.matching.now.column_of.items = c.len-root.ensures ∙ c.args.matching.now.column_of.ok.0 in
+      let rows = c.in_ok-push.ensures.items ∙ ap (λ xs. xs ++ c.len-root.result ∷ []) c.clear.ensures.items ∙ ap (λ r. r ∷ []) root in
+      let top = value g.C.Cost.greatest in
+      let far = λ (j : ℕ) (h : j < t.columns). ((g.met.C.Cost.range_law (value c.zero.result +ℤ number value c.args.matching.now.column_potentials.items j -ℤ t.at (length c.args.matching.now.column_of.items) j)).0
+      (root_difference g.C.Number.fits (λ x y z. g.C.Number.between_law x y z g.met.C.Integral.exact_law) c.requires.fit c.requires.shape c.requires.next (value c.zero.result) none j h)).1 in
+      let fresh = subst (λ n. IsFresh top n (flag c.clear-2.new.self.visited.items) (number value c.clear-2.new.self.distances.items) (slice_index c.clear-2.new.self.places.items)) c.requires.wide.visited c.clear-2.ensures.fresh in
+      let scanned =
+      subst (λ r. IsScanned t.at t.columns r 0 (value c.zero.result) (number value c.args.matching.now.column_potentials.items) (flag c.clear-2.new.self.visited.items) (number value c.clear-2.new.self.distances.items) (slice_index c.clear-2.new.self.places.items) (number value c.scan.new.self.distances.items) (slice_index c.scan.new.self.places.items)) root
+      c.scan.ensures.scanned in
+      subst (λ xs. IsTreeOf value t c.args.matching.now.column_of.items c.args.matching.now.row_of.items c.args.matching.now.row_potentials.items c.args.matching.now.column_potentials.items xs c.scan.new.self.visited.items c.scan.new.self.distances.items c.scan.new.self.places.items) (sym (c.scan.ensures.rows ∙ c.clear-2.ensures.rows))
+      (subst (λ xs. IsTreeOf value t c.args.matching.now.column_of.items c.args.matching.now.row_of.items c.args.matching.now.row_potentials.items c.args.matching.now.column_potentials.items c.push.new.self.items xs c.scan.new.self.distances.items c.scan.new.self.places.items) (sym c.scan.ensures.visited)
+      (tree_of_root c.requires.next c.push.new.self.items rows top (value c.zero.result) none far c.clear-2.new.self.visited.items c.clear-2.new.self.distances.items c.scan.new.self.distances.items c.clear-2.new.self.places.items c.scan.new.self.places.items fresh scanned (c.clear-2.ensures.wide.visited ∙ c.requires.wide.visited) c.scan.ensures.wide.distances c.scan.ensures.wide.places));
+  one = ap length (c.scan.ensures.rows ∙ c.clear-2.ensures.rows ∙ c.in_ok-push.ensures.items ∙ ap (λ xs. xs ++ c.len-root.result ∷ []) c.clear.ensures.items);
+  wide = c.scan.ensures.wide;
+  nearest = c.scan.ensures.nearest;
+  refused = tt;
+}
 
 pub scan-requires-clause-row_of : goal.scan-requires-clause-row_of
 scan-requires-clause-row_of g c = c.requires.next.matched.wide

@@ -34,25 +34,23 @@ loop-column-init g c = record {
   root = λ j h. absurd (omega (arith, h));
 }
 
-pub returns-clause-rows : goal.returns-clause-rows
-returns-clause-rows g c = c.loop-column.invariant.rows
-
-pub returns-clause-wide : goal.returns-clause-wide
-returns-clause-wide g c =
-    let v = c.loop-column.invariant in
-    let w = c.requires.wide in
-    record { visited = v.visited_len; distances = v.distances_len ∙ w.distances; places = v.places_len ∙ w.places }
-
 in_order : (j n m k end : ℕ) → j < n → n ≡ m → end ≡ m → end ≤ k → j < k
 in_order j n m k end h e f l = omega (arith, h, e, f, l)
 
-pub returns-clause-fresh : goal.returns-clause-fresh
-returns-clause-fresh g c =
+pub returns : goal.returns
+returns g c =
     let v = c.loop-column.invariant in
-    let all : c.len-column-end.result ≡ length c.args.self.now.visited.items = c.len-column-end.ensures ∙ c.args.self.now.visited.ok.0 in
-    let past = c.loop-column-test.false in
     record {
-      unvisited = all_unvisited c.loop-column.self.visited.items (λ j h. v.unvisited j (in_order _ _ _ _ _ h v.visited_len all past));
-      far = λ j h. v.far j (in_order _ _ _ _ _ h refl all past);
-      root = λ j h. v.root j (in_order _ _ _ _ _ h refl all past);
+      rows = c.loop-column.invariant.rows;
+      wide =
+          let w = c.requires.wide in
+          record { visited = v.visited_len; distances = v.distances_len ∙ w.distances; places = v.places_len ∙ w.places };
+      fresh =
+          let all : c.len-column-end.result ≡ length c.args.self.now.visited.items = c.len-column-end.ensures ∙ c.args.self.now.visited.ok.0 in
+          let past = c.loop-column-test.false in
+          record {
+            unvisited = all_unvisited c.loop-column.self.visited.items (λ j h. v.unvisited j (in_order _ _ _ _ _ h v.visited_len all past));
+            far = λ j h. v.far j (in_order _ _ _ _ _ h refl all past);
+            root = λ j h. v.root j (in_order _ _ _ _ _ h refl all past);
+          };
     }

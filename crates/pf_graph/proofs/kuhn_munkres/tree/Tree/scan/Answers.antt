@@ -68,16 +68,6 @@ loop-column-preserved g c =
           )
     ]
 
-pub returns-clause-nearest : goal.returns-clause-nearest
-returns-clause-nearest g c =
-    let value = g.C.Number.value in
-    let k = c.loop-column.column in
-    let through = λ (j : ℕ). value c.args.offset +ℤ number value c.args.matching.now.column_potentials.items j -ℤ (g.W.Weights.table c.args.weights.now).at c.args.row j in
-    let e : k ≡ (g.W.Weights.table c.args.weights.now).columns = omega arith in
-    subst (λ n. IsNearest n (flag c.loop-column.self.visited.items) (number value c.loop-column.self.distances.items) c.unwrap.result) e
-    (subst (λ xs. IsNearest k (flag xs) (number value c.loop-column.self.distances.items) c.unwrap.result) (sym c.loop-column.invariant.visited)
-    (scan_nearest through c.args.place (flag c.args.self.now.visited.items) (number value c.args.self.now.distances.items) (slice_index c.args.self.now.places.items) k (number value c.loop-column.self.distances.items) (slice_index c.loop-column.self.places.items) c.loop-column.nearest c.loop-column.invariant.scanned c.unwrap.result c.unwrap.ensures))
-
 pub loop-column-init : goal.loop-column-init
 loop-column-init g c = record {
   scanned = record {
@@ -93,22 +83,26 @@ loop-column-init g c = record {
   places_len = refl;
 }
 
-pub returns-clause-scanned : goal.returns-clause-scanned
-returns-clause-scanned g c =
-    let e : c.loop-column.column ≡ (g.W.Weights.table c.args.weights.now).columns = omega arith in
-    record { relaxed = λ j h. c.loop-column.invariant.scanned.relaxed j (subst (λ (n : ℕ). j < n) (sym e) h) }
-
-pub returns-clause-rows : goal.returns-clause-rows
-returns-clause-rows g c = c.loop-column.invariant.rows
-
-pub returns-clause-visited : goal.returns-clause-visited
-returns-clause-visited g c = c.loop-column.invariant.visited
-
-pub returns-clause-wide : goal.returns-clause-wide
-returns-clause-wide g c =
-    let v = c.loop-column.invariant in
-    let w = c.requires.wide in
-    record { visited = ap length v.visited ∙ w.visited; distances = v.distances_len ∙ w.distances; places = v.places_len ∙ w.places }
+pub returns : goal.returns
+returns g c = record {
+  nearest =
+      let value = g.C.Number.value in
+      let k = c.loop-column.column in
+      let through = λ (j : ℕ). value c.args.offset +ℤ number value c.args.matching.now.column_potentials.items j -ℤ (g.W.Weights.table c.args.weights.now).at c.args.row j in
+      let e : k ≡ (g.W.Weights.table c.args.weights.now).columns = omega arith in
+      subst (λ n. IsNearest n (flag c.loop-column.self.visited.items) (number value c.loop-column.self.distances.items) c.unwrap.result) e
+      (subst (λ xs. IsNearest k (flag xs) (number value c.loop-column.self.distances.items) c.unwrap.result) (sym c.loop-column.invariant.visited)
+      (scan_nearest through c.args.place (flag c.args.self.now.visited.items) (number value c.args.self.now.distances.items) (slice_index c.args.self.now.places.items) k (number value c.loop-column.self.distances.items) (slice_index c.loop-column.self.places.items) c.loop-column.nearest c.loop-column.invariant.scanned c.unwrap.result c.unwrap.ensures));
+  scanned =
+      let e : c.loop-column.column ≡ (g.W.Weights.table c.args.weights.now).columns = omega arith in
+      record { relaxed = λ j h. c.loop-column.invariant.scanned.relaxed j (subst (λ (n : ℕ). j < n) (sym e) h) };
+  rows = c.loop-column.invariant.rows;
+  visited = c.loop-column.invariant.visited;
+  wide =
+      let v = c.loop-column.invariant in
+      let w = c.requires.wide in
+      record { visited = ap length v.visited ∙ w.visited; distances = v.distances_len ∙ w.distances; places = v.places_len ∙ w.places };
+}
 
 some_of : {T : Type 0} (o : Option T) → ¬ (o ≡ None) → is_some o ≡ true
 some_of None h = absurd (h refl)

@@ -69,37 +69,31 @@ scan-requires-clause-left g c =
     let u = unvisited g.C.Number.fits (λ x y z. g.C.Number.between_law x y z g.met.C.Integral.exact_law) c.requires.fit c.requires.shape c.requires.next c.requires.tree f.0 f.2 in
     (f.0, f.1, get_or-set_other c.args.self.now.visited.items c.args.column f.0 true false (λ e. absurd (let k : Some c.args.row ≡ None = sym c.requires.row ∙ ap (holder c.args.matching.now.row_of.items) (sym e) ∙ f.2 in cc)) ∙ u)
 
-pub returns-clause-tree : goal.returns-clause-tree
-returns-clause-tree g c =
-    let value = g.C.Number.value in
-    let t = g.W.Weights.table c.args.weights.now in
-    let o = (c.requires.next.matched.matching.from c.args.row c.args.column c.requires.row).0 in
-    let r = c.requires.next.rows in
-    let n = number-at value c.args.matching.now.row_potentials.items c.args.row c.index-2.result.now (omega (arith, o, r)) c.index-2.ensures in
-    let i = c.requires.nearest.inside in
-    let q = c.requires.tree.distances_len in
-    let m = number-at value c.args.self.now.distances.items c.args.column c.index.result.now (omega (arith, i, q)) c.index.ensures in
-    let sum : value c.plus-offset.result ≡ number value c.args.self.now.distances.items c.args.column +ℤ number value c.args.matching.now.row_potentials.items c.args.row = c.plus-offset.ensures ∙ ap (λ z. z +ℤ value c.index-2.result.now) (sym m) ∙ ap (λ z. number value c.args.self.now.distances.items c.args.column +ℤ z) (sym n) in
-    let count : c.len-place.result ≡ length c.args.self.now.rows.items = c.len-place.ensures ∙ c.args.self.now.rows.ok.0 in
-    let scanned =
-    subst (λ k. IsScanned t.at t.columns c.args.row k (value c.plus-offset.result) (number value c.args.matching.now.column_potentials.items) (flag (slice_set c.args.self.now.visited.items c.args.column true)) (number value c.args.self.now.distances.items) (slice_index c.args.self.now.places.items) (number value c.scan.new.self.distances.items) (slice_index c.scan.new.self.places.items)) count
-    c.scan.ensures.scanned in
-    let m = c.args.matching.now in
-    subst (λ xs. IsTreeOf value t m.column_of.items m.row_of.items m.row_potentials.items m.column_potentials.items xs c.scan.new.self.visited.items c.scan.new.self.distances.items c.scan.new.self.places.items) (sym c.scan.ensures.rows)
-    (subst (λ xs. IsTreeOf value t m.column_of.items m.row_of.items m.row_potentials.items m.column_potentials.items c.push.new.self.items xs c.scan.new.self.distances.items c.scan.new.self.places.items) (sym c.scan.ensures.visited)
-    (tree_of_more c.requires.next c.args.self.now.rows.items c.args.self.now.visited.items c.args.self.now.distances.items c.args.self.now.places.items c.requires.tree c.args.column c.args.row c.requires.nearest c.requires.row (value c.plus-offset.result) sum c.push.new.self.items c.in_ok-push.ensures.items c.scan.new.self.distances.items c.scan.new.self.places.items scanned (length-set c.args.self.now.visited.items c.args.column true ∙ c.requires.tree.visited_len) c.scan.ensures.wide.distances c.scan.ensures.wide.places))
-
-pub returns-clause-more : goal.returns-clause-more
-returns-clause-more g c = ap length c.scan.ensures.rows ∙ ap length c.in_ok-push.ensures.items ∙ length-append c.args.self.now.rows.items (c.args.row ∷ [])
-
-pub returns-clause-nearest : goal.returns-clause-nearest
-returns-clause-nearest g c = c.scan.ensures.nearest
-
-pub returns-clause-wide : goal.returns-clause-wide
-returns-clause-wide g c = c.scan.ensures.wide
-
-pub returns-clause-refused : goal.returns-clause-refused
-returns-clause-refused g c = tt
+pub returns : goal.returns
+returns g c = record {
+  tree =
+      let value = g.C.Number.value in
+      let t = g.W.Weights.table c.args.weights.now in
+      let o = (c.requires.next.matched.matching.from c.args.row c.args.column c.requires.row).0 in
+      let r = c.requires.next.rows in
+      let n = number-at value c.args.matching.now.row_potentials.items c.args.row c.index-2.result.now (omega (arith, o, r)) c.index-2.ensures in
+      let i = c.requires.nearest.inside in
+      let q = c.requires.tree.distances_len in
+      let m = number-at value c.args.self.now.distances.items c.args.column c.index.result.now (omega (arith, i, q)) c.index.ensures in
+      let sum : value c.plus-offset.result ≡ number value c.args.self.now.distances.items c.args.column +ℤ number value c.args.matching.now.row_potentials.items c.args.row = c.plus-offset.ensures ∙ ap (λ z. z +ℤ value c.index-2.result.now) (sym m) ∙ ap (λ z. number value c.args.self.now.distances.items c.args.column +ℤ z) (sym n) in
+      let count : c.len-place.result ≡ length c.args.self.now.rows.items = c.len-place.ensures ∙ c.args.self.now.rows.ok.0 in
+      let scanned =
+      subst (λ k. IsScanned t.at t.columns c.args.row k (value c.plus-offset.result) (number value c.args.matching.now.column_potentials.items) (flag (slice_set c.args.self.now.visited.items c.args.column true)) (number value c.args.self.now.distances.items) (slice_index c.args.self.now.places.items) (number value c.scan.new.self.distances.items) (slice_index c.scan.new.self.places.items)) count
+      c.scan.ensures.scanned in
+      let m = c.args.matching.now in
+      subst (λ xs. IsTreeOf value t m.column_of.items m.row_of.items m.row_potentials.items m.column_potentials.items xs c.scan.new.self.visited.items c.scan.new.self.distances.items c.scan.new.self.places.items) (sym c.scan.ensures.rows)
+      (subst (λ xs. IsTreeOf value t m.column_of.items m.row_of.items m.row_potentials.items m.column_potentials.items c.push.new.self.items xs c.scan.new.self.distances.items c.scan.new.self.places.items) (sym c.scan.ensures.visited)
+      (tree_of_more c.requires.next c.args.self.now.rows.items c.args.self.now.visited.items c.args.self.now.distances.items c.args.self.now.places.items c.requires.tree c.args.column c.args.row c.requires.nearest c.requires.row (value c.plus-offset.result) sum c.push.new.self.items c.in_ok-push.ensures.items c.scan.new.self.distances.items c.scan.new.self.places.items scanned (length-set c.args.self.now.visited.items c.args.column true ∙ c.requires.tree.visited_len) c.scan.ensures.wide.distances c.scan.ensures.wide.places));
+  more = ap length c.scan.ensures.rows ∙ ap length c.in_ok-push.ensures.items ∙ length-append c.args.self.now.rows.items (c.args.row ∷ []);
+  nearest = c.scan.ensures.nearest;
+  wide = c.scan.ensures.wide;
+  refused = tt;
+}
 
 pub scan-requires-clause-row_of : goal.scan-requires-clause-row_of
 scan-requires-clause-row_of g c = c.requires.next.matched.wide
