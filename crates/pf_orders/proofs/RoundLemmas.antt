@@ -200,6 +200,9 @@ pub record AreNumbersWith (counts : List ℕ) (waiting : Bool) (end : ℕ) (numb
   pub exact : (j : ℕ) → HasNode nat_eq numbers j ↔ ((j < end) × ((c : ℕ) × (slice_get counts j ≡ Some c) × (nat_lt 0 c ≡ waiting)))
   pub once : NoRepeats nat_eq numbers
 
+pub numbers_none : (counts : List ℕ) (waiting : Bool) → AreNumbersWith counts waiting 0 []
+numbers_none counts waiting = record { exact = λ j. ((λ h. absurd h), (λ h. absurd (omega (arith, h.0)))); once = tt }
+
 module _ (counts : List ℕ) (waiting : Bool) (i c : ℕ) (at : slice_get counts i ≡ Some c) (old : List ℕ) (s : AreNumbersWith counts waiting i old) where
   pub numbers_more : nat_lt 0 c ≡ waiting → AreNumbersWith counts waiting (i + 1) (old ++ i ∷ [])
   numbers_more e = record {

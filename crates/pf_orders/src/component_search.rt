@@ -7,7 +7,7 @@ ghost use Rattle.pf_orders.specs.declared.component_search.Segment.{Segment};
 ghost use Rattle.pf_orders.specs.StrongComponents.{lists_of};
 ghost use Rattle.pf_orders.specs.Internal.ComponentSearch.{widened, IsAt, IsPlacedIn, IsOpenIn, AreClosing, AreNumberedComponents, Closes, Joins, IsLast};
 
-use pf_base::{Cost, PathError};
+use pf_base::PathError;
 use pf_core::numbered::NumberedGraph;
 use std::alloc::Allocator;
 
@@ -95,7 +95,9 @@ impl<A: Allocator + Copy> ComponentSearch<A> {
             row: Vec::new(alloc),
         })
     }
+}
 
+impl<A: Allocator> ComponentSearch<A> {
     /// Where the last segment begins, if nothing of it waits.
     fn spent_segment(&self) -> Option<usize>
         ensures spent { IfSome result (λ begin. (c : Segment) × IsLast self.now.segments.items c × (c.begin ≡ begin) × (c.waiting ≡ length self.now.waiting.items)) }
@@ -148,14 +150,12 @@ impl<A: Allocator + Copy> ComponentSearch<A> {
         self.waiting.extend_from_slice(&self.row)?;
         Ok(())
     }
+}
 
+impl<A: Allocator + Copy> ComponentSearch<A> {
     /// Closes the last segment, where nothing of it waits, or looks at the number that waits last. The
     /// answer is `false` where nothing is left to do.
-    fn turn<C: Cost, G: NumberedGraph<C>>(
-        &mut self,
-        alloc: A,
-        graph: &mut G,
-    ) -> Result<bool, PathError>
+    fn turn<G: NumberedGraph<u8>>(&mut self, alloc: A, graph: &mut G) -> Result<bool, PathError>
         requires graph { (g : G.Graph) × G.explores graph.old g }
         requires placed { IsPlacedIn (G.found graph.old) self.old }
         ensures grows { Grows (G.found graph.old) (G.found graph.new) (G.stands graph.old) (G.stands graph.new) }
@@ -201,7 +201,7 @@ impl<A: Allocator + Copy> ComponentSearch<A> {
 ///
 /// The open numbers stand in a row of segments, whose numbers lead to one another. A step back into the
 /// row joins segments, and the last segment is a component when no step from it waits.
-pub fn strong_components<C: Cost, G: NumberedGraph<C>, A: Allocator + Copy>(
+pub fn strong_components<G: NumberedGraph<u8>, A: Allocator + Copy>(
     alloc: A,
     graph: &mut G,
 ) -> Result<Vec<Vec<usize, A>, A>, PathError>

@@ -5,8 +5,8 @@ ghost use Rattle.std.specs.List.{AllZip};
 ghost use Rattle.pf_core.specs.Numbered.{Grows};
 ghost use Rattle.pf_orders.specs.Internal.Orderings.{entries, EnterBelow, IsOrderedReach, IsOnNumberedCycle};
 
+use pf_base::PathError;
 use pf_base::utils::Tally;
-use pf_base::{Cost, PathError};
 use pf_core::numbered::NumberedGraph;
 use std::alloc::Allocator;
 
@@ -77,13 +77,11 @@ impl<A: Allocator + Copy> Sorting<A> {
             row: Vec::new(alloc),
         })
     }
+}
 
+impl<A: Allocator> Sorting<A> {
     /// Enters a number: its successors are asked for, and the walk leaves it once it has left these.
-    fn enter<C: Cost, G: NumberedGraph<C>>(
-        &mut self,
-        graph: &mut G,
-        number: usize,
-    ) -> Result<(), PathError>
+    fn enter<G: NumberedGraph<u8>>(&mut self, graph: &mut G, number: usize) -> Result<(), PathError>
         requires inside { number < G.found graph.old }
         requires graph { (g : G.Graph) × G.explores graph.old g }
         requires marked { length self.old.marks.items ≡ G.found graph.old }
@@ -119,7 +117,7 @@ impl<A: Allocator + Copy> Sorting<A> {
 
     /// Takes turn after turn, from the beginning to the end, or to a number on a cycle, which it
     /// answers. Each node that is expanded is one tick.
-    fn walk_on<C: Cost, G: NumberedGraph<C>>(
+    fn walk_on<G: NumberedGraph<u8>>(
         &mut self,
         graph: &mut G,
         tally: &mut Tally,
@@ -166,7 +164,7 @@ impl<A: Allocator + Copy> Sorting<A> {
 
 /// The numbers of all nodes in reach of those found before, each once, so that each step leads
 /// forward; or, in `Err`, the number of a node on a cycle. Each node that is expanded is one tick.
-pub fn sort_numbers<C: Cost, G: NumberedGraph<C>, A: Allocator + Copy>(
+pub fn sort_numbers<G: NumberedGraph<u8>, A: Allocator + Copy>(
     alloc: A,
     graph: &mut G,
     tally: &mut Tally,

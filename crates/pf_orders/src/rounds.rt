@@ -64,7 +64,7 @@ fn round<A: Allocator + Copy>(
 }
 
 /// The numbers whose count is above 0, or those whose count is 0.
-fn numbers_with<A: Allocator + Copy>(
+fn numbers_with<A: Allocator>(
     alloc: A,
     counts: &[usize],
     waiting: bool,

@@ -6,14 +6,14 @@ ghost use Rattle.pf_core.specs.Numbered.{Grows, StandsBelow};
 ghost use Rattle.pf_orders.specs.Internal.Rounds.{AreCounted, AreSuccessorRows, Falls};
 
 use crate::rounds::Rows;
-use pf_base::{Cost, PathError};
+use pf_base::PathError;
 use pf_core::numbered::NumberedGraph;
 use std::alloc::Allocator;
 
 /// Adds the numbers of a row to their counts.
-fn count_row<A: Allocator>(row: &[usize], counts: &mut Vec<usize, A>) -> Result<(), PathError>
-    requires { (j : ℕ) → HasNode nat_eq row.now j → j < length counts.old.items }
-    ensures counted { OnOk result (Falls row.now counts.new.items counts.old.items) }
+fn count_row(row: &[usize], counts: &mut [usize]) -> Result<(), PathError>
+    requires { (j : ℕ) → HasNode nat_eq row.now j → j < length counts.old }
+    ensures counted { OnOk result (Falls row.now counts.new counts.old) }
     ensures refused { IfErr result (λ e. e ≡ PathError.OutOfMemory) }
 {
     'targets: for target in row {
@@ -28,7 +28,7 @@ fn count_row<A: Allocator>(row: &[usize], counts: &mut Vec<usize, A>) -> Result<
 
 /// Puts the row of each number found before at the end, and counts its numbers. Refused where a node
 /// follows that was not found before.
-fn fill_rows<C: Cost, G: NumberedGraph<C>, A: Allocator + Copy>(
+fn fill_rows<G: NumberedGraph<u8>, A: Allocator + Copy>(
     alloc: A,
     graph: &mut G,
     rows: &mut Rows<A>,
@@ -64,7 +64,7 @@ fn fill_rows<C: Cost, G: NumberedGraph<C>, A: Allocator + Copy>(
 
 /// The numbers that follow each number found before, and how often each one follows. Refused where a
 /// node follows that was not found before.
-pub fn read_rows<C: Cost, G: NumberedGraph<C>, A: Allocator + Copy>(
+pub fn read_rows<G: NumberedGraph<u8>, A: Allocator + Copy>(
     alloc: A,
     graph: &mut G,
 ) -> Result<(Rows<A>, Vec<usize, A>), PathError>

@@ -3,10 +3,16 @@ use Rattle.std.proofs.Common.{ℕ, zero, suc, ◌+◌, ◌<◌, ◌≡◌, ◌�
 use Rattle.std.specs.Prelude.{slice_set, MatchBool, ◌⊎◌, ◌≤ℤ◌, ◌+ℤ◌}
 use Rattle.std.proofs.lemmas.Bool.{cases_eq}
 use Rattle.pf_graph.specs.Assignments.{number}
-use Rattle.pf_graph.specs.Internal.Assignment.AssignmentSteps.{raised}
+use Rattle.pf_graph.specs.Internal.Assignment.AssignmentSteps.{flag, raised}
 
 pub below_or_last : (p n : ℕ) → p < n + 1 → (p < n) ⊎ (p ≡ n)
 below_or_last p n h = elim (cases_eq p n) as (λ _. (p < n) ⊎ (p ≡ n)) [ inl e ↦ inr e | inr e ↦ inl (omega (arith, e)) ]
+
+-- no column was visited, where none of those in the list was
+pub all_unvisited : (xs : List Bool) → ((j : ℕ) → j < length xs → flag xs j ≡ false) → (j : ℕ) → flag xs j ≡ false
+all_unvisited [] h j = refl
+all_unvisited (x ∷ xs) h zero = h zero (omega arith)
+all_unvisited (x ∷ xs) h (suc j) = all_unvisited xs (λ k l. h (suc k) (omega (arith, l))) j
 
 -- two numbers that are equal are in order both ways
 pub level_means : (r : Bool) (a b : ℤ) → a ≤ℤ b → b ≤ℤ a → MatchBool r (a ≤ℤ b) (b ≤ℤ a)

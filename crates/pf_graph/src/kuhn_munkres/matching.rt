@@ -1,16 +1,16 @@
 //! Rows that are matched to columns of their own, under potentials.
 
-ghost use Rattle.std.specs.Prelude.{◌≡◌, ◌≢◌, ◌≤◌, ◌<◌, ◌+◌, ◌+ℤ◌, ◌-ℤ◌, ℕ, pos, neg_ℤ, true, None, OnOk, IfOk, IfErr, length, slice_index};
+ghost use Rattle.std.specs.Prelude.{◌≡◌, ◌≤◌, ◌<◌, ◌+◌, ◌+ℤ◌, ℕ, pos, neg_ℤ, true, None, OnOk, IfOk, IfErr, length, slice_index};
 ghost use Rattle.pf_base.specs.declared.error.PathError.TheVariants.{OutOfMemory};
-ghost use Rattle.pf_graph.specs.Assignments.{number, NumberTable, WeightsFit};
-ghost use Rattle.pf_graph.specs.Internal.Assignment.AssignmentSteps.{holder, flag, raised, IsMatching, IsMatched, IsNext, IsTreeOf, IsNearest, IsAlternatingTree, IsFlipped};
+ghost use Rattle.pf_graph.specs.Assignments.{number, WeightsFit};
+ghost use Rattle.pf_graph.specs.Internal.Assignment.AssignmentSteps.{gain, holder, flag, IsMatching, IsWide, IsMatchedIn, IsNextIn, IsTreeIn, IsNearestIn, IsAlternatingTree, AreRaised, AreLowered, LoweredFit, AreFlipped};
 
 use crate::filled::filled;
 use crate::kuhn_munkres::numbers::plus;
 use crate::kuhn_munkres::tree::Tree;
 use crate::kuhn_munkres::weights::Weights;
 use pf_base::utils::Tally;
-use pf_base::{PathError, SignedCost};
+use pf_base::{Cost, PathError, SignedCost};
 use std::alloc::Allocator;
 
 /// The rows that were matched so far, one after another, and potentials of rows and columns. The
@@ -28,7 +28,7 @@ pub struct Matching<C, A: Allocator> {
     pub column_potentials: Vec<C, A>,
 }
 
-impl<C: SignedCost, A: Allocator + Copy> Matching<C, A> {
+impl<C: Cost, A: Allocator + Copy> Matching<C, A> {
     /// No row is matched to any of so many columns.
     pub fn new(alloc: A, columns: usize) -> Result<Self, PathError>
         ensures rows { IfOk result (λ m. length m.column_of.items ≡ 0) }
@@ -58,11 +58,11 @@ impl<C: SignedCost, A: Allocator> Matching<C, A> {
         W: Weights<C>,
         requires shape { (W.table weights.now).rows ≤ (W.table weights.now).columns }
         requires fit { WeightsFit C.fits (W.table weights.now) }
-        requires next { IsNext C.value (W.table weights.now) self.old.column_of.items self.old.row_of.items self.old.row_potentials.items self.old.column_potentials.items }
-        requires tree { IsTreeOf C.value (W.table weights.now) self.old.column_of.items self.old.row_of.items self.old.row_potentials.items self.old.column_potentials.items tree.now.rows.items tree.now.visited.items tree.now.distances.items tree.now.places.items }
-        requires nearest { IsNearest (W.table weights.now).columns (flag tree.now.visited.items) (number C.value tree.now.distances.items) column }
+        requires next { IsNextIn C.value (W.table weights.now) self.old }
+        requires tree { IsTreeIn C.value (W.table weights.now) self.old tree.now }
+        requires nearest { IsNearestIn C.value (W.table weights.now).columns tree.now column }
         requires free { holder self.old.row_of.items column ≡ None }
-        ensures matched { OnOk result (IsMatched C.value (W.table weights.now) self.new.column_of.items self.new.row_of.items self.new.row_potentials.items self.new.column_potentials.items) }
+        ensures matched { OnOk result (IsMatchedIn C.value (W.table weights.now) self.new) }
         ensures rows { OnOk result (length self.new.column_of.items ≡ length self.old.column_of.items + 1) }
         ensures row_potentials { OnOk result (length self.new.row_potentials.items ≡ length self.old.row_potentials.items) }
         ensures refused { IfErr result (λ e. e ≡ OutOfMemory) }
@@ -106,18 +106,14 @@ impl<C: SignedCost, A: Allocator> Matching<C, A> {
         W: Weights<C>,
         requires shape { (W.table weights.now).rows ≤ (W.table weights.now).columns }
         requires fit { WeightsFit C.fits (W.table weights.now) }
-        requires matched { IsMatched C.value (W.table weights.now) self.old.column_of.items self.old.row_of.items self.old.row_potentials.items self.old.column_potentials.items }
+        requires matched { IsMatchedIn C.value (W.table weights.now) self.old }
         requires left { length self.old.column_of.items < (W.table weights.now).rows }
         requires row_potentials { length self.old.row_potentials.items ≡ length self.old.column_of.items }
-        requires visited { length tree.old.visited.items ≡ (W.table weights.now).columns }
-        requires distances { length tree.old.distances.items ≡ (W.table weights.now).columns }
-        requires places { length tree.old.places.items ≡ (W.table weights.now).columns }
-        ensures matched { OnOk result (IsMatched C.value (W.table weights.now) self.new.column_of.items self.new.row_of.items self.new.row_potentials.items self.new.column_potentials.items) }
+        requires wide { IsWide (W.table weights.now).columns tree.old }
+        ensures matched { OnOk result (IsMatchedIn C.value (W.table weights.now) self.new) }
         ensures rows { OnOk result (length self.new.column_of.items ≡ length self.old.column_of.items + 1) }
         ensures row_potentials { OnOk result (length self.new.row_potentials.items ≡ length self.new.column_of.items) }
-        ensures visited { length tree.new.visited.items ≡ (W.table weights.now).columns }
-        ensures distances { length tree.new.distances.items ≡ (W.table weights.now).columns }
-        ensures places { length tree.new.places.items ≡ (W.table weights.now).columns }
+        ensures wide { IsWide (W.table weights.now).columns tree.new }
         ensures refused { IfErr result (λ e. e ≡ OutOfMemory) }
         ensures ticked { tally.old ≤ tally.new }
         ensures rounds { tally.new ≤ tally.old + (W.table weights.now).rows }
@@ -133,10 +129,10 @@ impl<C: SignedCost, A: Allocator> Matching<C, A> {
 fn raise_columns<C: SignedCost>(potentials: &mut [C], visited: &[bool], distances: &[C], depth: C)
     requires visited { length visited.now ≡ length potentials.old }
     requires distances { length distances.now ≡ length potentials.old }
-    requires difference { (j : ℕ) → j < length potentials.old → flag visited.now j ≡ true → C.fits (C.value depth -ℤ number C.value distances.now j) }
-    requires negation { (j : ℕ) → j < length potentials.old → flag visited.now j ≡ true → C.fits (neg_ℤ (C.value depth -ℤ number C.value distances.now j)) }
-    requires sum { (j : ℕ) → j < length potentials.old → flag visited.now j ≡ true → C.fits (number C.value potentials.old j +ℤ (C.value depth -ℤ number C.value distances.now j)) }
-    ensures { (j : ℕ) → j < length potentials.old → number C.value potentials.new j ≡ raised (flag visited.now j) (number C.value potentials.old j) (C.value depth -ℤ number C.value distances.now j) }
+    requires difference { (j : ℕ) → j < length potentials.old → flag visited.now j ≡ true → C.fits (gain C.value depth distances.now j) }
+    requires negation { (j : ℕ) → j < length potentials.old → flag visited.now j ≡ true → C.fits (neg_ℤ (gain C.value depth distances.now j)) }
+    requires sum { (j : ℕ) → j < length potentials.old → flag visited.now j ≡ true → C.fits (number C.value potentials.old j +ℤ gain C.value depth distances.now j) }
+    ensures { AreRaised C.value depth distances.now visited.now potentials.old potentials.new }
 {
     for column in 0..potentials.len() {
         if visited[column] {
@@ -158,9 +154,9 @@ fn lower_rows<C: SignedCost>(
     requires rows { length column_of.now ≤ length potentials.old }
     requires columns { (i : ℕ) → i < length column_of.now → slice_index column_of.now i < length visited.now }
     requires distances { length distances.now ≡ length visited.now }
-    requires difference { (j : ℕ) → j < length visited.now → flag visited.now j ≡ true → C.fits (C.value depth -ℤ number C.value distances.now j) }
-    requires rest { (i : ℕ) → i < length column_of.now → flag visited.now (slice_index column_of.now i) ≡ true → C.fits (number C.value potentials.old i -ℤ (C.value depth -ℤ number C.value distances.now (slice_index column_of.now i))) }
-    ensures matched { (i : ℕ) → i < length column_of.now → number C.value potentials.new i ≡ raised (flag visited.now (slice_index column_of.now i)) (number C.value potentials.old i) (neg_ℤ (C.value depth -ℤ number C.value distances.now (slice_index column_of.now i))) }
+    requires difference { (j : ℕ) → j < length visited.now → flag visited.now j ≡ true → C.fits (gain C.value depth distances.now j) }
+    requires rest { LoweredFit C.value C.fits depth distances.now visited.now column_of.now potentials.old }
+    ensures { AreLowered C.value depth distances.now visited.now column_of.now potentials.old potentials.new }
 {
     for row in 0..column_of.len() {
         let column = column_of[row];
@@ -185,7 +181,7 @@ fn flip_path(
     requires places { length places.now ≡ length row_of.old }
     requires inside { column < length row_of.old }
     requires free { holder row_of.old column ≡ None }
-    ensures flipped { IsFlipped (length column_of.old) (length row_of.old) (length rows.now) column (slice_index column_of.old) (holder row_of.old) (slice_index rows.now) (slice_index places.now) (slice_index column_of.new) (holder row_of.new) result }
+    ensures flipped { AreFlipped column_of.old row_of.old rows.now places.now column column_of.new row_of.new result }
     ensures root { slice_index places.now result ≡ 0 }
 {
     let mut column = column;

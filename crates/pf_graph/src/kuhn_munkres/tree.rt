@@ -1,16 +1,16 @@
 //! The tree of shortest augmenting paths from the row that is matched next.
 
-ghost use Rattle.std.specs.Prelude.{◌≡◌, ◌≤◌, ◌<◌, ◌+◌, ◌+ℤ◌, ◌-ℤ◌, ◌≤ℤ◌, ◌≢◌, ◌⊎◌, ℕ, ℤ, pos, neg_ℤ, true, false, Some, None, IfOk, OnOk, IfErr, MatchBool, MatchOption, length, slice_index};
+ghost use Rattle.std.specs.Prelude.{◌≡◌, ◌≤◌, ◌<◌, ◌+◌, ◌≤ℤ◌, ◌≢◌, ◌⊎◌, ℕ, true, false, Some, None, IfOk, OnOk, IfErr, MatchBool, length, slice_index};
 ghost use Rattle.pf_base.specs.declared.error.PathError.TheVariants.{OutOfMemory};
-ghost use Rattle.pf_graph.specs.Assignments.{number, NumberTable, WeightsFit};
-ghost use Rattle.pf_graph.specs.Internal.Assignment.AssignmentSteps.{holder, flag, IsNext, IsTreeOf, IsNearest, IsRelaxed, IsScanned, IsFresh};
+ghost use Rattle.pf_graph.specs.Assignments.{WeightsFit};
+ghost use Rattle.pf_graph.specs.Internal.Assignment.AssignmentSteps.{distance_to, holder, flag, IsWide, IsNextIn, IsTreeIn, IsNearestIn, IsRelaxedIn, IsScannedIn, IsFreshIn, ScanFits};
 
 use crate::filled::filled;
 use crate::kuhn_munkres::matching::Matching;
 use crate::kuhn_munkres::numbers::{is_below, plus};
 use crate::kuhn_munkres::weights::Weights;
 use pf_base::utils::Tally;
-use pf_base::{PathError, SignedCost};
+use pf_base::{Cost, PathError, SignedCost};
 use std::alloc::Allocator;
 
 /// Shortest alternating paths from the row that is matched next, its root, to all columns.
@@ -30,12 +30,10 @@ pub struct Tree<C, A: Allocator> {
     pub places: Vec<usize, A>,
 }
 
-impl<C: SignedCost, A: Allocator + Copy> Tree<C, A> {
+impl<C: Cost, A: Allocator + Copy> Tree<C, A> {
     /// A tree for a table of so many columns, before its first root.
     pub fn new(alloc: A, columns: usize) -> Result<Self, PathError>
-        ensures visited { IfOk result (λ tree. length tree.visited.items ≡ columns) }
-        ensures distances { IfOk result (λ tree. length tree.distances.items ≡ columns) }
-        ensures places { IfOk result (λ tree. length tree.places.items ≡ columns) }
+        ensures wide { IfOk result (IsWide columns) }
         ensures refused { IfErr result (λ e. e ≡ OutOfMemory) }
     {
         let visited = filled(alloc, columns, false)?;
@@ -50,16 +48,13 @@ impl<C: SignedCost, A: Allocator + Copy> Tree<C, A> {
     }
 }
 
-impl<C: SignedCost, A: Allocator> Tree<C, A> {
+impl<C: Cost, A: Allocator> Tree<C, A> {
     /// Makes all columns unvisited and as far as can be.
     fn clear(&mut self)
-        requires distances { length self.old.distances.items ≡ length self.old.visited.items }
-        requires places { length self.old.places.items ≡ length self.old.visited.items }
-        ensures fresh { IsFresh (C.value C.greatest) (length self.old.visited.items) (flag self.new.visited.items) (number C.value self.new.distances.items) (slice_index self.new.places.items) }
+        requires wide { IsWide (length self.old.visited.items) self.old }
+        ensures fresh { IsFreshIn C.value (C.value C.greatest) (length self.old.visited.items) self.new }
         ensures rows { self.new.rows.items ≡ self.old.rows.items }
-        ensures visited { length self.new.visited.items ≡ length self.old.visited.items }
-        ensures distances { length self.new.distances.items ≡ length self.old.distances.items }
-        ensures places { length self.new.places.items ≡ length self.old.places.items }
+        ensures wide { IsWide (length self.old.visited.items) self.new }
     {
         for column in 0..self.visited.len() {
             self.visited[column] = false;
@@ -74,7 +69,7 @@ impl<C: SignedCost, A: Allocator> Tree<C, A> {
         requires first { column < length self.now.distances.items }
         requires second { other < length self.now.distances.items }
         requires wide { length row_of.now ≡ length self.now.distances.items }
-        ensures { MatchBool result (number C.value self.now.distances.items column ≤ℤ number C.value self.now.distances.items other) (number C.value self.now.distances.items other ≤ℤ number C.value self.now.distances.items column) }
+        ensures { MatchBool result (distance_to C.value self.now column ≤ℤ distance_to C.value self.now other) (distance_to C.value self.now other ≤ℤ distance_to C.value self.now column) }
     {
         let here = self.distances[column];
         let there = self.distances[other];
@@ -93,8 +88,8 @@ impl<C: SignedCost, A: Allocator> Tree<C, A> {
         requires other { (n : ℕ) → nearest ≡ Some n → n < length self.now.distances.items }
         requires wide { length row_of.now ≡ length self.now.distances.items }
         ensures one { (result ≡ column) ⊎ (nearest ≡ Some result) }
-        ensures here { number C.value self.now.distances.items result ≤ℤ number C.value self.now.distances.items column }
-        ensures before { (n : ℕ) → nearest ≡ Some n → number C.value self.now.distances.items result ≤ℤ number C.value self.now.distances.items n }
+        ensures here { distance_to C.value self.now result ≤ℤ distance_to C.value self.now column }
+        ensures before { (n : ℕ) → nearest ≡ Some n → distance_to C.value self.now result ≤ℤ distance_to C.value self.now n }
     {
         match nearest {
             Some(other) => {
@@ -112,8 +107,8 @@ impl<C: SignedCost, A: Allocator> Tree<C, A> {
     fn relax(&mut self, column: usize, through: C, place: usize)
         requires distance { column < length self.old.distances.items }
         requires before { column < length self.old.places.items }
-        ensures here { IsRelaxed false (C.value through) place (number C.value self.old.distances.items column) (slice_index self.old.places.items column) (number C.value self.new.distances.items column) (slice_index self.new.places.items column) }
-        ensures distances { (j : ℕ) → j ≢ column → number C.value self.new.distances.items j ≡ number C.value self.old.distances.items j }
+        ensures here { IsRelaxedIn C.value (C.value through) place self.old self.new column }
+        ensures distances { (j : ℕ) → j ≢ column → distance_to C.value self.new j ≡ distance_to C.value self.old j }
         ensures places { (j : ℕ) → j ≢ column → slice_index self.new.places.items j ≡ slice_index self.old.places.items j }
         ensures distances_len { length self.new.distances.items ≡ length self.old.distances.items }
         ensures places_len { length self.new.places.items ≡ length self.old.places.items }
@@ -125,7 +120,9 @@ impl<C: SignedCost, A: Allocator> Tree<C, A> {
             self.places[column] = place;
         }
     }
+}
 
+impl<C: SignedCost, A: Allocator> Tree<C, A> {
     /// Brings the distances of all columns that were not visited up to date with the paths over one
     /// more row, at `place` among the rows of the tree, and answers the nearest of them. The sum of
     /// the row's distance and its potential is `offset`.
@@ -142,19 +139,14 @@ impl<C: SignedCost, A: Allocator> Tree<C, A> {
         requires row { row < (W.table weights.now).rows }
         requires row_of { length matching.now.row_of.items ≡ (W.table weights.now).columns }
         requires potentials { length matching.now.column_potentials.items ≡ (W.table weights.now).columns }
-        requires visited { length self.old.visited.items ≡ (W.table weights.now).columns }
-        requires distances { length self.old.distances.items ≡ (W.table weights.now).columns }
-        requires places { length self.old.places.items ≡ (W.table weights.now).columns }
-        requires negation { (j : ℕ) → j < (W.table weights.now).columns → flag self.old.visited.items j ≡ false → C.fits (neg_ℤ (number C.value matching.now.column_potentials.items j)) }
-        requires sum { (j : ℕ) → j < (W.table weights.now).columns → flag self.old.visited.items j ≡ false → C.fits (C.value offset +ℤ number C.value matching.now.column_potentials.items j) }
-        requires difference { (j : ℕ) → j < (W.table weights.now).columns → flag self.old.visited.items j ≡ false → C.fits (C.value offset +ℤ number C.value matching.now.column_potentials.items j -ℤ (W.table weights.now).at row j) }
+        requires wide { IsWide (W.table weights.now).columns self.old }
+        requires fits { ScanFits C.value (W.table weights.now) matching.now C.fits self.old row (C.value offset) }
         requires left { (j : ℕ) × (j < (W.table weights.now).columns) × (flag self.old.visited.items j ≡ false) }
-        ensures scanned { IsScanned (W.table weights.now).at (W.table weights.now).columns row place (C.value offset) (number C.value matching.now.column_potentials.items) (flag self.old.visited.items) (number C.value self.old.distances.items) (slice_index self.old.places.items) (number C.value self.new.distances.items) (slice_index self.new.places.items) }
-        ensures nearest { IsNearest (W.table weights.now).columns (flag self.new.visited.items) (number C.value self.new.distances.items) result }
+        ensures scanned { IsScannedIn C.value (W.table weights.now) matching.now row place (C.value offset) self.old self.new }
+        ensures nearest { IsNearestIn C.value (W.table weights.now).columns self.new result }
         ensures rows { self.new.rows.items ≡ self.old.rows.items }
         ensures visited { self.new.visited.items ≡ self.old.visited.items }
-        ensures distances { length self.new.distances.items ≡ length self.old.distances.items }
-        ensures places { length self.new.places.items ≡ length self.old.places.items }
+        ensures wide { IsWide (W.table weights.now).columns self.new }
     {
         let mut nearest = None;
         for column in 0..weights.columns() {
@@ -174,16 +166,12 @@ impl<C: SignedCost, A: Allocator> Tree<C, A> {
         W: Weights<C>,
         requires shape { (W.table weights.now).rows ≤ (W.table weights.now).columns }
         requires fit { WeightsFit C.fits (W.table weights.now) }
-        requires next { IsNext C.value (W.table weights.now) matching.now.column_of.items matching.now.row_of.items matching.now.row_potentials.items matching.now.column_potentials.items }
-        requires visited { length self.old.visited.items ≡ (W.table weights.now).columns }
-        requires distances { length self.old.distances.items ≡ (W.table weights.now).columns }
-        requires places { length self.old.places.items ≡ (W.table weights.now).columns }
-        ensures tree { OnOk result (IsTreeOf C.value (W.table weights.now) matching.now.column_of.items matching.now.row_of.items matching.now.row_potentials.items matching.now.column_potentials.items self.new.rows.items self.new.visited.items self.new.distances.items self.new.places.items) }
+        requires next { IsNextIn C.value (W.table weights.now) matching.now }
+        requires wide { IsWide (W.table weights.now).columns self.old }
+        ensures tree { OnOk result (IsTreeIn C.value (W.table weights.now) matching.now self.new) }
         ensures one { OnOk result (length self.new.rows.items ≡ 1) }
-        ensures nearest { IfOk result (IsNearest (W.table weights.now).columns (flag self.new.visited.items) (number C.value self.new.distances.items)) }
-        ensures visited { length self.new.visited.items ≡ length self.old.visited.items }
-        ensures distances { length self.new.distances.items ≡ length self.old.distances.items }
-        ensures places { length self.new.places.items ≡ length self.old.places.items }
+        ensures nearest { IfOk result (IsNearestIn C.value (W.table weights.now).columns self.new) }
+        ensures wide { IsWide (W.table weights.now).columns self.new }
         ensures refused { IfErr result (λ e. e ≡ OutOfMemory) }
     {
         let root = matching.column_of.len();
@@ -205,16 +193,14 @@ impl<C: SignedCost, A: Allocator> Tree<C, A> {
         W: Weights<C>,
         requires shape { (W.table weights.now).rows ≤ (W.table weights.now).columns }
         requires fit { WeightsFit C.fits (W.table weights.now) }
-        requires next { IsNext C.value (W.table weights.now) matching.now.column_of.items matching.now.row_of.items matching.now.row_potentials.items matching.now.column_potentials.items }
-        requires tree { IsTreeOf C.value (W.table weights.now) matching.now.column_of.items matching.now.row_of.items matching.now.row_potentials.items matching.now.column_potentials.items self.old.rows.items self.old.visited.items self.old.distances.items self.old.places.items }
-        requires nearest { IsNearest (W.table weights.now).columns (flag self.old.visited.items) (number C.value self.old.distances.items) column }
+        requires next { IsNextIn C.value (W.table weights.now) matching.now }
+        requires tree { IsTreeIn C.value (W.table weights.now) matching.now self.old }
+        requires nearest { IsNearestIn C.value (W.table weights.now).columns self.old column }
         requires row { holder matching.now.row_of.items column ≡ Some row }
-        ensures tree { OnOk result (IsTreeOf C.value (W.table weights.now) matching.now.column_of.items matching.now.row_of.items matching.now.row_potentials.items matching.now.column_potentials.items self.new.rows.items self.new.visited.items self.new.distances.items self.new.places.items) }
+        ensures tree { OnOk result (IsTreeIn C.value (W.table weights.now) matching.now self.new) }
         ensures more { OnOk result (length self.new.rows.items ≡ length self.old.rows.items + 1) }
-        ensures nearest { IfOk result (IsNearest (W.table weights.now).columns (flag self.new.visited.items) (number C.value self.new.distances.items)) }
-        ensures visited { length self.new.visited.items ≡ length self.old.visited.items }
-        ensures distances { length self.new.distances.items ≡ length self.old.distances.items }
-        ensures places { length self.new.places.items ≡ length self.old.places.items }
+        ensures nearest { IfOk result (IsNearestIn C.value (W.table weights.now).columns self.new) }
+        ensures wide { IsWide (W.table weights.now).columns self.new }
         ensures refused { IfErr result (λ e. e ≡ OutOfMemory) }
     {
         let place = self.rows.len();
@@ -236,16 +222,12 @@ impl<C: SignedCost, A: Allocator> Tree<C, A> {
         W: Weights<C>,
         requires shape { (W.table weights.now).rows ≤ (W.table weights.now).columns }
         requires fit { WeightsFit C.fits (W.table weights.now) }
-        requires next { IsNext C.value (W.table weights.now) matching.now.column_of.items matching.now.row_of.items matching.now.row_potentials.items matching.now.column_potentials.items }
-        requires visited { length self.old.visited.items ≡ (W.table weights.now).columns }
-        requires distances { length self.old.distances.items ≡ (W.table weights.now).columns }
-        requires places { length self.old.places.items ≡ (W.table weights.now).columns }
-        ensures tree { OnOk result (IsTreeOf C.value (W.table weights.now) matching.now.column_of.items matching.now.row_of.items matching.now.row_potentials.items matching.now.column_potentials.items self.new.rows.items self.new.visited.items self.new.distances.items self.new.places.items) }
-        ensures nearest { IfOk result (IsNearest (W.table weights.now).columns (flag self.new.visited.items) (number C.value self.new.distances.items)) }
+        requires next { IsNextIn C.value (W.table weights.now) matching.now }
+        requires wide { IsWide (W.table weights.now).columns self.old }
+        ensures tree { OnOk result (IsTreeIn C.value (W.table weights.now) matching.now self.new) }
+        ensures nearest { IfOk result (IsNearestIn C.value (W.table weights.now).columns self.new) }
         ensures free { IfOk result (λ column. holder matching.now.row_of.items column ≡ None) }
-        ensures visited { length self.new.visited.items ≡ length self.old.visited.items }
-        ensures distances { length self.new.distances.items ≡ length self.old.distances.items }
-        ensures places { length self.new.places.items ≡ length self.old.places.items }
+        ensures wide { IsWide (W.table weights.now).columns self.new }
         ensures refused { IfErr result (λ e. e ≡ OutOfMemory) }
         ensures ticked { tally.old ≤ tally.new }
         ensures rounds { tally.new ≤ tally.old + length matching.now.column_of.items + 1 }

@@ -6,7 +6,7 @@ ghost use Rattle.pf_graph.specs.Assignments.{number, NumberTable, IsNegatedTable
 ghost use Rattle.pf_graph.specs.Internal.Assignment.AssignmentSteps.{IsBeyond, IsEither, IsExact};
 
 use crate::kuhn_munkres::numbers::is_below;
-use pf_base::{PathError, SignedCost};
+use pf_base::{Cost, PathError, SignedCost};
 use pf_matrix::Matrix;
 use std::alloc::Allocator;
 
@@ -86,7 +86,7 @@ fn lowered<C: SignedCost>(weight: C) -> C
 }
 
 /// The lesser of two numbers.
-fn lesser<C: SignedCost>(left: C, right: C) -> C
+fn lesser<C: Cost>(left: C, right: C) -> C
     ensures left { C.value result ≤ℤ C.value left }
     ensures right { C.value result ≤ℤ C.value right }
     ensures one { (C.value result ≡ C.value left) ⊎ (C.value result ≡ C.value right) }
@@ -140,7 +140,7 @@ fn absolute<C: SignedCost>(least: C) -> Option<C>
 }
 
 /// The sum of a total and two times a weight, if it fits.
-fn two_more<C: SignedCost>(total: C, weight: C) -> Option<C>
+fn two_more<C: Cost>(total: C, weight: C) -> Option<C>
     requires total { pos 0 ≤ℤ C.value total }
     requires weight { pos 0 ≤ℤ C.value weight }
     ensures { IsExact C.value C.fits (C.value total +ℤ C.value weight +ℤ C.value weight) result }
@@ -152,7 +152,7 @@ fn two_more<C: SignedCost>(total: C, weight: C) -> Option<C>
 }
 
 /// Four times a number from zero up, if it fits.
-fn four_times<C: SignedCost>(weight: C) -> Option<C>
+fn four_times<C: Cost>(weight: C) -> Option<C>
     requires { pos 0 ≤ℤ C.value weight }
     ensures { IsExact C.value C.fits (C.value weight +ℤ C.value weight +ℤ C.value weight +ℤ C.value weight) result }
 {
@@ -163,7 +163,7 @@ fn four_times<C: SignedCost>(weight: C) -> Option<C>
 }
 
 /// Does (2 * rows + 4) times a number from zero up fit?
-fn multiple_fits<C: SignedCost>(weight: C, rows: usize) -> bool
+fn multiple_fits<C: Cost>(weight: C, rows: usize) -> bool
     requires { pos 0 ≤ℤ C.value weight }
     ensures { (w : ℕ) → C.value weight ≡ pos w → IsTrue result ↔ C.fits (pos ((2 * rows + 4) * w)) }
 {

@@ -56,7 +56,7 @@ fn index_nodes<N, S, A, B>(
 where
     N: Eq + Hash + Clone,
     S: BuildHasher,
-    A: Allocator + Copy,
+    A: Allocator + Clone,
     B: Allocator,
     requires clones { IsLawfulClone N.eq N.is_clone }
     ensures indexed { OnOk result ((x : N) → get N.eq of_node.new x ≡ (if contains N.eq nodes.now x then Some index else get N.eq of_node.old x)) }

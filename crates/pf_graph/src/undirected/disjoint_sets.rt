@@ -179,7 +179,7 @@ pub fn map_nodes<'a, N, A>(
 ) -> Result<HashMap<&'a N, usize, BuildHasherDefault<FoldHasher>, A>, PathError>
 where
     N: Eq + Hash,
-    A: Allocator + Copy,
+    A: Allocator + Clone,
     requires len { length first.now ≡ length nodes.now }
     requires inside { All (λ group. group < length ids.now) first.now }
     ensures maps { IfOk result (MapsByFirst N.eq nodes.now first.now ids.now) }

@@ -4,7 +4,7 @@ ghost use Rattle.std.specs.Prelude.{◌≡◌, ◌<◌, ◌∷◌, ◌++◌, [],
 ghost use Rattle.std.specs.HashSet.{contains};
 ghost use Rattle.pf_base.specs.Answers.{IsLawfulClone};
 ghost use Rattle.pf_base.specs.declared.error.PathError.TheVariants.{OutOfMemory};
-ghost use Rattle.pf_graph.specs.Internal.Components.DisjointSets.{IsCollected, AreDone};
+ghost use Rattle.pf_graph.specs.Internal.Components.DisjointSets.{AreCollected, AreDone, IsCollected};
 
 use crate::filled::filled;
 use pf_base::PathError;
@@ -64,7 +64,7 @@ where
     requires len { length first.now ≡ length nodes.now }
     requires inside { All (λ group. group < length ids.now) first.now }
     requires below { All (λ group. (id : ℕ) → slice_get ids.now group ≡ Some id → id < length ids.now) first.now }
-    ensures collected { IfOk result (λ sets. (done : List (ℕ × N)) × (place_of : List (Option ℕ)) × AreDone nodes.now first.now ids.now (length first.now) done × IsCollected N.eq (contains N.eq) done place_of sets.items) }
+    ensures collected { IfOk result (λ sets. AreCollected N.eq (contains N.eq) nodes.now first.now ids.now sets.items) }
     ensures refused { IfErr result (λ e. e ≡ OutOfMemory) }
 {
     let mut place_of = filled(alloc, ids.len(), None)?;

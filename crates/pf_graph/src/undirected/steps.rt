@@ -57,10 +57,10 @@ where
 }
 
 /// The steps over both directions of the edges, each in the row of the number that it comes from.
-pub fn rows_of<'a, N, C, W, A>(
+pub fn rows_of<'a, N, C, A>(
     alloc: A,
     count: usize,
-    edges: &[(usize, usize, Weighed<'a, N, C, W>)],
+    edges: &[(usize, usize, Weighed<'a, N, C, ()>)],
 ) -> Result<Rows<'a, N, C, A>, PathError>
 where
     A: Allocator + Copy,

@@ -55,7 +55,7 @@ where
         → IfOk result (λ components. AreStrongComponents N.eq next starts (lists_of components.items)) }
     ensures refused { IfErr result (λ e. e ≡ PathError.OutOfMemory) }
 {
-    let components = strong_components::<u8, _, _>(alloc, &mut graph)?;
+    let components = strong_components(alloc, &mut graph)?;
     components_at(alloc, graph.nodes.as_slice(), &components)
 }
 

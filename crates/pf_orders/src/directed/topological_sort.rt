@@ -86,7 +86,7 @@ where
 
     ensures errors { IfErr result (λ e. e ≡ PathError.OutOfMemory) }
 {
-    match sort_numbers::<u8, _, _>(alloc, graph, tally)? {
+    match sort_numbers(alloc, graph, tally)? {
         Ok(numbers) => {
             let order = clones_at(alloc, graph.nodes.as_slice(), &numbers)?;
             Ok(Ok(order))

@@ -1,6 +1,7 @@
-use Rattle.std.proofs.Common.{rules, ◌≡◌, ◌≤◌, ◌+◌, ◌∙◌, ap, ℕ, arith, length}
+use Rattle.std.proofs.Common.{rules, ◌≡◌, ◌≤◌, ◌+◌, ◌∙◌, ap, subst, sym, ℕ, arith, length}
 use Rattle.std.proofs.lemmas.Nat.{mul-le}
 use Rattle.pf_graph.specs.Assignments.{assignment_total}
+use Rattle.pf_graph.specs.Internal.Assignment.AssignmentSteps.{IsWide}
 use Rattle.pf_graph.proofs.Assignment.MatchingBest.{best_of, matched_none}
 use Rattle.pf_graph.proofs.Outcomes.{refused_as, if_refused}
 use Rattle.pf_graph.proofs.kuhn_munkres.kuhn_munkres_tallied.Goals as goal
@@ -18,10 +19,8 @@ loop-row-init g c =
     record {
       matched = matched_none g.C.Number.value (g.W.Weights.table c.args.weights.now) _ _ _ _ m.rows (search rules) (search rules) m.free m.zero;
       rows = m.rows;
-      row_potentials = search rules;
-      visited = search rules;
-      distances = search rules;
-      places = search rules;
+      row_potentials = m.row_potentials ∙ sym m.rows;
+      wide = subst (λ (n : ℕ). IsWide n c.in_ok-tree.tree) (search rules) t.wide;
       ticked = omega arith;
       rounds = omega arith;
     }
@@ -38,9 +37,7 @@ loop-row-preserved g c =
       matched = e.matched;
       rows = e.rows ∙ ap (λ (n : ℕ). n + 1) i.rows;
       row_potentials = e.row_potentials;
-      visited = e.visited;
-      distances = e.distances;
-      places = e.places;
+      wide = e.wide;
       ticked = omega (arith, more, ticked);
       rounds = omega (arith, last, rounds);
     }
@@ -53,9 +50,6 @@ total_of-total-requires-clause-assignment g c =
 
 pub match_row-requires-clause-left : goal.match_row-requires-clause-left
 match_row-requires-clause-left g c = let r = c.loop-row.invariant.rows in omega (arith, r)
-
-pub returns-clause-total : goal.returns-clause-total
-returns-clause-total g c = c.total_of-total.ensures ∙ ap (assignment_total (g.W.Weights.table c.args.weights.now)) c.deref.ensures.value
 
 pub returns-in_err-matching : goal.returns-in_err-matching
 returns-in_err-matching g c = record {
@@ -80,7 +74,7 @@ returns-in_err-tree g c = record {
 pub returns-in_err-match_row : goal.returns-in_err-match_row
 returns-in_err-match_row g c =
     let rows = (g.W.Weights.table c.args.weights.now).rows in
-    let most = mul-le (c.loop-row._row + 1) rows rows rows (omega arith) (omega arith) in
+    let most = mul-le (c.loop-row._row + 1) rows rows rows (omega arith) (refl_le _) in
     let before = c.loop-row.invariant.rounds in
     let last = c.in_err-match_row.ensures.rounds in
     let ticked = c.loop-row.invariant.ticked in
@@ -94,24 +88,22 @@ returns-in_err-match_row g c =
       rounds = omega (arith, most, before, last);
     }
 
-pub returns-clause-assignment : goal.returns-clause-assignment
-returns-clause-assignment g c =
-    let r = c.loop-row.invariant.rows in
-    let e : length c.loop-row.matching.column_of.items ≡ (g.W.Weights.table c.args.weights.now).rows = omega (arith, r) in
-    (best_of c.loop-row.invariant.matched e).assignment
-
-pub returns-clause-best : goal.returns-clause-best
-returns-clause-best g c =
-    let r = c.loop-row.invariant.rows in
-    let e : length c.loop-row.matching.column_of.items ≡ (g.W.Weights.table c.args.weights.now).rows = omega (arith, r) in
-    best_of c.loop-row.invariant.matched e
-
-pub returns-clause-ticked : goal.returns-clause-ticked
-returns-clause-ticked g c = c.loop-row.invariant.ticked
-
-pub returns-clause-rounds : goal.returns-clause-rounds
-returns-clause-rounds g c =
-    let rows = (g.W.Weights.table c.args.weights.now).rows in
-    let most = mul-le c.loop-row._row rows rows rows (omega arith) (omega arith) in
-    let before = c.loop-row.invariant.rounds in
-    omega (arith, most, before)
+pub returns : goal.returns
+returns g c = record {
+  total = c.total_of-total.ensures ∙ ap (assignment_total (g.W.Weights.table c.args.weights.now)) c.deref.ensures.value;
+  assignment =
+      let r = c.loop-row.invariant.rows in
+      let e : length c.loop-row.matching.column_of.items ≡ (g.W.Weights.table c.args.weights.now).rows = omega (arith, r) in
+      (best_of c.loop-row.invariant.matched e).assignment;
+  best =
+      let r = c.loop-row.invariant.rows in
+      let e : length c.loop-row.matching.column_of.items ≡ (g.W.Weights.table c.args.weights.now).rows = omega (arith, r) in
+      best_of c.loop-row.invariant.matched e;
+  ticked = c.loop-row.invariant.ticked;
+  rounds =
+      let rows = (g.W.Weights.table c.args.weights.now).rows in
+      let most = mul-le c.loop-row._row rows rows rows (omega arith) (refl_le _) in
+      let before = c.loop-row.invariant.rounds in
+      omega (arith, most, before);
+  refused = tt;
+}

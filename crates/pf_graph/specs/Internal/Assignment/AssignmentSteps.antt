@@ -2,6 +2,8 @@
 -- bound the weights from above, and a tree of shortest augmenting paths from the row that is matched next.
 use Rattle.std.specs.Prelude.{◌≡◌, ◌≤ℤ◌, ◌<ℤ◌, ◌+ℤ◌, ◌-ℤ◌, ◌⊎◌, ℕ, zero, suc, ◌+◌, ◌<◌, ◌≢◌, ℤ, pos, neg_ℤ, Bool, true, false, List, length, Option, Some, None, slice_index, slice_index_or}
 use Rattle.pf_graph.specs.Assignments.{number, NumberTable}
+use Rattle.pf_graph.specs.declared.kuhn_munkres.matching.Matching.{Matching}
+use Rattle.pf_graph.specs.declared.kuhn_munkres.tree.Tree.{Tree}
 
 -- the row that has column j, if one has it
 abbrev pub holder : List (Option ℕ) → ℕ → Option ℕ
@@ -90,10 +92,30 @@ pub record IsFlipped (n columns count c : ℕ) (col : ℕ → ℕ) (held : ℕ �
   pub within : left < columns
   pub on_tree : IsOnTree count col rows c left
 
+-- `IsFlipped` of the lists of columns, of rows, of the rows of a tree and of places, before and after
+abbrev pub AreFlipped : List ℕ → List (Option ℕ) → List ℕ → List ℕ → ℕ → List ℕ → List (Option ℕ) → ℕ → Type 0
+AreFlipped column_of row_of rows places c column_of' row_of' left = IsFlipped (length column_of) (length row_of) (length rows) c (slice_index column_of) (holder row_of) (slice_index rows) (slice_index places) (slice_index column_of') (holder row_of') left
+
 -- a potential, with a number more where the column was visited
 abbrev pub raised : Bool → ℤ → ℤ → ℤ
 raised true x by = x +ℤ by
 raised false x by = x
+
+-- how far a depth is above the distance of a column
+abbrev pub gain : {C : Type 0} → (C → ℤ) → C → List C → ℕ → ℤ
+gain value depth ds j = value depth -ℤ number value ds j
+
+-- the potentials of columns before and after: the visited ones are raised by their gain
+abbrev pub AreRaised : {C : Type 0} → (C → ℤ) → C → List C → List Bool → List C → List C → Type 0
+AreRaised value depth ds visited vs vs' = (j : ℕ) → j < length vs → number value vs' j ≡ raised (flag visited j) (number value vs j) (gain value depth ds j)
+
+-- the potentials of rows before and after: those whose column was visited are lowered by its gain
+abbrev pub AreLowered : {C : Type 0} → (C → ℤ) → C → List C → List Bool → List ℕ → List C → List C → Type 0
+AreLowered value depth ds visited column_of us us' = (i : ℕ) → i < length column_of → number value us' i ≡ raised (flag visited (slice_index column_of i)) (number value us i) (neg_ℤ (gain value depth ds (slice_index column_of i)))
+
+-- what potentials of rows are lowered to fits
+abbrev pub LoweredFit : {C : Type 0} → (C → ℤ) → (ℤ → Type 0) → C → List C → List Bool → List ℕ → List C → Type 0
+LoweredFit value fits depth ds visited column_of us = (i : ℕ) → i < length column_of → flag visited (slice_index column_of i) ≡ true → fits (number value us i -ℤ gain value depth ds (slice_index column_of i))
 
 -- low is a weight or its negation
 abbrev pub IsEither : ℤ → ℤ → Type 0
@@ -129,3 +151,51 @@ module _ {C : Type 0} (value : C → ℤ) (t : NumberTable) (column_of : List �
     pub visited_len : length visited ≡ t.columns
     pub distances_len : length ds ≡ t.columns
     pub places_len : length places ≡ t.columns
+
+-- What the words above say of the lists that a matching `m` and a tree `s` hold.
+module _ {C A : Type 0} where
+  -- each part of a tree has so many columns
+  pub record IsWide (columns : ℕ) (s : Tree C A) : Type 0 where
+    pub visited : length s.visited.items ≡ columns
+    pub distances : length s.distances.items ≡ columns
+    pub places : length s.places.items ≡ columns
+
+  module _ (value : C → ℤ) where
+    -- the length of the shortest path to column j
+    abbrev pub distance_to : Tree C A → ℕ → ℤ
+    distance_to s j = number value s.distances.items j
+
+    -- `IsNearest` of the columns of a tree
+    abbrev pub IsNearestIn : ℕ → Tree C A → ℕ → Type 0
+    IsNearestIn columns s c = IsNearest columns (flag s.visited.items) (number value s.distances.items) c
+
+    -- `IsRelaxed` of column j of a tree before and after
+    abbrev pub IsRelaxedIn : ℤ → ℕ → Tree C A → Tree C A → ℕ → Type 0
+    IsRelaxedIn through by s s' j = IsRelaxed false through by (number value s.distances.items j) (slice_index s.places.items j) (number value s'.distances.items j) (slice_index s'.places.items j)
+
+    -- `IsFresh` of a tree
+    abbrev pub IsFreshIn : ℤ → ℕ → Tree C A → Type 0
+    IsFreshIn top columns s = IsFresh top columns (flag s.visited.items) (number value s.distances.items) (slice_index s.places.items)
+
+    module _ (t : NumberTable) (m : Matching C A) where
+      -- `IsMatched` of a matching
+      abbrev pub IsMatchedIn : Type 0
+      IsMatchedIn = IsMatched value t m.column_of.items m.row_of.items m.row_potentials.items m.column_potentials.items
+
+      -- `IsNext` of a matching
+      abbrev pub IsNextIn : Type 0
+      IsNextIn = IsNext value t m.column_of.items m.row_of.items m.row_potentials.items m.column_potentials.items
+
+      -- `IsTreeOf` of a matching and a tree
+      abbrev pub IsTreeIn : Tree C A → Type 0
+      IsTreeIn s = IsTreeOf value t m.column_of.items m.row_of.items m.row_potentials.items m.column_potentials.items s.rows.items s.visited.items s.distances.items s.places.items
+
+      -- the numbers that a scan of the row computes, `offset` away, at each column that was not visited
+      pub record ScanFits (fits : ℤ → Type 0) (s : Tree C A) (row : ℕ) (offset : ℤ) : Type 0 where
+        pub negation : (j : ℕ) → j < t.columns → flag s.visited.items j ≡ false → fits (neg_ℤ (number value m.column_potentials.items j))
+        pub sum : (j : ℕ) → j < t.columns → flag s.visited.items j ≡ false → fits (offset +ℤ number value m.column_potentials.items j)
+        pub difference : (j : ℕ) → j < t.columns → flag s.visited.items j ≡ false → fits (offset +ℤ number value m.column_potentials.items j -ℤ t.at row j)
+
+      -- `IsScanned` of a tree before and after
+      abbrev pub IsScannedIn : ℕ → ℕ → ℤ → Tree C A → Tree C A → Type 0
+      IsScannedIn row by offset s s' = IsScanned t.at t.columns row by offset (number value m.column_potentials.items) (flag s.visited.items) (number value s.distances.items) (slice_index s.places.items) (number value s'.distances.items) (slice_index s'.places.items)

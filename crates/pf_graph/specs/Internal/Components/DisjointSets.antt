@@ -66,3 +66,7 @@ pub record IsCollected {N T : Type 0} (eq : N → N → Bool) (has : T → N →
 pub record AreDone {N : Type 0} (nodes : List (Bor N)) (first ids : List ℕ) (n : ℕ) (done : List (ℕ × N)) : Type 0 where
   pub from : (q : ℕ × N) → Contains done q → (k : ℕ) × (m : Bor N) × (j : ℕ) × (slice_get nodes k ≡ Some m) × (slice_get first k ≡ Some j) × (slice_get ids j ≡ Some q.0) × (q.1 ≡ m.now)
   pub all : (k : ℕ) (m : Bor N) (j id : ℕ) → k < n → slice_get nodes k ≡ Some m → slice_get first k ≡ Some j → slice_get ids j ≡ Some id → Contains done (id, m.now)
+
+-- all nodes are in sets, each with the identifier of its first group
+abbrev pub AreCollected : {N T : Type 0} → (N → N → Bool) → (T → N → Bool) → List (Bor N) → List ℕ → List ℕ → List T → Type 0
+AreCollected {N} eq has nodes first ids sets = (done : List (ℕ × N)) × (place_of : List (Option ℕ)) × AreDone nodes first ids (length first) done × IsCollected eq has done place_of sets

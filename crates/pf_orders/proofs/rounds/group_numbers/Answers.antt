@@ -65,7 +65,10 @@ returns-in_err-remaining g c =
       refused = refused_as _ r.result _ r.ensures.1 c.in_err-remaining.ensures.refused;
     }
 
-pub returns-clause-levels : goal.returns-clause-levels
-returns-clause-levels g c =
-    let none = is_none c.rounds.group _ c.is_empty.ensures c.rounds-test.false in
-    levels_of c.args.rows.items c.rounds.rows.items c.rounds.counts.items c.rounds.groups.items c.rounds.group.items _ c.rounds.invariant none (rw c.deref-2.ensures.value at c.in_ok-remaining.ensures.exact) c.in_ok-remaining.ensures.once
+pub returns : goal.returns
+returns g c = record {
+  levels =
+      let none = is_none c.rounds.group _ c.is_empty.ensures c.rounds-test.false in
+      levels_of c.args.rows.items c.rounds.rows.items c.rounds.counts.items c.rounds.groups.items c.rounds.group.items _ c.rounds.invariant none (rw c.deref-2.ensures.value at c.in_ok-remaining.ensures.exact) c.in_ok-remaining.ensures.once;
+  refused = tt;
+}

@@ -1,8 +1,10 @@
-use Rattle.std.proofs.Common.{◌≡◌, ◌∙◌, ap, ℕ, ◌<◌, ◌+◌, ◌++◌, ◌∷◌, [], length, get_or, slice_get, Some, subst, sym, refl, Bool, true, false, true≢false}
+use Rattle.std.proofs.Common.{◌≡◌, ◌∙◌, ap, ℕ, ◌<◌, ◌+◌, ◌++◌, ◌∷◌, [], length, get_or, slice_get, Some, subst, sym, refl, arith, Bool, true, false, true≢false}
 use mathlib.Core.Bool.{beq}
 use Rattle.std.specs.Prelude.{Vec, nat_lt}
 use Rattle.std.proofs.lemmas.Option.{slice_get-get_or}
-use Rattle.pf_orders.proofs.RoundLemmas.{AreNumbersWith, numbers_more, numbers_same, numbers_end}
+use Rattle.std.proofs.lemmas.Result.{IfOk-from_err}
+use Rattle.pf_orders.proofs.Outcomes.{refused_as}
+use Rattle.pf_orders.proofs.RoundLemmas.{AreNumbersWith, numbers_none, numbers_more, numbers_same, numbers_end}
 use Rattle.pf_orders.proofs.rounds.numbers_with.Goals.{then-counts-number+in_ok-push, else-counts-number}
 use Rattle.pf_orders.proofs.rounds.numbers_with.Goals as goal
 
@@ -37,5 +39,22 @@ numbers-preserved g c =
           subst (AreNumbersWith counts c.args.waiting (i + 1)) (sym e) (numbers_same counts c.args.waiting i (get_or counts i 0) at old c.numbers.invariant test)
     ]
 
-pub returns-clause-exact : goal.returns-clause-exact
-returns-clause-exact g c = numbers_end c.args.counts.now c.args.waiting c.numbers.number c.numbers.numbers.items c.numbers-test.false c.numbers.invariant
+pub numbers-init : goal.numbers-init
+numbers-init g c = subst (AreNumbersWith c.args.counts.now c.args.waiting 0) (sym c.new-numbers.ensures.items) (numbers_none c.args.counts.now c.args.waiting)
+
+pub numbers-smaller : goal.numbers-smaller
+numbers-smaller g c = omega (arith, c.numbers-test.true)
+
+pub returns-in_err-push : goal.returns-in_err-push
+returns-in_err-push g c =
+    let r = c.from_residual in
+    record {
+      exact = IfOk-from_err _ _ r.ensures.0;
+      once = IfOk-from_err _ _ r.ensures.0;
+      refused = refused_as _ r.result _ r.ensures.1 refl;
+    }
+
+pub returns : goal.returns
+returns g c =
+    let v = c.numbers.invariant in
+    record { exact = numbers_end c.args.counts.now c.args.waiting c.numbers.number c.numbers.numbers.items c.numbers-test.false v; once = v.once; refused = tt }

@@ -3,7 +3,7 @@ use Rattle.pf_orders.specs.Internal.Rounds.{Falls}
 use Rattle.pf_orders.proofs.rows.count_row.Given as goal
 
 abbrev pub invariant-targets : goal.invariant-targets
-invariant-targets g l = record {
-  falls : Falls (take l.target-index l.row) l.counts.items l.fn.counts.items;
-  len : length l.counts.items ≡ length l.fn.counts.items;
+invariant-targets l = record {
+  falls : Falls (take l.target-index l.row) l.counts l.fn.counts;
+  len : length l.counts ≡ length l.fn.counts;
 }

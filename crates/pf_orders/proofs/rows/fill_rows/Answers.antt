@@ -1,13 +1,13 @@
-use Rattle.std.proofs.Common.{refl, ◌≡◌, ◌<◌, ◌≤◌, ◌+◌, ◌∙◌, ◌++◌, ◌∷◌, [], ℕ, List, arith, length, slice_get, Some, subst, sym, ap, map, inl, inr}
+use Rattle.std.proofs.Common.{refl, ◌≡◌, ◌<◌, ◌≤◌, ◌+◌, ◌∙◌, ◌++◌, ◌∷◌, [], ℕ, List, arith, length, take, drop, slice_get, Some, subst, sym, ap, map, inl, inr}
 use Rattle.std.specs.Prelude.{Vec, Contains}
 use Rattle.std.specs.List.{AllZip}
-use Rattle.std.proofs.lemmas.List.{length-replicate}
+use Rattle.std.proofs.lemmas.List.{length-replicate, take_at}
 use Rattle.std.proofs.lemmas.Option.{slice_get_within}
 use Rattle.pf_core.proofs.SearchLemmas.{Grows-trans}
 use Rattle.pf_core.proofs.DepthFirstLemmas.{ends_stand}
 use Rattle.pf_core.proofs.ListLemmas.{none_in}
 use Rattle.pf_core.proofs.PathLemmas.{AllZip-map}
-use Rattle.pf_orders.specs.Internal.Rounds.{AreCounted}
+use Rattle.pf_orders.specs.Internal.Rounds.{AreCounted, Falls}
 use Rattle.pf_orders.proofs.ComponentLists.{at_replicate}
 use Rattle.pf_orders.proofs.Outcomes.{refused_as, none_unknown, on_refused, ok_is_no_error, Grows-itself}
 use Rattle.pf_orders.proofs.OrderLemmas.{step_of, of_step, of_member, node_of_row}
@@ -108,7 +108,7 @@ count_row-requires g c = λ j h.
     let l = e.listed in
     let none : g.G.NumberedGraph.found c.expand.new.self ≤ c.found-count.result = rw c.found.ensures at c.if-found-count.false in
     let s = step_of l.0 j (subst (λ (ks : List ℕ). Contains ks j) (c.deref.ensures.value ∙ l.1) (of_member c.deref.result.now j h)) in
-    counted _ _ _ _ (l.2 j s.0 s.1) none v.long
+    counted _ _ _ _ (l.2 j s.0 s.1) none (ap length c.deref_mut.ensures.value ∙ v.long)
 
 pub returns-in_err-count_row : goal.returns-in_err-count_row
 returns-in_err-count_row g c = record {
@@ -122,27 +122,6 @@ returns-in_err-count_row g c = record {
   unknown = λ h x u. absurd (only_memory _ _ c.from_residual-in_err-count_row.ensures.1 c.in_err-count_row.ensures.refused u);
   errors = memory_of _ _ c.from_residual-in_err-count_row.ensures.1 c.in_err-count_row.ensures.refused;
 }
-
-pub returns-in_err-push-clause-graph : goal.returns-in_err-push-clause-graph
-returns-in_err-push-clause-graph g c = λ h x. c.in_ok-expand.ensures.graph h (c.numbers.invariant.explored h x)
-
-pub returns-in_err-push-clause-grows : goal.returns-in_err-push-clause-grows
-returns-in_err-push-clause-grows g c = Grows-trans _ _ _ _ _ _ c.numbers.invariant.grown c.in_ok-expand.ensures.grows
-
-pub returns-in_err-push-clause-same : goal.returns-in_err-push-clause-same
-returns-in_err-push-clause-same g c = on_refused _ _ c.from_residual-in_err-push.ensures.0
-
-pub returns-in_err-push-clause-counted : goal.returns-in_err-push-clause-counted
-returns-in_err-push-clause-counted g c = on_refused _ _ c.from_residual-in_err-push.ensures.0
-
-pub returns-in_err-push-clause-wide : goal.returns-in_err-push-clause-wide
-returns-in_err-push-clause-wide g c = on_refused _ _ c.from_residual-in_err-push.ensures.0
-
-pub returns-in_err-push-clause-long : goal.returns-in_err-push-clause-long
-returns-in_err-push-clause-long g c = on_refused _ _ c.from_residual-in_err-push.ensures.0
-
-pub returns-in_err-push-clause-listed : goal.returns-in_err-push-clause-listed
-returns-in_err-push-clause-listed g c = λ h x. on_refused _ _ c.from_residual-in_err-push.ensures.0
 
 pub numbers-smaller : goal.numbers-smaller
 numbers-smaller g c = omega (arith, c.numbers-test.true)
@@ -159,14 +138,17 @@ numbers-preserved g c =
     let p = e.placed in
     let pushed : c.push.new.self.items ≡ rows ++ row ∷ [] = c.in_ok-push.ensures.items in
     let all = c.found-count.ensures ∙ sym v.same in
-    let falls = rw c.deref.ensures.value at c.in_ok-count_row.ensures.counted in
+    let before = c.numbers.counts.items in
+    let counts = c.count_row.new.counts in
+    let falls = subst (λ (ns : List ℕ). Falls row.items counts ns) c.deref_mut.ensures.value (subst (λ (ks : List ℕ). Falls ks counts c.deref_mut.result.now) c.deref.ensures.value c.in_ok-count_row.ensures.counted) in
+    let same : take c.numbers.counts.len (counts ++ drop (length counts) before) ≡ counts = take_at counts (drop (length counts) before) c.numbers.counts.len (c.count_row.auto.counts ∙ ap length c.deref_mut.ensures.value ∙ sym c.numbers.counts.ok.0) in
     let below : (j : ℕ) → _ → j < length c.numbers.counts.items = λ j h. let s = step_of l.0 j (subst (λ (ks : List ℕ). Contains ks j) l.1 (of_member row.items j h)) in counted _ _ _ _ (l.2 j s.0 s.1) none v.long in
     record {
       same = still_same _ _ _ _ none v.same e.grows.more c.found-count.ensures;
       grown = Grows-trans _ _ _ _ _ _ v.grown e.grows;
       explored = λ h x. e.graph h (v.explored h x);
-      counted = subst (λ rs. AreCounted rs c.count_row.new.counts.items) (sym pushed) (counted_push rows row c.numbers.counts.items c.count_row.new.counts.items v.counted falls below);
-      long = sym falls.len ∙ v.long;
+      counted = subst (λ rs. AreCounted rs (take c.numbers.counts.len (counts ++ drop (length counts) before))) (sym pushed) (subst (λ (ns : List ℕ). AreCounted (rows ++ row ∷ []) ns) (sym same) (counted_push rows row before counts v.counted falls below));
+      long = ap length same ∙ sym falls.len ∙ v.long;
       wide = ap length pushed ∙ get_length rows row ∙ ap (λ n. n + 1) v.wide;
       listed = λ h x k r n at s. elim (at_push rows row r k (subst (λ rs. slice_get rs k ≡ Some r) pushed at)) as (λ _. AllZip stands r.items (g.G.NumberedGraph.successors h n)) [
         | inl q ↦
@@ -196,8 +178,15 @@ returns g c =
       errors = tt;
     }
 
-pub returns-in_err-push-clause-unknown : goal.returns-in_err-push-clause-unknown
-returns-in_err-push-clause-unknown g c = λ h x u. absurd (none_unknown c.from_residual-in_err-push.result c.from_residual-in_err-push.ensures.1 u)
-
-pub returns-in_err-push-clause-errors : goal.returns-in_err-push-clause-errors
-returns-in_err-push-clause-errors g c = refused_as _ c.from_residual-in_err-push.result _ c.from_residual-in_err-push.ensures.1 (inl refl)
+pub returns-in_err-push : goal.returns-in_err-push
+returns-in_err-push g c = record {
+  graph = λ h x. c.in_ok-expand.ensures.graph h (c.numbers.invariant.explored h x);
+  grows = Grows-trans _ _ _ _ _ _ c.numbers.invariant.grown c.in_ok-expand.ensures.grows;
+  same = on_refused _ _ c.from_residual-in_err-push.ensures.0;
+  counted = on_refused _ _ c.from_residual-in_err-push.ensures.0;
+  wide = on_refused _ _ c.from_residual-in_err-push.ensures.0;
+  long = on_refused _ _ c.from_residual-in_err-push.ensures.0;
+  listed = λ h x. on_refused _ _ c.from_residual-in_err-push.ensures.0;
+  unknown = λ h x u. absurd (none_unknown c.from_residual-in_err-push.result c.from_residual-in_err-push.ensures.1 u);
+  errors = refused_as _ c.from_residual-in_err-push.result _ c.from_residual-in_err-push.ensures.1 (inl refl);
+}

@@ -45,7 +45,7 @@ where
 
     ensures errors { IfErr result (λ e. (e ≡ PathError.OutOfMemory) ⊎ (e ≡ PathError.UnknownVertex)) }
 {
-    let (rows, counts) = read_rows::<u8, _, _>(alloc, graph)?;
+    let (rows, counts) = read_rows(alloc, graph)?;
     let levels = group_numbers(alloc, counts, rows)?;
     let groups = groups_at(alloc, graph.nodes.as_slice(), &levels.groups)?;
     if levels.remaining.is_empty() {

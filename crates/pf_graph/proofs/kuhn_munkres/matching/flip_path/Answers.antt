@@ -1,4 +1,4 @@
-use Rattle.std.proofs.Common.{rules, refl, ◌≡◌, ◌≢◌, ◌<◌, ◌≤◌, arith, sym, subst, ℕ, length, Some, None}
+use Rattle.std.proofs.Common.{refl, ◌≡◌, ◌≢◌, ◌<◌, ◌≤◌, arith, sym, subst, ℕ, length, Some, None}
 use Rattle.std.specs.Prelude.{slice_index, slice_set}
 use Rattle.std.proofs.lemmas.List.{get_or-set_same, get_or-set_other}
 use Rattle.pf_graph.specs.Internal.Assignment.AssignmentSteps.{holder, IsFlipped}
@@ -24,8 +24,8 @@ rows-preserved c =
     let before = λ (p : ℕ) (h : 0 < p) (l : p ≤ place left). i.before p h (omega (arith, l, e)) in
     let small = c.requires.rooted.inside left t.within in
     let own = c.requires.rooted.row (place left) positive small in
-    let col_len : length c.rows.column_of ≡ length c.args.column_of.now = search rules in
-    let held_len : length c.rows.row_of ≡ length c.args.row_of.now = search rules in
+    let col_len : length c.rows.column_of ≡ length c.args.column_of.now = c.rows.auto.column_of in
+    let held_len : length c.rows.row_of ≡ length c.args.row_of.now = c.rows.auto.row_of in
     let r = rows (place left) in
     let col'' = slice_set c.rows.column_of r left in
     let held'' = slice_set c.rows.row_of left (Some r) in

@@ -1,4 +1,4 @@
-use Rattle.std.proofs.Common.{rules, refl, ◌≡◌, ◌<◌, arith, ap, sym, subst, ◌∙◌, ℕ, true, false, length}
+use Rattle.std.proofs.Common.{refl, ◌≡◌, ◌<◌, arith, ap, sym, subst, ◌∙◌, ℕ, true, false, length}
 use Rattle.std.specs.Prelude.{◌-ℤ◌, ◌+ℤ◌, neg_ℤ, slice_set, slice_index}
 use Rattle.std.proofs.lemmas.Int.{ints}
 use Rattle.pf_graph.specs.Assignments.{number}
@@ -13,7 +13,7 @@ minus-by-requires g c =
     let q = slice_index c.args.column_of.now k in
     let inside = c.requires.columns k (omega arith) in
     let n = number-at g.C.Number.value c.args.distances.now q c.index-distances-column.result (omega (arith, inside)) c.index-distances-column.is in
-    let f : flag c.args.visited.now q ≡ true = search rules in
+    let f : flag c.args.visited.now q ≡ true = c.if-visited-column.true in
     subst (λ z. g.C.Number.fits (g.C.Number.value c.args.depth -ℤ z)) n (c.requires.difference q inside f)
 
 pub minus-requires : goal.minus-requires
@@ -23,7 +23,7 @@ minus-requires g c =
     let inside = c.requires.columns k (omega arith) in
     let n = number-at g.C.Number.value c.args.distances.now q c.index-distances-column.result (omega (arith, inside)) c.index-distances-column.is in
     let m = number-at g.C.Number.value c.loop-row.potentials k c.index-potentials-row.result (omega arith) c.index-potentials-row.is in
-    let f : flag c.args.visited.now q ≡ true = search rules in
+    let f : flag c.args.visited.now q ≡ true = c.if-visited-column.true in
     let r = c.loop-row.invariant.rest k (omega arith) in
     subst (λ z. g.C.Number.fits (z -ℤ g.C.Number.value c.minus-by.result)) (sym r ∙ m)
     (subst (λ z. g.C.Number.fits (number g.C.Number.value c.args.potentials.now k -ℤ z)) (ap (λ z. g.C.Number.value c.args.depth -ℤ z) n ∙ sym c.minus-by.ensures) (c.requires.rest k (omega arith) f))
@@ -43,7 +43,7 @@ loop-row-preserved g c =
       | then-visited-column w ↦ (
           let n = number-at value c.args.distances.now q w.index-distances-column.result (omega (arith, inside)) w.index-distances-column.is in
           let m = number-at value c.loop-row.potentials k w.index-potentials-row.result here w.index-potentials-row.is in
-          let f : flag c.args.visited.now q ≡ true = search rules in
+          let f : flag c.args.visited.now q ≡ true = w.if-visited-column.true in
           let x = w.minus.result in
           let s = w.minus.ensures in
           let b = w.minus-by.ensures in
@@ -56,7 +56,7 @@ loop-row-preserved g c =
           }
           )
       | else-visited-column w ↦ (
-          let f : flag c.args.visited.now q ≡ false = search rules in
+          let f : flag c.args.visited.now q ≡ false = w.if-visited-column.false in
           let e : number value c.loop-row.potentials k ≡ target k = r ∙ sym (raised_false (flag c.args.visited.now q) (number value c.args.potentials.now k) (by k) f) in
           record {
             done = λ j h. ap (λ xs. number value xs j) w.potentials-is ∙ below_written (number value c.loop-row.potentials) (number value c.loop-row.potentials) target k e (λ j d. refl) i.done j h;

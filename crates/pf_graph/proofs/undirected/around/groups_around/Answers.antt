@@ -39,9 +39,12 @@ loop-start-preserved g c =
           (group_made g.N.PartialEq.eq g.met.N.Eq.laws next c.start-item.result made.2 made.1 c.in_ok-group_around.field-0 made.6 (c.requires.clones _ _ made.5) (Gives-drains _ _ _ _ _ _ gives made.0 made.1 made.3 made.4)));
     }
 
-pub returns-clause-groups : goal.returns-clause-groups
-returns-clause-groups g c = λ next a.
-    subst (λ xs. AreGroupsAround g.N.PartialEq.eq next xs c.loop-start.groups.items) (take_all c.loop-start.start-index c.args.starts.now c.loop-start-test.false) (c.loop-start.invariant.groups next a)
+pub returns : goal.returns
+returns g c = record {
+  groups = λ next a.
+      subst (λ xs. AreGroupsAround g.N.PartialEq.eq next xs c.loop-start.groups.items) (take_all c.loop-start.start-index c.args.starts.now c.loop-start-test.false) (c.loop-start.invariant.groups next a);
+  refused = tt;
+}
 
 pub returns-in_err-groups : goal.returns-in_err-groups
 returns-in_err-groups g c = record {

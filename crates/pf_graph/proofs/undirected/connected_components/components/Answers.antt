@@ -20,20 +20,20 @@ collect_nodes-requires-clause-below g c =
     (subst (λ fs. All (λ (m : ℕ). (id : ℕ) → slice_get c.in_ok-united.united.ids.items m ≡ Some id → id < length c.in_ok-united.united.ids.items) fs) (sym c.deref.ensures.value)
     (first_id_below g.met.N.Eq.laws c.args.groups.now c.in_ok-united.united.nodes.keys c.in_ok-united.united.first.items p.0 p.1 c.in_ok-united.united.ids.items p.2 p.3))
 
-pub returns-clause-components : goal.returns-clause-components
-returns-clause-components g c =
-    let p = c.in_ok-united.ensures.united in
-    let u = c.in_ok-united.united in
-    IfOk-weaker c.collect_nodes.result _ _ (λ sets r.
-    let done_at : AreDone u.nodes.keys u.first.items u.ids.items (length u.nodes.keys) r.0 =
-    subst (λ (n : ℕ). AreDone u.nodes.keys u.first.items u.ids.items n r.0) (ap length c.deref.ensures.value ∙ p.1.len)
-    (subst (λ ns. AreDone ns u.first.items u.ids.items (length c.deref.result.now) r.0) c.as_slice.ensures.keys
-    (subst (λ fs. AreDone c.as_slice.result.now fs u.ids.items (length c.deref.result.now) r.0) c.deref.ensures.value
-    (subst (λ is. AreDone c.as_slice.result.now c.deref.result.now is (length c.deref.result.now) r.0) c.deref-2.ensures.value r.2))) in
-    are_components g.met.N.Eq.laws c.args.groups.now u.nodes.keys u.first.items p.0 p.1 u.ids.items p.2 p.3 p.4 r.0 done_at r.1 sets.items r.3) c.collect_nodes.ensures.collected
-
-pub returns-clause-refused : goal.returns-clause-refused
-returns-clause-refused g c = c.collect_nodes.ensures.refused
+pub returns : goal.returns
+returns g c = record {
+  components =
+      let p = c.in_ok-united.ensures.united in
+      let u = c.in_ok-united.united in
+      IfOk-weaker c.collect_nodes.result _ _ (λ sets r.
+      let done_at : AreDone u.nodes.keys u.first.items u.ids.items (length u.nodes.keys) r.0 =
+      subst (λ (n : ℕ). AreDone u.nodes.keys u.first.items u.ids.items n r.0) (ap length c.deref.ensures.value ∙ p.1.len)
+      (subst (λ ns. AreDone ns u.first.items u.ids.items (length c.deref.result.now) r.0) c.as_slice.ensures.keys
+      (subst (λ fs. AreDone c.as_slice.result.now fs u.ids.items (length c.deref.result.now) r.0) c.deref.ensures.value
+      (subst (λ is. AreDone c.as_slice.result.now c.deref.result.now is (length c.deref.result.now) r.0) c.deref-2.ensures.value r.2))) in
+      are_components g.met.N.Eq.laws c.args.groups.now u.nodes.keys u.first.items p.0 p.1 u.ids.items p.2 p.3 p.4 r.0 done_at r.1 sets.items r.3) c.collect_nodes.ensures.collected;
+  refused = c.collect_nodes.ensures.refused;
+}
 
 pub collect_nodes-requires-clause-len : goal.collect_nodes-requires-clause-len
 collect_nodes-requires-clause-len g c = ap length c.deref.ensures.value ∙ c.in_ok-united.ensures.united.1.len ∙ sym (ap length c.as_slice.ensures.keys)

@@ -20,10 +20,13 @@ loop-node-preserved g c =
       indexed = λ x. index_more g.met.N.Eq.laws i.done node _ x c.args.index _ _ _ (c.requires.clones node _ c.in_ok-clone.ensures.cases) (i.indexed x) (c.in_ok-insert.ensures.updates.0 x);
     }
 
-pub returns-clause-indexed : goal.returns-clause-indexed
-returns-clause-indexed g c = λ x.
-    let i = c.loop-node.invariant in
-    i.indexed x ∙ ap (λ xs. if list_any (g.N.PartialEq.eq x) xs then Some c.args.index else get g.N.PartialEq.eq c.args.of_node.now x) (sym (append-nil i.done) ∙ ap (λ xs. i.done ++ xs) (sym c.in-None.ensures.steps.0) ∙ i.all)
+pub returns : goal.returns
+returns g c = record {
+  indexed = λ x.
+      let i = c.loop-node.invariant in
+      i.indexed x ∙ ap (λ xs. if list_any (g.N.PartialEq.eq x) xs then Some c.args.index else get g.N.PartialEq.eq c.args.of_node.now x) (sym (append-nil i.done) ∙ ap (λ xs. i.done ++ xs) (sym c.in-None.ensures.steps.0) ∙ i.all);
+  refused = tt;
+}
 
 pub returns-in_err-clone : goal.returns-in_err-clone
 returns-in_err-clone g c = record {

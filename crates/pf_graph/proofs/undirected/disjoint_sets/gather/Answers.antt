@@ -19,5 +19,8 @@ gather_group-requires-clause-gathered g c = (pairs_from 0 (take c.loop-group.gro
 pub gather_group-requires-clause-inside : goal.gather_group-requires-clause-inside
 gather_group-requires-clause-inside g c = subst (λ (n : ℕ). c.loop-group.group < n) (sym (c.loop-group.auto.vertices ∙ c.requires.inside)) c.loop-group-test.true
 
-pub returns-clause-gathered : goal.returns-clause-gathered
-returns-clause-gathered g c = subst (λ gs. IsGathered g.N.PartialEq.eq (pairs_from 0 gs) c.loop-group.nodes.keys c.loop-group.first.items c.loop-group.vertices) (take_all c.loop-group.group c.args.groups.now c.loop-group-test.false) c.loop-group.invariant
+pub returns : goal.returns
+returns g c = record {
+  gathered = subst (λ gs. IsGathered g.N.PartialEq.eq (pairs_from 0 gs) c.loop-group.nodes.keys c.loop-group.first.items c.loop-group.vertices) (take_all c.loop-group.group c.args.groups.now c.loop-group-test.false) c.loop-group.invariant;
+  refused = tt;
+}

@@ -26,11 +26,11 @@ identify-requires-clause-sound g c = c.in_ok-gather.ensures.gathered.sound
 pub identify-requires-clause-len : goal.identify-requires-clause-len
 identify-requires-clause-len g c = c.gather.auto.vertices ∙ ap length c.as_mut_slice-vertices.ensures.value ∙ c.in_ok-sets.ensures.len
 
-pub returns-clause-united : goal.returns-clause-united
-returns-clause-united g c =
-    let h = c.in_ok-gather.ensures.gathered in
-    let n = c.gather.auto.vertices ∙ ap length c.as_mut_slice-vertices.ensures.value ∙ c.in_ok-sets.ensures.len in
-    IfOk-weaker c.identify.result _ _ (λ ids r. (c.gather.new.vertices, h, r.1 h.label h.labels, r.0, n)) (both c.identify.result _ _ c.identify.ensures.len c.identify.ensures.identified)
-
-pub returns-clause-refused : goal.returns-clause-refused
-returns-clause-refused g c = c.identify.ensures.refused
+pub returns : goal.returns
+returns g c = record {
+  united =
+      let h = c.in_ok-gather.ensures.gathered in
+      let n = c.gather.auto.vertices ∙ ap length c.as_mut_slice-vertices.ensures.value ∙ c.in_ok-sets.ensures.len in
+      IfOk-weaker c.identify.result _ _ (λ ids r. (c.gather.new.vertices, h, r.1 h.label h.labels, r.0, n)) (both c.identify.result _ _ c.identify.ensures.len c.identify.ensures.identified);
+  refused = c.identify.ensures.refused;
+}

@@ -14,6 +14,9 @@ loop-node-preserved g c = record {
       (c.in_ok-gather_node.ensures.gathered (pairs ++ map (pair_with c.args.group) (take c.loop-node.node-index c.args.members.now)) (c.loop-node.invariant.gathered pairs h));
 }
 
-pub returns-clause-gathered : goal.returns-clause-gathered
-returns-clause-gathered g c = λ pairs h.
-    subst (λ xs. IsGathered g.N.PartialEq.eq (pairs ++ map (pair_with c.args.group) xs) c.loop-node.nodes.keys c.loop-node.first.items c.loop-node.vertices) (take_all c.loop-node.node-index c.args.members.now c.loop-node-test.false) (c.loop-node.invariant.gathered pairs h)
+pub returns : goal.returns
+returns g c = record {
+  gathered = λ pairs h.
+      subst (λ xs. IsGathered g.N.PartialEq.eq (pairs ++ map (pair_with c.args.group) xs) c.loop-node.nodes.keys c.loop-node.first.items c.loop-node.vertices) (take_all c.loop-node.node-index c.args.members.now c.loop-node-test.false) (c.loop-node.invariant.gathered pairs h);
+  refused = tt;
+}

@@ -2,7 +2,7 @@ use Rattle.std.proofs.Common.{◌<◌, refl, subst, arith, length, slice_index_o
 use Rattle.std.proofs.lemmas.List.{get_or_default}
 use Rattle.std.proofs.lemmas.Option.{slice_get-get_or, slice_get_read}
 use Rattle.pf_graph.specs.Internal.Components.DisjointSets.{MapsByFirst}
-use Rattle.pf_graph.proofs.Components.DisjointSetLemmas.{MapsByFirst-more}
+use Rattle.pf_graph.proofs.Components.DisjointSetLemmas.{MapsByFirst-none, MapsByFirst-more}
 use Rattle.pf_graph.proofs.undirected.disjoint_sets.map_nodes.Goals as goal
 
 pub loop-place-preserved : goal.loop-place-preserved
@@ -16,5 +16,20 @@ loop-place-preserved g c =
     (slice_get_read c.args.nodes.now (length c.args.nodes.now) place c.index-nodes-place.result refl inside c.index-nodes-place.is)
     (slice_get-get_or c.args.ids.now j 0 (c.requires.inside place 0 c.loop-place-test.true)) c.loop-place.invariant
 
-pub returns-clause-maps : goal.returns-clause-maps
-returns-clause-maps g c = subst (λ fs. MapsByFirst g.N.PartialEq.eq c.args.nodes.now fs c.args.ids.now c.loop-place.of_node) (take_all c.loop-place.place c.args.first.now c.loop-place-test.false) c.loop-place.invariant
+pub returns : goal.returns
+returns g c = record {
+  maps = subst (λ fs. MapsByFirst g.N.PartialEq.eq c.args.nodes.now fs c.args.ids.now c.loop-place.of_node) (take_all c.loop-place.place c.args.first.now c.loop-place-test.false) c.loop-place.invariant;
+  refused = tt;
+}
+
+pub bounds-ids-group : goal.bounds-ids-group
+bounds-ids-group g c = c.requires.inside c.loop-place.place 0 c.loop-place-test.true
+
+pub bounds-nodes-place : goal.bounds-nodes-place
+bounds-nodes-place g c = subst (λ (n : ℕ). c.loop-place.place < n) c.requires.len c.loop-place-test.true
+
+pub loop-place-smaller : goal.loop-place-smaller
+loop-place-smaller g c = omega (arith, c.loop-place-test.true)
+
+pub loop-place-init : goal.loop-place-init
+loop-place-init g c = MapsByFirst-none g.N.PartialEq.eq c.args.nodes.now c.args.first.now c.args.ids.now c.in_ok-of_node.of_node c.in_ok-of_node.ensures.empty

@@ -47,13 +47,11 @@ pops_least : {X : Type 0} (L : Type 0) (order : X → X → Ordering) (AtMost : 
 pops_least L order AtMost within n old new None len h none unchanged permutation popped = let e = empty old (sym len ∙ none) in (e, unchanged.0 ∙ e)
 pops_least L order AtMost within n old new (Some x) len h none unchanged permutation popped = (permutation, λ t m. within x t (holds_of (λ y. is_lt (order x y) ≡ false) old t (popped h).1 m.0 m.1 m.2))
 
-pub returns-clause-ordered : goal.returns-clause-ordered
-returns-clause-ordered g c = stays_ordered _ (waiting_order g.N.Ord.cmp g.C.Ord.cmp) _ (heap_items c.args.queue.now) (heap_items c.pop.new.self) c.pop.result c.requires c.pop.ensures.unchanged c.pop.ensures.heap_order
-
-pub returns-clause-least : goal.returns-clause-least
-returns-clause-least g c =
-    let len : heap_len c.args.queue.now ≡ length (heap_items c.args.queue.now) = search rules in
-    pops_least _ (waiting_order g.N.Ord.cmp g.C.Ord.cmp) _ (λ r t. at_most g.N.Ord.cmp g.C.Ord.cmp g.met.N.Ord.total g.met.C.Ord.total r.0 t.0) (heap_len c.args.queue.now) (heap_items c.args.queue.now) (heap_items c.pop.new.self) c.pop.result len c.requires c.pop.ensures.none c.pop.ensures.unchanged c.pop.ensures.permutation c.pop.ensures.heap_order
-
-pub returns-clause-len : goal.returns-clause-len
-returns-clause-len g c = c.pop.ensures.len
+pub returns : goal.returns
+returns g c = record {
+  ordered = stays_ordered _ (waiting_order g.N.Ord.cmp g.C.Ord.cmp) _ (heap_items c.args.queue.now) (heap_items c.pop.new.self) c.pop.result c.requires c.pop.ensures.unchanged c.pop.ensures.heap_order;
+  least =
+      let len : heap_len c.args.queue.now ≡ length (heap_items c.args.queue.now) = search rules in
+      pops_least _ (waiting_order g.N.Ord.cmp g.C.Ord.cmp) _ (λ r t. at_most g.N.Ord.cmp g.C.Ord.cmp g.met.N.Ord.total g.met.C.Ord.total r.0 t.0) (heap_len c.args.queue.now) (heap_items c.args.queue.now) (heap_items c.pop.new.self) c.pop.result len c.requires c.pop.ensures.none c.pop.ensures.unchanged c.pop.ensures.permutation c.pop.ensures.heap_order;
+  len = c.pop.ensures.len;
+}

@@ -18,28 +18,25 @@ spanning_forest-requires g c =
 weights-cloned : (g : Over) (c : After-into_iter g) → All (λ (e : ℕ × ℕ × Weighed g.row.N.Denot g.row.C.Denot g.row.C.Denot). g.C.Clone.is_clone e.2.edge.now.2 e.2.weight) c.in_ok-numbered.numbered.edges.items
 weights-cloned g c = λ k d inside. let r = c.in_ok-numbered.ensures.weighed k d inside in let e = r.shows in let p = r.says.met in search rules
 
-pub returns-clause-forest : goal.returns-clause-forest
-returns-clause-forest g c =
-    let n = c.in_ok-numbered.ensures.numbered in
-    subst (λ xs. IsForest g.N.PartialEq.eq (map shown xs)) (sym c.into_iter.ensures.rest)
-    (written_forest g.met.N.Eq.laws n.0 c.args.edges.now c.in_ok-numbered.numbered.edges.items n.2 c.in_ok-chosen.chosen.items (map shown c.in_ok-written.written.items) c.in_ok-written.ensures.written c.in_ok-chosen.ensures.given c.in_ok-chosen.ensures.forest)
-
-pub returns-clause-least : goal.returns-clause-least
-returns-clause-least g c =
-    let n = c.in_ok-numbered.ensures.numbered in
-    subst (λ xs. IsLeastUnderEveryBound g.N.PartialEq.eq g.C.Ord.cmp c.args.edges.now (map shown xs)) (sym c.into_iter.ensures.rest)
-    (written_least g.met.N.Eq.laws n.0 c.args.edges.now c.in_ok-numbered.numbered.edges.items n.2 c.in_ok-chosen.chosen.items (map shown c.in_ok-written.written.items) c.in_ok-written.ensures.written c.in_ok-chosen.ensures.given g.C.Clone.is_clone (weights-cloned g c) g.met.C.Ord.total g.met.C.Ord.matches_eq c.requires.clones c.in_ok-chosen.ensures.least)
-
-pub returns-clause-as_written : goal.returns-clause-as_written
-returns-clause-as_written g c =
-    let n = c.in_ok-numbered.ensures.numbered in
-    subst (λ xs. AreChosenFrom g.C.Clone.is_clone c.args.edges.now (map shown xs)) (sym c.into_iter.ensures.rest)
-    (written_given g.met.N.Eq.laws n.0 c.args.edges.now c.in_ok-numbered.numbered.edges.items n.2 c.in_ok-chosen.chosen.items (map shown c.in_ok-written.written.items) c.in_ok-written.ensures.written c.in_ok-chosen.ensures.given g.C.Clone.is_clone (weights-cloned g c))
-
-pub returns-clause-sorted : goal.returns-clause-sorted
-returns-clause-sorted g c =
-    subst (λ xs. IsSorted (λ (e f : g.row.N.Denot × g.row.N.Denot × g.row.C.Denot). g.C.Ord.cmp e.2 f.2) (map shown xs)) (sym c.into_iter.ensures.rest)
-    (written_sorted g.C.Ord.cmp c.in_ok-chosen.chosen.items (map shown c.in_ok-written.written.items) c.in_ok-written.ensures.written c.in_ok-chosen.ensures.sorted)
+pub returns : goal.returns
+returns g c = record {
+  forest =
+      let n = c.in_ok-numbered.ensures.numbered in
+      subst (λ xs. IsForest g.N.PartialEq.eq (map shown xs)) (sym c.into_iter.ensures.rest)
+      (written_forest g.met.N.Eq.laws n.0 c.args.edges.now c.in_ok-numbered.numbered.edges.items n.2 c.in_ok-chosen.chosen.items (map shown c.in_ok-written.written.items) c.in_ok-written.ensures.written c.in_ok-chosen.ensures.given c.in_ok-chosen.ensures.forest);
+  least =
+      let n = c.in_ok-numbered.ensures.numbered in
+      subst (λ xs. IsLeastUnderEveryBound g.N.PartialEq.eq g.C.Ord.cmp c.args.edges.now (map shown xs)) (sym c.into_iter.ensures.rest)
+      (written_least g.met.N.Eq.laws n.0 c.args.edges.now c.in_ok-numbered.numbered.edges.items n.2 c.in_ok-chosen.chosen.items (map shown c.in_ok-written.written.items) c.in_ok-written.ensures.written c.in_ok-chosen.ensures.given g.C.Clone.is_clone (weights-cloned g c) g.met.C.Ord.total g.met.C.Ord.matches_eq c.requires.clones c.in_ok-chosen.ensures.least);
+  as_written =
+      let n = c.in_ok-numbered.ensures.numbered in
+      subst (λ xs. AreChosenFrom g.C.Clone.is_clone c.args.edges.now (map shown xs)) (sym c.into_iter.ensures.rest)
+      (written_given g.met.N.Eq.laws n.0 c.args.edges.now c.in_ok-numbered.numbered.edges.items n.2 c.in_ok-chosen.chosen.items (map shown c.in_ok-written.written.items) c.in_ok-written.ensures.written c.in_ok-chosen.ensures.given g.C.Clone.is_clone (weights-cloned g c));
+  sorted =
+      subst (λ xs. IsSorted (λ (e f : g.row.N.Denot × g.row.N.Denot × g.row.C.Denot). g.C.Ord.cmp e.2 f.2) (map shown xs)) (sym c.into_iter.ensures.rest)
+      (written_sorted g.C.Ord.cmp c.in_ok-chosen.chosen.items (map shown c.in_ok-written.written.items) c.in_ok-written.ensures.written c.in_ok-chosen.ensures.sorted);
+  refused = tt;
+}
 
 pub returns-in_err-numbered : goal.returns-in_err-numbered
 returns-in_err-numbered g c = record {

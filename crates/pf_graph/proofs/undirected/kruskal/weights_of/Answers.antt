@@ -11,6 +11,8 @@ loop-numbered-preserved g c =
     c.in_ok-push.ensures.items ∙ ap (λ ws. ws ++ c.numbered-item.result.2.weight ∷ []) c.loop-numbered.invariant ∙ sym (map-append weight so_far (c.numbered-item.result ∷ []))
     ∙ ap (map weight) (ap (λ e. so_far ++ e ∷ []) c.numbered-item.is ∙ sym (take_more c.args.chosen.now c.loop-numbered.numbered-index c.numbered-item.result c.loop-numbered-test.true))
 
-pub returns-clause-weights : goal.returns-clause-weights
-returns-clause-weights g c =
-    c.loop-numbered.invariant ∙ ap (map (λ (e : ℕ × ℕ × Weighed g.row.N.Denot g.row.C.Denot g.row.C.Denot). e.2.weight)) (take_all c.loop-numbered.numbered-index c.args.chosen.now c.loop-numbered-test.false)
+pub returns : goal.returns
+returns g c = record {
+  weights = c.loop-numbered.invariant ∙ ap (map (λ (e : ℕ × ℕ × Weighed g.row.N.Denot g.row.C.Denot g.row.C.Denot). e.2.weight)) (take_all c.loop-numbered.numbered-index c.args.chosen.now c.loop-numbered-test.false);
+  refused = tt;
+}

@@ -26,11 +26,14 @@ loop-number-preserved g c =
 pub add_node-requires-clause-collected : goal.add_node-requires-clause-collected
 add_node-requires-clause-collected g c = (c.loop-number.invariant.done, c.loop-number.invariant.collected)
 
-pub returns-clause-collected : goal.returns-clause-collected
-returns-clause-collected g c =
-    let i = c.loop-number.invariant in
-    let all : c.loop-number.number ≡ length c.args.first.now = omega arith in
-    (i.done, subst (λ n. AreDone c.args.nodes.now c.args.first.now c.args.ids.now n i.done) all i.are_done, i.collected)
+pub returns : goal.returns
+returns g c = record {
+  collected =
+      let i = c.loop-number.invariant in
+      let all : c.loop-number.number ≡ length c.args.first.now = omega arith in
+      (i.done, subst (λ n. AreDone c.args.nodes.now c.args.first.now c.args.ids.now n i.done) all i.are_done, i.collected);
+  refused = tt;
+}
 
 pub add_node-requires-clause-inside : goal.add_node-requires-clause-inside
 add_node-requires-clause-inside g c =

@@ -21,7 +21,10 @@ collect_into-requires-clause-none g c =
 pub collect_into-requires-clause-inside : goal.collect_into-requires-clause-inside
 collect_into-requires-clause-inside g c = c.requires.inside
 
-pub returns-clause-collected : goal.returns-clause-collected
-returns-clause-collected g c =
-    let h = c.in_ok-collect_into.ensures.collected in
-    (h.0, c.collect_into.new.place_of, h.1, h.2)
+pub returns : goal.returns
+returns g c = record {
+  collected =
+      let h = c.in_ok-collect_into.ensures.collected in
+      (h.0, c.collect_into.new.place_of, h.1, h.2);
+  refused = tt;
+}

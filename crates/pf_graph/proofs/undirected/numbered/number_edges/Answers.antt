@@ -3,14 +3,13 @@ use Rattle.std.proofs.lemmas.Result.{IfOk-from_err}
 use Rattle.pf_graph.proofs.Outcomes.{refused_by, refused_as, if_refused}
 use Rattle.pf_graph.proofs.undirected.numbered.number_edges.Goals as goal
 
-pub returns-clause-numbered : goal.returns-clause-numbered
-returns-clause-numbered g c = (c.number_into.new.nodes.keys, sym c.len.ensures.len, c.in_ok-number_into.ensures.numbered)
-
-pub returns-clause-in_order : goal.returns-clause-in_order
-returns-clause-in_order g c = c.in_ok-number_into.ensures.in_order
-
-pub returns-clause-weighed : goal.returns-clause-weighed
-returns-clause-weighed g c = c.in_ok-number_into.ensures.weighed
+pub returns : goal.returns
+returns g c = record {
+  numbered = (c.number_into.new.nodes.keys, sym c.len.ensures.len, c.in_ok-number_into.ensures.numbered);
+  in_order = c.in_ok-number_into.ensures.in_order;
+  weighed = c.in_ok-number_into.ensures.weighed;
+  refused = tt;
+}
 
 pub returns-in_err-numbered : goal.returns-in_err-numbered
 returns-in_err-numbered g c = record {

@@ -1,4 +1,4 @@
-use Rattle.std.proofs.Common.{◌≡◌, [], ◌∷◌, ◌++◌, refl, sym, subst, ap, take, take_all, ◌∙◌, ◌+◌}
+use Rattle.std.proofs.Common.{arith, ◌≡◌, [], ◌∷◌, ◌++◌, refl, sym, subst, ap, take, take_all, ◌∙◌, ◌+◌}
 use Rattle.std.specs.Prelude.{map}
 use Rattle.std.proofs.lemmas.List.{map-append, take_more}
 use Rattle.std.proofs.lemmas.List.Elements.{All-nil, All-push, All-same}
@@ -34,15 +34,13 @@ loop-edge-preserved g c =
       weighed = All-same (IsWeighed g.F.Fn c.args.weigh.now) _ _ c.in_ok-push.ensures.items (All-push (IsWeighed g.F.Fn c.args.weigh.now) c.loop-edge.numbered.items _ c.loop-edge.invariant.weighed (record { shown = _; shows = refl; says = record { met = c.in_ok-weight.ensures } }));
     }
 
-pub returns-clause-numbered : goal.returns-clause-numbered
-returns-clause-numbered g c =
-    subst (λ xs. IsNumbered g.N.PartialEq.eq c.loop-edge.nodes.keys xs c.loop-edge.numbered.items) (take_all c.loop-edge.edge-index c.args.edges.now c.loop-edge-test.false) c.loop-edge.invariant.numbered
-
-pub returns-clause-in_order : goal.returns-clause-in_order
-returns-clause-in_order g c = c.loop-edge.invariant.in_order ∙ take_all c.loop-edge.edge-index c.args.edges.now c.loop-edge-test.false
-
-pub returns-clause-weighed : goal.returns-clause-weighed
-returns-clause-weighed g c = c.loop-edge.invariant.weighed
+pub returns : goal.returns
+returns g c = record {
+  numbered = subst (λ xs. IsNumbered g.N.PartialEq.eq c.loop-edge.nodes.keys xs c.loop-edge.numbered.items) (take_all c.loop-edge.edge-index c.args.edges.now c.loop-edge-test.false) c.loop-edge.invariant.numbered;
+  in_order = c.loop-edge.invariant.in_order ∙ take_all c.loop-edge.edge-index c.args.edges.now c.loop-edge-test.false;
+  weighed = c.loop-edge.invariant.weighed;
+  refused = tt;
+}
 
 pub returns-in_err-from : goal.returns-in_err-from
 returns-in_err-from g c = record {
@@ -75,3 +73,6 @@ returns-in_err-push g c = record {
   weighed = IfOk-from_err _ _ c.from_residual-in_err-push.ensures.0;
   refused = refused_by _ c.from_residual-in_err-push.result c.from_residual-in_err-push.ensures.1;
 }
+
+pub loop-edge-smaller : goal.loop-edge-smaller
+loop-edge-smaller g c = omega (arith, c.loop-edge-test.true)

@@ -58,10 +58,13 @@ turns-preserved g c =
           g.met.C.Ord.matches_eq c.requires.clones (heap_items c.next_leaving.new.queue) s c.in-Some.ensures.taken _ c.in_ok-clone.ensures.cases));
     }
 
-pub returns-clause-grown : goal.returns-clause-grown
-returns-clause-grown g c = λ nodes edges x r at.
-    let i = c.turns.invariant in
-    IsGrown-end g.met.N.Eq.laws nodes g.met.C.Ord.total edges c.args.rows.now r x c.turns.covered i.len (heap_items c.turns.queue) i.waits (map shown c.turns.tree.items) (i.grown nodes edges x r at) c.in_default.ensures.taken
+pub returns : goal.returns
+returns g c = record {
+  grown = λ nodes edges x r at.
+      let i = c.turns.invariant in
+      IsGrown-end g.met.N.Eq.laws nodes g.met.C.Ord.total edges c.args.rows.now r x c.turns.covered i.len (heap_items c.turns.queue) i.waits (map shown c.turns.tree.items) (i.grown nodes edges x r at) c.in_default.ensures.taken;
+  refused = tt;
+}
 
 pub cover-requires-clause-len : goal.cover-requires-clause-len
 cover-requires-clause-len g c = c.requires.len

@@ -14,24 +14,19 @@ use Rattle.pf_graph.proofs.Spanning.TreeLemmas.{grown_forest, grown_least}
 use Rattle.pf_graph.proofs.Outcomes.{refused_as, if_refused}
 use Rattle.pf_graph.proofs.undirected.prim.prim.Goals as goal
 
-pub returns-in_default-clause-none : goal.returns-in_default-clause-none
-returns-in_default-clause-none g c = λ _. c.new.ensures.items
-
-pub returns-in_default-clause-grown : goal.returns-in_default-clause-grown
-returns-in_default-clause-grown g c = λ start s.
-    let none = subst (λ es. slice_get es 0 ≡ None) c.deref.ensures.value (sym c.in_default.ensures.value) in
-    absurd (no_start c.args.edges.now c.in_ok-numbered.numbered.edges.items c.in_ok-numbered.ensures.in_order none start s)
-
-pub returns-in_default-clause-forest : goal.returns-in_default-clause-forest
-returns-in_default-clause-forest g c = subst (IsForest g.N.PartialEq.eq) (sym (ap (map shown) c.new.ensures.items)) IsForest-nil
-
-pub returns-in_default-clause-least : goal.returns-in_default-clause-least
-returns-in_default-clause-least g c = λ start s.
-    let none = subst (λ es. slice_get es 0 ≡ None) c.deref.ensures.value (sym c.in_default.ensures.value) in
-    absurd (no_start c.args.edges.now c.in_ok-numbered.numbered.edges.items c.in_ok-numbered.ensures.in_order none start s)
-
-pub returns-in_default-clause-as_written : goal.returns-in_default-clause-as_written
-returns-in_default-clause-as_written g c = record { as_written = λ e h. absurd (omega (arith, (subst (λ es. Contains es e) (ap (map shown) c.new.ensures.items) h).1)) }
+pub returns-in_default : goal.returns-in_default
+returns-in_default g c = record {
+  none = λ _. c.new.ensures.items;
+  grown = λ start s.
+      let none = subst (λ es. slice_get es 0 ≡ None) c.deref.ensures.value (sym c.in_default.ensures.value) in
+      absurd (no_start c.args.edges.now c.in_ok-numbered.numbered.edges.items c.in_ok-numbered.ensures.in_order none start s);
+  forest = subst (IsForest g.N.PartialEq.eq) (sym (ap (map shown) c.new.ensures.items)) IsForest-nil;
+  least = λ start s.
+      let none = subst (λ es. slice_get es 0 ≡ None) c.deref.ensures.value (sym c.in_default.ensures.value) in
+      absurd (no_start c.args.edges.now c.in_ok-numbered.numbered.edges.items c.in_ok-numbered.ensures.in_order none start s);
+  as_written = record { as_written = λ e h. absurd (omega (arith, (subst (λ es. Contains es e) (ap (map shown) c.new.ensures.items) h).1)) };
+  refused = tt;
+}
 
 pub rows_of-requires : goal.rows_of-requires
 rows_of-requires g c =
@@ -68,14 +63,8 @@ grow-requires-clause-steps g c =
     subst (λ rs. (k : ℕ) (s : _) → HasStep rs k s → s.number < length rs) (sym c.deref-3.ensures.value)
     (steps_inside c.args.edges.now c.in_ok-numbered.numbered.edges.items c.in_ok-numbered.ensures.in_order n.0 n.2 c.in_ok-rows.rows.items steps (c.in_ok-rows.ensures.len ∙ sym n.1))
 
-pub returns-clause-none : goal.returns-clause-none
-returns-clause-none g c = λ none.
-    let first = c.in-Some.first.now in
-    let at = subst (λ es. slice_get es 0 ≡ Some first) c.deref.ensures.value (sym c.in-Some.ensures.value) in
-    absurd (none_in 0 first.2.edge.now (subst (λ es. slice_get es 0 ≡ Some first.2.edge.now) none (first_is c.args.edges.now c.in_ok-numbered.numbered.edges.items c.in_ok-numbered.ensures.in_order first at)))
-
-pub returns-clause-grown : goal.returns-clause-grown
-returns-clause-grown g c =
+pub returns : goal.returns
+returns g c =
     let edges = c.args.edges.now in
     let numbered = c.in_ok-numbered.numbered.edges.items in
     let in_order = c.in_ok-numbered.ensures.in_order in
@@ -86,49 +75,17 @@ returns-clause-grown g c =
     let len = c.in_ok-rows.ensures.len ∙ sym n.1 in
     let rows = subst (λ rs. AreRows g.N.PartialEq.eq n.0 edges rs) (sym c.deref-3.ensures.value) (are_rows edges numbered in_order n.0 n.2 c.in_ok-rows.rows.items steps len) in
     let stands = first_stands edges numbered in_order n.0 n.2 c.in_ok-rows.rows.items steps len first at in
-    IfOk-weaker c.grow.result _ _ (λ tree p. let q = p n.0 edges first.2.edge.now.0 rows stands in λ start s. subst (λ z. GrowsByLeast g.N.PartialEq.eq g.N.Ord.cmp g.C.Ord.cmp edges z (map shown tree.items)) (start_is edges numbered in_order first at start s) q.0) c.grow.ensures.grown
-
-pub returns-clause-forest : goal.returns-clause-forest
-returns-clause-forest g c =
-    let edges = c.args.edges.now in
-    let numbered = c.in_ok-numbered.numbered.edges.items in
-    let in_order = c.in_ok-numbered.ensures.in_order in
-    let n = c.in_ok-numbered.ensures.numbered in
-    let first = c.in-Some.first.now in
-    let at = subst (λ es. slice_get es 0 ≡ Some first) c.deref.ensures.value (sym c.in-Some.ensures.value) in
-    let steps = subst (λ es. HoldSteps es c.in_ok-rows.rows.items) c.deref-2.ensures.value c.in_ok-rows.ensures.steps in
-    let len = c.in_ok-rows.ensures.len ∙ sym n.1 in
-    let rows = subst (λ rs. AreRows g.N.PartialEq.eq n.0 edges rs) (sym c.deref-3.ensures.value) (are_rows edges numbered in_order n.0 n.2 c.in_ok-rows.rows.items steps len) in
-    let stands = first_stands edges numbered in_order n.0 n.2 c.in_ok-rows.rows.items steps len first at in
-    IfOk-weaker c.grow.result _ _ (λ tree p. let q = p n.0 edges first.2.edge.now.0 rows stands in grown_forest g.met.N.Eq.laws first.2.edge.now.0 g.met.C.Ord.total edges g.met.C.Ord.matches_eq c.requires.clones (map shown tree.items) q.0 q.1) c.grow.ensures.grown
-
-pub returns-clause-least : goal.returns-clause-least
-returns-clause-least g c =
-    let edges = c.args.edges.now in
-    let numbered = c.in_ok-numbered.numbered.edges.items in
-    let in_order = c.in_ok-numbered.ensures.in_order in
-    let n = c.in_ok-numbered.ensures.numbered in
-    let first = c.in-Some.first.now in
-    let at = subst (λ es. slice_get es 0 ≡ Some first) c.deref.ensures.value (sym c.in-Some.ensures.value) in
-    let steps = subst (λ es. HoldSteps es c.in_ok-rows.rows.items) c.deref-2.ensures.value c.in_ok-rows.ensures.steps in
-    let len = c.in_ok-rows.ensures.len ∙ sym n.1 in
-    let rows = subst (λ rs. AreRows g.N.PartialEq.eq n.0 edges rs) (sym c.deref-3.ensures.value) (are_rows edges numbered in_order n.0 n.2 c.in_ok-rows.rows.items steps len) in
-    let stands = first_stands edges numbered in_order n.0 n.2 c.in_ok-rows.rows.items steps len first at in
-    IfOk-weaker c.grow.result _ _ (λ tree p. let q = p n.0 edges first.2.edge.now.0 rows stands in λ start s. subst (λ z. IsLeastAround g.N.PartialEq.eq g.C.Ord.cmp edges z (map shown tree.items)) (start_is edges numbered in_order first at start s) (grown_least g.met.N.Eq.laws first.2.edge.now.0 g.met.C.Ord.total edges g.met.C.Ord.matches_eq c.requires.clones (map shown tree.items) q.0 q.1)) c.grow.ensures.grown
-
-pub returns-clause-as_written : goal.returns-clause-as_written
-returns-clause-as_written g c =
-    let edges = c.args.edges.now in
-    let numbered = c.in_ok-numbered.numbered.edges.items in
-    let in_order = c.in_ok-numbered.ensures.in_order in
-    let n = c.in_ok-numbered.ensures.numbered in
-    let first = c.in-Some.first.now in
-    let at = subst (λ es. slice_get es 0 ≡ Some first) c.deref.ensures.value (sym c.in-Some.ensures.value) in
-    let steps = subst (λ es. HoldSteps es c.in_ok-rows.rows.items) c.deref-2.ensures.value c.in_ok-rows.ensures.steps in
-    let len = c.in_ok-rows.ensures.len ∙ sym n.1 in
-    let rows = subst (λ rs. AreRows g.N.PartialEq.eq n.0 edges rs) (sym c.deref-3.ensures.value) (are_rows edges numbered in_order n.0 n.2 c.in_ok-rows.rows.items steps len) in
-    let stands = first_stands edges numbered in_order n.0 n.2 c.in_ok-rows.rows.items steps len first at in
-    IfOk-weaker c.grow.result _ _ (λ tree p. let q = p n.0 edges first.2.edge.now.0 rows stands in q.1) c.grow.ensures.grown
+    record {
+      none = λ none.
+          let first = c.in-Some.first.now in
+          let at = subst (λ es. slice_get es 0 ≡ Some first) c.deref.ensures.value (sym c.in-Some.ensures.value) in
+          absurd (none_in 0 first.2.edge.now (subst (λ es. slice_get es 0 ≡ Some first.2.edge.now) none (first_is c.args.edges.now c.in_ok-numbered.numbered.edges.items c.in_ok-numbered.ensures.in_order first at)));
+      grown = IfOk-weaker c.grow.result _ _ (λ tree p. let q = p n.0 edges first.2.edge.now.0 rows stands in λ start s. subst (λ z. GrowsByLeast g.N.PartialEq.eq g.N.Ord.cmp g.C.Ord.cmp edges z (map shown tree.items)) (start_is edges numbered in_order first at start s) q.0) c.grow.ensures.grown;
+      forest = IfOk-weaker c.grow.result _ _ (λ tree p. let q = p n.0 edges first.2.edge.now.0 rows stands in grown_forest g.met.N.Eq.laws first.2.edge.now.0 g.met.C.Ord.total edges g.met.C.Ord.matches_eq c.requires.clones (map shown tree.items) q.0 q.1) c.grow.ensures.grown;
+      least = IfOk-weaker c.grow.result _ _ (λ tree p. let q = p n.0 edges first.2.edge.now.0 rows stands in λ start s. subst (λ z. IsLeastAround g.N.PartialEq.eq g.C.Ord.cmp edges z (map shown tree.items)) (start_is edges numbered in_order first at start s) (grown_least g.met.N.Eq.laws first.2.edge.now.0 g.met.C.Ord.total edges g.met.C.Ord.matches_eq c.requires.clones (map shown tree.items) q.0 q.1)) c.grow.ensures.grown;
+      as_written = IfOk-weaker c.grow.result _ _ (λ tree p. let q = p n.0 edges first.2.edge.now.0 rows stands in q.1) c.grow.ensures.grown;
+      refused = c.grow.ensures.refused;
+    }
 
 pub returns-in_err-numbered : goal.returns-in_err-numbered
 returns-in_err-numbered g c = record {

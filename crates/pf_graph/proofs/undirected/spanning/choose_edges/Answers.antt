@@ -1,4 +1,4 @@
-use Rattle.std.proofs.Common.{◌≡◌, sym, ◌∙◌, subst, rules, length, ◌∷◌, ◌++◌, [], ◌<◌, vec_len}
+use Rattle.std.proofs.Common.{◌≡◌, sym, ◌∙◌, subst, length, ◌∷◌, ◌++◌, [], ◌<◌, vec_len}
 use Rattle.std.specs.Prelude.{Contains}
 use Rattle.std.proofs.lemmas.List.{map-id}
 use Rattle.std.proofs.lemmas.Iterator.Adapters.{YieldsList-from_vec}
@@ -16,14 +16,14 @@ edges-init g c = record {
 
 pub unite-requires-clause-inside : goal.unite-requires-clause-inside
 unite-requires-clause-inside g c =
-    let len : vec_len c.args.sorted ≡ length c.args.sorted.items = search rules in
+    let len : vec_len c.args.sorted ≡ length c.args.sorted.items = c.args.sorted.ok.0 in
     let road = YieldsList-from_vec c.args.sorted.items c.into_iter-edge-iterator.ensures.into_iter_gives.0 (c.into_iter-edge-iterator.ensures.into_iter_gives.1 ∙ len) in
     let t = YieldsList-turn road c.edges.yielded c.edges.edge-iterator c.edges.yielded_by c.next.result c.next.new.self c.in-Some.edge c.in-Some.is c.next.ensures.steps in
     rw c.edges.auto.vertices (subst (λ e. (e.0 < length c.args.vertices.now) × (e.1 < length c.args.vertices.now)) (sym t.1) (c.requires.below (length c.edges.yielded) c.in-Some.edge t.0))
 
 pub edges-preserved : goal.edges-preserved
 edges-preserved g c =
-    let len : vec_len c.args.sorted ≡ length c.args.sorted.items = search rules in
+    let len : vec_len c.args.sorted ≡ length c.args.sorted.items = c.args.sorted.ok.0 in
     let road = YieldsList-from_vec c.args.sorted.items c.into_iter-edge-iterator.ensures.into_iter_gives.0 (c.into_iter-edge-iterator.ensures.into_iter_gives.1 ∙ len) in
     let t = YieldsList-turn road c.edges.yielded c.edges.edge-iterator c.edges.yielded_by c.next.result c.next.new.self c.in-Some.edge c.in-Some.is c.next.ensures.steps in
     let so_far = YieldsList-so_far road c.edges.yielded c.edges.edge-iterator c.edges.yielded_by in
@@ -38,7 +38,7 @@ edges-preserved g c =
 
 pub edges-preserved-in-Continue-1 : goal.edges-preserved-in-Continue-1
 edges-preserved-in-Continue-1 g c =
-    let len : vec_len c.args.sorted ≡ length c.args.sorted.items = search rules in
+    let len : vec_len c.args.sorted ≡ length c.args.sorted.items = c.args.sorted.ok.0 in
     let road = YieldsList-from_vec c.args.sorted.items c.into_iter-edge-iterator.ensures.into_iter_gives.0 (c.into_iter-edge-iterator.ensures.into_iter_gives.1 ∙ len) in
     let t = YieldsList-turn road c.edges.yielded c.edges.edge-iterator c.edges.yielded_by c.next.result c.next.new.self c.in-Some.edge c.in-Some.is c.next.ensures.steps in
     let so_far = YieldsList-so_far road c.edges.yielded c.edges.edge-iterator c.edges.yielded_by in
@@ -54,7 +54,7 @@ edges-preserved-in-Continue-1 g c =
 
 pub returns-clause-given : goal.returns-clause-given
 returns-clause-given g c = λ e h.
-    let len : vec_len c.args.sorted ≡ length c.args.sorted.items = search rules in
+    let len : vec_len c.args.sorted ≡ length c.args.sorted.items = c.args.sorted.ok.0 in
     let road = YieldsList-from_vec c.args.sorted.items c.into_iter-edge-iterator.ensures.into_iter_gives.0 (c.into_iter-edge-iterator.ensures.into_iter_gives.1 ∙ len) in
     let all = YieldsList-end road c.edges.yielded c.edges.edge-iterator c.edges.yielded_by c.next.result c.next.new.self c.in-None.is c.next.ensures.steps in
     subst (λ xs. Contains xs e) (sym (map-id c.edges.yielded) ∙ all.0) (c.edges.invariant.grown.from e h)

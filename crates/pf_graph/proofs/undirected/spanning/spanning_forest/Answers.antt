@@ -18,25 +18,21 @@ pub choose_edges-requires-clause-sorted : goal.choose_edges-requires-clause-sort
 choose_edges-requires-clause-sorted g c =
     c.sort_unstable_by.ensures.sorted (λ e f. is_lt (g.C.Ord.cmp e.2 f.2)) (ranks_by g.met.C.Ord.total (λ e. e.2)) (answers_always _ _ _ (λ f a r f' k. search rules))
 
-pub returns-clause-least : goal.returns-clause-least
-returns-clause-least g c =
-    least_of_permutation c.args.edges.items c.sort_unstable_by.new.self.items c.choose_edges.new.chosen.items c.sort_unstable_by.ensures.permutation c.in_ok-choose_edges.ensures.least
-
-pub returns-clause-given : goal.returns-clause-given
-returns-clause-given g c = λ e h.
-    Contains-permutation c.sort_unstable_by.new.self.items c.args.edges.items e (IsPermutation-sym c.args.edges.items c.sort_unstable_by.new.self.items c.sort_unstable_by.ensures.permutation) (c.in_ok-choose_edges.ensures.given e h)
-
 pub choose_edges-requires-clause-sound : goal.choose_edges-requires-clause-sound
 choose_edges-requires-clause-sound g c = subst IsSound (sym c.deref_mut.ensures.value) c.in_ok-vertices.ensures.sound
 
 pub choose_edges-requires-clause-singletons : goal.choose_edges-requires-clause-singletons
 choose_edges-requires-clause-singletons g c = subst (IsLabelling (λ x. x)) (sym c.deref_mut.ensures.value) c.in_ok-vertices.ensures.labels
 
-pub returns-clause-forest : goal.returns-clause-forest
-returns-clause-forest g c = c.in_ok-choose_edges.ensures.forest
-
-pub returns-clause-sorted : goal.returns-clause-sorted
-returns-clause-sorted g c = c.in_ok-choose_edges.ensures.sorted
+pub returns : goal.returns
+returns g c = record {
+  least = least_of_permutation c.args.edges.items c.sort_unstable_by.new.self.items c.choose_edges.new.chosen.items c.sort_unstable_by.ensures.permutation c.in_ok-choose_edges.ensures.least;
+  given = λ e h.
+      Contains-permutation c.sort_unstable_by.new.self.items c.args.edges.items e (IsPermutation-sym c.args.edges.items c.sort_unstable_by.new.self.items c.sort_unstable_by.ensures.permutation) (c.in_ok-choose_edges.ensures.given e h);
+  forest = c.in_ok-choose_edges.ensures.forest;
+  sorted = c.in_ok-choose_edges.ensures.sorted;
+  refused = tt;
+}
 
 pub returns-in_err-vertices : goal.returns-in_err-vertices
 returns-in_err-vertices g c = record {

@@ -1,4 +1,4 @@
-use Rattle.std.proofs.Common.{◌∙◌, sym, rules, slice_index_or}
+use Rattle.std.proofs.Common.{◌∙◌, refl, sym, slice_index_or}
 use Rattle.std.proofs.lemmas.Option.{slice_get-get_or}
 use Rattle.pf_graph.specs.declared.undirected.union_find.Vertex.{Vertex}
 use Rattle.pf_graph.proofs.UnionFindLemmas.{Halved-led, led_smaller, parent_is}
@@ -32,14 +32,35 @@ climb-smaller c =
     let up = slice_get-get_or vs v.parent d (i.sound.inside c.climb.node v at) in
     led_smaller vs i.sound c.climb.node v u at up c.climb-test.true
 
-pub returns-clause-root : goal.returns-clause-root
-returns-clause-root c =
-    let d : Vertex = record { parent = 0; size = 0 } in
-    parent_is c.climb.vertices c.climb.node (slice_index_or c.climb.vertices c.climb.node d) (slice_get-get_or c.climb.vertices c.climb.node d c.climb.invariant.inside) ∙ search rules
+pub climb-init : goal.climb-init
+climb-init c = record { sound = c.requires.sound; inside = c.requires.inside; roots = λ x r. r; labels = λ label l. (l, refl) }
 
-pub returns-clause-labels : goal.returns-clause-labels
-returns-clause-labels c = λ label l.
-    let i = c.climb.invariant.labels label l in
+pub bounds-vertices-node : goal.bounds-vertices-node
+bounds-vertices-node c = c.climb.invariant.inside
+
+pub bounds-vertices-node-in-climb : goal.bounds-vertices-node-in-climb
+bounds-vertices-node-in-climb c = c.climb.invariant.inside
+
+pub bounds-vertices-node-in-climb-2 : goal.bounds-vertices-node-in-climb-2
+bounds-vertices-node-in-climb-2 c = c.climb.invariant.inside
+
+pub bounds-vertices-vertices : goal.bounds-vertices-vertices
+bounds-vertices-vertices c =
+    let i = c.climb.invariant in
     let d : Vertex = record { parent = 0; size = 0 } in
-    let root = parent_is c.climb.vertices c.climb.node (slice_index_or c.climb.vertices c.climb.node d) (slice_get-get_or c.climb.vertices c.climb.node d c.climb.invariant.inside) ∙ search rules in
-    (i.0, sym (i.0.at_root c.climb.node root) ∙ i.1)
+    i.sound.inside c.climb.node (slice_index_or c.climb.vertices c.climb.node d) (slice_get-get_or c.climb.vertices c.climb.node d i.inside)
+
+pub returns : goal.returns
+returns c = record {
+  root =
+      let d : Vertex = record { parent = 0; size = 0 } in
+      parent_is c.climb.vertices c.climb.node (slice_index_or c.climb.vertices c.climb.node d) (slice_get-get_or c.climb.vertices c.climb.node d c.climb.invariant.inside) ∙ c.climb-test.false;
+  labels = λ label l.
+      let i = c.climb.invariant.labels label l in
+      let d : Vertex = record { parent = 0; size = 0 } in
+      let root = parent_is c.climb.vertices c.climb.node (slice_index_or c.climb.vertices c.climb.node d) (slice_get-get_or c.climb.vertices c.climb.node d c.climb.invariant.inside) ∙ c.climb-test.false in
+      (i.0, sym (i.0.at_root c.climb.node root) ∙ i.1);
+  sound = c.climb.invariant.sound;
+  inside = c.climb.invariant.inside;
+  roots = c.climb.invariant.roots;
+}

@@ -33,20 +33,12 @@ close_places-requires g c = record {
   inside = inside_path c.in_ok-component.component c.deref.result.now c.args.self.now.path.items c.args.begin c.in_ok-component.ensures.items c.deref.ensures.value _ _ _ c.deref-2.ensures.value c.requires.inside (ap length c.deref_mut.ensures.value);
 }
 
-pub returns-clause-waiting : goal.returns-clause-waiting
-returns-clause-waiting g c = refl
-
-pub returns-clause-path : goal.returns-clause-path
-returns-clause-path g c = c.truncate.ensures.items
-
-pub returns-clause-segments : goal.returns-clause-segments
-returns-clause-segments g c = popped c.args.self.now.segments.items c.args.self.now.segments.items _ _ c.pop.ensures.rest (sym c.args.self.now.segments.ok.0) refl
-
-pub returns-clause-components : goal.returns-clause-components
-returns-clause-components g c = component_put c.in_ok-component.component c.deref.result.now c.args.self.now.path.items c.args.begin c.in_ok-component.ensures.items c.deref.ensures.value _ _ c.in_ok-push.ensures.items
-
-pub returns-clause-places : goal.returns-clause-places
-returns-clause-places g c = places_closed c.in_ok-component.component c.deref.result.now c.args.self.now.path.items c.args.begin c.in_ok-component.ensures.items c.deref.ensures.value _ _ _ _ _ c.deref-2.ensures.value c.deref_mut.ensures.value c.args.self.now.places.ok.0 c.close_places.ensures
-
-pub returns-clause-refused : goal.returns-clause-refused
-returns-clause-refused g c = tt
+pub returns : goal.returns
+returns g c = record {
+  waiting = refl;
+  path = c.truncate.ensures.items;
+  segments = popped c.args.self.now.segments.items c.args.self.now.segments.items _ _ c.pop.ensures.rest (sym c.args.self.now.segments.ok.0) refl;
+  components = component_put c.in_ok-component.component c.deref.result.now c.args.self.now.path.items c.args.begin c.in_ok-component.ensures.items c.deref.ensures.value _ _ c.in_ok-push.ensures.items;
+  places = places_closed c.in_ok-component.component c.deref.result.now c.args.self.now.path.items c.args.begin c.in_ok-component.ensures.items c.deref.ensures.value _ _ _ _ _ c.deref-2.ensures.value c.deref_mut.ensures.value c.args.self.now.places.ok.0 c.close_places.ensures;
+  refused = tt;
+}

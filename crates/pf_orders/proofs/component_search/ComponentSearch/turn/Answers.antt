@@ -130,8 +130,8 @@ returns-in_ok-visit-in-New g c =
           let named = o.named _ _ last in
           let step = g.G.NumberedGraph.step h in
           path_visited _ _ _ _ _ _ p _ last new c.in_default.ensures.left _ _ c.found.ensures c.expand.new.row.items _ _ _ _ e.places e.path e.waiting e.segments step _ _ grows o
-          (list_linked g.C.Number.value step _ _ _ _ grows _ below named l.0 c.expand.new.row.items l.1 (l.4 h x))
-          (list_complete g.C.Number.value step _ _ _ _ grows _ below named l.0 c.expand.new.row.items l.1 (l.4 h x));
+          (list_linked _ step _ _ _ _ grows _ below named l.0 c.expand.new.row.items l.1 (l.4 h x))
+          (list_complete _ step _ _ _ _ grows _ below named l.0 c.expand.new.row.items l.1 (l.4 h x));
       closing = λ h x o k. closed_grows _ _ _ _ _ _ p _ _ _ _ grows _ (ap lists_of e.components) k;
       ended = λ e. absurd (true≢false e);
       refused = tt;

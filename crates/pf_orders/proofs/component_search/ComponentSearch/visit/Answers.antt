@@ -55,22 +55,14 @@ returns-in_err-extend_from_slice g c =
 pub index_mut-requires : goal.index_mut-requires
 index_mut-requires g c = omega (arith, c.requires.inside, c.requires.found, c.in_ok-resize.ensures.len)
 
-pub returns-clause-path : goal.returns-clause-path
-returns-clause-path g c = c.in_ok-push-2.ensures.items
-
-pub returns-clause-waiting : goal.returns-clause-waiting
-returns-clause-waiting g c =
-    let waiting = c.args.self.now.waiting.items in
-    c.in_ok-extend_from_slice.ensures.items ∙ ap (λ (ks : List ℕ). ks ++ c.deref.result.now) (popped waiting waiting _ _ c.pop.ensures.rest (sym c.args.self.now.waiting.ok.0) refl) ∙ ap (λ (ks : List ℕ). take (length waiting - 1) waiting ++ ks) c.deref.ensures.value
-
-pub returns-clause-segments : goal.returns-clause-segments
-returns-clause-segments g c = segment_begun _ _ _ _ c.args.self.now.path.items c.args.self.now.waiting.items c.pop.new.self.items c.in_ok-push.ensures.items (c.len-2.ensures ∙ c.args.self.now.path.ok.0) (c.len-3.ensures ∙ c.pop.new.self.ok.0) (popped c.args.self.now.waiting.items c.args.self.now.waiting.items _ _ c.pop.ensures.rest (sym c.args.self.now.waiting.ok.0) refl)
-
-pub returns-clause-places : goal.returns-clause-places
-returns-clause-places g c = place_opened c.args.self.now.places.items c.resize.new.self.items c.args.found c.args.number c.len.result c.args.self.now.path.items _ c.in_ok-resize.ensures.items c.args.self.now.places.ok.0 c.requires.found (c.len.ensures ∙ c.args.self.now.path.ok.0)
-
-pub returns-clause-components : goal.returns-clause-components
-returns-clause-components g c = refl
-
-pub returns-clause-refused : goal.returns-clause-refused
-returns-clause-refused g c = tt
+pub returns : goal.returns
+returns g c = record {
+  path = c.in_ok-push-2.ensures.items;
+  waiting =
+      let waiting = c.args.self.now.waiting.items in
+      c.in_ok-extend_from_slice.ensures.items ∙ ap (λ (ks : List ℕ). ks ++ c.deref.result.now) (popped waiting waiting _ _ c.pop.ensures.rest (sym c.args.self.now.waiting.ok.0) refl) ∙ ap (λ (ks : List ℕ). take (length waiting - 1) waiting ++ ks) c.deref.ensures.value;
+  segments = segment_begun _ _ _ _ c.args.self.now.path.items c.args.self.now.waiting.items c.pop.new.self.items c.in_ok-push.ensures.items (c.len-2.ensures ∙ c.args.self.now.path.ok.0) (c.len-3.ensures ∙ c.pop.new.self.ok.0) (popped c.args.self.now.waiting.items c.args.self.now.waiting.items _ _ c.pop.ensures.rest (sym c.args.self.now.waiting.ok.0) refl);
+  places = place_opened c.args.self.now.places.items c.resize.new.self.items c.args.found c.args.number c.len.result c.args.self.now.path.items _ c.in_ok-resize.ensures.items c.args.self.now.places.ok.0 c.requires.found (c.len.ensures ∙ c.args.self.now.path.ok.0);
+  components = refl;
+  refused = tt;
+}

@@ -12,8 +12,11 @@ unreachable-requires g c =
     let none = none_popped items c.pop.new.self.items _ c.in-None.ensures.items c.in-None.ensures.rest c.in-None.ensures.cases.0 in
     omega (arith, l, ap (λ vs. length (lists_of vs)) none)
 
-pub returns-clause-component : goal.returns-clause-component
-returns-clause-component g c = λ next a.
-    let items = c.in_ok-components.components.items in
-    let last = last_list items c.pop.new.self.items c.in-Some.component c.in-Some.ensures.items in
-    last_component g.N.PartialEq.eq g.met.N.Eq.laws next c.args.node.now (lists_of items) (c.in_ok-components.ensures.components next a) (length (lists_of c.pop.new.self.items)) c.in-Some.component.items last.0 last.1
+pub returns : goal.returns
+returns g c = record {
+  component = λ next a.
+      let items = c.in_ok-components.components.items in
+      let last = last_list items c.pop.new.self.items c.in-Some.component c.in-Some.ensures.items in
+      last_component g.N.PartialEq.eq g.met.N.Eq.laws next c.args.node.now (lists_of items) (c.in_ok-components.ensures.components next a) (length (lists_of c.pop.new.self.items)) c.in-Some.component.items last.0 last.1;
+  errors = tt;
+}

@@ -7,5 +7,8 @@ components_of-requires-clause-graph g c =
     let e = c.in_ok-nodes_of.ensures in
     (c.args.nodes.now, r.0, begins g.met.N.Eq.laws e.distinct e.same r.1)
 
-pub returns-clause-components : goal.returns-clause-components
-returns-clause-components g c = λ next a. let e = c.in_ok-nodes_of.ensures in c.components_of.ensures.components c.args.nodes.now next (begins g.met.N.Eq.laws e.distinct e.same a)
+pub returns : goal.returns
+returns g c = record {
+  components = λ next a. let e = c.in_ok-nodes_of.ensures in c.components_of.ensures.components c.args.nodes.now next (begins g.met.N.Eq.laws e.distinct e.same a);
+  errors = c.components_of.ensures.refused;
+}

@@ -8,5 +8,8 @@ components_of-requires-clause-graph g c =
     let e = c.in_ok-clone_of.ensures in
     (c.args.start.now ∷ [], r.0, begins g.met.N.Eq.laws e.distinct e.same r.1)
 
-pub returns-clause-components : goal.returns-clause-components
-returns-clause-components g c = λ next a. let e = c.in_ok-clone_of.ensures in c.components_of.ensures.components (c.args.start.now ∷ []) next (begins g.met.N.Eq.laws e.distinct e.same a)
+pub returns : goal.returns
+returns g c = record {
+  components = λ next a. let e = c.in_ok-clone_of.ensures in c.components_of.ensures.components (c.args.start.now ∷ []) next (begins g.met.N.Eq.laws e.distinct e.same a);
+  errors = c.components_of.ensures.refused;
+}

@@ -7,11 +7,11 @@ order_in-requires-clause-graph g c =
     let e = c.in_ok-nodes_of.ensures in
     (c.args.roots.now, r.0, begins g.met.N.Eq.laws e.distinct e.same r.1)
 
-pub returns-clause-order : goal.returns-clause-order
-returns-clause-order g c = λ next a. let e = c.in_ok-nodes_of.ensures in c.order_in.ensures.order c.args.roots.now next (begins g.met.N.Eq.laws e.distinct e.same a)
-
-pub returns-clause-cycle : goal.returns-clause-cycle
-returns-clause-cycle g c = λ next a. let e = c.in_ok-nodes_of.ensures in c.order_in.ensures.cycle c.args.roots.now next (begins g.met.N.Eq.laws e.distinct e.same a)
-
-pub returns-clause-asked : goal.returns-clause-asked
-returns-clause-asked g c = λ next a. let e = c.in_ok-nodes_of.ensures in c.order_in.ensures.asked c.args.roots.now next (begins g.met.N.Eq.laws e.distinct e.same a)
+pub returns : goal.returns
+returns g c = record {
+  order = λ next a. let e = c.in_ok-nodes_of.ensures in c.order_in.ensures.order c.args.roots.now next (begins g.met.N.Eq.laws e.distinct e.same a);
+  cycle = λ next a. let e = c.in_ok-nodes_of.ensures in c.order_in.ensures.cycle c.args.roots.now next (begins g.met.N.Eq.laws e.distinct e.same a);
+  asked = λ next a. let e = c.in_ok-nodes_of.ensures in c.order_in.ensures.asked c.args.roots.now next (begins g.met.N.Eq.laws e.distinct e.same a);
+  errors = c.order_in.ensures.errors;
+  ticked = c.order_in.ensures.ticked;
+}

@@ -63,9 +63,15 @@ roots-preserved g c =
       ];
     }
 
-pub returns-clause-turns : goal.returns-clause-turns
-returns-clause-turns g c =
-    let e : c.reverse.new.self.items ≡ reverse c.roots.turns.items = c.reverse.ensures.items in (
-      (λ k l. subst (λ (ts : List Turn). Contains ts (Turn.Enter k)) (sym e) (to_reverse c.roots.turns.items (Turn.Enter k) (c.roots.invariant.listed k (omega (arith, l, c.roots-test.false, c.roots.auto.root-end))))),
-      (λ t h. c.roots.invariant.only t (Contains-reverse c.roots.turns.items t (subst (λ (ts : List Turn). Contains ts t) e h))),
-    )
+pub returns : goal.returns
+returns g c =
+    let e : c.reverse.new.self.items ≡ reverse c.roots.turns.items = c.reverse.ensures.items in
+    record {
+      marks = c.roots.invariant.marks;
+      turns = (
+        (λ k l. subst (λ (ts : List Turn). Contains ts (Turn.Enter k)) (sym e) (to_reverse c.roots.turns.items (Turn.Enter k) (c.roots.invariant.listed k (omega (arith, l, c.roots-test.false, c.roots.auto.root-end))))),
+        (λ t h. c.roots.invariant.only t (Contains-reverse c.roots.turns.items t (subst (λ (ts : List Turn). Contains ts t) e h))),
+      );
+      left = c.new.ensures.items;
+      refused = tt;
+    }

@@ -64,36 +64,28 @@ returns-in_err-push g c =
       refused = refused_as _ r.result _ r.ensures.1 refl;
     }
 
-pub returns-clause-grows : goal.returns-clause-grows
-returns-clause-grows g c = c.in_ok-expand.ensures.grows
-
-pub returns-clause-graph : goal.returns-clause-graph
-returns-clause-graph g c = c.in_ok-expand.ensures.graph
-
-pub returns-clause-left : goal.returns-clause-left
-returns-clause-left g c = on_any c.put_entries.result refl
-
-pub returns-clause-turns : goal.returns-clause-turns
-returns-clause-turns g c =
-    let old = c.args.self.now.turns.items in
-    let number = c.args.number in
-    let row = c.expand.new.row.items in
-    let pushed : c.push.new.self.items ≡ old ++ Turn.Leave number ∷ [] = c.in_ok-push.ensures.items in
-    let turned : c.deref.result.now ≡ reverse row = c.deref.ensures.value ∙ c.reverse.ensures.items in
-    let p = c.in_ok-expand.ensures.placed in
-    let l = c.in_ok-expand.ensures.listed in
-    on_ok c.put_entries.result c.put_entries.ensures.put (λ put. (
-      row,
-      put ∙ ap (λ ts. ts ++ entries c.deref.result.now) pushed ∙ append_assoc old (Turn.Leave number ∷ []) (entries c.deref.result.now) ∙ ap (λ ks. old ++ Turn.Leave number ∷ entries ks) turned,
-      (λ k h. let q = step_of l.0 k (subst (λ (ks : List ℕ). Contains ks k) l.1 h) in l.2 k q.0 q.1),
-      (λ h e x s. subst (λ ns. AllZip (g.G.NumberedGraph.stands c.expand.new.self) ns (g.G.NumberedGraph.successors h x)) (sym p.1) (ends_stand _ p.0 _ (p.2 h e x s))),
-    ))
-
-pub returns-clause-refused : goal.returns-clause-refused
-returns-clause-refused g c = c.put_entries.ensures.refused
-
-pub returns-clause-marks : goal.returns-clause-marks
-returns-clause-marks g c =
-    let r = c.requires in
-    let e = c.in_ok-expand.ensures in
-    on_any c.put_entries.result (marks_opened c.args.self.now.marks.items c.resize.new.self.items c.args.number c.found.result _ _ c.in_ok-resize.ensures.items c.args.self.now.marks.ok.0 c.found.ensures (subst (λ (n : ℕ). n ≤ g.G.NumberedGraph.found c.expand.new.self) (sym r.marked) e.grows.more))
+pub returns : goal.returns
+returns g c = record {
+  grows = c.in_ok-expand.ensures.grows;
+  graph = c.in_ok-expand.ensures.graph;
+  left = on_any c.put_entries.result refl;
+  turns =
+      let old = c.args.self.now.turns.items in
+      let number = c.args.number in
+      let row = c.expand.new.row.items in
+      let pushed : c.push.new.self.items ≡ old ++ Turn.Leave number ∷ [] = c.in_ok-push.ensures.items in
+      let turned : c.deref.result.now ≡ reverse row = c.deref.ensures.value ∙ c.reverse.ensures.items in
+      let p = c.in_ok-expand.ensures.placed in
+      let l = c.in_ok-expand.ensures.listed in
+      on_ok c.put_entries.result c.put_entries.ensures.put (λ put. (
+        row,
+        put ∙ ap (λ ts. ts ++ entries c.deref.result.now) pushed ∙ append_assoc old (Turn.Leave number ∷ []) (entries c.deref.result.now) ∙ ap (λ ks. old ++ Turn.Leave number ∷ entries ks) turned,
+        (λ k h. let q = step_of l.0 k (subst (λ (ks : List ℕ). Contains ks k) l.1 h) in l.2 k q.0 q.1),
+        (λ h e x s. subst (λ ns. AllZip (g.G.NumberedGraph.stands c.expand.new.self) ns (g.G.NumberedGraph.successors h x)) (sym p.1) (ends_stand _ p.0 _ (p.2 h e x s))),
+      ));
+  refused = c.put_entries.ensures.refused;
+  marks =
+      let r = c.requires in
+      let e = c.in_ok-expand.ensures in
+      on_any c.put_entries.result (marks_opened c.args.self.now.marks.items c.resize.new.self.items c.args.number c.found.result _ _ c.in_ok-resize.ensures.items c.args.self.now.marks.ok.0 c.found.ensures (subst (λ (n : ℕ). n ≤ g.G.NumberedGraph.found c.expand.new.self) (sym r.marked) e.grows.more));
+}

@@ -9,11 +9,6 @@ first_value-requires-clause-steps g c =
     let m = c.in_ok-length.ensures.cycle r.0 r.1 in
     (r.0, r.1, cycle_repeats g.met.T.Eq.laws r.1.alike c.in_ok-length.length m.0 c.in_ok-length.steps m.1 (omega (arith, m.2.sum, m.2.from_index)))
 
-pub returns-clause-cycle : goal.returns-clause-cycle
-returns-clause-cycle g c = λ next a.
-    let m = c.in_ok-length.ensures.cycle next a in
-    cycle_first g.met.T.Eq.laws a.alike c.in_ok-length.length m.0 c.in_ok-value.index m.1 (c.in_ok-value.ensures.repeats next a) (c.in_ok-value.ensures.first next a)
-
 pub returns-in_err-length : goal.returns-in_err-length
 returns-in_err-length g c = record {
   cycle = λ next a. if_refused _ c.from_residual.result _ c.from_residual.ensures.1;
@@ -21,8 +16,11 @@ returns-in_err-length g c = record {
   refused = λ next a. refused_as _ c.from_residual.result _ c.from_residual.ensures.1 (c.in_err-length.ensures.refused next a);
 }
 
-pub returns-clause-value : goal.returns-clause-value
-returns-clause-value g c = λ next a. c.in_ok-value.ensures.value next a
-
-pub returns-clause-refused : goal.returns-clause-refused
-returns-clause-refused g c = λ next a. tt
+pub returns : goal.returns
+returns g c = record {
+  cycle = λ next a.
+      let m = c.in_ok-length.ensures.cycle next a in
+      cycle_first g.met.T.Eq.laws a.alike c.in_ok-length.length m.0 c.in_ok-value.index m.1 (c.in_ok-value.ensures.repeats next a) (c.in_ok-value.ensures.first next a);
+  value = λ next a. c.in_ok-value.ensures.value next a;
+  refused = λ next a. tt;
+}

@@ -20,13 +20,6 @@ loop-power-init g c = λ next a.
     (c.requires.clones c.args.start.now c.in_ok-waiting.waiting c.in_ok-waiting.ensures.cases) first
     (a.answers c.in_ok-clone.field-0 c.call-moving.result (0, first) c.call-moving.ensures)
 
-pub returns-in_err-power-clause-refused : goal.returns-in_err-power-clause-refused
-returns-in_err-power-clause-refused g c = λ next a.
-    let differs = differ (g.T.PartialEq.eq c.loop-power.waiting c.loop-power.moving) c.ne.result c.ne.ensures c.loop-power-test.true in
-    let past = round_refused g.met.T.Eq.laws a.alike c.loop-power.waiting c.loop-power.moving c.loop-power.power c.loop-power.length (c.loop-power.invariant next a) differs c.if-length-power.true c.in_err-power.ensures.refused.1 in
-    let refused : IsStepRefusal g.T.PartialEq.eq next c.args.start.now c.in_err-power.field-0.0 = inr (c.in_err-power.ensures.refused.0, past) in
-    refused_as (IsStepRefusal g.T.PartialEq.eq next c.args.start.now) c.from_residual-in_err-power.result c.in_err-power.field-0.0 c.from_residual-in_err-power.ensures.1 refused
-
 pub step-moving-requires : goal.step-moving-requires
 step-moving-requires g c =
     let r = c.requires.steps in
@@ -76,19 +69,25 @@ overflow_add-result g c =
     let i = c.loop-power.invariant r.0 r.1 in
     omega (arith, i.within, power_fits i.exponent c.loop-power.power i.is_power (omega (arith, c.loop-power.auto.power-fits)))
 
-pub returns-clause-cycle : goal.returns-clause-cycle
-returns-clause-cycle g c = λ next a.
-    round_met g.met.T.Eq.laws a.alike c.loop-power.waiting c.loop-power.moving c.loop-power.power c.loop-power.length (c.loop-power.invariant next a)
-    (agree (g.T.PartialEq.eq c.loop-power.waiting c.loop-power.moving) c.ne.result c.ne.ensures c.loop-power-test.false)
+pub returns : goal.returns
+returns g c = record {
+  cycle = λ next a.
+      round_met g.met.T.Eq.laws a.alike c.loop-power.waiting c.loop-power.moving c.loop-power.power c.loop-power.length (c.loop-power.invariant next a)
+      (agree (g.T.PartialEq.eq c.loop-power.waiting c.loop-power.moving) c.ne.result c.ne.ensures c.loop-power-test.false);
+  value = λ next a. (c.loop-power.invariant next a).moves;
+  refused = λ next a. tt;
+}
 
-pub returns-clause-value : goal.returns-clause-value
-returns-clause-value g c = λ next a. (c.loop-power.invariant next a).moves
-
-pub returns-in_err-power-clause-cycle : goal.returns-in_err-power-clause-cycle
-returns-in_err-power-clause-cycle g c = λ next a. IfOk-from_err _ _ c.from_residual-in_err-power.ensures.0
-
-pub returns-in_err-power-clause-value : goal.returns-in_err-power-clause-value
-returns-in_err-power-clause-value g c = λ next a. IfOk-from_err _ _ c.from_residual-in_err-power.ensures.0
+pub returns-in_err-power : goal.returns-in_err-power
+returns-in_err-power g c = record {
+  refused = λ next a.
+      let differs = differ (g.T.PartialEq.eq c.loop-power.waiting c.loop-power.moving) c.ne.result c.ne.ensures c.loop-power-test.true in
+      let past = round_refused g.met.T.Eq.laws a.alike c.loop-power.waiting c.loop-power.moving c.loop-power.power c.loop-power.length (c.loop-power.invariant next a) differs c.if-length-power.true c.in_err-power.ensures.refused.1 in
+      let refused : IsStepRefusal g.T.PartialEq.eq next c.args.start.now c.in_err-power.field-0.0 = inr (c.in_err-power.ensures.refused.0, past) in
+      refused_as (IsStepRefusal g.T.PartialEq.eq next c.args.start.now) c.from_residual-in_err-power.result c.in_err-power.field-0.0 c.from_residual-in_err-power.ensures.1 refused;
+  cycle = λ next a. IfOk-from_err _ _ c.from_residual-in_err-power.ensures.0;
+  value = λ next a. IfOk-from_err _ _ c.from_residual-in_err-power.ensures.0;
+}
 
 pub returns-in_err-waiting : goal.returns-in_err-waiting
 returns-in_err-waiting g c = record {

@@ -61,14 +61,13 @@ loop-value-preserved g c = λ next a.
     (a.answers c.loop-value.value c.step-value.result (c.loop-value.index, i.follows) c.step-value.ensures)
     (a.answers c.loop-value.ahead c.step-ahead-in-loop-value.result (c.loop-value.index + c.args.length, i.leads) c.step-ahead-in-loop-value.ensures)
 
-pub returns-clause-value : goal.returns-clause-value
-returns-clause-value g c = λ next a. (c.loop-value.invariant next a).follows
-
-pub returns-clause-repeats : goal.returns-clause-repeats
-returns-clause-repeats g c = λ next a.
-    let i = c.loop-value.invariant next a in
-    same_after g.met.T.Eq.laws a.alike c.loop-value.index (c.loop-value.index + c.args.length) c.loop-value.value c.loop-value.ahead i.follows i.leads
-    (agree (g.T.PartialEq.eq c.loop-value.value c.loop-value.ahead) c.ne.result c.ne.ensures c.loop-value-test.false)
-
-pub returns-clause-first : goal.returns-clause-first
-returns-clause-first g c = λ next a. (c.loop-value.invariant next a).before
+pub returns : goal.returns
+returns g c = record {
+  value = λ next a. (c.loop-value.invariant next a).follows;
+  repeats = λ next a.
+      let i = c.loop-value.invariant next a in
+      same_after g.met.T.Eq.laws a.alike c.loop-value.index (c.loop-value.index + c.args.length) c.loop-value.value c.loop-value.ahead i.follows i.leads
+      (agree (g.T.PartialEq.eq c.loop-value.value c.loop-value.ahead) c.ne.result c.ne.ensures c.loop-value-test.false);
+  first = λ next a. (c.loop-value.invariant next a).before;
+  refused = tt;
+}

@@ -43,16 +43,15 @@ loop-ahead-preserved g c = λ start next a v.
     next_search g.met.T.Eq.laws a.alike c.args.value.now c.loop-ahead.ahead c.step-ahead.result c.args.steps c.loop-ahead.length v i differs
     (a.answers c.loop-ahead.ahead c.step-ahead.result (c.args.steps + c.loop-ahead.length, i.ahead_at) c.step-ahead.ensures)
 
-pub returns-clause-positive : goal.returns-clause-positive
-returns-clause-positive g c =
-    let r = c.requires.steps in
-    (c.loop-ahead.invariant r.0 r.1 r.2 r.3).positive
-
-pub returns-clause-repeats : goal.returns-clause-repeats
-returns-clause-repeats g c = λ start next a v.
-    let i = c.loop-ahead.invariant start next a v in
-    same_after g.met.T.Eq.laws a.alike c.args.steps (c.args.steps + c.loop-ahead.length) c.args.value.now c.loop-ahead.ahead v i.ahead_at
-    (agree (g.T.PartialEq.eq c.args.value.now c.loop-ahead.ahead) c.ne.result c.ne.ensures c.loop-ahead-test.false)
-
-pub returns-clause-least : goal.returns-clause-least
-returns-clause-least g c = λ start next a v. (c.loop-ahead.invariant start next a v).passed
+pub returns : goal.returns
+returns g c = record {
+  positive =
+      let r = c.requires.steps in
+      (c.loop-ahead.invariant r.0 r.1 r.2 r.3).positive;
+  repeats = λ start next a v.
+      let i = c.loop-ahead.invariant start next a v in
+      same_after g.met.T.Eq.laws a.alike c.args.steps (c.args.steps + c.loop-ahead.length) c.args.value.now c.loop-ahead.ahead v i.ahead_at
+      (agree (g.T.PartialEq.eq c.args.value.now c.loop-ahead.ahead) c.ne.result c.ne.ensures c.loop-ahead-test.false);
+  least = λ start next a v. (c.loop-ahead.invariant start next a v).passed;
+  refused = tt;
+}

@@ -30,13 +30,6 @@ loop-steps-init g c = λ next a.
     begin_round g.met.T.Eq.laws a.alike c.in_ok-clone.field-0 c.call-slow.result c.in_ok-clone-2.field-0 c.call-fast.result first stepped copy
     (a.answers c.in_ok-clone-2.field-0 c.call-fast.result (1, after_equal g.met.T.Eq.laws a.alike 1 c.call-slow.result c.in_ok-clone-2.field-0 slow copy) c.call-fast.ensures)
 
-pub returns-in_err-steps-clause-refused : goal.returns-in_err-steps-clause-refused
-returns-in_err-steps-clause-refused g c = λ next a.
-    let differs = differ (g.T.PartialEq.eq c.loop-steps.slow c.loop-steps.fast) c.ne.result c.ne.ensures c.loop-steps-test.true in
-    let past = round_refused g.met.T.Eq.laws a.alike c.loop-steps.slow c.loop-steps.fast c.loop-steps.steps (c.loop-steps.invariant next a) differs c.in_err-steps.ensures.refused.1 in
-    let refused : IsStepRefusal g.T.PartialEq.eq next c.args.start.now c.in_err-steps.field-0.0 = inr (c.in_err-steps.ensures.refused.0, past) in
-    refused_as (IsStepRefusal g.T.PartialEq.eq next c.args.start.now) c.from_residual-in_err-steps.result c.in_err-steps.field-0.0 c.from_residual-in_err-steps.ensures.1 refused
-
 pub step-slow-requires : goal.step-slow-requires
 step-slow-requires g c =
     let r = c.requires.steps in
@@ -79,23 +72,29 @@ length_at-requires-clause-steps g c =
     (agree (g.T.PartialEq.eq c.loop-steps.slow c.loop-steps.fast) c.ne.result c.ne.ensures c.loop-steps-test.false) in
     (c.args.start.now, r.0, r.1, i.slow_at, i.positive, met)
 
-pub returns-clause-cycle : goal.returns-clause-cycle
-returns-clause-cycle g c = λ next a.
-    let i = c.loop-steps.invariant next a in
-    let met = same_after g.met.T.Eq.laws a.alike c.loop-steps.steps (c.loop-steps.steps + c.loop-steps.steps) c.loop-steps.slow c.loop-steps.fast i.slow_at i.fast_at
-    (agree (g.T.PartialEq.eq c.loop-steps.slow c.loop-steps.fast) c.ne.result c.ne.ensures c.loop-steps-test.false) in
-    let l = c.in_ok-length.ensures in
-    round_met g.met.T.Eq.laws a.alike c.loop-steps.slow c.loop-steps.fast c.loop-steps.steps c.in_ok-length.length i l.positive
-    (l.repeats c.args.start.now next a i.slow_at) (l.least c.args.start.now next a i.slow_at) met
+pub returns : goal.returns
+returns g c = record {
+  cycle = λ next a.
+      let i = c.loop-steps.invariant next a in
+      let met = same_after g.met.T.Eq.laws a.alike c.loop-steps.steps (c.loop-steps.steps + c.loop-steps.steps) c.loop-steps.slow c.loop-steps.fast i.slow_at i.fast_at
+      (agree (g.T.PartialEq.eq c.loop-steps.slow c.loop-steps.fast) c.ne.result c.ne.ensures c.loop-steps-test.false) in
+      let l = c.in_ok-length.ensures in
+      round_met g.met.T.Eq.laws a.alike c.loop-steps.slow c.loop-steps.fast c.loop-steps.steps c.in_ok-length.length i l.positive
+      (l.repeats c.args.start.now next a i.slow_at) (l.least c.args.start.now next a i.slow_at) met;
+  value = λ next a. (c.loop-steps.invariant next a).slow_at;
+  refused = λ next a. tt;
+}
 
-pub returns-clause-value : goal.returns-clause-value
-returns-clause-value g c = λ next a. (c.loop-steps.invariant next a).slow_at
-
-pub returns-in_err-steps-clause-cycle : goal.returns-in_err-steps-clause-cycle
-returns-in_err-steps-clause-cycle g c = λ next a. IfOk-from_err _ _ c.from_residual-in_err-steps.ensures.0
-
-pub returns-in_err-steps-clause-value : goal.returns-in_err-steps-clause-value
-returns-in_err-steps-clause-value g c = λ next a. IfOk-from_err _ _ c.from_residual-in_err-steps.ensures.0
+pub returns-in_err-steps : goal.returns-in_err-steps
+returns-in_err-steps g c = record {
+  refused = λ next a.
+      let differs = differ (g.T.PartialEq.eq c.loop-steps.slow c.loop-steps.fast) c.ne.result c.ne.ensures c.loop-steps-test.true in
+      let past = round_refused g.met.T.Eq.laws a.alike c.loop-steps.slow c.loop-steps.fast c.loop-steps.steps (c.loop-steps.invariant next a) differs c.in_err-steps.ensures.refused.1 in
+      let refused : IsStepRefusal g.T.PartialEq.eq next c.args.start.now c.in_err-steps.field-0.0 = inr (c.in_err-steps.ensures.refused.0, past) in
+      refused_as (IsStepRefusal g.T.PartialEq.eq next c.args.start.now) c.from_residual-in_err-steps.result c.in_err-steps.field-0.0 c.from_residual-in_err-steps.ensures.1 refused;
+  cycle = λ next a. IfOk-from_err _ _ c.from_residual-in_err-steps.ensures.0;
+  value = λ next a. IfOk-from_err _ _ c.from_residual-in_err-steps.ensures.0;
+}
 
 pub returns-in_err-clone : goal.returns-in_err-clone
 returns-in_err-clone g c = record {

@@ -1,4 +1,4 @@
-use Rattle.std.proofs.Common.{rules, ◌≡◌, ◌<◌, ◌≤◌, ◌+◌, ◌++◌, ◌∷◌, [], arith, ap, sym, subst, ◌∙◌, ℕ, length, true, Some, take, drop}
+use Rattle.std.proofs.Common.{◌≡◌, ◌<◌, ◌≤◌, ◌+◌, ◌++◌, ◌∷◌, [], arith, ap, sym, subst, ◌∙◌, ℕ, length, true, Some, take, drop}
 use Rattle.std.specs.Prelude.{neg_ℤ, ◌+ℤ◌, ◌-ℤ◌, slice_index, slice_set}
 use Rattle.std.proofs.lemmas.List.{take_at}
 use Rattle.std.proofs.lemmas.Result.{IfOk-from_err}
@@ -106,22 +106,22 @@ returns-clause-matched g c =
     (subst (λ xs. (i : ℕ) → i < length m.column_of.items → number value c.lower_rows.new.potentials i ≡ raised (flag r.visited.items (slice_index m.column_of.items i)) (number value m.row_potentials.items i) (neg_ℤ (value c.index-depth.result.now -ℤ number value xs (slice_index m.column_of.items i)))) c.deref-5.ensures.value
     (subst (λ xs. (i : ℕ) → i < length m.column_of.items → number value c.lower_rows.new.potentials i ≡ raised (flag xs (slice_index m.column_of.items i)) (number value m.row_potentials.items i) (neg_ℤ (value c.index-depth.result.now -ℤ number value c.deref-5.result.now (slice_index m.column_of.items i)))) c.deref-4.ensures.value
     (subst (λ cs. (i : ℕ) → i < length cs → number value c.lower_rows.new.potentials i ≡ raised (flag c.deref-4.result.now (slice_index cs i)) (number value m.row_potentials.items i) (neg_ℤ (value c.index-depth.result.now -ℤ number value c.deref-5.result.now (slice_index cs i)))) c.deref-3.ensures.value
-    (subst (λ xs. (i : ℕ) → i < length c.deref-3.result.now → number value c.lower_rows.new.potentials i ≡ raised (flag c.deref-4.result.now (slice_index c.deref-3.result.now i)) (number value xs i) (neg_ℤ (value c.index-depth.result.now -ℤ number value c.deref-5.result.now (slice_index c.deref-3.result.now i)))) c.deref_mut-2.ensures.value c.lower_rows.ensures.matched)))) in
+    (subst (λ xs. (i : ℕ) → i < length c.deref-3.result.now → number value c.lower_rows.new.potentials i ≡ raised (flag c.deref-4.result.now (slice_index c.deref-3.result.now i)) (number value xs i) (neg_ℤ (value c.index-depth.result.now -ℤ number value c.deref-5.result.now (slice_index c.deref-3.result.now i)))) c.deref_mut-2.ensures.value c.lower_rows.ensures)))) in
     let flipped =
     subst (λ xs. IsFlipped (length xs) (length m.row_of.items) (length r.rows.items) c.args.column (slice_index xs) (holder m.row_of.items) (slice_index r.rows.items) (slice_index r.places.items) (slice_index c.flip_path-left.new.column_of) (holder c.flip_path-left.new.row_of) c.flip_path-left.result) c.deref_mut-3.ensures.value
     (subst (λ xs. IsFlipped (length c.deref_mut-3.result.now) (length xs) (length r.rows.items) c.args.column (slice_index c.deref_mut-3.result.now) (holder xs) (slice_index r.rows.items) (slice_index r.places.items) (slice_index c.flip_path-left.new.column_of) (holder c.flip_path-left.new.row_of) c.flip_path-left.result) c.deref_mut-4.ensures.value
     (subst (λ xs. IsFlipped (length c.deref_mut-3.result.now) (length c.deref_mut-4.result.now) (length xs) c.args.column (slice_index c.deref_mut-3.result.now) (holder c.deref_mut-4.result.now) (slice_index xs) (slice_index r.places.items) (slice_index c.flip_path-left.new.column_of) (holder c.flip_path-left.new.row_of) c.flip_path-left.result) c.deref-6.ensures.value
     (subst (λ xs. IsFlipped (length c.deref_mut-3.result.now) (length c.deref_mut-4.result.now) (length c.deref-6.result.now) c.args.column (slice_index c.deref_mut-3.result.now) (holder c.deref_mut-4.result.now) (slice_index c.deref-6.result.now) (slice_index xs) (slice_index c.flip_path-left.new.column_of) (holder c.flip_path-left.new.row_of) c.flip_path-left.result) c.deref-7.ensures.value c.flip_path-left.ensures.flipped))) in
     let last = subst (λ xs. slice_index xs c.flip_path-left.result ≡ 0) c.deref-7.ensures.value c.flip_path-left.ensures.root in
-    let root : c.len-root.result ≡ length m.column_of.items = search rules in
+    let root : c.len-root.result ≡ length m.column_of.items = c.len-root.ensures ∙ m.column_of.ok.0 in
     let lr : length c.flip_path-left.new.row_of ≡ length m.row_of.items = c.flip_path-left.auto.row_of ∙ ap length c.deref_mut-4.ensures.value in
     let lc : length c.flip_path-left.new.column_of ≡ length m.column_of.items = c.flip_path-left.auto.column_of ∙ ap length c.deref_mut-3.ensures.value in
     let lu : length c.lower_rows.new.potentials ≡ length m.row_potentials.items = c.lower_rows.auto.potentials ∙ ap length c.deref_mut-2.ensures.value in
     let lv : length c.raise_columns.new.potentials ≡ length m.column_potentials.items = c.raise_columns.auto.potentials ∙ ap length c.deref_mut.ensures.value in
-    let nr : m.row_of.len ≡ length m.row_of.items = search rules in
-    let nc : m.column_of.len ≡ length m.column_of.items = search rules in
-    let nu : m.row_potentials.len ≡ length m.row_potentials.items = search rules in
-    let nv : m.column_potentials.len ≡ length m.column_potentials.items = search rules in
+    let nr : m.row_of.len ≡ length m.row_of.items = m.row_of.ok.0 in
+    let nc : m.column_of.len ≡ length m.column_of.items = m.column_of.ok.0 in
+    let nu : m.row_potentials.len ≡ length m.row_potentials.items = m.row_potentials.ok.0 in
+    let nv : m.column_potentials.len ≡ length m.column_potentials.items = m.column_potentials.ok.0 in
     let fr = take_at c.flip_path-left.new.row_of (drop (length c.flip_path-left.new.row_of) m.row_of.items) m.row_of.len (lr ∙ sym nr) in
     let fc = take_at c.flip_path-left.new.column_of (drop (length c.flip_path-left.new.column_of) m.column_of.items) m.column_of.len (lc ∙ sym nc) in
     let fu = take_at c.lower_rows.new.potentials (drop (length c.lower_rows.new.potentials) m.row_potentials.items) m.row_potentials.len (lu ∙ sym nu) in

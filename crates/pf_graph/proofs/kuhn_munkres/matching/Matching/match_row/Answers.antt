@@ -40,14 +40,8 @@ augment-requires-clause-free g c = c.in_ok-column.ensures.free
 pub returns-clause-matched : goal.returns-clause-matched
 returns-clause-matched g c = c.augment.ensures.matched
 
-pub returns-clause-visited : goal.returns-clause-visited
-returns-clause-visited g c = c.in_ok-column.ensures.visited ∙ c.requires.visited
-
-pub returns-clause-distances : goal.returns-clause-distances
-returns-clause-distances g c = c.in_ok-column.ensures.distances ∙ c.requires.distances
-
-pub returns-clause-places : goal.returns-clause-places
-returns-clause-places g c = c.in_ok-column.ensures.places ∙ c.requires.places
+pub returns-clause-wide : goal.returns-clause-wide
+returns-clause-wide g c = c.in_ok-column.ensures.wide
 
 pub returns-clause-refused : goal.returns-clause-refused
 returns-clause-refused g c = c.augment.ensures.refused
@@ -60,9 +54,7 @@ returns-in_err-push g c = record {
   matched = IfOk-from_err _ _ c.from_residual.ensures.0;
   rows = IfOk-from_err _ _ c.from_residual.ensures.0;
   row_potentials = IfOk-from_err _ _ c.from_residual.ensures.0;
-  visited = c.requires.visited;
-  distances = c.requires.distances;
-  places = c.requires.places;
+  wide = c.requires.wide;
   refused = refused_by _ c.from_residual.result c.from_residual.ensures.1;
   ticked = refl_le _;
   rounds = more_le _ _;
@@ -73,9 +65,7 @@ returns-in_err-column g c = record {
   matched = on_refused _ c.from_residual-in_err-column.result _ c.from_residual-in_err-column.ensures.1;
   rows = on_refused _ c.from_residual-in_err-column.result _ c.from_residual-in_err-column.ensures.1;
   row_potentials = on_refused _ c.from_residual-in_err-column.result _ c.from_residual-in_err-column.ensures.1;
-  visited = c.in_err-column.ensures.visited ∙ c.requires.visited;
-  distances = c.in_err-column.ensures.distances ∙ c.requires.distances;
-  places = c.in_err-column.ensures.places ∙ c.requires.places;
+  wide = c.in_err-column.ensures.wide;
   refused = refused_as _ c.from_residual-in_err-column.result _ c.from_residual-in_err-column.ensures.1 c.in_err-column.ensures.refused;
   ticked = c.in_err-column.ensures.ticked;
   rounds = within_rows _ _ _ _ c.in_err-column.ensures.rounds c.requires.left;

@@ -1,4 +1,4 @@
-use Rattle.std.proofs.Common.{◌≡◌, refl, ap, sym, subst, ◌∙◌, ℕ, zero, suc, None, replicate}
+use Rattle.std.proofs.Common.{◌≡◌, refl, ap, sym, subst, ◌∙◌, ℕ, zero, suc, None, replicate, length}
 use Rattle.std.specs.Prelude.{ℤ, pos}
 use Rattle.pf_graph.specs.Assignments.{number}
 use Rattle.pf_graph.specs.Internal.Assignment.AssignmentSteps.{holder}
@@ -14,20 +14,6 @@ all_zero : {C : Type 0} (value : C → ℤ) (z : C) → value z ≡ pos 0 → (n
 all_zero value z e zero j = refl
 all_zero value z e (suc n) zero = e
 all_zero value z e (suc n) (suc j) = all_zero value z e n j
-
-pub returns-clause-free : goal.returns-clause-free
-returns-clause-free g c = subst (λ xs. (j : ℕ) → holder xs j ≡ None) (sym c.in_ok-row_of.ensures.items) (none_held c.args.columns)
-
-pub returns-clause-zero : goal.returns-clause-zero
-returns-clause-zero g c =
-    let z : g.C.Number.value c.zero.result ≡ pos 0 = ap g.C.Number.value c.zero.ensures ∙ g.met.C.Zero.zero_law g.met.C.Integral.exact_law in
-    subst (λ xs. (j : ℕ) → number g.C.Number.value xs j ≡ pos 0) (sym c.in_ok-column_potentials.ensures.items) (all_zero g.C.Number.value c.zero.result z c.args.columns)
-
-pub returns-clause-row_of : goal.returns-clause-row_of
-returns-clause-row_of g c = c.in_ok-row_of.ensures.len
-
-pub returns-clause-column_potentials : goal.returns-clause-column_potentials
-returns-clause-column_potentials g c = c.in_ok-column_potentials.ensures.len
 
 pub returns-in_err-row_of : goal.returns-in_err-row_of
 returns-in_err-row_of g c = record {
@@ -49,4 +35,17 @@ returns-in_err-column_potentials g c = record {
   free = if_refused _ c.from_residual-in_err-column_potentials.result _ c.from_residual-in_err-column_potentials.ensures.1;
   zero = if_refused _ c.from_residual-in_err-column_potentials.result _ c.from_residual-in_err-column_potentials.ensures.1;
   refused = refused_as _ c.from_residual-in_err-column_potentials.result _ c.from_residual-in_err-column_potentials.ensures.1 c.in_err-column_potentials.ensures.refused;
+}
+
+pub returns : goal.returns
+returns g c = record {
+  free = subst (λ xs. (j : ℕ) → holder xs j ≡ None) (sym c.in_ok-row_of.ensures.items) (none_held c.args.columns);
+  zero =
+      let z : g.C.Number.value c.zero.result ≡ pos 0 = ap g.C.Number.value c.zero.ensures ∙ g.met.C.Zero.zero_law g.met.C.Integral.exact_law in
+      subst (λ xs. (j : ℕ) → number g.C.Number.value xs j ≡ pos 0) (sym c.in_ok-column_potentials.ensures.items) (all_zero g.C.Number.value c.zero.result z c.args.columns);
+  row_of = c.in_ok-row_of.ensures.len;
+  column_potentials = c.in_ok-column_potentials.ensures.len;
+  rows = ap length c.new.ensures.items;
+  row_potentials = ap length c.new-2.ensures.items;
+  refused = tt;
 }

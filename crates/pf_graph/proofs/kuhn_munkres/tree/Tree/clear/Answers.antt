@@ -1,9 +1,9 @@
-use Rattle.std.proofs.Common.{◌<◌, refl, arith, ap, ◌∙◌, length, false}
+use Rattle.std.proofs.Common.{◌≡◌, ◌<◌, ◌≤◌, ℕ, refl, arith, ap, ◌∙◌, length, false}
 use Rattle.std.specs.Prelude.{slice_set, slice_index}
 use Rattle.std.proofs.lemmas.List.{get_or-set_same, get_or-set_other, length-set}
 use Rattle.pf_graph.specs.Assignments.{number}
 use Rattle.pf_graph.specs.Internal.Assignment.AssignmentSteps.{flag}
-use Rattle.pf_graph.proofs.Assignment.MatchingNumbers.{number-set_same, number-set_other, below_written}
+use Rattle.pf_graph.proofs.Assignment.MatchingNumbers.{number-set_same, number-set_other, below_written, all_unvisited}
 use Rattle.pf_graph.proofs.kuhn_munkres.tree.Tree.clear.Goals as goal
 
 pub loop-column-preserved : goal.loop-column-preserved
@@ -34,14 +34,23 @@ loop-column-init g c = record {
   root = λ j h. absurd (omega (arith, h));
 }
 
-pub returns-clause-rows : goal.returns-clause-rows
-returns-clause-rows g c = c.loop-column.invariant.rows
+in_order : (j n m k end : ℕ) → j < n → n ≡ m → end ≡ m → end ≤ k → j < k
+in_order j n m k end h e f l = omega (arith, h, e, f, l)
 
-pub returns-clause-visited : goal.returns-clause-visited
-returns-clause-visited g c = c.loop-column.invariant.visited_len
-
-pub returns-clause-distances : goal.returns-clause-distances
-returns-clause-distances g c = c.loop-column.invariant.distances_len
-
-pub returns-clause-places : goal.returns-clause-places
-returns-clause-places g c = c.loop-column.invariant.places_len
+pub returns : goal.returns
+returns g c =
+    let v = c.loop-column.invariant in
+    record {
+      rows = c.loop-column.invariant.rows;
+      wide =
+          let w = c.requires.wide in
+          record { visited = v.visited_len; distances = v.distances_len ∙ w.distances; places = v.places_len ∙ w.places };
+      fresh =
+          let all : c.len-column-end.result ≡ length c.args.self.now.visited.items = c.len-column-end.ensures ∙ c.args.self.now.visited.ok.0 in
+          let past = c.loop-column-test.false in
+          record {
+            unvisited = all_unvisited c.loop-column.self.visited.items (λ j h. v.unvisited j (in_order _ _ _ _ _ h v.visited_len all past));
+            far = λ j h. v.far j (in_order _ _ _ _ _ h refl all past);
+            root = λ j h. v.root j (in_order _ _ _ _ _ h refl all past);
+          };
+    }

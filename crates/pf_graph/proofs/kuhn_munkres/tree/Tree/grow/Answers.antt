@@ -13,9 +13,7 @@ returns-in_err-column-2 g c =
       tree = on_refused _ c.from_residual-in_err-column-2.result _ c.from_residual-in_err-column-2.ensures.1;
       nearest = if_refused _ c.from_residual-in_err-column-2.result _ c.from_residual-in_err-column-2.ensures.1;
       free = if_refused _ c.from_residual-in_err-column-2.result _ c.from_residual-in_err-column-2.ensures.1;
-      visited = e.visited ∙ i.tree.visited_len ∙ sym c.requires.visited;
-      distances = e.distances ∙ i.tree.distances_len ∙ sym c.requires.distances;
-      places = e.places ∙ i.tree.places_len ∙ sym c.requires.places;
+      wide = e.wide;
       refused = refused_as _ c.from_residual-in_err-column-2.result _ c.from_residual-in_err-column-2.ensures.1 e.refused;
       ticked = i.ticked;
       rounds = omega (arith, t, k);
@@ -54,9 +52,7 @@ returns-in_err-column g c = record {
   tree = on_refused _ c.from_residual.result _ c.from_residual.ensures.1;
   nearest = if_refused _ c.from_residual.result _ c.from_residual.ensures.1;
   free = if_refused _ c.from_residual.result _ c.from_residual.ensures.1;
-  visited = c.in_err-column.ensures.visited;
-  distances = c.in_err-column.ensures.distances;
-  places = c.in_err-column.ensures.places;
+  wide = c.in_err-column.ensures.wide;
   refused = refused_as _ c.from_residual.result _ c.from_residual.ensures.1 c.in_err-column.ensures.refused;
   ticked = omega arith;
   rounds = omega arith;
@@ -74,14 +70,10 @@ returns-clause-tree g c = c.visits.invariant.tree
 pub returns-clause-nearest : goal.returns-clause-nearest
 returns-clause-nearest g c = c.visits.invariant.nearest
 
-pub returns-clause-visited : goal.returns-clause-visited
-returns-clause-visited g c = c.visits.invariant.tree.visited_len ∙ sym c.requires.visited
-
-pub returns-clause-distances : goal.returns-clause-distances
-returns-clause-distances g c = c.visits.invariant.tree.distances_len ∙ sym c.requires.distances
-
-pub returns-clause-places : goal.returns-clause-places
-returns-clause-places g c = c.visits.invariant.tree.places_len ∙ sym c.requires.places
+pub returns-clause-wide : goal.returns-clause-wide
+returns-clause-wide g c =
+    let tree = c.visits.invariant.tree in
+    record { visited = tree.visited_len; distances = tree.distances_len; places = tree.places_len }
 
 pub returns-clause-ticked : goal.returns-clause-ticked
 returns-clause-ticked g c = c.visits.invariant.ticked

@@ -11,33 +11,27 @@ at_most_itself z = omega (arith, ints)
 pub is_nearer-requires-clause-second : goal.is_nearer-requires-clause-second
 is_nearer-requires-clause-second g c = c.requires.other c.in-Some.other c.in-Some.is
 
-pub returns-then-is_nearer-clause-one : goal.returns-then-is_nearer-clause-one
-returns-then-is_nearer-clause-one g c = inl refl
+pub returns-then-is_nearer : goal.returns-then-is_nearer
+returns-then-is_nearer g c = record {
+  one = inl refl;
+  here = at_most_itself _;
+  before = λ n e.
+      let d = number g.C.Number.value c.args.self.now.distances.items in
+      subst (λ (k : ℕ). d c.args.column ≤ℤ d k) (same_Some _ _ (sym c.in-Some.is ∙ e)) c.if-is_nearer.ensures;
+}
 
-pub returns-then-is_nearer-clause-here : goal.returns-then-is_nearer-clause-here
-returns-then-is_nearer-clause-here g c = at_most_itself _
+pub returns-else-is_nearer : goal.returns-else-is_nearer
+returns-else-is_nearer g c = record {
+  one = inr c.in-Some.is;
+  here = c.if-is_nearer.ensures;
+  before = λ n e.
+      let d = number g.C.Number.value c.args.self.now.distances.items in
+      subst (λ (k : ℕ). d c.in-Some.other ≤ℤ d k) (same_Some _ _ (sym c.in-Some.is ∙ e)) (at_most_itself _);
+}
 
-pub returns-then-is_nearer-clause-before : goal.returns-then-is_nearer-clause-before
-returns-then-is_nearer-clause-before g c = λ n e.
-    let d = number g.C.Number.value c.args.self.now.distances.items in
-    subst (λ (k : ℕ). d c.args.column ≤ℤ d k) (same_Some _ _ (sym c.in-Some.is ∙ e)) c.if-is_nearer.ensures
-
-pub returns-else-is_nearer-clause-one : goal.returns-else-is_nearer-clause-one
-returns-else-is_nearer-clause-one g c = inr c.in-Some.is
-
-pub returns-else-is_nearer-clause-here : goal.returns-else-is_nearer-clause-here
-returns-else-is_nearer-clause-here g c = c.if-is_nearer.ensures
-
-pub returns-else-is_nearer-clause-before : goal.returns-else-is_nearer-clause-before
-returns-else-is_nearer-clause-before g c = λ n e.
-    let d = number g.C.Number.value c.args.self.now.distances.items in
-    subst (λ (k : ℕ). d c.in-Some.other ≤ℤ d k) (same_Some _ _ (sym c.in-Some.is ∙ e)) (at_most_itself _)
-
-pub returns-in-None-clause-one : goal.returns-in-None-clause-one
-returns-in-None-clause-one g c = inl refl
-
-pub returns-in-None-clause-here : goal.returns-in-None-clause-here
-returns-in-None-clause-here g c = at_most_itself _
-
-pub returns-in-None-clause-before : goal.returns-in-None-clause-before
-returns-in-None-clause-before g c = λ n e. absurd (let none : None ≡ Some n = sym c.in-None.is ∙ e in cc)
+pub returns-in-None : goal.returns-in-None
+returns-in-None g c = record {
+  one = inl refl;
+  here = at_most_itself _;
+  before = λ n e. absurd (let none : None ≡ Some n = sym c.in-None.is ∙ e in cc);
+}

@@ -3,32 +3,24 @@ use Rattle.pf_graph.proofs.kuhn_munkres.tree.Tree.new.Goals as goal
 
 pub returns : goal.returns
 returns g c = record {
-  visited = c.in_ok-visited.ensures.len;
-  distances = c.in_ok-distances.ensures.len;
-  places = c.in_ok-places.ensures.len;
+  wide = record { visited = c.in_ok-visited.ensures.len; distances = c.in_ok-distances.ensures.len; places = c.in_ok-places.ensures.len };
   refused = tt;
 }
 
 pub returns-in_err-visited : goal.returns-in_err-visited
 returns-in_err-visited g c = record {
-  visited = if_refused _ c.from_residual.result _ c.from_residual.ensures.1;
-  distances = if_refused _ c.from_residual.result _ c.from_residual.ensures.1;
-  places = if_refused _ c.from_residual.result _ c.from_residual.ensures.1;
+  wide = if_refused _ c.from_residual.result _ c.from_residual.ensures.1;
   refused = refused_as _ c.from_residual.result _ c.from_residual.ensures.1 c.in_err-visited.ensures.refused;
 }
 
 pub returns-in_err-distances : goal.returns-in_err-distances
 returns-in_err-distances g c = record {
-  visited = if_refused _ c.from_residual-in_err-distances.result _ c.from_residual-in_err-distances.ensures.1;
-  distances = if_refused _ c.from_residual-in_err-distances.result _ c.from_residual-in_err-distances.ensures.1;
-  places = if_refused _ c.from_residual-in_err-distances.result _ c.from_residual-in_err-distances.ensures.1;
+  wide = if_refused _ c.from_residual-in_err-distances.result _ c.from_residual-in_err-distances.ensures.1;
   refused = refused_as _ c.from_residual-in_err-distances.result _ c.from_residual-in_err-distances.ensures.1 c.in_err-distances.ensures.refused;
 }
 
 pub returns-in_err-places : goal.returns-in_err-places
 returns-in_err-places g c = record {
-  visited = if_refused _ c.from_residual-in_err-places.result _ c.from_residual-in_err-places.ensures.1;
-  distances = if_refused _ c.from_residual-in_err-places.result _ c.from_residual-in_err-places.ensures.1;
-  places = if_refused _ c.from_residual-in_err-places.result _ c.from_residual-in_err-places.ensures.1;
+  wide = if_refused _ c.from_residual-in_err-places.result _ c.from_residual-in_err-places.ensures.1;
   refused = refused_as _ c.from_residual-in_err-places.result _ c.from_residual-in_err-places.ensures.1 c.in_err-places.ensures.refused;
 }

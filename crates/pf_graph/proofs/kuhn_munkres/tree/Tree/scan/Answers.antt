@@ -12,13 +12,13 @@ pub plus-bound-requires-clause-negation : goal.plus-bound-requires-clause-negati
 plus-bound-requires-clause-negation g c =
     let n = number-at g.C.Number.value c.args.matching.now.column_potentials.items c.loop-column.column c.index-then-not-index.result.now (omega arith) c.index-then-not-index.ensures in
     let f : flag c.args.self.now.visited.items c.loop-column.column ≡ false = subst (λ xs. flag xs c.loop-column.column ≡ false) c.loop-column.invariant.visited (search rules) in
-    subst (λ z. g.C.Number.fits (neg_ℤ z)) n (c.requires.negation c.loop-column.column (omega arith) f)
+    subst (λ z. g.C.Number.fits (neg_ℤ z)) n (c.requires.fits.negation c.loop-column.column (omega arith) f)
 
 pub plus-bound-requires-clause-sum : goal.plus-bound-requires-clause-sum
 plus-bound-requires-clause-sum g c =
     let n = number-at g.C.Number.value c.args.matching.now.column_potentials.items c.loop-column.column c.index-then-not-index.result.now (omega arith) c.index-then-not-index.ensures in
     let f : flag c.args.self.now.visited.items c.loop-column.column ≡ false = subst (λ xs. flag xs c.loop-column.column ≡ false) c.loop-column.invariant.visited (search rules) in
-    subst (λ z. g.C.Number.fits (g.C.Number.value c.args.offset +ℤ z)) n (c.requires.sum c.loop-column.column (omega arith) f)
+    subst (λ z. g.C.Number.fits (g.C.Number.value c.args.offset +ℤ z)) n (c.requires.fits.sum c.loop-column.column (omega arith) f)
 
 pub minus-through-requires : goal.minus-through-requires
 minus-through-requires g c =
@@ -26,7 +26,7 @@ minus-through-requires g c =
     let f : flag c.args.self.now.visited.items c.loop-column.column ≡ false = subst (λ xs. flag xs c.loop-column.column ≡ false) c.loop-column.invariant.visited (search rules) in
     let e : g.C.Number.value c.args.offset +ℤ number g.C.Number.value c.args.matching.now.column_potentials.items c.loop-column.column ≡ g.C.Number.value c.plus-bound.result = ap (λ z. g.C.Number.value c.args.offset +ℤ z) n ∙ sym c.plus-bound.ensures in
     subst (λ z. g.C.Number.fits (z -ℤ g.C.Number.value c.at.result)) e
-    (subst (λ z. g.C.Number.fits (g.C.Number.value c.args.offset +ℤ number g.C.Number.value c.args.matching.now.column_potentials.items c.loop-column.column -ℤ z)) (sym c.at.ensures) (c.requires.difference c.loop-column.column (omega arith) f))
+    (subst (λ z. g.C.Number.fits (g.C.Number.value c.args.offset +ℤ number g.C.Number.value c.args.matching.now.column_potentials.items c.loop-column.column -ℤ z)) (sym c.at.ensures) (c.requires.fits.difference c.loop-column.column (omega arith) f))
 
 pub nearer-requires-clause-other : goal.nearer-requires-clause-other
 nearer-requires-clause-other g c = λ n e. let l = (c.loop-column.invariant.scanned.some n e).0 in let d = c.relax.ensures.distances_len in let i = c.loop-column.invariant.distances_len in omega (arith, l, d, i)
@@ -68,16 +68,6 @@ loop-column-preserved g c =
           )
     ]
 
-pub returns-clause-nearest : goal.returns-clause-nearest
-returns-clause-nearest g c =
-    let value = g.C.Number.value in
-    let k = c.loop-column.column in
-    let through = λ (j : ℕ). value c.args.offset +ℤ number value c.args.matching.now.column_potentials.items j -ℤ (g.W.Weights.table c.args.weights.now).at c.args.row j in
-    let e : k ≡ (g.W.Weights.table c.args.weights.now).columns = omega arith in
-    subst (λ n. IsNearest n (flag c.loop-column.self.visited.items) (number value c.loop-column.self.distances.items) c.unwrap.result) e
-    (subst (λ xs. IsNearest k (flag xs) (number value c.loop-column.self.distances.items) c.unwrap.result) (sym c.loop-column.invariant.visited)
-    (scan_nearest through c.args.place (flag c.args.self.now.visited.items) (number value c.args.self.now.distances.items) (slice_index c.args.self.now.places.items) k (number value c.loop-column.self.distances.items) (slice_index c.loop-column.self.places.items) c.loop-column.nearest c.loop-column.invariant.scanned c.unwrap.result c.unwrap.ensures))
-
 pub loop-column-init : goal.loop-column-init
 loop-column-init g c = record {
   scanned = record {
@@ -93,22 +83,26 @@ loop-column-init g c = record {
   places_len = refl;
 }
 
-pub returns-clause-scanned : goal.returns-clause-scanned
-returns-clause-scanned g c =
-    let e : c.loop-column.column ≡ (g.W.Weights.table c.args.weights.now).columns = omega arith in
-    record { relaxed = λ j h. c.loop-column.invariant.scanned.relaxed j (subst (λ (n : ℕ). j < n) (sym e) h) }
-
-pub returns-clause-rows : goal.returns-clause-rows
-returns-clause-rows g c = c.loop-column.invariant.rows
-
-pub returns-clause-visited : goal.returns-clause-visited
-returns-clause-visited g c = c.loop-column.invariant.visited
-
-pub returns-clause-distances : goal.returns-clause-distances
-returns-clause-distances g c = c.loop-column.invariant.distances_len
-
-pub returns-clause-places : goal.returns-clause-places
-returns-clause-places g c = c.loop-column.invariant.places_len
+pub returns : goal.returns
+returns g c = record {
+  nearest =
+      let value = g.C.Number.value in
+      let k = c.loop-column.column in
+      let through = λ (j : ℕ). value c.args.offset +ℤ number value c.args.matching.now.column_potentials.items j -ℤ (g.W.Weights.table c.args.weights.now).at c.args.row j in
+      let e : k ≡ (g.W.Weights.table c.args.weights.now).columns = omega arith in
+      subst (λ n. IsNearest n (flag c.loop-column.self.visited.items) (number value c.loop-column.self.distances.items) c.unwrap.result) e
+      (subst (λ xs. IsNearest k (flag xs) (number value c.loop-column.self.distances.items) c.unwrap.result) (sym c.loop-column.invariant.visited)
+      (scan_nearest through c.args.place (flag c.args.self.now.visited.items) (number value c.args.self.now.distances.items) (slice_index c.args.self.now.places.items) k (number value c.loop-column.self.distances.items) (slice_index c.loop-column.self.places.items) c.loop-column.nearest c.loop-column.invariant.scanned c.unwrap.result c.unwrap.ensures));
+  scanned =
+      let e : c.loop-column.column ≡ (g.W.Weights.table c.args.weights.now).columns = omega arith in
+      record { relaxed = λ j h. c.loop-column.invariant.scanned.relaxed j (subst (λ (n : ℕ). j < n) (sym e) h) };
+  rows = c.loop-column.invariant.rows;
+  visited = c.loop-column.invariant.visited;
+  wide =
+      let v = c.loop-column.invariant in
+      let w = c.requires.wide in
+      record { visited = ap length v.visited ∙ w.visited; distances = v.distances_len ∙ w.distances; places = v.places_len ∙ w.places };
+}
 
 some_of : {T : Type 0} (o : Option T) → ¬ (o ≡ None) → is_some o ≡ true
 some_of None h = absurd (h refl)
@@ -124,13 +118,13 @@ unwrap-requires g c =
     some_of c.loop-column.nearest (λ e. true≢false (sym (c.loop-column.invariant.scanned.none e left.0 (below_end _ _ _ within c.loop-column-test.false)) ∙ left.2))
 
 pub relax-requires-clause-distance : goal.relax-requires-clause-distance
-relax-requires-clause-distance g c = subst (λ (n : ℕ). c.loop-column.column < n) (sym (c.loop-column.invariant.distances_len ∙ c.requires.distances)) (subst (λ (n : ℕ). c.loop-column.column < n) c.columns-column-end.ensures c.loop-column-test.true)
+relax-requires-clause-distance g c = subst (λ (n : ℕ). c.loop-column.column < n) (sym (c.loop-column.invariant.distances_len ∙ c.requires.wide.distances)) (subst (λ (n : ℕ). c.loop-column.column < n) c.columns-column-end.ensures c.loop-column-test.true)
 
 pub relax-requires-clause-before : goal.relax-requires-clause-before
-relax-requires-clause-before g c = subst (λ (n : ℕ). c.loop-column.column < n) (sym (c.loop-column.invariant.places_len ∙ c.requires.places)) (subst (λ (n : ℕ). c.loop-column.column < n) c.columns-column-end.ensures c.loop-column-test.true)
+relax-requires-clause-before g c = subst (λ (n : ℕ). c.loop-column.column < n) (sym (c.loop-column.invariant.places_len ∙ c.requires.wide.places)) (subst (λ (n : ℕ). c.loop-column.column < n) c.columns-column-end.ensures c.loop-column-test.true)
 
 pub nearer-requires-clause-inside : goal.nearer-requires-clause-inside
-nearer-requires-clause-inside g c = subst (λ (n : ℕ). c.loop-column.column < n) (sym (c.relax.ensures.distances_len ∙ c.loop-column.invariant.distances_len ∙ c.requires.distances)) (subst (λ (n : ℕ). c.loop-column.column < n) c.columns-column-end.ensures c.loop-column-test.true)
+nearer-requires-clause-inside g c = subst (λ (n : ℕ). c.loop-column.column < n) (sym (c.relax.ensures.distances_len ∙ c.loop-column.invariant.distances_len ∙ c.requires.wide.distances)) (subst (λ (n : ℕ). c.loop-column.column < n) c.columns-column-end.ensures c.loop-column-test.true)
 
 pub nearer-requires-clause-wide : goal.nearer-requires-clause-wide
-nearer-requires-clause-wide g c = ap length c.deref.ensures.value ∙ c.requires.row_of ∙ sym (c.relax.ensures.distances_len ∙ c.loop-column.invariant.distances_len ∙ c.requires.distances)
+nearer-requires-clause-wide g c = ap length c.deref.ensures.value ∙ c.requires.row_of ∙ sym (c.relax.ensures.distances_len ∙ c.loop-column.invariant.distances_len ∙ c.requires.wide.distances)

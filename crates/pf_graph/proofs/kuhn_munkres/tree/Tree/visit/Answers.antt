@@ -1,10 +1,11 @@
-use Rattle.std.proofs.Common.{rules, ◌≡◌, ◌<◌, arith, ap, sym, subst, ◌∙◌, ◌∷◌, [], length, length-set, true, false, Some, None, refl}
+use Rattle.std.proofs.Common.{◌≡◌, ◌<◌, arith, ap, sym, subst, ◌∙◌, ◌∷◌, [], length, length-set, true, false, Some, None, refl}
 use Rattle.std.specs.Prelude.{neg_ℤ, ◌+ℤ◌, slice_index, slice_set}
 use Rattle.std.proofs.lemmas.List.{get_or-set_other, length-append}
 use Rattle.pf_graph.specs.Assignments.{number}
 use Rattle.pf_graph.specs.Internal.Assignment.AssignmentSteps.{holder, flag, IsScanned, IsTreeOf}
 use Rattle.pf_graph.proofs.Assignment.MatchingNumbers.{number-at}
 use Rattle.pf_graph.proofs.Assignment.MatchingBounds.{free, unvisited, column_negation, row_negation, row_sum, path_sum, path_difference}
+use Rattle.pf_graph.proofs.Assignment.MatchingWeights.{IsInterval}
 use Rattle.pf_graph.proofs.Assignment.MatchingTree.{tree_of_more}
 use Rattle.std.proofs.lemmas.Result.{IfOk-from_err}
 use Rattle.pf_graph.proofs.Outcomes.{refused_by}
@@ -15,7 +16,7 @@ index-requires-2 g c =
     let o = (c.requires.next.matched.matching.from c.args.row c.args.column c.requires.row).0 in
     let r = c.requires.next.rows in
     let l : c.args.row < length c.args.matching.now.row_potentials.items = omega (arith, o, r) in
-    search rules
+    subst (λ n. c.args.row < n) (sym c.args.matching.now.row_potentials.ok.0) l
 
 pub plus-offset-requires-clause-negation : goal.plus-offset-requires-clause-negation
 plus-offset-requires-clause-negation g c =
@@ -45,13 +46,10 @@ scan-requires-clause-row g c =
     let l = c.requires.next.left in
     omega (arith, o, l)
 
-pub scan-requires-clause-negation : goal.scan-requires-clause-negation
-scan-requires-clause-negation g c = λ j h f.
-    column_negation g.C.Number.fits (λ x y z. g.C.Number.between_law x y z g.met.C.Integral.exact_law) c.requires.fit c.requires.shape c.requires.next j h
-
-pub scan-requires-clause-sum : goal.scan-requires-clause-sum
-scan-requires-clause-sum g c = λ j h f.
+pub scan-requires-clause-fits : goal.scan-requires-clause-fits
+scan-requires-clause-fits g c =
     let value = g.C.Number.value in
+    let interval : IsInterval g.C.Number.fits = λ x y z. g.C.Number.between_law x y z g.met.C.Integral.exact_law in
     let o = (c.requires.next.matched.matching.from c.args.row c.args.column c.requires.row).0 in
     let r = c.requires.next.rows in
     let n = number-at value c.args.matching.now.row_potentials.items c.args.row c.index-2.result.now (omega (arith, o, r)) c.index-2.ensures in
@@ -59,19 +57,11 @@ scan-requires-clause-sum g c = λ j h f.
     let q = c.requires.tree.distances_len in
     let m = number-at value c.args.self.now.distances.items c.args.column c.index.result.now (omega (arith, i, q)) c.index.ensures in
     let sum : value c.plus-offset.result ≡ number value c.args.self.now.distances.items c.args.column +ℤ number value c.args.matching.now.row_potentials.items c.args.row = c.plus-offset.ensures ∙ ap (λ z. z +ℤ value c.index-2.result.now) (sym m) ∙ ap (λ z. number value c.args.self.now.distances.items c.args.column +ℤ z) (sym n) in
-    path_sum g.C.Number.fits (λ x y z. g.C.Number.between_law x y z g.met.C.Integral.exact_law) c.requires.fit c.requires.shape c.requires.next c.requires.tree c.args.column c.requires.nearest c.args.row o (value c.plus-offset.result) sum j h
-
-pub scan-requires-clause-difference : goal.scan-requires-clause-difference
-scan-requires-clause-difference g c = λ j h f.
-    let value = g.C.Number.value in
-    let o = (c.requires.next.matched.matching.from c.args.row c.args.column c.requires.row).0 in
-    let r = c.requires.next.rows in
-    let n = number-at value c.args.matching.now.row_potentials.items c.args.row c.index-2.result.now (omega (arith, o, r)) c.index-2.ensures in
-    let i = c.requires.nearest.inside in
-    let q = c.requires.tree.distances_len in
-    let m = number-at value c.args.self.now.distances.items c.args.column c.index.result.now (omega (arith, i, q)) c.index.ensures in
-    let sum : value c.plus-offset.result ≡ number value c.args.self.now.distances.items c.args.column +ℤ number value c.args.matching.now.row_potentials.items c.args.row = c.plus-offset.ensures ∙ ap (λ z. z +ℤ value c.index-2.result.now) (sym m) ∙ ap (λ z. number value c.args.self.now.distances.items c.args.column +ℤ z) (sym n) in
-    path_difference g.C.Number.fits (λ x y z. g.C.Number.between_law x y z g.met.C.Integral.exact_law) c.requires.fit c.requires.shape c.requires.next c.requires.tree c.args.column c.requires.nearest c.args.row o (value c.plus-offset.result) sum j h
+    record {
+      negation = λ j h f. column_negation g.C.Number.fits interval c.requires.fit c.requires.shape c.requires.next j h;
+      sum = λ j h f. path_sum g.C.Number.fits interval c.requires.fit c.requires.shape c.requires.next c.requires.tree c.args.column c.requires.nearest c.args.row o (value c.plus-offset.result) sum j h;
+      difference = λ j h f. path_difference g.C.Number.fits interval c.requires.fit c.requires.shape c.requires.next c.requires.tree c.args.column c.requires.nearest c.args.row o (value c.plus-offset.result) sum j h;
+    }
 
 pub scan-requires-clause-left : goal.scan-requires-clause-left
 scan-requires-clause-left g c =
@@ -79,45 +69,31 @@ scan-requires-clause-left g c =
     let u = unvisited g.C.Number.fits (λ x y z. g.C.Number.between_law x y z g.met.C.Integral.exact_law) c.requires.fit c.requires.shape c.requires.next c.requires.tree f.0 f.2 in
     (f.0, f.1, get_or-set_other c.args.self.now.visited.items c.args.column f.0 true false (λ e. absurd (let k : Some c.args.row ≡ None = sym c.requires.row ∙ ap (holder c.args.matching.now.row_of.items) (sym e) ∙ f.2 in cc)) ∙ u)
 
-pub returns-clause-tree : goal.returns-clause-tree
-returns-clause-tree g c =
-    let value = g.C.Number.value in
-    let t = g.W.Weights.table c.args.weights.now in
-    let o = (c.requires.next.matched.matching.from c.args.row c.args.column c.requires.row).0 in
-    let r = c.requires.next.rows in
-    let n = number-at value c.args.matching.now.row_potentials.items c.args.row c.index-2.result.now (omega (arith, o, r)) c.index-2.ensures in
-    let i = c.requires.nearest.inside in
-    let q = c.requires.tree.distances_len in
-    let m = number-at value c.args.self.now.distances.items c.args.column c.index.result.now (omega (arith, i, q)) c.index.ensures in
-    let sum : value c.plus-offset.result ≡ number value c.args.self.now.distances.items c.args.column +ℤ number value c.args.matching.now.row_potentials.items c.args.row = c.plus-offset.ensures ∙ ap (λ z. z +ℤ value c.index-2.result.now) (sym m) ∙ ap (λ z. number value c.args.self.now.distances.items c.args.column +ℤ z) (sym n) in
-    let count : c.len-place.result ≡ length c.args.self.now.rows.items = search rules in
-    let scanned =
-    subst (λ k. IsScanned t.at t.columns c.args.row k (value c.plus-offset.result) (number value c.args.matching.now.column_potentials.items) (flag (slice_set c.args.self.now.visited.items c.args.column true)) (number value c.args.self.now.distances.items) (slice_index c.args.self.now.places.items) (number value c.scan.new.self.distances.items) (slice_index c.scan.new.self.places.items)) count
-    c.scan.ensures.scanned in
-    let lv = c.requires.tree.visited_len in
-    let ld = c.requires.tree.distances_len in
-    let lp = c.requires.tree.places_len in
-    let md = c.scan.ensures.distances in
-    let mp = c.scan.ensures.places in
-    let m = c.args.matching.now in
-    subst (λ xs. IsTreeOf value t m.column_of.items m.row_of.items m.row_potentials.items m.column_potentials.items xs c.scan.new.self.visited.items c.scan.new.self.distances.items c.scan.new.self.places.items) (sym c.scan.ensures.rows)
-    (subst (λ xs. IsTreeOf value t m.column_of.items m.row_of.items m.row_potentials.items m.column_potentials.items c.push.new.self.items xs c.scan.new.self.distances.items c.scan.new.self.places.items) (sym c.scan.ensures.visited)
-    (tree_of_more c.requires.next c.args.self.now.rows.items c.args.self.now.visited.items c.args.self.now.distances.items c.args.self.now.places.items c.requires.tree c.args.column c.args.row c.requires.nearest c.requires.row (value c.plus-offset.result) sum c.push.new.self.items c.in_ok-push.ensures.items c.scan.new.self.distances.items c.scan.new.self.places.items scanned (search rules) (omega (arith, ld, md)) (omega (arith, lp, mp))))
-
-pub returns-clause-more : goal.returns-clause-more
-returns-clause-more g c = ap length c.scan.ensures.rows ∙ ap length c.in_ok-push.ensures.items ∙ length-append c.args.self.now.rows.items (c.args.row ∷ [])
-
-pub returns-clause-nearest : goal.returns-clause-nearest
-returns-clause-nearest g c = c.scan.ensures.nearest
-
-pub returns-clause-visited : goal.returns-clause-visited
-returns-clause-visited g c = ap length c.scan.ensures.visited ∙ length-set c.args.self.now.visited.items c.args.column true
-
-pub returns-clause-distances : goal.returns-clause-distances
-returns-clause-distances g c = c.scan.ensures.distances
-
-pub returns-clause-places : goal.returns-clause-places
-returns-clause-places g c = c.scan.ensures.places
+pub returns : goal.returns
+returns g c = record {
+  tree =
+      let value = g.C.Number.value in
+      let t = g.W.Weights.table c.args.weights.now in
+      let o = (c.requires.next.matched.matching.from c.args.row c.args.column c.requires.row).0 in
+      let r = c.requires.next.rows in
+      let n = number-at value c.args.matching.now.row_potentials.items c.args.row c.index-2.result.now (omega (arith, o, r)) c.index-2.ensures in
+      let i = c.requires.nearest.inside in
+      let q = c.requires.tree.distances_len in
+      let m = number-at value c.args.self.now.distances.items c.args.column c.index.result.now (omega (arith, i, q)) c.index.ensures in
+      let sum : value c.plus-offset.result ≡ number value c.args.self.now.distances.items c.args.column +ℤ number value c.args.matching.now.row_potentials.items c.args.row = c.plus-offset.ensures ∙ ap (λ z. z +ℤ value c.index-2.result.now) (sym m) ∙ ap (λ z. number value c.args.self.now.distances.items c.args.column +ℤ z) (sym n) in
+      let count : c.len-place.result ≡ length c.args.self.now.rows.items = c.len-place.ensures ∙ c.args.self.now.rows.ok.0 in
+      let scanned =
+      subst (λ k. IsScanned t.at t.columns c.args.row k (value c.plus-offset.result) (number value c.args.matching.now.column_potentials.items) (flag (slice_set c.args.self.now.visited.items c.args.column true)) (number value c.args.self.now.distances.items) (slice_index c.args.self.now.places.items) (number value c.scan.new.self.distances.items) (slice_index c.scan.new.self.places.items)) count
+      c.scan.ensures.scanned in
+      let m = c.args.matching.now in
+      subst (λ xs. IsTreeOf value t m.column_of.items m.row_of.items m.row_potentials.items m.column_potentials.items xs c.scan.new.self.visited.items c.scan.new.self.distances.items c.scan.new.self.places.items) (sym c.scan.ensures.rows)
+      (subst (λ xs. IsTreeOf value t m.column_of.items m.row_of.items m.row_potentials.items m.column_potentials.items c.push.new.self.items xs c.scan.new.self.distances.items c.scan.new.self.places.items) (sym c.scan.ensures.visited)
+      (tree_of_more c.requires.next c.args.self.now.rows.items c.args.self.now.visited.items c.args.self.now.distances.items c.args.self.now.places.items c.requires.tree c.args.column c.args.row c.requires.nearest c.requires.row (value c.plus-offset.result) sum c.push.new.self.items c.in_ok-push.ensures.items c.scan.new.self.distances.items c.scan.new.self.places.items scanned (length-set c.args.self.now.visited.items c.args.column true ∙ c.requires.tree.visited_len) c.scan.ensures.wide.distances c.scan.ensures.wide.places));
+  more = ap length c.scan.ensures.rows ∙ ap length c.in_ok-push.ensures.items ∙ length-append c.args.self.now.rows.items (c.args.row ∷ []);
+  nearest = c.scan.ensures.nearest;
+  wide = c.scan.ensures.wide;
+  refused = tt;
+}
 
 pub scan-requires-clause-row_of : goal.scan-requires-clause-row_of
 scan-requires-clause-row_of g c = c.requires.next.matched.wide
@@ -125,19 +101,16 @@ scan-requires-clause-row_of g c = c.requires.next.matched.wide
 pub scan-requires-clause-potentials : goal.scan-requires-clause-potentials
 scan-requires-clause-potentials g c = c.requires.next.matched.columns
 
-pub scan-requires-clause-distances : goal.scan-requires-clause-distances
-scan-requires-clause-distances g c = c.requires.tree.distances_len
-
-pub scan-requires-clause-places : goal.scan-requires-clause-places
-scan-requires-clause-places g c = c.requires.tree.places_len
+pub scan-requires-clause-wide : goal.scan-requires-clause-wide
+scan-requires-clause-wide g c =
+    let tree = c.requires.tree in
+    record { visited = length-set c.args.self.now.visited.items c.args.column true ∙ tree.visited_len; distances = tree.distances_len; places = tree.places_len }
 
 pub returns-in_err-push : goal.returns-in_err-push
 returns-in_err-push g c = record {
   tree = IfOk-from_err _ _ c.from_residual.ensures.0;
   more = IfOk-from_err _ _ c.from_residual.ensures.0;
   nearest = IfOk-from_err _ _ c.from_residual.ensures.0;
-  visited = refl;
-  distances = refl;
-  places = refl;
+  wide = let tree = c.requires.tree in record { visited = tree.visited_len; distances = tree.distances_len; places = tree.places_len };
   refused = refused_by _ c.from_residual.result c.from_residual.ensures.1;
 }
