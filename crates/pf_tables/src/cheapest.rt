@@ -1,8 +1,7 @@
 //! Cheapest paths over a table.
 
-ghost use Rattle.std.specs.Prelude.{◌≡◌, ◌⊎◌, [], ◌∷◌, Err, IfOk, IfErr, MatchOption, nat_eq};
-ghost use Rattle.pf_base.specs.Walks.{HasNoGoalWalk};
-ghost use Rattle.pf_base.specs.Edges.{IsSuccessor, IsCheapestGoalPath, IsPastRange};
+ghost use Rattle.std.specs.Prelude.{◌≡◌, ◌⊎◌, [], ◌∷◌, Err, IfOk, IfErr, nat_eq};
+ghost use Rattle.pf_base.specs.Edges.{IsPastRange, IsCheapestOrNone};
 ghost use Rattle.pf_tables.specs.Graphs.{graph_of};
 
 use crate::goals::Goals;
@@ -41,9 +40,7 @@ where
     G: Graph<C>,
     T: Goals + Copy,
     A: Allocator + Copy,
-    ensures best { IfOk result (λ answer. MatchOption answer
-        (HasNoGoalWalk nat_eq (IsSuccessor nat_eq (graph_of C.value (G.size graph.now) (G.places graph.now))) (from ∷ []) (T.passes goals))
-        (λ found. IsCheapestGoalPath nat_eq (graph_of C.value (G.size graph.now) (G.places graph.now)) (from ∷ []) (T.passes goals) found.0.items (C.value found.1))) }
+    ensures best { IfOk result (IsCheapestOrNone nat_eq (graph_of C.value (G.size graph.now) (G.places graph.now)) (from ∷ []) (T.passes goals) C.value) }
     ensures overflow { result ≡ Err PathError.CostOverflow → IsPastRange nat_eq (graph_of C.value (G.size graph.now) (G.places graph.now)) (from ∷ []) (T.passes goals) C.fits }
     ensures errors { IfErr result (λ e. (e ≡ PathError.OutOfMemory) ⊎ (e ≡ PathError.CostOverflow)) }
 {

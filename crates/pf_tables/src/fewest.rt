@@ -1,8 +1,7 @@
 //! Paths with fewest edges over a table.
 
-ghost use Rattle.std.specs.Prelude.{◌≡◌, [], ◌∷◌, IfOk, IfErr, MatchOption, nat_eq};
-ghost use Rattle.pf_base.specs.Walks.{HasNoGoalWalk};
-ghost use Rattle.pf_base.specs.Successors.{HasSuccessor, IsFewestEdgesGoalPath};
+ghost use Rattle.std.specs.Prelude.{◌≡◌, [], ◌∷◌, IfOk, IfErr, nat_eq};
+ghost use Rattle.pf_base.specs.Successors.{IsFewestEdgesOrNone};
 ghost use Rattle.pf_tables.specs.Graphs.{successors_of};
 
 use crate::explored::Explored;
@@ -39,9 +38,7 @@ where
     G: Graph<C>,
     T: Goals + Copy,
     A: Allocator + Copy,
-    ensures best { IfOk result (λ answer. MatchOption answer
-        (HasNoGoalWalk nat_eq (HasSuccessor nat_eq (successors_of C.value (G.size graph.now) (G.places graph.now))) (from ∷ []) (T.passes goals))
-        (λ path. IsFewestEdgesGoalPath nat_eq (successors_of C.value (G.size graph.now) (G.places graph.now)) (from ∷ []) (T.passes goals) path.items)) }
+    ensures best { IfOk result (IsFewestEdgesOrNone nat_eq (successors_of C.value (G.size graph.now) (G.places graph.now)) (from ∷ []) (T.passes goals)) }
     ensures errors { IfErr result (λ e. e ≡ PathError.OutOfMemory) }
 {
     if from >= graph.len() {

@@ -1,11 +1,10 @@
 //! Callers over adjacency rows in a compact form: the edges of all nodes in one list, and where the
 //! edges of each node begin.
 
-ghost use Rattle.std.specs.Prelude.{◌≡◌, ◌⊎◌, ◌<◌, ◌≤◌, ◌+◌, ◌==◌, ◌∷◌, [], All, length, nat_eq, pos, slice_index, IsTrue, IfOk, IfErr, MatchOption};
+ghost use Rattle.std.specs.Prelude.{◌≡◌, ◌⊎◌, ◌<◌, ◌≤◌, ◌+◌, ◌==◌, ◌∷◌, [], All, length, nat_eq, pos, slice_index, IsTrue, IfOk, IfErr};
 ghost use Rattle.std.specs.List.Sorted.{IsNonDecreasing};
-ghost use Rattle.pf_base.specs.Edges.{IsSuccessor, IsCheapestGoalPath, IsPastRange};
-ghost use Rattle.pf_base.specs.Successors.{HasSuccessor, IsFewestEdgesGoalPath};
-ghost use Rattle.pf_base.specs.Walks.{HasNoGoalWalk};
+ghost use Rattle.pf_base.specs.Edges.{IsPastRange, IsCheapestOrNone};
+ghost use Rattle.pf_base.specs.Successors.{IsFewestEdgesOrNone};
 ghost use Rattle.test_searches.specs.Compact.{IsCompact, IsNode, edges_in, nodes_in, row_of};
 
 use num_traits::Number;
@@ -60,9 +59,7 @@ where
     requires inside { IsNode offsets.now from }
     requires compact { IsCompact offsets.now targets.now }
     requires in_range { All (λ e. IsNode offsets.now e.0) targets.now }
-    ensures best { IfOk result (λ answer. MatchOption answer
-        (HasNoGoalWalk nat_eq (IsSuccessor nat_eq (edges_in offsets.now targets.now)) (from ∷ []) (λ n. n == to))
-        (λ found. IsCheapestGoalPath nat_eq (edges_in offsets.now targets.now) (from ∷ []) (λ n. n == to) found.0.items (pos found.1))) }
+    ensures best { IfOk result (IsCheapestOrNone nat_eq (edges_in offsets.now targets.now) (from ∷ []) (λ n. n == to) (λ c. pos c)) }
     ensures overflow { result ≡ Err PathError.CostOverflow
         → IsPastRange nat_eq (edges_in offsets.now targets.now) (from ∷ []) (λ n. n == to) ⟦<u32 as Number>⟧.fits }
     ensures errors { IfErr result (λ e. (e ≡ PathError.OutOfMemory) ⊎ (e ≡ PathError.CostOverflow)) }
@@ -90,9 +87,7 @@ where
     requires inside { All (IsNode offsets.now) starts.now }
     requires compact { IsCompact offsets.now targets.now }
     requires in_range { All (IsNode offsets.now) targets.now }
-    ensures best { IfOk result (λ answer. MatchOption answer
-        (HasNoGoalWalk nat_eq (HasSuccessor nat_eq (nodes_in offsets.now targets.now)) starts.now (λ n. n == to))
-        (λ path. IsFewestEdgesGoalPath nat_eq (nodes_in offsets.now targets.now) starts.now (λ n. n == to) path.items)) }
+    ensures best { IfOk result (IsFewestEdgesOrNone nat_eq (nodes_in offsets.now targets.now) starts.now (λ n. n == to)) }
     ensures errors { IfErr result (λ e. e ≡ PathError.OutOfMemory) }
 {
     bfs(

@@ -1,9 +1,8 @@
 //! Callers over a board of heights, which stand row by row in one slice.
 
-ghost use Rattle.std.specs.Prelude.{◌≡◌, ◌⊎◌, ◌*◌, ◌==◌, ◌&&◌, ◌∷◌, [], length, pos, IfOk, IfErr, MatchOption};
-ghost use Rattle.pf_base.specs.Edges.{IsSuccessor, IsCheapestGoalPath, IsPastRange};
-ghost use Rattle.pf_base.specs.Successors.{HasSuccessor, IsFewestEdgesGoalPath};
-ghost use Rattle.pf_base.specs.Walks.{HasNoGoalWalk};
+ghost use Rattle.std.specs.Prelude.{◌≡◌, ◌⊎◌, ◌*◌, ◌==◌, ◌&&◌, ◌∷◌, [], length, pos, IfOk, IfErr};
+ghost use Rattle.pf_base.specs.Edges.{IsPastRange, IsCheapestOrNone};
+ghost use Rattle.pf_base.specs.Successors.{IsFewestEdgesOrNone};
 ghost use Rattle.test_searches.specs.Grid.{cells_from, entered, entered_cell, same_cell, steps_from};
 
 use num_traits::Number;
@@ -62,9 +61,7 @@ pub fn cheapest_on_board<A>(
 where
     A: Allocator + Copy,
     requires { length heights.now ≡ dimensions.0 * dimensions.1 }
-    ensures best { IfOk result (λ answer. MatchOption answer
-        (HasNoGoalWalk same_cell (IsSuccessor same_cell (steps_from heights.now dimensions bound)) (from ∷ []) (λ cell. same_cell cell to))
-        (λ found. IsCheapestGoalPath same_cell (steps_from heights.now dimensions bound) (from ∷ []) (λ cell. same_cell cell to) found.0.items (pos found.1))) }
+    ensures best { IfOk result (IsCheapestOrNone same_cell (steps_from heights.now dimensions bound) (from ∷ []) (λ cell. same_cell cell to) (λ c. pos c)) }
     ensures overflow { result ≡ Err PathError.CostOverflow
         → IsPastRange same_cell (steps_from heights.now dimensions bound) (from ∷ []) (λ cell. same_cell cell to) ⟦<u32 as Number>⟧.fits }
     ensures errors { IfErr result (λ e. (e ≡ PathError.OutOfMemory) ⊎ (e ≡ PathError.CostOverflow)) }
@@ -96,9 +93,7 @@ pub fn fewest_on_board<A>(
 where
     A: Allocator + Copy,
     requires { length heights.now ≡ dimensions.0 * dimensions.1 }
-    ensures best { IfOk result (λ answer. MatchOption answer
-        (HasNoGoalWalk same_cell (HasSuccessor same_cell (cells_from heights.now dimensions bound)) starts.now (λ cell. same_cell cell to))
-        (λ path. IsFewestEdgesGoalPath same_cell (cells_from heights.now dimensions bound) starts.now (λ cell. same_cell cell to) path.items)) }
+    ensures best { IfOk result (IsFewestEdgesOrNone same_cell (cells_from heights.now dimensions bound) starts.now (λ cell. same_cell cell to)) }
     ensures errors { IfErr result (λ e. e ≡ PathError.OutOfMemory) }
 {
     let directions: [(isize, isize); 4] = [(0, 1), (1, 0), (0, -1), (-1, 0)];

@@ -1,10 +1,9 @@
 //! A caller over a list of edges, at any node type and any cost type.
 
-ghost use Rattle.std.specs.Prelude.{◌≡◌, ◌⊎◌, ◌≤ℤ◌, ◌∷◌, [], All, pos, IfOk, IfErr, MatchOption};
+ghost use Rattle.std.specs.Prelude.{◌≡◌, ◌⊎◌, ◌≤ℤ◌, ◌∷◌, [], All, pos, IfOk, IfErr};
 ghost use Rattle.test_edge_lists.specs.Lists.{edges_from};
 ghost use Rattle.pf_base.specs.Answers.{IsLawfulClone};
-ghost use Rattle.pf_base.specs.Edges.{IsSuccessor, IsCheapestGoalPath, IsPastRange};
-ghost use Rattle.pf_base.specs.Walks.{HasNoGoalWalk};
+ghost use Rattle.pf_base.specs.Edges.{IsPastRange, IsCheapestOrNone};
 
 use pf_base::{Cost, PathError};
 use pf_search::directed::dijkstra::dijkstra;
@@ -25,9 +24,7 @@ where
     A: Allocator + Copy,
     requires clones { IsLawfulClone N.eq N.is_clone }
     requires from_zero { All (λ e. pos 0 ≤ℤ C.value e.2) edges.now }
-    ensures best { IfOk result (λ answer. MatchOption answer
-        (HasNoGoalWalk N.eq (IsSuccessor N.eq (edges_from N.eq edges.now C.value)) (from ∷ []) (λ n. N.eq n to))
-        (λ found. IsCheapestGoalPath N.eq (edges_from N.eq edges.now C.value) (from ∷ []) (λ n. N.eq n to) found.0.items (C.value found.1))) }
+    ensures best { IfOk result (IsCheapestOrNone N.eq (edges_from N.eq edges.now C.value) (from ∷ []) (λ n. N.eq n to) C.value) }
     ensures overflow { result ≡ Err PathError.CostOverflow
         → IsPastRange N.eq (edges_from N.eq edges.now C.value) (from ∷ []) (λ n. N.eq n to) C.fits }
     ensures errors { IfErr result (λ e. (e ≡ PathError.OutOfMemory) ⊎ (e ≡ PathError.CostOverflow)) }

@@ -1,9 +1,8 @@
 //! A graph that is computed, and callers of what goes over graphs whose nodes are numbers.
 
-ghost use Rattle.std.specs.Prelude.{◌<◌, ◌-◌, ◌==◌, ◌∷◌, [], length, nat_eq, pos, IfOk, IfSome, MatchOption};
-ghost use Rattle.pf_base.specs.Edges.{IsSuccessor, IsCheapestGoalPath};
-ghost use Rattle.pf_base.specs.Successors.{HasSuccessor, IsFewestEdgesGoalPath};
-ghost use Rattle.pf_base.specs.Walks.{HasNoGoalWalk};
+ghost use Rattle.std.specs.Prelude.{◌<◌, ◌-◌, ◌==◌, ◌∷◌, [], length, nat_eq, pos, IfOk, IfSome};
+ghost use Rattle.pf_base.specs.Edges.{IsCheapestOrNone};
+ghost use Rattle.pf_base.specs.Successors.{IsFewestEdgesOrNone};
 ghost use Rattle.pf_tables.specs.Goals.{is_marked};
 ghost use Rattle.pf_tables.specs.Graphs.{between, filled, successors_of};
 ghost use Rattle.test_searches.specs.Rings.{ring_edges, ring_places};
@@ -51,9 +50,7 @@ pub fn way_round<A>(
 ) -> Result<Option<(Vec<usize, A>, u32)>, PathError>
 where
     A: Allocator + Copy,
-    ensures best { IfOk result (λ answer. MatchOption answer
-        (HasNoGoalWalk nat_eq (IsSuccessor nat_eq (ring_edges ring.now.nodes)) (from ∷ []) (λ n. n == to))
-        (λ found. IsCheapestGoalPath nat_eq (ring_edges ring.now.nodes) (from ∷ []) (λ n. n == to) found.0.items (pos found.1))) }
+    ensures best { IfOk result (IsCheapestOrNone nat_eq (ring_edges ring.now.nodes) (from ∷ []) (λ n. n == to) (λ c. pos c)) }
 {
     dijkstra(alloc, ring, from, to)
 }
@@ -67,9 +64,7 @@ pub fn way_to_marked<A>(
 ) -> Result<Option<Vec<usize, A>>, PathError>
 where
     A: Allocator + Copy,
-    ensures best { IfOk result (λ answer. MatchOption answer
-        (HasNoGoalWalk nat_eq (HasSuccessor nat_eq (successors_of ⟦<Costless as Number>⟧.value (length graph.now.0 - 1) (λ n. filled (between graph.now.0 graph.now.1 n)))) (from ∷ []) (is_marked marks.now))
-        (λ path. IsFewestEdgesGoalPath nat_eq (successors_of ⟦<Costless as Number>⟧.value (length graph.now.0 - 1) (λ n. filled (between graph.now.0 graph.now.1 n))) (from ∷ []) (is_marked marks.now) path.items)) }
+    ensures best { IfOk result (IsFewestEdgesOrNone nat_eq (successors_of ⟦<Costless as Number>⟧.value (length graph.now.0 - 1) (λ n. filled (between graph.now.0 graph.now.1 n))) (from ∷ []) (is_marked marks.now)) }
 {
     bfs(alloc, graph, from, marks)
 }

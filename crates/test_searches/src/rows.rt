@@ -1,9 +1,8 @@
 //! Callers over tables in which each node has a row.
 
-ghost use Rattle.std.specs.Prelude.{◌≡◌, ◌⊎◌, ◌<◌, ◌↔◌, ◌==◌, ◌∷◌, [], All, length, nat_eq, pos, IsTrue, IfOk, IfErr, MatchOption};
-ghost use Rattle.pf_base.specs.Edges.{IsSuccessor, IsCheapestGoalPath, IsPastRange};
-ghost use Rattle.pf_base.specs.Successors.{HasSuccessor, IsFewestEdgesGoalPath};
-ghost use Rattle.pf_base.specs.Walks.{HasNoGoalWalk};
+ghost use Rattle.std.specs.Prelude.{◌≡◌, ◌⊎◌, ◌<◌, ◌↔◌, ◌==◌, ◌∷◌, [], All, length, nat_eq, pos, IsTrue, IfOk, IfErr};
+ghost use Rattle.pf_base.specs.Edges.{IsPastRange, IsCheapestOrNone};
+ghost use Rattle.pf_base.specs.Successors.{IsFewestEdgesOrNone};
 ghost use Rattle.test_searches.specs.Rows.{edges_of, nodes_after};
 
 use num_traits::Number;
@@ -38,9 +37,7 @@ where
     A: Allocator + Copy,
     requires inside { from < length rows.now }
     requires in_range { All (λ row. All (λ e. e.0 < length rows.now) row.items) rows.now }
-    ensures best { IfOk result (λ answer. MatchOption answer
-        (HasNoGoalWalk nat_eq (IsSuccessor nat_eq (edges_of rows.now)) (from ∷ []) (λ n. n == to))
-        (λ found. IsCheapestGoalPath nat_eq (edges_of rows.now) (from ∷ []) (λ n. n == to) found.0.items (pos found.1))) }
+    ensures best { IfOk result (IsCheapestOrNone nat_eq (edges_of rows.now) (from ∷ []) (λ n. n == to) (λ c. pos c)) }
     ensures overflow { result ≡ Err PathError.CostOverflow
         → IsPastRange nat_eq (edges_of rows.now) (from ∷ []) (λ n. n == to) ⟦<u32 as Number>⟧.fits }
     ensures errors { IfErr result (λ e. (e ≡ PathError.OutOfMemory) ⊎ (e ≡ PathError.CostOverflow)) }
@@ -60,9 +57,7 @@ where
     A: Allocator + Copy,
     requires inside { All (λ n. n < length rows.now) starts.now }
     requires in_range { All (λ row. All (λ n. n < length rows.now) row.items) rows.now }
-    ensures best { IfOk result (λ answer. MatchOption answer
-        (HasNoGoalWalk nat_eq (HasSuccessor nat_eq (nodes_after rows.now)) starts.now (λ n. n == to))
-        (λ path. IsFewestEdgesGoalPath nat_eq (nodes_after rows.now) starts.now (λ n. n == to) path.items)) }
+    ensures best { IfOk result (IsFewestEdgesOrNone nat_eq (nodes_after rows.now) starts.now (λ n. n == to)) }
     ensures errors { IfErr result (λ e. e ≡ PathError.OutOfMemory) }
 {
     bfs(alloc, starts, |n| rows[*n].iter().copied(), |n| *n == to)
