@@ -1,5 +1,5 @@
 -- The positions of a table, one after another.
-use Rattle.std.proofs.Common.{◌≡◌, ℕ, zero, suc, ◌+◌, ◌*◌, ◌/◌, ◌%◌, ◌<◌, ◌≤◌, ap, sym, ◌∙◌, arith, rules, true, false, List, [], ◌∷◌, length, drop, get_or, Option, Some, None}
+use Rattle.std.proofs.Common.{◌≡◌, ℕ, zero, suc, ◌+◌, ◌*◌, ◌/◌, ◌%◌, ◌<◌, ◌≤◌, ap, sym, ◌∙◌, arith, true, false, List, [], ◌∷◌, length, drop, get_or, Option, Some, None}
 use Rattle.std.specs.Option.{is_some}
 use Rattle.std.specs.List.{cons_option, filter_map}
 use Rattle.std.specs.Iterator.{MakesProgress, YieldsFirst, item_count}

@@ -71,6 +71,7 @@ fn flood<A: Allocator + Copy>(
     ensures reached { IfOk result (IsFlood passing.now.rows passing.now.columns diagonals (answer_at passing.now.rows passing.now.columns passing.now.values) start) }
     ensures refused { IfErr result (λ e. e ≡ OutOfMemory) }
 {
+    // A borrow of this function alone: the borrow checker covers the closures at one such lifetime.
     let table = &*passing;
     let walk = bfs_reach(alloc, start, |position: &(usize, usize)| {
         table

@@ -1,4 +1,4 @@
-use Rattle.std.proofs.Common.{◌≡◌, ap, sym, refl, ◌∙◌}
+use Rattle.std.proofs.Common.{ap, sym, refl, ◌∙◌}
 use Rattle.std.proofs.lemmas.Result.{IfOk-weaker}
 use Rattle.pf_matrix.specs.Positions.{positions}
 use Rattle.pf_matrix.proofs.FloodLemmas.{given_on}

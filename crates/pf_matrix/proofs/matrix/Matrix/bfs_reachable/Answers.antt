@@ -1,6 +1,5 @@
 use Rattle.std.proofs.Common.{◌≡◌, ap, sym, ◌∙◌}
 use Rattle.std.proofs.lemmas.Result.{IfOk-from_err, IfOk-weaker}
-use Rattle.pf_matrix.specs.Floods.{IsFlood, answer_at}
 use Rattle.pf_matrix.specs.Positions.{positions_of}
 use Rattle.pf_matrix.specs.declared.error.MatrixFormatError.TheVariants.{OutOfMemory}
 use Rattle.pf_matrix.proofs.FloodLemmas.{callable_on, given_on}
