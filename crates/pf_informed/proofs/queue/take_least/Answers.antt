@@ -40,3 +40,9 @@ returns-then-not-is_lower-clause-ordered g c = c.take_first.ensures.ordered
 
 pub returns-clause-ordered : goal.returns-clause-ordered
 returns-clause-ordered g c = c.take_first.ensures.ordered
+
+pub entries-smaller : goal.entries-smaller
+entries-smaller g c = omega (arith, c.in-Some.ensures.first.1)
+
+pub returns-then-not-is_lower-clause-fewer : goal.returns-then-not-is_lower-clause-fewer
+returns-then-not-is_lower-clause-fewer g c = omega (arith, c.in-Some.ensures.first.1, c.entries.invariant.fewer)

@@ -1,11 +1,13 @@
-use Rattle.std.proofs.Common.{◌<◌, ◌≤◌, ◌∙◌, ℕ, sym, ap, subst, length}
-use Rattle.std.specs.Prelude.{◌++◌}
+use Rattle.std.proofs.Common.{◌<◌, ◌≤◌, ◌∙◌, List, ℕ, sym, ap, subst, length}
+use Rattle.std.specs.Prelude.{◌++◌, Contains}
 use Rattle.std.specs.BinaryHeap.{heap_items}
 use Rattle.pf_core.specs.Nodes.{StandsFor, IsStep}
 use Rattle.pf_core.proofs.LabelLemmas.{HasLabel-inside}
 use Rattle.pf_core.proofs.ListLemmas.{on_ok}
 use Rattle.pf_core.proofs.UnitLemmas.{begins_all}
 use Rattle.pf_core.proofs.WalkLemmas.{no_negative}
+use Rattle.pf_informed.specs.Internal.Informed.{Follows}
+use Rattle.pf_informed.specs.Internal.Waiting.{IsQueue}
 use Rattle.pf_informed.proofs.GrowingLemmas.{follows_beside, queue_beside}
 use Rattle.pf_informed.proofs.InformedLemmas.{queue_kept, informed_opened}
 use Rattle.pf_informed.proofs.LedLemmas.{with_test, led_grown, led_more}
@@ -35,7 +37,7 @@ ask-requires-clause-graph g c =
 pub follow-requires-clause-ends : goal.follow-requires-clause-ends
 follow-requires-clause-ends g c = λ j d m.
     let row = c.in_ok-expand.ensures.listed in
-    subst (λ (n : ℕ). j < n) (sym c.in_ok-ask.ensures.all) (row.2 j d (rw row.1 at m))
+    subst (λ (n : ℕ). j < n) (sym c.in_ok-ask.ensures.all) (row.2 j d (subst (λ (xs : List (ℕ × g.row.C.Denot)). Contains xs (j, d)) row.1 m))
 
 pub follow-requires-clause-prices : goal.follow-requires-clause-prices
 follow-requires-clause-prices g c = λ j d m.
@@ -48,7 +50,7 @@ follow-requires-clause-prices g c = λ j d m.
     let row = c.in_ok-expand.ensures.listed in
     let lists = row.4 (with_test r.0 r.1) (k.explores, k.tested) here.0 here.1 in
     let p = no_negative eq laws r.0 k.explores.alike k.costs in
-    let q = lists.sound j d (rw row.1 at m) in
+    let q = lists.sound j d (subst (λ (xs : List (ℕ × g.row.C.Denot)). Contains xs (j, d)) row.1 m) in
     p.non_negative here.0 (g.C.Number.value d) q.0 q.1
 
 pub follow-requires-clause-queue : goal.follow-requires-clause-queue
@@ -70,9 +72,12 @@ returns g c =
           let labels = c.args.search.now.labels.items in
           let heap = heap_items c.args.search.now.queue in
           let estimates = c.ask.new.estimates.items in
-          let followed = rw (f.estimates, row.1) at (w.0 l.0 l.1) in
+          let stepped = subst (λ (es : List g.row.C.Denot). Follows value g.C.Number.fits es c.args.number l.0 c.expand.new.row.items labels c.follow.new.self.labels.items heap (heap_items c.follow.new.self.queue)) f.estimates (w.0 l.0 l.1) in
+          let followed = subst (λ (xs : List (ℕ × g.row.C.Denot)). Follows value g.C.Number.fits estimates c.args.number l.0 xs labels c.follow.new.self.labels.items heap (heap_items c.follow.new.self.queue)) row.1 stepped in
           let waited = queue_kept value labels c.args.search.now.estimates.items estimates (heap ++ rest) c.in_ok-ask.ensures.kept q in
-          rw f.estimates (queue_beside value g.C.Number.fits estimates c.args.number l.0 _ labels c.follow.new.self.labels.items heap (heap_items c.follow.new.self.queue) rest followed waited (rw f.estimates at w.1)));
+          subst (λ (es : List g.row.C.Denot). IsQueue value c.follow.new.self.labels.items es (heap_items c.follow.new.self.queue ++ rest)) (sym f.estimates)
+          (queue_beside value g.C.Number.fits estimates c.args.number l.0 _ labels c.follow.new.self.labels.items heap (heap_items c.follow.new.self.queue) rest followed waited
+          (subst (λ (es : List g.row.C.Denot). IsQueue value c.follow.new.self.labels.items es (heap_items c.follow.new.self.queue)) f.estimates w.1)));
       less = f.less;
       graph = on_ok c.follow.result f.followed (λ w h test least d.
           let eq = g.N.PartialEq.eq in
@@ -93,7 +98,8 @@ returns g c =
             rw f.estimates (led_more (led_grown d laws c.requires.asked c.expand.new.self grown x.0 x.1) a.0 a.1),
             λ passes entries rest fails left i.
                 let someone = begins_all eq laws old number (subst (λ (n : ℕ). number < n) c.requires.wide (HasLabel-inside labels number l.0 l.1)) in
-                let followed = rw (f.estimates, row.1) at (w l.0 l.1) in
+                let stepped = subst (λ (es : List g.row.C.Denot). Follows value g.C.Number.fits es number l.0 c.expand.new.row.items labels c.follow.new.self.labels.items heap (heap_items c.follow.new.self.queue)) f.estimates (w l.0 l.1) in
+                let followed = subst (λ (xs : List (ℕ × g.row.C.Denot)). Follows value g.C.Number.fits asked number l.0 xs labels c.follow.new.self.labels.items heap (heap_items c.follow.new.self.queue)) row.1 stepped in
                 let whole = follows_beside value g.C.Number.fits asked number l.0 _ labels c.follow.new.self.labels.items heap (heap_items c.follow.new.self.queue) rest followed in
                 let opened = informed_opened value g.C.Number.fits (IsStep eq h) passes estimates asked c.in_ok-ask.ensures.kept (length old) (length keys) (StandsFor eq old) (StandsFor eq keys) grown labels c.follow.new.self.labels.items (at_most_equal _ _ c.requires.wide)
                 entries (heap ++ rest) (heap_items c.follow.new.self.queue ++ rest) number l.0 l.1 left fails row.0 (λ y k. row.4 (with_test h test) (d.explores, d.tested) y k) row.3 someone whole c.requires.forest i in

@@ -261,3 +261,6 @@ begin-requires-clause-graph g c = c.requires.graph
 
 pub turns-smaller : goal.turns-smaller
 turns-smaller g c = less_left_too _ _ _ _ _ _ c.in_ok-turn.ensures.less (MatchOption-at_some _ _ c.in-Some.taken c.in-Some.is c.in_ok-taken.ensures.fewer)
+
+pub index-requires : goal.index-requires
+index-requires g c = some_one _ (c.begin.new.search.estimates.ok.0 ∙ c.in_ok-begin.ensures.asked)

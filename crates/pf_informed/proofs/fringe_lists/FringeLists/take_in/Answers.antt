@@ -55,13 +55,13 @@ returns g c = record {
       let i = c.entries.invariant in
       let before = c.entries.self.current.items in
       let after = c.reverse_from.new.elements in
-      let moved : IsPermutation before after = rw c.deref_mut.ensures.value at c.reverse_from.ensures in
+      let moved = subst (λ (xs : List (Entry g.row.C.Denot)). IsPermutation xs after) c.deref_mut.ensures.value c.reverse_from.ensures in
       let none = c.in_default.ensures.first.0 in
       subst (λ (xs : List (Entry g.row.C.Denot)). (e : Entry g.row.C.Denot) → Contains (heap_items c.args.queue.now ++ c.args.self.now.current.items) e ↔ Contains xs e)
       (sym (take_at after _ _ (omega (arith, length_permutation before after moved, c.deref_mut.ensures.len))))
       (λ e. (
-        (λ h. Contains-permutation before after e moved (rw none at ((i.same e).0 h))),
-        (λ h. (i.same e).1 (rw none (Contains-permutation after before e (IsPermutation-sym _ _ moved) h))),
+        (λ h. Contains-permutation before after e moved (subst (λ (xs : List (Entry g.row.C.Denot)). Contains (xs ++ before) e) none ((i.same e).0 h))),
+        (λ h. (i.same e).1 (subst (λ (xs : List (Entry g.row.C.Denot)). Contains (xs ++ before) e) (sym none) (Contains-permutation after before e (IsPermutation-sym before after moved) h))),
       ));
   ordered = c.in_default.ensures.ordered;
   emptied = c.in_default.ensures.first.1;
@@ -71,7 +71,7 @@ returns g c = record {
   count =
       let before = c.entries.self.current.items in
       let after = c.reverse_from.new.elements in
-      let moved : IsPermutation before after = rw c.deref_mut.ensures.value at c.reverse_from.ensures in
+      let moved = subst (λ (xs : List (Entry g.row.C.Denot)). IsPermutation xs after) c.deref_mut.ensures.value c.reverse_from.ensures in
       let none = c.in_default.ensures.first in
       let same = length_permutation before after moved in
       subst (λ (xs : List (Entry g.row.C.Denot)). heap_len c.take_first.new.queue + length xs ≡ heap_len c.args.queue.now + length c.args.self.now.current.items) (sym (take_at after _ _ (omega (arith, same, c.deref_mut.ensures.len))))

@@ -1,4 +1,5 @@
-use Rattle.std.proofs.Common.{◌≡◌, ◌<◌, ◌∙◌, subst, sym, ℕ, length, refl, ◌≤◌, ◌^◌}
+use Rattle.std.proofs.Common.{◌≡◌, ◌<◌, ◌∙◌, subst, sym, ℕ, List, None, length, refl, ◌≤◌, ◌^◌}
+use Rattle.std.specs.Prelude.{◌++◌, ◌-◌, Contains, replicate}
 use Rattle.std.specs.BinaryHeap.{heap_items, heap_len}
 use Rattle.pf_core.specs.declared.labels.Label.{Label}
 use Rattle.pf_core.proofs.LabelLemmas.{HasLabel-inside, label_is}
@@ -13,7 +14,7 @@ pub label_of-label-requires : goal.label_of-label-requires
 label_of-label-requires g c =
     let labels = c.args.self.now.labels.items in
     let len : c.len-2.result ≡ length c.args.self.now.estimates.items = c.len-2.ensures ∙ c.args.self.now.estimates.ok.0 in
-    let is = rw len at c.in_ok-make_room.ensures.wider in
+    let is = subst (λ (n : ℕ). c.make_room.new.labels.items ≡ labels ++ replicate (n - length labels) None) len c.in_ok-make_room.ensures.wider in
     let w = widened g.C.Number.value labels c.make_room.new.labels.items (length c.args.self.now.estimates.items) c.requires.few is in
     let l = c.requires.labelled in
     (l.0, w.stays c.args.number l.0 l.1)
@@ -22,15 +23,15 @@ pub relax-requires-clause-inside : goal.relax-requires-clause-inside
 relax-requires-clause-inside g c = λ j d h.
     let labels = c.args.self.now.labels.items in
     let len : c.len-2.result ≡ length c.args.self.now.estimates.items = c.len-2.ensures ∙ c.args.self.now.estimates.ok.0 in
-    let is = rw len at c.in_ok-make_room.ensures.wider in
+    let is = subst (λ (n : ℕ). c.make_room.new.labels.items ≡ labels ++ replicate (n - length labels) None) len c.in_ok-make_room.ensures.wider in
     let wide = length_wider g.C.Number.value labels c.make_room.new.labels.items (length c.args.self.now.estimates.items) c.requires.few is in
-    subst (λ (n : ℕ). j < n) (sym wide) (c.requires.ends j d (rw c.deref.ensures.value at h))
+    subst (λ (n : ℕ). j < n) (sym wide) (c.requires.ends j d (subst (λ (xs : List (ℕ × g.row.C.Denot)). Contains xs (j, d)) c.deref.ensures.value h))
 
 pub relax-requires-clause-few : goal.relax-requires-clause-few
 relax-requires-clause-few g c =
     let labels = c.args.self.now.labels.items in
     let len : c.len-2.result ≡ length c.args.self.now.estimates.items = c.len-2.ensures ∙ c.args.self.now.estimates.ok.0 in
-    let is = rw len at c.in_ok-make_room.ensures.wider in
+    let is = subst (λ (n : ℕ). c.make_room.new.labels.items ≡ labels ++ replicate (n - length labels) None) len c.in_ok-make_room.ensures.wider in
     subst (λ (n : ℕ). n ≤ 2 ^ 32) (len ∙ sym (length_wider g.C.Number.value labels c.make_room.new.labels.items (length c.args.self.now.estimates.items) c.requires.few is)) c.in_ok-make_room.ensures.few
 
 pub relax-requires-clause-parent : goal.relax-requires-clause-parent
@@ -38,17 +39,17 @@ relax-requires-clause-parent g c =
     let labels = c.args.self.now.labels.items in
     let l = c.requires.labelled in
     let len : c.len-2.result ≡ length c.args.self.now.estimates.items = c.len-2.ensures ∙ c.args.self.now.estimates.ok.0 in
-    let is = rw len at c.in_ok-make_room.ensures.wider in
+    let is = subst (λ (n : ℕ). c.make_room.new.labels.items ≡ labels ++ replicate (n - length labels) None) len c.in_ok-make_room.ensures.wider in
     subst (λ (n : ℕ). c.args.number < n) (sym (length_wider g.C.Number.value labels c.make_room.new.labels.items (length c.args.self.now.estimates.items) c.requires.few is)) (below_more _ _ _ (HasLabel-inside labels c.args.number l.0 l.1) c.requires.few)
 
 pub relax-requires-clause-prices : goal.relax-requires-clause-prices
-relax-requires-clause-prices g c = λ j d h. c.requires.prices j d (rw c.deref.ensures.value at h)
+relax-requires-clause-prices g c = λ j d h. c.requires.prices j d (subst (λ (xs : List (ℕ × g.row.C.Denot)). Contains xs (j, d)) c.deref.ensures.value h)
 
 pub relax-requires-clause-forest : goal.relax-requires-clause-forest
 relax-requires-clause-forest g c =
     let labels = c.args.self.now.labels.items in
     let len : c.len-2.result ≡ length c.args.self.now.estimates.items = c.len-2.ensures ∙ c.args.self.now.estimates.ok.0 in
-    let is = rw len at c.in_ok-make_room.ensures.wider in
+    let is = subst (λ (n : ℕ). c.make_room.new.labels.items ≡ labels ++ replicate (n - length labels) None) len c.in_ok-make_room.ensures.wider in
     let w = widened g.C.Number.value labels c.make_room.new.labels.items (length c.args.self.now.estimates.items) c.requires.few is in
     forest_wider g.C.Number.value labels c.make_room.new.labels.items w.stays w.from c.requires.forest
 
@@ -56,7 +57,7 @@ pub relax-requires-clause-queue : goal.relax-requires-clause-queue
 relax-requires-clause-queue g c =
     let labels = c.args.self.now.labels.items in
     let len : c.len-2.result ≡ length c.args.self.now.estimates.items = c.len-2.ensures ∙ c.args.self.now.estimates.ok.0 in
-    let is = rw len at c.in_ok-make_room.ensures.wider in
+    let is = subst (λ (n : ℕ). c.make_room.new.labels.items ≡ labels ++ replicate (n - length labels) None) len c.in_ok-make_room.ensures.wider in
     let w = widened g.C.Number.value labels c.make_room.new.labels.items (length c.args.self.now.estimates.items) c.requires.few is in
     rw c.in_ok-reserve.ensures.items (queue_wider g.C.Number.value labels c.make_room.new.labels.items w.stays c.args.self.now.estimates.items (heap_items c.args.self.now.queue) c.requires.queue)
 
@@ -94,7 +95,7 @@ pub relax-requires-clause-wide : goal.relax-requires-clause-wide
 relax-requires-clause-wide g c =
     let labels = c.args.self.now.labels.items in
     let len : c.len-2.result ≡ length c.args.self.now.estimates.items = c.len-2.ensures ∙ c.args.self.now.estimates.ok.0 in
-    let is = rw len at c.in_ok-make_room.ensures.wider in
+    let is = subst (λ (n : ℕ). c.make_room.new.labels.items ≡ labels ++ replicate (n - length labels) None) len c.in_ok-make_room.ensures.wider in
     sym (length_wider g.C.Number.value labels c.make_room.new.labels.items (length c.args.self.now.estimates.items) c.requires.few is)
 
 pub returns : goal.returns
@@ -104,7 +105,7 @@ returns g c =
       followed = λ l h.
           let labels = c.args.self.now.labels.items in
           let len : c.len-2.result ≡ length c.args.self.now.estimates.items = c.len-2.ensures ∙ c.args.self.now.estimates.ok.0 in
-          let is = rw len at c.in_ok-make_room.ensures.wider in
+          let is = subst (λ (n : ℕ). c.make_room.new.labels.items ≡ labels ++ replicate (n - length labels) None) len c.in_ok-make_room.ensures.wider in
           let w = widened g.C.Number.value labels c.make_room.new.labels.items (length c.args.self.now.estimates.items) c.requires.few is in
           let same : c.label_of-label.result ≡ l = label_is c.make_room.new.labels.items c.args.number c.label_of-label.result l c.label_of-label.ensures (w.stays c.args.number l h) in
           let eased = rw (c.deref.ensures.value, c.in_ok-reserve.ensures.items) at c.relax.ensures.eased in
@@ -115,12 +116,12 @@ returns g c =
           };
       wide =
           let len : c.len-2.result ≡ length c.args.self.now.estimates.items = c.len-2.ensures ∙ c.args.self.now.estimates.ok.0 in
-          let is = rw len at c.in_ok-make_room.ensures.wider in
+          let is = subst (λ (n : ℕ). c.make_room.new.labels.items ≡ labels ++ replicate (n - length labels) None) len c.in_ok-make_room.ensures.wider in
           c.relax.ensures.eased.len ∙ length_wider g.C.Number.value labels c.make_room.new.labels.items (length c.args.self.now.estimates.items) c.requires.few is;
       less =
           let top = nat_of (g.C.Number.value g.C.Cost.greatest) in
           let len : c.len-2.result ≡ length c.args.self.now.estimates.items = c.len-2.ensures ∙ c.args.self.now.estimates.ok.0 in
-          let is = rw len at c.in_ok-make_room.ensures.wider in
+          let is = subst (λ (n : ℕ). c.make_room.new.labels.items ≡ labels ++ replicate (n - length labels) None) len c.in_ok-make_room.ensures.wider in
           let w = work_wider g.C.Number.value labels c.make_room.new.labels.items (length c.args.self.now.estimates.items) c.requires.few is top (heap_len c.args.self.now.queue) (few_fit _ _ len c.in_ok-make_room.ensures.few) in
           less_work g.C.Number.value top c.make_room.new.labels.items c.relax.new.labels.items (heap_len c.reserve.new.self) (heap_len c.relax.new.queue) (heap_len c.args.self.now.queue) labels c.relax.ensures.eased.len c.relax.ensures.less c.in_ok-reserve.ensures.len w;
       estimates = refl;

@@ -1,5 +1,5 @@
 use Rattle.std.proofs.Common.{◌≡◌, List, ℕ, true, false, length, ◌∙◌, sym, subst, slice_get, Option, Some, None, is_some, true≢false, ◌<◌, ◌≤◌}
-use Rattle.std.specs.Prelude.{MatchOption, ⊤}
+use Rattle.std.specs.Prelude.{◌++◌, ◌+◌, MatchOption, ⊤}
 use Rattle.pf_core.specs.Nodes.{StandsFor}
 use Rattle.pf_core.proofs.ListLemmas.{get-append}
 use Rattle.pf_core.proofs.SearchLemmas.{Grows-trans}
@@ -77,8 +77,10 @@ returns g c = record {
       let grows = Grows-trans _ _ _ _ _ _ c.is_goal.ensures.grows c.in_ok-expand.ensures.grows in
       let row = c.in_ok-expand.ensures.listed in
       let e = c.in_ok-span.ensures in
+      let kept = subst (λ (xs : List (ℕ × g.row.C.Denot)). c.keep.new.self.steps.items ≡ c.args.self.now.rows.steps.items ++ xs) c.deref.ensures.value e.steps in
+      let end = subst (λ (xs : List (ℕ × g.row.C.Denot)). c.in_ok-span.span.end ≡ length c.args.self.now.rows.steps.items + length xs) c.deref.ensures.value e.span.1 in
       table_more (length keys) (length after) grows.more c.args.self.now.rows.steps.items c.expand.new.row.steps.items c.keep.new.self.steps.items c.args.self.now.rows.spans.items c.keep.new.self.spans.items c.args.number c.in_ok-span.span
-      (rw c.deref.ensures.value at e.steps) e.span.0 (rw c.deref.ensures.value at e.span.1) e.from c.requires.table (below_more _ _ _ c.requires.inside grows.more) (λ i j d at. row.2 j d (row.1.from i j d at));
+      kept e.span.0 end e.from c.requires.table (below_more _ _ _ c.requires.inside grows.more) (λ i j d at. row.2 j d (row.1.from i j d at));
   grows = Grows-trans _ _ _ _ _ _ c.is_goal.ensures.grows c.in_ok-expand.ensures.grows;
   steps = λ i e h. subst (λ (xs : List (ℕ × g.row.C.Denot)). slice_get xs i ≡ Some e) (sym c.in_ok-span.ensures.steps) (get-append c.args.self.now.rows.steps.items c.deref.result.now i e h);
   spans = λ k s h.
@@ -98,12 +100,14 @@ returns g c = record {
       let a = c.in_ok-ask.ensures.graph h least k.led.asked x.0.reached in
       let row = c.in_ok-expand.ensures.listed in
       let e = c.in_ok-span.ensures in
+      let kept = subst (λ (xs : List (ℕ × g.row.C.Denot)). c.keep.new.self.steps.items ≡ c.args.self.now.rows.steps.items ++ xs) c.deref.ensures.value e.steps in
+      let end = subst (λ (xs : List (ℕ × g.row.C.Denot)). c.in_ok-span.span.end ≡ length c.args.self.now.rows.steps.items + length xs) c.deref.ensures.value e.span.1 in
       let number = c.args.number in
       let here : (y : g.row.N.Denot) → StandsFor eq after number y → StandsFor eq between number y = λ y s. c.in_ok-expand.ensures.grows.back number y (subst (λ (n : ℕ). number < n) (sym c.is_goal.ensures.same) c.requires.inside) s in (
         record {
           led = led_more (led_grown k.led laws c.requires.estimated c.expand.new.self grows x.0 x.1) a.0 a.1;
           rows = rows_more (length keys) (length after) grows.more c.args.self.now.rows.steps.items c.expand.new.row.steps.items c.keep.new.self.steps.items c.args.self.now.rows.spans.items c.keep.new.self.spans.items number c.in_ok-span.span
-              (rw c.deref.ensures.value at e.steps) e.span.0 (rw c.deref.ensures.value at e.span.1) e.from c.requires.table value (IsCheapStep eq h) test (StandsFor eq keys) (StandsFor eq after) grows
+              kept e.span.0 end e.from c.requires.table value (IsCheapStep eq h) test (StandsFor eq keys) (StandsFor eq after) grows
               (λ y s. sym (told.1 y (c.is_goal.ensures.grows.back number y c.requires.inside (here y s))) ∙ c.if-is_goal.false)
               (λ y s. cheap_sound eq laws value h after y c.expand.new.row.steps.items row.0 c.expand.new.row.places.items row.1 (row.4 (with_test h test) told.0 y (here y s)))
               (λ y s. cheap_complete eq laws value h after y c.expand.new.row.steps.items row.0 c.expand.new.row.places.items row.1 (row.4 (with_test h test) told.0 y (here y s)))
