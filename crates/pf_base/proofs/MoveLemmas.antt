@@ -5,7 +5,8 @@ use Rattle.std.specs.Option.{option_map_or}
 use Rattle.std.proofs.Math.IntN.{suc_ℤ-*ℤ, *ℤ-zero, pos-*ℤ-pos, pos-*ℤ-negsuc}
 use Rattle.std.proofs.lemmas.Int.{ints}
 use Rattle.std.proofs.lemmas.Bool.Decides.{nat_tests}
-use Rattle.pf_base.specs.Moves.{Finds, IsCoordinateStep, IsInside, IsMove, times, below_size, pair_of, is_zero, is_inside, target_of, first_of_ray, room, ray}
+use Rattle.pf_base.specs.Moves.{Finds, IsInside, IsMove, times, below_size, pair_of, is_zero, is_inside, target_of, first_of_ray, room, ray}
+use Rattle.pf_base.specs.Internal.CoordinateSteps.{IsCoordinateStep}
 
 -- ---- one move
 

@@ -7,11 +7,6 @@ abbrev pub Finds : {A : Type 0} → (A → Type 0) → Option A → Type 0
 Finds {A} P None = (x : A) → ¬ (P x)
 Finds {A} P (Some x) = P x
 
--- a step leads from one coordinate to the other, which is below the size
-pub record IsCoordinateStep (from : ℕ) (step : ℤ) (size to : ℕ) : Type 0 where
-  pub sum : pos to ≡ pos from +ℤ step
-  pub inside : to < size
-
 abbrev pub IsInside : ℕ × ℕ → ℕ × ℕ → Type 0
 IsInside dimensions position = (position.0 < dimensions.0) × (position.1 < dimensions.1)
 

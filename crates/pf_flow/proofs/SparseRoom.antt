@@ -3,8 +3,10 @@ use Rattle.std.proofs.Common.{◌≡◌, ◌≢◌, ◌∙◌, refl, sym, ap, su
 use Rattle.std.proofs.lemmas.List.{length-set, get_or_default, get_or-set_same, set-get_or}
 use borrow.Author.Tests.{eqb-true, eqb-false}
 use Rattle.pf_residual.specs.Networks.{Agrees}
-use Rattle.pf_residual.specs.SparseRows.{ends, Rises, has_end, amount_to, row_at, with_edge, without_edge}
-use Rattle.pf_residual.specs.SparseStores.{AreRows, rows_network}
+use Rattle.pf_residual.specs.SparseRows.{ends, has_end, amount_to, row_at}
+use Rattle.pf_residual.specs.Internal.RowChanges.{Rises, with_edge, without_edge}
+use Rattle.pf_residual.specs.SparseStores.{rows_network}
+use Rattle.pf_residual.specs.Internal.SparseTables.{AreRows}
 use Rattle.pf_residual.specs.declared.sparse_row.Edge.{Edge}
 use Rattle.pf_residual.proofs.SparseRowLemmas.{with_edge_ends, with_edge_rises, with_edge_amount, without_with}
 use Rattle.pf_residual.proofs.SparseStoreLemmas.{row_here, row_there}

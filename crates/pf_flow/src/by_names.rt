@@ -5,8 +5,8 @@ ghost use Rattle.std.specs.Iterator.{IsFiniteIterable};
 ghost use Rattle.std.specs.List.{AllZip};
 ghost use Rattle.pf_base.specs.declared.error.PathError.TheVariants.{OutOfMemory, UnknownVertex};
 ghost use Rattle.pf_residual.specs.Networks.{KeepsShape, HasCapacities, IsFresh, capacity_sum};
-ghost use Rattle.pf_residual.specs.Listings.{RunBelow};
-ghost use Rattle.pf_residual.specs.NamedNetworks.{names_of, number_of, IsKnown, IsNamed, IsNamedAnswer, HoldsEdges, IsFirstRefused, GivenEdges, HoldsGivenEdges, AreEdgesRefused, IsAnsweredFor, IsRefusedFor};
+ghost use Rattle.pf_residual.specs.Internal.HeldEdges.{RunBelow, IsNamedAnswer, HoldsEdges, HoldsGivenEdges};
+ghost use Rattle.pf_residual.specs.NamedNetworks.{names_of, number_of, IsKnown, IsNamed, IsFirstRefused, GivenEdges, AreEdgesRefused, IsAnsweredFor, IsRefusedFor};
 ghost use Rattle.pf_residual.specs.Internal.Filling.{IsUnused};
 
 use crate::dense_capacity::DenseCapacity;

@@ -3,7 +3,7 @@
 ghost use Rattle.std.specs.Prelude.{◌≡◌, ◌<◌, length, IfOk, IfErr};
 ghost use Rattle.std.specs.List.{filter};
 ghost use Rattle.pf_base.specs.declared.error.PathError.TheVariants.{OutOfMemory};
-ghost use Rattle.pf_residual.specs.Listings.{RunBelow};
+ghost use Rattle.pf_residual.specs.Internal.HeldEdges.{RunBelow};
 ghost use Rattle.pf_residual.specs.Internal.Levels.{leaves};
 
 use crate::edmonds_karp::Edge;

@@ -4,7 +4,8 @@ ghost use Rattle.std.specs.Prelude.{◌≡◌, ◌<◌, ◌*◌, ◌^◌, ◌<�
 ghost use Rattle.pf_base.specs.declared.error.PathError.TheVariants.{OutOfMemory};
 ghost use Rattle.std.specs.Option.{ForSome};
 ghost use Rattle.pf_residual.specs.Flows.{IsAntisymmetric};
-ghost use Rattle.pf_residual.specs.DenseStores.{AreTables, IsSquare, IsZeroTable, AreSameTables, tables_network, table_number, table_sum};
+ghost use Rattle.pf_residual.specs.DenseStores.{AreSameTables, tables_network, table_number};
+ghost use Rattle.pf_residual.specs.Internal.DenseTables.{AreTables, IsSquare, IsZeroTable, table_sum};
 ghost use Rattle.pf_residual.specs.Internal.DenseLaws.{tables_law};
 ghost use Rattle.pf_residual.specs.Listings.{ListsNumbers, ListsVertices};
 

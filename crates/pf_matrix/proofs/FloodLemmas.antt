@@ -29,7 +29,8 @@ use Rattle.pf_base.proofs.Tables.{pair_refl, pair_exact, successors_keep}
 use Rattle.pf_core.proofs.ListLemmas.{Contains-cases, Contains-head, Contains-index, Contains-tail, or_cases, or_true}
 use Rattle.pf_search.specs.Breadth.{BreadthWalk, IsBreadthWalk, BreadthStep}
 use Rattle.pf_matrix.specs.Calls.{CallableInTurn, GivesInTurn}
-use Rattle.pf_matrix.specs.Floods.{answer_at, position_cmp, same_position, passing_around}
+use Rattle.pf_matrix.specs.Floods.{answer_at, same_position, passing_around}
+use Rattle.pf_matrix.specs.Internal.PositionOrder.{position_cmp}
 use Rattle.pf_matrix.specs.Gathering.{IsWithinPlaces}
 use Rattle.pf_matrix.specs.Positions.{positions, neighbours_of, neighbour_at, around, shifted, both, is_diagonal}
 use Rattle.pf_matrix.specs.declared.matrix.neighbours.Shift.{Shift}

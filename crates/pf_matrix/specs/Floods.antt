@@ -1,8 +1,6 @@
 -- Floods: the positions in reach of a start, where each step leads to a neighbour that passes a test.
 use Rattle.std.specs.Prelude.{◌↔◌, ◌&&◌, ℕ, ◌+◌, ◌*◌, Bool, false, nat_eq, nat_lt, List, [], ◌∷◌, Contains, slice_index_or}
 use Rattle.std.specs.List.{filter}
-use Rattle.std.specs.declared.cmp.Ordering.{Ordering}
-use Rattle.std.specs.Ordering.{nat_cmp, ordering_then}
 use Rattle.std.specs.BTreeSet.{BTreeSet}
 use Rattle.pf_base.specs.Walks.{IsReachable}
 use Rattle.pf_base.specs.Successors.{HasSuccessor}
@@ -13,10 +11,6 @@ use Rattle.pf_matrix.specs.Tables.{Table}
 -- the same row and the same column
 abbrev pub same_position : ℕ × ℕ → ℕ × ℕ → Bool
 same_position p q = nat_eq p.0 q.0 && nat_eq p.1 q.1
-
--- the order of positions: by row, then by column
-abbrev pub position_cmp : ℕ × ℕ → ℕ × ℕ → Ordering
-position_cmp p q = ordering_then (nat_cmp p.0 q.0) (nat_cmp p.1 q.1)
 
 -- the set has exactly the positions that are reached from the start; the start is always one of them
 abbrev pub HasReached : (ℕ × ℕ → List (ℕ × ℕ)) → ℕ × ℕ → BTreeSet (ℕ × ℕ) → Type 0

@@ -4,3 +4,4 @@ pub mod EqualityLaws
 pub mod Parts
 pub mod TableCode
 pub mod Turning
+pub mod PositionOrder

@@ -5,7 +5,8 @@
 ghost use Rattle.std.specs.Prelude.{◌≡◌, ℕ, false, List, [], ◌∷◌, ◌++◌, IfOk, IfErr, MatchOption};
 ghost use Rattle.std.specs.BTreeSet.{IsFromIterResult};
 ghost use Rattle.pf_base.specs.Orders.{AllGiven};
-ghost use Rattle.pf_matrix.specs.Floods.{HasReached, answer_at, position_cmp, same_position};
+ghost use Rattle.pf_matrix.specs.Floods.{HasReached, answer_at, same_position};
+ghost use Rattle.pf_matrix.specs.Internal.PositionOrder.{position_cmp};
 ghost use Rattle.pf_matrix.specs.Gathering.{IsWithinPlaces};
 ghost use Rattle.pf_matrix.specs.declared.error.MatrixFormatError.TheVariants.{OutOfMemory};
 ghost use Rattle.pf_search.specs.Breadth.{IsBreadthWalk};

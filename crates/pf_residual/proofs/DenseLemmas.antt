@@ -8,7 +8,8 @@ use Rattle.pf_matrix.proofs.TableLemmas.{place_in}
 use Rattle.pf_residual.specs.Capacities.{number}
 use Rattle.pf_residual.specs.Flows.{added}
 use Rattle.pf_residual.specs.Networks.{Agrees, with_flow, with_residual, IsFresh, HasCapacities}
-use Rattle.pf_residual.specs.DenseStores.{are_inside, table_number, IsSquare, AreTables, tables_network, IsTableChanged, IsZeroTable}
+use Rattle.pf_residual.specs.DenseStores.{are_inside, table_number, tables_network}
+use Rattle.pf_residual.specs.Internal.DenseTables.{IsSquare, AreTables, IsTableChanged, IsZeroTable}
 use Rattle.pf_residual.specs.Internal.DenseLaws.{inside_of, is_inside}
 use Rattle.pf_residual.proofs.SparseStoreLemmas.{added_same}
 

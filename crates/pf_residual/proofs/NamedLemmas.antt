@@ -9,9 +9,10 @@ use Rattle.pf_base.specs.declared.error.PathError.{PathError}
 use Rattle.pf_base.specs.declared.error.PathError.TheVariants.{OutOfMemory}
 use Rattle.pf_residual.specs.Capacities.{IsChangeRefused}
 use Rattle.pf_residual.specs.Flows.{PairTable, replaced, pair_sum, sum_to}
-use Rattle.pf_residual.specs.Listings.{RunBelow, ListsFlows, ListsLeastCut, IsFlowAnswer}
+use Rattle.pf_residual.specs.Listings.{ListsFlows, ListsLeastCut, IsFlowAnswer}
+use Rattle.pf_residual.specs.Internal.HeldEdges.{RunBelow, IsNamedAnswer, HoldsEdges}
 use Rattle.pf_residual.specs.Networks.{Network, capacity, ChangesCapacity, HasCapacities, HasCutOfTotal, IsFresh, IsNetwork, KeepsCapacities, KeepsShape}
-use Rattle.pf_residual.specs.NamedNetworks.{number_of, given_capacities, with_capacity_of, IsAnswer, IsKnown, IsNamed, IsNamedAnswer, IsAccepted, AreAccepted, HoldsEdges, IsFirstRefused}
+use Rattle.pf_residual.specs.NamedNetworks.{number_of, given_capacities, with_capacity_of, IsAnswer, IsKnown, IsNamed, IsAccepted, AreAccepted, IsFirstRefused}
 use Rattle.pf_residual.specs.Internal.Filling.{IsUnused}
 use Rattle.pf_residual.proofs.SumLemmas.{sum_ext}
 use Rattle.pf_residual.proofs.FillLemmas.{replaced_cases}

@@ -4,7 +4,8 @@ use Rattle.std.specs.Prelude.{◌<ℤ◌, ◌≤ℤ◌, slice_index_or}
 use Rattle.std.proofs.lemmas.Int.{ints}
 use Rattle.pf_residual.specs.Internal.SparseLaws.{amount_none}
 use Rattle.pf_residual.specs.Listings.{ListsVertices, ListsNumbers}
-use Rattle.pf_residual.specs.SparseRows.{ends, Rises, amount_to, end_after, AreBelow}
+use Rattle.pf_residual.specs.SparseRows.{ends, amount_to}
+use Rattle.pf_residual.specs.Internal.RowChanges.{Rises, end_after, AreBelow}
 use Rattle.pf_residual.specs.declared.sparse_row.Edge.{Edge}
 use Rattle.pf_residual.proofs.SparseRowLemmas.{amount_read, end_after_at, end_after_next, end_gap, end_behind, end_after_below, all_below}
 use Rattle.pf_residual.proofs.StoreListings.{numbers_passed, numbers_pushed, vertices_passed, vertices_pushed}

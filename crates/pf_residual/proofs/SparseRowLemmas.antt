@@ -6,7 +6,8 @@ use Rattle.std.specs.Prelude.{◌-◌, Some, slice_get, slice_index_or, slice_se
 use Rattle.std.specs.List.{insert, remove}
 use Rattle.std.proofs.lemmas.Option.{get_or_from_slice_get}
 use borrow.Author.Tests.{eqb-true, eqb-false, ne_eqb, lt-ltb, le-ltb, ltb-true, ltb-false}
-use Rattle.pf_residual.specs.SparseRows.{ends, Rises, has_end, place_of, amount_to, IsRowChanged, with_edge, without_edge, end_after, AreBelow}
+use Rattle.pf_residual.specs.SparseRows.{ends, has_end, amount_to}
+use Rattle.pf_residual.specs.Internal.RowChanges.{Rises, place_of, IsRowChanged, with_edge, without_edge, end_after, AreBelow}
 use Rattle.pf_residual.specs.Internal.SparseLaws.{amount_none}
 use Rattle.pf_residual.specs.declared.sparse_row.Edge.{Edge}
 

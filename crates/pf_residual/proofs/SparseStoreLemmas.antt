@@ -4,8 +4,10 @@ use Rattle.std.proofs.lemmas.List.{get_or-set_same, get_or-set_other, length-set
 use borrow.Author.Tests.{eqb-true, eqb-false, ne_eqb}
 use Rattle.pf_residual.specs.Flows.{PairTable, added}
 use Rattle.pf_residual.specs.Networks.{Agrees, with_flow, IsFresh, HasCapacities}
-use Rattle.pf_residual.specs.SparseRows.{ends, Rises, has_end, amount_to, row_at, IsRowChanged}
-use Rattle.pf_residual.specs.SparseStores.{AreRows, AreEmpty, rows_network}
+use Rattle.pf_residual.specs.SparseRows.{ends, has_end, amount_to, row_at}
+use Rattle.pf_residual.specs.Internal.RowChanges.{Rises, IsRowChanged}
+use Rattle.pf_residual.specs.SparseStores.{rows_network}
+use Rattle.pf_residual.specs.Internal.SparseTables.{AreRows, AreEmpty}
 use Rattle.pf_residual.specs.declared.sparse_row.Edge.{Edge}
 
 -- a row after a write

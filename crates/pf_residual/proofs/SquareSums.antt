@@ -7,7 +7,8 @@ use Rattle.pf_matrix.specs.Tables.{Table, IsMatrix}
 use Rattle.pf_residual.specs.Capacities.{number, square_table, HasNegative}
 use Rattle.pf_residual.specs.Flows.{PairTable, sum_to, pair_sum, IsNonNegative}
 use Rattle.pf_residual.specs.Networks.{capacity, HasCapacities}
-use Rattle.pf_residual.specs.DenseStores.{table_number, table_sum, IsSquare, IsZeroTable, tables_network}
+use Rattle.pf_residual.specs.DenseStores.{table_number, tables_network}
+use Rattle.pf_residual.specs.Internal.DenseTables.{table_sum, IsSquare, IsZeroTable}
 use Rattle.pf_residual.specs.Internal.Filling.{IsUnused}
 use Rattle.pf_residual.proofs.ChangeSums.{sum_prefix}
 use Rattle.pf_residual.proofs.DenseLemmas.{number_inside}

@@ -9,3 +9,7 @@ pub mod Settled
 pub mod PartSums
 pub mod Filling
 pub mod Steps
+pub mod DenseTables
+pub mod RowChanges
+pub mod SparseTables
+pub mod HeldEdges

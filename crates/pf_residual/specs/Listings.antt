@@ -17,10 +17,6 @@ pub record ListsVertices (n : ℕ) (chosen : ℕ → Type 0) (ends : List ℕ) :
 abbrev pub IsBefore : (ℕ × ℕ) → (ℕ × ℕ) → Type 0
 IsBefore p q = (p.0 < q.0) ⊎ ((p.0 ≡ q.0) × (p.1 < q.1))
 
--- each edge runs between vertices below n
-abbrev pub RunBelow : {C : Type 0} → ℕ → List ((ℕ × ℕ) × C) → Type 0
-RunBelow {C} n edges = (i : ℕ) (e : (ℕ × ℕ) × C) → slice_get edges i ≡ Some e → (e.0.0 < n) × (e.0.1 < n)
-
 module _ {C : Type 0} (value : C → ℤ) where
   -- the vertices at which the numbers are above 0, each once with its number, in rising order
   pub record ListsNumbers (n : ℕ) (numbers : ℕ → ℤ) (ends : List (ℕ × C)) : Type 0 where

@@ -19,12 +19,6 @@ pub record IsNamed {N C : Type 0} (names : List N) (e : (ℕ × ℕ) × C) (f : 
 abbrev pub AreNamed : {N C : Type 0} → List N → (List ((ℕ × ℕ) × C) → Type 0) → List ((N × N) × C) → Type 0
 AreNamed {C = C} names P edges = (numbered : List ((ℕ × ℕ) × C)) × P numbered × AllZip (IsNamed names) numbered edges
 
--- flows, a total and a cut: the same with the names of the vertices
-pub record IsNamedAnswer {N C A : Type 0} (names : List N) (answer : Vec ((ℕ × ℕ) × C) A × C × Vec ((ℕ × ℕ) × C) A) (named : Vec ((N × N) × C) A × C × Vec ((N × N) × C) A) : Type 0 where
-  pub flows : AllZip (IsNamed names) answer.0.items named.0.items
-  pub total : named.1 ≡ answer.1
-  pub cut : AllZip (IsNamed names) answer.2.items named.2.items
-
 module _ {N : Type 0} (eq : N → N → Bool) where
   -- the vertices, each once, in the order in which they first stand
   abbrev pub names_of : List N → List N
@@ -73,11 +67,6 @@ module _ {N : Type 0} (eq : N → N → Bool) where
       AreAccepted t [] = ⊤
       AreAccepted t (e ∷ es) = IsAccepted t e × AreAccepted (with_capacity_of t e) es
 
-      -- these edges are accepted in turn, and their capacities are those of the network
-      pub record HoldsEdges (edges : List ((N × N) × C)) (M : Network) : Type 0 where
-        pub accepted : AreAccepted (λ a b. pos 0) edges
-        pub capacities : HasCapacities (given_capacities edges) M
-
       -- why an edge is refused: one of its vertices is not known, or else its capacity is below 0, or else the sum of all capacities with it does not fit
       abbrev pub IsEdgeRefused : PairTable → (N × N) × C → PathError → Type 0
       IsEdgeRefused t e r =
@@ -108,10 +97,6 @@ pub record GivenEdges (N C : Type 0) : Type 1 where
   pub steps : Edges → Option ((N × N) × C) → Edges → Type 0
 
 module _ {N C : Type 0} (given : GivenEdges N C) where
-  -- the edges were given to the end, and the network holds them
-  abbrev pub HoldsGivenEdges : Network → Type 0
-  HoldsGivenEdges M = (it : given.Edges) × (edges : List ((N × N) × C)) × given.becomes it × Drains given.steps it edges × HoldsEdges given.eq given.value given.names given.fits edges M
-
   -- some edges were given, of which the last is the first that is refused
   abbrev pub AreEdgesRefused : PathError → Type 0
   AreEdgesRefused r = (it : given.Edges) × (edges : List ((N × N) × C)) × (edge : (N × N) × C) × (left : given.Edges) × given.becomes it × Yields given.steps it (edges ++ edge ∷ []) left

@@ -2,7 +2,8 @@
 
 ghost use Rattle.std.specs.Prelude.{pos, ◌<ℤ◌, neg_ℤ, ◌≡◌, ◌≤◌, ◌<◌, ◌+ℤ◌, ◌-ℤ◌, ℕ, List, [], true, false, length, if◌then◌else◌, IfSome, IfNone, IfErr, OnErr, OnOk, IfOk};
 ghost use Rattle.std.specs.List.{HoldsAt};
-ghost use Rattle.pf_residual.specs.SparseRows.{ends, Rises, has_end, place_of, amount_to, IsRowChanged, with_edge, without_edge, AreBelow};
+ghost use Rattle.pf_residual.specs.SparseRows.{ends, has_end, amount_to};
+ghost use Rattle.pf_residual.specs.Internal.RowChanges.{Rises, place_of, IsRowChanged, with_edge, without_edge, AreBelow};
 ghost use Rattle.pf_residual.specs.Listings.{ListsNumbers, ListsVertices};
 ghost use Rattle.pf_residual.specs.declared.sparse_row.Edge.{Edge};
 ghost use Rattle.pf_base.specs.declared.error.PathError.TheVariants.{OutOfMemory};

@@ -3,3 +3,4 @@ pub mod CostlessLaws
 pub mod Layouts
 pub mod Numbering
 pub mod OwnLaws
+pub mod SoundRows

@@ -3,7 +3,7 @@ use Rattle.std.specs.Prelude.{◌≡◌, ◌≢◌, ◌⊎◌, ◌<◌, ◌≤�
 use Rattle.pf_tables.specs.declared.error.TableError.{TableError}
 use Rattle.pf_tables.specs.declared.error.TableError.TheVariants.{NoFirstOffset, FallingOffset, WrongLastOffset}
 use Rattle.pf_tables.specs.Graphs.{IsGraph, between, filled}
-use Rattle.pf_tables.specs.Faults.{IsSoundRow, IsFirstFault}
+use Rattle.pf_tables.specs.Faults.{IsFirstFault}
 
 module _ (offsets : List ℕ) where
   -- no offset of a node below this one is above the next offset
@@ -23,10 +23,6 @@ module _ (offsets : List ℕ) where
   IsOffsetFault edges (FallingOffset node) = (slice_index offsets 0 ≡ 0) × (node + 1 < length offsets) × (slice_index offsets (node + 1) < slice_index offsets node) × IsRisingTo node
   IsOffsetFault edges WrongLastOffset = (0 < length offsets) × (slice_index offsets 0 ≡ 0) × IsRisingTo (length offsets - 1) × (slice_index offsets (length offsets - 1) ≢ edges)
   IsOffsetFault edges _ = ⊥
-
--- the row of each node is sound
-abbrev pub AreSoundRows : {C : Type 0} → (C → ℤ) → ℕ → (ℕ → List (ℕ × C)) → Type 0
-AreSoundRows value size rows = (n : ℕ) → n < size → IsSoundRow value size (rows n)
 
 module _ {C : Type 0} (value : C → ℤ) (offsets : List ℕ) (edges : List (ℕ × C)) where
   -- the offsets and the edges are a graph

@@ -3,7 +3,8 @@
 ghost use Rattle.std.specs.Prelude.{◌≡◌, ◌⊎◌, ◌-◌, length, IfOk, IfErr, MatchResult};
 ghost use Rattle.pf_tables.specs.Graphs.{between, filled};
 ghost use Rattle.pf_tables.specs.Faults.{IsSoundRow, IsFirstFault};
-ghost use Rattle.pf_tables.specs.Offsets.{IsCompact, IsOffsets, IsOffsetFault, IsCompactFault, AreSoundRows};
+ghost use Rattle.pf_tables.specs.Offsets.{IsCompact, IsOffsets, IsOffsetFault, IsCompactFault};
+ghost use Rattle.pf_tables.specs.Internal.SoundRows.{AreSoundRows};
 
 use crate::checks::check_part;
 use crate::error::TableError;

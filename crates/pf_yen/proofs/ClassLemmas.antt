@@ -10,7 +10,8 @@ use Rattle.std.proofs.lemmas.List.Elements.{Contains-append_cases, Contains-appe
 use Rattle.pf_base.specs.Walks.{end_of}
 use Rattle.pf_core.specs.Steps.{GoesAlong}
 use Rattle.pf_core.proofs.ListLemmas.{bool_dec, Contains-head, Contains-tail, Contains-cases}
-use Rattle.pf_yen.specs.Known.{KnownGraph, is_goal, row_of, KnownStep, IsWhole}
+use Rattle.pf_yen.specs.Known.{KnownGraph, is_goal, row_of, KnownStep}
+use Rattle.pf_yen.specs.Internal.WholeGraphs.{IsWhole}
 use Rattle.pf_yen.specs.Classes.{is_in, is_member, goes_on_to, one_if, Plan, in_class, is_path, IsCleanNumbers, IsCheapestOfClass, IsPartition}
 use Rattle.pf_yen.specs.Internal.Splits.{IsSplit}
 use Rattle.pf_yen.proofs.NarrowLemmas.{in_none}

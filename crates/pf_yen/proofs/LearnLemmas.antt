@@ -6,7 +6,8 @@ use Rattle.std.proofs.Math.Seq.{get_or-append_seam}
 use Rattle.pf_core.specs.Numbered.{ListsSteps, Grows}
 use Rattle.pf_core.specs.Steps.{IsNonNegative}
 use Rattle.pf_core.proofs.ListLemmas.{nat_dec, Contains-head}
-use Rattle.pf_yen.specs.Known.{KnownGraph, row_of, is_goal, IsWhole}
+use Rattle.pf_yen.specs.Known.{KnownGraph, row_of, is_goal}
+use Rattle.pf_yen.specs.Internal.WholeGraphs.{IsWhole}
 use Rattle.pf_yen.specs.Learned.{LiveStep, IsLearned}
 use Rattle.pf_yen.proofs.NarrowLemmas.{in_none}
 

@@ -6,7 +6,8 @@ use borrow.Author.Tests.{eqb-true}
 use Rattle.pf_base.specs.Walks.{HasNode, NoRepeats, end_of}
 use Rattle.pf_core.specs.Steps.{GoesAlong, IsNonNegative, NoGoal, IsBestNumbered}
 use Rattle.pf_core.proofs.ListLemmas.{bool_dec}
-use Rattle.pf_yen.specs.Known.{is_goal, row_of, KnownStep, IsWhole}
+use Rattle.pf_yen.specs.Known.{is_goal, row_of, KnownStep}
+use Rattle.pf_yen.specs.Internal.WholeGraphs.{IsWhole}
 use Rattle.pf_yen.specs.Internal.Narrow.{NarrowGraph, allows, allows_by, NarrowStep, StandsForItself}
 use Rattle.pf_yen.specs.Classes.{is_in, is_member, IsCleanNumbers}
 use Rattle.pf_yen.specs.Internal.Splits.{LeadsOn, IsNarrowedTo}

@@ -13,7 +13,8 @@ use Rattle.pf_base.specs.Walks.{end_of}
 use Rattle.pf_core.specs.Steps.{GoesAlong, IsTooDear}
 use Rattle.pf_core.proofs.ListLemmas.{Contains-head, Contains-tail, Contains-cases}
 use Rattle.pf_yen.specs.declared.candidate.Candidate.{Candidate}
-use Rattle.pf_yen.specs.Known.{KnownGraph, KnownStep, is_goal, IsWhole}
+use Rattle.pf_yen.specs.Known.{KnownGraph, KnownStep, is_goal}
+use Rattle.pf_yen.specs.Internal.WholeGraphs.{IsWhole}
 use Rattle.pf_yen.specs.Internal.Narrow.{NarrowGraph, NarrowStep, StandsForItself, allows, allows_by}
 use Rattle.pf_yen.specs.Classes.{is_in, Plan, in_class, is_member, IsCheapestOfClass, IsPartition, plan_of}
 use Rattle.pf_yen.specs.Internal.Splits.{IsCheapestAlong, HasNoneAlong, IsSplit}

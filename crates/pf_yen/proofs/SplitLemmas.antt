@@ -11,7 +11,8 @@ use Rattle.pf_base.specs.Walks.{HasNode, NoRepeats, end_of}
 use Rattle.pf_core.specs.Steps.{GoesAlong, IsNonNegative, IsTooDear}
 use Rattle.pf_core.proofs.ListLemmas.{bool_dec, or_cases, get_set, Contains-append_one}
 use Rattle.pf_core.proofs.FrontierLemmas.{walk_positive}
-use Rattle.pf_yen.specs.Known.{KnownGraph, is_goal, KnownStep, IsWhole}
+use Rattle.pf_yen.specs.Known.{KnownGraph, is_goal, KnownStep}
+use Rattle.pf_yen.specs.Internal.WholeGraphs.{IsWhole}
 use Rattle.pf_yen.specs.Internal.Narrow.{NarrowGraph, NarrowStep, StandsForItself}
 use Rattle.pf_yen.specs.Classes.{is_in, is_member, goes_on_to, one_if, Plan, in_class, is_path, IsCleanNumbers, IsCheapestOfClass}
 use Rattle.pf_yen.specs.Internal.Splits.{IsBarredBehind, IsSplit, LeadsOn, IsNarrowedTo, IsCheapestAlong, HasNoneAlong, IsSplitUpTo, IsPastAlong, IsPastInClass}

@@ -15,7 +15,8 @@ use Rattle.pf_core.specs.Nodes.{StandsFor, IsStep}
 use Rattle.pf_core.proofs.ListLemmas.{nat_dec, bool_dec, Contains-head, Contains-tail, Contains-cases, Contains-append_one}
 use Rattle.pf_core.proofs.PathLemmas.{AllZip-append}
 use Rattle.pf_core.proofs.WalkLemmas.{same_of}
-use Rattle.pf_yen.specs.Known.{KnownGraph, KnownStep, IsWhole}
+use Rattle.pf_yen.specs.Known.{KnownGraph, KnownStep}
+use Rattle.pf_yen.specs.Internal.WholeGraphs.{IsWhole}
 use Rattle.pf_yen.specs.Learned.{IsLearned}
 use Rattle.pf_yen.specs.Classes.{Plan, is_member, goes_on_to, one_if, in_class, is_path, IsCleanNumbers, IsCheapestOfClass, IsPartition, is_in}
 use Rattle.pf_yen.specs.Internal.Splits.{IsPastInClass}

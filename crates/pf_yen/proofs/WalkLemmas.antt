@@ -19,7 +19,8 @@ use Rattle.pf_core.specs.NodeLaws.{StandsFor-one, StandsFor-inside}
 use Rattle.pf_core.proofs.ListLemmas.{bool_dec, Contains-cases, Contains-head}
 use Rattle.pf_core.proofs.NodeLemmas.{Explores-edges}
 use Rattle.pf_core.proofs.WalkLemmas.{no_negative}
-use Rattle.pf_yen.specs.Known.{KnownGraph, row_of, KnownStep, is_goal, IsWhole}
+use Rattle.pf_yen.specs.Known.{KnownGraph, row_of, KnownStep, is_goal}
+use Rattle.pf_yen.specs.Internal.WholeGraphs.{IsWhole}
 use Rattle.pf_yen.specs.Internal.Narrow.{StandsForItself}
 use Rattle.pf_yen.specs.Counting.{most_paths}
 use Rattle.pf_yen.specs.Learned.{IsLearned}
@@ -28,7 +29,8 @@ use Rattle.pf_yen.specs.Internal.Splits.{IsPastInClass}
 use Rattle.pf_yen.specs.Plans.{as_list, last_given, NoneBelow, IsFirst}
 use Rattle.pf_yen.specs.Internal.PlanChanges.{GoesOn, IsPastInChosen}
 use Rattle.pf_yen.specs.CleanPaths.{AllGiven, IsNextPath, RefusedFor}
-use Rattle.pf_yen.specs.Walk.{PathWalk, most_items, IsPathWalk, IsPlanned, IsUnderWay, IsEnded, IsBarred, PathTurn, PathStep, StepKeepsBar}
+use Rattle.pf_yen.specs.Walk.{PathWalk, most_items, IsPathWalk, IsPlanned, IsUnderWay, IsEnded, IsBarred, PathStep, StepKeepsBar}
+use Rattle.pf_yen.specs.Internal.PathTurns.{PathTurn}
 use Rattle.pf_yen.proofs.NarrowLemmas.{in_none}
 use Rattle.pf_yen.proofs.LearnLemmas.{learned_whole}
 use Rattle.pf_yen.proofs.SplitLemmas.{past_first}

@@ -4,3 +4,5 @@ pub mod Narrow
 pub mod Splits
 pub mod Gathered
 pub mod PlanChanges
+pub mod PathTurns
+pub mod WholeGraphs

@@ -1,5 +1,5 @@
 -- What was learned of a graph over numbers.
-use Rattle.std.specs.Prelude.{◌≡◌, ℕ, ℤ, pos, ◌<◌, ◌≤ℤ◌, Bool, true, false, List, [], length, Contains, slice_index_or, refl}
+use Rattle.std.specs.Prelude.{◌≡◌, ℕ, ℤ, Bool, false, List, [], Contains, slice_index_or, refl}
 use Rattle.std.specs.Coded.{Coded, code_by, coded×, coded_bool, coded_ℕ, coded_list}
 
 -- the steps from each number, each as the number of its end and its cost, and which numbers are goals
@@ -21,9 +21,3 @@ module _ {C : Type 0} where
   -- some step leads from a to b and costs z
   abbrev pub KnownStep : (C → ℤ) → KnownGraph C → ℕ → ℤ → ℕ → Type 0
   KnownStep value k a z b = (c : C) × Contains (row_of k a) (b, c) × (value c ≡ z)
-
-  -- Each step leads to a known number, none costs less than 0, and none leads from a goal.
-  pub record IsWhole (value : C → ℤ) (k : KnownGraph C) : Type 0 where
-    pub inside : (a b : ℕ) (c : C) → Contains (row_of k a) (b, c) → b < length k.rows
-    pub from_zero : (a b : ℕ) (c : C) → Contains (row_of k a) (b, c) → pos 0 ≤ℤ value c
-    pub stops : (a : ℕ) → is_goal k a ≡ true → row_of k a ≡ []

@@ -80,12 +80,6 @@ module _ {N C F T : Type 0} (eq : N → N → Bool) (value : C → ℤ) (edges :
     pub bar : IsBarred walk → RefusedFor eq edges start test value fits walk.given PathError.CostOverflow × ¬ (IsEnded walk)
 
   module _ {A : Type 0} (fits : ℤ → Type 0) where
-    -- what a step of a walk that was not refused before gives, and how it leaves the walk: a path; no path, at the end; or a refusal, before the end and after
-    abbrev pub PathTurn : PathWalk N C F T → Result (Option (Vec N A × C)) PathError → PathWalk N C F T → Type 0
-    PathTurn walk (Ok (Some item)) after = IsNextPath eq edges start test value walk.given item.0.items item.1 × (after.given ≡ walk.given ++ (item.0.items, item.1) ∷ [])
-    PathTurn walk (Ok None) after = AllGiven eq edges start test value walk.given × (after.given ≡ walk.given) × IsEnded after
-    PathTurn walk (Err refusal) after = RefusedFor eq edges start test value fits walk.given refusal × (after.given ≡ walk.given) × ¬ (IsEnded walk) × ¬ (IsEnded after)
-
     -- What a call of `next` gives, and how it leaves the walk.
     -- a path: the next by rising cost, which is the last of the given ones from then on
     -- no path: the last step was refused, or each clean path was given and the walk is at its end

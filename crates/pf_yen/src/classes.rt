@@ -5,7 +5,7 @@
 //! classes, and no class is searched twice.
 
 ghost use Rattle.std.specs.Prelude.{◌≡◌, ◌⊎◌, ◌<◌, ◌+◌, ℕ, ℤ, List, [], length, take, drop, map, Err, OnOk, IfOk, IfErr, IfSome, MatchOption};
-ghost use Rattle.pf_yen.specs.Known.{IsWhole};
+ghost use Rattle.pf_yen.specs.Internal.WholeGraphs.{IsWhole};
 ghost use Rattle.pf_yen.specs.Internal.Narrow.{IsPastFromStart, graph_narrowed_by};
 ghost use Rattle.pf_yen.specs.Classes.{IsCleanNumbers, IsCheapestOfClass, plan_of};
 ghost use Rattle.pf_yen.specs.Internal.Splits.{IsNarrowedTo, IsCheapestAlong, HasNoneAlong, IsSplit, IsPastInClass};

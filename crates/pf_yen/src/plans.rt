@@ -2,7 +2,8 @@
 
 ghost use Rattle.std.specs.Prelude.{◌≡◌, ◌⊎◌, ◌<◌, List, ℕ, [], true, false, None, length, Err, OnOk, OnErr, IfErr};
 ghost use Rattle.std.specs.BinaryHeap.{IsHeap, heap_items};
-ghost use Rattle.pf_yen.specs.Known.{KnownGraph, IsWhole};
+ghost use Rattle.pf_yen.specs.Known.{KnownGraph};
+ghost use Rattle.pf_yen.specs.Internal.WholeGraphs.{IsWhole};
 ghost use Rattle.pf_yen.specs.Classes.{IsPartition};
 ghost use Rattle.pf_yen.specs.Plans.{waiting_plans, chosen_plan, as_list};
 ghost use Rattle.pf_yen.specs.Internal.PlanChanges.{first_cmp, plans_left, just_given, ArePlansKept, ComesFirst, GoesOn, IsPastAtFirst, IsPastInChosen, IsPastInPlans};

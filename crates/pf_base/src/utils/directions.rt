@@ -2,7 +2,8 @@
 
 ghost use Rattle.std.specs.Prelude.{◌≡◌, ◌+◌, ℕ, IfSome, IfNone, slice_get, length};
 ghost use Rattle.std.specs.Iterator.{YieldsFirst, item_count};
-ghost use Rattle.pf_base.specs.Moves.{Finds, IsMove, IsCoordinateStep, times};
+ghost use Rattle.pf_base.specs.Moves.{Finds, IsMove, times};
+ghost use Rattle.pf_base.specs.Internal.CoordinateSteps.{IsCoordinateStep};
 
 use std::marker::Model;
 

@@ -3,7 +3,8 @@ use Rattle.std.proofs.Common.{◌≡◌, refl, sym, ap, ◌∙◌, ◌<◌, ◌&
 use Rattle.pf_matrix.specs.Tables.{Table}
 use Rattle.pf_residual.specs.Flows.{IsAntisymmetric}
 use Rattle.pf_residual.specs.Networks.{IsStored}
-use Rattle.pf_residual.specs.DenseStores.{are_inside, AreTables, tables_network, table_number}
+use Rattle.pf_residual.specs.DenseStores.{are_inside, tables_network, table_number}
+use Rattle.pf_residual.specs.Internal.DenseTables.{AreTables}
 
 both : (t u : Bool) → (t && u) ≡ true → (t ≡ true) × (u ≡ true)
 both true u h = (refl, h)

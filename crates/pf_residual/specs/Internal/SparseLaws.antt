@@ -3,7 +3,8 @@ use Rattle.std.proofs.Common.{◌≡◌, refl, sym, ◌<◌, ℕ, ℤ, zero, suc
 use Rattle.pf_residual.specs.Flows.{IsAntisymmetric}
 use Rattle.pf_residual.specs.Networks.{IsStored}
 use Rattle.pf_residual.specs.SparseRows.{ends, has_end, amount_to, row_at}
-use Rattle.pf_residual.specs.SparseStores.{AreRows, rows_flow, rows_network}
+use Rattle.pf_residual.specs.SparseStores.{rows_flow, rows_network}
+use Rattle.pf_residual.specs.Internal.SparseTables.{AreRows}
 use Rattle.pf_residual.specs.declared.sparse_row.Edge.{Edge}
 
 none_step : {C : Type 0} → (f : Edge C → ℤ) (x : Edge C) (xs : List (Edge C)) (b : ℕ) (t : Bool) → (if t then true else has_end (ends xs) b) ≡ false

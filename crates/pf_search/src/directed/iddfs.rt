@@ -1,6 +1,7 @@
 //! Paths with fewest edges by depth limits that grow (iterative deepening).
 
 ghost use Rattle.std.specs.Prelude.{◌≡◌, ◌+◌, List, Bool, true, false, [], ◌∷◌, IfOk, IfErr, MatchBool, length};
+ghost use Rattle.std.specs.Iterator.{IsFiniteIterable, Drains};
 ghost use Rattle.pf_base.specs.Walks.{IsReachable, IsGoalPath};
 ghost use Rattle.pf_base.specs.Successors.{HasSuccessor, IsUnweightedSearch, AnswersUnweightedSearch, OfUnweightedSearch, IsFewestEdgesOrNone};
 ghost use Rattle.pf_search.specs.Internal.Deepening.{IsPathFrom, FollowsEnd, NoGoalBeyond, Deepens};
@@ -15,6 +16,24 @@ pub(crate) enum Deepened {
     Found,
     /// No path that was looked through leads to a node that passes; whether some path was cut off.
     Missed { cut: bool },
+}
+
+/// All that an iterator gives, in order. They are put in one by one, as `Vec::from_iter` passes over a
+/// refusal of the room that it asks for first.
+fn collected<N, IN, A>(alloc: A, items: IN) -> Result<Vec<N, A>, PathError>
+where
+    N: Drop,
+    IN: IntoIterator<Item = N>,
+    A: Allocator + Copy,
+    requires ends { IsFiniteIterable IN.into_iter_gives IN.IntoIter.can_next IN.IntoIter.remaining items }
+    ensures all { IfOk result (λ answer. (it : IN.IntoIter) × IN.into_iter_gives items it × Drains IN.IntoIter.next_gives it answer.items) }
+    ensures refused { IfErr result (λ e. e ≡ PathError.OutOfMemory) }
+{
+    let mut answer = Vec::new(alloc);
+    'items: for item in items {
+        answer.push(item)?;
+    }
+    Ok(answer)
 }
 
 /// Does the node at the end of a path pass?
@@ -58,7 +77,7 @@ where
 {
     let here = path.len() - 1;
     let items = successors.successors(&path[here]);
-    let mut answer = Vec::from_iter(alloc, items)?;
+    let mut answer = collected(alloc, items)?;
     answer.reverse();
     Ok(answer)
 }

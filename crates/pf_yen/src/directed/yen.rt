@@ -5,7 +5,8 @@ ghost use Rattle.std.specs.Iterator.{MakesProgress, at_most};
 ghost use Rattle.pf_base.specs.Answers.{IsLawfulClone};
 ghost use Rattle.pf_base.specs.Edges.{OfWeightedSearch};
 ghost use Rattle.pf_yen.specs.CleanPaths.{RefusedFor};
-ghost use Rattle.pf_yen.specs.Walk.{IsPathWalk, IsSomePathWalk, OfPathWalk, most_items, IsEnded, IsBarred, PathTurn, PathStep, StepKeepsBar};
+ghost use Rattle.pf_yen.specs.Walk.{IsPathWalk, IsSomePathWalk, OfPathWalk, most_items, IsEnded, IsBarred, PathStep, StepKeepsBar};
+ghost use Rattle.pf_yen.specs.Internal.PathTurns.{PathTurn};
 
 pub use crate::directed::k_cheapest::yen;
 use crate::given::Given;

@@ -1,7 +1,6 @@
 use Rattle.std.proofs.Common.{◌∙◌, inl, sym, subst, length}
 use Rattle.std.proofs.lemmas.Result.{IfOk-from_err}
-use Rattle.pf_residual.specs.Listings.{RunBelow}
-use Rattle.pf_residual.specs.NamedNetworks.{IsNamedAnswer}
+use Rattle.pf_residual.specs.Internal.HeldEdges.{RunBelow, IsNamedAnswer}
 use Rattle.pf_residual.proofs.FillLemmas.{network_of_unused}
 use Rattle.pf_residual.proofs.NamedLemmas.{answer_of, cut_inside, err_gives, flows_inside, ok_gives, refused_as}
 use Rattle.pf_flow.proofs.by_names.flows_of.Goals as goal

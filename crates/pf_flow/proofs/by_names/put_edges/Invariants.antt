@@ -1,6 +1,6 @@
 use Rattle.std.proofs.Common.{◌≡◌}
 use Rattle.pf_residual.specs.Networks.{KeepsShape, capacity_sum}
-use Rattle.pf_residual.specs.NamedNetworks.{HoldsEdges}
+use Rattle.pf_residual.specs.Internal.HeldEdges.{HoldsEdges}
 use Rattle.pf_residual.specs.Internal.Filling.{IsUnused}
 use Rattle.pf_flow.proofs.by_names.put_edges.Given as goal
 

@@ -1,6 +1,6 @@
 use Rattle.std.proofs.Common.{◌+◌, ◌∙◌, ◌∷◌, ◌++◌, [], ℕ, length, ap, sym, subst, refl, arith}
 use Rattle.std.proofs.lemmas.List.{length_push}
-use Rattle.pf_residual.specs.SparseStores.{AreEmpty}
+use Rattle.pf_residual.specs.Internal.SparseTables.{AreEmpty}
 use Rattle.pf_residual.proofs.SparseStoreLemmas.{empty_more}
 use Rattle.std.proofs.lemmas.Result.{IfOk-from_err}
 use Rattle.pf_residual.proofs.NamedLemmas.{refused_by}

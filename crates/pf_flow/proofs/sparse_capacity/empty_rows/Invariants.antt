@@ -1,5 +1,5 @@
 use Rattle.std.proofs.Common.{◌≡◌, length}
-use Rattle.pf_residual.specs.SparseStores.{AreEmpty}
+use Rattle.pf_residual.specs.Internal.SparseTables.{AreEmpty}
 use Rattle.pf_flow.proofs.sparse_capacity.empty_rows.Given as goal
 
 abbrev pub invariant-loop : goal.invariant-loop

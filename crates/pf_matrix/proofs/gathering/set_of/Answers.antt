@@ -2,7 +2,7 @@ use Rattle.std.specs.BTreeSet.{IsFromIterResult}
 use Rattle.std.proofs.lemmas.Iterator.{YieldsList-from_slice}
 use Rattle.std.proofs.lemmas.Iterator.Adapters.{fact_from_collect}
 use Rattle.std.proofs.lemmas.Iterator.Consumers.{YieldsList-at, YieldsList-from_copied}
-use Rattle.pf_matrix.specs.Floods.{position_cmp}
+use Rattle.pf_matrix.specs.Internal.PositionOrder.{position_cmp}
 use Rattle.pf_matrix.proofs.gathering.set_of.Goals as goal
 
 pub returns : goal.returns

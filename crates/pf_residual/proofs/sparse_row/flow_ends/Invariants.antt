@@ -1,6 +1,7 @@
 use Rattle.std.proofs.Common.{pos}
 use Rattle.std.specs.Prelude.{◌<ℤ◌}
-use Rattle.pf_residual.specs.SparseRows.{amount_to, end_after}
+use Rattle.pf_residual.specs.SparseRows.{amount_to}
+use Rattle.pf_residual.specs.Internal.RowChanges.{end_after}
 use Rattle.pf_residual.specs.Listings.{ListsVertices}
 use Rattle.pf_residual.proofs.sparse_row.flow_ends.Given as goal
 

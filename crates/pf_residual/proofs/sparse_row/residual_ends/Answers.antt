@@ -1,7 +1,8 @@
 use Rattle.std.proofs.Common.{◌∙◌, sym, ap, subst, ◌+◌, arith}
 use Rattle.std.specs.Prelude.{◌<ℤ◌, ◌≤ℤ◌}
 use Rattle.pf_residual.specs.Listings.{ListsNumbers}
-use Rattle.pf_residual.specs.SparseRows.{amount_to, end_after}
+use Rattle.pf_residual.specs.SparseRows.{amount_to}
+use Rattle.pf_residual.specs.Internal.RowChanges.{end_after}
 use Rattle.pf_residual.proofs.SparseListings.{numbers_listed, numbers_skipped, numbers_done}
 use Rattle.pf_residual.proofs.NamedLemmas.{refused_by}
 use Rattle.std.proofs.lemmas.Result.{IfOk-from_err}

@@ -1,4 +1,5 @@
-use Rattle.pf_residual.specs.SparseRows.{amount_to, end_after}
+use Rattle.pf_residual.specs.SparseRows.{amount_to}
+use Rattle.pf_residual.specs.Internal.RowChanges.{end_after}
 use Rattle.pf_residual.specs.Listings.{ListsNumbers}
 use Rattle.pf_residual.proofs.sparse_row.residual_ends.Given as goal
 

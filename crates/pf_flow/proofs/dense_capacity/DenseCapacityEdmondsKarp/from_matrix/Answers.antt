@@ -2,7 +2,8 @@ use Rattle.std.proofs.Common.{◌≡◌, ◌∙◌, ◌<◌, true, ap, inl, refl
 use Rattle.std.proofs.lemmas.Option.{same_Some}
 use Rattle.pf_matrix.specs.Tables.{Table}
 use Rattle.pf_residual.specs.Capacities.{square_table, AreRefused}
-use Rattle.pf_residual.specs.DenseStores.{IsSquare, IsZeroTable, tables_network}
+use Rattle.pf_residual.specs.DenseStores.{tables_network}
+use Rattle.pf_residual.specs.Internal.DenseTables.{IsSquare, IsZeroTable}
 use Rattle.pf_residual.specs.Networks.{HasCapacities, IsFresh}
 use Rattle.pf_residual.proofs.DenseLemmas.{zero_tables, zero_fresh}
 use Rattle.pf_residual.proofs.FillLemmas.{network_of_unused}

@@ -3,7 +3,8 @@ use Rattle.std.specs.Prelude.{◌-ℤ◌}
 use Rattle.std.proofs.lemmas.Option.{none-some}
 use Rattle.pf_matrix.specs.Tables.{Table, HasPosition}
 use Rattle.pf_residual.specs.Capacities.{number}
-use Rattle.pf_residual.specs.DenseStores.{IsSquare, IsTableChanged, table_number}
+use Rattle.pf_residual.specs.DenseStores.{table_number}
+use Rattle.pf_residual.specs.Internal.DenseTables.{IsSquare, IsTableChanged}
 use Rattle.pf_residual.specs.Internal.DenseLaws.{inside_of}
 use Rattle.pf_residual.proofs.AddedLemmas.{added_elsewhere}
 use Rattle.pf_residual.proofs.DenseLemmas.{flow_raised, number_inside, square_changed, table_added, tables_kept}

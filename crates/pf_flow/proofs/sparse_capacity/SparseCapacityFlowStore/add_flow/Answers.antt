@@ -2,7 +2,8 @@ use Rattle.std.proofs.Common.{◌≡◌, ◌∙◌, sym, ap, subst, true, arith,
 use Rattle.std.specs.Prelude.{◌+ℤ◌, ◌-ℤ◌}
 use Rattle.std.proofs.lemmas.List.{get_or_default, get_or-set_other, length-set}
 use Rattle.std.proofs.lemmas.Option.{none-some}
-use Rattle.pf_residual.specs.SparseRows.{ends, Rises, has_end, amount_to, row_at, IsRowChanged}
+use Rattle.pf_residual.specs.SparseRows.{ends, has_end, amount_to, row_at}
+use Rattle.pf_residual.specs.Internal.RowChanges.{Rises, IsRowChanged}
 use Rattle.pf_residual.specs.SparseStores.{rows_flow}
 use Rattle.pf_residual.specs.Internal.SparseLaws.{has_row}
 use Rattle.pf_residual.proofs.OppositeLemmas.{opposite_carried}

@@ -4,7 +4,8 @@ use Rattle.std.proofs.lemmas.Int.{ints}
 use Rattle.std.proofs.lemmas.List.{get_or_default, length-set}
 use Rattle.std.proofs.lemmas.Option.{none-some}
 use Rattle.pf_residual.specs.Networks.{Agrees, with_residual}
-use Rattle.pf_residual.specs.SparseRows.{ends, Rises, has_end, amount_to, row_at, IsRowChanged}
+use Rattle.pf_residual.specs.SparseRows.{ends, has_end, amount_to, row_at}
+use Rattle.pf_residual.specs.Internal.RowChanges.{Rises, IsRowChanged}
 use Rattle.pf_residual.specs.SparseStores.{rows_network}
 use Rattle.pf_residual.specs.Internal.SparseLaws.{has_row}
 use Rattle.pf_residual.specs.declared.sparse_row.Edge.{Edge}

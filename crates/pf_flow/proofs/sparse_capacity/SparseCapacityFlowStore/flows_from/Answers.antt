@@ -3,7 +3,8 @@ use Rattle.std.specs.Prelude.{◌<ℤ◌}
 use Rattle.std.proofs.lemmas.List.{get_or_default}
 use Rattle.std.proofs.lemmas.Result.{IfOk-weaker}
 use Rattle.pf_residual.specs.Listings.{ListsVertices}
-use Rattle.pf_residual.specs.SparseRows.{amount_to, ends, row_at, AreBelow, Rises}
+use Rattle.pf_residual.specs.SparseRows.{amount_to, ends, row_at}
+use Rattle.pf_residual.specs.Internal.RowChanges.{AreBelow, Rises}
 use Rattle.pf_flow.proofs.sparse_capacity.SparseCapacityFlowStore.flows_from.Goals as goal
 
 pub returns-clause-listed : goal.returns-clause-listed

@@ -4,8 +4,10 @@ use Rattle.std.proofs.lemmas.List.{get_or_default, get_or-set_other, length-set,
 use Rattle.std.proofs.lemmas.Option.{none-some}
 use Rattle.pf_residual.specs.Flows.{IsAntisymmetric}
 use Rattle.pf_residual.specs.Networks.{Agrees}
-use Rattle.pf_residual.specs.SparseRows.{ends, Rises, has_end, row_at, with_edge}
-use Rattle.pf_residual.specs.SparseStores.{AreRows, rows_flow, rows_network}
+use Rattle.pf_residual.specs.SparseRows.{ends, has_end, row_at}
+use Rattle.pf_residual.specs.Internal.RowChanges.{Rises, with_edge}
+use Rattle.pf_residual.specs.SparseStores.{rows_flow, rows_network}
+use Rattle.pf_residual.specs.Internal.SparseTables.{AreRows}
 use Rattle.pf_residual.specs.declared.sparse_row.Edge.{Edge}
 use Rattle.pf_flow.proofs.SparseRoom.{widened, widened_once, widened_twice, room_made, once_amount, fresh_back, inside_once, first_is, second_is, third_read, undone}
 use Rattle.pf_residual.proofs.OppositeLemmas.{opposite_same}

@@ -2,7 +2,8 @@ use Rattle.std.proofs.Common.{arith, ◌≡◌, ◌∙◌, sym, subst, length, [
 use Rattle.std.proofs.lemmas.List.{get_or_default}
 use Rattle.std.proofs.lemmas.Result.{IfOk-weaker}
 use Rattle.pf_residual.specs.Listings.{ListsNumbers}
-use Rattle.pf_residual.specs.SparseRows.{amount_to, ends, row_at, AreBelow, Rises}
+use Rattle.pf_residual.specs.SparseRows.{amount_to, ends, row_at}
+use Rattle.pf_residual.specs.Internal.RowChanges.{AreBelow, Rises}
 use Rattle.pf_flow.proofs.sparse_capacity.SparseCapacityFlowStore.residual_successors.Goals as goal
 
 pub returns-clause-listed : goal.returns-clause-listed

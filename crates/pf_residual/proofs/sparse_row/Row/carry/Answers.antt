@@ -1,6 +1,6 @@
 use Rattle.std.proofs.Common.{◌≡◌, refl, ◌∙◌, sym, ap, subst, ◌<◌, ◌+ℤ◌, ◌-ℤ◌, neg_ℤ, arith, slice_index_or, slice_set, length}
 use Rattle.std.proofs.lemmas.Int.{ints}
-use Rattle.pf_residual.specs.SparseRows.{IsRowChanged}
+use Rattle.pf_residual.specs.Internal.RowChanges.{IsRowChanged}
 use Rattle.pf_residual.specs.declared.sparse_row.Edge.{Edge}
 use Rattle.pf_residual.proofs.SparseRowLemmas.{row_changed, amount_read}
 use Rattle.pf_residual.proofs.sparse_row.Row.carry.Goals as goal

@@ -1,6 +1,7 @@
 use Rattle.std.proofs.Common.{◌∙◌, ap}
 use Rattle.std.specs.List.{insert}
-use Rattle.pf_residual.specs.SparseRows.{ends, place_of}
+use Rattle.pf_residual.specs.SparseRows.{ends}
+use Rattle.pf_residual.specs.Internal.RowChanges.{place_of}
 use Rattle.pf_residual.specs.declared.sparse_row.Edge.{Edge}
 use Rattle.pf_residual.proofs.SparseRowLemmas.{insert_is}
 use Rattle.pf_residual.proofs.sparse_row.Row.insert.Goals as goal

@@ -1,6 +1,7 @@
 use Rattle.std.proofs.Common.{◌∙◌, ap}
 use Rattle.std.specs.List.{remove}
-use Rattle.pf_residual.specs.SparseRows.{ends, place_of}
+use Rattle.pf_residual.specs.SparseRows.{ends}
+use Rattle.pf_residual.specs.Internal.RowChanges.{place_of}
 use Rattle.pf_residual.proofs.SparseRowLemmas.{remove_is}
 use Rattle.pf_residual.proofs.sparse_row.Row.remove.Goals as goal
 
