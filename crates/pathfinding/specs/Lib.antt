@@ -24,13 +24,8 @@ pub use Rattle.pf_orders.specs.StrongComponents
 pub use Rattle.pf_orders.specs.TopologicalOrders
 pub use Rattle.pf_orders.specs.GroupDepths
 pub use Rattle.pf_orders.specs.JoinedGroups
-pub use Rattle.pf_yen.specs.Known
-pub use Rattle.pf_yen.specs.Classes
 pub use Rattle.pf_yen.specs.CleanPaths
-pub use Rattle.pf_yen.specs.Learned
-pub use Rattle.pf_yen.specs.Standing
 pub use Rattle.pf_yen.specs.Walk
-pub use Rattle.pf_yen.specs.Plans
 pub use Rattle.pf_yen.specs.KCheapest
 pub use Rattle.pf_yen.specs.Counting
 pub use Rattle.pf_tables.specs.Graphs

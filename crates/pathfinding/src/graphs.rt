@@ -1,8 +1,9 @@
 //! Graphs in tables, over nodes that are numbers, and searches over them.
 
 pub use pf_table_searches::{
-    bfs_loop, dfs, dijkstra_all, dijkstra_partial, iddfs, strongly_connected_component,
-    strongly_connected_components, topological_sort, topological_sort_into_groups, yen,
+    BfsReachable, DfsReachable, DijkstraReachable, YenPaths, bfs_loop, bfs_reach, dfs, dfs_reach,
+    dijkstra_all, dijkstra_partial, dijkstra_reach, iddfs, strongly_connected_component,
+    strongly_connected_components, topological_sort, topological_sort_into_groups, yen, yen_paths,
 };
 pub use pf_tables::{
     Board, CompactRows, Costless, EdgeList, EdgeListError, Goals, Graph, Row, Rows, Steps,

@@ -1,5 +1,5 @@
-//! All that the crate exports, but the searches of `graphs`, whose names are those of the searches on
-//! graphs that functions answer.
+//! All that the crate exports, but the searches of `graphs` and the types of its lazy walks, whose names
+//! are those of the searches on graphs that functions answer.
 
 pub use crate::graphs;
 pub use crate::routes;

@@ -104,44 +104,88 @@ module _ {F N : Type 0} {calls : Mut F (Bor N × Unit {0}) Bool} {eq : N → N �
       (λ s x e w. subst (λ (q : F). calls.pre q (x, tt)) (sym e) (takes x w))
       (λ s x r t e w k. keeps x r t w (subst (λ (q : F). Called calls q (x, tt) r t) e k))
 
--- ---- nodes that are numbers: equal numbers are the same number, so any list and any test will do
+-- ---- nodes whose `==` is identity, as that of a struct with derived equality: any list and any test will do
+
+module _ {N : Type 0} {eq : N → N → Bool} (same : (x : N) → eq x x ≡ true) (exact : (x y : N) → eq x y ≡ true → x ≡ y) where
+  exact_alike : (edges : N → List (N × ℤ)) (x y : N) → eq x y ≡ true → ListsEdges eq (λ z. z) (edges x) (edges y)
+  exact_alike edges x y e = subst (λ z. ListsEdges eq (λ q. q) (edges x) (edges z)) (exact x y e) (ListsEdges-refl eq same (edges x))
+
+  module _ {F C I S : Type 0} {calls : Mut F (Bor N × Unit {0}) I} {becomes : I → S → Type 0} {can : S → Type 0} {left : S → Count} {steps : S → Option (N × C) → S → Type 0} {value : C → ℤ} {within : N → Type 0} where
+    pub exact_graph_by : (listed : N → List (N × C)) (J : F → Type 0) {f : F} → J f
+        → ((s : F) (x : Bor N) → J s → within x.now → calls.pre s (x, tt))
+        → ((s : F) (x : Bor N) (r : I) (t : F) → J s → within x.now → Called calls s (x, tt) r t → J t × Gives becomes can left steps (λ xs. xs ≡ listed x.now) r)
+        → AnswersGraph calls becomes can left steps eq value f within (λ x. valued value (listed x))
+    exact_graph_by listed J j = graph_by listed (λ x. valued value (listed x)) J j (λ x w. ListsEdges-valued eq value same (listed x)) (λ x y w e. exact_alike (λ n. valued value (listed n)) x y e)
+
+    -- the same of a function that its calls leave as it was
+    pub exact_graph : (listed : N → List (N × C)) {f : F}
+        → ((x : Bor N) → within x.now → calls.pre f (x, tt))
+        → ((x : Bor N) (r : I) (t : F) → within x.now → Called calls f (x, tt) r t → (t ≡ f) × Gives becomes can left steps (λ xs. xs ≡ listed x.now) r)
+        → AnswersGraph calls becomes can left steps eq value f within (λ x. valued value (listed x))
+    exact_graph listed = graph_of listed (λ x. valued value (listed x)) (λ x w. ListsEdges-valued eq value same (listed x)) (λ x y w e. exact_alike (λ n. valued value (listed n)) x y e)
+
+  -- the same without costs
+  pub exact_successors : {F I S : Type 0} {calls : Mut F (Bor N × Unit {0}) I} {becomes : I → S → Type 0} {can : S → Type 0} {left : S → Count} {steps : S → Option N → S → Type 0} {within : N → Type 0} (listed : N → List N) {f : F}
+      → ((x : Bor N) → within x.now → calls.pre f (x, tt))
+      → ((x : Bor N) (r : I) (t : F) → within x.now → Called calls f (x, tt) r t → (t ≡ f) × Gives becomes can left steps (λ xs. xs ≡ listed x.now) r)
+      → AnswersSuccessors calls becomes can left steps eq f within listed
+  exact_successors listed = successors_of listed listed (λ x w. SameNodes-refl eq same (listed x)) (λ x y w e. subst (λ z. SameNodes eq (listed x) (listed z)) (exact x y e) (SameNodes-refl eq same (listed x)))
+
+  module _ {F : Type 0} {calls : Mut F (Bor N × Unit {0}) Bool} {within : N → Type 0} where
+    pub exact_test_by : (test : N → Bool) (J : F → Type 0) {f : F} → J f
+        → ((s : F) (x : Bor N) → J s → within x.now → calls.pre s (x, tt))
+        → ((s : F) (x : Bor N) (r : Bool) (t : F) → J s → within x.now → Called calls s (x, tt) r t → J t × (r ≡ test x.now))
+        → AnswersTest calls eq f within test
+    exact_test_by test J j = test_by test J j (λ x y w e. ap test (exact x y e))
+
+    -- the same of a function that its calls leave as it was
+    pub exact_test : (test : N → Bool) {f : F}
+        → ((x : Bor N) → within x.now → calls.pre f (x, tt))
+        → ((x : Bor N) (r : Bool) (t : F) → within x.now → Called calls f (x, tt) r t → (t ≡ f) × (r ≡ test x.now))
+        → AnswersTest calls eq f within test
+    exact_test test = test_of test (λ x y w e. ap test (exact x y e))
+
+-- ---- nodes that are numbers
 
 pub nat_refl : (x : ℕ) → nat_eq x x ≡ true
 nat_refl x = eq-eqb x x refl
 
+nat_exact : (x y : ℕ) → nat_eq x y ≡ true → x ≡ y
+nat_exact x y e = eqb-true x y e
+
 pub nat_same : {X : Type 0} (f : ℕ → X) (x y : ℕ) → nat_eq x y ≡ true → f x ≡ f y
 nat_same f x y h = ap f (eqb-true x y h)
-
-nat_lists : {C : Type 0} (value : C → ℤ) (listed : ℕ → List (ℕ × C)) (x : ℕ) → ListsEdges nat_eq value (listed x) (valued value (listed x))
-nat_lists value listed x = ListsEdges-valued nat_eq value nat_refl (listed x)
-
-nat_alike : (edges : ℕ → List (ℕ × ℤ)) (x y : ℕ) → nat_eq x y ≡ true → ListsEdges nat_eq (λ z. z) (edges x) (edges y)
-nat_alike edges x y e = subst (λ zs. ListsEdges nat_eq (λ z. z) (edges x) zs) (nat_same edges x y e) (ListsEdges-refl nat_eq nat_refl (edges x))
 
 module _ {F C I S : Type 0} {calls : Mut F (Bor ℕ × Unit {0}) I} {becomes : I → S → Type 0} {can : S → Type 0} {left : S → Count} {steps : S → Option (ℕ × C) → S → Type 0} {value : C → ℤ} {within : ℕ → Type 0} where
   pub nat_graph_by : (listed : ℕ → List (ℕ × C)) (J : F → Type 0) {f : F} → J f
       → ((s : F) (x : Bor ℕ) → J s → within x.now → calls.pre s (x, tt))
       → ((s : F) (x : Bor ℕ) (r : I) (t : F) → J s → within x.now → Called calls s (x, tt) r t → J t × Gives becomes can left steps (λ xs. xs ≡ listed x.now) r)
       → AnswersGraph calls becomes can left steps nat_eq value f within (λ x. valued value (listed x))
-  nat_graph_by listed J j = graph_by listed (λ x. valued value (listed x)) J j (λ x w. nat_lists value listed x) (λ x y w e. nat_alike (λ n. valued value (listed n)) x y e)
+  nat_graph_by = exact_graph_by nat_refl nat_exact
 
   -- the same of a function that its calls leave as it was
   pub nat_graph : (listed : ℕ → List (ℕ × C)) {f : F}
       → ((x : Bor ℕ) → within x.now → calls.pre f (x, tt))
       → ((x : Bor ℕ) (r : I) (t : F) → within x.now → Called calls f (x, tt) r t → (t ≡ f) × Gives becomes can left steps (λ xs. xs ≡ listed x.now) r)
       → AnswersGraph calls becomes can left steps nat_eq value f within (λ x. valued value (listed x))
-  nat_graph listed = graph_of listed (λ x. valued value (listed x)) (λ x w. nat_lists value listed x) (λ x y w e. nat_alike (λ n. valued value (listed n)) x y e)
+  nat_graph = exact_graph nat_refl nat_exact
+
+pub nat_successors : {F I S : Type 0} {calls : Mut F (Bor ℕ × Unit {0}) I} {becomes : I → S → Type 0} {can : S → Type 0} {left : S → Count} {steps : S → Option ℕ → S → Type 0} {within : ℕ → Type 0} (listed : ℕ → List ℕ) {f : F}
+    → ((x : Bor ℕ) → within x.now → calls.pre f (x, tt))
+    → ((x : Bor ℕ) (r : I) (t : F) → within x.now → Called calls f (x, tt) r t → (t ≡ f) × Gives becomes can left steps (λ xs. xs ≡ listed x.now) r)
+    → AnswersSuccessors calls becomes can left steps nat_eq f within listed
+nat_successors = exact_successors nat_refl nat_exact
 
 module _ {F : Type 0} {calls : Mut F (Bor ℕ × Unit {0}) Bool} {within : ℕ → Type 0} where
   pub nat_test_by : (test : ℕ → Bool) (J : F → Type 0) {f : F} → J f
       → ((s : F) (x : Bor ℕ) → J s → within x.now → calls.pre s (x, tt))
       → ((s : F) (x : Bor ℕ) (r : Bool) (t : F) → J s → within x.now → Called calls s (x, tt) r t → J t × (r ≡ test x.now))
       → AnswersTest calls nat_eq f within test
-  nat_test_by test J j = test_by test J j (λ x y w e. nat_same test x y e)
+  nat_test_by = exact_test_by nat_refl nat_exact
 
   -- the same of a function that its calls leave as it was
   pub nat_test : (test : ℕ → Bool) {f : F}
       → ((x : Bor ℕ) → within x.now → calls.pre f (x, tt))
       → ((x : Bor ℕ) (r : Bool) (t : F) → within x.now → Called calls f (x, tt) r t → (t ≡ f) × (r ≡ test x.now))
       → AnswersTest calls nat_eq f within test
-  nat_test test = test_of test (λ x y w e. nat_same test x y e)
+  nat_test = exact_test nat_refl nat_exact

@@ -5,13 +5,14 @@
 //! numbers, generic over `NumberedGraph`. No crate exports this layer.
 #![tactic(auto)]
 
-pub mod both_ends;
-pub mod cheapest;
+pub mod bfs;
+pub mod bfs_level;
+pub mod bfs_loop;
+pub mod bidirectional;
 pub mod depth;
 pub mod depth_first;
+pub mod dijkstra;
 pub mod discovery;
-pub mod fewest;
-pub mod fewest_loop;
 pub mod labels;
 pub mod numbered;
 pub mod queue;
@@ -23,4 +24,3 @@ pub mod source;
 pub mod sums;
 pub mod tested;
 pub mod two_sided;
-pub mod wave;

@@ -7,7 +7,7 @@ ghost use Rattle.pf_core.specs.Nodes.{NodeGraph, IsStep, StandsFor, Explores};
 ghost use Rattle.pf_core.specs.NodeLaws.{StandsFor-inside};
 ghost use Rattle.pf_core.specs.Sides.{by_side};
 
-use crate::both_ends::Halves;
+use crate::bidirectional::Halves;
 use crate::discovery::{Discovery, clones_at};
 use crate::numbered::NumberedGraph;
 use crate::row::NoRow;

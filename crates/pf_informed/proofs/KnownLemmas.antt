@@ -8,9 +8,12 @@ use Rattle.pf_core.specs.Nodes.{NodeGraph, StandsFor, IsStep}
 use Rattle.pf_core.specs.Numbered.{ListsSteps, Grows}
 use Rattle.pf_core.proofs.ListLemmas.{none_in, get-append}
 use Rattle.pf_core.proofs.NodeLemmas.{eq-sym, eq-trans, HasEdge-same}
+use Rattle.pf_core.proofs.SearchLemmas.{Grows-trans}
+use Rattle.pf_informed.specs.declared.directed.idastar.known.Known.{Known}
 use Rattle.pf_informed.specs.declared.directed.idastar.rows.Span.{Span}
 use Rattle.pf_informed.specs.Internal.Estimated.{IsEstimated}
-use Rattle.pf_informed.specs.Internal.Rows.{IsCheapestOf, HasSpan, IsIn, IsCheapStep, IsTable, HasRows}
+use Rattle.pf_informed.specs.Internal.Rows.{IsCheapestOf, HasSpan, IsIn, IsCheapStep, IsTable, HasRows, IsWhole, KnowsMore}
+use Rattle.pf_informed.proofs.Outcomes.{Grows-refl}
 
 get_left : {A : Type 0} (xs ys : List A) (i : ℕ) → i < length xs → slice_get (xs ++ ys) i ≡ slice_get xs i
 get_left [] ys i h = absurd (omega (arith, h))
@@ -166,3 +169,10 @@ module _ {N : Type 0} (eq : N → N → Bool) (laws : IsEquivalence eq) where
         let edge = HasEdge-same eq laws (g.edges x) s.0 y (value a.1) (one_node keys n.0 s.0 y s.2 n.1) s.1.1 in
         let above = costs.cheapest (value a.1) edge in
         (a.0, n.0, a.1, a.2, n.1, omega (arith, ints, low, above, q.2))
+
+module _ {N C S T H Z : Type 0} {eq : N → N → Bool} where
+  pub more_refl : {known : Known N C S T H Z} → IsWhole known → KnowsMore eq known known
+  more_refl whole = record { whole = whole; grows = Grows-refl _ _; steps = λ i x h. h; spans = λ k s h. h }
+
+  pub more_trans : {known known' known'' : Known N C S T H Z} → KnowsMore eq known known' → KnowsMore eq known' known'' → KnowsMore eq known known''
+  more_trans m n = record { whole = n.whole; grows = Grows-trans _ _ _ _ _ _ m.grows n.grows; steps = λ i x h. n.steps i x (m.steps i x h); spans = λ k s h. n.spans k s (m.spans k s h) }

@@ -3,6 +3,7 @@ use Rattle.std.proofs.Common.{◌≡◌, ◌≢◌, ℕ, zero, suc, ◌+◌, ◌
 use Rattle.std.specs.Prelude.{◌⊎◌, ◌↔◌, ◌≤ℤ◌, ◌<ℤ◌, ◌+ℤ◌, MatchBool, Result, Ok, Err, OnOk, Contains, Vec, slice_set}
 use Rattle.std.specs.Ordering.{int_cmp, is_lt}
 use Rattle.std.proofs.lemmas.Int.{ints}
+use Rattle.std.proofs.lemmas.List.{length-set}
 use borrow.Author.Tests.{eqb-true}
 use Rattle.pf_base.specs.Walks.{HasNode, NoRepeats}
 use Rattle.pf_core.specs.declared.labels.Label.{Label}
@@ -12,7 +13,7 @@ use Rattle.pf_core.proofs.ListLemmas.{nat_dec, get_set, lt_means}
 use Rattle.pf_core.proofs.LabelLemmas.{HasLabel-inside, label_is}
 use Rattle.pf_core.proofs.PathLemmas.{HasNode-append_cases, NoRepeats-append}
 use Rattle.pf_informed.specs.Internal.Ways.{before_in, items_or_none}
-use Rattle.pf_informed.specs.Internal.Tight.{AllBelow, IsUpTo, IsTightStep, IsTightEdge, IsTight}
+use Rattle.pf_informed.specs.Internal.Tight.{AllBelow, IsUpTo, AreRows, IsTightStep, IsTightEdge, IsTight}
 
 nat_symm : (x y : ℕ) → nat_eq x y ≡ true → nat_eq y x ≡ true
 nat_symm x y h = eq-eqb y x (sym (eqb-true x y h))
@@ -47,7 +48,7 @@ there_already xs front n k is = (
   (λ h. elim h as (λ _. HasNode nat_eq xs k) [ inl i ↦ i | inr e ↦ subst (λ ys. HasNode nat_eq ys k) (sym is) ((in_snoc front n k).1 (inr e)) ]),
 )
 
-pub up_to_next : (n : ℕ) (xs : List ℕ) → IsUpTo n xs → IsUpTo (n + 1) xs
+up_to_next : (n : ℕ) (xs : List ℕ) → IsUpTo n xs → IsUpTo (n + 1) xs
 up_to_next n xs u = record {
   once = u.once;
   low = inl (λ k h. elim u.low as (λ _. k < n + 1) [
@@ -55,6 +56,9 @@ up_to_next n xs u = record {
     | inr f ↦ elim ((in_snoc f.0 n k).0 (subst (λ ys. HasNode nat_eq ys k) f.1 h)) as (λ _. k < n + 1) [ inl i ↦ omega (arith, f.2 k i) | inr e ↦ omega (arith, e) ]
   ]);
 }
+
+pub rows_next : {Z : Type 0} {n count : ℕ} {rows : List (Vec ℕ Z)} → AreRows n count rows → AreRows (n + 1) count rows
+rows_next r = record { wide = r.wide; up_to = λ j. up_to_next _ _ (r.up_to j) }
 
 -- ---- a row in the place of another
 -- one empty row more
@@ -87,11 +91,14 @@ module _ {Z : Type 0} (rows : List (Vec ℕ Z)) (next : ℕ) (row : Vec ℕ Z) (
       )
     ]
 
-  pub up_to_set : (n : ℕ) → IsUpTo n row.items → ((j : ℕ) → IsUpTo n (before_in rows j)) → (j : ℕ) → IsUpTo n (before_in (slice_set rows next row) j)
-  up_to_set n u all j = elim (row_set j) as (λ _. IsUpTo n (before_in (slice_set rows next row) j)) [
-    | inl r ↦ subst (IsUpTo n) (sym r.1) u
-    | inr r ↦ subst (IsUpTo n) (sym r.1) (all j)
-  ]
+  pub rows_set : (n : ℕ) {count : ℕ} → IsUpTo n row.items → AreRows n count rows → AreRows n count (slice_set rows next row)
+  rows_set n u r = record {
+    wide = length-set rows next row ∙ r.wide;
+    up_to = λ j. elim (row_set j) as (λ _. IsUpTo n (before_in (slice_set rows next row) j)) [
+      | inl s ↦ subst (IsUpTo n) (sym s.1) u
+      | inr s ↦ subst (IsUpTo n) (sym s.1) (r.up_to j)
+    ];
+  }
 
 -- ---- comparisons
 pub less_of : (x y : ℤ) (r : Bool) → r ≡ is_lt (int_cmp x y) → r ≡ true → x <ℤ y

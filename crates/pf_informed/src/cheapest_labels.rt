@@ -1,6 +1,5 @@
 //! A search by cost and estimate that goes on until all cheapest ways have labels.
 
-ghost use Rattle.std.specs.BinaryHeap.{IsHeap, heap_items, heap_len};
 ghost use Rattle.std.specs.Prelude.{◌≡◌, ◌⊎◌, ◌<◌, ◌≤◌, ◌<ℤ◌, ◌+ℤ◌, ◌+◌, ℕ, ℤ, Bool, [], ◌∷◌, Some, None, Err, ⊤, true, false, IfOk, IfErr, MatchBool, MatchOption, length};
 ghost use Rattle.pf_base.specs.Walks.{HasNoGoalWalk};
 ghost use Rattle.pf_base.specs.Edges.{IsSuccessor};
@@ -11,7 +10,7 @@ ghost use Rattle.pf_core.specs.Numbered.{Grows};
 ghost use Rattle.pf_informed.specs.Estimates.{MayOverflow};
 ghost use Rattle.pf_informed.specs.Internal.Labelled.{IsPastBest, IsLabelled};
 ghost use Rattle.pf_informed.specs.Internal.Led.{IsLed, IsNew, OfLedSearch};
-ghost use Rattle.pf_informed.specs.Internal.Waiting.{entry_cmp, IsWaiting, IsQueue, IsTaken};
+ghost use Rattle.pf_informed.specs.Internal.Waiting.{IsWaiting, IsQueue, IsTaken};
 
 use crate::functions::EstimateFunction;
 use crate::queue::{Queue, Taken, take_least};
@@ -46,13 +45,11 @@ fn take_within<C: Cost, A: Allocator>(
     queue: &mut Queue<C, A>,
     best: Option<C>,
 ) -> Option<Taken<C>>
-    requires ordered { IsHeap (entry_cmp C.cmp) (heap_items queue.old) }
-    requires queue { IsQueue C.value labels.now.items estimates.now.items (heap_items queue.old) }
-    ensures ordered { IsHeap (entry_cmp C.cmp) (heap_items queue.new) }
-    ensures queue { IsQueue C.value labels.now.items estimates.now.items (heap_items queue.new) }
-    ensures taken { MatchOption result ((k : ℕ) (l : Label C) → HasLabel labels.now.items k l → IsWaiting C.value (heap_items queue.old) k l → IsPastBest C.value estimates.now.items best k l)
-        (λ r. IsTaken C.value labels.now.items estimates.now.items r.number r.cost (heap_items queue.old) (heap_items queue.new)) }
-    ensures fewer { MatchOption result (heap_len queue.new ≤ heap_len queue.old) (λ r. heap_len queue.new + 1 ≤ heap_len queue.old) }
+    requires queue { IsQueue C.value labels.now.items estimates.now.items queue.old.entries }
+    ensures queue { IsQueue C.value labels.now.items estimates.now.items queue.new.entries }
+    ensures taken { MatchOption result ((k : ℕ) (l : Label C) → HasLabel labels.now.items k l → IsWaiting C.value queue.old.entries k l → IsPastBest C.value estimates.now.items best k l)
+        (λ r. IsTaken C.value labels.now.items estimates.now.items r.number r.cost queue.old.entries queue.new.entries) }
+    ensures fewer { MatchOption result (length queue.new.entries ≤ length queue.old.entries) (λ r. length queue.new.entries + 1 ≤ length queue.old.entries) }
 {
     let Some(taken) = take_least(labels, estimates, queue) else {
         return None;
@@ -105,7 +102,7 @@ where
     H: EstimateFunction<N, C>,
     A: Allocator + Copy,
     requires one { length graph.old.discovery.nodes.keys ≡ 1 }
-    requires new { IsNew C.cmp search.old }
+    requires new { IsNew search.old }
     requires graph { (g : NodeGraph N) × (test : N → Bool) × (least : N → ℤ)
         × IsLed N.eq C.value S.answers T.answers H.answers g test least graph.old estimate.old search.old.estimates.items }
     ensures wide { IfOk result (λ answer. MatchOption answer ⊤ (λ _. (length search.new.labels.items ≡ length graph.new.discovery.nodes.keys) × (0 < length search.new.labels.items))) }

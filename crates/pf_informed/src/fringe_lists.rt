@@ -3,15 +3,14 @@
 //! As in the queue of the search by cost and estimate, a number stands in the lists once for each label
 //! that it was given, and the entries of labels that were lowered since are passed over.
 
-ghost use Rattle.std.specs.BinaryHeap.{IsHeap, heap_items, heap_len};
 ghost use Rattle.std.specs.Prelude.{◌≡◌, ◌⊎◌, ◌≤◌, ◌≤ℤ◌, ◌<ℤ◌, ◌+◌, ◌++◌, ◌↔◌, [], Contains, IsPermutation, IfErr, IfOk, OnOk, MatchBool, MatchOption, length};
 ghost use Rattle.pf_core.specs.declared.labels.Label.{Label};
 ghost use Rattle.pf_core.specs.Labels.{HasLabel};
-ghost use Rattle.pf_informed.specs.Internal.Waiting.{Entry, entry_cmp, IsQueue};
+ghost use Rattle.pf_informed.specs.Internal.Waiting.{Entry, IsQueue};
 ghost use Rattle.pf_informed.specs.Internal.Fringe.{listed, StillWait, NothingWaits, IsNextEntry, IsBelowWaiting, IsTakenWithin};
 
 use crate::labels::is_lower;
-use crate::queue::{Queue, Taken, Waiting, take_first};
+use crate::queue::{Queue, Taken, Waiting};
 use pf_base::{Cost, PathError};
 use pf_core::slot::Slot;
 use std::alloc::Allocator;
@@ -97,17 +96,15 @@ impl<C: Cost, A: Allocator + Copy> FringeLists<C, A> {
 
     /// Moves what the queue holds to the front of this round, the least sum first.
     fn take_in(&mut self, queue: &mut Queue<C, A>) -> Result<(), PathError>
-        requires ordered { IsHeap (entry_cmp C.cmp) (heap_items queue.old) }
-        ensures ordered { OnOk result (IsHeap (entry_cmp C.cmp) (heap_items queue.new)) }
-        ensures emptied { OnOk result (heap_items queue.new ≡ []) }
-        ensures same { OnOk result ((e : Entry C) → Contains (heap_items queue.old ++ self.old.current.items) e ↔ Contains self.new.current.items e) }
+        ensures emptied { OnOk result (queue.new.entries ≡ []) }
+        ensures same { OnOk result ((e : Entry C) → Contains (queue.old.entries ++ self.old.current.items) e ↔ Contains self.new.current.items e) }
         ensures later { OnOk result (self.new.later.items ≡ self.old.later.items) }
         ensures limit { OnOk result (self.new.limit ≡ self.old.limit) }
-        ensures count { OnOk result (heap_len queue.new + length self.new.current.items ≡ heap_len queue.old + length self.old.current.items) }
+        ensures count { OnOk result (length queue.new.entries + length self.new.current.items ≡ length queue.old.entries + length self.old.current.items) }
         ensures refused { IfErr result (λ e. e ≡ PathError.OutOfMemory) }
     {
         let from = self.current.len();
-        'entries: while let Some(entry) = take_first(queue) {
+        'entries: while let Some(entry) = queue.take_first() {
             self.current.push(entry)?;
         }
         reverse_from(&mut self.current, from);
@@ -187,17 +184,15 @@ impl<C: Cost, A: Allocator + Copy> FringeLists<C, A> {
         estimates: &Vec<C, A>,
         queue: &mut Queue<C, A>,
     ) -> Result<Option<Taken<C>>, PathError>
-        requires ordered { IsHeap (entry_cmp C.cmp) (heap_items queue.old) }
-        requires queue { IsQueue C.value labels.now.items estimates.now.items (heap_items queue.old ++ listed self.old) }
-        ensures ordered { OnOk result (IsHeap (entry_cmp C.cmp) (heap_items queue.new)) }
-        ensures queue { OnOk result (IsQueue C.value labels.now.items estimates.now.items (heap_items queue.new ++ listed self.new)) }
+        requires queue { IsQueue C.value labels.now.items estimates.now.items (queue.old.entries ++ listed self.old) }
+        ensures queue { OnOk result (IsQueue C.value labels.now.items estimates.now.items (queue.new.entries ++ listed self.new)) }
         ensures limit { OnOk result ((self.new.limit ≡ self.old.limit)
-            ⊎ (C.fits (C.value self.new.limit) × IsBelowWaiting C.value labels.now.items estimates.now.items (heap_items queue.old ++ listed self.old) self.new.limit)) }
-        ensures taken { IfOk result (λ r. MatchOption r (NothingWaits C.value labels.now.items (heap_items queue.old ++ listed self.old))
-            (λ t. IsTakenWithin C.value labels.now.items estimates.now.items t.number t.cost self.new.limit (heap_items queue.old ++ listed self.old) (heap_items queue.new ++ listed self.new))) }
+            ⊎ (C.fits (C.value self.new.limit) × IsBelowWaiting C.value labels.now.items estimates.now.items (queue.old.entries ++ listed self.old) self.new.limit)) }
+        ensures taken { IfOk result (λ r. MatchOption r (NothingWaits C.value labels.now.items (queue.old.entries ++ listed self.old))
+            (λ t. IsTakenWithin C.value labels.now.items estimates.now.items t.number t.cost self.new.limit (queue.old.entries ++ listed self.old) (queue.new.entries ++ listed self.new))) }
         ensures fewer { IfOk result (λ r. MatchOption r
-            (heap_len queue.new + length (listed self.new) ≤ heap_len queue.old + length (listed self.old))
-            (λ _. heap_len queue.new + length (listed self.new) + 1 ≤ heap_len queue.old + length (listed self.old))) }
+            (length queue.new.entries + length (listed self.new) ≤ length queue.old.entries + length (listed self.old))
+            (λ _. length queue.new.entries + length (listed self.new) + 1 ≤ length queue.old.entries + length (listed self.old))) }
         ensures refused { IfErr result (λ e. e ≡ PathError.OutOfMemory) }
     {
         self.take_in(queue)?;

@@ -4,20 +4,20 @@
 //! were lowered since are stale, and are passed over.
 
 ghost use Rattle.std.specs.declared.cmp.Reverse.{Reverse};
-ghost use Rattle.std.specs.BinaryHeap.{IsHeap, heap_items, heap_len, heap_capacity};
-ghost use Rattle.std.specs.Prelude.{◌≡◌, ◌<◌, ◌≤◌, ◌≤ℤ◌, ◌+◌, ◌*◌, ◌^◌, ◌∷◌, [], ℕ, pos, Contains, IsPermutation, MatchOption, Some, length};
+ghost use Rattle.std.specs.Prelude.{◌≡◌, ◌<◌, ◌≤◌, ◌≤ℤ◌, ◌+◌, ◌*◌, ◌^◌, ◌∷◌, [], ℕ, pos, Contains, IsPermutation, MatchOption, OnOk, Some, length};
 ghost use Rattle.pf_core.specs.declared.labels.Label.{Label};
 ghost use Rattle.pf_core.specs.Labels.{HasLabel};
-ghost use Rattle.pf_informed.specs.Internal.Forest.{IsForest, total_room, nat_of};
-ghost use Rattle.pf_informed.specs.Internal.Waiting.{Entry, entry_cmp, IsWaiting, IsQueue, IsTaken, Eased};
+ghost use Rattle.pf_informed.specs.Internal.Forest.{total_room, nat_of};
+ghost use Rattle.pf_informed.specs.Internal.Waiting.{Entry, IsWaiting, IsQueue, IsSound, AreSteps, IsTaken, Eased};
 
 use crate::labels::{is_lower, lowers};
 use pf_base::Cost;
 use pf_core::labels::Label;
 use pf_core::slot::Slot;
-use std::alloc::Allocator;
+use std::alloc::{AllocError, Allocator};
 use std::cmp::Reverse;
 use std::collections::BinaryHeap;
+use std::marker::Model;
 
 /// The cost of a label and the estimate of its node together, the cost alone, and the number, in 32
 /// bits, since a search spends most of its time among these.
@@ -25,24 +25,68 @@ pub(crate) type Waiting<C> = (Reverse<C>, C, u32);
 
 /// What waits. The least sum comes first, and of equal sums the greatest cost, since fewer nodes are
 /// opened then.
-pub(crate) type Queue<C, A> = BinaryHeap<Waiting<C>, A>;
+#[derive(Drop)]
+pub(crate) struct Queue<C: Cost, A: Allocator> {
+    heap: BinaryHeap<Waiting<C>, A>,
+}
+
+impl<C: Cost, A: Allocator> Model for Queue<C, A> {
+    ghost use Rattle.std.specs.BinaryHeap.{IsHeap, heap_items, heap_capacity};
+    ghost use Rattle.pf_informed.specs.Internal.Waiting.{Queued, entry_cmp};
+
+    ghost Value = { Queued C };
+
+    ghost view = { λ q. record { entries = heap_items q.heap; room = heap_capacity q.heap } };
+
+    ghost invariant = { λ q. IsHeap (entry_cmp C.cmp) (heap_items q.heap) };
+}
+
+impl<C: Cost, A: Allocator> Queue<C, A> {
+    /// Nothing waits yet.
+    pub fn new(alloc: A) -> Self
+        ensures { result.entries ≡ [] }
+    {
+        Queue {
+            heap: BinaryHeap::new(alloc),
+        }
+    }
+
+    /// Makes room for so many entries more.
+    pub fn reserve(&mut self, additional: usize) -> Result<(), AllocError>
+        ensures entries { self.new.entries ≡ self.old.entries }
+        ensures room { OnOk result (length self.new.entries + additional ≤ self.new.room) }
+    {
+        self.heap.reserve(additional)
+    }
+
+    /// Puts in an entry, for which there is room.
+    pub fn push(&mut self, sum: C, cost: C, number: usize)
+        requires few { number < 2 ^ 32 }
+        requires room { length self.old.entries < self.old.room }
+        ensures added { IsPermutation ((record { 0 = sum }, cost, number) ∷ self.old.entries) self.new.entries }
+        ensures len { length self.new.entries ≡ length self.old.entries + 1 }
+        ensures room { self.old.room ≤ self.new.room }
+    {
+        if self.heap.push((Reverse(sum), cost, number as u32)).is_err() {
+            unreachable!();
+        }
+    }
+
+    /// Takes out the first entry, whose sum is the least.
+    pub fn take_first(&mut self) -> Option<Waiting<C>>
+        ensures first { MatchOption result ((self.old.entries ≡ []) × (self.new.entries ≡ []))
+            (λ e. IsPermutation self.old.entries (e ∷ self.new.entries) × (length self.new.entries + 1 ≡ length self.old.entries)) }
+        ensures least { MatchOption result (self.old.entries ≡ []) (λ e. (f : Entry C) → Contains self.new.entries f → C.value e.0.0 ≤ℤ C.value f.0.0) }
+    {
+        self.heap.pop()
+    }
+}
 
 /// A number that is taken out of the queue, and the cost of its label.
 #[derive(Drop)]
 pub(crate) struct Taken<C> {
     pub number: usize,
     pub cost: C,
-}
-
-/// Takes out the first entry, whose sum is the least.
-pub(crate) fn take_first<C: Cost, A: Allocator>(queue: &mut Queue<C, A>) -> Option<Waiting<C>>
-    requires { IsHeap (entry_cmp C.cmp) (heap_items queue.old) }
-    ensures ordered { IsHeap (entry_cmp C.cmp) (heap_items queue.new) }
-    ensures first { MatchOption result ((heap_items queue.old ≡ []) × (heap_items queue.new ≡ []))
-        (λ e. IsPermutation (heap_items queue.old) (e ∷ heap_items queue.new) × (heap_len queue.new + 1 ≡ heap_len queue.old)) }
-    ensures least { MatchOption result (heap_items queue.old ≡ []) (λ e. (f : Entry C) → Contains (heap_items queue.new) f → C.value e.0.0 ≤ℤ C.value f.0.0) }
-{
-    queue.pop()
 }
 
 /// Takes out the number whose label and estimate cost least together among those that wait, with the
@@ -52,15 +96,13 @@ pub(crate) fn take_least<C: Cost, A: Allocator>(
     estimates: &Vec<C, A>,
     queue: &mut Queue<C, A>,
 ) -> Option<Taken<C>>
-    requires ordered { IsHeap (entry_cmp C.cmp) (heap_items queue.old) }
-    requires queue { IsQueue C.value labels.now.items estimates.now.items (heap_items queue.old) }
-    ensures ordered { IsHeap (entry_cmp C.cmp) (heap_items queue.new) }
-    ensures queue { IsQueue C.value labels.now.items estimates.now.items (heap_items queue.new) }
-    ensures taken { MatchOption result ((k : ℕ) (l : Label C) → HasLabel labels.now.items k l → ¬ (IsWaiting C.value (heap_items queue.old) k l))
-        (λ r. IsTaken C.value labels.now.items estimates.now.items r.number r.cost (heap_items queue.old) (heap_items queue.new)) }
-    ensures fewer { MatchOption result (heap_len queue.new ≤ heap_len queue.old) (λ r. heap_len queue.new + 1 ≤ heap_len queue.old) }
+    requires queue { IsQueue C.value labels.now.items estimates.now.items queue.old.entries }
+    ensures queue { IsQueue C.value labels.now.items estimates.now.items queue.new.entries }
+    ensures taken { MatchOption result ((k : ℕ) (l : Label C) → HasLabel labels.now.items k l → ¬ (IsWaiting C.value queue.old.entries k l))
+        (λ r. IsTaken C.value labels.now.items estimates.now.items r.number r.cost queue.old.entries queue.new.entries) }
+    ensures fewer { MatchOption result (length queue.new.entries ≤ length queue.old.entries) (λ r. length queue.new.entries + 1 ≤ length queue.old.entries) }
 {
-    'entries: while let Some(entry) = take_first(queue) {
+    'entries: while let Some(entry) = queue.take_first() {
         let number = entry.2 as usize;
         if !is_lower(labels, number, entry.1) {
             return Some(Taken {
@@ -70,21 +112,6 @@ pub(crate) fn take_least<C: Cost, A: Allocator>(
         }
     }
     None
-}
-
-/// Puts in an entry, for which there is room.
-fn push_entry<C: Cost, A: Allocator>(queue: &mut Queue<C, A>, sum: C, cost: C, number: usize)
-    requires few { number < 2 ^ 32 }
-    requires room { heap_len queue.old < heap_capacity queue.old }
-    requires ordered { IsHeap (entry_cmp C.cmp) (heap_items queue.old) }
-    ensures ordered { IsHeap (entry_cmp C.cmp) (heap_items queue.new) }
-    ensures added { IsPermutation ((record { 0 = sum }, cost, number) ∷ heap_items queue.old) (heap_items queue.new) }
-    ensures len { heap_len queue.new ≡ heap_len queue.old + 1 }
-    ensures capacity { heap_capacity queue.old ≤ heap_capacity queue.new }
-{
-    if queue.push((Reverse(sum), cost, number as u32)).is_err() {
-        unreachable!();
-    }
 }
 
 /// Takes one step from the number `parent`, whose label is `label`: the label of the step's end is
@@ -98,24 +125,16 @@ fn take_step<C: Cost, A: Allocator>(
     next: usize,
     price: C,
 )
-    requires room { heap_len queue.old < heap_capacity queue.old }
+    requires room { length queue.old.entries < queue.old.room }
     requires inside { next < length labels.old.items }
-    requires wide { length estimates.now.items ≡ length labels.old.items }
-    requires few { length labels.old.items ≤ 2 ^ 32 }
-    requires parent { parent < length labels.old.items }
     requires price { pos 0 ≤ℤ C.value price }
     requires here { HasLabel labels.old.items parent label.now }
-    requires forest { IsForest C.value labels.old.items }
-    requires ordered { IsHeap (entry_cmp C.cmp) (heap_items queue.old) }
-    requires queue { IsQueue C.value labels.old.items estimates.now.items (heap_items queue.old) }
-    ensures forest { IsForest C.value labels.new.items }
-    ensures ordered { IsHeap (entry_cmp C.cmp) (heap_items queue.new) }
-    ensures queue { IsQueue C.value labels.new.items estimates.now.items (heap_items queue.new) }
-    ensures eased { Eased C.value C.fits estimates.now.items parent (C.value label.now.cost) ((next, price) ∷ []) labels.old.items labels.new.items (heap_items queue.old) (heap_items queue.new) }
-    ensures less { 2 * total_room C.value (nat_of (C.value C.greatest)) labels.new.items + heap_len queue.new
-        ≤ 2 * total_room C.value (nat_of (C.value C.greatest)) labels.old.items + heap_len queue.old }
-    ensures len { heap_len queue.new ≤ heap_len queue.old + 1 }
-    ensures capacity { heap_capacity queue.old ≤ heap_capacity queue.new }
+    requires sound { IsSound C.value labels.old.items estimates.now.items queue.old.entries }
+    ensures sound { IsSound C.value labels.new.items estimates.now.items queue.new.entries }
+    ensures eased { Eased C.value C.fits estimates.now.items parent (C.value label.now.cost) ((next, price) ∷ []) labels.old.items labels.new.items queue.old.entries queue.new.entries }
+    ensures less { 2 * total_room C.value (nat_of (C.value C.greatest)) labels.new.items + length queue.new.entries
+        ≤ 2 * total_room C.value (nat_of (C.value C.greatest)) labels.old.items + length queue.old.entries }
+    ensures room { (length queue.new.entries ≤ length queue.old.entries + 1) × (queue.old.room ≤ queue.new.room) }
 {
     let Some(cost) = label.cost.checked_add(&price) else {
         return;
@@ -124,7 +143,7 @@ fn take_step<C: Cost, A: Allocator>(
         return;
     }
     if let Some(sum) = cost.checked_add(&estimates[next]) {
-        push_entry(queue, sum, cost, next);
+        queue.push(sum, cost, next);
         labels[next] = Slot::behind(parent, &label.depth, cost);
     }
 }
@@ -139,22 +158,14 @@ pub(crate) fn relax<C: Cost, A: Allocator>(
     label: &Label<C>,
     row: &[(usize, C)],
 )
-    requires room { heap_len queue.old + length row.now ≤ heap_capacity queue.old }
-    requires inside { (j : ℕ) (c : C) → Contains row.now (j, c) → j < length labels.old.items }
-    requires wide { length estimates.now.items ≡ length labels.old.items }
-    requires few { length labels.old.items ≤ 2 ^ 32 }
-    requires parent { parent < length labels.old.items }
-    requires prices { (j : ℕ) (c : C) → Contains row.now (j, c) → pos 0 ≤ℤ C.value c }
+    requires room { length queue.old.entries + length row.now ≤ queue.old.room }
+    requires steps { AreSteps C.value (length labels.old.items) row.now }
     requires here { HasLabel labels.old.items parent label.now }
-    requires forest { IsForest C.value labels.old.items }
-    requires ordered { IsHeap (entry_cmp C.cmp) (heap_items queue.old) }
-    requires queue { IsQueue C.value labels.old.items estimates.now.items (heap_items queue.old) }
-    ensures forest { IsForest C.value labels.new.items }
-    ensures ordered { IsHeap (entry_cmp C.cmp) (heap_items queue.new) }
-    ensures queue { IsQueue C.value labels.new.items estimates.now.items (heap_items queue.new) }
-    ensures eased { Eased C.value C.fits estimates.now.items parent (C.value label.now.cost) row.now labels.old.items labels.new.items (heap_items queue.old) (heap_items queue.new) }
-    ensures less { 2 * total_room C.value (nat_of (C.value C.greatest)) labels.new.items + heap_len queue.new
-        ≤ 2 * total_room C.value (nat_of (C.value C.greatest)) labels.old.items + heap_len queue.old }
+    requires sound { IsSound C.value labels.old.items estimates.now.items queue.old.entries }
+    ensures sound { IsSound C.value labels.new.items estimates.now.items queue.new.entries }
+    ensures eased { Eased C.value C.fits estimates.now.items parent (C.value label.now.cost) row.now labels.old.items labels.new.items queue.old.entries queue.new.entries }
+    ensures less { 2 * total_room C.value (nat_of (C.value C.greatest)) labels.new.items + length queue.new.entries
+        ≤ 2 * total_room C.value (nat_of (C.value C.greatest)) labels.old.items + length queue.old.entries }
 {
     'steps: for (next, price) in row {
         take_step(labels, estimates, queue, parent, label, *next, *price);

@@ -4,7 +4,7 @@ ghost use Rattle.std.specs.Prelude.{◌≡◌, ◌⊎◌, ◌↔◌, ◌<◌, �
 ghost use Rattle.pf_base.specs.Walks.{HasNode};
 ghost use Rattle.pf_core.specs.Numbered.{Grows};
 ghost use Rattle.pf_informed.specs.Internal.Ways.{before_in};
-ghost use Rattle.pf_informed.specs.Internal.Tight.{IsUpTo, IsTightStep, IsTight};
+ghost use Rattle.pf_informed.specs.Internal.Tight.{IsUpTo, AreRows, IsTightStep, IsTight};
 
 use pf_base::{Cost, PathError};
 use pf_core::numbered::GoalGraph;
@@ -87,10 +87,8 @@ fn link_step<C: Cost, A: Allocator>(
     next: usize,
     price: C,
 ) -> Result<(), PathError>
-    requires wide { length before.old.items ≡ length labels.now }
-    requires up_to { (j : ℕ) → IsUpTo number (before_in before.old.items j) }
-    ensures wide { OnOk result (length before.new.items ≡ length labels.now) }
-    ensures up_to { OnOk result ((j : ℕ) → IsUpTo number (before_in before.new.items j)) }
+    requires rows { AreRows number (length labels.now) before.old.items }
+    ensures rows { OnOk result (AreRows number (length labels.now) before.new.items) }
     ensures linked { OnOk result ((j k : ℕ) → HasNode nat_eq (before_in before.new.items j) k ↔ (HasNode nat_eq (before_in before.old.items j) k
         ⊎ ((k ≡ number) × (j ≡ next) × IsTightStep C.value labels.now j (C.value cost) price))) }
     ensures refused { IfErr result (λ e. e ≡ PathError.OutOfMemory) }
@@ -109,10 +107,8 @@ fn link_row<C: Cost, A: Allocator>(
     cost: C,
     row: &[(usize, C)],
 ) -> Result<(), PathError>
-    requires wide { length before.old.items ≡ length labels.now }
-    requires up_to { (j : ℕ) → IsUpTo number (before_in before.old.items j) }
-    ensures wide { OnOk result (length before.new.items ≡ length labels.now) }
-    ensures up_to { OnOk result ((j : ℕ) → IsUpTo number (before_in before.new.items j)) }
+    requires rows { AreRows number (length labels.now) before.old.items }
+    ensures rows { OnOk result (AreRows number (length labels.now) before.new.items) }
     ensures linked { OnOk result ((j k : ℕ) → HasNode nat_eq (before_in before.new.items j) k ↔ (HasNode nat_eq (before_in before.old.items j) k
         ⊎ ((k ≡ number) × ((c : C) × Contains row.now (j, c) × IsTightStep C.value labels.now j (C.value cost) c)))) }
     ensures refused { IfErr result (λ e. e ≡ PathError.OutOfMemory) }
@@ -136,12 +132,10 @@ fn look<C: Cost, G: GoalGraph<C>, A: Allocator>(
     requires found { length labels.now ≤ G.found graph.old }
     requires graph { (g : G.Graph) × G.explores graph.old g }
     requires someone { (x : G.Node) × G.stands graph.old number x }
-    requires wide { length tight.old.before.items ≡ length labels.now }
-    requires up_to { (j : ℕ) → IsUpTo number (before_in tight.old.before.items j) }
+    requires rows { AreRows number (length labels.now) tight.old.before.items }
     ensures grows { Grows (G.found graph.old) (G.found graph.new) (G.stands graph.old) (G.stands graph.new) }
     ensures graph { (g : G.Graph) → G.explores graph.old g → G.explores graph.new g }
-    ensures wide { OnOk result (length tight.new.before.items ≡ length labels.now) }
-    ensures up_to { OnOk result ((j : ℕ) → IsUpTo (number + 1) (before_in tight.new.before.items j)) }
+    ensures rows { OnOk result (AreRows (number + 1) (length labels.now) tight.new.before.items) }
     ensures tight { OnOk result ((g : G.Graph) → G.explores graph.old g
         → IsTight C.value labels.now (G.step g) (G.passes g) (G.stands graph.old) (C.value best) number tight.old.goals.items (before_in tight.old.before.items)
         → IsTight C.value labels.now (G.step g) (G.passes g) (G.stands graph.new) (C.value best) (number + 1) tight.new.goals.items (before_in tight.new.before.items)) }

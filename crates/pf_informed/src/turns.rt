@@ -1,6 +1,5 @@
 //! The turns of a search by cost and estimate, over a graph that functions answer.
 
-ghost use Rattle.std.specs.BinaryHeap.{IsHeap, heap_items, heap_len};
 ghost use Rattle.std.specs.List.{AllZip};
 ghost use Rattle.std.specs.Prelude.{◌≡◌, ◌≤◌, ◌++◌, ℕ, ℤ, Bool, false, List, OnOk, IfOk, IfErr, length};
 ghost use Rattle.pf_base.specs.Answers.{IsLawfulClone};
@@ -9,8 +8,8 @@ ghost use Rattle.pf_core.specs.Labels.{HasLabel, IsChain};
 ghost use Rattle.pf_core.specs.Nodes.{NodeGraph, StandsFor};
 ghost use Rattle.pf_informed.specs.Internal.Forest.{IsForest, nat_of};
 ghost use Rattle.pf_informed.specs.Internal.Informed.{work_left};
-ghost use Rattle.pf_informed.specs.Internal.Led.{IsLed, IsNew, FindsMore, IsInformedOn, OthersWait};
-ghost use Rattle.pf_informed.specs.Internal.Waiting.{Entry, entry_cmp, IsQueue};
+ghost use Rattle.pf_informed.specs.Internal.Led.{IsLed, IsNew, IsReady, FindsMore, IsInformedOn, OthersWait};
+ghost use Rattle.pf_informed.specs.Internal.Waiting.{Entry, IsQueue};
 
 use crate::estimates::ask;
 use crate::functions::EstimateFunction;
@@ -37,18 +36,14 @@ where
     H: EstimateFunction<N, C>,
     A: Allocator + Copy,
     requires one { length graph.now.discovery.nodes.keys ≡ 1 }
-    requires new { IsNew C.cmp search.old }
+    requires new { IsNew search.old }
     requires graph { (g : NodeGraph N) × (test : N → Bool) × (least : N → ℤ)
         × IsLed N.eq C.value S.answers T.answers H.answers g test least graph.now estimate.old search.old.estimates.items }
-    ensures labelled { OnOk result (length search.new.labels.items ≡ 1) }
-    ensures asked { OnOk result (length search.new.estimates.items ≡ 1) }
-    ensures forest { OnOk result (IsForest C.value search.new.labels.items) }
-    ensures ordered { OnOk result (IsHeap (entry_cmp C.cmp) (heap_items search.new.queue)) }
-    ensures queue { OnOk result (IsQueue C.value search.new.labels.items search.new.estimates.items (heap_items search.new.queue)) }
+    ensures ready { OnOk result (IsReady C.value (length graph.now.discovery.nodes.keys) search.new) }
     ensures graph { OnOk result ((g : NodeGraph N) (test : N → Bool) (least : N → ℤ)
         → IsLed N.eq C.value S.answers T.answers H.answers g test least graph.now estimate.old search.old.estimates.items
         → IsLed N.eq C.value S.answers T.answers H.answers g test least graph.now estimate.new search.new.estimates.items
-        × ((passes : N → Bool) → IsInformedOn N.eq C.value C.fits g passes graph.now search.new (heap_items search.new.queue))) }
+        × ((passes : N → Bool) → IsInformedOn N.eq C.value C.fits g passes graph.now search.new search.new.queue.entries)) }
     ensures refused { IfErr result (λ e. e ≡ PathError.OutOfMemory) }
 {
     ask(&graph.discovery.nodes, estimate, &mut search.estimates)?;
@@ -71,29 +66,22 @@ where
     H: EstimateFunction<N, C>,
     A: Allocator + Copy,
     requires labelled { (l : Label C) × HasLabel search.old.labels.items number l }
-    requires wide { length search.old.labels.items ≡ length graph.old.discovery.nodes.keys }
-    requires asked { length search.old.estimates.items ≡ length graph.old.discovery.nodes.keys }
-    requires forest { IsForest C.value search.old.labels.items }
-    requires ordered { IsHeap (entry_cmp C.cmp) (heap_items search.old.queue) }
-    requires queue { IsQueue C.value search.old.labels.items search.old.estimates.items (heap_items search.old.queue) }
+    requires ready { IsReady C.value (length graph.old.discovery.nodes.keys) search.old }
     requires graph { (g : NodeGraph N) × (test : N → Bool) × (least : N → ℤ)
         × IsLed N.eq C.value S.answers T.answers H.answers g test least graph.old estimate.old search.old.estimates.items }
-    ensures wide { OnOk result (length search.new.labels.items ≡ length graph.new.discovery.nodes.keys) }
-    ensures asked { OnOk result (length search.new.estimates.items ≡ length graph.new.discovery.nodes.keys) }
+    ensures ready { OnOk result (IsReady C.value (length graph.new.discovery.nodes.keys) search.new) }
     ensures grows { FindsMore N.eq graph.old graph.new }
-    ensures forest { OnOk result (IsForest C.value search.new.labels.items) }
-    ensures ordered { OnOk result (IsHeap (entry_cmp C.cmp) (heap_items search.new.queue)) }
-    ensures queue { OnOk result ((rest : List (Entry C)) → IsQueue C.value search.old.labels.items search.old.estimates.items (heap_items search.old.queue ++ rest)
-        → IsQueue C.value search.new.labels.items search.new.estimates.items (heap_items search.new.queue ++ rest)) }
-    ensures less { OnOk result (work_left C.value (nat_of (C.value C.greatest)) search.new.labels.items (heap_len search.new.queue)
-        ≤ work_left C.value (nat_of (C.value C.greatest)) search.old.labels.items (heap_len search.old.queue)) }
+    ensures queue { OnOk result ((rest : List (Entry C)) → IsQueue C.value search.old.labels.items search.old.estimates.items (search.old.queue.entries ++ rest)
+        → IsQueue C.value search.new.labels.items search.new.estimates.items (search.new.queue.entries ++ rest)) }
+    ensures less { OnOk result (work_left C.value (nat_of (C.value C.greatest)) search.new.labels.items (length search.new.queue.entries)
+        ≤ work_left C.value (nat_of (C.value C.greatest)) search.old.labels.items (length search.old.queue.entries)) }
     ensures graph { OnOk result ((g : NodeGraph N) (test : N → Bool) (least : N → ℤ)
         → IsLed N.eq C.value S.answers T.answers H.answers g test least graph.old estimate.old search.old.estimates.items
         → IsLed N.eq C.value S.answers T.answers H.answers g test least graph.new estimate.new search.new.estimates.items
         × ((passes : N → Bool) (before rest : List (Entry C)) → ((x : N) → StandsFor N.eq graph.old.discovery.nodes.keys number x → passes x ≡ false)
-        → OthersWait C.value search.old.labels.items number before (heap_items search.old.queue ++ rest)
+        → OthersWait C.value search.old.labels.items number before (search.old.queue.entries ++ rest)
         → IsInformedOn N.eq C.value C.fits g passes graph.old search.old before
-        → IsInformedOn N.eq C.value C.fits g passes graph.new search.new (heap_items search.new.queue ++ rest))) }
+        → IsInformedOn N.eq C.value C.fits g passes graph.new search.new (search.new.queue.entries ++ rest))) }
     ensures refused { IfErr result (λ e. e ≡ PathError.OutOfMemory) }
 {
     graph.expand(number, &mut search.row)?;

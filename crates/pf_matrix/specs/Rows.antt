@@ -2,7 +2,7 @@
 use Rattle.std.specs.Prelude.{◌≡◌, ◌≢◌, ℕ, ◌<◌, nat_eq, if◌then◌else◌, List, [], ◌∷◌, ◌++◌, length, Option, Some, None, ⊤}
 use Rattle.std.specs.Borrow.{Bor}
 use Rattle.std.specs.List.{flat_map, AllZip}
-use Rattle.std.specs.Iterator.{Yields, Count, IsFiniteIterable}
+use Rattle.std.specs.Iterator.{Count, IsFiniteIterable}
 use Rattle.pf_matrix.specs.Tables.{Table}
 use Rattle.pf_matrix.specs.declared.error.MatrixFormatError.{MatrixFormatError}
 use Rattle.pf_matrix.specs.declared.error.MatrixFormatError.TheVariants.{EmptyRow, WrongLength}
@@ -33,9 +33,9 @@ module _ {C : Type 0} where
 
 -- ---- rows that an iterator gives, each of which gives its values
 
--- each row that an iterator made of `rows` may give ends
-pub record RowsEnd {I S J T : Type 0} (outer : I → S → Type 0) (outer_steps : S → Option J → S → Type 0) (inner : J → T → Type 0) (can : T → Type 0) (left : T → Count) (rows : I) : Type 0 where
-  pub at : (it : S) (before : List J) (t : S) (row : J) (u : S) → outer rows it → Yields outer_steps it before t → outer_steps t (Some row) u → IsFiniteIterable inner can left row
+-- each row that may be given of `rows`, behind those before it, ends
+pub record RowsEnd {I J T : Type 0} (first : I → List J → Type 0) (inner : J → T → Type 0) (can : T → Type 0) (left : T → Count) (rows : I) : Type 0 where
+  pub at : (before : List J) (row : J) → first rows (before ++ row ∷ []) → IsFiniteIterable inner can left row
 
 -- what is given of `rows` gives lists of values with this property
 pub record Given {C I J : Type 0} (outer : I → List J → Type 0) (inner : J → List C → Type 0) (P : List (List C) → Type 0) (rows : I) : Type 0 where

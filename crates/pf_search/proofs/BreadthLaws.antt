@@ -18,7 +18,7 @@ use Rattle.pf_core.proofs.FrontierLemmas.{end_more}
 use Rattle.pf_search.proofs.BreadthLemmas.{at_node, any_at, place_of, in_append, inserted_cases, Same-sym, IsReached, reached-same, given_reached}
 
 -- the element at a place below the length
-get_below : {A : Type 0} (xs : List A) (k : ℕ) → k < length xs → (m : A) × (slice_get xs k ≡ Some m)
+pub get_below : {A : Type 0} (xs : List A) (k : ℕ) → k < length xs → (m : A) × (slice_get xs k ≡ Some m)
 get_below [] k l = absurd (omega (arith, l))
 get_below (x ∷ xs) zero l = (x, refl)
 get_below (x ∷ xs) (suc k) l = get_below xs k (omega (arith, l))

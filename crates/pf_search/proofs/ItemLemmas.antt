@@ -3,13 +3,11 @@ use Rattle.std.proofs.Common.{◌≡◌, ℕ, ◌+◌, ◌<◌, ◌^◌, Bool, t
 use Rattle.std.specs.Prelude.{Result, Ok, Err, IfOk, IfSome, ⊤}
 use Rattle.std.specs.Result.{result_transpose}
 use Rattle.std.specs.Iterator.{MakesProgress, at_most}
-use Rattle.std.proofs.lemmas.List.Sums.{count_by-le-length}
 use Rattle.pf_base.specs.declared.error.PathError.{PathError}
-use Rattle.pf_search.specs.declared.directed.cheapest_first.DijkstraReachableItem.{DijkstraReachableItem}
-use Rattle.pf_core.specs.Labels.{is_settled, settled_count}
+use Rattle.pf_search.specs.declared.directed.dijkstra_reach.DijkstraReachableItem.{DijkstraReachableItem}
 use Rattle.pf_search.specs.Items.{most_items}
 use Rattle.pf_search.specs.Breadth.{BreadthWalk, BreadthStep}
-use Rattle.pf_search.specs.DepthWalks.{DepthWalk, IsDepthWalk, DepthStep}
+use Rattle.pf_search.specs.DepthWalks.{DepthWalk, DepthStep}
 use Rattle.pf_search.specs.CheapestFirst.{CheapestWalk, CheapestStep}
 use Rattle.pf_search.proofs.BreadthLemmas.{Same-length}
 
@@ -48,19 +46,16 @@ module _ {N F : Type 0} (eq : N → N → Bool) (next : N → List N) (start : N
   breadth_counts s (Some (Ok x)) t h few = (h.0, h.1, omega (arith, Same-length eq t.given (s.given ++ x ∷ []) h.3, length-append s.given (x ∷ [])), few)
   breadth_counts s (Some (Err e)) t h few = (h.1, h.2)
 
-  module _ (answers : F → (N → Type 0) → (N → List N) → Type 0) where
-    pub depth_counts : (paths : List (List N)) (s : DepthWalk N F) (r : Option (Result N PathError)) (t : DepthWalk N F) → IsDepthWalk eq answers next start paths s
-        → DepthStep eq next start (λ done w. IsDepthWalk eq answers next start done w) paths s r t → t.given < 2 ^ 63 → Counts (λ (w : DepthWalk N F). w.given) (λ (w : DepthWalk N F). w.refused) s r t
-    depth_counts paths s None t w h few = tt
-    depth_counts paths s (Some (Ok x)) t w h few =
-        let g = h.2 in
-        (h.0, h.1, omega (arith, w.stands.count, g.3.stands.count, length-append paths (g.0 ∷ [])), few)
-    depth_counts paths s (Some (Err e)) t w h few = (h.1, h.2)
+  pub depth_counts : (walks : List (List N) → DepthWalk N F → Type 0) (paths : List (List N)) (s : DepthWalk N F) (r : Option (Result N PathError)) (t : DepthWalk N F) → DepthStep eq next start walks paths s r t → length t.given < 2 ^ 63
+      → Counts (λ (w : DepthWalk N F). length w.given) (λ (w : DepthWalk N F). w.refused) s r t
+  depth_counts walks paths s None t h few = tt
+  depth_counts walks paths s (Some (Ok x)) t h few = (h.0, h.1, omega (arith, Same-length eq t.given (s.given ++ x ∷ []) h.2, length-append s.given (x ∷ [])), few)
+  depth_counts walks paths s (Some (Err e)) t h few = (h.1, h.2)
 
 module _ {N C F : Type 0} (eq : N → N → Bool) (value : C → ℤ) (edges : N → List (N × ℤ)) (start : N) (fits : ℤ → Type 0) where
   pub cheapest_counts : (s : CheapestWalk N C F) (r : Option (Result (DijkstraReachableItem N C) PathError)) (t : CheapestWalk N C F) → CheapestStep eq value edges start fits s r t
-      → IfSome r (λ item. IfOk item (λ _. settled_count t.labels ≡ settled_count s.labels + 1)) → length t.labels < 2 ^ 63
-      → Counts (λ (w : CheapestWalk N C F). settled_count w.labels) (λ (w : CheapestWalk N C F). w.refused) s r t
+      → IfSome r (λ item. IfOk item (λ _. length t.given ≡ length s.given + 1)) → length t.given < 2 ^ 63
+      → Counts (λ (w : CheapestWalk N C F). length w.given) (λ (w : CheapestWalk N C F). w.refused) s r t
   cheapest_counts s None t h count few = tt
-  cheapest_counts s (Some (Ok x)) t h count few = (h.0, h.1, count, omega (arith, count_by-le-length is_settled t.labels, few))
+  cheapest_counts s (Some (Ok x)) t h count few = (h.0, h.1, count, few)
   cheapest_counts s (Some (Err e)) t h count few = (h.0, h.1)

@@ -5,6 +5,7 @@ pub mod SimplePaths
 pub mod BreadthLemmas
 pub mod BreadthSteps
 pub mod BreadthLaws
+pub mod GivenLemmas
 pub mod CheapestLemmas
 pub mod BothEndsLemmas
 pub mod BothEndsPaths

@@ -48,7 +48,7 @@ module _ {N : Type 0} (eq : N → N → Bool) where
   HasNode-found (a ∷ xs) x (inl h) = (a, (0, omega arith, refl), h)
   HasNode-found (a ∷ xs) x (inr h) = let q = HasNode-found xs x h in (q.0, Contains-append_right (a ∷ []) xs q.0 q.1, q.2)
 
-only : {N : Type 0} (a x : N) → Contains (a ∷ []) x → a ≡ x
+pub only : {N : Type 0} (a x : N) → Contains (a ∷ []) x → a ≡ x
 only a x (zero, l, e) = e
 only a x (suc k, l, e) = absurd (omega (arith, l))
 

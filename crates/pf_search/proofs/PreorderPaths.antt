@@ -1,5 +1,5 @@
 -- Which tree path of a preorder a search answers.
-use Rattle.std.proofs.Common.{◌≡◌, ◌<◌, ℕ, zero, suc, Bool, true, false, true≢false, Option, Some, None, List, [], ◌∷◌, ◌++◌, ◌∙◌, length, refl, sym, ap, subst, arith, inl, inr}
+use Rattle.std.proofs.Common.{◌≡◌, ◌<◌, ℕ, zero, suc, Bool, true, false, true≢false, Option, Some, None, List, [], ◌∷◌, ◌++◌, ◌∙◌, length, length-append, refl, sym, ap, subst, arith, inl, inr}
 use Rattle.std.specs.Prelude.{Contains, Result, Ok}
 use Rattle.std.specs.Cmp.{IsEquivalence}
 use Rattle.std.specs.List.{AllZip}
@@ -14,8 +14,8 @@ use Rattle.pf_core.proofs.NodeLemmas.{eq-sym}
 use Rattle.pf_core.proofs.WalkLemmas.{end_same}
 use Rattle.pf_search.specs.Internal.DepthTurns.{DepthGoes}
 use Rattle.pf_search.specs.Internal.Breadth.{found_or}
-use Rattle.pf_search.specs.Internal.Depth.{IsUnbegun}
-use Rattle.pf_search.proofs.BreadthLemmas.{Same-sym}
+use Rattle.pf_search.specs.Internal.Depth.{ArePlaces}
+use Rattle.pf_search.proofs.BreadthLemmas.{Same-sym, Same-length}
 use Rattle.pf_search.proofs.DepthWalkLemmas.{node_at}
 use Rattle.pf_search.proofs.SimplePaths.{reach_step}
 use Rattle.pf_search.proofs.PreorderLemmas.{IsWalked, walked, end_of_push, last_nodes_push, HasNode-right, HasNode-contains, HasNode-found, same_node, same_list, reachable, given_reachable, whole_reach}
@@ -31,9 +31,13 @@ module _ {N E : Type 0} (eq : N → N → Bool) (next : N → List N) (start : N
   goes_some r o node e f d = subst (λ (r : Result (Option N) E). DepthGoes eq next start walks paths r) (e ∙ ap Ok f) d
 
 -- where some node was given, the start was put in
-pub put_in : {N : Type 0} (start : Option N) (nodes : List N) (n : ℕ) → IsUnbegun start nodes n → ¬ (n ≡ 0) → found_or start nodes ≡ nodes
-put_in None nodes n h some = refl
-put_in (Some x) nodes n h some = absurd (some h.1)
+pub put_in : {N : Type 0} (start : Option N) (nodes : List N) (given : List ℕ) → ArePlaces start nodes given → ¬ (given ≡ []) → found_or start nodes ≡ nodes
+put_in None nodes given h some = refl
+put_in (Some x) nodes given h some = absurd (some h.1)
+
+-- behind one more tree path some node was given
+pub some_given : {N : Type 0} (eq : N → N → Bool) (given : List N) (paths : List (List N)) (path : List N) (node : N) → SameNodes eq given (last_nodes (paths ++ path ∷ [])) → SameNodes eq (last_nodes (path ∷ [])) (node ∷ []) → ¬ (given ≡ [])
+some_given eq given paths path node s n e = omega (arith, ap length e, Same-length eq given (last_nodes (paths ++ path ∷ [])) s, ap length (last_nodes_push paths path), length-append (last_nodes paths) (last_nodes (path ∷ [])), Same-length eq (last_nodes (path ∷ [])) (node ∷ []) n)
 
 -- numbers that stand for nodes are those of found nodes
 pub numbers_inside : {N : Type 0} (eq : N → N → Bool) (found : List N) (numbers : List ℕ) (nodes : List N) → AllZip (StandsFor eq found) numbers nodes → (k : ℕ) → Contains numbers k → k < length found

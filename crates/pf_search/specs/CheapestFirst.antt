@@ -1,34 +1,35 @@
 -- What contracts say of a lazy walk by rising cost.
-use Rattle.std.specs.Prelude.{◌≡◌, ◌⊎◌, ◌↔◌, ◌≤ℤ◌, ◌+ℤ◌, ℕ, ℤ, pos, Bool, true, false, List, [], ◌∷◌, Option, Some, None, Result, Ok, Err, MatchOption, length, nat_eq, refl}
-use Rattle.std.specs.Coded.{Coded, code_by, coded×, coded_bool, coded_ℕ, coded_list, coded_option}
+use Rattle.std.specs.Prelude.{◌≡◌, ◌⊎◌, ◌↔◌, ◌≤ℤ◌, ◌+ℤ◌, ℤ, pos, Bool, true, false, List, [], ◌∷◌, Option, Some, None, Result, Ok, Err, MatchOption, Contains, length, map, nat_eq, refl}
+use Rattle.std.specs.Coded.{Coded, code_by, coded×, coded_bool, coded_list}
 use Rattle.pf_base.specs.declared.error.PathError.{PathError}
 use Rattle.pf_base.specs.Answers.{SameNodes}
 use Rattle.pf_base.specs.Edges.{InReach, StepCosts, HasNoNegativeCost, NoGoalWalkCostsLess, IsCheapestGoalPath}
-use Rattle.pf_core.specs.declared.labels.Label.{Label}
-use Rattle.pf_core.specs.Labels.{Labels, HasLabel, by_cost}
+use Rattle.pf_core.specs.Labels.{by_cost}
 use Rattle.pf_core.specs.Nodes.{StandsFor, IsStep, Explores}
 use Rattle.pf_core.specs.Sources.{AnswersEdges}
-use Rattle.pf_core.specs.Search.{IsLeast, IsFirst, IsSearch, HasBarredStep}
-use Rattle.pf_search.specs.declared.directed.cheapest_first.DijkstraReachableItem.{DijkstraReachableItem}
+use Rattle.pf_core.specs.Search.{IsSearch}
+use Rattle.pf_search.specs.declared.directed.dijkstra_reach.DijkstraReachableItem.{DijkstraReachableItem}
+use Rattle.pf_search.specs.Internal.CheapestSearch.{CheapestSearch, IsBarredSearch, KeepsSearch, cheapest_search_code, given_of}
 
--- what a caller sees of a walk: the nodes found so far; for each, by its place, the least cost that was found and whether the node was given; whether the last step was refused; and the function that lists edges
+-- what a caller sees of a walk: the nodes given so far, in the order in which they were found, each with the cost of a cheapest path to it; whether the last step was refused; the function that lists edges; and what the search keeps, of which a caller need know nothing
 pub record CheapestWalk (N C F : Type 0) : Type 0 where
-  pub nodes : List N
-  pub labels : Labels C
+  pub given : List (N × C)
   pub refused : Bool
   pub successors : F
-
-abbrev label_code : {C : Type 0} → Coded C → Coded (Label C)
-label_code {C} c = code_by (C × (ℕ × (ℕ × Bool))) (coded× c (coded× coded_ℕ (coded× coded_ℕ coded_bool))) (λ l. (l.cost, (l.parent, (l.depth, l.settled)))) (λ p. record { cost = p.0; parent = p.1.0; depth = p.1.1.0; settled = p.1.1.1 }) (λ _. refl)
+  pub search : CheapestSearch N C
 
 abbrev pub cheapest_walk_code : {N C F : Type 0} → Coded N → Coded C → Coded F → Coded (CheapestWalk N C F)
-cheapest_walk_code {N} {C} {F} n c f = code_by (List N × (Labels C × (Bool × F))) (coded× (coded_list n) (coded× (coded_list (coded_option (label_code c))) (coded× coded_bool f))) (λ w. (w.nodes, (w.labels, (w.refused, w.successors))))
-    (λ p. record { nodes = p.0; labels = p.1.0; refused = p.1.1.0; successors = p.1.1.1 }) (λ _. refl)
+cheapest_walk_code {N} {C} {F} n c f = code_by (List (N × C) × (Bool × (F × CheapestSearch N C))) (coded× (coded_list (coded× n c)) (coded× coded_bool (coded× f (cheapest_search_code n c)))) (λ w. (w.given, (w.refused, (w.successors, w.search))))
+    (λ p. record { given = p.0; refused = p.1.0; successors = p.1.1.0; search = p.1.1.1 }) (λ _. refl)
+
+-- the nodes given so far, without their costs
+abbrev pub given_nodes : {N C F : Type 0} → CheapestWalk N C F → List N
+given_nodes {N} {C} walk = map (λ (g : N × C). g.0) walk.given
 
 module _ {N C F : Type 0} (eq : N → N → Bool) where
-  -- the node was given, at this cost
+  -- a node that is the same as x was given, at this cost
   abbrev pub IsGiven : CheapestWalk N C F → N → C → Type 0
-  IsGiven walk x cost = (k : ℕ) × (l : Label C) × StandsFor eq walk.nodes k x × HasLabel walk.labels k l × (l.settled ≡ true) × (l.cost ≡ cost)
+  IsGiven walk x cost = (g : N × C) × Contains walk.given g × (eq g.0 x ≡ true) × (g.1 ≡ cost)
 
   -- the node was not given
   abbrev pub IsNew : CheapestWalk N C F → N → Type 0
@@ -43,13 +44,14 @@ module _ {N C F : Type 0} (eq : N → N → Bool) where
   GivesMore walk item after = (x : N) (cost : C) → IsGiven after x cost ↔ (IsGiven walk x cost ⊎ ((eq item.node x ≡ true) × (item.total_cost ≡ cost)))
 
   module _ (value : C → ℤ) (edges : N → List (N × ℤ)) (start : N) where
-    -- The walk is one of this graph from this start: its function answers the graph in reach, where no edge costs less than 0, the start was found first, each found node has a place for a label, and the labels are those of a search by rising cost from the start.
+    -- The walk is one of this graph from this start: its function answers the graph in reach, where no edge costs less than 0, the start was found first, each found node has a place for a label, the labels are those of a search by rising cost from the start, and the given nodes are those whose labels are settled.
     pub record IsCheapestWalk (answers : F → (N → Type 0) → (N → List (N × ℤ)) → Type 0) (walk : CheapestWalk N C F) : Type 0 where
-      pub explored : Explores eq (AnswersEdges eq answers) (record { starts = start ∷ []; edges = edges }) walk.nodes (record { function = walk.successors })
+      pub explored : Explores eq (AnswersEdges eq answers) (record { starts = start ∷ []; edges = edges }) walk.search.nodes (record { function = walk.successors })
       pub costs : HasNoNegativeCost eq edges (start ∷ [])
-      pub begins : (x : N) → StandsFor eq walk.nodes 0 x ↔ (eq start x ≡ true)
-      pub wide : length walk.labels ≡ length walk.nodes
-      pub search : IsSearch (by_cost value) (IsStep eq (record { starts = start ∷ []; edges = edges })) (λ k. nat_eq k 0) (StandsFor eq walk.nodes) walk.labels
+      pub begins : (x : N) → StandsFor eq walk.search.nodes 0 x ↔ (eq start x ≡ true)
+      pub wide : length walk.search.labels ≡ length walk.search.nodes
+      pub search : IsSearch (by_cost value) (IsStep eq (record { starts = start ∷ []; edges = edges })) (λ k. nat_eq k 0) (StandsFor eq walk.search.nodes) walk.search.labels
+      pub given : walk.given ≡ given_of walk.search.nodes walk.search.labels
 
     -- no walk to a node that was not given costs less than t
     abbrev pub NoNewNodeBelow : CheapestWalk N C F → ℤ → Type 0
@@ -85,15 +87,9 @@ module _ {N C F : Type 0} (eq : N → N → Bool) where
       pub step : StepCosts eq edges node next price
       pub past : ¬ (fits (cost +ℤ price))
 
-    -- The walk stands before a step that does not fit: the open label that comes first, of those that cost least the one of the least number, is that of a node from which some step leads to a node without a label, and all steps to that node cost more, with the label, than fits.
-    pub record IsBarred (fits : ℤ → Type 0) (walk : CheapestWalk N C F) : Type 0 where
-      pub number : ℕ
-      pub label : Label C
-      pub least : IsLeast (by_cost value) walk.labels number label
-      pub first : IsFirst (by_cost value) walk.labels number
-      pub node : N
-      pub here : StandsFor eq walk.nodes number node
-      pub step : HasBarredStep (IsStep eq (record { starts = start ∷ []; edges = edges })) (StandsFor eq walk.nodes) walk.labels fits node (value label.cost)
+    -- the walk stands before a step that does not fit, and each try of it is refused: a caller is given this by one call and hands it to the next
+    abbrev pub IsBarred : (ℤ → Type 0) → CheapestWalk N C F → Type 0
+    IsBarred fits walk = IsBarredSearch eq value edges start fits walk.search
 
     -- each node in reach was given
     abbrev pub AllGiven : CheapestWalk N C F → Type 0
@@ -116,11 +112,11 @@ module _ {N C F : Type 0} (eq : N → N → Bool) where
     -- What a call of `next` gives, and how it leaves the walk.
     -- an item: the next by rising cost, which is one of the given ones from then on
     -- no item: the last step was refused, or each node in reach was given; the walk stays as it was
-    -- a refusal, which can come only where a node is left to give: the given nodes, the labels and the found nodes stay as they were
+    -- a refusal, which can come only where a node is left to give: the given nodes stay as they were, place by place, and so does what the search keeps
     abbrev pub CheapestStep : (ℤ → Type 0) → CheapestWalk N C F → Option (Result (DijkstraReachableItem N C) PathError) → CheapestWalk N C F → Type 0
     CheapestStep fits walk (Some (Ok item)) after = (walk.refused ≡ false) × (after.refused ≡ false) × IsNextByCost walk item × GivesMore walk item after
     CheapestStep fits walk None after = ((walk.refused ≡ true) ⊎ AllGiven walk) × (after ≡ walk)
-    CheapestStep fits walk (Some (Err refusal)) after = (walk.refused ≡ false) × (after.refused ≡ true) × RefusedFor fits walk refusal × IsLeft walk × GivesNoMore walk after × (after.labels ≡ walk.labels) × SameNodes eq after.nodes walk.nodes
+    CheapestStep fits walk (Some (Err refusal)) after = (walk.refused ≡ false) × (after.refused ≡ true) × RefusedFor fits walk refusal × IsLeft walk × GivesNoMore walk after × SameNodes eq (given_nodes after) (given_nodes walk) × KeepsSearch eq walk.search after.search
 
 module _ {N C F : Type 0} (eq : N → N → Bool) (value : C → ℤ) (answers : F → (N → Type 0) → (N → List (N × ℤ)) → Type 0) (walk : CheapestWalk N C F) where
   -- the walk is one of some graph from some start

@@ -1,11 +1,11 @@
 //! Directed graphs.
 
 pub mod bfs;
-mod breadth;
-mod cheapest_first;
-mod cheapest_map;
+mod bfs_reach;
+mod build_path;
 pub mod dfs;
+mod dfs_reach;
 pub mod dijkstra;
+mod dijkstra_all;
+mod dijkstra_reach;
 pub mod iddfs;
-mod parents;
-mod preorder;

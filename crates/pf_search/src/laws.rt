@@ -7,8 +7,7 @@ ghost use Rattle.pf_base.specs.Edges.{InReach, IsCheapestGoalPath, HasNoNegative
 ghost use Rattle.pf_base.specs.Orders.{last_nodes, IsBreadthOrder, AllGiven, IsWholePreorder};
 ghost use Rattle.pf_base.specs.Successors.{HasSuccessor, IsFewestEdgesGoalPath};
 ghost use Rattle.pf_base.specs.Walks.{HasNode, NoRepeats, IsAtMostNumberOf, IsGoalWalk, IsReachable};
-ghost use Rattle.pf_core.specs.Labels.{settled_count};
-ghost use Rattle.pf_search.specs.CheapestFirst.{IsGiven};
+ghost use Rattle.pf_search.specs.CheapestFirst.{IsGiven, given_nodes};
 ghost use Rattle.pf_search.specs.Laws.{targets, HasEqualSuccessors, HasEqualEdges, OfPreorder, OfBreadthOrder, OfEachCheapestWalk};
 ghost use Rattle.pf_search.specs.Parents.{IsCheapestMap, IsChainOfParents, IsLeastCost};
 
@@ -76,8 +75,8 @@ pub fn breadth_order_is_by_distance<N: Eq>(_of: PhantomData<N>)
         → (near : List N) × IsGoalWalk N.eq (HasSuccessor N.eq next) (start ∷ []) (λ z. N.eq z x) near × (length near ≤ length far)) }
 {}
 
-/// A node that a walk of `dijkstra_reach` gave is in reach of the start. No node was found twice, so
-/// that none was given twice, and no more were given than any list has that has every node in reach.
+/// A node that a walk of `dijkstra_reach` gave is in reach of the start. No node was given twice, and
+/// no more were given than any list has that has every node in reach.
 ///
 /// This holds of each walk of the type of the one that is handed in, which is not changed.
 pub fn cheapest_order_is_reach<N, C, F, A>(_of: &DijkstraReachable<N, C, F, A>)
@@ -88,9 +87,9 @@ where
     A: Allocator,
     ensures reached { OfEachCheapestWalk N.eq C.value F.answers (λ edges start walk.
         (x : N) (cost : C) → IsGiven N.eq walk x cost → InReach N.eq edges (start ∷ []) x) }
-    ensures once { OfEachCheapestWalk N.eq C.value F.answers (λ edges start walk. NoRepeats N.eq walk.nodes) }
+    ensures once { OfEachCheapestWalk N.eq C.value F.answers (λ edges start walk. NoRepeats N.eq (given_nodes walk)) }
     ensures at_most { OfEachCheapestWalk N.eq C.value F.answers (λ edges start walk.
-        IsAtMostNumberOf N.eq (InReach N.eq edges (start ∷ [])) (settled_count walk.labels)) }
+        IsAtMostNumberOf N.eq (InReach N.eq edges (start ∷ [])) (length walk.given)) }
 {}
 
 /// In one graph, cheapest paths cost the same: two from the same starts to nodes that pass one test,

@@ -1,11 +1,11 @@
 -- The edges of a table as a function answers them.
-use Rattle.std.proofs.Common.{◌≡◌, ℕ, refl, ◌∙◌, ap, subst, Bool, true, false, List, [], ◌∷◌, Option, Some, None, map, nat_eq}
+use Rattle.std.proofs.Common.{◌≡◌, ℕ, refl, sym, ◌∙◌, ap, subst, Bool, true, false, List, [], ◌∷◌, Option, Some, None, map, nat_eq}
 use Rattle.std.specs.Prelude.{ℤ, nat_lt, if◌then◌else◌}
 use Rattle.std.specs.Borrow.{Bor}
 use Rattle.std.specs.Fn.{Mut, Called}
 use Rattle.std.specs.Iterator.{Count}
-use Rattle.pf_base.specs.Answers.{AnswersGraph, AnswersSuccessors, Gives}
-use Rattle.pf_base.proofs.Callers.{nat_graph, valued}
+use Rattle.pf_base.specs.Answers.{AnswersGraph, AnswersSuccessors, Gives, ListsEdges, SameNodes}
+use Rattle.pf_base.proofs.Callers.{nat_graph, nat_refl, valued, ListsEdges-valued, SameNodes-refl}
 use Rattle.pf_base.proofs.Tables.{nat_successors}
 use Rattle.pf_tables.specs.Graphs.{edges_at, graph_of, successors_of}
 use Rattle.pf_table_searches.specs.Internal.Edges.{present, places_at, edges_of, ends_of}
@@ -46,3 +46,20 @@ module _ {C : Type 0} (value : C → ℤ) where
           → AnswersSuccessors calls becomes can left steps nat_eq f within (successors_of value size places)
       table_successors {steps} {f} takes gives =
           subst (λ (next : ℕ → List ℕ). AnswersSuccessors calls becomes can left steps nat_eq f within next) (λ i n. ends_are n i) (nat_successors (ends_of size places) takes gives)
+
+    module _ {I S : Type 0} {becomes : I → S → Type 0} {can : S → Type 0} {left : S → Count} {r : I} {n : ℕ} where
+      -- what gives the edges at a number lists the edges of the graph
+      pub gives_edges : {steps : S → Option (ℕ × C) → S → Type 0} {edges : ℕ → List (ℕ × ℤ)} → edges ≡ graph_of value size places
+          → Gives becomes can left steps (λ xs. xs ≡ edges_of size places n) r → Gives becomes can left steps (λ xs. ListsEdges nat_eq value xs (edges n)) r
+      gives_edges {steps} {edges} same h =
+          let here : valued value (edges_of size places n) ≡ edges n = edges_are n ∙ sym (ap (λ (f : ℕ → List (ℕ × ℤ)). f n) same) in
+          let lists = subst (λ zs. ListsEdges nat_eq value (edges_of size places n) zs) here (ListsEdges-valued nat_eq value nat_refl (edges_of size places n)) in
+          record { can_next = h.can_next; finite = h.finite; items = λ it b p t o w. subst (λ xs. ListsEdges nat_eq value xs (edges n)) (sym (h.items it b p t o w)) lists }
+
+      -- what gives where they lead lists its successors
+      pub gives_successors : {steps : S → Option ℕ → S → Type 0} {next : ℕ → List ℕ} → next ≡ successors_of value size places
+          → Gives becomes can left steps (λ xs. xs ≡ ends_of size places n) r → Gives becomes can left steps (λ xs. SameNodes nat_eq xs (next n)) r
+      gives_successors {steps} {next} same h =
+          let here : ends_of size places n ≡ next n = ends_are n ∙ sym (ap (λ (f : ℕ → List ℕ). f n) same) in
+          let lists = subst (λ zs. SameNodes nat_eq (ends_of size places n) zs) here (SameNodes-refl nat_eq nat_refl (ends_of size places n)) in
+          record { can_next = h.can_next; finite = h.finite; items = λ it b p t o w. subst (λ xs. SameNodes nat_eq xs (next n)) (sym (h.items it b p t o w)) lists }

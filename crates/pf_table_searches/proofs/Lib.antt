@@ -1,3 +1,4 @@
 mod EdgeLemmas
 mod EndLemmas
 mod PlaceLemmas
+mod TableWalkLemmas

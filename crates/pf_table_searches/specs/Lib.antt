@@ -1,1 +1,3 @@
 pub mod Internal
+pub mod RankedWalks
+pub mod Walks

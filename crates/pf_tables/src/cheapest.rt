@@ -10,7 +10,7 @@ use crate::numbering::alone;
 use crate::own_numbers::OwnNumbers;
 use pf_base::utils::Tally;
 use pf_base::{Cost, PathError};
-use pf_core::cheapest::cheapest_path;
+use pf_core::dijkstra::cheapest_path;
 use std::alloc::Allocator;
 
 /// A cheapest path from the node `from` to a goal, with its cost, or `None` exactly where no walk

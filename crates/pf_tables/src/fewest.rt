@@ -9,8 +9,8 @@ use crate::goals::Goals;
 use crate::graph::Graph;
 use crate::numbering::{Numbering, alone};
 use pf_base::{Cost, PathError};
+use pf_core::bfs::fewest_edges_path;
 use pf_core::discovery::clones_at;
-use pf_core::fewest::fewest_edges_path;
 use std::alloc::Allocator;
 use std::marker::PhantomData;
 

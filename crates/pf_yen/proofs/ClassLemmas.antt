@@ -10,11 +10,11 @@ use Rattle.std.proofs.lemmas.List.Elements.{Contains-append_cases, Contains-appe
 use Rattle.pf_base.specs.Walks.{end_of}
 use Rattle.pf_core.specs.Steps.{GoesAlong}
 use Rattle.pf_core.proofs.ListLemmas.{bool_dec, Contains-head, Contains-tail, Contains-cases}
-use Rattle.pf_yen.specs.Known.{KnownGraph, is_goal, row_of, KnownStep}
+use Rattle.pf_yen.specs.Internal.Adjacency.{AdjacencyLists, is_goal, row_of, AdjacencyStep}
 use Rattle.pf_yen.specs.Internal.WholeGraphs.{IsWhole}
-use Rattle.pf_yen.specs.Classes.{is_in, is_member, goes_on_to, one_if, Plan, in_class, is_path, IsCleanNumbers, IsCheapestOfClass, IsPartition}
+use Rattle.pf_yen.specs.Internal.Classes.{is_in, is_member, goes_on_to, one_if, Plan, in_class, is_path, IsCleanNumbers, IsCheapestOfClass, IsPartition}
 use Rattle.pf_yen.specs.Internal.Splits.{IsSplit}
-use Rattle.pf_yen.proofs.NarrowLemmas.{in_none}
+use Rattle.pf_yen.proofs.FilteredLemmas.{in_none}
 
 pub same_is_true : (a : ℕ) → nat_eq a a ≡ true
 same_is_true a = eq-eqb a a refl
@@ -108,9 +108,9 @@ term_below f (y ∷ ys) x h t =
       | inr q ↦ let z = term_below f ys x q t in omega (arith, z, more)
     ]
 
-module _ {C : Type 0} (value : C → ℤ) (k : KnownGraph C) (whole : IsWhole value k) where
+module _ {C : Type 0} (value : C → ℤ) (k : AdjacencyLists C) (whole : IsWhole value k) where
   -- no walk goes on from a goal
-  pub stuck : (a : ℕ) (w : List ℕ) (u : ℤ) → is_goal k a ≡ true → GoesAlong (KnownStep value k) a w u → w ≡ []
+  pub stuck : (a : ℕ) (w : List ℕ) (u : ℤ) → is_goal k a ≡ true → GoesAlong (AdjacencyStep value k) a w u → w ≡ []
   stuck a [] u h g = refl
   stuck a (b ∷ w) u h g = let s = g.2 in absurd (none_there (row_of k a) (whole.stops a h) (b, s.0) s.1)
     where
@@ -119,7 +119,7 @@ module _ {C : Type 0} (value : C → ℤ) (k : KnownGraph C) (whole : IsWhole va
       none_there (x ∷ es) h e c = cc
 
   -- the part of a walk behind its beginning
-  pub behind : (v w : List ℕ) (a : ℕ) (u : ℤ) → GoesAlong (KnownStep value k) a (v ++ w) u → (t : ℤ) × GoesAlong (KnownStep value k) (end_of a v) w t
+  pub behind : (v w : List ℕ) (a : ℕ) (u : ℤ) → GoesAlong (AdjacencyStep value k) a (v ++ w) u → (t : ℤ) × GoesAlong (AdjacencyStep value k) (end_of a v) w t
   behind [] w a u g = (u, g)
   behind (b ∷ v) w a u g = behind v w b g.1 g.3
 
@@ -129,7 +129,7 @@ module _ {C : Type 0} (value : C → ℤ) (k : KnownGraph C) (whole : IsWhole va
       let m = goes_on q [] p h in
       let e : 0 ∷ a.rest ≡ 0 ∷ (b.rest ++ m.0) = sym a.is ∙ m.1 ∙ ap (λ (v : List ℕ). v ++ m.0) b.is in
       let f : a.rest ≡ b.rest ++ m.0 = cc in
-      let g = behind b.rest m.0 0 u (subst (λ (v : List ℕ). GoesAlong (KnownStep value k) 0 v u) f a.goes) in
+      let g = behind b.rest m.0 0 u (subst (λ (v : List ℕ). GoesAlong (AdjacencyStep value k) 0 v u) f a.goes) in
       let z = stuck (end_of 0 b.rest) m.0 g.0 b.ends g.1 in
       m.1 ∙ ap (λ (v : List ℕ). q ++ v) z ∙ append-nil q
     where

@@ -1,10 +1,10 @@
 pub mod ResultLemmas
-pub mod NarrowLemmas
+pub mod FilteredLemmas
 pub mod ClassLemmas
-pub mod NarrowWalks
+pub mod FilteredWalks
 pub mod SplitLemmas
-pub mod LearnLemmas
-pub mod PlanLemmas
+pub mod ExploreLemmas
+pub mod CandidateLemmas
 pub mod NodePaths
 pub mod StateLemmas
 pub mod WalkLemmas

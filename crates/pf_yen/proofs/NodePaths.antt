@@ -18,13 +18,13 @@ use Rattle.pf_core.specs.NodeLaws.{StandsFor-inside}
 use Rattle.pf_core.proofs.NodeLemmas.{eq-sym, eq-trans, StandsFor-same, HasEdge-same, InReach-start, InReach-more}
 use Rattle.pf_core.proofs.WalkLemmas.{cheapest_edge, goes_of_walk, walk_of_goes, distinct_nodes}
 use Rattle.pf_core.proofs.PathLemmas.{AllZip-append}
-use Rattle.pf_yen.specs.Known.{KnownGraph, is_goal, row_of, KnownStep}
-use Rattle.pf_yen.specs.Learned.{LiveStep, IsLearned}
-use Rattle.pf_yen.specs.Classes.{Plan, is_member, goes_on_to, IsCleanNumbers, is_in}
+use Rattle.pf_yen.specs.Internal.Adjacency.{AdjacencyLists, is_goal, row_of, AdjacencyStep}
+use Rattle.pf_yen.specs.Internal.Learned.{LiveStep, IsLearned}
+use Rattle.pf_yen.specs.Internal.Classes.{Plan, is_member, goes_on_to, IsCleanNumbers, is_in}
 use Rattle.pf_yen.specs.Internal.Splits.{IsPastAlong, IsPastInClass}
 use Rattle.pf_yen.specs.CleanPaths.{FailsBeforeEnd, GoesOnTo, LeavesGiven, IsCleanPath, IsPathPastRange, IsBranchPastRange}
-use Rattle.pf_yen.proofs.NarrowLemmas.{in_none}
-use Rattle.pf_yen.proofs.NarrowWalks.{not_true}
+use Rattle.pf_yen.proofs.FilteredLemmas.{in_none}
+use Rattle.pf_yen.proofs.FilteredWalks.{not_true}
 use Rattle.pf_yen.proofs.ClassLemmas.{both_true, and_left, and_right, same_is_true, any_goes_on, goes_on}
 
 -- lists that go together, where the first one is cut
@@ -208,33 +208,33 @@ module _ {N : Type 0} (eq : N → N → Bool) (laws : IsEquivalence eq) (keys : 
           let low = s.cheapest h.0 h.2.1 in
           (c.0 +ℤ q.0, (c.0, q.0, s, q.1, refl), omega (arith, ints, low, q.2, h.4), (c.0, q.0, (h.2.0, s.edge), q.3, refl))
 
-      module _ (k : KnownGraph C) (learned : IsLearned value (IsStep eq (record { starts = start ∷ []; edges = edges })) test (StandsFor eq keys) (length keys) k) (all : length keys ≤ length k.rows) where
-        known_at : (a : ℕ) (x : N) → StandsFor eq keys a x → a < length k.rows
-        known_at a x s = let i = StandsFor-inside eq keys a x s in omega (arith, i, all)
+      module _ (k : AdjacencyLists C) (learned : IsLearned value (IsStep eq (record { starts = start ∷ []; edges = edges })) test (StandsFor eq keys) (length keys) k) (all : length keys ≤ length k.rows) where
+        listed_at : (a : ℕ) (x : N) → StandsFor eq keys a x → a < length k.rows
+        listed_at a x s = let i = StandsFor-inside eq keys a x s in omega (arith, i, all)
 
-        numbers_of : (w : List N) (x : N) (a : ℕ) (u : ℤ) → StandsFor eq keys a x → GoesAlong Live x w u → (v : List ℕ) × AllZip (StandsFor eq keys) v w × GoesAlong (KnownStep value k) a v u
+        numbers_of : (w : List N) (x : N) (a : ℕ) (u : ℤ) → StandsFor eq keys a x → GoesAlong Live x w u → (v : List ℕ) × AllZip (StandsFor eq keys) v w × GoesAlong (AdjacencyStep value k) a v u
         numbers_of [] x a u s h = ([], tt, h)
         numbers_of (y ∷ w) x a u s h =
-            let l = learned.rows a x (known_at a x s) s in
+            let l = learned.rows a x (listed_at a x s) s in
             let n = l.numbered h.0 y h.2 in
             let c = l.complete h.0 y n.0 h.2 n.1 in
             let r = numbers_of w y n.0 h.1 n.1 h.3 in
             (n.0 ∷ r.0, (n.1, r.1), (h.0, h.1, c, r.2, h.4))
 
-        along_numbers : (v : List ℕ) (w : List N) (x : N) (a : ℕ) (u : ℤ) → StandsFor eq keys a x → AllZip (StandsFor eq keys) v w → GoesAlong Live x w u → GoesAlong (KnownStep value k) a v u
+        along_numbers : (v : List ℕ) (w : List N) (x : N) (a : ℕ) (u : ℤ) → StandsFor eq keys a x → AllZip (StandsFor eq keys) v w → GoesAlong Live x w u → GoesAlong (AdjacencyStep value k) a v u
         along_numbers [] [] x a u s z h = h
         along_numbers [] (y ∷ w) x a u s z h = absurd z
         along_numbers (b ∷ v) [] x a u s z h = absurd z
         along_numbers (b ∷ v) (y ∷ w) x a u s z h =
-            let l = learned.rows a x (known_at a x s) s in
+            let l = learned.rows a x (listed_at a x s) s in
             (h.0, h.1, l.complete h.0 y b h.2 z.0, along_numbers v w y b h.1 z.0 z.1 h.3, h.4)
 
-        along_nodes : (v : List ℕ) (w : List N) (x : N) (a : ℕ) (u : ℤ) → StandsFor eq keys a x → AllZip (StandsFor eq keys) v w → GoesAlong (KnownStep value k) a v u → GoesAlong Live x w u
+        along_nodes : (v : List ℕ) (w : List N) (x : N) (a : ℕ) (u : ℤ) → StandsFor eq keys a x → AllZip (StandsFor eq keys) v w → GoesAlong (AdjacencyStep value k) a v u → GoesAlong Live x w u
         along_nodes [] [] x a u s z h = h
         along_nodes [] (y ∷ w) x a u s z h = absurd z
         along_nodes (b ∷ v) [] x a u s z h = absurd z
         along_nodes (b ∷ v) (y ∷ w) x a u s z h =
-            let l = learned.rows a x (known_at a x s) s in
+            let l = learned.rows a x (listed_at a x s) s in
             let t = h.2 in
             let n = l.sound b t.0 t.1 in
             let e = same_node b n.0 y n.2 z.0 in
@@ -242,7 +242,7 @@ module _ {N : Type 0} (eq : N → N → Bool) (laws : IsEquivalence eq) (keys : 
             (h.0, h.1, edge, along_nodes v w y b h.1 z.0 z.1 h.3, h.4)
 
         goal_is : (a : ℕ) (x : N) → StandsFor eq keys a x → is_goal k a ≡ test x
-        goal_is a x s = learned.goals a x (known_at a x s) s
+        goal_is a x s = learned.goals a x (listed_at a x s) s
 
         -- the numbers of a clean path
         pub numbers_of_clean : (path : List N) (clean : IsCleanPath eq edges start test path) → (p : List ℕ) × (u : ℤ) × AllZip (StandsFor eq keys) p path × IsCleanNumbers value k p u
@@ -313,7 +313,7 @@ module _ {N : Type 0} (eq : N → N → Bool) (laws : IsEquivalence eq) (keys : 
             }
 
         -- what it costs, where no parallel steps cost less
-        pub costs_of_numbers : (p : List ℕ) (path : List N) (u : ℤ) → AllZip (StandsFor eq keys) p path → (c : IsCleanNumbers value k p u) → ((t : ℤ) → GoesAlong (KnownStep value k) 0 c.rest t → u ≤ℤ t) → WalkCosts eq edges path u
+        pub costs_of_numbers : (p : List ℕ) (path : List N) (u : ℤ) → AllZip (StandsFor eq keys) p path → (c : IsCleanNumbers value k p u) → ((t : ℤ) → GoesAlong (AdjacencyStep value k) 0 c.rest t → u ≤ℤ t) → WalkCosts eq edges path u
         costs_of_numbers [] path u z c low = absurd (no_path c.rest c.is)
           where
             no_path : (v : List ℕ) → ¬ ([] ≡ 0 ∷ v)
@@ -332,10 +332,10 @@ module _ {N : Type 0} (eq : N → N → Bool) (laws : IsEquivalence eq) (keys : 
             subst (λ (t : ℤ). StepsCost eq edges x w t) same m.1
 
         -- nodes that the numbers of a walk stand for
-        nodes_of : (v : List ℕ) (x : N) (a : ℕ) (u : ℤ) → StandsFor eq keys a x → GoesAlong (KnownStep value k) a v u → (w : List N) × AllZip (StandsFor eq keys) v w
+        nodes_of : (v : List ℕ) (x : N) (a : ℕ) (u : ℤ) → StandsFor eq keys a x → GoesAlong (AdjacencyStep value k) a v u → (w : List N) × AllZip (StandsFor eq keys) v w
         nodes_of [] x a u s h = ([], tt)
         nodes_of (b ∷ v) x a u s h =
-            let l = learned.rows a x (known_at a x s) s in
+            let l = learned.rows a x (listed_at a x s) s in
             let t = h.2 in
             let n = l.sound b t.0 t.1 in
             let r = nodes_of v n.0 b h.1 n.2 h.3 in
@@ -367,7 +367,7 @@ module _ {N : Type 0} (eq : N → N → Bool) (laws : IsEquivalence eq) (keys : 
           ends_here = ends_stand d.rest nodes.0 0 start origin nodes.1
 
           abbrev here : ListsSteps value Live (StandsFor eq keys) last (row_of k (end_of 0 d.rest))
-          here = learned.rows (end_of 0 d.rest) last (known_at (end_of 0 d.rest) last ends_here) ends_here
+          here = learned.rows (end_of 0 d.rest) last (listed_at (end_of 0 d.rest) last ends_here) ends_here
 
           abbrev live : GoesAlong Live start nodes.0 d.cost
           live = along_nodes d.rest nodes.0 start 0 d.cost origin nodes.1 d.goes
@@ -416,8 +416,8 @@ module _ {N : Type 0} (eq : N → N → Bool) (laws : IsEquivalence eq) (keys : 
           }
 
           -- before the first path it is a cheapest one, and no goal is cheaper
-          pub first_past : IsNonNegative (IsStep eq (record { starts = start ∷ []; edges = edges })) → ((v : List ℕ) (u : ℤ) → GoesAlong (KnownStep value k) 0 v u → end_of 0 v ≡ end_of 0 d.rest → d.cost ≤ℤ u)
-              → ((v : List ℕ) (u : ℤ) → GoesAlong (KnownStep value k) 0 v u → is_goal k (end_of 0 v) ≡ true → d.cost ≤ℤ u) → IsPastRange eq edges (start ∷ []) test fits
+          pub first_past : IsNonNegative (IsStep eq (record { starts = start ∷ []; edges = edges })) → ((v : List ℕ) (u : ℤ) → GoesAlong (AdjacencyStep value k) 0 v u → end_of 0 v ≡ end_of 0 d.rest → d.cost ≤ℤ u)
+              → ((v : List ℕ) (u : ℤ) → GoesAlong (AdjacencyStep value k) 0 v u → is_goal k (end_of 0 v) ≡ true → d.cost ≤ℤ u) → IsPastRange eq edges (start ∷ []) test fits
           first_past p to_here to_goal = let s = past_step in record {
             node = last;
             path = start ∷ nodes.0;

@@ -11,14 +11,14 @@ use Rattle.pf_base.specs.Walks.{HasNode, NoRepeats, end_of}
 use Rattle.pf_core.specs.Steps.{GoesAlong, IsNonNegative, IsTooDear}
 use Rattle.pf_core.proofs.ListLemmas.{bool_dec, or_cases, get_set, Contains-append_one}
 use Rattle.pf_core.proofs.FrontierLemmas.{walk_positive}
-use Rattle.pf_yen.specs.Known.{KnownGraph, is_goal, KnownStep}
+use Rattle.pf_yen.specs.Internal.Adjacency.{AdjacencyLists, is_goal, AdjacencyStep}
 use Rattle.pf_yen.specs.Internal.WholeGraphs.{IsWhole}
-use Rattle.pf_yen.specs.Internal.Narrow.{NarrowGraph, NarrowStep, StandsForItself}
-use Rattle.pf_yen.specs.Classes.{is_in, is_member, goes_on_to, one_if, Plan, in_class, is_path, IsCleanNumbers, IsCheapestOfClass}
-use Rattle.pf_yen.specs.Internal.Splits.{IsBarredBehind, IsSplit, LeadsOn, IsNarrowedTo, IsCheapestAlong, HasNoneAlong, IsSplitUpTo, IsPastAlong, IsPastInClass}
-use Rattle.pf_yen.proofs.NarrowLemmas.{in_none}
+use Rattle.pf_yen.specs.Internal.Filtered.{FilteredLists, FilteredStep, StandsForItself}
+use Rattle.pf_yen.specs.Internal.Classes.{is_in, is_member, goes_on_to, one_if, Plan, in_class, is_path, IsCleanNumbers, IsCheapestOfClass}
+use Rattle.pf_yen.specs.Internal.Splits.{IsBarredBehind, IsSplit, LeadsOn, IsFilteredTo, IsCheapestAlong, HasNoneAlong, IsSplitUpTo, IsPastAlong, IsPastInClass}
+use Rattle.pf_yen.proofs.FilteredLemmas.{in_none}
 use Rattle.pf_yen.proofs.ClassLemmas.{same_is_true, any_goes_on, split_member, goes_on, member_of, prefix_is, one_if_one, at_most_one, stuck, behind, same_path}
-use Rattle.pf_yen.proofs.NarrowWalks.{not_true, numbers_are, not_twice, is_known, is_left, is_allowed, goes_known, goes_again, class_walk, on_or_within}
+use Rattle.pf_yen.proofs.FilteredWalks.{not_true, numbers_are, not_twice, is_known, is_left, is_allowed, goes_listed, goes_again, class_walk, on_or_within}
 
 -- a list, cut at a place
 pub cut_at : (xs : List ℕ) (i d : ℕ) → i < length xs → (r : List ℕ) × (xs ≡ take i xs ++ get_or xs i d ∷ r)
@@ -49,7 +49,7 @@ NoRepeats-before (x ∷ q) r h = ((λ k. h.0 (wider q r x k)), NoRepeats-before 
 abbrev pub nothing : ℕ → List (Option ℕ)
 nothing n = replicate n None
 
-module _ {C : Type 0} (k : KnownGraph C) where
+module _ {C : Type 0} (k : AdjacencyLists C) where
   ends_at_spur : (onward : List (Option ℕ)) (spur : ℕ) (q : List ℕ) (a : ℕ) → LeadsOn k onward spur a q → end_of a q ≡ spur
   ends_at_spur onward spur [] a l = l.0
   ends_at_spur onward spur (b ∷ q) a l = ends_at_spur onward spur q b l.2
@@ -63,7 +63,7 @@ module _ {C : Type 0} (k : KnownGraph C) where
   spur_waits onward spur (b ∷ q) a l = spur_waits onward spur q b l.2
 
   -- the spur is one of the numbers
-  pub spur_inside : (onward : List (Option ℕ)) (spur : ℕ) (q : List ℕ) → IsNarrowedTo k onward spur q → spur < length onward
+  pub spur_inside : (onward : List (Option ℕ)) (spur : ℕ) (q : List ℕ) → IsFilteredTo k onward spur q → spur < length onward
   spur_inside onward spur q n = slice_get_within onward spur None (spur_waits onward spur q 0 n.leads)
 
   leads_on : (onward : List (Option ℕ)) (spur n : ℕ) (q : List ℕ) (a : ℕ) → spur < length onward → LeadsOn k onward spur a q → NoRepeats nat_eq (a ∷ q) → ¬ (HasNode nat_eq (a ∷ q) n) → is_goal k (end_of a q) ≡ false → slice_get onward n ≡ Some None
@@ -83,8 +83,8 @@ module _ {C : Type 0} (k : KnownGraph C) where
   )
 
   -- the whole graph
-  pub narrowed_first : (n : ℕ) → 0 < n → IsNarrowedTo k (nothing n) 0 []
-  narrowed_first n some = record { leads = (refl, none_at n 0 some); free = λ x y out e. none_there n x y e }
+  pub filtered_first : (n : ℕ) → 0 < n → IsFilteredTo k (nothing n) 0 []
+  filtered_first n some = record { leads = (refl, none_at n 0 some); free = λ x y out e. none_there n x y e }
     where
       none_at : (n x : ℕ) → x < n → slice_get (nothing n) x ≡ Some None
       none_at zero x h = absurd (omega (arith, h))
@@ -105,23 +105,23 @@ module _ {C : Type 0} (k : KnownGraph C) where
       at (Some y) e = absurd (none y e)
 
 -- a sum that does not fit, met where some steps are left out
-past_along : {C : Type 0} (value : C → ℤ) (fits : ℤ → Type 0) (g : NarrowGraph C) (n : ℕ) → IsTooDear (NarrowStep value g) (is_goal g.known) (StandsForItself n 0) (StandsForItself n) fits
-    → (p : IsPastAlong value g.known fits) × (GoesAlong (NarrowStep value g) 0 p.rest p.cost × NarrowStep value g (end_of 0 p.rest) p.price p.next × ((v : List ℕ) (u : ℤ) → GoesAlong (NarrowStep value g) 0 v u → is_goal g.known (end_of 0 v) ≡ true → p.cost ≤ℤ u))
+past_along : {C : Type 0} (value : C → ℤ) (fits : ℤ → Type 0) (g : FilteredLists C) (n : ℕ) → IsTooDear (FilteredStep value g) (is_goal g.adjacency) (StandsForItself n 0) (StandsForItself n) fits
+    → (p : IsPastAlong value g.adjacency fits) × (GoesAlong (FilteredStep value g) 0 p.rest p.cost × FilteredStep value g (end_of 0 p.rest) p.price p.next × ((v : List ℕ) (u : ℤ) → GoesAlong (FilteredStep value g) 0 v u → is_goal g.adjacency (end_of 0 v) ≡ true → p.cost ≤ℤ u))
 past_along value fits g n d =
     let p = d.path in
     let z : 0 ≡ d.first = d.is_start.0 in
-    let goes : GoesAlong (NarrowStep value g) 0 d.nodes d.cost = subst (λ (a : ℕ). GoesAlong (NarrowStep value g) a d.nodes d.cost) (sym z) p.goes in
-    let edge : NarrowStep value g (end_of 0 d.nodes) d.price d.next = subst (λ (a : ℕ). NarrowStep value g (end_of a d.nodes) d.price d.next) (sym z) d.edge in (
+    let goes : GoesAlong (FilteredStep value g) 0 d.nodes d.cost = subst (λ (a : ℕ). GoesAlong (FilteredStep value g) a d.nodes d.cost) (sym z) p.goes in
+    let edge : FilteredStep value g (end_of 0 d.nodes) d.price d.next = subst (λ (a : ℕ). FilteredStep value g (end_of a d.nodes) d.price d.next) (sym z) d.edge in (
       record {
         rest = d.nodes;
         cost = d.cost;
-        goes = goes_known value g d.nodes 0 d.cost goes;
+        goes = goes_listed value g d.nodes 0 d.cost goes;
         distinct = subst (λ (a : ℕ). NoRepeats nat_eq (a ∷ d.nodes)) (sym z) (subst (λ (v : List ℕ). NoRepeats nat_eq v) (numbers_are n d.numbers (d.first ∷ d.nodes) p.numbered) p.distinct);
         cheapest = λ u w. d.cheapest 0 (refl, d.is_start.1) d.nodes u (goes_again value g d.nodes 0 d.cost u goes w) (subst (λ (a : ℕ). StandsForItself n d.number (end_of a d.nodes)) (sym z) d.here);
         next = d.next;
         price = d.price;
         edge = is_known value g (end_of 0 d.nodes) d.price d.next edge;
-        too_dear = λ y s. d.too_dear y (subst (λ (a : ℕ). NarrowStep value g (end_of a d.nodes) y d.next) z (is_left value g (end_of 0 d.nodes) y d.next s (is_allowed value g (end_of 0 d.nodes) d.price d.next edge)));
+        too_dear = λ y s. d.too_dear y (subst (λ (a : ℕ). FilteredStep value g (end_of a d.nodes) y d.next) z (is_left value g (end_of 0 d.nodes) y d.next s (is_allowed value g (end_of 0 d.nodes) d.price d.next edge)));
       },
       (goes, edge, λ v u w t. d.none_cheaper 0 (refl, d.is_start.1) v u w t),
     )
@@ -131,8 +131,8 @@ cut_goes : {X : Type 0} (step : X → ℤ → X → Type 0) (v w : List X) (a : 
 cut_goes step [] w a u g = (pos 0, u, refl, g, omega (arith, ints))
 cut_goes step (b ∷ v) w a u g = let k = cut_goes step v w b g.1 g.3 in (g.0 +ℤ k.0, k.1, (g.0, k.0, g.2, k.2, refl), k.3, omega (arith, ints, g.4, k.4))
 
-module _ {C : Type 0} (value : C → ℤ) (k : KnownGraph C) (whole : IsWhole value k) where
-  from_zero : IsNonNegative (KnownStep value k)
+module _ {C : Type 0} (value : C → ℤ) (k : AdjacencyLists C) (whole : IsWhole value k) where
+  from_zero : IsNonNegative (AdjacencyStep value k)
   from_zero = record { non_negative = λ a z b s. subst (λ (y : ℤ). pos 0 ≤ℤ y) s.2 (whole.from_zero a b s.0 s.1) }
 
   -- a sum along a path that costs no more than fits does so too
@@ -141,11 +141,11 @@ module _ {C : Type 0} (value : C → ℤ) (k : KnownGraph C) (whole : IsWhole va
     not_on_path d p u c f r e =
         let all : 0 ∷ c.rest ≡ 0 ∷ ((d.rest ++ d.next ∷ []) ++ r) = sym c.is ∙ e in
         let rest : c.rest ≡ d.rest ++ d.next ∷ r = tails all ∙ assoc d.rest d.next r in
-        let g = cut_goes (KnownStep value k) d.rest (d.next ∷ r) 0 u (subst (λ (v : List ℕ). GoesAlong (KnownStep value k) 0 v u) rest c.goes) in
+        let g = cut_goes (AdjacencyStep value k) d.rest (d.next ∷ r) 0 u (subst (λ (v : List ℕ). GoesAlong (AdjacencyStep value k) 0 v u) rest c.goes) in
         let h = g.3 in
-        let here = walk_positive (KnownStep value k) from_zero d.rest 0 d.cost d.goes in
+        let here = walk_positive (AdjacencyStep value k) from_zero d.rest 0 d.cost d.goes in
         let step = from_zero.non_negative (end_of 0 d.rest) h.0 d.next h.2 in
-        let on = walk_positive (KnownStep value k) from_zero r d.next h.1 h.3 in
+        let on = walk_positive (AdjacencyStep value k) from_zero r d.next h.1 h.3 in
         let low = d.cheapest g.0 g.2 in
         d.too_dear h.0 h.2 (between (pos 0) (d.cost +ℤ h.0) u none f (omega (arith, ints, here, step)) (omega (arith, ints, low, on, g.4, h.4)))
       where
@@ -164,13 +164,13 @@ module _ {C : Type 0} (value : C → ℤ) (k : KnownGraph C) (whole : IsWhole va
     pub live : is_goal k (end_of 0 (take i rest)) ≡ false
     pub inside : n < length k.rows
 
-  goes_on_at : (rest : List ℕ) (u : ℤ) (i d : ℕ) → GoesAlong (KnownStep value k) 0 rest u → NoRepeats nat_eq (0 ∷ rest) → i < length rest → GoesOnAt rest i (get_or rest i d)
+  goes_on_at : (rest : List ℕ) (u : ℤ) (i d : ℕ) → GoesAlong (AdjacencyStep value k) 0 rest u → NoRepeats nat_eq (0 ∷ rest) → i < length rest → GoesOnAt rest i (get_or rest i d)
   goes_on_at rest u i d goes distinct h =
       let n = get_or rest i d in
       let c = cut_at rest i d h in
       let q = take i rest in
       let w = subst (λ (v : List ℕ). NoRepeats nat_eq (0 ∷ v)) c.1 distinct in
-      let g = subst (λ (v : List ℕ). GoesAlong (KnownStep value k) 0 v u) c.1 goes in
+      let g = subst (λ (v : List ℕ). GoesAlong (AdjacencyStep value k) 0 v u) c.1 goes in
       let b = behind value k whole q (n ∷ c.0) 0 u g in
       let s = b.1 in
       let t = s.2 in
@@ -193,10 +193,10 @@ module _ {C : Type 0} (value : C → ℤ) (k : KnownGraph C) (whole : IsWhole va
   behind_start rest i d = subst (λ (m : ℕ). get_or (0 ∷ rest) m d ≡ get_or rest i d) (sym (add-one i)) refl
 
   -- the graph is narrowed on by the next number of a clean path
-  pub narrowed_on : (path : List ℕ) (u : ℤ) (i d : ℕ) (onward : List (Option ℕ)) (spur : ℕ) → IsCleanNumbers value k path u → i + 1 < length path → length onward ≡ length k.rows → IsNarrowedTo k onward spur (take i (drop 1 path))
-      → IsNarrowedTo k (slice_set onward spur (Some (get_or path (i + 1) d))) (get_or path (i + 1) d) (take (i + 1) (drop 1 path))
-  narrowed_on path u i d onward spur c h wide n = subst (λ (v : List ℕ). IsNarrowedTo k (slice_set onward spur (Some (get_or v (i + 1) d))) (get_or v (i + 1) d) (take (i + 1) (drop 1 v))) (sym c.is)
-      (subst (λ (m : ℕ). IsNarrowedTo k (slice_set onward spur (Some m)) m (take (i + 1) c.rest)) (sym (behind_start c.rest i d)) on)
+  pub filtered_on : (path : List ℕ) (u : ℤ) (i d : ℕ) (onward : List (Option ℕ)) (spur : ℕ) → IsCleanNumbers value k path u → i + 1 < length path → length onward ≡ length k.rows → IsFilteredTo k onward spur (take i (drop 1 path))
+      → IsFilteredTo k (slice_set onward spur (Some (get_or path (i + 1) d))) (get_or path (i + 1) d) (take (i + 1) (drop 1 path))
+  filtered_on path u i d onward spur c h wide n = subst (λ (v : List ℕ). IsFilteredTo k (slice_set onward spur (Some (get_or v (i + 1) d))) (get_or v (i + 1) d) (take (i + 1) (drop 1 v))) (sym c.is)
+      (subst (λ (m : ℕ). IsFilteredTo k (slice_set onward spur (Some m)) m (take (i + 1) c.rest)) (sym (behind_start c.rest i d)) on)
     where
       long : i < length c.rest
       long = let e = ap length c.is in let f : length (0 ∷ c.rest) ≡ suc (length c.rest) = refl in omega (arith, e, f, h)
@@ -204,8 +204,8 @@ module _ {C : Type 0} (value : C → ℤ) (k : KnownGraph C) (whole : IsWhole va
       at : GoesOnAt c.rest i (get_or c.rest i d)
       at = goes_on_at c.rest u i d c.goes c.distinct long
 
-      old : IsNarrowedTo k onward spur (take i c.rest)
-      old = subst (λ (v : List ℕ). IsNarrowedTo k onward spur (take i (drop 1 v))) c.is n
+      old : IsFilteredTo k onward spur (take i c.rest)
+      old = subst (λ (v : List ℕ). IsFilteredTo k onward spur (take i (drop 1 v))) c.is n
 
       waits : slice_get onward (get_or c.rest i d) ≡ Some None
       waits = let a = at in let o = old in free_waits k onward (get_or c.rest i d) (omega (arith, a.inside, wide)) (λ y. o.free (get_or c.rest i d) y a.new)
@@ -213,8 +213,8 @@ module _ {C : Type 0} (value : C → ℤ) (k : KnownGraph C) (whole : IsWhole va
       within : spur < length onward
       within = spur_inside k onward spur (take i c.rest) old
 
-      on : IsNarrowedTo k (slice_set onward spur (Some (get_or c.rest i d))) (get_or c.rest i d) (take (i + 1) c.rest)
-      on = let a = at in let o = old in let m = get_or c.rest i d in subst (λ (v : List ℕ). IsNarrowedTo k (slice_set onward spur (Some m)) m v) (sym a.more) (record {
+      on : IsFilteredTo k (slice_set onward spur (Some (get_or c.rest i d))) (get_or c.rest i d) (take (i + 1) c.rest)
+      on = let a = at in let o = old in let m = get_or c.rest i d in subst (λ (v : List ℕ). IsFilteredTo k (slice_set onward spur (Some m)) m v) (sym a.more) (record {
         leads = leads_on k onward spur m (take i c.rest) 0 within o.leads a.before a.new a.live waits;
         free = λ x y out e. elim (get_set onward spur x (Some m) within) as (λ _. ⊥) [
           | inl t ↦ out (HasNode-before (0 ∷ take i c.rest) m x (subst (λ (z : ℕ). HasNode nat_eq (0 ∷ take i c.rest) z) (sym t.0) (spur_in k onward spur (take i c.rest) 0 o.leads)))
@@ -329,12 +329,12 @@ module _ {C : Type 0} (value : C → ℤ) (k : KnownGraph C) (whole : IsWhole va
           )
 
       -- a sum that does not fit, where the way is left here
-      pub past_here : (fits : ℤ → Type 0) → ((x y z : ℤ) → fits x → fits z → x ≤ℤ y → y ≤ℤ z → fits y) → fits (pos 0) → fits (value c.cost) → (onward : List (Option ℕ)) (spur : ℕ) → IsNarrowedTo k onward spur (along i) → (n : ℕ) → 0 < n
-          → IsTooDear (NarrowStep value (record { known = k; onward = onward; spur = spur; banned = banned ++ next ∷ [] })) (is_goal k) (StandsForItself n 0) (StandsForItself n) fits → IsPastInClass value k fits c
-      past_here fits between none itself onward spur narrow n some d =
-          let g : NarrowGraph C = record { known = k; onward = onward; spur = spur; banned = banned ++ next ∷ [] } in
+      pub past_here : (fits : ℤ → Type 0) → ((x y z : ℤ) → fits x → fits z → x ≤ℤ y → y ≤ℤ z → fits y) → fits (pos 0) → fits (value c.cost) → (onward : List (Option ℕ)) (spur : ℕ) → IsFilteredTo k onward spur (along i) → (n : ℕ) → 0 < n
+          → IsTooDear (FilteredStep value (record { adjacency = k; onward = onward; spur = spur; banned = banned ++ next ∷ [] })) (is_goal k) (StandsForItself n 0) (StandsForItself n) fits → IsPastInClass value k fits c
+      past_here fits between none itself onward spur filtered_lists n some d =
+          let g : FilteredLists C = record { adjacency = k; onward = onward; spur = spur; banned = banned ++ next ∷ [] } in
           let p = past_along value fits g n d in
-          let at = elim (on_or_within value g (along i) p.0.rest 0 p.0.cost p.0.price p.0.next narrow.leads p.1.0 p.1.1) as (λ _. (is_member (0 ∷ along i) [] (0 ∷ p.0.rest) ≡ true) × (is_member (0 ∷ along i) (banned ++ next ∷ []) ((0 ∷ p.0.rest) ++ p.0.next ∷ []) ≡ true)) [
+          let at = elim (on_or_within value g (along i) p.0.rest 0 p.0.cost p.0.price p.0.next filtered_lists.leads p.1.0 p.1.1) as (λ _. (is_member (0 ∷ along i) [] (0 ∷ p.0.rest) ≡ true) × (is_member (0 ∷ along i) (banned ++ next ∷ []) ((0 ∷ p.0.rest) ++ p.0.next ∷ []) ≡ true)) [
             | inl o ↦ o
             | inr w ↦
                 let r = goes_on ((0 ∷ p.0.rest) ++ p.0.next ∷ []) [] (0 ∷ along i) w in
@@ -350,7 +350,7 @@ module _ {C : Type 0} (value : C → ℤ) (k : KnownGraph C) (whole : IsWhole va
             past = p.0;
             begins = at.0;
             leaves = at.1;
-            none_cheaper = λ v u clean m. p.1.2 clean.rest u (class_walk value g (along i) narrow v u clean m) clean.ends;
+            none_cheaper = λ v u clean m. p.1.2 clean.rest u (class_walk value g (along i) filtered_lists v u clean m) clean.ends;
             inside = leaves_inside;
             barred = barred_here;
           }
@@ -475,8 +475,8 @@ module _ {C : Type 0} (value : C → ℤ) (k : KnownGraph C) (whole : IsWhole va
             itself = subst (λ (v : List ℕ). is_member c.path banned v ≡ true) (append_none c.path) (member_of c.path banned [] refl)
 
 -- a sum that does not fit in the whole graph, where no goal is cheaper than the end of the path, which is a cheapest one
-pub past_first : {C : Type 0} (value : C → ℤ) (fits : ℤ → Type 0) (k : KnownGraph C) (n : ℕ) → IsTooDear (KnownStep value k) (is_goal k) (StandsForItself n 0) (StandsForItself n) fits
-    → (p : IsPastAlong value k fits) × (((v : List ℕ) (u : ℤ) → GoesAlong (KnownStep value k) 0 v u → end_of 0 v ≡ end_of 0 p.rest → p.cost ≤ℤ u) × ((v : List ℕ) (u : ℤ) → GoesAlong (KnownStep value k) 0 v u → is_goal k (end_of 0 v) ≡ true → p.cost ≤ℤ u))
+pub past_first : {C : Type 0} (value : C → ℤ) (fits : ℤ → Type 0) (k : AdjacencyLists C) (n : ℕ) → IsTooDear (AdjacencyStep value k) (is_goal k) (StandsForItself n 0) (StandsForItself n) fits
+    → (p : IsPastAlong value k fits) × (((v : List ℕ) (u : ℤ) → GoesAlong (AdjacencyStep value k) 0 v u → end_of 0 v ≡ end_of 0 p.rest → p.cost ≤ℤ u) × ((v : List ℕ) (u : ℤ) → GoesAlong (AdjacencyStep value k) 0 v u → is_goal k (end_of 0 v) ≡ true → p.cost ≤ℤ u))
 past_first value fits k n d =
     let p = d.path in
     let z : 0 ≡ d.first = d.is_start.0 in
@@ -484,13 +484,13 @@ past_first value fits k n d =
       record {
         rest = d.nodes;
         cost = d.cost;
-        goes = subst (λ (a : ℕ). GoesAlong (KnownStep value k) a d.nodes d.cost) (sym z) p.goes;
+        goes = subst (λ (a : ℕ). GoesAlong (AdjacencyStep value k) a d.nodes d.cost) (sym z) p.goes;
         distinct = subst (λ (a : ℕ). NoRepeats nat_eq (a ∷ d.nodes)) (sym z) (subst (λ (v : List ℕ). NoRepeats nat_eq v) (numbers_are n d.numbers (d.first ∷ d.nodes) p.numbered) p.distinct);
         cheapest = λ u w. d.cheapest 0 (refl, d.is_start.1) d.nodes u w at;
         next = d.next;
         price = d.price;
-        edge = subst (λ (a : ℕ). KnownStep value k (end_of a d.nodes) d.price d.next) (sym z) d.edge;
-        too_dear = λ y s. d.too_dear y (subst (λ (a : ℕ). KnownStep value k (end_of a d.nodes) y d.next) z s);
+        edge = subst (λ (a : ℕ). AdjacencyStep value k (end_of a d.nodes) d.price d.next) (sym z) d.edge;
+        too_dear = λ y s. d.too_dear y (subst (λ (a : ℕ). AdjacencyStep value k (end_of a d.nodes) y d.next) z s);
       },
       (
         (λ v u g e. d.cheapest 0 (refl, d.is_start.1) v u g (subst (λ (m : ℕ). StandsForItself n d.number m) (sym e) at)),

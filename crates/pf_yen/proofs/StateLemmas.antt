@@ -15,19 +15,19 @@ use Rattle.pf_core.specs.Nodes.{StandsFor, IsStep}
 use Rattle.pf_core.proofs.ListLemmas.{nat_dec, bool_dec, Contains-head, Contains-tail, Contains-cases, Contains-append_one}
 use Rattle.pf_core.proofs.PathLemmas.{AllZip-append}
 use Rattle.pf_core.proofs.WalkLemmas.{same_of}
-use Rattle.pf_yen.specs.Known.{KnownGraph, KnownStep}
+use Rattle.pf_yen.specs.Internal.Adjacency.{AdjacencyLists, AdjacencyStep}
 use Rattle.pf_yen.specs.Internal.WholeGraphs.{IsWhole}
-use Rattle.pf_yen.specs.Learned.{IsLearned}
-use Rattle.pf_yen.specs.Classes.{Plan, is_member, goes_on_to, one_if, in_class, is_path, IsCleanNumbers, IsCheapestOfClass, IsPartition, is_in}
+use Rattle.pf_yen.specs.Internal.Learned.{IsLearned}
+use Rattle.pf_yen.specs.Internal.Classes.{Plan, is_member, goes_on_to, one_if, in_class, is_path, IsCleanNumbers, IsCheapestOfClass, IsPartition, is_in}
 use Rattle.pf_yen.specs.Internal.Splits.{IsPastInClass}
 use Rattle.pf_yen.specs.Counting.{most_paths}
 use Rattle.pf_yen.specs.Internal.Gathered.{same_nodes}
-use Rattle.pf_yen.specs.Plans.{as_list, last_given, IsFirst, NoneBelow}
+use Rattle.pf_yen.specs.Internal.Candidates.{as_list, last_given, IsFirst, NoneBelow}
 use Rattle.pf_yen.specs.Internal.PlanChanges.{GoesOn}
 use Rattle.pf_yen.specs.CleanPaths.{IsCleanPath, WasGiven, AllGiven, IsNextPath, IsBranchPastRange}
 use Rattle.std.proofs.lemmas.List.Elements.{Contains-append_left, Contains-append_right}
-use Rattle.pf_yen.specs.Walk.{IsPlanned}
-use Rattle.pf_yen.proofs.NarrowLemmas.{in_none}
+use Rattle.pf_yen.specs.Internal.PlannedSearch.{IsPlanned}
+use Rattle.pf_yen.proofs.FilteredLemmas.{in_none}
 use Rattle.pf_yen.proofs.ClassLemmas.{one_if_one, some_term, term_below, same_path, member_of}
 use Rattle.pf_yen.proofs.CountLemmas.{both, AreOver, most}
 use Rattle.pf_yen.proofs.NodePaths.{zip_find, zip_found, zip_length, branch_past, same_numbers, numbers_of_clean, numbers_at_cost, clean_of_numbers, costs_of_numbers}
@@ -66,7 +66,7 @@ none_more q before h = subst (λ (v : List (List ℕ)). sum_by (is_path q) v ≤
 begins_itself : (p : List ℕ) → is_member p [] p ≡ true
 begins_itself p = subst (λ (v : List ℕ). is_member p [] v ≡ true) (append-nil p) (member_of p [] [] refl)
 
-module _ {N C : Type 0} (eq : N → N → Bool) (laws : IsEquivalence eq) (value : C → ℤ) (keys : List N) (k : KnownGraph C) where
+module _ {N C : Type 0} (eq : N → N → Bool) (laws : IsEquivalence eq) (value : C → ℤ) (keys : List N) (k : AdjacencyLists C) where
   -- the plans after a change that keeps what they share out
   pub went_on : (given : List (List N × C)) (waiting waiting' : List (Plan C)) (chosen chosen' : Option (Plan C)) (was : Bool) → IsPlanned eq value keys k given waiting chosen was
       → GoesOn value k (as_list chosen ++ waiting) (as_list chosen' ++ waiting') (last_given was chosen) → IsFirst value false chosen' waiting' → IsPlanned eq value keys k given waiting' chosen' false
@@ -147,7 +147,7 @@ module _ {N C : Type 0} (eq : N → N → Bool) (laws : IsEquivalence eq) (value
       let m = most nat_eq nat_eq_equiv n (below (length k.rows)) ps (let l = length-below (length k.rows) in omega (arith, l, few)) (all_over ps clean) (none_twice ps clean (given_once whole waiting chosen was p.before p.partition)) in
       omega (arith, e, m)
     where
-      along_below : (w : List ℕ) (a : ℕ) (u : ℤ) → GoesAlong (KnownStep value k) a w u → (x : ℕ) → HasNode nat_eq w x → x < length k.rows
+      along_below : (w : List ℕ) (a : ℕ) (u : ℤ) → GoesAlong (AdjacencyStep value k) a w u → (x : ℕ) → HasNode nat_eq w x → x < length k.rows
       along_below [] a u g x h = absurd h
       along_below (b ∷ w) a u g x (inl e) = let t = g.2 in subst (λ (y : ℕ). y < length k.rows) (eqb-true b x e) (whole.inside a b t.0 t.1)
       along_below (b ∷ w) a u g x (inr h) = along_below w b g.1 g.3 x h
@@ -257,7 +257,7 @@ module _ {N C : Type 0} (eq : N → N → Bool) (laws : IsEquivalence eq) (value
         zip : AllZip (λ (q : List ℕ) (g : List N × C). AllZip (StandsFor eq keys) q g.0 × IsCleanNumbers value k q (value g.1)) p.before given
         zip = subst (λ (v : List (List ℕ)). AllZip (λ (q : List ℕ) (g : List N × C). AllZip (StandsFor eq keys) q g.0 × IsCleanNumbers value k q (value g.1)) v given) (append-nil p.before) p.given_are
 
-        low : (t : ℤ) → GoesAlong (KnownStep value k) 0 itself.rest t → value c.cost ≤ℤ t
+        low : (t : ℤ) → GoesAlong (AdjacencyStep value k) 0 itself.rest t → value c.cost ≤ℤ t
         low t goes = let h = cheap in let a = itself in h.least c.path t (record { rest = a.rest; is = a.is; goes = goes; distinct = a.distinct; ends = a.ends }) h.member
 
         new : ¬ (WasGiven eq edges start test value given path)

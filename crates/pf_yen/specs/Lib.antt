@@ -1,10 +1,5 @@
-pub mod Known
-pub mod Classes
 pub mod CleanPaths
-pub mod Learned
-pub mod Standing
 pub mod Walk
-pub mod Plans
 pub mod KCheapest
 pub mod Counting
 pub mod Internal

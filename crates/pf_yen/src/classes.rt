@@ -6,16 +6,16 @@
 
 ghost use Rattle.std.specs.Prelude.{◌≡◌, ◌⊎◌, ◌<◌, ◌+◌, ℕ, ℤ, List, [], length, take, drop, map, Err, OnOk, IfOk, IfErr, IfSome, MatchOption};
 ghost use Rattle.pf_yen.specs.Internal.WholeGraphs.{IsWhole};
-ghost use Rattle.pf_yen.specs.Internal.Narrow.{IsPastFromStart, graph_narrowed_by};
-ghost use Rattle.pf_yen.specs.Classes.{IsCleanNumbers, IsCheapestOfClass, plan_of};
-ghost use Rattle.pf_yen.specs.Internal.Splits.{IsNarrowedTo, IsCheapestAlong, HasNoneAlong, IsSplit, IsPastInClass};
+ghost use Rattle.pf_yen.specs.Internal.Filtered.{IsPastFromStart, graph_filtered_by};
+ghost use Rattle.pf_yen.specs.Internal.Classes.{IsCleanNumbers, IsCheapestOfClass, plan_of};
+ghost use Rattle.pf_yen.specs.Internal.Splits.{IsFilteredTo, IsCheapestAlong, HasNoneAlong, IsSplit, IsPastInClass};
 
+use crate::adjacency::Adjacency;
 use crate::candidate::Candidate;
-use crate::known::Known;
-use crate::narrowed::Narrowed;
+use crate::filtered::FilteredGraph;
 use pf_base::utils::Tally;
 use pf_base::{Cost, PathError};
-use pf_core::cheapest::cheapest_path;
+use pf_core::dijkstra::cheapest_path;
 use std::alloc::Allocator;
 use std::mem;
 
@@ -23,26 +23,26 @@ use std::mem;
 /// banned numbers are moved out.
 pub fn least_of_class<C: Cost, A: Allocator + Copy>(
     alloc: A,
-    narrowed: &mut Narrowed<'_, C, A>,
+    filtered: &mut FilteredGraph<'_, C, A>,
     spur: usize,
 ) -> Result<Option<Candidate<C, A>>, PathError>
-    requires whole { IsWhole C.value narrowed.old.known.now }
-    requires some { 0 < length narrowed.old.known.now.rows }
-    requires wide { length narrowed.old.onward.items ≡ length narrowed.old.known.now.rows }
-    ensures known { narrowed.new.known.now ≡ narrowed.old.known.now }
-    ensures onward { narrowed.new.onward.items ≡ narrowed.old.onward.items }
-    ensures spur { narrowed.new.spur ≡ narrowed.old.spur }
-    ensures banned { OnOk result (narrowed.new.banned.items ≡ []) }
-    ensures least { IfOk result (λ answer. (q : List ℕ) → IsNarrowedTo narrowed.old.known.now narrowed.old.onward.items narrowed.old.spur q
-        → MatchOption answer (HasNoneAlong C.value narrowed.old.known.now q narrowed.old.banned.items)
-        (λ c. IsCheapestAlong C.value narrowed.old.known.now q narrowed.old.banned.items c.path.items c.cost)) }
-    ensures parts { IfOk result (λ answer. IfSome answer (λ c. (c.spur ≡ spur) × (c.banned.items ≡ narrowed.old.banned.items))) }
-    ensures overflow { result ≡ Err PathError.CostOverflow → IsPastFromStart C.value (graph_narrowed_by narrowed.old) C.fits }
+    requires whole { IsWhole C.value filtered.old.adjacency.now }
+    requires some { 0 < length filtered.old.adjacency.now.rows }
+    requires wide { length filtered.old.onward.items ≡ length filtered.old.adjacency.now.rows }
+    ensures adjacency { filtered.new.adjacency.now ≡ filtered.old.adjacency.now }
+    ensures onward { filtered.new.onward.items ≡ filtered.old.onward.items }
+    ensures spur { filtered.new.spur ≡ filtered.old.spur }
+    ensures banned { OnOk result (filtered.new.banned.items ≡ []) }
+    ensures least { IfOk result (λ answer. (q : List ℕ) → IsFilteredTo filtered.old.adjacency.now filtered.old.onward.items filtered.old.spur q
+        → MatchOption answer (HasNoneAlong C.value filtered.old.adjacency.now q filtered.old.banned.items)
+        (λ c. IsCheapestAlong C.value filtered.old.adjacency.now q filtered.old.banned.items c.path.items c.cost)) }
+    ensures parts { IfOk result (λ answer. IfSome answer (λ c. (c.spur ≡ spur) × (c.banned.items ≡ filtered.old.banned.items))) }
+    ensures overflow { result ≡ Err PathError.CostOverflow → IsPastFromStart C.value (graph_filtered_by filtered.old) C.fits }
     ensures errors { IfErr result (λ e. (e ≡ PathError.OutOfMemory) ⊎ (e ≡ PathError.CostOverflow)) }
 {
     let mut tally = Tally::new();
-    let answer = cheapest_path(alloc, narrowed, 0, &mut tally)?;
-    let banned = mem::replace(&mut narrowed.banned, Vec::new(alloc));
+    let answer = cheapest_path(alloc, filtered, 0, &mut tally)?;
+    let banned = mem::replace(&mut filtered.banned, Vec::new(alloc));
     match answer {
         None => Ok(None),
         Some((path, cost)) => Ok(Some(Candidate {
@@ -55,54 +55,54 @@ pub fn least_of_class<C: Cost, A: Allocator + Copy>(
 }
 
 /// The graph narrowed to the walks that begin as the path does, up to the place `spur`.
-fn narrowed_along<'k, C: Cost, A: Allocator + Copy>(
+fn filtered_along<'k, C: Cost, A: Allocator + Copy>(
     alloc: A,
-    known: &'k Known<C, A>,
+    adjacency: &'k Adjacency<C, A>,
     path: &[usize],
     spur: usize,
-) -> Result<Narrowed<'k, C, A>, PathError>
-    requires whole { IsWhole C.value known.now }
-    requires some { 0 < length known.now.rows }
-    requires clean { (u : ℤ) × IsCleanNumbers C.value known.now path.now u }
+) -> Result<FilteredGraph<'k, C, A>, PathError>
+    requires whole { IsWhole C.value adjacency.now }
+    requires some { 0 < length adjacency.now.rows }
+    requires clean { (u : ℤ) × IsCleanNumbers C.value adjacency.now path.now u }
     requires inside { spur < length path.now }
-    ensures known { IfOk result (λ narrowed. narrowed.known.now ≡ known.now) }
-    ensures wide { IfOk result (λ narrowed. length narrowed.onward.items ≡ length known.now.rows) }
-    ensures banned { IfOk result (λ narrowed. narrowed.banned.items ≡ []) }
-    ensures narrowed { IfOk result (λ narrowed. IsNarrowedTo known.now narrowed.onward.items narrowed.spur (take spur (drop 1 path.now))) }
+    ensures adjacency { IfOk result (λ filtered. filtered.adjacency.now ≡ adjacency.now) }
+    ensures wide { IfOk result (λ filtered. length filtered.onward.items ≡ length adjacency.now.rows) }
+    ensures banned { IfOk result (λ filtered. filtered.banned.items ≡ []) }
+    ensures filtered { IfOk result (λ filtered. IsFilteredTo adjacency.now filtered.onward.items filtered.spur (take spur (drop 1 path.now))) }
     ensures refused { IfErr result (λ e. e ≡ PathError.OutOfMemory) }
 {
-    let mut narrowed = Narrowed::new(alloc, known)?;
+    let mut filtered = FilteredGraph::new(alloc, adjacency)?;
     'places: for place in 0..spur {
-        narrowed.go_on(path[place + 1]);
+        filtered.go_on(path[place + 1]);
     }
-    Ok(narrowed)
+    Ok(filtered)
 }
 
 /// Splits the class of a candidate whose path was given: cheapest paths of the classes that have the
 /// rest of its paths. A class without a path is left out.
 pub fn split<C: Cost, A: Allocator + Copy>(
     alloc: A,
-    known: &Known<C, A>,
+    adjacency: &Adjacency<C, A>,
     candidate: &Candidate<C, A>,
 ) -> Result<Vec<Candidate<C, A>, A>, PathError>
-    requires whole { IsWhole C.value known.now }
-    requires some { 0 < length known.now.rows }
-    requires cheapest { IsCheapestOfClass C.value known.now (plan_of candidate.now) }
-    ensures split { IfOk result (λ plans. IsSplit C.value known.now (plan_of candidate.now) (map plan_of plans.items)) }
-    ensures overflow { result ≡ Err PathError.CostOverflow → IsPastInClass C.value known.now C.fits (plan_of candidate.now) }
+    requires whole { IsWhole C.value adjacency.now }
+    requires some { 0 < length adjacency.now.rows }
+    requires cheapest { IsCheapestOfClass C.value adjacency.now (plan_of candidate.now) }
+    ensures split { IfOk result (λ plans. IsSplit C.value adjacency.now (plan_of candidate.now) (map plan_of plans.items)) }
+    ensures overflow { result ≡ Err PathError.CostOverflow → IsPastInClass C.value adjacency.now C.fits (plan_of candidate.now) }
     ensures errors { IfErr result (λ e. (e ≡ PathError.OutOfMemory) ⊎ (e ≡ PathError.CostOverflow)) }
 {
     candidate.cost.known();
-    let mut narrowed = narrowed_along(alloc, known, &candidate.path, candidate.spur)?;
-    narrowed.banned.extend_from_slice(&candidate.banned)?;
+    let mut filtered = filtered_along(alloc, adjacency, &candidate.path, candidate.spur)?;
+    filtered.banned.extend_from_slice(&candidate.banned)?;
     let mut plans = Vec::new(alloc);
     'places: for place in candidate.spur..candidate.path.len() - 1 {
         let next = candidate.path[place + 1];
-        narrowed.banned.push(next)?;
-        if let Some(plan) = least_of_class(alloc, &mut narrowed, place)? {
+        filtered.banned.push(next)?;
+        if let Some(plan) = least_of_class(alloc, &mut filtered, place)? {
             plans.push(plan)?;
         }
-        narrowed.go_on(next);
+        filtered.go_on(next);
     }
     Ok(plans)
 }

@@ -1,13 +1,13 @@
 //! The cheapest paths of a graph that functions answer, one after the other.
 #![tactic(auto)]
 
+mod adjacency;
 mod candidate;
+mod candidates;
 mod classes;
 pub mod directed;
+mod explore;
+mod filtered;
 mod given;
-mod known;
 pub mod laws;
-mod learn;
-mod narrowed;
-mod plans;
 mod standing;

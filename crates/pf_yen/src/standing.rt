@@ -2,7 +2,7 @@
 
 ghost use Rattle.std.specs.Prelude.{◌≡◌, ◌↔◌, false, true, IsErrOf};
 ghost use Rattle.std.specs.Result.{is_err};
-ghost use Rattle.pf_yen.specs.Standing.{is_barred, was_refused};
+ghost use Rattle.pf_yen.specs.Internal.Standing.{is_barred, was_refused};
 
 use pf_base::PathError;
 

@@ -2,3 +2,4 @@ pub mod Rows
 pub mod Compact
 pub mod Grid
 pub mod Rings
+pub mod Moves

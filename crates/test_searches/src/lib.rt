@@ -10,6 +10,8 @@ mod compact;
 mod fewest;
 #[cfg(test)]
 mod grid;
+// Not for tests alone: specs/ has a word on its type.
+mod jugs;
 #[cfg(test)]
 mod list;
 #[cfg(test)]

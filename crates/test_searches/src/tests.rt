@@ -6,6 +6,7 @@ mod errors;
 mod fewest;
 mod graphs;
 mod grid;
+mod jugs;
 mod kinds;
 mod list;
 mod loops;

@@ -1,11 +1,11 @@
 -- Potentials that are exact at the matched pairs prove the assignment best.
-use Rattle.std.proofs.Common.{ℕ, zero, suc, ◌+◌, ◌*◌, ◌<◌, ◌≡◌, ◌≢◌, refl, sym, ◌∙◌, ap, subst, arith, inl, inr, ℤ, List, length, ◌++◌, ◌∷◌, [], Option, Some, None}
+use Rattle.std.proofs.Common.{ℕ, zero, suc, ◌+◌, ◌*◌, ◌<◌, ◌≡◌, ◌≢◌, refl, sym, ◌∙◌, ap, subst, arith, inl, inr, ℤ, List, length, Option, Some, None}
 use Rattle.std.specs.Prelude.{◌⊎◌, ◌≤ℤ◌, ◌+ℤ◌, pos, neg_ℤ, slice_index}
 use Rattle.std.proofs.lemmas.Int.{ints}
 use Rattle.std.proofs.lemmas.Bool.{cases_eq}
 use Rattle.pf_graph.specs.Assignments.{number, NumberTable, sum_to, IsAssignment, assignment_total, IsBestAssignment, IsLeastAssignment, IsNegatedTable, IsGreatestWeight, WeightsFit}
-use Rattle.pf_graph.specs.Internal.Assignment.AssignmentSteps.{holder, IsMatching, IsPotential, IsMatched, IsNext}
-use Rattle.pf_graph.proofs.Assignment.MatchingNumbers.{below_or_last, number-push_last, number-push_other}
+use Rattle.pf_graph.specs.Internal.Assignment.AssignmentSteps.{holder, IsMatching, IsPotential, IsMatched}
+use Rattle.pf_graph.proofs.Assignment.MatchingNumbers.{below_or_last}
 use Rattle.pf_graph.proofs.Assignment.MatchingWeights.{IsInterval, room, sum_to-bound}
 
 pub sum_to-le : (f g : ℕ → ℤ) (n : ℕ) → ((r : ℕ) → r < n → f r ≤ℤ g r) → sum_to f n ≤ℤ sum_to g n
@@ -148,32 +148,6 @@ module _ {C : Type 0} {value : C → ℤ} {t : NumberTable} {column_of : List �
         (λ r s l o. h.once r s (omega (arith, l, e)) (omega (arith, o, e))));
   }
 
-  -- the next row, with potential 0
-  pub next_of : length column_of < t.rows → length us ≡ length column_of → (x : C) → value x ≡ pos 0 → IsNext value t column_of row_of (us ++ x ∷ []) vs
-  next_of left rows x zero_x = record {
-    matched = record {
-      matching = matched.matching;
-      potential = record {
-        above = λ i j h g. subst (λ (z : ℤ). t.at i j ≤ℤ (z +ℤ number value vs j)) (sym (kept i h)) (matched.potential.above i j h g);
-        tight = λ i h. subst (λ (z : ℤ). z +ℤ number value vs (slice_index column_of i) ≡ t.at i (slice_index column_of i)) (sym (kept i h)) (matched.potential.tight i h);
-        non_negative = matched.potential.non_negative;
-        free = matched.potential.free;
-      };
-      wide = matched.wide;
-      columns = matched.columns;
-    };
-    left = left;
-    rows = length_one us x ∙ ap (λ k. k + 1) rows;
-    root = subst (λ k. number value (us ++ x ∷ []) k ≡ pos 0) rows (number-push_last value us x ∙ zero_x);
-  }
-    where
-      kept : (i : ℕ) → i < length column_of → number value (us ++ x ∷ []) i ≡ number value us i
-      kept i h = number-push_other value us x i (omega (arith, h, rows))
-
-      length_one : (xs : List C) (x : C) → length (xs ++ x ∷ []) ≡ length xs + 1
-      length_one [] x = refl
-      length_one (y ∷ ys) x = omega (arith, length_one ys x)
-
 -- the negated table
 module _ (t n : NumberTable) (negated : IsNegatedTable t n) where
   pub greatest_negated : (w : ℕ) → IsGreatestWeight t w → IsGreatestWeight n w
@@ -244,8 +218,8 @@ negation_fits fits interval t fit r c h l =
     room fits interval t fit 1 (omega arith) _ (omega (arith, ints, b1)) (omega (arith, ints, b0))
 
 -- no row is matched yet
-pub matched_none : {C : Type 0} (value : C → ℤ) (t : NumberTable) (column_of : List ℕ) (row_of : List (Option ℕ)) (us vs : List C) → length column_of ≡ 0 → length row_of ≡ t.columns → length vs ≡ t.columns → ((j : ℕ) → holder row_of j ≡ None) → ((j : ℕ) → number value vs j ≡ pos 0) → IsMatched value t column_of row_of us vs
-matched_none value t column_of row_of us vs none wide long free zero_at = record {
+pub matched_none : {C : Type 0} (value : C → ℤ) (t : NumberTable) (column_of : List ℕ) (row_of : List (Option ℕ)) (us vs : List C) → length column_of ≡ 0 → length row_of ≡ t.columns → length vs ≡ t.columns → length us ≡ length column_of → ((j : ℕ) → holder row_of j ≡ None) → ((j : ℕ) → number value vs j ≡ pos 0) → IsMatched value t column_of row_of us vs
+matched_none value t column_of row_of us vs none wide long rows free zero_at = record {
   matching = record {
     inside = λ i h. absurd (omega arith);
     back = λ i h. absurd (omega arith);
@@ -259,6 +233,7 @@ matched_none value t column_of row_of us vs none wide long free zero_at = record
   };
   wide = wide;
   columns = long;
+  rows = rows;
 }
   where
     none_some : (i : ℕ) → None ≡ Some i → ⊥

@@ -1,34 +1,29 @@
 -- All numbers of a search are within six times the greatest absolute weight.
-use Rattle.std.proofs.Common.{ℕ, ◌*◌, ◌<◌, ◌≤◌, ◌≡◌, refl, sym, ◌∙◌, subst, arith, Bool, true, false, List, length, inl, inr, ℤ, Option, Some, None}
+use Rattle.std.proofs.Common.{ℕ, ◌*◌, ◌<◌, ◌≡◌, refl, sym, ◌∙◌, subst, arith, Bool, true, false, List, length, inl, inr, ℤ, Option, Some, None}
 use Rattle.std.specs.Prelude.{◌≤ℤ◌, ◌+ℤ◌, ◌-ℤ◌, pos, neg_ℤ, slice_index}
 use Rattle.std.proofs.lemmas.Int.{ints}
 use Rattle.std.proofs.lemmas.Bool.{cases_Bool}
 use Rattle.pf_base.specs.Costs.{LiesBetween}
-use Rattle.pf_graph.specs.Assignments.{number, NumberTable, WeightsFit}
+use Rattle.pf_graph.specs.Assignments.{number, NumberTable}
 use Rattle.pf_graph.specs.Internal.Assignment.AssignmentSteps.{holder, flag, IsNearest, IsNext, IsTreeOf}
+use Rattle.pf_graph.proofs.Assignment.MatchingNumbers.{number-past}
 use Rattle.pf_graph.proofs.Assignment.MatchingWeights.{IsInterval, room_six}
 use Rattle.pf_graph.proofs.Assignment.MatchingCount.{free_column}
 
-module _ {C : Type 0} {value : C → ℤ} {t : NumberTable} {column_of : List ℕ} {row_of : List (Option ℕ)} {us vs : List C} (fits : ℤ → Type 0) (interval : IsInterval fits) (fit : WeightsFit fits t) (shape : t.rows ≤ t.columns) (next : IsNext value t column_of row_of us vs) where
-  w : ℕ
-  w = fit.greatest
-
-  n : ℕ
-  n = length column_of
-
-  fitting : (z : ℤ) → neg_ℤ (pos (6 * fit.greatest)) ≤ℤ z → z ≤ℤ pos (6 * fit.greatest) → fits z
-  fitting = room_six fits interval t fit (let l = next.left in omega (arith, l))
+module _ {C : Type 0} {value : C → ℤ} {t : NumberTable} {column_of : List ℕ} {row_of : List (Option ℕ)} {us vs : List C} (fits : ℤ → Type 0) (interval : IsInterval fits) (next : IsNext value t column_of row_of us vs fits) where
+  fitting : (z : ℤ) → neg_ℤ (pos (6 * next.fit.greatest)) ≤ℤ z → z ≤ℤ pos (6 * next.fit.greatest) → fits z
+  fitting = room_six fits interval t next.fit (let l = next.left in omega (arith, l))
 
   pub free : (j : ℕ) × (j < t.columns) × (holder row_of j ≡ None)
-  free = free_column (length column_of) t.columns (slice_index column_of) (holder row_of) next.matched.matching (let l = next.left in omega (arith, l, shape))
+  free = free_column (length column_of) t.columns (slice_index column_of) (holder row_of) next.matched.matching (let l = next.left in let s = next.shape in omega (arith, l, s))
 
-  bounded : (r j : ℕ) → r < t.rows → j < t.columns → LiesBetween (neg_ℤ (pos fit.greatest)) (pos fit.greatest) (t.at r j)
-  bounded = fit.is_greatest.bound
+  bounded : (r j : ℕ) → r < t.rows → j < t.columns → LiesBetween (neg_ℤ (pos next.fit.greatest)) (pos next.fit.greatest) (t.at r j)
+  bounded = next.fit.is_greatest.bound
 
   earlier : (i : ℕ) → i < length column_of → i < t.rows
   earlier i h = let l = next.left in omega (arith, l, h)
 
-  u_low : (i : ℕ) → i < length column_of → neg_ℤ (pos fit.greatest) ≤ℤ number value us i
+  u_low : (i : ℕ) → i < length column_of → neg_ℤ (pos next.fit.greatest) ≤ℤ number value us i
   u_low i h =
       let f = free in
       let a = next.matched.potential.above i f.0 h f.1 in
@@ -36,7 +31,7 @@ module _ {C : Type 0} {value : C → ℤ} {t : NumberTable} {column_of : List �
       let b = (bounded i f.0 (earlier i h) f.1).0 in
       omega (arith, ints, a, z, b)
 
-  u_high : (i : ℕ) → i < length column_of → number value us i ≤ℤ pos fit.greatest
+  u_high : (i : ℕ) → i < length column_of → number value us i ≤ℤ pos next.fit.greatest
   u_high i h =
       let c = next.matched.matching.inside i h in
       let e = next.matched.potential.tight i h in
@@ -47,10 +42,10 @@ module _ {C : Type 0} {value : C → ℤ} {t : NumberTable} {column_of : List �
   v_low : (j : ℕ) → j < t.columns → pos 0 ≤ℤ number value vs j
   v_low = next.matched.potential.non_negative
 
-  v_high : (j : ℕ) → j < t.columns → number value vs j ≤ℤ pos (2 * fit.greatest)
+  v_high : (j : ℕ) → j < t.columns → number value vs j ≤ℤ pos (2 * next.fit.greatest)
   v_high j h = by (holder row_of j) refl
     where
-      by : (o : Option ℕ) → holder row_of j ≡ o → number value vs j ≤ℤ pos (2 * fit.greatest)
+      by : (o : Option ℕ) → holder row_of j ≡ o → number value vs j ≤ℤ pos (2 * next.fit.greatest)
       by None e = let z = next.matched.potential.free j h e in omega (arith, ints, z)
       by (Some i) e =
           let m = next.matched.matching.from i j e in
@@ -61,7 +56,7 @@ module _ {C : Type 0} {value : C → ℤ} {t : NumberTable} {column_of : List �
           omega (arith, ints, tight, l, b)
 
   -- a column of the table at the root
-  root_bound : (j : ℕ) → j < t.columns → LiesBetween (neg_ℤ (pos fit.greatest)) (pos fit.greatest) (t.at (length column_of) j)
+  root_bound : (j : ℕ) → j < t.columns → LiesBetween (neg_ℤ (pos next.fit.greatest)) (pos next.fit.greatest) (t.at (length column_of) j)
   root_bound j h = bounded (length column_of) j next.left h
 
   pub column_negation : (j : ℕ) → j < t.columns → fits (neg_ℤ (number value vs j))
@@ -86,23 +81,23 @@ module _ {C : Type 0} {value : C → ℤ} {t : NumberTable} {column_of : List �
       | inr g ↦ g
     ]
 
-    d_low : (j : ℕ) → j < t.columns → neg_ℤ (pos fit.greatest) ≤ℤ number value ds j
-    d_low = tree.tree.low fit.greatest (λ j h. (root_bound j h).1)
+    d_low : (j : ℕ) → j < t.columns → neg_ℤ (pos next.fit.greatest) ≤ℤ number value ds j
+    d_low = tree.tree.low next.fit.greatest (λ j h. (root_bound j h).1)
 
-    free_high : number value ds free.0 ≤ℤ pos fit.greatest
+    free_high : number value ds free.0 ≤ℤ pos next.fit.greatest
     free_high =
         let f = free in
         let b = subst (λ (r : ℕ). (number value ds f.0 +ℤ t.at r f.0) ≤ℤ (pos 0 +ℤ number value us r +ℤ number value vs f.0)) tree.tree.first (tree.tree.below 0 f.0 tree.tree.rooted f.1) in
-        let u = next.root in
+        let u = number-past value us (length column_of) next.matched.rows in
         let z = next.matched.potential.free f.0 f.1 f.2 in
         let r = (root_bound f.0 f.1).0 in
         omega (arith, ints, b, u, z, r)
 
-    d_high : (j : ℕ) → j < t.columns → flag visited j ≡ true → number value ds j ≤ℤ pos fit.greatest
+    d_high : (j : ℕ) → j < t.columns → flag visited j ≡ true → number value ds j ≤ℤ pos next.fit.greatest
     d_high j h g = let l = free_high in let m = tree.tree.near j free.0 h free.1 g (unvisited free.0 free.2) in omega (arith, ints, l, m)
 
     module _ (c : ℕ) (nearest : IsNearest t.columns (flag visited) (number value ds) c) where
-      c_high : number value ds c ≤ℤ pos fit.greatest
+      c_high : number value ds c ≤ℤ pos next.fit.greatest
       c_high = let l = free_high in let m = nearest.least free.0 free.1 (unvisited free.0 free.2) in omega (arith, ints, l, m)
 
       pub row_negation : (i : ℕ) → i < length column_of → fits (neg_ℤ (number value us i))

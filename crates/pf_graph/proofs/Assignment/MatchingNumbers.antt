@@ -1,6 +1,6 @@
 -- Lemmas on the numbers of a list of costs, and on places in lists.
 use Rattle.std.proofs.Common.{ℕ, zero, suc, ◌+◌, ◌<◌, ◌≡◌, ◌≢◌, refl, sym, ◌∙◌, ap, arith, Bool, true, false, List, [], ◌∷◌, ◌++◌, length, get_or, inl, inr, ℤ, true≢false}
-use Rattle.std.specs.Prelude.{slice_set, MatchBool, ◌⊎◌, ◌≤ℤ◌, ◌+ℤ◌}
+use Rattle.std.specs.Prelude.{slice_set, MatchBool, ◌⊎◌, ◌≤ℤ◌, ◌+ℤ◌, pos}
 use Rattle.std.proofs.lemmas.Bool.{cases_eq}
 use Rattle.pf_graph.specs.Assignments.{number}
 use Rattle.pf_graph.specs.Internal.Assignment.AssignmentSteps.{flag, raised}
@@ -37,6 +37,12 @@ module _ {C : Type 0} (value : C → ℤ) where
   number-set_other (y ∷ xs) zero (suc j) x h = refl
   number-set_other (y ∷ xs) (suc k) zero x h = refl
   number-set_other (y ∷ xs) (suc k) (suc j) x h = number-set_other xs k j x (λ e. h (ap suc e))
+
+  -- behind the end there is no number
+  pub number-past : (xs : List C) (j : ℕ) → length xs ≡ j → number value xs j ≡ pos 0
+  number-past [] j e = refl
+  number-past (y ∷ xs) zero e = absurd (omega (arith, e))
+  number-past (y ∷ xs) (suc j) e = number-past xs j (omega (arith, e))
 
   pub number-push_last : (xs : List C) (x : C) → number value (xs ++ x ∷ []) (length xs) ≡ value x
   number-push_last [] x = refl

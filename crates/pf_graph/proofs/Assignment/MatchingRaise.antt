@@ -3,10 +3,10 @@ use Rattle.std.proofs.Common.{List, length, get_or, ◌++◌, ◌∷◌, [], ℕ
 use Rattle.std.specs.Prelude.{◌≤ℤ◌, ◌+ℤ◌, ◌-ℤ◌, pos, neg_ℤ, slice_index, slice_set}
 use Rattle.std.proofs.lemmas.Int.{ints}
 use Rattle.std.proofs.lemmas.Bool.{cases_eq, cases_Bool}
-use Rattle.std.proofs.lemmas.List.{get_or-set_same, get_or-set_other, get_or_push, get_or_append_left}
+use Rattle.std.proofs.lemmas.List.{get_or-set_same, get_or-set_other, get_or_push, get_or_append_left, length-append, length-set}
 use Rattle.pf_graph.specs.Assignments.{number, NumberTable}
-use Rattle.pf_graph.specs.Internal.Assignment.AssignmentSteps.{holder, flag, IsMatched, IsNext, IsTreeOf, IsAlternatingTree, IsMatching, IsPotential, IsShortestPathTree, IsNearest, IsOnTree, IsFlipped, reach, raised}
-use Rattle.pf_graph.proofs.Assignment.MatchingNumbers.{below_or_last, raised_true, raised_false, number-at, number-set_same, number-set_other}
+use Rattle.pf_graph.specs.Internal.Assignment.AssignmentSteps.{holder, flag, IsMatched, IsTreeOf, IsAlternatingTree, IsMatching, IsPotential, IsShortestPathTree, IsNearest, IsOnTree, IsFlipped, reach, raised}
+use Rattle.pf_graph.proofs.Assignment.MatchingNumbers.{below_or_last, raised_true, raised_false, number-at, number-past, number-push_last, number-push_other}
 use Rattle.pf_graph.proofs.Assignment.AugmentingPath.{flip_ends}
 
 module _ (a : ℕ → ℕ → ℤ) (n columns : ℕ) (col : ℕ → ℕ) (held : ℕ → Option ℕ) (u v : ℕ → ℤ) (matching : IsMatching n columns col held) (potential : IsPotential a n columns col held u v) (root : u n ≡ pos 0) (count : ℕ) (rows : ℕ → ℕ) (visited : ℕ → Bool) (d : ℕ → ℤ) (place : ℕ → ℕ) (tree : IsShortestPathTree a n columns col held u v count rows visited d place) (c : ℕ) (nearest : IsNearest columns visited d c) (u' v' : ℕ → ℤ) (lowered : (i : ℕ) → i < n → u' i ≡ raised (visited (col i)) (u i) (neg_ℤ (d c -ℤ d (col i)))) (lowest : u' n ≡ neg_ℤ (d c)) (lifted : (j : ℕ) → j < columns → v' j ≡ raised (visited j) (v j) (d c -ℤ d j)) where
@@ -118,10 +118,10 @@ pub nearest_number : {C : Type 0} {value : C → ℤ} {t : NumberTable} {column_
     → IsTreeOf value t column_of row_of us vs rows visited ds places → (c : ℕ) → IsNearest t.columns (flag visited) (number value ds) c → (x : C) → x ≡ get_or ds c x → number value ds c ≡ value x
 nearest_number {value = value} {ds = ds} tree c nearest x e = let i = nearest.inside in let q = tree.distances_len in number-at value ds c x (omega (arith, i, q)) e
 
-module _ {C : Type 0} {value : C → ℤ} {t : NumberTable} {column_of : List ℕ} {row_of : List (Option ℕ)} {us vs : List C} (next : IsNext value t column_of row_of us vs) {rows : List ℕ} {visited : List Bool} {ds : List C} {places : List ℕ} (tree : IsTreeOf value t column_of row_of us vs rows visited ds places) where
+module _ {C : Type 0} {value : C → ℤ} {t : NumberTable} {column_of : List ℕ} {row_of : List (Option ℕ)} {us vs : List C} (matched : IsMatched value t column_of row_of us vs) {rows : List ℕ} {visited : List Bool} {ds : List C} {places : List ℕ} (tree : IsTreeOf value t column_of row_of us vs rows visited ds places) where
   pub rooted_of : IsAlternatingTree (length column_of) (length row_of) (length rows) (slice_index column_of) (slice_index rows) (slice_index places)
   rooted_of =
-      let wide = next.matched.wide in record {
+      let wide = matched.wide in record {
         rooted = tree.tree.rooted;
         row = λ p h g. (tree.tree.row p h g).0;
         once = tree.tree.once;
@@ -130,37 +130,29 @@ module _ {C : Type 0} {value : C → ℤ} {t : NumberTable} {column_of : List �
       }
 
   -- the lists after the tree was taken up and its root was matched
-  pub augment_lists : (c : ℕ) → IsNearest t.columns (flag visited) (number value ds) c → (vs' us' : List C) (low : C) → value low ≡ neg_ℤ (number value ds c) → ((j : ℕ) → j < length vs → number value vs' j ≡ raised (flag visited j) (number value vs j) (number value ds c -ℤ number value ds j)) → length vs' ≡ length vs → ((i : ℕ) → i < length column_of → number value us' i ≡ raised (flag visited (slice_index column_of i)) (number value us i) (neg_ℤ (number value ds c -ℤ number value ds (slice_index column_of i)))) → length us' ≡ length us → (column_of' : List ℕ) (row_of' : List (Option ℕ)) (left : ℕ) → IsFlipped (length column_of) (length row_of) (length rows) c (slice_index column_of) (holder row_of) (slice_index rows) (slice_index places) (slice_index column_of') (holder row_of') left → slice_index places left ≡ 0 → length column_of' ≡ length column_of → length row_of' ≡ length row_of → IsMatched value t (column_of' ++ left ∷ []) (slice_set row_of' left (Some (length column_of))) (slice_set us' (length column_of) low) vs'
+  pub augment_lists : (c : ℕ) → IsNearest t.columns (flag visited) (number value ds) c → (vs' us' : List C) (low : C) → value low ≡ neg_ℤ (number value ds c) → ((j : ℕ) → j < length vs → number value vs' j ≡ raised (flag visited j) (number value vs j) (number value ds c -ℤ number value ds j)) → length vs' ≡ length vs → ((i : ℕ) → i < length column_of → number value us' i ≡ raised (flag visited (slice_index column_of i)) (number value us i) (neg_ℤ (number value ds c -ℤ number value ds (slice_index column_of i)))) → length us' ≡ length us → (column_of' : List ℕ) (row_of' : List (Option ℕ)) (left : ℕ) → IsFlipped (length column_of) (length row_of) (length rows) c (slice_index column_of) (holder row_of) (slice_index rows) (slice_index places) (slice_index column_of') (holder row_of') left → slice_index places left ≡ 0 → length column_of' ≡ length column_of → length row_of' ≡ length row_of → IsMatched value t (column_of' ++ left ∷ []) (slice_set row_of' left (Some (length column_of))) (us' ++ low ∷ []) vs'
   augment_lists c nearest vs' us' low lowest lifted vs_len lowered us_len column_of' row_of' left flipped last column_len row_len =
       let n = length column_of in
-      let wide = next.matched.wide in
-      let vl = next.matched.columns in
-      let ul = next.rows in
+      let wide = matched.wide in
+      let vl = matched.columns in
+      let ul = us_len ∙ matched.rows in
       let within = flipped.within in
       let so = subst (λ k. IsFlipped (length column_of) k (length rows) c (slice_index column_of) (holder row_of) (slice_index rows) (slice_index places) (slice_index column_of') (holder row_of') left) wide flipped in
       let set_col : slice_index (column_of' ++ left ∷ []) (length column_of) ≡ left = subst (λ (k : ℕ). slice_index (column_of' ++ left ∷ []) k ≡ left) column_len (get_or_push column_of' left 0 (length column_of') refl) in
       let keep_col = λ (i : ℕ) (h : i < length column_of). get_or_append_left column_of' (left ∷ []) 0 i (omega (arith, h, column_len)) in
       let set_held = get_or-set_same row_of' left (Some (length column_of)) None (omega (arith, within, row_len)) in
       let keep_held = λ (j : ℕ) (d : j ≢ left). get_or-set_other row_of' left j (Some (length column_of)) None d in
-      let more : length (column_of' ++ left ∷ []) ≡ length column_of + 1 = length_one column_of' left ∙ ap (λ k. k + 1) column_len in
+      let more : length (column_of' ++ left ∷ []) ≡ length column_of + 1 = length-append column_of' (left ∷ []) ∙ ap (λ k. k + 1) column_len in
       let matching = flip_ends (length column_of) t.columns (length rows) c (slice_index column_of) (holder row_of) (slice_index rows) (slice_index places) (slice_index column_of') (holder row_of') left so (slice_index (column_of' ++ left ∷ [])) (holder (slice_set row_of' left (Some (length column_of)))) set_col keep_col set_held keep_held in
-      let potential = potential_raised t.at (length column_of) t.columns (slice_index column_of) (holder row_of) (number value us) (number value vs) next.matched.matching next.matched.potential next.root (length rows) (slice_index rows) (flag visited) (number value ds) (slice_index places) tree.tree c nearest (number value (slice_set us' (length column_of) low)) (number value vs')
-      (λ i h. number-set_other value us' (length column_of) i low (λ e. omega (arith, e, h)) ∙ lowered i h)
-      (number-set_same value us' (length column_of) low (omega (arith, us_len, ul)) ∙ lowest)
+      let potential = potential_raised t.at (length column_of) t.columns (slice_index column_of) (holder row_of) (number value us) (number value vs) matched.matching matched.potential (number-past value us (length column_of) matched.rows) (length rows) (slice_index rows) (flag visited) (number value ds) (slice_index places) tree.tree c nearest (number value (us' ++ low ∷ [])) (number value vs')
+      (λ i h. number-push_other value us' low i (omega (arith, h, ul)) ∙ lowered i h)
+      (subst (λ k. number value (us' ++ low ∷ []) k ≡ neg_ℤ (number value ds c)) ul (number-push_last value us' low ∙ lowest))
       (λ j h. lifted j (omega (arith, h, vl)))
       (slice_index column_of') (holder row_of') left so last (slice_index (column_of' ++ left ∷ [])) (holder (slice_set row_of' left (Some (length column_of)))) set_col keep_col set_held keep_held in
       record {
         matching = subst (λ k. IsMatching k t.columns (slice_index (column_of' ++ left ∷ [])) (holder (slice_set row_of' left (Some (length column_of))))) (sym more) matching;
-        potential = subst (λ k. IsPotential t.at k t.columns (slice_index (column_of' ++ left ∷ [])) (holder (slice_set row_of' left (Some (length column_of)))) (number value (slice_set us' (length column_of) low)) (number value vs')) (sym more) potential;
-        wide = length_set row_of' left (Some (length column_of)) ∙ row_len ∙ wide;
+        potential = subst (λ k. IsPotential t.at k t.columns (slice_index (column_of' ++ left ∷ [])) (holder (slice_set row_of' left (Some (length column_of)))) (number value (us' ++ low ∷ [])) (number value vs')) (sym more) potential;
+        wide = length-set row_of' left (Some (length column_of)) ∙ row_len ∙ wide;
         columns = vs_len ∙ vl;
+        rows = length-append us' (low ∷ []) ∙ ap (λ k. k + 1) ul ∙ sym more;
       }
-    where
-      length_one : (xs : List ℕ) (x : ℕ) → length (xs ++ x ∷ []) ≡ length xs + 1
-      length_one [] x = refl
-      length_one (y ∷ ys) x = omega (arith, length_one ys x)
-
-      length_set : (xs : List (Option ℕ)) (k : ℕ) (x : Option ℕ) → length (slice_set xs k x) ≡ length xs
-      length_set [] k x = refl
-      length_set (y ∷ ys) zero x = refl
-      length_set (y ∷ ys) (suc k) x = ap suc (length_set ys k x)

@@ -3,11 +3,11 @@ use Rattle.std.proofs.Common.{List, length, ◌++◌, ◌∷◌, [], ℕ, zero, 
 use Rattle.std.specs.Prelude.{◌⊎◌, ◌≤ℤ◌, ◌<ℤ◌, ◌+ℤ◌, ◌-ℤ◌, pos, neg_ℤ, slice_index, slice_set}
 use Rattle.std.proofs.lemmas.Int.{ints}
 use Rattle.std.proofs.lemmas.Bool.{cases_eq, cases_Bool}
-use Rattle.std.proofs.lemmas.List.{get_or-set_same, get_or-set_other, get_or_push, get_or_append_left}
+use Rattle.std.proofs.lemmas.List.{get_or-set_same, get_or-set_other, get_or_push, get_or_append_left, length-append}
 use Rattle.pf_graph.specs.Assignments.{number, NumberTable}
-use Rattle.pf_graph.specs.Internal.Assignment.AssignmentSteps.{holder, flag, IsNext, IsTreeOf, IsMatching, IsPotential, IsShortestPathTree, IsNearest, IsRelaxed, IsScanned, IsFresh, reach}
+use Rattle.pf_graph.specs.Internal.Assignment.AssignmentSteps.{holder, flag, IsMatched, IsTreeOf, IsMatching, IsPotential, IsShortestPathTree, IsNearest, IsRelaxed, IsScanned, IsFresh, reach}
 use Rattle.pf_graph.proofs.Assignment.MatchingCount.{injective_le}
-use Rattle.pf_graph.proofs.Assignment.MatchingNumbers.{below_or_last}
+use Rattle.pf_graph.proofs.Assignment.MatchingNumbers.{below_or_last, number-past}
 
 pub reach-positive : (d : ℕ → ℤ) (col rows : ℕ → ℕ) (p : ℕ) → 0 < p → reach d col rows p ≡ d (col (rows p))
 reach-positive d col rows zero h = absurd (omega (arith, h))
@@ -210,12 +210,12 @@ module _ (a : ℕ → ℕ → ℤ) (n columns : ℕ) (col : ℕ → ℕ) (held :
                   (subst (λ (z : ℤ). d' j +ℤ a i j ≡ z +ℤ u i +ℤ v j) (sym last_reach) (omega (arith, ints, e, sum))),
             )
 
-module _ {C : Type 0} {value : C → ℤ} {t : NumberTable} {column_of : List ℕ} {row_of : List (Option ℕ)} {us vs : List C} (next : IsNext value t column_of row_of us vs) where
+module _ {C : Type 0} {value : C → ℤ} {t : NumberTable} {column_of : List ℕ} {row_of : List (Option ℕ)} {us vs : List C} (matched : IsMatched value t column_of row_of us vs) where
   -- the tree of the root alone, as lists
   pub tree_of_root : (rows : List ℕ) → rows ≡ length column_of ∷ [] → (top offset : ℤ) → offset ≡ pos 0 → ((j : ℕ) → j < t.columns → (offset +ℤ number value vs j -ℤ t.at (length column_of) j) ≤ℤ top) → (visited : List Bool) (ds ds' : List C) (places places' : List ℕ) → IsFresh top t.columns (flag visited) (number value ds) (slice_index places) → IsScanned t.at t.columns (length column_of) 0 offset (number value vs) (flag visited) (number value ds) (slice_index places) (number value ds') (slice_index places') → length visited ≡ t.columns → length ds' ≡ t.columns → length places' ≡ t.columns → IsTreeOf value t column_of row_of us vs rows visited ds' places'
   tree_of_root rows e top offset none far visited ds ds' places places' fresh scanned l m k =
       subst (λ xs. IsTreeOf value t column_of row_of us vs xs visited ds' places') (sym e) (record {
-        tree = tree_begins t.at (length column_of) t.columns (slice_index column_of) (holder row_of) (number value us) (number value vs) next.matched.matching next.matched.potential (slice_index (length column_of ∷ [])) refl next.root top offset none far (flag visited) (number value ds) (number value ds') (slice_index places) (slice_index places') fresh scanned;
+        tree = tree_begins t.at (length column_of) t.columns (slice_index column_of) (holder row_of) (number value us) (number value vs) matched.matching matched.potential (slice_index (length column_of ∷ [])) refl (number-past value us (length column_of) matched.rows) top offset none far (flag visited) (number value ds) (number value ds') (slice_index places) (slice_index places') fresh scanned;
         visited_len = l;
         distances_len = m;
         places_len = k;
@@ -225,8 +225,8 @@ module _ {C : Type 0} {value : C → ℤ} {t : NumberTable} {column_of : List �
   pub tree_of_more : (rows : List ℕ) (visited : List Bool) (ds : List C) (places : List ℕ) → IsTreeOf value t column_of row_of us vs rows visited ds places → (c i : ℕ) → IsNearest t.columns (flag visited) (number value ds) c → holder row_of c ≡ Some i → (offset : ℤ) → offset ≡ number value ds c +ℤ number value us i → (rows' : List ℕ) → rows' ≡ rows ++ i ∷ [] → (ds' : List C) (places' : List ℕ) → IsScanned t.at t.columns i (length rows) offset (number value vs) (flag (slice_set visited c true)) (number value ds) (slice_index places) (number value ds') (slice_index places') → length (slice_set visited c true) ≡ t.columns → length ds' ≡ t.columns → length places' ≡ t.columns → IsTreeOf value t column_of row_of us vs rows' (slice_set visited c true) ds' places'
   tree_of_more rows visited ds places tree c i nearest has offset sum rows' e ds' places' scanned l m k =
       subst (λ xs. IsTreeOf value t column_of row_of us vs xs (slice_set visited c true) ds' places') (sym e) (record {
-        tree = subst (λ n. IsShortestPathTree t.at (length column_of) t.columns (slice_index column_of) (holder row_of) (number value us) (number value vs) n (slice_index (rows ++ i ∷ [])) (flag (slice_set visited c true)) (number value ds') (slice_index places')) (sym (length_one rows i))
-            (tree_grows t.at (length column_of) t.columns (slice_index column_of) (holder row_of) (number value us) (number value vs) next.matched.matching next.matched.potential (length rows) (slice_index rows) (slice_index (rows ++ i ∷ [])) (flag visited) (flag (slice_set visited c true)) (number value ds) (number value ds') (slice_index places) (slice_index places') tree.tree c i nearest has offset sum
+        tree = subst (λ n. IsShortestPathTree t.at (length column_of) t.columns (slice_index column_of) (holder row_of) (number value us) (number value vs) n (slice_index (rows ++ i ∷ [])) (flag (slice_set visited c true)) (number value ds') (slice_index places')) (sym (length-append rows (i ∷ [])))
+            (tree_grows t.at (length column_of) t.columns (slice_index column_of) (holder row_of) (number value us) (number value vs) matched.matching matched.potential (length rows) (slice_index rows) (slice_index (rows ++ i ∷ [])) (flag visited) (flag (slice_set visited c true)) (number value ds) (number value ds') (slice_index places) (slice_index places') tree.tree c i nearest has offset sum
             (get_or-set_same visited c true false (let h = nearest.inside in let g = tree.visited_len in omega (arith, h, g)))
             (λ j d. get_or-set_other visited c j true false d)
             (get_or_push rows i 0 (length rows) refl)
@@ -236,10 +236,6 @@ module _ {C : Type 0} {value : C → ℤ} {t : NumberTable} {column_of : List �
         distances_len = m;
         places_len = k;
       })
-    where
-      length_one : (xs : List ℕ) (x : ℕ) → length (xs ++ x ∷ []) ≡ length xs + 1
-      length_one [] x = refl
-      length_one (y ∷ ys) x = omega (arith, length_one ys x)
 
   -- a tree has at most the root and the rows that are matched
   pub tree_count : {rows : List ℕ} {visited : List Bool} {ds : List C} {places : List ℕ} → IsTreeOf value t column_of row_of us vs rows visited ds places → length rows ≤ length column_of + 1

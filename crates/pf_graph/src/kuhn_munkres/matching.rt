@@ -2,8 +2,8 @@
 
 ghost use Rattle.std.specs.Prelude.{◌≡◌, ◌≤◌, ◌<◌, ◌+◌, ◌+ℤ◌, ℕ, pos, neg_ℤ, true, None, OnOk, IfOk, IfErr, length, slice_index};
 ghost use Rattle.pf_base.specs.declared.error.PathError.TheVariants.{OutOfMemory};
-ghost use Rattle.pf_graph.specs.Assignments.{number, WeightsFit};
-ghost use Rattle.pf_graph.specs.Internal.Assignment.AssignmentSteps.{gain, holder, flag, IsMatching, IsWide, IsMatchedIn, IsNextIn, IsTreeIn, IsNearestIn, IsAlternatingTree, AreRaised, AreLowered, LoweredFit, AreFlipped};
+ghost use Rattle.pf_graph.specs.Assignments.{number};
+ghost use Rattle.pf_graph.specs.Internal.Assignment.AssignmentSteps.{gain, holder, flag, IsMatching, IsWide, IsMatchedIn, IsNextIn, IsTreeTo, IsAlternatingTree, AreRaised, AreLowered, LoweredFit, AreFlipped};
 
 use crate::filled::filled;
 use crate::kuhn_munkres::numbers::plus;
@@ -56,15 +56,11 @@ impl<C: SignedCost, A: Allocator> Matching<C, A> {
     fn augment<W>(&mut self, weights: &W, tree: &Tree<C, A>, column: usize) -> Result<(), PathError>
     where
         W: Weights<C>,
-        requires shape { (W.table weights.now).rows ≤ (W.table weights.now).columns }
-        requires fit { WeightsFit C.fits (W.table weights.now) }
-        requires next { IsNextIn C.value (W.table weights.now) self.old }
-        requires tree { IsTreeIn C.value (W.table weights.now) self.old tree.now }
-        requires nearest { IsNearestIn C.value (W.table weights.now).columns tree.now column }
+        requires next { IsNextIn C.value (W.table weights.now) self.old C.fits }
+        requires tree { IsTreeTo C.value (W.table weights.now) self.old tree.now column }
         requires free { holder self.old.row_of.items column ≡ None }
         ensures matched { OnOk result (IsMatchedIn C.value (W.table weights.now) self.new) }
         ensures rows { OnOk result (length self.new.column_of.items ≡ length self.old.column_of.items + 1) }
-        ensures row_potentials { OnOk result (length self.new.row_potentials.items ≡ length self.old.row_potentials.items) }
         ensures refused { IfErr result (λ e. e ≡ OutOfMemory) }
     {
         let depth = tree.distances[column];
@@ -81,8 +77,7 @@ impl<C: SignedCost, A: Allocator> Matching<C, A> {
             &tree.distances,
             depth,
         );
-        let root = self.column_of.len();
-        self.row_potentials[root] = depth.negated();
+        self.row_potentials.push(depth.negated())?;
         let left = flip_path(
             &mut self.column_of,
             &mut self.row_of,
@@ -90,7 +85,7 @@ impl<C: SignedCost, A: Allocator> Matching<C, A> {
             &tree.places,
             column,
         );
-        self.row_of[left] = Some(root);
+        self.row_of[left] = Some(self.column_of.len());
         self.column_of.push(left)?;
         Ok(())
     }
@@ -104,21 +99,15 @@ impl<C: SignedCost, A: Allocator> Matching<C, A> {
     ) -> Result<(), PathError>
     where
         W: Weights<C>,
-        requires shape { (W.table weights.now).rows ≤ (W.table weights.now).columns }
-        requires fit { WeightsFit C.fits (W.table weights.now) }
-        requires matched { IsMatchedIn C.value (W.table weights.now) self.old }
-        requires left { length self.old.column_of.items < (W.table weights.now).rows }
-        requires row_potentials { length self.old.row_potentials.items ≡ length self.old.column_of.items }
+        requires next { IsNextIn C.value (W.table weights.now) self.old C.fits }
         requires wide { IsWide (W.table weights.now).columns tree.old }
         ensures matched { OnOk result (IsMatchedIn C.value (W.table weights.now) self.new) }
         ensures rows { OnOk result (length self.new.column_of.items ≡ length self.old.column_of.items + 1) }
-        ensures row_potentials { OnOk result (length self.new.row_potentials.items ≡ length self.new.column_of.items) }
         ensures wide { IsWide (W.table weights.now).columns tree.new }
         ensures refused { IfErr result (λ e. e ≡ OutOfMemory) }
         ensures ticked { tally.old ≤ tally.new }
         ensures rounds { tally.new ≤ tally.old + (W.table weights.now).rows }
     {
-        self.row_potentials.push(C::zero())?;
         let column = tree.grow(weights, self, tally)?;
         self.augment(weights, tree, column)
     }

@@ -1,9 +1,7 @@
 //! The tree of shortest augmenting paths from the row that is matched next.
 
-ghost use Rattle.std.specs.Prelude.{◌≡◌, ◌≤◌, ◌<◌, ◌+◌, ◌≤ℤ◌, ◌≢◌, ◌⊎◌, ℕ, true, false, Some, None, IfOk, OnOk, IfErr, MatchBool, length, slice_index};
+ghost use Rattle.std.specs.Prelude.{◌≡◌, ◌≤◌, ◌<◌, ◌+◌, ◌≤ℤ◌, ◌≢◌, ◌⊎◌, ℕ, Some, None, IfOk, OnOk, IfErr, MatchBool, length, slice_index};
 ghost use Rattle.pf_base.specs.declared.error.PathError.TheVariants.{OutOfMemory};
-ghost use Rattle.pf_graph.specs.Assignments.{WeightsFit};
-ghost use Rattle.pf_graph.specs.Internal.Assignment.AssignmentSteps.{distance_to, holder, flag, IsWide, IsNextIn, IsTreeIn, IsNearestIn, IsRelaxedIn, IsScannedIn, IsFreshIn, ScanFits};
 
 use crate::filled::filled;
 use crate::kuhn_munkres::matching::Matching;
@@ -28,9 +26,13 @@ pub struct Tree<C, A: Allocator> {
     pub distances: Vec<C, A>,
     /// The place in `rows` of the last row on that path.
     pub places: Vec<usize, A>,
+    // Each column has a distance and a place.
+    ghost wide: { (length distances.items ≡ length visited.items) × (length places.items ≡ length visited.items) },
 }
 
 impl<C: Cost, A: Allocator + Copy> Tree<C, A> {
+    ghost use Rattle.pf_graph.specs.Internal.Assignment.AssignmentSteps.{IsWide};
+
     /// A tree for a table of so many columns, before its first root.
     pub fn new(alloc: A, columns: usize) -> Result<Self, PathError>
         ensures wide { IfOk result (IsWide columns) }
@@ -49,9 +51,10 @@ impl<C: Cost, A: Allocator + Copy> Tree<C, A> {
 }
 
 impl<C: Cost, A: Allocator> Tree<C, A> {
+    ghost use Rattle.pf_graph.specs.Internal.Assignment.AssignmentSteps.{distance_to, IsWide, IsRelaxedIn, IsFreshIn};
+
     /// Makes all columns unvisited and as far as can be.
     fn clear(&mut self)
-        requires wide { IsWide (length self.old.visited.items) self.old }
         ensures fresh { IsFreshIn C.value (C.value C.greatest) (length self.old.visited.items) self.new }
         ensures rows { self.new.rows.items ≡ self.old.rows.items }
         ensures wide { IsWide (length self.old.visited.items) self.new }
@@ -105,13 +108,10 @@ impl<C: Cost, A: Allocator> Tree<C, A> {
 
     /// Brings the distance of a column up to date with the path over the row at `place`.
     fn relax(&mut self, column: usize, through: C, place: usize)
-        requires distance { column < length self.old.distances.items }
-        requires before { column < length self.old.places.items }
+        requires inside { column < length self.old.visited.items }
         ensures here { IsRelaxedIn C.value (C.value through) place self.old self.new column }
         ensures distances { (j : ℕ) → j ≢ column → distance_to C.value self.new j ≡ distance_to C.value self.old j }
         ensures places { (j : ℕ) → j ≢ column → slice_index self.new.places.items j ≡ slice_index self.old.places.items j }
-        ensures distances_len { length self.new.distances.items ≡ length self.old.distances.items }
-        ensures places_len { length self.new.places.items ≡ length self.old.places.items }
         ensures rows { self.new.rows.items ≡ self.old.rows.items }
         ensures visited { self.new.visited.items ≡ self.old.visited.items }
     {
@@ -123,6 +123,8 @@ impl<C: Cost, A: Allocator> Tree<C, A> {
 }
 
 impl<C: SignedCost, A: Allocator> Tree<C, A> {
+    ghost use Rattle.pf_graph.specs.Internal.Assignment.AssignmentSteps.{holder, IsWide, IsNextIn, IsTreeTo, IsNearestIn, IsScannedIn, CanScan};
+
     /// Brings the distances of all columns that were not visited up to date with the paths over one
     /// more row, at `place` among the rows of the tree, and answers the nearest of them. The sum of
     /// the row's distance and its potential is `offset`.
@@ -136,12 +138,7 @@ impl<C: SignedCost, A: Allocator> Tree<C, A> {
     ) -> usize
     where
         W: Weights<C>,
-        requires row { row < (W.table weights.now).rows }
-        requires row_of { length matching.now.row_of.items ≡ (W.table weights.now).columns }
-        requires potentials { length matching.now.column_potentials.items ≡ (W.table weights.now).columns }
-        requires wide { IsWide (W.table weights.now).columns self.old }
-        requires fits { ScanFits C.value (W.table weights.now) matching.now C.fits self.old row (C.value offset) }
-        requires left { (j : ℕ) × (j < (W.table weights.now).columns) × (flag self.old.visited.items j ≡ false) }
+        requires { CanScan C.value (W.table weights.now) matching.now C.fits self.old row (C.value offset) }
         ensures scanned { IsScannedIn C.value (W.table weights.now) matching.now row place (C.value offset) self.old self.new }
         ensures nearest { IsNearestIn C.value (W.table weights.now).columns self.new result }
         ensures rows { self.new.rows.items ≡ self.old.rows.items }
@@ -164,13 +161,10 @@ impl<C: SignedCost, A: Allocator> Tree<C, A> {
     fn begin<W>(&mut self, weights: &W, matching: &Matching<C, A>) -> Result<usize, PathError>
     where
         W: Weights<C>,
-        requires shape { (W.table weights.now).rows ≤ (W.table weights.now).columns }
-        requires fit { WeightsFit C.fits (W.table weights.now) }
-        requires next { IsNextIn C.value (W.table weights.now) matching.now }
+        requires next { IsNextIn C.value (W.table weights.now) matching.now C.fits }
         requires wide { IsWide (W.table weights.now).columns self.old }
-        ensures tree { OnOk result (IsTreeIn C.value (W.table weights.now) matching.now self.new) }
+        ensures tree { IfOk result (IsTreeTo C.value (W.table weights.now) matching.now self.new) }
         ensures one { OnOk result (length self.new.rows.items ≡ 1) }
-        ensures nearest { IfOk result (IsNearestIn C.value (W.table weights.now).columns self.new) }
         ensures wide { IsWide (W.table weights.now).columns self.new }
         ensures refused { IfErr result (λ e. e ≡ OutOfMemory) }
     {
@@ -191,15 +185,11 @@ impl<C: SignedCost, A: Allocator> Tree<C, A> {
     ) -> Result<usize, PathError>
     where
         W: Weights<C>,
-        requires shape { (W.table weights.now).rows ≤ (W.table weights.now).columns }
-        requires fit { WeightsFit C.fits (W.table weights.now) }
-        requires next { IsNextIn C.value (W.table weights.now) matching.now }
-        requires tree { IsTreeIn C.value (W.table weights.now) matching.now self.old }
-        requires nearest { IsNearestIn C.value (W.table weights.now).columns self.old column }
+        requires next { IsNextIn C.value (W.table weights.now) matching.now C.fits }
+        requires tree { IsTreeTo C.value (W.table weights.now) matching.now self.old column }
         requires row { holder matching.now.row_of.items column ≡ Some row }
-        ensures tree { OnOk result (IsTreeIn C.value (W.table weights.now) matching.now self.new) }
+        ensures tree { IfOk result (IsTreeTo C.value (W.table weights.now) matching.now self.new) }
         ensures more { OnOk result (length self.new.rows.items ≡ length self.old.rows.items + 1) }
-        ensures nearest { IfOk result (IsNearestIn C.value (W.table weights.now).columns self.new) }
         ensures wide { IsWide (W.table weights.now).columns self.new }
         ensures refused { IfErr result (λ e. e ≡ OutOfMemory) }
     {
@@ -220,12 +210,9 @@ impl<C: SignedCost, A: Allocator> Tree<C, A> {
     ) -> Result<usize, PathError>
     where
         W: Weights<C>,
-        requires shape { (W.table weights.now).rows ≤ (W.table weights.now).columns }
-        requires fit { WeightsFit C.fits (W.table weights.now) }
-        requires next { IsNextIn C.value (W.table weights.now) matching.now }
+        requires next { IsNextIn C.value (W.table weights.now) matching.now C.fits }
         requires wide { IsWide (W.table weights.now).columns self.old }
-        ensures tree { OnOk result (IsTreeIn C.value (W.table weights.now) matching.now self.new) }
-        ensures nearest { IfOk result (IsNearestIn C.value (W.table weights.now).columns self.new) }
+        ensures tree { IfOk result (IsTreeTo C.value (W.table weights.now) matching.now self.new) }
         ensures free { IfOk result (λ column. holder matching.now.row_of.items column ≡ None) }
         ensures wide { IsWide (W.table weights.now).columns self.new }
         ensures refused { IfErr result (λ e. e ≡ OutOfMemory) }

@@ -1,6 +1,6 @@
 //! A forest of edges between numbered vertices that is least under every weight bound.
 
-ghost use Rattle.std.specs.Prelude.{◌≡◌, ◌↔◌, ℕ, [], Contains, IfOk, IfErr, OnOk, IsTrue, nat_eq, length};
+ghost use Rattle.std.specs.Prelude.{◌≡◌, ◌↔◌, ℕ, Contains, IfOk, IfErr, IsTrue, nat_eq, length};
 ghost use Rattle.std.specs.List.Sorted.{IsSorted};
 ghost use Rattle.pf_base.specs.declared.error.PathError.TheVariants.{OutOfMemory};
 ghost use Rattle.pf_graph.specs.Spanning.{IsForest, IsLeastUnderEveryBound, AreBelow};
@@ -36,13 +36,12 @@ where
     Ok(copies)
 }
 
-/// Puts the edges of `sorted` whose ends no edges before them join to the end of `chosen`, and unites
-/// the sets of their ends.
+/// The edges of `sorted` whose ends no edges before them join. The sets of their ends are united.
 fn choose_edges<C, A>(
+    alloc: A,
     vertices: &mut [Vertex],
     sorted: Vec<(usize, usize, C), A>,
-    chosen: &mut Vec<(usize, usize, C), A>,
-) -> Result<(), PathError>
+) -> Result<Vec<(usize, usize, C), A>, PathError>
 where
     C: Ord + Drop,
     A: Allocator,
@@ -50,19 +49,19 @@ where
     requires singletons { IsLabelling (λ x. x) vertices.old }
     requires below { AreBelow (length vertices.old) sorted.items }
     requires sorted { IsSorted (λ e f. C.cmp e.2 f.2) sorted.items }
-    requires none { chosen.old.items ≡ [] }
-    ensures forest { OnOk result (IsForest nat_eq chosen.new.items) }
-    ensures least { OnOk result (IsLeastUnderEveryBound nat_eq C.cmp sorted.items chosen.new.items) }
-    ensures given { OnOk result ((e : ℕ × ℕ × C) → Contains chosen.new.items e → Contains sorted.items e) }
-    ensures sorted { OnOk result (IsSorted (λ e f. C.cmp e.2 f.2) chosen.new.items) }
+    ensures forest { IfOk result (λ chosen. IsForest nat_eq chosen.items) }
+    ensures least { IfOk result (λ chosen. IsLeastUnderEveryBound nat_eq C.cmp sorted.items chosen.items) }
+    ensures given { IfOk result (λ chosen. (e : ℕ × ℕ × C) → Contains chosen.items e → Contains sorted.items e) }
+    ensures sorted { IfOk result (λ chosen. IsSorted (λ e f. C.cmp e.2 f.2) chosen.items) }
     ensures refused { IfErr result (λ e. e ≡ OutOfMemory) }
 {
+    let mut chosen = Vec::with_capacity(alloc, vertices.len().min(sorted.len()))?;
     'edges: for edge in sorted {
         if unite(vertices, edge.0, edge.1) {
             chosen.push(edge)?;
         }
     }
-    Ok(())
+    Ok(chosen)
 }
 
 /// The edges, taken by rising weight, whose ends no edges taken before them join (Kruskal 1956).
@@ -83,7 +82,5 @@ where
 {
     edges.sort_unstable_by(|one, other| one.2.cmp(&other.2));
     let mut vertices = make_sets(alloc, number_of_nodes)?;
-    let mut chosen = Vec::with_capacity(alloc, number_of_nodes.min(edges.len()))?;
-    choose_edges(&mut vertices, edges, &mut chosen)?;
-    Ok(chosen)
+    choose_edges(alloc, &mut vertices, edges)
 }

@@ -104,15 +104,10 @@ module _ {N C : Type 0} (eq : N → N → Bool) (value : C → ℤ) (fits : ℤ 
   Looked test least stands first limit (Missed cut past) = AllCovered eq value (IsCheapStep eq g) test stands (IsCutOff value fits cut past) (0 ∷ []) (pos 0) first
       × (past ≡ true → IsWayPast least first)
 
--- what was cut off is above the limit
-abbrev pub AreAbove : {C A : Type 0} → (C → ℤ) → C → Round C A → Type 0
-AreAbove value limit (Found numbers cost) = ⊤
-AreAbove {C} value limit (Missed cut past) = (n : C) → cut ≡ Some n → value limit <ℤ value n
-
--- the numbers of a way that was found are among the first
-abbrev pub AreInside : {C A : Type 0} → ℕ → Round C A → Type 0
-AreInside found (Found numbers cost) = (k : ℕ) → Contains numbers.items k → k < found
-AreInside found (Missed cut past) = ⊤
+-- the numbers of a way that was found are among the first, and what was cut off is above the limit
+abbrev pub IsRound : {C A : Type 0} → (C → ℤ) → C → ℕ → Round C A → Type 0
+IsRound value limit found (Found numbers cost) = (k : ℕ) → Contains numbers.items k → k < found
+IsRound {C} value limit found (Missed cut past) = (n : C) → cut ≡ Some n → value limit <ℤ value n
 
 module _ {N C : Type 0} (eq : N → N → Bool) (value : C → ℤ) (fits : ℤ → Type 0) (g : NodeGraph N) (test : N → Bool) (least : N → ℤ) (first : N) (keys : List N) (steps : List (ℕ × C)) (spans : List (Option Span)) where
   -- where a search to a limit stands: at the last frame, above those below

@@ -1,7 +1,5 @@
 -- What a search led by estimates knows of its graph, and what opening a number leaves.
 use Rattle.std.specs.Prelude.{◌≡◌, ◌⊎◌, ℕ, ℤ, Bool, true, List, [], ◌∷◌, slice_get, length}
-use Rattle.std.specs.BinaryHeap.{IsHeap, heap_items}
-use Rattle.std.specs.declared.cmp.Ordering.{Ordering}
 use Rattle.pf_base.specs.Edges.{InReach, HasNoNegativeCost}
 use Rattle.pf_core.specs.declared.labels.Label.{Label}
 use Rattle.pf_core.specs.declared.tested.Tested.{Tested}
@@ -11,7 +9,7 @@ use Rattle.pf_core.specs.Numbered.{Grows}
 use Rattle.pf_informed.specs.Estimates.{IsAdmissible}
 use Rattle.pf_informed.specs.Internal.Estimated.{IsEstimated}
 use Rattle.pf_informed.specs.Internal.Informed.{IsInformed}
-use Rattle.pf_informed.specs.Internal.Waiting.{Entry, entry_cmp, IsWaiting}
+use Rattle.pf_informed.specs.Internal.Waiting.{Entry, IsWaiting, IsSound}
 use Rattle.pf_informed.specs.declared.search.Search.{Search}
 
 -- What is asked answers a graph, a test and an estimate, and each estimate that is kept is right. No estimate is above the cost of a walk to a goal, and no edge in reach costs less than 0.
@@ -37,11 +35,16 @@ module _ {N C S T H Z : Type 0} (eq : N → N → Bool) (value : C → ℤ) (edg
     OfLedSearch P = (start : N) (edges : N → List (N × ℤ)) (test : N → Bool) (least : N → ℤ) → StandsFor eq graph.discovery.nodes.keys 0 start → IsLed (record { starts = start ∷ []; edges = edges }) test least graph estimate kept → P start edges test least
 
 -- nothing is known of the labels and the estimates, and nothing waits
-pub record IsNew {C Z : Type 0} (cmp : C → C → Ordering) (search : Search C Z) : Type 0 where
+pub record IsNew {C Z : Type 0} (search : Search C Z) : Type 0 where
   pub unlabelled : search.labels.items ≡ []
   pub unasked : search.estimates.items ≡ []
-  pub nothing_waits : heap_items search.queue ≡ []
-  pub ordered : IsHeap (entry_cmp cmp) (heap_items search.queue)
+  pub nothing_waits : search.queue.entries ≡ []
+
+-- what is so of a search between its turns, where so many nodes were found: each has an estimate and a place for its label
+pub record IsReady {C Z : Type 0} (value : C → ℤ) (found : ℕ) (search : Search C Z) : Type 0 where
+  pub sound : IsSound value search.labels.items search.estimates.items search.queue.entries
+  pub wide : length search.labels.items ≡ found
+  pub asked : length search.estimates.items ≡ found
 
 -- the numbers of a graph stand for what they stood for, and more numbers may stand
 abbrev pub FindsMore : {N S T Z : Type 0} → (N → N → Bool) → Tested N S T Z → Tested N S T Z → Type 0

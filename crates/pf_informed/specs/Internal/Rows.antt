@@ -2,7 +2,7 @@
 use Rattle.std.specs.Prelude.{◌≡◌, ◌≤◌, ◌<◌, ◌≤ℤ◌, ℕ, ℤ, Bool, false, List, [], ◌∷◌, Option, Some, Contains, slice_get, length}
 use Rattle.pf_base.specs.Edges.{InReach, StepCosts}
 use Rattle.pf_core.specs.Nodes.{NodeGraph, StandsFor}
-use Rattle.pf_informed.specs.Internal.Led.{IsLed}
+use Rattle.pf_informed.specs.Internal.Led.{IsLed, FindsMore}
 use Rattle.pf_informed.specs.declared.directed.idastar.known.Known.{Known}
 use Rattle.pf_informed.specs.declared.directed.idastar.rows.Span.{Span}
 
@@ -46,6 +46,18 @@ module _ {N C S T H Z : Type 0} where
   -- what is kept of these is a table
   abbrev pub IsTabled : Known N C S T H Z → Type 0
   IsTabled known = IsTable (found_in known) known.rows.steps.items known.rows.spans.items
+
+  -- each number that was found has an estimate, and what is kept of these is a table
+  pub record IsWhole (known : Known N C S T H Z) : Type 0 where
+    pub asked : length known.estimates.items ≡ found_in known
+    pub table : IsTabled known
+
+  -- what is known is whole, the numbers stand for what they stood for, and the steps and the spans that were kept stay
+  pub record KnowsMore (eq : N → N → Bool) (known known' : Known N C S T H Z) : Type 0 where
+    pub whole : IsWhole known'
+    pub grows : FindsMore eq known.graph known'.graph
+    pub steps : (i : ℕ) (e : ℕ × C) → slice_get known.rows.steps.items i ≡ Some e → slice_get known'.rows.steps.items i ≡ Some e
+    pub spans : (k : ℕ) (s : Span) → HasSpan known.rows.spans.items k s → HasSpan known'.rows.spans.items k s
 
   -- What is known of a graph: what a search led by estimates knows, and that each row is right.
   module _ (eq : N → N → Bool) (value : C → ℤ) (edge_answers : S → List N → (N → List (N × ℤ)) → Type 0) (test_answers : T → (N → Type 0) → (N → Bool) → Type 0) (estimate_answers : H → (N → Type 0) → (N → ℤ) → Type 0) where

@@ -1,10 +1,11 @@
 -- What waits in a search by cost and estimate.
-use Rattle.std.specs.Prelude.{◌≡◌, ◌≤ℤ◌, ◌+ℤ◌, ◌⊎◌, ℤ, ℕ, List, Contains, Some, slice_get, length}
+use Rattle.std.specs.Prelude.{◌≡◌, ◌≤◌, ◌<◌, ◌^◌, ◌≤ℤ◌, ◌+ℤ◌, ◌⊎◌, ℤ, pos, ℕ, List, Contains, Some, slice_get, length}
 use Rattle.std.specs.Ordering.{ordering_then, nat_cmp}
 use Rattle.std.specs.declared.cmp.Ordering.{Ordering}
 use Rattle.std.specs.declared.cmp.Reverse.{Reverse}
 use Rattle.pf_core.specs.declared.labels.Label.{Label}
 use Rattle.pf_core.specs.Labels.{Labels, HasLabel}
+use Rattle.pf_informed.specs.Internal.Forest.{IsForest}
 
 -- a label's cost and the estimate of its node together, the cost alone, and the number
 abbrev pub Entry : Type 0 → Type 0
@@ -13,6 +14,11 @@ Entry C = Reverse C × C × ℕ
 -- the least sum first, of equal sums the greatest cost, and of equal costs the greatest number
 abbrev pub entry_cmp : {C : Type 0} → (C → C → Ordering) → Entry C → Entry C → Ordering
 entry_cmp R x y = ordering_then (ordering_then (R y.0.0 x.0.0) (R x.1 y.1)) (nat_cmp x.2 y.2)
+
+-- what waits in a queue, and for how much there is room
+pub record Queued (C : Type 0) : Type 0 where
+  pub entries : List (Entry C)
+  pub room : ℕ
 
 module _ {C : Type 0} (value : C → ℤ) where
   -- some entry has the number, at the cost of the label
@@ -23,6 +29,17 @@ module _ {C : Type 0} (value : C → ℤ) where
   pub record IsQueue (labels : Labels C) (estimates : List C) (entries : List (Entry C)) : Type 0 where
     pub labelled : (e : Entry C) → Contains entries e → (l : Label C) × HasLabel labels e.2 l × (value l.cost ≤ℤ value e.1)
     pub summed : (e : Entry C) → Contains entries e → (h : C) × (slice_get estimates e.2 ≡ Some h) × (value e.0.0 ≡ value e.1 +ℤ value h)
+
+  -- What is so of a search that has begun: the labels form a tree, there are no more than the queue and the estimates have numbers for, and each entry is that of a label.
+  pub record IsSound (labels : Labels C) (estimates : List C) (entries : List (Entry C)) : Type 0 where
+    pub forest : IsForest value labels
+    pub few : length labels ≤ 2 ^ 32
+    pub estimated : length labels ≤ length estimates
+    pub queue : IsQueue labels estimates entries
+
+  -- each step leads to one of so many numbers, at a cost from 0 up
+  abbrev pub AreSteps : ℕ → List (ℕ × C) → Type 0
+  AreSteps found row = (j : ℕ) (c : C) → Contains row (j, c) → (j < found) × (pos 0 ≤ℤ value c)
 
   -- The number's label is the one that was taken out of the queue, whose sum is the least, and what else waited still waits.
   pub record IsTaken (labels : Labels C) (estimates : List C) (number : ℕ) (cost : C) (entries entries' : List (Entry C)) : Type 0 where

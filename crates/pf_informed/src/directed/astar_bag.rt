@@ -141,7 +141,7 @@ where
     H: EstimateFunction<N, C>,
     A: Allocator + Copy,
     requires one { length graph.old.discovery.nodes.keys ≡ 1 }
-    requires new { IsNew C.cmp search.old }
+    requires new { IsNew search.old }
     requires graph { AnswersLedSearch N.eq C.value S.answers T.answers H.answers graph.old estimate.old search.old.estimates.items }
 
     ensures all { OfLedSearch N.eq C.value S.answers T.answers H.answers graph.old estimate.old search.old.estimates.items (λ start edges test least.

@@ -37,7 +37,7 @@ where
     A: Allocator + Copy,
     requires clones { IsLawfulClone N.eq N.is_clone }
     requires one { length graph.old.discovery.nodes.keys ≡ 1 }
-    requires new { IsNew C.cmp search.old }
+    requires new { IsNew search.old }
     requires unlisted { listed lists.old ≡ [] }
     requires graph { (g : NodeGraph N) × (test : N → Bool) × (least : N → ℤ)
         × IsLed N.eq C.value S.answers T.answers H.answers g test least graph.old estimate.old search.old.estimates.items }

@@ -21,7 +21,7 @@ impl<C: Drop, A: Allocator + Copy> Matrix<C, A> {
         IR: IntoIterator<Item = IC>,
         IC: IntoIterator<Item = C>,
         requires ends { IsFiniteIterable IR.into_iter_gives IR.IntoIter.can_next IR.IntoIter.remaining rows }
-        requires rows_end { RowsEnd IR.into_iter_gives IR.IntoIter.next_gives IC.into_iter_gives IC.IntoIter.can_next IC.IntoIter.remaining rows }
+        requires rows_end { RowsEnd ⟦<IR as Giving<IC>>⟧.gives_first IC.into_iter_gives IC.IntoIter.can_next IC.IntoIter.remaining rows }
         ensures made { IfOk result (λ m. Given ⟦<IR as Giving<IC>>⟧.gives_all ⟦<IC as Giving<C>>⟧.gives_all (IsOfRows m) rows) }
         ensures matrix { IfOk result IsMatrix }
         ensures wrong_length { IsErrOf result WrongLength → Given ⟦<IR as Giving<IC>>⟧.gives_first ⟦<IC as Giving<C>>⟧.gives_all LastDiffers rows }

@@ -1,14 +1,28 @@
 -- What contracts of private functions say of a lazy walk in preorder.
-use Rattle.std.specs.Prelude.{◌≡◌, ℕ, Bool, true, List, [], ◌∷◌, Option, Some, None}
+use Rattle.std.specs.Prelude.{◌≡◌, ◌<◌, ℕ, Bool, true, List, [], ◌∷◌, Option, Some, None, slice_get, filter_map, Contains, length}
 use Rattle.pf_base.specs.Answers.{SameNodes}
 use Rattle.pf_base.specs.Successors.{HasSuccessor}
 use Rattle.pf_base.specs.Walks.{IsReachable}
+use Rattle.pf_core.specs.declared.depth_first.DepthFirst.{DepthFirst}
 use Rattle.pf_search.specs.DepthWalks.{DepthWalk, IsDepthWalk}
+use Rattle.pf_search.specs.Internal.DepthStack.{DepthStack}
 
--- before the start was put in, no node was found or given
-abbrev pub IsUnbegun : {N : Type 0} → Option N → List N → ℕ → Type 0
-IsUnbegun None nodes given = Unit {0}
-IsUnbegun (Some start) nodes given = (nodes ≡ []) × (given ≡ 0)
+-- the nodes at these places, in turn
+abbrev pub nodes_at : {N : Type 0} → List N → List ℕ → List N
+nodes_at nodes places = filter_map (slice_get nodes) places
+
+-- the stack of a walk over numbers
+abbrev pub stack_of : {Z : Type 0} → DepthFirst Z → DepthStack
+stack_of walk = record { given = walk.given.items; visited = walk.visited.items; path = walk.path.items; waiting = walk.waiting.items }
+
+-- the walk that found these nodes and has this stack
+abbrev pub walk_with : {N F : Type 0} → List N → DepthStack → Bool → F → DepthWalk N F
+walk_with found stack refused successors = record { given = nodes_at found stack.given; found = found; refused = refused; successors = successors; stack = stack }
+
+-- these can be the places of the given nodes: they are places of found nodes, and there are none before the start was put in
+abbrev pub ArePlaces : {N : Type 0} → Option N → List N → List ℕ → Type 0
+ArePlaces None nodes given = (k : ℕ) → Contains given k → k < length nodes
+ArePlaces (Some start) nodes given = (nodes ≡ []) × (given ≡ [])
 
 -- The walk has given no node of this graph yet, and equal nodes have the same successors. The test is answered in reach of the start.
 module _ {N F T : Type 0} (eq : N → N → Bool) (answers : F → (N → Type 0) → (N → List N) → Type 0) (tests : T → (N → Type 0) → (N → Bool) → Type 0) where

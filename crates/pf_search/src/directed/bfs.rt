@@ -11,12 +11,12 @@ ghost use Rattle.pf_search.specs.Internal.Hops.{ExploresHops};
 mod both_ends;
 mod loops;
 
-pub use crate::directed::breadth::{BfsReachable, bfs_reach};
+pub use crate::directed::bfs_reach::{BfsReachable, bfs_reach};
 pub use both_ends::bfs_bidirectional;
 pub use loops::bfs_loop;
 use pf_base::{NodeRefs, NodeTest, PathError, SuccessorFunction};
+use pf_core::bfs::fewest_edges_path;
 use pf_core::discovery::{Discovery, clones_of};
-use pf_core::fewest::fewest_edges_path;
 use pf_core::source::{EdgeSource, Unweighted};
 use pf_core::tested::Tested;
 use std::alloc::Allocator;

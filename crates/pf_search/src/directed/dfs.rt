@@ -6,7 +6,7 @@ ghost use Rattle.pf_base.specs.Successors.{AnswersUnweightedSearch, OfUnweighted
 ghost use Rattle.pf_search.specs.Preorder.{IsFirstTreePathOrNone};
 ghost use Rattle.pf_search.specs.Internal.Depth.{IsTestedWalk};
 
-pub use crate::directed::preorder::{DfsReachable, dfs_reach};
+pub use crate::directed::dfs_reach::{DfsReachable, dfs_reach};
 use pf_base::{NodeTest, PathError, SuccessorFunction};
 use std::alloc::Allocator;
 use std::hash::Hash;

@@ -2,7 +2,7 @@
 use Rattle.std.specs.Prelude.{◌≡◌, ◌⊎◌, ◌≤ℤ◌, ◌<◌, ◌≤◌, ◌&&◌, ℕ, ℤ, Bool, true, false, List, [], ◌∷◌, length, sum_by, Contains}
 use Rattle.pf_base.specs.declared.error.PathError.{PathError}
 use Rattle.pf_base.specs.Edges.{WalkCosts, IsPastRange}
-use Rattle.pf_yen.specs.Classes.{one_if}
+use Rattle.pf_yen.specs.Internal.Classes.{one_if}
 use Rattle.pf_yen.specs.CleanPaths.{IsCleanPath, IsPathPastRange, WasGiven, AllGiven}
 
 -- whether these are the same nodes, place by place

@@ -8,11 +8,11 @@ ghost use Rattle.pf_yen.specs.CleanPaths.{RefusedFor};
 ghost use Rattle.pf_yen.specs.Walk.{IsPathWalk, IsSomePathWalk, OfPathWalk, most_items, IsEnded, IsBarred, PathStep, StepKeepsBar};
 ghost use Rattle.pf_yen.specs.Internal.PathTurns.{PathTurn};
 
+use crate::adjacency::Adjacency;
+use crate::candidates::Candidates;
 pub use crate::directed::k_cheapest::yen;
+use crate::explore::explore;
 use crate::given::Given;
-use crate::known::Known;
-use crate::learn::learn;
-use crate::plans::Plans;
 use crate::standing::Standing;
 use pf_base::{Cost, EdgeFunction, NodeTest, PathError};
 use pf_core::discovery::{Discovery, clone_of};
@@ -30,8 +30,8 @@ use std::marker::Model;
 #[derive(Drop)]
 pub struct YenPaths<N: Eq + Hash + Drop, C: Cost, F, T, A: Allocator = Global> {
     graph: Tested<N, Weighted<F>, T, A>,
-    known: Known<C, A>,
-    plans: Plans<C, A>,
+    adjacency: Adjacency<C, A>,
+    plans: Candidates<C, A>,
     given: Given<N, C, A>,
     standing: Standing,
     alloc: A,
@@ -39,9 +39,9 @@ pub struct YenPaths<N: Eq + Hash + Drop, C: Cost, F, T, A: Allocator = Global> {
 
 impl<N: Eq + Hash + Drop, C: Cost, F, T, A: Allocator> Model for YenPaths<N, C, F, T, A> {
     ghost use Rattle.std.specs.BinaryHeap.{IsHeap, heap_items};
-    ghost use Rattle.pf_yen.specs.Plans.{waiting_plans, chosen_plan};
+    ghost use Rattle.pf_yen.specs.Internal.PathPlans.{has_ended, path_plans};
     ghost use Rattle.pf_yen.specs.Internal.PlanChanges.{first_cmp};
-    ghost use Rattle.pf_yen.specs.Standing.{is_barred, was_refused};
+    ghost use Rattle.pf_yen.specs.Internal.Standing.{is_barred, was_refused};
     ghost use Rattle.pf_yen.specs.Walk.{PathWalk, path_walk_code};
 
     ghost Value = { PathWalk N C F T };
@@ -52,14 +52,10 @@ impl<N: Eq + Hash + Drop, C: Cost, F, T, A: Allocator> Model for YenPaths<N, C, 
       given = s.given;
       refused = was_refused s.standing;
       barred = is_barred s.standing;
+      ended = has_ended (path_plans s.graph.discovery.nodes.keys s.adjacency s.plans);
       successors = s.graph.discovery.source.function;
       success = s.graph.success;
-      nodes = s.graph.discovery.nodes.keys;
-      known = s.known;
-      has_begun = s.plans.has_begun;
-      waiting = waiting_plans (heap_items s.plans.waiting);
-      chosen = chosen_plan s.plans.chosen;
-      is_given = s.plans.is_given;
+      plans = path_plans s.graph.discovery.nodes.keys s.adjacency s.plans;
     } };
 
     ghost invariant = { λ s. IsHeap (first_cmp C.cmp) (heap_items s.plans.waiting) };
@@ -105,6 +101,45 @@ where
     T: NodeTest<N>,
     A: Allocator + Copy,
 {
+    /// A walk as `yen_paths` makes it, over any functions of the traits: closures, or types of the
+    /// caller's own that implement them.
+    ///
+    /// # Errors
+    ///
+    /// This call answers `OutOfMemory` where a request for memory was refused.
+    pub fn new(
+        alloc: A,
+        start: &N,
+        successors: F,
+        success: T,
+    ) -> Result<YenPaths<N, C, F, T, A>, PathError>
+        requires clones { IsLawfulClone N.eq N.is_clone }
+        ensures begins { IfOk result (λ walk. (walk.given ≡ []) × (walk.refused ≡ false) × ¬ (IsBarred walk) × (walk.successors ≡ successors) × (walk.success ≡ success)) }
+        ensures graph { IfOk result (λ walk. OfWeightedSearch N.eq (start.now ∷ []) (F.answers successors) (T.answers success) (λ edges test.
+            IsPathWalk N.eq C.value edges start.now test C.fits F.answers T.answers walk)) }
+        ensures refused { IfErr result (λ e. e ≡ PathError.OutOfMemory) }
+    {
+        let discovery = Discovery {
+            nodes: clone_of(alloc, start)?,
+            source: Weighted {
+                function: successors,
+            },
+        };
+        Ok(YenPaths {
+            graph: Tested { discovery, success },
+            adjacency: Adjacency::new(alloc),
+            plans: Candidates {
+                waiting: BinaryHeap::new(alloc),
+                chosen: None,
+                is_given: false,
+                has_begun: false,
+            },
+            given: Given::nothing(),
+            standing: Standing::GoesOn,
+            alloc,
+        })
+    }
+
     /// Lets the next call of `next` try again the step that was refused. Where no step was refused
     /// since the last call of `resume`, this changes nothing. A step that was refused with
     /// `CostOverflow` is refused with it again.
@@ -117,12 +152,12 @@ where
     }
 
     /// Learns of the graph, unless a path was looked for before.
-    fn learn_graph(&mut self) -> Result<(), PathError>
+    fn explore_graph(&mut self) -> Result<(), PathError>
         requires walk { IsSomePathWalk N.eq C.value C.fits F.answers T.answers self.old }
         ensures walk { OfPathWalk N.eq C.value C.fits F.answers T.answers self.old (λ edges start test.
             IsPathWalk N.eq C.value edges start test C.fits F.answers T.answers self.new) }
-        ensures known { OfPathWalk N.eq C.value C.fits F.answers T.answers self.old (λ edges start test.
-            OnOk result ((length self.new.nodes ≤ length self.new.known.rows) × (length self.new.known.rows < 2 ^ 64))) }
+        ensures adjacency { OfPathWalk N.eq C.value C.fits F.answers T.answers self.old (λ edges start test.
+            OnOk result ((length self.new.plans.nodes ≤ length self.new.plans.adjacency.rows) × (length self.new.plans.adjacency.rows < 2 ^ 64))) }
         ensures ended { IsEnded self.old → IsOkAnd result (λ _. IsEnded self.new) }
         ensures open { OnErr result (¬ (IsEnded self.new)) }
         ensures given { self.new.given ≡ self.old.given }
@@ -133,33 +168,33 @@ where
         if self.plans.has_begun {
             return Ok(());
         }
-        learn(self.alloc, &mut self.graph, &mut self.known)
+        explore(self.alloc, &mut self.graph, &mut self.adjacency)
     }
 
     /// Chooses the plan whose path is to be given next, if there is one.
     fn choose(&mut self) -> Result<(), PathError>
         requires walk { IsSomePathWalk N.eq C.value C.fits F.answers T.answers self.old }
-        requires known { (length self.old.nodes ≤ length self.old.known.rows) × (length self.old.known.rows < 2 ^ 64) }
+        requires adjacency { (length self.old.plans.nodes ≤ length self.old.plans.adjacency.rows) × (length self.old.plans.adjacency.rows < 2 ^ 64) }
         requires free { ¬ (IsBarred self.old) }
         ensures walk { OfPathWalk N.eq C.value C.fits F.answers T.answers self.old (λ edges start test.
             IsPathWalk N.eq C.value edges start test C.fits F.answers T.answers self.new × IfErr result (RefusedFor N.eq edges start test C.value C.fits self.old.given)) }
         ensures given { self.new.given ≡ self.old.given }
         ensures same { self.new.refused ≡ self.old.refused }
         ensures bar { self.new.barred ≡ self.old.barred }
-        ensures begun { OnOk result ((self.new.has_begun ≡ true) × (self.new.is_given ≡ false)) }
-        ensures none { OnOk result (self.new.chosen ≡ None → self.new.waiting ≡ []) }
+        ensures begun { OnOk result ((self.new.plans.has_begun ≡ true) × (self.new.plans.is_given ≡ false)) }
+        ensures none { OnOk result (self.new.plans.chosen ≡ None → self.new.plans.waiting ≡ []) }
         ensures ended { IsEnded self.old → IsOkAnd result (λ _. IsEnded self.new) }
         ensures open { OnErr result (¬ (IsEnded self.new)) }
     {
-        self.plans.choose(self.alloc, &self.known)
+        self.plans.choose(self.alloc, &self.adjacency)
     }
 
     /// Gives the path of the chosen plan, or `None` where there is none.
     fn give(&mut self) -> Result<Option<(Vec<N, A>, C)>, PathError>
         requires clones { IsLawfulClone N.eq N.is_clone }
         requires walk { IsSomePathWalk N.eq C.value C.fits F.answers T.answers self.old }
-        requires ready { (self.old.has_begun ≡ true) × (self.old.is_given ≡ false) }
-        requires none { self.old.chosen ≡ None → self.old.waiting ≡ [] }
+        requires ready { (self.old.plans.has_begun ≡ true) × (self.old.plans.is_given ≡ false) }
+        requires none { self.old.plans.chosen ≡ None → self.old.plans.waiting ≡ [] }
         requires free { ¬ (IsBarred self.old) }
         ensures steps { OfPathWalk N.eq C.value C.fits F.answers T.answers self.old (λ edges start test.
             IsPathWalk N.eq C.value edges start test C.fits F.answers T.answers self.new × PathTurn N.eq C.value edges start test C.fits self.old result self.new) }
@@ -190,7 +225,7 @@ where
             // The same search would come to the same sum.
             return Err(PathError::CostOverflow);
         }
-        self.learn_graph()?;
+        self.explore_graph()?;
         self.choose()?;
         self.give()
     }
@@ -247,23 +282,5 @@ where
         IsPathWalk N.eq C.value edges start.now test C.fits ⟦<FN as EdgeFunction<N, C>>⟧.answers ⟦<FS as NodeTest<N>>⟧.answers walk)) }
     ensures refused { IfErr result (λ e. e ≡ PathError.OutOfMemory) }
 {
-    let discovery = Discovery {
-        nodes: clone_of(alloc, start)?,
-        source: Weighted {
-            function: successors,
-        },
-    };
-    Ok(YenPaths {
-        graph: Tested { discovery, success },
-        known: Known::new(alloc),
-        plans: Plans {
-            waiting: BinaryHeap::new(alloc),
-            chosen: None,
-            is_given: false,
-            has_begun: false,
-        },
-        given: Given::nothing(),
-        standing: Standing::GoesOn,
-        alloc,
-    })
+    YenPaths::new(alloc, start, successors, success)
 }

@@ -75,10 +75,11 @@ mod directed_paths {
 mod over_tables {
     //! The same of grids and of graphs in tables.
     pub use pathfinding::graphs::{
-        Board, CompactRows, Costless, EdgeList, EdgeListError, Goals, Graph, Row, Rows, Steps,
-        TableError, bfs, bfs_loop, dfs, dijkstra, dijkstra_all, dijkstra_partial, iddfs,
+        BfsReachable, Board, CompactRows, Costless, DfsReachable, DijkstraReachable, EdgeList,
+        EdgeListError, Goals, Graph, Row, Rows, Steps, TableError, YenPaths, bfs, bfs_loop,
+        bfs_reach, dfs, dfs_reach, dijkstra, dijkstra_all, dijkstra_partial, dijkstra_reach, iddfs,
         strongly_connected_component, strongly_connected_components, topological_sort,
-        topological_sort_into_groups, yen,
+        topological_sort_into_groups, yen, yen_paths,
     };
     pub use pathfinding::grid::{
         Coordinate, EdgesIterator, Grid, GridError, GridIntoIterator, GridIterator,

@@ -1,18 +1,22 @@
 //! Lazy walks: what they give, and that a refused step loses nothing.
 
-ghost use Rattle.std.specs.Prelude.{◌≡◌, ◌∷◌, []};
+ghost use Rattle.std.specs.Prelude.{◌≡◌, ◌∷◌, [], ⊤};
 
+use crate::tests::graphs::ROWS;
 use crate::walks::walked;
+use pathfinding::graphs;
 use pf_base::{EdgeFunction, PathError, SuccessorFunction};
 use pf_search::directed::bfs::{BfsReachable, bfs_reach};
 use pf_search::directed::dfs::{DfsReachable, dfs_reach};
 use pf_search::directed::dijkstra::{DijkstraReachable, dijkstra_reach};
+use pf_tables::{Goals, Graph, Rows};
 use std::alloc::{Allocator, Global};
 use std::test::Fail;
 use test_allocator::Refusing;
 use test_edge_lists::nodes_after;
 
-/// A node, its parent and its cost, as far as the walk tells them.
+/// A node, its parent and its cost, as far as the walk tells them. Of a path it is the last node, with
+/// the node before it and the cost of the path.
 type Given = (u64, Option<u64>, u64);
 
 /// A walk that can be resumed.
@@ -101,6 +105,106 @@ where
     }
 }
 
+impl<'a, G, A> Resumable for graphs::BfsReachable<'a, u32, G, A>
+where
+    G: Graph<u32>,
+    A: Allocator + Copy,
+{
+    ghost goes = { λ _. ⊤ };
+
+    fn step(&mut self) -> Option<Result<Given, PathError>> {
+        match self.next()? {
+            Ok(node) => Some(Ok((node as u64, None, 0))),
+            Err(refusal) => Some(Err(refusal)),
+        }
+    }
+
+    fn go_on(&mut self) {
+        self.resume();
+    }
+
+    fn low_bound(&self) -> usize {
+        self.remaining_nodes_low_bound()
+    }
+}
+
+impl<'a, G, A> Resumable for graphs::DfsReachable<'a, u32, G, A>
+where
+    G: Graph<u32>,
+    A: Allocator + Copy,
+{
+    ghost goes = { λ _. ⊤ };
+
+    fn step(&mut self) -> Option<Result<Given, PathError>> {
+        match self.next()? {
+            Ok(node) => Some(Ok((node as u64, None, 0))),
+            Err(refusal) => Some(Err(refusal)),
+        }
+    }
+
+    fn go_on(&mut self) {
+        self.resume();
+    }
+
+    fn low_bound(&self) -> usize {
+        self.remaining_nodes_low_bound()
+    }
+}
+
+impl<'a, G, A> Resumable for graphs::DijkstraReachable<'a, u32, G, A>
+where
+    G: Graph<u32>,
+    A: Allocator + Copy,
+{
+    ghost goes = { λ _. ⊤ };
+
+    fn step(&mut self) -> Option<Result<Given, PathError>> {
+        match self.next()? {
+            Ok(item) => {
+                let parent = item.parent.map(|node| node as u64);
+                Some(Ok((item.node as u64, parent, u64::from(item.total_cost))))
+            }
+            Err(refusal) => Some(Err(refusal)),
+        }
+    }
+
+    fn go_on(&mut self) {
+        self.resume();
+    }
+
+    fn low_bound(&self) -> usize {
+        0
+    }
+}
+
+impl<'a, G, T, A> Resumable for graphs::YenPaths<'a, u32, G, T, A>
+where
+    G: Graph<u32>,
+    T: Goals + Copy,
+    A: Allocator + Copy,
+{
+    ghost goes = { λ _. ⊤ };
+
+    fn step(&mut self) -> Option<Result<Given, PathError>> {
+        match self.next()? {
+            Ok((mut path, cost)) => {
+                let node = path.pop()? as u64;
+                let parent = path.last().map(|node| *node as u64);
+                Some(Ok((node, parent, u64::from(cost))))
+            }
+            Err(refusal) => Some(Err(refusal)),
+        }
+    }
+
+    fn go_on(&mut self) {
+        self.resume();
+    }
+
+    fn low_bound(&self) -> usize {
+        0
+    }
+}
+
 /// What a walk gave, with the low bound before each step, and how often it was refused.
 #[derive(Drop)]
 struct Gathered {
@@ -170,7 +274,11 @@ const DOUBLES_AND_TRIPLES: &[(u64, u64)] = &[
     (6, 12),
 ];
 
-/// The walks from 3 where the nodes 1 to 5 follow each node, one from 0 and one from 1.
+/// Of the nodes of `ROWS` the last two are goals.
+const GOALS: &[bool] = &[false, false, false, true, true];
+
+/// The walks from 3 where the nodes 1 to 5 follow each node, one from 0 and one from 1, and those over
+/// the table `ROWS` from 0.
 #[derive(Clone, Copy, Debug)]
 enum Walk {
     Breadth,
@@ -178,6 +286,10 @@ enum Walk {
     Cheapest,
     PreorderByOneAndFive,
     BreadthByDoublesAndTriples,
+    BreadthInTable,
+    PreorderInTable,
+    CheapestInTable,
+    PathsInTable,
 }
 
 impl Walk {
@@ -216,6 +328,28 @@ impl Walk {
             Walk::BreadthByDoublesAndTriples => {
                 let walk = bfs_reach(alloc, 1u64, |n: &u64| nodes_after(DOUBLES_AND_TRIPLES, *n))?;
                 Ok(Some(gather(ample, walk)?))
+            }
+            Walk::BreadthInTable => {
+                let graph = Rows::new(ROWS)?;
+                Ok(Some(gather(ample, graphs::bfs_reach(alloc, &graph, 0)?)?))
+            }
+            Walk::PreorderInTable => {
+                let graph = Rows::new(ROWS)?;
+                Ok(Some(gather(ample, graphs::dfs_reach(alloc, &graph, 0)?)?))
+            }
+            Walk::CheapestInTable => {
+                let graph = Rows::new(ROWS)?;
+                match graphs::dijkstra_reach(alloc, &graph, 0) {
+                    Ok(walk) => Ok(Some(gather(ample, walk)?)),
+                    Err(_) => Ok(None),
+                }
+            }
+            Walk::PathsInTable => {
+                let graph = Rows::new(ROWS)?;
+                match graphs::yen_paths(alloc, &graph, 0, GOALS) {
+                    Ok(walk) => Ok(Some(gather(ample, walk)?)),
+                    Err(_) => Ok(None),
+                }
             }
         }
     }
@@ -280,6 +414,46 @@ impl Walk {
                 ],
                 &[1, 2, 3, 3, 4, 3, 2, 1, 0],
             ),
+            Walk::BreadthInTable => (
+                &[
+                    (0, None, 0),
+                    (1, None, 0),
+                    (2, None, 0),
+                    (3, None, 0),
+                    (4, None, 0),
+                ],
+                &[1, 2, 2, 2, 1, 0],
+            ),
+            Walk::PreorderInTable => (
+                &[
+                    (0, None, 0),
+                    (1, None, 0),
+                    (2, None, 0),
+                    (3, None, 0),
+                    (4, None, 0),
+                ],
+                &[1, 2, 2, 2, 1, 0],
+            ),
+            Walk::CheapestInTable => (
+                &[
+                    (0, None, 0),
+                    (2, Some(0), 2),
+                    (1, Some(0), 4),
+                    (3, Some(1), 9),
+                    (4, Some(3), 11),
+                ],
+                &[0, 0, 0, 0, 0, 0],
+            ),
+            Walk::PathsInTable => (
+                &[
+                    (3, Some(1), 9),
+                    (3, Some(2), 10),
+                    (4, Some(2), 12),
+                    (3, Some(2), 13),
+                    (4, Some(2), 15),
+                ],
+                &[0, 0, 0, 0, 0, 0],
+            ),
         }
     }
 }
@@ -293,6 +467,10 @@ fn a_refused_step_loses_nothing(rt: HostRuntime) -> Result<(), Fail> {
         Walk::Cheapest,
         Walk::PreorderByOneAndFive,
         Walk::BreadthByDoublesAndTriples,
+        Walk::BreadthInTable,
+        Walk::PreorderInTable,
+        Walk::CheapestInTable,
+        Walk::PathsInTable,
     ] {
         let (given, bounds) = walk.want();
         let mut refusals = 0u64;

@@ -17,9 +17,8 @@ loop-row-init g c =
     let m = c.in_ok-matching.ensures in
     let t = c.in_ok-tree.ensures in
     record {
-      matched = matched_none g.C.Number.value (g.W.Weights.table c.args.weights.now) _ _ _ _ m.rows (search rules) (search rules) m.free m.zero;
+      matched = matched_none g.C.Number.value (g.W.Weights.table c.args.weights.now) _ _ _ _ m.rows (search rules) (search rules) (m.row_potentials ∙ sym m.rows) m.free m.zero;
       rows = m.rows;
-      row_potentials = m.row_potentials ∙ sym m.rows;
       wide = subst (λ (n : ℕ). IsWide n c.in_ok-tree.tree) (search rules) t.wide;
       ticked = omega arith;
       rounds = omega arith;
@@ -36,7 +35,6 @@ loop-row-preserved g c =
     record {
       matched = e.matched;
       rows = e.rows ∙ ap (λ (n : ℕ). n + 1) i.rows;
-      row_potentials = e.row_potentials;
       wide = e.wide;
       ticked = omega (arith, more, ticked);
       rounds = omega (arith, last, rounds);
@@ -48,8 +46,10 @@ total_of-total-requires-clause-assignment g c =
     let e : length c.loop-row.matching.column_of.items ≡ (g.W.Weights.table c.args.weights.now).rows = omega (arith, r) in
     rw c.deref.ensures.value (best_of c.loop-row.invariant.matched e).assignment
 
-pub match_row-requires-clause-left : goal.match_row-requires-clause-left
-match_row-requires-clause-left g c = let r = c.loop-row.invariant.rows in omega (arith, r)
+pub match_row-requires-clause-next : goal.match_row-requires-clause-next
+match_row-requires-clause-next g c =
+    let r = c.loop-row.invariant.rows in
+    record { matched = c.loop-row.invariant.matched; left = omega (arith, r); shape = c.requires.shape; fit = c.requires.fit }
 
 pub returns-in_err-matching : goal.returns-in_err-matching
 returns-in_err-matching g c = record {

@@ -7,7 +7,6 @@ abbrev pub invariant-loop-row : goal.invariant-loop-row
 invariant-loop-row g l = record {
   matched : IsMatchedIn g.C.Number.value (g.W.Weights.table l.weights) l.matching;
   rows : length l.matching.column_of.items ≡ l._row;
-  row_potentials : length l.matching.row_potentials.items ≡ length l.matching.column_of.items;
   wide : IsWide (g.W.Weights.table l.weights).columns l.tree;
   ticked : l.fn.tally ≤ l.tally;
   rounds : l.tally ≤ l.fn.tally + l._row * (g.W.Weights.table l.weights).rows;

@@ -1,7 +1,7 @@
 -- What the search for a best assignment keeps true: rows matched one after another, potentials that
 -- bound the weights from above, and a tree of shortest augmenting paths from the row that is matched next.
-use Rattle.std.specs.Prelude.{◌≡◌, ◌≤ℤ◌, ◌<ℤ◌, ◌+ℤ◌, ◌-ℤ◌, ◌⊎◌, ℕ, zero, suc, ◌+◌, ◌<◌, ◌≢◌, ℤ, pos, neg_ℤ, Bool, true, false, List, length, Option, Some, None, slice_index, slice_index_or}
-use Rattle.pf_graph.specs.Assignments.{number, NumberTable}
+use Rattle.std.specs.Prelude.{◌≡◌, ◌≤ℤ◌, ◌<ℤ◌, ◌+ℤ◌, ◌-ℤ◌, ◌⊎◌, ℕ, zero, suc, ◌<◌, ◌≤◌, ◌≢◌, ℤ, pos, neg_ℤ, Bool, true, false, List, length, Option, Some, None, slice_index, slice_index_or}
+use Rattle.pf_graph.specs.Assignments.{number, NumberTable, WeightsFit}
 use Rattle.pf_graph.specs.declared.kuhn_munkres.matching.Matching.{Matching}
 use Rattle.pf_graph.specs.declared.kuhn_munkres.tree.Tree.{Tree}
 
@@ -131,19 +131,20 @@ IsExact value fits z None = ¬ (fits z)
 IsExact value fits z (Some x) = fits z × (value x ≡ z)
 
 module _ {C : Type 0} (value : C → ℤ) (t : NumberTable) (column_of : List ℕ) (row_of : List (Option ℕ)) (us vs : List C) where
-  -- rows are matched one after another under potentials; there may be a row potential more
+  -- rows are matched one after another under potentials
   pub record IsMatched : Type 0 where
     pub matching : IsMatching (length column_of) t.columns (slice_index column_of) (holder row_of)
     pub potential : IsPotential t.at (length column_of) t.columns (slice_index column_of) (holder row_of) (number value us) (number value vs)
     pub wide : length row_of ≡ t.columns
     pub columns : length vs ≡ t.columns
+    pub rows : length us ≡ length column_of
 
-  -- the next row is about to be matched, and its potential is 0
-  pub record IsNext : Type 0 where
+  -- a row is left to be matched next, whose potential counts as 0 until then, and the numbers that it takes fit
+  pub record IsNext (fits : ℤ → Type 0) : Type 0 where
     pub matched : IsMatched
     pub left : length column_of < t.rows
-    pub rows : length us ≡ length column_of + 1
-    pub root : number value us (length column_of) ≡ pos 0
+    pub shape : t.rows ≤ t.columns
+    pub fit : WeightsFit fits t
 
   -- these rows, visited columns, distances and places are a tree for the next row
   pub record IsTreeOf (rows : List ℕ) (visited : List Bool) (ds : List C) (places : List ℕ) : Type 0 where
@@ -154,11 +155,9 @@ module _ {C : Type 0} (value : C → ℤ) (t : NumberTable) (column_of : List �
 
 -- What the words above say of the lists that a matching `m` and a tree `s` hold.
 module _ {C A : Type 0} where
-  -- each part of a tree has so many columns
-  pub record IsWide (columns : ℕ) (s : Tree C A) : Type 0 where
-    pub visited : length s.visited.items ≡ columns
-    pub distances : length s.distances.items ≡ columns
-    pub places : length s.places.items ≡ columns
+  -- a tree has so many columns
+  abbrev pub IsWide : ℕ → Tree C A → Type 0
+  IsWide columns s = length s.visited.items ≡ columns
 
   module _ (value : C → ℤ) where
     -- the length of the shortest path to column j
@@ -183,15 +182,25 @@ module _ {C A : Type 0} where
       IsMatchedIn = IsMatched value t m.column_of.items m.row_of.items m.row_potentials.items m.column_potentials.items
 
       -- `IsNext` of a matching
-      abbrev pub IsNextIn : Type 0
+      abbrev pub IsNextIn : (ℤ → Type 0) → Type 0
       IsNextIn = IsNext value t m.column_of.items m.row_of.items m.row_potentials.items m.column_potentials.items
 
       -- `IsTreeOf` of a matching and a tree
       abbrev pub IsTreeIn : Tree C A → Type 0
       IsTreeIn s = IsTreeOf value t m.column_of.items m.row_of.items m.row_potentials.items m.column_potentials.items s.rows.items s.visited.items s.distances.items s.places.items
 
-      -- the numbers that a scan of the row computes, `offset` away, at each column that was not visited
-      pub record ScanFits (fits : ℤ → Type 0) (s : Tree C A) (row : ℕ) (offset : ℤ) : Type 0 where
+      -- a tree for the next row, and its column that is to be visited next
+      pub record IsTreeTo (s : Tree C A) (column : ℕ) : Type 0 where
+        pub tree : IsTreeIn s
+        pub nearest : IsNearestIn t.columns s column
+
+      -- the row can be scanned, `offset` away: a column was not visited, and the numbers fit that are computed at each such column
+      pub record CanScan (fits : ℤ → Type 0) (s : Tree C A) (row : ℕ) (offset : ℤ) : Type 0 where
+        pub inside : row < t.rows
+        pub row_of : length m.row_of.items ≡ t.columns
+        pub potentials : length m.column_potentials.items ≡ t.columns
+        pub wide : IsWide t.columns s
+        pub left : (j : ℕ) × (j < t.columns) × (flag s.visited.items j ≡ false)
         pub negation : (j : ℕ) → j < t.columns → flag s.visited.items j ≡ false → fits (neg_ℤ (number value m.column_potentials.items j))
         pub sum : (j : ℕ) → j < t.columns → flag s.visited.items j ≡ false → fits (offset +ℤ number value m.column_potentials.items j)
         pub difference : (j : ℕ) → j < t.columns → flag s.visited.items j ≡ false → fits (offset +ℤ number value m.column_potentials.items j -ℤ t.at row j)

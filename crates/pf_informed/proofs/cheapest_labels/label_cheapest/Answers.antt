@@ -1,5 +1,4 @@
 use Rattle.std.proofs.Common.{◌<◌, ◌∙◌, [], ◌∷◌, List, ℕ, false, true≢false, sym, subst, refl, length, inl, inr}
-use Rattle.std.specs.BinaryHeap.{heap_items}
 use Rattle.std.proofs.lemmas.List.{append-nil}
 use Rattle.pf_base.specs.Edges.{IsCheapestGoalPath}
 use Rattle.pf_core.specs.declared.labels.Label.{Label}
@@ -10,7 +9,7 @@ use Rattle.pf_core.proofs.SearchLemmas.{Grows-trans}
 use Rattle.pf_core.proofs.WalkLemmas.{no_negative}
 use Rattle.pf_informed.specs.Internal.Informed.{IsInformed}
 use Rattle.pf_informed.specs.Internal.Led.{OthersWait}
-use Rattle.pf_informed.specs.Internal.Waiting.{Entry, IsWaiting, IsQueue}
+use Rattle.pf_informed.specs.Internal.Waiting.{Entry, IsWaiting}
 use Rattle.pf_informed.proofs.LabelledLemmas.{by_cases, goal_path, no_best, exact_label, low_of}
 use Rattle.pf_informed.proofs.LedAnswers.{led_within, led_estimate, led_asked, led_none, led_past}
 use Rattle.pf_informed.proofs.LedLemmas.{graph_of, with_test, informed_still, led_grown}
@@ -21,13 +20,8 @@ use Rattle.pf_informed.proofs.cheapest_labels.label_cheapest.Goals as goal
 pub turns-init : goal.turns-init
 turns-init g c =
     let b = c.in_ok-begin.ensures in
-    let one = c.requires.one in
     record {
-      forest = b.forest;
-      ordered = b.ordered;
-      queue = b.queue;
-      wide = b.labelled ∙ sym one;
-      asked = b.asked ∙ sym one;
+      ready = b.ready;
       begins = λ x s. s;
       searched = λ h test least d. let x = b.graph h test least d in (x.0, x.1 (λ _. false));
       unknown = λ none h test least d. (b.graph h test least d).1 test;
@@ -37,7 +31,7 @@ turns-init g c =
 pub best_with-best-requires-clause-inside : goal.best_with-best-requires-clause-inside
 best_with-best-requires-clause-inside g c =
     let t = c.in-Some.ensures.taken in
-    subst (λ (n : ℕ). c.in-Some.taken.number < n) c.turns.invariant.wide (HasLabel-inside _ _ _ t.at)
+    subst (λ (n : ℕ). c.in-Some.taken.number < n) c.turns.invariant.ready.wide (HasLabel-inside _ _ _ t.at)
 
 pub best_with-best-requires-clause-graph : goal.best_with-best-requires-clause-graph
 best_with-best-requires-clause-graph g c =
@@ -51,11 +45,15 @@ turn-requires-clause-labelled g c =
     let t = c.in-Some.ensures.taken in
     (t.label, t.at)
 
-pub turn-requires-clause-wide : goal.turn-requires-clause-wide
-turn-requires-clause-wide g c = c.turns.invariant.wide ∙ sym c.best_with-best.ensures.same
-
-pub turn-requires-clause-asked : goal.turn-requires-clause-asked
-turn-requires-clause-asked g c = c.turns.invariant.asked ∙ sym c.best_with-best.ensures.same
+pub turn-requires-clause-ready : goal.turn-requires-clause-ready
+turn-requires-clause-ready g c =
+    let r = c.turns.invariant.ready in
+    let same = sym c.best_with-best.ensures.same in
+    record {
+      sound = record { forest = r.sound.forest; few = r.sound.few; estimated = r.sound.estimated; queue = c.in-Some.ensures.queue };
+      wide = r.wide ∙ same;
+      asked = r.asked ∙ same;
+    }
 
 pub turn-requires-clause-graph : goal.turn-requires-clause-graph
 turn-requires-clause-graph g c =
@@ -64,7 +62,7 @@ turn-requires-clause-graph g c =
     let v = inv.searched r.0 r.1 r.2 r.3 in
     let now = v.0 in
     let told = c.best_with-best.ensures.graph (with_test r.0 r.1) (now.explores, now.tested) in
-    (r.0, r.1, r.2, led_grown now g.met.N.Eq.laws inv.asked c.best_with-best.new.graph c.best_with-best.ensures.grows told.0 told.1)
+    (r.0, r.1, r.2, led_grown now g.met.N.Eq.laws inv.ready.asked c.best_with-best.new.graph c.best_with-best.ensures.grows told.0 told.1)
 
 pub turns-preserved : goal.turns-preserved
 turns-preserved g c =
@@ -81,29 +79,24 @@ turns-preserved g c =
     let grown = Grows-trans _ _ _ _ _ _ look.grows n.grows in
     let labels = c.turns.search.labels.items in
     let estimates = c.turns.search.estimates.items in
-    let entries = heap_items c.turns.search.queue in
-    let heap = heap_items c.take_within.new.queue in
-    let heap_after = heap_items c.turn.new.search.queue in
+    let entries = c.turns.search.queue.entries in
+    let heap = c.take_within.new.queue.entries in
+    let heap_after = c.turn.new.search.queue.entries in
     let keys = c.turns.graph.discovery.nodes.keys in
     let between = c.best_with-best.new.graph.discovery.nodes.keys in
     let after = c.turn.new.graph.discovery.nodes.keys in
-    let inside : number < length keys = subst (λ (m : ℕ). number < m) inv.wide (HasLabel-inside labels number t.label t.at) in
-    let q = n.queue [] (subst (λ (es : List (Entry g.row.C.Denot)). IsQueue value labels estimates es) (sym (append-nil heap)) c.in-Some.ensures.queue) in
+    let inside : number < length keys = subst (λ (m : ℕ). number < m) inv.ready.wide (HasLabel-inside labels number t.label t.at) in
     let left = subst (λ (es : List (Entry g.row.C.Denot)). OthersWait value labels number entries es) (sym (append-nil heap)) t.left in
     record {
-      forest = n.forest;
-      ordered = n.ordered;
-      queue = subst (λ (es : List (Entry g.row.C.Denot)). IsQueue value c.turn.new.search.labels.items c.turn.new.search.estimates.items es) (append-nil heap_after) q;
-      wide = n.wide;
-      asked = n.asked;
+      ready = n.ready;
       begins = λ x s. grown.stays 0 x (inv.begins x s);
       searched = λ h test least d.
           let v = inv.searched h test least d in
           let now = v.0 in
           let told = look.graph (with_test h test) (now.explores, now.tested) in
-          let led = led_grown now laws inv.asked c.best_with-best.new.graph look.grows told.0 told.1 in
+          let led = led_grown now laws inv.ready.asked c.best_with-best.new.graph look.grows told.0 told.1 in
           let turned = n.graph h test least led in
-          let still = informed_still value fits (IsStep eq h) (λ _. false) estimates (length keys) (length between) (StandsFor eq keys) (StandsFor eq between) look.grows look.same labels inv.wide entries v.1 in
+          let still = informed_still value fits (IsStep eq h) (λ _. false) estimates (length keys) (length between) (StandsFor eq keys) (StandsFor eq between) look.grows look.same labels inv.ready.wide entries v.1 in
           let informed = turned.1 (λ _. false) entries [] (λ x k. refl) left still in (
             turned.0,
             subst (λ (es : List (Entry g.row.C.Denot)). IsInformed value fits c.turn.new.search.estimates.items (IsStep eq h) (λ _. false) (StandsFor eq after) c.turn.new.search.labels.items es (length after)) (append-nil heap_after) informed,
@@ -113,9 +106,9 @@ turns-preserved g c =
           let now = v.0 in
           let told = look.graph (with_test h test) (now.explores, now.tested) in
           let o = look.open none in
-          let led = led_grown now laws inv.asked c.best_with-best.new.graph look.grows told.0 told.1 in
+          let led = led_grown now laws inv.ready.asked c.best_with-best.new.graph look.grows told.0 told.1 in
           let turned = n.graph h test least led in
-          let still = informed_still value fits (IsStep eq h) test estimates (length keys) (length between) (StandsFor eq keys) (StandsFor eq between) look.grows look.same labels inv.wide entries (inv.unknown o.0 h test least d) in
+          let still = informed_still value fits (IsStep eq h) test estimates (length keys) (length between) (StandsFor eq keys) (StandsFor eq between) look.grows look.same labels inv.ready.wide entries (inv.unknown o.0 h test least d) in
           let informed = turned.1 test entries [] (λ x k. o.1 (with_test h test) x (now.explores, now.tested) (look.grows.back number x inside k)) left still in
           subst (λ (es : List (Entry g.row.C.Denot)). IsInformed value fits c.turn.new.search.estimates.items (IsStep eq h) test (StandsFor eq after) c.turn.new.search.labels.items es (length after)) (append-nil heap_after) informed;
       least = λ b is. by_cases _ (look.found b is)
@@ -126,7 +119,7 @@ turns-preserved g c =
                 let v = inv.searched (graph_of start edges) test least d in
                 let now = v.0 in
                 let known_path = goal_path eq laws start edges test now.explores.alike now.costs now.same_test value fits (λ x y z. g.C.Number.between_law x y z exact) (g.met.C.Zero.zero_fits_law exact)
-                least now.same_estimate now.admissible keys now.explores.reached now.explores.distinct estimates now.estimated inv.asked (inv.begins start s) labels entries inv.forest (inv.unknown new.0 (graph_of start edges) test least d)
+                least now.same_estimate now.admissible keys now.explores.reached now.explores.distinct estimates now.estimated inv.ready.asked (inv.begins start s) labels entries inv.ready.sound.forest (inv.unknown new.0 (graph_of start edges) test least d)
                 number c.in-Some.taken.cost heap t c.in-Some.ensures.queue (subst (λ (q : g.row.C.Denot). fits (value q)) new.1 new.2) inside (λ y k. new.3 (with_test (graph_of start edges) test) y (now.explores, now.tested) k) in
                 (known_path.0, subst (λ (q : g.row.C.Denot). IsCheapestGoalPath eq edges (start ∷ []) test known_path.0 (value q)) (sym new.1) known_path.1),
           ));
@@ -136,8 +129,8 @@ pub returns-in-Some-best : goal.returns-in-Some-best
 returns-in-Some-best g c = record {
   wide =
       let inv = c.turns.invariant in
-      let first = inv.forest.first in
-      (inv.wide, HasLabel-inside c.turns.search.labels.items 0 first.0 first.1);
+      let first = inv.ready.sound.forest.first in
+      (inv.ready.wide, HasLabel-inside c.turns.search.labels.items 0 first.0 first.1);
   labelled = λ start edges test least s d.
       let eq = g.N.PartialEq.eq in
       let laws = g.met.N.Eq.laws in
@@ -157,11 +150,11 @@ returns-in-Some-best g c = record {
       let cheapest = path.1 in (
         now,
         record {
-          first = inv.forest.first;
+          first = inv.ready.sound.forest.first;
           begins = begins;
           exact = exact_label eq laws h now.explores.alike value g.C.Number.fits (λ x y z. g.C.Number.between_law x y z exact) (g.met.C.Zero.zero_fits_law exact) test now.same_test least now.admissible (no_negative eq laws h now.explores.alike now.costs) keys estimates start begins
-              (led_within laws now inv.asked begins) (led_estimate laws now inv.asked begins) (led_asked laws now inv.asked begins)
-              c.turns.search.labels.items (heap_items c.turns.search.queue) inv.forest (length keys) v.1 best (rw is at c.in_default.ensures.taken) known.0 (low_of eq laws start edges test now.explores.alike (value best) cheapest.best);
+              (led_within laws now inv.ready.asked begins) (led_estimate laws now inv.ready.asked begins) (led_asked laws now inv.ready.asked begins)
+              c.turns.search.labels.items c.turns.search.queue.entries inv.ready.sound.forest (length keys) v.1 best (rw is at c.in_default.ensures.taken) known.0 (low_of eq laws start edges test now.explores.alike (value best) cheapest.best);
           path = path;
         },
       );
@@ -178,9 +171,9 @@ returns-then-has_all_labels g c = record {
       let inv = c.turns.invariant in
       let v = inv.searched (graph_of start edges) test least d in
       let unknown = c.in_default-best.is in
-      let none_waits : (k : ℕ) (l : Label g.row.C.Denot) → HasLabel c.turns.search.labels.items k l → ¬ (IsWaiting value (heap_items c.turns.search.queue) k l) = λ k l at w. let b = c.in_default.ensures.taken k l at w in no_best b.0 (sym unknown ∙ b.1) in
-      led_none g.met.N.Eq.laws v.0 inv.asked (inv.begins start s) g.C.Number.fits (λ x y z. g.C.Number.between_law x y z exact) (g.met.C.Zero.zero_fits_law exact)
-      c.turns.search.labels.items inv.wide (heap_items c.turns.search.queue) inv.forest (inv.unknown unknown (graph_of start edges) test least d) none_waits (c.has_all_labels.ensures.0 c.if-has_all_labels.true);
+      let none_waits : (k : ℕ) (l : Label g.row.C.Denot) → HasLabel c.turns.search.labels.items k l → ¬ (IsWaiting value c.turns.search.queue.entries k l) = λ k l at w. let b = c.in_default.ensures.taken k l at w in no_best b.0 (sym unknown ∙ b.1) in
+      led_none g.met.N.Eq.laws v.0 inv.ready.asked (inv.begins start s) g.C.Number.fits (λ x y z. g.C.Number.between_law x y z exact) (g.met.C.Zero.zero_fits_law exact)
+      c.turns.search.labels.items inv.ready.wide c.turns.search.queue.entries inv.ready.sound.forest (inv.unknown unknown (graph_of start edges) test least d) none_waits (c.has_all_labels.ensures.0 c.if-has_all_labels.true);
   overflow = λ start edges test least s d e. absurd (ok_is_no_error _ _ _ refl e);
   errors = tt;
 }
@@ -195,9 +188,9 @@ returns-else-has_all_labels g c = record {
       let inv = c.turns.invariant in
       let v = inv.searched (graph_of start edges) test least d in
       let unknown = c.in_default-best.is in
-      let none_waits : (k : ℕ) (l : Label g.row.C.Denot) → HasLabel c.turns.search.labels.items k l → ¬ (IsWaiting value (heap_items c.turns.search.queue) k l) = λ k l at w. let b = c.in_default.ensures.taken k l at w in no_best b.0 (sym unknown ∙ b.1) in
-      led_past g.met.N.Eq.laws v.0 inv.asked (inv.begins start s) g.C.Number.fits (λ x y z. g.C.Number.between_law x y z exact) (g.met.C.Zero.zero_fits_law exact)
-      c.turns.search.labels.items inv.wide (heap_items c.turns.search.queue) inv.forest (inv.unknown unknown (graph_of start edges) test least d) none_waits (λ a. true≢false (sym (c.has_all_labels.ensures.1 a) ∙ c.if-has_all_labels.false));
+      let none_waits : (k : ℕ) (l : Label g.row.C.Denot) → HasLabel c.turns.search.labels.items k l → ¬ (IsWaiting value c.turns.search.queue.entries k l) = λ k l at w. let b = c.in_default.ensures.taken k l at w in no_best b.0 (sym unknown ∙ b.1) in
+      led_past g.met.N.Eq.laws v.0 inv.ready.asked (inv.begins start s) g.C.Number.fits (λ x y z. g.C.Number.between_law x y z exact) (g.met.C.Zero.zero_fits_law exact)
+      c.turns.search.labels.items inv.ready.wide c.turns.search.queue.entries inv.ready.sound.forest (inv.unknown unknown (graph_of start edges) test least d) none_waits (λ a. true≢false (sym (c.has_all_labels.ensures.1 a) ∙ c.if-has_all_labels.false));
   errors = inr refl;
 }
 
@@ -217,15 +210,6 @@ returns-in_err-turn g c = record {
   errors = refused_as _ c.from_residual-in_err-turn.result _ c.from_residual-in_err-turn.ensures.1 (inl c.in_err-turn.ensures.refused);
 }
 
-pub turn-requires-clause-forest : goal.turn-requires-clause-forest
-turn-requires-clause-forest g c = c.turns.invariant.forest
-
-pub turn-requires-clause-ordered : goal.turn-requires-clause-ordered
-turn-requires-clause-ordered g c = c.in-Some.ensures.ordered
-
-pub turn-requires-clause-queue : goal.turn-requires-clause-queue
-turn-requires-clause-queue g c = c.in-Some.ensures.queue
-
 pub begin-requires-clause-one : goal.begin-requires-clause-one
 begin-requires-clause-one g c = c.requires.one
 
@@ -235,11 +219,8 @@ begin-requires-clause-new g c = c.requires.new
 pub begin-requires-clause-graph : goal.begin-requires-clause-graph
 begin-requires-clause-graph g c = c.requires.graph
 
-pub take_within-requires-clause-ordered : goal.take_within-requires-clause-ordered
-take_within-requires-clause-ordered g c = c.turns.invariant.ordered
-
-pub take_within-requires-clause-queue : goal.take_within-requires-clause-queue
-take_within-requires-clause-queue g c = c.turns.invariant.queue
+pub take_within-requires : goal.take_within-requires
+take_within-requires g c = record { queue = c.turns.invariant.ready.sound.queue }
 
 pub turns-smaller : goal.turns-smaller
 turns-smaller g c = less_left _ _ _ _ _ c.in_ok-turn.ensures.less c.in-Some.ensures.fewer

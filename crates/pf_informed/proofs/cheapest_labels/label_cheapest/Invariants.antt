@@ -1,11 +1,9 @@
 use Rattle.std.proofs.Common.{◌≡◌, ◌∷◌, [], List, Bool, false, ℤ, length, Some, None}
-use Rattle.std.specs.BinaryHeap.{IsHeap, heap_items, heap_len}
 use Rattle.pf_base.specs.Edges.{IsCheapestGoalPath}
 use Rattle.pf_core.specs.Nodes.{NodeGraph, StandsFor}
-use Rattle.pf_informed.specs.Internal.Forest.{IsForest, nat_of}
+use Rattle.pf_informed.specs.Internal.Forest.{nat_of}
 use Rattle.pf_informed.specs.Internal.Informed.{work_left}
-use Rattle.pf_informed.specs.Internal.Led.{IsLed, IsInformedOn}
-use Rattle.pf_informed.specs.Internal.Waiting.{entry_cmp, IsQueue}
+use Rattle.pf_informed.specs.Internal.Led.{IsLed, IsReady, IsInformedOn}
 use Rattle.pf_informed.proofs.cheapest_labels.label_cheapest.Given as goal
 
 abbrev pub invariant-turns : goal.invariant-turns
@@ -15,15 +13,10 @@ invariant-turns g l =
     let led = IsLed eq value g.S.EdgeSource.answers g.T.NodeTest.answers g.H.EstimateFunction.answers in
     let first = l.fn.graph.discovery.nodes.keys in
     let keys = l.graph.discovery.nodes.keys in
-    let labels = l.search.labels.items in
     let known = l.search.estimates.items in
-    let entries = heap_items l.search.queue in
+    let entries = l.search.queue.entries in
     record {
-      forest : IsForest value labels;
-      ordered : IsHeap (entry_cmp g.C.Ord.cmp) entries;
-      queue : IsQueue value labels known entries;
-      wide : length labels ≡ length keys;
-      asked : length known ≡ length keys;
+      ready : IsReady value (length keys) l.search;
       begins : (x : g.row.N.Denot) → StandsFor eq first 0 x → StandsFor eq keys 0 x;
       searched : (h : NodeGraph g.row.N.Denot) (test : g.row.N.Denot → Bool) (least : g.row.N.Denot → ℤ)
           → led h test least l.fn.graph l.fn.estimate l.fn.search.estimates.items
@@ -39,4 +32,4 @@ invariant-turns g l =
     }
 
 abbrev pub decreases-turns : goal.decreases-turns
-decreases-turns g l = work_left g.C.Number.value (nat_of (g.C.Number.value g.C.Cost.greatest)) l.search.labels.items (heap_len l.search.queue)
+decreases-turns g l = work_left g.C.Number.value (nat_of (g.C.Number.value g.C.Cost.greatest)) l.search.labels.items (length l.search.queue.entries)

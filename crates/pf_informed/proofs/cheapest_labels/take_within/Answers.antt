@@ -1,13 +1,11 @@
 use Rattle.std.proofs.Common.{sym, ◌≡◌, ◌<◌, length, Some, slice_get, arith}
 use Rattle.std.proofs.lemmas.Option.{slice_get_within}
-use Rattle.std.specs.BinaryHeap.{heap_items}
 use Rattle.pf_core.proofs.ListLemmas.{at_place}
 use Rattle.pf_informed.proofs.LabelledLemmas.{past_all}
 use Rattle.pf_informed.proofs.cheapest_labels.take_within.Goals as goal
 
 pub take_least-requires : goal.take_least-requires
 take_least-requires g c = record {
-  ordered = c.requires.ordered;
   queue = c.requires.queue;
 }
 
@@ -19,15 +17,13 @@ returns-then-is_past g c = record {
       let estimates = c.args.estimates.now.items in
       let inside : c.in-Some.taken.number < length estimates = slice_get_within estimates c.in-Some.taken.number _ t.estimated in
       let at : slice_get estimates c.in-Some.taken.number ≡ Some c.index.result.now = at_place _ _ _ _ inside (sym c.index.ensures) in
-      past_all g.C.Number.value c.args.labels.now.items estimates (heap_items c.args.queue.now) (heap_items c.take_least.new.queue) c.in-Some.taken.number c.in-Some.taken.cost t c.in-Some.ensures.queue c.args.best p.0 p.1 c.index.result.now at p.2;
-  ordered = c.in-Some.ensures.ordered;
+      past_all g.C.Number.value c.args.labels.now.items estimates c.args.queue.now.entries c.take_least.new.queue.entries c.in-Some.taken.number c.in-Some.taken.cost t c.in-Some.ensures.queue c.args.best p.0 p.1 c.index.result.now at p.2;
   queue = c.in-Some.ensures.queue;
   fewer = omega (arith, c.in-Some.ensures.fewer);
 }
 
 pub returns : goal.returns
 returns g c = record {
-  ordered = c.in-Some.ensures.ordered;
   queue = c.in-Some.ensures.queue;
   taken = c.in-Some.ensures.taken;
   fewer = c.in-Some.ensures.fewer;
@@ -35,7 +31,6 @@ returns g c = record {
 
 pub returns-in_default : goal.returns-in_default
 returns-in_default g c = record {
-  ordered = c.in_default.ensures.ordered;
   queue = c.in_default.ensures.queue;
   fewer = c.in_default.ensures.fewer;
   taken = λ k l h w. absurd (c.in_default.ensures.taken k l h w);

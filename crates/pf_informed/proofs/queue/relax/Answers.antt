@@ -1,6 +1,5 @@
 use Rattle.std.proofs.Common.{arith, ℕ, ◌<◌, ◌≡◌, ◌∙◌, subst, sym, take, inl, inr, [], List}
 use Rattle.std.specs.Prelude.{Contains, ◌⊎◌}
-use Rattle.std.specs.BinaryHeap.{heap_items}
 use Rattle.std.proofs.lemmas.List.{take_all}
 use Rattle.pf_core.proofs.ListLemmas.{Contains-take, Contains-take_more, Contains-take_here, Contains-here}
 use Rattle.pf_informed.specs.Internal.Waiting.{Eased}
@@ -12,26 +11,21 @@ steps-init g c =
     let r = c.requires in
     record {
       room = omega (arith, r.room);
-      forest = r.forest;
-      ordered = r.ordered;
-      queue = r.queue;
+      sound = r.sound;
       here = r.here;
-      eased = Eased-start g.C.Number.value g.C.Number.fits c.args.estimates.now.items c.args.parent (g.C.Number.value c.args.label.now.cost) [] (λ x h. omega (arith, h.1)) c.args.labels.now.items (heap_items c.args.queue.now);
+      eased = Eased-start g.C.Number.value g.C.Number.fits c.args.estimates.now.items c.args.parent (g.C.Number.value c.args.label.now.cost) [] (λ x h. omega (arith, h.1)) c.args.labels.now.items c.args.queue.now.entries;
       less = omega arith;
     }
 
 pub take_step-requires-clause-inside : goal.take_step-requires-clause-inside
 take_step-requires-clause-inside g c =
-    subst (λ (n : ℕ). c.steps-item.result.0 < n) (sym c.steps.invariant.eased.len) (c.requires.inside c.steps-item.result.0 c.steps-item.result.1 (Contains-here c.args.row.now c.steps.next-index c.steps-item.result c.steps-test.true c.steps-item.is))
+    subst (λ (n : ℕ). c.steps-item.result.0 < n) (sym c.steps.invariant.eased.len) (c.requires.steps c.steps-item.result.0 c.steps-item.result.1 (Contains-here c.args.row.now c.steps.next-index c.steps-item.result c.steps-test.true c.steps-item.is)).0
 
 pub take_step-requires-clause-room : goal.take_step-requires-clause-room
 take_step-requires-clause-room g c = omega (arith, c.steps.invariant.room, c.steps-test.true)
 
-pub take_step-requires-clause-wide : goal.take_step-requires-clause-wide
-take_step-requires-clause-wide g c = omega (arith, c.requires.wide, c.steps.invariant.eased.len)
-
 pub take_step-requires-clause-price : goal.take_step-requires-clause-price
-take_step-requires-clause-price g c = c.requires.prices c.steps-item.result.0 c.steps-item.result.1 (Contains-here c.args.row.now c.steps.next-index c.steps-item.result c.steps-test.true c.steps-item.is)
+take_step-requires-clause-price g c = (c.requires.steps c.steps-item.result.0 c.steps-item.result.1 (Contains-here c.args.row.now c.steps.next-index c.steps-item.result c.steps-test.true c.steps-item.is)).1
 
 pub steps-preserved : goal.steps-preserved
 steps-preserved g c =
@@ -40,14 +34,12 @@ steps-preserved g c =
     let at = c.steps.next-index in
     let item = c.steps-item.result in
     record {
-      room = omega (arith, i.room, c.steps-test.true, e.len, e.capacity);
-      forest = e.forest;
-      ordered = e.ordered;
-      queue = e.queue;
+      room = omega (arith, i.room, c.steps-test.true, e.room.0, e.room.1);
+      sound = e.sound;
       here = e.eased.own c.args.label.now i.here;
       eased = Eased-more g.C.Number.value g.C.Number.fits c.args.estimates.now.items c.args.parent (g.C.Number.value c.args.label.now.cost) (take at c.args.row.now) _ item (λ x h. Contains-take c.args.row.now at x h) (Contains-take_here c.args.row.now at item c.steps-test.true c.steps-item.is) (λ x h. elim (Contains-take_more c.args.row.now at item x h) as (λ _. Contains (take at c.args.row.now) x ⊎ (item ≡ x)) [ inl k ↦ inl k | inr q ↦ inr (c.steps-item.is ∙ q) ]) _ _ _ _ _ _ i.eased e.eased;
       less = omega (arith, i.less, e.less);
     }
 
 pub returns-clause-eased : goal.returns-clause-eased
-returns-clause-eased g c = subst (λ (row : List (ℕ × g.row.C.Denot)). Eased g.C.Number.value g.C.Number.fits c.args.estimates.now.items c.args.parent (g.C.Number.value c.args.label.now.cost) row c.args.labels.now.items c.steps.labels.items (heap_items c.args.queue.now) (heap_items c.steps.queue)) (take_all c.steps.next-index c.args.row.now c.steps-test.false) c.steps.invariant.eased
+returns-clause-eased g c = subst (λ (row : List (ℕ × g.row.C.Denot)). Eased g.C.Number.value g.C.Number.fits c.args.estimates.now.items c.args.parent (g.C.Number.value c.args.label.now.cost) row c.args.labels.now.items c.steps.labels.items c.args.queue.now.entries c.steps.queue.entries) (take_all c.steps.next-index c.args.row.now c.steps-test.false) c.steps.invariant.eased

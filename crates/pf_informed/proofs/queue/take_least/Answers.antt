@@ -18,7 +18,6 @@ pub entries-preserved : goal.entries-preserved
 entries-preserved g c =
     let i = c.entries.invariant in
     record {
-      ordered = c.take_first.ensures.ordered;
       queue = IsQueue-rest g.C.Number.value c.args.labels.now.items c.args.estimates.now.items _ _ c.in-Some.entry i.queue c.in-Some.ensures.first.0;
       waits = λ k m h w. waits_on g.C.Number.value c.args.labels.now.items c.args.estimates.now.items _ _ c.in-Some.entry i.queue c.in-Some.ensures.first.0 c.if-not-is_lower.ensures k m h (i.waits k m h w);
       fewer = omega (arith, c.in-Some.ensures.first.1, i.fewer);
@@ -26,20 +25,10 @@ entries-preserved g c =
 
 pub entries-init : goal.entries-init
 entries-init g c = record {
-  ordered = c.requires.ordered;
   queue = c.requires.queue;
   waits = λ k m h w. w;
   fewer = omega arith;
 }
-
-pub take_first-requires : goal.take_first-requires
-take_first-requires g c = c.entries.invariant.ordered
-
-pub returns-then-not-is_lower-clause-ordered : goal.returns-then-not-is_lower-clause-ordered
-returns-then-not-is_lower-clause-ordered g c = c.take_first.ensures.ordered
-
-pub returns-clause-ordered : goal.returns-clause-ordered
-returns-clause-ordered g c = c.take_first.ensures.ordered
 
 pub entries-smaller : goal.entries-smaller
 entries-smaller g c = omega (arith, c.in-Some.ensures.first.1)

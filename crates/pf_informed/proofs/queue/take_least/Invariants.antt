@@ -1,17 +1,15 @@
-use Rattle.std.proofs.Common.{ℕ, ◌≤◌}
-use Rattle.std.specs.BinaryHeap.{IsHeap, heap_items, heap_len}
+use Rattle.std.proofs.Common.{ℕ, ◌≤◌, length}
 use Rattle.pf_core.specs.declared.labels.Label.{Label}
 use Rattle.pf_core.specs.Labels.{HasLabel}
-use Rattle.pf_informed.specs.Internal.Waiting.{entry_cmp, IsQueue, IsWaiting}
+use Rattle.pf_informed.specs.Internal.Waiting.{IsQueue, IsWaiting}
 use Rattle.pf_informed.proofs.queue.take_least.Given as goal
 
 abbrev pub invariant-entries : goal.invariant-entries
 invariant-entries g l = record {
-  ordered : IsHeap (entry_cmp g.C.Ord.cmp) (heap_items l.queue);
-  queue : IsQueue g.C.Number.value l.labels.items l.estimates.items (heap_items l.queue);
-  waits : (k : ℕ) (m : Label g.row.C.Denot) → HasLabel l.labels.items k m → IsWaiting g.C.Number.value (heap_items l.fn.queue) k m → IsWaiting g.C.Number.value (heap_items l.queue) k m;
-  fewer : heap_len l.queue ≤ heap_len l.fn.queue;
+  queue : IsQueue g.C.Number.value l.labels.items l.estimates.items l.queue.entries;
+  waits : (k : ℕ) (m : Label g.row.C.Denot) → HasLabel l.labels.items k m → IsWaiting g.C.Number.value l.fn.queue.entries k m → IsWaiting g.C.Number.value l.queue.entries k m;
+  fewer : length l.queue.entries ≤ length l.fn.queue.entries;
 }
 
 abbrev pub decreases-entries : goal.decreases-entries
-decreases-entries g l = heap_len l.queue
+decreases-entries g l = length l.queue.entries

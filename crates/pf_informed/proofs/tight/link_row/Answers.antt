@@ -10,8 +10,7 @@ use Rattle.pf_informed.proofs.tight.link_row.Goals as goal
 
 pub steps-init : goal.steps-init
 steps-init g c = record {
-  wide = c.requires.wide;
-  up_to = c.requires.up_to;
+  rows = c.requires.rows;
   linked = linked_start (before_in c.args.before.now.items) c.args.number (λ j (d : g.row.C.Denot). IsTightStep g.C.Number.value c.args.labels.now j (g.C.Number.value c.args.cost) d);
 }
 
@@ -22,8 +21,7 @@ steps-preserved g c =
     let at = c.steps.next-index in
     let item = c.steps-item.result in
     record {
-      wide = e.wide;
-      up_to = e.up_to;
+      rows = e.rows;
       linked = linked_more (before_in c.args.before.now.items) (before_in c.steps.before.items) (before_in c.link_step.new.before.items) c.args.number (λ j (d : g.row.C.Denot). IsTightStep g.C.Number.value c.args.labels.now j (g.C.Number.value c.args.cost) d)
           (take at c.args.row.now) (take (at + 1) c.args.row.now) item (λ x h. Contains-take c.args.row.now at x h) (Contains-take_here c.args.row.now at item c.steps-test.true c.steps-item.is)
           (λ x h. elim (Contains-take_more c.args.row.now at item x h) as (λ _. Contains (take at c.args.row.now) x ⊎ (item ≡ x)) [ inl k ↦ inl k | inr q ↦ inr (c.steps-item.is ∙ q) ]) i.linked e.linked;
@@ -33,19 +31,15 @@ pub returns-clause-linked : goal.returns-clause-linked
 returns-clause-linked g c =
     rw (take_all c.steps.next-index c.args.row.now c.steps-test.false) at c.steps.invariant.linked
 
-pub returns-clause-wide : goal.returns-clause-wide
-returns-clause-wide g c = c.steps.invariant.wide
-
-pub returns-clause-up_to : goal.returns-clause-up_to
-returns-clause-up_to g c = c.steps.invariant.up_to
+pub returns-clause-rows : goal.returns-clause-rows
+returns-clause-rows g c = c.steps.invariant.rows
 
 pub link_step-requires : goal.link_step-requires
-link_step-requires g c = record { wide = c.steps.invariant.wide; up_to = c.steps.invariant.up_to }
+link_step-requires g c = record { rows = c.steps.invariant.rows }
 
 pub returns-in_err-link_step : goal.returns-in_err-link_step
 returns-in_err-link_step g c = record {
-  wide = on_refused _ c.from_residual.result _ c.from_residual.ensures.1;
-  up_to = on_refused _ c.from_residual.result _ c.from_residual.ensures.1;
+  rows = on_refused _ c.from_residual.result _ c.from_residual.ensures.1;
   linked = on_refused _ c.from_residual.result _ c.from_residual.ensures.1;
   refused = refused_as _ c.from_residual.result _ c.from_residual.ensures.1 c.in_err-link_step.ensures.refused;
 }

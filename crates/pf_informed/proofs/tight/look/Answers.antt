@@ -8,7 +8,7 @@ use Rattle.pf_core.proofs.ListLemmas.{at_place, on_ok}
 use Rattle.pf_core.proofs.SearchLemmas.{Grows-trans}
 use Rattle.pf_informed.specs.Internal.Ways.{before_in}
 use Rattle.pf_informed.proofs.Outcomes.{refused_as, on_refused, Grows-refl}
-use Rattle.pf_informed.proofs.TightLemmas.{less_of, not_less_of, up_to_next, tight_grows, tight_skipped, tight_goal, tight_row, both_ok}
+use Rattle.pf_informed.proofs.TightLemmas.{less_of, not_less_of, rows_next, tight_grows, tight_skipped, tight_goal, tight_row, both_ok}
 use Rattle.pf_informed.proofs.WiderLemmas.{no_label}
 use Rattle.pf_informed.proofs.Bounds.{below_more}
 use Rattle.pf_informed.proofs.tight.look.Goals as goal
@@ -21,18 +21,17 @@ bounds-labels-number g c = c.requires.inside
 
 pub returns-in_default : goal.returns-in_default
 returns-in_default g c = record {
-  up_to = λ j. up_to_next c.args.number _ (c.requires.up_to j);
+  rows = rows_next c.requires.rows;
   tight = λ h x t.
       tight_skipped _ _ _ _ _ _ c.args.number _ _ t (λ l at. absurd (no_label c.args.labels.now c.args.number l (at_place _ _ _ _ c.requires.inside (sym c.index-labels-number.is ∙ sym c.in_default.ensures)) at));
   grows = Grows-refl _ _;
   graph = λ h x. x;
-  wide = c.requires.wide;
   refused = tt;
 }
 
 pub returns-then-lt : goal.returns-then-lt
 returns-then-lt g c = record {
-  up_to = λ j. up_to_next c.args.number _ (c.requires.up_to j);
+  rows = rows_next c.requires.rows;
   tight = λ h x t.
       let here : HasLabel c.args.labels.now c.args.number c.in-Some.label = at_place _ _ _ _ c.requires.inside (sym c.index-labels-number.is ∙ sym c.in-Some.ensures) in
       let o = g.met.C.Number.order_law c.args.best c.in-Some.label.cost g.met.C.Integral.exact_law in
@@ -40,7 +39,6 @@ returns-then-lt g c = record {
       tight_skipped _ _ _ _ _ _ c.args.number _ _ t (λ l at. let e = ap (λ (m : Label g.row.C.Denot). g.C.Number.value m.cost) (label_is c.args.labels.now c.args.number c.in-Some.label l here at) in omega (arith, ints, dear, e));
   grows = Grows-refl _ _;
   graph = λ h x. x;
-  wide = c.requires.wide;
   refused = tt;
 }
 
@@ -54,15 +52,14 @@ pub returns-in_err-push : goal.returns-in_err-push
 returns-in_err-push g c = record {
   grows = c.is_goal.ensures.grows;
   graph = λ h x. (c.is_goal.ensures.graph h x).0;
-  wide = on_refused _ c.from_residual.result _ c.from_residual.ensures.1;
-  up_to = on_refused _ c.from_residual.result _ c.from_residual.ensures.1;
+  rows = on_refused _ c.from_residual.result _ c.from_residual.ensures.1;
   tight = on_refused _ c.from_residual.result _ c.from_residual.ensures.1;
   refused = refused_as _ c.from_residual.result _ c.from_residual.ensures.1 refl;
 }
 
 pub returns-then-is_goal : goal.returns-then-is_goal
 returns-then-is_goal g c = record {
-  up_to = λ j. up_to_next c.args.number _ (c.requires.up_to j);
+  rows = rows_next c.requires.rows;
   tight = λ h x t.
       let here : HasLabel c.args.labels.now c.args.number c.in-Some.label = at_place _ _ _ _ c.requires.inside (sym c.index-labels-number.is ∙ sym c.in-Some.ensures) in
       let o = g.met.C.Number.order_law c.args.best c.in-Some.label.cost g.met.C.Integral.exact_law in
@@ -73,7 +70,6 @@ returns-then-is_goal g c = record {
       (λ y s. sym (told.1 y (grow.back c.args.number y (below_more _ _ _ c.requires.inside c.requires.found) s)) ∙ c.if-is_goal.true));
   grows = c.is_goal.ensures.grows;
   graph = λ h x. (c.is_goal.ensures.graph h x).0;
-  wide = c.requires.wide;
   refused = tt;
 }
 
@@ -87,23 +83,19 @@ pub returns-in_err-expand : goal.returns-in_err-expand
 returns-in_err-expand g c = record {
   grows = Grows-trans _ _ _ _ _ _ c.is_goal.ensures.grows c.in_err-expand.ensures.grows;
   graph = λ h x. c.in_err-expand.ensures.graph h (c.is_goal.ensures.graph h x).0;
-  wide = on_refused _ c.from_residual-in_err-expand.result _ c.from_residual-in_err-expand.ensures.1;
-  up_to = on_refused _ c.from_residual-in_err-expand.result _ c.from_residual-in_err-expand.ensures.1;
+  rows = on_refused _ c.from_residual-in_err-expand.result _ c.from_residual-in_err-expand.ensures.1;
   tight = on_refused _ c.from_residual-in_err-expand.result _ c.from_residual-in_err-expand.ensures.1;
   refused = refused_as _ c.from_residual-in_err-expand.result _ c.from_residual-in_err-expand.ensures.1 c.in_err-expand.ensures.refused.0;
 }
 
-pub link_row-requires-clause-wide : goal.link_row-requires-clause-wide
-link_row-requires-clause-wide g c = c.requires.wide
-
-pub link_row-requires-clause-up_to : goal.link_row-requires-clause-up_to
-link_row-requires-clause-up_to g c = c.requires.up_to
+pub link_row-requires : goal.link_row-requires
+link_row-requires g c = record { rows = c.requires.rows }
 
 pub returns : goal.returns
 returns g c = record {
-  up_to = on_ok c.link_row.result c.link_row.ensures.up_to (λ u j. up_to_next c.args.number _ (u j));
+  rows = on_ok c.link_row.result c.link_row.ensures.rows (λ r. rows_next r);
   tight =
-      on_ok c.link_row.result (both_ok _ _ c.link_row.result c.link_row.ensures.up_to c.link_row.ensures.linked) (λ w h x t.
+      on_ok c.link_row.result (both_ok _ _ c.link_row.result c.link_row.ensures.rows c.link_row.ensures.linked) (λ w h x t.
       let here : HasLabel c.args.labels.now c.args.number c.in-Some.label = at_place _ _ _ _ c.requires.inside (sym c.index-labels-number.is ∙ sym c.in-Some.ensures) in
       let o = g.met.C.Number.order_law c.args.best c.in-Some.label.cost g.met.C.Integral.exact_law in
       let cheap = not_less_of (g.C.Number.value c.args.best) (g.C.Number.value c.in-Some.label.cost) c.lt.result (c.lt.ensures ∙ ap (is_some_and is_lt) o) c.if-lt.false in
@@ -117,9 +109,8 @@ returns g c = record {
       tight_row _ _ _ _ _ _ c.args.number _ _ (tight_grows _ _ _ _ _ _ _ _ _ grow c.requires.found c.args.number _ _ t) c.in-Some.label here cheap
       (λ y s. sym (told.1 y (grow.back c.args.number y inside s)) ∙ c.if-is_goal.false) row.0
       (λ y s. row.4 h told.0 y (first.stays c.args.number y (grow.back c.args.number y inside s)))
-      (let a = c.requires.someone in (a.0, grow.stays c.args.number a.0 a.1)) (before_in c.link_row.new.before.items) linked (λ j. (w.0 j).once));
+      (let a = c.requires.someone in (a.0, grow.stays c.args.number a.0 a.1)) (before_in c.link_row.new.before.items) linked (λ j. (w.0.up_to j).once));
   grows = Grows-trans _ _ _ _ _ _ c.is_goal.ensures.grows c.in_ok-expand.ensures.grows;
   graph = λ h x. c.in_ok-expand.ensures.graph h (c.is_goal.ensures.graph h x).0;
-  wide = c.link_row.ensures.wide;
   refused = c.link_row.ensures.refused;
 }

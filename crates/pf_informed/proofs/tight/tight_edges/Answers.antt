@@ -29,8 +29,7 @@ numbers-preserved g c =
     let inside : c.numbers.number + 1 ≤ length c.args.labels.now = one_further _ _ c.numbers-test.true in
     record {
       few = inside;
-      wide = e.wide;
-      up_to = e.up_to;
+      rows = e.rows;
       grows = Grows-trans _ _ _ _ _ _ i.grows e.grows;
       tight = λ h x. let t = i.tight h x in (e.graph h t.0, e.tight h t.0 t.1);
     }
@@ -51,15 +50,12 @@ returns g c = record {
       let all : c.numbers.number ≡ length c.args.labels.now = at_the_end _ _ past i.few in
       ((i.tight h x).0, subst (λ (n : ℕ). IsTight g.C.Number.value c.args.labels.now (g.G.NumberedGraph.step h) (g.G.NumberedGraph.passes h) (g.G.NumberedGraph.stands c.numbers.graph) (g.C.Number.value c.args.best) n c.numbers.tight.goals.items (before_in c.numbers.tight.before.items)) all (i.tight h x).1);
   grows = c.numbers.invariant.grows;
-  wide = c.numbers.invariant.wide;
+  wide = c.numbers.invariant.rows.wide;
   refused = tt;
 }
 
-pub look-requires-clause-wide : goal.look-requires-clause-wide
-look-requires-clause-wide g c = c.numbers.invariant.wide
-
-pub look-requires-clause-up_to : goal.look-requires-clause-up_to
-look-requires-clause-up_to g c = c.numbers.invariant.up_to
+pub look-requires-clause-rows : goal.look-requires-clause-rows
+look-requires-clause-rows g c = c.numbers.invariant.rows
 
 pub look-requires-clause-graph : goal.look-requires-clause-graph
 look-requires-clause-graph g c = let a = c.requires.graph in (a.0, (c.numbers.invariant.tight a.0 a.1).0)
@@ -72,8 +68,7 @@ numbers-init g c =
     let e = c.in_ok-empty_rows.ensures in
     record {
       few = none_more _;
-      wide = e.len;
-      up_to = λ j. subst (λ (xs : List ℕ). IsUpTo 0 xs) (sym (e.empty j)) (record { once = tt; low = inl (λ k q. absurd q) });
+      rows = record { wide = e.len; up_to = λ j. subst (λ (xs : List ℕ). IsUpTo 0 xs) (sym (e.empty j)) (record { once = tt; low = inl (λ k q. absurd q) }) };
       grows = Grows-refl _ _;
       tight = λ h x. (x, tight_start _ _ _ _ _ _ _ c.new.ensures.items _ e.empty);
     }

@@ -1,5 +1,4 @@
-use Rattle.std.proofs.Common.{◌≡◌, ◌∙◌, ap, refl, pos, length, false}
-use Rattle.std.specs.BinaryHeap.{heap_items}
+use Rattle.std.proofs.Common.{◌≡◌, ◌∙◌, ap, sym, refl, arith, pos, length, false}
 use Rattle.pf_core.specs.declared.labels.Label.{Label}
 use Rattle.pf_core.specs.Nodes.{StandsFor, IsStep}
 use Rattle.pf_core.proofs.ListLemmas.{on_ok}
@@ -22,18 +21,26 @@ returns g c =
     let first : Label g.row.C.Denot = record { cost = g.C.Zero.zero; parent = 0; depth = 0; settled = false } in
     let nothing : g.C.Number.value g.C.Zero.zero ≡ pos 0 = g.met.C.Zero.zero_law g.met.C.Integral.exact_law in
     record {
-      labelled = on_ok c.begin.result b.labelled (λ e. ap length e);
-      asked = on_ok c.begin.result b.labelled (λ _. ap length b.estimates ∙ c.in_ok-ask.ensures.all ∙ c.requires.one);
-      forest = on_ok c.begin.result b.labelled (λ e. rw e (forest_begin g.C.Number.value first nothing refl));
-      ordered = b.ordered;
-      queue = on_ok c.begin.result (both_ok _ _ c.begin.result b.labelled b.waiting) (λ w. rw (w.0, b.estimates) (queue_begin g.C.Number.value first nothing refl c.ask.new.estimates.items w.1.0 w.1.1 (heap_items c.begin.new.self.queue) w.1.2));
+      ready = on_ok c.begin.result (both_ok _ _ c.begin.result b.labelled b.waiting) (λ begun.
+          let labels : length c.begin.new.self.labels.items ≡ 1 = ap length begun.0 in
+          let asked = ap length b.estimates ∙ c.in_ok-ask.ensures.all in
+          record {
+            sound = record {
+              forest = rw begun.0 (forest_begin g.C.Number.value first nothing refl);
+              few = omega (arith, labels);
+              estimated = omega (arith, labels, asked, c.requires.one);
+              queue = rw (begun.0, b.estimates) (queue_begin g.C.Number.value first nothing refl c.ask.new.estimates.items begun.1.0 begun.1.1 c.begin.new.self.queue.entries begun.1.2);
+            };
+            wide = labels ∙ sym c.requires.one;
+            asked = asked;
+          });
       graph = on_ok c.begin.result (both_ok _ _ c.begin.result b.labelled b.waiting) (λ w h test least d.
           let eq = g.N.PartialEq.eq in
           let keys = c.args.graph.now.discovery.nodes.keys in
           let a = c.in_ok-ask.ensures.graph h least d.asked d.explores.reached in (
             rw b.estimates (led_more d a.0 a.1),
             λ passes.
-                let i = informed_begin g.C.Number.value first nothing refl c.ask.new.estimates.items w.1.0 w.1.1 (heap_items c.begin.new.self.queue) w.1.2 g.C.Number.fits (IsStep eq h) passes (StandsFor eq keys) in
+                let i = informed_begin g.C.Number.value first nothing refl c.ask.new.estimates.items w.1.0 w.1.1 c.begin.new.self.queue.entries w.1.2 g.C.Number.fits (IsStep eq h) passes (StandsFor eq keys) in
                 rw (w.0, b.estimates, c.requires.one) i,
           ));
       refused = b.refused;
@@ -41,11 +48,7 @@ returns g c =
 
 pub returns-in_err-ask : goal.returns-in_err-ask
 returns-in_err-ask g c = record {
-  labelled = on_refused _ c.from_residual.result _ c.from_residual.ensures.1;
-  asked = on_refused _ c.from_residual.result _ c.from_residual.ensures.1;
-  forest = on_refused _ c.from_residual.result _ c.from_residual.ensures.1;
-  ordered = on_refused _ c.from_residual.result _ c.from_residual.ensures.1;
-  queue = on_refused _ c.from_residual.result _ c.from_residual.ensures.1;
+  ready = on_refused _ c.from_residual.result _ c.from_residual.ensures.1;
   graph = on_refused _ c.from_residual.result _ c.from_residual.ensures.1;
   refused = refused_as _ c.from_residual.result _ c.from_residual.ensures.1 c.in_err-ask.ensures.refused;
 }
@@ -58,9 +61,6 @@ begin-requires-clause-unlabelled g c = c.requires.new.unlabelled
 
 pub begin-requires-clause-nothing_waits : goal.begin-requires-clause-nothing_waits
 begin-requires-clause-nothing_waits g c = c.requires.new.nothing_waits
-
-pub begin-requires-clause-ordered : goal.begin-requires-clause-ordered
-begin-requires-clause-ordered g c = c.requires.new.ordered
 
 pub begin-requires-clause-estimated : goal.begin-requires-clause-estimated
 begin-requires-clause-estimated g c = c.in_ok-ask.ensures.all ∙ c.requires.one

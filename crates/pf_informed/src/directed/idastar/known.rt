@@ -1,10 +1,10 @@
 //! What is kept of the nodes that were found, so that each is asked for once.
 
-ghost use Rattle.std.specs.Prelude.{◌≡◌, ◌<◌, ℕ, ℤ, Bool, [], true, Some, OnOk, IfOk, IfErr, MatchOption, ⊤, length, slice_get};
+ghost use Rattle.std.specs.Prelude.{◌≡◌, ◌<◌, ℤ, Bool, [], true, Some, OnOk, IfOk, IfErr, MatchOption, ⊤};
 ghost use Rattle.pf_core.specs.Nodes.{NodeGraph, StandsFor};
 ghost use Rattle.pf_informed.specs.declared.directed.idastar.rows.Span.{Span};
-ghost use Rattle.pf_informed.specs.Internal.Led.{IsLed, FindsMore};
-ghost use Rattle.pf_informed.specs.Internal.Rows.{HasSpan, found_in, IsTabled, IsKnown};
+ghost use Rattle.pf_informed.specs.Internal.Led.{IsLed};
+ghost use Rattle.pf_informed.specs.Internal.Rows.{HasSpan, found_in, IsTabled, IsWhole, KnowsMore, IsKnown};
 
 use crate::directed::idastar::cheapest_row::CheapestRow;
 use crate::directed::idastar::rows::{Rows, Span};
@@ -57,15 +57,10 @@ where
     /// tested, and its edges are asked for, the first time alone.
     pub fn span_of(&mut self, number: usize) -> Result<Option<Span>, PathError>
         requires inside { number < found_in self.old }
-        requires estimated { length self.old.estimates.items ≡ found_in self.old }
-        requires table { IsTabled self.old }
+        requires whole { IsWhole self.old }
         requires graph { (g : NodeGraph N) × (test : N → Bool) × (least : N → ℤ)
             × IsKnown N.eq C.value S.answers T.answers H.answers g test least self.old }
-        ensures estimated { OnOk result (length self.new.estimates.items ≡ found_in self.new) }
-        ensures table { OnOk result (IsTabled self.new) }
-        ensures grows { OnOk result (FindsMore N.eq self.old.graph self.new.graph) }
-        ensures steps { OnOk result ((i : ℕ) (e : ℕ × C) → slice_get self.old.rows.steps.items i ≡ Some e → slice_get self.new.rows.steps.items i ≡ Some e) }
-        ensures spans { OnOk result ((k : ℕ) (s : Span) → HasSpan self.old.rows.spans.items k s → HasSpan self.new.rows.spans.items k s) }
+        ensures more { OnOk result (KnowsMore N.eq self.old self.new) }
         ensures kept { IfOk result (λ r. MatchOption r ⊤ (λ s. HasSpan self.new.rows.spans.items number s)) }
         ensures graph { (g : NodeGraph N) (test : N → Bool) (least : N → ℤ)
             → IsKnown N.eq C.value S.answers T.answers H.answers g test least self.old

@@ -1,11 +1,10 @@
 //! One round of a search to a limit, depth first.
 
-ghost use Rattle.std.specs.Prelude.{◌≡◌, ◌<◌, ◌≤ℤ◌, ◌++◌, ◌∷◌, [], ℤ, Bool, Some, OnOk, IfOk, IfErr, MatchOption, ⊤, length, map};
+ghost use Rattle.std.specs.Prelude.{◌≡◌, ◌<◌, ◌≤ℤ◌, ◌++◌, ◌∷◌, [], ℤ, Bool, Some, OnOk, IfOk, IfErr, MatchOption, ⊤, map};
 ghost use Rattle.pf_core.specs.Nodes.{NodeGraph, StandsFor};
 ghost use Rattle.pf_informed.specs.declared.directed.idastar.way.Frame.{Frame};
-ghost use Rattle.pf_informed.specs.Internal.Led.{FindsMore};
-ghost use Rattle.pf_informed.specs.Internal.Rows.{found_in, IsTabled, IsKnown};
-ghost use Rattle.pf_informed.specs.Internal.Deepening.{turns_on, AreAbove, AreInside, Looked, IsUnderWay, IsMarkedOn};
+ghost use Rattle.pf_informed.specs.Internal.Rows.{found_in, IsWhole, KnowsMore, IsKnown};
+ghost use Rattle.pf_informed.specs.Internal.Deepening.{turns_on, IsRound, Looked, IsUnderWay, IsMarkedOn};
 
 use crate::directed::idastar::cut_off::admit;
 use crate::directed::idastar::known::Known;
@@ -60,16 +59,13 @@ where
     H: EstimateFunction<N, C>,
     A: Allocator + Copy,
     requires left { way.old.frame.at < way.old.frame.end }
-    requires estimated { length known.old.estimates.items ≡ found_in known.old }
-    requires table { IsTabled known.old }
+    requires whole { IsWhole known.old }
     requires marked { IsMarkedOn way.old C.value limit (found_in known.old) }
     requires graph { (g : NodeGraph N) × (test : N → Bool) × (least : N → ℤ) × (first : N)
         × IsKnown N.eq C.value S.answers T.answers H.answers g test least known.old
         × IsUnderWay way.old N.eq C.value C.fits g test least first known.old }
-    ensures estimated { OnOk result (length known.new.estimates.items ≡ found_in known.new) }
-    ensures table { OnOk result (IsTabled known.new) }
-    ensures grows { OnOk result (FindsMore N.eq known.old.graph known.new.graph) }
-    ensures marked { IfOk result (λ r. MatchOption r (IsMarkedOn way.new C.value limit (found_in known.new)) (λ round. AreAbove C.value limit round × AreInside (found_in known.new) round)) }
+    ensures more { OnOk result (KnowsMore N.eq known.old known.new) }
+    ensures marked { IfOk result (λ r. MatchOption r (IsMarkedOn way.new C.value limit (found_in known.new)) (IsRound C.value limit (found_in known.new))) }
     ensures less { IfOk result (λ r. MatchOption r (turns_on way.new < turns_on way.old) (λ _. ⊤)) }
     ensures graph { (g : NodeGraph N) (test : N → Bool) (least : N → ℤ) (first : N)
         → IsKnown N.eq C.value S.answers T.answers H.answers g test least known.old
@@ -120,16 +116,13 @@ where
     T: NodeTest<N>,
     H: EstimateFunction<N, C>,
     A: Allocator + Copy,
-    requires estimated { length known.old.estimates.items ≡ found_in known.old }
-    requires table { IsTabled known.old }
+    requires whole { IsWhole known.old }
     requires marked { IsMarkedOn way.old C.value limit (found_in known.old) }
     requires graph { (g : NodeGraph N) × (test : N → Bool) × (least : N → ℤ) × (first : N)
         × IsKnown N.eq C.value S.answers T.answers H.answers g test least known.old
         × IsUnderWay way.old N.eq C.value C.fits g test least first known.old }
-    ensures estimated { OnOk result (length known.new.estimates.items ≡ found_in known.new) }
-    ensures table { OnOk result (IsTabled known.new) }
-    ensures grows { OnOk result (FindsMore N.eq known.old.graph known.new.graph) }
-    ensures marked { IfOk result (λ r. MatchOption r (IsMarkedOn way.new C.value limit (found_in known.new)) (λ round. AreAbove C.value limit round × AreInside (found_in known.new) round)) }
+    ensures more { OnOk result (KnowsMore N.eq known.old known.new) }
+    ensures marked { IfOk result (λ r. MatchOption r (IsMarkedOn way.new C.value limit (found_in known.new)) (IsRound C.value limit (found_in known.new))) }
     ensures less { IfOk result (λ r. MatchOption r (turns_on way.new < turns_on way.old) (λ _. ⊤)) }
     ensures graph { (g : NodeGraph N) (test : N → Bool) (least : N → ℤ) (first : N)
         → IsKnown N.eq C.value S.answers T.answers H.answers g test least known.old
@@ -176,16 +169,12 @@ where
     H: EstimateFunction<N, C>,
     A: Allocator + Copy,
     requires begun { 0 < found_in known.old }
-    requires estimated { length known.old.estimates.items ≡ found_in known.old }
-    requires table { IsTabled known.old }
+    requires whole { IsWhole known.old }
     requires graph { (g : NodeGraph N) × (test : N → Bool) × (least : N → ℤ) × (first : N)
         × IsKnown N.eq C.value S.answers T.answers H.answers g test least known.old
         × StandsFor N.eq known.old.graph.discovery.nodes.keys 0 first × (least first ≤ℤ C.value limit) }
-    ensures estimated { OnOk result (length known.new.estimates.items ≡ found_in known.new) }
-    ensures table { OnOk result (IsTabled known.new) }
-    ensures grows { OnOk result (FindsMore N.eq known.old.graph known.new.graph) }
-    ensures above { IfOk result (λ r. AreAbove C.value limit r) }
-    ensures inside { IfOk result (λ r. AreInside (found_in known.new) r) }
+    ensures more { OnOk result (KnowsMore N.eq known.old known.new) }
+    ensures round { IfOk result (IsRound C.value limit (found_in known.new)) }
     ensures graph { (g : NodeGraph N) (test : N → Bool) (least : N → ℤ) (first : N)
         → IsKnown N.eq C.value S.answers T.answers H.answers g test least known.old
         → StandsFor N.eq known.old.graph.discovery.nodes.keys 0 first → least first ≤ℤ C.value limit

@@ -8,7 +8,7 @@ ghost use Rattle.pf_search.specs.Internal.Hops.{ExploresHops};
 ghost use Rattle.pf_base.specs.NodeRefs.{HasSameNodes};
 
 use pf_base::{NodeRefs, PathError, SuccessorFunction};
-use pf_core::both_ends::fewest_edges_between;
+use pf_core::bidirectional::fewest_edges_between;
 use pf_core::discovery::{Discovery, clones_of};
 use pf_core::source::{EdgeSource, Unweighted};
 use pf_core::two_sided::TwoSided;

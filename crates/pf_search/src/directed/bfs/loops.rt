@@ -8,8 +8,8 @@ ghost use Rattle.pf_base.specs.NodeRefs.{HasSameNodes};
 ghost use Rattle.pf_search.specs.Internal.Hops.{ExploresHops};
 
 use pf_base::{NodeRefs, PathError, SuccessorFunction};
+use pf_core::bfs_loop::fewest_edges_loop;
 use pf_core::discovery::{Discovery, clones_at, clones_of};
-use pf_core::fewest_loop::fewest_edges_loop;
 use pf_core::source::{EdgeSource, Unweighted};
 use std::alloc::Allocator;
 use std::hash::Hash;

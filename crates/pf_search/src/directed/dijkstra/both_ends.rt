@@ -11,7 +11,7 @@ ghost use Rattle.pf_search.specs.BothEnds.{AnswersWeightedSearchFromBothEnds, Of
 ghost use Rattle.pf_search.specs.Internal.BothEnds.{AreNumberedOnce, bound, TellsAtMost, IsMeetingOn, NoneBelowOn, NoMeetingAmong, IsFirstMeeting, AreSoundOn, AreHalvesOn, IsPairOn, AnswersPair, OfPair, AnswersEnds, OfEnds, NoWalkAcross, NoWalkAcrossBelow};
 
 use pf_base::{Cost, EdgeFunction, PathError};
-use pf_core::both_ends::Halves;
+use pf_core::bidirectional::Halves;
 use pf_core::discovery::{Discovery, Nodes, clone_of};
 use pf_core::labels::{label_of, path_to};
 use pf_core::search::Search;

@@ -11,7 +11,7 @@ use Rattle.pf_graph.proofs.undirected.spanning.choose_edges.Goals as goal
 pub edges-init : goal.edges-init
 edges-init g c = record {
   sound = c.requires.sound;
-  grown = subst (λ xs. Grown g.C.Ord.cmp [] xs c.args.vertices.now) (sym c.requires.none) (Grown-start g.C.Ord.cmp c.args.vertices.now c.requires.singletons);
+  grown = subst (λ xs. Grown g.C.Ord.cmp [] xs c.args.vertices.now) (sym c.in_ok-chosen.ensures.items) (Grown-start g.C.Ord.cmp c.args.vertices.now c.requires.singletons);
 }
 
 pub unite-requires-clause-inside : goal.unite-requires-clause-inside
@@ -36,8 +36,8 @@ edges-preserved g c =
           u.0 u.1 u.2.0 u.2.1;
     }
 
-pub edges-preserved-in-Continue-1 : goal.edges-preserved-in-Continue-1
-edges-preserved-in-Continue-1 g c =
+pub edges-preserved-in-Continue-branch-2 : goal.edges-preserved-in-Continue-branch-2
+edges-preserved-in-Continue-branch-2 g c =
     let len : vec_len c.args.sorted ≡ length c.args.sorted.items = c.args.sorted.ok.0 in
     let road = YieldsList-from_vec c.args.sorted.items c.into_iter-edge-iterator.ensures.into_iter_gives.0 (c.into_iter-edge-iterator.ensures.into_iter_gives.1 ∙ len) in
     let t = YieldsList-turn road c.edges.yielded c.edges.edge-iterator c.edges.yielded_by c.next.result c.next.new.self c.in-Some.edge c.in-Some.is c.next.ensures.steps in
@@ -70,6 +70,15 @@ returns-clause-sorted g c = c.edges.invariant.grown.sorted
 
 pub returns-in_err-push : goal.returns-in_err-push
 returns-in_err-push g c = record {
+  forest = IfOk-from_err _ _ c.from_residual-in_err-push.ensures.0;
+  least = IfOk-from_err _ _ c.from_residual-in_err-push.ensures.0;
+  given = IfOk-from_err _ _ c.from_residual-in_err-push.ensures.0;
+  sorted = IfOk-from_err _ _ c.from_residual-in_err-push.ensures.0;
+  refused = refused_by _ c.from_residual-in_err-push.result c.from_residual-in_err-push.ensures.1;
+}
+
+pub returns-in_err-chosen : goal.returns-in_err-chosen
+returns-in_err-chosen g c = record {
   forest = IfOk-from_err _ _ c.from_residual.ensures.0;
   least = IfOk-from_err _ _ c.from_residual.ensures.0;
   given = IfOk-from_err _ _ c.from_residual.ensures.0;

@@ -4,8 +4,8 @@ use Rattle.std.proofs.lemmas.List.Sorted.{All-permutation, Contains-permutation,
 use Rattle.pf_graph.specs.Spanning.{AreBelow}
 use Rattle.pf_graph.specs.Internal.UnionFind.{IsSound, IsLabelling}
 use Rattle.pf_graph.proofs.Spanning.CopyLemmas.{least_of_permutation}
-use Rattle.pf_graph.proofs.Outcomes.{refused_as, if_refused, refused_by}
-use Rattle.std.proofs.lemmas.Result.{IfOk-from_err}
+use Rattle.pf_graph.proofs.Outcomes.{refused_as, if_refused}
+use Rattle.std.proofs.lemmas.Result.{IfOk-weaker}
 use Rattle.pf_graph.proofs.undirected.spanning.spanning_forest.Goals as goal
 
 pub choose_edges-requires-clause-below : goal.choose_edges-requires-clause-below
@@ -25,14 +25,15 @@ pub choose_edges-requires-clause-singletons : goal.choose_edges-requires-clause-
 choose_edges-requires-clause-singletons g c = subst (IsLabelling (λ x. x)) (sym c.deref_mut.ensures.value) c.in_ok-vertices.ensures.labels
 
 pub returns : goal.returns
-returns g c = record {
-  least = least_of_permutation c.args.edges.items c.sort_unstable_by.new.self.items c.choose_edges.new.chosen.items c.sort_unstable_by.ensures.permutation c.in_ok-choose_edges.ensures.least;
-  given = λ e h.
-      Contains-permutation c.sort_unstable_by.new.self.items c.args.edges.items e (IsPermutation-sym c.args.edges.items c.sort_unstable_by.new.self.items c.sort_unstable_by.ensures.permutation) (c.in_ok-choose_edges.ensures.given e h);
-  forest = c.in_ok-choose_edges.ensures.forest;
-  sorted = c.in_ok-choose_edges.ensures.sorted;
-  refused = tt;
-}
+returns g c =
+    let permutation = c.sort_unstable_by.ensures.permutation in
+    record {
+      forest = c.choose_edges.ensures.forest;
+      least = IfOk-weaker c.choose_edges.result _ _ (λ chosen h. least_of_permutation c.args.edges.items c.sort_unstable_by.new.self.items chosen.items permutation h) c.choose_edges.ensures.least;
+      given = IfOk-weaker c.choose_edges.result _ _ (λ chosen h e m. Contains-permutation c.sort_unstable_by.new.self.items c.args.edges.items e (IsPermutation-sym c.args.edges.items c.sort_unstable_by.new.self.items permutation) (h e m)) c.choose_edges.ensures.given;
+      sorted = c.choose_edges.ensures.sorted;
+      refused = c.choose_edges.ensures.refused;
+    }
 
 pub returns-in_err-vertices : goal.returns-in_err-vertices
 returns-in_err-vertices g c = record {
@@ -41,22 +42,4 @@ returns-in_err-vertices g c = record {
   given = if_refused _ c.from_residual.result _ c.from_residual.ensures.1;
   sorted = if_refused _ c.from_residual.result _ c.from_residual.ensures.1;
   refused = refused_as _ c.from_residual.result _ c.from_residual.ensures.1 c.in_err-vertices.ensures.refused;
-}
-
-pub returns-in_err-chosen : goal.returns-in_err-chosen
-returns-in_err-chosen g c = record {
-  forest = IfOk-from_err _ _ c.from_residual-in_err-chosen.ensures.0;
-  least = IfOk-from_err _ _ c.from_residual-in_err-chosen.ensures.0;
-  given = IfOk-from_err _ _ c.from_residual-in_err-chosen.ensures.0;
-  sorted = IfOk-from_err _ _ c.from_residual-in_err-chosen.ensures.0;
-  refused = refused_by _ c.from_residual-in_err-chosen.result c.from_residual-in_err-chosen.ensures.1;
-}
-
-pub returns-in_err-choose_edges : goal.returns-in_err-choose_edges
-returns-in_err-choose_edges g c = record {
-  forest = if_refused _ c.from_residual-in_err-choose_edges.result _ c.from_residual-in_err-choose_edges.ensures.1;
-  least = if_refused _ c.from_residual-in_err-choose_edges.result _ c.from_residual-in_err-choose_edges.ensures.1;
-  given = if_refused _ c.from_residual-in_err-choose_edges.result _ c.from_residual-in_err-choose_edges.ensures.1;
-  sorted = if_refused _ c.from_residual-in_err-choose_edges.result _ c.from_residual-in_err-choose_edges.ensures.1;
-  refused = refused_as _ c.from_residual-in_err-choose_edges.result _ c.from_residual-in_err-choose_edges.ensures.1 c.in_err-choose_edges.ensures.refused;
 }

@@ -1,12 +1,11 @@
 use Rattle.std.proofs.Common.{◌≡◌, ◌<◌, ◌∙◌, [], List, ℕ, false, true≢false, sym, subst, length, refl, inl, inr}
-use Rattle.std.specs.BinaryHeap.{heap_items}
 use Rattle.std.proofs.lemmas.List.{append-nil}
 use Rattle.pf_core.specs.Nodes.{StandsFor, IsStep}
 use Rattle.pf_core.proofs.LabelLemmas.{HasLabel-inside}
 use Rattle.pf_core.proofs.SearchLemmas.{Grows-trans}
 use Rattle.pf_informed.specs.Internal.Informed.{IsInformed}
 use Rattle.pf_informed.specs.Internal.Led.{OthersWait}
-use Rattle.pf_informed.specs.Internal.Waiting.{Entry, IsQueue}
+use Rattle.pf_informed.specs.Internal.Waiting.{Entry}
 use Rattle.pf_informed.proofs.LedAnswers.{led_above, led_best, led_none, led_past}
 use Rattle.pf_informed.proofs.LedLemmas.{graph_of, with_test, informed_still, led_grown}
 use Rattle.pf_informed.proofs.WiderLemmas.{less_left}
@@ -16,13 +15,8 @@ use Rattle.pf_informed.proofs.directed.astar.search_on.Goals as goal
 pub turns-init : goal.turns-init
 turns-init g c =
     let b = c.in_ok-begin.ensures in
-    let one = c.requires.one in
     record {
-      forest = b.forest;
-      ordered = b.ordered;
-      queue = b.queue;
-      wide = b.labelled ∙ sym one;
-      asked = b.asked ∙ sym one;
+      ready = b.ready;
       begins = λ x s. s;
       searched = λ h test least d. let x = b.graph h test least d in (x.0, x.1 test);
     }
@@ -30,7 +24,7 @@ turns-init g c =
 pub is_goal-requires-clause-inside : goal.is_goal-requires-clause-inside
 is_goal-requires-clause-inside g c =
     let t = c.in-Some.ensures.taken in
-    subst (λ (n : ℕ). c.in-Some.taken.number < n) c.turns.invariant.wide (HasLabel-inside _ _ _ t.at)
+    subst (λ (n : ℕ). c.in-Some.taken.number < n) c.turns.invariant.ready.wide (HasLabel-inside _ _ _ t.at)
 
 pub is_goal-requires-clause-graph : goal.is_goal-requires-clause-graph
 is_goal-requires-clause-graph g c =
@@ -40,7 +34,7 @@ is_goal-requires-clause-graph g c =
     (with_test r.0 r.1, (d.explores, d.tested))
 
 pub nodes_to-requires-clause-wide : goal.nodes_to-requires-clause-wide
-nodes_to-requires-clause-wide g c = c.turns.invariant.wide ∙ sym c.is_goal.ensures.same
+nodes_to-requires-clause-wide g c = c.turns.invariant.ready.wide ∙ sym c.is_goal.ensures.same
 
 pub nodes_to-requires-clause-labelled : goal.nodes_to-requires-clause-labelled
 nodes_to-requires-clause-labelled g c =
@@ -61,14 +55,14 @@ returns-then-is_goal g c = record {
       let after = told.0.0 in
       let t = c.in-Some.ensures.taken in
       let labels = c.turns.search.labels.items in
-      let entries = heap_items c.turns.search.queue in
+      let entries = c.turns.search.queue.entries in
       let keys = c.turns.graph.discovery.nodes.keys in
       let begins = inv.begins start s in
       let nodes = c.in_ok-nodes.ensures.nodes in
-      let above = led_above laws now inv.asked begins g.C.Number.fits (λ x y z. g.C.Number.between_law x y z exact) (g.met.C.Zero.zero_fits_law exact)
-      labels inv.wide entries inv.forest v.1 c.in-Some.taken.number c.in-Some.taken.cost (heap_items c.take_least.new.queue) t c.in-Some.ensures.queue c.known.ensures in
-      led_best laws now inv.asked begins g.C.Number.fits (λ x y z. g.C.Number.between_law x y z exact) (g.met.C.Zero.zero_fits_law exact)
-      labels inv.wide entries inv.forest v.1 c.in-Some.taken.number t.label t.at nodes.0 nodes.1 (λ y k. sym (told.1 y k) ∙ c.if-is_goal.true) above
+      let above = led_above laws now inv.ready.asked begins g.C.Number.fits (λ x y z. g.C.Number.between_law x y z exact) (g.met.C.Zero.zero_fits_law exact)
+      labels inv.ready.wide entries inv.ready.sound.forest v.1 c.in-Some.taken.number c.in-Some.taken.cost c.take_least.new.queue.entries t c.in-Some.ensures.queue c.known.ensures in
+      led_best laws now inv.ready.asked begins g.C.Number.fits (λ x y z. g.C.Number.between_law x y z exact) (g.met.C.Zero.zero_fits_law exact)
+      labels inv.ready.wide entries inv.ready.sound.forest v.1 c.in-Some.taken.number t.label t.at nodes.0 nodes.1 (λ y k. sym (told.1 y k) ∙ c.if-is_goal.true) above
       c.is_goal.new.self.discovery.nodes.keys c.is_goal.ensures.grows after.distinct c.in_ok-nodes.nodes.items nodes.2 (g.C.Number.value c.in-Some.taken.cost) t.same;
   overflow = λ start edges test least s d e. absurd (ok_is_no_error _ _ _ refl e);
   errors = tt;
@@ -79,11 +73,15 @@ turn-requires-clause-labelled g c =
     let t = c.in-Some.ensures.taken in
     (t.label, t.at)
 
-pub turn-requires-clause-wide : goal.turn-requires-clause-wide
-turn-requires-clause-wide g c = c.turns.invariant.wide ∙ sym c.is_goal.ensures.same
-
-pub turn-requires-clause-asked : goal.turn-requires-clause-asked
-turn-requires-clause-asked g c = c.turns.invariant.asked ∙ sym c.is_goal.ensures.same
+pub turn-requires-clause-ready : goal.turn-requires-clause-ready
+turn-requires-clause-ready g c =
+    let r = c.turns.invariant.ready in
+    let same = sym c.is_goal.ensures.same in
+    record {
+      sound = record { forest = r.sound.forest; few = r.sound.few; estimated = r.sound.estimated; queue = c.in-Some.ensures.queue };
+      wide = r.wide ∙ same;
+      asked = r.asked ∙ same;
+    }
 
 pub turn-requires-clause-graph : goal.turn-requires-clause-graph
 turn-requires-clause-graph g c =
@@ -92,7 +90,7 @@ turn-requires-clause-graph g c =
     let v = inv.searched r.0 r.1 r.2 r.3 in
     let now = v.0 in
     let told = c.is_goal.ensures.graph (with_test r.0 r.1) (now.explores, now.tested) in
-    (r.0, r.1, r.2, led_grown now g.met.N.Eq.laws inv.asked c.is_goal.new.self c.is_goal.ensures.grows told.0.0 told.0.1)
+    (r.0, r.1, r.2, led_grown now g.met.N.Eq.laws inv.ready.asked c.is_goal.new.self c.is_goal.ensures.grows told.0.0 told.0.1)
 
 pub turns-preserved : goal.turns-preserved
 turns-preserved g c =
@@ -106,29 +104,24 @@ turns-preserved g c =
     let grown = Grows-trans _ _ _ _ _ _ goal.grows n.grows in
     let labels = c.turns.search.labels.items in
     let estimates = c.turns.search.estimates.items in
-    let heap = heap_items c.take_least.new.queue in
-    let heap_after = heap_items c.turn.new.search.queue in
+    let heap = c.take_least.new.queue.entries in
+    let heap_after = c.turn.new.search.queue.entries in
     let keys = c.turns.graph.discovery.nodes.keys in
     let between = c.is_goal.new.self.discovery.nodes.keys in
     let after = c.turn.new.graph.discovery.nodes.keys in
-    let q = n.queue [] (subst (λ (es : List (Entry g.row.C.Denot)). IsQueue value labels estimates es) (sym (append-nil heap)) c.in-Some.ensures.queue) in
     record {
-      forest = n.forest;
-      ordered = n.ordered;
-      queue = subst (λ (es : List (Entry g.row.C.Denot)). IsQueue value c.turn.new.search.labels.items c.turn.new.search.estimates.items es) (append-nil heap_after) q;
-      wide = n.wide;
-      asked = n.asked;
+      ready = n.ready;
       begins = λ x s. grown.stays 0 x (inv.begins x s);
       searched = λ h test least d.
           let v = inv.searched h test least d in
           let now = v.0 in
           let told = goal.graph (with_test h test) (now.explores, now.tested) in
-          let led = led_grown now laws inv.asked c.is_goal.new.self goal.grows told.0.0 told.0.1 in
+          let led = led_grown now laws inv.ready.asked c.is_goal.new.self goal.grows told.0.0 told.0.1 in
           let turned = n.graph h test least led in
-          let still = informed_still value g.C.Number.fits (IsStep eq h) test estimates (length keys) (length between) (StandsFor eq keys) (StandsFor eq between) goal.grows goal.same labels inv.wide (heap_items c.turns.search.queue) v.1 in
-          let left = subst (λ (es : List (Entry g.row.C.Denot)). OthersWait value labels c.in-Some.taken.number (heap_items c.turns.search.queue) es) (sym (append-nil heap)) t.left in
-          let fails : (x : g.row.N.Denot) → StandsFor eq between c.in-Some.taken.number x → test x ≡ false = λ x k. sym (told.1 x (goal.grows.back c.in-Some.taken.number x (subst (λ (m : ℕ). c.in-Some.taken.number < m) inv.wide (HasLabel-inside labels _ _ t.at)) k)) ∙ c.if-is_goal.false in
-          let informed = turned.1 test (heap_items c.turns.search.queue) [] fails left still in (
+          let still = informed_still value g.C.Number.fits (IsStep eq h) test estimates (length keys) (length between) (StandsFor eq keys) (StandsFor eq between) goal.grows goal.same labels inv.ready.wide c.turns.search.queue.entries v.1 in
+          let left = subst (λ (es : List (Entry g.row.C.Denot)). OthersWait value labels c.in-Some.taken.number c.turns.search.queue.entries es) (sym (append-nil heap)) t.left in
+          let fails : (x : g.row.N.Denot) → StandsFor eq between c.in-Some.taken.number x → test x ≡ false = λ x k. sym (told.1 x (goal.grows.back c.in-Some.taken.number x (subst (λ (m : ℕ). c.in-Some.taken.number < m) inv.ready.wide (HasLabel-inside labels _ _ t.at)) k)) ∙ c.if-is_goal.false in
+          let informed = turned.1 test c.turns.search.queue.entries [] fails left still in (
             turned.0,
             subst (λ (es : List (Entry g.row.C.Denot)). IsInformed value g.C.Number.fits c.turn.new.search.estimates.items (IsStep eq h) test (StandsFor eq after) c.turn.new.search.labels.items es (length after)) (append-nil heap_after) informed,
           );
@@ -140,8 +133,8 @@ returns-then-has_all_labels g c = record {
       let exact = g.met.C.Integral.exact_law in
       let inv = c.turns.invariant in
       let v = inv.searched (graph_of start edges) test least d in
-      led_none g.met.N.Eq.laws v.0 inv.asked (inv.begins start s) g.C.Number.fits (λ x y z. g.C.Number.between_law x y z exact) (g.met.C.Zero.zero_fits_law exact)
-      c.turns.search.labels.items inv.wide (heap_items c.turns.search.queue) inv.forest v.1 c.in_default.ensures.taken (c.has_all_labels.ensures.0 c.if-has_all_labels.true);
+      led_none g.met.N.Eq.laws v.0 inv.ready.asked (inv.begins start s) g.C.Number.fits (λ x y z. g.C.Number.between_law x y z exact) (g.met.C.Zero.zero_fits_law exact)
+      c.turns.search.labels.items inv.ready.wide c.turns.search.queue.entries inv.ready.sound.forest v.1 c.in_default.ensures.taken (c.has_all_labels.ensures.0 c.if-has_all_labels.true);
   overflow = λ start edges test least s d e. absurd (ok_is_no_error _ _ _ refl e);
   errors = tt;
 }
@@ -153,8 +146,8 @@ returns-else-has_all_labels g c = record {
       let exact = g.met.C.Integral.exact_law in
       let inv = c.turns.invariant in
       let v = inv.searched (graph_of start edges) test least d in
-      led_past g.met.N.Eq.laws v.0 inv.asked (inv.begins start s) g.C.Number.fits (λ x y z. g.C.Number.between_law x y z exact) (g.met.C.Zero.zero_fits_law exact)
-      c.turns.search.labels.items inv.wide (heap_items c.turns.search.queue) inv.forest v.1 c.in_default.ensures.taken (λ a. true≢false (sym (c.has_all_labels.ensures.1 a) ∙ c.if-has_all_labels.false));
+      led_past g.met.N.Eq.laws v.0 inv.ready.asked (inv.begins start s) g.C.Number.fits (λ x y z. g.C.Number.between_law x y z exact) (g.met.C.Zero.zero_fits_law exact)
+      c.turns.search.labels.items inv.ready.wide c.turns.search.queue.entries inv.ready.sound.forest v.1 c.in_default.ensures.taken (λ a. true≢false (sym (c.has_all_labels.ensures.1 a) ∙ c.if-has_all_labels.false));
   errors = inr refl;
 }
 
@@ -179,20 +172,11 @@ returns-in_err-turn g c = record {
   errors = refused_as _ c.from_residual-in_err-turn.result _ c.from_residual-in_err-turn.ensures.1 (inl c.in_err-turn.ensures.refused);
 }
 
-pub turn-requires-clause-forest : goal.turn-requires-clause-forest
-turn-requires-clause-forest g c = c.turns.invariant.forest
-
 pub nodes_to-requires-clause-clones : goal.nodes_to-requires-clause-clones
 nodes_to-requires-clause-clones g c = c.requires.clones
 
 pub nodes_to-requires-clause-forest : goal.nodes_to-requires-clause-forest
-nodes_to-requires-clause-forest g c = c.turns.invariant.forest
-
-pub turn-requires-clause-ordered : goal.turn-requires-clause-ordered
-turn-requires-clause-ordered g c = c.in-Some.ensures.ordered
-
-pub turn-requires-clause-queue : goal.turn-requires-clause-queue
-turn-requires-clause-queue g c = c.in-Some.ensures.queue
+nodes_to-requires-clause-forest g c = c.turns.invariant.ready.sound.forest
 
 pub begin-requires-clause-one : goal.begin-requires-clause-one
 begin-requires-clause-one g c = c.requires.one
@@ -203,11 +187,8 @@ begin-requires-clause-new g c = c.requires.new
 pub begin-requires-clause-graph : goal.begin-requires-clause-graph
 begin-requires-clause-graph g c = c.requires.graph
 
-pub take_least-requires-clause-ordered : goal.take_least-requires-clause-ordered
-take_least-requires-clause-ordered g c = c.turns.invariant.ordered
-
-pub take_least-requires-clause-queue : goal.take_least-requires-clause-queue
-take_least-requires-clause-queue g c = c.turns.invariant.queue
+pub take_least-requires : goal.take_least-requires
+take_least-requires g c = record { queue = c.turns.invariant.ready.sound.queue }
 
 pub turns-smaller : goal.turns-smaller
 turns-smaller g c = less_left _ _ _ _ _ c.in_ok-turn.ensures.less c.in-Some.ensures.fewer

@@ -1,6 +1,5 @@
 use Rattle.std.proofs.Common.{◌≡◌, ◌<◌, ◌∙◌, List, ℕ, ℤ, false, true≢false, ap, sym, subst, length, slice_get, Some, refl, inl, inr}
 use Rattle.std.specs.Prelude.{◌++◌, ◌≤ℤ◌}
-use Rattle.std.specs.BinaryHeap.{heap_items}
 use Rattle.std.proofs.lemmas.List.{append-nil}
 use Rattle.std.proofs.lemmas.List.Elements.{Contains-append_left}
 use Rattle.std.proofs.lemmas.Option.{MatchOption-at_some, MatchOption-at_none}
@@ -27,21 +26,17 @@ turns-init g c =
     let laws = g.met.N.Eq.laws in
     let value = g.C.Number.value in
     let b = c.in_ok-begin.ensures in
-    let one = c.requires.one in
     let keys = c.args.graph.now.discovery.nodes.keys in
     let labels = c.begin.new.search.labels.items in
     let kept = c.begin.new.search.estimates.items in
-    let heap = heap_items c.begin.new.search.queue in
+    let heap = c.begin.new.search.queue.entries in
     let entries = heap ++ listed c.args.lists.now in
     let alone : heap ≡ entries = sym (ap (λ (es : List (Entry g.row.C.Denot)). heap ++ es) c.requires.unlisted ∙ append-nil heap) in
-    let asked : length kept ≡ length keys = b.asked ∙ sym one in
-    let estimate : slice_get kept 0 ≡ Some c.index.result.now = at_place kept 0 c.index.result.now c.index.result.now (some_one _ b.asked) (sym c.index.ensures) in
+    let asked = b.ready.asked in
+    let estimate : slice_get kept 0 ≡ Some c.index.result.now = at_place kept 0 c.index.result.now c.index.result.now (some_one _ (asked ∙ c.requires.one)) (sym c.index.ensures) in
     record {
-      forest = b.forest;
-      ordered = b.ordered;
-      queue = subst (λ (es : List (Entry g.row.C.Denot)). IsQueue value labels kept es) alone b.queue;
-      wide = b.labelled ∙ sym one;
-      asked = asked;
+      ready = b.ready;
+      queue = subst (λ (es : List (Entry g.row.C.Denot)). IsQueue value labels kept es) alone b.ready.sound.queue;
       begins = λ x s. s;
       searched = λ h test least d.
           let x = b.graph h test least d in
@@ -59,7 +54,7 @@ turns-init g c =
 pub is_goal-requires-clause-inside : goal.is_goal-requires-clause-inside
 is_goal-requires-clause-inside g c =
     let t = MatchOption-at_some _ _ c.in-Some.taken c.in-Some.is c.in_ok-taken.ensures.taken in
-    subst (λ (n : ℕ). c.in-Some.taken.number < n) c.turns.invariant.wide (HasLabel-inside _ _ _ t.at)
+    subst (λ (n : ℕ). c.in-Some.taken.number < n) c.turns.invariant.ready.wide (HasLabel-inside _ _ _ t.at)
 
 pub is_goal-requires-clause-graph : goal.is_goal-requires-clause-graph
 is_goal-requires-clause-graph g c =
@@ -69,7 +64,7 @@ is_goal-requires-clause-graph g c =
     (with_test r.0 r.1, (d.explores, d.tested))
 
 pub nodes_to-requires-clause-wide : goal.nodes_to-requires-clause-wide
-nodes_to-requires-clause-wide g c = c.turns.invariant.wide ∙ sym c.is_goal.ensures.same
+nodes_to-requires-clause-wide g c = c.turns.invariant.ready.wide ∙ sym c.is_goal.ensures.same
 
 pub nodes_to-requires-clause-labelled : goal.nodes_to-requires-clause-labelled
 nodes_to-requires-clause-labelled g c =
@@ -94,16 +89,16 @@ returns-then-is_goal g c = record {
       let number = c.in-Some.taken.number in
       let labels = c.turns.search.labels.items in
       let estimates = c.turns.search.estimates.items in
-      let entries = heap_items c.turns.search.queue ++ listed c.turns.lists in
+      let entries = c.turns.search.queue.entries ++ listed c.turns.lists in
       let keys = c.turns.graph.discovery.nodes.keys in
       let begins = inv.begins start s in
       let nodes = c.in_ok-nodes.ensures.nodes in
       let between = λ (x y z : ℤ). g.C.Number.between_law x y z exact in
       let nothing = g.met.C.Zero.zero_fits_law exact in
-      let low = led_limit laws now inv.asked begins fits between nothing labels inv.wide entries inv.forest v.1 c.turns.lists.limit c.take.new.self.limit c.in_ok-taken.ensures.limit (inv.below start edges test least s d) in
-      let above = led_in_limit laws now inv.asked begins fits between nothing labels inv.wide entries inv.forest v.1 number c.in-Some.taken.cost c.take.new.self.limit (heap_items c.take.new.queue ++ listed c.take.new.self) t low in
-      led_best laws now inv.asked begins fits between nothing
-      labels inv.wide entries inv.forest v.1 number t.label t.at nodes.0 nodes.1 (λ y k. sym (told.1 y k) ∙ c.if-is_goal.true) above
+      let low = led_limit laws now inv.ready.asked begins fits between nothing labels inv.ready.wide entries inv.ready.sound.forest v.1 c.turns.lists.limit c.take.new.self.limit c.in_ok-taken.ensures.limit (inv.below start edges test least s d) in
+      let above = led_in_limit laws now inv.ready.asked begins fits between nothing labels inv.ready.wide entries inv.ready.sound.forest v.1 number c.in-Some.taken.cost c.take.new.self.limit (c.take.new.queue.entries ++ listed c.take.new.self) t low in
+      led_best laws now inv.ready.asked begins fits between nothing
+      labels inv.ready.wide entries inv.ready.sound.forest v.1 number t.label t.at nodes.0 nodes.1 (λ y k. sym (told.1 y k) ∙ c.if-is_goal.true) above
       c.is_goal.new.self.discovery.nodes.keys c.is_goal.ensures.grows after.distinct c.in_ok-nodes.nodes.items nodes.2 (value c.in-Some.taken.cost) t.same;
   overflow = λ start edges test least s d e. absurd (ok_is_no_error _ _ _ refl e);
   errors = tt;
@@ -114,17 +109,17 @@ turn-requires-clause-labelled g c =
     let t = MatchOption-at_some _ _ c.in-Some.taken c.in-Some.is c.in_ok-taken.ensures.taken in
     (t.label, t.at)
 
-pub turn-requires-clause-wide : goal.turn-requires-clause-wide
-turn-requires-clause-wide g c = c.turns.invariant.wide ∙ sym c.is_goal.ensures.same
-
-pub turn-requires-clause-asked : goal.turn-requires-clause-asked
-turn-requires-clause-asked g c = c.turns.invariant.asked ∙ sym c.is_goal.ensures.same
-
-pub turn-requires-clause-queue : goal.turn-requires-clause-queue
-turn-requires-clause-queue g c =
-    let heap = heap_items c.take.new.queue in
-    let rest = listed c.take.new.self in
-    queue_in g.C.Number.value c.turns.search.labels.items c.turns.search.estimates.items (heap ++ rest) heap c.in_ok-taken.ensures.queue (λ e h. Contains-append_left heap rest e h)
+pub turn-requires-clause-ready : goal.turn-requires-clause-ready
+turn-requires-clause-ready g c =
+    let r = c.turns.invariant.ready in
+    let same = sym c.is_goal.ensures.same in
+    let heap = c.take.new.queue.entries in
+    let waiting = queue_in g.C.Number.value c.turns.search.labels.items c.turns.search.estimates.items (heap ++ listed c.take.new.self) heap c.in_ok-taken.ensures.queue (λ e h. Contains-append_left heap (listed c.take.new.self) e h) in
+    record {
+      sound = record { forest = r.sound.forest; few = r.sound.few; estimated = r.sound.estimated; queue = waiting };
+      wide = r.wide ∙ same;
+      asked = r.asked ∙ same;
+    }
 
 pub turn-requires-clause-graph : goal.turn-requires-clause-graph
 turn-requires-clause-graph g c =
@@ -133,7 +128,7 @@ turn-requires-clause-graph g c =
     let v = inv.searched r.0 r.1 r.2 r.3 in
     let now = v.0 in
     let told = c.is_goal.ensures.graph (with_test r.0 r.1) (now.explores, now.tested) in
-    (r.0, r.1, r.2, led_grown now g.met.N.Eq.laws inv.asked c.is_goal.new.self c.is_goal.ensures.grows told.0.0 told.0.1)
+    (r.0, r.1, r.2, led_grown now g.met.N.Eq.laws inv.ready.asked c.is_goal.new.self c.is_goal.ensures.grows told.0.0 told.0.1)
 
 pub turns-preserved : goal.turns-preserved
 turns-preserved g c =
@@ -150,25 +145,22 @@ turns-preserved g c =
     let grown = Grows-trans _ _ _ _ _ _ goal.grows n.grows in
     let labels = c.turns.search.labels.items in
     let estimates = c.turns.search.estimates.items in
-    let entries = heap_items c.turns.search.queue ++ listed c.turns.lists in
+    let entries = c.turns.search.queue.entries ++ listed c.turns.lists in
     let rest = listed c.take.new.self in
     let keys = c.turns.graph.discovery.nodes.keys in
     let between = c.is_goal.new.self.discovery.nodes.keys in
-    let inside : number < length keys = subst (λ (m : ℕ). number < m) inv.wide (HasLabel-inside labels number t.label t.at) in
+    let inside : number < length keys = subst (λ (m : ℕ). number < m) inv.ready.wide (HasLabel-inside labels number t.label t.at) in
     record {
-      forest = n.forest;
-      ordered = n.ordered;
+      ready = n.ready;
       queue = n.queue rest c.in_ok-taken.ensures.queue;
-      wide = n.wide;
-      asked = n.asked;
       begins = λ x s. grown.stays 0 x (inv.begins x s);
       searched = λ h test least d.
           let v = inv.searched h test least d in
           let now = v.0 in
           let told = goal.graph (with_test h test) (now.explores, now.tested) in
-          let led = led_grown now laws inv.asked c.is_goal.new.self goal.grows told.0.0 told.0.1 in
+          let led = led_grown now laws inv.ready.asked c.is_goal.new.self goal.grows told.0.0 told.0.1 in
           let turned = n.graph h test least led in
-          let still = informed_still value fits (IsStep eq h) test estimates (length keys) (length between) (StandsFor eq keys) (StandsFor eq between) goal.grows goal.same labels inv.wide entries v.1 in
+          let still = informed_still value fits (IsStep eq h) test estimates (length keys) (length between) (StandsFor eq keys) (StandsFor eq between) goal.grows goal.same labels inv.ready.wide entries v.1 in
           let fails : (x : g.row.N.Denot) → StandsFor eq between number x → test x ≡ false = λ x k. sym (told.1 x (goal.grows.back number x inside k)) ∙ c.if-is_goal.false in
           (turned.0, turned.1 test entries rest fails t.left still);
       below = λ start edges test least s d.
@@ -176,8 +168,8 @@ turns-preserved g c =
           let v = inv.searched h test least d in
           let now = v.0 in
           let begins = inv.begins start s in
-          led_limit laws now inv.asked begins fits (λ x y z. g.C.Number.between_law x y z exact) (g.met.C.Zero.zero_fits_law exact)
-          labels inv.wide entries inv.forest v.1 c.turns.lists.limit c.take.new.self.limit c.in_ok-taken.ensures.limit (inv.below start edges test least s d);
+          led_limit laws now inv.ready.asked begins fits (λ x y z. g.C.Number.between_law x y z exact) (g.met.C.Zero.zero_fits_law exact)
+          labels inv.ready.wide entries inv.ready.sound.forest v.1 c.turns.lists.limit c.take.new.self.limit c.in_ok-taken.ensures.limit (inv.below start edges test least s d);
     }
 
 pub returns-then-has_all_labels : goal.returns-then-has_all_labels
@@ -186,8 +178,8 @@ returns-then-has_all_labels g c = record {
       let exact = g.met.C.Integral.exact_law in
       let inv = c.turns.invariant in
       let v = inv.searched (graph_of start edges) test least d in
-      led_none g.met.N.Eq.laws v.0 inv.asked (inv.begins start s) g.C.Number.fits (λ x y z. g.C.Number.between_law x y z exact) (g.met.C.Zero.zero_fits_law exact)
-      c.turns.search.labels.items inv.wide (heap_items c.turns.search.queue ++ listed c.turns.lists) inv.forest v.1 (MatchOption-at_none _ _ c.in_default.is c.in_ok-taken.ensures.taken) (c.has_all_labels.ensures.0 c.if-has_all_labels.true);
+      led_none g.met.N.Eq.laws v.0 inv.ready.asked (inv.begins start s) g.C.Number.fits (λ x y z. g.C.Number.between_law x y z exact) (g.met.C.Zero.zero_fits_law exact)
+      c.turns.search.labels.items inv.ready.wide (c.turns.search.queue.entries ++ listed c.turns.lists) inv.ready.sound.forest v.1 (MatchOption-at_none _ _ c.in_default.is c.in_ok-taken.ensures.taken) (c.has_all_labels.ensures.0 c.if-has_all_labels.true);
   overflow = λ start edges test least s d e. absurd (ok_is_no_error _ _ _ refl e);
   errors = tt;
 }
@@ -199,8 +191,8 @@ returns-else-has_all_labels g c = record {
       let exact = g.met.C.Integral.exact_law in
       let inv = c.turns.invariant in
       let v = inv.searched (graph_of start edges) test least d in
-      led_past g.met.N.Eq.laws v.0 inv.asked (inv.begins start s) g.C.Number.fits (λ x y z. g.C.Number.between_law x y z exact) (g.met.C.Zero.zero_fits_law exact)
-      c.turns.search.labels.items inv.wide (heap_items c.turns.search.queue ++ listed c.turns.lists) inv.forest v.1 (MatchOption-at_none _ _ c.in_default.is c.in_ok-taken.ensures.taken) (λ a. true≢false (sym (c.has_all_labels.ensures.1 a) ∙ c.if-has_all_labels.false));
+      led_past g.met.N.Eq.laws v.0 inv.ready.asked (inv.begins start s) g.C.Number.fits (λ x y z. g.C.Number.between_law x y z exact) (g.met.C.Zero.zero_fits_law exact)
+      c.turns.search.labels.items inv.ready.wide (c.turns.search.queue.entries ++ listed c.turns.lists) inv.ready.sound.forest v.1 (MatchOption-at_none _ _ c.in_default.is c.in_ok-taken.ensures.taken) (λ a. true≢false (sym (c.has_all_labels.ensures.1 a) ∙ c.if-has_all_labels.false));
   errors = inr refl;
 }
 
@@ -232,23 +224,14 @@ returns-in_err-turn g c = record {
   errors = refused_as _ c.from_residual-in_err-turn.result _ c.from_residual-in_err-turn.ensures.1 (inl c.in_err-turn.ensures.refused);
 }
 
-pub turn-requires-clause-forest : goal.turn-requires-clause-forest
-turn-requires-clause-forest g c = c.turns.invariant.forest
-
-pub take-requires-clause-ordered : goal.take-requires-clause-ordered
-take-requires-clause-ordered g c = c.turns.invariant.ordered
-
-pub take-requires-clause-queue : goal.take-requires-clause-queue
-take-requires-clause-queue g c = c.turns.invariant.queue
+pub take-requires : goal.take-requires
+take-requires g c = record { queue = c.turns.invariant.queue }
 
 pub nodes_to-requires-clause-clones : goal.nodes_to-requires-clause-clones
 nodes_to-requires-clause-clones g c = c.requires.clones
 
 pub nodes_to-requires-clause-forest : goal.nodes_to-requires-clause-forest
-nodes_to-requires-clause-forest g c = c.turns.invariant.forest
-
-pub turn-requires-clause-ordered : goal.turn-requires-clause-ordered
-turn-requires-clause-ordered g c = c.in_ok-taken.ensures.ordered
+nodes_to-requires-clause-forest g c = c.turns.invariant.ready.sound.forest
 
 pub begin-requires-clause-one : goal.begin-requires-clause-one
 begin-requires-clause-one g c = c.requires.one
@@ -263,4 +246,4 @@ pub turns-smaller : goal.turns-smaller
 turns-smaller g c = less_left_too _ _ _ _ _ _ c.in_ok-turn.ensures.less (MatchOption-at_some _ _ c.in-Some.taken c.in-Some.is c.in_ok-taken.ensures.fewer)
 
 pub index-requires : goal.index-requires
-index-requires g c = some_one _ (c.begin.new.search.estimates.ok.0 ∙ c.in_ok-begin.ensures.asked)
+index-requires g c = some_one _ (c.begin.new.search.estimates.ok.0 ∙ c.in_ok-begin.ensures.ready.asked ∙ c.requires.one)

@@ -1,11 +1,10 @@
 use Rattle.std.proofs.Common.{◌≡◌, ◌∷◌, ◌++◌, ◌+◌, [], List, Bool, true, ℤ, length}
-use Rattle.std.specs.BinaryHeap.{IsHeap, heap_items, heap_len}
 use Rattle.pf_core.specs.Nodes.{NodeGraph, StandsFor, IsStep}
-use Rattle.pf_informed.specs.Internal.Forest.{IsForest, nat_of}
+use Rattle.pf_informed.specs.Internal.Forest.{nat_of}
 use Rattle.pf_informed.specs.Internal.Fringe.{listed, IsBelowGoals}
 use Rattle.pf_informed.specs.Internal.Informed.{work_left}
-use Rattle.pf_informed.specs.Internal.Led.{IsLed, IsInformedOn}
-use Rattle.pf_informed.specs.Internal.Waiting.{entry_cmp, IsQueue}
+use Rattle.pf_informed.specs.Internal.Led.{IsLed, IsReady, IsInformedOn}
+use Rattle.pf_informed.specs.Internal.Waiting.{IsQueue}
 use Rattle.pf_informed.proofs.directed.fringe.search_on.Given as goal
 
 abbrev pub invariant-turns : goal.invariant-turns
@@ -17,13 +16,10 @@ invariant-turns g l =
     let keys = l.graph.discovery.nodes.keys in
     let labels = l.search.labels.items in
     let known = l.search.estimates.items in
-    let entries = heap_items l.search.queue ++ listed l.lists in
+    let entries = l.search.queue.entries ++ listed l.lists in
     record {
-      forest : IsForest value labels;
-      ordered : IsHeap (entry_cmp g.C.Ord.cmp) (heap_items l.search.queue);
+      ready : IsReady value (length keys) l.search;
       queue : IsQueue value labels known entries;
-      wide : length labels ≡ length keys;
-      asked : length known ≡ length keys;
       begins : (x : g.row.N.Denot) → StandsFor eq first 0 x → StandsFor eq keys 0 x;
       searched : (h : NodeGraph g.row.N.Denot) (test : g.row.N.Denot → Bool) (least : g.row.N.Denot → ℤ)
           → led h test least l.fn.graph l.fn.estimate l.fn.search.estimates.items
@@ -35,4 +31,4 @@ invariant-turns g l =
     }
 
 abbrev pub decreases-turns : goal.decreases-turns
-decreases-turns g l = work_left g.C.Number.value (nat_of (g.C.Number.value g.C.Cost.greatest)) l.search.labels.items (heap_len l.search.queue + length (listed l.lists))
+decreases-turns g l = work_left g.C.Number.value (nat_of (g.C.Number.value g.C.Cost.greatest)) l.search.labels.items (length l.search.queue.entries + length (listed l.lists))

@@ -36,8 +36,7 @@ limits-init g c =
     let asked : length kept ≡ length keys = c.in_ok-ask.ensures.all in
     record {
       begins = λ x s. s;
-      asked = asked;
-      table = c.requires.table;
+      whole = record { asked = asked; table = c.requires.table };
       searched = λ start edges test least b k.
           let h = graph_of start edges in
           let a = c.in_ok-ask.ensures.graph h least k.led.asked k.led.explores.reached in
@@ -56,7 +55,7 @@ limits-init g c =
     }
 
 pub nodes_at-requires-clause-inside : goal.nodes_at-requires-clause-inside
-nodes_at-requires-clause-inside g c = λ k m. (rw c.in-Found.is at c.in_ok-numbers.ensures.inside) k (rw c.deref.ensures.value at m)
+nodes_at-requires-clause-inside g c = λ k m. (rw c.in-Found.is at c.in_ok-numbers.ensures.round) k (rw c.deref.ensures.value at m)
 
 pub returns-in-Found : goal.returns-in-Found
 returns-in-Found g c = record {
@@ -93,7 +92,7 @@ limits-smaller g c =
     let k = v.0 in
     let b = inv.begins start r.4 in
     let from = k.led.admissible.from_zero start (InReach-same eq laws r.1 (start ∷ []) b.0 start (k.led.explores.reached 0 b.0 b.1) b.2) in
-    let above = (rw c.in-Missed.is at c.in_ok-numbers.ensures.above) c.in-Some.least c.in-Some.is in
+    let above = (rw c.in-Missed.is at c.in_ok-numbers.ensures.round) c.in-Some.least c.in-Some.is in
     let fit = (g.met.C.Cost.range_law (value c.in-Some.least)).0 c.known.ensures in
     limit_rises (value c.limits.limit) (value c.in-Some.least) (value g.C.Cost.greatest) (at_most_both _ _ _ from v.1) above fit.1
 
@@ -108,12 +107,11 @@ limits-preserved g c =
     let before = c.limits.known.graph.discovery.nodes.keys in
     let keys = c.look_through.new.known.graph.discovery.nodes.keys in
     let n = c.in-Some.least in
-    let grows = c.in_ok-numbers.ensures.grows in
-    let above = (rw c.in-Missed.is at c.in_ok-numbers.ensures.above) n c.in-Some.is in
+    let grows = c.in_ok-numbers.ensures.more.grows in
+    let above = (rw c.in-Missed.is at c.in_ok-numbers.ensures.round) n c.in-Some.is in
     record {
       begins = λ x s. grows.stays 0 x (inv.begins x s);
-      asked = c.in_ok-numbers.ensures.estimated;
-      table = c.in_ok-numbers.ensures.table;
+      whole = c.in_ok-numbers.ensures.more.whole;
       searched = λ start edges test least b d.
           let v = c.limits.invariant.searched start edges test least b d in
           let k = v.0 in
@@ -147,7 +145,7 @@ returns-then-past g c = record {
       let exact = g.met.C.Integral.exact_law in
       let before = c.limits.known.graph.discovery.nodes.keys in
       let keys = c.look_through.new.known.graph.discovery.nodes.keys in
-      let grows = c.in_ok-numbers.ensures.grows in
+      let grows = c.in_ok-numbers.ensures.more.grows in
       let v = c.limits.invariant.searched start edges test least b d in
       let k = v.0 in
       let begins = c.limits.invariant.begins start b in
@@ -180,7 +178,7 @@ returns-in_default g c = record {
       let exact = g.met.C.Integral.exact_law in
       let before = c.limits.known.graph.discovery.nodes.keys in
       let keys = c.look_through.new.known.graph.discovery.nodes.keys in
-      let grows = c.in_ok-numbers.ensures.grows in
+      let grows = c.in_ok-numbers.ensures.more.grows in
       let v = c.limits.invariant.searched start edges test least b d in
       let k = v.0 in
       let begins = c.limits.invariant.begins start b in
@@ -222,11 +220,8 @@ returns-in_err-nodes-in-Found g c = record {
   errors = refused_as _ c.from_residual-in_err-nodes-in-Found.result _ c.from_residual-in_err-nodes-in-Found.ensures.1 (inl c.in_err-nodes-in-Found.ensures.refused);
 }
 
-pub look_through-requires-clause-estimated : goal.look_through-requires-clause-estimated
-look_through-requires-clause-estimated g c = c.limits.invariant.asked
-
-pub look_through-requires-clause-table : goal.look_through-requires-clause-table
-look_through-requires-clause-table g c = c.limits.invariant.table
+pub look_through-requires-clause-whole : goal.look_through-requires-clause-whole
+look_through-requires-clause-whole g c = c.limits.invariant.whole
 
 pub look_through-requires-clause-graph : goal.look_through-requires-clause-graph
 look_through-requires-clause-graph g c =

@@ -1,9 +1,9 @@
-use Rattle.std.proofs.Common.{◌≡◌, ◌-◌, ◌∷◌, [], ℤ, List, Bool, true, length}
+use Rattle.std.proofs.Common.{◌≡◌, ◌-◌, ◌∷◌, [], ℤ, List, Bool, true}
 use Rattle.std.specs.Prelude.{◌≤ℤ◌}
 use Rattle.pf_core.specs.Nodes.{StandsFor, IsStep}
 use Rattle.pf_core.specs.Steps.{NoGoalBelow}
 use Rattle.pf_informed.specs.Internal.Forest.{nat_of}
-use Rattle.pf_informed.specs.Internal.Rows.{IsTabled, IsKnown}
+use Rattle.pf_informed.specs.Internal.Rows.{IsWhole, IsKnown}
 use Rattle.pf_informed.proofs.directed.idastar.search_on.Given as goal
 
 abbrev pub invariant-limits : goal.invariant-limits
@@ -15,8 +15,7 @@ invariant-limits g l =
     let keys = l.known.graph.discovery.nodes.keys in
     record {
       begins : (x : g.row.N.Denot) → StandsFor eq begun 0 x → StandsFor eq keys 0 x;
-      asked : length l.known.estimates.items ≡ length keys;
-      table : IsTabled l.known;
+      whole : IsWhole l.known;
       searched : (start : g.row.N.Denot) (edges : g.row.N.Denot → List (g.row.N.Denot × ℤ)) (test : g.row.N.Denot → Bool) (least : g.row.N.Denot → ℤ) → StandsFor eq begun 0 start
           → answers (record { starts = start ∷ []; edges = edges }) test least l.fn.known
           → answers (record { starts = start ∷ []; edges = edges }) test least l.known

@@ -1,6 +1,5 @@
 use Rattle.std.proofs.Common.{◌≡◌, ◌+◌, ◌≤◌, ◌++◌, ◌∙◌, ℕ, List, ap, arith, length, length-append, inl, inr}
 use Rattle.std.specs.Prelude.{◌⊎◌}
-use Rattle.std.specs.BinaryHeap.{heap_items}
 use Rattle.std.proofs.lemmas.Option.{MatchOption-at_some, MatchOption-at_none}
 use Rattle.pf_core.proofs.ListLemmas.{on_ok}
 use Rattle.pf_informed.specs.Internal.Fringe.{listed, IsBelowWaiting}
@@ -22,12 +21,11 @@ take_within-requires g c =
     let old = c.args.self.now in
     let mid = c.take_in.new.self in
     record {
-      queue = queue_in g.C.Number.value c.args.labels.now.items c.args.estimates.now.items _ _ c.requires.queue (moved_from (heap_items c.args.queue.now) old.current.items old.later.items mid.current.items mid.later.items t.same t.later);
+      queue = queue_in g.C.Number.value c.args.labels.now.items c.args.estimates.now.items _ _ c.requires.queue (moved_from c.args.queue.now.entries old.current.items old.later.items mid.current.items mid.later.items t.same t.later);
     }
 
 pub returns-in_err-take_in : goal.returns-in_err-take_in
 returns-in_err-take_in g c = record {
-  ordered = on_refused _ c.from_residual.result _ c.from_residual.ensures.1;
   queue = on_refused _ c.from_residual.result _ c.from_residual.ensures.1;
   limit = on_refused _ c.from_residual.result _ c.from_residual.ensures.1;
   taken = if_refused _ c.from_residual.result _ c.from_residual.ensures.1;
@@ -37,16 +35,12 @@ returns-in_err-take_in g c = record {
 
 pub returns-in_err-taken : goal.returns-in_err-taken
 returns-in_err-taken g c = record {
-  ordered = on_refused _ c.from_residual-in_err-taken.result _ c.from_residual-in_err-taken.ensures.1;
   queue = on_refused _ c.from_residual-in_err-taken.result _ c.from_residual-in_err-taken.ensures.1;
   limit = on_refused _ c.from_residual-in_err-taken.result _ c.from_residual-in_err-taken.ensures.1;
   taken = if_refused _ c.from_residual-in_err-taken.result _ c.from_residual-in_err-taken.ensures.1;
   fewer = if_refused _ c.from_residual-in_err-taken.result _ c.from_residual-in_err-taken.ensures.1;
   refused = refused_as _ c.from_residual-in_err-taken.result _ c.from_residual-in_err-taken.ensures.1 c.in_err-taken.ensures.refused;
 }
-
-pub take_in-requires : goal.take_in-requires
-take_in-requires g c = record { ordered = c.requires.ordered }
 
 pub raise_limit-requires-clause-over : goal.raise_limit-requires-clause-over
 raise_limit-requires-clause-over g c = (MatchOption-at_none _ _ c.in_default.is c.in_ok-taken.ensures.taken).0
@@ -63,10 +57,10 @@ returns g c = record {
       let t = c.in_ok-take_in.ensures in
       let old = c.args.self.now in
       let mid = c.take_in.new.self in
-      let moved = moved_wait value labels (heap_items c.args.queue.now) old.current.items old.later.items mid.current.items mid.later.items t.same t.later in
+      let moved = moved_wait value labels c.args.queue.now.entries old.current.items old.later.items mid.current.items mid.later.items t.same t.later in
       let over = MatchOption-at_none _ _ c.in_default.is c.in_ok-taken.ensures.taken in
       let limit = c.raise_limit.new.self.limit in
-      let first = heap_items c.args.queue.now ++ listed old in
+      let first = c.args.queue.now.entries ++ listed old in
       on_ok c.raise_limit.result c.raise_limit.ensures.limit (λ r. elim r as (λ _. (limit ≡ old.limit) ⊎ (g.C.Number.fits (value limit) × IsBelowWaiting value labels estimates first limit)) [
         | inl same ↦ inl (same ∙ c.in_ok-taken.ensures.limit ∙ t.limit)
         | inr low ↦ inr (low.0, below_before value labels estimates first (listed mid) moved limit (below_before value labels estimates (listed mid) (listed c.take_within.new.self) over.1 limit low.1))
@@ -78,16 +72,15 @@ returns g c = record {
       let t = c.in_ok-take_in.ensures in
       let old = c.args.self.now in
       let mid = c.take_in.new.self in
-      let moved = moved_wait value labels (heap_items c.args.queue.now) old.current.items old.later.items mid.current.items mid.later.items t.same t.later in
+      let moved = moved_wait value labels c.args.queue.now.entries old.current.items old.later.items mid.current.items mid.later.items t.same t.later in
       let over = MatchOption-at_none _ _ c.in_default.is c.in_ok-taken.ensures.taken in
-      let first = heap_items c.args.queue.now ++ listed old in
+      let first = c.args.queue.now.entries ++ listed old in
       let limit = c.raise_limit.new.self.limit in
       rw t.emptied (answer_or_none _ _ _ _ c.raise_limit.result
       (λ none. nothing_before value labels estimates first (listed mid) moved (nothing_before value labels estimates (listed mid) (listed c.take_within.new.self) over.1 none))
       (λ x taken. taken_before value labels estimates first (listed mid) moved x.number x.cost limit (listed c.raise_limit.new.self) (taken_before value labels estimates (listed mid) (listed c.take_within.new.self) over.1 x.number x.cost limit (listed c.raise_limit.new.self) taken))
       c.raise_limit.ensures.taken);
   refused = c.raise_limit.ensures.refused;
-  ordered = on_ok c.raise_limit.result c.raise_limit.ensures.queue (λ _. c.in_ok-take_in.ensures.ordered);
   queue = on_ok c.raise_limit.result c.raise_limit.ensures.queue (λ q. rw c.in_ok-take_in.ensures.emptied q);
   fewer =
       let t = c.in_ok-take_in.ensures in
@@ -108,10 +101,9 @@ returns-in-Some g c = record {
       let t = c.in_ok-take_in.ensures in
       let old = c.args.self.now in
       let mid = c.take_in.new.self in
-      let moved = moved_wait value labels (heap_items c.args.queue.now) old.current.items old.later.items mid.current.items mid.later.items t.same t.later in
+      let moved = moved_wait value labels c.args.queue.now.entries old.current.items old.later.items mid.current.items mid.later.items t.same t.later in
       let taken = MatchOption-at_some _ _ c.in-Some.taken c.in-Some.is c.in_ok-taken.ensures.taken in
       rw t.emptied (taken_before value labels estimates _ (listed mid) moved c.in-Some.taken.number c.in-Some.taken.cost c.take_within.new.self.limit (listed c.take_within.new.self) taken);
-  ordered = c.in_ok-take_in.ensures.ordered;
   refused = tt;
   queue = rw c.in_ok-take_in.ensures.emptied c.in_ok-taken.ensures.queue;
   limit = inl (c.in_ok-taken.ensures.limit ∙ c.in_ok-take_in.ensures.limit);

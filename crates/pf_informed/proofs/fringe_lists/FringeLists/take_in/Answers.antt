@@ -1,6 +1,5 @@
 use Rattle.std.proofs.Common.{◌≡◌, ◌+◌, arith, ◌++◌, ◌∷◌, [], List, ap, subst, sym, length, length-append, refl}
 use Rattle.std.specs.Prelude.{Contains, IsPermutation, ◌↔◌}
-use Rattle.std.specs.BinaryHeap.{heap_items, heap_len}
 use Rattle.std.proofs.lemmas.List.{take_at}
 use Rattle.std.proofs.lemmas.List.Sorted.{Contains-permutation, IsPermutation-sym, length_permutation}
 use Rattle.pf_informed.specs.Internal.Waiting.{Entry}
@@ -14,10 +13,9 @@ entries-preserved g c =
     let f = c.in-Some.ensures.first in
     let pushed = c.in_ok-push.ensures.items in
     record {
-      ordered = c.in-Some.ensures.ordered;
       same = λ e. (
-        (λ h. pushed_in (heap_items c.entries.queue) (heap_items c.take_first.new.queue) c.entries.self.current.items c.push.new.self.items c.in-Some.entry f.0 pushed e ((i.same e).0 h)),
-        (λ h. (i.same e).1 (pushed_from (heap_items c.entries.queue) (heap_items c.take_first.new.queue) c.entries.self.current.items c.push.new.self.items c.in-Some.entry f.0 pushed e h)),
+        (λ h. pushed_in c.entries.queue.entries c.take_first.new.self.entries c.entries.self.current.items c.push.new.self.items c.in-Some.entry f.0 pushed e ((i.same e).0 h)),
+        (λ h. (i.same e).1 (pushed_from c.entries.queue.entries c.take_first.new.self.entries c.entries.self.current.items c.push.new.self.items c.in-Some.entry f.0 pushed e h)),
       );
       later = i.later;
       limit = i.limit;
@@ -26,7 +24,6 @@ entries-preserved g c =
 
 pub returns-in_err-push : goal.returns-in_err-push
 returns-in_err-push g c = record {
-  ordered = on_refused _ c.from_residual.result _ c.from_residual.ensures.1;
   emptied = on_refused _ c.from_residual.result _ c.from_residual.ensures.1;
   same = on_refused _ c.from_residual.result _ c.from_residual.ensures.1;
   later = on_refused _ c.from_residual.result _ c.from_residual.ensures.1;
@@ -36,18 +33,15 @@ returns-in_err-push g c = record {
 }
 
 pub entries-init : goal.entries-init
-entries-init g c = record { ordered = c.requires.ordered; same = λ e. ((λ h. h), (λ h. h)); later = refl; limit = refl; count = refl }
+entries-init g c = record { same = λ e. ((λ h. h), (λ h. h)); later = refl; limit = refl; count = refl }
 
 pub entries-smaller : goal.entries-smaller
 entries-smaller g c = omega (arith, c.in-Some.ensures.first.1)
 
-pub take_first-requires : goal.take_first-requires
-take_first-requires g c = c.entries.invariant.ordered
-
 pub reverse_from-requires : goal.reverse_from-requires
 reverse_from-requires g c =
     let none = c.in_default.ensures.first.0 in
-    omega (arith, c.len-from.ensures, c.args.self.now.current.ok.0, c.entries.invariant.count, ap length none, c.entries.queue.data.ok.0, ap length c.deref_mut.ensures.value)
+    omega (arith, c.len-from.ensures, c.args.self.now.current.ok.0, c.entries.invariant.count, ap length none, ap length c.deref_mut.ensures.value)
 
 pub returns : goal.returns
 returns g c = record {
@@ -57,13 +51,12 @@ returns g c = record {
       let after = c.reverse_from.new.elements in
       let moved = subst (λ (xs : List (Entry g.row.C.Denot)). IsPermutation xs after) c.deref_mut.ensures.value c.reverse_from.ensures in
       let none = c.in_default.ensures.first.0 in
-      subst (λ (xs : List (Entry g.row.C.Denot)). (e : Entry g.row.C.Denot) → Contains (heap_items c.args.queue.now ++ c.args.self.now.current.items) e ↔ Contains xs e)
+      subst (λ (xs : List (Entry g.row.C.Denot)). (e : Entry g.row.C.Denot) → Contains (c.args.queue.now.entries ++ c.args.self.now.current.items) e ↔ Contains xs e)
       (sym (take_at after _ _ (omega (arith, length_permutation before after moved, c.deref_mut.ensures.len))))
       (λ e. (
         (λ h. Contains-permutation before after e moved (subst (λ (xs : List (Entry g.row.C.Denot)). Contains (xs ++ before) e) none ((i.same e).0 h))),
         (λ h. (i.same e).1 (subst (λ (xs : List (Entry g.row.C.Denot)). Contains (xs ++ before) e) (sym none) (Contains-permutation after before e (IsPermutation-sym before after moved) h))),
       ));
-  ordered = c.in_default.ensures.ordered;
   emptied = c.in_default.ensures.first.1;
   later = c.entries.invariant.later;
   limit = c.entries.invariant.limit;
@@ -74,6 +67,6 @@ returns g c = record {
       let moved = subst (λ (xs : List (Entry g.row.C.Denot)). IsPermutation xs after) c.deref_mut.ensures.value c.reverse_from.ensures in
       let none = c.in_default.ensures.first in
       let same = length_permutation before after moved in
-      subst (λ (xs : List (Entry g.row.C.Denot)). heap_len c.take_first.new.queue + length xs ≡ heap_len c.args.queue.now + length c.args.self.now.current.items) (sym (take_at after _ _ (omega (arith, same, c.deref_mut.ensures.len))))
-      (omega (arith, same, c.entries.invariant.count, ap length none.0, ap length none.1, c.entries.queue.data.ok.0, c.take_first.new.queue.data.ok.0));
+      subst (λ (xs : List (Entry g.row.C.Denot)). length c.take_first.new.self.entries + length xs ≡ length c.args.queue.now.entries + length c.args.self.now.current.items) (sym (take_at after _ _ (omega (arith, same, c.deref_mut.ensures.len))))
+      (omega (arith, same, c.entries.invariant.count, ap length none.0, ap length none.1));
 }

@@ -4,22 +4,20 @@ use Rattle.pf_informed.proofs.Bounds.{some_one}
 use Rattle.pf_core.proofs.ListLemmas.{at_place}
 use Rattle.pf_informed.proofs.search.Search.begin.Goals as goal
 
-pub returns-in_err-push : goal.returns-in_err-push
-returns-in_err-push g c = record {
+pub returns-in_err-reserve : goal.returns-in_err-reserve
+returns-in_err-reserve g c = record {
   estimates = refl;
-  ordered = on_refused _ c.from_residual.result _ c.from_residual.ensures.1;
   labelled = on_refused _ c.from_residual.result _ c.from_residual.ensures.1;
   waiting = on_refused _ c.from_residual.result _ c.from_residual.ensures.1;
   refused = refused_as _ c.from_residual.result _ c.from_residual.ensures.1 refl;
 }
 
-pub returns-in_err-push-2 : goal.returns-in_err-push-2
-returns-in_err-push-2 g c = record {
+pub returns-in_err-push : goal.returns-in_err-push
+returns-in_err-push g c = record {
   estimates = refl;
-  ordered = on_refused _ c.from_residual-in_err-push-2.result _ c.from_residual-in_err-push-2.ensures.1;
-  labelled = on_refused _ c.from_residual-in_err-push-2.result _ c.from_residual-in_err-push-2.ensures.1;
-  waiting = on_refused _ c.from_residual-in_err-push-2.result _ c.from_residual-in_err-push-2.ensures.1;
-  refused = refused_as _ c.from_residual-in_err-push-2.result _ c.from_residual-in_err-push-2.ensures.1 refl;
+  labelled = on_refused _ c.from_residual-in_err-push.result _ c.from_residual-in_err-push.ensures.1;
+  waiting = on_refused _ c.from_residual-in_err-push.result _ c.from_residual-in_err-push.ensures.1;
+  refused = refused_as _ c.from_residual-in_err-push.result _ c.from_residual-in_err-push.ensures.1 refl;
 }
 
 pub index-requires : goal.index-requires
@@ -28,10 +26,9 @@ index-requires g c = omega (arith, c.requires.estimated)
 pub returns : goal.returns
 returns g c = record {
   estimates = refl;
-  labelled = rw (c.in_ok-push-2.ensures.items, c.requires.unlabelled, c.first.ensures, c.zero-nothing.ensures) refl;
+  labelled = rw (c.in_ok-push.ensures.items, c.requires.unlabelled, c.first.ensures, c.zero-nothing.ensures) refl;
   refused = tt;
-  ordered = c.in_ok-push.ensures.heap_order c.requires.ordered;
   waiting =
       let h = c.index.result.now in
-      (h, at_place c.args.self.now.estimates.items 0 h h (some_one _ c.requires.estimated) (sym c.index.ensures), rw (c.requires.nothing_waits, c.zero-nothing.ensures) at c.in_ok-push.ensures.permutation);
+      (h, at_place c.args.self.now.estimates.items 0 h h (some_one _ c.requires.estimated) (sym c.index.ensures), rw (c.in_ok-reserve.ensures.entries, c.requires.nothing_waits, c.zero-nothing.ensures) at c.push.ensures.added);
 }

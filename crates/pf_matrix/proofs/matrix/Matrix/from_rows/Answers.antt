@@ -11,8 +11,12 @@ pub loop-row-init : goal.loop-row-init
 loop-row-init g c = ([], tt, c.new-values.ensures.items, refl)
 
 pub push_all-requires : goal.push_all-requires
-push_all-requires g c = c.requires.rows_end.at c.into_iter-row-iterator.result c.loop-row.yielded c.loop-row.row-iterator c.in-Some.row c.next.new.self
-    c.into_iter-row-iterator.ensures.into_iter_gives c.loop-row.yielded_by c.in-Some.ensures.steps
+push_all-requires g c = c.requires.rows_end.at c.loop-row.yielded c.in-Some.row (record {
+  iterator = c.into_iter-row-iterator.result;
+  left = c.next.new.self;
+  made = c.into_iter-row-iterator.ensures.into_iter_gives;
+  yields = Yields-more g.IR.IntoIter.Iterator.next_gives c.into_iter-row-iterator.result c.loop-row.yielded c.loop-row.row-iterator c.in-Some.row c.next.new.self c.loop-row.yielded_by c.in-Some.ensures.steps;
+})
 
 pub loop-row-preserved : goal.loop-row-preserved
 loop-row-preserved g c =

@@ -1,11 +1,11 @@
-use Rattle.std.proofs.Common.{◌∙◌, [], ◌∷◌, ◌++◌, sym, subst, arith, length-append}
+use Rattle.std.proofs.Common.{◌∙◌, [], ◌∷◌, ◌++◌, sym, subst, arith}
 use Rattle.std.specs.List.{AllZip}
 use Rattle.pf_base.specs.Regions.{along_successors}
 use Rattle.pf_core.specs.Nodes.{StandsFor}
 use Rattle.pf_core.proofs.WalkLemmas.{same_of}
 use Rattle.pf_search.specs.DepthWalks.{IsDepthWalk}
 use Rattle.pf_search.proofs.PreorderLemmas.{end_of_push}
-use Rattle.pf_search.proofs.PreorderPaths.{goes_none, goes_some, node_reached, numbers_inside, is_goal, none_passes, none_more}
+use Rattle.pf_search.proofs.PreorderPaths.{goes_none, goes_some, some_given, node_reached, numbers_inside, is_goal, none_passes, none_more}
 use Rattle.std.proofs.lemmas.Result.{IfOk-from_err}
 use Rattle.pf_search.proofs.ResultLemmas.{refused_as}
 use Rattle.pf_search.proofs.directed.dfs.path_to_first.Goals as goal
@@ -30,14 +30,14 @@ path-requires-clause-given g c = λ e.
     let r = c.requires.graph in
     let v = c.nodes.invariant r.0 r.1 r.2 r.3 in
     let d = goes_some g.N.PartialEq.eq r.0 r.1 (λ done. IsDepthWalk g.N.PartialEq.eq g.F.SuccessorFunction.answers r.0 r.1 done c.step.new.self) v.0 c.step.result c.in_ok-node.field-0 c.in-Some.node c.in_ok-node.was c.in-Some.is (c.step.ensures.walks r.0 r.1 v.0 v.1) in
-    omega (arith, d.3.stands.count, length-append v.0 (d.0 ∷ []), e)
+    some_given g.N.PartialEq.eq c.step.new.self.given v.0 d.0 c.in-Some.node d.3.stands.given d.2 e
 
 pub path-requires-clause-inside : goal.path-requires-clause-inside
 path-requires-clause-inside g c =
     let r = c.requires.graph in
     let v = c.nodes.invariant r.0 r.1 r.2 r.3 in
     let d = goes_some g.N.PartialEq.eq r.0 r.1 (λ done. IsDepthWalk g.N.PartialEq.eq g.F.SuccessorFunction.answers r.0 r.1 done c.step.new.self) v.0 c.step.result c.in_ok-node.field-0 c.in-Some.node c.in_ok-node.was c.in-Some.is (c.step.ensures.walks r.0 r.1 v.0 v.1) in
-    numbers_inside g.N.PartialEq.eq c.step.new.self.found c.step.new.self.path _ d.3.stands.path
+    numbers_inside g.N.PartialEq.eq c.step.new.self.found c.step.new.self.stack.path _ d.3.stands.stack.path
 
 pub nodes-preserved : goal.nodes-preserved
 nodes-preserved g c = λ next start test s.
@@ -74,9 +74,9 @@ returns-then-passes g c = record {
       let reach = node_reached eq laws next start test v.0 d.0 node d.3.stands.preorder d.2 in
       let passed = c.passes.ensures.passed (along_successors (start ∷ []) next) test reach v.2 in
       let keys = c.step.new.self.found in
-      let numbers = c.step.new.self.path in
+      let numbers = c.step.new.self.stack.path in
       let items = c.in_ok-path.path.items in
-      let same = same_of eq laws keys numbers d.0 items (subst (λ l. AllZip (StandsFor eq keys) numbers l) (end_of_push [] v.0 d.0) d.3.stands.path) c.in_ok-path.ensures.nodes in (
+      let same = same_of eq laws keys numbers d.0 items (subst (λ l. AllZip (StandsFor eq keys) numbers l) (end_of_push [] v.0 d.0) d.3.stands.stack.path) c.in_ok-path.ensures.nodes in (
         is_goal eq laws next start test s.alike s.tests_alike v.0 d.0 items node d.3.stands.preorder d.2 (sym passed ∙ c.if-passes.true) same,
         record { earlier = v.0; tree = d.0; preorder = d.3.stands.preorder; same = same; fails = v.3 },
       );

@@ -11,13 +11,11 @@ loop-column-preserved g c =
     let i = c.loop-column.invariant in
     let k = c.loop-column.column in
     let in_visited : k < length c.loop-column.self.visited.items = omega (arith, i.visited_len) in
-    let in_distances : k < length c.loop-column.self.distances.items = omega (arith, i.visited_len, i.distances_len) in
-    let in_places : k < length c.loop-column.self.places.items = omega (arith, i.visited_len, i.places_len) in
+    let in_distances : k < length c.loop-column.self.distances.items = omega (arith, i.visited_len, c.loop-column.self.wide.0) in
+    let in_places : k < length c.loop-column.self.places.items = omega (arith, i.visited_len, c.loop-column.self.wide.1) in
     record {
       rows = i.rows;
       visited_len = length-set c.loop-column.self.visited.items k false ∙ i.visited_len;
-      distances_len = length-set c.loop-column.self.distances.items k c.greatest.result ∙ i.distances_len;
-      places_len = length-set c.loop-column.self.places.items k 0 ∙ i.places_len;
       unvisited = λ j h. below_written (λ n. flag (slice_set c.loop-column.self.visited.items k false) n) (flag c.loop-column.self.visited.items) (λ _. false) k (get_or-set_same c.loop-column.self.visited.items k false false in_visited) (λ n m. get_or-set_other c.loop-column.self.visited.items k n false false m) i.unvisited j h;
       far = λ j h. below_written (number g.C.Number.value (slice_set c.loop-column.self.distances.items k c.greatest.result)) (number g.C.Number.value c.loop-column.self.distances.items) (λ _. g.C.Number.value g.C.Cost.greatest) k (number-set_same g.C.Number.value c.loop-column.self.distances.items k c.greatest.result in_distances ∙ ap g.C.Number.value c.greatest.ensures) (λ n m. number-set_other g.C.Number.value c.loop-column.self.distances.items k n c.greatest.result m) i.far j h;
       root = λ j h. below_written (λ n. slice_index (slice_set c.loop-column.self.places.items k 0) n) (slice_index c.loop-column.self.places.items) (λ _. 0) k (get_or-set_same c.loop-column.self.places.items k 0 0 in_places) (λ n m. get_or-set_other c.loop-column.self.places.items k n 0 0 m) i.root j h;
@@ -27,8 +25,6 @@ pub loop-column-init : goal.loop-column-init
 loop-column-init g c = record {
   rows = refl;
   visited_len = refl;
-  distances_len = refl;
-  places_len = refl;
   unvisited = λ j h. absurd (omega (arith, h));
   far = λ j h. absurd (omega (arith, h));
   root = λ j h. absurd (omega (arith, h));
@@ -42,9 +38,7 @@ returns g c =
     let v = c.loop-column.invariant in
     record {
       rows = c.loop-column.invariant.rows;
-      wide =
-          let w = c.requires.wide in
-          record { visited = v.visited_len; distances = v.distances_len ∙ w.distances; places = v.places_len ∙ w.places };
+      wide = v.visited_len;
       fresh =
           let all : c.len-column-end.result ≡ length c.args.self.now.visited.items = c.len-column-end.ensures ∙ c.args.self.now.visited.ok.0 in
           let past = c.loop-column-test.false in

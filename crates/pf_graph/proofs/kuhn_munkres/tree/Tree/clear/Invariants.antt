@@ -9,8 +9,6 @@ abbrev pub invariant-loop-column : goal.invariant-loop-column
 invariant-loop-column g l = record {
   rows : l.self.rows.items ≡ l.fn.self.rows.items;
   visited_len : length l.self.visited.items ≡ length l.fn.self.visited.items;
-  distances_len : length l.self.distances.items ≡ length l.fn.self.distances.items;
-  places_len : length l.self.places.items ≡ length l.fn.self.places.items;
   unvisited : (j : ℕ) → j < l.column → flag l.self.visited.items j ≡ false;
   far : (j : ℕ) → j < l.column → number g.C.Number.value l.self.distances.items j ≡ g.C.Number.value g.C.Cost.greatest;
   root : (j : ℕ) → j < l.column → slice_index l.self.places.items j ≡ 0;

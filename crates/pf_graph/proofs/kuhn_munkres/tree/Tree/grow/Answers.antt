@@ -1,6 +1,6 @@
-use Rattle.std.proofs.Common.{sym, ◌∙◌, arith}
+use Rattle.std.proofs.Common.{arith}
 use Rattle.pf_graph.proofs.Assignment.MatchingTree.{tree_count}
-use Rattle.pf_graph.proofs.Outcomes.{refused_as, if_refused, on_refused}
+use Rattle.pf_graph.proofs.Outcomes.{refused_as, if_refused}
 use Rattle.pf_graph.proofs.kuhn_munkres.tree.Tree.grow.Goals as goal
 
 pub returns-in_err-column-2 : goal.returns-in_err-column-2
@@ -8,10 +8,9 @@ returns-in_err-column-2 g c =
     let e = c.in_err-column-2.ensures in
     let i = c.visits.invariant in
     let t = i.rounds in
-    let k = tree_count c.requires.next i.tree in
+    let k = tree_count c.requires.next.matched i.tree.tree in
     record {
-      tree = on_refused _ c.from_residual-in_err-column-2.result _ c.from_residual-in_err-column-2.ensures.1;
-      nearest = if_refused _ c.from_residual-in_err-column-2.result _ c.from_residual-in_err-column-2.ensures.1;
+      tree = if_refused _ c.from_residual-in_err-column-2.result _ c.from_residual-in_err-column-2.ensures.1;
       free = if_refused _ c.from_residual-in_err-column-2.result _ c.from_residual-in_err-column-2.ensures.1;
       wide = e.wide;
       refused = refused_as _ c.from_residual-in_err-column-2.result _ c.from_residual-in_err-column-2.ensures.1 e.refused;
@@ -21,22 +20,22 @@ returns-in_err-column-2 g c =
 
 pub visits-smaller : goal.visits-smaller
 visits-smaller g c =
-    let k = tree_count c.requires.next c.visits.invariant.tree in
-    let l = tree_count c.requires.next c.in_ok-column-2.ensures.tree in
+    let k = tree_count c.requires.next.matched c.visits.invariant.tree.tree in
+    let l = tree_count c.requires.next.matched c.in_ok-column-2.ensures.tree.tree in
     let m = c.in_ok-column-2.ensures.more in
     omega (arith, l, m)
 
 pub returns-clause-rounds : goal.returns-clause-rounds
 returns-clause-rounds g c =
     let t = c.visits.invariant.rounds in
-    let k = tree_count c.requires.next c.visits.invariant.tree in
+    let k = tree_count c.requires.next.matched c.visits.invariant.tree.tree in
     omega (arith, t, k)
 
 pub visits-init : goal.visits-init
 visits-init g c =
     let e = c.in_ok-column.ensures in
     let one = e.one in
-    record { tree = e.tree; nearest = e.nearest; ticked = omega arith; rounds = omega (arith, one) }
+    record { tree = e.tree; ticked = omega arith; rounds = omega (arith, one) }
 
 pub visits-preserved : goal.visits-preserved
 visits-preserved g c =
@@ -45,12 +44,11 @@ visits-preserved g c =
     let more = e.more in
     let ticked = i.ticked in
     let rounds = i.rounds in
-    record { tree = e.tree; nearest = e.nearest; ticked = omega (arith, ticked); rounds = omega (arith, more, rounds) }
+    record { tree = e.tree; ticked = omega (arith, ticked); rounds = omega (arith, more, rounds) }
 
 pub returns-in_err-column : goal.returns-in_err-column
 returns-in_err-column g c = record {
-  tree = on_refused _ c.from_residual.result _ c.from_residual.ensures.1;
-  nearest = if_refused _ c.from_residual.result _ c.from_residual.ensures.1;
+  tree = if_refused _ c.from_residual.result _ c.from_residual.ensures.1;
   free = if_refused _ c.from_residual.result _ c.from_residual.ensures.1;
   wide = c.in_err-column.ensures.wide;
   refused = refused_as _ c.from_residual.result _ c.from_residual.ensures.1 c.in_err-column.ensures.refused;
@@ -61,19 +59,11 @@ returns-in_err-column g c = record {
 pub visit-requires-clause-tree : goal.visit-requires-clause-tree
 visit-requires-clause-tree g c = c.visits.invariant.tree
 
-pub visit-requires-clause-nearest : goal.visit-requires-clause-nearest
-visit-requires-clause-nearest g c = c.visits.invariant.nearest
-
 pub returns-clause-tree : goal.returns-clause-tree
 returns-clause-tree g c = c.visits.invariant.tree
 
-pub returns-clause-nearest : goal.returns-clause-nearest
-returns-clause-nearest g c = c.visits.invariant.nearest
-
 pub returns-clause-wide : goal.returns-clause-wide
-returns-clause-wide g c =
-    let tree = c.visits.invariant.tree in
-    record { visited = tree.visited_len; distances = tree.distances_len; places = tree.places_len }
+returns-clause-wide g c = c.visits.invariant.tree.tree.visited_len
 
 pub returns-clause-ticked : goal.returns-clause-ticked
 returns-clause-ticked g c = c.visits.invariant.ticked

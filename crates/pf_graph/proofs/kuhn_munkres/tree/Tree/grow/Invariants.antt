@@ -1,12 +1,11 @@
 use Rattle.std.proofs.Common.{◌≤◌, ◌+◌, ◌-◌, length}
-use Rattle.pf_graph.specs.Internal.Assignment.AssignmentSteps.{IsTreeIn, IsNearestIn}
+use Rattle.pf_graph.specs.Internal.Assignment.AssignmentSteps.{IsTreeTo}
 use Rattle.pf_graph.proofs.kuhn_munkres.tree.Tree.grow.Given as goal
 
 -- the tree so far, the column to be visited next, and the ticks
 abbrev pub invariant-visits : goal.invariant-visits
 invariant-visits g l = record {
-  tree : IsTreeIn g.C.Number.value (g.W.Weights.table l.weights) l.matching l.self;
-  nearest : IsNearestIn g.C.Number.value (g.W.Weights.table l.weights).columns l.self l.column;
+  tree : IsTreeTo g.C.Number.value (g.W.Weights.table l.weights) l.matching l.self l.column;
   ticked : l.fn.tally ≤ l.tally;
   rounds : l.tally ≤ l.fn.tally + length l.self.rows.items;
 }

@@ -12,13 +12,13 @@ pub plus-bound-requires-clause-negation : goal.plus-bound-requires-clause-negati
 plus-bound-requires-clause-negation g c =
     let n = number-at g.C.Number.value c.args.matching.now.column_potentials.items c.loop-column.column c.index-then-not-index.result.now (omega arith) c.index-then-not-index.ensures in
     let f : flag c.args.self.now.visited.items c.loop-column.column ≡ false = subst (λ xs. flag xs c.loop-column.column ≡ false) c.loop-column.invariant.visited (search rules) in
-    subst (λ z. g.C.Number.fits (neg_ℤ z)) n (c.requires.fits.negation c.loop-column.column (omega arith) f)
+    subst (λ z. g.C.Number.fits (neg_ℤ z)) n (c.requires.negation c.loop-column.column (omega arith) f)
 
 pub plus-bound-requires-clause-sum : goal.plus-bound-requires-clause-sum
 plus-bound-requires-clause-sum g c =
     let n = number-at g.C.Number.value c.args.matching.now.column_potentials.items c.loop-column.column c.index-then-not-index.result.now (omega arith) c.index-then-not-index.ensures in
     let f : flag c.args.self.now.visited.items c.loop-column.column ≡ false = subst (λ xs. flag xs c.loop-column.column ≡ false) c.loop-column.invariant.visited (search rules) in
-    subst (λ z. g.C.Number.fits (g.C.Number.value c.args.offset +ℤ z)) n (c.requires.fits.sum c.loop-column.column (omega arith) f)
+    subst (λ z. g.C.Number.fits (g.C.Number.value c.args.offset +ℤ z)) n (c.requires.sum c.loop-column.column (omega arith) f)
 
 pub minus-through-requires : goal.minus-through-requires
 minus-through-requires g c =
@@ -26,10 +26,10 @@ minus-through-requires g c =
     let f : flag c.args.self.now.visited.items c.loop-column.column ≡ false = subst (λ xs. flag xs c.loop-column.column ≡ false) c.loop-column.invariant.visited (search rules) in
     let e : g.C.Number.value c.args.offset +ℤ number g.C.Number.value c.args.matching.now.column_potentials.items c.loop-column.column ≡ g.C.Number.value c.plus-bound.result = ap (λ z. g.C.Number.value c.args.offset +ℤ z) n ∙ sym c.plus-bound.ensures in
     subst (λ z. g.C.Number.fits (z -ℤ g.C.Number.value c.at.result)) e
-    (subst (λ z. g.C.Number.fits (g.C.Number.value c.args.offset +ℤ number g.C.Number.value c.args.matching.now.column_potentials.items c.loop-column.column -ℤ z)) (sym c.at.ensures) (c.requires.fits.difference c.loop-column.column (omega arith) f))
+    (subst (λ z. g.C.Number.fits (g.C.Number.value c.args.offset +ℤ number g.C.Number.value c.args.matching.now.column_potentials.items c.loop-column.column -ℤ z)) (sym c.at.ensures) (c.requires.difference c.loop-column.column (omega arith) f))
 
 pub nearer-requires-clause-other : goal.nearer-requires-clause-other
-nearer-requires-clause-other g c = λ n e. let l = (c.loop-column.invariant.scanned.some n e).0 in let d = c.relax.ensures.distances_len in let i = c.loop-column.invariant.distances_len in omega (arith, l, d, i)
+nearer-requires-clause-other g c = λ n e. let l = (c.loop-column.invariant.scanned.some n e).0 in let d : length c.relax.new.self.distances.items ≡ (g.W.Weights.table c.args.weights.now).columns = c.relax.new.self.wide.0 ∙ ap length (c.relax.ensures.visited ∙ c.loop-column.invariant.visited) ∙ c.requires.wide in omega (arith, l, d)
 
 pub loop-column-preserved : goal.loop-column-preserved
 loop-column-preserved g c =
@@ -49,8 +49,6 @@ loop-column-preserved g c =
                 (subst (λ o. IsScannedTo (k + 1) through c.args.place (flag c.args.self.now.visited.items) (number value c.args.self.now.distances.items) (slice_index c.args.self.now.places.items) (number value w.relax.new.self.distances.items) (slice_index w.relax.new.self.places.items) o) (sym w.nearest-is) so);
             rows = subst (λ t. t.rows.items ≡ c.args.self.now.rows.items) (sym w.self-is) (w.relax.ensures.rows ∙ i.rows);
             visited = subst (λ t. t.visited.items ≡ c.args.self.now.visited.items) (sym w.self-is) (w.relax.ensures.visited ∙ i.visited);
-            distances_len = subst (λ t. length t.distances.items ≡ length c.args.self.now.distances.items) (sym w.self-is) (w.relax.ensures.distances_len ∙ i.distances_len);
-            places_len = subst (λ t. length t.places.items ≡ length c.args.self.now.places.items) (sym w.self-is) (w.relax.ensures.places_len ∙ i.places_len);
           }
           )
       | else-not-index w ↦ (
@@ -62,8 +60,6 @@ loop-column-preserved g c =
                 (subst (λ o. IsScannedTo (k + 1) through c.args.place (flag c.args.self.now.visited.items) (number value c.args.self.now.distances.items) (slice_index c.args.self.now.places.items) (number value c.loop-column.self.distances.items) (slice_index c.loop-column.self.places.items) o) (sym w.nearest-is) so);
             rows = subst (λ t. t.rows.items ≡ c.args.self.now.rows.items) (sym w.self-is) i.rows;
             visited = subst (λ t. t.visited.items ≡ c.args.self.now.visited.items) (sym w.self-is) i.visited;
-            distances_len = subst (λ t. length t.distances.items ≡ length c.args.self.now.distances.items) (sym w.self-is) i.distances_len;
-            places_len = subst (λ t. length t.places.items ≡ length c.args.self.now.places.items) (sym w.self-is) i.places_len;
           }
           )
     ]
@@ -79,8 +75,6 @@ loop-column-init g c = record {
   };
   rows = refl;
   visited = refl;
-  distances_len = refl;
-  places_len = refl;
 }
 
 pub returns : goal.returns
@@ -98,10 +92,7 @@ returns g c = record {
       record { relaxed = λ j h. c.loop-column.invariant.scanned.relaxed j (subst (λ (n : ℕ). j < n) (sym e) h) };
   rows = c.loop-column.invariant.rows;
   visited = c.loop-column.invariant.visited;
-  wide =
-      let v = c.loop-column.invariant in
-      let w = c.requires.wide in
-      record { visited = ap length v.visited ∙ w.visited; distances = v.distances_len ∙ w.distances; places = v.places_len ∙ w.places };
+  wide = ap length c.loop-column.invariant.visited ∙ c.requires.wide;
 }
 
 some_of : {T : Type 0} (o : Option T) → ¬ (o ≡ None) → is_some o ≡ true
@@ -117,14 +108,11 @@ unwrap-requires g c =
     let within = subst (λ (n : ℕ). left.0 < n) (sym c.columns-column-end.ensures) left.1 in
     some_of c.loop-column.nearest (λ e. true≢false (sym (c.loop-column.invariant.scanned.none e left.0 (below_end _ _ _ within c.loop-column-test.false)) ∙ left.2))
 
-pub relax-requires-clause-distance : goal.relax-requires-clause-distance
-relax-requires-clause-distance g c = subst (λ (n : ℕ). c.loop-column.column < n) (sym (c.loop-column.invariant.distances_len ∙ c.requires.wide.distances)) (subst (λ (n : ℕ). c.loop-column.column < n) c.columns-column-end.ensures c.loop-column-test.true)
-
-pub relax-requires-clause-before : goal.relax-requires-clause-before
-relax-requires-clause-before g c = subst (λ (n : ℕ). c.loop-column.column < n) (sym (c.loop-column.invariant.places_len ∙ c.requires.wide.places)) (subst (λ (n : ℕ). c.loop-column.column < n) c.columns-column-end.ensures c.loop-column-test.true)
+pub relax-requires : goal.relax-requires
+relax-requires g c = record { inside = subst (λ (n : ℕ). c.loop-column.column < n) (sym (ap length c.loop-column.invariant.visited ∙ c.requires.wide)) (subst (λ (n : ℕ). c.loop-column.column < n) c.columns-column-end.ensures c.loop-column-test.true) }
 
 pub nearer-requires-clause-inside : goal.nearer-requires-clause-inside
-nearer-requires-clause-inside g c = subst (λ (n : ℕ). c.loop-column.column < n) (sym (c.relax.ensures.distances_len ∙ c.loop-column.invariant.distances_len ∙ c.requires.wide.distances)) (subst (λ (n : ℕ). c.loop-column.column < n) c.columns-column-end.ensures c.loop-column-test.true)
+nearer-requires-clause-inside g c = subst (λ (n : ℕ). c.loop-column.column < n) (sym (c.relax.new.self.wide.0 ∙ ap length (c.relax.ensures.visited ∙ c.loop-column.invariant.visited) ∙ c.requires.wide)) (subst (λ (n : ℕ). c.loop-column.column < n) c.columns-column-end.ensures c.loop-column-test.true)
 
 pub nearer-requires-clause-wide : goal.nearer-requires-clause-wide
-nearer-requires-clause-wide g c = ap length c.deref.ensures.value ∙ c.requires.row_of ∙ sym (c.relax.ensures.distances_len ∙ c.loop-column.invariant.distances_len ∙ c.requires.wide.distances)
+nearer-requires-clause-wide g c = ap length c.deref.ensures.value ∙ c.requires.row_of ∙ sym (c.relax.new.self.wide.0 ∙ ap length (c.relax.ensures.visited ∙ c.loop-column.invariant.visited) ∙ c.requires.wide)

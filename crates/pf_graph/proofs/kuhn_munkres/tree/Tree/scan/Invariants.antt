@@ -1,4 +1,4 @@
-use Rattle.std.proofs.Common.{◌≡◌, length}
+use Rattle.std.proofs.Common.{◌≡◌}
 use Rattle.std.specs.Prelude.{slice_index, ◌+ℤ◌, ◌-ℤ◌}
 use Rattle.pf_graph.specs.Assignments.{number}
 use Rattle.pf_graph.specs.Internal.Assignment.AssignmentSteps.{flag}
@@ -11,6 +11,4 @@ invariant-loop-column g l = record {
   scanned : IsScannedTo l.column (λ j. g.C.Number.value l.offset +ℤ number g.C.Number.value l.matching.column_potentials.items j -ℤ (g.W.Weights.table l.weights).at l.row j) l.place (flag l.fn.self.visited.items) (number g.C.Number.value l.fn.self.distances.items) (slice_index l.fn.self.places.items) (number g.C.Number.value l.self.distances.items) (slice_index l.self.places.items) l.nearest;
   rows : l.self.rows.items ≡ l.fn.self.rows.items;
   visited : l.self.visited.items ≡ l.fn.self.visited.items;
-  distances_len : length l.self.distances.items ≡ length l.fn.self.distances.items;
-  places_len : length l.self.places.items ≡ length l.fn.self.places.items;
 }

@@ -2,9 +2,9 @@ use Rattle.std.proofs.Common.{◌≡◌, ◌<◌, [], ◌∷◌, List, ℕ, ℤ,
 use Rattle.std.specs.Prelude.{◌≤ℤ◌, ◌↔◌, ◌⊎◌, Contains, reverse}
 use Rattle.pf_core.proofs.ListLemmas.{none_in, Contains-cases}
 use Rattle.pf_core.proofs.NodeLemmas.{InReach-same}
-use Rattle.pf_core.proofs.SearchLemmas.{Grows-trans}
 use Rattle.pf_informed.specs.declared.directed.idastar.way.Frame.{Frame}
 use Rattle.pf_informed.specs.Internal.Deepening.{IsMarked, numbers_of}
+use Rattle.pf_informed.proofs.KnownLemmas.{more_trans}
 use Rattle.pf_informed.proofs.WayLemmas.{still_found, marked_on, on_way_as, begun, start_way}
 use Rattle.pf_informed.proofs.Outcomes.{refused_as, on_refused, if_refused}
 use Rattle.pf_informed.proofs.Bounds.{at_most_both, none_below}
@@ -21,7 +21,7 @@ turns-init g c =
     let e = c.in_ok-span.ensures in
     let s = c.in-Some.span in
     let has = rw c.in-Some.is at e.kept in
-    let within = e.table.within 0 s has in
+    let within = e.more.whole.table.within 0 s has in
     let nothing : value c.zero-nothing.result ≡ pos 0 = ap value c.zero-nothing.ensures ∙ g.met.C.Zero.zero_law g.met.C.Integral.exact_law in
     let way = c.in_ok-way.way in
     let b = c.in_ok-way.ensures in
@@ -37,13 +37,11 @@ turns-init g c =
     ) in
     let on = marked_on [] way.marks.items [] 0 none alone in
     record {
-      asked = e.estimated;
-      table = e.table;
-      grows = e.grows;
+      more = e.more;
       marked = record {
         marked = subst (λ (ns : List ℕ). (i : ℕ) → IsMarked way.marks.items i ↔ Contains ns i) (sym frames) on;
         inside = λ i m. elim (Contains-cases [] 0 i (subst (λ (ns : List ℕ). Contains ns i) frames m)) as (λ _. i < length keys) [
-          | inl q ↦ subst (λ (n : ℕ). n < length keys) q (still_found _ _ _ c.requires.begun e.grows.more)
+          | inl q ↦ subst (λ (n : ℕ). n < length keys) q (still_found _ _ _ c.requires.begun e.more.grows.more)
           | inr q ↦ absurd (none_below _ q.1)
         ];
         above = λ n q. let no : None ≡ Some n = sym b.cut_off.0 ∙ q in absurd (cc);
@@ -53,18 +51,15 @@ turns-init g c =
           let k2 = told.0 in (
             k2,
             on_way_as eq laws value fits h test least first keys after.rows.steps.items after.rows.spans.items k2.rows way.frame [] (reverse way.trail.items) None way.cut_off.least false way.cut_off.past b.below b.cut_off.0 b.cut_off.1
-                (begun eq laws value fits h test least first keys after.rows.steps.items after.rows.spans.items k2.rows way.frame s has within.0 number cost at end (e.grows.stays 0 first st)),
+                (begun eq laws value fits h test least first keys after.rows.steps.items after.rows.spans.items k2.rows way.frame s has within.0 number cost at end (e.more.grows.stays 0 first st)),
           );
     }
 
 pub span_of-requires-clause-inside : goal.span_of-requires-clause-inside
 span_of-requires-clause-inside g c = c.requires.begun
 
-pub span_of-requires-clause-estimated : goal.span_of-requires-clause-estimated
-span_of-requires-clause-estimated g c = c.requires.estimated
-
-pub span_of-requires-clause-table : goal.span_of-requires-clause-table
-span_of-requires-clause-table g c = c.requires.table
+pub span_of-requires-clause-whole : goal.span_of-requires-clause-whole
+span_of-requires-clause-whole g c = c.requires.whole
 
 pub span_of-requires-clause-graph : goal.span_of-requires-clause-graph
 span_of-requires-clause-graph g c = let r = c.requires.graph in (r.0, r.1, r.2, r.4)
@@ -77,9 +72,7 @@ turn-requires-clause-graph g c =
 
 pub turns-preserved : goal.turns-preserved
 turns-preserved g c = record {
-  asked = c.in_ok-round.ensures.estimated;
-  table = c.in_ok-round.ensures.table;
-  grows = Grows-trans _ _ _ _ _ _ c.turns.invariant.grows c.in_ok-round.ensures.grows;
+  more = more_trans c.turns.invariant.more c.in_ok-round.ensures.more;
   marked = rw c.in_default-2.is at c.in_ok-round.ensures.marked;
   searched = λ h test least first k s low.
       let v = c.turns.invariant.searched h test least first k s low in
@@ -88,66 +81,48 @@ turns-preserved g c = record {
 
 pub returns-in_err-span : goal.returns-in_err-span
 returns-in_err-span g c = record {
-  estimated = on_refused _ c.from_residual.result _ c.from_residual.ensures.1;
-  table = on_refused _ c.from_residual.result _ c.from_residual.ensures.1;
-  grows = on_refused _ c.from_residual.result _ c.from_residual.ensures.1;
-  above = if_refused _ c.from_residual.result _ c.from_residual.ensures.1;
-  inside = if_refused _ c.from_residual.result _ c.from_residual.ensures.1;
+  more = on_refused _ c.from_residual.result _ c.from_residual.ensures.1;
+  round = if_refused _ c.from_residual.result _ c.from_residual.ensures.1;
   graph = λ h test least first k s low. if_refused _ c.from_residual.result _ c.from_residual.ensures.1;
   refused = refused_as _ c.from_residual.result _ c.from_residual.ensures.1 c.in_err-span.ensures.refused;
 }
 
 pub returns-in_err-numbers : goal.returns-in_err-numbers
 returns-in_err-numbers g c = record {
-  estimated = on_refused _ c.from_residual-in_err-numbers.result _ c.from_residual-in_err-numbers.ensures.1;
-  table = on_refused _ c.from_residual-in_err-numbers.result _ c.from_residual-in_err-numbers.ensures.1;
-  grows = on_refused _ c.from_residual-in_err-numbers.result _ c.from_residual-in_err-numbers.ensures.1;
-  above = if_refused _ c.from_residual-in_err-numbers.result _ c.from_residual-in_err-numbers.ensures.1;
-  inside = if_refused _ c.from_residual-in_err-numbers.result _ c.from_residual-in_err-numbers.ensures.1;
+  more = on_refused _ c.from_residual-in_err-numbers.result _ c.from_residual-in_err-numbers.ensures.1;
+  round = if_refused _ c.from_residual-in_err-numbers.result _ c.from_residual-in_err-numbers.ensures.1;
   graph = λ h test least first k s low. if_refused _ c.from_residual-in_err-numbers.result _ c.from_residual-in_err-numbers.ensures.1;
   refused = refused_as _ c.from_residual-in_err-numbers.result _ c.from_residual-in_err-numbers.ensures.1 c.in_err-numbers.ensures.refused;
 }
 
 pub returns-in_err-way : goal.returns-in_err-way
 returns-in_err-way g c = record {
-  estimated = on_refused _ c.from_residual-in_err-way.result _ c.from_residual-in_err-way.ensures.1;
-  table = on_refused _ c.from_residual-in_err-way.result _ c.from_residual-in_err-way.ensures.1;
-  grows = on_refused _ c.from_residual-in_err-way.result _ c.from_residual-in_err-way.ensures.1;
-  above = if_refused _ c.from_residual-in_err-way.result _ c.from_residual-in_err-way.ensures.1;
-  inside = if_refused _ c.from_residual-in_err-way.result _ c.from_residual-in_err-way.ensures.1;
+  more = on_refused _ c.from_residual-in_err-way.result _ c.from_residual-in_err-way.ensures.1;
+  round = if_refused _ c.from_residual-in_err-way.result _ c.from_residual-in_err-way.ensures.1;
   graph = λ h test least first k s low. if_refused _ c.from_residual-in_err-way.result _ c.from_residual-in_err-way.ensures.1;
   refused = refused_as _ c.from_residual-in_err-way.result _ c.from_residual-in_err-way.ensures.1 c.in_err-way.ensures.refused;
 }
 
 pub returns-in_err-round : goal.returns-in_err-round
 returns-in_err-round g c = record {
-  estimated = on_refused _ c.from_residual-in_err-round.result _ c.from_residual-in_err-round.ensures.1;
-  table = on_refused _ c.from_residual-in_err-round.result _ c.from_residual-in_err-round.ensures.1;
-  grows = on_refused _ c.from_residual-in_err-round.result _ c.from_residual-in_err-round.ensures.1;
-  above = if_refused _ c.from_residual-in_err-round.result _ c.from_residual-in_err-round.ensures.1;
-  inside = if_refused _ c.from_residual-in_err-round.result _ c.from_residual-in_err-round.ensures.1;
+  more = on_refused _ c.from_residual-in_err-round.result _ c.from_residual-in_err-round.ensures.1;
+  round = if_refused _ c.from_residual-in_err-round.result _ c.from_residual-in_err-round.ensures.1;
   graph = λ h test least first k s low. if_refused _ c.from_residual-in_err-round.result _ c.from_residual-in_err-round.ensures.1;
   refused = refused_as _ c.from_residual-in_err-round.result _ c.from_residual-in_err-round.ensures.1 c.in_err-round.ensures.refused;
 }
 
 pub returns-in-Some-2 : goal.returns-in-Some-2
 returns-in-Some-2 g c = record {
-  grows = Grows-trans _ _ _ _ _ _ c.turns.invariant.grows c.in_ok-round.ensures.grows;
+  more = more_trans c.turns.invariant.more c.in_ok-round.ensures.more;
   graph = λ h test least first k s low.
       let v = c.turns.invariant.searched h test least first k s low in
       rw c.in-Some-2.is at (c.in_ok-round.ensures.graph h test least first v.0 v.1);
-  estimated = c.in_ok-round.ensures.estimated;
-  table = c.in_ok-round.ensures.table;
-  above = (rw c.in-Some-2.is at c.in_ok-round.ensures.marked).0;
-  inside = (rw c.in-Some-2.is at c.in_ok-round.ensures.marked).1;
+  round = rw c.in-Some-2.is at c.in_ok-round.ensures.marked;
   refused = tt;
 }
 
-pub turn-requires-clause-estimated : goal.turn-requires-clause-estimated
-turn-requires-clause-estimated g c = c.turns.invariant.asked
-
-pub turn-requires-clause-table : goal.turn-requires-clause-table
-turn-requires-clause-table g c = c.turns.invariant.table
+pub turn-requires-clause-whole : goal.turn-requires-clause-whole
+turn-requires-clause-whole g c = c.turns.invariant.more.whole
 
 pub turn-requires-clause-marked : goal.turn-requires-clause-marked
 turn-requires-clause-marked g c = c.turns.invariant.marked
@@ -163,19 +138,16 @@ returns-in_default g c = record {
       let value = g.C.Number.value in
       let keys = c.span_of.new.self.graph.discovery.nodes.keys in
       let told = rw c.in_default.is at (c.in_ok-span.ensures.graph h test least k) in
-      let here = c.in_ok-span.ensures.grows.stays 0 first s in
+      let here = c.in_ok-span.ensures.more.grows.stays 0 first s in
       let nothing : value c.zero-nothing.result ≡ pos 0 = ap value c.zero-nothing.ensures ∙ g.met.C.Zero.zero_law g.met.C.Integral.exact_law in
       let from = k.led.admissible.from_zero first (InReach-same eq laws h.edges h.starts s.0 first (k.led.explores.reached 0 s.0 s.1) s.2) in
       (told.0, (start_way eq laws value g.C.Number.fits h test least first keys here (told.1 first here) c.in_ok-numbers.numbers.items c.in_ok-numbers.ensures.numbers (value c.zero-nothing.result) nothing, subst (λ (z : ℤ). z ≤ℤ value c.args.limit) (sym nothing) (at_most_both _ _ _ from low)));
-  estimated = c.in_ok-span.ensures.estimated;
-  table = c.in_ok-span.ensures.table;
-  grows = c.in_ok-span.ensures.grows;
-  above = tt;
+  more = c.in_ok-span.ensures.more;
   refused = tt;
-  inside = λ i m.
+  round = λ i m.
       let keys = c.span_of.new.self.graph.discovery.nodes.keys in
       elim (Contains-cases [] 0 i (subst (λ (ns : List ℕ). Contains ns i) c.in_ok-numbers.ensures.numbers m)) as (λ _. i < length keys) [
-        | inl q ↦ subst (λ (n : ℕ). n < length keys) q (still_found _ _ _ c.requires.begun c.in_ok-span.ensures.grows.more)
+        | inl q ↦ subst (λ (n : ℕ). n < length keys) q (still_found _ _ _ c.requires.begun c.in_ok-span.ensures.more.grows.more)
         | inr q ↦ absurd (none_below _ q.1)
       ];
 }

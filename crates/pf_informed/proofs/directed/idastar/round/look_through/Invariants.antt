@@ -1,8 +1,7 @@
-use Rattle.std.proofs.Common.{◌≡◌, ℤ, Bool, length}
+use Rattle.std.proofs.Common.{ℤ, Bool}
 use Rattle.std.specs.Prelude.{◌≤ℤ◌}
 use Rattle.pf_core.specs.Nodes.{NodeGraph, StandsFor}
-use Rattle.pf_informed.specs.Internal.Led.{FindsMore}
-use Rattle.pf_informed.specs.Internal.Rows.{found_in, IsTabled, IsKnown}
+use Rattle.pf_informed.specs.Internal.Rows.{found_in, KnowsMore, IsKnown}
 use Rattle.pf_informed.specs.Internal.Deepening.{turns_on, IsUnderWay, IsMarkedOn}
 use Rattle.pf_informed.proofs.directed.idastar.round.look_through.Given as goal
 
@@ -12,9 +11,7 @@ invariant-turns g l =
     let value = g.C.Number.value in
     let answers = IsKnown eq value g.S.EdgeSource.answers g.T.NodeTest.answers g.H.EstimateFunction.answers in
     record {
-      asked : length l.known.estimates.items ≡ found_in l.known;
-      table : IsTabled l.known;
-      grows : FindsMore eq l.fn.known.graph l.known.graph;
+      more : KnowsMore eq l.fn.known l.known;
       marked : IsMarkedOn l.way value l.limit (found_in l.known);
       searched : (h : NodeGraph g.row.N.Denot) (test : g.row.N.Denot → Bool) (least : g.row.N.Denot → ℤ) (first : g.row.N.Denot)
           → answers h test least l.fn.known → StandsFor eq l.fn.known.graph.discovery.nodes.keys 0 first → least first ≤ℤ value l.limit

@@ -4,9 +4,9 @@ use Rattle.pf_core.proofs.ListLemmas.{Contains-head, Contains-tail}
 use Rattle.pf_informed.specs.declared.directed.idastar.cut_off.CutOff.{CutOff}
 use Rattle.pf_informed.specs.declared.directed.idastar.way.Frame.{Frame}
 use Rattle.pf_informed.specs.Internal.Deepening.{IsMarked, numbers_of, turns_left, IsOnWay}
+use Rattle.pf_informed.proofs.KnownLemmas.{more_refl}
 use Rattle.pf_informed.proofs.TurnsLeft.{left_less, some_turns}
 use Rattle.pf_informed.proofs.WayLemmas.{marked_back, frame_ends, room, on_way_as, went_back, all_done}
-use Rattle.pf_informed.proofs.Outcomes.{Grows-refl}
 use Rattle.pf_informed.proofs.directed.idastar.round.turn.Goals as goal
 
 pub leave-requires-clause-marked : goal.leave-requires-clause-marked
@@ -22,9 +22,7 @@ leave-requires-clause-room g c =
 
 pub returns-then-leave : goal.returns-then-leave
 returns-then-leave g c = record {
-  estimated = c.requires.estimated;
-  table = c.requires.table;
-  grows = Grows-refl _ _;
+  more = more_refl c.requires.whole;
   marked =
       let r = c.requires.graph in
       let w = r.5 in
@@ -64,7 +62,7 @@ returns-then-leave g c = record {
       let spans = known.rows.spans.items in
       let fs = reverse way.trail.items in
       let b = c.if-leave.ensures.below in
-      let ends = frame_ends eq laws value fits h test least first keys steps spans k.rows (length keys) c.requires.table way.frame fs way.cut_off.least way.cut_off.past w in
+      let ends = frame_ends eq laws value fits h test least first keys steps spans k.rows (length keys) c.requires.whole.table way.frame fs way.cut_off.least way.cut_off.past w in
       let over : way.frame.at ≡ way.frame.end = omega (arith, ends.0) in
       let back = went_back eq laws value fits h test least first keys steps spans k.rows way.frame fs way.cut_off.least way.cut_off.past w over b.0 b.1 b.2 in (
         k,
@@ -76,10 +74,8 @@ returns-then-leave g c = record {
 
 pub returns-else-leave : goal.returns-else-leave
 returns-else-leave g c = record {
-  estimated = c.requires.estimated;
-  table = c.requires.table;
-  grows = Grows-refl _ _;
-  marked = ((λ n q. c.requires.marked.above n (sym (ap (λ (o : CutOff g.row.C.Denot). o.least) c.leave.ensures.cut_off) ∙ q)), tt);
+  more = more_refl c.requires.whole;
+  marked = λ n q. c.requires.marked.above n (sym (ap (λ (o : CutOff g.row.C.Denot). o.least) c.leave.ensures.cut_off) ∙ q);
   less = tt;
   graph = λ h test least first k w.
       let eq = g.N.PartialEq.eq in
@@ -93,18 +89,15 @@ returns-else-leave g c = record {
       let steps = known.rows.steps.items in
       let spans = known.rows.spans.items in
       let fs = reverse way.trail.items in
-      let ends = frame_ends eq laws value fits h test least first keys steps spans k.rows (length keys) c.requires.table way.frame fs way.cut_off.least way.cut_off.past w in
+      let ends = frame_ends eq laws value fits h test least first keys steps spans k.rows (length keys) c.requires.whole.table way.frame fs way.cut_off.least way.cut_off.past w in
       let over : way.frame.at ≡ way.frame.end = omega (arith, ends.0) in
       let same = on_way_as eq laws value fits h test least first keys steps spans k.rows way.frame fs fs way.cut_off.least new.cut_off.least way.cut_off.past new.cut_off.past refl (ap (λ (o : CutOff g.row.C.Denot). o.least) c.leave.ensures.cut_off) (ap (λ (o : CutOff g.row.C.Denot). o.past) c.leave.ensures.cut_off) w in
       (k, (all_done eq laws value fits h test least first keys steps spans k.rows way.frame fs new.cut_off.least new.cut_off.past same over c.if-leave.ensures.below, same.too_dear));
   refused = tt;
 }
 
-pub go_on-requires-clause-estimated : goal.go_on-requires-clause-estimated
-go_on-requires-clause-estimated g c = c.requires.estimated
-
-pub go_on-requires-clause-table : goal.go_on-requires-clause-table
-go_on-requires-clause-table g c = c.requires.table
+pub go_on-requires-clause-whole : goal.go_on-requires-clause-whole
+go_on-requires-clause-whole g c = c.requires.whole
 
 pub go_on-requires-clause-marked : goal.go_on-requires-clause-marked
 go_on-requires-clause-marked g c = c.requires.marked
@@ -115,4 +108,4 @@ go_on-requires-clause-graph g c = c.requires.graph
 pub returns-then-way : goal.returns-then-way
 returns-then-way g c =
     let e = c.go_on.ensures in
-    record { estimated = e.estimated; table = e.table; grows = e.grows; marked = e.marked; less = e.less; graph = e.graph; refused = e.refused }
+    record { more = e.more; marked = e.marked; less = e.less; graph = e.graph; refused = e.refused }

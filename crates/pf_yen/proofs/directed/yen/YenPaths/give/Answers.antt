@@ -1,8 +1,8 @@
 use Rattle.std.proofs.Common.{◌≡◌, ap, refl, Some, None, Option}
 use Rattle.pf_yen.specs.declared.candidate.Candidate.{Candidate}
-use Rattle.pf_yen.specs.Classes.{plan_of}
-use Rattle.pf_yen.specs.Plans.{chosen_plan}
-use Rattle.pf_yen.proofs.WalkLemmas.{none_left, path_inside, gives}
+use Rattle.pf_yen.specs.Internal.Classes.{plan_of}
+use Rattle.pf_yen.specs.Internal.Candidates.{chosen_plan}
+use Rattle.pf_yen.proofs.WalkLemmas.{ended_by, none_left, path_inside, gives}
 use Rattle.pf_yen.proofs.directed.yen.YenPaths.give.Goals as goal
 
 pub returns-in_default-clause-steps : goal.returns-in_default-clause-steps
@@ -12,7 +12,7 @@ returns-in_default-clause-steps g c = λ edges start test w.
     let n = rw (← c.self.view_is) at c.requires.none in
     let e : c.self.inside.plans.chosen ≡ None = c.in_default.is in
     let f = ap (λ (o : Option (Candidate g.row.C.Denot g.row.A.Denot)). chosen_plan o) e in
-    rw (← c.self.view_is) (v, (none_left v g.met.N.Eq.laws r.0 r.1 f (n f), refl, (r.0, r.1, f, n f)))
+    rw (← c.self.view_is) (v, (none_left v g.met.N.Eq.laws r.0 r.1 f (n f), refl, ended_by _ _ _ _ r.0 r.1 f (n f)))
 
 pub nodes_at-requires-clause-inside : goal.nodes_at-requires-clause-inside
 nodes_at-requires-clause-inside g c =

@@ -4,9 +4,9 @@ use Rattle.pf_core.specs.Nodes.{StandsFor}
 use Rattle.pf_core.proofs.ListLemmas.{get-append}
 use Rattle.pf_core.proofs.SearchLemmas.{Grows-trans}
 use Rattle.pf_informed.specs.Internal.Rows.{IsCheapStep, IsTable, HasSpan}
-use Rattle.pf_informed.proofs.KnownLemmas.{table_more, rows_more, rows_grown, cheap_sound, cheap_complete}
+use Rattle.pf_informed.proofs.KnownLemmas.{more_refl, table_more, rows_more, rows_grown, cheap_sound, cheap_complete}
 use Rattle.pf_informed.proofs.LedLemmas.{with_test, led_grown, led_more}
-use Rattle.pf_informed.proofs.Outcomes.{refused_as, on_refused, if_refused, Grows-refl}
+use Rattle.pf_informed.proofs.Outcomes.{refused_as, on_refused, if_refused}
 use Rattle.pf_informed.proofs.Bounds.{below_more}
 use Rattle.pf_informed.proofs.directed.idastar.known.Known.span_of.Goals as goal
 
@@ -32,11 +32,15 @@ is_goal-requires-clause-graph g c =
 
 pub returns-then-is_goal : goal.returns-then-is_goal
 returns-then-is_goal g c = record {
-  estimated = c.requires.estimated ∙ sym c.is_goal.ensures.same;
-  table = subst (λ (m : ℕ). IsTable m c.args.self.now.rows.steps.items c.args.self.now.rows.spans.items) (sym c.is_goal.ensures.same) c.requires.table;
-  grows = c.is_goal.ensures.grows;
-  steps = λ i x h. h;
-  spans = λ k s h. h;
+  more = record {
+    whole = record {
+      asked = c.requires.whole.asked ∙ sym c.is_goal.ensures.same;
+      table = subst (λ (m : ℕ). IsTable m c.args.self.now.rows.steps.items c.args.self.now.rows.spans.items) (sym c.is_goal.ensures.same) c.requires.whole.table;
+    };
+    grows = c.is_goal.ensures.grows;
+    steps = λ i x h. h;
+    spans = λ k s h. h;
+  };
   kept = tt;
   graph = λ h test least k.
       let eq = g.N.PartialEq.eq in
@@ -47,8 +51,8 @@ returns-then-is_goal g c = record {
       let told = c.is_goal.ensures.graph (with_test h test) (k.led.explores, k.led.tested) in
       let grows = c.is_goal.ensures.grows in (
         record {
-          led = led_grown k.led laws c.requires.estimated c.is_goal.new.self grows told.0.0 told.0.1;
-          rows = rows_grown value (IsCheapStep eq h) test (StandsFor eq keys) (StandsFor eq now) (length keys) (length now) c.args.self.now.rows.steps.items c.args.self.now.rows.spans.items grows c.requires.table k.rows;
+          led = led_grown k.led laws c.requires.whole.asked c.is_goal.new.self grows told.0.0 told.0.1;
+          rows = rows_grown value (IsCheapStep eq h) test (StandsFor eq keys) (StandsFor eq now) (length keys) (length now) c.args.self.now.rows.steps.items c.args.self.now.rows.spans.items grows c.requires.whole.table k.rows;
         },
         λ x s. sym (told.1 x (grows.back c.args.number x c.requires.inside s)) ∙ c.if-is_goal.true,
       );
@@ -70,8 +74,7 @@ ask-requires-clause-graph g c =
 
 pub returns : goal.returns
 returns g c = record {
-  estimated = c.in_ok-ask.ensures.all;
-  table =
+  more =
       let keys = c.args.self.now.graph.discovery.nodes.keys in
       let after = c.expand.new.self.discovery.nodes.keys in
       let grows = Grows-trans _ _ _ _ _ _ c.is_goal.ensures.grows c.in_ok-expand.ensures.grows in
@@ -79,13 +82,17 @@ returns g c = record {
       let e = c.in_ok-span.ensures in
       let kept = subst (λ (xs : List (ℕ × g.row.C.Denot)). c.keep.new.self.steps.items ≡ c.args.self.now.rows.steps.items ++ xs) c.deref.ensures.value e.steps in
       let end = subst (λ (xs : List (ℕ × g.row.C.Denot)). c.in_ok-span.span.end ≡ length c.args.self.now.rows.steps.items + length xs) c.deref.ensures.value e.span.1 in
-      table_more (length keys) (length after) grows.more c.args.self.now.rows.steps.items c.expand.new.row.steps.items c.keep.new.self.steps.items c.args.self.now.rows.spans.items c.keep.new.self.spans.items c.args.number c.in_ok-span.span
-      kept e.span.0 end e.from c.requires.table (below_more _ _ _ c.requires.inside grows.more) (λ i j d at. row.2 j d (row.1.from i j d at));
-  grows = Grows-trans _ _ _ _ _ _ c.is_goal.ensures.grows c.in_ok-expand.ensures.grows;
-  steps = λ i e h. subst (λ (xs : List (ℕ × g.row.C.Denot)). slice_get xs i ≡ Some e) (sym c.in_ok-span.ensures.steps) (get-append c.args.self.now.rows.steps.items c.deref.result.now i e h);
-  spans = λ k s h.
       let none = none_of c.span-span.result _ _ (sym c.is_some.ensures ∙ c.if-is_some.false) c.span-span.ensures in
-      c.in_ok-span.ensures.others k s (λ e. none s (subst (λ (n : ℕ). HasSpan c.args.self.now.rows.spans.items n s) e h)) h;
+      record {
+        whole = record {
+          asked = c.in_ok-ask.ensures.all;
+          table = table_more (length keys) (length after) grows.more c.args.self.now.rows.steps.items c.expand.new.row.steps.items c.keep.new.self.steps.items c.args.self.now.rows.spans.items c.keep.new.self.spans.items c.args.number c.in_ok-span.span
+              kept e.span.0 end e.from c.requires.whole.table (below_more _ _ _ c.requires.inside grows.more) (λ i j d at. row.2 j d (row.1.from i j d at));
+        };
+        grows = grows;
+        steps = λ i x h. subst (λ (xs : List (ℕ × g.row.C.Denot)). slice_get xs i ≡ Some x) (sym e.steps) (get-append c.args.self.now.rows.steps.items c.deref.result.now i x h);
+        spans = λ k s h. e.others k s (λ q. none s (subst (λ (n : ℕ). HasSpan c.args.self.now.rows.spans.items n s) q h)) h;
+      };
   kept = c.in_ok-span.ensures.kept;
   graph = λ h test least k.
       let eq = g.N.PartialEq.eq in
@@ -105,9 +112,9 @@ returns g c = record {
       let number = c.args.number in
       let here : (y : g.row.N.Denot) → StandsFor eq after number y → StandsFor eq between number y = λ y s. c.in_ok-expand.ensures.grows.back number y (subst (λ (n : ℕ). number < n) (sym c.is_goal.ensures.same) c.requires.inside) s in (
         record {
-          led = led_more (led_grown k.led laws c.requires.estimated c.expand.new.self grows x.0 x.1) a.0 a.1;
+          led = led_more (led_grown k.led laws c.requires.whole.asked c.expand.new.self grows x.0 x.1) a.0 a.1;
           rows = rows_more (length keys) (length after) grows.more c.args.self.now.rows.steps.items c.expand.new.row.steps.items c.keep.new.self.steps.items c.args.self.now.rows.spans.items c.keep.new.self.spans.items number c.in_ok-span.span
-              kept e.span.0 end e.from c.requires.table value (IsCheapStep eq h) test (StandsFor eq keys) (StandsFor eq after) grows
+              kept e.span.0 end e.from c.requires.whole.table value (IsCheapStep eq h) test (StandsFor eq keys) (StandsFor eq after) grows
               (λ y s. sym (told.1 y (c.is_goal.ensures.grows.back number y c.requires.inside (here y s))) ∙ c.if-is_goal.false)
               (λ y s. cheap_sound eq laws value h after y c.expand.new.row.steps.items row.0 c.expand.new.row.places.items row.1 (row.4 (with_test h test) told.0 y (here y s)))
               (λ y s. cheap_complete eq laws value h after y c.expand.new.row.steps.items row.0 c.expand.new.row.places.items row.1 (row.4 (with_test h test) told.0 y (here y s)))
@@ -120,11 +127,7 @@ returns g c = record {
 
 pub returns-in_err-expand : goal.returns-in_err-expand
 returns-in_err-expand g c = record {
-  estimated = on_refused _ c.from_residual.result _ c.from_residual.ensures.1;
-  table = on_refused _ c.from_residual.result _ c.from_residual.ensures.1;
-  grows = on_refused _ c.from_residual.result _ c.from_residual.ensures.1;
-  steps = on_refused _ c.from_residual.result _ c.from_residual.ensures.1;
-  spans = on_refused _ c.from_residual.result _ c.from_residual.ensures.1;
+  more = on_refused _ c.from_residual.result _ c.from_residual.ensures.1;
   kept = if_refused _ c.from_residual.result _ c.from_residual.ensures.1;
   graph = λ h test least k. if_refused _ c.from_residual.result _ c.from_residual.ensures.1;
   refused = refused_as _ c.from_residual.result _ c.from_residual.ensures.1 c.in_err-expand.ensures.refused.0;
@@ -132,11 +135,7 @@ returns-in_err-expand g c = record {
 
 pub returns-in_err-ask : goal.returns-in_err-ask
 returns-in_err-ask g c = record {
-  estimated = on_refused _ c.from_residual-in_err-ask.result _ c.from_residual-in_err-ask.ensures.1;
-  table = on_refused _ c.from_residual-in_err-ask.result _ c.from_residual-in_err-ask.ensures.1;
-  grows = on_refused _ c.from_residual-in_err-ask.result _ c.from_residual-in_err-ask.ensures.1;
-  steps = on_refused _ c.from_residual-in_err-ask.result _ c.from_residual-in_err-ask.ensures.1;
-  spans = on_refused _ c.from_residual-in_err-ask.result _ c.from_residual-in_err-ask.ensures.1;
+  more = on_refused _ c.from_residual-in_err-ask.result _ c.from_residual-in_err-ask.ensures.1;
   kept = if_refused _ c.from_residual-in_err-ask.result _ c.from_residual-in_err-ask.ensures.1;
   graph = λ h test least k. if_refused _ c.from_residual-in_err-ask.result _ c.from_residual-in_err-ask.ensures.1;
   refused = refused_as _ c.from_residual-in_err-ask.result _ c.from_residual-in_err-ask.ensures.1 c.in_err-ask.ensures.refused;
@@ -144,11 +143,7 @@ returns-in_err-ask g c = record {
 
 pub returns-in_err-span : goal.returns-in_err-span
 returns-in_err-span g c = record {
-  estimated = on_refused _ c.from_residual-in_err-span.result _ c.from_residual-in_err-span.ensures.1;
-  table = on_refused _ c.from_residual-in_err-span.result _ c.from_residual-in_err-span.ensures.1;
-  grows = on_refused _ c.from_residual-in_err-span.result _ c.from_residual-in_err-span.ensures.1;
-  steps = on_refused _ c.from_residual-in_err-span.result _ c.from_residual-in_err-span.ensures.1;
-  spans = on_refused _ c.from_residual-in_err-span.result _ c.from_residual-in_err-span.ensures.1;
+  more = on_refused _ c.from_residual-in_err-span.result _ c.from_residual-in_err-span.ensures.1;
   kept = if_refused _ c.from_residual-in_err-span.result _ c.from_residual-in_err-span.ensures.1;
   graph = λ h test least k. if_refused _ c.from_residual-in_err-span.result _ c.from_residual-in_err-span.ensures.1;
   refused = refused_as _ c.from_residual-in_err-span.result _ c.from_residual-in_err-span.ensures.1 c.in_err-span.ensures.refused;
@@ -156,11 +151,7 @@ returns-in_err-span g c = record {
 
 pub returns-then-is_some : goal.returns-then-is_some
 returns-then-is_some g c = record {
-  estimated = c.requires.estimated;
-  table = c.requires.table;
-  grows = Grows-refl _ _;
-  steps = λ i x h. h;
-  spans = λ k s h. h;
+  more = more_refl c.requires.whole;
   kept = some_of c.span-span.result _ _ c.span-span.ensures;
   graph = λ h test least k. (k, some_any c.span-span.result _ (sym c.is_some.ensures ∙ c.if-is_some.true));
   refused = tt;
@@ -170,7 +161,7 @@ pub is_goal-requires-clause-inside : goal.is_goal-requires-clause-inside
 is_goal-requires-clause-inside g c = c.requires.inside
 
 pub ask-requires-clause-few : goal.ask-requires-clause-few
-ask-requires-clause-few g c = subst (λ (n : ℕ). n ≤ length c.expand.new.self.discovery.nodes.keys) (sym (c.requires.estimated ∙ sym c.is_goal.ensures.same)) c.in_ok-expand.ensures.grows.more
+ask-requires-clause-few g c = subst (λ (n : ℕ). n ≤ length c.expand.new.self.discovery.nodes.keys) (sym (c.requires.whole.asked ∙ sym c.is_goal.ensures.same)) c.in_ok-expand.ensures.grows.more
 
 pub expand-requires-clause-inside : goal.expand-requires-clause-inside
 expand-requires-clause-inside g c = subst (λ (n : ℕ). c.args.number < n) (sym c.is_goal.ensures.same) c.requires.inside

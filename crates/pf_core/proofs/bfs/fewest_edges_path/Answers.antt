@@ -1,0 +1,167 @@
+use Rattle.std.proofs.Common.{◌≡◌, ◌<◌, ◌∙◌, sym, subst, ℕ, arith, length, ap, Some, pos}
+use Rattle.std.proofs.lemmas.List.{length-replicate}
+use Rattle.std.proofs.lemmas.Result.{IfOk-from_err}
+use Rattle.pf_base.specs.declared.error.PathError.TheVariants.{OutOfMemory}
+use Rattle.pf_core.specs.Labels.{by_depth, IsTree}
+use Rattle.pf_core.proofs.Outcomes.{refused_as}
+use Rattle.pf_core.proofs.SearchLemmas.{Grows-trans, no_goal, best, best_grows, failed_turned}
+use Rattle.pf_core.specs.Breadth.{below}
+use Rattle.pf_core.proofs.HopLemmas.{breadth_start, breadth_done, hop_tree_start, hop_search_start, none_settled, hop_least, hop_positive, roots_below, reached_from, started, visit_left}
+use Rattle.pf_core.specs.Numbered.{Grows}
+use Rattle.pf_core.proofs.HopTurns.{IsHopTurn, settled_fit, hop_turn}
+use Rattle.pf_core.proofs.bfs.fewest_edges_path.Goals as goal
+
+pub fill-requires : goal.fill-requires
+fill-requires g c = omega (arith, ap length c.new-labels.ensures.items)
+
+pub returns-in_err-fill : goal.returns-in_err-fill
+returns-in_err-fill g c = record {
+  graph = λ h x. x;
+  inside = IfOk-from_err c.from_residual.result _ c.from_residual.ensures.0;
+  best = λ h x p. IfOk-from_err c.from_residual.result _ c.from_residual.ensures.0;
+  errors = refused_as (λ e. e ≡ OutOfMemory) c.from_residual.result c.in_err-fill.field-0.0 c.from_residual.ensures.1 c.in_err-fill.ensures.refused;
+}
+
+pub nodes-init : goal.nodes-init
+nodes-init g c =
+    let e = started c.new-labels.result.items c.fill.new.labels.items c.found.result _ c.first.result c.new-labels.ensures.items c.in_ok-fill.ensures.filled c.first.ensures c.found.ensures in
+    let len : length c.fill.new.labels.items ≡ g.G.NumberedGraph.found c.args.graph.now = ap length e ∙ length-replicate _ (Some (reached_from 0 0)) in
+    record {
+      len = len;
+      few = omega (arith, len, c.found.ensures, c.in_ok-fill.ensures.few);
+      breadth = breadth_start _ c.fill.new.labels.items e len;
+      tree = hop_tree_start _ c.fill.new.labels.items e len;
+      grown = record { more = omega arith; stays = λ k x h. h; back = λ k x i h. h };
+      explored = λ h x. x;
+      search = λ h x p. hop_search_start (g.G.NumberedGraph.step h) _ (g.G.NumberedGraph.stands c.args.graph.now) c.fill.new.labels.items e len c.requires.begins;
+      failed = λ h x k m y at t here. absurd (none_settled (g.G.NumberedGraph.step h) _ (g.G.NumberedGraph.stands c.args.graph.now) c.fill.new.labels.items e len k m at t);
+    }
+
+pub is_goal-requires-clause-inside : goal.is_goal-requires-clause-inside
+is_goal-requires-clause-inside g c = omega (arith, c.nodes-test.true, c.len.ensures, c.nodes.invariant.len)
+
+pub is_goal-requires-clause-graph : goal.is_goal-requires-clause-graph
+is_goal-requires-clause-graph g c = let r = c.requires.graph in (r.0, c.nodes.invariant.explored r.0 r.1)
+
+pub path_to-requires-clause-tree : goal.path_to-requires-clause-tree
+path_to-requires-clause-tree g c = subst IsTree (sym c.deref.ensures.value) c.nodes.invariant.tree
+
+pub path_to-requires-clause-labelled : goal.path_to-requires-clause-labelled
+path_to-requires-clause-labelled g c = rw c.deref.ensures.value (c.nodes.invariant.breadth.full c.nodes.node (omega (arith, c.nodes-test.true, c.len.ensures)))
+
+pub returns-in_err-numbers : goal.returns-in_err-numbers
+returns-in_err-numbers g c = record {
+  graph = λ h x. (c.is_goal.ensures.graph h (c.nodes.invariant.explored h x)).0;
+  inside = IfOk-from_err c.from_residual-in_err-numbers.result _ c.from_residual-in_err-numbers.ensures.0;
+  best = λ h x p. IfOk-from_err c.from_residual-in_err-numbers.result _ c.from_residual-in_err-numbers.ensures.0;
+  errors = refused_as (λ e. e ≡ OutOfMemory) c.from_residual-in_err-numbers.result c.in_err-numbers.field-0.0 c.from_residual-in_err-numbers.ensures.1 c.in_err-numbers.ensures.refused;
+}
+
+pub returns-then-is_goal : goal.returns-then-is_goal
+returns-then-is_goal g c = record {
+  graph = λ h x. (c.is_goal.ensures.graph h (c.nodes.invariant.explored h x)).0;
+  inside = λ k h.
+      let l = c.in_ok-numbers.ensures.inside k h in
+      subst (λ (n : ℕ). k < n) (ap length c.deref.ensures.value ∙ c.nodes.invariant.len ∙ sym c.is_goal.ensures.same) l;
+  best = λ h x p.
+      let v = c.nodes.invariant in
+      let step = g.G.NumberedGraph.step h in
+      let passes = g.G.NumberedGraph.passes h in
+      let t = (c.is_goal.ensures.graph h (v.explored h x)).1 in
+      let l = v.breadth.full c.nodes.node (omega (arith, c.nodes-test.true, c.len.ensures)) in
+      let numbers = c.in_ok-numbers.numbers.items in (
+        pos l.0.depth,
+        best_grows step passes _ _ (roots_below _ _ _ _ v.grown) _ _ _ _ c.is_goal.ensures.grows numbers (pos l.0.depth)
+            (best by_depth step (below (g.G.NumberedGraph.found c.args.graph.now)) (hop_positive step p) _ c.nodes.labels.items (v.search h x p) v.tree c.nodes.node l.0 (hop_least c.nodes.node c.nodes.labels.items v.breadth l.0 l.1) passes (v.failed h x) numbers
+            (rw c.deref.ensures.value at c.in_ok-numbers.ensures.chain) (λ y k. sym (t y k) ∙ c.if-is_goal.true)),
+      );
+  errors = tt;
+}
+
+pub expand-requires-clause-inside : goal.expand-requires-clause-inside
+expand-requires-clause-inside g c = omega (arith, c.nodes-test.true, c.len.ensures, c.nodes.invariant.len, c.is_goal.ensures.same)
+
+pub expand-requires-clause-graph : goal.expand-requires-clause-graph
+expand-requires-clause-graph g c = let r = c.requires.graph in (r.0, (c.is_goal.ensures.graph r.0 (c.nodes.invariant.explored r.0 r.1)).0)
+
+pub returns-in_err-expand : goal.returns-in_err-expand
+returns-in_err-expand g c = record {
+  graph = λ h x. c.in_err-expand.ensures.graph h (c.is_goal.ensures.graph h (c.nodes.invariant.explored h x)).0;
+  inside = IfOk-from_err c.from_residual-in_err-expand.result _ c.from_residual-in_err-expand.ensures.0;
+  best = λ h x p. IfOk-from_err c.from_residual-in_err-expand.result _ c.from_residual-in_err-expand.ensures.0;
+  errors = refused_as (λ e. e ≡ OutOfMemory) c.from_residual-in_err-expand.result c.in_err-expand.field-0.0 c.from_residual-in_err-expand.ensures.1 c.in_err-expand.ensures.refused.0;
+}
+
+pub settle-depth-requires : goal.settle-depth-requires
+settle-depth-requires g c = c.nodes.invariant.breadth.full c.nodes.node (omega (arith, c.nodes-test.true, c.len.ensures))
+
+pub behind-requires : goal.behind-requires
+behind-requires g c = omega (arith, c.nodes-test.true, c.len.ensures, c.nodes.invariant.few)
+
+pub fill-requires-in-nodes : goal.fill-requires-in-nodes
+fill-requires-in-nodes g c =
+    let v = c.nodes.invariant in
+    settled_fit c.nodes.node c.nodes.labels.items c.settle-depth.new.labels.items c.settle-depth.result c.found-in-nodes.result (g.G.NumberedGraph.found c.is_goal.new.self) (g.G.NumberedGraph.found c.expand.new.self)
+    v.breadth (omega (arith, c.nodes-test.true, c.len.ensures)) (v.len ∙ sym c.is_goal.ensures.same) c.settle-depth.ensures c.found-in-nodes.ensures c.in_ok-expand.ensures.grows.more
+
+pub returns-in_err-fill-2 : goal.returns-in_err-fill-2
+returns-in_err-fill-2 g c = record {
+  graph = λ h x. c.in_ok-expand.ensures.graph h (c.is_goal.ensures.graph h (c.nodes.invariant.explored h x)).0;
+  inside = IfOk-from_err c.from_residual-in_err-fill-2.result _ c.from_residual-in_err-fill-2.ensures.0;
+  best = λ h x p. IfOk-from_err c.from_residual-in_err-fill-2.result _ c.from_residual-in_err-fill-2.ensures.0;
+  errors = refused_as (λ e. e ≡ OutOfMemory) c.from_residual-in_err-fill-2.result c.in_err-fill-2.field-0.0 c.from_residual-in_err-fill-2.ensures.1 c.in_err-fill-2.ensures.refused;
+}
+
+pub overflow_add-node : goal.overflow_add-node
+overflow_add-node g c = omega (arith, c.nodes-test.true, c.len.ensures, c.nodes.invariant.few)
+
+pub nodes-smaller : goal.nodes-smaller
+nodes-smaller g c = visit_left c.nodes.node c.nodes.labels.items (omega (arith, c.nodes-test.true, c.len.ensures)) c.nodes.invariant.few
+
+pub nodes-preserved : goal.nodes-preserved
+nodes-preserved g c =
+    let v = c.nodes.invariant in
+    let inside : c.nodes.node < length c.nodes.labels.items = omega (arith, c.nodes-test.true, c.len.ensures) in
+    let labels = c.nodes.labels.items in
+    let labels3 = c.fill-in-nodes.new.labels.items in
+    let before = g.G.NumberedGraph.found c.nodes.graph in
+    let found = g.G.NumberedGraph.found c.expand.new.self in
+    let stands = g.G.NumberedGraph.stands c.nodes.graph in
+    let stands3 = g.G.NumberedGraph.stands c.expand.new.self in
+    let row = c.in_ok-expand.ensures.listed in
+    let grown : Grows before found stands stands3 = Grows-trans _ _ _ _ _ _ c.is_goal.ensures.grows c.in_ok-expand.ensures.grows in
+    record {
+      len = t.len;
+      few = t.few;
+      breadth = t.breadth;
+      tree = t.tree;
+      explored = λ h x. c.in_ok-expand.ensures.graph h (c.is_goal.ensures.graph h (v.explored h x)).0;
+      grown = Grows-trans _ _ _ _ _ _ v.grown grown;
+      search = λ h x p.
+          let x1 = c.is_goal.ensures.graph h (v.explored h x) in
+          t.search (g.G.NumberedGraph.step h) (below (g.G.NumberedGraph.found c.args.graph.now)) p before stands stands3 grown v.len (v.search h x p) g.C.Number.value (λ y k. row.4 h x1.0 y (c.is_goal.ensures.grows.stays c.nodes.node y k)) row.2;
+      failed = λ h x.
+          let x1 = c.is_goal.ensures.graph h (v.explored h x) in
+          failed_turned (g.G.NumberedGraph.passes h) before found stands stands3 grown labels labels3 (omega (arith, v.len)) c.nodes.node (subst (λ (n : ℕ). c.nodes.node < n) v.len inside) t.from (λ y k. sym (x1.1 y k) ∙ c.if-is_goal.false) (v.failed h x);
+    }
+  where
+    t : IsHopTurn g.G.NumberedGraph.Node c.nodes.node c.in_ok-expand.ensures.listed.0 c.nodes.labels.items c.fill-in-nodes.new.labels.items (g.G.NumberedGraph.found c.expand.new.self)
+    t =
+        let v = c.nodes.invariant in
+        let row = c.in_ok-expand.ensures.listed in
+        hop_turn c.nodes.node c.nodes.labels.items c.settle-depth.new.labels.items c.settle-depth.result c.found-in-nodes.result (g.G.NumberedGraph.found c.is_goal.new.self) (g.G.NumberedGraph.found c.expand.new.self)
+        v.breadth (omega (arith, c.nodes-test.true, c.len.ensures)) (v.len ∙ sym c.is_goal.ensures.same) c.settle-depth.ensures c.found-in-nodes.ensures c.in_ok-expand.ensures.grows.more
+        g.G.NumberedGraph.Node c.fill-in-nodes.new.labels.items c.behind.result c.behind.ensures c.in_ok-fill-2.ensures.filled c.in_ok-fill-2.ensures.few v.tree row.0 row.3
+
+pub returns : goal.returns
+returns g c = record {
+  graph = λ h x. c.nodes.invariant.explored h x;
+  inside = tt;
+  best = λ h x p.
+      let v = c.nodes.invariant in
+      let root = roots_below _ _ _ _ v.grown in
+      let none = no_goal by_depth (g.G.NumberedGraph.step h) (below (g.G.NumberedGraph.found c.args.graph.now)) (hop_positive (g.G.NumberedGraph.step h) p) _ _ (v.search h x p) (g.G.NumberedGraph.passes h) (v.failed h x)
+      (breadth_done c.nodes.node _ v.breadth (omega (arith, c.nodes-test.false, c.len.ensures))) in
+      λ s is. none s ((root s).1 is);
+  errors = tt;
+}

@@ -1,0 +1,23 @@
+use Rattle.std.proofs.Common.{ℕ, ◌≡◌, ◌-◌, ◌+◌, ◌^◌, length, nat_eq, true, false}
+use Rattle.std.specs.BinaryHeap.{heap_items}
+use Rattle.pf_core.specs.declared.labels.Label.{Label}
+use Rattle.pf_core.specs.Steps.{IsNonNegative}
+use Rattle.pf_core.specs.Numbered.{Grows}
+use Rattle.pf_core.specs.Labels.{HasLabel, by_cost, settled_count}
+use Rattle.pf_core.specs.Search.{IsSound, IsSearch}
+use Rattle.pf_core.proofs.dijkstra.cheapest_path.Given as goal
+
+abbrev pub invariant-turns : goal.invariant-turns
+invariant-turns g l = record {
+  sound : IsSound g.C.Ord.cmp g.C.Number.value l.search.labels.items (heap_items l.search.queue);
+  wide : length l.search.labels.items ≡ g.G.NumberedGraph.found l.graph;
+  asked : l.tally ≡ l.fn.tally + settled_count l.search.labels.items;
+  grown : Grows (g.G.NumberedGraph.found l.fn.graph) (g.G.NumberedGraph.found l.graph) (g.G.NumberedGraph.stands l.fn.graph) (g.G.NumberedGraph.stands l.graph);
+  explored : (h : g.G.NumberedGraph.Graph) → g.G.NumberedGraph.explores l.fn.graph h → g.G.NumberedGraph.explores l.graph h;
+  search : (h : g.G.NumberedGraph.Graph) → g.G.NumberedGraph.explores l.fn.graph h → IsNonNegative (g.G.NumberedGraph.step h)
+      → IsSearch (by_cost g.C.Number.value) (g.G.NumberedGraph.step h) (λ k. nat_eq k l.start) (g.G.NumberedGraph.stands l.graph) l.search.labels.items;
+  failed : (h : g.G.NumberedGraph.Graph) → g.G.NumberedGraph.explores l.fn.graph h → (k : ℕ) (m : Label g.row.C.Denot) (x : g.G.NumberedGraph.Node) → HasLabel l.search.labels.items k m → m.settled ≡ true → g.G.NumberedGraph.stands l.graph k x → g.G.NumberedGraph.passes h x ≡ false;
+}
+
+abbrev pub decreases-turns : goal.decreases-turns
+decreases-turns g l = 2 ^ 64 - settled_count l.search.labels.items

@@ -1,0 +1,47 @@
+use Rattle.std.proofs.Common.{◌∙◌, refl, false, [], ◌∷◌}
+use Rattle.pf_core.specs.declared.labels.Label.{Label}
+use Rattle.pf_core.specs.Nodes.{NodeGraph, StandsFor, IsStep}
+use Rattle.pf_core.proofs.NodeLemmas.{Explores-edges}
+use Rattle.pf_core.proofs.SearchLemmas.{start_alone}
+use Rattle.std.proofs.lemmas.Result.{IfOk-from_err}
+use Rattle.pf_search.proofs.GivenLemmas.{none_given}
+use Rattle.pf_search.proofs.ResultLemmas.{refused_as}
+use Rattle.pf_search.proofs.directed.dijkstra_reach.DijkstraReachable.new.Goals as goal
+
+pub returns-clause-begins : goal.returns-clause-begins
+returns-clause-begins g c =
+    let b = c.in_ok-search.ensures in
+    (none_given c.in_ok-clone_of.field-0.keys c.in_ok-search.search.labels.items (b.wide ∙ c.len.ensures.len) b.none, refl, refl)
+
+pub returns-clause-graph : goal.returns-clause-graph
+returns-clause-graph g c = λ edges a h.
+    let eq = g.N.PartialEq.eq in
+    let laws = g.met.N.Eq.laws in
+    let start = c.args.start.now in
+    let found = c.in_ok-clone_of in
+    let b = c.in_ok-search.ensures in
+    let first : Label g.row.C.Denot = record { cost = g.C.Zero.zero; parent = 0; depth = 0; settled = false } in
+    let graph : NodeGraph g.row.N.Denot = record { starts = start ∷ []; edges = edges } in
+    let here : (x : g.row.N.Denot) × StandsFor eq found.field-0.keys 0 x = (start, (found.ensures.begins start).1 (laws.refl start)) in
+    record {
+      explored = Explores-edges eq laws g.F.EdgeFunction.answers graph found.field-0.keys _ found.ensures.distinct found.ensures.same (g.met.F.EdgeFunction.alike_law c.args.successors (start ∷ []) edges a) a;
+      costs = h;
+      begins = found.ensures.begins;
+      wide = b.wide ∙ c.len.ensures.len;
+      search = start_alone 0 g.C.Number.value (IsStep eq graph) (StandsFor eq found.field-0.keys) here c.in_ok-search.search.labels.items first b.first b.only refl refl (g.met.C.Zero.zero_law g.met.C.Integral.exact_law);
+      given = refl;
+    }
+
+pub returns-in_err-clone_of : goal.returns-in_err-clone_of
+returns-in_err-clone_of g c = record {
+  begins = IfOk-from_err _ _ c.from_residual.ensures.0;
+  graph = IfOk-from_err _ _ c.from_residual.ensures.0;
+  refused = refused_as _ c.from_residual.result c.in_err-clone_of.field-0.0 c.from_residual.ensures.1 c.in_err-clone_of.ensures.refused;
+}
+
+pub returns-in_err-search : goal.returns-in_err-search
+returns-in_err-search g c = record {
+  begins = IfOk-from_err _ _ c.from_residual-in_err-search.ensures.0;
+  graph = IfOk-from_err _ _ c.from_residual-in_err-search.ensures.0;
+  refused = refused_as _ c.from_residual-in_err-search.result c.in_err-search.field-0.0 c.from_residual-in_err-search.ensures.1 c.in_err-search.ensures.refused;
+}

@@ -1,0 +1,78 @@
+//! What was learned of a graph: the steps from each number, and which numbers are goals.
+
+ghost use Rattle.std.specs.Prelude.{◌≡◌, ◌<◌, [], ◌∷◌, ◌++◌, length, OnOk, OnErr, IfErr};
+ghost use Rattle.pf_yen.specs.Internal.Adjacency.{row_of, is_goal};
+
+use pf_base::{Cost, PathError};
+use std::alloc::Allocator;
+use std::marker::Model;
+
+/// The steps from each number, each as the number of its end and its cost, and whether the number is
+/// a goal. The steps from a goal are left out.
+#[derive(Drop)]
+pub struct Adjacency<C: Cost, A: Allocator> {
+    rows: Vec<Vec<(usize, C), A>, A>,
+    goals: Vec<bool, A>,
+}
+
+impl<C: Cost, A: Allocator> Model for Adjacency<C, A> {
+    ghost use Rattle.std.specs.Prelude.{◌≡◌, length, map};
+    ghost use Rattle.pf_yen.specs.Internal.Adjacency.{AdjacencyLists, adjacency_code};
+
+    ghost Value = { AdjacencyLists C };
+
+    ghost coded = { adjacency_code C.code };
+
+    ghost view = { λ s. record { rows = map (λ row. row.items) s.rows.items; goals = s.goals.items } };
+
+    ghost invariant = { λ s. length s.goals.items ≡ length s.rows.items };
+}
+
+impl<C: Cost, A: Allocator> Adjacency<C, A> {
+    /// Nothing is known.
+    pub fn new(alloc: A) -> Self
+    where
+        A: Copy,
+        ensures { result ≡ record { rows = []; goals = [] } }
+    {
+        Adjacency {
+            rows: Vec::new(alloc),
+            goals: Vec::new(alloc),
+        }
+    }
+
+    /// Of how many numbers the steps are known.
+    pub fn len(&self) -> usize
+        ensures { result ≡ length self.now.rows }
+    {
+        self.rows.len()
+    }
+
+    /// The steps from a number.
+    pub fn row(&self, number: usize) -> &[(usize, C)]
+        requires { number < length self.now.rows }
+        ensures { result.now ≡ row_of self.now number }
+    {
+        &self.rows[number]
+    }
+
+    /// Is the number a goal?
+    pub fn is_goal(&self, number: usize) -> bool
+        requires { number < length self.now.rows }
+        ensures { result ≡ is_goal self.now number }
+    {
+        self.goals[number]
+    }
+
+    /// Puts in what was learned of the next number. Where memory is refused, nothing changes.
+    pub fn add(&mut self, row: Vec<(usize, C), A>, goal: bool) -> Result<(), PathError>
+        ensures added { OnOk result (self.new ≡ record { rows = self.old.rows ++ row.items ∷ []; goals = self.old.goals ++ goal ∷ [] }) }
+        ensures kept { OnErr result (self.new ≡ self.old) }
+        ensures refused { IfErr result (λ e. e ≡ PathError.OutOfMemory) }
+    {
+        self.goals.reserve(1)?;
+        self.rows.push(row)?;
+        self.goals.push(goal)?;
+        Ok(())
+    }
+}
