@@ -21,7 +21,7 @@ impl<T: Goals + Copy> Model for GoalTest<T> {
 }
 
 impl<T: Goals + Copy> GoalTest<T> {
-    /// Whether a number is one of the goals.
+    /// The test for these goals.
     pub fn new(goals: T) -> Self
         ensures { result ≡ goals }
     {

@@ -1,5 +1,5 @@
-//! Tests of the calls of the library, and callers that show how they are proved. All of it is read for
-//! the tests alone, so that it is proved once.
+//! Tests of the calls of the library, and callers that show how they are proved. All of it but `jugs`
+//! is read for the tests alone, so that it is proved once.
 #![tactic(auto)]
 
 #[cfg(test)]
