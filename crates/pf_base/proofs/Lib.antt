@@ -7,3 +7,5 @@ pub mod MoveLemmas
 pub mod RemainderLemmas
 pub mod RootLemmas
 pub mod Tables
+pub mod Outcomes
+pub mod ListLemmas

@@ -1,4 +1,5 @@
 pub mod Costs
+pub mod Sums
 pub mod Walks
 pub mod Edges
 pub mod Answers

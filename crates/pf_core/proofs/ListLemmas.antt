@@ -10,6 +10,7 @@ use Rattle.std.proofs.lemmas.Int.{ints}
 use Rattle.std.proofs.lemmas.List.{reverse-append}
 use Rattle.std.proofs.lemmas.List.Sums.{sum_by-set}
 use Rattle.std.proofs.lemmas.Option.{slice_get-get_or, slice_get_within}
+use Rattle.pf_base.proofs.ListLemmas.{none_in}
 
 pub nat_dec : (j k : ℕ) → (j ≡ k) ⊎ (j ≢ k)
 nat_dec zero zero = inl refl
@@ -64,28 +65,8 @@ pub ok_or_err : {A E P Q : Type 0} (r : Result A E) → OnOk r P → OnErr r Q �
 ok_or_err (Ok x) p q = inl p
 ok_or_err (Err e) p q = inr q
 
--- the element at i after a write at n
-pub get_set : {A : Type 0} (xs : List A) (n i : ℕ) (v : A) → n < length xs → ((i ≡ n) × (slice_get (slice_set xs n v) i ≡ Some v)) ⊎ ((i ≢ n) × (slice_get (slice_set xs n v) i ≡ slice_get xs i))
-get_set [] n i v h = absurd (omega arith)
-get_set (x ∷ xs) zero zero v h = inl (refl, refl)
-get_set (x ∷ xs) zero (suc i) v h = inr (omega arith, refl)
-get_set (x ∷ xs) (suc n) zero v h = inr (omega arith, refl)
-get_set (x ∷ xs) (suc n) (suc i) v h = elim (get_set xs n i v (omega arith)) as (λ _. ((suc i ≡ suc n) × (slice_get (slice_set (x ∷ xs) (suc n) v) (suc i) ≡ Some v)) ⊎ ((suc i ≢ suc n) × (slice_get (slice_set (x ∷ xs) (suc n) v) (suc i) ≡ slice_get (x ∷ xs) (suc i)))) [
-  | inl r ↦ inl (ap suc r.0, r.1)
-  | inr r ↦ inr (omega (arith, r.0), r.1)
-]
-
 pub at_place : {A : Type 0} (xs : List A) (k : ℕ) (d x : A) → k < length xs → get_or xs k d ≡ x → slice_get xs k ≡ Some x
 at_place xs k d x h e = slice_get-get_or xs k d h ∙ ap Some e
-
-pub none_in : {A : Type 0} (k : ℕ) (m : A) → slice_get [] k ≡ Some m → ⊥
-none_in zero m h = cc
-none_in (suc k) m h = cc
-
-pub get-append : {A : Type 0} (xs ys : List A) (k : ℕ) (m : A) → slice_get xs k ≡ Some m → slice_get (xs ++ ys) k ≡ Some m
-get-append [] ys k m h = absurd (none_in k m h)
-get-append (x ∷ xs) ys zero m h = h
-get-append (x ∷ xs) ys (suc k) m h = get-append xs ys k m h
 
 pub get-append_cases : {A : Type 0} (xs : List A) (x : A) (k : ℕ) (m : A) → slice_get (xs ++ x ∷ []) k ≡ Some m → slice_get xs k ≡ Some m ⊎ (x ≡ m)
 get-append_cases [] x zero m h = inr (cc)

@@ -15,6 +15,10 @@ use Rattle.pf_core.proofs.LabelLemmas.{HasLabel-inside, label_is, parent_labelle
 use Rattle.pf_core.proofs.FrontierLemmas.{frontier, walk_positive}
 use Rattle.pf_core.proofs.PathLemmas.{PathUp, path_up, chain_path, was_label, settled_stays_1, settled_stays_3, AllZip-map}
 
+-- nothing is found
+pub Grows-refl : {X : Type 0} (n : ℕ) (stands : ℕ → X → Type 0) → Grows n n stands stands
+Grows-refl n stands = record { more = omega arith; stays = λ k x s. s; back = λ k x l s. s }
+
 pub Grows-trans : {X : Type 0} (a b c : ℕ) (p q r : ℕ → X → Type 0) → Grows a b p q → Grows b c q r → Grows a c p r
 Grows-trans a b c p q r g h = record {
   more = omega (arith, g.more, h.more);

@@ -18,7 +18,7 @@ use Rattle.pf_core.specs.Hops.{unit_edges}
 use Rattle.pf_core.specs.Sources.{AnswersHops}
 use Rattle.pf_core.specs.HopLaws.{next_of_edge, walk_next, reach_next, unit_alike}
 use Rattle.pf_core.specs.declared.source.Unweighted.{Unweighted}
-use Rattle.pf_core.proofs.ListLemmas.{none_in}
+use Rattle.pf_base.proofs.ListLemmas.{none_in}
 use Rattle.pf_core.proofs.NodeLemmas.{Explores-start, Answers-weaker, Gives-weaker}
 use mathlib.Core.Path.{fun_ext}
 

@@ -6,7 +6,7 @@ use Rattle.std.proofs.lemmas.List.{append_assoc, length-take-le, map-append, tak
 use Rattle.pf_core.specs.declared.depth_first.Branch.{Branch}
 use Rattle.pf_core.specs.declared.depth_first.DepthFirst.{DepthFirst}
 use Rattle.pf_core.specs.DepthFirst.{IsVisited, branches_at}
-use Rattle.pf_core.proofs.ListLemmas.{get_set, none_in}
+use Rattle.pf_base.proofs.ListLemmas.{get_set, none_in}
 use Rattle.pf_core.proofs.ReadLemmas.{same_visited}
 
 -- a list that was filled up with false marks the same numbers

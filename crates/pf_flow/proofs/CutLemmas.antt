@@ -2,7 +2,8 @@
 use Rattle.std.proofs.Common.{◌≡◌, ◌≢◌, ◌∙◌, refl, sym, ap, ◌<◌, ◌+ℤ◌, ℕ, ℤ, pos, arith, Bool, true, false, true≢false, if◌then◌else◌}
 use Rattle.std.specs.Prelude.{◌≤ℤ◌}
 use Rattle.std.proofs.lemmas.Int.{ints}
-use Rattle.pf_residual.specs.Flows.{PairTable, sum_to, pair_sum, leaving, cut_capacity, flow_value, IsFeasibleFlow, IsCut}
+use Rattle.pf_residual.specs.Flows.{PairTable, pair_sum, leaving, cut_capacity, flow_value, IsFeasibleFlow, IsCut}
+use Rattle.pf_base.specs.Sums.{sum_to}
 use Rattle.pf_residual.proofs.SumLemmas.{sum_ext, sum_add, sum_le, sum_none, sum_only, sum_equal, square_none}
 
 -- what stays on the side, and what a vertex of the side sends

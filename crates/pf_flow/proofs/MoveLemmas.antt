@@ -3,7 +3,8 @@ use Rattle.std.proofs.Common.{◌≡◌, ◌≢◌, ◌∙◌, refl, sym, ap, su
 use Rattle.std.specs.Prelude.{◌≤ℤ◌, ◌-ℤ◌, ◌&&◌, neg_ℤ, if◌then◌else◌}
 use Rattle.std.proofs.Math.Bool.{and_comm}
 use Rattle.std.proofs.lemmas.Int.{ints}
-use Rattle.pf_residual.specs.Flows.{PairTable, added, sum_to}
+use Rattle.pf_residual.specs.Flows.{PairTable, added}
+use Rattle.pf_base.specs.Sums.{sum_to}
 use Rattle.pf_residual.specs.Networks.{Network, capacity, with_flow}
 use Rattle.pf_residual.specs.Internal.Balances.{IsBalanced}
 use Rattle.pf_residual.proofs.SumLemmas.{sum_ext}

@@ -5,9 +5,11 @@ use Rattle.std.proofs.lemmas.Int.{ints}
 use Rattle.std.proofs.lemmas.List.{length-map, length-append, length-take-le, take_all, take_at, take_more}
 use Rattle.std.proofs.lemmas.Option.{slice_get-get_or, slice_get_within}
 use borrow.Author.Tests.{eqb-true}
-use Rattle.pf_core.proofs.ListLemmas.{nat_dec, none_in, int_dec, bool_dec, take_get, get_take}
+use Rattle.pf_core.proofs.ListLemmas.{nat_dec, int_dec, bool_dec, take_get, get_take}
+use Rattle.pf_base.proofs.ListLemmas.{none_in, get_pushed}
 use Rattle.pf_residual.specs.declared.cancelling.arcs.Arc.{Arc}
-use Rattle.pf_residual.specs.Flows.{PairTable, sum_to, Same}
+use Rattle.pf_residual.specs.Flows.{PairTable, Same}
+use Rattle.pf_base.specs.Sums.{sum_to}
 use Rattle.pf_residual.specs.Networks.{Network, capacity, with_flow, with_total, IsStored, IsNetwork, KeepsCapacities}
 use Rattle.pf_residual.specs.Listings.{ListsFlows, IsBefore}
 use Rattle.pf_residual.specs.Internal.AugmentingPaths.{amount_at}
@@ -17,7 +19,7 @@ use Rattle.pf_residual.specs.Internal.Settled.{moved, side_sum, settled, Touches
 use Rattle.pf_residual.proofs.SumLemmas.{sum_ext, sum_add, square_none}
 use Rattle.pf_residual.proofs.AgreeLemmas.{capacities_more}
 use Rattle.pf_flow.proofs.MoveLemmas.{opposite_moved}
-use Rattle.pf_residual.proofs.ChangeListings.{get_push, get_last}
+use Rattle.pf_residual.proofs.ChangeListings.{get_last}
 use Rattle.pf_residual.proofs.SettledLemmas.{at_side, settled_side, settled_elsewhere, settled_here, settled_more, net_zero, net_push, side_none, side_one}
 
 map_get : {A B : Type 0} (f : A → B) (xs : List A) (k : ℕ) (y : B) → slice_get (map f xs) k ≡ Some y → (x : A) × (slice_get xs k ≡ Some x) × (f x ≡ y)
@@ -346,11 +348,11 @@ plan_of value none free N net st d ends xs w h total all ys is are = subst (λ (
   long = length-append xs (w ∷ []) ∙ ap (λ (n : ℕ). n + 1) h.long ∙ sym (length-append ends (back ∷ []));
   back = get_last ends back;
   total = (w, subst (λ (n : ℕ). slice_get (xs ++ w ∷ []) n ≡ Some w) h.long (get_last xs w), total);
-  inside = λ k e g. elim (get_push ends back k e g) as (λ _. (e.from < N.vertices) × (e.to < N.vertices)) [
+  inside = λ k e g. elim (get_pushed ends back k e g) as (λ _. (e.from < N.vertices) × (e.to < N.vertices)) [
     | inl o ↦ (let s = h.sound k e o.1 in (s.0, s.1))
     | inr o ↦ subst (λ (a : Arc). (a.from < N.vertices) × (a.to < N.vertices)) o.1 (st.sink_in, st.source_in)
   ];
-  amounts = λ k x g. elim (get_push xs w k x g) as (λ _. pos 0 ≤ℤ value x) [
+  amounts = λ k x g. elim (get_pushed xs w k x g) as (λ _. pos 0 ≤ℤ value x) [
     | inl o ↦ (
         let e = at_of ends k (omega (arith, o.0, h.long)) in
         let n = h.number k e.0 x e.1 o.1 in
@@ -367,9 +369,9 @@ plan_of value none free N net st d ends xs w h total all ys is are = subst (λ (
       let two = picked (side N.sink) (value w) N.total total in
       omega (arith, ints, push, flows, rows, one, two);
   apart = subst AreApart (sym (take_at ends (back ∷ []) (length ends) refl)) (hold_apart value N ends xs h net.feasible.opposite);
-  flows = λ k e l g. elim (get_push ends back k e g) as (λ _. pos 0 <ℤ N.flow e.from e.to) [ inl o ↦ (h.sound k e o.1).2 | inr o ↦ absurd (omega (arith, l, o.0)) ];
-  number = λ k e x l g f. elim (get_push ends back k e g) as (λ _. N.flow e.from e.to ≡ value x) [
-    | inl o ↦ elim (get_push xs w k x f) as (λ _. N.flow e.from e.to ≡ value x) [ inl p ↦ h.number k e x o.1 p.1 | inr p ↦ absurd (omega (arith, l, p.0, h.long)) ]
+  flows = λ k e l g. elim (get_pushed ends back k e g) as (λ _. pos 0 <ℤ N.flow e.from e.to) [ inl o ↦ (h.sound k e o.1).2 | inr o ↦ absurd (omega (arith, l, o.0)) ];
+  number = λ k e x l g f. elim (get_pushed ends back k e g) as (λ _. N.flow e.from e.to ≡ value x) [
+    | inl o ↦ elim (get_pushed xs w k x f) as (λ _. N.flow e.from e.to ≡ value x) [ inl p ↦ h.number k e x o.1 p.1 | inr p ↦ absurd (omega (arith, l, p.0, h.long)) ]
     | inr o ↦ absurd (omega (arith, l, o.0))
   ];
   net = λ side. ap (λ (es : List Arc). net_of value side es (take (length ends) (xs ++ w ∷ []))) (take_at ends (back ∷ []) (length ends) refl) ∙ ap (net_of value side ends) (take_at xs (w ∷ []) (length ends) h.long) ∙ net_of_flows value N ends xs h net.feasible.opposite none free side;

@@ -2,7 +2,8 @@
 
 ghost use Rattle.std.specs.Prelude.{◌≡◌, ◌<◌, ◌*◌, ◌≤ℤ◌, ◌<ℤ◌, ◌+ℤ◌, ◌-ℤ◌, ℕ, pos, OnOk, IfOk, IfErr, MatchBool, length};
 ghost use Rattle.num_traits.specs.Laws.{Checks};
-ghost use Rattle.pf_residual.specs.Flows.{IsNonNegative, sum_to, pair_sum};
+ghost use Rattle.pf_residual.specs.Flows.{IsNonNegative, pair_sum};
+ghost use Rattle.pf_base.specs.Sums.{sum_to};
 ghost use Rattle.pf_residual.specs.Networks.{Network, KeepsShape, ChangesCapacity, HasCapacities, capacity_sum};
 ghost use Rattle.pf_residual.specs.Capacities.{number, square_table, matrix_table, AreRefused, IsChangeRefused};
 ghost use Rattle.pf_residual.specs.Internal.Filling.{IsUnused};

@@ -10,7 +10,7 @@ use Rattle.std.proofs.lemmas.Bool.Decides.{nat_tests}
 use Rattle.indexmap.specs.IndexSet.{insert_key}
 use Rattle.pf_graph.specs.declared.undirected.weighed.Weighed.{Weighed}
 use Rattle.pf_graph.specs.Internal.NumberedEdges.{StandsFor, IsNumbered}
-use Rattle.pf_graph.proofs.ListLemmas.{none_in, get_append}
+use Rattle.pf_base.proofs.ListLemmas.{none_in, get-append}
 use Rattle.pf_graph.proofs.CarryLemmas.{StandsAlike}
 
 at_get : {A : Type 0} (P : A → Type 0) (xs : List A) (i : ℕ) (x : A) → AllByRecursion P xs → slice_get xs i ≡ Some x → P x
@@ -57,7 +57,7 @@ module _ {N : Type 0} {eq : N → N → Bool} (laws : IsEquivalence eq) where
     where
       by : (b : Bool) → StandsFor eq (if b then nodes else nodes ++ r ∷ []) k x
       by true = s
-      by false = (s.0, get_append nodes (r ∷ []) k s.0 s.1, s.2)
+      by false = (s.0, get-append nodes (r ∷ []) k s.0 s.1, s.2)
 
   -- the numbered edges, after one more
   pub IsNumbered-more : {C W : Type 0} (nodes between after : List (Bor N)) (edges : List (N × N × C)) (numbered : List (ℕ × ℕ × Weighed N C W)) (i : ℕ) (e : ℕ × ℕ × Weighed N C W) (p q : Bor N)

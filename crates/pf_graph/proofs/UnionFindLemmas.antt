@@ -7,7 +7,7 @@ use Rattle.std.proofs.lemmas.Bool.Decides.{nat_tests}
 use Rattle.std.proofs.lemmas.Bool.{cases_eq}
 use Rattle.pf_graph.specs.declared.undirected.union_find.Vertex.{Vertex}
 use Rattle.pf_graph.specs.Internal.UnionFind.{parent_or, parent_of, size_of, IsRoot, root_sizes, IsSound, IsLabelling, Merges}
-use Rattle.pf_graph.proofs.ListLemmas.{get_set, get_push, get_within, none_in}
+use Rattle.pf_base.proofs.ListLemmas.{get_set, get_push, get_within, none_in}
 
 -- ---- parents
 

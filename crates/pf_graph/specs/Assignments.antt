@@ -1,6 +1,7 @@
 -- Assignments of rows to columns, and what they are worth by a table of numbers.
 use Rattle.std.specs.Prelude.{◌≡◌, ◌≤ℤ◌, ◌+ℤ◌, ◌⊎◌, ℕ, zero, suc, ◌+◌, ◌*◌, ◌<◌, ℤ, pos, neg_ℤ, List, [], ◌∷◌, length, slice_index}
 use Rattle.pf_base.specs.Costs.{LiesBetween}
+use Rattle.pf_base.specs.Sums.{sum_to}
 
 -- the number of the value at j, or 0 where there is none
 abbrev pub number : {C : Type 0} → (C → ℤ) → List C → ℕ → ℤ
@@ -13,11 +14,6 @@ pub record NumberTable : Type 0 where
   pub rows : ℕ
   pub columns : ℕ
   pub at : ℕ → ℕ → ℤ
-
--- g 0 + g 1 + .. + g (n - 1)
-abbrev pub sum_to : (ℕ → ℤ) → ℕ → ℤ
-sum_to g zero = pos 0
-sum_to g (suc n) = sum_to g n +ℤ g n
 
 -- each row has a column of its own
 pub record IsAssignment (rows columns : ℕ) (f : List ℕ) : Type 0 where

@@ -1,7 +1,7 @@
 -- Estimates that are kept, one by one.
 use Rattle.std.proofs.Common.{◌≡◌, ℕ, ℤ, Some, Option, List, [], ◌∷◌, ◌++◌, ◌∙◌, zero, suc, sym, subst, ap, slice_get, length, inl, inr, arith}
 use Rattle.std.specs.Prelude.{◌⊎◌}
-use Rattle.pf_core.proofs.ListLemmas.{none_in}
+use Rattle.pf_base.proofs.ListLemmas.{none_in}
 use Rattle.pf_informed.specs.Internal.Estimated.{IsEstimated}
 
 -- an element is one of the first ones, or the last

@@ -6,7 +6,7 @@ use Rattle.std.proofs.lemmas.Int.{ints}
 use Rattle.std.proofs.lemmas.Option.{slice_get_within}
 use Rattle.pf_core.specs.Nodes.{NodeGraph, StandsFor, IsStep}
 use Rattle.pf_core.specs.Numbered.{ListsSteps, Grows}
-use Rattle.pf_core.proofs.ListLemmas.{none_in, get-append}
+use Rattle.pf_base.proofs.ListLemmas.{none_in, get-append}
 use Rattle.pf_core.proofs.NodeLemmas.{eq-sym, eq-trans, HasEdge-same}
 use Rattle.pf_core.proofs.SearchLemmas.{Grows-trans}
 use Rattle.pf_informed.specs.declared.directed.idastar.known.Known.{Known}

@@ -17,7 +17,7 @@ use Rattle.pf_core.specs.Nodes.{NodeGraph, TestedGraph, Explores}
 use Rattle.pf_core.specs.Numbered.{Grows}
 use Rattle.pf_core.specs.Sources.{AnswersEdges}
 use Rattle.pf_core.proofs.LabelLemmas.{HasLabel-inside}
-use Rattle.pf_core.proofs.ListLemmas.{none_in}
+use Rattle.pf_base.proofs.ListLemmas.{none_in}
 use Rattle.pf_core.proofs.NodeLemmas.{Explores-edges}
 use Rattle.pf_informed.specs.Estimates.{AnswersEstimate, IsInformedSearch}
 use Rattle.pf_informed.specs.Internal.Estimated.{IsEstimated}

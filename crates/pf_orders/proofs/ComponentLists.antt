@@ -5,7 +5,7 @@ use Rattle.std.proofs.lemmas.List.{map-append, append-nil}
 use Rattle.std.specs.List.{AllZip}
 use Rattle.std.specs.Option.{option_map}
 use Rattle.std.proofs.lemmas.Option.{slice_get_read, slice_get-map}
-use Rattle.pf_core.proofs.ListLemmas.{none_in, get_set}
+use Rattle.pf_base.proofs.ListLemmas.{none_in, get_set}
 use Rattle.pf_orders.specs.StrongComponents.{lists_of}
 use Rattle.pf_orders.specs.Internal.ComponentSearch.{IsAt}
 

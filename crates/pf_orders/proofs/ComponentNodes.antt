@@ -8,14 +8,13 @@ use Rattle.pf_base.specs.Walks.{HasNode, NoRepeats, Follows, IsWalk, BeginsAt, E
 use Rattle.pf_base.specs.Edges.{InReach}
 use Rattle.pf_base.specs.Successors.{HasSuccessor}
 use Rattle.pf_core.specs.Nodes.{StandsFor, IsStep, Explores}
-use Rattle.pf_core.specs.Hops.{unit_edges}
+use Rattle.pf_core.specs.Hops.{hops_from, unit_edges}
 use Rattle.pf_core.specs.HopLaws.{next_of_edge, reach_next}
 use Rattle.pf_core.specs.NodeLaws.{StandsFor-one}
-use Rattle.pf_core.proofs.ListLemmas.{none_in}
+use Rattle.pf_base.proofs.ListLemmas.{none_in}
 use Rattle.pf_core.proofs.NodeLemmas.{eq-sym, eq-trans, StandsFor-same, InReach-same, InReach-start, InReach-more, edge_of_same}
 use Rattle.pf_core.proofs.UnitLemmas.{edge_of_next}
 use Rattle.pf_core.proofs.WalkLemmas.{distinct_nodes}
-use Rattle.pf_orders.specs.Internal.Beginnings.{hops_from}
 use Rattle.pf_orders.specs.StrongComponents.{IsInComponent, Reaches, StronglyConnected, IsStrongComponentOf, AreStrongComponents}
 use Rattle.pf_orders.specs.Internal.ComponentSearch.{IsAt, IsMember, IsLink, Leads, AreNumberedComponents}
 use Rattle.pf_orders.proofs.ComponentLists.{at_one}

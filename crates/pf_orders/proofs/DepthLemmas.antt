@@ -8,14 +8,15 @@ use Rattle.pf_base.specs.Successors.{HasSuccessor}
 use Rattle.pf_base.specs.Walks.{HasNode, Follows, IsGoalWalk, end_of}
 use Rattle.pf_core.specs.NodeLaws.{StandsFor-one}
 use Rattle.pf_core.specs.Nodes.{StandsFor, Explores}
+use Rattle.pf_core.specs.Hops.{hops_from}
 use Rattle.pf_core.specs.Numbered.{Grows, StandsBelow}
 use Rattle.pf_core.proofs.FrontierLemmas.{end_more}
 use Rattle.pf_core.proofs.LoopWalks.{last_cut, follows_cut}
-use Rattle.pf_core.proofs.ListLemmas.{Contains-cases, Contains-head, Contains-tail, none_in}
+use Rattle.pf_core.proofs.ListLemmas.{Contains-cases, Contains-head, Contains-tail}
+use Rattle.pf_base.proofs.ListLemmas.{none_in}
 use Rattle.pf_core.proofs.NodeLemmas.{eq-sym, eq-trans, StandsFor-same, follows_more}
 use Rattle.pf_core.proofs.UnitLemmas.{starts_stand, begins_all}
 use Rattle.pf_core.proofs.WalkLemmas.{HasNode-same, distinct_nodes}
-use Rattle.pf_orders.specs.Internal.Beginnings.{hops_from}
 use Rattle.pf_orders.specs.GroupDepths.{InGroup, AreClosed, HasDepth, AreDepthGroups, HaveNoDepth}
 use Rattle.pf_orders.specs.Internal.Rounds.{Targets, AreCounted, AreLevels, AreNodesAt}
 use Rattle.pf_orders.proofs.OrderLemmas.{member_of, of_member}

@@ -7,7 +7,7 @@ use Rattle.std.proofs.lemmas.List.Sums.{sum_by-cons}
 use Rattle.pf_base.specs.Successors.{HasSuccessor}
 use Rattle.pf_base.specs.Walks.{HasNode, NoRepeats, Follows, IsGoalWalk, end_of}
 use Rattle.pf_core.proofs.FrontierLemmas.{end_more}
-use Rattle.pf_core.proofs.ListLemmas.{none_in}
+use Rattle.pf_base.proofs.ListLemmas.{none_in}
 use Rattle.pf_core.proofs.NodeLemmas.{eq-sym, follows_more}
 use Rattle.pf_core.proofs.WalkLemmas.{HasNode-same}
 use Rattle.pf_orders.specs.GroupDepths.{InGroup, AreClosed, HasDepth, AreDepthGroups}

@@ -5,7 +5,6 @@ pub mod ComponentPaths
 pub mod ComponentNodes
 pub mod SegmentLemmas
 pub mod TurnLemmas
-pub mod Outcomes
 pub mod OrderLemmas
 pub mod SortLemmas
 pub mod RoundLemmas

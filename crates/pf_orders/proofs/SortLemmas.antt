@@ -7,7 +7,7 @@ use borrow.Author.Tests.{eqb-true}
 use Rattle.pf_base.specs.NodeRefs.{HasSameNodes}
 use Rattle.pf_base.specs.Successors.{HasSuccessor}
 use Rattle.pf_base.specs.Walks.{HasNode, Follows, IsWalk, BeginsAt, EndsAt, end_of, IsReachable, IsAtMostNumberOf}
-use Rattle.pf_core.specs.Hops.{unit_edges}
+use Rattle.pf_core.specs.Hops.{unit_edges, hops_from}
 use Rattle.pf_core.specs.NodeLaws.{StandsFor-one}
 use Rattle.pf_core.specs.Nodes.{StandsFor, Explores, ends_of}
 use Rattle.pf_core.specs.Numbered.{Grows}
@@ -16,7 +16,6 @@ use Rattle.pf_core.proofs.ListLemmas.{Contains-head, Contains-tail, Contains-cas
 use Rattle.pf_core.proofs.NodeLemmas.{StandsFor-same, InReach-same, at_most}
 use Rattle.pf_core.proofs.UnitLemmas.{starts_stand}
 use Rattle.pf_core.proofs.WalkLemmas.{same_of, HasNode-same, distinct_nodes}
-use Rattle.pf_orders.specs.Internal.Beginnings.{hops_from}
 use Rattle.pf_orders.specs.Internal.Orderings.{LeadsInto, IsOrdered, IsOrderedReach, IsOnNumberedCycle}
 use Rattle.pf_orders.specs.TopologicalOrders.{LeadsForward, IsTopologicalOrder, IsOnCycle}
 

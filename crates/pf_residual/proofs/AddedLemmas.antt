@@ -3,7 +3,8 @@ use Rattle.std.proofs.Common.{◌≡◌, ◌≢◌, ◌∙◌, refl, sym, ap, su
 use Rattle.std.specs.Prelude.{◌&&◌, neg_ℤ, if◌then◌else◌}
 use Rattle.std.proofs.lemmas.Int.{ints}
 use borrow.Author.Tests.{eqb-true}
-use Rattle.pf_residual.specs.Flows.{PairTable, added, sum_to}
+use Rattle.pf_residual.specs.Flows.{PairTable, added}
+use Rattle.pf_base.specs.Sums.{sum_to}
 use Rattle.pf_residual.specs.Internal.AugmentingPaths.{amount_at}
 use Rattle.pf_residual.proofs.SumLemmas.{sum_ext, sum_add, sum_only}
 

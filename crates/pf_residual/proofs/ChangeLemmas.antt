@@ -3,7 +3,8 @@ use Rattle.std.proofs.Common.{◌≡◌, ◌∙◌, refl, sym, ap, subst, ◌<�
 use Rattle.std.specs.Prelude.{◌-ℤ◌, ◌≤ℤ◌, ◌&&◌, if◌then◌else◌}
 use Rattle.std.proofs.lemmas.Int.{ints}
 use borrow.Author.Tests.{eqb-true}
-use Rattle.pf_residual.specs.Flows.{PairTable, added, replaced, sum_to, pair_sum}
+use Rattle.pf_residual.specs.Flows.{PairTable, added, replaced, pair_sum}
+use Rattle.pf_base.specs.Sums.{sum_to}
 use Rattle.pf_residual.specs.Networks.{Network, capacity, with_residual, Agrees, KeepsCapacities, ChangesCapacity, IsNetwork}
 use Rattle.pf_residual.specs.Internal.AugmentingPaths.{amount_at}
 use Rattle.pf_residual.proofs.SumLemmas.{sum_ext, sum_add}

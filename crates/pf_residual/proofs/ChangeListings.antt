@@ -2,21 +2,11 @@
 use Rattle.std.proofs.Common.{◌≡◌, ◌∙◌, refl, sym, ap, subst, ◌<◌, ◌≤◌, ◌+◌, ℕ, ℤ, zero, suc, pos, arith, inl, inr, ◌⊎◌, List, [], ◌∷◌, ◌++◌, length, Some}
 use Rattle.std.specs.Prelude.{◌<ℤ◌, slice_get}
 use Rattle.std.proofs.lemmas.Option.{slice_get_within}
-use Rattle.pf_core.proofs.ListLemmas.{get-append, none_in}
+use Rattle.pf_base.proofs.ListLemmas.{get-append, none_in, get_pushed}
 use Rattle.pf_residual.specs.Flows.{PairTable}
 use Rattle.pf_residual.specs.Networks.{Network}
 use Rattle.pf_residual.specs.Listings.{ListsPairs, ListsVertices, IsBefore}
 use Rattle.pf_residual.specs.Internal.Prefixes.{IsAmong, ListsFlowsBefore, ListsFlowsTo}
-
--- an element of a list with one more at the end is an earlier one or the last
-pub get_push : {A : Type 0} (xs : List A) (x : A) (i : ℕ) (y : A) → slice_get (xs ++ x ∷ []) i ≡ Some y → ((i < length xs) × (slice_get xs i ≡ Some y)) ⊎ ((i ≡ length xs) × (x ≡ y))
-get_push [] x zero y h = inr (refl, cc)
-get_push [] x (suc i) y h = absurd (none_in i y h)
-get_push (z ∷ xs) x zero y h = inl (omega arith, h)
-get_push (z ∷ xs) x (suc i) y h = elim (get_push xs x i y h) as (λ _. ((suc i < length (z ∷ xs)) × (slice_get (z ∷ xs) (suc i) ≡ Some y)) ⊎ ((suc i ≡ length (z ∷ xs)) × (x ≡ y))) [
-  | inl e ↦ inl (omega (arith, e.0), e.1)
-  | inr e ↦ inr (ap suc e.0, e.1)
-]
 
 pub get_last : {A : Type 0} (xs : List A) (x : A) → slice_get (xs ++ x ∷ []) (length xs) ≡ Some x
 get_last [] x = refl
@@ -47,17 +37,17 @@ module _ {C : Type 0} (value : C → ℤ) (n : ℕ) (table : PairTable) where
       → ((a b : ℕ) → a < n → b < n → chosen' a b → chosen a b ⊎ ((a ≡ e.0.0) × (b ≡ e.0.1)))
       → ListsPairs value n chosen table edges → ListsPairs value n chosen' table (edges ++ e ∷ [])
   lists_more chosen chosen' edges e l m is behind to here from h = record {
-    rising = λ i j d f o p q. elim (get_push edges e i d p) as (λ _. IsBefore d.0 f.0) [
-      | inl a ↦ elim (get_push edges e j f q) as (λ _. IsBefore d.0 f.0) [
+    rising = λ i j d f o p q. elim (get_pushed edges e i d p) as (λ _. IsBefore d.0 f.0) [
+      | inl a ↦ elim (get_pushed edges e j f q) as (λ _. IsBefore d.0 f.0) [
         | inl b ↦ h.rising i j d f o a.1 b.1
         | inr b ↦ subst (λ (t : (ℕ × ℕ) × C). IsBefore d.0 t.0) b.1 (behind i d a.1)
       ]
-      | inr a ↦ elim (get_push edges e j f q) as (λ _. IsBefore d.0 f.0) [
+      | inr a ↦ elim (get_pushed edges e j f q) as (λ _. IsBefore d.0 f.0) [
         | inl b ↦ absurd (omega (arith, a.0, b.0, o))
         | inr b ↦ absurd (omega (arith, a.0, b.0, o))
       ]
     ];
-    sound = λ i d g. elim (get_push edges e i d g) as (λ _. (d.0.0 < n) × (d.0.1 < n) × chosen' d.0.0 d.0.1 × (value d.1 ≡ table d.0.0 d.0.1)) [
+    sound = λ i d g. elim (get_pushed edges e i d g) as (λ _. (d.0.0 < n) × (d.0.1 < n) × chosen' d.0.0 d.0.1 × (value d.1 ≡ table d.0.0 d.0.1)) [
       | inl a ↦ (let s = h.sound i d a.1 in (s.0, s.1, to d.0.0 d.0.1 s.0 s.1 s.2, s.3))
       | inr a ↦ subst (λ (t : (ℕ × ℕ) × C). (t.0.0 < n) × (t.0.1 < n) × chosen' t.0.0 t.0.1 × (value t.1 ≡ table t.0.0 t.0.1)) a.1 (l, m, here, is)
     ];

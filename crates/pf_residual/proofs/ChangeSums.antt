@@ -2,7 +2,8 @@
 use Rattle.std.proofs.Common.{◌≡◌, refl, ap, ◌<◌, ◌≤◌, ◌+◌, ◌+ℤ◌, ℕ, ℤ, zero, suc, pos, arith, inl, inr, ◌⊎◌, add-one}
 use Rattle.std.specs.Prelude.{◌≤ℤ◌, neg_ℤ}
 use Rattle.std.proofs.lemmas.Int.{ints}
-use Rattle.pf_residual.specs.Flows.{sum_to, pair_sum}
+use Rattle.pf_residual.specs.Flows.{pair_sum}
+use Rattle.pf_base.specs.Sums.{sum_to}
 use Rattle.pf_residual.specs.Networks.{Network, capacity, capacity_sum}
 use Rattle.pf_residual.specs.Internal.Balances.{IsBalanced}
 use Rattle.pf_residual.proofs.SumLemmas.{sum_ext, sum_add, sum_above, square_none}

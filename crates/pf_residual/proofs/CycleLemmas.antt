@@ -4,22 +4,22 @@ use Rattle.std.specs.Prelude.{slice_get, slice_set, Option, None, ◌+ℤ◌, �
 use Rattle.std.proofs.lemmas.Int.{ints}
 use Rattle.std.proofs.lemmas.List.{length-set, take_more, length-take-le}
 use Rattle.std.proofs.lemmas.Option.{slice_get-get_or, slice_get_within}
-use Rattle.pf_core.proofs.ListLemmas.{none_in, get_set, take_get, int_dec, nat_dec}
+use Rattle.pf_core.proofs.ListLemmas.{take_get, int_dec, nat_dec}
+use Rattle.pf_base.proofs.ListLemmas.{none_in, get_set, get_pushed}
 use Rattle.pf_residual.specs.declared.cancelling.arcs.Arc.{Arc}
 use Rattle.pf_residual.specs.declared.cancelling.search.Step.{Step}
 use Rattle.pf_residual.specs.Internal.Cancelling.{Has, IsOnce, Leads, gain, gain_at, gained, net_of, AreAmounts, HasAmount, IsCirculation, IsReached, IsExpanded, IsWayBack, IsCycle, IsTakenOff, IsLowered}
-use Rattle.pf_residual.proofs.ChangeListings.{get_push}
 use Rattle.pf_residual.proofs.SearchLemmas.{Has-push, Has-left, Has-last, Has-take}
 use Rattle.pf_residual.proofs.NetLemmas.{gain_less, net_set, net_below, gained_more, gained_round, leads_more}
 
 -- one number more that does not stand in the list
 pub once_more : (ks : List ℕ) (k : ℕ) → IsOnce ks → ¬ (Has ks k) → IsOnce (ks ++ k ∷ [])
-once_more ks k h none i j n f g = elim (get_push ks k i n f) as (λ _. i ≡ j) [
-  | inl a ↦ elim (get_push ks k j n g) as (λ _. i ≡ j) [
+once_more ks k h none i j n f g = elim (get_pushed ks k i n f) as (λ _. i ≡ j) [
+  | inl a ↦ elim (get_pushed ks k j n g) as (λ _. i ≡ j) [
     | inl b ↦ h i j n a.1 b.1
     | inr b ↦ absurd (none (i, a.1 ∙ ap Some (sym b.1)))
   ]
-  | inr a ↦ elim (get_push ks k j n g) as (λ _. i ≡ j) [
+  | inr a ↦ elim (get_pushed ks k j n g) as (λ _. i ≡ j) [
     | inl b ↦ absurd (none (j, b.1 ∙ ap Some (sym a.1)))
     | inr b ↦ a.0 ∙ sym b.0
   ]

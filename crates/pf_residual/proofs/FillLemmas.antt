@@ -7,7 +7,8 @@ use Rattle.std.proofs.Math.Nat.{mod-lt, div-lt_iff_lt-mul, mul-le-mul_left}
 use Rattle.pf_base.specs.declared.error.PathError.{PathError}
 use Rattle.pf_residual.specs.Capacities.{number, square_table, HasNegative, AreRefused, IsChangeRefused}
 use Rattle.std.proofs.lemmas.Int.{ints}
-use Rattle.pf_residual.specs.Flows.{PairTable, added, replaced, sum_to, pair_sum, IsNonNegative}
+use Rattle.pf_residual.specs.Flows.{PairTable, added, replaced, pair_sum, IsNonNegative}
+use Rattle.pf_base.specs.Sums.{sum_to}
 use Rattle.pf_residual.specs.Networks.{Network, capacity, capacity_sum, Agrees, KeepsShape, ChangesCapacity, HasCapacities, IsFresh, IsNetwork, with_residual}
 use Rattle.pf_residual.specs.Internal.Filling.{IsUnused, IsFilledTo}
 use Rattle.pf_residual.proofs.SumLemmas.{sum_ext, sum_le, sum_none, pair_sum_above}

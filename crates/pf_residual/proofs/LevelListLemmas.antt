@@ -10,14 +10,6 @@ use Rattle.pf_residual.specs.Networks.{Network}
 use Rattle.pf_residual.specs.Internal.Levels.{IsSearch, HasFound}
 use Rattle.pf_residual.proofs.LevelLemmas.{count_less, one_if, mark_true, mark_false, search_more, level_kept, level_followed, next_level, search_next}
 
-take_none : {A : Type 0} (n : ℕ) → take {A = A} n [] ≡ []
-take_none zero = refl
-take_none (suc n) = refl
-
--- what fills up an empty list
-pub resized : {A : Type 0} (n : ℕ) (xs after : List A) (m : ℕ) (v : A) → xs ≡ [] → m ≡ 0 → after ≡ take n xs ++ replicate (n - m) v → after ≡ replicate n v
-resized n xs after m v e f h = h ∙ ap (λ ys. take n ys ++ replicate (n - m) v) e ∙ ap (λ ys. ys ++ replicate (n - m) v) (take_none n) ∙ ap (λ (k : ℕ). replicate k v) (omega (arith, f))
-
 all_ones : (n : ℕ) → count_to (λ a. 1) n ≡ n
 all_ones zero = refl
 all_ones (suc n) = let e = all_ones n in omega (arith, e)

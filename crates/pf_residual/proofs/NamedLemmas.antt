@@ -8,7 +8,8 @@ use Rattle.std.proofs.lemmas.List.Sums.{fold-append}
 use Rattle.pf_base.specs.declared.error.PathError.{PathError}
 use Rattle.pf_base.specs.declared.error.PathError.TheVariants.{OutOfMemory}
 use Rattle.pf_residual.specs.Capacities.{IsChangeRefused}
-use Rattle.pf_residual.specs.Flows.{PairTable, replaced, pair_sum, sum_to}
+use Rattle.pf_residual.specs.Flows.{PairTable, replaced, pair_sum}
+use Rattle.pf_base.specs.Sums.{sum_to}
 use Rattle.pf_residual.specs.Listings.{ListsFlows, ListsLeastCut, IsFlowAnswer}
 use Rattle.pf_residual.specs.Internal.HeldEdges.{RunBelow, IsNamedAnswer, HoldsEdges}
 use Rattle.pf_residual.specs.Networks.{Network, capacity, ChangesCapacity, HasCapacities, HasCutOfTotal, IsFresh, IsNetwork, KeepsCapacities, KeepsShape}

@@ -3,7 +3,7 @@ use Rattle.std.proofs.Common.{◌≡◌, ◌≢◌, ◌∙◌, inl, inr, sym, su
 use Rattle.std.specs.Prelude.{◌≤ℤ◌, neg_ℤ}
 use Rattle.std.proofs.lemmas.Int.{ints}
 use Rattle.std.proofs.lemmas.Bool.{cases_eq}
-use Rattle.pf_residual.specs.Flows.{sum_to}
+use Rattle.pf_base.specs.Sums.{sum_to}
 use Rattle.pf_residual.specs.Networks.{Network, capacity, capacity_sum, IsStored, IsNetwork, IsFresh, HasCapacities}
 use Rattle.pf_residual.specs.Internal.Balances.{IsBalanced}
 use Rattle.pf_residual.proofs.SumLemmas.{sum_le, sum_none, pair_sum_above, pair_sum_has, pair_sum_has_row, pair_sum_has_both}

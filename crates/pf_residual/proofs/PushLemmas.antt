@@ -5,7 +5,8 @@ use Rattle.std.proofs.Math.Bool.{and_comm}
 use Rattle.std.proofs.lemmas.Int.{ints}
 use Rattle.std.proofs.lemmas.Bool.{cases_eq}
 use borrow.Author.Tests.{eqb-true}
-use Rattle.pf_residual.specs.Flows.{PairTable, added, sum_to, is_positive, are_linked}
+use Rattle.pf_residual.specs.Flows.{PairTable, added, is_positive, are_linked}
+use Rattle.pf_base.specs.Sums.{sum_to}
 use Rattle.pf_residual.specs.Networks.{Network, capacity, with_flow, with_total, Agrees, IsNetwork}
 use Rattle.pf_residual.specs.Internal.Balances.{IsBalanced}
 use Rattle.pf_residual.specs.Internal.AugmentingPaths.{IsAugmentingPath, IsLevelPath, IsPushed, KeepsLevels, potential, amount_at}

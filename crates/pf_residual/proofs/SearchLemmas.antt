@@ -6,15 +6,15 @@ use Rattle.std.proofs.lemmas.List.{length-append, length-set, length-replicate, 
 use Rattle.std.proofs.lemmas.List.Sums.{sum_by-set}
 use Rattle.std.proofs.lemmas.List.Folds.{sum_by-replicate}
 use Rattle.std.proofs.lemmas.Option.{slice_get-get_or, slice_get_within}
-use Rattle.pf_core.proofs.ListLemmas.{none_in, get-append, get_set}
+use Rattle.pf_base.proofs.ListLemmas.{none_in, get-append, get_set, get_pushed}
 use Rattle.pf_residual.specs.declared.cancelling.arcs.Arc.{Arc}
 use Rattle.pf_residual.specs.declared.cancelling.search.Step.{Step}
 use Rattle.pf_residual.specs.Internal.Cancelling.{Has, AreRows, IsPlaced, Reaches, IsReached, IsStep, Extends, HasAmount, LeadsToPlaced, IsExpanded}
-use Rattle.pf_residual.proofs.ChangeListings.{get_push, get_last}
+use Rattle.pf_residual.proofs.ChangeListings.{get_last}
 
 -- numbers in a list with one more
 pub Has-push : (ks : List ℕ) (k j : ℕ) → Has (ks ++ k ∷ []) j → Has ks j ⊎ (k ≡ j)
-Has-push ks k j h = elim (get_push ks k h.0 j h.1) as (λ _. Has ks j ⊎ (k ≡ j)) [ inl e ↦ inl (h.0, e.1) | inr e ↦ inr e.1 ]
+Has-push ks k j h = elim (get_pushed ks k h.0 j h.1) as (λ _. Has ks j ⊎ (k ≡ j)) [ inl e ↦ inl (h.0, e.1) | inr e ↦ inr e.1 ]
 
 pub Has-left : (ks : List ℕ) (k j : ℕ) → Has ks j → Has (ks ++ k ∷ []) j
 Has-left ks k j h = (h.0, get-append ks (k ∷ []) h.0 j h.1)
@@ -28,7 +28,7 @@ Has-take ks i j l h = Has-push (take i ks) (get_or ks i 0) j (subst (λ xs. Has 
 module _ {A : Type 0} where
   -- a row more
   pub rows_none : (rows : List (Vec ℕ A)) (row : Vec ℕ A) → row.items ≡ [] → ((b k : ℕ) (r : Vec ℕ A) → slice_get rows b ≡ Some r → ¬ (Has r.items k)) → (b k : ℕ) (r : Vec ℕ A) → slice_get (rows ++ row ∷ []) b ≡ Some r → ¬ (Has r.items k)
-  rows_none rows row none h b k r g m = elim (get_push rows row b r g) [
+  rows_none rows row none h b k r g m = elim (get_pushed rows row b r g) [
     | inl e ↦ h b k r e.1 m
     | inr e ↦ none_in m.0 k (subst (λ xs. slice_get xs m.0 ≡ Some k) (ap (λ (v : Vec ℕ A). v.items) (sym e.1) ∙ none) m.1)
   ]
@@ -54,7 +54,7 @@ module _ {A : Type 0} where
           )
       | inr q ↦ (let o = h.from b k r (sym q.1 ∙ g) m in (o.0, get-append ends (e ∷ []) k o.0 o.1, o.2))
     ];
-    all = λ k f g. elim (get_push ends e k f g) as (λ _. (r : Vec ℕ A) × (slice_get (slice_set rows e.from row') f.from ≡ Some r) × Has r.items k) [
+    all = λ k f g. elim (get_pushed ends e k f g) as (λ _. (r : Vec ℕ A) × (slice_get (slice_set rows e.from row') f.from ≡ Some r) × Has r.items k) [
       | inl q ↦ (
           let o = h.all k f q.1 in
           elim (get_set rows e.from f.from row' inside) as (λ _. (r : Vec ℕ A) × (slice_get (slice_set rows e.from row') f.from ≡ Some r) × Has r.items k) [
@@ -127,11 +127,11 @@ module _ {C : Type 0} (value : C → ℤ) (ends : List Arc) (xs : List C) where
       now : IsReached value ends xs start (steps ++ step ∷ []) set_at
       now = record {
         first = (r.first.0, get-append steps (step ∷ []) 0 r.first.0 r.first.1, r.first.2);
-        behind = λ j s g. elim (get_push steps step (suc j) s g) as (λ _. (s.before ≤ j) × IsStep value ends xs (steps ++ step ∷ []) s) [
+        behind = λ j s g. elim (get_pushed steps step (suc j) s g) as (λ _. (s.before ≤ j) × IsStep value ends xs (steps ++ step ∷ []) s) [
           | inl e ↦ (let o = r.behind j s e.1 in (o.0, IsStep-more steps step s o.1))
           | inr e ↦ subst (λ (t : Step). (t.before ≤ j) × IsStep value ends xs (steps ++ step ∷ []) t) e.1 (let l = slice_get_within steps step.before one.last one.known in (omega (arith, l, e.0), IsStep-more steps step step one))
         ];
-        placed = λ j s g. elim (get_push steps step j s g) as (λ _. slice_get set_at s.vertex ≡ Some (Some j)) [
+        placed = λ j s g. elim (get_pushed steps step j s g) as (λ _. slice_get set_at s.vertex ≡ Some (Some j)) [
           | inl e ↦ elim (get_set places b s.vertex (Some (length steps)) inside) as (λ _. slice_get set_at s.vertex ≡ Some (Some j)) [
             | inl q ↦ (let bad : Some None ≡ Some (Some j) = sym h.0 ∙ ap (slice_get places) (sym q.0) ∙ r.placed j s e.1 in absurd (cc))
             | inr q ↦ q.1 ∙ r.placed j s e.1
@@ -206,7 +206,7 @@ module _ {C : Type 0} (value : C → ℤ) (ends : List Arc) (xs : List C) where
   reached_begin size start steps s inside is at = subst (λ (ss : List Step). IsReached value ends xs start ss (slice_set (replicate size None) start (Some 0))) (sym is) record {
     first = (s, refl, at);
     behind = λ j t g. absurd (none_in j t g);
-    placed = λ j t g. elim (get_push [] s j t g) as (λ _. slice_get places t.vertex ≡ Some (Some j)) [
+    placed = λ j t g. elim (get_pushed [] s j t g) as (λ _. slice_get places t.vertex ≡ Some (Some j)) [
       | inl e ↦ absurd (none_in j t e.1)
       | inr e ↦ elim (get_set (replicate size None) start t.vertex (Some 0) long) as (λ _. slice_get places t.vertex ≡ Some (Some j)) [
         | inl q ↦ q.1 ∙ ap (λ (k : ℕ). Some (Some k)) (sym e.0)

@@ -3,9 +3,10 @@ use Rattle.std.proofs.Common.{◌≡◌, ◌≢◌, ◌∙◌, inl, inr, refl, s
 use Rattle.std.specs.Prelude.{◌-ℤ◌, neg_ℤ, slice_get, if◌then◌else◌}
 use Rattle.std.proofs.lemmas.Int.{ints}
 use borrow.Author.Tests.{eqb-true}
-use Rattle.pf_core.proofs.ListLemmas.{none_in}
+use Rattle.pf_base.proofs.ListLemmas.{none_in}
 use Rattle.pf_residual.specs.declared.cancelling.arcs.Arc.{Arc}
-use Rattle.pf_residual.specs.Flows.{PairTable, sum_to}
+use Rattle.pf_residual.specs.Flows.{PairTable}
+use Rattle.pf_base.specs.Sums.{sum_to}
 use Rattle.pf_residual.specs.Internal.AugmentingPaths.{amount_at}
 use Rattle.pf_residual.specs.Internal.Cancelling.{gain, net_of, AreInside}
 use Rattle.pf_residual.specs.Internal.Settled.{moved, side_sum, settled, Touches, AreApart}

@@ -5,7 +5,8 @@ use Rattle.std.proofs.Math.Nat.{suc-mul}
 use Rattle.std.proofs.lemmas.Int.{ints}
 use Rattle.pf_matrix.specs.Tables.{Table, IsMatrix}
 use Rattle.pf_residual.specs.Capacities.{number, square_table, HasNegative}
-use Rattle.pf_residual.specs.Flows.{PairTable, sum_to, pair_sum, IsNonNegative}
+use Rattle.pf_residual.specs.Flows.{PairTable, pair_sum, IsNonNegative}
+use Rattle.pf_base.specs.Sums.{sum_to}
 use Rattle.pf_residual.specs.Networks.{capacity, HasCapacities}
 use Rattle.pf_residual.specs.DenseStores.{table_number, tables_network}
 use Rattle.pf_residual.specs.Internal.DenseTables.{table_sum, IsSquare, IsZeroTable}

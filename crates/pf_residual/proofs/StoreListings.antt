@@ -5,20 +5,11 @@ use Rattle.std.proofs.lemmas.Int.{ints}
 use Rattle.std.proofs.lemmas.Option.{slice_get_within}
 use borrow.Author.Tests.{eqb-true, eqb-false}
 use Rattle.pf_residual.specs.Listings.{ListsVertices, ListsNumbers}
+use Rattle.pf_base.proofs.ListLemmas.{get_pushed}
 
 -- no element of an empty list
 get_none : {A : Type 0} {B : Type 0} (i : ℕ) (y : A) → slice_get [] i ≡ Some y → B
 get_none {A} i y h = absurd (omega (arith, slice_get_within {A = A} [] i y h))
-
--- an element of a list with one more at the end is an earlier one or the last
-pub get_pushed : {A : Type 0} (xs : List A) (x : A) (i : ℕ) (y : A) → slice_get (xs ++ x ∷ []) i ≡ Some y → ((i < length xs) × (slice_get xs i ≡ Some y)) ⊎ ((i ≡ length xs) × (x ≡ y))
-get_pushed [] x zero y h = inr (refl, cc)
-get_pushed [] x (suc i) y h = get_none i y h
-get_pushed (z ∷ xs) x zero y h = inl (omega arith, h)
-get_pushed (z ∷ xs) x (suc i) y h = elim (get_pushed xs x i y h) as (λ _. ((suc i < length (z ∷ xs)) × (slice_get (z ∷ xs) (suc i) ≡ Some y)) ⊎ ((suc i ≡ length (z ∷ xs)) × (x ≡ y))) [
-  | inl e ↦ inl (omega (arith, e.0), e.1)
-  | inr e ↦ inr (ap suc e.0, e.1)
-]
 
 pub get_end : {A : Type 0} (xs : List A) (x : A) → slice_get (xs ++ x ∷ []) (length xs) ≡ Some x
 get_end [] x = refl

@@ -4,7 +4,8 @@ use Rattle.std.specs.Prelude.{◌≤ℤ◌}
 use Rattle.std.proofs.lemmas.Int.{ints}
 use Rattle.std.proofs.lemmas.Bool.{cases_eq}
 use borrow.Author.Tests.{eqb-true}
-use Rattle.pf_residual.specs.Flows.{PairTable, sum_to, pair_sum, IsNonNegative}
+use Rattle.pf_residual.specs.Flows.{PairTable, pair_sum, IsNonNegative}
+use Rattle.pf_base.specs.Sums.{sum_to}
 
 pub sum_ext : (u v : ℕ → ℤ) (n : ℕ) → ((a : ℕ) → a < n → u a ≡ v a) → sum_to u n ≡ sum_to v n
 sum_ext u v zero h = refl

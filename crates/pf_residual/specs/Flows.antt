@@ -1,5 +1,6 @@
 -- Flows and cuts over vertices 0 to n - 1, as tables of numbers over ordered pairs.
 use Rattle.std.specs.Prelude.{◌≡◌, ◌≢◌, ◌≤ℤ◌, ◌+ℤ◌, ◌<◌, ◌+◌, ◌&&◌, ◌||◌, ℕ, ℤ, zero, suc, pos, negsuc, Bool, true, false, nat_eq, if◌then◌else◌}
+use Rattle.pf_base.specs.Sums.{sum_to}
 
 abbrev pub PairTable : Type 0
 PairTable = ℕ → ℕ → ℤ
@@ -19,11 +20,6 @@ pub record Same (s t : PairTable) : Type 0 where
 -- the numbers of a pair and of its reverse add up to 0
 pub record IsAntisymmetric (t : PairTable) : Type 0 where
   pub at : (a b : ℕ) → t a b +ℤ t b a ≡ pos 0
-
--- g 0 + g 1 + .. + g (n - 1)
-abbrev pub sum_to : (ℕ → ℤ) → ℕ → ℤ
-sum_to g zero = pos 0
-sum_to g (suc n) = sum_to g n +ℤ g n
 
 -- the sum of a table over all pairs of vertices
 abbrev pub pair_sum : ℕ → PairTable → ℤ

@@ -1,7 +1,7 @@
 //! The sum of all capacities.
 
 ghost use Rattle.std.specs.Prelude.{◌≡◌, ◌<◌, ◌+ℤ◌};
-ghost use Rattle.pf_residual.specs.Flows.{sum_to};
+ghost use Rattle.pf_base.specs.Sums.{sum_to};
 ghost use Rattle.pf_residual.specs.Networks.{Network, IsNetwork, capacity_sum};
 
 use crate::numbers::plus;

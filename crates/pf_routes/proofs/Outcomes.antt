@@ -4,11 +4,6 @@ use Rattle.std.specs.Prelude.{IfErr, MatchOption}
 use Rattle.std.specs.Result.{IsErrAnd}
 use Rattle.pf_route_io.specs.declared.error.RouteError.{RouteError}
 
--- what holds of the error
-pub refused_by : {X : Type 0} (Q P : RouteError → Type 0) (r : Result X RouteError) → ((e : RouteError) → Q e → P e) → IsErrAnd r Q → IfErr r P
-refused_by Q P (Ok x) h k = tt
-refused_by Q P (Err e) h k = h e k
-
 pub at_some : {X : Type 0} (P : Type 0) (Q : X → Type 0) (o : Option X) (x : X) → o ≡ Some x → MatchOption o P Q → Q x
 at_some P Q o x e h = subst (λ o. MatchOption o P Q) e h
 

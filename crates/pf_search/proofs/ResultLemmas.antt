@@ -16,25 +16,6 @@ error_kept (Ok x) (Ok y) m P h = tt
 error_kept (Ok x) (Err e) m P h = absurd m
 error_kept (Err e) s m P h = subst (λ t. IfErr t P) (sym m) h
 
--- an error that `?` hands on
-module _ {T E : Type 0} where
-  pub refused_as : (P : E → Type 0) (r : Result T E) (e : E) → IsErrAnd r (λ x. x ≡ e) → P e → IfErr r P
-  refused_as P (Ok x) e h p = absurd h
-  refused_as P (Err x) e h p = subst P (sym h) p
-
-  pub on_refused : (P : Type 0) (r : Result T E) (e : E) → IsErrAnd r (λ x. x ≡ e) → OnOk r P
-  on_refused P (Ok x) e h = absurd h
-  on_refused P (Err x) e h = tt
-
-  pub if_refused : (P : T → Type 0) (r : Result T E) (e : E) → IsErrAnd r (λ x. x ≡ e) → IfOk r P
-  if_refused P (Ok x) e h = absurd h
-  if_refused P (Err x) e h = tt
-
-  pub ok_is_no_error : (r : Result T E) (x : T) (e : E) → r ≡ Ok x → r ≡ Err e → ⊥
-  ok_is_no_error r x e p q =
-      let both : Ok x ≡ Err e = sym p ∙ q in
-      cc
-
 none_some : {A : Type 0} (x : A) → None ≡ Some x → ⊥
 none_some x e = cc
 
@@ -58,13 +39,3 @@ if_some Q None x e h = absurd (none_some x e)
 pub when_none : {A : Type 0} (P : Type 0) (Q : A → Type 0) (o : Option A) → o ≡ None → MatchOption o P Q → P
 when_none P Q (Some y) e h = absurd (none_some y (sym e))
 when_none P Q None e h = h
-
--- an overflow that `?` hands on
-pub overflow_kept : {T : Type 0} (r : Result T PathError) (e : PathError) → IsErrAnd r (λ x. x ≡ e) → r ≡ Err CostOverflow → e ≡ CostOverflow
-overflow_kept r e h q = sym (rw q at h)
-
--- an error of another kind that `?` hands on
-pub no_overflow : {T : Type 0} (r : Result T PathError) (e : PathError) → IsErrAnd r (λ x. x ≡ e) → e ≡ OutOfMemory → r ≡ Err CostOverflow → ⊥
-no_overflow r e h p q =
-    let both : CostOverflow ≡ OutOfMemory = (rw q at h) ∙ p in
-    cc

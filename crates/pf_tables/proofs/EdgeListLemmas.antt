@@ -11,7 +11,7 @@ use Rattle.std.proofs.lemmas.Option.{slice_get_within}
 use Rattle.pf_base.specs.Walks.{HasNode, NoRepeats}
 use Rattle.pf_base.specs.NodeRefs.{nodes_of}
 use Rattle.pf_core.specs.Nodes.{StandsFor}
-use Rattle.pf_core.proofs.ListLemmas.{none_in}
+use Rattle.pf_base.proofs.ListLemmas.{none_in}
 use Rattle.pf_tables.specs.Graphs.{IsGraph, filled}
 use Rattle.pf_tables.specs.EdgeLists.{CostsFromZeroTo, HasEdgesByName, ends_from, names_of, number_in, numbered_from, places_of}
 use Rattle.pf_tables.specs.Internal.Layouts.{AreOffsets, ArePlaced, ComeFromBelow, IsLaidOut, edges_below}

@@ -12,7 +12,7 @@ use Rattle.pf_core.specs.Hops.{unit_edges}
 use Rattle.pf_core.specs.Nodes.{StandsFor}
 use Rattle.pf_core.specs.Numbered.{StandsBelow}
 use Rattle.pf_core.proofs.UnitLemmas.{starts_stand}
-use Rattle.pf_core.proofs.ListLemmas.{none_in}
+use Rattle.pf_base.proofs.ListLemmas.{none_in}
 use Rattle.pf_core.proofs.NodeLemmas.{InReach-start}
 use Rattle.pf_tables.specs.Graphs.{edges_at, graph_of, successors_of}
 use Rattle.pf_tables.specs.Internal.Numbering.{IsIndex, IsExplored, steps_at}

@@ -4,19 +4,9 @@ use Rattle.std.specs.Prelude.{slice_get, slice_set, ◌⊎◌}
 use Rattle.std.proofs.lemmas.List.{map-append, append-nil, length-replicate, get_or-replicate}
 use Rattle.std.proofs.lemmas.Option.{slice_get_within, slice_get-get_or}
 use borrow.Author.Tests.{eqb-true}
-use Rattle.pf_core.proofs.ListLemmas.{bool_dec, get_set, get-append, none_in}
+use Rattle.pf_core.proofs.ListLemmas.{bool_dec}
+use Rattle.pf_base.proofs.ListLemmas.{get_set, get-append, none_in, get_at_end, get_push}
 use Rattle.pf_tables.specs.Internal.Numbering.{IsIndex, present, steps_at}
-
--- what stands in a list, or at its end
-pub get_push : {A : Type 0} (xs : List A) (x : A) (k : ℕ) (m : A) → slice_get (xs ++ x ∷ []) k ≡ Some m → (slice_get xs k ≡ Some m) ⊎ ((k ≡ length xs) × (x ≡ m))
-get_push [] x zero m h = inr (refl, (let e : Some x ≡ Some m = h in cc))
-get_push [] x (suc k) m h = absurd (none_in k m h)
-get_push (y ∷ ys) x zero m h = inl h
-get_push (y ∷ ys) x (suc k) m h = elim (get_push ys x k m h) as (λ _. (slice_get ys k ≡ Some m) ⊎ ((suc k ≡ suc (length ys)) × (x ≡ m))) [ inl e ↦ inl e | inr e ↦ inr (ap suc e.0, e.1) ]
-
-pub get_last : {A : Type 0} (xs : List A) (x : A) → slice_get (xs ++ x ∷ []) (length xs) ≡ Some x
-get_last [] x = refl
-get_last (y ∷ ys) x = get_last ys x
 
 some_same : {A : Type 0} (x y : A) → Some x ≡ Some y → x ≡ y
 some_same x y e = cc
@@ -41,7 +31,7 @@ index_push order numbers node i free =
         | inl e ↦
             let v = some_same (length order + 1) (k + 1) (sym e.1 ∙ h) in
             let w : length order ≡ k = omega (arith, v) in
-            subst (λ (n : ℕ). slice_get (order ++ node ∷ []) n ≡ Some x) w (get_last order node ∙ ap (λ (n : ℕ). Some n) (sym e.0))
+            subst (λ (n : ℕ). slice_get (order ++ node ∷ []) n ≡ Some x) w (get_at_end order node ∙ ap (λ (n : ℕ). Some n) (sym e.0))
         | inr e ↦ get-append order (node ∷ []) k x (i.back k x (sym e.1 ∙ h))
       ];
     }
@@ -49,7 +39,7 @@ index_push order numbers node i free =
 -- the last node loses its number
 pub index_pop : (order numbers : List ℕ) (node : ℕ) → IsIndex (order ++ node ∷ []) numbers → IsIndex order (slice_set numbers node 0)
 index_pop order numbers node i =
-    let own = i.at (length order) node (get_last order node) in
+    let own = i.at (length order) node (get_at_end order node) in
     let inside = slice_get_within numbers node (length order + 1) own in
     let numbers' : List ℕ = slice_set numbers node 0 in
     record {

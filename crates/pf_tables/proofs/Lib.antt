@@ -1,4 +1,3 @@
-pub mod Outcomes
 pub mod Parts
 pub mod Faulty
 pub mod RowLemmas

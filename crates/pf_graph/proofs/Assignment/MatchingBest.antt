@@ -3,7 +3,8 @@ use Rattle.std.proofs.Common.{ℕ, zero, suc, ◌+◌, ◌*◌, ◌<◌, ◌≡�
 use Rattle.std.specs.Prelude.{◌⊎◌, ◌≤ℤ◌, ◌+ℤ◌, pos, neg_ℤ, slice_index}
 use Rattle.std.proofs.lemmas.Int.{ints}
 use Rattle.std.proofs.lemmas.Bool.{cases_eq}
-use Rattle.pf_graph.specs.Assignments.{number, NumberTable, sum_to, IsAssignment, assignment_total, IsBestAssignment, IsLeastAssignment, IsNegatedTable, IsGreatestWeight, WeightsFit}
+use Rattle.pf_graph.specs.Assignments.{number, NumberTable, IsAssignment, assignment_total, IsBestAssignment, IsLeastAssignment, IsNegatedTable, IsGreatestWeight, WeightsFit}
+use Rattle.pf_base.specs.Sums.{sum_to}
 use Rattle.pf_graph.specs.Internal.Assignment.AssignmentSteps.{holder, IsMatching, IsPotential, IsMatched}
 use Rattle.pf_graph.proofs.Assignment.MatchingNumbers.{below_or_last}
 use Rattle.pf_graph.proofs.Assignment.MatchingWeights.{IsInterval, room, sum_to-bound}

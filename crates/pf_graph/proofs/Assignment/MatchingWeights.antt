@@ -4,7 +4,8 @@ use Rattle.std.specs.Prelude.{◌⊎◌, ◌≤ℤ◌, ◌+ℤ◌, ◌↔◌, po
 use Rattle.std.proofs.lemmas.Int.{ints}
 use Rattle.std.proofs.Math.Nat.{mul-le-mul_right}
 use Rattle.pf_base.specs.Costs.{LiesBetween}
-use Rattle.pf_graph.specs.Assignments.{NumberTable, IsGreatestWeight, WeightsFit, sum_to}
+use Rattle.pf_graph.specs.Assignments.{NumberTable, IsGreatestWeight, WeightsFit}
+use Rattle.pf_base.specs.Sums.{sum_to}
 use Rattle.pf_graph.specs.Internal.Assignment.AssignmentSteps.{IsBeyond, IsEither}
 
 -- between two numbers that fit, each fits

@@ -11,7 +11,7 @@ use Rattle.std.proofs.lemmas.Bool.{cases_eq, cases_Bool}
 use Rattle.pf_graph.specs.declared.undirected.union_find.Vertex.{Vertex}
 use Rattle.pf_graph.specs.Internal.Components.DisjointSets.{IsCollected, AreDone, IsGathered, Identifies, pairs_from}
 use Rattle.pf_graph.specs.Components.{InGroup, IsComponents}
-use Rattle.pf_graph.proofs.ListLemmas.{none_in, get_set, get_push, get_at_end, get_within}
+use Rattle.pf_base.proofs.ListLemmas.{none_in, get_set, get_push, get_at_end, get_within}
 use Rattle.pf_graph.proofs.NumberLemmas.{distinct_one}
 use Rattle.pf_graph.proofs.Components.PairLemmas.{pair_of, same_label, in_group, id_is}
 

@@ -15,7 +15,7 @@ use Rattle.pf_graph.specs.declared.undirected.union_find.Vertex.{Vertex}
 use Rattle.pf_graph.specs.Joined.{Joined, same, linked, back, chain}
 use Rattle.pf_graph.specs.Internal.UnionFind.{IsSound, IsLabelling, Merges}
 use Rattle.pf_graph.specs.Internal.Components.DisjointSets.{PairsLink, IsGathered, IsIdOf, Identifies, MapsByFirst}
-use Rattle.pf_graph.proofs.ListLemmas.{none_in, get_push, get_append, get_at_end}
+use Rattle.pf_base.proofs.ListLemmas.{none_in, get_push, get-append, get_at_end}
 use Rattle.pf_graph.proofs.JoinedLemmas.{Joined-more}
 use Rattle.pf_graph.proofs.NumberLemmas.{distinct_one}
 
@@ -173,7 +173,7 @@ module _ {N : Type 0} {eq : N → N → Bool} (laws : IsEquivalence eq) (pairs :
         ]
       ];
       noted = λ p c. elim (Contains-push_cases pairs (i, r.now) p c) [
-        | inl d ↦ let n = g.noted p d in (n.0, n.1, (n.2.0, get_append nodes (r ∷ []) n.0 n.2.0 n.2.1, n.2.2), get_append first (i ∷ []) n.0 n.1 n.3, n.4)
+        | inl d ↦ let n = g.noted p d in (n.0, n.1, (n.2.0, get-append nodes (r ∷ []) n.0 n.2.0 n.2.1, n.2.2), get-append first (i ∷ []) n.0 n.1 n.3, n.4)
         | inr d ↦ (length nodes, i, (r, get_at_end nodes r, subst (λ (q : ℕ × N). eq r.now q.1 ≡ true) d (laws.refl r.now)), subst (λ (n : ℕ). slice_get (first ++ i ∷ []) n ≡ Some i) g.len (get_at_end first i), ap g.label (ap (λ (q : ℕ × N). q.0) d))
       ];
       same_set = λ a b e. Joined-more wider (g.same_set a b e);
@@ -204,7 +204,7 @@ Identifies-more label n groups ids i g id inside at len is h = λ j k e.
     let more : take (i + 1) groups ≡ take i groups ++ g ∷ [] = take_more groups i g inside ∙ ap (λ y. take i groups ++ y ∷ []) (sym at) in
     let short : length (take i groups) ≡ i = length-take-le i groups (omega (arith, inside)) in
     elim (get_push (take i groups) g j k (subst (λ xs. slice_get xs j ≡ Some k) more e)) [
-      | inl f ↦ let r = h j k f in (r.0, get_append ids (id ∷ []) j r.0 r.1, r.2)
+      | inl f ↦ let r = h j k f in (r.0, get-append ids (id ∷ []) j r.0 r.1, r.2)
       | inr f ↦
           let place : i ≡ j = sym short ∙ sym f.0 in
           (id, subst (λ (m : ℕ). slice_get (ids ++ id ∷ []) m ≡ Some id) (len ∙ place) (get_at_end ids id), subst (λ (m : ℕ). IsIdOf label n m k.items id) place (subst (λ v. IsIdOf label n i v.items id) f.1 is))
@@ -239,7 +239,7 @@ MapsByFirst-more {N} {S} {eq} laws nodes first ids m after i r j id puts inside 
     first_kept : (k l : ℕ) → slice_get (take i first) k ≡ Some l → slice_get (take (i + 1) first) k ≡ Some l
     first_kept k l e =
         let more : take (i + 1) first ≡ take i first ++ j ∷ [] = take_more first i j inside ∙ ap (λ y. take i first ++ y ∷ []) (sym at) in
-        subst (λ xs. slice_get xs k ≡ Some l) (sym more) (get_append (take i first) (j ∷ []) k l e)
+        subst (λ xs. slice_get xs k ≡ Some l) (sym more) (get-append (take i first) (j ∷ []) k l e)
 
     found_by : (q : Bor N) (x : ℕ) (t : Bool) → eq r.now q.now ≡ t → get (λ (a b : Bor N). eq a.now b.now) after q ≡ Some x
         → (k : ℕ) × (n : Bor N) × (l : ℕ) × (slice_get nodes k ≡ Some n) × (eq n.now q.now ≡ true) × (slice_get (take (i + 1) first) k ≡ Some l) × (slice_get ids l ≡ Some x)

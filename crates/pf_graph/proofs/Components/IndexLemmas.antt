@@ -8,7 +8,7 @@ use Rattle.std.specs.List.{list_any}
 use Rattle.std.proofs.lemmas.List.{take_more, length-take-le}
 use Rattle.std.proofs.lemmas.Option.{same_Some, none-some, slice_get_within}
 use Rattle.pf_graph.specs.Components.{InSet, MapsToGreatest}
-use Rattle.pf_graph.proofs.ListLemmas.{get_push, get_append, get_at_end, none_in}
+use Rattle.pf_base.proofs.ListLemmas.{get_push, get-append, get_at_end, none_in}
 
 any_push : {A : Type 0} (test : A → Bool) (xs : List A) (x : A) → list_any test (xs ++ x ∷ []) ≡ (if test x then true else list_any test xs)
 any_push test [] x = by (test x)
@@ -54,7 +54,7 @@ module _ {N S T : Type 0} {eq : N → N → Bool} where
       last = subst (λ xs. slice_get xs n ≡ Some s) (sym more) (subst (λ (m : ℕ). slice_get (take n sets ++ s ∷ []) m ≡ Some s) short (get_at_end (take n sets) s))
 
       wider : (j : ℕ) (x : N) → InSet eq (take n sets) j x → InSet eq (take (n + 1) sets) j x
-      wider j x k = (k.0, subst (λ xs. slice_get xs j ≡ Some k.0) (sym more) (get_append (take n sets) (s ∷ []) j k.0 k.1), k.2)
+      wider j x k = (k.0, subst (λ xs. slice_get xs j ≡ Some k.0) (sym more) (get-append (take n sets) (s ∷ []) j k.0 k.1), k.2)
 
       either : (j : ℕ) (x : N) → InSet eq (take (n + 1) sets) j x → InSet eq (take n sets) j x ⊎ ((j ≡ n) × (contains eq s x ≡ true))
       either j x k = elim (get_push (take n sets) s j k.0 (subst (λ xs. slice_get xs j ≡ Some k.0) more k.1)) [

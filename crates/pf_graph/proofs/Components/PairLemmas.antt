@@ -13,7 +13,8 @@ use Rattle.pf_graph.specs.declared.undirected.union_find.Vertex.{Vertex}
 use Rattle.pf_graph.specs.Joined.{Joined}
 use Rattle.pf_graph.specs.Internal.Components.DisjointSets.{pair_with, pairs_from, PairsLink, IsGathered, IsIdOf, Identifies, MapsByFirst}
 use Rattle.pf_graph.specs.Components.{InGroup, ShareBy, AreChained, AreIdentified, MapsVertices}
-use Rattle.pf_graph.proofs.ListLemmas.{none_in, get_contains, contains_get, get_within}
+use Rattle.pf_graph.proofs.ListLemmas.{get_contains, contains_get}
+use Rattle.pf_base.proofs.ListLemmas.{none_in, get_within}
 use Rattle.pf_graph.proofs.JoinedLemmas.{Joined-more}
 use Rattle.pf_graph.proofs.NumberLemmas.{distinct_one}
 

@@ -13,7 +13,7 @@ use Rattle.pf_graph.specs.declared.undirected.steps.Step.{Step}
 use Rattle.pf_graph.specs.Internal.NumberedEdges.{StandsFor}
 use Rattle.pf_graph.specs.GrownTree.{RunsBetween, edge_order, Covers, LeavesByLeast, GrowsByLeast, AreChosenEitherWay}
 use Rattle.pf_graph.specs.Internal.Spanning.Frontier.{step_order, IsMarked, HasStep, Leads, AreRows, Waits, TakesLeast, NoneLeaves, IsGrown, waiting}
-use Rattle.pf_graph.proofs.ListLemmas.{get_set}
+use Rattle.pf_base.proofs.ListLemmas.{get_set}
 use Rattle.pf_graph.proofs.Spanning.ForestLemmas.{split_push}
 use Rattle.pf_graph.proofs.NumberLemmas.{numbers_alike, distinct_one}
 use Rattle.pf_graph.proofs.Spanning.TreeLemmas.{Covers-kept, Covers-push, Covers-push_cases}

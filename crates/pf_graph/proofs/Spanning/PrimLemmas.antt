@@ -9,7 +9,8 @@ use Rattle.pf_graph.specs.declared.undirected.weighed.Weighed.{Weighed}
 use Rattle.pf_graph.specs.Internal.NumberedEdges.{StandsFor, IsNumbered}
 use Rattle.pf_graph.specs.GrownTree.{StartsAt}
 use Rattle.pf_graph.specs.Internal.Spanning.Frontier.{IsMarked, HasStep, HoldSteps, AreRows}
-use Rattle.pf_graph.proofs.ListLemmas.{get_contains, none_in}
+use Rattle.pf_graph.proofs.ListLemmas.{get_contains}
+use Rattle.pf_base.proofs.ListLemmas.{none_in}
 use Rattle.pf_graph.proofs.Spanning.StepLemmas.{AreRows-numbered}
 
 -- where no number is marked

@@ -10,7 +10,7 @@ use Rattle.pf_graph.specs.declared.undirected.weighed.Weighed.{Weighed}
 use Rattle.pf_graph.specs.Internal.NumberedEdges.{StandsFor, IsNumbered}
 use Rattle.pf_graph.specs.GrownTree.{RunsBetween}
 use Rattle.pf_graph.specs.Internal.Spanning.Frontier.{Leads, HasStep, HoldSteps, AreRows}
-use Rattle.pf_graph.proofs.ListLemmas.{get_push, get_set}
+use Rattle.pf_base.proofs.ListLemmas.{get_push, get_set}
 
 module _ {N C A : Type 0} where
   -- a row without a step more

@@ -10,7 +10,7 @@ use Rattle.std.proofs.lemmas.Cmp.{int_ranked}
 use Rattle.std.proofs.lemmas.List.Sorted.{sorted_far, ranks_by}
 use Rattle.std.proofs.lemmas.Option.{slice_get_within, get_or_from_slice_get}
 use Rattle.pf_graph.specs.Internal.Spanning.SpanningSteps.{IsTaken, values_sum}
-use Rattle.pf_graph.proofs.ListLemmas.{get_append, get_at_end}
+use Rattle.pf_base.proofs.ListLemmas.{get-append, get_at_end}
 use Rattle.pf_graph.proofs.Spanning.OrderLemmas.{at_most}
 
 module _ {C : Type 0} (value : C → ℤ) where
@@ -34,7 +34,7 @@ module _ {C : Type 0} (value : C → ℤ) where
       by u v Greater m n = absurd (n refl)
 
   pub Rises-taken : (last : Bool) (w : C) (rest ws : List C) → IsTaken last w rest ws → Rises ws → Rises rest
-  Rises-taken true w rest ws e r = record { up = λ i j x y l a b. r.up i j x y l (subst (λ us. slice_get us i ≡ Some x) (sym e) (get_append rest (w ∷ []) i x a)) (subst (λ us. slice_get us j ≡ Some y) (sym e) (get_append rest (w ∷ []) j y b)) }
+  Rises-taken true w rest ws e r = record { up = λ i j x y l a b. r.up i j x y l (subst (λ us. slice_get us i ≡ Some x) (sym e) (get-append rest (w ∷ []) i x a)) (subst (λ us. slice_get us j ≡ Some y) (sym e) (get-append rest (w ∷ []) j y b)) }
   Rises-taken false w rest ws e r = record { up = λ i j x y l a b. r.up (suc i) (suc j) x y (omega (arith, l)) (subst (λ us. slice_get us (suc i) ≡ Some x) (sym e) a) (subst (λ us. slice_get us (suc j) ≡ Some y) (sym e) b) }
 
   sum_push : (ws : List C) (w : C) → values_sum value (ws ++ w ∷ []) ≡ value w +ℤ values_sum value ws
@@ -80,7 +80,7 @@ module _ {C : Type 0} (value : C → ℤ) where
     | inl h ↦ past (between sum (sum +ℤ value w) (value w) fits_sum fits_w (omega (arith, ints, h)) (omega (arith, ints, low)))
     | inr h ↦
         let all = to_zero rest (λ j y a.
-        let up = r.up j (length rest) y w (slice_get_within rest j y a) (subst (λ us. slice_get us j ≡ Some y) (sym e) (get_append rest (w ∷ []) j y a)) (subst (λ us. slice_get us (length rest) ≡ Some w) (sym e) (get_at_end rest w)) in
+        let up = r.up j (length rest) y w (slice_get_within rest j y a) (subst (λ us. slice_get us j ≡ Some y) (sym e) (get-append rest (w ∷ []) j y a)) (subst (λ us. slice_get us (length rest) ≡ Some w) (sym e) (get_at_end rest w)) in
         omega (arith, ints, up, h)) in
         let parts = sum_taken true w rest ws e in
         past (between whole (sum +ℤ value w) sum fits_whole fits_sum (omega (arith, ints, all, parts, is)) (omega (arith, ints, h)))

@@ -13,7 +13,7 @@ use Rattle.pf_graph.specs.declared.undirected.weighed.Weighed.{Weighed}
 use Rattle.pf_graph.specs.Spanning.{IsForest, IsLeastUnderEveryBound, IsLeastForest, weight_sum}
 use Rattle.pf_graph.specs.Internal.Spanning.SpanningSteps.{values_sum}
 use Rattle.pf_graph.specs.Internal.NumberedEdges.{IsNumbered, IsWritten}
-use Rattle.pf_graph.proofs.ListLemmas.{get_within}
+use Rattle.pf_base.proofs.ListLemmas.{get_within}
 use Rattle.pf_graph.proofs.Spanning.NameLemmas.{written_forest, written_least, written_given}
 
 -- what is sorted by a key has sorted keys

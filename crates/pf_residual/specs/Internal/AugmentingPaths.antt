@@ -1,6 +1,7 @@
 -- Paths along which flow is added, and the potential that each of them raises.
 use Rattle.std.specs.Prelude.{◌≡◌, ◌≤◌, ◌<◌, ◌+◌, ◌-◌, ◌<ℤ◌, ◌+ℤ◌, ℕ, ℤ, suc, pos, Bool, List, length, nat_eq, slice_index, if◌then◌else◌}
-use Rattle.pf_residual.specs.Flows.{PairTable, Same, sum_to, count_to, is_positive, are_linked}
+use Rattle.pf_residual.specs.Flows.{PairTable, Same, count_to, is_positive, are_linked}
+use Rattle.pf_base.specs.Sums.{sum_to}
 use Rattle.pf_residual.specs.Networks.{Network, capacity}
 use Rattle.pf_residual.specs.Internal.Balances.{IsBalanced}
 

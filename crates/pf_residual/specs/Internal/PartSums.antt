@@ -1,6 +1,6 @@
 -- A sum of what is left of the capacities, as far as a loop has come.
 use Rattle.std.specs.Prelude.{◌≡◌, ◌+ℤ◌, ◌<◌, ◌≤◌, ℕ, ℤ, List, Some, slice_get}
-use Rattle.pf_residual.specs.Flows.{sum_to}
+use Rattle.pf_base.specs.Sums.{sum_to}
 use Rattle.pf_residual.specs.Networks.{Network}
 
 -- the sum of the rows before `from`, and of its row up to the first i of these ends

@@ -1,7 +1,8 @@
 -- Tables in which the flows of arcs are set, one after the other.
 use Rattle.std.specs.Prelude.{◌≡◌, ◌≢◌, ◌⊎◌, ◌≤ℤ◌, ◌<ℤ◌, ◌-ℤ◌, ◌<◌, ◌≤◌, ◌+◌, ℕ, ℤ, pos, neg_ℤ, Bool, List, [], ◌∷◌, Some, slice_get, length, take, if◌then◌else◌}
 use Rattle.pf_residual.specs.declared.cancelling.arcs.Arc.{Arc}
-use Rattle.pf_residual.specs.Flows.{PairTable, added, sum_to, Same}
+use Rattle.pf_residual.specs.Flows.{PairTable, added, Same}
+use Rattle.pf_base.specs.Sums.{sum_to}
 use Rattle.pf_residual.specs.Networks.{Network, KeepsCapacities}
 use Rattle.pf_residual.specs.Internal.Cancelling.{net_of, HasAmount, AreInside, AreAmounts, IsCirculation}
 

@@ -1,12 +1,8 @@
 -- Graphs of successors, as a search by cost sees them.
 use Rattle.std.specs.Prelude.{ℤ, Bool, List}
 use Rattle.pf_core.specs.declared.discovery.Discovery.{Discovery}
-use Rattle.pf_core.specs.Hops.{unit_edges}
-use Rattle.pf_core.specs.Nodes.{NodeGraph, Explores}
-
--- the graph in which each step costs 1, searched from these nodes
-abbrev pub hops_from : {N : Type 0} → List N → (N → List N) → NodeGraph N
-hops_from starts next = record { starts = starts; edges = unit_edges next }
+use Rattle.pf_core.specs.Hops.{hops_from}
+use Rattle.pf_core.specs.Nodes.{Explores}
 
 -- what is asked answers this graph from these nodes on, and the nodes found are in reach
 abbrev pub ExploresHops : {N S Z : Type 0} → (N → N → Bool) → (S → List N → (N → List (N × ℤ)) → Type 0) → List N → (N → List N) → Discovery N S Z → Type 0

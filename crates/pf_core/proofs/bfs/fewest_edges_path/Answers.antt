@@ -3,7 +3,7 @@ use Rattle.std.proofs.lemmas.List.{length-replicate}
 use Rattle.std.proofs.lemmas.Result.{IfOk-from_err}
 use Rattle.pf_base.specs.declared.error.PathError.TheVariants.{OutOfMemory}
 use Rattle.pf_core.specs.Labels.{by_depth, IsTree}
-use Rattle.pf_core.proofs.Outcomes.{refused_as}
+use Rattle.pf_base.proofs.Outcomes.{refused_as}
 use Rattle.pf_core.proofs.SearchLemmas.{Grows-trans, no_goal, best, best_grows, failed_turned}
 use Rattle.pf_core.specs.Breadth.{below}
 use Rattle.pf_core.proofs.HopLemmas.{breadth_start, breadth_done, hop_tree_start, hop_search_start, none_settled, hop_least, hop_positive, roots_below, reached_from, started, visit_left}

@@ -3,7 +3,7 @@ use Rattle.std.proofs.lemmas.Result.{IfOk-from_err}
 use Rattle.pf_base.specs.declared.error.PathError.TheVariants.{OutOfMemory}
 use Rattle.pf_core.proofs.SearchLemmas.{Grows-trans}
 use Rattle.pf_core.proofs.HopLemmas.{le_or_less}
-use Rattle.pf_core.proofs.Outcomes.{refused_as, on_refused}
+use Rattle.pf_base.proofs.Outcomes.{on_refused, refused_as}
 use Rattle.pf_core.proofs.WaveLemmas.{visits_fewer}
 use Rattle.pf_core.proofs.bfs_level.advance.Goals as goal
 

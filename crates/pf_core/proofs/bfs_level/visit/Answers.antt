@@ -1,7 +1,7 @@
 use Rattle.std.proofs.Common.{ℕ, ◌<◌, ◌≤◌, ◌≡◌, ◌∙◌, arith, length, refl, subst}
 use Rattle.std.specs.Prelude.{Contains}
 use Rattle.pf_base.specs.declared.error.PathError.TheVariants.{OutOfMemory}
-use Rattle.pf_core.proofs.Outcomes.{refused_as, on_refused}
+use Rattle.pf_base.proofs.Outcomes.{on_refused, refused_as}
 use Rattle.pf_core.proofs.HopLemmas.{breadth_turn, hop_tree, hop_turned, hop_len, resized}
 use Rattle.pf_core.proofs.WaveLemmas.{layered_turn, turned_len}
 use Rattle.pf_core.proofs.bfs_level.visit.Goals as goal

@@ -4,7 +4,7 @@ use Rattle.std.proofs.lemmas.List.{length-replicate}
 use Rattle.std.proofs.lemmas.Result.{IfOk-from_err}
 use Rattle.pf_base.specs.declared.error.PathError.TheVariants.{OutOfMemory}
 use Rattle.pf_core.specs.Labels.{by_depth, IsTree}
-use Rattle.pf_core.proofs.Outcomes.{refused_as, refused_by}
+use Rattle.pf_base.proofs.Outcomes.{refused_as, refused_by}
 use Rattle.pf_core.specs.Loops.{Closes, IsBestNumberedLoop}
 use Rattle.pf_core.specs.Numbered.{Grows, StandsBelow}
 use Rattle.pf_core.proofs.ListLemmas.{Contains-append_one}

@@ -4,7 +4,7 @@ use Rattle.std.proofs.lemmas.Result.{IfOk-from_err}
 use Rattle.pf_base.specs.declared.error.PathError.TheVariants.{OutOfMemory}
 use Rattle.pf_core.specs.Labels.{by_depth}
 use Rattle.pf_core.specs.Breadth.{IsWave}
-use Rattle.pf_core.proofs.Outcomes.{refused_as, on_refused}
+use Rattle.pf_base.proofs.Outcomes.{on_refused, refused_as}
 use Rattle.pf_core.proofs.SearchLemmas.{search_grows}
 use Rattle.pf_core.proofs.WaveLemmas.{layered_done, met_low, grows_same}
 use Rattle.pf_core.proofs.bidirectional.advance_smaller.Goals as goal

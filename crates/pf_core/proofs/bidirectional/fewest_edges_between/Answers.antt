@@ -2,7 +2,7 @@ use Rattle.std.proofs.Common.{ℕ, ◌≡◌, ◌<◌, ◌+◌, subst, arith, in
 use Rattle.std.proofs.lemmas.Result.{IfOk-from_err}
 use Rattle.pf_base.specs.declared.error.PathError.TheVariants.{OutOfMemory}
 use Rattle.pf_core.specs.declared.sides.Side.TheVariants.{Forth, Back}
-use Rattle.pf_core.proofs.Outcomes.{refused_as}
+use Rattle.pf_base.proofs.Outcomes.{refused_as}
 use Rattle.pf_core.proofs.SearchLemmas.{Grows-trans}
 use Rattle.pf_core.proofs.MeetingLemmas.{IsSide, best_meeting, first_meeting_best, sides_longer, wave_begun, side_begun, side_all, wave_full, visits_left}
 use Rattle.pf_core.specs.Numbered.{StandsBelow}

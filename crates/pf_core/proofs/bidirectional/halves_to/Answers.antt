@@ -4,7 +4,7 @@ use Rattle.pf_base.specs.declared.error.PathError.TheVariants.{OutOfMemory}
 use Rattle.pf_core.specs.declared.labels.Label.{Label}
 use Rattle.pf_core.specs.Labels.{Labels, HasLabel, IsTree, IsChain}
 use Rattle.pf_core.specs.Breadth.{Hops}
-use Rattle.pf_core.proofs.Outcomes.{refused_as}
+use Rattle.pf_base.proofs.Outcomes.{refused_as}
 use Rattle.pf_core.proofs.bidirectional.halves_to.Goals as goal
 
 pub path_to-requires-clause-tree : goal.path_to-requires-clause-tree

@@ -6,7 +6,7 @@ use Rattle.std.proofs.lemmas.Result.{IfOk-from_err}
 use Rattle.pf_base.specs.declared.error.PathError.TheVariants.{OutOfMemory, CostOverflow}
 use Rattle.pf_core.specs.Labels.{Labels, HasLabel, IsTree, IsChain, by_cost, is_settled}
 use Rattle.pf_core.specs.Steps.{IsBestNumbered}
-use Rattle.pf_core.proofs.Outcomes.{refused_as, no_overflow, no_refusal}
+use Rattle.pf_base.proofs.Outcomes.{no_overflow, no_refusal, refused_as}
 use Rattle.pf_core.proofs.LabelLemmas.{HasLabel-inside, label_is, Settles-set, asked_within}
 use Rattle.pf_core.proofs.SearchLemmas.{Grows-trans, best, best_grows, no_goal, search_grows, one_root, only_root, start_alone, none_settled, failed_turned}
 use Rattle.pf_core.proofs.TurnLemmas.{too_dear}

@@ -1,5 +1,5 @@
 use Rattle.std.proofs.lemmas.Result.{IfOk-from_err}
-use Rattle.pf_core.proofs.Outcomes.{no_memory}
+use Rattle.pf_base.proofs.Outcomes.{no_memory}
 use Rattle.pf_core.proofs.ReadLemmas.{one_key, stands_first, same_one}
 use Rattle.pf_core.proofs.discovery.clone_of.Goals as goal
 

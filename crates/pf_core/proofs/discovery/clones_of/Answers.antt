@@ -5,7 +5,7 @@ use Rattle.std.proofs.lemmas.Iterator.Consumers.{YieldsList-from_first}
 use Rattle.std.proofs.lemmas.List.{map-append}
 use Rattle.pf_base.specs.NodeRefs.{HasSameNodes, nodes_of}
 use Rattle.pf_core.proofs.NodeLemmas.{HasSameNodes-insert}
-use Rattle.pf_core.proofs.Outcomes.{no_memory}
+use Rattle.pf_base.proofs.Outcomes.{no_memory}
 use Rattle.pf_core.proofs.discovery.clones_of.Goals as goal
 
 pub starts-preserved : goal.starts-preserved

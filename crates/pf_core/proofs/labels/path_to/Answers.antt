@@ -5,7 +5,7 @@ use Rattle.std.proofs.lemmas.List.{append-nil, append_assoc}
 use Rattle.pf_core.specs.Labels.{HasLabel}
 use Rattle.pf_core.proofs.ListLemmas.{Contains-append_one, Contains-reverse}
 use Rattle.pf_core.proofs.LabelLemmas.{HasLabel-inside, parent_labelled}
-use Rattle.pf_core.proofs.Outcomes.{no_memory}
+use Rattle.pf_base.proofs.Outcomes.{no_memory}
 use Rattle.pf_core.proofs.ReadLemmas.{shallower}
 use Rattle.pf_core.proofs.labels.path_to.Goals as goal
 

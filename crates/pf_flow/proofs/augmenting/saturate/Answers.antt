@@ -2,7 +2,7 @@ use Rattle.std.proofs.Common.{◌≡◌, ◌≤◌, ◌<◌, ◌+◌, ◌-◌, �
 use Rattle.std.specs.Prelude.{slice_index}
 use Rattle.std.proofs.lemmas.List.{get_or_read, length-replicate}
 use Rattle.std.proofs.lemmas.Result.{IfOk-from_err}
-use Rattle.pf_residual.proofs.LevelListLemmas.{resized}
+use Rattle.pf_base.proofs.ListLemmas.{resized}
 use Rattle.pf_residual.proofs.AgreeLemmas.{capacities_kept, capacities_more}
 use Rattle.pf_residual.proofs.NamedLemmas.{refused_as, refused_by}
 use Rattle.pf_flow.proofs.PhaseLemmas.{ticks_top, ticks_anew, ticks_now}

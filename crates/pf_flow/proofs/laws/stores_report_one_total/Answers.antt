@@ -1,7 +1,8 @@
 use Rattle.std.proofs.Common.{◌≡◌, ◌≢◌, ◌∙◌, ◌⊎◌, ◌<◌, inl, inr, sym, ap, subst, arith, ℕ, ℤ, pos, Bool, if◌then◌else◌}
 use Rattle.std.proofs.lemmas.Bool.{cases_eq}
 use Rattle.std.proofs.lemmas.Int.{ints}
-use Rattle.pf_residual.specs.Flows.{PairTable, sum_to, leaving, cut_capacity, IsLeastCut}
+use Rattle.pf_residual.specs.Flows.{PairTable, leaving, cut_capacity, IsLeastCut}
+use Rattle.pf_base.specs.Sums.{sum_to}
 use Rattle.pf_residual.specs.Networks.{Network, capacity, HasSameCapacities, HasCutOfTotal, HasTotalOfFlow}
 use Rattle.pf_residual.proofs.SumLemmas.{sum_ext, sum_none}
 use Rattle.pf_flow.proofs.laws.stores_report_one_total.Goals as goal

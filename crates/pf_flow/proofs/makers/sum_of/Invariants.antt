@@ -1,6 +1,6 @@
 use Rattle.std.proofs.Common.{◌≡◌}
 use Rattle.pf_residual.specs.Capacities.{number}
-use Rattle.pf_residual.specs.Flows.{sum_to}
+use Rattle.pf_base.specs.Sums.{sum_to}
 use Rattle.pf_flow.proofs.makers.sum_of.Given as goal
 
 abbrev pub invariant-numbers : goal.invariant-numbers

@@ -1,6 +1,6 @@
 use Rattle.std.proofs.Common.{◌∙◌, ap, length}
 use Rattle.std.proofs.lemmas.List.{length-replicate}
-use Rattle.pf_graph.proofs.ListLemmas.{resized}
+use Rattle.pf_base.proofs.ListLemmas.{resized}
 use Rattle.pf_graph.proofs.filled.filled.Goals as goal
 
 pub returns : goal.returns

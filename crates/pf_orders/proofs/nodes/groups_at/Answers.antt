@@ -5,7 +5,7 @@ use Rattle.std.proofs.lemmas.Result.{IfOk-from_err}
 use Rattle.pf_core.proofs.ListLemmas.{at_place}
 use Rattle.pf_core.proofs.PathLemmas.{AllZip-append}
 use Rattle.pf_orders.specs.Internal.Rounds.{AreNodesAt}
-use Rattle.pf_orders.proofs.Outcomes.{refused_as}
+use Rattle.pf_base.proofs.Outcomes.{refused_as}
 use Rattle.pf_orders.proofs.nodes.groups_at.Goals as goal
 
 pub returns-in_err-answer : goal.returns-in_err-answer

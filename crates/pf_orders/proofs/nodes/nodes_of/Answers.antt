@@ -3,7 +3,7 @@ use Rattle.std.proofs.lemmas.List.{take_more}
 use Rattle.std.proofs.lemmas.Result.{IfOk-from_err}
 use Rattle.pf_base.specs.NodeRefs.{HasSameNodes}
 use Rattle.pf_core.proofs.NodeLemmas.{HasSameNodes-insert}
-use Rattle.pf_orders.proofs.Outcomes.{refused_as}
+use Rattle.pf_base.proofs.Outcomes.{refused_as}
 use Rattle.pf_orders.proofs.nodes.nodes_of.Goals as goal
 
 pub returns-in_err-set : goal.returns-in_err-set

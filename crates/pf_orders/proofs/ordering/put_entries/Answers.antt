@@ -1,7 +1,7 @@
 use Rattle.std.proofs.Common.{◌∙◌, ◌++◌, ◌∷◌, [], refl, sym, ap, arith, take, take_all, get_or}
 use Rattle.std.proofs.lemmas.List.{take_more, append_assoc}
 use Rattle.pf_orders.specs.Internal.Orderings.{entries}
-use Rattle.pf_orders.proofs.Outcomes.{refused_as, on_refused}
+use Rattle.pf_base.proofs.Outcomes.{on_failed, refused_as}
 use Rattle.pf_orders.proofs.OrderLemmas.{entries-append}
 use Rattle.pf_orders.proofs.ordering.put_entries.Goals as goal
 
@@ -9,7 +9,7 @@ pub returns-in_err-reserve : goal.returns-in_err-reserve
 returns-in_err-reserve g c =
     let r = c.from_residual in
     record {
-      put = on_refused _ _ r.ensures.0;
+      put = on_failed _ _ r.ensures.0;
       refused = refused_as _ r.result _ r.ensures.1 refl;
     }
 
@@ -17,7 +17,7 @@ pub returns-in_err-push : goal.returns-in_err-push
 returns-in_err-push g c =
     let r = c.from_residual-in_err-push in
     record {
-      put = on_refused _ _ r.ensures.0;
+      put = on_failed _ _ r.ensures.0;
       refused = refused_as _ r.result _ r.ensures.1 refl;
     }
 

@@ -1,6 +1,7 @@
 use Rattle.std.proofs.Common.{arith}
 use Rattle.std.proofs.lemmas.Result.{IfOk-from_err}
-use Rattle.pf_orders.proofs.Outcomes.{refused_as, Grows-itself}
+use Rattle.pf_base.proofs.Outcomes.{refused_as}
+use Rattle.pf_core.proofs.SearchLemmas.{Grows-refl}
 use Rattle.pf_orders.proofs.ordering.sort_numbers.Goals as goal
 
 pub walk_on-cycle-requires-clause-graph : goal.walk_on-cycle-requires-clause-graph
@@ -23,7 +24,7 @@ walk_on-cycle-requires-clause-left g c =
 
 pub returns-in_err-walk : goal.returns-in_err-walk
 returns-in_err-walk g c = record {
-  grows = Grows-itself _ _;
+  grows = Grows-refl _ _;
   graph = λ h x. x;
   order = λ h x. IfOk-from_err _ _ c.from_residual.ensures.0;
   cycle = IfOk-from_err _ _ c.from_residual.ensures.0;

@@ -1,7 +1,7 @@
 use Rattle.std.proofs.Common.{refl, sym, ◌∙◌, inr, arith, ◌≡◌, ◌++◌, ◌∷◌, []}
 use Rattle.std.proofs.lemmas.Result.{IfOk-from_err}
 use Rattle.std.proofs.lemmas.Option.{slice_get_within}
-use Rattle.pf_orders.proofs.Outcomes.{refused_as}
+use Rattle.pf_base.proofs.Outcomes.{refused_as}
 use Rattle.pf_orders.proofs.OrderLemmas.{is_none, is_some}
 use Rattle.pf_orders.proofs.RoundLemmas.{grouping_start, grouping_next, levels_of}
 use Rattle.pf_orders.proofs.rounds.group_numbers.Goals as goal

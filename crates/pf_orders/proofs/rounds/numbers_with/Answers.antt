@@ -3,7 +3,7 @@ use mathlib.Core.Bool.{beq}
 use Rattle.std.specs.Prelude.{Vec, nat_lt}
 use Rattle.std.proofs.lemmas.Option.{slice_get-get_or}
 use Rattle.std.proofs.lemmas.Result.{IfOk-from_err}
-use Rattle.pf_orders.proofs.Outcomes.{refused_as}
+use Rattle.pf_base.proofs.Outcomes.{refused_as}
 use Rattle.pf_orders.proofs.RoundLemmas.{AreNumbersWith, numbers_none, numbers_more, numbers_same, numbers_end}
 use Rattle.pf_orders.proofs.rounds.numbers_with.Goals.{then-counts-number+in_ok-push, else-counts-number}
 use Rattle.pf_orders.proofs.rounds.numbers_with.Goals as goal

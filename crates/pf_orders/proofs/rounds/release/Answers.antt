@@ -3,7 +3,7 @@ use Rattle.std.specs.Prelude.{Vec, slice_set}
 use Rattle.std.proofs.lemmas.List.{take_more, take_all, append_assoc}
 use Rattle.pf_core.proofs.ListLemmas.{at_place, Contains-index}
 use Rattle.pf_orders.specs.Internal.Rounds.{Falls, AreFreed}
-use Rattle.pf_orders.proofs.Outcomes.{refused_as, on_refused}
+use Rattle.pf_base.proofs.Outcomes.{on_failed, refused_as}
 use Rattle.pf_orders.proofs.OrderLemmas.{member_of}
 use Rattle.pf_orders.proofs.RoundLemmas.{count_above, falls_more, freed_same, freed_more}
 use Rattle.pf_orders.proofs.rounds.release.Goals.{then-count-eq0+in_ok-push, else-count-eq0}
@@ -65,8 +65,8 @@ pub returns-in_err-push : goal.returns-in_err-push
 returns-in_err-push g c =
     let r = c.from_residual in
     record {
-      falls = on_refused _ _ r.ensures.0;
-      freed = on_refused _ _ r.ensures.0;
+      falls = on_failed _ _ r.ensures.0;
+      freed = on_failed _ _ r.ensures.0;
       refused = refused_as _ r.result _ r.ensures.1 refl;
     }
 

@@ -3,13 +3,13 @@ use Rattle.std.specs.Prelude.{Vec, Contains}
 use Rattle.std.specs.List.{AllZip}
 use Rattle.std.proofs.lemmas.List.{length-replicate, take_at}
 use Rattle.std.proofs.lemmas.Option.{slice_get_within}
-use Rattle.pf_core.proofs.SearchLemmas.{Grows-trans}
+use Rattle.pf_core.proofs.SearchLemmas.{Grows-trans, Grows-refl}
 use Rattle.pf_core.proofs.DepthFirstLemmas.{ends_stand}
-use Rattle.pf_core.proofs.ListLemmas.{none_in}
+use Rattle.pf_base.proofs.ListLemmas.{none_in}
 use Rattle.pf_core.proofs.PathLemmas.{AllZip-map}
 use Rattle.pf_orders.specs.Internal.Rounds.{AreCounted, Falls}
 use Rattle.pf_orders.proofs.ComponentLists.{at_replicate}
-use Rattle.pf_orders.proofs.Outcomes.{refused_as, none_unknown, on_refused, ok_is_no_error, Grows-itself}
+use Rattle.pf_base.proofs.Outcomes.{none_unknown, ok_not_err, on_failed, refused_as}
 use Rattle.pf_orders.proofs.OrderLemmas.{step_of, of_step, of_member, node_of_row}
 use Rattle.pf_orders.proofs.RoundLemmas.{counted_none, counted_push, at_push, get_length, only_memory, memory_of}
 use Rattle.pf_orders.proofs.rows.fill_rows.Goals as goal
@@ -35,7 +35,7 @@ numbers-init g c =
     let found = g.G.NumberedGraph.found c.args.graph.now in
     record {
       same = refl;
-      grown = Grows-itself _ _;
+      grown = Grows-refl _ _;
       explored = λ h x. x;
       counted = rw r.empty (counted_none c.args.counts.now.items (λ j n at. sym (at_replicate found 0 j n (subst (λ xs. slice_get xs j ≡ Some n) r.zeros at))));
       long = ap length r.zeros ∙ length-replicate _ 0 ∙ sym c.found-count.ensures;
@@ -58,11 +58,11 @@ pub returns-in_err-expand : goal.returns-in_err-expand
 returns-in_err-expand g c = record {
   graph = λ h x. c.in_err-expand.ensures.graph h (c.numbers.invariant.explored h x);
   grows = Grows-trans _ _ _ _ _ _ c.numbers.invariant.grown c.in_err-expand.ensures.grows;
-  same = on_refused _ _ c.from_residual.ensures.0;
-  counted = on_refused _ _ c.from_residual.ensures.0;
-  wide = on_refused _ _ c.from_residual.ensures.0;
-  long = on_refused _ _ c.from_residual.ensures.0;
-  listed = λ h x. on_refused _ _ c.from_residual.ensures.0;
+  same = on_failed _ _ c.from_residual.ensures.0;
+  counted = on_failed _ _ c.from_residual.ensures.0;
+  wide = on_failed _ _ c.from_residual.ensures.0;
+  long = on_failed _ _ c.from_residual.ensures.0;
+  listed = λ h x. on_failed _ _ c.from_residual.ensures.0;
   unknown = λ h x u. absurd (only_memory _ _ c.from_residual.ensures.1 c.in_err-expand.ensures.refused.0 u);
   errors = memory_of _ _ c.from_residual.ensures.1 c.in_err-expand.ensures.refused.0;
 }
@@ -114,11 +114,11 @@ pub returns-in_err-count_row : goal.returns-in_err-count_row
 returns-in_err-count_row g c = record {
   graph = λ h x. c.in_ok-expand.ensures.graph h (c.numbers.invariant.explored h x);
   grows = Grows-trans _ _ _ _ _ _ c.numbers.invariant.grown c.in_ok-expand.ensures.grows;
-  same = on_refused _ _ c.from_residual-in_err-count_row.ensures.0;
-  counted = on_refused _ _ c.from_residual-in_err-count_row.ensures.0;
-  wide = on_refused _ _ c.from_residual-in_err-count_row.ensures.0;
-  long = on_refused _ _ c.from_residual-in_err-count_row.ensures.0;
-  listed = λ h x. on_refused _ _ c.from_residual-in_err-count_row.ensures.0;
+  same = on_failed _ _ c.from_residual-in_err-count_row.ensures.0;
+  counted = on_failed _ _ c.from_residual-in_err-count_row.ensures.0;
+  wide = on_failed _ _ c.from_residual-in_err-count_row.ensures.0;
+  long = on_failed _ _ c.from_residual-in_err-count_row.ensures.0;
+  listed = λ h x. on_failed _ _ c.from_residual-in_err-count_row.ensures.0;
   unknown = λ h x u. absurd (only_memory _ _ c.from_residual-in_err-count_row.ensures.1 c.in_err-count_row.ensures.refused u);
   errors = memory_of _ _ c.from_residual-in_err-count_row.ensures.1 c.in_err-count_row.ensures.refused;
 }
@@ -174,7 +174,7 @@ returns g c =
       wide = omega (arith, v.wide, c.numbers-test.false, c.found-count.ensures, c.numbers.auto.number-end);
       long = v.long ∙ c.found-count.ensures;
       listed = v.listed;
-      unknown = λ h x e. absurd (ok_is_no_error e);
+      unknown = λ h x e. absurd (ok_not_err e);
       errors = tt;
     }
 
@@ -182,11 +182,11 @@ pub returns-in_err-push : goal.returns-in_err-push
 returns-in_err-push g c = record {
   graph = λ h x. c.in_ok-expand.ensures.graph h (c.numbers.invariant.explored h x);
   grows = Grows-trans _ _ _ _ _ _ c.numbers.invariant.grown c.in_ok-expand.ensures.grows;
-  same = on_refused _ _ c.from_residual-in_err-push.ensures.0;
-  counted = on_refused _ _ c.from_residual-in_err-push.ensures.0;
-  wide = on_refused _ _ c.from_residual-in_err-push.ensures.0;
-  long = on_refused _ _ c.from_residual-in_err-push.ensures.0;
-  listed = λ h x. on_refused _ _ c.from_residual-in_err-push.ensures.0;
+  same = on_failed _ _ c.from_residual-in_err-push.ensures.0;
+  counted = on_failed _ _ c.from_residual-in_err-push.ensures.0;
+  wide = on_failed _ _ c.from_residual-in_err-push.ensures.0;
+  long = on_failed _ _ c.from_residual-in_err-push.ensures.0;
+  listed = λ h x. on_failed _ _ c.from_residual-in_err-push.ensures.0;
   unknown = λ h x u. absurd (none_unknown c.from_residual-in_err-push.result c.from_residual-in_err-push.ensures.1 u);
   errors = refused_as _ c.from_residual-in_err-push.result _ c.from_residual-in_err-push.ensures.1 (inl refl);
 }

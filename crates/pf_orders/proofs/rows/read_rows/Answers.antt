@@ -1,7 +1,8 @@
 use Rattle.std.proofs.Common.{◌≡◌, ◌∙◌, refl, ap, inl, Err, replicate}
 use Rattle.std.proofs.lemmas.Result.{IfOk-from_err}
 use Rattle.pf_orders.proofs.ComponentLists.{resized_none}
-use Rattle.pf_orders.proofs.Outcomes.{refused_as, error_of, none_unknown, ok_is_no_error, Grows-itself}
+use Rattle.pf_base.proofs.Outcomes.{error_of, none_unknown, ok_not_err, refused_as}
+use Rattle.pf_core.proofs.SearchLemmas.{Grows-refl}
 use Rattle.pf_orders.proofs.rows.read_rows.Goals as goal
 
 pub fill_rows-requires-clause-graph : goal.fill_rows-requires-clause-graph
@@ -36,7 +37,7 @@ returns-in_err-rows g c =
     let r = c.from_residual in
     record {
       graph = λ h x. x;
-      grows = Grows-itself _ _;
+      grows = Grows-refl _ _;
       same = IfOk-from_err _ _ r.ensures.0;
       counted = IfOk-from_err _ _ r.ensures.0;
       wide = IfOk-from_err _ _ r.ensures.0;
@@ -51,7 +52,7 @@ returns-in_err-resize g c =
     let r = c.from_residual-in_err-resize in
     record {
       graph = λ h x. x;
-      grows = Grows-itself _ _;
+      grows = Grows-refl _ _;
       same = IfOk-from_err _ _ r.ensures.0;
       counted = IfOk-from_err _ _ r.ensures.0;
       wide = IfOk-from_err _ _ r.ensures.0;
@@ -72,6 +73,6 @@ returns g c =
       wide = e.wide;
       long = e.long;
       listed = e.listed;
-      unknown = λ h x u. absurd (ok_is_no_error u);
+      unknown = λ h x u. absurd (ok_not_err u);
       errors = tt;
     }

@@ -1,7 +1,7 @@
 use Rattle.std.proofs.Common.{◌≡◌, ◌∙◌, ◌<◌, ◌+◌, ◌+ℤ◌, ℤ, Some, arith, length, refl, sym, ap, subst}
 use Rattle.std.specs.Prelude.{slice_get}
 use Rattle.std.proofs.lemmas.Option.{slice_get_read}
-use Rattle.pf_residual.specs.Flows.{sum_to}
+use Rattle.pf_base.specs.Sums.{sum_to}
 use Rattle.pf_residual.specs.Listings.{ListsNumbers}
 use Rattle.pf_residual.specs.Internal.PartSums.{IsPartSum}
 use Rattle.pf_residual.proofs.ChangeSums.{residual_sum}

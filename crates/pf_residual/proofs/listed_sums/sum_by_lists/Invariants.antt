@@ -1,5 +1,5 @@
 use Rattle.std.proofs.Common.{◌≡◌}
-use Rattle.pf_residual.specs.Flows.{sum_to}
+use Rattle.pf_base.specs.Sums.{sum_to}
 use Rattle.pf_residual.specs.Internal.PartSums.{IsPartSum}
 use Rattle.pf_residual.proofs.listed_sums.sum_by_lists.Given as goal
 

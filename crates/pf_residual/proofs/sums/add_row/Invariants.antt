@@ -1,5 +1,5 @@
 use Rattle.std.proofs.Common.{◌≡◌, ◌+ℤ◌}
-use Rattle.pf_residual.specs.Flows.{sum_to}
+use Rattle.pf_base.specs.Sums.{sum_to}
 use Rattle.pf_residual.proofs.sums.add_row.Given as goal
 
 abbrev pub invariant-ends : goal.invariant-ends

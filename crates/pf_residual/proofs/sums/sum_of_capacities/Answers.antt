@@ -1,5 +1,5 @@
 use Rattle.std.proofs.Common.{◌≡◌, ◌∙◌, arith, ap}
-use Rattle.pf_residual.specs.Flows.{sum_to}
+use Rattle.pf_base.specs.Sums.{sum_to}
 use Rattle.pf_residual.proofs.ChangeSums.{residual_sum}
 use Rattle.pf_residual.proofs.NetworkLemmas.{balanced_of}
 use Rattle.pf_residual.proofs.sums.sum_of_capacities.Goals as goal

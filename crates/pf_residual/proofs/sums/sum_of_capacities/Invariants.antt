@@ -1,5 +1,5 @@
 use Rattle.std.proofs.Common.{◌≡◌}
-use Rattle.pf_residual.specs.Flows.{sum_to}
+use Rattle.pf_base.specs.Sums.{sum_to}
 use Rattle.pf_residual.proofs.sums.sum_of_capacities.Given as goal
 
 abbrev pub invariant-rows : goal.invariant-rows

@@ -4,7 +4,7 @@ use Rattle.std.proofs.lemmas.Result.{IfOk-from_err}
 use Rattle.pf_core.specs.Nodes.{TestedGraph}
 use Rattle.pf_tables.specs.Graphs.{graph_of}
 use Rattle.pf_tables.specs.Internal.Numbering.{IsTable}
-use Rattle.pf_tables.proofs.Outcomes.{refused_as, no_overflow, ok_is_no_error}
+use Rattle.pf_base.proofs.Outcomes.{no_overflow, ok_not_err, refused_as}
 use Rattle.pf_tables.proofs.Alone.{no_walk_alone, cheapest_alone}
 use Rattle.pf_tables.proofs.GraphLemmas.{edge_from_zero}
 use Rattle.pf_tables.proofs.ExploreLemmas.{edges_outside, edges_within}
@@ -24,7 +24,7 @@ returns-then-not-is_goal g c = record {
   best = let edges = graph_of g.C.Number.value (g.G.Graph.size c.args.graph.now) (g.G.Graph.places c.args.graph.now) in
       let outside = edges_outside g.C.Number.value (g.G.Graph.size c.args.graph.now) (g.G.Graph.places c.args.graph.now) c.args.from (omega (arith, c.if-from-len.true, c.len.ensures)) in
       no_walk_alone nat_eq_equiv c.args.from (g.T.Goals.passes c.args.goals) (λ a e. ap (g.T.Goals.passes c.args.goals) (eqb-true c.args.from a e)) edges outside (sym c.is_goal.ensures ∙ c.if-not-is_goal.true);
-  overflow = λ e. absurd (ok_is_no_error e);
+  overflow = λ e. absurd (ok_not_err e);
   errors = tt;
 }
 
@@ -43,7 +43,7 @@ returns-then-from-len g c = record {
       let outside = edges_outside g.C.Number.value (g.G.Graph.size c.args.graph.now) (g.G.Graph.places c.args.graph.now) c.args.from (omega (arith, c.if-from-len.true, c.len.ensures)) in
       let zero : g.C.Number.value c.zero.result ≡ pos 0 = search rules in
       rw (c.in_ok-path.ensures.one, zero) (cheapest_alone nat_eq_equiv c.args.from (g.T.Goals.passes c.args.goals) (λ a e. ap (g.T.Goals.passes c.args.goals) (eqb-true c.args.from a e)) edges outside (search rules));
-  overflow = λ e. absurd (ok_is_no_error e);
+  overflow = λ e. absurd (ok_not_err e);
   errors = tt;
 }
 

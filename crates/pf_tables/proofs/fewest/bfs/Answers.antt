@@ -7,7 +7,7 @@ use Rattle.pf_core.specs.Hops.{unit_edges}
 use Rattle.pf_core.proofs.WalkLemmas.{no_walk, best_answer}
 use Rattle.pf_core.proofs.UnitLemmas.{is_hop, no_next_walk, fewest_of_best, begins_all}
 use Rattle.pf_tables.specs.Graphs.{successors_of}
-use Rattle.pf_tables.proofs.Outcomes.{refused_as}
+use Rattle.pf_base.proofs.Outcomes.{refused_as}
 use Rattle.pf_tables.proofs.Alone.{no_way_alone, fewest_alone}
 use Rattle.pf_tables.proofs.ExploreLemmas.{nat_alike, units_listed, successors_outside, starts_below, explored_first}
 use borrow.Author.Tests.{eqb-true}

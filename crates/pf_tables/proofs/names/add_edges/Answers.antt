@@ -3,7 +3,7 @@ use Rattle.std.proofs.lemmas.Option.{slice_get_read}
 use Rattle.indexmap.specs.IndexSet.{insert_key}
 use Rattle.pf_base.specs.NodeRefs.{nodes_of}
 use Rattle.pf_tables.specs.EdgeLists.{names_of, number_in}
-use Rattle.pf_tables.proofs.Outcomes.{on_refused}
+use Rattle.pf_base.proofs.Outcomes.{on_failed}
 use Rattle.pf_tables.proofs.NumberedNames.{numbered, more_names, more_numbers, refs_insert, refs_number}
 use Rattle.pf_tables.proofs.names.add_edges.Goals as goal
 
@@ -17,24 +17,24 @@ pub returns-in_err-from : goal.returns-in_err-from
 returns-in_err-from g c =
     let r = c.from_residual in
     record {
-      names = on_refused _ _ r.ensures.0;
-      numbered = on_refused _ _ r.ensures.0;
+      names = on_failed _ _ r.ensures.0;
+      numbered = on_failed _ _ r.ensures.0;
     }
 
 pub returns-in_err-to : goal.returns-in_err-to
 returns-in_err-to g c =
     let r = c.from_residual-in_err-to in
     record {
-      names = on_refused _ _ r.ensures.0;
-      numbered = on_refused _ _ r.ensures.0;
+      names = on_failed _ _ r.ensures.0;
+      numbered = on_failed _ _ r.ensures.0;
     }
 
 pub returns-in_err-push : goal.returns-in_err-push
 returns-in_err-push g c =
     let r = c.from_residual-in_err-push in
     record {
-      names = on_refused _ _ r.ensures.0;
-      numbered = on_refused _ _ r.ensures.0;
+      names = on_failed _ _ r.ensures.0;
+      numbered = on_failed _ _ r.ensures.0;
     }
 
 pub loop-edge-preserved : goal.loop-edge-preserved

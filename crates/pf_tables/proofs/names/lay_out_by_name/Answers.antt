@@ -5,14 +5,14 @@ use Rattle.std.proofs.lemmas.Result.{IfOk-from_err}
 use Rattle.pf_tables.specs.EdgeLists.{names_of}
 use Rattle.pf_tables.specs.Internal.Layouts.{AreOffsets, ArePlaced, numbered_ends}
 use Rattle.pf_tables.proofs.EdgeListLemmas.{come_from_names}
-use Rattle.pf_tables.proofs.Outcomes.{on_refused, on_any}
+use Rattle.pf_base.proofs.Outcomes.{on_any, on_failed}
 use Rattle.pf_tables.proofs.names.lay_out_by_name.Goals as goal
 
 pub returns-in_err-numbered : goal.returns-in_err-numbered
 returns-in_err-numbered g c =
     let r = c.from_residual in
     record {
-      names = on_refused _ _ r.ensures.0;
+      names = on_failed _ _ r.ensures.0;
       offsets = IfOk-from_err _ _ r.ensures.0;
       targets = IfOk-from_err _ _ r.ensures.0;
     }
@@ -21,7 +21,7 @@ pub returns-in_err-add_edges : goal.returns-in_err-add_edges
 returns-in_err-add_edges g c =
     let r = c.from_residual-in_err-add_edges in
     record {
-      names = on_refused _ _ r.ensures.0;
+      names = on_failed _ _ r.ensures.0;
       offsets = IfOk-from_err _ _ r.ensures.0;
       targets = IfOk-from_err _ _ r.ensures.0;
     }

@@ -7,7 +7,7 @@ use Rattle.std.proofs.lemmas.Result.{IfOk-from_err}
 use Rattle.pf_base.specs.NodeRefs.{nodes_of}
 use Rattle.pf_core.proofs.ListLemmas.{Contains-index, at_place}
 use Rattle.pf_core.proofs.PathLemmas.{AllZip-append}
-use Rattle.pf_tables.proofs.Outcomes.{refused_as}
+use Rattle.pf_base.proofs.Outcomes.{refused_as}
 use Rattle.pf_tables.proofs.names.names_at.Goals as goal
 
 pub returns-in_err-answer : goal.returns-in_err-answer

@@ -2,7 +2,7 @@ use Rattle.std.proofs.Common.{◌∙◌, ap, length, arith}
 use Rattle.std.proofs.lemmas.List.{length-set, length-replicate}
 use Rattle.pf_yen.proofs.SplitLemmas.{filtered_first, filtered_on, spur_inside}
 use Rattle.std.proofs.lemmas.Result.{IfOk-from_err}
-use Rattle.pf_yen.proofs.ResultLemmas.{refused_as}
+use Rattle.pf_base.proofs.Outcomes.{refused_as}
 use Rattle.pf_yen.proofs.classes.filtered_along.Goals as goal
 
 pub places-init : goal.places-init

@@ -5,7 +5,7 @@ use Rattle.pf_yen.specs.Internal.Adjacency.{AdjacencyLists, is_goal}
 use Rattle.pf_yen.specs.Internal.Filtered.{FilteredLists, FilteredStep, StandsForItself}
 use Rattle.pf_yen.proofs.FilteredWalks.{filtered_from_zero, none_left, best_clean, best_member, best_least}
 use Rattle.std.proofs.lemmas.Result.{IfOk-from_err}
-use Rattle.pf_yen.proofs.ResultLemmas.{handed_on, ok_is_no_error, refused_as}
+use Rattle.pf_base.proofs.Outcomes.{ok_is_no_error, overflow_kept, refused_as}
 use Rattle.pf_yen.proofs.classes.least_of_class.Goals as goal
 
 pub returns-in-None-clause-least : goal.returns-in-None-clause-least
@@ -53,7 +53,7 @@ returns-in_err-answer g c = record {
       let s = c.args.filtered.now in
       let here : FilteredLists g.row.C.Denot = record { adjacency = s.adjacency.now; onward = s.onward.items; spur = s.spur; banned = s.banned.items } in
       let x = c.in_err-answer.ensures.graph here (refl, c.requires.whole.inside, c.requires.wide) in
-      let f : c.in_err-answer.field-0.0 ≡ CostOverflow = handed_on c.from_residual.result c.in_err-answer.field-0.0 c.from_residual.ensures.1 e in
+      let f : c.in_err-answer.field-0.0 ≡ CostOverflow = overflow_kept c.from_residual.result c.in_err-answer.field-0.0 c.from_residual.ensures.1 e in
       let d = c.in_err-answer.ensures.overflow here (refl, c.requires.whole.inside, c.requires.wide) (filtered_from_zero g.C.Number.value here c.requires.whole) (ap Err f) in
       subst (λ (k : AdjacencyLists g.row.C.Denot). IsTooDear (FilteredStep g.C.Number.value here) (is_goal s.adjacency.now) (StandsForItself (length s.adjacency.now.rows) 0) (StandsForItself (length k.rows)) g.C.Number.fits) (sym (ap (λ (h : FilteredLists g.row.C.Denot). h.adjacency) x.0)) d;
   banned = IfOk-from_err _ _ c.from_residual.ensures.0;

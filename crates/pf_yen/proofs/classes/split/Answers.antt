@@ -8,7 +8,7 @@ use Rattle.pf_yen.specs.Internal.Splits.{IsFilteredTo, IsSplitUpTo}
 use Rattle.pf_yen.proofs.SplitLemmas.{filtered_on, spur_inside, split_first, split_none, split_some, split_last, past_here}
 use Rattle.pf_yen.proofs.classes.split.Goals.{in-Some+in_ok-push-2, in_default}
 use Rattle.std.proofs.lemmas.Result.{IfOk-from_err}
-use Rattle.pf_yen.proofs.ResultLemmas.{handed_on, no_overflow, ok_is_no_error, refused_as}
+use Rattle.pf_base.proofs.Outcomes.{no_overflow, ok_is_no_error, overflow_kept, refused_as}
 use Rattle.pf_yen.proofs.classes.split.Goals as goal
 
 pub places-init : goal.places-init
@@ -67,7 +67,7 @@ returns-in_err-plan g c = record {
       let value = g.C.Number.value in
       let i = c.places.invariant in
       let s = c.places.filtered in
-      let f : c.in_err-plan.field-0.0 ≡ CostOverflow = handed_on c.from_residual-in_err-plan.result c.in_err-plan.field-0.0 c.from_residual-in_err-plan.ensures.1 x in
+      let f : c.in_err-plan.field-0.0 ≡ CostOverflow = overflow_kept c.from_residual-in_err-plan.result c.in_err-plan.field-0.0 c.from_residual-in_err-plan.ensures.1 x in
       let n = c.index-next.result.now in
       let at : n ≡ slice_index_or c.args.candidate.now.path.items (c.places.place + 1) n = c.index-next.ensures in
       let inside : c.places.place + 1 < length c.args.candidate.now.path.items = omega (arith, c.len-place-end.ensures, c.places-test.true) in

@@ -8,7 +8,7 @@ use Rattle.pf_yen.proofs.FilteredLemmas.{in_none, below_more, none_between}
 use Rattle.pf_yen.proofs.ExploreLemmas.{learned_grow, learned_add, lists_live, lists_none}
 use Rattle.pf_yen.proofs.explore.explore_next.Goals.{then-not-goal+in_ok-expand, else-not-goal}
 use Rattle.std.proofs.lemmas.Result.{IfOk-from_err}
-use Rattle.pf_yen.proofs.ResultLemmas.{refused_as}
+use Rattle.pf_base.proofs.Outcomes.{refused_as}
 use Rattle.pf_yen.proofs.explore.explore_next.Goals as goal
 
 pub is_goal-goal-requires-clause-inside : goal.is_goal-goal-requires-clause-inside

@@ -1,6 +1,6 @@
 use Rattle.std.proofs.Common.{ℕ, List, [], ◌∷◌, ◌++◌, ◌∙◌, refl, sym, ap, take, reverse}
 use Rattle.std.proofs.lemmas.Result.{IfOk-from_err}
-use Rattle.pf_core.proofs.Outcomes.{refused_as, no_memory, on_err}
+use Rattle.pf_base.proofs.Outcomes.{no_memory, on_err, refused_as}
 use Rattle.pf_core.proofs.ReadLemmas.{within_found, same_visited}
 use Rattle.pf_core.proofs.VisitLemmas.{IsReady, IsReady-same, IsReady-filled, visited_more, not_full, room_left, branches_put}
 use Rattle.pf_core.proofs.depth_first.DepthFirst.note.Goals.{then-len-found+in_ok-resize, else-len-found}

@@ -3,7 +3,7 @@ use Rattle.std.proofs.lemmas.Result.{IfOk-from_err}
 use Rattle.std.specs.List.{AllZip}
 use Rattle.pf_core.proofs.DepthFirstLemmas.{ends_stand}
 use Rattle.pf_core.proofs.SearchLemmas.{Grows-back}
-use Rattle.pf_core.proofs.Outcomes.{refused_as, on_err}
+use Rattle.pf_base.proofs.Outcomes.{on_err, refused_as}
 use Rattle.pf_core.proofs.ReadLemmas.{within_found}
 use Rattle.pf_core.proofs.depth_first.DepthFirst.visit.Goals as goal
 

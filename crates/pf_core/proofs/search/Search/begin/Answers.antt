@@ -8,7 +8,7 @@ use Rattle.pf_core.specs.Search.{IsSound}
 use Rattle.pf_core.specs.Labels.{Labels, settled_count}
 use Rattle.pf_core.proofs.LabelLemmas.{none_widened, first_there, only_first, tree_start}
 use Rattle.pf_core.proofs.QueueLemmas.{IsQueue-none, IsQueue-lower}
-use Rattle.pf_core.proofs.Outcomes.{refused_as, no_memory}
+use Rattle.pf_base.proofs.Outcomes.{no_memory, refused_as}
 use Rattle.pf_core.proofs.ReadLemmas.{least_zero, none_settled}
 use Rattle.pf_core.proofs.search.Search.begin.Goals as goal
 

@@ -7,7 +7,7 @@ use Rattle.pf_core.specs.Labels.{by_cost, Follows}
 use Rattle.pf_core.specs.Queue.{entry_cmp, IsQueue}
 use Rattle.pf_core.proofs.LabelLemmas.{HasLabel-inside, label_is}
 use Rattle.pf_core.proofs.TurnLemmas.{least_is, len_settled, queue_settled, follows, follows_row, tree_followed}
-use Rattle.pf_core.proofs.Outcomes.{on_err, refused_as, no_memory_or, memory_no_overflow, no_overflow, ok_not_err}
+use Rattle.pf_base.proofs.Outcomes.{memory_no_overflow, no_memory_or, no_overflow, ok_not_err, on_err, refused_as}
 use Rattle.pf_core.proofs.ReadLemmas.{within_found, same_row, IsSound-still, IsHeap-still}
 use Rattle.pf_core.proofs.search.Search.follow.Goals as goal
 
@@ -121,6 +121,6 @@ returns g c =
           subst (λ (n : Label g.row.C.Denot). Follows g.C.Number.value g.C.Number.fits c.args.found c.args.number n c.args.self.now.row.items labels c.relax.new.labels.items) (label_is labels c.args.number l m c.label_of-label.ensures h)
           (follows_row g.C.Number.value g.C.Number.fits c.args.found c.args.number l c.sums_fit.new.row c.args.self.now.row.items row labels _ f);
       kept = tt;
-      overflow = λ e. absurd (ok_not_err _ _ e);
+      overflow = λ e. absurd (ok_not_err e);
       errors = tt;
     }

@@ -3,7 +3,7 @@ use Rattle.std.proofs.lemmas.Result.{IfOk-from_err}
 use Rattle.pf_core.proofs.LabelLemmas.{HasLabel-inside}
 use Rattle.pf_core.proofs.SearchLemmas.{Grows-back}
 use Rattle.pf_core.proofs.TurnLemmas.{turned, search_followed, dear_step, barred_step, within_range}
-use Rattle.pf_core.proofs.Outcomes.{refused_as, on_err, ok_not_err, no_overflow}
+use Rattle.pf_base.proofs.Outcomes.{no_overflow, ok_not_err, on_err, refused_as}
 use Rattle.pf_core.proofs.ReadLemmas.{same_most, within_found, wide_now}
 use Rattle.pf_core.proofs.search.Search.turn.Goals as goal
 
@@ -81,8 +81,8 @@ returns g c = record {
   grows = c.expand.ensures.grows;
   graph = c.expand.ensures.graph;
   kept = tt;
-  overflow = λ e. absurd (ok_not_err _ _ e);
-  barred = λ e. absurd (ok_not_err _ _ e);
+  overflow = λ e. absurd (ok_not_err e);
+  barred = λ e. absurd (ok_not_err e);
   errors = tt;
 }
 

@@ -4,7 +4,8 @@ use Rattle.std.proofs.lemmas.List.{length-set, length-replicate}
 use Rattle.std.proofs.lemmas.Result.{IfOk-from_err}
 use Rattle.pf_core.proofs.ListLemmas.{on_ok}
 use Rattle.pf_residual.specs.Internal.Steps.{AreSteps}
-use Rattle.pf_residual.proofs.LevelListLemmas.{resized, found_begun}
+use Rattle.pf_residual.proofs.LevelListLemmas.{found_begun}
+use Rattle.pf_base.proofs.ListLemmas.{resized}
 use Rattle.pf_residual.proofs.NamedLemmas.{ok_when, refused_by}
 use Rattle.pf_flow.proofs.levels.Levels.begin.Goals as goal
 

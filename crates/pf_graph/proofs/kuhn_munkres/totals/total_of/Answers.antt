@@ -2,7 +2,7 @@ use Rattle.std.proofs.Common.{ℕ, ◌<◌, ◌+◌, arith, ap, ◌∙◌, add-o
 use Rattle.std.specs.Prelude.{slice_index, ◌+ℤ◌}
 use Rattle.std.proofs.lemmas.Int.{ints}
 use Rattle.pf_graph.proofs.Assignment.MatchingWeights.{room, sum_to-bound}
-use Rattle.pf_graph.specs.Assignments.{sum_to}
+use Rattle.pf_base.specs.Sums.{sum_to}
 use Rattle.pf_graph.proofs.kuhn_munkres.totals.total_of.Goals as goal
 
 pub plus-total-requires-clause-negation : goal.plus-total-requires-clause-negation

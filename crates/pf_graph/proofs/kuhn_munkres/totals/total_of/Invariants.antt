@@ -1,6 +1,6 @@
 use Rattle.std.proofs.Common.{◌≡◌}
 use Rattle.std.specs.Prelude.{slice_index}
-use Rattle.pf_graph.specs.Assignments.{sum_to}
+use Rattle.pf_base.specs.Sums.{sum_to}
 use Rattle.pf_graph.proofs.kuhn_munkres.totals.total_of.Given as goal
 
 -- the total of the rows so far

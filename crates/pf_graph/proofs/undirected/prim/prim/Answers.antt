@@ -6,7 +6,7 @@ use Rattle.pf_graph.specs.EdgesByReference.{shown}
 use Rattle.pf_graph.specs.Internal.Spanning.Frontier.{HasStep, HoldSteps, AreRows, IsMarked}
 use Rattle.pf_graph.specs.GrownTree.{GrowsByLeast, IsLeastAround}
 use Rattle.pf_graph.specs.Spanning.{IsForest, AreBelow}
-use Rattle.pf_graph.proofs.ListLemmas.{none_in}
+use Rattle.pf_base.proofs.ListLemmas.{none_in}
 use Rattle.pf_graph.proofs.Spanning.ForestLemmas.{IsForest-nil}
 use Rattle.pf_graph.proofs.Spanning.NameLemmas.{numbered_below}
 use Rattle.pf_graph.proofs.Spanning.PrimLemmas.{no_mark, no_start, first_is, start_is, are_rows, steps_inside, first_stands, first_inside}

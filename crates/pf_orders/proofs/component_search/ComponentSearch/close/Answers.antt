@@ -1,7 +1,7 @@
 use Rattle.std.proofs.Common.{refl, sym, ap, length}
 use Rattle.pf_orders.proofs.ComponentLists.{popped}
 use Rattle.pf_orders.proofs.SegmentLemmas.{inside_path, component_put, places_closed}
-use Rattle.pf_orders.proofs.Outcomes.{refused_as, on_refused}
+use Rattle.pf_base.proofs.Outcomes.{on_failed, refused_as}
 use Rattle.pf_orders.proofs.component_search.ComponentSearch.close.Goals as goal
 
 pub returns-in_err-component : goal.returns-in_err-component
@@ -9,10 +9,10 @@ returns-in_err-component g c =
     let r = c.from_residual in
     record {
       waiting = refl;
-      path = on_refused _ _ r.ensures.0;
-      segments = on_refused _ _ r.ensures.0;
-      components = on_refused _ _ r.ensures.0;
-      places = on_refused _ _ r.ensures.0;
+      path = on_failed _ _ r.ensures.0;
+      segments = on_failed _ _ r.ensures.0;
+      components = on_failed _ _ r.ensures.0;
+      places = on_failed _ _ r.ensures.0;
       refused = refused_as _ r.result _ r.ensures.1 refl;
     }
 
@@ -21,10 +21,10 @@ returns-in_err-push g c =
     let r = c.from_residual-in_err-push in
     record {
       waiting = refl;
-      path = on_refused _ _ r.ensures.0;
-      segments = on_refused _ _ r.ensures.0;
-      components = on_refused _ _ r.ensures.0;
-      places = on_refused _ _ r.ensures.0;
+      path = on_failed _ _ r.ensures.0;
+      segments = on_failed _ _ r.ensures.0;
+      components = on_failed _ _ r.ensures.0;
+      places = on_failed _ _ r.ensures.0;
       refused = refused_as _ r.result _ r.ensures.1 refl;
     }
 

@@ -8,7 +8,8 @@ use Rattle.pf_orders.specs.Internal.ComponentSearch.{IsAt}
 use Rattle.pf_orders.proofs.ComponentLists.{ends_at, at_ends, none_left, popped, last_waits}
 use Rattle.pf_orders.proofs.ComponentPlaces.{none_open}
 use Rattle.pf_orders.proofs.TurnLemmas.{read_place, placed_closed, path_closed, closing_closed, last_inside, placed_passed, path_passed, placed_joined, path_joined, placed_visited, path_visited, closed_grows, list_linked, list_complete}
-use Rattle.pf_orders.proofs.Outcomes.{refused_as, on_refused, Grows-itself}
+use Rattle.pf_base.proofs.Outcomes.{on_failed, refused_as}
+use Rattle.pf_core.proofs.SearchLemmas.{Grows-refl}
 use Rattle.pf_orders.proofs.component_search.ComponentSearch.turn.Goals as goal
 
 pub close-requires-clause-inside : goal.close-requires-clause-inside
@@ -24,11 +25,11 @@ pub returns-in_err-close : goal.returns-in_err-close
 returns-in_err-close g c =
     let r = c.from_residual in
     record {
-      grows = Grows-itself _ _;
+      grows = Grows-refl _ _;
       graph = λ h x. x;
-      placed = on_refused _ _ r.ensures.0;
-      path = on_refused _ _ r.ensures.0;
-      closing = on_refused _ _ r.ensures.0;
+      placed = on_failed _ _ r.ensures.0;
+      path = on_failed _ _ r.ensures.0;
+      closing = on_failed _ _ r.ensures.0;
       ended = IfOk-from_err _ _ r.ensures.0;
       refused = refused_as _ r.result _ r.ensures.1 c.in_err-close.ensures.refused;
     }
@@ -38,7 +39,7 @@ returns-in-Some g c =
     let s = c.in-Some.ensures.spent in
     let e = c.in_ok-close.ensures in
     record {
-      grows = Grows-itself _ _;
+      grows = Grows-refl _ _;
       graph = λ h x. x;
       placed = placed_closed _ _ _ _ _ _ c.requires.placed _ s.0 s.1 s.2 _ e.places _ _ _ _ e.waiting e.path e.segments e.components;
       path = λ h x o. path_closed _ _ _ _ _ _ c.requires.placed _ s.0 s.1 s.2 _ e.places _ _ _ [] _ _ o s.3 e.waiting e.path e.segments;
@@ -49,7 +50,7 @@ returns-in-Some g c =
 
 pub returns-in_default-copied : goal.returns-in_default-copied
 returns-in_default-copied g c = record {
-  grows = Grows-itself _ _;
+  grows = Grows-refl _ _;
   graph = λ h x. x;
   placed =
       c.requires.placed;
@@ -91,9 +92,9 @@ returns-in_err-expand-in-New g c =
     record {
       grows = c.in_err-expand-in-New.ensures.grows;
       graph = c.in_err-expand-in-New.ensures.graph;
-      placed = on_refused _ _ r.ensures.0;
-      path = on_refused _ _ r.ensures.0;
-      closing = on_refused _ _ r.ensures.0;
+      placed = on_failed _ _ r.ensures.0;
+      path = on_failed _ _ r.ensures.0;
+      closing = on_failed _ _ r.ensures.0;
       ended = IfOk-from_err _ _ r.ensures.0;
       refused = refused_as _ r.result _ r.ensures.1 c.in_err-expand-in-New.ensures.refused.0;
     }
@@ -104,9 +105,9 @@ returns-in_err-visit-in-New g c =
     record {
       grows = c.in_ok-expand-in-New.ensures.grows;
       graph = c.in_ok-expand-in-New.ensures.graph;
-      placed = on_refused _ _ r.ensures.0;
-      path = on_refused _ _ r.ensures.0;
-      closing = on_refused _ _ r.ensures.0;
+      placed = on_failed _ _ r.ensures.0;
+      path = on_failed _ _ r.ensures.0;
+      closing = on_failed _ _ r.ensures.0;
       ended = IfOk-from_err _ _ r.ensures.0;
       refused = refused_as _ r.result _ r.ensures.1 c.in_err-visit-in-New.ensures.refused;
     }
@@ -144,7 +145,7 @@ returns-in-Open g c =
     let here : IsAt c.args.self.now.places.items c.in-Some-copied.number (Open c.in-Open.place) = read_place _ _ _ c.index.result.now (Open c.in-Open.place) p.long (p.waits _ _ last) c.index.ensures c.in-Open.is in
     let rest = popped _ _ _ _ c.pop.ensures.rest c.deref.ensures.len c.deref.ensures.value in
     record {
-      grows = Grows-itself _ _;
+      grows = Grows-refl _ _;
       graph = λ h x. x;
       placed = placed_joined _ _ _ _ _ _ p _ last _ rest _ here c.in_default.ensures.left _ c.join_segments.ensures;
       path = λ h x o. path_joined _ _ _ _ _ _ p _ last _ rest _ here c.in_default.ensures.left _ c.join_segments.ensures _ _ o;
@@ -160,7 +161,7 @@ returns-in-Closed g c =
     let closed : IsAt c.args.self.now.places.items c.in-Some-copied.number Closed = read_place _ _ _ c.index.result.now Closed p.long (p.waits _ _ last) c.index.ensures c.in-Closed.is in
     let rest = popped _ _ _ _ c.pop-in-Closed.ensures.rest c.deref.ensures.len c.deref.ensures.value in
     record {
-      grows = Grows-itself _ _;
+      grows = Grows-refl _ _;
       graph = λ h x. x;
       placed = placed_passed _ _ _ _ _ _ p _ last _ rest closed c.in_default.ensures.left;
       path = λ h x o. path_passed _ _ _ _ _ _ p _ last _ rest _ _ o closed;

@@ -1,17 +1,17 @@
 use Rattle.std.proofs.Common.{refl, sym, ap, arith, ℕ, List, ◌∙◌, ◌++◌, ◌-◌, length, take}
 use Rattle.pf_orders.proofs.ComponentLists.{popped}
 use Rattle.pf_orders.proofs.SegmentLemmas.{place_opened, segment_begun}
-use Rattle.pf_orders.proofs.Outcomes.{refused_as, on_refused}
+use Rattle.pf_base.proofs.Outcomes.{on_failed, refused_as}
 use Rattle.pf_orders.proofs.component_search.ComponentSearch.visit.Goals as goal
 
 pub returns-in_err-resize : goal.returns-in_err-resize
 returns-in_err-resize g c =
     let r = c.from_residual in
     record {
-      path = on_refused _ _ r.ensures.0;
-      waiting = on_refused _ _ r.ensures.0;
-      segments = on_refused _ _ r.ensures.0;
-      places = on_refused _ _ r.ensures.0;
+      path = on_failed _ _ r.ensures.0;
+      waiting = on_failed _ _ r.ensures.0;
+      segments = on_failed _ _ r.ensures.0;
+      places = on_failed _ _ r.ensures.0;
       components = refl;
       refused = refused_as _ r.result _ r.ensures.1 refl;
     }
@@ -20,10 +20,10 @@ pub returns-in_err-push : goal.returns-in_err-push
 returns-in_err-push g c =
     let r = c.from_residual-in_err-push in
     record {
-      path = on_refused _ _ r.ensures.0;
-      waiting = on_refused _ _ r.ensures.0;
-      segments = on_refused _ _ r.ensures.0;
-      places = on_refused _ _ r.ensures.0;
+      path = on_failed _ _ r.ensures.0;
+      waiting = on_failed _ _ r.ensures.0;
+      segments = on_failed _ _ r.ensures.0;
+      places = on_failed _ _ r.ensures.0;
       components = refl;
       refused = refused_as _ r.result _ r.ensures.1 refl;
     }
@@ -32,10 +32,10 @@ pub returns-in_err-push-2 : goal.returns-in_err-push-2
 returns-in_err-push-2 g c =
     let r = c.from_residual-in_err-push-2 in
     record {
-      path = on_refused _ _ r.ensures.0;
-      waiting = on_refused _ _ r.ensures.0;
-      segments = on_refused _ _ r.ensures.0;
-      places = on_refused _ _ r.ensures.0;
+      path = on_failed _ _ r.ensures.0;
+      waiting = on_failed _ _ r.ensures.0;
+      segments = on_failed _ _ r.ensures.0;
+      places = on_failed _ _ r.ensures.0;
       components = refl;
       refused = refused_as _ r.result _ r.ensures.1 refl;
     }
@@ -44,10 +44,10 @@ pub returns-in_err-extend_from_slice : goal.returns-in_err-extend_from_slice
 returns-in_err-extend_from_slice g c =
     let r = c.from_residual-in_err-extend_from_slice in
     record {
-      path = on_refused _ _ r.ensures.0;
-      waiting = on_refused _ _ r.ensures.0;
-      segments = on_refused _ _ r.ensures.0;
-      places = on_refused _ _ r.ensures.0;
+      path = on_failed _ _ r.ensures.0;
+      waiting = on_failed _ _ r.ensures.0;
+      segments = on_failed _ _ r.ensures.0;
+      places = on_failed _ _ r.ensures.0;
       components = refl;
       refused = refused_as _ r.result _ r.ensures.1 refl;
     }

@@ -4,7 +4,7 @@ use Rattle.std.proofs.lemmas.List.{map-append, length-map, take_all}
 use Rattle.std.proofs.lemmas.Result.{IfOk-from_err}
 use Rattle.pf_orders.specs.StrongComponents.{lists_of}
 use Rattle.pf_orders.proofs.ComponentLists.{contained_at, zip_one_more, list_at}
-use Rattle.pf_orders.proofs.Outcomes.{refused_as}
+use Rattle.pf_base.proofs.Outcomes.{refused_as}
 use Rattle.pf_orders.proofs.directed.strongly_connected_components.components_at.Goals as goal
 
 pub returns-in_err-answer : goal.returns-in_err-answer

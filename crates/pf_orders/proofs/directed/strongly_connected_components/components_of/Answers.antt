@@ -1,6 +1,6 @@
 use Rattle.std.proofs.Common.{◌<◌, ℕ, length, ap, sym, subst, arith}
 use Rattle.pf_core.proofs.UnitLemmas.{begins_all, starts_stand}
-use Rattle.pf_orders.specs.Internal.Beginnings.{hops_from}
+use Rattle.pf_core.specs.Hops.{hops_from}
 use Rattle.pf_orders.specs.StrongComponents.{lists_of}
 use Rattle.pf_orders.proofs.ComponentLists.{if_ok}
 use Rattle.pf_orders.proofs.ComponentNodes.{strong_components_of}

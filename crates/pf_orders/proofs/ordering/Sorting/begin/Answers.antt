@@ -5,7 +5,7 @@ use Rattle.pf_core.proofs.ListLemmas.{nat_dec, Contains-append_one, Contains-rev
 use Rattle.pf_orders.specs.declared.ordering.Turn.{Turn}
 use Rattle.pf_orders.specs.declared.ordering.Mark.TheVariants.{New}
 use Rattle.pf_orders.proofs.ComponentLists.{resized_none}
-use Rattle.pf_orders.proofs.Outcomes.{refused_as}
+use Rattle.pf_base.proofs.Outcomes.{refused_as}
 use Rattle.pf_orders.proofs.OrderLemmas.{Contains-left, Contains-last, to_reverse}
 use Rattle.pf_orders.proofs.ordering.Sorting.begin.Goals as goal
 

@@ -7,7 +7,7 @@ use Rattle.pf_core.proofs.ListLemmas.{on_ok}
 use Rattle.pf_orders.specs.declared.ordering.Turn.{Turn}
 use Rattle.pf_orders.specs.declared.ordering.Mark.{Mark}
 use Rattle.pf_orders.specs.Internal.Orderings.{entries}
-use Rattle.pf_orders.proofs.Outcomes.{refused_as, on_refused, on_any}
+use Rattle.pf_base.proofs.Outcomes.{on_any, on_failed, refused_as}
 use Rattle.pf_orders.proofs.ComponentLists.{set_length}
 use Rattle.pf_orders.proofs.OrderLemmas.{step_of}
 use Rattle.pf_orders.proofs.ordering.Sorting.enter.Goals as goal
@@ -31,9 +31,9 @@ returns-in_err-expand g c =
     record {
       grows = c.in_err-expand.ensures.grows;
       graph = c.in_err-expand.ensures.graph;
-      marks = on_refused _ _ r.ensures.0;
-      left = on_refused _ _ r.ensures.0;
-      turns = on_refused _ _ r.ensures.0;
+      marks = on_failed _ _ r.ensures.0;
+      left = on_failed _ _ r.ensures.0;
+      turns = on_failed _ _ r.ensures.0;
       refused = refused_as _ r.result _ r.ensures.1 c.in_err-expand.ensures.refused.0;
     }
 
@@ -46,9 +46,9 @@ returns-in_err-resize g c =
     record {
       grows = c.in_ok-expand.ensures.grows;
       graph = c.in_ok-expand.ensures.graph;
-      marks = on_refused _ _ r.ensures.0;
-      left = on_refused _ _ r.ensures.0;
-      turns = on_refused _ _ r.ensures.0;
+      marks = on_failed _ _ r.ensures.0;
+      left = on_failed _ _ r.ensures.0;
+      turns = on_failed _ _ r.ensures.0;
       refused = refused_as _ r.result _ r.ensures.1 refl;
     }
 
@@ -58,9 +58,9 @@ returns-in_err-push g c =
     record {
       grows = c.in_ok-expand.ensures.grows;
       graph = c.in_ok-expand.ensures.graph;
-      marks = on_refused _ _ r.ensures.0;
-      left = on_refused _ _ r.ensures.0;
-      turns = on_refused _ _ r.ensures.0;
+      marks = on_failed _ _ r.ensures.0;
+      left = on_failed _ _ r.ensures.0;
+      turns = on_failed _ _ r.ensures.0;
       refused = refused_as _ r.result _ r.ensures.1 refl;
     }
 

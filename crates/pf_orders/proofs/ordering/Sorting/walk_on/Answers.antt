@@ -6,7 +6,7 @@ use Rattle.pf_core.proofs.ListLemmas.{at_place, Contains-reverse}
 use Rattle.pf_orders.specs.declared.ordering.Turn.{Turn}
 use Rattle.pf_orders.specs.declared.ordering.Mark.{Mark}
 use Rattle.pf_orders.specs.Internal.Orderings.{entries, IsMarked, IsSorting, IsAlong}
-use Rattle.pf_orders.proofs.Outcomes.{refused_as}
+use Rattle.pf_base.proofs.Outcomes.{refused_as}
 use Rattle.pf_orders.proofs.ComponentLists.{none_popped}
 use Rattle.pf_orders.proofs.OrderLemmas.{sorting_start, along_start, count_start, reverse-push, turns_after, sorting_skip, along_skip, sorting_enter, along_enter, count_enter, sorting_leave, along_leave, count_leave, ordered_reach, on_cycle, new_counts, turn_inside, entered_few, to_reverse}
 use Rattle.pf_orders.proofs.ordering.Sorting.walk_on.Goals as goal

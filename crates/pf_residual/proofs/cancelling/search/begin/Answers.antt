@@ -1,7 +1,7 @@
 use Rattle.std.proofs.Common.{◌<◌, ◌∙◌, ◌++◌, ◌∷◌, [], ℕ, List, Option, Some, None, slice_set, ap, refl, sym, subst}
 use Rattle.std.proofs.lemmas.Result.{IfOk-from_err}
 use Rattle.pf_residual.specs.declared.cancelling.search.Step.{Step}
-use Rattle.pf_residual.proofs.LevelListLemmas.{resized}
+use Rattle.pf_base.proofs.ListLemmas.{resized}
 use Rattle.pf_residual.proofs.NamedLemmas.{refused_by}
 use Rattle.pf_residual.proofs.cancelling.search.begin.Goals as goal
 

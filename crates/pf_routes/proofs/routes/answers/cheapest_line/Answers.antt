@@ -9,7 +9,8 @@ use Rattle.pf_routes.specs.Roads.{HasCostOverflow}
 use Rattle.pf_route_io.specs.declared.error.RouteError.{RouteError}
 use Rattle.pf_route_io.specs.declared.error.RouteError.TheVariants.{OutOfMemory, CostOverflow}
 use Rattle.pf_routes.proofs.Networks.{targets, has_no_walk, is_cheapest, has_overflow, path-below, in_table, path_named}
-use Rattle.pf_routes.proofs.Outcomes.{refused_by, at_some, at_none}
+use Rattle.pf_base.proofs.Outcomes.{refused_for}
+use Rattle.pf_routes.proofs.Outcomes.{at_some, at_none}
 use Rattle.pf_routes.proofs.routes.answers.cheapest_line.Goals as goal
 
 no_memory : (overflows : List Edge → Type 0) (text : List ℕ) (e : RouteError) → e ≡ OutOfMemory → RefusesAnswer overflows e text
@@ -46,13 +47,13 @@ returns-in_err-cheapest_path-clause-err g c =
       | inr b ↦ inr (b.0, (h.0, h.1, has_overflow c.in_ok-network.network h.0 _ _ h.2 b.1))
     ] in
     let told_here = passed_on overflows c.args.text.items c.in_err-cheapest_path.field-0.0 told in
-    refused_by _ _ c.from_residual-in_err-cheapest_path.result (λ e k. same_refusal overflows c.args.text.items c.in_err-cheapest_path.field-0.0 e told_here k) c.from_residual-in_err-cheapest_path.ensures.1
+    refused_for _ _ c.from_residual-in_err-cheapest_path.result (λ e k. same_refusal overflows c.args.text.items c.in_err-cheapest_path.field-0.0 e told_here k) c.from_residual-in_err-cheapest_path.ensures.1
 
 pub returns-in_err-from_slice-in-None-clause-err : goal.returns-in_err-from_slice-in-None-clause-err
-returns-in_err-from_slice-in-None-clause-err g c = refused_by _ _ c.from_residual-in_err-from_slice-in-None.result (no_memory _ c.args.text.items) c.from_residual-in_err-from_slice-in-None.ensures.1
+returns-in_err-from_slice-in-None-clause-err g c = refused_for _ _ c.from_residual-in_err-from_slice-in-None.result (no_memory _ c.args.text.items) c.from_residual-in_err-from_slice-in-None.ensures.1
 
 pub returns-in_err-write_path-in-Some-clause-err : goal.returns-in_err-write_path-in-Some-clause-err
-returns-in_err-write_path-in-Some-clause-err g c = refused_by _ _ c.from_residual-in_err-write_path-in-Some.result (no_memory _ c.args.text.items) c.from_residual-in_err-write_path-in-Some.ensures.1
+returns-in_err-write_path-in-Some-clause-err g c = refused_for _ _ c.from_residual-in_err-write_path-in-Some.result (no_memory _ c.args.text.items) c.from_residual-in_err-write_path-in-Some.ensures.1
 
 pub returns : goal.returns
 returns g c = record {

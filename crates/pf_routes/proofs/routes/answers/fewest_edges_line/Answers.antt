@@ -8,7 +8,8 @@ use Rattle.pf_routes.specs.Internal.Parsed.{RefusesText}
 use Rattle.pf_route_io.specs.declared.error.RouteError.{RouteError}
 use Rattle.pf_route_io.specs.declared.error.RouteError.TheVariants.{OutOfMemory}
 use Rattle.pf_routes.proofs.Networks.{targets, has_no_walk, is_fewest, fewest-below, fewest-some, in_table, path_named}
-use Rattle.pf_routes.proofs.Outcomes.{refused_by, at_some, at_none}
+use Rattle.pf_base.proofs.Outcomes.{refused_for}
+use Rattle.pf_routes.proofs.Outcomes.{at_some, at_none}
 use Rattle.pf_routes.proofs.routes.answers.fewest_edges_line.Goals as goal
 
 no_memory : (text : List ℕ) (e : RouteError) → e ≡ OutOfMemory → RefusesText e text
@@ -18,7 +19,7 @@ pub fewest_edges_path-requires-clause-targets : goal.fewest_edges_path-requires-
 fewest_edges_path-requires-clause-targets g c = let h = c.in_ok-network.ensures.ok in targets c.in_ok-network.network h.0 _ _ h.2
 
 pub returns-in_err-from_slice-in-None-clause-err : goal.returns-in_err-from_slice-in-None-clause-err
-returns-in_err-from_slice-in-None-clause-err g c = refused_by _ _ c.from_residual-in_err-from_slice-in-None.result (no_memory c.args.text.items) c.from_residual-in_err-from_slice-in-None.ensures.1
+returns-in_err-from_slice-in-None-clause-err g c = refused_for _ _ c.from_residual-in_err-from_slice-in-None.result (no_memory c.args.text.items) c.from_residual-in_err-from_slice-in-None.ensures.1
 
 pub returns-in-None-clause-ok : goal.returns-in-None-clause-ok
 returns-in-None-clause-ok g c =
@@ -33,7 +34,7 @@ write_path-requires g c =
     subst (All (λ n. n < table_len c.in_ok-network.network.names)) (sym c.as_slice.ensures.value) (in_table c.in_ok-network.network h.0 _ _ h.2 c.in-Some.path.items (fewest-below c.in_ok-network.network h.0 _ _ h.2 c.in-Some.path.items found))
 
 pub returns-in_err-write_path-in-Some-clause-err : goal.returns-in_err-write_path-in-Some-clause-err
-returns-in_err-write_path-in-Some-clause-err g c = refused_by _ _ c.from_residual-in_err-write_path-in-Some.result (no_memory c.args.text.items) c.from_residual-in_err-write_path-in-Some.ensures.1
+returns-in_err-write_path-in-Some-clause-err g c = refused_for _ _ c.from_residual-in_err-write_path-in-Some.result (no_memory c.args.text.items) c.from_residual-in_err-write_path-in-Some.ensures.1
 
 pub returns-clause-ok : goal.returns-clause-ok
 returns-clause-ok g c =

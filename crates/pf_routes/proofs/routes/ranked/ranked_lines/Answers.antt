@@ -8,7 +8,7 @@ use Rattle.pf_routes.specs.Roads.{HasRankedOverflow}
 use Rattle.pf_route_io.specs.declared.error.RouteError.{RouteError}
 use Rattle.pf_route_io.specs.declared.error.RouteError.TheVariants.{OutOfMemory, CostOverflow}
 use Rattle.pf_routes.proofs.NetworkPaths.{has_ranked_overflow, are_cheapest, paths_in_table}
-use Rattle.pf_routes.proofs.Outcomes.{refused_by}
+use Rattle.pf_base.proofs.Outcomes.{refused_for}
 use Rattle.pf_routes.proofs.routes.ranked.ranked_lines.Goals as goal
 
 no_memory : (overflows : List Edge → Type 0) (text : List ℕ) (e : RouteError) → e ≡ OutOfMemory → RefusesAnswer overflows e text
@@ -48,7 +48,7 @@ returns-in_err-paths-clause-err g c =
       | inr b ↦ inr (b.0, (h.0, h.1, has_ranked_overflow c.in_ok-network.network h.0 _ _ h.2 c.args.count b.1 b.2 b.3))
     ] in
     let told_here = passed_on overflows c.args.text.items c.in_err-paths.field-0.0 told in
-    refused_by _ _ c.from_residual-in_err-paths.result (λ e k. same_refusal overflows c.args.text.items c.in_err-paths.field-0.0 e told_here k) c.from_residual-in_err-paths.ensures.1
+    refused_for _ _ c.from_residual-in_err-paths.result (λ e k. same_refusal overflows c.args.text.items c.in_err-paths.field-0.0 e told_here k) c.from_residual-in_err-paths.ensures.1
 
 pub returns-in_err-write_paths-clause-err : goal.returns-in_err-write_paths-clause-err
-returns-in_err-write_paths-clause-err g c = refused_by _ _ c.from_residual-in_err-write_paths.result (no_memory _ c.args.text.items) c.from_residual-in_err-write_paths.ensures.1
+returns-in_err-write_paths-clause-err g c = refused_for _ _ c.from_residual-in_err-write_paths.result (no_memory _ c.args.text.items) c.from_residual-in_err-write_paths.ensures.1

@@ -1,7 +1,7 @@
 use Rattle.std.proofs.Common.{ap, ◌∙◌, arith, length}
 use Rattle.pf_search.proofs.ParentLemmas.{length_end, climbed_first, climbed_more, climbed_length, climbed_chain, chain_alone}
 use Rattle.std.proofs.lemmas.Result.{IfOk-from_err}
-use Rattle.pf_search.proofs.ResultLemmas.{refused_as}
+use Rattle.pf_base.proofs.Outcomes.{refused_as}
 use Rattle.pf_search.proofs.directed.build_path.build_path.Goals as goal
 
 pub climb-init : goal.climb-init

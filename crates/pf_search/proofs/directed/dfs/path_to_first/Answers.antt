@@ -7,7 +7,7 @@ use Rattle.pf_search.specs.DepthWalks.{IsDepthWalk}
 use Rattle.pf_search.proofs.PreorderLemmas.{end_of_push}
 use Rattle.pf_search.proofs.PreorderPaths.{goes_none, goes_some, some_given, node_reached, numbers_inside, is_goal, none_passes, none_more}
 use Rattle.std.proofs.lemmas.Result.{IfOk-from_err}
-use Rattle.pf_search.proofs.ResultLemmas.{refused_as}
+use Rattle.pf_base.proofs.Outcomes.{refused_as}
 use Rattle.pf_search.proofs.directed.dfs.path_to_first.Goals as goal
 
 pub nodes-init : goal.nodes-init

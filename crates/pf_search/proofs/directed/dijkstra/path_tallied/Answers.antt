@@ -8,7 +8,8 @@ use Rattle.pf_core.specs.NodeLaws.{StandsFor-one}
 use Rattle.pf_core.proofs.WalkLemmas.{all_starts, only_starts, no_negative, no_walk, best_answer, past_range}
 use Rattle.pf_core.proofs.NodeLemmas.{at_most}
 use Rattle.std.proofs.lemmas.Result.{IfOk-from_err}
-use Rattle.pf_search.proofs.ResultLemmas.{ok_is_no_error, refused_as, no_overflow, overflow_kept, when_some, when_none, if_some}
+use Rattle.pf_base.proofs.Outcomes.{no_overflow, ok_is_no_error, overflow_kept, refused_as}
+use Rattle.pf_search.proofs.ResultLemmas.{when_some, when_none, if_some}
 use Rattle.pf_search.proofs.directed.dijkstra.path_tallied.Goals as goal
 
 -- the graph that these functions answer

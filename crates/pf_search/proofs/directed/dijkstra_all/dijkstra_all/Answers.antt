@@ -4,7 +4,7 @@ use Rattle.pf_base.specs.declared.error.PathError.TheVariants.{CostOverflow}
 use Rattle.pf_base.proofs.Callers.{test_of}
 use Rattle.pf_search.proofs.AllLemmas.{all_of_partial}
 use Rattle.std.proofs.lemmas.Result.{IfOk-from_err}
-use Rattle.pf_search.proofs.ResultLemmas.{ok_is_no_error, refused_as}
+use Rattle.pf_base.proofs.Outcomes.{ok_is_no_error, refused_as}
 use Rattle.pf_search.proofs.directed.dijkstra_all.dijkstra_all.Goals as goal
 
 pub dijkstra_partial-requires-clause-graph : goal.dijkstra_partial-requires-clause-graph

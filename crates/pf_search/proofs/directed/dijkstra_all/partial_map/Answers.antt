@@ -9,11 +9,11 @@ use Rattle.pf_core.proofs.LabelLemmas.{HasLabel-inside}
 use Rattle.pf_search.specs.Parents.{IsPartialMap}
 use Rattle.pf_search.specs.Internal.Partial.{IsEnded}
 use Rattle.pf_search.proofs.StillLemmas.{read_at, read_inside}
-use Rattle.pf_core.proofs.Outcomes.{no_memory_or, memory_no_overflow}
+use Rattle.pf_base.proofs.Outcomes.{if_refused, memory_no_overflow, no_memory_or, no_overflow, ok_is_no_error, overflow_kept, refused_as}
 use Rattle.pf_core.proofs.WalkLemmas.{all_starts, only_starts, no_negative, past_range}
 use Rattle.pf_search.proofs.PartialLemmas.{parent_inside, reached_at, begins_on, maps_read, whole_map, stopped_map}
 use Rattle.pf_search.proofs.directed.dijkstra_all.partial_map.Goals.{in-Some+in_ok-clone-in-Some, in-None}
-use Rattle.pf_search.proofs.ResultLemmas.{if_refused, refused_as, no_overflow, overflow_kept, ok_is_no_error, if_some}
+use Rattle.pf_search.proofs.ResultLemmas.{if_some}
 use Rattle.std.proofs.lemmas.Result.{IfOk-from_err}
 use Rattle.pf_search.proofs.directed.dijkstra_all.partial_map.Goals as goal
 

@@ -9,7 +9,7 @@ use Rattle.pf_core.proofs.ReadLemmas.{same_most}
 use Rattle.pf_search.proofs.StillLemmas.{still_at, was_at, still_least, still_search, still_ended, turned_from, turn_smaller, none_grown}
 use Rattle.pf_search.proofs.OrderLemmas.{order_start, order_more, first_turned, ended_at, ended_all}
 use Rattle.std.proofs.lemmas.Result.{IfOk-from_err}
-use Rattle.pf_search.proofs.ResultLemmas.{refused_as, no_overflow, overflow_kept, ok_is_no_error}
+use Rattle.pf_base.proofs.Outcomes.{no_overflow, ok_is_no_error, overflow_kept, refused_as}
 use Rattle.pf_search.proofs.directed.dijkstra_all.search_to_goal.Goals as goal
 
 pub turns-init : goal.turns-init

@@ -2,7 +2,7 @@ use Rattle.std.proofs.Common.{arith}
 use Rattle.std.proofs.lemmas.Result.{IfOk-from_err}
 use Rattle.pf_base.proofs.Asking.{Gives-ends, Gives-drains}
 use Rattle.pf_search.proofs.SimplePaths.{here_reached, last_at, has_end}
-use Rattle.pf_search.proofs.ResultLemmas.{refused_as}
+use Rattle.pf_base.proofs.Outcomes.{refused_as}
 use Rattle.pf_search.proofs.directed.iddfs.answer_of.Goals as goal
 
 pub overflow_sub-here : goal.overflow_sub-here

@@ -2,7 +2,7 @@ use Rattle.std.proofs.Common.{◌≡◌, [], ◌∷◌, length, arith, refl, sym
 use Rattle.pf_search.specs.Internal.Deepening.{IsPathFrom}
 use Rattle.pf_search.proofs.SimplePaths.{start_alone, fewest_of, none_of}
 use Rattle.std.proofs.lemmas.Result.{IfOk-from_err}
-use Rattle.pf_search.proofs.ResultLemmas.{refused_as}
+use Rattle.pf_base.proofs.Outcomes.{refused_as}
 use Rattle.pf_search.proofs.directed.iddfs.iddfs.Goals as goal
 
 pub limits-init : goal.limits-init

@@ -1,7 +1,7 @@
 use Rattle.std.proofs.Common.{inl, inr}
 use Rattle.std.proofs.lemmas.Result.{IfOk-from_err}
 use Rattle.pf_tables.proofs.OffsetLemmas.{compact}
-use Rattle.pf_tables.proofs.Outcomes.{refused_as}
+use Rattle.pf_base.proofs.Outcomes.{refused_as}
 use Rattle.pf_tables.proofs.compact_rows.CompactRows.new.Goals as goal
 
 pub returns-in_err-check_offsets : goal.returns-in_err-check_offsets

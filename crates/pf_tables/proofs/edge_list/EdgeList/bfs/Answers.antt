@@ -1,7 +1,7 @@
 use Rattle.std.proofs.lemmas.Result.{IfOk-from_err}
 use Rattle.pf_base.specs.NodeRefs.{nodes_of}
 use Rattle.pf_tables.specs.EdgeLists.{targets_from}
-use Rattle.pf_tables.proofs.Outcomes.{refused_as}
+use Rattle.pf_base.proofs.Outcomes.{refused_as}
 use Rattle.pf_tables.proofs.Alone.{fewest_alone, no_way_alone, no_other, an_other}
 use Rattle.pf_tables.proofs.NamedGraph.{fewest_inside, fewest_named, no_targets_from, no_way_named, no_way_to}
 use Rattle.pf_tables.proofs.edge_list.EdgeList.bfs.Goals as goal

@@ -2,7 +2,7 @@ use Rattle.std.proofs.Common.{rules, ◌≡◌, pos, true, Err, ap, inl}
 use Rattle.std.proofs.lemmas.Result.{IfOk-from_err}
 use Rattle.pf_base.specs.NodeRefs.{nodes_of}
 use Rattle.pf_tables.specs.EdgeLists.{edges_from}
-use Rattle.pf_tables.proofs.Outcomes.{refused_as, error_of, no_overflow, ok_is_no_error}
+use Rattle.pf_base.proofs.Outcomes.{error_of, no_overflow, ok_not_err, refused_as}
 use Rattle.pf_tables.proofs.Alone.{no_walk_alone, cheapest_alone, no_other, an_other}
 use Rattle.pf_tables.proofs.NamedGraph.{cheapest_inside, cheapest_named, no_edges_from, no_walk_named, no_walk_to, past_named}
 use Rattle.pf_tables.proofs.edge_list.EdgeList.dijkstra.Goals as goal
@@ -13,7 +13,7 @@ returns-then-ne g c = record {
       let other = an_other _ _ c.ne.ensures c.if-ne.true in
       no_walk_alone laws c.args.from.now (λ x. g.N.PartialEq.eq x c.args.to.now) (λ a e. laws.congr c.args.from.now a c.args.to.now e)
       (edges_from g.N.PartialEq.eq g.C.Number.value c.args.self.now) (λ a e. no_edges_from laws g.C.Number.value c.args.self.now c.args.from.now c.in_default.ensures a e) other;
-  overflow = λ e. absurd (ok_is_no_error e);
+  overflow = λ e. absurd (ok_not_err e);
   errors = tt;
 }
 
@@ -34,14 +34,14 @@ returns-in_default g c = record {
       rw (c.in_ok-path.ensures.one, zero)
       (cheapest_alone laws c.args.from.now (λ x. g.N.PartialEq.eq x c.args.to.now) (λ a e. laws.congr c.args.from.now a c.args.to.now e)
       (edges_from g.N.PartialEq.eq g.C.Number.value c.args.self.now) (λ a e. no_edges_from laws g.C.Number.value c.args.self.now c.args.from.now c.in_default.ensures a e) same);
-  overflow = λ e. absurd (ok_is_no_error e);
+  overflow = λ e. absurd (ok_not_err e);
   errors = tt;
 }
 
 pub returns-in_default-number_of : goal.returns-in_default-number_of
 returns-in_default-number_of g c = record {
   best = no_walk_to g.met.N.Eq.laws g.C.Number.value c.args.self.now c.in-Some.start c.args.from.now c.in-Some.ensures c.args.to.now c.in_default-number_of.ensures;
-  overflow = λ e. absurd (ok_is_no_error e);
+  overflow = λ e. absurd (ok_not_err e);
   errors = tt;
 }
 
@@ -61,7 +61,7 @@ pub returns-in-None : goal.returns-in-None
 returns-in-None g c = record {
   best = let none = rw c.in-None.is at c.in_ok-dijkstra.ensures.best in
       no_walk_named g.met.N.Eq.laws g.C.Number.value c.args.self.now c.in-Some.start c.args.from.now c.in-Some.ensures c.in-Some-number_of.goal c.args.to.now c.in-Some-number_of.ensures none;
-  overflow = λ e. absurd (ok_is_no_error e);
+  overflow = λ e. absurd (ok_not_err e);
   errors = tt;
 }
 
@@ -84,6 +84,6 @@ returns-in_ok-path-in-Some-2 g c = record {
   best = let best = rw c.in-Some-2.is at c.in_ok-dijkstra.ensures.best in
       cheapest_named g.met.N.Eq.laws g.C.Number.value c.args.self.now c.in-Some.start c.args.from.now c.in-Some.ensures c.in-Some-number_of.goal c.args.to.now c.in-Some-number_of.ensures _ (nodes_of c.in_ok-path-in-Some-2.path.items) _ best
       (rw c.deref.ensures.value at c.in_ok-path-in-Some-2.ensures.names);
-  overflow = λ e. absurd (ok_is_no_error e);
+  overflow = λ e. absurd (ok_not_err e);
   errors = tt;
 }

@@ -5,7 +5,7 @@ use Rattle.pf_base.specs.NodeRefs.{nodes_of}
 use Rattle.pf_tables.specs.EdgeLists.{names_of}
 use Rattle.pf_tables.specs.Internal.Layouts.{numbered_ends}
 use Rattle.pf_tables.proofs.EdgeListLemmas.{has_edges_by_name, laid_out, edge_list_graph}
-use Rattle.pf_tables.proofs.Outcomes.{refused_as}
+use Rattle.pf_base.proofs.Outcomes.{refused_as}
 use Rattle.pf_tables.proofs.NumberedNames.{all_named, number_stands, names_apart, names_are_ends}
 use Rattle.pf_tables.proofs.edge_list.EdgeList.new.Goals as goal
 

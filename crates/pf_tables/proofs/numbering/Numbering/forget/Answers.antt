@@ -1,7 +1,8 @@
 use Rattle.std.proofs.Common.{rules, ◌≡◌, ◌+◌, ◌≤◌, arith, refl, sym, ◌∙◌, ap, length, length-append, take, take_all, ◌∷◌, []}
 use Rattle.std.proofs.lemmas.List.{take-append-le, length-set}
 use Rattle.std.proofs.lemmas.Option.{slice_get_within}
-use Rattle.pf_tables.proofs.IndexLemmas.{get_last, index_pop}
+use Rattle.pf_tables.proofs.IndexLemmas.{index_pop}
+use Rattle.pf_base.proofs.ListLemmas.{get_at_end}
 use Rattle.pf_tables.proofs.numbering.Numbering.forget.Goals as goal
 
 pub nodes-init : goal.nodes-init
@@ -10,7 +11,7 @@ nodes-init g c = record { index = c.requires.index; wide = refl; more = c.requir
 pub index_mut-requires : goal.index_mut-requires
 index_mut-requires g c =
     let i = rw c.in-Some.ensures.items at c.nodes.invariant.index in
-    let at = i.at (length c.pop.new.self.items) c.in-Some.node (get_last c.pop.new.self.items c.in-Some.node) in
+    let at = i.at (length c.pop.new.self.items) c.in-Some.node (get_at_end c.pop.new.self.items c.in-Some.node) in
     let l = slice_get_within c.nodes.self.numbers.items c.in-Some.node _ at in
     omega (arith, l, c.nodes.self.numbers.ok)
 

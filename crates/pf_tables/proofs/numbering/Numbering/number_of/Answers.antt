@@ -6,8 +6,9 @@ use Rattle.pf_core.specs.Nodes.{AddsNode}
 use Rattle.pf_core.proofs.ListLemmas.{at_place}
 use Rattle.pf_core.proofs.NodeLemmas.{AddsNode-new, AddsNode-old}
 use Rattle.pf_tables.specs.Internal.Numbering.{IsIndex}
-use Rattle.pf_tables.proofs.IndexLemmas.{get_last, index_push, is_new}
-use Rattle.pf_tables.proofs.Outcomes.{refused_as}
+use Rattle.pf_tables.proofs.IndexLemmas.{index_push, is_new}
+use Rattle.pf_base.proofs.ListLemmas.{get_at_end}
+use Rattle.pf_base.proofs.Outcomes.{refused_as}
 use Rattle.pf_tables.proofs.numbering.Numbering.number_of.Goals as goal
 
 one_less : (n : ℕ) → 0 < n → n ≡ (n - 1) + 1
@@ -78,4 +79,4 @@ returns-clause-numbered g c =
     let order = c.args.self.now.order.items in
     let items : c.push.new.self.items ≡ order ++ c.args.node ∷ [] = c.in_ok-push.ensures.items in
     let number : c.len-2.result - 1 ≡ length order = number_before c.len-2.result (length order) (c.len-2.ensures ∙ c.push.new.self.ok.0 ∙ ap length items ∙ length-append order (c.args.node ∷ [])) in
-    (c.args.node, rw (items, number) (get_last order c.args.node), nat_eq_equiv.refl c.args.node)
+    (c.args.node, rw (items, number) (get_at_end order c.args.node), nat_eq_equiv.refl c.args.node)

@@ -7,7 +7,7 @@ use Rattle.pf_yen.specs.Internal.Splits.{IsFilteredTo}
 use Rattle.pf_yen.proofs.SplitLemmas.{filtered_first}
 use Rattle.pf_yen.proofs.CandidateLemmas.{begun_partition, too_dear_all}
 use Rattle.std.proofs.lemmas.Result.{IfOk-from_err}
-use Rattle.pf_yen.proofs.ResultLemmas.{handed_on, no_overflow, ok_is_no_error, refused_as}
+use Rattle.pf_base.proofs.Outcomes.{no_overflow, ok_is_no_error, overflow_kept, refused_as}
 use Rattle.std.proofs.lemmas.List.{length-replicate}
 use Rattle.pf_yen.proofs.candidates.Candidates.begin.Goals as goal
 
@@ -37,7 +37,7 @@ returns-in_err-self g c = record {
       let e = c.in_ok-filtered.ensures in
       let s = c.in_ok-filtered.filtered in
       let here : FilteredLists g.row.C.Denot = record { adjacency = s.adjacency.now; onward = s.onward.items; spur = s.spur; banned = s.banned.items } in
-      let f : c.in_err-self.field-0.0 ≡ CostOverflow = handed_on c.from_residual-in_err-self.result c.in_err-self.field-0.0 c.from_residual-in_err-self.ensures.1 x in
+      let f : c.in_err-self.field-0.0 ≡ CostOverflow = overflow_kept c.from_residual-in_err-self.result c.in_err-self.field-0.0 c.from_residual-in_err-self.ensures.1 x in
       subst (λ (k : AdjacencyLists g.row.C.Denot). IsTooDear (AdjacencyStep g.C.Number.value k) (is_goal k) (StandsForItself (length k.rows) 0) (StandsForItself (length k.rows)) g.C.Number.fits) e.graph.0
       (too_dear_all g.C.Number.value here (length c.args.adjacency.now.rows) e.onward e.graph.2 g.C.Number.fits (length s.adjacency.now.rows) (c.in_err-self.ensures.overflow (ap Err f)));
   begun = IfOk-from_err _ _ c.from_residual-in_err-self.ensures.0;

@@ -1,6 +1,6 @@
 use Rattle.pf_yen.proofs.CandidateLemmas.{goes_on_both, still_plans, all_begun}
 use Rattle.std.proofs.lemmas.Result.{IfOk-from_err}
-use Rattle.pf_yen.proofs.ResultLemmas.{ok_is_no_error, refused_as, handed_on}
+use Rattle.pf_base.proofs.Outcomes.{ok_is_no_error, overflow_kept, refused_as}
 use Rattle.std.proofs.Common.{refl, ◌∙◌, sym, ap, true≢false, Err}
 use Rattle.pf_yen.proofs.candidates.Candidates.choose.Goals as goal
 
@@ -36,7 +36,7 @@ returns-in_err-split_given g c = record {
       let e = c.in_err-split_given.ensures in
       let s = still_plans _ _ _ _ e.kept.0 e.kept.1 in
       refused_as _ c.from_residual.result c.in_err-split_given.field-0.0 c.from_residual.ensures.1 (s.0, s.1, e.kept.2, e.has_begun);
-  overflow = λ e. rw c.if-self.true (c.in_err-split_given.ensures.overflow (ap Err (handed_on c.from_residual.result c.in_err-split_given.field-0.0 c.from_residual.ensures.1 e)));
+  overflow = λ e. rw c.if-self.true (c.in_err-split_given.ensures.overflow (ap Err (overflow_kept c.from_residual.result c.in_err-split_given.field-0.0 c.from_residual.ensures.1 e)));
 }
 
 pub choose_first-requires-clause-ordered : goal.choose_first-requires-clause-ordered
@@ -59,7 +59,7 @@ returns-in_err-begin g c = record {
       let s = still_plans _ _ _ _ e.kept.0 e.waiting in
       refused_as _ c.from_residual-in_err-begin.result c.in_err-begin.field-0.0 c.from_residual-in_err-begin.ensures.1 (s.0, s.1, e.is_given, e.kept.1);
   due = refused_as _ c.from_residual-in_err-begin.result c.in_err-begin.field-0.0 c.from_residual-in_err-begin.ensures.1 (λ t. absurd (true≢false (sym t ∙ c.if-self.false)));
-  overflow = λ e. rw c.if-self.false (c.in_err-begin.ensures.overflow (ap Err (handed_on c.from_residual-in_err-begin.result c.in_err-begin.field-0.0 c.from_residual-in_err-begin.ensures.1 e)));
+  overflow = λ e. rw c.if-self.false (c.in_err-begin.ensures.overflow (ap Err (overflow_kept c.from_residual-in_err-begin.result c.in_err-begin.field-0.0 c.from_residual-in_err-begin.ensures.1 e)));
 }
 
 pub returns-in_ok-split_given : goal.returns-in_ok-split_given

@@ -10,7 +10,7 @@ use Rattle.pf_yen.proofs.CandidateLemmas.{split_goes_on, no_change, given_due}
 use Rattle.pf_yen.proofs.candidates.Candidates.split_given.Goals.{in-Some+in_ok-split+in_ok-append, in_default}
 use Rattle.std.proofs.lemmas.Result.{IfOk-from_err}
 use Rattle.pf_base.specs.declared.error.PathError.TheVariants.{OutOfMemory}
-use Rattle.pf_yen.proofs.ResultLemmas.{handed_on, no_overflow, ok_is_no_error, refused_as}
+use Rattle.pf_base.proofs.Outcomes.{no_overflow, ok_is_no_error, overflow_kept, refused_as}
 use Rattle.pf_yen.proofs.candidates.Candidates.split_given.Goals as goal
 
 pub split-requires-clause-cheapest : goal.split-requires-clause-cheapest
@@ -28,7 +28,7 @@ returns-in_err-split g c = record {
   first = IfOk-from_err _ _ c.from_residual.ensures.0;
   goes_on = IfOk-from_err _ _ c.from_residual.ensures.0;
   is_given = IfOk-from_err _ _ c.from_residual.ensures.0;
-  overflow = λ e. rw c.in-Some.is (c.in_err-split.ensures.overflow (ap Err (handed_on c.from_residual.result c.in_err-split.field-0.0 c.from_residual.ensures.1 e)));
+  overflow = λ e. rw c.in-Some.is (c.in_err-split.ensures.overflow (ap Err (overflow_kept c.from_residual.result c.in_err-split.field-0.0 c.from_residual.ensures.1 e)));
   kept = refused_as _ c.from_residual.result c.in_err-split.field-0.0 c.from_residual.ensures.1 (refl, refl, refl);
   ordered = c.requires.ordered;
   due = refused_as _ c.from_residual.result c.in_err-split.field-0.0 c.from_residual.ensures.1 (given_due _ _ _ c.if-not-self.false c.in-Some.is);

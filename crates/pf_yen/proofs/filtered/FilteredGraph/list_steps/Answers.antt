@@ -4,7 +4,7 @@ use Rattle.std.proofs.lemmas.List.{take_all}
 use Rattle.std.proofs.lemmas.Result.{IfOk-from_err}
 use Rattle.pf_yen.specs.Internal.Filtered.{FilteredLists, allows}
 use Rattle.pf_yen.proofs.FilteredLemmas.{passes_too, left_out}
-use Rattle.pf_yen.proofs.ResultLemmas.{refused_as}
+use Rattle.pf_base.proofs.Outcomes.{refused_as}
 use Rattle.pf_yen.proofs.filtered.FilteredGraph.list_steps.Goals.{then-allows+in_ok-add, else-allows}
 use Rattle.pf_yen.proofs.filtered.FilteredGraph.list_steps.Goals as goal
 

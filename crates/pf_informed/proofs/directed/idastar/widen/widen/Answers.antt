@@ -2,7 +2,7 @@ use Rattle.std.proofs.Common.{◌≡◌, ◌≤◌, ◌<◌, ◌+◌, ◌-◌, �
 use Rattle.std.specs.Prelude.{◌⊎◌, SomeIff, slice_get}
 use Rattle.std.specs.Option.{ok_or}
 use Rattle.std.proofs.lemmas.List.{take_all}
-use Rattle.pf_core.proofs.ListLemmas.{none_in, get-append}
+use Rattle.pf_base.proofs.ListLemmas.{none_in, get-append}
 use Rattle.pf_informed.proofs.Outcomes.{on_refused, refused_as}
 use Rattle.pf_informed.proofs.directed.idastar.widen.widen.Goals as goal
 

@@ -3,10 +3,10 @@ use Rattle.std.specs.Prelude.{Err}
 use Rattle.std.specs.List.{AllZip}
 use Rattle.std.proofs.lemmas.Result.{IfOk-from_err}
 use Rattle.pf_core.specs.Nodes.{StandsFor}
+use Rattle.pf_core.specs.Hops.{hops_from}
 use Rattle.pf_core.proofs.UnitLemmas.{begins_all, starts_stand}
-use Rattle.pf_orders.specs.Internal.Beginnings.{hops_from}
 use Rattle.pf_orders.specs.Internal.Rounds.{AreNodesAt}
-use Rattle.pf_orders.proofs.Outcomes.{refused_as, error_of, ok_is_no_error}
+use Rattle.pf_base.proofs.Outcomes.{error_of, ok_not_err, refused_as}
 use Rattle.pf_orders.proofs.RoundLemmas.{only_memory, memory_of}
 use Rattle.pf_orders.proofs.OrderLemmas.{member_of, is_none, is_some}
 use Rattle.pf_orders.proofs.SortLemmas.{of_target}
@@ -101,7 +101,7 @@ returns-then-is_empty g c =
       closed = λ nodes next b.
           let h = hops_from nodes next in
           closed laws (are_rows _ laws b.same (e.graph h b.explores) e.grows e.same e.counted e.wide e.long (e.listed h b.explores));
-      unknown = λ nodes next b u. absurd (ok_is_no_error u);
+      unknown = λ nodes next b u. absurd (ok_not_err u);
       errors = tt;
     }
 
@@ -145,6 +145,6 @@ returns g c =
       closed = λ nodes next b.
           let h = hops_from nodes next in
           closed laws (are_rows _ laws b.same (e.graph h b.explores) e.grows e.same e.counted e.wide e.long (e.listed h b.explores));
-      unknown = λ nodes next b u. absurd (ok_is_no_error u);
+      unknown = λ nodes next b u. absurd (ok_not_err u);
       errors = tt;
     }

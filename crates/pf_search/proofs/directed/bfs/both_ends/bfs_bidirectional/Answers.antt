@@ -1,6 +1,6 @@
 use Rattle.pf_core.proofs.UnitLemmas.{Explores-successors_of}
 use Rattle.std.proofs.lemmas.Result.{IfOk-from_err}
-use Rattle.pf_search.proofs.ResultLemmas.{refused_as}
+use Rattle.pf_base.proofs.Outcomes.{refused_as}
 use Rattle.pf_search.proofs.directed.bfs.both_ends.bfs_bidirectional.Goals as goal
 
 pub path_between-requires-clause-graph : goal.path_between-requires-clause-graph

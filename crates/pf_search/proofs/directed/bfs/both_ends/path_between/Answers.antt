@@ -1,8 +1,9 @@
 use Rattle.pf_core.specs.Sides.{by_side}
 use Rattle.pf_core.proofs.JoinLemmas.{mirrored, no_walk_between, joined_answer}
 use Rattle.pf_core.proofs.UnitLemmas.{is_hop, begins_all, starts_stand}
-use Rattle.pf_search.specs.Internal.Hops.{hops_from}
-use Rattle.pf_search.proofs.ResultLemmas.{in_some, error_kept, refused_as}
+use Rattle.pf_core.specs.Hops.{hops_from}
+use Rattle.pf_base.proofs.Outcomes.{refused_as}
+use Rattle.pf_search.proofs.ResultLemmas.{in_some, error_kept}
 use Rattle.std.proofs.lemmas.Result.{IfOk-from_err}
 use Rattle.pf_search.proofs.directed.bfs.both_ends.path_between.Goals as goal
 

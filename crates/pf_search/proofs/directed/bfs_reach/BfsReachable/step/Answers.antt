@@ -4,7 +4,7 @@ use Rattle.std.proofs.lemmas.Result.{IfOk-from_err}
 use Rattle.pf_base.proofs.Callers.{SameNodes-refl}
 use Rattle.pf_search.specs.Internal.Breadth.{found_or}
 use Rattle.pf_search.proofs.BreadthSteps.{turn_refused, none_waits, start_waits, placed, marked}
-use Rattle.pf_search.proofs.ResultLemmas.{refused_as}
+use Rattle.pf_base.proofs.Outcomes.{refused_as}
 use Rattle.pf_search.proofs.directed.bfs_reach.BfsReachable.step.Goals as goal
 
 pub returns-in_err-put_start-clause-steps : goal.returns-in_err-put_start-clause-steps

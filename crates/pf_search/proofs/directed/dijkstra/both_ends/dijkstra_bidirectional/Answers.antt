@@ -2,7 +2,7 @@ use Rattle.pf_core.proofs.NodeLemmas.{Explores-edges_of}
 use Rattle.pf_search.specs.Internal.BothEnds.{from_one}
 use Rattle.std.proofs.lemmas.Result.{IfOk-from_err}
 use Rattle.std.proofs.Common.{inl}
-use Rattle.pf_search.proofs.ResultLemmas.{no_overflow, refused_as}
+use Rattle.pf_base.proofs.Outcomes.{no_overflow, refused_as}
 use Rattle.pf_search.proofs.directed.dijkstra.both_ends.dijkstra_bidirectional.Goals as goal
 
 pub path_between-requires-clause-ends : goal.path_between-requires-clause-ends

@@ -3,7 +3,8 @@ use Rattle.std.specs.Prelude.{◌≤ℤ◌}
 use Rattle.pf_base.specs.Edges.{IsCheapestGoalPath}
 use Rattle.pf_search.proofs.BothEndsLemmas.{labelled_node}
 use Rattle.pf_search.proofs.BothEndsPaths.{no_walk_across, joined_halves}
-use Rattle.pf_search.proofs.ResultLemmas.{ok_is_no_error, if_refused, no_overflow, overflow_kept, refused_as, when_some, when_none, if_some}
+use Rattle.pf_base.proofs.Outcomes.{if_refused, no_overflow, ok_is_no_error, overflow_kept, refused_as}
+use Rattle.pf_search.proofs.ResultLemmas.{when_some, when_none, if_some}
 use Rattle.pf_search.proofs.directed.dijkstra.both_ends.path_across.Goals as goal
 
 pub returns-in_err-best_meeting-clause-best : goal.returns-in_err-best_meeting-clause-best

@@ -1,7 +1,7 @@
 use Rattle.std.proofs.Common.{◌≡◌, ◌∙◌, pos, false, inl, refl}
 use Rattle.pf_core.specs.declared.labels.Label.{Label}
 use Rattle.pf_search.proofs.BothEndsTurns.{ends_begun}
-use Rattle.pf_search.proofs.ResultLemmas.{if_refused, no_overflow, refused_as}
+use Rattle.pf_base.proofs.Outcomes.{if_refused, no_overflow, refused_as}
 use Rattle.pf_search.proofs.directed.dijkstra.both_ends.path_between.Goals as goal
 
 pub returns-in_err-forth-clause-best : goal.returns-in_err-forth-clause-best

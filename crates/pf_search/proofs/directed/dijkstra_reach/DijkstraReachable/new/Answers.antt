@@ -5,7 +5,7 @@ use Rattle.pf_core.proofs.NodeLemmas.{Explores-edges}
 use Rattle.pf_core.proofs.SearchLemmas.{start_alone}
 use Rattle.std.proofs.lemmas.Result.{IfOk-from_err}
 use Rattle.pf_search.proofs.GivenLemmas.{none_given}
-use Rattle.pf_search.proofs.ResultLemmas.{refused_as}
+use Rattle.pf_base.proofs.Outcomes.{refused_as}
 use Rattle.pf_search.proofs.directed.dijkstra_reach.DijkstraReachable.new.Goals as goal
 
 pub returns-clause-begins : goal.returns-clause-begins

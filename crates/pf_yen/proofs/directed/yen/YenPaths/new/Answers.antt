@@ -3,7 +3,7 @@ use Rattle.pf_yen.specs.declared.candidate.Candidate.{Candidate}
 use Rattle.pf_yen.specs.Internal.Candidates.{waiting_plans}
 use Rattle.pf_yen.proofs.WalkLemmas.{new_walk}
 use Rattle.std.proofs.lemmas.Result.{IfOk-from_err}
-use Rattle.pf_yen.proofs.ResultLemmas.{refused_as}
+use Rattle.pf_base.proofs.Outcomes.{refused_as}
 use Rattle.pf_yen.proofs.directed.yen.YenPaths.new.Goals as goal
 
 pub returns-clause-graph : goal.returns-clause-graph

@@ -1,7 +1,7 @@
 use Rattle.std.proofs.Common.{◌≡◌, List, ℕ, true, false, length, ◌∙◌, sym, subst, slice_get, Option, Some, None, is_some, true≢false, ◌<◌, ◌≤◌}
 use Rattle.std.specs.Prelude.{◌++◌, ◌+◌, MatchOption, ⊤}
 use Rattle.pf_core.specs.Nodes.{StandsFor}
-use Rattle.pf_core.proofs.ListLemmas.{get-append}
+use Rattle.pf_base.proofs.ListLemmas.{get-append}
 use Rattle.pf_core.proofs.SearchLemmas.{Grows-trans}
 use Rattle.pf_informed.specs.Internal.Rows.{IsCheapStep, IsTable, HasSpan}
 use Rattle.pf_informed.proofs.KnownLemmas.{more_refl, table_more, rows_more, rows_grown, cheap_sound, cheap_complete}

@@ -1,6 +1,6 @@
 use Rattle.std.proofs.Common.{◌≡◌, true, ap, inl, inr}
 use Rattle.std.specs.Prelude.{reverse}
-use Rattle.pf_core.proofs.ListLemmas.{none_in}
+use Rattle.pf_base.proofs.ListLemmas.{none_in}
 use Rattle.pf_informed.proofs.directed.idastar.way.Way.begin.Goals as goal
 
 pub returns-clause-below : goal.returns-clause-below
