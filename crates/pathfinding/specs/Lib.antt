@@ -1,4 +1,5 @@
 pub use Rattle.pf_base.specs.Costs
+pub use Rattle.pf_base.specs.Sums
 pub use Rattle.pf_base.specs.Walks
 pub use Rattle.pf_base.specs.Edges
 pub use Rattle.pf_base.specs.Answers
@@ -60,8 +61,8 @@ pub use Rattle.pf_graph.specs.Spanning
 pub use Rattle.pf_graph.specs.EdgesByReference
 pub use Rattle.pf_graph.specs.Components
 pub use Rattle.pf_graph.specs.GrownTree
-pub use Rattle.pf_graph.specs.Assignments
-pub use Rattle.pf_graph.specs.Cycles
+pub use Rattle.pf_assignment.specs.Assignments
+pub use Rattle.pf_cycles.specs.Cycles
 pub use Rattle.pf_flow.specs.Flows
 pub use Rattle.pf_flow.specs.Networks
 pub use Rattle.pf_flow.specs.Listings

@@ -11,5 +11,5 @@ pub mod prelude;
 pub mod undirected;
 
 pub use pf_base::{NodeRefs, cost, error, noderefs, utils};
-pub use pf_graph::kuhn_munkres;
+pub use pf_assignment::kuhn_munkres;
 pub use pf_routes::routes;

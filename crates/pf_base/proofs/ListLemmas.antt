@@ -55,4 +55,3 @@ take_none (suc n) = refl
 -- what fills up an empty list
 pub resized : {A : Type 0} (n : ℕ) (xs after : List A) (m : ℕ) (v : A) → xs ≡ [] → m ≡ 0 → after ≡ take n xs ++ replicate (n - m) v → after ≡ replicate n v
 resized n xs after m v e f h = h ∙ ap (λ ys. take n ys ++ replicate (n - m) v) e ∙ ap (λ ys. ys ++ replicate (n - m) v) (take_none n) ∙ ap (λ (k : ℕ). replicate k v) (omega (arith, f))
-

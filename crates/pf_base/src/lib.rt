@@ -3,6 +3,7 @@
 
 pub mod cost;
 pub mod error;
+pub mod filled;
 pub mod functions;
 pub mod noderefs;
 pub mod utils;

@@ -5,10 +5,3 @@ pub mod CarryLemmas
 pub mod NumberLemmas
 pub mod Spanning
 pub mod Components
-pub mod Assignment
-pub mod CycleLemmas
-pub mod BrentLemmas
-pub mod ChaseLemmas
-pub mod FloydLemmas
-pub mod StepCallers
-pub mod Outcomes

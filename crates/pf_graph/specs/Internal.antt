@@ -2,4 +2,3 @@ pub mod UnionFind
 pub mod NumberedEdges
 pub mod Spanning
 pub mod Components
-pub mod Assignment

@@ -3,6 +3,4 @@ pub mod Spanning
 pub mod EdgesByReference
 pub mod Components
 pub mod GrownTree
-pub mod Assignments
-pub mod Cycles
 pub mod Internal

@@ -1,7 +1,4 @@
-//! Cycles of a step, components and minimum spanning forests of undirected graphs, and best assignments.
+//! Components and minimum spanning forests of undirected graphs.
 #![tactic(auto)]
 
-pub mod directed;
-mod filled;
-pub mod kuhn_munkres;
 pub mod undirected;

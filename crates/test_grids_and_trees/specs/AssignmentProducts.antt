@@ -1,6 +1,6 @@
 -- The table of row times column, and that of its negations.
 use Rattle.std.specs.Prelude.{ℕ, ℤ, pos, neg_ℤ, ◌*◌, Bool, true, false}
-use Rattle.pf_graph.specs.Assignments.{NumberTable}
+use Rattle.pf_assignment.specs.Assignments.{NumberTable}
 
 -- row times column, or its negation
 abbrev pub product_at : Bool → ℕ → ℕ → ℤ

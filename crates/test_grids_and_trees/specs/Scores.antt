@@ -1,6 +1,6 @@
 -- The table of rows of scores, and that of their negations.
 use Rattle.std.specs.Prelude.{ℕ, ℤ, pos, neg_ℤ, Bool, true, false, List, [], length, slice_index_or}
-use Rattle.pf_graph.specs.Assignments.{NumberTable}
+use Rattle.pf_assignment.specs.Assignments.{NumberTable}
 
 -- the score in row r and column c
 abbrev pub score : List (List ℤ) → ℕ → ℕ → ℤ

@@ -1,10 +1,10 @@
 //! The calls that find cycles, behind one function.
 
 ghost use Rattle.pf_base.specs.Answers.{IsLawfulClone};
-ghost use Rattle.pf_graph.specs.Cycles.{AnswersStep, IsMet};
+ghost use Rattle.pf_cycles.specs.Cycles.{AnswersStep, IsMet};
 
 use pf_base::PathError;
-use pf_graph::directed::cycle_detection::{brent, brent_partial, floyd, floyd_partial};
+use pf_cycles::directed::cycle_detection::{brent, brent_partial, floyd, floyd_partial};
 
 /// A length, a value and a number of steps.
 pub type Cycle<T> = Result<(usize, T, usize), PathError>;

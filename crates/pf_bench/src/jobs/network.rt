@@ -8,7 +8,7 @@ use crate::inputs::{Network, WeightedEdge, edges, edges_from_first, groups};
 use crate::repeats::{Outcome, Repeats};
 use pf_base::PathError;
 use pf_flow::edmonds_karp::{EKFlows, edmonds_karp_dense, edmonds_karp_sparse};
-use pf_graph::directed::cycle_detection::brent;
+use pf_cycles::directed::cycle_detection::brent;
 use pf_graph::undirected::connected_components::components;
 use pf_graph::undirected::kruskal::{kruskal, kruskal_indices};
 use pf_graph::undirected::prim::prim;

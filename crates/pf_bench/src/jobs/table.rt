@@ -7,7 +7,7 @@ use crate::error::BenchError;
 use crate::inputs::table;
 use crate::repeats::{Outcome, Repeats};
 use pf_base::PathError;
-use pf_graph::kuhn_munkres::{kuhn_munkres, kuhn_munkres_min, weights_fit};
+use pf_assignment::kuhn_munkres::{kuhn_munkres, kuhn_munkres_min, weights_fit};
 use pf_matrix::{Matrix, MatrixFormatError};
 use std::alloc::Global;
 

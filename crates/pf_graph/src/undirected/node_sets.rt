@@ -6,8 +6,8 @@ ghost use Rattle.pf_base.specs.Answers.{IsLawfulClone};
 ghost use Rattle.pf_base.specs.declared.error.PathError.TheVariants.{OutOfMemory};
 ghost use Rattle.pf_graph.specs.Internal.Components.DisjointSets.{AreCollected, AreDone, IsCollected};
 
-use crate::filled::filled;
 use pf_base::PathError;
+use pf_base::filled::filled;
 use std::alloc::Allocator;
 use std::collections::HashSet;
 use std::hash::{BuildHasherDefault, FoldHasher, Hash};

@@ -11,11 +11,11 @@ ghost use Rattle.pf_graph.specs.Internal.NumberedEdges.{StandsFor};
 ghost use Rattle.pf_graph.specs.GrownTree.{StartsAt, GrowsByLeast, IsLeastAround, AreChosenEitherWay};
 ghost use Rattle.pf_graph.specs.Spanning.{IsForest};
 
-use crate::filled::filled;
 use crate::undirected::frontier::{cover, next_leaving};
 use crate::undirected::numbered::number_edges;
 use crate::undirected::steps::{Step, rows_of};
 use pf_base::PathError;
+use pf_base::filled::filled;
 use std::alloc::Allocator;
 use std::collections::BinaryHeap;
 use std::hash::Hash;

@@ -3,10 +3,10 @@
 ghost use Rattle.std.specs.Prelude.{◌≡◌, ◌≤ℤ◌, ◌+ℤ◌, if◌then◌else◌, int_rem, pos, negsuc};
 ghost use Rattle.std.specs.Ordering.{int_eq};
 ghost use Rattle.pf_base.specs.Answers.{IsLawfulClone};
-ghost use Rattle.pf_graph.specs.Cycles.{AnswersStep, IsMet};
+ghost use Rattle.pf_cycles.specs.Cycles.{AnswersStep, IsMet};
 
 use pf_base::PathError;
-use pf_graph::directed::cycle_detection::{brent, brent_partial, floyd, floyd_partial};
+use pf_cycles::directed::cycle_detection::{brent, brent_partial, floyd, floyd_partial};
 
 /// What `floyd`, `brent`, `floyd_partial` and `brent_partial` answer.
 type Answers<T> = Result<[(usize, T, usize); 4], PathError>;

@@ -1,5 +1,5 @@
 use Rattle.std.proofs.Common.{rules}
-use Rattle.pf_graph.proofs.StepCallers.{nat_step}
+use Rattle.pf_cycles.proofs.StepCallers.{nat_step}
 use Rattle.test_hostile_use.specs.Chains.{next_lower}
 use Rattle.test_hostile_use.proofs.chained.cycles_in_ring.Goals as goal
 

@@ -1,6 +1,6 @@
 use Rattle.std.proofs.Common.{rules, ◌+◌, ◌*◌, ◌%◌, ◌^◌, ℕ}
 use Rattle.std.specs.Prelude.{⊤}
-use Rattle.pf_graph.proofs.StepCallers.{nat_step}
+use Rattle.pf_cycles.proofs.StepCallers.{nat_step}
 use Rattle.pf_bench.proofs.jobs.network.cycle.Goals as goal
 
 pub brent-requires-clause-steps : goal.brent-requires-clause-steps

@@ -4,7 +4,7 @@ use Rattle.pf_base.proofs.Asking.{Answers-takes, Answers-gives, Answers-on, Give
 use Rattle.pf_graph.specs.Internal.Components.Around.{AreGroupsAround}
 use Rattle.pf_graph.proofs.Components.AroundLemmas.{group_made, groups_more, node_at}
 use Rattle.std.proofs.lemmas.Result.{IfOk-from_err}
-use Rattle.pf_graph.proofs.Outcomes.{refused_by, refused_as, if_refused}
+use Rattle.pf_base.proofs.Outcomes.{if_refused, refused_as, refused_by}
 use Rattle.pf_graph.proofs.undirected.around.groups_around.Goals as goal
 
 pub adjacent-items-requires : goal.adjacent-items-requires

@@ -4,7 +4,7 @@ use Rattle.std.specs.List.{list_any}
 use Rattle.std.proofs.lemmas.List.{append_assoc, append-nil}
 use Rattle.pf_graph.proofs.Components.IndexLemmas.{index_more}
 use Rattle.std.proofs.lemmas.Result.{IfOk-from_err}
-use Rattle.pf_graph.proofs.Outcomes.{refused_by}
+use Rattle.pf_base.proofs.Outcomes.{refused_by}
 use Rattle.pf_graph.proofs.undirected.connected_components.index_nodes.Goals as goal
 
 pub loop-node-init : goal.loop-node-init

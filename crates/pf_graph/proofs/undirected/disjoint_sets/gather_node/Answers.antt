@@ -6,7 +6,7 @@ use Rattle.pf_graph.specs.Internal.Components.DisjointSets.{IsGathered}
 use Rattle.std.specs.Prelude.{slice_get, Some}
 use Rattle.pf_graph.proofs.Components.DisjointSetLemmas.{added_new, added_known, merged_anyway, gathered_again, gathered_new}
 use Rattle.std.proofs.lemmas.Result.{IfOk-from_err}
-use Rattle.pf_graph.proofs.Outcomes.{refused_by}
+use Rattle.pf_base.proofs.Outcomes.{refused_by}
 use Rattle.pf_graph.proofs.undirected.disjoint_sets.gather_node.Goals as goal
 
 pub returns-in_ok-push : goal.returns-in_ok-push

@@ -2,7 +2,7 @@ use Rattle.std.proofs.Common.{sym, subst, ◌∙◌, ap, ℕ, length, take, take
 use Rattle.pf_graph.specs.Internal.Components.DisjointSets.{IsIdOf, Identifies}
 use Rattle.pf_graph.proofs.Components.DisjointSetLemmas.{Identifies-more}
 use Rattle.std.proofs.lemmas.Result.{IfOk-from_err}
-use Rattle.pf_graph.proofs.Outcomes.{refused_by}
+use Rattle.pf_base.proofs.Outcomes.{refused_by}
 use Rattle.pf_graph.proofs.undirected.disjoint_sets.identify.Goals as goal
 
 pub loop-group-preserved : goal.loop-group-preserved

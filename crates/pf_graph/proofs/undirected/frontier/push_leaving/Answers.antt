@@ -6,7 +6,7 @@ use Rattle.pf_graph.specs.Internal.Spanning.Frontier.{IsMarked, Gains, waiting_o
 use Rattle.pf_graph.proofs.ListLemmas.{get_contains}
 use Rattle.pf_graph.proofs.Spanning.FrontierLemmas.{Gains-skip, Gains-push}
 use Rattle.std.proofs.lemmas.Result.{IfOk-from_err}
-use Rattle.pf_graph.proofs.Outcomes.{refused_by}
+use Rattle.pf_base.proofs.Outcomes.{refused_by}
 use Rattle.pf_graph.proofs.undirected.frontier.push_leaving.Goals as goal
 use Rattle.pf_graph.proofs.undirected.frontier.push_leaving.Goals.{then-not-covered-step+in_ok-push, else-not-covered-step}
 

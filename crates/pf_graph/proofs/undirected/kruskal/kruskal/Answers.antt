@@ -6,7 +6,7 @@ use Rattle.pf_graph.specs.declared.undirected.weighed.Weighed.{Weighed}
 use Rattle.pf_graph.specs.Spanning.{IsForest, IsLeastUnderEveryBound, AreChosenFrom}
 use Rattle.pf_graph.proofs.Spanning.NameLemmas.{numbered_below, written_forest, written_least, written_given, written_sorted}
 use Rattle.pf_graph.proofs.undirected.kruskal.kruskal.Given.{Over}
-use Rattle.pf_graph.proofs.Outcomes.{refused_as, if_refused}
+use Rattle.pf_base.proofs.Outcomes.{if_refused, refused_as}
 use Rattle.pf_graph.proofs.undirected.kruskal.kruskal.Goals as goal
 use Rattle.pf_graph.proofs.undirected.kruskal.kruskal.Goals.{After-into_iter}
 

@@ -6,7 +6,7 @@ use Rattle.pf_graph.specs.Spanning.{IsLeastForest}
 use Rattle.pf_graph.proofs.Spanning.NameLemmas.{numbered_below}
 use Rattle.pf_graph.proofs.Spanning.WeightLemmas.{written_of, sorted_keys, least_forest, sum_of_forest}
 use Rattle.pf_graph.proofs.undirected.kruskal.spanning_weight.Given.{Over}
-use Rattle.pf_graph.proofs.Outcomes.{if_refused, refused_as}
+use Rattle.pf_base.proofs.Outcomes.{if_refused, refused_as}
 use Rattle.pf_base.specs.declared.error.PathError.{PathError}
 use Rattle.pf_base.specs.declared.error.PathError.TheVariants.{OutOfMemory, CostOverflow}
 use Rattle.pf_graph.proofs.undirected.kruskal.spanning_weight.Goals as goal

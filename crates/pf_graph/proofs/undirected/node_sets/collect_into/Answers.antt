@@ -2,7 +2,7 @@ use Rattle.std.proofs.Common.{[], ◌∷◌, ◌++◌, ◌≡◌, ◌<◌, ℕ, 
 use Rattle.std.proofs.lemmas.Option.{slice_get-get_or, slice_get_read}
 use Rattle.pf_graph.specs.Internal.Components.DisjointSets.{AreDone}
 use Rattle.pf_graph.proofs.Components.CollectLemmas.{AreDone-none, AreDone-more}
-use Rattle.pf_graph.proofs.Outcomes.{refused_as, on_refused}
+use Rattle.pf_base.proofs.Outcomes.{on_refused, refused_as}
 use Rattle.pf_graph.proofs.undirected.node_sets.collect_into.Goals as goal
 
 pub loop-number-init : goal.loop-number-init

@@ -1,6 +1,6 @@
 use Rattle.std.proofs.Common.{sym}
 use Rattle.std.proofs.lemmas.Result.{IfOk-from_err}
-use Rattle.pf_graph.proofs.Outcomes.{refused_by, refused_as, if_refused}
+use Rattle.pf_base.proofs.Outcomes.{if_refused, refused_as, refused_by}
 use Rattle.pf_graph.proofs.undirected.numbered.number_edges.Goals as goal
 
 pub returns : goal.returns

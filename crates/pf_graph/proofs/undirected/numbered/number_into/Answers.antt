@@ -5,7 +5,7 @@ use Rattle.std.proofs.lemmas.List.Elements.{All-nil, All-push, All-same}
 use Rattle.pf_graph.specs.Internal.NumberedEdges.{IsNumbered, IsWeighed}
 use Rattle.pf_graph.proofs.NumberLemmas.{IsNumbered-none, IsNumbered-more}
 use Rattle.std.proofs.lemmas.Result.{IfOk-from_err}
-use Rattle.pf_graph.proofs.Outcomes.{refused_by}
+use Rattle.pf_base.proofs.Outcomes.{refused_by}
 use Rattle.pf_graph.proofs.undirected.numbered.number_into.Goals as goal
 
 pub loop-edge-init : goal.loop-edge-init

@@ -6,7 +6,7 @@ use Rattle.pf_graph.specs.EdgesByReference.{shown}
 use Rattle.pf_graph.specs.Internal.Spanning.Frontier.{WaitsSave, IsGrown}
 use Rattle.pf_graph.proofs.Spanning.FrontierLemmas.{open_count, open_less, WaitsSave-start, WaitsSave-taken}
 use Rattle.pf_graph.proofs.Spanning.GrowLemmas.{IsGrown-start, IsGrown-push, IsGrown-end}
-use Rattle.pf_graph.proofs.Outcomes.{refused_as, if_refused, refused_by}
+use Rattle.pf_base.proofs.Outcomes.{if_refused, refused_as, refused_by}
 use Rattle.std.proofs.lemmas.Result.{IfOk-from_err}
 use Rattle.pf_graph.proofs.undirected.prim.grow.Goals as goal
 

@@ -4,7 +4,7 @@ use Rattle.std.proofs.lemmas.List.Sorted.{All-permutation, Contains-permutation,
 use Rattle.pf_graph.specs.Spanning.{AreBelow}
 use Rattle.pf_graph.specs.Internal.UnionFind.{IsSound, IsLabelling}
 use Rattle.pf_graph.proofs.Spanning.CopyLemmas.{least_of_permutation}
-use Rattle.pf_graph.proofs.Outcomes.{refused_as, if_refused}
+use Rattle.pf_base.proofs.Outcomes.{if_refused, refused_as}
 use Rattle.std.proofs.lemmas.Result.{IfOk-weaker}
 use Rattle.pf_graph.proofs.undirected.spanning.spanning_forest.Goals as goal
 

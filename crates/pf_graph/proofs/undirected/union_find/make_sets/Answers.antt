@@ -1,7 +1,7 @@
 use Rattle.std.proofs.Common.{ℕ, ◌+◌, ◌∷◌, [], ◌∙◌, refl, sym, subst, ap, arith, length}
 use Rattle.std.proofs.lemmas.List.{length-append}
 use Rattle.std.proofs.lemmas.Result.{IfOk-from_err}
-use Rattle.pf_graph.proofs.Outcomes.{refused_by}
+use Rattle.pf_base.proofs.Outcomes.{refused_by}
 use Rattle.pf_graph.specs.declared.undirected.union_find.Vertex.{Vertex}
 use Rattle.pf_graph.proofs.UnionFindLemmas.{AreSingletons, AreSingletons-nil, AreSingletons-push, IsSound-singletons, IsLabelling-singletons}
 use Rattle.pf_graph.proofs.undirected.union_find.make_sets.Goals as goal

@@ -3,7 +3,7 @@ use Rattle.std.specs.Prelude.{◌≤ℤ◌, ◌+ℤ◌}
 use Rattle.std.specs.Ordering.{int_eq}
 use Rattle.std.proofs.lemmas.Int.{ints}
 use Rattle.std.proofs.lemmas.Cmp.{int_eq_equiv}
-use Rattle.pf_graph.proofs.StepCallers.{int_step}
+use Rattle.pf_cycles.proofs.StepCallers.{int_step}
 use Rattle.test_grids_and_trees.proofs.graph.tests.cycles.behind_many_steps.Goals as goal
 
 -- the next number, and 0 after 10

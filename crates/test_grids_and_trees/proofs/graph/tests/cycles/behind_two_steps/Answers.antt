@@ -3,7 +3,7 @@ use Rattle.std.specs.Prelude.{◌≤ℤ◌, ◌+ℤ◌, unsigned_abs, int_rem}
 use Rattle.std.specs.Ordering.{int_eq}
 use Rattle.std.proofs.lemmas.Int.{ints, rem_below}
 use Rattle.std.proofs.lemmas.Cmp.{int_eq_equiv}
-use Rattle.pf_graph.proofs.StepCallers.{int_step}
+use Rattle.pf_cycles.proofs.StepCallers.{int_step}
 use Rattle.test_grids_and_trees.proofs.graph.tests.cycles.behind_two_steps.Goals as goal
 
 abbrev moved : ℤ → ℤ

@@ -1,6 +1,6 @@
 use Rattle.std.proofs.Common.{rules, ◌≡◌, sym, subst, true, nat_eq, ◌<◌, ◌*◌, ◌%◌, ℕ, arith}
 use Rattle.pf_base.proofs.Callers.{nat_refl}
-use Rattle.pf_graph.proofs.StepCallers.{nat_step}
+use Rattle.pf_cycles.proofs.StepCallers.{nat_step}
 use Rattle.test_grids_and_trees.proofs.graph.tests.cycles.doubling.Goals as goal
 
 -- twice a number modulo 7

@@ -1,0 +1,9 @@
+pub mod AugmentingPath
+pub mod MatchingBest
+pub mod MatchingBounds
+pub mod MatchingCount
+pub mod MatchingNumbers
+pub mod MatchingRaise
+pub mod MatchingScan
+pub mod MatchingTree
+pub mod MatchingWeights

@@ -1,0 +1,4 @@
+//! Best assignments of rows to columns.
+#![tactic(auto)]
+
+pub mod kuhn_munkres;

@@ -1,0 +1,4 @@
+//! Cycles of a step on values.
+#![tactic(auto)]
+
+pub mod directed;

@@ -1,9 +1,0 @@
-pub mod MatchingNumbers
-pub mod MatchingTree
-pub mod MatchingScan
-pub mod MatchingWeights
-pub mod AugmentingPath
-pub mod MatchingCount
-pub mod MatchingBounds
-pub mod MatchingRaise
-pub mod MatchingBest
