@@ -40,7 +40,6 @@ pub use Rattle.pf_matrix.specs.Arrange
 pub use Rattle.pf_matrix.specs.Calls
 pub use Rattle.pf_matrix.specs.Equality
 pub use Rattle.pf_matrix.specs.Floods
-pub use Rattle.pf_matrix.specs.Gathering
 pub use Rattle.pf_matrix.specs.Giving
 pub use Rattle.pf_matrix.specs.ItemsMut
 pub use Rattle.pf_matrix.specs.Lends

@@ -1,19 +1,11 @@
--- Floods: where the vertices in reach lie.
+-- Floods: where the vertices beside a vertex lie.
 use Rattle.std.proofs.Common.{◌≡◌, ◌+◌, ◌*◌, refl, subst, arith, inl, inr, ℕ, Bool, true, false, Option, Some, None, List, [], ◌∷◌}
-use Rattle.std.specs.Prelude.{◌||◌, not, if◌then◌else◌, Contains}
+use Rattle.std.specs.Prelude.{◌||◌, not, if◌then◌else◌}
 use Rattle.std.specs.List.{AllByRecursion, cons_option, filter_map}
-use Rattle.std.proofs.lemmas.List.Elements.{Contains-get_or}
-use Rattle.std.proofs.lemmas.Nat.{mul-add-lt}
-use Rattle.pf_base.specs.Walks.{HasNode}
-use Rattle.pf_base.proofs.Reach.{filter_all}
-use Rattle.pf_base.proofs.Tables.{pair_refl, pair_exact, successors_keep}
 use Rattle.pf_matrix.specs.Calls.{CallableInTurn}
-use Rattle.pf_matrix.specs.Floods.{same_position}
+use Rattle.pf_matrix.specs.Internal.Flooding.{Has}
+use Rattle.pf_matrix.proofs.FloodLemmas.{IsIn, all_has}
 use Rattle.pf_matrix.specs.Positions.{positions}
-use Rattle.pf_matrix.proofs.FloodLemmas.{node_contained}
-use Rattle.pf_matrix.proofs.PositionLemmas.{length-positions, get_or-positions}
-use Rattle.pf_grid.specs.VertexFloods.{passing_around}
-use Rattle.pf_matrix.specs.Gathering.{IsWithinPlaces}
 use Rattle.pf_grid.specs.GridPositions.{Positions, has}
 use Rattle.pf_grid.specs.Steps.{around, is_diagonal, neighbours_of, shifted, target, vertex_at}
 use Rattle.pf_grid.specs.declared.grid.steps.Shift.{Shift}
@@ -51,23 +43,9 @@ module _ (g : Positions) where
       by true = all_mapped (target g at) P around step
       by false = tt
 
-  position_in : (p : ℕ × ℕ) → has g p.0 p.1 ≡ true → HasNode same_position (positions g.width g.height) p
-  position_in p h = let inside = has_is_inside g p.0 p.1 h in
-      node_contained (positions g.width g.height) p (subst (λ z. Contains (positions g.width g.height) z) (get_or-positions g.width g.height p.0 p.1 p inside.0 inside.1)
-      (Contains-get_or (positions g.width g.height) (p.0 * g.height + p.1) p (omega (arith, length-positions g.width g.height, mul-add-lt p.0 g.height p.1 g.width inside.0 inside.1))))
-
-  -- what is in reach is the start, or inside
-  pub flood_within : (passes : ℕ × ℕ → Bool) (start : ℕ × ℕ) → IsWithinPlaces (passing_around g passes) start (g.width * g.height)
-  flood_within passes start =
-      let among = start ∷ positions g.width g.height in
-      let P : ℕ × ℕ → Type 0 = λ p. HasNode same_position among p in
-      record {
-        among = among;
-        few = omega (arith, length-positions g.width g.height);
-        all = successors_keep same_position (passing_around g passes) P (λ a b e h. subst P (pair_exact a b e) h)
-            (λ a h. filter_all P passes (neighbours_of g a) (neighbours_all P (λ p r. inr (position_in p r)) a))
-            (start ∷ []) (inl (pair_refl start), tt);
-      }
+  -- the vertices beside a vertex are inside
+  pub near_in : (at q : ℕ × ℕ) → Has (neighbours_of g at) q → IsIn g.width g.height q
+  near_in at q h = all_has (IsIn g.width g.height) (neighbours_of g at) (neighbours_all (IsIn g.width g.height) (λ p v. has_is_inside g p.0 p.1 v) at) q h
 
 -- a function that may be called at the positions of one grid may be called at those of an equal one
 pub callable_on : {F Y : Type 0} {pre : F → ℕ × ℕ → Type 0} {step : F → ℕ × ℕ → Y → F → Type 0} {f : F} {a b : Positions} → a ≡ b → CallableInTurn pre step f (positions a.width a.height) → CallableInTurn pre step f (positions b.width b.height)

@@ -5,3 +5,4 @@ pub mod Parts
 pub mod TableCode
 pub mod Turning
 pub mod PositionOrder
+pub mod Flooding

@@ -3,7 +3,6 @@ pub mod Arrange
 pub mod Calls
 pub mod Equality
 pub mod Floods
-pub mod Gathering
 pub mod Giving
 pub mod Internal
 pub mod ItemsMut

@@ -3,7 +3,6 @@
 
 pub mod directions;
 mod error;
-pub mod gathering;
 pub mod giving;
 pub mod laws;
 mod macros;
@@ -12,4 +11,6 @@ mod row_major;
 
 pub use crate::error::MatrixFormatError;
 pub use crate::macros::from_slices;
-pub use crate::matrix::{ColumnIterator, Items, ItemsMut, Keys, Matrix, Neighbours, RowIterator};
+pub use crate::matrix::{
+    ColumnIterator, Items, ItemsMut, Keys, Matrix, Neighbours, RowIterator, flooding,
+};

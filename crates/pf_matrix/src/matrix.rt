@@ -2,6 +2,7 @@
 
 mod columns;
 mod flips;
+pub mod flooding;
 mod floods;
 mod from_rows;
 mod indexing;

@@ -1,18 +1,19 @@
 //! The vertices in reach of a position, where each step leads to a neighbour that passes a test.
 
-ghost use Rattle.std.specs.Prelude.{◌≡◌, true, false, [], ◌∷◌, IfOk, IfErr};
+ghost use Rattle.std.specs.Prelude.{◌≡◌, ◌+◌, true, false, [], ◌∷◌, IfOk, IfErr, OnOk, length};
 ghost use Rattle.pf_grid.specs.VertexFloods.{IsFlood, IsFloodBy};
 ghost use Rattle.pf_grid.specs.GridPositions.{has};
 ghost use Rattle.pf_grid.specs.declared.error.GridError.TheVariants.{OutOfMemory};
 ghost use Rattle.pf_matrix.specs.Calls.{CallableInTurn};
+ghost use Rattle.pf_grid.specs.Steps.{neighbours_of};
 ghost use Rattle.pf_matrix.specs.Floods.{answer_at};
+ghost use Rattle.pf_matrix.specs.Internal.Flooding.{Spreads, free_count};
 ghost use Rattle.pf_matrix.specs.Positions.{positions};
 
 use crate::error::GridError;
 use crate::grid::Grid;
 use pf_matrix::Matrix;
-use pf_matrix::gathering::{gather_breadth, is_taken};
-use pf_search::directed::bfs::bfs_reach;
+use pf_matrix::flooding::{close, set_of};
 use std::alloc::Allocator;
 use std::collections::BTreeSet;
 
@@ -45,10 +46,10 @@ impl<A: Allocator + Copy> Grid<A> {
             alone.insert(start)?;
             return Ok(alone);
         }
-        let Ok(passing) = Matrix::from_fn(alloc, self.width, self.height, predicate) else {
+        let Ok(mut free) = Matrix::from_fn(alloc, self.width, self.height, predicate) else {
             return Err(GridError::OutOfMemory);
         };
-        self.flood(alloc, start, &passing)
+        self.flood(alloc, start, &mut free)
     }
 
     /// The vertices that are reached from `start` by steps to neighbours that `predicate` takes, as
@@ -71,27 +72,47 @@ impl<A: Allocator + Copy> Grid<A> {
         self.bfs_reachable(start, predicate)
     }
 
-    /// The vertices that are reached from `start` by steps to neighbours that pass.
+    /// The vertices that are reached from `start` by steps to neighbours at which `free` has `true`.
+    /// The start is always one of them. A position that was reached is not free afterwards.
     fn flood(
         &self,
         alloc: A,
         start: (usize, usize),
-        passing: &Matrix<bool, A>,
+        free: &mut Matrix<bool, A>,
     ) -> Result<BTreeSet<(usize, usize), A>, GridError>
-        ensures reached { IfOk result (IsFlood self.now (answer_at passing.now.rows passing.now.columns passing.now.values) start) }
+        requires sizes { (free.old.rows ≡ self.now.width) × (free.old.columns ≡ self.now.height) }
+        ensures reached { IfOk result (IsFlood self.now (answer_at free.old.rows free.old.columns free.old.values) start) }
         ensures refused { IfErr result (λ e. e ≡ OutOfMemory) }
     {
-        let grid = self;
-        let walk = bfs_reach(alloc, start, |position: &(usize, usize)| {
-            grid.around(*position)
-                .filter(move |neighbour| is_taken(passing, *neighbour))
-        });
-        let Ok(mut walk) = walk else {
-            return Err(GridError::OutOfMemory);
-        };
-        let Ok(reached) = gather_breadth(alloc, &mut walk, self.size()) else {
-            return Err(GridError::OutOfMemory);
-        };
-        Ok(reached)
+        let mut reached = Vec::new(alloc);
+        reached.push(start)?;
+        let mut next = 0;
+        'positions: while next < reached.len() {
+            self.reach_around(free, reached[next], &mut reached)?;
+            next += 1;
+        }
+        Ok(set_of(alloc, &reached)?)
+    }
+
+    /// Puts the free neighbours of a vertex at the end of the list, and closes them.
+    fn reach_around(
+        &self,
+        free: &mut Matrix<bool, A>,
+        position: (usize, usize),
+        reached: &mut Vec<(usize, usize), A>,
+    ) -> Result<(), GridError>
+        requires sizes { (free.old.rows ≡ self.now.width) × (free.old.columns ≡ self.now.height) }
+        ensures sizes { (free.new.rows ≡ free.old.rows) × (free.new.columns ≡ free.old.columns) }
+        ensures spreads { OnOk result (Spreads (neighbours_of self.now position) []
+            (answer_at free.old.rows free.old.columns free.old.values) (answer_at free.old.rows free.old.columns free.new.values) reached.old.items reached.new.items) }
+        ensures counted { OnOk result (free_count free.new.values + length reached.new.items ≡ free_count free.old.values + length reached.old.items) }
+        ensures refused { IfErr result (λ e. e ≡ OutOfMemory) }
+    {
+        for neighbour in self.around(position) {
+            if close(free, neighbour) {
+                reached.push(neighbour)?;
+            }
+        }
+        Ok(())
     }
 }

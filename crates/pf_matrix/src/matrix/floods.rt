@@ -2,14 +2,13 @@
 
 ghost use Rattle.std.specs.Prelude.{◌≡◌, IfOk, IfErr};
 ghost use Rattle.pf_matrix.specs.Calls.{CallableInTurn};
-ghost use Rattle.pf_matrix.specs.Floods.{IsFlood, IsFloodBy, answer_at};
+ghost use Rattle.pf_matrix.specs.Floods.{IsFloodBy};
 ghost use Rattle.pf_matrix.specs.Positions.{positions_of};
 ghost use Rattle.pf_matrix.specs.declared.error.MatrixFormatError.TheVariants.{OutOfMemory};
 
 use crate::error::MatrixFormatError;
-use crate::gathering::{gather_breadth, is_taken};
 use crate::matrix::Matrix;
-use pf_search::directed::bfs::bfs_reach;
+use crate::matrix::flooding::flood;
 use std::alloc::Allocator;
 use std::collections::BTreeSet;
 
@@ -36,8 +35,8 @@ impl<C, A: Allocator + Copy> Matrix<C, A> {
         ensures refused { IfErr result (λ e. e ≡ OutOfMemory) }
     {
         let alloc = *self.values.allocator();
-        let passing = Matrix::from_fn(alloc, self.rows, self.columns, predicate)?;
-        flood(alloc, &passing, start, diagonals)
+        let mut free = Matrix::from_fn(alloc, self.rows, self.columns, predicate)?;
+        flood(alloc, &mut free, start, diagonals)
     }
 
     /// The positions that are reached from `start` by steps to neighbours that `predicate` takes, as
@@ -59,27 +58,4 @@ impl<C, A: Allocator + Copy> Matrix<C, A> {
     {
         self.bfs_reachable(start, diagonals, predicate)
     }
-}
-
-/// The positions that are reached from `start` by steps to neighbours at which the table has `true`.
-fn flood<A: Allocator + Copy>(
-    alloc: A,
-    passing: &Matrix<bool, A>,
-    start: (usize, usize),
-    diagonals: bool,
-) -> Result<BTreeSet<(usize, usize), A>, MatrixFormatError>
-    ensures reached { IfOk result (IsFlood passing.now.rows passing.now.columns diagonals (answer_at passing.now.rows passing.now.columns passing.now.values) start) }
-    ensures refused { IfErr result (λ e. e ≡ OutOfMemory) }
-{
-    // A borrow of this function alone: the borrow checker covers the closures at one such lifetime.
-    let table = &*passing;
-    let walk = bfs_reach(alloc, start, |position: &(usize, usize)| {
-        table
-            .neighbours(*position, diagonals)
-            .filter(move |neighbour| is_taken(table, *neighbour))
-    });
-    let Ok(mut walk) = walk else {
-        return Err(MatrixFormatError::OutOfMemory);
-    };
-    gather_breadth(alloc, &mut walk, passing.rows * passing.columns)
 }

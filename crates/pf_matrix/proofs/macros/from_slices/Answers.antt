@@ -3,7 +3,7 @@ use Rattle.std.specs.Prelude.{◌≢◌}
 use Rattle.std.proofs.lemmas.Bool.{cases_eq}
 use Rattle.std.proofs.lemmas.Result.{IfOk-from_err}
 use Rattle.std.proofs.lemmas.List.{nil_from_length}
-use Rattle.pf_search.proofs.ResultLemmas.{refused_as}
+use Rattle.pf_base.proofs.Outcomes.{refused_as}
 use Rattle.pf_matrix.specs.declared.error.MatrixFormatError.TheVariants.{OutOfMemory}
 use Rattle.pf_matrix.specs.Rows.{joined, first_length, first_refusal}
 use Rattle.pf_matrix.proofs.RowLemmas.{AllZip-append, joined_more, refusal_fits, refusal_next, refusal_of}

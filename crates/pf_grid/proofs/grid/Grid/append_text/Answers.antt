@@ -3,7 +3,7 @@ use Rattle.std.specs.Prelude.{if◌then◌else◌}
 use Rattle.std.proofs.lemmas.List.{append_assoc}
 use Rattle.pf_grid.specs.Texts.{line_to, line_end, lines_to}
 use Rattle.pf_grid.proofs.TextLemmas.{lines_none, lines_more}
-use Rattle.pf_search.proofs.ResultLemmas.{on_refused, refused_as}
+use Rattle.pf_base.proofs.Outcomes.{on_refused, refused_as}
 use Rattle.pf_grid.specs.declared.error.GridError.TheVariants.{OutOfMemory}
 use Rattle.pf_grid.proofs.grid.Grid.append_text.Goals as goal
 

@@ -13,7 +13,7 @@ returns-in_default g c = record { alone = tt; reached = tt; refused = refl }
 
 pub returns-clause-reached : goal.returns-clause-reached
 returns-clause-reached g c =
-    let m = c.in-Ok.passing in
+    let m = c.in-Ok.free in
     let sizes = c.in-Ok.ensures in
     let rows = sizes.rows ∙ ap (λ t. t.width) c.self.view_is in
     let columns = sizes.columns ∙ ap (λ t. t.height) c.self.view_is in

@@ -1,46 +1,32 @@
-use Rattle.std.proofs.Common.{◌≡◌, [], false, refl, rules, sym, subst, ℕ}
-use Rattle.std.specs.Prelude.{⊤, IfOk}
-use Rattle.std.specs.Iterator.{item_count}
-use Rattle.pf_matrix.specs.Floods.{answer_at}
-use Rattle.pf_matrix.proofs.FloodLemmas.{filtered_successors}
-use Rattle.pf_grid.specs.VertexFloods.{passing_around}
-use Rattle.pf_matrix.specs.Gathering.{IsWithinPlaces}
+use Rattle.std.proofs.Common.{rules, arith, sym, subst, ◌≡◌, ◌<◌, ◌≤◌, ◌∙◌, ◌++◌, ◌∷◌, [], ap, length}
+use Rattle.std.specs.BTreeSet.{IsFromIterResult}
+use Rattle.pf_matrix.specs.Internal.PositionOrder.{position_cmp}
+use Rattle.pf_matrix.proofs.FloodLemmas.{flooding_end, flooding_init, flooding_turn}
 use Rattle.pf_grid.specs.Steps.{neighbours_of}
-use Rattle.pf_grid.proofs.FloodLemmas.{flood_within}
 use Rattle.pf_grid.proofs.grid.Grid.flood.Goals as goal
 
-pub gather_breadth-requires : goal.gather_breadth-requires
-gather_breadth-requires g c =
-    let m = c.args.passing.now in
-    let grid = c.args.self.now in
-    let passes = answer_at m.rows m.columns m.values in
-    let next = passing_around grid passes in
+pub positions-init : goal.positions-init
+positions-init g c = flooding_init c.args.free.now (neighbours_of c.args.self.now) c.args.start c.push.new.self.items (c.in_ok-push.ensures.items ∙ ap (λ ps. ps ++ c.args.start ∷ []) c.new-reached.ensures.items)
+
+pub reach_around-requires : goal.reach_around-requires
+reach_around-requires g c = record { sizes = (c.positions.invariant.rows ∙ c.requires.sizes.0, c.positions.invariant.columns ∙ c.requires.sizes.1) }
+
+pub positions-smaller : goal.positions-smaller
+positions-smaller g c =
+    let below : c.positions.next < length c.positions.reached.items = omega (arith, c.positions-test.true, c.len.ensures) in
+    omega (arith, c.positions.invariant.counted, below)
+
+pub positions-preserved : goal.positions-preserved
+positions-preserved g c =
+    let e = c.in_ok-reach_around.ensures in
+    let below : c.positions.next < length c.positions.reached.items = omega (arith, c.positions-test.true, c.len.ensures) in
+    flooding_turn c.args.free.now (neighbours_of c.args.self.now) c.args.start c.positions.free c.reach_around.new.free c.positions.reached.items c.reach_around.new.reached.items c.positions.next c.index.result.now
+    c.positions.invariant below c.index.ensures e.sizes e.spreads e.counted
+
+pub returns-clause-reached : goal.returns-clause-reached
+returns-clause-reached g c =
+    let ended : length c.positions.reached.items ≤ c.positions.next = omega (arith, c.positions-test.false, c.len.ensures) in
     record {
-      walk = (
-        next,
-        c.args.start,
-        c.in-Ok.ensures.graph next
-            (filtered_successors (λ ps. ⊤) (item_count (λ ps. ps)) passes (λ p. neighbours_of grid p) (λ ps. (tt, tt)) (λ x. tt)
-            (λ x r t k. (search rules, search rules, (λ y. tt), (λ y b q l. (search rules, search rules))))),
-        subst (λ (n : ℕ). IsWithinPlaces next c.args.start n) (sym c.size.ensures.size) (flood_within grid passes c.args.start),
-      );
-      fresh = subst (λ r. IfOk r (λ w. w.given ≡ [])) (sym c.in-Ok.ensures.begins) refl;
-      going = subst (λ r. IfOk r (λ w. w.refused ≡ false)) (sym c.in-Ok.ensures.begins) refl;
+      exactly = flooding_end c.args.free.now (neighbours_of c.args.self.now) c.args.start c.positions.free c.positions.reached.items c.positions.next
+          c.in_ok-set_of.field-0 c.positions.invariant ended (subst (λ ps. IsFromIterResult position_cmp ps c.in_ok-set_of.field-0) c.deref.ensures.value c.in_ok-set_of.ensures);
     }
-
-pub returns : goal.returns
-returns g c =
-    let m = c.args.passing.now in
-    let grid = c.args.self.now in
-    let passes = answer_at m.rows m.columns m.values in
-    let next = passing_around grid passes in
-    let walks = c.in-Ok.ensures.graph next
-    (filtered_successors (λ ps. ⊤) (item_count (λ ps. ps)) passes (λ p. neighbours_of grid p) (λ ps. (tt, tt)) (λ x. tt)
-    (λ x r t k. (search rules, search rules, (λ y. tt), (λ y b q l. (search rules, search rules))))) in
-    record { reached = record { exactly = c.in-Ok-gather_breadth.ensures.reached next c.args.start walks }; refused = tt }
-
-pub returns-in_default : goal.returns-in_default
-returns-in_default g c = record { reached = tt; refused = refl }
-
-pub returns-in_default-gather_breadth : goal.returns-in_default-gather_breadth
-returns-in_default-gather_breadth g c = record { reached = tt; refused = refl }

@@ -6,7 +6,7 @@ use Rattle.pf_grid.specs.GridPositions.{grid_of}
 use Rattle.pf_grid.proofs.CellLemmas.{put_more, same_grids}
 use Rattle.pf_grid.proofs.MatrixLemmas.{all_before, none_before, row_before, table_more, table_to}
 use Rattle.std.proofs.lemmas.Result.{IfOk-from_err}
-use Rattle.pf_search.proofs.ResultLemmas.{refused_as}
+use Rattle.pf_base.proofs.Outcomes.{refused_as}
 use Rattle.pf_grid.specs.declared.error.GridError.TheVariants.{OutOfMemory}
 use Rattle.pf_grid.proofs.grid.Grid.from_matrix.Goals as goal
 

@@ -6,7 +6,7 @@ use Rattle.pf_grid.specs.GridPositions.{grid_of, is_position}
 use Rattle.pf_grid.specs.Vertices.{width_of, height_of, listed}
 use Rattle.pf_grid.proofs.CellLemmas.{put_more}
 use Rattle.pf_grid.proofs.VertexLemmas.{any_more, extent_at}
-use Rattle.pf_search.proofs.ResultLemmas.{refused_as}
+use Rattle.pf_base.proofs.Outcomes.{refused_as}
 use Rattle.pf_grid.specs.declared.error.GridError.TheVariants.{OutOfMemory, TooLarge}
 use Rattle.pf_grid.proofs.grid.Grid.from_positions.Goals as goal
 

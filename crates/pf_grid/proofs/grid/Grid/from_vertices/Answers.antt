@@ -1,7 +1,7 @@
 use Rattle.std.proofs.Common.{◌≡◌, ◌⊎◌, ◌∙◌, ◌++◌, [], ◌∷◌, inl, refl, ap, subst}
 use Rattle.std.proofs.lemmas.Result.{IfOk-from_err, IfOk-weaker}
 use Rattle.pf_grid.specs.Vertices.{IsTooLarge, smallest}
-use Rattle.pf_search.proofs.ResultLemmas.{refused_as}
+use Rattle.pf_base.proofs.Outcomes.{refused_as}
 use Rattle.pf_grid.specs.declared.error.GridError.TheVariants.{OutOfMemory, TooLarge}
 use Rattle.pf_grid.proofs.grid.Grid.from_vertices.Goals as goal
 

@@ -3,7 +3,7 @@ use Rattle.std.proofs.lemmas.Result.{IfOk-from_err, IfOk-weaker}
 use Rattle.pf_matrix.specs.Positions.{positions_of}
 use Rattle.pf_matrix.specs.declared.error.MatrixFormatError.TheVariants.{OutOfMemory}
 use Rattle.pf_matrix.proofs.FloodLemmas.{callable_on, given_on}
-use Rattle.pf_search.proofs.ResultLemmas.{refused_as}
+use Rattle.pf_base.proofs.Outcomes.{refused_as}
 use Rattle.pf_matrix.proofs.matrix.Matrix.bfs_reachable.Goals as goal
 
 pub from_fn-requires : goal.from_fn-requires
@@ -13,16 +13,16 @@ from_fn-requires g c = record {
   callable = callable_on (sym (ap positions_of c.self.view_is)) c.requires;
 }
 
-pub returns-in_err-passing : goal.returns-in_err-passing
-returns-in_err-passing g c = record {
+pub returns-in_err-free : goal.returns-in_err-free
+returns-in_err-free g c = record {
   reached = IfOk-from_err _ _ c.from_residual.ensures.0;
-  refused = refused_as (λ e. e ≡ OutOfMemory) c.from_residual.result c.in_err-passing.field-0.0 c.from_residual.ensures.1 c.in_err-passing.ensures.refused;
+  refused = refused_as (λ e. e ≡ OutOfMemory) c.from_residual.result c.in_err-free.field-0.0 c.from_residual.ensures.1 c.in_err-free.ensures.refused;
 }
 
 pub returns : goal.returns
 returns g c =
-    let m = c.in_ok-passing.passing in
-    let sizes = c.in_ok-passing.ensures in
+    let m = c.in_ok-free.free in
+    let sizes = c.in_ok-free.ensures in
     let rows = sizes.rows ∙ ap (λ t. t.rows) c.self.view_is in
     let columns = sizes.columns ∙ ap (λ t. t.columns) c.self.view_is in
     record {

@@ -4,7 +4,7 @@ use Rattle.std.proofs.lemmas.List.{map_push}
 use Rattle.std.proofs.lemmas.Nat.{mul-add-lt}
 use Rattle.pf_matrix.proofs.LineLemmas.{column_more, column_none}
 use Rattle.std.proofs.lemmas.Result.{IfOk-from_err}
-use Rattle.pf_search.proofs.ResultLemmas.{refused_as}
+use Rattle.pf_base.proofs.Outcomes.{refused_as}
 use Rattle.pf_matrix.specs.declared.error.MatrixFormatError.TheVariants.{OutOfMemory}
 use Rattle.pf_matrix.proofs.matrix.Matrix.column.Goals as goal
 

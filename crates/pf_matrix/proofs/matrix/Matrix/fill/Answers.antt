@@ -2,7 +2,7 @@ use Rattle.std.proofs.Common.{sym, refl, ◌∙◌, ◌≡◌}
 use Rattle.pf_matrix.specs.Tables.{Table}
 use Rattle.pf_matrix.proofs.RowLemmas.{on_err}
 use Rattle.pf_matrix.proofs.TableLemmas.{matrix_anew}
-use Rattle.pf_search.proofs.ResultLemmas.{on_refused, refused_as}
+use Rattle.pf_base.proofs.Outcomes.{on_refused, refused_as}
 use Rattle.pf_matrix.specs.declared.error.MatrixFormatError.TheVariants.{OutOfMemory}
 use Rattle.pf_matrix.proofs.matrix.Matrix.fill.Goals as goal
 

@@ -4,7 +4,7 @@ use Rattle.pf_matrix.specs.Positions.{positions}
 use Rattle.pf_matrix.proofs.CallLemmas.{callable_first, callable_rest}
 use Rattle.pf_matrix.proofs.PositionLemmas.{length-positions}
 use Rattle.std.proofs.lemmas.Result.{IfOk-from_err}
-use Rattle.pf_search.proofs.ResultLemmas.{refused_as}
+use Rattle.pf_base.proofs.Outcomes.{refused_as}
 use Rattle.pf_matrix.specs.declared.error.MatrixFormatError.TheVariants.{OutOfMemory}
 use Rattle.pf_matrix.proofs.matrix.Matrix.from_fn.Goals as goal
 

@@ -1,7 +1,7 @@
 use Rattle.std.proofs.Common.{◌≡◌, ◌*◌, ◌<◌, ap, sym, refl, ◌∙◌, arith, length, [], ◌∷◌, ◌++◌, inl, inr, ◌⊎◌, Err}
 use Rattle.std.proofs.iter.Next.{Yields-more}
 use Rattle.std.proofs.lemmas.Result.{IfOk-from_err}
-use Rattle.pf_search.proofs.ResultLemmas.{refused_as}
+use Rattle.pf_base.proofs.Outcomes.{refused_as}
 use Rattle.pf_matrix.specs.declared.error.MatrixFormatError.TheVariants.{EmptyRow, OutOfMemory, WrongLength}
 use Rattle.pf_matrix.specs.Giving.{GivesAll}
 use Rattle.pf_matrix.proofs.RowLemmas.{AllZip-append, empty_is_not_long, empty_is_not_memory, flat_more, length-flat, grown, long_is_not_memory, ok_is_no_error, other_width, refused_is, rows_matrix}
