@@ -68,12 +68,6 @@ module _ {C : Type 0} (like : C → C → Type 0) where
       (arranged_then m.rows m.columns n.rows n.columns (λ r c. (r, c)) (λ r c. (r, n.columns - 1 - c)) (λ r c. (r, m.columns - 1 - c)) m n o a b
       (λ r c p q. (omega (arith, a.rows), omega (arith, a.columns), λ i. (r, a.columns i - 1 - c))))
 
-  pub flipped_ud : (m n o : Table C) → IsCopied like m n → IsFlippedUd itself n o → IsFlippedUd like m o
-  flipped_ud m n o a b =
-      arranged_sizes n.rows n.columns m.rows m.columns (λ r c. (m.rows - 1 - r, c)) m o a.rows a.columns
-      (arranged_then m.rows m.columns n.rows n.columns (λ r c. (r, c)) (λ r c. (n.rows - 1 - r, c)) (λ r c. (m.rows - 1 - r, c)) m n o a b
-      (λ r c p q. (omega (arith, a.rows), omega (arith, a.columns), λ i. (a.rows i - 1 - r, c))))
-
   -- a copy of a copy
   pub copied_twice : (m n o : Table C) → IsCopied like m n → IsCopied itself n o → IsCopied like m o
   copied_twice m n o a b =

@@ -118,6 +118,25 @@ fn run<C>(all: &[C], begin: usize, len: usize) -> &[C]
     &all[begin..begin + len]
 }
 
+/// Clones of the rows, the last row first.
+pub(crate) fn cloned_upwards<C: Clone + Drop, A: Allocator>(
+    alloc: A,
+    all: &[C],
+    rows: usize,
+    columns: usize,
+) -> Result<Vec<C, A>, AllocError>
+    requires { length all.now ≡ rows * columns }
+    ensures len { IfOk result (λ v. vec_len v ≡ rows * columns) }
+    ensures values { IfOk result (λ v. (r c : ℕ) (d : C) → r < rows → c < columns → C.is_clone (slice_index_or all.now ((rows - 1 - r) * columns + c) d) (slice_index_or v.items (r * columns + c) d)) }
+{
+    let mut values = Vec::with_capacity(alloc, all.len())?;
+    for row in 0..rows {
+        let begin = (rows - 1 - row) * columns;
+        values.extend_with_clones(run(all, begin, columns))?;
+    }
+    Ok(values)
+}
+
 /// Clones of the values by columns, the first column first.
 pub(crate) fn cloned_columns<C: Clone + Drop, A: Allocator>(
     alloc: A,

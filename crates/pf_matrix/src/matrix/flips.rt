@@ -9,7 +9,7 @@ ghost use Rattle.pf_matrix.specs.declared.error.MatrixFormatError.TheVariants.{O
 
 use crate::error::MatrixFormatError;
 use crate::matrix::Matrix;
-use crate::row_major::{exchange_rows, reverse_rows};
+use crate::row_major::{cloned_upwards, exchange_rows, reverse_rows};
 use std::alloc::Allocator;
 
 impl<C, A: Allocator> Matrix<C, A> {
@@ -44,8 +44,12 @@ impl<C: Clone + Drop, A: Allocator + Copy> Matrix<C, A> {
         ensures flipped { IfOk result (IsFlippedUd C.is_clone self.now) }
         ensures refused { IfErr result (λ e. e ≡ OutOfMemory) }
     {
-        let mut flipped = self.clone()?;
-        flipped.flip_ud();
-        Ok(flipped)
+        let alloc = *self.values.allocator();
+        let values = cloned_upwards(alloc, self.values.as_slice(), self.rows, self.columns)?;
+        Ok(Matrix {
+            rows: self.rows,
+            columns: self.columns,
+            values,
+        })
     }
 }

@@ -64,6 +64,11 @@ impl<C: Clone + Drop, A: Allocator + Copy> Matrix<C, A> {
         ensures rotated { IfOk result (λ m. IsRotatedCw C.is_clone self.now m times) }
         ensures refused { IfErr result (λ e. e ≡ OutOfMemory) }
     {
+        if times % 4 == 1 && self.is_square() {
+            let mut turned = self.flipped_ud()?;
+            turned.transpose_in_place();
+            return Ok(turned);
+        }
         let mut turned = if times % 2 == 0 {
             self.clone()?
         } else {

@@ -44,7 +44,8 @@ impl<C: Clone + Drop, A: Allocator + Copy> Matrix<C, A> {
         self.part((rows.start, columns.start), height, width)
     }
 
-    fn part(
+    /// The part of these sizes from the position `from` on.
+    pub(super) fn part(
         &self,
         from: (usize, usize),
         height: usize,

@@ -51,6 +51,12 @@ impl<C: Clone + Drop, A: Allocator + Copy> Matrix<C, A> {
         ensures transposed { IfOk result (IsTransposed C.is_clone self.now) }
         ensures refused { IfErr result (λ e. e ≡ OutOfMemory) }
     {
+        if self.is_square() {
+            // Clones by rows, which are put in order while a cache has them, take half the time.
+            let mut transposed = self.part((0, 0), self.rows, self.columns)?;
+            transposed.transpose_in_place();
+            return Ok(transposed);
+        }
         let alloc = *self.values.allocator();
         let values = cloned_columns(alloc, self.values.as_slice(), self.rows, self.columns)?;
         Ok(Matrix {
