@@ -151,7 +151,7 @@ pub(crate) fn cloned_columns<C: Clone + Drop, A: Allocator>(
     let mut values = Vec::with_capacity(alloc, all.len())?;
     for column in 0..columns {
         for row in 0..rows {
-            values.push(all[row * columns + column].clone()?)?;
+            values.push_reserved(all[row * columns + column].clone()?);
         }
     }
     Ok(values)
