@@ -1,5 +1,5 @@
 -- What follows for one who calls functions that answer a graph or a test.
-use Rattle.std.proofs.Common.{◌≡◌, Option, true, List, [], ◌∷◌, length, refl, Bor}
+use Rattle.std.proofs.Common.{Option, true, List, [], ◌∷◌, length, refl, Bor}
 use Rattle.std.specs.Iterator.{Count, Drains, IsFiniteIterable}
 use Rattle.std.specs.Fn.{Called, Mut}
 use Rattle.std.proofs.iter.runs.Made.{run, to_end, seen}

@@ -1,5 +1,5 @@
 -- What a call hands on of a refusal.
-use Rattle.std.proofs.Common.{◌≡◌, ◌∙◌, refl, sym, ap, subst, inl}
+use Rattle.std.proofs.Common.{◌≡◌, ◌∙◌, refl, sym, ap, subst, inl, inr}
 use Rattle.std.proofs.lemmas.Bool.{false≢true}
 use Rattle.std.specs.Prelude.{Result, Ok, Err, IfOk, IfErr, IsErr, OnErr, OnOk, IsErrAnd, ◌⊎◌}
 use Rattle.pf_base.specs.declared.error.PathError.{PathError}
@@ -65,6 +65,14 @@ module _ {T E : Type 0} where
   pub refused_still : (P : Type 0) (Q : E → Type 0) (r : Result T E) → IfErr r Q → OnErr r P → IfErr r (λ e. Q e × P)
   refused_still P Q (Ok x) h p = tt
   refused_still P Q (Err x) h p = (h, p)
+
+pub on_ok : {A E : Type 0} {P Q : Type 0} (r : Result A E) → OnOk r P → (P → Q) → OnOk r Q
+on_ok (Ok x) h f = f h
+on_ok (Err e) h f = tt
+
+pub ok_or_err : {A E P Q : Type 0} (r : Result A E) → OnOk r P → OnErr r Q → P ⊎ Q
+ok_or_err (Ok x) p q = inl p
+ok_or_err (Err e) p q = inr q
 
 -- the errors of a call that hands on those of another
 pub same_errors : {S T E : Type 0} (P : E → Type 0) (r : Result S E) (q : Result T E) → ((e : E) → r ≡ Err e → q ≡ Err e) → IfErr q P → IfErr r P

@@ -1,5 +1,5 @@
 -- Graphs without costs: `successors x` lists the nodes that follow x.
-use Rattle.std.specs.Prelude.{◌≡◌, ◌≤◌, Bool, true, List, Option, Vec, MatchOption, length}
+use Rattle.std.specs.Prelude.{◌≤◌, Bool, List, Option, Vec, MatchOption, length}
 use Rattle.pf_base.specs.Walks.{HasNode, IsGoalWalk, IsGoalPath, IsReachable, HasNoGoalWalk}
 
 module _ {N : Type 0} (eq : N → N → Bool) (successors : N → List N) where

@@ -13,8 +13,7 @@ use Rattle.pf_core.specs.Numbered.{ListsSteps, Grows, StandsBelow}
 use Rattle.pf_core.proofs.PathLemmas.{was_label, IsTree-turn, IsTree-settle}
 use Rattle.pf_core.specs.Search.{IsLeast, IsSearch, StandsRoot}
 use Rattle.pf_core.proofs.SearchLemmas.{search_start, turn}
-use Rattle.pf_core.proofs.ListLemmas.{nat_dec, Contains-head, Contains-tail, Contains-cases}
-use Rattle.pf_base.proofs.ListLemmas.{get-append, none_in}
+use Rattle.pf_base.proofs.ListLemmas.{nat_dec, Contains-head, Contains-tail, Contains-cases, get-append, none_in}
 use Rattle.pf_core.proofs.LabelLemmas.{HasLabel-inside, Settles-set, Widened-more}
 
 -- the label of a node that was reached from the number `parent`

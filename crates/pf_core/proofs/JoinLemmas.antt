@@ -13,7 +13,7 @@ use Rattle.pf_core.specs.Steps.{GoesAlong}
 use Rattle.pf_core.specs.Mirrors.{IsReached, IsMirrored, NoWalkBetween, IsBestMeeting}
 use Rattle.pf_core.specs.Nodes.{NodeGraph, StandsFor, IsStep}
 use Rattle.pf_core.specs.Hops.{unit_edges}
-use Rattle.pf_core.proofs.ListLemmas.{reverse-cons, or_cases, or_true}
+use Rattle.pf_base.proofs.ListLemmas.{reverse-cons, or_cases, or_true}
 use Rattle.pf_core.proofs.FrontierLemmas.{end_more}
 use Rattle.pf_core.proofs.NodeLemmas.{eq-sym, eq-trans, follows_more, InReach-after}
 use Rattle.pf_core.proofs.WalkLemmas.{same_of, end_same, HasNode-same, goes_of_walk, walk_of_goes, goes_same, reach_start}

@@ -7,8 +7,7 @@ use Rattle.std.proofs.lemmas.List.Folds.{sum_by-replicate}
 use Rattle.std.proofs.lemmas.Option.{slice_get_within, get_or_from_slice_get}
 use Rattle.pf_core.specs.declared.labels.Label.{Label}
 use Rattle.pf_core.specs.Labels.{Labels, HasLabel, by_cost, cost_of, is_settled, settled_count, IsTree, IsWithin, Settles, Lowered, ComesFrom, Covers, Stepped, Relaxed, Widened}
-use Rattle.pf_core.proofs.ListLemmas.{at_place, count_by-set, count_by-set_more, Contains-take_more, Contains-take, Contains-take_here}
-use Rattle.pf_base.proofs.ListLemmas.{get_set, none_in, get-append}
+use Rattle.pf_base.proofs.ListLemmas.{at_place, count_by-set, count_by-set_more, Contains-take_more, Contains-take, Contains-take_here, get_set, none_in, get-append}
 
 pub HasLabel-inside : {C : Type 0} (labels : Labels C) (k : ℕ) (l : Label C) → HasLabel labels k l → k < length labels
 HasLabel-inside labels k l h = slice_get_within labels k (Some l) h

@@ -1,4 +1,3 @@
-pub mod ListLemmas
 pub mod SlotLemmas
 pub mod LabelLemmas
 pub mod SumLemmas

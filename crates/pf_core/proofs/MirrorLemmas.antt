@@ -7,7 +7,7 @@ use Rattle.pf_core.specs.Labels.{Labels, by_depth, cost_of, AllSettled}
 use Rattle.pf_core.specs.Steps.{GoesAlong, IsHop}
 use Rattle.pf_core.specs.Mirrors.{IsReached, IsCompleteTo, IsComplete, IsMirrored, NoneMeets}
 use Rattle.pf_core.specs.Search.{SettledAt, WaitingAt, IsLow, IsSearch, StandsRoot}
-use Rattle.pf_core.proofs.ListLemmas.{int_dec}
+use Rattle.pf_base.proofs.ListLemmas.{int_dec}
 use Rattle.pf_core.proofs.FrontierLemmas.{frontier, goes_more, end_more}
 use Rattle.pf_core.proofs.SearchLemmas.{found_at}
 use Rattle.pf_core.proofs.LoopWalks.{hop_length}

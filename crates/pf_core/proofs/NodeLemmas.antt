@@ -19,8 +19,7 @@ use Rattle.pf_core.specs.Numbered.{ListsSteps, Grows}
 use Rattle.pf_core.specs.NodeLaws.{StandsFor-one}
 use Rattle.pf_core.specs.Sources.{AnswersEdges}
 use Rattle.pf_core.specs.Nodes.{NodeGraph, StandsFor, IsStep, AddsNode, NumbersItems, AddedFrom, Explores}
-use Rattle.pf_core.proofs.ListLemmas.{or_left, or_right, or_true, or_cases, Contains-head, Contains-tail, Contains-cases, get-append_cases, take_get, get_take}
-use Rattle.pf_base.proofs.ListLemmas.{none_in}
+use Rattle.pf_base.proofs.ListLemmas.{or_left, or_right, or_true, or_cases, Contains-head, Contains-tail, Contains-cases, get-append_cases, take_get, get_take, none_in}
 use Rattle.pf_core.proofs.FrontierLemmas.{end_more}
 
 -- the list with one more element at its end

@@ -7,7 +7,7 @@ use Rattle.pf_base.specs.Walks.{end_of, HasNode, NoRepeats}
 use Rattle.pf_core.specs.Steps.{GoesAlong, IsNumberedPath}
 use Rattle.pf_core.specs.declared.labels.Label.{Label}
 use Rattle.pf_core.specs.Labels.{Labels, HasLabel, cost_of, IsTree, Climbs, IsChain, Settles, Widened, Relaxed}
-use Rattle.pf_core.proofs.ListLemmas.{nat_dec, reverse-cons}
+use Rattle.pf_base.proofs.ListLemmas.{nat_dec, reverse-cons, AllZip-append}
 use Rattle.pf_core.proofs.LabelLemmas.{label_is, parent_labelled}
 use Rattle.pf_core.proofs.FrontierLemmas.{goes_more, end_more}
 
@@ -25,12 +25,6 @@ module _ {N : Type 0} (eq : N → N → Bool) where
       (λ k. elim (HasNode-append_cases xs y x k) as (λ _. ⊥) [ inl i ↦ n.0 i | inr e ↦ h (inl (symm y x e)) ]),
       NoRepeats-append xs y n.1 (λ k. h (inr k)),
     )
-
-pub AllZip-append : {A B : Type 0} (R : A → B → Type 0) (xs : List A) (ys : List B) (x : A) (y : B) → AllZip R xs ys → R x y → AllZip R (xs ++ x ∷ []) (ys ++ y ∷ [])
-AllZip-append R [] [] x y z r = (r, tt)
-AllZip-append R [] (b ∷ bs) x y z r = absurd z
-AllZip-append R (a ∷ as') [] x y z r = absurd z
-AllZip-append R (a ∷ as') (b ∷ bs) x y z r = (z.0, AllZip-append R as' bs x y z.1 r)
 
 pub AllZip-map : {A B : Type 0} (R S : A → B → Type 0) → ((x : A) (y : B) → R x y → S x y) → (xs : List A) (ys : List B) → AllZip R xs ys → AllZip S xs ys
 AllZip-map R S f [] [] z = tt

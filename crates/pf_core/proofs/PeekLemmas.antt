@@ -11,7 +11,7 @@ use Rattle.std.specs.declared.cmp.Ordering.TheVariants.{Less, Equal, Greater}
 use Rattle.std.specs.declared.cmp.Reverse.{Reverse}
 use Rattle.std.proofs.lemmas.Int.{ints}
 use Rattle.pf_core.specs.Queue.{entry_cmp}
-use Rattle.pf_core.proofs.ListLemmas.{Contains-cases, Contains-here}
+use Rattle.pf_base.proofs.ListLemmas.{Contains-cases, Contains-here}
 use Rattle.pf_core.proofs.ReadLemmas.{none_contained}
 
 -- an order that `partial_cmp` agrees with, and that of whole numbers

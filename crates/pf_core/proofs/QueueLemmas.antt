@@ -8,8 +8,7 @@ use Rattle.pf_core.specs.declared.labels.Label.{Label}
 use Rattle.pf_core.specs.Labels.{Labels, HasLabel, by_cost, AllSettled, Settles, Widened}
 use Rattle.pf_core.specs.Queue.{Entries, IsQueue}
 use Rattle.pf_core.specs.Search.{IsLeast, IsFirst}
-use Rattle.pf_core.proofs.ListLemmas.{bool_dec, nat_dec, Contains-head, Contains-tail, Contains-cases}
-use Rattle.pf_base.proofs.ListLemmas.{get_set}
+use Rattle.pf_base.proofs.ListLemmas.{bool_dec, nat_dec, Contains-head, Contains-tail, Contains-cases, get_set}
 use Rattle.pf_core.proofs.LabelLemmas.{HasLabel-inside, label_is, Lowered-set}
 
 abbrev entry : {C : Type 0} → C → ℕ → Reverse (C × ℕ)

@@ -14,7 +14,7 @@ use Rattle.pf_core.specs.Search.{IsSound}
 use Rattle.pf_core.specs.Numbered.{Grows}
 use Rattle.pf_core.specs.Nodes.{StandsFor}
 use Rattle.pf_core.specs.DepthFirst.{IsVisited}
-use Rattle.pf_core.proofs.ListLemmas.{at_place}
+use Rattle.pf_base.proofs.ListLemmas.{at_place}
 use Rattle.pf_core.proofs.LabelLemmas.{HasLabel-inside, parent_labelled, none_widened, Lowered-set}
 use Rattle.pf_core.proofs.NodeLemmas.{Grows-from_take, HasSameNodes-insert}
 

@@ -10,7 +10,7 @@ use Rattle.pf_core.specs.Steps.{GoesAlong, IsNumberedPath, IsNonNegative, NoGoal
 use Rattle.pf_core.specs.Numbered.{ListsSteps, Grows}
 use Rattle.pf_core.specs.Frontier.{IsFound}
 use Rattle.pf_core.specs.Search.{SettledAt, WaitingAt, IsLow, IsLeast, IsSearch, StandsRoot}
-use Rattle.pf_core.proofs.ListLemmas.{bool_dec, nat_dec}
+use Rattle.pf_base.proofs.ListLemmas.{bool_dec, nat_dec}
 use Rattle.pf_core.proofs.LabelLemmas.{HasLabel-inside, label_is, parent_labelled}
 use Rattle.pf_core.proofs.FrontierLemmas.{frontier, walk_positive}
 use Rattle.pf_core.proofs.PathLemmas.{PathUp, path_up, chain_path, was_label, settled_stays_1, settled_stays_3, AllZip-map}

@@ -6,8 +6,7 @@ use Rattle.std.specs.Option.{is_some}
 use Rattle.std.specs.List.{list_any, position}
 use Rattle.std.proofs.lemmas.List.Quantifiers.{position-Some}
 use Rattle.pf_core.specs.Nodes.{StandsFor}
-use Rattle.pf_core.proofs.ListLemmas.{or_left, or_right, at_place}
-use Rattle.pf_base.proofs.ListLemmas.{none_in}
+use Rattle.pf_base.proofs.ListLemmas.{or_left, or_right, at_place, none_in}
 use Rattle.pf_core.proofs.NodeLemmas.{eq-sym, eq-trans}
 
 module _ {N : Type 0} (eq : N → N → Bool) (laws : IsEquivalence eq) where

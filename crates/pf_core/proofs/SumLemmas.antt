@@ -8,7 +8,7 @@ use Rattle.pf_core.specs.declared.labels.Label.{Label}
 use Rattle.pf_core.specs.declared.sums.End.{End}
 use Rattle.pf_core.specs.Labels.{Labels, HasLabel, IsReached}
 use Rattle.pf_core.specs.Sums.{joined_by, joined_end, Reached, IsMissed, IsLooked}
-use Rattle.pf_core.proofs.ListLemmas.{bool_dec, or_left, or_right, or_cases, at_place, Contains-cases, Contains-take_more}
+use Rattle.pf_base.proofs.ListLemmas.{bool_dec, or_left, or_right, or_cases, at_place, Contains-cases, Contains-take_more}
 
 less_or_more : (i j : ℕ) → (i < j) ⊎ (j ≤ i)
 less_or_more i zero = inr (omega arith)

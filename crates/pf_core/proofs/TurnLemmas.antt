@@ -9,7 +9,7 @@ use Rattle.pf_core.specs.Steps.{IsNonNegative, IsTooDear}
 use Rattle.pf_core.specs.Numbered.{ListsSteps, Grows}
 use Rattle.pf_core.specs.Queue.{Entries, IsQueue}
 use Rattle.pf_core.specs.Search.{IsLeast, IsSearch, Turned, HasDearStep, HasBarredStep, IsWithinRange, StandsRoot}
-use Rattle.pf_core.proofs.ListLemmas.{int_dec, nat_dec}
+use Rattle.pf_base.proofs.ListLemmas.{int_dec, nat_dec}
 use Rattle.pf_core.proofs.LabelLemmas.{HasLabel-inside, label_is, Settles-set}
 use Rattle.pf_core.proofs.QueueLemmas.{IsQueue-settle, IsQueue-widen}
 use Rattle.pf_core.proofs.PathLemmas.{was_label, settled_stays_1, settled_stays_3, IsTree-settle, IsTree-turn}

@@ -9,7 +9,7 @@ use Rattle.pf_base.specs.Edges.{HasEdge, IsSuccessor, StepCosts, StepsCost, InRe
 use Rattle.pf_base.specs.Answers.{ListsEdges}
 use Rattle.pf_core.specs.Steps.{GoesAlong, IsNonNegative, NoGoal, NoGoalBelow, IsBestNumbered, IsTooDear}
 use Rattle.pf_core.specs.Nodes.{NodeGraph, StandsFor, IsStep}
-use Rattle.pf_core.proofs.ListLemmas.{bool_dec, int_dec}
+use Rattle.pf_base.proofs.ListLemmas.{bool_dec, int_dec}
 use Rattle.pf_core.proofs.NodeLemmas.{eq-sym, eq-trans, StandsFor-same, HasEdge-same, InReach-same, InReach-start, InReach-after, InReach-more, edge_of_same}
 
 module _ {N : Type 0} (eq : N → N → Bool) (laws : IsEquivalence eq) where

@@ -5,8 +5,7 @@ use Rattle.std.proofs.lemmas.Int.{ints}
 use Rattle.std.proofs.lemmas.List.{length-map, length-append, length-take-le, take_all, take_at, take_more}
 use Rattle.std.proofs.lemmas.Option.{slice_get-get_or, slice_get_within}
 use borrow.Author.Tests.{eqb-true}
-use Rattle.pf_core.proofs.ListLemmas.{nat_dec, int_dec, bool_dec, take_get, get_take}
-use Rattle.pf_base.proofs.ListLemmas.{none_in, get_pushed}
+use Rattle.pf_base.proofs.ListLemmas.{nat_dec, int_dec, bool_dec, take_get, get_take, none_in, get_pushed}
 use Rattle.pf_residual.specs.declared.cancelling.arcs.Arc.{Arc}
 use Rattle.pf_residual.specs.Flows.{PairTable, Same}
 use Rattle.pf_base.specs.Sums.{sum_to}

@@ -13,11 +13,9 @@ use Rattle.pf_core.specs.Labels.{Labels, HasLabel}
 use Rattle.pf_core.specs.Steps.{GoesAlong, IsNonNegative}
 use Rattle.pf_core.specs.Nodes.{NodeGraph, StandsFor, IsStep}
 use Rattle.pf_core.specs.Numbered.{Grows}
-use Rattle.pf_core.proofs.ListLemmas.{bool_dec, reverse-cons, Contains-head, Contains-tail, Contains-cases}
-use Rattle.pf_base.proofs.ListLemmas.{none_in}
+use Rattle.pf_base.proofs.ListLemmas.{bool_dec, reverse-cons, Contains-head, Contains-tail, Contains-cases, none_in, AllZip-append}
 use Rattle.pf_core.proofs.LabelLemmas.{HasLabel-inside, label_is}
 use Rattle.pf_core.proofs.FrontierLemmas.{goes_more, end_more, walk_positive}
-use Rattle.pf_core.proofs.PathLemmas.{AllZip-append}
 use Rattle.pf_informed.proofs.PathUp.{HasNode-reverse}
 use Rattle.pf_core.proofs.NodeLemmas.{eq-sym, eq-trans, InReach-same, InReach-start, StandsFor-same, HasEdge-same, edge_of_same}
 use Rattle.pf_core.proofs.WalkLemmas.{same_of, no_negative, walk_of_goes, distinct_nodes}

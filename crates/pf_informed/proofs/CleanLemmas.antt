@@ -6,7 +6,7 @@ use Rattle.std.proofs.lemmas.Int.{ints}
 use Rattle.pf_base.specs.Walks.{end_of, HasNode, Follows}
 use Rattle.pf_base.specs.Edges.{IsSuccessor, StepsCost, InReach, IsCheapestGoalPath, NoGoalWalkCostsLess}
 use Rattle.pf_core.proofs.FrontierLemmas.{end_more}
-use Rattle.pf_core.proofs.ListLemmas.{bool_dec}
+use Rattle.pf_base.proofs.ListLemmas.{bool_dec}
 use Rattle.pf_core.proofs.NodeLemmas.{InReach-after}
 use Rattle.pf_informed.specs.CheapestPaths.{FailsUpToEnd, HasOnlyCostsAboveZero, IsCheapestCleanPath}
 

@@ -8,8 +8,7 @@ use borrow.Author.Tests.{eqb-true}
 use Rattle.pf_base.specs.Walks.{HasNode}
 use Rattle.pf_core.specs.declared.labels.Label.{Label}
 use Rattle.pf_core.specs.Labels.{Labels, HasLabel, Climbs}
-use Rattle.pf_core.proofs.ListLemmas.{nat_dec}
-use Rattle.pf_base.proofs.ListLemmas.{get_set}
+use Rattle.pf_base.proofs.ListLemmas.{nat_dec, get_set}
 use Rattle.pf_core.proofs.LabelLemmas.{label_is}
 use Rattle.pf_informed.specs.Internal.Forest.{IsForest, nat_of, room_below, total_room}
 

@@ -6,7 +6,7 @@ use Rattle.std.proofs.lemmas.List.Elements.{Contains-append_left, Contains-appen
 use Rattle.std.proofs.lemmas.List.Sorted.{Contains-permutation, IsPermutation-sym}
 use Rattle.pf_core.specs.declared.labels.Label.{Label}
 use Rattle.pf_core.specs.Labels.{Labels, HasLabel}
-use Rattle.pf_core.proofs.ListLemmas.{Contains-head, Contains-tail, Contains-cases, Contains-append_one}
+use Rattle.pf_base.proofs.ListLemmas.{Contains-head, Contains-tail, Contains-cases, Contains-append_one}
 use Rattle.pf_informed.specs.Internal.Waiting.{Entry, IsWaiting, IsQueue}
 use Rattle.pf_informed.specs.Internal.Fringe.{StillWait, NothingWaits, IsNextEntry, IsBelowWaiting, IsTakenWithin}
 

@@ -3,8 +3,7 @@ use Rattle.std.proofs.Common.{◌≡◌, ℕ, zero, suc, ℤ, refl, subst, arith
 use Rattle.std.specs.Prelude.{Vec, Contains, slice_get}
 use Rattle.std.specs.Cmp.{IsEquivalence}
 use Rattle.pf_base.specs.Answers.{SameNodes}
-use Rattle.pf_core.proofs.ListLemmas.{Contains-head, Contains-tail, Contains-cases}
-use Rattle.pf_base.proofs.ListLemmas.{none_in}
+use Rattle.pf_base.proofs.ListLemmas.{Contains-head, Contains-tail, Contains-cases, none_in}
 use Rattle.pf_core.proofs.NodeLemmas.{eq-sym, eq-trans}
 use Rattle.pf_informed.specs.CheapestPaths.{AreCheapestCleanPaths, lists_in}
 use Rattle.pf_informed.specs.Internal.Ways.{AreGathered}

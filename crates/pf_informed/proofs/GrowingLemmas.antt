@@ -7,7 +7,7 @@ use Rattle.pf_base.specs.Walks.{end_of}
 use Rattle.pf_core.specs.declared.labels.Label.{Label}
 use Rattle.pf_core.specs.Labels.{Labels, HasLabel}
 use Rattle.pf_core.specs.Steps.{GoesAlong, IsNonNegative}
-use Rattle.pf_core.proofs.ListLemmas.{int_dec}
+use Rattle.pf_base.proofs.ListLemmas.{int_dec}
 use Rattle.pf_core.proofs.FrontierLemmas.{walk_positive}
 use Rattle.pf_informed.specs.Internal.Forest.{IsForest}
 use Rattle.pf_informed.specs.Internal.Waiting.{Entry, IsWaiting, IsQueue, Eased}

@@ -9,8 +9,7 @@ use Rattle.pf_core.specs.declared.labels.Label.{Label}
 use Rattle.pf_core.specs.Labels.{Labels, HasLabel, IsChain}
 use Rattle.pf_core.specs.Steps.{GoesAlong, IsNonNegative, IsBestNumbered}
 use Rattle.pf_core.specs.Numbered.{ListsSteps, Grows}
-use Rattle.pf_core.proofs.ListLemmas.{int_dec, Contains-head, Contains-cases}
-use Rattle.pf_base.proofs.ListLemmas.{none_in}
+use Rattle.pf_base.proofs.ListLemmas.{int_dec, Contains-head, Contains-cases, none_in}
 use Rattle.pf_core.proofs.LabelLemmas.{HasLabel-inside, label_is}
 use Rattle.pf_core.proofs.FrontierLemmas.{walk_positive}
 use Rattle.pf_informed.specs.Internal.Forest.{IsForest}

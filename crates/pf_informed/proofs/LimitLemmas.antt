@@ -9,7 +9,7 @@ use Rattle.pf_base.specs.Answers.{ListsEdges}
 use Rattle.pf_core.specs.Steps.{GoesAlong, IsNonNegative, IsBestNumbered, NoGoalBelow}
 use Rattle.pf_core.specs.Nodes.{NodeGraph, StandsFor, IsStep}
 use Rattle.pf_core.proofs.FrontierLemmas.{walk_positive}
-use Rattle.pf_core.proofs.ListLemmas.{int_dec, Contains-cases}
+use Rattle.pf_base.proofs.ListLemmas.{int_dec, Contains-cases}
 use Rattle.pf_core.proofs.WalkLemmas.{HasNode-same, walk_of_goes}
 use Rattle.pf_informed.specs.Estimates.{IsPastRangeWithEstimate}
 use Rattle.pf_informed.specs.Internal.Forest.{nat_of}

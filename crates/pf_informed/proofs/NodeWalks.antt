@@ -13,7 +13,8 @@ use Rattle.pf_core.specs.Steps.{GoesAlong, IsNonNegative}
 use Rattle.pf_core.specs.Nodes.{NodeGraph, StandsFor, IsStep}
 use Rattle.pf_core.proofs.FrontierLemmas.{goes_more, end_more}
 use Rattle.pf_core.proofs.NodeLemmas.{eq-sym, eq-trans, InReach-same, InReach-start, InReach-more, edge_of_same}
-use Rattle.pf_core.proofs.PathLemmas.{AllZip-append, NoRepeats-append}
+use Rattle.pf_base.proofs.ListLemmas.{AllZip-append}
+use Rattle.pf_core.proofs.PathLemmas.{NoRepeats-append}
 use Rattle.pf_core.proofs.WalkLemmas.{cheapest_edge, walk_of_goes, distinct_nodes}
 use Rattle.pf_informed.specs.Estimates.{IsAdmissible, IsPastRangeWithEstimate, NoGoalWalkFits}
 use Rattle.pf_informed.specs.Internal.Estimated.{IsEstimated}

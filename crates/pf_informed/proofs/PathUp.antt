@@ -8,10 +8,10 @@ use Rattle.pf_base.specs.Walks.{end_of, HasNode, NoRepeats}
 use Rattle.pf_core.specs.Steps.{GoesAlong}
 use Rattle.pf_core.specs.declared.labels.Label.{Label}
 use Rattle.pf_core.specs.Labels.{Labels, HasLabel, Climbs}
-use Rattle.pf_core.proofs.ListLemmas.{nat_dec, reverse-cons}
+use Rattle.pf_base.proofs.ListLemmas.{nat_dec, reverse-cons, AllZip-append}
 use Rattle.pf_core.proofs.LabelLemmas.{HasLabel-inside, label_is}
 use Rattle.pf_core.proofs.FrontierLemmas.{goes_more, end_more}
-use Rattle.pf_core.proofs.PathLemmas.{AllZip-append, HasNode-append_cases, NoRepeats-append}
+use Rattle.pf_core.proofs.PathLemmas.{HasNode-append_cases, NoRepeats-append}
 use Rattle.pf_informed.specs.Internal.Forest.{IsForest, steps_from, one_above, steps_up}
 
 -- ---- distinct numbers below n are n at most

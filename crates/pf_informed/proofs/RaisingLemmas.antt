@@ -5,7 +5,7 @@ use Rattle.std.proofs.lemmas.Int.{ints}
 use Rattle.std.proofs.lemmas.List.Elements.{Contains-append_left, Contains-append_right, Contains-append_cases}
 use Rattle.pf_core.specs.declared.labels.Label.{Label}
 use Rattle.pf_core.specs.Labels.{Labels, HasLabel}
-use Rattle.pf_core.proofs.ListLemmas.{Contains-head, Contains-tail, Contains-cases}
+use Rattle.pf_base.proofs.ListLemmas.{Contains-head, Contains-tail, Contains-cases}
 use Rattle.pf_informed.specs.Internal.Waiting.{Entry, IsWaiting, IsQueue}
 use Rattle.pf_informed.specs.Internal.Fringe.{StillWait, IsNextEntry, IsBelowWaiting, IsTakenWithin, IsRaising}
 use Rattle.pf_informed.proofs.FringeLemmas.{waits_in, either_in, cons_in, queue_in}

@@ -4,8 +4,7 @@ use Rattle.std.specs.Prelude.{◌≤ℤ◌, ◌⊎◌, Contains, slice_get, slic
 use Rattle.std.proofs.lemmas.Int.{ints}
 use Rattle.std.proofs.lemmas.Option.{slice_get_within}
 use Rattle.std.proofs.lemmas.List.Elements.{Contains-append_left, Contains-push}
-use Rattle.pf_core.proofs.ListLemmas.{Contains-append_one}
-use Rattle.pf_base.proofs.ListLemmas.{get_set, get-append}
+use Rattle.pf_base.proofs.ListLemmas.{Contains-append_one, get_set, get-append}
 use Rattle.pf_informed.specs.Internal.Rows.{IsCheapestOf}
 use Rattle.pf_informed.proofs.EstimateLemmas.{get_pushed}
 

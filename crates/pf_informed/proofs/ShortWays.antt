@@ -9,7 +9,7 @@ use Rattle.pf_base.specs.Edges.{InReach}
 use Rattle.pf_base.specs.Answers.{ListsEdges}
 use Rattle.pf_core.specs.Steps.{GoesAlong, IsNonNegative}
 use Rattle.pf_core.specs.Nodes.{NodeGraph, IsStep}
-use Rattle.pf_core.proofs.ListLemmas.{bool_dec}
+use Rattle.pf_base.proofs.ListLemmas.{bool_dec}
 use Rattle.pf_core.proofs.NodeLemmas.{eq-sym, InReach-more}
 use Rattle.pf_core.proofs.WalkLemmas.{HasNode-same, goes_same}
 

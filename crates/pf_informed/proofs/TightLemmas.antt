@@ -9,8 +9,7 @@ use Rattle.pf_base.specs.Walks.{HasNode, NoRepeats}
 use Rattle.pf_core.specs.declared.labels.Label.{Label}
 use Rattle.pf_core.specs.Labels.{Labels, HasLabel}
 use Rattle.pf_core.specs.Numbered.{ListsSteps, Grows}
-use Rattle.pf_core.proofs.ListLemmas.{nat_dec, lt_means}
-use Rattle.pf_base.proofs.ListLemmas.{get_set}
+use Rattle.pf_base.proofs.ListLemmas.{nat_dec, lt_means, get_set}
 use Rattle.pf_core.proofs.LabelLemmas.{HasLabel-inside, label_is}
 use Rattle.pf_core.proofs.PathLemmas.{HasNode-append_cases, NoRepeats-append}
 use Rattle.pf_informed.specs.Internal.Ways.{before_in, items_or_none}

@@ -8,8 +8,7 @@ use borrow.Author.Tests.{eqb-true}
 use Rattle.pf_base.specs.Walks.{HasNode, NoRepeats, end_of}
 use Rattle.pf_core.specs.Steps.{GoesAlong}
 use Rattle.pf_core.proofs.FrontierLemmas.{goes_more, end_more}
-use Rattle.pf_core.proofs.ListLemmas.{nat_dec, Contains-head, Contains-tail, Contains-cases, reverse-cons}
-use Rattle.pf_core.proofs.PathLemmas.{AllZip-append}
+use Rattle.pf_base.proofs.ListLemmas.{nat_dec, Contains-head, Contains-tail, Contains-cases, reverse-cons, AllZip-append}
 use Rattle.pf_core.proofs.WalkLemmas.{HasNode-same}
 use Rattle.pf_informed.proofs.PathUp.{NoRepeats-reverse}
 use Rattle.pf_informed.proofs.RowLemmas.{of_some, number_is, price_is}

@@ -5,7 +5,7 @@ use Rattle.std.proofs.lemmas.Int.{ints}
 use Rattle.std.proofs.lemmas.List.Sorted.{Contains-permutation, IsPermutation-sym}
 use Rattle.pf_core.specs.declared.labels.Label.{Label}
 use Rattle.pf_core.specs.Labels.{Labels, HasLabel}
-use Rattle.pf_core.proofs.ListLemmas.{Contains-head, Contains-tail, Contains-cases}
+use Rattle.pf_base.proofs.ListLemmas.{Contains-head, Contains-tail, Contains-cases}
 use Rattle.pf_core.proofs.LabelLemmas.{label_is}
 use Rattle.pf_informed.specs.Internal.Forest.{IsForest}
 use Rattle.pf_informed.specs.Internal.Waiting.{Entry, IsWaiting, IsQueue, IsTaken, Covers, Eased}

@@ -13,7 +13,7 @@ use Rattle.pf_core.specs.Nodes.{NodeGraph, StandsFor}
 use Rattle.pf_core.specs.NodeLaws.{StandsFor-inside}
 use Rattle.pf_core.specs.Numbered.{Grows}
 use Rattle.pf_core.proofs.FrontierLemmas.{walk_positive}
-use Rattle.pf_core.proofs.ListLemmas.{at_place, reverse-cons, Contains-head, Contains-tail, Contains-cases}
+use Rattle.pf_base.proofs.ListLemmas.{at_place, reverse-cons, Contains-head, Contains-tail, Contains-cases}
 use Rattle.pf_core.proofs.PathLemmas.{AllZip-map}
 use Rattle.pf_core.proofs.WalkLemmas.{distinct_nodes}
 use Rattle.pf_informed.specs.Estimates.{IsAdmissible}

@@ -8,8 +8,7 @@ use borrow.Author.Tests.{eqb-true}
 use Rattle.pf_base.specs.Walks.{HasNode, NoRepeats}
 use Rattle.pf_core.specs.declared.depth_first.Branch.{Branch}
 use Rattle.pf_core.specs.DepthFirst.{branches_at}
-use Rattle.pf_core.proofs.ListLemmas.{bool_dec, take_get, get_take, reverse-cons, Contains-head, Contains-tail, Contains-cases}
-use Rattle.pf_base.proofs.ListLemmas.{none_in, get_set}
+use Rattle.pf_base.proofs.ListLemmas.{bool_dec, take_get, get_take, reverse-cons, Contains-head, Contains-tail, Contains-cases, none_in, get_set}
 use Rattle.pf_core.proofs.PathLemmas.{HasNode-append_cases, NoRepeats-append}
 use Rattle.pf_informed.specs.Internal.Ways.{each_of, is_in, ways, ways_to, tries, ways_left, tries_left, nothing_waits, IsRising, AreWays, IsWhole}
 use Rattle.pf_informed.proofs.PathUp.{few_below, HasNode-reverse}

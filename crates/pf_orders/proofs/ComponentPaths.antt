@@ -5,8 +5,7 @@ use Rattle.std.proofs.lemmas.Option.{slice_get_within}
 use Rattle.std.proofs.lemmas.List.{length-take}
 use Rattle.pf_base.specs.Walks.{Follows, end_of}
 use Rattle.pf_core.specs.Numbered.{Grows, ListsSteps}
-use Rattle.pf_core.proofs.ListLemmas.{nat_dec, take_get, get_take}
-use Rattle.pf_base.proofs.ListLemmas.{none_in, get-append}
+use Rattle.pf_base.proofs.ListLemmas.{nat_dec, take_get, get_take, none_in, get-append}
 use Rattle.pf_orders.specs.declared.component_search.Place.{Place}
 use Rattle.pf_orders.specs.declared.component_search.Place.TheVariants.{New, Open, Closed}
 use Rattle.pf_orders.specs.declared.component_search.Segment.{Segment}

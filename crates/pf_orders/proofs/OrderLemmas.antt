@@ -9,8 +9,7 @@ use borrow.Author.Tests.{eqb-true}
 use Rattle.pf_base.specs.Walks.{HasNode, Follows, end_of}
 use Rattle.pf_core.specs.Numbered.{Grows}
 use Rattle.pf_core.proofs.FrontierLemmas.{end_more}
-use Rattle.pf_core.proofs.ListLemmas.{Contains-head, Contains-tail, Contains-cases, Contains-reverse, count_by-set_more, count_by-set}
-use Rattle.pf_base.proofs.ListLemmas.{get_set, get-append, none_in}
+use Rattle.pf_base.proofs.ListLemmas.{Contains-head, Contains-tail, Contains-cases, Contains-reverse, count_by-set_more, count_by-set, get_set, get-append, none_in}
 use Rattle.pf_orders.specs.declared.ordering.Turn.{Turn}
 use Rattle.pf_orders.specs.declared.ordering.Turn.TheVariants.{Enter, Leave}
 use Rattle.pf_orders.specs.declared.ordering.Mark.{Mark}

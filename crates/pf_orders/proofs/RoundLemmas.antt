@@ -8,8 +8,7 @@ use borrow.Author.Tests.{eqb-true}
 use Rattle.pf_base.specs.Walks.{HasNode, NoRepeats}
 use Rattle.pf_base.specs.declared.error.PathError.{PathError}
 use Rattle.pf_base.specs.declared.error.PathError.TheVariants.{OutOfMemory, UnknownVertex}
-use Rattle.pf_core.proofs.ListLemmas.{nat_dec, bool_dec, get-append_cases}
-use Rattle.pf_base.proofs.ListLemmas.{get_set, get-append, none_in}
+use Rattle.pf_base.proofs.ListLemmas.{nat_dec, bool_dec, get-append_cases, get_set, get-append, none_in}
 use Rattle.pf_core.proofs.PathLemmas.{HasNode-append_cases, NoRepeats-append}
 use Rattle.pf_orders.specs.GroupDepths.{InGroup}
 use Rattle.pf_orders.specs.Internal.Rounds.{times, times_in, Targets, AreCounted, Falls, AreFreed, IsRound, AreLevels}

@@ -3,7 +3,7 @@ use Rattle.std.proofs.Common.{◌≡◌, ◌∙◌, ℕ, ◌<◌, ◌≤◌, ◌
 use Rattle.std.specs.Prelude.{◌⊎◌, slice_set}
 use Rattle.std.proofs.lemmas.Option.{slice_get_within}
 use Rattle.std.proofs.lemmas.List.{length-take, length-drop, map-append, take-append-le}
-use Rattle.pf_core.proofs.ListLemmas.{nat_dec, take_get, get_take}
+use Rattle.pf_base.proofs.ListLemmas.{nat_dec, take_get, get_take}
 use Rattle.pf_orders.specs.StrongComponents.{lists_of}
 use Rattle.pf_orders.specs.declared.component_search.Place.{Place}
 use Rattle.pf_orders.specs.declared.component_search.Place.TheVariants.{New, Open}

@@ -12,7 +12,7 @@ use Rattle.pf_core.specs.NodeLaws.{StandsFor-one}
 use Rattle.pf_core.specs.Nodes.{StandsFor, Explores, ends_of}
 use Rattle.pf_core.specs.Numbered.{Grows}
 use Rattle.pf_core.specs.HopLaws.{reach_next}
-use Rattle.pf_core.proofs.ListLemmas.{Contains-head, Contains-tail, Contains-cases}
+use Rattle.pf_base.proofs.ListLemmas.{Contains-head, Contains-tail, Contains-cases}
 use Rattle.pf_core.proofs.NodeLemmas.{StandsFor-same, InReach-same, at_most}
 use Rattle.pf_core.proofs.UnitLemmas.{starts_stand}
 use Rattle.pf_core.proofs.WalkLemmas.{same_of, HasNode-same, distinct_nodes}

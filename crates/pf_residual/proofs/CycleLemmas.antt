@@ -4,8 +4,7 @@ use Rattle.std.specs.Prelude.{slice_get, slice_set, Option, None, ◌+ℤ◌, �
 use Rattle.std.proofs.lemmas.Int.{ints}
 use Rattle.std.proofs.lemmas.List.{length-set, take_more, length-take-le}
 use Rattle.std.proofs.lemmas.Option.{slice_get-get_or, slice_get_within}
-use Rattle.pf_core.proofs.ListLemmas.{take_get, int_dec, nat_dec}
-use Rattle.pf_base.proofs.ListLemmas.{none_in, get_set, get_pushed}
+use Rattle.pf_base.proofs.ListLemmas.{take_get, int_dec, nat_dec, none_in, get_set, get_pushed}
 use Rattle.pf_residual.specs.declared.cancelling.arcs.Arc.{Arc}
 use Rattle.pf_residual.specs.declared.cancelling.search.Step.{Step}
 use Rattle.pf_residual.specs.Internal.Cancelling.{Has, IsOnce, Leads, gain, gain_at, gained, net_of, AreAmounts, HasAmount, IsCirculation, IsReached, IsExpanded, IsWayBack, IsCycle, IsTakenOff, IsLowered}

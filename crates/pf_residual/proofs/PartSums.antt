@@ -3,7 +3,7 @@ use Rattle.std.proofs.Common.{◌≡◌, ◌≢◌, ◌∙◌, ◌⊎◌, inl, i
 use Rattle.std.specs.Prelude.{◌≤ℤ◌, neg_ℤ, slice_get}
 use Rattle.std.proofs.lemmas.Int.{ints}
 use Rattle.std.proofs.lemmas.Option.{slice_get_within}
-use Rattle.pf_core.proofs.ListLemmas.{nat_dec, int_dec}
+use Rattle.pf_base.proofs.ListLemmas.{nat_dec, int_dec}
 use Rattle.pf_base.specs.Sums.{sum_to}
 use Rattle.pf_residual.specs.Networks.{Network}
 use Rattle.pf_residual.specs.Listings.{ListsNumbers}

@@ -6,8 +6,7 @@ use Rattle.std.proofs.lemmas.Option.{slice_get_within}
 use Rattle.std.proofs.lemmas.List.Elements.{Contains-push}
 use Rattle.pf_core.specs.declared.labels.Label.{Label}
 use Rattle.pf_core.specs.Labels.{Labels, HasLabel, Climbs, IsChain}
-use Rattle.pf_core.proofs.ListLemmas.{Contains-cases, Contains-head, Contains-tail, Contains-reverse, reverse-cons}
-use Rattle.pf_base.proofs.ListLemmas.{none_in}
+use Rattle.pf_base.proofs.ListLemmas.{Contains-cases, Contains-head, Contains-tail, Contains-reverse, reverse-cons, none_in}
 
 module _ {A : Type 0} where
   get_last : (xs : List A) (x : A) (i : ℕ) (m : A) → slice_get (xs ++ x ∷ []) i ≡ Some m → (slice_get xs i ≡ Some m) ⊎ ((x ≡ m) × (i ≡ length xs))

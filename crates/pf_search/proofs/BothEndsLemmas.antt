@@ -15,7 +15,7 @@ use Rattle.pf_core.specs.Mirrors.{IsReached}
 use Rattle.pf_core.specs.Nodes.{NodeGraph, StandsFor, IsStep}
 use Rattle.pf_core.specs.Frontier.{IsFound}
 use Rattle.pf_core.specs.Search.{IsLow, IsLeast, Turned, StandsRoot, HasDearStep, SettledAt, WaitingAt}
-use Rattle.pf_core.proofs.ListLemmas.{bool_dec, int_dec}
+use Rattle.pf_base.proofs.ListLemmas.{bool_dec, int_dec}
 use Rattle.pf_core.proofs.LabelLemmas.{HasLabel-inside}
 use Rattle.pf_core.proofs.FrontierLemmas.{frontier, walk_positive}
 use Rattle.pf_core.proofs.PathLemmas.{path_up}

@@ -12,7 +12,7 @@ use Rattle.pf_core.specs.Labels.{Labels, HasLabel, by_cost, Climbs, IsChain}
 use Rattle.pf_core.specs.Steps.{GoesAlong}
 use Rattle.pf_core.specs.Nodes.{NodeGraph, StandsFor, IsStep}
 use Rattle.pf_core.specs.Search.{StandsRoot}
-use Rattle.pf_core.proofs.ListLemmas.{Contains-head, Contains-tail, Contains-cases, Contains-reverse, reverse-cons}
+use Rattle.pf_base.proofs.ListLemmas.{Contains-head, Contains-tail, Contains-cases, Contains-reverse, reverse-cons}
 use Rattle.pf_core.proofs.LabelLemmas.{label_is, parent_labelled}
 use Rattle.pf_core.proofs.FrontierLemmas.{goes_more, end_more}
 use Rattle.pf_core.proofs.PathLemmas.{chain_path, HasNode-append_cases, NoRepeats-append}

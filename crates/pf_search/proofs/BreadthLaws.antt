@@ -12,8 +12,7 @@ use Rattle.pf_base.specs.Successors.{HasSuccessor}
 use Rattle.pf_base.specs.Answers.{SameNodes}
 use Rattle.pf_base.specs.Orders.{successors_of, found_from, IsBreadthOrder, AllGiven}
 use Rattle.pf_core.specs.NodeLaws.{StandsFor-one}
-use Rattle.pf_core.proofs.ListLemmas.{take_get, get_take, bool_dec}
-use Rattle.pf_base.proofs.ListLemmas.{get-append}
+use Rattle.pf_base.proofs.ListLemmas.{take_get, get_take, bool_dec, get-append}
 use Rattle.pf_core.proofs.NodeLemmas.{AddsNode-insert, eq-sym, eq-trans}
 use Rattle.pf_core.proofs.FrontierLemmas.{end_more}
 use Rattle.pf_search.proofs.BreadthLemmas.{at_node, any_at, place_of, in_append, inserted_cases, Same-sym, IsReached, reached-same, given_reached}

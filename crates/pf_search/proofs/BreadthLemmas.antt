@@ -14,8 +14,7 @@ use Rattle.pf_base.specs.Successors.{HasSuccessor}
 use Rattle.pf_base.specs.Answers.{SameNodes, ListsEdges}
 use Rattle.pf_base.specs.Orders.{successors_of, found_from, IsNextInBreadth, IsBreadthOrder}
 use Rattle.pf_core.specs.Hops.{unit_edges}
-use Rattle.pf_core.proofs.ListLemmas.{take_get}
-use Rattle.pf_base.proofs.ListLemmas.{none_in}
+use Rattle.pf_base.proofs.ListLemmas.{take_get, none_in}
 use Rattle.pf_core.proofs.NodeLemmas.{eq-sym, eq-trans, InReach-same, InReach-start, InReach-more}
 use Rattle.pf_core.specs.HopLaws.{lists_unit, reach_next}
 use Rattle.pf_core.proofs.UnitLemmas.{edge_of_next, reach_edges}

@@ -16,7 +16,7 @@ use Rattle.pf_core.specs.Numbered.{Grows, NumbersInOrder}
 use Rattle.pf_core.specs.NodeLaws.{StandsFor-one}
 use Rattle.pf_core.specs.Sources.{AnswersHops}
 use Rattle.pf_core.specs.Nodes.{NodeGraph, StandsFor, Explores, ends_of}
-use Rattle.pf_core.proofs.ListLemmas.{take_get, get_take, bool_dec}
+use Rattle.pf_base.proofs.ListLemmas.{take_get, get_take, bool_dec}
 use Rattle.pf_core.proofs.NodeLemmas.{eq-sym, eq-trans}
 use Rattle.pf_core.proofs.OrderLemmas.{Same-trans}
 use Rattle.pf_core.proofs.UnitLemmas.{ends_unit, reach_edges, Explores-successors, Explores-next}

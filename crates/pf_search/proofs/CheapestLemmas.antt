@@ -17,7 +17,7 @@ use Rattle.pf_core.specs.Sources.{AnswersEdges}
 use Rattle.pf_core.specs.Nodes.{NodeGraph, StandsFor, IsStep, Explores}
 use Rattle.pf_core.specs.NodeLaws.{StandsFor-one, StandsFor-inside}
 use Rattle.pf_core.specs.Search.{IsLeast, IsFirst, IsSearch, Turned, StandsRoot, HasDearStep, IsWithinRange, SettledAt, WaitingAt}
-use Rattle.pf_core.proofs.ListLemmas.{bool_dec}
+use Rattle.pf_base.proofs.ListLemmas.{bool_dec}
 use Rattle.pf_core.proofs.LabelLemmas.{HasLabel-inside, label_is, parent_labelled}
 use Rattle.pf_core.proofs.FrontierLemmas.{frontier, goes_more, end_more}
 use Rattle.pf_core.proofs.PathLemmas.{climb_from, path_up}

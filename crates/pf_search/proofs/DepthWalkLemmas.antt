@@ -23,7 +23,8 @@ use Rattle.pf_core.specs.Hops.{unit_edges}
 use Rattle.pf_core.proofs.DepthFirstLemmas.{IsSpent, drop_passed, all_spent, way_on, visit_pending, pending_stays, cut_path}
 use Rattle.pf_core.proofs.NodeLemmas.{eq-sym, eq-trans, StandsFor-same}
 use Rattle.pf_core.proofs.UnitLemmas.{Explores-successors}
-use Rattle.pf_core.proofs.PathLemmas.{AllZip-append, AllZip-map, HasNode-append_cases}
+use Rattle.pf_base.proofs.ListLemmas.{AllZip-append}
+use Rattle.pf_core.proofs.PathLemmas.{AllZip-map, HasNode-append_cases}
 use Rattle.pf_core.proofs.OrderLemmas.{Same-trans}
 use Rattle.pf_search.proofs.BreadthLaws.{get_below}
 use Rattle.pf_search.proofs.BreadthLemmas.{Same-append, Same-sym, Same-length, Same-insert_all, found-push}

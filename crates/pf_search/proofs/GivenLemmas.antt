@@ -7,8 +7,7 @@ use Rattle.pf_base.specs.Walks.{HasNode, NoRepeats}
 use Rattle.pf_core.specs.declared.labels.Label.{Label}
 use Rattle.pf_core.specs.Labels.{Labels, HasLabel, is_settled, settled_count}
 use Rattle.pf_core.specs.Nodes.{StandsFor}
-use Rattle.pf_core.proofs.ListLemmas.{Contains-head, Contains-tail, Contains-cases}
-use Rattle.pf_base.proofs.ListLemmas.{none_in}
+use Rattle.pf_base.proofs.ListLemmas.{Contains-head, Contains-tail, Contains-cases, none_in}
 use Rattle.pf_search.specs.CheapestFirst.{CheapestWalk, IsGiven}
 use Rattle.pf_search.specs.Internal.CheapestSearch.{CheapestSearch, given_of}
 

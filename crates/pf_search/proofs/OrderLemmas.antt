@@ -5,7 +5,7 @@ use Rattle.std.proofs.lemmas.Int.{ints}
 use Rattle.pf_core.specs.declared.labels.Label.{Label}
 use Rattle.pf_core.specs.Labels.{Labels, HasLabel, by_cost, AllSettled}
 use Rattle.pf_core.specs.Search.{SettledAt, IsLeast, IsSearch, Turned}
-use Rattle.pf_core.proofs.ListLemmas.{Contains-head, Contains-tail, Contains-cases, Contains-append_one}
+use Rattle.pf_base.proofs.ListLemmas.{Contains-head, Contains-tail, Contains-cases, Contains-append_one}
 use Rattle.pf_search.specs.Internal.Partial.{Rises, BeginsWith, IsOrder, IsEnded}
 
 -- none was settled and only the start has a label, or the start was settled first

@@ -8,7 +8,7 @@ use Rattle.std.specs.Map.{lookup}
 use Rattle.std.proofs.lemmas.Map.Steps.{length-le_from_keys}
 use Rattle.std.proofs.lemmas.Option.{none-some}
 use Rattle.pf_base.specs.Walks.{HasNode, NoRepeats, Follows, IsWalk, end_of}
-use Rattle.pf_core.proofs.ListLemmas.{bool_dec, or_cases, reverse-cons}
+use Rattle.pf_base.proofs.ListLemmas.{bool_dec, or_cases, reverse-cons}
 use Rattle.pf_core.proofs.NodeLemmas.{eq-sym}
 use Rattle.pf_search.specs.Parents.{HasEntry, IsParent, IsChainOfParents, MeetsNoneTwice}
 

@@ -15,10 +15,10 @@ use Rattle.pf_core.specs.Steps.{IsNonNegative, NoGoalBelow}
 use Rattle.pf_core.specs.Numbered.{Grows}
 use Rattle.pf_core.specs.Nodes.{NodeGraph, StandsFor, IsStep}
 use Rattle.pf_core.specs.Search.{SettledAt, WaitingAt, IsLow, IsLeast, IsSearch, StandsRoot}
-use Rattle.pf_core.proofs.ListLemmas.{bool_dec, nat_dec, Contains-head, Contains-tail, Contains-cases, Contains-append_one}
+use Rattle.pf_base.proofs.ListLemmas.{bool_dec, nat_dec, Contains-head, Contains-tail, Contains-cases, Contains-append_one, AllZip-append}
 use Rattle.pf_core.proofs.LabelLemmas.{HasLabel-inside, label_is, parent_labelled}
 use Rattle.pf_core.proofs.FrontierLemmas.{frontier, walk_positive}
-use Rattle.pf_core.proofs.PathLemmas.{path_up, AllZip-append}
+use Rattle.pf_core.proofs.PathLemmas.{path_up}
 use Rattle.pf_core.proofs.SearchLemmas.{goal_above, found_at, rooted}
 use Rattle.pf_core.proofs.NodeLemmas.{eq-sym, StandsFor-same, HasEdge-same, InReach-same, InReach-start}
 use Rattle.pf_core.proofs.WalkLemmas.{no_negative, goes_of_walk, none_less, best_answer, all_starts, only_starts}

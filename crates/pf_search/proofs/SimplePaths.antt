@@ -8,7 +8,7 @@ use Rattle.std.proofs.lemmas.List.Elements.{Contains-append_left, Contains-push,
 use Rattle.pf_base.specs.Walks.{HasNode, NoRepeats, Follows, end_of, IsGoalWalk, IsGoalPath, HasNoGoalWalk, IsReachable}
 use Rattle.pf_base.specs.Successors.{HasSuccessor, IsFewestEdgesGoalPath}
 use Rattle.pf_base.specs.Answers.{SameNodes}
-use Rattle.pf_core.proofs.ListLemmas.{or_left, or_right, or_cases, at_place, Contains-head, Contains-tail, Contains-cases, reverse-cons, Contains-reverse}
+use Rattle.pf_base.proofs.ListLemmas.{or_left, or_right, or_cases, at_place, Contains-head, Contains-tail, Contains-cases, reverse-cons, Contains-reverse}
 use Rattle.pf_core.proofs.PathLemmas.{NoRepeats-append}
 use Rattle.pf_search.specs.Internal.Deepening.{IsPathFrom, FollowsEnd, NoGoalBeyond, Deepens}
 use Rattle.pf_search.specs.declared.directed.iddfs.Deepened.{Deepened}

@@ -5,7 +5,7 @@ use Rattle.pf_core.specs.declared.labels.Label.{Label}
 use Rattle.pf_core.specs.Labels.{Labels, HasLabel, by_cost, is_settled, settled_count}
 use Rattle.pf_core.specs.Numbered.{Grows}
 use Rattle.pf_core.specs.Search.{IsLeast, IsSearch, Turned}
-use Rattle.pf_core.proofs.ListLemmas.{at_place}
+use Rattle.pf_base.proofs.ListLemmas.{at_place}
 use Rattle.pf_core.proofs.LabelLemmas.{HasLabel-inside}
 use Rattle.pf_search.specs.Internal.Partial.{IsEnded}
 

@@ -4,8 +4,7 @@ use Rattle.std.specs.Prelude.{slice_get, slice_set, ◌⊎◌}
 use Rattle.std.proofs.lemmas.List.{map-append, append-nil, length-replicate, get_or-replicate}
 use Rattle.std.proofs.lemmas.Option.{slice_get_within, slice_get-get_or}
 use borrow.Author.Tests.{eqb-true}
-use Rattle.pf_core.proofs.ListLemmas.{bool_dec}
-use Rattle.pf_base.proofs.ListLemmas.{get_set, get-append, none_in, get_at_end, get_push}
+use Rattle.pf_base.proofs.ListLemmas.{bool_dec, get_set, get-append, none_in, get_at_end, get_push}
 use Rattle.pf_tables.specs.Internal.Numbering.{IsIndex, present, steps_at}
 
 some_same : {A : Type 0} (x y : A) → Some x ≡ Some y → x ≡ y

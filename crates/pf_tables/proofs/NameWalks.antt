@@ -9,7 +9,7 @@ use Rattle.pf_base.specs.Edges.{HasEdge, IsSuccessor, StepCosts, StepsCost, Walk
 use Rattle.pf_base.specs.Successors.{HasSuccessor, IsFewestEdgesGoalPath}
 use Rattle.pf_core.specs.Nodes.{StandsFor}
 use Rattle.pf_core.specs.NodeLaws.{StandsFor-inside}
-use Rattle.pf_core.proofs.ListLemmas.{bool_dec, Contains-cases}
+use Rattle.pf_base.proofs.ListLemmas.{bool_dec, Contains-cases}
 use Rattle.pf_core.proofs.NodeLemmas.{eq-sym, eq-trans, StandsFor-same}
 use Rattle.pf_tables.proofs.NumberedNames.{has_at, number_is}
 use borrow.Author.Tests.{eqb-true}

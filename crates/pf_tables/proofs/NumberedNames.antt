@@ -13,8 +13,7 @@ use Rattle.std.proofs.lemmas.Option.{slice_get_within}
 use Rattle.indexmap.specs.IndexSet.{insert_key, insert_all}
 use Rattle.pf_base.specs.Walks.{HasNode, NoRepeats}
 use Rattle.pf_base.specs.NodeRefs.{nodes_of, HasSameNodes}
-use Rattle.pf_core.proofs.ListLemmas.{bool_dec, or_true}
-use Rattle.pf_base.proofs.ListLemmas.{none_in}
+use Rattle.pf_base.proofs.ListLemmas.{bool_dec, or_true, none_in}
 use Rattle.pf_core.proofs.NodeLemmas.{HasSameNodes-insert, eq-sym}
 use Rattle.pf_core.proofs.PathLemmas.{NoRepeats-append}
 use Rattle.pf_tables.specs.EdgeLists.{ends_of, names_of, number_in, ends_from}

@@ -11,7 +11,7 @@ use Rattle.pf_base.specs.Edges.{HasEdge, InReach, IsSuccessor, IsCheapestGoalPat
 use Rattle.pf_core.specs.Nodes.{NodeGraph, IsStep, StandsFor}
 use Rattle.pf_core.specs.Numbered.{ListsSteps, NumbersInOrder}
 use Rattle.pf_core.specs.Steps.{GoesAlong, NoGoal, IsBestNumbered, IsTooDear}
-use Rattle.pf_core.proofs.ListLemmas.{Contains-head, Contains-tail, Contains-cases}
+use Rattle.pf_base.proofs.ListLemmas.{Contains-head, Contains-tail, Contains-cases}
 use Rattle.pf_core.proofs.NodeLemmas.{InReach-start, InReach-more}
 use Rattle.pf_core.proofs.WalkLemmas.{all_starts, only_starts, no_walk, best_answer, past_range}
 use Rattle.pf_tables.specs.Graphs.{IsGraph, edges_at}

@@ -6,7 +6,7 @@ use Rattle.std.proofs.Math.Nat.{suc-mul, mul-le-mul_right}
 use Rattle.pf_base.specs.Walks.{HasNode, NoRepeats, Follows, end_of}
 use Rattle.pf_base.specs.Edges.{IsSuccessor, InReach}
 use Rattle.pf_base.specs.Answers.{SameNodes}
-use Rattle.pf_core.proofs.ListLemmas.{bool_dec, Contains-head, Contains-tail}
+use Rattle.pf_base.proofs.ListLemmas.{bool_dec, Contains-head, Contains-tail}
 use Rattle.pf_core.proofs.NodeLemmas.{eq-sym, eq-trans, InReach-same, InReach-start, InReach-after}
 use Rattle.pf_core.proofs.WalkLemmas.{HasNode-same}
 use Rattle.pf_yen.specs.Internal.Gathered.{same_nodes}

@@ -5,7 +5,7 @@ use Rattle.std.proofs.Math.ListN.{get_or-append}
 use Rattle.std.proofs.Math.Seq.{get_or-append_seam}
 use Rattle.pf_core.specs.Numbered.{ListsSteps, Grows}
 use Rattle.pf_core.specs.Steps.{IsNonNegative}
-use Rattle.pf_core.proofs.ListLemmas.{nat_dec, Contains-head}
+use Rattle.pf_base.proofs.ListLemmas.{nat_dec, Contains-head}
 use Rattle.pf_yen.specs.Internal.Adjacency.{AdjacencyLists, row_of, is_goal}
 use Rattle.pf_yen.specs.Internal.WholeGraphs.{IsWhole}
 use Rattle.pf_yen.specs.Internal.Learned.{LiveStep, IsLearned}

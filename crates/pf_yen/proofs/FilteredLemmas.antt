@@ -7,7 +7,7 @@ use Rattle.std.proofs.lemmas.List.{append-nil, take_more}
 use Rattle.std.proofs.lemmas.List.Elements.{filter-append}
 use Rattle.std.proofs.lemmas.Option.{slice_get_read}
 use Rattle.pf_core.specs.Numbered.{ListsSteps, NumbersInOrder}
-use Rattle.pf_core.proofs.ListLemmas.{bool_dec, Contains-head, Contains-tail, Contains-cases}
+use Rattle.pf_base.proofs.ListLemmas.{bool_dec, Contains-head, Contains-tail, Contains-cases}
 use Rattle.pf_yen.specs.Internal.Adjacency.{row_of}
 use Rattle.pf_yen.specs.Internal.Filtered.{FilteredLists, allows, filtered_row, FilteredStep, StandsForItself, EndsInside}
 use Rattle.pf_yen.specs.Internal.Classes.{is_in}

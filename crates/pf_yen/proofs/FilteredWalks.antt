@@ -5,7 +5,7 @@ use Rattle.std.specs.List.{AllZip}
 use borrow.Author.Tests.{eqb-true}
 use Rattle.pf_base.specs.Walks.{HasNode, NoRepeats, end_of}
 use Rattle.pf_core.specs.Steps.{GoesAlong, IsNonNegative, NoGoal, IsBestNumbered}
-use Rattle.pf_core.proofs.ListLemmas.{bool_dec}
+use Rattle.pf_base.proofs.ListLemmas.{bool_dec}
 use Rattle.pf_yen.specs.Internal.Adjacency.{is_goal, row_of, AdjacencyStep}
 use Rattle.pf_yen.specs.Internal.WholeGraphs.{IsWhole}
 use Rattle.pf_yen.specs.Internal.Filtered.{FilteredLists, allows, allows_by, FilteredStep, StandsForItself}

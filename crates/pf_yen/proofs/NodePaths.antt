@@ -11,13 +11,12 @@ use Rattle.pf_base.specs.Edges.{StepCosts, StepsCost, WalkCosts, InReach, IsPast
 use Rattle.pf_base.specs.Answers.{ListsEdges, SameNodes}
 use Rattle.pf_core.specs.Numbered.{ListsSteps}
 use Rattle.pf_core.specs.Steps.{GoesAlong, IsNonNegative}
-use Rattle.pf_core.proofs.ListLemmas.{bool_dec, Contains-head, Contains-tail, Contains-cases}
+use Rattle.pf_base.proofs.ListLemmas.{bool_dec, Contains-head, Contains-tail, Contains-cases, AllZip-append}
 use Rattle.pf_core.proofs.FrontierLemmas.{walk_positive}
 use Rattle.pf_core.specs.Nodes.{NodeGraph, StandsFor, IsStep}
 use Rattle.pf_core.specs.NodeLaws.{StandsFor-inside}
 use Rattle.pf_core.proofs.NodeLemmas.{eq-sym, eq-trans, StandsFor-same, HasEdge-same, InReach-start, InReach-more}
 use Rattle.pf_core.proofs.WalkLemmas.{cheapest_edge, goes_of_walk, walk_of_goes, distinct_nodes}
-use Rattle.pf_core.proofs.PathLemmas.{AllZip-append}
 use Rattle.pf_yen.specs.Internal.Adjacency.{AdjacencyLists, is_goal, row_of, AdjacencyStep}
 use Rattle.pf_yen.specs.Internal.Learned.{LiveStep, IsLearned}
 use Rattle.pf_yen.specs.Internal.Classes.{Plan, is_member, goes_on_to, IsCleanNumbers, is_in}

@@ -9,8 +9,7 @@ use Rattle.std.proofs.lemmas.Option.{slice_get_within, slice_get-get_or}
 use Rattle.std.proofs.lemmas.List.Sums.{sum_by-append, sum_by-cons}
 use Rattle.pf_base.specs.Walks.{HasNode, NoRepeats, end_of}
 use Rattle.pf_core.specs.Steps.{GoesAlong, IsNonNegative, IsTooDear}
-use Rattle.pf_core.proofs.ListLemmas.{bool_dec, or_cases, Contains-append_one}
-use Rattle.pf_base.proofs.ListLemmas.{get_set}
+use Rattle.pf_base.proofs.ListLemmas.{bool_dec, or_cases, Contains-append_one, get_set}
 use Rattle.pf_core.proofs.FrontierLemmas.{walk_positive}
 use Rattle.pf_yen.specs.Internal.Adjacency.{AdjacencyLists, is_goal, AdjacencyStep}
 use Rattle.pf_yen.specs.Internal.WholeGraphs.{IsWhole}

@@ -12,8 +12,7 @@ use Rattle.pf_base.specs.Edges.{WalkCosts, InReach}
 use Rattle.pf_base.specs.Answers.{ListsEdges}
 use Rattle.pf_core.specs.Steps.{GoesAlong}
 use Rattle.pf_core.specs.Nodes.{StandsFor, IsStep}
-use Rattle.pf_core.proofs.ListLemmas.{nat_dec, bool_dec, Contains-head, Contains-tail, Contains-cases, Contains-append_one}
-use Rattle.pf_core.proofs.PathLemmas.{AllZip-append}
+use Rattle.pf_base.proofs.ListLemmas.{nat_dec, bool_dec, Contains-head, Contains-tail, Contains-cases, Contains-append_one, AllZip-append}
 use Rattle.pf_core.proofs.WalkLemmas.{same_of}
 use Rattle.pf_yen.specs.Internal.Adjacency.{AdjacencyLists, AdjacencyStep}
 use Rattle.pf_yen.specs.Internal.WholeGraphs.{IsWhole}

@@ -7,7 +7,7 @@ use Rattle.pf_core.specs.Labels.{by_depth, IsTree}
 use Rattle.pf_base.proofs.Outcomes.{refused_as, refused_by}
 use Rattle.pf_core.specs.Loops.{Closes, IsBestNumberedLoop}
 use Rattle.pf_core.specs.Numbered.{Grows, StandsBelow}
-use Rattle.pf_core.proofs.ListLemmas.{Contains-append_one}
+use Rattle.pf_base.proofs.ListLemmas.{Contains-append_one}
 use Rattle.pf_core.proofs.SearchLemmas.{Grows-trans}
 use Rattle.pf_core.proofs.LoopLemmas.{property_nowhere, property_turned, none_closes, best_loop}
 use Rattle.pf_core.specs.Breadth.{below}

@@ -1,5 +1,5 @@
 use Rattle.std.proofs.Common.{◌∙◌, ap, arith, inl, inr, ℕ, ◌≤◌}
-use Rattle.pf_core.proofs.ListLemmas.{Contains-take_more, Contains-take_all}
+use Rattle.pf_base.proofs.ListLemmas.{Contains-take_more, Contains-take_all}
 use Rattle.pf_core.proofs.bfs_loop.first_below.Goals as goal
 
 pub steps-preserved : goal.steps-preserved

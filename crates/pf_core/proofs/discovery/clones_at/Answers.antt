@@ -3,8 +3,7 @@ use Rattle.std.proofs.lemmas.Result.{IfOk-from_err}
 use Rattle.std.specs.List.{AllZip}
 use Rattle.std.proofs.lemmas.List.{take_more}
 use Rattle.pf_core.specs.Nodes.{StandsFor}
-use Rattle.pf_core.proofs.ListLemmas.{at_place, Contains-index}
-use Rattle.pf_core.proofs.PathLemmas.{AllZip-append}
+use Rattle.pf_base.proofs.ListLemmas.{at_place, Contains-index, AllZip-append}
 use Rattle.pf_base.proofs.Outcomes.{no_memory}
 use Rattle.pf_core.proofs.ReadLemmas.{lt_most, nearer}
 use Rattle.pf_core.proofs.discovery.clones_at.Goals as goal

@@ -2,8 +2,7 @@ use Rattle.std.proofs.Common.{subst, sym}
 use Rattle.std.proofs.lemmas.Result.{IfOk-from_err}
 use Rattle.pf_core.specs.Nodes.{AddsNode}
 use Rattle.pf_core.proofs.NodeLemmas.{AddsNode-insert, AddsNode-old, eq-sym}
-use Rattle.pf_core.proofs.ListLemmas.{on_ok}
-use Rattle.pf_base.proofs.Outcomes.{no_memory}
+use Rattle.pf_base.proofs.Outcomes.{on_ok, no_memory}
 use Rattle.pf_core.proofs.discovery.number_edge.Goals as goal
 
 pub returns-in_err-number : goal.returns-in_err-number

@@ -1,6 +1,6 @@
 use Rattle.std.proofs.Common.{◌∙◌, ap, sym, inl}
 use Rattle.std.specs.Ordering.{is_some_and, is_lt}
-use Rattle.pf_core.proofs.ListLemmas.{at_place, lt_means}
+use Rattle.pf_base.proofs.ListLemmas.{at_place, lt_means}
 use Rattle.pf_core.proofs.LabelLemmas.{improves_at}
 use Rattle.pf_core.proofs.ReadLemmas.{none_read}
 use Rattle.pf_core.proofs.labels.improves.Goals as goal

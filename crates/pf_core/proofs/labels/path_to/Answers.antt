@@ -3,7 +3,7 @@ use Rattle.std.proofs.lemmas.Result.{IfOk-from_err}
 use Rattle.std.specs.Prelude.{reverse, Contains}
 use Rattle.std.proofs.lemmas.List.{append-nil, append_assoc}
 use Rattle.pf_core.specs.Labels.{HasLabel}
-use Rattle.pf_core.proofs.ListLemmas.{Contains-append_one, Contains-reverse}
+use Rattle.pf_base.proofs.ListLemmas.{Contains-append_one, Contains-reverse}
 use Rattle.pf_core.proofs.LabelLemmas.{HasLabel-inside, parent_labelled}
 use Rattle.pf_base.proofs.Outcomes.{no_memory}
 use Rattle.pf_core.proofs.ReadLemmas.{shallower}

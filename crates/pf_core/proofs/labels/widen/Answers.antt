@@ -2,7 +2,7 @@ use Rattle.std.proofs.Common.{◌∙◌, ap, arith, ◌-◌, ◌++◌, length, l
 use Rattle.std.proofs.lemmas.List.{length-replicate}
 use Rattle.std.specs.Prelude.{Option}
 use Rattle.pf_core.specs.declared.labels.Label.{Label}
-use Rattle.pf_core.proofs.ListLemmas.{on_ok}
+use Rattle.pf_base.proofs.Outcomes.{on_ok}
 use Rattle.pf_core.proofs.LabelLemmas.{Widened-more}
 use Rattle.pf_core.proofs.labels.widen.Goals as goal
 

@@ -1,6 +1,6 @@
 use Rattle.std.proofs.Common.{arith, ℕ, ◌<◌, subst, sym, List, ◌≤◌, length, take_all}
 use Rattle.pf_core.specs.Labels.{by_cost, Relaxed}
-use Rattle.pf_core.proofs.ListLemmas.{Contains-take, Contains-take_all, Contains-take_here, Contains-here}
+use Rattle.pf_base.proofs.ListLemmas.{Contains-take, Contains-take_all, Contains-take_here, Contains-here}
 use Rattle.pf_core.proofs.LabelLemmas.{Relaxed-more, reached_more}
 use Rattle.pf_core.proofs.ReadLemmas.{nearer, room_all, none_contained, Relaxed-none}
 use Rattle.pf_core.proofs.queue.relax.Goals as goal

@@ -1,6 +1,6 @@
 use Rattle.std.proofs.Common.{◌∙◌, ap, subst, inl, inr, ℕ}
 use Rattle.std.specs.Prelude.{◌+ℤ◌}
-use Rattle.pf_core.proofs.ListLemmas.{Contains-take_more, Contains-take_all}
+use Rattle.pf_base.proofs.ListLemmas.{Contains-take_more, Contains-take_all}
 use Rattle.pf_core.proofs.sums.all_fit.Goals as goal
 
 pub steps-preserved : goal.steps-preserved

@@ -1,5 +1,5 @@
 use Rattle.std.proofs.Common.{◌∙◌, sym}
-use Rattle.pf_core.proofs.ListLemmas.{at_place}
+use Rattle.pf_base.proofs.ListLemmas.{at_place}
 use Rattle.pf_core.proofs.ReadLemmas.{none_past, none_read}
 use Rattle.pf_core.proofs.sums.is_labelled.Goals as goal
 

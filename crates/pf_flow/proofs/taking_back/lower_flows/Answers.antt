@@ -2,7 +2,7 @@ use Rattle.std.proofs.Common.{◌≡◌, ◌<◌, Some, arith, get_or, subst, sy
 use Rattle.std.specs.Prelude.{slice_get}
 use Rattle.std.proofs.lemmas.Int.{ints}
 use Rattle.std.proofs.lemmas.Option.{slice_get-get_or}
-use Rattle.pf_core.proofs.ListLemmas.{at_place, get_take}
+use Rattle.pf_base.proofs.ListLemmas.{at_place, get_take}
 use Rattle.pf_residual.specs.declared.cancelling.arcs.Arc.{Arc}
 use Rattle.pf_flow.proofs.TakeBackLemmas.{settled_next, settled_none, settled_step}
 use Rattle.pf_flow.proofs.taking_back.lower_flows.Goals as goal

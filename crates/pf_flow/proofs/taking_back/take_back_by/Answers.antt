@@ -2,7 +2,7 @@ use Rattle.std.proofs.Common.{◌≡◌, ◌∙◌, ◌<◌, ◌+◌, ◌-◌, �
 use Rattle.std.specs.Prelude.{slice_get, ◌≤ℤ◌, ◌+ℤ◌, ◌-ℤ◌}
 use Rattle.std.proofs.lemmas.Int.{ints}
 use Rattle.std.proofs.lemmas.Result.{IfOk-from_err, MatchResult-from_err}
-use Rattle.pf_core.proofs.ListLemmas.{at_place, get_take}
+use Rattle.pf_base.proofs.ListLemmas.{at_place, get_take}
 use Rattle.pf_residual.specs.Internal.Cancelling.{AreInside}
 use Rattle.pf_residual.specs.Internal.Settled.{AreFlowing, IsSettled, AreApart}
 use Rattle.pf_residual.proofs.AgreeLemmas.{agrees_itself, capacities_agrees, capacities_more, network_agrees}

@@ -1,7 +1,7 @@
 use Rattle.std.proofs.Common.{◌≡◌, ℤ, Bool, true, false, Some, ap, subst, ◌∙◌}
 use Rattle.std.specs.Prelude.{◌<ℤ◌, ◌≤ℤ◌, Option, MatchBool, ⊤}
 use Rattle.std.specs.Ordering.{is_some_and, is_lt}
-use Rattle.pf_core.proofs.ListLemmas.{lt_means}
+use Rattle.pf_base.proofs.ListLemmas.{lt_means}
 use Rattle.pf_informed.proofs.cheapest_labels.is_past.Goals as goal
 
 past : {C : Type 0} (value : C → ℤ) (known : Option C) (best : C) (sum : ℤ) (r : Bool) → known ≡ Some best → MatchBool r (value best <ℤ sum) (sum ≤ℤ value best) → MatchBool r ((b : C) × (known ≡ Some b) × (value b <ℤ sum)) ⊤

@@ -1,6 +1,6 @@
 use Rattle.std.proofs.Common.{◌∙◌, ap, sym, ◌≡◌, Some, None}
 use Rattle.std.specs.Ordering.{is_some_and, is_lt}
-use Rattle.pf_core.proofs.ListLemmas.{at_place, lt_means}
+use Rattle.pf_base.proofs.ListLemmas.{at_place, lt_means}
 use Rattle.pf_informed.proofs.WaitingLemmas.{lowers_at}
 use Rattle.pf_informed.proofs.labels.lowers.Goals as goal
 

@@ -2,7 +2,7 @@ use Rattle.std.proofs.Common.{arith, ◌∙◌, ap, sym, subst, ℕ, ◌<◌, []
 use Rattle.std.specs.Prelude.{reverse, Contains}
 use Rattle.std.proofs.lemmas.List.{append-nil, append_assoc}
 use Rattle.pf_core.specs.Labels.{HasLabel, Climbs}
-use Rattle.pf_core.proofs.ListLemmas.{Contains-append_one, Contains-reverse}
+use Rattle.pf_base.proofs.ListLemmas.{Contains-append_one, Contains-reverse}
 use Rattle.pf_core.proofs.LabelLemmas.{HasLabel-inside}
 use Rattle.pf_informed.proofs.PathUp.{chain_short, steps_are}
 use Rattle.pf_informed.proofs.Outcomes.{refused_as, if_refused}

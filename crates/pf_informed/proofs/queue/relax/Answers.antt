@@ -1,7 +1,7 @@
 use Rattle.std.proofs.Common.{arith, ℕ, ◌<◌, ◌≡◌, ◌∙◌, subst, sym, take, inl, inr, [], List}
 use Rattle.std.specs.Prelude.{Contains, ◌⊎◌}
 use Rattle.std.proofs.lemmas.List.{take_all}
-use Rattle.pf_core.proofs.ListLemmas.{Contains-take, Contains-take_more, Contains-take_here, Contains-here}
+use Rattle.pf_base.proofs.ListLemmas.{Contains-take, Contains-take_more, Contains-take_here, Contains-here}
 use Rattle.pf_informed.specs.Internal.Waiting.{Eased}
 use Rattle.pf_informed.proofs.WaitingLemmas.{Eased-start, Eased-more}
 use Rattle.pf_informed.proofs.queue.relax.Goals as goal

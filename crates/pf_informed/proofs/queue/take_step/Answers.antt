@@ -3,7 +3,7 @@ use Rattle.std.specs.Prelude.{Option, slice_set, slice_get, ◌≤ℤ◌, ◌+�
 use Rattle.std.proofs.lemmas.Int.{ints}
 use Rattle.pf_core.specs.declared.labels.Label.{Label}
 use Rattle.pf_core.proofs.LabelLemmas.{HasLabel-inside}
-use Rattle.pf_core.proofs.ListLemmas.{at_place}
+use Rattle.pf_base.proofs.ListLemmas.{at_place}
 use Rattle.pf_informed.specs.Internal.Forest.{IsForest, nat_of, total_room}
 use Rattle.pf_informed.specs.Internal.Waiting.{IsQueue, Eased}
 use Rattle.pf_informed.proofs.ForestLemmas.{forest_lowered, room_lowered}

@@ -4,7 +4,7 @@ use Rattle.std.proofs.lemmas.Int.{ints}
 use Rattle.pf_core.specs.declared.labels.Label.{Label}
 use Rattle.pf_core.specs.Labels.{HasLabel}
 use Rattle.pf_core.proofs.LabelLemmas.{label_is, HasLabel-inside}
-use Rattle.pf_core.proofs.ListLemmas.{lt_means, at_place}
+use Rattle.pf_base.proofs.ListLemmas.{lt_means, at_place}
 use Rattle.pf_informed.proofs.TightLemmas.{less_of, not_less_of, tight_at}
 use Rattle.pf_informed.proofs.WiderLemmas.{no_label}
 use Rattle.pf_informed.proofs.tight.is_tight.Goals as goal

@@ -1,7 +1,7 @@
 use Rattle.std.proofs.Common.{◌≡◌, ◌∙◌, ◌+◌, take, inl, inr}
 use Rattle.std.specs.Prelude.{◌⊎◌, Contains}
 use Rattle.std.proofs.lemmas.List.{take_all}
-use Rattle.pf_core.proofs.ListLemmas.{Contains-take, Contains-take_more, Contains-take_here}
+use Rattle.pf_base.proofs.ListLemmas.{Contains-take, Contains-take_more, Contains-take_here}
 use Rattle.pf_informed.specs.Internal.Tight.{IsTightStep}
 use Rattle.pf_informed.specs.Internal.Ways.{before_in}
 use Rattle.pf_informed.proofs.Outcomes.{refused_as, on_refused}

@@ -1,7 +1,8 @@
 use Rattle.std.proofs.Common.{rules, ◌≡◌, ◌<◌, ap, sym, subst, arith, ℕ, length, inl, inr, nat_eq}
 use Rattle.pf_base.specs.Walks.{HasNode}
 use Rattle.pf_core.proofs.LabelLemmas.{HasLabel-inside}
-use Rattle.pf_core.proofs.ListLemmas.{on_ok, at_place}
+use Rattle.pf_base.proofs.Outcomes.{on_ok}
+use Rattle.pf_base.proofs.ListLemmas.{at_place}
 use Rattle.pf_informed.specs.Internal.Tight.{IsUpTo, IsTightStep}
 use Rattle.pf_informed.specs.Internal.Ways.{before_in, items_or_none}
 use Rattle.pf_informed.proofs.TightLemmas.{linked_set, rows_set}

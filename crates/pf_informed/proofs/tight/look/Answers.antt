@@ -4,7 +4,8 @@ use Rattle.std.proofs.lemmas.Int.{ints}
 use Rattle.pf_core.specs.declared.labels.Label.{Label}
 use Rattle.pf_core.specs.Labels.{HasLabel}
 use Rattle.pf_core.proofs.LabelLemmas.{label_is}
-use Rattle.pf_core.proofs.ListLemmas.{at_place, on_ok}
+use Rattle.pf_base.proofs.ListLemmas.{at_place}
+use Rattle.pf_base.proofs.Outcomes.{on_ok}
 use Rattle.pf_core.proofs.SearchLemmas.{Grows-trans}
 use Rattle.pf_informed.specs.Internal.Ways.{before_in}
 use Rattle.pf_informed.proofs.Outcomes.{refused_as, on_refused, Grows-refl}

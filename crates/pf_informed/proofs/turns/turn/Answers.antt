@@ -2,7 +2,7 @@ use Rattle.std.proofs.Common.{◌<◌, ◌≤◌, ◌∙◌, arith, List, ℕ, s
 use Rattle.std.specs.Prelude.{◌++◌, Contains}
 use Rattle.pf_core.specs.Nodes.{StandsFor, IsStep}
 use Rattle.pf_core.proofs.LabelLemmas.{HasLabel-inside}
-use Rattle.pf_core.proofs.ListLemmas.{on_ok}
+use Rattle.pf_base.proofs.Outcomes.{on_ok}
 use Rattle.pf_core.proofs.UnitLemmas.{begins_all}
 use Rattle.pf_core.proofs.WalkLemmas.{no_negative}
 use Rattle.pf_informed.specs.Internal.Informed.{Follows}

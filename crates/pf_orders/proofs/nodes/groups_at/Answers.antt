@@ -2,8 +2,7 @@ use Rattle.std.proofs.Common.{refl, arith, take_all, ◌≡◌, ◌+◌, ◌++�
 use Rattle.std.specs.List.{AllZip}
 use Rattle.std.proofs.lemmas.List.{take_more}
 use Rattle.std.proofs.lemmas.Result.{IfOk-from_err}
-use Rattle.pf_core.proofs.ListLemmas.{at_place}
-use Rattle.pf_core.proofs.PathLemmas.{AllZip-append}
+use Rattle.pf_base.proofs.ListLemmas.{at_place, AllZip-append}
 use Rattle.pf_orders.specs.Internal.Rounds.{AreNodesAt}
 use Rattle.pf_base.proofs.Outcomes.{refused_as}
 use Rattle.pf_orders.proofs.nodes.groups_at.Goals as goal

@@ -1,7 +1,7 @@
 use Rattle.std.proofs.Common.{◌≡◌, ◌+◌, ◌-◌, ◌∙◌, ◌++◌, ◌∷◌, [], ℕ, List, arith, get_or, take, slice_get, Some, subst, sym, ap, refl}
 use Rattle.std.specs.Prelude.{Vec, slice_set}
 use Rattle.std.proofs.lemmas.List.{take_more, take_all, append_assoc}
-use Rattle.pf_core.proofs.ListLemmas.{at_place, Contains-index}
+use Rattle.pf_base.proofs.ListLemmas.{at_place, Contains-index}
 use Rattle.pf_orders.specs.Internal.Rounds.{Falls, AreFreed}
 use Rattle.pf_base.proofs.Outcomes.{on_failed, refused_as}
 use Rattle.pf_orders.proofs.OrderLemmas.{member_of}

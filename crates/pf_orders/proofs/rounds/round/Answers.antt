@@ -4,7 +4,7 @@ use Rattle.std.proofs.lemmas.List.{take_more, take_all}
 use Rattle.std.proofs.lemmas.Result.{IfOk-from_err}
 use Rattle.pf_orders.specs.Internal.Rounds.{IsRound}
 use Rattle.pf_base.proofs.Outcomes.{refused_as}
-use Rattle.pf_core.proofs.ListLemmas.{at_place, Contains-index}
+use Rattle.pf_base.proofs.ListLemmas.{at_place, Contains-index}
 use Rattle.pf_orders.proofs.OrderLemmas.{member_of}
 use Rattle.pf_orders.proofs.RoundLemmas.{round_more, row_enough}
 use Rattle.pf_orders.proofs.rounds.round.Goals as goal

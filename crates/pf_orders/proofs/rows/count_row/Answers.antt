@@ -2,7 +2,7 @@ use Rattle.std.proofs.Common.{◌≡◌, ◌<◌, ◌+◌, ℕ, length, List, ar
 use Rattle.std.specs.Prelude.{slice_set}
 use Rattle.std.proofs.lemmas.List.{take_more}
 use Rattle.std.proofs.lemmas.Option.{slice_get-get_or}
-use Rattle.pf_core.proofs.ListLemmas.{Contains-index}
+use Rattle.pf_base.proofs.ListLemmas.{Contains-index}
 use Rattle.pf_orders.specs.Internal.Rounds.{Falls}
 use Rattle.pf_orders.proofs.OrderLemmas.{member_of}
 use Rattle.pf_orders.proofs.RoundLemmas.{rises_more}

@@ -1,7 +1,7 @@
 use Rattle.std.proofs.Common.{◌≡◌, ◌<◌, ◌+◌, ◌-◌, ◌∙◌, inl, inr, true, arith, subst, sym, ℕ, length}
 use Rattle.std.specs.Prelude.{◌<ℤ◌, ◌+ℤ◌, ℤ, pos}
 use Rattle.std.proofs.lemmas.Int.{ints}
-use Rattle.pf_core.proofs.ListLemmas.{bool_dec}
+use Rattle.pf_base.proofs.ListLemmas.{bool_dec}
 use Rattle.pf_residual.specs.Networks.{Network, capacity, capacity_sum, with_total, IsNetwork, IsStored}
 use Rattle.pf_residual.specs.Internal.AugmentingPaths.{IsLabelling, IsPushed, potential}
 use Rattle.pf_residual.proofs.NetworkLemmas.{balanced_of, total_below, fits_near}

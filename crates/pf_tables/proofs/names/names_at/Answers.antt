@@ -5,8 +5,7 @@ use Rattle.std.proofs.lemmas.List.{map-append, take_more}
 use Rattle.std.proofs.lemmas.Option.{slice_get-map}
 use Rattle.std.proofs.lemmas.Result.{IfOk-from_err}
 use Rattle.pf_base.specs.NodeRefs.{nodes_of}
-use Rattle.pf_core.proofs.ListLemmas.{Contains-index, at_place}
-use Rattle.pf_core.proofs.PathLemmas.{AllZip-append}
+use Rattle.pf_base.proofs.ListLemmas.{Contains-index, at_place, AllZip-append}
 use Rattle.pf_base.proofs.Outcomes.{refused_as}
 use Rattle.pf_tables.proofs.names.names_at.Goals as goal
 

@@ -1,6 +1,6 @@
 use Rattle.std.proofs.Common.{◌≡◌, ◌<◌, ◌∙◌, sym, inl, inr, true, false, ℕ, length, length-append, subst}
 use Rattle.std.specs.Prelude.{Contains}
-use Rattle.pf_core.proofs.ListLemmas.{ok_or_err, on_ok}
+use Rattle.pf_base.proofs.Outcomes.{ok_or_err, on_ok, refused_as}
 use Rattle.pf_core.specs.Numbered.{Grows, ListsSteps}
 use Rattle.pf_core.proofs.SearchLemmas.{Grows-trans}
 use Rattle.pf_yen.specs.Internal.Learned.{LiveStep, IsLearned}
@@ -8,7 +8,6 @@ use Rattle.pf_yen.proofs.FilteredLemmas.{in_none, below_more, none_between}
 use Rattle.pf_yen.proofs.ExploreLemmas.{learned_grow, learned_add, lists_live, lists_none}
 use Rattle.pf_yen.proofs.explore.explore_next.Goals.{then-not-goal+in_ok-expand, else-not-goal}
 use Rattle.std.proofs.lemmas.Result.{IfOk-from_err}
-use Rattle.pf_base.proofs.Outcomes.{refused_as}
 use Rattle.pf_yen.proofs.explore.explore_next.Goals as goal
 
 pub is_goal-goal-requires-clause-inside : goal.is_goal-goal-requires-clause-inside

@@ -1,5 +1,5 @@
 use Rattle.std.proofs.Common.{◌≡◌, List, Some, slice_get, subst}
-use Rattle.pf_core.proofs.ListLemmas.{take_get}
+use Rattle.pf_base.proofs.ListLemmas.{take_get}
 use Rattle.pf_core.proofs.ReadLemmas.{cut_long, Grows-cut}
 use Rattle.pf_core.proofs.discovery.DiscoveryNumberedGraph.forget.Goals as goal
 

@@ -1,6 +1,6 @@
 use Rattle.std.proofs.Common.{◌≡◌, ◌∙◌, sym, Some, slice_get}
 use Rattle.pf_base.specs.Regions.{along_edges}
-use Rattle.pf_core.proofs.ListLemmas.{at_place}
+use Rattle.pf_base.proofs.ListLemmas.{at_place}
 use Rattle.pf_core.proofs.NodeLemmas.{test_at}
 use Rattle.pf_core.proofs.tested.TestedGoalGraph.is_goal.Goals as goal
 

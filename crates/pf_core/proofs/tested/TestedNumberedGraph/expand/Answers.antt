@@ -1,4 +1,4 @@
-use Rattle.pf_core.proofs.ListLemmas.{on_ok}
+use Rattle.pf_base.proofs.Outcomes.{on_ok}
 use Rattle.pf_core.proofs.tested.TestedNumberedGraph.expand.Goals as goal
 
 pub expand-requires-clause-inside : goal.expand-requires-clause-inside

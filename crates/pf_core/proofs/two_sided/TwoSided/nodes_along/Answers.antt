@@ -1,7 +1,7 @@
 use Rattle.std.proofs.Common.{◌≡◌, ◌∙◌, ◌++◌, ap, arith}
 use Rattle.std.proofs.lemmas.Result.{IfOk-from_err}
 use Rattle.pf_base.specs.declared.error.PathError.TheVariants.{OutOfMemory}
-use Rattle.pf_core.proofs.ListLemmas.{popped}
+use Rattle.pf_base.proofs.ListLemmas.{popped}
 use Rattle.pf_base.proofs.Outcomes.{refused_as, refused_by}
 use Rattle.pf_core.proofs.two_sided.TwoSided.nodes_along.Goals as goal
 

@@ -6,7 +6,7 @@ use Rattle.pf_core.specs.declared.sides.Side.{Side}
 use Rattle.pf_core.specs.Nodes.{StandsFor}
 use Rattle.pf_core.specs.Numbered.{Grows}
 use Rattle.pf_core.specs.Sides.{by_side, opposite}
-use Rattle.pf_core.proofs.ListLemmas.{on_ok}
+use Rattle.pf_base.proofs.Outcomes.{on_ok}
 use Rattle.pf_core.proofs.two_sided.TwoSidedTwoSidedGraph.expand.Goals as goal
 
 pub expand-requires-clause-inside : goal.expand-requires-clause-inside

@@ -1,5 +1,5 @@
 use Rattle.std.proofs.Common.{◌≡◌, ◌<◌, length, sym, Some, slice_get}
-use Rattle.pf_core.proofs.ListLemmas.{at_place}
+use Rattle.pf_base.proofs.ListLemmas.{at_place}
 use Rattle.pf_core.proofs.SideLemmas.{place_across}
 use Rattle.pf_core.proofs.two_sided.TwoSidedTwoSidedGraph.number_across.Goals as goal
 

@@ -2,7 +2,7 @@ use Rattle.std.proofs.Common.{◌≡◌, ◌∷◌, ◌++◌, [], ap, subst, ari
 use Rattle.std.specs.Prelude.{slice_set}
 use Rattle.std.proofs.lemmas.List.{length-set, length-replicate}
 use Rattle.std.proofs.lemmas.Result.{IfOk-from_err}
-use Rattle.pf_core.proofs.ListLemmas.{on_ok}
+use Rattle.pf_base.proofs.Outcomes.{on_ok}
 use Rattle.pf_residual.specs.Internal.Steps.{AreSteps}
 use Rattle.pf_residual.proofs.LevelListLemmas.{found_begun}
 use Rattle.pf_base.proofs.ListLemmas.{resized}

@@ -10,7 +10,7 @@ use Rattle.pf_residual.specs.Listings.{ListsNumbers}
 use Rattle.pf_residual.specs.Internal.Levels.{HasFound, Reaches}
 use Rattle.pf_residual.specs.Internal.Steps.{AreSteps}
 use Rattle.pf_residual.proofs.LevelListLemmas.{found_more, found_next, known_level, to_reached, levels_kept, from_kept}
-use Rattle.pf_core.proofs.ListLemmas.{on_ok}
+use Rattle.pf_base.proofs.Outcomes.{on_ok}
 use Rattle.pf_residual.proofs.NamedLemmas.{refused_as, ok_when}
 use Rattle.pf_flow.proofs.levels.Levels.follow.Goals as goal
 

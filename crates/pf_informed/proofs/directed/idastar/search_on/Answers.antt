@@ -3,7 +3,7 @@ use Rattle.std.specs.Prelude.{◌≤ℤ◌}
 use Rattle.pf_base.specs.Edges.{InReach}
 use Rattle.pf_core.specs.Nodes.{StandsFor}
 use Rattle.pf_core.specs.NodeLaws.{StandsFor-one, StandsFor-inside}
-use Rattle.pf_core.proofs.ListLemmas.{at_place}
+use Rattle.pf_base.proofs.ListLemmas.{at_place}
 use Rattle.pf_core.proofs.NodeLemmas.{StandsFor-same, InReach-same}
 use Rattle.pf_core.proofs.WalkLemmas.{all_starts, only_starts, no_negative, no_walk, best_answer}
 use Rattle.pf_informed.specs.Internal.Estimated.{IsEstimated}

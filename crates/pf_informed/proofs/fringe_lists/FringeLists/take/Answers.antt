@@ -1,7 +1,7 @@
 use Rattle.std.proofs.Common.{◌≡◌, ◌+◌, ◌≤◌, ◌++◌, ◌∙◌, ℕ, List, ap, arith, length, length-append, inl, inr}
 use Rattle.std.specs.Prelude.{◌⊎◌}
 use Rattle.std.proofs.lemmas.Option.{MatchOption-at_some, MatchOption-at_none}
-use Rattle.pf_core.proofs.ListLemmas.{on_ok}
+use Rattle.pf_base.proofs.Outcomes.{on_ok}
 use Rattle.pf_informed.specs.Internal.Fringe.{listed, IsBelowWaiting}
 use Rattle.pf_informed.proofs.FringeLemmas.{moved_from, queue_in, moved_wait, nothing_before, below_before, taken_before}
 use Rattle.pf_informed.proofs.Outcomes.{answer_or_none, refused_as, on_refused, if_refused}

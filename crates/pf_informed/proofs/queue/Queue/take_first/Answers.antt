@@ -4,7 +4,7 @@ use Rattle.std.specs.BinaryHeap.{IsHeap, IsUpperBound, heap_items, heap_len}
 use Rattle.std.specs.Ordering.{int_cmp, is_lt, ordering_then}
 use Rattle.std.specs.declared.cmp.Ordering.{Ordering}
 use Rattle.std.specs.declared.cmp.Ordering.TheVariants.{Less, Equal, Greater}
-use Rattle.pf_core.proofs.ListLemmas.{lt_means, Contains-cases}
+use Rattle.pf_base.proofs.ListLemmas.{lt_means, Contains-cases}
 use Rattle.pf_informed.specs.Internal.Waiting.{Entry, entry_cmp}
 use Rattle.pf_informed.proofs.queue.Queue.take_first.Goals as goal
 

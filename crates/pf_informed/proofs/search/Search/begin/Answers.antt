@@ -1,7 +1,7 @@
 use Rattle.pf_informed.proofs.Outcomes.{refused_as, on_refused}
 use Rattle.std.proofs.Common.{refl, arith, sym}
 use Rattle.pf_informed.proofs.Bounds.{some_one}
-use Rattle.pf_core.proofs.ListLemmas.{at_place}
+use Rattle.pf_base.proofs.ListLemmas.{at_place}
 use Rattle.pf_informed.proofs.search.Search.begin.Goals as goal
 
 pub returns-in_err-reserve : goal.returns-in_err-reserve

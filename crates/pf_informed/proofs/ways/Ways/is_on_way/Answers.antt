@@ -1,5 +1,5 @@
 use Rattle.std.proofs.Common.{rules, ◌≡◌, ◌<◌, ◌≤◌, ◌∙◌, sym, arith, slice_get, Some, nat_lt, false}
-use Rattle.pf_core.proofs.ListLemmas.{at_place}
+use Rattle.pf_base.proofs.ListLemmas.{at_place}
 use Rattle.pf_informed.proofs.WaysLemmas.{on_way, off_way}
 use Rattle.pf_informed.proofs.ways.Ways.is_on_way.Goals as goal
 

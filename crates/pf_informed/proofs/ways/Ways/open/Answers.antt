@@ -1,6 +1,6 @@
 use Rattle.std.proofs.Common.{rules, ◌≡◌, ◌+◌, ◌-◌, ◌∙◌, ◌++◌, sym, ap, arith, take, drop, length}
 use Rattle.pf_core.specs.DepthFirst.{branches_at}
-use Rattle.pf_core.proofs.ListLemmas.{at_place}
+use Rattle.pf_base.proofs.ListLemmas.{at_place}
 use Rattle.pf_informed.specs.Internal.Ways.{before_in, items_or_none}
 use Rattle.pf_informed.proofs.WaysLemmas.{taken_out, length_more}
 use Rattle.pf_informed.proofs.ways.Ways.open.Goals as goal

@@ -1,6 +1,5 @@
 use Rattle.std.proofs.Common.{◌≡◌, ◌+◌, ◌<◌, ℕ, [], ◌∷◌, ◌++◌, length, replicate, sym, subst, arith, inl, inr}
-use Rattle.pf_core.proofs.ListLemmas.{nat_dec}
-use Rattle.pf_base.proofs.ListLemmas.{get-append}
+use Rattle.pf_base.proofs.ListLemmas.{nat_dec, get-append}
 use Rattle.pf_orders.specs.declared.component_search.Place.TheVariants.{New}
 use Rattle.pf_orders.specs.Internal.ComponentSearch.{IsAt}
 use Rattle.pf_orders.proofs.ComponentLists.{at_more, at_end, resized_none}

@@ -1,7 +1,7 @@
 use Rattle.std.proofs.Common.{refl, ◌≡◌, ◌<◌, ◌++◌, ℕ, sym, subst, arith, inl, inr, List, [], ◌∷◌}
 use Rattle.std.specs.Prelude.{Contains, reverse}
 use Rattle.std.proofs.lemmas.Result.{IfOk-from_err}
-use Rattle.pf_core.proofs.ListLemmas.{nat_dec, Contains-append_one, Contains-reverse}
+use Rattle.pf_base.proofs.ListLemmas.{nat_dec, Contains-append_one, Contains-reverse}
 use Rattle.pf_orders.specs.declared.ordering.Turn.{Turn}
 use Rattle.pf_orders.specs.declared.ordering.Mark.TheVariants.{New}
 use Rattle.pf_orders.proofs.ComponentLists.{resized_none}

@@ -3,11 +3,10 @@ use Rattle.std.specs.Prelude.{Contains, reverse, slice_set}
 use Rattle.std.specs.List.{AllZip}
 use Rattle.std.proofs.lemmas.List.{append_assoc}
 use Rattle.pf_core.proofs.DepthFirstLemmas.{ends_stand}
-use Rattle.pf_core.proofs.ListLemmas.{on_ok}
+use Rattle.pf_base.proofs.Outcomes.{on_ok, on_any, on_failed, refused_as}
 use Rattle.pf_orders.specs.declared.ordering.Turn.{Turn}
 use Rattle.pf_orders.specs.declared.ordering.Mark.{Mark}
 use Rattle.pf_orders.specs.Internal.Orderings.{entries}
-use Rattle.pf_base.proofs.Outcomes.{on_any, on_failed, refused_as}
 use Rattle.pf_orders.proofs.ComponentLists.{set_length}
 use Rattle.pf_orders.proofs.OrderLemmas.{step_of}
 use Rattle.pf_orders.proofs.ordering.Sorting.enter.Goals as goal

@@ -2,7 +2,7 @@ use Rattle.std.proofs.Common.{ℕ, List, ◌≡◌, ◌∙◌, ◌++◌, ◌∷�
 use Rattle.std.specs.Prelude.{reverse}
 use Rattle.std.proofs.lemmas.Result.{IfOk-from_err}
 use Rattle.pf_core.proofs.SearchLemmas.{Grows-trans}
-use Rattle.pf_core.proofs.ListLemmas.{at_place, Contains-reverse}
+use Rattle.pf_base.proofs.ListLemmas.{at_place, Contains-reverse}
 use Rattle.pf_orders.specs.declared.ordering.Turn.{Turn}
 use Rattle.pf_orders.specs.declared.ordering.Mark.{Mark}
 use Rattle.pf_orders.specs.Internal.Orderings.{entries, IsMarked, IsSorting, IsAlong}

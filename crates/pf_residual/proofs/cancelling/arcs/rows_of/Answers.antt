@@ -2,7 +2,7 @@ use Rattle.std.proofs.Common.{◌≡◌, ◌<◌, ◌∙◌, ◌∷◌, ◌++◌
 use Rattle.std.specs.Prelude.{slice_set}
 use Rattle.std.proofs.lemmas.List.{take_more, length-take-le, length-set}
 use Rattle.std.proofs.lemmas.Option.{slice_get-get_or}
-use Rattle.pf_core.proofs.ListLemmas.{at_place}
+use Rattle.pf_base.proofs.ListLemmas.{at_place}
 use Rattle.pf_residual.specs.declared.cancelling.arcs.Arc.{Arc}
 use Rattle.pf_residual.specs.Internal.Cancelling.{AreRows}
 use Rattle.pf_residual.proofs.SearchLemmas.{rows_begin, rows_more}

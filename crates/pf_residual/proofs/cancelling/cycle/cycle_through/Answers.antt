@@ -3,7 +3,7 @@ use Rattle.std.specs.Prelude.{slice_get, None}
 use Rattle.std.proofs.lemmas.Int.{ints}
 use Rattle.std.proofs.lemmas.Option.{slice_get-get_or, slice_get_within}
 use Rattle.std.proofs.lemmas.Result.{IfOk-from_err}
-use Rattle.pf_core.proofs.ListLemmas.{at_place}
+use Rattle.pf_base.proofs.ListLemmas.{at_place}
 use Rattle.pf_residual.specs.declared.cancelling.arcs.Arc.{Arc}
 use Rattle.pf_residual.specs.Internal.Cancelling.{IsCycle, IsWayBack}
 use Rattle.pf_residual.proofs.NamedLemmas.{refused_as, refused_by}

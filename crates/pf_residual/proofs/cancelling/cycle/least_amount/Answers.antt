@@ -2,8 +2,7 @@ use Rattle.std.proofs.Common.{◌≡◌, ◌≤◌, ◌<◌, ◌∙◌, ℕ, Lis
 use Rattle.std.specs.Prelude.{slice_get, ◌≤ℤ◌, ◌<ℤ◌}
 use Rattle.std.proofs.lemmas.Int.{ints}
 use Rattle.std.proofs.lemmas.Option.{slice_get-get_or, slice_get_within}
-use Rattle.pf_core.proofs.ListLemmas.{at_place}
-use Rattle.pf_base.proofs.ListLemmas.{none_in}
+use Rattle.pf_base.proofs.ListLemmas.{at_place, none_in}
 use Rattle.pf_residual.specs.Internal.Cancelling.{Has, HasAmount}
 use Rattle.pf_residual.proofs.SearchLemmas.{Has-take}
 use Rattle.pf_residual.proofs.cancelling.cycle.least_amount.Goals as goal

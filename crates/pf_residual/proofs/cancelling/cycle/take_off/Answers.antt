@@ -3,7 +3,7 @@ use Rattle.std.specs.Prelude.{◌+ℤ◌, slice_get}
 use Rattle.std.proofs.lemmas.Int.{ints}
 use Rattle.std.proofs.lemmas.Option.{slice_get-get_or, slice_get_within}
 use Rattle.std.proofs.lemmas.List.{take_all}
-use Rattle.pf_core.proofs.ListLemmas.{at_place}
+use Rattle.pf_base.proofs.ListLemmas.{at_place}
 use Rattle.pf_residual.specs.Internal.Cancelling.{IsTakenOff, net_of, gained}
 use Rattle.pf_residual.proofs.CycleLemmas.{next_apart, taken_none, taken_more, balance_more}
 use Rattle.pf_residual.proofs.cancelling.cycle.take_off.Goals as goal

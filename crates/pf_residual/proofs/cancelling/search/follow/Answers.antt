@@ -1,7 +1,8 @@
 use Rattle.std.proofs.Common.{◌≡◌, ◌≢◌, ◌∙◌, Some, arith, get_or, refl, sym, ap, subst, pos, true≢false}
 use Rattle.std.specs.Prelude.{slice_get}
 use Rattle.std.proofs.lemmas.Option.{slice_get-get_or, slice_get_within}
-use Rattle.pf_core.proofs.ListLemmas.{at_place, on_ok}
+use Rattle.pf_base.proofs.ListLemmas.{at_place}
+use Rattle.pf_base.proofs.Outcomes.{on_ok}
 use Rattle.pf_residual.specs.declared.cancelling.arcs.Arc.{Arc}
 use Rattle.pf_residual.specs.declared.cancelling.search.Step.{Step}
 use Rattle.pf_residual.specs.Internal.Cancelling.{IsStep, IsPlaced}

@@ -1,6 +1,6 @@
 use Rattle.std.proofs.Common.{◌≡◌, ◌∙◌, ℕ, Bool, Some, arith, inl, inr, length, refl, sym, ap, true, false, true≢false}
 use Rattle.std.specs.Prelude.{is_some, not, None, Option, slice_set}
-use Rattle.pf_core.proofs.ListLemmas.{at_place}
+use Rattle.pf_base.proofs.ListLemmas.{at_place}
 use Rattle.pf_residual.proofs.cancelling.search.reach.Goals as goal
 
 none_of : (o : Option ℕ) (t : Bool) → is_some o ≡ not t → t ≡ true → o ≡ None

@@ -3,7 +3,7 @@ use Rattle.std.specs.Prelude.{slice_get, replicate, Option, None}
 use Rattle.std.proofs.lemmas.List.{length-set, length-replicate}
 use Rattle.std.proofs.lemmas.Option.{slice_get_within}
 use Rattle.std.proofs.lemmas.Result.{IfOk-from_err}
-use Rattle.pf_core.proofs.ListLemmas.{at_place}
+use Rattle.pf_base.proofs.ListLemmas.{at_place}
 use Rattle.pf_residual.specs.Internal.Cancelling.{AreInside, IsReached, IsExpanded, Has}
 use Rattle.pf_residual.proofs.SearchLemmas.{reached_begin, expanded_more, extends_back}
 use Rattle.pf_residual.proofs.NamedLemmas.{refused_as}

@@ -1,6 +1,6 @@
 use Rattle.std.proofs.Common.{◌≡◌, ◌∷◌, [], Some, slice_get, sym}
 use Rattle.pf_base.proofs.Callers.{SameNodes-refl}
-use Rattle.pf_core.proofs.ListLemmas.{at_place}
+use Rattle.pf_base.proofs.ListLemmas.{at_place}
 use Rattle.pf_search.proofs.BreadthLemmas.{Same-sym}
 use Rattle.pf_search.proofs.BreadthSteps.{no_value, any_err, walk_explores, kept_places, kept_all, walk_stays, walk_goes, next_of, given_more}
 use Rattle.std.proofs.lemmas.Result.{IfOk-from_err}

@@ -2,7 +2,7 @@ use Rattle.std.proofs.Common.{arith, sym, refl}
 use Rattle.std.specs.HashMap.{get}
 use Rattle.std.proofs.lemmas.Result.{IfOk-from_err}
 use Rattle.pf_core.proofs.LabelLemmas.{HasLabel-inside}
-use Rattle.pf_core.proofs.ListLemmas.{at_place}
+use Rattle.pf_base.proofs.ListLemmas.{at_place}
 use Rattle.pf_search.proofs.MapLemmas.{label_read, label_none, maps_none, maps_same, maps_more, maps_whole}
 use Rattle.pf_search.proofs.directed.dijkstra_all.map_of.Goals.{in-Some+in_ok-parent+in_ok-node+in_ok-insert, in_default}
 use Rattle.pf_search.proofs.directed.dijkstra_all.map_of.Goals as goal

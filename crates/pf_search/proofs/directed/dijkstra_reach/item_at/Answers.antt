@@ -4,7 +4,7 @@ use Rattle.std.proofs.lemmas.Option.{same_Some}
 use Rattle.std.proofs.lemmas.Result.{IfOk-from_err}
 use Rattle.pf_core.specs.declared.labels.Label.{Label}
 use Rattle.pf_core.specs.Nodes.{StandsFor}
-use Rattle.pf_core.proofs.ListLemmas.{at_place}
+use Rattle.pf_base.proofs.ListLemmas.{at_place}
 use Rattle.pf_core.proofs.LabelLemmas.{HasLabel-inside}
 use Rattle.pf_search.proofs.directed.dijkstra_reach.item_at.Goals.{in-Some+in_ok-clone-in-Some, in-None}
 use Rattle.pf_search.proofs.directed.dijkstra_reach.item_at.Goals as goal

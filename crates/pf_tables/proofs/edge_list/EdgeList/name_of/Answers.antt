@@ -3,7 +3,7 @@ use Rattle.std.specs.Option.{option_map}
 use Rattle.std.proofs.lemmas.List.{length-map}
 use Rattle.std.proofs.lemmas.Option.{slice_get-map}
 use Rattle.pf_base.specs.NodeRefs.{nodes_of}
-use Rattle.pf_core.proofs.ListLemmas.{at_place}
+use Rattle.pf_base.proofs.ListLemmas.{at_place}
 use Rattle.pf_tables.specs.EdgeLists.{names_of}
 use Rattle.pf_tables.proofs.edge_list.EdgeList.name_of.Goals as goal
 

@@ -1,7 +1,7 @@
 use Rattle.std.proofs.Common.{arith, ◌≡◌, ◌+◌, ◌<◌, sym, ◌∙◌, ap, subst, length, Some, slice_get}
 use Rattle.std.proofs.lemmas.Option.{slice_get_within}
 use Rattle.pf_base.specs.NodeRefs.{nodes_of}
-use Rattle.pf_core.proofs.ListLemmas.{at_place}
+use Rattle.pf_base.proofs.ListLemmas.{at_place}
 use Rattle.pf_tables.specs.Internal.Layouts.{IsLaidOut}
 use Rattle.pf_tables.proofs.EdgeListLemmas.{node_edge, node_offsets}
 use Rattle.pf_tables.proofs.Faulty.{some_same}

@@ -1,5 +1,5 @@
 use Rattle.std.proofs.Common.{◌≡◌, ◌∙◌, Some, ap, refl, sym, arith, slice_get}
-use Rattle.pf_core.proofs.ListLemmas.{at_place}
+use Rattle.pf_base.proofs.ListLemmas.{at_place}
 use Rattle.pf_tables.proofs.Faulty.{some_same}
 use borrow.Author.Tests.{eqb-true}
 use Rattle.pf_tables.proofs.explored.ExploredGoalGraphU8.is_goal.Goals as goal

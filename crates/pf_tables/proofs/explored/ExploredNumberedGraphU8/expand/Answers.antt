@@ -4,8 +4,8 @@ use Rattle.std.proofs.lemmas.Option.{slice_get_within}
 use Rattle.std.proofs.lemmas.Result.{on_err_weaker}
 use Rattle.pf_base.specs.Edges.{InReach}
 use Rattle.pf_core.specs.NodeLaws.{StandsFor-one}
-use Rattle.pf_base.proofs.Outcomes.{refused_still}
-use Rattle.pf_core.proofs.ListLemmas.{at_place, on_ok, ok_or_err}
+use Rattle.pf_base.proofs.Outcomes.{refused_still, on_ok, ok_or_err}
+use Rattle.pf_base.proofs.ListLemmas.{at_place}
 use Rattle.pf_core.proofs.NodeLemmas.{fresh_number, Grows-from_take, inside_of, Lists-from, reached_added}
 use Rattle.pf_core.proofs.OrderLemmas.{Placed-same, InOrder-same, ends_at}
 use Rattle.pf_tables.specs.Internal.Numbering.{steps_at}

@@ -1,6 +1,6 @@
 use Rattle.std.proofs.Common.{◌≡◌, ◌∙◌, subst, sym, ap, arith, Some, slice_get, length, take, nat_eq}
 use Rattle.std.proofs.lemmas.List.{length-take}
-use Rattle.pf_core.proofs.ListLemmas.{take_get}
+use Rattle.pf_base.proofs.ListLemmas.{take_get}
 use Rattle.pf_core.proofs.NodeLemmas.{Grows-from_take}
 use Rattle.pf_tables.proofs.ExploreLemmas.{distinct_take}
 use Rattle.pf_tables.proofs.explored.ExploredNumberedGraphU8.forget.Goals as goal

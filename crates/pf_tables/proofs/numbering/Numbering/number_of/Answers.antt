@@ -3,11 +3,10 @@ use Rattle.std.proofs.lemmas.Cmp.{nat_eq_equiv}
 use Rattle.std.proofs.lemmas.List.{length-set}
 use Rattle.std.proofs.lemmas.Result.{IfOk-from_err}
 use Rattle.pf_core.specs.Nodes.{AddsNode}
-use Rattle.pf_core.proofs.ListLemmas.{at_place}
+use Rattle.pf_base.proofs.ListLemmas.{at_place, get_at_end}
 use Rattle.pf_core.proofs.NodeLemmas.{AddsNode-new, AddsNode-old}
 use Rattle.pf_tables.specs.Internal.Numbering.{IsIndex}
 use Rattle.pf_tables.proofs.IndexLemmas.{index_push, is_new}
-use Rattle.pf_base.proofs.ListLemmas.{get_at_end}
 use Rattle.pf_base.proofs.Outcomes.{refused_as}
 use Rattle.pf_tables.proofs.numbering.Numbering.number_of.Goals as goal
 

@@ -1,5 +1,5 @@
 use Rattle.std.proofs.Common.{sym, arith}
-use Rattle.pf_core.proofs.ListLemmas.{on_ok}
+use Rattle.pf_base.proofs.Outcomes.{on_ok}
 use Rattle.pf_tables.specs.Internal.Numbering.{present}
 use Rattle.pf_tables.proofs.OwnLemmas.{leads_inside, own_placed, own_in_order, own_steps}
 use Rattle.pf_tables.proofs.own_numbers.OwnNumbersNumberedGraph.expand.Goals as goal

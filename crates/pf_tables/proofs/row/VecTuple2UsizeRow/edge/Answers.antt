@@ -1,5 +1,5 @@
 use Rattle.std.proofs.Common.{sym}
-use Rattle.pf_core.proofs.ListLemmas.{at_place}
+use Rattle.pf_base.proofs.ListLemmas.{at_place}
 use Rattle.pf_tables.proofs.row.VecTuple2UsizeRow.edge.Goals as goal
 
 pub returns : goal.returns

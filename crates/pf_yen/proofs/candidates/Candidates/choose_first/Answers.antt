@@ -1,7 +1,7 @@
 use Rattle.std.proofs.Common.{rules, ◌≡◌, ◌∙◌, sym, ap, false, None}
 use Rattle.std.specs.Ordering.{int_cmp, is_lt}
 use Rattle.std.specs.BinaryHeap.{heap_items}
-use Rattle.pf_core.proofs.ListLemmas.{lt_means}
+use Rattle.pf_base.proofs.ListLemmas.{lt_means}
 use Rattle.pf_yen.proofs.CandidateLemmas.{popped, popped_first}
 use Rattle.pf_yen.proofs.candidates.Candidates.choose_first.Goals as goal
 

@@ -2,7 +2,7 @@ use Rattle.std.proofs.Common.{◌≡◌, true, map, ◌++◌, Err, ap, refl, inl
 use Rattle.std.specs.BinaryHeap.{IsHeap, heap_items}
 use Rattle.std.proofs.lemmas.List.{map-append}
 use Rattle.std.proofs.lemmas.List.Sorted.{IsPermutation-map}
-use Rattle.pf_core.proofs.ListLemmas.{Contains-head}
+use Rattle.pf_base.proofs.ListLemmas.{Contains-head}
 use Rattle.pf_yen.specs.Internal.Classes.{plan_of}
 use Rattle.pf_yen.specs.Internal.Candidates.{as_list, chosen_plan, waiting_plans, last_given}
 use Rattle.pf_yen.specs.Internal.PlanChanges.{first_cmp, GoesOn}

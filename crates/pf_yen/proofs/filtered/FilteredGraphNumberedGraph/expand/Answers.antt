@@ -1,5 +1,5 @@
 use Rattle.std.proofs.Common.{sym, subst, length, refl}
-use Rattle.pf_core.proofs.ListLemmas.{on_ok}
+use Rattle.pf_base.proofs.Outcomes.{on_ok}
 use Rattle.pf_core.specs.Numbered.{ListsSteps}
 use Rattle.pf_yen.specs.Internal.Filtered.{FilteredLists, FilteredStep, StandsForItself, filtered_row}
 use Rattle.pf_yen.proofs.FilteredLemmas.{row_inside, lists_steps, row_stands, row_in_order, none_between}

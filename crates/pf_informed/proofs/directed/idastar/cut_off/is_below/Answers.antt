@@ -2,7 +2,7 @@ use Rattle.std.proofs.Common.{◌≡◌, ap, ◌∙◌, Bool, true, false, arith
 use Rattle.std.specs.Prelude.{◌<ℤ◌, ◌≤ℤ◌, ℤ, MatchBool}
 use Rattle.std.specs.Ordering.{is_some_and, is_lt}
 use Rattle.std.proofs.lemmas.Int.{ints}
-use Rattle.pf_core.proofs.ListLemmas.{lt_means}
+use Rattle.pf_base.proofs.ListLemmas.{lt_means}
 use Rattle.pf_informed.proofs.directed.idastar.cut_off.is_below.Goals as goal
 
 pub returns-in-Some : goal.returns-in-Some

@@ -1,7 +1,7 @@
 use Rattle.std.proofs.Common.{◌≡◌, ◌∙◌, Bool, true, true≢false, Some, slice_get, sym, ap, arith}
 use Rattle.std.proofs.lemmas.Option.{slice_get_within}
 use borrow.Author.Tests.{ltb-true, ltb-false}
-use Rattle.pf_core.proofs.ListLemmas.{at_place}
+use Rattle.pf_base.proofs.ListLemmas.{at_place}
 use Rattle.pf_informed.proofs.directed.idastar.marks.is_marked.Goals as goal
 
 joined : (a b : Bool) → Some a ≡ Some b → a ≡ b

@@ -2,7 +2,7 @@ use Rattle.std.proofs.Common.{◌≡◌, ◌<◌, ◌+◌, ◌-◌, [], ◌∷�
 use Rattle.std.specs.Prelude.{◌⊎◌, ◌↔◌, ◌+ℤ◌, ◌<ℤ◌, ◌≤ℤ◌, Contains, reverse}
 use Rattle.std.proofs.lemmas.List.{length-reverse}
 use Rattle.pf_core.specs.NodeLaws.{StandsFor-one}
-use Rattle.pf_core.proofs.ListLemmas.{Contains-cases, Contains-reverse, Contains-append_one}
+use Rattle.pf_base.proofs.ListLemmas.{Contains-cases, Contains-reverse, Contains-append_one}
 use Rattle.pf_core.proofs.NodeLemmas.{InReach-same}
 use Rattle.pf_core.proofs.UnitLemmas.{begins_all}
 use Rattle.pf_informed.specs.declared.directed.idastar.way.Frame.{Frame}

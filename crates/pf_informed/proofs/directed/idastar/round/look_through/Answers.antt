@@ -1,7 +1,6 @@
 use Rattle.std.proofs.Common.{◌≡◌, ◌<◌, [], ◌∷◌, List, ℕ, ℤ, pos, true, length, ap, ◌∙◌, sym, subst, inl, inr, false, Some, None}
 use Rattle.std.specs.Prelude.{◌≤ℤ◌, ◌↔◌, ◌⊎◌, Contains, reverse}
-use Rattle.pf_core.proofs.ListLemmas.{Contains-cases}
-use Rattle.pf_base.proofs.ListLemmas.{none_in}
+use Rattle.pf_base.proofs.ListLemmas.{Contains-cases, none_in}
 use Rattle.pf_core.proofs.NodeLemmas.{InReach-same}
 use Rattle.pf_informed.specs.declared.directed.idastar.way.Frame.{Frame}
 use Rattle.pf_informed.specs.Internal.Deepening.{IsMarked, numbers_of}

@@ -1,6 +1,6 @@
 use Rattle.std.proofs.Common.{◌≡◌, ◌<◌, ◌+◌, ◌∷◌, List, ℕ, length, ap, ◌∙◌, sym, subst, arith, refl}
 use Rattle.std.specs.Prelude.{◌↔◌, Contains, reverse}
-use Rattle.pf_core.proofs.ListLemmas.{Contains-head, Contains-tail}
+use Rattle.pf_base.proofs.ListLemmas.{Contains-head, Contains-tail}
 use Rattle.pf_informed.specs.declared.directed.idastar.cut_off.CutOff.{CutOff}
 use Rattle.pf_informed.specs.declared.directed.idastar.way.Frame.{Frame}
 use Rattle.pf_informed.specs.Internal.Deepening.{IsMarked, numbers_of, turns_left, IsOnWay}

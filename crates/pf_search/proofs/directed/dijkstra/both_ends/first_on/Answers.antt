@@ -3,7 +3,7 @@ use Rattle.std.specs.Prelude.{◌+ℤ◌, ◌≤ℤ◌, ◌<ℤ◌}
 use Rattle.std.proofs.lemmas.Int.{ints}
 use Rattle.pf_core.specs.Labels.{HasLabel}
 use Rattle.pf_core.specs.Nodes.{StandsFor}
-use Rattle.pf_core.proofs.ListLemmas.{at_place, Contains-index, Contains-take_more, Contains-take_all}
+use Rattle.pf_base.proofs.ListLemmas.{at_place, Contains-index, Contains-take_more, Contains-take_all}
 use Rattle.pf_search.proofs.directed.dijkstra.both_ends.first_on.Goals.{in-Some+else-is_at_most, in_default}
 use Rattle.pf_search.proofs.directed.dijkstra.both_ends.first_on.Goals as goal
 

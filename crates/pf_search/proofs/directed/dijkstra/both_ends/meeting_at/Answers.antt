@@ -5,7 +5,7 @@ use Rattle.std.proofs.lemmas.Option.{same_Some}
 use Rattle.pf_core.specs.declared.labels.Label.{Label}
 use Rattle.pf_core.specs.Labels.{HasLabel}
 use Rattle.pf_core.specs.Nodes.{StandsFor}
-use Rattle.pf_core.proofs.ListLemmas.{at_place}
+use Rattle.pf_base.proofs.ListLemmas.{at_place}
 use Rattle.pf_core.proofs.LabelLemmas.{label_is}
 use Rattle.pf_core.proofs.SideLemmas.{place_across}
 use Rattle.pf_search.proofs.BothEndsLemmas.{past_greatest}

@@ -3,7 +3,7 @@ use Rattle.std.specs.Prelude.{◌<ℤ◌, ◌≤ℤ◌, slice_set}
 use Rattle.std.specs.Ordering.{is_some_and, is_lt}
 use Rattle.std.proofs.lemmas.Int.{ints}
 use Rattle.std.proofs.lemmas.Option.{get_or_from_slice_get}
-use Rattle.pf_core.proofs.ListLemmas.{lt_means}
+use Rattle.pf_base.proofs.ListLemmas.{lt_means}
 use Rattle.pf_informed.proofs.directed.idastar.cheapest_row.CheapestRow.lower.Goals as goal
 
 pub returns-then-lt-clause-lowered : goal.returns-then-lt-clause-lowered

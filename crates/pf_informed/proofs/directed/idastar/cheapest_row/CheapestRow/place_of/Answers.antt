@@ -1,6 +1,6 @@
 use Rattle.std.proofs.Common.{◌≡◌, ◌<◌, ℕ, Some, slice_get, length, ap, sym, ◌∙◌, arith}
 use Rattle.std.proofs.lemmas.Option.{slice_get_within, get_or_from_slice_get}
-use Rattle.pf_core.proofs.ListLemmas.{at_place}
+use Rattle.pf_base.proofs.ListLemmas.{at_place}
 use Rattle.pf_informed.proofs.directed.idastar.cheapest_row.CheapestRow.place_of.Goals as goal
 use Rattle.pf_informed.proofs.directed.idastar.cheapest_row.CheapestRow.place_of.Goals.{else-place-len-via-then-place-len+else-index-number, else-place-len-via-else-place-len}
 

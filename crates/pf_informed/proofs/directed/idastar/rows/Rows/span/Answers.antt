@@ -2,7 +2,7 @@ use Rattle.std.proofs.Common.{◌≡◌, ◌∙◌, ℕ, List, Option, Some, Non
 use Rattle.std.specs.Prelude.{MatchOption}
 use Rattle.std.proofs.lemmas.Option.{slice_get_within}
 use borrow.Author.Tests.{ltb-true, ltb-false}
-use Rattle.pf_core.proofs.ListLemmas.{at_place}
+use Rattle.pf_base.proofs.ListLemmas.{at_place}
 use Rattle.pf_informed.specs.declared.directed.idastar.rows.Span.{Span}
 use Rattle.pf_informed.specs.Internal.Rows.{HasSpan}
 use Rattle.pf_informed.proofs.directed.idastar.rows.Rows.span.Goals as goal
