@@ -8,7 +8,6 @@ use Rattle.std.proofs.Math.ListN.{length-set}
 use Rattle.std.proofs.lemmas.Option.{same_Some, none-some, slice_get_within}
 use Rattle.std.proofs.lemmas.List.Elements.{Contains-append_left, Contains-push, Contains-push_cases}
 use Rattle.std.proofs.lemmas.Bool.{cases_eq, cases_Bool}
-use Rattle.pf_graph.specs.declared.undirected.union_find.Vertex.{Vertex}
 use Rattle.pf_graph.specs.Internal.Components.DisjointSets.{IsCollected, AreDone, IsGathered, Identifies, pairs_from}
 use Rattle.pf_graph.specs.Components.{InGroup, IsComponents}
 use Rattle.pf_base.proofs.ListLemmas.{none_in, get_set, get_push, get_at_end, get_within}
@@ -158,8 +157,8 @@ AreDone-more {N} nodes first ids n done m j id at_n at_f at_i h = record {
 }
 
 -- what is collected is the components
-module _ {N A S : Type 0} {eq : N → N → Bool} (laws : IsEquivalence eq) (groups : List (Vec N A)) (nodes : List (Bor N)) (first : List ℕ) (vertices : List Vertex) (g : IsGathered eq (pairs_from 0 groups) nodes first vertices)
-    (ids : List ℕ) (identified : Identifies g.label (length groups) groups ids) (len : length ids ≡ length groups) (all_in : length vertices ≡ length groups)
+module _ {N A S : Type 0} {eq : N → N → Bool} (laws : IsEquivalence eq) (groups : List (Vec N A)) (nodes : List (Bor N)) (first : List ℕ) (parents : List ℕ) (g : IsGathered eq (pairs_from 0 groups) nodes first parents)
+    (ids : List ℕ) (identified : Identifies g.label (length groups) groups ids) (len : length ids ≡ length groups) (all_in : length parents ≡ length groups)
     (done : List (ℕ × N)) (d : AreDone nodes first ids (length nodes) done) (place_of : List (Option ℕ)) (sets : List (HashSet N S)) (c : IsCollected eq (contains eq) done place_of sets) where
   -- a node that is done is in its first group
   group_of : (q : ℕ × N) → Contains done q → (j : ℕ) × InGroup eq groups j q.1 × (slice_get ids j ≡ Some q.0)
@@ -176,11 +175,11 @@ module _ {N A S : Type 0} {eq : N → N → Bool} (laws : IsEquivalence eq) (gro
       let id = get_within ids n.1 (let l = g.inside n.0 n.1 n.3 in omega (arith, l, len, all_in)) in
       let q = d.all n.0 n.2.0 n.1 id.0 (slice_get_within nodes n.0 n.2.0 n.2.1) n.2.1 n.3 id.1 in
       let k = group_of (id.0, n.2.0.now) q in
-      let m = id_is laws groups nodes first vertices g ids identified len n.1 n.2.0.now (let f = g.found n.0 n.1 n.2.0 n.2.1 n.3 in subst (λ a. InGroup eq groups a n.2.0.now) f.2 (in_group laws groups f.0 n.2.0.now f.1 f.3)) id.0 id.1 in
+      let m = id_is laws groups nodes first parents g ids identified len n.1 n.2.0.now (let f = g.found n.0 n.1 n.2.0 n.2.1 n.3 in subst (λ a. InGroup eq groups a n.2.0.now) f.2 (in_group laws groups f.0 n.2.0.now f.1 f.3)) id.0 id.1 in
       ((id.0, n.2.0.now), q, laws.congr n.2.0.now p.0 x n.2.2 ∙ p.2, m.0 ∙ n.4)
 
   label_of : (q : ℕ × N) → Contains done q → (k : (j : ℕ) × InGroup eq groups j q.1 × (slice_get ids j ≡ Some q.0)) → q.0 ≡ g.label k.0
-  label_of q h k = (id_is laws groups nodes first vertices g ids identified len k.0 q.1 k.1 q.0 k.2).0
+  label_of q h k = (id_is laws groups nodes first parents g ids identified len k.0 q.1 k.1 q.0 k.2).0
 
   in_group_like : (j : ℕ) (y x : N) → eq y x ≡ true → InGroup eq groups j y → InGroup eq groups j x
   in_group_like j y x e h = let p = pair_of laws groups j y h in in_group laws groups (j, p.0) x p.1 (laws.congr p.0 y x p.2 ∙ e)
@@ -196,8 +195,8 @@ module _ {N A S : Type 0} {eq : N → N → Bool} (laws : IsEquivalence eq) (gro
           i.1,
           λ x.
               let m = c.members r.0.0 k s x r.2 at in (
-                λ e. let q = m.0 e in let j = group_of q.0 q.1 in (j.0, (same_label laws groups nodes first vertices g i.0 j.0).0 (sym own ∙ sym q.2 ∙ label_of q.0 q.1 j), in_group_like j.0 q.0.1 x q.3 j.1),
-                λ h. let q = done_of h.0 x h.2 in m.1 (q.0, q.1, q.3 ∙ sym ((same_label laws groups nodes first vertices g i.0 h.0).1 h.1) ∙ sym own, q.2),
+                λ e. let q = m.0 e in let j = group_of q.0 q.1 in (j.0, (same_label laws groups nodes first parents g i.0 j.0).0 (sym own ∙ sym q.2 ∙ label_of q.0 q.1 j), in_group_like j.0 q.0.1 x q.3 j.1),
+                λ h. let q = done_of h.0 x h.2 in m.1 (q.0, q.1, q.3 ∙ sym ((same_label laws groups nodes first parents g i.0 h.0).1 h.1) ∙ sym own, q.2),
               ),
         );
     all = λ i x h.

@@ -11,7 +11,6 @@ use Rattle.std.proofs.lemmas.Option.{same_Some, slice_get_within, none-some}
 use Rattle.std.proofs.lemmas.List.Elements.{Contains-append_left, Contains-push, Contains-push_cases}
 use Rattle.std.proofs.lemmas.Bool.Decides.{nat_tests}
 use Rattle.indexmap.specs.IndexSet.{insert_key}
-use Rattle.pf_graph.specs.declared.undirected.union_find.Vertex.{Vertex}
 use Rattle.pf_graph.specs.Joined.{Joined, same, linked, back, chain}
 use Rattle.pf_graph.specs.Internal.UnionFind.{IsSound, IsLabelling, Merges}
 use Rattle.pf_graph.specs.Internal.Components.DisjointSets.{PairsLink, IsGathered, IsIdOf, Identifies, MapsByFirst}
@@ -63,7 +62,7 @@ any_found test [] k m h e = absurd (none_in k m h)
 any_found test (y ∷ ys) zero m h e = ap (λ b. b || list_any test ys) (ap test (same_Some y m h) ∙ e)
 any_found test (y ∷ ys) (suc k) m h e = or_right (test y) (list_any test ys) (any_found test ys k m h e)
 
-module _ {N : Type 0} {eq : N → N → Bool} (laws : IsEquivalence eq) (pairs : List (ℕ × N)) (nodes : List (Bor N)) (first : List ℕ) (vertices : List Vertex) (g : IsGathered eq pairs nodes first vertices) (i : ℕ) (r : Bor N) where
+module _ {N : Type 0} {eq : N → N → Bool} (laws : IsEquivalence eq) (pairs : List (ℕ × N)) (nodes : List (Bor N)) (first : List ℕ) (parents : List ℕ) (g : IsGathered eq pairs nodes first parents) (i : ℕ) (r : Bor N) where
   abbrev more : List (ℕ × N)
   more = pairs ++ (i, r.now) ∷ []
 
@@ -71,7 +70,7 @@ module _ {N : Type 0} {eq : N → N → Bool} (laws : IsEquivalence eq) (pairs :
   wider a b l = (l.0, l.1, Contains-append_left pairs ((i, r.now) ∷ []) l.0 l.2, Contains-append_left pairs ((i, r.now) ∷ []) l.1 l.3, l.4, l.5, l.6)
 
   -- a node that is there: its first group and this one are united
-  module _ (k j : ℕ) (m : Bor N) (at : slice_get nodes k ≡ Some m) (is : eq m.now r.now ≡ true) (first_is : slice_get first k ≡ Some j) (after : List Vertex) (sound : IsSound after) (len : length after ≡ length vertices)
+  module _ (k j : ℕ) (m : Bor N) (at : slice_get nodes k ≡ Some m) (is : eq m.now r.now ≡ true) (first_is : slice_get first k ≡ Some j) (after : List ℕ) (sound : IsSound after) (len : length after ≡ length parents)
       (label : ℕ → ℕ) (labels : IsLabelling label after) (merges : Merges g.label i j label) where
     met : label i ≡ label j
     met = (merges i j).1 (inr (inl (refl, refl)))
@@ -133,7 +132,7 @@ module _ {N : Type 0} {eq : N → N → Bool} (laws : IsEquivalence eq) (pairs :
     }
 
   -- a new node: this is its first group
-  module _ (none : list_any (λ (q : Bor N). eq r.now q.now) nodes ≡ false) (apart : IsDistinct (λ (p q : Bor N). eq p.now q.now) (nodes ++ r ∷ [])) (in_range : i < length vertices) where
+  module _ (none : list_any (λ (q : Bor N). eq r.now q.now) nodes ≡ false) (apart : IsDistinct (λ (p q : Bor N). eq p.now q.now) (nodes ++ r ∷ [])) (in_range : i < length parents) where
     no_pair : (p : ℕ × N) → Contains pairs p → eq p.1 r.now ≡ true → ⊥
     no_pair p c e =
         let n = g.noted p c in
@@ -151,7 +150,7 @@ module _ {N : Type 0} {eq : N → N → Bool} (laws : IsEquivalence eq) (pairs :
       ]
     ]
 
-    pub gathered_new : IsGathered eq more (nodes ++ r ∷ []) (first ++ i ∷ []) vertices
+    pub gathered_new : IsGathered eq more (nodes ++ r ∷ []) (first ++ i ∷ []) parents
     gathered_new = record {
       sound = g.sound;
       label = g.label;
@@ -160,7 +159,7 @@ module _ {N : Type 0} {eq : N → N → Bool} (laws : IsEquivalence eq) (pairs :
       len = omega (arith, length-append {A = ℕ} first (i ∷ []), length-append {A = Bor N} nodes (r ∷ []), g.len);
       inside = λ a b h. elim (get_push first i a b h) [
         | inl f ↦ g.inside a b f
-        | inr f ↦ subst (λ (n : ℕ). n < length vertices) f.1 in_range
+        | inr f ↦ subst (λ (n : ℕ). n < length parents) f.1 in_range
       ];
       found = λ a b n h f. elim (get_push nodes r a n h) [
         | inl u ↦ elim (get_push first i a b f) [
@@ -182,9 +181,9 @@ module _ {N : Type 0} {eq : N → N → Bool} (laws : IsEquivalence eq) (pairs :
 
 -- ---- the first and the last of the gathering
 
-pub IsGathered-none : {N : Type 0} (eq : N → N → Bool) (vertices : List Vertex) → IsSound vertices → IsLabelling (λ x. x) vertices → IsGathered eq [] [] [] vertices
+pub IsGathered-none : {N : Type 0} (eq : N → N → Bool) (parents : List ℕ) → IsSound parents → IsLabelling (λ x. x) parents → IsGathered eq [] [] [] parents
 unfolding IsDistinct
-IsGathered-none eq vertices s l = record {
+IsGathered-none eq parents s l = record {
   sound = s;
   label = λ x. x;
   labels = l;

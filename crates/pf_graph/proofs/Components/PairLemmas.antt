@@ -9,7 +9,6 @@ use Rattle.std.proofs.lemmas.List.{map-append, append_assoc, append-nil, take_mo
 use Rattle.std.proofs.lemmas.List.Elements.{Contains-append_left, Contains-append_right, Contains-append_cases}
 use Rattle.std.proofs.lemmas.Option.{same_Some, slice_get-map, slice_get-get_or}
 use Rattle.pf_base.specs.Walks.{HasNode}
-use Rattle.pf_graph.specs.declared.undirected.union_find.Vertex.{Vertex}
 use Rattle.pf_graph.specs.Joined.{Joined}
 use Rattle.pf_graph.specs.Internal.Components.DisjointSets.{pair_with, pairs_from, PairsLink, IsGathered, IsIdOf, Identifies, MapsByFirst}
 use Rattle.pf_graph.specs.Components.{InGroup, ShareBy, AreChained, AreIdentified, MapsVertices}
@@ -84,7 +83,7 @@ module _ {N A : Type 0} {eq : N → N → Bool} (laws : IsEquivalence eq) (group
       let q = pair_of b l.0 l.2 in
       ((a, p.0), (b, q.0), p.1, q.1, refl, refl, laws.congr p.0 l.0 q.0 p.2 ∙ laws.symm l.0 q.0 ∙ q.2)) h
 
-  module _ (nodes : List (Bor N)) (first : List ℕ) (vertices : List Vertex) (g : IsGathered eq (pairs_from 0 groups) nodes first vertices) where
+  module _ (nodes : List (Bor N)) (first : List ℕ) (parents : List ℕ) (g : IsGathered eq (pairs_from 0 groups) nodes first parents) where
     pub same_label : (i j : ℕ) → (g.label i ≡ g.label j) ↔ AreChained eq groups i j
     same_label i j = (λ e. chained i j (g.same_set i j e), λ h. g.joined i j (by_pairs i j h))
 

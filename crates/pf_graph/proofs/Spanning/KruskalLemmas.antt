@@ -11,7 +11,6 @@ use Rattle.std.proofs.lemmas.List.Sorted.{sorted_far, ranks_by}
 use Rattle.std.proofs.lemmas.List.Kept.{IsSortedBy-push}
 use Rattle.std.proofs.lemmas.List.Elements.{Contains-append_left, Contains-push, Contains-push_cases, Contains-get_or}
 use Rattle.std.proofs.lemmas.Bool.{eqb-true}
-use Rattle.pf_graph.specs.declared.undirected.union_find.Vertex.{Vertex}
 use Rattle.pf_graph.specs.Internal.UnionFind.{IsLabelling, Merges}
 use Rattle.pf_graph.specs.Joined.{same, linked, back, chain}
 use Rattle.pf_graph.specs.Spanning.{Links, LinksUnder, JoinedBy, JoinedUnder, IsForest}
@@ -34,9 +33,9 @@ module _ {C : Type 0} (cmp : C → C → Ordering) where
   by_weight e f = cmp e.2 f.2
 
   -- Of the edges seen so far some are chosen, and the disjoint sets are what these join.
-  pub record Grown (seen chosen : List (ℕ × ℕ × C)) (vertices : List Vertex) : Type 0 where
+  pub record Grown (seen chosen : List (ℕ × ℕ × C)) (parents : List ℕ) : Type 0 where
     pub label : ℕ → ℕ
-    pub labels : IsLabelling label vertices
+    pub labels : IsLabelling label parents
     pub same_set : (x y : ℕ) → label x ≡ label y → JoinedBy nat_eq chosen x y
     pub joined : (x y : ℕ) → JoinedBy nat_eq chosen x y → label x ≡ label y
     pub least : (w : C) (x y : ℕ) → JoinedUnder nat_eq cmp w seen x y → JoinedUnder nat_eq cmp w chosen x y
@@ -44,8 +43,8 @@ module _ {C : Type 0} (cmp : C → C → Ordering) where
     pub from : (e : ℕ × ℕ × C) → Contains chosen e → Contains seen e
     pub sorted : IsSorted by_weight chosen
 
-  pub Grown-start : (vertices : List Vertex) → IsLabelling (λ x. x) vertices → Grown [] [] vertices
-  Grown-start vertices l = record {
+  pub Grown-start : (parents : List ℕ) → IsLabelling (λ x. x) parents → Grown [] [] parents
+  Grown-start parents l = record {
     label = λ x. x;
     labels = l;
     same_set = λ x y e. same (eq-eqb x y e);
@@ -56,7 +55,7 @@ module _ {C : Type 0} (cmp : C → C → Ordering) where
     sorted = λ k d l h. absurd (omega (arith, h));
   }
 
-  module _ (total : IsTotalOrder cmp) (seen chosen : List (ℕ × ℕ × C)) (vertices after : List Vertex) (e : ℕ × ℕ × C) (g : Grown seen chosen vertices) (heavy : (d : ℕ × ℕ × C) → Contains seen d → cmp d.2 e.2 ≢ Greater) where
+  module _ (total : IsTotalOrder cmp) (seen chosen : List (ℕ × ℕ × C)) (parents after : List ℕ) (e : ℕ × ℕ × C) (g : Grown seen chosen parents) (heavy : (d : ℕ × ℕ × C) → Contains seen d → cmp d.2 e.2 ≢ Greater) where
     -- an edge between two sets is chosen
     pub Grown-take : (label : ℕ → ℕ) → IsLabelling label after → g.label e.0 ≢ g.label e.1 → Merges g.label e.0 e.1 label → Grown (seen ++ e ∷ []) (chosen ++ e ∷ []) after
     Grown-take label labels apart merges =

@@ -5,7 +5,7 @@ ghost use Rattle.pf_base.specs.declared.error.PathError.TheVariants.{OutOfMemory
 ghost use Rattle.pf_graph.specs.Internal.Components.DisjointSets.{IsGathered, IsIdOf, Identifies, AreDisjointSets, MapsByFirst, pair_with, pairs_from};
 ghost use Rattle.pf_graph.specs.Internal.UnionFind.{IsSound, IsLabelling};
 
-use crate::undirected::union_find::{Vertex, find, make_sets, unite};
+use crate::undirected::union_find::{find, make_sets, unite};
 use indexmap::IndexSet;
 use pf_base::PathError;
 use std::alloc::Allocator;
@@ -19,24 +19,24 @@ pub type Nodes<'a, N, A> = IndexSet<&'a N, BuildHasherDefault<FoldHasher>, A>;
 fn gather_node<'a, N, A>(
     nodes: &mut Nodes<'a, N, A>,
     first: &mut Vec<usize, A>,
-    vertices: &mut [Vertex],
+    parents: &mut [usize],
     group: usize,
     node: &'a N,
 ) -> Result<(), PathError>
 where
     N: Eq + Hash,
     A: Allocator,
-    requires gathered { (pairs : List (ℕ × N)) × IsGathered N.eq pairs nodes.old.keys first.old.items vertices.old }
-    requires inside { group < length vertices.old }
-    ensures gathered { OnOk result ((pairs : List (ℕ × N)) → IsGathered N.eq pairs nodes.old.keys first.old.items vertices.old
-        → IsGathered N.eq (pairs ++ (group, node.now) ∷ []) nodes.new.keys first.new.items vertices.new) }
+    requires gathered { (pairs : List (ℕ × N)) × IsGathered N.eq pairs nodes.old.keys first.old.items parents.old }
+    requires inside { group < length parents.old }
+    ensures gathered { OnOk result ((pairs : List (ℕ × N)) → IsGathered N.eq pairs nodes.old.keys first.old.items parents.old
+        → IsGathered N.eq (pairs ++ (group, node.now) ∷ []) nodes.new.keys first.new.items parents.new) }
     ensures refused { IfErr result (λ e. e ≡ OutOfMemory) }
 {
     let (number, added) = nodes.insert_full(node)?;
     if added {
         first.push(group)?;
     } else {
-        unite(vertices, group, first[number]);
+        unite(parents, group, first[number]);
     }
     Ok(())
 }
@@ -45,21 +45,21 @@ where
 fn gather_group<'a, N, A>(
     nodes: &mut Nodes<'a, N, A>,
     first: &mut Vec<usize, A>,
-    vertices: &mut [Vertex],
+    parents: &mut [usize],
     group: usize,
     members: &'a [N],
 ) -> Result<(), PathError>
 where
     N: Eq + Hash,
     A: Allocator,
-    requires gathered { (pairs : List (ℕ × N)) × IsGathered N.eq pairs nodes.old.keys first.old.items vertices.old }
-    requires inside { group < length vertices.old }
-    ensures gathered { OnOk result ((pairs : List (ℕ × N)) → IsGathered N.eq pairs nodes.old.keys first.old.items vertices.old
-        → IsGathered N.eq (pairs ++ map (pair_with group) members.now) nodes.new.keys first.new.items vertices.new) }
+    requires gathered { (pairs : List (ℕ × N)) × IsGathered N.eq pairs nodes.old.keys first.old.items parents.old }
+    requires inside { group < length parents.old }
+    ensures gathered { OnOk result ((pairs : List (ℕ × N)) → IsGathered N.eq pairs nodes.old.keys first.old.items parents.old
+        → IsGathered N.eq (pairs ++ map (pair_with group) members.now) nodes.new.keys first.new.items parents.new) }
     ensures refused { IfErr result (λ e. e ≡ OutOfMemory) }
 {
     for node in members {
-        gather_node(nodes, first, vertices, group, node)?;
+        gather_node(nodes, first, parents, group, node)?;
     }
     Ok(())
 }
@@ -68,56 +68,56 @@ where
 fn gather<'a, N, A, B>(
     nodes: &mut Nodes<'a, N, A>,
     first: &mut Vec<usize, A>,
-    vertices: &mut [Vertex],
+    parents: &mut [usize],
     groups: &'a [Vec<N, B>],
 ) -> Result<(), PathError>
 where
     N: Eq + Hash,
     A: Allocator,
     B: Allocator,
-    requires none { IsGathered N.eq [] nodes.old.keys first.old.items vertices.old }
-    requires inside { length vertices.old ≡ length groups.now }
-    ensures gathered { OnOk result (IsGathered N.eq (pairs_from 0 groups.now) nodes.new.keys first.new.items vertices.new) }
+    requires none { IsGathered N.eq [] nodes.old.keys first.old.items parents.old }
+    requires inside { length parents.old ≡ length groups.now }
+    ensures gathered { OnOk result (IsGathered N.eq (pairs_from 0 groups.now) nodes.new.keys first.new.items parents.new) }
     ensures refused { IfErr result (λ e. e ≡ OutOfMemory) }
 {
     for (group, members) in groups.iter().enumerate() {
-        gather_group(nodes, first, vertices, group, members)?;
+        gather_group(nodes, first, parents, group, members)?;
     }
     Ok(())
 }
 
 /// The identifier of a group: the root of its set, or `usize::MAX` where it has no members.
-fn identifier<N>(vertices: &mut [Vertex], group: usize, members: &[N]) -> usize
-    requires sound { IsSound vertices.old }
-    requires inside { group < length vertices.old }
-    ensures sound { IsSound vertices.new }
-    ensures labels { (label : ℕ → ℕ) → IsLabelling label vertices.old → IsLabelling label vertices.new × IsIdOf label (length vertices.old) group members.now result }
+fn identifier<N>(parents: &mut [usize], group: usize, members: &[N]) -> usize
+    requires sound { IsSound parents.old }
+    requires inside { group < length parents.old }
+    ensures sound { IsSound parents.new }
+    ensures labels { (label : ℕ → ℕ) → IsLabelling label parents.old → IsLabelling label parents.new × IsIdOf label (length parents.old) group members.now result }
 {
     if members.is_empty() {
         usize::MAX
     } else {
-        find(vertices, group)
+        find(parents, group)
     }
 }
 
 /// The identifiers of the groups.
 fn identify<N, A, B>(
     alloc: A,
-    vertices: &mut [Vertex],
+    parents: &mut [usize],
     groups: &[Vec<N, B>],
 ) -> Result<Vec<usize, A>, PathError>
 where
     A: Allocator,
     B: Allocator,
-    requires sound { IsSound vertices.old }
-    requires len { length vertices.old ≡ length groups.now }
+    requires sound { IsSound parents.old }
+    requires len { length parents.old ≡ length groups.now }
     ensures len { IfOk result (λ ids. length ids.items ≡ length groups.now) }
-    ensures identified { IfOk result (λ ids. (label : ℕ → ℕ) → IsLabelling label vertices.old → Identifies label (length groups.now) groups.now ids.items) }
+    ensures identified { IfOk result (λ ids. (label : ℕ → ℕ) → IsLabelling label parents.old → Identifies label (length groups.now) groups.now ids.items) }
     ensures refused { IfErr result (λ e. e ≡ OutOfMemory) }
 {
     let mut ids = Vec::with_capacity(alloc, groups.len())?;
     for (group, members) in groups.iter().enumerate() {
-        let id = identifier(vertices, group, members);
+        let id = identifier(parents, group, members);
         ids.push(id)?;
     }
     Ok(ids)
@@ -165,9 +165,9 @@ where
     ensures refused { IfErr result (λ e. e ≡ OutOfMemory) }
 {
     let mut sets = make_sets(alloc, groups.len())?;
-    let vertices = sets.as_mut_slice();
-    gather(nodes, first, vertices, groups)?;
-    identify(alloc, vertices, groups)
+    let parents = sets.as_mut_slice();
+    gather(nodes, first, parents, groups)?;
+    identify(alloc, parents, groups)
 }
 
 /// A map from each node to the identifier of its first group.

@@ -7,7 +7,7 @@ ghost use Rattle.pf_graph.specs.Spanning.{IsForest, IsLeastUnderEveryBound, AreB
 ghost use Rattle.pf_graph.specs.Internal.Spanning.SpanningSteps.{HoldsCopies};
 ghost use Rattle.pf_graph.specs.Internal.UnionFind.{IsSound, IsLabelling};
 
-use crate::undirected::union_find::{Vertex, make_sets, unite};
+use crate::undirected::union_find::{make_sets, unite};
 use pf_base::PathError;
 use std::alloc::Allocator;
 
@@ -39,15 +39,15 @@ where
 /// The edges of `sorted` whose ends no edges before them join. The sets of their ends are united.
 fn choose_edges<C, A>(
     alloc: A,
-    vertices: &mut [Vertex],
+    parents: &mut [usize],
     sorted: Vec<(usize, usize, C), A>,
 ) -> Result<Vec<(usize, usize, C), A>, PathError>
 where
     C: Ord + Drop,
     A: Allocator,
-    requires sound { IsSound vertices.old }
-    requires singletons { IsLabelling (λ x. x) vertices.old }
-    requires below { AreBelow (length vertices.old) sorted.items }
+    requires sound { IsSound parents.old }
+    requires singletons { IsLabelling (λ x. x) parents.old }
+    requires below { AreBelow (length parents.old) sorted.items }
     requires sorted { IsSorted (λ e f. C.cmp e.2 f.2) sorted.items }
     ensures forest { IfOk result (λ chosen. IsForest nat_eq chosen.items) }
     ensures least { IfOk result (λ chosen. IsLeastUnderEveryBound nat_eq C.cmp sorted.items chosen.items) }
@@ -55,9 +55,9 @@ where
     ensures sorted { IfOk result (λ chosen. IsSorted (λ e f. C.cmp e.2 f.2) chosen.items) }
     ensures refused { IfErr result (λ e. e ≡ OutOfMemory) }
 {
-    let mut chosen = Vec::with_capacity(alloc, vertices.len().min(sorted.len()))?;
+    let mut chosen = Vec::with_capacity(alloc, parents.len().min(sorted.len()))?;
     'edges: for edge in sorted {
-        if unite(vertices, edge.0, edge.1) {
+        if unite(parents, edge.0, edge.1) {
             chosen.push(edge)?;
         }
     }
@@ -81,6 +81,6 @@ where
     ensures refused { IfErr result (λ e. e ≡ OutOfMemory) }
 {
     edges.sort_unstable_by(|one, other| one.2.cmp(&other.2));
-    let mut vertices = make_sets(alloc, number_of_nodes)?;
-    choose_edges(alloc, &mut vertices, edges)
+    let mut parents = make_sets(alloc, number_of_nodes)?;
+    choose_edges(alloc, &mut parents, edges)
 }

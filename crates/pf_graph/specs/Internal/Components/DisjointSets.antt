@@ -3,7 +3,6 @@ use Rattle.std.specs.Prelude.{◌≡◌, ◌↔◌, ◌<◌, ◌^◌, ◌-◌, �
 use Rattle.std.specs.Borrow.{Bor}
 use Rattle.std.specs.HashMap.{HashMap, get}
 use Rattle.std.specs.List.{IsDistinct}
-use Rattle.pf_graph.specs.declared.undirected.union_find.Vertex.{Vertex}
 use Rattle.pf_graph.specs.Joined.{Joined}
 use Rattle.pf_graph.specs.Internal.NumberedEdges.{StandsFor}
 use Rattle.pf_graph.specs.Internal.UnionFind.{IsSound, IsLabelling}
@@ -22,13 +21,13 @@ module _ {N : Type 0} (eq : N → N → Bool) where
   PairsLink pairs i j = (p : ℕ × N) × (q : ℕ × N) × Contains pairs p × Contains pairs q × (p.0 ≡ i) × (q.0 ≡ j) × (eq p.1 q.1 ≡ true)
 
   -- The nodes are apart, `first` has for each node the first group that it stands in, and groups are in one disjoint set exactly where chains of shared vertices join them.
-  pub record IsGathered (pairs : List (ℕ × N)) (nodes : List (Bor N)) (first : List ℕ) (vertices : List Vertex) : Type 0 where
-    pub sound : IsSound vertices
+  pub record IsGathered (pairs : List (ℕ × N)) (nodes : List (Bor N)) (first : List ℕ) (parents : List ℕ) : Type 0 where
+    pub sound : IsSound parents
     pub label : ℕ → ℕ
-    pub labels : IsLabelling label vertices
+    pub labels : IsLabelling label parents
     pub apart : IsDistinct (λ (p q : Bor N). eq p.now q.now) nodes
     pub len : length first ≡ length nodes
-    pub inside : (k j : ℕ) → slice_get first k ≡ Some j → j < length vertices
+    pub inside : (k j : ℕ) → slice_get first k ≡ Some j → j < length parents
     pub found : (k j : ℕ) (m : Bor N) → slice_get nodes k ≡ Some m → slice_get first k ≡ Some j → (p : ℕ × N) × Contains pairs p × (p.0 ≡ j) × (eq p.1 m.now ≡ true)
     pub noted : (p : ℕ × N) → Contains pairs p → (k : ℕ) × (j : ℕ) × StandsFor eq nodes k p.1 × (slice_get first k ≡ Some j) × (label j ≡ label p.0)
     pub same_set : (i j : ℕ) → label i ≡ label j → Joined nat_eq (PairsLink pairs) i j
@@ -52,7 +51,7 @@ pub record MapsByFirst {N S : Type 0} (eq : N → N → Bool) (nodes : List (Bor
 
 -- the groups are in disjoint sets, joined where they share vertices, and have their identifiers
 abbrev pub AreDisjointSets : {N A : Type 0} → (N → N → Bool) → List (Vec N A) → List (Bor N) → List ℕ → List ℕ → Type 0
-AreDisjointSets eq groups nodes first ids = (vertices : List Vertex) × (g : IsGathered eq (pairs_from 0 groups) nodes first vertices) × Identifies g.label (length groups) groups ids × (length ids ≡ length groups) × (length vertices ≡ length groups)
+AreDisjointSets eq groups nodes first ids = (parents : List ℕ) × (g : IsGathered eq (pairs_from 0 groups) nodes first parents) × Identifies g.label (length groups) groups ids × (length ids ≡ length groups) × (length parents ≡ length groups)
 
 -- the nodes so far, each with its identifier, are in sets, one for each identifier
 pub record IsCollected {N T : Type 0} (eq : N → N → Bool) (has : T → N → Bool) (done : List (ℕ × N)) (place_of : List (Option ℕ)) (sets : List T) : Type 0 where

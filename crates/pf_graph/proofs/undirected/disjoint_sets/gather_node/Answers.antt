@@ -15,9 +15,9 @@ returns-in_ok-push g c = record {
       let eq = g.N.PartialEq.eq in
       let same = λ (p q : Bor g.row.N.Denot). eq p.now q.now in
       let new = added_new same c.args.nodes.now.keys c.insert_full.new.self.keys c.args.node c.in_ok-number.added c.in_ok-number.ensures.added c.in_ok-number.ensures.keys c.if-added.true in
-      subst (λ fs. IsGathered eq (pairs ++ (c.args.group, c.args.node.now) ∷ []) c.insert_full.new.self.keys fs c.args.vertices.now) (sym c.in_ok-push.ensures.items)
-      (subst (λ ks. IsGathered eq (pairs ++ (c.args.group, c.args.node.now) ∷ []) ks (c.args.first.now.items ++ c.args.group ∷ []) c.args.vertices.now) (sym new.1)
-      (gathered_new g.met.N.Eq.laws pairs c.args.nodes.now.keys c.args.first.now.items c.args.vertices.now h c.args.group c.args.node new.0 (subst (λ ks. IsDistinct same ks) new.1 c.insert_full.ensures.unique) c.requires.inside));
+      subst (λ fs. IsGathered eq (pairs ++ (c.args.group, c.args.node.now) ∷ []) c.insert_full.new.self.keys fs c.args.parents.now) (sym c.in_ok-push.ensures.items)
+      (subst (λ ks. IsGathered eq (pairs ++ (c.args.group, c.args.node.now) ∷ []) ks (c.args.first.now.items ++ c.args.group ∷ []) c.args.parents.now) (sym new.1)
+      (gathered_new g.met.N.Eq.laws pairs c.args.nodes.now.keys c.args.first.now.items c.args.parents.now h c.args.group c.args.node new.0 (subst (λ ks. IsDistinct same ks) new.1 c.insert_full.ensures.unique) c.requires.inside));
   refused = tt;
 }
 
@@ -32,8 +32,8 @@ returns-else-added g c = record {
       let low = slice_get_within c.args.nodes.now.keys c.in_ok-number.number at.0 here in
       let inside : c.in_ok-number.number < length c.args.first.now.items = omega (arith, low, h.len) in
       let u = c.unite.ensures.labels h.label h.labels in
-      subst (λ ks. IsGathered eq (pairs ++ (c.args.group, c.args.node.now) ∷ []) ks c.args.first.now.items c.unite.new.vertices) (sym known)
-      (gathered_again g.met.N.Eq.laws pairs c.args.nodes.now.keys c.args.first.now.items c.args.vertices.now h c.args.group c.args.node c.in_ok-number.number c.index.result.now at.0 here (g.met.N.Eq.laws.symm _ _ ∙ at.2) (slice_get_read c.args.first.now.items (length c.args.first.now.items) c.in_ok-number.number c.index.result.now refl inside c.index.ensures) c.unite.new.vertices c.unite.ensures.sound c.unite.auto.vertices u.0 u.1 (merged_anyway c.unite.result h.label u.0 c.args.group c.index.result.now u.2));
+      subst (λ ks. IsGathered eq (pairs ++ (c.args.group, c.args.node.now) ∷ []) ks c.args.first.now.items c.unite.new.parents) (sym known)
+      (gathered_again g.met.N.Eq.laws pairs c.args.nodes.now.keys c.args.first.now.items c.args.parents.now h c.args.group c.args.node c.in_ok-number.number c.index.result.now at.0 here (g.met.N.Eq.laws.symm _ _ ∙ at.2) (slice_get_read c.args.first.now.items (length c.args.first.now.items) c.in_ok-number.number c.index.result.now refl inside c.index.ensures) c.unite.new.parents c.unite.ensures.sound c.unite.auto.parents u.0 u.1 (merged_anyway c.unite.result h.label u.0 c.args.group c.index.result.now u.2));
   refused = tt;
 }
 

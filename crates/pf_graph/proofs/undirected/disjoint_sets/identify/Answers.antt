@@ -14,7 +14,7 @@ loop-group-preserved g c =
       labels = λ label l.
           let before = i.labels label l in
           let after = c.identifier-id.ensures.labels label before.0 in
-          let is = subst (λ ms. IsIdOf label (length c.args.groups.now) c.loop-group.group ms c.identifier-id.result) c.deref.ensures.value (subst (λ (n : ℕ). IsIdOf label n c.loop-group.group c.deref.result.now c.identifier-id.result) (c.loop-group.auto.vertices ∙ c.requires.len) after.1) in (
+          let is = subst (λ ms. IsIdOf label (length c.args.groups.now) c.loop-group.group ms c.identifier-id.result) c.deref.ensures.value (subst (λ (n : ℕ). IsIdOf label n c.loop-group.group c.deref.result.now c.identifier-id.result) (c.loop-group.auto.parents ∙ c.requires.len) after.1) in (
             after.0,
             subst (λ xs. Identifies label (length c.args.groups.now) (take (c.loop-group.group + 1) c.args.groups.now) xs) (sym c.in_ok-push.ensures.items)
                 (Identifies-more label (length c.args.groups.now) c.args.groups.now c.loop-group.ids.items c.loop-group.group c.index-groups-group.result c.identifier-id.result c.loop-group-test.true c.index-groups-group.is i.len is before.1),

@@ -5,7 +5,7 @@ use Rattle.pf_graph.proofs.undirected.disjoint_sets.identify.Given as goal
 
 abbrev pub invariant-loop-group : goal.invariant-loop-group
 invariant-loop-group g l = record {
-  sound : IsSound l.vertices;
+  sound : IsSound l.parents;
   len : length l.ids.items ≡ l.group;
-  labels : (label : ℕ → ℕ) → IsLabelling label l.fn.vertices → IsLabelling label l.vertices × Identifies label (length l.groups) (take l.group l.groups) l.ids.items;
+  labels : (label : ℕ → ℕ) → IsLabelling label l.fn.parents → IsLabelling label l.parents × Identifies label (length l.groups) (take l.group l.groups) l.ids.items;
 }

@@ -11,7 +11,7 @@ use Rattle.pf_graph.proofs.undirected.spanning.choose_edges.Goals as goal
 pub edges-init : goal.edges-init
 edges-init g c = record {
   sound = c.requires.sound;
-  grown = subst (λ xs. Grown g.C.Ord.cmp [] xs c.args.vertices.now) (sym c.in_ok-chosen.ensures.items) (Grown-start g.C.Ord.cmp c.args.vertices.now c.requires.singletons);
+  grown = subst (λ xs. Grown g.C.Ord.cmp [] xs c.args.parents.now) (sym c.in_ok-chosen.ensures.items) (Grown-start g.C.Ord.cmp c.args.parents.now c.requires.singletons);
 }
 
 pub unite-requires-clause-inside : goal.unite-requires-clause-inside
@@ -19,7 +19,7 @@ unite-requires-clause-inside g c =
     let len : vec_len c.args.sorted ≡ length c.args.sorted.items = c.args.sorted.ok.0 in
     let road = YieldsList-from_vec c.args.sorted.items c.into_iter-edge-iterator.ensures.into_iter_gives.0 (c.into_iter-edge-iterator.ensures.into_iter_gives.1 ∙ len) in
     let t = YieldsList-turn road c.edges.yielded c.edges.edge-iterator c.edges.yielded_by c.next.result c.next.new.self c.in-Some.edge c.in-Some.is c.next.ensures.steps in
-    rw c.edges.auto.vertices (subst (λ e. (e.0 < length c.args.vertices.now) × (e.1 < length c.args.vertices.now)) (sym t.1) (c.requires.below (length c.edges.yielded) c.in-Some.edge t.0))
+    rw c.edges.auto.parents (subst (λ e. (e.0 < length c.args.parents.now) × (e.1 < length c.args.parents.now)) (sym t.1) (c.requires.below (length c.edges.yielded) c.in-Some.edge t.0))
 
 pub edges-preserved : goal.edges-preserved
 edges-preserved g c =
@@ -31,7 +31,7 @@ edges-preserved g c =
     let u = c.if-unite.ensures.labels i.label i.labels in
     record {
       sound = c.unite.ensures.sound;
-      grown = Grown-skip g.C.Ord.cmp g.met.C.Ord.total c.edges.yielded c.edges.chosen.items c.edges.vertices c.unite.new.vertices c.in-Some.edge i
+      grown = Grown-skip g.C.Ord.cmp g.met.C.Ord.total c.edges.yielded c.edges.chosen.items c.edges.parents c.unite.new.parents c.in-Some.edge i
           (λ d h. heavy g.C.Ord.cmp g.met.C.Ord.total c.args.sorted.items c.requires.sorted (length c.edges.yielded) c.in-Some.edge t.0 t.1 d (subst (λ xs. Contains xs d) (sym (map-id c.edges.yielded) ∙ so_far) h))
           u.0 u.1 u.2.0 u.2.1;
     }
@@ -46,8 +46,8 @@ edges-preserved-in-Continue-branch-2 g c =
     let u = c.if-unite.ensures.labels i.label i.labels in
     record {
       sound = c.unite.ensures.sound;
-      grown = subst (λ xs. Grown g.C.Ord.cmp (c.edges.yielded ++ c.in-Some.edge ∷ []) xs c.unite.new.vertices) (sym c.in_ok-push.ensures.items)
-          (Grown-take g.C.Ord.cmp g.met.C.Ord.total c.edges.yielded c.edges.chosen.items c.edges.vertices c.unite.new.vertices c.in-Some.edge i
+      grown = subst (λ xs. Grown g.C.Ord.cmp (c.edges.yielded ++ c.in-Some.edge ∷ []) xs c.unite.new.parents) (sym c.in_ok-push.ensures.items)
+          (Grown-take g.C.Ord.cmp g.met.C.Ord.total c.edges.yielded c.edges.chosen.items c.edges.parents c.unite.new.parents c.in-Some.edge i
           (λ d h. heavy g.C.Ord.cmp g.met.C.Ord.total c.args.sorted.items c.requires.sorted (length c.edges.yielded) c.in-Some.edge t.0 t.1 d (subst (λ xs. Contains xs d) (sym (map-id c.edges.yielded) ∙ so_far) h))
           u.0 u.1 u.2.0 u.2.1);
     }

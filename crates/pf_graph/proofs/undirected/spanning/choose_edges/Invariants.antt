@@ -4,6 +4,6 @@ use Rattle.pf_graph.proofs.undirected.spanning.choose_edges.Given as goal
 
 abbrev pub invariant-edges : goal.invariant-edges
 invariant-edges g l = record {
-  sound : IsSound l.vertices;
-  grown : Grown g.C.Ord.cmp l.yielded l.chosen.items l.vertices;
+  sound : IsSound l.parents;
+  grown : Grown g.C.Ord.cmp l.yielded l.chosen.items l.parents;
 }

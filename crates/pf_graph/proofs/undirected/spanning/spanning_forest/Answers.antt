@@ -10,7 +10,7 @@ use Rattle.pf_graph.proofs.undirected.spanning.spanning_forest.Goals as goal
 
 pub choose_edges-requires-clause-below : goal.choose_edges-requires-clause-below
 choose_edges-requires-clause-below g c =
-    let len = ap length c.deref_mut.ensures.value ∙ c.in_ok-vertices.ensures.len in
+    let len = ap length c.deref_mut.ensures.value ∙ c.in_ok-parents.ensures.len in
     subst (λ n. AreBelow n c.sort_unstable_by.new.self.items) (sym len)
     (All-permutation (λ e. (e.0 < c.args.number_of_nodes) × (e.1 < c.args.number_of_nodes)) c.args.edges.items c.sort_unstable_by.new.self.items c.sort_unstable_by.ensures.permutation c.requires.below)
 
@@ -19,10 +19,10 @@ choose_edges-requires-clause-sorted g c =
     c.sort_unstable_by.ensures.sorted (λ e f. is_lt (g.C.Ord.cmp e.2 f.2)) (ranks_by g.met.C.Ord.total (λ e. e.2)) (answers_always _ _ _ (λ f a r f' k. search rules))
 
 pub choose_edges-requires-clause-sound : goal.choose_edges-requires-clause-sound
-choose_edges-requires-clause-sound g c = subst IsSound (sym c.deref_mut.ensures.value) c.in_ok-vertices.ensures.sound
+choose_edges-requires-clause-sound g c = subst IsSound (sym c.deref_mut.ensures.value) c.in_ok-parents.ensures.sound
 
 pub choose_edges-requires-clause-singletons : goal.choose_edges-requires-clause-singletons
-choose_edges-requires-clause-singletons g c = subst (IsLabelling (λ x. x)) (sym c.deref_mut.ensures.value) c.in_ok-vertices.ensures.labels
+choose_edges-requires-clause-singletons g c = subst (IsLabelling (λ x. x)) (sym c.deref_mut.ensures.value) c.in_ok-parents.ensures.labels
 
 pub returns : goal.returns
 returns g c =
@@ -35,11 +35,11 @@ returns g c =
       refused = c.choose_edges.ensures.refused;
     }
 
-pub returns-in_err-vertices : goal.returns-in_err-vertices
-returns-in_err-vertices g c = record {
+pub returns-in_err-parents : goal.returns-in_err-parents
+returns-in_err-parents g c = record {
   forest = if_refused _ c.from_residual.result _ c.from_residual.ensures.1;
   least = if_refused _ c.from_residual.result _ c.from_residual.ensures.1;
   given = if_refused _ c.from_residual.result _ c.from_residual.ensures.1;
   sorted = if_refused _ c.from_residual.result _ c.from_residual.ensures.1;
-  refused = refused_as _ c.from_residual.result _ c.from_residual.ensures.1 c.in_err-vertices.ensures.refused;
+  refused = refused_as _ c.from_residual.result _ c.from_residual.ensures.1 c.in_err-parents.ensures.refused;
 }

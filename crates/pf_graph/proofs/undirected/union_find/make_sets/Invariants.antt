@@ -1,6 +1,6 @@
-use Rattle.std.proofs.Common.{◌≡◌, length}
-use Rattle.pf_graph.proofs.UnionFindLemmas.{AreSingletons}
+use Rattle.std.proofs.Common.{◌≡◌, ◌<◌, ℕ, length}
+use Rattle.pf_graph.specs.Internal.UnionFind.{IsRoot}
 use Rattle.pf_graph.proofs.undirected.union_find.make_sets.Given as goal
 
-abbrev pub invariant-loop-parent : goal.invariant-loop-parent
-invariant-loop-parent g l = record { len : length l.vertices.items ≡ l.parent; singletons : AreSingletons l.vertices.items }
+abbrev pub invariant-loop-vertex : goal.invariant-loop-vertex
+invariant-loop-vertex g l = record { len : length l.parents.items ≡ l.vertex; alone : (x : ℕ) → IsRoot l.parents.items x }
