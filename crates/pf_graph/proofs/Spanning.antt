@@ -1,6 +1,7 @@
 pub mod ForestLemmas
 pub mod OrderLemmas
 pub mod KruskalLemmas
+pub mod PlacedLemmas
 pub mod CopyLemmas
 pub mod NameLemmas
 pub mod LawLemmas

@@ -14,4 +14,5 @@ mod spanning;
 mod spanning_edges;
 mod steps;
 mod union_find;
+mod vertex_number;
 mod weighed;

@@ -11,7 +11,7 @@ ghost use Rattle.pf_graph.specs.Internal.NumberedEdges.{IsWritten};
 
 use crate::undirected::exact_sum::exact_sum;
 use crate::undirected::numbered::number_edges;
-use crate::undirected::spanning::{are_below, copies_of, spanning_forest};
+use crate::undirected::spanning::{are_below, least_forest, spanning_forest};
 pub use crate::undirected::spanning_edges::{Kruskal, KruskalIndices};
 use crate::undirected::weighed::Weighed;
 use pf_base::{Cost, PathError};
@@ -50,8 +50,7 @@ where
     if !are_below(number_of_nodes, edges) {
         return Err(PathError::UnknownVertex);
     }
-    let copies = copies_of(alloc, edges)?;
-    let chosen = spanning_forest(alloc, number_of_nodes, copies)?;
+    let chosen = least_forest(alloc, number_of_nodes, edges)?;
     Ok(KruskalIndices {
         left: chosen.into_iter(),
     })

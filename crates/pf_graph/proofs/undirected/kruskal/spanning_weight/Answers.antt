@@ -1,8 +1,9 @@
-use Rattle.std.proofs.Common.{◌≡◌, ℕ, sym, ap, subst, ◌∙◌, rules, inl}
-use Rattle.std.specs.Prelude.{All, map, Result, Ok, Err, IsErrAnd}
+use Rattle.std.proofs.Common.{◌≡◌, ℕ, nat_eq, sym, ap, subst, ◌∙◌, rules, inl}
+use Rattle.std.specs.Prelude.{All, Contains, map, Result, Ok, Err, IsErrAnd}
 use Rattle.std.specs.List.Sorted.{IsSorted}
 use Rattle.pf_graph.specs.declared.undirected.weighed.Weighed.{Weighed}
-use Rattle.pf_graph.specs.Spanning.{IsLeastForest}
+use Rattle.pf_graph.specs.Spanning.{IsLeastForest, IsLeastUnderEveryBound, AreBelow}
+use Rattle.pf_graph.proofs.Spanning.PlacedLemmas.{placed-same}
 use Rattle.pf_graph.proofs.Spanning.NameLemmas.{numbered_below}
 use Rattle.pf_graph.proofs.Spanning.WeightLemmas.{written_of, sorted_keys, least_forest, sum_of_forest}
 use Rattle.pf_graph.proofs.undirected.kruskal.spanning_weight.Given.{Over}
@@ -20,7 +21,7 @@ not_overflow (Err x) e h m o = let same : x ≡ OutOfMemory = h ∙ m in cc
 pub spanning_forest-requires : goal.spanning_forest-requires
 spanning_forest-requires g c =
     let n = c.in_ok-numbered.ensures.numbered in
-    record { below = numbered_below n.0 c.args.edges.now c.in_ok-numbered.numbered.edges.items n.2 c.in_ok-numbered.numbered.count n.1 }
+    record { below = subst (λ xs. AreBelow c.in_ok-numbered.numbered.count xs) (sym (placed-same c.in_ok-numbered.numbered.edges.items)) (numbered_below n.0 c.args.edges.now c.in_ok-numbered.numbered.edges.items n.2 c.in_ok-numbered.numbered.count n.1) }
 
 weights-are : (g : Over) (c : After-deref-2 g) → c.deref-2.result.now ≡ map (λ (e : ℕ × ℕ × Weighed g.row.N.Denot g.row.C.Denot g.row.C.Denot). e.2.weight) c.in_ok-chosen.chosen.items
 weights-are g c = c.deref-2.ensures.value ∙ c.in_ok-weights.ensures.weights ∙ ap (map (λ (e : ℕ × ℕ × Weighed g.row.N.Denot g.row.C.Denot g.row.C.Denot). e.2.weight)) c.deref.ensures.value
@@ -29,8 +30,13 @@ chosen-forest : (g : Over) (c : After-deref-2 g) → IsLeastForest g.N.PartialEq
 chosen-forest g c =
     let n = c.in_ok-numbered.ensures.numbered in
     let e = c.in_ok-chosen.ensures in
+    let edges = c.in_ok-numbered.numbered.edges.items in
+    let same = placed-same edges in
+    let given : (f : ℕ × ℕ × Weighed g.row.N.Denot g.row.C.Denot g.row.C.Denot) → Contains c.in_ok-chosen.chosen.items f → Contains edges f = λ f h. subst (λ xs. Contains xs f) same (e.given f h) in
+    let least : IsLeastUnderEveryBound nat_eq (λ (v w : Weighed g.row.N.Denot g.row.C.Denot g.row.C.Denot). g.C.Ord.cmp v.weight w.weight) edges c.in_ok-chosen.chosen.items
+    = subst (λ xs. IsLeastUnderEveryBound nat_eq (λ (v w : Weighed g.row.N.Denot g.row.C.Denot g.row.C.Denot). g.C.Ord.cmp v.weight w.weight) xs c.in_ok-chosen.chosen.items) same e.least in
     let copied : All (λ (e : ℕ × ℕ × Weighed g.row.N.Denot g.row.C.Denot g.row.C.Denot). e.2.weight ≡ e.2.edge.now.2) c.in_ok-numbered.numbered.edges.items = λ k d inside. let r = c.in_ok-numbered.ensures.weighed k d inside in let s = r.shows in let p = r.says.met in search rules in
-    least_forest g.met.N.Eq.laws g.met.C.Ord.total g.met.C.Eq.laws g.met.C.Ord.matches_eq n.0 c.args.edges.now c.in_ok-numbered.numbered.edges.items n.2 copied c.in_ok-chosen.chosen.items e.given e.forest e.least
+    least_forest g.met.N.Eq.laws g.met.C.Ord.total g.met.C.Eq.laws g.met.C.Ord.matches_eq n.0 c.args.edges.now c.in_ok-numbered.numbered.edges.items n.2 copied c.in_ok-chosen.chosen.items given e.forest least
 
 pub exact_sum-requires : goal.exact_sum-requires
 exact_sum-requires g c =

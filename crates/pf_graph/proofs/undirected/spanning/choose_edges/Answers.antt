@@ -1,9 +1,12 @@
-use Rattle.std.proofs.Common.{◌≡◌, sym, ◌∙◌, subst, length, ◌∷◌, ◌++◌, [], ◌<◌, vec_len}
+use Rattle.std.proofs.Common.{ℕ, ◌≡◌, arith, nat_eq, sym, ◌∙◌, subst, length, ◌∷◌, ◌++◌, [], vec_len}
 use Rattle.std.specs.Prelude.{Contains}
 use Rattle.std.proofs.lemmas.List.{map-id}
 use Rattle.std.proofs.lemmas.Iterator.Adapters.{YieldsList-from_vec}
 use Rattle.std.proofs.lemmas.Iterator.Consumers.{YieldsList-so_far, YieldsList-turn, YieldsList-end}
-use Rattle.pf_graph.proofs.Spanning.KruskalLemmas.{Grown, Grown-start, Grown-take, Grown-skip, heavy}
+use Rattle.pf_graph.proofs.Spanning.KruskalLemmas.{Grown, Grown-start, Grown-take, Grown-skip}
+use Rattle.pf_graph.proofs.Spanning.PlacedLemmas.{placed-below, placed-as, placed-heavy}
+use Rattle.pf_graph.specs.Spanning.{IsLeastUnderEveryBound}
+use Rattle.pf_graph.specs.Internal.Spanning.SpanningSteps.{placed}
 use Rattle.std.proofs.lemmas.Result.{IfOk-from_err}
 use Rattle.pf_base.proofs.Outcomes.{refused_by}
 use Rattle.pf_graph.proofs.undirected.spanning.choose_edges.Goals as goal
@@ -16,40 +19,50 @@ edges-init g c = record {
 
 pub unite-requires-clause-inside : goal.unite-requires-clause-inside
 unite-requires-clause-inside g c =
+    let vertex = g.V.VertexNumber.stands_for in
     let len : vec_len c.args.sorted ≡ length c.args.sorted.items = c.args.sorted.ok.0 in
     let road = YieldsList-from_vec c.args.sorted.items c.into_iter-edge-iterator.ensures.into_iter_gives.0 (c.into_iter-edge-iterator.ensures.into_iter_gives.1 ∙ len) in
     let t = YieldsList-turn road c.edges.yielded c.edges.edge-iterator c.edges.yielded_by c.next.result c.next.new.self c.in-Some.edge c.in-Some.is c.next.ensures.steps in
-    rw c.edges.auto.parents (subst (λ e. (e.0 < length c.args.parents.now) × (e.1 < length c.args.parents.now)) (sym t.1) (c.requires.below (length c.edges.yielded) c.in-Some.edge t.0))
+    let low = placed-below vertex (length c.args.parents.now) c.args.sorted.items c.requires.below (length c.edges.yielded) c.in-Some.edge t.0 t.1 in
+    (omega (arith, low.0, c.vertex-one.ensures, c.edges.auto.parents), omega (arith, low.1, c.vertex-other.ensures, c.edges.auto.parents))
 
 pub edges-preserved : goal.edges-preserved
 edges-preserved g c =
+    let vertex = g.V.VertexNumber.stands_for in
     let len : vec_len c.args.sorted ≡ length c.args.sorted.items = c.args.sorted.ok.0 in
     let road = YieldsList-from_vec c.args.sorted.items c.into_iter-edge-iterator.ensures.into_iter_gives.0 (c.into_iter-edge-iterator.ensures.into_iter_gives.1 ∙ len) in
     let t = YieldsList-turn road c.edges.yielded c.edges.edge-iterator c.edges.yielded_by c.next.result c.next.new.self c.in-Some.edge c.in-Some.is c.next.ensures.steps in
-    let so_far = YieldsList-so_far road c.edges.yielded c.edges.edge-iterator c.edges.yielded_by in
+    let so_far = sym (map-id c.edges.yielded) ∙ YieldsList-so_far road c.edges.yielded c.edges.edge-iterator c.edges.yielded_by in
     let i = c.edges.invariant.grown in
     let u = c.if-unite.ensures.labels i.label i.labels in
+    let e = c.in-Some.edge in
+    let taken : ℕ × ℕ × g.row.C.Denot = (c.vertex-one.result, c.vertex-other.result, e.2) in
+    let more = placed-as vertex c.edges.yielded e c.vertex-one.result c.vertex-other.result c.vertex-one.ensures c.vertex-other.ensures in
+    let up = λ (d : ℕ × ℕ × g.row.C.Denot) (h : Contains (placed vertex c.edges.yielded) d). placed-heavy vertex g.C.Ord.cmp g.met.C.Ord.total c.args.sorted.items c.requires.sorted (length c.edges.yielded) e t.0 t.1 d (subst (λ xs. Contains (placed vertex xs) d) so_far h) in
     record {
       sound = c.unite.ensures.sound;
-      grown = Grown-skip g.C.Ord.cmp g.met.C.Ord.total c.edges.yielded c.edges.chosen.items c.edges.parents c.unite.new.parents c.in-Some.edge i
-          (λ d h. heavy g.C.Ord.cmp g.met.C.Ord.total c.args.sorted.items c.requires.sorted (length c.edges.yielded) c.in-Some.edge t.0 t.1 d (subst (λ xs. Contains xs d) (sym (map-id c.edges.yielded) ∙ so_far) h))
-          u.0 u.1 u.2.0 u.2.1;
+      grown = subst (λ xs. Grown g.C.Ord.cmp xs c.edges.chosen.items c.unite.new.parents) (sym more)
+          (Grown-skip g.C.Ord.cmp g.met.C.Ord.total (placed vertex c.edges.yielded) c.edges.chosen.items c.edges.parents c.unite.new.parents taken i up u.0 u.1 u.2.0 u.2.1);
     }
 
 pub edges-preserved-in-Continue-branch-2 : goal.edges-preserved-in-Continue-branch-2
 edges-preserved-in-Continue-branch-2 g c =
+    let vertex = g.V.VertexNumber.stands_for in
     let len : vec_len c.args.sorted ≡ length c.args.sorted.items = c.args.sorted.ok.0 in
     let road = YieldsList-from_vec c.args.sorted.items c.into_iter-edge-iterator.ensures.into_iter_gives.0 (c.into_iter-edge-iterator.ensures.into_iter_gives.1 ∙ len) in
     let t = YieldsList-turn road c.edges.yielded c.edges.edge-iterator c.edges.yielded_by c.next.result c.next.new.self c.in-Some.edge c.in-Some.is c.next.ensures.steps in
-    let so_far = YieldsList-so_far road c.edges.yielded c.edges.edge-iterator c.edges.yielded_by in
+    let so_far = sym (map-id c.edges.yielded) ∙ YieldsList-so_far road c.edges.yielded c.edges.edge-iterator c.edges.yielded_by in
     let i = c.edges.invariant.grown in
     let u = c.if-unite.ensures.labels i.label i.labels in
+    let e = c.in-Some.edge in
+    let taken : ℕ × ℕ × g.row.C.Denot = (c.vertex-one.result, c.vertex-other.result, e.2) in
+    let more = placed-as vertex c.edges.yielded e c.vertex-one.result c.vertex-other.result c.vertex-one.ensures c.vertex-other.ensures in
+    let up = λ (d : ℕ × ℕ × g.row.C.Denot) (h : Contains (placed vertex c.edges.yielded) d). placed-heavy vertex g.C.Ord.cmp g.met.C.Ord.total c.args.sorted.items c.requires.sorted (length c.edges.yielded) e t.0 t.1 d (subst (λ xs. Contains (placed vertex xs) d) so_far h) in
     record {
       sound = c.unite.ensures.sound;
-      grown = subst (λ xs. Grown g.C.Ord.cmp (c.edges.yielded ++ c.in-Some.edge ∷ []) xs c.unite.new.parents) (sym c.in_ok-push.ensures.items)
-          (Grown-take g.C.Ord.cmp g.met.C.Ord.total c.edges.yielded c.edges.chosen.items c.edges.parents c.unite.new.parents c.in-Some.edge i
-          (λ d h. heavy g.C.Ord.cmp g.met.C.Ord.total c.args.sorted.items c.requires.sorted (length c.edges.yielded) c.in-Some.edge t.0 t.1 d (subst (λ xs. Contains xs d) (sym (map-id c.edges.yielded) ∙ so_far) h))
-          u.0 u.1 u.2.0 u.2.1);
+      grown = subst (λ xs. Grown g.C.Ord.cmp xs c.push.new.self.items c.unite.new.parents) (sym more)
+          (subst (λ xs. Grown g.C.Ord.cmp (placed vertex c.edges.yielded ++ taken ∷ []) xs c.unite.new.parents) (sym c.in_ok-push.ensures.items)
+          (Grown-take g.C.Ord.cmp g.met.C.Ord.total (placed vertex c.edges.yielded) c.edges.chosen.items c.edges.parents c.unite.new.parents taken i up u.0 u.1 u.2.0 u.2.1));
     }
 
 pub returns-clause-given : goal.returns-clause-given
@@ -57,7 +70,15 @@ returns-clause-given g c = λ e h.
     let len : vec_len c.args.sorted ≡ length c.args.sorted.items = c.args.sorted.ok.0 in
     let road = YieldsList-from_vec c.args.sorted.items c.into_iter-edge-iterator.ensures.into_iter_gives.0 (c.into_iter-edge-iterator.ensures.into_iter_gives.1 ∙ len) in
     let all = YieldsList-end road c.edges.yielded c.edges.edge-iterator c.edges.yielded_by c.next.result c.next.new.self c.in-None.is c.next.ensures.steps in
-    subst (λ xs. Contains xs e) (sym (map-id c.edges.yielded) ∙ all.0) (c.edges.invariant.grown.from e h)
+    subst (λ xs. Contains (placed g.V.VertexNumber.stands_for xs) e) (sym (map-id c.edges.yielded) ∙ all.0) (c.edges.invariant.grown.from e h)
+
+pub returns-clause-least : goal.returns-clause-least
+returns-clause-least g c =
+    let len : vec_len c.args.sorted ≡ length c.args.sorted.items = c.args.sorted.ok.0 in
+    let road = YieldsList-from_vec c.args.sorted.items c.into_iter-edge-iterator.ensures.into_iter_gives.0 (c.into_iter-edge-iterator.ensures.into_iter_gives.1 ∙ len) in
+    let all = YieldsList-end road c.edges.yielded c.edges.edge-iterator c.edges.yielded_by c.next.result c.next.new.self c.in-None.is c.next.ensures.steps in
+    subst (λ xs. IsLeastUnderEveryBound nat_eq g.C.Ord.cmp (placed g.V.VertexNumber.stands_for xs) c.edges.chosen.items) (sym (map-id c.edges.yielded) ∙ all.0)
+    (record { joins = c.edges.invariant.grown.least })
 
 pub unite-requires-clause-sound : goal.unite-requires-clause-sound
 unite-requires-clause-sound g c = c.edges.invariant.sound

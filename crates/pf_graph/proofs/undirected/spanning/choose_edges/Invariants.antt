@@ -1,9 +1,10 @@
 use Rattle.pf_graph.specs.Internal.UnionFind.{IsSound}
+use Rattle.pf_graph.specs.Internal.Spanning.SpanningSteps.{placed}
 use Rattle.pf_graph.proofs.Spanning.KruskalLemmas.{Grown}
 use Rattle.pf_graph.proofs.undirected.spanning.choose_edges.Given as goal
 
 abbrev pub invariant-edges : goal.invariant-edges
 invariant-edges g l = record {
   sound : IsSound l.parents;
-  grown : Grown g.C.Ord.cmp l.yielded l.chosen.items l.parents;
+  grown : Grown g.C.Ord.cmp (placed g.V.VertexNumber.stands_for l.yielded) l.chosen.items l.parents;
 }

@@ -1,5 +1,5 @@
 use Rattle.std.proofs.Common.{◌∙◌, arith, rules}
-use Rattle.pf_graph.proofs.UnionFindLemmas.{Led-up, parent_is, parent_falls, parent_inside}
+use Rattle.pf_graph.proofs.UnionFindLemmas.{Led-up, parent_falls, parent_inside}
 use Rattle.pf_graph.proofs.undirected.union_find.find.Goals as goal
 
 pub bounds-parents-parents : goal.bounds-parents-parents

@@ -1,4 +1,4 @@
-use Rattle.std.proofs.Common.{◌≡◌, ◌<◌, ℕ, length}
+use Rattle.std.proofs.Common.{◌≡◌, ℕ, length}
 use Rattle.pf_graph.specs.Internal.UnionFind.{IsRoot}
 use Rattle.pf_graph.proofs.undirected.union_find.make_sets.Given as goal
 
