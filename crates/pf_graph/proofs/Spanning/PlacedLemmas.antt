@@ -8,7 +8,7 @@ use Rattle.std.specs.List.Sorted.{IsSorted}
 use Rattle.std.proofs.lemmas.List.{map-append, length-map, get_or-map, take-map, map-id}
 use Rattle.pf_graph.specs.Spanning.{AreBelow}
 use Rattle.pf_graph.specs.Internal.Spanning.SpanningSteps.{placed}
-use Rattle.pf_graph.proofs.ListLemmas.{get_within}
+use Rattle.pf_base.proofs.ListLemmas.{get_within}
 use Rattle.pf_graph.proofs.Spanning.KruskalLemmas.{heavy}
 
 module _ {V C : Type 0} (vertex : V → ℕ) where

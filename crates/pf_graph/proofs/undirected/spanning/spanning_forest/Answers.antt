@@ -7,7 +7,7 @@ use Rattle.pf_graph.proofs.Spanning.CopyLemmas.{least_of_permutation}
 use Rattle.std.proofs.lemmas.List.Sorted.{IsPermutation-map}
 use Rattle.pf_graph.specs.Internal.Spanning.SpanningSteps.{placed}
 use Rattle.pf_graph.proofs.Spanning.PlacedLemmas.{place, placed-sorted}
-use Rattle.pf_graph.proofs.Outcomes.{refused_as, if_refused}
+use Rattle.pf_base.proofs.Outcomes.{if_refused, refused_as}
 use Rattle.std.proofs.lemmas.Result.{IfOk-weaker}
 use Rattle.pf_graph.proofs.undirected.spanning.spanning_forest.Goals as goal
 
