@@ -1,10 +1,10 @@
 -- Lemmas on lists.
-use Rattle.std.proofs.Common.{ℕ, zero, suc, ◌<◌, ◌≡◌, ◌≢◌, refl, ◌∙◌, ap, subst, arith, List, [], ◌∷◌, ◌++◌, length, take, replicate, ◌-◌, inl, inr, Some}
+use Rattle.std.proofs.Common.{ℕ, zero, suc, ◌≡◌, refl, ◌∙◌, ap, subst, arith, List, [], ◌∷◌, ◌++◌, inl, inr, Some}
 use Rattle.std.specs.List.{AllZip}
 use Rattle.std.proofs.lemmas.Option.{slice_get-get_or, slice_get_within, get_or_from_slice_get}
 use Rattle.std.proofs.lemmas.List.Elements.{Contains-append_left, Contains-append_right, Contains-append_cases}
 use Rattle.pf_base.proofs.ListLemmas.{none_in}
-use Rattle.std.specs.Prelude.{slice_get, slice_set, Contains, ◌⊎◌}
+use Rattle.std.specs.Prelude.{slice_get, Contains, ◌⊎◌}
 
 -- ---- two lists place by place
 

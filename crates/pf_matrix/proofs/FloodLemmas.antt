@@ -1,11 +1,10 @@
 -- Floods: what a turn of one changes, that it ends with exactly the positions in reach, and the set that they are put into.
-use Rattle.std.proofs.Common.{◌≡◌, ◌≢◌, ℕ, zero, suc, ◌+◌, ◌-◌, ◌*◌, ◌<◌, ◌≤◌, ◌∙◌, refl, sym, ap, subst, arith, inl, inr, Bool, true, false, true≢false, Option, Some, None, List, [], ◌∷◌, ◌++◌, length, get_or, nat_eq, length-append, cond}
+use Rattle.std.proofs.Common.{◌≡◌, ◌≢◌, ℕ, zero, suc, ◌+◌, ◌-◌, ◌*◌, ◌<◌, ◌≤◌, ◌∙◌, refl, sym, ap, subst, arith, inl, inr, Bool, true, false, true≢false, Option, Some, None, List, [], ◌∷◌, ◌++◌, length, get_or, length-append, cond}
 use Rattle.std.specs.Prelude.{◌↔◌, ◌&&◌, ◌⊎◌, Contains, nat_lt, not, if◌then◌else◌, ◌||◌, slice_get, slice_set}
 use Rattle.std.specs.Ordering.{nat_cmp, eq_by_cmp, is_eq}
 use Rattle.std.specs.Bool.{Decides}
 use Rattle.std.specs.Cmp.{IsTotalOrder, nat_cmp_total, on_total, then_total, tied_itself}
-use Rattle.std.specs.Set.{is_member}
-use Rattle.std.specs.List.{AllByRecursion, cons_option, filter, filter_map, count_by}
+use Rattle.std.specs.List.{AllByRecursion, cons_option, filter, filter_map}
 use Rattle.std.specs.BTreeSet.{BTreeSet, IsFromIterResult}
 use Rattle.std.proofs.lemmas.Bool.{lt-ltb, ltb-true, ltb-false}
 use Rattle.std.proofs.lemmas.Map.Lookups.{CmpEqualImpliesEq, exact_pairs, exact_unsigned}
@@ -18,7 +17,7 @@ use Rattle.pf_base.specs.Successors.{HasSuccessor}
 use Rattle.pf_base.proofs.ListLemmas.{get-append, get_at_end, get_push, none_in}
 use Rattle.pf_base.proofs.Tables.{pair_refl, pair_exact, successors_keep}
 use Rattle.pf_matrix.specs.Calls.{CallableInTurn, GivesInTurn}
-use Rattle.pf_matrix.specs.Floods.{HasReached, answer_at, same_position, passing_around}
+use Rattle.pf_matrix.specs.Floods.{HasReached, answer_at, same_position}
 use Rattle.pf_matrix.specs.Internal.Flooding.{Has, free_count, IsFlooding, Spreads}
 use Rattle.pf_matrix.specs.Internal.PositionOrder.{position_cmp}
 use Rattle.pf_matrix.specs.Tables.{Table, value_at}

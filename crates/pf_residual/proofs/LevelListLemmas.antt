@@ -1,5 +1,5 @@
 -- The lists of a search by breadth first.
-use Rattle.std.proofs.Common.{length-append, ◌≡◌, ◌≢◌, ◌∙◌, inl, inr, refl, sym, ap, subst, ◌<◌, ◌≤◌, ◌+◌, ◌-◌, ℕ, zero, suc, pos, arith, List, [], ◌∷◌, ◌++◌, length, take, replicate, nat_eq}
+use Rattle.std.proofs.Common.{length-append, ◌≡◌, ◌≢◌, ◌∙◌, inl, inr, refl, sym, ap, subst, ◌<◌, ◌≤◌, ◌+◌, ℕ, zero, suc, pos, arith, List, [], ◌∷◌, ◌++◌, length, replicate, nat_eq}
 use Rattle.std.specs.Prelude.{◌<ℤ◌, slice_index, slice_set}
 use Rattle.std.proofs.lemmas.Bool.{cases_eq}
 use Rattle.std.proofs.lemmas.List.{get_or-replicate, get_or-set_same, get_or-set_other, length-set}

@@ -1,8 +1,6 @@
 -- Lemmas on answers that are handed on.
-use Rattle.std.proofs.Common.{◌≡◌, ◌∙◌, Bool, true, false, true≢false, Err, Some, None, sym, subst}
-use Rattle.pf_base.specs.declared.error.PathError.{PathError}
-use Rattle.pf_base.specs.declared.error.PathError.TheVariants.{OutOfMemory, CostOverflow}
-use Rattle.std.specs.Prelude.{Option, Result, Ok, IsOkAnd, IsErrAnd, IfOk, IfErr, OnOk, IfSome, MatchBool, MatchOption, MatchResult}
+use Rattle.std.proofs.Common.{◌≡◌, Bool, true, false, true≢false, Err, Some, None, sym, subst}
+use Rattle.std.specs.Prelude.{Option, Result, Ok, IsOkAnd, IfOk, IfErr, IfSome, MatchBool, MatchOption, MatchResult}
 
 -- what an answer has, the answer in `Some` has
 pub in_some : {T E : Type 0} (r : Result T E) (s : Result (Option T) E) → MatchResult r (λ x. IsOkAnd s (λ y. y ≡ Some x)) (λ e. s ≡ Err e) → (P : T → Type 0) (Q : Option T → Type 0) → ((x : T) → P x → Q (Some x)) → IfOk r P → IfOk s Q

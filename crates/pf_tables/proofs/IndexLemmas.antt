@@ -1,6 +1,6 @@
 -- The order in which nodes are found, and the number of each.
 use Rattle.std.proofs.Common.{ℕ, zero, suc, ◌+◌, ◌<◌, ◌≡◌, refl, sym, ◌∙◌, ap, subst, arith, false, List, [], ◌∷◌, ◌++◌, length, inl, inr, Some, None, take, replicate, nat_eq, map, Option, add-one}
-use Rattle.std.specs.Prelude.{slice_get, slice_set, ◌⊎◌}
+use Rattle.std.specs.Prelude.{slice_get, slice_set}
 use Rattle.std.proofs.lemmas.List.{map-append, append-nil, length-replicate, get_or-replicate}
 use Rattle.std.proofs.lemmas.Option.{slice_get_within, slice_get-get_or}
 use borrow.Author.Tests.{eqb-true}

@@ -1,8 +1,6 @@
 -- Lemmas on answers that are handed on.
-use Rattle.std.proofs.Common.{◌≡◌, ◌∙◌, sym, ap, subst}
-use Rattle.pf_base.specs.declared.error.PathError.{PathError}
-use Rattle.pf_base.specs.declared.error.PathError.TheVariants.{OutOfMemory, CostOverflow}
-use Rattle.std.specs.Prelude.{Result, Ok, Err, IsOkAnd, IsErrAnd, IfOk, IfErr, MatchResult}
+use Rattle.std.proofs.Common.{◌≡◌, sym, subst}
+use Rattle.std.specs.Prelude.{Result, Ok, Err, IsOkAnd, IfOk, IfErr, MatchResult}
 
 -- an answer that is made of another, where an error is kept
 module _ {T E : Type 0} (R : T → T → Type 0) where

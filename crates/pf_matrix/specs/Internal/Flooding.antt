@@ -1,5 +1,5 @@
 -- What a flood has reached so far, and what one turn of it changes.
-use Rattle.std.specs.Prelude.{◌≡◌, ◌<◌, ◌⊎◌, ◌+◌, ℕ, suc, Bool, true, false, List, [], ◌∷◌, Some, slice_get, length}
+use Rattle.std.specs.Prelude.{◌≡◌, ◌<◌, ◌⊎◌, ℕ, suc, Bool, true, false, List, [], ◌∷◌, Some, slice_get}
 use Rattle.std.specs.List.{AllByRecursion}
 use Rattle.pf_base.specs.Walks.{IsReachable}
 use Rattle.pf_base.specs.Successors.{HasSuccessor}

@@ -1,4 +1,4 @@
-use Rattle.std.proofs.Common.{rules, arith, sym, subst, ◌≡◌, ◌<◌, ◌≤◌, ◌∙◌, ◌++◌, ◌∷◌, [], ap, length}
+use Rattle.std.proofs.Common.{arith, subst, ◌<◌, ◌≤◌, ◌∙◌, ◌++◌, ◌∷◌, [], ap, length}
 use Rattle.std.specs.BTreeSet.{IsFromIterResult}
 use Rattle.pf_matrix.specs.Internal.PositionOrder.{position_cmp}
 use Rattle.pf_matrix.proofs.FloodLemmas.{flooding_end, flooding_init, flooding_turn}

@@ -1,4 +1,4 @@
-use Rattle.std.proofs.Common.{rules, arith, sym, subst, ◌≡◌, ◌<◌, ◌≤◌, ◌∙◌, ◌++◌, ◌∷◌, [], ap, length, ℕ}
+use Rattle.std.proofs.Common.{arith, subst, ◌<◌, ◌≤◌, ◌∙◌, ◌++◌, ◌∷◌, [], ap, length, ℕ}
 use Rattle.std.specs.BTreeSet.{IsFromIterResult}
 use Rattle.pf_matrix.specs.Floods.{answer_at}
 use Rattle.pf_matrix.specs.Internal.Flooding.{Spreads}
