@@ -1,5 +1,5 @@
 -- The ways that are left, as a walk through them goes on.
-use Rattle.std.proofs.Common.{◌≡◌, ◌≢◌, ℕ, zero, suc, ◌+◌, ◌-◌, ◌<◌, ◌≤◌, refl, sym, ◌∙◌, ap, subst, arith, Bool, true, false, true≢false, List, [], ◌∷◌, ◌++◌, length, take, drop, inl, inr, Some, nat_eq, eq-eqb}
+use Rattle.std.proofs.Common.{◌≡◌, ◌≢◌, ℕ, zero, suc, ◌+◌, ◌-◌, ◌<◌, ◌≤◌, refl, sym, ◌∙◌, ap, subst, arith, Bool, true, false, true≢false, List, [], ◌∷◌, ◌++◌, length, take, inl, inr, Some, nat_eq, eq-eqb}
 use Rattle.std.specs.Prelude.{◌⊎◌, ◌||◌, if◌then◌else◌, Contains, slice_get, slice_set, reverse}
 use Rattle.std.specs.List.{sum_by}
 use Rattle.std.proofs.lemmas.List.{append-nil, append_assoc, reverse-append}
@@ -333,16 +333,6 @@ module _ (n : ℕ) (before : ℕ → List ℕ) (way places : List ℕ) (rest : L
           let here : sum_by f (branches_at (b.depth + 1) (before b.number)) ≡ sum_by (tries before (n - (b.depth + 1))) (before b.number) = sum_by-branches f (tries before (n - (b.depth + 1))) (b.depth + 1) (λ p. refl) (before b.number) in
           let now : tries before (n - b.depth) b.number ≡ suc (sum_by (tries before (n - (b.depth + 1))) (before b.number)) = ap (λ (k : ℕ). tries before k b.number) more_room in
           omega (arith, sum_by-append f rest (b ∷ []), sum_by-append f rest (branches_at (b.depth + 1) (before b.number)), here, now)
-
--- one element is taken out from the middle
-pub taken_out : {A : Type 0} (rest : List A) (b : A) (bs : List A) (n m : ℕ) → n ≡ length rest → m ≡ suc n → take n ((rest ++ b ∷ []) ++ bs) ++ drop m ((rest ++ b ∷ []) ++ bs) ≡ rest ++ bs
-taken_out rest b bs n zero e f = absurd (omega (arith, f))
-taken_out [] b bs (suc n) (suc m) e f = absurd (omega (arith, e))
-taken_out [] b [] zero (suc zero) e f = refl
-taken_out [] b (x ∷ bs) zero (suc zero) e f = refl
-taken_out [] b bs zero (suc (suc m)) e f = absurd (omega (arith, f))
-taken_out (x ∷ rest) b bs zero (suc m) e f = absurd (omega (arith, e))
-taken_out (x ∷ rest) b bs (suc n) (suc m) e f = ap (λ xs. x ∷ xs) (taken_out rest b bs n m (omega (arith, e)) (omega (arith, f)))
 
 -- ---- no way was found yet
 pub start_ways : (n : ℕ) (before : ℕ → List ℕ) (way places goals : List ℕ) → way ≡ [] → ((k j : ℕ) → HasNode nat_eq (before k) j → j < n) → length places ≡ n → ((j : ℕ) → HasNode nat_eq goals j → j < n) → AreWays n before way places (branches_at 0 goals)

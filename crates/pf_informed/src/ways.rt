@@ -1,6 +1,6 @@
 //! Ways back from goals to number 0, one at a time.
 
-ghost use Rattle.std.specs.Prelude.{◌≡◌, ◌≢◌, ◌<◌, ◌≤◌, ◌+◌, ◌-◌, ◌++◌, ◌∷◌, [], ℕ, List, Some, Ok, false, OnOk, OnErr, IfOk, IfErr, MatchBool, MatchOption, length, nat_eq, reverse, slice_get, slice_set, take};
+ghost use Rattle.std.specs.Prelude.{◌≡◌, ◌≢◌, ◌<◌, ◌≤◌, ◌+◌, ◌-◌, ◌++◌, ◌∷◌, [], ℕ, List, Some, Ok, false, OnOk, OnErr, IfOk, IfErr, MatchBool, MatchOption, length, nat_eq, reverse, slice_get, slice_set, take, vec_capacity};
 ghost use Rattle.pf_base.specs.Walks.{HasNode};
 ghost use Rattle.pf_core.specs.declared.depth_first.Branch.{Branch};
 ghost use Rattle.pf_core.specs.DepthFirst.{branches_at};
@@ -24,28 +24,20 @@ pub(crate) struct Ways<A: Allocator> {
     pub waiting: Vec<Branch, A>,
 }
 
-/// Puts a branch to each number at the end. Where memory is refused, the branches stay.
-fn put_branches<A: Allocator>(
-    waiting: &mut Vec<Branch, A>,
-    numbers: &[usize],
-    depth: usize,
-) -> Result<(), PathError>
-    ensures put { OnOk result (waiting.new.items ≡ waiting.old.items ++ branches_at depth numbers.now) }
-    ensures stays { OnErr result (waiting.new.items ≡ waiting.old.items) }
-    ensures refused { IfErr result (λ e. e ≡ PathError.OutOfMemory) }
+/// Puts a branch to each number at the end, where there is room for them.
+fn put_branches<A: Allocator>(waiting: &mut Vec<Branch, A>, numbers: &[usize], depth: usize)
+    requires room { length waiting.old.items + length numbers.now ≤ vec_capacity waiting.old }
+    ensures { waiting.new.items ≡ waiting.old.items ++ branches_at depth numbers.now }
 {
-    let len = waiting.len();
     'numbers: for number in numbers {
         let branch = Branch {
             number: *number,
             depth,
         };
         if waiting.push(branch).is_err() {
-            waiting.truncate(len);
-            return Err(PathError::OutOfMemory);
+            unreachable!();
         }
     }
-    Ok(())
 }
 
 impl<A: Allocator + Copy> Ways<A> {
@@ -64,8 +56,8 @@ impl<A: Allocator + Copy> Ways<A> {
     {
         let mut places = Vec::new(alloc);
         places.resize(before.len(), 0)?;
-        let mut waiting = Vec::new(alloc);
-        put_branches(&mut waiting, goals, 0)?;
+        let mut waiting = Vec::with_capacity(alloc, goals.len())?;
+        put_branches(&mut waiting, goals, 0);
         Ok(Ways {
             before,
             way: Vec::new(alloc),
@@ -115,13 +107,10 @@ impl<A: Allocator + Copy> Ways<A> {
         ensures stays { OnErr result (self.new.waiting.items ≡ self.old.waiting.items) }
         ensures refused { IfErr result (λ e. e ≡ PathError.OutOfMemory) }
     {
-        let last = self.waiting.len() - 1;
-        put_branches(
-            &mut self.waiting,
-            &self.before[branch.number],
-            branch.depth + 1,
-        )?;
-        self.waiting.remove(last);
+        let numbers = &self.before[branch.number];
+        self.waiting.reserve(numbers.len())?;
+        self.waiting.pop();
+        put_branches(&mut self.waiting, numbers, branch.depth + 1);
         Ok(())
     }
 

@@ -27,10 +27,10 @@ returns-in_err-resize g c = record {
   refused = refused_as _ c.from_residual.result _ c.from_residual.ensures.1 refl;
 }
 
-pub returns-in_err-put_branches : goal.returns-in_err-put_branches
-returns-in_err-put_branches g c = record {
-  before = if_refused _ c.from_residual-in_err-put_branches.result _ c.from_residual-in_err-put_branches.ensures.1;
-  ways = if_refused _ c.from_residual-in_err-put_branches.result _ c.from_residual-in_err-put_branches.ensures.1;
-  left = if_refused _ c.from_residual-in_err-put_branches.result _ c.from_residual-in_err-put_branches.ensures.1;
-  refused = refused_as _ c.from_residual-in_err-put_branches.result _ c.from_residual-in_err-put_branches.ensures.1 c.in_err-put_branches.ensures.refused;
+pub returns-in_err-waiting : goal.returns-in_err-waiting
+returns-in_err-waiting g c = record {
+  before = if_refused _ c.from_residual-in_err-waiting.result _ c.from_residual-in_err-waiting.ensures.1;
+  ways = if_refused _ c.from_residual-in_err-waiting.result _ c.from_residual-in_err-waiting.ensures.1;
+  left = if_refused _ c.from_residual-in_err-waiting.result _ c.from_residual-in_err-waiting.ensures.1;
+  refused = refused_as _ c.from_residual-in_err-waiting.result _ c.from_residual-in_err-waiting.ensures.1 refl;
 }
