@@ -235,9 +235,9 @@ module _ {C : Type 0} (value : C → ℤ) (first : Label C) (nothing : value fir
     climbs = λ k l h. let o = only_here k l h in ([], (l, h, sym (ap (λ (m : Label C). m.depth) o.1) ∙ flat));
   }
 
-  module _ (estimates : List C) (h : C) (known : slice_get estimates 0 ≡ Some h) (entries : List (Entry C)) (p : IsPermutation ((record { 0 = h }, first.cost, 0) ∷ []) entries) where
+  module _ (estimates : List C) (h : C) (known : slice_get estimates 0 ≡ Some h) (entries : List (Entry C)) (p : IsPermutation ((record { 0 = record { 0 = h }; 1 = first.cost; 2 = 0 }) ∷ []) entries) where
     abbrev entry : Entry C
-    entry = (record { 0 = h }, first.cost, 0)
+    entry = (record { 0 = record { 0 = h }; 1 = first.cost; 2 = 0 })
 
     one_entry : (e : Entry C) → Contains entries e → entry ≡ e
     one_entry e i = elim (Contains-cases [] entry e (Contains-permutation entries (entry ∷ []) e (IsPermutation-sym _ _ p) i)) as (λ _. entry ≡ e) [ inl s ↦ s | inr n ↦ absurd (omega (arith, n.1)) ]

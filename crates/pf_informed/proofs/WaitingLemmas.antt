@@ -110,11 +110,11 @@ module _ {C : Type 0} (value : C → ℤ) where
 
   -- ---- a label is lowered, and its entry is put in
   module _ (labels : Labels C) (f : IsForest value labels) (next : ℕ) (new la : Label C) (inside : next < length labels) (less : (l : Label C) → HasLabel labels next l → value new.cost <ℤ value l.cost)
-      (here : HasLabel labels new.parent la) (low : value la.cost ≤ℤ value new.cost) (deep : 0 < new.depth) (entries entries' : List (Entry C)) (sum : C) (p : IsPermutation ((record { 0 = sum }, new.cost, next) ∷ entries) entries') where
+      (here : HasLabel labels new.parent la) (low : value la.cost ≤ℤ value new.cost) (deep : 0 < new.depth) (entries entries' : List (Entry C)) (sum : C) (p : IsPermutation ((record { 0 = record { 0 = sum }; 1 = new.cost; 2 = next }) ∷ entries) entries') where
     abbrev entry : Entry C
-    entry = (record { 0 = sum }, new.cost, next)
+    entry = (record { 0 = record { 0 = sum }; 1 = new.cost; 2 = next })
 
-    pub entry_in : Contains entries' (record { 0 = sum }, new.cost, next)
+    pub entry_in : Contains entries' (record { 0 = record { 0 = sum }; 1 = new.cost; 2 = next })
     entry_in = Contains-permutation (entry ∷ entries) entries' entry p (Contains-head entries entry)
 
     pub more_in : (e : Entry C) → Contains entries e → Contains entries' e

@@ -14,7 +14,6 @@ use crate::queue::{Queue, Taken, Waiting};
 use pf_base::{Cost, PathError};
 use pf_core::slot::Slot;
 use std::alloc::Allocator;
-use std::cmp::Reverse;
 use std::mem;
 
 /// What waits, in two lists: `current` has what this round of the search still has to look at, the next
@@ -50,8 +49,7 @@ fn take_last<C: Cost, A: Allocator>(
 fn sum_of<C: Cost>(entry: &Waiting<C>) -> C
     ensures { result ≡ entry.now.0.0 }
 {
-    let (Reverse(sum), _, _) = entry;
-    *sum
+    entry.0.0
 }
 
 /// Keeps the entry of the lesser sum, and hands back the other.

@@ -20,8 +20,15 @@ use std::collections::BinaryHeap;
 use std::marker::Model;
 
 /// The cost of a label and the estimate of its node together, the cost alone, and the number, in 32
-/// bits, since a search spends most of its time among these.
-pub(crate) type Waiting<C> = (Reverse<C>, C, u32);
+/// bits, since a search spends most of its time among these. Numbers are not compared: many entries
+/// have the same sum and the same cost.
+#[derive(Clone, Copy)]
+#[derive_where(PartialEq, Eq, PartialOrd, Ord; C)]
+pub(crate) struct Waiting<C>(
+    pub Reverse<C>,
+    pub C,
+    #[derive_where(skip(EqHashOrd))] pub u32,
+);
 
 /// What waits. The least sum comes first, and of equal sums the greatest cost, since fewer nodes are
 /// opened then.
@@ -63,11 +70,15 @@ impl<C: Cost, A: Allocator> Queue<C, A> {
     pub fn push(&mut self, sum: C, cost: C, number: usize)
         requires few { number < 2 ^ 32 }
         requires room { length self.old.entries < self.old.room }
-        ensures added { IsPermutation ((record { 0 = sum }, cost, number) ∷ self.old.entries) self.new.entries }
+        ensures added { IsPermutation (record { 0 = record { 0 = sum }; 1 = cost; 2 = number } ∷ self.old.entries) self.new.entries }
         ensures len { length self.new.entries ≡ length self.old.entries + 1 }
         ensures room { self.old.room ≤ self.new.room }
     {
-        if self.heap.push((Reverse(sum), cost, number as u32)).is_err() {
+        if self
+            .heap
+            .push(Waiting(Reverse(sum), cost, number as u32))
+            .is_err()
+        {
             unreachable!();
         }
     }

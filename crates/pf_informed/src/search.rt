@@ -45,7 +45,7 @@ impl<C: Cost, A: Allocator + Copy> Search<C, A> {
         requires nothing_waits { self.old.queue.entries ≡ [] }
         ensures estimates { self.new.estimates.items ≡ self.old.estimates.items }
         ensures labelled { OnOk result (self.new.labels.items ≡ Some (record { cost = C.zero; parent = 0; depth = 0; settled = false }) ∷ []) }
-        ensures waiting { OnOk result ((h : C) × (slice_get self.old.estimates.items 0 ≡ Some h) × IsPermutation ((record { 0 = h }, C.zero, 0) ∷ []) self.new.queue.entries) }
+        ensures waiting { OnOk result ((h : C) × (slice_get self.old.estimates.items 0 ≡ Some h) × IsPermutation (record { 0 = record { 0 = h }; 1 = C.zero; 2 = 0 } ∷ []) self.new.queue.entries) }
         ensures refused { IfErr result (λ e. e ≡ PathError.OutOfMemory) }
     {
         let nothing = C::zero();

@@ -1,19 +1,19 @@
 -- What waits in a search by cost and estimate.
 use Rattle.std.specs.Prelude.{◌≡◌, ◌≤◌, ◌<◌, ◌^◌, ◌≤ℤ◌, ◌+ℤ◌, ◌⊎◌, ℤ, pos, ℕ, List, Contains, Some, slice_get, length}
-use Rattle.std.specs.Ordering.{ordering_then, nat_cmp}
+use Rattle.std.specs.Ordering.{ordering_then}
 use Rattle.std.specs.declared.cmp.Ordering.{Ordering}
-use Rattle.std.specs.declared.cmp.Reverse.{Reverse}
 use Rattle.pf_core.specs.declared.labels.Label.{Label}
 use Rattle.pf_core.specs.Labels.{Labels, HasLabel}
 use Rattle.pf_informed.specs.Internal.Forest.{IsForest}
+use Rattle.pf_informed.specs.declared.queue.Waiting.{Waiting}
 
 -- a label's cost and the estimate of its node together, the cost alone, and the number
 abbrev pub Entry : Type 0 → Type 0
-Entry C = Reverse C × C × ℕ
+Entry C = Waiting C
 
--- the least sum first, of equal sums the greatest cost, and of equal costs the greatest number
+-- the least sum first, and of equal sums the greatest cost
 abbrev pub entry_cmp : {C : Type 0} → (C → C → Ordering) → Entry C → Entry C → Ordering
-entry_cmp R x y = ordering_then (ordering_then (R y.0.0 x.0.0) (R x.1 y.1)) (nat_cmp x.2 y.2)
+entry_cmp R x y = ordering_then (R y.0.0 x.0.0) (R x.1 y.1)
 
 -- what waits in a queue, and for how much there is room
 pub record Queued (C : Type 0) : Type 0 where

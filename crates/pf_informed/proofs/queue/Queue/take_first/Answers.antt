@@ -9,10 +9,10 @@ use Rattle.pf_informed.specs.Internal.Waiting.{Entry, entry_cmp}
 use Rattle.pf_informed.proofs.queue.Queue.take_first.Goals as goal
 
 -- what is not less in order is not less in its first part
-first_part : (a b c : Ordering) → is_lt (ordering_then (ordering_then a b) c) ≡ false → is_lt a ≡ false
-first_part Less b c h = h
-first_part Equal b c h = refl
-first_part Greater b c h = refl
+first_part : (a b : Ordering) → is_lt (ordering_then a b) ≡ false → is_lt a ≡ false
+first_part Less b h = h
+first_part Equal b h = refl
+first_part Greater b h = refl
 
 empty_of : {X : Type 0} (xs : List X) (n : ℕ) → n ≡ length xs → n ≡ 0 → xs ≡ []
 empty_of [] n l e = refl
@@ -22,7 +22,7 @@ module _ {C : Type 0} (value : C → ℤ) (cmp : C → C → Ordering) (low : (a
   all_low : (x : Entry C) (items : List (Entry C)) → IsUpperBound (entry_cmp cmp) x items → (f : Entry C) → Contains items f → value x.0.0 ≤ℤ value f.0.0
   all_low x [] h f q = absurd (omega (arith, q.1))
   all_low x (y ∷ ys) h f q = elim (Contains-cases ys y f q) as (λ _. value x.0.0 ≤ℤ value f.0.0) [
-    | inl e ↦ subst (λ (p : Entry C). value x.0.0 ≤ℤ value p.0.0) e (low y.0.0 x.0.0 (first_part (cmp y.0.0 x.0.0) _ _ h.0))
+    | inl e ↦ subst (λ (p : Entry C). value x.0.0 ≤ℤ value p.0.0) e (low y.0.0 x.0.0 (first_part (cmp y.0.0 x.0.0) _ h.0))
     | inr r ↦ all_low x ys h.1 f r
   ]
 
