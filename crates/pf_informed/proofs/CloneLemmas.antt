@@ -1,10 +1,10 @@
 -- Clones of ways, and of the paths that they stand for.
-use Rattle.std.proofs.Common.{◌≡◌, ℕ, zero, suc, refl, List, [], ◌∷◌, length}
-use Rattle.std.specs.Prelude.{Vec, slice_get}
+use Rattle.std.proofs.Common.{◌≡◌, ℕ, zero, suc, List, [], ◌∷◌, length}
+use Rattle.std.specs.Prelude.{slice_get}
 use Rattle.std.specs.List.{AllZip}
-use Rattle.std.proofs.lemmas.Slice.Zip.{AllZip-long}
 use Rattle.pf_core.specs.declared.depth_first.Branch.{Branch}
-use Rattle.pf_informed.specs.Internal.Ways.{AreWays, before_in, node_and, nodes_of, paths_of, ways_left}
+use Rattle.pf_informed.specs.Internal.Chains.{before_in}
+use Rattle.pf_informed.specs.Internal.Ways.{AreWays, node_and, nodes_of, paths_of, ways_left}
 
 module _ {N : Type 0} (S : N → N → Type 0) where
   node_clone : (keys keys' : List N) → AllZip S keys keys' → (k : ℕ) (xs ys : List N) → AllZip S xs ys → AllZip S (node_and (slice_get keys k) xs) (node_and (slice_get keys' k) ys)
@@ -25,23 +25,12 @@ module _ {N : Type 0} (S : N → N → Type 0) where
     paths_clone [] = tt
     paths_clone (ks ∷ ways) = (nodes_clone ks, paths_clone ways)
 
-module _ {Z : Type 0} (R : Vec ℕ Z → Vec ℕ Z → Type 0) (same : (v w : Vec ℕ Z) → R v w → w.items ≡ v.items) where
-  row_clone : (rows rows' : List (Vec ℕ Z)) → AllZip R rows rows' → (k : ℕ) → before_in rows' k ≡ before_in rows k
-  row_clone [] [] z k = refl
-  row_clone [] (w ∷ rows') z k = absurd z
-  row_clone (v ∷ rows) [] z k = absurd z
-  row_clone (v ∷ rows) (w ∷ rows') z zero = same v w z.0
-  row_clone (v ∷ rows) (w ∷ rows') z (suc k) = row_clone rows rows' z.1 k
+module _ (before before' : List (List ℕ)) (same : before' ≡ before) where
+  -- where the lists are the same, a walk through the ways stands where it stood
+  pub ways_clone : (way way' places places' : List ℕ) (waiting waiting' : List Branch) → way' ≡ way → places' ≡ places → waiting' ≡ waiting → AreWays (length before) (before_in before) way places waiting → AreWays (length before') (before_in before') way' places' waiting'
+  ways_clone way way' places places' waiting waiting' e p b w = rw (same, e, p, b) w
 
-  module _ (rows rows' : List (Vec ℕ Z)) (z : AllZip R rows rows') where
-    before_same : before_in rows' ≡ before_in rows
-    before_same = λ i k. row_clone rows rows' z k i
-
-    -- where the rows are cloned, a walk through the ways stands where it stood
-    pub ways_clone : (way way' places places' : List ℕ) (waiting waiting' : List Branch) → way' ≡ way → places' ≡ places → waiting' ≡ waiting → AreWays (length rows) (before_in rows) way places waiting → AreWays (length rows') (before_in rows') way' places' waiting'
-    ways_clone way way' places places' waiting waiting' e p b w = rw (AllZip-long R rows rows' z, before_same, e, p, b) w
-
-    -- and clones of the paths are to come
-    pub left_clone : {N : Type 0} (S : N → N → Type 0) (keys keys' : List N) → AllZip S keys keys' → (way way' : List ℕ) (waiting waiting' : List Branch) → way' ≡ way → waiting' ≡ waiting
-        → AllZip (AllZip S) (paths_of keys (ways_left (before_in rows) (length rows) way waiting)) (paths_of keys' (ways_left (before_in rows') (length rows') way' waiting'))
-    left_clone S keys keys' s way way' waiting waiting' e b = rw (AllZip-long R rows rows' z, before_same, e, b) (paths_clone S keys keys' s (ways_left (before_in rows) (length rows) way waiting))
+  -- and clones of the paths are to come
+  pub left_clone : {N : Type 0} (S : N → N → Type 0) (keys keys' : List N) → AllZip S keys keys' → (way way' : List ℕ) (waiting waiting' : List Branch) → way' ≡ way → waiting' ≡ waiting
+      → AllZip (AllZip S) (paths_of keys (ways_left (before_in before) (length before) way waiting)) (paths_of keys' (ways_left (before_in before') (length before') way' waiting'))
+  left_clone S keys keys' s way way' waiting waiting' e b = rw (same, e, b) (paths_clone S keys keys' s (ways_left (before_in before) (length before) way waiting))

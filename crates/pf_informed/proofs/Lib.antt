@@ -19,6 +19,7 @@ pub mod LabelledLemmas
 pub mod BagLemmas
 pub mod SolutionLemmas
 pub mod GatherLemmas
+mod ChainLemmas
 pub mod CleanLemmas
 pub mod Callers
 pub mod RowLemmas

@@ -8,7 +8,7 @@ use Rattle.pf_base.proofs.ListLemmas.{Contains-append_one, get_set, get-append}
 use Rattle.pf_informed.specs.Internal.Rows.{IsCheapestOf}
 use Rattle.pf_informed.proofs.EstimateLemmas.{get_pushed}
 
-get_last : {A : Type 0} (xs : List A) (x : A) → slice_get (xs ++ x ∷ []) (length xs) ≡ Some x
+pub get_last : {A : Type 0} (xs : List A) (x : A) → slice_get (xs ++ x ∷ []) (length xs) ≡ Some x
 get_last [] x = refl
 get_last (y ∷ ys) x = get_last ys x
 

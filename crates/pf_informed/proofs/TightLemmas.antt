@@ -1,6 +1,6 @@
 -- Rows of numbers before each number, as numbers are put in, in order.
-use Rattle.std.proofs.Common.{◌≡◌, ◌≢◌, ℕ, zero, suc, ◌+◌, ◌<◌, ◌≤◌, refl, sym, ◌∙◌, ap, subst, arith, Bool, true, false, true≢false, List, [], ◌∷◌, ◌++◌, length, inl, inr, not, nat_eq, eq-eqb, ℤ}
-use Rattle.std.specs.Prelude.{◌⊎◌, ◌↔◌, ◌≤ℤ◌, ◌<ℤ◌, ◌+ℤ◌, MatchBool, Result, Ok, Err, OnOk, Contains, Vec, slice_set}
+use Rattle.std.proofs.Common.{◌≡◌, ◌≢◌, ℕ, ◌+◌, ◌<◌, ◌≤◌, refl, sym, ◌∙◌, ap, subst, arith, Bool, true, false, true≢false, List, [], ◌∷◌, ◌++◌, length, inl, inr, not, nat_eq, eq-eqb, ℤ}
+use Rattle.std.specs.Prelude.{◌⊎◌, ◌↔◌, ◌≤ℤ◌, ◌<ℤ◌, ◌+ℤ◌, MatchBool, Result, Ok, Err, OnOk, Contains, slice_set}
 use Rattle.std.specs.Ordering.{int_cmp, is_lt}
 use Rattle.std.proofs.lemmas.Int.{ints}
 use Rattle.std.proofs.lemmas.List.{length-set}
@@ -12,7 +12,7 @@ use Rattle.pf_core.specs.Numbered.{ListsSteps, Grows}
 use Rattle.pf_base.proofs.ListLemmas.{nat_dec, lt_means, get_set}
 use Rattle.pf_core.proofs.LabelLemmas.{HasLabel-inside, label_is}
 use Rattle.pf_core.proofs.PathLemmas.{HasNode-append_cases, NoRepeats-append}
-use Rattle.pf_informed.specs.Internal.Ways.{before_in, items_or_none}
+use Rattle.pf_informed.specs.Internal.Chains.{BeginsWith, IsLinked, before_in, list_or_none}
 use Rattle.pf_informed.specs.Internal.Tight.{AllBelow, IsUpTo, AreRows, IsTightStep, IsTightEdge, IsTight}
 
 nat_symm : (x y : ℕ) → nat_eq x y ≡ true → nat_eq y x ≡ true
@@ -36,69 +36,88 @@ in_snoc xs x k = (
 pub below_once : (xs : List ℕ) (n : ℕ) → NoRepeats nat_eq xs → AllBelow n xs → NoRepeats nat_eq (xs ++ n ∷ [])
 below_once xs n once low = NoRepeats-append nat_eq nat_symm xs n once (λ h. omega (arith, low n h))
 
-pub up_to_pushed : (n : ℕ) (xs : List ℕ) → IsUpTo n xs → ((front : List ℕ) → ¬ (xs ≡ front ++ n ∷ [])) → IsUpTo n (xs ++ n ∷ [])
-up_to_pushed n xs u not = elim u.low as (λ _. IsUpTo n (xs ++ n ∷ [])) [
-  | inl low ↦ record { once = below_once xs n u.once low; low = inr (xs, refl, low) }
-  | inr f ↦ absurd (not f.0 f.1)
-]
-
-pub there_already : (xs front : List ℕ) (n k : ℕ) → xs ≡ front ++ n ∷ [] → HasNode nat_eq xs k ↔ (HasNode nat_eq xs k ⊎ (k ≡ n))
-there_already xs front n k is = (
-  (λ h. inl h),
-  (λ h. elim h as (λ _. HasNode nat_eq xs k) [ inl i ↦ i | inr e ↦ subst (λ ys. HasNode nat_eq ys k) (sym is) ((in_snoc front n k).1 (inr e)) ]),
+-- ---- a number is put first in a row
+in_cons : (xs : List ℕ) (x k : ℕ) → HasNode nat_eq (x ∷ xs) k ↔ (HasNode nat_eq xs k ⊎ (k ≡ x))
+in_cons xs x k = (
+  (λ h. elim h as (λ _. HasNode nat_eq xs k ⊎ (k ≡ x)) [ inl e ↦ inr (sym (eqb-true x k e)) | inr i ↦ inl i ]),
+  (λ h. elim h as (λ _. HasNode nat_eq (x ∷ xs) k) [ inl i ↦ inr i | inr e ↦ inl (eq-eqb x k (sym e)) ]),
 )
+
+up_to_put : (n : ℕ) (xs : List ℕ) → IsUpTo n xs → ¬ (BeginsWith n xs) → IsUpTo n (n ∷ xs)
+up_to_put n xs u not = elim u.low as (λ _. IsUpTo n (n ∷ xs)) [
+  | inl low ↦ record { once = ((λ h. let l = low n h in absurd (omega (arith, l))), u.once); low = inr (xs, refl, low) }
+  | inr f ↦ absurd (not (f.0, f.1))
+]
 
 up_to_next : (n : ℕ) (xs : List ℕ) → IsUpTo n xs → IsUpTo (n + 1) xs
 up_to_next n xs u = record {
   once = u.once;
   low = inl (λ k h. elim u.low as (λ _. k < n + 1) [
     | inl low ↦ omega (arith, low k h)
-    | inr f ↦ elim ((in_snoc f.0 n k).0 (subst (λ ys. HasNode nat_eq ys k) f.1 h)) as (λ _. k < n + 1) [ inl i ↦ omega (arith, f.2 k i) | inr e ↦ omega (arith, e) ]
+    | inr f ↦ elim ((in_cons f.0 n k).0 (subst (λ ys. HasNode nat_eq ys k) f.1 h)) as (λ _. k < n + 1) [ inl i ↦ omega (arith, f.2 k i) | inr e ↦ omega (arith, e) ]
   ]);
 }
 
-pub rows_next : {Z : Type 0} {n count : ℕ} {rows : List (Vec ℕ Z)} → AreRows n count rows → AreRows (n + 1) count rows
+pub rows_next : {n count : ℕ} {rows : List (List ℕ)} → AreRows n count rows → AreRows (n + 1) count rows
 rows_next r = record { wide = r.wide; up_to = λ j. up_to_next _ _ (r.up_to j) }
 
--- ---- a row in the place of another
--- one empty row more
-pub empty_more : {Z : Type 0} (rows : List (Vec ℕ Z)) (new : Vec ℕ Z) → new.items ≡ [] → ((j : ℕ) → before_in rows j ≡ []) → (j : ℕ) → before_in (rows ++ new ∷ []) j ≡ []
-empty_more [] new e all zero = e
-empty_more [] new e all (suc j) = refl
-empty_more (r ∷ rows) new e all zero = all zero
-empty_more (r ∷ rows) new e all (suc j) = empty_more rows new e (λ i. all (suc i)) j
-
-module _ {Z : Type 0} (rows : List (Vec ℕ Z)) (next : ℕ) (row : Vec ℕ Z) (inside : next < length rows) where
-  pub row_set : (j : ℕ) → ((j ≡ next) × (before_in (slice_set rows next row) j ≡ row.items)) ⊎ ((j ≢ next) × (before_in (slice_set rows next row) j ≡ before_in rows j))
-  row_set j = elim (get_set rows next j row inside) as (λ _. ((j ≡ next) × (before_in (slice_set rows next row) j ≡ row.items)) ⊎ ((j ≢ next) × (before_in (slice_set rows next row) j ≡ before_in rows j))) [
-    | inl r ↦ inl (r.0, ap items_or_none r.1)
-    | inr r ↦ inr (r.0, ap items_or_none r.1)
+module _ (rows rows' : List (List ℕ)) (next number : ℕ) (inside : next < length rows) (l : IsLinked next number rows rows') where
+  row_set : rows' ≡ slice_set rows next (number ∷ before_in rows next) → (j : ℕ) → ((j ≡ next) × (before_in rows' j ≡ number ∷ before_in rows next)) ⊎ ((j ≢ next) × (before_in rows' j ≡ before_in rows j))
+  row_set is j = elim (get_set rows next j (number ∷ before_in rows next) inside) as (λ _. ((j ≡ next) × (before_in rows' j ≡ number ∷ before_in rows next)) ⊎ ((j ≢ next) × (before_in rows' j ≡ before_in rows j))) [
+    | inl r ↦ inl (r.0, ap (λ (rs : List (List ℕ)). before_in rs j) is ∙ ap list_or_none r.1)
+    | inr r ↦ inr (r.0, ap (λ (rs : List (List ℕ)). before_in rs j) is ∙ ap list_or_none r.1)
   ]
 
-  module _ (number : ℕ) (linked : (k : ℕ) → HasNode nat_eq row.items k ↔ (HasNode nat_eq (before_in rows next) k ⊎ (k ≡ number))) (T : ℕ → Type 0) (tight : T next) where
-    pub linked_set : (j k : ℕ) → HasNode nat_eq (before_in (slice_set rows next row) j) k ↔ (HasNode nat_eq (before_in rows j) k ⊎ ((k ≡ number) × (j ≡ next) × T j))
-    linked_set j k = elim (row_set j) as (λ _. HasNode nat_eq (before_in (slice_set rows next row) j) k ↔ (HasNode nat_eq (before_in rows j) k ⊎ ((k ≡ number) × (j ≡ next) × T j))) [
-      | inl r ↦ (
-        (λ h. elim ((linked k).0 (subst (λ ys. HasNode nat_eq ys k) r.1 h)) as (λ _. HasNode nat_eq (before_in rows j) k ⊎ ((k ≡ number) × (j ≡ next) × T j)) [
-          | inl i ↦ inl (subst (λ (n : ℕ). HasNode nat_eq (before_in rows n) k) (sym r.0) i)
-          | inr e ↦ inr (e, r.0, subst T (sym r.0) tight)
-        ]),
-        (λ h. subst (λ ys. HasNode nat_eq ys k) (sym r.1) ((linked k).1 (elim h as (λ _. HasNode nat_eq (before_in rows next) k ⊎ (k ≡ number)) [ inl i ↦ inl (subst (λ (n : ℕ). HasNode nat_eq (before_in rows n) k) r.0 i) | inr e ↦ inr e.0 ]))),
-      )
-      | inr r ↦ (
-        (λ h. inl (subst (λ ys. HasNode nat_eq ys k) r.1 h)),
-        (λ h. elim h as (λ _. HasNode nat_eq (before_in (slice_set rows next row) j) k) [ inl i ↦ subst (λ ys. HasNode nat_eq ys k) (sym r.1) i | inr e ↦ absurd (r.0 e.1) ]),
-      )
-    ]
+  pub linked_rows : {count : ℕ} → AreRows number count rows → AreRows number count rows'
+  linked_rows r = elim l as (λ _. AreRows number _ rows') [
+    | inl s ↦ subst (AreRows number _) (sym s.0) r
+    | inr s ↦ record {
+      wide = ap length s.0 ∙ length-set rows next (number ∷ before_in rows next) ∙ r.wide;
+      up_to = λ j. elim (row_set s.0 j) as (λ _. IsUpTo number (before_in rows' j)) [
+        | inl q ↦ subst (IsUpTo number) (sym q.1) (up_to_put number (before_in rows next) (r.up_to next) s.1)
+        | inr q ↦ subst (IsUpTo number) (sym q.1) (r.up_to j)
+      ];
+    }
+  ]
 
-  pub rows_set : (n : ℕ) {count : ℕ} → IsUpTo n row.items → AreRows n count rows → AreRows n count (slice_set rows next row)
-  rows_set n u r = record {
-    wide = length-set rows next row ∙ r.wide;
-    up_to = λ j. elim (row_set j) as (λ _. IsUpTo n (before_in (slice_set rows next row) j)) [
-      | inl s ↦ subst (IsUpTo n) (sym s.1) u
-      | inr s ↦ subst (IsUpTo n) (sym s.1) (r.up_to j)
-    ];
-  }
+  module _ (T : ℕ → Type 0) (tight : T next) where
+    pub linked_in : (j k : ℕ) → HasNode nat_eq (before_in rows' j) k ↔ (HasNode nat_eq (before_in rows j) k ⊎ ((k ≡ number) × (j ≡ next) × T j))
+    linked_in j k = (there, back)
+      where
+        there : HasNode nat_eq (before_in rows' j) k → HasNode nat_eq (before_in rows j) k ⊎ ((k ≡ number) × (j ≡ next) × T j)
+        there h = elim l as (λ _. HasNode nat_eq (before_in rows j) k ⊎ ((k ≡ number) × (j ≡ next) × T j)) [
+          | inl s ↦ inl (subst (λ (rs : List (List ℕ)). HasNode nat_eq (before_in rs j) k) s.0 h)
+          | inr s ↦ elim (row_set s.0 j) as (λ _. HasNode nat_eq (before_in rows j) k ⊎ ((k ≡ number) × (j ≡ next) × T j)) [
+            | inl q ↦ elim ((in_cons (before_in rows next) number k).0 (subst (λ ys. HasNode nat_eq ys k) q.1 h)) as (λ _. HasNode nat_eq (before_in rows j) k ⊎ ((k ≡ number) × (j ≡ next) × T j)) [
+              | inl i ↦ inl (subst (λ (n : ℕ). HasNode nat_eq (before_in rows n) k) (sym q.0) i)
+              | inr e ↦ inr (e, q.0, subst T (sym q.0) tight)
+            ]
+            | inr q ↦ inl (subst (λ ys. HasNode nat_eq ys k) q.1 h)
+          ]
+        ]
+
+        here : (k ≡ number) × (j ≡ next) × T j → HasNode nat_eq (before_in rows' j) k
+        here e = elim l as (λ _. HasNode nat_eq (before_in rows' j) k) [
+          | inl s ↦
+              let first : before_in rows' j ≡ number ∷ s.1.0 = ap (λ (rs : List (List ℕ)). before_in rs j) s.0 ∙ ap (before_in rows) e.1 ∙ s.1.1 in
+              subst (λ ys. HasNode nat_eq ys k) (sym first) (inl (eq-eqb number k (sym e.0)))
+          | inr s ↦ elim (row_set s.0 j) as (λ _. HasNode nat_eq (before_in rows' j) k) [
+            | inl q ↦ subst (λ ys. HasNode nat_eq ys k) (sym q.1) (inl (eq-eqb number k (sym e.0)))
+            | inr q ↦ absurd (q.0 e.1)
+          ]
+        ]
+
+        kept : HasNode nat_eq (before_in rows j) k → HasNode nat_eq (before_in rows' j) k
+        kept h = elim l as (λ _. HasNode nat_eq (before_in rows' j) k) [
+          | inl s ↦ subst (λ (rs : List (List ℕ)). HasNode nat_eq (before_in rs j) k) (sym s.0) h
+          | inr s ↦ elim (row_set s.0 j) as (λ _. HasNode nat_eq (before_in rows' j) k) [
+            | inl q ↦ subst (λ ys. HasNode nat_eq ys k) (sym q.1) (inr (subst (λ (n : ℕ). HasNode nat_eq (before_in rows n) k) q.0 h))
+            | inr q ↦ subst (λ ys. HasNode nat_eq ys k) (sym q.1) h
+          ]
+        ]
+
+        back : HasNode nat_eq (before_in rows j) k ⊎ ((k ≡ number) × (j ≡ next) × T j) → HasNode nat_eq (before_in rows' j) k
+        back h = elim h as (λ _. HasNode nat_eq (before_in rows' j) k) [ inl i ↦ kept i | inr e ↦ here e ]
 
 -- ---- comparisons
 pub less_of : (x y : ℤ) (r : Bool) → r ≡ is_lt (int_cmp x y) → r ≡ true → x <ℤ y

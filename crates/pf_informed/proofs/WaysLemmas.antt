@@ -233,7 +233,7 @@ module _ (n : ℕ) (before : ℕ → List ℕ) (way places : List ℕ) (rest : L
     apart : ¬ (HasNode nat_eq (take b.depth way) b.number)
     apart h = true≢false (sym (in_of (reverse (take b.depth way)) b.number (reverse-HasNode (take b.depth way) b.number h)) ∙ off)
 
-    new_length : length (take b.depth way ++ b.number ∷ []) ≡ b.depth + 1
+    pub new_length : length (take b.depth way ++ b.number ∷ []) ≡ b.depth + 1
     new_length = length_more (take b.depth way) b.number ∙ ap (λ (k : ℕ). k + 1) (length_kept b.depth way deep)
 
     new_distinct : NoRepeats nat_eq (take b.depth way ++ b.number ∷ [])
@@ -245,7 +245,7 @@ module _ (n : ℕ) (before : ℕ → List ℕ) (way places : List ℕ) (rest : L
       | inr e ↦ subst (λ (k : ℕ). k < n) (eqb-true b.number j e) branch_inside
     ]
 
-    pub few : b.depth < n
+    few : b.depth < n
     few = omega (arith, few_below n (take b.depth way ++ b.number ∷ []) new_distinct new_inside, new_length)
 
     new_placed : (i k : ℕ) → slice_get (take b.depth way ++ b.number ∷ []) i ≡ Some k → slice_get (slice_set places b.number b.depth) k ≡ Some i

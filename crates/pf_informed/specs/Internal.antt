@@ -9,4 +9,5 @@ pub mod Tight
 pub mod Labelled
 pub mod Led
 pub mod Rows
+pub mod Chains
 pub mod Deepening

@@ -8,6 +8,7 @@ mod fringe_lists;
 pub mod functions;
 mod labels;
 pub mod laws;
+mod predecessors;
 mod queue;
 mod search;
 mod tight;

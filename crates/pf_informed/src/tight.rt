@@ -3,9 +3,10 @@
 ghost use Rattle.std.specs.Prelude.{◌≡◌, ◌⊎◌, ◌↔◌, ◌<◌, ◌≤◌, ◌+◌, ◌++◌, ◌∷◌, [], ℕ, List, OnOk, IfOk, IfErr, MatchBool, Contains, length, nat_eq};
 ghost use Rattle.pf_base.specs.Walks.{HasNode};
 ghost use Rattle.pf_core.specs.Numbered.{Grows};
-ghost use Rattle.pf_informed.specs.Internal.Ways.{before_in};
-ghost use Rattle.pf_informed.specs.Internal.Tight.{IsUpTo, AreRows, IsTightStep, IsTight};
+ghost use Rattle.pf_informed.specs.Internal.Chains.{before_in};
+ghost use Rattle.pf_informed.specs.Internal.Tight.{AreRows, IsTightStep, IsTight};
 
+use crate::predecessors::Predecessors;
 use pf_base::{Cost, PathError};
 use pf_core::numbered::GoalGraph;
 use pf_core::slot::Slot;
@@ -15,23 +16,7 @@ use std::alloc::Allocator;
 #[derive(Drop)]
 pub(crate) struct Tight<A: Allocator> {
     pub goals: Vec<usize, A>,
-    pub before: Vec<Vec<usize, A>, A>,
-}
-
-/// So many empty rows.
-fn empty_rows<A: Allocator + Copy>(
-    alloc: A,
-    count: usize,
-) -> Result<Vec<Vec<usize, A>, A>, PathError>
-    ensures len { IfOk result (λ rows. length rows.items ≡ count) }
-    ensures empty { IfOk result (λ rows. (j : ℕ) → before_in rows.items j ≡ []) }
-    ensures refused { IfErr result (λ e. e ≡ PathError.OutOfMemory) }
-{
-    let mut rows = Vec::with_capacity(alloc, count)?;
-    'rows: for _ in 0..count {
-        rows.push(Vec::new(alloc))?;
-    }
-    Ok(rows)
+    pub before: Predecessors<A>,
 }
 
 /// Is the label of `next` that which a step at this price leads to, from a label of this cost?
@@ -54,62 +39,38 @@ fn is_tight<C: Cost>(labels: &[Slot<C>], next: usize, cost: C, price: C) -> bool
     !(sum < label.cost)
 }
 
-/// Is the last number of the row this one?
-fn ends_with(row: &[usize], number: usize) -> bool
-    ensures { MatchBool result ((front : List ℕ) × (row.now ≡ front ++ number ∷ [])) ((front : List ℕ) → ¬ (row.now ≡ front ++ number ∷ [])) }
-{
-    match row.last() {
-        Some(last) => *last == number,
-        None => false,
-    }
-}
-
-/// Puts a number at the end of a row, unless it stands there.
-fn link<A: Allocator>(row: &mut Vec<usize, A>, number: usize) -> Result<(), PathError>
-    requires { IsUpTo number row.old.items }
-    ensures up_to { OnOk result (IsUpTo number row.new.items) }
-    ensures linked { OnOk result ((k : ℕ) → HasNode nat_eq row.new.items k ↔ (HasNode nat_eq row.old.items k ⊎ (k ≡ number))) }
-    ensures refused { IfErr result (λ e. e ≡ PathError.OutOfMemory) }
-{
-    if ends_with(row, number) {
-        return Ok(());
-    }
-    row.push(number)?;
-    Ok(())
-}
-
 /// Puts a number before the end of a step of its row, where the step is tight.
 fn link_step<C: Cost, A: Allocator>(
-    before: &mut Vec<Vec<usize, A>, A>,
+    before: &mut Predecessors<A>,
     labels: &[Slot<C>],
     number: usize,
     cost: C,
     next: usize,
     price: C,
 ) -> Result<(), PathError>
-    requires rows { AreRows number (length labels.now) before.old.items }
-    ensures rows { OnOk result (AreRows number (length labels.now) before.new.items) }
-    ensures linked { OnOk result ((j k : ℕ) → HasNode nat_eq (before_in before.new.items j) k ↔ (HasNode nat_eq (before_in before.old.items j) k
+    requires rows { AreRows number (length labels.now) before.old }
+    ensures rows { OnOk result (AreRows number (length labels.now) before.new) }
+    ensures linked { OnOk result ((j k : ℕ) → HasNode nat_eq (before_in before.new j) k ↔ (HasNode nat_eq (before_in before.old j) k
         ⊎ ((k ≡ number) × (j ≡ next) × IsTightStep C.value labels.now j (C.value cost) price))) }
     ensures refused { IfErr result (λ e. e ≡ PathError.OutOfMemory) }
 {
     if !is_tight(labels, next, cost, price) {
         return Ok(());
     }
-    link(&mut before[next], number)
+    before.link(next, number)
 }
 
 /// Puts a number before each end of a tight step of its row, once.
 fn link_row<C: Cost, A: Allocator>(
-    before: &mut Vec<Vec<usize, A>, A>,
+    before: &mut Predecessors<A>,
     labels: &[Slot<C>],
     number: usize,
     cost: C,
     row: &[(usize, C)],
 ) -> Result<(), PathError>
-    requires rows { AreRows number (length labels.now) before.old.items }
-    ensures rows { OnOk result (AreRows number (length labels.now) before.new.items) }
-    ensures linked { OnOk result ((j k : ℕ) → HasNode nat_eq (before_in before.new.items j) k ↔ (HasNode nat_eq (before_in before.old.items j) k
+    requires rows { AreRows number (length labels.now) before.old }
+    ensures rows { OnOk result (AreRows number (length labels.now) before.new) }
+    ensures linked { OnOk result ((j k : ℕ) → HasNode nat_eq (before_in before.new j) k ↔ (HasNode nat_eq (before_in before.old j) k
         ⊎ ((k ≡ number) × ((c : C) × Contains row.now (j, c) × IsTightStep C.value labels.now j (C.value cost) c)))) }
     ensures refused { IfErr result (λ e. e ≡ PathError.OutOfMemory) }
 {
@@ -132,13 +93,13 @@ fn look<C: Cost, G: GoalGraph<C>, A: Allocator>(
     requires found { length labels.now ≤ G.found graph.old }
     requires graph { (g : G.Graph) × G.explores graph.old g }
     requires someone { (x : G.Node) × G.stands graph.old number x }
-    requires rows { AreRows number (length labels.now) tight.old.before.items }
+    requires rows { AreRows number (length labels.now) tight.old.before }
     ensures grows { Grows (G.found graph.old) (G.found graph.new) (G.stands graph.old) (G.stands graph.new) }
     ensures graph { (g : G.Graph) → G.explores graph.old g → G.explores graph.new g }
-    ensures rows { OnOk result (AreRows (number + 1) (length labels.now) tight.new.before.items) }
+    ensures rows { OnOk result (AreRows (number + 1) (length labels.now) tight.new.before) }
     ensures tight { OnOk result ((g : G.Graph) → G.explores graph.old g
-        → IsTight C.value labels.now (G.step g) (G.passes g) (G.stands graph.old) (C.value best) number tight.old.goals.items (before_in tight.old.before.items)
-        → IsTight C.value labels.now (G.step g) (G.passes g) (G.stands graph.new) (C.value best) (number + 1) tight.new.goals.items (before_in tight.new.before.items)) }
+        → IsTight C.value labels.now (G.step g) (G.passes g) (G.stands graph.old) (C.value best) number tight.old.goals.items (before_in tight.old.before)
+        → IsTight C.value labels.now (G.step g) (G.passes g) (G.stands graph.new) (C.value best) (number + 1) tight.new.goals.items (before_in tight.new.before)) }
     ensures refused { IfErr result (λ e. e ≡ PathError.OutOfMemory) }
 {
     let Some(label) = labels[number].label() else {
@@ -166,14 +127,14 @@ pub(crate) fn tight_edges<C: Cost, G: GoalGraph<C>, A: Allocator + Copy>(
     requires graph { (g : G.Graph) × G.explores graph.old g }
     requires someone { (k : ℕ) → k < length labels.now → (x : G.Node) × G.stands graph.old k x }
     ensures grows { Grows (G.found graph.old) (G.found graph.new) (G.stands graph.old) (G.stands graph.new) }
-    ensures wide { IfOk result (λ tight. length tight.before.items ≡ length labels.now) }
+    ensures wide { IfOk result (λ tight. length tight.before ≡ length labels.now) }
     ensures tight { IfOk result (λ tight. (g : G.Graph) → G.explores graph.old g
-        → G.explores graph.new g × IsTight C.value labels.now (G.step g) (G.passes g) (G.stands graph.new) (C.value best) (length labels.now) tight.goals.items (before_in tight.before.items)) }
+        → G.explores graph.new g × IsTight C.value labels.now (G.step g) (G.passes g) (G.stands graph.new) (C.value best) (length labels.now) tight.goals.items (before_in tight.before)) }
     ensures refused { IfErr result (λ e. e ≡ PathError.OutOfMemory) }
 {
     let mut tight = Tight {
         goals: Vec::new(alloc),
-        before: empty_rows(alloc, labels.len())?,
+        before: Predecessors::new(alloc, labels.len())?,
     };
     let mut row = Vec::new(alloc);
     'numbers: for number in 0..labels.len() {

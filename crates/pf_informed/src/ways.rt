@@ -4,8 +4,10 @@ ghost use Rattle.std.specs.Prelude.{◌≡◌, ◌≢◌, ◌<◌, ◌≤◌, �
 ghost use Rattle.pf_base.specs.Walks.{HasNode};
 ghost use Rattle.pf_core.specs.declared.depth_first.Branch.{Branch};
 ghost use Rattle.pf_core.specs.DepthFirst.{branches_at};
-ghost use Rattle.pf_informed.specs.Internal.Ways.{AreWays, AreWaysIn, IsWhole, before_in, is_in, ways_left, ways_to_any};
+ghost use Rattle.pf_informed.specs.Internal.Chains.{before_in};
+ghost use Rattle.pf_informed.specs.Internal.Ways.{AreWays, AreWaysIn, IsWhole, is_in, ways_left, ways_to_any};
 
+use crate::predecessors::Predecessors;
 use pf_base::PathError;
 use pf_core::depth_first::Branch;
 use std::alloc::Allocator;
@@ -15,7 +17,7 @@ use std::alloc::Allocator;
 #[derive(Clone, Drop)]
 pub(crate) struct Ways<A: Allocator> {
     /// The numbers before each number.
-    pub before: Vec<Vec<usize, A>, A>,
+    pub before: Predecessors<A>,
     /// The way so far, from a goal on.
     pub way: Vec<usize, A>,
     /// Where each number stands on the way, if it does.
@@ -42,16 +44,12 @@ fn put_branches<A: Allocator>(waiting: &mut Vec<Branch, A>, numbers: &[usize], d
 
 impl<A: Allocator + Copy> Ways<A> {
     /// All ways to these goals, none of which was found yet.
-    pub fn new(
-        alloc: A,
-        before: Vec<Vec<usize, A>, A>,
-        goals: &[usize],
-    ) -> Result<Ways<A>, PathError>
-        requires below { (k j : ℕ) → HasNode nat_eq (before_in before.items k) j → j < length before.items }
-        requires goals { (j : ℕ) → HasNode nat_eq goals.now j → j < length before.items }
-        ensures before { IfOk result (λ ways. ways.before.items ≡ before.items) }
-        ensures ways { IfOk result (λ ways. AreWays (length before.items) (before_in before.items) ways.way.items ways.places.items ways.waiting.items) }
-        ensures left { IfOk result (λ ways. ways_left (before_in before.items) (length before.items) ways.way.items ways.waiting.items ≡ ways_to_any before.items goals.now) }
+    pub fn new(alloc: A, before: Predecessors<A>, goals: &[usize]) -> Result<Ways<A>, PathError>
+        requires below { (k j : ℕ) → HasNode nat_eq (before_in before k) j → j < length before }
+        requires goals { (j : ℕ) → HasNode nat_eq goals.now j → j < length before }
+        ensures before { IfOk result (λ ways. ways.before ≡ before) }
+        ensures ways { IfOk result (λ ways. AreWays (length before) (before_in before) ways.way.items ways.places.items ways.waiting.items) }
+        ensures left { IfOk result (λ ways. ways_left (before_in before) (length before) ways.way.items ways.waiting.items ≡ ways_to_any before goals.now) }
         ensures refused { IfErr result (λ e. e ≡ PathError.OutOfMemory) }
     {
         let mut places = Vec::new(alloc);
@@ -80,7 +78,7 @@ impl<A: Allocator + Copy> Ways<A> {
     /// Goes on to the number of a branch. Where memory is refused, all stays.
     fn enter(&mut self, branch: Branch) -> Result<(), PathError>
         requires inside { branch.number < length self.old.places.items }
-        ensures before { self.new.before.items ≡ self.old.before.items }
+        ensures before { self.new.before ≡ self.old.before }
         ensures waiting { self.new.waiting.items ≡ self.old.waiting.items }
         ensures way { OnOk result (self.new.way.items ≡ take branch.depth self.old.way.items ++ branch.number ∷ []) }
         ensures places { OnOk result (self.new.places.items ≡ slice_set self.old.places.items branch.number branch.depth) }
@@ -97,21 +95,24 @@ impl<A: Allocator + Copy> Ways<A> {
     /// Puts the numbers before that of the last branch in its place. Where memory is refused, all stays.
     fn open(&mut self, branch: Branch) -> Result<(), PathError>
         requires last { (rest : List Branch) × (self.old.waiting.items ≡ rest ++ branch ∷ []) }
-        requires inside { branch.number < length self.old.before.items }
-        requires few { branch.depth < length self.old.before.items }
-        ensures before { self.new.before.items ≡ self.old.before.items }
+        requires inside { branch.number < length self.old.before }
+        requires few { branch.depth < length self.old.way.items }
+        ensures before { self.new.before ≡ self.old.before }
         ensures way { self.new.way.items ≡ self.old.way.items }
         ensures places { self.new.places.items ≡ self.old.places.items }
         ensures waiting { OnOk result ((rest : List Branch) → self.old.waiting.items ≡ rest ++ branch ∷ []
-            → self.new.waiting.items ≡ rest ++ branches_at (branch.depth + 1) (before_in self.old.before.items branch.number)) }
+            → self.new.waiting.items ≡ rest ++ branches_at (branch.depth + 1) (before_in self.old.before branch.number)) }
         ensures stays { OnErr result (self.new.waiting.items ≡ self.old.waiting.items) }
         ensures refused { IfErr result (λ e. e ≡ PathError.OutOfMemory) }
     {
-        let numbers = &self.before[branch.number];
-        self.waiting.reserve(numbers.len())?;
         self.waiting.pop();
-        put_branches(&mut self.waiting, numbers, branch.depth + 1);
-        Ok(())
+        let put = self
+            .before
+            .put_branches(branch.number, branch.depth + 1, &mut self.waiting);
+        if put.is_err() && self.waiting.push(branch).is_err() {
+            unreachable!();
+        }
+        put
     }
 
     /// The branch that waits last.
@@ -123,7 +124,7 @@ impl<A: Allocator + Copy> Ways<A> {
 
     /// Takes the last branch out.
     pub fn drop_branch(&mut self)
-        ensures before { self.new.before.items ≡ self.old.before.items }
+        ensures before { self.new.before ≡ self.old.before }
         ensures way { self.new.way.items ≡ self.old.way.items }
         ensures places { self.new.places.items ≡ self.old.places.items }
         ensures waiting { (rest : List Branch) (last : Branch) → self.old.waiting.items ≡ rest ++ last ∷ [] → self.new.waiting.items ≡ rest }
@@ -135,12 +136,12 @@ impl<A: Allocator + Copy> Ways<A> {
     /// memory is refused, the same ways are left.
     pub fn find(&mut self) -> Result<bool, PathError>
         requires { AreWaysIn self.old }
-        ensures before { self.new.before.items ≡ self.old.before.items }
-        ensures kept { AreWays (length self.old.before.items) (before_in self.old.before.items) self.new.way.items self.new.places.items self.new.waiting.items }
-        ensures left { ways_left (before_in self.old.before.items) (length self.old.before.items) self.new.way.items self.new.waiting.items
-            ≡ ways_left (before_in self.old.before.items) (length self.old.before.items) self.old.way.items self.old.waiting.items }
+        ensures before { self.new.before ≡ self.old.before }
+        ensures kept { AreWays (length self.old.before) (before_in self.old.before) self.new.way.items self.new.places.items self.new.waiting.items }
+        ensures left { ways_left (before_in self.old.before) (length self.old.before) self.new.way.items self.new.waiting.items
+            ≡ ways_left (before_in self.old.before) (length self.old.before) self.old.way.items self.old.waiting.items }
         ensures whole { IfOk result (λ found. MatchBool found
-            (IsWhole (before_in self.old.before.items) (length self.old.before.items) self.new.way.items self.new.waiting.items)
+            (IsWhole (before_in self.old.before) (length self.old.before) self.new.way.items self.new.waiting.items)
             (self.new.waiting.items ≡ [])) }
         ensures idle { self.old.waiting.items ≡ [] → result ≡ Ok false }
         ensures waits { OnErr result (self.new.waiting.items ≢ []) }

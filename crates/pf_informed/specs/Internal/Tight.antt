@@ -1,21 +1,21 @@
 -- The numbers before each number on cheapest ways.
-use Rattle.std.specs.Prelude.{◌≡◌, ◌⊎◌, ◌≤ℤ◌, ◌+ℤ◌, ◌<◌, ◌++◌, ◌∷◌, [], ℕ, ℤ, Bool, true, false, List, Vec, length, nat_eq}
+use Rattle.std.specs.Prelude.{◌≡◌, ◌⊎◌, ◌≤ℤ◌, ◌+ℤ◌, ◌<◌, ◌∷◌, ℕ, ℤ, Bool, true, false, List, length, nat_eq}
 use Rattle.pf_base.specs.Walks.{HasNode, NoRepeats}
 use Rattle.pf_core.specs.declared.labels.Label.{Label}
 use Rattle.pf_core.specs.Labels.{Labels, HasLabel}
-use Rattle.pf_informed.specs.Internal.Ways.{before_in}
+use Rattle.pf_informed.specs.Internal.Chains.{before_in}
 
 -- each of the numbers is below n
 abbrev pub AllBelow : ℕ → List ℕ → Type 0
 AllBelow n numbers = (k : ℕ) → HasNode nat_eq numbers k → k < n
 
--- No number stands twice, and each is below n, save that the last one may be n.
+-- No number stands twice, and each is below n, save that the first one may be n.
 pub record IsUpTo (n : ℕ) (numbers : List ℕ) : Type 0 where
   pub once : NoRepeats nat_eq numbers
-  pub low : AllBelow n numbers ⊎ ((front : List ℕ) × (numbers ≡ front ++ n ∷ []) × AllBelow n front)
+  pub low : AllBelow n numbers ⊎ ((rest : List ℕ) × (numbers ≡ n ∷ rest) × AllBelow n rest)
 
--- so many rows, in each of which no number stands twice, and each is below n, save that the last one may be n
-pub record AreRows {Z : Type 0} (n count : ℕ) (rows : List (Vec ℕ Z)) : Type 0 where
+-- so many rows, in each of which no number stands twice, and each is below n, save that the first one may be n
+pub record AreRows (n count : ℕ) (rows : List (List ℕ)) : Type 0 where
   pub wide : length rows ≡ count
   pub up_to : (j : ℕ) → IsUpTo n (before_in rows j)
 

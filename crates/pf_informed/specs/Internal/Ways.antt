@@ -6,6 +6,7 @@ use Rattle.pf_base.specs.Answers.{SameNodes}
 use Rattle.pf_informed.specs.CheapestPaths.{PathsToCome}
 use Rattle.pf_base.specs.Walks.{HasNode, NoRepeats}
 use Rattle.pf_core.specs.declared.depth_first.Branch.{Branch}
+use Rattle.pf_informed.specs.Internal.Chains.{before_in}
 use Rattle.pf_informed.specs.declared.ways.Ways.{Ways}
 
 -- all items that f gives, those of the last element first
@@ -16,14 +17,6 @@ each_of f (x ∷ xs) = each_of f xs ++ f x
 -- the number is one of these
 abbrev pub is_in : List ℕ → ℕ → Bool
 is_in numbers k = list_any (λ (j : ℕ). nat_eq j k) numbers
-
-abbrev pub items_or_none : {Z : Type 0} → Option (Vec ℕ Z) → List ℕ
-items_or_none None = []
-items_or_none (Some row) = row.items
-
--- the numbers before number k
-abbrev pub before_in : {Z : Type 0} → List (Vec ℕ Z) → ℕ → List ℕ
-before_in rows k = items_or_none (slice_get rows k)
 
 -- the ways that go through v, where `on` are those that go on behind it: none where v stands on the path, and one where v is 0
 abbrev pub ways_at : List ℕ → ℕ → List (List ℕ) → List (List ℕ)
@@ -52,8 +45,8 @@ module _ (before : ℕ → List ℕ) where
   tries_left n waiting = sum_by (λ (b : Branch). tries (n - b.depth) b.number) waiting
 
 -- the ways to any of these goals, over the numbers before each number
-abbrev pub ways_to_any : {Z : Type 0} → List (Vec ℕ Z) → List ℕ → List (List ℕ)
-ways_to_any rows goals = each_of (ways_to (before_in rows) (length rows)) goals
+abbrev pub ways_to_any : List (List ℕ) → List ℕ → List (List ℕ)
+ways_to_any before goals = each_of (ways_to (before_in before) (length before)) goals
 
 -- no branch waits
 abbrev pub nothing_waits : List Branch → Bool
@@ -94,11 +87,11 @@ paths_of keys ks = map (nodes_of keys) ks
 
 -- where a walk through these ways stands
 abbrev pub AreWaysIn : {Z : Type 0} → Ways Z → Type 0
-AreWaysIn w = AreWays (length w.before.items) (before_in w.before.items) w.way.items w.places.items w.waiting.items
+AreWaysIn w = AreWays (length w.before) (before_in w.before) w.way.items w.places.items w.waiting.items
 
 -- the paths that are still to be found
 abbrev pub paths_in : {N Z : Type 0} → List N → Ways Z → List (List N)
-paths_in keys w = paths_of keys (ways_left (before_in w.before.items) (length w.before.items) w.way.items w.waiting.items)
+paths_in keys w = paths_of keys (ways_left (before_in w.before) (length w.before) w.way.items w.waiting.items)
 
 -- what a step of an iterator that was not refused before gives, and how it leaves it: a path, no path, or a refusal
 module _ {N Z : Type 0} (eq : N → N → Bool) where

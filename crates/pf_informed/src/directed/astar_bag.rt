@@ -41,7 +41,7 @@ impl<N: Eq + Hash, A: Allocator> Model for AstarSolution<N, A> {
 
     ghost view = { λ s. record { left = paths_in s.nodes.keys s.ways; refused = s.refused; ended = nothing_waits s.ways.waiting.items } };
 
-    ghost invariant = { λ s. AreWaysIn s.ways × (length s.ways.before.items ≤ length s.nodes.keys) };
+    ghost invariant = { λ s. AreWaysIn s.ways × (length s.ways.before ≤ length s.nodes.keys) };
 }
 
 /// A clone has the paths to come that the original has, in the same order, of clones of the nodes; it
@@ -148,7 +148,7 @@ where
         IfOk result (AreCheapestCleanPathsOrNone N.eq edges (start ∷ []) test (paths_in graph.new.discovery.nodes.keys) C.value)) }
 
     ensures ways { IfOk result (λ answer. MatchOption answer ⊤
-        (λ found. AreWaysIn found.0 × (length found.0.before.items ≤ length graph.new.discovery.nodes.keys))) }
+        (λ found. AreWaysIn found.0 × (length found.0.before ≤ length graph.new.discovery.nodes.keys))) }
 
     ensures overflow { OfLedSearch N.eq C.value S.answers T.answers H.answers graph.old estimate.old search.old.estimates.items (λ start edges test least.
         result ≡ Err PathError.CostOverflow → MayOverflow N.eq edges (start ∷ []) test least C.fits) }
@@ -174,7 +174,7 @@ where
     C: Copy,
     A: Allocator,
     requires { IfOk found (λ answer. MatchOption answer ⊤
-        (λ found. AreWaysIn found.0 × (length found.0.before.items ≤ length nodes.keys))) }
+        (λ found. AreWaysIn found.0 × (length found.0.before ≤ length nodes.keys))) }
 
     ensures all { (value : C → ℤ) (start : N) (edges : N → List (N × ℤ)) (test : N → Bool)
         → IfOk found (AreCheapestCleanPathsOrNone N.eq edges (start ∷ []) test (paths_in nodes.keys) value)

@@ -3,7 +3,7 @@ use Rattle.std.specs.Prelude.{◌⊎◌, Contains}
 use Rattle.std.proofs.lemmas.List.{take_all}
 use Rattle.pf_base.proofs.ListLemmas.{Contains-take, Contains-take_more, Contains-take_here}
 use Rattle.pf_informed.specs.Internal.Tight.{IsTightStep}
-use Rattle.pf_informed.specs.Internal.Ways.{before_in}
+use Rattle.pf_informed.specs.Internal.Chains.{before_in}
 use Rattle.pf_informed.proofs.Outcomes.{refused_as, on_refused}
 use Rattle.pf_informed.proofs.TightLemmas.{linked_start, linked_more}
 use Rattle.pf_informed.proofs.tight.link_row.Goals as goal
@@ -11,7 +11,7 @@ use Rattle.pf_informed.proofs.tight.link_row.Goals as goal
 pub steps-init : goal.steps-init
 steps-init g c = record {
   rows = c.requires.rows;
-  linked = linked_start (before_in c.args.before.now.items) c.args.number (λ j (d : g.row.C.Denot). IsTightStep g.C.Number.value c.args.labels.now j (g.C.Number.value c.args.cost) d);
+  linked = linked_start (before_in c.args.before.now) c.args.number (λ j (d : g.row.C.Denot). IsTightStep g.C.Number.value c.args.labels.now j (g.C.Number.value c.args.cost) d);
 }
 
 pub steps-preserved : goal.steps-preserved
@@ -22,7 +22,7 @@ steps-preserved g c =
     let item = c.steps-item.result in
     record {
       rows = e.rows;
-      linked = linked_more (before_in c.args.before.now.items) (before_in c.steps.before.items) (before_in c.link_step.new.before.items) c.args.number (λ j (d : g.row.C.Denot). IsTightStep g.C.Number.value c.args.labels.now j (g.C.Number.value c.args.cost) d)
+      linked = linked_more (before_in c.args.before.now) (before_in c.steps.before) (before_in c.link_step.new.before) c.args.number (λ j (d : g.row.C.Denot). IsTightStep g.C.Number.value c.args.labels.now j (g.C.Number.value c.args.cost) d)
           (take at c.args.row.now) (take (at + 1) c.args.row.now) item (λ x h. Contains-take c.args.row.now at x h) (Contains-take_here c.args.row.now at item c.steps-test.true c.steps-item.is)
           (λ x h. elim (Contains-take_more c.args.row.now at item x h) as (λ _. Contains (take at c.args.row.now) x ⊎ (item ≡ x)) [ inl k ↦ inl k | inr q ↦ inr (c.steps-item.is ∙ q) ]) i.linked e.linked;
     }

@@ -7,7 +7,7 @@ use Rattle.pf_core.proofs.LabelLemmas.{label_is}
 use Rattle.pf_base.proofs.ListLemmas.{at_place}
 use Rattle.pf_base.proofs.Outcomes.{on_ok}
 use Rattle.pf_core.proofs.SearchLemmas.{Grows-trans}
-use Rattle.pf_informed.specs.Internal.Ways.{before_in}
+use Rattle.pf_informed.specs.Internal.Chains.{before_in}
 use Rattle.pf_informed.proofs.Outcomes.{refused_as, on_refused, Grows-refl}
 use Rattle.pf_informed.proofs.TightLemmas.{less_of, not_less_of, rows_next, tight_grows, tight_skipped, tight_goal, tight_row, both_ok}
 use Rattle.pf_informed.proofs.WiderLemmas.{no_label}
@@ -110,7 +110,7 @@ returns g c = record {
       tight_row _ _ _ _ _ _ c.args.number _ _ (tight_grows _ _ _ _ _ _ _ _ _ grow c.requires.found c.args.number _ _ t) c.in-Some.label here cheap
       (λ y s. sym (told.1 y (grow.back c.args.number y inside s)) ∙ c.if-is_goal.false) row.0
       (λ y s. row.4 h told.0 y (first.stays c.args.number y (grow.back c.args.number y inside s)))
-      (let a = c.requires.someone in (a.0, grow.stays c.args.number a.0 a.1)) (before_in c.link_row.new.before.items) linked (λ j. (w.0.up_to j).once));
+      (let a = c.requires.someone in (a.0, grow.stays c.args.number a.0 a.1)) (before_in c.link_row.new.before) linked (λ j. (w.0.up_to j).once));
   grows = Grows-trans _ _ _ _ _ _ c.is_goal.ensures.grows c.in_ok-expand.ensures.grows;
   graph = λ h x. c.in_ok-expand.ensures.graph h (c.is_goal.ensures.graph h x).0;
   refused = c.link_row.ensures.refused;

@@ -1,6 +1,6 @@
 use Rattle.std.proofs.Common.{◌≡◌, ◌+◌, ◌≤◌, ◌<◌, subst, ℕ, length, List, sym, inl}
 use Rattle.pf_core.proofs.SearchLemmas.{Grows-trans}
-use Rattle.pf_informed.specs.Internal.Ways.{before_in}
+use Rattle.pf_informed.specs.Internal.Chains.{before_in}
 use Rattle.pf_informed.specs.Internal.Tight.{IsTight, IsUpTo}
 use Rattle.pf_informed.proofs.Outcomes.{refused_as, if_refused, Grows-refl}
 use Rattle.pf_informed.proofs.TightLemmas.{tight_start}
@@ -34,12 +34,12 @@ numbers-preserved g c =
       tight = λ h x. let t = i.tight h x in (e.graph h t.0, e.tight h t.0 t.1);
     }
 
-pub returns-in_err-empty_rows : goal.returns-in_err-empty_rows
-returns-in_err-empty_rows g c = record {
+pub returns-in_err-new : goal.returns-in_err-new
+returns-in_err-new g c = record {
   grows = Grows-refl _ _;
   wide = if_refused _ c.from_residual.result _ c.from_residual.ensures.1;
   tight = if_refused _ c.from_residual.result _ c.from_residual.ensures.1;
-  refused = refused_as _ c.from_residual.result _ c.from_residual.ensures.1 c.in_err-empty_rows.ensures.refused;
+  refused = refused_as _ c.from_residual.result _ c.from_residual.ensures.1 c.in_err-new.ensures.refused;
 }
 
 pub returns : goal.returns
@@ -48,7 +48,7 @@ returns g c = record {
       let i = c.numbers.invariant in
       let past : length c.args.labels.now ≤ c.numbers.number = c.numbers-test.false in
       let all : c.numbers.number ≡ length c.args.labels.now = at_the_end _ _ past i.few in
-      ((i.tight h x).0, subst (λ (n : ℕ). IsTight g.C.Number.value c.args.labels.now (g.G.NumberedGraph.step h) (g.G.NumberedGraph.passes h) (g.G.NumberedGraph.stands c.numbers.graph) (g.C.Number.value c.args.best) n c.numbers.tight.goals.items (before_in c.numbers.tight.before.items)) all (i.tight h x).1);
+      ((i.tight h x).0, subst (λ (n : ℕ). IsTight g.C.Number.value c.args.labels.now (g.G.NumberedGraph.step h) (g.G.NumberedGraph.passes h) (g.G.NumberedGraph.stands c.numbers.graph) (g.C.Number.value c.args.best) n c.numbers.tight.goals.items (before_in c.numbers.tight.before)) all (i.tight h x).1);
   grows = c.numbers.invariant.grows;
   wide = c.numbers.invariant.rows.wide;
   refused = tt;
@@ -65,7 +65,7 @@ look-requires-clause-found g c = most_more _ _ _ c.requires.found c.numbers.inva
 
 pub numbers-init : goal.numbers-init
 numbers-init g c =
-    let e = c.in_ok-empty_rows.ensures in
+    let e = c.in_ok-new.ensures in
     record {
       few = none_more _;
       rows = record { wide = e.len; up_to = λ j. subst (λ (xs : List ℕ). IsUpTo 0 xs) (sym (e.empty j)) (record { once = tt; low = inl (λ k q. absurd q) }) };

@@ -1,7 +1,7 @@
 use Rattle.std.proofs.Common.{◌≡◌, ◌∙◌, Err, ap, length, ◌≤◌, refl, inl, ℕ, ◌<◌, subst, sym}
 use Rattle.pf_core.specs.NodeLaws.{StandsFor-one}
 use Rattle.pf_core.proofs.UnitLemmas.{begins_all}
-use Rattle.pf_informed.specs.Internal.Ways.{before_in}
+use Rattle.pf_informed.specs.Internal.Chains.{before_in}
 use Rattle.pf_informed.proofs.BagLemmas.{all_paths}
 use Rattle.pf_informed.proofs.Outcomes.{refused_as, if_refused, no_overflow, ok_is_no_error, same_error}
 use Rattle.pf_informed.proofs.Bounds.{at_most_equal}
@@ -64,11 +64,11 @@ returns g c = record {
       let labels = c.label_cheapest.new.search.labels.items in
       let enough : length labels ≤ length keys = subst (λ (n : ℕ). n ≤ length keys) (sym wide.0) grow.more in
       let tight = rw c.deref.ensures.value at told.1 in
-      let same : length c.in_ok-tight.tight.before.items ≡ length labels = c.in_ok-tight.ensures.wide ∙ ap length c.deref.ensures.value in
+      let same : length c.in_ok-tight.tight.before ≡ length labels = c.in_ok-tight.ensures.wide ∙ ap length c.deref.ensures.value in
       let e = c.in_ok-ways.ensures in
       rw (e.before, e.left, same, c.deref-2.ensures.value)
       (all_paths eq laws start edges test v.0.explores.alike v.0.costs g.C.Number.value before keys (length before) (length keys) grow (StandsFor-one eq laws keys x.distinct) labels enough (g.C.Number.value c.in-Some.best) v.1
-      c.in_ok-tight.tight.goals.items (before_in c.in_ok-tight.tight.before.items) tight);
+      c.in_ok-tight.tight.goals.items (before_in c.in_ok-tight.tight.before) tight);
   ways =
       let e = c.in_ok-ways.ensures in
       let w = rw c.in-Some.is at c.in_ok-best.ensures.wide in

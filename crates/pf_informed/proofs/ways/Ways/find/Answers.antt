@@ -1,5 +1,5 @@
 use Rattle.std.proofs.Common.{rules, ◌≡◌, ◌≢◌, ◌∙◌, sym, ap, arith, length}
-use Rattle.pf_informed.proofs.WaysLemmas.{some_wait, rising_last, branch_inside, left_dropped, kept_dropped, fewer_dropped, few, kept_same, left_same, whole, kept_opened, left_opened, fewer_opened}
+use Rattle.pf_informed.proofs.WaysLemmas.{some_wait, rising_last, branch_inside, left_dropped, kept_dropped, fewer_dropped, new_length, kept_same, left_same, whole, kept_opened, left_opened, fewer_opened}
 use Rattle.pf_informed.proofs.Outcomes.{on_error}
 use Rattle.pf_informed.proofs.ways.Ways.find.Goals as goal
 
@@ -90,7 +90,7 @@ open-requires-clause-few g c =
     let a = rw s.1 at i.kept in
     let e = c.in_ok-enter.ensures in
     let off = sym c.is_on_way.ensures ∙ c.if-is_on_way.false in
-    omega (arith, ap length (e.before ∙ i.before), few _ _ _ _ s.0 c.in-Some.branch a off)
+    omega (arith, ap length e.way, new_length _ _ _ _ s.0 c.in-Some.branch a off)
 
 pub branches-smaller : goal.branches-smaller
 branches-smaller g c =

@@ -1,20 +1,20 @@
 use Rattle.std.proofs.Common.{rules, ◌≡◌, length, refl}
 use Rattle.pf_core.specs.DepthFirst.{branches_at}
-use Rattle.pf_informed.specs.Internal.Ways.{before_in}
+use Rattle.pf_informed.specs.Internal.Chains.{before_in}
 use Rattle.pf_informed.proofs.Outcomes.{refused_as, if_refused}
 use Rattle.pf_informed.proofs.WaysLemmas.{start_ways, start_left}
 use Rattle.pf_informed.proofs.ways.Ways.new.Goals as goal
 
 pub returns-clause-ways : goal.returns-clause-ways
 returns-clause-ways g c =
-    let wide : length c.resize.new.self.items ≡ length c.args.before.items = search rules in
+    let wide : length c.resize.new.self.items ≡ length c.args.before = search rules in
     let put : c.put_branches.new.waiting.items ≡ branches_at 0 c.args.goals.now = search rules in
-    rw put (start_ways (length c.args.before.items) (before_in c.args.before.items) _ c.resize.new.self.items c.args.goals.now c.new.ensures.items c.requires.below wide c.requires.goals)
+    rw put (start_ways (length c.args.before) (before_in c.args.before) _ c.resize.new.self.items c.args.goals.now c.new.ensures.items c.requires.below wide c.requires.goals)
 
 pub returns-clause-left : goal.returns-clause-left
 returns-clause-left g c =
     let put : c.put_branches.new.waiting.items ≡ branches_at 0 c.args.goals.now = search rules in
-    rw put (start_left (length c.args.before.items) (before_in c.args.before.items) _ c.args.goals.now c.new.ensures.items)
+    rw put (start_left (length c.args.before) (before_in c.args.before) _ c.args.goals.now c.new.ensures.items)
 
 pub returns-clause-before : goal.returns-clause-before
 returns-clause-before g c = refl
