@@ -8,12 +8,11 @@ use Rattle.pf_core.specs.Nodes.{NodeGraph, StandsFor, IsStep}
 use Rattle.pf_core.specs.Numbered.{ListsSteps, Grows}
 use Rattle.pf_base.proofs.ListLemmas.{none_in, get-append}
 use Rattle.pf_core.proofs.NodeLemmas.{eq-sym, eq-trans, HasEdge-same}
-use Rattle.pf_core.proofs.SearchLemmas.{Grows-trans}
+use Rattle.pf_core.proofs.SearchLemmas.{Grows-trans, Grows-refl}
 use Rattle.pf_informed.specs.declared.directed.idastar.known.Known.{Known}
 use Rattle.pf_informed.specs.declared.directed.idastar.rows.Span.{Span}
 use Rattle.pf_informed.specs.Internal.Estimated.{IsEstimated}
 use Rattle.pf_informed.specs.Internal.Rows.{IsCheapestOf, HasSpan, IsIn, IsCheapStep, IsTable, HasRows, IsWhole, KnowsMore}
-use Rattle.pf_informed.proofs.Outcomes.{Grows-refl}
 
 pub get_left : {A : Type 0} (xs ys : List A) (i : ℕ) → i < length xs → slice_get (xs ++ ys) i ≡ slice_get xs i
 get_left [] ys i h = absurd (omega (arith, h))

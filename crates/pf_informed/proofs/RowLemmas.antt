@@ -4,9 +4,8 @@ use Rattle.std.specs.Prelude.{◌≤ℤ◌, ◌⊎◌, Contains, slice_get, slic
 use Rattle.std.proofs.lemmas.Int.{ints}
 use Rattle.std.proofs.lemmas.Option.{slice_get_within}
 use Rattle.std.proofs.lemmas.List.Elements.{Contains-append_left, Contains-push}
-use Rattle.pf_base.proofs.ListLemmas.{Contains-append_one, get_set, get-append}
+use Rattle.pf_base.proofs.ListLemmas.{Contains-append_one, get_set, get-append, get_push}
 use Rattle.pf_informed.specs.Internal.Rows.{IsCheapestOf}
-use Rattle.pf_informed.proofs.EstimateLemmas.{get_pushed}
 
 pub get_last : {A : Type 0} (xs : List A) (x : A) → slice_get (xs ++ x ∷ []) (length xs) ≡ Some x
 get_last [] x = refl
@@ -117,17 +116,17 @@ module _ {C : Type 0} (value : C → ℤ) (row : List (ℕ × C)) (places : List
   pub cheapest_pushed : (places' : List ℕ) → ((i : ℕ) (c : C) → slice_get row i ≡ Some (n, c) → ¬ (slice_get places n ≡ Some i)) → slice_get places' n ≡ Some (length row)
       → ((k i : ℕ) → ¬ (k ≡ n) → slice_get places k ≡ Some i → slice_get places' k ≡ Some i) → IsCheapestOf value (row ++ (n, p) ∷ []) places' (steps ++ (n, p) ∷ [])
   cheapest_pushed places' fresh placed others = record {
-    placed = λ k j c a. elim (get_pushed row (n, p) k (j, c) a) as (λ _. slice_get places' j ≡ Some k) [
+    placed = λ k j c a. elim (get_push row (n, p) k (j, c) a) as (λ _. slice_get places' j ≡ Some k) [
       | inl q ↦ others j k (other k j c q) (h.placed k j c q)
       | inr q ↦
           let number = number_is q.1 in
           subst (λ (m : ℕ). slice_get places' m ≡ Some k) number (placed ∙ ap Some (sym q.0))
     ];
-    from = λ k j c a. elim (get_pushed row (n, p) k (j, c) a) as (λ _. Contains (steps ++ (n, p) ∷ []) (j, c)) [
+    from = λ k j c a. elim (get_push row (n, p) k (j, c) a) as (λ _. Contains (steps ++ (n, p) ∷ []) (j, c)) [
       | inl q ↦ Contains-append_left steps ((n, p) ∷ []) (j, c) (h.from k j c q)
       | inr q ↦ subst (λ (s : ℕ × C). Contains (steps ++ (n, p) ∷ []) s) q.1 (Contains-push steps (n, p))
     ];
-    least = λ k j c e a m. elim (get_pushed row (n, p) k (j, c) a) as (λ _. value c ≤ℤ value e) [
+    least = λ k j c e a m. elim (get_push row (n, p) k (j, c) a) as (λ _. value c ≤ℤ value e) [
       | inl q ↦ elim (Contains-append_one steps (n, p) (j, e) m) as (λ _. value c ≤ℤ value e) [
         | inl r ↦ h.least k j c e q r
         | inr r ↦ absurd (other k j c q (sym (number_is r)))

@@ -8,11 +8,10 @@ use borrow.Author.Tests.{eqb-true}
 use Rattle.pf_base.specs.Walks.{HasNode, NoRepeats}
 use Rattle.pf_core.specs.declared.depth_first.Branch.{Branch}
 use Rattle.pf_core.specs.DepthFirst.{branches_at}
-use Rattle.pf_base.proofs.ListLemmas.{bool_dec, take_get, get_take, reverse-cons, Contains-head, Contains-tail, Contains-cases, none_in, get_set}
+use Rattle.pf_base.proofs.ListLemmas.{bool_dec, take_get, get_take, reverse-cons, Contains-head, Contains-tail, Contains-cases, none_in, get_set, get_push}
 use Rattle.pf_core.proofs.PathLemmas.{HasNode-append_cases, NoRepeats-append}
 use Rattle.pf_informed.specs.Internal.Ways.{each_of, is_in, ways, ways_to, tries, ways_left, tries_left, nothing_waits, IsRising, AreWays, IsWhole}
 use Rattle.pf_informed.proofs.PathUp.{few_below, HasNode-reverse}
-use Rattle.pf_informed.proofs.EstimateLemmas.{get_pushed}
 
 -- ---- items that are given in turn
 module _ {A B : Type 0} where
@@ -249,7 +248,7 @@ module _ (n : ℕ) (before : ℕ → List ℕ) (way places : List ℕ) (rest : L
     few = omega (arith, few_below n (take b.depth way ++ b.number ∷ []) new_distinct new_inside, new_length)
 
     new_placed : (i k : ℕ) → slice_get (take b.depth way ++ b.number ∷ []) i ≡ Some k → slice_get (slice_set places b.number b.depth) k ≡ Some i
-    new_placed i k h = elim (get_pushed (take b.depth way) b.number i k h) as (λ _. slice_get (slice_set places b.number b.depth) k ≡ Some i) [
+    new_placed i k h = elim (get_push (take b.depth way) b.number i k h) as (λ _. slice_get (slice_set places b.number b.depth) k ≡ Some i) [
       | inl old ↦ elim (get_set places b.number k b.depth (omega (arith, branch_inside, a.wide))) as (λ _. slice_get (slice_set places b.number b.depth) k ≡ Some i) [
         | inl e ↦ absurd (apart (at_HasNode (take b.depth way) i b.number (subst (λ (m : ℕ). slice_get (take b.depth way) i ≡ Some m) e.0 old)))
         | inr e ↦ e.1 ∙ a.placed i k (take_get b.depth way i k old)

@@ -1,5 +1,5 @@
 use Rattle.std.proofs.Common.{◌≡◌, ◌∙◌, Option, None, Some, is_some, true≢false, false, sym, ap, subst, refl, inl, inr}
-use Rattle.pf_informed.proofs.Outcomes.{Grows-refl}
+use Rattle.pf_core.proofs.SearchLemmas.{Grows-refl}
 use Rattle.pf_informed.proofs.cheapest_labels.best_with.Goals as goal
 
 none_is : {A : Type 0} (o : Option A) → is_some o ≡ false → o ≡ None

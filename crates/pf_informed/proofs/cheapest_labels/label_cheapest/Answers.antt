@@ -14,7 +14,7 @@ use Rattle.pf_informed.proofs.LabelledLemmas.{by_cases, goal_path, no_best, exac
 use Rattle.pf_informed.proofs.LedAnswers.{led_within, led_estimate, led_asked, led_none, led_past}
 use Rattle.pf_informed.proofs.LedLemmas.{graph_of, with_test, informed_still, led_grown}
 use Rattle.pf_informed.proofs.WiderLemmas.{less_left}
-use Rattle.pf_informed.proofs.Outcomes.{refused_as, if_refused, no_overflow, ok_is_no_error}
+use Rattle.pf_base.proofs.Outcomes.{if_refused, no_overflow, ok_is_no_error, refused_as}
 use Rattle.pf_informed.proofs.cheapest_labels.label_cheapest.Goals as goal
 
 pub turns-init : goal.turns-init

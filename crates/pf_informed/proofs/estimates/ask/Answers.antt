@@ -1,7 +1,7 @@
 use Rattle.std.proofs.Common.{rules, ◌≡◌, sym, subst, Some, slice_get, [], ◌∷◌, List, ℕ, refl}
 use Rattle.pf_base.proofs.ListLemmas.{at_place, get-append}
 use Rattle.pf_informed.proofs.EstimateLemmas.{IsEstimated-push}
-use Rattle.pf_informed.proofs.Outcomes.{refused_as, on_refused}
+use Rattle.pf_base.proofs.Outcomes.{on_refused, refused_as}
 use Rattle.pf_informed.proofs.estimates.ask.Goals as goal
 
 pub nodes-init : goal.nodes-init

@@ -5,7 +5,7 @@ use Rattle.pf_core.specs.Labels.{HasLabel, Climbs}
 use Rattle.pf_base.proofs.ListLemmas.{Contains-append_one, Contains-reverse}
 use Rattle.pf_core.proofs.LabelLemmas.{HasLabel-inside}
 use Rattle.pf_informed.proofs.PathUp.{chain_short, steps_are}
-use Rattle.pf_informed.proofs.Outcomes.{refused_as, if_refused}
+use Rattle.pf_base.proofs.Outcomes.{if_refused, refused_as}
 use Rattle.pf_informed.proofs.labels.path_to.Goals as goal
 
 pub climb-init : goal.climb-init

@@ -4,7 +4,7 @@ use Rattle.std.proofs.lemmas.List.{take_all}
 use Rattle.pf_base.proofs.ListLemmas.{Contains-take, Contains-take_more, Contains-take_here}
 use Rattle.pf_informed.specs.Internal.Tight.{IsTightStep}
 use Rattle.pf_informed.specs.Internal.Chains.{before_in}
-use Rattle.pf_informed.proofs.Outcomes.{refused_as, on_refused}
+use Rattle.pf_base.proofs.Outcomes.{on_refused, refused_as}
 use Rattle.pf_informed.proofs.TightLemmas.{linked_start, linked_more}
 use Rattle.pf_informed.proofs.tight.link_row.Goals as goal
 

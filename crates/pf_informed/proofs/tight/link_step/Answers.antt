@@ -1,7 +1,7 @@
 use Rattle.std.proofs.Common.{◌<◌, subst, arith, ℕ, length, inl, inr, nat_eq}
 use Rattle.pf_base.specs.Walks.{HasNode}
 use Rattle.pf_core.proofs.LabelLemmas.{HasLabel-inside}
-use Rattle.pf_core.proofs.ListLemmas.{on_ok}
+use Rattle.pf_base.proofs.Outcomes.{on_ok}
 use Rattle.pf_informed.specs.Internal.Chains.{before_in}
 use Rattle.pf_informed.specs.Internal.Tight.{IsTightStep}
 use Rattle.pf_informed.proofs.TightLemmas.{linked_in, linked_rows}

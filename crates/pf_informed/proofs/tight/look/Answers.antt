@@ -5,10 +5,9 @@ use Rattle.pf_core.specs.declared.labels.Label.{Label}
 use Rattle.pf_core.specs.Labels.{HasLabel}
 use Rattle.pf_core.proofs.LabelLemmas.{label_is}
 use Rattle.pf_base.proofs.ListLemmas.{at_place}
-use Rattle.pf_base.proofs.Outcomes.{on_ok}
-use Rattle.pf_core.proofs.SearchLemmas.{Grows-trans}
+use Rattle.pf_base.proofs.Outcomes.{on_ok, on_refused, refused_as}
+use Rattle.pf_core.proofs.SearchLemmas.{Grows-trans, Grows-refl}
 use Rattle.pf_informed.specs.Internal.Chains.{before_in}
-use Rattle.pf_informed.proofs.Outcomes.{refused_as, on_refused, Grows-refl}
 use Rattle.pf_informed.proofs.TightLemmas.{less_of, not_less_of, rows_next, tight_grows, tight_skipped, tight_goal, tight_row, both_ok}
 use Rattle.pf_informed.proofs.WiderLemmas.{no_label}
 use Rattle.pf_informed.proofs.Bounds.{below_more}

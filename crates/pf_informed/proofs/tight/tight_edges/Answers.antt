@@ -1,8 +1,8 @@
 use Rattle.std.proofs.Common.{◌≡◌, ◌+◌, ◌≤◌, ◌<◌, subst, ℕ, length, List, sym, inl}
-use Rattle.pf_core.proofs.SearchLemmas.{Grows-trans}
+use Rattle.pf_core.proofs.SearchLemmas.{Grows-trans, Grows-refl}
 use Rattle.pf_informed.specs.Internal.Chains.{before_in}
 use Rattle.pf_informed.specs.Internal.Tight.{IsTight, IsUpTo}
-use Rattle.pf_informed.proofs.Outcomes.{refused_as, if_refused, Grows-refl}
+use Rattle.pf_base.proofs.Outcomes.{if_refused, refused_as}
 use Rattle.pf_informed.proofs.TightLemmas.{tight_start}
 use Rattle.pf_informed.proofs.Bounds.{one_further, at_the_end, most_more, none_more}
 use Rattle.pf_informed.proofs.tight.tight_edges.Goals as goal

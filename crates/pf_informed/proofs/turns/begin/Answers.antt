@@ -1,10 +1,9 @@
 use Rattle.std.proofs.Common.{◌≡◌, ◌∙◌, ap, sym, refl, arith, pos, length, false}
 use Rattle.pf_core.specs.declared.labels.Label.{Label}
 use Rattle.pf_core.specs.Nodes.{StandsFor, IsStep}
-use Rattle.pf_base.proofs.Outcomes.{on_ok}
+use Rattle.pf_base.proofs.Outcomes.{on_ok, on_refused, refused_as}
 use Rattle.pf_informed.proofs.InformedLemmas.{forest_begin, queue_begin, informed_begin}
 use Rattle.pf_informed.proofs.LedLemmas.{led_more}
-use Rattle.pf_informed.proofs.Outcomes.{refused_as, on_refused}
 use Rattle.pf_informed.proofs.TightLemmas.{both_ok}
 use Rattle.pf_informed.proofs.Bounds.{none_more}
 use Rattle.pf_informed.proofs.turns.begin.Goals as goal

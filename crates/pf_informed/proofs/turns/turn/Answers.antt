@@ -2,7 +2,7 @@ use Rattle.std.proofs.Common.{◌<◌, ◌≤◌, ◌∙◌, arith, List, ℕ, s
 use Rattle.std.specs.Prelude.{◌++◌, Contains}
 use Rattle.pf_core.specs.Nodes.{StandsFor, IsStep}
 use Rattle.pf_core.proofs.LabelLemmas.{HasLabel-inside}
-use Rattle.pf_base.proofs.Outcomes.{on_ok}
+use Rattle.pf_base.proofs.Outcomes.{on_ok, on_refused, refused_as}
 use Rattle.pf_core.proofs.UnitLemmas.{begins_all}
 use Rattle.pf_core.proofs.WalkLemmas.{no_negative}
 use Rattle.pf_informed.specs.Internal.Informed.{Follows}
@@ -10,7 +10,6 @@ use Rattle.pf_informed.specs.Internal.Waiting.{IsQueue}
 use Rattle.pf_informed.proofs.GrowingLemmas.{follows_beside, queue_beside}
 use Rattle.pf_informed.proofs.InformedLemmas.{queue_kept, informed_opened}
 use Rattle.pf_informed.proofs.LedLemmas.{with_test, led_grown, led_more}
-use Rattle.pf_informed.proofs.Outcomes.{refused_as, on_refused}
 use Rattle.pf_informed.proofs.TightLemmas.{both_ok}
 use Rattle.pf_informed.proofs.Bounds.{at_most_equal}
 use Rattle.pf_informed.proofs.turns.turn.Goals as goal

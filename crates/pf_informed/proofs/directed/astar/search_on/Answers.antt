@@ -9,7 +9,7 @@ use Rattle.pf_informed.specs.Internal.Waiting.{Entry}
 use Rattle.pf_informed.proofs.LedAnswers.{led_above, led_best, led_none, led_past}
 use Rattle.pf_informed.proofs.LedLemmas.{graph_of, with_test, informed_still, led_grown}
 use Rattle.pf_informed.proofs.WiderLemmas.{less_left}
-use Rattle.pf_informed.proofs.Outcomes.{refused_as, if_refused, no_overflow, ok_is_no_error}
+use Rattle.pf_base.proofs.Outcomes.{if_refused, no_overflow, ok_is_no_error, refused_as}
 use Rattle.pf_informed.proofs.directed.astar.search_on.Goals as goal
 
 pub turns-init : goal.turns-init

@@ -1,6 +1,6 @@
 use Rattle.std.proofs.Common.{inl}
 use Rattle.pf_informed.proofs.LedLemmas.{led_begin}
-use Rattle.pf_informed.proofs.Outcomes.{refused_as, if_refused, no_overflow, same_errors}
+use Rattle.pf_base.proofs.Outcomes.{if_refused, no_overflow, refused_as, same_errors}
 use Rattle.pf_informed.proofs.directed.astar_bag.astar_bag.Goals as goal
 
 pub find_ways-found-requires-clause-graph : goal.find_ways-found-requires-clause-graph

@@ -1,6 +1,6 @@
 use Rattle.std.proofs.Common.{◌∷◌, [], Err, ap, refl, inl}
 use Rattle.pf_informed.proofs.GatherLemmas.{gathered_all}
-use Rattle.pf_informed.proofs.Outcomes.{refused_as, if_refused, no_overflow, ok_is_no_error, same_error}
+use Rattle.pf_base.proofs.Outcomes.{if_refused, no_overflow, ok_is_no_error, overflow_kept, refused_as}
 use Rattle.pf_informed.proofs.directed.astar_bag.astar_bag_collect.Goals as goal
 
 pub returns : goal.returns
@@ -22,7 +22,7 @@ returns-in_default g c = record {
 pub returns-in_err-solution : goal.returns-in_err-solution
 returns-in_err-solution g c = record {
   all = λ edges test least s. if_refused _ c.from_residual.result _ c.from_residual.ensures.1;
-  overflow = λ edges test least s e. c.in_err-solution.ensures.overflow edges test least s (ap Err (same_error _ _ c.from_residual.ensures.1 e));
+  overflow = λ edges test least s e. c.in_err-solution.ensures.overflow edges test least s (ap Err (overflow_kept _ _ c.from_residual.ensures.1 e));
   errors = refused_as _ c.from_residual.result _ c.from_residual.ensures.1 c.in_err-solution.ensures.errors;
 }
 

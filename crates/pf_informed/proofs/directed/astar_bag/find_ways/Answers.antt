@@ -3,7 +3,7 @@ use Rattle.pf_core.specs.NodeLaws.{StandsFor-one}
 use Rattle.pf_core.proofs.UnitLemmas.{begins_all}
 use Rattle.pf_informed.specs.Internal.Chains.{before_in}
 use Rattle.pf_informed.proofs.BagLemmas.{all_paths}
-use Rattle.pf_informed.proofs.Outcomes.{refused_as, if_refused, no_overflow, ok_is_no_error, same_error}
+use Rattle.pf_base.proofs.Outcomes.{if_refused, no_overflow, ok_is_no_error, overflow_kept, refused_as}
 use Rattle.pf_informed.proofs.Bounds.{at_most_equal}
 use Rattle.pf_informed.proofs.LedLemmas.{graph_of, with_test}
 use Rattle.pf_informed.proofs.directed.astar_bag.find_ways.Goals as goal
@@ -89,7 +89,7 @@ pub returns-in_err-best : goal.returns-in_err-best
 returns-in_err-best g c = record {
   all = λ start edges test least b d. if_refused _ c.from_residual.result _ c.from_residual.ensures.1;
   ways = if_refused _ c.from_residual.result _ c.from_residual.ensures.1;
-  overflow = λ start edges test least b d refused. c.in_err-best.ensures.overflow start edges test least b d (ap Err (same_error _ _ c.from_residual.ensures.1 refused));
+  overflow = λ start edges test least b d refused. c.in_err-best.ensures.overflow start edges test least b d (ap Err (overflow_kept _ _ c.from_residual.ensures.1 refused));
   errors = refused_as _ c.from_residual.result _ c.from_residual.ensures.1 c.in_err-best.ensures.errors;
 }
 

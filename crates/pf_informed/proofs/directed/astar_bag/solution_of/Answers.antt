@@ -1,5 +1,5 @@
 use Rattle.std.proofs.Common.{refl}
-use Rattle.pf_informed.proofs.Outcomes.{ok_is_no_error}
+use Rattle.pf_base.proofs.Outcomes.{ok_is_no_error}
 use Rattle.pf_informed.proofs.directed.astar_bag.solution_of.Goals as goal
 
 pub invariant_of-solution : goal.invariant_of-solution

@@ -1,6 +1,6 @@
 use Rattle.std.proofs.Common.{inl}
 use Rattle.pf_informed.proofs.LedLemmas.{graph_of, led_begin}
-use Rattle.pf_informed.proofs.Outcomes.{refused_as, if_refused, no_overflow}
+use Rattle.pf_base.proofs.Outcomes.{if_refused, no_overflow, refused_as}
 use Rattle.pf_informed.proofs.directed.fringe.fringe.Goals as goal
 
 pub search_on-requires-clause-graph : goal.search_on-requires-clause-graph

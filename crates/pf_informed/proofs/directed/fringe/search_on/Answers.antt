@@ -16,7 +16,7 @@ use Rattle.pf_informed.proofs.LedAnswers.{led_within, led_estimate, led_limit, l
 use Rattle.pf_informed.proofs.LedLemmas.{graph_of, with_test, informed_still, led_grown}
 use Rattle.pf_informed.proofs.WiderLemmas.{less_left_too}
 use Rattle.pf_informed.proofs.NodeWalks.{never_above}
-use Rattle.pf_informed.proofs.Outcomes.{refused_as, if_refused, no_overflow, ok_is_no_error}
+use Rattle.pf_base.proofs.Outcomes.{if_refused, no_overflow, ok_is_no_error, refused_as}
 use Rattle.pf_informed.proofs.Bounds.{some_one}
 use Rattle.pf_informed.proofs.directed.fringe.search_on.Goals as goal
 

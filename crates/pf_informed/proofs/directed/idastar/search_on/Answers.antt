@@ -11,7 +11,7 @@ use Rattle.pf_informed.specs.Internal.Deepening.{IsCutOff}
 use Rattle.pf_informed.proofs.LedLemmas.{graph_of, led_more}
 use Rattle.pf_informed.proofs.LimitLemmas.{limit_rises, covered_walk, next_limit, none_cut, none_fits, best_way, past_way}
 use Rattle.pf_informed.proofs.NodeWalks.{estimate_is, never_above, no_walk_fits}
-use Rattle.pf_informed.proofs.Outcomes.{refused_as, if_refused, no_overflow, ok_is_no_error}
+use Rattle.pf_base.proofs.Outcomes.{if_refused, no_overflow, ok_is_no_error, refused_as}
 use Rattle.pf_informed.proofs.Bounds.{none_more, some_one, is_at_most, at_most_both, at_most_below}
 use Rattle.pf_informed.proofs.directed.idastar.search_on.Goals as goal
 

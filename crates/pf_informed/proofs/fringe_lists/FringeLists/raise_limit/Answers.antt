@@ -2,7 +2,7 @@ use Rattle.std.proofs.Common.{List, subst, sym, inr, refl, inl}
 use Rattle.pf_informed.specs.Internal.Waiting.{Entry}
 use Rattle.pf_informed.specs.Internal.Fringe.{listed, IsRaising, IsBelowWaiting}
 use Rattle.pf_informed.proofs.RaisingLemmas.{raising_start, later_labelled, raising_more, raised_below, raised_taken, raised_queue}
-use Rattle.pf_informed.proofs.Outcomes.{refused_as, on_refused, if_refused}
+use Rattle.pf_base.proofs.Outcomes.{if_refused, on_refused, refused_as}
 use Rattle.pf_informed.proofs.Bounds.{none_below, without_rest, none_more}
 use Rattle.pf_informed.proofs.fringe_lists.FringeLists.raise_limit.Goals as goal
 

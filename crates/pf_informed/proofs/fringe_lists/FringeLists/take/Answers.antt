@@ -1,10 +1,10 @@
 use Rattle.std.proofs.Common.{◌≡◌, ◌+◌, ◌≤◌, ◌++◌, ◌∙◌, ℕ, List, ap, arith, length, length-append, inl, inr}
 use Rattle.std.specs.Prelude.{◌⊎◌}
 use Rattle.std.proofs.lemmas.Option.{MatchOption-at_some, MatchOption-at_none}
-use Rattle.pf_base.proofs.Outcomes.{on_ok}
+use Rattle.pf_base.proofs.Outcomes.{on_ok, if_refused, on_refused, refused_as}
 use Rattle.pf_informed.specs.Internal.Fringe.{listed, IsBelowWaiting}
 use Rattle.pf_informed.proofs.FringeLemmas.{moved_from, queue_in, moved_wait, nothing_before, below_before, taken_before}
-use Rattle.pf_informed.proofs.Outcomes.{answer_or_none, refused_as, on_refused, if_refused}
+use Rattle.pf_informed.proofs.Outcomes.{answer_or_none}
 use Rattle.pf_informed.proofs.fringe_lists.FringeLists.take.Goals as goal
 
 -- what is left in all, once entries went from the queue to the lists

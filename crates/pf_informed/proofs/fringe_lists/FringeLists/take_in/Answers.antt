@@ -4,7 +4,7 @@ use Rattle.std.proofs.lemmas.List.{take_at}
 use Rattle.std.proofs.lemmas.List.Sorted.{Contains-permutation, IsPermutation-sym, length_permutation}
 use Rattle.pf_informed.specs.Internal.Waiting.{Entry}
 use Rattle.pf_informed.proofs.FringeLemmas.{pushed_in, pushed_from}
-use Rattle.pf_informed.proofs.Outcomes.{refused_as, on_refused}
+use Rattle.pf_base.proofs.Outcomes.{on_refused, refused_as}
 use Rattle.pf_informed.proofs.fringe_lists.FringeLists.take_in.Goals as goal
 
 pub entries-preserved : goal.entries-preserved

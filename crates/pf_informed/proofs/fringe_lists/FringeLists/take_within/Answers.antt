@@ -5,7 +5,7 @@ use Rattle.std.proofs.lemmas.List.Elements.{Contains-append_left}
 use Rattle.pf_informed.specs.Internal.Waiting.{Entry, IsQueue}
 use Rattle.pf_informed.specs.Internal.Fringe.{listed, StillWait}
 use Rattle.pf_informed.proofs.FringeLemmas.{StillWait-put_off, queue_put_off, queue_rest, taken_within, queue_in, none_more, rest_waits}
-use Rattle.pf_informed.proofs.Outcomes.{refused_as, on_refused, if_refused}
+use Rattle.pf_base.proofs.Outcomes.{if_refused, on_refused, refused_as}
 use Rattle.pf_informed.proofs.fringe_lists.FringeLists.take_within.Goals as goal
 
 pub take_last-requires : goal.take_last-requires

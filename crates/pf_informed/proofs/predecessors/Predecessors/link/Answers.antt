@@ -1,5 +1,5 @@
 use Rattle.std.proofs.Common.{rules, ◌≡◌, ◌<◌, ◌-◌, ◌∙◌, ap, sym, arith, length, refl, inl, inr, slice_get, Some, suc}
-use Rattle.pf_core.proofs.ListLemmas.{at_place}
+use Rattle.pf_base.proofs.ListLemmas.{at_place}
 use Rattle.pf_informed.specs.Internal.Chains.{BeginsWith, chain, lists_at, before_in}
 use Rattle.pf_informed.proofs.ChainLemmas.{chain_step, chain_none, list_at, lists_long, none_first, other_first, chained_put, lists_put}
 use Rattle.pf_informed.proofs.predecessors.Predecessors.link.Goals as goal

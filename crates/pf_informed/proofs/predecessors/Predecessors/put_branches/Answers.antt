@@ -4,7 +4,7 @@ use Rattle.std.specs.Prelude.{if◌then◌else◌}
 use Rattle.std.proofs.lemmas.List.{append-nil, append_assoc}
 use Rattle.pf_core.specs.declared.depth_first.Branch.{Branch}
 use Rattle.pf_core.specs.DepthFirst.{branches_at}
-use Rattle.pf_core.proofs.ListLemmas.{at_place}
+use Rattle.pf_base.proofs.ListLemmas.{at_place}
 use Rattle.pf_informed.specs.Internal.Chains.{chain}
 use Rattle.pf_informed.proofs.ChainLemmas.{chain_step, list_at, lists_long}
 use Rattle.pf_informed.proofs.predecessors.Predecessors.put_branches.Goals as goal

@@ -1,4 +1,4 @@
-use Rattle.pf_informed.proofs.Outcomes.{refused_as, on_refused}
+use Rattle.pf_base.proofs.Outcomes.{on_refused, refused_as}
 use Rattle.std.proofs.Common.{refl, arith, sym}
 use Rattle.pf_informed.proofs.Bounds.{some_one}
 use Rattle.pf_base.proofs.ListLemmas.{at_place}

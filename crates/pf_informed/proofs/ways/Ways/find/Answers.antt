@@ -1,6 +1,6 @@
 use Rattle.std.proofs.Common.{rules, ◌≡◌, ◌≢◌, ◌∙◌, sym, ap, arith, length}
 use Rattle.pf_informed.proofs.WaysLemmas.{some_wait, rising_last, branch_inside, left_dropped, kept_dropped, fewer_dropped, new_length, kept_same, left_same, whole, kept_opened, left_opened, fewer_opened}
-use Rattle.pf_informed.proofs.Outcomes.{on_error}
+use Rattle.pf_base.proofs.Outcomes.{on_err}
 use Rattle.pf_informed.proofs.ways.Ways.find.Goals as goal
 
 pub is_on_way-requires-clause-inside : goal.is_on_way-requires-clause-inside
@@ -158,7 +158,7 @@ pub returns-in_err-enter-clause-waits : goal.returns-in_err-enter-clause-waits
 returns-in_err-enter-clause-waits g c =
     let s = c.in-Some.ensures in
     let e = c.in_err-enter.ensures in
-    on_error _ c.from_residual.result (λ none. some_wait s.0 c.in-Some.branch (sym (e.waiting ∙ s.1) ∙ none))
+    on_err c.from_residual.result (λ none. some_wait s.0 c.in-Some.branch (sym (e.waiting ∙ s.1) ∙ none))
 
 pub returns-in_err-open-clause-idle : goal.returns-in_err-open-clause-idle
 returns-in_err-open-clause-idle g c = λ none.
@@ -170,4 +170,4 @@ pub returns-in_err-open-clause-waits : goal.returns-in_err-open-clause-waits
 returns-in_err-open-clause-waits g c =
     let s = c.in-Some.ensures in
     let same = c.in_err-open.ensures.stays ∙ c.in_ok-enter.ensures.waiting ∙ s.1 in
-    on_error _ c.from_residual-in_err-open.result (λ none. some_wait s.0 c.in-Some.branch (sym same ∙ none))
+    on_err c.from_residual-in_err-open.result (λ none. some_wait s.0 c.in-Some.branch (sym same ∙ none))

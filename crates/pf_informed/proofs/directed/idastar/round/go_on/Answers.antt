@@ -11,7 +11,7 @@ use Rattle.pf_informed.proofs.KnownLemmas.{more_refl}
 use Rattle.pf_informed.proofs.NodeWalks.{estimate_is, estimate_at}
 use Rattle.pf_informed.proofs.TurnsLeft.{some_turns, advanced_less, entered_less}
 use Rattle.pf_informed.proofs.WayLemmas.{cheap_positive, marked_on, numbers_up, frame_ends, step_at, still_found, part_within, on_way_as, skipped, cost_from_zero, price_from_zero, cut_there, went_on, arrived}
-use Rattle.pf_informed.proofs.Outcomes.{refused_as, on_refused, if_refused}
+use Rattle.pf_base.proofs.Outcomes.{if_refused, on_refused, refused_as}
 use Rattle.pf_informed.proofs.Bounds.{turns_fit, places_fit, place_inside, place_fits}
 use Rattle.pf_informed.proofs.directed.idastar.round.go_on.Goals as goal
 

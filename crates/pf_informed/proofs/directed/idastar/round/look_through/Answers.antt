@@ -6,7 +6,7 @@ use Rattle.pf_informed.specs.declared.directed.idastar.way.Frame.{Frame}
 use Rattle.pf_informed.specs.Internal.Deepening.{IsMarked, numbers_of}
 use Rattle.pf_informed.proofs.KnownLemmas.{more_trans}
 use Rattle.pf_informed.proofs.WayLemmas.{still_found, marked_on, on_way_as, begun, start_way}
-use Rattle.pf_informed.proofs.Outcomes.{refused_as, on_refused, if_refused}
+use Rattle.pf_base.proofs.Outcomes.{if_refused, on_refused, refused_as}
 use Rattle.pf_informed.proofs.Bounds.{at_most_both, none_below}
 use Rattle.pf_informed.proofs.directed.idastar.round.look_through.Goals as goal
 

@@ -3,7 +3,7 @@ use Rattle.std.specs.Prelude.{◌⊎◌, SomeIff, slice_get}
 use Rattle.std.specs.Option.{ok_or}
 use Rattle.std.proofs.lemmas.List.{take_all}
 use Rattle.pf_base.proofs.ListLemmas.{none_in, get-append}
-use Rattle.pf_informed.proofs.Outcomes.{on_refused, refused_as}
+use Rattle.pf_base.proofs.Outcomes.{on_refused, refused_as}
 use Rattle.pf_informed.proofs.directed.idastar.widen.widen.Goals as goal
 
 pub returns-else-number-len : goal.returns-else-number-len

@@ -1,5 +1,5 @@
 use Rattle.std.proofs.Common.{◌≡◌, ◌∙◌, Some, length, ap, arith, refl}
-use Rattle.pf_informed.proofs.Outcomes.{refused_as, on_refused}
+use Rattle.pf_base.proofs.Outcomes.{on_refused, refused_as}
 use Rattle.pf_informed.proofs.RowLemmas.{set_here, set_other}
 use Rattle.pf_informed.proofs.directed.idastar.cheapest_row.CheapestRow.put.Goals as goal
 

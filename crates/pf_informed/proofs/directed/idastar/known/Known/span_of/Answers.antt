@@ -6,7 +6,7 @@ use Rattle.pf_core.proofs.SearchLemmas.{Grows-trans}
 use Rattle.pf_informed.specs.Internal.Rows.{IsCheapStep, IsTable, HasSpan}
 use Rattle.pf_informed.proofs.KnownLemmas.{more_refl, table_more, rows_more, rows_grown, cheap_sound, cheap_complete}
 use Rattle.pf_informed.proofs.LedLemmas.{with_test, led_grown, led_more}
-use Rattle.pf_informed.proofs.Outcomes.{refused_as, on_refused, if_refused}
+use Rattle.pf_base.proofs.Outcomes.{if_refused, on_refused, refused_as}
 use Rattle.pf_informed.proofs.Bounds.{below_more}
 use Rattle.pf_informed.proofs.directed.idastar.known.Known.span_of.Goals as goal
 

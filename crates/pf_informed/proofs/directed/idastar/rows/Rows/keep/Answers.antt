@@ -1,6 +1,6 @@
 use Rattle.std.proofs.Common.{◌∙◌, Some, arith, refl}
 use Rattle.pf_informed.specs.declared.directed.idastar.rows.Span.{Span}
-use Rattle.pf_informed.proofs.Outcomes.{refused_as, on_refused, if_refused}
+use Rattle.pf_base.proofs.Outcomes.{if_refused, on_refused, refused_as}
 use Rattle.pf_informed.proofs.RowLemmas.{set_here, set_other, written_from}
 use Rattle.pf_informed.proofs.directed.idastar.rows.Rows.keep.Goals as goal
 
