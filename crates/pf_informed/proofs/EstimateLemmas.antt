@@ -1,7 +1,6 @@
 -- Estimates that are kept, one by one.
-use Rattle.std.proofs.Common.{◌≡◌, ℕ, ℤ, Some, Option, List, [], ◌∷◌, ◌++◌, ◌∙◌, zero, suc, sym, subst, ap, slice_get, length, inl, inr, arith}
-use Rattle.std.specs.Prelude.{◌⊎◌}
-use Rattle.pf_base.proofs.ListLemmas.{none_in, get_push}
+use Rattle.std.proofs.Common.{◌≡◌, ℕ, ℤ, Some, Option, List, [], ◌∷◌, ◌++◌, ◌∙◌, sym, subst, ap, slice_get, length, inl, inr}
+use Rattle.pf_base.proofs.ListLemmas.{get_push}
 use Rattle.pf_informed.specs.Internal.Estimated.{IsEstimated}
 
 pub IsEstimated-push : {N C : Type 0} (value : C → ℤ) (h : N → ℤ) (at : ℕ → Option N) (xs ys : List C) (c : C) → ys ≡ xs ++ c ∷ [] → (x : N) → at (length xs) ≡ Some x → value c ≡ h x → IsEstimated value h at xs → IsEstimated value h at ys
