@@ -6,6 +6,7 @@ ghost use Rattle.pf_graph.specs.declared.undirected.steps.Step.{Step};
 ghost use Rattle.pf_graph.specs.Internal.Spanning.Frontier.{HasStep, HoldSteps};
 ghost use Rattle.pf_graph.specs.Spanning.{AreBelow};
 
+use crate::filled::filled;
 use crate::undirected::weighed::Weighed;
 use pf_base::PathError;
 use std::alloc::Allocator;
@@ -24,17 +25,37 @@ pub struct Step<'a, N, C> {
 /// The steps from each number, in rows by the numbers.
 pub type Rows<'a, N, C, A> = Vec<Vec<Step<'a, N, C>, A>, A>;
 
-/// As many rows as `count`, without a step.
-fn empty_rows<'a, N, C, A>(alloc: A, count: usize) -> Result<Rows<'a, N, C, A>, PathError>
+/// How many steps come from each number.
+fn count_steps<'a, N, C, A>(
+    alloc: A,
+    count: usize,
+    edges: &[(usize, usize, Weighed<'a, N, C, ()>)],
+) -> Result<Vec<usize, A>, PathError>
+where
+    A: Allocator,
+    requires below { AreBelow count edges.now }
+    ensures len { IfOk result (λ counts. length counts.items ≡ count) }
+    ensures refused { IfErr result (λ e. e ≡ OutOfMemory) }
+{
+    let mut counts = filled(alloc, count, 0usize)?;
+    for edge in edges {
+        counts[edge.0] = counts[edge.0].saturating_add(1);
+        counts[edge.1] = counts[edge.1].saturating_add(1);
+    }
+    Ok(counts)
+}
+
+/// A row for each count, with room for so many steps.
+fn empty_rows<'a, N, C, A>(alloc: A, counts: &[usize]) -> Result<Rows<'a, N, C, A>, PathError>
 where
     A: Allocator + Copy,
-    ensures len { IfOk result (λ rows. length rows.items ≡ count) }
+    ensures len { IfOk result (λ rows. length rows.items ≡ length counts.now) }
     ensures empty { IfOk result (λ rows. (k : ℕ) (s : Step N C) → ¬ (HasStep rows.items k s)) }
     ensures refused { IfErr result (λ e. e ≡ OutOfMemory) }
 {
-    let mut rows = Vec::with_capacity(alloc, count)?;
-    for _ in 0..count {
-        rows.push(Vec::new(alloc))?;
+    let mut rows = Vec::with_capacity(alloc, counts.len())?;
+    for count in counts {
+        rows.push(Vec::with_capacity(alloc, *count)?)?;
     }
     Ok(rows)
 }
@@ -69,7 +90,8 @@ where
     ensures steps { IfOk result (λ rows. HoldSteps edges.now rows.items) }
     ensures refused { IfErr result (λ e. e ≡ OutOfMemory) }
 {
-    let mut rows = empty_rows(alloc, count)?;
+    let counts = count_steps(alloc, count, edges)?;
+    let mut rows = empty_rows(alloc, &counts)?;
     for numbered in edges {
         let (one, other) = (numbered.0, numbered.1);
         let edge = numbered.2.edge;

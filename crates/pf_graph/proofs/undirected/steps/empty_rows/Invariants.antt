@@ -3,8 +3,8 @@ use Rattle.pf_graph.specs.declared.undirected.steps.Step.{Step}
 use Rattle.pf_graph.specs.Internal.Spanning.Frontier.{HasStep}
 use Rattle.pf_graph.proofs.undirected.steps.empty_rows.Given as goal
 
-abbrev pub invariant-loop : goal.invariant-loop
-invariant-loop g l = record {
-  len : length l.rows.items ≡ l.counter;
+abbrev pub invariant-loop-count : goal.invariant-loop-count
+invariant-loop-count g l = record {
+  len : length l.rows.items ≡ l.count-index;
   empty : (k : ℕ) (s : Step g.row.N.Denot g.row.C.Denot) → ¬ (HasStep l.rows.items k s);
 }

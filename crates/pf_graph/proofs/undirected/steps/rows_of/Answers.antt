@@ -1,10 +1,10 @@
-use Rattle.std.proofs.Common.{◌<◌, ◌∙◌, ℕ, sym, subst, refl}
+use Rattle.std.proofs.Common.{◌<◌, ◌∙◌, ℕ, ap, length, sym, subst, refl}
 use Rattle.pf_graph.proofs.Spanning.StepLemmas.{HoldSteps-none, HoldSteps-more}
 use Rattle.pf_base.proofs.Outcomes.{if_refused, refused_as}
 use Rattle.pf_graph.proofs.undirected.steps.rows_of.Goals as goal
 
 pub loop-numbered-init : goal.loop-numbered-init
-loop-numbered-init g c = record { len = c.in_ok-rows.ensures.len; steps = HoldSteps-none c.in_ok-rows.rows.items c.in_ok-rows.ensures.empty }
+loop-numbered-init g c = record { len = c.in_ok-rows.ensures.len ∙ ap length c.deref.ensures.value ∙ c.in_ok-counts.ensures.len; steps = HoldSteps-none c.in_ok-rows.rows.items c.in_ok-rows.ensures.empty }
 
 pub loop-numbered-preserved : goal.loop-numbered-preserved
 loop-numbered-preserved g c = record {
@@ -23,11 +23,18 @@ add_step-requires-in-loop-numbered g c =
     let below = subst (λ e. (e.0 < c.args.count) × (e.1 < c.args.count)) (sym c.numbered-item.is) (c.requires.below c.loop-numbered.numbered-index c.numbered-item.result c.loop-numbered-test.true) in
     record { inside = subst (λ (n : ℕ). c.numbered-item.result.1 < n) (sym (c.in_ok-add_step.ensures.len ∙ c.loop-numbered.invariant.len)) below.1 }
 
-pub returns-in_err-rows : goal.returns-in_err-rows
-returns-in_err-rows g c = record {
+pub returns-in_err-counts : goal.returns-in_err-counts
+returns-in_err-counts g c = record {
   len = if_refused _ c.from_residual.result _ c.from_residual.ensures.1;
   steps = if_refused _ c.from_residual.result _ c.from_residual.ensures.1;
-  refused = refused_as _ c.from_residual.result _ c.from_residual.ensures.1 c.in_err-rows.ensures.refused;
+  refused = refused_as _ c.from_residual.result _ c.from_residual.ensures.1 c.in_err-counts.ensures.refused;
+}
+
+pub returns-in_err-rows : goal.returns-in_err-rows
+returns-in_err-rows g c = record {
+  len = if_refused _ c.from_residual-in_err-rows.result _ c.from_residual-in_err-rows.ensures.1;
+  steps = if_refused _ c.from_residual-in_err-rows.result _ c.from_residual-in_err-rows.ensures.1;
+  refused = refused_as _ c.from_residual-in_err-rows.result _ c.from_residual-in_err-rows.ensures.1 c.in_err-rows.ensures.refused;
 }
 
 pub returns-in_err-add_step : goal.returns-in_err-add_step
