@@ -88,7 +88,8 @@ where
         return Ok(Vec::new(alloc));
     };
     let start = first.0;
-    let rows = rows_of(alloc, numbered.count, &numbered.edges)?;
-    let mut covered = filled(alloc, numbered.count, false)?;
+    let count = numbered.count;
+    let rows = rows_of(alloc, count, numbered.edges)?;
+    let mut covered = filled(alloc, count, false)?;
     grow(alloc, &rows, &mut covered, start)
 }

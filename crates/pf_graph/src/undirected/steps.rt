@@ -77,22 +77,24 @@ where
     Ok(())
 }
 
-/// The steps over both directions of the edges, each in the row of the number that it comes from.
+/// The steps over both directions of the edges, each in the row of the number that it comes from. The
+/// edges are dropped here, before any step waits.
 pub fn rows_of<'a, N, C, A>(
     alloc: A,
     count: usize,
-    edges: &[(usize, usize, Weighed<'a, N, C, ()>)],
+    edges: Vec<(usize, usize, Weighed<'a, N, C, ()>), A>,
 ) -> Result<Rows<'a, N, C, A>, PathError>
 where
     A: Allocator + Copy,
-    requires below { AreBelow count edges.now }
+    requires below { AreBelow count edges.items }
     ensures len { IfOk result (λ rows. length rows.items ≡ count) }
-    ensures steps { IfOk result (λ rows. HoldSteps edges.now rows.items) }
+    ensures steps { IfOk result (λ rows. HoldSteps edges.entry.items rows.items) }
     ensures refused { IfErr result (λ e. e ≡ OutOfMemory) }
 {
-    let counts = count_steps(alloc, count, edges)?;
+    let listed = edges.as_slice();
+    let counts = count_steps(alloc, count, listed)?;
     let mut rows = empty_rows(alloc, &counts)?;
-    for numbered in edges {
+    for numbered in listed {
         let (one, other) = (numbered.0, numbered.1);
         let edge = numbered.2.edge;
         let onward = Step {

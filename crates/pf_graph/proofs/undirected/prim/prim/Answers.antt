@@ -3,15 +3,15 @@ use Rattle.std.specs.Prelude.{Contains, map, slice_get}
 use Rattle.std.proofs.lemmas.List.{length-replicate}
 use Rattle.std.proofs.lemmas.Result.{IfOk-weaker}
 use Rattle.pf_graph.specs.EdgesByReference.{shown}
-use Rattle.pf_graph.specs.Internal.Spanning.Frontier.{HasStep, HoldSteps, AreRows, IsMarked}
+use Rattle.pf_graph.specs.Internal.Spanning.Frontier.{HasStep, AreRows, IsMarked}
 use Rattle.pf_graph.specs.GrownTree.{GrowsByLeast, IsLeastAround}
-use Rattle.pf_graph.specs.Spanning.{IsForest, AreBelow}
-use Rattle.pf_base.proofs.ListLemmas.{none_in}
+use Rattle.pf_graph.specs.Spanning.{IsForest}
+use Rattle.pf_graph.proofs.ListLemmas.{none_in}
 use Rattle.pf_graph.proofs.Spanning.ForestLemmas.{IsForest-nil}
 use Rattle.pf_graph.proofs.Spanning.NameLemmas.{numbered_below}
 use Rattle.pf_graph.proofs.Spanning.PrimLemmas.{no_mark, no_start, first_is, start_is, are_rows, steps_inside, first_stands, first_inside}
 use Rattle.pf_graph.proofs.Spanning.TreeLemmas.{grown_forest, grown_least}
-use Rattle.pf_base.proofs.Outcomes.{if_refused, refused_as}
+use Rattle.pf_graph.proofs.Outcomes.{refused_as, if_refused}
 use Rattle.pf_graph.proofs.undirected.prim.prim.Goals as goal
 
 pub returns-in_default : goal.returns-in_default
@@ -32,7 +32,7 @@ pub rows_of-requires : goal.rows_of-requires
 rows_of-requires g c =
     let n = c.in_ok-numbered.ensures.numbered in
     let below = numbered_below n.0 c.args.edges.now c.in_ok-numbered.numbered.edges.items n.2 c.in_ok-numbered.numbered.count n.1 in
-    record { below = subst (λ es. AreBelow c.in_ok-numbered.numbered.count es) (sym c.deref-2.ensures.value) below }
+    record { below = below }
 
 pub grow-requires-clause-inside : goal.grow-requires-clause-inside
 grow-requires-clause-inside g c =
@@ -42,14 +42,14 @@ grow-requires-clause-inside g c =
     let n = c.in_ok-numbered.ensures.numbered in
     let first = c.in-Some.first.now in
     let at = subst (λ es. slice_get es 0 ≡ Some first) c.deref.ensures.value (sym c.in-Some.ensures.value) in
-    let steps = subst (λ es. HoldSteps es c.in_ok-rows.rows.items) c.deref-2.ensures.value c.in_ok-rows.ensures.steps in
+    let steps = c.in_ok-rows.ensures.steps in
     let len = c.in_ok-rows.ensures.len ∙ sym n.1 in
-    subst (λ rs. first.0 < length rs) (sym c.deref-3.ensures.value) (first_inside edges numbered in_order n.0 n.2 c.in_ok-rows.rows.items steps len first at)
+    subst (λ rs. first.0 < length rs) (sym c.deref-2.ensures.value) (first_inside edges numbered in_order n.0 n.2 c.in_ok-rows.rows.items steps len first at)
 
 pub grow-requires-clause-len : goal.grow-requires-clause-len
 grow-requires-clause-len g c =
     let marks = c.deref_mut.ensures.value ∙ c.in_ok-covered.ensures.items in
-    ap length marks ∙ length-replicate c.in_ok-numbered.numbered.count false ∙ sym (ap length c.deref-3.ensures.value ∙ c.in_ok-rows.ensures.len)
+    ap length marks ∙ length-replicate c.in_ok-numbered.numbered.count false ∙ sym (ap length c.deref-2.ensures.value ∙ c.in_ok-rows.ensures.len)
 
 pub grow-requires-clause-none : goal.grow-requires-clause-none
 grow-requires-clause-none g c =
@@ -59,8 +59,8 @@ grow-requires-clause-none g c =
 pub grow-requires-clause-steps : goal.grow-requires-clause-steps
 grow-requires-clause-steps g c =
     let n = c.in_ok-numbered.ensures.numbered in
-    let steps = subst (λ es. HoldSteps es c.in_ok-rows.rows.items) c.deref-2.ensures.value c.in_ok-rows.ensures.steps in
-    subst (λ rs. (k : ℕ) (s : _) → HasStep rs k s → s.number < length rs) (sym c.deref-3.ensures.value)
+    let steps = c.in_ok-rows.ensures.steps in
+    subst (λ rs. (k : ℕ) (s : _) → HasStep rs k s → s.number < length rs) (sym c.deref-2.ensures.value)
     (steps_inside c.args.edges.now c.in_ok-numbered.numbered.edges.items c.in_ok-numbered.ensures.in_order n.0 n.2 c.in_ok-rows.rows.items steps (c.in_ok-rows.ensures.len ∙ sym n.1))
 
 pub returns : goal.returns
@@ -71,9 +71,9 @@ returns g c =
     let n = c.in_ok-numbered.ensures.numbered in
     let first = c.in-Some.first.now in
     let at = subst (λ es. slice_get es 0 ≡ Some first) c.deref.ensures.value (sym c.in-Some.ensures.value) in
-    let steps = subst (λ es. HoldSteps es c.in_ok-rows.rows.items) c.deref-2.ensures.value c.in_ok-rows.ensures.steps in
+    let steps = c.in_ok-rows.ensures.steps in
     let len = c.in_ok-rows.ensures.len ∙ sym n.1 in
-    let rows = subst (λ rs. AreRows g.N.PartialEq.eq n.0 edges rs) (sym c.deref-3.ensures.value) (are_rows edges numbered in_order n.0 n.2 c.in_ok-rows.rows.items steps len) in
+    let rows = subst (λ rs. AreRows g.N.PartialEq.eq n.0 edges rs) (sym c.deref-2.ensures.value) (are_rows edges numbered in_order n.0 n.2 c.in_ok-rows.rows.items steps len) in
     let stands = first_stands edges numbered in_order n.0 n.2 c.in_ok-rows.rows.items steps len first at in
     record {
       none = λ none.
