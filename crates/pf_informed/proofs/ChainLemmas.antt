@@ -1,11 +1,12 @@
 -- Lists of numbers, as chains of links, as links are put in.
 use Rattle.std.proofs.Common.{◌≡◌, ℕ, zero, suc, ◌<◌, ◌≤◌, refl, sym, ◌∙◌, ap, subst, arith, List, [], ◌∷◌, ◌++◌, length, map, Option, Some, None, inl, inr}
 use Rattle.std.specs.Prelude.{◌⊎◌, slice_get, slice_set, replicate}
-use Rattle.std.proofs.lemmas.Option.{slice_get_within}
-use Rattle.std.proofs.lemmas.List.{length_push, length-map}
-use Rattle.pf_base.proofs.ListLemmas.{get_set}
+use Rattle.std.specs.Option.{option_map}
+use Rattle.std.proofs.lemmas.Option.{slice_get-map, slice_get_within}
+use Rattle.std.proofs.lemmas.List.{length-map, length_push, map-set}
+use Rattle.pf_core.proofs.ListLemmas.{get_set}
 use Rattle.pf_informed.specs.declared.predecessors.Link.{Link}
-use Rattle.pf_informed.specs.Internal.Chains.{BeginsWith, link_and, chain, lists_at, IsChained, before_in}
+use Rattle.pf_informed.specs.Internal.Chains.{BeginsWith, link_and, chain, lists_at, IsChained, before_in, list_or_none}
 use Rattle.pf_informed.proofs.KnownLemmas.{get_left}
 use Rattle.pf_informed.proofs.RowLemmas.{get_last, of_some}
 
@@ -40,26 +41,15 @@ chain_kept links back x (suc most) (suc place) h =
     ap (link_and (chain (links ++ x ∷ []) most)) (get_left links (x ∷ []) place (omega (arith, h)))
     ∙ same_behind (chain (links ++ x ∷ []) most) (chain links most) (slice_get links place) (λ l e. let low = back place l e in chain_kept links back x most l.next (omega (arith, h, low)))
 
-map_set_same : (f h : ℕ → List ℕ) (heads : List ℕ) (k v : ℕ) → ((i place : ℕ) → slice_get heads i ≡ Some place → f place ≡ h place) → map f (slice_set heads k v) ≡ slice_set (map h heads) k (f v)
-map_set_same f h [] k v e = refl
-map_set_same f h (p ∷ heads) zero v e = ap (λ (xs : List (List ℕ)). f v ∷ xs) (all heads (λ i. e (suc i)))
-  where
-    all : (heads : List ℕ) → ((i place : ℕ) → slice_get heads i ≡ Some place → f place ≡ h place) → map f heads ≡ map h heads
-    all [] e = refl
-    all (q ∷ heads) e = let first : f q ≡ h q = e 0 q refl in let rest : map f heads ≡ map h heads = all heads (λ i. e (suc i)) in cc
-map_set_same f h (p ∷ heads) (suc k) v e = let first : f p ≡ h p = e 0 p refl in let rest : map f (slice_set heads k v) ≡ slice_set (map h heads) k (f v) = map_set_same f h heads k v (λ i. e (suc i)) in cc
+map_same : (f h : ℕ → List ℕ) (heads : List ℕ) → ((i place : ℕ) → slice_get heads i ≡ Some place → f place ≡ h place) → map f heads ≡ map h heads
+map_same f h [] e = refl
+map_same f h (q ∷ heads) e = let first : f q ≡ h q = e 0 q refl in let rest : map f heads ≡ map h heads = map_same f h heads (λ i. e (suc i)) in cc
 
 pub lists_long : (links : List Link) (heads : List ℕ) → length (lists_at links heads) ≡ length heads
 lists_long links heads = length-map heads (chain links (length links))
 
 pub list_at : (links : List Link) (heads : List ℕ) (k place : ℕ) → slice_get heads k ≡ Some place → before_in (lists_at links heads) k ≡ chain links (length links) place
-list_at links [] k place at = absurd (none k at)
-  where
-    none : (k : ℕ) → slice_get [] k ≡ Some place → ⊥
-    none zero e = cc
-    none (suc k) e = cc
-list_at links (p ∷ heads) zero place at = ap (chain links (length links)) (of_some p place at)
-list_at links (p ∷ heads) (suc k) place at = list_at links heads k place at
+list_at links heads k place at = ap list_or_none (slice_get-map (chain links (length links)) heads k ∙ ap (option_map (chain links (length links))) at)
 
 pub none_first : (number : ℕ) (xs : List ℕ) → xs ≡ [] → ¬ (BeginsWith number xs)
 none_first number xs e b = absurd (let both : [] ≡ number ∷ b.0 = sym e ∙ b.1 in cc)
@@ -112,7 +102,8 @@ module _ (links : List Link) (heads : List ℕ) (c : IsChained heads links) (nex
   lists_put =
       let first : chain links' (length links') (length links') ≡ number ∷ chain links (length links) head =
       ap (chain links' (length links')) long ∙ chain_step links' back_more (length links') (length links) new (get_last links new) (omega (arith, long)) ∙ ap (λ (xs : List ℕ). number ∷ xs) (same head low) in
-      map_set_same (chain links' (length links')) (chain links (length links)) heads next (length links') (λ i place e. same place (c.begins i place e))
+      map-set (chain links' (length links')) heads next (length links')
+      ∙ ap (λ (rows : List (List ℕ)). slice_set rows next (chain links' (length links') (length links'))) (map_same (chain links' (length links')) (chain links (length links)) heads (λ i place e. same place (c.begins i place e)))
       ∙ ap (slice_set (lists_at links heads) next) (first ∙ ap (λ (xs : List ℕ). number ∷ xs) (sym (list_at links heads next head at)))
 
 -- ---- no link yet

@@ -89,8 +89,7 @@ fn look<C: Cost, G: GoalGraph<C>, A: Allocator>(
     row: &mut Vec<(usize, C), A>,
     tight: &mut Tight<A>,
 ) -> Result<(), PathError>
-    requires inside { number < length labels.now }
-    requires found { length labels.now ≤ G.found graph.old }
+    requires inside { (number < length labels.now) × (length labels.now ≤ G.found graph.old) }
     requires graph { (g : G.Graph) × G.explores graph.old g }
     requires someone { (x : G.Node) × G.stands graph.old number x }
     requires rows { AreRows number (length labels.now) tight.old.before }

@@ -60,8 +60,8 @@ look-requires-clause-rows g c = c.numbers.invariant.rows
 pub look-requires-clause-graph : goal.look-requires-clause-graph
 look-requires-clause-graph g c = let a = c.requires.graph in (a.0, (c.numbers.invariant.tight a.0 a.1).0)
 
-pub look-requires-clause-found : goal.look-requires-clause-found
-look-requires-clause-found g c = most_more _ _ _ c.requires.found c.numbers.invariant.grows.more
+pub look-requires-clause-inside : goal.look-requires-clause-inside
+look-requires-clause-inside g c = (c.numbers-test.true, most_more _ _ _ c.requires.found c.numbers.invariant.grows.more)
 
 pub numbers-init : goal.numbers-init
 numbers-init g c =
