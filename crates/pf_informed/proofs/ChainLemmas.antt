@@ -4,7 +4,7 @@ use Rattle.std.specs.Prelude.{◌⊎◌, slice_get, slice_set, replicate}
 use Rattle.std.specs.Option.{option_map}
 use Rattle.std.proofs.lemmas.Option.{slice_get-map, slice_get_within}
 use Rattle.std.proofs.lemmas.List.{length-map, length_push, map-set}
-use Rattle.pf_core.proofs.ListLemmas.{get_set}
+use Rattle.pf_base.proofs.ListLemmas.{get_set}
 use Rattle.pf_informed.specs.declared.predecessors.Link.{Link}
 use Rattle.pf_informed.specs.Internal.Chains.{BeginsWith, link_and, chain, lists_at, IsChained, before_in, list_or_none}
 use Rattle.pf_informed.proofs.KnownLemmas.{get_left}

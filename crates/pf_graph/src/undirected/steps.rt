@@ -6,9 +6,9 @@ ghost use Rattle.pf_graph.specs.declared.undirected.steps.Step.{Step};
 ghost use Rattle.pf_graph.specs.Internal.Spanning.Frontier.{HasStep, HoldSteps};
 ghost use Rattle.pf_graph.specs.Spanning.{AreBelow};
 
-use crate::filled::filled;
 use crate::undirected::weighed::Weighed;
 use pf_base::PathError;
+use pf_base::filled::filled;
 use std::alloc::Allocator;
 
 /// A step over an edge from the end that a tree covers to the other, which has this number. Steps

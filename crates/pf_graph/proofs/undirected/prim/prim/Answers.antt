@@ -6,12 +6,12 @@ use Rattle.pf_graph.specs.EdgesByReference.{shown}
 use Rattle.pf_graph.specs.Internal.Spanning.Frontier.{HasStep, AreRows, IsMarked}
 use Rattle.pf_graph.specs.GrownTree.{GrowsByLeast, IsLeastAround}
 use Rattle.pf_graph.specs.Spanning.{IsForest}
-use Rattle.pf_graph.proofs.ListLemmas.{none_in}
+use Rattle.pf_base.proofs.ListLemmas.{none_in}
 use Rattle.pf_graph.proofs.Spanning.ForestLemmas.{IsForest-nil}
 use Rattle.pf_graph.proofs.Spanning.NameLemmas.{numbered_below}
 use Rattle.pf_graph.proofs.Spanning.PrimLemmas.{no_mark, no_start, first_is, start_is, are_rows, steps_inside, first_stands, first_inside}
 use Rattle.pf_graph.proofs.Spanning.TreeLemmas.{grown_forest, grown_least}
-use Rattle.pf_graph.proofs.Outcomes.{refused_as, if_refused}
+use Rattle.pf_base.proofs.Outcomes.{if_refused, refused_as}
 use Rattle.pf_graph.proofs.undirected.prim.prim.Goals as goal
 
 pub returns-in_default : goal.returns-in_default

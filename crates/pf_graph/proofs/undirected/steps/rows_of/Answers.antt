@@ -1,7 +1,7 @@
 use Rattle.std.proofs.Common.{◌<◌, ◌∙◌, ℕ, ap, length, sym, subst, refl}
 use Rattle.pf_graph.proofs.Spanning.StepLemmas.{HoldSteps-none, HoldSteps-more}
 use Rattle.pf_graph.specs.Spanning.{AreBelow}
-use Rattle.pf_graph.proofs.Outcomes.{refused_as, if_refused}
+use Rattle.pf_base.proofs.Outcomes.{if_refused, refused_as}
 use Rattle.pf_graph.proofs.undirected.steps.rows_of.Goals as goal
 
 pub loop-numbered-init : goal.loop-numbered-init
