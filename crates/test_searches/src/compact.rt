@@ -11,7 +11,7 @@ use num_traits::Number;
 use pf_base::{NodeRefs, PathError};
 use pf_search::directed::bfs::bfs;
 use pf_search::directed::dijkstra::dijkstra;
-use std::alloc::Allocator;
+use std::alloc::Global;
 
 /// Whether no offset is above the next one, nor above `end`.
 fn rise_to(offsets: &[usize], end: usize) -> bool
@@ -47,15 +47,13 @@ fn row<'t, E>(offsets: &[usize], targets: &'t [E], node: usize) -> &'t [E]
 
 /// A cheapest path in a graph in compact form, with its cost, or `None` exactly where no walk leads
 /// from `from` to `to`. The edges from the node n are `targets[offsets[n]..offsets[n + 1]]`.
-pub fn cheapest_in_compact<A>(
-    alloc: A,
+pub fn cheapest_in_compact(
+    alloc: Global,
     offsets: &[usize],
     targets: &[(usize, u32)],
     from: usize,
     to: usize,
-) -> Result<Option<(Vec<usize, A>, u32)>, PathError>
-where
-    A: Allocator + Copy,
+) -> Result<Option<(Vec<usize>, u32)>, PathError>
     requires inside { IsNode offsets.now from }
     requires compact { IsCompact offsets.now targets.now }
     requires in_range { All (λ e. IsNode offsets.now e.0) targets.now }
@@ -75,15 +73,13 @@ where
 /// A path with fewest edges in a graph in compact form, from one of the starts to `to`, or `None`
 /// exactly where no walk leads from a start to `to`. The nodes after the node n are
 /// `targets[offsets[n]..offsets[n + 1]]`.
-pub fn fewest_in_compact<A>(
-    alloc: A,
+pub fn fewest_in_compact(
+    alloc: Global,
     offsets: &[usize],
     targets: &[usize],
     starts: &NodeRefs<'_, usize>,
     to: usize,
-) -> Result<Option<Vec<usize, A>>, PathError>
-where
-    A: Allocator + Copy,
+) -> Result<Option<Vec<usize>>, PathError>
     requires inside { All (IsNode offsets.now) starts.now }
     requires compact { IsCompact offsets.now targets.now }
     requires in_range { All (IsNode offsets.now) targets.now }

@@ -10,7 +10,7 @@ use pf_base::utils::move_in_direction;
 use pf_base::{NodeRefs, PathError};
 use pf_search::directed::bfs::bfs;
 use pf_search::directed::dijkstra::dijkstra;
-use std::alloc::Allocator;
+use std::alloc::Global;
 
 /// The cell that a step leads to, with its height, where it is on the board and at most as high as
 /// `bound`.
@@ -50,16 +50,14 @@ fn enter_cell(
 /// A cheapest way over a board from one cell to another by steps to the right, down, to the left
 /// and up, with its cost, or `None` exactly where there is no way. A step is taken only to a cell
 /// that is at most as high as `bound`, and costs its height.
-pub fn cheapest_on_board<A>(
-    alloc: A,
+pub fn cheapest_on_board(
+    alloc: Global,
     heights: &[u8],
     dimensions: (usize, usize),
     bound: u8,
     from: (usize, usize),
     to: (usize, usize),
-) -> Result<Option<(Vec<(usize, usize), A>, u32)>, PathError>
-where
-    A: Allocator + Copy,
+) -> Result<Option<(Vec<(usize, usize)>, u32)>, PathError>
     requires { length heights.now ≡ dimensions.0 * dimensions.1 }
     ensures best { IfOk result (IsCheapestOrNone same_cell (steps_from heights.now dimensions bound) (from ∷ []) (λ cell. same_cell cell to) (λ c. pos c)) }
     ensures overflow { result ≡ Err PathError.CostOverflow
@@ -82,16 +80,14 @@ where
 
 /// A way with fewest steps over a board from one of the starts to a cell, or `None` exactly where
 /// there is none. The steps are those of [`cheapest_on_board`].
-pub fn fewest_on_board<A>(
-    alloc: A,
+pub fn fewest_on_board(
+    alloc: Global,
     heights: &[u8],
     dimensions: (usize, usize),
     bound: u8,
     starts: &NodeRefs<'_, (usize, usize)>,
     to: (usize, usize),
-) -> Result<Option<Vec<(usize, usize), A>>, PathError>
-where
-    A: Allocator + Copy,
+) -> Result<Option<Vec<(usize, usize)>>, PathError>
     requires { length heights.now ≡ dimensions.0 * dimensions.1 }
     ensures best { IfOk result (IsFewestEdgesOrNone same_cell (cells_from heights.now dimensions bound) starts.now (λ cell. same_cell cell to)) }
     ensures errors { IfErr result (λ e. e ≡ PathError.OutOfMemory) }

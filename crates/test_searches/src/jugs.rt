@@ -4,9 +4,12 @@ ghost use Rattle.std.specs.Prelude.{◌≡◌, ◌==◌, ◌∷◌, [], IfOk, If
 ghost use Rattle.pf_base.specs.Successors.{IsFewestEdgesOrNone};
 ghost use Rattle.test_searches.specs.Moves.{moves_from};
 
+#[cfg(test)]
 use pf_base::{NodeRefs, PathError};
+#[cfg(test)]
 use pf_search::directed::bfs::bfs;
-use std::alloc::Allocator;
+#[cfg(test)]
+use std::alloc::Global;
 
 /// The litres in each jug.
 #[derive(Clone, Debug, PartialEq, Eq, Hash, Drop)]
@@ -15,6 +18,7 @@ pub struct Jugs {
     pub five: u8,
 }
 
+#[cfg(test)]
 impl Jugs {
     /// What one move leads to: to fill a jug, to empty one, or to pour one into the other.
     fn moves(&self) -> [Jugs; 6]
@@ -41,11 +45,8 @@ impl Jugs {
 }
 
 /// The fewest moves from `start` to so many litres in the jug of five, or `None` where none lead there.
-pub fn fewest_moves<A: Allocator + Copy>(
-    alloc: A,
-    start: &Jugs,
-    litres: u8,
-) -> Result<Option<Vec<Jugs, A>>, PathError>
+#[cfg(test)]
+pub fn fewest_moves(alloc: Global, start: &Jugs, litres: u8) -> Result<Option<Vec<Jugs>>, PathError>
     ensures best { IfOk result (IsFewestEdgesOrNone ⟦<Jugs as PartialEq>⟧.eq moves_from (start.now ∷ []) (λ s. s.five == litres)) }
     ensures errors { IfErr result (λ e. e ≡ PathError.OutOfMemory) }
 {

@@ -9,6 +9,7 @@ use pf_base::{Cost, PathError};
 use pf_search::directed::dijkstra::dijkstra;
 use std::alloc::Allocator;
 use std::hash::Hash;
+use test_edge_lists::edges_from;
 
 /// A cheapest path in a graph that is given as a list of edges (from, to, cost), with its cost, or
 /// `None` exactly where no walk leads from `from` to `to`.
@@ -29,15 +30,5 @@ where
         → IsPastRange N.eq (edges_from N.eq edges.now C.value) (from ∷ []) (λ n. N.eq n to) C.fits }
     ensures errors { IfErr result (λ e. (e ≡ PathError.OutOfMemory) ⊎ (e ≡ PathError.CostOverflow)) }
 {
-    dijkstra(
-        alloc,
-        &from,
-        |n| {
-            let node = *n;
-            edges
-                .iter()
-                .filter_map(move |e| if e.0 == node { Some((e.1, e.2)) } else { None })
-        },
-        |n| *n == to,
-    )
+    dijkstra(alloc, &from, |n| edges_from(edges, *n), |n| *n == to)
 }

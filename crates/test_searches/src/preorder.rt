@@ -1,6 +1,6 @@
 //! Callers of searches and walks in preorder.
 
-ghost use Rattle.std.specs.Prelude.{◌<◌, All, length};
+ghost use Rattle.std.specs.Prelude.{◌<◌, All, IfOk, length};
 
 use pf_base::PathError;
 use pf_search::directed::dfs::{dfs, dfs_reach};
@@ -18,6 +18,21 @@ pub fn first_in_pairs(
     dfs(alloc, start, |n| nodes_after(edges, *n), |n| *n == goal)
 }
 
+/// Whether a walk gives these nodes in its first `limit` steps, and no others.
+fn gives<W>(walk: Result<W, PathError>, limit: usize, nodes: &[usize]) -> Result<bool, PathError>
+where
+    W: Iterator<Item = Result<usize, PathError>>,
+    requires { IfOk walk (λ w. W.can_next w) }
+{
+    let mut wanted = nodes.iter();
+    for node in walk?.take(limit) {
+        if wanted.next() != Some(&node?) {
+            return Ok(false);
+        }
+    }
+    Ok(wanted.next().is_none())
+}
+
 /// Whether these nodes come in the first `limit` steps of a walk in preorder, in a table in which each row
 /// lists the nodes after its node.
 pub fn comes_in_rows(
@@ -30,14 +45,6 @@ pub fn comes_in_rows(
     requires inside { from < length rows.now }
     requires in_range { All (λ row. All (λ n. n < length rows.now) row.items) rows.now }
 {
-    let mut wanted = nodes.iter();
-    let mut is_right = true;
-    let walk = dfs_reach(alloc, from, |n: &usize| rows[*n].iter().copied())?;
-    for node in walk.take(limit) {
-        is_right &= match node {
-            Ok(given) => wanted.next() == Some(&given),
-            Err(_) => false,
-        };
-    }
-    Ok(is_right && wanted.next().is_none())
+    let walk = dfs_reach(alloc, from, |n: &usize| rows[*n].iter().copied());
+    gives(walk, limit, nodes)
 }

@@ -10,7 +10,7 @@ ghost use Rattle.test_searches.specs.Rings.{ring_edges, ring_places};
 use num_traits::Number;
 use pf_base::{Cost, PathError};
 use pf_tables::{CompactRows, Costless, Graph, bfs, dijkstra};
-use std::alloc::Allocator;
+use std::alloc::Global;
 
 /// A ring of nodes: each leads to the next one at cost 1, and the last one to the node 0.
 #[derive(Drop)]
@@ -42,28 +42,24 @@ impl Graph<u32> for Ring {
 
 /// The way from one node of a ring to another, and its cost, or `None` exactly where no walk leads
 /// there.
-pub fn way_round<A>(
-    alloc: A,
+pub fn way_round(
+    alloc: Global,
     ring: &Ring,
     from: usize,
     to: usize,
-) -> Result<Option<(Vec<usize, A>, u32)>, PathError>
-where
-    A: Allocator + Copy,
+) -> Result<Option<(Vec<usize>, u32)>, PathError>
     ensures best { IfOk result (IsCheapestOrNone nat_eq (ring_edges ring.now.nodes) (from ∷ []) (λ n. n == to) (λ c. pos c)) }
 {
     dijkstra(alloc, ring, from, to)
 }
 
 /// A path with fewest edges to a node that is marked, or `None` exactly where no walk leads to one.
-pub fn way_to_marked<A>(
-    alloc: A,
+pub fn way_to_marked(
+    alloc: Global,
     graph: &CompactRows<'_, &[usize], Costless>,
     from: usize,
     marks: &[bool],
-) -> Result<Option<Vec<usize, A>>, PathError>
-where
-    A: Allocator + Copy,
+) -> Result<Option<Vec<usize>>, PathError>
     ensures best { IfOk result (IsFewestEdgesOrNone nat_eq (successors_of ⟦<Costless as Number>⟧.value (length graph.now.0 - 1) (λ n. filled (between graph.now.0 graph.now.1 n))) (from ∷ []) (is_marked marks.now)) }
 {
     bfs(alloc, graph, from, marks)

@@ -9,7 +9,7 @@ use num_traits::Number;
 use pf_base::{NodeRefs, PathError};
 use pf_search::directed::bfs::bfs;
 use pf_search::directed::dijkstra::dijkstra;
-use std::alloc::Allocator;
+use std::alloc::Global;
 
 /// Whether each edge of a row leads below `bound`.
 fn leads_below(row: &[(usize, u32)], bound: usize) -> bool
@@ -27,14 +27,12 @@ pub fn leads_to_rows(rows: &[Vec<(usize, u32)>]) -> bool
 
 /// A cheapest path in a table, with its cost, or `None` exactly where no walk leads from `from` to
 /// `to`. The nodes are the places of the rows, and each row lists the edges from its node.
-pub fn cheapest_in_rows<A>(
-    alloc: A,
+pub fn cheapest_in_rows(
+    alloc: Global,
     rows: &[Vec<(usize, u32)>],
     from: usize,
     to: usize,
-) -> Result<Option<(Vec<usize, A>, u32)>, PathError>
-where
-    A: Allocator + Copy,
+) -> Result<Option<(Vec<usize>, u32)>, PathError>
     requires inside { from < length rows.now }
     requires in_range { All (λ row. All (λ e. e.0 < length rows.now) row.items) rows.now }
     ensures best { IfOk result (IsCheapestOrNone nat_eq (edges_of rows.now) (from ∷ []) (λ n. n == to) (λ c. pos c)) }
@@ -47,14 +45,12 @@ where
 
 /// A path with fewest edges in a table, from one of the starts to `to`, or `None` exactly where no
 /// walk leads from a start to `to`. Each row lists the nodes after its node.
-pub fn fewest_in_rows<A>(
-    alloc: A,
+pub fn fewest_in_rows(
+    alloc: Global,
     rows: &[Vec<usize>],
     starts: &NodeRefs<'_, usize>,
     to: usize,
-) -> Result<Option<Vec<usize, A>>, PathError>
-where
-    A: Allocator + Copy,
+) -> Result<Option<Vec<usize>>, PathError>
     requires inside { All (λ n. n < length rows.now) starts.now }
     requires in_range { All (λ row. All (λ n. n < length rows.now) row.items) rows.now }
     ensures best { IfOk result (IsFewestEdgesOrNone nat_eq (nodes_after rows.now) starts.now (λ n. n == to)) }

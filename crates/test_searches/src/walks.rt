@@ -1,6 +1,6 @@
 //! Callers of a lazy walk.
 
-ghost use Rattle.std.specs.Prelude.{◌≡◌, ◌<◌, ◌∷◌, [], ◌+◌, ◌%◌, ◌^◌, All, length};
+ghost use Rattle.std.specs.Prelude.{◌≡◌, ◌<◌, ◌∷◌, [], ◌+◌, ◌%◌, ◌^◌, All, IfOk, length};
 
 use pf_base::PathError;
 use pf_search::directed::bfs::bfs_reach;
@@ -28,6 +28,19 @@ pub fn count_in_rows(
     Ok(count)
 }
 
+/// The node that a walk gives in step `steps`, and 0 where there is no step.
+fn last_of<W>(walk: Result<W, PathError>, steps: usize) -> Result<u64, PathError>
+where
+    W: Iterator<Item = Result<u64, PathError>>,
+    requires { IfOk walk (λ w. W.can_next w) }
+{
+    let mut last = 0;
+    for node in walk?.take(steps) {
+        last = node?;
+    }
+    Ok(last)
+}
+
 /// The node that comes in step `steps` of a walk on the endless graph in which one node follows each,
 /// and the start where there is no step.
 pub fn walked(alloc: Global, steps: usize) -> Result<u64, PathError> {
@@ -41,10 +54,6 @@ pub fn walked(alloc: Global, steps: usize) -> Result<u64, PathError> {
             calls = calls.wrapping_add(1);
             [n.wrapping_add(1)]
         },
-    )?;
-    let mut last = 0;
-    for node in walk.take(steps) {
-        last = node?;
-    }
-    Ok(last)
+    );
+    last_of(walk, steps)
 }

@@ -6,7 +6,7 @@ use Rattle.test_searches.specs.Compact.{edges_in, row_of}
 use Rattle.test_searches.proofs.compact.cheapest_in_compact.Goals as goal
 
 pub dijkstra-requires-clause-graph : goal.dijkstra-requires-clause-graph
-dijkstra-requires-clause-graph g c = (
+dijkstra-requires-clause-graph c = (
   edges_in c.args.offsets.now c.args.targets.now,
   (λ n. n == c.args.to),
   record {
@@ -19,7 +19,7 @@ dijkstra-requires-clause-graph g c = (
 
 pub returns : goal.returns
 unfolding dijkstra-requires-clause-graph
-returns g c =
-    let p = dijkstra-requires-clause-graph g (record { before = c.before.before; type_inv = record { offsets = c.type_inv.offsets } }) in
+returns c =
+    let p = dijkstra-requires-clause-graph (record { before = c.before.before; type_inv = record { offsets = c.type_inv.offsets } }) in
     let e = c.dijkstra.ensures in
     record { best = e.best p.0 p.1 p.2; overflow = e.overflow p.0 p.1 p.2; errors = e.errors }

@@ -5,7 +5,7 @@ use Rattle.test_searches.specs.Compact.{nodes_in}
 use Rattle.test_searches.proofs.compact.fewest_in_compact.Goals as goal
 
 pub bfs-requires-clause-graph : goal.bfs-requires-clause-graph
-bfs-requires-clause-graph g c = (
+bfs-requires-clause-graph c = (
   nodes_in c.args.offsets.now c.args.targets.now,
   (λ n. n == c.args.to),
   record {
@@ -17,7 +17,7 @@ bfs-requires-clause-graph g c = (
 
 pub returns : goal.returns
 unfolding bfs-requires-clause-graph
-returns g c =
-    let p = bfs-requires-clause-graph g (record { before = c.before.before; type_inv = record { offsets = c.type_inv.offsets; targets = c.type_inv.targets } }) in
+returns c =
+    let p = bfs-requires-clause-graph (record { before = c.before.before; type_inv = record { offsets = c.type_inv.offsets; targets = c.type_inv.targets } }) in
     let e = c.bfs.ensures in
     record { best = e.best p.0 p.1 p.2; errors = e.errors }

@@ -7,7 +7,7 @@ use Rattle.test_searches.specs.Grid.{entered, four_directions, same_cell, steps_
 use Rattle.test_searches.proofs.grid.cheapest_on_board.Goals as goal
 
 pub dijkstra-requires-clause-graph : goal.dijkstra-requires-clause-graph
-dijkstra-requires-clause-graph g c =
+dijkstra-requires-clause-graph c =
     let step = entered c.args.heights.now c.args.dimensions c.args.bound in (
       steps_from c.args.heights.now c.args.dimensions c.args.bound,
       (λ cell. same_cell cell c.args.to),
@@ -20,7 +20,7 @@ dijkstra-requires-clause-graph g c =
 
 pub returns : goal.returns
 unfolding dijkstra-requires-clause-graph
-returns g c =
-    let p = dijkstra-requires-clause-graph g c.before in
+returns c =
+    let p = dijkstra-requires-clause-graph c.before in
     let e = c.dijkstra.ensures in
     record { best = e.best p.0 p.1 p.2; overflow = e.overflow p.0 p.1 p.2; errors = e.errors }

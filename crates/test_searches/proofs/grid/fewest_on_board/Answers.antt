@@ -5,7 +5,7 @@ use Rattle.test_searches.specs.Grid.{cells_from, entered_cell, four_directions, 
 use Rattle.test_searches.proofs.grid.fewest_on_board.Goals as goal
 
 pub bfs-requires-clause-graph : goal.bfs-requires-clause-graph
-bfs-requires-clause-graph g c =
+bfs-requires-clause-graph c =
     let step = entered_cell c.args.heights.now c.args.dimensions c.args.bound in (
       cells_from c.args.heights.now c.args.dimensions c.args.bound,
       (λ cell. same_cell cell c.args.to),
@@ -17,7 +17,7 @@ bfs-requires-clause-graph g c =
 
 pub returns : goal.returns
 unfolding bfs-requires-clause-graph
-returns g c =
-    let p = bfs-requires-clause-graph g c.before in
+returns c =
+    let p = bfs-requires-clause-graph c.before in
     let e = c.bfs.ensures in
     record { best = e.best p.0 p.1 p.2; errors = e.errors }

@@ -5,7 +5,7 @@ use Rattle.pf_base.proofs.Callers.{exact_successors, exact_test}
 use Rattle.test_searches.proofs.jugs.fewest_moves.Goals as goal
 
 pub bfs-requires-clause-graph : goal.bfs-requires-clause-graph
-bfs-requires-clause-graph g c = (
+bfs-requires-clause-graph c = (
   moves_from,
   (λ s. s.five == c.args.litres),
   record {
@@ -17,6 +17,6 @@ bfs-requires-clause-graph g c = (
 
 pub returns-clause-best : goal.returns-clause-best
 unfolding bfs-requires-clause-graph
-returns-clause-best g c =
-    let p = bfs-requires-clause-graph g c.before.before in
+returns-clause-best c =
+    let p = bfs-requires-clause-graph c.before.before in
     rw (← c.in_ok-starts.ensures.one) (c.bfs.ensures.best p.0 p.1 p.2)

@@ -8,7 +8,7 @@ use Rattle.test_searches.specs.Rows.{edges_of}
 use Rattle.test_searches.proofs.rows.cheapest_in_rows.Goals as goal
 
 pub dijkstra-requires-clause-graph : goal.dijkstra-requires-clause-graph
-dijkstra-requires-clause-graph g c =
+dijkstra-requires-clause-graph c =
     let items : Vec (ℕ × ℕ) Global → List (ℕ × ℕ) = λ row. row.items in (
       edges_of c.args.rows.now,
       (λ n. n == c.args.to),
@@ -22,7 +22,7 @@ dijkstra-requires-clause-graph g c =
 
 pub returns : goal.returns
 unfolding dijkstra-requires-clause-graph
-returns g c =
-    let p = dijkstra-requires-clause-graph g c.before in
+returns c =
+    let p = dijkstra-requires-clause-graph c.before in
     let e = c.dijkstra.ensures in
     record { best = e.best p.0 p.1 p.2; overflow = e.overflow p.0 p.1 p.2; errors = e.errors }

@@ -8,7 +8,7 @@ use Rattle.test_searches.specs.Rows.{nodes_after}
 use Rattle.test_searches.proofs.rows.fewest_in_rows.Goals as goal
 
 pub bfs-requires-clause-graph : goal.bfs-requires-clause-graph
-bfs-requires-clause-graph g c =
+bfs-requires-clause-graph c =
     let items : Vec ℕ Global → List ℕ = λ row. row.items in (
       nodes_after c.args.rows.now,
       (λ n. n == c.args.to),
@@ -21,7 +21,7 @@ bfs-requires-clause-graph g c =
 
 pub returns : goal.returns
 unfolding bfs-requires-clause-graph
-returns g c =
-    let p = bfs-requires-clause-graph g c.before in
+returns c =
+    let p = bfs-requires-clause-graph c.before in
     let e = c.bfs.ensures in
     record { best = e.best p.0 p.1 p.2; errors = e.errors }
