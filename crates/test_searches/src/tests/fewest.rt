@@ -4,7 +4,7 @@ use crate::both_ends::fewest_between_in_pairs;
 use crate::fewest::{Found, deepened_in_pairs, fewest_in_pairs};
 use crate::tests::answers::is_path;
 use pf_base::NodeRefs;
-use std::alloc::AllocError;
+use std::alloc::{AllocError, Global};
 use test_allocator::Refusing;
 
 /// The field of a chess board at a column and a row, each from 0 to 7.
@@ -32,35 +32,44 @@ fn add_knight_moves(moves: &mut Vec<(u8, u8)>) -> Result<(), AllocError> {
     Ok(())
 }
 
+/// Whether these are five fields, the first and the last of which are these.
+fn lead(fields: &[u8], from: u8, to: u8) -> bool {
+    fields.len() == 5 && fields.first().copied() == Some(from) && fields.last().copied() == Some(to)
+}
+
 /// Whether the answer is a way of five fields from one field to another.
 fn is_way(answer: Found<'_>, from: u8, to: u8) -> bool {
-    matches!(
-        &answer,
-        Ok(Some(fields)) if fields.len() == 5
-            && fields.first().copied() == Some(from)
-            && fields.last().copied() == Some(to)
-    )
+    match &answer {
+        Ok(Some(fields)) => lead(fields, from, to),
+        _ => false,
+    }
+}
+
+/// Whether each search answers a way of five fields.
+fn are_ways(alloc: Global, moves: &[(u8, u8)], from: u8, to: u8) -> bool {
+    let heap = Refusing::new(alloc);
+    match (
+        &NodeRefs::from_one(alloc, &from),
+        &NodeRefs::from_one(alloc, &to),
+    ) {
+        (Ok(starts), Ok(ends)) => {
+            is_way(fewest_in_pairs(&heap, moves, starts, &[to]), from, to)
+                && is_way(deepened_in_pairs(&heap, moves, from, to), from, to)
+                && is_way(
+                    fewest_between_in_pairs(&heap, moves, starts, ends),
+                    from,
+                    to,
+                )
+        }
+        _ => false,
+    }
 }
 
 #[test]
 fn a_knight_needs_four_moves(rt: HostRuntime) {
     let mut moves = Vec::new(rt.alloc());
     add_knight_moves(&mut moves).expect(&rt, "memory");
-    let (from, to) = (field(1, 1), field(4, 6));
-    let starts = NodeRefs::from_one(rt.alloc(), &from).expect(&rt, "memory");
-    let ends = NodeRefs::from_one(rt.alloc(), &to).expect(&rt, "memory");
-    let heap = Refusing::new(rt.alloc());
-    assert!(rt; moves.len() == 336);
-    assert!(rt;
-        is_way(fewest_in_pairs(&heap, &moves, &starts, &[to]), from, to),
-        "bfs"
-    );
-    assert!(rt;
-        is_way(deepened_in_pairs(&heap, &moves, from, to), from, to),
-        "iddfs"
-    );
-    let between = fewest_between_in_pairs(&heap, &moves, &starts, &ends);
-    assert!(rt; is_way(between, from, to), "bfs_bidirectional");
+    assert!(rt; moves.len() == 336 && are_ways(rt.alloc(), &moves, field(1, 1), field(4, 6)));
 }
 
 /// Edges that follow one another.
@@ -101,17 +110,25 @@ const WAYS: &[Ways] = &[
     (CHAIN, &[1], &[], None),
 ];
 
+/// Whether both searches answer the path of a row.
+fn are_nearest(alloc: Global, row: &Ways) -> bool {
+    let heap = Refusing::new(alloc);
+    let (edges, from, to, want) = *row;
+    match (
+        &NodeRefs::from_nodes(alloc, from),
+        &NodeRefs::from_nodes(alloc, to),
+    ) {
+        (Ok(starts), Ok(ends)) => {
+            is_path(fewest_in_pairs(&heap, edges, starts, to), want)
+                && is_path(fewest_between_in_pairs(&heap, edges, starts, ends), want)
+        }
+        _ => false,
+    }
+}
+
 #[test]
 fn the_nearest_start_and_end_are_taken(rt: HostRuntime) {
-    let heap = Refusing::new(rt.alloc());
-    for (edges, from, to, want) in WAYS {
-        let starts = NodeRefs::from_nodes(rt.alloc(), *from).expect(&rt, "memory");
-        let ends = NodeRefs::from_nodes(rt.alloc(), *to).expect(&rt, "memory");
-        assert!(rt;
-            is_path(fewest_in_pairs(&heap, edges, &starts, to), *want),
-            "{from:?}"
-        );
-        let between = fewest_between_in_pairs(&heap, edges, &starts, &ends);
-        assert!(rt; is_path(between, *want), "{from:?}, from both ends");
+    for (number, row) in WAYS.iter().enumerate() {
+        assert!(rt; are_nearest(rt.alloc(), row), "row {number}");
     }
 }

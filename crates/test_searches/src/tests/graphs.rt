@@ -4,6 +4,7 @@ use crate::ring::{Ring, first_target, way_round, way_to_marked};
 use crate::tests::answers::{is_cheapest, is_path};
 use pf_base::PathError;
 use pf_tables::{Board, CompactRows, EdgeList, Rows, Steps, bfs, dijkstra};
+use std::alloc::Global;
 
 /// The edges from five nodes.
 pub const ROWS: &[&[(usize, u32)]] = &[
@@ -31,21 +32,38 @@ const PATHS: &[Paths] = &[
     (0, 5, None, None),
 ];
 
+/// Whether both searches over the rows answer the paths between two nodes.
+fn are_found(alloc: Global, graph: &Rows<'_, &[(usize, u32)], u32>, paths: &Paths) -> bool {
+    let (from, to, cheapest, fewest) = *paths;
+    is_cheapest(dijkstra(alloc, graph, from, to), cheapest)
+        && is_path(bfs(alloc, graph, from, to), fewest)
+}
+
+/// Of the five nodes the last two are marked.
+const MARKS: &[bool] = &[false, false, false, true, true];
+
+/// Whether each path is found over the rows.
+fn are_all_found(alloc: Global, graph: &Rows<'_, &[(usize, u32)], u32>) -> bool {
+    for paths in PATHS {
+        if !are_found(alloc, graph, paths) {
+            return false;
+        }
+    }
+    let marked = dijkstra(alloc, graph, 0, MARKS);
+    is_cheapest(marked, Some((&[0, 1, 3], 9))) && first_target(graph) == Some(1)
+}
+
+/// The same over the table `ROWS`.
+fn are_found_over_rows(alloc: Global) -> bool {
+    match &Rows::new(ROWS) {
+        Ok(graph) => are_all_found(alloc, graph),
+        Err(_) => false,
+    }
+}
+
 #[test]
 fn searches_over_rows(rt: HostRuntime) {
-    let alloc = rt.alloc();
-    let graph = Rows::new(ROWS).expect(&rt, "a graph");
-    for (from, to, cheapest, fewest) in PATHS {
-        let found = dijkstra(alloc, &graph, *from, *to);
-        assert!(rt; is_cheapest(found, *cheapest), "{from} to {to}");
-        assert!(rt;
-            is_path(bfs(alloc, &graph, *from, *to), *fewest),
-            "{from} to {to}"
-        );
-    }
-    let marks: &[bool] = &[false, false, false, true, true];
-    assert!(rt; is_cheapest(dijkstra(alloc, &graph, 0, marks), Some((&[0, 1, 3], 9))));
-    assert!(rt; first_target(&graph) == Some(1));
+    assert!(rt; are_found_over_rows(rt.alloc()));
 }
 
 /// Where the edges of each of the five nodes begin, and where the last ones end.
@@ -57,14 +75,31 @@ const EDGES: &[(usize, u32)] = &[(1, 4), (2, 2), (2, 1), (3, 5), (3, 8), (4, 10)
 /// Where they lead.
 const TARGETS: &[usize] = &[1, 2, 2, 3, 3, 4, 4];
 
+/// Whether a cheapest path is found over the edges.
+fn is_edge_path(alloc: Global) -> bool {
+    match &CompactRows::new(OFFSETS, EDGES) {
+        Ok(graph) => is_cheapest(dijkstra(alloc, graph, 0, 4), Some((&[0, 1, 3, 4], 11))),
+        Err(_) => false,
+    }
+}
+
+/// Of the five nodes the last one is marked.
+const LAST_MARKED: &[bool] = &[false, false, false, false, true];
+
+/// Whether a path with fewest edges is found over the targets.
+fn is_target_path(alloc: Global) -> bool {
+    match &CompactRows::new(OFFSETS, TARGETS) {
+        Ok(graph) => is_path(
+            way_to_marked(alloc, graph, 0, LAST_MARKED),
+            Some(&[0, 2, 4]),
+        ),
+        Err(_) => false,
+    }
+}
+
 #[test]
 fn searches_over_compact_rows(rt: HostRuntime) {
-    let alloc = rt.alloc();
-    let graph = CompactRows::new(OFFSETS, EDGES).expect(&rt, "a graph");
-    assert!(rt; is_cheapest(dijkstra(alloc, &graph, 0, 4), Some((&[0, 1, 3, 4], 11))));
-    let graph = CompactRows::new(OFFSETS, TARGETS).expect(&rt, "a graph");
-    let marks = [false, false, false, false, true];
-    assert!(rt; is_path(way_to_marked(alloc, &graph, 0, &marks), Some(&[0, 2, 4])));
+    assert!(rt; is_edge_path(rt.alloc()) && is_target_path(rt.alloc()));
 }
 
 /// What it costs to enter each of nine cells, or `None` where none can.
@@ -80,20 +115,31 @@ const CELLS: &[Option<u32>] = &[
     Some(1),
 ];
 
+/// Whether a board with four steps is right about its cells, and a cheapest way on it.
+fn is_way_by_four(alloc: Global) -> bool {
+    match &Board::new(3, 3, CELLS, Steps::Four) {
+        Ok(board) => {
+            board.number_of(0, 2) == 2
+                && board.position_of(5) == (1, 2)
+                && is_cheapest(dijkstra(alloc, board, 0, 2), Some((&[0, 3, 4, 5, 2], 12)))
+        }
+        Err(_) => false,
+    }
+}
+
+/// Whether a way with fewest steps is found on a board with eight steps.
+fn is_way_by_eight(alloc: Global) -> bool {
+    match &Board::new(3, 3, CELLS, Steps::Eight) {
+        Ok(board) => is_path(bfs(alloc, board, 0, 2), Some(&[0, 4, 2])),
+        Err(_) => false,
+    }
+}
+
 #[test]
 fn searches_over_boards_and_rings(rt: HostRuntime) {
-    let alloc = rt.alloc();
-    let board = Board::new(3, 3, CELLS, Steps::Four).expect(&rt, "a board");
-    assert!(rt; board.number_of(0, 2) == 2 && board.position_of(5) == (1, 2));
-    assert!(rt; is_cheapest(dijkstra(alloc, &board, 0, 2), Some((&[0, 3, 4, 5, 2], 12))));
-    let board = Board::new(3, 3, CELLS, Steps::Eight).expect(&rt, "a board");
-    assert!(rt; is_path(bfs(alloc, &board, 0, 2), Some(&[0, 4, 2])));
-    assert!(rt;
-        is_cheapest(
-            way_round(alloc, &Ring { nodes: 5 }, 3, 1),
-            Some((&[3, 4, 0, 1], 3))
-        )
-    );
+    assert!(rt; is_way_by_four(rt.alloc()) && is_way_by_eight(rt.alloc()));
+    let way = way_round(rt.alloc(), &Ring { nodes: 5 }, 3, 1);
+    assert!(rt; is_cheapest(way, Some((&[3, 4, 0, 1], 3))));
 }
 
 /// Rows and edges whose costs together are above 255.
@@ -101,18 +147,30 @@ const DEAR_ROWS: &[&[(usize, u8)]] = &[&[(1, 200)], &[(2, 100)], &[]];
 
 const DEAR_EDGES: &[(char, char, u8)] = &[('a', 'b', 200), ('b', 'c', 100)];
 
-#[test]
-fn sums_that_do_not_fit(rt: HostRuntime) {
-    let alloc = rt.alloc();
-    let graph = Rows::new(DEAR_ROWS).expect(&rt, "a graph");
-    assert!(rt; is_cheapest(dijkstra(alloc, &graph, 0, 1), Some((&[0, 1], 200))));
-    assert!(rt; matches!(dijkstra(alloc, &graph, 0, 2), Err(PathError::CostOverflow)));
-    let list = EdgeList::new(alloc, DEAR_EDGES).expect(&rt, "memory");
-    assert!(rt; matches!(list.dijkstra(alloc, &'a', &'b'), Ok(Some((_, 200)))));
-    assert!(rt;
-        matches!(
+/// Whether a cheapest path over the rows costs 200, and one whose cost does not fit is refused.
+fn is_refused(alloc: Global, graph: &Rows<'_, &[(usize, u8)], u8>) -> bool {
+    is_cheapest(dijkstra(alloc, graph, 0, 1), Some((&[0, 1], 200)))
+        && matches!(dijkstra(alloc, graph, 0, 2), Err(PathError::CostOverflow))
+}
+
+/// The same over the edges.
+fn is_refused_by_name(alloc: Global, list: &EdgeList<'_, char, u8>) -> bool {
+    matches!(list.dijkstra(alloc, &'a', &'b'), Ok(Some((_, 200))))
+        && matches!(
             list.dijkstra(alloc, &'a', &'c'),
             Err(PathError::CostOverflow)
         )
-    );
+}
+
+/// Whether both are so over the rows and the edges that are dear.
+fn are_refused(alloc: Global) -> bool {
+    match (&Rows::new(DEAR_ROWS), &EdgeList::new(alloc, DEAR_EDGES)) {
+        (Ok(graph), Ok(list)) => is_refused(alloc, graph) && is_refused_by_name(alloc, list),
+        _ => false,
+    }
+}
+
+#[test]
+fn sums_that_do_not_fit(rt: HostRuntime) {
+    assert!(rt; are_refused(rt.alloc()));
 }

@@ -7,6 +7,7 @@ use crate::tests::answers::Outcome;
 use crate::tests::list::SPELLED;
 use pf_base::PathError;
 use pf_tables::EdgeList;
+use std::alloc::Global;
 use test_allocator::Refusing;
 
 /// One-way roads between five places.
@@ -67,18 +68,47 @@ const WAYS: &[Ways] = &[
     ('z', 'z', &['z'], 0, &['z']),
 ];
 
+/// A list of edges over such a heap.
+type Roads<'r, 'h> = EdgeList<'r, char, u32, Heap<'h>>;
+
+/// Whether both searches answer the ways of a row.
+fn are_ways<'h>(heap: Heap<'h>, roads: &Roads<'_, 'h>, ways: &Ways) -> bool {
+    let (from, to, cheapest, cost, fewest) = ways;
+    let found = cheapest_way(heap, roads, from, to);
+    cheapest_way_outcome(found, cheapest, *cost) == Outcome::Right
+        && way_outcome(roads.bfs(heap, from, to), fewest) == Outcome::Right
+}
+
+/// Whether both searches answer the ways of each row.
+fn have_ways<'h>(heap: Heap<'h>, roads: &Roads<'_, 'h>) -> bool {
+    for ways in WAYS {
+        if !are_ways(heap, roads, ways) {
+            return false;
+        }
+    }
+    true
+}
+
+/// Whether names have their numbers.
+fn are_numbered(roads: &Roads<'_, '_>) -> bool {
+    roads.number_of(&'d') == Some(3)
+        && roads.number_of(&'f').is_none()
+        && roads.len() > 3
+        && *roads.name_of(3) == 'd'
+}
+
+/// Whether the ways of each row are found in the list `ROADS`, and names have their numbers.
+fn are_all_ways(alloc: Global) -> bool {
+    let heap = Refusing::new(alloc);
+    match &EdgeList::new(&heap, ROADS) {
+        Ok(roads) => have_ways(&heap, roads) && are_numbered(roads),
+        Err(_) => false,
+    }
+}
+
 #[test]
 fn ways_between_names(rt: HostRuntime) {
-    let heap = Refusing::new(rt.alloc());
-    let roads = EdgeList::new(&heap, ROADS).expect(&rt, "memory");
-    for (from, to, cheapest, cost, fewest) in WAYS {
-        let way = cheapest_way_outcome(cheapest_way(&heap, &roads, from, to), cheapest, *cost);
-        assert!(rt; way == Outcome::Right, "{from} to {to}");
-        let way = way_outcome(roads.bfs(&heap, from, to), fewest);
-        assert!(rt; way == Outcome::Right, "{from} to {to}");
-    }
-    assert!(rt; roads.number_of(&'d') == Some(3) && roads.number_of(&'f').is_none());
-    assert!(rt; roads.len() > 3 && *roads.name_of(3) == 'd');
+    assert!(rt; are_all_ways(rt.alloc()));
 }
 
 /// Whether the places are spelled like this.
@@ -91,19 +121,59 @@ fn are_spelled(places: &[&NoCase<'_>], spellings: &[&str]) -> bool {
     places.len() == spellings.len()
 }
 
+/// Whether the only cheapest way is spelled like this, and costs so much.
+fn is_spelled(
+    answer: Result<Option<(Vec<&NoCase<'_>>, u32)>, PathError>,
+    spellings: &[&str],
+    price: u32,
+) -> bool {
+    match &answer {
+        Ok(Some((places, cost))) => *cost == price && are_spelled(places, spellings),
+        _ => false,
+    }
+}
+
+/// Whether the only way with fewest roads is spelled like this.
+fn is_fewest_spelled(
+    answer: Result<Option<Vec<&NoCase<'_>>>, PathError>,
+    spellings: &[&str],
+) -> bool {
+    match &answer {
+        Ok(Some(places)) => are_spelled(places, spellings),
+        _ => false,
+    }
+}
+
+/// Names, each spelled in another way than in the roads, and the inn, which stands in none of them, in
+/// two ways.
+const HOME: NoCase<'static> = NoCase { name: "home" };
+
+const HARBOUR: NoCase<'static> = NoCase { name: "harbour" };
+
+const INN: NoCase<'static> = NoCase { name: "inn" };
+
+const LOUD_INN: NoCase<'static> = NoCase { name: "INN" };
+
+/// Whether ways over the roads are spelled as these are, and the way to a name that stands in none of
+/// them from that name as it is asked for.
+fn are_spelled_ways(alloc: Global, roads: &EdgeList<'_, NoCase<'_>, u32>) -> bool {
+    let cheapest = roads.dijkstra(alloc, &HOME, &HARBOUR);
+    let fewest = roads.bfs(alloc, &HOME, &HARBOUR);
+    let alone = roads.bfs(alloc, &INN, &LOUD_INN);
+    is_spelled(cheapest, &["HOME", "Mill", "HARBOUR"], 5)
+        && is_fewest_spelled(fewest, &["HOME", "HARBOUR"])
+        && is_fewest_spelled(alone, &["inn"])
+}
+
+/// The same of a list of these roads.
+fn are_ways_spelled(alloc: Global) -> bool {
+    match &EdgeList::new(alloc, SPELLED) {
+        Ok(roads) => are_spelled_ways(alloc, roads),
+        Err(_) => false,
+    }
+}
+
 #[test]
 fn names_that_ignore_letter_case(rt: HostRuntime) {
-    let alloc = rt.alloc();
-    let roads = EdgeList::new(alloc, SPELLED).expect(&rt, "memory");
-    let from = NoCase { name: "home" };
-    let to = NoCase { name: "harbour" };
-    let cheapest = roads.dijkstra(alloc, &from, &to);
-    assert!(rt;
-        matches!(&cheapest, Ok(Some((places, 5))) if are_spelled(places, &["HOME", "Mill", "HARBOUR"]))
-    );
-    let fewest = roads.bfs(alloc, &from, &to);
-    assert!(rt; matches!(&fewest, Ok(Some(places)) if are_spelled(places, &["HOME", "HARBOUR"])));
-    // Two spellings of a name that stands in no edge.
-    let alone = roads.bfs(alloc, &NoCase { name: "inn" }, &NoCase { name: "INN" });
-    assert!(rt; matches!(&alone, Ok(Some(places)) if are_spelled(places, &["inn"])));
+    assert!(rt; are_ways_spelled(rt.alloc()));
 }

@@ -28,17 +28,23 @@ fn leads_inside(rows: &[Vec<usize>]) -> bool
 /// The edges from three nodes.
 const ROWS: &[&[(usize, u32)]] = &[&[(2, 9), (1, 3)], &[(2, 4), (0, 0)], &[(2, 0), (2, 1)]];
 
-/// The cheapest paths to the node 2: where they begin, their nodes and their costs.
-const CHEAPEST: &[(usize, &[usize], u32)] = &[(0, &[0, 1, 2], 7), (1, &[1, 2], 4)];
+/// The cheapest paths to the node 2, and their costs.
+const CHEAPEST: &[(&[usize], u32)] = &[(&[0, 1, 2], 7), (&[1, 2], 4)];
+
+/// Whether this is a cheapest path to the node 2, at this cost.
+fn is_way(alloc: Global, table: &[Vec<(usize, u32)>], path: &[usize], cost: u32) -> bool {
+    let from = path.first().copied().unwrap_or(0);
+    if from >= table.len() || !leads_to_rows(table) {
+        return false;
+    }
+    is_cheapest(cheapest_in_rows(alloc, table, from, 2), Some((path, cost)))
+}
 
 #[test]
 fn cheapest_paths(rt: HostRuntime) {
     let table = table_of(rt.alloc(), ROWS).expect(&rt, "memory");
-    assert!(rt; leads_to_rows(&table));
-    for (from, path, cost) in CHEAPEST {
-        assert!(rt; *from < table.len());
-        let answer = cheapest_in_rows(rt.alloc(), &table, *from, 2);
-        assert!(rt; is_cheapest(answer, Some((*path, *cost))), "from {from}");
+    for (path, cost) in CHEAPEST {
+        assert!(rt; is_way(rt.alloc(), &table, path, *cost), "{path:?}");
     }
 }
 
@@ -126,14 +132,18 @@ const PREORDERS: &[(&[&[usize]], usize, &[usize])] = &[
     (DOUBLES_AND_TRIPLES, 20, &[1, 2, 4, 8, 12, 6, 3, 9]),
 ];
 
+/// The same in a table of these rows.
+fn is_preorder(alloc: Global, rows: &[&[usize]], limit: usize, nodes: &[usize]) -> bool {
+    match &table_of(alloc, rows) {
+        Ok(table) => comes_in_preorder(alloc, table, limit, nodes),
+        Err(_) => false,
+    }
+}
+
 #[test]
 fn preorders(rt: HostRuntime) {
     for (rows, limit, nodes) in PREORDERS {
-        let table = table_of(rt.alloc(), rows).expect(&rt, "memory");
-        assert!(rt;
-            comes_in_preorder(rt.alloc(), &table, *limit, nodes),
-            "{rows:?}"
-        );
+        assert!(rt; is_preorder(rt.alloc(), rows, *limit, nodes), "{nodes:?}");
     }
 }
 
@@ -284,13 +294,18 @@ fn numbers_cost_themselves(rt: HostRuntime) {
     assert!(rt; table.len() == 101 && come_in_order(rt.alloc(), &table));
 }
 
+/// Whether the steps of a row come in a table of its edges.
+fn are_steps(alloc: Global, steps: &Steps) -> bool {
+    let (rows, limit, want) = *steps;
+    match &table_of(alloc, rows) {
+        Ok(table) => comes_by_cost(alloc, table, limit, want),
+        Err(_) => false,
+    }
+}
+
 #[test]
 fn nodes_by_rising_cost(rt: HostRuntime) {
-    for (rows, limit, want) in STEPS {
-        let table = table_of(rt.alloc(), rows).expect(&rt, "memory");
-        assert!(rt;
-            comes_by_cost(rt.alloc(), &table, *limit, *want),
-            "{rows:?}"
-        );
+    for (number, steps) in STEPS.iter().enumerate() {
+        assert!(rt; are_steps(rt.alloc(), steps), "row {number}");
     }
 }

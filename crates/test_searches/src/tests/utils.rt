@@ -25,14 +25,21 @@ const ROOTS: &[(u64, Option<u64>)] = &[
     (u64::MAX, None),
 ];
 
+/// Whether roots are found at the ends of the narrowest type and of the widest one.
+fn are_rooted_at_ends() -> bool {
+    let square = 340282366920938463426481119284349108225u128;
+    uint_sqrt(225u8) == Some(15)
+        && uint_sqrt(255u8).is_none()
+        && uint_sqrt(square) == Some(18446744073709551615)
+        && uint_sqrt(u128::MAX).is_none()
+}
+
 #[test]
 fn square_roots(rt: HostRuntime) {
     for (number, root) in ROOTS {
         assert!(rt; uint_sqrt(*number) == *root, "the root of {number}");
     }
-    assert!(rt; uint_sqrt(225u8) == Some(15) && uint_sqrt(255u8).is_none());
-    let square = 340282366920938463426481119284349108225u128;
-    assert!(rt; uint_sqrt(square) == Some(18446744073709551615) && uint_sqrt(u128::MAX).is_none());
+    assert!(rt; are_rooted_at_ends());
 }
 
 /// Values, how many numbers there are from 0 on, and the remainders.
