@@ -1,9 +1,12 @@
 //! Worked values.
 
+ghost use Rattle.std.specs.Prelude.{◌*◌, ◌^◌, ◌<◌};
+
 use pf_grid::{Grid, GridError};
 use pf_matrix::matrix;
 use std::alloc::Global;
 use std::collections::BTreeSet;
+use std::process::Abort;
 
 /// A column and a row.
 type Position = (usize, usize);
@@ -22,12 +25,18 @@ fn has_text(grid: &Grid, alloc: Global, marks: Marks, reversed: bool, wanted: &s
     written.is_ok() && text.as_str() == wanted
 }
 
+/// Whether the borders of a grid of three columns and four rows are added, shown and removed.
+fn is_bordered(grid: &mut Grid, alloc: Global) -> bool {
+    grid.add_borders() == Ok(10)
+        && has_text(grid, alloc, PLAIN, false, "###\n#.#\n#.#\n###")
+        && grid.remove_borders() == Ok(10)
+        && grid.is_empty()
+}
+
 #[test]
 fn borders_as_text(rt: HostRuntime) {
     let mut grid = Grid::new(rt.alloc(), 3, 4).expect(&rt, "memory");
-    assert!(rt; grid.add_borders() == Ok(10));
-    assert!(rt; has_text(&grid, rt.alloc(), PLAIN, false, "###\n#.#\n#.#\n###"));
-    assert!(rt; grid.remove_borders() == Ok(10) && grid.is_empty());
+    assert!(rt; is_bordered(&mut grid, rt.alloc()));
 }
 
 /// Whether an inverted grid has neither vertices nor edges.
@@ -36,14 +45,21 @@ fn has_nothing(grid: &mut Grid) -> bool {
     grid.edges().next().is_none() && grid.iter().next().is_none()
 }
 
+/// A grid of so many columns and rows without vertices.
+fn new_grid(rt: &impl Abort, alloc: Global, columns: usize, rows: usize) -> Grid
+    requires { columns * rows < 2 ^ 64 }
+{
+    Grid::new(alloc, columns, rows).expect(rt, "memory")
+}
+
 #[test]
 fn no_columns_or_no_rows(rt: HostRuntime) {
     let alloc = rt.alloc();
-    let mut thin = Grid::new(alloc, 0, 3).expect(&rt, "memory");
+    let mut thin = new_grid(&rt, alloc, 0, 3);
     assert!(rt; has_nothing(&mut thin) && has_text(&thin, alloc, PLAIN, false, "\n\n"));
-    let flat = Grid::new(alloc, 3, 0).expect(&rt, "memory");
+    let flat = new_grid(&rt, alloc, 3, 0);
     assert!(rt; has_text(&flat, alloc, PLAIN, true, ""));
-    let mut long = Grid::new(alloc, 0, usize::MAX).expect(&rt, "memory");
+    let mut long = new_grid(&rt, alloc, 0, usize::MAX);
     assert!(rt; has_nothing(&mut long));
 }
 
@@ -69,19 +85,32 @@ const SMALL_EDGES: &[(Position, Position)] = &[
     ((0, 1), (1, 1)),
 ];
 
-#[test]
-fn orders(rt: HostRuntime) {
-    let mut grid = Grid::new(rt.alloc(), 3, 3).expect(&rt, "memory");
+/// Makes each position of a grid a vertex, and its steps diagonal too.
+fn complete(grid: &mut Grid) {
     grid.fill();
     grid.enable_diagonal_mode();
-    let around = grid.neighbours((1, 1)).expect(&rt, "memory");
-    assert!(rt; around.as_slice() == AROUND_THE_CENTRE);
-    let mut small = Grid::new(rt.alloc(), 2, 2).expect(&rt, "memory");
-    small.fill();
-    small.enable_diagonal_mode();
-    assert!(rt; small.edges().eq(SMALL_EDGES.iter().copied()));
+}
+
+/// Whether the positions around the centre are given in their order.
+fn has_order_around(grid: &Grid) -> bool {
+    matches!(&grid.neighbours((1, 1)), Ok(around) if around.as_slice() == AROUND_THE_CENTRE)
+}
+
+/// Whether the edges are given in their order, and those that are diagonal in their mode alone.
+fn has_order_of_edges(small: &mut Grid) -> bool {
+    let are_edges = small.edges().eq(SMALL_EDGES.iter().copied());
     small.disable_diagonal_mode();
-    assert!(rt; !small.has_edge((0, 0), (1, 1)) && small.distance((0, 0), (1, 1)) == 2);
+    are_edges && !small.has_edge((0, 0), (1, 1)) && small.distance((0, 0), (1, 1)) == 2
+}
+
+#[test]
+fn orders(rt: HostRuntime) {
+    let mut grid = new_grid(&rt, rt.alloc(), 3, 3);
+    complete(&mut grid);
+    assert!(rt; has_order_around(&grid));
+    let mut small = new_grid(&rt, rt.alloc(), 2, 2);
+    complete(&mut small);
+    assert!(rt; has_order_of_edges(&mut small));
 }
 
 /// Adds vertices, and answers whether each was missing.
@@ -94,15 +123,21 @@ fn are_added(grid: &mut Grid, positions: &[Position]) -> bool {
     true
 }
 
+/// Whether grids without vertices are equal as long as they have the same ones, whatever their sizes.
+fn are_equal_by_vertices(small: &mut Grid, large: &mut Grid) -> bool {
+    are_added(small, &[(1, 1), (0, 0)])
+        && are_added(large, &[(0, 0), (1, 1)])
+        && *small == *large
+        && small.add_vertex((2, 0)) == Ok(false)
+        && are_added(large, &[(4, 4)])
+        && *small != *large
+}
+
 #[test]
 fn equal_by_vertices(rt: HostRuntime) {
-    let mut small = Grid::new(rt.alloc(), 2, 2).expect(&rt, "memory");
-    let mut large = Grid::new(rt.alloc(), 5, 5).expect(&rt, "memory");
-    assert!(rt;
-        are_added(&mut small, &[(1, 1), (0, 0)]) && are_added(&mut large, &[(0, 0), (1, 1)])
-    );
-    assert!(rt; small == large && small.add_vertex((2, 0)) == Ok(false));
-    assert!(rt; are_added(&mut large, &[(4, 4)]) && small != large);
+    let mut small = new_grid(&rt, rt.alloc(), 2, 2);
+    let mut large = new_grid(&rt, rt.alloc(), 5, 5);
+    assert!(rt; are_equal_by_vertices(&mut small, &mut large));
 }
 
 /// Whether the only vertex that is missing in a grid of 65 columns and two rows is kept as it should
@@ -135,45 +170,83 @@ fn is_grid(made: Result<Grid, GridError>, sizes: (usize, usize), vertices: &[Pos
     }
 }
 
+/// Whether a grid is refused that is as wide as a number can say.
+fn is_too_wide(alloc: Global) -> bool {
+    let far = Grid::from_vertices(alloc, [(usize::MAX, 0)]);
+    matches!(far, Err(GridError::TooLarge))
+}
+
+/// Whether a grid is made of a matrix that has these sizes and vertices.
+fn is_made_of_rows(alloc: Global) -> bool {
+    match matrix![in alloc; [true, false, true], [false, true, false]] {
+        Ok(matrix) => is_grid(
+            Grid::from_matrix(alloc, &matrix),
+            (3, 2),
+            &[(0, 0), (2, 0), (1, 1)],
+        ),
+        Err(_) => false,
+    }
+}
+
+/// Positions that are (1, 2) inside of a grid of three columns and five rows.
+const ALIKE: &[(isize, isize)] = &[(isize::MIN, isize::MAX), (1, 2), (10, -53)];
+
+/// Whether a position is (1, 2) inside of a grid.
+fn is_alike(grid: &Grid, place: (isize, isize)) -> bool {
+    grid.width() > 0 && grid.height() > 0 && grid.constrain(place) == (1, 2)
+}
+
 #[test]
 fn vertices_and_rows(rt: HostRuntime) {
     let alloc = rt.alloc();
-    let far = Grid::from_vertices(alloc, [(usize::MAX, 0)]);
-    assert!(rt; matches!(far, Err(GridError::TooLarge)));
-    let none = Grid::from_vertices(alloc, []);
-    assert!(rt; is_grid(none, (0, 0), &[]));
-    let matrix = matrix![in alloc; [true, false, true], [false, true, false]].expect(&rt, "memory");
-    let rows = Grid::from_matrix(alloc, &matrix);
-    assert!(rt; is_grid(rows, (3, 2), &[(0, 0), (2, 0), (1, 1)]));
-    let plain = Grid::new(alloc, 3, 5).expect(&rt, "memory");
-    for place in [(isize::MIN, isize::MAX), (1, 2), (10, -53)] {
-        assert!(rt; plain.constrain(place) == (1, 2));
+    assert!(rt; is_too_wide(alloc) && is_made_of_rows(alloc));
+    assert!(rt; is_grid(Grid::from_vertices(alloc, []), (0, 0), &[]));
+    let plain = new_grid(&rt, alloc, 3, 5);
+    for place in ALIKE {
+        assert!(rt; is_alike(&plain, *place), "{place:?}");
     }
 }
 
 /// Points whose least coordinates are below zero.
 const POINTS: &[(i32, i32)] = &[(-16, -15), (-16, -16), (-15, -16)];
 
+/// No points.
+const NO_POINTS: &[(u8, u8)] = &[];
+
+/// What is made of points: `None` where their differences do not fit.
+type OfPoints = Result<Option<Grid>, GridError>;
+
+/// Whether a grid is made of points that has these sizes and vertices.
+fn is_made_of_points(made: OfPoints, sizes: (usize, usize), vertices: &[Position]) -> bool {
+    match made {
+        Ok(Some(grid)) => is_grid(Ok(grid), sizes, vertices),
+        _ => false,
+    }
+}
+
+/// Whether a grid is made of points that has these texts, one of them reversed.
+fn is_made_of_corner(made: OfPoints, alloc: Global) -> bool {
+    matches!(
+        &made,
+        Ok(Some(corner)) if has_text(corner, alloc, SHADED, false, "▓▓\n▓░")
+            && has_text(corner, alloc, SHADED, true, "▓░\n▓▓")
+    )
+}
+
 #[test]
 fn points_of_any_whole_numbers(rt: HostRuntime) {
     let alloc = rt.alloc();
-    let made = Grid::from_coordinates(alloc, &[(i8::MIN, 0), (i8::MAX, 0)]).expect(&rt, "memory");
-    let wide = made.expect(&rt, "differences that fit");
-    assert!(rt; is_grid(Ok(wide), (256, 1), &[(0, 0), (255, 0)]));
-    let none: &[(u8, u8)] = &[];
-    let made = Grid::from_coordinates(alloc, none).expect(&rt, "memory");
-    assert!(rt; is_grid(Ok(made.expect(&rt, "no differences")), (0, 0), &[]));
-    let made = Grid::from_coordinates(alloc, &[(2u8, 2u8), (3, 4)]).expect(&rt, "memory");
-    let small = made.expect(&rt, "differences that fit");
-    assert!(rt; is_grid(Ok(small), (2, 3), &[(0, 0), (1, 2)]));
+    let wide = Grid::from_coordinates(alloc, &[(i8::MIN, 0), (i8::MAX, 0)]);
+    assert!(rt; is_made_of_points(wide, (256, 1), &[(0, 0), (255, 0)]));
+    let none = Grid::from_coordinates(alloc, NO_POINTS);
+    assert!(rt; is_made_of_points(none, (0, 0), &[]));
+    let small = Grid::from_coordinates(alloc, &[(2u8, 2u8), (3, 4)]);
+    assert!(rt; is_made_of_points(small, (2, 3), &[(0, 0), (1, 2)]));
     let apart = Grid::from_coordinates(alloc, &[(0, 0), (1u128 << 64, 0)]);
     assert!(rt; matches!(apart, Ok(None)));
     let apart = Grid::from_coordinates(alloc, &[(0, 0), (usize::MAX, 0)]);
     assert!(rt; matches!(apart, Err(GridError::TooLarge)));
-    let made = Grid::from_coordinates(alloc, POINTS).expect(&rt, "memory");
-    let corner = made.expect(&rt, "differences that fit");
-    assert!(rt; has_text(&corner, alloc, SHADED, false, "▓▓\n▓░"));
-    assert!(rt; has_text(&corner, alloc, SHADED, true, "▓░\n▓▓"));
+    assert!(rt; is_made_of_corner(Grid::from_coordinates(alloc, POINTS), alloc));
 }
 
 /// Starts in a full grid of two columns and rows, whether steps are diagonal too, and what is
@@ -194,17 +267,22 @@ fn has_reached(flood: Result<BTreeSet<Position>, GridError>, positions: &[Positi
     }
 }
 
+/// Whether both floods from a start reach these positions.
+fn is_flooded(grid: &Grid, start: Position, reached: &[Position]) -> bool {
+    let takes = |position: Position| position != (1, 0);
+    has_reached(grid.bfs_reachable(start, takes), reached)
+        && has_reached(grid.dfs_reachable(start, takes), reached)
+}
+
 #[test]
 fn floods_over_vertices(rt: HostRuntime) {
-    let mut grid = Grid::new(rt.alloc(), 2, 2).expect(&rt, "memory");
+    let mut grid = new_grid(&rt, rt.alloc(), 2, 2);
     grid.fill();
     for (start, is_diagonal, reached) in FLOODS {
         if *is_diagonal {
             grid.enable_diagonal_mode();
         }
-        let takes = |position: Position| position != (1, 0);
-        assert!(rt; has_reached(grid.bfs_reachable(*start, takes), reached));
-        assert!(rt; has_reached(grid.dfs_reachable(*start, takes), reached));
+        assert!(rt; is_flooded(&grid, *start, reached));
     }
 }
 
@@ -216,6 +294,17 @@ fn is_printed(made: Result<Grid, GridError>, alloc: Global, wanted: &str) -> boo
     matches!(format!(in alloc; "{grid:?}"), Ok(text) if text.as_str() == wanted)
 }
 
+/// The refusals and their texts.
+const TEXTS: &[(GridError, &str)] = &[
+    (GridError::OutOfMemory, "out of memory"),
+    (GridError::TooLarge, "grid is too large"),
+];
+
+/// Whether a refusal is printed as this text.
+fn is_told(error: GridError, alloc: Global, wanted: &str) -> bool {
+    matches!(format!(in alloc; "{error}"), Ok(text) if text.as_str() == wanted)
+}
+
 #[test]
 fn printed_texts(rt: HostRuntime) {
     let alloc = rt.alloc();
@@ -223,11 +312,7 @@ fn printed_texts(rt: HostRuntime) {
     assert!(rt; is_printed(some, alloc, "#...\n..##"));
     assert!(rt; is_printed(Grid::new(alloc, 3, 0), alloc, ""));
     assert!(rt; is_printed(Grid::new(alloc, 0, 2), alloc, "\n"));
-    for (error, text) in [
-        (GridError::OutOfMemory, "out of memory"),
-        (GridError::TooLarge, "grid is too large"),
-    ] {
-        let shown = format!(in alloc; "{error}").expect(&rt, "memory");
-        assert!(rt; shown.as_str() == text);
+    for (error, text) in TEXTS {
+        assert!(rt; is_told(*error, alloc, text), "{text}");
     }
 }

@@ -35,17 +35,35 @@ fn characters_of(alloc: Global, text: &str) -> Result<Matrix<char>, MatrixFormat
     Matrix::from_rows(alloc, text.lines().map(|line: &str| line.chars()))
 }
 
+/// Whether a refusal is printed as this text.
+fn is_told(alloc: Global, error: MatrixFormatError, wanted: &str) -> bool {
+    matches!(format!(in alloc; "{error}"), Ok(text) if text.as_str() == wanted)
+}
+
+/// Whether a matrix is printed as this text.
+fn is_printed(made: Result<Matrix<u8>, MatrixFormatError>, alloc: Global, wanted: &str) -> bool {
+    let Ok(matrix) = made else {
+        return false;
+    };
+    matches!(format!(in alloc; "{matrix:?}"), Ok(text) if text.as_str() == wanted)
+}
+
 #[test]
 fn texts_of_refusals_and_of_a_matrix(rt: HostRuntime) {
+    let alloc = rt.alloc();
     for (error, text) in TEXTS {
-        let shown = format!(in rt.alloc(); "{error}").expect(&rt, "memory");
-        assert!(rt; shown.as_str() == *text, "{text}");
+        assert!(rt; is_told(alloc, *error, text), "{text}");
     }
     assert!(rt; MatrixFormatError::from(AllocError) == MatrixFormatError::OutOfMemory);
-    let four = matrix![in rt.alloc(); 1u8, 2; 3, 4].expect(&rt, "memory");
-    let shown = format!(in rt.alloc(); "{four:?}").expect(&rt, "memory");
-    assert!(rt; shown.as_str() == "Matrix { rows: 2, columns: 2, data: [1, 2, 3, 4] }");
-    assert!(rt; has_lines(characters_of(rt.alloc(), "abc\ndef")));
+    let four = matrix![in alloc; 1u8, 2; 3, 4];
+    assert!(rt;
+        is_printed(
+            four,
+            alloc,
+            "Matrix { rows: 2, columns: 2, data: [1, 2, 3, 4] }"
+        )
+    );
+    assert!(rt; has_lines(characters_of(alloc, "abc\ndef")));
 }
 
 /// A number of rows and one of columns, which may be below zero.
