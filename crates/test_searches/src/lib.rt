@@ -1,5 +1,5 @@
-//! Tests of the calls of the library, and callers that show how they are proved. All of it but `jugs`
-//! is read for the tests alone, so that it is proved once.
+//! Tests of the calls of the library, and callers that show how they are proved. All of it but the type of
+//! `jugs` is read for the tests alone, so that it is proved once.
 #![tactic(auto)]
 
 #[cfg(test)]
@@ -10,7 +10,7 @@ mod compact;
 mod fewest;
 #[cfg(test)]
 mod grid;
-// Not for tests alone: specs/ has a word on its type.
+// Its type is not for tests alone: specs/ has a word on it.
 mod jugs;
 #[cfg(test)]
 mod list;
