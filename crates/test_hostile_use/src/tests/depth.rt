@@ -5,22 +5,19 @@ use crate::chained::{
     plain_in_ring, sets_in_chain,
 };
 use crate::cheapest::{COST_CALLS, Found};
-use crate::cycles::Cycles;
 use crate::plain::{COMPONENT_CALLS, LIST_CALLS, Lists, PlainCall};
 use pf_base::PathError;
 use pf_flow::edmonds_karp::{EKFlows, Edge, edmonds_karp_dense, edmonds_karp_sparse};
 use pf_graph::undirected::connected_components::{
-    MapIn, SetIn, component_index, components, separate_components,
+    SetIn, component_index, components, separate_components,
 };
 use pf_graph::undirected::kruskal::{kruskal, kruskal_indices};
 use pf_graph::undirected::prim::prim;
 use pf_grid::Grid;
 use pf_matrix::Matrix;
-use pf_search::directed::dijkstra::Parents;
 use pf_table_searches::{dfs, dijkstra_all, topological_sort, topological_sort_into_groups};
 use pf_tables::{CompactRows, bfs, dijkstra};
 use std::alloc::Global;
-use std::collections::BTreeSet;
 
 /// The last number.
 const LAST: usize = 1_000_000;
@@ -80,28 +77,27 @@ fn is_list(lists: Lists<usize>, last: usize, length: usize) -> bool {
     }
 }
 
-/// Whether a call answers what it has to, on the chain, whose last number leads to itself, and on the
-/// ring.
-fn is_listed(alloc: Global, call: PlainCall) -> bool {
-    let last = if matches!(call, PlainCall::Iddfs) {
-        SHORT_LAST
-    } else {
-        LAST
-    };
-    // How many numbers there are on the chain and on the ring.
-    let (on_chain, on_ring) = match call {
-        PlainCall::Loop => (0, last + 2),
-        PlainCall::Order => (0, 0),
-        _ => (last + 1, last + 1),
-    };
-    is_list(plain_in_ring(alloc, call, last, 0), last, on_chain)
-        && is_list(plain_in_ring(alloc, call, last, last), last, on_ring)
-}
-
 #[test]
 fn paths_walks_and_orders(rt: HostRuntime) {
     for (number, call) in LIST_CALLS.iter().enumerate() {
-        assert!(rt; is_listed(rt.alloc(), *call), "call {number}");
+        let last = if matches!(call, PlainCall::Iddfs) {
+            SHORT_LAST
+        } else {
+            LAST
+        };
+        // How many numbers there are on the chain, whose last number leads to itself, and on the ring.
+        let (on_chain, on_ring) = match call {
+            PlainCall::Loop => (0, last + 2),
+            PlainCall::Order => (0, 0),
+            _ => (last + 1, last + 1),
+        };
+        let lists = plain_in_ring(rt.alloc(), *call, last, 0);
+        assert!(rt;
+            is_list(lists, last, on_chain),
+            "call {number} on the chain"
+        );
+        let lists = plain_in_ring(rt.alloc(), *call, last, last);
+        assert!(rt; is_list(lists, last, on_ring), "call {number} on the ring");
     }
     assert!(rt; is_path_down(fewest_between_in_ring(rt.alloc(), LAST)));
 }
@@ -119,22 +115,22 @@ fn have_lengths(lists: Lists<usize>, count: usize, length: usize) -> bool {
     lists.len() == count
 }
 
-/// Whether a call answers components of one number each on the chain, and one component on the ring.
-fn are_components(alloc: Global, call: PlainCall) -> bool {
-    // How many components there are on the chain.
-    let count = if matches!(call, PlainCall::Component) {
-        1
-    } else {
-        LAST + 1
-    };
-    have_lengths(plain_in_ring(alloc, call, LAST, 0), count, 1)
-        && have_lengths(plain_in_ring(alloc, call, LAST, LAST), 1, LAST + 1)
-}
-
 #[test]
 fn strong_components(rt: HostRuntime) {
     for (number, call) in COMPONENT_CALLS.iter().enumerate() {
-        assert!(rt; are_components(rt.alloc(), *call), "call {number}");
+        // How many components there are on the chain, each of one number.
+        let count = if matches!(call, PlainCall::Component) {
+            1
+        } else {
+            LAST + 1
+        };
+        let lists = plain_in_ring(rt.alloc(), *call, LAST, 0);
+        assert!(rt; have_lengths(lists, count, 1), "call {number} on the chain");
+        let lists = plain_in_ring(rt.alloc(), *call, LAST, LAST);
+        assert!(rt;
+            have_lengths(lists, 1, LAST + 1),
+            "call {number} on the ring"
+        );
     }
 }
 
@@ -148,23 +144,18 @@ fn is_one_set(sets: &[SetIn<usize, Global>], size: usize) -> bool {
     sets.len() == 1 && sets[0].len() == size
 }
 
-/// Whether half of the steps and one more lead to the cycle of the numbers below the half.
-fn are_cycles(cycles: Cycles<usize>) -> bool {
-    let half = LAST / 2;
-    let exact = Ok((half, half - 1, half + 1));
-    let (floyd, brent, near_floyd, near_brent) = cycles;
-    floyd == exact
-        && brent == exact
-        && matches!(near_floyd, Ok((length, _, _)) if length == half)
-        && matches!(near_brent, Ok((length, _, _)) if length == half)
-}
-
 #[test]
 fn sets_and_cycles(rt: HostRuntime) {
     let numbers = numbers_to(rt.alloc(), LAST).expect(&rt, "memory");
     let sets = sets_in_chain(rt.alloc(), &numbers).expect(&rt, "memory");
-    assert!(rt; is_one_set(&sets, LAST + 1));
-    assert!(rt; are_cycles(cycles_in_ring(LAST, LAST / 2 - 1)));
+    assert!(rt; is_one_set(&sets, numbers.len()));
+    // Half of the steps and one more lead to the cycle of the numbers below the half.
+    let half = LAST / 2;
+    let (floyd, brent, near_floyd, near_brent) = cycles_in_ring(LAST, half - 1);
+    let exact = Ok((half, half - 1, half + 1));
+    assert!(rt; floyd == exact && brent == exact);
+    assert!(rt; matches!(near_floyd, Ok((length, _, _)) if length == half));
+    assert!(rt; matches!(near_brent, Ok((length, _, _)) if length == half));
 }
 
 /// An edge of weight 1 from each number to the next higher one, where memory is left.
@@ -176,25 +167,15 @@ fn edges_to(alloc: Global, last: usize) -> Option<Vec<(usize, usize, u32)>> {
     Some(edges)
 }
 
-/// Whether each call chooses all edges of the chain.
-fn are_all_chosen(alloc: Global, edges: &[(usize, usize, u32)]) -> bool {
-    let by_name = match kruskal(alloc, edges) {
-        Ok(chosen) => chosen.count(),
-        Err(_) => 0,
-    };
-    let by_number = match kruskal_indices(alloc, LAST + 1, edges) {
-        Ok(chosen) => chosen.count(),
-        Err(_) => 0,
-    };
-    by_name == LAST
-        && by_number == LAST
-        && matches!(&prim(alloc, edges), Ok(tree) if tree.len() == LAST)
-}
-
 #[test]
 fn spanning_edges(rt: HostRuntime) {
     let edges = edges_to(rt.alloc(), LAST).expect(&rt, "memory");
-    assert!(rt; are_all_chosen(rt.alloc(), &edges));
+    let chosen = kruskal(rt.alloc(), &edges).expect(&rt, "memory");
+    assert!(rt; chosen.count() == LAST);
+    let chosen = kruskal_indices(rt.alloc(), LAST + 1, &edges).expect(&rt, "memory");
+    assert!(rt; chosen.count() == LAST);
+    let tree = prim(rt.alloc(), &edges).expect(&rt, "memory");
+    assert!(rt; tree.len() == LAST);
 }
 
 /// Groups of each number and the next higher one, where memory is left.
@@ -216,27 +197,16 @@ fn are_equal(numbers: &[usize]) -> bool {
     true
 }
 
-/// Whether all groups have one number, and all their numbers are told it.
-fn are_numbered(numbered: Result<(MapIn<&usize, usize, Global>, Vec<usize>), PathError>) -> bool {
-    matches!(
-        &numbered,
-        Ok((of_number, ids)) if of_number.len() == LAST + 1
-            && ids.len() == LAST
-            && are_equal(ids)
-    )
-}
-
-/// Whether each number of the sets is told its set.
-fn are_indexed(alloc: Global, sets: &[SetIn<usize, Global>]) -> bool {
-    matches!(&component_index(alloc, sets), Ok(of_number) if of_number.len() == LAST + 1)
-}
-
 #[test]
 fn components_of_groups(rt: HostRuntime) {
     let groups = pairs_to(rt.alloc(), LAST).expect(&rt, "memory");
-    assert!(rt; are_numbered(separate_components(rt.alloc(), &groups)));
+    let numbered = separate_components(rt.alloc(), &groups).expect(&rt, "memory");
+    let (of_number, ids) = numbered;
+    assert!(rt; of_number.len() == LAST + 1 && ids.len() == LAST && are_equal(&ids));
     let sets = components(rt.alloc(), &groups).expect(&rt, "memory");
-    assert!(rt; is_one_set(&sets, LAST + 1) && are_indexed(rt.alloc(), &sets));
+    assert!(rt; is_one_set(&sets, LAST + 1));
+    let of_number = component_index(rt.alloc(), &sets).expect(&rt, "memory");
+    assert!(rt; of_number.len() == LAST + 1);
 }
 
 /// An edge that holds 1 from each number to the next higher one, where memory is left.
@@ -256,24 +226,18 @@ fn is_flow_of_one(answer: Result<EKFlows<usize, i64>, PathError>, edges: usize) 
     )
 }
 
-/// Whether a flow goes through the chain up to `last`, by the dense store or by the sparse one.
-fn is_flowing(alloc: Global, is_dense: bool, last: usize) -> bool {
-    let (Some(numbers), Some(pipes)) = (numbers_to(alloc, last), pipes_to(alloc, last)) else {
-        return false;
-    };
-    let flow = if is_dense {
-        edmonds_karp_dense(alloc, &numbers, &0, &last, pipes)
-    } else {
-        edmonds_karp_sparse(alloc, &numbers, &0, &last, pipes)
-    };
-    is_flow_of_one(flow, last)
-}
-
 #[test]
 fn flows(rt: HostRuntime) {
-    assert!(rt; is_flowing(rt.alloc(), false, LAST));
+    let alloc = rt.alloc();
+    let numbers = numbers_to(alloc, LAST).expect(&rt, "memory");
+    let pipes = pipes_to(alloc, LAST).expect(&rt, "memory");
+    let sparse = edmonds_karp_sparse(alloc, &numbers, &0, &LAST, pipes);
+    assert!(rt; is_flow_of_one(sparse, LAST));
     // A dense store has a place for each pair of vertices.
-    assert!(rt; is_flowing(rt.alloc(), true, SIDE - 1));
+    let numbers = numbers_to(alloc, SIDE - 1).expect(&rt, "memory");
+    let pipes = pipes_to(alloc, SIDE - 1).expect(&rt, "memory");
+    let dense = edmonds_karp_dense(alloc, &numbers, &0, &(SIDE - 1), pipes);
+    assert!(rt; is_flow_of_one(dense, SIDE - 1));
 }
 
 /// The edges of the numbers from 0 to `last`, where memory is left: 0 has none, and each other one has
@@ -319,31 +283,21 @@ fn are_groups_down(answer: Result<Groups, PathError>) -> bool {
     groups.len() == LAST + 1
 }
 
-/// Whether the parents of all numbers but the last are answered.
-fn are_parents(parents: Result<Parents<usize, usize, Global>, PathError>) -> bool {
-    matches!(&parents, Ok(parents) if parents.len() == LAST && parents.contains_key(&0))
-}
-
 /// A chain in a table.
-type Chain<'a> = CompactRows<'a, &'a [(usize, usize)], usize>;
-
-/// Whether each search leads down to 0.
-fn is_searched(alloc: Global, graph: &Chain<'_>) -> bool {
-    is_way_down(dijkstra(alloc, graph, LAST, 0))
-        && is_path_down(bfs(alloc, graph, LAST, 0))
-        && is_path_down(dfs(alloc, graph, LAST, 0))
-        && are_parents(dijkstra_all(alloc, graph, LAST))
-        && is_order_down(topological_sort(alloc, graph, &[LAST]))
-}
-
 #[test]
 fn tables(rt: HostRuntime) {
-    let offsets = offsets_to(rt.alloc(), LAST).expect(&rt, "memory");
-    let edges = edges_down(rt.alloc(), LAST).expect(&rt, "memory");
+    let alloc = rt.alloc();
+    let offsets = offsets_to(alloc, LAST).expect(&rt, "memory");
+    let edges = edges_down(alloc, LAST).expect(&rt, "memory");
     let graph = CompactRows::new(&offsets, edges.as_slice()).expect(&rt, "a graph");
-    let numbers = numbers_to(rt.alloc(), LAST).expect(&rt, "memory");
-    assert!(rt; is_searched(rt.alloc(), &graph));
-    assert!(rt; are_groups_down(topological_sort_into_groups(rt.alloc(), &graph, &numbers)));
+    assert!(rt; is_way_down(dijkstra(alloc, &graph, LAST, 0)));
+    assert!(rt; is_path_down(bfs(alloc, &graph, LAST, 0)));
+    assert!(rt; is_path_down(dfs(alloc, &graph, LAST, 0)));
+    let parents = dijkstra_all(alloc, &graph, LAST).expect(&rt, "parents");
+    assert!(rt; parents.len() == LAST && parents.contains_key(&0));
+    assert!(rt; is_order_down(topological_sort(alloc, &graph, &[LAST])));
+    let numbers = numbers_to(alloc, LAST).expect(&rt, "memory");
+    assert!(rt; are_groups_down(topological_sort_into_groups(alloc, &graph, &numbers)));
 }
 
 /// A test that each position passes.
@@ -351,28 +305,22 @@ fn is_any(_position: (usize, usize)) -> bool {
     true
 }
 
-/// Whether a flood reaches all positions.
-fn reaches_all<E: Drop>(flooded: Result<BTreeSet<(usize, usize)>, E>) -> bool {
-    matches!(&flooded, Ok(reached) if reached.len() == SIDE * SIDE)
-}
-
-/// Whether both floods of a board reach all positions.
-fn is_flooded(board: &Matrix<bool>) -> bool {
-    reaches_all(board.bfs_reachable((0, 0), false, is_any))
-        && reaches_all(board.dfs_reachable((0, 0), false, is_any))
-}
-
-/// Whether both floods of a grid do.
-fn is_grid_flooded(grid: &Grid) -> bool {
-    reaches_all(grid.bfs_reachable((0, 0), is_any))
-        && reaches_all(grid.dfs_reachable((0, 0), is_any))
-}
-
 #[test]
 fn floods(rt: HostRuntime) {
-    let board = Matrix::new_square(rt.alloc(), SIDE, true).expect(&rt, "memory");
-    assert!(rt; is_flooded(&board));
-    let mut grid = Grid::new(rt.alloc(), SIDE, SIDE).expect(&rt, "memory");
+    let alloc = rt.alloc();
+    let board = Matrix::new_square(alloc, SIDE, true).expect(&rt, "memory");
+    let mut grid = Grid::new(alloc, SIDE, SIDE).expect(&rt, "memory");
     grid.fill();
-    assert!(rt; is_grid_flooded(&grid));
+    let reached = board
+        .bfs_reachable((0, 0), false, is_any)
+        .expect(&rt, "memory");
+    assert!(rt; reached.len() == SIDE * SIDE);
+    let reached = board
+        .dfs_reachable((0, 0), false, is_any)
+        .expect(&rt, "memory");
+    assert!(rt; reached.len() == SIDE * SIDE);
+    let reached = grid.bfs_reachable((0, 0), is_any).expect(&rt, "memory");
+    assert!(rt; reached.len() == SIDE * SIDE);
+    let reached = grid.dfs_reachable((0, 0), is_any).expect(&rt, "memory");
+    assert!(rt; reached.len() == SIDE * SIDE);
 }

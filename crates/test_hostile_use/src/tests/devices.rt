@@ -268,19 +268,18 @@ const CALLS: &[Call] = &[
     Call::Flush,
 ];
 
-/// Whether a call fails once and is noted so, and goes through from then on.
-fn is_asked_again(call: Call) -> bool {
-    let mut device = Noted::new(Once { calls: 0 });
-    let was_fresh = !device.failed();
-    let has_failed = !call.goes_through(&mut device) && device.failed();
-    let goes_on = call.goes_through(&mut device) && call.goes_through(&mut device);
-    was_fresh && has_failed && goes_on && device.failed() && device.into_inner().calls == 3
-}
-
 #[test]
 fn a_noted_device_is_asked_again_after_a_failure(rt: HostRuntime) {
     for call in CALLS {
-        assert!(rt; is_asked_again(*call), "{call:?}");
+        let mut device = Noted::new(Once { calls: 0 });
+        let was_fresh = !device.failed();
+        let has_failed = !call.goes_through(&mut device) && device.failed();
+        let goes_on = call.goes_through(&mut device) && call.goes_through(&mut device);
+        assert!(rt;
+            was_fresh && has_failed && goes_on && device.failed(),
+            "{call:?}"
+        );
+        assert!(rt; device.into_inner().calls == 3, "{call:?}");
     }
 }
 
@@ -329,32 +328,18 @@ fn end_at_failures(
     true
 }
 
-/// Behind how many bytes devices fail, beside all bytes of the text.
-const PLACES: &[usize] = &[0, 1, 3, 6, 8, 9, 11, 12, 20, 23, 24, 46, 100];
-
-/// Whether runs end as they have to, over devices that fail at a place once, and from there on.
-fn end_at_place(alloc: Global, command: &Command, row: &Row<'static>, after: usize) -> bool {
-    end_at_failures(alloc, command, row, after, false)
-        && end_at_failures(alloc, command, row, after, true)
-}
-
-/// The same at each place.
-fn end_at_places(alloc: Global, row: &Row<'static>) -> bool {
-    let Some(command) = spelled(alloc, row.0) else {
-        return false;
-    };
-    for after in PLACES {
-        if !end_at_place(alloc, &command, row, *after) {
-            return false;
-        }
-    }
-    end_at_place(alloc, &command, row, row.1.len())
-}
-
 #[test]
 fn a_run_ends_at_the_first_failed_read_or_write(rt: HostRuntime) {
     for row in ROWS {
-        assert!(rt; end_at_places(rt.alloc(), row), "{}", row.0);
+        let line = row.0;
+        let command = spelled(rt.alloc(), line).expect(&rt, "a command");
+        for after in [0, 1, 3, 6, 8, 9, 11, 12, 20, 23, 24, 46, row.1.len(), 100] {
+            assert!(rt;
+                end_at_failures(rt.alloc(), &command, row, after, false)
+                    && end_at_failures(rt.alloc(), &command, row, after, true),
+                "{line}, failing after {after}"
+            );
+        }
     }
 }
 
@@ -418,7 +403,7 @@ fn notes_read_exact(after: usize) -> bool {
 
 #[test]
 fn whole_reads_and_writes_are_noted(rt: HostRuntime) {
-    for after in 0..5usize {
+    for after in [0, 1, 2, 3, 4] {
         assert!(rt;
             notes_write_all(rt.alloc(), after) && notes_read_exact(after),
             "{after}"

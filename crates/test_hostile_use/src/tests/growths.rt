@@ -16,6 +16,7 @@ use pathfinding::matrix::{Matrix, MatrixFormatError};
 use pathfinding::noderefs::NodeRefs;
 use pathfinding::utils::Tally;
 use std::alloc::Global;
+use std::process::Abort;
 use test_allocator::Refusing;
 
 /// A call that takes memory.
@@ -255,25 +256,23 @@ fn is_right(heap: Heap<'_>, asked: &Asked<'_>, call: Call) -> Result<bool, PathE
     }
 }
 
-/// How many growths a call makes, if it answers out of memory where one of these alone is refused, and
-/// the only right answer where none is.
-fn growths_of(ample: Global, asked: &Asked<'_>, call: Call) -> Option<u64> {
+/// Runs a call with growth 0, 1, 2, .. refused alone, until a run meets no refusal, and answers how
+/// many growths that run made. Each run before it has to answer that it was out of memory.
+fn refuse_each_growth(rt: &impl Abort, ample: Global, asked: &Asked<'_>, call: Call) -> u64 {
     for growth in 0..1_000u64 {
         let heap = Refusing::new(ample);
         heap.refuse(growth, 1);
         let answer = is_right(&heap, asked, call);
         if heap.pending() > 0 {
-            return if answer == Ok(true) {
-                Some(growth)
-            } else {
-                None
-            };
+            assert!(rt; matches!(answer, Ok(true)), "{call:?} with no refusal");
+            return growth;
         }
-        if answer != Err(PathError::OutOfMemory) {
-            return None;
-        }
+        assert!(rt;
+            matches!(answer, Err(PathError::OutOfMemory)),
+            "{call:?}, growth {growth}"
+        );
     }
-    None
+    panic!(rt; "every run of {call:?} met a refusal")
 }
 
 #[test]
@@ -285,7 +284,7 @@ fn calls_refuse_each_growth(rt: HostRuntime) {
         starts: NodeRefs::from_one(rt.alloc(), &start).expect(&rt, "memory"),
     };
     for (call, least) in CALLS {
-        let growths = growths_of(rt.alloc(), &asked, *call);
-        assert!(rt; growths >= Some(*least), "{call:?}");
+        let growths = refuse_each_growth(&rt, rt.alloc(), &asked, *call);
+        assert!(rt; growths >= *least, "{call:?} makes {growths} growths");
     }
 }

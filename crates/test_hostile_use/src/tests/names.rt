@@ -12,7 +12,7 @@ use crate::plain::{COMPONENT_CALLS, LIST_CALLS, Lists, PlainCall};
 use pf_base::PathError;
 use pf_flow::edmonds_karp::EKFlows;
 use pf_graph::undirected::connected_components::{
-    MapIn, SetIn, component_index, components, separate_components,
+    SetIn, component_index, components, separate_components,
 };
 use pf_graph::undirected::kruskal::kruskal;
 use pf_graph::undirected::prim::prim;
@@ -185,55 +185,21 @@ fn cycles(rt: HostRuntime) {
     assert!(rt; near_floyd == Ok((2, C, 2)) && near_brent == Ok((2, B, 3)));
 }
 
-/// Whether the first groups have one number, and all names have one.
-fn are_numbered(numbered: Result<(MapIn<&Letter, usize, Global>, Vec<usize>), PathError>) -> bool {
-    matches!(
-        &numbered,
-        Ok((of_name, ids)) if of_name.len() == 3
-            && ids.len() == 2
-            && ids.first() == ids.last()
-    )
-}
-
-/// Whether each name is told to be in the first set.
-fn are_indexed(indexed: Result<MapIn<Letter, usize, Global>, PathError>) -> bool {
-    let Ok(of_name) = &indexed else {
-        return false;
-    };
-    for name in PATH {
-        if of_name.get(name).copied() != Some(0) {
-            return false;
-        }
-    }
-    true
-}
-
-/// Whether groups that share a name are one component.
-fn are_joined(alloc: Global, groups: &[Vec<Letter>]) -> bool {
-    match &components(alloc, groups) {
-        Ok(sets) => {
-            sets.len() == 1
-                && sets[0].len() == 3
-                && are_indexed(component_index(alloc, sets))
-                && are_numbered(separate_components(alloc, groups))
-        }
-        Err(_) => false,
-    }
-}
-
-/// Groups of the names of each edge of the chain, where memory is left.
-fn groups_in_chain(alloc: Global) -> Option<Vec<Vec<Letter>>> {
-    let mut groups = Vec::new(alloc);
-    for (from, to, _) in CHAIN {
-        groups.push(vec![in alloc; *from, *to].ok()?).ok()?;
-    }
-    Some(groups)
-}
-
 #[test]
 fn components_of_groups(rt: HostRuntime) {
-    let groups = groups_in_chain(rt.alloc()).expect(&rt, "memory");
-    assert!(rt; are_joined(rt.alloc(), &groups));
+    let alloc = rt.alloc();
+    let first = vec![in alloc; A_IN_EDGES, B_IN_EDGES].expect(&rt, "memory");
+    let second = vec![in alloc; B, C_IN_EDGES].expect(&rt, "memory");
+    let groups = [first, second];
+    let numbered = separate_components(alloc, &groups).expect(&rt, "memory");
+    let (of_name, ids) = numbered;
+    assert!(rt; of_name.len() == 3 && ids.len() == 2 && ids[0] == ids[1]);
+    let sets = components(alloc, &groups).expect(&rt, "memory");
+    assert!(rt; sets.len() == 1 && sets[0].len() == 3);
+    let of_name = component_index(alloc, &sets).expect(&rt, "memory");
+    for name in PATH {
+        assert!(rt; of_name.get(name).copied() == Some(0));
+    }
 }
 
 /// Edges between names, at weights that rise in another order than the names.
@@ -255,17 +221,12 @@ fn is_grown(tree: Result<Vec<(&Letter, &Letter, u8)>, PathError>) -> bool {
     tree.len() == GROWN.len()
 }
 
-/// Whether two edges are chosen of the ring, whose last edge closes a cycle.
-fn are_two_chosen(alloc: Global) -> bool {
-    match kruskal(alloc, RING) {
-        Ok(chosen) => chosen.count() == 2,
-        Err(_) => false,
-    }
-}
-
 #[test]
 fn spanning_edges(rt: HostRuntime) {
-    assert!(rt; are_two_chosen(rt.alloc()) && is_grown(prim(rt.alloc(), WEIGHTED)));
+    // The last edge closes a cycle.
+    let chosen = kruskal(rt.alloc(), RING).expect(&rt, "memory");
+    assert!(rt; chosen.count() == 2);
+    assert!(rt; is_grown(prim(rt.alloc(), WEIGHTED)));
 }
 
 /// Whether a flow of 2 goes along these edges, and the last of them is the least cut.

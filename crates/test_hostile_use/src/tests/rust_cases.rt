@@ -10,7 +10,7 @@ use pf_table_searches::{
     bfs_loop, strongly_connected_component, strongly_connected_components, topological_sort,
     topological_sort_into_groups,
 };
-use pf_tables::{Costless, EdgeList, Rows, bfs};
+use pf_tables::{EdgeList, Rows, bfs};
 use std::alloc::Global;
 
 /// The nodes after each of sixteen nodes.
@@ -111,22 +111,17 @@ fn are_components(found: Result<Vec<Vec<usize>>, PathError>, least: &[usize]) ->
     found.len() == least.len()
 }
 
-/// A graph in a table without costs.
-type Table<'a> = Rows<'a, &'a [usize], Costless>;
-
-/// Whether the components that a node reaches are found, and its own.
-fn are_found(alloc: Global, graph: &Table<'_>, node: usize, reached: &[usize]) -> bool {
-    let own = strongly_connected_component(alloc, graph, node);
-    let found = strongly_connected_components(alloc, graph, &[node]);
-    are_components(found, reached)
-        && matches!(&own, Ok(nodes) if nodes.contains(&node) && is_component(nodes))
-}
-
 #[test]
 fn sixteen_nodes_in_six_components(rt: HostRuntime) {
     let graph = Rows::new(SIXTEEN).expect(&rt, "a graph");
     for (node, reached) in REACHED.iter().enumerate() {
-        assert!(rt; are_found(rt.alloc(), &graph, node, reached), "from {node}");
+        let found = strongly_connected_components(rt.alloc(), &graph, &[node]);
+        assert!(rt; are_components(found, reached), "from {node}");
+        let own = strongly_connected_component(rt.alloc(), &graph, node);
+        assert!(rt;
+            matches!(&own, Ok(nodes) if nodes.contains(&node) && is_component(nodes)),
+            "of {node}"
+        );
     }
 }
 
@@ -169,26 +164,14 @@ fn is_grouped(answer: Result<Groups, PathError>, groups: &[&[usize]], remaining:
     }
 }
 
-/// The nodes of the rows, as many as there are at the most.
-const NODES: &[usize] = &[0, 1, 2, 3, 4, 5];
-
-/// Whether the nodes of a row are in its groups.
-fn are_in_groups(alloc: Global, row: &Grouped<'_>) -> bool {
-    let (rows, groups, remaining) = *row;
-    match (Rows::new(rows), NODES.get(..rows.len())) {
-        (Ok(graph), Some(nodes)) => is_grouped(
-            topological_sort_into_groups(alloc, &graph, nodes),
-            groups,
-            remaining,
-        ),
-        _ => false,
-    }
-}
-
 #[test]
 fn groups_by_depth(rt: HostRuntime) {
-    for (number, row) in GROUPED.iter().enumerate() {
-        assert!(rt; are_in_groups(rt.alloc(), row), "row {number}");
+    let nodes = [0, 1, 2, 3, 4, 5];
+    for (rows, groups, remaining) in GROUPED {
+        let graph = Rows::new(rows).expect(&rt, "a graph");
+        let nodes = nodes.get(..rows.len()).expect(&rt, "as many nodes");
+        let answer = topological_sort_into_groups(rt.alloc(), &graph, nodes);
+        assert!(rt; is_grouped(answer, groups, remaining), "{rows:?}");
     }
 }
 
@@ -266,20 +249,16 @@ fn is_path(found: Result<Option<Vec<usize>>, PathError>, path: &[usize]) -> bool
     matches!(&found, Ok(Some(nodes)) if nodes.as_slice() == path)
 }
 
-/// Whether no order is found of the ten nodes, for a node on a cycle, and the component of these nodes.
-fn has_a_cycle(alloc: Global, graph: &Table<'_>) -> bool {
-    let order = topological_sort(alloc, graph, &[5, 1]);
-    let component = strongly_connected_component(alloc, graph, 8);
-    matches!(order, Ok(Err(7..=9)))
-        && matches!(&component, Ok(nodes) if are_same(nodes, &[7, 8, 9]))
-}
-
 #[test]
 fn a_cycle_is_in_the_way_of_an_order(rt: HostRuntime) {
     let graph = Rows::new(TEN).expect(&rt, "a graph");
-    assert!(rt; has_a_cycle(rt.alloc(), &graph));
-    let starts = NodeRefs::from_one(rt.alloc(), &8usize).expect(&rt, "memory");
+    let order = topological_sort(rt.alloc(), &graph, &[5, 1]);
+    assert!(rt; matches!(order, Ok(Err(7..=9))));
+    let start = 8usize;
+    let starts = NodeRefs::from_one(rt.alloc(), &start).expect(&rt, "memory");
     assert!(rt; is_path(bfs_loop(rt.alloc(), &graph, &starts), &[8, 7, 8]));
+    let component = strongly_connected_component(rt.alloc(), &graph, 8);
+    assert!(rt; matches!(&component, Ok(nodes) if are_same(nodes, &[7, 8, 9])));
     let graph = Rows::new(SIX).expect(&rt, "a graph");
     assert!(rt; is_path(bfs(rt.alloc(), &graph, 0, 5), &[0, 2, 5]));
 }
@@ -313,15 +292,12 @@ fn is_way(found: Result<Option<(Vec<&&str>, u32)>, PathError>, cities: &[&str], 
     places.len() == cities.len() && *price == cost
 }
 
-/// Cities, and the cheapest ways to them with their costs.
-const WAYS: &[(&str, &[&str], u32)] = &[("D", &["A", "B", "D"], 22), ("E", &["A", "B", "E"], 18)];
-
 #[test]
 fn roads_between_cities(rt: HostRuntime) {
     let map = EdgeList::new(rt.alloc(), ROADS).expect(&rt, "memory");
-    for (to, cities, cost) in WAYS {
-        let found = map.dijkstra(rt.alloc(), &"A", to);
-        assert!(rt; is_way(found, cities, *cost), "cost {cost}");
+    for (to, cities, cost) in [("D", ["A", "B", "D"], 22), ("E", ["A", "B", "E"], 18)] {
+        let found = map.dijkstra(rt.alloc(), &"A", &to);
+        assert!(rt; is_way(found, &cities, cost), "cost {cost}");
     }
 }
 
@@ -419,76 +395,53 @@ fn vectors_of(alloc: Global, slices: &[&[u32]]) -> Option<Vec<Vec<u32>>> {
     Some(vectors)
 }
 
-/// Whether the groups of a row are joined to its parts, and numbered by these.
-fn are_joined(alloc: Global, row: &Joined<'_>) -> bool {
-    let (slices, parts, count) = *row;
-    match vectors_of(alloc, slices) {
-        Some(groups) => {
-            are_parts(components(alloc, &groups), parts)
-                && are_numbered(separate_components(alloc, &groups), &groups, count)
-        }
-        None => false,
-    }
-}
-
 #[test]
 fn groups_that_share_nodes_are_joined(rt: HostRuntime) {
-    for (number, row) in JOINED.iter().enumerate() {
-        assert!(rt; are_joined(rt.alloc(), row), "row {number}");
+    for (row, (slices, parts, count)) in JOINED.iter().enumerate() {
+        let groups = vectors_of(rt.alloc(), slices).expect(&rt, "memory");
+        assert!(rt;
+            are_parts(components(rt.alloc(), &groups), parts),
+            "row {row}"
+        );
+        let numbered = separate_components(rt.alloc(), &groups);
+        assert!(rt; are_numbered(numbered, &groups, *count), "row {row}");
     }
-}
-
-/// A column and a row.
-type Place = (usize, usize);
-
-/// The edges of a grid, each with the lesser row of its ends as its weight, where memory is left.
-fn weighted_edges(alloc: Global, grid: &Grid) -> Option<Vec<(Place, Place, usize)>> {
-    let mut edges = Vec::new(alloc);
-    for (from, to) in grid.edges() {
-        edges.push((from, to, from.1.min(to.1))).ok()?;
-    }
-    Some(edges)
-}
-
-/// Whether three of the edges are chosen, each of which has the weight 0 that its ends tell.
-fn span_without_weight(alloc: Global, edges: &[(Place, Place, usize)]) -> bool {
-    let Ok(chosen) = kruskal(alloc, edges) else {
-        return false;
-    };
-    let mut count = 0usize;
-    for (from, to, weight) in chosen {
-        if weight != 0 || from.1.min(to.1) != 0 {
-            return false;
-        }
-        count = count.saturating_add(1);
-    }
-    count == 3
 }
 
 #[test]
 fn edges_of_a_grid_span_it(rt: HostRuntime) {
     let mut grid = Grid::new(rt.alloc(), 2, 2).expect(&rt, "memory");
     grid.fill();
-    let edges = weighted_edges(rt.alloc(), &grid).expect(&rt, "memory");
+    let mut edges = Vec::new(rt.alloc());
+    for (from, to) in grid.edges() {
+        edges
+            .push((from, to, from.1.min(to.1)))
+            .expect(&rt, "memory");
+    }
+    assert!(rt; edges.len() == 4);
     // Three edges of weight 0 join all, in an order that is open.
-    assert!(rt; edges.len() == 4 && span_without_weight(rt.alloc(), &edges));
-}
-
-/// Whether moves and rays lead where they should on a board of eight rows and columns.
-fn is_walked(board: &Matrix<char>) -> bool {
-    board.move_in_direction((1, 1), (2, 1)) == Some((3, 2))
-        && board
-            .in_direction((1, 1), (2, 1))
-            .eq([(3, 2), (5, 3), (7, 4)])
-        && board
-            .in_direction((3, 2), directions::NW)
-            .eq([(2, 1), (1, 0)])
+    let mut chosen = 0usize;
+    for (from, to, weight) in kruskal(rt.alloc(), &edges).expect(&rt, "memory") {
+        assert!(rt; weight == 0 && from.1.min(to.1) == 0);
+        chosen = chosen.saturating_add(1);
+    }
+    assert!(rt; chosen == 3);
 }
 
 #[test]
 fn moves_on_a_board(rt: HostRuntime) {
     let board = Matrix::new_square(rt.alloc(), 8, '.').expect(&rt, "memory");
-    assert!(rt; is_walked(&board));
+    assert!(rt; board.move_in_direction((1, 1), (2, 1)) == Some((3, 2)));
+    assert!(rt;
+        board
+            .in_direction((1, 1), (2, 1))
+            .eq([(3, 2), (5, 3), (7, 4)])
+    );
+    assert!(rt;
+        board
+            .in_direction((3, 2), directions::NW)
+            .eq([(2, 1), (1, 0)])
+    );
 }
 
 #[test]

@@ -11,16 +11,6 @@ fn is_printed<E: Display>(alloc: Global, error: &E, text: &str) -> bool {
     matches!(&error.to_string(alloc), Ok(printed) if printed.as_str() == text)
 }
 
-/// Whether each of these errors is printed as its text.
-fn are_printed<E: Display>(alloc: Global, rows: &[(E, &str)]) -> bool {
-    for (error, text) in rows {
-        if !is_printed(alloc, error, text) {
-            return false;
-        }
-    }
-    true
-}
-
 /// Refusals of searches, and their texts.
 const REFUSALS: &[(PathError, &str)] = &[
     (PathError::OutOfMemory, "out of memory"),
@@ -79,12 +69,20 @@ const EDGE_LISTS: &[(EdgeListError, &str)] = &[
 
 #[test]
 fn refusals_have_their_texts(rt: HostRuntime) {
-    assert!(rt; are_printed(rt.alloc(), REFUSALS), "refusals of searches");
-    assert!(rt; are_printed(rt.alloc(), FAULTS), "faults of runs");
+    for (refusal, text) in REFUSALS {
+        assert!(rt; is_printed(rt.alloc(), refusal, text), "{text}");
+    }
+    for (fault, text) in FAULTS {
+        assert!(rt; is_printed(rt.alloc(), fault, text), "{text}");
+    }
 }
 
 #[test]
 fn refusals_of_tables_have_their_texts(rt: HostRuntime) {
-    assert!(rt; are_printed(rt.alloc(), TABLES), "refusals of tables");
-    assert!(rt; are_printed(rt.alloc(), EDGE_LISTS), "refusals of lists");
+    for (refusal, text) in TABLES {
+        assert!(rt; is_printed(rt.alloc(), refusal, text), "{text}");
+    }
+    for (refusal, text) in EDGE_LISTS {
+        assert!(rt; is_printed(rt.alloc(), refusal, text), "{text}");
+    }
 }

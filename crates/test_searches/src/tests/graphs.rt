@@ -162,24 +162,15 @@ fn is_refused_by_name(alloc: Global, list: &EdgeList<'_, char, u8>) -> bool {
         )
 }
 
-/// Whether the rows that are dear are a graph over which that is so.
-fn is_refused_over_rows(alloc: Global) -> bool {
-    match &Rows::new(DEAR_ROWS) {
-        Ok(graph) => is_refused(alloc, graph),
-        Err(_) => false,
-    }
-}
-
-/// The same of the edges.
-fn is_refused_over_edges(alloc: Global) -> bool {
-    match &EdgeList::new(alloc, DEAR_EDGES) {
-        Ok(list) => is_refused_by_name(alloc, list),
-        Err(_) => false,
+/// Whether both are so over the rows and the edges that are dear.
+fn are_refused(alloc: Global) -> bool {
+    match (&Rows::new(DEAR_ROWS), &EdgeList::new(alloc, DEAR_EDGES)) {
+        (Ok(graph), Ok(list)) => is_refused(alloc, graph) && is_refused_by_name(alloc, list),
+        _ => false,
     }
 }
 
 #[test]
 fn sums_that_do_not_fit(rt: HostRuntime) {
-    assert!(rt; is_refused_over_rows(rt.alloc()));
-    assert!(rt; is_refused_over_edges(rt.alloc()));
+    assert!(rt; are_refused(rt.alloc()));
 }

@@ -2,7 +2,7 @@
 
 use crate::fewest::Heap;
 use crate::no_case::NoCase;
-use pf_base::{NodeRefs, PathError};
+use pf_base::NodeRefs;
 use std::alloc::Global;
 use test_allocator::Refusing;
 
@@ -77,27 +77,18 @@ fn is_read<'h>(nodes: &NodeRefs<'_, u32, Heap<'h>>, other: &NodeRefs<'_, u32, He
         && nodes.iter().count() == 3
 }
 
-/// Whether the readers of a set, and a walk over another one that is used up, take no memory.
-fn is_read_beside<'h>(
-    heap: Heap<'h>,
-    nodes: &NodeRefs<'_, u32, Heap<'h>>,
-    made: Result<NodeRefs<'_, u32, Heap<'h>>, PathError>,
-) -> bool {
-    match made {
-        Ok(other) => {
-            heap.refuse(0, u64::MAX);
-            is_read(nodes, &other) && other.into_iter().count() == 1 && heap.pending() == u64::MAX
-        }
-        Err(_) => false,
-    }
-}
-
-/// The same of a set of three nodes and a set of one of them.
+/// Whether readers of sets, and a walk over a set that is used up, answer while no memory is left.
 fn are_read(alloc: Global) -> bool {
     let heap = Refusing::new(alloc);
-    match &NodeRefs::from_nodes(&heap, REPEATED) {
-        Ok(nodes) => is_read_beside(&heap, nodes, NodeRefs::from_one(&heap, &3u32)),
-        Err(_) => false,
+    match (
+        NodeRefs::from_nodes(&heap, REPEATED),
+        NodeRefs::from_one(&heap, &3u32),
+    ) {
+        (Ok(nodes), Ok(other)) => {
+            heap.refuse(0, u64::MAX);
+            is_read(&nodes, &other) && other.into_iter().count() == 1 && heap.pending() == u64::MAX
+        }
+        _ => false,
     }
 }
 

@@ -212,25 +212,31 @@ fn outcome_of(heap: Heap<'_>, asked: &Asked<'_>, call: Call) -> Outcome {
     }
 }
 
-/// How many growths a call makes, if it answers out of memory where one of these alone is refused, and
-/// the right answer where none is.
-fn growths_of(ample: Global, asked: &Asked<'_>, call: Call) -> Option<u64> {
+/// Runs a call with growth 0, 1, 2, .. refused alone, until a run meets no refusal, and answers how
+/// many growths that run made. Each run before it has to answer out of memory.
+fn refuse_each_growth(
+    rt: &impl Abort,
+    ample: Global,
+    asked: &Asked<'_>,
+    name: &str,
+    call: Call,
+) -> u64 {
     for growth in 0..100_000u64 {
         let heap = Refusing::new(ample);
         heap.refuse(growth, 1);
         let outcome = outcome_of(&heap, asked, call);
-        if heap.pending() > 0 {
-            return if outcome == Outcome::Right {
-                Some(growth)
-            } else {
-                None
-            };
-        }
-        if outcome != Outcome::OutOfMemory {
-            return None;
+        let is_refused = heap.pending() == 0;
+        let want = if is_refused {
+            Outcome::OutOfMemory
+        } else {
+            Outcome::Right
+        };
+        assert!(rt; outcome == want, "{name}, growth {growth}");
+        if !is_refused {
+            return growth;
         }
     }
-    None
+    panic!(rt; "every run met a refusal")
 }
 
 /// What the calls are asked about.
@@ -247,8 +253,8 @@ fn all_asked(rt: &impl Abort, ample: Global) -> Asked<'static> {
 fn calls_refuse_each_growth(rt: HostRuntime) {
     let asked = all_asked(&rt, rt.alloc());
     for (name, call, least) in CALLS {
-        let growths = growths_of(rt.alloc(), &asked, *call);
-        assert!(rt; growths >= Some(*least), "{name}");
+        let growths = refuse_each_growth(&rt, rt.alloc(), &asked, name, *call);
+        assert!(rt; growths >= *least, "{name} makes {growths} growths");
     }
 }
 
@@ -261,31 +267,31 @@ fn run_outcome(heap: Heap<'_>, ample: Global, command: &Command, answer: &[u8]) 
     }
 }
 
-/// How many growths such a run makes, as those of a call.
-fn growths_of_run(ample: Global, command: &Command, answer: &[u8]) -> Option<u64> {
+/// The same for a command over the seven edges, for which `answer` is written.
+fn refuse_each_growth_of_run(
+    rt: &impl Abort,
+    ample: Global,
+    command: &Command,
+    answer: &[u8],
+) -> u64 {
     for growth in 0..100_000u64 {
         let heap = Refusing::new(ample);
         heap.refuse(growth, 1);
         let outcome = run_outcome(&heap, ample, command, answer);
         if heap.pending() > 0 {
-            return if outcome == Outcome::Right {
-                Some(growth)
-            } else {
-                None
-            };
+            assert!(rt; outcome == Outcome::Right, "with no refusal");
+            return growth;
         }
-        if outcome != Outcome::OutOfMemory {
-            return None;
-        }
+        assert!(rt; outcome == Outcome::OutOfMemory, "growth {growth}");
     }
-    None
+    panic!(rt; "every run met a refusal")
 }
 
 #[test]
 fn run_refuses_each_growth(rt: HostRuntime) {
     for (line, answer) in SEVEN_ANSWERS {
         let command = spelled(rt.alloc(), line).expect(&rt, "a command");
-        let growths = growths_of_run(rt.alloc(), &command, answer);
-        assert!(rt; growths > Some(1), "{line}");
+        let growths = refuse_each_growth_of_run(&rt, rt.alloc(), &command, answer);
+        assert!(rt; growths > 1, "{line}");
     }
 }

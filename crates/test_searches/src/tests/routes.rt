@@ -207,32 +207,23 @@ pub fn ended(
     }
 }
 
-/// Whether the command that a line spells ends so about a text, for which this is to be written.
-fn ends_so(
-    alloc: Global,
-    line: &str,
-    text: &[u8],
-    want: &[u8],
-    end: Result<bool, RouteError>,
-) -> bool {
-    let heap = Refusing::new(alloc);
-    match spelled(alloc, line) {
-        Some(command) => ended(&heap, alloc, &command, text, want) == end,
-        None => false,
-    }
-}
-
 #[test]
 fn answers_are_written(rt: HostRuntime) {
+    let heap = Refusing::new(rt.alloc());
     for (line, text, want) in ANSWERS {
-        assert!(rt; ends_so(rt.alloc(), line, text, want, Ok(true)), "{line}");
+        let command = spelled(rt.alloc(), line).expect(&rt, "a command");
+        let end = ended(&heap, rt.alloc(), &command, text, want);
+        assert!(rt; end == Ok(true), "{line} of {text:?}");
     }
 }
 
 #[test]
 fn faults_write_nothing(rt: HostRuntime) {
+    let heap = Refusing::new(rt.alloc());
     for (line, text, fault) in FAULTS {
-        assert!(rt; ends_so(rt.alloc(), line, text, b"", Err(*fault)), "{line}");
+        let command = spelled(rt.alloc(), line).expect(&rt, "a command");
+        let end = ended(&heap, rt.alloc(), &command, text, b"");
+        assert!(rt; end == Err(*fault), "{line} of {text:?}");
     }
 }
 
@@ -290,18 +281,13 @@ const COMMANDS: &[&str] = &[
     "yen a b 00018446744073709551615",
 ];
 
-/// Whether words are read, and spell a command or none.
-fn is_command(alloc: Global, line: &str, is_one: bool) -> bool {
-    matches!(&asked(alloc, line), Ok(command) if command.is_some() == is_one)
-}
-
 #[test]
 fn wrong_words_are_no_command(rt: HostRuntime) {
     for line in WRONG {
-        assert!(rt; is_command(rt.alloc(), line, false), "{line}");
+        assert!(rt; matches!(&asked(rt.alloc(), line), Ok(None)), "{line}");
     }
     for line in COMMANDS {
-        assert!(rt; is_command(rt.alloc(), line, true), "{line}");
+        assert!(rt; spelled(rt.alloc(), line).is_some(), "{line}");
     }
     assert!(rt; command(Vec::new(rt.alloc())).is_none());
 }

@@ -9,7 +9,6 @@ use pf_assignment::kuhn_munkres::{
     Weights, kuhn_munkres, kuhn_munkres_min, kuhn_munkres_tallied, weights_fit,
 };
 use pf_matrix::{Matrix, MatrixFormatError, from_slices};
-use std::alloc::Global;
 use std::cell::Cell;
 use test_allocator::Refusing;
 
@@ -162,24 +161,18 @@ fn is_found_alone(heap: Heap<'_>, table: &Matrix<i8, Heap<'_>>, weight: i8) -> b
     )
 }
 
-/// Weights, and whether both searches take a table of one of them.
-const ALONE: &[(i8, bool)] = &[(21, true), (22, false), (-128, false), (-21, true)];
-
-/// Whether a table of this one weight is found to be taken or not, without memory, and searched where it
-/// is.
-fn is_tested(heap: Heap<'_>, table: &Matrix<i8, Heap<'_>>, weight: i8, fits: bool) -> bool {
-    heap.refuse(0, u64::MAX);
-    let is_told = weights_fit(table) == fits && heap.pending() == u64::MAX;
-    heap.refuse(0, 0);
-    is_told && is_found_alone(heap, table, weight) == fits
-}
-
 #[test]
 fn the_test_takes_no_memory(rt: HostRuntime) {
     let heap = Refusing::new(rt.alloc());
-    for (weight, fits) in ALONE {
-        let table = Matrix::new(&heap, 1, 1, *weight).expect(&rt, "memory");
-        assert!(rt; is_tested(&heap, &table, *weight, *fits), "{weight}");
+    for (weight, fits) in [(21i8, true), (22, false), (-128, false), (-21, true)] {
+        let table = Matrix::new(&heap, 1, 1, weight).expect(&rt, "memory");
+        heap.refuse(0, u64::MAX);
+        assert!(rt;
+            weights_fit(&table) == fits && heap.pending() == u64::MAX,
+            "{weight}"
+        );
+        heap.refuse(0, 0);
+        assert!(rt; is_found_alone(&heap, &table, weight) == fits, "{weight}");
     }
 }
 
@@ -248,34 +241,24 @@ fn is_diagonal(
     *total == wanted && columns.len() == size
 }
 
-/// How often the weights of a table of this size are read, where both searches find these totals.
-fn reads_of(alloc: Global, size: usize, greatest: i64, least: i64) -> Option<u64> {
-    if size > 1000 {
-        return None;
-    }
-    let reads = Cell::new(0u64);
-    let products = Products {
-        size,
-        negated: false,
-        reads: &reads,
-    };
-    if !weights_fit(&products) {
-        return None;
-    }
-    let found = kuhn_munkres_tallied(alloc, &products, &mut Tally::new());
-    if is_diagonal(found, greatest, size, false)
-        && is_diagonal(kuhn_munkres_min(alloc, &products), least, size, true)
-    {
-        Some(reads.get())
-    } else {
-        None
-    }
-}
-
 #[test]
 fn reads_few_weights(rt: HostRuntime) {
+    let alloc = rt.alloc();
     for (size, greatest, least) in PRODUCTS {
-        let reads = reads_of(rt.alloc(), *size, *greatest, *least);
-        assert!(rt; matches!(reads, Some(..=20_000)), "{reads:?}");
+        let size = *size;
+        assert!(rt; size <= 1000);
+        let reads = Cell::new(0u64);
+        let products = Products {
+            size,
+            negated: false,
+            reads: &reads,
+        };
+        assert!(rt; weights_fit(&products));
+        let mut tally = Tally::new();
+        let found = kuhn_munkres_tallied(alloc, &products, &mut tally);
+        assert!(rt; is_diagonal(found, *greatest, size, false));
+        let found = kuhn_munkres_min(alloc, &products);
+        assert!(rt; is_diagonal(found, *least, size, true));
+        assert!(rt; reads.get() <= 20_000, "{}", reads.get());
     }
 }

@@ -6,9 +6,7 @@ use crate::graph::tests::around::are_around_two;
 use crate::graph::tests::assignments::{Assignment, Best, is_assigned};
 use pf_base::PathError;
 use pf_graph::undirected::connected_components::ConnectedComponents;
-use pf_graph::undirected::kruskal::{
-    Kruskal, KruskalIndices, kruskal, kruskal_indices, spanning_weight,
-};
+use pf_graph::undirected::kruskal::{kruskal, kruskal_indices, spanning_weight};
 use pf_graph::undirected::prim::prim;
 use std::alloc::Global;
 use test_allocator::Refusing;
@@ -136,40 +134,17 @@ fn growths_of(alloc: Global, call: &Call, groups: &[Vec<u32>]) -> Option<u64> {
     None
 }
 
-/// Vectors of the groups, where memory is left.
-fn vectors_of_groups(alloc: Global) -> Option<Vec<Vec<u32>>> {
-    let mut groups = Vec::new(alloc);
-    for group in GROUPS {
-        groups.push(group.to_vec(alloc).ok()?).ok()?;
-    }
-    Some(groups)
-}
-
 #[test]
 fn calls_refuse_each_growth(rt: HostRuntime) {
-    let groups = vectors_of_groups(rt.alloc()).expect(&rt, "memory");
+    let mut groups = Vec::new(rt.alloc());
+    for group in GROUPS {
+        let group = group.to_vec(rt.alloc()).expect(&rt, "memory");
+        groups.push(group).expect(&rt, "memory");
+    }
     for (number, (call, least)) in CALLS.iter().enumerate() {
         let growths = growths_of(rt.alloc(), call, &groups);
         assert!(rt; growths >= Some(*least), "call {number}");
     }
-}
-
-/// The weights of the edges that are chosen.
-const WEIGHTS: &[u32] = &[1, 3, 9];
-
-/// Whether both iterators give edges of these weights, and then none.
-fn give_weights<'h>(
-    indices: &mut KruskalIndices<u32, Heap<'h>>,
-    names: &mut Kruskal<'_, usize, u32, Heap<'h>>,
-) -> bool {
-    for weight in WEIGHTS {
-        let are_next = matches!(indices.next(), Some(edge) if edge.2 == *weight)
-            && matches!(names.next(), Some(edge) if edge.2 == *weight);
-        if !are_next {
-            return false;
-        }
-    }
-    indices.next().is_none() && names.next().is_none()
 }
 
 #[test]
@@ -178,5 +153,12 @@ fn a_made_iterator_takes_no_memory(rt: HostRuntime) {
     let mut indices = kruskal_indices(&heap, 5, EDGES).expect(&rt, "memory");
     let mut names = kruskal(&heap, EDGES).expect(&rt, "memory");
     heap.refuse(0, u64::MAX);
-    assert!(rt; give_weights(&mut indices, &mut names) && heap.pending() == u64::MAX);
+    for weight in [1u32, 3, 9] {
+        assert!(rt;
+            matches!(indices.next(), Some(edge) if edge.2 == weight)
+                && matches!(names.next(), Some(edge) if edge.2 == weight)
+        );
+    }
+    assert!(rt; indices.next().is_none() && names.next().is_none());
+    assert!(rt; heap.pending() == u64::MAX);
 }

@@ -1,7 +1,6 @@
 use Rattle.std.proofs.Common.{rules, refl, ◌≡◌, ◌∙◌, ℕ, ℤ, pos, List, ◌∷◌, [], subst, sym, true, nat_eq}
 use Rattle.std.proofs.lemmas.Cmp.{nat_eq_equiv}
 use Rattle.std.proofs.lemmas.Iterator.{YieldsList-from_range}
-use Rattle.std.proofs.lemmas.Result.{IfOk-weaker}
 use Rattle.pf_base.proofs.Callers.{nat_graph, nat_refl, valued}
 use Rattle.pf_base.proofs.Reach.{unsigned_cost}
 use Rattle.pf_base.proofs.Sources.{gives_chain, YieldsList-from_array}
@@ -26,25 +25,32 @@ same : (x y : ℕ) → y ≡ x → nat_eq x y ≡ true
 same x y e = subst (λ z. nat_eq x z ≡ true) (sym e) (nat_refl x)
 
 pub gather-requires : goal.gather-requires
-gather-requires c =
-    IfOk-weaker c.bfs_reach.result _ _ (λ w h. (same, (five, 3, h five (nat_successors five (λ x w. search rules) (λ x r t w k. (search rules, gives_chain (λ it b. (search rules, search rules, YieldsList-from_range 1 6 5 (cc) refl)))))))) c.bfs_reach.ensures.graph
+gather-requires g c =
+    let walk = c.in_ok-walk-in-Breadth.ensures.graph five (nat_successors five (λ x w. search rules) (λ x r t w k. (search rules, gives_chain (λ it b. (search rules, search rules, YieldsList-from_range 1 6 5 (cc) refl))))) in
+    (same, (five, 3, walk))
 
 pub gather-requires-in-Preorder : goal.gather-requires-in-Preorder
-gather-requires-in-Preorder c =
-    IfOk-weaker c.dfs_reach.result _ _ (λ w h. (same, (five, 3, [], h))) (c.dfs_reach.ensures.graph five (nat_successors five (λ x w. search rules) (λ x r t w k. (search rules, gives_chain (λ it b. (search rules, search rules, YieldsList-from_range 1 6 5 (cc) refl))))))
+gather-requires-in-Preorder g c =
+    let walk = c.in_ok-walk-in-Preorder.ensures.graph five (nat_successors five (λ x w. search rules) (λ x r t w k. (search rules, gives_chain (λ it b. (search rules, search rules, YieldsList-from_range 1 6 5 (cc) refl))))) in
+    (same, (five, 3, [], walk))
 
-pub gather-requires-in-Cheapest : goal.gather-requires-in-Cheapest
-gather-requires-in-Cheapest c =
+pub gather-requires-in-Ok : goal.gather-requires-in-Ok
+gather-requires-in-Ok g c =
     let listed : ℕ → List (ℕ × ℕ) = λ _. (1, 2) ∷ (4, 7) ∷ (5, 4) ∷ [] in
     let edges : ℕ → List (ℕ × ℤ) = λ n. valued (λ z. pos z) (listed n) in
-    IfOk-weaker c.dijkstra_reach.result _ _ (λ w h. (same, (edges, 3, h edges (nat_graph listed (λ x w. search rules) (λ x r t w k. let is : r ≡ listed x.now = search rules in (search rules, gives_chain (λ it b. (tt, tt, YieldsList-from_array (listed x.now) (b.0 ∙ is)))))) (unsigned_cost nat_eq listed (3 ∷ []))))) c.dijkstra_reach.ensures.graph
+    let walk = c.in-Ok.ensures.graph edges
+    (nat_graph listed (λ x w. search rules) (λ x r t w k. let is : r ≡ listed x.now = search rules in (search rules, gives_chain (λ it b. (tt, tt, YieldsList-from_array (listed x.now) (b.0 ∙ is))))))
+    (unsigned_cost nat_eq listed (3 ∷ [])) in
+    (same, (edges, 3, walk))
 
 pub gather-requires-in-PreorderByOneAndFive : goal.gather-requires-in-PreorderByOneAndFive
-gather-requires-in-PreorderByOneAndFive c =
+gather-requires-in-PreorderByOneAndFive g c =
     let next = nodes_after nat_eq by_one_and_five in
-    IfOk-weaker c.dfs_reach.result _ _ (λ w h. (same, (next, 0, [], h))) (c.dfs_reach.ensures.graph next (nodes_after_answered nat_eq_equiv by_one_and_five (λ x w. search rules) (λ x r t w k. (search rules, λ it b. (search rules, search rules, search rules)))))
+    let walk = c.in_ok-walk-in-PreorderByOneAndFive.ensures.graph next (nodes_after_answered nat_eq_equiv by_one_and_five (λ x w. search rules) (λ x r t w k. (search rules, λ it b. (search rules, search rules, search rules)))) in
+    (same, (next, 0, [], walk))
 
 pub gather-requires-in-BreadthByDoublesAndTriples : goal.gather-requires-in-BreadthByDoublesAndTriples
-gather-requires-in-BreadthByDoublesAndTriples c =
+gather-requires-in-BreadthByDoublesAndTriples g c =
     let next = nodes_after nat_eq doubles_and_triples in
-    IfOk-weaker c.bfs_reach.result _ _ (λ w h. (same, (next, 1, h next (nodes_after_answered nat_eq_equiv doubles_and_triples (λ x w. search rules) (λ x r t w k. (search rules, λ it b. (search rules, search rules, search rules))))))) c.bfs_reach.ensures.graph
+    let walk = c.in_ok-walk-in-BreadthByDoublesAndTriples.ensures.graph next (nodes_after_answered nat_eq_equiv doubles_and_triples (λ x w. search rules) (λ x r t w k. (search rules, λ it b. (search rules, search rules, search rules)))) in
+    (same, (next, 1, walk))
