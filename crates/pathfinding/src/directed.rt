@@ -2,8 +2,8 @@
 
 pub mod laws;
 
-pub use pf_flow::edmonds_karp;
 pub use pf_cycles::directed::cycle_detection;
+pub use pf_flow::edmonds_karp;
 pub use pf_informed::directed::{astar, fringe, idastar};
 pub use pf_orders::directed::{strongly_connected_components, topological_sort};
 pub use pf_search::directed::{bfs, dfs, dijkstra, iddfs};

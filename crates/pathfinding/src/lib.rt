@@ -10,6 +10,6 @@ pub mod matrix;
 pub mod prelude;
 pub mod undirected;
 
-pub use pf_base::{NodeRefs, cost, error, noderefs, utils};
 pub use pf_assignment::kuhn_munkres;
+pub use pf_base::{NodeRefs, cost, error, noderefs, utils};
 pub use pf_routes::routes;

@@ -6,8 +6,8 @@ use crate::checks::size_of;
 use crate::error::BenchError;
 use crate::inputs::table;
 use crate::repeats::{Outcome, Repeats};
-use pf_base::PathError;
 use pf_assignment::kuhn_munkres::{kuhn_munkres, kuhn_munkres_min, weights_fit};
+use pf_base::PathError;
 use pf_matrix::{Matrix, MatrixFormatError};
 use std::alloc::Global;
 

@@ -4,8 +4,8 @@ ghost use Rattle.std.specs.Prelude.{◌≡◌, IfOk, IfSome};
 ghost use Rattle.pf_assignment.specs.Assignments.{IsBestAssignment, assignment_total};
 ghost use Rattle.test_grids_and_trees.specs.Scores.{score_table};
 
-use pf_base::PathError;
 use pf_assignment::kuhn_munkres::{Weights, kuhn_munkres, weights_fit};
+use pf_base::PathError;
 use std::alloc::Allocator;
 
 /// What each player scores at each of three positions, or the negations of that.
