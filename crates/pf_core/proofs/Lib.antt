@@ -3,6 +3,7 @@ pub mod LabelLemmas
 pub mod SumLemmas
 pub mod QueueLemmas
 pub mod FrontierLemmas
+pub mod ClimbLemmas
 pub mod PathLemmas
 pub mod SearchLemmas
 pub mod TurnLemmas

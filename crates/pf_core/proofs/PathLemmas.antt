@@ -45,6 +45,9 @@ module _ {C : Type 0} (labels : Labels C) (tree : IsTree labels) where
       let up = climb_from d l.parent m.0 m.1 (omega (arith, m.3)) in
       (l.parent ∷ up.0, (l, h, refl, deep, up.1))
 
+  pub tree_climbs : (k : ℕ) → (l : Label C) × HasLabel labels k l → (above : List ℕ) × Climbs labels k above
+  tree_climbs k h = climb_from h.0.depth k h.0 h.1 refl
+
   module _ {X : Type 0} (measure : C → ℕ → ℤ) (step : X → ℤ → X → Type 0) (starts : X → Type 0) (stands : ℕ → X → Type 0)
       (rooted : (k : ℕ) (l : Label C) → HasLabel labels k l → l.depth ≡ 0 → (s : X) × starts s × stands k s × (cost_of measure l ≡ pos 0))
       (linked : (k : ℕ) (l m : Label C) → HasLabel labels k l → 0 < l.depth → HasLabel labels l.parent m → (x : X) → stands l.parent x → (y : X) × (z : ℤ) × step x z y × stands k y × (cost_of measure l ≡ cost_of measure m +ℤ z)) where

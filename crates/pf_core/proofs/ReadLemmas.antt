@@ -8,14 +8,14 @@ use Rattle.indexmap.specs.IndexSet.{insert_key}
 use Rattle.pf_base.specs.NodeRefs.{HasSameNodes}
 use Rattle.std.proofs.lemmas.List.{length-take-le}
 use Rattle.pf_core.specs.declared.labels.Label.{Label}
-use Rattle.pf_core.specs.Labels.{Labels, HasLabel, by_cost, settled_count, depth_of, IsTree, Relaxed, Widened}
+use Rattle.pf_core.specs.Labels.{Labels, HasLabel, by_cost, settled_count, Relaxed, Widened}
 use Rattle.pf_core.specs.Queue.{Entries}
 use Rattle.pf_core.specs.Search.{IsSound}
 use Rattle.pf_core.specs.Numbered.{Grows}
 use Rattle.pf_core.specs.Nodes.{StandsFor}
 use Rattle.pf_core.specs.DepthFirst.{IsVisited}
 use Rattle.pf_base.proofs.ListLemmas.{at_place}
-use Rattle.pf_core.proofs.LabelLemmas.{HasLabel-inside, parent_labelled, none_widened, Lowered-set}
+use Rattle.pf_core.proofs.LabelLemmas.{HasLabel-inside, none_widened, Lowered-set}
 use Rattle.pf_core.proofs.NodeLemmas.{Grows-from_take, HasSameNodes-insert}
 
 module _ {A : Type 0} where
@@ -93,13 +93,6 @@ IsHeap-still cmp xs ys e h = subst (IsHeap cmp) (sym e) h
 -- no step was taken yet
 pub Relaxed-none : {C : Type 0} (measure : C → ℕ → ℤ) (worth : C → ℤ) (parent : ℕ) (l : Label C) (labels : Labels C) → Relaxed measure worth parent l [] labels labels
 Relaxed-none measure worth parent l labels = record { len = refl; others = λ k m h. inl h; from = λ k m h. inl h; count = refl }
-
--- the label of a number's parent is less deep
-pub shallower : {C : Type 0} (labels : Labels C) → IsTree labels → (k p : ℕ) (l : Label C) → HasLabel labels k l → l.parent ≡ p → 0 < l.depth → depth_of (slice_get labels p) < depth_of (slice_get labels k)
-shallower labels tree k p l h e deep =
-    let up = parent_labelled labels tree k l h deep in
-    let above : depth_of (slice_get labels p) ≡ up.0.depth = ap depth_of (subst (λ (i : ℕ). HasLabel labels i up.0) e up.1) in
-    omega (arith, above, ap depth_of h, up.3)
 
 -- no label is settled where the first one was put in
 pub none_settled : {C : Type 0} (value : C → ℤ) (found start : ℕ) (labels wider : Labels C) (first : Label C) → labels ≡ [] → Widened found labels wider → first.settled ≡ false → start < length wider → settled_count (slice_set wider start (Some first)) ≡ 0

@@ -27,12 +27,6 @@ module _ {C : Type 0} where
   pub record IsTree (labels : Labels C) : Type 0 where
     pub linked : (k : ℕ) (l : Label C) → HasLabel labels k l → (l.depth ≡ 0) ⊎ ((m : Label C) × HasLabel labels l.parent m × (m.settled ≡ true) × (l.depth ≡ m.depth + 1))
 
-  -- how deep a label is, where there is one
-  abbrev pub depth_of : Option (Option (Label C)) → ℕ
-  depth_of None = 0
-  depth_of (Some None) = 0
-  depth_of (Some (Some l)) = l.depth
-
   -- the numbers lead from k up to one of depth 0, each the parent of the one before
   abbrev pub Climbs : Labels C → ℕ → List ℕ → Type 0
   Climbs labels k [] = (l : Label C) × HasLabel labels k l × (l.depth ≡ 0)

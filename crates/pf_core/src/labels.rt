@@ -1,8 +1,8 @@
 //! What a search by rising cost knows of the nodes that were found: their labels, by number.
 
-ghost use Rattle.std.specs.Prelude.{◌≡◌, ◌<◌, ◌≤◌, ◌<ℤ◌, ◌-◌, ◌^◌, ◌++◌, replicate, ℕ, true, false, Some, OnOk, OnErr, IfOk, IfErr, Contains, MatchOption, MatchBool, length, slice_set};
+ghost use Rattle.std.specs.Prelude.{◌≡◌, ◌<◌, ◌≤◌, ◌<ℤ◌, ◌-◌, ◌^◌, ◌++◌, replicate, ℕ, List, true, false, Some, OnOk, OnErr, IfOk, IfErr, Contains, MatchOption, MatchBool, length, slice_set};
 ghost use Rattle.pf_core.specs.declared.labels.Label.{Label};
-ghost use Rattle.pf_core.specs.Labels.{HasLabel, by_cost, IsTree, IsChain, IsWithin, Widened};
+ghost use Rattle.pf_core.specs.Labels.{HasLabel, by_cost, Climbs, IsChain, IsWithin, Widened};
 
 use crate::depth::Depth;
 use crate::slot::Slot;
@@ -119,14 +119,13 @@ fn parent_of<C: Copy>(labels: &[Slot<C>], number: usize) -> Option<usize>
     labels[number].parent()
 }
 
-/// The numbers on the path to `last`, from number 0 on.
+/// The numbers on the path along parents to `last`, from the one that has depth 0 on.
 pub fn path_to<C: Copy, A: Allocator + Copy>(
     alloc: A,
     labels: &[Slot<C>],
     last: usize,
 ) -> Result<Vec<usize, A>, PathError>
-    requires tree { IsTree labels.now }
-    requires labelled { (l : Label C) × HasLabel labels.now last l }
+    requires { (above : List ℕ) × Climbs labels.now last above }
     ensures chain { IfOk result (λ numbers. IsChain labels.now last numbers.items) }
     ensures inside { IfOk result (λ numbers. (k : ℕ) → Contains numbers.items k → k < length labels.now) }
     ensures refused { IfErr result (λ e. e ≡ PathError.OutOfMemory) }

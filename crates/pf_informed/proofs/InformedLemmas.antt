@@ -15,7 +15,8 @@ use Rattle.pf_core.proofs.FrontierLemmas.{walk_positive}
 use Rattle.pf_informed.specs.Internal.Forest.{IsForest}
 use Rattle.pf_informed.specs.Internal.Waiting.{Entry, IsWaiting, IsQueue, IsTaken, IsTooDear, Covers}
 use Rattle.pf_informed.specs.Internal.Informed.{IsClosed, IsFoundFrom, IsInformed, Follows}
-use Rattle.pf_informed.proofs.PathUp.{climb_walk, chain_distinct, NoRepeats-reverse}
+use Rattle.pf_core.proofs.ClimbLemmas.{chain_distinct}
+use Rattle.pf_informed.proofs.PathUp.{climb_walk, NoRepeats-reverse}
 use Rattle.pf_informed.proofs.ForestLemmas.{label_from_zero}
 
 module _ {X C : Type 0} (value : C → ℤ) (fits : ℤ → Type 0) (step : X → ℤ → X → Type 0) (passes : X → Bool) (p : IsNonNegative step) where

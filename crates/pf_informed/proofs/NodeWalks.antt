@@ -21,7 +21,8 @@ use Rattle.pf_informed.specs.Internal.Estimated.{IsEstimated}
 use Rattle.pf_informed.specs.Internal.Forest.{IsForest}
 use Rattle.pf_informed.specs.Internal.Waiting.{Entry, IsWaiting, IsTooDear}
 use Rattle.pf_informed.specs.Internal.Informed.{IsInformed}
-use Rattle.pf_informed.proofs.PathUp.{climb_walk, chain_distinct, NoRepeats-reverse, HasNode-reverse}
+use Rattle.pf_core.proofs.ClimbLemmas.{chain_distinct}
+use Rattle.pf_informed.proofs.PathUp.{climb_walk, NoRepeats-reverse, HasNode-reverse}
 use Rattle.pf_informed.proofs.InformedLemmas.{frontier}
 
 -- the beginning of a list without repeats has none

@@ -7,7 +7,7 @@ use borrow.Author.Tests.{eqb-true}
 use Rattle.pf_base.specs.Walks.{HasNode, NoRepeats, end_of}
 use Rattle.pf_base.proofs.ListLemmas.{bool_dec, Contains-head, Contains-tail, Contains-cases, none_in}
 use Rattle.pf_informed.specs.Internal.Ways.{each_of, is_in, ways, ways_at}
-use Rattle.pf_informed.proofs.PathUp.{few_below}
+use Rattle.pf_core.proofs.ClimbLemmas.{few_below}
 use Rattle.pf_informed.proofs.WaysLemmas.{in_of, of_in, if_true, if_false}
 
 -- ---- lists

@@ -11,7 +11,8 @@ use Rattle.pf_core.specs.DepthFirst.{branches_at}
 use Rattle.pf_base.proofs.ListLemmas.{bool_dec, take_get, get_take, reverse-cons, Contains-head, Contains-tail, Contains-cases, none_in, get_set, get_push}
 use Rattle.pf_core.proofs.PathLemmas.{HasNode-append_cases, NoRepeats-append}
 use Rattle.pf_informed.specs.Internal.Ways.{each_of, is_in, ways, ways_to, tries, ways_left, tries_left, nothing_waits, IsRising, AreWays, IsWhole}
-use Rattle.pf_informed.proofs.PathUp.{few_below, HasNode-reverse}
+use Rattle.pf_core.proofs.ClimbLemmas.{few_below}
+use Rattle.pf_informed.proofs.PathUp.{HasNode-reverse}
 
 -- ---- items that are given in turn
 module _ {A B : Type 0} where

@@ -1,9 +1,8 @@
 //! Labels that any later step may lower.
 
-ghost use Rattle.std.specs.Prelude.{◌≡◌, ◌<◌, ◌≤◌, ◌≤ℤ◌, ◌<ℤ◌, ◌++◌, ◌-◌, ◌^◌, ℕ, ℤ, None, Contains, OnOk, IfOk, IfErr, replicate, MatchBool, MatchOption, length};
+ghost use Rattle.std.specs.Prelude.{◌≡◌, ◌<◌, ◌≤◌, ◌≤ℤ◌, ◌<ℤ◌, ◌++◌, ◌-◌, ◌^◌, None, OnOk, IfErr, replicate, MatchBool, length};
 ghost use Rattle.pf_core.specs.declared.labels.Label.{Label};
-ghost use Rattle.pf_core.specs.Labels.{HasLabel, IsChain};
-ghost use Rattle.pf_informed.specs.Internal.Forest.{IsForest};
+ghost use Rattle.pf_core.specs.Labels.{HasLabel};
 
 use pf_base::{Cost, PathError};
 use pf_core::labels::{fill, label_of};
@@ -54,37 +53,4 @@ pub(crate) fn make_room<C: Cost, A: Allocator>(
         return Err(PathError::OutOfMemory);
     }
     fill(labels, found, Slot::none(C::zero()))
-}
-
-/// The number before this one on its path, or `None` where the path begins with it.
-fn parent_of<C: Copy>(labels: &[Slot<C>], number: usize) -> Option<usize>
-    requires { number < length labels.now }
-    ensures { MatchOption result
-        ((l : Label C) → HasLabel labels.now number l → l.depth ≡ 0)
-        (λ parent. (l : Label C) × HasLabel labels.now number l × (l.parent ≡ parent) × (0 < l.depth)) }
-{
-    labels[number].parent()
-}
-
-/// The numbers on the path to `last`, from number 0 on.
-pub(crate) fn path_to<C: Copy, A: Allocator + Copy>(
-    alloc: A,
-    labels: &[Slot<C>],
-    last: usize,
-) -> Result<Vec<usize, A>, PathError>
-    requires forest { (value : C → ℤ) × IsForest value labels.now }
-    requires labelled { (l : Label C) × HasLabel labels.now last l }
-    ensures chain { IfOk result (λ numbers. IsChain labels.now last numbers.items) }
-    ensures inside { IfOk result (λ numbers. (k : ℕ) → Contains numbers.items k → k < length labels.now) }
-    ensures refused { IfErr result (λ e. e ≡ PathError.OutOfMemory) }
-{
-    let mut numbers = Vec::new(alloc);
-    let mut at = last;
-    numbers.push(at)?;
-    'climb: while let Some(parent) = parent_of(labels, at) {
-        at = parent;
-        numbers.push(at)?;
-    }
-    numbers.reverse();
-    Ok(numbers)
 }

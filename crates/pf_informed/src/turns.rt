@@ -13,9 +13,9 @@ ghost use Rattle.pf_informed.specs.Internal.Waiting.{Entry, IsQueue};
 
 use crate::estimates::ask;
 use crate::functions::EstimateFunction;
-use crate::labels::path_to;
 use crate::search::Search;
 use pf_base::{Cost, NodeTest, PathError};
+use pf_core::labels::path_to;
 use pf_core::numbered::NumberedGraph;
 use pf_core::source::EdgeSource;
 use pf_core::tested::Tested;

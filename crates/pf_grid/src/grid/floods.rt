@@ -1,6 +1,6 @@
 //! The vertices in reach of a position, where each step leads to a neighbour that passes a test.
 
-ghost use Rattle.std.specs.Prelude.{◌≡◌, ◌+◌, true, false, [], ◌∷◌, IfOk, IfErr, OnOk, length};
+ghost use Rattle.std.specs.Prelude.{◌≡◌, ◌+◌, ℕ, true, false, [], ◌∷◌, Some, IfOk, IfErr, OnOk, length, slice_get};
 ghost use Rattle.pf_grid.specs.VertexFloods.{IsFlood, IsFloodBy};
 ghost use Rattle.pf_grid.specs.GridPositions.{has};
 ghost use Rattle.pf_grid.specs.declared.error.GridError.TheVariants.{OutOfMemory};
@@ -46,10 +46,10 @@ impl<A: Allocator + Copy> Grid<A> {
             alone.insert(start)?;
             return Ok(alone);
         }
-        let Ok(mut free) = Matrix::from_fn(alloc, self.width, self.height, predicate) else {
+        let Ok(free) = Matrix::from_fn(alloc, self.width, self.height, predicate) else {
             return Err(GridError::OutOfMemory);
         };
-        self.flood(alloc, start, &mut free)
+        self.flood(alloc, start, free)
     }
 
     /// The vertices that are reached from `start` by steps to neighbours that `predicate` takes, as
@@ -73,28 +73,29 @@ impl<A: Allocator + Copy> Grid<A> {
     }
 
     /// The vertices that are reached from `start` by steps to neighbours at which `free` has `true`.
-    /// The start is always one of them. A position that was reached is not free afterwards.
+    /// The start is always one of them.
     fn flood(
         &self,
         alloc: A,
         start: (usize, usize),
-        free: &mut Matrix<bool, A>,
+        mut free: Matrix<bool, A>,
     ) -> Result<BTreeSet<(usize, usize), A>, GridError>
-        requires sizes { (free.old.rows ≡ self.now.width) × (free.old.columns ≡ self.now.height) }
-        ensures reached { IfOk result (IsFlood self.now (answer_at free.old.rows free.old.columns free.old.values) start) }
+        requires sizes { (free.rows ≡ self.now.width) × (free.columns ≡ self.now.height) }
+        ensures reached { IfOk result (IsFlood self.now (answer_at free.rows free.columns free.values) start) }
         ensures refused { IfErr result (λ e. e ≡ OutOfMemory) }
     {
         let mut reached = Vec::new(alloc);
         reached.push(start)?;
         let mut next = 0;
         'positions: while next < reached.len() {
-            self.reach_around(free, reached[next], &mut reached)?;
+            self.reach_around(&mut free, reached[next], &mut reached)?;
             next += 1;
         }
         Ok(set_of(alloc, &reached)?)
     }
 
-    /// Puts the free neighbours of a vertex at the end of the list, and closes them.
+    /// Puts the free neighbours of a vertex at the end of the list, and closes them. Where memory is
+    /// refused, it did so with some of them.
     fn reach_around(
         &self,
         free: &mut Matrix<bool, A>,
@@ -103,6 +104,8 @@ impl<A: Allocator + Copy> Grid<A> {
     ) -> Result<(), GridError>
         requires sizes { (free.old.rows ≡ self.now.width) × (free.old.columns ≡ self.now.height) }
         ensures sizes { (free.new.rows ≡ free.old.rows) × (free.new.columns ≡ free.old.columns) }
+        ensures closes { (p : ℕ × ℕ) → answer_at free.old.rows free.old.columns free.new.values p ≡ true → answer_at free.old.rows free.old.columns free.old.values p ≡ true }
+        ensures kept { (k : ℕ) (p : ℕ × ℕ) → slice_get reached.old.items k ≡ Some p → slice_get reached.new.items k ≡ Some p }
         ensures spreads { OnOk result (Spreads (neighbours_of self.now position) []
             (answer_at free.old.rows free.old.columns free.old.values) (answer_at free.old.rows free.old.columns free.new.values) reached.old.items reached.new.items) }
         ensures counted { OnOk result (free_count free.new.values + length reached.new.items ≡ free_count free.old.values + length reached.old.items) }

@@ -1,5 +1,5 @@
 -- The labels of a search that may lower any label.
-use Rattle.std.specs.Prelude.{◌≡◌, ◌≤ℤ◌, ◌+◌, ◌<◌, ℕ, zero, suc, ℤ, pos, negsuc, List, Option, Some, None, slice_get}
+use Rattle.std.specs.Prelude.{◌≡◌, ◌≤ℤ◌, ◌+◌, ◌<◌, ℕ, ℤ, pos, negsuc, List, Option, Some, None}
 use Rattle.std.specs.List.{sum_by}
 use Rattle.pf_core.specs.declared.labels.Label.{Label}
 use Rattle.pf_core.specs.Labels.{Labels, HasLabel, Climbs}
@@ -25,19 +25,3 @@ module _ {C : Type 0} (value : C → ℤ) where
   -- how much lower all labels can get
   abbrev pub total_room : ℕ → Labels C → ℕ
   total_room top labels = sum_by (room_below top) labels
-
--- one more, where the depth is not 0
-abbrev pub one_above : ℕ → ℕ → ℕ
-one_above zero n = 0
-one_above (suc d) n = suc n
-
-module _ {C : Type 0} where
-  abbrev pub steps_from : (ℕ → ℕ) → Option (Option (Label C)) → ℕ
-  steps_from up None = 0
-  steps_from up (Some None) = 0
-  steps_from up (Some (Some l)) = one_above l.depth (up l.parent)
-
-  -- how many parents lead up from k, where they are `most` at most
-  abbrev pub steps_up : Labels C → ℕ → ℕ → ℕ
-  steps_up labels zero k = 0
-  steps_up labels (suc most) k = steps_from (steps_up labels most) (slice_get labels k)

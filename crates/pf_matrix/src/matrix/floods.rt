@@ -35,8 +35,8 @@ impl<C, A: Allocator + Copy> Matrix<C, A> {
         ensures refused { IfErr result (λ e. e ≡ OutOfMemory) }
     {
         let alloc = *self.values.allocator();
-        let mut free = Matrix::from_fn(alloc, self.rows, self.columns, predicate)?;
-        flood(alloc, &mut free, start, diagonals)
+        let free = Matrix::from_fn(alloc, self.rows, self.columns, predicate)?;
+        flood(alloc, free, start, diagonals)
     }
 
     /// The positions that are reached from `start` by steps to neighbours that `predicate` takes, as

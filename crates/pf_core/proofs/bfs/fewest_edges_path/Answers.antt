@@ -2,12 +2,13 @@ use Rattle.std.proofs.Common.{◌≡◌, ◌<◌, ◌∙◌, sym, subst, ℕ, ar
 use Rattle.std.proofs.lemmas.List.{length-replicate}
 use Rattle.std.proofs.lemmas.Result.{IfOk-from_err}
 use Rattle.pf_base.specs.declared.error.PathError.TheVariants.{OutOfMemory}
-use Rattle.pf_core.specs.Labels.{by_depth, IsTree}
+use Rattle.pf_core.specs.Labels.{by_depth}
 use Rattle.pf_base.proofs.Outcomes.{refused_as}
 use Rattle.pf_core.proofs.SearchLemmas.{Grows-trans, no_goal, best, best_grows, failed_turned}
 use Rattle.pf_core.specs.Breadth.{below}
 use Rattle.pf_core.proofs.HopLemmas.{breadth_start, breadth_done, hop_tree_start, hop_search_start, none_settled, hop_least, hop_positive, roots_below, reached_from, started, visit_left}
 use Rattle.pf_core.specs.Numbered.{Grows}
+use Rattle.pf_core.proofs.PathLemmas.{tree_climbs}
 use Rattle.pf_core.proofs.HopTurns.{IsHopTurn, settled_fit, hop_turn}
 use Rattle.pf_core.proofs.bfs.fewest_edges_path.Goals as goal
 
@@ -43,11 +44,8 @@ is_goal-requires-clause-inside g c = omega (arith, c.nodes-test.true, c.len.ensu
 pub is_goal-requires-clause-graph : goal.is_goal-requires-clause-graph
 is_goal-requires-clause-graph g c = let r = c.requires.graph in (r.0, c.nodes.invariant.explored r.0 r.1)
 
-pub path_to-requires-clause-tree : goal.path_to-requires-clause-tree
-path_to-requires-clause-tree g c = subst IsTree (sym c.deref.ensures.value) c.nodes.invariant.tree
-
-pub path_to-requires-clause-labelled : goal.path_to-requires-clause-labelled
-path_to-requires-clause-labelled g c = rw c.deref.ensures.value (c.nodes.invariant.breadth.full c.nodes.node (omega (arith, c.nodes-test.true, c.len.ensures)))
+pub path_to-requires : goal.path_to-requires
+path_to-requires g c = rw c.deref.ensures.value (tree_climbs _ c.nodes.invariant.tree c.nodes.node (c.nodes.invariant.breadth.full c.nodes.node (omega (arith, c.nodes-test.true, c.len.ensures))))
 
 pub returns-in_err-numbers : goal.returns-in_err-numbers
 returns-in_err-numbers g c = record {

@@ -3,7 +3,7 @@ use Rattle.std.specs.Prelude.{Contains}
 use Rattle.std.proofs.lemmas.List.{length-replicate}
 use Rattle.std.proofs.lemmas.Result.{IfOk-from_err}
 use Rattle.pf_base.specs.declared.error.PathError.TheVariants.{OutOfMemory}
-use Rattle.pf_core.specs.Labels.{by_depth, IsTree}
+use Rattle.pf_core.specs.Labels.{by_depth}
 use Rattle.pf_base.proofs.Outcomes.{refused_as, refused_by}
 use Rattle.pf_core.specs.Loops.{Closes, IsBestNumberedLoop}
 use Rattle.pf_core.specs.Numbered.{Grows, StandsBelow}
@@ -12,6 +12,7 @@ use Rattle.pf_core.proofs.SearchLemmas.{Grows-trans}
 use Rattle.pf_core.proofs.LoopLemmas.{property_nowhere, property_turned, none_closes, best_loop}
 use Rattle.pf_core.specs.Breadth.{below}
 use Rattle.pf_core.proofs.HopLemmas.{breadth_start, breadth_done, hop_tree_start, hop_search_start, none_settled, hop_least, hop_positive, roots_below, reached_from, started, visit_left}
+use Rattle.pf_core.proofs.PathLemmas.{tree_climbs}
 use Rattle.pf_core.proofs.HopTurns.{IsHopTurn, settled_fit, hop_turn}
 use Rattle.pf_core.proofs.bfs_loop.fewest_edges_loop.Goals as goal
 
@@ -56,11 +57,8 @@ returns-in_err-expand g c = record {
   errors = refused_as (λ e. e ≡ OutOfMemory) c.from_residual-in_err-expand.result c.in_err-expand.field-0.0 c.from_residual-in_err-expand.ensures.1 c.in_err-expand.ensures.refused.0;
 }
 
-pub path_to-requires-clause-tree : goal.path_to-requires-clause-tree
-path_to-requires-clause-tree g c = subst IsTree (sym c.deref-in-Some.ensures.value) c.nodes.invariant.tree
-
-pub path_to-requires-clause-labelled : goal.path_to-requires-clause-labelled
-path_to-requires-clause-labelled g c = rw c.deref-in-Some.ensures.value (c.nodes.invariant.breadth.full c.nodes.node (omega (arith, c.nodes-test.true, c.len.ensures)))
+pub path_to-requires : goal.path_to-requires
+path_to-requires g c = rw c.deref-in-Some.ensures.value (tree_climbs _ c.nodes.invariant.tree c.nodes.node (c.nodes.invariant.breadth.full c.nodes.node (omega (arith, c.nodes-test.true, c.len.ensures))))
 
 pub returns-in_err-numbers : goal.returns-in_err-numbers
 returns-in_err-numbers g c = record {

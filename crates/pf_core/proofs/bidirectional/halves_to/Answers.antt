@@ -1,17 +1,14 @@
-use Rattle.std.proofs.Common.{ℕ, ◌<◌, ◌≡◌, length, ap, subst, sym}
+use Rattle.std.proofs.Common.{ℕ, List, ◌<◌, ◌≡◌, length, ap, subst, sym}
 use Rattle.std.proofs.lemmas.Result.{IfOk-from_err}
 use Rattle.pf_base.specs.declared.error.PathError.TheVariants.{OutOfMemory}
-use Rattle.pf_core.specs.declared.labels.Label.{Label}
-use Rattle.pf_core.specs.Labels.{Labels, HasLabel, IsTree, IsChain}
+use Rattle.pf_core.specs.Labels.{Labels, Climbs, IsChain}
 use Rattle.pf_core.specs.Breadth.{Hops}
 use Rattle.pf_base.proofs.Outcomes.{refused_as}
+use Rattle.pf_core.proofs.PathLemmas.{tree_climbs}
 use Rattle.pf_core.proofs.bidirectional.halves_to.Goals as goal
 
-pub path_to-requires-clause-tree : goal.path_to-requires-clause-tree
-path_to-requires-clause-tree g c = subst IsTree (sym c.deref.ensures.value) c.requires.trees.0
-
-pub path_to-requires-clause-labelled : goal.path_to-requires-clause-labelled
-path_to-requires-clause-labelled g c = subst (λ (xs : Labels Hops). (l : Label Hops) × HasLabel xs c.args.number l) (sym c.deref.ensures.value) c.requires.labelled.0
+pub path_to-requires : goal.path_to-requires
+path_to-requires g c = subst (λ (xs : Labels Hops). (above : List ℕ) × Climbs xs c.args.number above) (sym c.deref.ensures.value) (tree_climbs _ c.requires.trees.0 c.args.number c.requires.labelled.0)
 
 pub returns-in_err-forth : goal.returns-in_err-forth
 returns-in_err-forth g c = record {
@@ -20,11 +17,8 @@ returns-in_err-forth g c = record {
   refused = refused_as (λ e. e ≡ OutOfMemory) c.from_residual.result c.in_err-forth.field-0.0 c.from_residual.ensures.1 c.in_err-forth.ensures.refused;
 }
 
-pub path_to-requires-2-clause-tree : goal.path_to-requires-2-clause-tree
-path_to-requires-2-clause-tree g c = subst IsTree (sym c.deref-2.ensures.value) c.requires.trees.1
-
-pub path_to-requires-2-clause-labelled : goal.path_to-requires-2-clause-labelled
-path_to-requires-2-clause-labelled g c = subst (λ (xs : Labels Hops). (l : Label Hops) × HasLabel xs c.args.across l) (sym c.deref-2.ensures.value) c.requires.labelled.1
+pub path_to-requires-2 : goal.path_to-requires-2
+path_to-requires-2 g c = subst (λ (xs : Labels Hops). (above : List ℕ) × Climbs xs c.args.across above) (sym c.deref-2.ensures.value) (tree_climbs _ c.requires.trees.1 c.args.across c.requires.labelled.1)
 
 pub returns-in_err-back : goal.returns-in_err-back
 returns-in_err-back g c = record {

@@ -4,11 +4,12 @@ use Rattle.std.specs.Prelude.{slice_set, ◌⊎◌}
 use Rattle.std.proofs.lemmas.List.Sums.{count_by-le-length}
 use Rattle.std.proofs.lemmas.Result.{IfOk-from_err}
 use Rattle.pf_base.specs.declared.error.PathError.TheVariants.{OutOfMemory, CostOverflow}
-use Rattle.pf_core.specs.Labels.{Labels, HasLabel, IsTree, IsChain, by_cost, is_settled}
+use Rattle.pf_core.specs.Labels.{Labels, HasLabel, IsChain, by_cost, is_settled}
 use Rattle.pf_core.specs.Steps.{IsBestNumbered}
 use Rattle.pf_base.proofs.Outcomes.{no_overflow, no_refusal, refused_as}
 use Rattle.pf_core.proofs.LabelLemmas.{HasLabel-inside, label_is, Settles-set, asked_within}
 use Rattle.pf_core.proofs.SearchLemmas.{Grows-trans, best, best_grows, no_goal, search_grows, one_root, only_root, start_alone, none_settled, failed_turned}
+use Rattle.pf_core.proofs.PathLemmas.{tree_climbs}
 use Rattle.pf_core.proofs.TurnLemmas.{too_dear}
 use Rattle.pf_core.proofs.dijkstra.cheapest_path.Goals as goal
 
@@ -51,11 +52,8 @@ is_goal-requires-clause-inside g c = let z = c.in-Some.ensures.least in subst (�
 pub is_goal-requires-clause-graph : goal.is_goal-requires-clause-graph
 is_goal-requires-clause-graph g c = let r = c.requires.graph in (r.0, c.turns.invariant.explored r.0 r.1)
 
-pub path_to-requires-clause-tree : goal.path_to-requires-clause-tree
-path_to-requires-clause-tree g c = subst IsTree (sym (c.deref.ensures.value ∙ c.in-Some.ensures.same)) c.turns.invariant.sound.tree
-
-pub path_to-requires-clause-labelled : goal.path_to-requires-clause-labelled
-path_to-requires-clause-labelled g c = let z = c.in-Some.ensures.least in rw (c.deref.ensures.value, c.in-Some.ensures.same) (z.0, z.1.at)
+pub path_to-requires : goal.path_to-requires
+path_to-requires g c = let z = c.in-Some.ensures.least in rw (c.deref.ensures.value, c.in-Some.ensures.same) (tree_climbs _ c.turns.invariant.sound.tree c.in-Some.number (z.0, z.1.at))
 
 pub returns-in_err-numbers : goal.returns-in_err-numbers
 returns-in_err-numbers g c = record {

@@ -8,7 +8,7 @@ use Rattle.pf_matrix.proofs.FloodLemmas.{flooding_end, flooding_init, flooding_t
 use Rattle.pf_matrix.proofs.matrix.flooding.flood.Goals as goal
 
 pub positions-init : goal.positions-init
-positions-init g c = flooding_init c.args.free.now (λ p. neighbours_of c.args.free.now.rows c.args.free.now.columns p.0 p.1 c.args.diagonals) c.args.start c.push.new.self.items
+positions-init g c = flooding_init c.args.free (λ p. neighbours_of c.args.free.rows c.args.free.columns p.0 p.1 c.args.diagonals) c.args.start c.push.new.self.items
     (c.in_ok-push.ensures.items ∙ ap (λ ps. ps ++ c.args.start ∷ []) c.new-reached.ensures.items)
 
 pub positions-smaller : goal.positions-smaller
@@ -18,7 +18,7 @@ positions-smaller g c =
 
 pub positions-preserved : goal.positions-preserved
 positions-preserved g c =
-    let first = c.args.free.now in
+    let first = c.args.free in
     let now = c.positions.free in
     let at = c.index.result.now in
     let f = c.positions.invariant in
@@ -36,6 +36,6 @@ pub returns-clause-reached : goal.returns-clause-reached
 returns-clause-reached g c =
     let ended : length c.positions.reached.items ≤ c.positions.next = omega (arith, c.positions-test.false, c.len.ensures) in
     record {
-      exactly = flooding_end c.args.free.now (λ p. neighbours_of c.args.free.now.rows c.args.free.now.columns p.0 p.1 c.args.diagonals) c.args.start c.positions.free c.positions.reached.items c.positions.next
+      exactly = flooding_end c.args.free (λ p. neighbours_of c.args.free.rows c.args.free.columns p.0 p.1 c.args.diagonals) c.args.start c.positions.free c.positions.reached.items c.positions.next
           c.in_ok-set_of.field-0 c.positions.invariant ended (subst (λ ps. IsFromIterResult position_cmp ps c.in_ok-set_of.field-0) c.deref.ensures.value c.in_ok-set_of.ensures);
     }

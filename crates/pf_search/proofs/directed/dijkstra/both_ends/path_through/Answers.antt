@@ -2,14 +2,15 @@ use Rattle.std.proofs.Common.{◌≡◌, ◌∙◌, ◌<◌, ◌+◌, ℕ, pos, 
 use Rattle.std.specs.Prelude.{◌⊎◌, ◌+ℤ◌, Contains}
 use Rattle.std.proofs.lemmas.Result.{IfOk-weaker, IfOk-from_err}
 use Rattle.pf_core.specs.Labels.{Labels, IsChain, IsTree}
+use Rattle.pf_core.proofs.PathLemmas.{tree_climbs}
 use Rattle.pf_search.specs.Internal.BothEnds.{NoneBelowAt, AreHalves}
 use Rattle.pf_search.proofs.BothEndsChains.{chain_labelled, chain_last, chain_front, take_inside, last_of_take, past_sum, place_fits}
 use Rattle.pf_search.proofs.StillLemmas.{still_at}
 use Rattle.pf_base.proofs.Outcomes.{refused_as}
 use Rattle.pf_search.proofs.directed.dijkstra.both_ends.path_through.Goals as goal
 
-pub path_to-requires-clause-labelled : goal.path_to-requires-clause-labelled
-path_to-requires-clause-labelled g c = let w = c.requires.meets in (w.here, still_at _ _ c.deref.ensures.value c.args.best.here w.here w.labelled_here)
+pub path_to-requires : goal.path_to-requires
+path_to-requires g c = let w = c.requires.meets in tree_climbs _ (subst IsTree (sym c.deref.ensures.value) c.requires.trees.0) c.args.best.here (w.here, still_at _ _ c.deref.ensures.value c.args.best.here w.here w.labelled_here)
 
 pub first_on-first-requires-clause-inside : goal.first_on-first-requires-clause-inside
 first_on-first-requires-clause-inside g c = λ k h.
@@ -34,8 +35,8 @@ overflow_add-place g c =
     let numbers = c.in_ok-numbers.numbers in
     omega (arith, place_fits numbers.items c.in-Some.place c.in-Some.meeting.here _ _ (subst (λ (ks : List ℕ). slice_get ks c.in-Some.place ≡ Some c.in-Some.meeting.here) c.deref-2.ensures.value c.in-Some.ensures.first.0) numbers.ok numbers.small)
 
-pub path_to-requires-2-clause-labelled : goal.path_to-requires-2-clause-labelled
-path_to-requires-2-clause-labelled g c = let w = c.in-Some.ensures.first.1 in (w.across, still_at _ _ c.deref-3.ensures.value c.in-Some.meeting.across w.across w.labelled_across)
+pub path_to-requires-2 : goal.path_to-requires-2
+path_to-requires-2 g c = let w = c.in-Some.ensures.first.1 in tree_climbs _ (subst IsTree (sym c.deref-3.ensures.value) c.requires.trees.1) c.in-Some.meeting.across (w.across, still_at _ _ c.deref-3.ensures.value c.in-Some.meeting.across w.across w.labelled_across)
 
 pub nodes_along-requires-clause-forth : goal.nodes_along-requires-clause-forth
 nodes_along-requires-clause-forth g c = λ k h.
@@ -64,12 +65,6 @@ first_on-first-requires-clause-one g c = c.requires.one
 
 pub first_on-first-requires-clause-wide : goal.first_on-first-requires-clause-wide
 first_on-first-requires-clause-wide g c = c.requires.wide_back
-
-pub path_to-requires-clause-tree : goal.path_to-requires-clause-tree
-path_to-requires-clause-tree g c = subst IsTree (sym c.deref.ensures.value) c.requires.trees.0
-
-pub path_to-requires-2-clause-tree : goal.path_to-requires-2-clause-tree
-path_to-requires-2-clause-tree g c = subst IsTree (sym c.deref-3.ensures.value) c.requires.trees.1
 
 pub returns : goal.returns
 returns g c = record {
