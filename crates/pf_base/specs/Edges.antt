@@ -58,7 +58,7 @@ module _ {N : Type 0} (eq : N → N → Bool) (edges : N → List (N × ℤ)) wh
       IsCheapestOrNone value answer = MatchOption answer (HasNoGoalWalk eq IsSuccessor starts test) (λ found. IsCheapestGoalPath found.0.items (value found.1))
 
   -- A cheapest path to some node and one step more do not fit, and no node that passes the test is cheaper than that node.
-  pub record IsPastRange (starts : List N) (test : N → Bool) (fits : ℤ → Type 0) : Type 0 where
+  pub record CostOverflows (starts : List N) (test : N → Bool) (fits : ℤ → Type 0) : Type 0 where
     pub node : N
     pub path : List N
     pub cost : ℤ

@@ -5,10 +5,10 @@ use Rattle.std.proofs.lemmas.Int.{ints}
 use Rattle.pf_base.specs.Walks.{end_of}
 use Rattle.pf_core.specs.declared.labels.Label.{Label}
 use Rattle.pf_core.specs.Labels.{Labels, HasLabel, by_cost, IsTree, IsReached, IsWithin, Covers, Settles, Widened, ComesFrom, Relaxed, Follows}
-use Rattle.pf_core.specs.Steps.{IsNonNegative, IsTooDear}
+use Rattle.pf_core.specs.Steps.{IsNonNegative, NumberedOverflows}
 use Rattle.pf_core.specs.Numbered.{ListsSteps, Grows}
 use Rattle.pf_core.specs.Queue.{Entries, IsQueue}
-use Rattle.pf_core.specs.Search.{IsLeast, IsSearch, Turned, HasDearStep, HasBarredStep, IsWithinRange, StandsRoot}
+use Rattle.pf_core.specs.Search.{IsLeast, IsSearch, Turned, StepOverflows, HasBarredStep, IsWithinRange, StandsRoot}
 use Rattle.pf_base.proofs.ListLemmas.{int_dec, nat_dec}
 use Rattle.pf_core.proofs.LabelLemmas.{HasLabel-inside, label_is, Settles-set}
 use Rattle.pf_core.proofs.QueueLemmas.{IsQueue-settle, IsQueue-widen}
@@ -163,15 +163,15 @@ follows_row value fits found k l row row' same labels labels' f =
     }
 
 -- a step whose end has no label, and to which no sum fits
-pub dear_step : {X C : Type 0} (value : C → ℤ) (fits : ℤ → Type 0) (step : X → ℤ → X → Type 0) (stands : ℕ → X → Type 0) (x : X) (t : ℤ) (row : List (ℕ × C)) → ListsSteps value step stands x row
-    → (j : ℕ) (c : C) → Contains row (j, c) → ((d : C) → Contains row (j, d) → ¬ (fits (t +ℤ value d))) → HasDearStep step fits x t
-dear_step value fits step stands x t row lists j c h never =
+pub step_overflows : {X C : Type 0} (value : C → ℤ) (fits : ℤ → Type 0) (step : X → ℤ → X → Type 0) (stands : ℕ → X → Type 0) (x : X) (t : ℤ) (row : List (ℕ × C)) → ListsSteps value step stands x row
+    → (j : ℕ) (c : C) → Contains row (j, c) → ((d : C) → Contains row (j, d) → ¬ (fits (t +ℤ value d))) → StepOverflows step fits x t
+step_overflows value fits step stands x t row lists j c h never =
     let to = lists.sound j c h in
     record {
       next = to.0;
       price = value c;
       edge = to.1;
-      too_dear = λ v st f. let q = lists.complete v to.0 j st to.2 in never q.0 q.1 (subst (λ (n : ℤ). fits (t +ℤ n)) (sym q.2) f);
+      all_past = λ v st f. let q = lists.complete v to.0 j st to.2 in never q.0 q.1 (subst (λ (n : ℤ). fits (t +ℤ n)) (sym q.2) f);
     }
 
 -- a step whose end has no label, and is not in range
@@ -185,7 +185,7 @@ module _ {X C : Type 0} (value : C → ℤ) (fits : ℤ → Type 0) (step : X �
         price = value c;
         edge = to.1;
         new = λ i at m has. none m (subst (λ (n : ℕ). HasLabel labels n m) (one i j to.0 (stays i to.0 at) to.2) has);
-        too_dear = λ v st f. let q = lists.complete v to.0 j st to.2 in never q.0 q.1 (subst (λ (n : ℤ). fits (t +ℤ n)) (sym q.2) f);
+        all_past = λ v st f. let q = lists.complete v to.0 j st to.2 in never q.0 q.1 (subst (λ (n : ℤ). fits (t +ℤ n)) (sym q.2) f);
       }
 
   pub within_range : ((k : ℕ) (y : X) → k < length labels → stands' k y → stands k y) → ((j : ℕ) (c : C) → Contains row (j, c) → IsReached value fits labels row t j)
@@ -201,10 +201,10 @@ module _ {X C : Type 0} (value : C → ℤ) (fits : ℤ → Type 0) (step : X �
 module _ {X C : Type 0} (value : C → ℤ) (fits : ℤ → Type 0) (step : X → ℤ → X → Type 0) (root : ℕ → Bool) (p : IsNonNegative step) (stands : ℕ → X → Type 0) (labels : Labels C) (i : IsSearch (by_cost value) step root stands labels) (tree : IsTree labels)
     (k : ℕ) (l : Label C) (z : IsLeast (by_cost value) labels k l) where
   -- where a step from a node of least cost is too dear, a cost overflow may be answered
-  pub too_dear : (passes : X → Bool) → ((k : ℕ) (l : Label C) (x : X) → HasLabel labels k l → l.settled ≡ true → stands k x → passes x ≡ false) → ((a b : ℕ) (x : X) → stands a x → stands b x → a ≡ b)
-      → ((x : X) → stands k x → HasDearStep step fits x (value l.cost)) → (found found' : ℕ) (stands' : ℕ → X → Type 0) → Grows found found' stands stands' → k < found
-      → (starts : X → Type 0) → ((x : X) → StandsRoot root stands x ↔ starts x) → IsTooDear step passes starts stands' fits
-  too_dear passes failed one dear found found' stands' grow inside starts same =
+  pub numbered_overflows : (passes : X → Bool) → ((k : ℕ) (l : Label C) (x : X) → HasLabel labels k l → l.settled ≡ true → stands k x → passes x ≡ false) → ((a b : ℕ) (x : X) → stands a x → stands b x → a ≡ b)
+      → ((x : X) → stands k x → StepOverflows step fits x (value l.cost)) → (found found' : ℕ) (stands' : ℕ → X → Type 0) → Grows found found' stands stands' → k < found
+      → (starts : X → Type 0) → ((x : X) → StandsRoot root stands x ↔ starts x) → NumberedOverflows step passes starts stands' fits
+  numbered_overflows passes failed one dear found found' stands' grow inside starts same =
       let r = least_path (by_cost value) step root p stands labels i tree k l z in
       let up = r.1 in
       let x = end_of up.first up.nodes in
@@ -222,6 +222,6 @@ module _ {X C : Type 0} (value : C → ℤ) (fits : ℤ → Type 0) (step : X �
         next = d.next;
         price = d.price;
         edge = d.edge;
-        too_dear = d.too_dear;
+        all_past = d.all_past;
         none_cheaper = λ s is. goal_above (by_cost value) step root p stands labels i passes failed (value l.cost) z.least s ((same s).1 is);
       }

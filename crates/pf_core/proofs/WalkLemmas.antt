@@ -5,9 +5,9 @@ use Rattle.std.specs.Cmp.{IsEquivalence}
 use Rattle.std.specs.List.{AllZip}
 use Rattle.std.proofs.lemmas.Int.{ints}
 use Rattle.pf_base.specs.Walks.{HasNode, NoRepeats, Follows, end_of, HasNoGoalWalk}
-use Rattle.pf_base.specs.Edges.{HasEdge, IsSuccessor, StepCosts, StepsCost, InReach, HasNoNegativeCost, NoGoalWalkCostsLess, IsCheapestGoalPath, IsPastRange}
+use Rattle.pf_base.specs.Edges.{HasEdge, IsSuccessor, StepCosts, StepsCost, InReach, HasNoNegativeCost, NoGoalWalkCostsLess, IsCheapestGoalPath, CostOverflows}
 use Rattle.pf_base.specs.Answers.{ListsEdges}
-use Rattle.pf_core.specs.Steps.{GoesAlong, IsNonNegative, NoGoal, NoGoalBelow, IsBestNumbered, IsTooDear}
+use Rattle.pf_core.specs.Steps.{GoesAlong, IsNonNegative, NoGoal, NoGoalBelow, IsBestNumbered, NumberedOverflows}
 use Rattle.pf_core.specs.Nodes.{NodeGraph, StandsFor, IsStep}
 use Rattle.pf_base.proofs.ListLemmas.{bool_dec, int_dec}
 use Rattle.pf_core.proofs.NodeLemmas.{eq-sym, eq-trans, StandsFor-same, HasEdge-same, InReach-same, InReach-start, InReach-after, InReach-more, edge_of_same}
@@ -155,9 +155,9 @@ module _ {N : Type 0} (eq : N → N → Bool) (laws : IsEquivalence eq) where
           (sym (same_test (end_of b.first b.nodes) (end_of a w) reach (end_same b.nodes w b.first a s.0 s.1)) ∙ b.good) b.best
 
       -- a sum that does not fit
-      pub past_range : (test : N → Bool) (fits : ℤ → Type 0) (keys : List N) (one : (i j : ℕ) (x : N) → StandsFor eq keys i x → StandsFor eq keys j x → i ≡ j)
-          → IsTooDear (IsStep eq g) test starts (StandsFor eq keys) fits → IsPastRange eq g.edges g.starts test fits
-      past_range test fits keys one d =
+      pub cost_overflows : (test : N → Bool) (fits : ℤ → Type 0) (keys : List N) (one : (i j : ℕ) (x : N) → StandsFor eq keys i x → StandsFor eq keys j x → i ≡ j)
+          → NumberedOverflows (IsStep eq g) test starts (StandsFor eq keys) fits → CostOverflows eq g.edges g.starts test fits
+      cost_overflows test fits keys one d =
           let node = end_of d.first d.nodes in
           let c = cheapest_edge g.edges node d.next d.price d.edge.1 in
           let s = c.1 in
@@ -170,7 +170,7 @@ module _ {N : Type 0} (eq : N → N → Bool) (laws : IsEquivalence eq) where
             next = d.next;
             price = c.0;
             step = s;
-            past = d.too_dear c.0 (d.edge.0, s.edge);
+            past = d.all_past c.0 (d.edge.0, s.edge);
             none_cheaper = none_less test d.cost d.none_cheaper;
           }
 

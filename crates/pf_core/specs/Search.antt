@@ -55,11 +55,11 @@ abbrev pub StandsRoot : {X : Type 0} → (ℕ → Bool) → (ℕ → X → Type 
 StandsRoot root stands x = (k : ℕ) × (root k ≡ true) × stands k x
 
 -- some step leads from x to a node whose steps all cost more, with t, than fits
-pub record HasDearStep {X : Type 0} (step : X → ℤ → X → Type 0) (fits : ℤ → Type 0) (x : X) (t : ℤ) : Type 0 where
+pub record StepOverflows {X : Type 0} (step : X → ℤ → X → Type 0) (fits : ℤ → Type 0) (x : X) (t : ℤ) : Type 0 where
   pub next : X
   pub price : ℤ
   pub edge : step x price next
-  pub too_dear : (z : ℤ) → step x z next → ¬ (fits (t +ℤ z))
+  pub all_past : (z : ℤ) → step x z next → ¬ (fits (t +ℤ z))
 
 module _ {X C : Type 0} (step : X → ℤ → X → Type 0) (stands : ℕ → X → Type 0) (labels : Labels C) (fits : ℤ → Type 0) (x : X) (t : ℤ) where
   -- Some step leads from x to a node that has no label yet, and all steps to that node cost more, with t, than fits.
@@ -68,7 +68,7 @@ module _ {X C : Type 0} (step : X → ℤ → X → Type 0) (stands : ℕ → X 
     pub price : ℤ
     pub edge : step x price next
     pub new : (j : ℕ) → stands j next → (m : Label C) → ¬ (HasLabel labels j m)
-    pub too_dear : (z : ℤ) → step x z next → ¬ (fits (t +ℤ z))
+    pub all_past : (z : ℤ) → step x z next → ¬ (fits (t +ℤ z))
 
   -- The node y has a label, or some step from x to a node of its number costs, with t, no more than fits.
   abbrev pub IsWithinRange : (ℕ → X → Type 0) → X → Type 0

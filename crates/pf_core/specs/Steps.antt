@@ -44,7 +44,7 @@ module _ {X : Type 0} (step : X → ℤ → X → Type 0) where
         pub best : NoGoalBelow t
 
       -- A cheapest path to some node and one step more do not fit, by whichever parallel step, and no node that passes is cheaper than that node.
-      pub record IsTooDear (fits : ℤ → Type 0) : Type 0 where
+      pub record NumberedOverflows (fits : ℤ → Type 0) : Type 0 where
         pub first : X
         pub is_start : starts first
         pub numbers : List ℕ
@@ -57,5 +57,5 @@ module _ {X : Type 0} (step : X → ℤ → X → Type 0) where
         pub next : X
         pub price : ℤ
         pub edge : step (end_of first nodes) price next
-        pub too_dear : (z : ℤ) → step (end_of first nodes) z next → ¬ (fits (cost +ℤ z))
+        pub all_past : (z : ℤ) → step (end_of first nodes) z next → ¬ (fits (cost +ℤ z))
         pub none_cheaper : NoGoalBelow cost

@@ -36,16 +36,16 @@ pub fn fewest_edges_path<C: Cost, G: GoalGraph<C>, A: Allocator + Copy>(
     graph: &mut G,
 ) -> Result<Option<Vec<usize, A>>, PathError>
     requires graph { (g : G.Graph) × G.explores graph.old g }
-    requires begins { (k : ℕ) → k < G.found graph.old → (s : G.Node) × G.stands graph.old k s }
+    requires begins { (k : ℕ) → k < G.node_count graph.old → (s : G.Node) × G.stands graph.old k s }
     ensures graph { (g : G.Graph) → G.explores graph.old g → G.explores graph.new g }
-    ensures inside { IfOk result (λ answer. IfSome answer (λ numbers. (k : ℕ) → Contains numbers.items k → k < G.found graph.new)) }
+    ensures inside { IfOk result (λ answer. IfSome answer (λ numbers. (k : ℕ) → Contains numbers.items k → k < G.node_count graph.new)) }
     ensures best { (g : G.Graph) → G.explores graph.old g → IsHop (G.step g)
-        → IfOk result (λ answer. MatchOption answer (NoGoal (G.step g) (G.passes g) (StandsBelow (G.found graph.old) (G.stands graph.old)))
-        (λ numbers. (t : ℤ) × IsBestNumbered (G.step g) (G.passes g) (StandsBelow (G.found graph.old) (G.stands graph.old)) (G.stands graph.new) numbers.items t)) }
+        → IfOk result (λ answer. MatchOption answer (NoGoal (G.step g) (G.passes g) (StandsBelow (G.node_count graph.old) (G.stands graph.old)))
+        (λ numbers. (t : ℤ) × IsBestNumbered (G.step g) (G.passes g) (StandsBelow (G.node_count graph.old) (G.stands graph.old)) (G.stands graph.new) numbers.items t)) }
     ensures errors { IfErr result (λ e. e ≡ PathError.OutOfMemory) }
 {
     let mut labels: Vec<Slot<()>, A> = Vec::new(alloc);
-    fill(&mut labels, graph.found(), Slot::first(()))?;
+    fill(&mut labels, graph.node_count(), Slot::first(()))?;
     let mut node = 0;
     'nodes: while node < labels.len() {
         if graph.is_goal(node) {
@@ -54,7 +54,7 @@ pub fn fewest_edges_path<C: Cost, G: GoalGraph<C>, A: Allocator + Copy>(
         }
         graph.expand(node, &mut NoRow)?;
         let depth = settle(&mut labels, node);
-        fill(&mut labels, graph.found(), Slot::behind(node, &depth, ()))?;
+        fill(&mut labels, graph.node_count(), Slot::behind(node, &depth, ()))?;
         node += 1;
     }
     Ok(None)

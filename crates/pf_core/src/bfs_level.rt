@@ -38,12 +38,12 @@ fn visit<C: Cost, G: TwoSidedGraph<C>, A: Allocator + Copy>(
     wave: &mut Wave<A>,
 ) -> Result<(), PathError>
     requires graph { (g : G.Graph) × G.explores graph.old g }
-    requires wave { IsWave (G.found graph.old side) wave.old.labels.items wave.old.next }
+    requires wave { IsWave (G.node_count graph.old side) wave.old.labels.items wave.old.next }
     requires left { wave.old.next < length wave.old.labels.items }
     ensures graph { (g : G.Graph) → G.explores graph.old g → G.explores graph.new g }
-    ensures grows { Grows (G.found graph.old side) (G.found graph.new side) (G.stands graph.old side) (G.stands graph.new side) }
-    ensures other { (G.found graph.new (opposite side) ≡ G.found graph.old (opposite side)) × ((k : ℕ) (x : G.Node) → G.stands graph.new (opposite side) k x ↔ G.stands graph.old (opposite side) k x) }
-    ensures wave { OnOk result (IsWave (G.found graph.new side) wave.new.labels.items wave.new.next) }
+    ensures grows { Grows (G.node_count graph.old side) (G.node_count graph.new side) (G.stands graph.old side) (G.stands graph.new side) }
+    ensures other { (G.node_count graph.new (opposite side) ≡ G.node_count graph.old (opposite side)) × ((k : ℕ) (x : G.Node) → G.stands graph.new (opposite side) k x ↔ G.stands graph.old (opposite side) k x) }
+    ensures wave { OnOk result (IsWave (G.node_count graph.new side) wave.new.labels.items wave.new.next) }
     ensures next { OnOk result (wave.new.next ≡ wave.old.next + 1) }
     ensures layered { OnOk result ((level depth : ℕ) → wave.old.next < level → level ≤ length wave.old.labels.items
         → IsLayered wave.old.labels.items wave.old.next level depth → IsLayered wave.new.labels.items wave.new.next level depth) }
@@ -57,7 +57,7 @@ fn visit<C: Cost, G: TwoSidedGraph<C>, A: Allocator + Copy>(
     let depth = settle(&mut wave.labels, node);
     fill(
         &mut wave.labels,
-        graph.found(side),
+        graph.node_count(side),
         Slot::behind(node, &depth, ()),
     )?;
     wave.next = node + 1;
@@ -72,9 +72,9 @@ pub fn first_meeting<C: Cost, G: TwoSidedGraph<C>>(
 ) -> Option<Meeting>
     ensures met { MatchOption result
         ((j k : ℕ) (x : G.Node) → first ≤ j → G.stands graph.now side j x → ¬ (G.stands graph.now (opposite side) k x))
-        (λ m. (m.here < G.found graph.now side) × (m.across < G.found graph.now (opposite side)) × ((x : G.Node) → G.stands graph.now side m.here x → G.stands graph.now (opposite side) m.across x)) }
+        (λ m. (m.here < G.node_count graph.now side) × (m.across < G.node_count graph.now (opposite side)) × ((x : G.Node) → G.stands graph.now side m.here x → G.stands graph.now (opposite side) m.across x)) }
 {
-    'numbers: for number in first..graph.found(side) {
+    'numbers: for number in first..graph.node_count(side) {
         if let Some(across) = graph.number_across(side, number) {
             return Some(Meeting {
                 here: number,
@@ -93,18 +93,18 @@ pub fn advance<C: Cost, G: TwoSidedGraph<C>, A: Allocator + Copy>(
     wave: &mut Wave<A>,
 ) -> Result<Option<Meeting>, PathError>
     requires graph { (g : G.Graph) × G.explores graph.old g }
-    requires wave { IsWave (G.found graph.old side) wave.old.labels.items wave.old.next }
+    requires wave { IsWave (G.node_count graph.old side) wave.old.labels.items wave.old.next }
     ensures graph { (g : G.Graph) → G.explores graph.old g → G.explores graph.new g }
-    ensures grows { Grows (G.found graph.old side) (G.found graph.new side) (G.stands graph.old side) (G.stands graph.new side) }
-    ensures other { (G.found graph.new (opposite side) ≡ G.found graph.old (opposite side)) × ((k : ℕ) (x : G.Node) → G.stands graph.new (opposite side) k x ↔ G.stands graph.old (opposite side) k x) }
-    ensures wave { OnOk result (IsWave (G.found graph.new side) wave.new.labels.items wave.new.next) }
+    ensures grows { Grows (G.node_count graph.old side) (G.node_count graph.new side) (G.stands graph.old side) (G.stands graph.new side) }
+    ensures other { (G.node_count graph.new (opposite side) ≡ G.node_count graph.old (opposite side)) × ((k : ℕ) (x : G.Node) → G.stands graph.new (opposite side) k x ↔ G.stands graph.old (opposite side) k x) }
+    ensures wave { OnOk result (IsWave (G.node_count graph.new side) wave.new.labels.items wave.new.next) }
     ensures search { OnOk result ((g : G.Graph) → G.explores graph.old g → IsHop (G.step g side) → (root : ℕ → Bool)
         → IsSearch by_depth (G.step g side) root (G.stands graph.old side) wave.old.labels.items
         → IsSearch by_depth (G.step g side) root (G.stands graph.new side) wave.new.labels.items) }
     ensures level { IfOk result (λ answer. MatchOption answer
         ((wave.new.next ≡ length wave.old.labels.items)
         × (NoneMeets (G.stands graph.old side) (G.stands graph.old (opposite side)) → NoneMeets (G.stands graph.new side) (G.stands graph.new (opposite side))))
-        (λ m. (m.here < G.found graph.new side) × (m.across < G.found graph.old (opposite side)) × ((x : G.Node) → G.stands graph.new side m.here x → G.stands graph.old (opposite side) m.across x))) }
+        (λ m. (m.here < G.node_count graph.new side) × (m.across < G.node_count graph.old (opposite side)) × ((x : G.Node) → G.stands graph.new side m.here x → G.stands graph.old (opposite side) m.across x))) }
     ensures layered { OnOk result ((depth : ℕ) → IsLayered wave.old.labels.items wave.old.next (length wave.old.labels.items) depth
         → IsLayered wave.new.labels.items wave.new.next (length wave.old.labels.items) depth) }
     ensures errors { IfErr result (λ e. e ≡ PathError.OutOfMemory) }

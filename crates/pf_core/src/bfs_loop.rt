@@ -33,15 +33,15 @@ pub fn fewest_edges_loop<C: Cost, G: NumberedGraph<C>, A: Allocator + Copy>(
     graph: &mut G,
 ) -> Result<Option<Vec<usize, A>>, PathError>
     requires graph { (g : G.Graph) × G.explores graph.old g }
-    requires begins { (k : ℕ) → k < G.found graph.old → (s : G.Node) × G.stands graph.old k s }
+    requires begins { (k : ℕ) → k < G.node_count graph.old → (s : G.Node) × G.stands graph.old k s }
     ensures graph { (g : G.Graph) → G.explores graph.old g → G.explores graph.new g }
-    ensures inside { IfOk result (λ answer. IfSome answer (λ numbers. (k : ℕ) → Contains numbers.items k → k < G.found graph.new)) }
+    ensures inside { IfOk result (λ answer. IfSome answer (λ numbers. (k : ℕ) → Contains numbers.items k → k < G.node_count graph.new)) }
     ensures best { (g : G.Graph) → G.explores graph.old g → IsHop (G.step g)
-        → IfOk result (λ answer. MatchOption answer (NoLoop (G.step g) (StandsBelow (G.found graph.old) (G.stands graph.old)))
-        (λ numbers. IsBestNumberedLoop (G.step g) (StandsBelow (G.found graph.old) (G.stands graph.old)) (G.stands graph.new) numbers.items)) }
+        → IfOk result (λ answer. MatchOption answer (NoLoop (G.step g) (StandsBelow (G.node_count graph.old) (G.stands graph.old)))
+        (λ numbers. IsBestNumberedLoop (G.step g) (StandsBelow (G.node_count graph.old) (G.stands graph.old)) (G.stands graph.new) numbers.items)) }
     ensures errors { IfErr result (λ e. e ≡ PathError.OutOfMemory) }
 {
-    let starts = graph.found();
+    let starts = graph.node_count();
     let mut labels: Vec<Slot<()>, A> = Vec::new(alloc);
     fill(&mut labels, starts, Slot::first(()))?;
     let mut row: Vec<(usize, C), A> = Vec::new(alloc);
@@ -54,7 +54,7 @@ pub fn fewest_edges_loop<C: Cost, G: NumberedGraph<C>, A: Allocator + Copy>(
             return Ok(Some(numbers));
         }
         let depth = settle(&mut labels, node);
-        fill(&mut labels, graph.found(), Slot::behind(node, &depth, ()))?;
+        fill(&mut labels, graph.node_count(), Slot::behind(node, &depth, ()))?;
         node += 1;
     }
     Ok(None)

@@ -43,14 +43,14 @@ fn advance_smaller<C: Cost, G: TwoSidedGraph<C>, A: Allocator + Copy>(
     back: &mut Wave<A>,
 ) -> Result<Option<(usize, usize)>, PathError>
     requires graph { (g : G.Graph) × G.explores graph.old g }
-    requires forth { IsWave (G.found graph.old Side.Forth) forth.old.labels.items forth.old.next }
-    requires back { IsWave (G.found graph.old Side.Back) back.old.labels.items back.old.next }
+    requires forth { IsWave (G.node_count graph.old Side.Forth) forth.old.labels.items forth.old.next }
+    requires back { IsWave (G.node_count graph.old Side.Back) back.old.labels.items back.old.next }
     requires left { (forth.old.next < length forth.old.labels.items) × (back.old.next < length back.old.labels.items) }
     ensures graph { (g : G.Graph) → G.explores graph.old g → G.explores graph.new g }
-    ensures grows_forth { Grows (G.found graph.old Side.Forth) (G.found graph.new Side.Forth) (G.stands graph.old Side.Forth) (G.stands graph.new Side.Forth) }
-    ensures grows_back { Grows (G.found graph.old Side.Back) (G.found graph.new Side.Back) (G.stands graph.old Side.Back) (G.stands graph.new Side.Back) }
-    ensures forth { OnOk result (IsWave (G.found graph.new Side.Forth) forth.new.labels.items forth.new.next) }
-    ensures back { OnOk result (IsWave (G.found graph.new Side.Back) back.new.labels.items back.new.next) }
+    ensures grows_forth { Grows (G.node_count graph.old Side.Forth) (G.node_count graph.new Side.Forth) (G.stands graph.old Side.Forth) (G.stands graph.new Side.Forth) }
+    ensures grows_back { Grows (G.node_count graph.old Side.Back) (G.node_count graph.new Side.Back) (G.stands graph.old Side.Back) (G.stands graph.new Side.Back) }
+    ensures forth { OnOk result (IsWave (G.node_count graph.new Side.Forth) forth.new.labels.items forth.new.next) }
+    ensures back { OnOk result (IsWave (G.node_count graph.new Side.Back) back.new.labels.items back.new.next) }
     ensures search_forth { OnOk result ((g : G.Graph) → G.explores graph.old g → IsHop (G.step g Side.Forth) → (root : ℕ → Bool)
         → IsSearch by_depth (G.step g Side.Forth) root (G.stands graph.old Side.Forth) forth.old.labels.items
         → IsSearch by_depth (G.step g Side.Forth) root (G.stands graph.new Side.Forth) forth.new.labels.items) }
@@ -112,18 +112,18 @@ pub fn fewest_edges_between<C: Cost, G: TwoSidedGraph<C>, A: Allocator + Copy>(
     graph: &mut G,
 ) -> Result<Option<Halves<A>>, PathError>
     requires graph { (g : G.Graph) × G.explores graph.old g }
-    requires begins { (side : Side) (k : ℕ) → k < G.found graph.old side → (s : G.Node) × G.stands graph.old side k s }
+    requires begins { (side : Side) (k : ℕ) → k < G.node_count graph.old side → (s : G.Node) × G.stands graph.old side k s }
     ensures graph { (g : G.Graph) → G.explores graph.old g → G.explores graph.new g }
-    ensures inside { IfOk result (λ answer. IfSome answer (λ halves. ((k : ℕ) → Contains halves.forth.items k → k < G.found graph.new Side.Forth) × ((k : ℕ) → Contains halves.back.items k → k < G.found graph.new Side.Back))) }
+    ensures inside { IfOk result (λ answer. IfSome answer (λ halves. ((k : ℕ) → Contains halves.forth.items k → k < G.node_count graph.new Side.Forth) × ((k : ℕ) → Contains halves.back.items k → k < G.node_count graph.new Side.Back))) }
     ensures best { (g : G.Graph) → G.explores graph.old g → IsHop (G.step g Side.Forth) → IsHop (G.step g Side.Back)
-        → IsMirrored (G.step g Side.Forth) (G.step g Side.Back) (StandsBelow (G.found graph.old Side.Forth) (G.stands graph.old Side.Forth)) (StandsBelow (G.found graph.old Side.Back) (G.stands graph.old Side.Back))
+        → IsMirrored (G.step g Side.Forth) (G.step g Side.Back) (StandsBelow (G.node_count graph.old Side.Forth) (G.stands graph.old Side.Forth)) (StandsBelow (G.node_count graph.old Side.Back) (G.stands graph.old Side.Back))
         → IfOk result (λ answer. MatchOption answer
-        (NoWalkBetween (G.step g Side.Forth) (G.step g Side.Back) (StandsBelow (G.found graph.old Side.Forth) (G.stands graph.old Side.Forth)) (StandsBelow (G.found graph.old Side.Back) (G.stands graph.old Side.Back)))
-        (λ halves. IsBestMeeting (G.step g Side.Forth) (G.step g Side.Back) (StandsBelow (G.found graph.old Side.Forth) (G.stands graph.old Side.Forth)) (StandsBelow (G.found graph.old Side.Back) (G.stands graph.old Side.Back)) (G.stands graph.new Side.Forth) (G.stands graph.new Side.Back) halves.forth.items halves.back.items)) }
+        (NoWalkBetween (G.step g Side.Forth) (G.step g Side.Back) (StandsBelow (G.node_count graph.old Side.Forth) (G.stands graph.old Side.Forth)) (StandsBelow (G.node_count graph.old Side.Back) (G.stands graph.old Side.Back)))
+        (λ halves. IsBestMeeting (G.step g Side.Forth) (G.step g Side.Back) (StandsBelow (G.node_count graph.old Side.Forth) (G.stands graph.old Side.Forth)) (StandsBelow (G.node_count graph.old Side.Back) (G.stands graph.old Side.Back)) (G.stands graph.new Side.Forth) (G.stands graph.new Side.Back) halves.forth.items halves.back.items)) }
     ensures errors { IfErr result (λ e. e ≡ PathError.OutOfMemory) }
 {
-    let mut forth = begin(alloc, graph.found(Side::Forth))?;
-    let mut back = begin(alloc, graph.found(Side::Back))?;
+    let mut forth = begin(alloc, graph.node_count(Side::Forth))?;
+    let mut back = begin(alloc, graph.node_count(Side::Back))?;
     if let Some(meeting) = first_meeting(graph, Side::Forth, 0) {
         let halves = halves_to(alloc, &forth, &back, meeting.here, meeting.across)?;
         return Ok(Some(halves));

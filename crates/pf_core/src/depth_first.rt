@@ -131,24 +131,24 @@ impl<A: Allocator + Copy> DepthFirst<A> {
         graph: &mut G,
         branch: Branch,
     ) -> Result<(), PathError>
-        requires inside { branch.number < G.found graph.old }
+        requires inside { branch.number < G.node_count graph.old }
         requires graph { (g : G.Graph) × G.explores graph.old g }
         requires depth { branch.depth ≤ length self.old.path.items }
-        ensures grows { Grows (G.found graph.old) (G.found graph.new) (G.stands graph.old) (G.stands graph.new) }
+        ensures grows { Grows (G.node_count graph.old) (G.node_count graph.new) (G.stands graph.old) (G.stands graph.new) }
         ensures graph { (g : G.Graph) → G.explores graph.old g → G.explores graph.new g }
         ensures given { OnOk result (self.new.given.items ≡ self.old.given.items ++ branch.number ∷ []) }
         ensures visited { OnOk result ((k : ℕ) → IsVisited self.new.visited.items k ↔ (IsVisited self.old.visited.items k ⊎ (k ≡ branch.number))) }
         ensures path { OnOk result (self.new.path.items ≡ take branch.depth self.old.path.items ++ branch.number ∷ []) }
         ensures waiting { OnOk result ((numbers : List ℕ) × (self.new.waiting.items ≡ self.old.waiting.items ++ branches_at (length self.new.path.items) (reverse numbers))
             × ((g : G.Graph) → G.explores graph.old g → (x : G.Node) → G.stands graph.old branch.number x → AllZip (G.stands graph.new) numbers (G.successors g x))) }
-        ensures ordered { OnOk result ((g : G.Graph) → G.explores graph.old g → (x : G.Node) → G.stands graph.old branch.number x → NumbersInOrder (G.stands graph.new) (G.found graph.old) (G.successors g x) (G.found graph.new)) }
+        ensures ordered { OnOk result ((g : G.Graph) → G.explores graph.old g → (x : G.Node) → G.stands graph.old branch.number x → NumbersInOrder (G.stands graph.new) (G.node_count graph.old) (G.successors g x) (G.node_count graph.new)) }
         ensures kept { OnErr result ((self.new.given.items ≡ self.old.given.items) × (self.new.path.items ≡ self.old.path.items) × (self.new.waiting.items ≡ self.old.waiting.items)
-            × ((k : ℕ) → IsVisited self.new.visited.items k ↔ IsVisited self.old.visited.items k) × (G.found graph.new ≡ G.found graph.old)) }
+            × ((k : ℕ) → IsVisited self.new.visited.items k ↔ IsVisited self.old.visited.items k) × (G.node_count graph.new ≡ G.node_count graph.old)) }
         ensures refused { IfErr result (λ e. e ≡ PathError.OutOfMemory) }
     {
-        let first = graph.found();
+        let first = graph.node_count();
         graph.expand(branch.number, &mut self.row)?;
-        let found = graph.found();
+        let found = graph.node_count();
         if let Err(refusal) = self.note(branch, found) {
             graph.forget(first);
             return Err(refusal);

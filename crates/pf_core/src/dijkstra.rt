@@ -1,7 +1,7 @@
 //! The search for a cheapest path, over numbers.
 
 ghost use Rattle.std.specs.Prelude.{◌≡◌, ◌<◌, ◌≤◌, ◌+◌, ◌⊎◌, ℕ, Err, Contains, IfOk, IfErr, IfSome, MatchOption};
-ghost use Rattle.pf_core.specs.Steps.{IsNonNegative, NoGoal, IsBestNumbered, IsTooDear};
+ghost use Rattle.pf_core.specs.Steps.{IsNonNegative, NoGoal, IsBestNumbered, NumberedOverflows};
 
 use crate::labels::{label_of, path_to};
 use crate::numbered::GoalGraph;
@@ -18,21 +18,21 @@ pub fn cheapest_path<C: Cost, G: GoalGraph<C>, A: Allocator + Copy>(
     start: usize,
     tally: &mut Tally,
 ) -> Result<Option<(Vec<usize, A>, C)>, PathError>
-    requires inside { start < G.found graph.old }
+    requires inside { start < G.node_count graph.old }
     requires begins { (s : G.Node) × G.stands graph.old start s }
     requires graph { (g : G.Graph) × G.explores graph.old g }
     ensures graph { (g : G.Graph) → G.explores graph.old g → G.explores graph.new g }
-    ensures inside { IfOk result (λ answer. IfSome answer (λ r. (k : ℕ) → Contains r.0.items k → k < G.found graph.new)) }
+    ensures inside { IfOk result (λ answer. IfSome answer (λ r. (k : ℕ) → Contains r.0.items k → k < G.node_count graph.new)) }
     ensures best { (g : G.Graph) → G.explores graph.old g → IsNonNegative (G.step g)
         → IfOk result (λ answer. MatchOption answer (NoGoal (G.step g) (G.passes g) (G.stands graph.old start))
         (λ r. IsBestNumbered (G.step g) (G.passes g) (G.stands graph.old start) (G.stands graph.new) r.0.items (C.value r.1))) }
     ensures overflow { (g : G.Graph) → G.explores graph.old g → IsNonNegative (G.step g)
-        → result ≡ Err PathError.CostOverflow → IsTooDear (G.step g) (G.passes g) (G.stands graph.old start) (G.stands graph.new) C.fits }
+        → result ≡ Err PathError.CostOverflow → NumberedOverflows (G.step g) (G.passes g) (G.stands graph.old start) (G.stands graph.new) C.fits }
     ensures ticked { tally.old ≤ tally.new }
-    ensures asked { tally.new ≤ tally.old + G.found graph.new }
+    ensures asked { tally.new ≤ tally.old + G.node_count graph.new }
     ensures errors { IfErr result (λ e. (e ≡ PathError.OutOfMemory) ⊎ (e ≡ PathError.CostOverflow)) }
 {
-    let mut search = Search::begin(alloc, graph.found(), start)?;
+    let mut search = Search::begin(alloc, graph.node_count(), start)?;
     'turns: while let Some(number) = search.least() {
         if graph.is_goal(number) {
             let numbers = path_to(alloc, &search.labels, number)?;

@@ -44,7 +44,7 @@ where
 
     ghost passes = { λ _ _. false };
 
-    ghost found = { λ s. length s.nodes.keys };
+    ghost node_count = { λ s. length s.nodes.keys };
 
     ghost stands = { λ s. StandsFor N.eq s.nodes.keys };
 
@@ -52,7 +52,7 @@ where
 
     ghost can_forget = { λ s k. k ≤ length s.nodes.keys };
 
-    fn found(&self) -> usize {
+    fn node_count(&self) -> usize {
         self.nodes.len()
     }
 

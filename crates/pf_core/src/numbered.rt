@@ -25,7 +25,7 @@ pub trait NumberedGraph<C: Cost> {
     ghost passes: { Graph → Node → Bool };
 
     // How many nodes were found.
-    ghost found: { Self → ℕ };
+    ghost node_count: { Self → ℕ };
 
     // The number k stands for the node x.
     ghost stands: { Self → ℕ → Node → Type 0 };
@@ -37,35 +37,35 @@ pub trait NumberedGraph<C: Cost> {
     ghost can_forget: { Self → ℕ → Type 0 };
 
     /// The number of nodes that were found.
-    fn found(&self) -> usize
-        ensures { result ≡ found self.now };
+    fn node_count(&self) -> usize
+        ensures { result ≡ node_count self.now };
 
     /// Numbers the ends of the steps from a node, and fills `row` with the steps. Where memory is
     /// refused, the nodes stay as they were.
     fn expand<R: Row<C>>(&mut self, node: usize, row: &mut R) -> Result<(), PathError>
-        requires inside { node < found self.old }
+        requires inside { node < node_count self.old }
         requires graph { (g : Graph) × explores self.old g }
-        ensures grows { Grows (found self.old) (found self.new) (stands self.old) (stands self.new) }
-        ensures back { can_forget self.new (found self.old) }
+        ensures grows { Grows (node_count self.old) (node_count self.new) (stands self.old) (stands self.new) }
+        ensures back { can_forget self.new (node_count self.old) }
         ensures graph { (g : Graph) → explores self.old g → explores self.new g }
         ensures listed { OnOk result ((entries : List (ℕ × C)) × R.holds row.new entries
-            × ((j : ℕ) (c : C) → Contains entries (j, c) → j < found self.new)
-            × ((j : ℕ) → found self.old ≤ j → j < found self.new → (c : C) × Contains entries (j, c))
+            × ((j : ℕ) (c : C) → Contains entries (j, c) → j < node_count self.new)
+            × ((j : ℕ) → node_count self.old ≤ j → j < node_count self.new → (c : C) × Contains entries (j, c))
             × ((g : Graph) → explores self.old g → (x : Node) → stands self.old node x → ListsSteps C.value (step g) (stands self.new) x entries)) }
         ensures placed { OnOk result ((entries : List (ℕ × C)) × R.holds row.new entries
             × ((g : Graph) → explores self.old g → (x : Node) → stands self.old node x → AllZip (λ (r : ℕ × C) (y : Node). stands self.new r.0 y) entries (successors g x))) }
-        ensures ordered { OnOk result ((g : Graph) → explores self.old g → (x : Node) → stands self.old node x → NumbersInOrder (stands self.new) (found self.old) (successors g x) (found self.new)) }
-        ensures refused { IfErr result (λ e. (e ≡ PathError.OutOfMemory) × (found self.new ≡ found self.old)) };
+        ensures ordered { OnOk result ((g : Graph) → explores self.old g → (x : Node) → stands self.old node x → NumbersInOrder (stands self.new) (node_count self.old) (successors g x) (node_count self.new)) }
+        ensures refused { IfErr result (λ e. (e ≡ PathError.OutOfMemory) × (node_count self.new ≡ node_count self.old)) };
 
     /// Takes the numbers from `first` on out again.
     fn forget(&mut self, first: usize)
         requires { can_forget self.old first }
-        ensures left { found self.new ≡ first }
-        ensures shrinks { Grows (found self.new) (found self.old) (stands self.new) (stands self.old) }
+        ensures left { node_count self.new ≡ first }
+        ensures shrinks { Grows (node_count self.new) (node_count self.old) (stands self.new) (stands self.old) }
         ensures graph { (g : Graph) → explores self.old g → explores self.new g };
 
     // A number that stands for a node is one of those that were found.
-    ghost inside_law: { (s : Self) (k : ℕ) (x : Node) → stands s k x → k < found s };
+    ghost inside_law: { (s : Self) (k : ℕ) (x : Node) → stands s k x → k < node_count s };
 
     // No two numbers stand for one node.
     ghost one_law: { (s : Self) (g : Graph) → explores s g → (i j : ℕ) (x : Node) → stands s i x → stands s j x → i ≡ j };
@@ -75,10 +75,10 @@ pub trait NumberedGraph<C: Cost> {
 pub trait GoalGraph<C: Cost>: NumberedGraph<C> {
     /// Is the node a goal?
     fn is_goal(&mut self, node: usize) -> bool
-        requires inside { node < Self.found self.old }
+        requires inside { node < Self.node_count self.old }
         requires graph { (g : Self.Graph) × Self.explores self.old g }
-        ensures grows { Grows (Self.found self.old) (Self.found self.new) (Self.stands self.old) (Self.stands self.new) }
-        ensures same { Self.found self.new ≡ Self.found self.old }
+        ensures grows { Grows (Self.node_count self.old) (Self.node_count self.new) (Self.stands self.old) (Self.stands self.new) }
+        ensures same { Self.node_count self.new ≡ Self.node_count self.old }
         ensures graph { (g : Self.Graph) → Self.explores self.old g → Self.explores self.new g
             × ((x : Self.Node) → Self.stands self.old node x → result ≡ Self.passes g x) };
 }

@@ -6,7 +6,7 @@ ghost use Rattle.pf_core.specs.declared.labels.Label.{Label};
 ghost use Rattle.pf_core.specs.Labels.{HasLabel, by_cost, AllSettled, Follows, settled_count};
 ghost use Rattle.pf_core.specs.Numbered.{Grows};
 ghost use Rattle.pf_core.specs.Steps.{IsNonNegative};
-ghost use Rattle.pf_core.specs.Search.{IsSound, IsLeast, IsFirst, IsSearch, Turned, HasDearStep, HasBarredStep, IsWithinRange};
+ghost use Rattle.pf_core.specs.Search.{IsSound, IsLeast, IsFirst, IsSearch, Turned, StepOverflows, HasBarredStep, IsWithinRange};
 
 use crate::labels::{label_of, settle, widen};
 use crate::numbered::NumberedGraph;
@@ -72,30 +72,30 @@ impl<C: Cost, A: Allocator + Copy> Search<C, A> {
         number: usize,
     ) -> Result<(), PathError>
         requires sound { IsSound C.cmp C.value self.old.labels.items (heap_items self.old.queue) }
-        requires wide { length self.old.labels.items ≡ G.found graph.old }
+        requires wide { length self.old.labels.items ≡ G.node_count graph.old }
         requires least { (l : Label C) × IsLeast (by_cost C.value) self.old.labels.items number l }
         requires graph { (g : G.Graph) × G.explores graph.old g }
         ensures sound { IsSound C.cmp C.value self.new.labels.items (heap_items self.new.queue) }
-        ensures wide { length self.new.labels.items ≡ G.found graph.new }
-        ensures grows { Grows (G.found graph.old) (G.found graph.new) (G.stands graph.old) (G.stands graph.new) }
+        ensures wide { length self.new.labels.items ≡ G.node_count graph.new }
+        ensures grows { Grows (G.node_count graph.old) (G.node_count graph.new) (G.stands graph.old) (G.stands graph.new) }
         ensures graph { (g : G.Graph) → G.explores graph.old g → G.explores graph.new g }
         ensures turned { OnOk result ((l : Label C) → HasLabel self.old.labels.items number l → Turned number l self.old.labels.items self.new.labels.items) }
         ensures search { OnOk result ((g : G.Graph) → G.explores graph.old g → IsNonNegative (G.step g) → (root : ℕ → Bool)
             → IsSearch (by_cost C.value) (G.step g) root (G.stands graph.old) self.old.labels.items
             → IsSearch (by_cost C.value) (G.step g) root (G.stands graph.new) self.new.labels.items) }
-        ensures kept { OnErr result ((G.found graph.new ≡ G.found graph.old)
+        ensures kept { OnErr result ((G.node_count graph.new ≡ G.node_count graph.old)
             × (self.new.labels.items ≡ self.old.labels.items) × (heap_items self.new.queue ≡ heap_items self.old.queue)) }
         ensures overflow { result ≡ Err PathError.CostOverflow → (g : G.Graph) → G.explores graph.old g → (x : G.Node) → G.stands graph.old number x
-            → (l : Label C) → HasLabel self.old.labels.items number l → HasDearStep (G.step g) C.fits x (C.value l.cost) }
+            → (l : Label C) → HasLabel self.old.labels.items number l → StepOverflows (G.step g) C.fits x (C.value l.cost) }
         ensures barred { result ≡ Err PathError.CostOverflow → (g : G.Graph) → G.explores graph.old g → (x : G.Node) → G.stands graph.old number x
             → (l : Label C) → HasLabel self.old.labels.items number l → HasBarredStep (G.step g) (G.stands graph.old) self.old.labels.items C.fits x (C.value l.cost) }
         ensures within { OnOk result ((g : G.Graph) → G.explores graph.old g → (x : G.Node) → G.stands graph.old number x → (l : Label C) → HasLabel self.old.labels.items number l
             → (y : G.Node) (z : ℤ) → G.step g x z y → IsWithinRange (G.step g) (G.stands graph.old) self.old.labels.items C.fits x (C.value l.cost) (G.stands graph.new) y) }
         ensures errors { IfErr result (λ e. (e ≡ PathError.OutOfMemory) ⊎ (e ≡ PathError.CostOverflow)) }
     {
-        let before = graph.found();
+        let before = graph.node_count();
         graph.expand(number, &mut self.row)?;
-        if let Err(refusal) = self.follow(graph.found(), number) {
+        if let Err(refusal) = self.follow(graph.node_count(), number) {
             graph.forget(before);
             return Err(refusal);
         }

@@ -40,7 +40,7 @@ where
 
     ghost passes = { λ g x. g.test x };
 
-    ghost found = { λ s. length s.discovery.nodes.keys };
+    ghost node_count = { λ s. length s.discovery.nodes.keys };
 
     ghost stands = { λ s. StandsFor N.eq s.discovery.nodes.keys };
 
@@ -49,7 +49,7 @@ where
 
     ghost can_forget = { λ s k. k ≤ length s.discovery.nodes.keys };
 
-    fn found(&self) -> usize {
+    fn node_count(&self) -> usize {
         self.discovery.nodes.len()
     }
 

@@ -39,13 +39,13 @@ where
 
     ghost step = { λ g side. IsStep N.eq (by_side side g.0 g.1) };
 
-    ghost found = { λ s side. length (by_side side s.forth.nodes.keys s.back.nodes.keys) };
+    ghost node_count = { λ s side. length (by_side side s.forth.nodes.keys s.back.nodes.keys) };
 
     ghost stands = { λ s side. StandsFor N.eq (by_side side s.forth.nodes.keys s.back.nodes.keys) };
 
     ghost explores = { λ s g. Explores N.eq S.answers g.0 s.forth.nodes.keys s.forth.source × Explores N.eq P.answers g.1 s.back.nodes.keys s.back.source };
 
-    fn found(&self, side: Side) -> usize {
+    fn node_count(&self, side: Side) -> usize {
         match side {
             Side::Forth => self.forth.nodes.len(),
             Side::Back => self.back.nodes.len(),

@@ -10,7 +10,7 @@ use Rattle.pf_core.specs.Steps.{GoesAlong, IsNonNegative}
 use Rattle.pf_base.proofs.ListLemmas.{int_dec}
 use Rattle.pf_core.proofs.FrontierLemmas.{walk_positive}
 use Rattle.pf_informed.specs.Internal.Forest.{IsForest}
-use Rattle.pf_informed.specs.Internal.Waiting.{Entry, IsWaiting, IsQueue, Eased}
+use Rattle.pf_informed.specs.Internal.Waiting.{Entry, IsWaiting, IsQueue, Relaxed}
 use Rattle.pf_informed.specs.Internal.Informed.{IsInformed, Follows}
 use Rattle.pf_informed.specs.Internal.Fringe.{IsBelowWaiting, IsBelowGoals}
 use Rattle.pf_informed.proofs.InformedLemmas.{on_goal_walk}
@@ -38,7 +38,7 @@ module _ {X C : Type 0} (value : C → ℤ) (fits : ℤ → Type 0) (step : X �
 
 -- ---- steps whose entries go to a queue beside the lists
 module _ {C : Type 0} (value : C → ℤ) (fits : ℤ → Type 0) (estimates : List C) where
-  eased_beside : (parent : ℕ) (t : ℤ) (row : List (ℕ × C)) (labels labels' : Labels C) (heap heap' rest : List (Entry C)) → Eased value fits estimates parent t row labels labels' heap heap' → Eased value fits estimates parent t row labels labels' (heap ++ rest) (heap' ++ rest)
+  eased_beside : (parent : ℕ) (t : ℤ) (row : List (ℕ × C)) (labels labels' : Labels C) (heap heap' rest : List (Entry C)) → Relaxed value fits estimates parent t row labels labels' heap heap' → Relaxed value fits estimates parent t row labels labels' (heap ++ rest) (heap' ++ rest)
   eased_beside parent t row labels labels' heap heap' rest e = record {
     len = e.len;
     lower = e.lower;
@@ -52,7 +52,7 @@ module _ {C : Type 0} (value : C → ℤ) (fits : ℤ → Type 0) (estimates : L
   }
 
   pub follows_beside : (number : ℕ) (l : Label C) (row : List (ℕ × C)) (labels labels' : Labels C) (heap heap' rest : List (Entry C)) → Follows value fits estimates number l row labels labels' heap heap' → Follows value fits estimates number l row labels labels' (heap ++ rest) (heap' ++ rest)
-  follows_beside number l row labels labels' heap heap' rest f = record { wider = f.wider; wide = f.wide; eased = eased_beside number (value l.cost) row f.wider labels' heap heap' rest f.eased }
+  follows_beside number l row labels labels' heap heap' rest f = record { wider = f.wider; wide = f.wide; relaxed = eased_beside number (value l.cost) row f.wider labels' heap heap' rest f.relaxed }
 
   pub queue_beside : (number : ℕ) (l : Label C) (row : List (ℕ × C)) (labels labels' : Labels C) (heap heap' rest : List (Entry C)) → Follows value fits estimates number l row labels labels' heap heap' → IsQueue value labels estimates (heap ++ rest) → IsQueue value labels' estimates heap' → IsQueue value labels' estimates (heap' ++ rest)
   queue_beside number l row labels labels' heap heap' rest f q new = record {
@@ -60,7 +60,7 @@ module _ {C : Type 0} (value : C → ℤ) (fits : ℤ → Type 0) (estimates : L
       | inl i ↦ new.labelled e i
       | inr i ↦
           let w = f.wide in
-          let s = f.eased in
+          let s = f.relaxed in
           let m = q.labelled e (Contains-append_right heap rest e i) in
           let now = s.lower e.2 m.0 (w.stays e.2 m.0 m.1) in
           (now.0, now.1, omega (arith, ints, now.2, m.2))

@@ -13,7 +13,7 @@ use Rattle.pf_base.proofs.ListLemmas.{int_dec, Contains-head, Contains-cases, no
 use Rattle.pf_core.proofs.LabelLemmas.{HasLabel-inside, label_is}
 use Rattle.pf_core.proofs.FrontierLemmas.{walk_positive}
 use Rattle.pf_informed.specs.Internal.Forest.{IsForest}
-use Rattle.pf_informed.specs.Internal.Waiting.{Entry, IsWaiting, IsQueue, IsTaken, IsTooDear, Covers}
+use Rattle.pf_informed.specs.Internal.Waiting.{Entry, IsWaiting, IsQueue, IsTaken, SumOverflows, Covers}
 use Rattle.pf_informed.specs.Internal.Informed.{IsClosed, IsFoundFrom, IsInformed, Follows}
 use Rattle.pf_core.proofs.ClimbLemmas.{chain_distinct}
 use Rattle.pf_informed.proofs.PathUp.{climb_walk, NoRepeats-reverse}
@@ -44,10 +44,10 @@ module _ {X C : Type 0} (value : C → ℤ) (fits : ℤ → Type 0) (step : X �
         pub sums : t ≡ up_to +ℤ rest
         pub number : ℕ
         pub here : stands number (end_of x before)
-        pub why : ((l : Label C) × HasLabel labels number l × IsWaiting value entries number l × (value l.cost ≤ℤ (d +ℤ up_to))) ⊎ ((s : ℤ) × (pos 0 ≤ℤ s) × (s ≤ℤ (d +ℤ up_to)) × IsTooDear value fits estimates number s)
+        pub why : ((l : Label C) × HasLabel labels number l × IsWaiting value entries number l × (value l.cost ≤ℤ (d +ℤ up_to))) ⊎ ((s : ℤ) × (pos 0 ≤ℤ s) × (s ≤ℤ (d +ℤ up_to)) × SumOverflows value fits estimates number s)
 
       stops_here : (w : List X) (d : ℤ) (x : X) (t : ℤ) (k : ℕ) → stands k x → GoesAlong go x w t
-          → ((l : Label C) × HasLabel labels k l × IsWaiting value entries k l × (value l.cost ≤ℤ d)) ⊎ ((s : ℤ) × (pos 0 ≤ℤ s) × (s ≤ℤ d) × IsTooDear value fits estimates k s) → Stops d x w t
+          → ((l : Label C) × HasLabel labels k l × IsWaiting value entries k l × (value l.cost ≤ℤ d)) ⊎ ((s : ℤ) × (pos 0 ≤ℤ s) × (s ≤ℤ d) × SumOverflows value fits estimates k s) → Stops d x w t
       stops_here w d x t k here walk why = record {
         before = [];
         after = w;
@@ -59,7 +59,7 @@ module _ {X C : Type 0} (value : C → ℤ) (fits : ℤ → Type 0) (step : X �
         sums = omega (arith, ints);
         number = k;
         here = here;
-        why = elim why as (λ _. ((l : Label C) × HasLabel labels k l × IsWaiting value entries k l × (value l.cost ≤ℤ (d +ℤ pos 0))) ⊎ ((s : ℤ) × (pos 0 ≤ℤ s) × (s ≤ℤ (d +ℤ pos 0)) × IsTooDear value fits estimates k s)) [
+        why = elim why as (λ _. ((l : Label C) × HasLabel labels k l × IsWaiting value entries k l × (value l.cost ≤ℤ (d +ℤ pos 0))) ⊎ ((s : ℤ) × (pos 0 ≤ℤ s) × (s ≤ℤ (d +ℤ pos 0)) × SumOverflows value fits estimates k s)) [
           | inl a ↦ inl (a.0, a.1, a.2, omega (arith, ints, a.3))
           | inr a ↦ inr (a.0, a.1, omega (arith, ints, a.2), a.3)
         ];
@@ -78,7 +78,7 @@ module _ {X C : Type 0} (value : C → ℤ) (fits : ℤ → Type 0) (step : X �
         sums = omega (arith, ints, r.sums, sum);
         number = r.number;
         here = r.here;
-        why = elim r.why as (λ _. ((l : Label C) × HasLabel labels r.number l × IsWaiting value entries r.number l × (value l.cost ≤ℤ (d +ℤ (z +ℤ r.up_to)))) ⊎ ((s : ℤ) × (pos 0 ≤ℤ s) × (s ≤ℤ (d +ℤ (z +ℤ r.up_to))) × IsTooDear value fits estimates r.number s)) [
+        why = elim r.why as (λ _. ((l : Label C) × HasLabel labels r.number l × IsWaiting value entries r.number l × (value l.cost ≤ℤ (d +ℤ (z +ℤ r.up_to)))) ⊎ ((s : ℤ) × (pos 0 ≤ℤ s) × (s ≤ℤ (d +ℤ (z +ℤ r.up_to))) × SumOverflows value fits estimates r.number s)) [
           | inl a ↦ inl (a.0, a.1, a.2, omega (arith, ints, a.3))
           | inr a ↦ inr (a.0, a.1, omega (arith, ints, a.2), a.3)
         ];
@@ -122,7 +122,7 @@ module _ {X C : Type 0} (value : C → ℤ) (fits : ℤ → Type 0) (step : X �
         pub low : (value label.cost +ℤ value estimate) ≤ℤ t
         pub cheaper : value label.cost ≤ℤ t
 
-      past : (k : ℕ) (x : X) (s t : ℤ) → stands k x → pos 0 ≤ℤ s → IsTooDear value fits estimates k s → (s +ℤ est x) ≤ℤ t → ¬ (fits t)
+      past : (k : ℕ) (x : X) (s t : ℤ) → stands k x → pos 0 ≤ℤ s → SumOverflows value fits estimates k s → (s +ℤ est x) ≤ℤ t → ¬ (fits t)
       past k x s t here from dear low fit = elim dear as (λ _. ⊥) [
         | inl n ↦ n (between (pos 0) s t nothing fit from (omega (arith, ints, low, zero_up x (all k x here))))
         | inr n ↦ let e = estimated k x n.0 here n.1 in n.2 (between (pos 0) (s +ℤ value n.0) t nothing fit (omega (arith, ints, from, e, zero_up x (all k x here))) (omega (arith, ints, e, low)))
@@ -267,10 +267,10 @@ module _ {X C : Type 0} (value : C → ℤ) (fits : ℤ → Type 0) (step : X �
     (row : List (ℕ × C)) (lists : (x : X) → stands number x → ListsSteps value step stands' x row) (fresh : (j : ℕ) → found ≤ j → j < found' → (c : C) × Contains row (j, c)) (someone : (x : X) × stands number x)
     (follows : Follows value fits estimates' number own row labels labels' entries1 entries') (f : IsForest value labels) (i : IsInformed value fits estimates step passes stands labels entries found) where
   lower_now : (k : ℕ) (l : Label C) → HasLabel labels k l → (m : Label C) × HasLabel labels' k m × (value m.cost ≤ℤ value l.cost)
-  lower_now k l h = let e = follows.eased in let w = follows.wide in e.lower k l (w.stays k l h)
+  lower_now k l h = let e = follows.relaxed in let w = follows.wide in e.lower k l (w.stays k l h)
 
   own_now : HasLabel labels' number own
-  own_now = let e = follows.eased in let w = follows.wide in e.own own (w.stays number own own_at)
+  own_now = let e = follows.relaxed in let w = follows.wide in e.own own (w.stays number own own_at)
 
   before : (k : ℕ) (x : X) → k < length labels → stands' k x → stands k x
   before k x l h = grow.back k x (omega (arith, l, inside)) h
@@ -290,7 +290,7 @@ module _ {X C : Type 0} (value : C → ℤ) (fits : ℤ → Type 0) (step : X �
   opened l h =
       let same : own ≡ l = label_is labels number own l own_at h in
       let there = HasLabel-inside labels number l h in
-      let e = follows.eased in
+      let e = follows.relaxed in
       record {
         fails = λ x s. fails x (before number x there s);
         along = λ x s z y st.
@@ -304,7 +304,7 @@ module _ {X C : Type 0} (value : C → ℤ) (fits : ℤ → Type 0) (step : X �
   pub informed_opened : IsInformed value fits estimates' step passes stands' labels' entries' found'
   informed_opened = record {
     cut = λ k m h.
-        let e = follows.eased in
+        let e = follows.relaxed in
         let w = follows.wide in
         elim (e.from k m h) as (λ _. IsWaiting value entries' k m ⊎ IsClosed value fits estimates' step passes stands' labels' entries' k m) [
           | inl old ↦
@@ -319,7 +319,7 @@ module _ {X C : Type 0} (value : C → ℤ) (fits : ℤ → Type 0) (step : X �
           | inr new ↦ inl new.4
         ];
     linked = λ k l m h deep at x s.
-        let e = follows.eased in
+        let e = follows.relaxed in
         let w = follows.wide in
         elim (e.from k l h) as (λ _. (y : X) × (z : ℤ) × step x z y × stands' k y × ((value m.cost +ℤ z) ≤ℤ value l.cost)) [
           | inl old ↦

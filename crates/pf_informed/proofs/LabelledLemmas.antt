@@ -20,7 +20,7 @@ use Rattle.pf_core.specs.NodeLaws.{StandsFor-one, StandsFor-inside}
 use Rattle.pf_core.proofs.UnitLemmas.{begins_all}
 use Rattle.pf_informed.specs.Internal.Estimated.{IsEstimated}
 use Rattle.pf_informed.specs.Internal.Forest.{IsForest}
-use Rattle.pf_informed.specs.Internal.Waiting.{Entry, IsWaiting, IsTooDear, IsTaken, IsQueue}
+use Rattle.pf_informed.specs.Internal.Waiting.{Entry, IsWaiting, SumOverflows, IsTaken, IsQueue}
 use Rattle.pf_informed.specs.Internal.Informed.{IsInformed}
 use Rattle.pf_informed.specs.Internal.Labelled.{IsPastBest}
 use Rattle.pf_informed.proofs.PathUp.{climb_walk}
@@ -67,8 +67,8 @@ module _ {N : Type 0} (eq : N → N → Bool) (laws : IsEquivalence eq) (g : Nod
         let from_start = low (up.nodes ++ v) (up.cost +ℤ rest) (subst (λ (s : N). GoesAlong (IsStep eq g) s (up.nodes ++ v) (up.cost +ℤ rest)) up.is_start whole) (subst (λ (s : N). test (end_of s (up.nodes ++ v)) ≡ true) up.is_start ends) in
         omega (arith, ints, from_start, cheap, up.low)
 
-    too_dear : (k : ℕ) (x : N) (s t : ℤ) → StandsFor eq keys k x → pos 0 ≤ℤ s → IsTooDear value fits estimates k s → (s +ℤ least x) ≤ℤ t → t ≤ℤ value best → ⊥
-    too_dear k x s t here from dear cheap top =
+    all_past : (k : ℕ) (x : N) (s t : ℤ) → StandsFor eq keys k x → pos 0 ≤ℤ s → SumOverflows value fits estimates k s → (s +ℤ least x) ≤ℤ t → t ≤ℤ value best → ⊥
+    all_past k x s t here from dear cheap top =
         let up = adm.from_zero x (within k x here) in
         elim dear as (λ _. ⊥) [
           | inl n ↦ n (between (pos 0) s (value best) nothing fit from (omega (arith, ints, cheap, up, top)))
@@ -97,7 +97,7 @@ module _ {N : Type 0} (eq : N → N → Bool) (laws : IsEquivalence eq) (g : Nod
                     let same : Some best ≡ Some b.0 = b.1 in
                     let is : best ≡ b.0 = cc in
                     absurd (omega (arith, ints, b.2 h.0 h.1, estimated r.number y h.0 r.here h.1, left, a.3, r.sums, cheap, ap value is))
-                | inr a ↦ absurd (too_dear r.number y a.0 (r.up_to +ℤ (r.rest +ℤ rest)) r.here a.1 a.3 (omega (arith, ints, a.2, left)) (omega (arith, ints, r.sums, cheap)))
+                | inr a ↦ absurd (all_past r.number y a.0 (r.up_to +ℤ (r.rest +ℤ rest)) r.here a.1 a.3 (omega (arith, ints, a.2, left)) (omega (arith, ints, r.sums, cheap)))
               ]
         ]
 

@@ -19,7 +19,7 @@ use Rattle.pf_core.proofs.NodeLemmas.{StandsFor-same}
 use Rattle.pf_core.proofs.SearchLemmas.{best_grows}
 use Rattle.pf_core.proofs.UnitLemmas.{begins_all}
 use Rattle.pf_core.proofs.WalkLemmas.{all_starts, only_starts, no_negative, no_walk, best_answer}
-use Rattle.pf_informed.specs.Estimates.{IsPastRangeWithEstimate, NoGoalWalkFits}
+use Rattle.pf_informed.specs.Estimates.{EstimateOverflows, NoGoalWalkFits}
 use Rattle.pf_informed.specs.Internal.Forest.{IsForest}
 use Rattle.pf_informed.specs.Internal.Fringe.{IsBelowGoals, IsBelowWaiting, IsTakenWithin}
 use Rattle.pf_informed.specs.Internal.Informed.{IsInformed}
@@ -95,7 +95,7 @@ module _ {N C S T H Z : Type 0} {eq : N → N → Bool} (laws : IsEquivalence eq
           (λ j y st. all_labelled labels all j (subst (λ (n : ℕ). j < n) (sym wide) (StandsFor-inside eq keys j y st))) w s 0 u (begins_at s e) goes good)
 
       -- some node has no label, and nothing waits
-      pub led_past : ¬ (All (λ o. IsSome o) labels) → IsPastRangeWithEstimate eq edges (start ∷ []) least fits × NoGoalWalkFits eq edges (start ∷ []) test fits
+      pub led_past : ¬ (All (λ o. IsSome o) labels) → EstimateOverflows eq edges (start ∷ []) least fits × NoGoalWalkFits eq edges (start ∷ []) test fits
       led_past some =
           let p = no_negative eq laws graph led.explores.alike led.costs in
           let gap = some_unlabelled labels some in

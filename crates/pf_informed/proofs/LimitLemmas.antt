@@ -11,7 +11,7 @@ use Rattle.pf_core.specs.Nodes.{NodeGraph, StandsFor, IsStep}
 use Rattle.pf_core.proofs.FrontierLemmas.{walk_positive}
 use Rattle.pf_base.proofs.ListLemmas.{int_dec, Contains-cases}
 use Rattle.pf_core.proofs.WalkLemmas.{HasNode-same, walk_of_goes}
-use Rattle.pf_informed.specs.Estimates.{IsPastRangeWithEstimate}
+use Rattle.pf_informed.specs.Estimates.{EstimateOverflows}
 use Rattle.pf_informed.specs.Internal.Forest.{nat_of}
 use Rattle.pf_informed.specs.Internal.Rows.{IsCheapStep}
 use Rattle.pf_informed.specs.Internal.Deepening.{IsCutOff, AllCovered, IsWayPast, IsWayTo}
@@ -74,7 +74,7 @@ module _ {N C : Type 0} (eq : N → N → Bool) (laws : IsEquivalence eq) (value
   }
 
   -- a way whose cost and estimate do not fit
-  pub past_way : (least : N → ℤ) (start : N) → HasNode eq g.starts start → IsWayPast eq value fits g least start → IsPastRangeWithEstimate eq g.edges g.starts least fits
+  pub past_way : (least : N → ℤ) (start : N) → HasNode eq g.starts start → IsWayPast eq value fits g least start → EstimateOverflows eq g.edges g.starts least fits
   past_way least start is h = record {
     node = end_of start h.nodes;
     path = start ∷ h.nodes;

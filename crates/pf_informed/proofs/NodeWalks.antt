@@ -16,10 +16,10 @@ use Rattle.pf_core.proofs.NodeLemmas.{eq-sym, eq-trans, InReach-same, InReach-st
 use Rattle.pf_base.proofs.ListLemmas.{AllZip-append}
 use Rattle.pf_core.proofs.PathLemmas.{NoRepeats-append}
 use Rattle.pf_core.proofs.WalkLemmas.{cheapest_edge, walk_of_goes, distinct_nodes}
-use Rattle.pf_informed.specs.Estimates.{IsAdmissible, IsPastRangeWithEstimate, NoGoalWalkFits}
+use Rattle.pf_informed.specs.Estimates.{IsAdmissible, EstimateOverflows, NoGoalWalkFits}
 use Rattle.pf_informed.specs.Internal.Estimated.{IsEstimated}
 use Rattle.pf_informed.specs.Internal.Forest.{IsForest}
-use Rattle.pf_informed.specs.Internal.Waiting.{Entry, IsWaiting, IsTooDear}
+use Rattle.pf_informed.specs.Internal.Waiting.{Entry, IsWaiting, SumOverflows}
 use Rattle.pf_informed.specs.Internal.Informed.{IsInformed}
 use Rattle.pf_core.proofs.ClimbLemmas.{chain_distinct}
 use Rattle.pf_informed.proofs.PathUp.{climb_walk, NoRepeats-reverse, HasNode-reverse}
@@ -92,7 +92,7 @@ module _ {N : Type 0} (eq : N → N → Bool) (laws : IsEquivalence eq) (g : Nod
       (p : IsNonNegative (IsStep eq g)) (keys : List N) (one : (i j : ℕ) (x : N) → StandsFor eq keys i x → StandsFor eq keys j x → i ≡ j) (estimates : List C) (start : N) (begins : StandsFor eq keys 0 start) (is_start : HasNode eq g.starts start)
       (within : (k : ℕ) (x : N) → StandsFor eq keys k x → InReach eq g.edges g.starts x) (estimated : (k : ℕ) (x : N) (h : C) → StandsFor eq keys k x → slice_get estimates k ≡ Some h → value h ≡ least x)
       (labels : Labels C) (entries : List (Entry C)) (f : IsForest value labels) (found : ℕ) (i : IsInformed value fits estimates (IsStep eq g) test (StandsFor eq keys) labels entries found) (none : (k : ℕ) (l : Label C) → HasLabel labels k l → ¬ (IsWaiting value entries k l)) where
-    past : (k : ℕ) (x : N) (s u : ℤ) → StandsFor eq keys k x → pos 0 ≤ℤ s → s ≤ℤ u → IsTooDear value fits estimates k s → ¬ (fits (u +ℤ least x))
+    past : (k : ℕ) (x : N) (s u : ℤ) → StandsFor eq keys k x → pos 0 ≤ℤ s → s ≤ℤ u → SumOverflows value fits estimates k s → ¬ (fits (u +ℤ least x))
     past k x s u here from low dear fit =
         let up = adm.from_zero x (within k x here) in
         elim dear as (λ _. ⊥) [
@@ -101,13 +101,13 @@ module _ {N : Type 0} (eq : N → N → Bool) (laws : IsEquivalence eq) (g : Nod
         ]
 
     -- a path to a number that has no label passes one that is too dear
-    on_path : (first : N) → StandsFor eq keys 0 first → HasNode eq g.starts first → (w : List N) (t : ℤ) → GoesAlong (IsStep eq g) first w t → NoRepeats eq (first ∷ w) → (j : ℕ) → StandsFor eq keys j (end_of first w) → ((l : Label C) → ¬ (HasLabel labels j l)) → IsPastRangeWithEstimate eq g.edges g.starts least fits
+    on_path : (first : N) → StandsFor eq keys 0 first → HasNode eq g.starts first → (w : List N) (t : ℤ) → GoesAlong (IsStep eq g) first w t → NoRepeats eq (first ∷ w) → (j : ℕ) → StandsFor eq keys j (end_of first w) → ((l : Label C) → ¬ (HasLabel labels j l)) → EstimateOverflows eq g.edges g.starts least fits
     on_path first here starts w t goes distinct j last bare =
         let c = cheap_of_goes w first t goes in
         let z = f.first in
-        elim (frontier value fits (IsStep eq g) test p estimates (StandsFor eq keys) labels entries f found i CheapStep cheap_is_step w 0 z.0 (pos 0) first c.0 z.1 (omega (arith, ints, z.2)) here c.1) as (λ _. IsPastRangeWithEstimate eq g.edges g.starts least fits) [
+        elim (frontier value fits (IsStep eq g) test p estimates (StandsFor eq keys) labels entries f found i CheapStep cheap_is_step w 0 z.0 (pos 0) first c.0 z.1 (omega (arith, ints, z.2)) here c.1) as (λ _. EstimateOverflows eq g.edges g.starts least fits) [
           | inl r ↦ absurd (bare r.label (subst (λ (n : ℕ). HasLabel labels n r.label) (one r.number j (end_of first w) r.here last) r.at))
-          | inr r ↦ elim r.why as (λ _. IsPastRangeWithEstimate eq g.edges g.starts least fits) [
+          | inr r ↦ elim r.why as (λ _. EstimateOverflows eq g.edges g.starts least fits) [
             | inl a ↦ absurd (none r.number a.0 a.1 a.2)
             | inr a ↦ record {
               node = end_of first r.before;
@@ -123,8 +123,8 @@ module _ {N : Type 0} (eq : N → N → Bool) (laws : IsEquivalence eq) (g : Nod
           ]
         ]
 
-    pub overflow_at : (j : ℕ) → j < found → ((l : Label C) → ¬ (HasLabel labels j l)) → IsPastRangeWithEstimate eq g.edges g.starts least fits
-    overflow_at j inside bare = elim (i.found_by j inside) as (λ _. IsPastRangeWithEstimate eq g.edges g.starts least fits) [
+    pub overflow_at : (j : ℕ) → j < found → ((l : Label C) → ¬ (HasLabel labels j l)) → EstimateOverflows eq g.edges g.starts least fits
+    overflow_at j inside bare = elim (i.found_by j inside) as (λ _. EstimateOverflows eq g.edges g.starts least fits) [
       | inl l ↦ absurd (bare l.0 l.1)
       | inr r ↦
           let chain = f.climbs r.before r.label r.at in

@@ -8,7 +8,7 @@ use Rattle.pf_core.specs.Labels.{Labels, HasLabel}
 use Rattle.pf_base.proofs.ListLemmas.{Contains-head, Contains-tail, Contains-cases}
 use Rattle.pf_core.proofs.LabelLemmas.{label_is}
 use Rattle.pf_informed.specs.Internal.Forest.{IsForest}
-use Rattle.pf_informed.specs.Internal.Waiting.{Entry, IsWaiting, IsQueue, IsTaken, Covers, Eased}
+use Rattle.pf_informed.specs.Internal.Waiting.{Entry, IsWaiting, IsQueue, IsTaken, Covers, Relaxed}
 use Rattle.pf_informed.proofs.ForestLemmas.{there, other, was, lower_now, parent_apart}
 
 module _ {C : Type 0} (value : C → ℤ) where
@@ -59,8 +59,8 @@ module _ {C : Type 0} (value : C → ℤ) where
     covers_lower labels labels' lower j t (inr c) = inr c
 
     module _ (parent : ℕ) (t : ℤ) where
-      pub Eased-start : (row : List (ℕ × C)) → ((x : ℕ × C) → ¬ (Contains row x)) → (labels : Labels C) (entries : List (Entry C)) → Eased value fits estimates parent t row labels labels entries entries
-      Eased-start row none labels entries = record {
+      pub Relaxed-start : (row : List (ℕ × C)) → ((x : ℕ × C) → ¬ (Contains row x)) → (labels : Labels C) (entries : List (Entry C)) → Relaxed value fits estimates parent t row labels labels entries entries
+      Relaxed-start row none labels entries = record {
         len = refl;
         lower = λ k l h. (l, h, omega (arith, ints));
         from = λ k m h. inl h;
@@ -70,8 +70,8 @@ module _ {C : Type 0} (value : C → ℤ) where
       }
 
       -- the step changes nothing
-      pub Eased-none : (next : ℕ) (price : C) (labels : Labels C) (entries : List (Entry C)) → Covers value fits estimates labels next (t +ℤ value price) → Eased value fits estimates parent t ((next, price) ∷ []) labels labels entries entries
-      Eased-none next price labels entries cov = record {
+      pub Relaxed-none : (next : ℕ) (price : C) (labels : Labels C) (entries : List (Entry C)) → Covers value fits estimates labels next (t +ℤ value price) → Relaxed value fits estimates parent t ((next, price) ∷ []) labels labels entries entries
+      Relaxed-none next price labels entries cov = record {
         len = refl;
         lower = λ k l h. (l, h, omega (arith, ints));
         from = λ k m h. inl h;
@@ -84,10 +84,10 @@ module _ {C : Type 0} (value : C → ℤ) where
       }
 
       -- one step more
-      pub Eased-more : (row row' : List (ℕ × C)) (item : ℕ × C) → ((x : ℕ × C) → Contains row x → Contains row' x) → Contains row' item → ((x : ℕ × C) → Contains row' x → Contains row x ⊎ (item ≡ x))
-          → (labels mid labels' : Labels C) (entries between entries' : List (Entry C)) → Eased value fits estimates parent t row labels mid entries between → Eased value fits estimates parent t ((item.0, item.1) ∷ []) mid labels' between entries'
-          → Eased value fits estimates parent t row' labels labels' entries entries'
-      Eased-more row row' item more here only labels mid labels' entries between entries' a b = record {
+      pub Relaxed-more : (row row' : List (ℕ × C)) (item : ℕ × C) → ((x : ℕ × C) → Contains row x → Contains row' x) → Contains row' item → ((x : ℕ × C) → Contains row' x → Contains row x ⊎ (item ≡ x))
+          → (labels mid labels' : Labels C) (entries between entries' : List (Entry C)) → Relaxed value fits estimates parent t row labels mid entries between → Relaxed value fits estimates parent t ((item.0, item.1) ∷ []) mid labels' between entries'
+          → Relaxed value fits estimates parent t row' labels labels' entries entries'
+      Relaxed-more row row' item more here only labels mid labels' entries between entries' a b = record {
         len = b.len ∙ a.len;
         lower = λ k l h. let r = a.lower k l h in let s = b.lower k r.0 r.1 in (s.0, s.1, omega (arith, ints, r.2, s.2));
         from = λ k m h. elim (b.from k m h) as (λ _. HasLabel labels k m ⊎ ((c : C) × Contains row' (k, c) × (m.parent ≡ parent) × (value m.cost ≡ t +ℤ value c) × IsWaiting value entries' k m)) [
@@ -135,8 +135,8 @@ module _ {C : Type 0} (value : C → ℤ) where
       ];
     }
 
-    pub Eased-lowered : (fits : ℤ → Type 0) (estimates : List C) (t : ℤ) (price : C) → value new.cost ≡ t +ℤ value price → length (slice_set labels next (Some new)) ≡ length labels → Eased value fits estimates new.parent t ((next, price) ∷ []) labels (slice_set labels next (Some new)) entries entries'
-    Eased-lowered fits estimates t price is len = record {
+    pub Relaxed-lowered : (fits : ℤ → Type 0) (estimates : List C) (t : ℤ) (price : C) → value new.cost ≡ t +ℤ value price → length (slice_set labels next (Some new)) ≡ length labels → Relaxed value fits estimates new.parent t ((next, price) ∷ []) labels (slice_set labels next (Some new)) entries entries'
+    Relaxed-lowered fits estimates t price is len = record {
       len = len;
       lower = lower_now value labels f next new la inside less here low deep;
       from = λ k m h. elim (was value labels f next new la inside less here low deep k m h) as (λ _. HasLabel labels k m ⊎ ((c : C) × Contains {X = ℕ × C} ((next, price) ∷ []) (k, c) × (m.parent ≡ new.parent) × (value m.cost ≡ t +ℤ value c) × IsWaiting value entries' k m)) [

@@ -100,7 +100,7 @@ module _ {N C : Type 0} (eq : N → N → Bool) (laws : IsEquivalence eq) (value
     skipped f fs cut past h inside j c at on = record {
       trail = advanced eq laws value (IsCheapStep eq g) test (StandsFor eq keys) (IsCutOff value fits cut past) (one_node eq laws keys) steps spans f fs j c h.trail inside at (λ x z y s e there costs. inl (j, on, there));
       begins = h.begins;
-      too_dear = h.too_dear;
+      all_past = h.all_past;
     }
 
     -- back to the frame below
@@ -110,7 +110,7 @@ module _ {N C : Type 0} (eq : N → N → Bool) (laws : IsEquivalence eq) (value
       trail = left eq laws value (IsCheapStep eq g) test (StandsFor eq keys) (IsCutOff value fits cut past) (one_node eq laws keys) steps spans rows f e es
           (subst (λ (xs : List (Frame C)). IsTrail eq value (IsCheapStep eq g) test (StandsFor eq keys) (IsCutOff value fits cut past) steps spans (f ∷ xs)) is h.trail) over;
       begins = h.begins;
-      too_dear = h.too_dear;
+      all_past = h.all_past;
     }
 
     -- nothing is left
@@ -128,7 +128,7 @@ module _ {N C : Type 0} (eq : N → N → Bool) (laws : IsEquivalence eq) (value
     begun f s has wide number cost begin end here = record {
       trail = entered eq laws value (IsCheapStep eq g) test (StandsFor eq keys) (IsCutOff value fits None false) (one_node eq laws keys) steps spans rows f [] s (subst (λ (n : ℕ). HasSpan spans n s) (sym number) has) wide begin end (none f.number) (number, cost) tt;
       begins = here;
-      too_dear = λ e. absurd (true≢false (sym e));
+      all_past = λ e. absurd (true≢false (sym e));
     }
       where
         none : (n : ℕ) → ¬ (Contains (numbers_of {C = C} []) n)
@@ -164,8 +164,8 @@ module _ {N C : Type 0} (eq : N → N → Bool) (laws : IsEquivalence eq) (value
                     covered ((value f.cost +ℤ z) +ℤ u) (omega (arith, ints, low, costs, estimated y there)),
               ));
           begins = h.begins;
-          too_dear = λ q. elim (dear q) as (λ _. IsWayPast eq value fits g least first) [
-            | inl o ↦ h.too_dear o
+          all_past = λ q. elim (dear q) as (λ _. IsWayPast eq value fits g least first) [
+            | inl o ↦ h.all_past o
             | inr n ↦
                 let up = way_to eq laws value (IsCheapStep eq g) test (StandsFor eq keys) steps spans rows first h.begins (IsCutOff value fits cut past) fs f h.trail inside j c at in
                 let once = distinct_to eq laws value (IsCheapStep eq g) test (StandsFor eq keys) steps spans rows first h.begins (IsCutOff value fits cut past) (f ∷ fs) h.trail j fresh in
@@ -189,7 +189,7 @@ module _ {N C : Type 0} (eq : N → N → Bool) (laws : IsEquivalence eq) (value
               (λ k. fresh (subst (λ (n : ℕ). Contains (numbers_of (f ∷ fs)) n) number k)) (c, kept f.at (e.number, c) (at ∙ ap (λ (n : ℕ). Some (n, c)) (sym number)), inside, cost)
               (trail_more eq laws value (IsCheapStep eq g) test (StandsFor eq keys) (StandsFor eq keys') grows.stays (IsCutOff value fits cut past) (IsCutOff value fits cut past) (λ u t. t) (λ k x y r t. grows.back k x (stands_below k y r) t) steps steps' spans spans' kept held (f ∷ fs) all h.trail);
           begins = grows.stays 0 first h.begins;
-          too_dear = h.too_dear;
+          all_past = h.all_past;
         }
           where
             stands_below : (k : ℕ) (y : N) → StandsFor eq keys k y → k < length keys

@@ -25,7 +25,7 @@ module _ {N : Type 0} (eq : N → N → Bool) (edges : N → List (N × ℤ)) (s
     pub admissible : IsAdmissible test estimate
 
   -- What some path from a start costs, and the estimate at its end, do not fit together.
-  pub record IsPastRangeWithEstimate (estimate : N → ℤ) (fits : ℤ → Type 0) : Type 0 where
+  pub record EstimateOverflows (estimate : N → ℤ) (fits : ℤ → Type 0) : Type 0 where
     pub node : N
     pub path : List N
     pub cost : ℤ
@@ -39,7 +39,7 @@ module _ {N : Type 0} (eq : N → N → Bool) (edges : N → List (N × ℤ)) (s
 
   -- a cost overflow may come: the cost of some path from a start, and the estimate at its end, do not fit together, and the cost of no walk to a node that passes the test fits
   abbrev pub MayOverflow : (N → Bool) → (N → ℤ) → (ℤ → Type 0) → Type 0
-  MayOverflow test estimate fits = IsPastRangeWithEstimate estimate fits × NoGoalWalkFits test fits
+  MayOverflow test estimate fits = EstimateOverflows estimate fits × NoGoalWalkFits test fits
 
 -- What functions that list edges, test nodes and estimate answer from the starts on, where no edge costs less than 0 and the estimate is admissible.
 module _ {N : Type 0} (eq : N → N → Bool) (starts : List N) (answers : (N → Type 0) → (N → List (N × ℤ)) → Type 0) (tests : (N → Type 0) → (N → Bool) → Type 0) (estimates : (N → Type 0) → (N → ℤ) → Type 0) where

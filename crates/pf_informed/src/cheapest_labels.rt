@@ -67,10 +67,10 @@ fn best_with<C: Cost, G: GoalGraph<C>>(
     cost: C,
     best: Option<C>,
 ) -> Option<C>
-    requires inside { number < G.found graph.old }
+    requires inside { number < G.node_count graph.old }
     requires graph { (g : G.Graph) × G.explores graph.old g }
-    ensures grows { Grows (G.found graph.old) (G.found graph.new) (G.stands graph.old) (G.stands graph.new) }
-    ensures same { G.found graph.new ≡ G.found graph.old }
+    ensures grows { Grows (G.node_count graph.old) (G.node_count graph.new) (G.stands graph.old) (G.stands graph.new) }
+    ensures same { G.node_count graph.new ≡ G.node_count graph.old }
     ensures graph { (g : G.Graph) → G.explores graph.old g → G.explores graph.new g }
     ensures open { result ≡ None → (best ≡ None) × ((g : G.Graph) (x : G.Node) → G.explores graph.old g → G.stands graph.old number x → G.passes g x ≡ false) }
     ensures found { (b : C) → result ≡ Some b → (best ≡ Some b) ⊎ ((best ≡ None) × (b ≡ cost) × C.fits (C.value b)

@@ -8,7 +8,7 @@ ghost use Rattle.std.specs.Prelude.{◌≡◌, ◌<◌, ◌≤◌, ◌≤ℤ◌,
 ghost use Rattle.pf_core.specs.declared.labels.Label.{Label};
 ghost use Rattle.pf_core.specs.Labels.{HasLabel};
 ghost use Rattle.pf_informed.specs.Internal.Forest.{total_room, nat_of};
-ghost use Rattle.pf_informed.specs.Internal.Waiting.{Entry, IsWaiting, IsQueue, IsSound, AreSteps, IsTaken, Eased};
+ghost use Rattle.pf_informed.specs.Internal.Waiting.{Entry, IsWaiting, IsQueue, IsSound, AreSteps, IsTaken, Relaxed};
 
 use crate::labels::{is_lower, lowers};
 use pf_base::Cost;
@@ -142,7 +142,7 @@ fn take_step<C: Cost, A: Allocator>(
     requires here { HasLabel labels.old.items parent label.now }
     requires sound { IsSound C.value labels.old.items estimates.now.items queue.old.entries }
     ensures sound { IsSound C.value labels.new.items estimates.now.items queue.new.entries }
-    ensures eased { Eased C.value C.fits estimates.now.items parent (C.value label.now.cost) ((next, price) ∷ []) labels.old.items labels.new.items queue.old.entries queue.new.entries }
+    ensures relaxed { Relaxed C.value C.fits estimates.now.items parent (C.value label.now.cost) ((next, price) ∷ []) labels.old.items labels.new.items queue.old.entries queue.new.entries }
     ensures less { 2 * total_room C.value (nat_of (C.value C.greatest)) labels.new.items + length queue.new.entries
         ≤ 2 * total_room C.value (nat_of (C.value C.greatest)) labels.old.items + length queue.old.entries }
     ensures room { (length queue.new.entries ≤ length queue.old.entries + 1) × (queue.old.room ≤ queue.new.room) }
@@ -174,7 +174,7 @@ pub(crate) fn relax<C: Cost, A: Allocator>(
     requires here { HasLabel labels.old.items parent label.now }
     requires sound { IsSound C.value labels.old.items estimates.now.items queue.old.entries }
     ensures sound { IsSound C.value labels.new.items estimates.now.items queue.new.entries }
-    ensures eased { Eased C.value C.fits estimates.now.items parent (C.value label.now.cost) row.now labels.old.items labels.new.items queue.old.entries queue.new.entries }
+    ensures relaxed { Relaxed C.value C.fits estimates.now.items parent (C.value label.now.cost) row.now labels.old.items labels.new.items queue.old.entries queue.new.entries }
     ensures less { 2 * total_room C.value (nat_of (C.value C.greatest)) labels.new.items + length queue.new.entries
         ≤ 2 * total_room C.value (nat_of (C.value C.greatest)) labels.old.items + length queue.old.entries }
 {

@@ -89,11 +89,11 @@ fn look<C: Cost, G: GoalGraph<C>, A: Allocator>(
     row: &mut Vec<(usize, C), A>,
     tight: &mut Tight<A>,
 ) -> Result<(), PathError>
-    requires inside { (number < length labels.now) × (length labels.now ≤ G.found graph.old) }
+    requires inside { (number < length labels.now) × (length labels.now ≤ G.node_count graph.old) }
     requires graph { (g : G.Graph) × G.explores graph.old g }
     requires someone { (x : G.Node) × G.stands graph.old number x }
     requires rows { AreRows number (length labels.now) tight.old.before }
-    ensures grows { Grows (G.found graph.old) (G.found graph.new) (G.stands graph.old) (G.stands graph.new) }
+    ensures grows { Grows (G.node_count graph.old) (G.node_count graph.new) (G.stands graph.old) (G.stands graph.new) }
     ensures graph { (g : G.Graph) → G.explores graph.old g → G.explores graph.new g }
     ensures rows { OnOk result (AreRows (number + 1) (length labels.now) tight.new.before) }
     ensures tight { OnOk result ((g : G.Graph) → G.explores graph.old g
@@ -122,10 +122,10 @@ pub(crate) fn tight_edges<C: Cost, G: GoalGraph<C>, A: Allocator + Copy>(
     labels: &[Slot<C>],
     best: C,
 ) -> Result<Tight<A>, PathError>
-    requires found { length labels.now ≤ G.found graph.old }
+    requires found { length labels.now ≤ G.node_count graph.old }
     requires graph { (g : G.Graph) × G.explores graph.old g }
     requires someone { (k : ℕ) → k < length labels.now → (x : G.Node) × G.stands graph.old k x }
-    ensures grows { Grows (G.found graph.old) (G.found graph.new) (G.stands graph.old) (G.stands graph.new) }
+    ensures grows { Grows (G.node_count graph.old) (G.node_count graph.new) (G.stands graph.old) (G.stands graph.new) }
     ensures wide { IfOk result (λ tight. length tight.before ≡ length labels.now) }
     ensures tight { IfOk result (λ tight. (g : G.Graph) → G.explores graph.old g
         → G.explores graph.new g × IsTight C.value labels.now (G.step g) (G.passes g) (G.stands graph.new) (C.value best) (length labels.now) tight.goals.items (before_in tight.before)) }

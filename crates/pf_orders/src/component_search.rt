@@ -157,10 +157,10 @@ impl<A: Allocator + Copy> ComponentSearch<A> {
     /// answer is `false` where nothing is left to do.
     fn turn<G: NumberedGraph<u8>>(&mut self, alloc: A, graph: &mut G) -> Result<bool, PathError>
         requires graph { (g : G.Graph) × G.explores graph.old g }
-        requires placed { IsPlacedIn (G.found graph.old) self.old }
-        ensures grows { Grows (G.found graph.old) (G.found graph.new) (G.stands graph.old) (G.stands graph.new) }
+        requires placed { IsPlacedIn (G.node_count graph.old) self.old }
+        ensures grows { Grows (G.node_count graph.old) (G.node_count graph.new) (G.stands graph.old) (G.stands graph.new) }
         ensures graph { (g : G.Graph) → G.explores graph.old g → G.explores graph.new g }
-        ensures placed { OnOk result (IsPlacedIn (G.found graph.new) self.new) }
+        ensures placed { OnOk result (IsPlacedIn (G.node_count graph.new) self.new) }
         ensures path { OnOk result ((g : G.Graph) → G.explores graph.old g
             → IsOpenIn (G.step g) (G.stands graph.old) self.old
             → IsOpenIn (G.step g) (G.stands graph.new) self.new) }
@@ -181,7 +181,7 @@ impl<A: Allocator + Copy> ComponentSearch<A> {
         match self.places[number] {
             Place::New => {
                 graph.expand(number, &mut self.row)?;
-                self.visit(number, graph.found())?;
+                self.visit(number, graph.node_count())?;
                 Ok(true)
             }
             Place::Open(place) => {
@@ -206,13 +206,13 @@ pub fn strong_components<G: NumberedGraph<u8>, A: Allocator + Copy>(
     graph: &mut G,
 ) -> Result<Vec<Vec<usize, A>, A>, PathError>
     requires graph { (g : G.Graph) × G.explores graph.old g }
-    requires begins { (k : ℕ) → k < G.found graph.old → (s : G.Node) × G.stands graph.old k s }
-    ensures grows { Grows (G.found graph.old) (G.found graph.new) (G.stands graph.old) (G.stands graph.new) }
+    requires begins { (k : ℕ) → k < G.node_count graph.old → (s : G.Node) × G.stands graph.old k s }
+    ensures grows { Grows (G.node_count graph.old) (G.node_count graph.new) (G.stands graph.old) (G.stands graph.new) }
     ensures graph { (g : G.Graph) → G.explores graph.old g → G.explores graph.new g }
-    ensures numbered { IfOk result (λ components. (g : G.Graph) → G.explores graph.old g → AreNumberedComponents (G.step g) (G.stands graph.new) (G.found graph.new) (lists_of components.items)) }
+    ensures numbered { IfOk result (λ components. (g : G.Graph) → G.explores graph.old g → AreNumberedComponents (G.step g) (G.stands graph.new) (G.node_count graph.new) (lists_of components.items)) }
     ensures refused { IfErr result (λ e. e ≡ PathError.OutOfMemory) }
 {
-    let mut search = ComponentSearch::new(alloc, graph.found())?;
+    let mut search = ComponentSearch::new(alloc, graph.node_count())?;
     'turns: for _ in 0..usize::MAX {
         if !search.turn(alloc, graph)? {
             return Ok(search.components);

@@ -82,21 +82,21 @@ impl<A: Allocator + Copy> Sorting<A> {
 impl<A: Allocator> Sorting<A> {
     /// Enters a number: its successors are asked for, and the walk leaves it once it has left these.
     fn enter<G: NumberedGraph<u8>>(&mut self, graph: &mut G, number: usize) -> Result<(), PathError>
-        requires inside { number < G.found graph.old }
+        requires inside { number < G.node_count graph.old }
         requires graph { (g : G.Graph) × G.explores graph.old g }
-        requires marked { length self.old.marks.items ≡ G.found graph.old }
-        ensures grows { Grows (G.found graph.old) (G.found graph.new) (G.stands graph.old) (G.stands graph.new) }
+        requires marked { length self.old.marks.items ≡ G.node_count graph.old }
+        ensures grows { Grows (G.node_count graph.old) (G.node_count graph.new) (G.stands graph.old) (G.stands graph.new) }
         ensures graph { (g : G.Graph) → G.explores graph.old g → G.explores graph.new g }
-        ensures marks { OnOk result (self.new.marks.items ≡ slice_set self.old.marks.items number Mark.Open ++ replicate (G.found graph.new - length self.old.marks.items) Mark.New) }
+        ensures marks { OnOk result (self.new.marks.items ≡ slice_set self.old.marks.items number Mark.Open ++ replicate (G.node_count graph.new - length self.old.marks.items) Mark.New) }
         ensures left { OnOk result (self.new.left.items ≡ self.old.left.items) }
         ensures turns { OnOk result ((numbers : List ℕ) × (self.new.turns.items ≡ self.old.turns.items ++ Turn.Leave number ∷ entries (reverse numbers))
-            × ((k : ℕ) → Contains numbers k → k < G.found graph.new)
+            × ((k : ℕ) → Contains numbers k → k < G.node_count graph.new)
             × ((g : G.Graph) → G.explores graph.old g → (x : G.Node) → G.stands graph.old number x → AllZip (G.stands graph.new) numbers (G.successors g x))) }
         ensures refused { IfErr result (λ e. e ≡ PathError.OutOfMemory) }
     {
         graph.expand(number, &mut self.row)?;
         self.marks[number] = Mark::Open;
-        self.marks.resize(graph.found(), Mark::New)?;
+        self.marks.resize(graph.node_count(), Mark::New)?;
         self.turns.push(Turn::Leave(number))?;
         self.row.reverse();
         put_entries(&mut self.turns, &self.row)
@@ -123,18 +123,18 @@ impl<A: Allocator> Sorting<A> {
         tally: &mut Tally,
     ) -> Result<Option<usize>, PathError>
         requires graph { (g : G.Graph) × G.explores graph.old g }
-        requires marks { self.old.marks.items ≡ replicate (G.found graph.old) Mark.New }
-        requires turns { EnterBelow (G.found graph.old) self.old.turns.items }
+        requires marks { self.old.marks.items ≡ replicate (G.node_count graph.old) Mark.New }
+        requires turns { EnterBelow (G.node_count graph.old) self.old.turns.items }
         requires left { self.old.left.items ≡ [] }
-        ensures grows { Grows (G.found graph.old) (G.found graph.new) (G.stands graph.old) (G.stands graph.new) }
+        ensures grows { Grows (G.node_count graph.old) (G.node_count graph.new) (G.stands graph.old) (G.stands graph.new) }
         ensures graph { (g : G.Graph) → G.explores graph.old g → G.explores graph.new g }
         ensures order { (g : G.Graph) → G.explores graph.old g
-            → IfOk result (λ answer. IfNone answer (IsOrderedReach (G.successors g) (G.stands graph.new) (G.found graph.old) (G.found graph.new) (reverse self.new.left.items))) }
-        ensures cycle { IfOk result (λ answer. IfSome answer (λ number. number < G.found graph.new)) }
+            → IfOk result (λ answer. IfNone answer (IsOrderedReach (G.successors g) (G.stands graph.new) (G.node_count graph.old) (G.node_count graph.new) (reverse self.new.left.items))) }
+        ensures cycle { IfOk result (λ answer. IfSome answer (λ number. number < G.node_count graph.new)) }
         ensures on_cycle { (g : G.Graph) → G.explores graph.old g
             → IfOk result (λ answer. IfSome answer (λ number. IsOnNumberedCycle (G.successors g) (G.stands graph.new) number)) }
         ensures ticked { tally.old ≤ tally.new }
-        ensures asked { tally.new ≤ tally.old + G.found graph.new }
+        ensures asked { tally.new ≤ tally.old + G.node_count graph.new }
         ensures refused { IfErr result (λ e. e ≡ PathError.OutOfMemory) }
     {
         'turns: while let Some(turn) = self.turns.pop() {
@@ -170,18 +170,18 @@ pub fn sort_numbers<G: NumberedGraph<u8>, A: Allocator + Copy>(
     tally: &mut Tally,
 ) -> Result<Result<Vec<usize, A>, usize>, PathError>
     requires graph { (g : G.Graph) × G.explores graph.old g }
-    ensures grows { Grows (G.found graph.old) (G.found graph.new) (G.stands graph.old) (G.stands graph.new) }
+    ensures grows { Grows (G.node_count graph.old) (G.node_count graph.new) (G.stands graph.old) (G.stands graph.new) }
     ensures graph { (g : G.Graph) → G.explores graph.old g → G.explores graph.new g }
     ensures order { (g : G.Graph) → G.explores graph.old g
-        → IfOk result (λ answer. IfOk answer (λ order. IsOrderedReach (G.successors g) (G.stands graph.new) (G.found graph.old) (G.found graph.new) order.items)) }
-    ensures cycle { IfOk result (λ answer. IfErr answer (λ number. number < G.found graph.new)) }
+        → IfOk result (λ answer. IfOk answer (λ order. IsOrderedReach (G.successors g) (G.stands graph.new) (G.node_count graph.old) (G.node_count graph.new) order.items)) }
+    ensures cycle { IfOk result (λ answer. IfErr answer (λ number. number < G.node_count graph.new)) }
     ensures on_cycle { (g : G.Graph) → G.explores graph.old g
         → IfOk result (λ answer. IfErr answer (λ number. IsOnNumberedCycle (G.successors g) (G.stands graph.new) number)) }
     ensures ticked { tally.old ≤ tally.new }
-    ensures asked { tally.new ≤ tally.old + G.found graph.new }
+    ensures asked { tally.new ≤ tally.old + G.node_count graph.new }
     ensures errors { IfErr result (λ e. e ≡ PathError.OutOfMemory) }
 {
-    let mut walk = Sorting::begin(alloc, graph.found())?;
+    let mut walk = Sorting::begin(alloc, graph.node_count())?;
     let cycle = walk.walk_on(graph, tally);
     let order = walk.into_order();
     match cycle? {

@@ -35,25 +35,25 @@ fn fill_rows<G: NumberedGraph<u8>, A: Allocator + Copy>(
     counts: &mut Vec<usize, A>,
 ) -> Result<(), PathError>
     requires graph { (g : G.Graph) × G.explores graph.old g }
-    requires begins { (k : ℕ) → k < G.found graph.old → (s : G.Node) × G.stands graph.old k s }
+    requires begins { (k : ℕ) → k < G.node_count graph.old → (s : G.Node) × G.stands graph.old k s }
     requires empty { rows.old.items ≡ [] }
-    requires zeros { counts.old.items ≡ replicate (G.found graph.old) 0 }
+    requires zeros { counts.old.items ≡ replicate (G.node_count graph.old) 0 }
     ensures graph { (g : G.Graph) → G.explores graph.old g → G.explores graph.new g }
-    ensures grows { Grows (G.found graph.old) (G.found graph.new) (G.stands graph.old) (G.stands graph.new) }
-    ensures same { OnOk result (G.found graph.new ≡ G.found graph.old) }
+    ensures grows { Grows (G.node_count graph.old) (G.node_count graph.new) (G.stands graph.old) (G.stands graph.new) }
+    ensures same { OnOk result (G.node_count graph.new ≡ G.node_count graph.old) }
     ensures counted { OnOk result (AreCounted rows.new.items counts.new.items) }
-    ensures wide { OnOk result (length rows.new.items ≡ G.found graph.old) }
-    ensures long { OnOk result (length counts.new.items ≡ G.found graph.old) }
+    ensures wide { OnOk result (length rows.new.items ≡ G.node_count graph.old) }
+    ensures long { OnOk result (length counts.new.items ≡ G.node_count graph.old) }
     ensures listed { (g : G.Graph) → G.explores graph.old g → OnOk result (AreSuccessorRows (G.stands graph.new) (G.successors g) rows.new.items) }
     ensures unknown { (g : G.Graph) → G.explores graph.old g → result ≡ Err PathError.UnknownVertex
-        → (x : G.Node) × (y : G.Node) × StandsBelow (G.found graph.old) (G.stands graph.new) x × Contains (G.successors g x) y × ¬ (StandsBelow (G.found graph.old) (G.stands graph.new) y) }
+        → (x : G.Node) × (y : G.Node) × StandsBelow (G.node_count graph.old) (G.stands graph.new) x × Contains (G.successors g x) y × ¬ (StandsBelow (G.node_count graph.old) (G.stands graph.new) y) }
     ensures errors { IfErr result (λ e. (e ≡ PathError.OutOfMemory) ⊎ (e ≡ PathError.UnknownVertex)) }
 {
-    let count = graph.found();
+    let count = graph.node_count();
     'numbers: for number in 0..count {
         let mut row = Vec::new(alloc);
         graph.expand(number, &mut row)?;
-        if graph.found() > count {
+        if graph.node_count() > count {
             return Err(PathError::UnknownVertex);
         }
         count_row(&row, counts)?;
@@ -69,19 +69,19 @@ pub fn read_rows<G: NumberedGraph<u8>, A: Allocator + Copy>(
     graph: &mut G,
 ) -> Result<(Rows<A>, Vec<usize, A>), PathError>
     requires graph { (g : G.Graph) × G.explores graph.old g }
-    requires begins { (k : ℕ) → k < G.found graph.old → (s : G.Node) × G.stands graph.old k s }
+    requires begins { (k : ℕ) → k < G.node_count graph.old → (s : G.Node) × G.stands graph.old k s }
     ensures graph { (g : G.Graph) → G.explores graph.old g → G.explores graph.new g }
-    ensures grows { Grows (G.found graph.old) (G.found graph.new) (G.stands graph.old) (G.stands graph.new) }
-    ensures same { IfOk result (λ read. G.found graph.new ≡ G.found graph.old) }
+    ensures grows { Grows (G.node_count graph.old) (G.node_count graph.new) (G.stands graph.old) (G.stands graph.new) }
+    ensures same { IfOk result (λ read. G.node_count graph.new ≡ G.node_count graph.old) }
     ensures counted { IfOk result (λ read. AreCounted read.0.items read.1.items) }
-    ensures wide { IfOk result (λ read. length read.0.items ≡ G.found graph.old) }
-    ensures long { IfOk result (λ read. length read.1.items ≡ G.found graph.old) }
+    ensures wide { IfOk result (λ read. length read.0.items ≡ G.node_count graph.old) }
+    ensures long { IfOk result (λ read. length read.1.items ≡ G.node_count graph.old) }
     ensures listed { (g : G.Graph) → G.explores graph.old g → IfOk result (λ read. AreSuccessorRows (G.stands graph.new) (G.successors g) read.0.items) }
     ensures unknown { (g : G.Graph) → G.explores graph.old g → result ≡ Err PathError.UnknownVertex
-        → (x : G.Node) × (y : G.Node) × StandsBelow (G.found graph.old) (G.stands graph.new) x × Contains (G.successors g x) y × ¬ (StandsBelow (G.found graph.old) (G.stands graph.new) y) }
+        → (x : G.Node) × (y : G.Node) × StandsBelow (G.node_count graph.old) (G.stands graph.new) x × Contains (G.successors g x) y × ¬ (StandsBelow (G.node_count graph.old) (G.stands graph.new) y) }
     ensures errors { IfErr result (λ e. (e ≡ PathError.OutOfMemory) ⊎ (e ≡ PathError.UnknownVertex)) }
 {
-    let count = graph.found();
+    let count = graph.node_count();
     let mut rows = Vec::with_capacity(alloc, count)?;
     let mut counts = Vec::new(alloc);
     counts.resize(count, 0)?;

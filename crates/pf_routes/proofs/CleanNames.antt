@@ -5,7 +5,7 @@ use Rattle.std.proofs.lemmas.List.Elements.{All-nil, All-cons, All-head, All-tai
 use Rattle.pf_base.specs.Walks.{HasNode, NoRepeats, end_of}
 use Rattle.pf_base.specs.Edges.{StepCosts, WalkCosts}
 use Rattle.pf_base.specs.Answers.{SameNodes}
-use Rattle.pf_yen.specs.CleanPaths.{FailsBeforeEnd, PassesAtEndAlone, IsCleanPath, IsPathPastRange}
+use Rattle.pf_yen.specs.CleanPaths.{FailsBeforeEnd, PassesAtEndAlone, IsCleanPath, PathOverflows}
 use Rattle.pf_routes.proofs.Naming.{AllNodes, IsNaming, edge_known, step_in, follows_known, follows_in, end_named, end_known, repeats_in, goal_in, goal_known, goal_lifted, costs_in, costs_out}
 
 module _ {M N : Type 0} (eqM : M → M → Bool) (eqN : N → N → Bool) (name : M → N) (known : M → Type 0) (edgesM : M → List (M × ℤ)) (edgesN : N → List (N × ℤ)) (n : IsNaming eqM eqN name known edgesM edgesN) where
@@ -98,7 +98,7 @@ module _ {M N : Type 0} (eqM : M → M → Bool) (eqN : N → N → Bool) (name 
     clean_costs_out path t all c = costs_out eqM eqN name known edgesM edgesN n start ks testM testN tests path t all c
 
     -- a path and a step more that cost too much do so for names too
-    pub path_past_in : (fits : ℤ → Type 0) → IsPathPastRange eqM edgesM start testM fits → IsPathPastRange eqN edgesN (name start) testN fits
+    pub path_past_in : (fits : ℤ → Type 0) → PathOverflows eqM edgesM start testM fits → PathOverflows eqN edgesN (name start) testN fits
     path_past_in fits p =
         let kf = n.spread start p.first ks p.begins in
         let all = follows_known eqM eqN name known edgesM edgesN n p.first p.rest kf p.walks in

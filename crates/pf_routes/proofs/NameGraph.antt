@@ -16,9 +16,9 @@ use Rattle.pf_routes.specs.Internal.Links.{name_at, edge_between, edges_between,
 use Rattle.pf_routes.specs.Internal.Numbers.{edges_of}
 use Rattle.pf_routes.specs.declared.routes.links.Link.{Link}
 use Rattle.pf_base.specs.Walks.{HasNoGoalWalk, IsGoalWalk}
-use Rattle.pf_base.specs.Edges.{IsSuccessor, IsCheapestGoalPath, IsPastRange}
+use Rattle.pf_base.specs.Edges.{IsSuccessor, IsCheapestGoalPath, CostOverflows}
 use Rattle.pf_base.specs.Successors.{IsFewestEdgesGoalPath}
-use Rattle.pf_yen.specs.CleanPaths.{IsPathPastRange}
+use Rattle.pf_yen.specs.CleanPaths.{PathOverflows}
 use Rattle.pf_routes.proofs.Costless.{targets_of}
 use Rattle.pf_routes.proofs.Naming.{AllNodes, AllTargets, goal_known, IsNaming, none_named, best_named, fewest_named, past_named}
 use Rattle.pf_routes.proofs.CleanNames.{path_past_in}
@@ -136,13 +136,13 @@ module _ (keys : List (Bor (List ℕ))) (distinct : IsDistinct same_key keys) (l
     fewest path h =
         subst (λ f. IsFewestEdgesPath (edges_between keys links) f to (map (name_at keys) path)) from_is (fewest_named _ _ _ _ _ _ naming start within (λ n. n == goal) (λ name. bytes_eq name to) tests path h)
 
-    pub overflow : IsPastRange nat_eq numbered (start ∷ []) (λ n. n == goal) (FitsUnsignedBits 64) → HasCostOverflow (edges_between keys links) from to
+    pub overflow : CostOverflows nat_eq numbered (start ∷ []) (λ n. n == goal) (FitsUnsignedBits 64) → HasCostOverflow (edges_between keys links) from to
     overflow h = subst (λ f. HasCostOverflow (edges_between keys links) f to) from_is (past_named _ _ _ _ _ _ naming start within (λ n. n == goal) (λ name. bytes_eq name to) tests (FitsUnsignedBits 64) h)
 
     pub path-known : (path : List ℕ) → IsGoalWalk nat_eq (IsSuccessor nat_eq numbered) (start ∷ []) (λ n. n == goal) path → AllNodes (λ n. n < length keys) path
     path-known path g = goal_known _ _ _ _ _ _ naming start within (λ n. n == goal) (λ name. bytes_eq name to) tests path g
 
-    pub path_overflow : IsPathPastRange nat_eq numbered start (λ n. n == goal) (FitsUnsignedBits 64) → HasPathOverflow (edges_between keys links) from to
+    pub path_overflow : PathOverflows nat_eq numbered start (λ n. n == goal) (FitsUnsignedBits 64) → HasPathOverflow (edges_between keys links) from to
     path_overflow h = subst (λ f. HasPathOverflow (edges_between keys links) f to) from_is (path_past_in _ _ _ _ _ _ naming start within (λ n. n == goal) (λ name. bytes_eq name to) tests (FitsUnsignedBits 64) h)
 
     module _ (count : ℕ) (paths : List (List ℕ × ℕ)) (h : IsKCheapest nat_eq numbered start (λ n. n == goal) (λ (cost : ℕ). pos cost) count paths) where

@@ -3,7 +3,7 @@ use Rattle.std.proofs.Common.{◌≡◌, ℤ, Bool, true, List, [], ◌∷◌, m
 use Rattle.std.proofs.lemmas.List.{length-map}
 use Rattle.std.specs.Prelude.{⊤}
 use Rattle.pf_base.specs.Walks.{HasNode, NoRepeats, end_of, Follows, IsGoalWalk, HasNoGoalWalk}
-use Rattle.pf_base.specs.Edges.{HasEdge, IsSuccessor, StepCosts, StepsCost, WalkCosts, NoGoalWalkCostsLess, IsCheapestGoalPath, IsPastRange}
+use Rattle.pf_base.specs.Edges.{HasEdge, IsSuccessor, StepCosts, StepsCost, WalkCosts, NoGoalWalkCostsLess, IsCheapestGoalPath, CostOverflows}
 use Rattle.pf_base.specs.Successors.{IsFewestEdgesGoalPath}
 use Rattle.pf_routes.proofs.Costless.{targets_of, goal_costed, goal_costless}
 
@@ -228,7 +228,7 @@ module _ {M N : Type 0} (eqM : M → M → Bool) (eqN : N → N → Bool) (name 
 
     -- a sum that does not fit does not fit for names either
     pub past_named : (start : M) (ks : known start) (testM : M → Bool) (testN : N → Bool) (tests : (m : M) → known m → testM m ≡ testN (name m)) (fits : ℤ → Type 0)
-        → IsPastRange eqM edgesM (start ∷ []) testM fits → IsPastRange eqN edgesN (name start ∷ []) testN fits
+        → CostOverflows eqM edgesM (start ∷ []) testM fits → CostOverflows eqN edgesN (name start ∷ []) testN fits
     past_named start ks testM testN tests fits p =
         let at = λ (y : M). eqM y p.node in
         let kn = end_of_goal start p.node p.path ks p.cheapest.goes.goes in

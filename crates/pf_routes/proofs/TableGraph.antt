@@ -4,7 +4,7 @@ use Rattle.std.specs.Prelude.{All, MatchOption}
 use Rattle.std.specs.Int.{FitsUnsignedBits}
 use Rattle.std.proofs.lemmas.List.{map-id}
 use Rattle.pf_base.specs.Walks.{HasNoGoalWalk}
-use Rattle.pf_base.specs.Edges.{IsSuccessor, IsCheapestGoalPath, IsPastRange}
+use Rattle.pf_base.specs.Edges.{IsSuccessor, IsCheapestGoalPath, CostOverflows}
 use Rattle.pf_base.specs.Successors.{IsFewestEdgesGoalPath}
 use Rattle.pf_tables.specs.Graphs.{filled, edges_at, graph_of}
 use Rattle.pf_tables.proofs.ExploreLemmas.{edges_within}
@@ -64,5 +64,5 @@ module _ (row : ℕ → List (ℕ × ℕ)) (count : ℕ) (below : (n : ℕ) → 
         → MatchOption o (HasNoGoalWalk nat_eq (IsSuccessor nat_eq numbered) (start ∷ []) test) (λ v. IsFewestEdgesGoalPath nat_eq (λ a. targets_of (numbered a)) (start ∷ []) test (items v))
     fewest_answer items o h = costed_answer items o (answer_costed nat_eq table items (start ∷ []) (start ∷ []) test o refl h)
 
-    pub past_answer : IsPastRange nat_eq table (start ∷ []) test (FitsUnsignedBits 64) → IsPastRange nat_eq numbered (start ∷ []) test (FitsUnsignedBits 64)
+    pub past_answer : CostOverflows nat_eq table (start ∷ []) test (FitsUnsignedBits 64) → CostOverflows nat_eq numbered (start ∷ []) test (FitsUnsignedBits 64)
     past_answer h = past_named nat_eq nat_eq (λ (n : ℕ). n) (λ n. n < count) table numbered naming start inside test test (λ m l. refl) (FitsUnsignedBits 64) h

@@ -2,9 +2,9 @@
 use Rattle.std.specs.Prelude.{◌≡◌, ◌<◌, ℕ, ℤ, pos, List, ◌∷◌, [], filter, map}
 use Rattle.std.specs.Str.{bytes_eq}
 use Rattle.pf_base.specs.Walks.{HasNoGoalWalk}
-use Rattle.pf_base.specs.Edges.{IsSuccessor, IsCheapestGoalPath, IsPastRange}
+use Rattle.pf_base.specs.Edges.{IsSuccessor, IsCheapestGoalPath, CostOverflows}
 use Rattle.pf_base.specs.Successors.{IsFewestEdgesGoalPath}
-use Rattle.pf_yen.specs.CleanPaths.{IsPathPastRange, AllGiven}
+use Rattle.pf_yen.specs.CleanPaths.{PathOverflows, AllGiven}
 use Rattle.pf_yen.specs.KCheapest.{IsKCheapest}
 use Rattle.std.specs.Int.{FitsUnsignedBits}
 use Rattle.pf_routes.specs.EdgeText.{Edge}
@@ -28,7 +28,7 @@ module _ (edges : List Edge) (from to : List ℕ) where
 
   -- a cheapest path and one step more cost 2^64 or more, and no walk from one name to the other is cheaper than that path
   abbrev pub HasCostOverflow : Type 0
-  HasCostOverflow = IsPastRange bytes_eq (edges_from edges) (from ∷ []) (λ name. bytes_eq name to) (FitsUnsignedBits 64)
+  HasCostOverflow = CostOverflows bytes_eq (edges_from edges) (from ∷ []) (λ name. bytes_eq name to) (FitsUnsignedBits 64)
 
   -- a path from one name to the other, and no walk has fewer edges
   abbrev pub IsFewestEdgesPath : List (List ℕ) → Type 0
@@ -44,7 +44,7 @@ module _ (edges : List Edge) (from to : List ℕ) where
 
   -- a path without a name twice, and without the end, and one step more cost 2^64 or more
   abbrev pub HasPathOverflow : Type 0
-  HasPathOverflow = IsPathPastRange bytes_eq (edges_from edges) from (λ name. bytes_eq name to) (FitsUnsignedBits 64)
+  HasPathOverflow = PathOverflows bytes_eq (edges_from edges) from (λ name. bytes_eq name to) (FitsUnsignedBits 64)
 
   -- Paths were asked for, and a path without a name twice, and without the end, and one step more cost 2^64 or more. Where one path was asked for, that path is a cheapest one, and no walk from one name to the other is cheaper.
   pub record HasRankedOverflow (count : ℕ) : Type 0 where

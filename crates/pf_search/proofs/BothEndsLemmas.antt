@@ -6,7 +6,7 @@ use Rattle.std.specs.Cmp.{IsEquivalence}
 use Rattle.std.proofs.lemmas.Int.{ints}
 use Rattle.pf_base.specs.Costs.{LiesBetween}
 use Rattle.pf_base.specs.Walks.{HasNode, end_of}
-use Rattle.pf_base.specs.Edges.{InReach, IsPastRange}
+use Rattle.pf_base.specs.Edges.{InReach, CostOverflows}
 use Rattle.pf_core.specs.declared.labels.Label.{Label}
 use Rattle.pf_core.specs.Labels.{Labels, HasLabel, by_cost, AllSettled}
 use Rattle.pf_core.specs.Numbered.{Grows}
@@ -14,16 +14,16 @@ use Rattle.pf_core.specs.Steps.{GoesAlong, IsNonNegative}
 use Rattle.pf_core.specs.Mirrors.{IsReached}
 use Rattle.pf_core.specs.Nodes.{NodeGraph, StandsFor, IsStep}
 use Rattle.pf_core.specs.Frontier.{IsFound}
-use Rattle.pf_core.specs.Search.{IsLow, IsLeast, Turned, StandsRoot, HasDearStep, SettledAt, WaitingAt}
+use Rattle.pf_core.specs.Search.{IsLow, IsLeast, Turned, StandsRoot, StepOverflows, SettledAt, WaitingAt}
 use Rattle.pf_base.proofs.ListLemmas.{bool_dec, int_dec}
 use Rattle.pf_core.proofs.LabelLemmas.{HasLabel-inside}
 use Rattle.pf_core.proofs.FrontierLemmas.{frontier, walk_positive}
 use Rattle.pf_core.proofs.PathLemmas.{path_up}
 use Rattle.pf_core.proofs.MirrorLemmas.{walk_back, end_append}
 use Rattle.pf_core.proofs.SearchLemmas.{found_at, rooted}
-use Rattle.pf_core.proofs.TurnLemmas.{too_dear}
+use Rattle.pf_core.proofs.TurnLemmas.{numbered_overflows}
 use Rattle.pf_core.proofs.NodeLemmas.{eq-sym, eq-trans, StandsFor-same, InReach-same, InReach-after}
-use Rattle.pf_core.proofs.WalkLemmas.{no_negative, walk_of_goes, past_range}
+use Rattle.pf_core.proofs.WalkLemmas.{no_negative, walk_of_goes, cost_overflows}
 use Rattle.pf_search.specs.declared.directed.dijkstra.both_ends.Meeting.{Meeting}
 use Rattle.pf_search.specs.BothEnds.{IsCostMirror}
 use Rattle.pf_search.specs.Internal.BothEnds.{from_one, bound, IsMeeting, NoneBelowAt, IsHalf, IsPair, NoWalkAcross, NoWalkAcrossBelow}
@@ -294,8 +294,8 @@ module _ {N C : Type 0} (eq : N → N → Bool) (laws : IsEquivalence eq) (value
 
   -- a sum that does not fit, on the way forth from a least open label, before the best meeting is known to be best
   pub past_at : (edges previous : N → List (N × ℤ)) (start end : N) (keys others : List N) (labels labels' : Labels C) (t : ℤ) → IsPair eq value fits edges previous start end keys others labels labels' t
-      → (k : ℕ) (l : Label C) → IsLeast (by_cost value) labels k l → ((z : ℤ) → fits z → t ≤ℤ z → z ≤ℤ value l.cost → ⊥) → ((x : N) → StandsFor eq keys k x → HasDearStep (IsStep eq (from_one start edges)) fits x (value l.cost)) → k < length keys
-      → IsPastRange eq edges (start ∷ []) (eq end) fits
+      → (k : ℕ) (l : Label C) → IsLeast (by_cost value) labels k l → ((z : ℤ) → fits z → t ≤ℤ z → z ≤ℤ value l.cost → ⊥) → ((x : N) → StandsFor eq keys k x → StepOverflows (IsStep eq (from_one start edges)) fits x (value l.cost)) → k < length keys
+      → CostOverflows eq edges (start ∷ []) (eq end) fits
   past_at edges previous start end keys others labels labels' t pair k l z before dear inside =
       let f = pair.forth in
       let i = f.search in
@@ -304,6 +304,6 @@ module _ {N C : Type 0} (eq : N → N → Bool) (laws : IsEquivalence eq) (value
         | inl e ↦ absurd (before (value m.cost) (f.fit j m h s) (settled_end edges previous start end keys others labels labels' t pair j m x h s here e) (i.low j k m l h s z.at z.opened))
         | inr n ↦ n
       ] in
-      let d = too_dear value fits (IsStep eq (from_one start edges)) (λ k. nat_eq k 0) (positive edges start keys labels f) (StandsFor eq keys) labels i f.tree k l z (eq end) failed f.one dear (length keys) (length keys) (StandsFor eq keys) stay inside
+      let d = numbered_overflows value fits (IsStep eq (from_one start edges)) (λ k. nat_eq k 0) (positive edges start keys labels f) (StandsFor eq keys) labels i f.tree k l z (eq end) failed f.one dear (length keys) (length keys) (StandsFor eq keys) stay inside
       (StandsRoot (λ k. nat_eq k 0) (StandsFor eq keys)) (λ x. ((λ h. h), λ h. h)) in
-      past_range eq laws (from_one start edges) f.alike (StandsRoot (λ k. nat_eq k 0) (StandsFor eq keys)) (start_all edges start keys labels f) (start_only edges start keys labels f) (eq end) fits keys f.one d
+      cost_overflows eq laws (from_one start edges) f.alike (StandsRoot (λ k. nat_eq k 0) (StandsFor eq keys)) (start_all edges start keys labels f) (start_only edges start keys labels f) (eq end) fits keys f.one d

@@ -16,7 +16,7 @@ use Rattle.pf_core.specs.Steps.{IsNonNegative}
 use Rattle.pf_core.specs.Sources.{AnswersEdges}
 use Rattle.pf_core.specs.Nodes.{NodeGraph, StandsFor, IsStep, Explores}
 use Rattle.pf_core.specs.NodeLaws.{StandsFor-one, StandsFor-inside}
-use Rattle.pf_core.specs.Search.{IsLeast, IsFirst, IsSearch, Turned, StandsRoot, HasDearStep, IsWithinRange, SettledAt, WaitingAt}
+use Rattle.pf_core.specs.Search.{IsLeast, IsFirst, IsSearch, Turned, StandsRoot, StepOverflows, IsWithinRange, SettledAt, WaitingAt}
 use Rattle.pf_base.proofs.ListLemmas.{bool_dec}
 use Rattle.pf_core.proofs.LabelLemmas.{HasLabel-inside, label_is, parent_labelled}
 use Rattle.pf_core.proofs.FrontierLemmas.{frontier, goes_more, end_more}
@@ -25,7 +25,7 @@ use Rattle.pf_core.proofs.SearchLemmas.{goal_above, best, cheapest, rooted}
 use Rattle.pf_core.proofs.NodeLemmas.{eq-sym, eq-trans, StandsFor-same, HasEdge-same, InReach-same, InReach-start, edge_of_same}
 use Rattle.pf_core.proofs.WalkLemmas.{cheapest_edge, no_negative, goes_of_walk, none_less, best_answer, all_starts, only_starts}
 use Rattle.pf_search.specs.declared.directed.dijkstra_reach.DijkstraReachableItem.{DijkstraReachableItem}
-use Rattle.pf_search.specs.CheapestFirst.{CheapestWalk, given_nodes, IsCheapestWalk, IsGiven, IsNew, GivesMore, GivesNoMore, NoNewNodeBelow, IsBehind, IsNextByCost, IsNextPastRange, AllGiven, IsLeft, IsBarred, RefusedFor, CheapestStep, StepKeepsBar}
+use Rattle.pf_search.specs.CheapestFirst.{CheapestWalk, given_nodes, IsCheapestWalk, IsGiven, IsNew, GivesMore, GivesNoMore, NoNewNodeBelow, IsBehind, IsNextByCost, NextOverflows, AllGiven, IsLeft, IsBarred, RefusedFor, CheapestStep, StepKeepsBar}
 use Rattle.pf_search.specs.Internal.CheapestSearch.{KeepsSearch, given_of}
 use Rattle.pf_search.specs.Internal.CheapestTurns.{CheapestTurn, TurnKeepsBar}
 use Rattle.pf_search.proofs.GivenLemmas.{IsSettled, settled_of_given, given_of_settled}
@@ -195,7 +195,7 @@ module _ {N : Type 0} (eq : N → N → Bool) (laws : IsEquivalence eq) where
             }
 
         -- a step from it that is too dear
-        pub past_at : (fits : ℤ → Type 0) (x : N) → StandsFor eq s.search.nodes k x → HasDearStep step fits x (value l.cost) → IsNextPastRange eq value edges start fits s
+        pub past_at : (fits : ℤ → Type 0) (x : N) → StandsFor eq s.search.nodes k x → StepOverflows step fits x (value l.cost) → NextOverflows eq value edges start fits s
         past_at fits x here d =
             let c = cheapest_to x here in
             let e = cheapest_edge eq laws edges x d.next d.price d.edge.1 in
@@ -209,7 +209,7 @@ module _ {N : Type 0} (eq : N → N → Bool) (laws : IsEquivalence eq) where
               next = d.next;
               price = e.0;
               step = e.1;
-              past = d.too_dear e.0 (d.edge.0, e.1.edge);
+              past = d.all_past e.0 (d.edge.0, e.1.edge);
             }
 
       -- where all labels are settled, the walk stands before no step
@@ -251,7 +251,7 @@ module _ {N : Type 0} (eq : N → N → Bool) (laws : IsEquivalence eq) where
                 price = st.price;
                 edge = st.edge;
                 new = λ j at m h. let old = subst (λ (ls : Labels C). HasLabel ls j m) e h in st.new j (grows.back j st.next (within j m old) at) m old;
-                too_dear = st.too_dear;
+                all_past = st.all_past;
               };
             }
 
@@ -274,7 +274,7 @@ module _ {N : Type 0} (eq : N → N → Bool) (laws : IsEquivalence eq) where
                 | inl o ↦ st.new o.0 o.2 o.1 o.3
                 | inr o ↦
                     let e : IsStep eq graph b.node o.1 st.next = (o.5.0, HasEdge-same eq laws (edges b.node) o.2 st.next o.1 (same_node t.search.nodes o.0 o.2 st.next o.4 o.3) o.5.1) in
-                    st.too_dear o.1 e (subst (λ (m : Label C). fits (value m.cost +ℤ o.1)) (sym same) o.6)
+                    st.all_past o.1 e (subst (λ (m : Label C). fits (value m.cost +ℤ o.1)) (sym same) o.6)
               ]
 
         -- after a turn one item more was given

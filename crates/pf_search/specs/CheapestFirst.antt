@@ -75,7 +75,7 @@ module _ {N C F : Type 0} (eq : N → N → Bool) where
       pub behind : MatchOption item.parent ((eq start item.node ≡ true) × (value item.total_cost ≡ pos 0)) (λ parent. IsBehind walk parent item.node (value item.total_cost))
 
     -- A cheapest path to a cheapest node that was not given, and one step more, by the cheapest parallel edge, do not fit.
-    pub record IsNextPastRange (fits : ℤ → Type 0) (walk : CheapestWalk N C F) : Type 0 where
+    pub record NextOverflows (fits : ℤ → Type 0) (walk : CheapestWalk N C F) : Type 0 where
       pub node : N
       pub new : IsNew walk node
       pub path : List N
@@ -101,7 +101,7 @@ module _ {N C F : Type 0} (eq : N → N → Bool) where
 
     -- why a step may be refused: for want of memory, or since a cost does not fit
     abbrev pub RefusedFor : (ℤ → Type 0) → CheapestWalk N C F → PathError → Type 0
-    RefusedFor fits walk refusal = (refusal ≡ PathError.OutOfMemory) ⊎ ((refusal ≡ PathError.CostOverflow) × IsNextPastRange fits walk)
+    RefusedFor fits walk refusal = (refusal ≡ PathError.OutOfMemory) ⊎ ((refusal ≡ PathError.CostOverflow) × NextOverflows fits walk)
 
     -- a step that does not fit is refused again: where the walk stands before one, a call of `next` gives no item, and the end only where the last step was refused; a call that is refused leaves the walk before it
     abbrev pub StepKeepsBar : (ℤ → Type 0) → CheapestWalk N C F → Option (Result (DijkstraReachableItem N C) PathError) → CheapestWalk N C F → Type 0

@@ -2,7 +2,7 @@
 
 ghost use Rattle.std.specs.HashMap.{get};
 ghost use Rattle.std.specs.Prelude.{◌≡◌, ◌⊎◌, [], ◌∷◌, false, Err, IfOk, IfErr, nat_eq};
-ghost use Rattle.pf_base.specs.Edges.{IsPastRange};
+ghost use Rattle.pf_base.specs.Edges.{CostOverflows};
 ghost use Rattle.pf_search.specs.Parents.{IsCheapestMap, IsPartialMap};
 ghost use Rattle.pf_tables.specs.Graphs.{graph_of};
 
@@ -36,7 +36,7 @@ where
     G: Graph<C>,
     A: Allocator + Copy,
     ensures cheapest { IfOk result (λ parents. IsCheapestMap nat_eq (graph_of C.value (G.size graph.now) (G.places graph.now)) from C.value (get nat_eq parents)) }
-    ensures overflow { result ≡ Err PathError.CostOverflow → IsPastRange nat_eq (graph_of C.value (G.size graph.now) (G.places graph.now)) (from ∷ []) (λ _. false) C.fits }
+    ensures overflow { result ≡ Err PathError.CostOverflow → CostOverflows nat_eq (graph_of C.value (G.size graph.now) (G.places graph.now)) (from ∷ []) (λ _. false) C.fits }
     ensures errors { IfErr result (λ e. (e ≡ PathError.OutOfMemory) ⊎ (e ≡ PathError.CostOverflow)) }
 {
     graph.known();
@@ -70,7 +70,7 @@ where
     T: Goals + Copy,
     A: Allocator + Copy,
     ensures partial { IfOk result (λ found. IsPartialMap nat_eq (graph_of C.value (G.size graph.now) (G.places graph.now)) from C.value (get nat_eq found.0) (T.passes goals) found.1) }
-    ensures overflow { result ≡ Err PathError.CostOverflow → IsPastRange nat_eq (graph_of C.value (G.size graph.now) (G.places graph.now)) (from ∷ []) (T.passes goals) C.fits }
+    ensures overflow { result ≡ Err PathError.CostOverflow → CostOverflows nat_eq (graph_of C.value (G.size graph.now) (G.places graph.now)) (from ∷ []) (T.passes goals) C.fits }
     ensures errors { IfErr result (λ e. (e ≡ PathError.OutOfMemory) ⊎ (e ≡ PathError.CostOverflow)) }
 {
     graph.known();

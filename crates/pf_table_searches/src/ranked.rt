@@ -1,9 +1,9 @@
 //! The k cheapest paths.
 
 ghost use Rattle.std.specs.Prelude.{◌≡◌, ◌⊎◌, ◌≤◌, [], ◌∷◌, Err, IfOk, IfErr, nat_eq};
-ghost use Rattle.pf_base.specs.Edges.{IsPastRange};
+ghost use Rattle.pf_base.specs.Edges.{CostOverflows};
 ghost use Rattle.pf_tables.specs.Graphs.{graph_of};
-ghost use Rattle.pf_yen.specs.CleanPaths.{IsPathPastRange};
+ghost use Rattle.pf_yen.specs.CleanPaths.{PathOverflows};
 ghost use Rattle.pf_yen.specs.KCheapest.{IsKCheapest, paths_in};
 
 use crate::edges::edges_of;
@@ -43,8 +43,8 @@ where
     T: Goals + Copy,
     A: Allocator + Copy,
     ensures cheapest { IfOk result (λ paths. IsKCheapest nat_eq (graph_of C.value (G.size graph.now) (G.places graph.now)) from (T.passes goals) C.value k (paths_in paths.items)) }
-    ensures overflow { result ≡ Err PathError.CostOverflow → IsPathPastRange nat_eq (graph_of C.value (G.size graph.now) (G.places graph.now)) from (T.passes goals) C.fits }
-    ensures first_overflow { result ≡ Err PathError.CostOverflow → k ≡ 1 → IsPastRange nat_eq (graph_of C.value (G.size graph.now) (G.places graph.now)) (from ∷ []) (T.passes goals) C.fits }
+    ensures overflow { result ≡ Err PathError.CostOverflow → PathOverflows nat_eq (graph_of C.value (G.size graph.now) (G.places graph.now)) from (T.passes goals) C.fits }
+    ensures first_overflow { result ≡ Err PathError.CostOverflow → k ≡ 1 → CostOverflows nat_eq (graph_of C.value (G.size graph.now) (G.places graph.now)) (from ∷ []) (T.passes goals) C.fits }
     ensures some_asked { result ≡ Err PathError.CostOverflow → 1 ≤ k }
     ensures errors { IfErr result (λ e. (e ≡ PathError.OutOfMemory) ⊎ (e ≡ PathError.CostOverflow)) }
 {

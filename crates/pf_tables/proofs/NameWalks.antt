@@ -5,7 +5,7 @@ use Rattle.std.specs.Cmp.{IsEquivalence}
 use Rattle.std.specs.List.{AllZip}
 use Rattle.std.proofs.lemmas.Slice.Zip.{AllZip-long}
 use Rattle.pf_base.specs.Walks.{HasNode, NoRepeats, end_of, Follows, EndsAt, IsGoalWalk, IsGoalPath, HasNoGoalWalk}
-use Rattle.pf_base.specs.Edges.{HasEdge, IsSuccessor, StepCosts, StepsCost, WalkCosts, NoGoalWalkCostsLess, IsCheapestGoalPath, IsPastRange}
+use Rattle.pf_base.specs.Edges.{HasEdge, IsSuccessor, StepCosts, StepsCost, WalkCosts, NoGoalWalkCostsLess, IsCheapestGoalPath, CostOverflows}
 use Rattle.pf_base.specs.Successors.{HasSuccessor, IsFewestEdgesGoalPath}
 use Rattle.pf_core.specs.Nodes.{StandsFor}
 use Rattle.pf_core.specs.NodeLaws.{StandsFor-inside}
@@ -288,7 +288,7 @@ module _ {N : Type 0} {eq : N → N → Bool} (laws : IsEquivalence eq) (names :
           }
 
         -- a sum that does not fit does not fit over names either
-        pub past_out : (testM : ℕ → Bool) (testN : N → Bool) → ((k : ℕ) (x : N) → Stands k x → testM k ≡ testN x) → (fits : ℤ → Type 0) → IsPastRange nat_eq edgesM (start ∷ []) testM fits → IsPastRange eq edgesN (from ∷ []) testN fits
+        pub past_out : (testM : ℕ → Bool) (testN : N → Bool) → ((k : ℕ) (x : N) → Stands k x → testM k ≡ testN x) → (fits : ℤ → Type 0) → CostOverflows nat_eq edgesM (start ∷ []) testM fits → CostOverflows eq edgesN (from ∷ []) testN fits
         past_out testM testN tests fits p =
             let c = carried_edges in
             let v = goal_named _ _ c start from begins (λ (k : ℕ). nat_eq k p.node) p.path p.cheapest.goes.goes in

@@ -4,7 +4,7 @@ use Rattle.std.specs.Prelude.{◌==◌, Some, None, Contains, slice_get}
 use Rattle.std.specs.Cmp.{IsEquivalence}
 use Rattle.std.specs.List.{AllZip, cons_option, list_any}
 use Rattle.pf_base.specs.Walks.{HasNode, HasNoGoalWalk}
-use Rattle.pf_base.specs.Edges.{IsSuccessor, IsCheapestGoalPath, IsPastRange}
+use Rattle.pf_base.specs.Edges.{IsSuccessor, IsCheapestGoalPath, CostOverflows}
 use Rattle.pf_base.specs.Successors.{HasSuccessor, IsFewestEdgesGoalPath}
 use Rattle.pf_core.specs.NodeLaws.{StandsFor-inside}
 use Rattle.pf_core.proofs.NodeLemmas.{eq-trans}
@@ -79,7 +79,7 @@ module _ {N C : Type 0} {eq : N → N → Bool} (laws : IsEquivalence eq) (value
           → HasNoGoalWalk eq (IsSuccessor eq (edges_from eq value edges)) (from ∷ []) (λ x. eq x to)
       no_walk_named none = none_out laws (names_of eq edges) (names_apart laws edges) _ _ (carried_edges laws (names_of eq edges) (names_apart laws edges) _ _ same_edges) start from begins (λ (n : ℕ). n == goal) (λ x. eq x to) tests none
 
-      pub past_named : (fits : ℤ → Type 0) → IsPastRange nat_eq (graph_of value (length (names_of eq edges)) (places_of eq edges)) (start ∷ []) (λ (n : ℕ). n == goal) fits → IsPastRange eq (edges_from eq value edges) (from ∷ []) (λ x. eq x to) fits
+      pub past_named : (fits : ℤ → Type 0) → CostOverflows nat_eq (graph_of value (length (names_of eq edges)) (places_of eq edges)) (start ∷ []) (λ (n : ℕ). n == goal) fits → CostOverflows eq (edges_from eq value edges) (from ∷ []) (λ x. eq x to) fits
       past_named fits p = past_out laws (names_of eq edges) (names_apart laws edges) _ _ same_edges start from begins (λ (n : ℕ). n == goal) (λ x. eq x to) tests fits p
 
       pub cheapest_inside : (path : List ℕ) (t : ℤ) → IsCheapestGoalPath nat_eq (graph_of value (length (names_of eq edges)) (places_of eq edges)) (start ∷ []) (λ (n : ℕ). n == goal) path t → (k : ℕ) → Contains path k → k < length (names_of eq edges)

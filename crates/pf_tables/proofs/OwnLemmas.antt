@@ -7,13 +7,13 @@ use Rattle.std.proofs.lemmas.Option.{slice_get_within}
 use borrow.Author.Tests.{eqb-true}
 use Rattle.pf_base.specs.declared.error.PathError.{PathError}
 use Rattle.pf_base.specs.Walks.{HasNoGoalWalk, end_of}
-use Rattle.pf_base.specs.Edges.{HasEdge, InReach, IsSuccessor, IsCheapestGoalPath, IsPastRange}
+use Rattle.pf_base.specs.Edges.{HasEdge, InReach, IsSuccessor, IsCheapestGoalPath, CostOverflows}
 use Rattle.pf_core.specs.Nodes.{NodeGraph, IsStep, StandsFor}
 use Rattle.pf_core.specs.Numbered.{ListsSteps, NumbersInOrder}
-use Rattle.pf_core.specs.Steps.{GoesAlong, NoGoal, IsBestNumbered, IsTooDear}
+use Rattle.pf_core.specs.Steps.{GoesAlong, NoGoal, IsBestNumbered, NumberedOverflows}
 use Rattle.pf_base.proofs.ListLemmas.{Contains-head, Contains-tail, Contains-cases}
 use Rattle.pf_core.proofs.NodeLemmas.{InReach-start, InReach-more}
-use Rattle.pf_core.proofs.WalkLemmas.{all_starts, only_starts, no_walk, best_answer, past_range}
+use Rattle.pf_core.proofs.WalkLemmas.{all_starts, only_starts, no_walk, best_answer, cost_overflows}
 use Rattle.pf_tables.specs.Graphs.{IsGraph, edges_at}
 use Rattle.pf_tables.specs.Internal.Numbering.{IsOwn, present}
 use Rattle.pf_tables.proofs.GraphLemmas.{edge_inside}
@@ -158,11 +158,11 @@ module _ (edges : ℕ → List (ℕ × ℤ)) (from size : ℕ) (inside : from < 
     own_answer items worth (Ok (Some a)) within best = own_cheapest (items a.0) (worth a.1) within best
     own_answer items worth (Err e) within best = tt
 
-    pub own_past_range : (fits : ℤ → Type 0) → IsTooDear OwnStep test (IsOwn size from) (IsOwn found) fits → IsPastRange nat_eq edges (from ∷ []) test fits
-    own_past_range fits d =
+    pub own_cost_overflows : (fits : ℤ → Type 0) → NumberedOverflows OwnStep test (IsOwn size from) (IsOwn found) fits → CostOverflows nat_eq edges (from ∷ []) test fits
+    own_cost_overflows fits d =
         let r = starts_in_reach d.first d.is_start in
         let last = end_in_reach d.nodes d.first d.cost r d.path.goes in
-        past_range nat_eq nat_eq_equiv searched (nat_alike edges (from ∷ [])) _ (all_starts nat_eq from _ begins) (only_starts nat_eq from _ begins) test fits (nodes_below found) (one_stands found) (record {
+        cost_overflows nat_eq nat_eq_equiv searched (nat_alike edges (from ∷ [])) _ (all_starts nat_eq from _ begins) (only_starts nat_eq from _ begins) test fits (nodes_below found) (one_stands found) (record {
           first = d.first;
           is_start = d.is_start;
           numbers = d.numbers;
@@ -175,6 +175,6 @@ module _ (edges : ℕ → List (ℕ × ℤ)) (from size : ℕ) (inside : from < 
           next = d.next;
           price = d.price;
           edge = (last, d.edge);
-          too_dear = λ z h. d.too_dear z h.1;
+          all_past = λ z h. d.all_past z h.1;
           none_cheaper = λ s i w u h e. d.none_cheaper s i w u (own_goes w s u h) e;
         })

@@ -1,7 +1,7 @@
 //! Cheapest paths over a table.
 
 ghost use Rattle.std.specs.Prelude.{◌≡◌, ◌⊎◌, [], ◌∷◌, Err, IfOk, IfErr, nat_eq};
-ghost use Rattle.pf_base.specs.Edges.{IsPastRange, IsCheapestOrNone};
+ghost use Rattle.pf_base.specs.Edges.{CostOverflows, IsCheapestOrNone};
 ghost use Rattle.pf_tables.specs.Graphs.{graph_of};
 
 use crate::goals::Goals;
@@ -41,7 +41,7 @@ where
     T: Goals + Copy,
     A: Allocator + Copy,
     ensures best { IfOk result (IsCheapestOrNone nat_eq (graph_of C.value (G.size graph.now) (G.places graph.now)) (from ∷ []) (T.passes goals) C.value) }
-    ensures overflow { result ≡ Err PathError.CostOverflow → IsPastRange nat_eq (graph_of C.value (G.size graph.now) (G.places graph.now)) (from ∷ []) (T.passes goals) C.fits }
+    ensures overflow { result ≡ Err PathError.CostOverflow → CostOverflows nat_eq (graph_of C.value (G.size graph.now) (G.places graph.now)) (from ∷ []) (T.passes goals) C.fits }
     ensures errors { IfErr result (λ e. (e ≡ PathError.OutOfMemory) ⊎ (e ≡ PathError.CostOverflow)) }
 {
     graph.known();

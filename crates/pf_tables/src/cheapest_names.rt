@@ -2,7 +2,7 @@
 
 ghost use Rattle.std.specs.Prelude.{◌≡◌, ◌⊎◌, [], ◌∷◌, Err, IfOk, IfErr, MatchOption};
 ghost use Rattle.pf_base.specs.Walks.{HasNoGoalWalk};
-ghost use Rattle.pf_base.specs.Edges.{IsSuccessor, IsCheapestGoalPath, IsPastRange};
+ghost use Rattle.pf_base.specs.Edges.{IsSuccessor, IsCheapestGoalPath, CostOverflows};
 ghost use Rattle.pf_base.specs.NodeRefs.{nodes_of};
 ghost use Rattle.pf_tables.specs.EdgeLists.{edges_from};
 
@@ -43,7 +43,7 @@ impl<'e, N: Eq + Hash, C: Cost, A: Allocator> EdgeList<'e, N, C, A> {
         ensures best { IfOk result (λ answer. MatchOption answer
             (HasNoGoalWalk N.eq (IsSuccessor N.eq (edges_from N.eq C.value self.now)) (from.now ∷ []) (λ x. N.eq x to.now))
             (λ found. IsCheapestGoalPath N.eq (edges_from N.eq C.value self.now) (from.now ∷ []) (λ x. N.eq x to.now) (nodes_of found.0.items) (C.value found.1))) }
-        ensures overflow { result ≡ Err PathError.CostOverflow → IsPastRange N.eq (edges_from N.eq C.value self.now) (from.now ∷ []) (λ x. N.eq x to.now) C.fits }
+        ensures overflow { result ≡ Err PathError.CostOverflow → CostOverflows N.eq (edges_from N.eq C.value self.now) (from.now ∷ []) (λ x. N.eq x to.now) C.fits }
         ensures errors { IfErr result (λ e. (e ≡ PathError.OutOfMemory) ⊎ (e ≡ PathError.CostOverflow)) }
     {
         let Some(start) = self.number_of(from) else {

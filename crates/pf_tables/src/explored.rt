@@ -108,7 +108,7 @@ where
 
     ghost passes = { λ g x. g.test x };
 
-    ghost found = { λ s. length s.numbering.order.items };
+    ghost node_count = { λ s. length s.numbering.order.items };
 
     ghost stands = { λ s. StandsFor nat_eq s.numbering.order.items };
 
@@ -117,7 +117,7 @@ where
 
     ghost can_forget = { λ s k. (k ≤ length s.numbering.order.items) × IsIndex s.numbering.order.items s.numbering.numbers.items };
 
-    fn found(&self) -> usize {
+    fn node_count(&self) -> usize {
         self.numbering.order.len()
     }
 

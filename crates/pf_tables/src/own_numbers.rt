@@ -54,7 +54,7 @@ where
 
     ghost passes = { λ g x. g.test x };
 
-    ghost found = { λ s. G.size s.graph.now };
+    ghost node_count = { λ s. G.size s.graph.now };
 
     ghost stands = { λ s. IsOwn (G.size s.graph.now) };
 
@@ -62,7 +62,7 @@ where
 
     ghost can_forget = { λ s k. k ≡ G.size s.graph.now };
 
-    fn found(&self) -> usize {
+    fn node_count(&self) -> usize {
         self.graph.len()
     }
 

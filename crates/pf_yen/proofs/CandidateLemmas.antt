@@ -10,7 +10,7 @@ use Rattle.std.proofs.lemmas.List.Sums.{sum_by-append}
 use Rattle.std.proofs.lemmas.List.Sorted.{sum_by-IsPermutation, IsPermutation-map, Contains-permutation, IsPermutation-sym}
 use Rattle.std.proofs.lemmas.List.Elements.{Contains-append_cases, Contains-append_left, Contains-append_right}
 use Rattle.pf_base.specs.Walks.{end_of}
-use Rattle.pf_core.specs.Steps.{GoesAlong, IsTooDear}
+use Rattle.pf_core.specs.Steps.{GoesAlong, NumberedOverflows}
 use Rattle.pf_base.proofs.ListLemmas.{Contains-head, Contains-tail, Contains-cases}
 use Rattle.pf_yen.specs.declared.candidate.Candidate.{Candidate}
 use Rattle.pf_yen.specs.Internal.Adjacency.{AdjacencyLists, AdjacencyStep, is_goal}
@@ -143,8 +143,8 @@ module _ {C : Type 0} (value : C → ℤ) (g : FilteredLists C) (n : ℕ) (bare 
   filtered_all : (w : List ℕ) (a : ℕ) (u : ℤ) → GoesAlong (AdjacencyStep value g.adjacency) a w u → GoesAlong (FilteredStep value g) a w u
   filtered_all w a u h = open_walk value g w a u (λ x y m. all_allowed x y) h
 
-  pub too_dear_all : (fits : ℤ → Type 0) (m : ℕ) → IsTooDear (FilteredStep value g) (is_goal g.adjacency) (StandsForItself m 0) (StandsForItself m) fits → IsTooDear (AdjacencyStep value g.adjacency) (is_goal g.adjacency) (StandsForItself m 0) (StandsForItself m) fits
-  too_dear_all fits m d = let p = d.path in record {
+  pub all_overflows : (fits : ℤ → Type 0) (m : ℕ) → NumberedOverflows (FilteredStep value g) (is_goal g.adjacency) (StandsForItself m 0) (StandsForItself m) fits → NumberedOverflows (AdjacencyStep value g.adjacency) (is_goal g.adjacency) (StandsForItself m 0) (StandsForItself m) fits
+  all_overflows fits m d = let p = d.path in record {
     first = d.first;
     is_start = d.is_start;
     numbers = d.numbers;
@@ -157,7 +157,7 @@ module _ {C : Type 0} (value : C → ℤ) (g : FilteredLists C) (n : ℕ) (bare 
     next = d.next;
     price = d.price;
     edge = is_known value g (end_of d.first d.nodes) d.price d.next d.edge;
-    too_dear = λ z s. d.too_dear z (is_left value g (end_of d.first d.nodes) z d.next s (all_allowed (end_of d.first d.nodes) d.next));
+    all_past = λ z s. d.all_past z (is_left value g (end_of d.first d.nodes) z d.next s (all_allowed (end_of d.first d.nodes) d.next));
     none_cheaper = λ s h w u t e. d.none_cheaper s h w u (filtered_all w s u t) e;
   }
 

@@ -7,7 +7,7 @@ use borrow.Author.Tests.{eqb-true}
 use Rattle.std.proofs.lemmas.Int.{ints}
 use Rattle.std.proofs.lemmas.List.Elements.{All-nil, All-cons}
 use Rattle.pf_base.specs.Walks.{HasNode, NoRepeats, BeginsAt, EndsAt, end_of}
-use Rattle.pf_base.specs.Edges.{StepCosts, StepsCost, WalkCosts, InReach, IsPastRange}
+use Rattle.pf_base.specs.Edges.{StepCosts, StepsCost, WalkCosts, InReach, CostOverflows}
 use Rattle.pf_base.specs.Answers.{ListsEdges, SameNodes}
 use Rattle.pf_core.specs.Numbered.{ListsSteps}
 use Rattle.pf_core.specs.Steps.{GoesAlong, IsNonNegative}
@@ -20,8 +20,8 @@ use Rattle.pf_core.proofs.WalkLemmas.{cheapest_edge, goes_of_walk, walk_of_goes,
 use Rattle.pf_yen.specs.Internal.Adjacency.{AdjacencyLists, is_goal, row_of, AdjacencyStep}
 use Rattle.pf_yen.specs.Internal.Learned.{LiveStep, IsLearned}
 use Rattle.pf_yen.specs.Internal.Classes.{Plan, is_member, goes_on_to, IsCleanNumbers, is_in}
-use Rattle.pf_yen.specs.Internal.Splits.{IsPastAlong, IsPastInClass}
-use Rattle.pf_yen.specs.CleanPaths.{FailsBeforeEnd, GoesOnTo, LeavesGiven, IsCleanPath, IsPathPastRange, IsBranchPastRange}
+use Rattle.pf_yen.specs.Internal.Splits.{IsPastAlong, ClassOverflows}
+use Rattle.pf_yen.specs.CleanPaths.{FailsBeforeEnd, GoesOnTo, LeavesGiven, IsCleanPath, PathOverflows, BranchOverflows}
 use Rattle.pf_yen.proofs.FilteredLemmas.{in_none}
 use Rattle.pf_yen.proofs.FilteredWalks.{not_true}
 use Rattle.pf_yen.proofs.ClassLemmas.{both_true, and_left, and_right, same_is_true, any_goes_on, goes_on}
@@ -385,7 +385,7 @@ module _ {N : Type 0} (eq : N → N → Bool) (laws : IsEquivalence eq) (keys : 
               let n = l.sound d.next t.0 t.1 in
               let c = cheapest_edge eq laws edges last n.0 (value t.0) n.1.0.1 in
               let s = c.1 in
-              (n.0, c.0, s, d.too_dear c.0 (l.complete c.0 n.0 d.next ((n.1.0.0, s.edge), n.1.1) n.2), n.2)
+              (n.0, c.0, s, d.all_past c.0 (l.complete c.0 n.0 d.next ((n.1.0.0, s.edge), n.1.1) n.2), n.2)
 
           -- some step leads on from the end, so it is no goal
           past_fails : All (λ z. test z ≡ false) (start ∷ nodes.0)
@@ -398,7 +398,7 @@ module _ {N : Type 0} (eq : N → N → Bool) (laws : IsEquivalence eq) (keys : 
           past_distinct : NoRepeats eq (start ∷ nodes.0)
           past_distinct = distinct_nodes eq laws keys one (0 ∷ d.rest) (start ∷ nodes.0) (origin, nodes.1) d.distinct
 
-          pub path_past : IsPathPastRange eq edges start test fits
+          pub path_past : PathOverflows eq edges start test fits
           path_past = let s = past_step in record {
             first = start;
             rest = nodes.0;
@@ -416,7 +416,7 @@ module _ {N : Type 0} (eq : N → N → Bool) (laws : IsEquivalence eq) (keys : 
 
           -- before the first path it is a cheapest one, and no goal is cheaper
           pub first_past : IsNonNegative (IsStep eq (record { starts = start ∷ []; edges = edges })) → ((v : List ℕ) (u : ℤ) → GoesAlong (AdjacencyStep value k) 0 v u → end_of 0 v ≡ end_of 0 d.rest → d.cost ≤ℤ u)
-              → ((v : List ℕ) (u : ℤ) → GoesAlong (AdjacencyStep value k) 0 v u → is_goal k (end_of 0 v) ≡ true → d.cost ≤ℤ u) → IsPastRange eq edges (start ∷ []) test fits
+              → ((v : List ℕ) (u : ℤ) → GoesAlong (AdjacencyStep value k) 0 v u → is_goal k (end_of 0 v) ≡ true → d.cost ≤ℤ u) → CostOverflows eq edges (start ∷ []) test fits
           first_past p to_here to_goal = let s = past_step in record {
             node = last;
             path = start ∷ nodes.0;
@@ -464,7 +464,7 @@ module _ {N : Type 0} (eq : N → N → Bool) (laws : IsEquivalence eq) (keys : 
                   ]
 
         -- in a class that is split off that of the path that was given last
-        module _ (fits : ℤ → Type 0) (c : Plan C) (b : IsPastInClass value k fits c) (before : List (List ℕ)) (given : List (List N × C))
+        module _ (fits : ℤ → Type 0) (c : Plan C) (b : ClassOverflows value k fits c) (before : List (List ℕ)) (given : List (List N × C))
             (given_are : AllZip (λ (q : List ℕ) (g : List N × C). AllZip (StandsFor eq keys) q g.0 × IsCleanNumbers value k q (value g.1)) (before ++ c.path ∷ []) given)
             (none_there : (p : List ℕ) (u : ℤ) → Contains (before ++ c.path ∷ []) p → IsCleanNumbers value k p u → is_member b.prefix b.banned p ≡ false)
             (barred : (y : ℕ) → is_in b.banned y ≡ true → (p : List ℕ) × Contains (before ++ c.path ∷ []) p × (goes_on_to b.prefix y p ≡ true)) where
@@ -515,7 +515,7 @@ module _ {N : Type 0} (eq : N → N → Bool) (laws : IsEquivalence eq) (keys : 
                 | inr f ↦ b.none_cheaper n.0 u m (open_member b.prefix b.banned y.0 n.0 y.2 f)
               ]
 
-          pub branch_past : IsBranchPastRange eq edges start test value fits given
+          pub branch_past : BranchOverflows eq edges start test value fits given
           unfolding path_past
           branch_past =
               let l = zip_last Given before c.path given given_are in

@@ -8,14 +8,14 @@ use Rattle.std.proofs.lemmas.List.Folds.{list_any-append}
 use Rattle.std.proofs.lemmas.Option.{slice_get_within, slice_get-get_or}
 use Rattle.std.proofs.lemmas.List.Sums.{sum_by-append, sum_by-cons}
 use Rattle.pf_base.specs.Walks.{HasNode, NoRepeats, end_of}
-use Rattle.pf_core.specs.Steps.{GoesAlong, IsNonNegative, IsTooDear}
+use Rattle.pf_core.specs.Steps.{GoesAlong, IsNonNegative, NumberedOverflows}
 use Rattle.pf_base.proofs.ListLemmas.{bool_dec, or_cases, Contains-append_one, get_set}
 use Rattle.pf_core.proofs.FrontierLemmas.{walk_positive}
 use Rattle.pf_yen.specs.Internal.Adjacency.{AdjacencyLists, is_goal, AdjacencyStep}
 use Rattle.pf_yen.specs.Internal.WholeGraphs.{IsWhole}
 use Rattle.pf_yen.specs.Internal.Filtered.{FilteredLists, FilteredStep, StandsForItself}
 use Rattle.pf_yen.specs.Internal.Classes.{is_in, is_member, goes_on_to, one_if, Plan, in_class, is_path, IsCleanNumbers, IsCheapestOfClass}
-use Rattle.pf_yen.specs.Internal.Splits.{IsBarredBehind, IsSplit, LeadsOn, IsFilteredTo, IsCheapestAlong, HasNoneAlong, IsSplitUpTo, IsPastAlong, IsPastInClass}
+use Rattle.pf_yen.specs.Internal.Splits.{IsBarredBehind, IsSplit, LeadsOn, IsFilteredTo, IsCheapestAlong, HasNoneAlong, IsSplitUpTo, IsPastAlong, ClassOverflows}
 use Rattle.pf_yen.proofs.FilteredLemmas.{in_none}
 use Rattle.pf_yen.proofs.ClassLemmas.{same_is_true, any_goes_on, split_member, goes_on, member_of, prefix_is, one_if_one, at_most_one, stuck, behind, same_path}
 use Rattle.pf_yen.proofs.FilteredWalks.{not_true, numbers_are, not_twice, is_known, is_left, is_allowed, goes_listed, goes_again, class_walk, on_or_within}
@@ -105,7 +105,7 @@ module _ {C : Type 0} (k : AdjacencyLists C) where
       at (Some y) e = absurd (none y e)
 
 -- a sum that does not fit, met where some steps are left out
-past_along : {C : Type 0} (value : C → ℤ) (fits : ℤ → Type 0) (g : FilteredLists C) (n : ℕ) → IsTooDear (FilteredStep value g) (is_goal g.adjacency) (StandsForItself n 0) (StandsForItself n) fits
+past_along : {C : Type 0} (value : C → ℤ) (fits : ℤ → Type 0) (g : FilteredLists C) (n : ℕ) → NumberedOverflows (FilteredStep value g) (is_goal g.adjacency) (StandsForItself n 0) (StandsForItself n) fits
     → (p : IsPastAlong value g.adjacency fits) × (GoesAlong (FilteredStep value g) 0 p.rest p.cost × FilteredStep value g (end_of 0 p.rest) p.price p.next × ((v : List ℕ) (u : ℤ) → GoesAlong (FilteredStep value g) 0 v u → is_goal g.adjacency (end_of 0 v) ≡ true → p.cost ≤ℤ u))
 past_along value fits g n d =
     let p = d.path in
@@ -121,7 +121,7 @@ past_along value fits g n d =
         next = d.next;
         price = d.price;
         edge = is_known value g (end_of 0 d.nodes) d.price d.next edge;
-        too_dear = λ y s. d.too_dear y (subst (λ (a : ℕ). FilteredStep value g (end_of a d.nodes) y d.next) z (is_left value g (end_of 0 d.nodes) y d.next s (is_allowed value g (end_of 0 d.nodes) d.price d.next edge)));
+        all_past = λ y s. d.all_past y (subst (λ (a : ℕ). FilteredStep value g (end_of a d.nodes) y d.next) z (is_left value g (end_of 0 d.nodes) y d.next s (is_allowed value g (end_of 0 d.nodes) d.price d.next edge)));
       },
       (goes, edge, λ v u w t. d.none_cheaper 0 (refl, d.is_start.1) v u w t),
     )
@@ -147,7 +147,7 @@ module _ {C : Type 0} (value : C → ℤ) (k : AdjacencyLists C) (whole : IsWhol
         let step = from_zero.non_negative (end_of 0 d.rest) h.0 d.next h.2 in
         let on = walk_positive (AdjacencyStep value k) from_zero r d.next h.1 h.3 in
         let low = d.cheapest g.0 g.2 in
-        d.too_dear h.0 h.2 (between (pos 0) (d.cost +ℤ h.0) u none f (omega (arith, ints, here, step)) (omega (arith, ints, low, on, g.4, h.4)))
+        d.all_past h.0 h.2 (between (pos 0) (d.cost +ℤ h.0) u none f (omega (arith, ints, here, step)) (omega (arith, ints, low, on, g.4, h.4)))
       where
         tails : {v w : List ℕ} → 0 ∷ v ≡ 0 ∷ w → v ≡ w
         tails e = cc
@@ -330,7 +330,7 @@ module _ {C : Type 0} (value : C → ℤ) (k : AdjacencyLists C) (whole : IsWhol
 
       -- a sum that does not fit, where the way is left here
       pub past_here : (fits : ℤ → Type 0) → ((x y z : ℤ) → fits x → fits z → x ≤ℤ y → y ≤ℤ z → fits y) → fits (pos 0) → fits (value c.cost) → (onward : List (Option ℕ)) (spur : ℕ) → IsFilteredTo k onward spur (along i) → (n : ℕ) → 0 < n
-          → IsTooDear (FilteredStep value (record { adjacency = k; onward = onward; spur = spur; banned = banned ++ next ∷ [] })) (is_goal k) (StandsForItself n 0) (StandsForItself n) fits → IsPastInClass value k fits c
+          → NumberedOverflows (FilteredStep value (record { adjacency = k; onward = onward; spur = spur; banned = banned ++ next ∷ [] })) (is_goal k) (StandsForItself n 0) (StandsForItself n) fits → ClassOverflows value k fits c
       past_here fits between none itself onward spur filtered_lists n some d =
           let g : FilteredLists C = record { adjacency = k; onward = onward; spur = spur; banned = banned ++ next ∷ [] } in
           let p = past_along value fits g n d in
@@ -475,7 +475,7 @@ module _ {C : Type 0} (value : C → ℤ) (k : AdjacencyLists C) (whole : IsWhol
             itself = subst (λ (v : List ℕ). is_member c.path banned v ≡ true) (append_none c.path) (member_of c.path banned [] refl)
 
 -- a sum that does not fit in the whole graph, where no goal is cheaper than the end of the path, which is a cheapest one
-pub past_first : {C : Type 0} (value : C → ℤ) (fits : ℤ → Type 0) (k : AdjacencyLists C) (n : ℕ) → IsTooDear (AdjacencyStep value k) (is_goal k) (StandsForItself n 0) (StandsForItself n) fits
+pub past_first : {C : Type 0} (value : C → ℤ) (fits : ℤ → Type 0) (k : AdjacencyLists C) (n : ℕ) → NumberedOverflows (AdjacencyStep value k) (is_goal k) (StandsForItself n 0) (StandsForItself n) fits
     → (p : IsPastAlong value k fits) × (((v : List ℕ) (u : ℤ) → GoesAlong (AdjacencyStep value k) 0 v u → end_of 0 v ≡ end_of 0 p.rest → p.cost ≤ℤ u) × ((v : List ℕ) (u : ℤ) → GoesAlong (AdjacencyStep value k) 0 v u → is_goal k (end_of 0 v) ≡ true → p.cost ≤ℤ u))
 past_first value fits k n d =
     let p = d.path in
@@ -490,7 +490,7 @@ past_first value fits k n d =
         next = d.next;
         price = d.price;
         edge = subst (λ (a : ℕ). AdjacencyStep value k (end_of a d.nodes) d.price d.next) (sym z) d.edge;
-        too_dear = λ y s. d.too_dear y (subst (λ (a : ℕ). AdjacencyStep value k (end_of a d.nodes) y d.next) z s);
+        all_past = λ y s. d.all_past y (subst (λ (a : ℕ). AdjacencyStep value k (end_of a d.nodes) y d.next) z s);
       },
       (
         (λ v u g e. d.cheapest 0 (refl, d.is_start.1) v u g (subst (λ (m : ℕ). StandsForItself n d.number m) (sym e) at)),

@@ -18,12 +18,12 @@ use Rattle.pf_yen.specs.Internal.Adjacency.{AdjacencyLists, AdjacencyStep}
 use Rattle.pf_yen.specs.Internal.WholeGraphs.{IsWhole}
 use Rattle.pf_yen.specs.Internal.Learned.{IsLearned}
 use Rattle.pf_yen.specs.Internal.Classes.{Plan, is_member, goes_on_to, one_if, in_class, is_path, IsCleanNumbers, IsCheapestOfClass, IsPartition, is_in}
-use Rattle.pf_yen.specs.Internal.Splits.{IsPastInClass}
+use Rattle.pf_yen.specs.Internal.Splits.{ClassOverflows}
 use Rattle.pf_yen.specs.Counting.{most_paths}
 use Rattle.pf_yen.specs.Internal.Gathered.{same_nodes}
 use Rattle.pf_yen.specs.Internal.Candidates.{as_list, last_given, IsFirst, NoneBelow}
 use Rattle.pf_yen.specs.Internal.PlanChanges.{GoesOn}
-use Rattle.pf_yen.specs.CleanPaths.{IsCleanPath, WasGiven, AllGiven, IsNextPath, IsBranchPastRange}
+use Rattle.pf_yen.specs.CleanPaths.{IsCleanPath, WasGiven, AllGiven, IsNextPath, BranchOverflows}
 use Rattle.std.proofs.lemmas.List.Elements.{Contains-append_left, Contains-append_right}
 use Rattle.pf_yen.specs.Internal.PlannedSearch.{IsPlanned}
 use Rattle.pf_yen.proofs.FilteredLemmas.{in_none}
@@ -194,7 +194,7 @@ module _ {N C : Type 0} (eq : N → N → Bool) (laws : IsEquivalence eq) (value
         (f.0, f.1, same_of eq laws keys p f.0.0 path (subst (λ (v : List ℕ). AllZip (StandsFor eq keys) v f.0.0) (sym e) f.2.0) z)
 
     -- a sum that does not fit, in a class that is split off that of the path that was given last
-    pub branch : (fits : ℤ → Type 0) (given : List (List N × C)) (waiting : List (Plan C)) (c : Plan C) → IsPlanned eq value keys k given waiting (Some c) true → IsPastInClass value k fits c → IsBranchPastRange eq edges start test value fits given
+    pub branch : (fits : ℤ → Type 0) (given : List (List N × C)) (waiting : List (Plan C)) (c : Plan C) → IsPlanned eq value keys k given waiting (Some c) true → ClassOverflows value k fits c → BranchOverflows eq edges start test value fits given
     branch fits given waiting c p b = branch_past eq laws keys one edges start test alike begins value k learned all fits c b p.before given p.given_are none_there barred
       where
         part : IsPartition value k (c ∷ waiting) p.before

@@ -9,7 +9,7 @@ use Rattle.std.proofs.lemmas.Int.{ints}
 use Rattle.std.proofs.lemmas.List.{length-append}
 use Rattle.pf_base.specs.declared.error.PathError.{PathError}
 use Rattle.pf_core.specs.Numbered.{Grows}
-use Rattle.pf_core.specs.Steps.{GoesAlong, IsNonNegative, IsTooDear}
+use Rattle.pf_core.specs.Steps.{GoesAlong, IsNonNegative, NumberedOverflows}
 use Rattle.pf_base.specs.Answers.{ListsEdges}
 use Rattle.pf_base.specs.Edges.{InReach, IsWeightedSearch}
 use Rattle.pf_base.specs.NodeRefs.{HasSameNodes}
@@ -25,9 +25,9 @@ use Rattle.pf_yen.specs.Internal.Filtered.{StandsForItself}
 use Rattle.pf_yen.specs.Counting.{most_paths}
 use Rattle.pf_yen.specs.Internal.Learned.{IsLearned}
 use Rattle.pf_yen.specs.Internal.Classes.{Plan, IsCleanNumbers, IsPartition}
-use Rattle.pf_yen.specs.Internal.Splits.{IsPastInClass}
+use Rattle.pf_yen.specs.Internal.Splits.{ClassOverflows}
 use Rattle.pf_yen.specs.Internal.Candidates.{as_list, last_given, NoneBelow, IsFirst}
-use Rattle.pf_yen.specs.Internal.PlanChanges.{GoesOn, IsPastInChosen}
+use Rattle.pf_yen.specs.Internal.PlanChanges.{GoesOn, ChosenOverflows}
 use Rattle.pf_yen.specs.CleanPaths.{AllGiven, IsNextPath, RefusedFor}
 use Rattle.pf_yen.specs.Internal.PathPlans.{PathPlans, has_ended}
 use Rattle.pf_yen.specs.Internal.PlannedSearch.{IsPlanned, IsUnderWay}
@@ -70,7 +70,7 @@ first_alone stands found e s zero h = s
 first_alone stands found e s (suc a) h = absurd (omega (arith, e, h))
 
 -- the chosen plan, where its path was given
-chosen_given : {C : Type 0} (value : C → ℤ) (k : AdjacencyLists C) (fits : ℤ → Type 0) (was : Bool) (chosen : Option (Plan C)) → ¬ (last_given was chosen ≡ []) → IsPastInChosen value k fits chosen → (c : Plan C) × (was ≡ true) × (chosen ≡ Some c) × IsPastInClass value k fits c
+chosen_given : {C : Type 0} (value : C → ℤ) (k : AdjacencyLists C) (fits : ℤ → Type 0) (was : Bool) (chosen : Option (Plan C)) → ¬ (last_given was chosen ≡ []) → ChosenOverflows value k fits chosen → (c : Plan C) × (was ≡ true) × (chosen ≡ Some c) × ClassOverflows value k fits c
 chosen_given value k fits false chosen some d = absurd (some refl)
 chosen_given value k fits true None some d = absurd d
 chosen_given value k fits true (Some c) some d = (c, refl, refl, d)
@@ -256,7 +256,7 @@ module _ {N C F T : Type 0} {eq : N → N → Bool} {value : C → ℤ} {edges :
 
       -- why none was chosen
       pub refused_for : {U : Type 0} (r : Result U PathError)
-          → (r ≡ Err PathError.CostOverflow → MatchBool s.plans.has_begun (IsPastInChosen value s.plans.adjacency fits s.plans.chosen) (IsTooDear (AdjacencyStep value s.plans.adjacency) (is_goal s.plans.adjacency) (StandsForItself (length s.plans.adjacency.rows) 0) (StandsForItself (length s.plans.adjacency.rows)) fits))
+          → (r ≡ Err PathError.CostOverflow → MatchBool s.plans.has_begun (ChosenOverflows value s.plans.adjacency fits s.plans.chosen) (NumberedOverflows (AdjacencyStep value s.plans.adjacency) (is_goal s.plans.adjacency) (StandsForItself (length s.plans.adjacency.rows) 0) (StandsForItself (length s.plans.adjacency.rows)) fits))
           → OnErr r (s.plans.has_begun ≡ true → ¬ (last_given s.plans.is_given s.plans.chosen ≡ [])) → IfErr r (λ e. (e ≡ PathError.OutOfMemory) ⊎ (e ≡ PathError.CostOverflow)) → IfErr r (RefusedFor eq edges start test value fits s.given)
       refused_for (Ok x) past due why = tt
       refused_for (Err e) past due (inl m) = inl m

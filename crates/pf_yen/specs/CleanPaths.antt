@@ -2,7 +2,7 @@
 use Rattle.std.specs.Prelude.{◌≡◌, ◌⊎◌, ◌≤ℤ◌, ◌+ℤ◌, ◌<◌, ℤ, Bool, true, false, List, [], ◌∷◌, ◌++◌, length, All, Contains, ⊤}
 use Rattle.pf_base.specs.declared.error.PathError.{PathError}
 use Rattle.pf_base.specs.Walks.{IsGoalPath, NoRepeats, IsWalk, end_of}
-use Rattle.pf_base.specs.Edges.{IsSuccessor, StepCosts, WalkCosts, IsPastRange}
+use Rattle.pf_base.specs.Edges.{IsSuccessor, StepCosts, WalkCosts, CostOverflows}
 use Rattle.pf_base.specs.Answers.{SameNodes}
 
 -- each node of a and w but the last fails the test
@@ -33,7 +33,7 @@ module _ {N : Type 0} (eq : N → N → Bool) (edges : N → List (N × ℤ)) (s
     pub fails : PassesAtEndAlone test path
 
   -- A path from the start, in which no node stands twice and none passes the test, and one step more, by the cheapest of the parallel edges, cost more than fits.
-  pub record IsPathPastRange (fits : ℤ → Type 0) : Type 0 where
+  pub record PathOverflows (fits : ℤ → Type 0) : Type 0 where
     pub first : N
     pub rest : List N
     pub begins : eq start first ≡ true
@@ -65,7 +65,7 @@ module _ {N : Type 0} (eq : N → N → Bool) (edges : N → List (N × ℤ)) (s
       pub none_cheaper : (other : List N) (u : ℤ) → IsCleanPath other → WalkCosts eq edges other u → ¬ (WasGiven given other) → value cost ≤ℤ u
 
     -- A sum does not fit among the paths that branch off the path that was given last: those that begin with some of its first nodes, one at least, and go on to a node to which no given path goes on from them. A path and one step more, which together begin and go on so, cost more than fits, and no clean path among them costs less than that path without the step.
-    pub record IsBranchPastRange (fits : ℤ → Type 0) (given : List (List N × C)) : Type 0 where
+    pub record BranchOverflows (fits : ℤ → Type 0) (given : List (List N × C)) : Type 0 where
       pub prefix : List N
       pub some : 0 < length prefix
       pub before : List (List N × C)
@@ -73,10 +73,10 @@ module _ {N : Type 0} (eq : N → N → Bool) (edges : N → List (N × ℤ)) (s
       pub is_last : given ≡ before ++ last ∷ []
       pub onward : N
       pub goes_on : GoesOnTo eq prefix last.0 onward
-      pub over : IsPathPastRange fits
+      pub over : PathOverflows fits
       pub leaves : LeavesGiven eq given prefix ((over.first ∷ over.rest) ++ over.next ∷ [])
       pub none_cheaper : (path : List N) (u : ℤ) → IsCleanPath path → WalkCosts eq edges path u → LeavesGiven eq given prefix path → over.cost ≤ℤ u
 
     -- why a step may be refused: for want of memory, or since a path and one step more cost more than fits; before the first path, also a cheapest path to some node and one step more, where no node that passes is cheaper than that node; after it, also a path and one step more that branch off the path that was given last, where no clean path that branches off so is cheaper
     abbrev pub RefusedFor : (ℤ → Type 0) → List (List N × C) → PathError → Type 0
-    RefusedFor fits given refusal = (refusal ≡ PathError.OutOfMemory) ⊎ ((refusal ≡ PathError.CostOverflow) × IsPathPastRange fits × (given ≡ [] → IsPastRange eq edges (start ∷ []) test fits) × (¬ (given ≡ []) → IsBranchPastRange fits given))
+    RefusedFor fits given refusal = (refusal ≡ PathError.OutOfMemory) ⊎ ((refusal ≡ PathError.CostOverflow) × PathOverflows fits × (given ≡ [] → CostOverflows eq edges (start ∷ []) test fits) × (¬ (given ≡ []) → BranchOverflows fits given))

@@ -6,7 +6,7 @@ ghost use Rattle.pf_yen.specs.Internal.Adjacency.{AdjacencyLists};
 ghost use Rattle.pf_yen.specs.Internal.WholeGraphs.{IsWhole};
 ghost use Rattle.pf_yen.specs.Internal.Classes.{IsPartition};
 ghost use Rattle.pf_yen.specs.Internal.Candidates.{waiting_plans, chosen_plan, as_list};
-ghost use Rattle.pf_yen.specs.Internal.PlanChanges.{first_cmp, plans_left, just_given, ArePlansKept, ComesFirst, GoesOn, IsPastAtFirst, IsPastInChosen, IsPastInPlans};
+ghost use Rattle.pf_yen.specs.Internal.PlanChanges.{first_cmp, plans_left, just_given, ArePlansKept, ComesFirst, GoesOn, IsPastAtFirst, ChosenOverflows, PlansOverflow};
 
 use crate::adjacency::Adjacency;
 use crate::candidate::Candidate;
@@ -59,7 +59,7 @@ impl<C: Cost, A: Allocator + Copy> Candidates<C, A> {
         ensures is_given { OnOk result (self.new.is_given ≡ false) }
         ensures kept { OnErr result ((self.new.chosen ≡ self.old.chosen) × (heap_items self.new.waiting ≡ heap_items self.old.waiting) × (self.new.is_given ≡ self.old.is_given)) }
         ensures due { OnErr result (¬ (just_given self.old ≡ [])) }
-        ensures overflow { result ≡ Err PathError.CostOverflow → IsPastInChosen C.value adjacency.now C.fits (chosen_plan self.old.chosen) }
+        ensures overflow { result ≡ Err PathError.CostOverflow → ChosenOverflows C.value adjacency.now C.fits (chosen_plan self.old.chosen) }
         ensures errors { IfErr result (λ e. (e ≡ PathError.OutOfMemory) ⊎ (e ≡ PathError.CostOverflow)) }
     {
         if !self.is_given {
@@ -106,7 +106,7 @@ impl<C: Cost, A: Allocator + Copy> Candidates<C, A> {
         ensures begins { OnOk result (self.old.has_begun ≡ false → IsPartition C.value adjacency.now (plans_left self.new) [] × (waiting_plans (heap_items self.new.waiting) ≡ [])) }
         ensures kept { OnErr result (ArePlansKept self.old self.new) }
         ensures due { OnErr result (self.old.has_begun ≡ true → ¬ (just_given self.old ≡ [])) }
-        ensures overflow { result ≡ Err PathError.CostOverflow → IsPastInPlans C.value adjacency.now C.fits self.old }
+        ensures overflow { result ≡ Err PathError.CostOverflow → PlansOverflow C.value adjacency.now C.fits self.old }
         ensures errors { IfErr result (λ e. (e ≡ PathError.OutOfMemory) ⊎ (e ≡ PathError.CostOverflow)) }
     {
         if self.has_begun {

@@ -6,9 +6,9 @@
 
 ghost use Rattle.std.specs.Prelude.{◌≡◌, ◌⊎◌, ◌<◌, ◌+◌, ℕ, ℤ, List, [], length, take, drop, map, Err, OnOk, IfOk, IfErr, IfSome, MatchOption};
 ghost use Rattle.pf_yen.specs.Internal.WholeGraphs.{IsWhole};
-ghost use Rattle.pf_yen.specs.Internal.Filtered.{IsPastFromStart, graph_filtered_by};
+ghost use Rattle.pf_yen.specs.Internal.Filtered.{OverflowsFromStart, graph_filtered_by};
 ghost use Rattle.pf_yen.specs.Internal.Classes.{IsCleanNumbers, IsCheapestOfClass, plan_of};
-ghost use Rattle.pf_yen.specs.Internal.Splits.{IsFilteredTo, IsCheapestAlong, HasNoneAlong, IsSplit, IsPastInClass};
+ghost use Rattle.pf_yen.specs.Internal.Splits.{IsFilteredTo, IsCheapestAlong, HasNoneAlong, IsSplit, ClassOverflows};
 
 use crate::adjacency::Adjacency;
 use crate::candidate::Candidate;
@@ -37,7 +37,7 @@ pub fn least_of_class<C: Cost, A: Allocator + Copy>(
         → MatchOption answer (HasNoneAlong C.value filtered.old.adjacency.now q filtered.old.banned.items)
         (λ c. IsCheapestAlong C.value filtered.old.adjacency.now q filtered.old.banned.items c.path.items c.cost)) }
     ensures parts { IfOk result (λ answer. IfSome answer (λ c. (c.spur ≡ spur) × (c.banned.items ≡ filtered.old.banned.items))) }
-    ensures overflow { result ≡ Err PathError.CostOverflow → IsPastFromStart C.value (graph_filtered_by filtered.old) C.fits }
+    ensures overflow { result ≡ Err PathError.CostOverflow → OverflowsFromStart C.value (graph_filtered_by filtered.old) C.fits }
     ensures errors { IfErr result (λ e. (e ≡ PathError.OutOfMemory) ⊎ (e ≡ PathError.CostOverflow)) }
 {
     let mut tally = Tally::new();
@@ -89,7 +89,7 @@ pub fn split<C: Cost, A: Allocator + Copy>(
     requires some { 0 < length adjacency.now.rows }
     requires cheapest { IsCheapestOfClass C.value adjacency.now (plan_of candidate.now) }
     ensures split { IfOk result (λ plans. IsSplit C.value adjacency.now (plan_of candidate.now) (map plan_of plans.items)) }
-    ensures overflow { result ≡ Err PathError.CostOverflow → IsPastInClass C.value adjacency.now C.fits (plan_of candidate.now) }
+    ensures overflow { result ≡ Err PathError.CostOverflow → ClassOverflows C.value adjacency.now C.fits (plan_of candidate.now) }
     ensures errors { IfErr result (λ e. (e ≡ PathError.OutOfMemory) ⊎ (e ≡ PathError.CostOverflow)) }
 {
     candidate.cost.known();

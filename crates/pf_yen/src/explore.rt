@@ -15,12 +15,12 @@ fn explore_next<C: Cost, G: GoalGraph<C>, A: Allocator + Copy>(
     graph: &mut G,
     adjacency: &mut Adjacency<C, A>,
 ) -> Result<(), PathError>
-    requires inside { length adjacency.old.rows < G.found graph.old }
+    requires inside { length adjacency.old.rows < G.node_count graph.old }
     requires graph { (g : G.Graph) × G.explores graph.old g }
-    ensures grows { Grows (G.found graph.old) (G.found graph.new) (G.stands graph.old) (G.stands graph.new) }
+    ensures grows { Grows (G.node_count graph.old) (G.node_count graph.new) (G.stands graph.old) (G.stands graph.new) }
     ensures graph { (g : G.Graph) → G.explores graph.old g → G.explores graph.new g }
-    ensures learned { (g : G.Graph) → G.explores graph.old g → IsLearned C.value (G.step g) (G.passes g) (G.stands graph.old) (G.found graph.old) adjacency.old
-        → IsLearned C.value (G.step g) (G.passes g) (G.stands graph.new) (G.found graph.new) adjacency.new }
+    ensures learned { (g : G.Graph) → G.explores graph.old g → IsLearned C.value (G.step g) (G.passes g) (G.stands graph.old) (G.node_count graph.old) adjacency.old
+        → IsLearned C.value (G.step g) (G.passes g) (G.stands graph.new) (G.node_count graph.new) adjacency.new }
     ensures more { OnOk result (length adjacency.new.rows ≡ length adjacency.old.rows + 1) }
     ensures refused { IfErr result (λ e. e ≡ PathError.OutOfMemory) }
 {
@@ -41,15 +41,15 @@ pub fn explore<C: Cost, G: GoalGraph<C>, A: Allocator + Copy>(
     adjacency: &mut Adjacency<C, A>,
 ) -> Result<(), PathError>
     requires graph { (g : G.Graph) × G.explores graph.old g }
-    ensures grows { Grows (G.found graph.old) (G.found graph.new) (G.stands graph.old) (G.stands graph.new) }
+    ensures grows { Grows (G.node_count graph.old) (G.node_count graph.new) (G.stands graph.old) (G.stands graph.new) }
     ensures graph { (g : G.Graph) → G.explores graph.old g → G.explores graph.new g }
-    ensures learned { (g : G.Graph) → G.explores graph.old g → IsLearned C.value (G.step g) (G.passes g) (G.stands graph.old) (G.found graph.old) adjacency.old
-        → IsLearned C.value (G.step g) (G.passes g) (G.stands graph.new) (G.found graph.new) adjacency.new }
-    ensures all { OnOk result (G.found graph.new ≤ length adjacency.new.rows) }
+    ensures learned { (g : G.Graph) → G.explores graph.old g → IsLearned C.value (G.step g) (G.passes g) (G.stands graph.old) (G.node_count graph.old) adjacency.old
+        → IsLearned C.value (G.step g) (G.passes g) (G.stands graph.new) (G.node_count graph.new) adjacency.new }
+    ensures all { OnOk result (G.node_count graph.new ≤ length adjacency.new.rows) }
     ensures few { OnOk result (length adjacency.new.rows < 2 ^ 64) }
     ensures refused { IfErr result (λ e. e ≡ PathError.OutOfMemory) }
 {
-    'numbers: while adjacency.len() < graph.found() {
+    'numbers: while adjacency.len() < graph.node_count() {
         explore_next(alloc, graph, adjacency)?;
     }
     Ok(())

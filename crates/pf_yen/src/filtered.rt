@@ -91,7 +91,7 @@ impl<'k, C: Cost, A: Allocator> NumberedGraph<C> for FilteredGraph<'k, C, A> {
 
     ghost passes = { λ g. is_goal g.adjacency };
 
-    ghost found = { λ s. length s.adjacency.now.rows };
+    ghost node_count = { λ s. length s.adjacency.now.rows };
 
     ghost stands = { λ s. StandsForItself (length s.adjacency.now.rows) };
 
@@ -100,7 +100,7 @@ impl<'k, C: Cost, A: Allocator> NumberedGraph<C> for FilteredGraph<'k, C, A> {
 
     ghost can_forget = { λ s k. k ≡ length s.adjacency.now.rows };
 
-    fn found(&self) -> usize {
+    fn node_count(&self) -> usize {
         self.adjacency.len()
     }
 

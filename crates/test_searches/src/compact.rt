@@ -3,7 +3,7 @@
 
 ghost use Rattle.std.specs.Prelude.{◌≡◌, ◌⊎◌, ◌<◌, ◌≤◌, ◌+◌, ◌==◌, ◌∷◌, [], All, length, nat_eq, pos, slice_index, IsTrue, IfOk, IfErr};
 ghost use Rattle.std.specs.List.Sorted.{IsNonDecreasing};
-ghost use Rattle.pf_base.specs.Edges.{IsPastRange, IsCheapestOrNone};
+ghost use Rattle.pf_base.specs.Edges.{CostOverflows, IsCheapestOrNone};
 ghost use Rattle.pf_base.specs.Successors.{IsFewestEdgesOrNone};
 ghost use Rattle.test_searches.specs.Compact.{IsCompact, IsNode, edges_in, nodes_in, row_of};
 
@@ -59,7 +59,7 @@ pub fn cheapest_in_compact(
     requires in_range { All (λ e. IsNode offsets.now e.0) targets.now }
     ensures best { IfOk result (IsCheapestOrNone nat_eq (edges_in offsets.now targets.now) (from ∷ []) (λ n. n == to) (λ c. pos c)) }
     ensures overflow { result ≡ Err PathError.CostOverflow
-        → IsPastRange nat_eq (edges_in offsets.now targets.now) (from ∷ []) (λ n. n == to) ⟦<u32 as Number>⟧.fits }
+        → CostOverflows nat_eq (edges_in offsets.now targets.now) (from ∷ []) (λ n. n == to) ⟦<u32 as Number>⟧.fits }
     ensures errors { IfErr result (λ e. (e ≡ PathError.OutOfMemory) ⊎ (e ≡ PathError.CostOverflow)) }
 {
     dijkstra(

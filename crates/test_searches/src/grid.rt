@@ -1,7 +1,7 @@
 //! Callers over a board of heights, which stand row by row in one slice.
 
 ghost use Rattle.std.specs.Prelude.{◌≡◌, ◌⊎◌, ◌*◌, ◌==◌, ◌&&◌, ◌∷◌, [], length, pos, IfOk, IfErr};
-ghost use Rattle.pf_base.specs.Edges.{IsPastRange, IsCheapestOrNone};
+ghost use Rattle.pf_base.specs.Edges.{CostOverflows, IsCheapestOrNone};
 ghost use Rattle.pf_base.specs.Successors.{IsFewestEdgesOrNone};
 ghost use Rattle.test_searches.specs.Grid.{cells_from, entered, entered_cell, same_cell, steps_from};
 
@@ -61,7 +61,7 @@ pub fn cheapest_on_board(
     requires { length heights.now ≡ dimensions.0 * dimensions.1 }
     ensures best { IfOk result (IsCheapestOrNone same_cell (steps_from heights.now dimensions bound) (from ∷ []) (λ cell. same_cell cell to) (λ c. pos c)) }
     ensures overflow { result ≡ Err PathError.CostOverflow
-        → IsPastRange same_cell (steps_from heights.now dimensions bound) (from ∷ []) (λ cell. same_cell cell to) ⟦<u32 as Number>⟧.fits }
+        → CostOverflows same_cell (steps_from heights.now dimensions bound) (from ∷ []) (λ cell. same_cell cell to) ⟦<u32 as Number>⟧.fits }
     ensures errors { IfErr result (λ e. (e ≡ PathError.OutOfMemory) ⊎ (e ≡ PathError.CostOverflow)) }
 {
     let directions: [(isize, isize); 4] = [(0, 1), (1, 0), (0, -1), (-1, 0)];

@@ -3,7 +3,7 @@
 ghost use Rattle.std.specs.Prelude.{◌≡◌, ◌⊎◌, ◌≤ℤ◌, ◌∷◌, [], All, pos, IfOk, IfErr};
 ghost use Rattle.test_edge_lists.specs.Lists.{edges_from};
 ghost use Rattle.pf_base.specs.Answers.{IsLawfulClone};
-ghost use Rattle.pf_base.specs.Edges.{IsPastRange, IsCheapestOrNone};
+ghost use Rattle.pf_base.specs.Edges.{CostOverflows, IsCheapestOrNone};
 
 use pf_base::{Cost, PathError};
 use pf_search::directed::dijkstra::dijkstra;
@@ -27,7 +27,7 @@ where
     requires from_zero { All (λ e. pos 0 ≤ℤ C.value e.2) edges.now }
     ensures best { IfOk result (IsCheapestOrNone N.eq (edges_from N.eq edges.now C.value) (from ∷ []) (λ n. N.eq n to) C.value) }
     ensures overflow { result ≡ Err PathError.CostOverflow
-        → IsPastRange N.eq (edges_from N.eq edges.now C.value) (from ∷ []) (λ n. N.eq n to) C.fits }
+        → CostOverflows N.eq (edges_from N.eq edges.now C.value) (from ∷ []) (λ n. N.eq n to) C.fits }
     ensures errors { IfErr result (λ e. (e ≡ PathError.OutOfMemory) ⊎ (e ≡ PathError.CostOverflow)) }
 {
     dijkstra(alloc, &from, |n| edges_from(edges, *n), |n| *n == to)

@@ -1,7 +1,7 @@
 //! Callers over tables in which each node has a row.
 
 ghost use Rattle.std.specs.Prelude.{◌≡◌, ◌⊎◌, ◌<◌, ◌↔◌, ◌==◌, ◌∷◌, [], All, length, nat_eq, pos, IsTrue, IfOk, IfErr};
-ghost use Rattle.pf_base.specs.Edges.{IsPastRange, IsCheapestOrNone};
+ghost use Rattle.pf_base.specs.Edges.{CostOverflows, IsCheapestOrNone};
 ghost use Rattle.pf_base.specs.Successors.{IsFewestEdgesOrNone};
 ghost use Rattle.test_searches.specs.Rows.{edges_of, nodes_after};
 
@@ -37,7 +37,7 @@ pub fn cheapest_in_rows(
     requires in_range { All (λ row. All (λ e. e.0 < length rows.now) row.items) rows.now }
     ensures best { IfOk result (IsCheapestOrNone nat_eq (edges_of rows.now) (from ∷ []) (λ n. n == to) (λ c. pos c)) }
     ensures overflow { result ≡ Err PathError.CostOverflow
-        → IsPastRange nat_eq (edges_of rows.now) (from ∷ []) (λ n. n == to) ⟦<u32 as Number>⟧.fits }
+        → CostOverflows nat_eq (edges_of rows.now) (from ∷ []) (λ n. n == to) ⟦<u32 as Number>⟧.fits }
     ensures errors { IfErr result (λ e. (e ≡ PathError.OutOfMemory) ⊎ (e ≡ PathError.CostOverflow)) }
 {
     dijkstra(alloc, &from, |n| rows[*n].iter().copied(), |n| *n == to)

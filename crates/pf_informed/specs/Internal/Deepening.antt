@@ -114,7 +114,7 @@ module _ {N C : Type 0} (eq : N → N → Bool) (value : C → ℤ) (fits : ℤ 
   pub record IsOnWay (frame : Frame C) (below : List (Frame C)) (cut : Option C) (past : Bool) : Type 0 where
     pub trail : IsTrail eq value (IsCheapStep eq g) test (StandsFor eq keys) (IsCutOff value fits cut past) steps spans (frame ∷ below)
     pub begins : StandsFor eq keys 0 first
-    pub too_dear : past ≡ true → IsWayPast eq value fits g least first
+    pub all_past : past ≡ true → IsWayPast eq value fits g least first
 
 -- the numbers of the frames are marked and were found, and what was cut off is above the limit
 pub record IsMarkedWay {C : Type 0} (value : C → ℤ) (limit : C) (found : ℕ) (marks : List Bool) (frame : Frame C) (below : List (Frame C)) (cut : Option C) : Type 0 where

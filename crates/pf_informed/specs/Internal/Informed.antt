@@ -3,7 +3,7 @@ use Rattle.std.specs.Prelude.{◌≡◌, ◌≤ℤ◌, ◌+ℤ◌, ◌+◌, ◌-
 use Rattle.pf_core.specs.declared.labels.Label.{Label}
 use Rattle.pf_core.specs.Labels.{Labels, HasLabel, Widened}
 use Rattle.pf_informed.specs.Internal.Forest.{total_room}
-use Rattle.pf_informed.specs.Internal.Waiting.{Entry, IsWaiting, Covers, Eased}
+use Rattle.pf_informed.specs.Internal.Waiting.{Entry, IsWaiting, Covers, Relaxed}
 
 -- how much lower all labels can get, those of 2^64 numbers, and how many entries are left
 abbrev pub work_left : {C : Type 0} → (C → ℤ) → ℕ → Labels C → ℕ → ℕ
@@ -14,7 +14,7 @@ module _ {C : Type 0} (value : C → ℤ) (fits : ℤ → Type 0) (estimates : L
   pub record Follows (number : ℕ) (l : Label C) (row : List (ℕ × C)) (labels labels' : Labels C) (entries entries' : List (Entry C)) : Type 0 where
     pub wider : Labels C
     pub wide : Widened (length estimates) labels wider
-    pub eased : Eased value fits estimates number (value l.cost) row wider labels' entries entries'
+    pub relaxed : Relaxed value fits estimates number (value l.cost) row wider labels' entries entries'
 
   module _ {X : Type 0} (step : X → ℤ → X → Type 0) (passes : X → Bool) (stands : ℕ → X → Type 0) (labels : Labels C) (entries : List (Entry C)) where
     -- the node fails the test, and each step from it leads to a number with a label that is at most one step more, or is too dear

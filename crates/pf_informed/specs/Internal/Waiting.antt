@@ -53,15 +53,15 @@ module _ {C : Type 0} (value : C → ℤ) where
 
   module _ (fits : ℤ → Type 0) (estimates : List C) where
     -- this cost does not fit, alone or with the number's estimate
-    abbrev pub IsTooDear : ℕ → ℤ → Type 0
-    IsTooDear j t = ¬ (fits t) ⊎ ((h : C) × (slice_get estimates j ≡ Some h) × ¬ (fits (t +ℤ value h)))
+    abbrev pub SumOverflows : ℕ → ℤ → Type 0
+    SumOverflows j t = ¬ (fits t) ⊎ ((h : C) × (slice_get estimates j ≡ Some h) × ¬ (fits (t +ℤ value h)))
 
     -- the number has a label of at most this cost, or this cost is too dear
     abbrev pub Covers : Labels C → ℕ → ℤ → Type 0
-    Covers labels j t = ((m : Label C) × HasLabel labels j m × (value m.cost ≤ℤ t)) ⊎ IsTooDear j t
+    Covers labels j t = ((m : Label C) × HasLabel labels j m × (value m.cost ≤ℤ t)) ⊎ SumOverflows j t
 
     -- The labels and entries after some steps from the number `parent`, whose label costs t.
-    pub record Eased (parent : ℕ) (t : ℤ) (row : List (ℕ × C)) (labels labels' : Labels C) (entries entries' : List (Entry C)) : Type 0 where
+    pub record Relaxed (parent : ℕ) (t : ℤ) (row : List (ℕ × C)) (labels labels' : Labels C) (entries entries' : List (Entry C)) : Type 0 where
       pub len : length labels' ≡ length labels
       pub lower : (k : ℕ) (l : Label C) → HasLabel labels k l → (m : Label C) × HasLabel labels' k m × (value m.cost ≤ℤ value l.cost)
       pub from : (k : ℕ) (m : Label C) → HasLabel labels' k m → HasLabel labels k m ⊎ ((c : C) × Contains row (k, c) × (m.parent ≡ parent) × (value m.cost ≡ t +ℤ value c) × IsWaiting entries' k m)

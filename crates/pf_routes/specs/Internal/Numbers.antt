@@ -1,9 +1,9 @@
 -- The graph of numbered nodes that links stand for.
 use Rattle.std.specs.Prelude.{ℕ, ℤ, pos, nat_eq, List, [], ◌∷◌, map, ◌==◌}
 use Rattle.pf_base.specs.Walks.{HasNoGoalWalk}
-use Rattle.pf_base.specs.Edges.{IsSuccessor, IsCheapestGoalPath, IsPastRange}
+use Rattle.pf_base.specs.Edges.{IsSuccessor, IsCheapestGoalPath, CostOverflows}
 use Rattle.pf_base.specs.Successors.{IsFewestEdgesGoalPath}
-use Rattle.pf_yen.specs.CleanPaths.{IsPathPastRange}
+use Rattle.pf_yen.specs.CleanPaths.{PathOverflows}
 use Rattle.pf_yen.specs.KCheapest.{IsKCheapest}
 use Rattle.std.specs.Int.{FitsUnsignedBits}
 use Rattle.pf_routes.specs.Internal.Graph.{row_of}
@@ -27,7 +27,7 @@ module _ {A : Type 0} (graph : Graph A) (from to : ℕ) where
   IsCheapestNumberedPath path cost = IsCheapestGoalPath nat_eq numbered_edges (from ∷ []) (λ n. n == to) path (pos cost)
 
   abbrev pub HasNumberedOverflow : Type 0
-  HasNumberedOverflow = IsPastRange nat_eq numbered_edges (from ∷ []) (λ n. n == to) (FitsUnsignedBits 64)
+  HasNumberedOverflow = CostOverflows nat_eq numbered_edges (from ∷ []) (λ n. n == to) (FitsUnsignedBits 64)
 
   abbrev pub IsFewestEdgesNumberedPath : List ℕ → Type 0
   IsFewestEdgesNumberedPath path = IsFewestEdgesGoalPath nat_eq numbered_successors (from ∷ []) (λ n. n == to) path
@@ -36,4 +36,4 @@ module _ {A : Type 0} (graph : Graph A) (from to : ℕ) where
   AreCheapestNumberedPaths count paths = IsKCheapest nat_eq numbered_edges from (λ n. n == to) (λ cost. pos cost) count paths
 
   abbrev pub HasNumberedPathOverflow : Type 0
-  HasNumberedPathOverflow = IsPathPastRange nat_eq numbered_edges from (λ n. n == to) (FitsUnsignedBits 64)
+  HasNumberedPathOverflow = PathOverflows nat_eq numbered_edges from (λ n. n == to) (FitsUnsignedBits 64)

@@ -2,7 +2,7 @@
 
 ghost use Rattle.std.specs.Prelude.{◌≡◌, ◌⊎◌, ◌≤◌, ◌-◌, List, [], ◌∷◌, Bool, ℤ, Err, IfOk, IfErr, length};
 ghost use Rattle.pf_base.specs.Walks.{IsAtMostNumberOf};
-ghost use Rattle.pf_base.specs.Edges.{InReach, HasNoNegativeCost, AnswersWeightedSearch, OfWeightedSearch, IsCheapestOrNone, IsPastRange};
+ghost use Rattle.pf_base.specs.Edges.{InReach, HasNoNegativeCost, AnswersWeightedSearch, OfWeightedSearch, IsCheapestOrNone, CostOverflows};
 ghost use Rattle.pf_base.specs.Answers.{IsLawfulClone};
 ghost use Rattle.pf_search.specs.Internal.Begun.{HasBegun, OfBegun};
 
@@ -44,7 +44,7 @@ where
         → IfOk result (IsCheapestOrNone N.eq edges (start ∷ []) test C.value)) }
 
     ensures overflow { OfBegun N.eq S.answers T.answers graph.old (λ edges start test. HasNoNegativeCost N.eq edges (start ∷ [])
-        → result ≡ Err PathError.CostOverflow → IsPastRange N.eq edges (start ∷ []) test C.fits) }
+        → result ≡ Err PathError.CostOverflow → CostOverflows N.eq edges (start ∷ []) test C.fits) }
 
     ensures asked { OfBegun N.eq S.answers T.answers graph.old (λ edges start test.
         IsAtMostNumberOf N.eq (InReach N.eq edges (start ∷ [])) (tally.new - tally.old)) }
@@ -101,7 +101,7 @@ where
         IfOk result (IsCheapestOrNone N.eq edges (start.now ∷ []) test C.value)) }
 
     ensures overflow { OfWeightedSearch N.eq (start.now ∷ []) (⟦<FN as EdgeFunction<N, C>>⟧.answers successors) (⟦<FS as NodeTest<N>>⟧.answers success) (λ edges test.
-        result ≡ Err PathError.CostOverflow → IsPastRange N.eq edges (start.now ∷ []) test C.fits) }
+        result ≡ Err PathError.CostOverflow → CostOverflows N.eq edges (start.now ∷ []) test C.fits) }
 
     ensures errors { IfErr result (λ e. (e ≡ PathError.OutOfMemory) ⊎ (e ≡ PathError.CostOverflow)) }
 {
@@ -136,7 +136,7 @@ where
         IfOk result (IsCheapestOrNone N.eq edges (start.now ∷ []) test C.value)) }
 
     ensures overflow { OfWeightedSearch N.eq (start.now ∷ []) (⟦<FN as EdgeFunction<N, C>>⟧.answers successors) (⟦<FS as NodeTest<N>>⟧.answers success) (λ edges test.
-        result ≡ Err PathError.CostOverflow → IsPastRange N.eq edges (start.now ∷ []) test C.fits) }
+        result ≡ Err PathError.CostOverflow → CostOverflows N.eq edges (start.now ∷ []) test C.fits) }
 
     ensures asked { (edges : N → List (N × ℤ)) (test : N → Bool)
         → ⟦<FN as EdgeFunction<N, C>>⟧.answers successors (InReach N.eq edges (start.now ∷ [])) edges

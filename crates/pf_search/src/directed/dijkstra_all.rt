@@ -3,12 +3,12 @@
 ghost use Rattle.std.specs.Prelude.{◌≡◌, ◌⊎◌, ◌<◌, [], ◌∷◌, List, ℕ, ℤ, Bool, Err, true, false, nat_eq, length, IfOk, IfErr, IfSome};
 ghost use Rattle.std.specs.HashMap.{get};
 ghost use Rattle.pf_base.specs.Answers.{IsLawfulClone};
-ghost use Rattle.pf_base.specs.Edges.{HasNoNegativeCost, AnswersWeightedGraph, OfWeightedGraph, AnswersWeightedSearch, OfWeightedSearch, IsPastRange};
+ghost use Rattle.pf_base.specs.Edges.{HasNoNegativeCost, AnswersWeightedGraph, OfWeightedGraph, AnswersWeightedSearch, OfWeightedSearch, CostOverflows};
 ghost use Rattle.pf_core.specs.declared.labels.Label.{Label};
 ghost use Rattle.pf_core.specs.Labels.{HasLabel, by_cost, IsTree};
 ghost use Rattle.pf_core.specs.Numbered.{Grows};
 ghost use Rattle.pf_core.specs.Search.{IsSearch};
-ghost use Rattle.pf_core.specs.Steps.{IsNonNegative, IsTooDear};
+ghost use Rattle.pf_core.specs.Steps.{IsNonNegative, NumberedOverflows};
 ghost use Rattle.pf_search.specs.Parents.{IsCheapestMap, IsPartialMap};
 ghost use Rattle.pf_search.specs.Internal.Begun.{IsBegun, OfBegun};
 ghost use Rattle.pf_search.specs.Internal.Partial.{IsEnded, MapsLabels};
@@ -36,12 +36,12 @@ where
     C: Cost,
     G: GoalGraph<C>,
     A: Allocator + Copy,
-    requires inside { start < G.found graph.old }
+    requires inside { start < G.node_count graph.old }
     requires begins { (s : G.Node) × G.stands graph.old start s }
     requires graph { (g : G.Graph) × G.explores graph.old g × IsNonNegative (G.step g) }
     ensures graph { (g : G.Graph) → G.explores graph.old g → G.explores graph.new g }
-    ensures grows { Grows (G.found graph.old) (G.found graph.new) (G.stands graph.old) (G.stands graph.new) }
-    ensures wide { IfOk result (λ r. length r.0.items ≡ G.found graph.new) }
+    ensures grows { Grows (G.node_count graph.old) (G.node_count graph.new) (G.stands graph.old) (G.stands graph.new) }
+    ensures wide { IfOk result (λ r. length r.0.items ≡ G.node_count graph.new) }
     ensures tree { IfOk result (λ r. IsTree r.0.items) }
     ensures ended { IfOk result (λ r. IsEnded C.value r.0.items start r.1) }
     ensures search { (g : G.Graph) → G.explores graph.old g → IsNonNegative (G.step g)
@@ -51,10 +51,10 @@ where
     ensures goal { (g : G.Graph) → G.explores graph.old g
         → IfOk result (λ r. IfSome r.1 (λ k. (x : G.Node) → G.stands graph.new k x → G.passes g x ≡ true)) }
     ensures overflow { (g : G.Graph) → G.explores graph.old g → IsNonNegative (G.step g)
-        → result ≡ Err PathError.CostOverflow → IsTooDear (G.step g) (G.passes g) (G.stands graph.old start) (G.stands graph.new) C.fits }
+        → result ≡ Err PathError.CostOverflow → NumberedOverflows (G.step g) (G.passes g) (G.stands graph.old start) (G.stands graph.new) C.fits }
     ensures errors { IfErr result (λ e. (e ≡ PathError.OutOfMemory) ⊎ (e ≡ PathError.CostOverflow)) }
 {
-    let mut search = Search::begin(alloc, graph.found(), start)?;
+    let mut search = Search::begin(alloc, graph.node_count(), start)?;
     'turns: while let Some(number) = search.least() {
         if graph.is_goal(number) {
             return Ok((search.labels, Some(number)));
@@ -108,7 +108,7 @@ where
         → IfOk result (λ found. IsPartialMap N.eq edges start C.value (get N.eq found.0) test found.1)) }
 
     ensures overflow { OfBegun N.eq S.answers T.answers graph.old (λ edges start test. HasNoNegativeCost N.eq edges (start ∷ [])
-        → result ≡ Err PathError.CostOverflow → IsPastRange N.eq edges (start ∷ []) test C.fits) }
+        → result ≡ Err PathError.CostOverflow → CostOverflows N.eq edges (start ∷ []) test C.fits) }
 
     ensures errors { IfErr result (λ e. (e ≡ PathError.OutOfMemory) ⊎ (e ≡ PathError.CostOverflow)) }
 {
@@ -160,7 +160,7 @@ where
         IfOk result (λ parents. IsCheapestMap N.eq edges start.now C.value (get N.eq parents))) }
 
     ensures overflow { OfWeightedGraph N.eq (start.now ∷ []) (⟦<FN as EdgeFunction<N, C>>⟧.answers successors) (λ edges.
-        result ≡ Err PathError.CostOverflow → IsPastRange N.eq edges (start.now ∷ []) (λ _. false) C.fits) }
+        result ≡ Err PathError.CostOverflow → CostOverflows N.eq edges (start.now ∷ []) (λ _. false) C.fits) }
 
     ensures errors { IfErr result (λ e. (e ≡ PathError.OutOfMemory) ⊎ (e ≡ PathError.CostOverflow)) }
 {
@@ -211,7 +211,7 @@ where
         IfOk result (λ found. IsPartialMap N.eq edges start.now C.value (get N.eq found.0) test found.1)) }
 
     ensures overflow { OfWeightedSearch N.eq (start.now ∷ []) (⟦<FN as EdgeFunction<N, C>>⟧.answers successors) (⟦<FS as NodeTest<N>>⟧.answers stop) (λ edges test.
-        result ≡ Err PathError.CostOverflow → IsPastRange N.eq edges (start.now ∷ []) test C.fits) }
+        result ≡ Err PathError.CostOverflow → CostOverflows N.eq edges (start.now ∷ []) test C.fits) }
 
     ensures errors { IfErr result (λ e. (e ≡ PathError.OutOfMemory) ⊎ (e ≡ PathError.CostOverflow)) }
 {

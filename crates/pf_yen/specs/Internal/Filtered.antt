@@ -1,6 +1,6 @@
 -- A known graph of which some steps are left out.
 use Rattle.std.specs.Prelude.{◌≡◌, ℕ, ℤ, ◌<◌, Bool, not, ◌&&◌, List, Option, Some, None, length, Contains, filter, slice_get, nat_eq}
-use Rattle.pf_core.specs.Steps.{IsTooDear}
+use Rattle.pf_core.specs.Steps.{NumberedOverflows}
 use Rattle.pf_yen.specs.declared.filtered.FilteredGraph.{FilteredGraph}
 use Rattle.pf_yen.specs.Internal.Classes.{is_in}
 use Rattle.pf_yen.specs.Internal.Adjacency.{AdjacencyLists, is_goal, row_of}
@@ -43,5 +43,5 @@ abbrev pub StandsForItself : ℕ → ℕ → ℕ → Type 0
 StandsForItself n k x = (k ≡ x) × (k < n)
 
 -- a sum that does not fit was met in what is left of the graph: a cheapest path from number 0 to some number, and one step more
-abbrev pub IsPastFromStart : {C : Type 0} → (C → ℤ) → FilteredLists C → (ℤ → Type 0) → Type 0
-IsPastFromStart value g fits = IsTooDear (FilteredStep value g) (is_goal g.adjacency) (StandsForItself (length g.adjacency.rows) 0) (StandsForItself (length g.adjacency.rows)) fits
+abbrev pub OverflowsFromStart : {C : Type 0} → (C → ℤ) → FilteredLists C → (ℤ → Type 0) → Type 0
+OverflowsFromStart value g fits = NumberedOverflows (FilteredStep value g) (is_goal g.adjacency) (StandsForItself (length g.adjacency.rows) 0) (StandsForItself (length g.adjacency.rows)) fits

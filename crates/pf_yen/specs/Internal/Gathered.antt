@@ -1,9 +1,9 @@
 -- The k cheapest clean paths while they are gathered, in any order.
 use Rattle.std.specs.Prelude.{◌≡◌, ◌⊎◌, ◌≤ℤ◌, ◌<◌, ◌≤◌, ◌&&◌, ℕ, ℤ, Bool, true, false, List, [], ◌∷◌, length, sum_by, Contains}
 use Rattle.pf_base.specs.declared.error.PathError.{PathError}
-use Rattle.pf_base.specs.Edges.{WalkCosts, IsPastRange}
+use Rattle.pf_base.specs.Edges.{WalkCosts, CostOverflows}
 use Rattle.pf_yen.specs.Internal.Classes.{one_if}
-use Rattle.pf_yen.specs.CleanPaths.{IsCleanPath, IsPathPastRange, WasGiven, AllGiven}
+use Rattle.pf_yen.specs.CleanPaths.{IsCleanPath, PathOverflows, WasGiven, AllGiven}
 
 -- whether these are the same nodes, place by place
 abbrev pub same_nodes : {N : Type 0} → (N → N → Bool) → List N → List N → Bool
@@ -32,4 +32,4 @@ module _ {N C : Type 0} (eq : N → N → Bool) (edges : N → List (N × ℤ)) 
 
 -- why k paths may not be gathered: for want of memory, or since a path and one step more cost more than fits, where some path is to be gathered; where it is one, also a cheapest path to some node and one step more
 abbrev pub MayRefuse : {N : Type 0} → (N → N → Bool) → (N → List (N × ℤ)) → N → (N → Bool) → (ℤ → Type 0) → ℕ → PathError → Type 0
-MayRefuse eq edges start test fits k refusal = (refusal ≡ PathError.OutOfMemory) ⊎ ((refusal ≡ PathError.CostOverflow) × (1 ≤ k) × IsPathPastRange eq edges start test fits × (k ≡ 1 → IsPastRange eq edges (start ∷ []) test fits))
+MayRefuse eq edges start test fits k refusal = (refusal ≡ PathError.OutOfMemory) ⊎ ((refusal ≡ PathError.CostOverflow) × (1 ≤ k) × PathOverflows eq edges start test fits × (k ≡ 1 → CostOverflows eq edges (start ∷ []) test fits))

@@ -2,14 +2,14 @@
 use Rattle.std.specs.Prelude.{◌≡◌, ◌++◌, ℕ, ℤ, Bool, List, length, Option, Some, None, MatchBool}
 use Rattle.std.specs.BinaryHeap.{heap_items}
 use Rattle.std.specs.declared.cmp.Ordering.{Ordering}
-use Rattle.pf_core.specs.Steps.{IsTooDear}
+use Rattle.pf_core.specs.Steps.{NumberedOverflows}
 use Rattle.pf_yen.specs.declared.candidate.Candidate.{Candidate}
 use Rattle.pf_yen.specs.declared.candidates.Candidates.{Candidates}
 use Rattle.pf_yen.specs.Internal.Adjacency.{AdjacencyLists, AdjacencyStep, is_goal}
 use Rattle.pf_yen.specs.Internal.Classes.{Plan, IsPartition}
 use Rattle.pf_yen.specs.Internal.Candidates.{waiting_plans, chosen_plan, as_list, last_given, NoneBelow, IsFirst}
 use Rattle.pf_yen.specs.Internal.Filtered.{StandsForItself}
-use Rattle.pf_yen.specs.Internal.Splits.{IsPastInClass}
+use Rattle.pf_yen.specs.Internal.Splits.{ClassOverflows}
 
 module _ {C A : Type 0} where
   -- the cheapest candidate first
@@ -35,16 +35,16 @@ module _ {C : Type 0} (value : C → ℤ) where
 
   -- a sum that does not fit was met on the way to a first path: a cheapest path from number 0 to some number, and one step more
   abbrev pub IsPastAtFirst : AdjacencyLists C → (ℤ → Type 0) → Type 0
-  IsPastAtFirst adjacency fits = IsTooDear (AdjacencyStep value adjacency) (is_goal adjacency) (StandsForItself (length adjacency.rows) 0) (StandsForItself (length adjacency.rows)) fits
+  IsPastAtFirst adjacency fits = NumberedOverflows (AdjacencyStep value adjacency) (is_goal adjacency) (StandsForItself (length adjacency.rows) 0) (StandsForItself (length adjacency.rows)) fits
 
   -- a sum that does not fit was met in a class that is split off that of the chosen plan
-  abbrev pub IsPastInChosen : AdjacencyLists C → (ℤ → Type 0) → Option (Plan C) → Type 0
-  IsPastInChosen adjacency fits None = ⊥
-  IsPastInChosen adjacency fits (Some c) = IsPastInClass value adjacency fits c
+  abbrev pub ChosenOverflows : AdjacencyLists C → (ℤ → Type 0) → Option (Plan C) → Type 0
+  ChosenOverflows adjacency fits None = ⊥
+  ChosenOverflows adjacency fits (Some c) = ClassOverflows value adjacency fits c
 
   -- a sum that does not fit was met while a plan was looked for: a first one, or one in place of the chosen plan
-  abbrev pub IsPastInPlans : {A : Type 0} → AdjacencyLists C → (ℤ → Type 0) → Candidates C A → Type 0
-  IsPastInPlans adjacency fits plans = MatchBool plans.has_begun (IsPastInChosen adjacency fits (chosen_plan plans.chosen)) (IsPastAtFirst adjacency fits)
+  abbrev pub PlansOverflow : {A : Type 0} → AdjacencyLists C → (ℤ → Type 0) → Candidates C A → Type 0
+  PlansOverflow adjacency fits plans = MatchBool plans.has_begun (ChosenOverflows adjacency fits (chosen_plan plans.chosen)) (IsPastAtFirst adjacency fits)
 
   -- What a change of the plans keeps: they share out the clean paths with those before, and none is cheaper than before.
   pub record GoesOn (adjacency : AdjacencyLists C) (plans plans' : List (Plan C)) (more : List (List ℕ)) : Type 0 where

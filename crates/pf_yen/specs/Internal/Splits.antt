@@ -57,10 +57,10 @@ pub record IsPastAlong {C : Type 0} (value : C → ℤ) (k : AdjacencyLists C) (
   pub next : ℕ
   pub price : ℤ
   pub edge : AdjacencyStep value k (end_of 0 rest) price next
-  pub too_dear : (z : ℤ) → AdjacencyStep value k (end_of 0 rest) z next → ¬ (fits (cost +ℤ z))
+  pub all_past : (z : ℤ) → AdjacencyStep value k (end_of 0 rest) z next → ¬ (fits (cost +ℤ z))
 
 -- A sum that does not fit was met in a class that is split off that of a plan: in the class of a prefix, from which the path of the plan goes on, and of these banned numbers. No clean path of that class costs less than the path without its last step; each is in the class of the plan, and none is the path of the plan.
-pub record IsPastInClass {C : Type 0} (value : C → ℤ) (k : AdjacencyLists C) (fits : ℤ → Type 0) (c : Plan C) : Type 0 where
+pub record ClassOverflows {C : Type 0} (value : C → ℤ) (k : AdjacencyLists C) (fits : ℤ → Type 0) (c : Plan C) : Type 0 where
   pub prefix : List ℕ
   pub banned : List ℕ
   pub some : 0 < length prefix

@@ -25,11 +25,11 @@ returns-in_err-fill g c = record {
 
 pub nodes-init : goal.nodes-init
 nodes-init g c =
-    let e = started c.new-labels.result.items c.fill.new.labels.items c.found.result _ c.first.result c.new-labels.ensures.items c.in_ok-fill.ensures.filled c.first.ensures c.found.ensures in
-    let len : length c.fill.new.labels.items ≡ g.G.NumberedGraph.found c.args.graph.now = ap length e ∙ length-replicate _ (Some (reached_from 0 0)) in
+    let e = started c.new-labels.result.items c.fill.new.labels.items c.node_count.result _ c.first.result c.new-labels.ensures.items c.in_ok-fill.ensures.filled c.first.ensures c.node_count.ensures in
+    let len : length c.fill.new.labels.items ≡ g.G.NumberedGraph.node_count c.args.graph.now = ap length e ∙ length-replicate _ (Some (reached_from 0 0)) in
     record {
       len = len;
-      few = omega (arith, len, c.found.ensures, c.in_ok-fill.ensures.few);
+      few = omega (arith, len, c.node_count.ensures, c.in_ok-fill.ensures.few);
       breadth = breadth_start _ c.fill.new.labels.items e len;
       tree = hop_tree_start _ c.fill.new.labels.items e len;
       grown = record { more = omega arith; stays = λ k x h. h; back = λ k x i h. h };
@@ -70,7 +70,7 @@ returns-then-is_goal g c = record {
       let numbers = c.in_ok-numbers.numbers.items in (
         pos l.0.depth,
         best_grows step passes _ _ (roots_below _ _ _ _ v.grown) _ _ _ _ c.is_goal.ensures.grows numbers (pos l.0.depth)
-            (best by_depth step (below (g.G.NumberedGraph.found c.args.graph.now)) (hop_positive step p) _ c.nodes.labels.items (v.search h x p) v.tree c.nodes.node l.0 (hop_least c.nodes.node c.nodes.labels.items v.breadth l.0 l.1) passes (v.failed h x) numbers
+            (best by_depth step (below (g.G.NumberedGraph.node_count c.args.graph.now)) (hop_positive step p) _ c.nodes.labels.items (v.search h x p) v.tree c.nodes.node l.0 (hop_least c.nodes.node c.nodes.labels.items v.breadth l.0 l.1) passes (v.failed h x) numbers
             (rw c.deref.ensures.value at c.in_ok-numbers.ensures.chain) (λ y k. sym (t y k) ∙ c.if-is_goal.true)),
       );
   errors = tt;
@@ -99,8 +99,8 @@ behind-requires g c = omega (arith, c.nodes-test.true, c.len.ensures, c.nodes.in
 pub fill-requires-in-nodes : goal.fill-requires-in-nodes
 fill-requires-in-nodes g c =
     let v = c.nodes.invariant in
-    settled_fit c.nodes.node c.nodes.labels.items c.settle-depth.new.labels.items c.settle-depth.result c.found-in-nodes.result (g.G.NumberedGraph.found c.is_goal.new.self) (g.G.NumberedGraph.found c.expand.new.self)
-    v.breadth (omega (arith, c.nodes-test.true, c.len.ensures)) (v.len ∙ sym c.is_goal.ensures.same) c.settle-depth.ensures c.found-in-nodes.ensures c.in_ok-expand.ensures.grows.more
+    settled_fit c.nodes.node c.nodes.labels.items c.settle-depth.new.labels.items c.settle-depth.result c.node_count-in-nodes.result (g.G.NumberedGraph.node_count c.is_goal.new.self) (g.G.NumberedGraph.node_count c.expand.new.self)
+    v.breadth (omega (arith, c.nodes-test.true, c.len.ensures)) (v.len ∙ sym c.is_goal.ensures.same) c.settle-depth.ensures c.node_count-in-nodes.ensures c.in_ok-expand.ensures.grows.more
 
 pub returns-in_err-fill-2 : goal.returns-in_err-fill-2
 returns-in_err-fill-2 g c = record {
@@ -122,8 +122,8 @@ nodes-preserved g c =
     let inside : c.nodes.node < length c.nodes.labels.items = omega (arith, c.nodes-test.true, c.len.ensures) in
     let labels = c.nodes.labels.items in
     let labels3 = c.fill-in-nodes.new.labels.items in
-    let before = g.G.NumberedGraph.found c.nodes.graph in
-    let found = g.G.NumberedGraph.found c.expand.new.self in
+    let before = g.G.NumberedGraph.node_count c.nodes.graph in
+    let found = g.G.NumberedGraph.node_count c.expand.new.self in
     let stands = g.G.NumberedGraph.stands c.nodes.graph in
     let stands3 = g.G.NumberedGraph.stands c.expand.new.self in
     let row = c.in_ok-expand.ensures.listed in
@@ -137,18 +137,18 @@ nodes-preserved g c =
       grown = Grows-trans _ _ _ _ _ _ v.grown grown;
       search = λ h x p.
           let x1 = c.is_goal.ensures.graph h (v.explored h x) in
-          t.search (g.G.NumberedGraph.step h) (below (g.G.NumberedGraph.found c.args.graph.now)) p before stands stands3 grown v.len (v.search h x p) g.C.Number.value (λ y k. row.4 h x1.0 y (c.is_goal.ensures.grows.stays c.nodes.node y k)) row.2;
+          t.search (g.G.NumberedGraph.step h) (below (g.G.NumberedGraph.node_count c.args.graph.now)) p before stands stands3 grown v.len (v.search h x p) g.C.Number.value (λ y k. row.4 h x1.0 y (c.is_goal.ensures.grows.stays c.nodes.node y k)) row.2;
       failed = λ h x.
           let x1 = c.is_goal.ensures.graph h (v.explored h x) in
           failed_turned (g.G.NumberedGraph.passes h) before found stands stands3 grown labels labels3 (omega (arith, v.len)) c.nodes.node (subst (λ (n : ℕ). c.nodes.node < n) v.len inside) t.from (λ y k. sym (x1.1 y k) ∙ c.if-is_goal.false) (v.failed h x);
     }
   where
-    t : IsHopTurn g.G.NumberedGraph.Node c.nodes.node c.in_ok-expand.ensures.listed.0 c.nodes.labels.items c.fill-in-nodes.new.labels.items (g.G.NumberedGraph.found c.expand.new.self)
+    t : IsHopTurn g.G.NumberedGraph.Node c.nodes.node c.in_ok-expand.ensures.listed.0 c.nodes.labels.items c.fill-in-nodes.new.labels.items (g.G.NumberedGraph.node_count c.expand.new.self)
     t =
         let v = c.nodes.invariant in
         let row = c.in_ok-expand.ensures.listed in
-        hop_turn c.nodes.node c.nodes.labels.items c.settle-depth.new.labels.items c.settle-depth.result c.found-in-nodes.result (g.G.NumberedGraph.found c.is_goal.new.self) (g.G.NumberedGraph.found c.expand.new.self)
-        v.breadth (omega (arith, c.nodes-test.true, c.len.ensures)) (v.len ∙ sym c.is_goal.ensures.same) c.settle-depth.ensures c.found-in-nodes.ensures c.in_ok-expand.ensures.grows.more
+        hop_turn c.nodes.node c.nodes.labels.items c.settle-depth.new.labels.items c.settle-depth.result c.node_count-in-nodes.result (g.G.NumberedGraph.node_count c.is_goal.new.self) (g.G.NumberedGraph.node_count c.expand.new.self)
+        v.breadth (omega (arith, c.nodes-test.true, c.len.ensures)) (v.len ∙ sym c.is_goal.ensures.same) c.settle-depth.ensures c.node_count-in-nodes.ensures c.in_ok-expand.ensures.grows.more
         g.G.NumberedGraph.Node c.fill-in-nodes.new.labels.items c.behind.result c.behind.ensures c.in_ok-fill-2.ensures.filled c.in_ok-fill-2.ensures.few v.tree row.0 row.3
 
 pub returns : goal.returns
@@ -158,7 +158,7 @@ returns g c = record {
   best = λ h x p.
       let v = c.nodes.invariant in
       let root = roots_below _ _ _ _ v.grown in
-      let none = no_goal by_depth (g.G.NumberedGraph.step h) (below (g.G.NumberedGraph.found c.args.graph.now)) (hop_positive (g.G.NumberedGraph.step h) p) _ _ (v.search h x p) (g.G.NumberedGraph.passes h) (v.failed h x)
+      let none = no_goal by_depth (g.G.NumberedGraph.step h) (below (g.G.NumberedGraph.node_count c.args.graph.now)) (hop_positive (g.G.NumberedGraph.step h) p) _ _ (v.search h x p) (g.G.NumberedGraph.passes h) (v.failed h x)
       (breadth_done c.nodes.node _ v.breadth (omega (arith, c.nodes-test.false, c.len.ensures))) in
       λ s is. none s ((root s).1 is);
   errors = tt;

@@ -15,9 +15,9 @@ invariant-level g l = record {
   within : l.level ≤ length l.wave.labels.items;
   up_to : l.wave.next ≤ l.level;
   explored : (h : g.G.TwoSidedGraph.Graph) → g.G.TwoSidedGraph.explores l.fn.graph h → g.G.TwoSidedGraph.explores l.graph h;
-  grown : Grows (g.G.TwoSidedGraph.found l.fn.graph l.side) (g.G.TwoSidedGraph.found l.graph l.side) (g.G.TwoSidedGraph.stands l.fn.graph l.side) (g.G.TwoSidedGraph.stands l.graph l.side);
-  other : (g.G.TwoSidedGraph.found l.graph (opposite l.side) ≡ g.G.TwoSidedGraph.found l.fn.graph (opposite l.side)) × ((k : ℕ) (x : g.G.TwoSidedGraph.Node) → g.G.TwoSidedGraph.stands l.graph (opposite l.side) k x ↔ g.G.TwoSidedGraph.stands l.fn.graph (opposite l.side) k x);
-  wave : IsWave (g.G.TwoSidedGraph.found l.graph l.side) l.wave.labels.items l.wave.next;
+  grown : Grows (g.G.TwoSidedGraph.node_count l.fn.graph l.side) (g.G.TwoSidedGraph.node_count l.graph l.side) (g.G.TwoSidedGraph.stands l.fn.graph l.side) (g.G.TwoSidedGraph.stands l.graph l.side);
+  other : (g.G.TwoSidedGraph.node_count l.graph (opposite l.side) ≡ g.G.TwoSidedGraph.node_count l.fn.graph (opposite l.side)) × ((k : ℕ) (x : g.G.TwoSidedGraph.Node) → g.G.TwoSidedGraph.stands l.graph (opposite l.side) k x ↔ g.G.TwoSidedGraph.stands l.fn.graph (opposite l.side) k x);
+  wave : IsWave (g.G.TwoSidedGraph.node_count l.graph l.side) l.wave.labels.items l.wave.next;
   search : (h : g.G.TwoSidedGraph.Graph) → g.G.TwoSidedGraph.explores l.fn.graph h → IsHop (g.G.TwoSidedGraph.step h l.side) → (root : ℕ → Bool)
       → IsSearch by_depth (g.G.TwoSidedGraph.step h l.side) root (g.G.TwoSidedGraph.stands l.fn.graph l.side) l.fn.wave.labels.items
       → IsSearch by_depth (g.G.TwoSidedGraph.step h l.side) root (g.G.TwoSidedGraph.stands l.graph l.side) l.wave.labels.items;

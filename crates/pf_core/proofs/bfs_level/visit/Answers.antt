@@ -35,7 +35,7 @@ fill-requires g c =
     let w = c.requires.wave in
     let l = w.breadth.full c.args.wave.now.next c.requires.left in
     let s = c.settle-depth.ensures l.0 l.1 in
-    omega (arith, hop_len c.args.wave.now.next l.0 c.args.wave.now.labels.items c.settle-depth.new.labels.items w.breadth l.1 s.1, w.len, c.in_ok-expand.ensures.grows.more, c.found.ensures)
+    omega (arith, hop_len c.args.wave.now.next l.0 c.args.wave.now.labels.items c.settle-depth.new.labels.items w.breadth l.1 s.1, w.len, c.in_ok-expand.ensures.grows.more, c.node_count.ensures)
 
 pub returns-in_err-fill : goal.returns-in_err-fill
 returns-in_err-fill g c = record {
@@ -67,12 +67,12 @@ returns g c =
           let l = w.breadth.full n c.requires.left in
           let s = c.settle-depth.ensures l.0 l.1 in
           let e3 = resized labels1 labels3 _ n l.0.depth c.settle-depth.result c.behind.result c.in_ok-fill.ensures.filled c.behind.ensures s.0 in
-          let len3 : length labels3 ≡ g.G.TwoSidedGraph.found c.expand.new.self c.args.side = turned_len n l.0 labels labels1 labels3 w.breadth l.1 s.1 _ e3 c.found.result refl (omega (arith, w.len, c.in_ok-expand.ensures.grows.more, c.found.ensures)) ∙ c.found.ensures in
+          let len3 : length labels3 ≡ g.G.TwoSidedGraph.node_count c.expand.new.self c.args.side = turned_len n l.0 labels labels1 labels3 w.breadth l.1 s.1 _ e3 c.node_count.result refl (omega (arith, w.len, c.in_ok-expand.ensures.grows.more, c.node_count.ensures)) ∙ c.node_count.ensures in
           let row = c.in_ok-expand.ensures.listed in
-          let fresh : (k : ℕ) → length labels ≤ k → k < g.G.TwoSidedGraph.found c.expand.new.self c.args.side → (d : g.row.C.Denot) × Contains row.0 (k, d) = λ k le lt. row.2 k (omega (arith, le, w.len)) lt in
+          let fresh : (k : ℕ) → length labels ≤ k → k < g.G.TwoSidedGraph.node_count c.expand.new.self c.args.side → (d : g.row.C.Denot) × Contains row.0 (k, d) = λ k le lt. row.2 k (omega (arith, le, w.len)) lt in
           record {
             len = len3;
-            few = omega (arith, c.found.ensures, c.in_ok-fill.ensures.few);
+            few = omega (arith, c.node_count.ensures, c.in_ok-fill.ensures.few);
             breadth = breadth_turn n l.0 labels labels1 labels3 w.breadth l.1 s.1 _ e3;
             tree = hop_tree n l.0 labels labels1 labels3 w.breadth l.1 s.1 _ e3 row.0 _ len3 fresh w.tree;
           };
@@ -91,9 +91,9 @@ returns g c =
           let l = w.breadth.full n c.requires.left in
           let s = c.settle-depth.ensures l.0 l.1 in
           let e3 = resized labels1 labels3 _ n l.0.depth c.settle-depth.result c.behind.result c.in_ok-fill.ensures.filled c.behind.ensures s.0 in
-          let len3 : length labels3 ≡ g.G.TwoSidedGraph.found c.expand.new.self c.args.side = turned_len n l.0 labels labels1 labels3 w.breadth l.1 s.1 _ e3 c.found.result refl (omega (arith, w.len, c.in_ok-expand.ensures.grows.more, c.found.ensures)) ∙ c.found.ensures in
+          let len3 : length labels3 ≡ g.G.TwoSidedGraph.node_count c.expand.new.self c.args.side = turned_len n l.0 labels labels1 labels3 w.breadth l.1 s.1 _ e3 c.node_count.result refl (omega (arith, w.len, c.in_ok-expand.ensures.grows.more, c.node_count.ensures)) ∙ c.node_count.ensures in
           let row = c.in_ok-expand.ensures.listed in
-          let fresh : (k : ℕ) → length labels ≤ k → k < g.G.TwoSidedGraph.found c.expand.new.self c.args.side → (d : g.row.C.Denot) × Contains row.0 (k, d) = λ k le lt. row.2 k (omega (arith, le, w.len)) lt in
+          let fresh : (k : ℕ) → length labels ≤ k → k < g.G.TwoSidedGraph.node_count c.expand.new.self c.args.side → (d : g.row.C.Denot) × Contains row.0 (k, d) = λ k le lt. row.2 k (omega (arith, le, w.len)) lt in
           hop_turned n l.0 labels labels1 labels3 w.breadth l.1 s.1 _ e3 row.0 _ len3 fresh (g.G.TwoSidedGraph.step h c.args.side) root hop _ search w.tree
           _ _ c.in_ok-expand.ensures.grows w.len g.C.Number.value (λ y k. row.3 h x y k) row.1;
       errors = tt;

@@ -29,12 +29,12 @@ returns-in_err-fill g c = record {
 
 pub nodes-init : goal.nodes-init
 nodes-init g c =
-    let e = started c.new-labels.result.items c.fill.new.labels.items c.found-starts.result _ c.first.result c.new-labels.ensures.items c.in_ok-fill.ensures.filled c.first.ensures c.found-starts.ensures in
-    let len : length c.fill.new.labels.items ≡ g.G.NumberedGraph.found c.args.graph.now = ap length e ∙ length-replicate _ (Some (reached_from 0 0)) in
+    let e = started c.new-labels.result.items c.fill.new.labels.items c.node_count-starts.result _ c.first.result c.new-labels.ensures.items c.in_ok-fill.ensures.filled c.first.ensures c.node_count-starts.ensures in
+    let len : length c.fill.new.labels.items ≡ g.G.NumberedGraph.node_count c.args.graph.now = ap length e ∙ length-replicate _ (Some (reached_from 0 0)) in
     record {
-      first = c.found-starts.ensures;
+      first = c.node_count-starts.ensures;
       len = len;
-      few = omega (arith, len, c.found-starts.ensures, c.in_ok-fill.ensures.few);
+      few = omega (arith, len, c.node_count-starts.ensures, c.in_ok-fill.ensures.few);
       breadth = breadth_start _ c.fill.new.labels.items e len;
       tree = hop_tree_start _ c.fill.new.labels.items e len;
       grown = record { more = omega arith; stays = λ k x h. h; back = λ k x i h. h };
@@ -83,7 +83,7 @@ returns-in-Some g c = record {
       let v = c.nodes.invariant in
       let start = rw c.in-Some.is at c.first_below.ensures in
       let more = c.in_ok-expand.ensures.grows.more in
-      elim (Contains-append_one c.in_ok-numbers.numbers.items c.in-Some.start k (subst (λ (xs : List ℕ). Contains xs k) c.in_ok-push.ensures.items h)) as (λ _. k < g.G.NumberedGraph.found c.expand.new.self) [
+      elim (Contains-append_one c.in_ok-numbers.numbers.items c.in-Some.start k (subst (λ (xs : List ℕ). Contains xs k) c.in_ok-push.ensures.items h)) as (λ _. k < g.G.NumberedGraph.node_count c.expand.new.self) [
         | inl b ↦ let low = subst (λ (n : ℕ). k < n) (ap length c.deref-in-Some.ensures.value ∙ v.len) (c.in_ok-numbers.ensures.inside k b) in omega (arith, low, more)
         | inr e ↦ let low = start.0 in omega (arith, low, e, v.first, v.grown.more, more)
       ];
@@ -93,7 +93,7 @@ returns-in-Some g c = record {
       let l = v.breadth.full c.nodes.node (omega (arith, c.nodes-test.true, c.len.ensures)) in
       let row = c.in_ok-expand.ensures.listed in
       let start = rw c.in-Some.is at c.first_below.ensures in
-      let found = g.G.NumberedGraph.found c.args.graph.now in
+      let found = g.G.NumberedGraph.node_count c.args.graph.now in
       let has : Contains row.0 (c.in-Some.start, start.1.0) = subst (λ (xs : List (ℕ × g.row.C.Denot)). Contains xs (c.in-Some.start, start.1.0)) (c.deref.ensures.value ∙ row.1) start.1.1 in
       subst (IsBestNumberedLoop step (StandsBelow found (g.G.NumberedGraph.stands c.args.graph.now)) (g.G.NumberedGraph.stands c.expand.new.self)) (sym c.in_ok-push.ensures.items)
       (best_loop by_depth step (hop_positive step p) found _ _ (g.G.NumberedGraph.stands c.args.graph.now) (g.G.NumberedGraph.stands c.nodes.graph) (g.G.NumberedGraph.stands c.expand.new.self) v.grown c.in_ok-expand.ensures.grows c.nodes.labels.items (v.search h x p) v.tree (v.failed h x)
@@ -111,8 +111,8 @@ behind-requires g c = omega (arith, c.nodes-test.true, c.len.ensures, c.nodes.in
 pub fill-requires-in-nodes : goal.fill-requires-in-nodes
 fill-requires-in-nodes g c =
     let v = c.nodes.invariant in
-    settled_fit c.nodes.node c.nodes.labels.items c.settle-depth.new.labels.items c.settle-depth.result c.found.result (g.G.NumberedGraph.found c.nodes.graph) (g.G.NumberedGraph.found c.expand.new.self)
-    v.breadth (omega (arith, c.nodes-test.true, c.len.ensures)) v.len c.settle-depth.ensures c.found.ensures c.in_ok-expand.ensures.grows.more
+    settled_fit c.nodes.node c.nodes.labels.items c.settle-depth.new.labels.items c.settle-depth.result c.node_count.result (g.G.NumberedGraph.node_count c.nodes.graph) (g.G.NumberedGraph.node_count c.expand.new.self)
+    v.breadth (omega (arith, c.nodes-test.true, c.len.ensures)) v.len c.settle-depth.ensures c.node_count.ensures c.in_ok-expand.ensures.grows.more
 
 pub returns-in_err-fill-2 : goal.returns-in_err-fill-2
 returns-in_err-fill-2 g c = record {
@@ -134,9 +134,9 @@ nodes-preserved g c =
     let inside : c.nodes.node < length c.nodes.labels.items = omega (arith, c.nodes-test.true, c.len.ensures) in
     let labels = c.nodes.labels.items in
     let labels3 = c.fill-in-nodes.new.labels.items in
-    let start = g.G.NumberedGraph.found c.args.graph.now in
-    let before = g.G.NumberedGraph.found c.nodes.graph in
-    let found = g.G.NumberedGraph.found c.expand.new.self in
+    let start = g.G.NumberedGraph.node_count c.args.graph.now in
+    let before = g.G.NumberedGraph.node_count c.nodes.graph in
+    let found = g.G.NumberedGraph.node_count c.expand.new.self in
     let first = g.G.NumberedGraph.stands c.args.graph.now in
     let stands = g.G.NumberedGraph.stands c.nodes.graph in
     let stands3 = g.G.NumberedGraph.stands c.expand.new.self in
@@ -160,12 +160,12 @@ nodes-preserved g c =
           (v.failed h x);
     }
   where
-    t : IsHopTurn g.G.NumberedGraph.Node c.nodes.node c.in_ok-expand.ensures.listed.0 c.nodes.labels.items c.fill-in-nodes.new.labels.items (g.G.NumberedGraph.found c.expand.new.self)
+    t : IsHopTurn g.G.NumberedGraph.Node c.nodes.node c.in_ok-expand.ensures.listed.0 c.nodes.labels.items c.fill-in-nodes.new.labels.items (g.G.NumberedGraph.node_count c.expand.new.self)
     t =
         let v = c.nodes.invariant in
         let row = c.in_ok-expand.ensures.listed in
-        hop_turn c.nodes.node c.nodes.labels.items c.settle-depth.new.labels.items c.settle-depth.result c.found.result (g.G.NumberedGraph.found c.nodes.graph) (g.G.NumberedGraph.found c.expand.new.self)
-        v.breadth (omega (arith, c.nodes-test.true, c.len.ensures)) v.len c.settle-depth.ensures c.found.ensures c.in_ok-expand.ensures.grows.more
+        hop_turn c.nodes.node c.nodes.labels.items c.settle-depth.new.labels.items c.settle-depth.result c.node_count.result (g.G.NumberedGraph.node_count c.nodes.graph) (g.G.NumberedGraph.node_count c.expand.new.self)
+        v.breadth (omega (arith, c.nodes-test.true, c.len.ensures)) v.len c.settle-depth.ensures c.node_count.ensures c.in_ok-expand.ensures.grows.more
         g.G.NumberedGraph.Node c.fill-in-nodes.new.labels.items c.behind.result c.behind.ensures c.in_ok-fill-2.ensures.filled c.in_ok-fill-2.ensures.few v.tree row.0 row.3
 
 pub returns : goal.returns
@@ -175,8 +175,8 @@ returns g c = record {
   best = λ h x p s is.
       let v = c.nodes.invariant in
       let root = roots_below _ _ _ _ v.grown in
-      property_nowhere by_depth (g.G.NumberedGraph.step h) (below (g.G.NumberedGraph.found c.args.graph.now)) (hop_positive (g.G.NumberedGraph.step h) p) _ _ (v.search h x p)
-      (Closes (g.G.NumberedGraph.step h) (StandsBelow (g.G.NumberedGraph.found c.args.graph.now) (g.G.NumberedGraph.stands c.args.graph.now))) (v.failed h x)
+      property_nowhere by_depth (g.G.NumberedGraph.step h) (below (g.G.NumberedGraph.node_count c.args.graph.now)) (hop_positive (g.G.NumberedGraph.step h) p) _ _ (v.search h x p)
+      (Closes (g.G.NumberedGraph.step h) (StandsBelow (g.G.NumberedGraph.node_count c.args.graph.now) (g.G.NumberedGraph.stands c.args.graph.now))) (v.failed h x)
       (breadth_done c.nodes.node _ v.breadth (omega (arith, c.nodes-test.false, c.len.ensures))) s ((root s).1 is);
   errors = tt;
 }

@@ -25,7 +25,7 @@ pub returns-in_err-met : goal.returns-in_err-met
 returns-in_err-met g c = record {
   graph = c.in_err-met.ensures.graph;
   grows_forth = c.in_err-met.ensures.grows;
-  grows_back = grows_same (g.G.TwoSidedGraph.found c.args.graph.now Back) (g.G.TwoSidedGraph.found c.advance.new.graph Back) (g.G.TwoSidedGraph.stands c.args.graph.now Back) (g.G.TwoSidedGraph.stands c.advance.new.graph Back) c.in_err-met.ensures.other.0 c.in_err-met.ensures.other.1;
+  grows_back = grows_same (g.G.TwoSidedGraph.node_count c.args.graph.now Back) (g.G.TwoSidedGraph.node_count c.advance.new.graph Back) (g.G.TwoSidedGraph.stands c.args.graph.now Back) (g.G.TwoSidedGraph.stands c.advance.new.graph Back) c.in_err-met.ensures.other.0 c.in_err-met.ensures.other.1;
   forth = on_refused _ c.from_residual.result c.in_err-met.field-0.0 c.from_residual.ensures.1;
   back = on_refused _ c.from_residual.result c.in_err-met.field-0.0 c.from_residual.ensures.1;
   search_forth = on_refused _ c.from_residual.result c.in_err-met.field-0.0 c.from_residual.ensures.1;
@@ -44,7 +44,7 @@ advance-requires-else-len-forth-clause-wave g c = c.requires.back
 pub returns-in_err-met-2 : goal.returns-in_err-met-2
 returns-in_err-met-2 g c = record {
   graph = c.in_err-met-2.ensures.graph;
-  grows_forth = grows_same (g.G.TwoSidedGraph.found c.args.graph.now Forth) (g.G.TwoSidedGraph.found c.advance-else-len-forth.new.graph Forth) (g.G.TwoSidedGraph.stands c.args.graph.now Forth) (g.G.TwoSidedGraph.stands c.advance-else-len-forth.new.graph Forth) c.in_err-met-2.ensures.other.0 c.in_err-met-2.ensures.other.1;
+  grows_forth = grows_same (g.G.TwoSidedGraph.node_count c.args.graph.now Forth) (g.G.TwoSidedGraph.node_count c.advance-else-len-forth.new.graph Forth) (g.G.TwoSidedGraph.stands c.args.graph.now Forth) (g.G.TwoSidedGraph.stands c.advance-else-len-forth.new.graph Forth) c.in_err-met-2.ensures.other.0 c.in_err-met-2.ensures.other.1;
   grows_back = c.in_err-met-2.ensures.grows;
   forth = on_refused _ c.from_residual-in_err-met-2.result c.in_err-met-2.field-0.0 c.from_residual-in_err-met-2.ensures.1;
   back = on_refused _ c.from_residual-in_err-met-2.result c.in_err-met-2.field-0.0 c.from_residual-in_err-met-2.ensures.1;
@@ -59,14 +59,14 @@ pub returns-in-Some : goal.returns-in-Some
 returns-in-Some g c = record {
   graph = c.in_ok-met.ensures.graph;
   grows_forth = c.in_ok-met.ensures.grows;
-  grows_back = grows_same (g.G.TwoSidedGraph.found c.args.graph.now Back) (g.G.TwoSidedGraph.found c.advance.new.graph Back) (g.G.TwoSidedGraph.stands c.args.graph.now Back) (g.G.TwoSidedGraph.stands c.advance.new.graph Back) c.in_ok-met.ensures.other.0 c.in_ok-met.ensures.other.1;
+  grows_back = grows_same (g.G.TwoSidedGraph.node_count c.args.graph.now Back) (g.G.TwoSidedGraph.node_count c.advance.new.graph Back) (g.G.TwoSidedGraph.stands c.args.graph.now Back) (g.G.TwoSidedGraph.stands c.advance.new.graph Back) c.in_ok-met.ensures.other.0 c.in_ok-met.ensures.other.1;
   forth = c.in_ok-met.ensures.wave;
   back = subst (λ (n : ℕ). IsWave n c.args.back.now.labels.items c.args.back.now.next) (sym c.in_ok-met.ensures.other.0) c.requires.back;
   search_forth = c.in_ok-met.ensures.search;
   search_back = λ h x hop root s.
       let e = c.in_ok-met.ensures.other in
-      let grows = grows_same (g.G.TwoSidedGraph.found c.args.graph.now Back) (g.G.TwoSidedGraph.found c.advance.new.graph Back) (g.G.TwoSidedGraph.stands c.args.graph.now Back) (g.G.TwoSidedGraph.stands c.advance.new.graph Back) e.0 e.1 in
-      let len : length c.args.back.now.labels.items ≤ g.G.TwoSidedGraph.found c.args.graph.now Back = omega (arith, c.requires.back.len) in
+      let grows = grows_same (g.G.TwoSidedGraph.node_count c.args.graph.now Back) (g.G.TwoSidedGraph.node_count c.advance.new.graph Back) (g.G.TwoSidedGraph.stands c.args.graph.now Back) (g.G.TwoSidedGraph.stands c.advance.new.graph Back) e.0 e.1 in
+      let len : length c.args.back.now.labels.items ≤ g.G.TwoSidedGraph.node_count c.args.graph.now Back = omega (arith, c.requires.back.len) in
       search_grows by_depth (g.G.TwoSidedGraph.step h Back) root _ _ _ _ grows c.args.back.now.labels.items len s;
   apart =
       let level = rw c.in-Some.is at c.in_ok-met.ensures.level in
@@ -79,14 +79,14 @@ pub returns-in-None : goal.returns-in-None
 returns-in-None g c = record {
   graph = c.in_ok-met.ensures.graph;
   grows_forth = c.in_ok-met.ensures.grows;
-  grows_back = grows_same (g.G.TwoSidedGraph.found c.args.graph.now Back) (g.G.TwoSidedGraph.found c.advance.new.graph Back) (g.G.TwoSidedGraph.stands c.args.graph.now Back) (g.G.TwoSidedGraph.stands c.advance.new.graph Back) c.in_ok-met.ensures.other.0 c.in_ok-met.ensures.other.1;
+  grows_back = grows_same (g.G.TwoSidedGraph.node_count c.args.graph.now Back) (g.G.TwoSidedGraph.node_count c.advance.new.graph Back) (g.G.TwoSidedGraph.stands c.args.graph.now Back) (g.G.TwoSidedGraph.stands c.advance.new.graph Back) c.in_ok-met.ensures.other.0 c.in_ok-met.ensures.other.1;
   forth = c.in_ok-met.ensures.wave;
   back = subst (λ (n : ℕ). IsWave n c.args.back.now.labels.items c.args.back.now.next) (sym c.in_ok-met.ensures.other.0) c.requires.back;
   search_forth = c.in_ok-met.ensures.search;
   search_back = λ h x hop root s.
       let e = c.in_ok-met.ensures.other in
-      let grows = grows_same (g.G.TwoSidedGraph.found c.args.graph.now Back) (g.G.TwoSidedGraph.found c.advance.new.graph Back) (g.G.TwoSidedGraph.stands c.args.graph.now Back) (g.G.TwoSidedGraph.stands c.advance.new.graph Back) e.0 e.1 in
-      let len : length c.args.back.now.labels.items ≤ g.G.TwoSidedGraph.found c.args.graph.now Back = omega (arith, c.requires.back.len) in
+      let grows = grows_same (g.G.TwoSidedGraph.node_count c.args.graph.now Back) (g.G.TwoSidedGraph.node_count c.advance.new.graph Back) (g.G.TwoSidedGraph.stands c.args.graph.now Back) (g.G.TwoSidedGraph.stands c.advance.new.graph Back) e.0 e.1 in
+      let len : length c.args.back.now.labels.items ≤ g.G.TwoSidedGraph.node_count c.args.graph.now Back = omega (arith, c.requires.back.len) in
       search_grows by_depth (g.G.TwoSidedGraph.step h Back) root _ _ _ _ grows c.args.back.now.labels.items len s;
   apart =
       let level = rw c.in-None.is at c.in_ok-met.ensures.level in
@@ -100,14 +100,14 @@ returns-in-None g c = record {
 pub returns-in-Some-met : goal.returns-in-Some-met
 returns-in-Some-met g c = record {
   graph = c.in_ok-met-2.ensures.graph;
-  grows_forth = grows_same (g.G.TwoSidedGraph.found c.args.graph.now Forth) (g.G.TwoSidedGraph.found c.advance-else-len-forth.new.graph Forth) (g.G.TwoSidedGraph.stands c.args.graph.now Forth) (g.G.TwoSidedGraph.stands c.advance-else-len-forth.new.graph Forth) c.in_ok-met-2.ensures.other.0 c.in_ok-met-2.ensures.other.1;
+  grows_forth = grows_same (g.G.TwoSidedGraph.node_count c.args.graph.now Forth) (g.G.TwoSidedGraph.node_count c.advance-else-len-forth.new.graph Forth) (g.G.TwoSidedGraph.stands c.args.graph.now Forth) (g.G.TwoSidedGraph.stands c.advance-else-len-forth.new.graph Forth) c.in_ok-met-2.ensures.other.0 c.in_ok-met-2.ensures.other.1;
   grows_back = c.in_ok-met-2.ensures.grows;
   forth = subst (λ (n : ℕ). IsWave n c.args.forth.now.labels.items c.args.forth.now.next) (sym c.in_ok-met-2.ensures.other.0) c.requires.forth;
   back = c.in_ok-met-2.ensures.wave;
   search_forth = λ h x hop root s.
       let e = c.in_ok-met-2.ensures.other in
-      let grows = grows_same (g.G.TwoSidedGraph.found c.args.graph.now Forth) (g.G.TwoSidedGraph.found c.advance-else-len-forth.new.graph Forth) (g.G.TwoSidedGraph.stands c.args.graph.now Forth) (g.G.TwoSidedGraph.stands c.advance-else-len-forth.new.graph Forth) e.0 e.1 in
-      let len : length c.args.forth.now.labels.items ≤ g.G.TwoSidedGraph.found c.args.graph.now Forth = omega (arith, c.requires.forth.len) in
+      let grows = grows_same (g.G.TwoSidedGraph.node_count c.args.graph.now Forth) (g.G.TwoSidedGraph.node_count c.advance-else-len-forth.new.graph Forth) (g.G.TwoSidedGraph.stands c.args.graph.now Forth) (g.G.TwoSidedGraph.stands c.advance-else-len-forth.new.graph Forth) e.0 e.1 in
+      let len : length c.args.forth.now.labels.items ≤ g.G.TwoSidedGraph.node_count c.args.graph.now Forth = omega (arith, c.requires.forth.len) in
       search_grows by_depth (g.G.TwoSidedGraph.step h Forth) root _ _ _ _ grows c.args.forth.now.labels.items len s;
   search_back = c.in_ok-met-2.ensures.search;
   apart =
@@ -120,14 +120,14 @@ returns-in-Some-met g c = record {
 pub returns-in-None-met : goal.returns-in-None-met
 returns-in-None-met g c = record {
   graph = c.in_ok-met-2.ensures.graph;
-  grows_forth = grows_same (g.G.TwoSidedGraph.found c.args.graph.now Forth) (g.G.TwoSidedGraph.found c.advance-else-len-forth.new.graph Forth) (g.G.TwoSidedGraph.stands c.args.graph.now Forth) (g.G.TwoSidedGraph.stands c.advance-else-len-forth.new.graph Forth) c.in_ok-met-2.ensures.other.0 c.in_ok-met-2.ensures.other.1;
+  grows_forth = grows_same (g.G.TwoSidedGraph.node_count c.args.graph.now Forth) (g.G.TwoSidedGraph.node_count c.advance-else-len-forth.new.graph Forth) (g.G.TwoSidedGraph.stands c.args.graph.now Forth) (g.G.TwoSidedGraph.stands c.advance-else-len-forth.new.graph Forth) c.in_ok-met-2.ensures.other.0 c.in_ok-met-2.ensures.other.1;
   grows_back = c.in_ok-met-2.ensures.grows;
   forth = subst (λ (n : ℕ). IsWave n c.args.forth.now.labels.items c.args.forth.now.next) (sym c.in_ok-met-2.ensures.other.0) c.requires.forth;
   back = c.in_ok-met-2.ensures.wave;
   search_forth = λ h x hop root s.
       let e = c.in_ok-met-2.ensures.other in
-      let grows = grows_same (g.G.TwoSidedGraph.found c.args.graph.now Forth) (g.G.TwoSidedGraph.found c.advance-else-len-forth.new.graph Forth) (g.G.TwoSidedGraph.stands c.args.graph.now Forth) (g.G.TwoSidedGraph.stands c.advance-else-len-forth.new.graph Forth) e.0 e.1 in
-      let len : length c.args.forth.now.labels.items ≤ g.G.TwoSidedGraph.found c.args.graph.now Forth = omega (arith, c.requires.forth.len) in
+      let grows = grows_same (g.G.TwoSidedGraph.node_count c.args.graph.now Forth) (g.G.TwoSidedGraph.node_count c.advance-else-len-forth.new.graph Forth) (g.G.TwoSidedGraph.stands c.args.graph.now Forth) (g.G.TwoSidedGraph.stands c.advance-else-len-forth.new.graph Forth) e.0 e.1 in
+      let len : length c.args.forth.now.labels.items ≤ g.G.TwoSidedGraph.node_count c.args.graph.now Forth = omega (arith, c.requires.forth.len) in
       search_grows by_depth (g.G.TwoSidedGraph.step h Forth) root _ _ _ _ grows c.args.forth.now.labels.items len s;
   search_back = c.in_ok-met-2.ensures.search;
   apart =

@@ -28,18 +28,18 @@ returns-in_err-back g c = record {
 
 pub halves_to-requires-clause-trees : goal.halves_to-requires-clause-trees
 halves_to-requires-clause-trees g c =
-    let F = g.G.TwoSidedGraph.found c.args.graph.now Forth in
-    let B = g.G.TwoSidedGraph.found c.args.graph.now Back in
-    let wf = wave_begun F c.found.result c.in_ok-forth.forth.labels.items c.in_ok-forth.forth.next c.in_ok-forth.ensures.begun c.found.ensures in
-    let wb = wave_begun B c.found-2.result c.in_ok-back.back.labels.items c.in_ok-back.back.next c.in_ok-back.ensures.begun c.found-2.ensures in
+    let F = g.G.TwoSidedGraph.node_count c.args.graph.now Forth in
+    let B = g.G.TwoSidedGraph.node_count c.args.graph.now Back in
+    let wf = wave_begun F c.node_count.result c.in_ok-forth.forth.labels.items c.in_ok-forth.forth.next c.in_ok-forth.ensures.begun c.node_count.ensures in
+    let wb = wave_begun B c.node_count-2.result c.in_ok-back.back.labels.items c.in_ok-back.back.next c.in_ok-back.ensures.begun c.node_count-2.ensures in
     (wf.0.tree, wb.0.tree)
 
 pub halves_to-requires-clause-labelled : goal.halves_to-requires-clause-labelled
 halves_to-requires-clause-labelled g c =
-    let F = g.G.TwoSidedGraph.found c.args.graph.now Forth in
-    let B = g.G.TwoSidedGraph.found c.args.graph.now Back in
-    let wf = wave_begun F c.found.result c.in_ok-forth.forth.labels.items c.in_ok-forth.forth.next c.in_ok-forth.ensures.begun c.found.ensures in
-    let wb = wave_begun B c.found-2.result c.in_ok-back.back.labels.items c.in_ok-back.back.next c.in_ok-back.ensures.begun c.found-2.ensures in
+    let F = g.G.TwoSidedGraph.node_count c.args.graph.now Forth in
+    let B = g.G.TwoSidedGraph.node_count c.args.graph.now Back in
+    let wf = wave_begun F c.node_count.result c.in_ok-forth.forth.labels.items c.in_ok-forth.forth.next c.in_ok-forth.ensures.begun c.node_count.ensures in
+    let wb = wave_begun B c.node_count-2.result c.in_ok-back.back.labels.items c.in_ok-back.back.next c.in_ok-back.ensures.begun c.node_count-2.ensures in
     let met = rw c.in-Some.is at c.first_meeting.ensures.met in (
       wave_full F c.in_ok-forth.forth.labels.items c.in_ok-forth.forth.next wf.0 c.in-Some.meeting.here met.0,
       wave_full B c.in_ok-back.back.labels.items c.in_ok-back.back.next wb.0 c.in-Some.meeting.across met.1,
@@ -57,22 +57,22 @@ pub returns-in-Some : goal.returns-in-Some
 returns-in-Some g c = record {
   graph = λ h x. x;
   inside =
-      let F = g.G.TwoSidedGraph.found c.args.graph.now Forth in
-      let B = g.G.TwoSidedGraph.found c.args.graph.now Back in
-      let wf = wave_begun F c.found.result c.in_ok-forth.forth.labels.items c.in_ok-forth.forth.next c.in_ok-forth.ensures.begun c.found.ensures in
-      let wb = wave_begun B c.found-2.result c.in_ok-back.back.labels.items c.in_ok-back.back.next c.in_ok-back.ensures.begun c.found-2.ensures in
+      let F = g.G.TwoSidedGraph.node_count c.args.graph.now Forth in
+      let B = g.G.TwoSidedGraph.node_count c.args.graph.now Back in
+      let wf = wave_begun F c.node_count.result c.in_ok-forth.forth.labels.items c.in_ok-forth.forth.next c.in_ok-forth.ensures.begun c.node_count.ensures in
+      let wb = wave_begun B c.node_count-2.result c.in_ok-back.back.labels.items c.in_ok-back.back.next c.in_ok-back.ensures.begun c.node_count-2.ensures in
       let i = c.in_ok-halves.ensures.inside in
       (λ k h. subst (λ (n : ℕ). k < n) wf.0.len (i.0 k h), λ k h. subst (λ (n : ℕ). k < n) wb.0.len (i.1 k h));
   best = λ h x p q mirror.
-      let F = g.G.TwoSidedGraph.found c.args.graph.now Forth in
-      let B = g.G.TwoSidedGraph.found c.args.graph.now Back in
-      let wf = wave_begun F c.found.result c.in_ok-forth.forth.labels.items c.in_ok-forth.forth.next c.in_ok-forth.ensures.begun c.found.ensures in
-      let wb = wave_begun B c.found-2.result c.in_ok-back.back.labels.items c.in_ok-back.back.next c.in_ok-back.ensures.begun c.found-2.ensures in
+      let F = g.G.TwoSidedGraph.node_count c.args.graph.now Forth in
+      let B = g.G.TwoSidedGraph.node_count c.args.graph.now Back in
+      let wf = wave_begun F c.node_count.result c.in_ok-forth.forth.labels.items c.in_ok-forth.forth.next c.in_ok-forth.ensures.begun c.node_count.ensures in
+      let wb = wave_begun B c.node_count-2.result c.in_ok-back.back.labels.items c.in_ok-back.back.next c.in_ok-back.ensures.begun c.node_count-2.ensures in
       let met = rw c.in-Some.is at c.first_meeting.ensures.met in
       let stands = g.G.TwoSidedGraph.stands c.args.graph.now in
       let step = g.G.TwoSidedGraph.step h in
-      let sf = side_begun (step Forth) F c.found.result (stands Forth) c.in_ok-forth.forth.labels.items c.in_ok-forth.forth.next c.in_ok-forth.ensures.begun c.found.ensures (c.requires.begins Forth) in
-      let sb = side_begun (step Back) B c.found-2.result (stands Back) c.in_ok-back.back.labels.items c.in_ok-back.back.next c.in_ok-back.ensures.begun c.found-2.ensures (c.requires.begins Back) in
+      let sf = side_begun (step Forth) F c.node_count.result (stands Forth) c.in_ok-forth.forth.labels.items c.in_ok-forth.forth.next c.in_ok-forth.ensures.begun c.node_count.ensures (c.requires.begins Forth) in
+      let sb = side_begun (step Back) B c.node_count-2.result (stands Back) c.in_ok-back.back.labels.items c.in_ok-back.back.next c.in_ok-back.ensures.begun c.node_count-2.ensures (c.requires.begins Back) in
       let chains = c.in_ok-halves.ensures.chains in
       first_meeting_best (step Forth) (step Back) p q F B (stands Forth) (stands Back) mirror F B (stands Forth) (stands Back) c.in_ok-forth.forth.labels.items c.in_ok-back.back.labels.items c.in_ok-forth.forth.next c.in_ok-back.back.next sf sb wf.1 wb.1
       c.in-Some.meeting.here c.in-Some.meeting.across met.0 met.1 (inl met.2) c.in_ok-halves.halves.forth.items c.in_ok-halves.halves.back.items chains.0 chains.1;
@@ -81,10 +81,10 @@ returns-in-Some g c = record {
 
 pub levels-init : goal.levels-init
 levels-init g c =
-    let F = g.G.TwoSidedGraph.found c.args.graph.now Forth in
-    let B = g.G.TwoSidedGraph.found c.args.graph.now Back in
-    let wf = wave_begun F c.found.result c.in_ok-forth.forth.labels.items c.in_ok-forth.forth.next c.in_ok-forth.ensures.begun c.found.ensures in
-    let wb = wave_begun B c.found-2.result c.in_ok-back.back.labels.items c.in_ok-back.back.next c.in_ok-back.ensures.begun c.found-2.ensures in
+    let F = g.G.TwoSidedGraph.node_count c.args.graph.now Forth in
+    let B = g.G.TwoSidedGraph.node_count c.args.graph.now Back in
+    let wf = wave_begun F c.node_count.result c.in_ok-forth.forth.labels.items c.in_ok-forth.forth.next c.in_ok-forth.ensures.begun c.node_count.ensures in
+    let wb = wave_begun B c.node_count-2.result c.in_ok-back.back.labels.items c.in_ok-back.back.next c.in_ok-back.ensures.begun c.node_count-2.ensures in
     let none = rw c.in_default.is at c.first_meeting.ensures.met in
     record {
       explored = λ h x. x;
@@ -94,8 +94,8 @@ levels-init g c =
       back_wave = wb.0;
       forth_layers = (0, wf.1);
       back_layers = (0, wb.1);
-      forth_search = λ h x p. (side_begun (g.G.TwoSidedGraph.step h Forth) F c.found.result (g.G.TwoSidedGraph.stands c.args.graph.now Forth) c.in_ok-forth.forth.labels.items c.in_ok-forth.forth.next c.in_ok-forth.ensures.begun c.found.ensures (c.requires.begins Forth)).search;
-      back_search = λ h x p. (side_begun (g.G.TwoSidedGraph.step h Back) B c.found-2.result (g.G.TwoSidedGraph.stands c.args.graph.now Back) c.in_ok-back.back.labels.items c.in_ok-back.back.next c.in_ok-back.ensures.begun c.found-2.ensures (c.requires.begins Back)).search;
+      forth_search = λ h x p. (side_begun (g.G.TwoSidedGraph.step h Forth) F c.node_count.result (g.G.TwoSidedGraph.stands c.args.graph.now Forth) c.in_ok-forth.forth.labels.items c.in_ok-forth.forth.next c.in_ok-forth.ensures.begun c.node_count.ensures (c.requires.begins Forth)).search;
+      back_search = λ h x p. (side_begun (g.G.TwoSidedGraph.step h Back) B c.node_count-2.result (g.G.TwoSidedGraph.stands c.args.graph.now Back) c.in_ok-back.back.labels.items c.in_ok-back.back.next c.in_ok-back.ensures.begun c.node_count-2.ensures (c.requires.begins Back)).search;
       apart = λ j k x here there. none j k x (omega arith) here there;
     }
 
@@ -145,15 +145,15 @@ returns-in-Some-met g c = record {
       (λ k h. subst (λ (n : ℕ). k < n) e.forth.len (i.0 k h), λ k h. subst (λ (n : ℕ). k < n) e.back.len (i.1 k h));
   best = λ h x p q mirror.
       let v = c.levels.invariant in
-      let found = g.G.TwoSidedGraph.found c.args.graph.now in
+      let found = g.G.TwoSidedGraph.node_count c.args.graph.now in
       let first = g.G.TwoSidedGraph.stands c.args.graph.now in
-      let found' = g.G.TwoSidedGraph.found c.levels.graph in
+      let found' = g.G.TwoSidedGraph.node_count c.levels.graph in
       let stands = g.G.TwoSidedGraph.stands c.levels.graph in
       let step = g.G.TwoSidedGraph.step h in
       let sf : IsSide (step Forth) (found Forth) (found' Forth) (first Forth) (stands Forth) c.levels.forth.labels.items c.levels.forth.next = record { grown = v.grown_forth; wave = v.forth_wave; search = v.forth_search h x p } in
       let sb : IsSide (step Back) (found Back) (found' Back) (first Back) (stands Back) c.levels.back.labels.items c.levels.back.next = record { grown = v.grown_back; wave = v.back_wave; search = v.back_search h x q } in
       let e = c.in_ok-met.ensures in
-      let found2 = g.G.TwoSidedGraph.found c.advance_smaller.new.graph in
+      let found2 = g.G.TwoSidedGraph.node_count c.advance_smaller.new.graph in
       let stands2 = g.G.TwoSidedGraph.stands c.advance_smaller.new.graph in
       let labels_f = c.advance_smaller.new.forth.labels.items in
       let labels_b = c.advance_smaller.new.back.labels.items in
@@ -178,7 +178,7 @@ pub levels-smaller : goal.levels-smaller
 levels-smaller g c =
     let v = c.levels.invariant in
     let next = rw c.in_default-met.is at c.in_ok-met.ensures.apart in
-    visits_left c.levels.forth.next c.levels.back.next c.advance_smaller.new.forth.next c.advance_smaller.new.back.next c.levels.forth.labels.items c.levels.back.labels.items (g.G.TwoSidedGraph.found c.levels.graph Forth) (g.G.TwoSidedGraph.found c.levels.graph Back) v.forth_wave v.back_wave next.1
+    visits_left c.levels.forth.next c.levels.back.next c.advance_smaller.new.forth.next c.advance_smaller.new.back.next c.levels.forth.labels.items c.levels.back.labels.items (g.G.TwoSidedGraph.node_count c.levels.graph Forth) (g.G.TwoSidedGraph.node_count c.levels.graph Back) v.forth_wave v.back_wave next.1
 
 pub levels-preserved : goal.levels-preserved
 levels-preserved g c =
@@ -205,9 +205,9 @@ returns g c = record {
   inside = tt;
   best = λ h x p q mirror s is w u walk at.
       let v = c.levels.invariant in
-      let found = g.G.TwoSidedGraph.found c.args.graph.now in
+      let found = g.G.TwoSidedGraph.node_count c.args.graph.now in
       let first = g.G.TwoSidedGraph.stands c.args.graph.now in
-      let found' = g.G.TwoSidedGraph.found c.levels.graph in
+      let found' = g.G.TwoSidedGraph.node_count c.levels.graph in
       let stands = g.G.TwoSidedGraph.stands c.levels.graph in
       let step = g.G.TwoSidedGraph.step h in
       let sf : IsSide (step Forth) (found Forth) (found' Forth) (first Forth) (stands Forth) c.levels.forth.labels.items c.levels.forth.next = record { grown = v.grown_forth; wave = v.forth_wave; search = v.forth_search h x p } in

@@ -10,11 +10,11 @@ use Rattle.pf_base.proofs.Outcomes.{no_overflow, no_refusal, refused_as}
 use Rattle.pf_core.proofs.LabelLemmas.{HasLabel-inside, label_is, Settles-set, asked_within}
 use Rattle.pf_core.proofs.SearchLemmas.{Grows-trans, best, best_grows, no_goal, search_grows, one_root, only_root, start_alone, none_settled, failed_turned}
 use Rattle.pf_core.proofs.PathLemmas.{tree_climbs}
-use Rattle.pf_core.proofs.TurnLemmas.{too_dear}
+use Rattle.pf_core.proofs.TurnLemmas.{numbered_overflows}
 use Rattle.pf_core.proofs.dijkstra.cheapest_path.Goals as goal
 
 pub begin-requires : goal.begin-requires
-begin-requires g c = subst (λ (n : ℕ). c.args.start < n) (sym c.found.ensures) c.requires.inside
+begin-requires g c = subst (λ (n : ℕ). c.args.start < n) (sym c.node_count.ensures) c.requires.inside
 
 pub returns-in_err-search : goal.returns-in_err-search
 returns-in_err-search g c = record {
@@ -35,7 +35,7 @@ turns-init g c =
     let stands = g.G.NumberedGraph.stands c.args.graph.now in
     record {
       sound = b.sound;
-      wide = b.wide ∙ c.found.ensures;
+      wide = b.wide ∙ c.node_count.ensures;
       asked = omega (arith, b.none);
       grown = record { more = omega arith; stays = λ k x h. h; back = λ k x i h. h };
       explored = λ h x. x;
@@ -151,7 +151,7 @@ returns-in_err-turn g c = record {
       let x1 = (c.is_goal.ensures.graph h (v.explored h x)).0 in
       let grown = Grows-trans _ _ _ _ _ _ c.is_goal.ensures.grows c.in_err-turn.ensures.grows in
       let d = c.in_err-turn.ensures.overflow (ap Err (sym (rw e at c.from_residual-in_err-turn.ensures.1))) h x1 in
-      too_dear g.C.Number.value g.C.Number.fits (g.G.NumberedGraph.step h) (only_root c.args.start) p _ labels (v.search h x p) v.sound.tree c.in-Some.number z.0 z.1 (g.G.NumberedGraph.passes h) (v.failed h x)
+      numbered_overflows g.C.Number.value g.C.Number.fits (g.G.NumberedGraph.step h) (only_root c.args.start) p _ labels (v.search h x p) v.sound.tree c.in-Some.number z.0 z.1 (g.G.NumberedGraph.passes h) (v.failed h x)
       (g.met.G.NumberedGraph.one_law _ h (v.explored h x)) (λ n st. d n (c.is_goal.ensures.grows.stays c.in-Some.number n st) z.0 (rw same z.1.at)) _ _ _ grown (subst (λ (n : ℕ). c.in-Some.number < n) v.wide (HasLabel-inside labels c.in-Some.number z.0 z.1.at))
       _ (one_root c.args.start _ _ _ _ v.grown c.requires.inside);
   ticked = omega (arith, c.tick.ensures, c.turns.invariant.asked);

@@ -10,9 +10,9 @@ use Rattle.pf_core.proofs.dijkstra.cheapest_path.Given as goal
 abbrev pub invariant-turns : goal.invariant-turns
 invariant-turns g l = record {
   sound : IsSound g.C.Ord.cmp g.C.Number.value l.search.labels.items (heap_items l.search.queue);
-  wide : length l.search.labels.items ≡ g.G.NumberedGraph.found l.graph;
+  wide : length l.search.labels.items ≡ g.G.NumberedGraph.node_count l.graph;
   asked : l.tally ≡ l.fn.tally + settled_count l.search.labels.items;
-  grown : Grows (g.G.NumberedGraph.found l.fn.graph) (g.G.NumberedGraph.found l.graph) (g.G.NumberedGraph.stands l.fn.graph) (g.G.NumberedGraph.stands l.graph);
+  grown : Grows (g.G.NumberedGraph.node_count l.fn.graph) (g.G.NumberedGraph.node_count l.graph) (g.G.NumberedGraph.stands l.fn.graph) (g.G.NumberedGraph.stands l.graph);
   explored : (h : g.G.NumberedGraph.Graph) → g.G.NumberedGraph.explores l.fn.graph h → g.G.NumberedGraph.explores l.graph h;
   search : (h : g.G.NumberedGraph.Graph) → g.G.NumberedGraph.explores l.fn.graph h → IsNonNegative (g.G.NumberedGraph.step h)
       → IsSearch (by_cost g.C.Number.value) (g.G.NumberedGraph.step h) (λ k. nat_eq k l.start) (g.G.NumberedGraph.stands l.graph) l.search.labels.items;

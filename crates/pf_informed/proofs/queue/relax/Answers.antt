@@ -2,8 +2,8 @@ use Rattle.std.proofs.Common.{arith, ℕ, ◌<◌, ◌≡◌, ◌∙◌, subst, 
 use Rattle.std.specs.Prelude.{Contains, ◌⊎◌}
 use Rattle.std.proofs.lemmas.List.{take_all}
 use Rattle.pf_base.proofs.ListLemmas.{Contains-take, Contains-take_more, Contains-take_here, Contains-here}
-use Rattle.pf_informed.specs.Internal.Waiting.{Eased}
-use Rattle.pf_informed.proofs.WaitingLemmas.{Eased-start, Eased-more}
+use Rattle.pf_informed.specs.Internal.Waiting.{Relaxed}
+use Rattle.pf_informed.proofs.WaitingLemmas.{Relaxed-start, Relaxed-more}
 use Rattle.pf_informed.proofs.queue.relax.Goals as goal
 
 pub steps-init : goal.steps-init
@@ -13,13 +13,13 @@ steps-init g c =
       room = omega (arith, r.room);
       sound = r.sound;
       here = r.here;
-      eased = Eased-start g.C.Number.value g.C.Number.fits c.args.estimates.now.items c.args.parent (g.C.Number.value c.args.label.now.cost) [] (λ x h. omega (arith, h.1)) c.args.labels.now.items c.args.queue.now.entries;
+      relaxed = Relaxed-start g.C.Number.value g.C.Number.fits c.args.estimates.now.items c.args.parent (g.C.Number.value c.args.label.now.cost) [] (λ x h. omega (arith, h.1)) c.args.labels.now.items c.args.queue.now.entries;
       less = omega arith;
     }
 
 pub take_step-requires-clause-inside : goal.take_step-requires-clause-inside
 take_step-requires-clause-inside g c =
-    subst (λ (n : ℕ). c.steps-item.result.0 < n) (sym c.steps.invariant.eased.len) (c.requires.steps c.steps-item.result.0 c.steps-item.result.1 (Contains-here c.args.row.now c.steps.next-index c.steps-item.result c.steps-test.true c.steps-item.is)).0
+    subst (λ (n : ℕ). c.steps-item.result.0 < n) (sym c.steps.invariant.relaxed.len) (c.requires.steps c.steps-item.result.0 c.steps-item.result.1 (Contains-here c.args.row.now c.steps.next-index c.steps-item.result c.steps-test.true c.steps-item.is)).0
 
 pub take_step-requires-clause-room : goal.take_step-requires-clause-room
 take_step-requires-clause-room g c = omega (arith, c.steps.invariant.room, c.steps-test.true)
@@ -36,10 +36,10 @@ steps-preserved g c =
     record {
       room = omega (arith, i.room, c.steps-test.true, e.room.0, e.room.1);
       sound = e.sound;
-      here = e.eased.own c.args.label.now i.here;
-      eased = Eased-more g.C.Number.value g.C.Number.fits c.args.estimates.now.items c.args.parent (g.C.Number.value c.args.label.now.cost) (take at c.args.row.now) _ item (λ x h. Contains-take c.args.row.now at x h) (Contains-take_here c.args.row.now at item c.steps-test.true c.steps-item.is) (λ x h. elim (Contains-take_more c.args.row.now at item x h) as (λ _. Contains (take at c.args.row.now) x ⊎ (item ≡ x)) [ inl k ↦ inl k | inr q ↦ inr (c.steps-item.is ∙ q) ]) _ _ _ _ _ _ i.eased e.eased;
+      here = e.relaxed.own c.args.label.now i.here;
+      relaxed = Relaxed-more g.C.Number.value g.C.Number.fits c.args.estimates.now.items c.args.parent (g.C.Number.value c.args.label.now.cost) (take at c.args.row.now) _ item (λ x h. Contains-take c.args.row.now at x h) (Contains-take_here c.args.row.now at item c.steps-test.true c.steps-item.is) (λ x h. elim (Contains-take_more c.args.row.now at item x h) as (λ _. Contains (take at c.args.row.now) x ⊎ (item ≡ x)) [ inl k ↦ inl k | inr q ↦ inr (c.steps-item.is ∙ q) ]) _ _ _ _ _ _ i.relaxed e.relaxed;
       less = omega (arith, i.less, e.less);
     }
 
-pub returns-clause-eased : goal.returns-clause-eased
-returns-clause-eased g c = subst (λ (row : List (ℕ × g.row.C.Denot)). Eased g.C.Number.value g.C.Number.fits c.args.estimates.now.items c.args.parent (g.C.Number.value c.args.label.now.cost) row c.args.labels.now.items c.steps.labels.items c.args.queue.now.entries c.steps.queue.entries) (take_all c.steps.next-index c.args.row.now c.steps-test.false) c.steps.invariant.eased
+pub returns-clause-relaxed : goal.returns-clause-relaxed
+returns-clause-relaxed g c = subst (λ (row : List (ℕ × g.row.C.Denot)). Relaxed g.C.Number.value g.C.Number.fits c.args.estimates.now.items c.args.parent (g.C.Number.value c.args.label.now.cost) row c.args.labels.now.items c.steps.labels.items c.args.queue.now.entries c.steps.queue.entries) (take_all c.steps.next-index c.args.row.now c.steps-test.false) c.steps.invariant.relaxed

@@ -5,17 +5,17 @@ use Rattle.pf_core.specs.declared.labels.Label.{Label}
 use Rattle.pf_core.proofs.LabelLemmas.{HasLabel-inside}
 use Rattle.pf_base.proofs.ListLemmas.{at_place}
 use Rattle.pf_informed.specs.Internal.Forest.{IsForest, nat_of, total_room}
-use Rattle.pf_informed.specs.Internal.Waiting.{IsQueue, Eased}
+use Rattle.pf_informed.specs.Internal.Waiting.{IsQueue, Relaxed}
 use Rattle.pf_informed.proofs.ForestLemmas.{forest_lowered, room_lowered}
-use Rattle.pf_informed.proofs.WaitingLemmas.{Eased-none, Eased-lowered, IsQueue-lowered}
+use Rattle.pf_informed.proofs.WaitingLemmas.{Relaxed-none, Relaxed-lowered, IsQueue-lowered}
 use Rattle.pf_informed.proofs.queue.take_step.Goals as goal
 
 pub returns-in_default : goal.returns-in_default
 returns-in_default g c = record {
   sound = c.requires.sound;
-  eased =
+  relaxed =
       let v = g.met.C.CheckedAdd.checked_add_law c.args.label.now.cost c.args.price None c.in_default.ensures in
-      Eased-none g.C.Number.value g.C.Number.fits c.args.estimates.now.items c.args.parent (g.C.Number.value c.args.label.now.cost) c.args.next c.args.price c.args.labels.now.items c.args.queue.now.entries (inr (inl v));
+      Relaxed-none g.C.Number.value g.C.Number.fits c.args.estimates.now.items c.args.parent (g.C.Number.value c.args.label.now.cost) c.args.next c.args.price c.args.labels.now.items c.args.queue.now.entries (inr (inl v));
   less = omega arith;
   room = (omega arith, omega arith);
 }
@@ -23,10 +23,10 @@ returns-in_default g c = record {
 pub returns-then-not-lowers : goal.returns-then-not-lowers
 returns-then-not-lowers g c = record {
   sound = c.requires.sound;
-  eased =
+  relaxed =
       let w = g.met.C.CheckedAdd.checked_add_law c.args.label.now.cost c.args.price (Some c.in-Some.cost) c.in-Some.ensures in
       let b = rw c.deref.ensures.value at c.if-not-lowers.ensures in
-      Eased-none g.C.Number.value g.C.Number.fits c.args.estimates.now.items c.args.parent (g.C.Number.value c.args.label.now.cost) c.args.next c.args.price c.args.labels.now.items c.args.queue.now.entries (inl (b.0, b.1, omega (arith, ints, b.2, w.1)));
+      Relaxed-none g.C.Number.value g.C.Number.fits c.args.estimates.now.items c.args.parent (g.C.Number.value c.args.label.now.cost) c.args.next c.args.price c.args.labels.now.items c.args.queue.now.entries (inl (b.0, b.1, omega (arith, ints, b.2, w.1)));
   less = omega arith;
   room = (omega arith, omega arith);
 }
@@ -47,18 +47,18 @@ returns-in-Some-checked_add g c =
     let at : slice_get estimates next ≡ Some c.index.result.now = at_place estimates next c.index.result.now c.index.result.now (omega (arith, sound.estimated, c.requires.inside)) (sym c.index.ensures) in
     let lower = rw c.deref.ensures.value at c.if-not-lowers.ensures in
     let above : value c.args.label.now.cost ≤ℤ value c.in-Some.cost = omega (arith, ints, w.1, c.requires.price) in
-    let eased = subst (λ (o : Option (Label g.row.C.Denot)). Eased value fits estimates c.args.parent (value c.args.label.now.cost) ((next, c.args.price) ∷ []) labels (slice_set labels next o) entries entries') (sym c.behind.ensures)
-    (Eased-lowered value labels sound.forest next new c.args.label.now c.requires.inside lower c.requires.here above (omega arith)
+    let relaxed = subst (λ (o : Option (Label g.row.C.Denot)). Relaxed value fits estimates c.args.parent (value c.args.label.now.cost) ((next, c.args.price) ∷ []) labels (slice_set labels next o) entries entries') (sym c.behind.ensures)
+    (Relaxed-lowered value labels sound.forest next new c.args.label.now c.requires.inside lower c.requires.here above (omega arith)
     entries entries' c.in-Some-checked_add.sum c.push.ensures.added fits estimates (value c.args.label.now.cost) c.args.price w.1 (search rules)) in
     record {
       sound = record {
         forest = subst (λ (o : Option (Label g.row.C.Denot)). IsForest value (slice_set labels next o)) (sym c.behind.ensures) (forest_lowered value labels sound.forest next new c.args.label.now c.requires.inside lower c.requires.here above (omega arith));
-        few = omega (arith, sound.few, eased.len);
-        estimated = omega (arith, sound.estimated, eased.len);
+        few = omega (arith, sound.few, relaxed.len);
+        estimated = omega (arith, sound.estimated, relaxed.len);
         queue = subst (λ (o : Option (Label g.row.C.Denot)). IsQueue value (slice_set labels next o) estimates entries') (sym c.behind.ensures)
             (IsQueue-lowered value labels sound.forest next new c.args.label.now c.requires.inside lower c.requires.here above (omega arith) entries entries' c.in-Some-checked_add.sum c.push.ensures.added estimates c.index.result.now at v.1 sound.queue);
       };
-      eased = eased;
+      relaxed = relaxed;
       less =
           let top = value g.C.Cost.greatest in
           let fit : value c.in-Some.cost ≤ℤ top = subst (λ (z : ℤ). z ≤ℤ top) (sym w.1) ((g.met.C.Cost.range_law _).0 w.0).1 in
@@ -71,11 +71,11 @@ returns-in-Some-checked_add g c =
 pub returns-in_default-checked_add : goal.returns-in_default-checked_add
 returns-in_default-checked_add g c = record {
   sound = c.requires.sound;
-  eased =
+  relaxed =
       let w = g.met.C.CheckedAdd.checked_add_law c.args.label.now.cost c.args.price (Some c.in-Some.cost) c.in-Some.ensures in
       let v = g.met.C.CheckedAdd.checked_add_law c.in-Some.cost c.index.result.now None c.in_default-checked_add.ensures in
       let at : slice_get c.args.estimates.now.items c.args.next ≡ Some c.index.result.now = at_place c.args.estimates.now.items c.args.next c.index.result.now c.index.result.now (omega (arith, c.requires.sound.estimated, c.requires.inside)) (sym c.index.ensures) in
-      Eased-none g.C.Number.value g.C.Number.fits c.args.estimates.now.items c.args.parent (g.C.Number.value c.args.label.now.cost) c.args.next c.args.price c.args.labels.now.items c.args.queue.now.entries (inr (inr (c.index.result.now, at, subst (λ (z : ℤ). ¬ (g.C.Number.fits (z +ℤ g.C.Number.value c.index.result.now))) w.1 v)));
+      Relaxed-none g.C.Number.value g.C.Number.fits c.args.estimates.now.items c.args.parent (g.C.Number.value c.args.label.now.cost) c.args.next c.args.price c.args.labels.now.items c.args.queue.now.entries (inr (inr (c.index.result.now, at, subst (λ (z : ℤ). ¬ (g.C.Number.fits (z +ℤ g.C.Number.value c.index.result.now))) w.1 v)));
   less = omega arith;
   room = (omega arith, omega arith);
 }

@@ -103,7 +103,7 @@ returns g c = record {
       let first = c.is_goal.ensures.grows in
       let second = c.in_ok-expand.ensures.grows in
       let grow = Grows-trans _ _ _ _ _ _ first second in
-      let inside : c.args.number < g.G.NumberedGraph.found c.args.graph.now = below_more _ _ _ c.requires.inside.0 c.requires.inside.1 in
+      let inside : c.args.number < g.G.NumberedGraph.node_count c.args.graph.now = below_more _ _ _ c.requires.inside.0 c.requires.inside.1 in
       let row = c.in_ok-expand.ensures.listed in
       let linked = rw (c.deref.ensures.value, row.1) at w.1 in
       tight_row _ _ _ _ _ _ c.args.number _ _ (tight_grows _ _ _ _ _ _ _ _ _ grow c.requires.inside.1 c.args.number _ _ t) c.in-Some.label here cheap

@@ -18,7 +18,7 @@ returns-in_err-search g c =
 pub turns-init : goal.turns-init
 turns-init g c =
     let e = c.in_ok-search.ensures in
-    let p = rw c.found.ensures at e.placed in
+    let p = rw c.node_count.ensures at e.placed in
     record {
       grown = record { more = omega arith; stays = λ k x h. h; back = λ k x i h. h };
       explored = λ h x. x;

@@ -10,12 +10,12 @@ walk_on-cycle-requires-clause-graph g c = c.requires.graph
 pub walk_on-cycle-requires-clause-marks : goal.walk_on-cycle-requires-clause-marks
 walk_on-cycle-requires-clause-marks g c =
     let e = c.in_ok-walk.ensures in
-    rw c.found.ensures at e.marks
+    rw c.node_count.ensures at e.marks
 
 pub walk_on-cycle-requires-clause-turns : goal.walk_on-cycle-requires-clause-turns
 walk_on-cycle-requires-clause-turns g c =
     let e = c.in_ok-walk.ensures in
-    rw c.found.ensures at e.turns
+    rw c.node_count.ensures at e.turns
 
 pub walk_on-cycle-requires-clause-left : goal.walk_on-cycle-requires-clause-left
 walk_on-cycle-requires-clause-left g c =

@@ -32,13 +32,13 @@ still_same new count now old l e m f = omega arith
 pub numbers-init : goal.numbers-init
 numbers-init g c =
     let r = c.requires in
-    let found = g.G.NumberedGraph.found c.args.graph.now in
+    let found = g.G.NumberedGraph.node_count c.args.graph.now in
     record {
       same = refl;
       grown = Grows-refl _ _;
       explored = λ h x. x;
       counted = rw r.empty (counted_none c.args.counts.now.items (λ j n at. sym (at_replicate found 0 j n (subst (λ xs. slice_get xs j ≡ Some n) r.zeros at))));
-      long = ap length r.zeros ∙ length-replicate _ 0 ∙ sym c.found-count.ensures;
+      long = ap length r.zeros ∙ length-replicate _ 0 ∙ sym c.node_count-count.ensures;
       wide = ap length r.empty;
       listed = λ h x k row n at s. absurd (none_in k row (subst (λ rs. slice_get rs k ≡ Some row) r.empty at));
     }
@@ -46,7 +46,7 @@ numbers-init g c =
 pub expand-requires-clause-inside : goal.expand-requires-clause-inside
 expand-requires-clause-inside g c =
     let v = c.numbers.invariant in
-    subst (λ (n : ℕ). c.numbers.number < n) (c.found-count.ensures ∙ sym v.same) c.numbers-test.true
+    subst (λ (n : ℕ). c.numbers.number < n) (c.node_count-count.ensures ∙ sym v.same) c.numbers-test.true
 
 pub expand-requires-clause-graph : goal.expand-requires-clause-graph
 expand-requires-clause-graph g c =
@@ -67,8 +67,8 @@ returns-in_err-expand g c = record {
   errors = memory_of _ _ c.from_residual.ensures.1 c.in_err-expand.ensures.refused.0;
 }
 
-pub returns-then-found-count : goal.returns-then-found-count
-returns-then-found-count g c = record {
+pub returns-then-node_count-count : goal.returns-then-node_count-count
+returns-then-node_count-count g c = record {
   graph = λ h x. c.in_ok-expand.ensures.graph h (c.numbers.invariant.explored h x);
   grows = Grows-trans _ _ _ _ _ _ c.numbers.invariant.grown c.in_ok-expand.ensures.grows;
   same = tt;
@@ -80,10 +80,10 @@ returns-then-found-count g c = record {
       let v = c.numbers.invariant in
       let e = c.in_ok-expand.ensures in
       let number = c.numbers.number in
-      let count = g.G.NumberedGraph.found c.args.graph.now in
+      let count = g.G.NumberedGraph.node_count c.args.graph.now in
       let stands = g.G.NumberedGraph.stands c.expand.new.self in
-      let below : number < count = subst (λ (n : ℕ). number < n) c.found-count.ensures c.numbers-test.true in
-      let more : count < g.G.NumberedGraph.found c.expand.new.self = rw (c.found-count.ensures, c.found.ensures) at c.if-found-count.true in
+      let below : number < count = subst (λ (n : ℕ). number < n) c.node_count-count.ensures c.numbers-test.true in
+      let more : count < g.G.NumberedGraph.node_count c.expand.new.self = rw (c.node_count-count.ensures, c.node_count.ensures) at c.if-node_count-count.true in
       let s = c.requires.begins number below in
       let here = v.grown.stays number s.0 s.1 in
       let p = e.placed in
@@ -106,7 +106,7 @@ count_row-requires g c = λ j h.
     let v = c.numbers.invariant in
     let e = c.in_ok-expand.ensures in
     let l = e.listed in
-    let none : g.G.NumberedGraph.found c.expand.new.self ≤ c.found-count.result = rw c.found.ensures at c.if-found-count.false in
+    let none : g.G.NumberedGraph.node_count c.expand.new.self ≤ c.node_count-count.result = rw c.node_count.ensures at c.if-node_count-count.false in
     let s = step_of l.0 j (subst (λ (ks : List ℕ). Contains ks j) (c.deref.ensures.value ∙ l.1) (of_member c.deref.result.now j h)) in
     counted _ _ _ _ (l.2 j s.0 s.1) none (ap length c.deref_mut.ensures.value ∙ v.long)
 
@@ -133,18 +133,18 @@ numbers-preserved g c =
     let stands = g.G.NumberedGraph.stands c.expand.new.self in
     let row = c.expand.new.row in
     let rows = c.numbers.rows.items in
-    let none : g.G.NumberedGraph.found c.expand.new.self ≤ c.found-count.result = rw c.found.ensures at c.if-found-count.false in
+    let none : g.G.NumberedGraph.node_count c.expand.new.self ≤ c.node_count-count.result = rw c.node_count.ensures at c.if-node_count-count.false in
     let l = e.listed in
     let p = e.placed in
     let pushed : c.push.new.self.items ≡ rows ++ row ∷ [] = c.in_ok-push.ensures.items in
-    let all = c.found-count.ensures ∙ sym v.same in
+    let all = c.node_count-count.ensures ∙ sym v.same in
     let before = c.numbers.counts.items in
     let counts = c.count_row.new.counts in
     let falls = subst (λ (ns : List ℕ). Falls row.items counts ns) c.deref_mut.ensures.value (subst (λ (ks : List ℕ). Falls ks counts c.deref_mut.result.now) c.deref.ensures.value c.in_ok-count_row.ensures.counted) in
     let same : take c.numbers.counts.len (counts ++ drop (length counts) before) ≡ counts = take_at counts (drop (length counts) before) c.numbers.counts.len (c.count_row.auto.counts ∙ ap length c.deref_mut.ensures.value ∙ sym c.numbers.counts.ok.0) in
     let below : (j : ℕ) → _ → j < length c.numbers.counts.items = λ j h. let s = step_of l.0 j (subst (λ (ks : List ℕ). Contains ks j) l.1 (of_member row.items j h)) in counted _ _ _ _ (l.2 j s.0 s.1) none v.long in
     record {
-      same = still_same _ _ _ _ none v.same e.grows.more c.found-count.ensures;
+      same = still_same _ _ _ _ none v.same e.grows.more c.node_count-count.ensures;
       grown = Grows-trans _ _ _ _ _ _ v.grown e.grows;
       explored = λ h x. e.graph h (v.explored h x);
       counted = subst (λ rs. AreCounted rs (take c.numbers.counts.len (counts ++ drop (length counts) before))) (sym pushed) (subst (λ (ns : List ℕ). AreCounted (rows ++ row ∷ []) ns) (sym same) (counted_push rows row before counts v.counted falls below));
@@ -152,11 +152,11 @@ numbers-preserved g c =
       wide = ap length pushed ∙ get_length rows row ∙ ap (λ n. n + 1) v.wide;
       listed = λ h x k r n at s. elim (at_push rows row r k (subst (λ rs. slice_get rs k ≡ Some r) pushed at)) as (λ _. AllZip stands r.items (g.G.NumberedGraph.successors h n)) [
         | inl q ↦
-            let small : k < g.G.NumberedGraph.found c.numbers.graph = subst (λ (n : ℕ). k < n) all (goes_below k _ _ _ (slice_get_within rows k r q) v.wide c.numbers-test.true) in
+            let small : k < g.G.NumberedGraph.node_count c.numbers.graph = subst (λ (n : ℕ). k < n) all (goes_below k _ _ _ (slice_get_within rows k r q) v.wide c.numbers-test.true) in
             AllZip-map (g.G.NumberedGraph.stands c.numbers.graph) stands e.grows.stays r.items (g.G.NumberedGraph.successors h n) (v.listed h x k r n q (e.grows.back k n small s))
         | inr q ↦
             let this : k ≡ c.numbers.number = q.0 ∙ v.wide in
-            let small : k < g.G.NumberedGraph.found c.numbers.graph = subst (λ (n : ℕ). k < n) all (subst (λ (n : ℕ). n < c.found-count.result) (sym this) c.numbers-test.true) in
+            let small : k < g.G.NumberedGraph.node_count c.numbers.graph = subst (λ (n : ℕ). k < n) all (subst (λ (n : ℕ). n < c.node_count-count.result) (sym this) c.numbers-test.true) in
             let old = subst (λ (i : ℕ). g.G.NumberedGraph.stands c.numbers.graph i n) this (e.grows.back k n small s) in
             let z = ends_stand stands p.0 _ (p.2 h (v.explored h x) n old) in
             subst (λ (w : Vec ℕ g.row.A.Denot). AllZip stands w.items (g.G.NumberedGraph.successors h n)) q.1 (subst (λ (ks : List ℕ). AllZip stands ks (g.G.NumberedGraph.successors h n)) (sym p.1) z)
@@ -171,8 +171,8 @@ returns g c =
       grows = v.grown;
       same = v.same;
       counted = v.counted;
-      wide = omega (arith, v.wide, c.numbers-test.false, c.found-count.ensures, c.numbers.auto.number-end);
-      long = v.long ∙ c.found-count.ensures;
+      wide = omega (arith, v.wide, c.numbers-test.false, c.node_count-count.ensures, c.numbers.auto.number-end);
+      long = v.long ∙ c.node_count-count.ensures;
       listed = v.listed;
       unknown = λ h x e. absurd (ok_not_err e);
       errors = tt;

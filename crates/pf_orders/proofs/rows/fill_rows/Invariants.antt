@@ -7,8 +7,8 @@ use Rattle.pf_orders.proofs.rows.fill_rows.Given as goal
 
 abbrev pub invariant-numbers : goal.invariant-numbers
 invariant-numbers g l = record {
-  same : g.G.NumberedGraph.found l.graph ≡ g.G.NumberedGraph.found l.fn.graph;
-  grown : Grows (g.G.NumberedGraph.found l.fn.graph) (g.G.NumberedGraph.found l.graph) (g.G.NumberedGraph.stands l.fn.graph) (g.G.NumberedGraph.stands l.graph);
+  same : g.G.NumberedGraph.node_count l.graph ≡ g.G.NumberedGraph.node_count l.fn.graph;
+  grown : Grows (g.G.NumberedGraph.node_count l.fn.graph) (g.G.NumberedGraph.node_count l.graph) (g.G.NumberedGraph.stands l.fn.graph) (g.G.NumberedGraph.stands l.graph);
   explored : (h : g.G.NumberedGraph.Graph) → g.G.NumberedGraph.explores l.fn.graph h → g.G.NumberedGraph.explores l.graph h;
   counted : AreCounted l.rows.items l.counts.items;
   long : length l.counts.items ≡ l.count;

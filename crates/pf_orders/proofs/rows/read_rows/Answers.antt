@@ -16,8 +16,8 @@ fill_rows-requires-clause-empty g c = c.in_ok-rows.ensures.items
 
 pub fill_rows-requires-clause-zeros : goal.fill_rows-requires-clause-zeros
 fill_rows-requires-clause-zeros g c =
-    let zeros : c.resize.new.self.items ≡ replicate c.found-count.result 0 = resized_none c.found-count.result _ c.new-counts.result.items _ 0 c.in_ok-resize.ensures.items c.new-counts.ensures.items c.new-counts.ensures.len in
-    zeros ∙ ap (λ n. replicate n 0) c.found-count.ensures
+    let zeros : c.resize.new.self.items ≡ replicate c.node_count-count.result 0 = resized_none c.node_count-count.result _ c.new-counts.result.items _ 0 c.in_ok-resize.ensures.items c.new-counts.ensures.items c.new-counts.ensures.len in
+    zeros ∙ ap (λ n. replicate n 0) c.node_count-count.ensures
 
 pub returns-in_err-fill_rows : goal.returns-in_err-fill_rows
 returns-in_err-fill_rows g c = record {

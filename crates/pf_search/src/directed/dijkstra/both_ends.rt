@@ -2,7 +2,7 @@
 
 ghost use Rattle.std.specs.List.{AllZip};
 ghost use Rattle.std.specs.Prelude.{◌≡◌, ◌<◌, ◌≤ℤ◌, ◌<ℤ◌, ◌+ℤ◌, ◌⊎◌, ◌++◌, ℕ, pos, List, [], ◌∷◌, Err, Some, None, IfOk, IfErr, IfSome, OnOk, MatchBool, MatchOption, Contains, length, drop, reverse};
-ghost use Rattle.pf_base.specs.Edges.{IsCheapestOrNone, IsPastRange};
+ghost use Rattle.pf_base.specs.Edges.{IsCheapestOrNone, CostOverflows};
 ghost use Rattle.pf_base.specs.Answers.{IsLawfulClone};
 ghost use Rattle.pf_core.specs.declared.labels.Label.{Label};
 ghost use Rattle.pf_core.specs.Labels.{HasLabel, IsTree};
@@ -167,7 +167,7 @@ where
         IfOk result (λ answer. IsPairOn N.eq C.value C.fits edges previous start end graph.new forth.new back.new (bound C.value (C.value C.greatest) answer)
         × IfSome answer (IsMeetingOn N.eq C.value graph.new.forth.nodes.keys graph.new.back.nodes.keys forth.new back.new)
         × MatchOption answer (NoWalkAcross N.eq C.value edges start end) (λ m. NoWalkAcrossBelow N.eq C.value edges start end (C.value m.cost)))
-        × (result ≡ Err PathError.CostOverflow → IsPastRange N.eq edges (start ∷ []) (N.eq end) C.fits)) }
+        × (result ≡ Err PathError.CostOverflow → CostOverflows N.eq edges (start ∷ []) (N.eq end) C.fits)) }
     ensures errors { IfErr result (λ e. (e ≡ PathError.OutOfMemory) ⊎ (e ≡ PathError.CostOverflow)) }
 {
     let mut best: Option<Meeting<C>> = None;
@@ -305,7 +305,7 @@ where
     requires pair { AnswersPair N.eq S.answers P.answers graph.old C.value C.fits forth.old back.old (C.value C.greatest +ℤ pos 1) }
     ensures best { OfPair N.eq S.answers P.answers graph.old C.value C.fits forth.old back.old (C.value C.greatest +ℤ pos 1) (λ edges previous start end.
         IfOk result (IsCheapestOrNone N.eq edges (start ∷ []) (N.eq end) C.value)
-        × (result ≡ Err PathError.CostOverflow → IsPastRange N.eq edges (start ∷ []) (N.eq end) C.fits)) }
+        × (result ≡ Err PathError.CostOverflow → CostOverflows N.eq edges (start ∷ []) (N.eq end) C.fits)) }
     ensures errors { IfErr result (λ e. (e ≡ PathError.OutOfMemory) ⊎ (e ≡ PathError.CostOverflow)) }
 {
     match best_meeting(graph, forth, back)? {
@@ -335,7 +335,7 @@ where
     requires ends { AnswersEnds N.eq S.answers P.answers graph.old }
     ensures best { OfEnds N.eq S.answers P.answers graph.old (λ edges previous start end.
         IfOk result (IsCheapestOrNone N.eq edges (start ∷ []) (N.eq end) C.value)
-        × (result ≡ Err PathError.CostOverflow → IsPastRange N.eq edges (start ∷ []) (N.eq end) C.fits)) }
+        × (result ≡ Err PathError.CostOverflow → CostOverflows N.eq edges (start ∷ []) (N.eq end) C.fits)) }
     ensures errors { IfErr result (λ e. (e ≡ PathError.OutOfMemory) ⊎ (e ≡ PathError.CostOverflow)) }
 {
     let mut forth = Search::begin(alloc, graph.forth.nodes.len(), 0)?;
@@ -388,7 +388,7 @@ where
         IfOk result (IsCheapestOrNone N.eq edges (start.now ∷ []) (N.eq end.now) C.value)) }
 
     ensures overflow { OfWeightedSearchFromBothEnds N.eq start.now end.now (⟦<FN as EdgeFunction<N, C>>⟧.answers successors) (⟦<FM as EdgeFunction<N, C>>⟧.answers predecessors) (λ edges previous.
-        result ≡ Err PathError.CostOverflow → IsPastRange N.eq edges (start.now ∷ []) (N.eq end.now) C.fits) }
+        result ≡ Err PathError.CostOverflow → CostOverflows N.eq edges (start.now ∷ []) (N.eq end.now) C.fits) }
 
     ensures errors { IfErr result (λ e. (e ≡ PathError.OutOfMemory) ⊎ (e ≡ PathError.CostOverflow)) }
 {

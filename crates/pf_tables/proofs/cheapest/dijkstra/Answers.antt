@@ -8,7 +8,7 @@ use Rattle.pf_base.proofs.Outcomes.{no_overflow, ok_not_err, refused_as}
 use Rattle.pf_tables.proofs.Alone.{no_walk_alone, cheapest_alone}
 use Rattle.pf_tables.proofs.GraphLemmas.{edge_from_zero}
 use Rattle.pf_tables.proofs.ExploreLemmas.{edges_outside, edges_within}
-use Rattle.pf_tables.proofs.OwnLemmas.{own_answer, own_past_range}
+use Rattle.pf_tables.proofs.OwnLemmas.{own_answer, own_cost_overflows}
 use borrow.Author.Tests.{eqb-true}
 use Rattle.pf_tables.proofs.cheapest.dijkstra.Goals as goal
 
@@ -72,5 +72,5 @@ returns-clause-overflow g c = λ e.
     let places = g.G.Graph.places c.args.graph.now in
     let passes = g.T.Goals.passes c.args.goals in
     let inside : c.args.from < size = omega (arith, c.if-from-len.false, c.len.ensures) in
-    own_past_range (graph_of value size places) c.args.from size inside passes _ g.C.Number.fits
+    own_cost_overflows (graph_of value size places) c.args.from size inside passes _ g.C.Number.fits
     (c.cheapest_path.ensures.overflow (searched value size places c.args.from passes) (is_table value size places c.args.from passes) (record { non_negative = λ a z b s. edge_from_zero value size places c.known.ensures a b z s }) e)

@@ -1,6 +1,6 @@
 use Rattle.std.proofs.Common.{◌≡◌, refl, sym, ap, subst, Err, length}
 use Rattle.pf_base.specs.declared.error.PathError.TheVariants.{CostOverflow}
-use Rattle.pf_core.specs.Steps.{IsTooDear}
+use Rattle.pf_core.specs.Steps.{NumberedOverflows}
 use Rattle.pf_yen.specs.Internal.Adjacency.{AdjacencyLists, is_goal}
 use Rattle.pf_yen.specs.Internal.Filtered.{FilteredLists, FilteredStep, StandsForItself}
 use Rattle.pf_yen.proofs.FilteredWalks.{filtered_from_zero, none_left, best_clean, best_member, best_least}
@@ -55,7 +55,7 @@ returns-in_err-answer g c = record {
       let x = c.in_err-answer.ensures.graph here (refl, c.requires.whole.inside, c.requires.wide) in
       let f : c.in_err-answer.field-0.0 ≡ CostOverflow = overflow_kept c.from_residual.result c.in_err-answer.field-0.0 c.from_residual.ensures.1 e in
       let d = c.in_err-answer.ensures.overflow here (refl, c.requires.whole.inside, c.requires.wide) (filtered_from_zero g.C.Number.value here c.requires.whole) (ap Err f) in
-      subst (λ (k : AdjacencyLists g.row.C.Denot). IsTooDear (FilteredStep g.C.Number.value here) (is_goal s.adjacency.now) (StandsForItself (length s.adjacency.now.rows) 0) (StandsForItself (length k.rows)) g.C.Number.fits) (sym (ap (λ (h : FilteredLists g.row.C.Denot). h.adjacency) x.0)) d;
+      subst (λ (k : AdjacencyLists g.row.C.Denot). NumberedOverflows (FilteredStep g.C.Number.value here) (is_goal s.adjacency.now) (StandsForItself (length s.adjacency.now.rows) 0) (StandsForItself (length k.rows)) g.C.Number.fits) (sym (ap (λ (h : FilteredLists g.row.C.Denot). h.adjacency) x.0)) d;
   banned = IfOk-from_err _ _ c.from_residual.ensures.0;
   errors = refused_as _ c.from_residual.result c.in_err-answer.field-0.0 c.from_residual.ensures.1 c.in_err-answer.ensures.errors;
   least = IfOk-from_err _ _ c.from_residual.ensures.0;

@@ -48,7 +48,7 @@ returns g c = record {
       let step = g.G.NumberedGraph.step h in
       let passes = g.G.NumberedGraph.passes h in
       let stands = g.G.NumberedGraph.stands in
-      let found = g.G.NumberedGraph.found in
+      let found = g.G.NumberedGraph.node_count in
       let k = c.args.adjacency.now in
       let n = length k.rows in
       let number : c.len-number.result ≡ n = c.len-number.ensures in
@@ -94,7 +94,7 @@ returns g c = record {
       ];
   grows =
       let b = c.is_goal-goal.ensures in
-      let found = g.G.NumberedGraph.found in
+      let found = g.G.NumberedGraph.node_count in
       let stands = g.G.NumberedGraph.stands in
       elim c.if-not-goal.branch as (λ _. Grows (found c.args.graph.now) (found c.if-not-goal.graph) (stands c.args.graph.now) (stands c.if-not-goal.graph)) [
         | then-not-goal+in_ok-expand w ↦ rw w.graph-is (Grows-trans _ _ _ _ _ _ b.grows w.in_ok-expand.ensures.grows)

@@ -27,21 +27,21 @@ returns-in_err-expand g c = record {
 }
 
 pub note-requires-clause-inside : goal.note-requires-clause-inside
-note-requires-clause-inside g c = within_found _ _ _ _ c.requires.inside c.in_ok-expand.ensures.grows.more c.found-found.ensures
+note-requires-clause-inside g c = within_found _ _ _ _ c.requires.inside c.in_ok-expand.ensures.grows.more c.node_count-found.ensures
 
 pub note-requires-clause-depth : goal.note-requires-clause-depth
 note-requires-clause-depth g c = c.requires.depth
 
 pub returns-in-Err : goal.returns-in-Err
 returns-in-Err g c = record {
-  grows = Grows-back _ _ _ _ _ _ c.in_ok-expand.ensures.grows c.forget.ensures.shrinks (c.forget.ensures.left ∙ c.found-first.ensures) (λ k x s. g.met.G.NumberedGraph.inside_law c.args.graph.now k x s);
+  grows = Grows-back _ _ _ _ _ _ c.in_ok-expand.ensures.grows c.forget.ensures.shrinks (c.forget.ensures.left ∙ c.node_count-first.ensures) (λ k x s. g.met.G.NumberedGraph.inside_law c.args.graph.now k x s);
   graph = λ h x. c.forget.ensures.graph h (c.in_ok-expand.ensures.graph h x);
   given = tt;
   visited = tt;
   path = tt;
   waiting = tt;
   ordered = tt;
-  kept = let k = c.in-Err.ensures.kept in (k.0, k.1, k.2, k.3, c.forget.ensures.left ∙ c.found-first.ensures);
+  kept = let k = c.in-Err.ensures.kept in (k.0, k.1, k.2, k.3, c.forget.ensures.left ∙ c.node_count-first.ensures);
   refused = c.in-Err.ensures.refused;
 }
 
@@ -64,4 +64,4 @@ returns g c = record {
 }
 
 pub forget-requires : goal.forget-requires
-forget-requires g c = subst (λ (n : ℕ). g.G.NumberedGraph.can_forget c.expand.new.self n) (sym c.found-first.ensures) c.expand.ensures.back
+forget-requires g c = subst (λ (n : ℕ). g.G.NumberedGraph.can_forget c.expand.new.self n) (sym c.node_count-first.ensures) c.expand.ensures.back

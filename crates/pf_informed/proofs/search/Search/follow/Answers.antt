@@ -3,7 +3,7 @@ use Rattle.std.specs.Prelude.{◌++◌, ◌-◌, Contains, replicate}
 use Rattle.pf_core.specs.declared.labels.Label.{Label}
 use Rattle.pf_core.proofs.LabelLemmas.{label_is}
 use Rattle.pf_informed.specs.Internal.Forest.{nat_of}
-use Rattle.pf_informed.specs.Internal.Waiting.{Eased}
+use Rattle.pf_informed.specs.Internal.Waiting.{Relaxed}
 use Rattle.pf_informed.proofs.WiderLemmas.{forest_wider, queue_wider, length_wider, widened, work_wider, less_work}
 use Rattle.pf_base.proofs.Outcomes.{on_refused, refused_as}
 use Rattle.pf_informed.proofs.Bounds.{at_most_equal, few_fit}
@@ -76,22 +76,22 @@ returns g c =
           let is = subst (λ (n : ℕ). c.make_room.new.labels.items ≡ labels ++ replicate (n - length labels) None) len c.in_ok-make_room.ensures.wider in
           let w = widened g.C.Number.value labels c.make_room.new.labels.items (length c.args.self.now.estimates.items) c.requires.sound.estimated is in
           let same : c.label_of-label.result ≡ l = label_is c.make_room.new.labels.items c.args.number c.label_of-label.result l c.label_of-label.ensures (w.stays c.args.number l h) in
-          let eased = rw (c.deref.ensures.value, c.in_ok-reserve.ensures.entries) at c.relax.ensures.eased in
+          let relaxed = rw (c.deref.ensures.value, c.in_ok-reserve.ensures.entries) at c.relax.ensures.relaxed in
           record {
             wider = c.make_room.new.labels.items;
             wide = w;
-            eased = subst (λ (m : Label g.row.C.Denot). Eased g.C.Number.value g.C.Number.fits c.args.self.now.estimates.items c.args.number (g.C.Number.value m.cost) c.args.self.now.row.items c.make_room.new.labels.items c.relax.new.labels.items c.args.self.now.queue.entries c.relax.new.queue.entries) same eased;
+            relaxed = subst (λ (m : Label g.row.C.Denot). Relaxed g.C.Number.value g.C.Number.fits c.args.self.now.estimates.items c.args.number (g.C.Number.value m.cost) c.args.self.now.row.items c.make_room.new.labels.items c.relax.new.labels.items c.args.self.now.queue.entries c.relax.new.queue.entries) same relaxed;
           };
       wide =
           let len : c.len-2.result ≡ length c.args.self.now.estimates.items = c.len-2.ensures ∙ c.args.self.now.estimates.ok.0 in
           let is = subst (λ (n : ℕ). c.make_room.new.labels.items ≡ labels ++ replicate (n - length labels) None) len c.in_ok-make_room.ensures.wider in
-          c.relax.ensures.eased.len ∙ length_wider g.C.Number.value labels c.make_room.new.labels.items (length c.args.self.now.estimates.items) c.requires.sound.estimated is;
+          c.relax.ensures.relaxed.len ∙ length_wider g.C.Number.value labels c.make_room.new.labels.items (length c.args.self.now.estimates.items) c.requires.sound.estimated is;
       less =
           let top = nat_of (g.C.Number.value g.C.Cost.greatest) in
           let len : c.len-2.result ≡ length c.args.self.now.estimates.items = c.len-2.ensures ∙ c.args.self.now.estimates.ok.0 in
           let is = subst (λ (n : ℕ). c.make_room.new.labels.items ≡ labels ++ replicate (n - length labels) None) len c.in_ok-make_room.ensures.wider in
           let w = work_wider g.C.Number.value labels c.make_room.new.labels.items (length c.args.self.now.estimates.items) c.requires.sound.estimated is top (length c.args.self.now.queue.entries) (few_fit _ _ len c.in_ok-make_room.ensures.few) in
-          less_work g.C.Number.value top c.make_room.new.labels.items c.relax.new.labels.items (length c.reserve.new.self.entries) (length c.relax.new.queue.entries) (length c.args.self.now.queue.entries) labels c.relax.ensures.eased.len c.relax.ensures.less (ap length c.in_ok-reserve.ensures.entries) w;
+          less_work g.C.Number.value top c.make_room.new.labels.items c.relax.new.labels.items (length c.reserve.new.self.entries) (length c.relax.new.queue.entries) (length c.args.self.now.queue.entries) labels c.relax.ensures.relaxed.len c.relax.ensures.less (ap length c.in_ok-reserve.ensures.entries) w;
       estimates = refl;
       refused = tt;
       sound = c.relax.ensures.sound;

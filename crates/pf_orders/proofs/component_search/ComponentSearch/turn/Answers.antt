@@ -84,7 +84,7 @@ visit-requires-clause-inside g c =
     last_inside _ _ _ _ _ _ c.requires.placed _ last
 
 pub visit-requires-clause-found : goal.visit-requires-clause-found
-visit-requires-clause-found g c = omega (arith, c.requires.placed.long, c.found.ensures, c.in_ok-expand-in-New.ensures.grows.more)
+visit-requires-clause-found g c = omega (arith, c.requires.placed.long, c.node_count.ensures, c.in_ok-expand-in-New.ensures.grows.more)
 
 pub returns-in_err-expand-in-New : goal.returns-in_err-expand-in-New
 returns-in_err-expand-in-New g c =
@@ -124,13 +124,13 @@ returns-in_ok-visit-in-New g c =
     record {
       grows = grows;
       graph = c.in_ok-expand-in-New.ensures.graph;
-      placed = placed_visited _ _ _ _ _ _ p _ last new c.in_default.ensures.left _ _ c.found.ensures c.expand.new.row.items _ _ _ _ e.places e.path e.waiting e.segments _ (ap lists_of e.components) grows.more
+      placed = placed_visited _ _ _ _ _ _ p _ last new c.in_default.ensures.left _ _ c.node_count.ensures c.expand.new.row.items _ _ _ _ e.places e.path e.waiting e.segments _ (ap lists_of e.components) grows.more
           (λ i j a. let q = ends_at l.0 i j (subst (λ xs. IsAt xs i j) l.1 a) in l.2 j q.0 q.1)
           (λ j low high. let q = l.3 j low high in subst (λ xs. (i : ℕ) × IsAt xs i j) (sym l.1) (at_ends l.0 j q.0 q.1));
       path = λ h x o.
           let named = o.named _ _ last in
           let step = g.G.NumberedGraph.step h in
-          path_visited _ _ _ _ _ _ p _ last new c.in_default.ensures.left _ _ c.found.ensures c.expand.new.row.items _ _ _ _ e.places e.path e.waiting e.segments step _ _ grows o
+          path_visited _ _ _ _ _ _ p _ last new c.in_default.ensures.left _ _ c.node_count.ensures c.expand.new.row.items _ _ _ _ e.places e.path e.waiting e.segments step _ _ grows o
           (list_linked _ step _ _ _ _ grows _ below named l.0 c.expand.new.row.items l.1 (l.4 h x))
           (list_complete _ step _ _ _ _ grows _ below named l.0 c.expand.new.row.items l.1 (l.4 h x));
       closing = λ h x o k. closed_grows _ _ _ _ _ _ p _ _ _ _ grows _ (ap lists_of e.components) k;

@@ -86,5 +86,5 @@ returns g c = record {
   marks =
       let r = c.requires in
       let e = c.in_ok-expand.ensures in
-      on_any c.put_entries.result (marks_opened c.args.self.now.marks.items c.resize.new.self.items c.args.number c.found.result _ _ c.in_ok-resize.ensures.items c.args.self.now.marks.ok.0 c.found.ensures (subst (λ (n : ℕ). n ≤ g.G.NumberedGraph.found c.expand.new.self) (sym r.marked) e.grows.more));
+      on_any c.put_entries.result (marks_opened c.args.self.now.marks.items c.resize.new.self.items c.args.number c.node_count.result _ _ c.in_ok-resize.ensures.items c.args.self.now.marks.ok.0 c.node_count.ensures (subst (λ (n : ℕ). n ≤ g.G.NumberedGraph.node_count c.expand.new.self) (sym r.marked) e.grows.more));
 }

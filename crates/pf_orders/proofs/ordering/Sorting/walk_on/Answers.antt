@@ -19,7 +19,7 @@ pub turns-init : goal.turns-init
 turns-init g c =
     let r = c.requires in
     let self = c.args.self.now in
-    let found = g.G.NumberedGraph.found c.args.graph.now in
+    let found = g.G.NumberedGraph.node_count c.args.graph.now in
     record {
       sorting = rw r.left (sorting_start found self.marks.items (reverse self.turns.items) r.marks (λ t h. r.turns.1 t (Contains-reverse self.turns.items t h)));
       grown = record { more = omega arith; stays = λ k x h. h; back = λ k x i h. h };
@@ -62,12 +62,12 @@ turns-preserved-in-Continue-1 g c =
     let left = reverse c.turns.self.left.items in
     let number = c.in-Enter.number in
     let rest = reverse c.pop.new.self.items in
-    let found = g.G.NumberedGraph.found c.turns.graph in
+    let found = g.G.NumberedGraph.node_count c.turns.graph in
     let popped : reverse c.turns.self.turns.items ≡ Turn.Enter number ∷ rest = ap reverse (c.in-Some.ensures.items ∙ ap (λ t. c.pop.new.self.items ++ t ∷ []) c.in-Enter.is) ∙ reverse-push c.pop.new.self.items (Turn.Enter number) in
     let s : IsSorting found marks left (Turn.Enter number ∷ rest) = subst (λ ts. IsSorting found marks left ts) popped v.sorting in
     let here : IsMarked marks Mark.New number = at_place marks number c.index.result.now Mark.New (turn_inside found marks left (Turn.Enter number) rest s) (sym c.index.ensures ∙ c.in-New.is) in
     let e = c.in_ok-enter-in-New.ensures in
-    let found' = g.G.NumberedGraph.found c.enter.new.graph in
+    let found' = g.G.NumberedGraph.node_count c.enter.new.graph in
     let marks' = c.enter.new.self.marks.items in
     let numbers = e.turns.0 in
     let after : reverse c.enter.new.self.turns.items ≡ entries numbers ++ Turn.Leave number ∷ rest = ap reverse e.turns.1 ∙ turns_after c.pop.new.self.items number numbers in
@@ -76,8 +76,8 @@ turns-preserved-in-Continue-1 g c =
       sorting = rw (after, same) (sorting_enter found found' marks marks' left number rest s here e.grows.more e.marks numbers e.turns.2);
       grown = Grows-trans _ _ _ _ _ _ v.grown e.grows;
       explored = λ h x. e.graph h (v.explored h x);
-      along = λ h x. rw (after, same) (along_enter found found' marks marks' left number rest s here e.grows.more e.marks numbers e.turns.2 (g.G.NumberedGraph.successors h) (g.G.NumberedGraph.stands c.turns.graph) (g.G.NumberedGraph.stands c.enter.new.graph) e.grows (λ y t. e.turns.3 h (v.explored h x) y t) (g.G.NumberedGraph.found c.args.graph.now)
-          (subst (λ ts. IsAlong (g.G.NumberedGraph.successors h) (g.G.NumberedGraph.stands c.turns.graph) (g.G.NumberedGraph.found c.args.graph.now) marks left ts) popped (v.along h x)));
+      along = λ h x. rw (after, same) (along_enter found found' marks marks' left number rest s here e.grows.more e.marks numbers e.turns.2 (g.G.NumberedGraph.successors h) (g.G.NumberedGraph.stands c.turns.graph) (g.G.NumberedGraph.stands c.enter.new.graph) e.grows (λ y t. e.turns.3 h (v.explored h x) y t) (g.G.NumberedGraph.node_count c.args.graph.now)
+          (subst (λ ts. IsAlong (g.G.NumberedGraph.successors h) (g.G.NumberedGraph.stands c.turns.graph) (g.G.NumberedGraph.node_count c.args.graph.now) marks left ts) popped (v.along h x)));
       ticks = omega (arith, c.tick.ensures, v.ticks, count_enter found found' marks marks' left number rest s here e.grows.more e.marks numbers e.turns.2);
     }
 
@@ -89,7 +89,7 @@ turns-smaller-in-Continue-1 g c =
     let s = next_turn _ c.turns.self.marks.items left _ _ (Turn.Enter number) v.sorting (c.in-Some.ensures.items ∙ ap (λ t. c.pop.new.self.items ++ t ∷ []) c.in-Enter.is) in
     let here : IsMarked c.turns.self.marks.items Mark.New number = at_place c.turns.self.marks.items number c.index.result.now Mark.New (turn_inside _ _ _ _ _ s) (sym c.index.ensures ∙ c.in-New.is) in
     let e = c.in_ok-enter-in-New.ensures in
-    let count = count_enter _ (g.G.NumberedGraph.found c.enter.new.graph) c.turns.self.marks.items c.enter.new.self.marks.items left number _ s here e.grows.more e.marks e.turns.0 e.turns.2 in
+    let count = count_enter _ (g.G.NumberedGraph.node_count c.enter.new.graph) c.turns.self.marks.items c.enter.new.self.marks.items left number _ s here e.grows.more e.marks e.turns.0 e.turns.2 in
     omega (arith, count, new_counts _ number here, c.turns.self.marks.ok, c.enter.new.self.turns.ok)
 
 pub returns-in_err-enter-in-New : goal.returns-in_err-enter-in-New
@@ -118,7 +118,7 @@ returns-in-Open g c =
     let left = reverse c.turns.self.left.items in
     let number = c.in-Enter.number in
     let rest = reverse c.pop.new.self.items in
-    let found = g.G.NumberedGraph.found c.turns.graph in
+    let found = g.G.NumberedGraph.node_count c.turns.graph in
     let popped : reverse c.turns.self.turns.items ≡ Turn.Enter number ∷ rest = ap reverse (c.in-Some.ensures.items ∙ ap (λ t. c.pop.new.self.items ++ t ∷ []) c.in-Enter.is) ∙ reverse-push c.pop.new.self.items (Turn.Enter number) in
     let s : IsSorting found marks left (Turn.Enter number ∷ rest) = subst (λ ts. IsSorting found marks left ts) popped v.sorting in
     let here : IsMarked marks Mark.Open number = at_place marks number c.index.result.now Mark.Open (turn_inside found marks left (Turn.Enter number) rest s) (sym c.index.ensures ∙ c.in-Open.is) in
@@ -127,7 +127,7 @@ returns-in-Open g c =
       graph = v.explored;
       order = λ h x. tt;
       cycle = s.inside.0;
-      on_cycle = λ h x. on_cycle (g.G.NumberedGraph.successors h) (g.G.NumberedGraph.stands c.turns.graph) (g.G.NumberedGraph.found c.args.graph.now) found marks left number rest s (subst (λ ts. IsAlong (g.G.NumberedGraph.successors h) (g.G.NumberedGraph.stands c.turns.graph) (g.G.NumberedGraph.found c.args.graph.now) marks left ts) popped (v.along h x)) here;
+      on_cycle = λ h x. on_cycle (g.G.NumberedGraph.successors h) (g.G.NumberedGraph.stands c.turns.graph) (g.G.NumberedGraph.node_count c.args.graph.now) found marks left number rest s (subst (λ ts. IsAlong (g.G.NumberedGraph.successors h) (g.G.NumberedGraph.stands c.turns.graph) (g.G.NumberedGraph.node_count c.args.graph.now) marks left ts) popped (v.along h x)) here;
       ticked = omega (arith, v.ticks);
       asked = omega (arith, v.ticks, entered_few marks, s.len);
       refused = tt;
@@ -143,7 +143,7 @@ turns-preserved-in-Done g c =
     let left = reverse c.turns.self.left.items in
     let number = c.in-Enter.number in
     let rest = reverse c.pop.new.self.items in
-    let found = g.G.NumberedGraph.found c.turns.graph in
+    let found = g.G.NumberedGraph.node_count c.turns.graph in
     let popped : reverse c.turns.self.turns.items ≡ Turn.Enter number ∷ rest = ap reverse (c.in-Some.ensures.items ∙ ap (λ t. c.pop.new.self.items ++ t ∷ []) c.in-Enter.is) ∙ reverse-push c.pop.new.self.items (Turn.Enter number) in
     let s : IsSorting found marks left (Turn.Enter number ∷ rest) = subst (λ ts. IsSorting found marks left ts) popped v.sorting in
     let here : IsMarked marks Mark.Done number = at_place marks number c.index.result.now Mark.Done (turn_inside found marks left (Turn.Enter number) rest s) (sym c.index.ensures ∙ c.in-Done.is) in
@@ -151,7 +151,7 @@ turns-preserved-in-Done g c =
       sorting = sorting_skip found marks left number rest s;
       grown = v.grown;
       explored = v.explored;
-      along = λ h x. along_skip (g.G.NumberedGraph.successors h) (g.G.NumberedGraph.stands c.turns.graph) (g.G.NumberedGraph.found c.args.graph.now) marks left number rest here (subst (λ ts. IsAlong (g.G.NumberedGraph.successors h) (g.G.NumberedGraph.stands c.turns.graph) (g.G.NumberedGraph.found c.args.graph.now) marks left ts) popped (v.along h x));
+      along = λ h x. along_skip (g.G.NumberedGraph.successors h) (g.G.NumberedGraph.stands c.turns.graph) (g.G.NumberedGraph.node_count c.args.graph.now) marks left number rest here (subst (λ ts. IsAlong (g.G.NumberedGraph.successors h) (g.G.NumberedGraph.stands c.turns.graph) (g.G.NumberedGraph.node_count c.args.graph.now) marks left ts) popped (v.along h x));
       ticks = v.ticks;
     }
 
@@ -170,7 +170,7 @@ turns-smaller g c =
     let left = reverse c.turns.self.left.items in
     let number = c.in-Leave.number in
     let rest = reverse c.pop.new.self.items in
-    let found = g.G.NumberedGraph.found c.turns.graph in
+    let found = g.G.NumberedGraph.node_count c.turns.graph in
     let popped : reverse c.turns.self.turns.items ≡ Turn.Leave number ∷ rest = ap reverse (c.in-Some.ensures.items ∙ ap (λ t. c.pop.new.self.items ++ t ∷ []) c.in-Leave.is) ∙ reverse-push c.pop.new.self.items (Turn.Leave number) in
     let s : IsSorting found marks left (Turn.Leave number ∷ rest) = subst (λ ts. IsSorting found marks left ts) popped v.sorting in
     let e = c.in_ok-leave-in-Leave.ensures in
@@ -183,7 +183,7 @@ turns-preserved g c =
     let left = reverse c.turns.self.left.items in
     let number = c.in-Leave.number in
     let rest = reverse c.pop.new.self.items in
-    let found = g.G.NumberedGraph.found c.turns.graph in
+    let found = g.G.NumberedGraph.node_count c.turns.graph in
     let popped : reverse c.turns.self.turns.items ≡ Turn.Leave number ∷ rest = ap reverse (c.in-Some.ensures.items ∙ ap (λ t. c.pop.new.self.items ++ t ∷ []) c.in-Leave.is) ∙ reverse-push c.pop.new.self.items (Turn.Leave number) in
     let s : IsSorting found marks left (Turn.Leave number ∷ rest) = subst (λ ts. IsSorting found marks left ts) popped v.sorting in
     let e = c.in_ok-leave-in-Leave.ensures in
@@ -194,7 +194,7 @@ turns-preserved g c =
       sorting = rw (left', turns') (sorting_leave found marks marks' left number rest s e.marks);
       grown = v.grown;
       explored = v.explored;
-      along = λ h x. rw (left', turns') (along_leave found marks marks' left number rest s e.marks (g.G.NumberedGraph.successors h) (g.G.NumberedGraph.stands c.turns.graph) (g.G.NumberedGraph.found c.args.graph.now) (subst (λ ts. IsAlong (g.G.NumberedGraph.successors h) (g.G.NumberedGraph.stands c.turns.graph) (g.G.NumberedGraph.found c.args.graph.now) marks left ts) popped (v.along h x)));
+      along = λ h x. rw (left', turns') (along_leave found marks marks' left number rest s e.marks (g.G.NumberedGraph.successors h) (g.G.NumberedGraph.stands c.turns.graph) (g.G.NumberedGraph.node_count c.args.graph.now) (subst (λ ts. IsAlong (g.G.NumberedGraph.successors h) (g.G.NumberedGraph.stands c.turns.graph) (g.G.NumberedGraph.node_count c.args.graph.now) marks left ts) popped (v.along h x)));
       ticks = omega (arith, v.ticks, count_leave found marks marks' left number rest s e.marks);
     }
 
@@ -218,10 +218,10 @@ returns g c =
     let v = c.turns.invariant in
     let marks = c.turns.self.marks.items in
     let left = reverse c.turns.self.left.items in
-    let found = g.G.NumberedGraph.found c.turns.graph in
+    let found = g.G.NumberedGraph.node_count c.turns.graph in
     let e = c.in_default.ensures in
     let none : reverse c.turns.self.turns.items ≡ [] = ap reverse (none_popped c.turns.self.turns.items c.pop.new.self.items _ e.items e.rest e.cases.0) in
-    let roots = g.G.NumberedGraph.found c.args.graph.now in
+    let roots = g.G.NumberedGraph.node_count c.args.graph.now in
     record {
       grows = v.grown;
       graph = v.explored;

@@ -6,11 +6,11 @@ use Rattle.pf_orders.proofs.ordering.Sorting.walk_on.Given as goal
 
 abbrev pub invariant-turns : goal.invariant-turns
 invariant-turns g l = record {
-  sorting : IsSorting (g.G.NumberedGraph.found l.graph) l.self.marks.items (reverse l.self.left.items) (reverse l.self.turns.items);
-  grown : Grows (g.G.NumberedGraph.found l.fn.graph) (g.G.NumberedGraph.found l.graph) (g.G.NumberedGraph.stands l.fn.graph) (g.G.NumberedGraph.stands l.graph);
+  sorting : IsSorting (g.G.NumberedGraph.node_count l.graph) l.self.marks.items (reverse l.self.left.items) (reverse l.self.turns.items);
+  grown : Grows (g.G.NumberedGraph.node_count l.fn.graph) (g.G.NumberedGraph.node_count l.graph) (g.G.NumberedGraph.stands l.fn.graph) (g.G.NumberedGraph.stands l.graph);
   explored : (h : g.G.NumberedGraph.Graph) → g.G.NumberedGraph.explores l.fn.graph h → g.G.NumberedGraph.explores l.graph h;
   along : (h : g.G.NumberedGraph.Graph) → g.G.NumberedGraph.explores l.fn.graph h
-      → IsAlong (g.G.NumberedGraph.successors h) (g.G.NumberedGraph.stands l.graph) (g.G.NumberedGraph.found l.fn.graph) l.self.marks.items (reverse l.self.left.items) (reverse l.self.turns.items);
+      → IsAlong (g.G.NumberedGraph.successors h) (g.G.NumberedGraph.stands l.graph) (g.G.NumberedGraph.node_count l.fn.graph) l.self.marks.items (reverse l.self.left.items) (reverse l.self.turns.items);
   ticks : l.tally ≡ l.fn.tally + entered_count l.self.marks.items;
 }
 

@@ -5,7 +5,7 @@ use Rattle.pf_base.specs.declared.error.PathError.TheVariants.{OutOfMemory, Cost
 use Rattle.pf_core.specs.Nodes.{TestedGraph, StandsFor}
 use Rattle.pf_base.specs.Regions.{along_edges}
 use Rattle.pf_core.specs.NodeLaws.{StandsFor-one}
-use Rattle.pf_core.proofs.WalkLemmas.{all_starts, only_starts, no_negative, no_walk, best_answer, past_range}
+use Rattle.pf_core.proofs.WalkLemmas.{all_starts, only_starts, no_negative, no_walk, best_answer, cost_overflows}
 use Rattle.pf_core.proofs.NodeLemmas.{at_most}
 use Rattle.std.proofs.lemmas.Result.{IfOk-from_err}
 use Rattle.pf_base.proofs.Outcomes.{no_overflow, ok_is_no_error, overflow_kept, refused_as}
@@ -80,7 +80,7 @@ returns-in_err-cheapest_path g c = record {
       let y = c.in_err-cheapest_path.ensures.graph h (x, t) in
       let f : c.in_err-cheapest_path.field-0.0 ≡ CostOverflow = overflow_kept c.from_residual.result c.in_err-cheapest_path.field-0.0 c.from_residual.ensures.1 e in
       let d = c.in_err-cheapest_path.ensures.overflow h (x, t) (no_negative eq laws h.graph x.alike costs) (ap Err f) in
-      past_range eq laws h.graph x.alike _ (all_starts eq start _ s.begins) (only_starts eq start _ s.begins) test g.C.Number.fits keys (StandsFor-one eq laws keys y.0.distinct) d;
+      cost_overflows eq laws h.graph x.alike _ (all_starts eq start _ s.begins) (only_starts eq start _ s.begins) test g.C.Number.fits keys (StandsFor-one eq laws keys y.0.distinct) d;
   asked = λ edges start test s.
       let h = tested start edges test in
       let y = c.in_err-cheapest_path.ensures.graph h (s.explores, s.tested) in

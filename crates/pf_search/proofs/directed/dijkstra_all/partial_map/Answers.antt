@@ -10,7 +10,7 @@ use Rattle.pf_search.specs.Parents.{IsPartialMap}
 use Rattle.pf_search.specs.Internal.Partial.{IsEnded}
 use Rattle.pf_search.proofs.StillLemmas.{read_at, read_inside}
 use Rattle.pf_base.proofs.Outcomes.{if_refused, memory_no_overflow, no_memory_or, no_overflow, ok_is_no_error, overflow_kept, refused_as}
-use Rattle.pf_core.proofs.WalkLemmas.{all_starts, only_starts, no_negative, past_range}
+use Rattle.pf_core.proofs.WalkLemmas.{all_starts, only_starts, no_negative, cost_overflows}
 use Rattle.pf_search.proofs.PartialLemmas.{parent_inside, reached_at, begins_on, maps_read, whole_map, stopped_map}
 use Rattle.pf_search.proofs.directed.dijkstra_all.partial_map.Goals.{in-Some+in_ok-clone-in-Some, in-None}
 use Rattle.pf_search.proofs.ResultLemmas.{if_some}
@@ -42,7 +42,7 @@ returns-in_err-labels g c = record {
       let y = c.in_err-labels.ensures.graph h (x, t) in
       let f : c.in_err-labels.field-0.0 ≡ CostOverflow = overflow_kept c.from_residual.result c.in_err-labels.field-0.0 c.from_residual.ensures.1 e in
       let d = c.in_err-labels.ensures.overflow h (x, t) (no_negative eq laws h.graph x.alike costs) (ap Err f) in
-      past_range eq laws h.graph x.alike _ (all_starts eq start _ s.begins) (only_starts eq start _ s.begins) test g.C.Number.fits keys (StandsFor-one eq laws keys y.0.distinct) d;
+      cost_overflows eq laws h.graph x.alike _ (all_starts eq start _ s.begins) (only_starts eq start _ s.begins) test g.C.Number.fits keys (StandsFor-one eq laws keys y.0.distinct) d;
   partial = λ edges start test s costs. if_refused _ c.from_residual.result c.in_err-labels.field-0.0 c.from_residual.ensures.1;
   errors = refused_as _ c.from_residual.result c.in_err-labels.field-0.0 c.from_residual.ensures.1 c.in_err-labels.ensures.errors;
 }

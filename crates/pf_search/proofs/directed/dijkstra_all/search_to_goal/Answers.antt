@@ -4,7 +4,7 @@ use Rattle.std.specs.Prelude.{◌⊎◌}
 use Rattle.pf_core.specs.Labels.{HasLabel, by_cost}
 use Rattle.pf_core.proofs.LabelLemmas.{HasLabel-inside}
 use Rattle.pf_core.proofs.SearchLemmas.{Grows-trans, search_grows, one_root, only_root, start_alone, none_settled, failed_turned}
-use Rattle.pf_core.proofs.TurnLemmas.{too_dear}
+use Rattle.pf_core.proofs.TurnLemmas.{numbered_overflows}
 use Rattle.pf_core.proofs.ReadLemmas.{same_most}
 use Rattle.pf_search.proofs.StillLemmas.{still_at, was_at, still_least, still_search, still_ended, turned_from, turn_smaller, none_grown}
 use Rattle.pf_search.proofs.OrderLemmas.{order_start, order_more, first_turned, ended_at, ended_all}
@@ -20,7 +20,7 @@ turns-init g c =
     let stands = g.G.NumberedGraph.stands c.args.graph.now in
     record {
       sound = b.sound;
-      wide = b.wide ∙ c.found.ensures;
+      wide = b.wide ∙ c.node_count.ensures;
       grown = none_grown _ stands;
       explored = λ h x. x;
       search = λ h x p. start_alone c.args.start g.C.Number.value (g.G.NumberedGraph.step h) stands c.requires.begins labels first b.first b.only refl refl (g.met.C.Zero.zero_law g.met.C.Integral.exact_law);
@@ -137,7 +137,7 @@ returns-in_err-turn g c = record {
       let x1 = (c.is_goal.ensures.graph h (v.explored h x)).0 in
       let grown = Grows-trans _ _ _ _ _ _ c.is_goal.ensures.grows c.in_err-turn.ensures.grows in
       let d = c.in_err-turn.ensures.overflow (ap Err (overflow_kept c.from_residual-in_err-turn.result c.in_err-turn.field-0.0 c.from_residual-in_err-turn.ensures.1 e)) h x1 in
-      too_dear g.C.Number.value g.C.Number.fits (g.G.NumberedGraph.step h) (only_root c.args.start) p _ labels (v.search h x p) v.sound.tree c.in-Some.number z.0 z.1 (g.G.NumberedGraph.passes h) (v.failed h x)
+      numbered_overflows g.C.Number.value g.C.Number.fits (g.G.NumberedGraph.step h) (only_root c.args.start) p _ labels (v.search h x p) v.sound.tree c.in-Some.number z.0 z.1 (g.G.NumberedGraph.passes h) (v.failed h x)
       (g.met.G.NumberedGraph.one_law _ h (v.explored h x)) (λ n st. d n (c.is_goal.ensures.grows.stays c.in-Some.number n st) z.0 (still_at labels _ same _ _ z.1.at)) _ _ _ grown (subst (λ (n : ℕ). c.in-Some.number < n) v.wide (HasLabel-inside labels c.in-Some.number z.0 z.1.at))
       _ (one_root c.args.start _ _ _ _ v.grown c.requires.inside);
   ended = IfOk-from_err _ _ c.from_residual-in_err-turn.ensures.0;

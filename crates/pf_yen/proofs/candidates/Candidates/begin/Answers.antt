@@ -1,11 +1,11 @@
 use Rattle.std.proofs.Common.{◌≡◌, ap, subst, length, Err, [], inl, refl, None}
 use Rattle.pf_base.specs.declared.error.PathError.TheVariants.{CostOverflow}
-use Rattle.pf_core.specs.Steps.{IsTooDear}
+use Rattle.pf_core.specs.Steps.{NumberedOverflows}
 use Rattle.pf_yen.specs.Internal.Adjacency.{AdjacencyLists, AdjacencyStep, is_goal}
 use Rattle.pf_yen.specs.Internal.Filtered.{FilteredLists, StandsForItself}
 use Rattle.pf_yen.specs.Internal.Splits.{IsFilteredTo}
 use Rattle.pf_yen.proofs.SplitLemmas.{filtered_first}
-use Rattle.pf_yen.proofs.CandidateLemmas.{begun_partition, too_dear_all}
+use Rattle.pf_yen.proofs.CandidateLemmas.{begun_partition, all_overflows}
 use Rattle.std.proofs.lemmas.Result.{IfOk-from_err}
 use Rattle.pf_base.proofs.Outcomes.{no_overflow, ok_is_no_error, overflow_kept, refused_as}
 use Rattle.std.proofs.lemmas.List.{length-replicate}
@@ -38,8 +38,8 @@ returns-in_err-self g c = record {
       let s = c.in_ok-filtered.filtered in
       let here : FilteredLists g.row.C.Denot = record { adjacency = s.adjacency.now; onward = s.onward.items; spur = s.spur; banned = s.banned.items } in
       let f : c.in_err-self.field-0.0 ≡ CostOverflow = overflow_kept c.from_residual-in_err-self.result c.in_err-self.field-0.0 c.from_residual-in_err-self.ensures.1 x in
-      subst (λ (k : AdjacencyLists g.row.C.Denot). IsTooDear (AdjacencyStep g.C.Number.value k) (is_goal k) (StandsForItself (length k.rows) 0) (StandsForItself (length k.rows)) g.C.Number.fits) e.graph.0
-      (too_dear_all g.C.Number.value here (length c.args.adjacency.now.rows) e.onward e.graph.2 g.C.Number.fits (length s.adjacency.now.rows) (c.in_err-self.ensures.overflow (ap Err f)));
+      subst (λ (k : AdjacencyLists g.row.C.Denot). NumberedOverflows (AdjacencyStep g.C.Number.value k) (is_goal k) (StandsForItself (length k.rows) 0) (StandsForItself (length k.rows)) g.C.Number.fits) e.graph.0
+      (all_overflows g.C.Number.value here (length c.args.adjacency.now.rows) e.onward e.graph.2 g.C.Number.fits (length s.adjacency.now.rows) (c.in_err-self.ensures.overflow (ap Err f)));
   begun = IfOk-from_err _ _ c.from_residual-in_err-self.ensures.0;
   errors = refused_as _ c.from_residual-in_err-self.result c.in_err-self.field-0.0 c.from_residual-in_err-self.ensures.1 c.in_err-self.ensures.errors;
   partition = IfOk-from_err _ _ c.from_residual-in_err-self.ensures.0;

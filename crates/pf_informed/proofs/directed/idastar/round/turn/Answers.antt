@@ -92,7 +92,7 @@ returns-else-leave g c = record {
       let ends = frame_ends eq laws value fits h test least first keys steps spans k.rows (length keys) c.requires.whole.table way.frame fs way.cut_off.least way.cut_off.past w in
       let over : way.frame.at ≡ way.frame.end = omega (arith, ends.0) in
       let same = on_way_as eq laws value fits h test least first keys steps spans k.rows way.frame fs fs way.cut_off.least new.cut_off.least way.cut_off.past new.cut_off.past refl (ap (λ (o : CutOff g.row.C.Denot). o.least) c.leave.ensures.cut_off) (ap (λ (o : CutOff g.row.C.Denot). o.past) c.leave.ensures.cut_off) w in
-      (k, (all_done eq laws value fits h test least first keys steps spans k.rows way.frame fs new.cut_off.least new.cut_off.past same over c.if-leave.ensures.below, same.too_dear));
+      (k, (all_done eq laws value fits h test least first keys steps spans k.rows way.frame fs new.cut_off.least new.cut_off.past same over c.if-leave.ensures.below, same.all_past));
   refused = tt;
 }
 
