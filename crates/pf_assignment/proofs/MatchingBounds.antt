@@ -59,9 +59,6 @@ module _ {C : Type 0} {value : C → ℤ} {t : NumberTable} {column_of : List �
   root_bound : (j : ℕ) → j < t.columns → LiesBetween (neg_ℤ (pos next.fit.greatest)) (pos next.fit.greatest) (t.at (length column_of) j)
   root_bound j h = bounded (length column_of) j next.left h
 
-  pub column_negation : (j : ℕ) → j < t.columns → fits (neg_ℤ (number value vs j))
-  column_negation j h = let l = v_low j h in let m = v_high j h in fitting _ (omega (arith, ints, l, m)) (omega (arith, ints, l, m))
-
   pub root_sum : (offset : ℤ) → offset ≡ pos 0 → (j : ℕ) → j < t.columns → fits (offset +ℤ number value vs j)
   root_sum offset e j h = let l = v_low j h in let m = v_high j h in fitting _ (omega (arith, ints, l, m, e)) (omega (arith, ints, l, m, e))
 
@@ -100,9 +97,6 @@ module _ {C : Type 0} {value : C → ℤ} {t : NumberTable} {column_of : List �
       c_high : number value ds c ≤ℤ pos next.fit.greatest
       c_high = let l = free_high in let m = nearest.least free.0 free.1 (unvisited free.0 free.2) in omega (arith, ints, l, m)
 
-      pub row_negation : (i : ℕ) → i < length column_of → fits (neg_ℤ (number value us i))
-      row_negation i h = let l = u_low i h in let m = u_high i h in fitting _ (omega (arith, ints, l, m)) (omega (arith, ints, l, m))
-
       pub row_sum : (i : ℕ) → i < length column_of → fits (number value ds c +ℤ number value us i)
       row_sum i h =
           let l = u_low i h in
@@ -140,14 +134,6 @@ module _ {C : Type 0} {value : C → ℤ} {t : NumberTable} {column_of : List �
 
       pub step_difference : (j : ℕ) → j < t.columns → flag visited j ≡ true → fits (number value ds c -ℤ number value ds j)
       step_difference j h g =
-          let k = d_low c nearest.inside in
-          let o = c_high in
-          let l = d_low j h in
-          let m = d_high j h g in
-          fitting _ (omega (arith, ints, k, o, l, m)) (omega (arith, ints, k, o, l, m))
-
-      pub step_negation : (j : ℕ) → j < t.columns → flag visited j ≡ true → fits (neg_ℤ (number value ds c -ℤ number value ds j))
-      step_negation j h g =
           let k = d_low c nearest.inside in
           let o = c_high in
           let l = d_low j h in

@@ -5,7 +5,6 @@ ghost use Rattle.pf_base.specs.declared.error.PathError.TheVariants.{OutOfMemory
 ghost use Rattle.pf_assignment.specs.Assignments.{NumberTable, IsAssignment, IsBestAssignment, IsLeastAssignment, assignment_total, WeightsFit};
 
 mod matching;
-mod numbers;
 mod totals;
 mod tree;
 mod weights;

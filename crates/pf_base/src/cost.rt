@@ -3,6 +3,7 @@
 ghost use Rattle.std.specs.Prelude.{◌≡◌, ◌↔◌, ◌≤ℤ◌, ◌-ℤ◌, ℤ, pos, neg_ℤ};
 ghost use Rattle.pf_base.specs.Costs.{LiesBetween};
 
+pub mod arithmetic;
 mod signed;
 mod unsigned;
 

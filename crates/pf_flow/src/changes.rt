@@ -9,9 +9,9 @@ ghost use Rattle.pf_residual.specs.Capacities.{FallsByExcess, IsChangeRefused};
 
 use crate::makers::exchanged;
 use crate::taking_back::take_back;
+use pf_base::cost::arithmetic::{is_below, plus};
 use pf_base::{PathError, SignedCost};
 use pf_residual::listed_sums::sum_by_lists;
-use pf_residual::numbers::{is_below, plus};
 use pf_residual::store::FlowStore;
 use std::alloc::Allocator;
 

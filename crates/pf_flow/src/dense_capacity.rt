@@ -12,10 +12,10 @@ ghost use Rattle.pf_residual.specs.Listings.{ListsNumbers, ListsVertices};
 use crate::edmonds_karp::EdmondsKarp;
 use crate::makers::sum_of_square;
 use crate::tables::{IntoMatrix, copy_of};
+use pf_base::cost::arithmetic::is_below;
 use pf_base::{PathError, SignedCost};
 use pf_matrix::Matrix;
 use pf_residual::dense_table::{lower, number_at, raise};
-use pf_residual::numbers::is_below;
 use pf_residual::store::FlowStore;
 use std::alloc::{AllocError, Allocator, Global};
 

@@ -8,9 +8,9 @@ ghost use Rattle.pf_residual.specs.Networks.{Network, KeepsShape, ChangesCapacit
 ghost use Rattle.pf_residual.specs.Capacities.{number, square_table, matrix_table, AreRefused, IsChangeRefused};
 ghost use Rattle.pf_residual.specs.Internal.Filling.{IsUnused};
 
+use pf_base::cost::arithmetic::is_below;
 use pf_base::{PathError, SignedCost};
 use pf_matrix::Matrix;
-use pf_residual::numbers::is_below;
 use pf_residual::store::FlowStore;
 use std::alloc::Allocator;
 

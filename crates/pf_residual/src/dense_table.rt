@@ -5,8 +5,8 @@ ghost use Rattle.pf_matrix.specs.Tables.{IsMatrix, HasPosition};
 ghost use Rattle.pf_residual.specs.Capacities.{number};
 ghost use Rattle.pf_residual.specs.Internal.DenseTables.{IsTableChanged};
 
-use crate::numbers::plus;
 use pf_base::SignedCost;
+use pf_base::cost::arithmetic::plus;
 use pf_matrix::Matrix;
 use std::alloc::Allocator;
 

@@ -7,7 +7,6 @@
 pub mod cancelling;
 pub mod dense_table;
 pub mod listed_sums;
-pub mod numbers;
 pub mod paths;
 pub mod sparse_row;
 pub mod steps;

@@ -4,8 +4,8 @@ ghost use Rattle.std.specs.Prelude.{◌≡◌, IfOk, IfErr};
 ghost use Rattle.pf_base.specs.declared.error.PathError.TheVariants.{OutOfMemory};
 ghost use Rattle.pf_residual.specs.Networks.{Network, IsNetwork, capacity_sum};
 
-use crate::numbers::plus;
 use crate::store::FlowStore;
+use pf_base::cost::arithmetic::plus;
 use pf_base::{PathError, SignedCost};
 use std::alloc::Allocator;
 

@@ -4,9 +4,9 @@ ghost use Rattle.std.specs.Prelude.{◌≡◌, ◌<◌, ◌+◌, ◌≤ℤ◌, �
 ghost use Rattle.pf_residual.specs.Networks.{Network, IsNetwork, KeepsCapacities};
 ghost use Rattle.pf_residual.specs.Internal.AugmentingPaths.{IsAugmentingPath, KeepsLabelling, RaisesPotential};
 
-use crate::numbers::{is_below, plus};
 use crate::store::FlowStore;
 use pf_base::SignedCost;
+use pf_base::cost::arithmetic::{is_below, plus};
 
 /// The least residual capacity along a path.
 fn least_residual<C, S>(store: &S, path: &[usize]) -> C

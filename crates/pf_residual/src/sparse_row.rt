@@ -8,7 +8,7 @@ ghost use Rattle.pf_residual.specs.Listings.{ListsNumbers, ListsVertices};
 ghost use Rattle.pf_residual.specs.declared.sparse_row.Edge.{Edge};
 ghost use Rattle.pf_base.specs.declared.error.PathError.TheVariants.{OutOfMemory};
 
-use crate::numbers::{is_below, plus};
+use pf_base::cost::arithmetic::{is_below, plus};
 use pf_base::{PathError, SignedCost};
 use std::alloc::{AllocError, Allocator};
 use std::fmt::{self, Debug};

@@ -4,9 +4,9 @@ ghost use Rattle.std.specs.Prelude.{◌≡◌, ◌<◌, ◌+ℤ◌};
 ghost use Rattle.pf_base.specs.Sums.{sum_to};
 ghost use Rattle.pf_residual.specs.Networks.{Network, IsNetwork, capacity_sum};
 
-use crate::numbers::plus;
 use crate::store::FlowStore;
 use pf_base::SignedCost;
+use pf_base::cost::arithmetic::plus;
 
 /// The sum of what is left of the capacities from a vertex, added to that of all vertices before it.
 fn add_row<C, S>(store: &S, from: usize, before: C) -> C

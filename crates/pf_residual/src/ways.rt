@@ -4,10 +4,10 @@ ghost use Rattle.std.specs.Prelude.{◌≡◌, ◌<◌, ◌<ℤ◌, pos, true, l
 ghost use Rattle.pf_residual.specs.Networks.{Network};
 ghost use Rattle.pf_residual.specs.Internal.Steps.{AreSteps, IsClimb, IsSinkWay, work_of};
 
-use crate::numbers::is_below;
 use crate::steps::Steps;
 use crate::store::FlowStore;
 use pf_base::SignedCost;
+use pf_base::cost::arithmetic::is_below;
 use std::alloc::Allocator;
 
 /// Does a step lead over residual capacity to a vertex of this level, and where the sink is of this

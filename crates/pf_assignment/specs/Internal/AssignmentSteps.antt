@@ -201,7 +201,6 @@ module _ {C A : Type 0} where
         pub potentials : length m.column_potentials.items ≡ t.columns
         pub wide : IsWide t.columns s
         pub left : (j : ℕ) × (j < t.columns) × (flag s.visited.items j ≡ false)
-        pub negation : (j : ℕ) → j < t.columns → flag s.visited.items j ≡ false → fits (neg_ℤ (number value m.column_potentials.items j))
         pub sum : (j : ℕ) → j < t.columns → flag s.visited.items j ≡ false → fits (offset +ℤ number value m.column_potentials.items j)
         pub difference : (j : ℕ) → j < t.columns → flag s.visited.items j ≡ false → fits (offset +ℤ number value m.column_potentials.items j -ℤ t.at row j)
 

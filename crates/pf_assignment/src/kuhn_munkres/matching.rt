@@ -1,13 +1,13 @@
 //! Rows that are matched to columns of their own, under potentials.
 
-ghost use Rattle.std.specs.Prelude.{◌≡◌, ◌≤◌, ◌<◌, ◌+◌, ◌+ℤ◌, ℕ, pos, neg_ℤ, true, None, OnOk, IfOk, IfErr, length, slice_index};
+ghost use Rattle.std.specs.Prelude.{◌≡◌, ◌≤◌, ◌<◌, ◌+◌, ◌+ℤ◌, ℕ, pos, true, None, OnOk, IfOk, IfErr, length, slice_index};
 ghost use Rattle.pf_base.specs.declared.error.PathError.TheVariants.{OutOfMemory};
 ghost use Rattle.pf_assignment.specs.Assignments.{number};
 ghost use Rattle.pf_assignment.specs.Internal.AssignmentSteps.{gain, holder, flag, IsMatching, IsWide, IsMatchedIn, IsNextIn, IsTreeTo, IsAlternatingTree, AreRaised, AreLowered, LoweredFit, AreFlipped};
 
-use crate::kuhn_munkres::numbers::plus;
 use crate::kuhn_munkres::tree::Tree;
 use crate::kuhn_munkres::weights::Weights;
+use pf_base::cost::arithmetic::plus;
 use pf_base::filled::filled;
 use pf_base::utils::Tally;
 use pf_base::{Cost, PathError, SignedCost};
@@ -119,7 +119,6 @@ fn raise_columns<C: SignedCost>(potentials: &mut [C], visited: &[bool], distance
     requires visited { length visited.now ≡ length potentials.old }
     requires distances { length distances.now ≡ length potentials.old }
     requires difference { (j : ℕ) → j < length potentials.old → flag visited.now j ≡ true → C.fits (gain C.value depth distances.now j) }
-    requires negation { (j : ℕ) → j < length potentials.old → flag visited.now j ≡ true → C.fits (neg_ℤ (gain C.value depth distances.now j)) }
     requires sum { (j : ℕ) → j < length potentials.old → flag visited.now j ≡ true → C.fits (number C.value potentials.old j +ℤ gain C.value depth distances.now j) }
     ensures { AreRaised C.value depth distances.now visited.now potentials.old potentials.new }
 {

@@ -3,9 +3,9 @@
 ghost use Rattle.std.specs.Prelude.{◌≡◌, length};
 ghost use Rattle.pf_assignment.specs.Assignments.{NumberTable, IsAssignment, assignment_total, WeightsFit};
 
-use crate::kuhn_munkres::numbers::plus;
 use crate::kuhn_munkres::weights::Weights;
 use pf_base::SignedCost;
+use pf_base::cost::arithmetic::plus;
 
 /// The sum of the weights of the rows, each at its column.
 pub fn total_of<C, W>(weights: &W, column_of: &[usize]) -> C

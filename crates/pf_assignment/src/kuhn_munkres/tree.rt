@@ -4,8 +4,8 @@ ghost use Rattle.std.specs.Prelude.{◌≡◌, ◌≤◌, ◌<◌, ◌+◌, ◌�
 ghost use Rattle.pf_base.specs.declared.error.PathError.TheVariants.{OutOfMemory};
 
 use crate::kuhn_munkres::matching::Matching;
-use crate::kuhn_munkres::numbers::{is_below, plus};
 use crate::kuhn_munkres::weights::Weights;
+use pf_base::cost::arithmetic::{is_below, plus};
 use pf_base::filled::filled;
 use pf_base::utils::Tally;
 use pf_base::{Cost, PathError, SignedCost};

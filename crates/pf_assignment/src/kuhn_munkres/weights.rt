@@ -5,7 +5,7 @@ ghost use Rattle.pf_base.specs.declared.error.PathError.TheVariants.{OutOfMemory
 ghost use Rattle.pf_assignment.specs.Assignments.{number, NumberTable, IsNegatedTable, IsGreatestWeight, WeightsFit};
 ghost use Rattle.pf_assignment.specs.Internal.AssignmentSteps.{IsBeyond, IsEither, IsExact};
 
-use crate::kuhn_munkres::numbers::is_below;
+use pf_base::cost::arithmetic::is_below;
 use pf_base::{Cost, PathError, SignedCost};
 use pf_matrix::Matrix;
 use std::alloc::Allocator;

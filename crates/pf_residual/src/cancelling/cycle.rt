@@ -6,7 +6,7 @@ ghost use Rattle.pf_residual.specs.declared.cancelling.arcs.Arc.{Arc};
 
 use crate::cancelling::arcs::{Arc, Rows};
 use crate::cancelling::search::search;
-use crate::numbers::lesser;
+use pf_base::cost::arithmetic::lesser;
 use pf_base::{PathError, SignedCost};
 use std::alloc::Allocator;
 

@@ -1,5 +1,5 @@
 use Rattle.std.proofs.Common.{refl, ◌≡◌, ◌<◌, arith, ap, sym, subst, ◌∙◌, ℕ, true, false, length}
-use Rattle.std.specs.Prelude.{◌-ℤ◌, ◌+ℤ◌, neg_ℤ, slice_set}
+use Rattle.std.specs.Prelude.{◌-ℤ◌, ◌+ℤ◌, slice_set}
 use Rattle.pf_assignment.specs.Assignments.{number}
 use Rattle.pf_assignment.specs.Internal.AssignmentSteps.{flag, raised}
 use Rattle.pf_assignment.proofs.MatchingNumbers.{number-at, number-set_same, number-set_other, below_written, raised_true, raised_false}
@@ -12,14 +12,8 @@ minus-by-requires g c =
     let f : flag c.args.visited.now c.loop-column.column ≡ true = c.if-visited-column.true in
     subst (λ z. g.C.Number.fits (g.C.Number.value c.args.depth -ℤ z)) n (c.requires.difference c.loop-column.column (omega arith) f)
 
-pub plus-requires-clause-negation : goal.plus-requires-clause-negation
-plus-requires-clause-negation g c =
-    let n = number-at g.C.Number.value c.args.distances.now c.loop-column.column c.index-distances-column.result (omega arith) c.index-distances-column.is in
-    let f : flag c.args.visited.now c.loop-column.column ≡ true = c.if-visited-column.true in
-    subst (λ z. g.C.Number.fits (neg_ℤ z)) (ap (λ z. g.C.Number.value c.args.depth -ℤ z) n ∙ sym c.minus-by.ensures) (c.requires.negation c.loop-column.column (omega arith) f)
-
-pub plus-requires-clause-sum : goal.plus-requires-clause-sum
-plus-requires-clause-sum g c =
+pub plus-requires : goal.plus-requires
+plus-requires g c =
     let n = number-at g.C.Number.value c.args.distances.now c.loop-column.column c.index-distances-column.result (omega arith) c.index-distances-column.is in
     let m = number-at g.C.Number.value c.loop-column.potentials c.loop-column.column c.index-potentials-column.result (omega arith) c.index-potentials-column.is in
     let f : flag c.args.visited.now c.loop-column.column ≡ true = c.if-visited-column.true in

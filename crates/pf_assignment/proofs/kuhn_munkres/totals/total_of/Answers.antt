@@ -5,18 +5,8 @@ use Rattle.pf_assignment.proofs.MatchingWeights.{room, sum_to-bound}
 use Rattle.pf_base.specs.Sums.{sum_to}
 use Rattle.pf_assignment.proofs.kuhn_munkres.totals.total_of.Goals as goal
 
-pub plus-total-requires-clause-negation : goal.plus-total-requires-clause-negation
-plus-total-requires-clause-negation g c =
-    let t = g.W.Weights.table c.args.weights.now in
-    let e = c.at.ensures in
-    let row : c.loop-row.row < t.rows = omega arith in
-    let b = c.requires.fit.is_greatest.bound c.loop-row.row (slice_index c.args.column_of.now c.loop-row.row) row (c.requires.assignment.inside c.loop-row.row row) in
-    let b0 = b.0 in
-    let b1 = b.1 in
-    room g.C.Number.fits (λ x y z. g.C.Number.between_law x y z g.met.C.Integral.exact_law) t c.requires.fit 1 (omega arith) _ (omega (arith, ints, b1, e)) (omega (arith, ints, b0, e))
-
-pub plus-total-requires-clause-sum : goal.plus-total-requires-clause-sum
-plus-total-requires-clause-sum g c =
+pub plus-total-requires : goal.plus-total-requires
+plus-total-requires g c =
     let t = g.W.Weights.table c.args.weights.now in
     let w = c.requires.fit.greatest in
     let f = λ (r : ℕ). t.at r (slice_index c.args.column_of.now r) in

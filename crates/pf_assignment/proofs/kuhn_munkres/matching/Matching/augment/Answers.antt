@@ -4,7 +4,7 @@ use Rattle.std.proofs.lemmas.List.{take_at}
 use Rattle.std.proofs.lemmas.Result.{IfOk-from_err}
 use Rattle.pf_assignment.specs.Assignments.{number}
 use Rattle.pf_assignment.specs.Internal.AssignmentSteps.{holder, flag, raised, IsMatching, IsMatched, IsAlternatingTree, IsFlipped}
-use Rattle.pf_assignment.proofs.MatchingBounds.{step_difference, step_negation, step_sum, step_rest, depth_negation}
+use Rattle.pf_assignment.proofs.MatchingBounds.{step_difference, step_sum, step_rest, depth_negation}
 use Rattle.pf_assignment.proofs.MatchingRaise.{nearest_number, rooted_of, augment_lists}
 use Rattle.pf_base.proofs.Outcomes.{refused_by}
 use Rattle.pf_assignment.proofs.kuhn_munkres.matching.Matching.augment.Goals as goal
@@ -20,18 +20,6 @@ raise_columns-requires-clause-difference g c = λ j h f.
     subst (λ z. g.C.Number.fits (z -ℤ number value c.deref-2.result.now j)) depth
     (subst (λ xs. g.C.Number.fits (number value ds c.args.column -ℤ number value xs j)) (sym c.deref-2.ensures.value)
     (step_difference g.C.Number.fits (λ x y z. g.C.Number.between_law x y z g.met.C.Integral.exact_law) c.requires.next c.requires.tree.tree c.args.column c.requires.tree.nearest j inside (ap (λ xs. flag xs j) (sym c.deref.ensures.value) ∙ f)))
-
-pub raise_columns-requires-clause-negation : goal.raise_columns-requires-clause-negation
-raise_columns-requires-clause-negation g c = λ j h f.
-    let value = g.C.Number.value in
-    let m = c.args.self.now in
-    let ds = c.args.tree.now.distances.items in
-    let depth = nearest_number c.requires.tree.tree c.args.column c.requires.tree.nearest c.index-depth.result.now c.index-depth.ensures in
-    let l = c.requires.next.matched.columns in
-    let inside : j < (g.W.Weights.table c.args.weights.now).columns = omega (arith, h, ap length c.deref_mut.ensures.value, l) in
-    subst (λ z. g.C.Number.fits (neg_ℤ (z -ℤ number value c.deref-2.result.now j))) depth
-    (subst (λ xs. g.C.Number.fits (neg_ℤ (number value ds c.args.column -ℤ number value xs j))) (sym c.deref-2.ensures.value)
-    (step_negation g.C.Number.fits (λ x y z. g.C.Number.between_law x y z g.met.C.Integral.exact_law) c.requires.next c.requires.tree.tree c.args.column c.requires.tree.nearest j inside (ap (λ xs. flag xs j) (sym c.deref.ensures.value) ∙ f)))
 
 pub raise_columns-requires-clause-sum : goal.raise_columns-requires-clause-sum
 raise_columns-requires-clause-sum g c = λ j h f.

@@ -2,7 +2,7 @@ use Rattle.std.proofs.Common.{◌≡◌, ◌<◌, ◌++◌, ◌∷◌, [], arith
 use Rattle.std.specs.Prelude.{pos, ◌+ℤ◌, ◌-ℤ◌, slice_index}
 use Rattle.pf_assignment.specs.Assignments.{number}
 use Rattle.pf_assignment.specs.Internal.AssignmentSteps.{flag, IsFresh, IsScanned, IsTreeOf}
-use Rattle.pf_assignment.proofs.MatchingBounds.{column_negation, root_sum, root_difference}
+use Rattle.pf_assignment.proofs.MatchingBounds.{root_sum, root_difference}
 use Rattle.pf_assignment.proofs.MatchingWeights.{IsInterval}
 use Rattle.pf_assignment.proofs.MatchingTree.{tree_of_root}
 use Rattle.std.proofs.lemmas.Result.{IfOk-from_err}
@@ -24,7 +24,6 @@ scan-requires g c =
       potentials = next.matched.columns;
       wide = c.clear-2.ensures.wide ∙ c.requires.wide;
       left = (0, omega (arith, left, shape), c.clear-2.ensures.fresh.unvisited 0);
-      negation = λ j h f. column_negation g.C.Number.fits interval next j h;
       sum = λ j h f. root_sum g.C.Number.fits interval next (value c.zero.result) none j h;
       difference = λ j h f.
           subst (λ r. g.C.Number.fits (value c.zero.result +ℤ number value c.args.matching.now.column_potentials.items j -ℤ (g.W.Weights.table c.args.weights.now).at r j)) (sym root)

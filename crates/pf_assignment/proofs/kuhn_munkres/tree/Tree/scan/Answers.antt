@@ -1,5 +1,5 @@
 use Rattle.std.proofs.Common.{rules, ℕ, ◌≡◌, ◌<◌, ◌+◌, refl, sym, subst, arith, ap, ◌∙◌, Some, None, false, true, length, Option, ◌≤◌, true≢false}
-use Rattle.std.specs.Prelude.{slice_index, ◌+ℤ◌, ◌-ℤ◌, neg_ℤ, is_some}
+use Rattle.std.specs.Prelude.{slice_index, ◌+ℤ◌, ◌-ℤ◌, is_some}
 use Rattle.std.proofs.lemmas.List.{get_or_default}
 use Rattle.pf_assignment.specs.Assignments.{number}
 use Rattle.pf_assignment.specs.Internal.AssignmentSteps.{flag, IsRelaxed, IsNearest}
@@ -8,14 +8,8 @@ use Rattle.pf_assignment.proofs.MatchingScan.{IsScannedTo, scan_skips, scan_rela
 use Rattle.pf_assignment.proofs.kuhn_munkres.tree.Tree.scan.Goals as goal
 use Rattle.pf_assignment.proofs.kuhn_munkres.tree.Tree.scan.Goals.{then-not-index, else-not-index}
 
-pub plus-bound-requires-clause-negation : goal.plus-bound-requires-clause-negation
-plus-bound-requires-clause-negation g c =
-    let n = number-at g.C.Number.value c.args.matching.now.column_potentials.items c.loop-column.column c.index-then-not-index.result.now (omega arith) c.index-then-not-index.ensures in
-    let f : flag c.args.self.now.visited.items c.loop-column.column ≡ false = subst (λ xs. flag xs c.loop-column.column ≡ false) c.loop-column.invariant.visited (search rules) in
-    subst (λ z. g.C.Number.fits (neg_ℤ z)) n (c.requires.negation c.loop-column.column (omega arith) f)
-
-pub plus-bound-requires-clause-sum : goal.plus-bound-requires-clause-sum
-plus-bound-requires-clause-sum g c =
+pub plus-bound-requires : goal.plus-bound-requires
+plus-bound-requires g c =
     let n = number-at g.C.Number.value c.args.matching.now.column_potentials.items c.loop-column.column c.index-then-not-index.result.now (omega arith) c.index-then-not-index.ensures in
     let f : flag c.args.self.now.visited.items c.loop-column.column ≡ false = subst (λ xs. flag xs c.loop-column.column ≡ false) c.loop-column.invariant.visited (search rules) in
     subst (λ z. g.C.Number.fits (g.C.Number.value c.args.offset +ℤ z)) n (c.requires.sum c.loop-column.column (omega arith) f)

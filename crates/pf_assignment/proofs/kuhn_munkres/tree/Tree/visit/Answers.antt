@@ -1,10 +1,10 @@
 use Rattle.std.proofs.Common.{◌≡◌, ◌<◌, arith, ap, sym, subst, ◌∙◌, ◌∷◌, [], length, length-set, true, false, Some, None}
-use Rattle.std.specs.Prelude.{neg_ℤ, ◌+ℤ◌, slice_index, slice_set}
+use Rattle.std.specs.Prelude.{◌+ℤ◌, slice_index, slice_set}
 use Rattle.std.proofs.lemmas.List.{get_or-set_other, length-append}
 use Rattle.pf_assignment.specs.Assignments.{number}
 use Rattle.pf_assignment.specs.Internal.AssignmentSteps.{holder, flag, IsScanned, IsTreeOf}
 use Rattle.pf_assignment.proofs.MatchingNumbers.{number-at}
-use Rattle.pf_assignment.proofs.MatchingBounds.{free, unvisited, column_negation, row_negation, row_sum, path_sum, path_difference}
+use Rattle.pf_assignment.proofs.MatchingBounds.{free, unvisited, row_sum, path_sum, path_difference}
 use Rattle.pf_assignment.proofs.MatchingWeights.{IsInterval}
 use Rattle.pf_assignment.proofs.MatchingTree.{tree_of_more}
 use Rattle.std.proofs.lemmas.Result.{IfOk-from_err}
@@ -18,17 +18,8 @@ index-requires-2 g c =
     let l : c.args.row < length c.args.matching.now.row_potentials.items = omega (arith, o, r) in
     subst (λ n. c.args.row < n) (sym c.args.matching.now.row_potentials.ok.0) l
 
-pub plus-offset-requires-clause-negation : goal.plus-offset-requires-clause-negation
-plus-offset-requires-clause-negation g c =
-    let value = g.C.Number.value in
-    let o = (c.requires.next.matched.matching.from c.args.row c.args.column c.requires.row).0 in
-    let r = c.requires.next.matched.rows in
-    let n = number-at value c.args.matching.now.row_potentials.items c.args.row c.index-2.result.now (omega (arith, o, r)) c.index-2.ensures in
-    subst (λ z. g.C.Number.fits (neg_ℤ z)) n
-    (row_negation g.C.Number.fits (λ x y z. g.C.Number.between_law x y z g.met.C.Integral.exact_law) c.requires.next c.requires.tree.tree c.args.column c.requires.tree.nearest c.args.row o)
-
-pub plus-offset-requires-clause-sum : goal.plus-offset-requires-clause-sum
-plus-offset-requires-clause-sum g c =
+pub plus-offset-requires : goal.plus-offset-requires
+plus-offset-requires g c =
     let value = g.C.Number.value in
     let o = (c.requires.next.matched.matching.from c.args.row c.args.column c.requires.row).0 in
     let r = c.requires.next.matched.rows in
@@ -63,7 +54,6 @@ scan-requires g c =
       potentials = next.matched.columns;
       wide = length-set c.args.self.now.visited.items c.args.column true ∙ tree.visited_len;
       left = (f.0, f.1, get_or-set_other c.args.self.now.visited.items c.args.column f.0 true false (λ e. absurd (let k : Some c.args.row ≡ None = sym c.requires.row ∙ ap (holder c.args.matching.now.row_of.items) (sym e) ∙ f.2 in cc)) ∙ u);
-      negation = λ j h f. column_negation g.C.Number.fits interval next j h;
       sum = λ j h f. path_sum g.C.Number.fits interval next tree c.args.column nearest c.args.row o (value c.plus-offset.result) sum j h;
       difference = λ j h f. path_difference g.C.Number.fits interval next tree c.args.column nearest c.args.row o (value c.plus-offset.result) sum j h;
     }

@@ -1,11 +1,11 @@
-//! Sums and comparisons of signed costs.
+//! Sums and comparisons of costs.
 
 ghost use Rattle.std.specs.Prelude.{◌≡◌, ◌⊎◌, ◌+ℤ◌, ◌≤ℤ◌, ◌<ℤ◌, MatchBool};
 
-use pf_base::{Cost, SignedCost};
+use crate::cost::Cost;
 
 /// The sum of two costs.
-pub fn plus<C: SignedCost>(left: C, right: C) -> C
+pub fn plus<C: Cost>(left: C, right: C) -> C
     requires { C.fits (C.value left +ℤ C.value right) }
     ensures { C.value result ≡ C.value left +ℤ C.value right }
 {
