@@ -1,9 +1,13 @@
 //! Graphs in tables, over nodes that are numbers, and searches over them.
 
+pub use pf_table_orders::{
+    strongly_connected_component, strongly_connected_components, topological_sort,
+    topological_sort_into_groups,
+};
+pub use pf_table_paths::{YenPaths, yen, yen_paths};
 pub use pf_table_searches::{
-    BfsReachable, DfsReachable, DijkstraReachable, YenPaths, bfs_loop, bfs_reach, dfs, dfs_reach,
-    dijkstra_all, dijkstra_partial, dijkstra_reach, iddfs, strongly_connected_component,
-    strongly_connected_components, topological_sort, topological_sort_into_groups, yen, yen_paths,
+    BfsReachable, DfsReachable, DijkstraReachable, bfs_loop, bfs_reach, dfs, dfs_reach,
+    dijkstra_all, dijkstra_partial, dijkstra_reach, iddfs,
 };
 pub use pf_tables::{
     Board, CompactRows, Costless, EdgeList, EdgeListError, Goals, Graph, Row, Rows, Steps,

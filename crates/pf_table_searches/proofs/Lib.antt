@@ -1,4 +1,1 @@
-mod EdgeLemmas
-mod EndLemmas
-mod PlaceLemmas
 mod TableWalkLemmas

@@ -6,8 +6,8 @@ ghost use Rattle.pf_base.specs.Walks.{HasNoGoalWalk, IsGoalPath};
 ghost use Rattle.pf_search.specs.Preorder.{IsFirstTreePath};
 ghost use Rattle.pf_tables.specs.Graphs.{successors_of};
 
-use crate::edges::ends_of;
 use pf_base::{Cost, PathError};
+use pf_table_functions::edges::ends_of;
 use pf_tables::{Goals, Graph};
 use std::alloc::Allocator;
 

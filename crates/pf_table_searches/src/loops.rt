@@ -4,8 +4,8 @@ ghost use Rattle.std.specs.Prelude.{◌≡◌, IfOk, IfErr, MatchOption, nat_eq}
 ghost use Rattle.pf_base.specs.Loops.{HasNoLoop, IsBestLoop};
 ghost use Rattle.pf_tables.specs.Graphs.{successors_of};
 
-use crate::edges::ends_of;
 use pf_base::{Cost, NodeRefs, PathError};
+use pf_table_functions::edges::ends_of;
 use pf_tables::Graph;
 use std::alloc::Allocator;
 

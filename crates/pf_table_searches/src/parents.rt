@@ -6,9 +6,9 @@ ghost use Rattle.pf_base.specs.Edges.{CostOverflows};
 ghost use Rattle.pf_search.specs.Parents.{IsCheapestMap, IsPartialMap};
 ghost use Rattle.pf_tables.specs.Graphs.{graph_of};
 
-use crate::edges::edges_of;
 use pf_base::{Cost, PathError};
 use pf_search::directed::dijkstra::Parents;
+use pf_table_functions::edges::edges_of;
 use pf_tables::{Goals, Graph};
 use std::alloc::Allocator;
 

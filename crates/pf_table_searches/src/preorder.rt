@@ -7,9 +7,9 @@ ghost use Rattle.pf_search.specs.Items.{most_items};
 ghost use Rattle.pf_tables.specs.Graphs.{successors_of};
 ghost use Rattle.pf_table_searches.specs.Walks.{IsPreorderWalkInTable, IsPreorderWalkAlong, PreorderStepInTable};
 
-use crate::neighbours::Neighbours;
 use pf_base::{Cost, PathError};
 use pf_search::directed::dfs;
+use pf_table_functions::neighbours::Neighbours;
 use pf_tables::Graph;
 use std::alloc::{Allocator, Global};
 use std::marker::Model;

@@ -5,10 +5,10 @@ ghost use Rattle.std.specs.Iterator.{at_most};
 ghost use Rattle.pf_search.specs.Items.{most_items};
 ghost use Rattle.pf_table_searches.specs.Walks.{IsBreadthWalkInTable, BreadthStepInTable, IsCheapestWalkInTable, IsBarredInTable, CheapestStepInTable};
 
-use crate::neighbours::Neighbours;
 use pf_base::{Cost, PathError};
 use pf_search::directed::dijkstra::DijkstraReachableItem;
 use pf_search::directed::{bfs, dijkstra};
+use pf_table_functions::neighbours::Neighbours;
 use pf_tables::Graph;
 use std::alloc::{Allocator, Global};
 use std::marker::Model;

@@ -15,7 +15,8 @@ use pf_graph::undirected::kruskal::{kruskal, kruskal_indices};
 use pf_graph::undirected::prim::prim;
 use pf_grid::Grid;
 use pf_matrix::Matrix;
-use pf_table_searches::{dfs, dijkstra_all, topological_sort, topological_sort_into_groups};
+use pf_table_orders::{topological_sort, topological_sort_into_groups};
+use pf_table_searches::{dfs, dijkstra_all};
 use pf_tables::{CompactRows, bfs, dijkstra};
 use std::alloc::Global;
 

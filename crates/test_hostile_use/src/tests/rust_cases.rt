@@ -6,10 +6,11 @@ use pf_graph::undirected::connected_components::{MapIn, SetIn, components, separ
 use pf_graph::undirected::kruskal::kruskal;
 use pf_grid::Grid;
 use pf_matrix::{Matrix, directions};
-use pf_table_searches::{
-    bfs_loop, strongly_connected_component, strongly_connected_components, topological_sort,
+use pf_table_orders::{
+    strongly_connected_component, strongly_connected_components, topological_sort,
     topological_sort_into_groups,
 };
+use pf_table_searches::bfs_loop;
 use pf_tables::{EdgeList, Rows, bfs};
 use std::alloc::Global;
 

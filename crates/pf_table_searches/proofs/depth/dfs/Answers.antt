@@ -3,7 +3,7 @@ use Rattle.std.proofs.lemmas.Iterator.Consumers.{YieldsList-from_first}
 use Rattle.pf_base.proofs.Callers.{nat_test}
 use Rattle.pf_base.proofs.Sources.{gives_chain}
 use Rattle.pf_tables.specs.Graphs.{successors_of}
-use Rattle.pf_table_searches.proofs.EdgeLemmas.{table_successors}
+use Rattle.pf_table_functions.proofs.EdgeLemmas.{table_successors}
 use Rattle.pf_table_searches.proofs.depth.dfs.Goals as goal
 
 pub dfs-requires-clause-graph : goal.dfs-requires-clause-graph

@@ -2,7 +2,7 @@ use Rattle.std.proofs.Common.{rules, ap}
 use Rattle.std.proofs.lemmas.Iterator.Consumers.{YieldsList-from_first}
 use Rattle.pf_base.proofs.Sources.{gives_chain}
 use Rattle.pf_tables.specs.Graphs.{successors_of}
-use Rattle.pf_table_searches.proofs.EdgeLemmas.{table_successors}
+use Rattle.pf_table_functions.proofs.EdgeLemmas.{table_successors}
 use Rattle.pf_table_searches.proofs.loops.bfs_loop.Goals as goal
 
 pub bfs_loop-requires-clause-graph : goal.bfs_loop-requires-clause-graph

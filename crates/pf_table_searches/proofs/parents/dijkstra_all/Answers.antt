@@ -3,7 +3,7 @@ use Rattle.std.proofs.lemmas.Iterator.Consumers.{YieldsList-from_first}
 use Rattle.pf_base.proofs.Sources.{gives_chain}
 use Rattle.pf_tables.specs.Graphs.{graph_of}
 use Rattle.pf_tables.proofs.GraphLemmas.{no_negative_cost}
-use Rattle.pf_table_searches.proofs.EdgeLemmas.{table_graph}
+use Rattle.pf_table_functions.proofs.EdgeLemmas.{table_graph}
 use Rattle.pf_table_searches.proofs.parents.dijkstra_all.Goals as goal
 
 pub dijkstra_all-requires-clause-graph : goal.dijkstra_all-requires-clause-graph

@@ -4,7 +4,7 @@ use Rattle.pf_base.proofs.Callers.{nat_test}
 use Rattle.pf_base.proofs.Sources.{gives_chain}
 use Rattle.pf_tables.specs.Graphs.{graph_of}
 use Rattle.pf_tables.proofs.GraphLemmas.{no_negative_cost}
-use Rattle.pf_table_searches.proofs.EdgeLemmas.{table_graph}
+use Rattle.pf_table_functions.proofs.EdgeLemmas.{table_graph}
 use Rattle.pf_table_searches.proofs.parents.dijkstra_partial.Goals as goal
 
 pub dijkstra_partial-requires-clause-graph : goal.dijkstra_partial-requires-clause-graph

@@ -1,0 +1,3 @@
+pub mod EdgeLemmas
+mod EndLemmas
+mod PlaceLemmas

@@ -1,0 +1,8 @@
+//! Graphs in tables as functions: what leads from a number, asked one by one, and whether it is a goal.
+//!
+//! The crates of searches over tables hand these to the calls for graphs that functions answer.
+#![tactic(auto)]
+
+pub mod edges;
+pub mod goal_test;
+pub mod neighbours;
