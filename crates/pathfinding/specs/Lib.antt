@@ -35,6 +35,9 @@ pub use Rattle.pf_tables.specs.Offsets
 pub use Rattle.pf_tables.specs.Boards
 pub use Rattle.pf_tables.specs.Goals
 pub use Rattle.pf_tables.specs.EdgeLists
+pub use Rattle.pf_table_searches.specs.TableWalks
+pub use Rattle.pf_table_paths.specs.RankedWalks
+pub use Rattle.pf_table_estimates.specs.EstimatesInTables
 pub use Rattle.pf_matrix.specs.Tables
 pub use Rattle.pf_matrix.specs.Arrange
 pub use Rattle.pf_matrix.specs.Calls

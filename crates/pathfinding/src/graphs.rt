@@ -1,5 +1,8 @@
 //! Graphs in tables, over nodes that are numbers, and searches over them.
 
+pub use pf_table_estimates::{
+    EstimateError, Estimates, astar, astar_bag, astar_bag_collect, fringe, idastar,
+};
 pub use pf_table_orders::{
     strongly_connected_component, strongly_connected_components, topological_sort,
     topological_sort_into_groups,

@@ -5,7 +5,7 @@ ghost use Rattle.std.specs.Iterator.{at_most};
 ghost use Rattle.pf_base.specs.Orders.{found_from, last_nodes};
 ghost use Rattle.pf_search.specs.Items.{most_items};
 ghost use Rattle.pf_tables.specs.Graphs.{successors_of};
-ghost use Rattle.pf_table_searches.specs.Walks.{IsPreorderWalkInTable, IsPreorderWalkAlong, PreorderStepInTable};
+ghost use Rattle.pf_table_searches.specs.TableWalks.{IsPreorderWalkInTable, IsPreorderWalkAlong, PreorderStepInTable};
 
 use pf_base::{Cost, PathError};
 use pf_search::directed::dfs;
@@ -25,7 +25,7 @@ pub struct DfsReachable<'a, C: Cost, G: Graph<C>, A: Allocator = Global> {
 impl<'a, C: Cost, G: Graph<C>, A: Allocator> Model for DfsReachable<'a, C, G, A> {
     ghost use Rattle.std.specs.Prelude.{ℕ};
     ghost use Rattle.pf_search.specs.DepthWalks.{DepthWalk};
-    ghost use Rattle.pf_table_searches.specs.Walks.{TableWalk, IsPreorderWalkInTable};
+    ghost use Rattle.pf_table_searches.specs.TableWalks.{TableWalk, IsPreorderWalkInTable};
 
     ghost Value = { TableWalk G (DepthWalk ℕ G) };
 

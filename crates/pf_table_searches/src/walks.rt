@@ -3,7 +3,7 @@
 ghost use Rattle.std.specs.Prelude.{◌≡◌, [], ◌∷◌, false, Ok, IfOk, IfErr, length};
 ghost use Rattle.std.specs.Iterator.{at_most};
 ghost use Rattle.pf_search.specs.Items.{most_items};
-ghost use Rattle.pf_table_searches.specs.Walks.{IsBreadthWalkInTable, BreadthStepInTable, IsCheapestWalkInTable, IsBarredInTable, CheapestStepInTable};
+ghost use Rattle.pf_table_searches.specs.TableWalks.{IsBreadthWalkInTable, BreadthStepInTable, IsCheapestWalkInTable, IsBarredInTable, CheapestStepInTable};
 
 use pf_base::{Cost, PathError};
 use pf_search::directed::dijkstra::DijkstraReachableItem;
@@ -24,7 +24,7 @@ pub struct BfsReachable<'a, C: Cost, G: Graph<C>, A: Allocator = Global> {
 impl<'a, C: Cost, G: Graph<C>, A: Allocator> Model for BfsReachable<'a, C, G, A> {
     ghost use Rattle.std.specs.Prelude.{ℕ};
     ghost use Rattle.pf_search.specs.Breadth.{BreadthWalk};
-    ghost use Rattle.pf_table_searches.specs.Walks.{TableWalk, IsBreadthWalkInTable};
+    ghost use Rattle.pf_table_searches.specs.TableWalks.{TableWalk, IsBreadthWalkInTable};
 
     ghost Value = { TableWalk G (BreadthWalk ℕ G) };
 
@@ -124,7 +124,7 @@ pub struct DijkstraReachable<'a, C: Cost, G: Graph<C>, A: Allocator = Global> {
 impl<'a, C: Cost, G: Graph<C>, A: Allocator> Model for DijkstraReachable<'a, C, G, A> {
     ghost use Rattle.std.specs.Prelude.{ℕ};
     ghost use Rattle.pf_search.specs.CheapestFirst.{CheapestWalk};
-    ghost use Rattle.pf_table_searches.specs.Walks.{TableWalk, IsCheapestWalkInTable};
+    ghost use Rattle.pf_table_searches.specs.TableWalks.{TableWalk, IsCheapestWalkInTable};
 
     ghost Value = { TableWalk G (CheapestWalk ℕ C G) };
 

@@ -7,7 +7,7 @@ use Rattle.pf_tables.specs.Graphs.{IsGraph, HasEdgeAt, edges_at, graph_of}
 
 module _ {C : Type 0} (value : C → ℤ) where
   -- what holds of the edge at each place holds of each edge
-  each_edge : (P : ℕ → ℤ → Type 0) (places : List (Option (ℕ × C))) → ((k : ℕ) (e : ℕ × C) → HasEdgeAt places k e → P e.0 (value e.1)) → (b : ℕ) (z : ℤ) → HasEdge nat_eq (edges_at value places) b z → P b z
+  pub each_edge : (P : ℕ → ℤ → Type 0) (places : List (Option (ℕ × C))) → ((k : ℕ) (e : ℕ × C) → HasEdgeAt places k e → P e.0 (value e.1)) → (b : ℕ) (z : ℤ) → HasEdge nat_eq (edges_at value places) b z → P b z
   each_edge P [] h b z m = absurd m
   each_edge P (None ∷ xs) h b z m = each_edge P xs (λ k e s. h (suc k) e s) b z m
   each_edge P (Some e ∷ xs) h b z (inl r) = subst (λ x. P x z) (eqb-true e.0 b r.0) (subst (P e.0) r.1 (h 0 e refl))
@@ -15,7 +15,7 @@ module _ {C : Type 0} (value : C → ℤ) where
 
   module _ (size : ℕ) (places : ℕ → List (Option (ℕ × C))) where
     -- an edge of the graph is one of a node below the size
-    listed : (a b : ℕ) (z : ℤ) → HasEdge nat_eq (graph_of value size places a) b z → (a < size) × HasEdge nat_eq (edges_at value (places a)) b z
+    pub listed : (a b : ℕ) (z : ℤ) → HasEdge nat_eq (graph_of value size places a) b z → (a < size) × HasEdge nat_eq (edges_at value (places a)) b z
     listed a b z = by (nat_lt a size) refl
       where
         by : (t : Bool) → nat_lt a size ≡ t → HasEdge nat_eq (if t then edges_at value (places a) else []) b z → (a < size) × HasEdge nat_eq (edges_at value (places a)) b z

@@ -1,5 +1,5 @@
 use Rattle.pf_search.specs.CheapestFirst.{CheapestWalk}
-use Rattle.pf_table_searches.specs.Walks.{TableWalk}
+use Rattle.pf_table_searches.specs.TableWalks.{TableWalk}
 use Rattle.pf_table_searches.proofs.TableWalkLemmas.{goes_on}
 use Rattle.pf_table_searches.proofs.walks.DijkstraReachableIterator.next.Goals as goal
 

@@ -1,0 +1,124 @@
+//! A cheapest path, led by estimates.
+
+ghost use Rattle.std.specs.Prelude.{◌≡◌, ◌⊎◌, [], ◌∷◌, Err, IfOk, IfErr, nat_eq};
+ghost use Rattle.pf_base.specs.Edges.{IsCheapestOrNone};
+ghost use Rattle.pf_informed.specs.Estimates.{MayOverflow};
+ghost use Rattle.pf_tables.specs.Graphs.{graph_of};
+ghost use Rattle.pf_table_estimates.specs.EstimatesInTables.{estimate_at};
+
+use crate::estimates::Estimates;
+use pf_base::{Cost, PathError};
+use pf_table_functions::edges::edges_of;
+use pf_tables::{Goals, Graph};
+use std::alloc::Allocator;
+
+/// A cheapest path from the node `from` to a goal, with its cost, or `None` exactly where no walk leads
+/// from it to a goal.
+///
+/// The table and the goals are those of the estimates. A number that is no node of the graph has no
+/// edges. The path contains no node twice. Which of several such paths is answered is open.
+///
+/// # Errors
+///
+/// - `CostOverflow`: only where the cost of some path from `from`, in which no node stands twice, and
+///   the estimate of its last node do not fit `C` together, and no walk to a goal has a cost that fits.
+/// - `OutOfMemory`: a request for memory was refused.
+///
+/// The algorithm is A* (P. E. Hart, N. J. Nilsson, B. Raphael, "A formal basis for the heuristic
+/// determination of minimum cost paths", 1968), with a binary heap. No edges are read twice.
+pub fn astar<C, G, T, A>(
+    alloc: A,
+    estimates: &Estimates<'_, C, G, T>,
+    from: usize,
+) -> Result<Option<(Vec<usize, A>, C)>, PathError>
+where
+    C: Cost,
+    G: Graph<C>,
+    T: Goals + Copy,
+    A: Allocator + Copy,
+    ensures best { IfOk result (IsCheapestOrNone nat_eq (graph_of C.value (G.size estimates.now.table) (G.places estimates.now.table)) (from ∷ []) (T.passes estimates.now.goals) C.value) }
+    ensures overflow { result ≡ Err PathError.CostOverflow → MayOverflow nat_eq (graph_of C.value (G.size estimates.now.table) (G.places estimates.now.table)) (from ∷ []) (T.passes estimates.now.goals) (estimate_at C.value estimates.now.estimates) C.fits }
+    ensures errors { IfErr result (λ e. (e ≡ PathError.OutOfMemory) ⊎ (e ≡ PathError.CostOverflow)) }
+{
+    estimates.known();
+    estimates.graph.known();
+    pf_informed::directed::astar::astar(
+        alloc,
+        &from,
+        |n: &usize| edges_of(estimates.graph, *n),
+        |n: &usize| estimates.estimate(*n),
+        |n: &usize| estimates.goals.is_goal(*n),
+    )
+}
+
+/// A cheapest path from the node `from` to a goal, with its cost, or `None` exactly where no walk leads
+/// from it to a goal, as `astar`.
+///
+/// # Errors
+///
+/// - `CostOverflow`: only where the cost of some path from `from`, in which no node stands twice, and
+///   the estimate of its last node do not fit `C` together, and no walk to a goal has a cost that fits.
+/// - `OutOfMemory`: a request for memory was refused.
+///
+/// The algorithm is fringe search (Y. Björnsson, M. Enzenberger, R. C. Holte, J. Schaeffer, "Fringe
+/// search: beating A* at pathfinding on game maps", 2005).
+pub fn fringe<C, G, T, A>(
+    alloc: A,
+    estimates: &Estimates<'_, C, G, T>,
+    from: usize,
+) -> Result<Option<(Vec<usize, A>, C)>, PathError>
+where
+    C: Cost,
+    G: Graph<C>,
+    T: Goals + Copy,
+    A: Allocator + Copy,
+    ensures best { IfOk result (IsCheapestOrNone nat_eq (graph_of C.value (G.size estimates.now.table) (G.places estimates.now.table)) (from ∷ []) (T.passes estimates.now.goals) C.value) }
+    ensures overflow { result ≡ Err PathError.CostOverflow → MayOverflow nat_eq (graph_of C.value (G.size estimates.now.table) (G.places estimates.now.table)) (from ∷ []) (T.passes estimates.now.goals) (estimate_at C.value estimates.now.estimates) C.fits }
+    ensures errors { IfErr result (λ e. (e ≡ PathError.OutOfMemory) ⊎ (e ≡ PathError.CostOverflow)) }
+{
+    estimates.known();
+    estimates.graph.known();
+    pf_informed::directed::fringe::fringe(
+        alloc,
+        &from,
+        |n: &usize| edges_of(estimates.graph, *n),
+        |n: &usize| estimates.estimate(*n),
+        |n: &usize| estimates.goals.is_goal(*n),
+    )
+}
+
+/// A cheapest path from the node `from` to a goal, with its cost, or `None` exactly where no walk leads
+/// from it to a goal, as `astar`.
+///
+/// # Errors
+///
+/// - `CostOverflow`: only where the cost of some path from `from`, in which no node stands twice, and
+///   the estimate of its last node do not fit `C` together, and no walk to a goal has a cost that fits.
+/// - `OutOfMemory`: a request for memory was refused.
+///
+/// The algorithm is IDA* (R. E. Korf, "Depth-first iterative-deepening: an optimal admissible tree
+/// search", 1985). Its time is of the order of the number of paths whose sums the limits admit.
+pub fn idastar<C, G, T, A>(
+    alloc: A,
+    estimates: &Estimates<'_, C, G, T>,
+    from: usize,
+) -> Result<Option<(Vec<usize, A>, C)>, PathError>
+where
+    C: Cost,
+    G: Graph<C>,
+    T: Goals + Copy,
+    A: Allocator + Copy,
+    ensures best { IfOk result (IsCheapestOrNone nat_eq (graph_of C.value (G.size estimates.now.table) (G.places estimates.now.table)) (from ∷ []) (T.passes estimates.now.goals) C.value) }
+    ensures overflow { result ≡ Err PathError.CostOverflow → MayOverflow nat_eq (graph_of C.value (G.size estimates.now.table) (G.places estimates.now.table)) (from ∷ []) (T.passes estimates.now.goals) (estimate_at C.value estimates.now.estimates) C.fits }
+    ensures errors { IfErr result (λ e. (e ≡ PathError.OutOfMemory) ⊎ (e ≡ PathError.CostOverflow)) }
+{
+    estimates.known();
+    estimates.graph.known();
+    pf_informed::directed::idastar::idastar(
+        alloc,
+        &from,
+        |n: &usize| edges_of(estimates.graph, *n),
+        |n: &usize| estimates.estimate(*n),
+        |n: &usize| estimates.goals.is_goal(*n),
+    )
+}
