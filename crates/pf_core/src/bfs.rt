@@ -54,7 +54,11 @@ pub fn fewest_edges_path<C: Cost, G: GoalGraph<C>, A: Allocator + Copy>(
         }
         graph.expand(node, &mut NoRow)?;
         let depth = settle(&mut labels, node);
-        fill(&mut labels, graph.node_count(), Slot::behind(node, &depth, ()))?;
+        fill(
+            &mut labels,
+            graph.node_count(),
+            Slot::behind(node, &depth, ()),
+        )?;
         node += 1;
     }
     Ok(None)

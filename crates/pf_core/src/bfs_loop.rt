@@ -54,7 +54,11 @@ pub fn fewest_edges_loop<C: Cost, G: NumberedGraph<C>, A: Allocator + Copy>(
             return Ok(Some(numbers));
         }
         let depth = settle(&mut labels, node);
-        fill(&mut labels, graph.node_count(), Slot::behind(node, &depth, ()))?;
+        fill(
+            &mut labels,
+            graph.node_count(),
+            Slot::behind(node, &depth, ()),
+        )?;
         node += 1;
     }
     Ok(None)

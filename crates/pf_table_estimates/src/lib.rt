@@ -2,9 +2,9 @@
 //! tested once, so that a call asks no proof of its caller.
 #![tactic(auto)]
 
+mod checks;
 pub mod error;
 pub mod estimates;
-mod checks;
 mod paths;
 mod searches;
 
