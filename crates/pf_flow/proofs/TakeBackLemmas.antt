@@ -17,6 +17,7 @@ use Rattle.pf_residual.specs.Internal.Cancelling.{gain, net_of, AreInside, IsCir
 use Rattle.pf_residual.specs.Internal.Settled.{moved, side_sum, settled, Touches, AreApart, HoldFlows, IsSettled, IsPlan, AreFlowing, arc_of}
 use Rattle.pf_residual.proofs.SumLemmas.{sum_ext, sum_add, square_none}
 use Rattle.pf_residual.proofs.AgreeLemmas.{capacities_more}
+use Rattle.pf_flow.specs.Internal.Changes.{Carries}
 use Rattle.pf_flow.proofs.MoveLemmas.{opposite_moved}
 use Rattle.pf_residual.proofs.ChangeListings.{get_last}
 use Rattle.pf_residual.proofs.SettledLemmas.{at_side, settled_side, settled_elsewhere, settled_here, settled_more, net_zero, net_push, side_none, side_one}
@@ -119,7 +120,7 @@ settled_none value ends xs N = record {
 
 module _ {C : Type 0} (value : C → ℤ) (count : ℕ) (ends : List Arc) (xs : List C) (N : Network) (h : AreFlowing value count ends xs N) where
   -- an arc whose turn has not come carries what it did
-  pub settled_next : (k : ℕ) (e : Arc) (M : Network) → k < count → slice_get ends k ≡ Some e → IsSettled value k ends xs N M → M.flow e.from e.to ≡ N.flow e.from e.to
+  settled_next : (k : ℕ) (e : Arc) (M : Network) → k < count → slice_get ends k ≡ Some e → IsSettled value k ends xs N M → M.flow e.from e.to ≡ N.flow e.from e.to
   settled_next k e M l g s =
       sym (s.flow.at e.from e.to)
       ∙ settled_elsewhere value (take k ends) N.flow (take k xs) e.from e.to
@@ -135,6 +136,21 @@ module _ {C : Type 0} (value : C → ℤ) (count : ℕ) (ends : List Arc) (xs : 
           let short = slice_get_within (take k ends) j d f in
           let long = length-take-le k ends (omega (arith, l, h.ends_long)) in
           get_take count ends j d (omega (arith, short, long, l)) (take_get k ends j d f)
+
+  -- and its amount may be taken off
+  pub carries_next : (k : ℕ) (e : Arc) (x : C) (M : Network) → k < count → slice_get ends k ≡ Some e → slice_get xs k ≡ Some x → IsSettled value k ends xs N M → Carries (value x) e M
+  carries_next k e x M l g f s =
+      let same = settled_next k e M l g s in
+      let some = h.flows k e l g in
+      let less = h.less k e x l g f in
+      let most = less.1 in
+      let i = h.inside k e l g in
+      record {
+        inside = (subst (λ n. e.from < n) (sym s.kept.shape.vertices) i.0, subst (λ n. e.to < n) (sym s.kept.shape.vertices) i.1);
+        apart = h.apart.loops k e (get_take count ends k e l g);
+        flows = omega (arith, ints, some, same);
+        less = (less.0, omega (arith, ints, most, same));
+      }
 
   -- one arc more
   pub settled_step : (k : ℕ) (e : Arc) (x : C) (M M' : Network) → slice_get ends k ≡ Some e → slice_get xs k ≡ Some x → IsSettled value k ends xs N M → KeepsCapacities M M' → Same (moved M.flow e.to e.from (M.flow e.from e.to -ℤ value x)) M'.flow → M'.total ≡ M.total

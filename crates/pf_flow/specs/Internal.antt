@@ -1,1 +1,2 @@
 pub mod SparseProps
+pub mod Changes

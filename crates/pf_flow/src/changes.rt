@@ -2,10 +2,11 @@
 
 ghost use Rattle.std.specs.Prelude.{◌≡◌, ◌<◌, ◌≤ℤ◌, pos, true, OnOk, OnErr, IfOk, IfErr};
 ghost use Rattle.num_traits.specs.Laws.{Checks};
-ghost use Rattle.pf_residual.specs.Flows.{Same, replaced, pair_sum};
+ghost use Rattle.pf_residual.specs.Flows.{replaced, pair_sum};
 ghost use Rattle.pf_base.specs.declared.error.PathError.TheVariants.{OutOfMemory};
-ghost use Rattle.pf_residual.specs.Networks.{Network, Agrees, KeepsCapacities, ChangesCapacity, IsNetwork, capacity, capacity_sum};
-ghost use Rattle.pf_residual.specs.Capacities.{FallsByExcess, IsChangeRefused};
+ghost use Rattle.pf_residual.specs.Networks.{Network, Agrees, IsNetwork, capacity, capacity_sum};
+ghost use Rattle.pf_residual.specs.Capacities.{IsChangeRefused};
+ghost use Rattle.pf_flow.specs.Internal.Changes.{IsPlanned, IsLoweredTo, SetsCapacity, IsChanged};
 
 use crate::makers::exchanged;
 use crate::taking_back::take_back;
@@ -83,9 +84,7 @@ where
     requires network { IsNetwork C.fits (S.network store.now) }
     requires from { from < (S.network store.now).vertices }
     requires to { to < (S.network store.now).vertices }
-    ensures old { IfOk result (λ plan. C.value plan.0 ≡ capacity (S.network store.now) from to) }
-    ensures low { OnOk result (pos 0 ≤ℤ C.value number) }
-    ensures sum { IfOk result (λ plan. C.value plan.1 ≡ pair_sum (S.network store.now).vertices (replaced (capacity (S.network store.now)) from to (C.value number))) }
+    ensures planned { IfOk result (λ plan. IsPlanned from to (C.value plan.0) (C.value number) (C.value plan.1) (S.network store.now)) }
     ensures refused { IfErr result (IsChangeRefused C.fits (S.network store.now) from to (C.value number)) }
 {
     if is_below(number, C::zero()) {
@@ -115,11 +114,7 @@ where
     requires to { to < (S.network store.old).vertices }
     requires low { pos 0 ≤ℤ C.value number }
     ensures network { IsNetwork C.fits (S.network store.new) }
-    ensures capacities { OnOk result (KeepsCapacities (S.network store.old) (S.network store.new)) }
-    ensures lowered { OnOk result ((S.network store.new).flow from to ≤ℤ C.value number) }
-    ensures kept { OnOk result ((S.network store.old).flow from to ≤ℤ C.value number → Same (S.network store.old).flow (S.network store.new).flow) }
-    ensures total { OnOk result ((S.network store.new).total ≤ℤ (S.network store.old).total) }
-    ensures excess { OnOk result (FallsByExcess from to (C.value number) (S.network store.old) (S.network store.new)) }
+    ensures lowered { OnOk result (IsLoweredTo from to (C.value number) (S.network store.old) (S.network store.new)) }
     ensures unchanged { OnErr result (Agrees (S.network store.old) (S.network store.new)) }
     ensures refused { IfErr result (λ e. e ≡ OutOfMemory) }
 {
@@ -140,14 +135,10 @@ where
     requires from { from < (S.network store.old).vertices }
     requires to { to < (S.network store.old).vertices }
     requires room { (S.network store.old).room from to ≡ true }
-    requires old { C.value old ≡ capacity (S.network store.old) from to }
-    requires low { pos 0 ≤ℤ C.value number }
+    requires planned { IsPlanned from to (C.value old) (C.value number) (C.value sum) (S.network store.old) }
     requires flow { (S.network store.old).flow from to ≤ℤ C.value number }
-    requires sum { C.value sum ≡ pair_sum (S.network store.old).vertices (replaced (capacity (S.network store.old)) from to (C.value number)) }
     ensures network { IsNetwork C.fits (S.network store.new) }
-    ensures changed { ChangesCapacity from to (C.value number) (S.network store.old) (S.network store.new) }
-    ensures flows { Same (S.network store.old).flow (S.network store.new).flow }
-    ensures total { (S.network store.new).total ≡ (S.network store.old).total }
+    ensures set { SetsCapacity from to (C.value number) (S.network store.old) (S.network store.new) }
 {
     number.known();
     sum.known();
@@ -171,10 +162,7 @@ where
     requires from { from < (S.network store.old).vertices }
     requires to { to < (S.network store.old).vertices }
     ensures network { IsNetwork C.fits (S.network store.new) }
-    ensures changed { OnOk result (ChangesCapacity from to (C.value capacity) (S.network store.old) (S.network store.new)) }
-    ensures kept { OnOk result ((S.network store.old).flow from to ≤ℤ C.value capacity → Same (S.network store.old).flow (S.network store.new).flow) }
-    ensures total { OnOk result ((S.network store.new).total ≤ℤ (S.network store.old).total) }
-    ensures excess { OnOk result (FallsByExcess from to (C.value capacity) (S.network store.old) (S.network store.new)) }
+    ensures changed { OnOk result (IsChanged from to (C.value capacity) (S.network store.old) (S.network store.new)) }
     ensures unchanged { OnErr result (Agrees (S.network store.old) (S.network store.new)) }
     ensures refused { IfErr result (IsChangeRefused C.fits (S.network store.old) from to (C.value capacity)) }
 {

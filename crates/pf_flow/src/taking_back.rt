@@ -1,6 +1,6 @@
 //! Flow that is taken back off an edge, to the source and from the sink, or round cycles.
 
-ghost use Rattle.std.specs.Prelude.{◌≡◌, ◌≢◌, ◌<◌, ◌≤ℤ◌, ◌<ℤ◌, ◌+ℤ◌, ◌-ℤ◌, ℕ, pos, Some, OnOk, OnErr, IfOk, IfErr, slice_get};
+ghost use Rattle.std.specs.Prelude.{◌≡◌, ◌≢◌, ◌<◌, ◌≤ℤ◌, ◌<ℤ◌, ◌-ℤ◌, ℕ, pos, Some, OnOk, OnErr, IfOk, IfErr, slice_get};
 ghost use Rattle.pf_base.specs.declared.error.PathError.TheVariants.{OutOfMemory};
 ghost use Rattle.pf_residual.specs.declared.cancelling.arcs.Arc.{Arc};
 ghost use Rattle.pf_residual.specs.Flows.{Same};
@@ -8,6 +8,7 @@ ghost use Rattle.pf_residual.specs.Networks.{Network, Agrees, KeepsCapacities, I
 ghost use Rattle.pf_residual.specs.Internal.Balances.{IsBalanced};
 ghost use Rattle.pf_residual.specs.Internal.Cancelling.{HasAmount};
 ghost use Rattle.pf_residual.specs.Internal.Settled.{HoldFlows, IsPlan, IsSettled, AreFlowing, moved};
+ghost use Rattle.pf_flow.specs.Internal.Changes.{Carries, IsTakenBack};
 
 use crate::listings::list_flows;
 use pf_base::{PathError, SignedCost};
@@ -58,12 +59,7 @@ where
     C: SignedCost,
     S: FlowStore<C>,
     requires balanced { IsBalanced C.fits (S.network store.old) }
-    requires from { arc.from < (S.network store.old).vertices }
-    requires to { arc.to < (S.network store.old).vertices }
-    requires apart { arc.from ≢ arc.to }
-    requires flows { pos 0 <ℤ (S.network store.old).flow arc.from arc.to }
-    requires low { pos 0 ≤ℤ C.value amount }
-    requires most { C.value amount ≤ℤ (S.network store.old).flow arc.from arc.to }
+    requires carries { Carries (C.value amount) arc (S.network store.old) }
     ensures balanced { IsBalanced C.fits (S.network store.new) }
     ensures kept { KeepsCapacities (S.network store.old) (S.network store.new) }
     ensures moved { Same (moved (S.network store.old).flow arc.to arc.from ((S.network store.old).flow arc.from arc.to -ℤ C.value amount)) (S.network store.new).flow }
@@ -108,10 +104,7 @@ where
     requires some { pos 0 <ℤ C.value excess }
     requires enough { HasAmount C.value amounts.old through (λ z. C.value excess ≤ℤ z) }
     ensures network { IsNetwork C.fits (S.network store.new) }
-    ensures kept { OnOk result (KeepsCapacities (S.network store.old) (S.network store.new)) }
-    ensures lowered { OnOk result ((e : Arc) → slice_get ends.now through ≡ Some e → (S.network store.new).flow e.from e.to ≡ ((S.network store.old).flow e.from e.to -ℤ C.value excess)) }
-    ensures total { OnOk result ((S.network store.new).total ≤ℤ (S.network store.old).total) }
-    ensures excess { OnOk result ((S.network store.old).total ≤ℤ ((S.network store.new).total +ℤ C.value excess)) }
+    ensures taken { OnOk result ((e : Arc) → slice_get ends.now through ≡ Some e → IsTakenBack e.from e.to (C.value excess) (S.network store.old) (S.network store.new)) }
     ensures unchanged { OnErr result (Agrees (S.network store.old) (S.network store.new)) }
     ensures refused { IfErr result (λ e. e ≡ OutOfMemory) }
 {
@@ -140,10 +133,7 @@ where
     requires some { pos 0 <ℤ C.value excess }
     requires most { C.value excess ≤ℤ (S.network store.old).flow from to }
     ensures network { IsNetwork C.fits (S.network store.new) }
-    ensures kept { OnOk result (KeepsCapacities (S.network store.old) (S.network store.new)) }
-    ensures lowered { OnOk result ((S.network store.new).flow from to ≡ ((S.network store.old).flow from to -ℤ C.value excess)) }
-    ensures total { OnOk result ((S.network store.new).total ≤ℤ (S.network store.old).total) }
-    ensures excess { OnOk result ((S.network store.old).total ≤ℤ ((S.network store.new).total +ℤ C.value excess)) }
+    ensures taken { OnOk result (IsTakenBack from to (C.value excess) (S.network store.old) (S.network store.new)) }
     ensures unchanged { OnErr result (Agrees (S.network store.old) (S.network store.new)) }
     ensures refused { IfErr result (λ e. e ≡ OutOfMemory) }
 {

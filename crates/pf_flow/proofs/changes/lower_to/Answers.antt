@@ -1,8 +1,8 @@
 use Rattle.std.proofs.Common.{ℤ, ◌≡◌, ◌+ℤ◌, arith, pos, refl, subst}
 use Rattle.std.specs.Prelude.{◌-ℤ◌, ◌≤ℤ◌, ◌<ℤ◌}
 use Rattle.std.proofs.lemmas.Int.{ints}
+use Rattle.pf_base.proofs.Outcomes.{on_ok}
 use Rattle.pf_residual.proofs.AgreeLemmas.{capacities_kept}
-use Rattle.pf_residual.proofs.NamedLemmas.{ok_so, ok_when}
 use Rattle.pf_residual.proofs.NetworkLemmas.{balanced_of, flow_fits}
 use Rattle.pf_flow.proofs.changes.lower_to.Goals as goal
 
@@ -44,29 +44,25 @@ returns-then-not-is_below g c =
     let low : g.C.Number.value c.flow-flow.result ≤ℤ g.C.Number.value c.args.number = c.if-not-is_below.ensures in
     record {
       network = c.requires.network;
-      capacities = capacities_kept (g.S.FlowStore.network c.args.store.now);
-      lowered = subst (λ z. z ≤ℤ g.C.Number.value c.args.number) is low;
-      kept = λ _. record { at = λ a b. refl };
-      total = at_most_itself _;
-      excess = λ high. more_on_top _ _ _ high;
+      lowered = record {
+        capacities = capacities_kept (g.S.FlowStore.network c.args.store.now);
+        lowered = subst (λ z. z ≤ℤ g.C.Number.value c.args.number) is low;
+        kept = λ _. record { at = λ a b. refl };
+        total = at_most_itself _;
+        excess = λ high. more_on_top _ _ _ high;
+      };
       unchanged = tt;
       refused = tt;
     }
 
-pub take_back-requires-clause-network : goal.take_back-requires-clause-network
-take_back-requires-clause-network g c = c.requires.network
-
-pub take_back-requires-clause-from : goal.take_back-requires-clause-from
-take_back-requires-clause-from g c = c.requires.from
-
-pub take_back-requires-clause-to : goal.take_back-requires-clause-to
-take_back-requires-clause-to g c = c.requires.to
-
-pub take_back-requires-clause-some : goal.take_back-requires-clause-some
-take_back-requires-clause-some g c = above_none _ _ _ c.minus.ensures c.if-not-is_below.ensures
-
-pub take_back-requires-clause-most : goal.take_back-requires-clause-most
-take_back-requires-clause-most g c = at_most_all _ _ _ _ c.minus.ensures c.flow-flow.ensures c.requires.low
+pub take_back-requires : goal.take_back-requires
+take_back-requires g c = record {
+  network = c.requires.network;
+  from = c.requires.from;
+  to = c.requires.to;
+  some = above_none _ _ _ c.minus.ensures c.if-not-is_below.ensures;
+  most = at_most_all _ _ _ _ c.minus.ensures c.flow-flow.ensures c.requires.low;
+}
 
 pub returns : goal.returns
 returns g c =
@@ -76,11 +72,13 @@ returns g c =
     let back = c.take_back.ensures in
     record {
       network = back.network;
-      capacities = back.kept;
-      lowered = ok_so c.take_back.result back.lowered (λ less. what_is_left _ _ _ _ _ less excess is);
-      kept = ok_when c.take_back.result (λ high. absurd (not_both _ _ _ is above high));
-      total = back.total;
-      excess = ok_so c.take_back.result back.excess (λ more high. not_far _ _ _ _ _ _ more excess is);
+      lowered = on_ok c.take_back.result back.taken (λ t. record {
+        capacities = t.kept;
+        lowered = what_is_left _ _ _ _ _ t.lowered excess is;
+        kept = λ high. absurd (not_both _ _ _ is above high);
+        total = t.total;
+        excess = λ high. not_far _ _ _ _ _ _ t.excess excess is;
+      });
       unchanged = back.unchanged;
       refused = back.refused;
     }

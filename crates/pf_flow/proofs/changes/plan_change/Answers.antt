@@ -13,11 +13,12 @@ returns-then-is_below-clause-refused g c =
 pub sum_after-requires-clause-old : goal.sum_after-requires-clause-old
 sum_after-requires-clause-old g c = c.capacity_of-old.ensures
 
-pub returns-clause-low : goal.returns-clause-low
-returns-clause-low g c =
+pub returns-clause-planned : goal.returns-clause-planned
+returns-clause-planned g c =
     let zero = ap g.C.Number.value c.zero.ensures ∙ g.met.C.Zero.zero_law g.met.C.Integral.exact_law in
     let low = c.if-is_below.ensures in
-    omega (arith, ints, zero, low)
+    let sum = subst (Checks g.C.Number.value g.C.Number.fits _) c.in-Some.is c.in_ok-sum.ensures.sum in
+    record { old = c.capacity_of-old.ensures; low = omega (arith, ints, zero, low); sum = sum.1 }
 
 pub returns-in_default-clause-refused : goal.returns-in_default-clause-refused
 returns-in_default-clause-refused g c =

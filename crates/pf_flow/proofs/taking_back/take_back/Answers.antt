@@ -6,8 +6,10 @@ use Rattle.std.proofs.lemmas.Result.{IfOk-from_err, MatchResult-from_err}
 use Rattle.pf_base.proofs.Outcomes.{on_ok}
 use Rattle.pf_base.proofs.ListLemmas.{get-append}
 use Rattle.pf_residual.specs.declared.cancelling.arcs.Arc.{Arc}
+use Rattle.pf_residual.specs.Networks.{Network}
 use Rattle.pf_residual.proofs.AgreeLemmas.{agrees_itself}
 use Rattle.pf_residual.proofs.NamedLemmas.{refused_as, refused_by}
+use Rattle.pf_flow.specs.Internal.Changes.{IsTakenBack}
 use Rattle.pf_flow.proofs.TakeBackLemmas.{plan_of, amount_there}
 use Rattle.pf_flow.proofs.taking_back.take_back.Goals as goal
 
@@ -20,8 +22,9 @@ none_flows e f n l m = omega (arith, ints, n, l, m)
 enough_there : (e f g x : ℤ) → f ≡ g → f ≡ x → e ≤ℤ g → e ≤ℤ x
 enough_there e f g x h k l = omega (arith, ints, h, k, l)
 
-less_here : (m n f g e : ℤ) → m ≡ f -ℤ e → f ≡ g → m ≡ n → n ≡ g -ℤ e
-less_here m n f g e h k l = omega (arith, ints, h, k, l)
+-- what was taken back off the arc of a pair, was off the pair
+taken_here : {from to : ℕ} {z : ℤ} (e : Arc) (N M : Network) → IsTakenBack e.from e.to z N M → e.from ≡ from → e.to ≡ to → IsTakenBack from to z N M
+taken_here {from} {to} {z} e N M t p q = subst (λ a. IsTakenBack a to z N M) p (subst (λ b. IsTakenBack e.from b z N M) q t)
 
 pub flowing-requires : goal.flowing-requires
 flowing-requires g c = c.requires.network
@@ -90,22 +93,14 @@ take_back_by-requires-clause-enough g c =
 pub returns : goal.returns
 returns g c = record {
   network = c.take_back_by.ensures.network;
-  kept = c.take_back_by.ensures.kept;
-  lowered =
-      on_ok c.take_back_by.result c.take_back_by.ensures.lowered (λ f.
-      let N = g.S.FlowStore.network c.args.store.now in
-      let M = g.S.FlowStore.network c.take_back_by.new.store in
+  taken =
+      on_ok c.take_back_by.result c.take_back_by.ensures.taken (λ f.
       let k = c.number_of-through.result in
       let ends = c.in_ok-ends.ends.items in
       let number = c.number_of-through.ensures.number in
       let at : slice_get ends k ≡ Some number.0 = ap (λ (es : List Arc). slice_get es k) (sym c.deref.ensures.value) ∙ number.1 in
       let here : slice_get c.deref-2.result.now k ≡ Some number.0 = ap (λ (es : List Arc). slice_get es k) (c.deref-2.ensures.value ∙ c.in_ok-push.ensures.items) ∙ get-append ends _ k number.0 at in
-      let less = f number.0 here in
-      let old : N.flow number.0.from number.0.to ≡ N.flow c.args.from c.args.to = ap (λ (u : ℕ). N.flow u number.0.to) number.2 ∙ ap (λ (u : ℕ). N.flow c.args.from u) number.3 in
-      let new : M.flow number.0.from number.0.to ≡ M.flow c.args.from c.args.to = ap (λ (u : ℕ). M.flow u number.0.to) number.2 ∙ ap (λ (u : ℕ). M.flow c.args.from u) number.3 in
-      less_here _ _ _ _ _ less old new);
-  total = c.take_back_by.ensures.total;
-  excess = c.take_back_by.ensures.excess;
+      taken_here _ _ _ (f number.0 here) number.2 number.3);
   unchanged = c.take_back_by.ensures.unchanged;
   refused = c.take_back_by.ensures.refused;
 }
@@ -113,10 +108,7 @@ returns g c = record {
 pub returns-in_err-ends : goal.returns-in_err-ends
 returns-in_err-ends g c = record {
   network = c.requires.network;
-  kept = IfOk-from_err _ _ c.from_residual.ensures.0;
-  lowered = IfOk-from_err _ _ c.from_residual.ensures.0;
-  total = IfOk-from_err _ _ c.from_residual.ensures.0;
-  excess = IfOk-from_err _ _ c.from_residual.ensures.0;
+  taken = IfOk-from_err _ _ c.from_residual.ensures.0;
   unchanged = MatchResult-from_err _ _ _ c.from_residual.ensures.0 (λ e. agrees_itself (g.S.FlowStore.network c.args.store.now));
   refused = refused_as _ c.from_residual.result _ c.in_err-ends.ensures.refused c.from_residual.ensures.1;
 }
@@ -124,10 +116,7 @@ returns-in_err-ends g c = record {
 pub returns-in_err-push : goal.returns-in_err-push
 returns-in_err-push g c = record {
   network = c.requires.network;
-  kept = IfOk-from_err _ _ c.from_residual-in_err-push.ensures.0;
-  lowered = IfOk-from_err _ _ c.from_residual-in_err-push.ensures.0;
-  total = IfOk-from_err _ _ c.from_residual-in_err-push.ensures.0;
-  excess = IfOk-from_err _ _ c.from_residual-in_err-push.ensures.0;
+  taken = IfOk-from_err _ _ c.from_residual-in_err-push.ensures.0;
   unchanged = MatchResult-from_err _ _ _ c.from_residual-in_err-push.ensures.0 (λ e. agrees_itself (g.S.FlowStore.network c.args.store.now));
   refused = refused_by _ _ c.from_residual-in_err-push.result (λ e h. h) c.from_residual-in_err-push.ensures.1;
 }
@@ -135,10 +124,7 @@ returns-in_err-push g c = record {
 pub returns-in_err-push-2 : goal.returns-in_err-push-2
 returns-in_err-push-2 g c = record {
   network = c.requires.network;
-  kept = IfOk-from_err _ _ c.from_residual-in_err-push-2.ensures.0;
-  lowered = IfOk-from_err _ _ c.from_residual-in_err-push-2.ensures.0;
-  total = IfOk-from_err _ _ c.from_residual-in_err-push-2.ensures.0;
-  excess = IfOk-from_err _ _ c.from_residual-in_err-push-2.ensures.0;
+  taken = IfOk-from_err _ _ c.from_residual-in_err-push-2.ensures.0;
   unchanged = MatchResult-from_err _ _ _ c.from_residual-in_err-push-2.ensures.0 (λ e. agrees_itself (g.S.FlowStore.network c.args.store.now));
   refused = refused_by _ _ c.from_residual-in_err-push-2.result (λ e h. h) c.from_residual-in_err-push-2.ensures.1;
 }

@@ -22,6 +22,10 @@ falls new x y old total a b l e = omega (arith, ints, a, b, l, e)
 not_far : (new x y old total z : ℤ) → new ≡ x → x ≡ y → (old -ℤ z) ≤ℤ y → old ≡ total → total ≤ℤ (new +ℤ z)
 not_far new x y old total z a b l e = omega (arith, ints, a, b, l, e)
 
+-- the flow n of the arc was the amount o, which is z less now
+less_there : (n o t x m k z : ℤ) → n ≡ o → t ≡ x → t ≡ m → m ≡ k → x ≡ o -ℤ z → k ≡ n -ℤ z
+less_there n o t x m k z a b c d e = omega (arith, ints, a, b, c, d, e)
+
 before_last : (n k : ℕ) → n ≡ k + 1 → n - 1 ≡ k
 before_last n k e = omega (arith, e)
 
@@ -77,52 +81,38 @@ returns g c = record {
       let at : slice_get now p.0 ≡ Some w = subst (λ (n : ℕ). slice_get now n ≡ Some w) count last in
       let s = subst (λ (n : ℕ). IsSettled value n c.args.ends.now now N M) count c.lower_flows.ensures.settled in
       network_agrees c.set_total_capacity.ensures (plan_network value p.0 c.args.ends.now c.args.amounts.now N p.1 _ c.args.through now w M c.requires.network (g.met.S.FlowStore.network_law c.args.store.now) c.requires.apart l c.in_ok-cancel.ensures.balanced at s c.lower_flows.ensures.balanced);
-  kept =
-      let same = capacities_agrees c.set_total_capacity.ensures in
-      let shape = same.shape in
-      capacities_more c.lower_flows.ensures.settled.kept (record {
-        shape = record { vertices = shape.vertices; source = shape.source; sink = shape.sink; details = shape.details; room = shape.room };
-        capacities = record { at = same.capacities.at };
-      });
-  lowered =
+  taken =
       λ e f.
       let N = g.S.FlowStore.network c.args.store.now in
       let value = g.C.Number.value in
       let p = c.requires.plan in
       let ends = c.args.ends.now in
       let now = c.cancel.new.amounts in
-      let o = c.requires.enough in
-      let x = c.in_ok-cancel.ensures.lowered.exact o.0 o.1 in
-      let before = p.1.number c.args.through e o.0 p.2 f o.1 in
+      let l = c.in_ok-cancel.ensures.lowered in
       let s = c.lower_flows.ensures.settled in
-      let below : c.args.through < length ends - 1 = omega (arith, p.2, p.1.len) in
-      let here = settled_here value (take (length ends - 1) ends) N.flow (take (length ends - 1) now) c.args.through e x.0 (subst (λ (n : ℕ). AreApart (take n ends)) (omega (arith, p.1.len)) p.1.apart) (get_take (length ends - 1) ends c.args.through e below f) (get_take (length ends - 1) now c.args.through x.0 below x.1) in
-      let after = s.flow.at e.from e.to in
-      let same = c.set_total_capacity.ensures.flow.at e.from e.to in
-      let less = x.2 in
-      omega (arith, ints, before, here, after, same, less);
-  total =
-      let value = g.C.Number.value in
-      let p = c.requires.plan in
-      let now = c.cancel.new.amounts in
-      let l = c.in_ok-cancel.ensures.lowered in
+      let after = c.set_total_capacity.ensures in
+      let same = capacities_agrees after in
       let w = c.index-amounts-count.result in
-      let count : length c.args.ends.now - 1 ≡ p.0 = before_last _ _ p.1.len in
-      let last : slice_get now (length c.args.ends.now - 1) ≡ Some w = at_place now _ _ _ (last_inside _ _ _ _ p.1.len p.1.long l.len) (sym c.index-amounts-count.is) in
+      let count : length ends - 1 ≡ p.0 = before_last _ _ p.1.len in
+      let last : slice_get now (length ends - 1) ≡ Some w = at_place now _ _ _ (last_inside _ _ _ _ p.1.len p.1.long l.len) (sym c.index-amounts-count.is) in
       let at : slice_get now p.0 ≡ Some w = subst (λ (n : ℕ). slice_get now n ≡ Some w) count last in
-      let o = l.each p.0 p.1.total.0 p.1.total.1 in
-      falls _ _ _ _ _ c.set_total_capacity.ensures.total (one_amount value _ w o.0 at o.1) o.2.1 p.1.total.2;
-  excess =
-      let value = g.C.Number.value in
-      let p = c.requires.plan in
-      let now = c.cancel.new.amounts in
-      let l = c.in_ok-cancel.ensures.lowered in
-      let w = c.index-amounts-count.result in
-      let count : length c.args.ends.now - 1 ≡ p.0 = before_last _ _ p.1.len in
-      let last : slice_get now (length c.args.ends.now - 1) ≡ Some w = at_place now _ _ _ (last_inside _ _ _ _ p.1.len p.1.long l.len) (sym c.index-amounts-count.is) in
-      let at : slice_get now p.0 ≡ Some w = subst (λ (n : ℕ). slice_get now n ≡ Some w) count last in
-      let o = l.each p.0 p.1.total.0 p.1.total.1 in
-      not_far _ _ _ _ _ _ c.set_total_capacity.ensures.total (one_amount value _ w o.0 at o.1) o.2.2 p.1.total.2;
+      let r = l.each p.0 p.1.total.0 p.1.total.1 in
+      let one = one_amount value _ w r.0 at r.1 in
+      record {
+        kept = capacities_more s.kept (record {
+          shape = record { vertices = same.shape.vertices; source = same.shape.source; sink = same.shape.sink; details = same.shape.details; room = same.shape.room };
+          capacities = record { at = same.capacities.at };
+        });
+        lowered =
+            let o = c.requires.enough in
+            let x = l.exact o.0 o.1 in
+            let before = p.1.number c.args.through e o.0 p.2 f o.1 in
+            let below : c.args.through < length ends - 1 = omega (arith, p.2, p.1.len) in
+            let here = settled_here value (take (length ends - 1) ends) N.flow (take (length ends - 1) now) c.args.through e x.0 (subst (λ (n : ℕ). AreApart (take n ends)) (omega (arith, p.1.len)) p.1.apart) (get_take (length ends - 1) ends c.args.through e below f) (get_take (length ends - 1) now c.args.through x.0 below x.1) in
+            less_there _ _ _ _ _ _ _ before here (s.flow.at e.from e.to) (after.flow.at e.from e.to) x.2;
+        total = falls _ _ _ _ _ after.total one r.2.1 p.1.total.2;
+        excess = not_far _ _ _ _ _ _ after.total one r.2.2 p.1.total.2;
+      };
   unchanged = tt;
   refused = tt;
 }
@@ -130,10 +120,7 @@ returns g c = record {
 pub returns-in_err-cancel : goal.returns-in_err-cancel
 returns-in_err-cancel g c = record {
   network = c.requires.network;
-  kept = IfOk-from_err _ _ c.from_residual.ensures.0;
-  lowered = IfOk-from_err _ _ c.from_residual.ensures.0;
-  total = IfOk-from_err _ _ c.from_residual.ensures.0;
-  excess = IfOk-from_err _ _ c.from_residual.ensures.0;
+  taken = IfOk-from_err _ _ c.from_residual.ensures.0;
   unchanged = MatchResult-from_err _ _ _ c.from_residual.ensures.0 (λ e. agrees_itself (g.S.FlowStore.network c.args.store.now));
   refused = refused_as _ c.from_residual.result _ c.in_err-cancel.ensures.refused c.from_residual.ensures.1;
 }
