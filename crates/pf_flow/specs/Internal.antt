@@ -1,2 +1,3 @@
 pub mod SparseProps
 pub mod Changes
+pub mod Phases

@@ -3,8 +3,9 @@
 ghost use Rattle.std.specs.Prelude.{◌≡◌, ◌<◌, ◌+◌, length, slice_index, OnOk, IfErr};
 ghost use Rattle.pf_base.specs.declared.error.PathError.TheVariants.{OutOfMemory};
 ghost use Rattle.pf_residual.specs.Networks.{Network};
-ghost use Rattle.pf_residual.specs.Internal.Levels.{AreLevels, HasFound, IsTree, IsTreePath, Reaches};
+ghost use Rattle.pf_residual.specs.Internal.Levels.{HasFound, IsTree, IsTreePath, Reaches};
 ghost use Rattle.pf_residual.specs.Internal.Steps.{AreSteps};
+ghost use Rattle.pf_flow.specs.Internal.Phases.{HoldsLevels};
 
 use pf_base::{PathError, SignedCost};
 use pf_residual::steps::Steps;
@@ -41,10 +42,7 @@ impl<A: Allocator + Copy> Levels<A> {
     where
         C: SignedCost,
         S: FlowStore<C>,
-        ensures levels { OnOk result (AreLevels (S.network store.now) (slice_index self.new.levels.items) (slice_index self.new.parents.items)) }
-        ensures levels_len { OnOk result (length self.new.levels.items ≡ (S.network store.now).vertices) }
-        ensures parents_len { OnOk result (length self.new.parents.items ≡ (S.network store.now).vertices) }
-        ensures steps { OnOk result (AreSteps (S.network store.now).vertices self.new.steps.targets.items self.new.steps.places.items self.new.steps.ends.items) }
+        ensures found { OnOk result (HoldsLevels (S.network store.now) self.new) }
         ensures refused { IfErr result (λ e. e ≡ OutOfMemory) }
     {
         self.begin(store)?;

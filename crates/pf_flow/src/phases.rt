@@ -1,10 +1,10 @@
 //! Phases of shortest augmenting paths.
 
 ghost use Rattle.std.specs.Prelude.{◌≡◌, ◌≢◌, ◌<◌, length, slice_index};
-ghost use Rattle.pf_residual.specs.Networks.{Network, KeepsCapacities, IsNetwork};
-ghost use Rattle.pf_residual.specs.Internal.AugmentingPaths.{IsLabelling, TicksWithinRise};
-ghost use Rattle.pf_residual.specs.Internal.Levels.{AreLevels};
-ghost use Rattle.pf_residual.specs.Internal.Steps.{AreSteps, IsSinkWay};
+ghost use Rattle.pf_residual.specs.Networks.{Network, IsNetwork};
+ghost use Rattle.pf_residual.specs.Internal.AugmentingPaths.{IsLabelling};
+ghost use Rattle.pf_residual.specs.Internal.Steps.{IsSinkWay};
+ghost use Rattle.pf_flow.specs.Internal.Phases.{HoldsLevels, IsAugmented};
 
 use crate::levels::Levels;
 use pf_base::SignedCost;
@@ -28,10 +28,7 @@ where
     requires path_len { length path.now ≡ (S.network store.old).vertices }
     requires reached { slice_index levels.now (S.network store.old).sink < (S.network store.old).vertices }
     ensures network { IsNetwork C.fits (S.network store.new) }
-    ensures kept { KeepsCapacities (S.network store.old) (S.network store.new) }
-    ensures labelling { IsLabelling (S.network store.old).vertices (S.network store.old).source (S.network store.new).residual (slice_index levels.now) }
-    ensures progress { tally.old < tally.new }
-    ensures bound { TicksWithinRise (slice_index levels.now) (S.network store.old) (S.network store.new) tally.old tally.new }
+    ensures augmented { IsAugmented (slice_index levels.now) (S.network store.old) (S.network store.new) tally.old tally.new }
 {
     let depth = levels[store.sink()];
     add_along(store, &path[..depth + 1]);
@@ -53,17 +50,11 @@ where
     A: Allocator + Copy,
     requires network { IsNetwork C.fits (S.network store.old) }
     requires apart { (S.network store.old).source ≢ (S.network store.old).sink }
-    requires levels { AreLevels (S.network store.old) (slice_index found.old.levels.items) (slice_index found.old.parents.items) }
-    requires levels_len { length found.old.levels.items ≡ (S.network store.old).vertices }
-    requires parents_len { length found.old.parents.items ≡ (S.network store.old).vertices }
-    requires steps { AreSteps (S.network store.old).vertices found.old.steps.targets.items found.old.steps.places.items found.old.steps.ends.items }
+    requires found { HoldsLevels (S.network store.old) found.old }
     requires reached { slice_index found.old.levels.items (S.network store.old).sink < (S.network store.old).vertices }
     requires path_len { length path.old ≡ (S.network store.old).vertices }
     ensures network { IsNetwork C.fits (S.network store.new) }
-    ensures kept { KeepsCapacities (S.network store.old) (S.network store.new) }
-    ensures labelling { IsLabelling (S.network store.old).vertices (S.network store.old).source (S.network store.new).residual (slice_index found.old.levels.items) }
-    ensures progress { tally.old < tally.new }
-    ensures bound { TicksWithinRise (slice_index found.old.levels.items) (S.network store.old) (S.network store.new) tally.old tally.new }
+    ensures augmented { IsAugmented (slice_index found.old.levels.items) (S.network store.old) (S.network store.new) tally.old tally.new }
 {
     found.write_path(path, store.sink());
     add_way(store, &found.levels, path, tally);

@@ -24,61 +24,52 @@ itself n = omega arith
 no_less : (n m : ℕ) → n ≤ n + m
 no_less n m = omega arith
 
+below_size : (at read size n m : ℕ) → read ≡ at → read < size → size ≡ n → m ≡ n → at < m
+below_size at read size n m e l f h = omega (arith, e, l, f, h)
+
 place_inside : (r s v long : ℕ) → s < v → r ≡ s → long ≡ v → r < long
 place_inside r s v long l e f = omega (arith, l, e, f)
 
 pub phases-smaller : goal.phases-smaller
 phases-smaller g c =
     let i = c.phases.invariant in
-    let p = c.augment_phase.ensures in
-    let top = ticks_top i.kept p.kept p.labelling c.args.tally.now c.phases.tally c.augment_phase.new.tally i.bound p.bound in
-    let more = p.progress in
-    fewer _ _ _ top more
+    let p = c.augment_phase.ensures.augmented in
+    fewer _ _ _ (ticks_top i.kept c.args.tally.now i.bound p) p.progress
 
 pub phases-preserved : goal.phases-preserved
 phases-preserved g c =
     let i = c.phases.invariant in
-    let p = c.augment_phase.ensures in
-    let found = c.in_ok-find-2.ensures in
-    let more = p.progress in
-    let before = i.ticked in
+    let p = c.augment_phase.ensures.augmented in
+    let found = c.in_ok-find-2.ensures.found in
     let wide = i.path_len in
     let shape = p.kept.shape.vertices in
     let auto = c.augment_phase.auto.path in
     let len = ap length c.deref_mut.ensures.value in
     let owned = c.phases.path.ok.0 in
     record {
-      network = p.network;
+      network = c.augment_phase.ensures.network;
       kept = capacities_more i.kept p.kept;
-      levels = found.levels;
-      levels_len = found.levels_len;
-      parents_len = found.parents_len;
-      steps = found.steps;
+      found = found;
       path_len = kept_len c.phases.path.len (g.S.FlowStore.network c.augment_phase.new.store).vertices c.augment_phase.new.path c.phases.path.items (omega (arith, auto, len, wide, shape)) (omega (arith, wide, shape)) (omega (arith, wide, shape, owned));
-      ticked = after _ _ _ before more;
-      bound = ticks_anew i.kept p.kept p.labelling c.args.tally.now c.phases.tally c.augment_phase.new.tally i.bound p.bound found.levels;
+      ticked = after _ _ _ i.ticked p.progress;
+      bound = ticks_anew i.kept c.args.tally.now i.bound p found.levels;
     }
 
 pub phases-init : goal.phases-init
-phases-init g c =
-    let f = c.in_ok-find.ensures in
-    record {
-      network = c.requires.network;
-      kept = capacities_kept (g.S.FlowStore.network c.args.store.now);
-      levels = f.levels;
-      levels_len = f.levels_len;
-      parents_len = f.parents_len;
-      steps = f.steps;
-      path_len = ap length (resized c.size-size.result c.new-path.result.items c.resize.new.self.items _ 0 c.new-path.ensures.items c.new-path.ensures.len c.in_ok-resize.ensures.items) ∙ length-replicate c.size-size.result 0 ∙ c.size-size.ensures;
-      ticked = itself _;
-      bound = no_less _ _;
-    }
+phases-init g c = record {
+  network = c.requires.network;
+  kept = capacities_kept (g.S.FlowStore.network c.args.store.now);
+  found = c.in_ok-find.ensures.found;
+  path_len = ap length (resized c.size-size.result c.new-path.result.items c.resize.new.self.items _ 0 c.new-path.ensures.items c.new-path.ensures.len c.in_ok-resize.ensures.items) ∙ length-replicate c.size-size.result 0 ∙ c.size-size.ensures;
+  ticked = itself _;
+  bound = no_less _ _;
+}
 
 pub index-requires : goal.index-requires
 index-requires g c =
     let i = c.phases.invariant in
     let inside = (g.met.S.FlowStore.network_law c.phases.store).sink_in in
-    omega (arith, inside, c.sink-sink.ensures, i.kept.shape.sink, i.levels_len, c.phases.found.levels.ok)
+    omega (arith, inside, c.sink-sink.ensures, i.kept.shape.sink, i.found.levels_len, c.phases.found.levels.ok)
 
 pub returns-in_err-find : goal.returns-in_err-find
 returns-in_err-find g c = record {
@@ -100,36 +91,21 @@ returns-in_err-resize g c = record {
   paths = no_less _ _;
 }
 
-pub augment_phase-requires-clause-network : goal.augment_phase-requires-clause-network
-augment_phase-requires-clause-network g c = c.phases.invariant.network
-
-pub augment_phase-requires-clause-apart : goal.augment_phase-requires-clause-apart
-augment_phase-requires-clause-apart g c = λ e. c.requires.apart (sym c.phases.invariant.kept.shape.source ∙ e ∙ c.phases.invariant.kept.shape.sink)
-
-pub augment_phase-requires-clause-levels : goal.augment_phase-requires-clause-levels
-augment_phase-requires-clause-levels g c = c.phases.invariant.levels
-
-pub augment_phase-requires-clause-levels_len : goal.augment_phase-requires-clause-levels_len
-augment_phase-requires-clause-levels_len g c = c.phases.invariant.levels_len
-
-pub augment_phase-requires-clause-parents_len : goal.augment_phase-requires-clause-parents_len
-augment_phase-requires-clause-parents_len g c = c.phases.invariant.parents_len
-
-pub augment_phase-requires-clause-steps : goal.augment_phase-requires-clause-steps
-augment_phase-requires-clause-steps g c = c.phases.invariant.steps
-
-pub augment_phase-requires-clause-reached : goal.augment_phase-requires-clause-reached
-augment_phase-requires-clause-reached g c =
+pub augment_phase-requires : goal.augment_phase-requires
+augment_phase-requires g c =
     let i = c.phases.invariant in
     let M = g.S.FlowStore.network c.phases.store in
     let levels = c.phases.found.levels.items in
     let inside = (g.met.S.FlowStore.network_law c.phases.store).sink_in in
     let sink = c.sink-sink.ensures ∙ sym i.kept.shape.sink in
-    let read = get_or_read levels c.sink-sink.result c.index.result.now (place_inside _ _ _ _ inside sink i.levels_len) c.index.ensures 0 ∙ ap (slice_index levels) sink in
-    omega (arith, read, c.phases-test.true, c.size-size.ensures, i.kept.shape.vertices)
-
-pub augment_phase-requires-clause-path_len : goal.augment_phase-requires-clause-path_len
-augment_phase-requires-clause-path_len g c = ap length c.deref_mut.ensures.value ∙ c.phases.invariant.path_len
+    let read = get_or_read levels c.sink-sink.result c.index.result.now (place_inside _ _ _ _ inside sink i.found.levels_len) c.index.ensures 0 ∙ ap (slice_index levels) sink in
+    record {
+      network = i.network;
+      apart = λ e. c.requires.apart (sym i.kept.shape.source ∙ e ∙ i.kept.shape.sink);
+      found = i.found;
+      reached = below_size _ _ _ _ _ read c.phases-test.true c.size-size.ensures i.kept.shape.vertices;
+      path_len = ap length c.deref_mut.ensures.value ∙ i.path_len;
+    }
 
 pub returns : goal.returns
 returns g c = record {
@@ -141,32 +117,26 @@ returns g c = record {
       let levels = c.phases.found.levels.items in
       let inside = (g.met.S.FlowStore.network_law c.phases.store).sink_in in
       let sink = c.sink-sink.ensures ∙ sym i.kept.shape.sink in
-      let read = get_or_read levels c.sink-sink.result c.index.result.now (place_inside _ _ _ _ inside sink i.levels_len) c.index.ensures 0 ∙ ap (slice_index levels) sink in
-      let top = i.levels.labelling.top M.sink inside in
+      let read = get_or_read levels c.sink-sink.result c.index.result.now (place_inside _ _ _ _ inside sink i.found.levels_len) c.index.ensures 0 ∙ ap (slice_index levels) sink in
+      let top = i.found.levels.labelling.top M.sink inside in
       record {
-        found = i.levels;
-        len = i.levels_len;
+        found = i.found.levels;
+        len = i.found.levels_len;
         top = omega (arith, read, top, c.phases-test.false, c.size-size.ensures, i.kept.shape.vertices);
       };
   refused = tt;
   ticked = c.phases.invariant.ticked;
   paths =
       let i = c.phases.invariant in
-      ticks_now i.kept i.levels.labelling c.args.tally.now c.phases.tally i.bound;
+      ticks_now i.kept i.found.levels.labelling c.args.tally.now c.phases.tally i.bound;
 }
 
 pub returns-in_err-find-2 : goal.returns-in_err-find-2
 returns-in_err-find-2 g c = record {
   network = c.augment_phase.ensures.network;
-  kept = capacities_more c.phases.invariant.kept c.augment_phase.ensures.kept;
+  kept = capacities_more c.phases.invariant.kept c.augment_phase.ensures.augmented.kept;
   stuck = IfOk-from_err _ _ c.from_residual-in_err-find-2.ensures.0;
   refused = refused_as _ c.from_residual-in_err-find-2.result _ c.in_err-find-2.ensures.refused c.from_residual-in_err-find-2.ensures.1;
-  ticked =
-      let before = c.phases.invariant.ticked in
-      let more = c.augment_phase.ensures.progress in
-      after _ _ _ before more;
-  paths =
-      let i = c.phases.invariant in
-      let p = c.augment_phase.ensures in
-      ticks_top i.kept p.kept p.labelling c.args.tally.now c.phases.tally c.augment_phase.new.tally i.bound p.bound;
+  ticked = after _ _ _ c.phases.invariant.ticked c.augment_phase.ensures.augmented.progress;
+  paths = ticks_top c.phases.invariant.kept c.args.tally.now c.phases.invariant.bound c.augment_phase.ensures.augmented;
 }

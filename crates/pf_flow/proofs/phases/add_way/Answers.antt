@@ -14,19 +14,8 @@ add_along-requires-clause-path g c =
     let room : slice_index levels N.sink < length c.args.path.now = omega (arith, low, wide) in
     subst (λ s. IsAugmentingPath N (take (slice_index levels s + 1) c.args.path.now)) (sym c.sink.ensures) (augmenting_way r.way.way room r.way.last r.apart)
 
-pub returns-clause-labelling : goal.returns-clause-labelling
-returns-clause-labelling g c =
-    let N = g.S.FlowStore.network c.args.store.now in
-    let r = c.requires in
-    let levels = c.args.levels.now in
-    let low = r.reached in
-    let wide = r.path_len in
-    let room : slice_index levels N.sink < length c.args.path.now = omega (arith, low, wide) in
-    let up = subst (λ s. IsLevelPath (slice_index levels) (take (slice_index levels s + 1) c.args.path.now)) (sym c.sink.ensures) (level_way r.way.way room) in
-    c.add_along.ensures.levels (slice_index levels) up r.labelling
-
-pub returns-clause-bound : goal.returns-clause-bound
-returns-clause-bound g c =
+pub returns-clause-augmented : goal.returns-clause-augmented
+returns-clause-augmented g c =
     let N = g.S.FlowStore.network c.args.store.now in
     let r = c.requires in
     let levels = c.args.levels.now in
@@ -36,4 +25,9 @@ returns-clause-bound g c =
     let up = subst (λ s. IsLevelPath (slice_index levels) (take (slice_index levels s + 1) c.args.path.now)) (sym c.sink.ensures) (level_way r.way.way room) in
     let rise = c.add_along.ensures.rises (slice_index levels) up in
     let tick = c.tick.ensures in
-    omega (arith, rise, tick)
+    record {
+      kept = c.add_along.ensures.kept;
+      labelling = c.add_along.ensures.levels (slice_index levels) up r.labelling;
+      progress = omega (arith, tick);
+      bound = omega (arith, rise, tick);
+    }

@@ -26,29 +26,21 @@ follow-requires-clause-steps g c = c.loop-at.invariant.steps
 
 pub returns : goal.returns
 returns g c = record {
-  levels =
+  found =
+      let i = c.loop-at.invariant in
       let all : length c.loop-at.self.queue.items ≤ c.loop-at.at = omega (arith, c.len.ensures, c.loop-at.self.queue.ok, c.loop-at-test.false) in
-      levels_of all c.loop-at.invariant.found.search;
-  levels_len = c.loop-at.invariant.found.levels_len;
-  parents_len = c.loop-at.invariant.found.parents_len;
-  steps = c.loop-at.invariant.steps;
+      record { levels = levels_of all i.found.search; levels_len = i.found.levels_len; parents_len = i.found.parents_len; steps = i.steps };
   refused = tt;
 }
 
 pub returns-in_err-begin : goal.returns-in_err-begin
 returns-in_err-begin g c = record {
-  levels = IfOk-from_err _ _ c.from_residual.ensures.0;
-  levels_len = IfOk-from_err _ _ c.from_residual.ensures.0;
-  parents_len = IfOk-from_err _ _ c.from_residual.ensures.0;
-  steps = IfOk-from_err _ _ c.from_residual.ensures.0;
+  found = IfOk-from_err _ _ c.from_residual.ensures.0;
   refused = refused_as _ c.from_residual.result _ c.in_err-begin.ensures.refused c.from_residual.ensures.1;
 }
 
 pub returns-in_err-follow : goal.returns-in_err-follow
 returns-in_err-follow g c = record {
-  levels = IfOk-from_err _ _ c.from_residual-in_err-follow.ensures.0;
-  levels_len = IfOk-from_err _ _ c.from_residual-in_err-follow.ensures.0;
-  parents_len = IfOk-from_err _ _ c.from_residual-in_err-follow.ensures.0;
-  steps = IfOk-from_err _ _ c.from_residual-in_err-follow.ensures.0;
+  found = IfOk-from_err _ _ c.from_residual-in_err-follow.ensures.0;
   refused = refused_as _ c.from_residual-in_err-follow.result _ c.in_err-follow.ensures.refused c.from_residual-in_err-follow.ensures.1;
 }
