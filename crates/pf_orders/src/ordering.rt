@@ -3,7 +3,7 @@
 ghost use Rattle.std.specs.Prelude.{◌≡◌, ◌<◌, ◌≤◌, ◌+◌, ◌-◌, ◌++◌, ◌∷◌, [], ℕ, List, Contains, IfOk, IfErr, IfSome, IfNone, OnOk, length, slice_set, replicate, reverse};
 ghost use Rattle.std.specs.List.{AllZip};
 ghost use Rattle.pf_core.specs.Numbered.{Grows};
-ghost use Rattle.pf_orders.specs.Internal.Orderings.{entries, EnterBelow, IsOrderedReach, IsOnNumberedCycle};
+ghost use Rattle.pf_orders.specs.Internal.Orderings.{entries, IsBegun, IsOrderedReach, IsOnNumberedCycle};
 
 use pf_base::PathError;
 use pf_base::utils::Tally;
@@ -58,9 +58,7 @@ fn put_entries<A: Allocator>(turns: &mut Vec<Turn, A>, numbers: &[usize]) -> Res
 impl<A: Allocator + Copy> Sorting<A> {
     /// A walk that has entered none of these first numbers, and will enter them in order.
     fn begin(alloc: A, found: usize) -> Result<Sorting<A>, PathError>
-        ensures marks { IfOk result (λ walk. walk.marks.items ≡ replicate found Mark.New) }
-        ensures turns { IfOk result (λ walk. EnterBelow found walk.turns.items) }
-        ensures left { IfOk result (λ walk. walk.left.items ≡ []) }
+        ensures begun { IfOk result (IsBegun found) }
         ensures refused { IfErr result (λ e. e ≡ PathError.OutOfMemory) }
     {
         let mut marks = Vec::new(alloc);
@@ -123,16 +121,13 @@ impl<A: Allocator> Sorting<A> {
         tally: &mut Tally,
     ) -> Result<Option<usize>, PathError>
         requires graph { (g : G.Graph) × G.explores graph.old g }
-        requires marks { self.old.marks.items ≡ replicate (G.node_count graph.old) Mark.New }
-        requires turns { EnterBelow (G.node_count graph.old) self.old.turns.items }
-        requires left { self.old.left.items ≡ [] }
+        requires begun { IsBegun (G.node_count graph.old) self.old }
         ensures grows { Grows (G.node_count graph.old) (G.node_count graph.new) (G.stands graph.old) (G.stands graph.new) }
         ensures graph { (g : G.Graph) → G.explores graph.old g → G.explores graph.new g }
         ensures order { (g : G.Graph) → G.explores graph.old g
             → IfOk result (λ answer. IfNone answer (IsOrderedReach (G.successors g) (G.stands graph.new) (G.node_count graph.old) (G.node_count graph.new) (reverse self.new.left.items))) }
-        ensures cycle { IfOk result (λ answer. IfSome answer (λ number. number < G.node_count graph.new)) }
-        ensures on_cycle { (g : G.Graph) → G.explores graph.old g
-            → IfOk result (λ answer. IfSome answer (λ number. IsOnNumberedCycle (G.successors g) (G.stands graph.new) number)) }
+        ensures cycle { (g : G.Graph) → G.explores graph.old g
+            → IfOk result (λ answer. IfSome answer (λ number. (number < G.node_count graph.new) × IsOnNumberedCycle (G.successors g) (G.stands graph.new) number)) }
         ensures ticked { tally.old ≤ tally.new }
         ensures asked { tally.new ≤ tally.old + G.node_count graph.new }
         ensures refused { IfErr result (λ e. e ≡ PathError.OutOfMemory) }

@@ -3,7 +3,7 @@
 ghost use Rattle.std.specs.Prelude.{◌≡◌, ◌⊎◌, ◌<◌, [], ℕ, replicate, Err, Some, Vec, IfOk, IfErr, OnOk, Contains, length, nat_eq};
 ghost use Rattle.pf_base.specs.Walks.{HasNode};
 ghost use Rattle.pf_core.specs.Numbered.{Grows, StandsBelow};
-ghost use Rattle.pf_orders.specs.Internal.Rounds.{AreCounted, AreSuccessorRows, Falls};
+ghost use Rattle.pf_orders.specs.Internal.Rounds.{AreRead, AreSuccessorRows, Falls};
 
 use crate::rounds::Rows;
 use pf_base::PathError;
@@ -36,14 +36,10 @@ fn fill_rows<G: NumberedGraph<u8>, A: Allocator + Copy>(
 ) -> Result<(), PathError>
     requires graph { (g : G.Graph) × G.explores graph.old g }
     requires begins { (k : ℕ) → k < G.node_count graph.old → (s : G.Node) × G.stands graph.old k s }
-    requires empty { rows.old.items ≡ [] }
-    requires zeros { counts.old.items ≡ replicate (G.node_count graph.old) 0 }
+    requires unread { (rows.old.items ≡ []) × (counts.old.items ≡ replicate (G.node_count graph.old) 0) }
     ensures graph { (g : G.Graph) → G.explores graph.old g → G.explores graph.new g }
     ensures grows { Grows (G.node_count graph.old) (G.node_count graph.new) (G.stands graph.old) (G.stands graph.new) }
-    ensures same { OnOk result (G.node_count graph.new ≡ G.node_count graph.old) }
-    ensures counted { OnOk result (AreCounted rows.new.items counts.new.items) }
-    ensures wide { OnOk result (length rows.new.items ≡ G.node_count graph.old) }
-    ensures long { OnOk result (length counts.new.items ≡ G.node_count graph.old) }
+    ensures read { OnOk result (AreRead (G.node_count graph.old) (G.node_count graph.new) rows.new.items counts.new.items) }
     ensures listed { (g : G.Graph) → G.explores graph.old g → OnOk result (AreSuccessorRows (G.stands graph.new) (G.successors g) rows.new.items) }
     ensures unknown { (g : G.Graph) → G.explores graph.old g → result ≡ Err PathError.UnknownVertex
         → (x : G.Node) × (y : G.Node) × StandsBelow (G.node_count graph.old) (G.stands graph.new) x × Contains (G.successors g x) y × ¬ (StandsBelow (G.node_count graph.old) (G.stands graph.new) y) }
@@ -72,10 +68,7 @@ pub fn read_rows<G: NumberedGraph<u8>, A: Allocator + Copy>(
     requires begins { (k : ℕ) → k < G.node_count graph.old → (s : G.Node) × G.stands graph.old k s }
     ensures graph { (g : G.Graph) → G.explores graph.old g → G.explores graph.new g }
     ensures grows { Grows (G.node_count graph.old) (G.node_count graph.new) (G.stands graph.old) (G.stands graph.new) }
-    ensures same { IfOk result (λ read. G.node_count graph.new ≡ G.node_count graph.old) }
-    ensures counted { IfOk result (λ read. AreCounted read.0.items read.1.items) }
-    ensures wide { IfOk result (λ read. length read.0.items ≡ G.node_count graph.old) }
-    ensures long { IfOk result (λ read. length read.1.items ≡ G.node_count graph.old) }
+    ensures read { IfOk result (λ read. AreRead (G.node_count graph.old) (G.node_count graph.new) read.0.items read.1.items) }
     ensures listed { (g : G.Graph) → G.explores graph.old g → IfOk result (λ read. AreSuccessorRows (G.stands graph.new) (G.successors g) read.0.items) }
     ensures unknown { (g : G.Graph) → G.explores graph.old g → result ≡ Err PathError.UnknownVertex
         → (x : G.Node) × (y : G.Node) × StandsBelow (G.node_count graph.old) (G.stands graph.new) x × Contains (G.successors g x) y × ¬ (StandsBelow (G.node_count graph.old) (G.stands graph.new) y) }

@@ -1,6 +1,7 @@
 -- Where a depth-first walk stands that orders numbers, and what it answers.
-use Rattle.std.specs.Prelude.{◌≡◌, ◌⊎◌, ◌<◌, ◌≤◌, ℕ, Bool, true, false, List, [], ◌∷◌, Some, slice_get, Contains, length, map, nat_eq, count_by, ⊤}
+use Rattle.std.specs.Prelude.{◌≡◌, ◌⊎◌, ◌<◌, ◌≤◌, ℕ, Bool, true, false, List, [], ◌∷◌, Some, slice_get, Contains, length, map, nat_eq, count_by, replicate, ⊤}
 use Rattle.pf_base.specs.Walks.{HasNode, NoRepeats, Follows, end_of}
+use Rattle.pf_orders.specs.declared.ordering.Sorting.{Sorting}
 use Rattle.pf_orders.specs.declared.ordering.Turn.{Turn}
 use Rattle.pf_orders.specs.declared.ordering.Turn.TheVariants.{Enter, Leave}
 use Rattle.pf_orders.specs.declared.ordering.Mark.{Mark}
@@ -13,6 +14,12 @@ entries numbers = map (λ (k : ℕ). Turn.Enter k) numbers
 -- the turns enter each number below n, and do nothing else
 abbrev pub EnterBelow : ℕ → List Turn → Type 0
 EnterBelow n turns = ((k : ℕ) → k < n → Contains turns (Turn.Enter k)) × ((t : Turn) → Contains turns t → (k : ℕ) × (k < n) × (t ≡ Turn.Enter k))
+
+-- A walk has entered none of the first numbers, and enters each of them.
+pub record IsBegun {A : Type 0} (found : ℕ) (walk : Sorting A) : Type 0 where
+  pub marks : walk.marks.items ≡ replicate found Mark.New
+  pub turns : EnterBelow found walk.turns.items
+  pub left : walk.left.items ≡ []
 
 -- the number that a turn is about
 abbrev pub number_of : Turn → ℕ

@@ -23,6 +23,13 @@ module _ {A : Type 0} where
     pub counted : (j : ℕ) → j < length counts → slice_get counts j ≡ Some (times_in j rows)
     pub inside : (i j : ℕ) → Targets rows i j → j < length counts
 
+  -- the rows of n numbers, none of which leads beyond them, and their counts
+  pub record AreRead (n found : ℕ) (rows : List (Vec ℕ A)) (counts : List ℕ) : Type 0 where
+    pub same : found ≡ n
+    pub counted : AreCounted rows counts
+    pub wide : length rows ≡ n
+    pub long : length counts ≡ n
+
 -- how many counts are above 0
 abbrev pub waiting_count : List ℕ → ℕ
 waiting_count counts = count_by (nat_lt 0) counts

@@ -7,20 +7,10 @@ use Rattle.pf_orders.proofs.ordering.sort_numbers.Goals as goal
 pub walk_on-cycle-requires-clause-graph : goal.walk_on-cycle-requires-clause-graph
 walk_on-cycle-requires-clause-graph g c = c.requires.graph
 
-pub walk_on-cycle-requires-clause-marks : goal.walk_on-cycle-requires-clause-marks
-walk_on-cycle-requires-clause-marks g c =
+pub walk_on-cycle-requires-clause-begun : goal.walk_on-cycle-requires-clause-begun
+walk_on-cycle-requires-clause-begun g c =
     let e = c.in_ok-walk.ensures in
-    rw c.node_count.ensures at e.marks
-
-pub walk_on-cycle-requires-clause-turns : goal.walk_on-cycle-requires-clause-turns
-walk_on-cycle-requires-clause-turns g c =
-    let e = c.in_ok-walk.ensures in
-    rw c.node_count.ensures at e.turns
-
-pub walk_on-cycle-requires-clause-left : goal.walk_on-cycle-requires-clause-left
-walk_on-cycle-requires-clause-left g c =
-    let e = c.in_ok-walk.ensures in
-    e.left
+    rw c.node_count.ensures at e.begun
 
 pub returns-in_err-walk : goal.returns-in_err-walk
 returns-in_err-walk g c = record {
@@ -56,8 +46,8 @@ returns-in-Some g c =
       grows = e.grows;
       graph = e.graph;
       order = λ h x. tt;
-      cycle = rw c.in-Some.is at e.cycle;
-      on_cycle = λ h x. rw c.in-Some.is at (e.on_cycle h x);
+      cycle = (let r = c.requires.graph in let p = rw c.in-Some.is at (e.cycle r.0 r.1) in p.0);
+      on_cycle = λ h x. (let p = rw c.in-Some.is at (e.cycle h x) in p.1);
       ticked = e.ticked;
       asked = e.asked;
       errors = tt;

@@ -37,10 +37,10 @@ numbers-init g c =
       same = refl;
       grown = Grows-refl _ _;
       explored = λ h x. x;
-      counted = rw r.empty (counted_none c.args.counts.now.items (λ j n at. sym (at_replicate found 0 j n (subst (λ xs. slice_get xs j ≡ Some n) r.zeros at))));
-      long = ap length r.zeros ∙ length-replicate _ 0 ∙ sym c.node_count-count.ensures;
-      wide = ap length r.empty;
-      listed = λ h x k row n at s. absurd (none_in k row (subst (λ rs. slice_get rs k ≡ Some row) r.empty at));
+      counted = rw r.unread.0 (counted_none c.args.counts.now.items (λ j n at. sym (at_replicate found 0 j n (subst (λ xs. slice_get xs j ≡ Some n) r.unread.1 at))));
+      long = ap length r.unread.1 ∙ length-replicate _ 0 ∙ sym c.node_count-count.ensures;
+      wide = ap length r.unread.0;
+      listed = λ h x k row n at s. absurd (none_in k row (subst (λ rs. slice_get rs k ≡ Some row) r.unread.0 at));
     }
 
 pub expand-requires-clause-inside : goal.expand-requires-clause-inside
@@ -58,10 +58,7 @@ pub returns-in_err-expand : goal.returns-in_err-expand
 returns-in_err-expand g c = record {
   graph = λ h x. c.in_err-expand.ensures.graph h (c.numbers.invariant.explored h x);
   grows = Grows-trans _ _ _ _ _ _ c.numbers.invariant.grown c.in_err-expand.ensures.grows;
-  same = on_failed _ _ c.from_residual.ensures.0;
-  counted = on_failed _ _ c.from_residual.ensures.0;
-  wide = on_failed _ _ c.from_residual.ensures.0;
-  long = on_failed _ _ c.from_residual.ensures.0;
+  read = on_failed _ _ c.from_residual.ensures.0;
   listed = λ h x. on_failed _ _ c.from_residual.ensures.0;
   unknown = λ h x u. absurd (only_memory _ _ c.from_residual.ensures.1 c.in_err-expand.ensures.refused.0 u);
   errors = memory_of _ _ c.from_residual.ensures.1 c.in_err-expand.ensures.refused.0;
@@ -71,10 +68,7 @@ pub returns-then-node_count-count : goal.returns-then-node_count-count
 returns-then-node_count-count g c = record {
   graph = λ h x. c.in_ok-expand.ensures.graph h (c.numbers.invariant.explored h x);
   grows = Grows-trans _ _ _ _ _ _ c.numbers.invariant.grown c.in_ok-expand.ensures.grows;
-  same = tt;
-  counted = tt;
-  wide = tt;
-  long = tt;
+  read = tt;
   listed = λ h x. tt;
   unknown = λ h x _.
       let v = c.numbers.invariant in
@@ -114,10 +108,7 @@ pub returns-in_err-count_row : goal.returns-in_err-count_row
 returns-in_err-count_row g c = record {
   graph = λ h x. c.in_ok-expand.ensures.graph h (c.numbers.invariant.explored h x);
   grows = Grows-trans _ _ _ _ _ _ c.numbers.invariant.grown c.in_ok-expand.ensures.grows;
-  same = on_failed _ _ c.from_residual-in_err-count_row.ensures.0;
-  counted = on_failed _ _ c.from_residual-in_err-count_row.ensures.0;
-  wide = on_failed _ _ c.from_residual-in_err-count_row.ensures.0;
-  long = on_failed _ _ c.from_residual-in_err-count_row.ensures.0;
+  read = on_failed _ _ c.from_residual-in_err-count_row.ensures.0;
   listed = λ h x. on_failed _ _ c.from_residual-in_err-count_row.ensures.0;
   unknown = λ h x u. absurd (only_memory _ _ c.from_residual-in_err-count_row.ensures.1 c.in_err-count_row.ensures.refused u);
   errors = memory_of _ _ c.from_residual-in_err-count_row.ensures.1 c.in_err-count_row.ensures.refused;
@@ -169,10 +160,12 @@ returns g c =
     record {
       graph = v.explored;
       grows = v.grown;
-      same = v.same;
-      counted = v.counted;
-      wide = omega (arith, v.wide, c.numbers-test.false, c.node_count-count.ensures, c.numbers.auto.number-end);
-      long = v.long ∙ c.node_count-count.ensures;
+      read = record {
+        same = v.same;
+        counted = v.counted;
+        wide = omega (arith, v.wide, c.numbers-test.false, c.node_count-count.ensures, c.numbers.auto.number-end);
+        long = v.long ∙ c.node_count-count.ensures;
+      };
       listed = v.listed;
       unknown = λ h x e. absurd (ok_not_err e);
       errors = tt;
@@ -182,10 +175,7 @@ pub returns-in_err-push : goal.returns-in_err-push
 returns-in_err-push g c = record {
   graph = λ h x. c.in_ok-expand.ensures.graph h (c.numbers.invariant.explored h x);
   grows = Grows-trans _ _ _ _ _ _ c.numbers.invariant.grown c.in_ok-expand.ensures.grows;
-  same = on_failed _ _ c.from_residual-in_err-push.ensures.0;
-  counted = on_failed _ _ c.from_residual-in_err-push.ensures.0;
-  wide = on_failed _ _ c.from_residual-in_err-push.ensures.0;
-  long = on_failed _ _ c.from_residual-in_err-push.ensures.0;
+  read = on_failed _ _ c.from_residual-in_err-push.ensures.0;
   listed = λ h x. on_failed _ _ c.from_residual-in_err-push.ensures.0;
   unknown = λ h x u. absurd (none_unknown c.from_residual-in_err-push.result c.from_residual-in_err-push.ensures.1 u);
   errors = refused_as _ c.from_residual-in_err-push.result _ c.from_residual-in_err-push.ensures.1 (inl refl);

@@ -11,22 +11,16 @@ fill_rows-requires-clause-graph g c = c.requires.graph
 pub fill_rows-requires-clause-begins : goal.fill_rows-requires-clause-begins
 fill_rows-requires-clause-begins g c = c.requires.begins
 
-pub fill_rows-requires-clause-empty : goal.fill_rows-requires-clause-empty
-fill_rows-requires-clause-empty g c = c.in_ok-rows.ensures.items
-
-pub fill_rows-requires-clause-zeros : goal.fill_rows-requires-clause-zeros
-fill_rows-requires-clause-zeros g c =
+pub fill_rows-requires-clause-unread : goal.fill_rows-requires-clause-unread
+fill_rows-requires-clause-unread g c =
     let zeros : c.resize.new.self.items ≡ replicate c.node_count-count.result 0 = resized_none c.node_count-count.result _ c.new-counts.result.items _ 0 c.in_ok-resize.ensures.items c.new-counts.ensures.items c.new-counts.ensures.len in
-    zeros ∙ ap (λ n. replicate n 0) c.node_count-count.ensures
+    (c.in_ok-rows.ensures.items, zeros ∙ ap (λ n. replicate n 0) c.node_count-count.ensures)
 
 pub returns-in_err-fill_rows : goal.returns-in_err-fill_rows
 returns-in_err-fill_rows g c = record {
   graph = c.in_err-fill_rows.ensures.graph;
   grows = c.in_err-fill_rows.ensures.grows;
-  same = IfOk-from_err _ _ c.from_residual-in_err-fill_rows.ensures.0;
-  counted = IfOk-from_err _ _ c.from_residual-in_err-fill_rows.ensures.0;
-  wide = IfOk-from_err _ _ c.from_residual-in_err-fill_rows.ensures.0;
-  long = IfOk-from_err _ _ c.from_residual-in_err-fill_rows.ensures.0;
+  read = IfOk-from_err _ _ c.from_residual-in_err-fill_rows.ensures.0;
   listed = λ h x. IfOk-from_err _ _ c.from_residual-in_err-fill_rows.ensures.0;
   unknown = λ h x u. c.in_err-fill_rows.ensures.unknown h x (ap Err (error_of _ _ _ c.from_residual-in_err-fill_rows.ensures.1 u));
   errors = refused_as _ _ _ c.from_residual-in_err-fill_rows.ensures.1 c.in_err-fill_rows.ensures.errors;
@@ -38,10 +32,7 @@ returns-in_err-rows g c =
     record {
       graph = λ h x. x;
       grows = Grows-refl _ _;
-      same = IfOk-from_err _ _ r.ensures.0;
-      counted = IfOk-from_err _ _ r.ensures.0;
-      wide = IfOk-from_err _ _ r.ensures.0;
-      long = IfOk-from_err _ _ r.ensures.0;
+      read = IfOk-from_err _ _ r.ensures.0;
       listed = λ h x. IfOk-from_err _ _ r.ensures.0;
       unknown = λ h x u. absurd (none_unknown r.result r.ensures.1 u);
       errors = refused_as _ r.result _ r.ensures.1 (inl refl);
@@ -53,10 +44,7 @@ returns-in_err-resize g c =
     record {
       graph = λ h x. x;
       grows = Grows-refl _ _;
-      same = IfOk-from_err _ _ r.ensures.0;
-      counted = IfOk-from_err _ _ r.ensures.0;
-      wide = IfOk-from_err _ _ r.ensures.0;
-      long = IfOk-from_err _ _ r.ensures.0;
+      read = IfOk-from_err _ _ r.ensures.0;
       listed = λ h x. IfOk-from_err _ _ r.ensures.0;
       unknown = λ h x u. absurd (none_unknown r.result r.ensures.1 u);
       errors = refused_as _ r.result _ r.ensures.1 (inl refl);
@@ -68,10 +56,7 @@ returns g c =
     record {
       graph = e.graph;
       grows = e.grows;
-      same = e.same;
-      counted = e.counted;
-      wide = e.wide;
-      long = e.long;
+      read = e.read;
       listed = e.listed;
       unknown = λ h x u. absurd (ok_not_err u);
       errors = tt;

@@ -13,9 +13,7 @@ pub returns-in_err-resize : goal.returns-in_err-resize
 returns-in_err-resize g c =
     let r = c.from_residual in
     record {
-      marks = IfOk-from_err _ _ r.ensures.0;
-      turns = IfOk-from_err _ _ r.ensures.0;
-      left = IfOk-from_err _ _ r.ensures.0;
+      begun = IfOk-from_err _ _ r.ensures.0;
       refused = refused_as _ r.result _ r.ensures.1 refl;
     }
 
@@ -23,9 +21,7 @@ pub returns-in_err-turns : goal.returns-in_err-turns
 returns-in_err-turns g c =
     let r = c.from_residual-in_err-turns in
     record {
-      marks = IfOk-from_err _ _ r.ensures.0;
-      turns = IfOk-from_err _ _ r.ensures.0;
-      left = IfOk-from_err _ _ r.ensures.0;
+      begun = IfOk-from_err _ _ r.ensures.0;
       refused = refused_as _ r.result _ r.ensures.1 refl;
     }
 
@@ -40,9 +36,7 @@ pub returns-in_err-push : goal.returns-in_err-push
 returns-in_err-push g c =
     let r = c.from_residual-in_err-push in
     record {
-      marks = IfOk-from_err _ _ r.ensures.0;
-      turns = IfOk-from_err _ _ r.ensures.0;
-      left = IfOk-from_err _ _ r.ensures.0;
+      begun = IfOk-from_err _ _ r.ensures.0;
       refused = refused_as _ r.result _ r.ensures.1 refl;
     }
 
@@ -67,11 +61,13 @@ pub returns : goal.returns
 returns g c =
     let e : c.reverse.new.self.items ≡ reverse c.roots.turns.items = c.reverse.ensures.items in
     record {
-      marks = c.roots.invariant.marks;
-      turns = (
-        (λ k l. subst (λ (ts : List Turn). Contains ts (Turn.Enter k)) (sym e) (to_reverse c.roots.turns.items (Turn.Enter k) (c.roots.invariant.listed k (omega (arith, l, c.roots-test.false, c.roots.auto.root-end))))),
-        (λ t h. c.roots.invariant.only t (Contains-reverse c.roots.turns.items t (subst (λ (ts : List Turn). Contains ts t) e h))),
-      );
-      left = c.new.ensures.items;
+      begun = record {
+        marks = c.roots.invariant.marks;
+        turns = (
+          (λ k l. subst (λ (ts : List Turn). Contains ts (Turn.Enter k)) (sym e) (to_reverse c.roots.turns.items (Turn.Enter k) (c.roots.invariant.listed k (omega (arith, l, c.roots-test.false, c.roots.auto.root-end))))),
+          (λ t h. c.roots.invariant.only t (Contains-reverse c.roots.turns.items t (subst (λ (ts : List Turn). Contains ts t) e h))),
+        );
+        left = c.new.ensures.items;
+      };
       refused = tt;
     }

@@ -47,12 +47,12 @@ returns-in_err-rows g c =
 pub group_numbers-requires-clause-counted : goal.group_numbers-requires-clause-counted
 group_numbers-requires-clause-counted g c =
     let e = c.in_ok-rows.ensures in
-    e.counted
+    e.read.counted
 
 pub group_numbers-requires-clause-wide : goal.group_numbers-requires-clause-wide
 group_numbers-requires-clause-wide g c =
     let e = c.in_ok-rows.ensures in
-    e.wide ∙ sym e.long
+    e.read.wide ∙ sym e.read.long
 
 pub returns-in_err-levels : goal.returns-in_err-levels
 returns-in_err-levels g c =
@@ -69,7 +69,7 @@ pub groups_at-requires-clause-inside : goal.groups_at-requires-clause-inside
 groups_at-requires-clause-inside g c = λ i k group at h.
     let e = c.in_ok-rows.ensures in
     let l = c.in_ok-levels.ensures.levels.below i k (group, rw c.deref.ensures.value at at, member_of group.items k h) in
-    subst (λ (n : ℕ). k < n) (e.wide ∙ sym e.same ∙ ap length (sym c.as_slice.ensures.keys)) l
+    subst (λ (n : ℕ). k < n) (e.read.wide ∙ sym e.read.same ∙ ap length (sym c.as_slice.ensures.keys)) l
 
 pub groups_at-requires-clause-clones : goal.groups_at-requires-clause-clones
 groups_at-requires-clause-clones g c = c.requires.clones
@@ -93,14 +93,14 @@ returns-then-is_empty g c =
     record {
       groups = λ nodes next b.
           let h = hops_from nodes next in
-          let read = are_rows _ laws b.same (e.graph h b.explores) e.grows e.same e.counted e.wide e.long (e.listed h b.explores) in
+          let read = are_rows _ laws b.same (e.graph h b.explores) e.grows e.read.same e.read.counted e.read.wide e.read.long (e.listed h b.explores) in
           let z : AllZip (AreNodesAt g.N.PartialEq.eq c.read_rows.new.graph.nodes.keys) c.in_ok-levels.levels.groups.items c.in_ok-groups.groups.items = rw c.as_slice.ensures.keys at (rw c.deref.ensures.value at c.in_ok-groups.ensures.nodes) in
           let none = is_none c.in_ok-levels.levels.remaining _ c.is_empty.ensures c.if-is_empty.true in
           (depth_groups laws read levels c.in_ok-groups.groups.items z, all_have laws read levels none);
       cycle = λ nodes next b. tt;
       closed = λ nodes next b.
           let h = hops_from nodes next in
-          closed laws (are_rows _ laws b.same (e.graph h b.explores) e.grows e.same e.counted e.wide e.long (e.listed h b.explores));
+          closed laws (are_rows _ laws b.same (e.graph h b.explores) e.grows e.read.same e.read.counted e.read.wide e.read.long (e.listed h b.explores));
       unknown = λ nodes next b u. absurd (ok_not_err u);
       errors = tt;
     }
@@ -109,7 +109,7 @@ pub clones_at-requires-clause-inside : goal.clones_at-requires-clause-inside
 clones_at-requires-clause-inside g c = λ k h.
     let e = c.in_ok-rows.ensures in
     let l = c.in_ok-levels.ensures.levels.left_below k (member_of c.in_ok-levels.levels.remaining.items k (rw c.deref-2.ensures.value at h)) in
-    subst (λ (n : ℕ). k < n) (e.wide ∙ sym e.same ∙ ap length (sym c.as_slice-2.ensures.keys)) l
+    subst (λ (n : ℕ). k < n) (e.read.wide ∙ sym e.read.same ∙ ap length (sym c.as_slice-2.ensures.keys)) l
 
 pub clones_at-requires-clause-clones : goal.clones_at-requires-clause-clones
 clones_at-requires-clause-clones g c = c.requires.clones
@@ -136,7 +136,7 @@ returns g c =
           let eq = g.N.PartialEq.eq in
           let keys = c.read_rows.new.graph.nodes.keys in
           let h = hops_from nodes next in
-          let read = are_rows _ laws b.same (e.graph h b.explores) e.grows e.same e.counted e.wide e.long (e.listed h b.explores) in
+          let read = are_rows _ laws b.same (e.graph h b.explores) e.grows e.read.same e.read.counted e.read.wide e.read.long (e.listed h b.explores) in
           let z : AllZip (AreNodesAt eq keys) c.in_ok-levels.levels.groups.items c.in_ok-groups.groups.items = rw c.as_slice.ensures.keys at (rw c.deref.ensures.value at c.in_ok-groups.ensures.nodes) in
           let left = c.in_ok-remaining.remaining.items in
           let some = is_some c.in_ok-levels.levels.remaining _ c.is_empty.ensures c.if-is_empty.false in
@@ -144,7 +144,7 @@ returns g c =
           (depth_groups laws read levels c.in_ok-groups.groups.items z, have_none laws read levels left w, some_left laws read levels left w some);
       closed = λ nodes next b.
           let h = hops_from nodes next in
-          closed laws (are_rows _ laws b.same (e.graph h b.explores) e.grows e.same e.counted e.wide e.long (e.listed h b.explores));
+          closed laws (are_rows _ laws b.same (e.graph h b.explores) e.grows e.read.same e.read.counted e.read.wide e.read.long (e.listed h b.explores));
       unknown = λ nodes next b u. absurd (ok_not_err u);
       errors = tt;
     }
