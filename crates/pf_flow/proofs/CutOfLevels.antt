@@ -17,7 +17,7 @@ either : (b : Bool) → (b ≡ true) ⊎ (b ≡ false)
 either true = inl refl
 either false = inr refl
 
-module _ {fits : ℤ → Type 0} {N : Network} (levels parents : List ℕ) (net : IsNetwork fits N) (source_in : N.source < N.vertices) (sink_in : N.sink < N.vertices) (w : AreLevels N (slice_index levels) (slice_index parents)) (len : length levels ≡ N.vertices) (stuck : slice_index levels N.sink ≡ N.vertices) where
+module _ {fits : ℤ → Type 0} {N : Network} (levels parents : List ℕ) (net : IsNetwork fits N) (source_in : N.source < N.vertices) (sink_in : N.sink < N.vertices) (w : AreLevels N (slice_index levels) (slice_index parents)) (len : length levels ≡ N.vertices) (cut_off : slice_index levels N.sink ≡ N.vertices) where
   pub below_of : (a : ℕ) → reached levels a ≡ true → slice_index levels a < N.vertices
   below_of a h = let l = ltb-true (slice_index levels a) (length levels) h in omega (arith, l, len)
 
@@ -42,7 +42,7 @@ module _ {fits : ℤ → Type 0} {N : Network} (levels parents : List ℕ) (net 
   is_cut : IsCut N.source N.sink (reached levels)
   is_cut = record {
     source_in = of_below N.source (let s = w.labelling.start in omega (arith, s, source_in));
-    sink_out = elim (either (reached levels N.sink)) as (λ _. reached levels N.sink ≡ false) [ inl h ↦ absurd (let l = below_of N.sink h in omega (arith, l, stuck)) | inr h ↦ h ];
+    sink_out = elim (either (reached levels N.sink)) as (λ _. reached levels N.sink ≡ false) [ inl h ↦ absurd (let l = below_of N.sink h in omega (arith, l, cut_off)) | inr h ↦ h ];
   }
 
   value_is : flow_value N.vertices N.source N.flow ≡ cut_capacity N.vertices (reached levels) (capacity N)

@@ -55,7 +55,7 @@ parts_leave true true h k = absurd (true≢false k)
 parts_leave true false h k = refl
 parts_leave false b h k = absurd (true≢false (sym h))
 
-module _ {fits : ℤ → Type 0} {C : Type 0} (value : C → ℤ) {N : Network} (levels parents : List ℕ) (net : IsNetwork fits N) (source_in : N.source < N.vertices) (sink_in : N.sink < N.vertices) (w : AreLevels N (slice_index levels) (slice_index parents)) (len : length levels ≡ N.vertices) (stuck : slice_index levels N.sink ≡ N.vertices) where
+module _ {fits : ℤ → Type 0} {C : Type 0} (value : C → ℤ) {N : Network} (levels parents : List ℕ) (net : IsNetwork fits N) (source_in : N.source < N.vertices) (sink_in : N.sink < N.vertices) (w : AreLevels N (slice_index levels) (slice_index parents)) (len : length levels ≡ N.vertices) (cut_off : slice_index levels N.sink ≡ N.vertices) where
   -- the flows that leave what was reached are the edges of the cut
   pub cut_of_flows : (flows : List ((ℕ × ℕ) × C)) → ListsFlows value N flows → ListsCut value N (reached levels) (filter (λ e. leaves levels e.0.0 e.0.1) flows)
   cut_of_flows flows h = record {
@@ -64,11 +64,11 @@ module _ {fits : ℤ → Type 0} {C : Type 0} (value : C → ℤ) {N : Network} 
         let q = filter_sound (λ (e : (ℕ × ℕ) × C). leaves levels e.0.0 e.0.1) flows i e p in
         let s = h.sound q.0 e q.1 in
         let t = leaves_parts (reached levels e.0.0) (reached levels e.0.1) q.2 in
-        let f = leaving_full levels parents net source_in sink_in w len stuck e.0.0 e.0.1 s.0 s.1 t.0 t.1 in
+        let f = leaving_full levels parents net source_in sink_in w len cut_off e.0.0 e.0.1 s.0 s.1 t.0 t.1 in
         let low = s.2 in
         (s.0, s.1, (t.0, t.1, subst (λ z. pos 0 <ℤ z) f low), s.3 ∙ f);
     complete = λ a b l m k.
-        let f = leaving_full levels parents net source_in sink_in w len stuck a b l m k.0 k.1 in
+        let f = leaving_full levels parents net source_in sink_in w len cut_off a b l m k.0 k.1 in
         let q = h.complete a b l m (subst (λ z. pos 0 <ℤ z) (sym f) k.2) in
         let r = filter_complete (λ (e : (ℕ × ℕ) × C). leaves levels e.0.0 e.0.1) flows q.0 ((a, b), q.1) q.2 (parts_leave (reached levels a) (reached levels b) k.0 k.1) in
         (r.0, q.1, r.1);

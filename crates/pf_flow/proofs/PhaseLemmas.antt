@@ -7,7 +7,7 @@ use Rattle.pf_residual.specs.Internal.Levels.{AreLevels}
 use Rattle.pf_flow.specs.Internal.Phases.{IsAugmented}
 use Rattle.pf_residual.proofs.AgreeLemmas.{capacities_more}
 use Rattle.pf_residual.proofs.PotentialLemmas.{potential_up, potential_top}
-use Rattle.pf_residual.proofs.WayLemmas.{levels_least}
+use Rattle.pf_residual.proofs.PathLemmas.{levels_least}
 
 capacity_same : {N M : Network} → KeepsCapacities N M → capacity N ≡ capacity M
 capacity_same w = λ i a b. w.capacities.at a b i

@@ -4,7 +4,7 @@ ghost use Rattle.std.specs.Prelude.{◌≡◌, ◌≢◌, ◌≤◌, ◌+◌, On
 ghost use Rattle.pf_base.specs.declared.error.PathError.TheVariants.{OutOfMemory};
 ghost use Rattle.pf_residual.specs.Networks.{Network, path_bound, KeepsCapacities, IsNetwork, HasCutOfTotal};
 ghost use Rattle.pf_residual.specs.Listings.{IsFlowAnswer};
-ghost use Rattle.pf_residual.specs.Internal.Levels.{IsStuck};
+ghost use Rattle.pf_residual.specs.Internal.Levels.{IsSinkCutOff};
 
 use crate::cuts::list_cut;
 use crate::edmonds_karp::EKFlows;
@@ -18,7 +18,7 @@ use std::alloc::Allocator;
 
 /// Adds flow along shortest paths, in phases of paths of one length, until none is left. Found are then
 /// the levels of the last search, which does not reach the sink.
-fn saturate<C, S, A>(
+fn run_phases<C, S, A>(
     store: &mut S,
     alloc: A,
     found: &mut Levels<A>,
@@ -32,7 +32,7 @@ where
     requires apart { (S.network store.old).source ≢ (S.network store.old).sink }
     ensures network { IsNetwork C.fits (S.network store.new) }
     ensures kept { KeepsCapacities (S.network store.old) (S.network store.new) }
-    ensures stuck { OnOk result (IsStuck (S.network store.new) found.new.levels.items found.new.parents.items) }
+    ensures cut_off { OnOk result (IsSinkCutOff (S.network store.new) found.new.levels.items found.new.parents.items) }
     ensures refused { IfErr result (λ e. e ≡ OutOfMemory) }
     ensures ticked { tally.old ≤ tally.new }
     ensures paths { tally.new ≤ tally.old + path_bound (S.network store.old) }
@@ -61,7 +61,7 @@ where
     S: FlowStore<C>,
     A: Allocator + Copy,
     requires network { IsNetwork C.fits (S.network store.now) }
-    requires stuck { IsStuck (S.network store.now) found.now.levels.items found.now.parents.items }
+    requires cut_off { IsSinkCutOff (S.network store.now) found.now.levels.items found.now.parents.items }
     ensures answer { IfOk result (IsFlowAnswer C.value (S.network store.now)) }
     ensures refused { IfErr result (λ e. e ≡ OutOfMemory) }
 {
@@ -95,7 +95,7 @@ where
     ensures ticked { tally.old ≤ tally.new }
     ensures paths { tally.new ≤ tally.old + path_bound (S.network store.old) }
 {
-    saturate(store, alloc, found, tally)?;
+    run_phases(store, alloc, found, tally)?;
     list_answer(store, alloc, found)
 }
 

@@ -4,15 +4,15 @@ ghost use Rattle.std.specs.Prelude.{◌≡◌, ◌<◌, ◌+◌, length, slice_i
 ghost use Rattle.pf_base.specs.declared.error.PathError.TheVariants.{OutOfMemory};
 ghost use Rattle.pf_residual.specs.Networks.{Network};
 ghost use Rattle.pf_residual.specs.Internal.Levels.{HasFound, IsTree, IsTreePath, Reaches};
-ghost use Rattle.pf_residual.specs.Internal.Steps.{AreSteps};
+ghost use Rattle.pf_residual.specs.Internal.CurrentArcs.{AreArcs};
 ghost use Rattle.pf_flow.specs.Internal.Phases.{HoldsLevels};
 
 use pf_base::{PathError, SignedCost};
-use pf_residual::steps::Steps;
+use pf_residual::current_arcs::CurrentArcs;
 use pf_residual::store::FlowStore;
 use std::alloc::Allocator;
 
-/// How far each vertex is from the source, by which vertex it was reached, and which steps lead on
+/// How far each vertex is from the source, by which vertex it was reached, and which arcs lead on
 /// from it.
 #[derive(Drop)]
 pub struct Levels<A: Allocator> {
@@ -22,8 +22,8 @@ pub struct Levels<A: Allocator> {
     pub parents: Vec<usize, A>,
     /// The vertices in the order in which they were reached.
     queue: Vec<usize, A>,
-    /// The steps with residual capacity that lead one level up.
-    pub steps: Steps<A>,
+    /// The arcs with residual capacity that lead one level up.
+    pub arcs: CurrentArcs<A>,
 }
 
 impl<A: Allocator + Copy> Levels<A> {
@@ -33,7 +33,7 @@ impl<A: Allocator + Copy> Levels<A> {
             levels: Vec::new(alloc),
             parents: Vec::new(alloc),
             queue: Vec::new(alloc),
-            steps: Steps::new(alloc),
+            arcs: CurrentArcs::new(alloc),
         }
     }
 
@@ -60,7 +60,7 @@ impl<A: Allocator + Copy> Levels<A> {
         C: SignedCost,
         S: FlowStore<C>,
         ensures found { OnOk result (HasFound (S.network store.now) self.new.levels.items self.new.parents.items self.new.queue.items 0) }
-        ensures steps { OnOk result (AreSteps (S.network store.now).vertices self.new.steps.targets.items self.new.steps.places.items self.new.steps.ends.items) }
+        ensures arcs { OnOk result (AreArcs (S.network store.now).vertices self.new.arcs.targets.items self.new.arcs.places.items self.new.arcs.ends.items) }
         ensures refused { IfErr result (λ e. e ≡ OutOfMemory) }
     {
         let size = store.size();
@@ -73,7 +73,7 @@ impl<A: Allocator + Copy> Levels<A> {
         self.queue.clear();
         self.queue.reserve(size)?;
         self.queue.push(source)?;
-        self.steps.reset(size)
+        self.arcs.reset(size)
     }
 
     /// Follows the pairs with residual capacity from the vertex at a place of the queue.
@@ -83,9 +83,9 @@ impl<A: Allocator + Copy> Levels<A> {
         S: FlowStore<C>,
         requires found { HasFound (S.network store.now) self.old.levels.items self.old.parents.items self.old.queue.items at }
         requires at { at < length self.old.queue.items }
-        requires steps { AreSteps (S.network store.now).vertices self.old.steps.targets.items self.old.steps.places.items self.old.steps.ends.items }
+        requires arcs { AreArcs (S.network store.now).vertices self.old.arcs.targets.items self.old.arcs.places.items self.old.arcs.ends.items }
         ensures found { OnOk result (HasFound (S.network store.now) self.new.levels.items self.new.parents.items self.new.queue.items (at + 1)) }
-        ensures steps { OnOk result (AreSteps (S.network store.now).vertices self.new.steps.targets.items self.new.steps.places.items self.new.steps.ends.items) }
+        ensures arcs { OnOk result (AreArcs (S.network store.now).vertices self.new.arcs.targets.items self.new.arcs.places.items self.new.arcs.ends.items) }
         ensures refused { IfErr result (λ e. e ≡ OutOfMemory) }
     {
         let from = self.queue[at];
@@ -94,7 +94,7 @@ impl<A: Allocator + Copy> Levels<A> {
         for end in &ends {
             self.reach(from, level, end.0)?;
         }
-        self.steps.add_row(from, level, &ends, &self.levels)
+        self.arcs.add_row(from, level, &ends, &self.levels)
     }
 
     /// Reaches a vertex from one of a level, if it was not reached before.
@@ -103,7 +103,7 @@ impl<A: Allocator + Copy> Levels<A> {
         requires to { to < length self.old.levels.items }
         requires wide { length self.old.parents.items ≡ length self.old.levels.items }
         ensures reached { OnOk result (Reaches from level to self.old.levels.items self.old.parents.items self.old.queue.items self.new.levels.items self.new.parents.items self.new.queue.items) }
-        ensures steps { self.new.steps ≡ self.old.steps }
+        ensures arcs { self.new.arcs ≡ self.old.arcs }
         ensures refused { IfErr result (λ e. e ≡ OutOfMemory) }
     {
         if self.levels[to] == self.levels.len() {
@@ -114,7 +114,7 @@ impl<A: Allocator + Copy> Levels<A> {
         Ok(())
     }
 
-    /// Writes the vertices on the way to a vertex that was reached, each at the place of its level.
+    /// Writes the vertices on the path to a vertex that was reached, each at the place of its level.
     pub fn write_path(&self, path: &mut [usize], to: usize)
         requires tree { IsTree self.now.levels.items self.now.parents.items }
         requires to { to < length self.now.levels.items }

@@ -3,26 +3,26 @@
 ghost use Rattle.std.specs.Prelude.{◌≡◌, ◌≢◌, ◌<◌, length, slice_index};
 ghost use Rattle.pf_residual.specs.Networks.{Network, IsNetwork};
 ghost use Rattle.pf_residual.specs.Internal.AugmentingPaths.{IsLabelling};
-ghost use Rattle.pf_residual.specs.Internal.Steps.{IsSinkWay};
+ghost use Rattle.pf_residual.specs.Internal.CurrentArcs.{IsSinkPath};
 ghost use Rattle.pf_flow.specs.Internal.Phases.{HoldsLevels, IsAugmented};
 
 use crate::levels::Levels;
 use pf_base::SignedCost;
 use pf_base::utils::Tally;
+use pf_residual::level_paths::find_augmenting_path;
 use pf_residual::paths::add_along;
 use pf_residual::store::FlowStore;
-use pf_residual::ways::next_way;
 use std::alloc::Allocator;
 
-/// Adds as much flow along a way to the sink as its pairs have left, with a tick. The levels stay
+/// Adds as much flow along a path to the sink as its pairs have left, with a tick. The levels stay
 /// levels, and their potential rises by as much.
-fn add_way<C, S>(store: &mut S, levels: &[usize], path: &[usize], tally: &mut Tally)
+fn augment_path<C, S>(store: &mut S, levels: &[usize], path: &[usize], tally: &mut Tally)
 where
     C: SignedCost,
     S: FlowStore<C>,
     requires network { IsNetwork C.fits (S.network store.old) }
     requires apart { (S.network store.old).source ≢ (S.network store.old).sink }
-    requires way { IsSinkWay (S.network store.old) (slice_index levels.now) path.now }
+    requires admissible { IsSinkPath (S.network store.old) (slice_index levels.now) path.now }
     requires labelling { IsLabelling (S.network store.old).vertices (S.network store.old).source (S.network store.old).residual (slice_index levels.now) }
     requires levels_len { length levels.now ≡ (S.network store.old).vertices }
     requires path_len { length path.now ≡ (S.network store.old).vertices }
@@ -35,9 +35,9 @@ where
     tally.tick();
 }
 
-/// Adds flow along ways that go up by a level with each pair, with a tick for each of them, which the
+/// Adds flow along paths that go up by a level with each pair, with a tick for each of them, which the
 /// potential of the levels rises by: along the one by which the sink was reached, and then along all
-/// that are found over steps that are left.
+/// that are found over arcs that are left.
 pub fn augment_phase<C, S, A>(
     store: &mut S,
     found: &mut Levels<A>,
@@ -57,8 +57,8 @@ where
     ensures augmented { IsAugmented (slice_index found.old.levels.items) (S.network store.old) (S.network store.new) tally.old tally.new }
 {
     found.write_path(path, store.sink());
-    add_way(store, &found.levels, path, tally);
-    'ways: while next_way(store, &found.levels, &mut found.steps, path) {
-        add_way(store, &found.levels, path, tally);
+    augment_path(store, &found.levels, path, tally);
+    'paths: while find_augmenting_path(store, &found.levels, &mut found.arcs, path) {
+        augment_path(store, &found.levels, path, tally);
     }
 }

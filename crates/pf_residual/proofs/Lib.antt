@@ -12,8 +12,8 @@ pub mod PushLemmas
 pub mod OppositeLemmas
 pub mod LevelLemmas
 pub mod LevelListLemmas
-pub mod WayLemmas
-pub mod StepLemmas
+pub mod PathLemmas
+pub mod ArcLemmas
 pub mod SparseListings
 pub mod SparseRowLemmas
 pub mod SparseStoreLemmas

@@ -8,7 +8,7 @@ pub mod DenseLaws
 pub mod Settled
 pub mod PartSums
 pub mod Filling
-pub mod Steps
+pub mod CurrentArcs
 pub mod DenseTables
 pub mod RowChanges
 pub mod SparseTables

@@ -4,14 +4,14 @@ use Rattle.pf_flow.specs.declared.levels.Levels.{Levels}
 use Rattle.pf_residual.specs.Networks.{Network, KeepsCapacities}
 use Rattle.pf_residual.specs.Internal.AugmentingPaths.{IsLabelling, TicksWithinRise}
 use Rattle.pf_residual.specs.Internal.Levels.{AreLevels}
-use Rattle.pf_residual.specs.Internal.Steps.{AreSteps}
+use Rattle.pf_residual.specs.Internal.CurrentArcs.{AreArcs}
 
--- the levels of all vertices, with the vertices before them and the steps that lead on
+-- the levels of all vertices, with the vertices before them and the arcs that lead on
 pub record HoldsLevels {A : Type 0} (N : Network) (found : Levels A) : Type 0 where
   pub levels : AreLevels N (slice_index found.levels.items) (slice_index found.parents.items)
   pub levels_len : length found.levels.items ≡ N.vertices
   pub parents_len : length found.parents.items ≡ N.vertices
-  pub steps : AreSteps N.vertices found.steps.targets.items found.steps.places.items found.steps.ends.items
+  pub arcs : AreArcs N.vertices found.arcs.targets.items found.arcs.places.items found.arcs.ends.items
 
 -- Flow was added along paths of the levels d: the capacities are kept, the levels stay a labelling, and the ticks rise, by at most as much as their potential.
 pub record IsAugmented (d : ℕ → ℕ) (N M : Network) (before after : ℕ) : Type 0 where

@@ -17,7 +17,7 @@ pub record AreLevels (N : Network) (d parent : ℕ → ℕ) : Type 0 where
   pub closed : (a b : ℕ) → a < N.vertices → b < N.vertices → d a < N.vertices → pos 0 <ℤ N.residual a b → d b < N.vertices
 
 -- the lists of a search that does not reach the sink
-pub record IsStuck (N : Network) (levels parents : List ℕ) : Type 0 where
+pub record IsSinkCutOff (N : Network) (levels parents : List ℕ) : Type 0 where
   pub found : AreLevels N (slice_index levels) (slice_index parents)
   pub len : length levels ≡ N.vertices
   pub top : slice_index levels N.sink ≡ N.vertices
@@ -63,8 +63,8 @@ pub record IsTreePath (levels parents : List ℕ) (to : ℕ) (path : List ℕ) (
   pub level : (k : ℕ) → from ≤ k → k ≤ slice_index levels to → slice_index levels (slice_index path k) ≡ k
   pub before : (k : ℕ) → from ≤ k → k < slice_index levels to → slice_index path k ≡ slice_index parents (slice_index path (k + 1))
 
--- a way from the source along pairs with residual capacity, each vertex at the place of its level
-pub record IsWay (N : Network) (d : ℕ → ℕ) (path : List ℕ) (depth : ℕ) : Type 0 where
+-- a path from the source along pairs with residual capacity, each vertex at the place of its level
+pub record IsAdmissiblePath (N : Network) (d : ℕ → ℕ) (path : List ℕ) (depth : ℕ) : Type 0 where
   pub first : slice_index path 0 ≡ N.source
   pub inside : (k : ℕ) → k ≤ depth → slice_index path k < N.vertices
   pub level : (k : ℕ) → k ≤ depth → d (slice_index path k) ≡ k

@@ -4,7 +4,7 @@ use Rattle.std.specs.List.{filter}
 use Rattle.std.proofs.lemmas.Result.{IfOk-from_err}
 use Rattle.pf_residual.specs.Listings.{ListsFlows, ListsCut}
 use Rattle.pf_residual.specs.Networks.{Network}
-use Rattle.pf_residual.specs.Internal.Levels.{IsStuck, leaves, reached}
+use Rattle.pf_residual.specs.Internal.Levels.{IsSinkCutOff, leaves, reached}
 use Rattle.pf_flow.proofs.CutOfLevels.{cut_of_levels}
 use Rattle.pf_residual.proofs.NamedLemmas.{flows_inside, refused_as}
 use Rattle.pf_flow.proofs.FilterLemmas.{cut_of_flows}
@@ -15,15 +15,15 @@ list_flows-requires g c = c.requires.network
 
 pub list_cut-requires : goal.list_cut-requires
 list_cut-requires g c =
-    let len = ap length c.deref.ensures.value ∙ c.requires.stuck.len in
+    let len = ap length c.deref.ensures.value ∙ c.requires.cut_off.len in
     let below = flows_inside c.deref.result.now (g.S.FlowStore.network c.args.store.now) g.C.Number.value (sym len) c.in_ok-flows.flows.items c.in_ok-flows.ensures.listed in
     record { inside = λ i e h. below i e (ap (λ xs. slice_get xs i) (sym c.deref-2.ensures.value) ∙ h) }
 
 -- a search that does not reach the sink comes from elsewhere
-apart_of : {N : Network} {levels parents : List ℕ} → N.source < N.vertices → IsStuck N levels parents → N.source ≡ N.sink → ⊥
-apart_of {N} {levels} inside stuck e =
-    let start = stuck.found.labelling.start in
-    let top = stuck.top in
+apart_of : {N : Network} {levels parents : List ℕ} → N.source < N.vertices → IsSinkCutOff N levels parents → N.source ≡ N.sink → ⊥
+apart_of {N} {levels} inside cut_off e =
+    let start = cut_off.found.labelling.start in
+    let top = cut_off.top in
     let same = ap (slice_index levels) e in
     omega (arith, inside, start, top, same)
 
@@ -31,7 +31,7 @@ pub returns : goal.returns
 returns g c =
     let N = g.S.FlowStore.network c.args.store.now in
     let law = g.met.S.FlowStore.network_law c.args.store.now in
-    let e = c.requires.stuck in
+    let e = c.requires.cut_off in
     let levels = c.args.found.now.levels.items in
     let parents = c.args.found.now.parents.items in
     let flows = c.in_ok-flows.flows.items in
@@ -57,7 +57,7 @@ returns-then-not-has_details g c = record {
     total = c.total_capacity-total.ensures;
     flows = λ details. absurd (true≢false (sym details ∙ sym c.has_details.ensures ∙ c.if-not-has_details.true));
     cut_edges = λ details. absurd (true≢false (sym details ∙ sym c.has_details.ensures ∙ c.if-not-has_details.true));
-    idle = λ q. absurd (apart_of (g.met.S.FlowStore.network_law c.args.store.now).source_in c.requires.stuck q);
+    idle = λ q. absurd (apart_of (g.met.S.FlowStore.network_law c.args.store.now).source_in c.requires.cut_off q);
     omitted = λ details. (c.new.ensures.items, c.new-then-not-has_details.ensures.items);
   };
   refused = tt;

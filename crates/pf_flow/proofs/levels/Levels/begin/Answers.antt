@@ -3,7 +3,7 @@ use Rattle.std.specs.Prelude.{slice_set}
 use Rattle.std.proofs.lemmas.List.{length-set, length-replicate}
 use Rattle.std.proofs.lemmas.Result.{IfOk-from_err}
 use Rattle.pf_base.proofs.Outcomes.{on_ok}
-use Rattle.pf_residual.specs.Internal.Steps.{AreSteps}
+use Rattle.pf_residual.specs.Internal.CurrentArcs.{AreArcs}
 use Rattle.pf_residual.proofs.LevelListLemmas.{found_begun}
 use Rattle.pf_base.proofs.ListLemmas.{resized}
 use Rattle.pf_residual.proofs.NamedLemmas.{ok_when, refused_by}
@@ -31,36 +31,36 @@ returns g c = record {
       (found_begun N (slice_set levels source 0) parents queue (g.met.S.FlowStore.network_law c.args.store.now).source_in
       (ap (λ xs. slice_set xs source 0) e ∙ ap (λ a. slice_set (replicate N.vertices N.vertices) a 0) c.source-source.ensures)
       (length-set levels source 0 ∙ len) wide one);
-  steps =
-      let steps = c.reset.new.self in
-      on_ok c.reset.result c.reset.ensures.steps (subst (λ n. AreSteps n steps.targets.items steps.places.items steps.ends.items) c.size-size.ensures);
+  arcs =
+      let arcs = c.reset.new.self in
+      on_ok c.reset.result c.reset.ensures.arcs (subst (λ n. AreArcs n arcs.targets.items arcs.places.items arcs.ends.items) c.size-size.ensures);
   refused = c.reset.ensures.refused;
 }
 
 pub returns-in_err-resize : goal.returns-in_err-resize
 returns-in_err-resize g c = record {
   found = IfOk-from_err _ _ c.from_residual.ensures.0;
-  steps = IfOk-from_err _ _ c.from_residual.ensures.0;
+  arcs = IfOk-from_err _ _ c.from_residual.ensures.0;
   refused = refused_by _ _ c.from_residual.result (λ e h. h) c.from_residual.ensures.1;
 }
 
 pub returns-in_err-resize-2 : goal.returns-in_err-resize-2
 returns-in_err-resize-2 g c = record {
   found = IfOk-from_err _ _ c.from_residual-in_err-resize-2.ensures.0;
-  steps = IfOk-from_err _ _ c.from_residual-in_err-resize-2.ensures.0;
+  arcs = IfOk-from_err _ _ c.from_residual-in_err-resize-2.ensures.0;
   refused = refused_by _ _ c.from_residual-in_err-resize-2.result (λ e h. h) c.from_residual-in_err-resize-2.ensures.1;
 }
 
 pub returns-in_err-reserve : goal.returns-in_err-reserve
 returns-in_err-reserve g c = record {
   found = IfOk-from_err _ _ c.from_residual-in_err-reserve.ensures.0;
-  steps = IfOk-from_err _ _ c.from_residual-in_err-reserve.ensures.0;
+  arcs = IfOk-from_err _ _ c.from_residual-in_err-reserve.ensures.0;
   refused = refused_by _ _ c.from_residual-in_err-reserve.result (λ e h. h) c.from_residual-in_err-reserve.ensures.1;
 }
 
 pub returns-in_err-push : goal.returns-in_err-push
 returns-in_err-push g c = record {
   found = IfOk-from_err _ _ c.from_residual-in_err-push.ensures.0;
-  steps = IfOk-from_err _ _ c.from_residual-in_err-push.ensures.0;
+  arcs = IfOk-from_err _ _ c.from_residual-in_err-push.ensures.0;
   refused = refused_by _ _ c.from_residual-in_err-push.result (λ e h. h) c.from_residual-in_err-push.ensures.1;
 }

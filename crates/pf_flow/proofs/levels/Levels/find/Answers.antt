@@ -5,7 +5,7 @@ use Rattle.pf_residual.proofs.LevelLemmas.{levels_of}
 use Rattle.pf_flow.proofs.levels.Levels.find.Goals as goal
 
 pub loop-at-init : goal.loop-at-init
-loop-at-init g c = record { found = c.in_ok-begin.ensures.found; steps = c.in_ok-begin.ensures.steps }
+loop-at-init g c = record { found = c.in_ok-begin.ensures.found; arcs = c.in_ok-begin.ensures.arcs }
 
 pub loop-at-smaller : goal.loop-at-smaller
 loop-at-smaller g c =
@@ -13,7 +13,7 @@ loop-at-smaller g c =
     omega (arith, all, c.len.ensures, c.loop-at.self.queue.ok, c.loop-at-test.true)
 
 pub loop-at-preserved : goal.loop-at-preserved
-loop-at-preserved g c = record { found = c.in_ok-follow.ensures.found; steps = c.in_ok-follow.ensures.steps }
+loop-at-preserved g c = record { found = c.in_ok-follow.ensures.found; arcs = c.in_ok-follow.ensures.arcs }
 
 pub follow-requires-clause-found : goal.follow-requires-clause-found
 follow-requires-clause-found g c = c.loop-at.invariant.found
@@ -21,15 +21,15 @@ follow-requires-clause-found g c = c.loop-at.invariant.found
 pub follow-requires-clause-at : goal.follow-requires-clause-at
 follow-requires-clause-at g c = omega (arith, c.len.ensures, c.loop-at.self.queue.ok, c.loop-at-test.true)
 
-pub follow-requires-clause-steps : goal.follow-requires-clause-steps
-follow-requires-clause-steps g c = c.loop-at.invariant.steps
+pub follow-requires-clause-arcs : goal.follow-requires-clause-arcs
+follow-requires-clause-arcs g c = c.loop-at.invariant.arcs
 
 pub returns : goal.returns
 returns g c = record {
   found =
       let i = c.loop-at.invariant in
       let all : length c.loop-at.self.queue.items ≤ c.loop-at.at = omega (arith, c.len.ensures, c.loop-at.self.queue.ok, c.loop-at-test.false) in
-      record { levels = levels_of all i.found.search; levels_len = i.found.levels_len; parents_len = i.found.parents_len; steps = i.steps };
+      record { levels = levels_of all i.found.search; levels_len = i.found.levels_len; parents_len = i.found.parents_len; arcs = i.arcs };
   refused = tt;
 }
 

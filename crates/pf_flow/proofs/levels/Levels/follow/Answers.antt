@@ -8,7 +8,7 @@ use Rattle.std.proofs.Math.ListN.{get_or-append}
 use Rattle.pf_residual.specs.Networks.{Network}
 use Rattle.pf_residual.specs.Listings.{ListsNumbers}
 use Rattle.pf_residual.specs.Internal.Levels.{HasFound, Reaches}
-use Rattle.pf_residual.specs.Internal.Steps.{AreSteps}
+use Rattle.pf_residual.specs.Internal.CurrentArcs.{AreArcs}
 use Rattle.pf_residual.proofs.LevelListLemmas.{found_more, found_next, known_level, to_reached, levels_kept, from_kept}
 use Rattle.pf_base.proofs.Outcomes.{on_ok}
 use Rattle.pf_residual.proofs.NamedLemmas.{refused_as, ok_when}
@@ -91,7 +91,7 @@ loop-end-preserved g c =
       from = after.2;
       level = after.3;
       followed = after.4;
-      steps = subst (λ t. AreSteps N.vertices t.targets.items t.places.items t.ends.items) (sym c.reach.ensures.steps) i.steps;
+      arcs = subst (λ t. AreArcs N.vertices t.targets.items t.places.items t.ends.items) (sym c.reach.ensures.arcs) i.arcs;
     }
 
 pub index-from-requires : goal.index-from-requires
@@ -122,7 +122,7 @@ loop-end-init g c =
       from = sym from;
       level = sym (get_or_read c.args.self.now.levels.items c.index-from.result.now c.index-level.result.now (omega (arith, inside, from, found.levels_len)) c.index-level.ensures 0);
       followed = λ i a left l. absurd (omega (arith, l));
-      steps = c.requires.steps;
+      arcs = c.requires.arcs;
     }
 
 pub bounds-end-items-end-index : goal.bounds-end-items-end-index
@@ -153,11 +153,11 @@ reach-requires-clause-to g c =
 pub reach-requires-clause-wide : goal.reach-requires-clause-wide
 reach-requires-clause-wide g c = c.loop-end.invariant.found.parents_len ∙ sym c.loop-end.invariant.found.levels_len
 
-pub add_row-requires-clause-steps : goal.add_row-requires-clause-steps
-add_row-requires-clause-steps g c =
+pub add_row-requires-clause-arcs : goal.add_row-requires-clause-arcs
+add_row-requires-clause-arcs g c =
     let i = c.loop-end.invariant in
-    let steps = c.loop-end.self.steps in
-    subst (λ n. AreSteps n steps.targets.items steps.places.items steps.ends.items) (sym (ap length c.deref-2.ensures.value ∙ i.found.levels_len)) i.steps
+    let arcs = c.loop-end.self.arcs in
+    subst (λ n. AreArcs n arcs.targets.items arcs.places.items arcs.ends.items) (sym (ap length c.deref-2.ensures.value ∙ i.found.levels_len)) i.arcs
 
 pub add_row-requires-clause-from : goal.add_row-requires-clause-from
 add_row-requires-clause-from g c =
@@ -188,22 +188,22 @@ returns g c = record {
       let inside = slice_get_within c.deref-end-items.result.now q.0 (b, q.1) there in
       let done = c.loop-end-test.false in
       i.followed q.0 b q.1 (omega (arith, inside, done)) there));
-  steps =
-      let steps = c.add_row.new.self in
-      on_ok c.add_row.result c.add_row.ensures.steps (subst (λ n. AreSteps n steps.targets.items steps.places.items steps.ends.items) (ap length c.deref-2.ensures.value ∙ c.loop-end.invariant.found.levels_len));
+  arcs =
+      let arcs = c.add_row.new.self in
+      on_ok c.add_row.result c.add_row.ensures.arcs (subst (λ n. AreArcs n arcs.targets.items arcs.places.items arcs.ends.items) (ap length c.deref-2.ensures.value ∙ c.loop-end.invariant.found.levels_len));
   refused = c.add_row.ensures.refused;
 }
 
 pub returns-in_err-ends : goal.returns-in_err-ends
 returns-in_err-ends g c = record {
   found = IfOk-from_err _ _ c.from_residual.ensures.0;
-  steps = IfOk-from_err _ _ c.from_residual.ensures.0;
+  arcs = IfOk-from_err _ _ c.from_residual.ensures.0;
   refused = refused_as _ c.from_residual.result _ c.in_err-ends.ensures.refused c.from_residual.ensures.1;
 }
 
 pub returns-in_err-reach : goal.returns-in_err-reach
 returns-in_err-reach g c = record {
   found = IfOk-from_err _ _ c.from_residual-in_err-reach.ensures.0;
-  steps = IfOk-from_err _ _ c.from_residual-in_err-reach.ensures.0;
+  arcs = IfOk-from_err _ _ c.from_residual-in_err-reach.ensures.0;
   refused = refused_as _ c.from_residual-in_err-reach.result _ c.in_err-reach.ensures.refused c.from_residual-in_err-reach.ensures.1;
 }

@@ -1,7 +1,7 @@
 use Rattle.std.proofs.Common.{◌≡◌, ◌<◌, ◌≤◌, ◌+◌, ℕ, length, Some}
 use Rattle.std.specs.Prelude.{slice_get, slice_index}
 use Rattle.pf_residual.specs.Internal.Levels.{HasFound}
-use Rattle.pf_residual.specs.Internal.Steps.{AreSteps}
+use Rattle.pf_residual.specs.Internal.CurrentArcs.{AreArcs}
 use Rattle.pf_flow.proofs.levels.Levels.follow.Given as goal
 
 -- the search so far; the vertex is still at its place, and no end so far is more than one level above it
@@ -12,5 +12,5 @@ invariant-loop-end g l = record {
   from : slice_index l.self.queue.items l.at ≡ l.from;
   level : slice_index l.self.levels.items l.from ≡ l.level;
   followed : (i a : ℕ) (c : g.row.C.Denot) → i < l.end-index → slice_get l.end-items i ≡ Some (a, c) → slice_index l.self.levels.items a ≤ l.level + 1;
-  steps : AreSteps (g.S.FlowStore.network l.store).vertices l.self.steps.targets.items l.self.steps.places.items l.self.steps.ends.items;
+  arcs : AreArcs (g.S.FlowStore.network l.store).vertices l.self.arcs.targets.items l.self.arcs.places.items l.self.arcs.ends.items;
 }

@@ -1,18 +1,18 @@
-//! Ways from the source to the sink, found by depth first in the levels of vertices.
+//! Augmenting paths in the levels of vertices, found by depth first over current arcs.
 
 ghost use Rattle.std.specs.Prelude.{◌≡◌, ◌<◌, ◌<ℤ◌, pos, true, length, slice_index, IfSome};
 ghost use Rattle.pf_residual.specs.Networks.{Network};
-ghost use Rattle.pf_residual.specs.Internal.Steps.{AreSteps, IsClimb, IsSinkWay, work_of};
+ghost use Rattle.pf_residual.specs.Internal.CurrentArcs.{AreArcs, IsPartialPath, IsSinkPath, work_of};
 
-use crate::steps::Steps;
+use crate::current_arcs::CurrentArcs;
 use crate::store::FlowStore;
 use pf_base::SignedCost;
 use pf_base::cost::arithmetic::is_below;
 use std::alloc::Allocator;
 
-/// Does a step lead over residual capacity to a vertex of this level, and where the sink is of this
-/// level to the sink?
-fn is_open<C, S>(store: &S, levels: &[usize], from: usize, to: usize, level: usize) -> bool
+/// Is an arc admissible: has it residual capacity, and does it lead to a vertex of this level, and to
+/// the sink where the sink is of this level?
+fn is_admissible<C, S>(store: &S, levels: &[usize], from: usize, to: usize, level: usize) -> bool
 where
     C: SignedCost,
     S: FlowStore<C>,
@@ -33,13 +33,13 @@ where
     is_below(C::zero(), store.residual_capacity(from, to))
 }
 
-/// One move of a search for a way to the sink from the vertex at this depth of the path: one level up
-/// over an open step, past a step that is not open, or back where no step is left. It answers the
-/// depth after it, and nothing where the search is over.
-fn go_on<C, S, A>(
+/// Advances over the current arc of the vertex at this depth of the path where it is admissible, and
+/// else retires it; where the vertex has no arc left, retreats, and retires the arc that led there.
+/// Answered is the depth after that, and nothing where the search is over.
+fn advance_or_retreat<C, S, A>(
     store: &S,
     levels: &[usize],
-    steps: &mut Steps<A>,
+    arcs: &mut CurrentArcs<A>,
     path: &mut [usize],
     depth: usize,
 ) -> Option<usize>
@@ -47,34 +47,34 @@ where
     C: SignedCost,
     S: FlowStore<C>,
     A: Allocator + Copy,
-    requires climb { IsClimb (S.network store.now) levels.now steps.old.targets.items steps.old.places.items steps.old.ends.items path.old depth }
+    requires partial { IsPartialPath (S.network store.now) levels.now arcs.old.targets.items arcs.old.places.items arcs.old.ends.items path.old depth }
     requires below { depth < slice_index levels.now (S.network store.now).sink }
-    ensures climb { IfSome result (IsClimb (S.network store.now) levels.now steps.new.targets.items steps.new.places.items steps.new.ends.items path.new) }
-    ensures less { IfSome result (λ after. work_of (S.network store.now) levels.now steps.new after < work_of (S.network store.now) levels.now steps.old depth) }
-    ensures steps { AreSteps (S.network store.now).vertices steps.new.targets.items steps.new.places.items steps.new.ends.items }
+    ensures partial { IfSome result (IsPartialPath (S.network store.now) levels.now arcs.new.targets.items arcs.new.places.items arcs.new.ends.items path.new) }
+    ensures less { IfSome result (λ after. work_of (S.network store.now) levels.now arcs.new after < work_of (S.network store.now) levels.now arcs.old depth) }
+    ensures arcs { AreArcs (S.network store.now).vertices arcs.new.targets.items arcs.new.places.items arcs.new.ends.items }
 {
     let from = path[depth];
-    if let Some(to) = steps.step_from(from) {
-        if is_open(store, levels, from, to, depth + 1) {
+    if let Some(to) = arcs.current_arc(from) {
+        if is_admissible(store, levels, from, to, depth + 1) {
             path[depth + 1] = to;
             return Some(depth + 1);
         }
-        steps.pass_step(from);
+        arcs.retire_arc(from);
         return Some(depth);
     }
     if depth == 0 {
         return None;
     }
-    steps.pass_step(path[depth - 1]);
+    arcs.retire_arc(path[depth - 1]);
     Some(depth - 1)
 }
 
-/// Is there a way to the sink over steps that are left? It is written to the path, each vertex at the
+/// Is there an augmenting path over arcs that are left? It is written to the path, each vertex at the
 /// place of its level.
-pub fn next_way<C, S, A>(
+pub fn find_augmenting_path<C, S, A>(
     store: &S,
     levels: &[usize],
-    steps: &mut Steps<A>,
+    arcs: &mut CurrentArcs<A>,
     path: &mut [usize],
 ) -> bool
 where
@@ -86,15 +86,15 @@ where
     requires reached { slice_index levels.now (S.network store.now).sink < (S.network store.now).vertices }
     requires levels_len { length levels.now ≡ (S.network store.now).vertices }
     requires path_len { length path.old ≡ (S.network store.now).vertices }
-    requires steps { AreSteps (S.network store.now).vertices steps.old.targets.items steps.old.places.items steps.old.ends.items }
-    ensures way { result ≡ true → IsSinkWay (S.network store.now) (slice_index levels.now) path.new }
-    ensures steps { AreSteps (S.network store.now).vertices steps.new.targets.items steps.new.places.items steps.new.ends.items }
+    requires arcs { AreArcs (S.network store.now).vertices arcs.old.targets.items arcs.old.places.items arcs.old.ends.items }
+    ensures admissible { result ≡ true → IsSinkPath (S.network store.now) (slice_index levels.now) path.new }
+    ensures arcs { AreArcs (S.network store.now).vertices arcs.new.targets.items arcs.new.places.items arcs.new.ends.items }
 {
     let top = levels[store.sink()];
     path[0] = store.source();
     let mut depth = 0;
     'moves: while depth < top {
-        let Some(after) = go_on(store, levels, steps, path, depth) else {
+        let Some(after) = advance_or_retreat(store, levels, arcs, path, depth) else {
             return false;
         };
         depth = after;

@@ -6,7 +6,7 @@ use Rattle.pf_base.proofs.ListLemmas.{resized}
 use Rattle.pf_residual.proofs.AgreeLemmas.{capacities_kept, capacities_more}
 use Rattle.pf_residual.proofs.NamedLemmas.{refused_as, refused_by}
 use Rattle.pf_flow.proofs.PhaseLemmas.{ticks_top, ticks_anew, ticks_now}
-use Rattle.pf_flow.proofs.augmenting.saturate.Goals as goal
+use Rattle.pf_flow.proofs.augmenting.run_phases.Goals as goal
 
 -- what is written through a slice keeps its length
 kept_len : (n m : ℕ) (xs ys : List ℕ) → length xs ≡ m → length ys ≡ m → n ≡ m → length (take n (xs ++ drop (length xs) ys)) ≡ m
@@ -75,7 +75,7 @@ pub returns-in_err-find : goal.returns-in_err-find
 returns-in_err-find g c = record {
   network = c.requires.network;
   kept = capacities_kept (g.S.FlowStore.network c.args.store.now);
-  stuck = IfOk-from_err _ _ c.from_residual-in_err-find.ensures.0;
+  cut_off = IfOk-from_err _ _ c.from_residual-in_err-find.ensures.0;
   refused = refused_as _ c.from_residual-in_err-find.result _ c.in_err-find.ensures.refused c.from_residual-in_err-find.ensures.1;
   ticked = itself _;
   paths = no_less _ _;
@@ -85,7 +85,7 @@ pub returns-in_err-resize : goal.returns-in_err-resize
 returns-in_err-resize g c = record {
   network = c.requires.network;
   kept = capacities_kept (g.S.FlowStore.network c.args.store.now);
-  stuck = IfOk-from_err _ _ c.from_residual.ensures.0;
+  cut_off = IfOk-from_err _ _ c.from_residual.ensures.0;
   refused = refused_by _ _ c.from_residual.result (λ e h. h) c.from_residual.ensures.1;
   ticked = itself _;
   paths = no_less _ _;
@@ -111,7 +111,7 @@ pub returns : goal.returns
 returns g c = record {
   network = c.phases.invariant.network;
   kept = c.phases.invariant.kept;
-  stuck =
+  cut_off =
       let i = c.phases.invariant in
       let M = g.S.FlowStore.network c.phases.store in
       let levels = c.phases.found.levels.items in
@@ -135,7 +135,7 @@ pub returns-in_err-find-2 : goal.returns-in_err-find-2
 returns-in_err-find-2 g c = record {
   network = c.augment_phase.ensures.network;
   kept = capacities_more c.phases.invariant.kept c.augment_phase.ensures.augmented.kept;
-  stuck = IfOk-from_err _ _ c.from_residual-in_err-find-2.ensures.0;
+  cut_off = IfOk-from_err _ _ c.from_residual-in_err-find-2.ensures.0;
   refused = refused_as _ c.from_residual-in_err-find-2.result _ c.in_err-find-2.ensures.refused c.from_residual-in_err-find-2.ensures.1;
   ticked = after _ _ _ c.phases.invariant.ticked c.augment_phase.ensures.augmented.progress;
   paths = ticks_top c.phases.invariant.kept c.args.tally.now c.phases.invariant.bound c.augment_phase.ensures.augmented;

@@ -1,11 +1,11 @@
--- Ways from the source.
+-- Paths from the source.
 use Rattle.std.proofs.Common.{◌≡◌, ◌≢◌, ◌∙◌, inl, inr, sym, ap, subst, ◌<◌, ◌≤◌, ◌+◌, ◌-◌, ℕ, zero, suc, pos, arith, List, length, take, length-take}
 use Rattle.std.specs.Prelude.{◌<ℤ◌, slice_index}
 use Rattle.std.proofs.lemmas.Bool.{cases_eq}
 use Rattle.std.proofs.lemmas.List.{get_or-take}
 use Rattle.pf_residual.specs.Networks.{Network}
 use Rattle.pf_residual.specs.Internal.AugmentingPaths.{IsAugmentingPath, IsLevelPath, IsLabelling}
-use Rattle.pf_residual.specs.Internal.Levels.{HasParents, AreLevels, IsTree, IsTreePath, IsWay}
+use Rattle.pf_residual.specs.Internal.Levels.{HasParents, AreLevels, IsTree, IsTreePath, IsAdmissiblePath}
 
 -- only the source is at level 0
 pub only_source : {N : Network} {d parent : ℕ → ℕ} → HasParents N d parent → (a : ℕ) → a < N.vertices → d a < N.vertices → d a ≡ 0 → a ≡ N.source
@@ -22,9 +22,9 @@ module _ {N : Network} {levels parents : List ℕ} (w : AreLevels N (slice_index
     below = λ a i l r. w.parents.below a (omega (arith, i, len)) (omega (arith, r, len)) (not_source w a l);
   }
 
-  -- the way to a vertex that was reached
-  pub way_of_tree : {path : List ℕ} (to : ℕ) → slice_index levels to < N.vertices → IsTreePath levels parents to path 0 → IsWay N (slice_index levels) path (slice_index levels to)
-  way_of_tree {path} to r p = record {
+  -- the path to a vertex that was reached
+  pub path_of_tree : {path : List ℕ} (to : ℕ) → slice_index levels to < N.vertices → IsTreePath levels parents to path 0 → IsAdmissiblePath N (slice_index levels) path (slice_index levels to)
+  path_of_tree {path} to r p = record {
     first = only_source w.parents (slice_index path 0) (let i = p.inside 0 (omega arith) (omega arith) in omega (arith, i, len)) (let e = p.level 0 (omega arith) (omega arith) in omega (arith, e, r)) (p.level 0 (omega arith) (omega arith));
     inside = λ k h. let i = p.inside k (omega arith) h in omega (arith, i, len);
     level = λ k h. p.level k (omega arith) h;
@@ -35,15 +35,15 @@ module _ {N : Network} {levels parents : List ℕ} (w : AreLevels N (slice_index
         (w.parents.left (slice_index path (k + 1)) (omega (arith, i, len)) (omega (arith, e, h, r)) (not_source w (slice_index path (k + 1)) (omega (arith, e))));
   }
 
-module _ {N : Network} {d : ℕ → ℕ} {path : List ℕ} {depth : ℕ} (w : IsWay N d path depth) (wide : depth < length path) where
+module _ {N : Network} {d : ℕ → ℕ} {path : List ℕ} {depth : ℕ} (w : IsAdmissiblePath N d path depth) (wide : depth < length path) where
   front_len : length (take (depth + 1) path) ≡ depth + 1
   front_len = grind (arith, length-take)
 
   front_at : (k : ℕ) → k ≤ depth → slice_index (take (depth + 1) path) k ≡ slice_index path k
   front_at k h = get_or-take (depth + 1) path k 0 (omega (arith, h))
 
-  pub level_way : IsLevelPath d (take (depth + 1) path)
-  level_way = record {
+  pub level_path : IsLevelPath d (take (depth + 1) path)
+  level_path = record {
     up = λ k h.
         let l = front_len in
         let e = w.level k (omega (arith, h, l)) in
@@ -53,8 +53,8 @@ module _ {N : Network} {d : ℕ → ℕ} {path : List ℕ} {depth : ℕ} (w : Is
         omega (arith, e, f, g, i);
   }
 
-  pub augmenting_way : slice_index path depth ≡ N.sink → N.source ≢ N.sink → IsAugmentingPath N (take (depth + 1) path)
-  augmenting_way last apart =
+  pub augmenting_path : slice_index path depth ≡ N.sink → N.source ≢ N.sink → IsAugmentingPath N (take (depth + 1) path)
+  augmenting_path last apart =
       let l = front_len in
       let up : 0 < depth = elim (cases_eq depth 0) as (λ _. 0 < depth) [ inl e ↦ absurd (apart (sym w.first ∙ ap (slice_index path) (sym e) ∙ last)) | inr e ↦ omega (arith, e) ] in
       record {

@@ -3,7 +3,7 @@ use Rattle.std.specs.Prelude.{slice_index}
 use Rattle.pf_residual.specs.Networks.{path_bound, IsNetwork, KeepsCapacities}
 use Rattle.pf_residual.specs.Internal.AugmentingPaths.{potential_in}
 use Rattle.pf_flow.specs.Internal.Phases.{HoldsLevels}
-use Rattle.pf_flow.proofs.augmenting.saturate.Given as goal
+use Rattle.pf_flow.proofs.augmenting.run_phases.Given as goal
 
 -- the flow so far, the levels found for it, and no more ticks than the potential
 abbrev pub invariant-phases : goal.invariant-phases

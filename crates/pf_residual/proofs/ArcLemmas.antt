@@ -1,4 +1,4 @@
--- Steps between vertices, and the search by depth first for a way over them.
+-- Arcs between vertices, and the search by depth first for a path over them.
 use Rattle.std.proofs.Common.{◌≡◌, ◌≢◌, ◌∙◌, inl, inr, sym, ap, subst, ◌<◌, ◌≤◌, ◌+◌, ◌-◌, ℕ, suc, pos, arith, List, [], ◌∷◌, ◌++◌, length, replicate, length-append}
 use Rattle.std.specs.Prelude.{◌<ℤ◌, slice_index, slice_set}
 use Rattle.std.proofs.lemmas.Bool.{cases_eq}
@@ -6,23 +6,23 @@ use Rattle.std.proofs.lemmas.List.{get_or-replicate, get_or-set_same, get_or-set
 use Rattle.std.proofs.Math.ListN.{get_or-append}
 use Rattle.std.proofs.Math.Seq.{get_or-append_seam}
 use Rattle.pf_residual.specs.Networks.{Network}
-use Rattle.pf_residual.specs.Internal.Levels.{AreLevels, IsTreePath, IsWay}
-use Rattle.pf_residual.specs.Internal.Steps.{AreSteps, IsSinkWay, IsClimb, steps_left, work_left}
+use Rattle.pf_residual.specs.Internal.Levels.{AreLevels, IsTreePath, IsAdmissiblePath}
+use Rattle.pf_residual.specs.Internal.CurrentArcs.{AreArcs, IsSinkPath, IsPartialPath, arcs_left, work_left}
 use Rattle.pf_residual.proofs.LevelLemmas.{count_less}
-use Rattle.pf_residual.proofs.WayLemmas.{only_source, way_of_tree}
+use Rattle.pf_residual.proofs.PathLemmas.{only_source, path_of_tree}
 
--- no step from any vertex
-pub no_steps : {n : ℕ} {targets places ends : List ℕ} → targets ≡ [] → places ≡ replicate n 0 → ends ≡ replicate n 0 → AreSteps n targets places ends
-no_steps {n} {targets} {places} {ends} t p e = record {
+-- no arc from any vertex
+pub no_arcs : {n : ℕ} {targets places ends : List ℕ} → targets ≡ [] → places ≡ replicate n 0 → ends ≡ replicate n 0 → AreArcs n targets places ends
+no_arcs {n} {targets} {places} {ends} t p e = record {
   places_len = ap length p ∙ length-replicate n 0;
   ends_len = ap length e ∙ length-replicate n 0;
   inside = λ k h. absurd (let l = ap length t in omega (arith, h, l));
   within = λ a h. let z : slice_index ends a ≡ 0 = ap (λ xs. slice_index xs a) e ∙ get_or-replicate n a 0 0 h in omega (arith, z);
 }
 
-module _ {n : ℕ} {targets places ends : List ℕ} (w : AreSteps n targets places ends) where
+module _ {n : ℕ} {targets places ends : List ℕ} (w : AreArcs n targets places ends) where
   -- the first place of a vertex is another
-  pub placed : (from place : ℕ) → AreSteps n targets (slice_set places from place) ends
+  pub placed : (from place : ℕ) → AreArcs n targets (slice_set places from place) ends
   placed from place = record {
     places_len = length-set places from place ∙ w.places_len;
     ends_len = w.ends_len;
@@ -31,7 +31,7 @@ module _ {n : ℕ} {targets places ends : List ℕ} (w : AreSteps n targets plac
   }
 
   -- a target more
-  pub targeted : (to : ℕ) → to < n → AreSteps n (targets ++ to ∷ []) places ends
+  pub targeted : (to : ℕ) → to < n → AreArcs n (targets ++ to ∷ []) places ends
   targeted to i = record {
     places_len = w.places_len;
     ends_len = w.ends_len;
@@ -46,7 +46,7 @@ module _ {n : ℕ} {targets places ends : List ℕ} (w : AreSteps n targets plac
       len_more = grind (arith, length-append)
 
   -- the end of the row of a vertex is another
-  pub ended : (from end : ℕ) → from < n → end ≤ length targets → AreSteps n targets places (slice_set ends from end)
+  pub ended : (from end : ℕ) → from < n → end ≤ length targets → AreArcs n targets places (slice_set ends from end)
   ended from end i l = record {
     places_len = w.places_len;
     ends_len = length-set ends from end ∙ w.ends_len;
@@ -57,22 +57,22 @@ module _ {n : ℕ} {targets places ends : List ℕ} (w : AreSteps n targets plac
     ];
   }
 
-  -- where a step is passed, one less is left
-  pub passed : (from : ℕ) → from < n → slice_index places from < slice_index ends from → suc (steps_left n (slice_set places from (slice_index places from + 1)) ends) ≡ steps_left n places ends
+  -- where an arc is retired, one less is left
+  pub passed : (from : ℕ) → from < n → slice_index places from < slice_index ends from → suc (arcs_left n (slice_set places from (slice_index places from + 1)) ends) ≡ arcs_left n places ends
   passed from i l = count_less (λ a. slice_index ends a - slice_index places a) (λ a. slice_index ends a - slice_index (slice_set places from (slice_index places from + 1)) a) n from i
       (let z : slice_index (slice_set places from (slice_index places from + 1)) from ≡ slice_index places from + 1 = get_or-set_same places from (slice_index places from + 1) 0 (let m = w.places_len in omega (arith, i, m)) in omega (arith, z, l))
       (λ a h e. ap (λ p. slice_index ends a - p) (get_or-set_other places from a (slice_index places from + 1) 0 e))
 
 -- the search begins at the source
-pub climb_begun : {N : Network} {levels targets places ends : List ℕ} (path : List ℕ) → N.source < N.vertices → slice_index levels N.source ≡ 0 → 0 < slice_index levels N.sink → slice_index levels N.sink < N.vertices → length levels ≡ N.vertices → length path ≡ N.vertices → AreSteps N.vertices targets places ends → IsClimb N levels targets places ends (slice_set path 0 N.source) 0
-climb_begun {N} {levels} {targets} {places} {ends} path s z a r l m w = record {
-  way = record {
+pub path_begun : {N : Network} {levels targets places ends : List ℕ} (path : List ℕ) → N.source < N.vertices → slice_index levels N.source ≡ 0 → 0 < slice_index levels N.sink → slice_index levels N.sink < N.vertices → length levels ≡ N.vertices → length path ≡ N.vertices → AreArcs N.vertices targets places ends → IsPartialPath N levels targets places ends (slice_set path 0 N.source) 0
+path_begun {N} {levels} {targets} {places} {ends} path s z a r l m w = record {
+  admissible = record {
     first = first;
     inside = λ k h. subst (λ v. v < N.vertices) (sym (at k h)) s;
     level = λ k h. ap (slice_index levels) (at k h) ∙ z ∙ sym (zero_of k h);
     left = λ k h. absurd (omega (arith, h));
   };
-  steps = w;
+  arcs = w;
   ahead = λ k h. absurd (omega (arith, h));
   low = omega arith;
   last = λ e. absurd (omega (arith, e, a));
@@ -90,22 +90,22 @@ climb_begun {N} {levels} {targets} {places} {ends} path s z a r l m w = record {
     at : (k : ℕ) → k ≤ 0 → slice_index (slice_set path 0 N.source) k ≡ N.source
     at k h = ap (slice_index (slice_set path 0 N.source)) (zero_of k h) ∙ first
 
-module _ {N : Network} {levels targets places ends path : List ℕ} {depth : ℕ} (w : IsClimb N levels targets places ends path depth) where
-  -- vertices at two places of the way are two
+module _ {N : Network} {levels targets places ends path : List ℕ} {depth : ℕ} (w : IsPartialPath N levels targets places ends path depth) where
+  -- vertices at two places of the path are two
   apart : (j k : ℕ) → j ≤ depth → k ≤ depth → j ≢ k → slice_index path j ≢ slice_index path k
-  apart j k h m n e = n (sym (w.way.level j h) ∙ ap (slice_index levels) e ∙ w.way.level k m)
+  apart j k h m n e = n (sym (w.admissible.level j h) ∙ ap (slice_index levels) e ∙ w.admissible.level k m)
 
-  -- a step is passed at a place of the way, which ends there
+  -- an arc is retired at a place of the path, which ends there
   module _ (from at : ℕ) (h : at ≤ depth) (l : at < slice_index levels N.sink) (e : from ≡ slice_index path at) (m : slice_index places from < slice_index ends from) where
-    pub climb_past : IsClimb N levels targets (slice_set places from (slice_index places from + 1)) ends path at
-    climb_past = record {
-      way = record {
-        first = w.way.first;
-        inside = λ k g. w.way.inside k (omega (arith, g, h));
-        level = λ k g. w.way.level k (omega (arith, g, h));
-        left = λ k g. w.way.left k (omega (arith, g, h));
+    pub path_past : IsPartialPath N levels targets (slice_set places from (slice_index places from + 1)) ends path at
+    path_past = record {
+      admissible = record {
+        first = w.admissible.first;
+        inside = λ k g. w.admissible.inside k (omega (arith, g, h));
+        level = λ k g. w.admissible.level k (omega (arith, g, h));
+        left = λ k g. w.admissible.left k (omega (arith, g, h));
       };
-      steps = placed w.steps from (slice_index places from + 1);
+      arcs = placed w.arcs from (slice_index places from + 1);
       ahead = λ k g.
           let z : slice_index (slice_set places from (slice_index places from + 1)) (slice_index path k) ≡ slice_index places (slice_index path k) = get_or-set_other places from (slice_index path k) (slice_index places from + 1) 0 (λ q. apart k at (omega (arith, g, h)) h (omega (arith, g)) (q ∙ e)) in
           let a = w.ahead k (omega (arith, g, h)) in
@@ -119,18 +119,18 @@ module _ {N : Network} {levels targets places ends path : List ℕ} {depth : ℕ
 
     pub work_past : depth ≤ at + 1 → work_left N levels (slice_set places from (slice_index places from + 1)) ends at < work_left N levels places ends depth
     work_past k =
-        let i : from < N.vertices = subst (λ v. v < N.vertices) (sym e) (w.way.inside at h) in
-        let s = passed w.steps from i m in
+        let i : from < N.vertices = subst (λ v. v < N.vertices) (sym e) (w.admissible.inside at h) in
+        let s = passed w.arcs from i m in
         let b = w.low in
         omega (arith, s, b, k, h, l)
 
     -- the same of the lists that are made so
     module _ {after rows tops : List ℕ} (t : after ≡ targets) (p : rows ≡ slice_set places from (slice_index places from + 1)) (q : tops ≡ ends) where
-      pub climb_passed : IsClimb N levels after rows tops path at
-      climb_passed =
-          subst (λ xs. IsClimb N levels xs rows tops path at) (sym t)
-          (subst (λ xs. IsClimb N levels targets xs tops path at) (sym p)
-          (subst (λ xs. IsClimb N levels targets (slice_set places from (slice_index places from + 1)) xs path at) (sym q) climb_past))
+      pub path_passed : IsPartialPath N levels after rows tops path at
+      path_passed =
+          subst (λ xs. IsPartialPath N levels xs rows tops path at) (sym t)
+          (subst (λ xs. IsPartialPath N levels targets xs tops path at) (sym p)
+          (subst (λ xs. IsPartialPath N levels targets (slice_set places from (slice_index places from + 1)) xs path at) (sym q) path_past))
 
       pub work_passed : depth ≤ at + 1 → work_left N levels rows tops at < work_left N levels places ends depth
       work_passed k =
@@ -154,22 +154,22 @@ module _ {N : Network} {levels targets places ends path : List ℕ} {depth : ℕ
       | inr q ↦ (let l : k ≤ depth = omega (arith, g, q) in subst (P k) (sym (below k l)) (low k l))
     ]
 
-    pub climb_up : IsClimb N levels targets places ends (slice_set path (depth + 1) to) (depth + 1)
-    climb_up = record {
-      way = record {
-        first = below 0 (omega arith) ∙ w.way.first;
-        inside = or_top (λ k v. v < N.vertices) w.way.inside i;
-        level = or_top (λ k v. slice_index levels v ≡ k) w.way.level e;
+    pub path_advanced : IsPartialPath N levels targets places ends (slice_set path (depth + 1) to) (depth + 1)
+    path_advanced = record {
+      admissible = record {
+        first = below 0 (omega arith) ∙ w.admissible.first;
+        inside = or_top (λ k v. v < N.vertices) w.admissible.inside i;
+        level = or_top (λ k v. slice_index levels v ≡ k) w.admissible.level e;
         left = λ k g. elim (cases_eq k depth) as (λ _. pos 0 <ℤ N.residual (slice_index up k) (slice_index up (k + 1))) [
           | inl q ↦ subst (λ k. pos 0 <ℤ N.residual (slice_index up k) (slice_index up (k + 1))) (sym q)
               (subst (λ v. pos 0 <ℤ N.residual v (slice_index up (depth + 1))) (sym (below depth (omega arith)))
               (subst (λ v. pos 0 <ℤ N.residual (slice_index path depth) v) (sym top) r))
           | inr q ↦ (let l : k < depth = omega (arith, g, q) in
               subst (λ v. pos 0 <ℤ N.residual v (slice_index up (k + 1))) (sym (below k (omega (arith, l))))
-              (subst (λ v. pos 0 <ℤ N.residual (slice_index path k) v) (sym (below (k + 1) (omega (arith, l)))) (w.way.left k l)))
+              (subst (λ v. pos 0 <ℤ N.residual (slice_index path k) v) (sym (below (k + 1) (omega (arith, l)))) (w.admissible.left k l)))
         ];
       };
-      steps = w.steps;
+      arcs = w.arcs;
       ahead = λ k g. subst (λ v. slice_index places v < slice_index ends v) (sym (below k (omega (arith, g)))) (elim (cases_eq k depth) as (λ _. slice_index places (slice_index path k) < slice_index ends (slice_index path k)) [
         | inl q ↦ subst (λ k. slice_index places (slice_index path k) < slice_index ends (slice_index path k)) (sym q) m
         | inr q ↦ w.ahead k (omega (arith, g, q))
@@ -181,12 +181,12 @@ module _ {N : Network} {levels targets places ends path : List ℕ} {depth : ℕ
       path_len = length-set path (depth + 1) to ∙ w.path_len;
     }
 
-  -- the way that was found
-  pub climbed : slice_index levels N.sink ≤ depth → IsSinkWay N (slice_index levels) path
-  climbed h =
+  -- the path that was found
+  pub path_found : slice_index levels N.sink ≤ depth → IsSinkPath N (slice_index levels) path
+  path_found h =
       let e : depth ≡ slice_index levels N.sink = (let l = w.low in omega (arith, h, l)) in
       record {
-        way = subst (IsWay N (slice_index levels) path) e w.way;
+        admissible = subst (IsAdmissiblePath N (slice_index levels) path) e w.admissible;
         last = subst (λ k. slice_index path k ≡ N.sink) e (w.last e);
       }
 
@@ -197,8 +197,8 @@ sink_above {N} {d} w r i n = elim (cases_eq (d N.sink) 0) as (λ _. 0 < d N.sink
   | inr e ↦ omega (arith, e)
 ]
 
--- the way by which the sink was reached
-pub sink_way : {N : Network} {levels parents path : List ℕ} → AreLevels N (slice_index levels) (slice_index parents) → slice_index levels N.sink < N.vertices → length levels ≡ N.vertices → length parents ≡ N.vertices → (to : ℕ) → to ≡ N.sink → IsTreePath levels parents to path 0 → IsSinkWay N (slice_index levels) path
-sink_way {N} {levels} {parents} {path} w r l p to e t =
+-- the path by which the sink was reached
+pub sink_path : {N : Network} {levels parents path : List ℕ} → AreLevels N (slice_index levels) (slice_index parents) → slice_index levels N.sink < N.vertices → length levels ≡ N.vertices → length parents ≡ N.vertices → (to : ℕ) → to ≡ N.sink → IsTreePath levels parents to path 0 → IsSinkPath N (slice_index levels) path
+sink_path {N} {levels} {parents} {path} w r l p to e t =
     let s = subst (λ v. IsTreePath levels parents v path 0) e t in
-    record { way = way_of_tree w l p N.sink r s; last = s.last }
+    record { admissible = path_of_tree w l p N.sink r s; last = s.last }

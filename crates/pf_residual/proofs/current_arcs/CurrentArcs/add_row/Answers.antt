@@ -1,35 +1,35 @@
 use Rattle.std.proofs.Common.{◌<◌, refl, sym, subst, length, arith, List, ℕ}
 use Rattle.std.proofs.lemmas.Option.{slice_get_read}
-use Rattle.pf_residual.specs.Internal.Steps.{AreSteps}
-use Rattle.pf_residual.proofs.StepLemmas.{placed, targeted, ended}
+use Rattle.pf_residual.specs.Internal.CurrentArcs.{AreArcs}
+use Rattle.pf_residual.proofs.ArcLemmas.{placed, targeted, ended}
 use Rattle.std.proofs.lemmas.Result.{IfOk-from_err}
 use Rattle.pf_residual.proofs.NamedLemmas.{refused_by}
-use Rattle.pf_residual.proofs.steps.Steps.add_row.Goals as goal
-use Rattle.pf_residual.proofs.steps.Steps.add_row.Goals.{then-levels-to+in_ok-push, else-levels-to}
+use Rattle.pf_residual.proofs.current_arcs.CurrentArcs.add_row.Goals as goal
+use Rattle.pf_residual.proofs.current_arcs.CurrentArcs.add_row.Goals.{then-levels-to+in_ok-push, else-levels-to}
 
 pub loop-end-preserved : goal.loop-end-preserved
 loop-end-preserved g c =
     let n = length c.args.levels.now in
     let to = c.end-item.result.0 in
     let inside : to < n = c.requires.inside c.loop-end.end-index to c.end-item.result.1 (slice_get_read c.args.list.now (length c.args.list.now) c.loop-end.end-index c.end-item.result refl c.loop-end-test.true c.end-item.is) in
-    elim c.if-levels-to.branch as (λ _. AreSteps n c.if-levels-to.self.targets.items c.if-levels-to.self.places.items c.if-levels-to.self.ends.items) [
+    elim c.if-levels-to.branch as (λ _. AreArcs n c.if-levels-to.self.targets.items c.if-levels-to.self.places.items c.if-levels-to.self.ends.items) [
       | then-levels-to+in_ok-push w ↦
-          subst (λ s. AreSteps n s.targets.items s.places.items s.ends.items) (sym w.self-is)
-          (subst (λ (xs : List ℕ). AreSteps n xs c.loop-end.self.places.items c.loop-end.self.ends.items) (sym w.in_ok-push.ensures.items) (targeted c.loop-end.invariant to inside))
-      | else-levels-to w ↦ subst (λ s. AreSteps n s.targets.items s.places.items s.ends.items) (sym w.self-is) c.loop-end.invariant
+          subst (λ s. AreArcs n s.targets.items s.places.items s.ends.items) (sym w.self-is)
+          (subst (λ (xs : List ℕ). AreArcs n xs c.loop-end.self.places.items c.loop-end.self.ends.items) (sym w.in_ok-push.ensures.items) (targeted c.loop-end.invariant to inside))
+      | else-levels-to w ↦ subst (λ s. AreArcs n s.targets.items s.places.items s.ends.items) (sym w.self-is) c.loop-end.invariant
     ]
 
-pub returns-clause-steps : goal.returns-clause-steps
-returns-clause-steps g c =
+pub returns-clause-arcs : goal.returns-clause-arcs
+returns-clause-arcs g c =
     let e = c.len-2.ensures in
     let o = c.loop-end.self.targets.ok in
     ended c.loop-end.invariant c.args.from c.len-2.result c.requires.from (omega (arith, e, o))
 
 pub index_mut-requires : goal.index_mut-requires
-index_mut-requires g c = omega (arith, c.requires.from, c.requires.steps.places_len, c.args.self.now.places.ok)
+index_mut-requires g c = omega (arith, c.requires.from, c.requires.arcs.places_len, c.args.self.now.places.ok)
 
 pub loop-end-init : goal.loop-end-init
-loop-end-init g c = placed c.requires.steps c.args.from c.len.result
+loop-end-init g c = placed c.requires.arcs c.args.from c.len.result
 
 pub bounds-list-end-index : goal.bounds-list-end-index
 bounds-list-end-index g c = c.loop-end-test.true
@@ -48,8 +48,8 @@ loop-end-smaller g c = omega arith
 pub index_mut-requires-2 : goal.index_mut-requires-2
 index_mut-requires-2 g c = omega (arith, c.requires.from, c.loop-end.invariant.ends_len, c.loop-end.self.ends.ok)
 
-pub returns-in_err-push-clause-steps : goal.returns-in_err-push-clause-steps
-returns-in_err-push-clause-steps g c = IfOk-from_err _ _ c.from_residual.ensures.0
+pub returns-in_err-push-clause-arcs : goal.returns-in_err-push-clause-arcs
+returns-in_err-push-clause-arcs g c = IfOk-from_err _ _ c.from_residual.ensures.0
 
 pub returns-in_err-push-clause-refused : goal.returns-in_err-push-clause-refused
 returns-in_err-push-clause-refused g c = refused_by _ _ c.from_residual.result (λ e h. h) c.from_residual.ensures.1

@@ -1,5 +1,5 @@
 use Rattle.std.proofs.Common.{arith}
-use Rattle.pf_residual.proofs.ways.is_open.Goals as goal
+use Rattle.pf_residual.proofs.level_paths.is_admissible.Goals as goal
 
 pub bounds-levels-to : goal.bounds-levels-to
 bounds-levels-to g c = omega (arith, c.requires.to, c.requires.levels_len)
