@@ -4,5 +4,4 @@ pub mod PhaseLemmas
 pub mod CutOfLevels
 pub mod FilterLemmas
 pub mod SparseRoom
-mod MoveLemmas
 mod TakeBackLemmas

@@ -18,7 +18,7 @@ use Rattle.pf_residual.specs.Internal.Settled.{moved, side_sum, settled, Touches
 use Rattle.pf_residual.proofs.SumLemmas.{sum_ext, sum_add, square_none}
 use Rattle.pf_residual.proofs.AgreeLemmas.{capacities_more}
 use Rattle.pf_flow.specs.Internal.Changes.{Carries}
-use Rattle.pf_flow.proofs.MoveLemmas.{opposite_moved}
+use Rattle.pf_residual.proofs.PushLemmas.{opposite_moved}
 use Rattle.pf_residual.proofs.ChangeListings.{get_last}
 use Rattle.pf_residual.proofs.SettledLemmas.{at_side, settled_side, settled_elsewhere, settled_here, settled_more, net_zero, net_push, side_none, side_one}
 

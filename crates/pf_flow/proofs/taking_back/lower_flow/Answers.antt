@@ -6,7 +6,7 @@ use Rattle.pf_residual.specs.Networks.{Network}
 use Rattle.pf_residual.specs.Internal.Balances.{IsBalanced}
 use Rattle.pf_residual.proofs.AgreeLemmas.{balanced_agrees, capacities_agrees, capacities_more}
 use Rattle.pf_flow.specs.Internal.Changes.{Carries}
-use Rattle.pf_flow.proofs.MoveLemmas.{capacity_moved, balanced_moved, move_fits_flow, move_fits_flow_back, move_fits_residual, move_fits_residual_back}
+use Rattle.pf_residual.proofs.PushLemmas.{capacity_moved, balanced_moved, move_fits_flow, move_fits_flow_back, move_fits_residual, move_fits_residual_back}
 use Rattle.pf_residual.proofs.NetworkLemmas.{flow_fits}
 use Rattle.pf_flow.proofs.TakeBackLemmas.{kept_move}
 use Rattle.pf_flow.proofs.taking_back.lower_flow.Goals as goal
