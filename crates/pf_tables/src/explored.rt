@@ -42,16 +42,13 @@ where
     R: Row<u8>,
     requires inside { node < G.size graph.now }
     requires empty { R.holds row.old [] }
-    requires index { IsIndex numbering.old.order.items numbering.old.numbers.items }
-    requires wide { length numbering.old.numbers.items ≡ G.size graph.now }
+    requires numbering { IsIndex numbering.old.order.items numbering.old.numbers.items × (length numbering.old.numbers.items ≡ G.size graph.now) }
     ensures numbered { OnOk result ((steps : List (ℕ × ℕ)) × R.holds row.new steps
         × NumbersItems nat_eq numbering.new.order.items steps (steps_at (G.places graph.now node))
         × AddedFrom nat_eq (steps_at (G.places graph.now node)) numbering.old.order.items numbering.new.order.items
         × NumbersInOrder (StandsFor nat_eq numbering.new.order.items) (length numbering.old.order.items) (map (λ (x : ℕ × ℕ). x.0) (steps_at (G.places graph.now node))) (length numbering.new.order.items)) }
-    ensures index { IsIndex numbering.new.order.items numbering.new.numbers.items }
-    ensures wide { length numbering.new.numbers.items ≡ G.size graph.now }
+    ensures numbering { IsIndex numbering.new.order.items numbering.new.numbers.items × (length numbering.new.numbers.items ≡ G.size graph.now) }
     ensures distinct { IsDistinct nat_eq numbering.old.order.items → IsDistinct nat_eq numbering.new.order.items }
-    ensures longer { length numbering.old.order.items ≤ length numbering.new.order.items }
     ensures kept { take (length numbering.old.order.items) numbering.new.order.items ≡ numbering.old.order.items }
     ensures stays { OnErr result (numbering.new.order.items ≡ numbering.old.order.items) }
     ensures refused { IfErr result (λ e. e ≡ PathError.OutOfMemory) }

@@ -16,8 +16,8 @@ loop-place-init g c =
       long = long;
       longer = omega (arith, long);
       kept = take_all c.len-before.result order (omega (arith, long));
-      index = c.requires.index;
-      wide = c.requires.wide;
+      index = c.requires.numbering.0;
+      wide = c.requires.numbering.1;
       numbered = ([], c.requires.empty, tt);
       added = λ k m h. inl h;
       ordered = refl;
@@ -44,11 +44,8 @@ forget-requires-clause-index g c = c.in-Err.ensures.index
 pub forget-requires-clause-inside : goal.forget-requires-clause-inside
 forget-requires-clause-inside g c = let v = c.loop-place.invariant in omega (arith, v.longer, c.in-Err.ensures.added.longer)
 
-pub returns-in-Err-clause-index : goal.returns-in-Err-clause-index
-returns-in-Err-clause-index g c = c.forget.ensures.index
-
-pub returns-in-Err-clause-wide : goal.returns-in-Err-clause-wide
-returns-in-Err-clause-wide g c = c.forget.ensures.wide ∙ c.in-Err.ensures.wide ∙ c.loop-place.invariant.wide
+pub returns-in-Err-clause-numbering : goal.returns-in-Err-clause-numbering
+returns-in-Err-clause-numbering g c = (c.forget.ensures.index, c.forget.ensures.wide ∙ c.in-Err.ensures.wide ∙ c.loop-place.invariant.wide)
 
 pub returns-in-Err-clause-refused : goal.returns-in-Err-clause-refused
 returns-in-Err-clause-refused g c = c.in-Err.ensures.refused
@@ -61,10 +58,6 @@ returns-in-Err-clause-stays g c =
 pub returns-in-Err-clause-distinct : goal.returns-in-Err-clause-distinct
 unfolding returns-in-Err-clause-stays
 returns-in-Err-clause-distinct g c = λ d. rw (returns-in-Err-clause-stays g c) d
-
-pub returns-in-Err-clause-longer : goal.returns-in-Err-clause-longer
-unfolding returns-in-Err-clause-stays
-returns-in-Err-clause-longer g c = omega (arith, ap length (returns-in-Err-clause-stays g c))
 
 pub returns-in-Err-clause-kept : goal.returns-in-Err-clause-kept
 unfolding returns-in-Err-clause-stays
@@ -126,10 +119,8 @@ returns g c = record {
       let all : take c.loop-place.place places ≡ places = take_all c.loop-place.place places (omega (arith, c.loop-place-test.false, c.places-place-end.ensures)) in
       let n = rw all at v.numbered in
       (n.0, n.1, n.2, rw all at v.added, rw all at v.ordered);
-  index = c.loop-place.invariant.index;
-  wide = c.loop-place.invariant.wide;
+  numbering = (c.loop-place.invariant.index, c.loop-place.invariant.wide);
   distinct = c.loop-place.invariant.distinct;
-  longer = let v = c.loop-place.invariant in omega (arith, v.long, v.longer);
   kept = let v = c.loop-place.invariant in rw v.long at v.kept;
   stays = tt;
   refused = tt;

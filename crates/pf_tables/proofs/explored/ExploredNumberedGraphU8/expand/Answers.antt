@@ -1,4 +1,4 @@
-use Rattle.std.proofs.Common.{ap, length, ◌≡◌, ◌<◌, sym, subst, Some, slice_get, ℕ, pos, inl, inr, nat_eq, arith}
+use Rattle.std.proofs.Common.{ap, length, length-take, take, ◌≡◌, ◌<◌, ◌≤◌, ◌∙◌, List, sym, subst, Some, slice_get, ℕ, pos, inl, inr, nat_eq, arith}
 use Rattle.std.proofs.lemmas.Cmp.{nat_eq_equiv}
 use Rattle.std.proofs.lemmas.Option.{slice_get_within}
 use Rattle.std.proofs.lemmas.Result.{on_err_weaker}
@@ -12,6 +12,10 @@ use Rattle.pf_tables.specs.Internal.Numbering.{steps_at}
 use Rattle.pf_tables.proofs.ExploreLemmas.{nat_alike}
 use Rattle.pf_tables.proofs.explored.ExploredNumberedGraphU8.expand.Goals as goal
 
+-- a list that begins with another is as long
+as_long : (old new : List ℕ) → take (length old) new ≡ old → length old ≤ length new
+as_long old new e = let l = sym (length-take (length old) new) ∙ ap length e in grind (arith, l)
+
 pub number_places-requires-clause-inside : goal.number_places-requires-clause-inside
 number_places-requires-clause-inside g c =
     let r = c.requires.graph in
@@ -20,7 +24,7 @@ number_places-requires-clause-inside g c =
     omega (arith, l, r.1.2)
 
 pub returns-clause-grows : goal.returns-clause-grows
-returns-clause-grows g c = Grows-from_take nat_eq c.args.self.now.numbering.order.items c.number_places.new.numbering.order.items c.number_places.ensures.longer c.number_places.ensures.kept
+returns-clause-grows g c = Grows-from_take nat_eq c.args.self.now.numbering.order.items c.number_places.new.numbering.order.items (as_long _ _ c.number_places.ensures.kept) c.number_places.ensures.kept
 
 pub returns-clause-graph : goal.returns-clause-graph
 unfolding number_places-requires-clause-inside
@@ -42,8 +46,8 @@ returns-clause-graph g c = λ h x.
           | inr e ↦ λ k y q. x.0.reached k y (subst (λ ks. slice_get ks k ≡ Some y) e q)
         ];
       },
-      c.number_places.ensures.index,
-      c.number_places.ensures.wide,
+      c.number_places.ensures.numbering.0,
+      c.number_places.ensures.numbering.1,
     )
 
 pub returns-clause-listed : goal.returns-clause-listed
@@ -94,17 +98,14 @@ returns-clause-ordered g c = on_ok c.number_places.result c.number_places.ensure
 pub number_places-requires-clause-empty : goal.number_places-requires-clause-empty
 number_places-requires-clause-empty g c = c.reset.ensures
 
-pub number_places-requires-clause-index : goal.number_places-requires-clause-index
-number_places-requires-clause-index g c = c.requires.graph.1.1
-
-pub number_places-requires-clause-wide : goal.number_places-requires-clause-wide
-number_places-requires-clause-wide g c = c.requires.graph.1.2
+pub number_places-requires-clause-numbering : goal.number_places-requires-clause-numbering
+number_places-requires-clause-numbering g c = (c.requires.graph.1.1, c.requires.graph.1.2)
 
 pub index-place-requires : goal.index-place-requires
 index-place-requires g c = omega (arith, c.requires.inside, c.args.self.now.numbering.order.ok)
 
 pub returns-clause-back : goal.returns-clause-back
-returns-clause-back g c = (c.number_places.ensures.longer, c.number_places.ensures.index)
+returns-clause-back g c = (as_long _ _ c.number_places.ensures.kept, c.number_places.ensures.numbering.0)
 
 pub returns-clause-refused : goal.returns-clause-refused
 returns-clause-refused g c = refused_still _ _ c.number_places.result c.number_places.ensures.refused (on_err_weaker c.number_places.result (λ e. ap length e) c.number_places.ensures.stays)
