@@ -1,6 +1,6 @@
 -- Edges between named vertices, put into a store in turn.
 use Rattle.std.proofs.Common.{◌≡◌, ◌∙◌, ◌⊎◌, inl, inr, refl, sym, ap, subst, ◌<◌, ℕ, ℤ, zero, suc, pos, Bool, true, false, nat_eq, List, [], ◌∷◌, ◌++◌, length, fold}
-use Rattle.std.specs.Prelude.{◌≤ℤ◌, ◌&&◌, if◌then◌else◌, Option, Some, Vec, slice_get, Result, Ok, Err, OnOk, IfOk, IfErr, IsErrAnd}
+use Rattle.std.specs.Prelude.{◌≤ℤ◌, ◌&&◌, if◌then◌else◌, Option, Some, Vec, slice_get, Result, Ok, Err, OnOk, IfOk, IfErr}
 use Rattle.std.specs.Iterator.{Yields}
 use Rattle.std.specs.List.{AllZip}
 use Rattle.std.proofs.lemmas.Bool.{cases_eq}
@@ -105,11 +105,6 @@ pub err_gives : {A E : Type 0} {P Q : E → Type 0} (r : Result A E) → IfErr r
 err_gives (Ok a) p f = p
 err_gives (Err e) p f = f e p
 
--- what holds where there is an answer, from what else does
-pub ok_so : {A E P T : Type 0} (r : Result A E) → OnOk r P → (P → T) → OnOk r T
-ok_so (Ok a) p f = f p
-ok_so (Err e) p f = p
-
 -- what holds of an answer, from a fact on it
 pub ok_gives : {A E : Type 0} {P Q : A → Type 0} (r : Result A E) → IfOk r P → ((a : A) → P a → Q a) → IfOk r Q
 ok_gives (Ok a) p f = f a p
@@ -119,11 +114,6 @@ ok_gives (Err e) p f = p
 pub ok_both : {A E : Type 0} {P Q R : A → Type 0} (r : Result A E) → IfOk r P → IfOk r Q → ((a : A) → P a → Q a → R a) → IfOk r R
 ok_both (Ok a) p q f = f a p q
 ok_both (Err e) p q f = p
-
--- what holds at all holds where there is an answer
-pub ok_when : {A E P : Type 0} (r : Result A E) → P → OnOk r P
-ok_when (Ok a) p = p
-ok_when (Err e) p = tt
 
 -- calls that gave some items, and a call that gave one more
 pub yields_more : {S A : Type 0} (steps : S → Option A → S → Type 0) (s : S) (xs : List A) (t u : S) (x : A) → Yields steps s xs t → steps t (Some x) u → Yields steps s (xs ++ x ∷ []) u
@@ -168,13 +158,3 @@ module _ {N C : Type 0} (eq : N → N → Bool) (value : C → ℤ) (names : Lis
     cut = (answer.2.items, a.cut_edges (kept.shape.details ∙ shape.details ∙ fresh.details), z.cut);
     idle = λ e. let i = a.idle e in (none_zip (IsNamed names) answer.0.items named.0.items z.flows i.0, ap value z.total ∙ i.1, none_zip (IsNamed names) answer.2.items named.2.items z.cut i.2);
   }
-
--- why a call is refused, from why the call in it was
-pub refused_by : {X : Type 0} (Q P : PathError → Type 0) (r : Result X PathError) → ((e : PathError) → Q e → P e) → IsErrAnd r Q → IfErr r P
-refused_by Q P (Ok x) h k = tt
-refused_by Q P (Err e) h k = h e k
-
--- why a call is refused, from why the call in it was with this error
-pub refused_as : {X : Type 0} (P : PathError → Type 0) (r : Result X PathError) (e : PathError) → P e → IsErrAnd r (λ f. f ≡ e) → IfErr r P
-refused_as P (Ok x) e p k = tt
-refused_as P (Err f) e p k = let same : f ≡ e = k in subst P (sym same) p

@@ -1,7 +1,7 @@
 use Rattle.std.proofs.lemmas.Result.{IfOk-from_err}
 use Rattle.pf_residual.specs.Internal.Levels.{reached}
 use Rattle.pf_flow.proofs.CutOfLevels.{cut_of_levels}
-use Rattle.pf_residual.proofs.NamedLemmas.{ok_when, refused_as}
+use Rattle.pf_base.proofs.Outcomes.{on_any, refused_as}
 use Rattle.pf_flow.proofs.augmenting.augment_apart.Goals as goal
 
 pub run_phases-requires-clause-network : goal.run_phases-requires-clause-network
@@ -24,7 +24,7 @@ returns g c = record {
       let law = g.met.S.FlowStore.network_law c.run_phases.new.store in
       let e = c.in_ok-run_phases.ensures.cut_off in
       let levels = c.run_phases.new.found.levels.items in
-      ok_when c.list_answer.result (λ apart. (reached levels, cut_of_levels levels c.run_phases.new.found.parents.items c.run_phases.ensures.network law.source_in law.sink_in e.found e.len e.top));
+      on_any c.list_answer.result (λ apart. (reached levels, cut_of_levels levels c.run_phases.new.found.parents.items c.run_phases.ensures.network law.source_in law.sink_in e.found e.len e.top));
   answer = c.list_answer.ensures.answer;
   refused = c.list_answer.ensures.refused;
   ticked = c.run_phases.ensures.ticked;
@@ -37,7 +37,7 @@ returns-in_err-run_phases g c = record {
   kept = c.run_phases.ensures.kept;
   cut = IfOk-from_err _ _ c.from_residual.ensures.0;
   answer = IfOk-from_err _ _ c.from_residual.ensures.0;
-  refused = refused_as _ c.from_residual.result _ c.in_err-run_phases.ensures.refused c.from_residual.ensures.1;
+  refused = refused_as _ c.from_residual.result _ c.from_residual.ensures.1 c.in_err-run_phases.ensures.refused;
   ticked = c.run_phases.ensures.ticked;
   paths = c.run_phases.ensures.paths;
 }

@@ -6,7 +6,8 @@ use Rattle.pf_residual.specs.Listings.{ListsFlows, ListsCut}
 use Rattle.pf_residual.specs.Networks.{Network}
 use Rattle.pf_residual.specs.Internal.Levels.{IsSinkCutOff, leaves, reached}
 use Rattle.pf_flow.proofs.CutOfLevels.{cut_of_levels}
-use Rattle.pf_residual.proofs.NamedLemmas.{flows_inside, refused_as}
+use Rattle.pf_base.proofs.Outcomes.{refused_as}
+use Rattle.pf_residual.proofs.NamedLemmas.{flows_inside}
 use Rattle.pf_flow.proofs.FilterLemmas.{cut_of_flows}
 use Rattle.pf_flow.proofs.augmenting.list_answer.Goals as goal
 
@@ -66,11 +67,11 @@ returns-then-not-has_details g c = record {
 pub returns-in_err-flows : goal.returns-in_err-flows
 returns-in_err-flows g c = record {
   answer = IfOk-from_err _ _ c.from_residual.ensures.0;
-  refused = refused_as _ c.from_residual.result _ c.in_err-flows.ensures.refused c.from_residual.ensures.1;
+  refused = refused_as _ c.from_residual.result _ c.from_residual.ensures.1 c.in_err-flows.ensures.refused;
 }
 
 pub returns-in_err-edges : goal.returns-in_err-edges
 returns-in_err-edges g c = record {
   answer = IfOk-from_err _ _ c.from_residual-in_err-edges.ensures.0;
-  refused = refused_as _ c.from_residual-in_err-edges.result _ c.in_err-edges.ensures.refused c.from_residual-in_err-edges.ensures.1;
+  refused = refused_as _ c.from_residual-in_err-edges.result _ c.from_residual-in_err-edges.ensures.1 c.in_err-edges.ensures.refused;
 }

@@ -4,7 +4,7 @@ use Rattle.std.proofs.lemmas.List.{get_or_read, length-replicate}
 use Rattle.std.proofs.lemmas.Result.{IfOk-from_err}
 use Rattle.pf_base.proofs.ListLemmas.{resized}
 use Rattle.pf_residual.proofs.AgreeLemmas.{capacities_kept, capacities_more}
-use Rattle.pf_residual.proofs.NamedLemmas.{refused_as, refused_by}
+use Rattle.pf_base.proofs.Outcomes.{refused_as, refused_by}
 use Rattle.pf_flow.proofs.PhaseLemmas.{ticks_top, ticks_anew, ticks_now}
 use Rattle.pf_flow.proofs.augmenting.run_phases.Goals as goal
 
@@ -76,7 +76,7 @@ returns-in_err-find g c = record {
   network = c.requires.network;
   kept = capacities_kept (g.S.FlowStore.network c.args.store.now);
   cut_off = IfOk-from_err _ _ c.from_residual-in_err-find.ensures.0;
-  refused = refused_as _ c.from_residual-in_err-find.result _ c.in_err-find.ensures.refused c.from_residual-in_err-find.ensures.1;
+  refused = refused_as _ c.from_residual-in_err-find.result _ c.from_residual-in_err-find.ensures.1 c.in_err-find.ensures.refused;
   ticked = itself _;
   paths = no_less _ _;
 }
@@ -86,7 +86,7 @@ returns-in_err-resize g c = record {
   network = c.requires.network;
   kept = capacities_kept (g.S.FlowStore.network c.args.store.now);
   cut_off = IfOk-from_err _ _ c.from_residual.ensures.0;
-  refused = refused_by _ _ c.from_residual.result (λ e h. h) c.from_residual.ensures.1;
+  refused = refused_by _ c.from_residual.result c.from_residual.ensures.1;
   ticked = itself _;
   paths = no_less _ _;
 }
@@ -136,7 +136,7 @@ returns-in_err-find-2 g c = record {
   network = c.augment_phase.ensures.network;
   kept = capacities_more c.phases.invariant.kept c.augment_phase.ensures.augmented.kept;
   cut_off = IfOk-from_err _ _ c.from_residual-in_err-find-2.ensures.0;
-  refused = refused_as _ c.from_residual-in_err-find-2.result _ c.in_err-find-2.ensures.refused c.from_residual-in_err-find-2.ensures.1;
+  refused = refused_as _ c.from_residual-in_err-find-2.result _ c.from_residual-in_err-find-2.ensures.1 c.in_err-find-2.ensures.refused;
   ticked = after _ _ _ c.phases.invariant.ticked c.augment_phase.ensures.augmented.progress;
   paths = ticks_top c.phases.invariant.kept c.args.tally.now c.phases.invariant.bound c.augment_phase.ensures.augmented;
 }

@@ -2,7 +2,7 @@ use Rattle.std.proofs.Common.{inl, subst}
 use Rattle.std.specs.Prelude.{List, IfErr, IfOk, OnOk}
 use Rattle.std.proofs.lemmas.Result.{IfOk-from_err}
 use Rattle.pf_residual.specs.NamedNetworks.{GivenEdges, IsAnsweredFor, IsKnown, IsRefusedFor}
-use Rattle.pf_residual.proofs.NamedLemmas.{refused_as}
+use Rattle.pf_base.proofs.Outcomes.{refused_as}
 use Rattle.pf_flow.proofs.by_names.edmonds_karp.Goals as goal
 
 pub returns : goal.returns
@@ -34,5 +34,5 @@ returns-in_err-names g c = record {
   source = IfOk-from_err _ _ c.from_residual.ensures.0;
   sink = IfOk-from_err _ _ c.from_residual.ensures.0;
   answer = IfOk-from_err _ _ c.from_residual.ensures.0;
-  refused = refused_as _ c.from_residual.result _ (inl c.in_err-names.ensures.refused) c.from_residual.ensures.1;
+  refused = refused_as _ c.from_residual.result _ c.from_residual.ensures.1 (inl c.in_err-names.ensures.refused);
 }

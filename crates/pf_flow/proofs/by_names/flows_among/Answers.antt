@@ -1,6 +1,7 @@
 use Rattle.std.proofs.Common.{inl, inr}
 use Rattle.std.proofs.lemmas.Result.{IfOk-from_err}
-use Rattle.pf_residual.proofs.NamedLemmas.{err_gives, ok_gives, ok_when, refused_as}
+use Rattle.pf_base.proofs.Outcomes.{on_any, refused_as}
+use Rattle.pf_residual.proofs.NamedLemmas.{err_gives, ok_gives}
 use Rattle.pf_flow.proofs.by_names.flows_among.Goals as goal
 
 pub flows_of-requires-clause-ends : goal.flows_of-requires-clause-ends
@@ -20,8 +21,8 @@ flows_of-requires-clause-details g c = c.in_ok-store.ensures.fresh.details
 
 pub returns : goal.returns
 returns g c = record {
-  source = ok_when c.flows_of.result c.in_ok-store.ensures.source;
-  sink = ok_when c.flows_of.result c.in_ok-store.ensures.sink;
+  source = on_any c.flows_of.result c.in_ok-store.ensures.source;
+  sink = on_any c.flows_of.result c.in_ok-store.ensures.sink;
   answer = ok_gives c.flows_of.result c.flows_of.ensures.answer (λ answer p. p c.args.source.now c.args.sink.now c.in_ok-store.ensures.fresh);
   refused = err_gives c.flows_of.result c.flows_of.ensures.refused (λ e why. elim why [ inl r ↦ inl r | inr r ↦ inr (inr (c.in_ok-store.ensures.source, c.in_ok-store.ensures.sink, r)) ]);
 }
@@ -31,5 +32,5 @@ returns-in_err-store g c = record {
   source = IfOk-from_err _ _ c.from_residual.ensures.0;
   sink = IfOk-from_err _ _ c.from_residual.ensures.0;
   answer = IfOk-from_err _ _ c.from_residual.ensures.0;
-  refused = refused_as _ c.from_residual.result _ (elim c.in_err-store.ensures.refused [ inl r ↦ inl r | inr r ↦ inr (inl r) ]) c.from_residual.ensures.1;
+  refused = refused_as _ c.from_residual.result _ c.from_residual.ensures.1 (elim c.in_err-store.ensures.refused [ inl r ↦ inl r | inr r ↦ inr (inl r) ]);
 }

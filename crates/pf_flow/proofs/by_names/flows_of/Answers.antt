@@ -2,7 +2,8 @@ use Rattle.std.proofs.Common.{◌∙◌, inl, sym, subst, length}
 use Rattle.std.proofs.lemmas.Result.{IfOk-from_err}
 use Rattle.pf_residual.specs.Internal.HeldEdges.{RunBelow, IsNamedAnswer}
 use Rattle.pf_residual.proofs.FillLemmas.{network_of_unused}
-use Rattle.pf_residual.proofs.NamedLemmas.{answer_of, cut_inside, err_gives, flows_inside, ok_gives, refused_as}
+use Rattle.pf_base.proofs.Outcomes.{refused_as}
+use Rattle.pf_residual.proofs.NamedLemmas.{answer_of, cut_inside, err_gives, flows_inside, ok_gives}
 use Rattle.pf_flow.proofs.by_names.flows_of.Goals as goal
 
 pub augment-requires : goal.augment-requires
@@ -52,11 +53,11 @@ returns g c = record {
 pub returns-in_err-put_edges : goal.returns-in_err-put_edges
 returns-in_err-put_edges g c = record {
   answer = IfOk-from_err _ _ c.from_residual.ensures.0;
-  refused = refused_as _ c.from_residual.result _ c.in_err-put_edges.ensures.refused c.from_residual.ensures.1;
+  refused = refused_as _ c.from_residual.result _ c.from_residual.ensures.1 c.in_err-put_edges.ensures.refused;
 }
 
 pub returns-in_err-answer : goal.returns-in_err-answer
 returns-in_err-answer g c = record {
   answer = IfOk-from_err _ _ c.from_residual-in_err-answer.ensures.0;
-  refused = refused_as _ c.from_residual-in_err-answer.result _ (inl c.in_err-answer.ensures.refused) c.from_residual-in_err-answer.ensures.1;
+  refused = refused_as _ c.from_residual-in_err-answer.result _ c.from_residual-in_err-answer.ensures.1 (inl c.in_err-answer.ensures.refused);
 }

@@ -3,7 +3,7 @@ use Rattle.std.specs.Prelude.{Some, slice_get}
 use Rattle.std.specs.List.{AllZip}
 use Rattle.std.proofs.lemmas.Result.{IfOk-from_err}
 use Rattle.pf_residual.specs.NamedNetworks.{IsNamed}
-use Rattle.pf_residual.proofs.NamedLemmas.{refused_as}
+use Rattle.pf_base.proofs.Outcomes.{refused_as}
 use Rattle.pf_flow.proofs.by_names.name_answer.Goals as goal
 
 pub name_edges-requires : goal.name_edges-requires
@@ -26,7 +26,7 @@ pub returns-in_err-cut-clause-named : goal.returns-in_err-cut-clause-named
 returns-in_err-cut-clause-named g c = IfOk-from_err _ _ c.from_residual-in_err-cut.ensures.0
 
 pub returns-in_err-flows-clause-refused : goal.returns-in_err-flows-clause-refused
-returns-in_err-flows-clause-refused g c = refused_as _ c.from_residual.result _ c.in_err-flows.ensures.refused c.from_residual.ensures.1
+returns-in_err-flows-clause-refused g c = refused_as _ c.from_residual.result _ c.from_residual.ensures.1 c.in_err-flows.ensures.refused
 
 pub returns-in_err-cut-clause-refused : goal.returns-in_err-cut-clause-refused
-returns-in_err-cut-clause-refused g c = refused_as _ c.from_residual-in_err-cut.result _ c.in_err-cut.ensures.refused c.from_residual-in_err-cut.ensures.1
+returns-in_err-cut-clause-refused g c = refused_as _ c.from_residual-in_err-cut.result _ c.from_residual-in_err-cut.ensures.1 c.in_err-cut.ensures.refused

@@ -4,7 +4,7 @@ use Rattle.std.proofs.lemmas.List.{take_more}
 use Rattle.pf_base.proofs.ListLemmas.{at_place, AllZip-append}
 use Rattle.pf_residual.specs.NamedNetworks.{IsNamed}
 use Rattle.std.proofs.lemmas.Result.{IfOk-from_err}
-use Rattle.pf_residual.proofs.NamedLemmas.{refused_by}
+use Rattle.pf_base.proofs.Outcomes.{refused_by}
 use Rattle.pf_flow.proofs.by_names.name_edges.Goals as goal
 
 pub bounds-names-from : goal.bounds-names-from
@@ -46,13 +46,13 @@ pub returns-in_err-edges-clause-named : goal.returns-in_err-edges-clause-named
 returns-in_err-edges-clause-named g c = IfOk-from_err _ _ c.from_residual.ensures.0
 
 pub returns-in_err-edges-clause-refused : goal.returns-in_err-edges-clause-refused
-returns-in_err-edges-clause-refused g c = refused_by _ _ c.from_residual.result (λ e h. h) c.from_residual.ensures.1
+returns-in_err-edges-clause-refused g c = refused_by _ c.from_residual.result c.from_residual.ensures.1
 
 pub returns-in_err-push-clause-named : goal.returns-in_err-push-clause-named
 returns-in_err-push-clause-named g c = IfOk-from_err _ _ c.from_residual-in_err-push.ensures.0
 
 pub returns-in_err-push-clause-refused : goal.returns-in_err-push-clause-refused
-returns-in_err-push-clause-refused g c = refused_by _ _ c.from_residual-in_err-push.result (λ e h. h) c.from_residual-in_err-push.ensures.1
+returns-in_err-push-clause-refused g c = refused_by _ c.from_residual-in_err-push.result c.from_residual-in_err-push.ensures.1
 
 pub bounds-numbered-edge-index : goal.bounds-numbered-edge-index
 bounds-numbered-edge-index g c = c.numbered-test.true

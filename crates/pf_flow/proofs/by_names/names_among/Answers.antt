@@ -3,7 +3,7 @@ use Rattle.std.proofs.lemmas.List.{take_more}
 use Rattle.std.proofs.lemmas.List.Sums.{fold-append}
 use Rattle.indexmap.specs.IndexSet.{insert_key}
 use Rattle.pf_residual.specs.NamedNetworks.{names_of}
-use Rattle.pf_residual.proofs.NamedLemmas.{refused_by}
+use Rattle.pf_base.proofs.Outcomes.{refused_by}
 use Rattle.std.proofs.lemmas.Result.{IfOk-from_err}
 use Rattle.pf_flow.proofs.by_names.names_among.Goals as goal
 
@@ -23,7 +23,7 @@ pub returns-in_err-insert-clause-names : goal.returns-in_err-insert-clause-names
 returns-in_err-insert-clause-names g c = IfOk-from_err _ _ c.from_residual.ensures.0
 
 pub returns-in_err-insert-clause-refused : goal.returns-in_err-insert-clause-refused
-returns-in_err-insert-clause-refused g c = refused_by _ _ c.from_residual.result (λ e h. h) c.from_residual.ensures.1
+returns-in_err-insert-clause-refused g c = refused_by _ c.from_residual.result c.from_residual.ensures.1
 
 pub vertices-init : goal.vertices-init
 vertices-init g c = c.new-names.ensures.empty

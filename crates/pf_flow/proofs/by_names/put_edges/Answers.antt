@@ -2,7 +2,8 @@ use Rattle.std.proofs.Common.{◌∙◌, inl, inr, sym, ap}
 use Rattle.std.proofs.lemmas.Result.{IfOk-from_err}
 use Rattle.pf_residual.proofs.AgreeLemmas.{capacities_kept, shape_more}
 use Rattle.pf_residual.proofs.NetworkLemmas.{none_sum}
-use Rattle.pf_residual.proofs.NamedLemmas.{refused_as, yields_more}
+use Rattle.pf_base.proofs.Outcomes.{refused_as}
+use Rattle.pf_residual.proofs.NamedLemmas.{yields_more}
 use Rattle.pf_flow.proofs.by_names.put_edges.Goals as goal
 
 pub edges-init : goal.edges-init
@@ -50,7 +51,7 @@ pub returns-in_err-sum : goal.returns-in_err-sum
 returns-in_err-sum g c = record {
   refused =
       let i = c.edges.invariant in
-      refused_as _ c.from_residual.result _ (elim c.in_err-sum.ensures.refused [
+      refused_as _ c.from_residual.result _ c.from_residual.ensures.1 (elim c.in_err-sum.ensures.refused [
         | inl r ↦ inl r
         | inr r ↦ inr (
           c.into_iter-edge-iterator.result,
@@ -61,7 +62,7 @@ returns-in_err-sum g c = record {
           yields_more g.IC.IntoIter.Iterator.next_gives _ c.edges.yielded c.edges.edge-iterator c.next.new.self c.in-Some.edge c.edges.yielded_by c.in-Some.ensures.steps,
           r c.edges.yielded i.held,
         )
-      ]) c.from_residual.ensures.1;
+      ]);
   unused = IfOk-from_err _ _ c.from_residual.ensures.0;
   shape = IfOk-from_err _ _ c.from_residual.ensures.0;
   held = IfOk-from_err _ _ c.from_residual.ensures.0;

@@ -6,7 +6,7 @@ use Rattle.pf_residual.specs.Capacities.{IsChangeRefused}
 use Rattle.pf_residual.specs.Networks.{Network, Agrees, KeepsCapacities}
 use Rattle.pf_residual.proofs.AgreeLemmas.{agrees_itself, network_agrees, capacities_agrees, capacities_more}
 use Rattle.pf_residual.proofs.ChangeLemmas.{agrees_more, changed_after, same_sum}
-use Rattle.pf_residual.proofs.NamedLemmas.{refused_as}
+use Rattle.pf_base.proofs.Outcomes.{refused_as}
 use Rattle.pf_flow.specs.Internal.Changes.{IsPlanned, IsLoweredTo, SetsCapacity, IsChanged}
 use Rattle.pf_flow.proofs.changes.change_capacity.Goals as goal
 
@@ -75,7 +75,7 @@ returns-in_err-old g c = record {
   network = c.requires.network;
   changed = IfOk-from_err _ _ c.from_residual.ensures.0;
   unchanged = MatchResult-from_err _ _ _ c.from_residual.ensures.0 (λ e. agrees_itself (g.S.FlowStore.network c.args.store.now));
-  refused = refused_as _ c.from_residual.result _ c.in_err-old.ensures.refused c.from_residual.ensures.1;
+  refused = refused_as _ c.from_residual.result _ c.from_residual.ensures.1 c.in_err-old.ensures.refused;
 }
 
 pub returns-in_err-make_room : goal.returns-in_err-make_room
@@ -85,7 +85,7 @@ returns-in_err-make_room g c = record {
   unchanged = MatchResult-from_err _ _ _ c.from_residual-in_err-make_room.ensures.0 (λ e. c.make_room.ensures.same);
   refused =
       let why : IsChangeRefused g.C.Number.fits (g.S.FlowStore.network c.args.store.now) c.args.from c.args.to (g.C.Number.value c.args.capacity) c.in_err-make_room.field-0.0 = inl c.in_err-make_room.ensures.refused in
-      refused_as _ c.from_residual-in_err-make_room.result _ why c.from_residual-in_err-make_room.ensures.1;
+      refused_as _ c.from_residual-in_err-make_room.result _ c.from_residual-in_err-make_room.ensures.1 why;
 }
 
 pub returns-in_err-lower_to : goal.returns-in_err-lower_to
@@ -95,5 +95,5 @@ returns-in_err-lower_to g c = record {
   unchanged = MatchResult-from_err _ _ _ c.from_residual-in_err-lower_to.ensures.0 (λ e. agrees_more c.make_room.ensures.same c.in_err-lower_to.ensures.unchanged);
   refused =
       let why : IsChangeRefused g.C.Number.fits (g.S.FlowStore.network c.args.store.now) c.args.from c.args.to (g.C.Number.value c.args.capacity) c.in_err-lower_to.field-0.0 = inl c.in_err-lower_to.ensures.refused in
-      refused_as _ c.from_residual-in_err-lower_to.result _ why c.from_residual-in_err-lower_to.ensures.1;
+      refused_as _ c.from_residual-in_err-lower_to.result _ c.from_residual-in_err-lower_to.ensures.1 why;
 }

@@ -5,7 +5,7 @@ use Rattle.std.proofs.lemmas.List.Elements.{filter_more}
 use Rattle.std.proofs.lemmas.List.{append-nil}
 use Rattle.std.proofs.lemmas.Result.{IfOk-from_err}
 use Rattle.pf_residual.specs.Internal.Levels.{leaves}
-use Rattle.pf_residual.proofs.NamedLemmas.{refused_by}
+use Rattle.pf_base.proofs.Outcomes.{refused_by}
 use Rattle.pf_flow.proofs.cuts.list_cut.Goals as goal
 use Rattle.pf_flow.proofs.cuts.list_cut.Goals.{then-leaves_reached+in_ok-push, else-leaves_reached}
 
@@ -43,4 +43,4 @@ pub returns-in_err-push-clause-edges : goal.returns-in_err-push-clause-edges
 returns-in_err-push-clause-edges g c = IfOk-from_err _ _ c.from_residual.ensures.0
 
 pub returns-in_err-push-clause-refused : goal.returns-in_err-push-clause-refused
-returns-in_err-push-clause-refused g c = refused_by _ _ c.from_residual.result (λ e h. h) c.from_residual.ensures.1
+returns-in_err-push-clause-refused g c = refused_by _ c.from_residual.result c.from_residual.ensures.1

@@ -4,7 +4,7 @@ use Rattle.pf_residual.specs.Listings.{ListsNumbers}
 use Rattle.pf_residual.specs.DenseStores.{table_number}
 use Rattle.pf_residual.proofs.DenseLemmas.{number_inside}
 use Rattle.pf_residual.proofs.StoreListings.{numbers_none, numbers_more, numbers_same}
-use Rattle.pf_residual.proofs.NamedLemmas.{refused_by}
+use Rattle.pf_base.proofs.Outcomes.{refused_by}
 use Rattle.std.proofs.lemmas.Result.{IfOk-from_err}
 use Rattle.pf_flow.proofs.dense_capacity.numbers_above.Goals.{then-is_below+in_ok-push, else-is_below}
 use Rattle.pf_flow.proofs.dense_capacity.numbers_above.Goals as goal
@@ -37,7 +37,7 @@ pub returns-in_err-push-clause-listed : goal.returns-in_err-push-clause-listed
 returns-in_err-push-clause-listed g c = IfOk-from_err _ _ c.from_residual.ensures.0
 
 pub returns-in_err-push-clause-refused : goal.returns-in_err-push-clause-refused
-returns-in_err-push-clause-refused g c = refused_by _ _ c.from_residual.result (λ e h. h) c.from_residual.ensures.1
+returns-in_err-push-clause-refused g c = refused_by _ c.from_residual.result c.from_residual.ensures.1
 
 pub loop-to-init : goal.loop-to-init
 loop-to-init g c =

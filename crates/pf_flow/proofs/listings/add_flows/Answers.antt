@@ -2,7 +2,7 @@ use Rattle.std.proofs.Common.{◌+◌, arith, get_or, sym, subst}
 use Rattle.std.proofs.lemmas.Option.{slice_get-get_or}
 use Rattle.pf_residual.specs.Internal.Prefixes.{ListsFlowsTo}
 use Rattle.pf_residual.proofs.ChangeListings.{flows_begin, flows_more, flows_end}
-use Rattle.pf_residual.proofs.NamedLemmas.{refused_by}
+use Rattle.pf_base.proofs.Outcomes.{refused_by}
 use Rattle.std.proofs.lemmas.Result.{IfOk-from_err}
 use Rattle.pf_flow.proofs.listings.add_flows.Goals as goal
 
@@ -28,4 +28,4 @@ pub returns-in_err-push-clause-listed : goal.returns-in_err-push-clause-listed
 returns-in_err-push-clause-listed g c = IfOk-from_err _ _ c.from_residual.ensures.0
 
 pub returns-in_err-push-clause-refused : goal.returns-in_err-push-clause-refused
-returns-in_err-push-clause-refused g c = refused_by _ _ c.from_residual.result (λ e h. h) c.from_residual.ensures.1
+returns-in_err-push-clause-refused g c = refused_by _ c.from_residual.result c.from_residual.ensures.1

@@ -4,7 +4,7 @@ use Rattle.std.specs.Prelude.{◌<ℤ◌, pos}
 use Rattle.pf_residual.specs.Listings.{ListsVertices}
 use Rattle.pf_residual.specs.Internal.Prefixes.{ListsFlowsBefore}
 use Rattle.pf_residual.proofs.ChangeListings.{lists_none, lists_same}
-use Rattle.pf_residual.proofs.NamedLemmas.{refused_as}
+use Rattle.pf_base.proofs.Outcomes.{refused_as}
 use Rattle.pf_flow.proofs.listings.list_flows.Goals as goal
 
 pub rows-init : goal.rows-init
@@ -39,10 +39,10 @@ pub returns-in_err-ends-clause-listed : goal.returns-in_err-ends-clause-listed
 returns-in_err-ends-clause-listed g c = IfOk-from_err _ _ c.from_residual.ensures.0
 
 pub returns-in_err-ends-clause-refused : goal.returns-in_err-ends-clause-refused
-returns-in_err-ends-clause-refused g c = refused_as _ c.from_residual.result _ c.in_err-ends.ensures.refused c.from_residual.ensures.1
+returns-in_err-ends-clause-refused g c = refused_as _ c.from_residual.result _ c.from_residual.ensures.1 c.in_err-ends.ensures.refused
 
 pub returns-in_err-add_flows-clause-listed : goal.returns-in_err-add_flows-clause-listed
 returns-in_err-add_flows-clause-listed g c = IfOk-from_err _ _ c.from_residual-in_err-add_flows.ensures.0
 
 pub returns-in_err-add_flows-clause-refused : goal.returns-in_err-add_flows-clause-refused
-returns-in_err-add_flows-clause-refused g c = refused_as _ c.from_residual-in_err-add_flows.result _ c.in_err-add_flows.ensures.refused c.from_residual-in_err-add_flows.ensures.1
+returns-in_err-add_flows-clause-refused g c = refused_as _ c.from_residual-in_err-add_flows.result _ c.from_residual-in_err-add_flows.ensures.1 c.in_err-add_flows.ensures.refused

@@ -6,7 +6,7 @@ use Rattle.pf_residual.specs.Capacities.{IsChangeRefused}
 use Rattle.pf_residual.specs.Networks.{Agrees, with_residual}
 use Rattle.pf_residual.proofs.SumLemmas.{pair_sum_has}
 use Rattle.pf_residual.proofs.FillLemmas.{unused_residual, residual_agrees, exchanged_sum, put_changed, put_sum, put_unused}
-use Rattle.pf_residual.proofs.NamedLemmas.{refused_as}
+use Rattle.pf_base.proofs.Outcomes.{refused_as}
 use Rattle.pf_flow.proofs.makers.put_capacity.Goals as goal
 
 at_most : (a b c d : ℤ) → c ≤ℤ d → a ≡ c → b ≡ d → a ≤ℤ b
@@ -97,7 +97,7 @@ returns-in_err-make_room g c = record {
   changed = IfOk-from_err _ _ c.from_residual.ensures.0;
   refused =
       let why : IsChangeRefused g.C.Number.fits (g.S.FlowStore.network c.args.store.now) c.args.from c.args.to (g.C.Number.value c.args.capacity) c.in_err-make_room.field-0.0 = inl c.in_err-make_room.ensures.refused in
-      refused_as _ c.from_residual.result _ why c.from_residual.ensures.1;
+      refused_as _ c.from_residual.result _ c.from_residual.ensures.1 why;
 }
 
 pub returns : goal.returns

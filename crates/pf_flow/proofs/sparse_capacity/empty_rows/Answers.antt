@@ -3,7 +3,7 @@ use Rattle.std.proofs.lemmas.List.{length_push}
 use Rattle.pf_residual.specs.Internal.SparseTables.{AreEmpty}
 use Rattle.pf_residual.proofs.SparseStoreLemmas.{empty_more}
 use Rattle.std.proofs.lemmas.Result.{IfOk-from_err}
-use Rattle.pf_residual.proofs.NamedLemmas.{refused_by}
+use Rattle.pf_base.proofs.Outcomes.{refused_by}
 use Rattle.pf_flow.proofs.sparse_capacity.empty_rows.Goals as goal
 
 pub loop-init : goal.loop-init
@@ -29,12 +29,12 @@ pub returns-in_err-rows : goal.returns-in_err-rows
 returns-in_err-rows g c = record {
   len = IfOk-from_err _ _ c.from_residual.ensures.0;
   empty = IfOk-from_err _ _ c.from_residual.ensures.0;
-  refused = refused_by _ _ c.from_residual.result (λ e h. h) c.from_residual.ensures.1;
+  refused = refused_by _ c.from_residual.result c.from_residual.ensures.1;
 }
 
 pub returns-in_err-push : goal.returns-in_err-push
 returns-in_err-push g c = record {
   len = IfOk-from_err _ _ c.from_residual-in_err-push.ensures.0;
   empty = IfOk-from_err _ _ c.from_residual-in_err-push.ensures.0;
-  refused = refused_by _ _ c.from_residual-in_err-push.result (λ e h. h) c.from_residual-in_err-push.ensures.1;
+  refused = refused_by _ c.from_residual-in_err-push.result c.from_residual-in_err-push.ensures.1;
 }

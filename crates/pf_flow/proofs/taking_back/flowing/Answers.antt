@@ -4,7 +4,7 @@ use Rattle.pf_residual.specs.declared.cancelling.arcs.Arc.{Arc}
 use Rattle.pf_residual.specs.Internal.Settled.{arc_of, HoldFlows}
 use Rattle.pf_flow.proofs.TakeBackLemmas.{hold_flows}
 use Rattle.std.proofs.lemmas.Result.{IfOk-from_err}
-use Rattle.pf_residual.proofs.NamedLemmas.{refused_as, refused_by}
+use Rattle.pf_base.proofs.Outcomes.{refused_as, refused_by}
 use Rattle.pf_flow.proofs.taking_back.flowing.Goals as goal
 
 pub returns-clause-flows : goal.returns-clause-flows
@@ -47,16 +47,16 @@ pub returns-in_err-flows-clause-flows : goal.returns-in_err-flows-clause-flows
 returns-in_err-flows-clause-flows g c = IfOk-from_err _ _ c.from_residual.ensures.0
 
 pub returns-in_err-flows-clause-refused : goal.returns-in_err-flows-clause-refused
-returns-in_err-flows-clause-refused g c = refused_as _ c.from_residual.result _ c.in_err-flows.ensures.refused c.from_residual.ensures.1
+returns-in_err-flows-clause-refused g c = refused_as _ c.from_residual.result _ c.from_residual.ensures.1 c.in_err-flows.ensures.refused
 
 pub returns-in_err-push-clause-flows : goal.returns-in_err-push-clause-flows
 returns-in_err-push-clause-flows g c = IfOk-from_err _ _ c.from_residual-in_err-push.ensures.0
 
 pub returns-in_err-push-clause-refused : goal.returns-in_err-push-clause-refused
-returns-in_err-push-clause-refused g c = refused_by _ _ c.from_residual-in_err-push.result (λ e h. h) c.from_residual-in_err-push.ensures.1
+returns-in_err-push-clause-refused g c = refused_by _ c.from_residual-in_err-push.result c.from_residual-in_err-push.ensures.1
 
 pub returns-in_err-push-2-clause-flows : goal.returns-in_err-push-2-clause-flows
 returns-in_err-push-2-clause-flows g c = IfOk-from_err _ _ c.from_residual-in_err-push-2.ensures.0
 
 pub returns-in_err-push-2-clause-refused : goal.returns-in_err-push-2-clause-refused
-returns-in_err-push-2-clause-refused g c = refused_by _ _ c.from_residual-in_err-push-2.result (λ e h. h) c.from_residual-in_err-push-2.ensures.1
+returns-in_err-push-2-clause-refused g c = refused_by _ c.from_residual-in_err-push-2.result c.from_residual-in_err-push-2.ensures.1

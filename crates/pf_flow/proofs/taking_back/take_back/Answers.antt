@@ -3,12 +3,11 @@ use Rattle.std.specs.Prelude.{slice_get, ◌≤ℤ◌, ◌<ℤ◌}
 use Rattle.std.proofs.lemmas.Int.{ints}
 use Rattle.std.proofs.lemmas.Option.{slice_get_within}
 use Rattle.std.proofs.lemmas.Result.{IfOk-from_err, MatchResult-from_err}
-use Rattle.pf_base.proofs.Outcomes.{on_ok}
 use Rattle.pf_base.proofs.ListLemmas.{get-append}
 use Rattle.pf_residual.specs.declared.cancelling.arcs.Arc.{Arc}
 use Rattle.pf_residual.specs.Networks.{Network}
 use Rattle.pf_residual.proofs.AgreeLemmas.{agrees_itself}
-use Rattle.pf_residual.proofs.NamedLemmas.{refused_as, refused_by}
+use Rattle.pf_base.proofs.Outcomes.{on_ok, refused_as, refused_by}
 use Rattle.pf_flow.specs.Internal.Changes.{IsTakenBack}
 use Rattle.pf_flow.proofs.TakeBackLemmas.{plan_of, amount_there}
 use Rattle.pf_flow.proofs.taking_back.take_back.Goals as goal
@@ -110,7 +109,7 @@ returns-in_err-ends g c = record {
   network = c.requires.network;
   taken = IfOk-from_err _ _ c.from_residual.ensures.0;
   unchanged = MatchResult-from_err _ _ _ c.from_residual.ensures.0 (λ e. agrees_itself (g.S.FlowStore.network c.args.store.now));
-  refused = refused_as _ c.from_residual.result _ c.in_err-ends.ensures.refused c.from_residual.ensures.1;
+  refused = refused_as _ c.from_residual.result _ c.from_residual.ensures.1 c.in_err-ends.ensures.refused;
 }
 
 pub returns-in_err-push : goal.returns-in_err-push
@@ -118,7 +117,7 @@ returns-in_err-push g c = record {
   network = c.requires.network;
   taken = IfOk-from_err _ _ c.from_residual-in_err-push.ensures.0;
   unchanged = MatchResult-from_err _ _ _ c.from_residual-in_err-push.ensures.0 (λ e. agrees_itself (g.S.FlowStore.network c.args.store.now));
-  refused = refused_by _ _ c.from_residual-in_err-push.result (λ e h. h) c.from_residual-in_err-push.ensures.1;
+  refused = refused_by _ c.from_residual-in_err-push.result c.from_residual-in_err-push.ensures.1;
 }
 
 pub returns-in_err-push-2 : goal.returns-in_err-push-2
@@ -126,5 +125,5 @@ returns-in_err-push-2 g c = record {
   network = c.requires.network;
   taken = IfOk-from_err _ _ c.from_residual-in_err-push-2.ensures.0;
   unchanged = MatchResult-from_err _ _ _ c.from_residual-in_err-push-2.ensures.0 (λ e. agrees_itself (g.S.FlowStore.network c.args.store.now));
-  refused = refused_by _ _ c.from_residual-in_err-push-2.result (λ e h. h) c.from_residual-in_err-push-2.ensures.1;
+  refused = refused_by _ c.from_residual-in_err-push-2.result c.from_residual-in_err-push-2.ensures.1;
 }

@@ -6,7 +6,7 @@ use Rattle.pf_base.proofs.ListLemmas.{at_place, get_take}
 use Rattle.pf_residual.specs.Internal.Cancelling.{AreInside}
 use Rattle.pf_residual.specs.Internal.Settled.{AreFlowing, IsSettled, AreApart}
 use Rattle.pf_residual.proofs.AgreeLemmas.{agrees_itself, capacities_agrees, capacities_more, network_agrees}
-use Rattle.pf_residual.proofs.NamedLemmas.{refused_as}
+use Rattle.pf_base.proofs.Outcomes.{refused_as}
 use Rattle.pf_residual.proofs.NetworkLemmas.{balanced_of}
 use Rattle.pf_residual.proofs.SettledLemmas.{settled_here}
 use Rattle.pf_flow.proofs.TakeBackLemmas.{plan_flowing, plan_network}
@@ -122,5 +122,5 @@ returns-in_err-cancel g c = record {
   network = c.requires.network;
   taken = IfOk-from_err _ _ c.from_residual.ensures.0;
   unchanged = MatchResult-from_err _ _ _ c.from_residual.ensures.0 (λ e. agrees_itself (g.S.FlowStore.network c.args.store.now));
-  refused = refused_as _ c.from_residual.result _ c.in_err-cancel.ensures.refused c.from_residual.ensures.1;
+  refused = refused_as _ c.from_residual.result _ c.from_residual.ensures.1 c.in_err-cancel.ensures.refused;
 }

@@ -3,7 +3,7 @@ use Rattle.std.specs.Prelude.{◌≤ℤ◌, ◌<ℤ◌, ◌+ℤ◌, ◌-ℤ◌, 
 use Rattle.std.proofs.lemmas.Int.{ints}
 use Rattle.std.proofs.lemmas.Result.{IfOk-from_err}
 use Rattle.pf_residual.specs.Internal.Cancelling.{Has, AreInside, IsOnce, IsTakenOff, IsLowered, gained, net_of}
-use Rattle.pf_residual.proofs.NamedLemmas.{refused_as}
+use Rattle.pf_base.proofs.Outcomes.{refused_as}
 use Rattle.pf_residual.proofs.CycleLemmas.{lowered_amounts, lowered_none, lowered_more, circulation_more, cycle_above, through_above}
 use Rattle.pf_residual.proofs.cancelling.cancel.Goals as goal
 
@@ -148,12 +148,12 @@ pub returns-in_err-rows : goal.returns-in_err-rows
 returns-in_err-rows g c = record {
   balanced = IfOk-from_err _ _ c.from_residual.ensures.0;
   lowered = IfOk-from_err _ _ c.from_residual.ensures.0;
-  refused = refused_as _ c.from_residual.result _ c.in_err-rows.ensures.refused c.from_residual.ensures.1;
+  refused = refused_as _ c.from_residual.result _ c.from_residual.ensures.1 c.in_err-rows.ensures.refused;
 }
 
 pub returns-in_err-cycle : goal.returns-in_err-cycle
 returns-in_err-cycle g c = record {
   balanced = IfOk-from_err _ _ c.from_residual-in_err-cycle.ensures.0;
   lowered = IfOk-from_err _ _ c.from_residual-in_err-cycle.ensures.0;
-  refused = refused_as _ c.from_residual-in_err-cycle.result _ c.in_err-cycle.ensures.refused c.from_residual-in_err-cycle.ensures.1;
+  refused = refused_as _ c.from_residual-in_err-cycle.result _ c.from_residual-in_err-cycle.ensures.1 c.in_err-cycle.ensures.refused;
 }

@@ -8,7 +8,7 @@ use Rattle.pf_residual.proofs.ChangeSums.{residual_sum}
 use Rattle.pf_residual.proofs.NetworkLemmas.{balanced_of}
 use Rattle.pf_residual.proofs.PartSums.{part_begin, part_next, part_end, part_sum_fits}
 use Rattle.std.proofs.lemmas.Result.{IfOk-from_err}
-use Rattle.pf_residual.proofs.NamedLemmas.{refused_as}
+use Rattle.pf_base.proofs.Outcomes.{refused_as}
 use Rattle.pf_residual.proofs.listed_sums.sum_by_lists.Goals as goal
 
 pub ends-init : goal.ends-init
@@ -62,4 +62,4 @@ pub returns-in_err-ends-clause-sum : goal.returns-in_err-ends-clause-sum
 returns-in_err-ends-clause-sum g c = IfOk-from_err _ _ c.from_residual.ensures.0
 
 pub returns-in_err-ends-clause-refused : goal.returns-in_err-ends-clause-refused
-returns-in_err-ends-clause-refused g c = refused_as _ c.from_residual.result _ c.in_err-ends.ensures.refused c.from_residual.ensures.1
+returns-in_err-ends-clause-refused g c = refused_as _ c.from_residual.result _ c.from_residual.ensures.1 c.in_err-ends.ensures.refused

@@ -4,7 +4,7 @@ use Rattle.pf_residual.specs.Listings.{ListsVertices}
 use Rattle.pf_residual.specs.SparseRows.{amount_to}
 use Rattle.pf_residual.specs.Internal.RowChanges.{end_after}
 use Rattle.pf_residual.proofs.SparseListings.{vertices_listed, vertices_skipped, vertices_done}
-use Rattle.pf_residual.proofs.NamedLemmas.{refused_by}
+use Rattle.pf_base.proofs.Outcomes.{refused_by}
 use Rattle.std.proofs.lemmas.Result.{IfOk-from_err}
 use Rattle.pf_residual.proofs.sparse_row.flow_ends.Goals.{then-is_below+in_ok-push, else-is_below}
 use Rattle.pf_residual.proofs.sparse_row.flow_ends.Goals as goal
@@ -33,4 +33,4 @@ pub returns-in_err-push-clause-listed : goal.returns-in_err-push-clause-listed
 returns-in_err-push-clause-listed g c = IfOk-from_err _ _ c.from_residual.ensures.0
 
 pub returns-in_err-push-clause-refused : goal.returns-in_err-push-clause-refused
-returns-in_err-push-clause-refused g c = refused_by _ _ c.from_residual.result (λ e h. h) c.from_residual.ensures.1
+returns-in_err-push-clause-refused g c = refused_by _ c.from_residual.result c.from_residual.ensures.1

@@ -7,7 +7,7 @@ use Rattle.pf_residual.specs.Internal.DenseTables.{IsSquare, IsZeroTable}
 use Rattle.pf_residual.specs.Networks.{HasCapacities, IsFresh}
 use Rattle.pf_residual.proofs.DenseLemmas.{zero_tables, zero_fresh}
 use Rattle.pf_residual.proofs.FillLemmas.{network_of_unused}
-use Rattle.pf_residual.proofs.NamedLemmas.{refused_as}
+use Rattle.pf_base.proofs.Outcomes.{refused_as}
 use Rattle.pf_residual.proofs.OppositeLemmas.{opposite_none}
 use Rattle.pf_residual.proofs.SquareSums.{taken_capacities, taken_sum, taken_unused}
 use Rattle.pf_flow.proofs.dense_capacity.DenseCapacityEdmondsKarp.from_matrix.Goals as goal
@@ -71,17 +71,17 @@ pub returns-in_err-residuals-clause-refused : goal.returns-in_err-residuals-clau
 returns-in_err-residuals-clause-refused g c =
     let table = g.M.IntoMatrix.table c.args.capacities in
     let why : AreRefused g.C.Number.fits table.rows (square_table g.C.Number.value table.rows table.values) c.in_err-residuals.field-0.0 = inl c.in_err-residuals.ensures.refused in
-    refused_as _ c.from_residual.result _ why c.from_residual.ensures.1
+    refused_as _ c.from_residual.result _ c.from_residual.ensures.1 why
 
 pub returns-in_err-sum-clause-refused : goal.returns-in_err-sum-clause-refused
 returns-in_err-sum-clause-refused g c =
     let table = g.M.IntoMatrix.table c.args.capacities in
     let why : AreRefused g.C.Number.fits table.rows (square_table g.C.Number.value table.rows table.values) c.in_err-sum.field-0.0 =
     subst (λ (t : Table g.row.C.Denot). AreRefused g.C.Number.fits t.rows (square_table g.C.Number.value t.rows t.values) c.in_err-sum.field-0.0) c.in_ok-residuals.ensures.matrix c.in_err-sum.ensures.refused in
-    refused_as _ c.from_residual-in_err-sum.result _ why c.from_residual-in_err-sum.ensures.1
+    refused_as _ c.from_residual-in_err-sum.result _ c.from_residual-in_err-sum.ensures.1 why
 
 pub returns-in_err-flows-clause-refused : goal.returns-in_err-flows-clause-refused
 returns-in_err-flows-clause-refused g c =
     let table = g.M.IntoMatrix.table c.args.capacities in
     let why : AreRefused g.C.Number.fits table.rows (square_table g.C.Number.value table.rows table.values) c.in_err-flows.field-0.0 = inl c.in_err-flows.ensures.refused in
-    refused_as _ c.from_residual-in_err-flows.result _ why c.from_residual-in_err-flows.ensures.1
+    refused_as _ c.from_residual-in_err-flows.result _ c.from_residual-in_err-flows.ensures.1 why

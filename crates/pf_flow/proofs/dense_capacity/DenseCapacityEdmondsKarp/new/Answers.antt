@@ -5,7 +5,7 @@ use Rattle.pf_residual.proofs.DenseLemmas.{zero_tables, zero_fresh, zero_capacit
 use Rattle.pf_residual.proofs.OppositeLemmas.{opposite_none}
 use Rattle.std.proofs.lemmas.Option.{none-some}
 use Rattle.std.proofs.lemmas.Result.{IfOk-from_err}
-use Rattle.pf_residual.proofs.NamedLemmas.{refused_as}
+use Rattle.pf_base.proofs.Outcomes.{refused_as}
 use Rattle.pf_flow.proofs.dense_capacity.DenseCapacityEdmondsKarp.new.Goals as goal
 
 pub returns-clause-network : goal.returns-clause-network
@@ -41,7 +41,7 @@ returns-in_err-residuals g c = record {
   fresh = IfOk-from_err _ _ c.from_residual.ensures.0;
   capacities = IfOk-from_err _ _ c.from_residual.ensures.0;
   network = IfOk-from_err _ _ c.from_residual.ensures.0;
-  refused = refused_as _ c.from_residual.result _ c.in_err-residuals.ensures.refused c.from_residual.ensures.1;
+  refused = refused_as _ c.from_residual.result _ c.from_residual.ensures.1 c.in_err-residuals.ensures.refused;
 }
 
 pub returns-in_err-flows : goal.returns-in_err-flows
@@ -49,7 +49,7 @@ returns-in_err-flows g c = record {
   fresh = IfOk-from_err _ _ c.from_residual-in_err-flows.ensures.0;
   capacities = IfOk-from_err _ _ c.from_residual-in_err-flows.ensures.0;
   network = IfOk-from_err _ _ c.from_residual-in_err-flows.ensures.0;
-  refused = refused_as _ c.from_residual-in_err-flows.result _ c.in_err-flows.ensures.refused c.from_residual-in_err-flows.ensures.1;
+  refused = refused_as _ c.from_residual-in_err-flows.result _ c.from_residual-in_err-flows.ensures.1 c.in_err-flows.ensures.refused;
 }
 
 pub invariant_of-result : goal.invariant_of-result

@@ -3,7 +3,7 @@ use Rattle.pf_matrix.specs.Tables.{Table}
 use Rattle.pf_residual.specs.Capacities.{square_table, AreRefused}
 use Rattle.pf_residual.specs.Networks.{HasCapacities, IsFresh}
 use Rattle.pf_residual.proofs.FillLemmas.{fresh_kept, network_of_unused, unused_of_fresh}
-use Rattle.pf_residual.proofs.NamedLemmas.{refused_as}
+use Rattle.pf_base.proofs.Outcomes.{refused_as}
 use Rattle.pf_flow.proofs.edmonds_karp.EdmondsKarp.from_matrix.Goals as goal
 
 pub new-requires-clause-source : goal.new-requires-clause-source
@@ -52,13 +52,13 @@ pub returns-in_err-capacities-clause-refused : goal.returns-in_err-capacities-cl
 returns-in_err-capacities-clause-refused g c =
     let table = g.M.IntoMatrix.table c.args.capacities in
     let why : AreRefused g.C.Number.fits table.rows (square_table g.C.Number.value table.rows table.values) c.in_err-capacities.field-0.0 = inl c.in_err-capacities.ensures.refused in
-    refused_as _ c.from_residual.result _ why c.from_residual.ensures.1
+    refused_as _ c.from_residual.result _ c.from_residual.ensures.1 why
 
 pub returns-in_err-store-clause-refused : goal.returns-in_err-store-clause-refused
 returns-in_err-store-clause-refused g c =
     let table = g.M.IntoMatrix.table c.args.capacities in
     let why : AreRefused g.C.Number.fits table.rows (square_table g.C.Number.value table.rows table.values) c.in_err-store.field-0.0 = inl c.in_err-store.ensures.refused in
-    refused_as _ c.from_residual-in_err-store.result _ why c.from_residual-in_err-store.ensures.1
+    refused_as _ c.from_residual-in_err-store.result _ c.from_residual-in_err-store.ensures.1 why
 
 pub returns-in_err-fill-clause-refused : goal.returns-in_err-fill-clause-refused
 returns-in_err-fill-clause-refused g c =
@@ -71,4 +71,4 @@ returns-in_err-fill-clause-refused g c =
     let why : AreRefused fits table.rows (square_table value table.rows table.values) e = subst (λ (t : Table g.row.C.Denot). AreRefused fits t.rows (square_table value t.rows t.values) e) c.in_ok-capacities.ensures.matrix
     (subst (λ (n : ℕ). AreRefused fits n (square_table value n c.in_ok-capacities.capacities.values) e) size
     (subst (λ (xs : List g.row.C.Denot). AreRefused fits N.vertices (square_table value N.vertices xs) e) c.as_slice.ensures.values c.in_err-fill.ensures.refused)) in
-    refused_as _ c.from_residual-in_err-fill.result _ why c.from_residual-in_err-fill.ensures.1
+    refused_as _ c.from_residual-in_err-fill.result _ c.from_residual-in_err-fill.ensures.1 why

@@ -1,6 +1,6 @@
 use Rattle.std.proofs.Common.{◌≤◌, length, arith}
 use Rattle.std.proofs.lemmas.Result.{IfOk-from_err}
-use Rattle.pf_residual.proofs.NamedLemmas.{refused_as}
+use Rattle.pf_base.proofs.Outcomes.{refused_as}
 use Rattle.pf_residual.proofs.LevelLemmas.{levels_of}
 use Rattle.pf_flow.proofs.levels.Levels.find.Goals as goal
 
@@ -36,11 +36,11 @@ returns g c = record {
 pub returns-in_err-begin : goal.returns-in_err-begin
 returns-in_err-begin g c = record {
   found = IfOk-from_err _ _ c.from_residual.ensures.0;
-  refused = refused_as _ c.from_residual.result _ c.in_err-begin.ensures.refused c.from_residual.ensures.1;
+  refused = refused_as _ c.from_residual.result _ c.from_residual.ensures.1 c.in_err-begin.ensures.refused;
 }
 
 pub returns-in_err-follow : goal.returns-in_err-follow
 returns-in_err-follow g c = record {
   found = IfOk-from_err _ _ c.from_residual-in_err-follow.ensures.0;
-  refused = refused_as _ c.from_residual-in_err-follow.result _ c.in_err-follow.ensures.refused c.from_residual-in_err-follow.ensures.1;
+  refused = refused_as _ c.from_residual-in_err-follow.result _ c.from_residual-in_err-follow.ensures.1 c.in_err-follow.ensures.refused;
 }

@@ -10,8 +10,7 @@ use Rattle.pf_residual.specs.Listings.{ListsNumbers}
 use Rattle.pf_residual.specs.Internal.Levels.{HasFound, Reaches}
 use Rattle.pf_residual.specs.Internal.CurrentArcs.{AreArcs}
 use Rattle.pf_residual.proofs.LevelListLemmas.{found_more, found_next, known_level, to_reached, levels_kept, from_kept}
-use Rattle.pf_base.proofs.Outcomes.{on_ok}
-use Rattle.pf_residual.proofs.NamedLemmas.{refused_as, ok_when}
+use Rattle.pf_base.proofs.Outcomes.{on_any, on_ok, refused_as}
 use Rattle.pf_flow.proofs.levels.Levels.follow.Goals as goal
 
 module _ {C : Type 0} (N : Network) (at from level : ℕ) (ends : List (ℕ × C)) where
@@ -182,7 +181,7 @@ returns g c = record {
       let N = g.S.FlowStore.network c.args.store.now in
       let i = c.loop-end.invariant in
       let listed : ListsNumbers g.C.Number.value N.vertices (N.residual c.index-from.result.now) c.in_ok-ends.ends.items = c.in_ok-ends.ensures.listed in
-      ok_when c.add_row.result (found_next i.found i.more c.index-from.result.now c.index-level.result.now i.from i.level
+      on_any c.add_row.result (found_next i.found i.more c.index-from.result.now c.index-level.result.now i.from i.level
       (λ b l r. let q = listed.complete b l r in
       let there : slice_get c.deref-end-items.result.now q.0 ≡ Some (b, q.1) = ap (λ xs. slice_get xs q.0) c.deref-end-items.ensures.value ∙ q.2 in
       let inside = slice_get_within c.deref-end-items.result.now q.0 (b, q.1) there in
@@ -198,12 +197,12 @@ pub returns-in_err-ends : goal.returns-in_err-ends
 returns-in_err-ends g c = record {
   found = IfOk-from_err _ _ c.from_residual.ensures.0;
   arcs = IfOk-from_err _ _ c.from_residual.ensures.0;
-  refused = refused_as _ c.from_residual.result _ c.in_err-ends.ensures.refused c.from_residual.ensures.1;
+  refused = refused_as _ c.from_residual.result _ c.from_residual.ensures.1 c.in_err-ends.ensures.refused;
 }
 
 pub returns-in_err-reach : goal.returns-in_err-reach
 returns-in_err-reach g c = record {
   found = IfOk-from_err _ _ c.from_residual-in_err-reach.ensures.0;
   arcs = IfOk-from_err _ _ c.from_residual-in_err-reach.ensures.0;
-  refused = refused_as _ c.from_residual-in_err-reach.result _ c.in_err-reach.ensures.refused c.from_residual-in_err-reach.ensures.1;
+  refused = refused_as _ c.from_residual-in_err-reach.result _ c.from_residual-in_err-reach.ensures.1 c.in_err-reach.ensures.refused;
 }

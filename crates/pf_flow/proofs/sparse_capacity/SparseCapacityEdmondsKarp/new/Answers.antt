@@ -6,7 +6,7 @@ use Rattle.pf_residual.proofs.NetworkLemmas.{network_of_fresh}
 use Rattle.pf_residual.proofs.SparseStoreLemmas.{empty_rows, empty_fresh, empty_capacities}
 use Rattle.std.proofs.lemmas.Option.{none-some}
 use Rattle.std.proofs.lemmas.Result.{IfOk-from_err}
-use Rattle.pf_residual.proofs.NamedLemmas.{refused_as}
+use Rattle.pf_base.proofs.Outcomes.{refused_as}
 use Rattle.pf_flow.proofs.sparse_capacity.SparseCapacityEdmondsKarp.new.Goals as goal
 
 pub returns-in_err-rows : goal.returns-in_err-rows
@@ -14,7 +14,7 @@ returns-in_err-rows g c = record {
   fresh = IfOk-from_err _ _ c.from_residual.ensures.0;
   capacities = IfOk-from_err _ _ c.from_residual.ensures.0;
   network = IfOk-from_err _ _ c.from_residual.ensures.0;
-  refused = refused_as _ c.from_residual.result _ c.in_err-rows.ensures.refused c.from_residual.ensures.1;
+  refused = refused_as _ c.from_residual.result _ c.from_residual.ensures.1 c.in_err-rows.ensures.refused;
 }
 
 pub invariant_of-result : goal.invariant_of-result

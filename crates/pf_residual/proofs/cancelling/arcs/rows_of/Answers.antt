@@ -7,7 +7,7 @@ use Rattle.pf_residual.specs.declared.cancelling.arcs.Arc.{Arc}
 use Rattle.pf_residual.specs.Internal.Cancelling.{AreRows}
 use Rattle.pf_residual.proofs.SearchLemmas.{rows_begin, rows_more}
 use Rattle.std.proofs.lemmas.Result.{IfOk-from_err}
-use Rattle.pf_residual.proofs.NamedLemmas.{refused_as, refused_by}
+use Rattle.pf_base.proofs.Outcomes.{refused_as, refused_by}
 use Rattle.pf_residual.proofs.cancelling.arcs.rows_of.Goals as goal
 
 abbrev none : Arc
@@ -42,12 +42,12 @@ pub returns-in_err-rows : goal.returns-in_err-rows
 returns-in_err-rows g c = record {
   len = IfOk-from_err _ _ c.from_residual.ensures.0;
   rows = IfOk-from_err _ _ c.from_residual.ensures.0;
-  refused = refused_as _ c.from_residual.result _ c.in_err-rows.ensures.refused c.from_residual.ensures.1;
+  refused = refused_as _ c.from_residual.result _ c.from_residual.ensures.1 c.in_err-rows.ensures.refused;
 }
 
 pub returns-in_err-push : goal.returns-in_err-push
 returns-in_err-push g c = record {
   len = IfOk-from_err _ _ c.from_residual-in_err-push.ensures.0;
   rows = IfOk-from_err _ _ c.from_residual-in_err-push.ensures.0;
-  refused = refused_by _ _ c.from_residual-in_err-push.result (λ e h. h) c.from_residual-in_err-push.ensures.1;
+  refused = refused_by _ c.from_residual-in_err-push.result c.from_residual-in_err-push.ensures.1;
 }

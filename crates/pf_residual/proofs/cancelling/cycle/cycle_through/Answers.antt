@@ -6,7 +6,7 @@ use Rattle.std.proofs.lemmas.Result.{IfOk-from_err}
 use Rattle.pf_base.proofs.ListLemmas.{at_place}
 use Rattle.pf_residual.specs.declared.cancelling.arcs.Arc.{Arc}
 use Rattle.pf_residual.specs.Internal.Cancelling.{IsCycle, IsWayBack}
-use Rattle.pf_residual.proofs.NamedLemmas.{refused_as, refused_by}
+use Rattle.pf_base.proofs.Outcomes.{refused_as, refused_by}
 use Rattle.pf_residual.proofs.CycleLemmas.{tail_reached, way_begin, way_more, way_end, before_less}
 use Rattle.pf_residual.proofs.cancelling.cycle.cycle_through.Invariants.{arc_at}
 use Rattle.pf_residual.proofs.cancelling.cycle.cycle_through.Goals as goal
@@ -121,17 +121,17 @@ returns g c = record {
 pub returns-in_err-reached : goal.returns-in_err-reached
 returns-in_err-reached g c = record {
   cycle = IfOk-from_err _ _ c.from_residual.ensures.0;
-  refused = refused_as _ c.from_residual.result _ c.in_err-reached.ensures.refused c.from_residual.ensures.1;
+  refused = refused_as _ c.from_residual.result _ c.from_residual.ensures.1 c.in_err-reached.ensures.refused;
 }
 
 pub returns-in_err-push : goal.returns-in_err-push
 returns-in_err-push g c = record {
   cycle = IfOk-from_err _ _ c.from_residual-in_err-push.ensures.0;
-  refused = refused_by _ _ c.from_residual-in_err-push.result (λ e h. h) c.from_residual-in_err-push.ensures.1;
+  refused = refused_by _ c.from_residual-in_err-push.result c.from_residual-in_err-push.ensures.1;
 }
 
 pub returns-in_err-push-2 : goal.returns-in_err-push-2
 returns-in_err-push-2 g c = record {
   cycle = IfOk-from_err _ _ c.from_residual-in_err-push-2.ensures.0;
-  refused = refused_by _ _ c.from_residual-in_err-push-2.result (λ e h. h) c.from_residual-in_err-push-2.ensures.1;
+  refused = refused_by _ c.from_residual-in_err-push-2.result c.from_residual-in_err-push-2.ensures.1;
 }

@@ -2,21 +2,21 @@ use Rattle.std.proofs.Common.{◌<◌, ◌∙◌, ◌++◌, ◌∷◌, [], ℕ, 
 use Rattle.std.proofs.lemmas.Result.{IfOk-from_err}
 use Rattle.pf_residual.specs.declared.cancelling.search.Step.{Step}
 use Rattle.pf_base.proofs.ListLemmas.{resized}
-use Rattle.pf_residual.proofs.NamedLemmas.{refused_by}
+use Rattle.pf_base.proofs.Outcomes.{refused_by}
 use Rattle.pf_residual.proofs.cancelling.search.begin.Goals as goal
 
 pub returns-in_err-resize : goal.returns-in_err-resize
 returns-in_err-resize g c = record {
   first = IfOk-from_err _ _ c.from_residual.ensures.0;
   places = IfOk-from_err _ _ c.from_residual.ensures.0;
-  refused = refused_by _ _ c.from_residual.result (λ e h. h) c.from_residual.ensures.1;
+  refused = refused_by _ c.from_residual.result c.from_residual.ensures.1;
 }
 
 pub returns-in_err-push : goal.returns-in_err-push
 returns-in_err-push g c = record {
   first = IfOk-from_err _ _ c.from_residual-in_err-push.ensures.0;
   places = IfOk-from_err _ _ c.from_residual-in_err-push.ensures.0;
-  refused = refused_by _ _ c.from_residual-in_err-push.result (λ e h. h) c.from_residual-in_err-push.ensures.1;
+  refused = refused_by _ c.from_residual-in_err-push.result c.from_residual-in_err-push.ensures.1;
 }
 
 pub index_mut-requires : goal.index_mut-requires

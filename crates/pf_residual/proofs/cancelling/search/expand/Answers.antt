@@ -4,7 +4,7 @@ use Rattle.std.proofs.lemmas.Option.{slice_get-get_or}
 use Rattle.pf_residual.specs.Internal.Cancelling.{Has}
 use Rattle.pf_residual.proofs.SearchLemmas.{extends_same, extends_then, leads_more}
 use Rattle.std.proofs.lemmas.Result.{IfOk-from_err}
-use Rattle.pf_residual.proofs.NamedLemmas.{refused_as}
+use Rattle.pf_base.proofs.Outcomes.{refused_as}
 use Rattle.pf_residual.proofs.cancelling.search.expand.Goals as goal
 
 pub follow-requires-clause-start : goal.follow-requires-clause-start
@@ -53,5 +53,5 @@ returns-in_err-follow g c = record {
   reached = IfOk-from_err _ _ c.from_residual.ensures.0;
   extends = IfOk-from_err _ _ c.from_residual.ensures.0;
   expanded = IfOk-from_err _ _ c.from_residual.ensures.0;
-  refused = refused_as _ c.from_residual.result _ c.in_err-follow.ensures.refused c.from_residual.ensures.1;
+  refused = refused_as _ c.from_residual.result _ c.from_residual.ensures.1 c.in_err-follow.ensures.refused;
 }

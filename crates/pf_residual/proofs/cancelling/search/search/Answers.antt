@@ -6,7 +6,7 @@ use Rattle.std.proofs.lemmas.Result.{IfOk-from_err}
 use Rattle.pf_base.proofs.ListLemmas.{at_place}
 use Rattle.pf_residual.specs.Internal.Cancelling.{AreInside, IsReached, IsExpanded, Has}
 use Rattle.pf_residual.proofs.SearchLemmas.{reached_begin, expanded_more, extends_back}
-use Rattle.pf_residual.proofs.NamedLemmas.{refused_as}
+use Rattle.pf_base.proofs.Outcomes.{refused_as}
 use Rattle.pf_residual.proofs.cancelling.search.search.Goals as goal
 
 pub steps-init : goal.steps-init
@@ -108,7 +108,7 @@ returns-in_err-reached g c = record {
   reached = IfOk-from_err _ _ c.from_residual.ensures.0;
   wide = IfOk-from_err _ _ c.from_residual.ensures.0;
   whole = IfOk-from_err _ _ c.from_residual.ensures.0;
-  refused = refused_as _ c.from_residual.result _ c.in_err-reached.ensures.refused c.from_residual.ensures.1;
+  refused = refused_as _ c.from_residual.result _ c.from_residual.ensures.1 c.in_err-reached.ensures.refused;
 }
 
 pub returns-in_err-expand : goal.returns-in_err-expand
@@ -116,5 +116,5 @@ returns-in_err-expand g c = record {
   reached = IfOk-from_err _ _ c.from_residual-in_err-expand.ensures.0;
   wide = IfOk-from_err _ _ c.from_residual-in_err-expand.ensures.0;
   whole = IfOk-from_err _ _ c.from_residual-in_err-expand.ensures.0;
-  refused = refused_as _ c.from_residual-in_err-expand.result _ c.in_err-expand.ensures.refused c.from_residual-in_err-expand.ensures.1;
+  refused = refused_as _ c.from_residual-in_err-expand.result _ c.from_residual-in_err-expand.ensures.1 c.in_err-expand.ensures.refused;
 }

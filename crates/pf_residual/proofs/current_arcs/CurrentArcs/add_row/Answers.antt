@@ -3,7 +3,7 @@ use Rattle.std.proofs.lemmas.Option.{slice_get_read}
 use Rattle.pf_residual.specs.Internal.CurrentArcs.{AreArcs}
 use Rattle.pf_residual.proofs.ArcLemmas.{placed, targeted, ended}
 use Rattle.std.proofs.lemmas.Result.{IfOk-from_err}
-use Rattle.pf_residual.proofs.NamedLemmas.{refused_by}
+use Rattle.pf_base.proofs.Outcomes.{refused_by}
 use Rattle.pf_residual.proofs.current_arcs.CurrentArcs.add_row.Goals as goal
 use Rattle.pf_residual.proofs.current_arcs.CurrentArcs.add_row.Goals.{then-levels-to+in_ok-push, else-levels-to}
 
@@ -52,4 +52,4 @@ pub returns-in_err-push-clause-arcs : goal.returns-in_err-push-clause-arcs
 returns-in_err-push-clause-arcs g c = IfOk-from_err _ _ c.from_residual.ensures.0
 
 pub returns-in_err-push-clause-refused : goal.returns-in_err-push-clause-refused
-returns-in_err-push-clause-refused g c = refused_by _ _ c.from_residual.result (λ e h. h) c.from_residual.ensures.1
+returns-in_err-push-clause-refused g c = refused_by _ c.from_residual.result c.from_residual.ensures.1
