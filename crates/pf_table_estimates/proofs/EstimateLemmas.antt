@@ -1,13 +1,15 @@
 -- Consistent estimates are admissible, and what the tests of estimates pass over.
 use Rattle.std.proofs.Common.{◌≡◌, ◌<◌, ◌≤◌, ◌+◌, ℕ, suc, refl, sym, ap, subst, ◌∙◌, arith, inl, inr, Bool, true, false, List, Option, Some, None, length, nat_eq}
 use Rattle.std.specs.Prelude.{◌≤ℤ◌, ◌<ℤ◌, ◌+ℤ◌, ◌⊎◌, ℤ, pos, nat_lt, slice_get}
+use Rattle.std.specs.Borrow.{Bor}
+use Rattle.std.specs.Fn.{Mut, Called}
 use Rattle.std.specs.Option.{option_map_or}
 use Rattle.std.proofs.lemmas.Int.{ints}
 use Rattle.std.proofs.lemmas.Option.{slice_get_within, slice_get-get_or}
 use borrow.Author.Tests.{eqb-true}
 use Rattle.pf_base.specs.Edges.{HasEdge}
-use Rattle.pf_base.proofs.Callers.{nat_same}
-use Rattle.pf_informed.specs.Estimates.{IsAdmissible}
+use Rattle.pf_base.proofs.Callers.{answers_by, nat_same}
+use Rattle.pf_informed.specs.Estimates.{AnswersEstimate, IsAdmissible}
 use Rattle.pf_informed.proofs.Callers.{consistent}
 use Rattle.pf_tables.specs.Graphs.{HasEdgeAt, IsGraph, edges_at, graph_of}
 use Rattle.pf_tables.proofs.GraphLemmas.{each_edge, listed}
@@ -46,6 +48,18 @@ module _ {C : Type 0} (value : C → ℤ) (estimates : List C) where
     consistent_admissible starts = consistent nat_eq (graph_of value size places) starts passes (estimate_at value estimates)
         (λ x y e. nat_same (estimate_at value estimates) x y e) at_least at_goal falls
 
+-- the estimate of a function that answers that of each node, and that its calls leave as it was
+module _ {F C : Type 0} {calls : Mut F (Bor ℕ × Unit {0}) C} {value : C → ℤ} {within : ℕ → Type 0} where
+  pub estimate_answered : (estimate : ℕ → ℤ) {f : F} → ((x : Bor ℕ) → within x.now → calls.pre f (x, tt))
+      → ((x : Bor ℕ) (r : C) (t : F) → within x.now → Called calls f (x, tt) r t → (t ≡ f) × (value r ≡ estimate x.now))
+      → AnswersEstimate calls nat_eq value f within estimate
+  estimate_answered estimate {f} takes gives = record {
+    alike = λ x y w e. nat_same estimate x y e;
+    answers = answers_by calls within (λ x r. value r ≡ estimate x) (λ s. s ≡ f)
+        (λ s x e w. subst (λ (q : F). calls.pre q (x, tt)) (sym e) (takes x w))
+        (λ s x r t e w k. gives x r t w (subst (λ (q : F). Called calls q (x, tt) r t) e k)) f refl;
+  }
+
 -- ---- tests that go on
 
 less_or_same : (a b : ℕ) → a < b + 1 → (a < b) ⊎ (a ≡ b)
@@ -57,3 +71,19 @@ one_more P n here before k l = elim (less_or_same k n l) as (λ _. P k) [
   | inl b ↦ before k b
   | inr e ↦ subst P (sym e) here
 ]
+
+-- what is so of the edge at a place is so of each edge there
+pub falls_there : {C : Type 0} (value : C → ℤ) (places : ℕ → List (Option (ℕ × C))) (estimates : List C) (node place : ℕ) (o : Option (ℕ × C)) → slice_get (places node) place ≡ Some o
+    → ((edge : ℕ × C) → o ≡ Some edge → estimate_at value estimates node ≤ℤ (value edge.1 +ℤ estimate_at value estimates edge.0)) → FallsAt value places estimates node place
+falls_there {C = C} value places estimates node place o at holds edge h = holds edge (same o edge (sym at ∙ h))
+  where
+    same : (o : Option (ℕ × C)) (edge : ℕ × C) → Some o ≡ Some (Some edge) → o ≡ Some edge
+    same o edge e = cc
+
+module _ (a b cost here there : ℤ) (is_here : a ≡ here) (is_there : b ≡ there) where
+  -- the comparison of the numbers that were read is that of the estimates
+  pub above : (cost +ℤ there) <ℤ here → (cost +ℤ b) <ℤ a
+  above h = subst (λ z. (cost +ℤ z) <ℤ a) (sym is_there) (subst (λ z. (cost +ℤ there) <ℤ z) (sym is_here) h)
+
+  pub not_above : here ≤ℤ (cost +ℤ there) → a ≤ℤ (cost +ℤ b)
+  not_above h = subst (λ z. a ≤ℤ (cost +ℤ z)) (sym is_there) (subst (λ z. z ≤ℤ (cost +ℤ there)) (sym is_here) h)

@@ -15,13 +15,22 @@ pub record TableEstimates (C G T : Type 0) : Type 0 where
   pub goals : T
   pub estimates : List C
 
-module _ {C : Type 0} (value : C → ℤ) (size : ℕ) (places : ℕ → List (Option (ℕ × C))) (passes : ℕ → Bool) (estimates : List C) where
-  -- the estimate of a node is from 0 up, and 0 where the node is a goal
+-- the estimate of a node by itself, where these nodes are goals
+module _ {C : Type 0} (value : C → ℤ) (passes : ℕ → Bool) (estimates : List C) where
+  -- it is from 0 up, and 0 where the node is a goal
   pub record IsSoundAt (node : ℕ) : Type 0 where
     pub from_zero : pos 0 ≤ℤ estimate_at value estimates node
     pub at_goal : passes node ≡ true → estimate_at value estimates node ≡ pos 0
 
-  -- the estimate of a node is at most what the edge at a place costs and the estimate of the node that the edge leads to
+  -- the error names the first node whose estimate is not sound, and what is wrong there
+  abbrev pub IsFaultOfNode : EstimateError → Type 0
+  IsFaultOfNode (NegativeEstimate node) = (node < length estimates) × (estimate_at value estimates node <ℤ pos 0) × ((k : ℕ) → k < node → IsSoundAt k)
+  IsFaultOfNode (EstimateAtGoal node) = (node < length estimates) × (passes node ≡ true) × (pos 0 <ℤ estimate_at value estimates node) × ((k : ℕ) → k < node → IsSoundAt k)
+  IsFaultOfNode _ = ⊥
+
+-- the estimate of a node and an edge from it, where these stand at the places
+module _ {C : Type 0} (value : C → ℤ) (places : ℕ → List (Option (ℕ × C))) (estimates : List C) where
+  -- the estimate is at most what the edge at a place costs and the estimate of the node that the edge leads to
   abbrev pub FallsAt : ℕ → ℕ → Type 0
   FallsAt node place = (edge : ℕ × C) → HasEdgeAt (places node) place edge → estimate_at value estimates node ≤ℤ (value edge.1 +ℤ estimate_at value estimates edge.0)
 
@@ -29,28 +38,23 @@ module _ {C : Type 0} (value : C → ℤ) (size : ℕ) (places : ℕ → List (O
   abbrev pub IsAboveAt : ℕ → ℕ → Type 0
   IsAboveAt node place = (edge : ℕ × C) × HasEdgeAt (places node) place edge × ((value edge.1 +ℤ estimate_at value estimates edge.0) <ℤ estimate_at value estimates node)
 
-  -- Each node has an estimate, from 0 up, 0 at a goal, and at most what an edge costs and the estimate of the node that the edge leads to.
-  pub record AreConsistent : Type 0 where
-    pub complete : length estimates ≡ size
-    pub sound : (node : ℕ) → node < size → IsSoundAt node
-    pub falls : (node place : ℕ) → node < size → FallsAt node place
-
-  -- the error names the first node whose own estimate is not sound, and what is wrong there
-  abbrev pub IsFaultOfNode : EstimateError → Type 0
-  IsFaultOfNode (NegativeEstimate node) = (node < length estimates) × (estimate_at value estimates node <ℤ pos 0) × ((k : ℕ) → k < node → IsSoundAt k)
-  IsFaultOfNode (EstimateAtGoal node) = (node < length estimates) × (passes node ≡ true) × (pos 0 <ℤ estimate_at value estimates node) × ((k : ℕ) → k < node → IsSoundAt k)
-  IsFaultOfNode _ = ⊥
-
   -- the error names the first place of a node at which its estimate is above the edge and what remains behind it
   abbrev pub IsFaultOfRow : ℕ → EstimateError → Type 0
   IsFaultOfRow node (EstimateAboveEdge n place) = (n ≡ node) × IsAboveAt node place × ((k : ℕ) → k < place → FallsAt node k)
   IsFaultOfRow node _ = ⊥
 
   -- the same of the first node that has such a place
-  abbrev pub IsFaultOfEdge : EstimateError → Type 0
-  IsFaultOfEdge error = (node : ℕ) × (node < size) × IsFaultOfRow node error × ((n place : ℕ) → n < node → FallsAt n place)
+  abbrev pub IsFaultOfEdge : ℕ → EstimateError → Type 0
+  IsFaultOfEdge size error = (node : ℕ) × (node < size) × IsFaultOfRow node error × ((n place : ℕ) → n < node → FallsAt n place)
+
+module _ {C : Type 0} (value : C → ℤ) (size : ℕ) (places : ℕ → List (Option (ℕ × C))) (passes : ℕ → Bool) (estimates : List C) where
+  -- Each node has an estimate, from 0 up, 0 at a goal, and at most what an edge costs and the estimate of the node that the edge leads to.
+  pub record AreConsistent : Type 0 where
+    pub complete : length estimates ≡ size
+    pub sound : (node : ℕ) → node < size → IsSoundAt value passes estimates node
+    pub falls : (node place : ℕ) → node < size → FallsAt value places estimates node place
 
   -- The error names the first fault: that of the number of estimates, else of a node's own estimate, else of an edge.
   abbrev pub IsFirstEstimateFault : EstimateError → Type 0
-  IsFirstEstimateFault error = (¬ (length estimates ≡ size) × (error ≡ WrongNumberOfEstimates)) ⊎ ((length estimates ≡ size) × IsFaultOfNode error)
-      ⊎ ((length estimates ≡ size) × ((node : ℕ) → node < size → IsSoundAt node) × IsFaultOfEdge error)
+  IsFirstEstimateFault error = (¬ (length estimates ≡ size) × (error ≡ WrongNumberOfEstimates)) ⊎ ((length estimates ≡ size) × IsFaultOfNode value passes estimates error)
+      ⊎ ((length estimates ≡ size) × ((node : ℕ) → node < size → IsSoundAt value passes estimates node) × IsFaultOfEdge value places estimates size error)

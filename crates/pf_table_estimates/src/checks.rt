@@ -66,8 +66,8 @@ fn check_row<C: Cost, G: Graph<C>>(
 {
     graph.known();
     for place in 0..graph.places(node) {
-        if let Some((next, cost)) = graph.edge(node, place)
-            && exceeds(estimates[node], cost, estimates[next])
+        if let Some(edge) = graph.edge(node, place)
+            && exceeds(estimates[node], edge.1, estimates[edge.0])
         {
             return Err(EstimateError::EstimateAboveEdge { node, place });
         }
@@ -81,7 +81,7 @@ pub fn check_edges<C: Cost, G: Graph<C>>(graph: &G, estimates: &[C]) -> Result<(
     requires from_zero { (k : ℕ) → k < G.size graph.now → pos 0 ≤ℤ estimate_at C.value estimates.now k }
     ensures { MatchResult result
         (λ _. (node : ℕ) (place : ℕ) → node < G.size graph.now → FallsAt C.value (G.places graph.now) estimates.now node place)
-        (IsFaultOfEdge C.value (G.size graph.now) (G.places graph.now) estimates.now) }
+        (IsFaultOfEdge C.value (G.places graph.now) estimates.now (G.size graph.now)) }
 {
     for node in 0..graph.len() {
         check_row(graph, estimates, node)?;

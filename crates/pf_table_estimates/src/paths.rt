@@ -44,13 +44,15 @@ where
     ensures errors { IfErr result (λ e. (e ≡ PathError.OutOfMemory) ⊎ (e ≡ PathError.CostOverflow)) }
 {
     estimates.known();
-    estimates.graph.known();
+    let graph = estimates.graph;
+    let goals = estimates.goals;
+    graph.known();
     pf_informed::directed::astar_bag::astar_bag(
         alloc,
         &from,
-        |n: &usize| edges_of(estimates.graph, *n),
+        |n: &usize| edges_of(graph, *n),
         |n: &usize| estimates.estimate(*n),
-        |n: &usize| estimates.goals.is_goal(*n),
+        |n: &usize| goals.is_goal(*n),
     )
 }
 
@@ -74,12 +76,14 @@ where
     ensures errors { IfErr result (λ e. (e ≡ PathError.OutOfMemory) ⊎ (e ≡ PathError.CostOverflow)) }
 {
     estimates.known();
-    estimates.graph.known();
+    let graph = estimates.graph;
+    let goals = estimates.goals;
+    graph.known();
     pf_informed::directed::astar_bag::astar_bag_collect(
         alloc,
         &from,
-        |n: &usize| edges_of(estimates.graph, *n),
+        |n: &usize| edges_of(graph, *n),
         |n: &usize| estimates.estimate(*n),
-        |n: &usize| estimates.goals.is_goal(*n),
+        |n: &usize| goals.is_goal(*n),
     )
 }

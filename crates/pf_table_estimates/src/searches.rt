@@ -41,13 +41,15 @@ where
     ensures errors { IfErr result (λ e. (e ≡ PathError.OutOfMemory) ⊎ (e ≡ PathError.CostOverflow)) }
 {
     estimates.known();
-    estimates.graph.known();
+    let graph = estimates.graph;
+    let goals = estimates.goals;
+    graph.known();
     pf_informed::directed::astar::astar(
         alloc,
         &from,
-        |n: &usize| edges_of(estimates.graph, *n),
+        |n: &usize| edges_of(graph, *n),
         |n: &usize| estimates.estimate(*n),
-        |n: &usize| estimates.goals.is_goal(*n),
+        |n: &usize| goals.is_goal(*n),
     )
 }
 
@@ -77,13 +79,15 @@ where
     ensures errors { IfErr result (λ e. (e ≡ PathError.OutOfMemory) ⊎ (e ≡ PathError.CostOverflow)) }
 {
     estimates.known();
-    estimates.graph.known();
+    let graph = estimates.graph;
+    let goals = estimates.goals;
+    graph.known();
     pf_informed::directed::fringe::fringe(
         alloc,
         &from,
-        |n: &usize| edges_of(estimates.graph, *n),
+        |n: &usize| edges_of(graph, *n),
         |n: &usize| estimates.estimate(*n),
-        |n: &usize| estimates.goals.is_goal(*n),
+        |n: &usize| goals.is_goal(*n),
     )
 }
 
@@ -113,12 +117,14 @@ where
     ensures errors { IfErr result (λ e. (e ≡ PathError.OutOfMemory) ⊎ (e ≡ PathError.CostOverflow)) }
 {
     estimates.known();
-    estimates.graph.known();
+    let graph = estimates.graph;
+    let goals = estimates.goals;
+    graph.known();
     pf_informed::directed::idastar::idastar(
         alloc,
         &from,
-        |n: &usize| edges_of(estimates.graph, *n),
+        |n: &usize| edges_of(graph, *n),
         |n: &usize| estimates.estimate(*n),
-        |n: &usize| estimates.goals.is_goal(*n),
+        |n: &usize| goals.is_goal(*n),
     )
 }

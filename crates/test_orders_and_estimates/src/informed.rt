@@ -6,3 +6,4 @@ mod listed;
 mod puzzle;
 mod rows;
 mod seen;
+mod tables;

@@ -1,0 +1,7 @@
+use Rattle.std.proofs.Common.{ℕ, ◌<◌}
+use Rattle.pf_table_estimates.specs.EstimatesInTables.{FallsAt}
+use Rattle.pf_table_estimates.proofs.checks.check_row.Given as goal
+
+-- the estimate is not above the edges so far
+abbrev pub invariant-loop-place : goal.invariant-loop-place
+invariant-loop-place g l = (k : ℕ) → k < l.place → FallsAt g.C.Number.value (g.G.Graph.places l.graph) l.estimates l.node k
