@@ -120,6 +120,8 @@ pub use pf_search::laws::fewest_edges_of_cheapest;
 pub use pf_search::laws::one_cheapest_cost;
 pub use pf_search::laws::path_of_parents_is_cheapest;
 pub use pf_search::laws::preorder_of_reach;
+pub use pf_table_estimates::EstimateError;
+pub use pf_table_estimates::Estimates;
 pub use pf_tables::Board;
 pub use pf_tables::CompactRows;
 pub use pf_tables::Costless;
