@@ -48,6 +48,9 @@ const FAULTS: &[(&[i32], EstimateError)] = &[
     ),
 ];
 
+/// Two nodes, each with an edge to the other, of which one costs as much as the type holds.
+const DEAR: &[Edges] = &[&[(1, 2_147_483_647)], &[(0, 1)]];
+
 /// A graph in a table of rows.
 type Table = Rows<'static, Edges, i32>;
 
@@ -175,8 +178,7 @@ fn the_first_fault_is_named(rt: HostRuntime) {
         assert!(rt; found == Some(*fault), "case {number}: {found:?}");
     }
     // A sum that does not fit is above every estimate.
-    let dear: &[Edges] = &[&[(1, 2_147_483_647)], &[(0, 1)]];
-    let graph: Table = Rows::new(dear).expect(&rt, "a graph");
+    let graph: Table = Rows::new(DEAR).expect(&rt, "a graph");
     let found = fault_of(&graph, 2, &[2_147_483_647, 2_147_483_647]);
     assert!(rt; found.is_none(), "{found:?}");
 }
