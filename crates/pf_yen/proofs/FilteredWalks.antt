@@ -77,11 +77,11 @@ module _ {C : Type 0} (value : C → ℤ) (g : FilteredLists C) where
   spur_of [] a l = inl (eq-eqb a g.spur l.0)
   spur_of (b ∷ q) a l = inr (spur_of q b l.2)
 
-  and_false : (a b : Bool) → a ≡ false → a && b ≡ false
+  pub and_false : (a b : Bool) → a ≡ false → a && b ≡ false
   and_false true b h = absurd (true≢false h)
   and_false false b h = refl
 
-  and_false_right : (a b : Bool) → b ≡ false → a && b ≡ false
+  pub and_false_right : (a b : Bool) → b ≡ false → a && b ≡ false
   and_false_right true b h = h
   and_false_right false b h = refl
 

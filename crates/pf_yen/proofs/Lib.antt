@@ -1,3 +1,5 @@
+pub mod RemainingLemmas
+pub mod NamedLemmas
 pub mod ResultLemmas
 pub mod FilteredLemmas
 pub mod ClassLemmas

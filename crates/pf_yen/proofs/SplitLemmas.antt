@@ -16,6 +16,7 @@ use Rattle.pf_yen.specs.Internal.WholeGraphs.{IsWhole}
 use Rattle.pf_yen.specs.Internal.Filtered.{FilteredLists, FilteredStep, StandsForItself}
 use Rattle.pf_yen.specs.Internal.Classes.{is_in, is_member, goes_on_to, one_if, Plan, in_class, is_path, IsCleanNumbers, IsCheapestOfClass}
 use Rattle.pf_yen.specs.Internal.Splits.{IsBarredBehind, IsSplit, LeadsOn, IsFilteredTo, IsCheapestAlong, HasNoneAlong, IsSplitUpTo, IsPastAlong, ClassOverflows}
+use Rattle.pf_yen.specs.Internal.NamedWays.{IsSpent, IsPrefix}
 use Rattle.pf_yen.proofs.FilteredLemmas.{in_none}
 use Rattle.pf_yen.proofs.ClassLemmas.{same_is_true, any_goes_on, split_member, goes_on, member_of, prefix_is, one_if_one, at_most_one, stuck, behind, same_path}
 use Rattle.pf_yen.proofs.FilteredWalks.{not_true, numbers_are, not_twice, is_known, is_left, is_allowed, goes_listed, goes_again, class_walk, on_or_within}
@@ -31,12 +32,12 @@ length-take_below xs zero h = refl
 length-take_below [] (suc i) h = absurd (omega (arith, h))
 length-take_below (x ∷ xs) (suc i) h = ap suc (length-take_below xs i (omega (arith, h)))
 
-HasNode-before : (q : List ℕ) (n x : ℕ) → HasNode nat_eq q x → HasNode nat_eq (q ++ n ∷ []) x
+pub HasNode-before : (q : List ℕ) (n x : ℕ) → HasNode nat_eq q x → HasNode nat_eq (q ++ n ∷ []) x
 HasNode-before [] n x h = absurd h
 HasNode-before (y ∷ q) n x (inl h) = inl h
 HasNode-before (y ∷ q) n x (inr h) = inr (HasNode-before q n x h)
 
-NoRepeats-before : (q r : List ℕ) → NoRepeats nat_eq (q ++ r) → NoRepeats nat_eq q
+pub NoRepeats-before : (q r : List ℕ) → NoRepeats nat_eq (q ++ r) → NoRepeats nat_eq q
 NoRepeats-before [] r h = tt
 NoRepeats-before (x ∷ q) r h = ((λ k. h.0 (wider q r x k)), NoRepeats-before q r h.1)
   where
@@ -50,11 +51,11 @@ abbrev pub nothing : ℕ → List (Option ℕ)
 nothing n = replicate n None
 
 module _ {C : Type 0} (k : AdjacencyLists C) where
-  ends_at_spur : (onward : List (Option ℕ)) (spur : ℕ) (q : List ℕ) (a : ℕ) → LeadsOn k onward spur a q → end_of a q ≡ spur
+  pub ends_at_spur : (onward : List (Option ℕ)) (spur : ℕ) (q : List ℕ) (a : ℕ) → LeadsOn k onward spur a q → end_of a q ≡ spur
   ends_at_spur onward spur [] a l = l.0
   ends_at_spur onward spur (b ∷ q) a l = ends_at_spur onward spur q b l.2
 
-  spur_in : (onward : List (Option ℕ)) (spur : ℕ) (q : List ℕ) (a : ℕ) → LeadsOn k onward spur a q → HasNode nat_eq (a ∷ q) spur
+  pub spur_in : (onward : List (Option ℕ)) (spur : ℕ) (q : List ℕ) (a : ℕ) → LeadsOn k onward spur a q → HasNode nat_eq (a ∷ q) spur
   spur_in onward spur [] a l = inl (eq-eqb a spur l.0)
   spur_in onward spur (b ∷ q) a l = inr (spur_in onward spur q b l.2)
 
@@ -97,7 +98,7 @@ module _ {C : Type 0} (k : AdjacencyLists C) where
       none_there (suc n) zero y e = cc
       none_there (suc n) (suc x) y e = none_there n x y e
 
-  free_waits : (onward : List (Option ℕ)) (n : ℕ) → n < length onward → ((y : ℕ) → ¬ (slice_get onward n ≡ Some (Some y))) → slice_get onward n ≡ Some None
+  pub free_waits : (onward : List (Option ℕ)) (n : ℕ) → n < length onward → ((y : ℕ) → ¬ (slice_get onward n ≡ Some (Some y))) → slice_get onward n ≡ Some None
   free_waits onward n inside none = at (get_or onward n None) (slice_get-get_or onward n None inside)
     where
       at : (o : Option ℕ) → slice_get onward n ≡ Some o → slice_get onward n ≡ Some None
@@ -127,7 +128,7 @@ past_along value fits g n d =
     )
 
 -- a walk, cut at a place
-cut_goes : {X : Type 0} (step : X → ℤ → X → Type 0) (v w : List X) (a : X) (u : ℤ) → GoesAlong step a (v ++ w) u → (s : ℤ) × (t : ℤ) × GoesAlong step a v s × GoesAlong step (end_of a v) w t × (u ≡ s +ℤ t)
+pub cut_goes : {X : Type 0} (step : X → ℤ → X → Type 0) (v w : List X) (a : X) (u : ℤ) → GoesAlong step a (v ++ w) u → (s : ℤ) × (t : ℤ) × GoesAlong step a v s × GoesAlong step (end_of a v) w t × (u ≡ s +ℤ t)
 cut_goes step [] w a u g = (pos 0, u, refl, g, omega (arith, ints))
 cut_goes step (b ∷ v) w a u g = let k = cut_goes step v w b g.1 g.3 in (g.0 +ℤ k.0, k.1, (g.0, k.0, g.2, k.2, refl), k.3, omega (arith, ints, g.4, k.4))
 
@@ -157,14 +158,14 @@ module _ {C : Type 0} (value : C → ℤ) (k : AdjacencyLists C) (whole : IsWhol
         assoc (y ∷ v) x r = ap (λ (w : List ℕ). y ∷ w) (assoc v x r)
 
   -- where a clean path goes on
-  record GoesOnAt (rest : List ℕ) (i n : ℕ) : Type 0 where
+  pub record GoesOnAt (rest : List ℕ) (i n : ℕ) : Type 0 where
     pub more : take (i + 1) rest ≡ take i rest ++ n ∷ []
     pub new : ¬ (HasNode nat_eq (0 ∷ take i rest) n)
     pub before : NoRepeats nat_eq (0 ∷ take i rest)
     pub live : is_goal k (end_of 0 (take i rest)) ≡ false
     pub inside : n < length k.rows
 
-  goes_on_at : (rest : List ℕ) (u : ℤ) (i d : ℕ) → GoesAlong (AdjacencyStep value k) 0 rest u → NoRepeats nat_eq (0 ∷ rest) → i < length rest → GoesOnAt rest i (get_or rest i d)
+  pub goes_on_at : (rest : List ℕ) (u : ℤ) (i d : ℕ) → GoesAlong (AdjacencyStep value k) 0 rest u → NoRepeats nat_eq (0 ∷ rest) → i < length rest → GoesOnAt rest i (get_or rest i d)
   goes_on_at rest u i d goes distinct h =
       let n = get_or rest i d in
       let c = cut_at rest i d h in
@@ -189,7 +190,7 @@ module _ {C : Type 0} (value : C → ℤ) (k : AdjacencyLists C) (whole : IsWhol
       not_empty n r e = cc
 
   -- the number behind a place of a clean path
-  behind_start : (rest : List ℕ) (i d : ℕ) → get_or (0 ∷ rest) (i + 1) d ≡ get_or rest i d
+  pub behind_start : (rest : List ℕ) (i d : ℕ) → get_or (0 ∷ rest) (i + 1) d ≡ get_or rest i d
   behind_start rest i d = subst (λ (m : ℕ). get_or (0 ∷ rest) m d ≡ get_or rest i d) (sym (add-one i)) refl
 
   -- the graph is narrowed on by the next number of a clean path
@@ -221,6 +222,34 @@ module _ {C : Type 0} (value : C → ℤ) (k : AdjacencyLists C) (whole : IsWhol
           | inr t ↦ o.free x y (λ hx. out (HasNode-before (0 ∷ take i c.rest) m x hx)) (sym t.1 ∙ e)
         ];
       })
+
+  -- the numbers of a clean path up to a place, and the next one
+  further_along : (path : List ℕ) (u : ℤ) (i d : ℕ) → IsCleanNumbers value k path u → i + 1 < length path → take (i + 1) (drop 1 path) ≡ take i (drop 1 path) ++ get_or path (i + 1) d ∷ []
+  further_along path u i d c h = subst (λ (v : List ℕ). take (i + 1) (drop 1 v) ≡ take i (drop 1 v) ++ get_or v (i + 1) d ∷ []) (sym c.is)
+      (let long : i < length c.rest = (let e = ap length c.is in let f : length (0 ∷ c.rest) ≡ suc (length c.rest) = refl in omega (arith, e, f, h)) in
+      subst (λ (m : ℕ). take (i + 1) c.rest ≡ take i c.rest ++ m ∷ []) (sym (behind_start c.rest i d)) (let g = goes_on_at c.rest u i d c.goes c.distinct long in g.more))
+
+  -- what was spent, once the next number of a clean path is gone on to
+  pub spent_on : (path : List ℕ) (u : ℤ) (i d : ℕ) (onward : List (Option ℕ)) (spur : ℕ) → IsCleanNumbers value k path u → i + 1 < length path → IsFilteredTo k onward spur (take i (drop 1 path)) → (before after : Option C)
+      → ((q : List ℕ) → IsSpent value k q before → end_of 0 q ≡ spur → IsSpent value k (q ++ get_or path (i + 1) d ∷ []) after) → IsSpent value k (take i (drop 1 path)) before → IsSpent value k (take (i + 1) (drop 1 path)) after
+  spent_on path u i d onward spur c h f before after on p = subst (λ (v : List ℕ). IsSpent value k v after) (sym (further_along path u i d c h)) (on (take i (drop 1 path)) p (ends_at_spur k onward spur (take i (drop 1 path)) 0 f.leads))
+
+  -- the prefix of a clean path that goes on
+  pub prefix_of : (path : List ℕ) (u : ℤ) (i : ℕ) (onward : List (Option ℕ)) (spur : ℕ) (spent : Option C) → IsCleanNumbers value k path u → i + 1 < length path → IsFilteredTo k onward spur (take i (drop 1 path)) → IsSpent value k (take i (drop 1 path)) spent
+      → IsPrefix value k onward spur (take i (drop 1 path)) spent
+  prefix_of path u i onward spur spent c h f p =
+      let long : i < length c.rest = (let e = ap length c.is in let s : length (0 ∷ c.rest) ≡ suc (length c.rest) = refl in omega (arith, e, s, h)) in
+      let g = goes_on_at c.rest u i 0 c.goes c.distinct long in
+      let same : take i (drop 1 path) ≡ take i c.rest = ap (λ (v : List ℕ). take i (drop 1 v)) c.is in
+      record {
+        filtered = f;
+        distinct = subst (λ (v : List ℕ). NoRepeats nat_eq (0 ∷ v)) (sym same) g.before;
+        live = subst (λ (n : ℕ). is_goal k n ≡ false) (ends_at_spur k onward spur (take i (drop 1 path)) 0 f.leads) (subst (λ (v : List ℕ). is_goal k (end_of 0 v) ≡ false) (sym same) g.live);
+        costs = p;
+      }
+
+  pub begins_with : (path : List ℕ) (u : ℤ) (i : ℕ) → IsCleanNumbers value k path u → take (i + 1) path ≡ 0 ∷ take i (drop 1 path)
+  begins_with path u i c = subst (λ (v : List ℕ). take (i + 1) v ≡ 0 ∷ take i (drop 1 v)) (sym c.is) (subst (λ (m : ℕ). take m (0 ∷ c.rest) ≡ 0 ∷ take i c.rest) (sym (add-one i)) refl)
 
   -- ---- the split of a class
   module _ (c : Plan C) (h : IsCheapestOfClass value k c) where

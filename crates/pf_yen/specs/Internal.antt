@@ -13,3 +13,5 @@ pub mod Gathered
 pub mod PlanChanges
 pub mod PathTurns
 pub mod WholeGraphs
+pub mod Remaining
+pub mod NamedWays

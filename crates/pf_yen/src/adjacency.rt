@@ -1,23 +1,30 @@
 //! What was learned of a graph: the steps from each number, and which numbers are goals.
 
-ghost use Rattle.std.specs.Prelude.{◌≡◌, ◌<◌, [], ◌∷◌, ◌++◌, length, OnOk, OnErr, IfErr};
+ghost use Rattle.std.specs.Prelude.{◌≡◌, ◌<◌, [], ◌∷◌, ◌++◌, ⊤, length, OnOk, OnErr, IfErr, MatchOption};
 ghost use Rattle.pf_yen.specs.Internal.Adjacency.{row_of, is_goal};
+ghost use Rattle.pf_yen.specs.Internal.Remaining.{AreRemaining};
 
+use crate::remaining::remaining_costs;
 use pf_base::{Cost, PathError};
 use std::alloc::Allocator;
 use std::marker::Model;
 
 /// The steps from each number, each as the number of its end and its cost, and whether the number is
-/// a goal. The steps from a goal are left out.
+/// a goal. The steps from a goal are left out. What remains from each number to a goal is noted beside
+/// them, where it was looked for and found.
 #[derive(Drop)]
 pub struct Adjacency<C: Cost, A: Allocator> {
     rows: Vec<Vec<(usize, C), A>, A>,
     goals: Vec<bool, A>,
+    remaining: Option<Vec<Option<C>, A>>,
+    /// Whether what remains was looked for.
+    is_looked_for: bool,
 }
 
 impl<C: Cost, A: Allocator> Model for Adjacency<C, A> {
-    ghost use Rattle.std.specs.Prelude.{◌≡◌, length, map};
+    ghost use Rattle.std.specs.Prelude.{◌≡◌, ⊤, length, map, MatchOption};
     ghost use Rattle.pf_yen.specs.Internal.Adjacency.{AdjacencyLists, adjacency_code};
+    ghost use Rattle.pf_yen.specs.Internal.Remaining.{AreRemaining};
 
     ghost Value = { AdjacencyLists C };
 
@@ -25,7 +32,8 @@ impl<C: Cost, A: Allocator> Model for Adjacency<C, A> {
 
     ghost view = { λ s. record { rows = map (λ row. row.items) s.rows.items; goals = s.goals.items } };
 
-    ghost invariant = { λ s. length s.goals.items ≡ length s.rows.items };
+    ghost invariant = { λ s. (length s.goals.items ≡ length s.rows.items)
+        × MatchOption s.remaining ⊤ (λ costs. AreRemaining C.value C.fits (record { rows = map (λ row. row.items) s.rows.items; goals = s.goals.items }) costs.items) };
 }
 
 impl<C: Cost, A: Allocator> Adjacency<C, A> {
@@ -38,6 +46,8 @@ impl<C: Cost, A: Allocator> Adjacency<C, A> {
         Adjacency {
             rows: Vec::new(alloc),
             goals: Vec::new(alloc),
+            remaining: None,
+            is_looked_for: false,
         }
     }
 
@@ -70,9 +80,35 @@ impl<C: Cost, A: Allocator> Adjacency<C, A> {
         ensures kept { OnErr result (self.new ≡ self.old) }
         ensures refused { IfErr result (λ e. e ≡ PathError.OutOfMemory) }
     {
+        self.remaining = None;
+        self.is_looked_for = false;
         self.goals.reserve(1)?;
         self.rows.push(row)?;
         self.goals.push(goal)?;
         Ok(())
+    }
+
+    /// Looks for what remains from each number to a goal, unless that was done.
+    pub fn note_remaining(&mut self, alloc: A) -> Result<(), PathError>
+    where
+        A: Copy,
+        ensures same { self.new ≡ self.old }
+        ensures refused { IfErr result (λ e. e ≡ PathError.OutOfMemory) }
+    {
+        if !self.is_looked_for {
+            self.remaining = remaining_costs(alloc, self)?;
+            self.is_looked_for = true;
+        }
+        Ok(())
+    }
+
+    /// What remains from each number to a goal, where that is known.
+    pub fn remaining(&self) -> Option<&[Option<C>]>
+        ensures { MatchOption result ⊤ (λ costs. AreRemaining C.value C.fits self.now costs.now) }
+    {
+        match &self.remaining {
+            Some(costs) => Some(costs),
+            None => None,
+        }
     }
 }

@@ -4,15 +4,17 @@
 //! optimization problems and its application to the shortest path problem", 1972): no path is in two
 //! classes, and no class is searched twice.
 
-ghost use Rattle.std.specs.Prelude.{◌≡◌, ◌⊎◌, ◌<◌, ◌+◌, ℕ, ℤ, List, [], length, take, drop, map, Err, OnOk, IfOk, IfErr, IfSome, MatchOption};
+ghost use Rattle.std.specs.Prelude.{◌≡◌, ◌⊎◌, ◌<◌, ◌+◌, ◌∷◌, ℕ, ℤ, List, [], length, take, drop, map, Err, OnOk, IfOk, IfErr, IfSome, MatchOption};
 ghost use Rattle.pf_yen.specs.Internal.WholeGraphs.{IsWhole};
 ghost use Rattle.pf_yen.specs.Internal.Filtered.{OverflowsFromStart, graph_filtered_by};
 ghost use Rattle.pf_yen.specs.Internal.Classes.{IsCleanNumbers, IsCheapestOfClass, plan_of};
+ghost use Rattle.pf_yen.specs.Internal.NamedWays.{IsPrefix, IsSpent};
 ghost use Rattle.pf_yen.specs.Internal.Splits.{IsFilteredTo, IsCheapestAlong, HasNoneAlong, IsSplit, ClassOverflows};
 
 use crate::adjacency::Adjacency;
 use crate::candidate::Candidate;
 use crate::filtered::FilteredGraph;
+use crate::named::{Named, named_way};
 use pf_base::utils::Tally;
 use pf_base::{Cost, PathError};
 use pf_core::dijkstra::cheapest_path;
@@ -54,6 +56,74 @@ pub fn least_of_class<C: Cost, A: Allocator + Copy>(
     }
 }
 
+/// The same, where the graph stands behind some numbers that cost what was spent. That stays.
+fn searched<C: Cost, A: Allocator + Copy>(
+    alloc: A,
+    filtered: &mut FilteredGraph<'_, C, A>,
+    spur: usize,
+) -> Result<Option<Candidate<C, A>>, PathError>
+    requires whole { IsWhole C.value filtered.old.adjacency.now }
+    requires some { 0 < length filtered.old.adjacency.now.rows }
+    requires wide { length filtered.old.onward.items ≡ length filtered.old.adjacency.now.rows }
+    ensures adjacency { filtered.new.adjacency.now ≡ filtered.old.adjacency.now }
+    ensures onward { filtered.new.onward.items ≡ filtered.old.onward.items }
+    ensures spur { filtered.new.spur ≡ filtered.old.spur }
+    ensures spent { OnOk result (filtered.new.spent ≡ filtered.old.spent) }
+    ensures banned { OnOk result (filtered.new.banned.items ≡ []) }
+    ensures least { IfOk result (λ answer. (q : List ℕ) → IsFilteredTo filtered.old.adjacency.now filtered.old.onward.items filtered.old.spur q
+        → MatchOption answer (HasNoneAlong C.value filtered.old.adjacency.now q filtered.old.banned.items)
+        (λ c. IsCheapestAlong C.value filtered.old.adjacency.now q filtered.old.banned.items c.path.items c.cost)) }
+    ensures parts { IfOk result (λ answer. IfSome answer (λ c. (c.spur ≡ spur) × (c.banned.items ≡ filtered.old.banned.items))) }
+    ensures overflow { result ≡ Err PathError.CostOverflow → OverflowsFromStart C.value (graph_filtered_by filtered.old) C.fits }
+    ensures errors { IfErr result (λ e. (e ≡ PathError.OutOfMemory) ⊎ (e ≡ PathError.CostOverflow)) }
+{
+    let spent = filtered.spent;
+    let answer = least_of_class(alloc, filtered, spur)?;
+    filtered.spent = spent;
+    Ok(answer)
+}
+
+/// A cheapest path of the class of the first numbers of a path, up to the place `spur`, and of the
+/// banned numbers: the one that remaining costs name, and else by a search. The banned numbers are
+/// moved out.
+fn least_behind<C: Cost, A: Allocator + Copy>(
+    alloc: A,
+    filtered: &mut FilteredGraph<'_, C, A>,
+    path: &[usize],
+    spur: usize,
+) -> Result<Option<Candidate<C, A>>, PathError>
+    requires whole { IsWhole C.value filtered.old.adjacency.now }
+    requires some { 0 < length filtered.old.adjacency.now.rows }
+    requires wide { length filtered.old.onward.items ≡ length filtered.old.adjacency.now.rows }
+    requires begins { take (spur + 1) path.now ≡ 0 ∷ take spur (drop 1 path.now) }
+    requires inside { spur < length path.now }
+    requires prefix { IsPrefix C.value filtered.old.adjacency.now filtered.old.onward.items filtered.old.spur (take spur (drop 1 path.now)) filtered.old.spent }
+    ensures adjacency { filtered.new.adjacency.now ≡ filtered.old.adjacency.now }
+    ensures onward { filtered.new.onward.items ≡ filtered.old.onward.items }
+    ensures spur { filtered.new.spur ≡ filtered.old.spur }
+    ensures spent { OnOk result (filtered.new.spent ≡ filtered.old.spent) }
+    ensures banned { OnOk result (filtered.new.banned.items ≡ []) }
+    ensures least { IfOk result (λ answer. MatchOption answer (HasNoneAlong C.value filtered.old.adjacency.now (take spur (drop 1 path.now)) filtered.old.banned.items)
+        (λ c. IsCheapestAlong C.value filtered.old.adjacency.now (take spur (drop 1 path.now)) filtered.old.banned.items c.path.items c.cost)) }
+    ensures parts { IfOk result (λ answer. IfSome answer (λ c. (c.spur ≡ spur) × (c.banned.items ≡ filtered.old.banned.items))) }
+    ensures overflow { result ≡ Err PathError.CostOverflow → OverflowsFromStart C.value (graph_filtered_by filtered.old) C.fits }
+    ensures errors { IfErr result (λ e. (e ≡ PathError.OutOfMemory) ⊎ (e ≡ PathError.CostOverflow)) }
+{
+    match named_way(alloc, filtered, path, spur)? {
+        Named::Way(path, cost) => Ok(Some(Candidate {
+            path,
+            cost,
+            spur,
+            banned: mem::replace(&mut filtered.banned, Vec::new(alloc)),
+        })),
+        Named::Nothing => {
+            filtered.banned.clear();
+            Ok(None)
+        }
+        Named::Unknown => searched(alloc, filtered, spur),
+    }
+}
+
 /// The graph narrowed to the walks that begin as the path does, up to the place `spur`.
 fn filtered_along<'k, C: Cost, A: Allocator + Copy>(
     alloc: A,
@@ -69,6 +139,7 @@ fn filtered_along<'k, C: Cost, A: Allocator + Copy>(
     ensures wide { IfOk result (λ filtered. length filtered.onward.items ≡ length adjacency.now.rows) }
     ensures banned { IfOk result (λ filtered. filtered.banned.items ≡ []) }
     ensures filtered { IfOk result (λ filtered. IsFilteredTo adjacency.now filtered.onward.items filtered.spur (take spur (drop 1 path.now))) }
+    ensures spent { IfOk result (λ filtered. IsSpent C.value adjacency.now (take spur (drop 1 path.now)) filtered.spent) }
     ensures refused { IfErr result (λ e. e ≡ PathError.OutOfMemory) }
 {
     let mut filtered = FilteredGraph::new(alloc, adjacency)?;
@@ -99,7 +170,7 @@ pub fn split<C: Cost, A: Allocator + Copy>(
     'places: for place in candidate.spur..candidate.path.len() - 1 {
         let next = candidate.path[place + 1];
         filtered.banned.push(next)?;
-        if let Some(plan) = least_of_class(alloc, &mut filtered, place)? {
+        if let Some(plan) = least_behind(alloc, &mut filtered, &candidate.path, place)? {
             plans.push(plan)?;
         }
         filtered.go_on(next);

@@ -1,9 +1,11 @@
 //! A known graph that is searched along one path: of the numbers on it, each has its next one alone.
 
-ghost use Rattle.std.specs.Prelude.{◌≡◌, ◌<◌, ℕ, [], Some, None, length, map, replicate, slice_set, OnOk, IfOk, IfErr};
+ghost use Rattle.std.specs.Prelude.{◌≡◌, ◌≤ℤ◌, ◌<◌, ◌++◌, ◌∷◌, ◌+ℤ◌, ℕ, List, [], Some, None, length, map, replicate, slice_set, Contains, OnOk, IfOk, IfErr, IfSome, MatchBool};
 ghost use Rattle.std.proofs.Common.{◌∙◌, sym};
+ghost use Rattle.pf_base.specs.Walks.{end_of};
 ghost use Rattle.pf_yen.specs.Internal.Filtered.{FilteredLists, allows, FilteredStep, StandsForItself, EndsInside, graph_filtered_by, filtered_row};
 ghost use Rattle.pf_yen.specs.Internal.Adjacency.{is_goal};
+ghost use Rattle.pf_yen.specs.Internal.NamedWays.{is_new, is_first, IsSpent};
 
 use crate::adjacency::Adjacency;
 use pf_base::{Cost, PathError};
@@ -19,6 +21,39 @@ pub struct FilteredGraph<'k, C: Cost, A: Allocator> {
     pub onward: Vec<Option<usize>, A>,
     pub spur: usize,
     pub banned: Vec<usize, A>,
+    /// What the way to the spur costs, where that fits.
+    pub spent: Option<C>,
+}
+
+/// The cost of a cheapest step to the number `to` in a row, if there is one.
+fn cheapest_step<C: Cost>(row: &[(usize, C)], to: usize) -> Option<C>
+    ensures { IfSome result (λ c. Contains row.now (to, c) × ((d : C) → Contains row.now (to, d) → C.value c ≤ℤ C.value d)) }
+{
+    let mut least = None;
+    'steps: for (next, price) in row {
+        if *next == to && is_less(*price, least) {
+            least = Some(*price);
+        }
+    }
+    least
+}
+
+/// Is there no other cost, or is it greater than this one?
+fn is_less<C: Cost>(cost: C, least: Option<C>) -> bool
+    ensures { MatchBool result (IfSome least (λ x. C.value cost ≤ℤ C.value x)) ((x : C) × (least ≡ Some x) × (C.value x ≤ℤ C.value cost)) }
+{
+    match least {
+        Some(least) => cost < least,
+        None => true,
+    }
+}
+
+/// What was spent and a cheapest step of the row to the number `to` cost together, where that is known
+/// and fits.
+fn spent_on<C: Cost>(spent: Option<C>, row: &[(usize, C)], to: usize) -> Option<C>
+    ensures { IfSome result (λ sum. (s c : C) × (spent ≡ Some s) × (C.value sum ≡ C.value s +ℤ C.value c) × Contains row.now (to, c) × ((d : C) → Contains row.now (to, d) → C.value c ≤ℤ C.value d)) }
+{
+    spent?.checked_add(&cheapest_step(row, to)?)
 }
 
 impl<'k, C: Cost, A: Allocator> FilteredGraph<'k, C, A> {
@@ -28,6 +63,7 @@ impl<'k, C: Cost, A: Allocator> FilteredGraph<'k, C, A> {
         A: Copy,
         ensures graph { IfOk result (λ filtered. (filtered.adjacency.now ≡ adjacency.now) × (filtered.spur ≡ 0) × (filtered.banned.items ≡ [])) }
         ensures onward { IfOk result (λ filtered. filtered.onward.items ≡ replicate (length adjacency.now.rows) None) }
+        ensures spent { IfOk result (λ filtered. IsSpent C.value adjacency.now [] filtered.spent) }
         ensures refused { IfErr result (λ e. e ≡ PathError.OutOfMemory) }
     {
         let mut onward = Vec::new(alloc);
@@ -37,19 +73,39 @@ impl<'k, C: Cost, A: Allocator> FilteredGraph<'k, C, A> {
             onward,
             spur: 0,
             banned: Vec::new(alloc),
+            spent: Some(C::zero()),
         })
     }
 
     /// Goes on from the spur to the next number alone, which is the spur from then on.
     pub fn go_on(&mut self, next: usize)
-        requires { self.old.spur < length self.old.onward.items }
+        requires inside { self.old.spur < length self.old.onward.items }
+        requires wide { length self.old.onward.items ≡ length self.old.adjacency.now.rows }
         ensures adjacency { self.new.adjacency.now ≡ self.old.adjacency.now }
         ensures onward { self.new.onward.items ≡ slice_set self.old.onward.items self.old.spur (Some next) }
         ensures spur { self.new.spur ≡ next }
         ensures banned { self.new.banned.items ≡ self.old.banned.items }
+        ensures spent { (q : List ℕ) → IsSpent C.value self.old.adjacency.now q self.old.spent → end_of 0 q ≡ self.old.spur → IsSpent C.value self.old.adjacency.now (q ++ next ∷ []) self.new.spent }
     {
+        self.spent = spent_on(self.spent, self.adjacency.row(self.spur), next);
         self.onward[self.spur] = Some(next);
         self.spur = next;
+    }
+
+    /// Is a number neither the spur nor one before it?
+    pub fn is_new(&self, number: usize) -> bool
+        requires { number < length self.now.onward.items }
+        ensures { result ≡ is_new self.now.onward.items self.now.spur number }
+    {
+        self.onward[number].is_none() && number != self.spur
+    }
+
+    /// May a path go on to a number from the spur, and not come back?
+    pub fn may_be_first(&self, number: usize) -> bool
+        requires { number < length self.now.onward.items }
+        ensures { result ≡ is_first self.now.onward.items self.now.spur self.now.banned.items number }
+    {
+        self.is_new(number) && !self.banned.contains(&number)
     }
 
     /// Is a step from one number to the other left?

@@ -10,4 +10,6 @@ mod explore;
 mod filtered;
 mod given;
 pub mod laws;
+mod named;
+mod remaining;
 mod standing;

@@ -151,7 +151,8 @@ where
         self.standing = self.standing.resumed();
     }
 
-    /// Learns of the graph, unless a path was looked for before.
+    /// Learns of the graph, unless a path was looked for before. Once a path was given, what remains
+    /// from each node is looked for, which the further paths are found by.
     fn explore_graph(&mut self) -> Result<(), PathError>
         requires walk { IsSomePathWalk N.eq C.value C.fits F.answers T.answers self.old }
         ensures walk { OfPathWalk N.eq C.value C.fits F.answers T.answers self.old (λ edges start test.
@@ -165,6 +166,9 @@ where
         ensures bar { self.new.barred ≡ self.old.barred }
         ensures refused { IfErr result (λ e. e ≡ PathError.OutOfMemory) }
     {
+        if self.plans.is_given {
+            return self.adjacency.note_remaining(self.alloc);
+        }
         if self.plans.has_begun {
             return Ok(());
         }

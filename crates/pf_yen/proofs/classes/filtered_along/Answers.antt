@@ -1,6 +1,6 @@
 use Rattle.std.proofs.Common.{◌∙◌, ap, length, arith}
 use Rattle.std.proofs.lemmas.List.{length-set, length-replicate}
-use Rattle.pf_yen.proofs.SplitLemmas.{filtered_first, filtered_on, spur_inside}
+use Rattle.pf_yen.proofs.SplitLemmas.{filtered_first, filtered_on, spent_on, spur_inside}
 use Rattle.std.proofs.lemmas.Result.{IfOk-from_err}
 use Rattle.pf_base.proofs.Outcomes.{refused_as}
 use Rattle.pf_yen.proofs.classes.filtered_along.Goals as goal
@@ -13,10 +13,14 @@ places-init g c =
       wide = ap length e.onward ∙ length-replicate _ _;
       banned = e.graph.2;
       filtered = rw (e.onward, e.graph.1) (filtered_first c.args.adjacency.now (length c.args.adjacency.now.rows) c.requires.some);
+      spent = e.spent;
     }
 
-pub go_on-requires : goal.go_on-requires
-go_on-requires g c = let i = c.places.invariant in spur_inside c.args.adjacency.now c.places.filtered.onward.items c.places.filtered.spur _ i.filtered
+pub go_on-requires-clause-inside : goal.go_on-requires-clause-inside
+go_on-requires-clause-inside g c = let i = c.places.invariant in spur_inside c.args.adjacency.now c.places.filtered.onward.items c.places.filtered.spur _ i.filtered
+
+pub go_on-requires-clause-wide : goal.go_on-requires-clause-wide
+go_on-requires-clause-wide g c = rw c.places.invariant.adjacency c.places.invariant.wide
 
 pub places-preserved : goal.places-preserved
 places-preserved g c =
@@ -28,11 +32,14 @@ places-preserved g c =
       wide = ap length e.onward ∙ length-set _ _ _ ∙ i.wide;
       banned = e.banned ∙ i.banned;
       filtered = rw (e.onward, e.spur) (filtered_on g.C.Number.value c.args.adjacency.now c.requires.whole c.args.path.now u.0 c.places.place 0 c.places.filtered.onward.items c.places.filtered.spur u.1 (omega (arith, c.places-test.true, c.requires.inside)) i.wide i.filtered);
+      spent = spent_on g.C.Number.value c.args.adjacency.now c.requires.whole c.args.path.now u.0 c.places.place 0 c.places.filtered.onward.items c.places.filtered.spur u.1 (omega (arith, c.places-test.true, c.requires.inside)) i.filtered c.places.filtered.spent c.go_on.new.self.spent
+          (rw i.adjacency at e.spent) i.spent;
     }
 
 pub returns-in_err-filtered : goal.returns-in_err-filtered
 returns-in_err-filtered g c = record {
   banned = IfOk-from_err _ _ c.from_residual.ensures.0;
+  spent = IfOk-from_err _ _ c.from_residual.ensures.0;
   adjacency = IfOk-from_err _ _ c.from_residual.ensures.0;
   filtered = IfOk-from_err _ _ c.from_residual.ensures.0;
   refused = refused_as _ c.from_residual.result c.in_err-filtered.field-0.0 c.from_residual.ensures.1 c.in_err-filtered.ensures.refused;

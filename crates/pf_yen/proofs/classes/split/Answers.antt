@@ -5,7 +5,7 @@ use Rattle.pf_base.specs.declared.error.PathError.TheVariants.{CostOverflow, Out
 use Rattle.pf_yen.specs.declared.candidate.Candidate.{Candidate}
 use Rattle.pf_yen.specs.Internal.Classes.{plan_of}
 use Rattle.pf_yen.specs.Internal.Splits.{IsFilteredTo, IsSplitUpTo}
-use Rattle.pf_yen.proofs.SplitLemmas.{filtered_on, spur_inside, split_first, split_none, split_some, split_last, past_here}
+use Rattle.pf_yen.proofs.SplitLemmas.{filtered_on, spent_on, prefix_of, begins_with, spur_inside, split_first, split_none, split_some, split_last, past_here}
 use Rattle.pf_yen.proofs.classes.split.Goals.{in-Some+in_ok-push-2, in_default}
 use Rattle.std.proofs.lemmas.Result.{IfOk-from_err}
 use Rattle.pf_base.proofs.Outcomes.{no_overflow, ok_is_no_error, overflow_kept, refused_as}
@@ -19,16 +19,23 @@ places-init g c =
       adjacency = e.adjacency;
       wide = e.wide;
       filtered = rw c.deref.ensures.value at e.filtered;
+      spent = rw c.deref.ensures.value at e.spent;
       split =
           let b : c.extend_from_slice.new.self.items ≡ c.args.candidate.now.banned.items = c.in_ok-extend_from_slice.ensures.items ∙ ap (λ (v : List ℕ). v ++ c.deref-2.result.now) e.banned ∙ c.deref-2.ensures.value in
           rw (b, c.new-plans.ensures.items) (split_first value c.args.adjacency.now c.requires.whole (plan_of c.args.candidate.now) c.requires.cheapest);
     }
 
-pub go_on-requires : goal.go_on-requires
-go_on-requires g c =
+pub go_on-requires-clause-inside : goal.go_on-requires-clause-inside
+go_on-requires-clause-inside g c =
     let i = c.places.invariant in
     let e = c.in_ok-plan.ensures in
     rw (e.onward, e.spur) (spur_inside c.args.adjacency.now c.places.filtered.onward.items c.places.filtered.spur _ i.filtered)
+
+pub go_on-requires-clause-wide : goal.go_on-requires-clause-wide
+go_on-requires-clause-wide g c =
+    let i = c.places.invariant in
+    let e = c.in_ok-plan.ensures in
+    rw (e.onward, e.adjacency, i.adjacency) i.wide
 
 pub places-preserved : goal.places-preserved
 places-preserved g c =
@@ -47,15 +54,18 @@ places-preserved g c =
       wide = ap length o.onward ∙ length-set _ _ _ ∙ ap length e.onward ∙ i.wide;
       filtered = rw (o.onward, o.spur, e.onward, e.spur) (subst (λ (m : ℕ). IsFilteredTo c.args.adjacency.now (slice_set s.onward.items s.spur (Some m)) m (take (c.places.place + 1) (drop 1 c.args.candidate.now.path.items))) (sym at)
           (filtered_on value c.args.adjacency.now c.requires.whole c.args.candidate.now.path.items (value c.args.candidate.now.cost) c.places.place n s.onward.items s.spur h.clean inside i.wide i.filtered));
+      spent =
+          let on = rw (e.adjacency, i.adjacency, e.spent, e.spur) at o.spent in
+          spent_on value c.args.adjacency.now c.requires.whole c.args.candidate.now.path.items (value c.args.candidate.now.cost) c.places.place n s.onward.items s.spur h.clean inside i.filtered s.spent c.go_on.new.self.spent (rw at at on) i.spent;
       split = rw (o.banned, e.banned) (elim c.match-branch-5.branch as (λ _. IsSplitUpTo value c.args.adjacency.now (plan_of c.args.candidate.now) (c.places.place + 1) [] (map plan_of c.match-branch-5.plans.items)) [
         | in-Some+in_ok-push-2 w ↦
-            let b = rw w.in-Some.is at (e.least (take c.places.place (drop 1 c.args.candidate.now.path.items)) (rw i.adjacency i.filtered)) in
+            let b = rw (w.in-Some.is, c.deref-in-places.ensures.value) at e.least in
             let p = rw w.in-Some.is at e.parts in
             let m = ap (λ (v : List (Candidate g.row.C.Denot g.row.A.Denot)). map plan_of v) (ap (λ x. x.items) w.plans-is ∙ w.in_ok-push-2.ensures.items) ∙ map-append plan_of c.places.plans.items (w.in-Some.plan ∷ []) in
             rw m (split_some value c.args.adjacency.now c.requires.whole (plan_of c.args.candidate.now) h c.places.place n s.banned.items (map plan_of c.places.plans.items) i.split inside (plan_of w.in-Some.plan)
             (rw (i.adjacency, banned) at b) p.0 (p.1 ∙ banned))
         | in_default w ↦
-            let b = rw w.in_default.is at (e.least (take c.places.place (drop 1 c.args.candidate.now.path.items)) (rw i.adjacency i.filtered)) in
+            let b = rw (w.in_default.is, c.deref-in-places.ensures.value) at e.least in
             let m = ap (λ x. x.items) w.plans-is in
             rw m (split_none value c.args.adjacency.now c.requires.whole (plan_of c.args.candidate.now) h c.places.place n s.banned.items (map plan_of c.places.plans.items) i.split inside (rw (i.adjacency, banned) at b))
       ]);
@@ -130,11 +140,24 @@ filtered_along-requires-clause-clean g c = rw c.deref.ensures.value (_, c.requir
 pub filtered_along-requires-clause-inside : goal.filtered_along-requires-clause-inside
 filtered_along-requires-clause-inside g c = rw c.deref.ensures.value c.requires.cheapest.inside
 
-pub least_of_class-requires-clause-whole : goal.least_of_class-requires-clause-whole
-least_of_class-requires-clause-whole g c = rw c.places.invariant.adjacency c.requires.whole
+pub least_behind-requires-clause-whole : goal.least_behind-requires-clause-whole
+least_behind-requires-clause-whole g c = rw c.places.invariant.adjacency c.requires.whole
 
-pub least_of_class-requires-clause-some : goal.least_of_class-requires-clause-some
-least_of_class-requires-clause-some g c = rw c.places.invariant.adjacency c.requires.some
+pub least_behind-requires-clause-some : goal.least_behind-requires-clause-some
+least_behind-requires-clause-some g c = rw c.places.invariant.adjacency c.requires.some
 
-pub least_of_class-requires-clause-wide : goal.least_of_class-requires-clause-wide
-least_of_class-requires-clause-wide g c = rw c.places.invariant.adjacency c.places.invariant.wide
+pub least_behind-requires-clause-wide : goal.least_behind-requires-clause-wide
+least_behind-requires-clause-wide g c = rw c.places.invariant.adjacency c.places.invariant.wide
+
+pub least_behind-requires-clause-begins : goal.least_behind-requires-clause-begins
+least_behind-requires-clause-begins g c = rw c.deref-in-places.ensures.value (begins_with g.C.Number.value c.args.adjacency.now c.requires.whole c.args.candidate.now.path.items (g.C.Number.value c.args.candidate.now.cost) c.places.place c.requires.cheapest.clean)
+
+pub least_behind-requires-clause-inside : goal.least_behind-requires-clause-inside
+least_behind-requires-clause-inside g c = rw c.deref-in-places.ensures.value (omega (arith, c.len-place-end.ensures, c.places-test.true))
+
+pub least_behind-requires-clause-prefix : goal.least_behind-requires-clause-prefix
+least_behind-requires-clause-prefix g c =
+    let i = c.places.invariant in
+    let s = c.places.filtered in
+    rw (c.deref-in-places.ensures.value, i.adjacency) (prefix_of g.C.Number.value c.args.adjacency.now c.requires.whole c.args.candidate.now.path.items (g.C.Number.value c.args.candidate.now.cost) c.places.place s.onward.items s.spur s.spent c.requires.cheapest.clean
+    (omega (arith, c.len-place-end.ensures, c.places-test.true)) i.filtered i.spent)

@@ -1,5 +1,6 @@
 use Rattle.std.proofs.Common.{◌≡◌, length, take, drop, map}
 use Rattle.pf_yen.specs.Internal.Classes.{plan_of}
+use Rattle.pf_yen.specs.Internal.NamedWays.{IsSpent}
 use Rattle.pf_yen.specs.Internal.Splits.{IsFilteredTo, IsSplitUpTo}
 use Rattle.pf_yen.proofs.classes.split.Given as goal
 
@@ -8,5 +9,6 @@ invariant-places g l = record {
   adjacency : l.filtered.adjacency.now ≡ l.fn.adjacency;
   wide : length l.filtered.onward.items ≡ length l.fn.adjacency.rows;
   filtered : IsFilteredTo l.fn.adjacency l.filtered.onward.items l.filtered.spur (take l.place (drop 1 l.fn.candidate.path.items));
+  spent : IsSpent g.C.Number.value l.fn.adjacency (take l.place (drop 1 l.fn.candidate.path.items)) l.filtered.spent;
   split : IsSplitUpTo g.C.Number.value l.fn.adjacency (plan_of l.fn.candidate) l.place l.filtered.banned.items (map plan_of l.plans.items);
 }

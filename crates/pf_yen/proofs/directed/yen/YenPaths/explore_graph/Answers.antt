@@ -14,7 +14,4 @@ returns-clause-walk g c = λ edges start test w.
     let e = c.explore.ensures in
     let t = c.explore.new.graph in
     let asked : TestedGraph g.row.N.Denot = record { graph = graph_of start edges; test = test } in
-    learned_on v g.met.N.Eq.laws t.discovery.nodes.keys c.explore.new.adjacency t.discovery.source.function t.success e.grows (e.graph asked (v.explored, v.tested)) (e.learned asked (v.explored, v.tested) v.planned.learned) c.if-self.false
-
-pub returns-then-self-clause-refused : goal.returns-then-self-clause-refused
-returns-then-self-clause-refused g c = tt
+    learned_on v g.met.N.Eq.laws t.discovery.nodes.keys c.explore.new.adjacency t.discovery.source.function t.success e.grows (e.graph asked (v.explored, v.tested)) (e.learned asked (v.explored, v.tested) v.planned.learned) c.if-self-2.false

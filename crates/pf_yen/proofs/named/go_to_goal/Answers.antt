@@ -1,0 +1,26 @@
+use Rattle.std.proofs.Common.{◌∙◌, sym, ap, subst, ℕ, List}
+use Rattle.std.specs.Prelude.{◌≤ℤ◌}
+use Rattle.std.specs.Ordering.{is_some_and, is_lt}
+use Rattle.pf_base.proofs.ListLemmas.{lt_means}
+use Rattle.pf_yen.specs.Internal.NamedWays.{IsWaySoFar}
+use Rattle.pf_yen.proofs.NamedLemmas.{not_less, way_on}
+use Rattle.pf_yen.proofs.named.go_to_goal.Goals as goal
+
+pub steps-preserved : goal.steps-preserved
+steps-preserved g c =
+    let value = g.C.Number.value in
+    let s = c.args.filtered.now in
+    let k = s.adjacency.now in
+    let n = rw c.in-Some.is at c.step_on.ensures in
+    record {
+      inside = c.requires.whole.inside c.steps.number c.in-Some.step.0 n.price n.edge;
+      way = λ q total w. (subst (λ (v : List ℕ). IsWaySoFar value k s.onward.items s.spur q s.banned.items c.args.costs.now total v c.in-Some.step.0 c.in-Some.step.1) (sym c.in_ok-push.ensures.items)
+          (way_on value k c.requires.whole c.args.costs.now s.onward.items s.spur q s.banned.items total c.steps.path.items c.steps.number c.in-Some.step.0 c.steps.here c.in-Some.step.1 n (c.steps.invariant.way q total w)));
+    }
+
+pub returns-clause-goal : goal.returns-clause-goal
+returns-clause-goal g c = λ found q total w.
+    let value = g.C.Number.value in
+    let o = g.met.C.Number.order_law c.steps.here c.zero.result g.met.C.Integral.exact_law in
+    let low = not_less c.lt.result (value c.steps.here) (value c.zero.result) (lt_means (value c.steps.here) (value c.zero.result) c.lt.result (c.lt.ensures ∙ ap (is_some_and is_lt) o)) found in
+    (c.steps.number, c.steps.here, c.steps.invariant.way q total w, sym c.is_goal.ensures ∙ c.steps-test.false, subst (λ (z : _). value z ≤ℤ value c.steps.here) c.zero.ensures low)
