@@ -59,8 +59,25 @@ fn least_from<C: Cost, A: Allocator>(
     least_on(adjacency.row(number), costs)
 }
 
-/// Sets the cost of each number to what remains from it by the others. The answer is whether all sums
-/// fit.
+/// Sets the cost of a number to what remains from it by the others. The answer is whether all sums fit.
+fn lower<C: Cost, A: Allocator>(
+    adjacency: &Adjacency<C, A>,
+    costs: &mut Vec<Option<C>, A>,
+    number: usize,
+) -> bool
+    requires inside { number < length adjacency.now.rows }
+    requires wide { length costs.old.items ≡ length adjacency.now.rows }
+    ensures { length costs.new.items ≡ length adjacency.now.rows }
+{
+    let Some(least) = least_from(adjacency, costs, number) else {
+        return false;
+    };
+    costs[number] = least;
+    true
+}
+
+/// Sets the cost of each number so, from the last one to the first and back: a way whose numbers rise
+/// or fall is followed in one go. The answer is whether all sums fit.
 fn lower_all<C: Cost, A: Allocator>(
     adjacency: &Adjacency<C, A>,
     costs: &mut Vec<Option<C>, A>,
@@ -69,12 +86,16 @@ fn lower_all<C: Cost, A: Allocator>(
     ensures { length costs.new.items ≡ length adjacency.now.rows }
 {
     let mut number = adjacency.len();
-    'numbers: while number > 0 {
+    'falling: while number > 0 {
         number -= 1;
-        let Some(least) = least_from(adjacency, costs, number) else {
+        if !lower(adjacency, costs, number) {
             return false;
-        };
-        costs[number] = least;
+        }
+    }
+    'rising: for number in 0..adjacency.len() {
+        if !lower(adjacency, costs, number) {
+            return false;
+        }
     }
     true
 }
@@ -109,8 +130,8 @@ fn are_settled<C: Cost, A: Allocator>(adjacency: &Adjacency<C, A>, costs: &[Opti
 }
 
 /// In so many rounds the costs agree, but on graphs whose cheapest ways go back and forth between low
-/// and high numbers again and again.
-const MOST_ROUNDS: usize = 64;
+/// and high numbers again and again. These are not worth more rounds than a few searches take.
+const MOST_ROUNDS: usize = 16;
 
 /// What remains from each number to a goal, or `None` where some sum does not fit, or the costs do not
 /// agree after so many rounds.
