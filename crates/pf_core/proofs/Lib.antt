@@ -24,3 +24,4 @@ pub mod ReadLemmas
 pub mod VisitLemmas
 pub mod PeekLemmas
 pub mod HopTurns
+pub mod SearchedLemmas

@@ -1,5 +1,5 @@
 -- What a call reads, and what it leaves as it was.
-use Rattle.std.proofs.Common.{ℕ, ◌≡◌, ◌<◌, ◌≤◌, ◌+◌, ◌-◌, ◌∙◌, refl, sym, ap, subst, arith, Bool, true, false, ℤ, inl, List, [], ◌∷◌, length, take, take_all, get_or, Option, Some, None}
+use Rattle.std.proofs.Common.{ℕ, ◌≡◌, ◌<◌, ◌≤◌, ◌+◌, ◌-◌, ◌^◌, ◌∙◌, refl, sym, ap, subst, arith, Bool, true, false, ℤ, inl, List, [], ◌∷◌, length, take, take_all, get_or, Option, Some, None}
 use Rattle.std.specs.Prelude.{◌↔◌, slice_get, slice_set, Contains}
 use Rattle.std.specs.declared.cmp.Ordering.{Ordering}
 use Rattle.std.specs.BinaryHeap.{IsHeap}
@@ -8,9 +8,10 @@ use Rattle.indexmap.specs.IndexSet.{insert_key}
 use Rattle.pf_base.specs.NodeRefs.{HasSameNodes}
 use Rattle.std.proofs.lemmas.List.{length-take-le}
 use Rattle.pf_core.specs.declared.labels.Label.{Label}
-use Rattle.pf_core.specs.Labels.{Labels, HasLabel, by_cost, settled_count, Relaxed, Widened}
+use Rattle.std.proofs.lemmas.List.Sums.{count_by-le-length}
+use Rattle.pf_core.specs.Labels.{Labels, HasLabel, by_cost, is_settled, settled_count, Relaxed, Widened}
 use Rattle.pf_core.specs.Queue.{Entries}
-use Rattle.pf_core.specs.Search.{IsSound}
+use Rattle.pf_core.specs.Search.{IsSound, IsLeast, IsSearch, Turned}
 use Rattle.pf_core.specs.Numbered.{Grows}
 use Rattle.pf_core.specs.Nodes.{StandsFor}
 use Rattle.pf_core.specs.DepthFirst.{IsVisited}
@@ -110,3 +111,28 @@ module _ {C : Type 0} (labels : Labels C) (k : ℕ) where
       let read : slice_get labels k ≡ Some o = at_place labels k o o (HasLabel-inside labels k l at) (sym is) in
       let both : Some (Some l) ≡ Some o = sym at ∙ read in
       cc
+
+-- the same labels, told again
+module _ {C : Type 0} (labels now : Labels C) (same : now ≡ labels) where
+  pub still_at : (k : ℕ) (l : Label C) → HasLabel labels k l → HasLabel now k l
+  still_at k l h = subst (λ (a : Labels C). HasLabel a k l) (sym same) h
+
+  pub was_at : (k : ℕ) (l : Label C) → HasLabel now k l → HasLabel labels k l
+  was_at k l h = subst (λ (a : Labels C). HasLabel a k l) same h
+
+  pub still_least : (value : C → ℤ) (k : ℕ) → (l : Label C) × IsLeast (by_cost value) labels k l → (l : Label C) × IsLeast (by_cost value) now k l
+  still_least value k z = subst (λ (a : Labels C). (l : Label C) × IsLeast (by_cost value) a k l) (sym same) z
+
+  pub still_labelled : (value : C → ℤ) (k : ℕ) → (l : Label C) × IsLeast (by_cost value) labels k l → (l : Label C) × HasLabel now k l
+  still_labelled value k z = (z.0, still_at k z.0 z.1.at)
+
+  pub still_search : {X : Type 0} (measure : C → ℕ → ℤ) (step : X → ℤ → X → Type 0) (root : ℕ → Bool) (stands : ℕ → X → Type 0) → IsSearch measure step root stands labels → IsSearch measure step root stands now
+  still_search measure step root stands s = subst (IsSearch measure step root stands) (sym same) s
+
+  -- what a turn settled, where it began with these labels
+  pub turned_from : (k : ℕ) (l : Label C) (after : Labels C) → HasLabel labels k l → ((m : Label C) → HasLabel now k m → Turned k m now after) → Turned k l labels after
+  turned_from k l after h t = subst (λ (a : Labels C). Turned k l a after) same (t l (still_at k l h))
+
+-- a turn leaves fewer numbers to settle
+pub turn_smaller : {C : Type 0} (labels after : Labels C) (k : ℕ) (l : Label C) → Turned k l labels after → (n cap : ℕ) → (n ≡ length labels) × (n ≤ cap) → cap < 2 ^ 63 → 2 ^ 64 - settled_count after < 2 ^ 64 - settled_count labels
+turn_smaller labels after k l t n cap ok small = omega (arith, t.count, count_by-le-length is_settled labels, ok, small)

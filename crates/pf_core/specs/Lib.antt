@@ -10,6 +10,7 @@ pub mod Breadth
 pub mod Sides
 pub mod Queue
 pub mod Search
+pub mod Searched
 pub mod Sums
 pub mod Nodes
 pub mod NodeLaws

@@ -16,7 +16,6 @@ pub mod DepthWalkLemmas
 pub mod PreorderPaths
 pub mod ParentLemmas
 pub mod MapLemmas
-pub mod OrderLemmas
 pub mod LeastLemmas
 pub mod ItemLemmas
 pub mod ReachLemmas

@@ -23,10 +23,11 @@ use Rattle.pf_core.proofs.SearchLemmas.{goal_above, found_at, rooted}
 use Rattle.pf_core.proofs.NodeLemmas.{eq-sym, StandsFor-same, HasEdge-same, InReach-same, InReach-start}
 use Rattle.pf_core.proofs.WalkLemmas.{no_negative, goes_of_walk, none_less, best_answer, all_starts, only_starts}
 use Rattle.pf_search.specs.Parents.{HasEntry, IsParent, IsChainOfParents, MeetsNoneTwice, asked_nodes, IsLeastCost, CostsNoMore, RisesInCost, CostsNoMoreThanStop, IsStepFrom, IsPartialMap}
-use Rattle.pf_search.specs.Internal.Partial.{Rises, BeginsWith, IsOrder, MapsLabels}
+use Rattle.pf_core.specs.Searched.{Rises, BeginsWith, IsOrder}
+use Rattle.pf_search.specs.Internal.Partial.{MapsLabels}
 use Rattle.pf_search.proofs.CheapestLemmas.{same_node}
 use Rattle.pf_search.proofs.LeastLemmas.{one_cost}
-use Rattle.pf_search.proofs.OrderLemmas.{Contains-more, Rises-more, settled_low}
+use Rattle.pf_core.proofs.SearchedLemmas.{Contains-more, Rises-more, settled_low}
 
 -- what a number stands for is in reach, where its node is
 pub reached_at : {N : Type 0} (eq : N → N → Bool) (laws : IsEquivalence eq) (edges : N → List (N × ℤ)) (start : N) (keys : List N) → ((k : ℕ) (x : N) → slice_get keys k ≡ Some x → InReach eq edges (start ∷ []) x)

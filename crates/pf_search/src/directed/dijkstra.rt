@@ -80,7 +80,7 @@ where
 /// The algorithm is Dijkstra's (E. W. Dijkstra, "A note on two problems in connexion with graphs",
 /// 1959), with a binary heap: over n nodes and m edges in reach it takes time of the order of
 /// (n + m) log (n + m). `successors` is asked at most once for each node in reach; no clause can count the
-/// calls of a function, so that this is so is to be read in `cheapest_path`.
+/// calls of a function, so that this is so is to be read in `search_to_goal`.
 pub fn dijkstra<N, C, IN, FN, FS, A>(
     alloc: A,
     start: &N,

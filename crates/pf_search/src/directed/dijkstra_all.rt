@@ -1,68 +1,26 @@
 //! Cheapest paths to all nodes in reach of a start, or to those up to a node at which the search stops.
 
-ghost use Rattle.std.specs.Prelude.{◌≡◌, ◌⊎◌, ◌<◌, [], ◌∷◌, List, ℕ, ℤ, Bool, Err, true, false, nat_eq, length, IfOk, IfErr, IfSome};
+ghost use Rattle.std.specs.Prelude.{◌≡◌, ◌⊎◌, ◌<◌, [], ◌∷◌, List, ℕ, ℤ, Bool, Err, false, length, IfOk, IfErr};
 ghost use Rattle.std.specs.HashMap.{get};
 ghost use Rattle.pf_base.specs.Answers.{IsLawfulClone};
 ghost use Rattle.pf_base.specs.Edges.{HasNoNegativeCost, AnswersWeightedGraph, OfWeightedGraph, AnswersWeightedSearch, OfWeightedSearch, CostOverflows};
 ghost use Rattle.pf_core.specs.declared.labels.Label.{Label};
-ghost use Rattle.pf_core.specs.Labels.{HasLabel, by_cost, IsTree};
-ghost use Rattle.pf_core.specs.Numbered.{Grows};
-ghost use Rattle.pf_core.specs.Search.{IsSearch};
-ghost use Rattle.pf_core.specs.Steps.{IsNonNegative, NumberedOverflows};
+ghost use Rattle.pf_core.specs.Labels.{HasLabel};
 ghost use Rattle.pf_search.specs.Parents.{IsCheapestMap, IsPartialMap};
 ghost use Rattle.pf_search.specs.Internal.Begun.{IsBegun, OfBegun};
-ghost use Rattle.pf_search.specs.Internal.Partial.{IsEnded, MapsLabels};
+ghost use Rattle.pf_search.specs.Internal.Partial.{MapsLabels};
 
 use crate::directed::build_path::Parents;
+use pf_base::utils::Tally;
 use pf_base::{Cost, EdgeFunction, NodeTest, PathError};
+use pf_core::dijkstra::search_to_goal;
 use pf_core::discovery::{Discovery, clone_of};
-use pf_core::numbered::{GoalGraph, NumberedGraph};
-use pf_core::search::Search;
 use pf_core::slot::Slot;
 use pf_core::source::{EdgeSource, Weighted};
 use pf_core::tested::Tested;
 use std::alloc::Allocator;
 use std::collections::HashMap;
 use std::hash::Hash;
-
-/// What a search by rising cost from the number `start` finds: the labels, once the first goal is the
-/// least that is open, and the number of that goal, or `None` where no goal is in reach.
-fn search_to_goal<C, G, A>(
-    alloc: A,
-    graph: &mut G,
-    start: usize,
-) -> Result<(Vec<Slot<C>, A>, Option<usize>), PathError>
-where
-    C: Cost,
-    G: GoalGraph<C>,
-    A: Allocator + Copy,
-    requires inside { start < G.node_count graph.old }
-    requires begins { (s : G.Node) × G.stands graph.old start s }
-    requires graph { (g : G.Graph) × G.explores graph.old g × IsNonNegative (G.step g) }
-    ensures graph { (g : G.Graph) → G.explores graph.old g → G.explores graph.new g }
-    ensures grows { Grows (G.node_count graph.old) (G.node_count graph.new) (G.stands graph.old) (G.stands graph.new) }
-    ensures wide { IfOk result (λ r. length r.0.items ≡ G.node_count graph.new) }
-    ensures tree { IfOk result (λ r. IsTree r.0.items) }
-    ensures ended { IfOk result (λ r. IsEnded C.value r.0.items start r.1) }
-    ensures search { (g : G.Graph) → G.explores graph.old g → IsNonNegative (G.step g)
-        → IfOk result (λ r. IsSearch (by_cost C.value) (G.step g) (λ k. nat_eq k start) (G.stands graph.new) r.0.items) }
-    ensures passed { (g : G.Graph) → G.explores graph.old g
-        → IfOk result (λ r. (k : ℕ) (l : Label C) (x : G.Node) → HasLabel r.0.items k l → l.settled ≡ true → G.stands graph.new k x → G.passes g x ≡ false) }
-    ensures goal { (g : G.Graph) → G.explores graph.old g
-        → IfOk result (λ r. IfSome r.1 (λ k. (x : G.Node) → G.stands graph.new k x → G.passes g x ≡ true)) }
-    ensures overflow { (g : G.Graph) → G.explores graph.old g → IsNonNegative (G.step g)
-        → result ≡ Err PathError.CostOverflow → NumberedOverflows (G.step g) (G.passes g) (G.stands graph.old start) (G.stands graph.new) C.fits }
-    ensures errors { IfErr result (λ e. (e ≡ PathError.OutOfMemory) ⊎ (e ≡ PathError.CostOverflow)) }
-{
-    let mut search = Search::begin(alloc, graph.node_count(), start)?;
-    'turns: while let Some(number) = search.least() {
-        if graph.is_goal(number) {
-            return Ok((search.labels, Some(number)));
-        }
-        search.turn(graph, number)?;
-    }
-    Ok((search.labels, None))
-}
 
 /// The map of the parents and costs that labels say, save that of number 0, of clones of the nodes.
 fn map_of<N, C, A>(alloc: A, nodes: &[N], labels: &[Slot<C>]) -> Result<Parents<N, C, A>, PathError>
@@ -112,7 +70,7 @@ where
 
     ensures errors { IfErr result (λ e. (e ≡ PathError.OutOfMemory) ⊎ (e ≡ PathError.CostOverflow)) }
 {
-    let (labels, goal) = search_to_goal(alloc, graph, 0)?;
+    let (labels, goal) = search_to_goal(alloc, graph, 0, &mut Tally::new())?;
     let nodes = graph.discovery.nodes.as_slice();
     let parents = map_of(alloc, nodes, &labels)?;
     let stopped = match goal {

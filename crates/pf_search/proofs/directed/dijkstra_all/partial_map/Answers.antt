@@ -7,13 +7,14 @@ use Rattle.pf_core.specs.NodeLaws.{StandsFor-one}
 use Rattle.pf_core.specs.Labels.{Labels, HasLabel}
 use Rattle.pf_core.proofs.LabelLemmas.{HasLabel-inside}
 use Rattle.pf_search.specs.Parents.{IsPartialMap}
-use Rattle.pf_search.specs.Internal.Partial.{IsEnded}
+use Rattle.pf_core.specs.Searched.{HasSearched}
 use Rattle.pf_search.proofs.StillLemmas.{read_at, read_inside}
 use Rattle.pf_base.proofs.Outcomes.{if_refused, memory_no_overflow, no_memory_or, no_overflow, ok_is_no_error, overflow_kept, refused_as}
 use Rattle.pf_core.proofs.WalkLemmas.{all_starts, only_starts, no_negative, cost_overflows}
 use Rattle.pf_search.proofs.PartialLemmas.{parent_inside, reached_at, begins_on, maps_read, whole_map, stopped_map}
 use Rattle.pf_search.proofs.directed.dijkstra_all.partial_map.Goals.{in-Some+in_ok-clone-in-Some, in-None}
-use Rattle.pf_search.proofs.ResultLemmas.{if_some}
+use Rattle.pf_search.proofs.ResultLemmas.{when_none}
+use Rattle.pf_core.proofs.SearchedLemmas.{is_least}
 use Rattle.std.proofs.lemmas.Result.{IfOk-from_err}
 use Rattle.pf_search.proofs.directed.dijkstra_all.partial_map.Goals as goal
 
@@ -27,8 +28,7 @@ search_to_goal-requires-clause-begins g c = let r = c.requires.graph in (r.1, (r
 pub search_to_goal-requires-clause-graph : goal.search_to_goal-requires-clause-graph
 search_to_goal-requires-clause-graph g c =
     let r = c.requires.graph in
-    let h = tested r.1 r.0 r.2 in
-    (h, (r.3.explores, r.3.tested), no_negative g.N.PartialEq.eq g.met.N.Eq.laws h.graph r.3.explores.alike r.4)
+    (tested r.1 r.0 r.2, (r.3.explores, r.3.tested))
 
 pub returns-in_err-labels : goal.returns-in_err-labels
 returns-in_err-labels g c = record {
@@ -70,14 +70,13 @@ map_of-requires-clause-behind g c =
     let labels = c.in_ok-labels.labels.items in
     λ k l positive at.
     let inside = parent_inside eq laws g.C.Number.value r.0 start x.alike costs keys (StandsFor-one eq laws keys y.0.distinct) (reached_at eq laws r.0 start keys y.0.reached) (begins_on eq start c.args.graph.now.discovery.nodes.keys keys c.requires.one e.grows s.begins)
-    labels e.tree (e.search h (x, s.tested) (no_negative eq laws h.graph x.alike costs)) k l (subst (λ (ls : Labels g.row.C.Denot). HasLabel ls k l) c.deref.ensures.value at) positive in
+    labels e.tree (e.searched h (x, s.tested) (no_negative eq laws h.graph x.alike costs)).search k l (subst (λ (ls : Labels g.row.C.Denot). HasLabel ls k l) c.deref.ensures.value at) positive in
     omega (arith, inside, ap length c.as_slice-nodes.ensures.keys, e.wide)
 
 pub bounds-nodes-number : goal.bounds-nodes-number
 bounds-nodes-number g c =
     let e = c.in_ok-labels.ensures in
-    let en = subst (IsEnded g.C.Number.value c.in_ok-labels.labels.items 0) c.in-Some.is e.ended in
-    let z = en.ends in
+    let z = is_least g.C.Number.value c.in_ok-labels.labels.items _ c.in-Some.number c.in-Some.is e.least in
     read_inside _ _ c.in_ok-labels.labels.items c.in-Some.number z.0 z.1.at e.wide c.as_slice-nodes.ensures.keys
 
 pub offset_bounds-nodes-number : goal.offset_bounds-nodes-number
@@ -98,7 +97,7 @@ returns g c = record {
       let e = c.in_ok-labels.ensures in
       let y = e.graph h (x, t) in
       let labels = c.in_ok-labels.labels.items in
-      let search = e.search h (x, t) (no_negative eq laws h.graph x.alike costs) in
+      let searched = e.searched h (x, t) (no_negative eq laws h.graph x.alike costs) in
       let one = StandsFor-one eq laws keys y.0.distinct in
       let reached = reached_at eq laws edges start keys y.0.reached in
       let begins = begins_on eq start c.args.graph.now.discovery.nodes.keys keys c.requires.one e.grows s.begins in
@@ -106,16 +105,16 @@ returns g c = record {
       elim c.match-goal.branch [
         | in-Some+in_ok-clone-in-Some w ↦
             let number = w.in-Some.number in
-            let en = subst (IsEnded g.C.Number.value labels 0) w.in-Some.is e.ended in
-            let z = en.ends in
+            let s = subst (HasSearched g.C.Number.value _ test _ labels 0) w.in-Some.is searched in
+            let z = is_least g.C.Number.value labels _ number w.in-Some.is e.least in
             let inside : number < length keys = subst (λ (n : ℕ). number < n) e.wide (HasLabel-inside labels number z.0 z.1.at) in
             let here = read_at keys _ number _ _ c.as_slice-nodes.ensures.keys inside w.index-nodes-number.is in
             let node = w.in_ok-clone-in-Some.field-0 in
             let stands : StandsFor eq keys number node = (w.index-nodes-number.result, here, c.requires.clones _ _ w.in_ok-clone-in-Some.ensures.cases) in
-            subst (λ (s : Option g.row.N.Denot). IsPartialMap eq edges start g.C.Number.value (get eq c.in_ok-parents.parents) test s) (sym w.stopped-is) (stopped_map eq laws g.C.Number.value edges start x.alike costs keys one reached begins labels e.tree search _ maps test (e.passed h (x, t)) en.order en.settled number z.0 node en.first z.1 stands (if_some _ _ _ w.in-Some.is (e.goal h (x, t)) node stands))
+            subst (λ (s : Option g.row.N.Denot). IsPartialMap eq edges start g.C.Number.value (get eq c.in_ok-parents.parents) test s) (sym w.stopped-is) (stopped_map eq laws g.C.Number.value edges start x.alike costs keys one reached begins labels e.tree s.search _ maps test s.passed s.order s.settled number z.0 node s.first z.1 stands (s.found node stands))
         | in-None w ↦
-            let en = subst (IsEnded g.C.Number.value labels 0) w.in-None.is e.ended in
-            subst (λ (s : Option g.row.N.Denot). IsPartialMap eq edges start g.C.Number.value (get eq c.in_ok-parents.parents) test s) (sym w.stopped-is) (whole_map eq laws g.C.Number.value edges start x.alike costs keys one reached begins labels e.tree search _ maps test (e.passed h (x, t)) en.order en.settled en.first en.ends)
+            let s = subst (HasSearched g.C.Number.value _ test _ labels 0) w.in-None.is searched in
+            subst (λ (s : Option g.row.N.Denot). IsPartialMap eq edges start g.C.Number.value (get eq c.in_ok-parents.parents) test s) (sym w.stopped-is) (whole_map eq laws g.C.Number.value edges start x.alike costs keys one reached begins labels e.tree s.search _ maps test s.passed s.order s.settled s.first (when_none _ _ _ w.in-None.is e.least))
       ];
   errors = tt;
   overflow = λ _ _ _ _ _ e. absurd (ok_is_no_error _ _ _ refl e);

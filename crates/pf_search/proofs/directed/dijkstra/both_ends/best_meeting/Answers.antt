@@ -7,7 +7,8 @@ use Rattle.pf_search.specs.Internal.BothEnds.{bound}
 use Rattle.pf_search.proofs.BothEndsLemmas.{positive, labelled_node, ended, past_at}
 use Rattle.pf_search.proofs.BothEndsTurns.{turned_forth, turned_back, both_kept, both_now, decided, undecided}
 use Rattle.pf_base.proofs.Outcomes.{if_refused, ok_is_no_error, on_refused, overflow_kept, refused_as}
-use Rattle.pf_search.proofs.StillLemmas.{still_at, still_least, still_labelled, turned_from, turn_smaller, labelled_inside, first_less, second_less, over_less}
+use Rattle.pf_search.proofs.StillLemmas.{labelled_inside, first_less, second_less, over_less}
+use Rattle.pf_core.proofs.ReadLemmas.{still_at, still_least, still_labelled, turned_from, turn_smaller}
 use Rattle.pf_search.proofs.directed.dijkstra.both_ends.best_meeting.Goals as goal
 
 pub turns-init : goal.turns-init

@@ -5,7 +5,7 @@ use Rattle.pf_core.specs.Labels.{Labels, IsChain, IsTree}
 use Rattle.pf_core.proofs.PathLemmas.{tree_climbs}
 use Rattle.pf_search.specs.Internal.BothEnds.{NoneBelowAt, AreHalves}
 use Rattle.pf_search.proofs.BothEndsChains.{chain_labelled, chain_last, chain_front, take_inside, last_of_take, past_sum, place_fits}
-use Rattle.pf_search.proofs.StillLemmas.{still_at}
+use Rattle.pf_core.proofs.ReadLemmas.{still_at}
 use Rattle.pf_base.proofs.Outcomes.{refused_as}
 use Rattle.pf_search.proofs.directed.dijkstra.both_ends.path_through.Goals as goal
 
