@@ -1,9 +1,9 @@
-use Rattle.std.proofs.Common.{◌≡◌, ◌<◌, ◌∙◌, sym, subst, ℕ, ap, Err, refl, Some, None, inl, length}
+use Rattle.std.proofs.Common.{◌≡◌, ◌<◌, ◌∙◌, subst, ℕ, ap, Err, refl, inl, length}
 use Rattle.std.specs.Prelude.{◌⊎◌, Option, MatchOption}
 use Rattle.std.proofs.lemmas.Result.{IfOk-from_err}
 use Rattle.pf_base.specs.declared.error.PathError.TheVariants.{OutOfMemory, CostOverflow}
 use Rattle.pf_core.specs.declared.labels.Label.{Label}
-use Rattle.pf_core.specs.Labels.{Labels, HasLabel, IsChain, AllSettled, by_cost}
+use Rattle.pf_core.specs.Labels.{Labels, IsChain, AllSettled, by_cost}
 use Rattle.pf_core.specs.Search.{IsLeast}
 use Rattle.pf_core.specs.Searched.{HasSearched}
 use Rattle.pf_core.specs.Steps.{IsBestNumbered}

@@ -1,4 +1,4 @@
-use Rattle.std.proofs.Common.{ℕ, ◌≡◌, ◌-◌, ◌+◌, ◌^◌, length}
+use Rattle.std.proofs.Common.{◌≡◌, ◌-◌, ◌+◌, ◌^◌, length}
 use Rattle.std.specs.BinaryHeap.{heap_items}
 use Rattle.pf_core.specs.Steps.{IsNonNegative}
 use Rattle.pf_core.specs.Numbered.{Grows}
