@@ -1,5 +1,5 @@
 -- Bounds over plain numbers.
-use Rattle.std.proofs.Common.{ℕ, ℤ, ◌+◌, ◌-◌, ◌^◌, ◌<◌, ◌≤◌, ◌≡◌, arith, refl, Fits, w64, List, [], ◌∷◌, ◌++◌, length, length-append}
+use Rattle.std.proofs.Common.{ℕ, ℤ, ◌+◌, ◌-◌, ◌^◌, ◌<◌, ◌≤◌, ◌≡◌, ap, arith, refl, Fits, w64, List, [], ◌∷◌, ◌++◌, length, length-append}
 use Rattle.std.specs.Prelude.{◌≤ℤ◌, ◌<ℤ◌}
 use Rattle.std.proofs.lemmas.Int.{ints}
 
@@ -60,3 +60,8 @@ nothing_left (x ∷ xs) n is none = absurd (omega (arith, is, none))
 -- what is left of entries is no more without the rest
 pub without_rest : {A : Type 0} (xs ys : List A) (n : ℕ) → length (xs ++ ys) + 1 ≤ n → length (xs ++ []) + 1 ≤ n
 without_rest xs ys n h = omega (arith, h, length-append xs ys, length-append xs [])
+
+-- nor without the first
+pub without_first : {A : Type 0} (xs ys zs : List A) (n : ℕ) → xs ≡ [] → length (zs ++ ys) ≤ n → length (xs ++ ys) ≤ n
+without_first [] ys zs n e h = omega (arith, h, length-append zs ys)
+without_first (x ∷ xs) ys zs n e h = absurd (omega (arith, ap length e))

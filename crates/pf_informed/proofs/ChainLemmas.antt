@@ -137,3 +137,7 @@ none_chained links heads count e f = record {
     none_at : {l : Link} (i : ℕ) → slice_get [] i ≡ Some l → ⊥
     none_at zero e = cc
     none_at (suc i) e = cc
+
+-- links and heads that are the same
+pub chained_same : (heads heads' : List ℕ) (links links' : List Link) → heads' ≡ heads → links' ≡ links → IsChained heads links → IsChained heads' links'
+chained_same heads heads' links links' e f c = rw (e, f) c

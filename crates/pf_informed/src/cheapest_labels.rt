@@ -129,9 +129,5 @@ where
     if let Some(best) = best {
         return Ok(Some(best));
     }
-    if search.has_all_labels() {
-        Ok(None)
-    } else {
-        Err(PathError::CostOverflow)
-    }
+    search.no_path()
 }

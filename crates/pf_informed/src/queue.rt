@@ -4,7 +4,7 @@
 //! were lowered since are stale, and are passed over.
 
 ghost use Rattle.std.specs.declared.cmp.Reverse.{Reverse};
-ghost use Rattle.std.specs.Prelude.{◌≡◌, ◌<◌, ◌≤◌, ◌≤ℤ◌, ◌+◌, ◌*◌, ◌^◌, ◌∷◌, [], ℕ, pos, Contains, IsPermutation, MatchOption, OnOk, Some, length};
+ghost use Rattle.std.specs.Prelude.{⊤, ◌≡◌, ◌<◌, ◌≤◌, ◌≤ℤ◌, ◌+◌, ◌*◌, ◌^◌, ◌∷◌, [], ℕ, pos, Contains, IsPermutation, MatchOption, OnOk, Some, length};
 ghost use Rattle.pf_core.specs.declared.labels.Label.{Label};
 ghost use Rattle.pf_core.specs.Labels.{HasLabel};
 ghost use Rattle.pf_informed.specs.Internal.Forest.{total_room, nat_of};
@@ -22,13 +22,24 @@ use std::marker::Model;
 /// The cost of a label and the estimate of its node together, the cost alone, and the number, in 32
 /// bits, since a search spends most of its time among these. Numbers are not compared: many entries
 /// have the same sum and the same cost.
-#[derive(Clone, Copy)]
 #[derive_where(PartialEq, Eq, PartialOrd, Ord; C)]
 pub(crate) struct Waiting<C>(
     pub Reverse<C>,
     pub C,
     #[derive_where(skip(EqHashOrd))] pub u32,
 );
+
+impl<C: Copy> Clone for Waiting<C> {
+    ghost is_clone = { λ x y. y ≡ x };
+
+    ghost is_infallible = { λ _. ⊤ };
+
+    fn clone(&self) -> Result<Self, AllocError> {
+        Ok(*self)
+    }
+}
+
+impl<C: Copy> Copy for Waiting<C> {}
 
 /// What waits. The least sum comes first, and of equal sums the greatest cost, since fewer nodes are
 /// opened then.

@@ -1,6 +1,6 @@
 //! A search by cost and estimate, over numbers.
 
-ghost use Rattle.std.specs.Prelude.{◌≡◌, ◌↔◌, ◌<◌, ◌≤◌, ◌+◌, false, [], ◌∷◌, IfErr, OnOk, IsPermutation, All, IsSome, IsTrue, Some, length, slice_get};
+ghost use Rattle.std.specs.Prelude.{◌≡◌, ◌<◌, ◌≤◌, ◌+◌, false, [], ◌∷◌, IfErr, IfOk, OnOk, IsPermutation, All, IsSome, None, Some, length, slice_get};
 ghost use Rattle.pf_core.specs.declared.labels.Label.{Label};
 ghost use Rattle.pf_core.specs.Labels.{HasLabel};
 ghost use Rattle.pf_informed.specs.Internal.Forest.{nat_of};
@@ -83,10 +83,17 @@ impl<C: Cost, A: Allocator + Copy> Search<C, A> {
         Ok(())
     }
 
-    /// Has each number a label?
-    pub fn has_all_labels(&self) -> bool
-        ensures { IsTrue result ↔ All (λ o. IsSome o) self.now.labels.items }
+    /// What is answered where nothing waits: no path, if each number has a label. A number has none where
+    /// no cost to it fitted.
+    pub fn no_path<T>(&self) -> Result<Option<T>, PathError>
+        ensures none { IfOk result (λ answer. (answer ≡ None) × All (λ o. IsSome o) self.now.labels.items) }
+        ensures past { IfErr result (λ e. (e ≡ PathError.CostOverflow) × ¬ (All (λ o. IsSome o) self.now.labels.items)) }
     {
-        self.labels.iter().all(|slot| slot.label().is_some())
+        'slots: for slot in &self.labels {
+            if slot.label().is_none() {
+                return Err(PathError::CostOverflow);
+            }
+        }
+        Ok(None)
     }
 }

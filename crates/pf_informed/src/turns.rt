@@ -1,7 +1,7 @@
 //! The turns of a search by cost and estimate, over a graph that functions answer.
 
 ghost use Rattle.std.specs.List.{AllZip};
-ghost use Rattle.std.specs.Prelude.{◌≡◌, ◌≤◌, ◌++◌, ℕ, ℤ, Bool, false, List, OnOk, IfOk, IfErr, length};
+ghost use Rattle.std.specs.Prelude.{◌≡◌, ◌≤◌, ◌++◌, ℕ, ℤ, Bool, false, List, OnOk, IfOk, IfErr, MatchOption, length};
 ghost use Rattle.pf_base.specs.Answers.{IsLawfulClone};
 ghost use Rattle.pf_core.specs.declared.labels.Label.{Label};
 ghost use Rattle.pf_core.specs.Labels.{HasLabel, IsChain};
@@ -89,13 +89,14 @@ where
     search.follow(number)
 }
 
-/// Clones of the nodes on the path to a number.
-pub(crate) fn nodes_to<N, C, S, T, A>(
+/// The path to a number, as clones of its nodes, with the cost that was taken out for it.
+pub(crate) fn path_found<N, C, S, T, A>(
     alloc: A,
     graph: &Tested<N, S, T, A>,
     search: &Search<C, A>,
     number: usize,
-) -> Result<Vec<N, A>, PathError>
+    cost: C,
+) -> Result<Option<(Vec<N, A>, C)>, PathError>
 where
     N: Eq + Hash + Clone + Drop,
     C: Cost,
@@ -104,9 +105,13 @@ where
     requires wide { length search.now.labels.items ≡ length graph.now.discovery.nodes.keys }
     requires forest { IsForest C.value search.now.labels.items }
     requires labelled { (l : Label C) × HasLabel search.now.labels.items number l }
-    ensures nodes { IfOk result (λ nodes. (numbers : List ℕ) × IsChain search.now.labels.items number numbers × AllZip (StandsFor N.eq graph.now.discovery.nodes.keys) numbers nodes.items) }
+    ensures found { IfOk result (λ answer. MatchOption answer ⊥ (λ found. (found.1 ≡ cost)
+        × ((numbers : List ℕ) × IsChain search.now.labels.items number numbers × AllZip (StandsFor N.eq graph.now.discovery.nodes.keys) numbers found.0.items))) }
+    ensures fits { C.fits (C.value cost) }
     ensures refused { IfErr result (λ e. e ≡ PathError.OutOfMemory) }
 {
+    cost.known();
     let numbers = path_to(alloc, &search.labels, number)?;
-    graph.nodes_at(alloc, &numbers)
+    let nodes = graph.nodes_at(alloc, &numbers)?;
+    Ok(Some((nodes, cost)))
 }

@@ -11,7 +11,7 @@ ghost use Rattle.pf_informed.specs.Internal.Led.{IsLed, IsNew, OfLedSearch};
 use crate::fringe_lists::FringeLists;
 use crate::functions::EstimateFunction;
 use crate::search::Search;
-use crate::turns::{begin, nodes_to, turn};
+use crate::turns::{begin, path_found, turn};
 use pf_base::{Cost, EdgeFunction, NodeTest, PathError};
 use pf_core::discovery::{Discovery, clone_of};
 use pf_core::numbered::GoalGraph;
@@ -58,16 +58,11 @@ where
         &mut search.queue,
     )? {
         if graph.is_goal(taken.number) {
-            let nodes = nodes_to(alloc, graph, search, taken.number)?;
-            return Ok(Some((nodes, taken.cost)));
+            return path_found(alloc, graph, search, taken.number, taken.cost);
         }
         turn(graph, estimate, search, taken.number)?;
     }
-    if search.has_all_labels() {
-        Ok(None)
-    } else {
-        Err(PathError::CostOverflow)
-    }
+    search.no_path()
 }
 
 /// A cheapest path from `start` to a node that passes `success`, with its cost, or `None` exactly where

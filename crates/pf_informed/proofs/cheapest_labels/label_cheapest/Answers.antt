@@ -1,5 +1,6 @@
-use Rattle.std.proofs.Common.{◌<◌, ◌∙◌, [], ◌∷◌, List, ℕ, false, true≢false, sym, subst, refl, length, inl, inr}
+use Rattle.std.proofs.Common.{◌<◌, ◌∙◌, [], ◌∷◌, List, ℕ, false, sym, subst, refl, length, inl, inr}
 use Rattle.std.proofs.lemmas.List.{append-nil}
+use Rattle.std.proofs.lemmas.Result.{IfErr-weaker}
 use Rattle.pf_base.specs.Edges.{IsCheapestGoalPath}
 use Rattle.pf_core.specs.declared.labels.Label.{Label}
 use Rattle.pf_core.specs.Labels.{HasLabel}
@@ -15,6 +16,7 @@ use Rattle.pf_informed.proofs.LedAnswers.{led_within, led_estimate, led_asked, l
 use Rattle.pf_informed.proofs.LedLemmas.{graph_of, with_test, informed_still, led_grown}
 use Rattle.pf_informed.proofs.WiderLemmas.{less_left}
 use Rattle.pf_base.proofs.Outcomes.{if_refused, no_overflow, ok_is_no_error, refused_as}
+use Rattle.pf_informed.proofs.Outcomes.{if_none}
 use Rattle.pf_informed.proofs.cheapest_labels.label_cheapest.Goals as goal
 
 pub turns-init : goal.turns-init
@@ -162,9 +164,9 @@ returns-in-Some-best g c = record {
   errors = tt;
 }
 
-pub returns-then-has_all_labels : goal.returns-then-has_all_labels
-returns-then-has_all_labels g c = record {
-  wide = tt;
+pub returns : goal.returns
+returns g c = record {
+  wide = if_none _ _ c.no_path.result (λ all. tt) c.no_path.ensures.none;
   labelled = λ start edges test least s d.
       let value = g.C.Number.value in
       let exact = g.met.C.Integral.exact_law in
@@ -172,16 +174,8 @@ returns-then-has_all_labels g c = record {
       let v = inv.searched (graph_of start edges) test least d in
       let unknown = c.in_default-best.is in
       let none_waits : (k : ℕ) (l : Label g.row.C.Denot) → HasLabel c.turns.search.labels.items k l → ¬ (IsWaiting value c.turns.search.queue.entries k l) = λ k l at w. let b = c.in_default.ensures.taken k l at w in no_best b.0 (sym unknown ∙ b.1) in
-      led_none g.met.N.Eq.laws v.0 inv.ready.asked (inv.begins start s) g.C.Number.fits (λ x y z. g.C.Number.between_law x y z exact) (g.met.C.Zero.zero_fits_law exact)
-      c.turns.search.labels.items inv.ready.wide c.turns.search.queue.entries inv.ready.sound.forest (inv.unknown unknown (graph_of start edges) test least d) none_waits (c.has_all_labels.ensures.0 c.if-has_all_labels.true);
-  overflow = λ start edges test least s d e. absurd (ok_is_no_error _ _ _ refl e);
-  errors = tt;
-}
-
-pub returns-else-has_all_labels : goal.returns-else-has_all_labels
-returns-else-has_all_labels g c = record {
-  wide = tt;
-  labelled = λ start edges test least s d. tt;
+      if_none _ _ c.no_path.result (λ all. led_none g.met.N.Eq.laws v.0 inv.ready.asked (inv.begins start s) g.C.Number.fits (λ x y z. g.C.Number.between_law x y z exact) (g.met.C.Zero.zero_fits_law exact)
+      c.turns.search.labels.items inv.ready.wide c.turns.search.queue.entries inv.ready.sound.forest (inv.unknown unknown (graph_of start edges) test least d) none_waits all) c.no_path.ensures.none;
   overflow = λ start edges test least s d refused.
       let value = g.C.Number.value in
       let exact = g.met.C.Integral.exact_law in
@@ -189,9 +183,10 @@ returns-else-has_all_labels g c = record {
       let v = inv.searched (graph_of start edges) test least d in
       let unknown = c.in_default-best.is in
       let none_waits : (k : ℕ) (l : Label g.row.C.Denot) → HasLabel c.turns.search.labels.items k l → ¬ (IsWaiting value c.turns.search.queue.entries k l) = λ k l at w. let b = c.in_default.ensures.taken k l at w in no_best b.0 (sym unknown ∙ b.1) in
+      let past = rw refused at c.no_path.ensures.past in
       led_past g.met.N.Eq.laws v.0 inv.ready.asked (inv.begins start s) g.C.Number.fits (λ x y z. g.C.Number.between_law x y z exact) (g.met.C.Zero.zero_fits_law exact)
-      c.turns.search.labels.items inv.ready.wide c.turns.search.queue.entries inv.ready.sound.forest (inv.unknown unknown (graph_of start edges) test least d) none_waits (λ a. true≢false (sym (c.has_all_labels.ensures.1 a) ∙ c.if-has_all_labels.false));
-  errors = inr refl;
+      c.turns.search.labels.items inv.ready.wide c.turns.search.queue.entries inv.ready.sound.forest (inv.unknown unknown (graph_of start edges) test least d) none_waits past.1;
+  errors = IfErr-weaker c.no_path.result _ _ (λ e h. inr h.0) c.no_path.ensures.past;
 }
 
 pub returns-in_err-begin : goal.returns-in_err-begin

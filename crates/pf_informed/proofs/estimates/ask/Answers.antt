@@ -1,4 +1,4 @@
-use Rattle.std.proofs.Common.{rules, ◌≡◌, sym, subst, Some, slice_get, [], ◌∷◌, List, ℕ, refl}
+use Rattle.std.proofs.Common.{rules, ◌≡◌, ◌∙◌, sym, subst, Some, slice_get, [], ◌∷◌, List, ℕ, refl}
 use Rattle.pf_base.proofs.ListLemmas.{at_place, get-append}
 use Rattle.pf_informed.proofs.EstimateLemmas.{IsEstimated-push}
 use Rattle.pf_base.proofs.Outcomes.{on_refused, refused_as}
@@ -6,7 +6,7 @@ use Rattle.pf_informed.proofs.estimates.ask.Goals as goal
 
 pub nodes-init : goal.nodes-init
 nodes-init g c = record {
-  len = search rules;
+  len = sym (c.len-number.ensures ∙ c.args.estimates.now.ok.0);
   kept = λ k d h. h;
   answered = λ s h a r. (a, λ e. e);
 }

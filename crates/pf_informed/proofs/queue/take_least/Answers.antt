@@ -1,5 +1,7 @@
-use Rattle.std.proofs.Common.{arith}
+use Rattle.std.proofs.Common.{◌≡◌, ◌≤◌, ◌∙◌, arith, sym, subst, List, length}
+use Rattle.pf_informed.specs.Internal.Waiting.{Entry, IsQueue}
 use Rattle.pf_informed.proofs.WaitingLemmas.{taken_in, IsQueue-rest, waits_on, is_taken}
+use Rattle.pf_informed.proofs.Bounds.{none_below}
 use Rattle.pf_informed.proofs.queue.take_least.Goals as goal
 
 pub is_lower-requires : goal.is_lower-requires
@@ -35,3 +37,14 @@ entries-smaller g c = omega (arith, c.in-Some.ensures.first.1)
 
 pub returns-then-not-is_lower-clause-fewer : goal.returns-then-not-is_lower-clause-fewer
 returns-then-not-is_lower-clause-fewer g c = omega (arith, c.in-Some.ensures.first.1, c.entries.invariant.fewer)
+
+pub returns : goal.returns
+returns g c =
+    let i = c.entries.invariant in
+    let e = c.in_default.ensures.first in
+    let same : c.entries.queue.entries ≡ c.take_first.new.self.entries = e.0 ∙ sym e.1 in
+    record {
+      queue = subst (λ (es : List (Entry g.row.C.Denot)). IsQueue g.C.Number.value c.args.labels.now.items c.args.estimates.now.items es) same i.queue;
+      taken = λ k l h w. let gone = (rw e.0 at (i.waits k l h w)).1 in absurd (none_below _ gone.1);
+      fewer = subst (λ (es : List (Entry g.row.C.Denot)). length es ≤ length c.args.queue.now.entries) same i.fewer;
+    }

@@ -1,6 +1,6 @@
 //! The way that a search goes along.
 
-ghost use Rattle.std.specs.Prelude.{◌≡◌, ◌↔◌, ◌⊎◌, ◌<◌, ◌+◌, ◌∷◌, [], ℕ, List, None, false, OnOk, IfOk, IfErr, MatchBool, reverse};
+ghost use Rattle.std.specs.Prelude.{⊤, ◌≡◌, ◌↔◌, ◌⊎◌, ◌<◌, ◌+◌, ◌∷◌, [], ℕ, List, None, false, OnOk, IfOk, IfErr, MatchBool, reverse};
 ghost use Rattle.pf_informed.specs.declared.directed.idastar.way.Frame.{Frame};
 ghost use Rattle.pf_informed.specs.Internal.Deepening.{IsMarked};
 
@@ -8,16 +8,27 @@ use crate::directed::idastar::cut_off::CutOff;
 use crate::directed::idastar::marks::{mark, unmark};
 use crate::directed::idastar::rows::Span;
 use pf_base::PathError;
-use std::alloc::Allocator;
+use std::alloc::{AllocError, Allocator};
 
 /// A node on the way: its number, the cost of the way to it, and the places of its steps that are left.
-#[derive(Clone, Copy)]
 pub(crate) struct Frame<C: Copy> {
     pub number: usize,
     pub cost: C,
     pub at: usize,
     pub end: usize,
 }
+
+impl<C: Copy> Clone for Frame<C> {
+    ghost is_clone = { λ x y. y ≡ x };
+
+    ghost is_infallible = { λ _. ⊤ };
+
+    fn clone(&self) -> Result<Self, AllocError> {
+        Ok(*self)
+    }
+}
+
+impl<C: Copy> Copy for Frame<C> {}
 
 /// The way to a node: its frame, those below it from the start on, the marks of their numbers, and
 /// what was cut off so far.

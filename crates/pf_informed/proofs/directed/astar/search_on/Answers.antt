@@ -1,5 +1,7 @@
-use Rattle.std.proofs.Common.{◌≡◌, ◌<◌, ◌∙◌, [], List, ℕ, false, true≢false, sym, subst, length, refl, inl, inr}
+use Rattle.std.proofs.Common.{◌≡◌, ◌<◌, ◌∙◌, [], ◌∷◌, List, ℕ, false, ap, sym, subst, length, inl, inr}
 use Rattle.std.proofs.lemmas.List.{append-nil}
+use Rattle.std.proofs.lemmas.Result.{IfErr-weaker}
+use Rattle.pf_base.specs.Edges.{IsCheapestOrNone}
 use Rattle.pf_core.specs.Nodes.{StandsFor, IsStep}
 use Rattle.pf_core.proofs.LabelLemmas.{HasLabel-inside}
 use Rattle.pf_core.proofs.SearchLemmas.{Grows-trans}
@@ -9,7 +11,8 @@ use Rattle.pf_informed.specs.Internal.Waiting.{Entry}
 use Rattle.pf_informed.proofs.LedAnswers.{led_above, led_best, led_none, led_past}
 use Rattle.pf_informed.proofs.LedLemmas.{graph_of, with_test, informed_still, led_grown}
 use Rattle.pf_informed.proofs.WiderLemmas.{less_left}
-use Rattle.pf_base.proofs.Outcomes.{if_refused, no_overflow, ok_is_no_error, refused_as}
+use Rattle.pf_base.proofs.Outcomes.{if_refused, no_overflow, refused_as}
+use Rattle.pf_informed.proofs.Outcomes.{if_found, if_none, only_memory}
 use Rattle.pf_informed.proofs.directed.astar.search_on.Goals as goal
 
 pub turns-init : goal.turns-init
@@ -33,17 +36,17 @@ is_goal-requires-clause-graph g c =
     let d = v.0 in
     (with_test r.0 r.1, (d.explores, d.tested))
 
-pub nodes_to-requires-clause-wide : goal.nodes_to-requires-clause-wide
-nodes_to-requires-clause-wide g c = c.turns.invariant.ready.wide ∙ sym c.is_goal.ensures.same
+pub path_found-requires-clause-wide : goal.path_found-requires-clause-wide
+path_found-requires-clause-wide g c = c.turns.invariant.ready.wide ∙ sym c.is_goal.ensures.same
 
-pub nodes_to-requires-clause-labelled : goal.nodes_to-requires-clause-labelled
-nodes_to-requires-clause-labelled g c =
+pub path_found-requires-clause-labelled : goal.path_found-requires-clause-labelled
+path_found-requires-clause-labelled g c =
     let t = c.in-Some.ensures.taken in
     (t.label, t.at)
 
 pub returns-then-is_goal : goal.returns-then-is_goal
 returns-then-is_goal g c = record {
-  best = λ start edges test least s d.
+  best = λ start edges test least s d. if_found _ (IsCheapestOrNone g.N.PartialEq.eq edges (start ∷ []) test g.C.Number.value) c.path_found.result (λ found at.
       let eq = g.N.PartialEq.eq in
       let laws = g.met.N.Eq.laws in
       let exact = g.met.C.Integral.exact_law in
@@ -58,14 +61,14 @@ returns-then-is_goal g c = record {
       let entries = c.turns.search.queue.entries in
       let keys = c.turns.graph.discovery.nodes.keys in
       let begins = inv.begins start s in
-      let nodes = c.in_ok-nodes.ensures.nodes in
+      let nodes = at.1 in
       let above = led_above laws now inv.ready.asked begins g.C.Number.fits (λ x y z. g.C.Number.between_law x y z exact) (g.met.C.Zero.zero_fits_law exact)
-      labels inv.ready.wide entries inv.ready.sound.forest v.1 c.in-Some.taken.number c.in-Some.taken.cost c.take_least.new.queue.entries t c.in-Some.ensures.queue c.known.ensures in
+      labels inv.ready.wide entries inv.ready.sound.forest v.1 c.in-Some.taken.number c.in-Some.taken.cost c.take_least.new.queue.entries t c.in-Some.ensures.queue c.path_found.ensures.fits in
       led_best laws now inv.ready.asked begins g.C.Number.fits (λ x y z. g.C.Number.between_law x y z exact) (g.met.C.Zero.zero_fits_law exact)
       labels inv.ready.wide entries inv.ready.sound.forest v.1 c.in-Some.taken.number t.label t.at nodes.0 nodes.1 (λ y k. sym (told.1 y k) ∙ c.if-is_goal.true) above
-      c.is_goal.new.self.discovery.nodes.keys c.is_goal.ensures.grows after.distinct c.in_ok-nodes.nodes.items nodes.2 (g.C.Number.value c.in-Some.taken.cost) t.same;
-  overflow = λ start edges test least s d e. absurd (ok_is_no_error _ _ _ refl e);
-  errors = tt;
+      c.is_goal.new.self.discovery.nodes.keys c.is_goal.ensures.grows after.distinct found.0.items nodes.2 (g.C.Number.value found.1) (t.same ∙ ap g.C.Number.value (sym at.0))) c.path_found.ensures.found;
+  overflow = λ start edges test least s d e. absurd (only_memory c.path_found.result c.path_found.ensures.refused e);
+  errors = IfErr-weaker c.path_found.result _ _ (λ e h. inl h) c.path_found.ensures.refused;
 }
 
 pub turn-requires-clause-labelled : goal.turn-requires-clause-labelled
@@ -127,28 +130,22 @@ turns-preserved g c =
           );
     }
 
-pub returns-then-has_all_labels : goal.returns-then-has_all_labels
-returns-then-has_all_labels g c = record {
+pub returns : goal.returns
+returns g c = record {
   best = λ start edges test least s d.
       let exact = g.met.C.Integral.exact_law in
       let inv = c.turns.invariant in
       let v = inv.searched (graph_of start edges) test least d in
-      led_none g.met.N.Eq.laws v.0 inv.ready.asked (inv.begins start s) g.C.Number.fits (λ x y z. g.C.Number.between_law x y z exact) (g.met.C.Zero.zero_fits_law exact)
-      c.turns.search.labels.items inv.ready.wide c.turns.search.queue.entries inv.ready.sound.forest v.1 c.in_default.ensures.taken (c.has_all_labels.ensures.0 c.if-has_all_labels.true);
-  overflow = λ start edges test least s d e. absurd (ok_is_no_error _ _ _ refl e);
-  errors = tt;
-}
-
-pub returns-else-has_all_labels : goal.returns-else-has_all_labels
-returns-else-has_all_labels g c = record {
-  best = λ start edges test least s d. tt;
+      if_none _ (IsCheapestOrNone g.N.PartialEq.eq edges (start ∷ []) test g.C.Number.value) c.no_path.result (λ all. led_none g.met.N.Eq.laws v.0 inv.ready.asked (inv.begins start s) g.C.Number.fits (λ x y z. g.C.Number.between_law x y z exact) (g.met.C.Zero.zero_fits_law exact)
+      c.turns.search.labels.items inv.ready.wide c.turns.search.queue.entries inv.ready.sound.forest v.1 c.in_default.ensures.taken all) c.no_path.ensures.none;
   overflow = λ start edges test least s d refused.
       let exact = g.met.C.Integral.exact_law in
       let inv = c.turns.invariant in
       let v = inv.searched (graph_of start edges) test least d in
+      let past = rw refused at c.no_path.ensures.past in
       led_past g.met.N.Eq.laws v.0 inv.ready.asked (inv.begins start s) g.C.Number.fits (λ x y z. g.C.Number.between_law x y z exact) (g.met.C.Zero.zero_fits_law exact)
-      c.turns.search.labels.items inv.ready.wide c.turns.search.queue.entries inv.ready.sound.forest v.1 c.in_default.ensures.taken (λ a. true≢false (sym (c.has_all_labels.ensures.1 a) ∙ c.if-has_all_labels.false));
-  errors = inr refl;
+      c.turns.search.labels.items inv.ready.wide c.turns.search.queue.entries inv.ready.sound.forest v.1 c.in_default.ensures.taken past.1;
+  errors = IfErr-weaker c.no_path.result _ _ (λ e h. inr h.0) c.no_path.ensures.past;
 }
 
 pub returns-in_err-begin : goal.returns-in_err-begin
@@ -158,13 +155,6 @@ returns-in_err-begin g c = record {
   errors = refused_as _ c.from_residual.result _ c.from_residual.ensures.1 (inl c.in_err-begin.ensures.refused);
 }
 
-pub returns-in_err-nodes : goal.returns-in_err-nodes
-returns-in_err-nodes g c = record {
-  best = λ start edges test least s d. if_refused _ c.from_residual-in_err-nodes.result _ c.from_residual-in_err-nodes.ensures.1;
-  overflow = λ start edges test least s d e. absurd (no_overflow c.from_residual-in_err-nodes.result _ c.from_residual-in_err-nodes.ensures.1 c.in_err-nodes.ensures.refused e);
-  errors = refused_as _ c.from_residual-in_err-nodes.result _ c.from_residual-in_err-nodes.ensures.1 (inl c.in_err-nodes.ensures.refused);
-}
-
 pub returns-in_err-turn : goal.returns-in_err-turn
 returns-in_err-turn g c = record {
   best = λ start edges test least s d. if_refused _ c.from_residual-in_err-turn.result _ c.from_residual-in_err-turn.ensures.1;
@@ -172,11 +162,11 @@ returns-in_err-turn g c = record {
   errors = refused_as _ c.from_residual-in_err-turn.result _ c.from_residual-in_err-turn.ensures.1 (inl c.in_err-turn.ensures.refused);
 }
 
-pub nodes_to-requires-clause-clones : goal.nodes_to-requires-clause-clones
-nodes_to-requires-clause-clones g c = c.requires.clones
+pub path_found-requires-clause-clones : goal.path_found-requires-clause-clones
+path_found-requires-clause-clones g c = c.requires.clones
 
-pub nodes_to-requires-clause-forest : goal.nodes_to-requires-clause-forest
-nodes_to-requires-clause-forest g c = c.turns.invariant.ready.sound.forest
+pub path_found-requires-clause-forest : goal.path_found-requires-clause-forest
+path_found-requires-clause-forest g c = c.turns.invariant.ready.sound.forest
 
 pub begin-requires-clause-one : goal.begin-requires-clause-one
 begin-requires-clause-one g c = c.requires.one

@@ -1,6 +1,8 @@
-use Rattle.std.proofs.Common.{◌≡◌, ◌<◌, ◌∙◌, List, ℕ, ℤ, false, true≢false, ap, sym, subst, length, slice_get, Some, refl, inl, inr}
+use Rattle.std.proofs.Common.{◌≡◌, ◌<◌, ◌∙◌, [], ◌∷◌, List, ℕ, ℤ, false, ap, sym, subst, length, slice_get, Some, inl, inr}
 use Rattle.std.specs.Prelude.{◌++◌, ◌≤ℤ◌}
 use Rattle.std.proofs.lemmas.List.{append-nil}
+use Rattle.std.proofs.lemmas.Result.{IfErr-weaker}
+use Rattle.pf_base.specs.Edges.{IsCheapestOrNone}
 use Rattle.std.proofs.lemmas.List.Elements.{Contains-append_left}
 use Rattle.std.proofs.lemmas.Option.{MatchOption-at_some, MatchOption-at_none}
 use Rattle.pf_core.specs.Nodes.{StandsFor, IsStep}
@@ -16,7 +18,8 @@ use Rattle.pf_informed.proofs.LedAnswers.{led_within, led_estimate, led_limit, l
 use Rattle.pf_informed.proofs.LedLemmas.{graph_of, with_test, informed_still, led_grown}
 use Rattle.pf_informed.proofs.WiderLemmas.{less_left_too}
 use Rattle.pf_informed.proofs.NodeWalks.{never_above}
-use Rattle.pf_base.proofs.Outcomes.{if_refused, no_overflow, ok_is_no_error, refused_as}
+use Rattle.pf_base.proofs.Outcomes.{if_refused, no_overflow, refused_as}
+use Rattle.pf_informed.proofs.Outcomes.{if_found, if_none, only_memory}
 use Rattle.pf_informed.proofs.Bounds.{some_one}
 use Rattle.pf_informed.proofs.directed.fringe.search_on.Goals as goal
 
@@ -63,17 +66,17 @@ is_goal-requires-clause-graph g c =
     let d = v.0 in
     (with_test r.0 r.1, (d.explores, d.tested))
 
-pub nodes_to-requires-clause-wide : goal.nodes_to-requires-clause-wide
-nodes_to-requires-clause-wide g c = c.turns.invariant.ready.wide ∙ sym c.is_goal.ensures.same
+pub path_found-requires-clause-wide : goal.path_found-requires-clause-wide
+path_found-requires-clause-wide g c = c.turns.invariant.ready.wide ∙ sym c.is_goal.ensures.same
 
-pub nodes_to-requires-clause-labelled : goal.nodes_to-requires-clause-labelled
-nodes_to-requires-clause-labelled g c =
+pub path_found-requires-clause-labelled : goal.path_found-requires-clause-labelled
+path_found-requires-clause-labelled g c =
     let t = MatchOption-at_some _ _ c.in-Some.taken c.in-Some.is c.in_ok-taken.ensures.taken in
     (t.label, t.at)
 
 pub returns-then-is_goal : goal.returns-then-is_goal
 returns-then-is_goal g c = record {
-  best = λ start edges test least s d.
+  best = λ start edges test least s d. if_found _ (IsCheapestOrNone g.N.PartialEq.eq edges (start ∷ []) test g.C.Number.value) c.path_found.result (λ found at.
       let eq = g.N.PartialEq.eq in
       let laws = g.met.N.Eq.laws in
       let value = g.C.Number.value in
@@ -92,16 +95,16 @@ returns-then-is_goal g c = record {
       let entries = c.turns.search.queue.entries ++ listed c.turns.lists in
       let keys = c.turns.graph.discovery.nodes.keys in
       let begins = inv.begins start s in
-      let nodes = c.in_ok-nodes.ensures.nodes in
+      let nodes = at.1 in
       let between = λ (x y z : ℤ). g.C.Number.between_law x y z exact in
       let nothing = g.met.C.Zero.zero_fits_law exact in
       let low = led_limit laws now inv.ready.asked begins fits between nothing labels inv.ready.wide entries inv.ready.sound.forest v.1 c.turns.lists.limit c.take.new.self.limit c.in_ok-taken.ensures.limit (inv.below start edges test least s d) in
       let above = led_in_limit laws now inv.ready.asked begins fits between nothing labels inv.ready.wide entries inv.ready.sound.forest v.1 number c.in-Some.taken.cost c.take.new.self.limit (c.take.new.queue.entries ++ listed c.take.new.self) t low in
       led_best laws now inv.ready.asked begins fits between nothing
       labels inv.ready.wide entries inv.ready.sound.forest v.1 number t.label t.at nodes.0 nodes.1 (λ y k. sym (told.1 y k) ∙ c.if-is_goal.true) above
-      c.is_goal.new.self.discovery.nodes.keys c.is_goal.ensures.grows after.distinct c.in_ok-nodes.nodes.items nodes.2 (value c.in-Some.taken.cost) t.same;
-  overflow = λ start edges test least s d e. absurd (ok_is_no_error _ _ _ refl e);
-  errors = tt;
+      c.is_goal.new.self.discovery.nodes.keys c.is_goal.ensures.grows after.distinct found.0.items nodes.2 (value found.1) (t.same ∙ ap value (sym at.0))) c.path_found.ensures.found;
+  overflow = λ start edges test least s d e. absurd (only_memory c.path_found.result c.path_found.ensures.refused e);
+  errors = IfErr-weaker c.path_found.result _ _ (λ e h. inl h) c.path_found.ensures.refused;
 }
 
 pub turn-requires-clause-labelled : goal.turn-requires-clause-labelled
@@ -172,28 +175,22 @@ turns-preserved g c =
           labels inv.ready.wide entries inv.ready.sound.forest v.1 c.turns.lists.limit c.take.new.self.limit c.in_ok-taken.ensures.limit (inv.below start edges test least s d);
     }
 
-pub returns-then-has_all_labels : goal.returns-then-has_all_labels
-returns-then-has_all_labels g c = record {
+pub returns : goal.returns
+returns g c = record {
   best = λ start edges test least s d.
       let exact = g.met.C.Integral.exact_law in
       let inv = c.turns.invariant in
       let v = inv.searched (graph_of start edges) test least d in
-      led_none g.met.N.Eq.laws v.0 inv.ready.asked (inv.begins start s) g.C.Number.fits (λ x y z. g.C.Number.between_law x y z exact) (g.met.C.Zero.zero_fits_law exact)
-      c.turns.search.labels.items inv.ready.wide (c.turns.search.queue.entries ++ listed c.turns.lists) inv.ready.sound.forest v.1 (MatchOption-at_none _ _ c.in_default.is c.in_ok-taken.ensures.taken) (c.has_all_labels.ensures.0 c.if-has_all_labels.true);
-  overflow = λ start edges test least s d e. absurd (ok_is_no_error _ _ _ refl e);
-  errors = tt;
-}
-
-pub returns-else-has_all_labels : goal.returns-else-has_all_labels
-returns-else-has_all_labels g c = record {
-  best = λ start edges test least s d. tt;
+      if_none _ (IsCheapestOrNone g.N.PartialEq.eq edges (start ∷ []) test g.C.Number.value) c.no_path.result (λ all. led_none g.met.N.Eq.laws v.0 inv.ready.asked (inv.begins start s) g.C.Number.fits (λ x y z. g.C.Number.between_law x y z exact) (g.met.C.Zero.zero_fits_law exact)
+      c.turns.search.labels.items inv.ready.wide (c.turns.search.queue.entries ++ listed c.turns.lists) inv.ready.sound.forest v.1 (MatchOption-at_none _ _ c.in_default.is c.in_ok-taken.ensures.taken) all) c.no_path.ensures.none;
   overflow = λ start edges test least s d refused.
       let exact = g.met.C.Integral.exact_law in
       let inv = c.turns.invariant in
       let v = inv.searched (graph_of start edges) test least d in
+      let past = rw refused at c.no_path.ensures.past in
       led_past g.met.N.Eq.laws v.0 inv.ready.asked (inv.begins start s) g.C.Number.fits (λ x y z. g.C.Number.between_law x y z exact) (g.met.C.Zero.zero_fits_law exact)
-      c.turns.search.labels.items inv.ready.wide (c.turns.search.queue.entries ++ listed c.turns.lists) inv.ready.sound.forest v.1 (MatchOption-at_none _ _ c.in_default.is c.in_ok-taken.ensures.taken) (λ a. true≢false (sym (c.has_all_labels.ensures.1 a) ∙ c.if-has_all_labels.false));
-  errors = inr refl;
+      c.turns.search.labels.items inv.ready.wide (c.turns.search.queue.entries ++ listed c.turns.lists) inv.ready.sound.forest v.1 (MatchOption-at_none _ _ c.in_default.is c.in_ok-taken.ensures.taken) past.1;
+  errors = IfErr-weaker c.no_path.result _ _ (λ e h. inr h.0) c.no_path.ensures.past;
 }
 
 pub returns-in_err-begin : goal.returns-in_err-begin
@@ -210,13 +207,6 @@ returns-in_err-taken g c = record {
   errors = refused_as _ c.from_residual-in_err-taken.result _ c.from_residual-in_err-taken.ensures.1 (inl c.in_err-taken.ensures.refused);
 }
 
-pub returns-in_err-nodes : goal.returns-in_err-nodes
-returns-in_err-nodes g c = record {
-  best = λ start edges test least s d. if_refused _ c.from_residual-in_err-nodes.result _ c.from_residual-in_err-nodes.ensures.1;
-  overflow = λ start edges test least s d e. absurd (no_overflow c.from_residual-in_err-nodes.result _ c.from_residual-in_err-nodes.ensures.1 c.in_err-nodes.ensures.refused e);
-  errors = refused_as _ c.from_residual-in_err-nodes.result _ c.from_residual-in_err-nodes.ensures.1 (inl c.in_err-nodes.ensures.refused);
-}
-
 pub returns-in_err-turn : goal.returns-in_err-turn
 returns-in_err-turn g c = record {
   best = λ start edges test least s d. if_refused _ c.from_residual-in_err-turn.result _ c.from_residual-in_err-turn.ensures.1;
@@ -227,11 +217,11 @@ returns-in_err-turn g c = record {
 pub take-requires : goal.take-requires
 take-requires g c = record { queue = c.turns.invariant.queue }
 
-pub nodes_to-requires-clause-clones : goal.nodes_to-requires-clause-clones
-nodes_to-requires-clause-clones g c = c.requires.clones
+pub path_found-requires-clause-clones : goal.path_found-requires-clause-clones
+path_found-requires-clause-clones g c = c.requires.clones
 
-pub nodes_to-requires-clause-forest : goal.nodes_to-requires-clause-forest
-nodes_to-requires-clause-forest g c = c.turns.invariant.ready.sound.forest
+pub path_found-requires-clause-forest : goal.path_found-requires-clause-forest
+path_found-requires-clause-forest g c = c.turns.invariant.ready.sound.forest
 
 pub begin-requires-clause-one : goal.begin-requires-clause-one
 begin-requires-clause-one g c = c.requires.one

@@ -6,6 +6,7 @@ use Rattle.pf_informed.specs.Internal.Waiting.{Entry, IsQueue}
 use Rattle.pf_informed.specs.Internal.Fringe.{listed, StillWait}
 use Rattle.pf_informed.proofs.FringeLemmas.{StillWait-put_off, queue_put_off, queue_rest, taken_within, queue_in, none_more, rest_waits}
 use Rattle.pf_base.proofs.Outcomes.{if_refused, on_refused, refused_as}
+use Rattle.pf_informed.proofs.Bounds.{without_first}
 use Rattle.pf_informed.proofs.fringe_lists.FringeLists.take_within.Goals as goal
 
 pub take_last-requires : goal.take_last-requires
@@ -72,3 +73,6 @@ returns-clause-limit g c = c.entries.invariant.limit
 
 pub returns-clause-refused : goal.returns-clause-refused
 returns-clause-refused g c = tt
+
+pub returns-clause-fewer : goal.returns-clause-fewer
+returns-clause-fewer g c = without_first _ c.entries.self.later.items c.entries.self.current.items _ c.in_default.ensures.fewer c.entries.invariant.fewer

@@ -1,17 +1,12 @@
-use Rattle.std.proofs.Common.{rules, ◌≡◌, ◌<◌, ◌-◌, ◌++◌, ◌∷◌, [], ◌∙◌, ap, sym, arith, length, slice_get, Some, suc, List, ℕ, false, Result, Ok, Err}
-use Rattle.std.specs.Result.{is_ok, is_err}
-use Rattle.std.specs.Prelude.{if◌then◌else◌}
+use Rattle.std.proofs.Common.{rules, ◌≡◌, ◌<◌, ◌-◌, ◌++◌, ◌∷◌, [], ◌∙◌, ap, sym, arith, length, slice_get, Some, suc, List, ℕ}
 use Rattle.std.proofs.lemmas.List.{append-nil, append_assoc}
 use Rattle.pf_core.specs.declared.depth_first.Branch.{Branch}
 use Rattle.pf_core.specs.DepthFirst.{branches_at}
 use Rattle.pf_base.proofs.ListLemmas.{at_place}
 use Rattle.pf_informed.specs.Internal.Chains.{chain}
 use Rattle.pf_informed.proofs.ChainLemmas.{chain_step, list_at, lists_long}
+use Rattle.pf_informed.proofs.Outcomes.{pushed_on}
 use Rattle.pf_informed.proofs.predecessors.Predecessors.put_branches.Goals as goal
-
-pushed_on : {T E X : Type 0} (r : Result T E) (xs ys now : List X) → now ≡ (if is_ok r then ys else xs) → is_err r ≡ false → now ≡ ys
-pushed_on (Ok x) xs ys now e taken = e
-pushed_on (Err x) xs ys now e taken = cc
 
 pub links-init : goal.links-init
 links-init g c =

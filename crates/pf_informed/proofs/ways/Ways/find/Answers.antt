@@ -1,6 +1,6 @@
-use Rattle.std.proofs.Common.{rules, ◌≡◌, ◌≢◌, ◌∙◌, sym, ap, arith, length}
+use Rattle.std.proofs.Common.{◌∙◌, sym, ap, arith, length, refl}
 use Rattle.pf_informed.proofs.WaysLemmas.{some_wait, rising_last, branch_inside, left_dropped, kept_dropped, fewer_dropped, new_length, kept_same, left_same, whole, kept_opened, left_opened, fewer_opened}
-use Rattle.pf_base.proofs.Outcomes.{on_err}
+use Rattle.pf_base.proofs.Outcomes.{if_refused, on_err, refused_as}
 use Rattle.pf_informed.proofs.ways.Ways.find.Goals as goal
 
 pub is_on_way-requires-clause-inside : goal.is_on_way-requires-clause-inside
@@ -46,35 +46,6 @@ enter-requires g c =
     let a = rw s.1 at i.kept in
     record { inside = omega (arith, a.wide, branch_inside _ _ _ _ s.0 c.in-Some.branch a) }
 
-pub returns-then-branch-eq0-clause-kept : goal.returns-then-branch-eq0-clause-kept
-returns-then-branch-eq0-clause-kept g c =
-    let i = c.branches.invariant in
-    let s = c.in-Some.ensures in
-    let a = rw s.1 at i.kept in
-    let e = c.in_ok-enter.ensures in
-    let off = sym c.is_on_way.ensures ∙ c.if-is_on_way.false in
-    rw (e.way, e.places, e.waiting, s.1) (kept_same _ _ _ _ s.0 c.in-Some.branch a off)
-
-pub returns-then-branch-eq0-clause-left : goal.returns-then-branch-eq0-clause-left
-returns-then-branch-eq0-clause-left g c =
-    let i = c.branches.invariant in
-    let s = c.in-Some.ensures in
-    let a = rw s.1 at i.kept in
-    let left = rw s.1 at i.left in
-    let e = c.in_ok-enter.ensures in
-    let off = sym c.is_on_way.ensures ∙ c.if-is_on_way.false in
-    rw (e.way, e.waiting, s.1) (left_same _ _ _ _ s.0 c.in-Some.branch a off ∙ left)
-
-pub returns-then-branch-eq0-clause-whole : goal.returns-then-branch-eq0-clause-whole
-returns-then-branch-eq0-clause-whole g c =
-    let i = c.branches.invariant in
-    let s = c.in-Some.ensures in
-    let a = rw s.1 at i.kept in
-    let e = c.in_ok-enter.ensures in
-    let off = sym c.is_on_way.ensures ∙ c.if-is_on_way.false in
-    let zero_here : c.in-Some.branch.number ≡ 0 = search rules in
-    rw (e.way, e.waiting, s.1) (whole _ _ _ _ s.0 c.in-Some.branch a off zero_here)
-
 pub open-requires-clause-inside : goal.open-requires-clause-inside
 open-requires-clause-inside g c =
     let i = c.branches.invariant in
@@ -99,7 +70,7 @@ branches-smaller g c =
     let a = rw s.1 at i.kept in
     let e = c.in_ok-enter.ensures in
     let off = sym c.is_on_way.ensures ∙ c.if-is_on_way.false in
-    let on : c.in-Some.branch.number ≢ 0 = search rules in
+    let on = c.if-branch-eq0.false in
     let w = rw (e.before, i.before) at (c.in_ok-open.ensures.waiting s.0 (e.waiting ∙ s.1)) in
     rw (w, s.1) (fewer_opened _ _ _ _ s.0 c.in-Some.branch a off on)
 
@@ -112,7 +83,7 @@ branches-preserved g c =
     let e = c.in_ok-enter.ensures in
     let o = c.in_ok-open.ensures in
     let off = sym c.is_on_way.ensures ∙ c.if-is_on_way.false in
-    let on : c.in-Some.branch.number ≢ 0 = search rules in
+    let on = c.if-branch-eq0.false in
     let w = rw (e.before, i.before) at (o.waiting s.0 (e.waiting ∙ s.1)) in
     record {
       some = λ none. absurd (some_wait s.0 c.in-Some.branch (sym s.1 ∙ i.some none));
@@ -121,18 +92,42 @@ branches-preserved g c =
       left = rw (o.way, e.way, w) (left_opened _ _ _ _ s.0 c.in-Some.branch a off on ∙ left);
     }
 
-pub returns-in_err-open-clause-kept : goal.returns-in_err-open-clause-kept
-returns-in_err-open-clause-kept g c =
+pub returns-then-branch-eq0 : goal.returns-then-branch-eq0
+returns-then-branch-eq0 g c =
     let i = c.branches.invariant in
     let s = c.in-Some.ensures in
     let a = rw s.1 at i.kept in
+    let left = rw s.1 at i.left in
     let e = c.in_ok-enter.ensures in
-    let o = c.in_err-open.ensures in
     let off = sym c.is_on_way.ensures ∙ c.if-is_on_way.false in
-    rw (o.way, o.places, o.stays, e.way, e.places, e.waiting, s.1) (kept_same _ _ _ _ s.0 c.in-Some.branch a off)
+    let waiting = e.waiting ∙ s.1 in
+    record {
+      before = e.before ∙ i.before;
+      kept = rw (e.way, e.places, waiting) (kept_same _ _ _ _ s.0 c.in-Some.branch a off);
+      left = rw (e.way, waiting) (left_same _ _ _ _ s.0 c.in-Some.branch a off ∙ left);
+      whole = rw (e.way, waiting) (whole _ _ _ _ s.0 c.in-Some.branch a off c.if-branch-eq0.true);
+      idle = λ none. absurd (some_wait s.0 c.in-Some.branch (sym s.1 ∙ i.some none));
+      waits = tt;
+      refused = tt;
+    }
 
-pub returns-in_err-open-clause-left : goal.returns-in_err-open-clause-left
-returns-in_err-open-clause-left g c =
+pub returns-in_err-enter : goal.returns-in_err-enter
+returns-in_err-enter g c =
+    let i = c.branches.invariant in
+    let s = c.in-Some.ensures in
+    let e = c.in_err-enter.ensures in
+    record {
+      before = e.before ∙ i.before;
+      kept = rw (e.stays.0, e.stays.1, e.waiting) i.kept;
+      left = rw (e.stays.0, e.waiting) i.left;
+      whole = if_refused _ c.from_residual.result _ c.from_residual.ensures.1;
+      idle = λ none. absurd (some_wait s.0 c.in-Some.branch (sym s.1 ∙ i.some none));
+      waits = on_err c.from_residual.result (λ none. some_wait s.0 c.in-Some.branch (sym (e.waiting ∙ s.1) ∙ none));
+      refused = refused_as _ c.from_residual.result _ c.from_residual.ensures.1 e.refused;
+    }
+
+pub returns-in_err-open : goal.returns-in_err-open
+returns-in_err-open g c =
     let i = c.branches.invariant in
     let s = c.in-Some.ensures in
     let a = rw s.1 at i.kept in
@@ -140,34 +135,27 @@ returns-in_err-open-clause-left g c =
     let e = c.in_ok-enter.ensures in
     let o = c.in_err-open.ensures in
     let off = sym c.is_on_way.ensures ∙ c.if-is_on_way.false in
-    rw (o.way, o.stays, e.way, e.waiting, s.1) (left_same _ _ _ _ s.0 c.in-Some.branch a off ∙ left)
+    let waiting = o.stays ∙ e.waiting ∙ s.1 in
+    record {
+      before = o.before ∙ e.before ∙ i.before;
+      kept = rw (o.way ∙ e.way, o.places ∙ e.places, waiting) (kept_same _ _ _ _ s.0 c.in-Some.branch a off);
+      left = rw (o.way ∙ e.way, waiting) (left_same _ _ _ _ s.0 c.in-Some.branch a off ∙ left);
+      whole = if_refused _ c.from_residual-in_err-open.result _ c.from_residual-in_err-open.ensures.1;
+      idle = λ none. absurd (some_wait s.0 c.in-Some.branch (sym s.1 ∙ i.some none));
+      waits = on_err c.from_residual-in_err-open.result (λ none. some_wait s.0 c.in-Some.branch (sym waiting ∙ none));
+      refused = refused_as _ c.from_residual-in_err-open.result _ c.from_residual-in_err-open.ensures.1 o.refused;
+    }
 
-pub returns-then-branch-eq0-clause-idle : goal.returns-then-branch-eq0-clause-idle
-returns-then-branch-eq0-clause-idle g c = λ none.
-    let i = c.branches.invariant in
-    let s = c.in-Some.ensures in
-    absurd (some_wait s.0 c.in-Some.branch (sym s.1 ∙ i.some none))
+pub returns : goal.returns
+returns g c = record {
+  before = c.branches.invariant.before;
+  kept = c.branches.invariant.kept;
+  left = c.branches.invariant.left;
+  whole = c.in_default.ensures;
+  idle = λ none. refl;
+  waits = tt;
+  refused = tt;
+}
 
-pub returns-in_err-enter-clause-idle : goal.returns-in_err-enter-clause-idle
-returns-in_err-enter-clause-idle g c = λ none.
-    let i = c.branches.invariant in
-    let s = c.in-Some.ensures in
-    absurd (some_wait s.0 c.in-Some.branch (sym s.1 ∙ i.some none))
-
-pub returns-in_err-enter-clause-waits : goal.returns-in_err-enter-clause-waits
-returns-in_err-enter-clause-waits g c =
-    let s = c.in-Some.ensures in
-    let e = c.in_err-enter.ensures in
-    on_err c.from_residual.result (λ none. some_wait s.0 c.in-Some.branch (sym (e.waiting ∙ s.1) ∙ none))
-
-pub returns-in_err-open-clause-idle : goal.returns-in_err-open-clause-idle
-returns-in_err-open-clause-idle g c = λ none.
-    let i = c.branches.invariant in
-    let s = c.in-Some.ensures in
-    absurd (some_wait s.0 c.in-Some.branch (sym s.1 ∙ i.some none))
-
-pub returns-in_err-open-clause-waits : goal.returns-in_err-open-clause-waits
-returns-in_err-open-clause-waits g c =
-    let s = c.in-Some.ensures in
-    let same = c.in_err-open.ensures.stays ∙ c.in_ok-enter.ensures.waiting ∙ s.1 in
-    on_err c.from_residual-in_err-open.result (λ none. some_wait s.0 c.in-Some.branch (sym same ∙ none))
+pub branches-init : goal.branches-init
+branches-init g c = record { some = λ none. none; before = refl; kept = c.requires; left = refl }
