@@ -27,6 +27,9 @@ at_the_end i n h l = omega (arith, h, l)
 pub at_most_equal : (n m : ℕ) → n ≡ m → n ≤ m
 at_most_equal n m e = omega (arith, e)
 
+pub wide_enough : (n m a b : ℕ) → n ≡ m → a ≡ b → m ≤ b → n ≤ a
+wide_enough n m a b e f h = omega (arith, e, f, h)
+
 pub few_fit : (n m : ℕ) → n ≡ m → n ≤ 2 ^ 32 → m ≤ 2 ^ 64
 few_fit n m e few = omega (arith, e, few)
 

@@ -1,6 +1,6 @@
 -- What an answer gives, and what there being none gives.
-use Rattle.std.proofs.Common.{◌≡◌, false, List, sym, subst}
-use Rattle.std.specs.Prelude.{Result, Ok, Err, Option, Some, None, IfOk, IfErr, MatchOption, if◌then◌else◌}
+use Rattle.std.proofs.Common.{◌≡◌, false, inl, inr, List, sym, subst}
+use Rattle.std.specs.Prelude.{Result, Ok, Err, Option, Some, None, IfOk, IfErr, MatchOption, if◌then◌else◌, ◌⊎◌}
 use Rattle.std.specs.Result.{is_ok, is_err}
 use Rattle.pf_base.specs.declared.error.PathError.{PathError}
 use Rattle.pf_base.specs.declared.error.PathError.TheVariants.{OutOfMemory, CostOverflow}
@@ -30,3 +30,20 @@ only_memory r h q =
 pub pushed_on : {T E X : Type 0} (r : Result T E) (xs ys now : List X) → now ≡ (if is_ok r then ys else xs) → is_err r ≡ false → now ≡ ys
 pushed_on (Ok x) xs ys now e taken = e
 pushed_on (Err x) xs ys now e taken = cc
+
+-- the errors of a call that hands on those of another, and may be refused for memory
+pub errors_before : {S T : Type 0} (P : PathError → Type 0) (r : Result S PathError) (q : Result T PathError) → IfErr r (λ e. (q ≡ Err e) ⊎ (e ≡ OutOfMemory)) → IfErr q P → P OutOfMemory → IfErr r P
+errors_before P (Ok x) q h p memory = tt
+errors_before P (Err e) q h p memory = elim h as (λ _. P e) [
+  | inl w ↦ rw w at p
+  | inr m ↦ subst P (sym m) memory
+]
+
+pub overflow_before : {S T : Type 0} (r : Result S PathError) (q : Result T PathError) → IfErr r (λ e. (q ≡ Err e) ⊎ (e ≡ OutOfMemory)) → r ≡ Err CostOverflow → q ≡ Err CostOverflow
+overflow_before r q h e = elim (rw e at h) as (λ _. q ≡ Err CostOverflow) [
+  | inl w ↦ w
+  | inr m ↦ absurd (other m)
+]
+  where
+    other : CostOverflow ≡ OutOfMemory → ⊥
+    other m = cc

@@ -134,10 +134,10 @@ not_less_of x y r e t = by r (lt_means x y r e) t
     by true m t = absurd (true≢false t)
     by false m t = m
 
-pub tight_at : {C : Type 0} (value : C → ℤ) (labels : Labels C) (next : ℕ) (label : Label C) (s : ℤ) (price sum : C) → HasLabel labels next label → value sum ≡ s +ℤ value price → value sum ≤ℤ value label.cost
-    → (r : Bool) → MatchBool r (value sum <ℤ value label.cost) (value label.cost ≤ℤ value sum) → MatchBool (not r) (IsTightStep value labels next s price) (¬ (IsTightStep value labels next s price))
-tight_at value labels next label s price sum at is low true m = λ h. let e = ap (λ (l : Label _). value l.cost) (label_is labels next label h.0 at h.1) in omega (arith, ints, m, e, h.2, is)
-tight_at value labels next label s price sum at is low false m = (label, at, omega (arith, ints, m, low, is))
+pub tight_at : {C : Type 0} (value : C → ℤ) (labels : Labels C) (next : ℕ) (label : Label C) (s : ℤ) (price sum : C) → HasLabel labels next label → value sum ≡ s +ℤ value price → (cost : ℤ) → cost ≡ value label.cost → value sum ≤ℤ cost
+    → (r : Bool) → MatchBool r (value sum <ℤ cost) (cost ≤ℤ value sum) → MatchBool (not r) (IsTightStep value labels next s price) (¬ (IsTightStep value labels next s price))
+tight_at value labels next label s price sum at is cost same low true m = λ h. let e = ap (λ (l : Label _). value l.cost) (label_is labels next label h.0 at h.1) in omega (arith, ints, m, e, h.2, is, same)
+tight_at value labels next label s price sum at is cost same low false m = (label, at, omega (arith, ints, m, low, is, same))
 
 -- ---- one number more
 module _ {X C : Type 0} (value : C → ℤ) (labels : Labels C) (step : X → ℤ → X → Type 0) (passes : X → Bool) (t : ℤ) where

@@ -1,7 +1,9 @@
 //! The numbers before each number on cheapest ways.
 
-ghost use Rattle.std.specs.Prelude.{◌≡◌, ◌⊎◌, ◌↔◌, ◌<◌, ◌≤◌, ◌+◌, ◌++◌, ◌∷◌, [], ℕ, List, OnOk, IfOk, IfErr, MatchBool, Contains, length, nat_eq};
+ghost use Rattle.std.specs.Prelude.{◌≡◌, ◌⊎◌, ◌↔◌, ◌<◌, ◌≤◌, ◌+◌, ◌++◌, ◌∷◌, [], ℕ, List, OnOk, IfOk, IfErr, MatchBool, MatchOption, Contains, length, nat_eq};
 ghost use Rattle.pf_base.specs.Walks.{HasNode};
+ghost use Rattle.pf_core.specs.declared.labels.Label.{Label};
+ghost use Rattle.pf_core.specs.Labels.{HasLabel};
 ghost use Rattle.pf_core.specs.Numbered.{Grows};
 ghost use Rattle.pf_informed.specs.Internal.Chains.{before_in};
 ghost use Rattle.pf_informed.specs.Internal.Tight.{AreRows, IsTightStep, IsTight};
@@ -19,24 +21,34 @@ pub(crate) struct Tight<A: Allocator> {
     pub before: Predecessors<A>,
 }
 
+/// The cost of the label of a number, if it has one.
+fn cost_of<C: Copy>(labels: &[Slot<C>], number: usize) -> Option<C>
+    ensures { MatchOption result ((l : Label C) → ¬ (HasLabel labels.now number l)) (λ cost. (l : Label C) × HasLabel labels.now number l × (cost ≡ l.cost)) }
+{
+    if number >= labels.len() {
+        return None;
+    }
+    match labels[number].label() {
+        Some(label) => Some(label.cost),
+        None => None,
+    }
+}
+
 /// Is the label of `next` that which a step at this price leads to, from a label of this cost?
 fn is_tight<C: Cost>(labels: &[Slot<C>], next: usize, cost: C, price: C) -> bool
     ensures { MatchBool result (IsTightStep C.value labels.now next (C.value cost) price) (¬ (IsTightStep C.value labels.now next (C.value cost) price)) }
 {
-    if next >= labels.len() {
-        return false;
-    }
-    let Some(label) = labels[next].label() else {
+    let Some(least) = cost_of(labels, next) else {
         return false;
     };
-    label.cost.known();
+    least.known();
     let Some(sum) = cost.checked_add(&price) else {
         return false;
     };
-    if label.cost < sum {
+    if least < sum {
         return false;
     }
-    !(sum < label.cost)
+    !(sum < least)
 }
 
 /// Puts a number before the end of a step of its row, where the step is tight.
@@ -101,10 +113,10 @@ fn look<C: Cost, G: GoalGraph<C>, A: Allocator>(
         → IsTight C.value labels.now (G.step g) (G.passes g) (G.stands graph.new) (C.value best) (number + 1) tight.new.goals.items (before_in tight.new.before)) }
     ensures refused { IfErr result (λ e. e ≡ PathError.OutOfMemory) }
 {
-    let Some(label) = labels[number].label() else {
+    let Some(cost) = cost_of(labels, number) else {
         return Ok(());
     };
-    if best < label.cost {
+    if best < cost {
         return Ok(());
     }
     if graph.is_goal(number) {
@@ -112,14 +124,16 @@ fn look<C: Cost, G: GoalGraph<C>, A: Allocator>(
         return Ok(());
     }
     graph.expand(number, row)?;
-    link_row(&mut tight.before, labels, number, label.cost, row)
+    link_row(&mut tight.before, labels, number, cost, row)
 }
 
-/// The goals whose labels cost at most `best`, and the numbers before each number on ways to them.
+/// The goals whose labels cost at most `best`, and the numbers before each number on ways to them. The
+/// row is room for the steps from one number.
 pub(crate) fn tight_edges<C: Cost, G: GoalGraph<C>, A: Allocator + Copy>(
     alloc: A,
     graph: &mut G,
     labels: &[Slot<C>],
+    row: &mut Vec<(usize, C), A>,
     best: C,
 ) -> Result<Tight<A>, PathError>
     requires found { length labels.now ≤ G.node_count graph.old }
@@ -135,9 +149,8 @@ pub(crate) fn tight_edges<C: Cost, G: GoalGraph<C>, A: Allocator + Copy>(
         goals: Vec::new(alloc),
         before: Predecessors::new(alloc, labels.len())?,
     };
-    let mut row = Vec::new(alloc);
     'numbers: for number in 0..labels.len() {
-        look(graph, labels, number, best, &mut row, &mut tight)?;
+        look(graph, labels, number, best, row, &mut tight)?;
     }
     Ok(tight)
 }

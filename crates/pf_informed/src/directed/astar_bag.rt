@@ -158,7 +158,7 @@ where
     let Some(best) = label_cheapest(graph, estimate, search)? else {
         return Ok(None);
     };
-    let tight = tight_edges(alloc, graph, &search.labels, best)?;
+    let tight = tight_edges(alloc, graph, &search.labels, &mut search.row, best)?;
     let ways = Ways::new(alloc, tight.before, &tight.goals)?;
     Ok(Some((ways, best)))
 }
@@ -293,6 +293,33 @@ where
     Ok(paths)
 }
 
+/// The paths of an iterator, if there is one, and their cost.
+fn collected<N, C, A>(
+    alloc: A,
+    found: Result<Option<(AstarSolution<N, A>, C)>, PathError>,
+) -> Result<Option<(Vec<Vec<N, A>, A>, C)>, PathError>
+where
+    N: Eq + Hash + Clone + Drop,
+    C: Copy,
+    A: Allocator + Copy,
+    requires clones { IsLawfulClone N.eq N.is_clone }
+    requires ready { IfOk found (λ answer. MatchOption answer ⊤ (λ found. found.0.refused ≡ false)) }
+
+    ensures all { (value : C → ℤ) (start : N) (edges : N → List (N × ℤ)) (test : N → Bool)
+        → IfOk found (AreCheapestCleanPathsOrNone N.eq edges (start ∷ []) test (λ paths. paths.left) value)
+        → IfOk result (AreCheapestCleanPathsOrNone N.eq edges (start ∷ []) test (λ paths. lists_in paths.items) value) }
+
+    ensures errors { IfErr result (λ e. (found ≡ Err e) ⊎ (e ≡ PathError.OutOfMemory)) }
+{
+    let Some((mut solution, cost)) = found? else {
+        return Ok(None);
+    };
+    let paths = gather(alloc, &mut solution);
+    drop(solution);
+    let paths = paths?;
+    Ok(Some((paths, cost)))
+}
+
 /// All cheapest clean paths from `start` to nodes that pass `success`, each once, and their cost: what
 /// `astar_bag` answers, gathered. Their number can be exponential in that of the nodes.
 ///
@@ -328,11 +355,6 @@ where
 
     ensures errors { IfErr result (λ e. (e ≡ PathError.OutOfMemory) ⊎ (e ≡ PathError.CostOverflow)) }
 {
-    let Some((mut solution, cost)) = astar_bag(alloc, start, successors, estimate, success)? else {
-        return Ok(None);
-    };
-    let paths = gather(alloc, &mut solution);
-    drop(solution);
-    let paths = paths?;
-    Ok(Some((paths, cost)))
+    let found = astar_bag(alloc, start, successors, estimate, success);
+    collected(alloc, found)
 }

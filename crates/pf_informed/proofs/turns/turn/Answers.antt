@@ -1,17 +1,18 @@
-use Rattle.std.proofs.Common.{◌<◌, ◌≤◌, ◌∙◌, arith, List, ℕ, sym, ap, subst, length}
+use Rattle.std.proofs.Common.{◌<◌, ◌≤◌, ◌∙◌, List, ℕ, sym, ap, subst, length}
 use Rattle.std.specs.Prelude.{◌++◌, Contains}
 use Rattle.pf_core.specs.Nodes.{StandsFor, IsStep}
 use Rattle.pf_core.proofs.LabelLemmas.{HasLabel-inside}
 use Rattle.pf_base.proofs.Outcomes.{on_ok, on_refused, refused_as}
 use Rattle.pf_core.proofs.UnitLemmas.{begins_all}
 use Rattle.pf_core.proofs.WalkLemmas.{no_negative}
-use Rattle.pf_informed.specs.Internal.Informed.{Follows}
+use Rattle.pf_informed.specs.Internal.Informed.{Follows, IsInformed}
+use Rattle.pf_informed.specs.Internal.Led.{IsLed}
 use Rattle.pf_informed.specs.Internal.Waiting.{IsQueue}
 use Rattle.pf_informed.proofs.GrowingLemmas.{follows_beside, queue_beside}
 use Rattle.pf_informed.proofs.InformedLemmas.{queue_kept, informed_opened}
 use Rattle.pf_informed.proofs.LedLemmas.{with_test, led_grown, led_more}
 use Rattle.pf_informed.proofs.TightLemmas.{both_ok}
-use Rattle.pf_informed.proofs.Bounds.{at_most_equal}
+use Rattle.pf_informed.proofs.Bounds.{at_most_equal, wide_enough}
 use Rattle.pf_informed.proofs.turns.turn.Goals as goal
 
 pub expand-requires-clause-inside : goal.expand-requires-clause-inside
@@ -54,7 +55,7 @@ follow-requires-clause-sound g c =
     record {
       forest = r.sound.forest;
       few = r.sound.few;
-      estimated = omega (arith, r.wide, c.in_ok-ask.ensures.all, c.in_ok-expand.ensures.grows.more);
+      estimated = wide_enough _ _ _ _ r.wide c.in_ok-ask.ensures.all c.in_ok-expand.ensures.grows.more;
       queue = queue_kept g.C.Number.value old.labels.items old.estimates.items c.ask.new.estimates.items old.queue.entries c.in_ok-ask.ensures.kept r.sound.queue;
     }
 
@@ -96,7 +97,7 @@ returns g c =
           let row = c.in_ok-expand.ensures.listed in
           let x = c.in_ok-expand.ensures.graph (with_test h test) (d.explores, d.tested) in
           let a = c.in_ok-ask.ensures.graph h least d.asked x.0.reached in (
-            rw f.estimates (led_more (led_grown d laws c.requires.ready.asked c.expand.new.self grown x.0 x.1) a.0 a.1),
+            subst (λ (es : List g.row.C.Denot). IsLed eq value g.S.EdgeSource.answers g.T.NodeTest.answers g.H.EstimateFunction.answers h test least c.expand.new.self c.ask.new.estimate es) (sym f.estimates) (led_more (led_grown d laws c.requires.ready.asked c.expand.new.self grown x.0 x.1) a.0 a.1),
             λ passes entries rest fails left i.
                 let someone = begins_all eq laws old number (subst (λ (n : ℕ). number < n) c.requires.ready.wide (HasLabel-inside labels number l.0 l.1)) in
                 let stepped = subst (λ (es : List g.row.C.Denot). Follows value g.C.Number.fits es number l.0 c.expand.new.row.items labels c.follow.new.self.labels.items heap c.follow.new.self.queue.entries) f.estimates (w l.0 l.1) in
@@ -104,7 +105,7 @@ returns g c =
                 let whole = follows_beside value g.C.Number.fits asked number l.0 _ labels c.follow.new.self.labels.items heap c.follow.new.self.queue.entries rest followed in
                 let opened = informed_opened value g.C.Number.fits (IsStep eq h) passes estimates asked c.in_ok-ask.ensures.kept (length old) (length keys) (StandsFor eq old) (StandsFor eq keys) grown labels c.follow.new.self.labels.items (at_most_equal _ _ c.requires.ready.wide)
                 entries (heap ++ rest) (c.follow.new.self.queue.entries ++ rest) number l.0 l.1 left fails row.0 (λ y k. row.4 (with_test h test) (d.explores, d.tested) y k) row.3 someone whole c.requires.ready.sound.forest i in
-                rw f.estimates opened,
+                subst (λ (es : List g.row.C.Denot). IsInformed value g.C.Number.fits es (IsStep eq h) passes (StandsFor eq keys) c.follow.new.self.labels.items (c.follow.new.self.queue.entries ++ rest) (length keys)) (sym f.estimates) opened,
           ));
       refused = f.refused;
     }

@@ -1,4 +1,5 @@
 use Rattle.std.proofs.Common.{◌≡◌, ◌∙◌, Err, ap, length, ◌≤◌, refl, inl, ℕ, ◌<◌, subst, sym}
+use Rattle.std.proofs.lemmas.Option.{MatchOption-at_some}
 use Rattle.pf_core.specs.NodeLaws.{StandsFor-one}
 use Rattle.pf_core.proofs.UnitLemmas.{begins_all}
 use Rattle.pf_informed.specs.Internal.Chains.{before_in}
@@ -21,31 +22,31 @@ label_cheapest-requires-clause-graph g c =
 
 pub tight_edges-requires-clause-found : goal.tight_edges-requires-clause-found
 tight_edges-requires-clause-found g c =
-    let w = rw c.in-Some.is at c.in_ok-best.ensures.wide in
+    let w = MatchOption-at_some _ _ c.in-Some.best c.in-Some.is c.in_ok-best.ensures.wide in
     at_most_equal _ _ (ap length c.deref.ensures.value ∙ w.0)
 
 pub tight_edges-requires-clause-graph : goal.tight_edges-requires-clause-graph
 tight_edges-requires-clause-graph g c =
     let r = c.requires.graph in
-    let v = rw c.in-Some.is at (c.in_ok-best.ensures.labelled r.0 r.1 r.2 r.3 r.4 r.5) in
+    let v = MatchOption-at_some _ _ c.in-Some.best c.in-Some.is (c.in_ok-best.ensures.labelled r.0 r.1 r.2 r.3 r.4 r.5) in
     (with_test (graph_of r.0 r.1) r.2, (v.0.explores, v.0.tested))
 
 pub tight_edges-requires-clause-someone : goal.tight_edges-requires-clause-someone
 tight_edges-requires-clause-someone g c = λ k l.
-    let w = rw c.in-Some.is at c.in_ok-best.ensures.wide in
+    let w = MatchOption-at_some _ _ c.in-Some.best c.in-Some.is c.in_ok-best.ensures.wide in
     begins_all g.N.PartialEq.eq g.met.N.Eq.laws c.label_cheapest.new.graph.discovery.nodes.keys k (subst (λ (n : ℕ). k < n) (ap length c.deref.ensures.value ∙ w.0) l)
 
 pub new-requires-clause-below : goal.new-requires-clause-below
 new-requires-clause-below g c = λ k j h.
     let r = c.requires.graph in
-    let v = rw c.in-Some.is at (c.in_ok-best.ensures.labelled r.0 r.1 r.2 r.3 r.4 r.5) in
+    let v = MatchOption-at_some _ _ c.in-Some.best c.in-Some.is (c.in_ok-best.ensures.labelled r.0 r.1 r.2 r.3 r.4 r.5) in
     let t = (c.in_ok-tight.ensures.tight (with_test (graph_of r.0 r.1) r.2) (v.0.explores, v.0.tested)).1 in
     subst (λ (n : ℕ). j < n) (sym c.in_ok-tight.ensures.wide) (t.below k j h)
 
 pub new-requires-clause-goals : goal.new-requires-clause-goals
 new-requires-clause-goals g c = λ j h.
     let r = c.requires.graph in
-    let v = rw c.in-Some.is at (c.in_ok-best.ensures.labelled r.0 r.1 r.2 r.3 r.4 r.5) in
+    let v = MatchOption-at_some _ _ c.in-Some.best c.in-Some.is (c.in_ok-best.ensures.labelled r.0 r.1 r.2 r.3 r.4 r.5) in
     let t = (c.in_ok-tight.ensures.tight (with_test (graph_of r.0 r.1) r.2) (v.0.explores, v.0.tested)).1 in
     subst (λ (n : ℕ). j < n) (sym c.in_ok-tight.ensures.wide) (t.goals_below j (rw c.deref-2.ensures.value at h))
 
@@ -54,8 +55,8 @@ returns g c = record {
   all = λ start edges test least b d.
       let eq = g.N.PartialEq.eq in
       let laws = g.met.N.Eq.laws in
-      let v = rw c.in-Some.is at (c.in_ok-best.ensures.labelled start edges test least b d) in
-      let wide = rw c.in-Some.is at c.in_ok-best.ensures.wide in
+      let v = MatchOption-at_some _ _ c.in-Some.best c.in-Some.is (c.in_ok-best.ensures.labelled start edges test least b d) in
+      let wide = MatchOption-at_some _ _ c.in-Some.best c.in-Some.is c.in_ok-best.ensures.wide in
       let told = c.in_ok-tight.ensures.tight (with_test (graph_of start edges) test) (v.0.explores, v.0.tested) in
       let x = told.0.0 in
       let before = c.label_cheapest.new.graph.discovery.nodes.keys in
@@ -71,7 +72,7 @@ returns g c = record {
       c.in_ok-tight.tight.goals.items (before_in c.in_ok-tight.tight.before) tight);
   ways =
       let e = c.in_ok-ways.ensures in
-      let w = rw c.in-Some.is at c.in_ok-best.ensures.wide in
+      let w = MatchOption-at_some _ _ c.in-Some.best c.in-Some.is c.in_ok-best.ensures.wide in
       (rw e.before e.ways, subst (λ (n : ℕ). n ≤ length c.tight_edges.new.graph.discovery.nodes.keys) (sym (ap length e.before ∙ c.in_ok-tight.ensures.wide ∙ ap length c.deref.ensures.value ∙ w.0)) c.in_ok-tight.ensures.grows.more);
   overflow = λ start edges test least b d e. absurd (ok_is_no_error _ _ _ refl e);
   errors = tt;

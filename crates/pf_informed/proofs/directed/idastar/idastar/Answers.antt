@@ -32,3 +32,15 @@ returns-in_err-clone_of g c = record {
   overflow = λ edges test least s e. absurd (no_overflow c.from_residual.result _ c.from_residual.ensures.1 c.in_err-clone_of.ensures.refused e);
   errors = refused_as _ c.from_residual.result _ c.from_residual.ensures.1 (inl c.in_err-clone_of.ensures.refused);
 }
+
+pub search_on-requires-clause-clones : goal.search_on-requires-clause-clones
+search_on-requires-clause-clones g c = c.requires.clones
+
+pub search_on-requires-clause-unasked : goal.search_on-requires-clause-unasked
+search_on-requires-clause-unasked g c = c.new-known.ensures.unasked
+
+pub search_on-requires-clause-table : goal.search_on-requires-clause-table
+search_on-requires-clause-table g c = c.new-known.ensures.table
+
+pub search_on-requires-clause-one : goal.search_on-requires-clause-one
+search_on-requires-clause-one g c = rw c.new-known.ensures.graph c.in_ok-clone_of.ensures.one

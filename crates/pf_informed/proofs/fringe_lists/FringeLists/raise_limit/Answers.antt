@@ -1,4 +1,4 @@
-use Rattle.std.proofs.Common.{List, subst, sym, inr, refl, inl}
+use Rattle.std.proofs.Common.{List, arith, subst, sym, inr, refl, inl}
 use Rattle.pf_informed.specs.Internal.Waiting.{Entry}
 use Rattle.pf_informed.specs.Internal.Fringe.{listed, IsRaising, IsBelowWaiting}
 use Rattle.pf_informed.proofs.RaisingLemmas.{raising_start, later_labelled, raising_more, raised_below, raised_taken, raised_queue}
@@ -68,3 +68,6 @@ returns g c =
       fewer = rw c.in_default-take_last.ensures.taken.0 (without_rest c.entries.self.current.items c.entries.self.later.items _ c.entries.invariant.raising.fewer);
       refused = tt;
     }
+
+pub entries-smaller : goal.entries-smaller
+entries-smaller g c = omega (arith, c.in-Some-take_last.ensures.fewer)
