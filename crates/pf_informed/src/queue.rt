@@ -29,6 +29,7 @@ pub(crate) struct Waiting<C>(
     #[derive_where(skip(EqHashOrd))] pub u32,
 );
 
+// By hand, since a derived clone goes field by field.
 impl<C: Copy> Clone for Waiting<C> {
     ghost is_clone = { λ x y. y ≡ x };
 

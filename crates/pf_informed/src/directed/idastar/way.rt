@@ -18,6 +18,7 @@ pub(crate) struct Frame<C: Copy> {
     pub end: usize,
 }
 
+// By hand, since a derived clone goes field by field.
 impl<C: Copy> Clone for Frame<C> {
     ghost is_clone = { λ x y. y ≡ x };
 
