@@ -6,6 +6,7 @@ pub mod ClassLemmas
 pub mod FilteredWalks
 pub mod SplitLemmas
 pub mod ExploreLemmas
+pub mod AdjacencyLemmas
 pub mod CandidateLemmas
 pub mod NodePaths
 pub mod StateLemmas

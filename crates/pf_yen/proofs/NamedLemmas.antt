@@ -2,7 +2,9 @@
 use Rattle.std.proofs.Common.{◌≡◌, ℕ, ◌<◌, ◌+◌, ◌∙◌, refl, sym, ap, subst, arith, inl, inr, Bool, true, false, true≢false, not, ◌&&◌, List, [], ◌∷◌, ◌++◌, length, take, get_or, ℤ, pos, nat_eq, eq-eqb, Option, Some, None}
 use Rattle.std.specs.Prelude.{◌⊎◌, ◌≤ℤ◌, ◌<ℤ◌, ◌+ℤ◌, Contains, slice_get, IfSome, MatchBool}
 use borrow.Author.Tests.{eqb-true}
+use Rattle.std.specs.Option.{is_some}
 use Rattle.std.proofs.lemmas.Int.{ints}
+use Rattle.std.proofs.lemmas.Option.{slice_get_read}
 use Rattle.pf_base.specs.Walks.{HasNode, NoRepeats, end_of}
 use Rattle.pf_core.specs.Steps.{GoesAlong}
 use Rattle.pf_base.proofs.ListLemmas.{bool_dec, int_dec, get_within, Contains-here, Contains-take, Contains-take_more, Contains-take_here}
@@ -36,10 +38,33 @@ pub better_by : {C : Type 0} (value : C → ℤ) (best : Option (ℕ × C)) (r :
 better_by value best r sum true is m = subst (λ (o : Option (ℕ × _)). IfSome o (λ x. value sum ≤ℤ value x.1)) (sym is) (omega (arith, ints, m))
 better_by value best r sum false is m = (r, is, m)
 
-pub less_by : {C : Type 0} (value : C → ℤ) (least : Option C) (x cost : C) (b : Bool) → least ≡ Some x → MatchBool b (value cost <ℤ value x) (value x ≤ℤ value cost)
-    → MatchBool b (IfSome least (λ x. value cost ≤ℤ value x)) ((x : C) × (least ≡ Some x) × (value x ≤ℤ value cost))
-less_by value least x cost true is m = subst (λ (o : Option _). IfSome o (λ x. value cost ≤ℤ value x)) (sym is) (omega (arith, ints, m))
-less_by value least x cost false is m = (x, is, m)
+pub not_above : (x y : ℤ) (b : Bool) → b ≡ true → MatchBool b (x <ℤ y) (y ≤ℤ x) → ¬ (y ≤ℤ x)
+not_above x y true t m = λ h. absurd (omega (arith, ints, m, h))
+not_above x y false t m = absurd (true≢false (sym t))
+
+pub nothing_spent : (x : ℤ) → x ≡ pos 0 → (u : ℤ) → u ≡ pos 0 → x ≤ℤ u
+nothing_spent x z u e = omega (arith, ints, z, e)
+
+-- the sum of two costs, where it is known
+pub summed : {C : Type 0} (value : C → ℤ) (fits : ℤ → Type 0) (spent : Option C) (s sum : C) (r : Option C) → spent ≡ Some s → (elim r as (λ _. Type 0) [ None ↦ ¬ (fits (value s +ℤ value sum)) | Some t ↦ fits (value s +ℤ value sum) × (value t ≡ value s +ℤ value sum) ]) → IfSome r (λ t. (x : C) × (spent ≡ Some x) × (value t ≡ value x +ℤ value sum))
+summed value fits spent s sum None is m = tt
+summed value fits spent s sum (Some t) is m = (s, is, m.1)
+
+-- whether a number is new, by its onward number as it is read
+module _ (onward : List (Option ℕ)) (spur number : ℕ) (o : Option ℕ) (inside : number < length onward) (at : o ≡ get_or onward number o) where
+  pub new_by_spur : (b : Bool) → is_some o ≡ not b → b ≡ true → not (nat_eq number spur) ≡ is_new onward spur number
+  new_by_spur b is t = by o (is ∙ ap not t) (slice_get_read onward (length onward) number o refl inside at)
+    where
+      by : (p : Option ℕ) → is_some p ≡ false → slice_get onward number ≡ Some p → not (nat_eq number spur) ≡ is_new onward spur number
+      by None f e = rw e refl
+      by (Some x) f e = absurd (true≢false f)
+
+  pub not_new_by : (b : Bool) → is_some o ≡ not b → b ≡ false → b ≡ is_new onward spur number
+  not_new_by b is f = f ∙ by o (is ∙ ap not f) (slice_get_read onward (length onward) number o refl inside at)
+    where
+      by : (p : Option ℕ) → is_some p ≡ true → slice_get onward number ≡ Some p → false ≡ is_new onward spur number
+      by None t e = absurd (true≢false (sym t))
+      by (Some x) t e = rw e refl
 
 -- one step more, where the best first step is looked for
 module _ {C : Type 0} (value : C → ℤ) (first : ℕ → Bool) (costs : List (Option C)) (steps more : List (ℕ × C)) (next : ℕ) (price : C) (keeps : (e : ℕ × C) → Contains steps e → Contains more e) (there : Contains more (next, price)) (from : (e : ℕ × C) → Contains more e → ((next, price) ≡ e) ⊎ Contains steps e) where
@@ -316,26 +341,29 @@ pub record IsCheapestTo {C : Type 0} (value : C → ℤ) (to : ℕ) (steps : Lis
   pub least : (d : C) → Contains steps (to, d) → (x : C) × (o ≡ Some x) × (value x ≤ℤ value d)
 
 module _ {C : Type 0} (value : C → ℤ) (to : ℕ) (row : List (ℕ × C)) (i : ℕ) (item : ℕ × C) (inside : i < length row) (is : item ≡ get_or row i item) (o : Option C) (h : IsCheapestTo value to (take i row) o) where
-  -- the step is a cheaper one
-  pub cheapest_taken : item.0 ≡ to → IfSome o (λ x. value item.1 ≤ℤ value x) → IsCheapestTo value to (take (i + 1) row) (Some item.1)
-  cheapest_taken at low = record {
-    there = subst (λ (n : ℕ). Contains (take (i + 1) row) (n, item.1)) at (Contains-take_here row i item inside is);
-    least = λ d m. elim (Contains-take_more row i item (to, d) m) as (λ _. (x : C) × (Some item.1 ≡ Some x) × (value x ≤ℤ value d)) [
-      | inl old ↦ let z = h.least d old in (item.1, refl, below z.0 z.1 d z.2)
-      | inr e ↦ (item.1, refl, subst (λ (s : ℕ × C). value item.1 ≤ℤ value s.1) (is ∙ e) (omega (arith, ints)))
+  -- the step leads there: the lesser cost
+  pub cheapest_taken : (less : C) → item.0 ≡ to → value less ≤ℤ value item.1 → IfSome o (λ x. value less ≤ℤ value x) → (less ≡ item.1) ⊎ (o ≡ Some less) → IsCheapestTo value to (take (i + 1) row) (Some less)
+  cheapest_taken less at low lower one = record {
+    there = elim one as (λ _. Contains (take (i + 1) row) (to, less)) [
+      | inl e ↦ subst (λ (c : C). Contains (take (i + 1) row) (to, c)) (sym e) (subst (λ (n : ℕ). Contains (take (i + 1) row) (n, item.1)) at (Contains-take_here row i item inside is))
+      | inr e ↦ Contains-take row i (to, less) (subst (λ (p : Option C). IfSome p (λ c. Contains (take i row) (to, c))) e h.there)
+    ];
+    least = λ d m. elim (Contains-take_more row i item (to, d) m) as (λ _. (x : C) × (Some less ≡ Some x) × (value x ≤ℤ value d)) [
+      | inl old ↦ let z = h.least d old in (less, refl, below z.0 z.1 d z.2)
+      | inr e ↦ (less, refl, subst (λ (s : ℕ × C). value less ≤ℤ value s.1) (is ∙ e) low)
     ];
   }
     where
-      below : (x : C) → o ≡ Some x → (d : C) → value x ≤ℤ value d → value item.1 ≤ℤ value d
-      below x e d l = let m : value item.1 ≤ℤ value x = subst (λ (p : Option C). IfSome p (λ y. value item.1 ≤ℤ value y)) e low in omega (arith, ints, l, m)
+      below : (x : C) → o ≡ Some x → (d : C) → value x ≤ℤ value d → value less ≤ℤ value d
+      below x e d l = let m : value less ≤ℤ value x = subst (λ (p : Option C). IfSome p (λ y. value less ≤ℤ value y)) e lower in omega (arith, ints, l, m)
 
-  -- the step is none, or no cheaper one
-  pub cheapest_kept : (item.0 ≡ to → (x : C) × (o ≡ Some x) × (value x ≤ℤ value item.1)) → IsCheapestTo value to (take (i + 1) row) o
-  cheapest_kept dear = record {
+  -- the step does not lead there
+  pub cheapest_kept : ¬ (item.0 ≡ to) → IsCheapestTo value to (take (i + 1) row) o
+  cheapest_kept away = record {
     there = wider o h.there;
     least = λ d m. elim (Contains-take_more row i item (to, d) m) as (λ _. (x : C) × (o ≡ Some x) × (value x ≤ℤ value d)) [
       | inl old ↦ h.least d old
-      | inr e ↦ let f : item ≡ (to, d) = is ∙ e in let z = dear (ap (λ (s : ℕ × C). s.0) f) in (z.0, z.1, subst (λ (s : ℕ × C). value z.0 ≤ℤ value s.1) f z.2)
+      | inr e ↦ absurd (away (ap (λ (s : ℕ × C). s.0) (is ∙ e)))
     ];
   }
     where

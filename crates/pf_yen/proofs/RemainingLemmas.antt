@@ -1,7 +1,8 @@
 -- What remains from each number: that no walk to a goal costs less.
-use Rattle.std.proofs.Common.{◌≡◌, ℕ, ◌<◌, ◌+◌, ◌∙◌, refl, sym, ap, subst, arith, inl, inr, true, false, true≢false, List, [], ◌∷◌, length, take, get_or, ℤ, pos, Option, Some, None}
-use Rattle.std.specs.Prelude.{◌≤ℤ◌, ◌+ℤ◌, Contains, slice_get, IfSome}
+use Rattle.std.proofs.Common.{◌≡◌, ℕ, ◌<◌, ◌≤◌, ◌+◌, ◌∙◌, refl, sym, ap, subst, arith, inl, inr, true, false, true≢false, List, [], ◌∷◌, length, take, get_or, ℤ, pos, Option, Some, None}
+use Rattle.std.specs.Prelude.{◌≤ℤ◌, ◌+ℤ◌, Contains, slice_get, IfSome, MatchOption}
 use Rattle.std.proofs.lemmas.Int.{ints}
+use Rattle.std.proofs.lemmas.Option.{slice_get_within}
 use Rattle.pf_base.specs.Walks.{end_of}
 use Rattle.pf_core.specs.Steps.{GoesAlong}
 use Rattle.pf_base.proofs.ListLemmas.{bool_dec, nat_dec, get_within, at_place, Contains-take_more}
@@ -12,6 +13,20 @@ use Rattle.pf_yen.proofs.FilteredLemmas.{in_none}
 
 pub one_cost : {C : Type 0} (o : Option (Option C)) (x y : C) → o ≡ Some (Some x) → o ≡ Some (Some y) → x ≡ y
 one_cost o x y a b = let e : Some (Some x) ≡ Some (Some y) = sym a ∙ b in cc
+
+-- what costs say of a number
+pub none_beyond : {C : Type 0} (costs : List (Option C)) (n : ℕ) → length costs ≤ n → (y : C) → ¬ (slice_get costs n ≡ Some (Some y))
+none_beyond costs n h y e = absurd (omega (arith, h, slice_get_within costs n (Some y) e))
+
+pub cost_there : {C : Type 0} (costs : List (Option C)) (n : ℕ) (r : Option C) → n < length costs → r ≡ get_or costs n r → MatchOption r ((y : C) → ¬ (slice_get costs n ≡ Some (Some y))) (λ y. slice_get costs n ≡ Some (Some y))
+cost_there costs n r inside is = by r (at_place costs n r r inside (sym is))
+  where
+    by : (o : Option _) → slice_get costs n ≡ Some o → MatchOption o ((y : _) → ¬ (slice_get costs n ≡ Some (Some y))) (λ y. slice_get costs n ≡ Some (Some y))
+    by None e = λ y f. none_is_some (sym e ∙ f)
+      where
+        none_is_some : {X : Type 0} {x : X} → Some None ≡ Some (Some x) → ⊥
+        none_is_some h = cc
+    by (Some x) e = e
 
 module _ {C : Type 0} (value : C → ℤ) (fits : ℤ → Type 0) (costs : List (Option C)) where
   -- the least over some steps of a step and what remains behind it

@@ -100,6 +100,9 @@ ended_parts p h =
     let none = none_listed p.chosen p.waiting (none_counted (as_list p.chosen ++ p.waiting) (eqb-true _ 0 b.1)) in
     (a.0, not_true p.is_given b.0, none.0, none.1)
 
+pub not_ended_given : {N C : Type 0} (p : PathPlans N C) → p.is_given ≡ true → ¬ (has_ended p ≡ true)
+not_ended_given p g h = let z = ended_parts p h in true≢false (sym g ∙ z.1)
+
 -- and where this is so, the walk is at its end
 pub ended_by : {C : Type 0} (begun gone : Bool) (chosen : Option (Plan C)) (waiting : List (Plan C)) → begun ≡ true → gone ≡ false → chosen ≡ None → waiting ≡ [] → begun && (not gone && nat_eq (length (as_list chosen ++ waiting)) 0) ≡ true
 ended_by begun gone chosen waiting b g c w = rw (b, g, c, w) refl
@@ -234,9 +237,15 @@ module _ {N C F T : Type 0} {eq : N → N → Bool} {value : C → ℤ} {edges :
     going : s.plans.has_begun ≡ true → (length s.plans.nodes ≤ length s.plans.adjacency.rows) × (length s.plans.adjacency.rows < 2 ^ 64) × IsPlanned eq value s.plans.nodes s.plans.adjacency s.given s.plans.waiting s.plans.chosen s.plans.is_given
     going h = rw h at w.planned.under_way
 
+    pub begun_known : s.plans.has_begun ≡ true → (length s.plans.nodes ≤ length s.plans.adjacency.rows) × (length s.plans.adjacency.rows < 2 ^ 64)
+    begun_known h = let k = going h in (k.0, k.1)
+
     -- where none was looked for, none was given
     fresh_is : s.plans.has_begun ≡ false → (s.given ≡ []) × (s.plans.waiting ≡ []) × (s.plans.chosen ≡ None) × (s.plans.is_given ≡ false)
     fresh_is h = rw h at w.planned.under_way
+
+    pub given_known : s.plans.is_given ≡ true → (length s.plans.nodes ≤ length s.plans.adjacency.rows) × (length s.plans.adjacency.rows < 2 ^ 64)
+    given_known g = elim (bool_dec s.plans.has_begun) as (λ _. (length s.plans.nodes ≤ length s.plans.adjacency.rows) × (length s.plans.adjacency.rows < 2 ^ 64)) [ inl t ↦ begun_known t | inr f ↦ let q = fresh_is f in absurd (true≢false (sym g ∙ q.3)) ]
 
     pub fresh_plans : s.plans.has_begun ≡ false → (s.plans.waiting ≡ []) × (s.plans.is_given ≡ false)
     fresh_plans h = let u = fresh_is h in (u.1, u.3)

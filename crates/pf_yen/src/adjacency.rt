@@ -14,26 +14,24 @@ use std::marker::Model;
 /// them, where it was looked for and found.
 #[derive(Drop)]
 pub struct Adjacency<C: Cost, A: Allocator> {
-    rows: Vec<Vec<(usize, C), A>, A>,
-    goals: Vec<bool, A>,
+    rows: Vec<(Vec<(usize, C), A>, bool), A>,
     remaining: Option<Vec<Option<C>, A>>,
     /// Whether what remains was looked for.
     is_looked_for: bool,
 }
 
 impl<C: Cost, A: Allocator> Model for Adjacency<C, A> {
-    ghost use Rattle.std.specs.Prelude.{◌≡◌, ⊤, length, map, MatchOption};
-    ghost use Rattle.pf_yen.specs.Internal.Adjacency.{AdjacencyLists, adjacency_code};
+    ghost use Rattle.std.specs.Prelude.{⊤, MatchOption};
+    ghost use Rattle.pf_yen.specs.Internal.Adjacency.{AdjacencyLists, adjacency_code, lists_of};
     ghost use Rattle.pf_yen.specs.Internal.Remaining.{AreRemaining};
 
     ghost Value = { AdjacencyLists C };
 
     ghost coded = { adjacency_code C.code };
 
-    ghost view = { λ s. record { rows = map (λ row. row.items) s.rows.items; goals = s.goals.items } };
+    ghost view = { λ s. lists_of s.rows.items };
 
-    ghost invariant = { λ s. (length s.goals.items ≡ length s.rows.items)
-        × MatchOption s.remaining ⊤ (λ costs. AreRemaining C.value C.fits (record { rows = map (λ row. row.items) s.rows.items; goals = s.goals.items }) costs.items) };
+    ghost invariant = { λ s. MatchOption s.remaining ⊤ (λ costs. AreRemaining C.value C.fits (lists_of s.rows.items) costs.items) };
 }
 
 impl<C: Cost, A: Allocator> Adjacency<C, A> {
@@ -45,7 +43,6 @@ impl<C: Cost, A: Allocator> Adjacency<C, A> {
     {
         Adjacency {
             rows: Vec::new(alloc),
-            goals: Vec::new(alloc),
             remaining: None,
             is_looked_for: false,
         }
@@ -63,7 +60,7 @@ impl<C: Cost, A: Allocator> Adjacency<C, A> {
         requires { number < length self.now.rows }
         ensures { result.now ≡ row_of self.now number }
     {
-        &self.rows[number]
+        &self.rows[number].0
     }
 
     /// Is the number a goal?
@@ -71,7 +68,7 @@ impl<C: Cost, A: Allocator> Adjacency<C, A> {
         requires { number < length self.now.rows }
         ensures { result ≡ is_goal self.now number }
     {
-        self.goals[number]
+        self.rows[number].1
     }
 
     /// Puts in what was learned of the next number. Where memory is refused, nothing changes.
@@ -82,9 +79,7 @@ impl<C: Cost, A: Allocator> Adjacency<C, A> {
     {
         self.remaining = None;
         self.is_looked_for = false;
-        self.goals.reserve(1)?;
-        self.rows.push(row)?;
-        self.goals.push(goal)?;
+        self.rows.push((row, goal))?;
         Ok(())
     }
 

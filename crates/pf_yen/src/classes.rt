@@ -149,6 +149,39 @@ fn filtered_along<'k, C: Cost, A: Allocator + Copy>(
     Ok(filtered)
 }
 
+/// Puts among the plans cheapest paths of the classes that have the rest of the paths of a candidate's
+/// class. The graph is narrowed to the first numbers of the candidate's path, up to its spur.
+fn split_along<C: Cost, A: Allocator + Copy>(
+    alloc: A,
+    filtered: &mut FilteredGraph<'_, C, A>,
+    candidate: &Candidate<C, A>,
+    plans: &mut Vec<Candidate<C, A>, A>,
+) -> Result<(), PathError>
+    requires whole { IsWhole C.value filtered.old.adjacency.now }
+    requires some { 0 < length filtered.old.adjacency.now.rows }
+    requires wide { length filtered.old.onward.items ≡ length filtered.old.adjacency.now.rows }
+    requires cheapest { IsCheapestOfClass C.value filtered.old.adjacency.now (plan_of candidate.now) }
+    requires filtered { IsFilteredTo filtered.old.adjacency.now filtered.old.onward.items filtered.old.spur (take candidate.now.spur (drop 1 candidate.now.path.items)) }
+    requires spent { IsSpent C.value filtered.old.adjacency.now (take candidate.now.spur (drop 1 candidate.now.path.items)) filtered.old.spent }
+    requires banned { filtered.old.banned.items ≡ [] }
+    requires empty { plans.old.items ≡ [] }
+    ensures split { OnOk result (IsSplit C.value filtered.old.adjacency.now (plan_of candidate.now) (map plan_of plans.new.items)) }
+    ensures overflow { result ≡ Err PathError.CostOverflow → ClassOverflows C.value filtered.old.adjacency.now C.fits (plan_of candidate.now) }
+    ensures errors { IfErr result (λ e. (e ≡ PathError.OutOfMemory) ⊎ (e ≡ PathError.CostOverflow)) }
+{
+    candidate.cost.known();
+    filtered.banned.extend_from_slice(&candidate.banned)?;
+    'places: for place in candidate.spur..candidate.path.len() - 1 {
+        let next = candidate.path[place + 1];
+        filtered.banned.push(next)?;
+        if let Some(plan) = least_behind(alloc, filtered, &candidate.path, place)? {
+            plans.push(plan)?;
+        }
+        filtered.go_on(next);
+    }
+    Ok(())
+}
+
 /// Splits the class of a candidate whose path was given: cheapest paths of the classes that have the
 /// rest of its paths. A class without a path is left out.
 pub fn split<C: Cost, A: Allocator + Copy>(
@@ -163,17 +196,8 @@ pub fn split<C: Cost, A: Allocator + Copy>(
     ensures overflow { result ≡ Err PathError.CostOverflow → ClassOverflows C.value adjacency.now C.fits (plan_of candidate.now) }
     ensures errors { IfErr result (λ e. (e ≡ PathError.OutOfMemory) ⊎ (e ≡ PathError.CostOverflow)) }
 {
-    candidate.cost.known();
     let mut filtered = filtered_along(alloc, adjacency, &candidate.path, candidate.spur)?;
-    filtered.banned.extend_from_slice(&candidate.banned)?;
     let mut plans = Vec::new(alloc);
-    'places: for place in candidate.spur..candidate.path.len() - 1 {
-        let next = candidate.path[place + 1];
-        filtered.banned.push(next)?;
-        if let Some(plan) = least_behind(alloc, &mut filtered, &candidate.path, place)? {
-            plans.push(plan)?;
-        }
-        filtered.go_on(next);
-    }
+    split_along(alloc, &mut filtered, candidate, &mut plans)?;
     Ok(plans)
 }

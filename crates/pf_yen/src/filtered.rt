@@ -1,6 +1,6 @@
 //! A known graph that is searched along one path: of the numbers on it, each has its next one alone.
 
-ghost use Rattle.std.specs.Prelude.{◌≡◌, ◌≤ℤ◌, ◌<◌, ◌++◌, ◌∷◌, ◌+ℤ◌, ℕ, List, [], Some, None, length, map, replicate, slice_set, Contains, OnOk, IfOk, IfErr, IfSome, MatchBool};
+ghost use Rattle.std.specs.Prelude.{◌≡◌, ◌≤ℤ◌, ◌<◌, ◌++◌, ◌∷◌, ◌+ℤ◌, ℕ, List, [], Some, None, length, map, replicate, slice_set, Contains, OnOk, IfOk, IfErr, IfSome};
 ghost use Rattle.std.proofs.Common.{◌∙◌, sym};
 ghost use Rattle.pf_base.specs.Walks.{end_of};
 ghost use Rattle.pf_yen.specs.Internal.Filtered.{FilteredLists, allows, FilteredStep, StandsForItself, EndsInside, graph_filtered_by, filtered_row};
@@ -8,6 +8,7 @@ ghost use Rattle.pf_yen.specs.Internal.Adjacency.{is_goal};
 ghost use Rattle.pf_yen.specs.Internal.NamedWays.{is_new, is_first, IsSpent};
 
 use crate::adjacency::Adjacency;
+use crate::remaining::lesser;
 use pf_base::{Cost, PathError};
 use pf_core::numbered::{GoalGraph, NumberedGraph};
 use pf_core::row::Row;
@@ -31,21 +32,11 @@ fn cheapest_step<C: Cost>(row: &[(usize, C)], to: usize) -> Option<C>
 {
     let mut least = None;
     'steps: for (next, price) in row {
-        if *next == to && is_less(*price, least) {
-            least = Some(*price);
+        if *next == to {
+            least = Some(lesser(least, *price));
         }
     }
     least
-}
-
-/// Is there no other cost, or is it greater than this one?
-fn is_less<C: Cost>(cost: C, least: Option<C>) -> bool
-    ensures { MatchBool result (IfSome least (λ x. C.value cost ≤ℤ C.value x)) ((x : C) × (least ≡ Some x) × (C.value x ≤ℤ C.value cost)) }
-{
-    match least {
-        Some(least) => cost < least,
-        None => true,
-    }
 }
 
 /// What was spent and a cheapest step of the row to the number `to` cost together, where that is known

@@ -1,7 +1,7 @@
 //! The way behind a prefix that remaining costs name: from the best first step, always on by a step
 //! behind which so much less remains. Where it meets no number twice, it is a cheapest path.
 
-ghost use Rattle.std.specs.Prelude.{◌≡◌, ◌⊎◌, ◌≤ℤ◌, ◌<◌, ◌+ℤ◌, ◌+◌, ◌∷◌, ⊤, ℕ, ℤ, List, Some, true, false, length, take, drop, Contains, slice_get, IfOk, IfErr, IfSome, MatchBool, MatchOption};
+ghost use Rattle.std.specs.Prelude.{◌≡◌, ◌⊎◌, ◌≤ℤ◌, ◌<◌, ◌+ℤ◌, ◌+◌, ◌++◌, [], ◌∷◌, ⊤, ℕ, ℤ, List, Some, true, false, length, take, drop, Contains, slice_get, IfOk, IfErr, IfSome, MatchBool, MatchOption};
 ghost use Rattle.pf_yen.specs.Internal.WholeGraphs.{IsWhole};
 ghost use Rattle.pf_yen.specs.Internal.Adjacency.{is_goal, row_of};
 ghost use Rattle.pf_yen.specs.Internal.Remaining.{AreRemaining};
@@ -95,7 +95,7 @@ fn rest_behind<C: Cost, A: Allocator>(
 {
     let rest = cost_at(costs, next)?;
     let sum = price.checked_add(&rest)?;
-    if rest < here && !(sum < here) && !(here < sum) && filtered.is_new(next) {
+    if rest < here && sum == here && filtered.is_new(next) {
         Some(rest)
     } else {
         None
@@ -122,11 +122,13 @@ fn step_on<C: Cost, A: Allocator>(
     None
 }
 
-/// Goes on from a number by the remaining costs. The answer is whether that led to a goal.
+/// Adds the first numbers of a path, and the number that it goes on to, and goes on from there by the
+/// remaining costs. The answer is whether that led to a goal.
 fn go_to_goal<C: Cost, A: Allocator>(
     filtered: &FilteredGraph<'_, C, A>,
     costs: &[Option<C>],
     path: &mut Vec<usize, A>,
+    begin: &[usize],
     first: usize,
     rest: C,
 ) -> Result<bool, PathError>
@@ -134,11 +136,13 @@ fn go_to_goal<C: Cost, A: Allocator>(
     requires wide { length filtered.now.onward.items ≡ length filtered.now.adjacency.now.rows }
     requires inside { first < length filtered.now.adjacency.now.rows }
     ensures goal { IfOk result (λ found. found ≡ true → (q : List ℕ) (total : ℤ)
-        → IsWaySoFar C.value filtered.now.adjacency.now filtered.now.onward.items filtered.now.spur q filtered.now.banned.items costs.now total path.old.items first rest
+        → IsWaySoFar C.value filtered.now.adjacency.now filtered.now.onward.items filtered.now.spur q filtered.now.banned.items costs.now total ((path.old.items ++ begin.now) ++ first ∷ []) first rest
         → (number : ℕ) × (here : C) × IsWaySoFar C.value filtered.now.adjacency.now filtered.now.onward.items filtered.now.spur q filtered.now.banned.items costs.now total path.new.items number here
         × (is_goal filtered.now.adjacency.now number ≡ true) × (C.value C.zero ≤ℤ C.value here)) }
     ensures refused { IfErr result (λ e. e ≡ PathError.OutOfMemory) }
 {
+    path.extend_from_slice(begin)?;
+    path.push(first)?;
     let mut number = first;
     let mut here = rest;
     'steps: while !filtered.adjacency.is_goal(number) {
@@ -180,9 +184,8 @@ pub fn named_way<C: Cost, A: Allocator + Copy>(
         return Ok(Named::Unknown);
     };
     let mut numbers = Vec::new(alloc);
-    numbers.extend_from_slice(&path[..spur + 1])?;
-    numbers.push(first.0)?;
-    if go_to_goal(filtered, costs, &mut numbers, first.0, rest)? {
+    let begin = &path[..spur + 1];
+    if go_to_goal(filtered, costs, &mut numbers, begin, first.0, rest)? {
         Ok(Named::Way(numbers, total))
     } else {
         Ok(Named::Unknown)

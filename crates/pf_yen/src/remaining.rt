@@ -1,6 +1,6 @@
 //! What remains from each number to a goal.
 
-ghost use Rattle.std.specs.Prelude.{◌≡◌, ◌≤ℤ◌, ◌<◌, ◌+ℤ◌, ⊤, true, ℕ, Some, Contains, slice_get, length, IfOk, IfErr, IfSome, MatchOption};
+ghost use Rattle.std.specs.Prelude.{◌≡◌, ◌⊎◌, ◌≤ℤ◌, ◌<◌, ◌+ℤ◌, ⊤, true, ℕ, Some, Contains, slice_get, length, IfOk, IfErr, IfSome, MatchOption};
 ghost use Rattle.pf_yen.specs.Internal.Remaining.{IsLeastFrom, AreRemaining};
 ghost use Rattle.pf_yen.specs.Internal.Adjacency.{is_goal, row_of};
 
@@ -19,8 +19,8 @@ pub fn cost_at<C: Cost>(costs: &[Option<C>], number: usize) -> Option<C>
 }
 
 /// The lesser of two costs, where there is a first one.
-fn lesser<C: Cost>(least: Option<C>, sum: C) -> C
-    ensures { (C.value result ≤ℤ C.value sum) × IfSome least (λ x. C.value result ≤ℤ C.value x) }
+pub fn lesser<C: Cost>(least: Option<C>, sum: C) -> C
+    ensures { (C.value result ≤ℤ C.value sum) × IfSome least (λ x. C.value result ≤ℤ C.value x) × ((result ≡ sum) ⊎ (least ≡ Some result)) }
 {
     match least {
         Some(cost) if cost < sum => cost,

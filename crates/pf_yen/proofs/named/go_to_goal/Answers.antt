@@ -1,10 +1,19 @@
-use Rattle.std.proofs.Common.{◌∙◌, sym, ap, subst, ℕ, List}
+use Rattle.std.proofs.Common.{◌∙◌, refl, sym, ap, subst, ℕ, List}
 use Rattle.std.specs.Prelude.{◌≤ℤ◌}
 use Rattle.std.specs.Ordering.{is_some_and, is_lt}
+use Rattle.std.proofs.lemmas.Result.{IfOk-from_err}
+use Rattle.pf_base.specs.declared.error.PathError.TheVariants.{OutOfMemory}
 use Rattle.pf_base.proofs.ListLemmas.{lt_means}
+use Rattle.pf_base.proofs.Outcomes.{refused_as}
 use Rattle.pf_yen.specs.Internal.NamedWays.{IsWaySoFar}
 use Rattle.pf_yen.proofs.NamedLemmas.{not_less, way_on}
 use Rattle.pf_yen.proofs.named.go_to_goal.Goals as goal
+
+pub steps-init : goal.steps-init
+steps-init g c = record {
+  inside = c.requires.inside;
+  way = λ q total w. rw (c.in_ok-push.ensures.items, c.in_ok-extend_from_slice.ensures.items) w;
+}
 
 pub steps-preserved : goal.steps-preserved
 steps-preserved g c =
@@ -14,7 +23,7 @@ steps-preserved g c =
     let n = rw c.in-Some.is at c.step_on.ensures in
     record {
       inside = c.requires.whole.inside c.steps.number c.in-Some.step.0 n.price n.edge;
-      way = λ q total w. (subst (λ (v : List ℕ). IsWaySoFar value k s.onward.items s.spur q s.banned.items c.args.costs.now total v c.in-Some.step.0 c.in-Some.step.1) (sym c.in_ok-push.ensures.items)
+      way = λ q total w. (subst (λ (v : List ℕ). IsWaySoFar value k s.onward.items s.spur q s.banned.items c.args.costs.now total v c.in-Some.step.0 c.in-Some.step.1) (sym c.in_ok-push-2.ensures.items)
           (way_on value k c.requires.whole c.args.costs.now s.onward.items s.spur q s.banned.items total c.steps.path.items c.steps.number c.in-Some.step.0 c.steps.here c.in-Some.step.1 n (c.steps.invariant.way q total w)));
     }
 
@@ -24,3 +33,24 @@ returns-clause-goal g c = λ found q total w.
     let o = g.met.C.Number.order_law c.steps.here c.zero.result g.met.C.Integral.exact_law in
     let low = not_less c.lt.result (value c.steps.here) (value c.zero.result) (lt_means (value c.steps.here) (value c.zero.result) c.lt.result (c.lt.ensures ∙ ap (is_some_and is_lt) o)) found in
     (c.steps.number, c.steps.here, c.steps.invariant.way q total w, sym c.is_goal.ensures ∙ c.steps-test.false, subst (λ (z : _). value z ≤ℤ value c.steps.here) c.zero.ensures low)
+
+pub returns-clause-refused : goal.returns-clause-refused
+returns-clause-refused g c = tt
+
+pub returns-in_err-extend_from_slice : goal.returns-in_err-extend_from_slice
+returns-in_err-extend_from_slice g c = record {
+  goal = IfOk-from_err _ _ c.from_residual.ensures.0;
+  refused = refused_as _ c.from_residual.result OutOfMemory c.from_residual.ensures.1 refl;
+}
+
+pub returns-in_err-push : goal.returns-in_err-push
+returns-in_err-push g c = record {
+  goal = IfOk-from_err _ _ c.from_residual-in_err-push.ensures.0;
+  refused = refused_as _ c.from_residual-in_err-push.result OutOfMemory c.from_residual-in_err-push.ensures.1 refl;
+}
+
+pub returns-in_err-push-2 : goal.returns-in_err-push-2
+returns-in_err-push-2 g c = record {
+  goal = IfOk-from_err _ _ c.from_residual-in_err-push-2.ensures.0;
+  refused = refused_as _ c.from_residual-in_err-push-2.result OutOfMemory c.from_residual-in_err-push-2.ensures.1 refl;
+}

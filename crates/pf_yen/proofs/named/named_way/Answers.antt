@@ -33,8 +33,8 @@ returns-then-branch-clause-named g c =
     let best = rw c.in-Some-best_first.is at c.best_first.ensures in
     let t = rw c.in-Some-total_of.is at c.total_of.ensures in
     let known = rw c.in-Some-cost_at.is at c.cost_at.ensures in
-    let items : c.push.new.self.items ≡ (0 ∷ q) ++ first ∷ [] = c.in_ok-push.ensures.items ∙ ap (λ (v : List ℕ). v ++ first ∷ []) (c.in_ok-extend_from_slice.ensures.items ∙ ap (λ (v : List ℕ). v ++ take (c.args.spur + 1) c.args.path.now) c.new-numbers.ensures.items ∙ c.requires.begins) in
-    let start = way_start value g.C.Number.fits s.adjacency.now c.requires.whole c.in-Some.costs.now r s.onward.items s.spur q s.banned.items c.requires.wide s.spent c.requires.prefix first sum best t.0 total t.1 t.2 rest c.push.new.self.items known items in
+    let begin : (c.new-numbers.result.items ++ take (c.args.spur + 1) c.args.path.now) ++ first ∷ [] ≡ (0 ∷ q) ++ first ∷ [] = ap (λ (v : List ℕ). v ++ first ∷ []) (ap (λ (v : List ℕ). v ++ take (c.args.spur + 1) c.args.path.now) c.new-numbers.ensures.items ∙ c.requires.begins) in
+    let start = way_start value g.C.Number.fits s.adjacency.now c.requires.whole c.in-Some.costs.now r s.onward.items s.spur q s.banned.items c.requires.wide s.spent c.requires.prefix first sum best t.0 total t.1 t.2 rest ((c.new-numbers.result.items ++ take (c.args.spur + 1) c.args.path.now) ++ first ∷ []) known begin in
     let w = c.in_ok-go_to_goal.ensures.goal c.if-branch.true q (value total) start in
     way_found value g.C.Number.fits s.adjacency.now c.requires.whole c.in-Some.costs.now r s.onward.items s.spur q s.banned.items c.requires.wide s.spent c.requires.prefix first sum best t.0 total t.1 t.2 g.C.Zero.zero w.1 c.go_to_goal.new.path.items w.0
     (g.met.C.Zero.zero_law g.met.C.Integral.exact_law) w.4 w.3 w.2

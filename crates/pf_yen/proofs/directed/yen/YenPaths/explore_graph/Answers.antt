@@ -1,5 +1,8 @@
+use Rattle.std.proofs.Common.{◌≡◌, refl, true}
+use Rattle.pf_base.proofs.Outcomes.{on_any, on_err}
 use Rattle.pf_core.specs.Nodes.{TestedGraph}
-use Rattle.pf_yen.proofs.WalkLemmas.{graph_of, learned_on}
+use Rattle.pf_yen.specs.Internal.PathPlans.{path_plans}
+use Rattle.pf_yen.proofs.WalkLemmas.{graph_of, learned_on, begun_known, given_known, not_ended_given}
 use Rattle.pf_yen.proofs.directed.yen.YenPaths.explore_graph.Goals as goal
 
 pub explore-requires : goal.explore-requires
@@ -15,3 +18,33 @@ returns-clause-walk g c = λ edges start test w.
     let t = c.explore.new.graph in
     let asked : TestedGraph g.row.N.Denot = record { graph = graph_of start edges; test = test } in
     learned_on v g.met.N.Eq.laws t.discovery.nodes.keys c.explore.new.adjacency t.discovery.source.function t.success e.grows (e.graph asked (v.explored, v.tested)) (e.learned asked (v.explored, v.tested) v.planned.learned) c.if-self-2.false
+
+pub returns-then-self : goal.returns-then-self
+returns-then-self g c =
+    let inside = c.self.inside in
+    let same = c.note_remaining.ensures.same in
+    let more = not_ended_given (path_plans inside.graph.discovery.nodes.keys c.note_remaining.new.self inside.plans) c.if-self.true in
+    record {
+      walk = λ edges start test w. rw same (rw (← c.self.view_is) at w);
+      adjacency = λ edges start test w. let v = rw (← c.self.view_is) at w in on_any c.note_remaining.result (rw same (given_known v g.met.N.Eq.laws c.if-self.true));
+      ended = λ e. absurd (not_ended_given (path_plans inside.graph.discovery.nodes.keys inside.adjacency inside.plans) c.if-self.true (rw (← c.self.view_is) at e));
+      «open» = on_err c.note_remaining.result more;
+      given = rw (← c.self.view_is) refl;
+      same = rw (← c.self.view_is) refl;
+      bar = rw (← c.self.view_is) refl;
+      refused = c.note_remaining.ensures.refused;
+    }
+
+pub returns-then-self-2 : goal.returns-then-self-2
+returns-then-self-2 g c =
+    let begun : c.args.self.now.plans.has_begun ≡ true = rw (← c.self.view_is) c.if-self-2.true in
+    record {
+      walk = λ edges start test w. w;
+      adjacency = λ edges start test w. begun_known w g.met.N.Eq.laws begun;
+      ended = λ e. e;
+      «open» = tt;
+      given = refl;
+      same = refl;
+      bar = refl;
+      refused = tt;
+    }
