@@ -46,6 +46,10 @@ NoRepeats-before (x ∷ q) r h = ((λ k. h.0 (wider q r x k)), NoRepeats-before 
     wider (y ∷ q) r x (inl k) = inl k
     wider (y ∷ q) r x (inr k) = inr (wider q r x k)
 
+-- the place behind the last one
+pub last_place : (i n : ℕ) → i ≤ n → n ≤ i → i ≡ n
+last_place i n h k = omega (arith, h, k)
+
 -- nothing onward
 abbrev pub nothing : ℕ → List (Option ℕ)
 nothing n = replicate n None

@@ -103,6 +103,12 @@ ended_parts p h =
 pub not_ended_given : {N C : Type 0} (p : PathPlans N C) → p.is_given ≡ true → ¬ (has_ended p ≡ true)
 not_ended_given p g h = let z = ended_parts p h in true≢false (sym g ∙ z.1)
 
+pub not_ended_chosen : {N C : Type 0} (p : PathPlans N C) (c : Plan C) → p.chosen ≡ Some c → ¬ (has_ended p ≡ true)
+not_ended_chosen p c is h =
+    let z = ended_parts p h in
+    let both_are : None ≡ Some c = sym z.2 ∙ is in
+    cc
+
 -- and where this is so, the walk is at its end
 pub ended_by : {C : Type 0} (begun gone : Bool) (chosen : Option (Plan C)) (waiting : List (Plan C)) → begun ≡ true → gone ≡ false → chosen ≡ None → waiting ≡ [] → begun && (not gone && nat_eq (length (as_list chosen ++ waiting)) 0) ≡ true
 ended_by begun gone chosen waiting b g c w = rw (b, g, c, w) refl

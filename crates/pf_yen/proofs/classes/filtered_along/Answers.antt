@@ -1,6 +1,8 @@
-use Rattle.std.proofs.Common.{◌∙◌, ap, length, arith}
+use Rattle.std.proofs.Common.{◌≡◌, ◌∙◌, ℕ, ap, subst, take, drop, length, arith}
 use Rattle.std.proofs.lemmas.List.{length-set, length-replicate}
-use Rattle.pf_yen.proofs.SplitLemmas.{filtered_first, filtered_on, spent_on, spur_inside}
+use Rattle.pf_yen.specs.Internal.NamedWays.{IsSpent}
+use Rattle.pf_yen.specs.Internal.Splits.{IsFilteredTo}
+use Rattle.pf_yen.proofs.SplitLemmas.{last_place, filtered_first, filtered_on, spent_on, spur_inside}
 use Rattle.std.proofs.lemmas.Result.{IfOk-from_err}
 use Rattle.pf_base.proofs.Outcomes.{refused_as}
 use Rattle.pf_yen.proofs.classes.filtered_along.Goals as goal
@@ -45,3 +47,17 @@ returns-in_err-filtered g c = record {
   refused = refused_as _ c.from_residual.result c.in_err-filtered.field-0.0 c.from_residual.ensures.1 c.in_err-filtered.ensures.refused;
   wide = IfOk-from_err _ _ c.from_residual.ensures.0;
 }
+
+pub returns : goal.returns
+returns g c =
+    let i = c.places.invariant in
+    let s = c.places.filtered in
+    let end : c.places.place ≡ c.args.spur = last_place c.places.place c.args.spur c.places.auto.place-end c.places-test.false in
+    record {
+      adjacency = i.adjacency;
+      wide = i.wide;
+      banned = i.banned;
+      filtered = (subst (λ (n : ℕ). IsFilteredTo c.args.adjacency.now s.onward.items s.spur (take n (drop 1 c.args.path.now))) end i.filtered);
+      spent = subst (λ (n : ℕ). IsSpent g.C.Number.value c.args.adjacency.now (take n (drop 1 c.args.path.now)) s.spent) end i.spent;
+      refused = tt;
+    }

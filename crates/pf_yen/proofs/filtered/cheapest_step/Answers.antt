@@ -1,4 +1,4 @@
-use Rattle.std.proofs.Common.{◌+◌, subst, take, take_all, ℕ, List, Some}
+use Rattle.std.proofs.Common.{◌+◌, subst, take, take_all, ℕ, List}
 use Rattle.std.specs.Prelude.{Contains, IfSome, ◌≤ℤ◌}
 use Rattle.pf_yen.proofs.NamedLemmas.{IsCheapestTo, cheapest_taken, cheapest_kept, cheapest_is}
 use Rattle.pf_yen.proofs.filtered.cheapest_step.Goals.{then-next-to, else-next-to}

@@ -1,4 +1,6 @@
 use Rattle.std.proofs.Common.{◌≡◌, ◌∙◌, ap, subst, take, drop, ◌+◌, ◌++◌, [], ◌∷◌, ℕ, ◌<◌, List}
+use Rattle.std.proofs.lemmas.Result.{IfOk-from_err}
+use Rattle.pf_base.proofs.Outcomes.{refused_as}
 use Rattle.pf_yen.proofs.SplitLemmas.{spur_inside}
 use Rattle.pf_yen.proofs.NamedLemmas.{none_named, way_start, way_found}
 use Rattle.pf_yen.proofs.named.named_way.Goals as goal
@@ -8,11 +10,11 @@ best_first-requires-clause-inside g c =
     let s = c.args.filtered.now in
     subst (λ (n : ℕ). s.spur < n) c.requires.wide (spur_inside s.adjacency.now s.onward.items s.spur _ c.requires.prefix.filtered)
 
-pub returns-in_default-best_first-clause-named : goal.returns-in_default-best_first-clause-named
-returns-in_default-best_first-clause-named g c =
+pub returns-in_default-best_first : goal.returns-in_default-best_first
+returns-in_default-best_first g c =
     let s = c.args.filtered.now in
     let none = rw c.in_default-best_first.is at c.best_first.ensures in
-    none_named g.C.Number.value g.C.Number.fits s.adjacency.now c.requires.whole c.in-Some.costs.now c.in-Some.ensures s.onward.items s.spur (take c.args.spur (drop 1 c.args.path.now)) s.banned.items c.requires.wide s.spent c.requires.prefix none
+    record { named = none_named g.C.Number.value g.C.Number.fits s.adjacency.now c.requires.whole c.in-Some.costs.now c.in-Some.ensures s.onward.items s.spur (take c.args.spur (drop 1 c.args.path.now)) s.banned.items c.requires.wide s.spent c.requires.prefix none; refused = tt }
 
 pub go_to_goal-requires-clause-inside : goal.go_to_goal-requires-clause-inside
 go_to_goal-requires-clause-inside g c =
@@ -20,8 +22,8 @@ go_to_goal-requires-clause-inside g c =
     let best = rw c.in-Some-best_first.is at c.best_first.ensures in
     c.requires.whole.inside s.spur c.in-Some-best_first.first.0 best.price best.edge
 
-pub returns-then-branch-clause-named : goal.returns-then-branch-clause-named
-returns-then-branch-clause-named g c =
+pub returns-then-branch : goal.returns-then-branch
+returns-then-branch g c =
     let value = g.C.Number.value in
     let s = c.args.filtered.now in
     let q = take c.args.spur (drop 1 c.args.path.now) in
@@ -36,5 +38,44 @@ returns-then-branch-clause-named g c =
     let begin : (c.new-numbers.result.items ++ take (c.args.spur + 1) c.args.path.now) ++ first ∷ [] ≡ (0 ∷ q) ++ first ∷ [] = ap (λ (v : List ℕ). v ++ first ∷ []) (ap (λ (v : List ℕ). v ++ take (c.args.spur + 1) c.args.path.now) c.new-numbers.ensures.items ∙ c.requires.begins) in
     let start = way_start value g.C.Number.fits s.adjacency.now c.requires.whole c.in-Some.costs.now r s.onward.items s.spur q s.banned.items c.requires.wide s.spent c.requires.prefix first sum best t.0 total t.1 t.2 rest ((c.new-numbers.result.items ++ take (c.args.spur + 1) c.args.path.now) ++ first ∷ []) known begin in
     let w = c.in_ok-go_to_goal.ensures.goal c.if-branch.true q (value total) start in
-    way_found value g.C.Number.fits s.adjacency.now c.requires.whole c.in-Some.costs.now r s.onward.items s.spur q s.banned.items c.requires.wide s.spent c.requires.prefix first sum best t.0 total t.1 t.2 g.C.Zero.zero w.1 c.go_to_goal.new.path.items w.0
-    (g.met.C.Zero.zero_law g.met.C.Integral.exact_law) w.4 w.3 w.2
+    record {
+      named = way_found value g.C.Number.fits s.adjacency.now c.requires.whole c.in-Some.costs.now r s.onward.items s.spur q s.banned.items c.requires.wide s.spent c.requires.prefix first sum best t.0 total t.1 t.2 g.C.Zero.zero w.1 c.go_to_goal.new.path.items w.0
+          (g.met.C.Zero.zero_law g.met.C.Integral.exact_law) w.4 w.3 w.2;
+      refused = tt;
+    }
+
+pub returns-in_default : goal.returns-in_default
+returns-in_default g c = record { named = tt; refused = tt }
+
+pub returns-in_default-total_of : goal.returns-in_default-total_of
+returns-in_default-total_of g c = record { named = tt; refused = tt }
+
+pub returns-in_default-cost_at : goal.returns-in_default-cost_at
+returns-in_default-cost_at g c = record { named = tt; refused = tt }
+
+pub returns-else-branch : goal.returns-else-branch
+returns-else-branch g c = record { named = tt; refused = tt }
+
+pub returns-in_err-go_to_goal : goal.returns-in_err-go_to_goal
+returns-in_err-go_to_goal g c = record {
+  named = IfOk-from_err _ _ c.from_residual.ensures.0;
+  refused = refused_as _ c.from_residual.result c.in_err-go_to_goal.field-0.0 c.from_residual.ensures.1 c.in_err-go_to_goal.ensures.refused;
+}
+
+pub best_first-requires-clause-whole : goal.best_first-requires-clause-whole
+best_first-requires-clause-whole g c = c.requires.whole
+
+pub best_first-requires-clause-wide : goal.best_first-requires-clause-wide
+best_first-requires-clause-wide g c = c.requires.wide
+
+pub best_first-requires-clause-live : goal.best_first-requires-clause-live
+best_first-requires-clause-live g c = c.requires.prefix.live
+
+pub best_first-requires-clause-remaining : goal.best_first-requires-clause-remaining
+best_first-requires-clause-remaining g c = c.in-Some.ensures
+
+pub go_to_goal-requires-clause-whole : goal.go_to_goal-requires-clause-whole
+go_to_goal-requires-clause-whole g c = c.requires.whole
+
+pub go_to_goal-requires-clause-wide : goal.go_to_goal-requires-clause-wide
+go_to_goal-requires-clause-wide g c = c.requires.wide

@@ -1,8 +1,10 @@
-use Rattle.std.proofs.Common.{◌≡◌, ap, refl, Some, None, Option}
+use Rattle.std.proofs.Common.{◌≡◌, ap, refl, inl, Some, None, Option}
 use Rattle.pf_yen.specs.declared.candidate.Candidate.{Candidate}
 use Rattle.pf_yen.specs.Internal.Classes.{plan_of}
 use Rattle.pf_yen.specs.Internal.Candidates.{chosen_plan}
-use Rattle.pf_yen.proofs.WalkLemmas.{ended_by, none_left, path_inside, gives}
+use Rattle.pf_yen.specs.Internal.PathPlans.{path_plans}
+use Rattle.pf_yen.specs.Walk.{IsEnded}
+use Rattle.pf_yen.proofs.WalkLemmas.{ended_by, none_left, path_inside, gives, turn_refused, not_ended_chosen}
 use Rattle.pf_yen.proofs.directed.yen.YenPaths.give.Goals as goal
 
 pub returns-in_default-clause-steps : goal.returns-in_default-clause-steps
@@ -35,3 +37,14 @@ returns-clause-steps g c = λ edges start test w.
 
 pub nodes_at-requires-clause-clones : goal.nodes_at-requires-clause-clones
 nodes_at-requires-clause-clones g c = c.requires.clones
+
+pub returns-in_err-path : goal.returns-in_err-path
+returns-in_err-path g c =
+    let e : c.self.inside.plans.chosen ≡ Some c.in-Some.chosen = c.in-Some.is in
+    let f = ap (λ (o : Option (Candidate g.row.C.Denot g.row.A.Denot)). chosen_plan o) e in
+    let more : ¬ (IsEnded c.args.self.now) = rw (← c.self.view_is) (not_ended_chosen (path_plans c.self.inside.graph.discovery.nodes.keys c.self.inside.adjacency c.self.inside.plans) (plan_of c.in-Some.chosen) f) in
+    record {
+      steps = λ edges start test w. (w, turn_refused w c.args.self.now c.from_residual.result c.in_err-path.field-0.0 c.from_residual.ensures.1 (inl c.in_err-path.ensures.refused) refl more more);
+      same = refl;
+      bar = refl;
+    }
