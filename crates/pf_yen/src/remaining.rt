@@ -130,8 +130,9 @@ fn are_settled<C: Cost, A: Allocator>(adjacency: &Adjacency<C, A>, costs: &[Opti
 }
 
 /// In so many rounds the costs agree, but on graphs whose cheapest ways go back and forth between low
-/// and high numbers again and again. These are not worth more rounds than a few searches take.
-const MOST_ROUNDS: usize = 16;
+/// and high numbers again and again. A round takes a small part of a search, of which each path that is
+/// given takes one for each of its nodes.
+const MOST_ROUNDS: usize = 256;
 
 /// What remains from each number to a goal, or `None` where some sum does not fit, or the costs do not
 /// agree after so many rounds.
