@@ -2,6 +2,7 @@
 #![tactic(auto)]
 
 mod adjacency;
+mod backward;
 mod candidate;
 mod candidates;
 mod classes;

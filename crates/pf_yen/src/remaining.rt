@@ -5,6 +5,7 @@ ghost use Rattle.pf_yen.specs.Internal.Remaining.{IsLeastFrom, AreRemaining};
 ghost use Rattle.pf_yen.specs.Internal.Adjacency.{is_goal, row_of};
 
 use crate::adjacency::Adjacency;
+use crate::backward::costs_to_goals;
 use pf_base::{Cost, PathError};
 use std::alloc::Allocator;
 
@@ -59,47 +60,6 @@ fn least_from<C: Cost, A: Allocator>(
     least_on(adjacency.row(number), costs)
 }
 
-/// Sets the cost of a number to what remains from it by the others. The answer is whether all sums fit.
-fn lower<C: Cost, A: Allocator>(
-    adjacency: &Adjacency<C, A>,
-    costs: &mut Vec<Option<C>, A>,
-    number: usize,
-) -> bool
-    requires inside { number < length adjacency.now.rows }
-    requires wide { length costs.old.items ≡ length adjacency.now.rows }
-    ensures { length costs.new.items ≡ length adjacency.now.rows }
-{
-    let Some(least) = least_from(adjacency, costs, number) else {
-        return false;
-    };
-    costs[number] = least;
-    true
-}
-
-/// Sets the cost of each number so, from the last one to the first and back: a way whose numbers rise
-/// or fall is followed in one go. The answer is whether all sums fit.
-fn lower_all<C: Cost, A: Allocator>(
-    adjacency: &Adjacency<C, A>,
-    costs: &mut Vec<Option<C>, A>,
-) -> bool
-    requires { length costs.old.items ≡ length adjacency.now.rows }
-    ensures { length costs.new.items ≡ length adjacency.now.rows }
-{
-    let mut number = adjacency.len();
-    'falling: while number > 0 {
-        number -= 1;
-        if !lower(adjacency, costs, number) {
-            return false;
-        }
-    }
-    'rising: for number in 0..adjacency.len() {
-        if !lower(adjacency, costs, number) {
-            return false;
-        }
-    }
-    true
-}
-
 /// Is there such a cost, and no more than this one, if there is one?
 fn is_within<C: Cost>(here: Option<C>, least: Option<C>) -> bool
     ensures { result ≡ true → (y : C) → least ≡ Some y → (x : C) × (here ≡ Some x) × (C.value x ≤ℤ C.value y) }
@@ -129,13 +89,8 @@ fn are_settled<C: Cost, A: Allocator>(adjacency: &Adjacency<C, A>, costs: &[Opti
     true
 }
 
-/// In so many rounds the costs agree, but on graphs whose cheapest ways go back and forth between low
-/// and high numbers again and again. A round takes a small part of a search, of which each path that is
-/// given takes one for each of its nodes.
-const MOST_ROUNDS: usize = 256;
-
-/// What remains from each number to a goal, or `None` where some sum does not fit, or the costs do not
-/// agree after so many rounds.
+/// What remains from each number to a goal, or `None` where some sum does not fit. A search backwards
+/// finds the costs, and they are compared with each step.
 pub fn remaining_costs<C: Cost, A: Allocator + Copy>(
     alloc: A,
     adjacency: &Adjacency<C, A>,
@@ -143,15 +98,12 @@ pub fn remaining_costs<C: Cost, A: Allocator + Copy>(
     ensures known { IfOk result (λ known. MatchOption known ⊤ (λ costs. AreRemaining C.value C.fits adjacency.now costs.items)) }
     ensures refused { IfErr result (λ e. e ≡ PathError.OutOfMemory) }
 {
-    let mut costs = Vec::new(alloc);
-    costs.resize(adjacency.len(), None)?;
-    'rounds: for _ in 0..MOST_ROUNDS {
-        if !lower_all(adjacency, &mut costs) {
-            return Ok(None);
-        }
-        if are_settled(adjacency, &costs) {
-            return Ok(Some(costs));
-        }
+    let Some(costs) = costs_to_goals(alloc, adjacency)? else {
+        return Ok(None);
+    };
+    if are_settled(adjacency, &costs) {
+        Ok(Some(costs))
+    } else {
+        Ok(None)
     }
-    Ok(None)
 }

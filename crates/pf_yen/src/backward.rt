@@ -1,0 +1,141 @@
+//! A search by rising cost over a learned graph, from its goals back to what leads to them.
+
+ghost use Rattle.std.specs.Prelude.{◌≡◌, length, IfOk, IfErr, IfSome};
+
+use crate::adjacency::Adjacency;
+use pf_base::{Cost, PathError};
+use std::alloc::Allocator;
+use std::cmp::Reverse;
+use std::collections::BinaryHeap;
+
+/// The least cost that was found so far from each number to a goal, and the numbers that wait.
+#[derive(Drop)]
+struct Backward<C: Cost, A: Allocator> {
+    costs: Vec<Option<C>, A>,
+    waiting: BinaryHeap<Reverse<(C, usize)>, A>,
+}
+
+impl<C: Cost, A: Allocator> Backward<C, A> {
+    /// Notes a cost from a number to a goal, where it is the least so far.
+    fn note(&mut self, number: usize, cost: C) -> Result<(), PathError>
+        ensures wide { length self.new.costs.items ≡ length self.old.costs.items }
+        ensures refused { IfErr result (λ e. e ≡ PathError.OutOfMemory) }
+    {
+        if number >= self.costs.len() {
+            return Ok(());
+        }
+        if let Some(known) = self.costs[number] {
+            if !(cost < known) {
+                return Ok(());
+            }
+        }
+        self.waiting.push(Reverse((cost, number)))?;
+        self.costs[number] = Some(cost);
+        Ok(())
+    }
+
+    /// Goes back by the steps to a number from which a goal costs so much. The answer is whether all
+    /// sums fit.
+    fn go_back(&mut self, row: &[(usize, C)], cost: C) -> Result<bool, PathError>
+        ensures wide { length self.new.costs.items ≡ length self.old.costs.items }
+        ensures refused { IfErr result (λ e. e ≡ PathError.OutOfMemory) }
+    {
+        'steps: for (before, price) in row {
+            let Some(sum) = price.checked_add(&cost) else {
+                return Ok(false);
+            };
+            self.note(*before, sum)?;
+        }
+        Ok(true)
+    }
+}
+
+/// Puts the steps of a row, which begin at a number, to the numbers at which they end.
+fn put_steps<C: Cost, A: Allocator>(
+    rows: &mut Vec<Vec<(usize, C), A>, A>,
+    number: usize,
+    row: &[(usize, C)],
+) -> Result<(), PathError>
+    ensures wide { length rows.new.items ≡ length rows.old.items }
+    ensures refused { IfErr result (λ e. e ≡ PathError.OutOfMemory) }
+{
+    'steps: for (next, price) in row {
+        if *next < rows.len() {
+            rows[*next].push((number, *price))?;
+        }
+    }
+    Ok(())
+}
+
+/// For each number the numbers from which a step leads to it, with its cost. No path goes on from a
+/// goal.
+fn steps_back<C: Cost, A: Allocator + Copy>(
+    alloc: A,
+    adjacency: &Adjacency<C, A>,
+) -> Result<Vec<Vec<(usize, C), A>, A>, PathError>
+    ensures refused { IfErr result (λ e. e ≡ PathError.OutOfMemory) }
+{
+    let mut rows = Vec::new(alloc);
+    'rows: for _ in 0..adjacency.len() {
+        rows.push(Vec::new(alloc))?;
+    }
+    'numbers: for number in 0..adjacency.len() {
+        if !adjacency.is_goal(number) {
+            put_steps(&mut rows, number, adjacency.row(number))?;
+        }
+    }
+    Ok(rows)
+}
+
+/// A search in which each goal waits, at no cost.
+fn at_goals<C: Cost, A: Allocator + Copy>(
+    alloc: A,
+    adjacency: &Adjacency<C, A>,
+) -> Result<Backward<C, A>, PathError>
+    ensures wide { IfOk result (λ search. length search.costs.items ≡ length adjacency.now.rows) }
+    ensures refused { IfErr result (λ e. e ≡ PathError.OutOfMemory) }
+{
+    let mut search = Backward {
+        costs: Vec::new(alloc),
+        waiting: BinaryHeap::new(alloc),
+    };
+    search.costs.resize(adjacency.len(), None)?;
+    'numbers: for number in 0..adjacency.len() {
+        if adjacency.is_goal(number) {
+            search.note(number, C::zero())?;
+        }
+    }
+    Ok(search)
+}
+
+/// What it costs from each number to a goal, as a search backwards finds it, or `None` where some sum
+/// does not fit. An entry that costs more than was found since is stale.
+pub fn costs_to_goals<C: Cost, A: Allocator + Copy>(
+    alloc: A,
+    adjacency: &Adjacency<C, A>,
+) -> Result<Option<Vec<Option<C>, A>>, PathError>
+    ensures wide { IfOk result (λ found. IfSome found (λ costs. length costs.items ≡ length adjacency.now.rows)) }
+    ensures refused { IfErr result (λ e. e ≡ PathError.OutOfMemory) }
+{
+    let rows = steps_back(alloc, adjacency)?;
+    let mut search = at_goals(alloc, adjacency)?;
+    'entries: for _ in 0..usize::MAX {
+        let Some(Reverse((cost, number))) = search.waiting.pop() else {
+            break;
+        };
+        if number < rows.len() && !is_stale(&search.costs, number, cost) {
+            if !search.go_back(&rows[number], cost)? {
+                return Ok(None);
+            }
+        }
+    }
+    Ok(Some(search.costs))
+}
+
+/// Was a lesser cost found for the number?
+fn is_stale<C: Cost>(costs: &[Option<C>], number: usize, cost: C) -> bool {
+    match costs.get(number) {
+        Some(Some(known)) => *known < cost,
+        _ => false,
+    }
+}
