@@ -3,7 +3,8 @@ use Rattle.std.proofs.Common.{ℕ, zero, suc, ◌+◌, ◌*◌, ◌<◌, ◌≡�
 use Rattle.std.specs.Prelude.{◌⊎◌, ◌≤ℤ◌, ◌+ℤ◌, pos, neg_ℤ, slice_index}
 use Rattle.std.proofs.lemmas.Int.{ints}
 use Rattle.std.proofs.lemmas.Bool.{cases_eq}
-use Rattle.pf_assignment.specs.Assignments.{number, NumberTable, IsAssignment, assignment_total, IsBestAssignment, IsLeastAssignment, IsNegatedTable, IsGreatestWeight, WeightsFit}
+use Rattle.pf_base.specs.Places.{number}
+use Rattle.pf_assignment.specs.Assignments.{NumberTable, IsAssignment, assignment_total, IsBestAssignment, IsLeastAssignment, IsNegatedTable, IsGreatestWeight, WeightsFit}
 use Rattle.pf_base.specs.Sums.{sum_to}
 use Rattle.pf_assignment.specs.Internal.AssignmentSteps.{holder, IsMatching, IsPotential, IsMatched}
 use Rattle.pf_assignment.proofs.MatchingNumbers.{below_or_last}

@@ -4,7 +4,8 @@ use Rattle.std.specs.Prelude.{◌≤ℤ◌, ◌+ℤ◌, ◌-ℤ◌, pos, neg_ℤ
 use Rattle.std.proofs.lemmas.Int.{ints}
 use Rattle.std.proofs.lemmas.Bool.{cases_Bool}
 use Rattle.pf_base.specs.Costs.{LiesBetween}
-use Rattle.pf_assignment.specs.Assignments.{number, NumberTable}
+use Rattle.pf_base.specs.Places.{number}
+use Rattle.pf_assignment.specs.Assignments.{NumberTable}
 use Rattle.pf_assignment.specs.Internal.AssignmentSteps.{holder, flag, IsNearest, IsNext, IsTreeOf}
 use Rattle.pf_assignment.proofs.MatchingNumbers.{number-past}
 use Rattle.pf_assignment.proofs.MatchingWeights.{IsInterval, room_six}

@@ -2,7 +2,7 @@
 use Rattle.std.proofs.Common.{ℕ, zero, suc, ◌+◌, ◌<◌, ◌≡◌, ◌≢◌, refl, sym, ◌∙◌, ap, arith, Bool, true, false, List, [], ◌∷◌, ◌++◌, length, get_or, inl, inr, ℤ, true≢false}
 use Rattle.std.specs.Prelude.{slice_set, MatchBool, ◌⊎◌, ◌≤ℤ◌, ◌+ℤ◌, pos}
 use Rattle.std.proofs.lemmas.Bool.{cases_eq}
-use Rattle.pf_assignment.specs.Assignments.{number}
+use Rattle.pf_base.specs.Places.{number}
 use Rattle.pf_assignment.specs.Internal.AssignmentSteps.{flag, raised}
 
 pub below_or_last : (p n : ℕ) → p < n + 1 → (p < n) ⊎ (p ≡ n)

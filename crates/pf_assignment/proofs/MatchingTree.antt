@@ -4,7 +4,8 @@ use Rattle.std.specs.Prelude.{◌⊎◌, ◌≤ℤ◌, ◌<ℤ◌, ◌+ℤ◌, �
 use Rattle.std.proofs.lemmas.Int.{ints}
 use Rattle.std.proofs.lemmas.Bool.{cases_eq, cases_Bool}
 use Rattle.std.proofs.lemmas.List.{get_or-set_same, get_or-set_other, get_or_push, get_or_append_left, length-append}
-use Rattle.pf_assignment.specs.Assignments.{number, NumberTable}
+use Rattle.pf_base.specs.Places.{number}
+use Rattle.pf_assignment.specs.Assignments.{NumberTable}
 use Rattle.pf_assignment.specs.Internal.AssignmentSteps.{holder, flag, IsMatched, IsTreeOf, IsMatching, IsPotential, IsShortestPathTree, IsNearest, IsRelaxed, IsScanned, IsFresh, reach}
 use Rattle.pf_assignment.proofs.MatchingCount.{injective_le}
 use Rattle.pf_assignment.proofs.MatchingNumbers.{below_or_last, number-past}

@@ -3,12 +3,6 @@ use Rattle.std.specs.Prelude.{◌≡◌, ◌≤ℤ◌, ◌+ℤ◌, ◌⊎◌, �
 use Rattle.pf_base.specs.Costs.{LiesBetween}
 use Rattle.pf_base.specs.Sums.{sum_to}
 
--- the number of the value at j, or 0 where there is none
-abbrev pub number : {C : Type 0} → (C → ℤ) → List C → ℕ → ℤ
-number value [] j = pos 0
-number value (x ∷ xs) zero = value x
-number value (x ∷ xs) (suc j) = number value xs j
-
 -- a number for each row and column
 pub record NumberTable : Type 0 where
   pub rows : ℕ

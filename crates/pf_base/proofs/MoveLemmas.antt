@@ -1,11 +1,11 @@
 -- What moves and rays over a board are.
 use Rattle.std.proofs.Common.{◌≡◌, ◌≢◌, ℕ, ℤ, pos, negsuc, zero, suc, ◌+◌, ◌-◌, ◌*◌, ◌<◌, ◌≤◌, ◌+ℤ◌, refl, sym, ap, subst, ◌∙◌, neg_ℤ, add-one, arith, Bool, true, false, cond, List, [], ◌∷◌, Option, None, Some}
 use Rattle.std.specs.Prelude.{◌*ℤ◌, ◌&&◌, slice_get, nat_lt}
-use Rattle.std.specs.Option.{option_map_or}
+use Rattle.std.specs.Option.{option_map_or, option_zip}
 use Rattle.std.proofs.Math.IntN.{suc_ℤ-*ℤ, *ℤ-zero, pos-*ℤ-pos, pos-*ℤ-negsuc}
 use Rattle.std.proofs.lemmas.Int.{ints}
 use Rattle.std.proofs.lemmas.Bool.Decides.{nat_tests}
-use Rattle.pf_base.specs.Moves.{Finds, IsInside, IsMove, times, below_size, pair_of, is_zero, is_inside, target_of, first_of_ray, room, ray}
+use Rattle.pf_base.specs.Moves.{Finds, IsInside, IsMove, times, below_size, is_zero, is_inside, target_of, first_of_ray, room, ray}
 use Rattle.pf_base.specs.Internal.CoordinateSteps.{IsCoordinateStep}
 
 -- ---- one move
@@ -49,13 +49,13 @@ of_inside b s h = let u = h.0 in let v = h.1 in
     ap (λ t. t && nat_lt s.1 b.1) x ∙ y
 
 module _ (start : ℕ × ℕ) (direction : ℤ × ℤ) (dimensions : ℕ × ℕ) where
-  pair-finds : direction ≢ (pos 0, pos 0) → IsInside dimensions start → (row column : Option ℕ) → Finds (IsCoordinateStep start.0 direction.0 dimensions.0) row → Finds (IsCoordinateStep start.1 direction.1 dimensions.1) column → Finds (IsMove start direction dimensions) (pair_of row column)
+  pair-finds : direction ≢ (pos 0, pos 0) → IsInside dimensions start → (row column : Option ℕ) → Finds (IsCoordinateStep start.0 direction.0 dimensions.0) row → Finds (IsCoordinateStep start.1 direction.1 dimensions.1) column → Finds (IsMove start direction dimensions) (option_zip row column)
   pair-finds t i None column f g = λ x m. f x.0 (record { sum = m.row; inside = m.to_inside.0 })
   pair-finds t i (Some row) None f g = λ x m. g x.1 (record { sum = m.column; inside = m.to_inside.1 })
   pair-finds t i (Some row) (Some column) f g = record { from_inside = i; moves = t; row = f.sum; column = g.sum; to_inside = (f.inside, g.inside) }
 
   abbrev found : Option (ℕ × ℕ)
-  found = pair_of (below_size (pos start.0 +ℤ direction.0) dimensions.0) (below_size (pos start.1 +ℤ direction.1) dimensions.1)
+  found = option_zip (below_size (pos start.0 +ℤ direction.0) dimensions.0) (below_size (pos start.1 +ℤ direction.1) dimensions.1)
 
   starts : direction ≢ (pos 0, pos 0) → (b : Bool) → is_inside dimensions start ≡ b → Finds (IsMove start direction dimensions) (cond b found None)
   starts t true i = pair-finds t (inside_of dimensions start i) _ _ (below_size-finds start.0 direction.0 dimensions.0) (below_size-finds start.1 direction.1 dimensions.1)

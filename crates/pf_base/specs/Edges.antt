@@ -1,11 +1,15 @@
 -- Graphs with costs: `edges x` lists the edges of x, each as a node and the whole number that the edge costs.
-use Rattle.std.specs.Prelude.{◌≡◌, ◌⊎◌, ◌≤ℤ◌, ◌+ℤ◌, ℤ, pos, Bool, true, List, [], ◌∷◌, Option, Vec, MatchOption}
+use Rattle.std.specs.Prelude.{◌≡◌, ◌⊎◌, ◌≤ℤ◌, ◌+ℤ◌, ℤ, pos, Bool, true, List, [], ◌∷◌, Option, Vec, MatchOption, map}
 use Rattle.pf_base.specs.Walks.{IsGoalWalk, IsGoalPath, IsReachable, HasNoGoalWalk}
 
 -- one of the edges leads to x and costs z
 abbrev pub HasEdge : {N : Type 0} → (N → N → Bool) → List (N × ℤ) → N → ℤ → Type 0
 HasEdge eq [] x z = ⊥
 HasEdge eq (e ∷ es) x z = ((eq e.0 x ≡ true) × (e.1 ≡ z)) ⊎ HasEdge eq es x z
+
+-- the nodes that the edges of a node lead to, in order: the graph without costs
+abbrev pub targets : {N : Type 0} → (N → List (N × ℤ)) → N → List N
+targets {N} edges x = map (λ (e : N × ℤ). e.0) (edges x)
 
 module _ {N : Type 0} (eq : N → N → Bool) (edges : N → List (N × ℤ)) where
   -- some edge leads from a to b

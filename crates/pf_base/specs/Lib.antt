@@ -1,5 +1,6 @@
 pub mod Costs
 pub mod Sums
+pub mod Places
 pub mod Walks
 pub mod Edges
 pub mod Answers
@@ -10,5 +11,6 @@ pub mod Orders
 pub mod NodeRefs
 pub mod Tallies
 pub mod Moves
+pub mod Shifts
 pub mod Loops
 pub mod Internal

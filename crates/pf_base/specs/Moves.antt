@@ -1,6 +1,6 @@
 -- Moves over a board of rows and columns. A position is a row and a column, a direction what a step adds to them.
 use Rattle.std.specs.Prelude.{◌≡◌, ◌≢◌, ◌+◌, ◌-◌, ◌<◌, ◌+ℤ◌, ◌*ℤ◌, ◌&&◌, ℕ, ℤ, zero, suc, pos, negsuc, Bool, true, false, nat_lt, if◌then◌else◌, List, [], ◌∷◌, Option, None, Some}
-use Rattle.std.specs.Option.{option_map_or}
+use Rattle.std.specs.Option.{option_map_or, option_zip}
 
 -- the answer is a value with the property, or `None` where no value has it
 abbrev pub Finds : {A : Type 0} → (A → Type 0) → Option A → Type 0
@@ -29,11 +29,6 @@ abbrev pub below_size : ℤ → ℕ → Option ℕ
 below_size (pos n) size = if nat_lt n size then Some n else None
 below_size (negsuc n) size = None
 
-abbrev pub pair_of : Option ℕ → Option ℕ → Option (ℕ × ℕ)
-pair_of None column = None
-pair_of (Some row) None = None
-pair_of (Some row) (Some column) = Some (row, column)
-
 abbrev pub is_zero : ℤ → Bool
 is_zero (pos zero) = true
 is_zero (pos (suc n)) = false
@@ -46,7 +41,7 @@ is_inside dimensions position = nat_lt position.0 dimensions.0 && nat_lt positio
 abbrev pub target_of : ℕ × ℕ → ℤ × ℤ → ℕ × ℕ → Option (ℕ × ℕ)
 target_of start direction dimensions =
     if is_zero direction.0 && is_zero direction.1 then None else
-    if is_inside dimensions start then pair_of (below_size (pos start.0 +ℤ direction.0) dimensions.0) (below_size (pos start.1 +ℤ direction.1) dimensions.1) else None
+    if is_inside dimensions start then option_zip (below_size (pos start.0 +ℤ direction.0) dimensions.0) (below_size (pos start.1 +ℤ direction.1) dimensions.1) else None
 
 -- at most `count` positions of a ray
 abbrev pub first_of_ray : ℕ → ℕ × ℕ → ℤ × ℤ → ℕ × ℕ → List (ℕ × ℕ)

@@ -6,6 +6,7 @@ pub mod error;
 pub mod filled;
 pub mod functions;
 pub mod noderefs;
+pub mod shift;
 pub mod utils;
 
 pub use crate::cost::{Cost, SignedCost};

@@ -5,7 +5,7 @@ use Rattle.std.specs.Prelude.{if◌then◌else◌}
 use Rattle.std.specs.Int.{cast_unsigned, w64}
 use Rattle.std.specs.List.{AllByRecursion, cons_option, filter_map}
 use Rattle.pf_base.specs.Mirrors.{IsMirror}
-use Rattle.pf_base.specs.Moves.{pair_of}
+use Rattle.std.specs.Option.{option_zip}
 use Rattle.pf_base.specs.Successors.{HasSuccessor}
 use Rattle.pf_base.specs.Walks.{HasNode, IsReachable}
 use Rattle.pf_base.proofs.Tables.{pair_refl, pair_exact, successors_keep}
@@ -43,13 +43,13 @@ some_if : (b : Bool) (x : ℕ) → b ≡ true → (if b then Some x else None) �
 some_if true x e = refl
 some_if false x e = cc
 
-pub both_some : (x y : Option ℕ) (b : ℕ × ℕ) → pair_of x y ≡ Some b → (x ≡ Some b.0) × (y ≡ Some b.1)
+pub both_some : (x y : Option ℕ) (b : ℕ × ℕ) → option_zip x y ≡ Some b → (x ≡ Some b.0) × (y ≡ Some b.1)
 both_some None y b e = cc
 both_some (Some r) None b e = cc
 both_some (Some r) (Some c) b e = (cc, cc)
 
-some_both : (x y : Option ℕ) (b : ℕ × ℕ) → x ≡ Some b.0 → y ≡ Some b.1 → pair_of x y ≡ Some b
-some_both x y b e o = ap (λ z. pair_of z y) e ∙ ap (λ z. pair_of (Some b.0) z) o
+some_both : (x y : Option ℕ) (b : ℕ × ℕ) → x ≡ Some b.0 → y ≡ Some b.1 → option_zip x y ≡ Some b
+some_both x y b e o = ap (λ z. option_zip z y) e ∙ ap (λ z. option_zip (Some b.0) z) o
 
 module _ (size : ℕ) (fits : size < 2 ^ 64) where
   lt_true : (f : ℕ) → f < size → nat_lt f size ≡ true

@@ -2,8 +2,7 @@
 use Rattle.std.specs.Prelude.{◌+◌, ◌-◌, ◌*◌, ◌%◌, ◌^◌, ◌==◌, ◌&&◌, if◌then◌else◌, Bool, ℕ, ℤ, pos, negsuc, List, [], ◌∷◌, Option, Some, None, map, min, nat_lt, take, drop, slice_index, slice_index_or}
 use Rattle.std.specs.Int.{abs_diff, cast_unsigned, w64}
 use Rattle.std.specs.List.{filter_map}
-use Rattle.std.specs.Option.{option_map}
-use Rattle.pf_base.specs.Moves.{pair_of}
+use Rattle.std.specs.Option.{option_map, option_zip}
 
 -- whether two cells are one
 abbrev pub same_cell : ℕ × ℕ → ℕ × ℕ → Bool
@@ -23,7 +22,7 @@ moved_to from step size = let to = (from + cast_unsigned w64 step) % 2 ^ 64 in i
 
 -- the cell that a step leads to, where it is on the board
 abbrev pub entered_cell : ℕ → ℕ × ℕ → ℤ × ℤ → Option (ℕ × ℕ)
-entered_cell size from direction = pair_of (moved_to from.0 direction.0 size) (moved_to from.1 direction.1 size)
+entered_cell size from direction = option_zip (moved_to from.0 direction.0 size) (moved_to from.1 direction.1 size)
 
 -- the same cell, with its height
 abbrev pub entered : List ℕ → ℕ → ℕ × ℕ → ℤ × ℤ → Option ((ℕ × ℕ) × ℕ)

@@ -2,11 +2,11 @@
 use Rattle.std.proofs.Common.{◌≡◌, ℕ, ◌<◌, ◌+◌, Bool, true, Some, List, [], ◌∷◌, ◌++◌, ◌∙◌, slice_get, length, map, refl, sym, ap, subst, arith, length-append, inl, inr, ℤ}
 use Rattle.std.specs.Cmp.{IsEquivalence}
 use Rattle.std.specs.List.{AllZip}
-use Rattle.pf_base.specs.Edges.{InReach}
+use Rattle.pf_base.specs.Edges.{InReach, targets}
 use Rattle.pf_base.specs.Answers.{ListsEdges, SameNodes}
 use Rattle.pf_core.specs.Numbered.{NumbersInOrder}
 use Rattle.pf_core.specs.NodeLaws.{StandsFor-inside}
-use Rattle.pf_core.specs.Nodes.{NodeGraph, StandsFor, AddsNode, NumbersItems, ends_of}
+use Rattle.pf_core.specs.Nodes.{NodeGraph, StandsFor, AddsNode, NumbersItems}
 use Rattle.pf_core.proofs.NodeLemmas.{AddsNode-stays, StandsFor-same, eq-trans}
 
 module _ {N : Type 0} (eq : N → N → Bool) (laws : IsEquivalence eq) where
@@ -62,8 +62,8 @@ module _ {N : Type 0} (eq : N → N → Bool) (laws : IsEquivalence eq) where
   -- what is listed at a node leads to the successors of each node that is the same
   pub ends_at : {C : Type 0} (value : C → ℤ) (g : NodeGraph N) → ((x y : N) → InReach eq g.edges g.starts x → eq x y ≡ true → ListsEdges eq (λ z. z) (g.edges x) (g.edges y))
       → (keys : List N) (k : ℕ) (here : N) (xs : List (N × C)) → slice_get keys k ≡ Some here → InReach eq g.edges g.starts here → ListsEdges eq value xs (g.edges here)
-      → (x : N) → StandsFor eq keys k x → SameNodes eq (map (λ (i : N × C). i.0) xs) (ends_of g.edges x)
+      → (x : N) → StandsFor eq keys k x → SameNodes eq (map (λ (i : N × C). i.0) xs) (targets g.edges x)
   ends_at value g alike keys k here xs at reach l x s =
       let same : s.0 ≡ here = (let e : Some s.0 ≡ Some here = sym s.1 ∙ at in cc) in
       let h : eq here x ≡ true = subst (λ (m : N). eq m x ≡ true) same s.2 in
-      Same-trans (map (λ (i : N × _). i.0) xs) (ends_of g.edges here) (ends_of g.edges x) (ends_same value xs (g.edges here) l) (ends_same (λ z. z) (g.edges here) (g.edges x) (alike here x reach h))
+      Same-trans (map (λ (i : N × _). i.0) xs) (targets g.edges here) (targets g.edges x) (ends_same value xs (g.edges here) l) (ends_same (λ z. z) (g.edges here) (g.edges x) (alike here x reach h))

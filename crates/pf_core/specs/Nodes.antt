@@ -1,5 +1,5 @@
 -- The nodes that numbers stand for, and what is asked for their edges.
-use Rattle.std.specs.Prelude.{◌≡◌, ◌⊎◌, ◌≤◌, ◌++◌, ℕ, ℤ, Bool, true, List, [], ◌∷◌, Some, slice_get, Contains, map, take, length}
+use Rattle.std.specs.Prelude.{◌≡◌, ◌⊎◌, ◌≤◌, ◌++◌, ℕ, ℤ, Bool, true, List, [], ◌∷◌, Some, slice_get, Contains, take, length}
 use Rattle.std.specs.List.{IsDistinct, AllZip}
 use Rattle.pf_base.specs.Edges.{HasEdge, InReach}
 use Rattle.pf_base.specs.Answers.{ListsEdges}
@@ -13,10 +13,6 @@ pub record NodeGraph (N : Type 0) : Type 0 where
 pub record TestedGraph (N : Type 0) : Type 0 where
   pub graph : NodeGraph N
   pub test : N → Bool
-
--- the nodes that the edges of a node lead to, in order
-abbrev pub ends_of : {N : Type 0} → (N → List (N × ℤ)) → N → List N
-ends_of {N} edges x = map (λ (e : N × ℤ). e.0) (edges x)
 
 module _ {N : Type 0} (eq : N → N → Bool) where
   -- the number k stands for x: the k-th node is the same as x

@@ -5,7 +5,8 @@ ghost use Rattle.std.specs.Iterator.{IsFiniteIterable, Drains};
 ghost use Rattle.std.specs.List.{IsDistinct, AllZip};
 ghost use Rattle.pf_base.specs.NodeRefs.{HasSameNodes};
 ghost use Rattle.pf_base.specs.Answers.{IsLawfulClone};
-ghost use Rattle.pf_core.specs.Nodes.{NodeGraph, IsStep, ends_of, StandsFor, AddsNode, NumbersItems, AddedFrom, Explores};
+ghost use Rattle.pf_base.specs.Edges.{targets};
+ghost use Rattle.pf_core.specs.Nodes.{NodeGraph, IsStep, StandsFor, AddsNode, NumbersItems, AddedFrom, Explores};
 ghost use Rattle.pf_core.specs.Numbered.{NumbersInOrder};
 ghost use Rattle.pf_core.specs.NodeLaws.{Explores-one, StandsFor-inside};
 
@@ -40,7 +41,7 @@ where
 
     ghost step = { IsStep N.eq };
 
-    ghost successors = { λ g. ends_of g.edges };
+    ghost successors = { λ g. targets g.edges };
 
     ghost passes = { λ _ _. false };
 

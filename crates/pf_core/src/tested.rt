@@ -3,8 +3,8 @@
 ghost use Rattle.std.specs.Prelude.{◌≡◌, ◌<◌, ◌≤◌, ℕ, Contains, IfOk, IfErr, length};
 ghost use Rattle.std.specs.List.{AllZip};
 ghost use Rattle.pf_base.specs.Answers.{IsLawfulClone};
-ghost use Rattle.pf_base.specs.Edges.{InReach};
-ghost use Rattle.pf_core.specs.Nodes.{TestedGraph, IsStep, ends_of, StandsFor, Explores};
+ghost use Rattle.pf_base.specs.Edges.{InReach, targets};
+ghost use Rattle.pf_core.specs.Nodes.{TestedGraph, IsStep, StandsFor, Explores};
 ghost use Rattle.pf_core.specs.NodeLaws.{Explores-one, StandsFor-inside};
 
 use crate::discovery::{Discovery, clones_at};
@@ -36,7 +36,7 @@ where
 
     ghost step = { λ g. IsStep N.eq g.graph };
 
-    ghost successors = { λ g. ends_of g.graph.edges };
+    ghost successors = { λ g. targets g.graph.edges };
 
     ghost passes = { λ g x. g.test x };
 

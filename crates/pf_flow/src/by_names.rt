@@ -6,7 +6,8 @@ ghost use Rattle.std.specs.List.{AllZip};
 ghost use Rattle.pf_base.specs.declared.error.PathError.TheVariants.{OutOfMemory, UnknownVertex};
 ghost use Rattle.pf_residual.specs.Networks.{KeepsShape, HasCapacities, IsFresh, capacity_sum};
 ghost use Rattle.pf_residual.specs.Internal.HeldEdges.{RunBelow, IsNamedAnswer, HoldsEdges, HoldsGivenEdges};
-ghost use Rattle.pf_residual.specs.NamedNetworks.{names_of, number_of, IsKnown, IsNamed, IsFirstRefused, GivenEdges, AreEdgesRefused, IsAnsweredFor, IsRefusedFor};
+ghost use Rattle.pf_base.specs.Places.{number_of};
+ghost use Rattle.pf_residual.specs.NamedNetworks.{names_of, IsKnown, IsNamed, IsFirstRefused, GivenEdges, AreEdgesRefused, IsAnsweredFor, IsRefusedFor};
 ghost use Rattle.pf_residual.specs.Internal.Filling.{IsUnused};
 
 use crate::dense_capacity::DenseCapacity;

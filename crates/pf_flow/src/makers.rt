@@ -5,7 +5,8 @@ ghost use Rattle.num_traits.specs.Laws.{Checks};
 ghost use Rattle.pf_residual.specs.Flows.{IsNonNegative, pair_sum};
 ghost use Rattle.pf_base.specs.Sums.{sum_to};
 ghost use Rattle.pf_residual.specs.Networks.{Network, KeepsShape, ChangesCapacity, HasCapacities, capacity_sum};
-ghost use Rattle.pf_residual.specs.Capacities.{number, square_table, matrix_table, AreRefused, IsChangeRefused};
+ghost use Rattle.pf_base.specs.Places.{number};
+ghost use Rattle.pf_residual.specs.Capacities.{square_table, matrix_table, AreRefused, IsChangeRefused};
 ghost use Rattle.pf_residual.specs.Internal.Filling.{IsUnused};
 
 use pf_base::cost::arithmetic::is_below;

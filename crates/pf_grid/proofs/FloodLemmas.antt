@@ -7,8 +7,9 @@ use Rattle.pf_matrix.specs.Internal.Flooding.{Has}
 use Rattle.pf_matrix.proofs.FloodLemmas.{IsIn, all_has}
 use Rattle.pf_matrix.specs.Positions.{positions}
 use Rattle.pf_grid.specs.GridPositions.{Positions, has}
-use Rattle.pf_grid.specs.Steps.{around, is_diagonal, neighbours_of, shifted, target, vertex_at}
-use Rattle.pf_grid.specs.declared.grid.steps.Shift.{Shift}
+use Rattle.pf_grid.specs.Steps.{around, neighbours_of, shifted, target, vertex_at}
+use Rattle.pf_base.specs.Shifts.{is_diagonal}
+use Rattle.pf_base.specs.declared.shift.Shift.{Shift}
 use Rattle.pf_grid.proofs.CellLemmas.{has_is_inside}
 
 all_mapped : {X Y : Type 0} (f : X → Option Y) (P : Y → Type 0) (xs : List X) → ((x : X) (y : Y) → f x ≡ Some y → P y) → AllByRecursion P (filter_map f xs)

@@ -1,5 +1,6 @@
 -- Positions of points with coordinates of some type, counted from the least coordinate of each axis.
 use Rattle.std.specs.Prelude.{ℕ, ℤ, pos, negsuc, ◌-ℤ◌, ◌^◌, nat_lt, if◌then◌else◌, Option, Some, None, List, [], ◌∷◌, map}
+use Rattle.std.specs.Option.{option_zip}
 use Rattle.std.specs.Int.{int_min}
 
 -- a whole number as a `usize`, if it is one
@@ -28,15 +29,9 @@ abbrev pub least_of : List (ℤ × ℤ) → ℤ × ℤ
 least_of [] = (pos 0, pos 0)
 least_of (p ∷ ps) = (least_with (λ q. q.0) p.0 ps, least_with (λ q. q.1) p.1 ps)
 
--- both, if both are there
-abbrev pub pair_of : Option ℕ → Option ℕ → Option (ℕ × ℕ)
-pair_of (Some x) (Some y) = Some (x, y)
-pair_of (Some x) None = None
-pair_of None y = None
-
 -- the position of a point, counted from the least coordinates
 abbrev pub position_from : ℤ × ℤ → ℤ × ℤ → Option (ℕ × ℕ)
-position_from least p = pair_of (offset p.0 least.0) (offset p.1 least.1)
+position_from least p = option_zip (offset p.0 least.0) (offset p.1 least.1)
 
 abbrev pub joined : Option (ℕ × ℕ) → Option (List (ℕ × ℕ)) → Option (List (ℕ × ℕ))
 joined (Some p) (Some ps) = Some (p ∷ ps)

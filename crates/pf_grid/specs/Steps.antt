@@ -1,21 +1,17 @@
 -- Steps from one vertex to another beside it.
 use Rattle.std.specs.Prelude.{ℕ, ◌+◌, ◌-◌, Bool, true, false, ◌||◌, nat_lt, not, Option, Some, None, if◌then◌else◌, List, [], ◌∷◌, map}
 use Rattle.std.specs.List.{filter_map, flat_map}
+use Rattle.pf_base.specs.Shifts.{is_diagonal}
 use Rattle.pf_grid.specs.GridPositions.{Positions, has}
 use Rattle.pf_grid.specs.Vertices.{vertices_of}
-use Rattle.pf_grid.specs.declared.grid.steps.Shift.{Shift}
-use Rattle.pf_grid.specs.declared.grid.steps.Shift.TheVariants.{Before, Same, After}
+use Rattle.pf_base.specs.declared.shift.Shift.{Shift}
+use Rattle.pf_base.specs.declared.shift.Shift.TheVariants.{Before, Same, After}
 
 -- the coordinate before, the same one, or the one after
 abbrev pub shifted : ℕ → Shift → Option ℕ
 shifted at Before = if nat_lt 0 at then Some (at - 1) else None
 shifted at Same = Some at
 shifted at After = Some (at + 1)
-
-abbrev pub is_diagonal : Shift × Shift → Bool
-is_diagonal (Same, y) = false
-is_diagonal (x, Same) = false
-is_diagonal (x, y) = true
 
 -- the vertex with these coordinates, if both are there and it is one
 abbrev pub vertex_at : Positions → Option ℕ → Option ℕ → Option (ℕ × ℕ)

@@ -12,6 +12,8 @@ use Rattle.std.proofs.lemmas.Map.Made.{is_member-Decides}
 use Rattle.std.proofs.lemmas.Map.Views.{btree_set_contains_iff, tells_apart}
 use Rattle.std.proofs.lemmas.List.{get_or-set_other, get_or-set_same, set-get_or}
 use Rattle.std.proofs.lemmas.Option.{slice_get-get_or, slice_get_within, get_or_from_slice_get}
+use Rattle.std.specs.Option.{option_zip}
+use Rattle.pf_base.specs.Shifts.{is_diagonal}
 use Rattle.pf_base.specs.Walks.{HasNode, Follows, end_of, IsGoalWalk, IsReachable}
 use Rattle.pf_base.specs.Successors.{HasSuccessor}
 use Rattle.pf_base.proofs.ListLemmas.{get-append, get_at_end, get_push, none_in}
@@ -21,10 +23,10 @@ use Rattle.pf_matrix.specs.Floods.{HasReached, answer_at, same_position}
 use Rattle.pf_matrix.specs.Internal.Flooding.{Has, free_count, IsFlooding, Spreads}
 use Rattle.pf_matrix.specs.Internal.PositionOrder.{position_cmp}
 use Rattle.pf_matrix.specs.Tables.{Table, value_at}
-use Rattle.pf_matrix.specs.Positions.{positions, neighbours_of, neighbour_at, around, shifted, both, is_diagonal}
+use Rattle.pf_matrix.specs.Positions.{positions, neighbours_of, neighbour_at, around, shifted}
 use Rattle.pf_matrix.proofs.PositionLemmas.{get_or-positions}
-use Rattle.pf_matrix.specs.declared.matrix.neighbours.Shift.{Shift}
-use Rattle.pf_matrix.specs.declared.matrix.neighbours.Shift.TheVariants.{Before, Same, After}
+use Rattle.pf_base.specs.declared.shift.Shift.{Shift}
+use Rattle.pf_base.specs.declared.shift.Shift.TheVariants.{Before, Same, After}
 
 -- ---- a set that is made of a list of positions
 
@@ -232,7 +234,7 @@ all_mapped {Y = Y} f P (x ∷ xs) h = by (f x) refl (all_mapped f P xs h)
     by None e r = r
     by (Some y) e r = (h x y e, r)
 
-both_parts : (a b : Option ℕ) (p : ℕ × ℕ) → both a b ≡ Some p → (a ≡ Some p.0) × (b ≡ Some p.1)
+both_parts : (a b : Option ℕ) (p : ℕ × ℕ) → option_zip a b ≡ Some p → (a ≡ Some p.0) × (b ≡ Some p.1)
 both_parts None b p e = absurd (cc)
 both_parts (Some r) None p e = absurd (cc)
 both_parts (Some r) (Some c) p e = let f : (r, c) ≡ p = cc in (ap (λ (q : ℕ × ℕ). Some q.0) f, ap (λ (q : ℕ × ℕ). Some q.1) f)
@@ -254,7 +256,7 @@ module _ (rows columns : ℕ) (diagonals : Bool) where
   neighbour_inside : (r c : ℕ) (to : Shift × Shift) (p : ℕ × ℕ) → r < rows → c < columns → neighbour_at rows columns r c diagonals to ≡ Some p → (p.0 < rows) × (p.1 < columns)
   neighbour_inside r c to p h k e = by (diagonals || not (is_diagonal to)) e
     where
-      by : (b : Bool) → (if b then both (shifted rows r to.0) (shifted columns c to.1) else None) ≡ Some p → (p.0 < rows) × (p.1 < columns)
+      by : (b : Bool) → (if b then option_zip (shifted rows r to.0) (shifted columns c to.1) else None) ≡ Some p → (p.0 < rows) × (p.1 < columns)
       by true e = let parts = both_parts (shifted rows r to.0) (shifted columns c to.1) p e in (shifted_below rows r to.0 p.0 h parts.0, shifted_below columns c to.1 p.1 k parts.1)
       by false e = absurd (cc)
 

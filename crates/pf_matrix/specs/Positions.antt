@@ -1,9 +1,11 @@
 -- Positions of a table: all of them by rows, and those around one.
 use Rattle.std.specs.Prelude.{ℕ, ◌+◌, ◌-◌, ◌*◌, ◌/◌, ◌%◌, Bool, true, false, ◌&&◌, ◌||◌, nat_lt, not, Option, Some, None, if◌then◌else◌, List, [], ◌∷◌, map}
 use Rattle.std.specs.List.{range_with_len, zip, filter_map}
+use Rattle.std.specs.Option.{option_zip}
+use Rattle.pf_base.specs.Shifts.{is_diagonal}
 use Rattle.pf_matrix.specs.Tables.{Table}
-use Rattle.pf_matrix.specs.declared.matrix.neighbours.Shift.{Shift}
-use Rattle.pf_matrix.specs.declared.matrix.neighbours.Shift.TheVariants.{Before, Same, After}
+use Rattle.pf_base.specs.declared.shift.Shift.{Shift}
+use Rattle.pf_base.specs.declared.shift.Shift.TheVariants.{Before, Same, After}
 
 -- the positions of a table of these sizes, the first row first
 unfoldable pub positions : ℕ → ℕ → List (ℕ × ℕ)
@@ -23,20 +25,9 @@ shifted n at Before = if nat_lt 0 at then Some (at - 1) else None
 shifted n at Same = Some at
 shifted n at After = if nat_lt (at + 1) n then Some (at + 1) else None
 
--- the two as a position, if both are there
-abbrev pub both : Option ℕ → Option ℕ → Option (ℕ × ℕ)
-both None c = None
-both (Some r) None = None
-both (Some r) (Some c) = Some (r, c)
-
-abbrev pub is_diagonal : Shift × Shift → Bool
-is_diagonal (Same, c) = false
-is_diagonal (r, Same) = false
-is_diagonal (r, c) = true
-
 -- the position that two shifts from (r, c) lead to, if it is inside and diagonal steps are allowed or it is none
 abbrev pub neighbour_at : ℕ → ℕ → ℕ → ℕ → Bool → Shift × Shift → Option (ℕ × ℕ)
-neighbour_at rows columns r c diagonals to = if diagonals || not (is_diagonal to) then both (shifted rows r to.0) (shifted columns c to.1) else None
+neighbour_at rows columns r c diagonals to = if diagonals || not (is_diagonal to) then option_zip (shifted rows r to.0) (shifted columns c to.1) else None
 
 -- the eight ways to go, by rows
 abbrev pub around : List (Shift × Shift)

@@ -20,7 +20,7 @@ use Rattle.pf_orders.specs.GroupDepths.{InGroup, AreClosed, HasDepth, AreDepthGr
 use Rattle.pf_orders.specs.Internal.Rounds.{Targets, AreCounted, AreLevels, AreNodesAt}
 use Rattle.pf_orders.proofs.OrderLemmas.{member_of, of_member}
 use Rattle.pf_orders.proofs.RoundLemmas.{get_below}
-use Rattle.pf_orders.proofs.SortLemmas.{targets, target_of, of_target, node_in, number_in}
+use Rattle.pf_orders.proofs.SortLemmas.{unit_targets, target_of, of_target, node_in, number_in}
 
 -- the rows of the numbers of the nodes
 pub record AreRows {N A : Type 0} (eq : N → N → Bool) (next : N → List N) (nodes keys : List N) (rows : List (Vec ℕ A)) : Type 0 where
@@ -28,7 +28,7 @@ pub record AreRows {N A : Type 0} (eq : N → N → Bool) (next : N → List N) 
   pub distinct : IsDistinct eq keys
   pub wide : length rows ≡ length keys
   pub inside : (i j : ℕ) → Targets rows i j → j < length keys
-  pub listed : (k : ℕ) (row : Vec ℕ A) (x : N) → slice_get rows k ≡ Some row → StandsFor eq keys k x → AllZip (StandsFor eq keys) row.items (targets next x)
+  pub listed : (k : ℕ) (row : Vec ℕ A) (x : N) → slice_get rows k ≡ Some row → StandsFor eq keys k x → AllZip (StandsFor eq keys) row.items (unit_targets next x)
 
 module _ {N A : Type 0} {eq : N → N → Bool} (laws : IsEquivalence eq) {next : N → List N} {nodes keys : List N} {rows : List (Vec ℕ A)} (read : AreRows eq next nodes keys rows) where
   one : (i j : ℕ) (x : N) → StandsFor eq keys i x → StandsFor eq keys j x → i ≡ j
@@ -63,13 +63,13 @@ module _ {N A : Type 0} {eq : N → N → Bool} (laws : IsEquivalence eq) {next 
   target_from i x y l s h =
       let row = get_below rows i (omega (arith, l, read.wide)) in
       let t = target_of eq laws next x y h in
-      let q = row_number row.0.items (targets next x) t.0 (read.listed i row.0 x row.1 s) t.1 in
+      let q = row_number row.0.items (unit_targets next x) t.0 (read.listed i row.0 x row.1 s) t.1 in
       (q.0, (row.0, row.1, q.1), StandsFor-same eq laws keys q.0 t.0 y q.2 t.2)
 
   -- a number in the row is a successor's
   successor_from : (i j : ℕ) (x y : N) → StandsFor eq keys i x → StandsFor eq keys j y → Targets rows i j → HasSuccessor eq next x y
   successor_from i j x y s t h =
-      let q = row_node h.0.items (targets next x) j (read.listed i h.0 x h.1 s) (of_member h.0.items j h.2) in
+      let q = row_node h.0.items (unit_targets next x) j (read.listed i h.0 x h.1 s) (of_member h.0.items j h.2) in
       let m = q.2 in
       let e : eq q.0 y ≡ true = eq-trans eq laws q.0 m.0 y (eq-sym eq laws m.0 q.0 m.2) (by m.0 t m.1) in
       HasNode-same eq laws (next x) q.0 y e (of_target eq laws next x q.0 q.1)
@@ -232,7 +232,7 @@ module _ {N A : Type 0} {eq : N → N → Bool} (laws : IsEquivalence eq) {next 
 -- where no node was found, the rows that were read are those of the nodes
 pub are_rows : {N A S : Type 0} {eq : N → N → Bool} {answers : S → List N → (N → List (N × ℤ)) → Type 0} {next : N → List N} {nodes keys : List N} {source : S} {rows : List (Vec ℕ A)} {counts : List ℕ} (first : List N)
     → IsEquivalence eq → HasSameNodes eq first nodes → Explores eq answers (hops_from nodes next) keys source → Grows (length first) (length keys) (StandsFor eq first) (StandsFor eq keys) → length keys ≡ length first
-    → AreCounted rows counts → length rows ≡ length first → length counts ≡ length first → ((k : ℕ) (row : Vec ℕ A) (x : N) → slice_get rows k ≡ Some row → StandsFor eq keys k x → AllZip (StandsFor eq keys) row.items (targets next x))
+    → AreCounted rows counts → length rows ≡ length first → length counts ≡ length first → ((k : ℕ) (row : Vec ℕ A) (x : N) → slice_get rows k ≡ Some row → StandsFor eq keys k x → AllZip (StandsFor eq keys) row.items (unit_targets next x))
     → AreRows eq next nodes keys rows
 are_rows {eq = eq} {nodes = nodes} {keys = keys} first laws same explores grown size counted wide long listed = record {
   same = λ x.

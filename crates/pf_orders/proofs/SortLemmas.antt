@@ -9,7 +9,8 @@ use Rattle.pf_base.specs.Successors.{HasSuccessor}
 use Rattle.pf_base.specs.Walks.{HasNode, Follows, IsWalk, BeginsAt, EndsAt, end_of, IsReachable, IsAtMostNumberOf}
 use Rattle.pf_core.specs.Hops.{unit_edges, hops_from}
 use Rattle.pf_core.specs.NodeLaws.{StandsFor-one}
-use Rattle.pf_core.specs.Nodes.{StandsFor, Explores, ends_of}
+use Rattle.pf_base.specs.Edges.{targets}
+use Rattle.pf_core.specs.Nodes.{StandsFor, Explores}
 use Rattle.pf_core.specs.Numbered.{Grows}
 use Rattle.pf_core.specs.HopLaws.{reach_next}
 use Rattle.pf_base.proofs.ListLemmas.{Contains-head, Contains-tail, Contains-cases}
@@ -20,8 +21,8 @@ use Rattle.pf_orders.specs.Internal.Orderings.{LeadsInto, IsOrdered, IsOrderedRe
 use Rattle.pf_orders.specs.TopologicalOrders.{LeadsForward, IsTopologicalOrder, IsOnCycle}
 
 -- the nodes that edges of cost 1 lead to
-abbrev pub targets : {N : Type 0} → (N → List N) → N → List N
-targets next = ends_of (unit_edges next)
+abbrev pub unit_targets : {N : Type 0} → (N → List N) → N → List N
+unit_targets next = targets (unit_edges next)
 
 module _ {N : Type 0} (eq : N → N → Bool) (laws : IsEquivalence eq) where
   target_in : (xs : List N) (b : N) → HasNode eq xs b → (y : N) × Contains (map (λ (e : N × ℤ). e.0) (map (λ y. (y, pos 1)) xs)) y × (eq y b ≡ true)
@@ -30,7 +31,7 @@ module _ {N : Type 0} (eq : N → N → Bool) (laws : IsEquivalence eq) where
   target_in (x ∷ xs) b (inr h) = let q = target_in xs b h in (q.0, Contains-tail (map (λ (e : N × ℤ). e.0) (map (λ y. (y, pos 1)) xs)) x q.0 q.1, q.2)
 
   -- a successor is the same as some target
-  pub target_of : (next : N → List N) (a b : N) → HasSuccessor eq next a b → (y : N) × Contains (targets next a) y × (eq y b ≡ true)
+  pub target_of : (next : N → List N) (a b : N) → HasSuccessor eq next a b → (y : N) × Contains (unit_targets next a) y × (eq y b ≡ true)
   target_of next a b h = target_in (next a) b h
 
   in_target : (xs : List N) (y : N) → Contains (map (λ (e : N × ℤ). e.0) (map (λ y. (y, pos 1)) xs)) y → HasNode eq xs y
@@ -40,7 +41,7 @@ module _ {N : Type 0} (eq : N → N → Bool) (laws : IsEquivalence eq) where
     | inr i ↦ inr (in_target xs y i)
   ]
 
-  pub of_target : (next : N → List N) (a y : N) → Contains (targets next a) y → HasSuccessor eq next a y
+  pub of_target : (next : N → List N) (a y : N) → Contains (unit_targets next a) y → HasSuccessor eq next a y
   of_target next a y h = in_target (next a) y h
 
   module _ (keys : List N) where
@@ -63,7 +64,7 @@ module _ {N : Type 0} (eq : N → N → Bool) (laws : IsEquivalence eq) where
     number_in (j ∷ ks) (y ∷ xs) x z (inr h) = let q = number_in ks xs x z.1 h in (q.0, inr q.1, q.2)
 
     module _ (next : N → List N) where
-      pub leads_forward : (ks : List ℕ) (xs : List N) → AllZip (StandsFor eq keys) ks xs → IsOrdered (targets next) (StandsFor eq keys) ks → LeadsForward eq next xs
+      pub leads_forward : (ks : List ℕ) (xs : List N) → AllZip (StandsFor eq keys) ks xs → IsOrdered (unit_targets next) (StandsFor eq keys) ks → LeadsForward eq next xs
       leads_forward [] [] z o = tt
       leads_forward [] (x ∷ xs) z o = absurd z
       leads_forward (k ∷ ks) [] z o = absurd z
@@ -75,7 +76,7 @@ module _ {N : Type 0} (eq : N → N → Bool) (laws : IsEquivalence eq) where
         leads_forward ks xs z.1 o.1,
       )
 
-      ordered_at : (ks : List ℕ) (k : ℕ) → IsOrdered (targets next) (StandsFor eq keys) ks → HasNode nat_eq ks k → LeadsInto (targets next) (StandsFor eq keys) k (HasNode nat_eq ks)
+      ordered_at : (ks : List ℕ) (k : ℕ) → IsOrdered (unit_targets next) (StandsFor eq keys) ks → HasNode nat_eq ks k → LeadsInto (unit_targets next) (StandsFor eq keys) k (HasNode nat_eq ks)
       ordered_at [] k o h = absurd h
       ordered_at (j ∷ ks) k o (inl e) = λ x s y c. let q = o.0 x (subst (λ (i : ℕ). StandsFor eq keys i x) (sym (eqb-true j k e)) s) y c in (q.0, inr q.1, q.2)
       ordered_at (j ∷ ks) k o (inr h) = λ x s y c. let q = ordered_at ks k o.1 h x s y c in (q.0, inr q.1, q.2)
@@ -84,14 +85,14 @@ module _ {N : Type 0} (eq : N → N → Bool) (laws : IsEquivalence eq) where
       abbrev pub IsListed : List ℕ → N → Type 0
       IsListed ks x = (k : ℕ) × HasNode nat_eq ks k × StandsFor eq keys k x
 
-      walk_listed : (ks : List ℕ) (a : N) (w : List N) → IsOrdered (targets next) (StandsFor eq keys) ks → IsListed ks a → Follows (HasSuccessor eq next) a w → IsListed ks (end_of a w)
+      walk_listed : (ks : List ℕ) (a : N) (w : List N) → IsOrdered (unit_targets next) (StandsFor eq keys) ks → IsListed ks a → Follows (HasSuccessor eq next) a w → IsListed ks (end_of a w)
       walk_listed ks a [] o h f = h
       walk_listed ks a (b ∷ w) o h f =
           let q = target_of next a b f.0 in
           let r = ordered_at ks h.0 o h.1 a h.2 q.0 q.1 in
           walk_listed ks b w o (r.0, r.1, StandsFor-same eq laws keys r.0 q.0 b r.2 q.2) f.1
 
-      pub reach_listed : (roots : List N) (ks : List ℕ) → IsOrdered (targets next) (StandsFor eq keys) ks → ((a : N) → HasNode eq roots a → IsListed ks a) → (x : N) → IsReachable eq (HasSuccessor eq next) roots x → IsListed ks x
+      pub reach_listed : (roots : List N) (ks : List ℕ) → IsOrdered (unit_targets next) (StandsFor eq keys) ks → ((a : N) → HasNode eq roots a → IsListed ks a) → (x : N) → IsReachable eq (HasSuccessor eq next) roots x → IsListed ks x
       reach_listed roots ks o first x r = by r.walk r.goes.walks r.goes.begins r.goes.ends
         where
           by : (w : List N) → IsWalk (HasSuccessor eq next) w → BeginsAt eq roots w → EndsAt eq (λ y. eq y x) w → IsListed ks x
@@ -108,7 +109,7 @@ module _ {N : Type 0} (eq : N → N → Bool) (laws : IsEquivalence eq) where
         asked_in_reach = at_most eq laws _ keys explores.distinct (λ k x h. reach_next eq next roots x (explores.reached k x h))
 
         pub topological_order : (first : List N) → HasSameNodes eq first roots → Grows (length first) (length keys) (StandsFor eq first) (StandsFor eq keys)
-            → (ks : List ℕ) (xs : List N) → AllZip (StandsFor eq keys) ks xs → IsOrderedReach (targets next) (StandsFor eq keys) (length first) (length keys) ks → IsTopologicalOrder eq next (IsReachable eq (HasSuccessor eq next) roots) xs
+            → (ks : List ℕ) (xs : List N) → AllZip (StandsFor eq keys) ks xs → IsOrderedReach (unit_targets next) (StandsFor eq keys) (length first) (length keys) ks → IsTopologicalOrder eq next (IsReachable eq (HasSuccessor eq next) roots) xs
         topological_order first same grown ks xs z o = record {
           complete = λ x r. let q = reach_listed roots ks o.ordered (λ a h. let s = (starts_stand eq laws roots first same a).1 h in (s.0, o.all_roots s.0 s.1, grown.stays s.0 a s.2)) x r in node_in ks xs q.0 x z q.1 q.2;
           sound = λ x h. let q = number_in ks xs x z h in stands_in_reach q.0 x q.2;
@@ -116,11 +117,11 @@ module _ {N : Type 0} (eq : N → N → Bool) (laws : IsEquivalence eq) where
           forward = leads_forward ks xs z o.ordered;
         }
 
-      follows_targets : (w : List N) (a : N) → Follows (λ x y. Contains (targets next x) y) a w → Follows (HasSuccessor eq next) a w
+      follows_targets : (w : List N) (a : N) → Follows (λ x y. Contains (unit_targets next x) y) a w → Follows (HasSuccessor eq next) a w
       follows_targets [] a f = tt
       follows_targets (b ∷ w) a f = (of_target next a b f.0, follows_targets w b f.1)
 
-      pub node_on_cycle : (k : ℕ) (x : N) → StandsFor eq keys k x → IsOnNumberedCycle (targets next) (StandsFor eq keys) k → IsOnCycle eq next x
+      pub node_on_cycle : (k : ℕ) (x : N) → StandsFor eq keys k x → IsOnNumberedCycle (unit_targets next) (StandsFor eq keys) k → IsOnCycle eq next x
       node_on_cycle k x s c =
           let q = c x s in (
             x ∷ q.0,

@@ -5,7 +5,7 @@ use Rattle.std.proofs.lemmas.Nat.{div-mul-add, mod-mul-add}
 use Rattle.std.proofs.lemmas.List.{length-set}
 use Rattle.pf_matrix.specs.Tables.{Table, IsMatrix}
 use Rattle.pf_matrix.proofs.TableLemmas.{place_in}
-use Rattle.pf_residual.specs.Capacities.{number}
+use Rattle.pf_base.specs.Places.{number}
 use Rattle.pf_residual.specs.Flows.{added}
 use Rattle.pf_residual.specs.Networks.{Agrees, with_flow, with_residual, IsFresh, HasCapacities}
 use Rattle.pf_residual.specs.DenseStores.{are_inside, table_number, tables_network}

@@ -5,7 +5,8 @@ use Rattle.std.proofs.lemmas.Bool.{cases_eq, ltb-true, ltb-false}
 use Rattle.std.proofs.lemmas.Nat.{div-add-mod', mul-add-lt}
 use Rattle.std.proofs.Math.Nat.{mod-lt, div-lt_iff_lt-mul, mul-le-mul_left}
 use Rattle.pf_base.specs.declared.error.PathError.{PathError}
-use Rattle.pf_residual.specs.Capacities.{number, square_table, HasNegative, AreRefused, IsChangeRefused}
+use Rattle.pf_base.specs.Places.{number}
+use Rattle.pf_residual.specs.Capacities.{square_table, HasNegative, AreRefused, IsChangeRefused}
 use Rattle.std.proofs.lemmas.Int.{ints}
 use Rattle.pf_residual.specs.Flows.{PairTable, added, replaced, pair_sum, IsNonNegative}
 use Rattle.pf_base.specs.Sums.{sum_to}

@@ -13,7 +13,8 @@ use Rattle.pf_base.specs.Sums.{sum_to}
 use Rattle.pf_residual.specs.Listings.{ListsFlows, ListsLeastCut, IsFlowAnswer}
 use Rattle.pf_residual.specs.Internal.HeldEdges.{RunBelow, IsNamedAnswer, HoldsEdges}
 use Rattle.pf_residual.specs.Networks.{Network, capacity, ChangesCapacity, HasCapacities, HasCutOfTotal, IsFresh, IsNetwork, KeepsCapacities, KeepsShape}
-use Rattle.pf_residual.specs.NamedNetworks.{number_of, given_capacities, with_capacity_of, IsAnswer, IsKnown, IsNamed, IsAccepted, AreAccepted, IsFirstRefused}
+use Rattle.pf_base.specs.Places.{number_of}
+use Rattle.pf_residual.specs.NamedNetworks.{given_capacities, with_capacity_of, IsAnswer, IsKnown, IsNamed, IsAccepted, AreAccepted, IsFirstRefused}
 use Rattle.pf_residual.specs.Internal.Filling.{IsUnused}
 use Rattle.pf_residual.proofs.SumLemmas.{sum_ext}
 use Rattle.pf_residual.proofs.FillLemmas.{replaced_cases}

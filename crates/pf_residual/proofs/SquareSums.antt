@@ -4,7 +4,8 @@ use Rattle.std.specs.Prelude.{◌≤ℤ◌, ◌<ℤ◌}
 use Rattle.std.proofs.Math.Nat.{suc-mul}
 use Rattle.std.proofs.lemmas.Int.{ints}
 use Rattle.pf_matrix.specs.Tables.{Table, IsMatrix}
-use Rattle.pf_residual.specs.Capacities.{number, square_table, HasNegative}
+use Rattle.pf_base.specs.Places.{number}
+use Rattle.pf_residual.specs.Capacities.{square_table, HasNegative}
 use Rattle.pf_residual.specs.Flows.{PairTable, pair_sum, IsNonNegative}
 use Rattle.pf_base.specs.Sums.{sum_to}
 use Rattle.pf_residual.specs.Networks.{capacity, HasCapacities}

@@ -2,15 +2,10 @@
 use Rattle.std.specs.Prelude.{◌≡◌, ◌≤ℤ◌, ◌+ℤ◌, ◌<ℤ◌, ◌<◌, ◌+◌, ◌*◌, ◌⊎◌, ℕ, ℤ, zero, suc, pos, List, [], ◌∷◌, length}
 use Rattle.pf_base.specs.declared.error.PathError.{PathError}
 use Rattle.pf_base.specs.declared.error.PathError.TheVariants.{OutOfMemory, CostOverflow, NegativeCapacity}
+use Rattle.pf_base.specs.Places.{number}
 use Rattle.pf_matrix.specs.Tables.{Table}
 use Rattle.pf_residual.specs.Flows.{PairTable, pair_sum, replaced, IsNonNegative}
 use Rattle.pf_residual.specs.Networks.{Network, capacity}
-
--- the number of the value at k, or 0 where there is none
-abbrev pub number : {C : Type 0} → (C → ℤ) → List C → ℕ → ℤ
-number value [] k = pos 0
-number value (x ∷ xs) zero = value x
-number value (x ∷ xs) (suc k) = number value xs k
 
 -- the numbers of a square's values by rows, the first row first
 abbrev pub square_table : {C : Type 0} → (C → ℤ) → ℕ → List C → PairTable

@@ -2,7 +2,7 @@
 use Rattle.std.specs.Prelude.{◌≡◌, ◌+◌, ◌*◌, ◌&&◌, ℕ, ℤ, pos, Bool, if◌then◌else◌}
 use Rattle.std.proofs.Common.{ltb}
 use Rattle.pf_matrix.specs.Tables.{Table}
-use Rattle.pf_residual.specs.Capacities.{number}
+use Rattle.pf_base.specs.Places.{number}
 use Rattle.pf_residual.specs.Flows.{PairTable}
 use Rattle.pf_residual.specs.Networks.{Network}
 

@@ -1,10 +1,11 @@
 -- Networks whose vertices have names.
 use Rattle.std.specs.Prelude.{◌≡◌, ◌<◌, ◌≤ℤ◌, ◌<ℤ◌, ◌⊎◌, ◌++◌, ℕ, ℤ, pos, Bool, List, [], ◌∷◌, Option, Some, Vec, length, slice_get, fold, ⊤}
 use Rattle.std.specs.Iterator.{Drains, Yields}
-use Rattle.std.specs.List.{position_or_len, AllZip}
+use Rattle.std.specs.List.{AllZip}
 use Rattle.indexmap.specs.IndexSet.{insert_all}
 use Rattle.pf_base.specs.declared.error.PathError.{PathError}
 use Rattle.pf_base.specs.declared.error.PathError.TheVariants.{OutOfMemory, UnknownVertex, CostOverflow, NegativeCapacity}
+use Rattle.pf_base.specs.Places.{number_of}
 use Rattle.pf_residual.specs.Flows.{PairTable, pair_sum, replaced}
 use Rattle.pf_residual.specs.Listings.{ListsFlows, ListsLeastCut}
 use Rattle.pf_residual.specs.Networks.{Network, HasCapacities, HasCutOfTotal, IsNetwork}
@@ -24,18 +25,14 @@ module _ {N : Type 0} (eq : N → N → Bool) where
   abbrev pub names_of : List N → List N
   names_of vertices = insert_all eq [] vertices
 
-  -- the place of a vertex among the names, or how many names there are where it is none of them
-  abbrev pub number_of : List N → N → ℕ
-  number_of names x = position_or_len (eq x) names
-
   -- one of the names is the same as x
   abbrev pub IsKnown : List N → N → Type 0
-  IsKnown names x = number_of names x < length names
+  IsKnown names x = number_of eq names x < length names
 
   module _ {C : Type 0} (value : C → ℤ) (names : List N) where
     -- the table with the capacity of an edge in the place of that of its pair of vertices
     abbrev pub with_capacity_of : PairTable → (N × N) × C → PairTable
-    with_capacity_of t e = replaced t (number_of names e.0.0) (number_of names e.0.1) (value e.1)
+    with_capacity_of t e = replaced t (number_of eq names e.0.0) (number_of eq names e.0.1) (value e.1)
 
     -- the capacities that edges give in turn: of each pair that of its last edge, and 0 where it has none
     abbrev pub given_capacities : List ((N × N) × C) → PairTable
@@ -44,8 +41,8 @@ module _ {N : Type 0} (eq : N → N → Bool) where
     -- What is answered for the vertices of a network N: its capacities are those of the edges, its flow is a greatest one, and flows and cut are listed with names.
     pub record IsAnswer (fits : ℤ → Type 0) (from to : N) (edges carried : List ((N × N) × C)) (amount : ℤ) (leaving : List ((N × N) × C)) (M : Network) : Type 0 where
       pub vertices : M.vertices ≡ length names
-      pub source : M.source ≡ number_of names from
-      pub sink : M.sink ≡ number_of names to
+      pub source : M.source ≡ number_of eq names from
+      pub sink : M.sink ≡ number_of eq names to
       pub capacities : HasCapacities (given_capacities edges) M
       pub network : IsNetwork fits M
       pub worth : HasCutOfTotal M

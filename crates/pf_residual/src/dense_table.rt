@@ -2,7 +2,7 @@
 
 ghost use Rattle.std.specs.Prelude.{◌≡◌, ◌+◌, ◌*◌, ◌+ℤ◌, ◌-ℤ◌, neg_ℤ};
 ghost use Rattle.pf_matrix.specs.Tables.{IsMatrix, HasPosition};
-ghost use Rattle.pf_residual.specs.Capacities.{number};
+ghost use Rattle.pf_base.specs.Places.{number};
 ghost use Rattle.pf_residual.specs.Internal.DenseTables.{IsTableChanged};
 
 use pf_base::SignedCost;

@@ -15,7 +15,8 @@ use Rattle.pf_core.specs.Hops.{unit_edges}
 use Rattle.pf_core.specs.Numbered.{Grows, NumbersInOrder}
 use Rattle.pf_core.specs.NodeLaws.{StandsFor-one}
 use Rattle.pf_core.specs.Sources.{AnswersHops}
-use Rattle.pf_core.specs.Nodes.{NodeGraph, StandsFor, Explores, ends_of}
+use Rattle.pf_base.specs.Edges.{targets}
+use Rattle.pf_core.specs.Nodes.{NodeGraph, StandsFor, Explores}
 use Rattle.pf_base.proofs.ListLemmas.{take_get, get_take, bool_dec}
 use Rattle.pf_core.proofs.NodeLemmas.{eq-sym, eq-trans}
 use Rattle.pf_core.proofs.OrderLemmas.{Same-trans}
@@ -128,7 +129,7 @@ module _ {N : Type 0} (eq : N → N → Bool) (laws : IsEquivalence eq) where
 
     -- the successors of the node at place k were numbered
     pub walk_goes : (keys keys' : List N) (k : ℕ) (f f' : F) (m : N) → Alike → IsWalk keys k f → Discovers keys' f' → slice_get keys k ≡ Some m → Grows (length keys) (length keys') (StandsFor eq keys) (StandsFor eq keys')
-        → NumbersInOrder (StandsFor eq keys') (length keys) (ends_of graph.edges m) (length keys') → IsWalk keys' (k + 1) f'
+        → NumbersInOrder (StandsFor eq keys') (length keys) (targets graph.edges m) (length keys') → IsWalk keys' (k + 1) f'
     walk_goes keys keys' k f f' m alike w x at g o =
         let given = take k keys in
         let given' = take (k + 1) keys' in

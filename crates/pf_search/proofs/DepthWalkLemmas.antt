@@ -17,7 +17,8 @@ use Rattle.pf_core.specs.declared.depth_first.Branch.{Branch}
 use Rattle.pf_core.specs.DepthFirst.{IsVisited, IsNextBranch, branches_at, AreVisited, IsPending}
 use Rattle.pf_core.specs.NodeLaws.{StandsFor-inside, StandsFor-one}
 use Rattle.pf_core.specs.Numbered.{Grows, NumbersInOrder}
-use Rattle.pf_core.specs.Nodes.{StandsFor, Explores, ends_of}
+use Rattle.pf_base.specs.Edges.{targets}
+use Rattle.pf_core.specs.Nodes.{StandsFor, Explores}
 use Rattle.pf_core.specs.Sources.{AnswersHops}
 use Rattle.pf_core.specs.Hops.{unit_edges}
 use Rattle.pf_core.proofs.DepthFirstLemmas.{IsSpent, drop_passed, all_spent, way_on, visit_pending, pending_stays, cut_path}
@@ -140,7 +141,7 @@ module _ {N : Type 0} (eq : N → N → Bool) (laws : IsEquivalence eq) (next : 
   next_tree given (a ∷ w) path' n = n
 
   -- the ends of edges at cost 1 are the successors
-  pub unit_ends : (x : N) → ends_of (unit_edges next) x ≡ next x
+  pub unit_ends : (x : N) → targets (unit_edges next) x ≡ next x
   unit_ends x = same (next x)
     where
       same : (xs : List N) → map (λ (e : N × ℤ). e.0) (map (λ (y : N). (y, pos 1)) xs) ≡ xs
@@ -425,8 +426,8 @@ module _ {N F : Type 0} (eq : N → N → Bool) (laws : IsEquivalence eq) (answe
 
     -- a visit goes along the next tree path
     pub visited_node : (b : Branch) (node here : N) → IsNextBranch (length s.stack.given) s.stack.visited s.stack.waiting b → t.stack.given ≡ s.stack.given ++ b.number ∷ [] → ((k : ℕ) → IsVisited t.stack.visited k ↔ (IsVisited s.stack.visited k ⊎ (k ≡ b.number))) → t.stack.path ≡ take b.depth s.stack.path ++ b.number ∷ []
-        → (numbers : List ℕ) → t.stack.waiting ≡ s.stack.waiting ++ branches_at (length t.stack.path) (reverse numbers) → ((x : N) → StandsFor eq s.found b.number x → AllZip (StandsFor eq t.found) numbers (ends_of (unit_edges next) x))
-        → ((x : N) → StandsFor eq s.found b.number x → NumbersInOrder (StandsFor eq t.found) (length s.found) (ends_of (unit_edges next) x) (length t.found))
+        → (numbers : List ℕ) → t.stack.waiting ≡ s.stack.waiting ++ branches_at (length t.stack.path) (reverse numbers) → ((x : N) → StandsFor eq s.found b.number x → AllZip (StandsFor eq t.found) numbers (targets (unit_edges next) x))
+        → ((x : N) → StandsFor eq s.found b.number x → NumbersInOrder (StandsFor eq t.found) (length s.found) (targets (unit_edges next) x) (length t.found))
         → slice_get s.found b.number ≡ Some here → eq here node ≡ true
         → (path : List N) × IsNextTreePath eq next start (last_nodes paths) (end_of [] paths) path × SameNodes eq (last_nodes (path ∷ [])) (node ∷ []) × IsDepthWalk eq answers next start (paths ++ path ∷ []) t
     visited_node b node here n g v p numbers q l o there e =

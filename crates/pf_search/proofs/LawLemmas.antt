@@ -1,9 +1,8 @@
 -- A walk along edges is a walk along the nodes that they lead to, and paths with fewest edges have one length.
 use Rattle.std.proofs.Common.{◌≡◌, ◌≤◌, arith, Bool, List, [], ◌∷◌, length, inl, inr, ℤ}
 use Rattle.pf_base.specs.Walks.{HasNode, Follows}
-use Rattle.pf_base.specs.Edges.{HasEdge, IsSuccessor, IsCheapestGoalPath}
+use Rattle.pf_base.specs.Edges.{HasEdge, IsSuccessor, IsCheapestGoalPath, targets}
 use Rattle.pf_base.specs.Successors.{HasSuccessor, IsFewestEdgesGoalPath}
-use Rattle.pf_search.specs.Laws.{targets}
 
 module _ {N : Type 0} (eq : N → N → Bool) (edges : N → List (N × ℤ)) where
   target_of : (es : List (N × ℤ)) (x : N) (z : ℤ) → HasEdge eq es x z → HasNode eq (targets (λ (y : N). es) x) x

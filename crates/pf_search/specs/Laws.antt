@@ -1,15 +1,11 @@
 -- What the laws of the searches are about: graphs with costs and graphs without them, orders and walks.
-use Rattle.std.specs.Prelude.{◌≡◌, Bool, true, List, [], ◌∷◌, ℤ, map}
+use Rattle.std.specs.Prelude.{◌≡◌, Bool, true, List, [], ◌∷◌, ℤ}
 use Rattle.pf_base.specs.Walks.{IsReachable}
 use Rattle.pf_base.specs.Successors.{HasSuccessor}
 use Rattle.pf_base.specs.Edges.{InReach}
 use Rattle.pf_base.specs.Answers.{SameNodes, ListsEdges}
 use Rattle.pf_base.specs.Orders.{IsBreadthOrder, IsPreorder}
 use Rattle.pf_search.specs.CheapestFirst.{CheapestWalk, IsCheapestWalk}
-
--- the nodes that the edges of a node lead to
-abbrev pub targets : {N : Type 0} → (N → List (N × ℤ)) → N → List N
-targets {N} edges x = map (λ (e : N × ℤ). e.0) (edges x)
 
 -- equal nodes in reach of the start have the same successors, place by place
 abbrev pub HasEqualSuccessors : {N : Type 0} → (N → N → Bool) → (N → List N) → N → Type 0

@@ -3,12 +3,12 @@
 //! A call adds its law to what the caller's proof knows. It does nothing when it runs.
 
 ghost use Rattle.std.specs.Prelude.{◌≡◌, ◌≤◌, ◌∷◌, [], ℕ, List, Bool, true, ℤ, Option, Some, slice_get, length};
-ghost use Rattle.pf_base.specs.Edges.{InReach, IsCheapestGoalPath, HasNoNegativeCost};
+ghost use Rattle.pf_base.specs.Edges.{InReach, IsCheapestGoalPath, HasNoNegativeCost, targets};
 ghost use Rattle.pf_base.specs.Orders.{last_nodes, IsBreadthOrder, AllGiven, IsWholePreorder};
 ghost use Rattle.pf_base.specs.Successors.{HasSuccessor, IsFewestEdgesGoalPath};
 ghost use Rattle.pf_base.specs.Walks.{HasNode, NoRepeats, IsAtMostNumberOf, IsGoalWalk, IsReachable};
 ghost use Rattle.pf_search.specs.CheapestFirst.{IsGiven, given_nodes};
-ghost use Rattle.pf_search.specs.Laws.{targets, HasEqualSuccessors, HasEqualEdges, OfPreorder, OfBreadthOrder, OfEachCheapestWalk};
+ghost use Rattle.pf_search.specs.Laws.{HasEqualSuccessors, HasEqualEdges, OfPreorder, OfBreadthOrder, OfEachCheapestWalk};
 ghost use Rattle.pf_search.specs.Parents.{IsCheapestMap, IsChainOfParents, IsLeastCost};
 
 use crate::directed::dijkstra::DijkstraReachable;

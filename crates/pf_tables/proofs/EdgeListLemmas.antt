@@ -13,7 +13,8 @@ use Rattle.pf_base.specs.NodeRefs.{nodes_of}
 use Rattle.pf_core.specs.Nodes.{StandsFor}
 use Rattle.pf_base.proofs.ListLemmas.{none_in}
 use Rattle.pf_tables.specs.Graphs.{IsGraph, filled}
-use Rattle.pf_tables.specs.EdgeLists.{CostsFromZeroTo, HasEdgesByName, ends_from, names_of, number_in, numbered_from, places_of}
+use Rattle.pf_base.specs.Places.{number_of}
+use Rattle.pf_tables.specs.EdgeLists.{CostsFromZeroTo, HasEdgesByName, ends_from, names_of, numbered_from, places_of}
 use Rattle.pf_tables.specs.Internal.Layouts.{AreOffsets, ArePlaced, ComeFromBelow, IsLaidOut, edges_below}
 use Rattle.pf_tables.proofs.Faulty.{less_or_same, some_same}
 use Rattle.pf_tables.proofs.LayoutLemmas.{below_next}
@@ -48,7 +49,7 @@ module _ {N C : Type 0} {eq : N → N → Bool} (laws : IsEquivalence eq) where
   pub has_edges_by_name : (edges : List (N × N × C)) → HasEdgesByName eq edges
   has_edges_by_name edges node x s =
       ap (λ o. option_map_or (λ y. filled (numbered_from eq edges y)) o []) s.1
-      ∙ ap (λ es. filled (map (λ (e : N × C). (number_in eq (names_of eq edges) e.0, e.1)) es)) (ends_alike edges s.0 x s.2)
+      ∙ ap (λ es. filled (map (λ (e : N × C). (number_of eq (names_of eq edges) e.0, e.1)) es)) (ends_alike edges s.0 x s.2)
 
 module _ {N C : Type 0} {eq : N → N → Bool} (laws : IsEquivalence eq) (value : C → ℤ) where
   -- edges between the numbers of names come from numbers of names
@@ -56,7 +57,7 @@ module _ {N C : Type 0} {eq : N → N → Bool} (laws : IsEquivalence eq) (value
   come_from_names edges nodes count es is k e h =
       let d = map_at (numbered eq (names_of eq edges)) edges k e (ap (λ xs. slice_get xs k) (sym is) ∙ h) in
       let inside = number_inside laws (names_of eq edges) d.0.0 (all_named laws edges k d.0 d.1).0 in
-      subst (λ (n : ℕ). n < nodes) (ap (λ x. x.0) d.2) (subst (λ (n : ℕ). number_in eq (names_of eq edges) d.0.0 < n) (sym count) inside)
+      subst (λ (n : ℕ). n < nodes) (ap (λ x. x.0) d.2) (subst (λ (n : ℕ). number_of eq (names_of eq edges) d.0.0 < n) (sym count) inside)
 
   pub laid_out : (edges : List (N × N × C)) (names : List N) → names ≡ names_of eq edges → NoRepeats eq names → CostsFromZeroTo value edges (length edges)
       → (nodes : ℕ) → nodes ≡ length names → (es : List (ℕ × ℕ × C)) → es ≡ map (numbered eq (names_of eq edges)) edges
@@ -104,7 +105,7 @@ module _ {N C : Type 0} {eq : N → N → Bool} (laws : IsEquivalence eq) (value
     sound_at : (place : ℕ) (edge : ℕ × C) → slice_get (places_of eq edges node) place ≡ Some (Some edge) → (edge.0 < length (names_of eq edges)) × (pos 0 ≤ℤ value edge.1)
     sound_at place edge h =
         let stands = filled_from (numbered_from eq edges name_at.0) place edge (ap (λ xs. slice_get xs place) (sym places_is) ∙ h) in
-        let d = map_at (λ (e : N × C). (number_in eq (names_of eq edges) e.0, e.1)) (ends_from eq edges name_at.0) place edge stands in
+        let d = map_at (λ (e : N × C). (number_of eq (names_of eq edges) e.0, e.1)) (ends_from eq edges name_at.0) place edge stands in
         let both = each_end eq (λ (e : N × C). (list_any (eq e.0) (names_of eq edges) ≡ true) × (pos 0 ≤ℤ value e.1)) edges name_at.0
         (λ k e s. ((all_named laws edges k e s).1, laid.from_zero k e (slice_get_within edges k e s) s)) place d.0 d.1 in
         subst (λ (x : ℕ × C). (x.0 < length (names_of eq edges)) × (pos 0 ≤ℤ value x.1)) d.2 (number_inside laws (names_of eq edges) d.0.0 both.0, both.1)

@@ -10,7 +10,8 @@ use Rattle.pf_core.specs.NodeLaws.{StandsFor-inside}
 use Rattle.pf_core.proofs.NodeLemmas.{eq-trans}
 use Rattle.pf_core.proofs.PathLemmas.{AllZip-map}
 use Rattle.pf_tables.specs.Graphs.{edges_at, filled, graph_of, successors_of}
-use Rattle.pf_tables.specs.EdgeLists.{edges_from, ends_from, names_of, number_in, places_of, targets_from}
+use Rattle.pf_base.specs.Places.{number_of}
+use Rattle.pf_tables.specs.EdgeLists.{edges_from, ends_from, names_of, places_of, targets_from}
 use Rattle.pf_tables.proofs.EdgeListLemmas.{ends_alike, has_edges_by_name}
 use Rattle.pf_tables.proofs.ExploreLemmas.{edges_within}
 use Rattle.pf_tables.proofs.NameWalks.{Stands, SameEdges, carried_edges, carried_next, cheapest_out, ends_named, ends_zip, fewest_out, goal_named, none_out, numbers_inside, past_out, test_stands}
@@ -18,7 +19,7 @@ use Rattle.pf_tables.proofs.NumberedNames.{all_named, each_end, has_at, names_ap
 
 module _ {N C : Type 0} {eq : N → N → Bool} (laws : IsEquivalence eq) (value : C → ℤ) (edges : List (N × N × C)) where
   numbered_same : (es : List (N × C)) → ((k : ℕ) (t : N × C) → slice_get es k ≡ Some t → list_any (eq t.0) (names_of eq edges) ≡ true)
-      → SameEdges laws (names_of eq edges) (names_apart laws edges) (edges_at value (filled (map (λ (e : N × C). (number_in eq (names_of eq edges) e.0, e.1)) es))) (map (λ (e : N × C). (e.0, value e.1)) es)
+      → SameEdges laws (names_of eq edges) (names_apart laws edges) (edges_at value (filled (map (λ (e : N × C). (number_of eq (names_of eq edges) e.0, e.1)) es))) (map (λ (e : N × C). (e.0, value e.1)) es)
   numbered_same [] h = tt
   numbered_same (e ∷ es) h = ((number_stands laws (names_of eq edges) e.0 (h 0 e refl), refl), numbered_same es (λ k t s. h (suc k) t s))
 
@@ -46,7 +47,7 @@ module _ {N C : Type 0} {eq : N → N → Bool} (laws : IsEquivalence eq) (value
       by : (b : Bool) → eq e.0 x ≡ b → ends_from eq es x ≡ [] → cons_option (if b then Some (e.1, e.2) else None) (ends_from eq es x) ≡ []
       by true h rest =
           let m = number_stands laws names e.0 (named 0 e refl) in
-          absurd (none (has_at laws names (number_in eq names e.0) m.0 x m.1 (eq-trans eq laws m.0 e.0 x m.2 h)))
+          absurd (none (has_at laws names (number_of eq names e.0) m.0 x m.1 (eq-trans eq laws m.0 e.0 x m.2 h)))
       by false h rest = rest
 
   unnamed_ends : (x : N) → ¬ (HasNode eq (names_of eq edges) x) → ends_from eq edges x ≡ []

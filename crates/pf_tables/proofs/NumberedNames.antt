@@ -16,7 +16,8 @@ use Rattle.pf_base.specs.NodeRefs.{nodes_of, HasSameNodes}
 use Rattle.pf_base.proofs.ListLemmas.{bool_dec, or_true, none_in}
 use Rattle.pf_core.proofs.NodeLemmas.{HasSameNodes-insert, eq-sym}
 use Rattle.pf_core.proofs.PathLemmas.{NoRepeats-append}
-use Rattle.pf_tables.specs.EdgeLists.{ends_of, names_of, number_in, ends_from}
+use Rattle.pf_base.specs.Places.{number_of}
+use Rattle.pf_tables.specs.EdgeLists.{ends_of, names_of, ends_from}
 use Rattle.pf_tables.proofs.LayoutLemmas.{take_at}
 
 same_item : {A : Type 0} {x y : A} → Some x ≡ Some y → x ≡ y
@@ -31,7 +32,7 @@ AreNamed {N} {C} eq names edges = (k : ℕ) (e : N × N × C) → slice_get edge
 
 -- an edge between the numbers of its names
 abbrev pub numbered : {N C : Type 0} → (N → N → Bool) → List N → N × N × C → ℕ × ℕ × C
-numbered eq names e = (number_in eq names e.0, number_in eq names e.1, e.2)
+numbered eq names e = (number_of eq names e.0, number_of eq names e.1, e.2)
 
 module _ {N : Type 0} {eq : N → N → Bool} (laws : IsEquivalence eq) where
   -- ---- a name more
@@ -50,30 +51,30 @@ module _ {N : Type 0} {eq : N → N → Bool} (laws : IsEquivalence eq) where
       by true h = h
       by false h = list_any-append (eq x) names (x ∷ []) ∙ or_true (list_any (eq x) names) _ (ap (λ b. b || false) (laws.refl x))
 
-  number_append : (names more : List N) (y : N) → list_any (eq y) names ≡ true → number_in eq (names ++ more) y ≡ number_in eq names y
+  number_append : (names more : List N) (y : N) → list_any (eq y) names ≡ true → number_of eq (names ++ more) y ≡ number_of eq names y
   number_append [] more y h = absurd (true≢false (sym h))
   number_append (z ∷ names) more y h = by (eq y z) h (number_append names more y)
     where
-      by : (b : Bool) → (b || list_any (eq y) names) ≡ true → (list_any (eq y) names ≡ true → number_in eq (names ++ more) y ≡ number_in eq names y)
-          → cond (not b) (1 + number_in eq (names ++ more) y) 0 ≡ cond (not b) (1 + number_in eq names y) 0
+      by : (b : Bool) → (b || list_any (eq y) names) ≡ true → (list_any (eq y) names ≡ true → number_of eq (names ++ more) y ≡ number_of eq names y)
+          → cond (not b) (1 + number_of eq (names ++ more) y) 0 ≡ cond (not b) (1 + number_of eq names y) 0
       by true k rest = refl
       by false k rest = ap (λ (n : ℕ). 1 + n) (rest k)
 
-  number_push : (names : List N) (x : N) → number_in eq (names ++ x ∷ []) x ≡ number_in eq names x
-  number_push [] x = ap (λ b. cond (not b) (1 + number_in eq [] x) 0) (laws.refl x)
+  number_push : (names : List N) (x : N) → number_of eq (names ++ x ∷ []) x ≡ number_of eq names x
+  number_push [] x = ap (λ b. cond (not b) (1 + number_of eq [] x) 0) (laws.refl x)
   number_push (z ∷ names) x = ap (λ (n : ℕ). cond (not (eq x z)) (1 + n) 0) (number_push names x)
 
-  number_kept : (names : List N) (x y : N) → list_any (eq y) names ≡ true → number_in eq (insert_key eq names x) y ≡ number_in eq names y
+  number_kept : (names : List N) (x y : N) → list_any (eq y) names ≡ true → number_of eq (insert_key eq names x) y ≡ number_of eq names y
   number_kept names x y h = by (list_any (eq x) names)
     where
-      by : (b : Bool) → number_in eq (if b then names else names ++ x ∷ []) y ≡ number_in eq names y
+      by : (b : Bool) → number_of eq (if b then names else names ++ x ∷ []) y ≡ number_of eq names y
       by true = refl
       by false = number_append names (x ∷ []) y h
 
-  number_added : (names : List N) (x : N) → number_in eq (insert_key eq names x) x ≡ number_in eq names x
+  number_added : (names : List N) (x : N) → number_of eq (insert_key eq names x) x ≡ number_of eq names x
   number_added names x = by (list_any (eq x) names)
     where
-      by : (b : Bool) → number_in eq (if b then names else names ++ x ∷ []) x ≡ number_in eq names x
+      by : (b : Bool) → number_of eq (if b then names else names ++ x ∷ []) x ≡ number_of eq names x
       by true = refl
       by false = number_push names x
 
@@ -99,11 +100,11 @@ module _ {N : Type 0} {eq : N → N → Bool} (laws : IsEquivalence eq) where
         ap (insert_all eq []) (flat_map-append (λ (d : N × N × C). d.0 ∷ d.1 ∷ []) edges (e ∷ []))
         ∙ fold-append (insert_key eq) [] (ends_of edges) (e.0 ∷ e.1 ∷ [])
 
-    same_numbers : (names after : List N) → ((y : N) → list_any (eq y) names ≡ true → number_in eq after y ≡ number_in eq names y) → (edges : List (N × N × C)) → AreNamed eq names edges → map (numbered eq after) edges ≡ map (numbered eq names) edges
+    same_numbers : (names after : List N) → ((y : N) → list_any (eq y) names ≡ true → number_of eq after y ≡ number_of eq names y) → (edges : List (N × N × C)) → AreNamed eq names edges → map (numbered eq after) edges ≡ map (numbered eq names) edges
     same_numbers names after stay [] h = refl
     same_numbers names after stay (e ∷ es) h =
         let first = h 0 e refl in
-        let one : numbered eq after e ≡ numbered eq names e = ap (λ (n : ℕ). (n, number_in eq after e.1, e.2)) (stay e.0 first.0) ∙ ap (λ (n : ℕ). (number_in eq names e.0, n, e.2)) (stay e.1 first.1) in
+        let one : numbered eq after e ≡ numbered eq names e = ap (λ (n : ℕ). (n, number_of eq after e.1, e.2)) (stay e.0 first.0) ∙ ap (λ (n : ℕ). (number_of eq names e.0, n, e.2)) (stay e.1 first.1) in
         ap (λ x. x ∷ map (numbered eq after) es) one ∙ ap (λ xs. numbered eq names e ∷ xs) (same_numbers names after stay es (λ k d s. h (suc k) d s))
 
     -- the names and the numbers after one more edge
@@ -111,17 +112,17 @@ module _ {N : Type 0} {eq : N → N → Bool} (laws : IsEquivalence eq) where
       pub more_names : names_of eq (take (i + 1) edges) ≡ insert_key eq (insert_key eq (names_of eq (take i edges)) e.0) e.1
       more_names = ap (names_of eq) (take_at edges i e stands) ∙ names_push (take i edges) e
 
-      pub more_numbers : map (numbered eq (names_of eq (take i edges))) (take i edges) ++ (number_in eq (names_of eq (take i edges)) e.0, number_in eq (insert_key eq (names_of eq (take i edges)) e.0) e.1, e.2) ∷ []
+      pub more_numbers : map (numbered eq (names_of eq (take i edges))) (take i edges) ++ (number_of eq (names_of eq (take i edges)) e.0, number_of eq (insert_key eq (names_of eq (take i edges)) e.0) e.1, e.2) ∷ []
           ≡ map (numbered eq (names_of eq (take (i + 1) edges))) (take (i + 1) edges)
       more_numbers =
           let before : List N = names_of eq (take i edges) in
           let middle : List N = insert_key eq before e.0 in
           let after : List N = insert_key eq middle e.1 in
-          let stay : (y : N) → list_any (eq y) before ≡ true → number_in eq after y ≡ number_in eq before y = λ y h. number_kept middle e.1 y (kept before e.0 y h) ∙ number_kept before e.0 y h in
+          let stay : (y : N) → list_any (eq y) before ≡ true → number_of eq after y ≡ number_of eq before y = λ y h. number_kept middle e.1 y (kept before e.0 y h) ∙ number_kept before e.0 y h in
           let rest : map (numbered eq after) (take i edges) ≡ map (numbered eq before) (take i edges) = same_numbers before after stay (take i edges) (all_named (take i edges)) in
-          let from : number_in eq after e.0 ≡ number_in eq before e.0 = number_kept middle e.1 e.0 (added before e.0) ∙ number_added before e.0 in
-          let to : number_in eq after e.1 ≡ number_in eq middle e.1 = number_added middle e.1 in
-          let last : numbered eq after e ≡ (number_in eq before e.0, number_in eq middle e.1, e.2) = ap (λ (n : ℕ). (n, number_in eq after e.1, e.2)) from ∙ ap (λ (n : ℕ). (number_in eq before e.0, n, e.2)) to in
+          let from : number_of eq after e.0 ≡ number_of eq before e.0 = number_kept middle e.1 e.0 (added before e.0) ∙ number_added before e.0 in
+          let to : number_of eq after e.1 ≡ number_of eq middle e.1 = number_added middle e.1 in
+          let last : numbered eq after e ≡ (number_of eq before e.0, number_of eq middle e.1, e.2) = ap (λ (n : ℕ). (n, number_of eq after e.1, e.2)) from ∙ ap (λ (n : ℕ). (number_of eq before e.0, n, e.2)) to in
           sym (
           ap (λ ns. map (numbered eq ns) (take (i + 1) edges)) more_names
           ∙ ap (map (numbered eq after)) (take_at edges i e stands)
@@ -143,24 +144,24 @@ module _ {N : Type 0} {eq : N → N → Bool} (laws : IsEquivalence eq) where
       by true = refl
       by false = map-append (λ (q : Bor N). q.now) refs (r ∷ [])
 
-  pub refs_number : (refs : List (Bor N)) (x : N) → position_or_len (λ (q : Bor N). eq x q.now) refs ≡ number_in eq (nodes_of refs) x
+  pub refs_number : (refs : List (Bor N)) (x : N) → position_or_len (λ (q : Bor N). eq x q.now) refs ≡ number_of eq (nodes_of refs) x
   refs_number [] x = refl
   refs_number (r ∷ refs) x = ap (λ (n : ℕ). cond (not (eq x r.now)) (1 + n) 0) (refs_number refs x)
 
   -- ---- names and their numbers
 
   -- the number of one of the names
-  pub number_stands : (names : List N) (x : N) → list_any (eq x) names ≡ true → (m : N) × (slice_get names (number_in eq names x) ≡ Some m) × (eq m x ≡ true)
+  pub number_stands : (names : List N) (x : N) → list_any (eq x) names ≡ true → (m : N) × (slice_get names (number_of eq names x) ≡ Some m) × (eq m x ≡ true)
   number_stands [] x h = absurd (true≢false (sym h))
   number_stands (z ∷ names) x h = by (eq x z) refl h (number_stands names x)
     where
-      by : (b : Bool) → eq x z ≡ b → (b || list_any (eq x) names) ≡ true → (list_any (eq x) names ≡ true → (m : N) × (slice_get names (number_in eq names x) ≡ Some m) × (eq m x ≡ true))
-          → (m : N) × (slice_get (z ∷ names) (cond (not b) (1 + number_in eq names x) 0) ≡ Some m) × (eq m x ≡ true)
+      by : (b : Bool) → eq x z ≡ b → (b || list_any (eq x) names) ≡ true → (list_any (eq x) names ≡ true → (m : N) × (slice_get names (number_of eq names x) ≡ Some m) × (eq m x ≡ true))
+          → (m : N) × (slice_get (z ∷ names) (cond (not b) (1 + number_of eq names x) 0) ≡ Some m) × (eq m x ≡ true)
       by true e k rest = (z, refl, laws.symm z x ∙ e)
-      by false e k rest = let r = rest k in (r.0, ap (slice_get (z ∷ names)) (let f : 1 + number_in eq names x ≡ suc (number_in eq names x) = omega arith in f) ∙ r.1, r.2)
+      by false e k rest = let r = rest k in (r.0, ap (slice_get (z ∷ names)) (let f : 1 + number_of eq names x ≡ suc (number_of eq names x) = omega arith in f) ∙ r.1, r.2)
 
-  pub number_inside : (names : List N) (x : N) → list_any (eq x) names ≡ true → number_in eq names x < length names
-  number_inside names x h = let s = number_stands names x h in slice_get_within names (number_in eq names x) s.0 s.1
+  pub number_inside : (names : List N) (x : N) → list_any (eq x) names ≡ true → number_of eq names x < length names
+  number_inside names x h = let s = number_stands names x h in slice_get_within names (number_of eq names x) s.0 s.1
 
   pub has_at : (names : List N) (k : ℕ) (m x : N) → slice_get names k ≡ Some m → eq m x ≡ true → HasNode eq names x
   has_at [] k m x h e = absurd (none_in k m h)
@@ -168,38 +169,38 @@ module _ {N : Type 0} {eq : N → N → Bool} (laws : IsEquivalence eq) where
   has_at (z ∷ names) (suc k) m x h e = inr (has_at names k m x h e)
 
   -- no other number stands for a name
-  pub number_is : (names : List N) (k : ℕ) (m x : N) → NoRepeats eq names → slice_get names k ≡ Some m → eq m x ≡ true → number_in eq names x ≡ k
+  pub number_is : (names : List N) (k : ℕ) (m x : N) → NoRepeats eq names → slice_get names k ≡ Some m → eq m x ≡ true → number_of eq names x ≡ k
   number_is [] k m x d h e = absurd (none_in k m h)
-  number_is (z ∷ names) zero m x d h e = ap (λ b. cond (not b) (1 + number_in eq names x) 0) (laws.symm x z ∙ ap (λ y. eq y x) (same_item h) ∙ e)
-  number_is (z ∷ names) (suc k) m x d h e = elim (bool_dec (eq x z)) as (λ _. number_in eq (z ∷ names) x ≡ suc k) [
+  number_is (z ∷ names) zero m x d h e = ap (λ b. cond (not b) (1 + number_of eq names x) 0) (laws.symm x z ∙ ap (λ y. eq y x) (same_item h) ∙ e)
+  number_is (z ∷ names) (suc k) m x d h e = elim (bool_dec (eq x z)) as (λ _. number_of eq (z ∷ names) x ≡ suc k) [
     | inl t ↦ absurd (d.0 (has_at names k m z h (laws.congr m x z e ∙ t)))
-    | inr f ↦ ap (λ b. cond (not b) (1 + number_in eq names x) 0) f ∙ (let g : 1 + number_in eq names x ≡ suc (number_in eq names x) = omega arith in g) ∙ ap suc (number_is names k m x d.1 h e)
+    | inr f ↦ ap (λ b. cond (not b) (1 + number_of eq names x) 0) f ∙ (let g : 1 + number_of eq names x ≡ suc (number_of eq names x) = omega arith in g) ∙ ap suc (number_is names k m x d.1 h e)
   ]
 
   module _ (names : List N) (distinct : NoRepeats eq names) (node : ℕ) (x : N) (at : slice_get names node ≡ Some x) where
-    same_test : (y : N) → list_any (eq y) names ≡ true → nat_eq (number_in eq names y) node ≡ eq y x
-    same_test y h = elim (bool_dec (eq y x)) as (λ _. nat_eq (number_in eq names y) node ≡ eq y x) [
-      | inl t ↦ eq-eqb (number_in eq names y) node (number_is names node x y distinct at (laws.symm x y ∙ t)) ∙ sym t
-      | inr f ↦ elim (bool_dec (nat_eq (number_in eq names y) node)) as (λ _. nat_eq (number_in eq names y) node ≡ eq y x) [
+    same_test : (y : N) → list_any (eq y) names ≡ true → nat_eq (number_of eq names y) node ≡ eq y x
+    same_test y h = elim (bool_dec (eq y x)) as (λ _. nat_eq (number_of eq names y) node ≡ eq y x) [
+      | inl t ↦ eq-eqb (number_of eq names y) node (number_is names node x y distinct at (laws.symm x y ∙ t)) ∙ sym t
+      | inr f ↦ elim (bool_dec (nat_eq (number_of eq names y) node)) as (λ _. nat_eq (number_of eq names y) node ≡ eq y x) [
         | inl t ↦
             let s = number_stands names y h in
-            let same : s.0 ≡ x = same_item (sym s.1 ∙ ap (slice_get names) (eqb-true (number_in eq names y) node t) ∙ at) in
+            let same : s.0 ≡ x = same_item (sym s.1 ∙ ap (slice_get names) (eqb-true (number_of eq names y) node t) ∙ at) in
             absurd (true≢false (sym (laws.symm y x ∙ ap (λ z. eq z y) (sym same) ∙ s.2) ∙ f))
         | inr g ↦ g ∙ sym f
       ]
     ]
 
     -- the edges from the number of a name are those from the name
-    pub from_number : {C : Type 0} (edges : List (N × N × C)) → AreNamed eq names edges → ends_from nat_eq (map (numbered eq names) edges) node ≡ map (λ (e : N × C). (number_in eq names e.0, e.1)) (ends_from eq edges x)
+    pub from_number : {C : Type 0} (edges : List (N × N × C)) → AreNamed eq names edges → ends_from nat_eq (map (numbered eq names) edges) node ≡ map (λ (e : N × C). (number_of eq names e.0, e.1)) (ends_from eq edges x)
     from_number [] h = refl
     from_number {C} (e ∷ es) h =
-        ap (λ (b : Bool). cons_option (if b then Some (number_in eq names e.1, e.2) else None) (ends_from nat_eq (map (numbered eq names) es) node)) (same_test e.0 (h 0 e refl).0)
+        ap (λ (b : Bool). cons_option (if b then Some (number_of eq names e.1, e.2) else None) (ends_from nat_eq (map (numbered eq names) es) node)) (same_test e.0 (h 0 e refl).0)
         ∙ by (eq e.0 x) (from_number es (λ k d s. h (suc k) d s))
       where
-        by : (b : Bool) → ends_from nat_eq (map (numbered eq names) es) node ≡ map (λ (d : N × C). (number_in eq names d.0, d.1)) (ends_from eq es x)
-            → cons_option (if b then Some (number_in eq names e.1, e.2) else None) (ends_from nat_eq (map (numbered eq names) es) node)
-            ≡ map (λ (d : N × C). (number_in eq names d.0, d.1)) (cons_option (if b then Some (e.1, e.2) else None) (ends_from eq es x))
-        by true k = ap (λ xs. (number_in eq names e.1, e.2) ∷ xs) k
+        by : (b : Bool) → ends_from nat_eq (map (numbered eq names) es) node ≡ map (λ (d : N × C). (number_of eq names d.0, d.1)) (ends_from eq es x)
+            → cons_option (if b then Some (number_of eq names e.1, e.2) else None) (ends_from nat_eq (map (numbered eq names) es) node)
+            ≡ map (λ (d : N × C). (number_of eq names d.0, d.1)) (cons_option (if b then Some (e.1, e.2) else None) (ends_from eq es x))
+        by true k = ap (λ xs. (number_of eq names e.1, e.2) ∷ xs) k
         by false k = k
 
   -- ---- the names are those of the edges

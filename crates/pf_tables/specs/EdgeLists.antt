@@ -1,8 +1,9 @@
 -- Graphs over names, given as lists of edges (from, to, cost).
 use Rattle.std.specs.Prelude.{◌≡◌, ◌<◌, ◌≤ℤ◌, ◌<ℤ◌, ℕ, ℤ, pos, Bool, List, [], ◌∷◌, Option, Some, None, if◌then◌else◌, map, length, slice_get}
-use Rattle.std.specs.List.{filter_map, flat_map, position_or_len}
+use Rattle.std.specs.List.{filter_map, flat_map}
 use Rattle.std.specs.Option.{option_map_or}
 use Rattle.indexmap.specs.IndexSet.{insert_all}
+use Rattle.pf_base.specs.Places.{number_of}
 use Rattle.pf_core.specs.Nodes.{StandsFor}
 use Rattle.pf_tables.specs.Graphs.{filled}
 use Rattle.pf_tables.specs.declared.error.EdgeListError.{EdgeListError}
@@ -13,10 +14,6 @@ abbrev pub ends_of : {N C : Type 0} → List (N × N × C) → List N
 ends_of {N} {C} edges = flat_map (λ (e : N × N × C). e.0 ∷ e.1 ∷ []) edges
 
 module _ {N : Type 0} (eq : N → N → Bool) where
-  -- the number of a name, which is its place among the names
-  abbrev pub number_in : List N → N → ℕ
-  number_in names x = position_or_len (eq x) names
-
   module _ {C : Type 0} where
     -- the edges whose first name equals x, in the order of the list, each as its second name and its cost
     abbrev pub ends_from : List (N × N × C) → N → List (N × C)
@@ -37,11 +34,11 @@ module _ {N : Type 0} (eq : N → N → Bool) where
     -- the number of each name of an edge stands for it
     abbrev pub AreNumbered : List (N × N × C) → Type 0
     AreNumbered edges = (k : ℕ) (e : N × N × C) → slice_get edges k ≡ Some e
-        → StandsFor eq (names_of edges) (number_in (names_of edges) e.0) e.0 × StandsFor eq (names_of edges) (number_in (names_of edges) e.1) e.1
+        → StandsFor eq (names_of edges) (number_of eq (names_of edges) e.0) e.0 × StandsFor eq (names_of edges) (number_of eq (names_of edges) e.1) e.1
 
     -- the edges whose first name equals x, each with the number of its second name and its cost
     abbrev pub numbered_from : List (N × N × C) → N → List (ℕ × C)
-    numbered_from edges x = map (λ (e : N × C). (number_in (names_of edges) e.0, e.1)) (ends_from edges x)
+    numbered_from edges x = map (λ (e : N × C). (number_of eq (names_of edges) e.0, e.1)) (ends_from edges x)
 
     -- what stands at the places of a node: the edges from its name
     abbrev pub places_of : List (N × N × C) → ℕ → List (Option (ℕ × C))

@@ -1,7 +1,8 @@
 -- What the search for a best assignment keeps true: rows matched one after another, potentials that
 -- bound the weights from above, and a tree of shortest augmenting paths from the row that is matched next.
 use Rattle.std.specs.Prelude.{◌≡◌, ◌≤ℤ◌, ◌<ℤ◌, ◌+ℤ◌, ◌-ℤ◌, ◌⊎◌, ℕ, zero, suc, ◌<◌, ◌≤◌, ◌≢◌, ℤ, pos, neg_ℤ, Bool, true, false, List, length, Option, Some, None, slice_index, slice_index_or}
-use Rattle.pf_assignment.specs.Assignments.{number, NumberTable, WeightsFit}
+use Rattle.pf_base.specs.Places.{number}
+use Rattle.pf_assignment.specs.Assignments.{NumberTable, WeightsFit}
 use Rattle.pf_assignment.specs.declared.kuhn_munkres.matching.Matching.{Matching}
 use Rattle.pf_assignment.specs.declared.kuhn_munkres.tree.Tree.{Tree}
 

@@ -2,7 +2,7 @@
 
 ghost use Rattle.std.specs.Prelude.{◌≡◌, ◌≤◌, ◌<◌, ◌+◌, ◌+ℤ◌, ℕ, pos, true, None, OnOk, IfOk, IfErr, length, slice_index};
 ghost use Rattle.pf_base.specs.declared.error.PathError.TheVariants.{OutOfMemory};
-ghost use Rattle.pf_assignment.specs.Assignments.{number};
+ghost use Rattle.pf_base.specs.Places.{number};
 ghost use Rattle.pf_assignment.specs.Internal.AssignmentSteps.{gain, holder, flag, IsMatching, IsWide, IsMatchedIn, IsNextIn, IsTreeTo, IsAlternatingTree, AreRaised, AreLowered, LoweredFit, AreFlipped};
 
 use crate::kuhn_munkres::tree::Tree;

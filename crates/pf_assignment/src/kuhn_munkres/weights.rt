@@ -2,7 +2,8 @@
 
 ghost use Rattle.std.specs.Prelude.{◌≡◌, ◌⊎◌, ◌↔◌, ◌<◌, ◌*◌, ◌+◌, ◌+ℤ◌, ◌≤ℤ◌, ℕ, ℤ, pos, neg_ℤ, IsTrue, IfOk, IfErr, length};
 ghost use Rattle.pf_base.specs.declared.error.PathError.TheVariants.{OutOfMemory};
-ghost use Rattle.pf_assignment.specs.Assignments.{number, NumberTable, IsNegatedTable, IsGreatestWeight, WeightsFit};
+ghost use Rattle.pf_base.specs.Places.{number};
+ghost use Rattle.pf_assignment.specs.Assignments.{NumberTable, IsNegatedTable, IsGreatestWeight, WeightsFit};
 ghost use Rattle.pf_assignment.specs.Internal.AssignmentSteps.{IsBeyond, IsEither, IsExact};
 
 use pf_base::cost::arithmetic::is_below;

@@ -6,15 +6,8 @@ ghost use Rattle.pf_grid.specs.GridPositions.{IsInside};
 ghost use Rattle.pf_grid.specs.Steps.{shifted, target};
 
 use crate::grid::Grid;
+use pf_base::shift::Shift;
 use std::alloc::Allocator;
-
-/// Where a step leads along one axis.
-#[derive(Clone, Copy, PartialEq, Eq)]
-pub(crate) enum Shift {
-    Before,
-    Same,
-    After,
-}
 
 /// The steps to all sides, in the order of `neighbours`.
 pub(crate) const AROUND: [(Shift, Shift); 8] = [

@@ -5,16 +5,9 @@ ghost use Rattle.std.specs.Iterator.{YieldsFirst, item_count};
 ghost use Rattle.pf_matrix.specs.Positions.{shifted, neighbour_at, neighbours_of};
 
 use crate::matrix::Matrix;
+use pf_base::shift::Shift;
 use std::alloc::Allocator;
 use std::marker::Model;
-
-/// Where a neighbour stands along one axis.
-#[derive(Clone, Copy, PartialEq, Eq)]
-pub(crate) enum Shift {
-    Before,
-    Same,
-    After,
-}
 
 /// The eight ways to go, by rows.
 const AROUND: [(Shift, Shift); 8] = [

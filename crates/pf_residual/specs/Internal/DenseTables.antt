@@ -1,7 +1,7 @@
 -- Square tables of a store, and how they change.
 use Rattle.std.specs.Prelude.{◌≡◌, ◌<◌, ◌+◌, ◌*◌, ◌+ℤ◌, ◌&&◌, ℕ, ℤ, pos, nat_eq, if◌then◌else◌}
 use Rattle.pf_matrix.specs.Tables.{Table, IsMatrix}
-use Rattle.pf_residual.specs.Capacities.{number}
+use Rattle.pf_base.specs.Places.{number}
 use Rattle.pf_residual.specs.Flows.{pair_sum}
 use Rattle.pf_residual.specs.DenseStores.{table_number}
 

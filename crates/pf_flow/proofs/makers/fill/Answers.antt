@@ -1,5 +1,6 @@
 use Rattle.std.proofs.Common.{◌≡◌, ◌∙◌, ◌<◌, ◌+◌, ◌*◌, ◌/◌, ◌%◌, arith, inl, inr, refl, sym, ap, subst, rules, length}
-use Rattle.pf_residual.specs.Capacities.{number, square_table, AreRefused}
+use Rattle.pf_base.specs.Places.{number}
+use Rattle.pf_residual.specs.Capacities.{square_table, AreRefused}
 use Rattle.pf_residual.proofs.NetworkLemmas.{none_sum}
 use Rattle.pf_residual.proofs.FillLemmas.{square_negative, square_above, filled_start, filled_more, filled_all, filled_refused, place_parts, number_read}
 use Rattle.pf_flow.proofs.makers.fill.Goals as goal

@@ -1,7 +1,7 @@
 use Rattle.std.proofs.Common.{◌∙◌, pos, arith, ap}
 use Rattle.std.specs.Prelude.{◌≤ℤ◌}
 use Rattle.std.proofs.lemmas.Int.{ints}
-use Rattle.pf_residual.specs.Capacities.{number}
+use Rattle.pf_base.specs.Places.{number}
 use Rattle.pf_residual.proofs.FillLemmas.{number_read, each_more}
 use Rattle.pf_flow.proofs.makers.has_negative.Goals as goal
 

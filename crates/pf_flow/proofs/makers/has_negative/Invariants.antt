@@ -1,6 +1,6 @@
 use Rattle.std.proofs.Common.{◌<◌, ℕ, pos}
 use Rattle.std.specs.Prelude.{◌≤ℤ◌}
-use Rattle.pf_residual.specs.Capacities.{number}
+use Rattle.pf_base.specs.Places.{number}
 use Rattle.pf_flow.proofs.makers.has_negative.Given as goal
 
 abbrev pub invariant-numbers : goal.invariant-numbers

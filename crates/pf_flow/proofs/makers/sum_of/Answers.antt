@@ -1,6 +1,6 @@
 use Rattle.std.proofs.Common.{◌≡◌, ◌∙◌, ◌+◌, None, Some, arith, ap, length, subst}
 use Rattle.std.proofs.lemmas.Int.{ints}
-use Rattle.pf_residual.specs.Capacities.{number}
+use Rattle.pf_base.specs.Places.{number}
 use Rattle.pf_base.specs.Sums.{sum_to}
 use Rattle.pf_residual.proofs.ChangeSums.{sum_more}
 use Rattle.pf_residual.proofs.FillLemmas.{number_read}

@@ -1,5 +1,5 @@
 use Rattle.std.proofs.Common.{◌≡◌}
-use Rattle.pf_residual.specs.Capacities.{number}
+use Rattle.pf_base.specs.Places.{number}
 use Rattle.pf_base.specs.Sums.{sum_to}
 use Rattle.pf_flow.proofs.makers.sum_of.Given as goal
 

@@ -2,7 +2,8 @@ use Rattle.std.proofs.Common.{◌≡◌, ◌++◌, ◌∷◌, [], refl, sym, ◌
 use Rattle.std.proofs.lemmas.Option.{slice_get_read}
 use Rattle.indexmap.specs.IndexSet.{insert_key}
 use Rattle.pf_base.specs.NodeRefs.{nodes_of}
-use Rattle.pf_tables.specs.EdgeLists.{names_of, number_in}
+use Rattle.pf_base.specs.Places.{number_of}
+use Rattle.pf_tables.specs.EdgeLists.{names_of}
 use Rattle.pf_base.proofs.Outcomes.{on_failed}
 use Rattle.pf_tables.proofs.NumberedNames.{numbered, more_names, more_numbers, refs_insert, refs_number}
 use Rattle.pf_tables.proofs.names.add_edges.Goals as goal
@@ -48,14 +49,14 @@ loop-edge-preserved g c =
     let before = names_of eq (take i edges) in
     let first : nodes_of c.insert_full.new.self.keys ≡ insert_key eq before e.0 = ap nodes_of c.in_ok-from.ensures.keys ∙ refs_insert laws c.loop-edge.names.keys _ ∙ ap (λ ns. insert_key eq ns e.0) c.loop-edge.invariant.names in
     let second : nodes_of c.insert_full-in-loop-edge.new.self.keys ≡ insert_key eq (insert_key eq before e.0) e.1 = ap nodes_of c.in_ok-to.ensures.keys ∙ refs_insert laws c.insert_full.new.self.keys _ ∙ ap (λ ns. insert_key eq ns e.1) first in
-    let from : c.in_ok-from.field-0.0 ≡ number_in eq before e.0 = c.in_ok-from.ensures.index ∙ refs_number laws c.loop-edge.names.keys e.0 ∙ ap (λ ns. number_in eq ns e.0) c.loop-edge.invariant.names in
-    let to : c.in_ok-to.field-0.0 ≡ number_in eq (insert_key eq before e.0) e.1 = c.in_ok-to.ensures.index ∙ refs_number laws c.insert_full.new.self.keys e.1 ∙ ap (λ ns. number_in eq ns e.1) first in
+    let from : c.in_ok-from.field-0.0 ≡ number_of eq before e.0 = c.in_ok-from.ensures.index ∙ refs_number laws c.loop-edge.names.keys e.0 ∙ ap (λ ns. number_of eq ns e.0) c.loop-edge.invariant.names in
+    let to : c.in_ok-to.field-0.0 ≡ number_of eq (insert_key eq before e.0) e.1 = c.in_ok-to.ensures.index ∙ refs_number laws c.insert_full.new.self.keys e.1 ∙ ap (λ ns. number_of eq ns e.1) first in
     record {
       names = second ∙ sym (more_names laws edges i e stands);
       numbered = c.in_ok-push.ensures.items
           ∙ ap (λ xs. xs ++ (c.in_ok-from.field-0.0, c.in_ok-to.field-0.0, e.2) ∷ []) c.loop-edge.invariant.numbered
           ∙ ap (λ (n : ℕ). map (numbered eq before) (take i edges) ++ (n, c.in_ok-to.field-0.0, e.2) ∷ []) from
-          ∙ ap (λ (n : ℕ). map (numbered eq before) (take i edges) ++ (number_in eq before e.0, n, e.2) ∷ []) to
+          ∙ ap (λ (n : ℕ). map (numbered eq before) (take i edges) ++ (number_of eq before e.0, n, e.2) ∷ []) to
           ∙ more_numbers laws edges i e stands;
     }
 

@@ -1,6 +1,6 @@
 use Rattle.std.proofs.Common.{◌≡◌, ℕ, ◌<◌, ◌≤◌}
 use Rattle.std.specs.Prelude.{◌-ℤ◌, neg_ℤ, slice_index}
-use Rattle.pf_assignment.specs.Assignments.{number}
+use Rattle.pf_base.specs.Places.{number}
 use Rattle.pf_assignment.specs.Internal.AssignmentSteps.{flag, raised}
 use Rattle.pf_assignment.proofs.kuhn_munkres.matching.lower_rows.Given as goal
 

@@ -1,6 +1,6 @@
 use Rattle.std.proofs.Common.{refl, ◌≡◌, ◌<◌, arith, ap, sym, subst, ◌∙◌, ℕ, true, false, length}
 use Rattle.std.specs.Prelude.{◌-ℤ◌, ◌+ℤ◌, slice_set}
-use Rattle.pf_assignment.specs.Assignments.{number}
+use Rattle.pf_base.specs.Places.{number}
 use Rattle.pf_assignment.specs.Internal.AssignmentSteps.{flag, raised}
 use Rattle.pf_assignment.proofs.MatchingNumbers.{number-at, number-set_same, number-set_other, below_written, raised_true, raised_false}
 use Rattle.pf_assignment.proofs.kuhn_munkres.matching.raise_columns.Goals as goal

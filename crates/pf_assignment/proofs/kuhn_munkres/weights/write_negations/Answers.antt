@@ -1,6 +1,6 @@
 use Rattle.std.proofs.Common.{◌≡◌, arith, ap, sym, subst, ◌∙◌, inl, inr}
 use Rattle.std.specs.Prelude.{neg_ℤ, slice_set}
-use Rattle.pf_assignment.specs.Assignments.{number}
+use Rattle.pf_base.specs.Places.{number}
 use Rattle.pf_assignment.proofs.MatchingNumbers.{number-at, number-set_same, number-set_other, below_or_last}
 use Rattle.pf_assignment.proofs.kuhn_munkres.weights.write_negations.Goals as goal
 

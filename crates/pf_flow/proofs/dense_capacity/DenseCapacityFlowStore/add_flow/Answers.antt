@@ -2,7 +2,7 @@ use Rattle.std.proofs.Common.{◌≡◌, ◌≢◌, ◌∙◌, ◌<◌, ◌+◌,
 use Rattle.std.specs.Prelude.{◌-ℤ◌}
 use Rattle.std.proofs.lemmas.Option.{none-some}
 use Rattle.pf_matrix.specs.Tables.{Table, HasPosition}
-use Rattle.pf_residual.specs.Capacities.{number}
+use Rattle.pf_base.specs.Places.{number}
 use Rattle.pf_residual.specs.DenseStores.{table_number}
 use Rattle.pf_residual.specs.Internal.DenseTables.{IsSquare, IsTableChanged}
 use Rattle.pf_residual.specs.Internal.DenseLaws.{inside_of}

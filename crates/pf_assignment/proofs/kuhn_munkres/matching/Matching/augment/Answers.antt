@@ -2,7 +2,7 @@ use Rattle.std.proofs.Common.{◌≡◌, ◌<◌, ◌≤◌, ◌++◌, ◌∷◌
 use Rattle.std.specs.Prelude.{neg_ℤ, ◌+ℤ◌, ◌-ℤ◌, slice_index, slice_set}
 use Rattle.std.proofs.lemmas.List.{take_at}
 use Rattle.std.proofs.lemmas.Result.{IfOk-from_err}
-use Rattle.pf_assignment.specs.Assignments.{number}
+use Rattle.pf_base.specs.Places.{number}
 use Rattle.pf_assignment.specs.Internal.AssignmentSteps.{holder, flag, raised, IsMatching, IsMatched, IsAlternatingTree, IsFlipped}
 use Rattle.pf_assignment.proofs.MatchingBounds.{step_difference, step_sum, step_rest, depth_negation}
 use Rattle.pf_assignment.proofs.MatchingRaise.{nearest_number, rooted_of, augment_lists}

@@ -1,6 +1,6 @@
 use Rattle.std.proofs.Common.{◌≡◌, refl, ap, sym, subst, ◌∙◌, ℕ, zero, suc, None, replicate, length}
 use Rattle.std.specs.Prelude.{ℤ, pos}
-use Rattle.pf_assignment.specs.Assignments.{number}
+use Rattle.pf_base.specs.Places.{number}
 use Rattle.pf_assignment.specs.Internal.AssignmentSteps.{holder}
 use Rattle.pf_base.proofs.Outcomes.{if_refused, refused_as}
 use Rattle.pf_assignment.proofs.kuhn_munkres.matching.Matching.new.Goals as goal

@@ -1,6 +1,6 @@
 use Rattle.std.proofs.Common.{◌≡◌, ◌<◌, ◌++◌, ◌∷◌, [], arith, ap, sym, subst, ◌∙◌, ℕ, length}
 use Rattle.std.specs.Prelude.{pos, ◌+ℤ◌, ◌-ℤ◌, slice_index}
-use Rattle.pf_assignment.specs.Assignments.{number}
+use Rattle.pf_base.specs.Places.{number}
 use Rattle.pf_assignment.specs.Internal.AssignmentSteps.{flag, IsFresh, IsScanned, IsTreeOf}
 use Rattle.pf_assignment.proofs.MatchingBounds.{root_sum, root_difference}
 use Rattle.pf_assignment.proofs.MatchingWeights.{IsInterval}

@@ -1,7 +1,7 @@
 use Rattle.std.proofs.Common.{◌≡◌, ◌<◌, ◌≤◌, ℕ, refl, arith, ap, ◌∙◌, length, false}
 use Rattle.std.specs.Prelude.{slice_set, slice_index}
 use Rattle.std.proofs.lemmas.List.{get_or-set_same, get_or-set_other, length-set}
-use Rattle.pf_assignment.specs.Assignments.{number}
+use Rattle.pf_base.specs.Places.{number}
 use Rattle.pf_assignment.specs.Internal.AssignmentSteps.{flag}
 use Rattle.pf_assignment.proofs.MatchingNumbers.{number-set_same, number-set_other, below_written, all_unvisited}
 use Rattle.pf_assignment.proofs.kuhn_munkres.tree.Tree.clear.Goals as goal

@@ -1,7 +1,7 @@
 use Rattle.std.proofs.Common.{rules, ℕ, ◌≡◌, ◌<◌, ◌+◌, refl, sym, subst, arith, ap, ◌∙◌, Some, None, false, true, length, Option, ◌≤◌, true≢false}
 use Rattle.std.specs.Prelude.{slice_index, ◌+ℤ◌, ◌-ℤ◌, is_some}
 use Rattle.std.proofs.lemmas.List.{get_or_default}
-use Rattle.pf_assignment.specs.Assignments.{number}
+use Rattle.pf_base.specs.Places.{number}
 use Rattle.pf_assignment.specs.Internal.AssignmentSteps.{flag, IsRelaxed, IsNearest}
 use Rattle.pf_assignment.proofs.MatchingNumbers.{number-at}
 use Rattle.pf_assignment.proofs.MatchingScan.{IsScannedTo, scan_skips, scan_relaxes, scan_nearest}

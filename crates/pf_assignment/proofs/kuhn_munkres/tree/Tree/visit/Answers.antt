@@ -1,7 +1,7 @@
 use Rattle.std.proofs.Common.{◌≡◌, ◌<◌, arith, ap, sym, subst, ◌∙◌, ◌∷◌, [], length, length-set, true, false, Some, None}
 use Rattle.std.specs.Prelude.{◌+ℤ◌, slice_index, slice_set}
 use Rattle.std.proofs.lemmas.List.{get_or-set_other, length-append}
-use Rattle.pf_assignment.specs.Assignments.{number}
+use Rattle.pf_base.specs.Places.{number}
 use Rattle.pf_assignment.specs.Internal.AssignmentSteps.{holder, flag, IsScanned, IsTreeOf}
 use Rattle.pf_assignment.proofs.MatchingNumbers.{number-at}
 use Rattle.pf_assignment.proofs.MatchingBounds.{free, unvisited, row_sum, path_sum, path_difference}

@@ -1,5 +1,5 @@
 use Rattle.std.proofs.Common.{◌<◌, ap, sym, subst, ◌∙◌, length}
-use Rattle.pf_assignment.specs.Assignments.{number}
+use Rattle.pf_base.specs.Places.{number}
 use Rattle.pf_assignment.proofs.MatchingNumbers.{number-at}
 use Rattle.pf_assignment.proofs.kuhn_munkres.weights.MatrixWeights.at.Goals as goal
 

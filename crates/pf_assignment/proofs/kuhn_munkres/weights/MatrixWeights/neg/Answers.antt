@@ -1,6 +1,6 @@
 use Rattle.std.proofs.Common.{◌<◌, arith, ap, sym, subst, length, ◌*◌}
 use Rattle.std.specs.Prelude.{neg_ℤ}
-use Rattle.pf_assignment.specs.Assignments.{number}
+use Rattle.pf_base.specs.Places.{number}
 use Rattle.pf_assignment.proofs.MatchingWeights.{position_of}
 use Rattle.std.proofs.lemmas.Result.{IfOk-from_err}
 use Rattle.pf_base.proofs.Outcomes.{refused_by}

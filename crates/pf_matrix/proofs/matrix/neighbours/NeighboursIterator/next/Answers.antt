@@ -1,6 +1,6 @@
 use Rattle.std.proofs.Common.{◌≡◌, ◌∙◌, arith, get_or}
 use Rattle.pf_matrix.specs.Positions.{around, neighbour_at}
-use Rattle.pf_matrix.specs.declared.matrix.neighbours.Shift.TheVariants.{Before}
+use Rattle.pf_base.specs.declared.shift.Shift.TheVariants.{Before}
 use Rattle.pf_matrix.proofs.PositionLemmas.{progress_some, steps_none, steps_some}
 use Rattle.pf_matrix.proofs.matrix.neighbours.NeighboursIterator.next.Goals as goal
 
