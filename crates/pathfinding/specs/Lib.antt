@@ -1,5 +1,6 @@
 pub use Rattle.pf_base.specs.Costs
 pub use Rattle.pf_base.specs.Sums
+pub use Rattle.pf_base.specs.Places
 pub use Rattle.pf_base.specs.Walks
 pub use Rattle.pf_base.specs.Edges
 pub use Rattle.pf_base.specs.Answers
