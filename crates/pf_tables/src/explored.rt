@@ -3,7 +3,8 @@
 
 ghost use Rattle.std.specs.Prelude.{◌≡◌, ◌<◌, ◌≤◌, ℕ, List, [], ◌∷◌, ◌++◌, OnOk, OnErr, IfErr, length, take, map, nat_eq};
 ghost use Rattle.std.specs.List.{IsDistinct};
-ghost use Rattle.pf_core.specs.Nodes.{TestedGraph, IsStep, ends_of, StandsFor, AddsNode, NumbersItems, AddedFrom};
+ghost use Rattle.pf_base.specs.Edges.{targets};
+ghost use Rattle.pf_core.specs.Nodes.{TestedGraph, IsStep, StandsFor, AddsNode, NumbersItems, AddedFrom};
 ghost use Rattle.pf_core.specs.Numbered.{NumbersInOrder};
 ghost use Rattle.pf_core.specs.NodeLaws.{StandsFor-one, StandsFor-inside};
 ghost use Rattle.pf_tables.specs.Internal.Numbering.{IsIndex, IsExplored, steps_at};
@@ -101,7 +102,7 @@ where
 
     ghost step = { λ g. IsStep nat_eq g.graph };
 
-    ghost successors = { λ g. ends_of g.graph.edges };
+    ghost successors = { λ g. targets g.graph.edges };
 
     ghost passes = { λ g x. g.test x };
 

@@ -1,8 +1,8 @@
 //! A graph in a table as a search sees it that gives out no numbers: each node is its own.
 
 ghost use Rattle.std.specs.Prelude.{◌≡◌, ◌<◌, ℕ, [], OnOk, IfErr, nat_eq};
-ghost use Rattle.pf_base.specs.Edges.{HasEdge};
-ghost use Rattle.pf_core.specs.Nodes.{TestedGraph, ends_of};
+ghost use Rattle.pf_base.specs.Edges.{HasEdge, targets};
+ghost use Rattle.pf_core.specs.Nodes.{TestedGraph};
 ghost use Rattle.pf_tables.specs.Internal.Numbering.{IsOwn, IsTable, present};
 ghost use Rattle.pf_tables.specs.Internal.OwnLaws.{own_one};
 
@@ -50,7 +50,7 @@ where
 
     ghost step = { λ g a z b. HasEdge nat_eq (g.graph.edges a) b z };
 
-    ghost successors = { λ g. ends_of g.graph.edges };
+    ghost successors = { λ g. targets g.graph.edges };
 
     ghost passes = { λ g x. g.test x };
 
