@@ -8,6 +8,7 @@ pub mod grid;
 mod macros;
 pub mod matrix;
 pub mod prelude;
+pub mod states;
 pub mod undirected;
 
 pub use pf_assignment::kuhn_munkres;

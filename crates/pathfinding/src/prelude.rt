@@ -1,8 +1,9 @@
-//! All that the crate exports, but the searches of `graphs` and the types of its lazy walks, whose names
-//! are those of the searches on graphs that functions answer.
+//! All that the crate exports, but what `states` holds, the searches of `graphs` and the types of its lazy
+//! walks, whose names are those of the searches on graphs that functions answer.
 
 pub use crate::graphs;
 pub use crate::routes;
+pub use crate::states;
 pub use pf_assignment::kuhn_munkres::Weights;
 pub use pf_assignment::kuhn_munkres::kuhn_munkres;
 pub use pf_assignment::kuhn_munkres::kuhn_munkres_min;

@@ -3,3 +3,4 @@ pub mod Compact
 pub mod Grid
 pub mod Rings
 pub mod Moves
+pub mod Counts

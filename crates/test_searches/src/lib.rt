@@ -1,16 +1,18 @@
-//! Tests of the calls of the library, and callers that show how they are proved. All of it but the type of
-//! `jugs` is read for the tests alone, so that it is proved once.
+//! Tests of the calls of the library, and callers that show how they are proved. All of it but the
+//! types of `jugs` and `counts` is read for the tests alone, so that it is proved once.
 #![tactic(auto)]
 
 #[cfg(test)]
 mod both_ends;
 #[cfg(test)]
 mod compact;
+// Its type is not for tests alone: specs/ has a word on it.
+mod counts;
 #[cfg(test)]
 mod fewest;
 #[cfg(test)]
 mod grid;
-// Its type is not for tests alone: specs/ has a word on it.
+// As of `counts`.
 mod jugs;
 #[cfg(test)]
 mod list;

@@ -16,6 +16,7 @@ mod refusals;
 mod refusing;
 mod routes;
 mod routes_surface;
+mod states;
 mod tables;
 mod utils;
 mod walks;
