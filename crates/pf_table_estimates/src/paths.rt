@@ -2,9 +2,8 @@
 
 ghost use Rattle.std.specs.Prelude.{◌≡◌, ◌⊎◌, [], ◌∷◌, false, ⊤, Err, IfOk, IfErr, MatchOption, nat_eq};
 ghost use Rattle.pf_informed.specs.CheapestPaths.{AreCheapestCleanPathsOrNone, lists_in};
-ghost use Rattle.pf_informed.specs.Estimates.{MayOverflow};
 ghost use Rattle.pf_tables.specs.Graphs.{graph_of};
-ghost use Rattle.pf_table_estimates.specs.EstimatesInTables.{estimate_at};
+ghost use Rattle.pf_table_estimates.specs.EstimatesInTables.{MayOverflowInTable};
 
 use crate::estimates::Estimates;
 use pf_base::{Cost, PathError};
@@ -40,7 +39,7 @@ where
     A: Allocator + Copy,
     ensures all { IfOk result (AreCheapestCleanPathsOrNone nat_eq (graph_of C.value (G.size estimates.now.table) (G.places estimates.now.table)) (from ∷ []) (T.passes estimates.now.goals) (λ paths. paths.left) C.value) }
     ensures ready { IfOk result (λ answer. MatchOption answer ⊤ (λ found. found.0.refused ≡ false)) }
-    ensures overflow { result ≡ Err PathError.CostOverflow → MayOverflow nat_eq (graph_of C.value (G.size estimates.now.table) (G.places estimates.now.table)) (from ∷ []) (T.passes estimates.now.goals) (estimate_at C.value estimates.now.estimates) C.fits }
+    ensures overflow { result ≡ Err PathError.CostOverflow → MayOverflowInTable C.value G.size G.places T.passes estimates.now from C.fits }
     ensures errors { IfErr result (λ e. (e ≡ PathError.OutOfMemory) ⊎ (e ≡ PathError.CostOverflow)) }
 {
     estimates.known();
@@ -72,7 +71,7 @@ where
     T: Goals + Copy,
     A: Allocator + Copy,
     ensures all { IfOk result (AreCheapestCleanPathsOrNone nat_eq (graph_of C.value (G.size estimates.now.table) (G.places estimates.now.table)) (from ∷ []) (T.passes estimates.now.goals) (λ paths. lists_in paths.items) C.value) }
-    ensures overflow { result ≡ Err PathError.CostOverflow → MayOverflow nat_eq (graph_of C.value (G.size estimates.now.table) (G.places estimates.now.table)) (from ∷ []) (T.passes estimates.now.goals) (estimate_at C.value estimates.now.estimates) C.fits }
+    ensures overflow { result ≡ Err PathError.CostOverflow → MayOverflowInTable C.value G.size G.places T.passes estimates.now from C.fits }
     ensures errors { IfErr result (λ e. (e ≡ PathError.OutOfMemory) ⊎ (e ≡ PathError.CostOverflow)) }
 {
     estimates.known();

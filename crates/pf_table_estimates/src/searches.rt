@@ -2,9 +2,8 @@
 
 ghost use Rattle.std.specs.Prelude.{◌≡◌, ◌⊎◌, [], ◌∷◌, Err, IfOk, IfErr, nat_eq};
 ghost use Rattle.pf_base.specs.Edges.{IsCheapestOrNone};
-ghost use Rattle.pf_informed.specs.Estimates.{MayOverflow};
 ghost use Rattle.pf_tables.specs.Graphs.{graph_of};
-ghost use Rattle.pf_table_estimates.specs.EstimatesInTables.{estimate_at};
+ghost use Rattle.pf_table_estimates.specs.EstimatesInTables.{MayOverflowInTable};
 
 use crate::estimates::Estimates;
 use pf_base::{Cost, PathError};
@@ -37,7 +36,7 @@ where
     T: Goals + Copy,
     A: Allocator + Copy,
     ensures best { IfOk result (IsCheapestOrNone nat_eq (graph_of C.value (G.size estimates.now.table) (G.places estimates.now.table)) (from ∷ []) (T.passes estimates.now.goals) C.value) }
-    ensures overflow { result ≡ Err PathError.CostOverflow → MayOverflow nat_eq (graph_of C.value (G.size estimates.now.table) (G.places estimates.now.table)) (from ∷ []) (T.passes estimates.now.goals) (estimate_at C.value estimates.now.estimates) C.fits }
+    ensures overflow { result ≡ Err PathError.CostOverflow → MayOverflowInTable C.value G.size G.places T.passes estimates.now from C.fits }
     ensures errors { IfErr result (λ e. (e ≡ PathError.OutOfMemory) ⊎ (e ≡ PathError.CostOverflow)) }
 {
     estimates.known();
@@ -75,7 +74,7 @@ where
     T: Goals + Copy,
     A: Allocator + Copy,
     ensures best { IfOk result (IsCheapestOrNone nat_eq (graph_of C.value (G.size estimates.now.table) (G.places estimates.now.table)) (from ∷ []) (T.passes estimates.now.goals) C.value) }
-    ensures overflow { result ≡ Err PathError.CostOverflow → MayOverflow nat_eq (graph_of C.value (G.size estimates.now.table) (G.places estimates.now.table)) (from ∷ []) (T.passes estimates.now.goals) (estimate_at C.value estimates.now.estimates) C.fits }
+    ensures overflow { result ≡ Err PathError.CostOverflow → MayOverflowInTable C.value G.size G.places T.passes estimates.now from C.fits }
     ensures errors { IfErr result (λ e. (e ≡ PathError.OutOfMemory) ⊎ (e ≡ PathError.CostOverflow)) }
 {
     estimates.known();
@@ -113,7 +112,7 @@ where
     T: Goals + Copy,
     A: Allocator + Copy,
     ensures best { IfOk result (IsCheapestOrNone nat_eq (graph_of C.value (G.size estimates.now.table) (G.places estimates.now.table)) (from ∷ []) (T.passes estimates.now.goals) C.value) }
-    ensures overflow { result ≡ Err PathError.CostOverflow → MayOverflow nat_eq (graph_of C.value (G.size estimates.now.table) (G.places estimates.now.table)) (from ∷ []) (T.passes estimates.now.goals) (estimate_at C.value estimates.now.estimates) C.fits }
+    ensures overflow { result ≡ Err PathError.CostOverflow → MayOverflowInTable C.value G.size G.places T.passes estimates.now from C.fits }
     ensures errors { IfErr result (λ e. (e ≡ PathError.OutOfMemory) ⊎ (e ≡ PathError.CostOverflow)) }
 {
     estimates.known();
