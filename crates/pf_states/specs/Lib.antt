@@ -1,1 +1,1 @@
-pub mod StateSpaces
+pub use Rattle.pf_state_spaces.specs.StateSpaces

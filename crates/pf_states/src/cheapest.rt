@@ -4,12 +4,12 @@ ghost use Rattle.std.specs.HashMap.{get};
 ghost use Rattle.std.specs.Prelude.{◌≡◌, ◌⊎◌, [], ◌∷◌, false, Err, IfOk, IfErr};
 ghost use Rattle.pf_base.specs.Edges.{CostOverflows, IsCheapestOrNone};
 ghost use Rattle.pf_search.specs.Parents.{IsCheapestMap, IsPartialMap};
-ghost use Rattle.pf_states.specs.StateSpaces.{edges_by};
+ghost use Rattle.pf_state_spaces.specs.StateSpaces.{edges_by};
 
-use crate::moves::moves_of;
-use crate::space::{Exact, StateGoal, StateSpace};
 use pf_base::{Cost, PathError};
 use pf_search::directed::dijkstra::Parents;
+use pf_state_spaces::moves::moves_of;
+use pf_state_spaces::{Exact, StateGoal, StateSpace};
 use std::alloc::Allocator;
 use std::hash::Hash;
 

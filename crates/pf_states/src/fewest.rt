@@ -3,11 +3,11 @@
 ghost use Rattle.std.specs.Prelude.{◌≡◌, [], ◌∷◌, IfOk, IfErr};
 ghost use Rattle.pf_base.specs.Loops.{IsBestLoopOrNone};
 ghost use Rattle.pf_base.specs.Successors.{IsFewestEdgesOrNone};
-ghost use Rattle.pf_states.specs.StateSpaces.{successors_by};
+ghost use Rattle.pf_state_spaces.specs.StateSpaces.{successors_by};
 
-use crate::moves::successors_of;
-use crate::space::{Exact, StateGoal, StateSpace};
 use pf_base::{Cost, NodeRefs, PathError};
+use pf_state_spaces::moves::successors_of;
+use pf_state_spaces::{Exact, StateGoal, StateSpace};
 use std::alloc::Allocator;
 use std::hash::Hash;
 

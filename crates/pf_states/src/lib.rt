@@ -6,14 +6,10 @@
 mod cheapest;
 mod depth;
 mod fewest;
-pub mod moves;
-pub mod neighbours;
-pub mod space;
 mod walks;
 
 pub use crate::cheapest::{dijkstra, dijkstra_all, dijkstra_partial};
 pub use crate::depth::{dfs, iddfs};
 pub use crate::fewest::{bfs, bfs_loop};
-pub use crate::neighbours::Neighbours;
-pub use crate::space::{Exact, StateGoal, StateSpace};
 pub use crate::walks::{bfs_reach, dfs_reach, dijkstra_reach};
+pub use pf_state_spaces::{Exact, Neighbours, StateGoal, StateSpace};

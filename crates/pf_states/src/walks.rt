@@ -4,14 +4,13 @@ ghost use Rattle.std.specs.Prelude.{◌≡◌, [], ◌∷◌, false, Ok, IfOk, I
 ghost use Rattle.pf_search.specs.Breadth.{IsBreadthWalk};
 ghost use Rattle.pf_search.specs.CheapestFirst.{IsCheapestWalk};
 ghost use Rattle.pf_search.specs.DepthWalks.{IsDepthWalk};
-ghost use Rattle.pf_states.specs.StateSpaces.{edges_by, successors_by, SpaceListsEdges, SpaceListsSuccessors};
+ghost use Rattle.pf_state_spaces.specs.StateSpaces.{edges_by, successors_by, SpaceListsEdges, SpaceListsSuccessors};
 
-use crate::neighbours::Neighbours;
-use crate::space::{Exact, StateSpace};
 use pf_base::{Cost, PathError};
 use pf_search::directed::bfs::BfsReachable;
 use pf_search::directed::dfs::DfsReachable;
 use pf_search::directed::dijkstra::DijkstraReachable;
+use pf_state_spaces::{Exact, Neighbours, StateSpace};
 use std::alloc::Allocator;
 use std::hash::Hash;
 

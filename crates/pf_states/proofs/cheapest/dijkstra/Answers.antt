@@ -1,8 +1,8 @@
 use Rattle.std.proofs.Common.{rules, ap, ◌∷◌, []}
 use Rattle.std.proofs.lemmas.Iterator.Consumers.{YieldsList-from_first}
 use Rattle.pf_base.proofs.Sources.{gives_chain}
-use Rattle.pf_states.specs.StateSpaces.{edges_by}
-use Rattle.pf_states.proofs.SpaceLemmas.{goal_test, no_negative_move, space_graph}
+use Rattle.pf_state_spaces.specs.StateSpaces.{edges_by}
+use Rattle.pf_state_spaces.proofs.SpaceLemmas.{goal_test, no_negative_move, space_graph}
 use Rattle.pf_states.proofs.cheapest.dijkstra.Goals as goal
 
 pub dijkstra-requires-clause-graph : goal.dijkstra-requires-clause-graph

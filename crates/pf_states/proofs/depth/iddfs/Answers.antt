@@ -1,8 +1,8 @@
 use Rattle.std.proofs.Common.{rules, ap}
 use Rattle.std.proofs.lemmas.Iterator.Consumers.{YieldsList-from_first}
 use Rattle.pf_base.proofs.Sources.{gives_chain}
-use Rattle.pf_states.specs.StateSpaces.{successors_by}
-use Rattle.pf_states.proofs.SpaceLemmas.{goal_test, space_successors}
+use Rattle.pf_state_spaces.specs.StateSpaces.{successors_by}
+use Rattle.pf_state_spaces.proofs.SpaceLemmas.{goal_test, space_successors}
 use Rattle.pf_states.proofs.depth.iddfs.Goals as goal
 
 pub iddfs-requires : goal.iddfs-requires

@@ -1,5 +1,5 @@
 use Rattle.std.proofs.Common.{ap, sym}
-use Rattle.pf_states.specs.StateSpaces.{successors_by}
+use Rattle.pf_state_spaces.specs.StateSpaces.{successors_by}
 use Rattle.pf_states.proofs.walks.dfs_reach.Goals as goal
 
 pub returns-clause-graph : goal.returns-clause-graph

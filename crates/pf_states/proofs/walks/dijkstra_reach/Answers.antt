@@ -1,6 +1,6 @@
 use Rattle.std.proofs.Common.{ap, sym, ◌∷◌, []}
-use Rattle.pf_states.specs.StateSpaces.{edges_by}
-use Rattle.pf_states.proofs.SpaceLemmas.{no_negative_move, ok_so}
+use Rattle.pf_state_spaces.specs.StateSpaces.{edges_by}
+use Rattle.pf_state_spaces.proofs.SpaceLemmas.{no_negative_move, ok_so}
 use Rattle.pf_states.proofs.walks.dijkstra_reach.Goals as goal
 
 pub returns-clause-graph : goal.returns-clause-graph

@@ -4,7 +4,7 @@ ghost use Rattle.std.proofs.Common.{subst};
 ghost use Rattle.std.specs.Prelude.{◌≡◌, ℤ};
 ghost use Rattle.pf_base.specs.Answers.{ListsEdges, SameNodes};
 ghost use Rattle.pf_base.proofs.Callers.{ListsEdges-refl, SameNodes-refl};
-ghost use Rattle.pf_states.specs.StateSpaces.{SpaceListsSuccessors, SpaceListsEdges};
+ghost use Rattle.pf_state_spaces.specs.StateSpaces.{SpaceListsSuccessors, SpaceListsEdges};
 
 use crate::moves::{Moves, Successors, moves_of, successors_of};
 use crate::space::{Exact, StateSpace};

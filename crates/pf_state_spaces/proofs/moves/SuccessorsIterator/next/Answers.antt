@@ -1,5 +1,5 @@
-use Rattle.pf_states.proofs.MoveLemmas.{leads_first, leads_nowhere, leads_on, stands_still}
-use Rattle.pf_states.proofs.moves.SuccessorsIterator.next.Goals as goal
+use Rattle.pf_state_spaces.proofs.MoveLemmas.{leads_first, leads_nowhere, leads_on, stands_still}
+use Rattle.pf_state_spaces.proofs.moves.SuccessorsIterator.next.Goals as goal
 
 pub returns-in_err-found : goal.returns-in_err-found
 returns-in_err-found g c = record {

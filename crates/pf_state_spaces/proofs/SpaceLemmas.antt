@@ -8,7 +8,7 @@ use Rattle.std.specs.Iterator.{Count}
 use Rattle.pf_base.specs.Answers.{AnswersGraph, AnswersSuccessors, AnswersTest, Gives, ListsEdges, SameNodes}
 use Rattle.pf_base.specs.Edges.{HasEdge, HasNoNegativeCost}
 use Rattle.pf_base.proofs.Callers.{ListsEdges-valued, SameNodes-refl, exact_graph, exact_successors, exact_test}
-use Rattle.pf_states.specs.StateSpaces.{edges_by, moves_in, successors_by}
+use Rattle.pf_state_spaces.specs.StateSpaces.{edges_by, moves_in, successors_by}
 
 module _ {N : Type 0} {eq : N → N → Bool} (laws : IsEquivalence eq) (exact : (x y : N) → eq x y ≡ true → x ≡ y) where
   module _ {C : Type 0} (value : C → ℤ) (moves : N → List (Option (N × C))) where

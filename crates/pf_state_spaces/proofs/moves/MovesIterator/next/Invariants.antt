@@ -1,6 +1,6 @@
 use Rattle.std.proofs.Common.{◌≡◌, ◌≤◌, ◌-◌, drop, length}
-use Rattle.pf_states.specs.StateSpaces.{moves_in}
-use Rattle.pf_states.proofs.moves.MovesIterator.next.Given as goal
+use Rattle.pf_state_spaces.specs.StateSpaces.{moves_in}
+use Rattle.pf_state_spaces.proofs.moves.MovesIterator.next.Given as goal
 
 -- no move stands at the places so far
 abbrev pub invariant-loop-self : goal.invariant-loop-self

@@ -1,6 +1,6 @@
 use Rattle.std.proofs.Common.{refl, ◌∙◌, sym, arith, None}
-use Rattle.pf_states.proofs.MoveLemmas.{moves_from, none_left, passes, shorter, shortens, stands_still, yields}
-use Rattle.pf_states.proofs.moves.MovesIterator.next.Goals as goal
+use Rattle.pf_state_spaces.proofs.MoveLemmas.{moves_from, none_left, passes, shorter, shortens, stands_still, yields}
+use Rattle.pf_state_spaces.proofs.moves.MovesIterator.next.Goals as goal
 
 pub loop-self-init : goal.loop-self-init
 loop-self-init g c = record { same = (refl, refl, refl); within = c.self.invariant.0; all = c.self.invariant.1; left = refl }

@@ -1,8 +1,8 @@
 use Rattle.std.proofs.Common.{rules}
 use Rattle.std.proofs.lemmas.Iterator.Consumers.{YieldsList-from_first}
 use Rattle.pf_base.proofs.Sources.{gives_chain}
-use Rattle.pf_states.proofs.SpaceLemmas.{gives_successors}
-use Rattle.pf_states.proofs.neighbours.NeighboursSuccessorFunction.successors.Goals as goal
+use Rattle.pf_state_spaces.proofs.SpaceLemmas.{gives_successors}
+use Rattle.pf_state_spaces.proofs.neighbours.NeighboursSuccessorFunction.successors.Goals as goal
 
 pub returns-clause-listed : goal.returns-clause-listed
 returns-clause-listed g c = λ starts next w same.

@@ -2,7 +2,7 @@
 
 ghost use Rattle.std.specs.Prelude.{◌≡◌};
 ghost use Rattle.std.specs.Iterator.{YieldsFirst, item_count};
-ghost use Rattle.pf_states.specs.StateSpaces.{moves_in, successors_by};
+ghost use Rattle.pf_state_spaces.specs.StateSpaces.{moves_in, successors_by};
 
 use crate::space::StateSpace;
 use pf_base::Cost;
@@ -20,7 +20,7 @@ pub struct Moves<'a, N: Copy, C: Cost, S: StateSpace<N, C>> {
 
 impl<'a, N: Copy, C: Cost, S: StateSpace<N, C>> Model for Moves<'a, N, C, S> {
     ghost use Rattle.std.specs.Prelude.{◌≡◌, ◌≤◌, List, drop, length};
-    ghost use Rattle.pf_states.specs.StateSpaces.{moves_in};
+    ghost use Rattle.pf_state_spaces.specs.StateSpaces.{moves_in};
 
     ghost Value = { List (N × C) };
 

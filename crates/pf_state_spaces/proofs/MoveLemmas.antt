@@ -4,7 +4,7 @@ use Rattle.std.proofs.lemmas.List.{drop_all}
 use Rattle.std.specs.List.{cons_option, slice_get}
 use Rattle.std.specs.Option.{is_some}
 use Rattle.std.specs.Iterator.{YieldsFirst, MakesProgress, item_count}
-use Rattle.pf_states.specs.StateSpaces.{moves_in}
+use Rattle.pf_state_spaces.specs.StateSpaces.{moves_in}
 
 module _ {M : Type 0} where
   after : (ps : List (Option M)) (k : ℕ) (o : Option M) → slice_get ps k ≡ Some o → moves_in (drop k ps) ≡ cons_option o (moves_in (drop (suc k) ps))
