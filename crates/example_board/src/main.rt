@@ -1,7 +1,9 @@
 //! Ways through a maze: one with fewest steps, and one that costs least.
 #![tactic(auto)]
 
-use pf_tables::{Board, Steps, bfs, dijkstra};
+use pf_boards::{Board, Steps};
+use pf_table_breadth::bfs;
+use pf_tables::dijkstra;
 use std::alloc::Global;
 
 const ROWS: usize = 3;

@@ -1,7 +1,7 @@
 //! The cheapest way between two named places.
 #![tactic(auto)]
 
-use pf_tables::EdgeList;
+use pf_edge_lists::EdgeList;
 
 /// Roads, each from one place to another, and what it costs to take it.
 const ROADS: &[(&str, &str, u32)] = &[

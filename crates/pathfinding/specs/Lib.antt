@@ -20,7 +20,7 @@ pub use Rattle.pf_search.specs.Laws
 pub use Rattle.pf_search.specs.Breadth
 pub use Rattle.pf_search.specs.CheapestFirst
 pub use Rattle.pf_search.specs.Parents
-pub use Rattle.pf_search.specs.BothEnds
+pub use Rattle.pf_both_ends.specs.BothEnds
 pub use Rattle.pf_informed.specs.Estimates
 pub use Rattle.pf_informed.specs.CheapestPaths
 pub use Rattle.pf_orders.specs.StrongComponents
@@ -34,9 +34,9 @@ pub use Rattle.pf_yen.specs.Counting
 pub use Rattle.pf_tables.specs.Graphs
 pub use Rattle.pf_tables.specs.Faults
 pub use Rattle.pf_tables.specs.Offsets
-pub use Rattle.pf_tables.specs.Boards
+pub use Rattle.pf_boards.specs.Boards
 pub use Rattle.pf_tables.specs.Goals
-pub use Rattle.pf_tables.specs.EdgeLists
+pub use Rattle.pf_edge_lists.specs.EdgeLists
 pub use Rattle.pf_table_searches.specs.TableWalks
 pub use Rattle.pf_table_paths.specs.RankedWalks
 pub use Rattle.pf_table_estimates.specs.EstimatesInTables
@@ -60,10 +60,10 @@ pub use Rattle.pf_grid.specs.VertexFloods
 pub use Rattle.pf_grid.specs.Steps
 pub use Rattle.pf_grid.specs.Texts
 pub use Rattle.pf_grid.specs.Vertices
-pub use Rattle.pf_graph.specs.Joined
+pub use Rattle.pf_union_find.specs.Joined
 pub use Rattle.pf_graph.specs.Spanning
 pub use Rattle.pf_graph.specs.EdgesByReference
-pub use Rattle.pf_graph.specs.Components
+pub use Rattle.pf_components.specs.Components
 pub use Rattle.pf_graph.specs.GrownTree
 pub use Rattle.pf_assignment.specs.Assignments
 pub use Rattle.pf_cycles.specs.Cycles

@@ -1,5 +1,8 @@
 //! Graphs in tables, over nodes that are numbers, and searches over them.
 
+pub use pf_boards::{Board, Steps};
+pub use pf_edge_lists::{EdgeList, EdgeListError};
+pub use pf_table_breadth::bfs;
 pub use pf_table_estimates::{
     EstimateError, Estimates, astar, astar_bag, astar_bag_collect, fringe, idastar,
 };
@@ -12,7 +15,4 @@ pub use pf_table_searches::{
     BfsReachable, DfsReachable, DijkstraReachable, bfs_loop, bfs_reach, dfs, dfs_reach,
     dijkstra_all, dijkstra_partial, dijkstra_reach, iddfs,
 };
-pub use pf_tables::{
-    Board, CompactRows, Costless, EdgeList, EdgeListError, Goals, Graph, Row, Rows, Steps,
-    TableError, bfs, dijkstra,
-};
+pub use pf_tables::{CompactRows, Costless, Goals, Graph, Row, Rows, TableError, dijkstra};

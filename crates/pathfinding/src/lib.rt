@@ -10,7 +10,9 @@ pub mod matrix;
 pub mod prelude;
 pub mod states;
 pub mod undirected;
+pub mod utils;
 
 pub use pf_assignment::kuhn_munkres;
-pub use pf_base::{NodeRefs, cost, error, noderefs, utils};
+pub use pf_base::{cost, error};
 pub use pf_routes::routes;
+pub use pf_utils::{NodeRefs, noderefs};

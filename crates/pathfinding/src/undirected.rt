@@ -1,3 +1,4 @@
 //! Algorithms on undirected graphs.
 
-pub use pf_graph::undirected::{connected_components, kruskal, laws, prim};
+pub use pf_components::connected_components;
+pub use pf_graph::undirected::{kruskal, laws, prim};

@@ -13,8 +13,7 @@ use crate::kuhn_munkres::matching::Matching;
 use crate::kuhn_munkres::totals::total_of;
 use crate::kuhn_munkres::tree::Tree;
 pub use crate::kuhn_munkres::weights::{Weights, weights_fit};
-use pf_base::utils::Tally;
-use pf_base::{PathError, SignedCost};
+use pf_base::{PathError, SignedCost, Tally};
 use std::alloc::Allocator;
 
 /// The greatest total of an assignment, and the column of each row, with one tick for each round.

@@ -2,10 +2,6 @@ pub mod Asking
 pub mod Callers
 pub mod Sources
 pub mod Reach
-pub mod NodeRefsLemmas
-pub mod MoveLemmas
-pub mod RemainderLemmas
-pub mod RootLemmas
 pub mod Tables
 pub mod Outcomes
 pub mod ListLemmas

@@ -13,4 +13,3 @@ pub mod Tallies
 pub mod Moves
 pub mod Shifts
 pub mod Loops
-pub mod Internal

@@ -1,6 +1,6 @@
 -- How many ticks a count has.
 use Rattle.std.specs.Prelude.{ℕ, ◌+◌}
-use Rattle.pf_base.specs.declared.utils.tally.Count.{Count, Zero, Next'}
+use Rattle.pf_base.specs.declared.tally.Count.{Count, Zero, Next'}
 
 abbrev pub ticks_of : Count → ℕ
 ticks_of Zero = 0

@@ -1,6 +1,6 @@
 //! Lists of one value.
 
-ghost use Rattle.std.specs.Prelude.{◌≡◌, length, replicate, IfOk, IfErr};
+ghost use Rattle.std.specs.Prelude.{◌≡◌, [], ◌∷◌, length, replicate, IfOk, IfErr};
 ghost use Rattle.pf_base.specs.declared.error.PathError.TheVariants.{OutOfMemory};
 
 use crate::PathError;
@@ -17,5 +17,15 @@ where
 {
     let mut list = Vec::new(alloc);
     list.resize(count, value)?;
+    Ok(list)
+}
+
+/// A list of one value.
+pub fn alone<T: Drop, A: Allocator + Copy>(alloc: A, value: T) -> Result<Vec<T, A>, PathError>
+    ensures one { IfOk result (λ list. list.items ≡ value ∷ []) }
+    ensures refused { IfErr result (λ e. e ≡ OutOfMemory) }
+{
+    let mut list = Vec::new(alloc);
+    list.push(value)?;
     Ok(list)
 }

@@ -5,11 +5,10 @@ pub mod cost;
 pub mod error;
 pub mod filled;
 pub mod functions;
-pub mod noderefs;
 pub mod shift;
-pub mod utils;
+pub mod tally;
 
 pub use crate::cost::{Cost, SignedCost};
 pub use crate::error::PathError;
 pub use crate::functions::{EdgeFunction, NodeTest, SuccessorFunction};
-pub use crate::noderefs::{NodeRefs, NodeRefsIntoIter, NodeRefsIter};
+pub use crate::tally::Tally;

@@ -6,7 +6,7 @@ use Rattle.std.specs.Option.{option_map}
 use Rattle.pf_base.specs.Edges.{HasEdge, InReach, IsSuccessor}
 use Rattle.pf_base.specs.Walks.{BeginsAt, EndsAt, Follows, IsWalk, end_of}
 use Rattle.pf_base.proofs.Tables.{pair_refl, pair_exact}
-use Rattle.pf_search.specs.BothEnds.{IsCostMirror}
+use Rattle.pf_both_ends.specs.BothEnds.{IsCostMirror}
 use Rattle.pf_bench.specs.Steps.{crossed, crossings_from, entered_cell, four_directions, height_of, same_cell}
 use Rattle.pf_bench.proofs.BoardMirror.{IsCell, Opposite, stays, on_and_back, back_and_on, cell_back, cell_after}
 

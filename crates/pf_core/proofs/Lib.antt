@@ -12,16 +12,8 @@ pub mod OrderLemmas
 pub mod WalkLemmas
 pub mod HopLemmas
 pub mod UnitLemmas
-pub mod LoopLemmas
-pub mod LoopWalks
-pub mod MirrorLemmas
 pub mod WaveLemmas
-pub mod MeetingLemmas
-pub mod SideLemmas
-pub mod JoinLemmas
-pub mod DepthFirstLemmas
 pub mod ReadLemmas
-pub mod VisitLemmas
 pub mod PeekLemmas
 pub mod HopTurns
 pub mod SearchedLemmas

@@ -14,10 +14,9 @@ use Rattle.std.proofs.lemmas.Map.Made.{length-le_from_is_member}
 use Rattle.pf_base.specs.Walks.{HasNode, IsAtMostNumberOf, Follows, IsWalk, end_of, BeginsAt, EndsAt}
 use Rattle.pf_base.specs.NodeRefs.{HasSameNodes}
 use Rattle.pf_base.specs.Edges.{HasEdge, IsSuccessor, InReach}
-use Rattle.pf_base.specs.Answers.{ListsEdges, Gives, Answers, AnswersEach, AnswersGraph}
+use Rattle.pf_base.specs.Answers.{ListsEdges, Gives, Answers, AnswersEach}
 use Rattle.pf_core.specs.Numbered.{ListsSteps, Grows}
 use Rattle.pf_core.specs.NodeLaws.{StandsFor-one}
-use Rattle.pf_core.specs.Sources.{AnswersEdges}
 use Rattle.pf_core.specs.Nodes.{NodeGraph, StandsFor, IsStep, AddsNode, NumbersItems, AddedFrom, Explores}
 use Rattle.pf_base.proofs.ListLemmas.{or_left, or_right, or_true, or_cases, Contains-head, Contains-tail, Contains-cases, get-append_cases, take_get, get_take, none_in}
 use Rattle.pf_core.proofs.FrontierLemmas.{end_more}
@@ -304,19 +303,6 @@ module _ {N S : Type 0} (eq : N → N → Bool) (laws : IsEquivalence eq) (answe
     distinct = once;
     reached = λ k x h. InReach-start eq laws g.edges g.starts x x ((same x).0 (node_of keys k x h)) (laws.refl x);
   }
-
--- such as one of a function that lists edges
-module _ {N F : Type 0} (eq : N → N → Bool) (laws : IsEquivalence eq) (answers : F → (N → Type 0) → (N → List (N × ℤ)) → Type 0) where
-  pub Explores-edges : (g : NodeGraph N) (keys : List N) (f : F) → IsDistinct eq keys → HasSameNodes eq keys g.starts
-      → ((x y : N) → InReach eq g.edges g.starts x → eq x y ≡ true → ListsEdges eq (λ z. z) (g.edges x) (g.edges y)) → answers f (InReach eq g.edges g.starts) g.edges
-      → Explores eq (AnswersEdges eq answers) g keys (record { function = f })
-  Explores-edges g keys f once same alike a = Explores-start eq laws (AnswersEdges eq answers) g keys (record { function = f }) once same alike a
-
--- and of a closure
-module _ {N C : Type 0} (eq : N → N → Bool) (laws : IsEquivalence eq) (value : C → ℤ) {I S F : Type 0} (becomes : I → S → Type 0) (can : S → Type 0) (left : S → Count) (next : S → Option (N × C) → S → Type 0) (calls : Mut F (Bor N × Unit {0}) I) where
-  pub Explores-edges_of : (g : NodeGraph N) (keys : List N) (f : F) → IsDistinct eq keys → HasSameNodes eq keys g.starts → AnswersGraph calls becomes can left next eq value f (InReach eq g.edges g.starts) g.edges
-      → Explores eq (AnswersEdges eq (AnswersGraph calls becomes can left next eq value)) g keys (record { function = f })
-  Explores-edges_of g keys f once same a = Explores-edges eq laws (AnswersGraph calls becomes can left next eq value) g keys f once same a.alike a
 
 -- what answers say, said in another way
 module _ {F N R : Type 0} (calls : Mut F (Bor N × Unit {0}) R) (within within' : N → Type 0) (less : (x : N) → within' x → within x) (gives gives' : N → R → Type 0) (said : (x : N) (r : R) → gives x r → gives' x r) where

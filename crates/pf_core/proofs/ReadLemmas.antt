@@ -14,7 +14,6 @@ use Rattle.pf_core.specs.Queue.{Entries}
 use Rattle.pf_core.specs.Search.{IsSound, IsLeast, IsSearch, Turned}
 use Rattle.pf_core.specs.Numbered.{Grows}
 use Rattle.pf_core.specs.Nodes.{StandsFor}
-use Rattle.pf_core.specs.DepthFirst.{IsVisited}
 use Rattle.pf_base.proofs.ListLemmas.{at_place}
 use Rattle.pf_core.proofs.LabelLemmas.{HasLabel-inside, none_widened, Lowered-set}
 use Rattle.pf_core.proofs.NodeLemmas.{Grows-from_take, HasSameNodes-insert}
@@ -57,9 +56,6 @@ none_contained x h = omega (arith, h.1)
 -- a list with the same elements as one that is another
 pub same_row : {A : Type 0} (xs ys zs : List A) → ys ≡ zs → ((x : A) → Contains xs x ↔ Contains ys x) → (x : A) → Contains xs x ↔ Contains zs x
 same_row xs ys zs e h x = subst (λ (ws : List _). Contains xs x ↔ Contains ws x) e (h x)
-
-pub same_visited : (xs ys : List Bool) → ys ≡ xs → (k : ℕ) → IsVisited ys k ↔ IsVisited xs k
-same_visited xs ys e k = (subst (λ (zs : List Bool). IsVisited zs k) e, subst (λ (zs : List Bool). IsVisited zs k) (sym e))
 
 -- the first nodes alone are kept
 pub Grows-cut : {N : Type 0} (eq : N → N → Bool) (n : ℕ) (keys keys' : List N) → n ≤ length keys → keys' ≡ take n keys → Grows (length keys') (length keys) (StandsFor eq keys') (StandsFor eq keys)

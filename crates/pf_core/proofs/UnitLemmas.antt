@@ -4,22 +4,19 @@ use Rattle.std.specs.Prelude.{◌↔◌, ◌≤ℤ◌, map}
 use Rattle.std.specs.Cmp.{IsEquivalence}
 use Rattle.std.specs.Iterator.{Count}
 use Rattle.std.specs.Fn.{Mut}
-use Rattle.std.specs.List.{IsDistinct}
 use Rattle.std.proofs.lemmas.Int.{ints}
 use Rattle.pf_base.specs.Walks.{HasNode, Follows, IsGoalWalk, HasNoGoalWalk, IsReachable}
 use Rattle.pf_base.specs.NodeRefs.{HasSameNodes}
 use Rattle.pf_base.specs.Edges.{HasEdge, IsSuccessor, StepCosts, StepsCost, InReach, IsCheapestGoalPath}
 use Rattle.pf_base.specs.Successors.{HasSuccessor, IsFewestEdgesGoalPath}
-use Rattle.pf_base.specs.Answers.{SameNodes, ListsEdges, AnswersSuccessors, AnswersTest, Gives}
+use Rattle.pf_base.specs.Answers.{SameNodes, ListsEdges, AnswersTest, Gives}
 use Rattle.pf_core.specs.Numbered.{StandsBelow}
 use Rattle.pf_core.specs.Steps.{IsHop}
-use Rattle.pf_core.specs.Nodes.{StandsFor, IsStep, Explores}
+use Rattle.pf_core.specs.Nodes.{StandsFor, IsStep}
 use Rattle.pf_core.specs.Hops.{unit_edges}
-use Rattle.pf_core.specs.Sources.{AnswersHops}
-use Rattle.pf_core.specs.HopLaws.{next_of_edge, walk_next, reach_next, unit_alike}
-use Rattle.pf_core.specs.declared.source.Unweighted.{Unweighted}
+use Rattle.pf_core.specs.HopLaws.{next_of_edge, walk_next, reach_next}
 use Rattle.pf_base.proofs.ListLemmas.{none_in}
-use Rattle.pf_core.proofs.NodeLemmas.{Explores-start, Answers-weaker, Gives-weaker}
+use Rattle.pf_core.proofs.NodeLemmas.{Answers-weaker, Gives-weaker}
 use mathlib.Core.Path.{fun_ext}
 
 -- the nodes that follow, of a graph in which each edge costs 1
@@ -111,24 +108,6 @@ module _ {N : Type 0} (eq : N → N → Bool) where
   answers_next answers f starts next other e = subst (λ (h : N → List N). answers f (IsReachable eq (HasSuccessor eq h) starts) h) (sym (same_next next other e))
 
   module _ (laws : IsEquivalence eq) where
-    module _ {F : Type 0} (answers : F → (N → Type 0) → (N → List N) → Type 0) where
-      -- a discovery of what lists successors begins with a set of the starts
-      pub Explores-successors : (starts keys : List N) (next : N → List N) (f : F) → IsDistinct eq keys → HasSameNodes eq keys starts
-          → ((x y : N) → IsReachable eq (HasSuccessor eq next) starts x → eq x y ≡ true → SameNodes eq (next x) (next y)) → answers f (IsReachable eq (HasSuccessor eq next) starts) next
-          → Explores eq (AnswersHops eq answers) (record { starts = starts; edges = unit_edges next }) keys (record { function = f })
-      Explores-successors starts keys next f once same alike a =
-          Explores-start eq laws (AnswersHops eq answers) (record { starts = starts; edges = unit_edges next }) keys (record { function = f }) once same (unit_alike eq starts (unit_edges next) next refl alike) (next, refl, a)
-
-      -- and answers them still
-      pub Explores-next : (starts keys : List N) (next : N → List N) (s : Unweighted F) → Explores eq (AnswersHops eq answers) (record { starts = starts; edges = unit_edges next }) keys s → answers s.function (IsReachable eq (HasSuccessor eq next) starts) next
-      Explores-next starts keys next s x = let a = x.answered in answers_next answers s.function starts next a.0 a.1 a.2
-
-    -- such as one of a closure
-    module _ {I S F : Type 0} (becomes : I → S → Type 0) (can : S → Type 0) (left : S → Count) (steps : S → Option N → S → Type 0) (calls : Mut F (Bor N × Unit {0}) I) where
-      pub Explores-successors_of : (starts keys : List N) (next : N → List N) (f : F) → IsDistinct eq keys → HasSameNodes eq keys starts → AnswersSuccessors calls becomes can left steps eq f (IsReachable eq (HasSuccessor eq next) starts) next
-          → Explores eq (AnswersHops eq (AnswersSuccessors calls becomes can left steps eq)) (record { starts = starts; edges = unit_edges next }) keys (record { function = f })
-      Explores-successors_of starts keys next f once same a = Explores-successors (AnswersSuccessors calls becomes can left steps eq) starts keys next f once same a.alike a
-
     -- a set with the nodes of the starts stands for the starts
     stands_of : (keys : List N) (x : N) → HasNode eq keys x → StandsBelow (length keys) (StandsFor eq keys) x
     stands_of [] x h = absurd h

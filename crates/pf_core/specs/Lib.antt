@@ -1,13 +1,10 @@
 pub mod Numbered
 pub mod Steps
-pub mod Loops
-pub mod Mirrors
 pub mod Frontier
 pub mod Depths
 pub mod Labels
 pub mod Slots
 pub mod Breadth
-pub mod Sides
 pub mod Queue
 pub mod Search
 pub mod Searched
@@ -16,5 +13,3 @@ pub mod Nodes
 pub mod NodeLaws
 pub mod Hops
 pub mod HopLaws
-pub mod Sources
-pub mod DepthFirst

@@ -12,8 +12,7 @@ use crate::labels::{label_of, path_to};
 use crate::numbered::GoalGraph;
 use crate::search::Search;
 use crate::slot::Slot;
-use pf_base::utils::Tally;
-use pf_base::{Cost, PathError};
+use pf_base::{Cost, PathError, Tally};
 use std::alloc::Allocator;
 
 /// What a search by rising cost from the number `start` finds: the labels, once the first goal is the

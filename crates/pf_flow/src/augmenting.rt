@@ -11,8 +11,7 @@ use crate::edmonds_karp::EKFlows;
 use crate::levels::Levels;
 use crate::listings::list_flows;
 use crate::phases::augment_phase;
-use pf_base::utils::Tally;
-use pf_base::{PathError, SignedCost};
+use pf_base::{PathError, SignedCost, Tally};
 use pf_residual::store::FlowStore;
 use std::alloc::Allocator;
 

@@ -7,8 +7,7 @@ ghost use Rattle.pf_residual.specs.Internal.CurrentArcs.{IsSinkPath};
 ghost use Rattle.pf_flow.specs.Internal.Phases.{HoldsLevels, IsAugmented};
 
 use crate::levels::Levels;
-use pf_base::SignedCost;
-use pf_base::utils::Tally;
+use pf_base::{SignedCost, Tally};
 use pf_residual::level_paths::find_augmenting_path;
 use pf_residual::paths::add_along;
 use pf_residual::store::FlowStore;

@@ -1,7 +1,7 @@
 -- What links join, carried over from nodes of one kind to nodes of another that stand for them.
 use Rattle.std.proofs.Common.{◌≡◌, ◌∙◌, inl, inr, ◌⊎◌, Bool, true}
 use Rattle.std.specs.Cmp.{IsEquivalence}
-use Rattle.pf_graph.specs.Joined.{Joined, same, linked, back, chain}
+use Rattle.pf_union_find.specs.Joined.{Joined, same, linked, back, chain}
 
 -- which v stands for which x: the same where x is the same
 pub record StandsAlike {M N : Type 0} (eq : M → M → Bool) (eq' : N → N → Bool) (stands : M → N → Type 0) : Type 0 where

@@ -1,38 +1,21 @@
 -- Nodes that are numbered.
-use Rattle.std.proofs.Common.{ℕ, zero, suc, ◌+◌, ◌<◌, ◌≡◌, refl, sym, ◌∙◌, ap, subst, arith, true≢false, eq-eqb, List, [], ◌∷◌, ◌++◌, length, get_or, take, inl, inr, Bool, true, false, Some, if◌then◌else◌, nat_eq}
+use Rattle.std.proofs.Common.{ℕ, ◌+◌, ◌<◌, ◌≡◌, sym, ◌∙◌, ap, subst, arith, eq-eqb, List, [], ◌∷◌, ◌++◌, length, get_or, take, inl, inr, Bool, true, false, Some, if◌then◌else◌, nat_eq}
 use Rattle.std.specs.Prelude.{slice_get, Contains}
 use Rattle.std.specs.Borrow.{Bor}
 use Rattle.std.specs.Cmp.{IsEquivalence}
-use Rattle.std.specs.List.{IsDistinct, AllByRecursion, list_any}
+use Rattle.std.specs.List.{IsDistinct, list_any}
 use Rattle.std.proofs.lemmas.List.{take_more}
 use Rattle.std.proofs.lemmas.List.Elements.{Contains-append_left, Contains-push, Contains-push_cases}
 use Rattle.std.proofs.lemmas.Bool.Decides.{nat_tests}
 use Rattle.indexmap.specs.IndexSet.{insert_key}
 use Rattle.pf_graph.specs.declared.undirected.weighed.Weighed.{Weighed}
-use Rattle.pf_graph.specs.Internal.NumberedEdges.{StandsFor, IsNumbered}
-use Rattle.pf_base.proofs.ListLemmas.{none_in, get-append}
+use Rattle.pf_graph.specs.Internal.NumberedEdges.{IsNumbered}
+use Rattle.pf_union_find.specs.Nodes.{StandsFor}
+use Rattle.pf_base.proofs.ListLemmas.{get-append}
 use Rattle.pf_graph.proofs.CarryLemmas.{StandsAlike}
-
-at_get : {A : Type 0} (P : A → Type 0) (xs : List A) (i : ℕ) (x : A) → AllByRecursion P xs → slice_get xs i ≡ Some x → P x
-at_get P [] i x a h = absurd (none_in i x h)
-at_get P (y ∷ ys) zero x a h = let e : Some y ≡ Some x = h in let f : y ≡ x = cc in subst P f a.0
-at_get P (y ∷ ys) (suc i) x a h = at_get P ys i x a.1 h
+use Rattle.pf_union_find.proofs.DistinctLemmas.{distinct_one}
 
 module _ {N : Type 0} {eq : N → N → Bool} (laws : IsEquivalence eq) where
-  pub distinct_one : (nodes : List (Bor N)) → IsDistinct (λ (p q : Bor N). eq p.now q.now) nodes → (i j : ℕ) (m n : Bor N) → slice_get nodes i ≡ Some m → slice_get nodes j ≡ Some n → eq m.now n.now ≡ true → i ≡ j
-  unfolding IsDistinct
-  distinct_one [] d i j m n a b e = absurd (none_in i m a)
-  distinct_one (k ∷ ks) d zero zero m n a b e = refl
-  distinct_one (k ∷ ks) d zero (suc j) m n a b e =
-      let f : Some k ≡ Some m = a in
-      let g : k ≡ m = cc in
-      absurd (true≢false (sym e ∙ subst (λ (z : Bor N). eq z.now n.now ≡ false) g (at_get (λ (y : Bor N). eq k.now y.now ≡ false) ks j n d.0 b)))
-  distinct_one (k ∷ ks) d (suc i) zero m n a b e =
-      let f : Some k ≡ Some n = b in
-      let g : k ≡ n = cc in
-      absurd (true≢false (sym e ∙ laws.symm m.now n.now ∙ subst (λ (z : Bor N). eq z.now m.now ≡ false) g (at_get (λ (y : Bor N). eq k.now y.now ≡ false) ks i m d.0 a)))
-  distinct_one (k ∷ ks) d (suc i) (suc j) m n a b e = ap suc (distinct_one ks d.1 i j m n a b e)
-
   -- numbers stand for nodes, and nodes have numbers
   module _ (nodes : List (Bor N)) (apart : IsDistinct (λ (p q : Bor N). eq p.now q.now) nodes) where
     pub numbers_alike : StandsAlike nat_eq eq (StandsFor eq nodes)
@@ -47,7 +30,7 @@ module _ {N : Type 0} {eq : N → N → Bool} (laws : IsEquivalence eq) where
 
     pub nodes_alike : StandsAlike eq nat_eq (λ x i. StandsFor eq nodes i x)
     nodes_alike = record {
-      across = λ x y i j a b e. eq-eqb i j (distinct_one nodes apart i j a.0 b.0 a.1 b.1 (laws.congr a.0.now x b.0.now a.2 ∙ laws.congr x y b.0.now e ∙ laws.symm y b.0.now ∙ b.2));
+      across = λ x y i j a b e. eq-eqb i j (distinct_one laws nodes apart i j a.0 b.0 a.1 b.1 (laws.congr a.0.now x b.0.now a.2 ∙ laws.congr x y b.0.now e ∙ laws.symm y b.0.now ∙ b.2));
       closed = λ x y i e a. (a.0, a.1, laws.symm a.0.now x ∙ laws.congr x y a.0.now e ∙ laws.symm y a.0.now ∙ a.2);
     }
 

@@ -1,4 +1,2 @@
-pub mod UnionFind
 pub mod NumberedEdges
 pub mod Spanning
-pub mod Components

@@ -2,7 +2,7 @@
 use Rattle.std.specs.Prelude.{◌≡◌, ◌≢◌, ◌<◌, ◌+ℤ◌, ◌↔◌, ℕ, ℤ, pos, Bool, true, List, [], ◌∷◌, ◌++◌, All, Contains, map}
 use Rattle.std.specs.declared.cmp.Ordering.{Ordering}
 use Rattle.std.specs.declared.cmp.Ordering.TheVariants.{Greater}
-use Rattle.pf_graph.specs.Joined.{Joined}
+use Rattle.pf_union_find.specs.Joined.{Joined}
 
 -- one of the edges is written from x to y
 abbrev pub Links : {N C : Type 0} → List (N × N × C) → N → N → Type 0

@@ -1,4 +1,4 @@
-//! Components and minimum spanning forests of undirected graphs.
+//! Minimum spanning forests of undirected graphs.
 #![tactic(auto)]
 
 pub mod undirected;

@@ -8,7 +8,7 @@ use Rattle.std.proofs.lemmas.Option.{slice_get_within}
 use Rattle.pf_base.specs.Edges.{InReach, IsSuccessor, IsCheapestGoalPath}
 use Rattle.pf_base.specs.Walks.{end_of, HasNoGoalWalk}
 use Rattle.pf_core.specs.declared.labels.Label.{Label}
-use Rattle.pf_core.specs.declared.tested.Tested.{Tested}
+use Rattle.pf_discovery.specs.declared.tested.Tested.{Tested}
 use Rattle.pf_core.specs.Labels.{Labels, HasLabel, IsChain}
 use Rattle.pf_core.specs.Nodes.{NodeGraph, StandsFor, IsStep}
 use Rattle.pf_core.specs.NodeLaws.{StandsFor-one, StandsFor-inside}

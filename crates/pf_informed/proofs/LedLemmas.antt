@@ -10,15 +10,15 @@ use Rattle.pf_base.specs.Answers.{AnswersGraph, AnswersTest}
 use Rattle.pf_base.specs.Edges.{InReach}
 use Rattle.pf_base.specs.NodeRefs.{HasSameNodes}
 use Rattle.pf_core.specs.declared.labels.Label.{Label}
-use Rattle.pf_core.specs.declared.source.Weighted.{Weighted}
-use Rattle.pf_core.specs.declared.tested.Tested.{Tested}
+use Rattle.pf_discovery.specs.declared.source.Weighted.{Weighted}
+use Rattle.pf_discovery.specs.declared.tested.Tested.{Tested}
 use Rattle.pf_core.specs.Labels.{Labels, HasLabel}
 use Rattle.pf_core.specs.Nodes.{NodeGraph, TestedGraph, Explores}
 use Rattle.pf_core.specs.Numbered.{Grows}
-use Rattle.pf_core.specs.Sources.{AnswersEdges}
+use Rattle.pf_discovery.specs.Sources.{AnswersEdges}
 use Rattle.pf_core.proofs.LabelLemmas.{HasLabel-inside}
 use Rattle.pf_base.proofs.ListLemmas.{none_in}
-use Rattle.pf_core.proofs.NodeLemmas.{Explores-edges}
+use Rattle.pf_discovery.proofs.SourceLemmas.{Explores-edges}
 use Rattle.pf_informed.specs.Estimates.{AnswersEstimate, IsInformedSearch}
 use Rattle.pf_informed.specs.Internal.Estimated.{IsEstimated}
 use Rattle.pf_informed.specs.Internal.Informed.{IsClosed, IsFoundFrom, IsInformed}

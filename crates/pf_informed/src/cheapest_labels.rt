@@ -19,8 +19,8 @@ use crate::turns::{begin, turn};
 use pf_base::{Cost, NodeTest, PathError};
 use pf_core::numbered::GoalGraph;
 use pf_core::slot::Slot;
-use pf_core::source::EdgeSource;
-use pf_core::tested::Tested;
+use pf_discovery::source::EdgeSource;
+use pf_discovery::tested::Tested;
 use std::alloc::Allocator;
 use std::hash::Hash;
 

@@ -7,7 +7,7 @@ ghost use Rattle.pf_informed.specs.Internal.Estimated.{IsEstimated};
 
 use crate::functions::EstimateFunction;
 use pf_base::{Cost, PathError};
-use pf_core::discovery::Nodes;
+use pf_discovery::discovery::Nodes;
 use std::alloc::Allocator;
 use std::hash::Hash;
 

@@ -17,8 +17,8 @@ use crate::search::Search;
 use pf_base::{Cost, NodeTest, PathError};
 use pf_core::labels::path_to;
 use pf_core::numbered::NumberedGraph;
-use pf_core::source::EdgeSource;
-use pf_core::tested::Tested;
+use pf_discovery::source::EdgeSource;
+use pf_discovery::tested::Tested;
 use std::alloc::Allocator;
 use std::hash::Hash;
 

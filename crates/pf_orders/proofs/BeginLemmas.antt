@@ -9,8 +9,8 @@ use Rattle.pf_base.specs.Answers.{AnswersSuccessors}
 use Rattle.pf_base.specs.NodeRefs.{HasSameNodes}
 use Rattle.pf_base.specs.Successors.{HasSuccessor}
 use Rattle.pf_base.specs.Walks.{IsReachable}
-use Rattle.pf_core.specs.Sources.{AnswersHops}
-use Rattle.pf_core.proofs.UnitLemmas.{Explores-successors}
+use Rattle.pf_discovery.specs.Sources.{AnswersHops}
+use Rattle.pf_discovery.proofs.SourceLemmas.{Explores-successors}
 use Rattle.pf_orders.specs.Internal.Beginnings.{Begins}
 
 -- with a set of the starts

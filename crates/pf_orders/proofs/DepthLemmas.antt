@@ -11,7 +11,7 @@ use Rattle.pf_core.specs.Nodes.{StandsFor, Explores}
 use Rattle.pf_core.specs.Hops.{hops_from}
 use Rattle.pf_core.specs.Numbered.{Grows, StandsBelow}
 use Rattle.pf_core.proofs.FrontierLemmas.{end_more}
-use Rattle.pf_core.proofs.LoopWalks.{last_cut, follows_cut}
+use Rattle.pf_discovery.proofs.LoopWalks.{last_cut, follows_cut}
 use Rattle.pf_base.proofs.ListLemmas.{Contains-cases, Contains-head, Contains-tail, none_in}
 use Rattle.pf_core.proofs.NodeLemmas.{eq-sym, eq-trans, StandsFor-same, follows_more}
 use Rattle.pf_core.proofs.UnitLemmas.{starts_stand, begins_all}

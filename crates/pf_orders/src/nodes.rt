@@ -8,7 +8,8 @@ ghost use Rattle.pf_orders.specs.Internal.Rounds.{AreNodesAt};
 
 use indexmap::IndexSet;
 use pf_base::PathError;
-use pf_core::discovery::{Nodes, clones_at};
+use pf_core::clones::clones_at;
+use pf_discovery::discovery::Nodes;
 use std::alloc::Allocator;
 use std::hash::Hash;
 

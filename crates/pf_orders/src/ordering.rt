@@ -5,8 +5,7 @@ ghost use Rattle.std.specs.List.{AllZip};
 ghost use Rattle.pf_core.specs.Numbered.{Grows};
 ghost use Rattle.pf_orders.specs.Internal.Orderings.{entries, IsBegun, IsOrderedReach, IsOnNumberedCycle};
 
-use pf_base::PathError;
-use pf_base::utils::Tally;
+use pf_base::{PathError, Tally};
 use pf_core::numbered::NumberedGraph;
 use std::alloc::Allocator;
 

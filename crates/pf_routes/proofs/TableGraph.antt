@@ -7,11 +7,11 @@ use Rattle.pf_base.specs.Walks.{HasNoGoalWalk}
 use Rattle.pf_base.specs.Edges.{IsSuccessor, IsCheapestGoalPath, CostOverflows}
 use Rattle.pf_base.specs.Successors.{IsFewestEdgesGoalPath}
 use Rattle.pf_tables.specs.Graphs.{filled, edges_at, graph_of}
-use Rattle.pf_tables.proofs.ExploreLemmas.{edges_within}
 use Rattle.pf_routes.specs.Internal.Numbers.{edges_of}
 use Rattle.pf_routes.proofs.Costless.{targets_of, Leads, answer_costed}
 use Rattle.pf_routes.proofs.Naming.{AllTargets, IsNaming, none_named, best_named, fewest_named, past_named}
 use borrow.Author.Tests.{eqb-true}
+use Rattle.pf_tables.proofs.GraphLemmas.{edges_within}
 
 same_edges : (row : List (ℕ × ℕ)) → map (λ (e : ℕ × ℤ). (e.0, e.1)) (edges_at pos (filled row)) ≡ edges_of row
 same_edges [] = refl

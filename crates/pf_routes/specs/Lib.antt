@@ -3,7 +3,7 @@ pub use Rattle.pf_base.specs.Edges
 pub use Rattle.pf_base.specs.Successors
 pub use Rattle.pf_yen.specs.CleanPaths
 pub use Rattle.pf_yen.specs.KCheapest
-pub use Rattle.pf_graph.specs.Joined
+pub use Rattle.pf_union_find.specs.Joined
 pub use Rattle.pf_graph.specs.Spanning
 pub use Rattle.pf_flow.specs.Flows
 pub use Rattle.pf_flow.specs.Networks

@@ -14,13 +14,14 @@ use Rattle.pf_base.proofs.Callers.{SameNodes-refl}
 use Rattle.pf_core.specs.Hops.{unit_edges}
 use Rattle.pf_core.specs.Numbered.{Grows, NumbersInOrder}
 use Rattle.pf_core.specs.NodeLaws.{StandsFor-one}
-use Rattle.pf_core.specs.Sources.{AnswersHops}
+use Rattle.pf_discovery.specs.Sources.{AnswersHops}
 use Rattle.pf_base.specs.Edges.{targets}
 use Rattle.pf_core.specs.Nodes.{NodeGraph, StandsFor, Explores}
 use Rattle.pf_base.proofs.ListLemmas.{take_get, get_take, bool_dec}
 use Rattle.pf_core.proofs.NodeLemmas.{eq-sym, eq-trans}
 use Rattle.pf_core.proofs.OrderLemmas.{Same-trans}
-use Rattle.pf_core.proofs.UnitLemmas.{ends_unit, reach_edges, Explores-successors, Explores-next}
+use Rattle.pf_core.proofs.UnitLemmas.{ends_unit, reach_edges}
+use Rattle.pf_discovery.proofs.SourceLemmas.{Explores-successors, Explores-next}
 use Rattle.pf_search.specs.Breadth.{BreadthWalk, IsBreadthWalk, BreadthStep}
 use Rattle.pf_search.specs.Internal.Breadth.{BreadthTurn, walk_at, found_or, IsPlace}
 use Rattle.pf_search.proofs.BreadthLemmas.{take_more, take_take, at_node, any_at, place_of, Same-append, Same-length, Same-take, Same-drop, Same-get, Same-places, Same-sym, Same-insert_all, found-push, IsReached, found_reached, given_reached, found_same, order_push, order_same}

@@ -13,7 +13,7 @@ use Rattle.pf_core.specs.declared.labels.Label.{Label}
 use Rattle.pf_core.specs.Labels.{Labels, HasLabel, by_cost, IsTree, AllSettled}
 use Rattle.pf_core.specs.Numbered.{Grows}
 use Rattle.pf_core.specs.Steps.{IsNonNegative}
-use Rattle.pf_core.specs.Sources.{AnswersEdges}
+use Rattle.pf_discovery.specs.Sources.{AnswersEdges}
 use Rattle.pf_core.specs.Nodes.{NodeGraph, StandsFor, IsStep, Explores}
 use Rattle.pf_core.specs.NodeLaws.{StandsFor-one, StandsFor-inside}
 use Rattle.pf_core.specs.Search.{IsLeast, IsFirst, IsSearch, Turned, StandsRoot, StepOverflows, IsWithinRange, SettledAt, WaitingAt}

@@ -13,17 +13,17 @@ use Rattle.pf_base.specs.Answers.{SameNodes}
 use Rattle.pf_base.specs.declared.error.PathError.{PathError}
 use Rattle.pf_base.proofs.Callers.{SameNodes-refl}
 use Rattle.pf_base.specs.Orders.{found_from, last_nodes, IsNextPath, IsNextTreePath, IsPreorder, IsWholePreorder}
-use Rattle.pf_core.specs.declared.depth_first.Branch.{Branch}
-use Rattle.pf_core.specs.DepthFirst.{IsVisited, IsNextBranch, branches_at, AreVisited, IsPending}
+use Rattle.pf_discovery.specs.declared.depth_first.Branch.{Branch}
+use Rattle.pf_discovery.specs.DepthFirst.{IsVisited, IsNextBranch, branches_at, AreVisited, IsPending}
 use Rattle.pf_core.specs.NodeLaws.{StandsFor-inside, StandsFor-one}
 use Rattle.pf_core.specs.Numbered.{Grows, NumbersInOrder}
 use Rattle.pf_base.specs.Edges.{targets}
 use Rattle.pf_core.specs.Nodes.{StandsFor, Explores}
-use Rattle.pf_core.specs.Sources.{AnswersHops}
+use Rattle.pf_discovery.specs.Sources.{AnswersHops}
 use Rattle.pf_core.specs.Hops.{unit_edges}
-use Rattle.pf_core.proofs.DepthFirstLemmas.{IsSpent, drop_passed, all_spent, way_on, visit_pending, pending_stays, cut_path}
+use Rattle.pf_discovery.proofs.DepthFirstLemmas.{IsSpent, drop_passed, all_spent, way_on, visit_pending, pending_stays, cut_path}
 use Rattle.pf_core.proofs.NodeLemmas.{eq-sym, eq-trans, StandsFor-same}
-use Rattle.pf_core.proofs.UnitLemmas.{Explores-successors}
+use Rattle.pf_discovery.proofs.SourceLemmas.{Explores-successors}
 use Rattle.pf_base.proofs.ListLemmas.{AllZip-append}
 use Rattle.pf_core.proofs.PathLemmas.{AllZip-map, HasNode-append_cases}
 use Rattle.pf_core.proofs.OrderLemmas.{Same-trans}

@@ -1,5 +1,3 @@
-pub mod ResultLemmas
-pub mod StillLemmas
 pub mod LawLemmas
 pub mod SimplePaths
 pub mod BreadthLemmas
@@ -7,10 +5,6 @@ pub mod BreadthSteps
 pub mod BreadthLaws
 pub mod GivenLemmas
 pub mod CheapestLemmas
-pub mod BothEndsLemmas
-pub mod BothEndsPaths
-pub mod BothEndsTurns
-pub mod BothEndsChains
 pub mod PreorderLemmas
 pub mod DepthWalkLemmas
 pub mod PreorderPaths

@@ -6,7 +6,7 @@ use Rattle.pf_base.specs.Answers.{SameNodes}
 use Rattle.pf_base.specs.Edges.{InReach, StepCosts, HasNoNegativeCost, NoGoalWalkCostsLess, IsCheapestGoalPath}
 use Rattle.pf_core.specs.Labels.{by_cost}
 use Rattle.pf_core.specs.Nodes.{StandsFor, IsStep, Explores}
-use Rattle.pf_core.specs.Sources.{AnswersEdges}
+use Rattle.pf_discovery.specs.Sources.{AnswersEdges}
 use Rattle.pf_core.specs.Search.{IsSearch}
 use Rattle.pf_search.specs.declared.directed.dijkstra_reach.DijkstraReachableItem.{DijkstraReachableItem}
 use Rattle.pf_search.specs.Internal.CheapestSearch.{CheapestSearch, IsBarredSearch, KeepsSearch, cheapest_search_code, given_of}

@@ -8,7 +8,7 @@ use Rattle.pf_base.specs.Orders.{found_from, last_nodes, IsNextTreePath, IsPreor
 use Rattle.pf_base.specs.Walks.{end_of}
 use Rattle.pf_core.specs.Hops.{unit_edges}
 use Rattle.pf_core.specs.Nodes.{Explores}
-use Rattle.pf_core.specs.Sources.{AnswersHops}
+use Rattle.pf_discovery.specs.Sources.{AnswersHops}
 use Rattle.pf_search.specs.Internal.DepthStack.{DepthStack, stack_code, IsStack}
 
 -- what a caller sees of a walk: the nodes given so far, in order; the nodes found (the start, and each successor of a given node), in the order in which they were found; whether the last step was refused; the function that lists successors; and where the walk stands in its tree path, of which a caller need know nothing

@@ -4,8 +4,6 @@ pub mod Breadth
 pub mod Depth
 pub mod DepthStack
 pub mod Partial
-pub mod BothEnds
-pub mod Hops
 pub mod Begun
 pub mod CheapestSearch
 pub mod CheapestTurns

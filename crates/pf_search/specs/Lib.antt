@@ -5,5 +5,4 @@ pub mod Laws
 pub mod Breadth
 pub mod CheapestFirst
 pub mod Parents
-pub mod BothEnds
 pub mod Internal

@@ -5,9 +5,10 @@ ghost use Rattle.pf_base.specs.Loops.{IsBestLoopOrNone};
 ghost use Rattle.pf_base.specs.Successors.{IsFewestEdgesOrNone};
 ghost use Rattle.pf_state_spaces.specs.StateSpaces.{successors_by};
 
-use pf_base::{Cost, NodeRefs, PathError};
+use pf_base::{Cost, PathError};
 use pf_state_spaces::moves::successors_of;
 use pf_state_spaces::{Exact, StateGoal, StateSpace};
+use pf_utils::NodeRefs;
 use std::alloc::Allocator;
 use std::hash::Hash;
 

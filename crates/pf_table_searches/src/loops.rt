@@ -4,9 +4,10 @@ ghost use Rattle.std.specs.Prelude.{◌≡◌, IfOk, IfErr, MatchOption, nat_eq}
 ghost use Rattle.pf_base.specs.Loops.{HasNoLoop, IsBestLoop};
 ghost use Rattle.pf_tables.specs.Graphs.{successors_of};
 
-use pf_base::{Cost, NodeRefs, PathError};
+use pf_base::{Cost, PathError};
 use pf_table_functions::edges::ends_of;
 use pf_tables::Graph;
+use pf_utils::NodeRefs;
 use std::alloc::Allocator;
 
 /// A walk of at least one step, with fewest edges, from one of the `starts` to one of them, or `None`

@@ -2,14 +2,7 @@ pub mod Parts
 pub mod Faulty
 pub mod RowLemmas
 pub mod OffsetLemmas
-pub mod BoardLemmas
 pub mod GraphLemmas
-pub mod IndexLemmas
+pub mod PresentLemmas
 pub mod Alone
-pub mod ExploreLemmas
 pub mod OwnLemmas
-pub mod LayoutLemmas
-pub mod NumberedNames
-pub mod EdgeListLemmas
-pub mod NameWalks
-pub mod NamedGraph

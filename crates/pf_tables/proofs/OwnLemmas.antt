@@ -14,10 +14,9 @@ use Rattle.pf_core.specs.Steps.{GoesAlong, NoGoal, IsBestNumbered, NumberedOverf
 use Rattle.pf_base.proofs.ListLemmas.{Contains-head, Contains-tail, Contains-cases}
 use Rattle.pf_core.proofs.NodeLemmas.{InReach-start, InReach-more}
 use Rattle.pf_core.proofs.WalkLemmas.{all_starts, only_starts, no_walk, best_answer, cost_overflows}
-use Rattle.pf_tables.specs.Graphs.{IsGraph, edges_at}
-use Rattle.pf_tables.specs.Internal.Numbering.{IsOwn, present}
-use Rattle.pf_tables.proofs.GraphLemmas.{edge_inside}
-use Rattle.pf_tables.proofs.ExploreLemmas.{nat_alike, edges_within}
+use Rattle.pf_tables.specs.Graphs.{IsGraph, edges_at, present}
+use Rattle.pf_tables.proofs.GraphLemmas.{edge_inside, nat_alike, edges_within}
+use Rattle.pf_tables.specs.Internal.OwnNumbers.{IsOwn}
 
 -- ---- what stands at the places of a node
 

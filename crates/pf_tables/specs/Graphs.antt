@@ -11,6 +11,12 @@ pub record IsGraph {C : Type 0} (value : C → ℤ) (size : ℕ) (places : ℕ �
   pub inside : (node place : ℕ) (edge : ℕ × C) → node < size → HasEdgeAt (places node) place edge → edge.0 < size
   pub from_zero : (node place : ℕ) (edge : ℕ × C) → node < size → HasEdgeAt (places node) place edge → pos 0 ≤ℤ value edge.1
 
+-- what stands at places
+abbrev pub present : {E : Type 0} → List (Option E) → List E
+present [] = []
+present (None ∷ places) = present places
+present (Some edge ∷ places) = edge ∷ present places
+
 -- the edges at the places, in order, each with the whole number that it costs
 abbrev pub edges_at : {C : Type 0} → (C → ℤ) → List (Option (ℕ × C)) → List (ℕ × ℤ)
 edges_at value [] = []

@@ -1,6 +1,5 @@
 -- What only private functions cite.
 pub mod CostlessLaws
-pub mod Layouts
-pub mod Numbering
+pub mod OwnNumbers
 pub mod OwnLaws
 pub mod SoundRows

@@ -6,10 +6,9 @@ ghost use Rattle.pf_tables.specs.Graphs.{graph_of};
 
 use crate::goals::Goals;
 use crate::graph::Graph;
-use crate::numbering::alone;
 use crate::own_numbers::OwnNumbers;
-use pf_base::utils::Tally;
-use pf_base::{Cost, PathError};
+use pf_base::filled::alone;
+use pf_base::{Cost, PathError, Tally};
 use pf_core::dijkstra::cheapest_path;
 use std::alloc::Allocator;
 

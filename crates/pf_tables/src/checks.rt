@@ -7,13 +7,7 @@ ghost use Rattle.pf_tables.specs.Faults.{IsSound, IsSoundRow, IsFaultAt, IsFirst
 use crate::error::TableError;
 use crate::row::Row;
 use pf_base::Cost;
-
-/// Is the cost below 0?
-pub fn is_negative<C: Cost>(cost: C) -> bool
-    ensures { MatchBool result (C.value cost <ℤ pos 0) (pos 0 ≤ℤ C.value cost) }
-{
-    cost < C::zero()
-}
+use pf_base::cost::arithmetic::is_negative;
 
 /// Tests whether an edge leads to a node below `size` and costs no less than 0.
 fn check_edge<C: Cost>(

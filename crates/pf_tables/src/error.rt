@@ -1,9 +1,5 @@
 //! Why a table was refused.
 
-ghost use Rattle.std.specs.Prelude.{◌≡◌};
-ghost use Rattle.pf_tables.specs.declared.error.EdgeListError.TheVariants.{OutOfMemory};
-
-use std::alloc::{AllocError, AllocFailed};
 use thiserror::Error;
 
 /// Why a table is no graph. Nodes, places, offsets and cells are counted from 0.
@@ -30,31 +26,4 @@ pub enum TableError {
     /// To enter the cell of this number costs less than 0.
     #[error("to enter cell {cell} costs less than 0")]
     NegativeCell { cell: usize },
-}
-
-/// Why a list of edges between names is no graph. Edges are counted from 0.
-#[derive(Clone, Copy, Debug, PartialEq, Eq, Error)]
-pub enum EdgeListError {
-    /// A request for memory was refused.
-    #[error("out of memory")]
-    OutOfMemory,
-    /// The edge of this number costs less than 0.
-    #[error("edge {edge} costs less than 0")]
-    NegativeCost { edge: usize },
-}
-
-impl From<AllocError> for EdgeListError {
-    ghost from_gives = { λ _ e. e ≡ OutOfMemory };
-
-    fn from(_e: AllocError) -> EdgeListError {
-        EdgeListError::OutOfMemory
-    }
-}
-
-impl<T: Drop> From<AllocFailed<T>> for EdgeListError {
-    ghost from_gives = { λ _ e. e ≡ OutOfMemory };
-
-    fn from(_e: AllocFailed<T>) -> EdgeListError {
-        EdgeListError::OutOfMemory
-    }
 }

@@ -3,8 +3,9 @@
 ghost use Rattle.std.specs.Prelude.{◌≡◌, ◌<◌, ℕ, [], OnOk, IfErr, nat_eq};
 ghost use Rattle.pf_base.specs.Edges.{HasEdge, targets};
 ghost use Rattle.pf_core.specs.Nodes.{TestedGraph};
-ghost use Rattle.pf_tables.specs.Internal.Numbering.{IsOwn, IsTable, present};
 ghost use Rattle.pf_tables.specs.Internal.OwnLaws.{own_one};
+ghost use Rattle.pf_tables.specs.Internal.OwnNumbers.{IsOwn, IsTable};
+ghost use Rattle.pf_tables.specs.Graphs.{present};
 
 use crate::goals::Goals;
 use crate::graph::Graph;

@@ -14,10 +14,10 @@ use Rattle.pf_base.specs.Answers.{ListsEdges}
 use Rattle.pf_base.specs.Edges.{InReach, IsWeightedSearch}
 use Rattle.pf_base.specs.NodeRefs.{HasSameNodes}
 use Rattle.pf_core.specs.Nodes.{NodeGraph, StandsFor, IsStep, Explores}
-use Rattle.pf_core.specs.Sources.{AnswersEdges}
+use Rattle.pf_discovery.specs.Sources.{AnswersEdges}
 use Rattle.pf_core.specs.NodeLaws.{StandsFor-one, StandsFor-inside}
 use Rattle.pf_base.proofs.ListLemmas.{bool_dec, Contains-cases, Contains-head}
-use Rattle.pf_core.proofs.NodeLemmas.{Explores-edges}
+use Rattle.pf_discovery.proofs.SourceLemmas.{Explores-edges}
 use Rattle.pf_core.proofs.WalkLemmas.{no_negative}
 use Rattle.pf_yen.specs.Internal.Adjacency.{AdjacencyLists, row_of, AdjacencyStep, is_goal}
 use Rattle.pf_yen.specs.Internal.WholeGraphs.{IsWhole}

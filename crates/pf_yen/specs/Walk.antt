@@ -4,7 +4,7 @@ use Rattle.std.specs.Coded.{Coded, code_by, coded×, coded_bool, coded_list}
 use Rattle.pf_base.specs.declared.error.PathError.{PathError}
 use Rattle.pf_base.specs.Edges.{HasNoNegativeCost, InReach}
 use Rattle.pf_core.specs.Nodes.{Explores}
-use Rattle.pf_core.specs.Sources.{AnswersEdges}
+use Rattle.pf_discovery.specs.Sources.{AnswersEdges}
 use Rattle.pf_yen.specs.CleanPaths.{AllGiven, IsNextPath, RefusedFor}
 use Rattle.pf_yen.specs.Counting.{most_paths}
 use Rattle.pf_yen.specs.Internal.PathPlans.{PathPlans, path_plans_code}

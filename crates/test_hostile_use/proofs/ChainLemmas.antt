@@ -13,7 +13,7 @@ use Rattle.pf_base.proofs.Reach.{nat_reach_keeps}
 use Rattle.pf_base.proofs.Tables.{successors_keep}
 use Rattle.pf_informed.specs.Estimates.{IsAdmissible}
 use Rattle.pf_informed.proofs.Callers.{consistent}
-use Rattle.pf_search.specs.BothEnds.{IsCostMirror}
+use Rattle.pf_both_ends.specs.BothEnds.{IsCostMirror}
 use Rattle.test_hostile_use.specs.Chains.{next_lower, next_higher}
 
 -- the edge from each number, at cost 1

@@ -7,10 +7,10 @@ ghost use Rattle.test_hostile_use.specs.Chains.{next_lower, next_higher};
 use crate::cheapest::{CostCall, Found, cheapest};
 use crate::cycles::{Cycles, cycles_by};
 use crate::plain::{Lists, PlainCall, plain};
-use pf_base::{NodeRefs, PathError};
-use pf_graph::undirected::connected_components::{SetIn, connected_components};
-use pf_search::directed::bfs::bfs_bidirectional;
-use pf_search::directed::dijkstra::dijkstra_bidirectional;
+use pf_base::PathError;
+use pf_both_ends::{bfs_bidirectional, dijkstra_bidirectional};
+use pf_components::connected_components::{SetIn, connected_components};
+use pf_utils::NodeRefs;
 use std::alloc::Global;
 
 /// The number after a number, where `back` comes after 0.

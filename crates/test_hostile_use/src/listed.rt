@@ -5,11 +5,11 @@ ghost use Rattle.std.specs.Prelude.{◌≤ℤ◌, All, IsTrue, pos};
 use crate::cheapest::{CostCall, Found, cheapest};
 use crate::letter::Letter;
 use crate::plain::{Lists, PlainCall, plain};
-use pf_base::{Cost, NodeRefs, PathError};
-use pf_graph::undirected::connected_components::{SetIn, connected_components};
+use pf_base::{Cost, PathError};
+use pf_both_ends::{bfs_bidirectional, dijkstra_bidirectional};
+use pf_components::connected_components::{SetIn, connected_components};
 use pf_orders::directed::topological_sort::topological_sort_into_groups;
-use pf_search::directed::bfs::bfs_bidirectional;
-use pf_search::directed::dijkstra::dijkstra_bidirectional;
+use pf_utils::NodeRefs;
 use std::alloc::Global;
 use test_edge_lists::{edges_from, edges_to, nodes_after, nodes_before};
 

@@ -1,8 +1,8 @@
 //! A caller of `bfs_bidirectional` over a list of edges (from, to).
 
 use crate::fewest::{Found, Heap};
-use pf_base::NodeRefs;
-use pf_search::directed::bfs::bfs_bidirectional;
+use pf_both_ends::bfs_bidirectional;
+use pf_utils::NodeRefs;
 use test_edge_lists::{nodes_after, nodes_before};
 
 /// A path with fewest edges from one of the starts to one of the ends.

@@ -8,9 +8,10 @@ ghost use Rattle.pf_base.specs.Successors.{IsFewestEdgesOrNone};
 ghost use Rattle.test_searches.specs.Compact.{IsCompact, IsNode, edges_in, nodes_in, row_of};
 
 use num_traits::Number;
-use pf_base::{NodeRefs, PathError};
+use pf_base::PathError;
 use pf_search::directed::bfs::bfs;
 use pf_search::directed::dijkstra::dijkstra;
+use pf_utils::NodeRefs;
 use std::alloc::Global;
 
 /// Whether no offset is above the next one, nor above `end`.

@@ -6,10 +6,10 @@ ghost use Rattle.pf_base.specs.Successors.{IsFewestEdgesOrNone};
 ghost use Rattle.test_searches.specs.Grid.{cells_from, entered, entered_cell, same_cell, steps_from};
 
 use num_traits::Number;
-use pf_base::utils::move_in_direction;
-use pf_base::{NodeRefs, PathError};
+use pf_base::PathError;
 use pf_search::directed::bfs::bfs;
 use pf_search::directed::dijkstra::dijkstra;
+use pf_utils::{NodeRefs, move_in_direction};
 use std::alloc::Global;
 
 /// The cell that a step leads to, with its height, where it is on the board and at most as high as

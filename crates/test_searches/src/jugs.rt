@@ -5,9 +5,10 @@ ghost use Rattle.pf_base.specs.Successors.{IsFewestEdgesOrNone};
 ghost use Rattle.test_searches.specs.Moves.{moves_from};
 
 #[cfg(test)]
-use pf_base::{NodeRefs, PathError};
+use pf_base::PathError;
 #[cfg(test)]
 use pf_search::directed::bfs::bfs;
+use pf_utils::NodeRefs;
 #[cfg(test)]
 use std::alloc::Global;
 

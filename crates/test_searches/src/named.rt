@@ -4,10 +4,10 @@ ghost use Rattle.std.specs.Prelude.{◌≡◌, ◌⊎◌, ◌∷◌, [], pos, If
 ghost use Rattle.pf_base.specs.Edges.{IsSuccessor, IsCheapestGoalPath};
 ghost use Rattle.pf_base.specs.NodeRefs.{nodes_of};
 ghost use Rattle.pf_base.specs.Walks.{HasNoGoalWalk};
-ghost use Rattle.pf_tables.specs.EdgeLists.{edges_from};
+ghost use Rattle.pf_edge_lists.specs.EdgeLists.{edges_from};
 
 use pf_base::PathError;
-use pf_tables::EdgeList;
+use pf_edge_lists::EdgeList;
 use std::alloc::Allocator;
 use std::hash::Hash;
 

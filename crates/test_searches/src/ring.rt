@@ -9,7 +9,8 @@ ghost use Rattle.test_searches.specs.Rings.{ring_edges, ring_places};
 
 use num_traits::Number;
 use pf_base::{Cost, PathError};
-use pf_tables::{CompactRows, Costless, Graph, bfs, dijkstra};
+use pf_table_breadth::bfs;
+use pf_tables::{CompactRows, Costless, Graph, dijkstra};
 use std::alloc::Global;
 
 /// A ring of nodes: each leads to the next one at cost 1, and the last one to the node 0.

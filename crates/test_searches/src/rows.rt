@@ -6,9 +6,10 @@ ghost use Rattle.pf_base.specs.Successors.{IsFewestEdgesOrNone};
 ghost use Rattle.test_searches.specs.Rows.{edges_of, nodes_after};
 
 use num_traits::Number;
-use pf_base::{NodeRefs, PathError};
+use pf_base::PathError;
 use pf_search::directed::bfs::bfs;
 use pf_search::directed::dijkstra::dijkstra;
+use pf_utils::NodeRefs;
 use std::alloc::Global;
 
 /// Whether each edge of a row leads below `bound`.

@@ -9,8 +9,7 @@ use crate::kuhn_munkres::tree::Tree;
 use crate::kuhn_munkres::weights::Weights;
 use pf_base::cost::arithmetic::plus;
 use pf_base::filled::filled;
-use pf_base::utils::Tally;
-use pf_base::{Cost, PathError, SignedCost};
+use pf_base::{Cost, PathError, SignedCost, Tally};
 use std::alloc::Allocator;
 
 /// The rows that were matched so far, one after another, and potentials of rows and columns. The

@@ -7,8 +7,7 @@ use crate::kuhn_munkres::matching::Matching;
 use crate::kuhn_munkres::weights::Weights;
 use pf_base::cost::arithmetic::{is_below, plus};
 use pf_base::filled::filled;
-use pf_base::utils::Tally;
-use pf_base::{Cost, PathError, SignedCost};
+use pf_base::{Cost, PathError, SignedCost, Tally};
 use std::alloc::Allocator;
 
 /// Shortest alternating paths from the row that is matched next, its root, to all columns.

@@ -1,6 +1,6 @@
 //! Sums and comparisons of costs.
 
-ghost use Rattle.std.specs.Prelude.{◌≡◌, ◌⊎◌, ◌+ℤ◌, ◌≤ℤ◌, ◌<ℤ◌, MatchBool};
+ghost use Rattle.std.specs.Prelude.{◌≡◌, ◌⊎◌, ◌+ℤ◌, ◌≤ℤ◌, ◌<ℤ◌, pos, MatchBool};
 
 use crate::cost::Cost;
 
@@ -17,6 +17,13 @@ pub fn is_below<C: Cost>(left: C, right: C) -> bool
     ensures { MatchBool result (C.value left <ℤ C.value right) (C.value right ≤ℤ C.value left) }
 {
     left < right
+}
+
+/// Is the cost below 0?
+pub fn is_negative<C: Cost>(cost: C) -> bool
+    ensures { MatchBool result (C.value cost <ℤ pos 0) (pos 0 ≤ℤ C.value cost) }
+{
+    cost < C::zero()
 }
 
 /// The lesser of two costs.

@@ -7,11 +7,10 @@ use crate::error::BenchError;
 use crate::inputs::{Board, Cell, HIGHEST, START, distance};
 use crate::repeats::{Outcome, Repeats};
 use pf_base::PathError;
+use pf_both_ends::dijkstra_bidirectional;
 use pf_informed::directed::astar::{AstarSolution, astar, astar_bag};
 use pf_informed::directed::fringe::fringe;
-use pf_search::directed::dijkstra::{
-    dijkstra, dijkstra_all, dijkstra_bidirectional, dijkstra_reach,
-};
+use pf_search::directed::dijkstra::{dijkstra, dijkstra_all, dijkstra_reach};
 use std::alloc::Global;
 
 /// How many cheapest paths are looked at.

@@ -6,10 +6,11 @@ use crate::checks::{cost_of, edges_of, map_costs_of, walk_costs_of};
 use crate::error::BenchError;
 use crate::inputs::Rows;
 use crate::repeats::{Outcome, Repeats};
-use pf_base::{NodeRefs, PathError};
+use pf_base::PathError;
 use pf_search::directed::bfs::bfs_loop;
 use pf_search::directed::dfs::dfs;
 use pf_search::directed::dijkstra::{dijkstra, dijkstra_all, dijkstra_reach};
+use pf_utils::NodeRefs;
 use pf_yen::directed::yen::yen;
 use std::alloc::Global;
 

@@ -5,10 +5,11 @@ ghost use Rattle.std.specs.Prelude.{◌<◌};
 use crate::checks::{edges_of, nodes_of};
 use crate::inputs::{Board, Cell, HIGHEST, START};
 use crate::repeats::{Outcome, Repeats};
-use pf_base::NodeRefs;
-use pf_search::directed::bfs::{bfs, bfs_bidirectional, bfs_reach};
+use pf_both_ends::bfs_bidirectional;
+use pf_search::directed::bfs::{bfs, bfs_reach};
 use pf_search::directed::dfs::dfs_reach;
 use pf_search::directed::iddfs::iddfs;
+use pf_utils::NodeRefs;
 use std::alloc::Global;
 
 /// A search on a board whose steps have no costs.

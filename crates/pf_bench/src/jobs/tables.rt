@@ -5,7 +5,9 @@ ghost use Rattle.std.specs.Prelude.{◌<◌};
 use crate::checks::{cost_of, edges_of};
 use crate::inputs::{Board, HIGHEST, Rows};
 use crate::repeats::{Outcome, Repeats};
-use pf_tables::{CompactRows, Steps, bfs, dijkstra};
+use pf_boards::Steps;
+use pf_table_breadth::bfs;
+use pf_tables::{CompactRows, dijkstra};
 use std::alloc::Global;
 
 /// A search over a table.
@@ -33,7 +35,7 @@ fn board(alloc: Global, size: usize, is_bfs: bool, repeats: &Repeats) -> Outcome
     requires { 0 < size }
 {
     let cells = Board::random(alloc, size, HIGHEST)?.into_cells(alloc)?;
-    let graph = pf_tables::Board::new(size, size, &cells, Steps::Four)?;
+    let graph = pf_boards::Board::new(size, size, &cells, Steps::Four)?;
     let last = graph.number_of(size - 1, size - 1);
     repeats.check(|is_last| {
         if is_bfs {

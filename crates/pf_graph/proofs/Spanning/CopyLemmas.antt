@@ -12,7 +12,7 @@ use Rattle.std.specs.Cmp.{IsTotalOrder, Equal-is}
 use Rattle.pf_base.specs.Answers.{IsLawfulClone}
 use Rattle.pf_graph.specs.Spanning.{AreBelow, AreChosenFrom, LinksUnder, IsLeastUnderEveryBound}
 use Rattle.pf_graph.specs.Internal.Spanning.SpanningSteps.{HoldsCopies}
-use Rattle.pf_graph.proofs.JoinedLemmas.{Joined-more}
+use Rattle.pf_union_find.proofs.JoinedLemmas.{Joined-more}
 use Rattle.pf_graph.proofs.Spanning.OrderLemmas.{le_equal}
 
 module _ {N C : Type 0} (is_clone : C → C → Type 0) where

@@ -4,9 +4,9 @@ use Rattle.std.specs.Prelude.{Contains}
 use Rattle.std.specs.Cmp.{IsEquivalence}
 use Rattle.std.proofs.lemmas.List.{append-nil, append_assoc}
 use Rattle.std.proofs.lemmas.List.Elements.{Contains-append_left, Contains-append_right, Contains-push_cases, Contains-append_cases}
-use Rattle.pf_graph.specs.Joined.{linked, back, chain}
+use Rattle.pf_union_find.specs.Joined.{linked, back, chain}
 use Rattle.pf_graph.specs.Spanning.{Links, JoinedBy, IsForest}
-use Rattle.pf_graph.proofs.JoinedLemmas.{Joined-more, Joined-split}
+use Rattle.pf_union_find.proofs.JoinedLemmas.{Joined-more, Joined-split}
 
 -- an element of a list with one more at its end is in the list or is that one
 pub split_push : {E : Type 0} (xs before after : List E) (x e : E) → xs ++ x ∷ [] ≡ before ++ e ∷ after

@@ -8,7 +8,7 @@ use Rattle.std.proofs.lemmas.List.Sorted.{Contains-permutation, IsPermutation-sy
 use Rattle.std.proofs.lemmas.Bool.{cases_Bool}
 use Rattle.pf_graph.specs.declared.undirected.steps.Step.{Step}
 use Rattle.pf_graph.specs.Internal.Spanning.Frontier.{step_order, IsMarked, HasStep, WaitsSave, Waits, Gains, TakesLeast, waiting}
-use Rattle.pf_graph.proofs.ListLemmas.{contains_here, contains_later, contains_cons}
+use Rattle.pf_union_find.proofs.ListLemmas.{contains_here, contains_later, contains_cons}
 use Rattle.pf_base.proofs.ListLemmas.{get_set, get_within, none_in}
 
 -- a number has one mark

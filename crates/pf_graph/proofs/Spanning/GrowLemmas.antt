@@ -10,12 +10,13 @@ use Rattle.std.proofs.lemmas.List.Elements.{Contains-push_cases}
 use Rattle.std.proofs.lemmas.Option.{slice_get_within}
 use Rattle.pf_base.specs.Answers.{IsLawfulClone}
 use Rattle.pf_graph.specs.declared.undirected.steps.Step.{Step}
-use Rattle.pf_graph.specs.Internal.NumberedEdges.{StandsFor}
+use Rattle.pf_union_find.specs.Nodes.{StandsFor}
 use Rattle.pf_graph.specs.GrownTree.{RunsBetween, edge_order, Covers, LeavesByLeast, GrowsByLeast, AreChosenEitherWay}
 use Rattle.pf_graph.specs.Internal.Spanning.Frontier.{step_order, IsMarked, HasStep, Leads, AreRows, Waits, TakesLeast, NoneLeaves, IsGrown, waiting}
 use Rattle.pf_base.proofs.ListLemmas.{get_set}
 use Rattle.pf_graph.proofs.Spanning.ForestLemmas.{split_push}
-use Rattle.pf_graph.proofs.NumberLemmas.{numbers_alike, distinct_one}
+use Rattle.pf_graph.proofs.NumberLemmas.{numbers_alike}
+use Rattle.pf_union_find.proofs.DistinctLemmas.{distinct_one}
 use Rattle.pf_graph.proofs.Spanning.TreeLemmas.{Covers-kept, Covers-push, Covers-push_cases}
 use Rattle.pf_graph.proofs.Spanning.FrontierLemmas.{one_mark, mark_of}
 

@@ -11,10 +11,10 @@ use Rattle.std.proofs.lemmas.List.Sorted.{sorted_far, ranks_by}
 use Rattle.std.proofs.lemmas.List.Kept.{IsSortedBy-push}
 use Rattle.std.proofs.lemmas.List.Elements.{Contains-append_left, Contains-push, Contains-push_cases, Contains-get_or}
 use Rattle.std.proofs.lemmas.Bool.{eqb-true}
-use Rattle.pf_graph.specs.Internal.UnionFind.{IsLabelling, Merges}
-use Rattle.pf_graph.specs.Joined.{same, linked, back, chain}
+use Rattle.pf_union_find.specs.UnionFind.{IsLabelling, Merges}
+use Rattle.pf_union_find.specs.Joined.{same, linked, back, chain}
 use Rattle.pf_graph.specs.Spanning.{Links, LinksUnder, JoinedBy, JoinedUnder, IsForest}
-use Rattle.pf_graph.proofs.JoinedLemmas.{Joined-by, Joined-more, Joined-split}
+use Rattle.pf_union_find.proofs.JoinedLemmas.{Joined-by, Joined-more, Joined-split}
 use Rattle.pf_graph.proofs.Spanning.ForestLemmas.{link_of, Links-push, JoinedBy-more, IsForest-nil, IsForest-push}
 use Rattle.pf_graph.proofs.Spanning.OrderLemmas.{le_trans, not_below, at_most}
 

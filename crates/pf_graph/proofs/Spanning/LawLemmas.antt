@@ -8,10 +8,10 @@ use Rattle.std.proofs.lemmas.Int.{ints}
 use Rattle.std.proofs.lemmas.Cmp.{int_ranked}
 use Rattle.std.proofs.lemmas.List.{append-nil}
 use Rattle.std.proofs.lemmas.Bool.{cases_Bool}
-use Rattle.pf_graph.specs.Joined.{same, linked, back, chain}
+use Rattle.pf_union_find.specs.Joined.{same, linked, back, chain}
 use Rattle.pf_graph.specs.Spanning.{Links, LinksUnder, JoinedBy, JoinedUnder, IsForest, IsLeastUnderEveryBound, AreChosenFrom, JoinTheSame, weight_sum}
-use Rattle.pf_graph.proofs.ListLemmas.{contains_here, contains_later, contains_cons, contains_middle, contains_around}
-use Rattle.pf_graph.proofs.JoinedLemmas.{Joined-by, Joined-more, Joined-split}
+use Rattle.pf_union_find.proofs.ListLemmas.{contains_here, contains_later, contains_cons, contains_middle, contains_around}
+use Rattle.pf_union_find.proofs.JoinedLemmas.{Joined-by, Joined-more, Joined-split}
 use Rattle.pf_graph.proofs.Spanning.ForestLemmas.{link_of, JoinedBy-more}
 use Rattle.pf_graph.proofs.Spanning.OrderLemmas.{gt_false, not_gt}
 

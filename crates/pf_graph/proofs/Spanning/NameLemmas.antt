@@ -14,10 +14,11 @@ use Rattle.std.proofs.lemmas.List.Elements.{Contains-get_or}
 use Rattle.std.proofs.lemmas.Slice.Zip.{AllZip-long}
 use Rattle.pf_base.specs.Answers.{IsLawfulClone}
 use Rattle.pf_graph.specs.declared.undirected.weighed.Weighed.{Weighed}
-use Rattle.pf_graph.specs.Joined.{same, linked}
+use Rattle.pf_union_find.specs.Joined.{same, linked}
 use Rattle.pf_graph.specs.Spanning.{Links, LinksUnder, JoinedUnder, IsForest, IsLeastUnderEveryBound, AreChosenFrom, AreBelow, named, AreNamedApart}
-use Rattle.pf_graph.specs.Internal.NumberedEdges.{StandsFor, IsNumbered, IsWritten}
-use Rattle.pf_graph.proofs.ListLemmas.{zip_get, zip_get_left, zip_append, zip_split, get_contains, contains_get, contains_middle, contains_around}
+use Rattle.pf_graph.specs.Internal.NumberedEdges.{IsNumbered, IsWritten}
+use Rattle.pf_union_find.specs.Nodes.{StandsFor}
+use Rattle.pf_union_find.proofs.ListLemmas.{zip_get, zip_get_left, zip_append, zip_split, get_contains, contains_get, contains_middle, contains_around}
 use Rattle.pf_graph.proofs.CarryLemmas.{StandsAlike, Joined-carried_some, Joined-carried}
 use Rattle.pf_graph.proofs.NumberLemmas.{numbers_alike, nodes_alike}
 use Rattle.pf_graph.proofs.Spanning.ForestLemmas.{link_of}

@@ -6,10 +6,11 @@ use Rattle.std.specs.Option.{option_map}
 use Rattle.std.proofs.lemmas.Option.{slice_get-map, slice_get_within}
 use Rattle.pf_graph.specs.declared.undirected.steps.Step.{Step}
 use Rattle.pf_graph.specs.declared.undirected.weighed.Weighed.{Weighed}
-use Rattle.pf_graph.specs.Internal.NumberedEdges.{StandsFor, IsNumbered}
+use Rattle.pf_graph.specs.Internal.NumberedEdges.{IsNumbered}
+use Rattle.pf_union_find.specs.Nodes.{StandsFor}
 use Rattle.pf_graph.specs.GrownTree.{StartsAt}
 use Rattle.pf_graph.specs.Internal.Spanning.Frontier.{IsMarked, HasStep, HoldSteps, AreRows}
-use Rattle.pf_graph.proofs.ListLemmas.{get_contains}
+use Rattle.pf_union_find.proofs.ListLemmas.{get_contains}
 use Rattle.pf_base.proofs.ListLemmas.{none_in}
 use Rattle.pf_graph.proofs.Spanning.StepLemmas.{AreRows-numbered}
 

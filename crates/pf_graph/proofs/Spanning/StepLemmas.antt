@@ -7,7 +7,8 @@ use Rattle.std.proofs.lemmas.List.Elements.{Contains-push, Contains-push_cases, 
 use Rattle.std.proofs.lemmas.Option.{slice_get_within}
 use Rattle.pf_graph.specs.declared.undirected.steps.Step.{Step}
 use Rattle.pf_graph.specs.declared.undirected.weighed.Weighed.{Weighed}
-use Rattle.pf_graph.specs.Internal.NumberedEdges.{StandsFor, IsNumbered}
+use Rattle.pf_graph.specs.Internal.NumberedEdges.{IsNumbered}
+use Rattle.pf_union_find.specs.Nodes.{StandsFor}
 use Rattle.pf_graph.specs.GrownTree.{RunsBetween}
 use Rattle.pf_graph.specs.Internal.Spanning.Frontier.{Leads, HasStep, HoldSteps, AreRows}
 use Rattle.pf_base.proofs.ListLemmas.{get_push, get_set}

@@ -6,7 +6,7 @@ use Rattle.std.specs.Ordering.{int_cmp}
 use Rattle.std.specs.declared.cmp.Ordering.TheVariants.{Greater}
 use Rattle.std.proofs.lemmas.List.{append-nil, append_assoc}
 use Rattle.std.proofs.lemmas.List.Elements.{Contains-append_left, Contains-push, Contains-push_cases}
-use Rattle.pf_graph.specs.Joined.{Joined, same, linked, back, chain}
+use Rattle.pf_union_find.specs.Joined.{Joined, same, linked, back, chain}
 use Rattle.pf_graph.specs.Spanning.{Links, JoinedBy, IsForest, AreChosenFrom, JoinTheSame, weight_sum}
 use Rattle.pf_graph.specs.GrownTree.{RunsBetween, Covers, GrowsByLeast, IsLeastAround, AreChosenEitherWay}
 use Rattle.pf_graph.proofs.Spanning.ForestLemmas.{link_of}

@@ -7,10 +7,10 @@ use Rattle.std.specs.declared.cmp.Ordering.TheVariants.{Less, Equal, Greater}
 use Rattle.std.proofs.lemmas.List.{append-nil, append_assoc}
 use Rattle.std.proofs.lemmas.List.Elements.{Contains-append_left, Contains-push, Contains-push_cases}
 use Rattle.pf_base.specs.Answers.{IsLawfulClone}
-use Rattle.pf_graph.specs.Joined.{Joined, same, linked, back, chain}
+use Rattle.pf_union_find.specs.Joined.{Joined, same, linked, back, chain}
 use Rattle.pf_graph.specs.Spanning.{Links, LinksUnder, JoinedBy, JoinedUnder, IsForest}
 use Rattle.pf_graph.specs.GrownTree.{RunsBetween, Covers, LeavesByLeast, GrowsByLeast, IsLeastAround, AreChosenEitherWay}
-use Rattle.pf_graph.proofs.JoinedLemmas.{Joined-more}
+use Rattle.pf_union_find.proofs.JoinedLemmas.{Joined-more}
 use Rattle.pf_graph.proofs.Spanning.ForestLemmas.{IsForest-nil, IsForest-push}
 use Rattle.pf_graph.proofs.Spanning.OrderLemmas.{le_trans}
 

@@ -1,9 +1,10 @@
 -- Nodes that are numbered in the order in which they are kept, and edges that refer to them.
-use Rattle.std.specs.Prelude.{◌≡◌, ℕ, Bool, true, List, Some, Result, Ok, slice_get, Contains}
+use Rattle.std.specs.Prelude.{◌≡◌, ℕ, Bool, List, Result, Ok, Contains}
 use Rattle.std.specs.Borrow.{Bor}
 use Rattle.std.specs.Fn.{Shared, FnReturnsAt}
 use Rattle.std.specs.List.{IsDistinct}
 use Rattle.pf_graph.specs.declared.undirected.weighed.Weighed.{Weighed}
+use Rattle.pf_union_find.specs.Nodes.{StandsFor}
 
 -- f has the ends of the edge that e refers to, and what e is weighed by
 abbrev pub IsWritten : {N C : Type 0} → (ℕ × ℕ × Weighed N C C) → (N × N × C) → Type 0
@@ -14,12 +15,8 @@ abbrev pub IsWeighed : {N C W E F : Type 0} → Shared F (Bor C × Unit {0}) (Re
 IsWeighed calls weigh e = FnReturnsAt calls weigh e.2.edge.now.2 (Ok e.2.weight)
 
 module _ {N : Type 0} (eq : N → N → Bool) where
-  -- the number k stands for x: the k-th node is the same as x
-  abbrev pub StandsFor : List (Bor N) → ℕ → N → Type 0
-  StandsFor nodes k x = (m : Bor N) × (slice_get nodes k ≡ Some m) × (eq m.now x ≡ true)
-
   -- the nodes are apart, and the edges are numbered by them
   pub record IsNumbered {C W : Type 0} (nodes : List (Bor N)) (edges : List (N × N × C)) (numbered : List (ℕ × ℕ × Weighed N C W)) : Type 0 where
     pub apart : IsDistinct (λ (p q : Bor N). eq p.now q.now) nodes
-    pub from : (e : ℕ × ℕ × Weighed N C W) → Contains numbered e → Contains edges e.2.edge.now × StandsFor nodes e.0 e.2.edge.now.0 × StandsFor nodes e.1 e.2.edge.now.1
+    pub from : (e : ℕ × ℕ × Weighed N C W) → Contains numbered e → Contains edges e.2.edge.now × StandsFor eq nodes e.0 e.2.edge.now.0 × StandsFor eq nodes e.1 e.2.edge.now.1
     pub all : (f : N × N × C) → Contains edges f → (e : ℕ × ℕ × Weighed N C W) × Contains numbered e × (e.2.edge.now ≡ f)

@@ -5,10 +5,10 @@ ghost use Rattle.std.specs.Borrow.{Bor};
 ghost use Rattle.pf_base.specs.declared.error.PathError.TheVariants.{OutOfMemory};
 ghost use Rattle.pf_graph.specs.Internal.NumberedEdges.{IsNumbered, IsWeighed};
 
-use crate::undirected::disjoint_sets::Nodes;
 use crate::undirected::weighed::Weighed;
 use indexmap::IndexSet;
 use pf_base::PathError;
+use pf_union_find::Nodes;
 use std::alloc::{AllocError, Allocator};
 use std::hash::Hash;
 

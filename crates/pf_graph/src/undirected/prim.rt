@@ -7,7 +7,7 @@ ghost use Rattle.pf_base.specs.declared.error.PathError.TheVariants.{OutOfMemory
 ghost use Rattle.pf_graph.specs.declared.undirected.steps.Step.{Step};
 ghost use Rattle.pf_graph.specs.Internal.Spanning.Frontier.{AreRows, HasStep, IsMarked};
 ghost use Rattle.pf_graph.specs.EdgesByReference.{shown};
-ghost use Rattle.pf_graph.specs.Internal.NumberedEdges.{StandsFor};
+ghost use Rattle.pf_union_find.specs.Nodes.{StandsFor};
 ghost use Rattle.pf_graph.specs.GrownTree.{StartsAt, GrowsByLeast, IsLeastAround, AreChosenEitherWay};
 ghost use Rattle.pf_graph.specs.Spanning.{IsForest};
 

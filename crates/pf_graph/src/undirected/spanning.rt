@@ -6,11 +6,11 @@ ghost use Rattle.pf_base.specs.declared.error.PathError.TheVariants.{OutOfMemory
 ghost use Rattle.pf_base.specs.Answers.{IsLawfulClone};
 ghost use Rattle.pf_graph.specs.Spanning.{IsForest, IsLeastUnderEveryBound, AreChosenFrom, AreBelow};
 ghost use Rattle.pf_graph.specs.Internal.Spanning.SpanningSteps.{HoldsCopies, placed};
-ghost use Rattle.pf_graph.specs.Internal.UnionFind.{IsSound, IsLabelling};
+ghost use Rattle.pf_union_find.specs.UnionFind.{IsSound, IsLabelling};
 
-use crate::undirected::union_find::{make_sets, unite};
 use crate::undirected::vertex_number::VertexNumber;
 use pf_base::PathError;
+use pf_union_find::union_find::{make_sets, unite};
 use std::alloc::Allocator;
 use std::marker::PhantomData;
 

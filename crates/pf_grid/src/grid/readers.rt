@@ -7,7 +7,6 @@ ghost use Rattle.pf_grid.specs.GridPositions.{IsGrid, IsInside, has, vertex_coun
 
 use crate::grid::Grid;
 use crate::words;
-use pf_base::utils;
 use std::alloc::Allocator;
 
 impl<A: Allocator> Grid<A> {
@@ -97,8 +96,8 @@ impl<A: Allocator> Grid<A> {
         ensures inside { IsInside self.now result }
     {
         (
-            utils::constrain(position.0, self.width),
-            utils::constrain(position.1, self.height),
+            pf_utils::constrain(position.0, self.width),
+            pf_utils::constrain(position.1, self.height),
         )
     }
 }

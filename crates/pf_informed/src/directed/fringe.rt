@@ -13,10 +13,10 @@ use crate::functions::EstimateFunction;
 use crate::search::Search;
 use crate::turns::{begin, path_found, turn};
 use pf_base::{Cost, EdgeFunction, NodeTest, PathError};
-use pf_core::discovery::{Discovery, clone_of};
 use pf_core::numbered::GoalGraph;
-use pf_core::source::{EdgeSource, Weighted};
-use pf_core::tested::Tested;
+use pf_discovery::discovery::{Discovery, clone_of};
+use pf_discovery::source::{EdgeSource, Weighted};
+use pf_discovery::tested::Tested;
 use std::alloc::Allocator;
 use std::hash::Hash;
 

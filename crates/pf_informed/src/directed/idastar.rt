@@ -11,9 +11,9 @@ use crate::directed::idastar::round::{Round, look_through};
 use crate::estimates::ask;
 use crate::functions::EstimateFunction;
 use pf_base::{Cost, EdgeFunction, NodeTest, PathError};
-use pf_core::discovery::{Discovery, clone_of};
-use pf_core::source::{EdgeSource, Weighted};
-use pf_core::tested::Tested;
+use pf_discovery::discovery::{Discovery, clone_of};
+use pf_discovery::source::{EdgeSource, Weighted};
+use pf_discovery::tested::Tested;
 use std::alloc::Allocator;
 use std::hash::Hash;
 

@@ -10,7 +10,7 @@ ghost use Rattle.pf_matrix.specs.declared.error.MatrixFormatError.TheVariants.{E
 use crate::error::MatrixFormatError;
 use crate::matrix::Matrix;
 use crate::matrix::keys::Keys;
-use pf_base::utils::uint_sqrt;
+use pf_utils::uint_sqrt;
 use std::alloc::Allocator;
 
 impl<C, A: Allocator> Matrix<C, A> {

@@ -5,7 +5,7 @@ ghost use Rattle.std.specs.Int.{int_rem_euclid};
 ghost use Rattle.pf_base.specs.Moves.{Finds, IsMove, times};
 
 use crate::matrix::Matrix;
-use pf_base::utils::{self, InDirection};
+use pf_utils::InDirection;
 use std::alloc::Allocator;
 
 impl<C, A: Allocator> Matrix<C, A> {
@@ -19,8 +19,8 @@ impl<C, A: Allocator> Matrix<C, A> {
         ensures column { pos result.1 ≡ int_rem_euclid position.1 (pos self.now.columns) }
     {
         (
-            utils::constrain(position.0, self.rows),
-            utils::constrain(position.1, self.columns),
+            pf_utils::constrain(position.0, self.rows),
+            pf_utils::constrain(position.1, self.columns),
         )
     }
 
@@ -33,7 +33,7 @@ impl<C, A: Allocator> Matrix<C, A> {
     ) -> Option<(usize, usize)>
         ensures { Finds (IsMove start direction (self.now.rows, self.now.columns)) result }
     {
-        utils::move_in_direction(start, direction, (self.rows, self.columns))
+        pf_utils::move_in_direction(start, direction, (self.rows, self.columns))
     }
 
     /// The positions that are reached from `start` by one step, two steps and so on in `direction`,
@@ -42,6 +42,6 @@ impl<C, A: Allocator> Matrix<C, A> {
     pub fn in_direction(&self, start: (usize, usize), direction: (isize, isize)) -> InDirection
         ensures { (k : ℕ) → Finds (IsMove start (times (k + 1) direction) (self.now.rows, self.now.columns)) (slice_get result k) }
     {
-        utils::in_direction(start, direction, (self.rows, self.columns))
+        pf_utils::in_direction(start, direction, (self.rows, self.columns))
     }
 }

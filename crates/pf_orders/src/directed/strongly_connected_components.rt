@@ -13,8 +13,9 @@ ghost use Rattle.pf_orders.specs.Internal.ComponentSearch.{IsMember};
 use crate::component_search::strong_components;
 use crate::nodes::nodes_of;
 use pf_base::{PathError, SuccessorFunction};
-use pf_core::discovery::{Discovery, clone_of, clones_at};
-use pf_core::source::{EdgeSource, Unweighted};
+use pf_core::clones::clones_at;
+use pf_discovery::discovery::{Discovery, clone_of};
+use pf_discovery::source::{EdgeSource, Unweighted};
 use std::alloc::Allocator;
 use std::hash::Hash;
 

@@ -12,10 +12,10 @@ mod groups;
 use crate::nodes::nodes_of;
 use crate::ordering::sort_numbers;
 pub use groups::topological_sort_into_groups;
-use pf_base::utils::Tally;
-use pf_base::{PathError, SuccessorFunction};
-use pf_core::discovery::{Discovery, clones_at};
-use pf_core::source::{EdgeSource, Unweighted};
+use pf_base::{PathError, SuccessorFunction, Tally};
+use pf_core::clones::clones_at;
+use pf_discovery::discovery::Discovery;
+use pf_discovery::source::{EdgeSource, Unweighted};
 use std::alloc::Allocator;
 use std::hash::Hash;
 

@@ -8,7 +8,8 @@ ghost use Rattle.pf_yen.specs.KCheapest.{paths_in};
 use crate::routes::graph::Graph;
 use pf_base::PathError;
 use pf_route_io::error::RouteError;
-use pf_tables::{bfs, dijkstra};
+use pf_table_breadth::bfs;
+use pf_tables::dijkstra;
 use pf_yen::directed::yen::yen;
 use std::alloc::Allocator;
 

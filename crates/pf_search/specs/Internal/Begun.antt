@@ -1,7 +1,7 @@
 -- What a search by cost knows of its graph before its first turn.
 use Rattle.std.specs.Prelude.{◌≡◌, ◌↔◌, ℤ, Bool, true, List, [], ◌∷◌}
 use Rattle.pf_base.specs.Edges.{InReach}
-use Rattle.pf_core.specs.declared.tested.Tested.{Tested}
+use Rattle.pf_discovery.specs.declared.tested.Tested.{Tested}
 use Rattle.pf_core.specs.Nodes.{StandsFor, Explores}
 
 module _ {N S T Z : Type 0} (eq : N → N → Bool) (answers : S → List N → (N → List (N × ℤ)) → Type 0) (tests : T → (N → Type 0) → (N → Bool) → Type 0) where

@@ -3,8 +3,8 @@ use Rattle.std.specs.Prelude.{◌≡◌, ◌≤◌, ◌++◌, ℕ, take, drop, l
 use Rattle.pf_base.specs.declared.error.PathError.{PathError}
 use Rattle.pf_base.specs.Answers.{SameNodes}
 use Rattle.pf_base.specs.Orders.{IsNextInBreadth, AllGiven}
-use Rattle.pf_core.specs.declared.discovery.Discovery.{Discovery}
-use Rattle.pf_core.specs.declared.source.Unweighted.{Unweighted}
+use Rattle.pf_discovery.specs.declared.discovery.Discovery.{Discovery}
+use Rattle.pf_discovery.specs.declared.source.Unweighted.{Unweighted}
 use Rattle.pf_search.specs.Breadth.{BreadthWalk}
 
 -- the walk that found these nodes, and gave this many of them

@@ -3,7 +3,7 @@ use Rattle.std.specs.Prelude.{◌≡◌, ◌<◌, ℕ, Bool, true, List, [], ◌
 use Rattle.pf_base.specs.Answers.{SameNodes}
 use Rattle.pf_base.specs.Successors.{HasSuccessor}
 use Rattle.pf_base.specs.Walks.{IsReachable}
-use Rattle.pf_core.specs.declared.depth_first.DepthFirst.{DepthFirst}
+use Rattle.pf_discovery.specs.declared.depth_first.DepthFirst.{DepthFirst}
 use Rattle.pf_search.specs.DepthWalks.{DepthWalk, IsDepthWalk}
 use Rattle.pf_search.specs.Internal.DepthStack.{DepthStack}
 

@@ -5,8 +5,8 @@ use Rattle.std.specs.Coded.{Coded, code_by, coded×, coded_ℕ, coded_bool, code
 use Rattle.std.specs.List.{AllZip}
 use Rattle.pf_base.specs.Orders.{last_nodes}
 use Rattle.pf_base.specs.Walks.{HasNode, end_of}
-use Rattle.pf_core.specs.declared.depth_first.Branch.{Branch}
-use Rattle.pf_core.specs.DepthFirst.{IsVisited, IsPending}
+use Rattle.pf_discovery.specs.declared.depth_first.Branch.{Branch}
+use Rattle.pf_discovery.specs.DepthFirst.{IsVisited, IsPending}
 use Rattle.pf_core.specs.Nodes.{StandsFor}
 
 -- the numbers of the given nodes, in order, and which numbers were visited; the numbers of the last tree path, and what waits behind it

@@ -6,19 +6,18 @@ ghost use Rattle.pf_base.specs.Answers.{IsLawfulClone};
 ghost use Rattle.pf_base.specs.Edges.{InReach};
 ghost use Rattle.pf_base.specs.NodeRefs.{HasSameNodes};
 ghost use Rattle.pf_core.specs.Hops.{unit_edges};
-ghost use Rattle.pf_search.specs.Internal.Hops.{ExploresHops};
+ghost use Rattle.pf_discovery.specs.ExploredHops.{ExploresHops};
 
-mod both_ends;
 mod loops;
 
 pub use crate::directed::bfs_reach::{BfsReachable, bfs_reach};
-pub use both_ends::bfs_bidirectional;
 pub use loops::bfs_loop;
-use pf_base::{NodeRefs, NodeTest, PathError, SuccessorFunction};
+use pf_base::{NodeTest, PathError, SuccessorFunction};
 use pf_core::bfs::fewest_edges_path;
-use pf_core::discovery::{Discovery, clones_of};
-use pf_core::source::{EdgeSource, Unweighted};
-use pf_core::tested::Tested;
+use pf_discovery::discovery::{Discovery, clones_of};
+use pf_discovery::source::{EdgeSource, Unweighted};
+use pf_discovery::tested::Tested;
+use pf_utils::NodeRefs;
 use std::alloc::Allocator;
 use std::hash::Hash;
 

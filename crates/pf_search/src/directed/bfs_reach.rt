@@ -11,10 +11,10 @@ ghost use Rattle.pf_search.specs.Internal.Breadth.{BreadthTurn, walk_in, BeginsE
 
 use indexmap::IndexSet;
 use pf_base::{PathError, SuccessorFunction};
-use pf_core::discovery::{Discovery, Nodes};
 use pf_core::numbered::NumberedGraph;
 use pf_core::row::NoRow;
-use pf_core::source::Unweighted;
+use pf_discovery::discovery::{Discovery, Nodes};
+use pf_discovery::source::Unweighted;
 use std::alloc::{Allocator, Global};
 use std::hash::Hash;
 use std::marker::Model;

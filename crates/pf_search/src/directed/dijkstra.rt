@@ -6,20 +6,16 @@ ghost use Rattle.pf_base.specs.Edges.{InReach, HasNoNegativeCost, AnswersWeighte
 ghost use Rattle.pf_base.specs.Answers.{IsLawfulClone};
 ghost use Rattle.pf_search.specs.Internal.Begun.{HasBegun, OfBegun};
 
-mod both_ends;
-
 pub use crate::directed::build_path::{Parents, build_path};
 pub use crate::directed::dijkstra_all::{dijkstra_all, dijkstra_partial};
 pub use crate::directed::dijkstra_reach::{
     DijkstraReachable, DijkstraReachableItem, dijkstra_reach,
 };
-pub use both_ends::dijkstra_bidirectional;
-use pf_base::utils::Tally;
-use pf_base::{Cost, EdgeFunction, NodeTest, PathError};
+use pf_base::{Cost, EdgeFunction, NodeTest, PathError, Tally};
 use pf_core::dijkstra::cheapest_path;
-use pf_core::discovery::{Discovery, clone_of};
-use pf_core::source::{EdgeSource, Weighted};
-use pf_core::tested::Tested;
+use pf_discovery::discovery::{Discovery, clone_of};
+use pf_discovery::source::{EdgeSource, Weighted};
+use pf_discovery::tested::Tested;
 use std::alloc::Allocator;
 use std::hash::Hash;
 

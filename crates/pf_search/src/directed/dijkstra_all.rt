@@ -11,13 +11,12 @@ ghost use Rattle.pf_search.specs.Internal.Begun.{IsBegun, OfBegun};
 ghost use Rattle.pf_search.specs.Internal.Partial.{MapsLabels};
 
 use crate::directed::build_path::Parents;
-use pf_base::utils::Tally;
-use pf_base::{Cost, EdgeFunction, NodeTest, PathError};
+use pf_base::{Cost, EdgeFunction, NodeTest, PathError, Tally};
 use pf_core::dijkstra::search_to_goal;
-use pf_core::discovery::{Discovery, clone_of};
 use pf_core::slot::Slot;
-use pf_core::source::{EdgeSource, Weighted};
-use pf_core::tested::Tested;
+use pf_discovery::discovery::{Discovery, clone_of};
+use pf_discovery::source::{EdgeSource, Weighted};
+use pf_discovery::tested::Tested;
 use std::alloc::Allocator;
 use std::collections::HashMap;
 use std::hash::Hash;

@@ -12,11 +12,11 @@ ghost use Rattle.pf_search.specs.Internal.CheapestTurns.{CheapestTurn, TurnKeeps
 ghost use Rattle.pf_search.specs.Items.{most_items};
 
 use pf_base::{Cost, EdgeFunction, PathError};
-use pf_core::discovery::{Discovery, clone_of};
 use pf_core::labels::label_of;
 use pf_core::search::Search;
 use pf_core::slot::Slot;
-use pf_core::source::Weighted;
+use pf_discovery::discovery::{Discovery, clone_of};
+use pf_discovery::source::Weighted;
 use std::alloc::{Allocator, Global};
 use std::hash::Hash;
 use std::marker::Model;

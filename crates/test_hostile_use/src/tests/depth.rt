@@ -7,17 +7,18 @@ use crate::chained::{
 use crate::cheapest::{COST_CALLS, Found};
 use crate::plain::{COMPONENT_CALLS, LIST_CALLS, Lists, PlainCall};
 use pf_base::PathError;
-use pf_flow::edmonds_karp::{EKFlows, Edge, edmonds_karp_dense, edmonds_karp_sparse};
-use pf_graph::undirected::connected_components::{
+use pf_components::connected_components::{
     SetIn, component_index, components, separate_components,
 };
+use pf_flow::edmonds_karp::{EKFlows, Edge, edmonds_karp_dense, edmonds_karp_sparse};
 use pf_graph::undirected::kruskal::{kruskal, kruskal_indices};
 use pf_graph::undirected::prim::prim;
 use pf_grid::Grid;
 use pf_matrix::Matrix;
+use pf_table_breadth::bfs;
 use pf_table_orders::{topological_sort, topological_sort_into_groups};
 use pf_table_searches::{dfs, dijkstra_all};
-use pf_tables::{CompactRows, bfs, dijkstra};
+use pf_tables::{CompactRows, dijkstra};
 use std::alloc::Global;
 
 /// The last number.

@@ -10,10 +10,10 @@ use crate::listed::{
 use crate::names::cycles_of_names;
 use crate::plain::{COMPONENT_CALLS, LIST_CALLS, Lists, PlainCall};
 use pf_base::PathError;
-use pf_flow::edmonds_karp::EKFlows;
-use pf_graph::undirected::connected_components::{
+use pf_components::connected_components::{
     SetIn, component_index, components, separate_components,
 };
+use pf_flow::edmonds_karp::EKFlows;
 use pf_graph::undirected::kruskal::kruskal;
 use pf_graph::undirected::prim::prim;
 use std::alloc::Global;

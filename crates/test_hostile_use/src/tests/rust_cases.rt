@@ -1,17 +1,20 @@
 //! Cases that the tests and the documentation of the Rust crate have, and that stand in no other crate
 //! of tests: over graphs in tables, groups, matrices and grids.
 
-use pf_base::{NodeRefs, PathError};
-use pf_graph::undirected::connected_components::{MapIn, SetIn, components, separate_components};
+use pf_base::PathError;
+use pf_components::connected_components::{MapIn, SetIn, components, separate_components};
+use pf_edge_lists::EdgeList;
 use pf_graph::undirected::kruskal::kruskal;
 use pf_grid::Grid;
 use pf_matrix::{Matrix, directions};
+use pf_table_breadth::bfs;
 use pf_table_orders::{
     strongly_connected_component, strongly_connected_components, topological_sort,
     topological_sort_into_groups,
 };
 use pf_table_searches::bfs_loop;
-use pf_tables::{EdgeList, Rows, bfs};
+use pf_tables::Rows;
+use pf_utils::NodeRefs;
 use std::alloc::Global;
 
 /// The nodes after each of sixteen nodes.

@@ -1,8 +1,7 @@
 //! Rows: a call over a list of edges, and what it has to answer, with ample memory and with each
 //! growth refused in turn.
 
-use pf_base::PathError;
-use pf_base::utils::Tally;
+use pf_base::{PathError, Tally};
 use pf_orders::directed::strongly_connected_components::{
     strongly_connected_component, strongly_connected_components, strongly_connected_components_from,
 };

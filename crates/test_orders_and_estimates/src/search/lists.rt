@@ -1,9 +1,8 @@
 //! Searches over a list of edges between numbers.
 
 use pf_base::PathError;
-use pf_search::directed::dijkstra::{
-    Parents, dijkstra, dijkstra_all, dijkstra_bidirectional, dijkstra_partial,
-};
+use pf_both_ends::dijkstra_bidirectional;
+use pf_search::directed::dijkstra::{Parents, dijkstra, dijkstra_all, dijkstra_partial};
 use std::alloc::Global;
 use std::cell::Cell;
 use test_allocator::Refusing;

@@ -2,7 +2,8 @@
 
 use pathfinding::routes::RouteError;
 use pf_base::PathError;
-use pf_tables::{EdgeListError, TableError};
+use pf_edge_lists::EdgeListError;
+use pf_tables::TableError;
 use std::alloc::Global;
 use std::fmt::Display;
 

@@ -3,7 +3,10 @@
 use crate::ring::{Ring, first_target, way_round, way_to_marked};
 use crate::tests::answers::{is_cheapest, is_path};
 use pf_base::PathError;
-use pf_tables::{Board, CompactRows, EdgeList, Rows, Steps, bfs, dijkstra};
+use pf_boards::{Board, Steps};
+use pf_edge_lists::EdgeList;
+use pf_table_breadth::bfs;
+use pf_tables::{CompactRows, Rows, dijkstra};
 use std::alloc::Global;
 
 /// The edges from five nodes.

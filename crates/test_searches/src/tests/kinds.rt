@@ -3,8 +3,7 @@
 ghost use Rattle.std.specs.Prelude.{◌≡◌, ◌<◌, ◌≤◌, ◌+◌, ◌*◌, ◌%◌, ◌∷◌, [], All, length, not, pos};
 
 use crate::tests::answers::is_cheapest;
-use pf_base::PathError;
-use pf_base::utils::Tally;
+use pf_base::{PathError, Tally};
 use pf_search::directed::dijkstra::{dijkstra, dijkstra_tallied};
 use std::alloc::Global;
 

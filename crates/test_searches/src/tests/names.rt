@@ -6,7 +6,7 @@ use crate::no_case::NoCase;
 use crate::tests::answers::Outcome;
 use crate::tests::list::SPELLED;
 use pf_base::PathError;
-use pf_tables::EdgeList;
+use pf_edge_lists::EdgeList;
 use std::alloc::Global;
 use test_allocator::Refusing;
 

@@ -2,7 +2,7 @@
 
 use crate::fewest::Heap;
 use crate::no_case::NoCase;
-use pf_base::NodeRefs;
+use pf_utils::NodeRefs;
 use std::alloc::Global;
 use test_allocator::Refusing;
 

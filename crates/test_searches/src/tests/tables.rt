@@ -6,7 +6,8 @@ use crate::preorder::{comes_in_rows, first_in_pairs};
 use crate::reach::{Given, given_in_rows};
 use crate::rows::{cheapest_in_rows, fewest_in_rows, leads_to_rows};
 use crate::tests::answers::{is_cheapest, is_path};
-use pf_base::{NodeRefs, PathError};
+use pf_base::PathError;
+use pf_utils::NodeRefs;
 use std::alloc::{AllocError, Global};
 
 /// A table of these rows.

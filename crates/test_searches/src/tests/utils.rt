@@ -1,6 +1,7 @@
 //! Worked values of `utils`, at the ends of the types too.
 
-use pf_base::utils::{Tally, constrain, in_direction, move_in_direction, uint_sqrt};
+use pf_base::Tally;
+use pf_utils::{constrain, in_direction, move_in_direction, uint_sqrt};
 use std::mem;
 
 /// A row and a column, or how many there are of each.

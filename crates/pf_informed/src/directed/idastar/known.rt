@@ -12,8 +12,8 @@ use crate::estimates::ask;
 use crate::functions::EstimateFunction;
 use pf_base::{Cost, NodeTest, PathError};
 use pf_core::numbered::{GoalGraph, NumberedGraph};
-use pf_core::source::EdgeSource;
-use pf_core::tested::Tested;
+use pf_discovery::source::EdgeSource;
+use pf_discovery::tested::Tested;
 use std::alloc::Allocator;
 use std::hash::Hash;
 

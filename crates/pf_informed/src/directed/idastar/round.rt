@@ -12,7 +12,7 @@ use crate::directed::idastar::marks::is_marked;
 use crate::directed::idastar::way::{Frame, Way};
 use crate::functions::EstimateFunction;
 use pf_base::{Cost, NodeTest, PathError};
-use pf_core::source::EdgeSource;
+use pf_discovery::source::EdgeSource;
 use std::alloc::Allocator;
 use std::hash::Hash;
 

@@ -4,7 +4,7 @@ use Rattle.std.specs.List.{AllZip}
 use Rattle.std.proofs.lemmas.List.{length-replicate, take_at}
 use Rattle.std.proofs.lemmas.Option.{slice_get_within}
 use Rattle.pf_core.proofs.SearchLemmas.{Grows-trans, Grows-refl}
-use Rattle.pf_core.proofs.DepthFirstLemmas.{ends_stand}
+use Rattle.pf_discovery.proofs.DepthFirstLemmas.{ends_stand}
 use Rattle.pf_base.proofs.ListLemmas.{none_in}
 use Rattle.pf_core.proofs.PathLemmas.{AllZip-map}
 use Rattle.pf_orders.specs.Internal.Rounds.{AreCounted, Falls}

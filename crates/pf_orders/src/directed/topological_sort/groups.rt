@@ -11,8 +11,9 @@ use crate::nodes::{groups_at, nodes_of};
 use crate::rounds::group_numbers;
 use crate::rows::read_rows;
 use pf_base::{PathError, SuccessorFunction};
-use pf_core::discovery::{Discovery, clones_at};
-use pf_core::source::{EdgeSource, Unweighted};
+use pf_core::clones::clones_at;
+use pf_discovery::discovery::Discovery;
+use pf_discovery::source::{EdgeSource, Unweighted};
 use std::alloc::Allocator;
 use std::hash::Hash;
 

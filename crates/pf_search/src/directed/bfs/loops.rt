@@ -5,12 +5,14 @@ ghost use Rattle.pf_base.specs.Successors.{AnswersUnweightedGraph, OfUnweightedG
 ghost use Rattle.pf_base.specs.Loops.{IsBestLoopOrNone};
 ghost use Rattle.pf_base.specs.Answers.{IsLawfulClone};
 ghost use Rattle.pf_base.specs.NodeRefs.{HasSameNodes};
-ghost use Rattle.pf_search.specs.Internal.Hops.{ExploresHops};
+ghost use Rattle.pf_discovery.specs.ExploredHops.{ExploresHops};
 
-use pf_base::{NodeRefs, PathError, SuccessorFunction};
-use pf_core::bfs_loop::fewest_edges_loop;
-use pf_core::discovery::{Discovery, clones_at, clones_of};
-use pf_core::source::{EdgeSource, Unweighted};
+use pf_base::{PathError, SuccessorFunction};
+use pf_core::clones::clones_at;
+use pf_discovery::bfs_loop::fewest_edges_loop;
+use pf_discovery::discovery::{Discovery, clones_of};
+use pf_discovery::source::{EdgeSource, Unweighted};
+use pf_utils::NodeRefs;
 use std::alloc::Allocator;
 use std::hash::Hash;
 

@@ -3,14 +3,13 @@ use Rattle.std.proofs.lemmas.Cmp.{nat_eq_equiv}
 use Rattle.std.proofs.lemmas.Result.{IfOk-from_err}
 use Rattle.pf_core.specs.Nodes.{TestedGraph}
 use Rattle.pf_tables.specs.Graphs.{graph_of}
-use Rattle.pf_tables.specs.Internal.Numbering.{IsTable}
 use Rattle.pf_base.proofs.Outcomes.{no_overflow, ok_not_err, refused_as}
 use Rattle.pf_tables.proofs.Alone.{no_walk_alone, cheapest_alone}
-use Rattle.pf_tables.proofs.GraphLemmas.{edge_from_zero}
-use Rattle.pf_tables.proofs.ExploreLemmas.{edges_outside, edges_within}
+use Rattle.pf_tables.proofs.GraphLemmas.{edge_from_zero, edges_outside, edges_within}
 use Rattle.pf_tables.proofs.OwnLemmas.{own_answer, own_cost_overflows}
 use borrow.Author.Tests.{eqb-true}
 use Rattle.pf_tables.proofs.cheapest.dijkstra.Goals as goal
+use Rattle.pf_tables.specs.Internal.OwnNumbers.{IsTable}
 
 -- the graph of the table, which is the one that is searched
 abbrev searched : {C : Type 0} → (C → ℤ) → ℕ → (ℕ → List (Option (ℕ × C))) → ℕ → (ℕ → Bool) → TestedGraph ℕ

@@ -1,8 +1,8 @@
 use Rattle.std.proofs.Common.{Some, ◌≡◌, ap, ◌∙◌, arith, take, take_all}
-use Rattle.pf_tables.specs.Internal.Numbering.{present}
-use Rattle.pf_tables.proofs.IndexLemmas.{present_more, present_same}
 use Rattle.pf_tables.proofs.own_numbers.list_places.Goals.{in-Some+in_ok-add, in_default}
 use Rattle.pf_tables.proofs.own_numbers.list_places.Goals as goal
+use Rattle.pf_tables.specs.Graphs.{present}
+use Rattle.pf_tables.proofs.PresentLemmas.{present_more, present_same}
 
 pub loop-place-preserved : goal.loop-place-preserved
 loop-place-preserved g c =

@@ -4,7 +4,7 @@ ghost use Rattle.std.specs.Prelude.{◌≡◌, ◌∷◌, ◌%◌, ◌==◌, [],
 
 use crate::graph::tests::Heap;
 use pf_base::PathError;
-use pf_graph::undirected::connected_components::{ConnectedComponents, SetIn};
+use pf_components::connected_components::{ConnectedComponents, SetIn};
 use std::alloc::Allocator;
 
 /// The sets around 1 and 4, where even numbers have the first four even ones next to them, and odd

@@ -6,8 +6,7 @@ use crate::graph::tests::Heap;
 use pf_assignment::kuhn_munkres::{
     Weights, kuhn_munkres, kuhn_munkres_min, kuhn_munkres_tallied, weights_fit,
 };
-use pf_base::PathError;
-use pf_base::utils::Tally;
+use pf_base::{PathError, Tally};
 use pf_matrix::{Matrix, MatrixFormatError, from_slices};
 use std::cell::Cell;
 use test_allocator::Refusing;

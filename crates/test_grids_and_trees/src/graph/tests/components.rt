@@ -1,9 +1,7 @@
 //! A hundred components in a thousand groups, and numbers of sets that share a node.
 
 use pf_base::PathError;
-use pf_graph::undirected::connected_components::{
-    MapIn, SetIn, component_index, separate_components,
-};
+use pf_components::connected_components::{MapIn, SetIn, component_index, separate_components};
 use std::alloc::Global;
 use std::collections::HashSet;
 

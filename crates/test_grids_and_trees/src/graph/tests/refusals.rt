@@ -5,7 +5,7 @@ use crate::graph::tests::Heap;
 use crate::graph::tests::around::are_around_two;
 use crate::graph::tests::assignments::{Assignment, Best, is_assigned};
 use pf_base::PathError;
-use pf_graph::undirected::connected_components::ConnectedComponents;
+use pf_components::connected_components::ConnectedComponents;
 use pf_graph::undirected::kruskal::{kruskal, kruskal_indices, spanning_weight};
 use pf_graph::undirected::prim::prim;
 use std::alloc::Global;

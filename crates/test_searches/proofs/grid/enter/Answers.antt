@@ -1,7 +1,7 @@
 use Rattle.std.proofs.Common.{◌∙◌, ℕ, ap, None, Some}
 use Rattle.std.specs.Prelude.{if◌then◌else◌, nat_le}
 use Rattle.std.specs.Option.{option_and_then}
-use Rattle.pf_base.proofs.MoveLemmas.{target_is}
+use Rattle.pf_utils.proofs.MoveLemmas.{target_is}
 use Rattle.test_searches.specs.Grid.{height_at}
 use Rattle.test_searches.proofs.grid.enter.Goals as goal
 

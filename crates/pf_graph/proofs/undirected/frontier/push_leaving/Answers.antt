@@ -3,7 +3,7 @@ use Rattle.std.specs.BinaryHeap.{IsHeap, heap_items}
 use Rattle.std.proofs.lemmas.Option.{slice_get-get_or, slice_get_read}
 use Rattle.std.proofs.lemmas.List.{take_more}
 use Rattle.pf_graph.specs.Internal.Spanning.Frontier.{IsMarked, Gains, waiting_order}
-use Rattle.pf_graph.proofs.ListLemmas.{get_contains}
+use Rattle.pf_union_find.proofs.ListLemmas.{get_contains}
 use Rattle.pf_graph.proofs.Spanning.FrontierLemmas.{Gains-skip, Gains-push}
 use Rattle.std.proofs.lemmas.Result.{IfOk-from_err}
 use Rattle.pf_base.proofs.Outcomes.{refused_by}

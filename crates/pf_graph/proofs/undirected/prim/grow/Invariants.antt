@@ -3,7 +3,7 @@ use Rattle.std.specs.Prelude.{map}
 use Rattle.std.specs.Borrow.{Bor}
 use Rattle.std.specs.BinaryHeap.{IsHeap, heap_items}
 use Rattle.pf_graph.specs.EdgesByReference.{shown}
-use Rattle.pf_graph.specs.Internal.NumberedEdges.{StandsFor}
+use Rattle.pf_union_find.specs.Nodes.{StandsFor}
 use Rattle.pf_graph.specs.Internal.Spanning.Frontier.{AreRows, Waits, IsGrown, waiting_order}
 use Rattle.pf_graph.proofs.Spanning.FrontierLemmas.{open_count}
 use Rattle.pf_graph.proofs.undirected.prim.grow.Given as goal

@@ -1,4 +1,4 @@
-use Rattle.pf_graph.specs.Internal.UnionFind.{IsSound}
+use Rattle.pf_union_find.specs.UnionFind.{IsSound}
 use Rattle.pf_graph.specs.Internal.Spanning.SpanningSteps.{placed}
 use Rattle.pf_graph.proofs.Spanning.KruskalLemmas.{Grown}
 use Rattle.pf_graph.proofs.undirected.spanning.choose_edges.Given as goal

@@ -2,7 +2,7 @@ use Rattle.std.proofs.Common.{ℕ, ◌<◌, ◌∙◌, sym, ap, subst, rules, le
 use Rattle.std.specs.Ordering.{is_lt}
 use Rattle.std.proofs.lemmas.List.Sorted.{All-permutation, Contains-permutation, IsPermutation-sym, ranks_by, answers_always}
 use Rattle.pf_graph.specs.Spanning.{AreBelow}
-use Rattle.pf_graph.specs.Internal.UnionFind.{IsSound, IsLabelling}
+use Rattle.pf_union_find.specs.UnionFind.{IsSound, IsLabelling}
 use Rattle.pf_graph.proofs.Spanning.CopyLemmas.{least_of_permutation}
 use Rattle.std.proofs.lemmas.List.Sorted.{IsPermutation-map}
 use Rattle.pf_graph.specs.Internal.Spanning.SpanningSteps.{placed}

@@ -2,7 +2,7 @@ use Rattle.std.proofs.Common.{refl, arith, ◌≡◌, ◌∙◌, ◌++◌, ◌-�
 use Rattle.std.specs.Prelude.{Contains, reverse, slice_set}
 use Rattle.std.specs.List.{AllZip}
 use Rattle.std.proofs.lemmas.List.{append_assoc}
-use Rattle.pf_core.proofs.DepthFirstLemmas.{ends_stand}
+use Rattle.pf_discovery.proofs.DepthFirstLemmas.{ends_stand}
 use Rattle.pf_base.proofs.Outcomes.{on_ok, on_any, on_failed, refused_as}
 use Rattle.pf_orders.specs.declared.ordering.Turn.{Turn}
 use Rattle.pf_orders.specs.declared.ordering.Mark.{Mark}

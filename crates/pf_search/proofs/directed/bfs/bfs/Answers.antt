@@ -1,4 +1,5 @@
-use Rattle.pf_core.proofs.UnitLemmas.{Explores-successors_of, tests_in_reach}
+use Rattle.pf_core.proofs.UnitLemmas.{tests_in_reach}
+use Rattle.pf_discovery.proofs.SourceLemmas.{Explores-successors_of}
 use Rattle.std.proofs.lemmas.Result.{IfOk-from_err}
 use Rattle.pf_base.proofs.Outcomes.{refused_as}
 use Rattle.pf_search.proofs.directed.bfs.bfs.Goals as goal

@@ -6,7 +6,7 @@ use Rattle.pf_core.specs.Hops.{hops_from}
 use Rattle.pf_core.proofs.WalkLemmas.{no_walk, best_answer}
 use Rattle.pf_core.proofs.UnitLemmas.{is_hop, no_next_walk, fewest_of_best, begins_all, starts_stand}
 use Rattle.pf_base.proofs.Outcomes.{refused_as}
-use Rattle.pf_search.proofs.ResultLemmas.{in_some, error_kept}
+use Rattle.pf_discovery.proofs.ResultLemmas.{in_some, error_kept}
 use Rattle.std.proofs.lemmas.Result.{IfOk-from_err}
 use Rattle.pf_search.proofs.directed.bfs.path_from.Goals as goal
 

@@ -1,6 +1,6 @@
 use Rattle.std.proofs.Common.{[], ◌∷◌, List, ℤ, inl}
 use Rattle.pf_core.specs.Nodes.{NodeGraph}
-use Rattle.pf_core.proofs.NodeLemmas.{Explores-edges_of}
+use Rattle.pf_discovery.proofs.SourceLemmas.{Explores-edges_of}
 use Rattle.std.proofs.lemmas.Result.{IfOk-from_err}
 use Rattle.pf_base.proofs.Outcomes.{no_overflow, refused_as}
 use Rattle.pf_search.proofs.directed.dijkstra.dijkstra_tallied.Goals as goal

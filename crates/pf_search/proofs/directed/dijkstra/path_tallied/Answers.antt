@@ -9,7 +9,7 @@ use Rattle.pf_core.proofs.WalkLemmas.{all_starts, only_starts, no_negative, no_w
 use Rattle.pf_core.proofs.NodeLemmas.{at_most}
 use Rattle.std.proofs.lemmas.Result.{IfOk-from_err}
 use Rattle.pf_base.proofs.Outcomes.{no_overflow, ok_is_no_error, overflow_kept, refused_as}
-use Rattle.pf_search.proofs.ResultLemmas.{when_some, when_none, if_some}
+use Rattle.pf_discovery.proofs.ResultLemmas.{when_some, when_none, if_some}
 use Rattle.pf_search.proofs.directed.dijkstra.path_tallied.Goals as goal
 
 -- the graph that these functions answer

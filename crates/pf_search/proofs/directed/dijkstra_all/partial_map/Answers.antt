@@ -8,12 +8,12 @@ use Rattle.pf_core.specs.Labels.{Labels, HasLabel}
 use Rattle.pf_core.proofs.LabelLemmas.{HasLabel-inside}
 use Rattle.pf_search.specs.Parents.{IsPartialMap}
 use Rattle.pf_core.specs.Searched.{HasSearched}
-use Rattle.pf_search.proofs.StillLemmas.{read_at, read_inside}
+use Rattle.pf_discovery.proofs.StillLemmas.{read_at, read_inside}
 use Rattle.pf_base.proofs.Outcomes.{if_refused, memory_no_overflow, no_memory_or, no_overflow, ok_is_no_error, overflow_kept, refused_as}
 use Rattle.pf_core.proofs.WalkLemmas.{all_starts, only_starts, no_negative, cost_overflows}
 use Rattle.pf_search.proofs.PartialLemmas.{parent_inside, reached_at, begins_on, maps_read, whole_map, stopped_map}
 use Rattle.pf_search.proofs.directed.dijkstra_all.partial_map.Goals.{in-Some+in_ok-clone-in-Some, in-None}
-use Rattle.pf_search.proofs.ResultLemmas.{when_none}
+use Rattle.pf_discovery.proofs.ResultLemmas.{when_none}
 use Rattle.pf_core.proofs.SearchedLemmas.{is_least}
 use Rattle.std.proofs.lemmas.Result.{IfOk-from_err}
 use Rattle.pf_search.proofs.directed.dijkstra_all.partial_map.Goals as goal

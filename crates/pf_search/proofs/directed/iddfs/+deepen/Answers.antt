@@ -7,7 +7,7 @@ use Rattle.pf_base.specs.Walks.{HasNode}
 use Rattle.pf_search.specs.Internal.Deepening.{NoGoalBeyond}
 use Rattle.pf_search.proofs.SimplePaths.{pushed_on, none_left, left_more, left_same, cut_back, deep_as, deep_short, some_step, no_longer, popped_less}
 use Rattle.pf_base.proofs.Outcomes.{no_memory, refused_as}
-use Rattle.pf_search.proofs.ResultLemmas.{when_true, when_false}
+use Rattle.pf_discovery.proofs.ResultLemmas.{when_true, when_false}
 use Rattle.pf_search.proofs.directed.iddfs.+deepen.Goals as goal
 
 pub end_passes-requires : goal.end_passes-requires

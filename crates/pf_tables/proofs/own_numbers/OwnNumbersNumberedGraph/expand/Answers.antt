@@ -1,8 +1,8 @@
 use Rattle.std.proofs.Common.{sym, arith}
 use Rattle.pf_base.proofs.Outcomes.{on_ok}
-use Rattle.pf_tables.specs.Internal.Numbering.{present}
 use Rattle.pf_tables.proofs.OwnLemmas.{leads_inside, own_placed, own_in_order, own_steps}
 use Rattle.pf_tables.proofs.own_numbers.OwnNumbersNumberedGraph.expand.Goals as goal
+use Rattle.pf_tables.specs.Graphs.{present}
 
 pub returns-clause-listed : goal.returns-clause-listed
 returns-clause-listed g c = on_ok c.list_places.result c.list_places.ensures.listed (λ n.

@@ -1,10 +1,10 @@
 use Rattle.std.proofs.Common.{ℕ, ◌<◌, length, ap, sym, subst}
 use Rattle.pf_core.specs.NodeLaws.{StandsFor-one}
-use Rattle.pf_core.proofs.LoopWalks.{no_loop, best_loop_answer}
+use Rattle.pf_discovery.proofs.LoopWalks.{no_loop, best_loop_answer}
 use Rattle.pf_core.proofs.UnitLemmas.{is_hop, begins_all, starts_stand}
 use Rattle.pf_core.specs.Hops.{hops_from}
 use Rattle.pf_base.proofs.Outcomes.{refused_as}
-use Rattle.pf_search.proofs.ResultLemmas.{in_some, error_kept}
+use Rattle.pf_discovery.proofs.ResultLemmas.{in_some, error_kept}
 use Rattle.std.proofs.lemmas.Result.{IfOk-from_err}
 use Rattle.pf_search.proofs.directed.bfs.loops.loop_from.Goals as goal
 

@@ -3,7 +3,7 @@ use Rattle.pf_search.specs.DepthWalks.{DepthWalk, IsDepthWalk}
 use Rattle.pf_search.specs.Internal.Depth.{stack_of, walk_with}
 use Rattle.pf_search.proofs.DepthWalkLemmas.{looked, leads_inside, err_goes, refused_visit, visited_node, ended, still_goes, unbegun, empty_before, none_given, goes_put, same_places, more_places}
 use Rattle.pf_base.proofs.Outcomes.{no_memory, refused_as}
-use Rattle.pf_search.proofs.StillLemmas.{read_at}
+use Rattle.pf_discovery.proofs.StillLemmas.{read_at}
 use Rattle.pf_search.proofs.directed.dfs_reach.DfsReachable.step.Goals as goal
 
 pub bounds-as_slice-branch : goal.bounds-as_slice-branch

@@ -1,7 +1,7 @@
 use Rattle.std.proofs.Common.{◌∙◌, refl, false, [], ◌∷◌}
 use Rattle.pf_core.specs.declared.labels.Label.{Label}
 use Rattle.pf_core.specs.Nodes.{NodeGraph, StandsFor, IsStep}
-use Rattle.pf_core.proofs.NodeLemmas.{Explores-edges}
+use Rattle.pf_discovery.proofs.SourceLemmas.{Explores-edges}
 use Rattle.pf_core.proofs.SearchLemmas.{start_alone}
 use Rattle.std.proofs.lemmas.Result.{IfOk-from_err}
 use Rattle.pf_search.proofs.GivenLemmas.{none_given}

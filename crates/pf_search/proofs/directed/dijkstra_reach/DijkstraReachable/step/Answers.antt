@@ -14,7 +14,7 @@ use Rattle.pf_search.proofs.BreadthLemmas.{Same-sym}
 use Rattle.pf_search.proofs.BreadthSteps.{kept_all}
 use Rattle.pf_search.proofs.CheapestLemmas.{seen, costs, all_given, stands_at, left_at, next_is, past_at, goes_on, no_more, one_more, turn_refused, ended_bar, bar_kept, no_bar, bar_refused, turn_seen, bar_seen, item_read}
 use Rattle.pf_search.proofs.GivenLemmas.{given_count, given_same}
-use Rattle.pf_search.proofs.StillLemmas.{read_inside}
+use Rattle.pf_discovery.proofs.StillLemmas.{read_inside}
 use Rattle.pf_search.proofs.directed.dijkstra_reach.DijkstraReachable.step.Goals as goal
 
 no_overflow : ¬ (PathError.OutOfMemory ≡ PathError.CostOverflow)

@@ -1,5 +1,0 @@
-use Rattle.pf_base.proofs.MoveLemmas.{ray_places}
-use Rattle.pf_base.proofs.utils.directions.in_direction.Goals as goal
-
-pub returns : goal.returns
-returns c = ray_places c.args.start c.args.direction c.args.dimensions

@@ -1,5 +1,0 @@
-use Rattle.std.proofs.Common.{rules}
-use Rattle.pf_base.proofs.utils.directions.moved.Goals as goal
-
-pub returns-then-to-size : goal.returns-then-to-size
-returns-then-to-size c = search rules

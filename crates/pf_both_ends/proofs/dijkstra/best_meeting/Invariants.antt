@@ -1,0 +1,32 @@
+use Rattle.std.proofs.Common.{◌≡◌, ◌+◌, ◌-◌, ◌^◌, List, ℤ, pos, length, cond}
+use Rattle.std.specs.Prelude.{◌+ℤ◌, IfSome}
+use Rattle.std.specs.BinaryHeap.{heap_items}
+use Rattle.pf_core.specs.Labels.{settled_count}
+use Rattle.pf_core.specs.Search.{IsSound}
+use Rattle.pf_core.specs.Nodes.{NodeGraph, Explores}
+use Rattle.pf_both_ends.specs.Internal.BothEnds.{from_one, bound, IsMeeting, IsPair}
+use Rattle.pf_both_ends.proofs.dijkstra.best_meeting.Given as goal
+
+abbrev pub invariant-turns : goal.invariant-turns
+invariant-turns g l =
+    let eq = g.N.PartialEq.eq in
+    let value = g.C.Number.value in
+    let top = g.C.Number.value g.C.Cost.greatest in
+    let explores = Explores eq g.S.EdgeSource.answers in
+    let explores_back = Explores eq g.P.EdgeSource.answers in
+    record {
+      sound_forth : IsSound g.C.Ord.cmp value l.forth.labels.items (heap_items l.forth.queue);
+      sound_back : IsSound g.C.Ord.cmp value l.back.labels.items (heap_items l.back.queue);
+      wide_forth : length l.forth.labels.items ≡ length l.graph.forth.nodes.keys;
+      wide_back : length l.back.labels.items ≡ length l.graph.back.nodes.keys;
+      explored_forth : (h : NodeGraph g.row.N.Denot) → explores h l.fn.graph.forth.nodes.keys l.fn.graph.forth.source → explores h l.graph.forth.nodes.keys l.graph.forth.source;
+      explored_back : (h : NodeGraph g.row.N.Denot) → explores_back h l.fn.graph.back.nodes.keys l.fn.graph.back.source → explores_back h l.graph.back.nodes.keys l.graph.back.source;
+      pair : (edges previous : g.row.N.Denot → List (g.row.N.Denot × ℤ)) (start end : g.row.N.Denot)
+          → explores (from_one start edges) l.fn.graph.forth.nodes.keys l.fn.graph.forth.source → explores_back (from_one end previous) l.fn.graph.back.nodes.keys l.fn.graph.back.source
+          → IsPair eq value g.C.Number.fits edges previous start end l.fn.graph.forth.nodes.keys l.fn.graph.back.nodes.keys l.fn.forth.labels.items l.fn.back.labels.items (top +ℤ pos 1)
+          → IsPair eq value g.C.Number.fits edges previous start end l.graph.forth.nodes.keys l.graph.back.nodes.keys l.forth.labels.items l.back.labels.items (bound value top l.best)
+          × IfSome l.best (λ m. IsMeeting eq value l.graph.forth.nodes.keys l.graph.back.nodes.keys l.forth.labels.items l.back.labels.items m);
+    }
+
+abbrev pub decreases-turns : goal.decreases-turns
+decreases-turns g l = (2 ^ 64 - settled_count l.forth.labels.items) + (2 ^ 64 - settled_count l.back.labels.items) + cond l.back_is_over 0 1

@@ -1,0 +1,4 @@
+pub mod BothEnds
+pub mod Sides
+pub mod Mirrors
+pub mod Internal

@@ -1,0 +1,7 @@
+pub mod SourceLemmas
+pub mod LoopLemmas
+pub mod LoopWalks
+pub mod DepthFirstLemmas
+pub mod VisitLemmas
+pub mod ResultLemmas
+pub mod StillLemmas

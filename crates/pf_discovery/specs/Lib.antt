@@ -1,0 +1,4 @@
+pub mod Sources
+pub mod Loops
+pub mod DepthFirst
+pub mod ExploredHops

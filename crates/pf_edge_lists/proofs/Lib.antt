@@ -1,0 +1,5 @@
+pub mod LayoutLemmas
+pub mod NumberedNames
+pub mod EdgeListLemmas
+pub mod NameWalks
+pub mod NamedGraph

@@ -1,0 +1,106 @@
+-- The graph over the numbers of an edge list and the graph over its names.
+use Rattle.std.proofs.Common.{◌≡◌, ◌<◌, ℕ, suc, ℤ, nat_eq, refl, sym, subst, ◌∙◌, ap, Bool, true, false, List, [], ◌∷◌, length, map, if◌then◌else◌}
+use Rattle.std.specs.Prelude.{◌==◌, Some, None, Contains, slice_get}
+use Rattle.std.specs.Cmp.{IsEquivalence}
+use Rattle.std.specs.List.{AllZip, cons_option, list_any}
+use Rattle.pf_base.specs.Walks.{HasNode, HasNoGoalWalk}
+use Rattle.pf_base.specs.Edges.{IsSuccessor, IsCheapestGoalPath, CostOverflows}
+use Rattle.pf_base.specs.Successors.{HasSuccessor, IsFewestEdgesGoalPath}
+use Rattle.pf_core.specs.NodeLaws.{StandsFor-inside}
+use Rattle.pf_core.proofs.NodeLemmas.{eq-trans}
+use Rattle.pf_core.proofs.PathLemmas.{AllZip-map}
+use Rattle.pf_tables.specs.Graphs.{edges_at, filled, graph_of, successors_of}
+use Rattle.pf_base.specs.Places.{number_of}
+use Rattle.pf_edge_lists.specs.EdgeLists.{edges_from, ends_from, names_of, places_of, targets_from}
+use Rattle.pf_edge_lists.proofs.EdgeListLemmas.{ends_alike, has_edges_by_name}
+use Rattle.pf_edge_lists.proofs.NameWalks.{Stands, SameEdges, carried_edges, carried_next, cheapest_out, ends_named, ends_zip, fewest_out, goal_named, none_out, numbers_inside, past_out, test_stands}
+use Rattle.pf_edge_lists.proofs.NumberedNames.{all_named, each_end, has_at, names_apart, number_stands}
+use Rattle.pf_tables.proofs.GraphLemmas.{edges_within}
+
+module _ {N C : Type 0} {eq : N → N → Bool} (laws : IsEquivalence eq) (value : C → ℤ) (edges : List (N × N × C)) where
+  numbered_same : (es : List (N × C)) → ((k : ℕ) (t : N × C) → slice_get es k ≡ Some t → list_any (eq t.0) (names_of eq edges) ≡ true)
+      → SameEdges laws (names_of eq edges) (names_apart laws edges) (edges_at value (filled (map (λ (e : N × C). (number_of eq (names_of eq edges) e.0, e.1)) es))) (map (λ (e : N × C). (e.0, value e.1)) es)
+  numbered_same [] h = tt
+  numbered_same (e ∷ es) h = ((number_stands laws (names_of eq edges) e.0 (h 0 e refl), refl), numbered_same es (λ k t s. h (suc k) t s))
+
+  targets_same : (es : List (N × C)) → map (λ (f : N × ℤ). f.0) (map (λ (e : N × C). (e.0, value e.1)) es) ≡ map (λ (e : N × C). e.0) es
+  targets_same [] = refl
+  targets_same (e ∷ es) = ap (λ xs. e.0 ∷ xs) (targets_same es)
+
+  -- a number has the edges of the name that it stands for
+  pub same_edges : (a : ℕ) (x : N) → Stands laws (names_of eq edges) a x
+      → SameEdges laws (names_of eq edges) (names_apart laws edges) (graph_of value (length (names_of eq edges)) (places_of eq edges) a) (edges_from eq value edges x)
+  same_edges a x s =
+      let is = edges_within value (length (names_of eq edges)) (places_of eq edges) a (StandsFor-inside eq (names_of eq edges) a x s) ∙ ap (edges_at value) (has_edges_by_name laws edges a x s) in
+      subst (λ es. SameEdges laws (names_of eq edges) (names_apart laws edges) es (edges_from eq value edges x)) (sym is)
+      (numbered_same (ends_from eq edges x) (λ k t h. each_end eq (λ (e : N × C). list_any (eq e.0) (names_of eq edges) ≡ true) edges x (λ i e u. (all_named laws edges i e u).1) k t h))
+
+  pub same_targets : (a : ℕ) (x : N) → Stands laws (names_of eq edges) a x → AllZip (Stands laws (names_of eq edges)) (successors_of value (length (names_of eq edges)) (places_of eq edges) a) (targets_from eq edges x)
+  same_targets a x s = subst (AllZip (Stands laws (names_of eq edges)) (successors_of value (length (names_of eq edges)) (places_of eq edges) a)) (targets_same (ends_from eq edges x))
+      (ends_zip laws (names_of eq edges) (names_apart laws edges) _ _ (same_edges a x s))
+
+  -- a name that no edge has is one that no edge comes from
+  no_ends : (es : List (N × N × C)) (names : List N) (x : N) → ((k : ℕ) (e : N × N × C) → slice_get es k ≡ Some e → list_any (eq e.0) names ≡ true) → ¬ (HasNode eq names x) → ends_from eq es x ≡ []
+  no_ends [] names x named none = refl
+  no_ends (e ∷ es) names x named none = by (eq e.0 x) refl (no_ends es names x (λ k d s. named (suc k) d s) none)
+    where
+      by : (b : Bool) → eq e.0 x ≡ b → ends_from eq es x ≡ [] → cons_option (if b then Some (e.1, e.2) else None) (ends_from eq es x) ≡ []
+      by true h rest =
+          let m = number_stands laws names e.0 (named 0 e refl) in
+          absurd (none (has_at laws names (number_of eq names e.0) m.0 x m.1 (eq-trans eq laws m.0 e.0 x m.2 h)))
+      by false h rest = rest
+
+  unnamed_ends : (x : N) → ¬ (HasNode eq (names_of eq edges) x) → ends_from eq edges x ≡ []
+  unnamed_ends x none = no_ends edges (names_of eq edges) x (λ k e s. (all_named laws edges k e s).0) none
+
+  module _ (x : N) (none : ¬ (HasNode eq (names_of eq edges) x)) (y : N) (same : eq x y ≡ true) where
+    pub no_edges_from : edges_from eq value edges y ≡ []
+    no_edges_from = ap (map (λ (e : N × C). (e.0, value e.1))) (sym (ends_alike laws edges x y same) ∙ unnamed_ends x none)
+
+    pub no_targets_from : targets_from eq edges y ≡ []
+    no_targets_from = ap (map (λ (e : N × C). e.0)) (sym (ends_alike laws edges x y same) ∙ unnamed_ends x none)
+
+  -- ---- searches from one name to another
+
+  stand_all : (path : List ℕ) (names : List N) → AllZip (λ node name. slice_get (names_of eq edges) node ≡ Some name) path names → AllZip (Stands laws (names_of eq edges)) path names
+  stand_all path names z = AllZip-map _ (Stands laws (names_of eq edges)) (λ k x h. (x, h, laws.refl x)) path names z
+
+  module _ (start : ℕ) (from : N) (begins : Stands laws (names_of eq edges) start from) where
+    pub no_walk_to : (to : N) → ¬ (HasNode eq (names_of eq edges) to) → HasNoGoalWalk eq (IsSuccessor eq (edges_from eq value edges)) (from ∷ []) (λ x. eq x to)
+    no_walk_to to none = ends_named laws (names_of eq edges) (names_apart laws edges) _ _ (carried_edges laws (names_of eq edges) (names_apart laws edges) _ _ same_edges) start from begins (λ x. eq x to) to (λ x e. e) none
+
+    pub no_way_to : (to : N) → ¬ (HasNode eq (names_of eq edges) to) → HasNoGoalWalk eq (HasSuccessor eq (targets_from eq edges)) (from ∷ []) (λ x. eq x to)
+    no_way_to to none = ends_named laws (names_of eq edges) (names_apart laws edges) _ _ (carried_next laws (names_of eq edges) (names_apart laws edges) _ _ same_targets) start from begins (λ x. eq x to) to (λ x e. e) none
+
+    module _ (goal : ℕ) (to : N) (ends : Stands laws (names_of eq edges) goal to) where
+      tests : (k : ℕ) (x : N) → Stands laws (names_of eq edges) k x → nat_eq k goal ≡ eq x to
+      tests = test_stands laws (names_of eq edges) (names_apart laws edges) goal to ends
+
+      pub no_walk_named : HasNoGoalWalk nat_eq (IsSuccessor nat_eq (graph_of value (length (names_of eq edges)) (places_of eq edges))) (start ∷ []) (λ (n : ℕ). n == goal)
+          → HasNoGoalWalk eq (IsSuccessor eq (edges_from eq value edges)) (from ∷ []) (λ x. eq x to)
+      no_walk_named none = none_out laws (names_of eq edges) (names_apart laws edges) _ _ (carried_edges laws (names_of eq edges) (names_apart laws edges) _ _ same_edges) start from begins (λ (n : ℕ). n == goal) (λ x. eq x to) tests none
+
+      pub past_named : (fits : ℤ → Type 0) → CostOverflows nat_eq (graph_of value (length (names_of eq edges)) (places_of eq edges)) (start ∷ []) (λ (n : ℕ). n == goal) fits → CostOverflows eq (edges_from eq value edges) (from ∷ []) (λ x. eq x to) fits
+      past_named fits p = past_out laws (names_of eq edges) (names_apart laws edges) _ _ same_edges start from begins (λ (n : ℕ). n == goal) (λ x. eq x to) tests fits p
+
+      pub cheapest_inside : (path : List ℕ) (t : ℤ) → IsCheapestGoalPath nat_eq (graph_of value (length (names_of eq edges)) (places_of eq edges)) (start ∷ []) (λ (n : ℕ). n == goal) path t → (k : ℕ) → Contains path k → k < length (names_of eq edges)
+      cheapest_inside path t b =
+          let v = goal_named laws (names_of eq edges) (names_apart laws edges) _ _ (carried_edges laws (names_of eq edges) (names_apart laws edges) _ _ same_edges) start from begins (λ (n : ℕ). n == goal) path b.goes.goes in
+          numbers_inside laws (names_of eq edges) path v.0 v.1
+
+      pub cheapest_named : (path : List ℕ) (names : List N) (t : ℤ) → IsCheapestGoalPath nat_eq (graph_of value (length (names_of eq edges)) (places_of eq edges)) (start ∷ []) (λ (n : ℕ). n == goal) path t
+          → AllZip (λ node name. slice_get (names_of eq edges) node ≡ Some name) path names → IsCheapestGoalPath eq (edges_from eq value edges) (from ∷ []) (λ x. eq x to) names t
+      cheapest_named path names t b z = cheapest_out laws (names_of eq edges) (names_apart laws edges) _ _ same_edges start from begins (λ (n : ℕ). n == goal) (λ x. eq x to) tests path names t (stand_all path names z) b
+
+      pub no_way_named : HasNoGoalWalk nat_eq (HasSuccessor nat_eq (successors_of value (length (names_of eq edges)) (places_of eq edges))) (start ∷ []) (λ (n : ℕ). n == goal)
+          → HasNoGoalWalk eq (HasSuccessor eq (targets_from eq edges)) (from ∷ []) (λ x. eq x to)
+      no_way_named none = none_out laws (names_of eq edges) (names_apart laws edges) _ _ (carried_next laws (names_of eq edges) (names_apart laws edges) _ _ same_targets) start from begins (λ (n : ℕ). n == goal) (λ x. eq x to) tests none
+
+      pub fewest_inside : (path : List ℕ) → IsFewestEdgesGoalPath nat_eq (successors_of value (length (names_of eq edges)) (places_of eq edges)) (start ∷ []) (λ (n : ℕ). n == goal) path → (k : ℕ) → Contains path k → k < length (names_of eq edges)
+      fewest_inside path b =
+          let v = goal_named laws (names_of eq edges) (names_apart laws edges) _ _ (carried_next laws (names_of eq edges) (names_apart laws edges) _ _ same_targets) start from begins (λ (n : ℕ). n == goal) path b.goes.goes in
+          numbers_inside laws (names_of eq edges) path v.0 v.1
+
+      pub fewest_named : (path : List ℕ) (names : List N) → IsFewestEdgesGoalPath nat_eq (successors_of value (length (names_of eq edges)) (places_of eq edges)) (start ∷ []) (λ (n : ℕ). n == goal) path
+          → AllZip (λ node name. slice_get (names_of eq edges) node ≡ Some name) path names → IsFewestEdgesGoalPath eq (targets_from eq edges) (from ∷ []) (λ x. eq x to) names
+      fewest_named path names b z = fewest_out laws (names_of eq edges) (names_apart laws edges) _ _ same_targets start from begins (λ (n : ℕ). n == goal) (λ x. eq x to) tests path names (stand_all path names z) b

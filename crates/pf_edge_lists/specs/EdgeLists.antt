@@ -1,0 +1,63 @@
+-- Graphs over names, given as lists of edges (from, to, cost).
+use Rattle.std.specs.Prelude.{◌≡◌, ◌<◌, ◌≤ℤ◌, ◌<ℤ◌, ℕ, ℤ, pos, Bool, List, [], ◌∷◌, Option, Some, None, if◌then◌else◌, map, length, slice_get}
+use Rattle.std.specs.List.{filter_map, flat_map}
+use Rattle.std.specs.Option.{option_map_or}
+use Rattle.indexmap.specs.IndexSet.{insert_all}
+use Rattle.pf_base.specs.Places.{number_of}
+use Rattle.pf_core.specs.Nodes.{StandsFor}
+use Rattle.pf_tables.specs.Graphs.{filled}
+use Rattle.pf_edge_lists.specs.declared.error.EdgeListError.{EdgeListError}
+use Rattle.pf_edge_lists.specs.declared.error.EdgeListError.TheVariants.{OutOfMemory, NegativeCost}
+
+-- the two names of each edge, in the order of the list
+abbrev pub ends_of : {N C : Type 0} → List (N × N × C) → List N
+ends_of {N} {C} edges = flat_map (λ (e : N × N × C). e.0 ∷ e.1 ∷ []) edges
+
+module _ {N : Type 0} (eq : N → N → Bool) where
+  module _ {C : Type 0} where
+    -- the edges whose first name equals x, in the order of the list, each as its second name and its cost
+    abbrev pub ends_from : List (N × N × C) → N → List (N × C)
+    ends_from edges x = filter_map (λ (e : N × N × C). if eq e.0 x then Some (e.1, e.2) else None) edges
+
+    -- the same, each with the whole number that it costs: the graph over names
+    abbrev pub edges_from : (C → ℤ) → List (N × N × C) → N → List (N × ℤ)
+    edges_from value edges x = map (λ (e : N × C). (e.0, value e.1)) (ends_from edges x)
+
+    -- the names that the edges from x lead to, in the order of the list: the graph over names without costs
+    abbrev pub targets_from : List (N × N × C) → N → List N
+    targets_from edges x = map (λ (e : N × C). e.0) (ends_from edges x)
+
+    -- the names of the edges, each once, in the order in which they are first met
+    abbrev pub names_of : List (N × N × C) → List N
+    names_of edges = insert_all eq [] (ends_of edges)
+
+    -- the number of each name of an edge stands for it
+    abbrev pub AreNumbered : List (N × N × C) → Type 0
+    AreNumbered edges = (k : ℕ) (e : N × N × C) → slice_get edges k ≡ Some e
+        → StandsFor eq (names_of edges) (number_of eq (names_of edges) e.0) e.0 × StandsFor eq (names_of edges) (number_of eq (names_of edges) e.1) e.1
+
+    -- the edges whose first name equals x, each with the number of its second name and its cost
+    abbrev pub numbered_from : List (N × N × C) → N → List (ℕ × C)
+    numbered_from edges x = map (λ (e : N × C). (number_of eq (names_of edges) e.0, e.1)) (ends_from edges x)
+
+    -- what stands at the places of a node: the edges from its name
+    abbrev pub places_of : List (N × N × C) → ℕ → List (Option (ℕ × C))
+    places_of edges node = option_map_or (λ x. filled (numbered_from edges x)) (slice_get (names_of edges) node) []
+
+    -- at the places of the node that stands for a name x are the edges whose first name equals x
+    abbrev pub HasEdgesByName : List (N × N × C) → Type 0
+    HasEdgesByName edges = (node : ℕ) (x : N) → StandsFor eq (names_of edges) node x → places_of edges node ≡ filled (numbered_from edges x)
+
+module _ {N C : Type 0} (value : C → ℤ) where
+  -- no edge before this number costs less than 0
+  abbrev pub CostsFromZeroTo : List (N × N × C) → ℕ → Type 0
+  CostsFromZeroTo edges number = (k : ℕ) (e : N × N × C) → k < number → slice_get edges k ≡ Some e → pos 0 ≤ℤ value e.2
+
+  -- the edge of this number is the first that costs less than 0
+  abbrev pub IsFirstNegative : List (N × N × C) → ℕ → Type 0
+  IsFirstNegative edges number = ((e : N × N × C) × (slice_get edges number ≡ Some e) × (value e.2 <ℤ pos 0)) × CostsFromZeroTo edges number
+
+  -- the error names the first edge that costs less than 0, or there is none and memory was refused
+  abbrev pub IsEdgeListFault : List (N × N × C) → EdgeListError → Type 0
+  IsEdgeListFault edges OutOfMemory = CostsFromZeroTo edges (length edges)
+  IsEdgeListFault edges (NegativeCost number) = IsFirstNegative edges number

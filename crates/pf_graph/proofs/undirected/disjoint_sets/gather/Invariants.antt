@@ -1,6 +1,0 @@
-use Rattle.std.proofs.Common.{take}
-use Rattle.pf_graph.specs.Internal.Components.DisjointSets.{IsGathered, pairs_from}
-use Rattle.pf_graph.proofs.undirected.disjoint_sets.gather.Given as goal
-
-abbrev pub invariant-loop-group : goal.invariant-loop-group
-invariant-loop-group g l = IsGathered g.N.PartialEq.eq (pairs_from 0 (take l.group l.groups)) l.nodes.keys l.first.items l.parents

@@ -1,2 +1,0 @@
-pub mod DisjointSets
-pub mod Around

@@ -1,5 +1,0 @@
-use Rattle.pf_tables.proofs.BoardLemmas.{board_graph}
-use Rattle.pf_tables.proofs.board.BoardGraph.known.Goals as goal
-
-pub returns : goal.returns
-returns g c = rw (← c.self.view_is) (board_graph _ c.self.invariant)

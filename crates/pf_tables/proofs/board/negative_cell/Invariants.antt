@@ -1,6 +1,0 @@
-use Rattle.pf_tables.specs.Boards.{IsFromZeroTo}
-use Rattle.pf_tables.proofs.board.negative_cell.Given as goal
-
--- no cell so far costs less than 0
-abbrev pub invariant-loop-number : goal.invariant-loop-number
-invariant-loop-number g l = IsFromZeroTo g.C.Number.value l.cells l.number

@@ -1,6 +1,0 @@
-use Rattle.pf_tables.specs.EdgeLists.{CostsFromZeroTo}
-use Rattle.pf_tables.proofs.edge_list.negative_edge.Given as goal
-
--- no edge so far costs less than 0
-abbrev pub invariant-loop-number : goal.invariant-loop-number
-invariant-loop-number g l = CostsFromZeroTo g.C.Number.value l.edges l.number

@@ -1,0 +1,4 @@
+pub mod ListLemmas
+pub mod JoinedLemmas
+pub mod UnionFindLemmas
+pub mod DistinctLemmas

@@ -1,0 +1,4 @@
+pub mod NodeRefsLemmas
+pub mod MoveLemmas
+pub mod RemainderLemmas
+pub mod RootLemmas
