@@ -1,0 +1,5 @@
+pub mod EntryLemmas
+pub mod PartLemmas
+pub mod MarkLemmas
+pub mod ExposingLemmas
+pub mod QueueLemmas
