@@ -160,9 +160,9 @@ where
     S: EdgeSource<N, C>,
     P: EdgeSource<N, C>,
     A: Allocator + Copy,
-    requires sound { AreSoundOn C.cmp C.value graph.old forth.old back.old }
+    requires sound { AreSoundOn C.value graph.old forth.old back.old }
     requires pair { AnswersPair N.eq S.answers P.answers graph.old C.value C.fits forth.old back.old (C.value C.greatest +ℤ pos 1) }
-    ensures sound { OnOk result (AreSoundOn C.cmp C.value graph.new forth.new back.new) }
+    ensures sound { OnOk result (AreSoundOn C.value graph.new forth.new back.new) }
     ensures best { OfPair N.eq S.answers P.answers graph.old C.value C.fits forth.old back.old (C.value C.greatest +ℤ pos 1) (λ edges previous start end.
         IfOk result (λ answer. IsPairOn N.eq C.value C.fits edges previous start end graph.new forth.new back.new (bound C.value (C.value C.greatest) answer)
         × IfSome answer (IsMeetingOn N.eq C.value graph.new.forth.nodes.keys graph.new.back.nodes.keys forth.new back.new)
@@ -301,7 +301,7 @@ where
     P: EdgeSource<N, C>,
     A: Allocator + Copy,
     requires clones { IsLawfulClone N.eq N.is_clone }
-    requires sound { AreSoundOn C.cmp C.value graph.old forth.old back.old }
+    requires sound { AreSoundOn C.value graph.old forth.old back.old }
     requires pair { AnswersPair N.eq S.answers P.answers graph.old C.value C.fits forth.old back.old (C.value C.greatest +ℤ pos 1) }
     ensures best { OfPair N.eq S.answers P.answers graph.old C.value C.fits forth.old back.old (C.value C.greatest +ℤ pos 1) (λ edges previous start end.
         IfOk result (IsCheapestOrNone N.eq edges (start ∷ []) (N.eq end) C.value)

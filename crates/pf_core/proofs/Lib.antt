@@ -14,6 +14,5 @@ pub mod HopLemmas
 pub mod UnitLemmas
 pub mod WaveLemmas
 pub mod ReadLemmas
-pub mod PeekLemmas
 pub mod HopTurns
 pub mod SearchedLemmas

@@ -1,8 +1,6 @@
 -- What a call reads, and what it leaves as it was.
 use Rattle.std.proofs.Common.{ℕ, ◌≡◌, ◌<◌, ◌≤◌, ◌+◌, ◌-◌, ◌^◌, ◌∙◌, refl, sym, ap, subst, arith, Bool, true, false, ℤ, inl, List, [], ◌∷◌, length, take, take_all, get_or, Option, Some, None}
 use Rattle.std.specs.Prelude.{◌↔◌, slice_get, slice_set, Contains}
-use Rattle.std.specs.declared.cmp.Ordering.{Ordering}
-use Rattle.std.specs.BinaryHeap.{IsHeap}
 use Rattle.std.specs.Cmp.{IsEquivalence}
 use Rattle.indexmap.specs.IndexSet.{insert_key}
 use Rattle.pf_base.specs.NodeRefs.{HasSameNodes}
@@ -10,7 +8,7 @@ use Rattle.std.proofs.lemmas.List.{length-take-le}
 use Rattle.pf_core.specs.declared.labels.Label.{Label}
 use Rattle.std.proofs.lemmas.List.Sums.{count_by-le-length}
 use Rattle.pf_core.specs.Labels.{Labels, HasLabel, by_cost, is_settled, settled_count, Relaxed, Widened}
-use Rattle.pf_core.specs.Queue.{Entries}
+use Rattle.pf_queue.specs.Entries.{Entries}
 use Rattle.pf_core.specs.Search.{IsSound, IsLeast, IsSearch, Turned}
 use Rattle.pf_core.specs.Numbered.{Grows}
 use Rattle.pf_core.specs.Nodes.{StandsFor}
@@ -47,9 +45,6 @@ wide_now a b c d h l e = omega (arith, h, l, e)
 pub nearer : (i n : ℕ) → i < n → n - (i + 1) < n - i
 nearer i n h = omega (arith, h)
 
-pub room_all : (a n b : ℕ) → a + n ≤ b → a + (n - 0) ≤ b
-room_all a n b h = omega (arith, h)
-
 pub none_contained : {A : Type 0} (x : A) → Contains [] x → ⊥
 none_contained x h = omega (arith, h.1)
 
@@ -81,11 +76,8 @@ module _ {N : Type 0} (eq : N → N → Bool) (laws : IsEquivalence eq) (keys ke
   same_one = HasSameNodes-insert eq laws [] keys keys' s x (subst (λ (ks : List N). HasSameNodes eq ks []) (sym empty) (λ y. (λ h. h, λ h. h))) same put
 
 -- the same labels, and what waits as it was
-pub IsSound-still : {C : Type 0} (cmp : C → C → Ordering) (value : C → ℤ) (labels labels' : Labels C) (entries entries' : Entries C) → labels' ≡ labels → entries' ≡ entries → IsSound cmp value labels entries → IsSound cmp value labels' entries'
-IsSound-still cmp value labels labels' entries entries' l e s = subst (λ (ls : Labels _). IsSound cmp value ls entries') (sym l) (subst (IsSound cmp value labels) (sym e) s)
-
-pub IsHeap-still : {X : Type 0} (cmp : X → X → Ordering) (xs ys : List X) → ys ≡ xs → IsHeap cmp xs → IsHeap cmp ys
-IsHeap-still cmp xs ys e h = subst (IsHeap cmp) (sym e) h
+pub IsSound-still : {C : Type 0} (value : C → ℤ) (labels labels' : Labels C) (entries entries' : Entries C) → labels' ≡ labels → entries' ≡ entries → IsSound value labels entries → IsSound value labels' entries'
+IsSound-still value labels labels' entries entries' l e s = subst (λ (ls : Labels _). IsSound value ls entries') (sym l) (subst (IsSound value labels) (sym e) s)
 
 -- no step was taken yet
 pub Relaxed-none : {C : Type 0} (measure : C → ℕ → ℤ) (worth : C → ℤ) (parent : ℕ) (l : Label C) (labels : Labels C) → Relaxed measure worth parent l [] labels labels

@@ -7,7 +7,8 @@ use Rattle.pf_core.specs.declared.labels.Label.{Label}
 use Rattle.pf_core.specs.Labels.{Labels, HasLabel, by_cost, IsTree, IsReached, IsWithin, Covers, Settles, Widened, ComesFrom, Relaxed, Follows}
 use Rattle.pf_core.specs.Steps.{IsNonNegative, NumberedOverflows}
 use Rattle.pf_core.specs.Numbered.{ListsSteps, Grows}
-use Rattle.pf_core.specs.Queue.{Entries, IsQueue}
+use Rattle.pf_queue.specs.Entries.{Entries}
+use Rattle.pf_core.specs.Queue.{IsQueue}
 use Rattle.pf_core.specs.Search.{IsLeast, IsSearch, Turned, StepOverflows, HasBarredStep, IsWithinRange, StandsRoot}
 use Rattle.pf_base.proofs.ListLemmas.{int_dec, nat_dec}
 use Rattle.pf_core.proofs.LabelLemmas.{HasLabel-inside, label_is, Settles-set}

@@ -1,16 +1,14 @@
 -- What a search by rising cost keeps.
 use Rattle.std.specs.Prelude.{◌≡◌, ◌≤ℤ◌, ◌<◌, ◌≤◌, ◌+◌, ◌+ℤ◌, ◌⊎◌, ℤ, ℕ, pos, Bool, true, false}
-use Rattle.std.specs.BinaryHeap.{IsHeap}
-use Rattle.std.specs.declared.cmp.Ordering.{Ordering}
 use Rattle.pf_core.specs.declared.labels.Label.{Label}
 use Rattle.pf_core.specs.Labels.{Labels, HasLabel, IsTree, cost_of, settled_count}
 use Rattle.pf_core.specs.Frontier.{IsCut}
-use Rattle.pf_core.specs.Queue.{Entries, entry_cmp, IsQueue}
+use Rattle.pf_core.specs.Queue.{IsQueue}
+use Rattle.pf_queue.specs.Entries.{Entries}
 
--- Without a graph: labels form a tree, and what waits is ordered and has each open label at its cost.
-pub record IsSound {C : Type 0} (cmp : C → C → Ordering) (value : C → ℤ) (labels : Labels C) (entries : Entries C) : Type 0 where
+-- Without a graph: labels form a tree, and what waits has each open label at its cost.
+pub record IsSound {C : Type 0} (value : C → ℤ) (labels : Labels C) (entries : Entries C) : Type 0 where
   pub tree : IsTree labels
-  pub ordered : IsHeap (entry_cmp cmp) entries
   pub queue : IsQueue value labels entries
 
 module _ {C : Type 0} (measure : C → ℕ → ℤ) where
@@ -29,10 +27,6 @@ module _ {C : Type 0} (measure : C → ℕ → ℤ) where
     pub at : HasLabel labels number l
     pub opened : l.settled ≡ false
     pub least : IsLow labels (cost_of measure l)
-
-  -- of the open labels that cost as little as that of the number, none has a smaller number
-  abbrev pub IsFirst : Labels C → ℕ → Type 0
-  IsFirst labels number = (j : ℕ) (l m : Label C) → HasLabel labels number l → HasLabel labels j m → m.settled ≡ false → cost_of measure m ≡ cost_of measure l → number ≤ j
 
   -- Over a graph: the labels are those of a search by rising cost from the numbers that are roots.
   module _ {X : Type 0} (step : X → ℤ → X → Type 0) (root : ℕ → Bool) where

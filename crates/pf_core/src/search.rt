@@ -1,29 +1,28 @@
 //! A search by rising cost, over numbers.
 
-ghost use Rattle.std.specs.BinaryHeap.{heap_items};
-ghost use Rattle.std.specs.Prelude.{◌≡◌, ◌<◌, ◌≤◌, ◌+◌, ◌+ℤ◌, ◌⊎◌, ℕ, ℤ, Bool, false, Err, Contains, IfOk, IfErr, IfSome, MatchOption, OnOk, OnErr, length};
+ghost use Rattle.std.specs.Prelude.{◌≡◌, ◌<◌, ◌≤◌, ◌+◌, ◌+ℤ◌, ◌⊎◌, ℕ, ℤ, Bool, false, Err, Some, Contains, IfOk, IfErr, IfSome, MatchOption, OnOk, OnErr, length};
 ghost use Rattle.pf_core.specs.declared.labels.Label.{Label};
 ghost use Rattle.pf_core.specs.Labels.{HasLabel, by_cost, AllSettled, Follows, settled_count};
 ghost use Rattle.pf_core.specs.Numbered.{Grows};
+ghost use Rattle.pf_core.specs.Queue.{IsFront, IsOpen};
 ghost use Rattle.pf_core.specs.Steps.{IsNonNegative};
-ghost use Rattle.pf_core.specs.Search.{IsSound, IsLeast, IsFirst, IsSearch, Turned, StepOverflows, HasBarredStep, IsWithinRange};
+ghost use Rattle.pf_core.specs.Search.{IsSound, IsLeast, IsSearch, Turned, StepOverflows, HasBarredStep, IsWithinRange};
 
 use crate::labels::{label_of, settle, widen};
 use crate::numbered::NumberedGraph;
-use crate::queue::{Queue, least_open, relax};
+use crate::queue::{least_open, relax};
 use crate::slot::Slot;
 use crate::sums::sums_fit;
 use pf_base::{Cost, PathError};
+use pf_queue::CostQueue;
 use std::alloc::Allocator;
-use std::cmp::Reverse;
-use std::collections::BinaryHeap;
 
 /// What a search knows: the labels by number, which of them wait, and the steps from the number that
 /// was expanded last.
 #[derive(Drop)]
 pub struct Search<C: Cost, A: Allocator> {
     pub labels: Vec<Slot<C>, A>,
-    pub queue: Queue<C, A>,
+    pub queue: CostQueue<C, A>,
     pub row: Vec<(usize, C), A>,
 }
 
@@ -32,7 +31,7 @@ impl<C: Cost, A: Allocator + Copy> Search<C, A> {
     /// is open and costs nothing.
     pub fn begin(alloc: A, found: usize, start: usize) -> Result<Self, PathError>
         requires { start < found }
-        ensures sound { IfOk result (λ s. IsSound C.cmp C.value s.labels.items (heap_items s.queue)) }
+        ensures sound { IfOk result (λ s. IsSound C.value s.labels.items s.queue.items) }
         ensures wide { IfOk result (λ s. length s.labels.items ≡ found) }
         ensures first { IfOk result (λ s. HasLabel s.labels.items start (record { cost = C.zero; parent = 0; depth = 0; settled = false })) }
         ensures only { IfOk result (λ s. (k : ℕ) (l : Label C) → HasLabel s.labels.items k l → (k ≡ start) × (l ≡ record { cost = C.zero; parent = 0; depth = 0; settled = false })) }
@@ -43,8 +42,9 @@ impl<C: Cost, A: Allocator + Copy> Search<C, A> {
         let mut labels = Vec::new(alloc);
         widen(&mut labels, found)?;
         labels[start] = Slot::first(nothing);
-        let mut queue = BinaryHeap::new(alloc);
-        queue.push(Reverse((nothing, start as u32)))?;
+        let mut queue = CostQueue::new(alloc);
+        queue.reserve(1)?;
+        queue.push(nothing, start as u32);
         Ok(Search {
             labels,
             queue,
@@ -54,11 +54,12 @@ impl<C: Cost, A: Allocator + Copy> Search<C, A> {
 
     /// The number of an open label that costs least, or `None` where all labels are settled.
     pub fn least(&mut self) -> Option<usize>
-        requires { IsSound C.cmp C.value self.old.labels.items (heap_items self.old.queue) }
+        requires { IsSound C.value self.old.labels.items self.old.queue.items }
         ensures same { self.new.labels.items ≡ self.old.labels.items }
-        ensures sound { IsSound C.cmp C.value self.new.labels.items (heap_items self.new.queue) }
+        ensures sound { IsSound C.value self.new.labels.items self.new.queue.items }
         ensures least { MatchOption result (AllSettled self.old.labels.items) (λ k. (l : Label C) × IsLeast (by_cost C.value) self.old.labels.items k l) }
-        ensures first { IfSome result (λ k. IsFirst (by_cost C.value) self.old.labels.items k) }
+        ensures front { IfSome result (λ k. IsFront k self.new.queue.front) }
+        ensures again { (k : ℕ) → IsFront k self.old.queue.front → IsOpen self.old.labels.items k → result ≡ Some k }
     {
         least_open(&self.labels, &mut self.queue)
     }
@@ -71,11 +72,11 @@ impl<C: Cost, A: Allocator + Copy> Search<C, A> {
         graph: &mut G,
         number: usize,
     ) -> Result<(), PathError>
-        requires sound { IsSound C.cmp C.value self.old.labels.items (heap_items self.old.queue) }
+        requires sound { IsSound C.value self.old.labels.items self.old.queue.items }
         requires wide { length self.old.labels.items ≡ G.node_count graph.old }
         requires least { (l : Label C) × IsLeast (by_cost C.value) self.old.labels.items number l }
         requires graph { (g : G.Graph) × G.explores graph.old g }
-        ensures sound { IsSound C.cmp C.value self.new.labels.items (heap_items self.new.queue) }
+        ensures sound { IsSound C.value self.new.labels.items self.new.queue.items }
         ensures wide { length self.new.labels.items ≡ G.node_count graph.new }
         ensures grows { Grows (G.node_count graph.old) (G.node_count graph.new) (G.stands graph.old) (G.stands graph.new) }
         ensures graph { (g : G.Graph) → G.explores graph.old g → G.explores graph.new g }
@@ -84,7 +85,7 @@ impl<C: Cost, A: Allocator + Copy> Search<C, A> {
             → IsSearch (by_cost C.value) (G.step g) root (G.stands graph.old) self.old.labels.items
             → IsSearch (by_cost C.value) (G.step g) root (G.stands graph.new) self.new.labels.items) }
         ensures kept { OnErr result ((G.node_count graph.new ≡ G.node_count graph.old)
-            × (self.new.labels.items ≡ self.old.labels.items) × (heap_items self.new.queue ≡ heap_items self.old.queue)) }
+            × (self.new.labels.items ≡ self.old.labels.items) × (self.new.queue.items ≡ self.old.queue.items) × (self.new.queue.front ≡ self.old.queue.front)) }
         ensures overflow { result ≡ Err PathError.CostOverflow → (g : G.Graph) → G.explores graph.old g → (x : G.Node) → G.stands graph.old number x
             → (l : Label C) → HasLabel self.old.labels.items number l → StepOverflows (G.step g) C.fits x (C.value l.cost) }
         ensures barred { result ≡ Err PathError.CostOverflow → (g : G.Graph) → G.explores graph.old g → (x : G.Node) → G.stands graph.old number x
@@ -105,14 +106,14 @@ impl<C: Cost, A: Allocator + Copy> Search<C, A> {
     /// Settles the number and takes the steps of the row, once `found` numbers are found. Whatever this
     /// is refused for, labels and queue are as before it.
     fn follow(&mut self, found: usize, number: usize) -> Result<(), PathError>
-        requires sound { IsSound C.cmp C.value self.old.labels.items (heap_items self.old.queue) }
+        requires sound { IsSound C.value self.old.labels.items self.old.queue.items }
         requires wide { length self.old.labels.items ≤ found }
         requires least { (l : Label C) × IsLeast (by_cost C.value) self.old.labels.items number l }
         requires ends { (j : ℕ) (c : C) → Contains self.old.row.items (j, c) → j < found }
-        ensures sound { IsSound C.cmp C.value self.new.labels.items (heap_items self.new.queue) }
+        ensures sound { IsSound C.value self.new.labels.items self.new.queue.items }
         ensures wide { OnOk result (length self.new.labels.items ≡ found) }
         ensures followed { OnOk result ((l : Label C) → HasLabel self.old.labels.items number l → Follows C.value C.fits found number l self.old.row.items self.old.labels.items self.new.labels.items) }
-        ensures kept { OnErr result ((self.new.labels.items ≡ self.old.labels.items) × (heap_items self.new.queue ≡ heap_items self.old.queue)) }
+        ensures kept { OnErr result ((self.new.labels.items ≡ self.old.labels.items) × (self.new.queue.items ≡ self.old.queue.items) × (self.new.queue.front ≡ self.old.queue.front)) }
         ensures overflow { result ≡ Err PathError.CostOverflow → (l : Label C) → HasLabel self.old.labels.items number l
             → (j : ℕ) × (c : C) × Contains self.old.row.items (j, c) × ((m : Label C) → ¬ (HasLabel self.old.labels.items j m))
             × ((d : C) → Contains self.old.row.items (j, d) → ¬ (C.fits (C.value l.cost +ℤ C.value d))) }

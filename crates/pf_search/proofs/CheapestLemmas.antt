@@ -1,6 +1,6 @@
 -- Lemmas on walks by rising cost: what a search says of the nodes that were given, and what a turn gives.
 use Rattle.std.proofs.Common.{◌≡◌, ℕ, ◌<◌, Bool, true, false, Option, Some, None, List, [], ◌∷◌, ◌++◌, ◌∙◌, length, refl, sym, ap, subst, arith, inl, inr, ℤ, pos, true≢false, nat_eq, eq-eqb}
-use Rattle.std.specs.Prelude.{◌⊎◌, ◌↔◌, ◌≤ℤ◌, ◌+ℤ◌, Result, Ok, Err, MatchOption, reverse}
+use Rattle.std.specs.Prelude.{if◌then◌else◌, slice_get, ◌⊎◌, ◌↔◌, ◌≤ℤ◌, ◌+ℤ◌, Result, Ok, Err, MatchOption, reverse}
 use Rattle.std.specs.Result.{IsErrAnd, is_err, result_transpose}
 use borrow.Author.Tests.{eqb-true}
 use Rattle.std.specs.Cmp.{IsEquivalence}
@@ -12,12 +12,14 @@ use Rattle.pf_base.specs.Edges.{IsSuccessor, IsCheapestGoalPath}
 use Rattle.pf_core.specs.declared.labels.Label.{Label}
 use Rattle.pf_core.specs.Labels.{Labels, HasLabel, by_cost, IsTree, AllSettled}
 use Rattle.pf_core.specs.Numbered.{Grows}
+use Rattle.pf_core.specs.Queue.{IsFront, IsOpen}
 use Rattle.pf_core.specs.Steps.{IsNonNegative}
 use Rattle.pf_discovery.specs.Sources.{AnswersEdges}
 use Rattle.pf_core.specs.Nodes.{NodeGraph, StandsFor, IsStep, Explores}
 use Rattle.pf_core.specs.NodeLaws.{StandsFor-one, StandsFor-inside}
-use Rattle.pf_core.specs.Search.{IsLeast, IsFirst, IsSearch, Turned, StandsRoot, StepOverflows, IsWithinRange, SettledAt, WaitingAt}
+use Rattle.pf_core.specs.Search.{IsLeast, IsSearch, Turned, StandsRoot, StepOverflows, IsWithinRange, SettledAt, WaitingAt}
 use Rattle.pf_base.proofs.ListLemmas.{bool_dec}
+use Rattle.pf_core.proofs.QueueLemmas.{none_some}
 use Rattle.pf_core.proofs.LabelLemmas.{HasLabel-inside, label_is, parent_labelled}
 use Rattle.pf_core.proofs.FrontierLemmas.{frontier, goes_more, end_more}
 use Rattle.pf_core.proofs.PathLemmas.{climb_from, path_up}
@@ -26,7 +28,7 @@ use Rattle.pf_core.proofs.NodeLemmas.{eq-sym, eq-trans, StandsFor-same, HasEdge-
 use Rattle.pf_core.proofs.WalkLemmas.{cheapest_edge, no_negative, goes_of_walk, none_less, best_answer, all_starts, only_starts}
 use Rattle.pf_search.specs.declared.directed.dijkstra_reach.DijkstraReachableItem.{DijkstraReachableItem}
 use Rattle.pf_search.specs.CheapestFirst.{CheapestWalk, given_nodes, IsCheapestWalk, IsGiven, IsNew, GivesMore, GivesNoMore, NoNewNodeBelow, IsBehind, IsNextByCost, NextOverflows, AllGiven, IsLeft, IsBarred, RefusedFor, CheapestStep, StepKeepsBar}
-use Rattle.pf_search.specs.Internal.CheapestSearch.{KeepsSearch, given_of}
+use Rattle.pf_search.specs.Internal.CheapestSearch.{KeepsSearch, given_of, next_if, next_of}
 use Rattle.pf_search.specs.Internal.CheapestTurns.{CheapestTurn, TurnKeepsBar}
 use Rattle.pf_search.proofs.GivenLemmas.{IsSettled, settled_of_given, given_of_settled}
 
@@ -234,16 +236,16 @@ module _ {N : Type 0} (eq : N → N → Bool) (laws : IsEquivalence eq) where
           λ i. let g = settled x cost i in given_of_settled eq t told x cost (g.0, g.1, grows.stays g.0 x g.2, subst (λ (ls : List (Option (Label C))). HasLabel ls g.0 g.1) (sym e) g.3, g.4, g.5),
         )
 
-        -- where no label changed, the walk stands before the same step
-        pub bar_kept : (fits : ℤ → Type 0) → t.search.labels ≡ s.search.labels → IsBarred eq value edges start fits s → IsBarred eq value edges start fits t
-        bar_kept fits e b =
+        -- where no label changed, nor what comes next, the walk stands before the same step
+        pub bar_kept : (fits : ℤ → Type 0) → t.search.labels ≡ s.search.labels → ((k : ℕ) → s.search.next ≡ Some k → t.search.next ≡ Some k) → IsBarred eq value edges start fits s → IsBarred eq value edges start fits t
+        bar_kept fits e next b =
             let back = sym e in
             let st = b.step in
             record {
               number = b.number;
               label = b.label;
               least = subst (λ (ls : Labels C). IsLeast (by_cost value) ls b.number b.label) back b.least;
-              first = subst (λ (ls : Labels C). IsFirst (by_cost value) ls b.number) back b.first;
+              next = next b.number b.next;
               node = b.node;
               here = grows.stays b.number b.node b.here;
               step = record {
@@ -256,19 +258,12 @@ module _ {N : Type 0} (eq : N → N → Bool) (laws : IsEquivalence eq) where
             }
 
         -- where the steps from the first open label were taken, the walk stood before none that does not fit
-        module _ (fits : ℤ → Type 0) (k : ℕ) (l : Label C) (z : IsLeast (by_cost value) s.search.labels k l) (f : IsFirst (by_cost value) s.search.labels k) where
-          first_is : (b : IsBarred eq value edges start fits s) → b.number ≡ k
-          first_is b =
-              let low : value l.cost ≤ℤ value b.label.cost = z.least b.number b.label b.least.at b.least.opened in
-              let high : value b.label.cost ≤ℤ value l.cost = b.least.least k l z.at z.opened in
-              let same : value b.label.cost ≡ value l.cost = omega (arith, ints, low, high) in
-              omega (arith, f b.number l b.label z.at b.least.at b.least.opened same, b.first k b.label l b.least.at z.at z.opened (sym same))
-
+        module _ (fits : ℤ → Type 0) (k : ℕ) (l : Label C) (z : IsLeast (by_cost value) s.search.labels k l) (f : (n : ℕ) → s.search.next ≡ Some n → n ≡ k) where
           pub no_bar : ((x : N) → StandsFor eq s.search.nodes k x → (y : N) (v : ℤ) → step x v y → IsWithinRange step (StandsFor eq s.search.nodes) s.search.labels fits x (value l.cost) (StandsFor eq t.search.nodes) y)
               → ¬ (IsBarred eq value edges start fits s)
           no_bar passed b =
               let st = b.step in
-              let n : b.number ≡ k = first_is b in
+              let n : b.number ≡ k = f b.number b.next in
               let same : b.label ≡ l = label_is s.search.labels k b.label l (subst (λ (i : ℕ). HasLabel s.search.labels i b.label) n b.least.at) z.at in
               elim (passed b.node (subst (λ (i : ℕ). StandsFor eq s.search.nodes i b.node) n b.here) st.next st.price st.edge) as (λ _. ⊥) [
                 | inl o ↦ st.new o.0 o.2 o.1 o.3
@@ -329,6 +324,69 @@ module _ {N C F : Type 0} (eq : N → N → Bool) (value : C → ℤ) (edges : N
   bar_refused (Ok x) refusal e q = absurd e
   bar_refused (Err x) refusal e q = subst (λ (y : PathError). ((y ≡ PathError.CostOverflow) ⊎ IsBarred eq value edges start fits s) → IsBarred eq value edges start fits t) (sym e) q
 
+-- ---- what is known to come next
+module _ {C : Type 0} where
+  next_open : (o : Option (Option (Label C))) (n k : ℕ) → next_if o n ≡ Some k → (l : Label C) × (o ≡ Some (Some l)) × (l.settled ≡ false) × (n ≡ k)
+  next_open None n k h = absurd (none_some k h)
+  next_open (Some None) n k h = absurd (none_some k h)
+  next_open (Some (Some l)) n k h = elim (bool_dec l.settled) as (λ _. (m : Label C) × (Some (Some l) ≡ Some (Some m)) × (m.settled ≡ false) × (n ≡ k)) [
+    | inl t ↦ absurd (none_some k (sym (ap (λ (b : Bool). if b then None else Some n) t) ∙ h))
+    | inr f ↦ (l, refl, f, (let e = sym (ap (λ (b : Bool). if b then None else Some n) f) ∙ h in cc))
+  ]
+
+  -- the number that comes next has an open label, and its entry comes first
+  pub next_front : (labels : Labels C) (front : Option (C × ℕ)) (k : ℕ) → next_of labels front ≡ Some k → IsFront k front × IsOpen labels k
+  next_front labels None k h = absurd (none_some k h)
+  next_front labels (Some e) k h =
+      let o = next_open (slice_get labels e.1) e.1 k h in
+      ((e.0, ap (λ (n : ℕ). Some (e.0, n)) o.3), (o.0, subst (λ (n : ℕ). HasLabel labels n o.0) o.3 o.1, o.2))
+
+  -- and the other way round
+  pub front_next : (labels : Labels C) (front : Option (C × ℕ)) (k : ℕ) → IsFront k front → IsOpen labels k → next_of labels front ≡ Some k
+  front_next labels front k f o =
+      ap (next_of labels) f.1 ∙ (ap (λ (s : Option (Option (Label C))). next_if s k) o.1 ∙ ap (λ (b : Bool). if b then None else Some k) o.2)
+
+  -- where each label is settled, none comes next
+  pub none_next : (labels : Labels C) (front : Option (C × ℕ)) → AllSettled labels → next_of labels front ≡ None
+  none_next labels front all = by (next_of labels front) refl
+    where
+      by : (r : Option ℕ) → next_of labels front ≡ r → next_of labels front ≡ None
+      by None e = e
+      by (Some k) e = let n = next_front labels front k e in absurd (true≢false (sym (all k n.1.0 n.1.1) ∙ n.1.2))
+
+  -- what comes next does so after a search for it too
+  pub next_kept : (labels : Labels C) (front front' : Option (C × ℕ)) (number : ℕ) → ((k : ℕ) → IsFront k front → IsOpen labels k → Some number ≡ Some k) → IsFront number front' → (k : ℕ) → next_of labels front ≡ Some k → next_of labels front' ≡ Some k
+  next_kept labels front front' number again first k e =
+      let n = next_front labels front k e in
+      let is : Some number ≡ Some k = again k n.0 n.1 in
+      let same : number ≡ k = cc in
+      front_next labels front' k (subst (λ (j : ℕ). IsFront j front') same first) n.1
+
+  pub next_number : (labels : Labels C) (front : Option (C × ℕ)) (number : ℕ) → ((k : ℕ) → IsFront k front → IsOpen labels k → Some number ≡ Some k) → (k : ℕ) → next_of labels front ≡ Some k → k ≡ number
+  next_number labels front number again k e =
+      let n = next_front labels front k e in
+      let is : Some number ≡ Some k = again k n.0 n.1 in
+      cc
+
 -- what a caller sees of these parts
-abbrev pub seen : {N C F : Type 0} → List N → Labels C → Bool → F → CheapestWalk N C F
-seen nodes labels refused successors = record { given = given_of nodes labels; refused = refused; successors = successors; search = record { nodes = nodes; labels = labels } }
+abbrev pub seen : {N C F : Type 0} → List N → Labels C → Option (C × ℕ) → Bool → F → CheapestWalk N C F
+seen nodes labels front refused successors = record { given = given_of nodes labels; refused = refused; successors = successors; search = record { nodes = nodes; labels = labels; next = next_of labels front } }
+
+module _ {N C F : Type 0} (nodes : List N) (refused : Bool) (successors : F) where
+  pub seen_same : (labels labels' : Labels C) (front front' : Option (C × ℕ)) → labels' ≡ labels → front' ≡ front → seen nodes labels' front' refused successors ≡ seen nodes labels front refused successors
+  seen_same labels labels' front front' e f = ap (λ (ls : Labels C). seen nodes ls front' refused successors) e ∙ ap (λ (o : Option (C × ℕ)). seen nodes labels o refused successors) f
+
+  -- where each label is settled, nothing is seen of what comes first
+  pub seen_ended : (labels labels' : Labels C) (front front' : Option (C × ℕ)) → labels' ≡ labels → AllSettled labels → seen nodes labels' front' refused successors ≡ seen nodes labels front refused successors
+  seen_ended labels labels' front front' e all =
+      seen_same labels labels' front' front' e refl
+      ∙ ap (λ (n : Option ℕ). record { given = given_of nodes labels; refused = refused; successors = successors; search = record { nodes = nodes; labels = labels; next = n } }) (none_next labels front' all ∙ sym (none_next labels front all))
+
+module _ {N C F : Type 0} (eq : N → N → Bool) (value : C → ℤ) (edges : N → List (N × ℤ)) (start : N) where
+  -- what is known to come next is no part of what a walk is
+  pub known : (answers : F → (N → Type 0) → (N → List (N × ℤ)) → Type 0) (s : CheapestWalk N C F) (n : Option ℕ) → IsCheapestWalk eq value edges start answers s → IsCheapestWalk eq value edges start answers (record s { search = record s.search { next = n } })
+  known answers s n w = record { explored = w.explored; costs = w.costs; begins = w.begins; wide = w.wide; search = w.search; given = w.given }
+
+  -- the walk stands before the same step, where the same comes next
+  pub bar_known : (fits : ℤ → Type 0) (s : CheapestWalk N C F) (n : Option ℕ) → ((k : ℕ) → s.search.next ≡ Some k → n ≡ Some k) → IsBarred eq value edges start fits s → IsBarred eq value edges start fits (record s { search = record s.search { next = n } })
+  bar_known fits s n next b = record { number = b.number; label = b.label; least = b.least; next = next b.number b.next; node = b.node; here = b.here; step = b.step }

@@ -26,7 +26,7 @@ use std::hash::Hash;
 /// - `OutOfMemory`: a request for memory was refused.
 ///
 /// The algorithm is Dijkstra's (E. W. Dijkstra, "A note on two problems in connexion with graphs",
-/// 1959), with a binary heap.
+/// 1959), with a queue that is sorted only as far as it is read.
 pub fn dijkstra<N, C, S, T, A>(
     alloc: A,
     space: &S,

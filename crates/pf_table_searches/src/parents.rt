@@ -25,7 +25,7 @@ use std::alloc::Allocator;
 /// - `OutOfMemory`: a request for memory was refused.
 ///
 /// The algorithm is Dijkstra's (E. W. Dijkstra, "A note on two problems in connexion with graphs",
-/// 1959), with a binary heap.
+/// 1959), with a queue that is sorted only as far as it is read.
 pub fn dijkstra_all<C, G, A>(
     alloc: A,
     graph: &G,

@@ -187,7 +187,7 @@ where
 /// refused again after each `resume`.
 ///
 /// The algorithm is Dijkstra's (E. W. Dijkstra, "A note on two problems in connexion with graphs",
-/// 1959), with a binary heap.
+/// 1959), with a queue that is sorted only as far as it is read.
 pub fn dijkstra_reach<'a, C, G, A>(
     alloc: A,
     graph: &'a G,

@@ -26,7 +26,7 @@ use std::alloc::Allocator;
 /// - `OutOfMemory`: a request for memory was refused.
 ///
 /// The algorithm is Dijkstra's (E. W. Dijkstra, "A note on two problems in connexion with graphs",
-/// 1959), with a binary heap. A call lays out one label for each node of the graph, and then takes
+/// 1959), with a queue that is sorted only as far as it is read. A call lays out one label for each node of the graph, and then takes
 /// memory and time for those that it reaches.
 pub fn dijkstra<C, G, T, A>(
     alloc: A,

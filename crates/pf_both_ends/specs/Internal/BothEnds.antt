@@ -1,7 +1,5 @@
 -- What contracts of private functions say of a search by rising cost from both ends.
 use Rattle.std.specs.Prelude.{◌≡◌, ◌⊎◌, ◌↔◌, ◌≤ℤ◌, ◌<ℤ◌, ◌+ℤ◌, ℕ, ℤ, pos, Bool, true, false, List, [], ◌∷◌, Option, Some, None, MatchOption, MatchBool, nat_eq, length, slice_get, take, Contains}
-use Rattle.std.specs.BinaryHeap.{heap_items}
-use Rattle.std.specs.declared.cmp.Ordering.{Ordering}
 use Rattle.pf_base.specs.Walks.{end_of}
 use Rattle.pf_base.specs.Edges.{InReach, HasNoNegativeCost}
 use Rattle.pf_base.specs.Answers.{ListsEdges}
@@ -11,7 +9,7 @@ use Rattle.pf_core.specs.declared.search.Search.{Search}
 use Rattle.pf_both_ends.specs.declared.two_sided.TwoSided.{TwoSided}
 use Rattle.pf_core.specs.Labels.{Labels, HasLabel, IsTree, IsChain, by_cost}
 use Rattle.pf_core.specs.Nodes.{NodeGraph, StandsFor, IsStep, Explores}
-use Rattle.pf_core.specs.Queue.{Entries}
+use Rattle.pf_queue.specs.Entries.{Entries}
 use Rattle.pf_core.specs.Search.{IsSearch, IsSound}
 use Rattle.pf_core.specs.Steps.{GoesAlong}
 use Rattle.pf_both_ends.specs.declared.dijkstra.Meeting.{Meeting}
@@ -39,9 +37,9 @@ abbrev pub TellsAtMost : {C : Type 0} → (C → ℤ) → Option (Meeting C) →
 TellsAtMost value best t answer = MatchOption best (answer ≡ false) (λ m. MatchBool answer (value m.cost ≤ℤ t) (t <ℤ value m.cost))
 
 -- Without the graphs: both searches are sound, and have a slot for each number that was found.
-pub record AreSound {N C : Type 0} (cmp : C → C → Ordering) (value : C → ℤ) (keys others : List N) (labels labels' : Labels C) (entries entries' : Entries C) : Type 0 where
-  pub forth : IsSound cmp value labels entries
-  pub back : IsSound cmp value labels' entries'
+pub record AreSound {N C : Type 0} (value : C → ℤ) (keys others : List N) (labels labels' : Labels C) (entries entries' : Entries C) : Type 0 where
+  pub forth : IsSound value labels entries
+  pub back : IsSound value labels' entries'
   pub wide_forth : length labels ≡ length keys
   pub wide_back : length labels' ≡ length others
 
@@ -132,8 +130,8 @@ module _ {N C Z : Type 0} (eq : N → N → Bool) (value : C → ℤ) (keys othe
 -- What is said above of nodes and labels, said of a graph that is searched from both ends and of its two searches.
 module _ {N C S P Z : Type 0} where
   -- both are sound, and have a slot for each number that was found
-  abbrev pub AreSoundOn : (C → C → Ordering) → (C → ℤ) → TwoSided N S P Z → Search C Z → Search C Z → Type 0
-  AreSoundOn cmp value graph forth back = AreSound cmp value graph.forth.nodes.keys graph.back.nodes.keys forth.labels.items back.labels.items (heap_items forth.queue) (heap_items back.queue)
+  abbrev pub AreSoundOn : (C → ℤ) → TwoSided N S P Z → Search C Z → Search C Z → Type 0
+  AreSoundOn value graph forth back = AreSound value graph.forth.nodes.keys graph.back.nodes.keys forth.labels.items back.labels.items forth.queue.items back.queue.items
 
   -- the chains of numbers lead to one node, whose labels sum to no more than the cost, and which is the first of its chain with such labels
   abbrev pub AreHalvesOn : (N → N → Bool) → (C → ℤ) → TwoSided N S P Z → Search C Z → Search C Z → ℤ → List ℕ → List ℕ → Type 0

@@ -74,8 +74,9 @@ where
 /// - `OutOfMemory`: a request for memory was refused.
 ///
 /// The algorithm is Dijkstra's (E. W. Dijkstra, "A note on two problems in connexion with graphs",
-/// 1959), with a binary heap: over n nodes and m edges in reach it takes time of the order of
-/// (n + m) log (n + m). `successors` is asked at most once for each node in reach; no clause can count the
+/// 1959), with a queue that is sorted only as far as it is read (G. Navarro and R. Paredes, "On
+/// sorting, heaps, and minimum spanning trees", 2010): over n nodes and m edges in reach it takes time
+/// of the order of (n + m) log (n + m), save on costs that are chosen against it. `successors` is asked at most once for each node in reach; no clause can count the
 /// calls of a function, so that this is so is to be read in `search_to_goal`.
 pub fn dijkstra<N, C, IN, FN, FS, A>(
     alloc: A,

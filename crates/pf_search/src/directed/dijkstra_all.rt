@@ -98,7 +98,7 @@ where
 /// - `OutOfMemory`: a request for memory was refused.
 ///
 /// The algorithm is Dijkstra's (E. W. Dijkstra, "A note on two problems in connexion with graphs",
-/// 1959), with a binary heap.
+/// 1959), with a queue that is sorted only as far as it is read.
 pub fn dijkstra_all<N, C, IN, FN, A>(
     alloc: A,
     start: &N,
@@ -147,7 +147,7 @@ where
 /// - `OutOfMemory`: a request for memory was refused.
 ///
 /// The algorithm is Dijkstra's (E. W. Dijkstra, "A note on two problems in connexion with graphs",
-/// 1959), with a binary heap.
+/// 1959), with a queue that is sorted only as far as it is read.
 pub fn dijkstra_partial<N, C, IN, FN, FS, A>(
     alloc: A,
     start: &N,

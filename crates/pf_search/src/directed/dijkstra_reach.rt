@@ -71,10 +71,9 @@ pub struct DijkstraReachable<N: Eq + Hash, C: Cost, F, A: Allocator = Global> {
 
 impl<N: Eq + Hash, C: Cost, F, A: Allocator> Model for DijkstraReachable<N, C, F, A> {
     ghost use Rattle.std.specs.Prelude.{◌≡◌, length};
-    ghost use Rattle.std.specs.BinaryHeap.{heap_items};
     ghost use Rattle.pf_core.specs.Search.{IsSound};
     ghost use Rattle.pf_search.specs.CheapestFirst.{CheapestWalk, cheapest_walk_code};
-    ghost use Rattle.pf_search.specs.Internal.CheapestSearch.{given_of};
+    ghost use Rattle.pf_search.specs.Internal.CheapestSearch.{given_of, next_of};
 
     ghost Value = { CheapestWalk N C F };
 
@@ -84,10 +83,10 @@ impl<N: Eq + Hash, C: Cost, F, A: Allocator> Model for DijkstraReachable<N, C, F
       given = given_of s.discovery.nodes.keys s.search.labels.items;
       refused = s.refused;
       successors = s.discovery.source.function;
-      search = record { nodes = s.discovery.nodes.keys; labels = s.search.labels.items };
+      search = record { nodes = s.discovery.nodes.keys; labels = s.search.labels.items; next = next_of s.search.labels.items s.search.queue.front };
     } };
 
-    ghost invariant = { λ s. IsSound C.cmp C.value s.search.labels.items (heap_items s.search.queue) × (length s.search.labels.items ≡ length s.discovery.nodes.keys) };
+    ghost invariant = { λ s. IsSound C.value s.search.labels.items s.search.queue.items × (length s.search.labels.items ≡ length s.discovery.nodes.keys) };
 }
 
 impl<N, C, F, A> Iterator for DijkstraReachable<N, C, F, A>
@@ -219,7 +218,7 @@ where
 /// that was refused with `CostOverflow` is refused again after each `resume`.
 ///
 /// The algorithm is Dijkstra's (E. W. Dijkstra, "A note on two problems in connexion with graphs",
-/// 1959), with a binary heap.
+/// 1959), with a queue that is sorted only as far as it is read.
 pub fn dijkstra_reach<N, C, IN, FN, A>(
     alloc: A,
     start: &N,

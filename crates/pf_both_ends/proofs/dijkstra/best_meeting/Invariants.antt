@@ -1,6 +1,5 @@
 use Rattle.std.proofs.Common.{◌≡◌, ◌+◌, ◌-◌, ◌^◌, List, ℤ, pos, length, cond}
 use Rattle.std.specs.Prelude.{◌+ℤ◌, IfSome}
-use Rattle.std.specs.BinaryHeap.{heap_items}
 use Rattle.pf_core.specs.Labels.{settled_count}
 use Rattle.pf_core.specs.Search.{IsSound}
 use Rattle.pf_core.specs.Nodes.{NodeGraph, Explores}
@@ -15,8 +14,8 @@ invariant-turns g l =
     let explores = Explores eq g.S.EdgeSource.answers in
     let explores_back = Explores eq g.P.EdgeSource.answers in
     record {
-      sound_forth : IsSound g.C.Ord.cmp value l.forth.labels.items (heap_items l.forth.queue);
-      sound_back : IsSound g.C.Ord.cmp value l.back.labels.items (heap_items l.back.queue);
+      sound_forth : IsSound value l.forth.labels.items l.forth.queue.items;
+      sound_back : IsSound value l.back.labels.items l.back.queue.items;
       wide_forth : length l.forth.labels.items ≡ length l.graph.forth.nodes.keys;
       wide_back : length l.back.labels.items ≡ length l.graph.back.nodes.keys;
       explored_forth : (h : NodeGraph g.row.N.Denot) → explores h l.fn.graph.forth.nodes.keys l.fn.graph.forth.source → explores h l.graph.forth.nodes.keys l.graph.forth.source;

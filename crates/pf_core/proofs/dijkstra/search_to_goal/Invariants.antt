@@ -1,5 +1,4 @@
 use Rattle.std.proofs.Common.{◌≡◌, ◌-◌, ◌+◌, ◌^◌, length}
-use Rattle.std.specs.BinaryHeap.{heap_items}
 use Rattle.pf_core.specs.Steps.{IsNonNegative}
 use Rattle.pf_core.specs.Numbered.{Grows}
 use Rattle.pf_core.specs.Labels.{settled_count}
@@ -9,7 +8,7 @@ use Rattle.pf_core.proofs.dijkstra.search_to_goal.Given as goal
 
 abbrev pub invariant-turns : goal.invariant-turns
 invariant-turns g l = record {
-  sound : IsSound g.C.Ord.cmp g.C.Number.value l.search.labels.items (heap_items l.search.queue);
+  sound : IsSound g.C.Number.value l.search.labels.items l.search.queue.items;
   wide : length l.search.labels.items ≡ g.G.NumberedGraph.node_count l.graph;
   asked : l.tally ≡ l.fn.tally + settled_count l.search.labels.items;
   grown : Grows (g.G.NumberedGraph.node_count l.fn.graph) (g.G.NumberedGraph.node_count l.graph) (g.G.NumberedGraph.stands l.fn.graph) (g.G.NumberedGraph.stands l.graph);

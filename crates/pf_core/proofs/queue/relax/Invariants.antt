@@ -1,16 +1,14 @@
 use Rattle.std.proofs.Common.{ℕ, ◌+◌, ◌-◌, ◌≤◌, length, take}
 use Rattle.std.specs.Prelude.{Contains, ◌+ℤ◌}
-use Rattle.std.specs.BinaryHeap.{IsHeap, heap_items, heap_len, heap_capacity}
 use Rattle.pf_core.specs.Labels.{Relaxed, Covers}
 use Rattle.pf_core.specs.Labels.{by_cost}
-use Rattle.pf_core.specs.Queue.{entry_cmp, IsQueue}
+use Rattle.pf_core.specs.Queue.{IsQueue}
 use Rattle.pf_core.proofs.queue.relax.Given as goal
 
 abbrev pub invariant-steps : goal.invariant-steps
 invariant-steps g l = record {
-  room : heap_len l.queue + (length l.row - l.next-index) ≤ heap_capacity l.queue;
-  ordered : IsHeap (entry_cmp g.C.Ord.cmp) (heap_items l.queue);
-  queue : IsQueue g.C.Number.value l.labels.items (heap_items l.queue);
+  room : length l.row - l.next-index ≤ l.queue.room;
+  queue : IsQueue g.C.Number.value l.labels.items l.queue.items;
   relaxed : Relaxed (by_cost g.C.Number.value) g.C.Number.value l.parent l.label (take l.next-index l.row) l.fn.labels.items l.labels.items;
   reached : (j : ℕ) (c : g.row.C.Denot) → Contains (take l.next-index l.row) (j, c) → g.C.Number.fits (g.C.Number.value l.label.cost +ℤ g.C.Number.value c) → Covers (by_cost g.C.Number.value) g.C.Number.value l.label l.labels.items j c;
 }

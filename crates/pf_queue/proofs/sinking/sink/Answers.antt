@@ -1,10 +1,8 @@
-use Rattle.std.proofs.Common.{◌∙◌, ap, sym, subst, arith, rules, get_or, length, ◌-◌, ◌+◌, ◌≡◌, ◌≤◌, ◌<◌, ℕ, Some}
-use Rattle.std.specs.Prelude.{◌≤ℤ◌, ◌<ℤ◌, slice_get, slice_set}
+use Rattle.std.proofs.Common.{◌∙◌, ap, sym, subst, arith, rules, get_or, length, ◌-◌, ◌+◌}
+use Rattle.std.specs.Prelude.{slice_set}
 use Rattle.std.specs.Ordering.{is_some_and, is_lt}
 use Rattle.std.proofs.lemmas.Int.{ints}
-use Rattle.std.proofs.lemmas.Option.{slice_get_within}
 use Rattle.pf_base.proofs.ListLemmas.{at_place, lt_means}
-use Rattle.pf_queue.specs.Entries.{cost_at, IsRearranged}
 use Rattle.pf_queue.specs.Parts.{IsArranged}
 use Rattle.pf_queue.proofs.EntryLemmas.{cost_at_get, rearranged_wide}
 use Rattle.pf_queue.proofs.MarkLemmas.{IsPassing, passing_none, passing_more, passed_hidden, passed_exposed, passed_all, stopped, sized}

@@ -2,13 +2,12 @@ use Rattle.std.proofs.Common.{◌<◌, sym, subst, refl, length, Option, false, 
 use Rattle.std.proofs.lemmas.List.{length-set}
 use Rattle.std.proofs.lemmas.Result.{IfOk-from_err}
 use Rattle.std.specs.Prelude.{slice_set}
-use Rattle.std.specs.BinaryHeap.{heap_items}
 use Rattle.pf_core.specs.declared.labels.Label.{Label}
 use Rattle.pf_core.specs.Search.{IsSound}
 use Rattle.pf_core.specs.Labels.{Labels, settled_count}
 use Rattle.pf_core.proofs.LabelLemmas.{none_widened, first_there, only_first, tree_start}
 use Rattle.pf_core.proofs.QueueLemmas.{IsQueue-none, IsQueue-lower}
-use Rattle.pf_base.proofs.Outcomes.{no_memory, refused_as}
+use Rattle.pf_base.proofs.Outcomes.{refused_as}
 use Rattle.pf_core.proofs.ReadLemmas.{least_zero, none_settled}
 use Rattle.pf_core.proofs.search.Search.begin.Goals as goal
 
@@ -28,14 +27,14 @@ returns-in_err-widen g c = record {
 pub index_mut-requires : goal.index_mut-requires
 index_mut-requires g c = subst (λ (n : ℕ). c.args.start < n) (sym (c.widen.new.labels.ok.0 ∙ c.in_ok-widen.ensures.widened.len)) c.requires
 
-pub returns-in_err-push : goal.returns-in_err-push
-returns-in_err-push g c = record {
-  sound = IfOk-from_err _ _ c.from_residual-in_err-push.ensures.0;
-  wide = IfOk-from_err _ _ c.from_residual-in_err-push.ensures.0;
-  first = IfOk-from_err _ _ c.from_residual-in_err-push.ensures.0;
-  only = IfOk-from_err _ _ c.from_residual-in_err-push.ensures.0;
-  none = IfOk-from_err _ _ c.from_residual-in_err-push.ensures.0;
-  refused = no_memory c.from_residual-in_err-push.result c.from_residual-in_err-push.ensures.1;
+pub returns-in_err-reserve : goal.returns-in_err-reserve
+returns-in_err-reserve g c = record {
+  sound = IfOk-from_err _ _ c.from_residual-in_err-reserve.ensures.0;
+  wide = IfOk-from_err _ _ c.from_residual-in_err-reserve.ensures.0;
+  first = IfOk-from_err _ _ c.from_residual-in_err-reserve.ensures.0;
+  only = IfOk-from_err _ _ c.from_residual-in_err-reserve.ensures.0;
+  none = IfOk-from_err _ _ c.from_residual-in_err-reserve.ensures.0;
+  refused = refused_as _ c.from_residual-in_err-reserve.result c.in_err-reserve.field-0.0 c.from_residual-in_err-reserve.ensures.1 c.in_err-reserve.ensures.refused;
 }
 
 pub returns : goal.returns
@@ -45,11 +44,10 @@ returns g c = record {
       let wider = c.widen.new.labels.items in
       let none = none_widened c.args.found _ wider c.new-labels.ensures.items c.in_ok-widen.ensures.widened in
       let inside : c.args.start < length wider = subst (λ (n : ℕ). c.args.start < n) (sym c.in_ok-widen.ensures.widened.len) c.requires in
-      subst (λ (o : Option (Label g.row.C.Denot)). IsSound g.C.Ord.cmp g.C.Number.value (slice_set wider c.args.start o) (heap_items c.push.new.self)) (sym c.first.ensures)
+      subst (λ (o : Option (Label g.row.C.Denot)). IsSound g.C.Number.value (slice_set wider c.args.start o) c.push.new.self.items) (sym c.first.ensures)
       (record {
         tree = tree_start wider none c.args.start first inside refl;
-        ordered = c.in_ok-push.ensures.heap_order c.new-queue.ensures.heap_order;
-        queue = IsQueue-lower g.C.Number.value wider c.args.start first refl inside (λ l h. absurd (none c.args.start l h)) _ _ (IsQueue-none g.C.Number.value wider _ c.new-queue.ensures.items none) c.in_ok-push.ensures.permutation;
+        queue = IsQueue-lower g.C.Number.value wider c.args.start first refl inside (λ l h. absurd (none c.args.start l h)) _ _ (IsQueue-none g.C.Number.value wider _ (c.in_ok-reserve.ensures.same.0 ∙ c.new-queue.ensures.empty) none) c.push.ensures.added;
       });
   first =
       let first : Label g.row.C.Denot = record { cost = g.C.Zero.zero; parent = 0; depth = 0; settled = false } in

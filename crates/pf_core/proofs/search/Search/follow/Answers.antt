@@ -4,11 +4,11 @@ use Rattle.std.specs.Prelude.{◌+ℤ◌}
 use Rattle.std.proofs.lemmas.List.{take_at}
 use Rattle.pf_core.specs.declared.labels.Label.{Label}
 use Rattle.pf_core.specs.Labels.{by_cost, Follows}
-use Rattle.pf_core.specs.Queue.{entry_cmp, IsQueue}
+use Rattle.pf_core.specs.Queue.{IsQueue}
 use Rattle.pf_core.proofs.LabelLemmas.{HasLabel-inside, label_is}
 use Rattle.pf_core.proofs.TurnLemmas.{least_is, len_settled, queue_settled, follows, follows_row, tree_followed}
-use Rattle.pf_base.proofs.Outcomes.{memory_no_overflow, no_memory_or, no_overflow, ok_not_err, on_err, refused_as}
-use Rattle.pf_core.proofs.ReadLemmas.{within_found, same_row, IsSound-still, IsHeap-still}
+use Rattle.pf_base.proofs.Outcomes.{no_overflow, ok_not_err, on_err, refused_as}
+use Rattle.pf_core.proofs.ReadLemmas.{within_found, same_row, IsSound-still}
 use Rattle.pf_core.proofs.search.Search.follow.Goals as goal
 
 pub settle-requires : goal.settle-requires
@@ -46,7 +46,7 @@ relax-requires-clause-queue g c =
     let w = c.in_ok-widen.ensures.widened in
     let z = least_is (by_cost g.C.Number.value) c.args.self.now.labels.items c.args.number c.requires.least.0 l c.requires.least.1 c.label_of-label.ensures in
     let is = c.settle.ensures l (w.stays c.args.number l c.label_of-label.ensures) in
-    subst (IsQueue g.C.Number.value c.settle.new.labels.items) (sym c.in_ok-reserve.ensures.items) (queue_settled g.C.Number.value c.args.number l c.args.self.now.labels.items _ _ z c.args.found w is _ c.requires.sound.queue)
+    subst (IsQueue g.C.Number.value c.settle.new.labels.items) (sym c.in_ok-reserve.ensures.same.0) (queue_settled g.C.Number.value c.args.number l c.args.self.now.labels.items _ _ z c.args.found w is _ c.requires.sound.queue)
 
 pub label_of-label-requires : goal.label_of-label-requires
 label_of-label-requires g c = (c.requires.least.0, c.requires.least.1.at)
@@ -61,18 +61,18 @@ returns-then-not-sums_fit g c = record {
   sound = c.requires.sound;
   wide = tt;
   followed = tt;
-  kept = (refl, refl);
+  kept = (refl, refl, refl);
   errors = inr refl;
 }
 
 pub returns-in_err-reserve : goal.returns-in_err-reserve
 returns-in_err-reserve g c = record {
-  sound = IsSound-still g.C.Ord.cmp g.C.Number.value _ _ _ _ refl c.in_err-reserve.ensures.items c.requires.sound;
+  sound = IsSound-still g.C.Number.value _ _ _ _ refl c.in_err-reserve.ensures.same.0 c.requires.sound;
   wide = IfOk-from_err _ _ c.from_residual.ensures.0;
   followed = IfOk-from_err _ _ c.from_residual.ensures.0;
-  kept = on_err c.from_residual.result (refl, c.in_err-reserve.ensures.items);
-  overflow = λ e. absurd (memory_no_overflow c.from_residual.result c.from_residual.ensures.1 e);
-  errors = no_memory_or _ c.from_residual.result c.from_residual.ensures.1;
+  kept = on_err c.from_residual.result (refl, c.in_err-reserve.ensures.same.0, c.in_err-reserve.ensures.same.1);
+  overflow = λ e. absurd (no_overflow c.from_residual.result c.in_err-reserve.field-0.0 c.from_residual.ensures.1 c.in_err-reserve.ensures.refused e);
+  errors = refused_as _ c.from_residual.result c.in_err-reserve.field-0.0 c.from_residual.ensures.1 (inl c.in_err-reserve.ensures.refused);
 }
 
 pub widen-requires : goal.widen-requires
@@ -80,16 +80,13 @@ widen-requires g c = c.requires.wide
 
 pub returns-in_err-widen : goal.returns-in_err-widen
 returns-in_err-widen g c = record {
-  sound = IsSound-still g.C.Ord.cmp g.C.Number.value _ _ _ _ c.in_err-widen.ensures.kept c.in_ok-reserve.ensures.items c.requires.sound;
+  sound = IsSound-still g.C.Number.value _ _ _ _ c.in_err-widen.ensures.kept c.in_ok-reserve.ensures.same.0 c.requires.sound;
   wide = IfOk-from_err _ _ c.from_residual-in_err-widen.ensures.0;
   followed = IfOk-from_err _ _ c.from_residual-in_err-widen.ensures.0;
-  kept = on_err c.from_residual-in_err-widen.result (c.in_err-widen.ensures.kept, c.in_ok-reserve.ensures.items);
+  kept = on_err c.from_residual-in_err-widen.result (c.in_err-widen.ensures.kept, c.in_ok-reserve.ensures.same.0, c.in_ok-reserve.ensures.same.1);
   overflow = λ e. absurd (no_overflow c.from_residual-in_err-widen.result c.in_err-widen.field-0.0 c.from_residual-in_err-widen.ensures.1 c.in_err-widen.ensures.refused e);
   errors = refused_as _ c.from_residual-in_err-widen.result c.in_err-widen.field-0.0 c.from_residual-in_err-widen.ensures.1 (inl c.in_err-widen.ensures.refused);
 }
-
-pub relax-requires-clause-ordered : goal.relax-requires-clause-ordered
-relax-requires-clause-ordered g c = IsHeap-still (entry_cmp g.C.Ord.cmp) _ _ c.in_ok-reserve.ensures.items c.requires.sound.ordered
 
 pub returns : goal.returns
 returns g c =
@@ -104,7 +101,6 @@ returns g c =
           let f = follows g.C.Number.value c.args.number l c.args.self.now.labels.items _ _ z c.args.found w is g.C.Number.fits c.sums_fit.new.row _ (rw whole at c.relax.ensures.relaxed) (rw whole at c.relax.ensures.reached) ends c.known.ensures in
           record {
             tree = tree_followed g.C.Number.value g.C.Number.fits (λ x y v. g.C.Number.between_law x y v g.met.C.Integral.exact_law) c.args.found c.args.number l c.sums_fit.new.row _ _ f c.requires.sound.tree;
-            ordered = c.relax.ensures.ordered;
             queue = c.relax.ensures.queue;
           };
       wide = c.relax.ensures.relaxed.len ∙ len_settled g.C.Number.value c.args.number l c.args.self.now.labels.items _ _ z c.args.found w is;

@@ -25,7 +25,7 @@ returns-in_err-expand g c = record {
   turned = IfOk-from_err _ _ c.from_residual.ensures.0;
   search = IfOk-from_err _ _ c.from_residual.ensures.0;
   within = IfOk-from_err _ _ c.from_residual.ensures.0;
-  kept = on_err c.from_residual.result (c.in_err-expand.ensures.refused.1, refl, refl);
+  kept = on_err c.from_residual.result (c.in_err-expand.ensures.refused.1, refl, refl, refl);
   overflow = λ e. absurd (no_overflow c.from_residual.result c.in_err-expand.field-0.0 c.from_residual.ensures.1 c.in_err-expand.ensures.refused.0 e);
   barred = λ e. absurd (no_overflow c.from_residual.result c.in_err-expand.field-0.0 c.from_residual.ensures.1 c.in_err-expand.ensures.refused.0 e);
   errors = refused_as _ c.from_residual.result c.in_err-expand.field-0.0 c.from_residual.ensures.1 (inl c.in_err-expand.ensures.refused.0);
@@ -58,7 +58,7 @@ returns-in-Err g c = record {
   turned = tt;
   search = tt;
   within = tt;
-  kept = (c.forget.ensures.left ∙ c.node_count-before.ensures, c.in-Err.ensures.kept.0, c.in-Err.ensures.kept.1);
+  kept = (c.forget.ensures.left ∙ c.node_count-before.ensures, c.in-Err.ensures.kept.0, c.in-Err.ensures.kept.1, c.in-Err.ensures.kept.2);
   errors = c.in-Err.ensures.errors;
 }
 

@@ -11,7 +11,7 @@ returns-clause-steps g c = λ edges start w.
     let e = rw (← c.self-2.view_is) at (c.step-step.ensures.steps edges start w) in
     let same = rw (← c.self-2.view_is) at c.step-step.ensures.same in
     let h = sym (ap (λ (v : CheapestWalk g.row.N.Denot g.row.C.Denot g.row.F.Denot). v.refused) c.self.view_is) ∙ c.if-self.false in
-    let t = seen i.discovery.nodes.keys i.search.labels.items i.refused i.discovery.source.function in
+    let t = seen i.discovery.nodes.keys i.search.labels.items i.search.queue.front i.refused i.discovery.source.function in
     let step = step_of g.N.PartialEq.eq g.met.N.Eq.laws g.C.Number.value _ edges start g.C.Number.fits c.args.self.now t c.step-step.result h same e in
     rw (c.transpose.ensures, c.is_err-self-inside.ensures.value)
     (step.0, step.1, bars_of g.N.PartialEq.eq g.C.Number.value edges start g.C.Number.fits c.args.self.now t c.step-step.result (rw (← c.self-2.view_is) at (c.step-step.ensures.bars edges start w)))
