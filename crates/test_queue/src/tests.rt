@@ -59,8 +59,28 @@ fn keeps_when_refused(alloc: Global) -> bool {
     refused && queue.len() == 40 && put(&mut queue, 300) && take_rising(&mut queue, 340)
 }
 
+/// Each growth refused alone, until a run meets no refusal, is told: also the one for marks, which
+/// come with more entries than are sorted at once.
+fn tells_each_refusal(alloc: Global) -> bool {
+    for growth in 0..100u64 {
+        let heap = Refusing::new(alloc);
+        heap.refuse(growth, 1);
+        let mut queue = CostQueue::new(&heap);
+        let is_whole = put(&mut queue, 200);
+        let is_refused = heap.pending() == 0;
+        if is_whole == is_refused {
+            return false;
+        }
+        if is_whole {
+            return growth > 1;
+        }
+    }
+    false
+}
+
 #[test]
 fn least_costs_come_first(rt: HostRuntime) {
     assert!(rt; serves(rt.alloc()));
     assert!(rt; keeps_when_refused(rt.alloc()));
+    assert!(rt; tells_each_refusal(rt.alloc()));
 }
