@@ -1,6 +1,6 @@
 //! Costs: whole numbers between a least and a greatest one.
 
-ghost use Rattle.std.specs.Prelude.{◌≡◌, ◌↔◌, ◌≤ℤ◌, ◌-ℤ◌, ℤ, pos, neg_ℤ};
+ghost use Rattle.std.specs.Prelude.{◌≡◌, ◌↔◌, ◌≤ℤ◌, ◌+ℤ◌, ◌-ℤ◌, ℤ, pos, neg_ℤ, IfSome};
 ghost use Rattle.pf_base.specs.Costs.{LiesBetween};
 
 pub mod arithmetic;
@@ -33,6 +33,14 @@ pub trait Cost: Copy + Ord + Zero + CheckedAdd {
     /// Says that the number of a cost lies in the range of its type. The body is empty.
     fn known(self)
         ensures { Self.fits (Self.value self) };
+
+    /// The difference of two costs, or `None` where it does not fit or the type does not find it. An
+    /// own type may leave this method out; `yen` then searches its classes without it.
+    fn difference(self, other: Self) -> Option<Self>
+        ensures { IfSome result (λ cost. Self.value cost +ℤ Self.value other ≡ Self.value self) }
+    {
+        None
+    }
 
     // The whole numbers that fit are those between the least and the greatest.
     ghost range_law: { (z : ℤ) → Self.fits z ↔ LiesBetween (Self.value least) (Self.value greatest) z };

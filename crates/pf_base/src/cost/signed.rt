@@ -22,6 +22,10 @@ impl Cost for i8 {
 
     fn known(self) {}
 
+    fn difference(self, other: i8) -> Option<i8> {
+        self.checked_sub(other)
+    }
+
     ghost range_law = { signed-bounds w8 };
 }
 
@@ -51,6 +55,10 @@ impl Cost for i16 {
     }
 
     fn known(self) {}
+
+    fn difference(self, other: i16) -> Option<i16> {
+        self.checked_sub(other)
+    }
 
     ghost range_law = { signed-bounds w16 };
 }
@@ -82,6 +90,10 @@ impl Cost for i32 {
 
     fn known(self) {}
 
+    fn difference(self, other: i32) -> Option<i32> {
+        self.checked_sub(other)
+    }
+
     ghost range_law = { signed-bounds w32 };
 }
 
@@ -111,6 +123,10 @@ impl Cost for i64 {
     }
 
     fn known(self) {}
+
+    fn difference(self, other: i64) -> Option<i64> {
+        self.checked_sub(other)
+    }
 
     ghost range_law = { signed-bounds w64 };
 }
@@ -142,6 +158,10 @@ impl Cost for i128 {
 
     fn known(self) {}
 
+    fn difference(self, other: i128) -> Option<i128> {
+        self.checked_sub(other)
+    }
+
     ghost range_law = { signed-bounds w128 };
 }
 
@@ -171,6 +191,10 @@ impl Cost for isize {
     }
 
     fn known(self) {}
+
+    fn difference(self, other: isize) -> Option<isize> {
+        self.checked_sub(other)
+    }
 
     ghost range_law = { signed-bounds w64 };
 }

@@ -20,6 +20,10 @@ impl Cost for u8 {
 
     fn known(self) {}
 
+    fn difference(self, other: u8) -> Option<u8> {
+        self.checked_sub(other)
+    }
+
     ghost range_law = { unsigned-bounds 8 };
 }
 
@@ -37,6 +41,10 @@ impl Cost for u16 {
     }
 
     fn known(self) {}
+
+    fn difference(self, other: u16) -> Option<u16> {
+        self.checked_sub(other)
+    }
 
     ghost range_law = { unsigned-bounds 16 };
 }
@@ -56,6 +64,10 @@ impl Cost for u32 {
 
     fn known(self) {}
 
+    fn difference(self, other: u32) -> Option<u32> {
+        self.checked_sub(other)
+    }
+
     ghost range_law = { unsigned-bounds 32 };
 }
 
@@ -73,6 +85,10 @@ impl Cost for u64 {
     }
 
     fn known(self) {}
+
+    fn difference(self, other: u64) -> Option<u64> {
+        self.checked_sub(other)
+    }
 
     ghost range_law = { unsigned-bounds 64 };
 }
@@ -92,6 +108,10 @@ impl Cost for u128 {
 
     fn known(self) {}
 
+    fn difference(self, other: u128) -> Option<u128> {
+        self.checked_sub(other)
+    }
+
     ghost range_law = { unsigned-bounds 128 };
 }
 
@@ -109,6 +129,10 @@ impl Cost for usize {
     }
 
     fn known(self) {}
+
+    fn difference(self, other: usize) -> Option<usize> {
+        self.checked_sub(other)
+    }
 
     ghost range_law = { unsigned-bounds 64 };
 }
