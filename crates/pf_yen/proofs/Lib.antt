@@ -1,4 +1,6 @@
 pub mod RemainingLemmas
+pub mod ReducedLemmas
+pub mod LedLemmas
 pub mod NamedLemmas
 pub mod ResultLemmas
 pub mod FilteredLemmas

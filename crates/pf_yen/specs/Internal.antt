@@ -14,4 +14,6 @@ pub mod PlanChanges
 pub mod PathTurns
 pub mod WholeGraphs
 pub mod Remaining
+pub mod Reduced
+pub mod Led
 pub mod NamedWays

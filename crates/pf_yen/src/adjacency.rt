@@ -2,8 +2,10 @@
 
 ghost use Rattle.std.specs.Prelude.{◌≡◌, ◌<◌, [], ◌∷◌, ◌++◌, ⊤, length, OnOk, OnErr, IfErr, MatchOption};
 ghost use Rattle.pf_yen.specs.Internal.Adjacency.{row_of, is_goal};
+ghost use Rattle.pf_yen.specs.Internal.Reduced.{Leads, steps_of};
 ghost use Rattle.pf_yen.specs.Internal.Remaining.{AreRemaining};
 
+use crate::reduced::{Reduced, reduced_steps};
 use crate::remaining::remaining_costs;
 use pf_base::{Cost, PathError};
 use std::alloc::Allocator;
@@ -11,11 +13,12 @@ use std::marker::Model;
 
 /// The steps from each number, each as the number of its end and its cost, and whether the number is
 /// a goal. The steps from a goal are left out. What remains from each number to a goal is noted beside
-/// them, where it was looked for and found.
+/// them, and the steps at costs that are reduced by it, where these were looked for and found.
 #[derive(Drop)]
 pub struct Adjacency<C: Cost, A: Allocator> {
     rows: Vec<(Vec<(usize, C), A>, bool), A>,
     remaining: Option<Vec<Option<C>, A>>,
+    reduced: Option<Reduced<C, A>>,
     /// Whether what remains was looked for.
     is_looked_for: bool,
 }
@@ -23,6 +26,7 @@ pub struct Adjacency<C: Cost, A: Allocator> {
 impl<C: Cost, A: Allocator> Model for Adjacency<C, A> {
     ghost use Rattle.std.specs.Prelude.{⊤, MatchOption};
     ghost use Rattle.pf_yen.specs.Internal.Adjacency.{AdjacencyLists, adjacency_code, lists_of};
+    ghost use Rattle.pf_yen.specs.Internal.Reduced.{Leads, steps_of};
     ghost use Rattle.pf_yen.specs.Internal.Remaining.{AreRemaining};
 
     ghost Value = { AdjacencyLists C };
@@ -31,7 +35,8 @@ impl<C: Cost, A: Allocator> Model for Adjacency<C, A> {
 
     ghost view = { λ s. lists_of s.rows.items };
 
-    ghost invariant = { λ s. MatchOption s.remaining ⊤ (λ costs. AreRemaining C.value C.fits (lists_of s.rows.items) costs.items) };
+    ghost invariant = { λ s. MatchOption s.remaining ⊤ (λ costs. AreRemaining C.value C.fits (lists_of s.rows.items) costs.items)
+        × MatchOption s.reduced ⊤ (λ led. Leads C.value C.fits (lists_of s.rows.items) (steps_of led.rows.items) led.from_start) };
 }
 
 impl<C: Cost, A: Allocator> Adjacency<C, A> {
@@ -44,6 +49,7 @@ impl<C: Cost, A: Allocator> Adjacency<C, A> {
         Adjacency {
             rows: Vec::new(alloc),
             remaining: None,
+            reduced: None,
             is_looked_for: false,
         }
     }
@@ -78,12 +84,13 @@ impl<C: Cost, A: Allocator> Adjacency<C, A> {
         ensures refused { IfErr result (λ e. e ≡ PathError.OutOfMemory) }
     {
         self.remaining = None;
+        self.reduced = None;
         self.is_looked_for = false;
         self.rows.push((row, goal))?;
         Ok(())
     }
 
-    /// Looks for what remains from each number to a goal, unless that was done.
+    /// Looks for what remains from each number to a goal and for reduced costs, unless that was done.
     pub fn note_remaining(&mut self, alloc: A) -> Result<(), PathError>
     where
         A: Copy,
@@ -92,6 +99,7 @@ impl<C: Cost, A: Allocator> Adjacency<C, A> {
     {
         if !self.is_looked_for {
             self.remaining = remaining_costs(alloc, self)?;
+            self.reduced = reduced_steps(alloc, self)?;
             self.is_looked_for = true;
         }
         Ok(())
@@ -105,5 +113,12 @@ impl<C: Cost, A: Allocator> Adjacency<C, A> {
             Some(costs) => Some(costs),
             None => None,
         }
+    }
+
+    /// The steps at reduced costs, where they are known.
+    pub fn reduced(&self) -> Option<&Reduced<C, A>>
+        ensures { MatchOption result ⊤ (λ led. Leads C.value C.fits self.now (steps_of led.now.rows.items) led.now.from_start) }
+    {
+        self.reduced.as_ref()
     }
 }

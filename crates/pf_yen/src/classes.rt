@@ -14,7 +14,8 @@ ghost use Rattle.pf_yen.specs.Internal.Splits.{IsFilteredTo, IsCheapestAlong, Ha
 use crate::adjacency::Adjacency;
 use crate::candidate::Candidate;
 use crate::filtered::FilteredGraph;
-use crate::named::{Named, named_way};
+use crate::led::guided_way;
+use crate::named::Named;
 use pf_base::{Cost, PathError, Tally};
 use pf_core::dijkstra::cheapest_path;
 use std::alloc::Allocator;
@@ -83,8 +84,8 @@ fn searched<C: Cost, A: Allocator + Copy>(
 }
 
 /// A cheapest path of the class of the first numbers of a path, up to the place `spur`, and of the
-/// banned numbers: the one that remaining costs name, and else by a search. The banned numbers are
-/// moved out.
+/// banned numbers: the one that remaining costs name or lead to, and else by a search at full costs.
+/// The banned numbers are moved out.
 fn least_behind<C: Cost, A: Allocator + Copy>(
     alloc: A,
     filtered: &mut FilteredGraph<'_, C, A>,
@@ -108,7 +109,7 @@ fn least_behind<C: Cost, A: Allocator + Copy>(
     ensures overflow { result ≡ Err PathError.CostOverflow → OverflowsFromStart C.value (graph_filtered_by filtered.old) C.fits }
     ensures errors { IfErr result (λ e. (e ≡ PathError.OutOfMemory) ⊎ (e ≡ PathError.CostOverflow)) }
 {
-    match named_way(alloc, filtered, path, spur)? {
+    match guided_way(alloc, filtered, path, spur)? {
         Named::Way(path, cost) => Ok(Some(Candidate {
             path,
             cost,

@@ -1,6 +1,6 @@
 //! A known graph that is searched along one path: of the numbers on it, each has its next one alone.
 
-ghost use Rattle.std.specs.Prelude.{◌≡◌, ◌≤ℤ◌, ◌<◌, ◌++◌, ◌∷◌, ◌+ℤ◌, ℕ, List, [], Some, None, length, map, replicate, slice_set, Contains, OnOk, IfOk, IfErr, IfSome};
+ghost use Rattle.std.specs.Prelude.{◌≡◌, ◌≤ℤ◌, ◌<◌, ◌++◌, ◌∷◌, ◌+ℤ◌, ℕ, List, [], Some, None, length, map, replicate, slice_set, filter, Contains, OnOk, IfOk, IfErr, IfSome};
 ghost use Rattle.std.proofs.Common.{◌∙◌, sym};
 ghost use Rattle.pf_base.specs.Walks.{end_of};
 ghost use Rattle.pf_yen.specs.Internal.Filtered.{FilteredLists, allows, FilteredStep, StandsForItself, EndsInside, graph_filtered_by, filtered_row};
@@ -110,15 +110,19 @@ impl<'k, C: Cost, A: Allocator> FilteredGraph<'k, C, A> {
         }
     }
 
-    /// Puts the steps that are left from a number into an empty row.
-    fn list_steps<R: Row<C>>(&self, node: usize, row: &mut R) -> Result<(), PathError>
-        requires inside { node < length self.now.adjacency.now.rows }
-        requires wide { length self.now.onward.items ≡ length self.now.adjacency.now.rows }
+    /// Puts those of some steps that are left from a number into an empty row.
+    pub fn list_allowed<R: Row<C>>(
+        &self,
+        node: usize,
+        steps: &[(usize, C)],
+        row: &mut R,
+    ) -> Result<(), PathError>
+        requires inside { node < length self.now.onward.items }
         requires empty { R.holds row.old [] }
-        ensures listed { OnOk result (R.holds row.new (filtered_row (graph_filtered_by self.now) node)) }
+        ensures listed { OnOk result (R.holds row.new (filter (λ (e : ℕ × C). allows (graph_filtered_by self.now) node e.0) steps.now)) }
         ensures refused { IfErr result (λ e. e ≡ PathError.OutOfMemory) }
     {
-        'steps: for (next, price) in self.adjacency.row(node) {
+        'steps: for (next, price) in steps {
             if self.allows(node, *next) {
                 row.add(*next, *price)?;
             }
@@ -153,7 +157,7 @@ impl<'k, C: Cost, A: Allocator> NumberedGraph<C> for FilteredGraph<'k, C, A> {
 
     fn expand<R: Row<C>>(&mut self, node: usize, row: &mut R) -> Result<(), PathError> {
         row.reset();
-        self.list_steps(node, row)
+        self.list_allowed(node, self.adjacency.row(node), row)
     }
 
     fn forget(&mut self, _first: usize) {}

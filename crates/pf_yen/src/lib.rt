@@ -11,6 +11,8 @@ mod explore;
 mod filtered;
 mod given;
 pub mod laws;
+mod led;
 mod named;
+mod reduced;
 mod remaining;
 mod standing;

@@ -12,7 +12,7 @@ use crate::remaining::cost_at;
 use pf_base::{Cost, PathError};
 use std::alloc::Allocator;
 
-/// What is found of a class without a search.
+/// What is found of a class by what remains.
 #[derive(Drop)]
 pub enum Named<C: Cost, A: Allocator> {
     /// A cheapest path, and its cost.

@@ -1,0 +1,34 @@
+use Rattle.std.proofs.Common.{◌≡◌, ◌<◌, ◌∙◌, Some, arith, ap, length, sym, true, true≢false}
+use Rattle.std.specs.Prelude.{pos, slice_get}
+use Rattle.pf_base.proofs.ListLemmas.{at_place}
+use Rattle.pf_yen.specs.Internal.Adjacency.{is_goal}
+use Rattle.pf_yen.proofs.ReducedLemmas.{row_more, held_more}
+use Rattle.pf_yen.proofs.reduced.reduced_rows.Goals.{else-is_goal-via-then-is_goal+else-not-is_nothing, else-is_goal-via-else-is_goal}
+use Rattle.pf_yen.proofs.reduced.reduced_rows.Goals as goal
+
+pub numbers-preserved : goal.numbers-preserved
+numbers-preserved g c =
+    let value = g.C.Number.value in
+    let costs = c.args.costs.now in
+    let k = c.args.adjacency.now in
+    let n = c.numbers.number in
+    let inside : n < length costs = omega (arith, c.numbers-test.true, c.len-number-end.ensures, c.requires) in
+    let free : is_goal k n ≡ true → (y : g.row.C.Denot) × (slice_get costs n ≡ Some (Some y)) × (value y ≡ pos 0) = λ t. elim c.else-is_goal.branch as (λ _. (y : g.row.C.Denot) × (slice_get costs n ≡ Some (Some y)) × (value y ≡ pos 0)) [
+      | else-is_goal-via-then-is_goal+else-not-is_nothing w ↦
+          let z = w.is_nothing.ensures w.if-not-is_nothing.false in
+          (z.0, at_place costs n w.index-costs-number.result w.index-costs-number.result inside (sym w.index-costs-number.is) ∙ ap Some z.1, z.2)
+      | else-is_goal-via-else-is_goal w ↦ absurd (true≢false (sym t ∙ sym c.is_goal.ensures ∙ w.if-is_goal.false))
+    ] in
+    let reduced = rw c.row-row.ensures at (rw c.in-Some.is at c.in_ok-reduced.ensures.reduced) in
+    rw (held_more c.numbers.rows.items c.in-Some.reduced c.push.new.self.items c.in_ok-push.ensures.items)
+    (row_more value costs k n _ c.numbers.invariant inside c.index-costs-number-in-numbers.result c.index-costs-number-in-numbers.is c.in-Some.reduced.items reduced free)
+
+pub returns-clause-reduced : goal.returns-clause-reduced
+returns-clause-reduced g c =
+    let i = c.numbers.invariant in
+    let end : c.numbers.number ≡ length c.args.adjacency.now.rows = omega (arith, c.numbers.auto.number-end, c.numbers-test.false, c.len-number-end.ensures) in
+    record {
+      wide = i.wide ∙ end;
+      each = λ a here h. i.each a here (omega (arith, h, end));
+      free = λ a h. i.free a (omega (arith, h, end));
+    }

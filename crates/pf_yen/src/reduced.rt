@@ -1,0 +1,104 @@
+//! The steps of a graph by what they cost and what remains behind them, less what remained before
+//! them: a search by these costs goes where little more than what remains is spent.
+
+ghost use Rattle.std.specs.Prelude.{◌≡◌, ◌<◌, ◌+ℤ◌, true, pos, length, Some, IfOk, IfErr, IfSome};
+ghost use Rattle.pf_yen.specs.Internal.Reduced.{IsReducedRow, AreReduced, Leads, steps_of};
+
+use crate::adjacency::Adjacency;
+use crate::remaining::cost_at;
+use pf_base::{Cost, PathError};
+use std::alloc::Allocator;
+
+/// The steps from each number at reduced costs, of which those are left out behind which no goal is
+/// reached, and what remains from number 0.
+#[derive(Drop)]
+pub struct Reduced<C: Cost, A: Allocator> {
+    pub rows: Vec<Vec<(usize, C), A>, A>,
+    pub from_start: C,
+}
+
+/// What a step costs and what remains behind it, less what remains before it, where it is found.
+fn reduced_cost<C: Cost>(here: Option<C>, price: C, rest: C) -> Option<C>
+    ensures { IfSome result (λ cost. (x : C) × (here ≡ Some x) × (C.value cost +ℤ C.value x ≡ C.value price +ℤ C.value rest)) }
+{
+    let sum = price.checked_add(&rest)?;
+    sum.difference(here?)
+}
+
+/// The steps of a row at reduced costs, or `None` where one is not found.
+fn reduced_row<C: Cost, A: Allocator>(
+    alloc: A,
+    row: &[(usize, C)],
+    costs: &[Option<C>],
+    here: Option<C>,
+) -> Result<Option<Vec<(usize, C), A>>, PathError>
+    ensures reduced { IfOk result (λ found. IfSome found (λ reduced. IsReducedRow C.value costs.now row.now here reduced.items)) }
+    ensures refused { IfErr result (λ e. e ≡ PathError.OutOfMemory) }
+{
+    let mut reduced = Vec::new(alloc);
+    'steps: for (next, price) in row {
+        if let Some(rest) = cost_at(costs, *next) {
+            let Some(cost) = reduced_cost(here, *price, rest) else {
+                return Ok(None);
+            };
+            reduced.push((*next, cost))?;
+        }
+    }
+    Ok(Some(reduced))
+}
+
+/// Does nothing remain, as from a goal?
+fn is_nothing<C: Cost>(here: Option<C>) -> bool
+    ensures { result ≡ true → (y : C) × (here ≡ Some y) × (C.value y ≡ pos 0) }
+{
+    match here {
+        Some(cost) => cost.is_zero(),
+        None => false,
+    }
+}
+
+/// The steps from each number at reduced costs, or `None` where one is not found or a goal costs more
+/// than nothing.
+fn reduced_rows<C: Cost, A: Allocator + Copy>(
+    alloc: A,
+    adjacency: &Adjacency<C, A>,
+    costs: &[Option<C>],
+) -> Result<Option<Vec<Vec<(usize, C), A>, A>>, PathError>
+    requires { length costs.now ≡ length adjacency.now.rows }
+    ensures reduced { IfOk result (λ found. IfSome found (λ rows. AreReduced C.value adjacency.now costs.now (steps_of rows.items))) }
+    ensures refused { IfErr result (λ e. e ≡ PathError.OutOfMemory) }
+{
+    let mut rows = Vec::new(alloc);
+    'numbers: for number in 0..adjacency.len() {
+        if adjacency.is_goal(number) && !is_nothing(costs[number]) {
+            return Ok(None);
+        }
+        let row = adjacency.row(number);
+        let Some(reduced) = reduced_row(alloc, row, costs, costs[number])? else {
+            return Ok(None);
+        };
+        rows.push(reduced)?;
+    }
+    Ok(Some(rows))
+}
+
+/// The steps at reduced costs, by the remaining costs that are known, or `None` where these are not
+/// known, where none remains from number 0, or where some reduced cost is not found.
+pub fn reduced_steps<C: Cost, A: Allocator + Copy>(
+    alloc: A,
+    adjacency: &Adjacency<C, A>,
+) -> Result<Option<Reduced<C, A>>, PathError>
+    ensures leads { IfOk result (λ found. IfSome found (λ reduced. Leads C.value C.fits adjacency.now (steps_of reduced.rows.items) reduced.from_start)) }
+    ensures refused { IfErr result (λ e. e ≡ PathError.OutOfMemory) }
+{
+    let Some(costs) = adjacency.remaining() else {
+        return Ok(None);
+    };
+    let Some(from_start) = cost_at(costs, 0) else {
+        return Ok(None);
+    };
+    let Some(rows) = reduced_rows(alloc, adjacency, costs)? else {
+        return Ok(None);
+    };
+    Ok(Some(Reduced { rows, from_start }))
+}
