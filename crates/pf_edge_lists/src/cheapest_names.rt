@@ -59,7 +59,7 @@ impl<'e, N: Eq + Hash, C: Cost, A: Allocator> EdgeList<'e, N, C, A> {
         match dijkstra(alloc, self, start, goal)? {
             None => Ok(None),
             Some((numbers, cost)) => {
-                let path = self.names_of(alloc, &numbers)?;
+                let path = self.names_along(alloc, &numbers)?;
                 Ok(Some((path, cost)))
             }
         }

@@ -1,6 +1,6 @@
 //! Graphs as lists of edges between names.
 
-ghost use Rattle.std.specs.Prelude.{◌≡◌, ◌<◌, ℕ, Some, IfOk, IfErr, Contains, MatchOption, length, slice_get};
+ghost use Rattle.std.specs.Prelude.{◌≡◌, ◌<◌, ◌≤◌, ℕ, Some, IfOk, IfErr, All, Contains, MatchOption, length, slice_get};
 ghost use Rattle.std.specs.List.{AllZip};
 ghost use Rattle.pf_base.specs.Walks.{HasNode, NoRepeats};
 ghost use Rattle.pf_base.specs.NodeRefs.{HasSameNodes, nodes_of};
@@ -9,7 +9,7 @@ ghost use Rattle.pf_tables.specs.Graphs.{IsGraph};
 ghost use Rattle.pf_edge_lists.specs.EdgeLists.{AreNumbered, CostsFromZeroTo, HasEdgesByName, IsFirstNegative, IsEdgeListFault, ends_of, names_of, places_of};
 
 use crate::error::EdgeListError;
-use crate::names::{Names, lay_out_by_name, names_at};
+use crate::names::{Names, are_below, lay_out_by_name, names_at};
 use indexmap::IndexSet;
 use pf_base::cost::arithmetic::is_negative;
 use pf_base::{Cost, PathError};
@@ -107,25 +107,45 @@ impl<'e, N: Eq + Hash, C: Cost, A: Allocator> EdgeList<'e, N, C, A> {
         self.names.get_index_of(&name)
     }
 
-    /// The name of a node, as it is where it was first met.
-    pub fn name_of(&self, node: usize) -> &'e N
-        requires { node < length (names_of N.eq self.now) }
-        ensures { slice_get (names_of N.eq self.now) node ≡ Some result.now }
+    /// The name of a node, as it is where it was first met, or `None` exactly where the list has no
+    /// such node.
+    pub fn name_of(&self, node: usize) -> Option<&'e N>
+        ensures { MatchOption result
+            (length (names_of N.eq self.now) ≤ node)
+            (λ name. slice_get (names_of N.eq self.now) node ≡ Some name.now) }
     {
-        self.names.as_slice()[node]
+        self.names.get_index(node).copied()
     }
 
-    /// The names of these nodes, in their order.
+    /// The names of these nodes, in their order, or `None` exactly where one of the numbers is no node.
     pub fn names_of<B: Allocator + Copy>(
         &self,
         alloc: B,
         nodes: &[usize],
-    ) -> Result<Vec<&'e N, B>, PathError>
-        requires { (k : ℕ) → Contains nodes.now k → k < length (names_of N.eq self.now) }
-        ensures names { IfOk result (λ names. AllZip (λ node name. slice_get (names_of N.eq self.now) node ≡ Some name) nodes.now (nodes_of names.items)) }
+    ) -> Result<Option<Vec<&'e N, B>>, PathError>
+        ensures names { IfOk result (λ answer. MatchOption answer
+            (¬ (All (λ node. node < length (names_of N.eq self.now)) nodes.now))
+            (λ names. AllZip (λ node name. slice_get (names_of N.eq self.now) node ≡ Some name) nodes.now (nodes_of names.items))) }
         ensures refused { IfErr result (λ e. e ≡ PathError.OutOfMemory) }
     {
-        names_at(alloc, self.names.as_slice(), nodes)
+        if !are_below(self.names.len(), nodes) {
+            return Ok(None);
+        }
+        let names = self.names_along(alloc, nodes)?;
+        Ok(Some(names))
+    }
+
+    /// The names of the nodes of a path, in their order.
+    pub(crate) fn names_along<B: Allocator + Copy>(
+        &self,
+        alloc: B,
+        path: &[usize],
+    ) -> Result<Vec<&'e N, B>, PathError>
+        requires { (k : ℕ) → Contains path.now k → k < length (names_of N.eq self.now) }
+        ensures names { IfOk result (λ names. AllZip (λ node name. slice_get (names_of N.eq self.now) node ≡ Some name) path.now (nodes_of names.items)) }
+        ensures refused { IfErr result (λ e. e ≡ PathError.OutOfMemory) }
+    {
+        names_at(alloc, self.names.as_slice(), path)
     }
 }
 

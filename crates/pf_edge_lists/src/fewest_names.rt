@@ -55,7 +55,7 @@ impl<'e, N: Eq + Hash, C: Cost, A: Allocator> EdgeList<'e, N, C, A> {
         match bfs(alloc, self, start, goal)? {
             None => Ok(None),
             Some(numbers) => {
-                let path = self.names_of(alloc, &numbers)?;
+                let path = self.names_along(alloc, &numbers)?;
                 Ok(Some(path))
             }
         }

@@ -1,6 +1,6 @@
 //! Names that are numbered in the order in which they are first met.
 
-ghost use Rattle.std.specs.Prelude.{◌≡◌, ◌<◌, ℕ, [], Some, Contains, length, slice_get, IfOk, IfErr, OnOk};
+ghost use Rattle.std.specs.Prelude.{◌≡◌, ◌<◌, ◌↔◌, ℕ, [], Some, All, Contains, IsTrue, length, slice_get, IfOk, IfErr, OnOk};
 ghost use Rattle.std.specs.List.{AllZip};
 ghost use Rattle.pf_base.specs.NodeRefs.{nodes_of};
 ghost use Rattle.pf_edge_lists.specs.EdgeLists.{names_of};
@@ -57,6 +57,13 @@ where
     let mut numbered = Vec::with_capacity(alloc, edges.len())?;
     add_edges(names, &mut numbered, edges)?;
     lay_out(alloc, names.len(), &numbered)
+}
+
+/// Whether all these numbers are below `size`.
+pub fn are_below(size: usize, numbers: &[usize]) -> bool
+    ensures { IsTrue result ↔ All (λ number. number < size) numbers.now }
+{
+    numbers.iter().all(|number| *number < size)
 }
 
 /// The names that have these numbers, in their order.

@@ -65,8 +65,8 @@ returns-in-None g c = record {
   errors = tt;
 }
 
-pub names_of-requires : goal.names_of-requires
-names_of-requires g c =
+pub names_along-requires : goal.names_along-requires
+names_along-requires g c =
     let best = rw c.in-Some-2.is at c.in_ok-dijkstra.ensures.best in
     rw c.deref.ensures.value (cheapest_inside g.met.N.Eq.laws g.C.Number.value c.args.self.now c.in-Some.start c.args.from.now c.in-Some.ensures c.in-Some-number_of.goal c.args.to.now c.in-Some-number_of.ensures _ _ best)
 
