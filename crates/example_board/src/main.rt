@@ -23,10 +23,16 @@ fn cost_of(cell: char) -> Option<u32> {
 }
 
 /// The row and the column of each node of a path.
-fn positions(alloc: Global, path: &[usize]) -> Result<Vec<(usize, usize)>, anyhow::Error> {
+fn positions(
+    alloc: Global,
+    board: &Board<'_, u32>,
+    path: &[usize],
+) -> Result<Vec<(usize, usize)>, anyhow::Error> {
     let mut positions = Vec::new(alloc);
     for node in path {
-        positions.push((node / COLUMNS, node % COLUMNS))?;
+        if let Some(position) = board.position_of(*node) {
+            positions.push(position)?;
+        }
     }
     Ok(positions)
 }
@@ -50,7 +56,10 @@ fn print_fewest_steps(
     to: usize,
 ) -> Result<(), anyhow::Error> {
     match bfs(rt.alloc(), board, from, to)? {
-        Some(path) => println!(rt; "fewest steps: {:?}", positions(rt.alloc(), &path)?)?,
+        Some(path) => {
+            let steps = positions(rt.alloc(), board, &path)?;
+            println!(rt; "fewest steps: {steps:?}")?;
+        }
         None => rt.println("no way")?,
     }
     Ok(())
@@ -64,7 +73,10 @@ fn print_cheapest(
     to: usize,
 ) -> Result<(), anyhow::Error> {
     match dijkstra(rt.alloc(), board, from, to)? {
-        Some((path, cost)) => println!(rt; "cost {cost}: {:?}", positions(rt.alloc(), &path)?)?,
+        Some((path, cost)) => {
+            let steps = positions(rt.alloc(), board, &path)?;
+            println!(rt; "cost {cost}: {steps:?}")?;
+        }
         None => rt.println("no way")?,
     }
     Ok(())

@@ -1,6 +1,7 @@
 //! Graphs as boards of cells.
 
-ghost use Rattle.std.specs.Prelude.{◌≡◌, ◌<◌, ◌≤ℤ◌, ◌<ℤ◌, ◌*◌, ◌+◌, ℕ, pos, Some, length, IfOk, IfErr, MatchResult, MatchOption, slice_get};
+ghost use Rattle.std.specs.Prelude.{◌≡◌, ◌<◌, ◌≤ℤ◌, ◌<ℤ◌, ◌*◌, ◌+◌, ℕ, pos, Some, length, IfOk, IfErr, IfSome, MatchResult, MatchOption, slice_get};
+ghost use Rattle.std.specs.Option.{SomeIff};
 ghost use Rattle.pf_boards.specs.Boards.{Cells, IsBoard, IsBoardFault, IsFromZeroTo, directions_of, eight, node_at, position_at, step_from, steps_from};
 
 use crate::steps::Steps;
@@ -123,15 +124,17 @@ impl<'a, C: Cost> Board<'a, C> {
         row * self.columns + column
     }
 
-    /// The row and the column of a node.
-    pub fn position_of(&self, node: usize) -> (usize, usize)
-        requires { node < length self.now.cells }
-        ensures position { result ≡ position_at self.now node }
-        ensures node { node_at self.now result ≡ node }
-        ensures row { result.0 < self.now.rows }
-        ensures column { result.1 < self.now.columns }
+    /// The row and the column of a node, or `None` exactly where the board has no such node.
+    pub fn position_of(&self, node: usize) -> Option<(usize, usize)>
+        ensures position { SomeIff result (node < length self.now.cells) (position_at self.now node) }
+        ensures node { IfSome result (λ position. node_at self.now position ≡ node) }
+        ensures row { IfSome result (λ position. position.0 < self.now.rows) }
+        ensures column { IfSome result (λ position. position.1 < self.now.columns) }
     {
-        (node / self.columns, node % self.columns)
+        if node >= self.cells.len() {
+            return None;
+        }
+        Some((node / self.columns, node % self.columns))
     }
 }
 
