@@ -14,11 +14,11 @@ use Rattle.pf_core.specs.Nodes.{StandsFor}
 use Rattle.pf_base.proofs.ListLemmas.{none_in}
 use Rattle.pf_tables.specs.Graphs.{IsGraph, filled}
 use Rattle.pf_base.specs.Places.{number_of}
-use Rattle.pf_edge_lists.specs.EdgeLists.{CostsFromZeroTo, HasEdgesByName, ends_from, names_of, numbered_from, places_of}
+use Rattle.pf_edge_lists.specs.EdgeLists.{CostsFromZeroTo, HasEdgesByName, NamesAndEdges, ends_from, names_of, numbered_from, places_of}
 use Rattle.pf_edge_lists.specs.Internal.Layouts.{AreOffsets, ArePlaced, ComeFromBelow, IsLaidOut, edges_below}
 use Rattle.pf_tables.proofs.Faulty.{less_or_same, some_same}
 use Rattle.pf_edge_lists.proofs.LayoutLemmas.{below_next}
-use Rattle.pf_edge_lists.proofs.NumberedNames.{numbered, all_named, number_inside, from_number, each_end}
+use Rattle.pf_edge_lists.proofs.NumberedNames.{AreNamed, numbered, all_named, number_inside, from_number, each_end}
 use Rattle.pf_tables.proofs.Parts.{filled_at, filled_from}
 
 map_at : {A B : Type 0} (f : A → B) (xs : List A) (k : ℕ) (y : B) → slice_get (map f xs) k ≡ Some y → (x : A) × (slice_get xs k ≡ Some x) × (f x ≡ y)
@@ -46,31 +46,31 @@ module _ {N C : Type 0} {eq : N → N → Bool} (laws : IsEquivalence eq) where
       let same : eq e.0 x ≡ eq e.0 y = laws.symm e.0 x ∙ laws.congr x y e.0 h ∙ laws.symm y e.0 in
       ap (λ (b : Bool). cons_option (if b then Some (e.1, e.2) else None) (ends_from eq es x)) same ∙ ap (λ r. cons_option (if eq e.0 y then Some (e.1, e.2) else None) r) (ends_alike es x y h)
 
-  pub has_edges_by_name : (edges : List (N × N × C)) → HasEdgesByName eq edges
-  has_edges_by_name edges node x s =
-      ap (λ o. option_map_or (λ y. filled (numbered_from eq edges y)) o []) s.1
-      ∙ ap (λ es. filled (map (λ (e : N × C). (number_of eq (names_of eq edges) e.0, e.1)) es)) (ends_alike edges s.0 x s.2)
+  pub has_edges_by_name : (list : NamesAndEdges N C) → HasEdgesByName eq list
+  has_edges_by_name list node x s =
+      ap (λ o. option_map_or (λ y. filled (numbered_from eq list y)) o []) s.1
+      ∙ ap (λ es. filled (map (λ (e : N × C). (number_of eq (names_of eq list) e.0, e.1)) es)) (ends_alike list.edges s.0 x s.2)
 
 module _ {N C : Type 0} {eq : N → N → Bool} (laws : IsEquivalence eq) (value : C → ℤ) where
   -- edges between the numbers of names come from numbers of names
-  pub come_from_names : (edges : List (N × N × C)) (nodes : ℕ) → nodes ≡ length (names_of eq edges) → (es : List (ℕ × ℕ × C)) → es ≡ map (numbered eq (names_of eq edges)) edges → ComeFromBelow nodes es
-  come_from_names edges nodes count es is k e h =
-      let d = map_at (numbered eq (names_of eq edges)) edges k e (ap (λ xs. slice_get xs k) (sym is) ∙ h) in
-      let inside = number_inside laws (names_of eq edges) d.0.0 (all_named laws edges k d.0 d.1).0 in
-      subst (λ (n : ℕ). n < nodes) (ap (λ x. x.0) d.2) (subst (λ (n : ℕ). number_of eq (names_of eq edges) d.0.0 < n) (sym count) inside)
+  pub come_from_names : (names : List N) (edges : List (N × N × C)) → AreNamed eq names edges → (nodes : ℕ) → nodes ≡ length names → (es : List (ℕ × ℕ × C)) → es ≡ map (numbered eq names) edges → ComeFromBelow nodes es
+  come_from_names names edges named nodes count es is k e h =
+      let d = map_at (numbered eq names) edges k e (ap (λ xs. slice_get xs k) (sym is) ∙ h) in
+      let inside = number_inside laws names d.0.0 (named k d.0 d.1).0 in
+      subst (λ (n : ℕ). n < nodes) (ap (λ x. x.0) d.2) (subst (λ (n : ℕ). number_of eq names d.0.0 < n) (sym count) inside)
 
-  pub laid_out : (edges : List (N × N × C)) (names : List N) → names ≡ names_of eq edges → NoRepeats eq names → CostsFromZeroTo value edges (length edges)
-      → (nodes : ℕ) → nodes ≡ length names → (es : List (ℕ × ℕ × C)) → es ≡ map (numbered eq (names_of eq edges)) edges
-      → (offsets : List ℕ) → AreOffsets nodes es offsets → (targets : List (ℕ × C)) → ArePlaced nodes es targets → IsLaidOut eq value edges names offsets targets
-  laid_out edges names named apart costs nodes count es is offsets o targets p = record {
+  pub laid_out : (list : NamesAndEdges N C) (names : List N) → names ≡ names_of eq list → NoRepeats eq names → CostsFromZeroTo value list.edges (length list.edges)
+      → (nodes : ℕ) → nodes ≡ length names → (es : List (ℕ × ℕ × C)) → es ≡ map (numbered eq (names_of eq list)) list.edges
+      → (offsets : List ℕ) → AreOffsets nodes es offsets → (targets : List (ℕ × C)) → ArePlaced nodes es targets → IsLaidOut eq value list names offsets targets
+  laid_out list names named apart costs nodes count es is offsets o targets p = record {
     named = named;
     apart = apart;
     from_zero = costs;
     next = λ node x at.
         let inside : node < nodes = omega (arith, slice_get_within names node x at, count) in
-        let row : ends_from nat_eq es node ≡ numbered_from eq edges x = ap (λ xs. ends_from nat_eq xs node) is
-        ∙ from_number laws (names_of eq edges) (subst (NoRepeats eq) named apart) node x (ap (λ xs. slice_get xs node) (sym named) ∙ at) edges (all_named laws edges) in
-        let sum : edges_below es (node + 1) ≡ edges_below es node + length (numbered_from eq edges x) = below_next node es ∙ ap (λ xs. edges_below es node + length xs) row in (
+        let row : ends_from nat_eq es node ≡ numbered_from eq list x = ap (λ xs. ends_from nat_eq xs node) is
+        ∙ from_number laws (names_of eq list) (subst (NoRepeats eq) named apart) node x (ap (λ xs. slice_get xs node) (sym named) ∙ at) list.edges (all_named laws list) in
+        let sum : edges_below es (node + 1) ≡ edges_below es node + length (numbered_from eq list x) = below_next node es ∙ ap (λ xs. edges_below es node + length xs) row in (
           edges_below es node,
           o.at node (omega (arith, inside)),
           o.at (node + 1) (omega (arith, inside)) ∙ ap (λ (n : ℕ). Some n) sum,
@@ -78,42 +78,42 @@ module _ {N C : Type 0} {eq : N → N → Bool} (laws : IsEquivalence eq) (value
         );
   }
 
-  module _ (edges : List (N × N × C)) (names : List N) (offsets : List ℕ) (targets : List (ℕ × C)) (laid : IsLaidOut eq value edges names offsets targets) (node : ℕ) (inside : node < length (names_of eq edges)) where
+  module _ (list : NamesAndEdges N C) (names : List N) (offsets : List ℕ) (targets : List (ℕ × C)) (laid : IsLaidOut eq value list names offsets targets) (node : ℕ) (inside : node < length (names_of eq list)) where
     -- the name of the node
-    name_at : (x : N) × (slice_get (names_of eq edges) node ≡ Some x)
-    name_at = some_at (names_of eq edges) node inside
+    name_at : (x : N) × (slice_get (names_of eq list) node ≡ Some x)
+    name_at = some_at (names_of eq list) node inside
 
-    places_is : places_of eq edges node ≡ filled (numbered_from eq edges name_at.0)
-    places_is = ap (λ o. option_map_or (λ x. filled (numbered_from eq edges x)) o []) name_at.1
+    places_is : places_of eq list node ≡ filled (numbered_from eq list name_at.0)
+    places_is = ap (λ o. option_map_or (λ x. filled (numbered_from eq list x)) o []) name_at.1
 
-    places_length : length (places_of eq edges node) ≡ length (numbered_from eq edges name_at.0)
-    places_length = ap length places_is ∙ length-map (numbered_from eq edges name_at.0) _
+    places_length : length (places_of eq list node) ≡ length (numbered_from eq list name_at.0)
+    places_length = ap length places_is ∙ length-map (numbered_from eq list name_at.0) _
 
     -- where the edges of the node begin and end
-    pub node_offsets : (first : ℕ) × (slice_get offsets node ≡ Some first) × (slice_get offsets (node + 1) ≡ Some (first + length (places_of eq edges node)))
+    pub node_offsets : (first : ℕ) × (slice_get offsets node ≡ Some first) × (slice_get offsets (node + 1) ≡ Some (first + length (places_of eq list node)))
     node_offsets =
         let r = laid.next node name_at.0 (ap (λ xs. slice_get xs node) laid.named ∙ name_at.1) in
         (r.0, r.1, r.2 ∙ ap (λ (n : ℕ). Some (r.0 + n)) (sym places_length))
 
     -- the edge at a place of the node
-    pub node_edge : (place : ℕ) → place < length (places_of eq edges node) → (first : ℕ) × (edge : ℕ × C) × (slice_get offsets node ≡ Some first) × (slice_get targets (first + place) ≡ Some edge) × (slice_get (places_of eq edges node) place ≡ Some (Some edge))
+    pub node_edge : (place : ℕ) → place < length (places_of eq list node) → (first : ℕ) × (edge : ℕ × C) × (slice_get offsets node ≡ Some first) × (slice_get targets (first + place) ≡ Some edge) × (slice_get (places_of eq list node) place ≡ Some (Some edge))
     node_edge place l =
         let r = laid.next node name_at.0 (ap (λ xs. slice_get xs node) laid.named ∙ name_at.1) in
-        let t = some_at (numbered_from eq edges name_at.0) place (omega (arith, l, places_length)) in
-        (r.0, t.0, r.1, r.3 place t.0 t.1, ap (λ xs. slice_get xs place) places_is ∙ filled_at (numbered_from eq edges name_at.0) place t.0 t.1)
+        let t = some_at (numbered_from eq list name_at.0) place (omega (arith, l, places_length)) in
+        (r.0, t.0, r.1, r.3 place t.0 t.1, ap (λ xs. slice_get xs place) places_is ∙ filled_at (numbered_from eq list name_at.0) place t.0 t.1)
 
-    sound_at : (place : ℕ) (edge : ℕ × C) → slice_get (places_of eq edges node) place ≡ Some (Some edge) → (edge.0 < length (names_of eq edges)) × (pos 0 ≤ℤ value edge.1)
+    sound_at : (place : ℕ) (edge : ℕ × C) → slice_get (places_of eq list node) place ≡ Some (Some edge) → (edge.0 < length (names_of eq list)) × (pos 0 ≤ℤ value edge.1)
     sound_at place edge h =
-        let stands = filled_from (numbered_from eq edges name_at.0) place edge (ap (λ xs. slice_get xs place) (sym places_is) ∙ h) in
-        let d = map_at (λ (e : N × C). (number_of eq (names_of eq edges) e.0, e.1)) (ends_from eq edges name_at.0) place edge stands in
-        let both = each_end eq (λ (e : N × C). (list_any (eq e.0) (names_of eq edges) ≡ true) × (pos 0 ≤ℤ value e.1)) edges name_at.0
-        (λ k e s. ((all_named laws edges k e s).1, laid.from_zero k e (slice_get_within edges k e s) s)) place d.0 d.1 in
-        subst (λ (x : ℕ × C). (x.0 < length (names_of eq edges)) × (pos 0 ≤ℤ value x.1)) d.2 (number_inside laws (names_of eq edges) d.0.0 both.0, both.1)
+        let stands = filled_from (numbered_from eq list name_at.0) place edge (ap (λ xs. slice_get xs place) (sym places_is) ∙ h) in
+        let d = map_at (λ (e : N × C). (number_of eq (names_of eq list) e.0, e.1)) (ends_from eq list.edges name_at.0) place edge stands in
+        let both = each_end eq (λ (e : N × C). (list_any (eq e.0) (names_of eq list) ≡ true) × (pos 0 ≤ℤ value e.1)) list.edges name_at.0
+        (λ k e s. ((all_named laws list k e s).1, laid.from_zero k e (slice_get_within list.edges k e s) s)) place d.0 d.1 in
+        subst (λ (x : ℕ × C). (x.0 < length (names_of eq list)) × (pos 0 ≤ℤ value x.1)) d.2 (number_inside laws (names_of eq list) d.0.0 both.0, both.1)
 
-  pub edge_list_graph : (edges : List (N × N × C)) (names : List N) (offsets : List ℕ) (targets : List (ℕ × C)) → IsLaidOut eq value edges names offsets targets → IsGraph value (length (names_of eq edges)) (places_of eq edges)
-  edge_list_graph edges names offsets targets laid = record {
-    inside = λ node place edge l h. (sound_at edges names offsets targets laid node l place edge h).0;
-    from_zero = λ node place edge l h. (sound_at edges names offsets targets laid node l place edge h).1;
+  pub edge_list_graph : (list : NamesAndEdges N C) (names : List N) (offsets : List ℕ) (targets : List (ℕ × C)) → IsLaidOut eq value list names offsets targets → IsGraph value (length (names_of eq list)) (places_of eq list)
+  edge_list_graph list names offsets targets laid = record {
+    inside = λ node place edge l h. (sound_at list names offsets targets laid node l place edge h).0;
+    from_zero = λ node place edge l h. (sound_at list names offsets targets laid node l place edge h).1;
   }
 
 -- what a look-up by name answers

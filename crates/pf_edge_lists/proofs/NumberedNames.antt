@@ -17,7 +17,7 @@ use Rattle.pf_base.proofs.ListLemmas.{bool_dec, or_true, none_in}
 use Rattle.pf_core.proofs.NodeLemmas.{HasSameNodes-insert, eq-sym}
 use Rattle.pf_core.proofs.PathLemmas.{NoRepeats-append}
 use Rattle.pf_base.specs.Places.{number_of}
-use Rattle.pf_edge_lists.specs.EdgeLists.{ends_of, names_of, ends_from}
+use Rattle.pf_edge_lists.specs.EdgeLists.{NamesAndEdges, ends_of, mentions_of, names_of, ends_from}
 use Rattle.pf_edge_lists.proofs.LayoutLemmas.{take_at}
 
 same_item : {A : Type 0} {x y : A} → Some x ≡ Some y → x ≡ y
@@ -82,8 +82,14 @@ module _ {N : Type 0} {eq : N → N → Bool} (laws : IsEquivalence eq) where
   kept_all names [] y h = h
   kept_all names (x ∷ more) y h = kept_all (insert_key eq names x) more y (kept names x y h)
 
+  given_from : (names given : List N) (k : ℕ) (x : N) → slice_get given k ≡ Some x → list_any (eq x) (insert_all eq names given) ≡ true
+  given_from names [] k x h = absurd (none_in k x h)
+  given_from names (y ∷ given) zero x h = kept_all (insert_key eq names y) given x (subst (λ z. list_any (eq z) (insert_key eq names y) ≡ true) (same_item h) (added names y))
+  given_from names (y ∷ given) (suc k) x h = given_from (insert_key eq names y) given k x h
+
   module _ {C : Type 0} where
-    named_from : (names : List N) (edges : List (N × N × C)) → AreNamed eq (insert_all eq names (ends_of edges)) edges
+    -- edges have both names of each among those that they were added to
+    pub named_from : (names : List N) (edges : List (N × N × C)) → AreNamed eq (insert_all eq names (ends_of edges)) edges
     named_from names [] k e h = absurd (none_in k e h)
     named_from names (d ∷ edges) zero e h = subst (IsNamed eq (insert_all eq names (ends_of (d ∷ edges)))) (same_item h) (
       kept_all (insert_key eq (insert_key eq names d.0) d.1) (ends_of edges) d.0 (kept (insert_key eq names d.0) d.1 d.0 (added names d.0)),
@@ -91,14 +97,22 @@ module _ {N : Type 0} {eq : N → N → Bool} (laws : IsEquivalence eq) where
     )
     named_from names (d ∷ edges) (suc k) e h = named_from (insert_key eq (insert_key eq names d.0) d.1) edges k e h
 
-    -- the names of edges have both names of each
-    pub all_named : (edges : List (N × N × C)) → AreNamed eq (names_of eq edges) edges
-    all_named edges = named_from [] edges
+    -- the names are those that are given, each once, and those of the edges after them
+    pub names_from : (list : NamesAndEdges N C) → insert_all eq (insert_all eq [] list.names) (ends_of list.edges) ≡ names_of eq list
+    names_from list = sym (fold-append (insert_key eq) [] list.names (ends_of list.edges))
 
-    names_push : (edges : List (N × N × C)) (e : N × N × C) → names_of eq (edges ++ e ∷ []) ≡ insert_key eq (insert_key eq (names_of eq edges) e.0) e.1
-    names_push edges e =
-        ap (insert_all eq []) (flat_map-append (λ (d : N × N × C). d.0 ∷ d.1 ∷ []) edges (e ∷ []))
-        ∙ fold-append (insert_key eq) [] (ends_of edges) (e.0 ∷ e.1 ∷ [])
+    -- the names have both names of each edge
+    pub all_named : (list : NamesAndEdges N C) → AreNamed eq (names_of eq list) list.edges
+    all_named list = subst (λ ns. AreNamed eq ns list.edges) (names_from list) (named_from (insert_all eq [] list.names) list.edges)
+
+    -- and each name that is given
+    pub all_given : (list : NamesAndEdges N C) (k : ℕ) (x : N) → slice_get list.names k ≡ Some x → list_any (eq x) (names_of eq list) ≡ true
+    all_given list k x h = subst (λ ns. list_any (eq x) ns ≡ true) (names_from list) (kept_all (insert_all eq [] list.names) (ends_of list.edges) x (given_from [] list.names k x h))
+
+    names_push : (before : List N) (edges : List (N × N × C)) (e : N × N × C) → insert_all eq before (ends_of (edges ++ e ∷ [])) ≡ insert_key eq (insert_key eq (insert_all eq before (ends_of edges)) e.0) e.1
+    names_push before edges e =
+        ap (insert_all eq before) (flat_map-append (λ (d : N × N × C). d.0 ∷ d.1 ∷ []) edges (e ∷ []))
+        ∙ fold-append (insert_key eq) before (ends_of edges) (e.0 ∷ e.1 ∷ [])
 
     same_numbers : (names after : List N) → ((y : N) → list_any (eq y) names ≡ true → number_of eq after y ≡ number_of eq names y) → (edges : List (N × N × C)) → AreNamed eq names edges → map (numbered eq after) edges ≡ map (numbered eq names) edges
     same_numbers names after stay [] h = refl
@@ -108,18 +122,19 @@ module _ {N : Type 0} {eq : N → N → Bool} (laws : IsEquivalence eq) where
         ap (λ x. x ∷ map (numbered eq after) es) one ∙ ap (λ xs. numbered eq names e ∷ xs) (same_numbers names after stay es (λ k d s. h (suc k) d s))
 
     -- the names and the numbers after one more edge
-    module _ (edges : List (N × N × C)) (i : ℕ) (e : N × N × C) (stands : slice_get edges i ≡ Some e) where
-      pub more_names : names_of eq (take (i + 1) edges) ≡ insert_key eq (insert_key eq (names_of eq (take i edges)) e.0) e.1
-      more_names = ap (names_of eq) (take_at edges i e stands) ∙ names_push (take i edges) e
+    module _ (first : List N) (edges : List (N × N × C)) (i : ℕ) (e : N × N × C) (stands : slice_get edges i ≡ Some e) where
+      pub more_names : insert_all eq first (ends_of (take (i + 1) edges)) ≡ insert_key eq (insert_key eq (insert_all eq first (ends_of (take i edges))) e.0) e.1
+      more_names = ap (λ es. insert_all eq first (ends_of es)) (take_at edges i e stands) ∙ names_push first (take i edges) e
 
-      pub more_numbers : map (numbered eq (names_of eq (take i edges))) (take i edges) ++ (number_of eq (names_of eq (take i edges)) e.0, number_of eq (insert_key eq (names_of eq (take i edges)) e.0) e.1, e.2) ∷ []
-          ≡ map (numbered eq (names_of eq (take (i + 1) edges))) (take (i + 1) edges)
+      pub more_numbers : map (numbered eq (insert_all eq first (ends_of (take i edges)))) (take i edges)
+          ++ (number_of eq (insert_all eq first (ends_of (take i edges))) e.0, number_of eq (insert_key eq (insert_all eq first (ends_of (take i edges))) e.0) e.1, e.2) ∷ []
+          ≡ map (numbered eq (insert_all eq first (ends_of (take (i + 1) edges)))) (take (i + 1) edges)
       more_numbers =
-          let before : List N = names_of eq (take i edges) in
+          let before : List N = insert_all eq first (ends_of (take i edges)) in
           let middle : List N = insert_key eq before e.0 in
           let after : List N = insert_key eq middle e.1 in
           let stay : (y : N) → list_any (eq y) before ≡ true → number_of eq after y ≡ number_of eq before y = λ y h. number_kept middle e.1 y (kept before e.0 y h) ∙ number_kept before e.0 y h in
-          let rest : map (numbered eq after) (take i edges) ≡ map (numbered eq before) (take i edges) = same_numbers before after stay (take i edges) (all_named (take i edges)) in
+          let rest : map (numbered eq after) (take i edges) ≡ map (numbered eq before) (take i edges) = same_numbers before after stay (take i edges) (named_from first (take i edges)) in
           let from : number_of eq after e.0 ≡ number_of eq before e.0 = number_kept middle e.1 e.0 (added before e.0) ∙ number_added before e.0 in
           let to : number_of eq after e.1 ≡ number_of eq middle e.1 = number_added middle e.1 in
           let last : numbered eq after e ≡ (number_of eq before e.0, number_of eq middle e.1, e.2) = ap (λ (n : ℕ). (n, number_of eq after e.1, e.2)) from ∙ ap (λ (n : ℕ). (number_of eq before e.0, n, e.2)) to in
@@ -203,7 +218,7 @@ module _ {N : Type 0} {eq : N → N → Bool} (laws : IsEquivalence eq) where
         by true k = ap (λ xs. (number_of eq names e.1, e.2) ∷ xs) k
         by false k = k
 
-  -- ---- the names are those of the edges
+  -- ---- the names are those that are mentioned
 
   same_ends : (names before more : List N) → HasSameNodes eq names before → HasSameNodes eq (insert_all eq names more) (before ++ more)
   same_ends names before [] h = subst (HasSameNodes eq names) (sym (append-nil before)) h
@@ -228,11 +243,11 @@ module _ {N : Type 0} {eq : N → N → Bool} (laws : IsEquivalence eq) where
   all_apart names [] d = d
   all_apart names (x ∷ more) d = all_apart (insert_key eq names x) more (one_apart names x d)
 
-  pub names_apart : {C : Type 0} (edges : List (N × N × C)) → NoRepeats eq (names_of eq edges)
-  names_apart edges = all_apart [] (ends_of edges) tt
+  pub names_apart : {C : Type 0} (list : NamesAndEdges N C) → NoRepeats eq (names_of eq list)
+  names_apart list = all_apart [] (mentions_of list) tt
 
-  pub names_are_ends : {C : Type 0} (edges : List (N × N × C)) → HasSameNodes eq (names_of eq edges) (ends_of edges)
-  names_are_ends edges = same_ends [] [] (ends_of edges) (λ x. ((λ h. h), (λ h. h)))
+  pub names_are_mentions : {C : Type 0} (list : NamesAndEdges N C) → HasSameNodes eq (names_of eq list) (mentions_of list)
+  names_are_mentions list = same_ends [] [] (mentions_of list) (λ x. ((λ h. h), (λ h. h)))
 
 -- what holds of each edge holds of those from x
 pub each_end : {N C : Type 0} (eq : N → N → Bool) (P : N × C → Type 0) (edges : List (N × N × C)) (x : N) → ((k : ℕ) (e : N × N × C) → slice_get edges k ≡ Some e → P (e.1, e.2))

@@ -1,12 +1,12 @@
 //! Graphs as lists of edges between names.
 
-ghost use Rattle.std.specs.Prelude.{◌≡◌, ◌<◌, ◌≤◌, ℕ, Some, IfOk, IfErr, All, Contains, MatchOption, length, slice_get};
+ghost use Rattle.std.specs.Prelude.{◌≡◌, ◌<◌, ◌≤◌, ℕ, [], Some, IfOk, IfErr, All, Contains, MatchOption, length, slice_get};
 ghost use Rattle.std.specs.List.{AllZip};
 ghost use Rattle.pf_base.specs.Walks.{HasNode, NoRepeats};
 ghost use Rattle.pf_base.specs.NodeRefs.{HasSameNodes, nodes_of};
 ghost use Rattle.pf_core.specs.Nodes.{StandsFor};
 ghost use Rattle.pf_tables.specs.Graphs.{IsGraph};
-ghost use Rattle.pf_edge_lists.specs.EdgeLists.{AreNumbered, CostsFromZeroTo, HasEdgesByName, IsFirstNegative, IsEdgeListFault, ends_of, names_of, places_of};
+ghost use Rattle.pf_edge_lists.specs.EdgeLists.{AreNumbered, CostsFromZeroTo, HasEdgesByName, IsFirstNegative, IsEdgeListFault, mentions_of, names_of, places_of};
 
 use crate::error::EdgeListError;
 use crate::names::{Names, are_below, lay_out_by_name, names_at};
@@ -20,12 +20,14 @@ use std::marker::Model;
 
 /// A graph of edges (from, to, cost) between names, in a list that is lent.
 ///
-/// The nodes stand for the names, numbered in the order in which they are first met: of an edge the
-/// name that it comes from, and then the one that it leads to. Names that are equal are one node.
-/// The edges from a node are those of the list whose first name is its name, in the order of the
-/// list; parallel edges and loops stay. A contract sees the list of the edges.
+/// The nodes stand for the names: first those that are given by themselves, in their order, and then
+/// those of the edges, in the order in which they are first met: of an edge the name that it comes
+/// from, and then the one that it leads to. Names that are equal are one node. The edges from a node
+/// are those of the list whose first name is its name, in the order of the list; parallel edges and
+/// loops stay. A contract sees the names that are given by themselves, and the list of the edges.
 #[derive(Drop)]
 pub struct EdgeList<'e, N: Eq + Hash, C: Cost, A: Allocator = Global> {
+    given: &'e [N],
     edges: &'e [(N, N, C)],
     names: Names<'e, N, A>,
     offsets: Vec<usize, A>,
@@ -33,15 +35,15 @@ pub struct EdgeList<'e, N: Eq + Hash, C: Cost, A: Allocator = Global> {
 }
 
 impl<'e, N: Eq + Hash, C: Cost, A: Allocator> Model for EdgeList<'e, N, C, A> {
-    ghost use Rattle.std.specs.Prelude.{List};
     ghost use Rattle.pf_base.specs.NodeRefs.{nodes_of};
+    ghost use Rattle.pf_edge_lists.specs.EdgeLists.{NamesAndEdges};
     ghost use Rattle.pf_edge_lists.specs.Internal.Layouts.{IsLaidOut};
 
-    ghost Value = { List (N × N × C) };
+    ghost Value = { NamesAndEdges N C };
 
-    ghost view = { λ s. s.edges.now };
+    ghost view = { λ s. record { names = s.given.now; edges = s.edges.now } };
 
-    ghost invariant = { λ s. IsLaidOut N.eq C.value s.edges.now (nodes_of s.names.keys) s.offsets.items s.targets.items };
+    ghost invariant = { λ s. IsLaidOut N.eq C.value (record { names = s.given.now; edges = s.edges.now }) (nodes_of s.names.keys) s.offsets.items s.targets.items };
 }
 
 /// The first edge that costs less than 0.
@@ -68,8 +70,31 @@ impl<'e, N: Eq + Hash, C: Cost, A: Allocator + Copy> EdgeList<'e, N, C, A> {
     /// - `NegativeCost`: an edge costs less than 0. The error has the number of the first such edge.
     /// - `OutOfMemory`: a request for memory was refused, and no edge costs less than 0.
     pub fn new(alloc: A, edges: &'e [(N, N, C)]) -> Result<Self, EdgeListError>
-        ensures edges { IfOk result (λ list. list ≡ edges.now) }
-        ensures names { IfOk result (λ list. HasSameNodes N.eq (names_of N.eq list) (ends_of list)) }
+        ensures edges { IfOk result (λ list. list ≡ record { names = []; edges = edges.now }) }
+        ensures names { IfOk result (λ list. HasSameNodes N.eq (names_of N.eq list) (mentions_of list)) }
+        ensures apart { IfOk result (λ list. NoRepeats N.eq (names_of N.eq list)) }
+        ensures numbered { IfOk result (AreNumbered N.eq) }
+        ensures places { IfOk result (HasEdgesByName N.eq) }
+        ensures sound { IfOk result (λ list. IsGraph C.value (length (names_of N.eq list)) (places_of N.eq list)) }
+        ensures fault { IfErr result (IsEdgeListFault C.value edges.now) }
+    {
+        Self::with_names(alloc, &[], edges)
+    }
+
+    /// The graph of these names and edges: a name that stands in no edge is a node without edges. The
+    /// given names are numbered first, in their order. Memory and time are linear in the number of
+    /// names and edges.
+    ///
+    /// # Errors
+    ///
+    /// Those of `new`.
+    pub fn with_names(
+        alloc: A,
+        names: &'e [N],
+        edges: &'e [(N, N, C)],
+    ) -> Result<Self, EdgeListError>
+        ensures edges { IfOk result (λ list. list ≡ record { names = names.now; edges = edges.now }) }
+        ensures names { IfOk result (λ list. HasSameNodes N.eq (names_of N.eq list) (mentions_of list)) }
         ensures apart { IfOk result (λ list. NoRepeats N.eq (names_of N.eq list)) }
         ensures numbered { IfOk result (AreNumbered N.eq) }
         ensures places { IfOk result (HasEdgesByName N.eq) }
@@ -79,11 +104,12 @@ impl<'e, N: Eq + Hash, C: Cost, A: Allocator + Copy> EdgeList<'e, N, C, A> {
         if let Some(edge) = negative_edge(edges) {
             return Err(EdgeListError::NegativeCost { edge });
         }
-        let mut names = IndexSet::new(alloc);
-        let (offsets, targets) = lay_out_by_name(alloc, &mut names, edges)?;
+        let mut numbers = IndexSet::new(alloc);
+        let (offsets, targets) = lay_out_by_name(alloc, &mut numbers, names, edges)?;
         Ok(EdgeList {
+            given: names,
             edges,
-            names,
+            names: numbers,
             offsets,
             targets,
         })
@@ -98,7 +124,7 @@ impl<'e, N: Eq + Hash, C: Cost, A: Allocator> EdgeList<'e, N, C, A> {
         self.names.len()
     }
 
-    /// The node of a name; nothing where no edge has a name that equals it.
+    /// The node of a name; nothing where the list has no name that equals it.
     pub fn number_of(&self, name: &N) -> Option<usize>
         ensures { MatchOption result
             (¬ (HasNode N.eq (names_of N.eq self.now) name.now))

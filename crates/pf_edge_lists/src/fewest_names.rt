@@ -26,8 +26,8 @@ impl<'e, N: Eq + Hash, C: Cost, A: Allocator> EdgeList<'e, N, C, A> {
     /// `OutOfMemory`: a request for memory was refused.
     ///
     /// The algorithm is that of the function `bfs`, over the numbers of the names: `from` and `to` are
-    /// looked up, and no name is hashed or compared after that. Where `from` stands in no edge, it is
-    /// compared with `to`.
+    /// looked up, and no name is hashed or compared after that. Where the list has no such name as
+    /// `from`, it is compared with `to`.
     pub fn bfs<'p, B>(
         &self,
         alloc: B,

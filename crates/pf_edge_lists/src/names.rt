@@ -3,7 +3,8 @@
 ghost use Rattle.std.specs.Prelude.{◌≡◌, ◌<◌, ◌↔◌, ℕ, [], Some, All, Contains, IsTrue, length, slice_get, IfOk, IfErr, OnOk};
 ghost use Rattle.std.specs.List.{AllZip};
 ghost use Rattle.pf_base.specs.NodeRefs.{nodes_of};
-ghost use Rattle.pf_edge_lists.specs.EdgeLists.{names_of};
+ghost use Rattle.indexmap.specs.IndexSet.{insert_all};
+ghost use Rattle.pf_edge_lists.specs.EdgeLists.{ends_of, names_of};
 ghost use Rattle.pf_edge_lists.specs.Internal.Layouts.{AreOffsets, ArePlaced, numbered_ends};
 
 use crate::layout::lay_out;
@@ -16,6 +17,19 @@ use std::hash::{BuildHasherDefault, FoldHasher, Hash};
 /// Names that others own, each once; the place of a name is its number.
 pub type Names<'e, N, A> = IndexSet<&'e N, BuildHasherDefault<FoldHasher>, A>;
 
+/// Numbers names.
+fn add_names<'e, N: Eq + Hash, A: Allocator>(
+    names: &mut Names<'e, N, A>,
+    given: &'e [N],
+) -> Result<(), AllocError>
+    ensures { OnOk result (nodes_of names.new.keys ≡ insert_all N.eq (nodes_of names.old.keys) given.now) }
+{
+    for name in given {
+        names.insert_full(name)?;
+    }
+    Ok(())
+}
+
 /// Numbers the names of edges, and puts the edges between the numbers into `numbered`.
 fn add_edges<'e, N, C, A>(
     names: &mut Names<'e, N, A>,
@@ -26,10 +40,9 @@ where
     N: Eq + Hash,
     C: Copy,
     A: Allocator + Copy,
-    requires first { names.old.keys ≡ [] }
-    requires none { numbered.old.items ≡ [] }
-    ensures names { OnOk result (nodes_of names.new.keys ≡ names_of N.eq edges.now) }
-    ensures numbered { OnOk result (numbered.new.items ≡ numbered_ends N.eq edges.now) }
+    requires { numbered.old.items ≡ [] }
+    ensures names { OnOk result (nodes_of names.new.keys ≡ insert_all N.eq (nodes_of names.old.keys) (ends_of edges.now)) }
+    ensures numbered { OnOk result (numbered.new.items ≡ numbered_ends N.eq (nodes_of names.new.keys) edges.now) }
 {
     for edge in edges {
         let from = names.insert_full(&edge.0)?.0;
@@ -39,10 +52,11 @@ where
     Ok(())
 }
 
-/// Numbers the names of edges, and lays the edges between the numbers out.
+/// Numbers given names and then those of edges, and lays the edges between the numbers out.
 pub fn lay_out_by_name<'e, N, C, A>(
     alloc: A,
     names: &mut Names<'e, N, A>,
+    given: &'e [N],
     edges: &'e [(N, N, C)],
 ) -> Result<(Vec<usize, A>, Vec<(usize, C), A>), AllocError>
 where
@@ -50,11 +64,12 @@ where
     C: Copy + Zero,
     A: Allocator + Copy,
     requires { names.old.keys ≡ [] }
-    ensures names { OnOk result (nodes_of names.new.keys ≡ names_of N.eq edges.now) }
-    ensures offsets { IfOk result (λ laid. AreOffsets (length (names_of N.eq edges.now)) (numbered_ends N.eq edges.now) laid.0.items) }
-    ensures targets { IfOk result (λ laid. ArePlaced (length (names_of N.eq edges.now)) (numbered_ends N.eq edges.now) laid.1.items) }
+    ensures names { OnOk result (nodes_of names.new.keys ≡ names_of N.eq (record { names = given.now; edges = edges.now })) }
+    ensures offsets { IfOk result (λ laid. AreOffsets (length names.new.keys) (numbered_ends N.eq (nodes_of names.new.keys) edges.now) laid.0.items) }
+    ensures targets { IfOk result (λ laid. ArePlaced (length names.new.keys) (numbered_ends N.eq (nodes_of names.new.keys) edges.now) laid.1.items) }
 {
     let mut numbered = Vec::with_capacity(alloc, edges.len())?;
+    add_names(names, given)?;
     add_edges(names, &mut numbered, edges)?;
     lay_out(alloc, names.len(), &numbered)
 }
