@@ -231,6 +231,30 @@ fn divisors_come_first(rt: HostRuntime) {
     assert!(rt; are_behind_divisors(topological_sort(rt.alloc(), &graph, &numbers)));
 }
 
+/// Steps of a build, of which the last waits for no other, and no other for it.
+const STEPS: &[&str] = &["unpack", "compile", "link", "notes"];
+
+/// Which of them stand before which.
+const BEFORE: &[(&str, &str, u8)] = &[("unpack", "compile", 0), ("compile", "link", 0)];
+
+/// Whether these are the numbers of the four steps in an order in which they can be done.
+fn are_in_order(order: Result<Result<Vec<usize>, usize>, PathError>) -> bool {
+    let Ok(Ok(numbers)) = &order else {
+        return false;
+    };
+    matches!(
+        numbers.as_slice(),
+        [0, 1, 2, 3] | [0, 1, 3, 2] | [0, 3, 1, 2] | [3, 0, 1, 2]
+    )
+}
+
+#[test]
+fn a_step_without_edges_stands_in_an_order(rt: HostRuntime) {
+    let steps = EdgeList::with_names(rt.alloc(), STEPS, BEFORE).expect(&rt, "memory");
+    let order = topological_sort(rt.alloc(), &steps, &[0, 1, 2, 3]);
+    assert!(rt; are_in_order(order));
+}
+
 /// Ten nodes, of which the last three are on cycles and all others lead to them.
 const TEN: &[&[usize]] = &[
     &[1, 2, 7],

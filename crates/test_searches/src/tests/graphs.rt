@@ -123,7 +123,8 @@ fn is_way_by_four(alloc: Global) -> bool {
     match &Board::new(3, 3, CELLS, Steps::Four) {
         Ok(board) => {
             board.number_of(0, 2) == 2
-                && board.position_of(5) == (1, 2)
+                && board.position_of(5) == Some((1, 2))
+                && board.position_of(9).is_none()
                 && is_cheapest(dijkstra(alloc, board, 0, 2), Some((&[0, 3, 4, 5, 2], 12)))
         }
         Err(_) => false,

@@ -21,6 +21,9 @@ pub const ROADS: &[(char, char, u32)] = &[
     ('d', 'e', 2),
 ];
 
+/// The places, and one that no road leads from or to.
+pub const PLACES: &[char] = &['a', 'b', 'c', 'd', 'e', 'f'];
+
 /// Whether these are the places.
 fn are_places(places: &[&char], names: &[char]) -> bool {
     places.iter().copied().eq(names)
@@ -89,26 +92,46 @@ fn have_ways<'h>(heap: Heap<'h>, roads: &Roads<'_, 'h>) -> bool {
     true
 }
 
-/// Whether names have their numbers.
-fn are_numbered(roads: &Roads<'_, '_>) -> bool {
+/// Whether names have their numbers, and numbers their names.
+fn are_numbered<'h>(heap: Heap<'h>, roads: &Roads<'_, 'h>) -> bool {
     roads.number_of(&'d') == Some(3)
         && roads.number_of(&'f').is_none()
-        && roads.len() > 3
-        && *roads.name_of(3) == 'd'
+        && roads.name_of(3) == Some(&'d')
+        && roads.name_of(5).is_none()
+        && matches!(roads.names_of(heap, &[4, 5]), Ok(None))
+}
+
+/// Whether a place that no road leads from or to is a node like the others, after them, and the ways
+/// are the same.
+fn has_place_without_roads<'h>(heap: Heap<'h>, roads: &Roads<'_, 'h>) -> bool {
+    roads.number_of(&'f') == Some(5)
+        && roads.len() == 6
+        && way_outcome(roads.bfs(heap, &'f', &'f'), &['f']) == Outcome::Right
+        && way_outcome(roads.bfs(heap, &'a', &'f'), &[]) == Outcome::Right
+        && have_ways(heap, roads)
+}
+
+/// Whether that is so of the list of the places and the roads between them.
+fn are_places_named(alloc: Global) -> bool {
+    let heap = Refusing::new(alloc);
+    match &EdgeList::with_names(&heap, PLACES, ROADS) {
+        Ok(roads) => has_place_without_roads(&heap, roads),
+        Err(_) => false,
+    }
 }
 
 /// Whether the ways of each row are found in the list `ROADS`, and names have their numbers.
 fn are_all_ways(alloc: Global) -> bool {
     let heap = Refusing::new(alloc);
     match &EdgeList::new(&heap, ROADS) {
-        Ok(roads) => have_ways(&heap, roads) && are_numbered(roads),
+        Ok(roads) => have_ways(&heap, roads) && are_numbered(&heap, roads),
         Err(_) => false,
     }
 }
 
 #[test]
 fn ways_between_names(rt: HostRuntime) {
-    assert!(rt; are_all_ways(rt.alloc()));
+    assert!(rt; are_all_ways(rt.alloc()) && are_places_named(rt.alloc()));
 }
 
 /// Whether the places are spelled like this.

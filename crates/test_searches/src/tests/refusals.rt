@@ -7,7 +7,7 @@ use crate::list::cheapest_in_list;
 use crate::loops::loop_in_pairs;
 use crate::tests::answers::{Outcome, cheapest_outcome, path_outcome};
 use crate::tests::graphs::ROWS;
-use crate::tests::names::{ROADS, cheapest_way_outcome, way_outcome};
+use crate::tests::names::{PLACES, ROADS, cheapest_way_outcome, way_outcome};
 use crate::tests::routes::{SEVEN, SEVEN_ANSWERS, ended, spelled};
 use pathfinding::routes::{Command, RouteError};
 use pf_base::PathError;
@@ -30,6 +30,8 @@ enum Call {
     FewestInTable,
     /// A list of edges, and what it tells of names.
     EdgeList,
+    /// The same of a list of names and edges.
+    NamesAndEdges,
     /// A cheapest way by name.
     CheapestByName,
     /// A way with fewest edges by name.
@@ -67,6 +69,7 @@ const CALLS: &[(&str, Call, u64)] = &[
     ("graphs::dijkstra", Call::CheapestInTable, 3),
     ("graphs::bfs", Call::FewestInTable, 3),
     ("EdgeList::new", Call::EdgeList, 7),
+    ("EdgeList::with_names", Call::NamesAndEdges, 7),
     ("EdgeList::dijkstra", Call::CheapestByName, 3),
     ("EdgeList::bfs", Call::FewestByName, 3),
     ("EdgeList::bfs of a name alone", Call::AloneByName, 1),
@@ -152,19 +155,20 @@ fn search_outcome(
 
 /// How the making of names from the list `ROADS` ended.
 fn names_outcome(heap: Heap<'_>, list: &EdgeList<'_, char, u32, Heap<'_>>) -> Outcome {
-    if list.len() != 5 {
-        return Outcome::Wrong;
-    }
     match list.names_of(heap, &[4, 0]) {
-        Ok(names) => Outcome::of_answer(names.as_slice() == [&'e', &'a'].as_slice()),
+        Ok(Some(names)) => Outcome::of_answer(names.as_slice() == [&'e', &'a'].as_slice()),
+        Ok(None) => Outcome::Wrong,
         Err(refusal) => Outcome::of_refusal(refusal),
     }
 }
 
-/// How the making of this list ended, and of names from it.
-fn list_outcome(heap: Heap<'_>) -> Outcome {
-    match EdgeList::new(heap, ROADS) {
-        Ok(list) => names_outcome(heap, &list),
+/// How the making of a list ended, and of names from it.
+fn list_outcome<'h>(
+    heap: Heap<'h>,
+    made: Result<EdgeList<'_, char, u32, Heap<'h>>, EdgeListError>,
+) -> Outcome {
+    match &made {
+        Ok(list) => names_outcome(heap, list),
         Err(EdgeListError::OutOfMemory) => Outcome::OutOfMemory,
         Err(_) => Outcome::Wrong,
     }
@@ -200,7 +204,10 @@ fn outcome_of(heap: Heap<'_>, asked: &Asked<'_>, call: Call) -> Outcome {
             Some((&[0, 1, 3, 4], 11)),
         ),
         Call::FewestInTable => path_outcome(bfs(heap, &asked.rows, 0, 4), Some(&[0, 2, 4])),
-        Call::EdgeList => list_outcome(heap),
+        Call::EdgeList => list_outcome(heap, EdgeList::new(heap, ROADS)),
+        Call::NamesAndEdges => {
+            list_outcome(heap, EdgeList::with_names(heap, PLACES, ROADS))
+        }
         Call::CheapestByName => {
             cheapest_way_outcome(
                 asked.roads.dijkstra(heap, &'a', &'e'),
