@@ -31,7 +31,7 @@ enum Call {
     /// A list of edges, and what it tells of names.
     EdgeList,
     /// The same of a list of names and edges.
-    NamesAndEdges,
+    WithNames,
     /// A cheapest way by name.
     CheapestByName,
     /// A way with fewest edges by name.
@@ -69,7 +69,7 @@ const CALLS: &[(&str, Call, u64)] = &[
     ("graphs::dijkstra", Call::CheapestInTable, 3),
     ("graphs::bfs", Call::FewestInTable, 3),
     ("EdgeList::new", Call::EdgeList, 7),
-    ("EdgeList::with_names", Call::NamesAndEdges, 7),
+    ("EdgeList::with_names", Call::WithNames, 7),
     ("EdgeList::dijkstra", Call::CheapestByName, 3),
     ("EdgeList::bfs", Call::FewestByName, 3),
     ("EdgeList::bfs of a name alone", Call::AloneByName, 1),
@@ -205,9 +205,7 @@ fn outcome_of(heap: Heap<'_>, asked: &Asked<'_>, call: Call) -> Outcome {
         ),
         Call::FewestInTable => path_outcome(bfs(heap, &asked.rows, 0, 4), Some(&[0, 2, 4])),
         Call::EdgeList => list_outcome(heap, EdgeList::new(heap, ROADS)),
-        Call::NamesAndEdges => {
-            list_outcome(heap, EdgeList::with_names(heap, PLACES, ROADS))
-        }
+        Call::WithNames => list_outcome(heap, EdgeList::with_names(heap, PLACES, ROADS)),
         Call::CheapestByName => {
             cheapest_way_outcome(
                 asked.roads.dijkstra(heap, &'a', &'e'),
