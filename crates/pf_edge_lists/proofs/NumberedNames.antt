@@ -88,7 +88,7 @@ module _ {N : Type 0} {eq : N → N → Bool} (laws : IsEquivalence eq) where
   given_from names (y ∷ given) (suc k) x h = given_from (insert_key eq names y) given k x h
 
   module _ {C : Type 0} where
-    -- edges have both names of each among those that they were added to
+    -- names to which those of edges were added have both names of each edge
     pub named_from : (names : List N) (edges : List (N × N × C)) → AreNamed eq (insert_all eq names (ends_of edges)) edges
     named_from names [] k e h = absurd (none_in k e h)
     named_from names (d ∷ edges) zero e h = subst (IsNamed eq (insert_all eq names (ends_of (d ∷ edges)))) (same_item h) (
