@@ -114,6 +114,20 @@ impl<'a, C: Cost> Board<'a, C> {
         })
     }
 
+    /// The number of rows.
+    pub fn rows(&self) -> usize
+        ensures { result ≡ self.now.rows }
+    {
+        self.rows
+    }
+
+    /// The number of columns.
+    pub fn columns(&self) -> usize
+        ensures { result ≡ self.now.columns }
+    {
+        self.columns
+    }
+
     /// The node at a row and a column.
     pub fn number_of(&self, row: usize, column: usize) -> usize
         requires row { row < self.now.rows }

@@ -118,11 +118,20 @@ const CELLS: &[Option<u32>] = &[
     Some(1),
 ];
 
+/// The node at a row and a column, where the board has both.
+fn node_at(board: &Board<'_, u32>, row: usize, column: usize) -> Option<usize> {
+    if row >= board.rows() || column >= board.columns() {
+        return None;
+    }
+    Some(board.number_of(row, column))
+}
+
 /// Whether a board with four steps is right about its cells, and a cheapest way on it.
 fn is_way_by_four(alloc: Global) -> bool {
     match &Board::new(3, 3, CELLS, Steps::Four) {
         Ok(board) => {
-            board.number_of(0, 2) == 2
+            node_at(board, 0, 2) == Some(2)
+                && node_at(board, 3, 0).is_none()
                 && board.position_of(5) == Some((1, 2))
                 && board.position_of(9).is_none()
                 && is_cheapest(dijkstra(alloc, board, 0, 2), Some((&[0, 3, 4, 5, 2], 12)))
