@@ -1,0 +1,2 @@
+pub mod EstimateLemmas
+pub mod Callers
