@@ -8,3 +8,4 @@ mod searches;
 pub use crate::estimate::StateEstimate;
 pub use crate::paths::{astar_bag, astar_bag_collect};
 pub use crate::searches::{astar, fringe, idastar};
+pub use pf_state_spaces::{Exact, StateGoal, StateSpace};
