@@ -1,5 +1,5 @@
 -- Estimates that fall by no more than each move costs are never above what remains.
-use Rattle.std.proofs.Common.{◌≡◌, ℕ, ℤ, refl, ap, subst, sym, inl, inr, suc, arith, pos, Bool, true, List, [], ◌∷◌, map, Option, Some, None}
+use Rattle.std.proofs.Common.{◌≡◌, ℕ, ℤ, refl, ap, subst, inl, inr, suc, arith, pos, Bool, true, List, [], ◌∷◌, map, Option, Some, None}
 use Rattle.std.specs.Prelude.{◌≤ℤ◌, ◌+ℤ◌, slice_get}
 use Rattle.std.proofs.lemmas.Int.{ints}
 use Rattle.pf_base.specs.Edges.{HasEdge}

@@ -1,6 +1,6 @@
 -- Steps down and to the right over a board of three rows and three columns, and how many are left.
 use Rattle.std.proofs.Common.{◌≡◌, refl, arith}
-use Rattle.std.specs.Prelude.{ℕ, Bool, true, false, pos, ◌+◌, ◌-◌, ◌≤◌, ◌==◌, ◌&&◌, ◌≤ℤ◌, ◌+ℤ◌, nat_lt, slice_get, if◌then◌else◌, List, [], ◌∷◌, Option, Some, None}
+use Rattle.std.specs.Prelude.{ℕ, Bool, true, false, pos, ◌+◌, ◌-◌, ◌==◌, ◌&&◌, ◌≤ℤ◌, ◌+ℤ◌, nat_lt, slice_get, if◌then◌else◌, List, [], ◌∷◌, Option, Some, None}
 use Rattle.std.proofs.lemmas.Int.{ints}
 use Rattle.std.proofs.lemmas.Bool.{eqb-true}
 use Rattle.pf_state_estimates.proofs.Callers.{each_move, on_condition}

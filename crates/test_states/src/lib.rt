@@ -1,7 +1,9 @@
-//! Tests of searches over states that an estimate leads.
+//! Tests of searches over states that an estimate leads, and of orders and components of states.
 #![tactic(auto)]
 
 // Its type is not for tests alone: specs/ has words on it.
 mod cells;
+#[cfg(test)]
+mod orders;
 #[cfg(test)]
 mod tests;

@@ -8,12 +8,12 @@ use std::process::Abort;
 use test_allocator::Refusing;
 
 /// The heap that refuses growths.
-type Heap<'h> = &'h Refusing<Global>;
+pub type Heap<'h> = &'h Refusing<Global>;
 
 /// The cells that every path begins and ends with. Six paths of four steps lead from the one to the other.
-const FIRST: Cell = Cell { row: 0, column: 0 };
+pub const FIRST: Cell = Cell { row: 0, column: 0 };
 
-const LAST: Cell = Cell { row: 2, column: 2 };
+pub const LAST: Cell = Cell { row: 2, column: 2 };
 
 /// A call that an estimate leads.
 #[derive(Clone, Copy, Debug)]

@@ -1,0 +1,121 @@
+//! Orders and components, with ample memory and with each growth refused in turn.
+
+use crate::cells::{Board, Cell};
+use crate::tests::{FIRST, Heap, LAST};
+use pf_base::PathError;
+use pf_state_orders::{
+    strongly_connected_component, strongly_connected_components, topological_sort,
+    topological_sort_into_groups,
+};
+use std::alloc::Global;
+use std::process::Abort;
+use test_allocator::Refusing;
+
+/// All cells of the board. No steps lead round.
+const CELLS: &[Cell] = &[
+    Cell { row: 0, column: 0 },
+    Cell { row: 0, column: 1 },
+    Cell { row: 0, column: 2 },
+    Cell { row: 1, column: 0 },
+    Cell { row: 1, column: 1 },
+    Cell { row: 1, column: 2 },
+    Cell { row: 2, column: 0 },
+    Cell { row: 2, column: 1 },
+    Cell { row: 2, column: 2 },
+];
+
+/// A call over the board.
+#[derive(Clone, Copy, Debug)]
+enum Call {
+    /// `topological_sort`.
+    Order,
+    /// `topological_sort_into_groups`.
+    Groups,
+    /// `strongly_connected_components`.
+    Components,
+    /// `strongly_connected_component`.
+    Component,
+}
+
+/// Each call.
+const CALLS: &[Call] = &[Call::Order, Call::Groups, Call::Components, Call::Component];
+
+/// The cells of an answer, one group behind the other.
+type Groups<'h> = Vec<Vec<Cell, Heap<'h>>, Heap<'h>>;
+
+/// Whether an order has all cells, from the first to the last.
+fn is_an_order(
+    answer: Result<Result<Vec<Cell, Heap<'_>>, Cell>, PathError>,
+) -> Result<bool, PathError> {
+    let answer = answer?;
+    Ok(
+        matches!(&answer, Ok(order) if order.len() == 9 && order.first() == Some(&FIRST) && order.last() == Some(&LAST)),
+    )
+}
+
+/// Whether the groups are the five diagonals of the board.
+fn are_diagonals(
+    answer: Result<Result<Groups<'_>, (Groups<'_>, Vec<Cell, Heap<'_>>)>, PathError>,
+) -> Result<bool, PathError> {
+    let answer = answer?;
+    let Ok(groups) = &answer else {
+        return Ok(false);
+    };
+    for (number, group) in groups.iter().enumerate() {
+        for cell in group {
+            if usize::from(cell.row.saturating_add(cell.column)) != number {
+                return Ok(false);
+            }
+        }
+    }
+    Ok(groups.len() == 5)
+}
+
+/// Whether there are nine components.
+fn are_nine(answer: Result<Groups<'_>, PathError>) -> Result<bool, PathError> {
+    let answer = answer?;
+    Ok(answer.len() == 9)
+}
+
+/// Whether a component has the first cell alone.
+fn is_alone(answer: Result<Vec<Cell, Heap<'_>>, PathError>) -> Result<bool, PathError> {
+    let answer = answer?;
+    Ok(answer.as_slice() == [FIRST].as_slice())
+}
+
+/// Whether a call answers rightly.
+fn is_right(heap: Heap<'_>, call: Call) -> Result<bool, PathError> {
+    match call {
+        Call::Order => is_an_order(topological_sort(heap, &Board, &[FIRST])),
+        Call::Groups => are_diagonals(topological_sort_into_groups(heap, &Board, CELLS)),
+        Call::Components => are_nine(strongly_connected_components(heap, &Board, &[FIRST])),
+        Call::Component => is_alone(strongly_connected_component(heap, &Board, &FIRST)),
+    }
+}
+
+/// Runs a call with growth 0, 1, 2, .. refused alone, until a run meets no refusal, and answers how
+/// many growths that run made. Each run before it has to answer that it was out of memory.
+fn refuse_each_growth(rt: &impl Abort, ample: Global, call: Call) -> u64 {
+    for growth in 0..1_000u64 {
+        let heap = Refusing::new(ample);
+        heap.refuse(growth, 1);
+        let answer = is_right(&heap, call);
+        if heap.pending() > 0 {
+            assert!(rt; matches!(answer, Ok(true)), "{call:?} with no refusal");
+            return growth;
+        }
+        assert!(rt;
+            matches!(answer, Err(PathError::OutOfMemory)),
+            "{call:?}, growth {growth}"
+        );
+    }
+    panic!(rt; "every run of {call:?} met a refusal")
+}
+
+#[test]
+fn orders_and_components_refuse_each_growth(rt: HostRuntime) {
+    for call in CALLS {
+        let growths = refuse_each_growth(&rt, rt.alloc(), *call);
+        assert!(rt; growths >= 3, "{call:?} makes {growths} growths");
+    }
+}
