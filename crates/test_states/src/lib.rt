@@ -1,4 +1,5 @@
-//! Tests of searches over states that an estimate leads, and of orders and components of states.
+//! Tests of searches over states that an estimate leads, and of orders,
+//! components and ranked paths of states.
 #![tactic(auto)]
 
 // Its type is not for tests alone: specs/ has words on it.

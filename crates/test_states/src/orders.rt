@@ -1,12 +1,13 @@
-//! Orders and components, with ample memory and with each growth refused in turn.
+//! Orders, components and ranked paths, with ample memory and with each growth refused in turn.
 
-use crate::cells::{Board, Cell};
-use crate::tests::{FIRST, Heap, LAST};
+use crate::cells::{Board, Cell, Target};
+use crate::tests::{FIRST, Heap, LAST, are_a_path};
 use pf_base::PathError;
 use pf_state_orders::{
     strongly_connected_component, strongly_connected_components, topological_sort,
     topological_sort_into_groups,
 };
+use pf_state_paths::yen;
 use std::alloc::Global;
 use std::process::Abort;
 use test_allocator::Refusing;
@@ -35,10 +36,18 @@ enum Call {
     Components,
     /// `strongly_connected_component`.
     Component,
+    /// `yen`.
+    Paths,
 }
 
 /// Each call.
-const CALLS: &[Call] = &[Call::Order, Call::Groups, Call::Components, Call::Component];
+const CALLS: &[Call] = &[
+    Call::Order,
+    Call::Groups,
+    Call::Components,
+    Call::Component,
+    Call::Paths,
+];
 
 /// The cells of an answer, one group behind the other.
 type Groups<'h> = Vec<Vec<Cell, Heap<'h>>, Heap<'h>>;
@@ -83,6 +92,19 @@ fn is_alone(answer: Result<Vec<Cell, Heap<'_>>, PathError>) -> Result<bool, Path
     Ok(answer.as_slice() == [FIRST].as_slice())
 }
 
+/// Whether five paths of four steps are answered.
+fn are_five(
+    answer: Result<Vec<(Vec<Cell, Heap<'_>>, u32), Heap<'_>>, PathError>,
+) -> Result<bool, PathError> {
+    let answer = answer?;
+    for (path, cost) in &answer {
+        if *cost != 4 || !are_a_path(path) {
+            return Ok(false);
+        }
+    }
+    Ok(answer.len() == 5)
+}
+
 /// Whether a call answers rightly.
 fn is_right(heap: Heap<'_>, call: Call) -> Result<bool, PathError> {
     match call {
@@ -90,6 +112,7 @@ fn is_right(heap: Heap<'_>, call: Call) -> Result<bool, PathError> {
         Call::Groups => are_diagonals(topological_sort_into_groups(heap, &Board, CELLS)),
         Call::Components => are_nine(strongly_connected_components(heap, &Board, &[FIRST])),
         Call::Component => is_alone(strongly_connected_component(heap, &Board, &FIRST)),
+        Call::Paths => are_five(yen(heap, &Board, &FIRST, &Target { row: 2, column: 2 }, 5)),
     }
 }
 
@@ -113,7 +136,7 @@ fn refuse_each_growth(rt: &impl Abort, ample: Global, call: Call) -> u64 {
 }
 
 #[test]
-fn orders_and_components_refuse_each_growth(rt: HostRuntime) {
+fn orders_and_paths_refuse_each_growth(rt: HostRuntime) {
     for call in CALLS {
         let growths = refuse_each_growth(&rt, rt.alloc(), *call);
         assert!(rt; growths >= 3, "{call:?} makes {growths} growths");

@@ -40,7 +40,7 @@ const CALLS: &[Call] = &[
 ];
 
 /// Whether these cells are a path of four steps from the first cell to the last.
-fn are_a_path(cells: &[Cell]) -> bool {
+pub fn are_a_path(cells: &[Cell]) -> bool {
     let mut steps = cells.iter();
     let Some(first) = steps.next() else {
         return false;

@@ -1,0 +1,1 @@
+pub use Rattle.pf_state_spaces.specs.StateSpaces
