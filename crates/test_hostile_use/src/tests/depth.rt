@@ -191,8 +191,11 @@ fn pairs_to(alloc: Global, last: usize) -> Option<Vec<Vec<usize>>> {
 
 /// Whether all these are one number.
 fn are_equal(numbers: &[usize]) -> bool {
-    for (number, next) in numbers.iter().zip(numbers.iter().skip(1)) {
-        if *number != *next {
+    let Some(first) = numbers.first() else {
+        return true;
+    };
+    for number in numbers {
+        if *number != *first {
             return false;
         }
     }
