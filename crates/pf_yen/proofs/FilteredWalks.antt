@@ -97,7 +97,7 @@ module _ {C : Type 0} (value : C → ℤ) (g : FilteredLists C) where
   walk_on (b ∷ q) r a u l m left k = (k.0, k.1, is_left a k.0 b k.2 (rw l.0 (same_is_true b)), walk_on q r b k.1 l.2 m left k.3, k.4)
 
   -- a walk that is left and ends at a goal begins with the prefix
-  walk_back : (q w : List ℕ) (a : ℕ) (u : ℤ) → LeadsOn g.adjacency g.onward g.spur a q → GoesAlong (FilteredStep value g) a w u → is_goal g.adjacency (end_of a w) ≡ true → is_member (a ∷ q) g.banned (a ∷ w) ≡ true
+  pub walk_back : (q w : List ℕ) (a : ℕ) (u : ℤ) → LeadsOn g.adjacency g.onward g.spur a q → GoesAlong (FilteredStep value g) a w u → is_goal g.adjacency (end_of a w) ≡ true → is_member (a ∷ q) g.banned (a ∷ w) ≡ true
   walk_back [] [] a u l k e = subst (λ (b : Bool). b && true ≡ true) (sym (same_is_true a)) refl
   walk_back [] (b ∷ w) a u l k e =
       let h = is_allowed a k.0 b k.2 in

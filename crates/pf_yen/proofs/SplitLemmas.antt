@@ -63,7 +63,7 @@ module _ {C : Type 0} (k : AdjacencyLists C) where
   spur_in onward spur [] a l = inl (eq-eqb a spur l.0)
   spur_in onward spur (b ∷ q) a l = inr (spur_in onward spur q b l.2)
 
-  spur_waits : (onward : List (Option ℕ)) (spur : ℕ) (q : List ℕ) (a : ℕ) → LeadsOn k onward spur a q → slice_get onward spur ≡ Some None
+  pub spur_waits : (onward : List (Option ℕ)) (spur : ℕ) (q : List ℕ) (a : ℕ) → LeadsOn k onward spur a q → slice_get onward spur ≡ Some None
   spur_waits onward spur [] a l = subst (λ (n : ℕ). slice_get onward n ≡ Some None) l.0 l.1
   spur_waits onward spur (b ∷ q) a l = spur_waits onward spur q b l.2
 

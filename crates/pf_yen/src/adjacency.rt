@@ -5,20 +5,18 @@ ghost use Rattle.pf_yen.specs.Internal.Adjacency.{row_of, is_goal};
 ghost use Rattle.pf_yen.specs.Internal.Reduced.{Leads, steps_of};
 ghost use Rattle.pf_yen.specs.Internal.Remaining.{AreRemaining};
 
-use crate::reduced::{Reduced, reduced_steps};
-use crate::remaining::remaining_costs;
+use crate::reduced::{Guide, Reduced, guide_to_goals};
 use pf_base::{Cost, PathError};
 use std::alloc::Allocator;
 use std::marker::Model;
 
 /// The steps from each number, each as the number of its end and its cost, and whether the number is
-/// a goal. The steps from a goal are left out. What remains from each number to a goal is noted beside
-/// them, and the steps at costs that are reduced by it, where these were looked for and found.
+/// a goal. The steps from a goal are left out. Beside them is noted what leads to the goals, where
+/// that was looked for and found.
 #[derive(Drop)]
 pub struct Adjacency<C: Cost, A: Allocator> {
     rows: Vec<(Vec<(usize, C), A>, bool), A>,
-    remaining: Option<Vec<Option<C>, A>>,
-    reduced: Option<Reduced<C, A>>,
+    guide: Option<Guide<C, A>>,
     /// Whether what remains was looked for.
     is_looked_for: bool,
 }
@@ -26,8 +24,7 @@ pub struct Adjacency<C: Cost, A: Allocator> {
 impl<C: Cost, A: Allocator> Model for Adjacency<C, A> {
     ghost use Rattle.std.specs.Prelude.{⊤, MatchOption};
     ghost use Rattle.pf_yen.specs.Internal.Adjacency.{AdjacencyLists, adjacency_code, lists_of};
-    ghost use Rattle.pf_yen.specs.Internal.Reduced.{Leads, steps_of};
-    ghost use Rattle.pf_yen.specs.Internal.Remaining.{AreRemaining};
+    ghost use Rattle.pf_yen.specs.Internal.Reduced.{Guides};
 
     ghost Value = { AdjacencyLists C };
 
@@ -35,8 +32,7 @@ impl<C: Cost, A: Allocator> Model for Adjacency<C, A> {
 
     ghost view = { λ s. lists_of s.rows.items };
 
-    ghost invariant = { λ s. MatchOption s.remaining ⊤ (λ costs. AreRemaining C.value C.fits (lists_of s.rows.items) costs.items)
-        × MatchOption s.reduced ⊤ (λ led. Leads C.value C.fits (lists_of s.rows.items) (steps_of led.rows.items) led.from_start) };
+    ghost invariant = { λ s. MatchOption s.guide ⊤ (λ guide. Guides C.value C.fits (lists_of s.rows.items) guide) };
 }
 
 impl<C: Cost, A: Allocator> Adjacency<C, A> {
@@ -48,8 +44,7 @@ impl<C: Cost, A: Allocator> Adjacency<C, A> {
     {
         Adjacency {
             rows: Vec::new(alloc),
-            remaining: None,
-            reduced: None,
+            guide: None,
             is_looked_for: false,
         }
     }
@@ -83,8 +78,7 @@ impl<C: Cost, A: Allocator> Adjacency<C, A> {
         ensures kept { OnErr result (self.new ≡ self.old) }
         ensures refused { IfErr result (λ e. e ≡ PathError.OutOfMemory) }
     {
-        self.remaining = None;
-        self.reduced = None;
+        self.guide = None;
         self.is_looked_for = false;
         self.rows.push((row, goal))?;
         Ok(())
@@ -98,8 +92,7 @@ impl<C: Cost, A: Allocator> Adjacency<C, A> {
         ensures refused { IfErr result (λ e. e ≡ PathError.OutOfMemory) }
     {
         if !self.is_looked_for {
-            self.remaining = remaining_costs(alloc, self)?;
-            self.reduced = reduced_steps(alloc, self)?;
+            self.guide = guide_to_goals(alloc, self)?;
             self.is_looked_for = true;
         }
         Ok(())
@@ -109,16 +102,21 @@ impl<C: Cost, A: Allocator> Adjacency<C, A> {
     pub fn remaining(&self) -> Option<&[Option<C>]>
         ensures { MatchOption result ⊤ (λ costs. AreRemaining C.value C.fits self.now costs.now) }
     {
-        match &self.remaining {
-            Some(costs) => Some(costs),
+        match &self.guide {
+            Some(guide) => Some(&guide.remaining),
             None => None,
         }
     }
 
     /// The steps at reduced costs, where they are known.
-    pub fn reduced(&self) -> Option<&Reduced<C, A>>
-        ensures { MatchOption result ⊤ (λ led. Leads C.value C.fits self.now (steps_of led.now.rows.items) led.now.from_start) }
+    pub fn reduced(&self) -> Option<Reduced<'_, C, A>>
+        ensures { MatchOption result ⊤ (λ led. Leads C.value C.fits self.now led.remaining.now (steps_of led.rows.now)) }
     {
-        self.reduced.as_ref()
+        let guide = self.guide.as_ref()?;
+        let rows = guide.reduced.as_ref()?;
+        Some(Reduced {
+            remaining: &guide.remaining,
+            rows,
+        })
     }
 }

@@ -156,6 +156,16 @@ fn go_to_goal<C: Cost, A: Allocator>(
     Ok(!(here < C::zero()))
 }
 
+/// The same numbers, in no more room than they take.
+fn fitted<A: Allocator + Copy>(alloc: A, numbers: &[usize]) -> Result<Vec<usize, A>, PathError>
+    ensures same { IfOk result (λ path. path.items ≡ numbers.now) }
+    ensures refused { IfErr result (λ e. e ≡ PathError.OutOfMemory) }
+{
+    let mut path = Vec::new(alloc);
+    path.extend_from_slice(numbers)?;
+    Ok(path)
+}
+
 /// The path behind the first numbers of a path, up to the place `spur`, that remaining costs name.
 pub fn named_way<C: Cost, A: Allocator + Copy>(
     alloc: A,
@@ -186,10 +196,10 @@ pub fn named_way<C: Cost, A: Allocator + Copy>(
     let mut numbers = Vec::new(alloc);
     let begin = &path[..spur + 1];
     if go_to_goal(filtered, costs, &mut numbers, begin, first.0, rest)? {
-        Ok(Named::Way(numbers, total))
-    } else {
-        Ok(Named::Unknown)
+        let path = fitted(alloc, &numbers)?;
+        return Ok(Named::Way(path, total));
     }
+    Ok(Named::Unknown)
 }
 
 /// The sum of what was spent and of this, where both are known and it fits.

@@ -1,20 +1,27 @@
 //! The steps of a graph by what they cost and what remains behind them, less what remained before
 //! them: a search by these costs goes where little more than what remains is spent.
 
-ghost use Rattle.std.specs.Prelude.{◌≡◌, ◌<◌, ◌+ℤ◌, true, pos, length, Some, IfOk, IfErr, IfSome};
-ghost use Rattle.pf_yen.specs.Internal.Reduced.{IsReducedRow, AreReduced, Leads, steps_of};
+ghost use Rattle.std.specs.Prelude.{◌≡◌, ◌+ℤ◌, ⊤, true, pos, length, Some, IfOk, IfErr, IfSome, MatchOption};
+ghost use Rattle.pf_yen.specs.Internal.Reduced.{IsReducedRow, AreReduced, Guides, steps_of};
 
 use crate::adjacency::Adjacency;
-use crate::remaining::cost_at;
+use crate::remaining::{cost_at, remaining_costs};
 use pf_base::{Cost, PathError};
 use std::alloc::Allocator;
 
-/// The steps from each number at reduced costs, of which those are left out behind which no goal is
-/// reached, and what remains from number 0.
+/// What remains from each number, and the steps from each at costs that are reduced by it, where these
+/// are found. Steps are left out behind which no goal is reached.
 #[derive(Drop)]
-pub struct Reduced<C: Cost, A: Allocator> {
-    pub rows: Vec<Vec<(usize, C), A>, A>,
-    pub from_start: C,
+pub struct Guide<C: Cost, A: Allocator> {
+    pub remaining: Vec<Option<C>, A>,
+    pub reduced: Option<Vec<Vec<(usize, C), A>, A>>,
+}
+
+/// The same, where the reduced costs were found.
+#[derive(Drop)]
+pub struct Reduced<'k, C: Cost, A: Allocator> {
+    pub remaining: &'k [Option<C>],
+    pub rows: &'k [Vec<(usize, C), A>],
 }
 
 /// What a step costs and what remains behind it, less what remains before it, where it is found.
@@ -65,7 +72,7 @@ fn reduced_rows<C: Cost, A: Allocator + Copy>(
     costs: &[Option<C>],
 ) -> Result<Option<Vec<Vec<(usize, C), A>, A>>, PathError>
     requires { length costs.now ≡ length adjacency.now.rows }
-    ensures reduced { IfOk result (λ found. IfSome found (λ rows. AreReduced C.value adjacency.now costs.now (steps_of rows.items))) }
+    ensures reduced { IfOk result (λ found. MatchOption found ⊤ (λ rows. AreReduced C.value adjacency.now costs.now (steps_of rows.items))) }
     ensures refused { IfErr result (λ e. e ≡ PathError.OutOfMemory) }
 {
     let mut rows = Vec::new(alloc);
@@ -82,23 +89,17 @@ fn reduced_rows<C: Cost, A: Allocator + Copy>(
     Ok(Some(rows))
 }
 
-/// The steps at reduced costs, by the remaining costs that are known, or `None` where these are not
-/// known, where none remains from number 0, or where some reduced cost is not found.
-pub fn reduced_steps<C: Cost, A: Allocator + Copy>(
+/// What leads to the goals, or `None` where what remains is not found.
+pub fn guide_to_goals<C: Cost, A: Allocator + Copy>(
     alloc: A,
     adjacency: &Adjacency<C, A>,
-) -> Result<Option<Reduced<C, A>>, PathError>
-    ensures leads { IfOk result (λ found. IfSome found (λ reduced. Leads C.value C.fits adjacency.now (steps_of reduced.rows.items) reduced.from_start)) }
+) -> Result<Option<Guide<C, A>>, PathError>
+    ensures guides { IfOk result (λ found. MatchOption found ⊤ (λ guide. Guides C.value C.fits adjacency.now guide)) }
     ensures refused { IfErr result (λ e. e ≡ PathError.OutOfMemory) }
 {
-    let Some(costs) = adjacency.remaining() else {
+    let Some(remaining) = remaining_costs(alloc, adjacency)? else {
         return Ok(None);
     };
-    let Some(from_start) = cost_at(costs, 0) else {
-        return Ok(None);
-    };
-    let Some(rows) = reduced_rows(alloc, adjacency, costs)? else {
-        return Ok(None);
-    };
-    Ok(Some(Reduced { rows, from_start }))
+    let reduced = reduced_rows(alloc, adjacency, &remaining)?;
+    Ok(Some(Guide { remaining, reduced }))
 }

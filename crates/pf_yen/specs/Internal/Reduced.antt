@@ -1,7 +1,8 @@
 -- Steps at reduced costs: what they cost and what remains behind them, less what remains before them.
-use Rattle.std.specs.Prelude.{◌≡◌, ◌≤ℤ◌, ◌+ℤ◌, ◌<◌, ℕ, ℤ, pos, true, List, [], length, map, Contains, Option, Some, slice_get, slice_index_or, Vec}
+use Rattle.std.specs.Prelude.{◌≡◌, ◌+ℤ◌, ◌<◌, ℕ, ℤ, pos, true, List, [], length, map, Contains, Option, Some, slice_get, slice_index_or, Vec, MatchOption, ⊤}
 use Rattle.pf_yen.specs.Internal.Adjacency.{AdjacencyLists, is_goal, row_of}
 use Rattle.pf_yen.specs.Internal.Remaining.{AreRemaining}
+use Rattle.pf_yen.specs.declared.reduced.Guide.{Guide}
 
 -- the steps that rows hold
 abbrev pub steps_of : {C A : Type 0} → List (Vec (ℕ × C) A) → List (List (ℕ × C))
@@ -19,12 +20,14 @@ module _ {C : Type 0} (value : C → ℤ) where
     pub each : (a : ℕ) (here : Option C) → a < length k.rows → slice_get costs a ≡ Some here → IsReducedRow costs (row_of k a) here (slice_index_or rows a [])
     pub free : (a : ℕ) → a < length k.rows → is_goal k a ≡ true → (y : C) × (slice_get costs a ≡ Some (Some y)) × (value y ≡ pos 0)
 
-  -- The rows have the steps of a graph at costs that are reduced by costs that remain, and so much remains from number 0.
-  pub record Leads (fits : ℤ → Type 0) (k : AdjacencyLists C) (rows : List (List (ℕ × C))) (from_start : C) : Type 0 where
-    pub costs : List (Option C)
+  -- These costs remain, and the rows have the steps of a graph at costs that are reduced by them.
+  pub record Leads (fits : ℤ → Type 0) (k : AdjacencyLists C) (costs : List (Option C)) (rows : List (List (ℕ × C))) : Type 0 where
     pub remaining : AreRemaining value fits k costs
     pub reduced : AreReduced k costs rows
-    pub start : slice_get costs 0 ≡ Some (Some from_start)
+
+-- what remains, and reduced costs where they were found
+abbrev pub Guides : {C A : Type 0} → (C → ℤ) → (ℤ → Type 0) → AdjacencyLists C → Guide C A → Type 0
+Guides value fits k guide = AreRemaining value fits k guide.remaining.items × MatchOption guide.reduced ⊤ (λ rows. AreReduced value k guide.remaining.items (steps_of rows.items))
 
 -- the same numbers and goals, with other steps
 abbrev pub with_rows : {C : Type 0} → AdjacencyLists C → List (List (ℕ × C)) → AdjacencyLists C

@@ -1,6 +1,7 @@
-use Rattle.std.proofs.Common.{◌≡◌, ◌∙◌, ap, subst, take, drop, ◌+◌, ◌++◌, [], ◌∷◌, ℕ, ◌<◌, List}
+use Rattle.std.proofs.Common.{◌≡◌, ◌∙◌, ap, subst, sym, take, drop, ◌+◌, ◌++◌, [], ◌∷◌, ℕ, ◌<◌, List}
 use Rattle.std.proofs.lemmas.Result.{IfOk-from_err}
 use Rattle.pf_base.proofs.Outcomes.{refused_as}
+use Rattle.pf_yen.specs.Internal.Splits.{IsCheapestAlong}
 use Rattle.pf_yen.proofs.SplitLemmas.{spur_inside}
 use Rattle.pf_yen.proofs.NamedLemmas.{none_named, way_start, way_found}
 use Rattle.pf_yen.proofs.named.named_way.Goals as goal
@@ -39,8 +40,8 @@ returns-then-branch g c =
     let start = way_start value g.C.Number.fits s.adjacency.now c.requires.whole c.in-Some.costs.now r s.onward.items s.spur q s.banned.items c.requires.wide s.spent c.requires.prefix first sum best t.0 total t.1 t.2 rest ((c.new-numbers.result.items ++ take (c.args.spur + 1) c.args.path.now) ++ first ∷ []) known begin in
     let w = c.in_ok-go_to_goal.ensures.goal c.if-branch.true q (value total) start in
     record {
-      named = way_found value g.C.Number.fits s.adjacency.now c.requires.whole c.in-Some.costs.now r s.onward.items s.spur q s.banned.items c.requires.wide s.spent c.requires.prefix first sum best t.0 total t.1 t.2 g.C.Zero.zero w.1 c.go_to_goal.new.path.items w.0
-          (g.met.C.Zero.zero_law g.met.C.Integral.exact_law) w.4 w.3 w.2;
+      named = subst (λ (v : List ℕ). IsCheapestAlong value s.adjacency.now q s.banned.items v total) (sym (c.in_ok-path.ensures.same ∙ c.deref.ensures.value)) (way_found value g.C.Number.fits s.adjacency.now c.requires.whole c.in-Some.costs.now r s.onward.items s.spur q s.banned.items c.requires.wide s.spent c.requires.prefix first sum best t.0 total t.1 t.2 g.C.Zero.zero w.1 c.go_to_goal.new.path.items w.0
+          (g.met.C.Zero.zero_law g.met.C.Integral.exact_law) w.4 w.3 w.2);
       refused = tt;
     }
 
@@ -53,8 +54,8 @@ returns-in_default-total_of g c = record { named = tt; refused = tt }
 pub returns-in_default-cost_at : goal.returns-in_default-cost_at
 returns-in_default-cost_at g c = record { named = tt; refused = tt }
 
-pub returns-else-branch : goal.returns-else-branch
-returns-else-branch g c = record { named = tt; refused = tt }
+pub returns : goal.returns
+returns g c = record { named = tt; refused = tt }
 
 pub returns-in_err-go_to_goal : goal.returns-in_err-go_to_goal
 returns-in_err-go_to_goal g c = record {
