@@ -1,6 +1,6 @@
 //! Graphs as boards of cells.
 
-ghost use Rattle.std.specs.Prelude.{◌≡◌, ◌<◌, ◌≤ℤ◌, ◌<ℤ◌, ◌*◌, ◌+◌, ℕ, pos, Some, length, IfOk, IfErr, IfSome, MatchResult, MatchOption, slice_get};
+ghost use Rattle.std.specs.Prelude.{◌≡◌, ◌<◌, ◌<ℤ◌, ◌*◌, ◌+◌, pos, Some, length, IfOk, IfErr, IfSome, MatchOption, slice_get};
 ghost use Rattle.std.specs.Option.{SomeIff};
 ghost use Rattle.pf_boards.specs.Boards.{Cells, IsBoard, IsBoardFault, IsFromZeroTo, directions_of, eight, node_at, position_at, step_from, steps_from};
 

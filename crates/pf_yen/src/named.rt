@@ -1,7 +1,7 @@
 //! The way behind a prefix that remaining costs name: from the best first step, always on by a step
 //! behind which so much less remains. Where it meets no number twice, it is a cheapest path.
 
-ghost use Rattle.std.specs.Prelude.{◌≡◌, ◌⊎◌, ◌≤ℤ◌, ◌<◌, ◌+ℤ◌, ◌+◌, ◌++◌, [], ◌∷◌, ⊤, ℕ, ℤ, List, Some, true, false, length, take, drop, Contains, slice_get, IfOk, IfErr, IfSome, MatchBool, MatchOption};
+ghost use Rattle.std.specs.Prelude.{◌≡◌, ◌⊎◌, ◌≤ℤ◌, ◌<◌, ◌+ℤ◌, ◌+◌, ◌++◌, [], ◌∷◌, ℕ, ℤ, List, Some, true, false, length, take, drop, Contains, slice_get, IfOk, IfErr, IfSome, MatchBool};
 ghost use Rattle.pf_yen.specs.Internal.WholeGraphs.{IsWhole};
 ghost use Rattle.pf_yen.specs.Internal.Adjacency.{is_goal, row_of};
 ghost use Rattle.pf_yen.specs.Internal.Remaining.{AreRemaining};
