@@ -39,6 +39,7 @@ pub use Rattle.pf_tables.specs.Goals
 pub use Rattle.pf_edge_lists.specs.EdgeLists
 pub use Rattle.pf_table_searches.specs.TableWalks
 pub use Rattle.pf_table_paths.specs.RankedWalks
+pub use Rattle.pf_state_paths.specs.RankedStateWalks
 pub use Rattle.pf_table_estimates.specs.EstimatesInTables
 pub use Rattle.pf_matrix.specs.Tables
 pub use Rattle.pf_matrix.specs.Arrange

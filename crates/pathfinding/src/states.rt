@@ -5,7 +5,7 @@ pub use pf_state_orders::{
     strongly_connected_component, strongly_connected_components, topological_sort,
     topological_sort_into_groups,
 };
-pub use pf_state_paths::yen;
+pub use pf_state_paths::{YenPaths, yen, yen_paths};
 pub use pf_states::{
     Exact, Neighbours, StateGoal, StateSpace, bfs, bfs_loop, bfs_reach, dfs, dfs_reach, dijkstra,
     dijkstra_all, dijkstra_partial, dijkstra_reach, iddfs,

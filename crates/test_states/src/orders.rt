@@ -7,7 +7,7 @@ use pf_state_orders::{
     strongly_connected_component, strongly_connected_components, topological_sort,
     topological_sort_into_groups,
 };
-use pf_state_paths::yen;
+use pf_state_paths::{yen, yen_paths};
 use std::alloc::Global;
 use std::process::Abort;
 use test_allocator::Refusing;
@@ -38,6 +38,8 @@ enum Call {
     Component,
     /// `yen`.
     Paths,
+    /// `yen_paths`.
+    Walk,
 }
 
 /// Each call.
@@ -47,6 +49,7 @@ const CALLS: &[Call] = &[
     Call::Components,
     Call::Component,
     Call::Paths,
+    Call::Walk,
 ];
 
 /// The cells of an answer, one group behind the other.
@@ -105,6 +108,31 @@ fn are_five(
     Ok(answer.len() == 5)
 }
 
+/// How many paths of four steps a walk gives until it ends or is refused.
+fn count_paths<'h, W>(walk: W) -> Result<usize, PathError>
+where
+    W: Iterator<Item = Result<(Vec<Cell, Heap<'h>>, u32), PathError>>,
+    requires { W.can_next walk }
+{
+    let mut count = 0usize;
+    for path in walk.take(100) {
+        let (path, cost) = path?;
+        if cost == 4 && are_a_path(&path) {
+            count = count.saturating_add(1);
+        }
+    }
+    Ok(count)
+}
+
+/// Whether the walk over all paths gives six.
+fn are_six(heap: Heap<'_>) -> Result<bool, PathError> {
+    let goal = Target { row: 2, column: 2 };
+    let mut walk = yen_paths(heap, &Board, &FIRST, &goal)?;
+    // Nothing was refused, so that this changes nothing.
+    walk.resume();
+    Ok(count_paths(walk)? == 6)
+}
+
 /// Whether a call answers rightly.
 fn is_right(heap: Heap<'_>, call: Call) -> Result<bool, PathError> {
     match call {
@@ -113,6 +141,7 @@ fn is_right(heap: Heap<'_>, call: Call) -> Result<bool, PathError> {
         Call::Components => are_nine(strongly_connected_components(heap, &Board, &[FIRST])),
         Call::Component => is_alone(strongly_connected_component(heap, &Board, &FIRST)),
         Call::Paths => are_five(yen(heap, &Board, &FIRST, &Target { row: 2, column: 2 }, 5)),
+        Call::Walk => are_six(heap),
     }
 }
 
