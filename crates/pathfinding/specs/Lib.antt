@@ -12,6 +12,7 @@ pub use Rattle.pf_base.specs.NodeRefs
 pub use Rattle.pf_base.specs.Tallies
 pub use Rattle.pf_base.specs.Moves
 pub use Rattle.pf_base.specs.Loops
+pub use Rattle.pf_core.specs.Nodes
 pub use Rattle.pf_states.specs.StateSpaces
 pub use Rattle.pf_search.specs.DepthWalks
 pub use Rattle.pf_search.specs.Preorder

@@ -11,7 +11,7 @@ use Rattle.pf_core.specs.declared.labels.Label.{Label}
 use Rattle.pf_core.specs.Labels.{Labels, HasLabel, by_cost, AllSettled}
 use Rattle.pf_core.specs.Numbered.{Grows}
 use Rattle.pf_core.specs.Steps.{GoesAlong, IsNonNegative}
-use Rattle.pf_both_ends.specs.Mirrors.{IsReached}
+use Rattle.pf_both_ends.specs.Internal.Mirrors.{IsReached}
 use Rattle.pf_core.specs.Nodes.{NodeGraph, StandsFor, IsStep}
 use Rattle.pf_core.specs.Frontier.{IsFound}
 use Rattle.pf_core.specs.Search.{IsLow, IsLeast, Turned, StandsRoot, StepOverflows, SettledAt, WaitingAt}

@@ -10,7 +10,7 @@ use Rattle.pf_base.specs.Successors.{HasSuccessor, IsFewestEdgesGoalPath}
 use Rattle.pf_base.specs.Mirrors.{IsMirror, is_among}
 use Rattle.pf_base.specs.Answers.{ListsEdges}
 use Rattle.pf_core.specs.Steps.{GoesAlong}
-use Rattle.pf_both_ends.specs.Mirrors.{IsReached, IsMirrored, NoWalkBetween, IsBestMeeting}
+use Rattle.pf_both_ends.specs.Internal.Mirrors.{IsReached, IsMirrored, NoWalkBetween, IsBestMeeting}
 use Rattle.pf_core.specs.Nodes.{NodeGraph, StandsFor, IsStep}
 use Rattle.pf_core.specs.Hops.{unit_edges}
 use Rattle.pf_base.proofs.ListLemmas.{reverse-cons, or_cases, or_true}

@@ -10,7 +10,7 @@ use Rattle.pf_core.specs.Steps.{GoesAlong, IsHop}
 use Rattle.pf_core.specs.Search.{IsSearch, StandsRoot}
 use Rattle.pf_core.specs.Breadth.{Hops, IsBreadth, IsWave, IsLayered, below, first_labels}
 use Rattle.pf_core.specs.Numbered.{Grows, StandsBelow}
-use Rattle.pf_both_ends.specs.Mirrors.{NoneMeets, IsComplete, IsCompleteTo, IsMirrored, IsBestMeeting}
+use Rattle.pf_both_ends.specs.Internal.Mirrors.{NoneMeets, IsComplete, IsCompleteTo, IsMirrored, IsBestMeeting}
 use Rattle.pf_core.proofs.PathLemmas.{PathUp, chain_path}
 use Rattle.pf_core.proofs.SearchLemmas.{rooted}
 use Rattle.pf_core.proofs.HopLemmas.{hop_positive, roots_below, reached_from, at_start, breadth_done, breadth_start, hop_tree_start, hop_search_start}

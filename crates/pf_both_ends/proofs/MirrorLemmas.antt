@@ -5,7 +5,7 @@ use Rattle.std.proofs.lemmas.Int.{ints}
 use Rattle.pf_base.specs.Walks.{end_of}
 use Rattle.pf_core.specs.Labels.{Labels, by_depth, cost_of, AllSettled}
 use Rattle.pf_core.specs.Steps.{GoesAlong, IsHop}
-use Rattle.pf_both_ends.specs.Mirrors.{IsReached, IsCompleteTo, IsComplete, IsMirrored, NoneMeets}
+use Rattle.pf_both_ends.specs.Internal.Mirrors.{IsReached, IsCompleteTo, IsComplete, IsMirrored, NoneMeets}
 use Rattle.pf_core.specs.Search.{SettledAt, WaitingAt, IsLow, IsSearch, StandsRoot}
 use Rattle.pf_base.proofs.ListLemmas.{int_dec}
 use Rattle.pf_core.proofs.FrontierLemmas.{frontier, goes_more, end_more}

@@ -1,2 +1,4 @@
 -- What only private functions cite.
 pub mod BothEnds
+pub mod Sides
+pub mod Mirrors

@@ -1,4 +1,2 @@
 pub mod BothEnds
-pub mod Sides
-pub mod Mirrors
 pub mod Internal

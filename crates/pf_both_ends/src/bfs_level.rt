@@ -6,9 +6,9 @@ ghost use Rattle.pf_core.specs.Labels.{HasLabel, by_depth};
 ghost use Rattle.pf_core.specs.Steps.{IsHop};
 ghost use Rattle.pf_core.specs.Search.{IsSearch};
 ghost use Rattle.pf_core.specs.Breadth.{IsWave, IsLayered};
-ghost use Rattle.pf_both_ends.specs.Mirrors.{NoneMeets};
+ghost use Rattle.pf_both_ends.specs.Internal.Mirrors.{NoneMeets};
 ghost use Rattle.pf_core.specs.Numbered.{Grows};
-ghost use Rattle.pf_both_ends.specs.Sides.{opposite};
+ghost use Rattle.pf_both_ends.specs.Internal.Sides.{opposite};
 
 use crate::sides::{Side, TwoSidedGraph};
 use pf_base::{Cost, PathError};

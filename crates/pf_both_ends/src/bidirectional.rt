@@ -7,7 +7,7 @@ ghost use Rattle.pf_core.specs.Labels.{HasLabel, IsChain, IsTree, by_depth};
 ghost use Rattle.pf_core.specs.Steps.{IsHop};
 ghost use Rattle.pf_core.specs.Search.{IsSearch};
 ghost use Rattle.pf_core.specs.Breadth.{IsWave, IsLayered, first_labels};
-ghost use Rattle.pf_both_ends.specs.Mirrors.{NoneMeets, IsMirrored, NoWalkBetween, IsBestMeeting};
+ghost use Rattle.pf_both_ends.specs.Internal.Mirrors.{NoneMeets, IsMirrored, NoWalkBetween, IsBestMeeting};
 ghost use Rattle.pf_core.specs.Numbered.{Grows, StandsBelow};
 
 use crate::bfs_level::{Wave, advance, first_meeting};

@@ -2,7 +2,7 @@
 
 ghost use Rattle.std.specs.Prelude.{◌≡◌, ◌<◌, ◌≤◌, ◌↔◌, ℕ, ℤ, List, OnOk, IfErr, Contains, MatchOption};
 ghost use Rattle.pf_core.specs.Numbered.{ListsSteps, Grows};
-ghost use Rattle.pf_both_ends.specs.Sides.{opposite};
+ghost use Rattle.pf_both_ends.specs.Internal.Sides.{opposite};
 
 use pf_base::{Cost, PathError};
 

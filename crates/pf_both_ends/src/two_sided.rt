@@ -5,7 +5,7 @@ ghost use Rattle.std.specs.List.{AllZip};
 ghost use Rattle.pf_base.specs.Answers.{IsLawfulClone};
 ghost use Rattle.pf_core.specs.Nodes.{NodeGraph, IsStep, StandsFor, Explores};
 ghost use Rattle.pf_core.specs.NodeLaws.{StandsFor-inside};
-ghost use Rattle.pf_both_ends.specs.Sides.{by_side};
+ghost use Rattle.pf_both_ends.specs.Internal.Sides.{by_side};
 
 use crate::bidirectional::Halves;
 use crate::sides::{Side, TwoSidedGraph};

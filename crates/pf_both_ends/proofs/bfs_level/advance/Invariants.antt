@@ -4,9 +4,9 @@ use Rattle.pf_core.specs.Labels.{by_depth}
 use Rattle.pf_core.specs.Steps.{IsHop}
 use Rattle.pf_core.specs.Search.{IsSearch}
 use Rattle.pf_core.specs.Breadth.{IsWave, IsLayered}
-use Rattle.pf_both_ends.specs.Mirrors.{NoneMeets}
+use Rattle.pf_both_ends.specs.Internal.Mirrors.{NoneMeets}
 use Rattle.pf_core.specs.Numbered.{Grows}
-use Rattle.pf_both_ends.specs.Sides.{opposite}
+use Rattle.pf_both_ends.specs.Internal.Sides.{opposite}
 use Rattle.pf_both_ends.proofs.bfs_level.advance.Given as goal
 
 abbrev pub invariant-level : goal.invariant-level

@@ -1,5 +1,5 @@
 use Rattle.std.proofs.Common.{ℕ, ◌≤◌, ◌<◌}
-use Rattle.pf_both_ends.specs.Sides.{opposite}
+use Rattle.pf_both_ends.specs.Internal.Sides.{opposite}
 use Rattle.pf_both_ends.proofs.bfs_level.first_meeting.Given as goal
 
 abbrev pub invariant-numbers : goal.invariant-numbers

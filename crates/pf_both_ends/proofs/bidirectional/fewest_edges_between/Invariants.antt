@@ -4,7 +4,7 @@ use Rattle.pf_core.specs.Labels.{by_depth}
 use Rattle.pf_core.specs.Steps.{IsHop}
 use Rattle.pf_core.specs.Search.{IsSearch}
 use Rattle.pf_core.specs.Breadth.{IsWave, IsLayered, below}
-use Rattle.pf_both_ends.specs.Mirrors.{NoneMeets}
+use Rattle.pf_both_ends.specs.Internal.Mirrors.{NoneMeets}
 use Rattle.pf_core.specs.Numbered.{Grows}
 use Rattle.pf_both_ends.proofs.bidirectional.fewest_edges_between.Given as goal
 

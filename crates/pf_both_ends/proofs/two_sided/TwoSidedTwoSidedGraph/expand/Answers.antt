@@ -5,7 +5,7 @@ use Rattle.pf_base.specs.declared.error.PathError.TheVariants.{OutOfMemory}
 use Rattle.pf_both_ends.specs.declared.sides.Side.{Side}
 use Rattle.pf_core.specs.Nodes.{StandsFor}
 use Rattle.pf_core.specs.Numbered.{Grows}
-use Rattle.pf_both_ends.specs.Sides.{by_side, opposite}
+use Rattle.pf_both_ends.specs.Internal.Sides.{by_side, opposite}
 use Rattle.pf_base.proofs.Outcomes.{on_ok}
 use Rattle.pf_both_ends.proofs.two_sided.TwoSidedTwoSidedGraph.expand.Goals as goal
 
