@@ -17,11 +17,11 @@ const ROADS: &[(&str, &str, u32)] = &[
 
 /// Prints the `k` cheapest ways from one place to another, each with what it costs and the places on
 /// it.
-fn print_ways(
+fn print_ways<'n>(
     rt: &HostRuntime,
-    map: &EdgeList<'_, &str, u32>,
-    from: &str,
-    to: &str,
+    map: &EdgeList<'_, &'n str, u32>,
+    from: &'n str,
+    to: &'n str,
     k: usize,
 ) -> Result<(), anyhow::Error> {
     let (Some(from), Some(to)) = (map.number_of(&from), map.number_of(&to)) else {
