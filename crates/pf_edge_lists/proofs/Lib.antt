@@ -1,4 +1,3 @@
-pub mod LayoutLemmas
 pub mod NumberedNames
 pub mod EdgeListLemmas
 pub mod NameWalks

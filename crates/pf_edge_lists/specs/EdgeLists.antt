@@ -1,11 +1,12 @@
 -- Graphs over names, given as lists of edges (from, to, cost), and of names that may stand in no edge.
-use Rattle.std.specs.Prelude.{◌≡◌, ◌<◌, ◌≤ℤ◌, ◌<ℤ◌, ℕ, ℤ, pos, Bool, List, [], ◌∷◌, ◌++◌, Option, Some, None, if◌then◌else◌, map, length, slice_get}
-use Rattle.std.specs.List.{filter_map, flat_map}
+use Rattle.std.specs.Prelude.{◌≡◌, ◌<◌, ◌≤ℤ◌, ◌<ℤ◌, ℕ, ℤ, pos, Bool, List, [], ◌∷◌, ◌++◌, Option, Some, map, length, slice_get}
+use Rattle.std.specs.List.{flat_map}
 use Rattle.std.specs.Option.{option_map_or}
 use Rattle.indexmap.specs.IndexSet.{insert_all}
 use Rattle.pf_base.specs.Places.{number_of}
 use Rattle.pf_core.specs.Nodes.{StandsFor}
 use Rattle.pf_tables.specs.Graphs.{filled}
+use Rattle.pf_adjacency.specs.Edges.{ends_from}
 use Rattle.pf_edge_lists.specs.declared.error.EdgeListError.{EdgeListError}
 use Rattle.pf_edge_lists.specs.declared.error.EdgeListError.TheVariants.{OutOfMemory, NegativeCost}
 
@@ -24,17 +25,13 @@ mentions_of list = list.names ++ ends_of list.edges
 
 module _ {N : Type 0} (eq : N → N → Bool) where
   module _ {C : Type 0} where
-    -- the edges whose first name equals x, in the order of the list, each as its second name and its cost
-    abbrev pub ends_from : List (N × N × C) → N → List (N × C)
-    ends_from edges x = filter_map (λ (e : N × N × C). if eq e.0 x then Some (e.1, e.2) else None) edges
-
     -- the same, each with the whole number that it costs: the graph over names
     abbrev pub edges_from : (C → ℤ) → NamesAndEdges N C → N → List (N × ℤ)
-    edges_from value list x = map (λ (e : N × C). (e.0, value e.1)) (ends_from list.edges x)
+    edges_from value list x = map (λ (e : N × C). (e.0, value e.1)) (ends_from eq list.edges x)
 
     -- the names that the edges from x lead to, in the order of the list: the graph over names without costs
     abbrev pub targets_from : NamesAndEdges N C → N → List N
-    targets_from list x = map (λ (e : N × C). e.0) (ends_from list.edges x)
+    targets_from list x = map (λ (e : N × C). e.0) (ends_from eq list.edges x)
 
     -- the names that are mentioned, each once, in the order in which they are first met
     abbrev pub names_of : NamesAndEdges N C → List N
@@ -51,7 +48,7 @@ module _ {N : Type 0} (eq : N → N → Bool) where
 
     -- the edges whose first name equals x, each with the number of its second name and its cost
     abbrev pub numbered_from : NamesAndEdges N C → N → List (ℕ × C)
-    numbered_from list x = map (λ (e : N × C). (number_of eq (names_of list) e.0, e.1)) (ends_from list.edges x)
+    numbered_from list x = map (λ (e : N × C). (number_of eq (names_of list) e.0, e.1)) (ends_from eq list.edges x)
 
     -- what stands at the places of a node: the edges from its name
     abbrev pub places_of : NamesAndEdges N C → ℕ → List (Option (ℕ × C))

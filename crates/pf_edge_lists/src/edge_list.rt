@@ -11,6 +11,7 @@ ghost use Rattle.pf_edge_lists.specs.EdgeLists.{AreNumbered, CostsFromZeroTo, Ha
 use crate::error::EdgeListError;
 use crate::names::{Names, are_below, lay_out_by_name, names_at};
 use indexmap::IndexSet;
+use pf_adjacency::AdjacencyList;
 use pf_base::cost::arithmetic::is_negative;
 use pf_base::{Cost, PathError};
 use pf_tables::Graph;
@@ -30,20 +31,19 @@ pub struct EdgeList<'e, N: Eq + Hash, C: Cost, A: Allocator = Global> {
     given: &'e [N],
     edges: &'e [(N, N, C)],
     names: Names<'e, N, A>,
-    offsets: Vec<usize, A>,
-    targets: Vec<(usize, C), A>,
+    rows: AdjacencyList<C, A>,
 }
 
 impl<'e, N: Eq + Hash, C: Cost, A: Allocator> Model for EdgeList<'e, N, C, A> {
     ghost use Rattle.pf_base.specs.NodeRefs.{nodes_of};
     ghost use Rattle.pf_edge_lists.specs.EdgeLists.{NamesAndEdges};
-    ghost use Rattle.pf_edge_lists.specs.Internal.Layouts.{IsLaidOut};
+    ghost use Rattle.pf_edge_lists.specs.Internal.Layouts.{IsLaidOutByName};
 
     ghost Value = { NamesAndEdges N C };
 
     ghost view = { λ s. record { names = s.given.now; edges = s.edges.now } };
 
-    ghost invariant = { λ s. IsLaidOut N.eq C.value (record { names = s.given.now; edges = s.edges.now }) (nodes_of s.names.keys) s.offsets.items s.targets.items };
+    ghost invariant = { λ s. IsLaidOutByName N.eq (record { names = s.given.now; edges = s.edges.now }) (nodes_of s.names.keys) s.rows };
 }
 
 /// The first edge that costs less than 0.
@@ -105,13 +105,12 @@ impl<'e, N: Eq + Hash, C: Cost, A: Allocator + Copy> EdgeList<'e, N, C, A> {
             return Err(EdgeListError::NegativeCost { edge });
         }
         let mut numbers = IndexSet::new(alloc);
-        let (offsets, targets) = lay_out_by_name(alloc, &mut numbers, names, edges)?;
+        let rows = lay_out_by_name(alloc, &mut numbers, names, edges)?;
         Ok(EdgeList {
             given: names,
             edges,
             names: numbers,
-            offsets,
-            targets,
+            rows,
         })
     }
 }
@@ -185,17 +184,14 @@ impl<'e, N: Eq + Hash, C: Cost, A: Allocator> Graph<C> for EdgeList<'e, N, C, A>
     }
 
     fn places(&self, node: usize) -> usize {
-        let end = self.offsets[node + 1];
-        let first = self.offsets[node];
-        end - first
+        self.rows.places(node)
     }
 
     fn edge(&self, node: usize, place: usize) -> Option<(usize, C)> {
-        let first = self.offsets[node];
-        Some(self.targets[first + place])
+        self.rows.edge(node, place)
     }
 
     fn known(&self) {
-        let _edges = &self.edges;
+        self.rows.known();
     }
 }

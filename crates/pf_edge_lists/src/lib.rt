@@ -6,7 +6,6 @@ mod cheapest_names;
 mod edge_list;
 mod error;
 mod fewest_names;
-mod layout;
 mod names;
 
 pub use crate::edge_list::EdgeList;

@@ -4,13 +4,14 @@ ghost use Rattle.std.specs.Prelude.{◌≡◌, ◌<◌, ◌↔◌, ℕ, [], Some
 ghost use Rattle.std.specs.List.{AllZip};
 ghost use Rattle.pf_base.specs.NodeRefs.{nodes_of};
 ghost use Rattle.indexmap.specs.IndexSet.{insert_all};
-ghost use Rattle.pf_edge_lists.specs.EdgeLists.{ends_of, names_of};
-ghost use Rattle.pf_edge_lists.specs.Internal.Layouts.{AreOffsets, ArePlaced, numbered_ends};
+ghost use Rattle.pf_tables.specs.Offsets.{IsCompact};
+ghost use Rattle.pf_adjacency.specs.Edges.{IsLaidOut};
+ghost use Rattle.pf_edge_lists.specs.EdgeLists.{CostsFromZeroTo, ends_of, names_of};
+ghost use Rattle.pf_edge_lists.specs.Internal.Layouts.{numbered_ends};
 
-use crate::layout::lay_out;
 use indexmap::IndexSet;
-use num_traits::Zero;
-use pf_base::PathError;
+use pf_adjacency::AdjacencyList;
+use pf_base::{Cost, PathError};
 use std::alloc::{AllocError, Allocator};
 use std::hash::{BuildHasherDefault, FoldHasher, Hash};
 
@@ -58,20 +59,21 @@ pub fn lay_out_by_name<'e, N, C, A>(
     names: &mut Names<'e, N, A>,
     given: &'e [N],
     edges: &'e [(N, N, C)],
-) -> Result<(Vec<usize, A>, Vec<(usize, C), A>), AllocError>
+) -> Result<AdjacencyList<C, A>, AllocError>
 where
     N: Eq + Hash,
-    C: Copy + Zero,
+    C: Cost,
     A: Allocator + Copy,
-    requires { names.old.keys ≡ [] }
+    requires none { names.old.keys ≡ [] }
+    requires costs { CostsFromZeroTo C.value edges.now (length edges.now) }
     ensures names { OnOk result (nodes_of names.new.keys ≡ names_of N.eq (record { names = given.now; edges = edges.now })) }
-    ensures offsets { IfOk result (λ laid. AreOffsets (length names.new.keys) (numbered_ends N.eq (nodes_of names.new.keys) edges.now) laid.0.items) }
-    ensures targets { IfOk result (λ laid. ArePlaced (length names.new.keys) (numbered_ends N.eq (nodes_of names.new.keys) edges.now) laid.1.items) }
+    ensures rows { IfOk result (λ rows. IsLaidOut (length (nodes_of names.new.keys)) (numbered_ends N.eq (nodes_of names.new.keys) edges.now) rows) }
+    ensures sound { IfOk result (λ rows. IsCompact C.value rows.0 rows.1) }
 {
     let mut numbered = Vec::with_capacity(alloc, edges.len())?;
     add_names(names, given)?;
     add_edges(names, &mut numbered, edges)?;
-    lay_out(alloc, names.len(), &numbered)
+    AdjacencyList::from_sound_edges(alloc, names.len(), &numbered)
 }
 
 /// Whether all these numbers are below `size`.

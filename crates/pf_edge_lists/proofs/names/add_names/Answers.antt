@@ -4,7 +4,7 @@ use Rattle.std.proofs.lemmas.List.Sums.{fold-append}
 use Rattle.indexmap.specs.IndexSet.{insert_all, insert_key}
 use Rattle.pf_base.specs.NodeRefs.{nodes_of}
 use Rattle.pf_base.proofs.Outcomes.{on_failed}
-use Rattle.pf_edge_lists.proofs.LayoutLemmas.{take_at}
+use Rattle.pf_adjacency.proofs.LayoutLemmas.{take_at}
 use Rattle.pf_edge_lists.proofs.NumberedNames.{refs_insert}
 use Rattle.pf_edge_lists.proofs.names.add_names.Goals as goal
 

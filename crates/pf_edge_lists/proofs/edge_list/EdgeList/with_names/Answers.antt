@@ -1,20 +1,16 @@
-use Rattle.std.proofs.Common.{refl, sym, ap, subst, length}
-use Rattle.std.proofs.lemmas.List.{length-map}
+use Rattle.std.proofs.Common.{refl}
 use Rattle.std.proofs.lemmas.Result.{IfOk-from_err}
-use Rattle.pf_base.specs.Walks.{NoRepeats}
-use Rattle.pf_base.specs.NodeRefs.{nodes_of}
-use Rattle.pf_edge_lists.specs.EdgeLists.{NamesAndEdges, names_of}
-use Rattle.pf_edge_lists.specs.Internal.Layouts.{numbered_ends}
-use Rattle.pf_edge_lists.proofs.EdgeListLemmas.{has_edges_by_name, laid_out, edge_list_graph}
 use Rattle.pf_base.proofs.Outcomes.{refused_as}
+use Rattle.pf_edge_lists.specs.EdgeLists.{NamesAndEdges, names_of}
+use Rattle.pf_edge_lists.proofs.EdgeListLemmas.{has_edges_by_name, edge_list_graph}
 use Rattle.pf_edge_lists.proofs.NumberedNames.{all_given, all_named, number_stands, names_apart, names_are_mentions}
 use Rattle.pf_edge_lists.proofs.edge_list.EdgeList.with_names.Goals as goal
 
-pub lay_out_by_name-requires : goal.lay_out_by_name-requires
-lay_out_by_name-requires g c = c.new-numbers.ensures.empty
+pub lay_out_by_name-requires-clause-none : goal.lay_out_by_name-requires-clause-none
+lay_out_by_name-requires-clause-none g c = c.new-numbers.ensures.empty
 
-pub returns-in_err-offsets : goal.returns-in_err-offsets
-returns-in_err-offsets g c =
+pub returns-in_err-rows : goal.returns-in_err-rows
+returns-in_err-rows g c =
     let r = c.from_residual in
     record {
       edges = IfOk-from_err _ _ r.ensures.0;
@@ -26,16 +22,11 @@ returns-in_err-offsets g c =
       fault = refused_as _ r.result _ r.ensures.1 c.in_default.ensures;
     }
 
+pub lay_out_by_name-requires-clause-costs : goal.lay_out_by_name-requires-clause-costs
+lay_out_by_name-requires-clause-costs g c = c.in_default.ensures
+
 pub invariant_of-result : goal.invariant_of-result
-invariant_of-result g c =
-    let laws = g.met.N.Eq.laws in
-    let list : NamesAndEdges g.row.N.Denot g.row.C.Denot = record { names = c.args.names.now; edges = c.args.edges.now } in
-    let made = c.in_ok-offsets.ensures in
-    let keys = c.lay_out_by_name.new.names.keys in
-    let apart : NoRepeats g.N.PartialEq.eq (nodes_of keys) = subst (NoRepeats g.N.PartialEq.eq) (sym made.names) (names_apart laws list) in
-    laid_out laws g.C.Number.value list (nodes_of keys) made.names apart c.in_default.ensures
-    (length keys) (sym (length-map keys _)) (numbered_ends g.N.PartialEq.eq (nodes_of keys) c.args.edges.now) (ap (λ ns. numbered_ends g.N.PartialEq.eq ns c.args.edges.now) made.names)
-    c.in_ok-offsets.offsets.items made.offsets c.in_ok-offsets.targets.items made.targets
+invariant_of-result g c = let made = c.in_ok-rows.ensures in record { named = made.names; rows = made.rows }
 
 pub returns-in-Some : goal.returns-in-Some
 returns-in-Some g c = record {
@@ -62,6 +53,6 @@ returns g c =
         ends = λ k e h. let both = all_named laws list k e h in (number_stands laws names e.0 both.0, number_stands laws names e.1 both.1);
       };
       places = has_edges_by_name laws list;
-      sound = edge_list_graph laws g.C.Number.value list _ _ _ (invariant_of-result g c);
+      sound = edge_list_graph laws list _ _ (invariant_of-result g c) g.C.Number.value c.in_ok-rows.ensures.sound.graph;
       fault = tt;
     }

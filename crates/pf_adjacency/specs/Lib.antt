@@ -1,0 +1,4 @@
+pub mod Edges
+pub mod Faults
+pub mod Reverses
+pub mod Internal
