@@ -1,52 +1,58 @@
--- The rows of a graph of numbered nodes, read place by place.
-use Rattle.std.proofs.Common.{◌≡◌, ℕ, pos, ◌+◌, ◌-◌, ◌<◌, ◌≤◌, ◌∙◌, [], take, drop, arith, ap, subst, length}
+-- The rows of a graph of numbered nodes: those of its table, and the steps of the links that it was laid out from.
+use Rattle.std.proofs.Common.{◌≡◌, ℕ, zero, suc, ℤ, pos, ◌+◌, ◌-◌, ◌≤◌, Bool, true, false, List, [], ◌∷◌, map, take, drop, cond, arith, ap, refl, sym, subst, if◌then◌else◌, nat_eq}
 use Rattle.std.proofs.Math.ListN.{get_or-eq_default}
-use Rattle.std.specs.Prelude.{Some, slice_get, slice_index, vec_len}
+use Rattle.std.specs.Prelude.{Some, None, slice_index, nat_lt}
+use Rattle.std.specs.List.{cons_option}
+use Rattle.std.proofs.lemmas.Bool.{ltb-false}
 use Rattle.std.proofs.lemmas.Int.{ints}
-use Rattle.std.proofs.lemmas.List.{length-map}
-use Rattle.std.proofs.lemmas.Option.{slice_get_within, get_or_from_slice_get}
-use Rattle.pf_tables.specs.Graphs.{IsGraph, filled}
-use Rattle.pf_tables.specs.Faults.{IsSoundRow}
-use Rattle.pf_tables.proofs.Parts.{filled_at, part_at, part_length}
-use Rattle.pf_tables.proofs.Faulty.{graph_of_sound}
+use Rattle.pf_tables.specs.Graphs.{edges_at, filled, graph_of}
+use Rattle.pf_base.proofs.ListLemmas.{none_in}
+use Rattle.pf_tables.proofs.Faulty.{some_same}
+use Rattle.pf_adjacency.specs.Edges.{AreSoundEdges, IsSoundEdge, ends_from}
 use Rattle.pf_routes.specs.Internal.Graph.{row_of, node_count}
-use Rattle.pf_routes.specs.declared.routes.graph.Graph.{Graph}
+use Rattle.pf_routes.specs.Internal.Links.{AllBelow, links_from, steps_from}
+use Rattle.pf_routes.specs.Internal.Numbers.{edges_of, numbered_edges}
+use Rattle.pf_routes.specs.declared.routes.links.Link.{Link}
 
-module _ {A : Type 0} (graph : Graph A) where
-  first : ℕ → ℕ
-  first n = slice_index graph.offsets.items n
+-- an edge between numbers
+abbrev pub ends : Link → ℕ × ℕ × ℕ
+ends link = (link.source, link.target, link.cost)
 
-  pub row_length : (node : ℕ) → node < node_count graph → length (filled (row_of graph node)) ≡ slice_index graph.offsets.items (node + 1) - slice_index graph.offsets.items node
-  unfolding row_of
-  row_length node l =
-      let rise = graph.ordered node (omega (arith, l)) in
-      let within = graph.within (node + 1) (omega (arith, l)) in
-      length-map (row_of graph node) _ ∙ part_length (slice_index graph.offsets.items node) (slice_index graph.offsets.items (node + 1)) graph.steps.items rise (omega (arith, within, graph.steps.ok.0))
+-- the edges from a number are the steps of the links that leave it
+pub same_steps : (links : List Link) (n : ℕ) → ends_from nat_eq (map ends links) n ≡ steps_from n links
+same_steps [] n = refl
+same_steps (l ∷ links) n = by (nat_eq l.source n) (same_steps links n)
+  where
+    by : (b : Bool) → ends_from nat_eq (map ends links) n ≡ steps_from n links
+        → cons_option (if b then Some (l.target, l.cost) else None) (ends_from nat_eq (map ends links) n) ≡ map (λ (k : Link). (k.target, k.cost)) (cond b (l ∷ links_from n links) (links_from n links))
+    by true h = ap (λ steps. (l.target, l.cost) ∷ steps) h
+    by false h = h
 
+module _ (graph : List ℕ × List (ℕ × ℕ)) where
   -- a number that is no node has no steps
-  pub row_outside : (node : ℕ) → node_count graph ≤ node → row_of graph node ≡ []
-  unfolding row_of
+  row_outside : (node : ℕ) → node_count graph ≤ node → row_of graph node ≡ []
   row_outside node l =
-      let past : slice_index graph.offsets.items (node + 1) ≡ 0 = get_or-eq_default graph.offsets.items 0 (omega (arith, l, graph.offsets.ok.0, graph.some)) in
-      let none : slice_index graph.offsets.items (node + 1) - slice_index graph.offsets.items node ≡ 0 = omega (arith, past) in
-      ap (λ k. take k (drop (slice_index graph.offsets.items node) graph.steps.items)) none
+      let past : slice_index graph.0 (node + 1) ≡ 0 = get_or-eq_default graph.0 0 (omega (arith, l)) in
+      let none : slice_index graph.0 (node + 1) - slice_index graph.0 node ≡ 0 = omega (arith, past) in
+      ap (λ k. take k (drop (slice_index graph.0 node) graph.1)) none
 
-  pub row_within : (node place : ℕ) → node < node_count graph → place < length (filled (row_of graph node)) → slice_index graph.offsets.items node + place < length graph.steps.items
-  row_within node place l p =
-      let within = graph.within (node + 1) (omega (arith, l)) in
-      omega (arith, p, row_length node l, within, graph.steps.ok.0)
+  same_edges : (row : List (ℕ × ℕ)) → edges_at pos (filled row) ≡ edges_of row
+  same_edges [] = refl
+  same_edges (s ∷ row) = ap (λ (es : List (ℕ × ℤ)). (s.0, pos s.1) ∷ es) (same_edges row)
 
-  pub row_edge : (node place : ℕ) (step : ℕ × ℕ) → node < node_count graph → place < length (filled (row_of graph node)) → slice_get graph.steps.items (slice_index graph.offsets.items node + place) ≡ Some step
-      → slice_get (filled (row_of graph node)) place ≡ Some (Some step)
-  unfolding row_of
-  row_edge node place step l p e = filled_at (row_of graph node) place step (part_at (slice_index graph.offsets.items node) (slice_index graph.offsets.items (node + 1)) place graph.steps.items (omega (arith, p, row_length node l)) ∙ e)
+  same_at : (n : ℕ) → graph_of pos (node_count graph) (λ k. filled (row_of graph k)) n ≡ edges_of (row_of graph n)
+  same_at n = by (nat_lt n (node_count graph)) refl
+    where
+      by : (b : Bool) → nat_lt n (node_count graph) ≡ b → (if b then edges_at pos (filled (row_of graph n)) else []) ≡ edges_of (row_of graph n)
+      by true h = same_edges (row_of graph n)
+      by false h = ap edges_of (sym (row_outside n (ltb-false n (node_count graph) h)))
 
-  sound : (n : ℕ) → n < node_count graph → IsSoundRow pos (node_count graph) (row_of graph n)
-  unfolding row_of
-  sound n l k step e =
-      let at = graph.inside n (omega (arith, l)) k step (slice_get_within (row_of graph n) k step e) in
-      let here = subst (λ (s : ℕ × ℕ). s.0 + 1 < vec_len graph.offsets) (get_or_from_slice_get (row_of graph n) k step step e) at in
-      record { inside = omega (arith, here, l); from_zero = omega (arith, ints) }
+  -- the graph of the table is that of the rows
+  pub same_graph : (from to : ℕ) → graph_of pos (node_count graph) (λ k. filled (row_of graph k)) ≡ numbered_edges graph from to
+  same_graph from to = λ i n. same_at n i
 
-  pub graph_known : IsGraph pos (node_count graph) (λ n. filled (row_of graph n))
-  graph_known = graph_of_sound (row_of graph) sound
+-- links between numbers below a count are sound edges
+pub sound_links : (count : ℕ) (links : List Link) → AllBelow count links → AreSoundEdges pos count (map ends links)
+sound_links count [] below k e h = absurd (none_in k e h)
+sound_links count (l ∷ links) below zero e h = let ends = below 0 l (omega arith) in subst (IsSoundEdge pos count) (some_same h) (record { source = ends.0; target = ends.1; from_zero = omega (arith, ints) })
+sound_links count (l ∷ links) below (suc k) e h = sound_links count links (λ j d lt. below (suc j) d (omega (arith, lt))) k e h

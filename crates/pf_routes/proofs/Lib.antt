@@ -3,7 +3,7 @@ pub mod Lines
 pub mod Costs
 pub mod FirstLine
 pub mod Numbering
-pub mod Counting
+pub mod PlaceReads
 pub mod Costless
 pub mod Naming
 pub mod CleanNames

@@ -3,7 +3,7 @@ use Rattle.std.proofs.Common.{◌≡◌, ℕ, zero, suc, ◌<◌, ◌==◌, nat_
 use Rattle.std.specs.Prelude.{All}
 use Rattle.pf_routes.specs.EdgeText.{Edge}
 use Rattle.pf_routes.specs.Roads.{HasNoWalk, IsCheapestPath, HasCostOverflow, IsFewestEdgesPath}
-use Rattle.pf_routes.specs.Internal.Graph.{row_of, node_count}
+use Rattle.pf_routes.specs.Internal.Graph.{row_of}
 use Rattle.pf_routes.specs.Internal.Links.{name_at}
 use Rattle.pf_routes.specs.Internal.NameTable.{name_in, table_len}
 use Rattle.pf_routes.specs.Internal.Numbers.{numbered_edges, HasNoNumberedWalk, IsCheapestNumberedPath, HasNumberedOverflow, IsFewestEdgesNumberedPath}
@@ -11,7 +11,7 @@ use Rattle.pf_routes.specs.Internal.Network.{IsNetworkOf}
 use Rattle.pf_routes.specs.declared.routes.network.Network.{Network}
 use Rattle.pf_routes.proofs.Costless.{goal_costed}
 use Rattle.pf_routes.proofs.Naming.{AllNodes}
-use Rattle.pf_routes.proofs.NameGraph.{targets-below, no_walk, cheapest, fewest, overflow, path-known}
+use Rattle.pf_routes.proofs.NameGraph.{no_walk, cheapest, fewest, overflow, path-known}
 
 pub all_of : (count : ℕ) (xs : List ℕ) → AllNodes (λ n. n < count) xs → All (λ n. n < count) xs
 all_of count [] all k d lt = absurd (omega (arith, lt))
@@ -19,12 +19,6 @@ all_of count (x ∷ xs) all zero d lt = all.0
 all_of count (x ∷ xs) all (suc k) d lt = all_of count xs all.1 k d (omega (arith, lt))
 
 module _ {A : Type 0} (network : Network A) (edges : List Edge) (from to : List ℕ) (s : IsNetworkOf network edges from to) where
-  -- each step leads to a node
-  pub targets : (n : ℕ) → n < node_count network.graph → All (λ (p : ℕ × ℕ). p.0 < node_count network.graph) (row_of network.graph n)
-  targets n lt =
-      let row = sym (s.rows n (omega (arith, lt, s.count))) in
-      subst (λ c. All (λ (p : ℕ × ℕ). p.0 < c) (row_of network.graph n)) (sym s.count) (subst (All (λ (p : ℕ × ℕ). p.0 < length s.names)) row (targets-below (length s.names) s.links s.below n))
-
   pub has_no_walk : HasNoNumberedWalk network.graph network.from network.to → HasNoWalk edges from to
   has_no_walk h = subst (λ es. HasNoWalk es from to) (sym s.spelled)
       (no_walk s.names s.distinct s.links s.below (row_of network.graph) s.rows from to network.from network.to s.from_within s.to_within s.from_named s.to_named h)

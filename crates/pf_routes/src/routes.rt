@@ -8,7 +8,6 @@ mod decimals;
 mod digits;
 mod edge_text;
 mod flow;
-mod graph;
 mod links;
 mod name;
 mod name_table;
@@ -18,7 +17,6 @@ mod ranked;
 mod runs;
 mod search;
 mod spanning;
-mod steps;
 
 pub use command_line::command;
 pub use commands::Command;

@@ -1,10 +1,10 @@
--- What a graph of numbered nodes shows.
-use Rattle.std.specs.Prelude.{ℕ, ◌+◌, ◌-◌, List, take, drop, vec_len, slice_index}
-use Rattle.pf_routes.specs.declared.routes.graph.Graph.{Graph}
+-- What a graph of numbered nodes shows: its offsets and its steps.
+use Rattle.std.specs.Prelude.{ℕ, ◌-◌, List, length}
+use Rattle.pf_tables.specs.Graphs.{between}
 
-abbrev pub node_count : {A : Type 0} → Graph A → ℕ
-node_count g = vec_len g.offsets - 1
+abbrev pub node_count : List ℕ × List (ℕ × ℕ) → ℕ
+node_count graph = length graph.0 - 1
 
 -- the steps from a node
-unfoldable pub row_of : {A : Type 0} → Graph A → ℕ → List (ℕ × ℕ)
-row_of g n = take (slice_index g.offsets.items (n + 1) - slice_index g.offsets.items n) (drop (slice_index g.offsets.items n) g.steps.items)
+abbrev pub row_of : List ℕ × List (ℕ × ℕ) → ℕ → List (ℕ × ℕ)
+row_of graph node = between graph.0 graph.1 node

@@ -1,5 +1,5 @@
 -- Links between numbered names.
-use Rattle.std.specs.Prelude.{◌≡◌, ℕ, ◌<◌, ◌≤◌, ◌==◌, nat_lt, List, [], filter, map, length, All, slice_index_or, Option, IfSome}
+use Rattle.std.specs.Prelude.{◌≡◌, ℕ, ◌<◌, ◌≤◌, ◌==◌, List, [], filter, map, length, All, slice_index_or, Option, IfSome}
 use Rattle.std.specs.Borrow.{Bor}
 use Rattle.pf_routes.specs.EdgeText.{Edge}
 use Rattle.pf_routes.specs.declared.routes.links.Link.{Link}
@@ -39,7 +39,3 @@ links_from n links = filter (λ l. l.source == n) links
 -- the steps from the node of this number, in their order, each as the node that it leads to and its cost
 abbrev pub steps_from : ℕ → List Link → List (ℕ × ℕ)
 steps_from n links = map (λ l. (l.target, l.cost)) (links_from n links)
-
--- how many links leave nodes of smaller numbers
-abbrev pub start_of : ℕ → List Link → ℕ
-start_of n links = length (filter (λ l. nat_lt l.source n) links)

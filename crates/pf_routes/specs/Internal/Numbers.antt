@@ -7,13 +7,12 @@ use Rattle.pf_yen.specs.CleanPaths.{PathOverflows}
 use Rattle.pf_yen.specs.KCheapest.{IsKCheapest}
 use Rattle.std.specs.Int.{FitsUnsignedBits}
 use Rattle.pf_routes.specs.Internal.Graph.{row_of}
-use Rattle.pf_routes.specs.declared.routes.graph.Graph.{Graph}
 
 -- steps as edges
 abbrev pub edges_of : List (ℕ × ℕ) → List (ℕ × ℤ)
 edges_of steps = map (λ (s : ℕ × ℕ). (s.0, pos s.1)) steps
 
-module _ {A : Type 0} (graph : Graph A) (from to : ℕ) where
+module _ (graph : List ℕ × List (ℕ × ℕ)) (from to : ℕ) where
   abbrev pub numbered_edges : ℕ → List (ℕ × ℤ)
   numbered_edges n = edges_of (row_of graph n)
 

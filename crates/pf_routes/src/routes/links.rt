@@ -9,6 +9,7 @@ ghost use Rattle.pf_routes.specs.Internal.Parsed.{RefusesText, edge_read, edges_
 use crate::routes::edge_text::{NamedEdge, ReadLine, read_line};
 use crate::routes::name::Name;
 use indexmap::IndexSet;
+use pf_adjacency::NumberedEdge;
 use pf_route_io::error::RouteError;
 use std::alloc::{AllocError, AllocFailed, Allocator};
 use std::hash::BuildHasher;
@@ -29,6 +30,14 @@ pub(crate) struct Link {
     pub(crate) source: u32,
     pub(crate) target: u32,
     pub(crate) cost: u64,
+}
+
+impl NumberedEdge<u64> for Link {
+    ghost ends = { λ link. (link.source, link.target, link.cost) };
+
+    fn ends(&self) -> (usize, usize, u64) {
+        (self.source as usize, self.target as usize, self.cost)
+    }
 }
 
 /// The number of a name, which is added if it is new.

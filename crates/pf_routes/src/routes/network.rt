@@ -4,10 +4,10 @@ ghost use Rattle.std.specs.Prelude.{IfOk, IfErr, OnOk};
 ghost use Rattle.pf_routes.specs.Internal.Links.{KeepsNames};
 ghost use Rattle.pf_routes.specs.Internal.Parsed.{HoldsOfEdges, RefusesText};
 
-use crate::routes::graph::Graph;
 use crate::routes::links::{Link, Names, number, read_links};
 use crate::routes::name_table::NameTable;
 use indexmap::IndexSet;
+use pf_adjacency::AdjacencyList;
 use pf_route_io::error::RouteError;
 use std::alloc::Allocator;
 use std::hash::BuildHasher;
@@ -87,7 +87,7 @@ impl<A: Allocator + Copy> Linked<A> {
 #[derive(Drop)]
 pub(crate) struct Network<A: Allocator + Copy> {
     pub(crate) names: NameTable<A>,
-    pub(crate) graph: Graph<A>,
+    pub(crate) graph: AdjacencyList<u64, A>,
     pub(crate) from: usize,
     pub(crate) to: usize,
 }
@@ -116,7 +116,7 @@ impl<A: Allocator + Copy> Network<A> {
         // The text is given back before the graph takes its memory.
         drop(text);
         let Linked { names, links } = linked;
-        let graph = Graph::new(alloc, names.len(), links.as_slice())?;
+        let graph = AdjacencyList::from_sound_edges(alloc, names.len(), links.as_slice())?;
         Ok(Network {
             names,
             graph,

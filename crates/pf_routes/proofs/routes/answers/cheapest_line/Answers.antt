@@ -8,7 +8,7 @@ use Rattle.pf_routes.specs.Internal.Parsed.{RefusesAnswer, HoldsOfEdges}
 use Rattle.pf_routes.specs.Roads.{HasCostOverflow}
 use Rattle.pf_route_io.specs.declared.error.RouteError.{RouteError}
 use Rattle.pf_route_io.specs.declared.error.RouteError.TheVariants.{OutOfMemory, CostOverflow}
-use Rattle.pf_routes.proofs.Networks.{targets, has_no_walk, is_cheapest, has_overflow, path-below, in_table, path_named}
+use Rattle.pf_routes.proofs.Networks.{has_no_walk, is_cheapest, has_overflow, path-below, in_table, path_named}
 use Rattle.pf_base.proofs.Outcomes.{refused_for}
 use Rattle.pf_routes.proofs.Outcomes.{at_some, at_none}
 use Rattle.pf_routes.proofs.routes.answers.cheapest_line.Goals as goal
@@ -22,9 +22,6 @@ passed_on overflows text e (inr h) = subst (λ x. RefusesAnswer overflows x text
 
 same_refusal : (overflows : List Edge → Type 0) (text : List ℕ) (d e : RouteError) → RefusesAnswer overflows d text → e ≡ d → RefusesAnswer overflows e text
 same_refusal overflows text d e h k = subst (λ x. RefusesAnswer overflows x text) (sym k) h
-
-pub cheapest_path-requires-clause-targets : goal.cheapest_path-requires-clause-targets
-cheapest_path-requires-clause-targets g c = let h = c.in_ok-network.ensures.ok in targets c.in_ok-network.network h.0 _ _ h.2
 
 pub write_path-requires : goal.write_path-requires
 write_path-requires g c =

@@ -7,16 +7,13 @@ use Rattle.pf_routes.specs.AnswerText.{path_line}
 use Rattle.pf_routes.specs.Internal.Parsed.{RefusesText}
 use Rattle.pf_route_io.specs.declared.error.RouteError.{RouteError}
 use Rattle.pf_route_io.specs.declared.error.RouteError.TheVariants.{OutOfMemory}
-use Rattle.pf_routes.proofs.Networks.{targets, has_no_walk, is_fewest, fewest-below, fewest-some, in_table, path_named}
+use Rattle.pf_routes.proofs.Networks.{has_no_walk, is_fewest, fewest-below, fewest-some, in_table, path_named}
 use Rattle.pf_base.proofs.Outcomes.{refused_for}
 use Rattle.pf_routes.proofs.Outcomes.{at_some, at_none}
 use Rattle.pf_routes.proofs.routes.answers.fewest_edges_line.Goals as goal
 
 no_memory : (text : List ℕ) (e : RouteError) → e ≡ OutOfMemory → RefusesText e text
 no_memory text e h = subst (λ x. RefusesText x text) (sym h) tt
-
-pub fewest_edges_path-requires-clause-targets : goal.fewest_edges_path-requires-clause-targets
-fewest_edges_path-requires-clause-targets g c = let h = c.in_ok-network.ensures.ok in targets c.in_ok-network.network h.0 _ _ h.2
 
 pub returns-in_err-from_slice-in-None-clause-err : goal.returns-in_err-from_slice-in-None-clause-err
 returns-in_err-from_slice-in-None-clause-err g c = refused_for _ _ c.from_residual-in_err-from_slice-in-None.result (no_memory c.args.text.items) c.from_residual-in_err-from_slice-in-None.ensures.1

@@ -1,6 +1,6 @@
 use Rattle.std.proofs.Common.{◌≡◌, ℕ, ◌+◌, ◌-◌, List, take, drop, get_or, ap, ◌∙◌, arith}
 use Rattle.pf_routes.specs.Internal.NameTable.{name_in}
-use Rattle.pf_routes.proofs.Counting.{read_is}
+use Rattle.pf_routes.proofs.PlaceReads.{read_is}
 use Rattle.pf_routes.proofs.routes.name_table.NameTable.name.Goals as goal
 
 between : (xs ys : List ℕ) (a b c d : ℕ) → xs ≡ ys → a ≡ c → b ≡ d → take (b - a) (drop a xs) ≡ take (d - c) (drop c ys)
