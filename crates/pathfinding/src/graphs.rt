@@ -1,7 +1,9 @@
 //! Graphs in tables, over nodes that are numbers, and searches over them.
 
+pub use pf_adjacency::{AdjacencyError, AdjacencyList, BothWays, NumberedEdge};
 pub use pf_boards::{Board, Steps};
 pub use pf_edge_lists::{EdgeList, EdgeListError};
+pub use pf_table_both_ends::{bfs_bidirectional, dijkstra_bidirectional};
 pub use pf_table_breadth::bfs;
 pub use pf_table_estimates::{
     EstimateError, Estimates, astar, astar_bag, astar_bag_collect, fringe, idastar,

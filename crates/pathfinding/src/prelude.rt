@@ -4,6 +4,10 @@
 pub use crate::graphs;
 pub use crate::routes;
 pub use crate::states;
+pub use pf_adjacency::AdjacencyError;
+pub use pf_adjacency::AdjacencyList;
+pub use pf_adjacency::BothWays;
+pub use pf_adjacency::NumberedEdge;
 pub use pf_assignment::kuhn_munkres::Weights;
 pub use pf_assignment::kuhn_munkres::kuhn_munkres;
 pub use pf_assignment::kuhn_munkres::kuhn_munkres_min;
