@@ -30,7 +30,7 @@ where
     W: Weights<C>,
     A: Allocator + Copy,
     requires shape { (W.table weights.now).rows ≤ (W.table weights.now).columns }
-    requires fit { WeightsFit C.fits (W.table weights.now) }
+    requires weights_fit { WeightsFit C.fits (W.table weights.now) }
     ensures assignment { IfOk result (λ answer. IsAssignment (W.table weights.now).rows (W.table weights.now).columns answer.1.items) }
     ensures total { IfOk result (λ answer. C.value answer.0 ≡ assignment_total (W.table weights.now) answer.1.items) }
     ensures best { IfOk result (λ answer. IsBestAssignment (W.table weights.now) answer.1.items) }
@@ -65,7 +65,7 @@ where
     W: Weights<C>,
     A: Allocator + Copy,
     requires shape { (W.table weights.now).rows ≤ (W.table weights.now).columns }
-    requires fit { WeightsFit C.fits (W.table weights.now) }
+    requires weights_fit { WeightsFit C.fits (W.table weights.now) }
     ensures assignment { IfOk result (λ answer. IsAssignment (W.table weights.now).rows (W.table weights.now).columns answer.1.items) }
     ensures total { IfOk result (λ answer. C.value answer.0 ≡ assignment_total (W.table weights.now) answer.1.items) }
     ensures best { IfOk result (λ answer. IsBestAssignment (W.table weights.now) answer.1.items) }
@@ -84,7 +84,7 @@ where
     W: Weights<C> + Drop,
     A: Allocator + Copy,
     requires shape { (W.table weights.now).rows ≤ (W.table weights.now).columns }
-    requires fit { WeightsFit C.fits (W.table weights.now) }
+    requires weights_fit { WeightsFit C.fits (W.table weights.now) }
     ensures assignment { IfOk result (λ answer. IsAssignment (W.table weights.now).rows (W.table weights.now).columns answer.1.items) }
     ensures total { IfOk result (λ answer. C.value answer.0 ≡ assignment_total (W.table weights.now) answer.1.items) }
     ensures least { IfOk result (λ answer. IsLeastAssignment (W.table weights.now) answer.1.items) }

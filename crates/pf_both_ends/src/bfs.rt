@@ -56,6 +56,8 @@ where
 /// is an end is a path alone. Which of several such paths is answered is open. With no starts or no
 /// ends the answer is `None`.
 ///
+/// `pf_search/CALLING.md` has the lemmas by which a caller proves the clause `graph`.
+///
 /// # Errors
 ///
 /// `OutOfMemory`: a request for memory was refused.

@@ -356,6 +356,8 @@ where
 /// and contains no node twice, also where edges or cycles cost nothing; where `end` equals `start`, it
 /// is that node alone, at cost 0. Which of several cheapest paths is answered is open.
 ///
+/// `pf_search/CALLING.md` has the lemmas by which a caller proves the clause `graph`.
+///
 /// # Errors
 ///
 /// - `CostOverflow`: only where a cheapest path from `start` to some node and one step more, by the

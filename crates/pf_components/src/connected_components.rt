@@ -119,6 +119,8 @@ where
 /// alike for equal nodes at every call, and is called on the starts alone, once on each: what it would
 /// list for other nodes connects nothing. The order of the sets is open. A clone of a node must be
 /// equal to it. The only error is `OutOfMemory`.
+///
+/// `pf_search/CALLING.md` has the lemmas by which a caller proves the clause `graph`.
 pub fn connected_components<N, IN, FN, A>(
     alloc: A,
     starts: &[N],

@@ -12,7 +12,7 @@ pub fn total_of<C, W>(weights: &W, column_of: &[usize]) -> C
 where
     C: SignedCost,
     W: Weights<C>,
-    requires fit { WeightsFit C.fits (W.table weights.now) }
+    requires weights_fit { WeightsFit C.fits (W.table weights.now) }
     requires assignment { IsAssignment (W.table weights.now).rows (W.table weights.now).columns column_of.now }
     ensures { C.value result ≡ assignment_total (W.table weights.now) column_of.now }
 {

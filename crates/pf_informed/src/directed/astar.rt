@@ -74,6 +74,8 @@ where
 /// negative. The path begins with a clone of `start` and contains no node twice. Which of several such
 /// paths is answered is open.
 ///
+/// `pf_search/CALLING.md` has the lemmas by which a caller proves the clause `graph`.
+///
 /// # Errors
 ///
 /// - `CostOverflow`: only where the cost of some path from `start`, in which no node stands twice, and

@@ -216,6 +216,8 @@ where
 /// lie on cheapest paths at its nodes; with cycles that cost nothing, a choice may lead back to the
 /// path alone, and such choices are tried too.
 ///
+/// `pf_search/CALLING.md` has the lemmas by which a caller proves the clause `graph`.
+///
 /// # Errors
 ///
 /// - `CostOverflow`: only where the cost of some path from `start`, in which no node stands twice, and
@@ -323,6 +325,8 @@ where
 
 /// All cheapest clean paths from `start` to nodes that pass `success`, each once, and their cost: what
 /// `astar_bag` answers, gathered. Their number can be exponential in that of the nodes.
+///
+/// `pf_search/CALLING.md` has the lemmas by which a caller proves the clause `graph`.
 ///
 /// # Errors
 ///

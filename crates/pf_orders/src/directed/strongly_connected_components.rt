@@ -67,6 +67,8 @@ where
 /// call, and is asked of nodes in reach of the start alone. The nodes are clones; their order in a
 /// component is open.
 ///
+/// `pf_search/CALLING.md` has the lemmas by which a caller proves the clause `graph`.
+///
 /// # Errors
 ///
 /// `OutOfMemory`: a request for memory was refused.
@@ -105,6 +107,8 @@ where
 /// `successors` lists the nodes that follow a node. It must answer alike for equal nodes at every
 /// call, and is asked of nodes in reach of the node alone. The nodes are clones, in open order; the
 /// node itself is among them.
+///
+/// `pf_search/CALLING.md` has the lemmas by which a caller proves the clause `graph`.
 ///
 /// # Errors
 ///
@@ -145,6 +149,8 @@ where
 /// call, and is asked of nodes in reach of the given ones alone. The given nodes may repeat; the answer
 /// holds clones, and the order of the nodes in a component is open. With no nodes there is no
 /// component.
+///
+/// `pf_search/CALLING.md` has the lemmas by which a caller proves the clause `graph`.
 ///
 /// # Errors
 ///

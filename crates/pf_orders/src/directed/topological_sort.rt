@@ -27,6 +27,8 @@ use std::hash::Hash;
 /// and is asked of nodes in reach of the roots alone. An edge from a node to itself is a cycle. The nodes
 /// are clones. Which of several orders is answered is open. With no roots the order is empty.
 ///
+/// `pf_search/CALLING.md` has the lemmas by which a caller proves the clause `graph`.
+///
 /// # Errors
 ///
 /// `OutOfMemory`: a request for memory was refused.
@@ -100,6 +102,8 @@ where
 
 /// The same as `topological_sort`, with one tick of `tally` for each node whose successors are asked
 /// for: at most as many as there are nodes in reach of the roots, also where memory is refused.
+///
+/// `pf_search/CALLING.md` has the lemmas by which a caller proves the clause `graph`.
 ///
 /// # Errors
 ///

@@ -52,6 +52,8 @@ where
 /// and contains no node twice; it need not have fewest edges. `successors` and `success` must answer
 /// alike for equal nodes at every call, and are asked of nodes in reach of the start alone.
 ///
+/// `pf_search/CALLING.md` has the lemmas by which a caller proves the clause `graph`.
+///
 /// # Errors
 ///
 /// `OutOfMemory`: a request for memory was refused.

@@ -67,6 +67,8 @@ where
 /// answer alike too. Both are asked of nodes in reach alone. The path is a list of clones of nodes,
 /// from `start` on, and contains no node twice. Which of several cheapest paths is answered is open.
 ///
+/// `pf_search/CALLING.md` has the lemmas by which a caller proves the clause `graph`.
+///
 /// # Errors
 ///
 /// - `CostOverflow`: only where a cheapest path to some node and one step more, by the cheapest of the
@@ -108,6 +110,8 @@ where
 
 /// The same as `dijkstra`, with one tick of `tally` for each node whose successors are asked for: at
 /// most as many as there are nodes in reach of `start`.
+///
+/// `pf_search/CALLING.md` has the lemmas by which a caller proves the clause `graph`.
 ///
 /// # Errors
 ///

@@ -91,6 +91,8 @@ where
 /// for equal nodes at every call, and no cost in reach of `start` may be negative. It is asked of
 /// nodes in reach alone.
 ///
+/// `pf_search/CALLING.md` has the lemmas by which a caller proves the clause `graph`.
+///
 /// # Errors
 ///
 /// - `CostOverflow`: only where a cheapest path to some node and one step more, by the cheapest of the
@@ -138,6 +140,8 @@ where
 ///
 /// `successors` is as for `dijkstra_all`. `stop` must answer alike for equal nodes at every call, and
 /// is asked of nodes in reach alone.
+///
+/// `pf_search/CALLING.md` has the lemmas by which a caller proves the clause `graph`.
 ///
 /// # Errors
 ///

@@ -138,6 +138,8 @@ where
 /// answered is open. Where the nodes in reach have no end and none of them passes, the call goes on
 /// until memory is refused.
 ///
+/// `pf_search/CALLING.md` has the lemmas by which a caller proves the clause `graph`.
+///
 /// # Errors
 ///
 /// `OutOfMemory`: a request for memory was refused.

@@ -7,10 +7,10 @@ use Rattle.pf_base.proofs.Outcomes.{if_refused, refused_as}
 use Rattle.pf_assignment.proofs.kuhn_munkres.kuhn_munkres_min.Goals as goal
 
 pub neg-requires : goal.neg-requires
-neg-requires g c = λ r k h l. negation_fits g.C.Number.fits (λ x y z. g.C.Number.between_law x y z g.met.C.Integral.exact_law) (g.W.Weights.table c.args.weights.now) c.requires.fit r k h l
+neg-requires g c = λ r k h l. negation_fits g.C.Number.fits (λ x y z. g.C.Number.between_law x y z g.met.C.Integral.exact_law) (g.W.Weights.table c.args.weights.now) c.requires.weights_fit r k h l
 
-pub kuhn_munkres-requires-clause-fit : goal.kuhn_munkres-requires-clause-fit
-kuhn_munkres-requires-clause-fit g c = fit_negated (g.W.Weights.table c.args.weights.now) (g.W.Weights.table c.in_ok-negated.negated) c.in_ok-negated.ensures.negated g.C.Number.fits c.requires.fit
+pub kuhn_munkres-requires-clause-weights_fit : goal.kuhn_munkres-requires-clause-weights_fit
+kuhn_munkres-requires-clause-weights_fit g c = fit_negated (g.W.Weights.table c.args.weights.now) (g.W.Weights.table c.in_ok-negated.negated) c.in_ok-negated.ensures.negated g.C.Number.fits c.requires.weights_fit
 
 pub negated-requires : goal.negated-requires
 negated-requires g c =
@@ -22,7 +22,7 @@ negated-requires g c =
     let e = c.in_ok-total.ensures.total in
     let k = total_negated t n negated f a in
     let back : assignment_total t f ≡ neg_ℤ (g.C.Number.value c.in_ok-total.total) = omega (arith, ints, e, k) in
-    subst g.C.Number.fits back (total_fits g.C.Number.fits (λ x y z. g.C.Number.between_law x y z g.met.C.Integral.exact_law) t c.requires.fit f a)
+    subst g.C.Number.fits back (total_fits g.C.Number.fits (λ x y z. g.C.Number.between_law x y z g.met.C.Integral.exact_law) t c.requires.weights_fit f a)
 
 pub returns-clause-total : goal.returns-clause-total
 returns-clause-total g c =

@@ -49,7 +49,7 @@ total_of-total-requires-clause-assignment g c =
 pub match_row-requires-clause-next : goal.match_row-requires-clause-next
 match_row-requires-clause-next g c =
     let r = c.loop-row.invariant.rows in
-    record { matched = c.loop-row.invariant.matched; left = omega (arith, r); shape = c.requires.shape; fit = c.requires.fit }
+    record { matched = c.loop-row.invariant.matched; left = omega (arith, r); shape = c.requires.shape; fit = c.requires.weights_fit }
 
 pub returns-in_err-matching : goal.returns-in_err-matching
 returns-in_err-matching g c = record {

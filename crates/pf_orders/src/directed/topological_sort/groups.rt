@@ -64,6 +64,8 @@ where
 /// and is asked of `nodes` alone, once of each. An edge from a node to itself is a cycle. The nodes are
 /// clones; their order in a group is open. No nodes give no groups.
 ///
+/// `pf_search/CALLING.md` has the lemmas by which a caller proves the clause `graph`.
+///
 /// # Errors
 ///
 /// - `UnknownVertex`: exactly where an answer holds a node that is not one of `nodes`; this is tested

@@ -51,6 +51,8 @@ where
 /// twice, save that these two may be the same node. A start that follows itself is a loop of one
 /// step. Which of several such loops is answered is open. With no starts the answer is `None`.
 ///
+/// `pf_search/CALLING.md` has the lemmas by which a caller proves the clause `graph`.
+///
 /// # Errors
 ///
 /// `OutOfMemory`: a request for memory was refused.
