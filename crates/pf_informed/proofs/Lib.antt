@@ -31,3 +31,4 @@ pub mod TurnsLeft
 pub mod WayLemmas
 pub mod LimitLemmas
 pub mod CloneLemmas
+pub mod Distances

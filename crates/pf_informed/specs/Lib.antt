@@ -1,3 +1,4 @@
 pub mod Estimates
 pub mod CheapestPaths
 pub mod Internal
+pub mod Distances
