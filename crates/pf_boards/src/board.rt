@@ -135,9 +135,11 @@ impl<'a, C: Cost> Board<'a, C> {
         self.steps
     }
 
-    /// The cells, by rows, each with the cost of entering it, or `None` where it is blocked.
+    /// The cells, by rows, each with the cost of entering it, or `None` where it is blocked. There is one
+    /// for each row and column, and none costs less than 0.
     pub fn cells(&self) -> &[Option<C>]
-        ensures { result.now ≡ self.now.cells }
+        ensures cells { result.now ≡ self.now.cells }
+        ensures sound { IsBoard C.value self.now }
     {
         self.cells
     }
