@@ -1,6 +1,6 @@
 -- Estimates on boards.
-use Rattle.std.proofs.Common.{◌≡◌, ◌==◌, true≢false, ◌≢◌, ◌∙◌, ◌<◌, ◌≤◌, ◌+◌, ◌*◌, ◌^◌, ℕ, zero, suc, refl, sym, ap, subst, arith, inl, inr, nat_eq, Bool, true, false, List, Option, Some, None, length, max}
-use Rattle.std.specs.Prelude.{◌≤ℤ◌, ◌<ℤ◌, ◌+ℤ◌, ◌*ℤ◌, ◌⊎◌, ◌&&◌, ℤ, pos, negsuc, if◌then◌else◌, nat_lt, slice_get}
+use Rattle.std.proofs.Common.{◌≡◌, ◌==◌, true≢false, ◌≢◌, ◌∙◌, ◌<◌, ◌≤◌, ◌+◌, ◌*◌, ℕ, zero, suc, refl, sym, ap, subst, arith, inl, inr, Bool, true, false, List, Option, Some, None, length, max}
+use Rattle.std.specs.Prelude.{◌≤ℤ◌, ◌+ℤ◌, ◌*ℤ◌, ◌⊎◌, ◌&&◌, ℤ, pos, negsuc, if◌then◌else◌, nat_lt, slice_get}
 use Rattle.std.specs.List.{AllByRecursion}
 use Rattle.std.specs.Int.{abs_diff, int_min}
 use Rattle.std.proofs.Math.IntN.{pos-*ℤ-pos}
@@ -14,8 +14,8 @@ use Rattle.pf_tables.specs.Graphs.{HasEdgeAt}
 use Rattle.pf_tables.proofs.Faulty.{less_or_same, some_same}
 use Rattle.pf_boards.specs.declared.steps.Steps.{Steps}
 use Rattle.pf_boards.specs.declared.steps.Steps.TheVariants.{Four, Eight}
-use Rattle.pf_boards.specs.Boards.{Cells, IsBoard, directions_of, four, eight, node_at, position_at, steps_from}
-use Rattle.pf_boards.proofs.BoardLemmas.{position_of_node, row_inside, some_column, stands}
+use Rattle.pf_boards.specs.Boards.{directions_of, position_at, steps_from}
+use Rattle.pf_boards.proofs.BoardLemmas.{position_of_node, stands}
 use Rattle.pf_estimated_graphs.specs.EstimatedGraphs.{IsConsistent}
 use Rattle.pf_estimated_graphs.specs.EstimatesOnBoards.{EstimatedBoard, IsEstimatedBoard, IsLeastCost, estimate_on_board, steps_between}
 
@@ -37,32 +37,41 @@ module _ {C : Type 0} (value : C → ℤ) (cells : List (Option C)) where
       where
         closed : {cost : C} → Some None ≡ Some (Some cost) → ⊥
         closed e = cc
-    blocked_more (Some least) at so = (λ k cost l e. elim (less_or_same k n l) [
-      | inl b ↦ so.0 k cost b e
-      | inr s ↦ absurd (closed (sym at ∙ ap (slice_get cells) (sym s) ∙ e))
-    ], so.1)
+    blocked_more (Some least) at so = (
+      λ k cost l e. elim (less_or_same k n l) [
+        | inl b ↦ so.0 k cost b e
+        | inr s ↦ absurd (closed (sym at ∙ ap (slice_get cells) (sym s) ∙ e))
+      ],
+      so.1,
+    )
       where
         closed : {cost : C} → Some None ≡ Some (Some cost) → ⊥
         closed e = cc
 
     pub first_open : (cost : C) → slice_get cells n ≡ Some (Some cost) → IsLeastSoFar n None → IsLeastSoFar (n + 1) (Some cost)
-    first_open cost at so = (λ k other l e. elim (less_or_same k n l) as (λ _. value cost ≤ℤ value other) [
-      | inl b ↦ absurd (so k other b e)
-      | inr s ↦ same cost other (some_same (some_same (sym at ∙ ap (slice_get cells) (sym s) ∙ e)))
-    ], (n, cost, at, refl))
+    first_open cost at so = (
+      λ k other l e. elim (less_or_same k n l) as (λ _. value cost ≤ℤ value other) [
+        | inl b ↦ absurd (so k other b e)
+        | inr s ↦ same cost other (some_same (some_same (sym at ∙ ap (slice_get cells) (sym s) ∙ e)))
+      ],
+      (n, cost, at, refl),
+    )
       where
         same : (a b : C) → a ≡ b → value a ≤ℤ value b
         same a b e = subst (λ x. value a ≤ℤ value x) e (omega (arith, ints))
 
     pub lower_open : (least cost lower : C) → slice_get cells n ≡ Some (Some cost) → value lower ≤ℤ value least → value lower ≤ℤ value cost → (value lower ≡ value least) ⊎ (value lower ≡ value cost)
         → IsLeastSoFar n (Some least) → IsLeastSoFar (n + 1) (Some lower)
-    lower_open least cost lower at under also either so = (λ k other l e. elim (less_or_same k n l) as (λ _. value lower ≤ℤ value other) [
-      | inl b ↦ let h = so.0 k other b e in omega (arith, ints, h, under)
-      | inr s ↦ subst (λ x. value lower ≤ℤ value x) (some_same (some_same (sym at ∙ ap (slice_get cells) (sym s) ∙ e))) also
-    ], elim either as (λ _. (k : ℕ) × (c : C) × (slice_get cells k ≡ Some (Some c)) × (value c ≡ value lower)) [
-      | inl e ↦ (so.1.0, so.1.1, so.1.2, so.1.3 ∙ sym e)
-      | inr e ↦ (n, cost, at, sym e)
-    ])
+    lower_open least cost lower at under also either so = (
+      λ k other l e. elim (less_or_same k n l) as (λ _. value lower ≤ℤ value other) [
+        | inl b ↦ let h = so.0 k other b e in omega (arith, ints, h, under)
+        | inr s ↦ subst (λ x. value lower ≤ℤ value x) (some_same (some_same (sym at ∙ ap (slice_get cells) (sym s) ∙ e))) also
+      ],
+      elim either as (λ _. (k : ℕ) × (c : C) × (slice_get cells k ≡ Some (Some c)) × (value c ≡ value lower)) [
+        | inl e ↦ (so.1.0, so.1.1, so.1.2, so.1.3 ∙ sym e)
+        | inr e ↦ (n, cost, at, sym e)
+      ],
+    )
 
   pub least_of_all : (least : C) → IsLeastSoFar (length cells) (Some least) → IsLeastCost value cells least
   least_of_all least so = record {

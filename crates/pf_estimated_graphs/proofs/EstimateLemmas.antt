@@ -1,12 +1,11 @@
 -- What tested estimates are, and what the tests pass over.
-use Rattle.std.proofs.Common.{◌≡◌, ◌<◌, ◌+◌, ℕ, refl, sym, subst, ◌∙◌, arith, inl, inr, Bool, true, List, Option, Some, None, length, ap}
+use Rattle.std.proofs.Common.{◌≡◌, ◌<◌, ◌+◌, ℕ, refl, sym, subst, ◌∙◌, arith, inl, inr, Bool, List, Option, Some, None, ap}
 use Rattle.std.specs.Prelude.{◌≤ℤ◌, ◌<ℤ◌, ◌+ℤ◌, ◌⊎◌, ℤ, pos, slice_get}
 use Rattle.std.specs.Option.{option_map_or}
 use Rattle.std.proofs.lemmas.Int.{ints}
 use Rattle.std.proofs.lemmas.Option.{slice_get_within}
-use Rattle.pf_tables.specs.Graphs.{HasEdgeAt}
 use Rattle.pf_estimated_graphs.specs.EstimatedGraphs.{IsConsistent}
-use Rattle.pf_estimated_graphs.specs.EstimatesInTables.{estimate_at, IsSoundAt, FallsAt, AreConsistent}
+use Rattle.pf_estimated_graphs.specs.EstimatesInTables.{estimate_at, FallsAt, AreConsistent}
 
 module _ {C : Type 0} (value : C → ℤ) (estimates : List C) where
   -- the estimate of a node

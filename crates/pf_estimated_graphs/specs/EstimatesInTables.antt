@@ -1,7 +1,7 @@
 -- Estimates of the cost that remains from each node of a graph in a table to a goal.
-use Rattle.std.specs.Prelude.{◌≡◌, ◌⊎◌, ◌<◌, ◌≤ℤ◌, ◌<ℤ◌, ◌+ℤ◌, ℕ, ℤ, pos, Bool, true, List, [], ◌∷◌, Option, length, slice_get, nat_eq}
+use Rattle.std.specs.Prelude.{◌≡◌, ◌⊎◌, ◌<◌, ◌≤ℤ◌, ◌<ℤ◌, ◌+ℤ◌, ℕ, ℤ, pos, Bool, true, List, Option, length, slice_get}
 use Rattle.std.specs.Option.{option_map_or}
-use Rattle.pf_tables.specs.Graphs.{HasEdgeAt, graph_of}
+use Rattle.pf_tables.specs.Graphs.{HasEdgeAt}
 use Rattle.pf_estimated_graphs.specs.declared.error.EstimateError.{EstimateError}
 use Rattle.pf_estimated_graphs.specs.declared.error.EstimateError.TheVariants.{WrongNumberOfEstimates, NegativeEstimate, EstimateAtGoal, EstimateAboveEdge}
 

@@ -1,5 +1,5 @@
 -- Estimates of the cost that remains from each cell of a board to one cell: so many steps as there are if no cell is blocked, each at the least cost of a cell.
-use Rattle.std.specs.Prelude.{◌≡◌, ◌≢◌, ◌⊎◌, ◌<◌, ◌≤ℤ◌, ◌+◌, ◌*ℤ◌, ◌&&◌, ℕ, ℤ, pos, nat_lt, if◌then◌else◌, List, Option, Some, length, max, slice_get}
+use Rattle.std.specs.Prelude.{◌≡◌, ◌≢◌, ◌⊎◌, ◌≤ℤ◌, ◌+◌, ◌*ℤ◌, ◌&&◌, ℕ, ℤ, pos, nat_lt, if◌then◌else◌, List, Option, Some, length, max, slice_get}
 use Rattle.std.specs.Int.{abs_diff, int_min}
 use Rattle.pf_boards.specs.Boards.{Cells, IsBoard, directions_of, position_at}
 use Rattle.pf_boards.specs.declared.steps.Steps.{Steps}
@@ -34,5 +34,5 @@ module _ {C : Type 0} (value : C → ℤ) where
   abbrev pub estimate_on_board : (greatest : ℤ) → EstimatedBoard C → ℕ → ℤ
   estimate_on_board greatest estimated node =
       if nat_lt node (length estimated.board.cells) && nat_lt estimated.goal (length estimated.board.cells) then
-        int_min (pos (steps_between estimated.steps (position_at estimated.board node) (position_at estimated.board estimated.goal)) *ℤ value estimated.least) greatest
+      int_min (pos (steps_between estimated.steps (position_at estimated.board node) (position_at estimated.board estimated.goal)) *ℤ value estimated.least) greatest
       else pos 0

@@ -76,11 +76,12 @@ where
     Ok(answer?.map(|found| found.1))
 }
 
-/// Whether two answers are the same cost, or both that it does not fit.
-fn are_alike(left: Result<Option<u8>, PathError>, right: Result<Option<u8>, PathError>) -> bool {
-    match (left, right) {
-        (Ok(left), Ok(right)) => left == right,
-        (Err(PathError::CostOverflow), Err(PathError::CostOverflow)) => true,
+/// Whether the cost of a search that an estimate leads is the least one. Where there is no way to the
+/// goal, such a search may tell that a cost does not fit.
+fn is_least(cost: Result<Option<u8>, PathError>, least: Result<Option<u8>, PathError>) -> bool {
+    match (cost, least) {
+        (Ok(cost), Ok(least)) => cost == least,
+        (Err(PathError::CostOverflow), Ok(None) | Err(PathError::CostOverflow)) => true,
         _ => false,
     }
 }
@@ -95,9 +96,7 @@ fn costs_agree(alloc: Global, board: &Board<'_, u8>, from: usize, goal: usize) -
         cost_of(astar_bag(alloc, &estimates, from)),
         cost_of(astar_bag_collect(alloc, &estimates, from)),
     ];
-    costs
-        .into_iter()
-        .all(|cost| are_alike(cost, cost_of(dijkstra(alloc, board, from, goal))))
+    costs.into_iter().all(|cost| is_least(cost, cost_of(dijkstra(alloc, board, from, goal))))
 }
 
 /// Whether they agree between any two numbers up to the number of nodes.
