@@ -1,8 +1,9 @@
-//! Ways through a maze: one with fewest steps, and one that costs least.
+//! Ways through a maze: one with fewest steps, and one that costs least, found in two ways.
 #![tactic(auto)]
 
 use pf_boards::{Board, Steps};
 use pf_table_breadth::bfs;
+use pf_table_estimates::{BoardEstimates, astar};
 use pf_tables::dijkstra;
 use std::alloc::Global;
 
@@ -82,11 +83,25 @@ fn print_cheapest(
     Ok(())
 }
 
+/// Prints what a way costs that was found along an estimate of the steps that remain.
+fn print_estimated(
+    rt: &HostRuntime,
+    estimates: &BoardEstimates<'_, u32>,
+    from: usize,
+) -> Result<(), anyhow::Error> {
+    match astar(rt.alloc(), estimates, from)? {
+        Some((_, cost)) => println!(rt; "cost along an estimate: {cost}")?,
+        None => rt.println("no way")?,
+    }
+    Ok(())
+}
+
 fn main(rt: HostRuntime) -> Result<(), anyhow::Error> {
     let cells = cells(rt.alloc())?;
     let board = Board::new(ROWS, COLUMNS, &cells, Steps::Four)?;
     let from = board.number_of(0, 0);
     let to = board.number_of(0, 6);
     print_fewest_steps(&rt, &board, from, to)?;
-    print_cheapest(&rt, &board, from, to)
+    print_cheapest(&rt, &board, from, to)?;
+    print_estimated(&rt, &BoardEstimates::new(&board, to), from)
 }

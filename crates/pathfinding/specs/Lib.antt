@@ -41,7 +41,9 @@ pub use Rattle.pf_edge_lists.specs.EdgeLists
 pub use Rattle.pf_table_searches.specs.TableWalks
 pub use Rattle.pf_table_paths.specs.RankedWalks
 pub use Rattle.pf_state_paths.specs.RankedStateWalks
+pub use Rattle.pf_table_estimates.specs.EstimatedGraphs
 pub use Rattle.pf_table_estimates.specs.EstimatesInTables
+pub use Rattle.pf_table_estimates.specs.EstimatesOnBoards
 pub use Rattle.pf_matrix.specs.Tables
 pub use Rattle.pf_matrix.specs.Arrange
 pub use Rattle.pf_matrix.specs.Calls

@@ -6,7 +6,8 @@ pub use pf_edge_lists::{EdgeList, EdgeListError};
 pub use pf_table_both_ends::{bfs_bidirectional, dijkstra_bidirectional};
 pub use pf_table_breadth::bfs;
 pub use pf_table_estimates::{
-    EstimateError, Estimates, astar, astar_bag, astar_bag_collect, fringe, idastar,
+    BoardEstimates, EstimateError, EstimatedGraph, Estimates, astar, astar_bag, astar_bag_collect,
+    fringe, idastar,
 };
 pub use pf_table_orders::{
     strongly_connected_component, strongly_connected_components, topological_sort,

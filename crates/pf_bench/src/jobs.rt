@@ -74,6 +74,7 @@ const JOBS: &[(&str, Job)] = &[
         Job::Orders(OrderJob::TopologicalSort),
     ),
     ("groups-dag", Job::Orders(OrderJob::Groups)),
+    ("astar-board-table", Job::Tables(TablesJob::AstarBoard)),
     ("bfs-board-table", Job::Tables(TablesJob::BfsBoard)),
     (
         "dijkstra-board-table",

@@ -1,13 +1,14 @@
 -- Boards of cells.
-use Rattle.std.proofs.Common.{◌≡◌, ◌≢◌, eq-eqb, inl, inr, ℕ, zero, suc, ◌+◌, ◌*◌, ◌/◌, ◌^◌, ◌<◌, Bool, true, false, not, true≢false, nat_eq, sym, ◌∙◌, refl, ap, arith, List, [], ◌∷◌, length, get_or}
-use Rattle.std.specs.Prelude.{◌≤ℤ◌, ℤ, pos, Option, Some, None, slice_get, map}
+use Rattle.std.proofs.Common.{◌≡◌, ◌≢◌, eq-eqb, inl, inr, ℕ, zero, suc, ◌+◌, ◌*◌, ◌/◌, ◌^◌, ◌<◌, Bool, true, false, not, true≢false, nat_eq, sym, ◌∙◌, refl, ap, subst, arith, List, [], ◌∷◌, length, get_or}
+use Rattle.std.specs.Prelude.{◌≤ℤ◌, ◌%◌, ℤ, pos, Option, Some, None, ⊤, slice_get, map}
+use Rattle.std.specs.List.{AllByRecursion}
 use Rattle.std.specs.Option.{SomeIff, option_eq, option_and_then, option_map}
 use Rattle.std.proofs.lemmas.Bool.{eqb-true}
 use Rattle.std.proofs.lemmas.Option.{slice_get-map, slice_get-get_or, slice_get_read, slice_get_within, option_and_then_some}
 use Rattle.std.proofs.lemmas.Nat.{mul-add-lt}
-use Rattle.std.proofs.Math.Nat.{div-lt_iff_lt-mul}
-use Rattle.pf_base.specs.Moves.{IsMove, target_of}
-use Rattle.pf_utils.proofs.MoveLemmas.{target_is}
+use Rattle.std.proofs.Math.Nat.{add-mul-mod_self_right, div-eq_of_lt, div-lt_iff_lt-mul, mod-eq_of_lt, mul-add-div_right}
+use Rattle.pf_base.specs.Moves.{Finds, IsMove, target_of}
+use Rattle.pf_utils.proofs.MoveLemmas.{target_is, target_of-finds}
 use Rattle.pf_boards.specs.declared.steps.Steps.{Steps}
 use Rattle.pf_boards.specs.declared.steps.Steps.TheVariants.{Four, Eight}
 use Rattle.pf_tables.specs.Graphs.{IsGraph, HasEdgeAt}
@@ -92,25 +93,53 @@ open_cell : {C : Type 0} (cells : List (Option C)) (number : ℕ) (cost : C) →
 open_cell cells number cost e = option_and_then_some (λ x. x) (slice_get cells number) cost e (λ x at is. at ∙ ap Some is)
 
 module _ {C : Type 0} (board : Cells C) (node : ℕ) where
-  leads : (direction : ℤ × ℤ) (edge : ℕ × C) → step_from board node direction ≡ Some edge → slice_get board.cells edge.0 ≡ Some (Some edge.1)
+  -- an edge is a move in this direction, and its cost is that of the cell that it enters
+  pub record LeadsTo (edge : ℕ × C) (direction : ℤ × ℤ) : Type 0 where
+    pub target : ℕ × ℕ
+    pub move : IsMove (position_at board node) direction (board.rows, board.columns) target
+    pub number : node_at board target ≡ edge.0
+    pub cell : slice_get board.cells edge.0 ≡ Some (Some edge.1)
+
+  leads : (direction : ℤ × ℤ) (edge : ℕ × C) → step_from board node direction ≡ Some edge → LeadsTo edge direction
   leads direction edge e =
       option_and_then_some _ (cost_at board.cells node) edge e (λ price o rest.
       option_and_then_some _ (target_of (position_at board node) direction (board.rows, board.columns)) edge rest (λ target t last.
-      let h = entered (node_at board target) (cost_at board.cells (node_at board target)) edge last in
-      open_cell board.cells edge.0 edge.1 (ap (cost_at board.cells) (sym h.0) ∙ h.1)))
+      let h = entered (node_at board target) (cost_at board.cells (node_at board target)) edge last in record {
+        target = target;
+        move = subst (Finds (IsMove (position_at board node) direction (board.rows, board.columns))) t (target_of-finds (position_at board node) direction (board.rows, board.columns));
+        number = h.0;
+        cell = open_cell board.cells edge.0 edge.1 (ap (cost_at board.cells) (sym h.0) ∙ h.1);
+      }))
 
-  stands : (directions : List (ℤ × ℤ)) (place : ℕ) (edge : ℕ × C) → HasEdgeAt (map (step_from board node) directions) place edge → slice_get board.cells edge.0 ≡ Some (Some edge.1)
-  stands [] place edge h = absurd (none h)
+  -- the edge at a place, where each direction is as P says
+  pub stands : {P : ℤ × ℤ → Type 0} (directions : List (ℤ × ℤ)) (place : ℕ) (edge : ℕ × C) → AllByRecursion P directions → HasEdgeAt (map (step_from board node) directions) place edge
+      → (direction : ℤ × ℤ) × P direction × LeadsTo edge direction
+  stands [] place edge all h = absurd (none h)
     where
       none : None ≡ Some (Some edge) → ⊥
       none e = cc
-  stands (d ∷ ds) zero edge h = leads d edge (some_same h)
-  stands (d ∷ ds) (suc place) edge h = stands ds place edge h
+  stands (d ∷ ds) zero edge all h = (d, all.0, leads d edge (some_same h))
+  stands (d ∷ ds) (suc place) edge all h = stands ds place edge all.1 h
+
+any : (directions : List (ℤ × ℤ)) → AllByRecursion (λ d. ⊤) directions
+any [] = tt
+any (d ∷ ds) = (tt, any ds)
+
+-- the row and the column of the node at a row and a column
+pub position_of_node : {C : Type 0} (board : Cells C) (position : ℕ × ℕ) → position.1 < board.columns → position_at board (node_at board position) ≡ position
+position_of_node board position c =
+    let some : 0 < board.columns = omega (arith, c) in
+    let row : node_at board position / board.columns ≡ position.0 = mul-add-div_right some position.0 position.1 ∙ omega (arith, div-eq_of_lt c) in
+    let column : node_at board position % board.columns ≡ position.1 = mod_there board.columns position.0 position.1 c in
+    ap (λ r. (r, node_at board position % board.columns)) row ∙ ap (λ x. (position.0, x)) column
+  where
+    mod_there : (columns row column : ℕ) → column < columns → (row * columns + column) % columns ≡ column
+    mod_there columns row column c = ap (λ n. n % columns) (omega arith) ∙ add-mul-mod_self_right column row columns ∙ mod-eq_of_lt c
 
 pub board_graph : {C : Type 0} {value : C → ℤ} (board : Cells C) → IsBoard value board → IsGraph value (length board.cells) (steps_from board)
 board_graph board sound = record {
-  inside = λ n k e l h. slice_get_within board.cells e.0 (Some e.1) (stands board n board.directions k e h);
+  inside = λ n k e l h. slice_get_within board.cells e.0 (Some e.1) (stands board n board.directions k e (any board.directions) h).2.cell;
   from_zero = λ n k e l h.
-      let at = stands board n board.directions k e h in
+      let at = (stands board n board.directions k e (any board.directions) h).2.cell in
       sound.from_zero e.0 e.1 (slice_get_within board.cells e.0 (Some e.1) at) at;
 }

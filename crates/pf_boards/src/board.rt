@@ -128,6 +128,22 @@ impl<'a, C: Cost> Board<'a, C> {
         self.columns
     }
 
+    /// The steps that lead from a cell.
+    pub fn steps(&self) -> Steps
+        ensures { directions_of result ≡ self.now.directions }
+    {
+        self.steps
+    }
+
+    /// The cells, by rows, each with the cost of entering it, or `None` where it is blocked. There is one
+    /// for each row and column, and none costs less than 0.
+    pub fn cells(&self) -> &[Option<C>]
+        ensures cells { result.now ≡ self.now.cells }
+        ensures sound { IsBoard C.value self.now }
+    {
+        self.cells
+    }
+
     /// The node at a row and a column.
     pub fn number_of(&self, row: usize, column: usize) -> usize
         requires row { row < self.now.rows }

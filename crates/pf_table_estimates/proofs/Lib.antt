@@ -1,1 +1,1 @@
-mod EstimateLemmas
+pub mod EstimateLemmas

@@ -2,11 +2,11 @@
 
 ghost use Rattle.std.specs.Prelude.{◌≡◌, ◌⊎◌, [], ◌∷◌, false, ⊤, Err, IfOk, IfErr, MatchOption, nat_eq};
 ghost use Rattle.pf_informed.specs.CheapestPaths.{AreCheapestCleanPathsOrNone, lists_in};
+ghost use Rattle.pf_informed.specs.Estimates.{MayOverflow};
 ghost use Rattle.pf_tables.specs.Graphs.{graph_of};
-ghost use Rattle.pf_table_estimates.specs.EstimatesInTables.{MayOverflowInTable};
 
-use crate::estimates::Estimates;
 use pf_base::{Cost, PathError};
+use pf_estimated_graphs::EstimatedGraph;
 use pf_informed::directed::astar_bag::AstarSolution;
 use pf_table_functions::edges::edges_of;
 use pf_tables::{Goals, Graph};
@@ -15,7 +15,7 @@ use std::alloc::Allocator;
 /// All cheapest paths from the node `from` to goals, with their cost, or `None` exactly where no walk
 /// leads from it to a goal. They are given one at a time, each once.
 ///
-/// The table and the goals are those of the estimates. A number that is no node of the graph has no
+/// The graph and the goals are those of the estimates. A number that is no node of the graph has no
 /// edges. No node before the last of a path is a goal. In which order the paths come is open.
 ///
 /// # Errors
@@ -27,31 +27,28 @@ use std::alloc::Allocator;
 /// The algorithm is A* (P. E. Hart, N. J. Nilsson, B. Raphael, "A formal basis for the heuristic
 /// determination of minimum cost paths", 1968), followed by a walk back along all steps that keep the
 /// least costs.
-pub fn astar_bag<C, G, T, A>(
+pub fn astar_bag<C, E, A>(
     alloc: A,
-    estimates: &Estimates<'_, C, G, T>,
+    estimates: &E,
     from: usize,
 ) -> Result<Option<(AstarSolution<usize, A>, C)>, PathError>
 where
     C: Cost,
-    G: Graph<C>,
-    T: Goals + Copy,
+    E: EstimatedGraph<C>,
     A: Allocator + Copy,
-    ensures all { IfOk result (AreCheapestCleanPathsOrNone nat_eq (graph_of C.value (G.size estimates.now.table) (G.places estimates.now.table)) (from ∷ []) (T.passes estimates.now.goals) (λ paths. paths.left) C.value) }
+    ensures all { IfOk result (AreCheapestCleanPathsOrNone nat_eq (graph_of C.value (E.size estimates.now) (E.places estimates.now)) (from ∷ []) (E.passes estimates.now) (λ paths. paths.left) C.value) }
     ensures ready { IfOk result (λ answer. MatchOption answer ⊤ (λ found. found.0.refused ≡ false)) }
-    ensures overflow { result ≡ Err PathError.CostOverflow → MayOverflowInTable C.value G.size G.places T.passes estimates.now from C.fits }
+    ensures overflow { result ≡ Err PathError.CostOverflow → MayOverflow nat_eq (graph_of C.value (E.size estimates.now) (E.places estimates.now)) (from ∷ []) (E.passes estimates.now) (E.estimates estimates.now) C.fits }
     ensures errors { IfErr result (λ e. (e ≡ PathError.OutOfMemory) ⊎ (e ≡ PathError.CostOverflow)) }
 {
+    estimates.consistent();
     estimates.known();
-    let graph = estimates.graph;
-    let goals = estimates.goals;
-    graph.known();
     pf_informed::directed::astar_bag::astar_bag(
         alloc,
         &from,
-        |n: &usize| edges_of(graph, *n),
+        |n: &usize| edges_of(estimates, *n),
         |n: &usize| estimates.estimate(*n),
-        |n: &usize| goals.is_goal(*n),
+        |n: &usize| estimates.is_goal(*n),
     )
 }
 
@@ -60,29 +57,26 @@ where
 /// # Errors
 ///
 /// Those of `astar_bag`.
-pub fn astar_bag_collect<C, G, T, A>(
+pub fn astar_bag_collect<C, E, A>(
     alloc: A,
-    estimates: &Estimates<'_, C, G, T>,
+    estimates: &E,
     from: usize,
 ) -> Result<Option<(Vec<Vec<usize, A>, A>, C)>, PathError>
 where
     C: Cost,
-    G: Graph<C>,
-    T: Goals + Copy,
+    E: EstimatedGraph<C>,
     A: Allocator + Copy,
-    ensures all { IfOk result (AreCheapestCleanPathsOrNone nat_eq (graph_of C.value (G.size estimates.now.table) (G.places estimates.now.table)) (from ∷ []) (T.passes estimates.now.goals) (λ paths. lists_in paths.items) C.value) }
-    ensures overflow { result ≡ Err PathError.CostOverflow → MayOverflowInTable C.value G.size G.places T.passes estimates.now from C.fits }
+    ensures all { IfOk result (AreCheapestCleanPathsOrNone nat_eq (graph_of C.value (E.size estimates.now) (E.places estimates.now)) (from ∷ []) (E.passes estimates.now) (λ paths. lists_in paths.items) C.value) }
+    ensures overflow { result ≡ Err PathError.CostOverflow → MayOverflow nat_eq (graph_of C.value (E.size estimates.now) (E.places estimates.now)) (from ∷ []) (E.passes estimates.now) (E.estimates estimates.now) C.fits }
     ensures errors { IfErr result (λ e. (e ≡ PathError.OutOfMemory) ⊎ (e ≡ PathError.CostOverflow)) }
 {
+    estimates.consistent();
     estimates.known();
-    let graph = estimates.graph;
-    let goals = estimates.goals;
-    graph.known();
     pf_informed::directed::astar_bag::astar_bag_collect(
         alloc,
         &from,
-        |n: &usize| edges_of(graph, *n),
+        |n: &usize| edges_of(estimates, *n),
         |n: &usize| estimates.estimate(*n),
-        |n: &usize| goals.is_goal(*n),
+        |n: &usize| estimates.is_goal(*n),
     )
 }

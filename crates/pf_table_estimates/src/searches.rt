@@ -2,11 +2,11 @@
 
 ghost use Rattle.std.specs.Prelude.{◌≡◌, ◌⊎◌, [], ◌∷◌, Err, IfOk, IfErr, nat_eq};
 ghost use Rattle.pf_base.specs.Edges.{IsCheapestOrNone};
+ghost use Rattle.pf_informed.specs.Estimates.{MayOverflow};
 ghost use Rattle.pf_tables.specs.Graphs.{graph_of};
-ghost use Rattle.pf_table_estimates.specs.EstimatesInTables.{MayOverflowInTable};
 
-use crate::estimates::Estimates;
 use pf_base::{Cost, PathError};
+use pf_estimated_graphs::EstimatedGraph;
 use pf_table_functions::edges::edges_of;
 use pf_tables::{Goals, Graph};
 use std::alloc::Allocator;
@@ -14,7 +14,7 @@ use std::alloc::Allocator;
 /// A cheapest path from the node `from` to a goal, with its cost, or `None` exactly where no walk leads
 /// from it to a goal.
 ///
-/// The table and the goals are those of the estimates. A number that is no node of the graph has no
+/// The graph and the goals are those of the estimates. A number that is no node of the graph has no
 /// edges. The path contains no node twice. Which of several such paths is answered is open.
 ///
 /// # Errors
@@ -25,30 +25,27 @@ use std::alloc::Allocator;
 ///
 /// The algorithm is A* (P. E. Hart, N. J. Nilsson, B. Raphael, "A formal basis for the heuristic
 /// determination of minimum cost paths", 1968), with a binary heap. No edges are read twice.
-pub fn astar<C, G, T, A>(
+pub fn astar<C, E, A>(
     alloc: A,
-    estimates: &Estimates<'_, C, G, T>,
+    estimates: &E,
     from: usize,
 ) -> Result<Option<(Vec<usize, A>, C)>, PathError>
 where
     C: Cost,
-    G: Graph<C>,
-    T: Goals + Copy,
+    E: EstimatedGraph<C>,
     A: Allocator + Copy,
-    ensures best { IfOk result (IsCheapestOrNone nat_eq (graph_of C.value (G.size estimates.now.table) (G.places estimates.now.table)) (from ∷ []) (T.passes estimates.now.goals) C.value) }
-    ensures overflow { result ≡ Err PathError.CostOverflow → MayOverflowInTable C.value G.size G.places T.passes estimates.now from C.fits }
+    ensures best { IfOk result (IsCheapestOrNone nat_eq (graph_of C.value (E.size estimates.now) (E.places estimates.now)) (from ∷ []) (E.passes estimates.now) C.value) }
+    ensures overflow { result ≡ Err PathError.CostOverflow → MayOverflow nat_eq (graph_of C.value (E.size estimates.now) (E.places estimates.now)) (from ∷ []) (E.passes estimates.now) (E.estimates estimates.now) C.fits }
     ensures errors { IfErr result (λ e. (e ≡ PathError.OutOfMemory) ⊎ (e ≡ PathError.CostOverflow)) }
 {
+    estimates.consistent();
     estimates.known();
-    let graph = estimates.graph;
-    let goals = estimates.goals;
-    graph.known();
     pf_informed::directed::astar::astar(
         alloc,
         &from,
-        |n: &usize| edges_of(graph, *n),
+        |n: &usize| edges_of(estimates, *n),
         |n: &usize| estimates.estimate(*n),
-        |n: &usize| goals.is_goal(*n),
+        |n: &usize| estimates.is_goal(*n),
     )
 }
 
@@ -63,30 +60,27 @@ where
 ///
 /// The algorithm is fringe search (Y. Björnsson, M. Enzenberger, R. C. Holte, J. Schaeffer, "Fringe
 /// search: beating A* at pathfinding on game maps", 2005).
-pub fn fringe<C, G, T, A>(
+pub fn fringe<C, E, A>(
     alloc: A,
-    estimates: &Estimates<'_, C, G, T>,
+    estimates: &E,
     from: usize,
 ) -> Result<Option<(Vec<usize, A>, C)>, PathError>
 where
     C: Cost,
-    G: Graph<C>,
-    T: Goals + Copy,
+    E: EstimatedGraph<C>,
     A: Allocator + Copy,
-    ensures best { IfOk result (IsCheapestOrNone nat_eq (graph_of C.value (G.size estimates.now.table) (G.places estimates.now.table)) (from ∷ []) (T.passes estimates.now.goals) C.value) }
-    ensures overflow { result ≡ Err PathError.CostOverflow → MayOverflowInTable C.value G.size G.places T.passes estimates.now from C.fits }
+    ensures best { IfOk result (IsCheapestOrNone nat_eq (graph_of C.value (E.size estimates.now) (E.places estimates.now)) (from ∷ []) (E.passes estimates.now) C.value) }
+    ensures overflow { result ≡ Err PathError.CostOverflow → MayOverflow nat_eq (graph_of C.value (E.size estimates.now) (E.places estimates.now)) (from ∷ []) (E.passes estimates.now) (E.estimates estimates.now) C.fits }
     ensures errors { IfErr result (λ e. (e ≡ PathError.OutOfMemory) ⊎ (e ≡ PathError.CostOverflow)) }
 {
+    estimates.consistent();
     estimates.known();
-    let graph = estimates.graph;
-    let goals = estimates.goals;
-    graph.known();
     pf_informed::directed::fringe::fringe(
         alloc,
         &from,
-        |n: &usize| edges_of(graph, *n),
+        |n: &usize| edges_of(estimates, *n),
         |n: &usize| estimates.estimate(*n),
-        |n: &usize| goals.is_goal(*n),
+        |n: &usize| estimates.is_goal(*n),
     )
 }
 
@@ -101,29 +95,26 @@ where
 ///
 /// The algorithm is IDA* (R. E. Korf, "Depth-first iterative-deepening: an optimal admissible tree
 /// search", 1985). Its time is of the order of the number of paths whose sums the limits admit.
-pub fn idastar<C, G, T, A>(
+pub fn idastar<C, E, A>(
     alloc: A,
-    estimates: &Estimates<'_, C, G, T>,
+    estimates: &E,
     from: usize,
 ) -> Result<Option<(Vec<usize, A>, C)>, PathError>
 where
     C: Cost,
-    G: Graph<C>,
-    T: Goals + Copy,
+    E: EstimatedGraph<C>,
     A: Allocator + Copy,
-    ensures best { IfOk result (IsCheapestOrNone nat_eq (graph_of C.value (G.size estimates.now.table) (G.places estimates.now.table)) (from ∷ []) (T.passes estimates.now.goals) C.value) }
-    ensures overflow { result ≡ Err PathError.CostOverflow → MayOverflowInTable C.value G.size G.places T.passes estimates.now from C.fits }
+    ensures best { IfOk result (IsCheapestOrNone nat_eq (graph_of C.value (E.size estimates.now) (E.places estimates.now)) (from ∷ []) (E.passes estimates.now) C.value) }
+    ensures overflow { result ≡ Err PathError.CostOverflow → MayOverflow nat_eq (graph_of C.value (E.size estimates.now) (E.places estimates.now)) (from ∷ []) (E.passes estimates.now) (E.estimates estimates.now) C.fits }
     ensures errors { IfErr result (λ e. (e ≡ PathError.OutOfMemory) ⊎ (e ≡ PathError.CostOverflow)) }
 {
+    estimates.consistent();
     estimates.known();
-    let graph = estimates.graph;
-    let goals = estimates.goals;
-    graph.known();
     pf_informed::directed::idastar::idastar(
         alloc,
         &from,
-        |n: &usize| edges_of(graph, *n),
+        |n: &usize| edges_of(estimates, *n),
         |n: &usize| estimates.estimate(*n),
-        |n: &usize| goals.is_goal(*n),
+        |n: &usize| estimates.is_goal(*n),
     )
 }

@@ -1,6 +1,7 @@
 //! Tests of the calls of `pf_informed`, over lists of edges.
 
 mod boards;
+mod estimated_boards;
 mod graphs;
 mod listed;
 mod puzzle;

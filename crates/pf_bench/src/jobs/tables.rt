@@ -7,11 +7,13 @@ use crate::inputs::{Board, HIGHEST, Rows};
 use crate::repeats::{Outcome, Repeats};
 use pf_boards::Steps;
 use pf_table_breadth::bfs;
+use pf_table_estimates::{BoardEstimates, astar};
 use pf_tables::{CompactRows, dijkstra};
 use std::alloc::Global;
 
 /// A search over a table.
 pub enum TablesJob {
+    AstarBoard,
     BfsBoard,
     DijkstraBoard,
     DijkstraRows,
@@ -23,27 +25,27 @@ impl TablesJob {
         requires { 0 < size }
     {
         match self {
-            TablesJob::BfsBoard => board(alloc, size, true, repeats),
-            TablesJob::DijkstraBoard => board(alloc, size, false, repeats),
             TablesJob::DijkstraRows => rows(alloc, size, repeats),
+            _ => self.over_board(alloc, size, repeats),
         }
     }
-}
 
-/// Finds a path of fewest edges, or a cheapest one, over a board so often.
-fn board(alloc: Global, size: usize, is_bfs: bool, repeats: &Repeats) -> Outcome
-    requires { 0 < size }
-{
-    let cells = Board::random(alloc, size, HIGHEST)?.into_cells(alloc)?;
-    let graph = pf_boards::Board::new(size, size, &cells, Steps::Four)?;
-    let last = graph.number_of(size - 1, size - 1);
-    repeats.check(|is_last| {
-        if is_bfs {
-            edges_of(bfs(alloc, &graph, 0, last), is_last)
-        } else {
-            cost_of(dijkstra(alloc, &graph, 0, last), is_last)
-        }
-    })
+    /// Finds a path of fewest edges, or a cheapest one, over a board so often.
+    fn over_board(&self, alloc: Global, size: usize, repeats: &Repeats) -> Outcome
+        requires { 0 < size }
+    {
+        let cells = Board::random(alloc, size, HIGHEST)?.into_cells(alloc)?;
+        let graph = pf_boards::Board::new(size, size, &cells, Steps::Four)?;
+        let last = graph.number_of(size - 1, size - 1);
+        repeats.check(|is_last| match self {
+            TablesJob::AstarBoard => {
+                let estimates = BoardEstimates::new(&graph, last);
+                cost_of(astar(alloc, &estimates, 0), is_last)
+            }
+            TablesJob::BfsBoard => edges_of(bfs(alloc, &graph, 0, last), is_last),
+            _ => cost_of(dijkstra(alloc, &graph, 0, last), is_last),
+        })
+    }
 }
 
 /// Finds a cheapest path over rows in compact form so often.

@@ -1,11 +1,10 @@
-use Rattle.std.proofs.Common.{rules, ap, subst, ◌∷◌, []}
+use Rattle.std.proofs.Common.{rules, ap, ◌∷◌, []}
 use Rattle.std.proofs.lemmas.Iterator.Consumers.{YieldsList-from_first}
 use Rattle.pf_base.proofs.Callers.{nat_test}
 use Rattle.pf_base.proofs.Sources.{gives_chain}
-use Rattle.pf_tables.specs.Graphs.{IsGraph, graph_of}
+use Rattle.pf_tables.specs.Graphs.{graph_of}
 use Rattle.pf_tables.proofs.GraphLemmas.{no_negative_cost}
 use Rattle.pf_table_functions.proofs.EdgeLemmas.{table_graph}
-use Rattle.pf_table_estimates.specs.EstimatesInTables.{TableEstimates, estimate_at}
 use Rattle.pf_table_estimates.proofs.EstimateLemmas.{consistent_admissible, estimate_answered}
 use Rattle.pf_table_estimates.proofs.paths.astar_bag.Goals as goal
 
@@ -13,21 +12,22 @@ pub astar_bag-requires-clause-graph : goal.astar_bag-requires-clause-graph
 astar_bag-requires-clause-graph g c =
     let value = g.C.Number.value in
     let given = c.args.estimates.now in
-    let size = g.G.Graph.size given.table in
-    let places = g.G.Graph.places given.table in
-    let passes = g.T.Goals.passes given.goals in (
+    let size = g.E.Graph.size given in
+    let places = g.E.Graph.places given in
+    let passes = g.E.Goals.passes given in
+    let estimate = g.E.EstimatedGraph.estimates given in (
       graph_of value size places,
       passes,
-      estimate_at value given.estimates,
+      estimate,
       record {
         weighted = record {
           edges_answered = table_graph value size places (λ x w. tt)
               (λ x r t w k. (ap (λ (q : _). (q, record {})) k.met.1, gives_chain (λ it b. (tt, tt, YieldsList-from_first (λ e. e) (λ es. es) _ (search rules)))));
           test_answered = nat_test passes (λ x w. tt) (λ x r t w k. (ap (λ (q : _). record { 0 = q }) k.met.1, search rules));
-          costs = no_negative_cost value size places (subst (λ (e : TableEstimates _ _ _). IsGraph value (g.G.Graph.size e.table) (g.G.Graph.places e.table)) c.estimates.view_is c.known-2.ensures) (c.args.from ∷ []);
+          costs = no_negative_cost value size places c.known.ensures (c.args.from ∷ []);
         };
-        estimate_answered = estimate_answered (estimate_at value given.estimates) (λ x w. tt) (λ x r t w k. (search rules, search rules));
-        admissible = consistent_admissible value given.estimates size places passes c.known.ensures (c.args.from ∷ []);
+        estimate_answered = estimate_answered estimate (λ x w. tt) (λ x r t w k. (search rules, search rules));
+        admissible = consistent_admissible value size places passes estimate c.consistent.ensures (c.args.from ∷ []);
       },
     )
 

@@ -1,6 +1,6 @@
 use Rattle.std.proofs.Common.{ℕ, ◌<◌}
-use Rattle.pf_table_estimates.specs.EstimatesInTables.{IsSoundAt}
-use Rattle.pf_table_estimates.proofs.checks.check_nodes.Given as goal
+use Rattle.pf_estimated_graphs.specs.EstimatesInTables.{IsSoundAt}
+use Rattle.pf_estimated_graphs.proofs.checks.check_nodes.Given as goal
 
 -- the estimates so far are sound
 abbrev pub invariant-loop-node : goal.invariant-loop-node

@@ -2,8 +2,8 @@
 
 ghost use Rattle.std.specs.Prelude.{◌≡◌, ◌⊎◌, ◌<◌, ◌≤ℤ◌, ◌<ℤ◌, ◌+ℤ◌, ℕ, pos, true, length, MatchBool, MatchResult};
 ghost use Rattle.pf_tables.specs.Graphs.{IsGraph};
-ghost use Rattle.pf_table_estimates.specs.EstimatesInTables.{IsSoundAt, FallsAt, IsFaultOfNode, IsFaultOfRow, IsFaultOfEdge, estimate_at};
-ghost use Rattle.pf_table_estimates.specs.declared.error.EstimateError.TheVariants.{NegativeEstimate, EstimateAtGoal};
+ghost use Rattle.pf_estimated_graphs.specs.EstimatesInTables.{IsSoundAt, FallsAt, IsFaultOfNode, IsFaultOfRow, IsFaultOfEdge, estimate_at};
+ghost use Rattle.pf_estimated_graphs.specs.declared.error.EstimateError.TheVariants.{NegativeEstimate, EstimateAtGoal};
 
 use crate::error::EstimateError;
 use pf_base::Cost;

@@ -1,10 +1,9 @@
 -- Estimates of the cost that remains from each node of a graph in a table to a goal.
-use Rattle.std.specs.Prelude.{◌≡◌, ◌⊎◌, ◌<◌, ◌≤ℤ◌, ◌<ℤ◌, ◌+ℤ◌, ℕ, ℤ, pos, Bool, true, List, [], ◌∷◌, Option, length, slice_get, nat_eq}
+use Rattle.std.specs.Prelude.{◌≡◌, ◌⊎◌, ◌<◌, ◌≤ℤ◌, ◌<ℤ◌, ◌+ℤ◌, ℕ, ℤ, pos, Bool, true, List, Option, length, slice_get}
 use Rattle.std.specs.Option.{option_map_or}
-use Rattle.pf_informed.specs.Estimates.{MayOverflow}
-use Rattle.pf_tables.specs.Graphs.{HasEdgeAt, graph_of}
-use Rattle.pf_table_estimates.specs.declared.error.EstimateError.{EstimateError}
-use Rattle.pf_table_estimates.specs.declared.error.EstimateError.TheVariants.{WrongNumberOfEstimates, NegativeEstimate, EstimateAtGoal, EstimateAboveEdge}
+use Rattle.pf_tables.specs.Graphs.{HasEdgeAt}
+use Rattle.pf_estimated_graphs.specs.declared.error.EstimateError.{EstimateError}
+use Rattle.pf_estimated_graphs.specs.declared.error.EstimateError.TheVariants.{WrongNumberOfEstimates, NegativeEstimate, EstimateAtGoal, EstimateAboveEdge}
 
 -- the estimate of a node as a whole number, and 0 where the list has none
 abbrev pub estimate_at : {C : Type 0} → (C → ℤ) → List C → ℕ → ℤ
@@ -59,7 +58,3 @@ module _ {C : Type 0} (value : C → ℤ) (size : ℕ) (places : ℕ → List (O
   abbrev pub IsFirstEstimateFault : EstimateError → Type 0
   IsFirstEstimateFault error = (¬ (length estimates ≡ size) × (error ≡ WrongNumberOfEstimates)) ⊎ ((length estimates ≡ size) × IsFaultOfNode value passes estimates error)
       ⊎ ((length estimates ≡ size) × ((node : ℕ) → node < size → IsSoundAt value passes estimates node) × IsFaultOfEdge value places estimates size error)
-
--- A cost overflow may come in a search from this node that these estimates lead: the cost of some path, in which no node stands twice, and the estimate of its last node do not fit together, and the cost of no walk to a goal fits.
-abbrev pub MayOverflowInTable : {C G T : Type 0} → (C → ℤ) → (G → ℕ) → (G → ℕ → List (Option (ℕ × C))) → (T → ℕ → Bool) → TableEstimates C G T → ℕ → (ℤ → Type 0) → Type 0
-MayOverflowInTable value size places passes given from fits = MayOverflow nat_eq (graph_of value (size given.table) (places given.table)) (from ∷ []) (passes given.goals) (estimate_at value given.estimates) fits

@@ -1,6 +1,6 @@
 use Rattle.std.proofs.Common.{ℕ, ◌<◌}
-use Rattle.pf_table_estimates.specs.EstimatesInTables.{FallsAt}
-use Rattle.pf_table_estimates.proofs.checks.check_row.Given as goal
+use Rattle.pf_estimated_graphs.specs.EstimatesInTables.{FallsAt}
+use Rattle.pf_estimated_graphs.proofs.checks.check_row.Given as goal
 
 -- the estimate is not above the edges so far
 abbrev pub invariant-loop-place : goal.invariant-loop-place

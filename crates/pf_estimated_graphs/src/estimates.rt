@@ -1,10 +1,11 @@
 //! Estimates of the cost that remains from each node of a graph in a table to a goal.
 
 ghost use Rattle.std.specs.Prelude.{◌≡◌, ℕ, IfOk, IfErr};
-ghost use Rattle.pf_table_estimates.specs.EstimatesInTables.{AreConsistent, IsFirstEstimateFault, estimate_at};
+ghost use Rattle.pf_estimated_graphs.specs.EstimatesInTables.{AreConsistent, IsFirstEstimateFault, estimate_at};
 
 use crate::checks::{check_edges, check_nodes};
 use crate::error::EstimateError;
+use crate::estimated_graph::EstimatedGraph;
 use pf_base::Cost;
 use pf_tables::{Goals, Graph};
 use std::marker::Model;
@@ -15,14 +16,14 @@ use std::marker::Model;
 /// A contract sees the table, the goals and the list of the estimates.
 #[derive(Drop)]
 pub struct Estimates<'a, C: Cost, G: Graph<C>, T: Goals + Copy> {
-    pub(crate) graph: &'a G,
-    pub(crate) goals: T,
+    graph: &'a G,
+    goals: T,
     estimates: &'a [C],
 }
 
 impl<'a, C: Cost, G: Graph<C>, T: Goals + Copy> Model for Estimates<'a, C, G, T> {
     ghost use Rattle.std.specs.Prelude.{◌≡◌};
-    ghost use Rattle.pf_table_estimates.specs.EstimatesInTables.{AreConsistent, TableEstimates};
+    ghost use Rattle.pf_estimated_graphs.specs.EstimatesInTables.{AreConsistent, TableEstimates};
 
     ghost Value = { TableEstimates C G T };
 
@@ -75,5 +76,47 @@ impl<'a, C: Cost, G: Graph<C>, T: Goals + Copy> Estimates<'a, C, G, T> {
         ensures { AreConsistent C.value (G.size self.now.table) (G.places self.now.table) (T.passes self.now.goals) self.now.estimates }
     {
         let _estimates = &self.estimates;
+    }
+}
+
+impl<'a, C: Cost, G: Graph<C>, T: Goals + Copy> Graph<C> for Estimates<'a, C, G, T> {
+    ghost size = { λ estimates. G.size estimates.table };
+
+    ghost places = { λ estimates. G.places estimates.table };
+
+    fn len(&self) -> usize {
+        self.graph.len()
+    }
+
+    fn places(&self, node: usize) -> usize {
+        self.graph.places(node)
+    }
+
+    fn edge(&self, node: usize, place: usize) -> Option<(usize, C)> {
+        self.graph.edge(node, place)
+    }
+
+    fn known(&self) {
+        self.graph.known();
+    }
+}
+
+impl<'a, C: Cost, G: Graph<C>, T: Goals + Copy> Goals for Estimates<'a, C, G, T> {
+    ghost passes = { λ estimates. T.passes estimates.goals };
+
+    fn is_goal(&self, node: usize) -> bool {
+        self.goals.is_goal(node)
+    }
+}
+
+impl<'a, C: Cost, G: Graph<C>, T: Goals + Copy> EstimatedGraph<C> for Estimates<'a, C, G, T> {
+    ghost estimates = { λ estimates. estimate_at C.value estimates.estimates };
+
+    fn estimate(&self, node: usize) -> C {
+        self.estimate(node)
+    }
+
+    fn consistent(&self) {
+        self.known();
     }
 }

@@ -1,6 +1,6 @@
 use Rattle.std.proofs.Common.{ℕ, ◌<◌}
-use Rattle.pf_table_estimates.specs.EstimatesInTables.{FallsAt}
-use Rattle.pf_table_estimates.proofs.checks.check_edges.Given as goal
+use Rattle.pf_estimated_graphs.specs.EstimatesInTables.{FallsAt}
+use Rattle.pf_estimated_graphs.proofs.checks.check_edges.Given as goal
 
 -- the estimates of the nodes so far are not above their edges
 abbrev pub invariant-loop-node : goal.invariant-loop-node

@@ -1,10 +1,10 @@
-use Rattle.std.proofs.Common.{arith, refl, ap, sym, subst, ◌∙◌, ◌<◌, ◌≡◌, ℕ, Some, length}
-use Rattle.std.specs.Prelude.{◌≤ℤ◌, ◌<ℤ◌, ◌+ℤ◌}
+use Rattle.std.proofs.Common.{arith, refl, ap, subst, ◌∙◌, ◌≡◌, Some, length}
+use Rattle.std.specs.Prelude.{◌≤ℤ◌, ◌+ℤ◌}
 use Rattle.std.proofs.lemmas.Option.{slice_get_read, slice_get_within}
-use Rattle.pf_table_estimates.specs.EstimatesInTables.{FallsAt, estimate_at}
-use Rattle.pf_table_estimates.proofs.EstimateLemmas.{above, estimate_is, falls_there, not_above, one_more}
-use Rattle.pf_table_estimates.proofs.checks.check_row.Goals as goal
-use Rattle.pf_table_estimates.proofs.checks.check_row.Goals.{in_default-via-in-None-1, in_default-via-in-Some+else-exceeds}
+use Rattle.pf_estimated_graphs.specs.EstimatesInTables.{FallsAt, estimate_at}
+use Rattle.pf_estimated_graphs.proofs.EstimateLemmas.{above, estimate_is, falls_there, not_above, one_more}
+use Rattle.pf_estimated_graphs.proofs.checks.check_row.Goals as goal
+use Rattle.pf_estimated_graphs.proofs.checks.check_row.Goals.{in_default-via-in-None-1, in_default-via-in-Some+else-exceeds}
 
 pub returns-in-loop-place : goal.returns-in-loop-place
 returns-in-loop-place g c =

@@ -1,0 +1,3 @@
+mod BoardEstimateLemmas
+mod EstimateLemmas
+mod ProductLemmas

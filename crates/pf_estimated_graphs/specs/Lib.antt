@@ -1,0 +1,3 @@
+pub mod EstimatedGraphs
+pub mod EstimatesInTables
+pub mod EstimatesOnBoards
