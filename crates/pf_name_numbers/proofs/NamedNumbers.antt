@@ -1,16 +1,14 @@
 -- The numbers of the names of a list and of one more name: the graph over them is the graph over the names.
-use Rattle.std.proofs.Common.{rules, ◌≡◌, inl, inr, ◌⊎◌, ℕ, ◌<◌, ◌≤◌, ℤ, nat_eq, refl, sym, subst, ◌∙◌, ap, arith, Bool, true, false, true≢false, List, [], ◌∷◌, ◌++◌, length, map, if◌then◌else◌, slice_get, get_or}
-use Rattle.std.specs.Prelude.{Some, None, Option, MatchOption}
+use Rattle.std.proofs.Common.{rules, ◌≡◌, inl, inr, ◌⊎◌, ℕ, ℤ, nat_eq, sym, subst, ◌∙◌, ap, arith, Bool, true, false, true≢false, List, [], ◌∷◌, ◌++◌, length, map, if◌then◌else◌, slice_get, get_or}
+use Rattle.std.specs.Prelude.{Some}
 use Rattle.std.specs.Cmp.{IsEquivalence}
 use Rattle.std.specs.List.{AllZip, list_any}
-use Rattle.std.specs.Option.{option_map_or}
 use Rattle.std.proofs.lemmas.List.{get_or_past}
-use Rattle.std.proofs.lemmas.Option.{get_or_from_slice_get, slice_get_within}
+use Rattle.std.proofs.lemmas.Option.{get_or_from_slice_get}
 use Rattle.pf_base.specs.Walks.{HasNode, NoRepeats}
-use Rattle.pf_base.proofs.ListLemmas.{bool_dec, get-append, get_at_end, get_pushed, get_within}
+use Rattle.pf_base.proofs.ListLemmas.{bool_dec, get-append, get_at_end, get_pushed}
 use Rattle.pf_core.specs.Nodes.{StandsFor}
-use Rattle.pf_core.specs.NodeLaws.{StandsFor-inside}
-use Rattle.pf_core.proofs.NodeLemmas.{eq-sym, eq-trans}
+use Rattle.pf_core.proofs.NodeLemmas.{eq-trans}
 use Rattle.pf_core.proofs.PathLemmas.{AllZip-map}
 use Rattle.pf_tables.specs.Graphs.{graph_of, successors_of}
 use Rattle.pf_tables.proofs.GraphLemmas.{edges_outside}

@@ -2,5 +2,6 @@
 //! the list, and the names that are read back for them.
 #![tactic(auto)]
 
+pub mod listed;
 pub mod names;
 pub mod numbers;

@@ -10,11 +10,7 @@ use std::alloc::Allocator;
 use std::hash::Hash;
 
 /// The name of a number, or the name that was handed in where the list has no such number.
-pub fn name_or<'p, 'e, N, C, A>(
-    list: &EdgeList<'e, N, C, A>,
-    other: &'p N,
-    number: usize,
-) -> &'p N
+pub fn name_or<'p, 'e, N, C, A>(list: &EdgeList<'e, N, C, A>, other: &'p N, number: usize) -> &'p N
 where
     'e: 'p,
     N: Eq + Hash,

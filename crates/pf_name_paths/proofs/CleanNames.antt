@@ -1,13 +1,13 @@
 -- Clean paths over numbers and over the names that they stand for.
-use Rattle.std.proofs.Common.{◌≡◌, inl, inr, ℕ, ℤ, nat_eq, eq-eqb, refl, sym, subst, ◌∙◌, Bool, true, false, List, [], ◌∷◌}
+use Rattle.std.proofs.Common.{◌≡◌, ℕ, ℤ, nat_eq, sym, subst, ◌∙◌, Bool, false, List, [], ◌∷◌}
 use Rattle.std.specs.Prelude.{All}
 use Rattle.std.specs.Cmp.{IsEquivalence}
 use Rattle.std.specs.List.{AllZip}
 use Rattle.std.proofs.lemmas.List.Elements.{All-nil, All-cons, All-head, All-tail}
-use Rattle.pf_base.specs.Walks.{HasNode, NoRepeats, end_of}
+use Rattle.pf_base.specs.Walks.{NoRepeats, end_of}
 use Rattle.pf_base.specs.Edges.{IsSuccessor}
 use Rattle.pf_base.specs.Answers.{SameNodes}
-use Rattle.pf_edge_lists.proofs.NameWalks.{IsCarried, Stands, SameEdges, carried_edges, costs_out, end_stands, follows_named, follows_out, goal_back, goal_named, node_out, path_out, repeats_out, starts, step_out, test_stands}
+use Rattle.pf_edge_lists.proofs.NameWalks.{IsCarried, Stands, SameEdges, carried_edges, costs_out, end_stands, follows_named, follows_out, goal_back, goal_named, node_out, path_out, repeats_out, step_out, test_stands}
 use Rattle.pf_yen.specs.CleanPaths.{FailsBeforeEnd, PassesAtEndAlone, IsCleanPath, PathOverflows}
 use borrow.Author.Tests.{eqb-true}
 

@@ -1,5 +1,5 @@
 -- The cheapest clean paths over numbers and over the names that they stand for.
-use Rattle.std.proofs.Common.{◌≡◌, ℕ, zero, suc, ◌<◌, ◌≤◌, ℤ, nat_eq, Bool, List, [], ◌∷◌, length, map, refl, sym, ap, ◌∙◌, subst, inl, inr, arith}
+use Rattle.std.proofs.Common.{◌≡◌, ℕ, zero, suc, ◌<◌, ◌≤◌, ℤ, nat_eq, Bool, List, [], ◌∷◌, map, refl, sym, ap, ◌∙◌, subst, inl, inr, arith}
 use Rattle.std.specs.Prelude.{◌≤ℤ◌, Contains, Some, slice_get}
 use Rattle.std.specs.Cmp.{IsEquivalence}
 use Rattle.std.specs.List.{AllZip}
@@ -11,7 +11,7 @@ use Rattle.pf_base.specs.Answers.{SameNodes}
 use Rattle.pf_edge_lists.proofs.NameWalks.{Stands, SameEdges, costs_back, costs_out}
 use Rattle.pf_yen.specs.CleanPaths.{IsCleanPath, WasGiven}
 use Rattle.pf_yen.specs.KCheapest.{MayComeBefore, IsKCheapest}
-use Rattle.pf_name_paths.proofs.CleanNames.{CleanM, CleanN, clean_back, clean_named, clean_out, same_back, same_out}
+use Rattle.pf_name_paths.proofs.CleanNames.{clean_back, clean_named, clean_out, same_back, same_out}
 
 pub mapped_in : {A B : Type 0} (f : A → B) (xs : List A) (x : A) → Contains xs x → Contains (map f xs) (f x)
 mapped_in f xs x c = (c.0, subst (λ (n : ℕ). c.0 < n) (sym (length-map xs f)) c.1, get_or-map f xs c.0 x (f x) c.1 ∙ ap f c.2)
