@@ -1,8 +1,8 @@
 -- The names of a list alone, and their numbers.
-use Rattle.std.proofs.Common.{inl, inr, ℕ, zero, suc, ◌+◌, ◌<◌, ◌≤◌, nat_eq, eq-eqb, sym, subst, arith, Bool, List, [], ◌∷◌, length, slice_get}
+use Rattle.std.proofs.Common.{◌≡◌, inl, inr, ℕ, zero, suc, ◌+◌, ◌<◌, ◌≤◌, nat_eq, eq-eqb, sym, subst, arith, Bool, List, [], ◌∷◌, ◌++◌, length, slice_get, ap, ◌∙◌, refl}
 use Rattle.std.specs.Cmp.{IsEquivalence}
 use Rattle.std.specs.List.{AllZip, cons_option, filter_map, range_with_len}
-use Rattle.pf_base.specs.Walks.{HasNode}
+use Rattle.pf_base.specs.Walks.{HasNode, NoRepeats}
 use Rattle.pf_base.proofs.ListLemmas.{get_within, nat_dec}
 use Rattle.pf_core.specs.NodeLaws.{StandsFor-inside}
 use Rattle.pf_edge_lists.specs.EdgeLists.{NamesAndEdges, mentions_of, names_of}
@@ -30,6 +30,23 @@ in_range n k h = in_from 0 n k (omega arith) (omega (arith, h))
 
 pub range_within : (n k : ℕ) → HasNode nat_eq (range_with_len 0 n) k → k < n
 range_within n k h = let l = from_within 0 n k h in omega (arith, l)
+
+-- one number more
+pushed : (a n m : ℕ) → m ≡ a + n → range_with_len a (suc n) ≡ range_with_len a n ++ m ∷ []
+pushed a zero m e = ap (λ (x : ℕ). x ∷ []) (let f : a ≡ m = omega (arith, e) in f)
+pushed a (suc n) m e = ap (λ xs. a ∷ xs) (pushed (a + 1) n m (omega (arith, e)))
+
+pub range_pushed : (n : ℕ) → range_with_len 0 (n + 1) ≡ range_with_len 0 n ++ n ∷ []
+range_pushed n = ap (range_with_len 0) (let f : n + 1 ≡ suc n = omega arith in f) ∙ pushed 0 n n (omega arith)
+
+pub range_apart : (a n : ℕ) → NoRepeats nat_eq (range_with_len a n)
+range_apart a zero = tt
+range_apart a (suc n) = ((λ h. below (a + 1) n a (omega arith) h), range_apart (a + 1) n)
+  where
+    below : (b m k : ℕ) → k < b → HasNode nat_eq (range_with_len b m) k → ⊥
+    below b zero k l h = h
+    below b (suc m) k l (inl e) = let s = eqb-true b k e in absurd (omega (arith, l, s))
+    below b (suc m) k l (inr h) = below (b + 1) m k (omega (arith, l)) h
 
 module _ {N C : Type 0} {eq : N → N → Bool} (laws : IsEquivalence eq) (list : NamesAndEdges N C) where
   abbrev pub Listed : ℕ → N → Type 0

@@ -1,5 +1,5 @@
 -- Reach and loops over numbers and over the names that they stand for.
-use Rattle.std.proofs.Common.{◌≡◌, inl, inr, ℕ, nat_eq, eq-eqb, refl, sym, subst, ◌∙◌, Bool, List, [], ◌∷◌}
+use Rattle.std.proofs.Common.{true, ◌≡◌, inl, inr, ℕ, nat_eq, eq-eqb, refl, sym, subst, ◌∙◌, Bool, List, [], ◌∷◌}
 use Rattle.std.specs.Cmp.{IsEquivalence}
 use Rattle.std.specs.List.{AllZip}
 use Rattle.pf_base.specs.Walks.{HasNode, NoRepeats, IsGoalWalk, IsReachable, end_of}
@@ -10,6 +10,10 @@ use borrow.Author.Tests.{eqb-true}
 module _ {N : Type 0} {eq : N → N → Bool} (laws : IsEquivalence eq) (names : List N) (distinct : NoRepeats eq names) where
   abbrev pub Zip : List ℕ → List N → Type 0
   Zip = AllZip (Stands laws names)
+
+  -- a number stands for equal names
+  pub stands_same : (k : ℕ) (x y : N) → Stands laws names k x → eq x y ≡ true → Stands laws names k y
+  stands_same k x y = StandsFor-same eq laws names k x y
 
   -- the starts of one are the names of the starts of the other
   pub record SameStarts (startsM : List ℕ) (startsN : List N) : Type 0 where
