@@ -47,7 +47,7 @@ module _ {N : Type 0} {eq : N → N → Bool} (laws : IsEquivalence eq) (names :
     pub numbered : (a : ℕ) (x y : N) → Stands a x → stepN x y → (b : ℕ) × Stands b y
 
   module _ (distinct : NoRepeats eq names) where
-    one : (i j : ℕ) (x : N) → Stands i x → Stands j x → i ≡ j
+    pub one : (i j : ℕ) (x : N) → Stands i x → Stands j x → i ≡ j
     one i j x a b = sym (number_is laws names i a.0 x distinct a.1 a.2) ∙ number_is laws names j b.0 x distinct b.1 b.2
 
     -- a test for one number is the test for its name
@@ -60,21 +60,21 @@ module _ {N : Type 0} {eq : N → N → Bool} (laws : IsEquivalence eq) (names :
       ]
     ]
 
-    node_back : (w : List ℕ) (v : List N) (k : ℕ) (x : N) → AllZip Stands w v → Stands k x → HasNode eq v x → HasNode nat_eq w k
+    pub node_back : (w : List ℕ) (v : List N) (k : ℕ) (x : N) → AllZip Stands w v → Stands k x → HasNode eq v x → HasNode nat_eq w k
     node_back [] [] k x z s h = h
     node_back [] (y ∷ v) k x z s h = absurd z
     node_back (j ∷ w) [] k x z s h = absurd z
     node_back (j ∷ w) (y ∷ v) k x z s (inl e) = inl (test_stands k x s j y z.0 ∙ e)
     node_back (j ∷ w) (y ∷ v) k x z s (inr h) = inr (node_back w v k x z.1 s h)
 
-    node_out : (w : List ℕ) (v : List N) (k : ℕ) (x : N) → AllZip Stands w v → Stands k x → HasNode nat_eq w k → HasNode eq v x
+    pub node_out : (w : List ℕ) (v : List N) (k : ℕ) (x : N) → AllZip Stands w v → Stands k x → HasNode nat_eq w k → HasNode eq v x
     node_out [] [] k x z s h = h
     node_out [] (y ∷ v) k x z s h = absurd z
     node_out (j ∷ w) [] k x z s h = absurd z
     node_out (j ∷ w) (y ∷ v) k x z s (inl e) = inl (sym (test_stands k x s j y z.0) ∙ e)
     node_out (j ∷ w) (y ∷ v) k x z s (inr h) = inr (node_out w v k x z.1 s h)
 
-    repeats_out : (w : List ℕ) (v : List N) → AllZip Stands w v → NoRepeats nat_eq w → NoRepeats eq v
+    pub repeats_out : (w : List ℕ) (v : List N) → AllZip Stands w v → NoRepeats nat_eq w → NoRepeats eq v
     repeats_out [] [] z n = tt
     repeats_out [] (y ∷ v) z n = absurd z
     repeats_out (j ∷ w) [] z n = absurd z
@@ -83,21 +83,21 @@ module _ {N : Type 0} {eq : N → N → Bool} (laws : IsEquivalence eq) (names :
     -- ---- walks
 
     module _ (stepM : ℕ → ℕ → Type 0) (stepN : N → N → Type 0) (c : IsCarried stepM stepN) where
-      follows_out : (a : ℕ) (x : N) (w : List ℕ) (v : List N) → Stands a x → AllZip Stands w v → Follows stepM a w → Follows stepN x v
+      pub follows_out : (a : ℕ) (x : N) (w : List ℕ) (v : List N) → Stands a x → AllZip Stands w v → Follows stepM a w → Follows stepN x v
       follows_out a x [] [] s z f = tt
       follows_out a x [] (y ∷ v) s z f = absurd z
       follows_out a x (b ∷ w) [] s z f = absurd z
       follows_out a x (b ∷ w) (y ∷ v) s z f = (c.out a b x y s z.0 f.0, follows_out b y w v z.0 z.1 f.1)
 
       -- the names of a walk, and its numbers
-      follows_named : (a : ℕ) (x : N) (w : List ℕ) → Stands a x → Follows stepM a w → (v : List N) × AllZip Stands w v
+      pub follows_named : (a : ℕ) (x : N) (w : List ℕ) → Stands a x → Follows stepM a w → (v : List N) × AllZip Stands w v
       follows_named a x [] s f = ([], tt)
       follows_named a x (b ∷ w) s f =
           let y = c.named a b x s f.0 in
           let r = follows_named b y.0 w y.1 f.1 in
           (y.0 ∷ r.0, (y.1, r.1))
 
-      follows_back : (a : ℕ) (x : N) (v : List N) → Stands a x → Follows stepN x v → (w : List ℕ) × AllZip Stands w v × Follows stepM a w
+      pub follows_back : (a : ℕ) (x : N) (v : List N) → Stands a x → Follows stepN x v → (w : List ℕ) × AllZip Stands w v × Follows stepM a w
       follows_back a x [] s f = ([], tt, tt)
       follows_back a x (y ∷ v) s f =
           let b = c.numbered a x y s f.0 in
@@ -105,10 +105,10 @@ module _ {N : Type 0} {eq : N → N → Bool} (laws : IsEquivalence eq) (names :
           (b.0 ∷ r.0, (b.1, r.1), (c.back a b.0 x y s b.1 f.0, r.2))
 
       module _ (start : ℕ) (from : N) (begins : Stands start from) where
-        starts : (a : ℕ) (x : N) → Stands a x → HasNode nat_eq (start ∷ []) a → HasNode eq (from ∷ []) x
+        pub starts : (a : ℕ) (x : N) → Stands a x → HasNode nat_eq (start ∷ []) a → HasNode eq (from ∷ []) x
         starts a x s h = node_out (start ∷ []) (from ∷ []) a x (begins, tt) s h
 
-        starts_at : (x : N) → HasNode eq (from ∷ []) x → Stands start x
+        pub starts_at : (x : N) → HasNode eq (from ∷ []) x → Stands start x
         starts_at x (inl e) = StandsFor-same eq laws names start from x begins e
         starts_at x (inr h) = absurd h
 
@@ -135,7 +135,7 @@ module _ {N : Type 0} {eq : N → N → Bool} (laws : IsEquivalence eq) (names :
             by b (inr h) = absurd h
 
         module _ (testM : ℕ → Bool) (testN : N → Bool) (tests : (k : ℕ) (x : N) → Stands k x → testM k ≡ testN x) where
-          goal_out : (w : List ℕ) (v : List N) → AllZip Stands w v → IsGoalWalk nat_eq stepM (start ∷ []) testM w → IsGoalWalk eq stepN (from ∷ []) testN v
+          pub goal_out : (w : List ℕ) (v : List N) → AllZip Stands w v → IsGoalWalk nat_eq stepM (start ∷ []) testM w → IsGoalWalk eq stepN (from ∷ []) testN v
           goal_out [] v z g = absurd g.walks
           goal_out (a ∷ w) [] z g = absurd z
           goal_out (a ∷ w) (x ∷ v) z g = record {
@@ -144,7 +144,7 @@ module _ {N : Type 0} {eq : N → N → Bool} (laws : IsEquivalence eq) (names :
             ends = sym (tests (end_of a w) (end_of x v) (end_stands a x w v z.0 z.1)) ∙ g.ends;
           }
 
-          goal_back : (v : List N) → IsGoalWalk eq stepN (from ∷ []) testN v → (w : List ℕ) × AllZip Stands w v × IsGoalWalk nat_eq stepM (start ∷ []) testM w
+          pub goal_back : (v : List N) → IsGoalWalk eq stepN (from ∷ []) testN v → (w : List ℕ) × AllZip Stands w v × IsGoalWalk nat_eq stepM (start ∷ []) testM w
           goal_back [] g = absurd g.walks
           goal_back (x ∷ v) g =
               let s = starts_at x g.begins in
@@ -158,7 +158,7 @@ module _ {N : Type 0} {eq : N → N → Bool} (laws : IsEquivalence eq) (names :
                 },
               )
 
-          path_out : (w : List ℕ) (v : List N) → AllZip Stands w v → IsGoalPath nat_eq stepM (start ∷ []) testM w → IsGoalPath eq stepN (from ∷ []) testN v
+          pub path_out : (w : List ℕ) (v : List N) → AllZip Stands w v → IsGoalPath nat_eq stepM (start ∷ []) testM w → IsGoalPath eq stepN (from ∷ []) testN v
           path_out w v z p = record { goes = goal_out w v z p.goes; distinct = repeats_out w v z p.distinct }
 
           pub none_out : HasNoGoalWalk nat_eq stepM (start ∷ []) testM → HasNoGoalWalk eq stepN (from ∷ []) testN
@@ -170,14 +170,14 @@ module _ {N : Type 0} {eq : N → N → Bool} (laws : IsEquivalence eq) (names :
     abbrev pub SameEdges : List (ℕ × ℤ) → List (N × ℤ) → Type 0
     SameEdges = AllZip (λ (e : ℕ × ℤ) (f : N × ℤ). Stands e.0 f.0 × (e.1 ≡ f.1))
 
-    edge_out : (es : List (ℕ × ℤ)) (fs : List (N × ℤ)) (b : ℕ) (y : N) (z : ℤ) → SameEdges es fs → Stands b y → HasEdge nat_eq es b z → HasEdge eq fs y z
+    pub edge_out : (es : List (ℕ × ℤ)) (fs : List (N × ℤ)) (b : ℕ) (y : N) (z : ℤ) → SameEdges es fs → Stands b y → HasEdge nat_eq es b z → HasEdge eq fs y z
     edge_out [] [] b y z a s h = h
     edge_out [] (f ∷ fs) b y z a s h = absurd a
     edge_out (e ∷ es) [] b y z a s h = absurd a
     edge_out (e ∷ es) (f ∷ fs) b y z a s (inl h) = inl (sym (test_stands b y s e.0 f.0 a.0.0) ∙ h.0, sym a.0.1 ∙ h.1)
     edge_out (e ∷ es) (f ∷ fs) b y z a s (inr h) = inr (edge_out es fs b y z a.1 s h)
 
-    edge_back : (es : List (ℕ × ℤ)) (fs : List (N × ℤ)) (b : ℕ) (y : N) (z : ℤ) → SameEdges es fs → Stands b y → HasEdge eq fs y z → HasEdge nat_eq es b z
+    pub edge_back : (es : List (ℕ × ℤ)) (fs : List (N × ℤ)) (b : ℕ) (y : N) (z : ℤ) → SameEdges es fs → Stands b y → HasEdge eq fs y z → HasEdge nat_eq es b z
     edge_back [] [] b y z a s h = h
     edge_back [] (f ∷ fs) b y z a s h = absurd a
     edge_back (e ∷ es) [] b y z a s h = absurd a
@@ -236,13 +236,13 @@ module _ {N : Type 0} {eq : N → N → Bool} (laws : IsEquivalence eq) (names :
         numbered = λ a x y s h. number_of_name _ _ y (ends_zip (edgesM a) (edgesN x) (alike a x s)) (node_of_edge eq (edgesN x) y h.0 h.1);
       }
 
-      step_out : (a b : ℕ) (x y : N) (z : ℤ) → Stands a x → Stands b y → StepCosts nat_eq edgesM a b z → StepCosts eq edgesN x y z
+      pub step_out : (a b : ℕ) (x y : N) (z : ℤ) → Stands a x → Stands b y → StepCosts nat_eq edgesM a b z → StepCosts eq edgesN x y z
       step_out a b x y z s t c = record {
         edge = edge_out (edgesM a) (edgesN x) b y z (alike a x s) t c.edge;
         cheapest = λ u h. c.cheapest u (edge_back (edgesM a) (edgesN x) b y u (alike a x s) t h);
       }
 
-      step_back : (a b : ℕ) (x y : N) (z : ℤ) → Stands a x → Stands b y → StepCosts eq edgesN x y z → StepCosts nat_eq edgesM a b z
+      pub step_back : (a b : ℕ) (x y : N) (z : ℤ) → Stands a x → Stands b y → StepCosts eq edgesN x y z → StepCosts nat_eq edgesM a b z
       step_back a b x y z s t c = record {
         edge = edge_back (edgesM a) (edgesN x) b y z (alike a x s) t c.edge;
         cheapest = λ u h. c.cheapest u (edge_out (edgesM a) (edgesN x) b y u (alike a x s) t h);
@@ -260,13 +260,13 @@ module _ {N : Type 0} {eq : N → N → Bool} (laws : IsEquivalence eq) (names :
       steps_back a x (b ∷ w) [] t s z c = absurd z
       steps_back a x (b ∷ w) (y ∷ v) t s z c = (c.0, c.1, step_back a b x y c.0 s z.0 c.2, steps_back b y w v c.1 z.0 z.1 c.3, c.4)
 
-      costs_out : (w : List ℕ) (v : List N) (t : ℤ) → AllZip Stands w v → WalkCosts nat_eq edgesM w t → WalkCosts eq edgesN v t
+      pub costs_out : (w : List ℕ) (v : List N) (t : ℤ) → AllZip Stands w v → WalkCosts nat_eq edgesM w t → WalkCosts eq edgesN v t
       costs_out [] [] t z c = c
       costs_out [] (y ∷ v) t z c = absurd z
       costs_out (a ∷ w) [] t z c = absurd z
       costs_out (a ∷ w) (x ∷ v) t z c = steps_out a x w v t z.0 z.1 c
 
-      costs_back : (w : List ℕ) (v : List N) (t : ℤ) → AllZip Stands w v → WalkCosts eq edgesN v t → WalkCosts nat_eq edgesM w t
+      pub costs_back : (w : List ℕ) (v : List N) (t : ℤ) → AllZip Stands w v → WalkCosts eq edgesN v t → WalkCosts nat_eq edgesM w t
       costs_back [] [] t z c = c
       costs_back [] (y ∷ v) t z c = absurd z
       costs_back (a ∷ w) [] t z c = absurd z
@@ -274,7 +274,7 @@ module _ {N : Type 0} {eq : N → N → Bool} (laws : IsEquivalence eq) (names :
 
       module _ (start : ℕ) (from : N) (begins : Stands start from) where
         module _ (testM : ℕ → Bool) (testN : N → Bool) (tests : (k : ℕ) (x : N) → Stands k x → testM k ≡ testN x) where
-          least_out : (t : ℤ) → NoGoalWalkCostsLess nat_eq edgesM (start ∷ []) testM t → NoGoalWalkCostsLess eq edgesN (from ∷ []) testN t
+          pub least_out : (t : ℤ) → NoGoalWalkCostsLess nat_eq edgesM (start ∷ []) testM t → NoGoalWalkCostsLess eq edgesN (from ∷ []) testN t
           least_out t least v u g c =
               let r = goal_back _ _ carried_edges start from begins testM testN tests v g in
               least r.0 u r.2 (costs_back r.0 v u r.1 c)

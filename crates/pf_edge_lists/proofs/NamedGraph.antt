@@ -24,7 +24,7 @@ module _ {N C : Type 0} {eq : N → N → Bool} (laws : IsEquivalence eq) (value
   numbered_same [] h = tt
   numbered_same (e ∷ es) h = ((number_stands laws (names_of eq list) e.0 (h 0 e refl), refl), numbered_same es (λ k t s. h (suc k) t s))
 
-  targets_same : (es : List (N × C)) → map (λ (f : N × ℤ). f.0) (map (λ (e : N × C). (e.0, value e.1)) es) ≡ map (λ (e : N × C). e.0) es
+  pub targets_same : (es : List (N × C)) → map (λ (f : N × ℤ). f.0) (map (λ (e : N × C). (e.0, value e.1)) es) ≡ map (λ (e : N × C). e.0) es
   targets_same [] = refl
   targets_same (e ∷ es) = ap (λ xs. e.0 ∷ xs) (targets_same es)
 

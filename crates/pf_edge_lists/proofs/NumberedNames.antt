@@ -228,12 +228,12 @@ module _ {N : Type 0} {eq : N → N → Bool} (laws : IsEquivalence eq) where
 
   -- ---- no name is listed twice
 
-  any_of_node : (names : List N) (x : N) → HasNode eq names x → list_any (eq x) names ≡ true
+  pub any_of_node : (names : List N) (x : N) → HasNode eq names x → list_any (eq x) names ≡ true
   any_of_node [] x h = absurd h
   any_of_node (z ∷ names) x (inl e) = ap (λ b. b || list_any (eq x) names) (laws.symm x z ∙ e)
   any_of_node (z ∷ names) x (inr h) = or_true (eq x z) (list_any (eq x) names) (any_of_node names x h)
 
-  one_apart : (names : List N) (x : N) → NoRepeats eq names → NoRepeats eq (insert_key eq names x)
+  pub one_apart : (names : List N) (x : N) → NoRepeats eq names → NoRepeats eq (insert_key eq names x)
   one_apart names x d = by (list_any (eq x) names) refl
     where
       by : (b : Bool) → list_any (eq x) names ≡ b → NoRepeats eq (if b then names else names ++ x ∷ [])

@@ -1,0 +1,4 @@
+pub mod NamedNumbers
+pub mod NameReach
+pub mod ListedNames
+pub mod NameLoops

@@ -1,0 +1,4 @@
+pub mod OrderNames
+pub mod GroupNames
+pub mod ComponentNames
+pub mod ByName

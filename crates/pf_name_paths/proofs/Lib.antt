@@ -1,0 +1,2 @@
+pub mod CleanNames
+pub mod RankedNames

@@ -1,0 +1,2 @@
+pub mod ParentNames
+pub mod MapByName
