@@ -2,7 +2,9 @@
 #![tactic(auto)]
 
 use pf_edge_lists::EdgeList;
-use pf_table_orders::topological_sort_into_groups;
+use pf_name_orders::{
+    strongly_connected_component, topological_sort, topological_sort_into_groups,
+};
 
 /// All steps. Nothing needs `notes`, and it needs nothing.
 const STEPS: &[&str] = &["fetch", "parse", "link", "test", "pack", "notes"];
@@ -25,38 +27,34 @@ const RING: &[(&str, &str, u32)] = &[
 ];
 
 /// Prints steps in a line.
-fn print_steps(
-    rt: &HostRuntime,
-    head: &str,
-    plan: &EdgeList<'_, &str, u32>,
-    steps: &[usize],
-) -> Result<(), anyhow::Error> {
+fn print_steps(rt: &HostRuntime, head: &str, steps: &[&&str]) -> Result<(), anyhow::Error> {
     print!(rt; "{head}:")?;
     for step in steps {
-        if let Some(name) = plan.name_of(*step) {
-            print!(rt; " {name}")?;
-        }
+        print!(rt; " {step}")?;
     }
     Ok(rt.println("")?)
 }
 
 /// Prints the rounds of a plan, and behind them the steps that no round has, since a ring leads to
-/// them.
+/// them, and those that one ring of steps has.
 fn print_plan(rt: &HostRuntime, plan: &EdgeList<'_, &str, u32>) -> Result<(), anyhow::Error> {
     let alloc = rt.alloc();
-    let mut steps = Vec::new(alloc);
-    for step in 0..plan.len() {
-        steps.push(step)?;
-    }
-    let (rounds, ringed) = match topological_sort_into_groups(alloc, plan, &steps)? {
+    let (rounds, ringed) = match topological_sort_into_groups(alloc, plan)? {
         Ok(rounds) => (rounds, Vec::new(alloc)),
         Err(both) => both,
     };
     for round in &rounds {
-        print_steps(rt, "round", plan, round)?;
+        print_steps(rt, "round", round)?;
     }
     if !ringed.is_empty() {
-        print_steps(rt, "never", plan, &ringed)?;
+        print_steps(rt, "never", &ringed)?;
+    }
+    if let Err(step) = topological_sort(alloc, plan)? {
+        print_steps(
+            rt,
+            "ring",
+            &strongly_connected_component(alloc, plan, step)?,
+        )?;
     }
     Ok(())
 }

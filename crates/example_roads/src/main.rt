@@ -2,7 +2,7 @@
 #![tactic(auto)]
 
 use pf_edge_lists::EdgeList;
-use pf_table_paths::yen;
+use pf_name_paths::yen;
 
 /// Roads, each from one place to another, and what it costs to take it.
 const ROADS: &[(&str, &str, u32)] = &[
@@ -17,22 +17,17 @@ const ROADS: &[(&str, &str, u32)] = &[
 
 /// Prints the `k` cheapest ways from one place to another, each with what it costs and the places on
 /// it.
-fn print_ways<'n>(
+fn print_ways(
     rt: &HostRuntime,
-    map: &EdgeList<'_, &'n str, u32>,
-    from: &'n str,
-    to: &'n str,
+    map: &EdgeList<'_, &str, u32>,
+    from: &str,
+    to: &str,
     k: usize,
 ) -> Result<(), anyhow::Error> {
-    let (Some(from), Some(to)) = (map.number_of(&from), map.number_of(&to)) else {
-        return Ok(rt.println("no such place")?);
-    };
-    for (places, cost) in yen(rt.alloc(), map, from, to, k)? {
+    for (places, cost) in yen(rt.alloc(), map, &from, &to, k)? {
         print!(rt; "{cost}:")?;
-        for place in &places {
-            if let Some(name) = map.name_of(*place) {
-                print!(rt; " {name}")?;
-            }
+        for place in places {
+            print!(rt; " {place}")?;
         }
         rt.println("")?;
     }

@@ -37,7 +37,14 @@ pub use Rattle.pf_tables.specs.Faults
 pub use Rattle.pf_tables.specs.Offsets
 pub use Rattle.pf_boards.specs.Boards
 pub use Rattle.pf_tables.specs.Goals
+pub use Rattle.pf_adjacency.specs.NumberedEdges
+pub use Rattle.pf_adjacency.specs.EdgeFaults
+pub use Rattle.pf_adjacency.specs.Reverses
 pub use Rattle.pf_edge_lists.specs.EdgeLists
+pub use Rattle.pf_name_numbers.specs.Numbered
+pub use Rattle.pf_name_orders.specs.NameGroups
+pub use Rattle.pf_name_paths.specs.NamedPaths
+pub use Rattle.pf_name_searches.specs.NameParents
 pub use Rattle.pf_table_searches.specs.TableWalks
 pub use Rattle.pf_table_paths.specs.RankedWalks
 pub use Rattle.pf_state_paths.specs.RankedStateWalks

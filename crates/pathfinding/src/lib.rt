@@ -7,6 +7,7 @@ pub mod graphs;
 pub mod grid;
 mod macros;
 pub mod matrix;
+pub mod names;
 pub mod prelude;
 pub mod states;
 pub mod undirected;

@@ -1,7 +1,8 @@
-//! All that the crate exports, but what `states` holds, the searches of `graphs` and the types of its lazy
-//! walks, whose names are those of the searches on graphs that functions answer.
+//! All that the crate exports, but what `states` and `names` hold, the searches of `graphs` and the types of
+//! its lazy walks, whose names are those of the searches on graphs that functions answer.
 
 pub use crate::graphs;
+pub use crate::names;
 pub use crate::routes;
 pub use crate::states;
 pub use pf_adjacency::AdjacencyError;

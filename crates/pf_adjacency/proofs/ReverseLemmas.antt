@@ -11,7 +11,7 @@ use Rattle.pf_tables.specs.Graphs.{IsGraph, between, edges_at, filled, graph_of,
 use Rattle.pf_tables.proofs.Faulty.{some_same}
 use Rattle.pf_tables.proofs.GraphLemmas.{edge_inside, edges_within, listed}
 use Rattle.pf_tables.proofs.PresentLemmas.{present_more, present_same}
-use Rattle.pf_adjacency.specs.Edges.{AreSoundEdges, IsSoundEdge, ends_from}
+use Rattle.pf_adjacency.specs.NumberedEdges.{AreSoundEdges, IsSoundEdge, ends_from}
 use Rattle.pf_adjacency.specs.Reverses.{IsReverse, IsTurnedRound, turned_row, turned_below}
 
 module _ {C : Type 0} (node : ℕ) (places : List (Option (ℕ × C))) (i : ℕ) where

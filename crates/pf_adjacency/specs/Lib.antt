@@ -1,4 +1,4 @@
-pub mod Edges
-pub mod Faults
+pub mod NumberedEdges
+pub mod EdgeFaults
 pub mod Reverses
 pub mod Internal

@@ -2,7 +2,7 @@
 use Rattle.std.specs.Prelude.{ℕ, zero, suc, ℤ, List, [], ◌++◌, Option, map, nat_eq}
 use Rattle.pf_base.specs.Edges.{HasEdge}
 use Rattle.pf_tables.specs.Graphs.{present}
-use Rattle.pf_adjacency.specs.Edges.{IsLaidOut}
+use Rattle.pf_adjacency.specs.NumberedEdges.{IsLaidOut}
 
 module _ {C : Type 0} where
   -- the edges at the places of a node, in order, each turned round: it comes from the node that it leads to, and leads to this one

@@ -3,8 +3,8 @@
 ghost use Rattle.std.specs.Prelude.{◌≡◌, ◌<◌, ◌+◌, ◌-◌, ◌^◌, IfOk, IfErr, length, map};
 ghost use Rattle.pf_tables.specs.Graphs.{between, filled};
 ghost use Rattle.pf_tables.specs.Offsets.{IsCompact};
-ghost use Rattle.pf_adjacency.specs.Edges.{AreSoundEdges, IsLaidOut};
-ghost use Rattle.pf_adjacency.specs.Faults.{IsAdjacencyFault};
+ghost use Rattle.pf_adjacency.specs.NumberedEdges.{AreSoundEdges, IsLaidOut};
+ghost use Rattle.pf_adjacency.specs.EdgeFaults.{IsAdjacencyFault};
 
 use crate::checks::check_edges;
 use crate::error::AdjacencyError;

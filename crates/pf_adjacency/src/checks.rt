@@ -1,8 +1,8 @@
 //! The tests of edges between numbers.
 
 ghost use Rattle.std.specs.Prelude.{map, MatchResult};
-ghost use Rattle.pf_adjacency.specs.Edges.{AreSoundEdges, IsSoundEdge};
-ghost use Rattle.pf_adjacency.specs.Faults.{IsEdgeFaultAt, IsFirstEdgeFault};
+ghost use Rattle.pf_adjacency.specs.NumberedEdges.{AreSoundEdges, IsSoundEdge};
+ghost use Rattle.pf_adjacency.specs.EdgeFaults.{IsEdgeFaultAt, IsFirstEdgeFault};
 
 use crate::error::AdjacencyError;
 use crate::numbered_edge::NumberedEdge;

@@ -14,7 +14,7 @@ use Rattle.pf_base.proofs.ListLemmas.{get_within, none_in}
 use Rattle.pf_core.specs.Nodes.{StandsFor}
 use Rattle.pf_tables.specs.Graphs.{IsGraph, between, filled}
 use Rattle.pf_tables.proofs.Faulty.{less_or_same, some_same}
-use Rattle.pf_adjacency.specs.Edges.{AreSoundEdges, IsSoundEdge, ends_from}
+use Rattle.pf_adjacency.specs.NumberedEdges.{AreSoundEdges, IsSoundEdge, ends_from}
 use Rattle.pf_edge_lists.specs.EdgeLists.{CostsFromZeroTo, HasEdgesByName, NamesAndEdges, names_of, numbered_from, places_of}
 use Rattle.pf_edge_lists.specs.Internal.Layouts.{IsLaidOutByName}
 use Rattle.pf_edge_lists.proofs.NumberedNames.{AreNamed, all_named, from_number, names_apart, number_inside, numbered}

@@ -11,7 +11,7 @@ use Rattle.pf_core.proofs.NodeLemmas.{eq-trans}
 use Rattle.pf_core.proofs.PathLemmas.{AllZip-map}
 use Rattle.pf_tables.specs.Graphs.{edges_at, filled, graph_of, successors_of}
 use Rattle.pf_base.specs.Places.{number_of}
-use Rattle.pf_adjacency.specs.Edges.{ends_from}
+use Rattle.pf_adjacency.specs.NumberedEdges.{ends_from}
 use Rattle.pf_edge_lists.specs.EdgeLists.{NamesAndEdges, edges_from, names_of, places_of, targets_from}
 use Rattle.pf_edge_lists.proofs.EdgeListLemmas.{ends_alike, has_edges_by_name}
 use Rattle.pf_edge_lists.proofs.NameWalks.{Stands, SameEdges, carried_edges, carried_next, cheapest_out, ends_named, ends_zip, fewest_out, goal_named, none_out, numbers_inside, past_out, test_stands}

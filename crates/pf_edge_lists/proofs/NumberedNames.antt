@@ -17,7 +17,7 @@ use Rattle.pf_base.proofs.ListLemmas.{bool_dec, or_true, none_in}
 use Rattle.pf_core.proofs.NodeLemmas.{HasSameNodes-insert, eq-sym}
 use Rattle.pf_core.proofs.PathLemmas.{NoRepeats-append}
 use Rattle.pf_base.specs.Places.{number_of}
-use Rattle.pf_adjacency.specs.Edges.{ends_from}
+use Rattle.pf_adjacency.specs.NumberedEdges.{ends_from}
 use Rattle.pf_adjacency.proofs.LayoutLemmas.{take_at}
 use Rattle.pf_edge_lists.specs.EdgeLists.{NamesAndEdges, ends_of, mentions_of, names_of}
 

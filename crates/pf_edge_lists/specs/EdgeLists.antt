@@ -6,7 +6,7 @@ use Rattle.indexmap.specs.IndexSet.{insert_all}
 use Rattle.pf_base.specs.Places.{number_of}
 use Rattle.pf_core.specs.Nodes.{StandsFor}
 use Rattle.pf_tables.specs.Graphs.{filled}
-use Rattle.pf_adjacency.specs.Edges.{ends_from}
+use Rattle.pf_adjacency.specs.NumberedEdges.{ends_from}
 use Rattle.pf_edge_lists.specs.declared.error.EdgeListError.{EdgeListError}
 use Rattle.pf_edge_lists.specs.declared.error.EdgeListError.TheVariants.{OutOfMemory, NegativeCost}
 

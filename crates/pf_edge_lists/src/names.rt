@@ -5,7 +5,7 @@ ghost use Rattle.std.specs.List.{AllZip};
 ghost use Rattle.pf_base.specs.NodeRefs.{nodes_of};
 ghost use Rattle.indexmap.specs.IndexSet.{insert_all};
 ghost use Rattle.pf_tables.specs.Offsets.{IsCompact};
-ghost use Rattle.pf_adjacency.specs.Edges.{IsLaidOut};
+ghost use Rattle.pf_adjacency.specs.NumberedEdges.{IsLaidOut};
 ghost use Rattle.pf_edge_lists.specs.EdgeLists.{CostsFromZeroTo, ends_of, names_of};
 ghost use Rattle.pf_edge_lists.specs.Internal.Layouts.{numbered_ends};
 

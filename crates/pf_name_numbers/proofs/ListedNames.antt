@@ -1,5 +1,5 @@
 -- The names of a list alone, and their numbers.
-use Rattle.std.proofs.Common.{◌≡◌, inl, inr, ℕ, zero, suc, ◌+◌, ◌<◌, ◌≤◌, nat_eq, eq-eqb, sym, subst, arith, Bool, List, [], ◌∷◌, ◌++◌, length, slice_get, ap, ◌∙◌, refl}
+use Rattle.std.proofs.Common.{◌≡◌, inl, inr, ℕ, zero, suc, ◌+◌, ◌<◌, ◌≤◌, nat_eq, eq-eqb, sym, subst, arith, Bool, List, [], ◌∷◌, ◌++◌, length, slice_get, ap, ◌∙◌}
 use Rattle.std.specs.Cmp.{IsEquivalence}
 use Rattle.std.specs.List.{AllZip, cons_option, filter_map, range_with_len}
 use Rattle.pf_base.specs.Walks.{HasNode, NoRepeats}

@@ -1,5 +1,5 @@
 -- What a map of parents of the numbers of a list says of its names.
-use Rattle.std.proofs.Common.{◌≡◌, inl, inr, ℕ, ◌<◌, ℤ, nat_eq, eq-eqb, refl, sym, subst, ap, ◌∙◌, arith, Bool, true, false, true≢false, List, [], ◌∷◌, ◌||◌, length, map, if◌then◌else◌}
+use Rattle.std.proofs.Common.{◌≡◌, inl, inr, ℕ, ℤ, nat_eq, eq-eqb, refl, sym, ap, ◌∙◌, Bool, true, false, true≢false, List, [], ◌∷◌, ◌||◌, length, map, if◌then◌else◌}
 use Rattle.std.specs.Prelude.{Option, Some, None}
 use Rattle.std.specs.Cmp.{IsEquivalence}
 use Rattle.std.specs.List.{filter_map, list_any, range_with_len}
@@ -8,7 +8,7 @@ use Rattle.pf_base.specs.Walks.{HasNode, NoRepeats}
 use Rattle.pf_base.proofs.ListLemmas.{or_true}
 use Rattle.pf_tables.specs.Graphs.{graph_of}
 use Rattle.pf_edge_lists.specs.EdgeLists.{NamesAndEdges, edges_from, names_of, places_of}
-use Rattle.pf_edge_lists.proofs.NameWalks.{Stands, one}
+use Rattle.pf_edge_lists.proofs.NameWalks.{one}
 use Rattle.pf_name_numbers.specs.Numbered.{names_with}
 use Rattle.pf_name_numbers.proofs.ListedNames.{in_range, listed_at, listed_inside, range_apart, range_within}
 use Rattle.pf_name_numbers.proofs.NamedNumbers.{With, edges_with, name_at, named_at, next_stands, stands_with, with_apart, with_cases}
@@ -51,6 +51,7 @@ module _ {N C : Type 0} {eq : N → N → Bool} (laws : IsEquivalence eq) (list 
         both : (b : Bool) → (if b then option_map (by_name laws (names_with eq list from) (with_apart laws list from) (name_at eq list from) (named_at laws list from) entry) None else None) ≡ option_map (by_name laws (names_with eq list from) (with_apart laws list from) (name_at eq list from) (named_at laws list from) entry) None
         both true = refl
         both false = refl
+
         no_entry : (o : Option (ℕ × C)) → entry k ≡ o → start ≡ k → entry k ≡ None
         no_entry None e same = e
         no_entry (Some p) e same = absurd (true≢false (sym (eq-eqb start k same) ∙ ((h.reached k).0 (p.0, p.1, e)).1))

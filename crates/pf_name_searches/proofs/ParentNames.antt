@@ -1,17 +1,16 @@
 -- Maps of parents over numbers and over the names that they stand for.
-use Rattle.std.proofs.Common.{◌≡◌, inl, inr, ℕ, ◌<◌, ℤ, nat_eq, eq-eqb, refl, sym, subst, ap, ◌∙◌, Bool, true, false, true≢false, cond, ◌||◌, List, [], ◌∷◌, map, if◌then◌else◌}
+use Rattle.std.proofs.Common.{◌≡◌, inl, inr, ℕ, ℤ, nat_eq, eq-eqb, refl, sym, subst, ap, ◌∙◌, Bool, true, false, cond, ◌||◌, List, [], ◌∷◌, map, if◌then◌else◌}
 use Rattle.std.specs.Prelude.{Option, Some, None}
 use Rattle.std.specs.Cmp.{IsEquivalence}
-use Rattle.std.specs.List.{AllZip, cons_option, filter_map, list_any}
-use Rattle.std.specs.Map.{lookup}
+use Rattle.std.specs.List.{cons_option, filter_map, list_any}
 use Rattle.std.specs.Option.{option_map}
 use Rattle.pf_base.specs.Walks.{HasNode, NoRepeats, Follows, BeginsAt, end_of}
 use Rattle.pf_base.specs.Edges.{InReach, IsSuccessor}
 use Rattle.pf_base.proofs.ListLemmas.{bool_dec}
 use Rattle.pf_edge_lists.proofs.NameWalks.{IsCarried, Stands, SameEdges, carried_edges, cheapest_out, end_stands, follows_back, goal_named, one, repeats_out, same_name, step_out, test_stands}
-use Rattle.pf_name_numbers.proofs.NameReach.{SameStarts, Zip, one_start, reach_back, reach_named, reach_numbered, reach_out, stands_same}
+use Rattle.pf_name_numbers.proofs.NameReach.{SameStarts, one_start, reach_back, reach_named, reach_numbered, reach_out, stands_same}
 use Rattle.pf_name_searches.specs.NameParents.{entry_of}
-use Rattle.pf_search.specs.Parents.{HasEntry, IsParent, IsLeastCost, IsStepFrom, MeetsNoneTwice, IsChainOfParents, BeginsWithoutEntry, IsCheapestMap}
+use Rattle.pf_search.specs.Parents.{HasEntry, IsParent, IsLeastCost, MeetsNoneTwice, IsChainOfParents, IsCheapestMap}
 use borrow.Author.Tests.{eqb-true}
 
 module _ {N C : Type 0} {eq : N → N → Bool} (laws : IsEquivalence eq) (names : List N) (distinct : NoRepeats eq names) (name : ℕ → N) (named : (k : ℕ) (x : N) → Stands laws names k x → Stands laws names k (name k)) (entry : ℕ → Option (ℕ × C)) where

@@ -1,5 +1,5 @@
 -- Lists of names with the names before them on cheapest paths.
-use Rattle.std.specs.Prelude.{ℕ, Bool, List, Option, Vec, get_or, map}
+use Rattle.std.specs.Prelude.{ℕ, Bool, List, Option, get_or, map}
 use Rattle.std.specs.Borrow.{Bor}
 use Rattle.std.specs.Option.{option_map}
 use Rattle.std.specs.Map.{lookup}

@@ -8,7 +8,7 @@ use Rattle.std.proofs.lemmas.Int.{ints}
 use Rattle.pf_tables.specs.Graphs.{edges_at, filled, graph_of}
 use Rattle.pf_base.proofs.ListLemmas.{none_in}
 use Rattle.pf_tables.proofs.Faulty.{some_same}
-use Rattle.pf_adjacency.specs.Edges.{AreSoundEdges, IsSoundEdge, ends_from}
+use Rattle.pf_adjacency.specs.NumberedEdges.{AreSoundEdges, IsSoundEdge, ends_from}
 use Rattle.pf_routes.specs.Internal.Graph.{row_of, node_count}
 use Rattle.pf_routes.specs.Internal.Links.{AllBelow, links_from, steps_from}
 use Rattle.pf_routes.specs.Internal.Numbers.{edges_of, numbered_edges}

@@ -4,7 +4,7 @@ use Rattle.std.proofs.lemmas.List.{length-map}
 use Rattle.std.proofs.lemmas.Option.{slice_get_read, slice_get_within}
 use Rattle.std.proofs.lemmas.Result.{err_from_is_err_and}
 use Rattle.pf_tables.proofs.Faulty.{less_or_same, some_same}
-use Rattle.pf_adjacency.specs.Edges.{IsSoundEdge}
+use Rattle.pf_adjacency.specs.NumberedEdges.{IsSoundEdge}
 use Rattle.pf_adjacency.proofs.LayoutLemmas.{edge_at}
 use Rattle.pf_adjacency.proofs.checks.check_edges.Goals as goal
 

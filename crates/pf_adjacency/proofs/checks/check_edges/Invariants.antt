@@ -1,6 +1,6 @@
 use Rattle.std.proofs.Common.{map, ◌≡◌, ℕ, ◌<◌}
 use Rattle.std.specs.Prelude.{Some, slice_get}
-use Rattle.pf_adjacency.specs.Edges.{IsSoundEdge}
+use Rattle.pf_adjacency.specs.NumberedEdges.{IsSoundEdge}
 use Rattle.pf_adjacency.proofs.checks.check_edges.Given as goal
 
 -- the edges so far are sound

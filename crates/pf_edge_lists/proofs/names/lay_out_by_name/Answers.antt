@@ -5,7 +5,7 @@ use Rattle.std.proofs.lemmas.Result.{IfOk-from_err}
 use Rattle.indexmap.specs.IndexSet.{insert_all}
 use Rattle.pf_base.specs.NodeRefs.{nodes_of}
 use Rattle.pf_base.proofs.Outcomes.{on_any, on_failed}
-use Rattle.pf_adjacency.specs.Edges.{AreSoundEdges, IsLaidOut}
+use Rattle.pf_adjacency.specs.NumberedEdges.{AreSoundEdges, IsLaidOut}
 use Rattle.pf_edge_lists.specs.EdgeLists.{ends_of}
 use Rattle.pf_edge_lists.specs.Internal.Layouts.{numbered_ends}
 use Rattle.pf_edge_lists.proofs.EdgeListLemmas.{sound_numbers}

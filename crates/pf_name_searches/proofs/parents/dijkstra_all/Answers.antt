@@ -1,14 +1,13 @@
 use Rattle.std.specs.HashMap.{get}
-use Rattle.std.proofs.Common.{◌≡◌, ◌∙◌, ℕ, Err, ap, sym, subst, nat_eq, map, refl, false, length}
-use Rattle.std.specs.List.{range_with_len}
+use Rattle.std.proofs.Common.{Err, ap, sym, subst, nat_eq, map, refl, false}
 use Rattle.std.proofs.lemmas.Result.{IfOk-weaker}
 use Rattle.pf_base.proofs.Outcomes.{error_of}
 use Rattle.pf_base.specs.Walks.{NoRepeats}
-use Rattle.pf_edge_lists.specs.EdgeLists.{edges_from, names_of}
+use Rattle.pf_edge_lists.specs.EdgeLists.{edges_from}
 use Rattle.pf_edge_lists.proofs.NameWalks.{past_out}
 use Rattle.pf_name_numbers.specs.Numbered.{names_with}
 use Rattle.pf_name_numbers.proofs.NamedNumbers.{edges_with, with_apart}
-use Rattle.pf_name_searches.specs.NameParents.{entries_in, entry_of}
+use Rattle.pf_name_searches.specs.NameParents.{entry_of}
 use Rattle.pf_name_searches.proofs.MapByName.{map_by_name, once_by_name}
 use Rattle.pf_search.specs.Parents.{IsCheapestMap}
 use Rattle.pf_name_searches.proofs.parents.dijkstra_all.Goals as goal

@@ -1,5 +1,5 @@
 use Rattle.std.specs.HashMap.{get}
-use Rattle.std.proofs.Common.{◌≡◌, ◌∙◌, ◌+◌, ap, sym, [], ◌∷◌, ◌++◌, append-nil, map, nat_eq, ℕ, get_or}
+use Rattle.std.proofs.Common.{◌≡◌, ◌∙◌, ◌+◌, ap, sym, [], ◌∷◌, ◌++◌, append-nil, nat_eq, ℕ, get_or}
 use Rattle.std.specs.Prelude.{Option, None, Some}
 use Rattle.std.specs.Option.{option_copied, option_map}
 use Rattle.std.specs.List.{cons_option, filter_map, range_with_len}
@@ -26,7 +26,7 @@ loop-number-preserved g c =
           let before = w.name_or-before.result.now in
           let names = names_of g.N.PartialEq.eq c.args.list.now in
           let has : f n ≡ Some (get_or names n c.args.other.now, (get_or names e.0 c.args.other.now, e.1)) =
-              ap (option_map (λ (d : ℕ × _). (get_or names n c.args.other.now, (get_or names d.0 c.args.other.now, d.1)))) (sym c.get.ensures.value ∙ ap option_copied w.in-Some.is) in
+          ap (option_map (λ (d : ℕ × _). (get_or names n c.args.other.now, (get_or names d.0 c.args.other.now, d.1)))) (sym c.get.ensures.value ∙ ap option_copied w.in-Some.is) in
           let is : f n ≡ Some (name, (before, e.1)) = has ∙ ap (λ x. Some (x, (get_or names e.0 c.args.other.now, e.1))) (sym w.name_or-name.ensures) ∙ ap (λ x. Some (name, (x, e.1))) (sym w.name_or-before.ensures) in
           ap (λ v. entries_in v.items) w.named-is ∙ ap entries_in w.in_ok-push.ensures.items ∙ map-append _ c.loop-number.named.items _
           ∙ ap (λ xs. xs ++ (name, (before, e.1)) ∷ []) c.loop-number.invariant ∙ sym (more f n (Some (name, (before, e.1))) is)

@@ -1,6 +1,6 @@
 use Rattle.std.proofs.Common.{map, sym, subst, ◌∙◌}
 use Rattle.std.proofs.lemmas.List.{map-id}
-use Rattle.pf_adjacency.specs.Edges.{AreSoundEdges, IsLaidOut}
+use Rattle.pf_adjacency.specs.NumberedEdges.{AreSoundEdges, IsLaidOut}
 use Rattle.pf_adjacency.specs.Reverses.{turned_below}
 use Rattle.pf_adjacency.proofs.ReverseLemmas.{turned_sound}
 use Rattle.pf_adjacency.proofs.both_ways.BothWays.new.Goals as goal

@@ -1,5 +1,5 @@
 use Rattle.std.proofs.Common.{◌≡◌, ◌∙◌, pos, map, length, arith, sym, ap, subst, nat_eq}
-use Rattle.pf_adjacency.specs.Edges.{AreSoundEdges, ends_from}
+use Rattle.pf_adjacency.specs.NumberedEdges.{AreSoundEdges, ends_from}
 use Rattle.pf_routes.specs.EdgeText.{edge_text}
 use Rattle.pf_routes.proofs.GraphRows.{ends, same_steps, sound_links}
 use Rattle.pf_routes.proofs.routes.network.Network.read.Goals as goal

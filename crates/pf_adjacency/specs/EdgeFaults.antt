@@ -1,6 +1,6 @@
 -- What the maker of a graph of edges between numbers tests.
 use Rattle.std.specs.Prelude.{◌≡◌, ◌<◌, ◌≤◌, ◌<ℤ◌, ℕ, ℤ, pos, List, Some, slice_get}
-use Rattle.pf_adjacency.specs.Edges.{AreSoundEdges, IsSoundEdge}
+use Rattle.pf_adjacency.specs.NumberedEdges.{AreSoundEdges, IsSoundEdge}
 use Rattle.pf_adjacency.specs.declared.error.AdjacencyError.{AdjacencyError}
 use Rattle.pf_adjacency.specs.declared.error.AdjacencyError.TheVariants.{OutOfMemory, SourceOutside, TargetOutside, NegativeCost}
 

@@ -1,0 +1,9 @@
+//! Searches by name over the edge lists of `graphs`: `EdgeList` has `dijkstra` and `bfs` as methods, and these
+//! are the others.
+
+pub use pf_name_orders::{
+    strongly_connected_component, strongly_connected_components, topological_sort,
+    topological_sort_into_groups,
+};
+pub use pf_name_paths::yen;
+pub use pf_name_searches::{NameParents, bfs_loop, dfs, dijkstra_all, iddfs};
