@@ -86,7 +86,7 @@ fn print_cheapest(
 /// Prints what a way costs that was found along an estimate of the steps that remain.
 fn print_estimated(
     rt: &HostRuntime,
-    estimates: &BoardEstimates<'_, u32>,
+    estimates: &BoardEstimates<'_, '_, u32>,
     from: usize,
 ) -> Result<(), anyhow::Error> {
     match astar(rt.alloc(), estimates, from)? {

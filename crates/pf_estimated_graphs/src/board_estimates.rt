@@ -19,15 +19,15 @@ use std::marker::Model;
 ///
 /// A contract sees the board, its steps, the goal and the least cost.
 #[derive(Drop)]
-pub struct BoardEstimates<'a, C: Cost> {
-    board: &'a Board<'a, C>,
+pub struct BoardEstimates<'b, 'a, C: Cost> {
+    board: &'b Board<'a, C>,
     steps: Steps,
     goal: usize,
     target: Option<(usize, usize)>,
     least: C,
 }
 
-impl<'a, C: Cost> Model for BoardEstimates<'a, C> {
+impl<'b, 'a, C: Cost> Model for BoardEstimates<'b, 'a, C> {
     ghost use Rattle.std.specs.Prelude.{◌<◌, ◌^◌, length};
     ghost use Rattle.std.specs.Option.{SomeIff};
     ghost use Rattle.pf_boards.specs.Boards.{position_at};
@@ -72,12 +72,12 @@ fn count_steps(steps: Steps, from: (usize, usize), to: (usize, usize)) -> usize
     }
 }
 
-impl<'a, C: Cost> BoardEstimates<'a, C> {
+impl<'b, 'a, C: Cost> BoardEstimates<'b, 'a, C> {
     /// The estimate of the cost that remains from each cell of the board to this node.
     ///
     /// The least cost is found in one pass over the cells. The goal may be any number: where it is no
     /// node of the board, no estimate is above 0.
-    pub fn new(board: &'a Board<'a, C>, goal: usize) -> Self
+    pub fn new(board: &'b Board<'a, C>, goal: usize) -> Self
         ensures board { result.board ≡ board.now }
         ensures goal { result.goal ≡ goal }
         ensures estimated { IsEstimatedBoard C.value result }
@@ -92,7 +92,7 @@ impl<'a, C: Cost> BoardEstimates<'a, C> {
     }
 }
 
-impl<'a, C: Cost> Graph<C> for BoardEstimates<'a, C> {
+impl<'b, 'a, C: Cost> Graph<C> for BoardEstimates<'b, 'a, C> {
     ghost size = { λ estimated. length estimated.board.cells };
 
     ghost places = { λ estimated. steps_from estimated.board };
@@ -114,7 +114,7 @@ impl<'a, C: Cost> Graph<C> for BoardEstimates<'a, C> {
     }
 }
 
-impl<'a, C: Cost> Goals for BoardEstimates<'a, C> {
+impl<'b, 'a, C: Cost> Goals for BoardEstimates<'b, 'a, C> {
     ghost passes = { λ estimated node. node == estimated.goal };
 
     fn is_goal(&self, node: usize) -> bool {
@@ -122,7 +122,7 @@ impl<'a, C: Cost> Goals for BoardEstimates<'a, C> {
     }
 }
 
-impl<'a, C: Cost> EstimatedGraph<C> for BoardEstimates<'a, C> {
+impl<'b, 'a, C: Cost> EstimatedGraph<C> for BoardEstimates<'b, 'a, C> {
     ghost estimates = { estimate_on_board C.value (C.value C.greatest) };
 
     fn estimate(&self, node: usize) -> C {
