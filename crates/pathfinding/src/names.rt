@@ -6,4 +6,4 @@ pub use pf_name_orders::{
     topological_sort_into_groups,
 };
 pub use pf_name_paths::yen;
-pub use pf_name_searches::{NameParents, bfs_loop, dfs, dijkstra_all, iddfs};
+pub use pf_name_searches::{NameParents, bfs_loop, dfs, dijkstra_all, dijkstra_partial, iddfs};

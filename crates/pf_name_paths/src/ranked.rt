@@ -60,7 +60,8 @@ where
 /// - `OutOfMemory`: a request for memory was refused.
 ///
 /// The algorithm is that of the function `yen` over the numbers of the names: `from` and `to` are looked
-/// up, and no name is hashed or compared after that.
+/// up, and no name is hashed or compared after that, save that `from` is compared with `to` where the list
+/// has no such name as `to`.
 pub fn yen<'p, 'e, N, C, A, B>(
     alloc: B,
     list: &EdgeList<'e, N, C, A>,

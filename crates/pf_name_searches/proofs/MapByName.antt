@@ -13,8 +13,8 @@ use Rattle.pf_name_numbers.specs.Numbered.{names_with}
 use Rattle.pf_name_numbers.proofs.ListedNames.{in_range, listed_at, listed_inside, range_apart, range_within}
 use Rattle.pf_name_numbers.proofs.NamedNumbers.{With, edges_with, name_at, named_at, next_stands, stands_with, with_apart, with_cases}
 use Rattle.pf_name_searches.specs.NameParents.{entry_of, name_entry}
-use Rattle.pf_name_searches.proofs.ParentNames.{by_name, listed_once, look_up, look_up_numbered, map_out}
-use Rattle.pf_search.specs.Parents.{IsCheapestMap}
+use Rattle.pf_name_searches.proofs.ParentNames.{by_name, listed_once, look_up, look_up_numbered, map_out, partial_out, sound_map, sound_partial}
+use Rattle.pf_search.specs.Parents.{IsCheapestMap, IsPartialMap}
 use borrow.Author.Tests.{eqb-true}
 
 module _ {N C : Type 0} {eq : N → N → Bool} (laws : IsEquivalence eq) (list : NamesAndEdges N C) (from : N) where
@@ -30,7 +30,7 @@ module _ {N C : Type 0} {eq : N → N → Bool} (laws : IsEquivalence eq) (list 
   pub once_by_name : (entry : ℕ → Option (ℕ × C)) → NoRepeats eq (map (λ (e : N × (N × C)). e.0) (filter_map (name_entry eq list from entry) (range_with_len 0 (length (names_of eq list)))))
   once_by_name entry = listed_once laws (names_with eq list from) (with_apart laws list from) (name_at eq list from) (named_at laws list from) entry _ numbers (range_apart 0 (length (names_of eq list)))
 
-  module _ (value : C → ℤ) (entry : ℕ → Option (ℕ × C)) (start : ℕ) (begins : With laws list from start from) (h : IsCheapestMap nat_eq (graph_of value (length (names_of eq list)) (places_of eq list)) start value entry) where
+  module _ (value : C → ℤ) (entry : ℕ → Option (ℕ × C)) (start : ℕ) (begins : With laws list from start from) (free : (e : ℕ × C) → entry start ≡ Some e → ⊥) where
     abbrev pub names_by : N → Option (N × C)
     names_by = entry_of eq (filter_map (name_entry eq list from entry) (range_with_len 0 (length (names_of eq list))))
 
@@ -54,8 +54,23 @@ module _ {N C : Type 0} {eq : N → N → Bool} (laws : IsEquivalence eq) (list 
 
         no_entry : (o : Option (ℕ × C)) → entry k ≡ o → start ≡ k → entry k ≡ None
         no_entry None e same = e
-        no_entry (Some p) e same = absurd (true≢false (sym (eq-eqb start k same) ∙ ((h.reached k).0 (p.0, p.1, e)).1))
+        no_entry (Some p) e same = absurd (free p (ap entry same ∙ e))
 
-    pub map_by_name : IsCheapestMap eq (edges_from eq value list) from value names_by
-    map_by_name = map_out laws (names_with eq list from) (with_apart laws list from) (name_at eq list from) (named_at laws list from) entry _ _ (edges_with laws list from value) start from begins value h names_by agrees
-        (look_up_numbered laws (names_with eq list from) (with_apart laws list from) (name_at eq list from) (named_at laws list from) entry _ numbers)
+    numbered : (x : N) (r : N × C) → names_by x ≡ Some r → (k : ℕ) × With laws list from k x
+    numbered = look_up_numbered laws (names_with eq list from) (with_apart laws list from) (name_at eq list from) (named_at laws list from) entry _ numbers
+
+    pub whole_by_name : IsCheapestMap nat_eq (graph_of value (length (names_of eq list)) (places_of eq list)) start value entry → IsCheapestMap eq (edges_from eq value list) from value names_by
+    whole_by_name h = map_out laws (names_with eq list from) (with_apart laws list from) (name_at eq list from) (named_at laws list from) entry _ _ (edges_with laws list from value) start from begins value (sound_map laws (names_with eq list from) (with_apart laws list from) (name_at eq list from) (named_at laws list from) entry _ _ (edges_with laws list from value) start from begins value h) names_by agrees numbered h
+
+    pub part_by_name : (testM : ℕ → Bool) (testN : N → Bool) → ((k : ℕ) (x : N) → With laws list from k x → testM k ≡ testN x) → (stop : Option ℕ) → IsPartialMap nat_eq (graph_of value (length (names_of eq list)) (places_of eq list)) start value entry testM stop
+        → IsPartialMap eq (edges_from eq value list) from value names_by testN (option_map (name_at eq list from) stop)
+    part_by_name testM testN tests stop h = partial_out laws (names_with eq list from) (with_apart laws list from) (name_at eq list from) (named_at laws list from) entry _ _ (edges_with laws list from value) start from begins value (sound_partial laws (names_with eq list from) (with_apart laws list from) (name_at eq list from) (named_at laws list from) entry _ _ (edges_with laws list from value) start from begins value testM stop h) names_by agrees numbered testM testN tests stop h
+
+  module _ (value : C → ℤ) (entry : ℕ → Option (ℕ × C)) (start : ℕ) (begins : With laws list from start from) where
+    pub map_by_name : IsCheapestMap nat_eq (graph_of value (length (names_of eq list)) (places_of eq list)) start value entry
+        → IsCheapestMap eq (edges_from eq value list) from value (entry_of eq (filter_map (name_entry eq list from entry) (range_with_len 0 (length (names_of eq list)))))
+    map_by_name h = whole_by_name value entry start begins (λ e is. true≢false (sym (eq-eqb start start refl) ∙ ((h.reached start).0 (e.0, e.1, is)).1)) h
+
+    pub partial_by_name : (testM : ℕ → Bool) (testN : N → Bool) → ((k : ℕ) (x : N) → With laws list from k x → testM k ≡ testN x) → (stop : Option ℕ) → IsPartialMap nat_eq (graph_of value (length (names_of eq list)) (places_of eq list)) start value entry testM stop
+        → IsPartialMap eq (edges_from eq value list) from value (entry_of eq (filter_map (name_entry eq list from entry) (range_with_len 0 (length (names_of eq list))))) testN (option_map (name_at eq list from) stop)
+    partial_by_name testM testN tests stop h = part_by_name value entry start begins (λ e is. true≢false (sym (eq-eqb start start refl) ∙ ((h.reached start).0 (e.0, e.1, is)).0)) testM testN tests stop h

@@ -8,4 +8,4 @@ mod parents;
 
 pub use crate::depth::{dfs, iddfs};
 pub use crate::loops::bfs_loop;
-pub use crate::parents::{NameParents, dijkstra_all};
+pub use crate::parents::{NameParents, dijkstra_all, dijkstra_partial};

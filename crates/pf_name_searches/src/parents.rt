@@ -1,18 +1,19 @@
 //! Cheapest paths to all names in reach.
 
 ghost use Rattle.std.specs.HashMap.{get};
+ghost use Rattle.std.specs.Option.{option_map};
 ghost use Rattle.std.specs.Prelude.{◌≡◌, ◌⊎◌, [], ◌∷◌, false, Err, IfOk, IfErr, length, map, nat_eq};
 ghost use Rattle.std.specs.List.{filter_map, range_with_len};
 ghost use Rattle.pf_base.specs.Edges.{CostOverflows};
 ghost use Rattle.pf_base.specs.Walks.{NoRepeats};
 ghost use Rattle.pf_edge_lists.specs.EdgeLists.{edges_from, names_of};
 ghost use Rattle.pf_name_searches.specs.NameParents.{entries_in, entry_of, name_entry};
-ghost use Rattle.pf_search.specs.Parents.{IsCheapestMap};
+ghost use Rattle.pf_search.specs.Parents.{IsCheapestMap, IsPartialMap};
 
 use pf_base::{Cost, PathError};
 use pf_edge_lists::EdgeList;
 use pf_name_numbers::names::name_or;
-use pf_name_numbers::numbers::number_or_next;
+use pf_name_numbers::numbers::{goal_of, number_or_next};
 use pf_search::directed::dijkstra::Parents;
 use std::alloc::Allocator;
 use std::hash::Hash;
@@ -82,4 +83,49 @@ where
     let start = number_or_next(list, from);
     let parents = pf_table_searches::dijkstra_all(alloc, list, start)?;
     named(alloc, list, from, &parents)
+}
+
+/// The names that a search by rising cost has found where it comes to the name `to`, save those that equal
+/// `from`, each once, in the order of the numbers of the list, with the name before it and a cost; and `to`
+/// as the list has it, or `None` where it is not in reach.
+///
+/// Exactly the names to which a step leads from a name before `to` have an entry, save `from`. It names the
+/// least cost that a name before `to`, at its cheapest cost, and one step give, and such a name before it.
+/// An entry that costs no more than `to` is that of a cheapest path; one that costs more need not be.
+///
+/// # Errors
+///
+/// - `CostOverflow`: only where a cheapest path to some name and one step more, by the cheapest of the
+///   parallel edges, cost more than `C` can hold, and `to` is no cheaper than that name.
+/// - `OutOfMemory`: a request for memory was refused.
+///
+/// The algorithm is that of `dijkstra_partial` over the numbers of the names: `from` and `to` are looked up,
+/// and no name is hashed or compared after that, save that `from` is compared with `to` where the list has no
+/// such name as `to`.
+pub fn dijkstra_partial<'p, 'e, N, C, A, B>(
+    alloc: B,
+    list: &EdgeList<'e, N, C, A>,
+    from: &'p N,
+    to: &N,
+) -> Result<(NameParents<'p, N, C, B>, Option<&'p N>), PathError>
+where
+    'e: 'p,
+    N: Eq + Hash,
+    C: Cost,
+    A: Allocator,
+    B: Allocator + Copy,
+    ensures partial { IfOk result (λ found. IsPartialMap N.eq (edges_from N.eq C.value list.now) from.now C.value (entry_of N.eq (entries_in found.0.items)) (λ x. N.eq x to.now) (option_map (λ name. name.now) found.1)) }
+    ensures once { IfOk result (λ found. NoRepeats N.eq (map (λ entry. entry.0) (entries_in found.0.items))) }
+    ensures overflow { result ≡ Err PathError.CostOverflow → CostOverflows N.eq (edges_from N.eq C.value list.now) (from.now ∷ []) (λ x. N.eq x to.now) C.fits }
+    ensures errors { IfErr result (λ e. (e ≡ PathError.OutOfMemory) ⊎ (e ≡ PathError.CostOverflow)) }
+{
+    let start = number_or_next(list, from);
+    let goal = goal_of(list, from, to);
+    let (parents, stop) = pf_table_searches::dijkstra_partial(alloc, list, start, goal)?;
+    let named = named(alloc, list, from, &parents)?;
+    let stop = match stop {
+        Some(number) => Some(name_or(list, from, number)),
+        None => None,
+    };
+    Ok((named, stop))
 }

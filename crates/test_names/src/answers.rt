@@ -7,7 +7,7 @@ use pf_name_orders::{
     topological_sort_into_groups,
 };
 use pf_name_paths::yen;
-use pf_name_searches::{NameParents, bfs_loop, dfs, dijkstra_all, iddfs};
+use pf_name_searches::{NameParents, bfs_loop, dfs, dijkstra_all, dijkstra_partial, iddfs};
 use std::alloc::Global;
 use test_allocator::Refusing;
 
@@ -17,8 +17,11 @@ pub type Heap<'h> = &'h Refusing<Global>;
 /// A list of edges over such a heap.
 pub type Places<'r, 'h> = EdgeList<'r, &'r str, u32, Heap<'h>>;
 
+/// An edge: two places, and what it costs.
+pub type Edge = (&'static str, &'static str, u32);
+
 /// Edges between four places, of which the first three are on cycles.
-pub const ROUND: &[(&str, &str, u32)] = &[
+pub const ROUND: &[Edge] = &[
     ("a", "b", 1),
     ("a", "c", 9),
     ("b", "c", 5),
@@ -30,7 +33,7 @@ pub const ROUND: &[(&str, &str, u32)] = &[
 pub const ALONE: &[&str] = &["f"];
 
 /// Edges between three places, without a cycle.
-pub const IN_ORDER: &[(&str, &str, u32)] = &[("a", "b", 1), ("a", "c", 1), ("b", "c", 1)];
+pub const IN_ORDER: &[Edge] = &[("a", "b", 1), ("a", "c", 1), ("b", "c", 1)];
 
 /// A call by name.
 #[derive(Clone, Copy, Debug)]
@@ -39,6 +42,8 @@ pub enum Call {
     Ranked,
     /// `dijkstra_all`.
     Parents,
+    /// `dijkstra_partial`.
+    PartOfParents,
     /// `dfs`.
     Depth,
     /// `iddfs`.
@@ -49,10 +54,24 @@ pub enum Call {
     Component,
     /// `strongly_connected_components`.
     Components,
-    /// `topological_sort`, of edges without a cycle and of edges with one.
+    /// `topological_sort`, of edges without a cycle.
     Order,
-    /// `topological_sort_into_groups`, likewise.
+    /// The same, of edges with one.
+    Ring,
+    /// `topological_sort_into_groups`, of edges without a cycle.
     Groups,
+    /// The same, of edges with one.
+    RingGroups,
+}
+
+impl Call {
+    /// The list that the call goes over: places by themselves, and edges.
+    pub fn list(self) -> (&'static [&'static str], &'static [Edge]) {
+        match self {
+            Call::Order | Call::Groups => (ALONE, IN_ORDER),
+            _ => (&[], ROUND),
+        }
+    }
 }
 
 /// Whether these are the places of these names.
@@ -82,6 +101,14 @@ fn are_ranked(
     Ok(paths.len() == 2 && is_first && is_second)
 }
 
+/// Whether the answer is the parents that are known from `a` where `b` is found.
+fn are_parents_so_far(
+    found: Result<(NameParents<'_, &str, u32, Heap<'_>>, Option<&&str>), PathError>,
+) -> Result<bool, PathError> {
+    let (parents, stop) = found?;
+    Ok(parents.len() == 2 && matches!(stop, Some(place) if *place == "b"))
+}
+
 /// Whether the answer is the parents and costs of `b`, `c` and `d`.
 fn are_parents(
     found: Result<NameParents<'_, &str, u32, Heap<'_>>, PathError>,
@@ -96,43 +123,56 @@ fn are_parents(
     Ok(parents.len() == 3)
 }
 
-/// Whether the places are put in their only order but for the one that stands in no edge, and one on a
-/// cycle is named.
+/// Whether the places are put in their only order, but for the one that stands in no edge.
 fn is_order<'h>(
     heap: Heap<'h>,
-    in_order: &Places<'_, 'h>,
-    round: &Places<'_, 'h>,
+    found: Result<Result<Vec<&&str, Heap<'h>>, &&str>, PathError>,
 ) -> Result<bool, PathError> {
-    let order = topological_sort(heap, in_order)?;
-    let ring = topological_sort(heap, round)?;
-    let mut edges = Vec::new(heap);
-    if let Ok(places) = &order {
-        for place in places {
-            if **place != "f" {
-                edges.push(*place)?;
-            }
+    let found = found?;
+    let Ok(order) = &found else {
+        return Ok(false);
+    };
+    let mut places = Vec::new(heap);
+    for place in order {
+        if **place != "f" {
+            places.push(*place)?;
         }
     }
-    let is_right = matches!(&order, Ok(places) if places.len() == 4);
-    let is_on_ring = matches!(&ring, Err(place) if **place != "d");
-    Ok(is_right && is_on_ring && are_places(&edges, &["a", "b", "c"]))
+    Ok(order.len() == 4 && are_places(&places, &["a", "b", "c"]))
 }
 
-/// Whether the places are put in their only groups, and all four of the others have none.
-fn are_groups<'h>(
-    heap: Heap<'h>,
-    in_order: &Places<'_, 'h>,
-    round: &Places<'_, 'h>,
+/// Whether a place on a cycle is named.
+fn is_on_ring(
+    found: Result<Result<Vec<&&str, Heap<'_>>, &&str>, PathError>,
 ) -> Result<bool, PathError> {
-    let groups = topological_sort_into_groups(heap, in_order)?;
-    let ring = topological_sort_into_groups(heap, round)?;
-    let Ok(groups) = &groups else {
+    let found = found?;
+    Ok(matches!(&found, Err(place) if **place != "d"))
+}
+
+/// Places in groups, or such groups and the places that have none.
+type Groups<'p, 'h> = Result<
+    Vec<Vec<&'p &'p str, Heap<'h>>, Heap<'h>>,
+    (
+        Vec<Vec<&'p &'p str, Heap<'h>>, Heap<'h>>,
+        Vec<&'p &'p str, Heap<'h>>,
+    ),
+>;
+
+/// Whether the places are put in their only groups.
+fn are_groups(found: Result<Groups<'_, '_>, PathError>) -> Result<bool, PathError> {
+    let found = found?;
+    let Ok(groups) = &found else {
         return Ok(false);
     };
     let is_first = matches!(groups.first(), Some(group) if group.len() == 2);
     let is_last = matches!(groups.last(), Some(group) if are_places(group, &["c"]));
-    let is_ring = matches!(&ring, Err((none, left)) if none.is_empty() && left.len() == 4);
-    Ok(groups.len() == 3 && is_first && is_last && is_ring)
+    Ok(groups.len() == 3 && is_first && is_last)
+}
+
+/// Whether all four places have no group.
+fn have_no_groups(found: Result<Groups<'_, '_>, PathError>) -> Result<bool, PathError> {
+    let found = found?;
+    Ok(matches!(&found, Err((none, left)) if none.is_empty() && left.len() == 4))
 }
 
 /// Whether the components are `d` alone, and behind it the other three.
@@ -148,19 +188,21 @@ fn are_components(
 /// Whether a call answers the only right answer.
 pub fn is_right<'h>(
     heap: Heap<'h>,
-    in_order: &Places<'_, 'h>,
-    round: &Places<'_, 'h>,
+    places: &Places<'_, 'h>,
     call: Call,
 ) -> Result<bool, PathError> {
     match call {
-        Call::Ranked => are_ranked(yen(heap, round, &"a", &"c", 3)),
-        Call::Parents => are_parents(dijkstra_all(heap, round, &"a")),
-        Call::Depth => is_path(dfs(heap, round, &"a", &"d"), &["a", "b", "d"]),
-        Call::Deepened => is_path(iddfs(heap, round, &"a", &"d"), &["a", "b", "d"]),
-        Call::Loop => is_path(bfs_loop(heap, round, &"b"), &["b", "c", "a", "b"]),
-        Call::Component => Ok(strongly_connected_component(heap, round, &"c")?.len() == 3),
-        Call::Components => are_components(strongly_connected_components(heap, round)),
-        Call::Order => is_order(heap, in_order, round),
-        Call::Groups => are_groups(heap, in_order, round),
+        Call::Ranked => are_ranked(yen(heap, places, &"a", &"c", 3)),
+        Call::Parents => are_parents(dijkstra_all(heap, places, &"a")),
+        Call::PartOfParents => are_parents_so_far(dijkstra_partial(heap, places, &"a", &"b")),
+        Call::Depth => is_path(dfs(heap, places, &"a", &"d"), &["a", "b", "d"]),
+        Call::Deepened => is_path(iddfs(heap, places, &"a", &"d"), &["a", "b", "d"]),
+        Call::Loop => is_path(bfs_loop(heap, places, &"b"), &["b", "c", "a", "b"]),
+        Call::Component => Ok(strongly_connected_component(heap, places, &"c")?.len() == 3),
+        Call::Components => are_components(strongly_connected_components(heap, places)),
+        Call::Order => is_order(heap, topological_sort(heap, places)),
+        Call::Ring => is_on_ring(topological_sort(heap, places)),
+        Call::Groups => are_groups(topological_sort_into_groups(heap, places)),
+        Call::RingGroups => have_no_groups(topological_sort_into_groups(heap, places)),
     }
 }

@@ -1,9 +1,8 @@
 //! Each growth refused in turn.
 
-use crate::answers::{ALONE, Call, IN_ORDER, ROUND, is_right};
-use crate::tests::CALLS;
+use crate::answers::Call;
+use crate::tests::{CALLS, run};
 use pf_base::PathError;
-use pf_edge_lists::EdgeList;
 use std::alloc::Global;
 use std::process::Abort;
 use test_allocator::Refusing;
@@ -13,16 +12,16 @@ use test_allocator::Refusing;
 fn refuse_each_growth(rt: &impl Abort, ample: Global, call: Call) -> u64 {
     for growth in 0..1_000u64 {
         let heap = Refusing::new(ample);
-        let in_order = EdgeList::with_names(&heap, ALONE, IN_ORDER).expect(rt, "a list");
-        let round = EdgeList::new(&heap, ROUND).expect(rt, "a list");
-        heap.refuse(growth, 1);
-        let answer = is_right(&heap, &in_order, &round, call);
+        let answer = run(&heap, call, growth, 1);
         if heap.pending() > 0 {
-            assert!(rt; matches!(answer, Ok(true)), "{call:?} with no refusal");
+            assert!(rt;
+                matches!(answer, Some(Ok(true))),
+                "{call:?} with no refusal"
+            );
             return growth;
         }
         assert!(rt;
-            matches!(answer, Err(PathError::OutOfMemory)),
+            matches!(answer, Some(Err(PathError::OutOfMemory))),
             "{call:?}, growth {growth}"
         );
     }

@@ -1,6 +1,6 @@
 //! Each call at a concrete type, and names that stand nowhere.
 
-use crate::answers::{ALONE, Call, Heap, IN_ORDER, Places, ROUND, are_places, is_path, is_right};
+use crate::answers::{Call, Heap, Places, ROUND, are_places, is_path, is_right};
 use pf_base::PathError;
 use pf_edge_lists::EdgeList;
 use pf_name_orders::strongly_connected_component;
@@ -13,35 +13,40 @@ use test_allocator::Refusing;
 pub const CALLS: &[Call] = &[
     Call::Ranked,
     Call::Parents,
+    Call::PartOfParents,
     Call::Depth,
     Call::Deepened,
     Call::Loop,
     Call::Component,
     Call::Components,
     Call::Order,
+    Call::Ring,
     Call::Groups,
+    Call::RingGroups,
 ];
 
-/// Whether each call answers rightly with ample memory.
-fn are_right(ample: Global) -> bool {
-    let heap = Refusing::new(ample);
-    let (Ok(in_order), Ok(round)) = (
-        EdgeList::with_names(&heap, ALONE, IN_ORDER),
-        EdgeList::new(&heap, ROUND),
-    ) else {
-        return false;
-    };
-    for call in CALLS {
-        if !matches!(is_right(&heap, &in_order, &round, *call), Ok(true)) {
-            return false;
+/// How a call ends whose growths are refused from this number on, so many of them, or nothing where its list
+/// could not be made.
+pub fn run(heap: Heap<'_>, call: Call, after: u64, count: u64) -> Option<Result<bool, PathError>> {
+    let (alone, edges) = call.list();
+    match &EdgeList::with_names(heap, alone, edges) {
+        Ok(places) => {
+            heap.refuse(after, count);
+            Some(is_right(heap, places, call))
         }
+        Err(_) => None,
     }
-    true
 }
 
 #[test]
 fn calls_by_name(rt: HostRuntime) {
-    assert!(rt; are_right(rt.alloc()));
+    for call in CALLS {
+        let heap = Refusing::new(rt.alloc());
+        assert!(rt;
+            matches!(run(&heap, *call, 0, 0), Some(Ok(true))),
+            "{call:?}"
+        );
+    }
 }
 
 /// Whether `yen` answers that the name itself is the only path to it, and that no path leads from or to
@@ -74,11 +79,13 @@ fn are_searches_alone(heap: Heap<'_>, round: &Places<'_, '_>) -> Result<bool, Pa
 /// Whether names that stand nowhere are nodes without edges.
 fn are_alone(ample: Global) -> bool {
     let heap = Refusing::new(ample);
-    let Ok(round) = EdgeList::new(&heap, ROUND) else {
-        return false;
-    };
-    matches!(are_ways_alone(&heap, &round), Ok(true))
-        && matches!(are_searches_alone(&heap, &round), Ok(true))
+    match &EdgeList::new(&heap, ROUND) {
+        Ok(round) => {
+            matches!(are_ways_alone(&heap, round), Ok(true))
+                && matches!(are_searches_alone(&heap, round), Ok(true))
+        }
+        Err(_) => false,
+    }
 }
 
 #[test]
